@@ -78,9 +78,11 @@ module _ (heading : Heading) (known : Known heading) where
           let answered : ℕ → ℕ → Bool
           = λ y x. answered_by dsb (λ k. waits event_of q k (flush_at heading y x cover t (test y x)) newer) in
           let g : Bool = nat_lt (length older) (at_end (newer ++ older)) in
-          ap (λ (i : ℕ). ((r == p && (a == place && d == i)) && answered place p) || ((r == p && a == place) && g)) numbered.0
+          ap (λ (i : ℕ). ((r == p && (a == place && d == i)) && answered place p) || ((r == p && a == place) && g))
+          numbered.0
           ∙ combined (r == p) (a == place) (d == suc (length (newer ++ older))) (answered a r) (answered place p) g
-          (λ x y. ap (λ (z : ℕ). answered place z) (sym (eqb-true r p x)) ∙ ap (λ (z : ℕ). answered z r) (sym (eqb-true a place y)))
+          (λ x y. ap (λ (z : ℕ). answered place z) (sym (eqb-true r p x))
+          ∙ ap (λ (z : ℕ). answered z r) (sym (eqb-true a place y)))
           ∙ ap (λ (b : Bool). (r == p && a == place) && b)
           (sym (lt_at (d == suc (length (newer ++ older))) (length older)
           (flush_mark heading a r cover t mark (Dsb q dsb) (newer ++ older)) (at_end (newer ++ older)) (answered a r) g
@@ -89,25 +91,32 @@ module _ (heading : Heading) (known : Known heading) where
       one_end e n newer older numbered =
           ap (λ (b : Bool). (r == p && a == place) && b)
           (sym (lt_at (d == suc (length (newer ++ older))) (length older) 0 (at_end (newer ++ older)) false
-          (nat_lt (length older) (at_end (newer ++ older))) (none_below (length older)) refl (at_end_none (newer ++ older))))
+          (nat_lt (length older) (at_end (newer ++ older))) (none_below (length older)) refl
+          (at_end_none (newer ++ older))))
 
     one_claim : (n : Noted) (newer older : List Noted) → Numbered (n ∷ (newer ++ older)) → (claim : Claim)
         → (ends n.position n.event newer claim || is_true_of heading place p (length older) (newer ++ older) claim)
         ≡ is_true_of heading place p (length older) (n ∷ (newer ++ older)) claim
     one_claim n newer older numbered (Place r a b t d) =
-        ap (λ (x : Bool). x || is_true_of heading place p (length older) (newer ++ older) (Place r a b t d)) (same n.event)
-        ∙ one_end r a d Full t (seen_mark heading a r b) (λ y x. seen_by heading y x b) (seen_marks heading a r b) n.event n newer older numbered
+        ap (λ (x : Bool). x || is_true_of heading place p (length older) (newer ++ older) (Place r a b t d))
+        (same n.event)
+        ∙ one_end r a d Full t (seen_mark heading a r b) (λ y x. seen_by heading y x b)
+        (seen_marks heading a r b) n.event n newer older numbered
       where
         same : (e : Event) → ends n.position e newer (Place r a b t d)
-            ≡ flushed r a d Full t (seen_mark heading a r b) (λ y x. seen_by heading y x b) (seen_marks heading a r b) e n.position newer
+            ≡ flushed r a d Full t (seen_mark heading a r b) (λ y x. seen_by heading y x b)
+            (seen_marks heading a r b) e n.position newer
         same (Dsb q dsb) = refl
         same e = refl
     one_claim n newer older numbered (Two r a b t1 d1 t2 d2) =
-        ap (λ (x : Bool). x || is_true_of heading place p (length older) (newer ++ older) (Two r a b t1 d1 t2 d2)) (same n.event)
-        ∙ one_end r a d2 Second t2 (half_mark heading a r b t1 d1) (λ y x. half_by heading y x b t1 d1) (half_marks heading a r known b t1 d1) n.event n newer older numbered
+        ap (λ (x : Bool). x || is_true_of heading place p (length older) (newer ++ older) (Two r a b t1 d1 t2 d2))
+        (same n.event)
+        ∙ one_end r a d2 Second t2 (half_mark heading a r b t1 d1) (λ y x. half_by heading y x b t1 d1)
+        (half_marks heading a r known b t1 d1) n.event n newer older numbered
       where
         same : (e : Event) → ends n.position e newer (Two r a b t1 d1 t2 d2)
-            ≡ flushed r a d2 Second t2 (half_mark heading a r b t1 d1) (λ y x. half_by heading y x b t1 d1) (half_marks heading a r known b t1 d1) e n.position newer
+            ≡ flushed r a d2 Second t2 (half_mark heading a r b t1 d1) (λ y x. half_by heading y x b t1 d1)
+            (half_marks heading a r known b t1 d1) e n.position newer
         same (Dsb q dsb) = refl
         same e = refl
     one_claim n newer older numbered (Taken r tag t d) = none n.event
@@ -117,7 +126,8 @@ module _ (heading : Heading) (known : Known heading) where
         none e = refl
 
     pub cleansed_is : (cs : List Claim) (newer older : List Noted) → Numbered (newer ++ older)
-        → cleansed heading (Listed cs) place p newer ≡ any (is_true_of heading place p (length older) (newer ++ older)) cs
+        → cleansed heading (Listed cs) place p newer
+        ≡ any (is_true_of heading place p (length older) (newer ++ older)) cs
     cleansed_is cs [] older numbered =
         sym (any_never (is_true_of heading place p (length older) older) cs
         (λ c. and_right (is_of place p c) (nat_lt (length older) (claim_mark heading c older))

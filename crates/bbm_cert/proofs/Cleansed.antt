@@ -1,8 +1,8 @@
 -- What is kept of the claims that are true, after one more claim and after one more event, and what it says.
-use Rattle.std.proofs.Common.{◌≡◌, ℕ, zero, suc, ◌+◌, ◌≤◌, ◌<◌, ◌≢◌, Bool, true, false, cond, ◌&&◌, ◌||◌, nat_eq}
-use Rattle.std.proofs.Common.{nat_lt, ◌==◌, ◌⊎◌, inl, inr, true≢false, List, [], ◌∷◌, ◌++◌, length, take, drop, get_or}
+use Rattle.std.proofs.Common.{◌≡◌, ℕ, suc, ◌+◌, ◌≤◌, ◌<◌, ◌≢◌, Bool, true, false, cond, ◌&&◌, ◌||◌, nat_eq}
+use Rattle.std.proofs.Common.{nat_lt, ◌==◌, inl, inr, true≢false, List, [], ◌∷◌, ◌++◌, length, take, drop, get_or}
 use Rattle.std.proofs.Common.{slice_set, reverse, refl, sym, ◌∙◌, ap, subst, arith}
-use Rattle.std.proofs.Math.Bool.{and-false, and_comm, or_comm, or-false}
+use Rattle.std.proofs.Math.Bool.{and-false, or-false}
 use Rattle.std.proofs.Math.Seq.{drop-cons}
 use Rattle.std.proofs.lemmas.Bool.{cases_eq, eq-eqb, eqb-true, ne_eqb}
 use Rattle.std.proofs.lemmas.List.{length-append, length-reverse, reverse-append, set_split, take-append-drop}
@@ -20,7 +20,7 @@ use Rattle.bbm_oracle_patterns.specs.Kept.{note_of, notes_behind, notes_of}
 use Rattle.bbm_oracle_patterns.specs.declared.kept.Kept.{Kept}
 use Rattle.bbm_cert.specs.Cleansings.{Tell, counts, ends_now, is_barrier, tells}
 use Rattle.bbm_cert.specs.KnownOfClaims.{Known}
-use Rattle.bbm_cert.specs.Marks.{claim_mark, completed_mark, end_of, is_of, is_true_of, mark_at}
+use Rattle.bbm_cert.specs.Marks.{claim_mark, completed_mark, end_of, is_of, is_true_of}
 use Rattle.bbm_cert.specs.declared.cleansings.Cleansing.{Cleansing}
 use Rattle.bbm_cert.proofs.Claimed.{cleansed_is}
 use Rattle.bbm_cert.proofs.Kepts.{length_before, length_notes, numbered}
@@ -29,7 +29,8 @@ use Rattle.bbm_cert.proofs.Tests.{any_both, any_never, none_below}
 
 -- ---- the newer events of a log
 
-notes_append : (before : ℕ) (xs ys : List Kept) → notes_behind before (xs ++ ys) ≡ notes_behind (before + length ys) xs ++ notes_behind before ys
+notes_append : (before : ℕ) (xs ys : List Kept)
+    → notes_behind before (xs ++ ys) ≡ notes_behind (before + length ys) xs ++ notes_behind before ys
 notes_append before [] ys = refl
 notes_append before (x ∷ xs) ys =
     let at : before + length (xs ++ ys) ≡ before + length ys + length xs = omega (arith, length-append xs ys) in
@@ -40,7 +41,8 @@ notes_whole : (ks : List Kept) → notes_of ks ≡ notes_behind 0 ks
 notes_whole [] = refl
 notes_whole (k ∷ ks) =
     let at : length ks ≡ 0 + length ks = omega arith in
-    ap (λ (n : ℕ). note_of n k ∷ notes_of ks) at ∙ ap (λ (ns : List Noted). note_of (0 + length ks) k ∷ ns) (notes_whole ks)
+    ap (λ (n : ℕ). note_of n k ∷ notes_of ks) at
+    ∙ ap (λ (ns : List Noted). note_of (0 + length ks) k ∷ ns) (notes_whole ks)
 
 whole : (log : List Kept) (i : ℕ) → i ≤ length log
     → notes_of (reverse log) ≡ notes_behind i (reverse (drop i log)) ++ notes_of (reverse (take i log))
@@ -88,10 +90,14 @@ module _ (heading : Heading) (place p n : ℕ) where
           ≡ (is_of place p claim && nat_lt n (cond here (completed_mark heading claim k.event h) mark))
       by true at =
           let e = eqb-true (end_of claim) (suc (length h)) at in
-          let none : mark ≡ 0 = mark_none (end_of claim) (λ m before. completed_mark heading claim m.event before) h (omega arith) in
-          ap (λ (m : ℕ). (is_of place p claim && nat_lt n m) || (is_of place p claim && nat_lt n (completed_mark heading claim k.event h))) none
-          ∙ ap (λ (b : Bool). (is_of place p claim && b) || (is_of place p claim && nat_lt n (completed_mark heading claim k.event h))) (none_below n)
-          ∙ ap (λ (b : Bool). b || (is_of place p claim && nat_lt n (completed_mark heading claim k.event h))) (and-false (is_of place p claim))
+          let none : mark ≡ 0 = mark_none (end_of claim) (λ m before. completed_mark heading claim m.event before) h
+          (omega arith) in
+          ap (λ (m : ℕ). (is_of place p claim && nat_lt n m)
+          || (is_of place p claim && nat_lt n (completed_mark heading claim k.event h))) none
+          ∙ ap (λ (b : Bool). (is_of place p claim && b)
+          || (is_of place p claim && nat_lt n (completed_mark heading claim k.event h))) (none_below n)
+          ∙ ap (λ (b : Bool). b || (is_of place p claim && nat_lt n (completed_mark heading claim k.event h)))
+          (and-false (is_of place p claim))
       by false at = or-false (is_of place p claim && nat_lt n mark)
 
   pub tell_next : (claims : List Claim) (k : Noted) (h : List Noted)
@@ -102,7 +108,8 @@ module _ (heading : Heading) (place p n : ℕ) where
       (is_true_of heading place p n (k ∷ h)) claims (true_next k h)
 
   -- no event but a barrier ends a claim
-  unended : (e : Event) (h : List Noted) → is_barrier e ≡ false → (claim : Claim) → ends_now heading e h place p n claim ≡ false
+  unended : (e : Event) (h : List Noted) → is_barrier e ≡ false → (claim : Claim)
+      → ends_now heading e h place p n claim ≡ false
   unended e h none claim =
       ap (λ (m : ℕ). end_of claim == suc (length h) && (is_of place p claim && nat_lt n m)) (unmarked e claim none)
       ∙ ap (λ (b : Bool). end_of claim == suc (length h) && (is_of place p claim && b)) (none_below n)
@@ -118,18 +125,21 @@ module _ (heading : Heading) (place p n : ℕ) where
   pub none_ends : (claims : List Claim) (e : Event) (h : List Noted) (before : Bool) → is_barrier e ≡ false
       → before ≡ (before || any (ends_now heading e h place p n) claims)
   none_ends claims e h before none =
-      sym (ap (λ (b : Bool). before || b) (any_never (ends_now heading e h place p n) claims (unended e h none)) ∙ or-false before)
+      sym (ap (λ (b : Bool). before || b) (any_never (ends_now heading e h place p n) claims (unended e h none))
+      ∙ or-false before)
 
   -- a claim that ends elsewhere, or here
   ends_at : (e : Event) (log : List Kept) (claim : Claim) → suc (length (notes_of (reverse log))) ≡ length log + 1
   ends_at e log claim = omega (arith, length_notes (reverse log), length-reverse log)
 
-  pub ends_elsewhere : (e : Event) (log : List Kept) (claim : Claim) (before : Bool) → (end_of claim ≡ length log + 1 → ⊥)
+  pub ends_elsewhere : (e : Event) (log : List Kept) (claim : Claim) (before : Bool)
+      → (end_of claim ≡ length log + 1 → ⊥)
       → before ≡ (before || ends_now heading e (notes_of (reverse log)) place p n claim)
   ends_elsewhere e log claim before apart =
       let gone : (end_of claim == suc (length (notes_of (reverse log)))) ≡ false
       = ne_eqb (end_of claim) (suc (length (notes_of (reverse log)))) (λ k. apart (k ∙ ends_at e log claim)) in
-      sym (ap (λ (b : Bool). before || (b && (is_of place p claim && nat_lt n (completed_mark heading claim e (notes_of (reverse log)))))) gone
+      sym (ap (λ (b : Bool). before || (b && (is_of place p claim
+      && nat_lt n (completed_mark heading claim e (notes_of (reverse log)))))) gone
       ∙ or-false before)
 
   pub ends_here : (e : Event) (log : List Kept) (claim : Claim) (mark : ℕ) → end_of claim ≡ length log + 1
@@ -139,7 +149,8 @@ module _ (heading : Heading) (place p n : ℕ) where
       let here : (end_of claim == suc (length (notes_of (reverse log)))) ≡ true
       = eq-eqb (end_of claim) (suc (length (notes_of (reverse log)))) (at ∙ sym (ends_at e log claim)) in
       ap (λ (m : ℕ). is_of place p claim && nat_lt n m) is
-      ∙ ap (λ (b : Bool). b && (is_of place p claim && nat_lt n (completed_mark heading claim e (notes_of (reverse log))))) (sym here)
+      ∙ ap (λ (b : Bool). b && (is_of place p claim
+      && nat_lt n (completed_mark heading claim e (notes_of (reverse log))))) (sym here)
 
 -- at the start
 pub tell_nothing : (heading : Heading) (claims : List Claim) (place p n : ℕ)
@@ -150,17 +161,6 @@ tell_nothing heading claims place p n =
 
 -- ---- one more claim
 
-pub tells_append : (kept : List Cleansing) (c : Cleansing) (a p n : ℕ)
-    → tells (kept ++ c ∷ []) a p n ≡ (tells kept a p n || counts a p n c)
-tells_append [] c a p n = or-false (counts a p n c)
-tells_append (k ∷ kept) c a p n =
-    ap (λ (b : Bool). counts a p n k || b) (tells_append kept c a p n)
-    ∙ regroup (counts a p n k) (tells kept a p n) (counts a p n c)
-  where
-    regroup : (x y z : Bool) → (x || (y || z)) ≡ ((x || y) || z)
-    regroup true y z = refl
-    regroup false y z = refl
-
 eq_sym : (m n : ℕ) → nat_eq m n ≡ (n == m)
 eq_sym m n =
     elim (cases_eq m n) [
@@ -169,7 +169,8 @@ eq_sym m n =
     ]
 
 -- what is kept of a write, with one PE more
-pub tells_set : (kept : List Cleansing) (i : ℕ) (old : Cleansing) (pes : PeMask) (place pe since a p n : ℕ) → i < length kept
+pub tells_set : (kept : List Cleansing) (i : ℕ) (old : Cleansing) (pes : PeMask) (place pe since a p n : ℕ)
+    → i < length kept
     → old ≡ get_or kept i old → old.place ≡ place → old.since ≡ since → pe_in pes p ≡ (pe_in old.pes p || nat_eq p pe)
     → tells (slice_set kept i (record { place = old.place; since = old.since; pes = pes })) a p n
     ≡ (tells kept a p n || ((place == a && nat_lt n since) && pe == p))
@@ -182,7 +183,8 @@ tells_set kept i old pes place pe since a p n below is is_place is_since is_pes 
     = sym (take-append-drop i kept) ∙ ap (λ (xs : List Cleansing). take i kept ++ xs) (drop-cons kept i old below)
     ∙ ap (λ (x : Cleansing). take i kept ++ x ∷ drop (suc i) kept) (sym is) in
     let told : tells kept a p n ≡ (front || ((at && pe_in old.pes p) || back))
-    = ap (λ (xs : List Cleansing). tells xs a p n) whole_is ∙ list_any-append (counts a p n) (take i kept) (old ∷ drop (suc i) kept) in
+    = ap (λ (xs : List Cleansing). tells xs a p n) whole_is
+    ∙ list_any-append (counts a p n) (take i kept) (old ∷ drop (suc i) kept) in
     ap (λ (xs : List Cleansing). tells xs a p n) (set_split kept i new below)
     ∙ list_any-append (counts a p n) (take i kept) (new ∷ drop (suc i) kept)
     ∙ ap (λ (b : Bool). front || ((at && b) || back)) (is_pes ∙ ap (λ (b : Bool). pe_in old.pes p || b) (eq_sym p pe))
@@ -201,7 +203,8 @@ tells_set kept i old pes place pe since a p n below is is_place is_since is_pes 
     spread false true false false false = refl
 
 pub found_in : (xs ys : List Cleansing) (i : ℕ) (old : Cleansing) (place since : ℕ) → xs ≡ ys
-    → (i < length xs) × ((d : Cleansing) → (get_or xs i d).place ≡ place) × ((d : Cleansing) → (get_or xs i d).since ≡ since)
+    → (i < length xs) × ((d : Cleansing) → (get_or xs i d).place ≡ place)
+    × ((d : Cleansing) → (get_or xs i d).since ≡ since)
     → old ≡ get_or ys i old → (i < length ys) × (old.place ≡ place) × (old.since ≡ since)
 found_in xs ys i old place since same found is =
     let there = subst (λ (zs : List Cleansing). (i < length zs) × ((d : Cleansing) → (get_or zs i d).place ≡ place)

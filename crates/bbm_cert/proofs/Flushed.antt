@@ -1,6 +1,6 @@
 -- The TLBI at a position of a log that is kept, and the barrier behind the log that answers it.
 use Rattle.std.proofs.Common.{◌≡◌, ℕ, suc, ◌+◌, ◌-◌, ◌<◌, ◌⊎◌, Bool, true, false, cond, ◌&&◌, ◌||◌, not, ◌==◌, List, []}
-use Rattle.std.proofs.Common.{◌∷◌, ◌++◌, length, take, drop, get_or, reverse, refl, sym, ◌∙◌, ap, arith, inl, inr}
+use Rattle.std.proofs.Common.{◌∷◌, ◌++◌, length, take, drop, get_or, reverse, refl, sym, ◌∙◌, ap, arith}
 use Rattle.std.proofs.Common.{length-append}
 use Rattle.std.proofs.Math.Bool.{or_comm, or-false}
 use Rattle.std.proofs.lemmas.Bool.{and_right, eq-eqb, ne_eqb}

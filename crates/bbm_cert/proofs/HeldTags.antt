@@ -1,5 +1,5 @@
 -- What is kept of the tags that roots hold: one more of them, and one more event.
-use Rattle.std.proofs.Common.{◌≡◌, ℕ, suc, ◌<◌, ◌+◌, Bool, true, false, not, ◌&&◌, ◌||◌, ◌==◌, List, [], ◌∷◌, ◌++◌}
+use Rattle.std.proofs.Common.{◌≡◌, ℕ, ◌<◌, ◌+◌, Bool, true, false, not, ◌&&◌, ◌||◌, ◌==◌, List, [], ◌∷◌, ◌++◌}
 use Rattle.std.proofs.Common.{length, take, get_or, refl, sym, ◌∙◌, ap, true≢false}
 use Rattle.std.proofs.Math.Bool.{and-false, or_comm, or-false}
 use Rattle.std.proofs.lemmas.Bool.{or_left}
@@ -15,7 +15,7 @@ use Rattle.bbm_rules.specs.Tags.{Reading, asid_readings, holds_at, loses, reads,
 use Rattle.bbm_rules.specs.Tags.{readings_of}
 use Rattle.bbm_cert.specs.Holdings.{ends_some, has, is_holding, is_lost, next_has, stays_held}
 use Rattle.bbm_cert.specs.KnownOfClaims.{Known}
-use Rattle.bbm_cert.specs.declared.holdings.Holding.{Holding}
+use Rattle.bbm_oracle_tags.specs.declared.holding.Holding.{Holding}
 use Rattle.bbm_cert.specs.declared.holdings.Loss.{Loss}
 
 -- ---- one more of the tags that were held

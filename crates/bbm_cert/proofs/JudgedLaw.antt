@@ -1,6 +1,6 @@
 -- What claims make of a log, and the logs that keep the rules by them.
-use Rattle.std.proofs.Common.{◌≡◌, ℕ, suc, Bool, true, false, List, [], ◌∷◌, ◌++◌, length, Option, Some, None, is_none}
-use Rattle.std.proofs.Common.{refl, sym, ◌∙◌, ap, subst}
+use Rattle.std.proofs.Common.{◌≡◌, ℕ, suc, true, List, [], ◌∷◌, ◌++◌, length, Option, Some, None, is_none}
+use Rattle.std.proofs.Common.{refl, sym, ◌∙◌, ap}
 use Rattle.std.proofs.lemmas.Bool.{and_parts}
 use Rattle.bbm_rules.specs.Broken.{Breach, broken, keeps}
 use Rattle.bbm_rules.specs.Claims.Trust.{Listed}
@@ -15,7 +15,8 @@ kept_yes : (position : ℕ) (o : Option Breach) (j : Judged) → is_none o ≡ t
 kept_yes position None j free said = ap (judged_with position None) said
 kept_yes position (Some b) j free said = cc
 
-broken_no : (position : ℕ) (o : Option Breach) (j : Judged) → judged_with position o j ≡ Yes → (is_none o ≡ true) × (j ≡ Yes)
+broken_no : (position : ℕ) (o : Option Breach) (j : Judged) → judged_with position o j ≡ Yes
+    → (is_none o ≡ true) × (j ≡ Yes)
 broken_no position None Yes said = (refl, refl)
 broken_no position (Some b) Yes said = cc
 broken_no position None (No i rule at) said = cc
@@ -26,7 +27,8 @@ module _ (heading : Heading) (claims : List Claim) where
   judged_yes [] kept = refl
   judged_yes (e ∷ h) kept =
       let parts = and_parts (keeps heading (Listed claims) h) (is_none (broken heading (Listed claims) h e)) kept in
-      kept_yes (suc (length h)) (broken heading (Listed claims) h e) (judged heading claims h) parts.1 (judged_yes h parts.0)
+      kept_yes (suc (length h)) (broken heading (Listed claims) h e) (judged heading claims h) parts.1
+      (judged_yes h parts.0)
 
   pub yes_kept : (h : List Event) → judged heading claims h ≡ Yes → keeps heading (Listed claims) h ≡ true
   yes_kept [] said = refl
@@ -35,14 +37,16 @@ module _ (heading : Heading) (claims : List Claim) where
       rw (yes_kept h k.1, k.0) refl
 
   -- what is no stays no
-  pub later_no : (newer h : List Event) (position : ℕ) (rule : Rule) (at : ℕ) → judged heading claims h ≡ No position rule at
+  pub later_no : (newer h : List Event) (position : ℕ) (rule : Rule) (at : ℕ)
+      → judged heading claims h ≡ No position rule at
       → judged heading claims (newer ++ h) ≡ No position rule at
   later_no [] h position rule at said = said
   later_no (e ∷ newer) h position rule at said =
       stays (suc (length (newer ++ h))) (broken heading (Listed claims) (newer ++ h) e)
       (judged heading claims (newer ++ h)) (later_no newer h position rule at said)
     where
-      stays : (i : ℕ) (o : Option Breach) (j : Judged) → j ≡ No position rule at → judged_with i o j ≡ No position rule at
+      stays : (i : ℕ) (o : Option Breach) (j : Judged) → j ≡ No position rule at
+          → judged_with i o j ≡ No position rule at
       stays i None j is = ap (judged_with i None) is
       stays i (Some b) j is = ap (judged_with i (Some b)) is
 
@@ -52,7 +56,8 @@ module _ (heading : Heading) (claims : List Claim) where
       → judged heading claims (e ∷ h) ≡ No (suc (length h)) rule at
   broken_here h e rule at kept is = rw (kept, is) refl
 
-  pub no_named : (log : List Event) (position : ℕ) (rule : Rule) (at : ℕ) → FirstBroken heading claims log position rule at
+  pub no_named : (log : List Event) (position : ℕ) (rule : Rule) (at : ℕ)
+      → FirstBroken heading claims log position rule at
       → judged heading claims log ≡ No position rule at
   no_named log position rule at first =
       ap (judged heading claims) first.split

@@ -1,9 +1,9 @@
 -- The marks of claims, and what they say of the newer part of a log. Everywhere `newer` are the events after the first
 -- `length older`, and a mark is above that number exactly where the definition holds of `newer`.
-use Rattle.std.proofs.Common.{◌≡◌, ℕ, zero, suc, ◌≤◌, ◌<◌, Bool, true, false, cond, ◌&&◌, ◌||◌, not, nat_lt, ◌==◌, List}
-use Rattle.std.proofs.Common.{[], ◌∷◌, ◌++◌, length, refl, sym, ◌∙◌, ap, subst, zero-le, arith, inl, inr, length-append}
+use Rattle.std.proofs.Common.{◌≡◌, ℕ, suc, ◌≤◌, ◌<◌, Bool, true, false, cond, ◌&&◌, ◌||◌, not, nat_lt, ◌==◌, List}
+use Rattle.std.proofs.Common.{[], ◌∷◌, ◌++◌, length, refl, sym, ◌∙◌, ap, zero-le, arith, length-append}
 use Rattle.std.proofs.Math.Bool.{and_comm}
-use Rattle.std.proofs.lemmas.Bool.{and_left, and_right, cond_both, eqb-true, le-ltb, lt-ltb, ne_eqb}
+use Rattle.std.proofs.lemmas.Bool.{and_right, cond_both, eqb-true, le-ltb, lt-ltb, ne_eqb}
 use Rattle.bbm_barriers.specs.Options.{answers}
 use Rattle.bbm_tlbi_scope.specs.declared.entry.Cover.{Cover}
 use Rattle.bbm_tlbi_scope.specs.declared.entry.Cover.TheVariants.{Half}
@@ -36,7 +36,8 @@ pub mark_none : (i : ℕ) (f : Noted → List Noted → ℕ) (h : List Noted) �
 mark_none i f [] later = refl
 mark_none i f (n ∷ h) later = rw (past i (n ∷ h) later) (mark_none i f h (omega arith))
 
-pub mark_within : (i : ℕ) (f : Noted → List Noted → ℕ) → ((n : Noted) (h : List Noted) → f n h ≤ length h) → (h : List Noted)
+pub mark_within : (i : ℕ) (f : Noted → List Noted → ℕ) → ((n : Noted) (h : List Noted) → f n h ≤ length h)
+    → (h : List Noted)
     → mark_at i f h ≤ length h
 mark_within i f each [] = zero-le
 mark_within i f each (n ∷ h) =
@@ -69,7 +70,8 @@ module _ (heading : Heading) (place p : ℕ) where
   publication_within _ h = zero-le
 
   pub publication_is : (e : Event) (newer older : List Noted)
-      → nat_lt (length older) (publication_mark heading place p e (newer ++ older)) ≡ publishes_write heading place p e newer
+      → nat_lt (length older) (publication_mark heading place p e (newer ++ older))
+      ≡ publishes_write heading place p e newer
   publication_is (Dsb q dsb) newer older =
       lt_cond (publishes_to heading dsb q p) (length older) (wrote_mark place q (newer ++ older))
       ∙ ap (λ (b : Bool). publishes_to heading dsb q p && b) (wrote_is place q newer older)
@@ -77,7 +79,8 @@ module _ (heading : Heading) (place p : ℕ) where
 
   pub seen_within : (b : ℕ) (h : List Noted) → seen_mark heading place p b h ≤ length h
   seen_within b h =
-      mark_within b (λ n before. publication_mark heading place p n.event before) (λ n before. publication_within n.event before) h
+      mark_within b (λ n before. publication_mark heading place p n.event before)
+      (λ n before. publication_within n.event before) h
 
   pub seen_is : (b : ℕ) (newer older : List Noted) → Numbered (newer ++ older)
       → nat_lt (length older) (seen_mark heading place p b (newer ++ older)) ≡ seen_by heading place p b newer
@@ -126,10 +129,12 @@ module _ (heading : Heading) (place p : ℕ) where
         → nat_lt (length older) (mark (newer ++ older)) ≡ test newer
         → (cond here ((issues q e && is_tlbi k e) && reached)
         (not (answers_for q k e) && waits_at heading place p q k cover t (newer ++ older))
-        && nat_lt (length older) (cond here (mark (newer ++ older)) (mark_at t (λ n before. mark before) (newer ++ older))))
+        && nat_lt (length older) (cond here (mark (newer ++ older))
+        (mark_at t (λ n before. mark before) (newer ++ older))))
         ≡ waits_after event_of q k (flush_at cover t test) e n newer
     one q k n newer older (Tlbi pe op xt) here reached at is none before marked =
-        tlbi_case here (pe == q) (is_tlbi k (Tlbi pe op xt)) reached (waits_at heading place p q k cover t (newer ++ older))
+        tlbi_case here (pe == q) (is_tlbi k (Tlbi pe op xt)) reached
+        (waits_at heading place p q k cover t (newer ++ older))
         (length older) (mark (newer ++ older)) (mark_at t (λ n before. mark before) (newer ++ older)) (test newer)
         (waits event_of q k (flush_at cover t test) newer) none before marked
         ∙ ap (λ (r : Bool). (pe == q && (is_tlbi k (Tlbi pe op xt) && (r && (here && test newer))))
@@ -173,13 +178,16 @@ module _ (heading : Heading) (place p : ℕ) where
         let m : Bool = nat_lt (length older) (mark_at t (λ n before. mark before) (newer ++ older)) in
         lt_cond (answered_by dsb w) (length older) (mark_at t (λ n before. mark before) (newer ++ older))
         ∙ and_or (answers dsb true) (w true) (answers dsb false) (w false) m
-        ∙ ap (λ (b : Bool). (answers dsb true && b) || (answers dsb false && (w false && m))) (waits_is q true newer older numbered)
-        ∙ ap (λ (b : Bool). (answers dsb true && waits event_of q true (flush_at cover t test) newer) || (answers dsb false && b))
+        ∙ ap (λ (b : Bool). (answers dsb true && b) || (answers dsb false && (w false && m)))
+        (waits_is q true newer older numbered)
+        ∙ ap (λ (b : Bool). (answers dsb true && waits event_of q true (flush_at cover t test) newer)
+        || (answers dsb false && b))
         (waits_is q false newer older numbered)
 
     pub flush_within : (e : Event) (h : List Noted) → flush_mark heading place p cover t mark e h ≤ length h
     flush_within (Dsb q dsb) h =
-        cond_both (answered_by dsb (λ k. waits_at heading place p q k cover t h)) (mark_at t (λ n before. mark before) h) 0
+        cond_both (answered_by dsb (λ k. waits_at heading place p q k cover t h))
+        (mark_at t (λ n before. mark before) h) 0
         (λ x. x ≤ length h) (λ e. mark_within t (λ n before. mark before) (λ n h. marks.within h) h) (λ e. zero-le)
     flush_within _ h = zero-le
 
@@ -192,7 +200,8 @@ module _ (heading : Heading) (place p : ℕ) where
     half_within : (h : List Noted) → half_mark heading place p b t d h ≤ length h
     half_within h =
         mark_within d (λ n before. flush_mark heading place p Half t (seen_mark heading place p b) n.event before)
-        (λ n before. flush_within known (seen_mark heading place p b) (seen_by heading place p b) (seen_marks b) Half t n.event before) h
+        (λ n before. flush_within known (seen_mark heading place p b) (seen_by heading place p b)
+        (seen_marks b) Half t n.event before) h
 
     one_half : (e : Event) (n : Noted) (newer older : List Noted) → Numbered (n ∷ (newer ++ older))
         → nat_lt (length older) (half_mark heading place p b t d (newer ++ older)) ≡ half_by heading place p b t d newer
@@ -204,19 +213,24 @@ module _ (heading : Heading) (place p : ℕ) where
         lt_at (d == suc (length (newer ++ older))) (length older)
         (flush_mark heading place p Half t (seen_mark heading place p b) (Dsb q dsb) (newer ++ older))
         (half_mark heading place p b t d (newer ++ older))
-        (answered_by dsb (λ k. waits event_of q k (half_at heading place p b t) newer)) (half_by heading place p b t d newer)
-        (flush_is known (seen_mark heading place p b) (seen_by heading place p b) (seen_marks b) Half t q dsb newer older numbered.1)
+        (answered_by dsb (λ k. waits event_of q k (half_at heading place p b t) newer))
+        (half_by heading place p b t d newer)
+        (flush_is known (seen_mark heading place p b) (seen_by heading place p b)
+        (seen_marks b) Half t q dsb newer older numbered.1)
         before (λ k. let e = eqb-true d (suc (length (newer ++ older))) k in
-        mark_none d (λ n before. flush_mark heading place p Half t (seen_mark heading place p b) n.event before) (newer ++ older) (omega arith))
+        mark_none d (λ n before. flush_mark heading place p Half t (seen_mark heading place p b) n.event before)
+        (newer ++ older) (omega arith))
         ∙ ap (λ (x : Bool). x || half_by heading place p b t d newer)
-        (and_comm (answered_by dsb (λ k. waits event_of q k (half_at heading place p b t) newer)) (d == suc (length (newer ++ older))))
+        (and_comm (answered_by dsb (λ k. waits event_of q k (half_at heading place p b t) newer))
+        (d == suc (length (newer ++ older))))
         ∙ ap (λ (i : ℕ). (d == i && answered_by dsb (λ k. waits event_of q k (half_at heading place p b t) newer))
         || half_by heading place p b t d newer) (sym numbered.0)
     one_half _ n newer older numbered before =
         lt_at (d == suc (length (newer ++ older))) (length older) 0 (half_mark heading place p b t d (newer ++ older))
         false (half_by heading place p b t d newer) (none_below (length older)) before
         (λ k. let e = eqb-true d (suc (length (newer ++ older))) k in
-        mark_none d (λ n before. flush_mark heading place p Half t (seen_mark heading place p b) n.event before) (newer ++ older) (omega arith))
+        mark_none d (λ n before. flush_mark heading place p Half t (seen_mark heading place p b) n.event before)
+        (newer ++ older) (omega arith))
 
     half_is : (newer older : List Noted) → Numbered (newer ++ older)
         → nat_lt (length older) (half_mark heading place p b t d (newer ++ older)) ≡ half_by heading place p b t d newer

@@ -1,6 +1,6 @@
 -- The TLBI at an index, where a DSB behind the log answers it: it takes a tag away where it takes the whole tag, and
 -- the tag isn't readable after it.
-use Rattle.std.proofs.Common.{◌≡◌, ◌⊎◌, ℕ, zero, suc, ◌+◌, ◌-◌, ◌<◌, ◌≤◌, Bool, true, false, cond, not, ◌&&◌, ◌||◌}
+use Rattle.std.proofs.Common.{◌≡◌, ◌⊎◌, ℕ, suc, ◌+◌, ◌-◌, ◌<◌, ◌≤◌, Bool, true, false, cond, not, ◌&&◌, ◌||◌}
 use Rattle.std.proofs.Common.{◌==◌, nat_le, List, [], ◌∷◌, ◌++◌, length, take, drop, get_or, reverse, refl, sym, ◌∙◌}
 use Rattle.std.proofs.Common.{ap, inl, inr, arith, length-append}
 use Rattle.std.proofs.Math.Bool.{or-false}

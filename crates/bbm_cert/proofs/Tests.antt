@@ -1,5 +1,5 @@
 -- Tests that are combined, and numbers that are compared. None of them speaks of events.
-use Rattle.std.proofs.Common.{◌≡◌, ℕ, zero, suc, ◌≤◌, ◌<◌, Bool, true, false, cond, ◌&&◌, ◌||◌, not, nat_lt, List, []}
+use Rattle.std.proofs.Common.{◌≡◌, ℕ, Bool, true, false, cond, ◌&&◌, ◌||◌, not, nat_lt, List, []}
 use Rattle.std.proofs.Common.{◌∷◌, refl, sym, ◌∙◌, ap, zero-le}
 use Rattle.std.proofs.Math.Bool.{and-false, or-false}
 use Rattle.std.proofs.lemmas.Bool.{le-ltb, or_from}
@@ -84,7 +84,8 @@ tlbi_case false a i r waited n m y f w none before marked =
     nothing true false r = refl
     nothing false i r = refl
 
-pub dsb_case : (here c waited : Bool) (n m y : ℕ) (w : Bool) → (here ≡ true → waited ≡ false) → (waited && nat_lt n y) ≡ w
+pub dsb_case : (here c waited : Bool) (n m y : ℕ) (w : Bool) → (here ≡ true → waited ≡ false)
+    → (waited && nat_lt n y) ≡ w
     → (cond here false (not c && waited) && nat_lt n (cond here m y)) ≡ cond c false w
 dsb_case true true waited n m y w none before = refl
 dsb_case true false waited n m y w none before = sym (stops true waited n m y w none before refl)

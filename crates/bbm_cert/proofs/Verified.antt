@@ -1,7 +1,7 @@
 -- A log that keeps the rules by claims so far, and its next event.
-use Rattle.std.proofs.Common.{◌≡◌, ℕ, suc, ◌+◌, ◌<◌, ◌≤◌, Option, Some, None, List, [], ◌∷◌, ◌++◌, length, take, drop}
+use Rattle.std.proofs.Common.{◌≡◌, ℕ, suc, ◌+◌, ◌<◌, Option, Some, None, List, [], ◌∷◌, ◌++◌, length, take, drop}
 use Rattle.std.proofs.Common.{get_or, reverse, refl, sym, ◌∙◌, ap, subst, arith}
-use Rattle.std.proofs.lemmas.List.{length-reverse, length-take-le, reverse-append, take-append-drop, take_all}
+use Rattle.std.proofs.lemmas.List.{length-reverse, length-take-le, reverse-append, take-append-drop}
 use Rattle.bbm_events.specs.declared.claim.Claim.{Claim}
 use Rattle.bbm_rules.specs.Broken.{Breach, broken}
 use Rattle.bbm_rules.specs.Claims.{Trust}
@@ -10,7 +10,7 @@ use Rattle.bbm_rules.specs.Prelude.{Heading, Event}
 use Rattle.bbm_oracle_trees.specs.Past.{Past}
 use Rattle.bbm_oracle_trees.specs.HistoryStandsFor.{StandsFor}
 use Rattle.bbm_cert.specs.declared.judged.Judged.{Judged}
-use Rattle.bbm_cert.specs.declared.judged.Judged.TheVariants.{Yes, No}
+use Rattle.bbm_cert.specs.declared.judged.Judged.TheVariants.{Yes}
 use Rattle.bbm_cert.specs.Judged.{judged, judged_with, judges_as}
 use Rattle.bbm_cert.proofs.JudgedLaw.{later_no}
 use Rattle.bbm_cert.proofs.TagSteps.{next}
@@ -22,7 +22,8 @@ pub record Going (past : Past) (heading : Heading) (claims : List Claim) (h : Li
   pub yes_so_far : judged heading claims h ≡ Yes
 
 pub going_start : (past : Past) (heading : Heading) (claims listed : List Claim)
-    → past ≡ record { heading = heading; trust = Listed listed; kept = [] } → StandsFor past heading [] → listed ≡ claims
+    → past ≡ record { heading = heading; trust = Listed listed; kept = [] } → StandsFor past heading []
+    → listed ≡ claims
     → Going past heading claims []
 going_start past heading claims listed is stands same = record {
   stands = stands;
@@ -50,10 +51,12 @@ module _ (heading : Heading) (claims : List Claim) where
     -- the same by what the claims are
     by_claims : (said : Judged) → said ≡ judges_as (i + 1) (broken heading past.trust (reverse (take i log)) e)
         → said ≡ judges_as (i + 1) (broken heading (Listed claims) (reverse (take i log)) e)
-    by_claims said k = k ∙ ap (λ (t : Trust). judges_as (i + 1) (broken heading t (reverse (take i log)) e)) going.trusts
+    by_claims said k = k ∙ ap (λ (t : Trust). judges_as (i + 1) (broken heading t (reverse (take i log)) e))
+        going.trusts
 
     pub going_next : (new : Past) (said : Judged)
-        → said ≡ judges_as (i + 1) (broken heading past.trust (reverse (take i log)) e) → said ≡ Yes → new.trust ≡ past.trust
+        → said ≡ judges_as (i + 1) (broken heading past.trust (reverse (take i log)) e) → said ≡ Yes
+        → new.trust ≡ past.trust
         → StandsFor new heading (e ∷ reverse (take i log))
         → Going new heading claims (reverse (take (i + 1) log))
     going_next new said k yes_now trust stands =
@@ -61,7 +64,8 @@ module _ (heading : Heading) (claims : List Claim) where
           stands = stands;
           trusts = trust ∙ going.trusts;
           yes_so_far = judged_next (reverse (take i log)) e going.yes_so_far
-              ∙ still_yes (i + 1) (suc (length (reverse (take i log)))) (broken heading (Listed claims) (reverse (take i log)) e)
+              ∙ still_yes (i + 1) (suc (length (reverse (take i log))))
+              (broken heading (Listed claims) (reverse (take i log)) e)
               (sym yes_now ∙ by_claims said k);
         })
 
@@ -71,7 +75,8 @@ module _ (heading : Heading) (claims : List Claim) where
         → said ≡ judged heading claims (reverse (drop (i + 1) log) ++ e ∷ reverse (take i log))
     stays None said k apart so_far = absurd (apart k)
     stays (Some b) said k apart so_far =
-        k ∙ sym (later_no heading claims (reverse (drop (i + 1) log)) (e ∷ reverse (take i log)) (i + 1) b.rule b.at so_far)
+        k ∙ sym (later_no heading claims (reverse (drop (i + 1) log)) (e ∷ reverse (take i log))
+        (i + 1) b.rule b.at so_far)
 
     pub stopped : (said : Judged) → said ≡ judges_as (i + 1) (broken heading past.trust (reverse (take i log)) e)
         → (said ≡ Yes → ⊥) → said ≡ judged heading claims (reverse log)
@@ -86,8 +91,3 @@ module _ (heading : Heading) (claims : List Claim) where
             ap reverse (sym (take-append-drop (i + 1) log))
             ∙ reverse-append (take (i + 1) log) (drop (i + 1) log)
             ∙ ap (λ (xs : List Event). reverse (drop (i + 1) log) ++ xs) one_more
-
-  pub finished : (past : Past) (log : List Event) (i : ℕ) → length log ≤ i → Going past heading claims (reverse (take i log))
-      → Yes ≡ judged heading claims (reverse log)
-  finished past log i end going =
-      sym (subst (λ (xs : List Event). judged heading claims (reverse xs) ≡ Yes) (take_all i log end) going.yes_so_far)

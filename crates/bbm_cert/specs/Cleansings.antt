@@ -1,4 +1,5 @@
--- What is kept of the claims that are true of a log so far, and what the next event adds to it. No public contract cites
+-- What is kept of the claims that are true of a log so far, and what the next event adds to it. No public contract
+-- cites
 -- these words. Source: project's own choice.
 use Rattle.std.specs.Prelude.{◌≡◌, ℕ, suc, length, Bool, true, false, ◌&&◌, ◌==◌, nat_lt, List}
 use Rattle.bbm_events.specs.declared.claim.Claim.{Claim}

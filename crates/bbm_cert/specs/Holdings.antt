@@ -1,6 +1,6 @@
 -- Which roots hold which tags, as it is kept from event to event. No public contract cites these words.
 -- Source: project's own choice.
-use Rattle.std.specs.Prelude.{◌≡◌, ◌<◌, ℕ, ◌-◌, Bool, false, not, ◌&&◌, ◌||◌, ◌==◌, nat_lt, List, [], ◌∷◌, length}
+use Rattle.std.specs.Prelude.{◌≡◌, ◌<◌, ℕ, ◌-◌, Bool, false, not, ◌&&◌, ◌||◌, ◌==◌, nat_lt, List, length}
 use Rattle.std.specs.Prelude.{if◌then◌else◌}
 use Rattle.bbm_events.specs.declared.claim.Claim.{Claim}
 use Rattle.bbm_rules.specs.Changes.{changes}
@@ -10,7 +10,7 @@ use Rattle.bbm_rules.specs.Lists.{any}
 use Rattle.bbm_rules.specs.Prelude.{Tag, Heading, Event, Dsb}
 use Rattle.bbm_rules.specs.Tags.{holds_at, reads, reads_for_some}
 use Rattle.bbm_histories.specs.ClaimSteps.{completes_taken}
-use Rattle.bbm_cert.specs.declared.holdings.Holding.{Holding}
+use Rattle.bbm_oracle_tags.specs.declared.holding.Holding.{Holding}
 use Rattle.bbm_cert.specs.declared.holdings.Loss.{Loss}
 use Rattle.bbm_cert.specs.declared.spans.Span.{Span}
 use Rattle.bbm_cert.specs.Spans.{lasts}

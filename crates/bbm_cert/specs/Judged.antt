@@ -8,7 +8,8 @@ use Rattle.bbm_rules.specs.declared.rule.Rule.{Rule}
 use Rattle.bbm_cert.specs.declared.judged.Judged.{Judged}
 use Rattle.bbm_cert.specs.declared.judged.Judged.TheVariants.{Yes, No}
 
--- what is judged of the event at this position, which breaks this rule or none, where the events before it keep the rules
+-- what is judged of the event at this position, which breaks this rule or none, where the events before it keep the
+-- rules
 abbrev pub judges_as : ℕ → Option Breach → Judged
 judges_as position None = Yes
 judges_as position (Some breach) = No position breach.rule breach.at
@@ -25,8 +26,10 @@ judged heading claims [] = Yes
 judged heading claims (e ∷ h) =
     judged_with (suc (length h)) (broken heading (Listed claims) h e) (judged heading claims h)
 
--- The event at this position is the first that breaks a rule by these claims, and this is the least rule that it breaks.
-pub record FirstBroken (heading : Heading) (claims : List Claim) (log : List Event) (position : ℕ) (rule : Rule) (at : ℕ)
+-- The event at this position is the first that breaks a rule by these claims, and this is the least rule that it
+-- breaks.
+pub record FirstBroken (heading : Heading) (claims : List Claim) (log : List Event) (position : ℕ) (rule : Rule)
+    (at : ℕ)
     : Type 0 where
   pub newer : List Event
   pub event : Event

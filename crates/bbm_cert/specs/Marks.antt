@@ -1,4 +1,5 @@
--- Since when the claims of a certificate are true. The *mark* of a claim, in the notes of a log, is the number of events
+-- Since when the claims of a certificate are true. The *mark* of a claim, in the notes of a log, is the number of
+-- events
 -- up to the newest write of the place that the claim's first barrier publishes; it is 0 where the claim is true of no
 -- part of the log. So the claim is true of the events after the first n exactly where its mark is above n. Notes are
 -- newest first, and the position of an event is the number of notes from it on. No public contract cites these words.

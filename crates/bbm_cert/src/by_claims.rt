@@ -8,13 +8,13 @@ ghost use Rattle.bbm_cert.specs.Holdings.{Hold};
 ghost use Rattle.bbm_cert.specs.Takings.{AreWrites};
 
 use crate::cleansings::{Cleansing, add_completed, cleansed_since, copied};
-use crate::holdings::{Holding, Tags, has, tags_after};
+use crate::holdings::{Tags, has, tags_after};
 use crate::known::known;
 use bbm_events::{Claim, Event, Header};
 use bbm_oracle_patterns::{Evidence, Kept};
 use bbm_oracle_tags::readings::is_read;
-use bbm_oracle_tags::{TagEvidence, readings_at};
-use bbm_regimes::{NoMemory, Pe, PeMask, Place, Tag};
+use bbm_oracle_tags::{Holding, TagEvidence, readings_at};
+use bbm_regimes::{NoMemory, PeMask, Place};
 use std::alloc::Global;
 
 /// A list of claims is trusted, and nothing else: a place is cleansed, and a tag taken away, only by a pattern of
@@ -87,12 +87,9 @@ impl<'a> TagEvidence for ByClaims<'a> {
         alloc: Global,
         header: &Header,
         events: &[Event],
-        pe: Pe,
-        root: u64,
-        tag: Tag,
+        asked: &Holding,
     ) -> Result<bool, NoMemory> {
-        let asked = Holding { pe, root, tag };
-        holds_from(alloc, header, events, &asked, self)
+        holds_from(alloc, header, events, asked, self)
     }
 
     ghost knows_write = { λ evidence heading h pe reg value known. (

@@ -45,8 +45,8 @@ fn add(kept: &mut Vec<Cleansing>, place: Place, pe: Pe, since: usize) -> Result<
         }
         None => {
             let pes = PeMask::one(pe);
-            kept.push(Cleansing { place, since, pes })
-                .map_err(|_| NoMemory)
+            kept.push(Cleansing { place, since, pes })?;
+            Ok(())
         }
     }
 }
@@ -150,8 +150,6 @@ pub fn cleansed_since(kept: &[Cleansing], from: usize, place: Place) -> PeMask
 pub fn copied(alloc: Global, kept: &[Cleansing]) -> Result<Vec<Cleansing>, NoMemory>
     ensures { IfOk result (λ copy. copy.items ≡ kept.now) }
 {
-    match kept.to_vec(alloc) {
-        Ok(copy) => Ok(copy),
-        Err(_) => Err(NoMemory),
-    }
+    let copy = kept.to_vec(alloc)?;
+    Ok(copy)
 }

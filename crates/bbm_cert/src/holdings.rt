@@ -18,20 +18,9 @@ use crate::spans::{Span, all_ended, show_all, spans_copied};
 use crate::taken::{Answer, Before, Taking, is_readable, takes_unread};
 use bbm_events::{Claim, Event, Header};
 use bbm_oracle_patterns::Kept;
-use bbm_oracle_tags::{Reading, readings_at};
+use bbm_oracle_tags::{Holding, Reading, readings_at};
 use bbm_regimes::{NoMemory, Pe, Tag, same_tag};
 use std::alloc::Global;
-
-/// A tag that a root holds at a PE. Source: project's own choice.
-#[derive(Clone, Copy, Debug)]
-pub struct Holding {
-    /// The PE.
-    pub pe: Pe,
-    /// The address of the root's first page, in bytes.
-    pub root: u64,
-    /// The tag.
-    pub tag: Tag,
-}
 
 /// A tag that a claim takes away at a PE.
 #[derive(Clone, Copy, Debug)]
@@ -72,10 +61,9 @@ fn add_loss(
             if d as usize == before.events.len() + 1
                 && takes_unread(alloc, header, before, answer, &taking)?
             {
-                losses.push(Loss { pe, tag }).map_err(|_| NoMemory)
-            } else {
-                Ok(())
+                losses.push(Loss { pe, tag })?;
             }
+            Ok(())
         }
         _ => Ok(()),
     }
@@ -166,10 +154,9 @@ fn keep(
 {
     known();
     if stays(alloc, header, events, losses, holding.pe, holding.tag)? {
-        kept.push(*holding).map_err(|_| NoMemory)
-    } else {
-        Ok(())
+        kept.push(*holding)?;
     }
+    Ok(())
 }
 
 /// What was held and still is, after these events, the last of which completes claims of these tags.
@@ -210,7 +197,8 @@ fn add(held: &mut Vec<Holding>, pe: Pe, root: u64, tag: Tag) -> Result<(), NoMem
     if has(held, pe, root, tag) {
         Ok(())
     } else {
-        held.push(Holding { pe, root, tag }).map_err(|_| NoMemory)
+        held.push(Holding { pe, root, tag })?;
+        Ok(())
     }
 }
 
@@ -281,7 +269,7 @@ fn events_in(alloc: Global, log: &[Kept]) -> Result<Vec<Event>, NoMemory>
 {
     let mut events = Vec::new(alloc);
     for kept in log {
-        events.push(kept.event).map_err(|_| NoMemory)?;
+        events.push(kept.event)?;
     }
     Ok(events)
 }
@@ -290,7 +278,8 @@ fn events_in(alloc: Global, log: &[Kept]) -> Result<Vec<Event>, NoMemory>
 fn add_event(events: &mut Vec<Event>, event: &Event) -> Result<(), NoMemory>
     ensures { OnOk result (reverse events.new.items ≡ event.now ∷ reverse events.old.items) }
 {
-    events.push(*event).map_err(|_| NoMemory)
+    events.push(*event)?;
+    Ok(())
 }
 
 /// The tags that were readable before the event, the last of these, where nothing is readable any more if it may change

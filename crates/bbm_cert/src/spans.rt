@@ -67,7 +67,8 @@ fn add_ended(next: &mut Vec<Span>, span: &Span, count: usize) -> Result<(), NoMe
     ensures { OnOk result ((p n : ℕ) (tag : TheTag) → spec.lasts next.new.items p tag n
         ≡ (spec.lasts next.old.items p tag n || (spec.lasts (span.now ∷ []) p tag n && nat_lt n count))) }
 {
-    next.push(ended(span, count)).map_err(|_| NoMemory)
+    next.push(ended(span, count))?;
+    Ok(())
 }
 
 /// All of them where nothing is readable any more since there were so many events. `NoMemory` where there is none.
@@ -105,7 +106,8 @@ fn show(spans: &mut Vec<Span>, pe: Pe, tag: Tag) -> Result<(), NoMemory>
         }
         None => {
             let until = None;
-            spans.push(Span { pe, tag, until }).map_err(|_| NoMemory)
+            spans.push(Span { pe, tag, until })?;
+            Ok(())
         }
     }
 }
@@ -126,8 +128,6 @@ pub fn show_all(spans: &mut Vec<Span>, pe: Pe, readings: &[Reading]) -> Result<(
 pub fn spans_copied(alloc: Global, spans: &[Span]) -> Result<Vec<Span>, NoMemory>
     ensures { IfOk result (λ copy. copy.items ≡ spans.now) }
 {
-    match spans.to_vec(alloc) {
-        Ok(copy) => Ok(copy),
-        Err(_) => Err(NoMemory),
-    }
+    let copy = spans.to_vec(alloc)?;
+    Ok(copy)
 }

@@ -12,7 +12,7 @@ use Rattle.bbm_rules.specs.Prelude.{Barrier, Heading, Event, Dsb, Tag}
 use Rattle.bbm_rules.specs.Tags.{Reading, holds_at, loses, reads, reads_for_some, readings}
 use Rattle.bbm_histories.specs.ClaimSteps.{completes_taken}
 use Rattle.bbm_cert.specs.Holdings.{is_holding}
-use Rattle.bbm_cert.specs.declared.holdings.Holding.{Holding}
+use Rattle.bbm_oracle_tags.specs.declared.holding.Holding.{Holding}
 use Rattle.bbm_lemmas.proofs.Elements.{any_finds, any_found}
 use Rattle.bbm_lemmas.specs.Elements.{In}
 use Rattle.bbm_certify.specs.KnownOfCertificates.{Known}

@@ -9,7 +9,7 @@ use Rattle.bbm_rules.specs.Sentences.{HoldsTag, TakenAway}
 use Rattle.bbm_rules.specs.Tags.{holds_at, loses, reads}
 use Rattle.bbm_histories.specs.TagSteps.{BecomesReadable}
 use Rattle.bbm_cert.specs.Holdings.{has}
-use Rattle.bbm_cert.specs.declared.holdings.Holding.{Holding}
+use Rattle.bbm_oracle_tags.specs.declared.holding.Holding.{Holding}
 use Rattle.bbm_certify.specs.Taken.{IsKnown, ReadsAreWritten}
 
 module _ (heading : Heading) (h : List Event) where

@@ -13,7 +13,7 @@ use Rattle.bbm_rules.specs.Lists.{among}
 use Rattle.bbm_rules.specs.Notes.{Noted}
 use Rattle.bbm_rules.specs.Places.{page_of}
 use Rattle.bbm_rules.specs.Prelude.{Barrier, Heading, Event, Init, Write, Dsb, Kind}
-use Rattle.bbm_cert.specs.declared.holdings.Holding.{Holding}
+use Rattle.bbm_oracle_tags.specs.declared.holding.Holding.{Holding}
 use Rattle.bbm_lemmas.proofs.Elements.{any_found}
 use Rattle.bbm_lemmas.specs.Elements.{In}
 use Rattle.bbm_certify.specs.DueAt.{AreDue as ArePlaces, writes_at}

@@ -10,7 +10,7 @@ use Rattle.bbm_rules.specs.Tags.{holds_at, reads, reads_for_some}
 use Rattle.bbm_histories.specs.ClaimSteps.{tag_waits_at}
 use Rattle.bbm_histories.specs.HistorySteps.{answered_by}
 use Rattle.bbm_cert.specs.Holdings.{has}
-use Rattle.bbm_cert.specs.declared.holdings.Holding.{Holding}
+use Rattle.bbm_oracle_tags.specs.declared.holding.Holding.{Holding}
 use Rattle.bbm_lemmas.specs.Elements.{In}
 
 -- a TLBI of q, behind which these events came, and none of them a DSB of q that completes it

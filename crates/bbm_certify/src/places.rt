@@ -32,7 +32,8 @@ fn add_spot(
     requires { spot.now.before + length log.now + 1 < 2 ^ 32 }
     ensures { OnOk result ((newest : Noted) → spec.IsNewest newest answer.now (spot.now.before + length log.now)
         → spec.Told header.now cleansed spot.now.place spot.now.pe (notes_behind spot.now.before (reverse log.now))
-        → Adds (spec.IsDueHere header.now spot.now.place newest (notes_behind spot.now.before (reverse log.now)) spot.now.pe)
+        → Adds (spec.IsDueHere header.now spot.now.place newest
+        (notes_behind spot.now.before (reverse log.now)) spot.now.pe)
         due.old.items due.new.items) }
 {
     law_cleansed();
@@ -59,9 +60,12 @@ fn add_where_seen(
 ) -> Result<(), NoMemory>
     requires { spot.now.before + length log.now + 1 < 2 ^ 32 }
     ensures { OnOk result ((newest : Noted) → spec.IsNewest newest answer.now (spot.now.before + length log.now)
-        → spec.ToldSeen header.now trace.now.seen spot.now.place spot.now.pe (notes_behind spot.now.before (reverse log.now))
-        → spec.Told header.now trace.now.cleansed spot.now.place spot.now.pe (notes_behind spot.now.before (reverse log.now))
-        → Adds (spec.IsDueHere header.now spot.now.place newest (notes_behind spot.now.before (reverse log.now)) spot.now.pe)
+        → spec.ToldSeen header.now trace.now.seen spot.now.place spot.now.pe
+        (notes_behind spot.now.before (reverse log.now))
+        → spec.Told header.now trace.now.cleansed spot.now.place spot.now.pe
+        (notes_behind spot.now.before (reverse log.now))
+        → Adds (spec.IsDueHere header.now spot.now.place newest
+        (notes_behind spot.now.before (reverse log.now)) spot.now.pe)
         due.old.items due.new.items) }
 {
     law_cleansed();
@@ -129,7 +133,8 @@ fn add_in(
 ) -> Result<(), NoMemory>
     requires { length log.now + 1 < 2 ^ 32 }
     ensures { OnOk result ((newest : Noted) → spec.IsNewest newest answer.now (length log.now)
-        → Adds (spec.IsDueIn header.now node.now place newest (notes_of (reverse log.now))) due.old.items due.new.items) }
+        → Adds (spec.IsDueIn header.now node.now place newest
+        (notes_of (reverse log.now))) due.old.items due.new.items) }
 {
     match last_valid(log, node.kind, node.level, place) {
         Some(write) => {
@@ -150,7 +155,8 @@ fn add_at(
 ) -> Result<(), NoMemory>
     requires { length log.now + 1 < 2 ^ 32 }
     ensures { OnOk result ((newest : Noted) → spec.IsNewest newest answer.now (length log.now)
-        → Adds (spec.IsDueAt history.now.heading history.now.trust (notes history.now) newest (notes_of (reverse log.now)) place)
+        → Adds (spec.IsDueAt history.now.heading history.now.trust (notes history.now) newest
+        (notes_of (reverse log.now)) place)
         due.old.items due.new.items) }
 {
     match history.node_of(place.page()) {
@@ -170,7 +176,8 @@ pub fn add_places(
 ) -> Result<(), NoMemory>
     requires { length log.now + 1 < 2 ^ 32 }
     ensures { OnOk result ((newest : Noted) → spec.IsNewest newest answer.now (length log.now)
-        → Adds (spec.AreDue history.now.heading history.now.trust (notes history.now) newest (notes_of (reverse log.now)) places.now)
+        → Adds (spec.AreDue history.now.heading history.now.trust (notes history.now) newest
+        (notes_of (reverse log.now)) places.now)
         due.old.items due.new.items) }
 {
     for place in places {
@@ -214,7 +221,8 @@ fn add_place(places: &mut Vec<Place>, place: Place) -> Result<(), NoMemory>
 
 /// Adds the place that the event writes, where it writes one. `NoMemory` where there is none.
 pub fn add_written(places: &mut Vec<Place>, event: &Event) -> Result<(), NoMemory>
-    ensures { OnOk result ((a : ℕ) → among a places.new.items ≡ (spec.writes_at a event.now || among a places.old.items)) }
+    ensures { OnOk result ((a : ℕ) → among a places.new.items ≡
+        (spec.writes_at a event.now || among a places.old.items)) }
 {
     match *event {
         Event::Write { place, .. } => add_place(places, place),

@@ -1,7 +1,8 @@
 //! The claims of the tags that a DSB takes away.
 //! Source: project's own choice.
 
-ghost use Rattle.std.specs.Prelude.{◌≡◌, ◌<◌, ◌+◌, ◌-◌, ◌^◌, ◌∷◌, ◌&&◌, ◌||◌, ◌==◌, ℕ, true, List, length, reverse, take, IfOk, OnOk};
+ghost use Rattle.std.specs.Prelude.{◌≡◌, ◌<◌, ◌+◌, ◌-◌, ◌^◌, ◌∷◌, ◌&&◌, ◌||◌, ◌==◌, ℕ, true, List, length, reverse};
+ghost use Rattle.std.specs.Prelude.{take, IfOk, OnOk};
 ghost use Rattle.bbm_regimes.specs.declared.regime.Tag.{Tag as TheTag};
 ghost use Rattle.bbm_events.specs.declared.event.Event.{Event as TheEvent};
 ghost use Rattle.bbm_rules.specs.Claims.{same_tag as is_same_tag};
@@ -12,11 +13,11 @@ ghost use Rattle.bbm_certify.specs.Orders.{Adds};
 ghost use Rattle.bbm_certify.specs.Taken as spec;
 
 use crate::sorted::add_claim;
-use bbm_cert::holdings::{Holding, has};
+use bbm_cert::holdings::has;
 use bbm_cert::marks::issues;
 use bbm_cert::taken::{Answer, Taking, is_answered, is_readable, takes_away};
 use bbm_events::{Claim, Event, Header};
-use bbm_oracle_tags::{Reading, holds_at, readings_at};
+use bbm_oracle_tags::{Holding, Reading, holds_at, readings_at};
 use bbm_regimes::{NoMemory, Pe};
 use bbm_rules::{law_answered, law_equality_tests};
 use std::alloc::Global;
@@ -86,14 +87,15 @@ fn may_lose(
     events: &[Event],
     holding: &Holding,
 ) -> Result<bool, NoMemory>
-    ensures { IfOk result (λ may. may ≡ spec.may_lose header.now (reverse before.now) (reverse events.now) holding.now) }
+    ensures { IfOk result (λ may. may ≡ spec.may_lose header.now (reverse before.now)
+        (reverse events.now) holding.now) }
 {
     if holding.pe.get() >= header.pes
         || is_readable(alloc, header, events, holding.pe, holding.tag)?
     {
         return Ok(false);
     }
-    holds_at(alloc, header, before, holding.pe, holding.root, holding.tag)
+    holds_at(alloc, header, before, holding)
 }
 
 /// Adds the claim that the tag is taken away at the PE, where it is due at this DSB of the issuer, the last of the events.
@@ -209,7 +211,8 @@ pub fn add_known(
     event: &Event,
     known: &mut Vec<Holding>,
 ) -> Result<(), NoMemory>
-    ensures { OnOk result ((h : List TheEvent) → reverse events.now ≡ event.now ∷ h → spec.ReadsAreWritten header.now h event.now →
+    ensures { OnOk result ((h : List TheEvent) → reverse events.now ≡ event.now ∷ h
+        → spec.ReadsAreWritten header.now h event.now →
         spec.IsKnown header.now h known.old.items → spec.IsKnown header.now (event.now ∷ h) known.new.items) }
 {
     match *event {

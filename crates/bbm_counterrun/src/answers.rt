@@ -1,6 +1,6 @@
 //! The TLBIs of a log that a DSB answers, and the entries that they must have taken by then.
 
-ghost use Rattle.std.specs.Prelude.{◌≡◌, ℕ, ◌++◌, ◌∷◌, List, length, map, filter, reverse, IfOk, OnOk};
+ghost use Rattle.std.specs.Prelude.{◌≡◌, ◌++◌, ◌∷◌, List, length, map, filter, reverse, IfOk, OnOk};
 ghost use Rattle.bbm_counterrun.specs.TlbiAnswers as spec;
 ghost use Rattle.bbm_events.specs.Heading.{Heading};
 ghost use Rattle.bbm_events.specs.declared.event.Event.{Event as TheEvent};
@@ -61,9 +61,7 @@ fn add_answers(
 {
     for pending in pendings {
         if is_answered(pe, dsb, pending) {
-            answers
-                .push(answer_of(pending, before))
-                .map_err(|_| NoMemory)?;
+            answers.push(answer_of(pending, before))?;
         }
     }
     Ok(())
@@ -77,8 +75,9 @@ fn take_answers(
     event: &Event,
     before: u64,
 ) -> Result<(), NoMemory>
-    ensures { OnOk result ((heading : Heading) (h : List TheEvent) → length h ≡ before → IsPending heading h pendings.now
-        → spec.IsAnswers heading h answers.old.items → spec.IsAnswers heading (event.now ∷ h) answers.new.items) }
+    ensures { OnOk result ((heading : Heading) (h : List TheEvent) → length h ≡ before
+        → IsPending heading h pendings.now → spec.IsAnswers heading h answers.old.items
+        → spec.IsAnswers heading (event.now ∷ h) answers.new.items) }
 {
     match *event {
         Event::Dsb { pe, dsb } => add_answers(answers, pendings, pe, dsb, before),
@@ -124,7 +123,8 @@ pub fn answers_of(alloc: Global, header: &Header, events: &[Event]) -> Result<Ve
     Ok(answers)
 }
 
-/// Whether one of the TLBIs must have taken the entry, of those that are answered from this moment on and before that one.
+/// Whether one of the TLBIs must have taken the entry, of those that are answered from this moment on and before that
+/// one.
 pub fn is_forbidden(header: &Header, answers: &[Answer], entry: &Entry, from: u64, to: u64) -> bool
     ensures { result ≡ any (spec.forbids_by header.now from to entry.now) answers.now }
 {

@@ -20,7 +20,8 @@ fn count_of(search: &Search) -> u64
 
 /// Whether the answer forbids the combined entry.
 fn blocks(search: &Search, answer: &Answer, joined: &Entry) -> bool
-    ensures { result ≡ forbids_by search.now.header.now joined.now.joined (length search.now.events.now) joined.now answer.now }
+    ensures { result ≡ forbids_by search.now.header.now joined.now.joined (length search.now.events.now) joined.now
+        answer.now }
 {
     joined.joined <= answer.before
         && answer.before < count_of(search)
@@ -33,7 +34,8 @@ fn pass(search: &Search, answer: &Answer, entry: &Entry, joined: Entry) -> Entry
     requires { joined ≡ combined joined.joined entry.now }
     ensures joined { result ≡ combined result.joined entry.now }
     ensures later { joined.joined ≤ result.joined }
-    ensures free { spec.blocks search.now.header.now (length search.now.events.now) entry.now result.joined answer.now ≡ false }
+    ensures free { spec.blocks search.now.header.now (length search.now.events.now) entry.now result.joined answer.now
+        ≡ false }
     ensures first { (m : ℕ) → joined.joined ≤ m → m < result.joined
         → spec.blocks search.now.header.now (length search.now.events.now) entry.now m answer.now ≡ true }
 {
@@ -55,8 +57,8 @@ fn clear(search: &Search, entry: &Entry, joined: Entry) -> Entry
     requires { joined ≡ combined joined.joined entry.now }
     ensures joined { result ≡ combined result.joined entry.now }
     ensures later { joined.joined ≤ result.joined }
-    ensures free { spec.forbidden_by search.now.header.now search.now.answers.now result.joined (length search.now.events.now)
-        (combined result.joined entry.now) ≡ false }
+    ensures free { spec.forbidden_by search.now.header.now search.now.answers.now result.joined
+        (length search.now.events.now) (combined result.joined entry.now) ≡ false }
     ensures first { (m : ℕ) → joined.joined ≤ m → m < result.joined
         → spec.forbidden_by search.now.header.now search.now.answers.now m (length search.now.events.now)
         (combined m entry.now) ≡ true }
@@ -73,7 +75,8 @@ fn clear(search: &Search, entry: &Entry, joined: Entry) -> Entry
 fn first_join(search: &Search, entry: &Entry, joined: Entry, from: u64) -> Option<u64>
     requires within { from ≤ length search.now.events.now }
     requires joined { joined ≡ combined joined.joined entry.now }
-    ensures { spec.FirstIn (spec.joins search.now.header.now search.now.answers.now entry.now from (length search.now.events.now))
+    ensures { spec.FirstIn
+        (spec.joins search.now.header.now search.now.answers.now entry.now from (length search.now.events.now))
         from (length search.now.events.now) result }
 {
     let mut joined = joined;
@@ -99,13 +102,14 @@ fn join_first(search: &Search, entry: &Entry, from: u64) -> Result<Option<u64>, 
     }
 }
 
-/// How the entry outlives all answers from the start on: as it is, or else combined as early as it can be. None where it
-/// doesn't. `NoMemory` where there is none.
+/// How the entry outlives all answers from the start on: as it is, or else combined as early as it can be. None where
+/// it doesn't. `NoMemory` where there is none.
 #[tactic(auto, using(crate::proofs::SearchCode::choices))]
 pub fn choose(search: &Search, entry: &Entry, from: u64) -> Result<Option<Option<u64>>, NoMemory>
     requires within { from ≤ length search.now.events.now }
     ensures { IfOk result (λ found. spec.FirstCombine (λ o. combine_within from (length search.now.events.now) o
-        && spec.outlives_by search.now.header.now search.now.answers.now entry.now from (length search.now.events.now) o) found) }
+        && spec.outlives_by search.now.header.now search.now.answers.now entry.now from
+        (length search.now.events.now) o) found) }
 {
     if !is_forbidden(search.header, search.answers, entry, from, count_of(search)) {
         return Ok(Some(None));

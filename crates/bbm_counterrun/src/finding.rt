@@ -51,7 +51,8 @@ fn try_start(search: &Search, starts: usize) -> Result<Option<Found>, NoMemory>
     requires within { starts ≤ length search.now.events.now }
     requires answers { IsAnswers search.now.header.now (reverse search.now.events.now) search.now.answers.now }
     ensures { IfOk result (λ found. spec.FindsFrom search.now.header.now (reverse search.now.events.now)
-        (Write 0 search.now.place search.now.value) search.now.kind search.now.way.now starts search.now.header.now.pes found) }
+        (Write 0 search.now.place search.now.value) search.now.kind search.now.way.now starts
+        search.now.header.now.pes found) }
 {
     let header = search.header;
     for number in 0..header.pes {
@@ -68,7 +69,8 @@ fn try_start(search: &Search, starts: usize) -> Result<Option<Found>, NoMemory>
 pub fn first_found(search: &Search) -> Result<Option<Found>, NoMemory>
     requires answers { IsAnswers search.now.header.now (reverse search.now.events.now) search.now.answers.now }
     ensures { IfOk result (λ found. spec.FindsAll search.now.header.now (reverse search.now.events.now)
-        (Write 0 search.now.place search.now.value) search.now.kind search.now.way.now search.now.header.now.pes found) }
+        (Write 0 search.now.place search.now.value) search.now.kind search.now.way.now
+        search.now.header.now.pes found) }
 {
     for before in 0..search.events.len() {
         match try_start(search, before + 1)? {

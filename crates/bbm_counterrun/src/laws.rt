@@ -13,8 +13,8 @@ ghost use Rattle.bbm_tlb_machine.specs.declared.step.Step.{Step};
 
 use bbm_tlb_machine::{law_conflict, law_run, law_safe};
 
-/// The run of a plan is a plain conflict run at an event exactly where the test of the plan passes. The call does nothing;
-/// the law is its contract.
+/// The run of a plan is a plain conflict run at an event exactly where the test of the plan passes. The call does
+/// nothing; the law is its contract.
 pub fn law_plain_is_tested()
     ensures { (heading : Heading) (h : List Event) (e : Event) (plan : Plan) →
         IsPlain heading h e plan ↔ (is_plain heading h e plan ≡ true) }
@@ -22,9 +22,9 @@ pub fn law_plain_is_tested()
     law_run();
 }
 
-/// A conflict run at a write that comes after events which keep the rules can be followed step by step, and the first step
-/// at which a clause of a safe log fails is the last one, which is the write. A log has a header that can be said, and each
-/// event fits it. The call does nothing; the law is its contract.
+/// A conflict run at a write that comes after events which keep the rules can be followed step by step, and the first
+/// step at which a clause of a safe log fails is the last one, which is the write. A log has a header that can be said,
+/// and each event fits it. The call does nothing; the law is its contract.
 pub fn law_conflict_at_the_end()
     ensures { (heading : Heading) (trust : Trust) (h : List Event) (pe place value : ℕ) (steps : List Step) →
         IsLog heading h → keeps heading trust h ≡ true → IsConflictRun heading h (Write pe place value) steps →

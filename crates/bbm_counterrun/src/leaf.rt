@@ -33,7 +33,8 @@ pub fn history_of(
 
 /// Whether the place holds a leaf as one of the page.
 fn is_leaf_in(history: &History<AllPatterns>, node: &Node, place: Place) -> bool
-    ensures { result ≡ unwrap_or (spec.leaf_in history.now.heading history.now.trust (notes history.now) node.now place) false }
+    ensures { result ≡ unwrap_or
+        (spec.leaf_in history.now.heading history.now.trust (notes history.now) node.now place) false }
 {
     match history.held_at(node, place) {
         Some(value) => matches!(read(node.kind, node.level, value), Desc::Leaf { .. }),
@@ -43,7 +44,8 @@ fn is_leaf_in(history: &History<AllPatterns>, node: &Node, place: Place) -> bool
 
 /// Whether the place holds a leaf.
 pub fn is_leaf_at(history: &History<AllPatterns>, place: Place) -> bool
-    ensures { result ≡ unwrap_or (spec.leaf_among history.now.heading history.now.trust (notes history.now) place) false }
+    ensures { result ≡ unwrap_or
+        (spec.leaf_among history.now.heading history.now.trust (notes history.now) place) false }
 {
     match history.node_of(place.page()) {
         Some(node) => is_leaf_in(history, node, place),
@@ -51,8 +53,8 @@ pub fn is_leaf_at(history: &History<AllPatterns>, place: Place) -> bool
     }
 }
 
-/// Whether the last event of a log is a write at a place that holds a leaf before it; so where there is a refused write,
-/// whether what it would replace is a leaf. `NoMemory` where there is none.
+/// Whether the last event of a log is a write at a place that holds a leaf before it; so where there is a refused
+/// write, whether what it would replace is a leaf. `NoMemory` where there is none.
 pub fn holds_leaf(alloc: Global, header: &Header, log: &Vec<Event>) -> Result<bool, NoMemory>
     requires { All (λ event. fits_heading header.now event ≡ true) log.now.items }
     ensures { IfOk result (λ leaf. leaf ≡ spec.ends_at_leaf header.now (reverse log.now.items)) }

@@ -17,9 +17,9 @@ use bbm_histories::law_one_node;
 use bbm_rules::{law_held, law_root_pages, law_tree};
 use bbm_tlb_machine::{law_fine, law_run};
 
-/// Where a plan's run is a plain conflict run at a write over a leaf, after events that keep the rules, its PE is one of
-/// the header, its kind is that of the tree of the place, and the plan with the least reads of the way to the place is
-/// plain, too: these come before its own, or are its own. The call does nothing; the law is its contract.
+/// Where a plan's run is a plain conflict run at a write over a leaf, after events that keep the rules, its PE is one
+/// of the header, its kind is that of the tree of the place, and the plan with the least reads of the way to the place
+/// is plain, too: these come before its own, or are its own. The call does nothing; the law is its contract.
 pub fn law_least_reads()
     ensures { (heading : Heading) (h : List Event) (pe place value : ℕ) (plan : Plan) →
         IsLog heading h → keeps heading Patterns h ≡ true → holds_leaf_at heading h place ≡ true →

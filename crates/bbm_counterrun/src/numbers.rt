@@ -1,6 +1,6 @@
 //! The VMIDs and ASIDs under which a walk may be made.
 
-ghost use Rattle.std.specs.Prelude.{◌≡◌, ℕ, ◌++◌, true, map, length, reverse, option_to_list, IfOk, OnOk};
+ghost use Rattle.std.specs.Prelude.{◌≡◌, ℕ, ◌++◌, true, map, reverse, option_to_list, IfOk, OnOk};
 ghost use Rattle.bbm_counterrun.specs.RunNumbers as spec;
 ghost use Rattle.bbm_rules.specs.Lists.{among};
 ghost use Rattle.bbm_rules.specs.RegisterValues.{tag_number as number_in};
@@ -28,10 +28,11 @@ fn number_of(tag: Tag) -> Option<u16>
 fn add_number(reading: &Reading, numbers: &mut Vec<u16>) -> Result<(), NoMemory>
     ensures { OnOk result (numbers.new.items ≡ numbers.old.items ++ option_to_list (spec.number_of reading.now.tag)) }
 {
-    match number_of(reading.tag) {
-        Some(number) => numbers.push(number).map_err(|_| NoMemory),
-        None => Ok(()),
-    }
+    let Some(number) = number_of(reading.tag) else {
+        return Ok(());
+    };
+    numbers.push(number)?;
+    Ok(())
 }
 
 /// The numbers of the tags that are read.
@@ -52,7 +53,7 @@ fn numbers_in(alloc: Global, values: &[u64]) -> Result<Vec<u16>, NoMemory>
 {
     let mut numbers = Vec::new(alloc);
     for value in values {
-        numbers.push(tag_number(*value)).map_err(|_| NoMemory)?;
+        numbers.push(tag_number(*value))?;
     }
     Ok(numbers)
 }

@@ -85,14 +85,15 @@ pub fn least_reads(
     pe: Pe,
     way: &[Goal],
 ) -> Result<Option<Vec<Read>>, NoMemory>
-    ensures { IfOk result (λ reads. option_map (λ r. r.items) reads ≡ spec.least_reads header.now (reverse events.now) pe way.now) }
+    ensures { IfOk result (λ reads. option_map (λ r. r.items) reads
+        ≡ spec.least_reads header.now (reverse events.now) pe way.now) }
 {
     let mut reads = Vec::new(alloc);
     for goal in way {
         match least_read(header, events, pe, *goal) {
             Some(value) => {
                 let place = goal.place;
-                reads.push(Read { place, value }).map_err(|_| NoMemory)?;
+                reads.push(Read { place, value })?;
             }
             None => return Ok(None),
         }

@@ -1,12 +1,14 @@
 //! The run of a plan, step by step.
 
-ghost use Rattle.std.specs.Prelude.{◌≡◌, ◌≤◌, ◌<◌, ◌-◌, ◌^◌, ◌++◌, ◌∷◌, ℕ, [], Option, length, map, take, drop, IfOk, OnOk};
+ghost use Rattle.std.specs.Prelude.{◌≡◌, ◌≤◌, ◌<◌, ◌-◌, ◌^◌, ◌++◌, ◌∷◌, ℕ, [], Option, length, map, take, drop};
+ghost use Rattle.std.specs.Prelude.{IfOk, OnOk};
 ghost use Rattle.bbm_counterrun.specs.Plans as spec;
-ghost use Rattle.bbm_counterrun.specs.Searching.{plan_of};
+ghost use Rattle.bbm_counterrun.specs.Searching.{plan_found, plan_of};
 ghost use Rattle.bbm_tlb_machine.specs.declared.step.Step.TheVariants.{Event as Taken, Machine};
 ghost use Rattle.bbm_events.specs.declared.machine.MachineLine.TheVariants.{Start};
 
 use crate::read::Read;
+use crate::search::Found;
 use bbm_events::{Event, MachineLine};
 use bbm_regimes::{Kind, NoMemory, Pe, Place};
 use bbm_tlb_machine::Step;
@@ -16,14 +18,11 @@ use std::alloc::Global;
 fn add(steps: &mut Vec<Step>, step: &Step) -> Result<(), NoMemory>
     ensures { OnOk result (steps.new.items ≡ steps.old.items ++ step.now ∷ []) }
 {
-    let pushed = match step {
-        Step::Machine(line) => steps.push(Step::Machine(*line)),
-        Step::Event(event) => steps.push(Step::Event(*event)),
-    };
-    match pushed {
-        Ok(()) => Ok(()),
-        Err(_) => Err(NoMemory),
+    match step {
+        Step::Machine(line) => steps.push(Step::Machine(*line))?,
+        Step::Event(event) => steps.push(Step::Event(*event))?,
     }
+    Ok(())
 }
 
 /// The first so many events, or all where there are fewer.
@@ -163,24 +162,27 @@ fn add_behind(
     }
 }
 
-/// The run over a log of the plan with this start, which reads so and combines there. `NoMemory` where there is none.
+/// The run over a log of what is found in a tree of the kind. `NoMemory` where there is none.
 #[tactic(auto, using(crate::proofs::RunCode::joining))]
 pub fn run_of(
     alloc: Global,
-    starts: u64,
-    pe: Pe,
     kind: Kind,
-    number: u16,
-    reads: &[Read],
-    combines: Option<u64>,
+    found: &Found,
     log: &[Event],
 ) -> Result<Vec<Step>, NoMemory>
-    requires { length reads.now < 2 ^ 32 - 1 }
-    ensures { IfOk result (λ steps. steps.items ≡ spec.run_of (plan_of starts pe kind number reads.now combines) log.now) }
+    requires { length found.now.reads < 2 ^ 32 - 1 }
+    ensures { IfOk result (λ steps. steps.items ≡ spec.run_of (plan_found kind found.now) log.now) }
 {
     let mut steps = Vec::new(alloc);
-    add_events(&mut steps, first(log, starts))?;
-    add_walk(&mut steps, pe, kind, number, reads)?;
-    add_behind(&mut steps, starts, reads.len().max(1) as u32, combines, log)?;
+    add_events(&mut steps, first(log, found.starts))?;
+    add_walk(
+        &mut steps,
+        found.pe,
+        kind,
+        found.choice.number,
+        &found.reads,
+    )?;
+    let made = found.reads.len().max(1) as u32;
+    add_behind(&mut steps, found.starts, made, found.choice.combines, log)?;
     Ok(steps)
 }

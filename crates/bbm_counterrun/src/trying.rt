@@ -25,7 +25,8 @@ pub fn try_number(
     requires some { 0 < starts }
     requires within { starts ≤ length search.now.events.now }
     requires answers { IsAnswers search.now.header.now (reverse search.now.events.now) search.now.answers.now }
-    ensures { IfOk result (λ found. spec.FirstCombine (spec.plain_by search.now.header.now (reverse search.now.events.now)
+    ensures { IfOk result (λ found. spec.FirstCombine
+        (spec.plain_by search.now.header.now (reverse search.now.events.now)
         (Write 0 search.now.place search.now.value) search.now.kind starts pe reads.now number) found) }
 {
     match walk(search, starts, pe, number, reads)? {
@@ -78,7 +79,8 @@ fn try_next(
         → spec.BestAmong (spec.plain_by search.now.header.now (reverse search.now.events.now)
         (Write 0 search.now.place search.now.value) search.now.kind starts pe reads.now) numbers best
         → spec.BestAmong (spec.plain_by search.now.header.now (reverse search.now.events.now)
-        (Write 0 search.now.place search.now.value) search.now.kind starts pe reads.now) (numbers ++ number ∷ []) after) }
+        (Write 0 search.now.place search.now.value) search.now.kind starts pe reads.now)
+        (numbers ++ number ∷ []) after) }
 {
     if is_behind(&best, number) {
         return Ok(best);

@@ -1,6 +1,6 @@
 //! The walk of a plan.
 
-ghost use Rattle.std.specs.Prelude.{◌≡◌, ◌≤◌, length, take, drop, reverse, IfOk};
+ghost use Rattle.std.specs.Prelude.{◌≡◌, ◌≤◌, length, take, reverse, IfOk};
 ghost use Rattle.bbm_counterrun.specs.Tested as spec;
 ghost use Rattle.bbm_rules.specs.Lists.{if_so};
 ghost use Rattle.bbm_tlb_machine.specs.Step.{extended, may_extend};
@@ -9,7 +9,7 @@ use crate::read::Read;
 use crate::search::Search;
 use bbm_events::{Event, Header};
 use bbm_regimes::{NoMemory, Pe};
-use bbm_tlb_machine::{Entry, extend, start};
+use bbm_tlb_machine::{Entry, FirstRead, extend, start};
 use std::alloc::Global;
 
 /// The entry that has one part more than the given one, by this read; None where there may be none.
@@ -35,8 +35,8 @@ fn extend_by(
     entry: Entry,
     reads: &[Read],
 ) -> Result<Option<Entry>, NoMemory>
-    ensures { IfOk result (λ made. made
-        ≡ if_so (spec.may_extend_by header.now (reverse events.now) entry reads.now) (spec.extended_by entry reads.now)) }
+    ensures { IfOk result (λ made. made ≡ if_so (spec.may_extend_by header.now (reverse events.now) entry reads.now)
+        (spec.extended_by entry reads.now)) }
 {
     let mut last = entry;
     for read in reads {
@@ -58,24 +58,21 @@ pub fn walk(
     reads: &[Read],
 ) -> Result<Option<Entry>, NoMemory>
     requires { starts ≤ length search.now.events.now }
-    ensures { IfOk result (λ made. made ≡ spec.walk_by search.now.header.now (reverse (take starts search.now.events.now))
-        pe search.now.kind number reads.now) }
+    ensures { IfOk result (λ made. made ≡ spec.walk_by search.now.header.now
+        (reverse (take starts search.now.events.now)) pe search.now.kind number reads.now) }
 {
     let [first, rest @ ..] = reads else {
         return Ok(None);
     };
     let (header, events) = (search.header, &search.events[..starts]);
-    let (place, value) = (first.place, first.value);
-    match start(
-        search.alloc,
-        header,
-        events,
+    let read = FirstRead {
         pe,
-        search.kind,
+        kind: search.kind,
         number,
-        place,
-        value,
-    )? {
+        place: first.place,
+        value: first.value,
+    };
+    match start(search.alloc, header, events, read)? {
         Some(entry) => extend_by(search.alloc, header, events, entry, rest),
         None => Ok(None),
     }

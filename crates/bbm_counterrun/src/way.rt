@@ -1,6 +1,6 @@
 //! The way to a place.
 
-ghost use Rattle.std.specs.Prelude.{◌≡◌, ◌++◌, ◌∷◌, List, [], Some, map, reverse, option_to_list, IfOk, OnOk};
+ghost use Rattle.std.specs.Prelude.{◌≡◌, ◌++◌, Some, map, reverse, option_to_list, IfOk, OnOk};
 ghost use Rattle.bbm_counterrun.specs.Goals as spec;
 ghost use Rattle.bbm_oracle_trees.specs.Past.{notes};
 
@@ -44,10 +44,11 @@ fn add_goal(
     ensures { OnOk result (way.new.items ≡ way.old.items
         ++ option_to_list (spec.goal_among history.now.heading history.now.trust (notes history.now) place)) }
 {
-    match goal_at(history, place) {
-        Some(goal) => way.push(goal).map_err(|_| NoMemory),
-        None => Ok(()),
-    }
+    let Some(goal) = goal_at(history, place) else {
+        return Ok(());
+    };
+    way.push(goal)?;
+    Ok(())
 }
 
 /// Adds it in front.
@@ -57,12 +58,14 @@ fn add_in_front(
     way: &mut Vec<Goal>,
 ) -> Result<(), NoMemory>
     ensures { OnOk result (way.new.items
-        ≡ option_to_list (spec.goal_among history.now.heading history.now.trust (notes history.now) place) ++ way.old.items) }
+        ≡ option_to_list (spec.goal_among history.now.heading history.now.trust (notes history.now) place)
+        ++ way.old.items) }
 {
-    match goal_at(history, place) {
-        Some(goal) => way.insert(0, goal).map_err(|_| NoMemory),
-        None => Ok(()),
-    }
+    let Some(goal) = goal_at(history, place) else {
+        return Ok(());
+    };
+    way.insert(0, goal)?;
+    Ok(())
 }
 
 /// Adds those of these places that hold something in front, the nearest first.
@@ -73,8 +76,8 @@ fn add_above(
     way: &mut Vec<Goal>,
 ) -> Result<(), NoMemory>
     ensures { OnOk result (way.new.items
-        ≡ spec.goals_among history.now.heading history.now.trust (notes history.now) (reverse (map (λ a. a.place) above.now))
-        ++ way.old.items) }
+        ≡ spec.goals_among history.now.heading history.now.trust (notes history.now)
+        (reverse (map (λ a. a.place) above.now)) ++ way.old.items) }
 {
     for place in above {
         add_in_front(history, place.place, way)?;

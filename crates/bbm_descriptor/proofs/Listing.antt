@@ -53,10 +53,6 @@ pub each_holds : (value : ℕ → ℕ) (root : WalkRoot) (addr place : ℕ) (abo
 each_holds value root addr place above tables stands holds =
     (each_above value root addr above tables (above_holds value root addr place above tables stands holds), holds)
 
-last_holds : (value : ℕ → ℕ) (root : WalkRoot) (addr : ℕ) (places : List ℕ) → EachHolds value root places addr → RegionHolds value root places addr
-last_holds value root addr [] each = each
-last_holds value root addr (place ∷ above) each = each.1
-
 -- tables whose regions hold the address are those that it selects
 all_visited : (value : ℕ → ℕ) (root : WalkRoot) (addr : ℕ) (above : List ℕ) → IsAligned root → Tables value root above → EachHolds value root above addr → above ≡ visited value root addr (length above)
 all_visited value root addr [] a tables each = refl

@@ -19,11 +19,6 @@ span_step (suc zero) h = refl
 span_step (suc (suc zero)) h = refl
 span_step (suc (suc (suc level))) h = absurd (omega arith)
 
-no_table : (a b : Bool) → (if a then leaf else (if b then leaf else invalid)) ≡ table → ⊥
-no_table true b h = cc
-no_table false true h = cc
-no_table false false h = cc
-
 no_table_3 : (a b : Bool) → (if a then leaf else (if b then invalid else invalid)) ≡ table → ⊥
 no_table_3 true b h = cc
 no_table_3 false true h = cc

@@ -2,7 +2,7 @@
 
 ghost use Rattle.std.specs.Prelude.{◌≡◌, false, ◌<◌, ◌≤◌, ◌^◌, ◌%◌, ◌↔◌, ◌&&◌, IsNone, IfSome};
 ghost use Rattle.bbm_descriptor.specs.Fields.{value_bits, value_bit, address, next_of, ns_table, out_of};
-ghost use Rattle.bbm_descriptor.specs.Descriptor.{leaf, stage1, desc_of, desc_as, core_of, core_in, desc_with};
+ghost use Rattle.bbm_descriptor.specs.Descriptor.{leaf, stage1, desc_of, desc_as, core_of, desc_with};
 ghost use Rattle.bbm_descriptor.specs.Descriptor.{is_valid, needs, Fits};
 
 use crate::desc::{Core, Desc};

@@ -3,7 +3,7 @@
 ghost use Rattle.std.specs.Prelude.{◌≡◌};
 ghost use Rattle.bbm_descriptor.specs.Descriptor.{core_in, desc_with};
 
-use bbm_regimes::{Kind, Page};
+use bbm_regimes::Page;
 
 /// What a value of a place means. Source: Arm ARM (DDI 0487), "VMSAv8-64 descriptor formats"; which of
 /// the fields are read is the project's own choice.

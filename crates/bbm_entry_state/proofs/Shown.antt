@@ -21,7 +21,7 @@ clean_from Clean none = refl
 clean_from (Live core) none = cc
 clean_from (Broken marks) none = cc
 
-counts_full : (state : EntryState) (p : ℕ) → counts_at state Full p ≡ seen_at state p
+pub counts_full : (state : EntryState) (p : ℕ) → counts_at state Full p ≡ seen_at state p
 counts_full Clean p = refl
 counts_full (Live core) p = refl
 counts_full (Broken marks) p = refl

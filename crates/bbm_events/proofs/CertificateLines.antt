@@ -320,3 +320,7 @@ claim_written_is_read h (item.Claim claim) ok fits =
     ap (read_item h) (fields_joined (codes "c") (claim_fields claim) (claim_all_visible claim)) ∙ claim_read h claim ok fits
 claim_written_is_read h (item.End count) ok fits =
     ap (read_item h) (fields_joined (codes "end") (decimal count ∷ []) (dec count [] refl)) ∙ count_line_read item.End count fits
+
+pub ruleset claims_read = (first_line_read, claim_written_is_read)
+
+pub ruleset claims_once = (first_line_once, claim_one_line)

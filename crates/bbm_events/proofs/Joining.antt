@@ -21,7 +21,7 @@ all_visible (piece ∷ pieces) = visible piece && all_visible pieces
 no_space : (byte : ℕ) → nat_lt 32 byte ≡ true → (byte == 32) ≡ false
 no_space byte shows = grind (arith, nat_tests)
 
-fields_last : (piece : List ℕ) → visible piece ≡ true → fields piece ≡ piece ∷ []
+pub fields_last : (piece : List ℕ) → visible piece ≡ true → fields piece ≡ piece ∷ []
 fields_last [] h = refl
 fields_last (byte ∷ bytes) h =
     let parts = and_parts (nat_lt 32 byte) (visible bytes) h in

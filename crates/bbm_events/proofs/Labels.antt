@@ -1,13 +1,17 @@
--- A label that is kept in 32 bytes is the front of them, and each byte of it shows.
-use Rattle.std.proofs.Common.{◌≡◌, ℕ, List, [], ◌∷◌, true, false, ◌==◌, ◌&&◌, nat_le, ◌≤◌, length, take, drop, refl}
-use Rattle.std.proofs.Common.{arith, nat_lt}
+-- A label that is kept in 32 bytes is the front of them, and each byte of it shows; the table of the bytes of labels, and
+-- four of them asked at once.
+use Rattle.std.proofs.Common.{◌≡◌, ℕ, ◌-◌, ◌<◌, List, [], ◌∷◌, true, false, ◌&&◌, nat_le, ◌≤◌, length}
+use Rattle.std.proofs.Common.{take, drop, get_or, slice_index_or, refl, ap, ◌∙◌, arith, nat_lt}
 use Rattle.std.proofs.Math.ListN.{replicate}
 use Rattle.std.proofs.Math.Seq.{take-append_seam}
-use Rattle.std.proofs.lemmas.Bool.{and_parts, leb-true}
+use Rattle.std.proofs.lemmas.Bool.{and_parts, leb-true, agree_below_at}
+use Rattle.std.proofs.lemmas.List.{take_all}
+use Rattle.std.proofs.Math.Bool.{and_assoc}
 use Rattle.std.specs.List.{list_all}
 use Rattle.std.proofs.lemmas.Bool.Decides.{nat_tests}
 use Rattle.bbm_events.proofs.Joining.{visible}
 use Rattle.bbm_events.specs.Label.{is_label_byte, is_label, padded}
+use Rattle.bbm_events.specs.declared.label.TheConstants.{IN_LABEL}
 
 pub label_length : (text : List ℕ) → is_label text ≡ true → length text ≤ 32
 label_length text e =
@@ -30,3 +34,24 @@ pub label_visible : (text : List ℕ) → is_label text ≡ true → visible tex
 label_visible text e = bytes_visible text (and_parts (nat_le 1 (length text) && nat_le (length text) 32) (list_all is_label_byte text) e).1
 
 pub ruleset kept = (label_length, front)
+
+-- the table tells of each byte whether it can stand in a label
+pub told : (byte : ℕ) → byte < 256 → slice_index_or IN_LABEL byte false ≡ is_label_byte byte
+told byte below = agree_below_at (λ b. slice_index_or IN_LABEL b false) is_label_byte 256 byte refl below
+
+-- the first four bytes, and then the others, in the form of a slice
+pub first_four : (text : List ℕ) → 4 ≤ length text
+    → (is_label_byte (get_or text 0 0) && is_label_byte (get_or text 1 0) && is_label_byte (get_or text 2 0)
+    && is_label_byte (get_or text 3 0) && list_all is_label_byte (take (length text - 4) (drop 4 text)))
+    ≡ list_all is_label_byte text
+first_four [] some = absurd (omega arith)
+first_four (a ∷ []) some = absurd (omega arith)
+first_four (a ∷ b ∷ []) some = absurd (omega arith)
+first_four (a ∷ b ∷ c ∷ []) some = absurd (omega arith)
+first_four (a ∷ b ∷ c ∷ d ∷ rest) some =
+    let at = is_label_byte in
+    ap (λ (more : List ℕ). at a && at b && at c && at d && list_all at more)
+    (take_all (length (a ∷ b ∷ c ∷ d ∷ rest) - 4) rest (omega arith))
+    ∙ and_assoc (at a && at b && at c) (at d) (list_all at rest)
+    ∙ and_assoc (at a && at b) (at c) (at d && list_all at rest)
+    ∙ and_assoc (at a) (at b) (at c && (at d && list_all at rest))

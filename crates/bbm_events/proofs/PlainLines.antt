@@ -1,10 +1,10 @@
 -- A written header or item is one line: no byte of it is a newline, and it has at most 200.
 use Rattle.std.proofs.Common.{◌≡◌, ℕ, zero, suc, ◌+◌, ◌*◌, ◌/◌, ◌%◌, ◌^◌, ◌<◌, ◌≤◌, List, [], ◌∷◌, ◌++◌, length}
-use Rattle.std.proofs.Common.{length-append, append-nil, Bool, true, false, not, ◌&&◌, cond, nat_lt, ◌==◌, refl, ap}
-use Rattle.std.proofs.Common.{sym, ◌∙◌, subst, Option, Some, None, arith}
+use Rattle.std.proofs.Common.{length-append, append-nil, Bool, true, false, not, ◌&&◌, cond, nat_lt, ◌==◌, refl}
+use Rattle.std.proofs.Common.{sym, subst, Option, Some, None, arith}
 use Rattle.std.specs.Prelude.{◌||◌, nat_le, codes, decimal, bytes_eq}
 use Rattle.std.specs.Fmt.{digit_glyph, digits_onto, digits}
-use Rattle.std.specs.List.{find, list_all}
+use Rattle.std.specs.List.{list_all}
 use Rattle.std.proofs.lemmas.Fmt.{length-decimal-le}
 use Rattle.std.proofs.lemmas.Bool.{and_parts, leb-true, ltb-true}
 use Rattle.std.proofs.lemmas.Bool.Decides.{nat_tests}
@@ -26,15 +26,15 @@ use Rattle.bbm_events.specs.Label.{is_label}
 use Rattle.bbm_events.specs.Spelling.{joined, hex, is_plain}
 use Rattle.bbm_events.specs.Words.{with_word, cnp_word, cnps, kind_word, kinds, reg_word, regs, asid_from_word}
 use Rattle.bbm_events.specs.Words.{asid_froms, dsb_word, dsbs, op_word, ops}
-use Rattle.bbm_events.specs.Fits.{fits_heading, item_fits, is_pe, is_page, is_place, is_value, is_lock, is_count}
+use Rattle.bbm_events.specs.Fits.{fits_heading, item_fits, is_pe, is_page, is_place, is_value, is_lock}
 use Rattle.bbm_events.specs.Fits.{is_root_page, is_root_lock, is_operand, label_fits}
 use Rattle.bbm_events.specs.Lines.{Fields, cnp_fields, header_fields, header_line, lock_text, operand_fields}
-use Rattle.bbm_events.specs.Lines.{event_fields, label_fields, item_fields, item_line}
-use Rattle.bbm_events.proofs.Joining.{visible, all_visible, digits_visible}
+use Rattle.bbm_events.specs.Lines.{event_fields, label_fields, item_line}
+use Rattle.bbm_events.proofs.Joining.{visible, all_visible}
 use Rattle.bbm_events.proofs.Labels.{label_length}
 use Rattle.bbm_events.proofs.WordsRead.{cnp_word_read, kind_word_read, reg_word_read, asid_from_word_read}
 use Rattle.bbm_events.proofs.WordsRead.{dsb_word_read, op_word_read}
-use Rattle.bbm_events.proofs.Written.{Ranges, ranges, pe_below, aligned_below, lock_below, hyp_below, kernel_below, dec}
+use Rattle.bbm_events.proofs.Written.{ranges, pe_below, aligned_below, lock_below, hyp_below, kernel_below, dec}
 use Rattle.bbm_events.proofs.Written.{event_all_visible, label_all_visible, cnp_all_visible, header_all_visible}
 
 -- ---- no newline
@@ -275,3 +275,5 @@ header_plain h =
     let after = cnp_fields h.version h.cnp in
     joined_plain (codes "bbmlog" ∷ decimal h.version ∷ header_fields h.pes h.world after)
     (dec h.version (header_fields h.pes h.world after) (header_all_visible h.pes h.world after (cnp_all_visible h.version h.cnp)))
+
+pub ruleset plain_lines = (header_plain, header_short, item_plain, item_short)

@@ -20,26 +20,9 @@ use Rattle.bbm_tlbi_scope.specs.declared.op.TlbiOp.TheVariants.{Aside1, Aside1is
 use Rattle.bbm_tlbi_scope.specs.declared.op.TlbiOp.TheVariants.{Ripas2e1, Ripas2e1is, Ripas2le1, Ripas2le1is, Rvae1}
 use Rattle.bbm_tlbi_scope.specs.declared.op.TlbiOp.TheVariants.{Rvae1is, Rvale1, Rvale1is, Rvaae1, Rvaae1is, Rvaale1}
 use Rattle.bbm_tlbi_scope.specs.declared.op.TlbiOp.TheVariants.{Rvaale1is}
-use Rattle.bbm_events.specs.declared.keyword.Keyword.{Keyword}
-use Rattle.bbm_events.specs.declared.keyword.Keyword.TheVariants as first
-use Rattle.bbm_events.specs.Words.{with_word, keyword_word, keywords, cnp_word, cnps, kind_word, kinds, reg_word, regs}
+use Rattle.bbm_events.specs.Words.{with_word, cnp_word, cnps, kind_word, kinds, reg_word, regs}
 use Rattle.bbm_events.specs.Words.{asid_from_word, asid_froms, option_word, dsb_word, dsbs, op_word, ops}
 use Rattle.bbm_events.proofs.Joining.{visible}
-
-pub keyword_word_read : (keyword : Keyword) → with_word keyword_word keywords (keyword_word keyword) ≡ Some keyword
-keyword_word_read first.Init = refl
-keyword_word_read first.Null = refl
-keyword_word_read first.Root = refl
-keyword_word_read first.Unroot = refl
-keyword_word_read first.Write = refl
-keyword_word_read first.Dsb = refl
-keyword_word_read first.Dmb = refl
-keyword_word_read first.Isb = refl
-keyword_word_read first.Tlbi = refl
-keyword_word_read first.Msr = refl
-keyword_word_read first.Lock = refl
-keyword_word_read first.Unlock = refl
-keyword_word_read first.End = refl
 
 pub cnp_word_read : (cnp : Bool) → with_word cnp_word cnps (cnp_word cnp) ≡ Some cnp
 cnp_word_read true = refl

@@ -29,7 +29,8 @@ impl Model for Header {
 
     ghost view = { λ h. record { version = h.version; pes = h.pes; cnp = h.cnp; world = h.world } };
 
-    ghost invariant = { (λ h. IsTrue (heading_ok (record { version = h.version; pes = h.pes; cnp = h.cnp; world = h.world }))) };
+    ghost invariant = { (λ h. IsTrue (heading_ok
+        (record { version = h.version; pes = h.pes; cnp = h.cnp; world = h.world }))) };
 
     ghost inverse = { λ h. record { version = h.version; pes = h.pes; cnp = h.cnp; world = h.world } };
 }

@@ -34,35 +34,78 @@ impl Model for Label {
     } };
 }
 
+/// Whether each byte can stand in a label.
+const IN_LABEL: [bool; 256] = [
+    false, false, false, false, false, false, false, false, false, false, false, false, false,
+    false, false, false, false, false, false, false, false, false, false, false, false, false,
+    false, false, false, false, false, false, false, false, false, false, false, false, false,
+    false, false, false, false, false, false, true, true, true, true, true, true, true, true, true,
+    true, true, true, true, true, false, false, false, false, false, false, true, true, true, true,
+    true, true, true, true, true, true, true, true, true, true, true, true, true, true, true, true,
+    true, true, true, true, true, true, false, false, false, false, true, false, true, true, true,
+    true, true, true, true, true, true, true, true, true, true, true, true, true, true, true, true,
+    true, true, true, true, true, true, true, false, false, false, false, false, false, false,
+    false, false, false, false, false, false, false, false, false, false, false, false, false,
+    false, false, false, false, false, false, false, false, false, false, false, false, false,
+    false, false, false, false, false, false, false, false, false, false, false, false, false,
+    false, false, false, false, false, false, false, false, false, false, false, false, false,
+    false, false, false, false, false, false, false, false, false, false, false, false, false,
+    false, false, false, false, false, false, false, false, false, false, false, false, false,
+    false, false, false, false, false, false, false, false, false, false, false, false, false,
+    false, false, false, false, false, false, false, false, false, false, false, false, false,
+    false, false, false, false, false, false, false, false, false, false, false, false, false,
+    false, false, false, false, false, false, false, false, false,
+];
+
 /// Whether the byte can stand in a label.
+#[inline]
+#[tactic(auto, using(crate::proofs::Labels::told))]
 fn is_label_byte(byte: u8) -> bool
     ensures { result ≡ labels.is_label_byte byte }
 {
-    matches!(byte, b'a'..=b'z' | b'A'..=b'Z' | b'0'..=b'9' | b'.' | b'/' | b':' | b'_' | b'-')
+    IN_LABEL[byte as usize]
 }
 
-/// Whether each of the bytes can stand in a label.
-fn are_label_bytes(bytes: &[u8]) -> bool
+/// Whether each of the bytes can stand in a label. They are asked one at a time.
+fn are_few_label_bytes(bytes: &[u8]) -> bool
     ensures { result ≡ list_all labels.is_label_byte bytes.now }
 {
     bytes.iter().all(|byte| is_label_byte(*byte))
 }
 
-/// Whether the bytes are those of a label.
-fn is_label(bytes: &[u8]) -> bool
-    ensures { result ≡ labels.is_label bytes.now }
+/// Whether each of the bytes can stand in a label. They are asked four at a time.
+#[inline]
+#[tactic(auto, using(crate::proofs::Labels::first_four))]
+fn are_label_bytes(bytes: &[u8]) -> bool
+    ensures { result ≡ list_all labels.is_label_byte bytes.now }
 {
-    !bytes.is_empty() && bytes.len() <= 32 && are_label_bytes(bytes)
+    let mut left = bytes;
+    while let [a, b, c, d, rest @ ..] = left {
+        if !(is_label_byte(*a) & is_label_byte(*b) & is_label_byte(*c) & is_label_byte(*d)) {
+            return false;
+        }
+        left = rest;
+    }
+    are_few_label_bytes(left)
 }
 
 #[tactic(auto, using(crate::proofs::Labels::kept))]
 impl Label {
+    /// Whether the bytes are those of a label: 1 to 32, each a letter, a digit or one of `.`, `/`, `:`,
+    /// `_` and `-`.
+    #[inline]
+    pub fn is_text(bytes: &[u8]) -> bool
+        ensures { result ≡ labels.is_label bytes.now }
+    {
+        !bytes.is_empty() && bytes.len() <= 32 && are_label_bytes(bytes)
+    }
+
     /// The label of these bytes; None exactly where they aren't 1 to 32 bytes, each a letter, a digit or
     /// one of `.`, `/`, `:`, `_` and `-`.
     pub fn new(bytes: &[u8]) -> Option<Label>
         ensures { result ≡ (if labels.is_label bytes.now then Some bytes.now else None) }
     {
-        if !is_label(bytes) {
+        if !Label::is_text(bytes) {
             return None;
         }
         let len = bytes.len();

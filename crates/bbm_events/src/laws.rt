@@ -47,7 +47,7 @@ pub fn law_written_is_read()
 
 /// A written header, and a written item that fits, is one line: no byte of it is a newline, byte 10, and it has at most
 /// 200 bytes.
-#[tactic(auto, using(crate::proofs::PlainLines::header_plain, crate::proofs::PlainLines::header_short, crate::proofs::PlainLines::item_plain, crate::proofs::PlainLines::item_short))]
+#[tactic(auto, using(crate::proofs::PlainLines::plain_lines))]
 pub fn law_written_is_a_line()
     ensures header_plain { (heading : Heading) → is_plain (header_line heading) ≡ true }
     ensures header_short { (heading : Heading) → heading_ok heading ≡ true → length (header_line heading) ≤ 200 }
@@ -107,7 +107,7 @@ pub fn law_claim_causes()
 
 /// The first line of a certificate is read as one, and what is written of a claim or a count is read as the same under
 /// each header that it fits.
-#[tactic(auto, using(crate::proofs::CertificateLines::first_line_read, crate::proofs::CertificateLines::claim_written_is_read))]
+#[tactic(auto, using(crate::proofs::CertificateLines::claims_read))]
 pub fn law_claim_written_is_read()
     ensures first { certificate_of certificate_line ≡ Ok tt }
     ensures item { (heading : Heading) (item : ClaimItem) → heading_ok heading ≡ true → claim_fits heading item ≡ true
@@ -116,7 +116,7 @@ pub fn law_claim_written_is_read()
 
 /// A certificate has one first line, and each claim and each count has one line: what a line is read as is written as
 /// that line.
-#[tactic(auto, using(crate::proofs::CertificateLines::first_line_once, crate::proofs::CertificateLines::claim_one_line))]
+#[tactic(auto, using(crate::proofs::CertificateLines::claims_once))]
 pub fn law_claim_one_line()
     ensures first { (line : List ℕ) → certificate_of line ≡ Ok tt → line ≡ certificate_line }
     ensures item { (heading : Heading) (line : List ℕ) (item : ClaimItem) → claim_of heading line ≡ Ok item → line

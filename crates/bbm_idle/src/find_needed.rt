@@ -1,30 +1,33 @@
 //! Whether a TLBI is needed.
 //! Source: project's own choice.
 
-ghost use Rattle.std.specs.Prelude.{◌≡◌, ℕ, ◌&&◌, ◌||◌, true, List, ◌∷◌, reverse, IfOk, OnOk};
-ghost use Rattle.bbm_events.specs.Fits.{fits_heading};
+ghost use Rattle.std.specs.Prelude.{◌≡◌, ℕ, List, ◌∷◌, reverse, IfOk};
 ghost use Rattle.bbm_regimes.specs.PeMask.{pe_in};
 ghost use Rattle.bbm_rules.specs.Lists.{any, some_pe};
 ghost use Rattle.bbm_rules.specs.Notes.{Noted};
-ghost use Rattle.bbm_rules.specs.Reach as reach;
-ghost use Rattle.bbm_rules.specs.Roots.{roots_of};
-ghost use Rattle.bbm_rules.specs.Values.{written_places};
 ghost use Rattle.bbm_oracle_patterns.specs.Kept.{notes_of};
 ghost use Rattle.bbm_idle.specs.Finding as spec;
-ghost use Rattle.bbm_idle.specs.Idle as idle;
 
-use crate::find_places::{Seat, added_by, seats_of};
-use crate::find_tags::{holds_some, taken_by};
+use crate::find_places::{Seat, added_by};
+use crate::find_tags::holds_some;
 use bbm_events::{Event, Header};
 use bbm_oracle_patterns::Kept;
-use bbm_oracle_tags::{AllPatterns, Reading, reaches};
-use bbm_oracle_trees::History;
-use bbm_regimes::{NoMemory, Pe, PeMask, Place};
+use bbm_oracle_tags::{Reading, reaches};
+use bbm_regimes::{NoMemory, Pe, PeMask};
 use bbm_rules::law_equality_tests;
 use std::alloc::Global;
 
+/// What a TLBI does after some events. Source: project's own choice.
+#[derive(Clone, Copy)]
+pub struct Effect<'a> {
+    /// The PEs at which it adds something at a place.
+    pub added: PeMask,
+    /// What was ever readable for a declared root under a tag that it takes whole.
+    pub taken: &'a [Reading],
+}
+
 /// The PEs at which the newest event, a TLBI, adds something at one of the places, by what came before it.
-fn newest_adds(header: &Header, log: &[Kept], seats: &[Seat]) -> PeMask
+pub fn newest_adds(header: &Header, log: &[Kept], seats: &[Seat]) -> PeMask
     ensures { (n : Noted) (older : List Noted) → notes_of (reverse log.now) ≡ n ∷ older
         → (p : ℕ) → pe_in result p ≡ any (spec.place_adds header.now older n.covers p) seats.now }
 {
@@ -43,68 +46,42 @@ fn is_needed_at(
     header: &Header,
     before: &[Event],
     event: &Event,
+    effect: &Effect,
     pe: Pe,
-    added: PeMask,
-    taken: &[Reading],
 ) -> Result<bool, NoMemory>
-    requires { spec.AreTaken header.now (reverse before.now) event.now taken.now }
+    requires { spec.AreTaken header.now (reverse before.now) event.now effect.now.taken.now }
     ensures { IfOk result (λ needed. needed
-        ≡ spec.needed_by header.now (reverse before.now) event.now (pe_in added) pe) }
+        ≡ spec.needed_by header.now (reverse before.now) event.now (pe_in effect.now.added) pe) }
 {
     law_equality_tests();
     if reaches(header, event, pe) {
-        if added.has(pe) {
+        if effect.added.has(pe) {
             Ok(true)
         } else {
-            holds_some(alloc, header, before, pe, taken)
+            holds_some(alloc, header, before, pe, effect.taken)
         }
     } else {
         Ok(false)
     }
 }
 
-/// Whether it is needed at some PE.
-fn is_needed(
+/// Whether it is needed at some PE. `NoMemory` where there is none.
+pub fn is_needed(
     alloc: Global,
     header: &Header,
     before: &[Event],
     event: &Event,
-    added: PeMask,
-    taken: &[Reading],
+    effect: &Effect,
 ) -> Result<bool, NoMemory>
-    requires { spec.AreTaken header.now (reverse before.now) event.now taken.now }
+    requires { spec.AreTaken header.now (reverse before.now) event.now effect.now.taken.now }
     ensures { IfOk result (λ needed. needed ≡ some_pe header.now.pes
-        (spec.needed_by header.now (reverse before.now) event.now (pe_in added))) }
+        (spec.needed_by header.now (reverse before.now) event.now (pe_in effect.now.added))) }
 {
     for number in 0..header.pes {
         let pe = Pe::new(number).unwrap();
-        if is_needed_at(alloc, header, before, event, pe, added, taken)? {
+        if is_needed_at(alloc, header, before, event, effect, pe)? {
             return Ok(true);
         }
     }
     Ok(false)
-}
-
-/// Takes a TLBI, which fits the header: whether it is needed. `NoMemory` where there is none.
-pub fn take_tlbi(
-    alloc: Global,
-    header: &Header,
-    history: &mut History<AllPatterns>,
-    written: &[Place],
-    known: &[Reading],
-    before: &[Event],
-    event: &Event,
-) -> Result<bool, NoMemory>
-    requires stands { spec.Stands history.old header.now (reverse before.now) }
-    requires written { written.now ≡ written_places (reverse before.now) }
-    requires known { spec.IsKnown header.now (reverse before.now) known.now }
-    requires fits { fits_heading header.now event.now ≡ true }
-    ensures needed { IfOk result (λ needed. needed ≡ idle.is_needed header.now (reverse before.now) event.now) }
-    ensures stands { OnOk result (spec.Stands history.new header.now (event.now ∷ reverse before.now)) }
-{
-    let seats = seats_of(alloc, history, written)?;
-    let taken = taken_by(alloc, header, before, event, known)?;
-    history.take(alloc, *event)?;
-    let added = newest_adds(header, history.log(), &seats);
-    is_needed(alloc, header, before, event, added, &taken)
 }

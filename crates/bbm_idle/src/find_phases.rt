@@ -6,16 +6,14 @@ ghost use Rattle.bbm_descriptor.specs.Descriptor.{is_valid};
 ghost use Rattle.bbm_events.specs.declared.event.Event.{Event as TheEvent};
 ghost use Rattle.bbm_events.specs.Fits.{fits_heading};
 ghost use Rattle.bbm_events.specs.Heading.{Heading};
-ghost use Rattle.bbm_lemmas.specs.EveryPe.{every_pe};
 ghost use Rattle.bbm_regimes.specs.PeMask.{pe_in};
 ghost use Rattle.bbm_rules.specs.declared.phase.Phase.{Phase};
 ghost use Rattle.bbm_rules.specs.Claims.{Patterns};
 ghost use Rattle.bbm_rules.specs.Lists.{every};
 ghost use Rattle.bbm_rules.specs.Phases.{phase_of};
-ghost use Rattle.bbm_rules.specs.Values.{value_of as value_in, written_places};
+ghost use Rattle.bbm_rules.specs.Values.{written_places};
 ghost use Rattle.bbm_oracle_patterns.specs.Kept.{notes_behind, notes_of};
 ghost use Rattle.bbm_oracle_patterns.specs.PlacePhases.{phase_at};
-ghost use Rattle.bbm_oracle_trees.specs.Past.{notes};
 ghost use Rattle.bbm_idle.specs.Finding as spec;
 ghost use Rattle.bbm_idle.specs.Idle as idle;
 ghost use Rattle.bbm_idle.specs.SamePhase.{same_phase};
@@ -128,8 +126,7 @@ fn phases_of(
         old.push(PlacePhases {
             place: *place,
             phases,
-        })
-        .map_err(|_| NoMemory)?;
+        })?;
     }
     Ok(old)
 }

@@ -46,10 +46,10 @@ fn put_place(places: &mut Vec<Place>, place: Place) -> Result<(), NoMemory>
     ensures { OnOk result (places.new.items ≡ with_number place places.old.items) }
 {
     if has_place(places, place) {
-        Ok(())
-    } else {
-        places.insert(0, place).map_err(|_| NoMemory)
+        return Ok(());
     }
+    places.insert(0, place)?;
+    Ok(())
 }
 
 /// The places that were ever written, after one more event. `NoMemory` where there is none.
@@ -101,10 +101,11 @@ fn add_seat(seats: &mut Vec<Seat>, found: Option<Seat>) -> Result<(), NoMemory>
         → any (spec.place_adds heading h cover p) seats.new.items
         ≡ (any (spec.place_adds heading h cover p) seats.old.items || spec.seat_adds heading h cover p found)) }
 {
-    match found {
-        Some(seat) => seats.push(seat).map_err(|_| NoMemory),
-        None => Ok(()),
-    }
+    let Some(seat) = found else {
+        return Ok(());
+    };
+    seats.push(seat)?;
+    Ok(())
 }
 
 /// The seats of those of the places that are in a tree. `NoMemory` where there is none.

@@ -1,9 +1,8 @@
 //! The tags that were ever readable for a root, and those of them that a TLBI takes whole.
 //! Source: project's own choice, after Arm ARM (DDI 0487), "Translation Lookaside Buffers".
 
-ghost use Rattle.std.specs.Prelude.{◌≡◌, ℕ, Bool, ◌==◌, ◌&&◌, ◌||◌, List, ◌∷◌, reverse, IfOk, OnOk};
+ghost use Rattle.std.specs.Prelude.{◌≡◌, Bool, ◌==◌, ◌&&◌, ◌||◌, List, ◌∷◌, reverse, IfOk, OnOk};
 ghost use Rattle.bbm_events.specs.declared.event.Event.{Event as TheEvent};
-ghost use Rattle.bbm_tlbi_scope.specs.ScopeTags.{takes_whole_tag};
 ghost use Rattle.bbm_rules.specs.Changes.{changes};
 ghost use Rattle.bbm_rules.specs.Claims.{Patterns};
 ghost use Rattle.bbm_rules.specs.Lists.{any, below};
@@ -12,10 +11,12 @@ ghost use Rattle.bbm_idle.specs.Finding as spec;
 
 use bbm_events::{Event, Header};
 use bbm_oracle_tags::readings::is_read;
-use bbm_oracle_tags::{Declared, Reading, holds_at, named_scope, readings_at, roots_of, vmid_of};
+use bbm_oracle_tags::{
+    Declared, Holding, Reading, holds_at, named_scope, readings_at, roots_of, vmid_of,
+};
 use bbm_regimes::{NoMemory, Page, Pe};
 use bbm_rules::law_equality_tests;
-use bbm_tlbi_scope::{Scope, TlbiOp, whole_tag};
+use bbm_tlbi_scope::{Scope, whole_tag};
 use std::alloc::Global;
 
 /// Adds the reading, unless it is there already.
@@ -25,10 +26,10 @@ fn add_reading(known: &mut Vec<Reading>, reading: &Reading) -> Result<(), NoMemo
 {
     law_equality_tests();
     if is_read(known, reading.tag, reading.root) {
-        Ok(())
-    } else {
-        known.push(*reading).map_err(|_| NoMemory)
+        return Ok(());
     }
+    known.push(*reading)?;
+    Ok(())
 }
 
 /// Adds the readings.
@@ -93,11 +94,11 @@ fn add_wanted(taken: &mut Vec<Reading>, reading: &Reading, wanted: bool) -> Resu
     ensures { OnOk result ((test : tags.Reading → Bool) → any test taken.new.items
         ≡ (any test taken.old.items || (wanted && test reading.now))) }
 {
-    if wanted {
-        taken.push(*reading).map_err(|_| NoMemory)
-    } else {
-        Ok(())
+    if !wanted {
+        return Ok(());
     }
+    taken.push(*reading)?;
+    Ok(())
 }
 
 /// Adds those of the readings that are of the root and whose tag a TLBI of this scope takes whole.
@@ -174,7 +175,12 @@ pub fn holds_some(
         ≡ any (λ r. tags.holds_at header.now Patterns pe r.root r.tag (reverse events.now)) readings.now) }
 {
     for reading in readings {
-        if holds_at(alloc, header, events, pe, reading.root, reading.tag)? {
+        let asked = Holding {
+            pe,
+            root: reading.root,
+            tag: reading.tag,
+        };
+        if holds_at(alloc, header, events, &asked)? {
             return Ok(true);
         }
     }

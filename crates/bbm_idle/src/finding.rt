@@ -7,11 +7,11 @@ ghost use Rattle.bbm_rules.specs.Lists.{every};
 ghost use Rattle.bbm_idle.specs.Finding as spec;
 ghost use Rattle.bbm_idle.specs.Idle as idle;
 
-use crate::find_needed::take_tlbi;
+use crate::find_needed::{Effect, is_needed, newest_adds};
 use crate::find_phases::take_keeping;
-use crate::find_places::add_written;
+use crate::find_places::{add_written, seats_of};
 use crate::find_registers::wrote_register;
-use crate::find_tags::add_known;
+use crate::find_tags::{add_known, taken_by};
 use crate::find_waiting::Waiting;
 use bbm_barriers::Dsb;
 use bbm_events::{Event, Header};
@@ -47,6 +47,33 @@ impl Search {
             known: Vec::new(alloc),
             waiting: Waiting::none(),
         }
+    }
+
+    /// Takes a TLBI into the history, which fits the header: whether it is needed.
+    fn take_tlbi(
+        &mut self,
+        alloc: Global,
+        header: &Header,
+        before: &[Event],
+        event: &Event,
+    ) -> Result<bool, NoMemory>
+        requires stands { spec.IsSearch self.old header.now (reverse before.now) }
+        requires fits { fits_heading header.now event.now ≡ true }
+        ensures needed { IfOk result (λ needed. needed ≡ idle.is_needed header.now (reverse before.now) event.now) }
+        ensures stands { OnOk result (spec.Stands self.new.history header.now (event.now ∷ reverse before.now)) }
+        ensures written { self.new.written ≡ self.old.written }
+        ensures known { self.new.known ≡ self.old.known }
+        ensures waiting { self.new.waiting ≡ self.old.waiting }
+    {
+        let seats = seats_of(alloc, &self.history, &self.written)?;
+        let taken = taken_by(alloc, header, before, event, &self.known)?;
+        self.history.take(alloc, *event)?;
+        let added = newest_adds(header, self.history.log(), &seats);
+        let effect = Effect {
+            added,
+            taken: &taken,
+        };
+        is_needed(alloc, header, before, event, &effect)
     }
 
     /// Takes a DSB into the history: whether it is idle.
@@ -93,15 +120,7 @@ impl Search {
     {
         match *event {
             Event::Tlbi { .. } => {
-                let needed = take_tlbi(
-                    alloc,
-                    header,
-                    &mut self.history,
-                    &self.written,
-                    &self.known,
-                    before,
-                    event,
-                )?;
+                let needed = self.take_tlbi(alloc, header, before, event)?;
                 Ok(!needed)
             }
             Event::Dsb { pe, dsb } => self.take_dsb(alloc, header, before, pe, dsb),
@@ -146,13 +165,14 @@ impl Search {
 fn push_mark(marks: &mut Vec<bool>, mark: bool) -> Result<(), NoMemory>
     ensures { OnOk result (marks.new.items ≡ marks.old.items ++ mark ∷ []) }
 {
-    marks.push(mark).map_err(|_| NoMemory)
+    marks.push(mark)?;
+    Ok(())
 }
 
-/// Which events of the log are idle, where each fits the header: a value for each, the oldest first, which is true where
-/// the log can do without the event by what came before it. A DMB is idle; an ISB where its PE wrote no register since its
-/// last one; a TLBI that isn't needed; a DSB that changes no phase of a place at a PE and answers no TLBI that was
-/// needed. `NoMemory` where there is none.
+/// Which events of the log are idle, where each fits the header: a value for each, the oldest first, which is true
+/// where the log can do without the event by what came before it. A DMB is idle; an ISB where its PE wrote no register
+/// since its last one; a TLBI that isn't needed; a DSB that changes no phase of a place at a PE and answers no TLBI
+/// that was needed. `NoMemory` where there is none.
 pub fn find(alloc: Global, header: &Header, log: &[Event]) -> Result<Vec<bool>, NoMemory>
     requires fit { every (fits_heading header.now) (reverse log.now) ≡ true }
     ensures exact { IfOk result (λ marks. marks.items ≡ reverse (idle.idle_marks header.now (reverse log.now))) }

@@ -12,8 +12,8 @@ ghost use Rattle.bbm_idle.specs.Idle.{ChoosesIdle, is_idle, without, without_idl
 use crate::known::known;
 
 /// A log that keeps the rules keeps them without its idle events, all of them or any. It is then alike to what it was:
-/// each place has the same phase at each PE, and each further event is judged alike. Without all of them no event that is
-/// left is idle. The law is the contract.
+/// each place has the same phase at each PE, and each further event is judged alike. Without all of them no event that
+/// is left is idle. The law is the contract.
 pub fn law_idle()
     ensures all { (heading : Heading) (h : List Event) → heading_ok heading ≡ true →
         keeps heading Patterns h ≡ true → keeps heading Patterns (without_idle heading h) ≡ true }

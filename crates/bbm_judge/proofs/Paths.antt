@@ -1,6 +1,6 @@
 -- Ends of paths and pages of roots, one after another.
-use Rattle.std.proofs.Common.{◌≡◌, ℕ, zero, suc, ◌+◌, ◌-◌, ◌*◌, ◌++◌, ◌∷◌, [], Bool, true, cond, List, filter_map}
-use Rattle.std.proofs.Common.{flat_map, refl, sym, ◌∙◌, ap, add-one, arith}
+use Rattle.std.proofs.Common.{◌≡◌, ℕ, zero, suc, ◌+◌, ◌-◌, ◌<◌, ◌*◌, ◌++◌, ◌∷◌, [], Bool, true, cond, List, filter_map}
+use Rattle.std.proofs.Common.{flat_map, sym, ◌∙◌, ap, add-one, arith}
 use Rattle.bbm_rules.specs.Prelude.{Kind, Heading}
 use Rattle.bbm_rules.specs.Attach.{End, end_at, ends_below}
 use Rattle.bbm_rules.specs.Claims.{Trust}
@@ -16,17 +16,17 @@ through heading trust h kind left level next =
     end_at (suc level) next ∷ ends_below heading trust h kind left (suc level) next
 
 -- the ends of the paths that go on from a fresh page, where a level is left
-pub ends_through : (heading : Heading) (trust : Trust) (h : List Noted) (kind : Kind) (left level page : ℕ) (nexts : List ℕ)
-    → (left ≡ 0 → ⊥) → is_fresh heading trust h page ≡ true
+pub ends_through : (heading : Heading) (trust : Trust) (h : List Noted) (kind : Kind) (level page : ℕ) (nexts : List ℕ)
+    → level < 3 → is_fresh heading trust h page ≡ true
     → nexts ≡ filter_map (λ place. next_of kind level (value_of (events_of h) place)) (places_in (events_of h) page)
-    → flat_map (through heading trust h kind (left - 1) level) nexts ≡ ends_below heading trust h kind left level page
-ends_through heading trust h kind zero level page nexts some fresh are = absurd (some refl)
-ends_through heading trust h kind (suc left) level page nexts some fresh are =
-    let less : suc left - 1 ≡ left = omega arith in
-    ap (λ (m : ℕ). flat_map (through heading trust h kind m level) nexts) less
-    ∙ ap (flat_map (through heading trust h kind left level)) are
-    ∙ sym (ap (λ (b : Bool). cond b (flat_map (through heading trust h kind left level)
+    → flat_map (through heading trust h kind (3 - (level + 1)) level) nexts
+    ≡ ends_below heading trust h kind (3 - level) level page
+ends_through heading trust h kind level page nexts low fresh are =
+    let more : suc (3 - (level + 1)) ≡ 3 - level = omega (arith, low) in
+    ap (flat_map (through heading trust h kind (3 - (level + 1)) level)) are
+    ∙ sym (ap (λ (b : Bool). cond b (flat_map (through heading trust h kind (3 - (level + 1)) level)
     (filter_map (λ place. next_of kind level (value_of (events_of h) place)) (places_in (events_of h) page))) []) fresh)
+    ∙ ap (λ (n : ℕ). ends_below heading trust h kind n level page) more
 
 pages_from_suc : (page i : ℕ) → pages_from page (suc i) ≡ pages_from page i ++ (page + 4096 * i) ∷ []
 pages_from_suc page zero = let e : page ≡ page + 4096 * 0 = omega arith in ap (λ (p : ℕ). p ∷ []) e

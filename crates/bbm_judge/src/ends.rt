@@ -78,10 +78,11 @@ pub fn next_in(kind: Kind, level: u8, value: u64) -> Option<Page>
 fn add_next(pages: &mut Vec<Page>, next: Option<Page>) -> Result<(), NoMemory>
     ensures { OnOk result (pages.new.items ≡ pages.old.items ++ option_to_list next) }
 {
-    match next {
-        Some(next) => pages.push(next).map_err(|_| NoMemory),
-        None => Ok(()),
-    }
+    let Some(next) = next else {
+        return Ok(());
+    };
+    pages.push(next)?;
+    Ok(())
 }
 
 /// The next pages of the table values of the page, read at this kind and level, 0 to 3. `NoMemory` where there is none.
@@ -106,23 +107,22 @@ fn next_pages<E: Evidence>(
     Ok(pages)
 }
 
-/// Adds the ends of the paths of at least one place that begin in the page, read at this kind and level, with so many
-/// levels below. `NoMemory` where there is none.
+/// Adds the ends of the paths of at least one place that begin in the page, read at this kind and level, 0 to 3.
+/// `NoMemory` where there is none.
 fn add_ends<E: Evidence>(
     alloc: Global,
     history: &History<E>,
     kind: Kind,
-    left: u8,
     level: u8,
     page: Page,
     ends: &mut Vec<End>,
 ) -> Result<(), NoMemory>
-    requires { level + left ≤ 3 }
+    requires { level ≤ 3 }
     ensures { OnOk result (ends.new.items
         ≡ ends.old.items
-        ++ spec.ends_below history.now.heading history.now.trust (notes history.now) kind left level page) }
+        ++ spec.ends_below history.now.heading history.now.trust (notes history.now) kind (3 - level) level page) }
 {
-    if left == 0 {
+    if level == 3 {
         return Ok(());
     }
     if !history.is_fresh(page) {
@@ -134,8 +134,8 @@ fn add_ends<E: Evidence>(
             page: *next,
             level: level + 1,
         };
-        ends.push(end).map_err(|_| NoMemory)?;
-        add_ends(alloc, history, kind, left - 1, level + 1, *next, ends)?;
+        ends.push(end)?;
+        add_ends(alloc, history, kind, level + 1, *next, ends)?;
     }
     Ok(())
 }
@@ -147,7 +147,7 @@ fn add_first(level: u8, pages: &[Page], ends: &mut Vec<End>) -> Result<(), NoMem
 {
     for page in pages {
         let end = End { page: *page, level };
-        ends.push(end).map_err(|_| NoMemory)?;
+        ends.push(end)?;
     }
     Ok(())
 }
@@ -168,7 +168,7 @@ fn add_deeper<E: Evidence>(
         pages.now) }
 {
     for page in pages {
-        add_ends(alloc, history, kind, 3 - level, level, *page, ends)?;
+        add_ends(alloc, history, kind, level, *page, ends)?;
     }
     Ok(())
 }

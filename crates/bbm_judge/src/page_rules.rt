@@ -34,7 +34,7 @@ fn add_pages(pages: &mut Vec<Page>, ends: &[End]) -> Result<(), NoMemory>
 {
     for end in ends {
         let page = end.page;
-        pages.push(page).map_err(|_| NoMemory)?;
+        pages.push(page)?;
     }
     Ok(())
 }

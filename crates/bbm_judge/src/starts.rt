@@ -23,7 +23,7 @@ fn pages_from(alloc: Global, first: Page, count: u8) -> Result<Vec<Page>, NoMemo
 {
     let mut pages = Vec::new(alloc);
     for index in 0..count {
-        pages.push(page_at(first, index)).map_err(|_| NoMemory)?;
+        pages.push(page_at(first, index))?;
     }
     Ok(pages)
 }

@@ -1,5 +1,5 @@
 -- Tests of flags, covers and barriers.
-use Rattle.std.proofs.Common.{◌≡◌, ℕ, ◌≤◌, Bool, true, false, ◌&&◌, ◌||◌, not, nat_eq, nat_lt, refl, sym, ◌∙◌, ap}
+use Rattle.std.proofs.Common.{◌≡◌, ℕ, ◌≤◌, Bool, true, false, ◌&&◌, not, nat_eq, nat_lt, refl, sym, ◌∙◌, ap}
 use Rattle.std.proofs.Common.{arith}
 use Rattle.std.proofs.lemmas.Bool.{false≢true, true≢false}
 use Rattle.std.proofs.lemmas.Bool.Decides.{nat_tests}
@@ -20,7 +20,8 @@ same_flag-true false true e = absurd (false≢true e)
 
 -- a barrier of a log with fewer PEs
 pub publishes_wide : (domain : Domain) (types : Types) (q n p : ℕ) → n ≤ 128 → is_non domain ≡ false →
-    (publishes (record { domain = domain; types = types }) q 128 p && nat_lt p n) ≡ publishes (record { domain = domain; types = types }) q n p
+    (publishes (record { domain = domain; types = types }) q 128 p && nat_lt p n)
+    ≡ publishes (record { domain = domain; types = types }) q n p
 publishes_wide Full All q n p h e = grind (arith, nat_tests)
 publishes_wide Full Stores q n p h e = grind (arith, nat_tests)
 publishes_wide Full Loads q n p h e = refl
@@ -33,12 +34,14 @@ publishes_wide Outer Loads q n p h e = refl
 publishes_wide Non types q n p h e = absurd (true≢false e)
 
 pub publishes_near : (types : Types) (q n p : ℕ) →
-    publishes (record { domain = Non; types = types }) q 128 p ≡ publishes (record { domain = Non; types = types }) q n p
+    publishes (record { domain = Non; types = types }) q 128 p
+    ≡ publishes (record { domain = Non; types = types }) q n p
 publishes_near All q n p = refl
 publishes_near Stores q n p = refl
 publishes_near Loads q n p = refl
 
-pub wide : (dsb : Dsb) (q n p : ℕ) (cnp m a r : Bool) → n ≤ 128 → is_non dsb.domain ≡ false → m ≡ publishes dsb q 128 p → a ≡ nat_lt p n →
+pub wide : (dsb : Dsb) (q n p : ℕ) (cnp m a r : Bool) → n ≤ 128 → is_non dsb.domain ≡ false → m ≡ publishes dsb q 128 p
+    → a ≡ nat_lt p n →
     r ≡ (m && a) → r ≡ (publishes dsb q n p && not (cnp && is_non dsb.domain))
 wide dsb q n p cnp m a r h e m_is a_is r_is =
     r_is ∙ ap (λ (b : Bool). b && a) m_is ∙ ap (λ (b : Bool). publishes dsb q 128 p && b) a_is
@@ -52,7 +55,9 @@ near dsb q n p cnp m e c m_is =
     m_is ∙ at dsb.domain e ∙ sym (and-true (publishes dsb q n p))
     ∙ ap (λ (b : Bool). publishes dsb q n p && not (b && is_non dsb.domain)) (sym c)
   where
-    at : (domain : Domain) → is_non domain ≡ true → publishes (record { domain = domain; types = dsb.types }) q 128 p ≡ publishes (record { domain = domain; types = dsb.types }) q n p
+    at : (domain : Domain) → is_non domain ≡ true
+        → publishes (record { domain = domain; types = dsb.types }) q 128 p
+        ≡ publishes (record { domain = domain; types = dsb.types }) q n p
     at Non e = publishes_near dsb.types q n p
     at Full e = absurd (false≢true e)
     at Inner e = absurd (false≢true e)

@@ -2,7 +2,7 @@
 use Rattle.std.proofs.Common.{◌≡◌, ℕ, zero, suc, ◌+◌, ◌-◌, ◌<◌, ◌≤◌, List, [], ◌∷◌, ◌++◌, length, take, drop, reverse}
 use Rattle.std.proofs.Common.{get_or, Option, Some, None, refl, sym, ◌∙◌, ap, subst, arith}
 use Rattle.std.proofs.lemmas.List.{append-nil, append_assoc, reverse-append, length-append, length-reverse}
-use Rattle.std.proofs.lemmas.List.{length-take-le, take-append-drop, take_more, drop_more, drop_all}
+use Rattle.std.proofs.lemmas.List.{length-take-le, take-append-drop, take_more, drop_more}
 use Rattle.bbm_rules.specs.Held.{ValidWrite, last_valid, later}
 use Rattle.bbm_rules.specs.Notes.{Noted}
 use Rattle.bbm_rules.specs.Prelude.{Kind}
@@ -14,7 +14,8 @@ use Rattle.bbm_oracle_patterns.specs.declared.search.Says.TheVariants.{ItIs, NoW
 
 -- ---- notes
 
-pub notes_append : (before : ℕ) (xs ys : List Kept) → notes_behind before (xs ++ ys) ≡ notes_behind (before + length ys) xs ++ notes_behind before ys
+pub notes_append : (before : ℕ) (xs ys : List Kept)
+    → notes_behind before (xs ++ ys) ≡ notes_behind (before + length ys) xs ++ notes_behind before ys
 notes_append before [] ys = refl
 notes_append before (x ∷ xs) ys =
     let at : before + length (xs ++ ys) ≡ before + length ys + length xs = omega (arith, length-append xs ys) in
@@ -25,7 +26,8 @@ pub notes_whole : (ks : List Kept) → notes_of ks ≡ notes_behind 0 ks
 notes_whole [] = refl
 notes_whole (k ∷ ks) =
     let at : length ks ≡ 0 + length ks = omega arith in
-    ap (λ (n : ℕ). note_of n k ∷ notes_of ks) at ∙ ap (λ (ns : List Noted). note_of (0 + length ks) k ∷ ns) (notes_whole ks)
+    ap (λ (n : ℕ). note_of n k ∷ notes_of ks) at
+    ∙ ap (λ (ns : List Noted). note_of (0 + length ks) k ∷ ns) (notes_whole ks)
 
 -- the oldest of some events, apart
 pub notes_snoc : (before : ℕ) (k : Kept) (ks : List Kept) →
@@ -43,7 +45,8 @@ pub notes_more : (before : ℕ) (log : List Kept) (i : ℕ) (k : Kept) → i < l
 notes_more before log i k below is =
     ap (λ (ks : List Kept). notes_behind before (reverse ks)) (take_more log i k below)
     ∙ ap (notes_behind before) (reverse-append (take i log) (get_or log i k ∷ []))
-    ∙ ap (λ (x : Kept). note_of (before + length (reverse (take i log))) x ∷ notes_behind before (reverse (take i log))) (sym is)
+    ∙ ap (λ (x : Kept). note_of (before + length (reverse (take i log))) x ∷ notes_behind before (reverse (take i log)))
+    (sym is)
 
 -- ---- the search
 
@@ -52,13 +55,10 @@ abbrev pub behind : List Noted → Option ValidWrite → Option ValidWrite
 behind ns None = None
 behind ns (Some w) = Some (record { value = w.value; since = ns ++ w.since })
 
-pub behind_nothing : (o : Option ValidWrite) → behind [] o ≡ o
-behind_nothing None = refl
-behind_nothing (Some w) = refl
-
 behind_later : (ns : List Noted) (n : Noted) (o : Option ValidWrite) → behind ns (later n o) ≡ behind (ns ++ n ∷ []) o
 behind_later ns n None = refl
-behind_later ns n (Some w) = ap (λ (xs : List Noted). Some (record { value = w.value; since = xs })) (sym (append_assoc ns (n ∷ []) w.since))
+behind_later ns n (Some w) = ap (λ (xs : List Noted). Some (record { value = w.value; since = xs }))
+    (sym (append_assoc ns (n ∷ []) w.since))
 
 module _ (kind : Kind) (level place : ℕ) (log : List Kept) where
   -- the events of the log from index i on say nothing of the last valid write
@@ -67,21 +67,18 @@ module _ (kind : Kind) (level place : ℕ) (log : List Kept) where
         last_valid kind level place (notes_behind before (reverse (drop i log)) ++ h)
         ≡ behind (notes_behind before (reverse (drop i log))) (last_valid kind level place h)
 
-  pub silent_start : Silent (length log)
-  silent_start = record {
-    at = λ before h.
-        rw (drop_all (length log) log (omega arith)) (sym (behind_nothing (last_valid kind level place h)));
-  }
-
-  pub silent_more : (i : ℕ) (d : Kept) → i < length log → TellsOf Older kind level place (get_or log i d).event → Silent (i + 1) → Silent i
+  pub silent_more : (i : ℕ) (d : Kept) → i < length log → TellsOf Older kind level place (get_or log i d).event
+      → Silent (i + 1) → Silent i
   silent_more i d below tells s = record {
     at = λ before h.
         let k : Kept = get_or log i d in
         let n : Noted = note_of before (get_or log i d) in
         let ns : List Noted = notes_behind (before + 1) (reverse (drop (i + 1) log)) in
         let split : notes_behind before (reverse (drop i log)) ≡ ns ++ n ∷ []
-        = ap (λ (ks : List Kept). notes_behind before (reverse ks)) (drop_more log i d below) ∙ notes_snoc before (get_or log i d) (drop (i + 1) log) in
-        subst (λ (xs : List Noted). last_valid kind level place (xs ++ h) ≡ behind xs (last_valid kind level place h)) (sym split)
+        = ap (λ (ks : List Kept). notes_behind before (reverse ks)) (drop_more log i d below)
+        ∙ notes_snoc before (get_or log i d) (drop (i + 1) log) in
+        subst (λ (xs : List Noted). last_valid kind level place (xs ++ h) ≡ behind xs (last_valid kind level place h))
+        (sym split)
         (ap (last_valid kind level place) (append_assoc ns (n ∷ []) h)
         ∙ s.at (before + 1) (n ∷ h)
         ∙ ap (behind ns) (tells n (last_valid kind level place h))
@@ -89,7 +86,8 @@ module _ (kind : Kind) (level place : ℕ) (log : List Kept) where
   }
 
   -- the whole log, by its oldest i events
-  whole : (i : ℕ) → i ≤ length log → notes_of (reverse log) ≡ notes_behind i (reverse (drop i log)) ++ notes_of (reverse (take i log))
+  whole : (i : ℕ) → i ≤ length log → notes_of (reverse log)
+      ≡ notes_behind i (reverse (drop i log)) ++ notes_of (reverse (take i log))
   whole i within =
       let count : 0 + length (reverse (take i log)) ≡ i
       = omega (arith, length-reverse (take i log), length-take-le i log within) in
@@ -108,16 +106,20 @@ module _ (kind : Kind) (level place : ℕ) (log : List Kept) where
       ∙ ap notes_of (reverse-append (take i log) (get_or log i d ∷ []))
 
   -- what the event at index i says is the answer
-  says_at : (i : ℕ) (d : Kept) (says : Says) → i < length log → TellsOf says kind level place (get_or log i d).event → Silent (i + 1) →
+  says_at : (i : ℕ) (d : Kept) (says : Says) → i < length log → TellsOf says kind level place (get_or log i d).event
+      → Silent (i + 1) →
       last_valid kind level place (notes_of (reverse log))
       ≡ behind (notes_behind (i + 1) (reverse (drop (i + 1) log)))
-      (said says (note_of (length (reverse (take i log))) (get_or log i d)) (last_valid kind level place (notes_of (reverse (take i log)))))
+      (said says (note_of (length (reverse (take i log))) (get_or log i d))
+      (last_valid kind level place (notes_of (reverse (take i log)))))
   says_at i d says below tells s =
       ap (last_valid kind level place) (whole (i + 1) (omega arith))
       ∙ s.at (i + 1) (notes_of (reverse (take (i + 1) log)))
-      ∙ ap (λ (h : List Noted). behind (notes_behind (i + 1) (reverse (drop (i + 1) log))) (last_valid kind level place h)) (oldest i d below)
+      ∙ ap (λ (h : List Noted). behind (notes_behind (i + 1) (reverse (drop (i + 1) log)))
+      (last_valid kind level place h)) (oldest i d below)
       ∙ ap (behind (notes_behind (i + 1) (reverse (drop (i + 1) log))))
-      (tells (note_of (length (reverse (take i log))) (get_or log i d)) (last_valid kind level place (notes_of (reverse (take i log)))))
+      (tells (note_of (length (reverse (take i log))) (get_or log i d))
+      (last_valid kind level place (notes_of (reverse (take i log)))))
 
   -- the same for the event before index j
   module _ (j : ℕ) (k : Kept) (some : 0 < j) (within : j ≤ length log) (s : Silent j) where
@@ -125,12 +127,15 @@ module _ (kind : Kind) (level place : ℕ) (log : List Kept) where
     silent_behind = let e : j ≡ j - 1 + 1 = omega arith in subst (λ (i : ℕ). Silent i) e s
 
     pub found_before : (value : ℕ) → TellsOf (ItIs value) kind level place (get_or log (j - 1) k).event →
-        last_valid kind level place (notes_of (reverse log)) ≡ write_in log (Some (record { value = value; index = j - 1 }))
+        last_valid kind level place (notes_of (reverse log))
+        ≡ write_in log (Some (record { value = value; index = j - 1 }))
     found_before value tells =
         says_at (j - 1) k (ItIs value) (omega arith) tells silent_behind
-        ∙ ap (λ (ns : List Noted). Some (record { value = value; since = ns })) (append-nil (notes_behind (j - 1 + 1) (reverse (drop (j - 1 + 1) log))))
+        ∙ ap (λ (ns : List Noted). Some (record { value = value; since = ns }))
+        (append-nil (notes_behind (j - 1 + 1) (reverse (drop (j - 1 + 1) log))))
 
-    pub none_before : TellsOf NoWrite kind level place (get_or log (j - 1) k).event → last_valid kind level place (notes_of (reverse log)) ≡ None
+    pub none_before : TellsOf NoWrite kind level place (get_or log (j - 1) k).event
+        → last_valid kind level place (notes_of (reverse log)) ≡ None
     none_before tells = says_at (j - 1) k NoWrite (omega arith) tells silent_behind
 
     pub silent_before : TellsOf Older kind level place (get_or log (j - 1) k).event → Silent (j - 1)

@@ -53,7 +53,8 @@ mix true true false false k u v = refl
 
 -- ---- a DSB
 
-completes_is : (dsb : Barrier) (e : Event) → completes dsb e ≡ ((answers dsb true && is_of true e) || (answers dsb false && is_of false e))
+completes_is : (dsb : Barrier) (e : Event) → completes dsb e
+    ≡ ((answers dsb true && is_of true e) || (answers dsb false && is_of false e))
 completes_is dsb (Tlbi pe op xt) = pick (answers dsb) (operation op).broadcast
 completes_is dsb _ = is_none_of_two (answers dsb true) (answers dsb false)
 
@@ -65,12 +66,14 @@ completes_by dsb b _ k = absurd (false≢true k)
 abbrev pub test_of : Bool → (Issued Noted → Bool) → Issued Noted → Bool
 test_of b test t = is_of b t.tlbi.event && test t
 
-answered_split : (dsb : Barrier) (test : Issued Noted → Bool) (ts : List (Issued Noted)) → any (is_completed dsb test) ts
+answered_split : (dsb : Barrier) (test : Issued Noted → Bool) (ts : List (Issued Noted))
+    → any (is_completed dsb test) ts
     ≡ ((answers dsb true && any (test_of true test) ts) || (answers dsb false && any (test_of false test) ts))
 answered_split dsb test [] = is_none_of_two (answers dsb true) (answers dsb false)
 answered_split dsb test (t ∷ ts) =
     ap (λ (b : Bool). (b && test t) || any (is_completed dsb test) ts) (completes_is dsb t.tlbi.event)
-    ∙ ap (λ (b : Bool). (((answers dsb true && is_of true t.tlbi.event) || (answers dsb false && is_of false t.tlbi.event)) && test t) || b) (answered_split dsb test ts)
+    ∙ ap (λ (b : Bool). (((answers dsb true && is_of true t.tlbi.event)
+    || (answers dsb false && is_of false t.tlbi.event)) && test t) || b) (answered_split dsb test ts)
     ∙ mix (answers dsb true) (answers dsb false) (is_of true t.tlbi.event) (is_of false t.tlbi.event) (test t)
     (any (test_of true test) ts) (any (test_of false test) ts)
 
@@ -81,14 +84,16 @@ left_any dsb test b ts =
     (λ t k. ap not (completes_by dsb b t.tlbi.event (first_true (is_of b t.tlbi.event) (test t) k))) ts
     ∙ and_comm (not (answers dsb b)) (any (test_of b test) ts)
 
-module _ (o : Open) (test : ℕ → Issued Noted → Bool) (since : List Noted) (is : IsOpen o test since) (covers : ℕ → Cover) (position pe : ℕ) where
+module _ (o : Open) (test : ℕ → Issued Noted → Bool) (since : List Noted) (is : IsOpen o test since)
+    (covers : ℕ → Cover) (position pe : ℕ) where
   -- what the DSB answers
   pub answered_by : (dsb : Barrier) (p : ℕ) →
       ((answers dsb true && is_open o pe true p) || (answers dsb false && is_open o pe false p))
       ≡ answers_one (test p) (Dsb pe dsb) since
   answered_by dsb p =
       ap (λ (b : Bool). (answers dsb true && b) || (answers dsb false && is_open o pe false p)) (is.by pe true p)
-      ∙ ap (λ (b : Bool). (answers dsb true && open_to (test p) true pe since) || (answers dsb false && b)) (is.by pe false p)
+      ∙ ap (λ (b : Bool). (answers dsb true && open_to (test p) true pe since) || (answers dsb false && b))
+      (is.by pe false p)
       ∙ sym (answered_split dsb (test p) (unanswered event_of pe since))
 
   -- what it leaves
@@ -104,14 +109,20 @@ module _ (o : Open) (test : ℕ → Issued Noted → Bool) (since : List Noted) 
     where
       at : (q : ℕ) (b : Bool) (p : ℕ) (k : Bool) →
           (any (test_of b (test p)) (unanswered event_of q since) && not (k && answers dsb b))
-          ≡ any (test_of b (test p)) (cond k (left_open event_of dsb (unanswered event_of q since)) (unanswered event_of q since))
+          ≡ any (test_of b (test p)) (cond k (left_open event_of dsb (unanswered event_of q since))
+          (unanswered event_of q since))
       at q b p true = sym (left_any dsb (test p) b (unanswered event_of q since))
       at q b p false = and-true (any (test_of b (test p)) (unanswered event_of q since))
 
   -- one TLBI more
   pub after_tlbi : (op : TlbiOp) (xt : ℕ) (more : Open) (counts : ℕ → Bool) →
-      ((q : ℕ) (b : Bool) (p : ℕ) → is_open more q b p ≡ (is_open o q b p || (nat_eq pe q && (same_flag b (operation op).broadcast && counts p)))) →
-      ((p : ℕ) → counts p ≡ test p (record { tlbi = record { event = Tlbi pe op xt; covers = covers; position = position }; before = since })) →
+      ((q : ℕ) (b : Bool) (p : ℕ) → is_open more q b p
+      ≡ (is_open o q b p || (nat_eq pe q && (same_flag b (operation op).broadcast && counts p)))) →
+      ((p : ℕ) → counts p ≡ test p (record {
+        tlbi =
+            record { event = Tlbi pe op xt; covers = covers; position = position };
+        before = since;
+      })) →
       IsOpen more test (record { event = Tlbi pe op xt; covers = covers; position = position } ∷ since)
   after_tlbi op xt more counts e c = record {
     by = λ q b p.

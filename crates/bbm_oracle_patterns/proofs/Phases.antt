@@ -11,24 +11,32 @@ use Rattle.bbm_rules.specs.Prelude.{Heading, Kind}
 use Rattle.bbm_rules.specs.declared.phase.Phase.TheVariants.{Clean, Live}
 use Rattle.bbm_oracle_patterns.specs.PlacePhases.{furthest, phase_at}
 
-module _ (heading : Heading) (trust : Trust) (kind : Kind) (level place value p : ℕ) (h since : List Noted) (old : ℕ) where
+module _ (heading : Heading) (trust : Trust) (kind : Kind) (level place value p : ℕ) (h since : List Noted)
+    (old : ℕ) where
   -- the last valid write is found, and it is known what is cleansed, half and seen since
   pub phase_found : (everywhere valid clean halfway published : Bool) →
       last_valid kind level place h ≡ Some (record { value = old; since = since }) →
       everywhere ≡ cleansed_everywhere heading trust place since → valid ≡ is_valid kind level value →
-      clean ≡ cleansed heading trust place p since → halfway ≡ half heading place p since → published ≡ seen heading place p since →
-      cond everywhere Clean (cond valid Live (furthest clean halfway published)) ≡ phase_at heading trust kind level place value p h
+      clean ≡ cleansed heading trust place p since → halfway ≡ half heading place p since
+      → published ≡ seen heading place p since →
+      cond everywhere Clean (cond valid Live (furthest clean halfway published))
+      ≡ phase_at heading trust kind level place value p h
   phase_found everywhere valid clean halfway published found all_is valid_is clean_is half_is seen_is =
       ap (λ (b : Bool). cond everywhere Clean (cond valid Live (furthest b halfway published))) clean_is
-      ∙ ap (λ (b : Bool). cond everywhere Clean (cond valid Live (furthest (cleansed heading trust place p since) b published))) half_is
-      ∙ ap (λ (b : Bool). cond everywhere Clean (cond valid Live (furthest (cleansed heading trust place p since) (half heading place p since) b))) seen_is
+      ∙ ap (λ (b : Bool). cond everywhere Clean
+      (cond valid Live (furthest (cleansed heading trust place p since) b published))) half_is
+      ∙ ap (λ (b : Bool). cond everywhere Clean
+      (cond valid Live (furthest (cleansed heading trust place p since) (half heading place p since) b))) seen_is
       ∙ ap (λ (b : Bool). cond everywhere Clean (cond b Live (broken_phase heading trust place p since))) valid_is
-      ∙ ap (λ (b : Bool). cond b Clean (cond (is_valid kind level value) Live (broken_phase heading trust place p since))) all_is
+      ∙ ap (λ (b : Bool). cond b Clean (cond (is_valid kind level value) Live
+      (broken_phase heading trust place p since))) all_is
       ∙ by (cleansed_everywhere heading trust place since)
-      ∙ ap (λ (o : Option ValidWrite). unwrap_or (option_and_then (λ w. cond (cleansed_everywhere heading trust place w.since) None
+      ∙ ap (λ (o : Option ValidWrite). unwrap_or
+      (option_and_then (λ w. cond (cleansed_everywhere heading trust place w.since) None
       (Some (cond (is_valid kind level value) Live (broken_phase heading trust place p w.since)))) o) Clean) (sym found)
     where
       by : (b : Bool) → cond b Clean (cond (is_valid kind level value) Live (broken_phase heading trust place p since))
-          ≡ unwrap_or (cond b None (Some (cond (is_valid kind level value) Live (broken_phase heading trust place p since)))) Clean
+          ≡ unwrap_or (cond b None (Some (cond (is_valid kind level value) Live
+          (broken_phase heading trust place p since)))) Clean
       by true = refl
       by false = refl

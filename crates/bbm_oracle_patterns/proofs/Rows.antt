@@ -13,7 +13,8 @@ row_at (m ∷ ms) zero p d h = refl
 row_at (m ∷ ms) (suc i) p d h = row_at ms i p d (omega arith)
 
 -- the same, for an index that is known to be this one
-pub row_is : (ms : List PeMask) (i j p : ℕ) (d : PeMask) → i < length ms → i ≡ j → pe_in (get_or ms i d) p ≡ row_has ms j p
+pub row_is : (ms : List PeMask) (i j p : ℕ) (d : PeMask) → i < length ms → i ≡ j
+    → pe_in (get_or ms i d) p ≡ row_has ms j p
 row_is ms i j p d h e = row_at ms i p d h ∙ ap (λ (n : ℕ). row_has ms n p) e
 
 row_here : (ms : List PeMask) (i : ℕ) (m : PeMask) (p : ℕ) → i < length ms → row_has (set ms i m) i p ≡ pe_in m p

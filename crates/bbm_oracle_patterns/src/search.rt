@@ -16,6 +16,17 @@ use bbm_events::{Event, Header};
 use bbm_regimes::{Kind, Pe, PeMask, Place};
 use bbm_rules::Phase;
 
+/// A place of a tree. Source: project's own choice.
+#[derive(Clone, Copy, Debug)]
+pub struct Seat {
+    /// The place.
+    pub place: Place,
+    /// The kind of its tree.
+    pub kind: Kind,
+    /// The level of its page, 0 to 3.
+    pub level: u8,
+}
+
 /// A valid write in a log. Source: project's own choice.
 #[derive(Clone, Copy, Debug, PartialEq, Eq)]
 pub struct ValidWrite {
@@ -129,33 +140,31 @@ fn broken_phase(cleansed: PeMask, half: PeMask, seen: PeMask, pe: Pe) -> Phase
     }
 }
 
-/// The phase at the PE of a place that is in a tree, where it has this kind and this level, 0 to 3, and now has this
-/// value: clean where it holds nothing; live where its value is valid; else the furthest of cleansed, half and seen, or
-/// broken where it is none of them. The log is oldest first, and the evidence has taken it.
+/// The phase at the PE of a place of a tree that now has this value: clean where it holds nothing; live where its value
+/// is valid; else the furthest of cleansed, half and seen, or broken where it is none of them. The log is oldest first,
+/// and the evidence has taken it.
 pub fn phase_in<E: Evidence>(
     evidence: &E,
     header: &Header,
     log: &[Kept],
-    kind: Kind,
-    level: u8,
-    place: Place,
+    seat: &Seat,
     value: u64,
     pe: Pe,
 ) -> Phase
     requires { E.has_taken evidence.now header.now (notes_of (reverse log.now)) }
-    ensures { result
-        ≡ phase_at header.now (E.trust evidence.now) kind level place value pe (notes_of (reverse log.now)) }
+    ensures { result ≡ phase_at header.now (E.trust evidence.now) seat.now.kind seat.now.level seat.now.place value pe
+        (notes_of (reverse log.now)) }
 {
-    match last_valid(log, kind, level, place) {
+    match last_valid(log, seat.kind, seat.level, seat.place) {
         Some(write) => {
             let from = write.index + 1;
-            if evidence.is_cleansed(header, log, from, place) {
+            if evidence.is_cleansed(header, log, from, seat.place) {
                 Phase::Clean
-            } else if is_valid_at(kind, level, value) {
+            } else if is_valid_at(seat.kind, seat.level, value) {
                 Phase::Live
             } else {
-                let cleansed = evidence.cleansed(header, log, from, place);
-                let trace = trace_of(header, &log[from..], place);
+                let cleansed = evidence.cleansed(header, log, from, seat.place);
+                let trace = trace_of(header, &log[from..], seat.place);
                 broken_phase(cleansed, trace.half, trace.seen, pe)
             }
         }

@@ -6,7 +6,6 @@ ghost use Rattle.bbm_regimes.specs.PeMask.{pe_in};
 ghost use Rattle.bbm_rules.specs.Claims.{Patterns};
 ghost use Rattle.bbm_rules.specs.Cleansing as spec;
 ghost use Rattle.bbm_rules.specs.Held as held;
-ghost use Rattle.bbm_rules.specs.Lists.{any};
 ghost use Rattle.bbm_oracle_patterns.specs.Kept.{notes_behind};
 ghost use Rattle.bbm_oracle_patterns.specs.Walk.{writes_place, some_writes, Traces};
 

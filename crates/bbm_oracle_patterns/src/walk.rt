@@ -1,6 +1,6 @@
 //! One walk through the events after the last valid write of a place.
 
-ghost use Rattle.std.specs.Prelude.{◌≡◌, ℕ, false, ◌&&◌, ◌||◌, not, nat_eq, nat_lt, ◌≤◌, List, [], ◌∷◌};
+ghost use Rattle.std.specs.Prelude.{◌≡◌, ℕ, ◌&&◌, ◌||◌, not, nat_eq, nat_lt, ◌≤◌, []};
 ghost use Rattle.bbm_regimes.specs.PeMask.{pe_in};
 ghost use Rattle.bbm_tlbi_scope.specs.declared.entry.Cover.{Cover as Grade};
 ghost use Rattle.bbm_events.specs.declared.event.Event.{Event};

@@ -23,7 +23,8 @@ read-now false r k true = refl
 read-now false r k false = refl
 
 -- a broadcast TLBI, one that isn't, and no TLBI
-pub taken-broadcast : (a f r k n : Bool) → ((((a && r) && k) && n) && true) ≡ ((a && (true && (r && (k && n)))) || (f && (false && (r && (k && n)))))
+pub taken-broadcast : (a f r k n : Bool) → ((((a && r) && k) && n) && true)
+    ≡ ((a && (true && (r && (k && n)))) || (f && (false && (r && (k && n)))))
 taken-broadcast true true true true true = refl
 taken-broadcast true true true true false = refl
 taken-broadcast true true true false n = refl
@@ -35,7 +36,8 @@ taken-broadcast true false false k n = refl
 taken-broadcast false true r k n = refl
 taken-broadcast false false r k n = refl
 
-pub taken-local : (a f r k n : Bool) → ((((f && r) && k) && n) && true) ≡ ((a && (false && (r && (k && n)))) || (f && (true && (r && (k && n)))))
+pub taken-local : (a f r k n : Bool) → ((((f && r) && k) && n) && true)
+    ≡ ((a && (false && (r && (k && n)))) || (f && (true && (r && (k && n)))))
 taken-local true true true true true = refl
 taken-local true true true true false = refl
 taken-local true true true false n = refl

@@ -1,4 +1,5 @@
--- What is readable at a moment: by the lists that are kept, at the start, and after an event that changes nothing of it.
+-- What is readable at a moment: by the lists that are kept, at the start, and after an event that changes nothing of
+-- it.
 use Rattle.std.proofs.Common.{◌≡◌, ℕ, ◌+◌, ◌<◌, false, ◌||◌, List, [], ◌∷◌, ◌++◌, length, take, get_or, Option, Some}
 use Rattle.std.proofs.Common.{None, refl, sym, ap, ◌∙◌, true≢false, append_assoc}
 use Rattle.std.specs.List.{filter_map, cons_option}
@@ -16,14 +17,16 @@ use Rattle.bbm_oracle_tags.specs.Moments.{is_read_for_some}
 use Rattle.bbm_oracle_tags.specs.declared.moment.Moment.{Moment}
 
 asid-readings-by : (from : AsidFrom) (h : List Event) (p : ℕ)
-    → asid_readings from h p ≡ asid_readings_by from (roots_of h) (register_values h p Ttbr0El1) (register_values h p Ttbr1El1)
+    → asid_readings from h p ≡ asid_readings_by from (roots_of h) (register_values h p Ttbr0El1)
+    (register_values h p Ttbr1El1)
 asid-readings-by FromTtbr0 h p = refl
 asid-readings-by FromTtbr1 h p = refl
 
 pub readings-by : (world : World) (h : List Event) (p : ℕ) → readings_in world h p
     ≡ readings_by world (roots_of h) (register_values h p (first_reg world)) (register_values h p (second_reg world))
 readings-by (Hyp world) h p = refl
-readings-by (Kernel world) h p = ap (λ own. own ++ readings_of h p Ttbr1El1 (λ value. Ttbr1Tag)) (asid-readings-by world.asid_from h p)
+readings-by (Kernel world) h p = ap (λ own. own ++ readings_of h p Ttbr1El1 (λ value. Ttbr1Tag))
+    (asid-readings-by world.asid_from h p)
 
 pub moment-readings : (world : World) (h : List Event) (p : ℕ) (m : Moment) → IsMoment world p h m
     → readings_by world m.roots.items m.first.items m.second.items ≡ readings_in world h p
@@ -38,44 +41,47 @@ none-at-start (Kernel world) p = by_register world.asid_from
     by_register FromTtbr0 = refl
     by_register FromTtbr1 = refl
 
-pub start-moment : (world : World) (p : ℕ) (m : Moment) → m.roots.items ≡ [] → m.first.items ≡ 0 ∷ [] → m.second.items ≡ 0 ∷ []
-    → IsMoment world p [] m
-start-moment world p m r f s = record { roots = r; first = f; second = s }
-
 -- an event that changes neither roots nor registers
-pub same-roots : (e : Event) (h : List Event) → ((changes e).roots || (changes e).registers) ≡ false → roots_of (e ∷ h) ≡ roots_of h
+pub same-roots : (e : Event) (h : List Event) → ((changes e).roots || (changes e).registers) ≡ false
+    → roots_of (e ∷ h) ≡ roots_of h
 same-roots (Root pe kind lock page) h k = absurd (true≢false k)
 same-roots (Unroot pe page) h k = absurd (true≢false k)
 same-roots e h k = refl
 
-pub same-values : (e : Event) (h : List Event) (p : ℕ) (reg : Reg) → ((changes e).roots || (changes e).registers) ≡ false
+pub same-values : (e : Event) (h : List Event) (p : ℕ) (reg : Reg)
+    → ((changes e).roots || (changes e).registers) ≡ false
     → register_values (e ∷ h) p reg ≡ register_values h p reg
 same-values (Isb pe) h p reg k = absurd (true≢false k)
 same-values (Msr pe r value) h p reg k = absurd (true≢false k)
 same-values e h p reg k = refl
 
-pub same-readings : (world : World) (e : Event) (h : List Event) (p : ℕ) → ((changes e).roots || (changes e).registers) ≡ false
+pub same-readings : (world : World) (e : Event) (h : List Event) (p : ℕ)
+    → ((changes e).roots || (changes e).registers) ≡ false
     → readings_in world (e ∷ h) p ≡ readings_in world h p
 same-readings world e h p k =
     readings-by world (e ∷ h) p
-    ∙ ap (λ (rs : List Declared). readings_by world rs (register_values (e ∷ h) p (first_reg world)) (register_values (e ∷ h) p (second_reg world))) (same-roots e h k)
-    ∙ ap (λ (vs : List ℕ). readings_by world (roots_of h) vs (register_values (e ∷ h) p (second_reg world))) (same-values e h p (first_reg world) k)
-    ∙ ap (λ (vs : List ℕ). readings_by world (roots_of h) (register_values h p (first_reg world)) vs) (same-values e h p (second_reg world) k)
+    ∙ ap (λ (rs : List Declared). readings_by world rs (register_values (e ∷ h) p (first_reg world))
+    (register_values (e ∷ h) p (second_reg world))) (same-roots e h k)
+    ∙ ap (λ (vs : List ℕ). readings_by world (roots_of h) vs (register_values (e ∷ h) p (second_reg world)))
+    (same-values e h p (first_reg world) k)
+    ∙ ap (λ (vs : List ℕ). readings_by world (roots_of h) (register_values h p (first_reg world)) vs)
+    (same-values e h p (second_reg world) k)
     ∙ sym (readings-by world h p)
 
 pub same-reads : (heading : Heading) (e : Event) (h : List Event) (p : ℕ) (tag : Tag) (root : ℕ)
-    → ((changes e).roots || (changes e).registers) ≡ false → reads heading (e ∷ h) p tag root ≡ reads heading h p tag root
-same-reads heading e h p tag root k = ap (λ (rs : List Reading). is_read rs tag root) (same-readings heading.world e h p k)
+    → ((changes e).roots || (changes e).registers) ≡ false
+    → reads heading (e ∷ h) p tag root ≡ reads heading h p tag root
+same-reads heading e h p tag root k = ap (λ (rs : List Reading). is_read rs tag root)
+    (same-readings heading.world e h p k)
 
 pub same-reads-some : (heading : Heading) (e : Event) (h : List Event) (p : ℕ) (tag : Tag)
-    → ((changes e).roots || (changes e).registers) ≡ false → reads_for_some heading (e ∷ h) p tag ≡ reads_for_some heading h p tag
-same-reads-some heading e h p tag k = ap (λ (rs : List Reading). is_read_for_some rs tag) (same-readings heading.world e h p k)
+    → ((changes e).roots || (changes e).registers) ≡ false
+    → reads_for_some heading (e ∷ h) p tag ≡ reads_for_some heading h p tag
+same-reads-some heading e h p tag k = ap (λ (rs : List Reading). is_read_for_some rs tag)
+    (same-readings heading.world e h p k)
 
 pub reads-nothing : (heading : Heading) (p : ℕ) (tag : Tag) (root : ℕ) → reads heading [] p tag root ≡ false
 reads-nothing heading p tag root = ap (λ (rs : List Reading). is_read rs tag root) (none-at-start heading.world p)
-
-pub reads-nothing-for-some : (heading : Heading) (p : ℕ) (tag : Tag) → reads_for_some heading [] p tag ≡ false
-reads-nothing-for-some heading p tag = ap (λ (rs : List Reading). is_read_for_some rs tag) (none-at-start heading.world p)
 
 -- one more value, and what it lets read
 cons-nothing : {Y : Type 0} (o : Option Y) → cons_option o [] ≡ option_to_list o

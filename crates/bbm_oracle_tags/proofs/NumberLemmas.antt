@@ -18,7 +18,8 @@ least-push (m ∷ ns) n =
     by_case (Some k) = ap (λ (k : ℕ). Some k) (omega arith)
 
 -- each value has the number of the first
-pub only-one : (vs : List ℕ) (n : ℕ) → 0 < length vs → n ≡ tag_number (get_or vs 0 0) → list_all (λ v. eqb (tag_number v) n) vs ≡ true
+pub only-one : (vs : List ℕ) (n : ℕ) → 0 < length vs → n ≡ tag_number (get_or vs 0 0)
+    → list_all (λ v. eqb (tag_number v) n) vs ≡ true
     → Some n ≡ one_number (map tag_number vs)
 only-one [] n lt e all = absurd (omega arith)
 only-one (v ∷ vs) n lt e all =
@@ -28,7 +29,8 @@ only-one (v ∷ vs) n lt e all =
     ∙ ap (λ (k : ℕ). list_all (λ w. eqb (tag_number w) k) vs) (sym e)
     ∙ (and_parts (eqb (tag_number v) n) (list_all (λ w. eqb (tag_number w) n) vs) all).1))
 
-pub several : (vs : List ℕ) (n : ℕ) → 0 < length vs → n ≡ tag_number (get_or vs 0 0) → list_all (λ v. eqb (tag_number v) n) vs ≡ false
+pub several : (vs : List ℕ) (n : ℕ) → 0 < length vs → n ≡ tag_number (get_or vs 0 0)
+    → list_all (λ v. eqb (tag_number v) n) vs ≡ false
     → None ≡ one_number (map tag_number vs)
 several [] n lt e all = absurd (omega arith)
 several (v ∷ vs) n lt e all =

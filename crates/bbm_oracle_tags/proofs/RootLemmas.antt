@@ -15,11 +15,13 @@ find-retired page q [] = by_case (eqb page q)
     by_case : (b : Bool) → let o : Option Declared = None in o ≡ cond b None None
     by_case true = refl
     by_case false = refl
-find-retired page q (r ∷ rs) = by_case (eqb r.page page) (eqb r.page q) (eqb page q) refl refl refl (find-retired page q rs)
+find-retired page q (r ∷ rs) = by_case (eqb r.page page) (eqb r.page q) (eqb page q) refl refl refl
+    (find-retired page q rs)
   where
     by_case : (b c d : Bool) → eqb r.page page ≡ b → eqb r.page q ≡ c → eqb page q ≡ d →
         find (is_at q) (retired page rs) ≡ cond (eqb page q) None (find (is_at q) rs) →
-        find (is_at q) (cond (not b) (r ∷ retired page rs) (retired page rs)) ≡ cond d None (cond c (Some r) (find (is_at q) rs))
+        find (is_at q) (cond (not b) (r ∷ retired page rs) (retired page rs))
+        ≡ cond d None (cond c (Some r) (find (is_at q) rs))
     by_case true true true e f g h = h ∙ ap (λ (x : Bool). cond x None (find (is_at q) rs)) g
     by_case true false true e f g h = h ∙ ap (λ (x : Bool). cond x None (find (is_at q) rs)) g
     by_case true true false e f g h =
@@ -37,7 +39,8 @@ find-retired page q (r ∷ rs) = by_case (eqb r.page page) (eqb r.page q) (eqb p
 
 pub find-declared : (r : Declared) (q : ℕ) (rs : List Declared) →
     find (is_at q) (r ∷ retired r.page rs) ≡ cond (eqb r.page q) (Some r) (find (is_at q) rs)
-find-declared r q rs = ap (λ (o : Option Declared). cond (eqb r.page q) (Some r) o) (find-retired r.page q rs) ∙ by_case (eqb r.page q)
+find-declared r q rs = ap (λ (o : Option Declared). cond (eqb r.page q) (Some r) o) (find-retired r.page q rs)
+    ∙ by_case (eqb r.page q)
   where
     by_case : (b : Bool) → cond b (Some r) (cond b None (find (is_at q) rs)) ≡ cond b (Some r) (find (is_at q) rs)
     by_case true = refl
@@ -91,14 +94,17 @@ any-declared kind declared lock page q rs =
 pub root-here : (h : List Event) (pe : ℕ) (declared kind : Kind) (lock : Option ℕ) (at page : ℕ) → at ≡ page
     → same_kind declared kind ≡ is_root (Root pe declared lock at ∷ h) kind page
 root-here h pe declared kind lock at page same = sym (any-declared kind declared lock at page (roots_of h)
-    ∙ ap (λ (b : Bool). cond b (same_kind declared kind) (list_any (test kind page) (roots_of h))) (eq-eqb at page same))
+    ∙ ap (λ (b : Bool). cond b (same_kind declared kind) (list_any (test kind page) (roots_of h)))
+    (eq-eqb at page same))
 
 pub root-elsewhere : (h : List Event) (pe : ℕ) (declared kind : Kind) (lock : Option ℕ) (at page : ℕ) → (at ≡ page → ⊥)
     → is_root h kind page ≡ is_root (Root pe declared lock at ∷ h) kind page
 root-elsewhere h pe declared kind lock at page apart = sym (any-declared kind declared lock at page (roots_of h)
-    ∙ ap (λ (b : Bool). cond b (same_kind declared kind) (list_any (test kind page) (roots_of h))) (ne_eqb at page apart))
+    ∙ ap (λ (b : Bool). cond b (same_kind declared kind) (list_any (test kind page) (roots_of h)))
+    (ne_eqb at page apart))
 
-pub retired-here : (h : List Event) (pe : ℕ) (kind : Kind) (at page : ℕ) → at ≡ page → false ≡ is_root (Unroot pe at ∷ h) kind page
+pub retired-here : (h : List Event) (pe : ℕ) (kind : Kind) (at page : ℕ) → at ≡ page
+    → false ≡ is_root (Unroot pe at ∷ h) kind page
 retired-here h pe kind at page same = sym (any-retired kind at page (roots_of h)
     ∙ ap (λ (b : Bool). not b && list_any (test kind page) (roots_of h)) (eq-eqb at page same))
 
@@ -109,13 +115,16 @@ retired-elsewhere h pe kind at page apart = sym (any-retired kind at page (roots
 
 pub found-elsewhere : (h : List Event) (pe : ℕ) (kind : Kind) (lock : Option ℕ) (at page : ℕ) → (at ≡ page → ⊥)
     → root_at h page ≡ root_at (Root pe kind lock at ∷ h) page
-found-elsewhere h pe kind lock at page apart = sym (find-declared (record { page = at; kind = kind; lock = lock }) page (roots_of h)
-    ∙ ap (λ (b : Bool). cond b (Some (record { page = at; kind = kind; lock = lock })) (root_at h page)) (ne_eqb at page apart))
+found-elsewhere h pe kind lock at page apart =
+    sym (find-declared (record { page = at; kind = kind; lock = lock }) page (roots_of h)
+    ∙ ap (λ (b : Bool). cond b (Some (record { page = at; kind = kind; lock = lock })) (root_at h page))
+    (ne_eqb at page apart))
 
 pub none-here : (h : List Event) (pe at page : ℕ) → at ≡ page → None ≡ root_at (Unroot pe at ∷ h) page
 none-here h pe at page same = sym (find-retired at page (roots_of h)
     ∙ ap (λ (b : Bool). cond b None (root_at h page)) (eq-eqb at page same))
 
-pub kept-elsewhere : (h : List Event) (pe at page : ℕ) → (at ≡ page → ⊥) → root_at h page ≡ root_at (Unroot pe at ∷ h) page
+pub kept-elsewhere : (h : List Event) (pe at page : ℕ) → (at ≡ page → ⊥)
+    → root_at h page ≡ root_at (Unroot pe at ∷ h) page
 kept-elsewhere h pe at page apart = sym (find-retired at page (roots_of h)
     ∙ ap (λ (b : Bool). cond b None (root_at h page)) (ne_eqb at page apart))

@@ -32,7 +32,8 @@ one-pe (suc n) test p lt k = by_case (eqb p n) refl (λ below. one-pe n test p b
     by_case : (b : Bool) → eqb p n ≡ b → (p < n → some_pe n test ≡ true) → (test n || some_pe n test) ≡ true
     by_case true e rest = ap (λ (b : Bool). b || some_pe n test) (ap test (sym (eqb-true p n e)) ∙ k)
     by_case false e rest =
-        ap (λ (b : Bool). test n || b) (rest (let apart : p ≡ n → ⊥ = eqb-false p n e in omega arith)) ∙ or-true (test n)
+        ap (λ (b : Bool). test n || b) (rest (let apart : p ≡ n → ⊥ = eqb-false p n e in omega arith))
+        ∙ or-true (test n)
 
 pub found-pe : (n : ℕ) (test : ℕ → Bool) → some_pe n test ≡ true → (p : ℕ) × (p < n) × (test p ≡ true)
 found-pe zero test k = absurd (true≢false (sym k))
@@ -46,7 +47,8 @@ found-pe (suc n) test k = by_case (test n) refl k (λ l. found-pe n test l)
 -- ---- tags that were read
 
 -- a held tag was readable for the root
-pub held-was-read : (heading : Heading) (trust : Trust) (p root : ℕ) (tag : Tag) (h : List Event) → holds_at heading trust p root tag h ≡ true
+pub held-was-read : (heading : Heading) (trust : Trust) (p root : ℕ) (tag : Tag) (h : List Event)
+    → holds_at heading trust p root tag h ≡ true
     → was_read heading p root tag h ≡ true
 held-was-read heading trust p root tag [] k = k
 held-was-read heading trust p root tag (e ∷ h) k =
@@ -56,7 +58,8 @@ held-was-read heading trust p root tag (e ∷ h) k =
         → (holds_at heading trust p root tag h ≡ true → was_read heading p root tag h ≡ true)
         → (b || was_read heading p root tag h) ≡ true
     by_case true k rest = refl
-    by_case false k rest = rest (first_true (holds_at heading trust p root tag h) (not (loses heading trust p tag e h)) k)
+    by_case false k rest = rest (first_true (holds_at heading trust p root tag h)
+        (not (loses heading trust p tag e h)) k)
 
 -- what is read now was read
 pub reads-was-read : (heading : Heading) (p root : ℕ) (tag : Tag) (h : List Event) → reads heading h p tag root ≡ true
@@ -94,16 +97,19 @@ module _ (decides : (g k : Tag) → same_tag g k ≡ true → g ≡ k) (itself :
       let two = many refl in
       let a : t ≡ two.0 = decides t two.0 (sym (has two.0) ∙ two.3) in
       let b : t ≡ two.1 = decides t two.1 (sym (has two.1) ∙ two.4) in
-      absurd (true≢false (sym (itself t) ∙ ap (λ (g : Tag). same_tag g t) a ∙ ap (λ (g : Tag). same_tag two.0 g) b ∙ two.2))
+      absurd (true≢false (sym (itself t) ∙ ap (λ (g : Tag). same_tag g t) a ∙ ap (λ (g : Tag). same_tag two.0 g) b
+      ∙ two.2))
   same-set test Many NoTag has none one many = absurd (true≢false (sym has.3 ∙ none refl has.0))
   same-set test Many (One u) has none one many =
       let a : u ≡ has.0 = decides u has.0 (sym (one u refl has.0) ∙ has.3) in
       let b : u ≡ has.1 = decides u has.1 (sym (one u refl has.1) ∙ has.4) in
-      absurd (true≢false (sym (itself u) ∙ ap (λ (g : Tag). same_tag g u) a ∙ ap (λ (g : Tag). same_tag has.0 g) b ∙ has.2))
+      absurd (true≢false (sym (itself u) ∙ ap (λ (g : Tag). same_tag g u) a ∙ ap (λ (g : Tag). same_tag has.0 g) b
+      ∙ has.2))
   same-set test Many Many has none one many = refl
 
 -- tests that say the same have the same set
-pub set-same : (test other : Tag → Bool) (set : TagSet) → ((g : Tag) → test g ≡ other g) → HasTags test set → HasTags other set
+pub set-same : (test other : Tag → Bool) (set : TagSet) → ((g : Tag) → test g ≡ other g) → HasTags test set
+    → HasTags other set
 set-same test other NoTag same has = λ g. sym (same g) ∙ has g
 set-same test other (One t) same has = λ g. sym (same g) ∙ has g
 set-same test other Many same has = (has.0, has.1, has.2, sym (same has.0) ∙ has.3, sym (same has.1) ∙ has.4)
@@ -112,14 +118,16 @@ set-same test other Many same has = (has.0, has.1, has.2, sym (same has.0) ∙ h
 
 module _ (decides : (g k : Tag) → same_tag g k ≡ true → g ≡ k) where
   -- the tag is held
-  pub hit-held : (holds : Tag → Bool) (tag : Tag) → same_tag tag tag ≡ true → holds tag ≡ true → (same_tag tag tag && holds tag) ≡ true
+  pub hit-held : (holds : Tag → Bool) (tag : Tag) → same_tag tag tag ≡ true → holds tag ≡ true
+      → (same_tag tag tag && holds tag) ≡ true
   hit-held holds tag same held = and_from (same_tag tag tag) (holds tag) same held
 
   pub hit-same : (holds : Tag → Bool) (tag g : Tag) → (same_tag tag g && holds g) ≡ true → g ≡ tag
   hit-same holds tag g k = sym (decides tag g (first_true (same_tag tag g) (holds g) k))
 
   -- it isn't
-  pub missed : (test holds : Tag → Bool) (tag : Tag) → holds tag ≡ false → (g : Tag) → test g ≡ (test g || (same_tag tag g && holds g))
+  pub missed : (test holds : Tag → Bool) (tag : Tag) → holds tag ≡ false → (g : Tag)
+      → test g ≡ (test g || (same_tag tag g && holds g))
   missed test holds tag none g = by_case (same_tag tag g) refl
     where
       or-nothing : (b : Bool) → b ≡ (b || false)
@@ -127,7 +135,8 @@ module _ (decides : (g k : Tag) → same_tag g k ≡ true → g ≡ k) where
       or-nothing false = refl
 
       by_case : (b : Bool) → same_tag tag g ≡ b → test g ≡ (test g || (b && holds g))
-      by_case true e = or-nothing (test g) ∙ ap (λ (b : Bool). test g || b) (sym (ap holds (sym (decides tag g e)) ∙ none))
+      by_case true e = or-nothing (test g) ∙ ap (λ (b : Bool). test g || b)
+          (sym (ap holds (sym (decides tag g e)) ∙ none))
       by_case false e = or-nothing (test g)
 
 -- one more tag of the list

@@ -31,7 +31,8 @@ older-left : (n : ℕ) (dsb : Barrier) (ts : List (Issued Event)) → older n ts
 older-left n dsb [] k = tt
 older-left n dsb (t ∷ ts) k = by_case (not (completes dsb t.tlbi)) (older-left n dsb ts k.1)
   where
-    by_case : (b : Bool) → older n (left_open itself dsb ts) → older n (cond b (t ∷ left_open itself dsb ts) (left_open itself dsb ts))
+    by_case : (b : Bool) → older n (left_open itself dsb ts)
+        → older n (cond b (t ∷ left_open itself dsb ts) (left_open itself dsb ts))
     by_case true rest = (k.0, rest)
     by_case false rest = rest
 
@@ -41,7 +42,8 @@ open-older q (Tlbi pe op xt ∷ h) =
     by_case (pe == q) (older-more (length h) (suc (length h)) (unanswered itself q h) (omega arith) (open-older q h))
   where
     by_case : (b : Bool) → older (suc (length h)) (unanswered itself q h)
-        → older (suc (length h)) (cond b (record { tlbi = Tlbi pe op xt; before = h } ∷ unanswered itself q h) (unanswered itself q h))
+        → older (suc (length h)) (cond b (record { tlbi = Tlbi pe op xt; before = h } ∷ unanswered itself q h)
+        (unanswered itself q h))
     by_case true rest = (omega arith, rest)
     by_case false rest = rest
 open-older q (Dsb pe dsb ∷ h) =
@@ -58,7 +60,8 @@ module _ (heading : Heading) (p : ℕ) (tag : Tag) where
   unread : (n : ℕ) (h : List Event) → length h ≤ n → read_since heading n p tag h ≡ false
   unread n [] le = refl
   unread n (e ∷ h) le =
-      ap (λ (b : Bool). (b && reads_for_some heading (e ∷ h) p tag) || read_since heading n p tag h) (late (nat_le n (length h)) refl)
+      ap (λ (b : Bool). (b && reads_for_some heading (e ∷ h) p tag) || read_since heading n p tag h)
+      (late (nat_le n (length h)) refl)
       ∙ unread n h (omega arith)
     where
       late : (b : Bool) → nat_le n (length h) ≡ b → nat_le n (length h) ≡ false
@@ -69,7 +72,8 @@ module _ (heading : Heading) (p : ℕ) (tag : Tag) where
   read-next : (n : ℕ) (e : Event) (h : List Event) → n ≤ length h
       → read_since heading n p tag (e ∷ h) ≡ (reads_for_some heading (e ∷ h) p tag || read_since heading n p tag h)
   read-next n e h le =
-      ap (λ (b : Bool). (b && reads_for_some heading (e ∷ h) p tag) || read_since heading n p tag h) (le-leb n (length h) le)
+      ap (λ (b : Bool). (b && reads_for_some heading (e ∷ h) p tag) || read_since heading n p tag h)
+      (le-leb n (length h) le)
 
   -- the present moment is one of those after the issue
   read-present : (n : ℕ) (h : List Event) → n < length h
@@ -81,31 +85,41 @@ module _ (heading : Heading) (p : ℕ) (tag : Tag) where
       ∙ or_self_left (reads_for_some heading (e ∷ h) p tag) (read_since heading n p tag h) ∙ sym next
 
   takes-next : (e : Event) (h : List Event) (cast : Bool) (t : Issued Event) → length t.before ≤ length h
-      → would_take heading p tag (e ∷ h) cast t ≡ (not (reads_for_some heading (e ∷ h) p tag) && would_take heading p tag h cast t)
+      → would_take heading p tag (e ∷ h) cast t
+      ≡ (not (reads_for_some heading (e ∷ h) p tag) && would_take heading p tag h cast t)
   takes-next e h cast t le =
-      ap (λ (b : Bool). is_cast cast t.tlbi && (reaches heading t.tlbi p && (takes_tag heading t.tlbi t.before tag && not b)))
+      ap (λ (b : Bool). is_cast cast t.tlbi && (reaches heading t.tlbi p
+      && (takes_tag heading t.tlbi t.before tag && not b)))
       (read-next (length t.before) e h le)
       ∙ read-later (is_cast cast t.tlbi) (reaches heading t.tlbi p) (takes_tag heading t.tlbi t.before tag)
       (reads_for_some heading (e ∷ h) p tag) (read_since heading (length t.before) p tag h)
 
   all-next : (e : Event) (h : List Event) (cast : Bool) (ts : List (Issued Event)) → older (length h) ts
-      → any (would_take heading p tag (e ∷ h) cast) ts ≡ (not (reads_for_some heading (e ∷ h) p tag) && any (would_take heading p tag h cast) ts)
+      → any (would_take heading p tag (e ∷ h) cast) ts
+      ≡ (not (reads_for_some heading (e ∷ h) p tag) && any (would_take heading p tag h cast) ts)
   all-next e h cast [] k = sym (and-false (not (reads_for_some heading (e ∷ h) p tag)))
   all-next e h cast (t ∷ ts) k =
       let lt : length t.before < length h = k.0 in
       ap (λ (b : Bool). b || any (would_take heading p tag (e ∷ h) cast) ts) (takes-next e h cast t (omega arith))
-      ∙ ap (λ (b : Bool). (not (reads_for_some heading (e ∷ h) p tag) && would_take heading p tag h cast t) || b) (all-next e h cast ts k.1)
-      ∙ ands_of_first (not (reads_for_some heading (e ∷ h) p tag)) (would_take heading p tag h cast t) (any (would_take heading p tag h cast) ts)
+      ∙ ap (λ (b : Bool). (not (reads_for_some heading (e ∷ h) p tag) && would_take heading p tag h cast t) || b)
+      (all-next e h cast ts k.1)
+      ∙ ands_of_first (not (reads_for_some heading (e ∷ h) p tag)) (would_take heading p tag h cast t)
+      (any (would_take heading p tag h cast) ts)
 
-  takes-first : (e : Event) (h : List Event) (cast : Bool) → would_take heading p tag (e ∷ h) cast (record { tlbi = e; before = h })
-      ≡ (not (reads_for_some heading (e ∷ h) p tag) && (is_cast cast e && (reaches heading e p && takes_tag heading e h tag)))
+  takes-first : (e : Event) (h : List Event) (cast : Bool)
+      → would_take heading p tag (e ∷ h) cast (record { tlbi = e; before = h })
+      ≡ (not (reads_for_some heading (e ∷ h) p tag)
+      && (is_cast cast e && (reaches heading e p && takes_tag heading e h tag)))
   takes-first e h cast =
       ap (λ (b : Bool). is_cast cast e && (reaches heading e p && (takes_tag heading e h tag && not b)))
-      (read-next (length h) e h (omega arith) ∙ ap (λ (b : Bool). reads_for_some heading (e ∷ h) p tag || b) (unread (length h) h (omega arith)))
-      ∙ read-now (is_cast cast e) (reaches heading e p) (takes_tag heading e h tag) (reads_for_some heading (e ∷ h) p tag)
+      (read-next (length h) e h (omega arith) ∙ ap (λ (b : Bool). reads_for_some heading (e ∷ h) p tag || b)
+      (unread (length h) h (omega arith)))
+      ∙ read-now (is_cast cast e) (reaches heading e p) (takes_tag heading e h tag)
+      (reads_for_some heading (e ∷ h) p tag)
 
   -- a DSB completes all TLBIs of a sort, or none
-  sorted : (cast : Bool) (dsb : Barrier) (e : Event) → is_cast cast e ≡ true → not (completes dsb e) ≡ not (answers dsb cast)
+  sorted : (cast : Bool) (dsb : Barrier) (e : Event) → is_cast cast e ≡ true
+      → not (completes dsb e) ≡ not (answers dsb cast)
   sorted true dsb (Tlbi pe op xt) k = ap (λ (b : Bool). not (answers dsb b)) k
   sorted false dsb (Tlbi pe op xt) k = by_case (operation op).broadcast k
     where
@@ -116,15 +130,18 @@ module _ (heading : Heading) (p : ℕ) (tag : Tag) where
   sorted false dsb e k = absurd (true≢false (sym k))
 
   left-taking : (dsb : Barrier) (h : List Event) (cast : Bool) (ts : List (Issued Event))
-      → any (would_take heading p tag h cast) (left_open itself dsb ts) ≡ (any (would_take heading p tag h cast) ts && not (answers dsb cast))
+      → any (would_take heading p tag h cast) (left_open itself dsb ts)
+      ≡ (any (would_take heading p tag h cast) ts && not (answers dsb cast))
   left-taking dsb h cast ts =
       any-filter_same (would_take heading p tag h cast) (λ t. not (completes dsb t.tlbi)) (not (answers dsb cast))
-      (λ t k. sorted cast dsb t.tlbi (first_true (is_cast cast t.tlbi) (reaches heading t.tlbi p && (takes_tag heading t.tlbi t.before tag
+      (λ t k. sorted cast dsb t.tlbi (first_true (is_cast cast t.tlbi)
+      (reaches heading t.tlbi p && (takes_tag heading t.tlbi t.before tag
       && not (read_since heading (length t.before) p tag h))) k)) ts
       ∙ and_comm (not (answers dsb cast)) (any (would_take heading p tag h cast) ts)
 
   pub awaits-next : (e : Event) (h : List Event) (cast : Bool) (q : ℕ) → awaits heading p tag (e ∷ h) cast q
-      ≡ awaits_after cast (reaches heading e p && takes_tag heading e h tag) (reads_for_some heading (e ∷ h) p tag) e q (awaits heading p tag h cast q)
+      ≡ awaits_after cast (reaches heading e p && takes_tag heading e h tag) (reads_for_some heading (e ∷ h) p tag) e q
+      (awaits heading p tag h cast q)
   awaits-next (Tlbi pe op xt) h cast q = by_case (pe == q)
     where
       before : any (would_take heading p tag (Tlbi pe op xt ∷ h) cast) (unanswered itself q h)
@@ -134,44 +151,56 @@ module _ (heading : Heading) (p : ℕ) (tag : Tag) where
       by_case : (b : Bool) → any (would_take heading p tag (Tlbi pe op xt ∷ h) cast)
           (cond b (record { tlbi = Tlbi pe op xt; before = h } ∷ unanswered itself q h) (unanswered itself q h))
           ≡ (not (reads_for_some heading (Tlbi pe op xt ∷ h) p tag) && ((b && (is_cast cast (Tlbi pe op xt)
-          && (reaches heading (Tlbi pe op xt) p && takes_tag heading (Tlbi pe op xt) h tag))) || awaits heading p tag h cast q))
+          && (reaches heading (Tlbi pe op xt) p && takes_tag heading (Tlbi pe op xt) h tag)))
+          || awaits heading p tag h cast q))
       by_case true =
-          ap (λ (b : Bool). b || any (would_take heading p tag (Tlbi pe op xt ∷ h) cast) (unanswered itself q h)) (takes-first (Tlbi pe op xt) h cast)
+          ap (λ (b : Bool). b || any (would_take heading p tag (Tlbi pe op xt ∷ h) cast) (unanswered itself q h))
+          (takes-first (Tlbi pe op xt) h cast)
           ∙ ap (λ (b : Bool). (not (reads_for_some heading (Tlbi pe op xt ∷ h) p tag) && (is_cast cast (Tlbi pe op xt)
           && (reaches heading (Tlbi pe op xt) p && takes_tag heading (Tlbi pe op xt) h tag))) || b) before
           ∙ ands_of_first (not (reads_for_some heading (Tlbi pe op xt ∷ h) p tag)) (is_cast cast (Tlbi pe op xt)
-          && (reaches heading (Tlbi pe op xt) p && takes_tag heading (Tlbi pe op xt) h tag)) (awaits heading p tag h cast q)
+          && (reaches heading (Tlbi pe op xt) p && takes_tag heading (Tlbi pe op xt) h tag))
+          (awaits heading p tag h cast q)
       by_case false = before
   awaits-next (Dsb pe dsb) h cast q = by_case (pe == q)
     where
       by_case : (b : Bool) → any (would_take heading p tag (Dsb pe dsb ∷ h) cast)
           (cond b (left_open itself dsb (unanswered itself q h)) (unanswered itself q h))
-          ≡ (not (reads_for_some heading (Dsb pe dsb ∷ h) p tag) && (awaits heading p tag h cast q && not (b && answers dsb cast)))
+          ≡ (not (reads_for_some heading (Dsb pe dsb ∷ h) p tag)
+          && (awaits heading p tag h cast q && not (b && answers dsb cast)))
       by_case true =
-          all-next (Dsb pe dsb) h cast (left_open itself dsb (unanswered itself q h)) (older-left (length h) dsb (unanswered itself q h) (open-older q h))
-          ∙ ap (λ (b : Bool). not (reads_for_some heading (Dsb pe dsb ∷ h) p tag) && b) (left-taking dsb h cast (unanswered itself q h))
+          all-next (Dsb pe dsb) h cast (left_open itself dsb (unanswered itself q h))
+          (older-left (length h) dsb (unanswered itself q h) (open-older q h))
+          ∙ ap (λ (b : Bool). not (reads_for_some heading (Dsb pe dsb ∷ h) p tag) && b)
+          (left-taking dsb h cast (unanswered itself q h))
       by_case false =
           all-next (Dsb pe dsb) h cast (unanswered itself q h) (open-older q h)
-          ∙ ap (λ (b : Bool). not (reads_for_some heading (Dsb pe dsb ∷ h) p tag) && b) (sym (and-true (awaits heading p tag h cast q)))
+          ∙ ap (λ (b : Bool). not (reads_for_some heading (Dsb pe dsb ∷ h) p tag) && b)
+          (sym (and-true (awaits heading p tag h cast q)))
   awaits-next e h cast q = all-next e h cast (unanswered itself q h) (open-older q h)
 
   -- ---- the answer that takes the tag away
 
   taken-by : (q : ℕ) (dsb : Barrier) (h : List Event) (t : Issued Event) → length t.before < length h
       → is_taken_by heading Patterns p tag q dsb h t
-      ≡ ((answers dsb true && would_take heading p tag h true t) || (answers dsb false && would_take heading p tag h false t))
+      ≡ ((answers dsb true && would_take heading p tag h true t)
+      || (answers dsb false && would_take heading p tag h false t))
   taken-by q dsb h t lt =
-      ap (λ (b : Bool). (((completes dsb t.tlbi && reaches heading t.tlbi p) && takes_tag heading t.tlbi t.before tag) && not b) && true) same
-      ∙ by_event t.tlbi (reaches heading t.tlbi p) (takes_tag heading t.tlbi t.before tag) (not (read_since heading (length t.before) p tag h))
+      ap (λ (b : Bool). (((completes dsb t.tlbi && reaches heading t.tlbi p) && takes_tag heading t.tlbi t.before tag)
+      && not b) && true) same
+      ∙ by_event t.tlbi (reaches heading t.tlbi p) (takes_tag heading t.tlbi t.before tag)
+      (not (read_since heading (length t.before) p tag h))
     where
       same : read_since heading (length t.before) p tag (Dsb q dsb ∷ h) ≡ read_since heading (length t.before) p tag h
       same =
           read-next (length t.before) (Dsb q dsb) h (omega arith)
-          ∙ ap (λ (b : Bool). b || read_since heading (length t.before) p tag h) (same-reads-some heading (Dsb q dsb) h p tag refl)
+          ∙ ap (λ (b : Bool). b || read_since heading (length t.before) p tag h)
+          (same-reads-some heading (Dsb q dsb) h p tag refl)
           ∙ read-present (length t.before) h lt
 
       by_event : (e : Event) (r k n : Bool) → ((((completes dsb e && r) && k) && n) && true)
-          ≡ ((answers dsb true && (is_cast true e && (r && (k && n)))) || (answers dsb false && (is_cast false e && (r && (k && n)))))
+          ≡ ((answers dsb true && (is_cast true e && (r && (k && n))))
+          || (answers dsb false && (is_cast false e && (r && (k && n)))))
       by_event (Tlbi pe op xt) r k n = by_case (operation op).broadcast
         where
           by_case : (b : Bool) → ((((answers dsb b && r) && k) && n) && true)
@@ -182,7 +211,8 @@ module _ (heading : Heading) (p : ℕ) (tag : Tag) where
 
   all-taken : (q : ℕ) (dsb : Barrier) (h : List Event) (ts : List (Issued Event)) → older (length h) ts
       → any (is_taken_by heading Patterns p tag q dsb h) ts
-      ≡ ((answers dsb true && any (would_take heading p tag h true) ts) || (answers dsb false && any (would_take heading p tag h false) ts))
+      ≡ ((answers dsb true && any (would_take heading p tag h true) ts)
+      || (answers dsb false && any (would_take heading p tag h false) ts))
   all-taken q dsb h [] k = by_case (answers dsb true) (answers dsb false)
     where
       by_case : (a f : Bool) → false ≡ ((a && false) || (f && false))
@@ -192,9 +222,11 @@ module _ (heading : Heading) (p : ℕ) (tag : Tag) where
       by_case false false = refl
   all-taken q dsb h (t ∷ ts) k =
       ap (λ (b : Bool). b || any (is_taken_by heading Patterns p tag q dsb h) ts) (taken-by q dsb h t k.0)
-      ∙ ap (λ (b : Bool). ((answers dsb true && would_take heading p tag h true t) || (answers dsb false && would_take heading p tag h false t)) || b)
+      ∙ ap (λ (b : Bool). ((answers dsb true && would_take heading p tag h true t)
+      || (answers dsb false && would_take heading p tag h false t)) || b)
       (all-taken q dsb h ts k.1)
-      ∙ both_of_two (answers dsb true) (answers dsb false) (would_take heading p tag h true t) (would_take heading p tag h false t)
+      ∙ both_of_two (answers dsb true) (answers dsb false) (would_take heading p tag h true t)
+      (would_take heading p tag h false t)
       (any (would_take heading p tag h true) ts) (any (would_take heading p tag h false) ts)
 
   pub loses-next : (e : Event) (h : List Event) → loses heading Patterns p tag e h
@@ -204,7 +236,8 @@ module _ (heading : Heading) (p : ℕ) (tag : Tag) where
 
   -- ---- what is kept, after one more event
 
-  loses-same : (e : Event) (f f' g g' : ℕ → Bool) → ((q : ℕ) → f q ≡ f' q) → ((q : ℕ) → g q ≡ g' q) → loses_by e f g ≡ loses_by e f' g'
+  loses-same : (e : Event) (f f' g g' : ℕ → Bool) → ((q : ℕ) → f q ≡ f' q) → ((q : ℕ) → g q ≡ g' q)
+      → loses_by e f g ≡ loses_by e f' g'
   loses-same (Dsb q dsb) f f' g g' i j =
       ap (λ (b : Bool). (answers dsb true && b) || (answers dsb false && g q)) (i q)
       ∙ ap (λ (b : Bool). (answers dsb true && f' q) || (answers dsb false && b)) (j q)
@@ -214,11 +247,14 @@ module _ (heading : Heading) (p : ℕ) (tag : Tag) where
   same-whole : (e : Event) (h : List Event) (cast whole : Bool) (q : ℕ) (b : Bool)
       → (reads_for_some heading h p tag ≡ false → whole ≡ (reaches heading e p && takes_tag heading e h tag))
       → awaits_after cast whole (reads_for_some heading (e ∷ h) p tag) e q b
-      ≡ awaits_after cast (reaches heading e p && takes_tag heading e h tag) (reads_for_some heading (e ∷ h) p tag) e q b
+      ≡ awaits_after cast (reaches heading e p && takes_tag heading e h tag)
+      (reads_for_some heading (e ∷ h) p tag) e q b
   same-whole (Tlbi pe op xt) h cast whole q b k = by_case (reads_for_some heading (Tlbi pe op xt ∷ h) p tag) refl
     where
-      by_case : (s : Bool) → reads_for_some heading (Tlbi pe op xt ∷ h) p tag ≡ s → awaits_after cast whole s (Tlbi pe op xt) q b
-          ≡ awaits_after cast (reaches heading (Tlbi pe op xt) p && takes_tag heading (Tlbi pe op xt) h tag) s (Tlbi pe op xt) q b
+      by_case : (s : Bool) → reads_for_some heading (Tlbi pe op xt ∷ h) p tag ≡ s
+          → awaits_after cast whole s (Tlbi pe op xt) q b
+          ≡ awaits_after cast (reaches heading (Tlbi pe op xt) p && takes_tag heading (Tlbi pe op xt) h tag) s
+          (Tlbi pe op xt) q b
       by_case true e = refl
       by_case false e = ap (λ (w : Bool). (pe == q && (is_cast cast (Tlbi pe op xt) && w)) || b)
           (k (sym (same-reads-some heading (Tlbi pe op xt) h p tag refl) ∙ e))
@@ -248,7 +284,8 @@ module _ (heading : Heading) (p : ℕ) (tag : Tag) where
         ∙ ap (λ (b : Bool). b || (old.holds && not lost)) looks.reads
         ∙ ap (λ (b : Bool). reads heading (e ∷ h) p tag root || (b && not lost)) k.holds
         ∙ ap (λ (b : Bool). reads heading (e ∷ h) p tag root || (holds_at heading Patterns p root tag h && not b))
-        (losing ∙ loses-same e (pe_in old.broadcast) (awaits heading p tag h true) (pe_in old.local) (awaits heading p tag h false) k.broadcast k.local
+        (losing ∙ loses-same e (pe_in old.broadcast) (awaits heading p tag h true) (pe_in old.local)
+        (awaits heading p tag h false) k.broadcast k.local
         ∙ sym (loses-next e h));
     local = λ q. awaits-kept e h false whole new.reads_some q (pe_in old.local q) (pe_in new.local q)
         (λ none. taken (k.looks.reads_some ∙ none)) looks.reads_some (k.local q) (local q);

@@ -4,9 +4,10 @@ ghost use Rattle.std.specs.Prelude.{IfOk};
 ghost use Rattle.bbm_rules.specs.Claims.{Patterns};
 
 use crate::evidence::TagEvidence;
+use crate::holding::Holding;
 use crate::tags::holds_at;
 use bbm_events::{Event, Header};
-use bbm_regimes::{NoMemory, Pe, Tag};
+use bbm_regimes::NoMemory;
 use std::alloc::Global;
 
 /// Every pattern of events is trusted. It keeps nothing: each answer is searched in the events. Source: project's own
@@ -24,11 +25,9 @@ impl TagEvidence for AllPatterns {
         alloc: Global,
         header: &Header,
         events: &[Event],
-        pe: Pe,
-        root: u64,
-        tag: Tag,
+        asked: &Holding,
     ) -> Result<bool, NoMemory> {
-        holds_at(alloc, header, events, pe, root, tag)
+        holds_at(alloc, header, events, asked)
     }
 
     ghost knows_write = { λ all heading h pe reg value known. tt };

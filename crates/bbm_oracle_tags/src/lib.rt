@@ -5,6 +5,7 @@
 
 mod all_patterns;
 pub mod evidence;
+pub mod holding;
 pub mod limits;
 pub mod locks;
 mod moment;
@@ -21,6 +22,7 @@ mod watch;
 
 pub use all_patterns::AllPatterns;
 pub use evidence::TagEvidence;
+pub use holding::Holding;
 pub use limits::limit_of;
 pub use locks::{holder_of, lacks};
 pub use numbers::least;

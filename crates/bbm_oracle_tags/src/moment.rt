@@ -1,7 +1,6 @@
 //! What one PE may use at a moment of a walk over the events.
 
 ghost use Rattle.std.specs.Prelude.{◌≡◌, ◌++◌, List, [], ◌∷◌, filter_map, flat_map, option_to_list, IfOk, OnOk};
-ghost use Rattle.bbm_regimes.specs.declared.regime.Kind.TheVariants.{Ttbr0};
 ghost use Rattle.bbm_events.specs.declared.event.Event.{Event};
 ghost use Rattle.bbm_rules.specs.RegisterValues.{register_values};
 ghost use Rattle.bbm_rules.specs.Roots.{roots_of};
@@ -51,7 +50,7 @@ fn at_start(alloc: Global) -> Result<Vec<u64>, NoMemory>
     ensures { IfOk result (λ values. values.items ≡ 0 ∷ []) }
 {
     let mut values = Vec::new(alloc);
-    values.push(0).map_err(|_| NoMemory)?;
+    values.push(0)?;
     Ok(values)
 }
 
@@ -102,7 +101,10 @@ fn add_reading(
         ≡ readings.old.items ++ option_to_list (spec.reading_in roots.now kind tag value)) }
 {
     match reading_in(roots, kind, tag, value) {
-        Some(reading) => readings.push(reading).map_err(|_| NoMemory),
+        Some(reading) => {
+            readings.push(reading)?;
+            Ok(())
+        }
         None => Ok(()),
     }
 }
@@ -168,9 +170,6 @@ fn add_each(
 }
 
 impl Moment {
-    ghost use Rattle.std.specs.Prelude.{ℕ};
-    ghost use Rattle.bbm_events.specs.Heading.{Heading};
-
     /// The moment before any event. `NoMemory` where there is none.
     pub fn new(alloc: Global) -> Result<Moment, NoMemory>
         ensures roots { IfOk result (λ moment. moment.roots.items ≡ []) }

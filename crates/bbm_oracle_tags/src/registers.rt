@@ -1,7 +1,7 @@
 //! The root registers of a PE, the VMID that it uses, and what its TLBIs name.
 //! Source: project's own choice, where no other is named.
 
-ghost use Rattle.std.specs.Prelude.{◌≡◌, ℕ, ◌==◌, List, ◌∷◌, reverse, map, IfOk, OnOk};
+ghost use Rattle.std.specs.Prelude.{◌≡◌, ◌==◌, List, ◌∷◌, reverse, map, IfOk, OnOk};
 ghost use Rattle.bbm_events.specs.declared.event.Event.{Event};
 ghost use Rattle.bbm_rules.specs.Lists.{every, one_number as only_number};
 ghost use Rattle.bbm_rules.specs.RegisterValues as spec;
@@ -15,7 +15,8 @@ use std::alloc::Global;
 fn put_value(values: &mut Vec<u64>, value: u64) -> Result<(), NoMemory>
     ensures { OnOk result (values.new.items ≡ value ∷ values.old.items) }
 {
-    values.insert(0, value).map_err(|_| NoMemory)
+    values.insert(0, value)?;
+    Ok(())
 }
 
 /// The readable values of the PE's register after one more event. `NoMemory` where there is none.

@@ -55,7 +55,8 @@ fn retire(roots: &mut Vec<Declared>, page: Page)
 fn put_root(roots: &mut Vec<Declared>, root: Declared) -> Result<(), NoMemory>
     ensures { OnOk result (roots.new.items ≡ root ∷ roots.old.items) }
 {
-    roots.insert(0, root).map_err(|_| NoMemory)
+    roots.insert(0, root)?;
+    Ok(())
 }
 
 /// The roots after one more event. `NoMemory` where there is none.

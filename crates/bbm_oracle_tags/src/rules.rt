@@ -4,7 +4,7 @@
 //! Source: project's own choice, where no other is named.
 
 ghost use Rattle.std.specs.Prelude.{◌≡◌, not, ◌&&◌, ◌||◌, nat_le, nat_lt, ◌==◌, ◌%◌, length, flat_map, option_and_then};
-ghost use Rattle.std.specs.Prelude.{◌∷◌, ◌++◌, [], List, reverse, IfOk, OnOk};
+ghost use Rattle.std.specs.Prelude.{◌∷◌, ◌++◌, [], List, option_to_list, reverse, IfOk, OnOk};
 ghost use Rattle.bbm_regimes.specs.declared.regime.Reg.TheVariants.{Ttbr0El1};
 ghost use Rattle.bbm_regimes.specs.declared.regime.Tag.{Tag as TheTag};
 ghost use Rattle.bbm_events.specs.Heading.{Heading};
@@ -138,75 +138,89 @@ fn with_event(alloc: Global, events: &[Event], event: &Event) -> Result<Vec<Even
     ensures { IfOk result (λ all. all.items ≡ events.now ++ event.now ∷ []) }
 {
     let mut all = Vec::new(alloc);
-    all.extend_from_slice(events).map_err(|_| NoMemory)?;
-    all.push(*event).map_err(|_| NoMemory)?;
+    all.extend_from_slice(events)?;
+    all.push(*event)?;
     Ok(all)
 }
 
-/// Adds the first page of the root, where it is another than that of the reading and holds the reading's tag.
-fn add_holder<E: TagEvidence>(
+/// The first page of the root, where it is another than that of the reading and holds the reading's tag.
+fn other_holder<E: TagEvidence>(
     alloc: Global,
-    pages: &mut Vec<u64>,
     evidence: &E,
     header: &Header,
     after: &[Event],
     reading: &Reading,
     root: &Declared,
-) -> Result<(), NoMemory>
+) -> Result<Option<u64>, NoMemory>
     requires { E.knows evidence.now header.now (reverse after.now) }
-    ensures { OnOk result (pages.new.items ≡ pages.old.items
-        ++ clashes.holder_pages header.now (E.trust evidence.now) (reverse after.now) reading.now (root.now ∷ [])) }
+    ensures { IfOk result (λ page. option_to_list page
+        ≡ clashes.holder_pages header.now (E.trust evidence.now) (reverse after.now) reading.now (root.now ∷ [])) }
 {
     let page = root.page.get();
     if page == reading.root {
-        return Ok(());
+        return Ok(None);
     }
     if holds_tag(alloc, evidence, header, after, page, reading.tag)? {
-        pages.push(page).map_err(|_| NoMemory)
+        Ok(Some(page))
     } else {
-        Ok(())
+        Ok(None)
     }
 }
 
-/// Adds the first pages of the other roots that hold the reading's tag.
-fn add_holders<E: TagEvidence>(
+/// Adds the page, where there is one.
+fn add_page(pages: &mut Vec<u64>, page: Option<u64>) -> Result<(), NoMemory>
+    ensures { OnOk result (pages.new.items ≡ pages.old.items ++ option_to_list page) }
+{
+    match page {
+        Some(page) => {
+            pages.push(page)?;
+            Ok(())
+        }
+        None => Ok(()),
+    }
+}
+
+/// The first pages of the other roots that hold the reading's tag.
+fn other_holders<E: TagEvidence>(
     alloc: Global,
-    pages: &mut Vec<u64>,
     evidence: &E,
     header: &Header,
     after: &[Event],
     reading: &Reading,
     roots: &[Declared],
-) -> Result<(), NoMemory>
+) -> Result<Vec<u64>, NoMemory>
     requires { E.knows evidence.now header.now (reverse after.now) }
-    ensures { OnOk result (pages.new.items ≡ pages.old.items
-        ++ clashes.holder_pages header.now (E.trust evidence.now) (reverse after.now) reading.now roots.now) }
+    ensures { IfOk result (λ pages. pages.items
+        ≡ clashes.holder_pages header.now (E.trust evidence.now) (reverse after.now) reading.now roots.now) }
 {
+    let mut pages = Vec::new(alloc);
     for root in roots {
-        add_holder(alloc, pages, evidence, header, after, reading, root)?;
+        let page = other_holder(alloc, evidence, header, after, reading, root)?;
+        add_page(&mut pages, page)?;
     }
-    Ok(())
+    Ok(pages)
 }
 
-/// Adds the first pages of the roots that hold the tag of a reading for another root.
-fn add_conflicts<E: TagEvidence>(
+/// The first pages of the roots that hold the tag of a reading for another root.
+fn holders_of_each<E: TagEvidence>(
     alloc: Global,
-    pages: &mut Vec<u64>,
     evidence: &E,
     header: &Header,
     after: &[Event],
     readings: &[Reading],
     roots: &[Declared],
-) -> Result<(), NoMemory>
+) -> Result<Vec<u64>, NoMemory>
     requires { E.knows evidence.now header.now (reverse after.now) }
-    ensures { OnOk result (pages.new.items ≡ pages.old.items
-        ++ flat_map (λ reading. clashes.holder_pages header.now (E.trust evidence.now)
+    ensures { IfOk result (λ pages. pages.items
+        ≡ flat_map (λ reading. clashes.holder_pages header.now (E.trust evidence.now)
         (reverse after.now) reading roots.now) readings.now) }
 {
+    let mut pages = Vec::new(alloc);
     for reading in readings {
-        add_holders(alloc, pages, evidence, header, after, reading, roots)?;
+        let holders = other_holders(alloc, evidence, header, after, reading, roots)?;
+        pages.extend_from_slice(&holders)?;
     }
-    Ok(())
+    Ok(pages)
 }
 
 /// The first pages of roots that hold a tag which is readable at the PE for another root.
@@ -223,10 +237,7 @@ fn conflicts<E: TagEvidence>(
 {
     let roots = roots_of(alloc, after)?;
     let readings = readings_at(alloc, header, after, pe)?;
-    let mut pages = Vec::new(alloc);
-    add_conflicts(
-        alloc, &mut pages, evidence, header, after, &readings, &roots,
-    )?;
+    let pages = holders_of_each(alloc, evidence, header, after, &readings, &roots)?;
     Ok(pages)
 }
 

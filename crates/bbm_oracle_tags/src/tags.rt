@@ -9,6 +9,7 @@ ghost use Rattle.bbm_oracle_tags.specs.Moments as moments;
 ghost use Rattle.bbm_oracle_tags.specs.HeldTagSets as sets;
 
 use crate::evidence::TagEvidence;
+use crate::holding::Holding;
 use crate::moment::Moment;
 use crate::readings::Reading;
 use crate::watch::{Watch, changes_readings};
@@ -18,21 +19,20 @@ use bbm_rules::{law_equality_tests, law_tag_set};
 use bbm_tlbi_scope::{TagSet, with_tag};
 use std::alloc::Global;
 
-/// Whether the root with this first page, by its address in bytes, holds the tag at the PE. `NoMemory` where there is
-/// none. Source: project's own choice, after Arm ARM (DDI 0487), "Translation Lookaside Buffers".
+/// Whether the root holds the tag at the PE. `NoMemory` where there is none. Source: project's own choice, after Arm ARM
+/// (DDI 0487), "Translation Lookaside Buffers".
 pub fn holds_at(
     alloc: Global,
     header: &Header,
     events: &[Event],
-    pe: Pe,
-    root: u64,
-    tag: Tag,
+    asked: &Holding,
 ) -> Result<bool, NoMemory>
-    ensures { IfOk result (λ holds. holds ≡ spec.holds_at header.now Patterns pe root tag (reverse events.now)) }
+    ensures { IfOk result (λ holds. holds ≡ spec.holds_at header.now Patterns asked.now.pe asked.now.root asked.now.tag
+        (reverse events.now)) }
 {
     let mut watch = Watch::new(alloc)?;
     for (i, event) in events.iter().enumerate() {
-        watch.take(alloc, header, &events[..i], event, pe, root, tag)?;
+        watch.take(alloc, header, &events[..i], event, asked)?;
     }
     Ok(watch.holds)
 }
@@ -53,7 +53,8 @@ pub fn holds_tag<E: TagEvidence>(
 {
     for number in 0..header.pes {
         let pe = Pe::new(number).unwrap();
-        if evidence.holds_at(alloc, header, events, pe, root, tag)? {
+        let asked = Holding { pe, root, tag };
+        if evidence.holds_at(alloc, header, events, &asked)? {
             return Ok(true);
         }
     }
@@ -69,23 +70,20 @@ fn has_tag(tags: &[Tag], tag: Tag) -> bool
 
 /// Adds the tag, unless it is there already.
 fn add_tag(tags: &mut Vec<Tag>, tag: Tag) -> Result<(), NoMemory>
-    ensures kept { OnOk result ((g : TheTag) → sets.has_tag g tags.old.items ≡ true
-        → sets.has_tag g tags.new.items ≡ true) }
-    ensures added { OnOk result ((g : TheTag) → is_same_tag tag g ≡ true → sets.has_tag g tags.new.items ≡ true) }
+    ensures { OnOk result (sets.Adds (λ g. is_same_tag tag g) tags.old.items tags.new.items) }
 {
     if has_tag(tags, tag) {
         Ok(())
     } else {
-        tags.push(tag).map_err(|_| NoMemory)
+        tags.push(tag)?;
+        Ok(())
     }
 }
 
 /// Adds the tag of the reading, where it is one of the root.
 fn add_reading(tags: &mut Vec<Tag>, reading: &Reading, root: u64) -> Result<(), NoMemory>
-    ensures kept { OnOk result ((g : TheTag) → sets.has_tag g tags.old.items ≡ true
-        → sets.has_tag g tags.new.items ≡ true) }
-    ensures added { OnOk result ((g : TheTag) → (is_same_tag reading.now.tag g && reading.now.root == root) ≡ true
-        → sets.has_tag g tags.new.items ≡ true) }
+    ensures { OnOk result (sets.Adds (λ g. is_same_tag reading.now.tag g && reading.now.root == root)
+        tags.old.items tags.new.items) }
 {
     if reading.root == root {
         add_tag(tags, reading.tag)
@@ -96,10 +94,7 @@ fn add_reading(tags: &mut Vec<Tag>, reading: &Reading, root: u64) -> Result<(), 
 
 /// Adds the tags that are readable for the root.
 fn add_readings(tags: &mut Vec<Tag>, readings: &[Reading], root: u64) -> Result<(), NoMemory>
-    ensures kept { OnOk result ((g : TheTag) → sets.has_tag g tags.old.items ≡ true
-        → sets.has_tag g tags.new.items ≡ true) }
-    ensures added { OnOk result ((g : TheTag) → moments.is_read readings.now g root ≡ true
-        → sets.has_tag g tags.new.items ≡ true) }
+    ensures { OnOk result (sets.Adds (λ g. moments.is_read readings.now g root) tags.old.items tags.new.items) }
 {
     for reading in readings {
         add_reading(tags, reading, root)?;
@@ -140,10 +135,8 @@ fn add_read_at(
     pe: Pe,
     root: u64,
 ) -> Result<(), NoMemory>
-    ensures kept { OnOk result ((g : TheTag) → sets.has_tag g tags.old.items ≡ true
-        → sets.has_tag g tags.new.items ≡ true) }
-    ensures added { OnOk result ((g : TheTag) → sets.was_read header.now pe root g (reverse events.now) ≡ true
-        → sets.has_tag g tags.new.items ≡ true) }
+    ensures { OnOk result (sets.Adds (λ g. sets.was_read header.now pe root g (reverse events.now))
+        tags.old.items tags.new.items) }
 {
     let mut moment = Moment::new(alloc)?;
     for event in events {
@@ -171,26 +164,13 @@ fn candidates(
     Ok(tags)
 }
 
-/// The set with the tag, where the root holds it.
-fn with_held<E: TagEvidence>(
-    alloc: Global,
-    evidence: &E,
-    header: &Header,
-    events: &[Event],
-    root: u64,
-    set: TagSet,
-    tag: Tag,
-) -> Result<TagSet, NoMemory>
-    requires { E.knows evidence.now header.now (reverse events.now) }
-    ensures { IfOk result (λ after. (test : TheTag → Bool) → sets.HasTags test set → sets.HasTags (λ g. test g
-        || (is_same_tag tag g && spec.holds_tag header.now (E.trust evidence.now) root g (reverse events.now))) after) }
+/// The set with the tag, where a root holds it.
+fn with_held(set: TagSet, tag: Tag, holds: bool) -> TagSet
+    ensures { (test held : TheTag → Bool) → sets.HasTags test set → holds ≡ held tag
+        → sets.HasTags (λ g. test g || (is_same_tag tag g && held g)) result }
 {
     law_equality_tests();
-    if holds_tag(alloc, evidence, header, events, root, tag)? {
-        Ok(with_tag(set, tag))
-    } else {
-        Ok(set)
-    }
+    if holds { with_tag(set, tag) } else { set }
 }
 
 /// Those of the tags that the root holds.
@@ -208,7 +188,8 @@ fn held_among<E: TagEvidence>(
 {
     let mut set = TagSet::None;
     for tag in tags {
-        set = with_held(alloc, evidence, header, events, root, set, *tag)?;
+        let holds = holds_tag(alloc, evidence, header, events, root, *tag)?;
+        set = with_held(set, *tag, holds);
     }
     Ok(set)
 }

@@ -50,7 +50,8 @@ fn put_place(places: &mut Vec<Place>, place: Place) -> Result<(), NoMemory>
     if has_place(places, place) {
         Ok(())
     } else {
-        places.insert(0, place).map_err(|_| NoMemory)
+        places.insert(0, place)?;
+        Ok(())
     }
 }
 

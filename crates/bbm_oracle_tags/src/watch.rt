@@ -8,13 +8,13 @@ ghost use Rattle.bbm_tlbi_scope.specs.ScopeTags.{takes_whole_tag};
 ghost use Rattle.bbm_tlbi_scope.specs.declared.scope.Scope.{Scope as TheScope};
 ghost use Rattle.bbm_events.specs.Heading.{Heading};
 ghost use Rattle.bbm_events.specs.declared.event.Event.{Event};
-ghost use Rattle.bbm_events.specs.declared.event.Event.TheVariants.{Tlbi};
 ghost use Rattle.bbm_rules.specs.Changes.{changes};
 ghost use Rattle.bbm_rules.specs.Reach as reach;
 ghost use Rattle.bbm_rules.specs.RegisterValues as registers;
 ghost use Rattle.bbm_rules.specs.Tags as tags;
 ghost use Rattle.bbm_oracle_tags.specs.Watches as spec;
 
+use crate::holding::Holding;
 use crate::moment::Moment;
 use crate::reach::reaches;
 use crate::readings::{is_read, is_read_for_some};
@@ -22,7 +22,7 @@ use crate::registers::vmid_of;
 use bbm_barriers::{Dsb, completes_broadcast, completes_local};
 use bbm_events::{Event, Header};
 use bbm_regimes::{NoMemory, Pe, PeMask, Tag};
-use bbm_tlbi_scope::{Family, Scope, TlbiOp, decode, whole_tag};
+use bbm_tlbi_scope::{Family, Scope, decode, whole_tag};
 use std::alloc::Global;
 
 /// One tag of a root at one PE, at a moment of a walk over the events. Source: project's own choice.
@@ -84,21 +84,22 @@ fn takes_under(
     Ok(whole_tag(scope, vmid, tag))
 }
 
-/// Whether the TLBI, after these events, takes the whole tag.
-fn takes_by(
+/// Whether the event, after these, is a TLBI that takes the whole tag.
+fn takes_tag(
     alloc: Global,
     header: &Header,
     before: &[Event],
-    pe: Pe,
-    op: TlbiOp,
-    xt: u64,
+    event: &Event,
     tag: Tag,
 ) -> Result<bool, NoMemory>
-    ensures { IfOk result (λ takes. takes ≡ tags.takes_tag header.now (Tlbi pe op xt) (reverse before.now) tag) }
+    ensures { IfOk result (λ takes. takes ≡ tags.takes_tag header.now event.now (reverse before.now) tag) }
 {
-    match decode(op, xt) {
-        Ok(scope) => takes_under(alloc, header, before, pe, scope, tag),
-        Err(_) => Ok(false),
+    match *event {
+        Event::Tlbi { pe, op, xt } => match decode(op, xt) {
+            Ok(scope) => takes_under(alloc, header, before, pe, scope, tag),
+            Err(_) => Ok(false),
+        },
+        _ => Ok(false),
     }
 }
 
@@ -109,22 +110,16 @@ fn takes(
     header: &Header,
     before: &[Event],
     event: &Event,
-    pe: Pe,
-    tag: Tag,
+    asked: &Holding,
     reads_some: bool,
 ) -> Result<bool, NoMemory>
-    ensures { reads_some ≡ false → IfOk result (λ takes. takes ≡ (reach.reaches header.now event.now pe
-        && tags.takes_tag header.now event.now (reverse before.now) tag)) }
+    ensures { reads_some ≡ false → IfOk result (λ takes. takes ≡ (reach.reaches header.now event.now asked.now.pe
+        && tags.takes_tag header.now event.now (reverse before.now) asked.now.tag)) }
 {
-    if reads_some || !reaches(header, event, pe) {
+    if reads_some || !reaches(header, event, asked.pe) {
         return Ok(false);
     }
-    match *event {
-        Event::Tlbi { pe: issuer, op, xt } => {
-            takes_by(alloc, header, before, issuer, op, xt, tag)
-        }
-        _ => Ok(false),
-    }
+    takes_tag(alloc, header, before, event, asked.tag)
 }
 
 /// Whether the DSB completes TLBIs of this sort, broadcast or not.
@@ -222,21 +217,20 @@ impl Watch {
         alloc: Global,
         header: &Header,
         event: &Event,
-        pe: Pe,
-        root: u64,
-        tag: Tag,
+        asked: &Holding,
     ) -> Result<(), NoMemory>
-        ensures looks { OnOk result ((h : List Event) → spec.Looks header.now pe root tag h self.old
-            → spec.Looks header.now pe root tag (event.now ∷ h) self.new) }
+        ensures looks { OnOk result ((h : List Event)
+            → spec.Looks header.now asked.now.pe asked.now.root asked.now.tag h self.old
+            → spec.Looks header.now asked.now.pe asked.now.root asked.now.tag (event.now ∷ h) self.new) }
         ensures holds { self.new.holds ≡ self.old.holds }
         ensures local { self.new.local ≡ self.old.local }
         ensures broadcast { self.new.broadcast ≡ self.old.broadcast }
     {
-        self.moment.take(header, event, pe)?;
+        self.moment.take(header, event, asked.pe)?;
         if changes_readings(event) {
             let readings = self.moment.readings(alloc, header)?;
-            self.reads = is_read(&readings, tag, root);
-            self.reads_some = is_read_for_some(&readings, tag);
+            self.reads = is_read(&readings, asked.tag, asked.root);
+            self.reads_some = is_read_for_some(&readings, asked.tag);
         }
         Ok(())
     }
@@ -248,16 +242,15 @@ impl Watch {
         header: &Header,
         before: &[Event],
         event: &Event,
-        pe: Pe,
-        root: u64,
-        tag: Tag,
+        asked: &Holding,
     ) -> Result<(), NoMemory>
-        ensures { OnOk result (IsWatch header.now pe root tag (reverse before.now) self.old
-            → IsWatch header.now pe root tag (event.now ∷ reverse before.now) self.new) }
+        ensures { OnOk result (
+            IsWatch header.now asked.now.pe asked.now.root asked.now.tag (reverse before.now) self.old
+            → IsWatch header.now asked.now.pe asked.now.root asked.now.tag (event.now ∷ reverse before.now) self.new) }
     {
-        let whole = takes(alloc, header, before, event, pe, tag, self.reads_some)?;
+        let whole = takes(alloc, header, before, event, asked, self.reads_some)?;
         let lost = loses(event, self.broadcast, self.local);
-        self.look(alloc, header, event, pe, root, tag)?;
+        self.look(alloc, header, event, asked)?;
         self.holds = holds_after(self.reads, self.holds, lost);
         self.local = awaiting_after(self.local, event, false, whole, self.reads_some);
         self.broadcast = awaiting_after(self.broadcast, event, true, whole, self.reads_some);

@@ -3,7 +3,7 @@
 use crate::events::{BELOW, BLOCK, HEADER, MOVED, PLACE, ROOT, TABLE, TABLE_PLACE, events, write};
 use bbm_events::{Event, fits};
 use bbm_judge::{admit, check_limit, count_restless, judge};
-use bbm_oracle_patterns::{Kept, cleansed_everywhere, held, last_valid, phase_in, trace_of};
+use bbm_oracle_patterns::{Kept, Seat, cleansed_everywhere, held, last_valid, phase_in, trace_of};
 use bbm_oracle_tags::AllPatterns;
 use bbm_regimes::{Kind, Page, Pe, Place, Tag};
 use bbm_rules::{Phase, Rule, StepFault};
@@ -73,9 +73,14 @@ fn said(history: &History) -> Option<Said> {
     let place = Place::new(PLACE)?;
     let pe = Pe::new(1)?;
     let log = history.log();
+    let seat = Seat {
+        place,
+        kind: Kind::El2,
+        level: 1,
+    };
     Some((
         held(&AllPatterns, &HEADER, log, Kind::El2, 1, place),
-        phase_in(&AllPatterns, &HEADER, log, Kind::El2, 1, place, 0, pe),
+        phase_in(&AllPatterns, &HEADER, log, &seat, 0, pe),
         history.phase(place, pe),
         count_restless(history),
     ))

@@ -15,7 +15,7 @@ use bbm_oracle_tags::registers::{named_scope, register_values, vmid_of};
 use bbm_oracle_tags::roots::{is_root, lock_of, root_at, roots_of};
 use bbm_oracle_tags::tags::{holds_at, holds_tag, tag_set_of};
 use bbm_oracle_tags::values::{places_in, value_of};
-use bbm_oracle_tags::{AllPatterns, rules};
+use bbm_oracle_tags::{AllPatterns, Holding, rules};
 use bbm_regimes::{Kind, Page, Pe, Place, Reg, Tag, Which};
 use bbm_tlbi_scope::{TagSet, TlbiOp};
 use std::alloc::Global;
@@ -77,7 +77,12 @@ fn tells_tags(alloc: Global) -> Option<bool> {
     let all = events()?;
     let pe = Pe::new(0)?;
     let read = readings_at(alloc, &HEADER, &all, pe).ok()?;
-    let here = holds_at(alloc, &HEADER, &all, pe, ROOT, Tag::El2).ok()?;
+    let asked = Holding {
+        pe,
+        root: ROOT,
+        tag: Tag::El2,
+    };
+    let here = holds_at(alloc, &HEADER, &all, &asked).ok()?;
     let held = holds_tag(alloc, &AllPatterns, &HEADER, &all, ROOT, Tag::El2).ok()?;
     let tags = tag_set_of(alloc, &AllPatterns, &HEADER, &all, ROOT).ok()?;
     Some(read.len() == 1 && here && held && tags == TagSet::One(Tag::El2))

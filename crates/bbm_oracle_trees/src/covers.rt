@@ -35,6 +35,24 @@ pub struct RootTags {
     pub tags: TagSet,
 }
 
+/// The trees of a log, and the tags of its roots.
+#[derive(Clone, Copy)]
+struct Known<'a> {
+    /// The pages of the trees.
+    tree: &'a [Node],
+    /// The tags of each declared root.
+    tags: &'a [RootTags],
+}
+
+/// What a TLBI names at its issue.
+#[derive(Clone, Copy)]
+struct NamedTlbi {
+    /// What it is for.
+    scope: Scope,
+    /// The VMID of its issuer, None where there are several.
+    vmid: Option<u16>,
+}
+
 /// The tags of each declared root.
 fn root_tags<E: Evidence>(alloc: Global, log: &Log<E>) -> Result<Vec<RootTags>, NoMemory>
     ensures { IfOk result (λ known. AreTags log.now.heading log.now.trust (events_of (notes log.now)) known.items) }
@@ -42,12 +60,10 @@ fn root_tags<E: Evidence>(alloc: Global, log: &Log<E>) -> Result<Vec<RootTags>, 
     let mut known = Vec::new(alloc);
     for root in &log.roots(alloc)? {
         let tags = log.tag_set_of(alloc, root.page)?;
-        known
-            .push(RootTags {
-                root: root.page,
-                tags,
-            })
-            .map_err(|_| NoMemory)?;
+        known.push(RootTags {
+            root: root.page,
+            tags,
+        })?;
     }
     Ok(known)
 }
@@ -115,51 +131,48 @@ fn misses(scope: &Scope, region: Interval) -> bool
     scope.family.has_page() && !scope.names_some(region) && !scope.names_all(region)
 }
 
-/// How far a TLBI of this scope, under this VMID, covers a place of the page. What the place holds is asked only where
-/// the TLBI is for a page of its region.
+/// How far the TLBI covers a place of the page. What the place holds is asked only where the TLBI is for a page of its
+/// region.
 fn cover_in_node<E: Evidence>(
     alloc: Global,
     log: &Log<E>,
-    known: &[RootTags],
-    scope: &Scope,
-    vmid: Option<u16>,
+    tags: &[RootTags],
+    tlbi: &NamedTlbi,
     node: &Node,
     place: Place,
 ) -> Result<Cover, NoMemory>
-    requires { AreTags log.now.heading log.now.trust (events_of (notes log.now)) known.now }
-    ensures { IfOk result (λ cover. cover ≡ option_map_or
-        (λ value. cover_of scope.now vmid (view_of log.now.heading log.now.trust (notes log.now) node.now place value))
+    requires { AreTags log.now.heading log.now.trust (events_of (notes log.now)) tags.now }
+    ensures { IfOk result (λ cover. cover ≡ option_map_or (λ value. cover_of tlbi.now.scope tlbi.now.vmid
+        (view_of log.now.heading log.now.trust (notes log.now) node.now place value))
         (trees.held_at log.now.heading log.now.trust (notes log.now) node.now place) NoCover) }
 {
-    if misses(scope, node.region(place)) {
+    if misses(&tlbi.scope, node.region(place)) {
         return Ok(Cover::None);
     }
     match log.held(node.kind, node.level, place) {
-        Some(value) => match view(alloc, log, known, node, place, value) {
-            Ok(view) => Ok(cover(*scope, vmid, view)),
-            Err(_) => Err(NoMemory),
-        },
+        Some(value) => {
+            let view = view(alloc, log, tags, node, place, value)?;
+            Ok(cover(tlbi.scope, tlbi.vmid, view))
+        }
         None => Ok(Cover::None),
     }
 }
 
-/// How far a TLBI of this scope, under this VMID, covers the place, where these are the trees.
+/// How far the TLBI covers the place.
 fn cover_at<E: Evidence>(
     alloc: Global,
     log: &Log<E>,
-    tree: &[Node],
-    known: &[RootTags],
-    scope: &Scope,
-    vmid: Option<u16>,
+    known: &Known,
+    tlbi: &NamedTlbi,
     place: Place,
 ) -> Result<Cover, NoMemory>
-    requires tree { tree.now ≡ trees.tree log.now.heading log.now.trust (notes log.now) }
-    requires known { AreTags log.now.heading log.now.trust (events_of (notes log.now)) known.now }
+    requires tree { known.now.tree.now ≡ trees.tree log.now.heading log.now.trust (notes log.now) }
+    requires tags { AreTags log.now.heading log.now.trust (events_of (notes log.now)) known.now.tags.now }
     ensures { IfOk result (λ cover. cover
-        ≡ cover_under log.now.heading log.now.trust (notes log.now) scope.now vmid place) }
+        ≡ cover_under log.now.heading log.now.trust (notes log.now) tlbi.now.scope tlbi.now.vmid place) }
 {
-    match first_of(tree, place.page()) {
-        Some(node) => cover_in_node(alloc, log, known, scope, vmid, node, place),
+    match first_of(known.tree, place.page()) {
+        Some(node) => cover_in_node(alloc, log, known.tags, tlbi, node, place),
         None => Ok(Cover::None),
     }
 }
@@ -170,82 +183,70 @@ fn add_cover(covers: &mut Vec<Covered>, place: Place, cover: Cover) -> Result<()
 {
     match cover {
         Cover::None => Ok(()),
-        Cover::Half | Cover::Second | Cover::Full => covers
-            .push(Covered { place, cover })
-            .map_err(|_| NoMemory),
+        Cover::Half | Cover::Second | Cover::Full => {
+            covers.push(Covered { place, cover })?;
+            Ok(())
+        }
     }
 }
 
-/// Adds how far a TLBI covers each place of the page.
+/// Adds how far the TLBI covers each place of the page.
 fn add_covers<E: Evidence>(
     alloc: Global,
     log: &Log<E>,
-    tree: &[Node],
-    known: &[RootTags],
-    scope: &Scope,
-    vmid: Option<u16>,
+    known: &Known,
+    tlbi: &NamedTlbi,
     page: Page,
     covers: &mut Vec<Covered>,
 ) -> Result<(), NoMemory>
-    requires tree { tree.now ≡ trees.tree log.now.heading log.now.trust (notes log.now) }
-    requires known { AreTags log.now.heading log.now.trust (events_of (notes log.now)) known.now }
+    requires tree { known.now.tree.now ≡ trees.tree log.now.heading log.now.trust (notes log.now) }
+    requires tags { AreTags log.now.heading log.now.trust (events_of (notes log.now)) known.now.tags.now }
     ensures { OnOk result (covers.new.items ≡ covers.old.items
-        ++ flat_map (covered_under log.now.heading log.now.trust (notes log.now) scope.now vmid)
+        ++ flat_map (covered_under log.now.heading log.now.trust (notes log.now) tlbi.now.scope tlbi.now.vmid)
         (places_in (events_of (notes log.now)) page)) }
 {
     for place in &log.places_in(alloc, page)? {
-        let cover = cover_at(alloc, log, tree, known, scope, vmid, *place)?;
+        let cover = cover_at(alloc, log, known, tlbi, *place)?;
         add_cover(covers, *place, cover)?;
     }
     Ok(())
 }
 
-/// How far a TLBI of this scope, under this VMID, covers each place of the trees, page by page.
+/// How far the TLBI covers each place of the trees, page by page.
 fn covers_under<E: Evidence>(
     alloc: Global,
     log: &Log<E>,
     tree: &[Node],
-    scope: &Scope,
-    vmid: Option<u16>,
+    tlbi: &NamedTlbi,
 ) -> Result<Vec<Covered>, NoMemory>
     requires { tree.now ≡ trees.tree log.now.heading log.now.trust (notes log.now) }
     ensures { IfOk result (λ covers. (place : ℕ) → cover_in covers.items place
-        ≡ cover_under log.now.heading log.now.trust (notes log.now) scope.now vmid place) }
+        ≡ cover_under log.now.heading log.now.trust (notes log.now) tlbi.now.scope tlbi.now.vmid place) }
 {
-    let known = root_tags(alloc, log)?;
+    let tags = root_tags(alloc, log)?;
+    let known = Known { tree, tags: &tags };
     let mut covers = Vec::new(alloc);
     for node in tree {
-        add_covers(
-            alloc,
-            log,
-            tree,
-            &known,
-            scope,
-            vmid,
-            node.page,
-            &mut covers,
-        )?;
+        add_covers(alloc, log, &known, tlbi, node.page, &mut covers)?;
     }
     Ok(covers)
 }
 
-/// How far a TLBI covers each place, where these are the trees.
+/// How far a TLBI of this scope that the PE issues covers each place, where these are the trees.
 fn tlbi_covers<E: Evidence>(
     alloc: Global,
     log: &Log<E>,
     tree: &[Node],
     pe: Pe,
-    scope: &Scope,
+    scope: Scope,
 ) -> Result<Vec<Covered>, NoMemory>
     requires { tree.now ≡ trees.tree log.now.heading log.now.trust (notes log.now) }
     ensures { IfOk result (λ covers. (place : ℕ) → cover_in covers.items place
-        ≡ cover_under log.now.heading log.now.trust (notes log.now) scope.now
+        ≡ cover_under log.now.heading log.now.trust (notes log.now) scope
         (vmid_of log.now.heading (events_of (notes log.now)) pe) place) }
 {
-    match log.vmid_of(alloc, pe) {
-        Ok(vmid) => covers_under(alloc, log, tree, scope, vmid),
-        Err(_) => Err(NoMemory),
-    }
+    let vmid = log.vmid_of(alloc, pe)?;
+    covers_under(alloc, log, tree, &NamedTlbi { scope, vmid })
 }
 
 /// The places of the trees that the event, coming after those of the log, covers, and how far. `NoMemory` where there
@@ -262,10 +263,9 @@ pub fn covers_of<E: Evidence>(
         ≡ covering.cover_at log.now.heading log.now.trust (notes log.now) event.now place) }
 {
     match *event {
-        Event::Tlbi { pe, op, xt } => match log.named_scope(alloc, pe, op, xt) {
-            Ok(Some(scope)) => tlbi_covers(alloc, log, tree, pe, &scope),
-            Ok(None) => Ok(Vec::new(alloc)),
-            Err(_) => Err(NoMemory),
+        Event::Tlbi { pe, op, xt } => match log.named_scope(alloc, pe, op, xt)? {
+            Some(scope) => tlbi_covers(alloc, log, tree, pe, scope),
+            None => Ok(Vec::new(alloc)),
         },
         _ => Ok(Vec::new(alloc)),
     }

@@ -18,7 +18,7 @@ fn without(alloc: Global, pages: &[Page], but: Page) -> Result<Vec<Page>, NoMemo
     let mut left = Vec::new(alloc);
     for page in pages {
         if *page != but {
-            left.push(*page).map_err(|_| NoMemory)?;
+            left.push(*page)?;
         }
     }
     Ok(left)
@@ -29,7 +29,7 @@ fn with(alloc: Global, pages: &[Page], page: Page) -> Result<Vec<Page>, NoMemory
     ensures { IfOk result (λ more. (q : ℕ) → among q more.items ≡ (page == q || among q pages.now)) }
 {
     let mut more = without(alloc, pages, page)?;
-    more.push(page).map_err(|_| NoMemory)?;
+    more.push(page)?;
     Ok(more)
 }
 
@@ -41,10 +41,10 @@ fn candidates(alloc: Global, fresh: &[Page], event: &Event) -> Result<Vec<Page>,
     match *event {
         Event::Init { pe: _, page } => with(alloc, fresh, page),
         Event::Null { pe: _, page } => without(alloc, fresh, page),
-        _ => match fresh.to_vec(alloc) {
-            Ok(pages) => Ok(pages),
-            Err(_) => Err(NoMemory),
-        },
+        _ => {
+            let pages = fresh.to_vec(alloc)?;
+            Ok(pages)
+        }
     }
 }
 
@@ -56,7 +56,7 @@ fn unused(alloc: Global, pages: &[Page], tree: &[Node]) -> Result<Vec<Page>, NoM
     let mut left = Vec::new(alloc);
     for page in pages {
         if !has_page(tree, *page) {
-            left.push(*page).map_err(|_| NoMemory)?;
+            left.push(*page)?;
         }
     }
     Ok(left)

@@ -27,6 +27,7 @@ use crate::node::Node;
 use crate::tree::{first_of, is_childless, tree_of};
 use bbm_events::{Event, Header};
 use bbm_oracle_patterns::{Evidence, Kept};
+use bbm_oracle_tags::Holding;
 use bbm_regimes::{NoMemory, Page, Pe, Place, Tag};
 use bbm_rules::Phase;
 use bbm_tlbi_scope::TagSet;
@@ -187,7 +188,9 @@ impl<E: Evidence> History<E> {
             ≡ tags.holds_at self.now.heading self.now.trust pe root tag (events_of (notes self.now))) }
     {
         let evidence = self.evidence();
-        evidence.holds_at(alloc, self.header(), self.events(), pe, root.get(), tag)
+        let root = root.get();
+        let asked = Holding { pe, root, tag };
+        evidence.holds_at(alloc, self.header(), self.events(), &asked)
     }
 
     /// The tags that the root with this first page holds at any PE. `NoMemory` where there is none.

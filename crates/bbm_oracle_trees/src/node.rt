@@ -93,8 +93,8 @@ impl Node {
     {
         let level = self.level;
         let mut above = Vec::new(alloc);
-        above.push(Above { place, level }).map_err(|_| NoMemory)?;
-        above.extend_from_slice(&self.above).map_err(|_| NoMemory)?;
+        above.push(Above { place, level })?;
+        above.extend_from_slice(&self.above)?;
         Ok(above)
     }
 

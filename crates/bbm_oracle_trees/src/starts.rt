@@ -37,34 +37,40 @@ fn page_behind(page: Page, count: u8) -> Page
 pub fn add(nodes: &mut Vec<Node>, node: Node) -> Result<(), NoMemory>
     ensures { OnOk result (nodes.new.items ≡ nodes.old.items ++ node ∷ []) }
 {
-    nodes.push(node).map_err(|_| NoMemory)
+    nodes.push(node)?;
+    Ok(())
 }
 
-/// Adds so many consecutive pages of a root, at this level, the first of which begins at this input page.
-fn add_pages(
-    alloc: Global,
+/// Where the walks of a root start.
+#[derive(Clone, Copy)]
+struct Start {
+    /// The kind of the tree.
     kind: Kind,
+    /// The level, 0 to 3.
     level: u8,
+    /// The first page of the root.
     root: Page,
+    /// The first input page.
     first: u64,
-    count: u8,
-    nodes: &mut Vec<Node>,
-) -> Result<(), NoMemory>
-    requires level { level ≤ 3 }
+}
+
+/// Adds so many consecutive pages of a root.
+fn add_pages(alloc: Global, start: &Start, count: u8, nodes: &mut Vec<Node>) -> Result<(), NoMemory>
+    requires level { start.now.level ≤ 3 }
     requires count { count ≤ 16 }
-    requires first { first ≤ 2 ^ 44 }
-    requires pages { root + 4096 * count ≤ 2 ^ 48 }
-    ensures { OnOk result (nodes.new.items ≡ nodes.old.items
-        ++ nodes_of_pages kind level root first (pages_from root count)) }
+    requires first { start.now.first ≤ 2 ^ 44 }
+    requires pages { start.now.root + 4096 * count ≤ 2 ^ 48 }
+    ensures { OnOk result (nodes.new.items ≡ nodes.old.items ++ nodes_of_pages start.now.kind start.now.level
+        start.now.root start.now.first (pages_from start.now.root count)) }
 {
-    let size = 512 * input_pages(level);
+    let size = 512 * input_pages(start.level);
     for index in 0..count {
         let node = Node {
-            page: page_behind(root, index),
-            kind,
-            level,
-            root,
-            base: first + index as u64 * size,
+            page: page_behind(start.root, index),
+            kind: start.kind,
+            level: start.level,
+            root: start.root,
+            base: start.first + index as u64 * size,
             above: Vec::new(alloc),
         };
         add(nodes, node)?;
@@ -84,10 +90,13 @@ fn add_root(
 {
     header.in_ranges();
     let kind = root.kind;
-    let level = header.start_level(kind);
-    let first = header.first_input_page(kind);
-    let count = root_page_count(header, kind);
-    add_pages(alloc, kind, level, root.page, first, count, nodes)
+    let start = Start {
+        kind,
+        level: header.start_level(kind),
+        root: root.page,
+        first: header.first_input_page(kind),
+    };
+    add_pages(alloc, &start, root_page_count(header, kind), nodes)
 }
 
 /// Adds the pages of the roots whose walks start at the level. `NoMemory` where there is none.

@@ -1,6 +1,6 @@
 //! The trees of the declared roots.
 
-ghost use Rattle.std.specs.Prelude.{◌≡◌, ◌≤◌, ◌<◌, ◌==◌, ◌++◌, suc, true, All, find, flat_map, is_some, IfOk, OnOk};
+ghost use Rattle.std.specs.Prelude.{◌≡◌, ◌≤◌, ◌<◌, ◌==◌, ◌++◌, true, All, find, flat_map, is_some, IfOk, OnOk};
 ghost use Rattle.std.specs.Prelude.{IfSome, option_copied, option_to_list};
 ghost use Rattle.bbm_rules.specs.Lists.{any};
 ghost use Rattle.bbm_rules.specs.Tree as trees;
@@ -41,10 +41,10 @@ fn child_at<E: Evidence>(
 {
     match log.held(node.kind, node.level, place) {
         Some(value) => match next_page(node.kind, node.level, value) {
-            Some(next) => match node.below(alloc, place, next) {
-                Ok(child) => Ok(Some(child)),
-                Err(_) => Err(NoMemory),
-            },
+            Some(next) => {
+                let child = node.below(alloc, place, next)?;
+                Ok(Some(child))
+            }
             None => Ok(None),
         },
         None => Ok(None),
@@ -62,10 +62,9 @@ fn add_child<E: Evidence>(
     ensures { OnOk result (nodes.new.items ≡ nodes.old.items
         ++ option_to_list (trees.child_at log.now.heading log.now.trust (notes log.now) node.now place)) }
 {
-    match child_at(alloc, log, node, place) {
-        Ok(Some(child)) => add(nodes, child),
-        Ok(None) => Ok(()),
-        Err(_) => Err(NoMemory),
+    match child_at(alloc, log, node, place)? {
+        Some(child) => add(nodes, child),
+        None => Ok(()),
     }
 }
 
@@ -124,7 +123,8 @@ fn level_nodes<E: Evidence>(
 fn add_all(nodes: &mut Vec<Node>, mut more: Vec<Node>) -> Result<(), NoMemory>
     ensures { OnOk result (nodes.new.items ≡ nodes.old.items ++ more.items) }
 {
-    nodes.append(&mut more).map_err(|_| NoMemory)
+    nodes.append(&mut more)?;
+    Ok(())
 }
 
 /// The pages of the trees, level by level. `NoMemory` where there is none.

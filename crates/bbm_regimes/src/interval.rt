@@ -1,6 +1,6 @@
 //! Intervals of input pages, and the span of a descriptor.
 
-ghost use Rattle.std.specs.Prelude.{◌≡◌, ℕ, ◌≤◌, ◌<◌, ◌↔◌, IsTrue};
+ghost use Rattle.std.specs.Prelude.{◌≡◌, ◌≤◌, ◌<◌, ◌↔◌, IsTrue};
 ghost use Rattle.bbm_regimes.specs.Extent.{span_of};
 
 use std::marker::Model;

@@ -66,18 +66,6 @@ last_cases kind level place (Write pe at value) n found w e =
 last_cases kind level place (Init pe page) n found w e = inl (by_init (later n found) w (page == page_of place) e)
 last_cases kind level place e n found w k = inl k
 
--- its value is valid
-pub last_is_valid : (kind : Kind) (level place : ℕ) (h : List Noted) (w : ValidWrite)
-    → last_valid kind level place h ≡ Some w → is_valid kind level w.value ≡ true
-last_is_valid kind level place [] w e = cc
-last_is_valid kind level place (n ∷ h) w e =
-    elim (last_cases kind level place n.event n (last_valid kind level place h) w e) [
-      | inl k ↦
-          let o = older n (last_valid kind level place h) w k in
-          subst (λ (x : ℕ). is_valid kind level x ≡ true) o.same (last_is_valid kind level place h o.before o.is)
-      | inr v ↦ v.valid
-    ]
-
 -- its place was written
 pub among_from : (n : ℕ) (ms : List ℕ) → among n ms ≡ true → In ms n
 among_from n [] e = absurd (true≢false (sym e))

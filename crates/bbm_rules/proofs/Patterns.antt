@@ -1,7 +1,6 @@
--- The patterns of Cleansing: later events keep them, a cleansed place is seen, and what a certificate's claims cleanse all
--- patterns cleanse.
+-- The patterns of Cleansing: later events keep them, and a cleansed place is seen.
 use Rattle.std.proofs.Common.{◌≡◌, ℕ, Bool, true, ◌&&◌, List, [], ◌∷◌, ◌++◌, refl, sym, subst, inl, inr, true≢false}
-use Rattle.std.proofs.lemmas.Bool.{or_cases, or_left, or_right, and_parts, and_from}
+use Rattle.std.proofs.lemmas.Bool.{or_cases, and_parts, and_from}
 use Rattle.bbm_barriers.specs.declared.Dsb.{Dsb as Barrier}
 use Rattle.bbm_tlbi_scope.specs.declared.entry.Cover.{Cover}
 use Rattle.bbm_tlbi_scope.specs.declared.entry.Cover.TheVariants.{Half, Second, Full}
@@ -11,10 +10,9 @@ use Rattle.bbm_events.specs.declared.event.Event.TheVariants.{Dsb}
 use Rattle.bbm_events.specs.declared.claim.Claim.TheVariants.{Place, Two}
 use Rattle.bbm_lemmas.proofs.Elements.{any_found, to_contains}
 use Rattle.bbm_rules.proofs.OpenLaw.{open_note_sound}
-use Rattle.bbm_rules.proofs.SearchLemmas.{Found, any_weaker, some_found, some_later, some_weaker}
+use Rattle.bbm_rules.proofs.SearchLemmas.{Found, some_found, some_later, some_weaker}
 use Rattle.bbm_rules.specs.Claims.{Trust, allows}
-use Rattle.bbm_rules.specs.Claims.Trust.{Patterns}
-use Rattle.bbm_rules.specs.Cleansing.{answered_where, answers_one, cleansed, flushes, full_step, half, half_where}
+use Rattle.bbm_rules.specs.Cleansing.{answered_where, answers_one, cleansed, flushes, full_step, half_where}
 use Rattle.bbm_rules.specs.Cleansing.{is_completed, publishes_write, same_cover, second_step, seen, seen_where, writes}
 use Rattle.bbm_rules.specs.Notes.{Noted, event_of}
 use Rattle.bbm_rules.specs.Reach.{Issued, completes, reaches, unanswered}
@@ -43,22 +41,6 @@ two_allowed trust place p t2 d2 b t1 d1 = allows trust (Two p place b t1 d1 t2 d
 
 -- ---- a weaker test
 
-answers_weaker : (test other : Issued Noted → Bool) (e : Event) (older : List Noted)
-    → ((t : Issued Noted) → test t ≡ true → other t ≡ true)
-    → answers_one test e older ≡ true → answers_one other e older ≡ true
-answers_weaker test other (Dsb q dsb) older weaker s =
-    any_weaker (is_completed dsb test) (is_completed dsb other) (unanswered event_of q older)
-    (λ t k. let both = and_parts (completes dsb t.tlbi.event) (test t) k in
-    and_from (completes dsb t.tlbi.event) (other t) both.0 (weaker t both.1)) s
-answers_weaker test other e older weaker s = s
-
-pub answered_weaker : (test other : ℕ → Issued Noted → Bool) (since : List Noted)
-    → ((d : ℕ) (t : Issued Noted) → test d t ≡ true → other d t ≡ true)
-    → answered_where test since ≡ true → answered_where other since ≡ true
-answered_weaker test other since weaker s =
-    some_weaker (is_answer test) (is_answer other) since
-    (λ n older k. answers_weaker (test n.position) (other n.position) n.event older (weaker n.position) k) s
-
 module _ (heading : Heading) (place p : ℕ) where
   pub seen_weaker : (test other : ℕ → Bool) (since : List Noted) → ((k : ℕ) → test k ≡ true → other k ≡ true)
       → seen_where heading place p test since ≡ true → seen_where heading place p other since ≡ true
@@ -67,47 +49,11 @@ module _ (heading : Heading) (place p : ℕ) where
       (λ n older k. let both = and_parts (publishes_write heading place p n.event older) (test n.position) k in
       and_from (publishes_write heading place p n.event older) (other n.position) both.0 (weaker n.position both.1)) s
 
-  flushes_weaker : (cover : Cover) (test other : List Noted → Bool) (t : Issued Noted)
-      → ((older : List Noted) → test older ≡ true → other older ≡ true)
-      → flushes heading place p cover test t ≡ true → flushes heading place p cover other t ≡ true
-  flushes_weaker cover test other t weaker k =
-      let parts = and_parts (reaches heading t.tlbi.event p && same_cover (t.tlbi.covers place) cover) (test t.before) k in
-      and_from (reaches heading t.tlbi.event p && same_cover (t.tlbi.covers place) cover) (other t.before) parts.0
-      (weaker t.before parts.1)
-
   -- what a TLBI flushes was ready for it
   ready : (cover : Cover) (test : List Noted → Bool) (t : Issued Noted) → flushes heading place p cover test t ≡ true
       → test t.before ≡ true
   ready cover test t k =
       (and_parts (reaches heading t.tlbi.event p && same_cover (t.tlbi.covers place) cover) (test t.before) k).1
-
-  half_weaker : (test other : ℕ → ℕ → ℕ → Bool) (since : List Noted)
-      → ((b t d : ℕ) → test b t d ≡ true → other b t d ≡ true)
-      → half_where heading place p test since ≡ true → half_where heading place p other since ≡ true
-  half_weaker test other since weaker s =
-      answered_weaker (half_step heading place p test) (half_step heading place p other) since
-      (λ d t k. flushes_weaker Half (seen_where heading place p (λ b. test b t.tlbi.position d))
-      (seen_where heading place p (λ b. other b t.tlbi.position d)) t
-      (λ older s. seen_weaker (λ b. test b t.tlbi.position d) (λ b. other b t.tlbi.position d) older
-      (λ b. weaker b t.tlbi.position d) s) k) s
-
--- What a list of claims cleanses, all patterns cleanse.
-pub cleansed_by_claims : (heading : Heading) (trust : Trust) (place p : ℕ) (since : List Noted)
-    → cleansed heading trust place p since ≡ true → cleansed heading Patterns place p since ≡ true
-cleansed_by_claims heading trust place p since s =
-    elim (or_cases (answered_where (full_step heading trust place p) since)
-    (answered_where (second_step heading trust place p) since) s) [
-      | inl one ↦ or_left (answered_where (full_step heading Patterns place p) since)
-          (answered_where (second_step heading Patterns place p) since)
-          (answered_weaker (full_step heading trust place p) (full_step heading Patterns place p) since
-          (λ d t k. flushes_weaker heading place p Full (seen_where heading place p (one_allowed trust place p t.tlbi.position d))
-          (seen heading place p) t (λ older y. seen_weaker heading place p (one_allowed trust place p t.tlbi.position d) (λ (b : ℕ). true) older (λ b z. refl) y) k) one)
-      | inr two ↦ or_right (answered_where (full_step heading Patterns place p) since)
-          (answered_where (second_step heading Patterns place p) since)
-          (answered_weaker (second_step heading trust place p) (second_step heading Patterns place p) since
-          (λ d t k. flushes_weaker heading place p Second (half_where heading place p (two_allowed trust place p t.tlbi.position d))
-          (half heading place p) t (λ older y. half_weaker heading place p (two_allowed trust place p t.tlbi.position d) (λ (b t d : ℕ). true) older (λ b t1 d1 z. refl) y) k) two)
-    ]
 
 -- ---- later events
 

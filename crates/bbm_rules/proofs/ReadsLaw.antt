@@ -9,7 +9,7 @@ use Rattle.bbm_events.specs.Heading.{Heading}
 use Rattle.bbm_events.specs.declared.event.Event.TheVariants.{Msr, Unroot}
 use Rattle.bbm_rules.specs.Prelude.{AsidFrom, FromTtbr0, FromTtbr1, Reg, Ttbr0El2, VttbrEl2, Ttbr0El1, Ttbr1El1, Tag}
 use Rattle.bbm_rules.specs.Prelude.{El2Tag, Vmid, Asid, Ttbr1Tag, World, Hyp, Kernel, Event}
-use Rattle.bbm_rules.proofs.EqualityLaw.{same_number, tag_equal, tag_self}
+use Rattle.bbm_regimes.proofs.SameRegister.{same_number, tag_equal, tag_self}
 use Rattle.bbm_rules.proofs.HeldLemmas.{among_from}
 use Rattle.bbm_lemmas.specs.Elements.{In}
 use Rattle.bbm_lemmas.proofs.Elements.{any_finds, any_found, from_contains, from_filter_map, from_flat, in_append}

@@ -4,7 +4,7 @@ use Rattle.std.proofs.Common.{Contains, find, refl, sym, ◌∙◌, ap, subst, i
 use Rattle.std.proofs.lemmas.Bool.{and_from, and_parts, eqb-true, false_from_ne_true, not-true, not_from_false, or_from}
 use Rattle.std.proofs.lemmas.Bool.{or_parts}
 use Rattle.bbm_rules.specs.Prelude.{Kind, Event, Root, Unroot}
-use Rattle.bbm_rules.proofs.EqualityLaw.{kind_equal, kind_self, same_number}
+use Rattle.bbm_regimes.proofs.SameRegister.{kind_equal, kind_self, same_number}
 use Rattle.bbm_lemmas.specs.Elements.{In}
 use Rattle.bbm_lemmas.proofs.Elements.{any_finds, any_found, from_contains, from_filter, to_contains, to_filter}
 use Rattle.bbm_rules.proofs.ListLemmas.{found}

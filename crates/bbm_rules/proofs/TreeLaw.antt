@@ -177,12 +177,6 @@ module _ (heading : Heading) (trust : Trust) (h : List Noted) where
 
   -- ---- childless
 
-  none_by : (kind : Kind) (level place : ℕ) (o : Option ℕ) → held heading trust kind level place h ≡ o
-      → (held heading trust kind level place h ≡ None → ⊥)
-      → In (written_places (events_of h)) place × (holds_some heading trust h kind level place ≡ true)
-  none_by kind level place None e some = absurd (some e)
-  none_by kind level place (Some v) e some = (held_is_written heading trust place kind level h v e, ap is_some e)
-
   holds_by : (kind : Kind) (level next place : ℕ) (o : Option ℕ) → held heading trust kind level place h ≡ o
       → any (holds_some heading trust h kind level) (places_in (events_of h) next) ≡ false → page_of place ≡ next → o ≡ None
   holds_by kind level next place None e none inside = refl

@@ -31,7 +31,8 @@ use Rattle.bbm_tlb_machine.specs.Entry.{Entry, Part, desc_in, head_of, is_leaf, 
 use Rattle.bbm_tlb_machine.specs.Invariant.{Fine, Holding, IsAt, IsBelow, IsNear}
 use Rattle.bbm_tlb_machine.specs.KnownOfMachine.{Known}
 use Rattle.bbm_tlb_machine.proofs.Descs.{leaf_if_no_table, no_leaf_if_table, some_pages}
-use Rattle.bbm_tlb_machine.proofs.Elements.{events_append, events_length}
+use Rattle.bbm_histories.proofs.Induction.{events_append}
+use Rattle.bbm_tlb_machine.proofs.Elements.{events_length}
 use Rattle.bbm_tlb_machine.proofs.Facts.{has_tag, held_there, keeps_older, means, no_global, tag_then}
 use Rattle.bbm_tlb_machine.proofs.Regions.{chain_kind, inside_of, last_or_above, region_holds}
 use Rattle.bbm_tlb_machine.proofs.Scopes.{CoversBy, covers_by}

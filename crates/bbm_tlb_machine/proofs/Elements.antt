@@ -5,7 +5,6 @@ use Rattle.std.proofs.Common.{not-suc-le-zero, le_of_suc-le-suc, suc-le-suc, zer
 use Rattle.std.proofs.lemmas.Bool.{eq-eqb, eqb-true, or_left, or_right}
 use Rattle.bbm_rules.specs.Lists.{some_pe}
 use Rattle.bbm_rules.specs.Notes.{Noted, events_of}
-use Rattle.bbm_rules.specs.Prelude.{Event}
 use Rattle.bbm_lemmas.proofs.Elements.{contains_more}
 
 -- of two splits of one list, that with the longer second part lies before the other
@@ -44,33 +43,6 @@ pe_finds (suc n) test p less e = by (p == n) refl (λ lower. pe_finds n test p l
 
 -- ---- annotated histories
 
-pub events_append : (newer older : List Noted) → events_of (newer ++ older) ≡ events_of newer ++ events_of older
-events_append [] older = refl
-events_append (n ∷ newer) older = ap (λ (es : List Event). n.event ∷ es) (events_append newer older)
-
 pub events_length : (ns : List Noted) → length (events_of ns) ≡ length ns
 events_length [] = refl
 events_length (n ∷ ns) = ap suc (events_length ns)
-
--- an event of an annotated history, with its notes
-pub record At (ns : List Noted) (e : Event) : Type 0 where
-  pub newer : List Noted
-  pub item : Noted
-  pub older : List Noted
-  pub split : ns ≡ newer ++ item ∷ older
-  pub is : item.event ≡ e
-
-pub event_at : (ns : List Noted) (after before : List Event) (e : Event) → events_of ns ≡ after ++ e ∷ before → At ns e
-event_at [] [] before e split = cc
-event_at [] (x ∷ after) before e split = cc
-event_at (n ∷ ns) [] before e split = record { newer = []; item = n; older = ns; split = refl; is = cc }
-event_at (n ∷ ns) (x ∷ after) before e split =
-    let rest : events_of ns ≡ after ++ e ∷ before = cc in
-    let a : At ns e = event_at ns after before e rest in
-    record {
-      newer = n ∷ a.newer;
-      item = a.item;
-      older = a.older;
-      split = ap (λ (xs : List Noted). n ∷ xs) a.split;
-      is = a.is;
-    }

@@ -4,9 +4,10 @@ use Rattle.std.proofs.Common.{Some, None, Result, Ok, Err, Contains, refl, sym, 
 use Rattle.std.proofs.lemmas.Bool.{eq-eqb, eqb-true, false_from_ne_true, not-false}
 use Rattle.bbm_descriptor.specs.Descriptor.{needs}
 use Rattle.bbm_regimes.specs.SameRegister.{same_tag}
+use Rattle.bbm_regimes.proofs.SameRegister.{tag_self, tag_equal}
 use Rattle.bbm_rules.specs.Lists.{any, if_so}
 use Rattle.bbm_rules.specs.Places.{page_of}
-use Rattle.bbm_rules.specs.Prelude.{Reg, Tag, El2Tag, Vmid, Asid, Ttbr1Tag, Heading, Event, Init, Write, Msr}
+use Rattle.bbm_rules.specs.Prelude.{Reg, Heading, Event, Init, Write, Msr}
 use Rattle.bbm_rules.specs.Tags.{Reading, readings}
 use Rattle.bbm_tlb_machine.specs.declared.step.Step.{Step}
 use Rattle.bbm_tlb_machine.specs.declared.step.Step.TheVariants.{Machine, Event as Taken}
@@ -18,19 +19,6 @@ use Rattle.bbm_tlb_machine.specs.First.{IsFirstConflict}
 use Rattle.bbm_tlb_machine.proofs.ListWords.{any_none, is_none, none_in}
 use Rattle.bbm_tlb_machine.proofs.RunLaw.{run_complete, run_sound}
 use Rattle.bbm_lemmas.proofs.Bools.{second_false, and_apart}
-
-tag_equal : (g k : Tag) → same_tag g k ≡ true → g ≡ k
-tag_equal El2Tag El2Tag e = refl
-tag_equal (Vmid v) (Vmid w) e = ap Vmid (eqb-true v w e)
-tag_equal (Asid a) (Asid b) e = ap Asid (eqb-true a b e)
-tag_equal Ttbr1Tag Ttbr1Tag e = refl
-tag_equal _ _ e = absurd (true≢false (sym e))
-
-tag_self : (g : Tag) → same_tag g g ≡ true
-tag_self El2Tag = refl
-tag_self (Vmid v) = eq-eqb v v refl
-tag_self (Asid a) = eq-eqb a a refl
-tag_self Ttbr1Tag = refl
 
 module _ (heading : Heading) where
   -- one entry

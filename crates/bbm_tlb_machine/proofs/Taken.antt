@@ -24,7 +24,7 @@ use Rattle.bbm_tlb_machine.specs.Invariant.{Fine, Goes, IsNear, Taken, Unanswere
 use Rattle.bbm_tlb_machine.specs.KnownOfMachine.{Known}
 use Rattle.bbm_tlb_machine.proofs.AfterEvent.{half_before, publication_answered, publication_before}
 use Rattle.bbm_tlb_machine.proofs.Covered.{Covering, covering}
-use Rattle.bbm_tlb_machine.proofs.Elements.{At, event_at, events_append}
+use Rattle.bbm_histories.proofs.Induction.{At, event_at, events_append}
 use Rattle.bbm_tlb_machine.proofs.Scopes.{cover_inside, full_age, half_is_s2, must_go_by, second_age, stage2_age}
 
 half_some : Half ≡ NoCover → ⊥

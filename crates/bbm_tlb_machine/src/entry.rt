@@ -106,7 +106,7 @@ fn add_all(parts: &mut Vec<Part>, more: &[Part]) -> Result<(), NoMemory>
     ensures { OnOk result (parts.new.items ≡ parts.old.items ++ more.now) }
 {
     for part in more {
-        parts.push(*part).map_err(|_| NoMemory)?;
+        parts.push(*part)?;
     }
     Ok(())
 }
@@ -190,7 +190,7 @@ impl Entry {
         ensures { IfOk result (λ parts. parts.items ≡ spec.parts_of self.now) }
     {
         let mut parts = Vec::new(alloc);
-        parts.push(self.last).map_err(|_| NoMemory)?;
+        parts.push(self.last)?;
         add_all(&mut parts, &self.above)?;
         Ok(parts)
     }

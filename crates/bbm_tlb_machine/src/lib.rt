@@ -20,5 +20,5 @@ pub use looking::can_read;
 pub use machine::{FollowFault, Machine, follow};
 pub use pending::{Pending, is_answered, must_leave, take_event};
 pub use safety::{law_accepted_is_safe, law_fine, law_safe};
-pub use starting::{combine, extend, start};
+pub use starting::{FirstRead, combine, extend, start};
 pub use step::Step;

@@ -109,7 +109,8 @@ impl Machine {
             number: self.made,
             entry,
         };
-        self.living.insert(0, living).map_err(|_| NoMemory)
+        self.living.insert(0, living)?;
+        Ok(())
     }
 
     /// Drops the entry with this number. False where there is none.
@@ -190,7 +191,8 @@ impl Machine {
         ensures pending { self.new.pending ≡ self.old.pending }
         ensures conflict { self.new.conflict ≡ self.old.conflict }
     {
-        self.events.push(*event).map_err(|_| NoMemory)
+        self.events.push(*event)?;
+        Ok(())
     }
 
     /// Takes the event.

@@ -1,77 +1,18 @@
 //! The entry that a line of a run makes.
 
 ghost use Rattle.std.specs.Prelude.{◌≡◌, reverse, IfOk};
-ghost use Rattle.bbm_events.specs.declared.machine.MachineLine.TheVariants as lines;
 ghost use Rattle.bbm_tlb_machine.specs.Followed.{entry_made};
 
 use crate::entry::Entry;
 use crate::living::{Living, entry_at};
-use crate::starting::{combine, extend, share, start};
+use crate::starting::{FirstRead, combine, extend, share, start};
 use bbm_events::{Event, Header, MachineLine};
-use bbm_regimes::{NoMemory, Pe, Place};
+use bbm_regimes::NoMemory;
 use std::alloc::Global;
-
-/// The entry that has one part more than the one with this number.
-#[tactic(auto, using(crate::proofs::MadeLemmas::made))]
-fn extend_at(
-    alloc: Global,
-    header: &Header,
-    events: &[Event],
-    living: &[Living],
-    number: u32,
-    place: Place,
-    value: u64,
-) -> Result<Option<Entry>, NoMemory>
-    ensures { IfOk result (λ made. made
-        ≡ entry_made header.now (reverse events.now) living.now (lines.Extend number place value)) }
-{
-    match entry_at(living, number) {
-        Some(entry) => extend(alloc, header, events, entry, place, value),
-        None => Ok(None),
-    }
-}
-
-/// The combined entry of the one with this number.
-#[tactic(auto, using(crate::proofs::MadeLemmas::made))]
-fn combine_at(
-    alloc: Global,
-    header: &Header,
-    events: &[Event],
-    living: &[Living],
-    number: u32,
-) -> Result<Option<Entry>, NoMemory>
-    ensures { IfOk result (λ made. made
-        ≡ entry_made header.now (reverse events.now) living.now (lines.Combine number)) }
-{
-    let _header = header;
-    match entry_at(living, number) {
-        Some(entry) => combine(alloc, events, entry),
-        None => Ok(None),
-    }
-}
-
-/// The copy at the PE of the entry with this number.
-#[tactic(auto, using(crate::proofs::MadeLemmas::made))]
-fn share_at(
-    alloc: Global,
-    header: &Header,
-    events: &[Event],
-    living: &[Living],
-    number: u32,
-    pe: Pe,
-) -> Result<Option<Entry>, NoMemory>
-    ensures { IfOk result (λ made. made
-        ≡ entry_made header.now (reverse events.now) living.now (lines.Share number pe)) }
-{
-    let _events = events;
-    match entry_at(living, number) {
-        Some(entry) => share(alloc, header, entry, pe),
-        None => Ok(None),
-    }
-}
 
 /// The entry that the line makes after these events, where the TLBs keep these; None where it makes none. `NoMemory`
 /// where there is none.
+#[tactic(auto, using(crate::proofs::MadeLemmas::made))]
 pub fn made_by(
     alloc: Global,
     header: &Header,
@@ -88,14 +29,32 @@ pub fn made_by(
             tag,
             place,
             value,
-        } => start(alloc, header, events, pe, kind, tag, place, value),
+        } => {
+            let read = FirstRead {
+                pe,
+                kind,
+                number: tag,
+                place,
+                value,
+            };
+            start(alloc, header, events, read)
+        }
         MachineLine::Extend {
             entry,
             place,
             value,
-        } => extend_at(alloc, header, events, living, entry, place, value),
-        MachineLine::Combine { entry } => combine_at(alloc, header, events, living, entry),
-        MachineLine::Share { entry, pe } => share_at(alloc, header, events, living, entry, pe),
+        } => match entry_at(living, entry) {
+            Some(entry) => extend(alloc, header, events, entry, place, value),
+            None => Ok(None),
+        },
+        MachineLine::Combine { entry } => match entry_at(living, entry) {
+            Some(entry) => combine(alloc, events, entry),
+            None => Ok(None),
+        },
+        MachineLine::Share { entry, pe } => match entry_at(living, entry) {
+            Some(entry) => share(alloc, header, entry, pe),
+            None => Ok(None),
+        },
         MachineLine::Drop { .. } => Ok(None),
     }
 }

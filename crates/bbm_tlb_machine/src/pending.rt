@@ -1,6 +1,6 @@
 //! The TLBIs that no DSB has answered yet, and the entries that they must have taken by then.
 
-ghost use Rattle.std.specs.Prelude.{◌≡◌, ◌∷◌, not, filter, reverse, OnOk};
+ghost use Rattle.std.specs.Prelude.{◌≡◌, ◌∷◌, not, filter, reverse, IfOk, OnOk};
 ghost use Rattle.bbm_rules.specs.Prelude.{Tlbi};
 ghost use Rattle.bbm_tlb_machine.specs.MachinePendings as spec;
 
@@ -115,30 +115,35 @@ fn answer(pendings: &mut Vec<Pending>, pe: Pe, dsb: Dsb)
     pendings.retain(|pending| !is_answered(pe, dsb, pending));
 }
 
-/// Puts the TLBI in front, which is issued after these events.
-#[tactic(auto, using(std::proofs::lemmas::Grind::common_steps))]
-fn issue(
+/// The TLBI, issued after these events.
+fn issued(
     alloc: Global,
     header: &Header,
     events: &[Event],
-    pendings: &mut Vec<Pending>,
     pe: Pe,
     op: TlbiOp,
     xt: u64,
-) -> Result<(), NoMemory>
-    ensures { OnOk result (pendings.new.items
-        ≡ spec.pending_of header.now (record { tlbi = Tlbi pe op xt; before = reverse events.now })
-        ∷ pendings.old.items) }
+) -> Result<Pending, NoMemory>
+    ensures { IfOk result (λ pending. pending
+        ≡ spec.pending_of header.now (record { tlbi = Tlbi pe op xt; before = reverse events.now })) }
 {
     let vmid = vmid_of(alloc, header, events, pe)?;
-    let pending = Pending {
+    Ok(Pending {
         issuer: pe,
         op,
         xt,
         vmid,
         before: events.len() as u64,
-    };
-    pendings.insert(0, pending).map_err(|_| NoMemory)
+    })
+}
+
+/// Puts the TLBI in front.
+#[tactic(auto, using(std::proofs::lemmas::Grind::common_steps))]
+fn put(pendings: &mut Vec<Pending>, pending: Pending) -> Result<(), NoMemory>
+    ensures { OnOk result (pendings.new.items ≡ pending ∷ pendings.old.items) }
+{
+    pendings.insert(0, pending)?;
+    Ok(())
 }
 
 /// The unanswered TLBIs after one more event, which comes after these. `NoMemory` where there is none.
@@ -154,7 +159,10 @@ pub fn take_event(
         → spec.IsPending header.now (event.now ∷ reverse events.now) pendings.new.items) }
 {
     match *event {
-        Event::Tlbi { pe, op, xt } => issue(alloc, header, events, pendings, pe, op, xt),
+        Event::Tlbi { pe, op, xt } => {
+            let pending = issued(alloc, header, events, pe, op, xt)?;
+            put(pendings, pending)
+        }
         Event::Dsb { pe, dsb } => {
             answer(pendings, pe, dsb);
             Ok(())

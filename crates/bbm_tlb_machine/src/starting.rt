@@ -21,6 +21,21 @@ use bbm_regimes::{AsidFrom, Kind, NoMemory, Pe, Place, Reg, World, tag_number};
 use bbm_tlbi_scope::EntryKind;
 use std::alloc::Global;
 
+/// What a walk reads first, and under what. Source: project's own choice.
+#[derive(Clone, Copy, Debug)]
+pub struct FirstRead {
+    /// The PE that reads it.
+    pub pe: Pe,
+    /// The kind of the tables.
+    pub kind: Kind,
+    /// The VMID or ASID under which it is read.
+    pub number: u16,
+    /// The place.
+    pub place: Place,
+    /// The value that is read.
+    pub value: u64,
+}
+
 /// The kind of the entries that are read through tables of the kind.
 fn entry_kind(kind: Kind) -> EntryKind
     ensures { result ≡ spec.entry_kind kind }
@@ -148,40 +163,36 @@ fn may_start(
     )
 }
 
-/// The entry that a start makes at the PE, under a VMID or an ASID, from the value of the place; None where it may make
-/// none. `NoMemory` where there is none. Source: project's own choice, after Arm ARM (DDI 0487), "Translation Lookaside
-/// Buffers".
+/// The entry that a start makes by this read; None where it may make none. `NoMemory` where there is none. Source:
+/// project's own choice, after Arm ARM (DDI 0487), "Translation Lookaside Buffers".
 pub fn start(
     alloc: Global,
     header: &Header,
     events: &[Event],
-    pe: Pe,
-    kind: Kind,
-    number: u16,
-    place: Place,
-    value: u64,
+    read: FirstRead,
 ) -> Result<Option<Entry>, NoMemory>
-    ensures { let entry = spec.started header.now (length (reverse events.now)) pe kind number place value in
-        IfOk result (λ made. made ≡ if_so (spec.may_start header.now (reverse events.now) entry number) entry) }
+    ensures { let entry = spec.started header.now (length (reverse events.now)) read.pe read.kind read.number read.place
+        read.value in
+        IfOk result (λ made. made ≡ if_so (spec.may_start header.now (reverse events.now) entry read.number) entry) }
 {
     let entry = Entry {
-        pe,
-        kind: entry_kind(kind),
-        vmid: vmid_under(kind, number),
-        asid: asid_under(kind, number),
-        root: root_of(header, kind, place),
+        pe: read.pe,
+        kind: entry_kind(read.kind),
+        vmid: vmid_under(read.kind, read.number),
+        asid: asid_under(read.kind, read.number),
+        root: root_of(header, read.kind, read.place),
         last: Part {
-            place,
-            value,
-            kind,
-            level: header.start_level(kind),
-            first: first_of(header, kind, place),
+            place: read.place,
+            value: read.value,
+            kind: read.kind,
+            level: header.start_level(read.kind),
+            first: first_of(header, read.kind, read.place),
         },
         above: Vec::new(alloc),
         since: events.len() as u64,
         joined: 0,
     };
-    if may_start(alloc, header, events, &entry, number)? {
+    if may_start(alloc, header, events, &entry, read.number)? {
         Ok(Some(entry))
     } else {
         Ok(None)

@@ -1,6 +1,6 @@
 //! The fields of the operand of a TLBI for one page or an ASID, each in one place.
 
-ghost use Rattle.std.specs.Prelude.{◌≡◌, ◌^◌, ◌<◌};
+ghost use Rattle.std.specs.Prelude.{◌≡◌, ◌<◌};
 ghost use Rattle.bbm_tlbi_scope.specs.Operand as fields;
 
 /// The ASID: bits [63:48]. Source: Arm ARM (DDI 0487), "TLB maintenance instructions".

@@ -8,7 +8,8 @@ use Rattle.bbm_cert.proofs.cleansings.add.Goals as goal
 pub returns-in-Some : goal.returns-in-Some
 returns-in-Some c = λ a p n.
     let old : Cleansing = c.index_mut.result.now in
-    let found = found_in c.deref.result.now c.args.kept.now.items c.in-Some.i old c.args.place c.args.since c.deref.ensures.value
+    let found = found_in c.deref.result.now c.args.kept.now.items c.in-Some.i old c.args.place c.args.since
+    c.deref.ensures.value
     c.in-Some.ensures c.index_mut.ensures.value in
     let same : c.index.result.now ≡ old = c.index.ensures
     ∙ get_or_default c.args.kept.now.items c.in-Some.i c.index.result.now old found.0 ∙ sym c.index_mut.ensures.value in

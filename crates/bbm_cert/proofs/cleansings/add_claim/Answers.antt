@@ -8,7 +8,8 @@ use Rattle.bbm_cert.proofs.cleansings.add_claim.Goals as goal
 
 pub returns-then-end_of-log : goal.returns-then-end_of-log
 returns-then-end_of-log c = λ a p n.
-    ends_elsewhere c.args.header.now a p n c.args.newest.now c.args.log.now c.args.claim.now (tells c.args.kept.now.items a p n)
+    ends_elsewhere c.args.header.now a p n c.args.newest.now c.args.log.now c.args.claim.now
+    (tells c.args.kept.now.items a p n)
     (λ k. c.if-end_of-log.true (c.end_of.ensures ∙ k))
 
 pub returns-in-Place : goal.returns-in-Place
@@ -24,5 +25,6 @@ returns-in-Two c =
     on_ok_weaker c.add_since-in-Two.result (λ k a p n.
     k a p n ∙ ap (λ (b : Bool). tells c.args.kept.now.items a p n || b)
     (ap (λ (claim : Claim). is_of a p claim && nat_lt n c.completed_since-in-Two.result) (sym c.in-Two.is)
-    ∙ ends_here c.args.header.now a p n c.args.newest.now c.args.log.now c.args.claim.now c.completed_since-in-Two.result
+    ∙ ends_here c.args.header.now a p n c.args.newest.now c.args.log.now c.args.claim.now
+    c.completed_since-in-Two.result
     (sym c.end_of.ensures ∙ c.if-end_of-log.false) c.completed_since-in-Two.ensures)) c.add_since-in-Two.ensures

@@ -5,4 +5,5 @@ use Rattle.bbm_cert.proofs.marks.is_answered.Given as goal
 
 abbrev pub invariant-loop-kept : goal.invariant-loop-kept
 invariant-loop-kept l =
-    list_any (completed_by l.issuer l.tlbi) (drop l.kept-index l.later) ≡ list_any (completed_by l.issuer l.tlbi) l.later
+    list_any (completed_by l.issuer l.tlbi) (drop l.kept-index l.later)
+    ≡ list_any (completed_by l.issuer l.tlbi) l.later

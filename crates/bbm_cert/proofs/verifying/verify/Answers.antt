@@ -4,7 +4,7 @@ use Rattle.bbm_cert.specs.Cleansings.{tells}
 use Rattle.bbm_cert.specs.Holdings.{has}
 use Rattle.bbm_cert.specs.declared.cleansings.Cleansing.{Cleansing}
 use Rattle.bbm_cert.specs.Spans.{lasts}
-use Rattle.bbm_cert.specs.declared.holdings.Holding.{Holding}
+use Rattle.bbm_oracle_tags.specs.declared.holding.Holding.{Holding}
 use Rattle.bbm_cert.specs.declared.spans.Span.{Span}
 use Rattle.bbm_cert.proofs.Cleansed.{tell_nothing}
 use Rattle.bbm_cert.proofs.Lasting.{nothing_lasts}

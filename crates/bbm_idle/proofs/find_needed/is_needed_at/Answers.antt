@@ -15,10 +15,12 @@ returns-else-has c =
     let h = reverse c.args.before.now in
     let takes : Bool = any (takes_of c.args.header.now h c.args.event.now c.args.pe) (roots_of h) in
     IfOk-weaker c.holds_some.result
-    (λ (b : Bool). b ≡ any (λ r. holds_at c.args.header.now Patterns c.args.pe r.root r.tag h) c.args.taken.now)
-    (λ (b : Bool). b ≡ needed_by c.args.header.now h c.args.event.now (pe_in c.args.added) c.args.pe)
+    (λ (b : Bool). b ≡ any (λ r. holds_at c.args.header.now Patterns c.args.pe r.root r.tag h)
+    c.args.effect.now.taken.now)
+    (λ (b : Bool). b ≡ needed_by c.args.header.now h c.args.event.now (pe_in c.args.effect.now.added) c.args.pe)
     (λ b e. e
-    ∙ takes_held (λ g k e. (c.law_equality_tests.ensures.tags g k).0 e) c.args.header.now h c.args.event.now c.args.pe c.args.taken.now c.requires
+    ∙ takes_held (λ g k e. (c.law_equality_tests.ensures.tags g k).0 e) c.args.header.now h c.args.event.now c.args.pe
+    c.args.effect.now.taken.now c.requires
     ∙ ap (λ (b : Bool). b || takes) c.if-has.ensures
-    ∙ ap (λ (b : Bool). b && (pe_in c.args.added c.args.pe || takes)) c.if-reaches.ensures)
+    ∙ ap (λ (b : Bool). b && (pe_in c.args.effect.now.added c.args.pe || takes)) c.if-reaches.ensures)
     c.holds_some.ensures

@@ -1,4 +1,4 @@
-use Rattle.std.proofs.Common.{◌≡◌, ◌-◌, ◌++◌, List, true, flat_map, rules, ap, ◌∙◌}
+use Rattle.std.proofs.Common.{◌≡◌, ◌+◌, ◌-◌, ◌<◌, ◌++◌, List, true, flat_map, arith, rules, ap, ◌∙◌}
 use Rattle.std.proofs.lemmas.List.{take_all}
 use Rattle.bbm_rules.specs.Attach.{End}
 use Rattle.bbm_rules.specs.Pages.{is_fresh}
@@ -9,10 +9,11 @@ use Rattle.bbm_judge.proofs.ends.+add_ends.Goals as goal
 pub returns : goal.returns
 returns g t c =
     let past = c.args.history.now in
-    let fresh : is_fresh c.args.history.now.heading c.args.history.now.trust (notes c.args.history.now) c.args.page ≡ true = search rules in
+    let fresh : is_fresh past.heading past.trust (notes past) c.args.page ≡ true = search rules in
+    let low : c.args.level < 3 = omega (arith, c.requires, c.if-level-eq3.false) in
     c.loop-next.invariant
     ∙ ap (λ (ends : List End). c.args.ends.now.items ++ ends)
-    (ap (flat_map (through past.heading past.trust (notes past) c.args.kind (c.args.left - 1) c.args.level))
+    (ap (flat_map (through past.heading past.trust (notes past) c.args.kind (3 - (c.args.level + 1)) c.args.level))
     (take_all c.loop-next.next-index c.deref-next-items.result.now c.loop-next-test.false)
-    ∙ ends_through past.heading past.trust (notes past) c.args.kind c.args.left c.args.level c.args.page c.deref-next-items.result.now
-    c.if-left-eq0.false fresh (c.deref-next-items.ensures.value ∙ c.in_ok-pages.ensures))
+    ∙ ends_through past.heading past.trust (notes past) c.args.kind c.args.level c.args.page
+    c.deref-next-items.result.now low fresh (c.deref-next-items.ensures.value ∙ c.in_ok-pages.ensures))

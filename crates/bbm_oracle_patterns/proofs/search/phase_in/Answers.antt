@@ -1,4 +1,4 @@
-use Rattle.std.proofs.Common.{◌≡◌, ◌+◌, ℕ, List, ap, true, false, drop, reverse, refl, sym, ◌∙◌}
+use Rattle.std.proofs.Common.{◌+◌, ℕ, List, ap, true, false, drop, reverse, refl, sym, ◌∙◌}
 use Rattle.std.proofs.lemmas.List.{take_rest}
 use Rattle.bbm_descriptor.specs.Descriptor.{is_valid}
 use Rattle.bbm_rules.specs.Claims.{Trust}
@@ -14,9 +14,12 @@ returns-then-is_cleansed g c =
     let trust : Trust = g.E.TagEvidence.trust c.args.evidence.now in
     let from : ℕ = c.in-Some.write.index + 1 in
     let since : List Noted = notes_behind from (reverse (drop from c.args.log.now)) in
-    phase_found c.args.header.now trust c.args.kind c.args.level c.args.place c.args.value c.args.pe (notes_of (reverse c.args.log.now)) since
-    c.in-Some.write.value true (is_valid c.args.kind c.args.level c.args.value) (cleansed c.args.header.now trust c.args.place c.args.pe since)
-    (half c.args.header.now c.args.place c.args.pe since) (seen c.args.header.now c.args.place c.args.pe since)
+    phase_found c.args.header.now trust c.args.seat.now.kind c.args.seat.now.level c.args.seat.now.place c.args.value
+    c.args.pe (notes_of (reverse c.args.log.now)) since
+    c.in-Some.write.value true (is_valid c.args.seat.now.kind c.args.seat.now.level c.args.value)
+    (cleansed c.args.header.now trust c.args.seat.now.place c.args.pe since)
+    (half c.args.header.now c.args.seat.now.place c.args.pe since)
+    (seen c.args.header.now c.args.seat.now.place c.args.pe since)
     c.in-Some.ensures.found (sym c.if-is_cleansed.true ∙ c.is_cleansed.ensures) refl refl refl refl
 
 pub returns-then-is_valid_at : goal.returns-then-is_valid_at
@@ -24,10 +27,13 @@ returns-then-is_valid_at g c =
     let trust : Trust = g.E.TagEvidence.trust c.args.evidence.now in
     let from : ℕ = c.in-Some.write.index + 1 in
     let since : List Noted = notes_behind from (reverse (drop from c.args.log.now)) in
-    phase_found c.args.header.now trust c.args.kind c.args.level c.args.place c.args.value c.args.pe (notes_of (reverse c.args.log.now)) since
-    c.in-Some.write.value false true (cleansed c.args.header.now trust c.args.place c.args.pe since)
-    (half c.args.header.now c.args.place c.args.pe since) (seen c.args.header.now c.args.place c.args.pe since)
-    c.in-Some.ensures.found (sym c.if-is_cleansed.false ∙ c.is_cleansed.ensures) (sym c.if-is_valid_at.true ∙ c.is_valid_at.ensures)
+    phase_found c.args.header.now trust c.args.seat.now.kind c.args.seat.now.level c.args.seat.now.place c.args.value
+    c.args.pe (notes_of (reverse c.args.log.now)) since
+    c.in-Some.write.value false true (cleansed c.args.header.now trust c.args.seat.now.place c.args.pe since)
+    (half c.args.header.now c.args.seat.now.place c.args.pe since)
+    (seen c.args.header.now c.args.seat.now.place c.args.pe since)
+    c.in-Some.ensures.found (sym c.if-is_cleansed.false ∙ c.is_cleansed.ensures)
+    (sym c.if-is_valid_at.true ∙ c.is_valid_at.ensures)
     refl refl refl
 
 pub returns-else-is_valid_at : goal.returns-else-is_valid_at
@@ -37,11 +43,15 @@ returns-else-is_valid_at g c =
     let since : List Noted = notes_behind from (reverse (drop from c.args.log.now)) in
     let rest : List Kept → List Noted = λ ks. notes_behind from (reverse ks) in
     c.broken_phase.ensures
-    ∙ phase_found c.args.header.now trust c.args.kind c.args.level c.args.place c.args.value c.args.pe (notes_of (reverse c.args.log.now)) since
+    ∙ phase_found c.args.header.now trust c.args.seat.now.kind c.args.seat.now.level c.args.seat.now.place c.args.value
+    c.args.pe (notes_of (reverse c.args.log.now)) since
     c.in-Some.write.value false false _ _ _
-    c.in-Some.ensures.found (sym c.if-is_cleansed.false ∙ c.is_cleansed.ensures) (sym c.if-is_valid_at.false ∙ c.is_valid_at.ensures)
+    c.in-Some.ensures.found (sym c.if-is_cleansed.false ∙ c.is_cleansed.ensures)
+    (sym c.if-is_valid_at.false ∙ c.is_valid_at.ensures)
     (c.cleansed-cleansed.ensures c.args.pe)
     (c.trace_of-trace.ensures.half from c.args.pe
-    ∙ ap (λ (ks : List Kept). half c.args.header.now c.args.place c.args.pe (rest ks)) (take_rest c.args.log.now from))
+    ∙ ap (λ (ks : List Kept). half c.args.header.now c.args.seat.now.place c.args.pe (rest ks))
+    (take_rest c.args.log.now from))
     (c.trace_of-trace.ensures.seen from c.args.pe
-    ∙ ap (λ (ks : List Kept). seen c.args.header.now c.args.place c.args.pe (rest ks)) (take_rest c.args.log.now from))
+    ∙ ap (λ (ks : List Kept). seen c.args.header.now c.args.seat.now.place c.args.pe (rest ks))
+    (take_rest c.args.log.now from))

@@ -7,5 +7,6 @@ loop-kept-init c = λ before. c.new-walk.ensures c.args.header.now c.args.place
 
 pub loop-kept-preserved : goal.loop-kept-preserved
 loop-kept-preserved c = λ before.
-    walk_more c.args.header.now c.args.place c.loop-kept.walk c.take.new.self before c.args.later.now c.loop-kept.kept-index c.kept-item.result
+    walk_more c.args.header.now c.args.place c.loop-kept.walk c.take.new.self before c.args.later.now
+    c.loop-kept.kept-index c.kept-item.result
     (omega arith) c.kept-item.is c.take.ensures (c.loop-kept.invariant before)

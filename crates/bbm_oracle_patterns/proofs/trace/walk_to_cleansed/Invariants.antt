@@ -4,4 +4,5 @@ use Rattle.bbm_oracle_patterns.specs.Walk.{IsWalk}
 use Rattle.bbm_oracle_patterns.proofs.trace.walk_to_cleansed.Given as goal
 
 abbrev pub invariant-loop-kept : goal.invariant-loop-kept
-invariant-loop-kept l = (before : ℕ) → IsWalk l.walk l.header l.place (notes_behind before (reverse (take l.kept-index l.later)))
+invariant-loop-kept l = (before : ℕ) → IsWalk l.walk l.header l.place
+    (notes_behind before (reverse (take l.kept-index l.later)))

@@ -12,7 +12,8 @@ loop-event-preserved c =
       first = c.in_ok-take.ensures.first h old.moment.first;
       second = c.in_ok-take.ensures.second h old.moment.second;
     } in
-    let more = reverse-more c.args.events.now c.loop-event.event-index c.event-item.result (omega arith) c.event-item.is in
+    let more = reverse-more c.args.events.now c.loop-event.event-index c.event-item.result
+    (omega arith) c.event-item.is in
     rw (← more) (record {
       moment = moment;
       kept = λ g k. c.in_ok-add_read_now.ensures.kept g (old.kept g k);

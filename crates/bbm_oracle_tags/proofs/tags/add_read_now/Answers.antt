@@ -8,7 +8,8 @@ use Rattle.bbm_oracle_tags.proofs.tags.add_read_now.Goals as goal
 
 pub returns-in_ok-add_readings-clause-added : goal.returns-in_ok-add_readings-clause-added
 returns-in_ok-add_readings-clause-added c = λ p h m kept g read.
-    elim (or_cases (reads c.args.header.now (c.args.event.now ∷ h) p g c.args.root) (was_read c.args.header.now p c.args.root g h) read) [
+    elim (or_cases (reads c.args.header.now (c.args.event.now ∷ h) p g c.args.root)
+    (was_read c.args.header.now p c.args.root g h) read) [
       | inl now ↦ c.in_ok-add_readings.ensures.added g
           (reads-by c.args.header.now (c.args.event.now ∷ h) p c.args.moment.now c.deref.result.now g c.args.root m
           (c.deref.ensures.value ∙ c.in_ok-readings.ensures) ∙ now)

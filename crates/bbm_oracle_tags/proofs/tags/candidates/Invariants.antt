@@ -5,4 +5,5 @@ use Rattle.bbm_oracle_tags.proofs.tags.candidates.Given as goal
 
 abbrev pub invariant-loop-number : goal.invariant-loop-number
 invariant-loop-number l =
-    (p : ℕ) (g : Tag) → p < l.number → was_read l.header p l.root g (reverse l.events) ≡ true → has_tag g l.tags.items ≡ true
+    (p : ℕ) (g : Tag) → p < l.number → was_read l.header p l.root g (reverse l.events) ≡ true
+    → has_tag g l.tags.items ≡ true

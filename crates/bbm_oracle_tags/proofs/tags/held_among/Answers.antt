@@ -14,9 +14,14 @@ loop-tag-preserved g c =
     let i = c.loop-tag.tag-index in
     let tags = c.args.tags.now in
     let tag : Tag = get_or tags i El2 in
-    set-same (λ g. (has_tag g (take i tags) && holds_tag c.args.header.now trust c.args.root g (reverse c.args.events.now))
+    set-same (λ g. (has_tag g (take i tags) && holds_tag c.args.header.now trust c.args.root g
+    (reverse c.args.events.now))
     || (same_tag tag g && holds_tag c.args.header.now trust c.args.root g (reverse c.args.events.now)))
     (λ g. has_tag g (take (i + 1) tags) && holds_tag c.args.header.now trust c.args.root g (reverse c.args.events.now))
-    c.in_ok-set.set
-    (λ g. one-more (λ g. holds_tag c.args.header.now trust c.args.root g (reverse c.args.events.now)) tags i tag g (omega arith) (get_or_default tags i El2 tag (omega arith)))
-    (c.in_ok-set.ensures (λ g. has_tag g (take i tags) && holds_tag c.args.header.now trust c.args.root g (reverse c.args.events.now)) c.loop-tag.invariant)
+    c.with_held-set.result
+    (λ g. one-more (λ g. holds_tag c.args.header.now trust c.args.root g (reverse c.args.events.now)) tags i tag g
+    (omega arith) (get_or_default tags i El2 tag (omega arith)))
+    (c.with_held-set.ensures (λ g. has_tag g (take i tags)
+    && holds_tag c.args.header.now trust c.args.root g (reverse c.args.events.now))
+    (λ g. holds_tag c.args.header.now trust c.args.root g (reverse c.args.events.now)) c.loop-tag.invariant
+    c.in_ok-holds.ensures)

@@ -5,4 +5,5 @@ use Rattle.bbm_oracle_tags.proofs.tags.held_among.Given as goal
 
 abbrev pub invariant-loop-tag : goal.invariant-loop-tag
 invariant-loop-tag g l =
-    HasTags (λ k. has_tag k (take l.tag-index l.tags) && holds_tag l.header (g.E.TagEvidence.trust l.evidence) l.root k (reverse l.events)) l.set
+    HasTags (λ k. has_tag k (take l.tag-index l.tags)
+    && holds_tag l.header (g.E.TagEvidence.trust l.evidence) l.root k (reverse l.events)) l.set

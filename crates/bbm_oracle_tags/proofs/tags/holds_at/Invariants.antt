@@ -3,4 +3,4 @@ use Rattle.bbm_oracle_tags.specs.Watches.{IsWatch}
 use Rattle.bbm_oracle_tags.proofs.tags.holds_at.Given as goal
 
 abbrev pub invariant-loop-i : goal.invariant-loop-i
-invariant-loop-i l = IsWatch l.header l.pe l.root l.tag (reverse (take l.i l.events)) l.watch
+invariant-loop-i l = IsWatch l.header l.asked.pe l.asked.root l.asked.tag (reverse (take l.i l.events)) l.watch

@@ -10,12 +10,15 @@ returns-then-branch g c =
     let trust : Trust = g.E.TagEvidence.trust c.args.evidence.now in
     let at : c.unwrap-pe.result ≡ c.loop-number.number = search rules in
     let pes : c.header.inside.pes ≡ c.args.header.now.pes = ap (λ (h : Heading). h.pes) c.header.view_is in
-    sym (one-pe c.args.header.now.pes (λ p. holds_at c.args.header.now trust p c.args.root c.args.tag (reverse c.args.events.now))
-    c.unwrap-pe.result (omega (arith, at, pes, c.loop-number-test.true)) (sym c.in_ok-holds_at.ensures ∙ c.if-branch.true))
+    sym (one-pe c.args.header.now.pes (λ p. holds_at c.args.header.now trust p c.args.root c.args.tag
+    (reverse c.args.events.now))
+    c.unwrap-pe.result (omega (arith, at, pes, c.loop-number-test.true))
+    (sym c.in_ok-holds_at.ensures ∙ c.if-branch.true))
 
 pub returns : goal.returns
 returns g c =
     let trust : Trust = g.E.TagEvidence.trust c.args.evidence.now in
     let pes : c.header.inside.pes ≡ c.args.header.now.pes = ap (λ (h : Heading). h.pes) c.header.view_is in
-    sym (no-pe c.args.header.now.pes (λ p. holds_at c.args.header.now trust p c.args.root c.args.tag (reverse c.args.events.now))
+    sym (no-pe c.args.header.now.pes (λ p. holds_at c.args.header.now trust p c.args.root c.args.tag
+    (reverse c.args.events.now))
     (λ p lt. c.loop-number.invariant p (omega (arith, pes, lt))))

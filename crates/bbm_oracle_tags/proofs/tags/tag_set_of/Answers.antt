@@ -16,9 +16,11 @@ returns g c =
     IfOk-weaker c.held_among.result
     (λ set. HasTags (λ g. has_tag g c.deref.result.now && holds_tag heading trust root g h) set)
     (λ set. set ≡ tag_set (tags_of heading trust root h))
-    (λ set has. same-set (λ g k e. (c.law_equality_tests.ensures.tags g k).0 e) (λ g. (c.law_equality_tests.ensures.tags g g).1 refl)
+    (λ set has. same-set (λ g k e. (c.law_equality_tests.ensures.tags g k).0 e)
+    (λ g. (c.law_equality_tests.ensures.tags g g).1 refl)
     (λ g. holds_tag heading trust root g h) set (tag_set (tags_of heading trust root h))
-    (set-same (λ g. has_tag g c.deref.result.now && holds_tag heading trust root g h) (λ g. holds_tag heading trust root g h) set
+    (set-same (λ g. has_tag g c.deref.result.now && holds_tag heading trust root g h)
+    (λ g. holds_tag heading trust root g h) set
     (λ g. and_implied (has_tag g c.deref.result.now) (holds_tag heading trust root g h)
     (λ held. rw c.deref.ensures.value (c.in_ok-tags.ensures trust g held))) has)
     (λ e. c.law_tag_set.ensures.none heading trust root h e)

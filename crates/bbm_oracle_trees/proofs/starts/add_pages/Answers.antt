@@ -4,5 +4,14 @@ use Rattle.bbm_oracle_trees.proofs.starts.add_pages.Goals as goal
 
 pub loop-index-preserved : goal.loop-index-preserved
 loop-index-preserved c =
-    let more = nodes_of_pages_more c.args.kind c.args.level c.args.root c.args.first c.args.root c.loop-index.index in
-    rw (c.in_ok-add.ensures, c.loop-index.invariant, more, c.page_behind.ensures, c.input_pages-size.ensures.value, c.new.ensures.items, append_assoc) refl
+    let start = c.args.start.now in
+    let more = nodes_of_pages_more start.kind start.level start.root start.first start.root c.loop-index.index in
+    rw (
+      c.in_ok-add.ensures,
+      c.loop-index.invariant,
+      more,
+      c.page_behind.ensures,
+      c.input_pages-size.ensures.value,
+      c.new.ensures.items,
+      append_assoc,
+    ) refl

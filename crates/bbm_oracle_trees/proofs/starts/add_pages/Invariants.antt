@@ -5,4 +5,5 @@ use Rattle.bbm_oracle_trees.proofs.starts.add_pages.Given as goal
 
 abbrev pub invariant-loop-index : goal.invariant-loop-index
 invariant-loop-index l =
-    l.nodes.items ≡ l.initial.nodes.items ++ nodes_of_pages l.kind l.level l.root l.first (pages_from l.root l.index)
+    l.nodes.items ≡ l.initial.nodes.items
+    ++ nodes_of_pages l.start.kind l.start.level l.start.root l.start.first (pages_from l.start.root l.index)

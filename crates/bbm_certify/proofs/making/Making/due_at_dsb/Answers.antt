@@ -1,6 +1,6 @@
 use Rattle.std.proofs.Common.{ℕ, ◌-◌, ◌<◌, List, length, reverse, take, ap, subst, sym, ◌∙◌, arith}
 use Rattle.std.proofs.lemmas.List.{length-reverse}
-use Rattle.bbm_cert.specs.declared.holdings.Holding.{Holding}
+use Rattle.bbm_oracle_tags.specs.declared.holding.Holding.{Holding}
 use Rattle.bbm_oracle_patterns.specs.Kept.{notes_of}
 use Rattle.bbm_oracle_trees.specs.Past.{notes}
 use Rattle.bbm_rules.specs.Claims.Trust.{Patterns}

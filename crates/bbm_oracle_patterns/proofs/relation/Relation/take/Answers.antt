@@ -5,7 +5,8 @@ use Rattle.bbm_oracle_patterns.proofs.relation.Relation.take.Goals as goal
 
 pub returns-clause-row : goal.returns-clause-row
 unfolding related
-returns-clause-row c = λ p. row_is c.args.self.now.rows c.get-index.result c.args.pe p _ (omega arith) c.get-index.ensures.value
+returns-clause-row c = λ p. row_is c.args.self.now.rows c.get-index.result c.args.pe p _
+    (omega arith) c.get-index.ensures.value
 
 pub returns-clause-left : goal.returns-clause-left
 unfolding related

@@ -11,10 +11,13 @@ returns c = λ place position covers since x.
     (record { seen = c.or.result; half = c.or-2.result; cleansed = c.or-4.result })
     c.answer-full.new.self c.answer-half.new.self c.answer-second.new.self
     (λ p. c.or.ensures p ∙ ap (λ (b : Bool). b || pe_in c.args.self.now.trace.seen p) (c.newly_seen-seen.ensures p))
-    (λ p. c.or-2.ensures p ∙ ap (λ (b : Bool). b || pe_in c.args.self.now.trace.half p) (c.answer-half.ensures.answered p))
+    (λ p. c.or-2.ensures p ∙ ap (λ (b : Bool). b || pe_in c.args.self.now.trace.half p)
+    (c.answer-half.ensures.answered p))
     (λ p. c.or-4.ensures p
     ∙ ap (λ (b : Bool). b || pe_in c.args.self.now.trace.cleansed p) (c.or-3.ensures p)
-    ∙ ap (λ (b : Bool). (b || pe_in c.answer-second.result p) || pe_in c.args.self.now.trace.cleansed p) (c.answer-full.ensures.answered p)
-    ∙ ap (λ (b : Bool). (((answers c.args.dsb true && is_open c.args.self.now.full c.args.pe true p) || (answers c.args.dsb false && is_open c.args.self.now.full c.args.pe false p)) || b)
+    ∙ ap (λ (b : Bool). (b || pe_in c.answer-second.result p) || pe_in c.args.self.now.trace.cleansed p)
+    (c.answer-full.ensures.answered p)
+    ∙ ap (λ (b : Bool). (((answers c.args.dsb true && is_open c.args.self.now.full c.args.pe true p)
+    || (answers c.args.dsb false && is_open c.args.self.now.full c.args.pe false p)) || b)
     || pe_in c.args.self.now.trace.cleansed p) (c.answer-second.ensures.answered p))
     c.answer-full.ensures.left c.answer-half.ensures.left c.answer-second.ensures.left

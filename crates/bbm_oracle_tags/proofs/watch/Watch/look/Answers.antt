@@ -5,17 +5,19 @@ use Rattle.bbm_oracle_tags.proofs.watch.Watch.look.Goals as goal
 
 pub returns-in_ok-readings-clause-looks : goal.returns-in_ok-readings-clause-looks
 returns-in_ok-readings-clause-looks c = λ h k.
-    let moment : IsMoment c.args.header.now.world c.args.pe (c.args.event.now ∷ h) c.take.new.self = record {
+    let moment : IsMoment c.args.header.now.world c.args.asked.now.pe (c.args.event.now ∷ h) c.take.new.self = record {
       roots = c.in_ok-take.ensures.roots h k.moment.roots;
       first = c.in_ok-take.ensures.first h k.moment.first;
       second = c.in_ok-take.ensures.second h k.moment.second;
     } in record {
       moment = moment;
       reads = c.is_read-self.ensures
-          ∙ reads-by c.args.header.now (c.args.event.now ∷ h) c.args.pe c.take.new.self c.deref.result.now c.args.tag c.args.root moment
+          ∙ reads-by c.args.header.now (c.args.event.now ∷ h) c.args.asked.now.pe c.take.new.self c.deref.result.now
+          c.args.asked.now.tag c.args.asked.now.root moment
           (c.deref.ensures.value ∙ c.in_ok-readings.ensures);
       reads_some = c.is_read_for_some-self.ensures
-          ∙ reads-some-by c.args.header.now (c.args.event.now ∷ h) c.args.pe c.take.new.self c.deref-then-changes_readings.result.now c.args.tag moment
+          ∙ reads-some-by c.args.header.now (c.args.event.now ∷ h) c.args.asked.now.pe c.take.new.self
+          c.deref-then-changes_readings.result.now c.args.asked.now.tag moment
           (c.deref-then-changes_readings.ensures.value ∙ c.in_ok-readings.ensures);
     }
 
@@ -26,8 +28,10 @@ returns-else-changes_readings-clause-looks c = λ h k. record {
     first = c.in_ok-take.ensures.first h k.moment.first;
     second = c.in_ok-take.ensures.second h k.moment.second;
   };
-  reads = k.reads ∙ sym (same-reads c.args.header.now c.args.event.now h c.args.pe c.args.tag c.args.root
+  reads = k.reads ∙ sym (same-reads c.args.header.now c.args.event.now h c.args.asked.now.pe c.args.asked.now.tag
+      c.args.asked.now.root
       (sym c.changes_readings.ensures ∙ c.if-changes_readings.false));
-  reads_some = k.reads_some ∙ sym (same-reads-some c.args.header.now c.args.event.now h c.args.pe c.args.tag
+  reads_some = k.reads_some ∙ sym (same-reads-some c.args.header.now c.args.event.now h c.args.asked.now.pe
+      c.args.asked.now.tag
       (sym c.changes_readings.ensures ∙ c.if-changes_readings.false));
 }

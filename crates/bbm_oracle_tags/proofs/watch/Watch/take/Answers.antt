@@ -9,12 +9,15 @@ pub returns : goal.returns
 returns c = λ k.
     let h = reverse c.args.before.now in
     let looks = c.in_ok-look.ensures.looks h k.looks in
-    watch-next c.args.header.now c.args.pe c.args.tag c.args.root c.args.event.now h c.args.self.now _ c.in_ok-whole.whole c.loses-lost.result
+    watch-next c.args.header.now c.args.asked.now.pe c.args.asked.now.tag c.args.asked.now.root c.args.event.now h
+    c.args.self.now _ c.in_ok-whole.whole c.loses-lost.result
     k (record { moment = looks.moment; reads = looks.reads; reads_some = looks.reads_some })
     c.in_ok-whole.ensures c.loses-lost.ensures
     (c.holds_after-self.ensures
     ∙ ap (λ (b : Bool). c.look.new.self.reads || (b && not c.loses-lost.result)) c.in_ok-look.ensures.holds)
     (λ q. c.awaiting_after-self.ensures q
-    ∙ ap (λ (m : PeMask). awaits_after false c.in_ok-whole.whole c.look.new.self.reads_some c.args.event.now q (pe_in m q)) c.in_ok-look.ensures.local)
+    ∙ ap (λ (m : PeMask). awaits_after false c.in_ok-whole.whole c.look.new.self.reads_some c.args.event.now q
+    (pe_in m q)) c.in_ok-look.ensures.local)
     (λ q. c.awaiting_after-self-2.ensures q
-    ∙ ap (λ (m : PeMask). awaits_after true c.in_ok-whole.whole c.look.new.self.reads_some c.args.event.now q (pe_in m q)) c.in_ok-look.ensures.broadcast)
+    ∙ ap (λ (m : PeMask). awaits_after true c.in_ok-whole.whole c.look.new.self.reads_some c.args.event.now q
+    (pe_in m q)) c.in_ok-look.ensures.broadcast)

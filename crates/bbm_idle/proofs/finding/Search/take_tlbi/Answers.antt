@@ -11,21 +11,24 @@ use Rattle.bbm_idle.specs.Finding.{needed_by, place_adds}
 use Rattle.bbm_idle.specs.Idle.{is_needed}
 use Rattle.bbm_idle.specs.declared.find_places.Seat.{Seat}
 use Rattle.bbm_idle.proofs.FindPlaces.{adds_stand, needed_is}
-use Rattle.bbm_idle.proofs.find_needed.take_tlbi.Goals as goal
+use Rattle.bbm_idle.proofs.finding.Search.take_tlbi.Goals as goal
 
 pub returns-clause-needed : goal.returns-clause-needed
 returns-clause-needed c =
     let h = reverse c.args.before.now in
-    let past = c.args.history.now in
+    let past = c.args.self.now.history in
     let covers : ℕ → Cover = cover_at past.heading past.trust (notes past) c.args.event.now in
     IfOk-weaker c.is_needed.result
-    (λ (b : Bool). b ≡ some_pe c.args.header.now.pes (needed_by c.args.header.now h c.args.event.now (pe_in c.newest_adds-added.result)))
+    (λ (b : Bool). b ≡ some_pe c.args.header.now.pes
+    (needed_by c.args.header.now h c.args.event.now (pe_in c.newest_adds-added.result)))
     (λ (b : Bool). b ≡ is_needed c.args.header.now h c.args.event.now)
     (λ b k. k ∙ needed_is c.args.header.now h c.args.event.now (pe_in c.newest_adds-added.result)
     (λ p. c.newest_adds-added.ensures (note past.heading past.trust (notes past) c.args.event.now) (notes past)
     (ap notes_of c.log.ensures ∙ c.in_ok-take.ensures.taken) p
-    ∙ ap (λ (g : Heading). any (place_adds g (notes past) covers p) c.deref.result.now) (sym c.requires.stands.kept.heading_is)
-    ∙ ap (λ (ss : List Seat). any (place_adds past.heading (notes past) covers p) ss) c.deref.ensures.value
+    ∙ ap (λ (g : Heading). any (place_adds g (notes past) covers p) c.deref-3.result.now)
+    (sym c.requires.stands.history.kept.heading_is)
+    ∙ ap (λ (ss : List Seat). any (place_adds past.heading (notes past) covers p) ss) c.deref-3.ensures.value
     ∙ c.in_ok-seats.ensures p covers
-    ∙ adds_stand past c.args.header.now h c.args.event.now p c.args.written.now c.requires.stands c.requires.written))
+    ∙ adds_stand past c.args.header.now h c.args.event.now p c.deref.result.now c.requires.stands.history
+    (c.deref.ensures.value ∙ c.requires.stands.written)))
     c.is_needed.ensures

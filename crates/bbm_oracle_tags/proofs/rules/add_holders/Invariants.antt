@@ -1,7 +1,0 @@
-use Rattle.std.proofs.Common.{◌≡◌, ◌++◌, take, reverse}
-use Rattle.bbm_oracle_tags.specs.Conflicts.{holder_pages}
-use Rattle.bbm_oracle_tags.proofs.rules.add_holders.Given as goal
-
-abbrev pub invariant-loop-root : goal.invariant-loop-root
-invariant-loop-root g l = l.pages.items
-    ≡ l.initial.pages.items ++ holder_pages l.header (g.E.TagEvidence.trust l.evidence) (reverse l.after) l.reading (take l.root-index l.roots)

@@ -1,0 +1,14 @@
+//! A tag of a root at a PE.
+
+use bbm_regimes::{Pe, Tag};
+
+/// A tag that a root holds at a PE, or may hold there. Source: project's own choice.
+#[derive(Clone, Copy, Debug)]
+pub struct Holding {
+    /// The PE.
+    pub pe: Pe,
+    /// The address of the root's first page, in bytes.
+    pub root: u64,
+    /// The tag.
+    pub tag: Tag,
+}
