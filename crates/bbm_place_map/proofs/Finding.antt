@@ -1,6 +1,6 @@
 -- How far items cover a place.
 use Rattle.std.proofs.Common.{◌≡◌, ℕ, ◌+◌, ◌<◌, Bool, true, false, nat_eq, suc, List, [], ◌∷◌, length, ◌++◌, drop, take}
-use Rattle.std.proofs.Common.{get_or, refl, arith, ap, sym, ◌∙◌, inl, inr, ◌||◌, if◌then◌else◌, add-one, drop-cons}
+use Rattle.std.proofs.Common.{get_or, refl, arith, ap, sym, ◌∙◌, inl, inr, ◌||◌, if◌then◌else◌, add-one}
 use Rattle.std.proofs.Math.Seq.{take-suc}
 use Rattle.std.proofs.lemmas.Bool.{cases_Bool, cond-true, cond-false, eq-eqb, eqb-true, false≢true}
 use Rattle.std.proofs.lemmas.List.{take-append-drop}

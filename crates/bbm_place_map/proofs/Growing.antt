@@ -1,16 +1,10 @@
 -- One more page.
-use Rattle.std.proofs.Common.{◌≡◌, ◌≢◌, ℕ, ◌+◌, ◌*◌, ◌/◌, ◌%◌, ◌≤◌, Bool, true, false, nat_eq, ◌==◌, List, length}
+use Rattle.std.proofs.Common.{◌≡◌, ◌≢◌, ℕ, ◌+◌, ◌*◌, ◌/◌, ◌%◌, ◌≤◌, Bool, true, false, nat_eq, ◌==◌, List}
 use Rattle.std.proofs.Common.{Option, Some, None, refl, ap, sym, ◌∙◌, arith, inl, inr, ◌⊎◌, if◌then◌else◌, is_some}
 use Rattle.std.specs.Option.{option_map}
 use Rattle.std.proofs.lemmas.Bool.{cases_eq, eq-eqb, ne_eqb, cond-true, cond-false}
-use Rattle.std.proofs.lemmas.List.{get_or_past}
 use Rattle.std.proofs.lemmas.Option.{same_Some, none-some}
-use Rattle.bbm_place_map.specs.Cells.{no_cell, value_in, slot_in}
-use Rattle.bbm_place_map.specs.Entries.{no_pends, entry_of, marks_of, pends_of}
-use Rattle.bbm_place_map.specs.Parts.{marks_in, pends_for}
-use Rattle.bbm_place_map.specs.Sound.{Numbered, Placed, index_of, at_index}
-use Rattle.bbm_place_map.specs.declared.cell.Cell.{Cell}
-use Rattle.bbm_place_map.proofs.Places.{at_same}
+use Rattle.bbm_place_map.specs.Sound.{Numbered, Placed, index_of}
 use Rattle.bbm_place_map.specs.declared.entry.Entry.{Entry}
 
 module _ (old new : ℕ → Option ℕ) (page count : ℕ) (updates : (p : ℕ) → new p ≡ (if nat_eq p page then Some count else old p))

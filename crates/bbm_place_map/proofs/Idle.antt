@@ -16,6 +16,7 @@ use Rattle.bbm_place_map.specs.Dsbs.{AreAnswered, WaitsOn}
 use Rattle.bbm_place_map.specs.Entries.{no_pends, pends_in, pends_of, entry_of}
 use Rattle.bbm_place_map.specs.Cells.{slot_in}
 use Rattle.bbm_place_map.specs.Parts.{pends_for}
+use Rattle.bbm_place_map.specs.Works.{IsQuiet}
 use Rattle.bbm_place_map.specs.declared.cell.Cell.{Cell}
 use Rattle.bbm_place_map.specs.declared.entry.Entry.{Entry}
 use Rattle.bbm_place_map.specs.Sound.{at_index}
@@ -39,6 +40,10 @@ nothing_waits false Full p = no_pe p
 
 pub idle_from : (x : Pends) → x ≡ no_pends → IsIdle x
 idle_from x is b c p = ap (λ (y : Pends). waits y b c p) is ∙ nothing_waits b c p
+
+-- where nothing waits
+pub quiet_from : (wide : Bool) (x : Pends) → IsIdle x → IsQuiet wide x
+quiet_from wide x idle b c p _ = idle b c p
 
 -- a DSB answers nothing there
 module _ (x : Pends) (dsb : Dsb) (idle : IsIdle x) where

@@ -5,10 +5,10 @@ use Rattle.bbm_regimes.specs.declared.pe.PeMask.{PeMask}
 use Rattle.bbm_tlbi_scope.specs.declared.entry.Cover.{Cover}
 use Rattle.bbm_tlbi_scope.specs.declared.entry.Cover.TheVariants.{None as NoCover, Half, Second, Full}
 use Rattle.bbm_entry_state.specs.Points.{waits, waits_in}
-use Rattle.bbm_entry_state.specs.EntryStanding.{IsIdle}
 use Rattle.bbm_entry_state.specs.declared.pending.Pend.{Pend}
 use Rattle.bbm_entry_state.specs.declared.pending.Pends.{Pends}
-use Rattle.std.proofs.lemmas.Bool.{or_from}
+use Rattle.bbm_place_map.specs.Works.{IsQuiet}
+use Rattle.std.proofs.lemmas.Bool.{false≢true, or_from}
 use Rattle.bbm_lemmas.proofs.Bools.{first_none, second_none}
 
 module _ (pend : Pend) (m m' : PeMask) (is : (p : ℕ) → pe_in m p ≡ (pe_in pend.half p || pe_in pend.second p))
@@ -36,8 +36,15 @@ module _ (pends : Pends) (both : Pend)
   each_idle none true c p = first_none (waits_in pends.broadcast c p) (waits_in pends.local c p) (sym (is c p) ∙ none c p)
   each_idle none false c p = second_none (waits_in pends.broadcast c p) (waits_in pends.local c p) (sym (is c p) ∙ none c p)
 
-  pub idle_iff : (r : Bool) → (IsTrue r ↔ ((c : Cover) (p : ℕ) → waits_in both c p ≡ false)) → IsTrue r ↔ IsIdle pends
-  idle_iff r tells = (
-    λ t. each_idle (tells.0 t),
-    λ h. tells.1 (λ c p. is c p ∙ or_from (waits_in pends.broadcast c p) (waits_in pends.local c p) (h true c p) (h false c p)),
+  pub quiet_iff : (r : Bool) → (IsTrue r ↔ ((c : Cover) (p : ℕ) → waits_in both c p ≡ false)) → IsTrue r ↔ IsQuiet true pends
+  quiet_iff r tells = (
+    λ t b c p _. each_idle (tells.0 t) b c p,
+    λ h. tells.1 (λ c p. is c p ∙ or_from (waits_in pends.broadcast c p) (waits_in pends.local c p) (h true c p refl) (h false c p refl)),
   )
+
+local_quiet : (pends : Pends) → ((c : Cover) (p : ℕ) → waits_in pends.local c p ≡ false) → IsQuiet false pends
+local_quiet pends none true c p is = absurd (false≢true is)
+local_quiet pends none false c p is = none c p
+
+pub local_iff : (pends : Pends) (r : Bool) → (IsTrue r ↔ ((c : Cover) (p : ℕ) → waits_in pends.local c p ≡ false)) → IsTrue r ↔ IsQuiet false pends
+local_iff pends r tells = (λ t. local_quiet pends (tells.0 t), λ h. tells.1 (λ c p. h false c p refl))

@@ -10,19 +10,19 @@ use Rattle.bbm_lemmas.specs.EveryPe.{every_pe}
 use Rattle.bbm_regimes.specs.PeMask.{pe_in}
 use Rattle.bbm_tlbi_scope.specs.declared.entry.Cover.{Cover}
 use Rattle.bbm_entry_state.specs.Points.{is_broken}
-use Rattle.bbm_entry_state.specs.EntryStanding.{IsIdle}
 use Rattle.bbm_entry_state.specs.declared.marks.Marks.{Marks}
 use Rattle.bbm_entry_state.specs.declared.pending.Pends.{Pends}
 use Rattle.bbm_entry_state.specs.declared.state.EntryState.{EntryState}
 use Rattle.bbm_entry_state.specs.declared.state.EntryState.TheVariants.{Clean, Broken}
 use Rattle.bbm_place_map.specs.Cells.{slot_in}
+use Rattle.bbm_place_map.specs.Dsbs.{HoldUntold, HoldWaiting}
 use Rattle.bbm_place_map.specs.Each.{Advances, Publishes, Completes}
 use Rattle.bbm_place_map.specs.Entries.{entry_of, entry_in, marks_of, pends_of, pends_in, no_pends}
 use Rattle.bbm_place_map.specs.PlaceNotes.{Keeps, NotesAt}
 use Rattle.bbm_place_map.specs.Parts.{marks_in, pends_for}
 use Rattle.bbm_place_map.specs.Sound.{Linked}
 use Rattle.bbm_place_map.specs.States.{marks_of_state}
-use Rattle.bbm_place_map.specs.Works.{HoldsFor, IsTold, IsToldAsBefore, GivesUp, Listed, Waits, is_clean}
+use Rattle.bbm_place_map.specs.Works.{HoldsFor, IsQuiet, IsTold, IsToldAsBefore, GivesUp, Listed, Waits, is_clean}
 use Rattle.bbm_place_map.specs.declared.cell.Cell.{Cell}
 use Rattle.bbm_place_map.specs.declared.entry.Entry.{Entry}
 use Rattle.bbm_place_map.specs.declared.orders.Barrier.{Barrier}
@@ -31,31 +31,33 @@ use Rattle.bbm_place_map.specs.declared.entry.Pending.{Pending}
 use Rattle.bbm_place_map.specs.declared.work.Work.{Work}
 use Rattle.bbm_place_map.specs.declared.work.WorkList.{WorkList}
 use Rattle.bbm_place_map.proofs.Advancing.{of_cell, advance_by}
-use Rattle.bbm_place_map.proofs.Idle.{idle_from, none_kept}
+use Rattle.bbm_place_map.proofs.Idle.{idle_from, quiet_from, none_kept}
 use Rattle.bbm_place_map.proofs.Knowing.{known_or, or_known, told_by_cell, told_entry}
 use Rattle.bbm_place_map.proofs.Publishing.{known_kept}
-use Rattle.bbm_place_map.proofs.Resting.{completes_unclean, idle_others, told_completed}
+use Rattle.bbm_place_map.proofs.Resting.{completes_unclean, quiet_others, told_completed}
 use Rattle.bbm_place_map.proofs.Telling.{told_no_writer, told_after_write}
 use Rattle.bbm_lemmas.proofs.Bools.{with_true}
 
-pub told_of : (w : Work) (cells : List Cell) (entries : List Entry) → Listed w cells entries → (q j : ℕ) (marks : Marks) → q < w.pes
-    → marks_in cells entries j ≡ Some marks → HoldsFor w.unpublished.items q j ⊎ IsTold w.pes q marks
-told_of w cells entries listed q j marks below is = known_or w.unpublished.items q j (IsTold w.pes q marks) (listed.told q j marks below is)
+pub told_of : (w : Work) (cells : List Cell) (entries : List Entry) → Listed w cells entries → (wide : Bool) (q j : ℕ) (marks : Marks) → q < w.pes
+    → marks_in cells entries j ≡ Some marks → HoldsFor w.unpublished.items q wide j ⊎ IsTold wide w.pes q marks
+told_of w cells entries listed wide q j marks below is =
+    known_or w.unpublished.items q wide j (IsTold wide w.pes q marks) (listed.told wide q j marks below is)
 
-pub idle_of : (w : Work) (cells : List Cell) (entries : List Entry) → Listed w cells entries → (q j : ℕ)
-    → HoldsFor w.waiting.items q j ⊎ IsIdle (pends_for cells entries q j)
-idle_of w cells entries listed q j = known_or w.waiting.items q j (IsIdle (pends_for cells entries q j)) (listed.idle q j)
+pub quiet_of : (w : Work) (cells : List Cell) (entries : List Entry) → Listed w cells entries → (wide : Bool) (q j : ℕ)
+    → HoldsFor w.waiting.items q wide j ⊎ IsQuiet wide (pends_for cells entries q j)
+quiet_of w cells entries listed wide q j = known_or w.waiting.items q wide j (IsQuiet wide (pends_for cells entries q j)) (listed.idle wide q j)
 
 pub listed_by : (w : Work) (cells : List Cell) (entries : List Entry) → 1 ≤ w.pes → w.pes ≤ 128
-    → ((q j : ℕ) (marks : Marks) → q < w.pes → marks_in cells entries j ≡ Some marks → HoldsFor w.unpublished.items q j ⊎ IsTold w.pes q marks)
-    → ((q j : ℕ) → HoldsFor w.waiting.items q j ⊎ IsIdle (pends_for cells entries q j))
+    → ((wide : Bool) (q j : ℕ) (marks : Marks) → q < w.pes → marks_in cells entries j ≡ Some marks
+    → HoldsFor w.unpublished.items q wide j ⊎ IsTold wide w.pes q marks)
+    → ((wide : Bool) (q j : ℕ) → HoldsFor w.waiting.items q wide j ⊎ IsQuiet wide (pends_for cells entries q j))
     → (w.settled ≡ true → (j : ℕ) (marks : Marks) → marks_in cells entries j ≡ Some marks → is_clean w.pes marks ≡ false)
     → Listed w cells entries
-listed_by w cells entries some most told idle settled = record {
+listed_by w cells entries some most told quiet settled = record {
   some = some;
   most = most;
-  told = λ q j marks below is. or_known w.unpublished.items q j (IsTold w.pes q marks) (told q j marks below is);
-  idle = λ q j. or_known w.waiting.items q j (IsIdle (pends_for cells entries q j)) (idle q j);
+  told = λ wide q j marks below is. or_known w.unpublished.items q wide j (IsTold wide w.pes q marks) (told wide q j marks below is);
+  idle = λ wide q j. or_known w.waiting.items q wide j (IsQuiet wide (pends_for cells entries q j)) (quiet wide q j);
   settled = settled;
 }
 
@@ -67,15 +69,16 @@ no_marks entries none (Some k) marks is = none-some marks (sym (ap (λ (es : Lis
 pub listed_none : (w : Work) (cells : List Cell) (entries : List Entry) → 1 ≤ w.pes → w.pes ≤ 128 → entries ≡ [] → Listed w cells entries
 listed_none w cells entries some most none =
     listed_by w cells entries some most
-    (λ q j marks below is. absurd (no_marks entries none (slot_in cells j) marks is))
-    (λ q j. inr (none_kept q cells entries none (Some j)))
+    (λ wide q j marks below is. absurd (no_marks entries none (slot_in cells j) marks is))
+    (λ wide q j. inr (quiet_from wide (pends_for cells entries q j) (none_kept q cells entries none (Some j))))
     (λ settled j marks is. absurd (no_marks entries none (slot_in cells j) marks is))
 
 -- where the lists have given up
 pub listed_all : (w : Work) (cells : List Cell) (entries : List Entry) → 1 ≤ w.pes → w.pes ≤ 128
-    → ((q j : ℕ) → HoldsFor w.unpublished.items q j) → ((q j : ℕ) → HoldsFor w.waiting.items q j) → (w.settled ≡ true → ⊥) → Listed w cells entries
+    → ((wide : Bool) (q j : ℕ) → HoldsFor w.unpublished.items q wide j) → ((wide : Bool) (q j : ℕ) → HoldsFor w.waiting.items q wide j)
+    → (w.settled ≡ true → ⊥) → Listed w cells entries
 listed_all w cells entries some most unpublished waiting unsettled =
-    listed_by w cells entries some most (λ q j marks below is. inl (unpublished q j)) (λ q j. inl (waiting q j)) (λ settled j marks is. absurd (unsettled settled))
+    listed_by w cells entries some most (λ wide q j marks below is. inl (unpublished wide q j)) (λ wide q j. inl (waiting wide q j)) (λ settled j marks is. absurd (unsettled settled))
 
 empty : (entries : List Entry) → length entries ≡ 0 → entries ≡ []
 empty [] none = refl
@@ -98,8 +101,8 @@ listed_begun w w' n broken cells entries some most pes number kept listed =
 
 -- where no entry changes but some leave, and lists have no less
 module _ (w w' : Work) (cells cells' : List Cell) (entries entries' : List Entry) (pes : w'.pes ≡ w.pes) (settled : w'.settled ≡ w.settled)
-    (unpublished : (q j : ℕ) → HoldsFor w.unpublished.items q j → HoldsFor w'.unpublished.items q j)
-    (waiting : (q j : ℕ) → HoldsFor w.waiting.items q j → HoldsFor w'.waiting.items q j)
+    (unpublished : (wide : Bool) (q j : ℕ) → HoldsFor w.unpublished.items q wide j → HoldsFor w'.unpublished.items q wide j)
+    (waiting : (wide : Bool) (q j : ℕ) → HoldsFor w.waiting.items q wide j → HoldsFor w'.waiting.items q wide j)
     (stays : (j : ℕ) → (entry_in cells' entries' j ≡ None) ⊎ (entry_in cells' entries' j ≡ entry_in cells entries j))
     (listed : Listed w cells entries) where
   were : (j : ℕ) (marks : Marks) → marks_in cells' entries' j ≡ Some marks → marks_in cells entries j ≡ Some marks
@@ -112,18 +115,18 @@ module _ (w w' : Work) (cells cells' : List Cell) (entries entries' : List Entry
   pub listed_fewer : Listed w' cells' entries'
   listed_fewer =
       listed_by w' cells' entries' (subst (λ (x : ℕ). 1 ≤ x) (sym pes) listed.some) (subst (λ (x : ℕ). x ≤ 128) (sym pes) listed.most)
-      (λ q j marks below is.
-      elim (told_of w cells entries listed q j marks (subst (λ (x : ℕ). q < x) pes below) (were j marks is)) [
-        | inl holds ↦ inl (unpublished q j holds)
-        | inr told ↦ inr (subst (λ (x : ℕ). IsTold x q marks) (sym pes) told)
+      (λ wide q j marks below is.
+      elim (told_of w cells entries listed wide q j marks (subst (λ (x : ℕ). q < x) pes below) (were j marks is)) [
+        | inl holds ↦ inl (unpublished wide q j holds)
+        | inr told ↦ inr (subst (λ (x : ℕ). IsTold wide x q marks) (sym pes) told)
       ])
-      (λ q j.
+      (λ wide q j.
       elim (stays j) [
-        | inl gone ↦ inr (idle_from (pends_for cells' entries' q j) (ap (pends_of q) gone))
+        | inl gone ↦ inr (quiet_from wide (pends_for cells' entries' q j) (idle_from (pends_for cells' entries' q j) (ap (pends_of q) gone)))
         | inr same ↦
-            elim (idle_of w cells entries listed q j) [
-              | inl holds ↦ inl (waiting q j holds)
-              | inr idle ↦ inr (subst (λ (o : Option Entry). IsIdle (pends_of q o)) (sym same) idle)
+            elim (quiet_of w cells entries listed wide q j) [
+              | inl holds ↦ inl (waiting wide q j holds)
+              | inr quiet ↦ inr (subst (λ (o : Option Entry). IsQuiet wide (pends_of q o)) (sym same) quiet)
             ]
       ])
       (λ is j marks at. subst (λ (x : ℕ). is_clean x marks ≡ false) (sym pes) (listed.settled (sym settled ∙ is) j marks (were j marks at)))
@@ -131,9 +134,9 @@ module _ (w w' : Work) (cells cells' : List Cell) (entries entries' : List Entry
 -- a place is written
 module _ (w w' : Work) (cells cells' : List Cell) (entries entries' : List Entry) (j : ℕ) (state : EntryState) (before : Option Marks)
     (pes : w'.pes ≡ w.pes) (was : before ≡ marks_in cells entries j)
-    (told : (marks : Marks) → marks_of_state state ≡ Some marks → (q : ℕ) → q < w.pes
-    → HoldsFor w'.unpublished.items q j ⊎ ((pe_in marks.writers q ≡ false) ⊎ IsToldAsBefore before marks q))
-    (kept : (q i : ℕ) → HoldsFor w.unpublished.items q i → HoldsFor w'.unpublished.items q i)
+    (told : (marks : Marks) → marks_of_state state ≡ Some marks → (wide : Bool) (q : ℕ) → q < w.pes
+    → HoldsFor w'.unpublished.items q wide j ⊎ ((pe_in marks.writers q ≡ false) ⊎ IsToldAsBefore before marks q))
+    (kept : (wide : Bool) (q i : ℕ) → HoldsFor w.unpublished.items q wide i → HoldsFor w'.unpublished.items q wide i)
     (waiting : w'.waiting.items ≡ w.waiting.items) (settled : w'.settled ≡ true → w.settled ≡ true)
     (unclean : (marks : Marks) → marks_of_state state ≡ Some marks → w'.settled ≡ true → is_clean w.pes marks ≡ false)
     (marks_are : (i : ℕ) → marks_in cells' entries' i ≡ (if nat_eq i j then marks_of_state state else marks_in cells entries i))
@@ -146,47 +149,48 @@ module _ (w w' : Work) (cells cells' : List Cell) (entries entries' : List Entry
   away : (i : ℕ) (marks : Marks) → marks_in cells' entries' i ≡ Some marks → i ≢ j → marks_in cells entries i ≡ Some marks
   away i marks is other = sym (marks_are i ∙ cond-false (nat_eq i j) (marks_of_state state) (marks_in cells entries i) (ne_eqb i j other)) ∙ is
 
-  told_here : (q : ℕ) (marks : Marks) → q < w.pes → marks_of_state state ≡ Some marks → HoldsFor w'.unpublished.items q j ⊎ IsTold w.pes q marks
-  told_here q marks below is =
-      elim (told marks is q below) [
+  told_here : (wide : Bool) (q : ℕ) (marks : Marks) → q < w.pes → marks_of_state state ≡ Some marks
+      → HoldsFor w'.unpublished.items q wide j ⊎ IsTold wide w.pes q marks
+  told_here wide q marks below is =
+      elim (told marks is wide q below) [
         | inl holds ↦ inl holds
         | inr rest ↦
             elim rest [
-              | inl none ↦ inr (told_no_writer w.pes q marks none)
+              | inl none ↦ inr (told_no_writer wide w.pes q marks none)
               | inr as_before ↦
-                  elim (told_of w cells entries listed q j as_before.0 below (sym was ∙ as_before.1)) [
-                    | inl holds ↦ inl (kept q j holds)
-                    | inr old ↦ inr (told_after_write w.pes q as_before.0 marks as_before.2 as_before.3 old)
+                  elim (told_of w cells entries listed wide q j as_before.0 below (sym was ∙ as_before.1)) [
+                    | inl holds ↦ inl (kept wide q j holds)
+                    | inr old ↦ inr (told_after_write wide w.pes q as_before.0 marks as_before.2 as_before.3 old)
                   ]
             ]
       ]
 
-  told_now : (q i : ℕ) (marks : Marks) → q < w.pes → marks_in cells' entries' i ≡ Some marks
-      → HoldsFor w'.unpublished.items q i ⊎ IsTold w.pes q marks
-  told_now q i marks below is =
+  told_now : (wide : Bool) (q i : ℕ) (marks : Marks) → q < w.pes → marks_in cells' entries' i ≡ Some marks
+      → HoldsFor w'.unpublished.items q wide i ⊎ IsTold wide w.pes q marks
+  told_now wide q i marks below is =
       elim (cases_eq i j) [
         | inl same ↦
-            let P : ℕ → Type 0 = λ x. HoldsFor w'.unpublished.items q x ⊎ IsTold w.pes q marks in
-            subst P (sym same) (told_here q marks below (here i marks is same))
+            let P : ℕ → Type 0 = λ x. HoldsFor w'.unpublished.items q wide x ⊎ IsTold wide w.pes q marks in
+            subst P (sym same) (told_here wide q marks below (here i marks is same))
         | inr other ↦
-            elim (told_of w cells entries listed q i marks below (away i marks is other)) [
-              | inl holds ↦ inl (kept q i holds)
+            elim (told_of w cells entries listed wide q i marks below (away i marks is other)) [
+              | inl holds ↦ inl (kept wide q i holds)
               | inr old ↦ inr old
             ]
       ]
 
-  idle_now : (q i : ℕ) → HoldsFor w'.waiting.items q i ⊎ IsIdle (pends_for cells' entries' q i)
-  idle_now q i =
+  quiet_now : (wide : Bool) (q i : ℕ) → HoldsFor w'.waiting.items q wide i ⊎ IsQuiet wide (pends_for cells' entries' q i)
+  quiet_now wide q i =
       elim (cases_Bool (nat_eq i j && not (is_broken state))) [
         | inl dropped ↦
-            inr (idle_from (pends_for cells' entries' q i)
-            (pends_are q i ∙ cond-true (nat_eq i j && not (is_broken state)) no_pends (pends_for cells entries q i) dropped))
+            inr (quiet_from wide (pends_for cells' entries' q i) (idle_from (pends_for cells' entries' q i)
+            (pends_are q i ∙ cond-true (nat_eq i j && not (is_broken state)) no_pends (pends_for cells entries q i) dropped)))
         | inr stays ↦
-            elim (idle_of w cells entries listed q i) [
-              | inl holds ↦ inl (subst (λ (xs : List WorkList). HoldsFor xs q i) (sym waiting) holds)
-              | inr idle ↦
-                  inr (subst (λ (x : Pends). IsIdle x)
-                  (sym (pends_are q i ∙ cond-false (nat_eq i j && not (is_broken state)) no_pends (pends_for cells entries q i) stays)) idle)
+            elim (quiet_of w cells entries listed wide q i) [
+              | inl holds ↦ inl (subst (λ (xs : List WorkList). HoldsFor xs q wide i) (sym waiting) holds)
+              | inr quiet ↦
+                  inr (subst (λ (x : Pends). IsQuiet wide x)
+                  (sym (pends_are q i ∙ cond-false (nat_eq i j && not (is_broken state)) no_pends (pends_for cells entries q i) stays)) quiet)
             ]
       ]
 
@@ -200,9 +204,9 @@ module _ (w w' : Work) (cells cells' : List Cell) (entries entries' : List Entry
   pub listed_set : Listed w' cells' entries'
   listed_set =
       listed_by w' cells' entries' (subst (λ (x : ℕ). 1 ≤ x) (sym pes) listed.some) (subst (λ (x : ℕ). x ≤ 128) (sym pes) listed.most)
-      (subst (λ (x : ℕ). (q i : ℕ) (marks : Marks) → q < x → marks_in cells' entries' i ≡ Some marks
-      → HoldsFor w'.unpublished.items q i ⊎ IsTold x q marks) (sym pes) told_now)
-      idle_now
+      (subst (λ (x : ℕ). (wide : Bool) (q i : ℕ) (marks : Marks) → q < x → marks_in cells' entries' i ≡ Some marks
+      → HoldsFor w'.unpublished.items q wide i ⊎ IsTold wide x q marks) (sym pes) told_now)
+      quiet_now
       (subst (λ (x : ℕ). w'.settled ≡ true → (i : ℕ) (marks : Marks) → marks_in cells' entries' i ≡ Some marks → is_clean x marks ≡ false) (sym pes) settled_now)
 
 -- a place is written that isn't broken after
@@ -212,7 +216,7 @@ pub listed_whole : (w : Work) (cells cells' : List Cell) (entries entries' : Lis
     → Listed w cells entries → Listed w cells' entries'
 listed_whole w cells cells' entries entries' j marks_are pends_are listed =
     listed_set w w cells cells' entries entries' j Clean (marks_in cells entries j) refl refl
-    (λ marks is. absurd (none-some marks is)) (λ q i holds. holds) refl (λ settled. settled) (λ marks is. absurd (none-some marks is))
+    (λ marks is. absurd (none-some marks is)) (λ wide q i holds. holds) refl (λ settled. settled) (λ marks is. absurd (none-some marks is))
     marks_are
     (λ q i. pends_are q i ∙ ap (λ (b : Bool). if b then no_pends else pends_for cells entries q i) (with_true (nat_eq i j)))
     listed
@@ -220,8 +224,9 @@ listed_whole w cells cells' entries entries' j marks_are pends_are listed =
 -- a place is written that is broken after
 pub listed_broken : (w w' : Work) (cells cells' : List Cell) (entries entries' : List Entry) (j : ℕ) (marks : Marks) (before : Option Marks)
     → w'.pes ≡ w.pes → before ≡ marks_in cells entries j
-    → ((q : ℕ) → q < w.pes → HoldsFor w'.unpublished.items q j ⊎ ((pe_in marks.writers q ≡ false) ⊎ IsToldAsBefore before marks q))
-    → ((q i : ℕ) → HoldsFor w.unpublished.items q i → HoldsFor w'.unpublished.items q i)
+    → ((wide : Bool) (q : ℕ) → q < w.pes
+    → HoldsFor w'.unpublished.items q wide j ⊎ ((pe_in marks.writers q ≡ false) ⊎ IsToldAsBefore before marks q))
+    → ((wide : Bool) (q i : ℕ) → HoldsFor w.unpublished.items q wide i → HoldsFor w'.unpublished.items q wide i)
     → w'.waiting.items ≡ w.waiting.items → (w'.settled ≡ true → w.settled ≡ true)
     → (w'.settled ≡ true → is_clean w.pes marks ≡ false)
     → ((i : ℕ) → marks_in cells' entries' i ≡ (if nat_eq i j then Some marks else marks_in cells entries i))
@@ -229,8 +234,8 @@ pub listed_broken : (w w' : Work) (cells cells' : List Cell) (entries entries' :
     → Listed w cells entries → Listed w' cells' entries'
 listed_broken w w' cells cells' entries entries' j marks before pes was told kept waiting settled unclean marks_are pends_are listed =
     listed_set w w' cells cells' entries entries' j (Broken marks) before pes was
-    (λ m is. subst (λ (x : Marks). (q : ℕ) → q < w.pes
-    → HoldsFor w'.unpublished.items q j ⊎ ((pe_in x.writers q ≡ false) ⊎ IsToldAsBefore before x q)) (same_Some marks m is) told)
+    (λ m is. subst (λ (x : Marks). (wide : Bool) (q : ℕ) → q < w.pes
+    → HoldsFor w'.unpublished.items q wide j ⊎ ((pe_in x.writers q ≡ false) ⊎ IsToldAsBefore before x q)) (same_Some marks m is) told)
     kept waiting settled
     (λ m is. subst (λ (x : Marks). w'.settled ≡ true → is_clean w.pes x ≡ false) (same_Some marks m is) unclean)
     marks_are
@@ -259,22 +264,23 @@ clean_same by m (Some e) (Some f) h known marks is =
 module _ (w w' : Work) (by : Barrier) (cells : List Cell) (entries entries' : List Entry)
     (number : w.pes ≡ by.n) (pes : w'.pes ≡ w.pes) (settled : w'.settled ≡ w.settled) (waiting : w'.waiting.items ≡ w.waiting.items)
     (each : (k : ℕ) → Advances (Publishes by) (slice_get entries k) (slice_get entries' k))
-    (known : (k : ℕ) (e : Entry) → slice_get entries' k ≡ Some e → HoldsFor w'.unpublished.items by.issuer e.cell ⊎ IsTold by.n by.issuer e.marks)
-    (others : (q j : ℕ) → q ≢ by.issuer → HoldsFor w.unpublished.items q j → HoldsFor w'.unpublished.items q j)
+    (known : HoldUntold (HoldsFor w'.unpublished.items by.issuer) by entries')
+    (others : (wide : Bool) (q j : ℕ) → q ≢ by.issuer → HoldsFor w.unpublished.items q wide j → HoldsFor w'.unpublished.items q wide j)
     (linked : Linked cells entries) (linked' : Linked cells entries') (listed : Listed w cells entries) where
-  by_issuer : (q : ℕ) → q < by.n → (k : ℕ) (e : Entry) → slice_get entries' k ≡ Some e → HoldsFor w'.unpublished.items q e.cell ⊎ IsTold by.n q e.marks
-  by_issuer q below =
+  by_issuer : (wide : Bool) (q : ℕ) → q < by.n → (k : ℕ) (e : Entry) → slice_get entries' k ≡ Some e
+      → HoldsFor w'.unpublished.items q wide e.cell ⊎ IsTold wide by.n q e.marks
+  by_issuer wide q below =
       elim (cases_eq q by.issuer) [
         | inl same ↦
-            let P : ℕ → Type 0 = λ x. (k : ℕ) (e : Entry) → slice_get entries' k ≡ Some e → HoldsFor w'.unpublished.items x e.cell ⊎ IsTold by.n x e.marks in
-            subst P (sym same) known
+            let P : ℕ → Type 0 = λ x. (k : ℕ) (e : Entry) → slice_get entries' k ≡ Some e → HoldsFor w'.unpublished.items x wide e.cell ⊎ IsTold wide by.n x e.marks in
+            subst P (sym same) (known wide)
         | inr other ↦
-            known_kept by q (HoldsFor w'.unpublished.items q) entries entries'
+            known_kept by wide q (HoldsFor w'.unpublished.items q wide) entries entries'
             (λ k e is.
-            elim (told_entry cells entries linked (HoldsFor w.unpublished.items q) by.n q
-            (subst (λ (x : ℕ). (j : ℕ) (marks : Marks) → marks_in cells entries j ≡ Some marks → HoldsFor w.unpublished.items q j ⊎ IsTold x q marks) number
-            (λ j marks. told_of w cells entries listed q j marks (subst (λ (x : ℕ). q < x) (sym number) below))) k e is) [
-              | inl holds ↦ inl (others q e.cell other holds)
+            elim (told_entry cells entries linked (HoldsFor w.unpublished.items q wide) wide by.n q
+            (subst (λ (x : ℕ). (j : ℕ) (marks : Marks) → marks_in cells entries j ≡ Some marks → HoldsFor w.unpublished.items q wide j ⊎ IsTold wide x q marks) number
+            (λ j marks. told_of w cells entries listed wide q j marks (subst (λ (x : ℕ). q < x) (sym number) below))) k e is) [
+              | inl holds ↦ inl (others wide q e.cell other holds)
               | inr told ↦ inr told
             ]) each
       ]
@@ -283,15 +289,15 @@ module _ (w w' : Work) (by : Barrier) (cells : List Cell) (entries entries' : Li
   listed_published =
       let all : w'.pes ≡ by.n = pes ∙ number in
       listed_by w' cells entries' (subst (λ (x : ℕ). 1 ≤ x) (sym pes) listed.some) (subst (λ (x : ℕ). x ≤ 128) (sym pes) listed.most)
-      (λ q j marks below is.
-      subst (λ (x : ℕ). HoldsFor w'.unpublished.items q j ⊎ IsTold x q marks) (sym all)
-      (told_by_cell cells entries' linked' (HoldsFor w'.unpublished.items q) by.n q (by_issuer q (subst (λ (x : ℕ). q < x) all below)) j marks is))
-      (λ q j.
-      elim (idle_of w cells entries listed q j) [
-        | inl holds ↦ inl (subst (λ (xs : List WorkList). HoldsFor xs q j) (sym waiting) holds)
-        | inr idle ↦
-            inr (subst (λ (x : Pends). IsIdle x)
-            (sym (pends_same by q (entry_in cells entries j) (entry_in cells entries' j) (of_cell (Publishes by) entries entries' each (slot_in cells j)))) idle)
+      (λ wide q j marks below is.
+      subst (λ (x : ℕ). HoldsFor w'.unpublished.items q wide j ⊎ IsTold wide x q marks) (sym all)
+      (told_by_cell cells entries' linked' (HoldsFor w'.unpublished.items q wide) wide by.n q (by_issuer wide q (subst (λ (x : ℕ). q < x) all below)) j marks is))
+      (λ wide q j.
+      elim (quiet_of w cells entries listed wide q j) [
+        | inl holds ↦ inl (subst (λ (xs : List WorkList). HoldsFor xs q wide j) (sym waiting) holds)
+        | inr quiet ↦
+            inr (subst (λ (x : Pends). IsQuiet wide x)
+            (sym (pends_same by q (entry_in cells entries j) (entry_in cells entries' j) (of_cell (Publishes by) entries entries' each (slot_in cells j)))) quiet)
       ])
       (λ is j marks at.
       subst (λ (x : ℕ). is_clean x marks ≡ false) (sym pes)
@@ -302,21 +308,21 @@ module _ (w w' : Work) (by : Barrier) (cells : List Cell) (entries entries' : Li
 module _ (w w' : Work) (by : Barrier) (cells cells' : List Cell) (entries entries' : List Entry)
     (number : w.pes ≡ by.n) (pes : w'.pes ≡ w.pes) (unpublished : w'.unpublished.items ≡ w.unpublished.items)
     (each : (j : ℕ) → Completes by (entry_in cells entries j) (entry_in cells' entries' j))
-    (known : (j : ℕ) → HoldsFor w'.waiting.items by.issuer j ⊎ IsIdle (pends_for cells' entries' by.issuer j))
-    (others : (q j : ℕ) → q ≢ by.issuer → HoldsFor w.waiting.items q j → HoldsFor w'.waiting.items q j)
+    (known : HoldWaiting (HoldsFor w'.waiting.items by.issuer) by cells' entries')
+    (others : (wide : Bool) (q j : ℕ) → q ≢ by.issuer → HoldsFor w.waiting.items q wide j → HoldsFor w'.waiting.items q wide j)
     (listed : Listed w cells entries) where
-  told_then : (q j : ℕ) (marks : Marks) → q < w.pes → (o p : Option Entry) → Completes by o p
-      → ((m : Marks) → marks_of o ≡ Some m → HoldsFor w.unpublished.items q j ⊎ IsTold w.pes q m) → marks_of p ≡ Some marks
-      → HoldsFor w.unpublished.items q j ⊎ IsTold w.pes q marks
-  told_then q j marks below o None h known is = absurd (none-some marks is)
-  told_then q j marks below None (Some f) h known is = absurd (false≢true (sym h.own.broken))
-  told_then q j marks below (Some e) (Some f) h known is =
+  told_then : (wide : Bool) (q j : ℕ) (marks : Marks) → q < w.pes → (o p : Option Entry) → Completes by o p
+      → ((m : Marks) → marks_of o ≡ Some m → HoldsFor w.unpublished.items q wide j ⊎ IsTold wide w.pes q m) → marks_of p ≡ Some marks
+      → HoldsFor w.unpublished.items q wide j ⊎ IsTold wide w.pes q marks
+  told_then wide q j marks below o None h known is = absurd (none-some marks is)
+  told_then wide q j marks below None (Some f) h known is = absurd (false≢true (sym h.own.broken))
+  told_then wide q j marks below (Some e) (Some f) h known is =
       elim (known e.marks refl) [
         | inl holds ↦ inl holds
         | inr told ↦
-            inr (subst (λ (m : Marks). IsTold w.pes q m) (same_Some f.marks marks is)
-            (told_completed by w.pes q (Some e) f h
-            (λ x at. subst (λ (y : Entry). IsTold w.pes q y.marks) (same_Some e x at) told)))
+            inr (subst (λ (m : Marks). IsTold wide w.pes q m) (same_Some f.marks marks is)
+            (told_completed by wide w.pes q (Some e) f h
+            (λ x at. subst (λ (y : Entry). IsTold wide w.pes q y.marks) (same_Some e x at) told)))
       ]
 
   unclean_then : (marks : Marks) (o p : Option Entry) → Completes by o p → marks_of p ≡ Some marks → is_clean by.n marks ≡ false
@@ -326,19 +332,19 @@ module _ (w w' : Work) (by : Barrier) (cells cells' : List Cell) (entries entrie
   pub listed_completed : Listed w' cells' entries'
   listed_completed =
       listed_by w' cells' entries' (subst (λ (x : ℕ). 1 ≤ x) (sym pes) listed.some) (subst (λ (x : ℕ). x ≤ 128) (sym pes) listed.most)
-      (λ q j marks below is.
-      elim (told_then q j marks (subst (λ (x : ℕ). q < x) pes below) (entry_in cells entries j) (entry_in cells' entries' j) (each j)
-      (λ m. told_of w cells entries listed q j m (subst (λ (x : ℕ). q < x) pes below)) is) [
-        | inl holds ↦ inl (subst (λ (xs : List WorkList). HoldsFor xs q j) (sym unpublished) holds)
-        | inr told ↦ inr (subst (λ (x : ℕ). IsTold x q marks) (sym pes) told)
+      (λ wide q j marks below is.
+      elim (told_then wide q j marks (subst (λ (x : ℕ). q < x) pes below) (entry_in cells entries j) (entry_in cells' entries' j) (each j)
+      (λ m. told_of w cells entries listed wide q j m (subst (λ (x : ℕ). q < x) pes below)) is) [
+        | inl holds ↦ inl (subst (λ (xs : List WorkList). HoldsFor xs q wide j) (sym unpublished) holds)
+        | inr told ↦ inr (subst (λ (x : ℕ). IsTold wide x q marks) (sym pes) told)
       ])
-      (λ q j.
+      (λ wide q j.
       elim (cases_eq q by.issuer) [
-        | inl same ↦ subst (λ (x : ℕ). HoldsFor w'.waiting.items x j ⊎ IsIdle (pends_for cells' entries' x j)) (sym same) (known j)
+        | inl same ↦ subst (λ (x : ℕ). HoldsFor w'.waiting.items x wide j ⊎ IsQuiet wide (pends_for cells' entries' x j)) (sym same) (known wide j)
         | inr other ↦
-            elim (idle_of w cells entries listed q j) [
-              | inl holds ↦ inl (others q j other holds)
-              | inr idle ↦ inr (idle_others by q other (entry_in cells entries j) (entry_in cells' entries' j) (each j) idle)
+            elim (quiet_of w cells entries listed wide q j) [
+              | inl holds ↦ inl (others wide q j other holds)
+              | inr quiet ↦ inr (quiet_others by wide q other (entry_in cells entries j) (entry_in cells' entries' j) (each j) quiet)
             ]
       ])
       (λ is j marks at.
@@ -360,30 +366,31 @@ noted_pends R q same (Some e) (Some f) h = same e f h.1
 
 module _ (w w' : Work) (cells : List Cell) (entries entries' : List Entry) (pes : w'.pes ≡ w.pes) (settled : w'.settled ≡ w.settled)
     (unpublished : w'.unpublished.items ≡ w.unpublished.items)
-    (kept : (q j : ℕ) → HoldsFor w.waiting.items q j → HoldsFor w'.waiting.items q j)
+    (kept : (wide : Bool) (q j : ℕ) → HoldsFor w.waiting.items q wide j → HoldsFor w'.waiting.items q wide j)
     (marks_are : (j : ℕ) → marks_in cells entries' j ≡ marks_in cells entries j)
-    (waits_are : (q j : ℕ) → HoldsFor w'.waiting.items q j ⊎ (IsIdle (pends_for cells entries q j) → IsIdle (pends_for cells entries' q j)))
+    (waits_are : (wide : Bool) (q j : ℕ)
+    → HoldsFor w'.waiting.items q wide j ⊎ (IsQuiet wide (pends_for cells entries q j) → IsQuiet wide (pends_for cells entries' q j)))
     (listed : Listed w cells entries) where
-  idle_then : (q j : ℕ) → HoldsFor w'.waiting.items q j ⊎ IsIdle (pends_for cells entries' q j)
-  idle_then q j =
-      elim (waits_are q j) [
+  quiet_then : (wide : Bool) (q j : ℕ) → HoldsFor w'.waiting.items q wide j ⊎ IsQuiet wide (pends_for cells entries' q j)
+  quiet_then wide q j =
+      elim (waits_are wide q j) [
         | inl holds ↦ inl holds
         | inr still ↦
-            elim (idle_of w cells entries listed q j) [
-              | inl holds ↦ inl (kept q j holds)
-              | inr idle ↦ inr (still idle)
+            elim (quiet_of w cells entries listed wide q j) [
+              | inl holds ↦ inl (kept wide q j holds)
+              | inr quiet ↦ inr (still quiet)
             ]
       ]
 
   pub listed_changed : Listed w' cells entries'
   listed_changed =
       listed_by w' cells entries' (subst (λ (x : ℕ). 1 ≤ x) (sym pes) listed.some) (subst (λ (x : ℕ). x ≤ 128) (sym pes) listed.most)
-      (λ q j marks below is.
-      elim (told_of w cells entries listed q j marks (subst (λ (x : ℕ). q < x) pes below) (sym (marks_are j) ∙ is)) [
-        | inl holds ↦ inl (subst (λ (xs : List WorkList). HoldsFor xs q j) (sym unpublished) holds)
-        | inr told ↦ inr (subst (λ (x : ℕ). IsTold x q marks) (sym pes) told)
+      (λ wide q j marks below is.
+      elim (told_of w cells entries listed wide q j marks (subst (λ (x : ℕ). q < x) pes below) (sym (marks_are j) ∙ is)) [
+        | inl holds ↦ inl (subst (λ (xs : List WorkList). HoldsFor xs q wide j) (sym unpublished) holds)
+        | inr told ↦ inr (subst (λ (x : ℕ). IsTold wide x q marks) (sym pes) told)
       ])
-      idle_then
+      quiet_then
       (λ is j marks at. subst (λ (x : ℕ). is_clean x marks ≡ false) (sym pes) (listed.settled (sym settled ∙ is) j marks (sym (marks_are j) ∙ at)))
 
 abbrev NotesAll : ℕ → Entry → Entry → Type 0
@@ -401,42 +408,45 @@ module _ (cells : List Cell) (entries mid : List Entry) (kept : (k : ℕ) → Ad
   -- room for pendings is made
   pub listed_roomed : (w : Work) → Listed w cells entries → Listed w cells mid
   listed_roomed w listed =
-      listed_changed w w cells entries mid refl refl refl (λ q j holds. holds) room_marks
-      (λ q j. inr (λ idle. subst (λ (x : Pends). IsIdle x) (sym (room_pends q j)) idle)) listed
+      listed_changed w w cells entries mid refl refl refl (λ wide q j holds. holds) room_marks
+      (λ wide q j. inr (λ quiet. subst (λ (x : Pends). IsQuiet wide x) (sym (room_pends q j)) quiet)) listed
 
   module _ (new : List Entry) (covers : List Cover) (by : Issuing) (w w' : Work) (linked : Linked cells mid)
       (pes : w'.pes ≡ w.pes) (settled : w'.settled ≡ w.settled) (unpublished : w'.unpublished.items ≡ w.unpublished.items)
       (each : (k : ℕ) → Advances (NotesAt covers by k) (slice_get mid k) (slice_get new k))
       (waits : (k : ℕ) → Advances (Waits w'.waiting.items by.issuer) (slice_get mid k) (slice_get new k))
-      (grown : (q j : ℕ) → HoldsFor w.waiting.items q j → HoldsFor w'.waiting.items q j) where
+      (grown : (wide : Bool) (q j : ℕ) → HoldsFor w.waiting.items q wide j → HoldsFor w'.waiting.items q wide j) where
     noted_all : (k : ℕ) → Advances (NotesAll by.issuer) (slice_get mid k) (slice_get new k)
     noted_all k =
         advance_by (NotesAt covers by k) (NotesAll by.issuer) (λ e f h. (h.0, h.1)) (slice_get mid k) (slice_get new k) (each k)
 
-    waits_at : (j : ℕ) (s : Option ℕ) → slot_in cells j ≡ s → (o p : Option Entry) → entry_of mid s ≡ o → entry_of new s ≡ p
-        → Advances (Waits w'.waiting.items by.issuer) o p → HoldsFor w'.waiting.items by.issuer j ⊎ (IsIdle (pends_of by.issuer o) → IsIdle (pends_of by.issuer p))
-    waits_at j s at None None was now h = inr (λ idle. idle)
-    waits_at j s at None (Some f) was now h = absurd h
-    waits_at j s at (Some e) None was now h = absurd h
-    waits_at j None at (Some e) (Some f) was now h = cc
-    waits_at j (Some k) at (Some e) (Some f) was now h =
+    waits_at : (wide : Bool) (j : ℕ) (s : Option ℕ) → slot_in cells j ≡ s → (o p : Option Entry) → entry_of mid s ≡ o → entry_of new s ≡ p
+        → Advances (Waits w'.waiting.items by.issuer) o p
+        → HoldsFor w'.waiting.items by.issuer wide j ⊎ (IsQuiet wide (pends_of by.issuer o) → IsQuiet wide (pends_of by.issuer p))
+    waits_at wide j s at None None was now h = inr (λ quiet. quiet)
+    waits_at wide j s at None (Some f) was now h = absurd h
+    waits_at wide j s at (Some e) None was now h = absurd h
+    waits_at wide j None at (Some e) (Some f) was now h = cc
+    waits_at wide j (Some k) at (Some e) (Some f) was now h =
         let cell : e.cell ≡ j = same_Some e.cell j (sym (ap (option_map (λ (x : Entry). x.cell)) was) ∙ linked.forth j k at) in
-        elim h.1 [
-          | inl holds ↦ inl (subst (λ (x : ℕ). HoldsFor w'.waiting.items by.issuer x) cell holds)
+        elim (h.1 wide) [
+          | inl holds ↦ inl (subst (λ (x : ℕ). HoldsFor w'.waiting.items by.issuer wide x) cell holds)
           | inr still ↦ inr still
         ]
 
-    waits_then : (q j : ℕ) → HoldsFor w'.waiting.items q j ⊎ (IsIdle (pends_for cells mid q j) → IsIdle (pends_for cells new q j))
-    waits_then q j =
+    waits_then : (wide : Bool) (q j : ℕ)
+        → HoldsFor w'.waiting.items q wide j ⊎ (IsQuiet wide (pends_for cells mid q j) → IsQuiet wide (pends_for cells new q j))
+    waits_then wide q j =
         elim (cases_eq q by.issuer) [
           | inl same ↦
-              let P : ℕ → Type 0 = λ x. HoldsFor w'.waiting.items x j ⊎ (IsIdle (pends_for cells mid x j) → IsIdle (pends_for cells new x j)) in
+              let P : ℕ → Type 0 = λ x. HoldsFor w'.waiting.items x wide j
+              ⊎ (IsQuiet wide (pends_for cells mid x j) → IsQuiet wide (pends_for cells new x j)) in
               subst P (sym same)
-              (waits_at j (slot_in cells j) refl (entry_in cells mid j) (entry_in cells new j) refl refl
+              (waits_at wide j (slot_in cells j) refl (entry_in cells mid j) (entry_in cells new j) refl refl
               (of_cell (Waits w'.waiting.items by.issuer) mid new waits (slot_in cells j)))
           | inr other ↦
-              inr (λ idle. subst (λ (x : Pends). IsIdle x)
-              (sym (noted_pends (NotesAll by.issuer) q (λ e f h. h.1 q other) (entry_in cells mid j) (entry_in cells new j) (of_cell (NotesAll by.issuer) mid new noted_all (slot_in cells j)))) idle)
+              inr (λ quiet. subst (λ (x : Pends). IsQuiet wide x)
+              (sym (noted_pends (NotesAll by.issuer) q (λ e f h. h.1 q other) (entry_in cells mid j) (entry_in cells new j) (of_cell (NotesAll by.issuer) mid new noted_all (slot_in cells j)))) quiet)
         ]
 
     -- and a TLBI is noted

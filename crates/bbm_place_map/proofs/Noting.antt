@@ -1,7 +1,7 @@
 -- What the issue of a TLBI notes at an entry.
 use Rattle.std.proofs.Common.{◌≡◌, ℕ, Bool, true, false, List, Some, slice_get, inl, inr, nat_eq, if◌then◌else◌, ◌&&◌}
 use Rattle.std.proofs.Common.{◌||◌, refl, ap, sym, subst, ◌∙◌}
-use Rattle.std.proofs.lemmas.Bool.{cases_eq, eq-eqb, ne_eqb, cond-true, cond-false}
+use Rattle.std.proofs.lemmas.Bool.{false≢true, cases_eq, eq-eqb, ne_eqb, cond-true, cond-false}
 use Rattle.std.proofs.lemmas.Option.{same_Some}
 use Rattle.bbm_descriptor.specs.Descriptor.{same_bool}
 use Rattle.bbm_regimes.specs.PeMask.{pe_in}
@@ -16,7 +16,7 @@ use Rattle.bbm_entry_state.specs.declared.pending.Pends.{Pends}
 use Rattle.bbm_entry_state.specs.declared.state.EntryState.TheVariants.{Broken}
 use Rattle.bbm_place_map.specs.Entries.{WaitsAlike, pends_in}
 use Rattle.bbm_place_map.specs.PlaceNotes.{NotesAs, NotesAt, is_cover}
-use Rattle.bbm_place_map.specs.Works.{HoldsFor, Waits}
+use Rattle.bbm_place_map.specs.Works.{HoldsFor, IsQuiet, Waits}
 use Rattle.bbm_place_map.specs.declared.entry.Entry.{Entry}
 use Rattle.bbm_place_map.specs.declared.orders.Issuing.{Issuing}
 use Rattle.bbm_place_map.specs.declared.work.WorkList.{WorkList}
@@ -58,13 +58,27 @@ notes_at covers k cover by e f is notes = (
   λ c at none. notes.3 (ap is_cover (same_Some cover c (sym is ∙ at)) ∙ none),
 )
 
-pub waits_kept : (lists lists' : List WorkList) (issuer : ℕ) → ((q j : ℕ) → HoldsFor lists q j → HoldsFor lists' q j) → (e f : Entry)
+pub waits_kept : (lists lists' : List WorkList) (issuer : ℕ)
+    → ((wide : Bool) (q j : ℕ) → HoldsFor lists q wide j → HoldsFor lists' q wide j) → (e f : Entry)
     → Waits lists issuer e f → Waits lists' issuer e f
-waits_kept lists lists' issuer kept e f waits =
-    elim waits [
-      | inl holds ↦ inl (kept issuer e.cell holds)
-      | inr idle ↦ inr idle
+waits_kept lists lists' issuer kept e f waits wide =
+    elim (waits wide) [
+      | inl holds ↦ inl (kept wide issuer e.cell holds)
+      | inr quiet ↦ inr quiet
     ]
+
+local_noted : (marks : Marks) (r after : Pends) (reach : PeMask) (cover : Cover) → Noted (Broken marks) r reach true cover after
+    → IsQuiet false r → IsQuiet false after
+local_noted marks r after reach cover noted quiet true c p is = absurd (false≢true is)
+local_noted marks r after reach cover noted quiet false c p is = noted false c p ∙ quiet false c p refl
+
+-- a TLBI leaves quiet what was so, if it isn't the first to wait there, or of those that aren't broadcast the first such
+pub quiet_noted : (marks : Marks) (r after : Pends) (reach : PeMask) (broadcast : Bool) (cover : Cover) → (IsQuiet broadcast r → ⊥)
+    → Noted (Broken marks) r reach broadcast cover after → (wide : Bool) → IsQuiet wide r → IsQuiet wide after
+quiet_noted marks r after reach true cover some noted true quiet = absurd (some quiet)
+quiet_noted marks r after reach true cover some noted false quiet = local_noted marks r after reach cover noted quiet
+quiet_noted marks r after reach false cover some noted true quiet = absurd (some (λ b c p _. quiet b c p refl))
+quiet_noted marks r after reach false cover some noted false quiet = absurd (some quiet)
 
 pub uncovered : (cover : Cover) → is_cover cover ≡ false → cover ≡ NoCover
 uncovered NoCover none = refl

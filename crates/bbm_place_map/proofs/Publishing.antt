@@ -1,20 +1,19 @@
 -- Where a DSB visits the entries of a list, and no others.
-use Rattle.std.proofs.Common.{◌≡◌, ℕ, ◌+◌, ◌<◌, ◌⊎◌, true, false, List, length, Option, Some, None, refl, ap, sym}
+use Rattle.std.proofs.Common.{◌≡◌, ℕ, ◌+◌, ◌<◌, ◌⊎◌, Bool, List, Contains, length, Option, Some, None, refl, ap, sym}
 use Rattle.std.proofs.Common.{subst, ◌∙◌, arith, inl, inr, slice_get, slice_index}
 use Rattle.std.specs.Option.{option_map}
-use Rattle.std.proofs.lemmas.Bool.{false≢true, cases_eq}
+use Rattle.std.proofs.lemmas.Bool.{cases_eq}
 use Rattle.std.proofs.lemmas.Option.{same_Some, none-some}
 use Rattle.std.proofs.lemmas.List.{get_or_default}
-use Rattle.bbm_barriers.specs.Options.{publishes}
 use Rattle.bbm_place_map.specs.Cells.{slot_in}
+use Rattle.bbm_place_map.specs.Dsbs.{IsHeard}
 use Rattle.bbm_place_map.specs.Each.{Advances, Publishes}
 use Rattle.bbm_place_map.specs.Sound.{Linked}
-use Rattle.bbm_place_map.specs.Works.{Holds, IsTold, MayPublish}
+use Rattle.bbm_place_map.specs.Works.{IsTold, MayPublish}
 use Rattle.bbm_place_map.specs.declared.cell.Cell.{Cell}
 use Rattle.bbm_place_map.specs.declared.entry.Entry.{Entry}
 use Rattle.bbm_place_map.specs.declared.orders.Barrier.{Barrier}
-use Rattle.bbm_place_map.specs.declared.work.WorkList.{WorkList}
-use Rattle.bbm_place_map.proofs.Telling.{told_advances, told_after, told_kept, again, slot_cases}
+use Rattle.bbm_place_map.proofs.Telling.{heard_advances, heard_after, told_kept, again, slot_cases}
 use Rattle.bbm_place_map.proofs.Advancing.{at_both}
 
 module _ (by : Barrier) where
@@ -52,63 +51,58 @@ module _ (by : Barrier) where
               ]
         ]
 
-  module _ (cells : List Cell) (list : WorkList) (start new : List Entry) (linked : Linked cells start) (open' : list.given_up ≡ false)
-      (known : (k : ℕ) (e : Entry) → slice_get start k ≡ Some e → Holds list e.cell ⊎ IsTold by.n by.issuer e.marks)
-      (here : (i k : ℕ) → i < length list.cells.items → slot_in cells (slice_index list.cells.items i) ≡ Some k
+  module _ (cells : List Cell) (list : List ℕ) (start new : List Entry) (linked : Linked cells start)
+      (known : (k : ℕ) (e : Entry) → slice_get start k ≡ Some e → Contains list e.cell ⊎ IsHeard by e.marks)
+      (here : (i k : ℕ) → i < length list → slot_in cells (slice_index list i) ≡ Some k
       → Advances (Publishes by) (slice_get start k) (slice_get new k))
       (each : (k : ℕ) → MayPublish by (slice_get start k) (slice_get new k)) where
     by_entry : (k : ℕ) (o : Option Entry) → slice_get start k ≡ o → Advances (Publishes by) (slice_get start k) (slice_get new k)
     by_entry k None at =
-        told_advances by (slice_get start k) (slice_get new k) (λ e is. absurd (none-some e (sym at ∙ is))) (each k)
+        heard_advances by (slice_get start k) (slice_get new k) (λ e is. absurd (none-some e (sym at ∙ is))) (each k)
     by_entry k (Some e) at =
         elim (known k e at) [
-          | inl holds ↦
-              elim holds [
-                | inl up ↦ absurd (false≢true (sym open' ∙ up))
-                | inr c ↦
-                    here c.0 k c.1
-                    (ap (slot_in cells) (get_or_default list.cells.items c.0 0 e.cell c.1 ∙ c.2)
-                    ∙ linked.back e.cell k (ap (option_map (λ (x : Entry). x.cell)) at))
-              ]
-          | inr told ↦
-              told_advances by (slice_get start k) (slice_get new k)
-              (λ f is. let P : Entry → Type 0 = λ x. IsTold by.n by.issuer x.marks in subst P (same_Some e f (sym at ∙ is)) told) (each k)
+          | inl c ↦
+              here c.0 k c.1
+              (ap (slot_in cells) (get_or_default list c.0 0 e.cell c.1 ∙ c.2)
+              ∙ linked.back e.cell k (ap (option_map (λ (x : Entry). x.cell)) at))
+          | inr heard ↦
+              heard_advances by (slice_get start k) (slice_get new k)
+              (λ f is. let P : Entry → Type 0 = λ x. IsHeard by x.marks in subst P (same_Some e f (sym at ∙ is)) heard) (each k)
         ]
 
     pub all_published : (k : ℕ) → Advances (Publishes by) (slice_get start k) (slice_get new k)
     all_published k = by_entry k (slice_get start k) refl
 
-  told_from : (o p : Option Entry) (f : Entry) → by.issuer < by.n → ((p : ℕ) → p < by.n → publishes by.dsb by.issuer by.n p ≡ true)
-      → Advances (Publishes by) o p → p ≡ Some f → IsTold by.n by.issuer f.marks
-  told_from None None f below all h is = absurd (none-some f is)
-  told_from None (Some g) f below all h is = absurd h
-  told_from (Some e) None f below all h is = absurd h
-  told_from (Some e) (Some g) f below all h is =
-      let P : Entry → Type 0 = λ x. IsTold by.n by.issuer x.marks in
-      subst P (same_Some g f is) (told_after by e g below all h.1)
+  heard_from : (o p : Option Entry) (f : Entry) → Advances (Publishes by) o p → p ≡ Some f → IsHeard by f.marks
+  heard_from None None f h is = absurd (none-some f is)
+  heard_from None (Some g) f h is = absurd h
+  heard_from (Some e) None f h is = absurd h
+  heard_from (Some e) (Some g) f h is =
+      let P : Entry → Type 0 = λ x. IsHeard by x.marks in
+      subst P (same_Some g f is) (heard_after by e g h.1)
 
-  -- a DSB that reached every PE leaves nothing to publish
-  pub none_untold : (start new : List Entry) → by.issuer < by.n → ((p : ℕ) → p < by.n → publishes by.dsb by.issuer by.n p ≡ true)
-      → ((k : ℕ) → Advances (Publishes by) (slice_get start k) (slice_get new k))
-      → (k : ℕ) (f : Entry) → slice_get new k ≡ Some f → IsTold by.n by.issuer f.marks
-  none_untold start new below all each k f is = told_from (slice_get start k) (slice_get new k) f below all (each k) is
+  -- a DSB leaves nothing that it would publish
+  pub all_heard : (start new : List Entry) → ((k : ℕ) → Advances (Publishes by) (slice_get start k) (slice_get new k))
+      → (k : ℕ) (f : Entry) → slice_get new k ≡ Some f → IsHeard by f.marks
+  all_heard start new each k f is = heard_from (slice_get start k) (slice_get new k) f (each k) is
 
-  kept_from : (q : ℕ) (P : ℕ → Type 0) (o p : Option Entry) (f : Entry) → ((e : Entry) → o ≡ Some e → P e.cell ⊎ IsTold by.n q e.marks)
-      → Advances (Publishes by) o p → p ≡ Some f → P f.cell ⊎ IsTold by.n q f.marks
-  kept_from q P None None f known h is = absurd (none-some f is)
-  kept_from q P None (Some g) f known h is = absurd h
-  kept_from q P (Some e) None f known h is = absurd h
-  kept_from q P (Some e) (Some g) f known h is =
-      let Q : Entry → Type 0 = λ x. P x.cell ⊎ IsTold by.n q x.marks in
+  kept_from : (wide : Bool) (q : ℕ) (P : ℕ → Type 0) (o p : Option Entry) (f : Entry)
+      → ((e : Entry) → o ≡ Some e → P e.cell ⊎ IsTold wide by.n q e.marks)
+      → Advances (Publishes by) o p → p ≡ Some f → P f.cell ⊎ IsTold wide by.n q f.marks
+  kept_from wide q P None None f known h is = absurd (none-some f is)
+  kept_from wide q P None (Some g) f known h is = absurd h
+  kept_from wide q P (Some e) None f known h is = absurd h
+  kept_from wide q P (Some e) (Some g) f known h is =
+      let Q : Entry → Type 0 = λ x. P x.cell ⊎ IsTold wide by.n q x.marks in
       subst Q (same_Some g f is)
       (elim (known e refl) [
         | inl holds ↦ inl (subst P (sym (ap (λ (s : ℕ × ℕ). s.1) h.0)) holds)
-        | inr told ↦ inr (told_kept by q e g h.1 told)
+        | inr told ↦ inr (told_kept by wide q e g h.1 told)
       ])
 
   -- of any PE, what a list has or is told stays so
-  pub known_kept : (q : ℕ) (P : ℕ → Type 0) (start new : List Entry)
-      → ((k : ℕ) (e : Entry) → slice_get start k ≡ Some e → P e.cell ⊎ IsTold by.n q e.marks)
+  pub known_kept : (wide : Bool) (q : ℕ) (P : ℕ → Type 0) (start new : List Entry)
+      → ((k : ℕ) (e : Entry) → slice_get start k ≡ Some e → P e.cell ⊎ IsTold wide by.n q e.marks)
       → ((k : ℕ) → Advances (Publishes by) (slice_get start k) (slice_get new k))
-      → (k : ℕ) (f : Entry) → slice_get new k ≡ Some f → P f.cell ⊎ IsTold by.n q f.marks
-  known_kept q P start new known each k f is = kept_from q P (slice_get start k) (slice_get new k) f (known k) (each k) is
+      → (k : ℕ) (f : Entry) → slice_get new k ≡ Some f → P f.cell ⊎ IsTold wide by.n q f.marks
+  known_kept wide q P start new known each k f is = kept_from wide q P (slice_get start k) (slice_get new k) f (known k) (each k) is

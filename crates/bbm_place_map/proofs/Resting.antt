@@ -16,14 +16,14 @@ use Rattle.bbm_tlbi_scope.specs.declared.entry.Cover.TheVariants.{Half, Second, 
 use Rattle.bbm_entry_state.specs.Answered.{answered_at}
 use Rattle.bbm_entry_state.specs.EntryCalls.{half_after, clean_after}
 use Rattle.bbm_entry_state.specs.Points.{waits, core_in}
-use Rattle.bbm_entry_state.specs.EntryStanding.{IsIdle}
 use Rattle.bbm_entry_state.specs.declared.marks.Marks.{Marks}
 use Rattle.bbm_entry_state.specs.declared.pending.Pends.{Pends}
 use Rattle.bbm_entry_state.specs.declared.state.EntryState.TheVariants.{Broken}
+use Rattle.bbm_place_map.specs.Dsbs.{IsUnanswered}
 use Rattle.bbm_place_map.specs.Each.{Completes, loses_table, has_table, is_table}
 use Rattle.bbm_place_map.specs.Entries.{pends_in, pends_of, marks_of}
 use Rattle.bbm_place_map.specs.States.{state_from}
-use Rattle.bbm_place_map.specs.Works.{IsTold, MayComplete, is_clean}
+use Rattle.bbm_place_map.specs.Works.{IsQuiet, IsTold, MayComplete, is_clean}
 use Rattle.bbm_place_map.specs.declared.entry.Entry.{Entry}
 use Rattle.bbm_place_map.specs.declared.orders.Barrier.{Barrier}
 use Rattle.bbm_place_map.proofs.Answering.{completes_at}
@@ -45,6 +45,10 @@ pub stays_kept : (o : Option Entry) → loses_table (marks_of o) (marks_of o) �
 stays_kept None = refl
 stays_kept (Some e) = and-false (is_table e.marks.core)
 
+waits_on : (a w : Bool) → (a && w) ≡ false → w ≡ (not a && w)
+waits_on true w none = none
+waits_on false w none = refl
+
 has_both : (c : Answers) → has_broadcast c ≡ true → has_local c ≡ true
 has_both EveryTlbi h = refl
 has_both LocalTlbis h = refl
@@ -56,11 +60,30 @@ has_none LocalTlbis h = refl
 has_none NoTlbi h = refl
 
 -- a DSB that completes the TLBIs that are broadcast completes the others, too
-pub answers_both : (dsb : Dsb) → answers_broadcast dsb ≡ true → answers_local dsb ≡ true
+answers_both : (dsb : Dsb) → answers_broadcast dsb ≡ true → answers_local dsb ≡ true
 answers_both dsb = has_both (completed dsb.domain dsb.types)
 
-pub answers_none : (dsb : Dsb) → answers_local dsb ≡ false → answers_broadcast dsb ≡ false
+answers_none : (dsb : Dsb) → answers_local dsb ≡ false → answers_broadcast dsb ≡ false
 answers_none dsb = has_none (completed dsb.domain dsb.types)
+
+-- a DSB that answers no TLBI, or none of those that wait
+pub no_answer : (dsb : Dsb) (r : Pends) → answers_local dsb ≡ false → IsUnanswered dsb r
+no_answer dsb r none true c p = ap (λ (b : Bool). b && waits r true c p) (answers_none dsb none)
+no_answer dsb r none false c p = ap (λ (b : Bool). b && waits r false c p) none
+
+pub quiet_unanswered : (dsb : Dsb) (wide : Bool) (r : Pends) → wide ≡ answers_broadcast dsb → IsQuiet wide r → IsUnanswered dsb r
+quiet_unanswered dsb true r is quiet b c p = ap (λ (w : Bool). answers dsb b && w) (quiet b c p refl) ∙ and-false (answers dsb b)
+quiet_unanswered dsb false r is quiet true c p = ap (λ (b : Bool). b && waits r true c p) (sym is)
+quiet_unanswered dsb false r is quiet false c p = ap (λ (w : Bool). answers dsb false && w) (quiet false c p refl) ∙ and-false (answers dsb false)
+
+-- the TLBIs whose answer a DSB is
+pub answers_all : (dsb : Dsb) → answers_broadcast dsb ≡ true → (b : Bool) → answers dsb b ≡ true
+answers_all dsb all true = all
+answers_all dsb all false = answers_both dsb all
+
+pub answers_own : (dsb : Dsb) → answers_local dsb ≡ true → (b : Bool) → (false || not b) ≡ true → answers dsb b ≡ true
+answers_own dsb own true is = absurd (false≢true is)
+answers_own dsb own false is = own
 
 module _ (by : Barrier) where
   -- where the answered TLBIs wait for nothing a DSB changes nothing
@@ -78,16 +101,8 @@ module _ (by : Barrier) where
     every_still : every_pe by.n (clean_after (Broken e.marks) (pends_in e.pends.items by.issuer) by.dsb) ≡ is_clean by.n e.marks
     every_still = ap (every_pe by.n) (fun_ext clean_still)
 
-  idle_none : (r : Pends) → IsIdle r → (c : Cover) (p : ℕ) → answered_at r by.dsb c p ≡ false
-  idle_none r idle c p =
-      ap (λ (b : Bool). (answers by.dsb true && b) || (answers by.dsb false && waits r false c p)) (idle true c p)
-      ∙ ap (λ (b : Bool). (answers by.dsb true && false) || (answers by.dsb false && b)) (idle false c p)
-      ∙ ap (λ (b : Bool). b || (answers by.dsb false && false)) (and-false (answers by.dsb true)) ∙ and-false (answers by.dsb false)
-
-  unanswered : (r : Pends) → answers by.dsb true ≡ false → answers by.dsb false ≡ false → (c : Cover) (p : ℕ) → answered_at r by.dsb c p ≡ false
-  unanswered r none none' c p =
-      ap (λ (b : Bool). (b && waits r true c p) || (answers by.dsb false && waits r false c p)) none
-      ∙ ap (λ (b : Bool). b && waits r false c p) none'
+  unanswered : (r : Pends) → IsUnanswered by.dsb r → (c : Cover) (p : ℕ) → answered_at r by.dsb c p ≡ false
+  unanswered r none c p = ap (λ (b : Bool). b || (answers by.dsb false && waits r false c p)) (none true c p) ∙ none false c p
 
   still : (e : Entry) → ((c : Cover) (p : ℕ) → answered_at (pends_in e.pends.items by.issuer) by.dsb c p ≡ false)
       → is_clean by.n e.marks ≡ false
@@ -106,23 +121,12 @@ module _ (by : Barrier) where
     others = λ q other b c p. refl;
   }
 
-  pub idle_same : (o : Option Entry) → IsIdle (pends_of by.issuer o) → ((marks : Marks) → marks_of o ≡ Some marks → is_clean by.n marks ≡ false)
-      → Completes by o o
-  idle_same None idle unclean = completes_none by
-  idle_same (Some e) idle unclean =
-      still e (idle_none (pends_in e.pends.items by.issuer) idle) (unclean e.marks refl)
-      (λ b c p. idle b c p ∙ sym (ap (λ (x : Bool). not (answers by.dsb b) && x) (idle b c p) ∙ and-false (not (answers by.dsb b))))
-
-  not_answered : (none : answers by.dsb true ≡ false) (none' : answers by.dsb false ≡ false) (b : Bool) (w : Bool) → w ≡ (not (answers by.dsb b) && w)
-  not_answered none none' true w = sym (ap (λ (x : Bool). not x && w) none)
-  not_answered none none' false w = sym (ap (λ (x : Bool). not x && w) none')
-
-  pub nothing_answered : answers by.dsb true ≡ false → answers by.dsb false ≡ false → (o : Option Entry)
+  pub unanswered_same : (o : Option Entry) → IsUnanswered by.dsb (pends_of by.issuer o)
       → ((marks : Marks) → marks_of o ≡ Some marks → is_clean by.n marks ≡ false) → Completes by o o
-  nothing_answered none none' None unclean = completes_none by
-  nothing_answered none none' (Some e) unclean =
-      still e (unanswered (pends_in e.pends.items by.issuer) none none') (unclean e.marks refl)
-      (λ b c p. not_answered none none' b (waits (pends_in e.pends.items by.issuer) b c p))
+  unanswered_same None none unclean = completes_none by
+  unanswered_same (Some e) none unclean =
+      still e (unanswered (pends_in e.pends.items by.issuer) none) (unclean e.marks refl)
+      (λ b c p. waits_on (answers by.dsb b) (waits (pends_in e.pends.items by.issuer) b c p) (none b c p))
 
   none_stays : (f : Entry) → Completes by None (Some f) → ⊥
   none_stays f h = absurd (false≢true (sym h.own.broken))
@@ -226,29 +230,28 @@ module _ (by : Barrier) where
       ]
 
   -- what waits nowhere waits nowhere after
-  pub idle_kept : (o p : Option Entry) → Completes by o p → IsIdle (pends_of by.issuer o) → IsIdle (pends_of by.issuer p)
-  idle_kept o p h idle b c x =
+  pub quiet_kept : (wide : Bool) (o p : Option Entry) → Completes by o p → IsQuiet wide (pends_of by.issuer o)
+      → IsQuiet wide (pends_of by.issuer p)
+  quiet_kept wide o p h quiet b c x is =
       h.own.waiting b c x
-      ∙ ap (λ (w : Bool). is_some (core_in (state_from None (marks_of p))) && (not (answers by.dsb b) && w)) (idle b c x)
+      ∙ ap (λ (w : Bool). is_some (core_in (state_from None (marks_of p))) && (not (answers by.dsb b) && w)) (quiet b c x is)
       ∙ and_none (is_some (core_in (state_from None (marks_of p)))) (not (answers by.dsb b))
 
-  pub idle_others : (q : ℕ) → q ≢ by.issuer → (o p : Option Entry) → Completes by o p → IsIdle (pends_of q o) → IsIdle (pends_of q p)
-  idle_others q other o p h idle b c x =
-      h.others q other b c x ∙ ap (λ (w : Bool). is_some (marks_of p) && w) (idle b c x) ∙ and-false (is_some (marks_of p))
+  pub quiet_others : (wide : Bool) (q : ℕ) → q ≢ by.issuer → (o p : Option Entry) → Completes by o p → IsQuiet wide (pends_of q o)
+      → IsQuiet wide (pends_of q p)
+  quiet_others wide q other o p h quiet b c x is =
+      h.others q other b c x ∙ ap (λ (w : Bool). is_some (marks_of p) && w) (quiet b c x is) ∙ and-false (is_some (marks_of p))
 
-  off : (answers by.dsb true ≡ true) → (answers by.dsb false ≡ true) → (b : Bool) → not (answers by.dsb b) ≡ false
-  off all all' true = ap not all
-  off all all' false = ap not all'
-
-  pub idle_answered : answers by.dsb true ≡ true → answers by.dsb false ≡ true → (o p : Option Entry) → Completes by o p
-      → IsIdle (pends_of by.issuer p)
-  idle_answered all all' o p h b c x =
+  -- nor does what a DSB answers
+  pub quiet_answered : (wide : Bool) → ((b : Bool) → (wide || not b) ≡ true → answers by.dsb b ≡ true) → (o p : Option Entry)
+      → Completes by o p → IsQuiet wide (pends_of by.issuer p)
+  quiet_answered wide all o p h b c x is =
       h.own.waiting b c x
-      ∙ ap (λ (w : Bool). is_some (core_in (state_from None (marks_of p))) && (w && waits (pends_of by.issuer o) b c x)) (off all all' b)
+      ∙ ap (λ (w : Bool). is_some (core_in (state_from None (marks_of p))) && (not w && waits (pends_of by.issuer o) b c x)) (all b is)
       ∙ and-false (is_some (core_in (state_from None (marks_of p))))
 
   -- of any PE, where nothing more was published nothing more is
-  pub told_completed : (m q : ℕ) (o : Option Entry) (f : Entry) → Completes by o (Some f)
-      → ((e : Entry) → o ≡ Some e → IsTold m q e.marks) → IsTold m q f.marks
-  told_completed m q None f h told = absurd (none_stays f h)
-  told_completed m q (Some e) f h told = λ dsb' p heard wrote. h.own.seen p ∙ told e refl dsb' p heard (sym (h.own.writers q) ∙ wrote)
+  pub told_completed : (wide : Bool) (m q : ℕ) (o : Option Entry) (f : Entry) → Completes by o (Some f)
+      → ((e : Entry) → o ≡ Some e → IsTold wide m q e.marks) → IsTold wide m q f.marks
+  told_completed wide m q None f h told = absurd (none_stays f h)
+  told_completed wide m q (Some e) f h told = λ p below reach wrote. h.own.seen p ∙ told e refl p below reach (sym (h.own.writers q) ∙ wrote)

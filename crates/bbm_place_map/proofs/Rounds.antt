@@ -1,18 +1,17 @@
 -- One more cell of a list is visited by a DSB that answers.
-use Rattle.std.proofs.Common.{◌≡◌, ◌≢◌, ℕ, ◌+◌, ◌<◌, ◌⊎◌, true, false, List, length, Option, Some, refl, ap, sym, subst}
+use Rattle.std.proofs.Common.{◌≡◌, ◌≢◌, ℕ, ◌+◌, ◌<◌, ◌⊎◌, true, false, List, Contains, length, Option, Some, refl, ap, sym, subst}
 use Rattle.std.proofs.Common.{◌∙◌, arith, inl, inr, slice_index}
-use Rattle.std.proofs.lemmas.Bool.{cases_eq, false≢true}
+use Rattle.std.proofs.lemmas.Bool.{cases_eq}
 use Rattle.std.proofs.lemmas.List.{get_or_default}
-use Rattle.bbm_entry_state.specs.EntryStanding.{IsIdle}
 use Rattle.bbm_entry_state.specs.declared.marks.Marks.{Marks}
+use Rattle.bbm_place_map.specs.Dsbs.{IsUnanswered}
 use Rattle.bbm_place_map.specs.Each.{Completes, loses_table}
 use Rattle.bbm_place_map.specs.Entries.{marks_of, pends_of}
-use Rattle.bbm_place_map.specs.Works.{Holds, MayComplete, is_clean}
+use Rattle.bbm_place_map.specs.Works.{MayComplete, is_clean}
 use Rattle.bbm_place_map.specs.declared.entry.Entry.{Entry}
 use Rattle.bbm_place_map.specs.declared.orders.Barrier.{Barrier}
-use Rattle.bbm_place_map.specs.declared.work.WorkList.{WorkList}
 use Rattle.bbm_place_map.proofs.Answering.{completes_at}
-use Rattle.bbm_place_map.proofs.Resting.{answers_again, lost_stays, none_lost, lost_here, idle_same}
+use Rattle.bbm_place_map.proofs.Resting.{answers_again, lost_stays, none_lost, lost_here, unanswered_same}
 
 module _ (by : Barrier) (start mid new : ℕ → Option Entry) (m : ℕ)
     (each : (j : ℕ) → MayComplete by (start j) (mid j))
@@ -71,27 +70,22 @@ module _ (by : Barrier) (start mid new : ℕ → Option Entry) (m : ℕ)
         | inr other ↦ ap (λ (o : Option Entry). loses_table (marks_of (start j)) (marks_of o)) (others j other) ∙ none j
       ]
 
--- the list has every cell at which something waits
-module _ (by : Barrier) (list : WorkList) (start new : ℕ → Option Entry) (open' : list.given_up ≡ false)
-    (known : (j : ℕ) → Holds list j ⊎ IsIdle (pends_of by.issuer (start j)))
+-- the list has every cell at which something is answered
+module _ (by : Barrier) (list : List ℕ) (start new : ℕ → Option Entry)
+    (known : (j : ℕ) → Contains list j ⊎ IsUnanswered by.dsb (pends_of by.issuer (start j)))
     (settled : (j : ℕ) (marks : Marks) → marks_of (start j) ≡ Some marks → is_clean by.n marks ≡ false)
-    (here : (i : ℕ) → i < length list.cells.items
-    → Completes by (start (slice_index list.cells.items i)) (new (slice_index list.cells.items i)))
+    (here : (i : ℕ) → i < length list → Completes by (start (slice_index list i)) (new (slice_index list i)))
     (each : (j : ℕ) → MayComplete by (start j) (new j)) where
   pub all_answered : (j : ℕ) → Completes by (start j) (new j)
   all_answered j =
       elim (known j) [
-        | inl holds ↦
-            elim holds [
-              | inl up ↦ absurd (false≢true (sym open' ∙ up))
-              | inr c ↦
-                  let P : ℕ → Type 0 = λ x. Completes by (start x) (new x) in
-                  subst P (get_or_default list.cells.items c.0 0 j c.1 ∙ c.2) (here c.0 c.1)
-            ]
-        | inr idle ↦
+        | inl c ↦
+            let P : ℕ → Type 0 = λ x. Completes by (start x) (new x) in
+            subst P (get_or_default list c.0 0 j c.1 ∙ c.2) (here c.0 c.1)
+        | inr none ↦
             elim (each j) [
               | inl same ↦
-                  completes_at by (start j) (start j) (new j) (start j) refl same (idle_same by (start j) idle (settled j))
+                  completes_at by (start j) (start j) (new j) (start j) refl same (unanswered_same by (start j) none (settled j))
               | inr did ↦ did
             ]
       ]

@@ -1,8 +1,8 @@
 -- What the calls of break-before-make come to at their place.
 use Rattle.std.proofs.Common.{◌≡◌, ℕ, Bool, true, false, ◌&&◌, ◌||◌, nat_eq, nat_lt, ◌<◌, Option, Some, None, is_some}
-use Rattle.std.proofs.Common.{zero, suc, refl, ap, ◌∙◌, arith, if◌then◌else◌}
+use Rattle.std.proofs.Common.{refl, ap, ◌∙◌, if◌then◌else◌}
 use Rattle.std.proofs.lemmas.Bool.{and_from, or_left, or_right, eq-eqb, lt-ltb}
-use Rattle.bbm_lemmas.specs.EveryPe.{every_pe}
+use Rattle.bbm_lemmas.proofs.Every.{every_from}
 use Rattle.bbm_regimes.specs.PeMask.{pe_in}
 use Rattle.bbm_regimes.specs.declared.pe.PeMask.{PeMask}
 use Rattle.bbm_descriptor.specs.declared.desc.Core.{Core}
@@ -16,6 +16,7 @@ use Rattle.bbm_entry_state.specs.declared.state.EntryState.TheVariants.{Clean, L
 use Rattle.bbm_entry_state.specs.Points.{core_in, is_broken, writer_at, seen_at, clean_at, waits}
 use Rattle.bbm_entry_state.specs.Answered.{answered_at}
 use Rattle.bbm_entry_state.specs.EntryCalls.{counts_at, clean_after, Written, Published, Noted, Completed}
+use Rattle.bbm_entry_state.proofs.Shown.{counts_full}
 use Rattle.bbm_place_map.specs.States.{state_from, marks_of_state}
 
 marks_again : (state : EntryState) → is_broken state ≡ true → state_from None (marks_of_state state) ≡ state
@@ -34,15 +35,6 @@ no_marks (Some marks) none = cc
 some_marks : (m : Option Marks) → is_broken (state_from None m) ≡ true → is_some m ≡ true
 some_marks None broken = cc
 some_marks (Some marks) broken = refl
-
-counts_full : (state : EntryState) (p : ℕ) → counts_at state Full p ≡ seen_at state p
-counts_full Clean p = refl
-counts_full (Live core) p = refl
-counts_full (Broken marks) p = refl
-
-every_from : (n : ℕ) (f : ℕ → Bool) → ((p : ℕ) → p < n → f p ≡ true) → every_pe n f ≡ true
-every_from zero f each = refl
-every_from (suc n) f each = and_from (f n) (every_pe n f) (each n (omega arith)) (every_from n f (λ p below. each p (omega arith)))
 
 -- a place whose break every PE has seen is cleansed by a TLBI that takes all of it at every PE
 pub cleansed_by : (noted again : EntryState) (done : Option Marks) (before pends left : Pends) (all : PeMask) (q n : ℕ) (dsb : Dsb)

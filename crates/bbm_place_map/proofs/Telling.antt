@@ -1,13 +1,18 @@
 -- What DSBs of a PE publish, and where they publish no more.
-use Rattle.std.proofs.Common.{◌≡◌, ℕ, ◌<◌, ◌⊎◌, Bool, true, false, ◌&&◌, ◌||◌, Option, Some, None, refl, arith, ap, sym}
+use Rattle.std.proofs.Common.{◌≡◌, ℕ, ◌<◌, ◌⊎◌, Bool, true, false, not, ◌&&◌, ◌||◌, nat_eq, Option, Some, None, refl, arith, ap, sym}
 use Rattle.std.proofs.Common.{subst, ◌∙◌, inl, inr}
 use Rattle.std.proofs.lemmas.Bool.{cases_eq, ltb-true, eqb-true, and_from, false≢true, or_left, or_right}
 use Rattle.std.proofs.lemmas.Option.{same_Some}
 use Rattle.bbm_barriers.specs.declared.Dsb.{Dsb}
-use Rattle.bbm_barriers.specs.Options.{publishes, hears, audience, Audience}
+use Rattle.bbm_barriers.specs.declared.Domain.{Domain}
+use Rattle.bbm_barriers.specs.declared.Domain.TheVariants.{Full, Inner, Outer, Non}
+use Rattle.bbm_barriers.specs.declared.Types.{Types}
+use Rattle.bbm_barriers.specs.declared.Types.TheVariants.{All, Stores, Loads}
+use Rattle.bbm_barriers.specs.Options.{publishes, hears, audience, is_non, Audience}
 use Rattle.bbm_barriers.specs.Options.Audience.{EveryPe, IssuerAlone, NoPe}
 use Rattle.bbm_regimes.specs.PeMask.{pe_in}
 use Rattle.bbm_entry_state.specs.declared.marks.Marks.{Marks}
+use Rattle.bbm_place_map.specs.Dsbs.{IsHeard}
 use Rattle.bbm_place_map.specs.Each.{Advances, Publishes}
 use Rattle.bbm_place_map.specs.Works.{IsTold, MayPublish}
 use Rattle.bbm_place_map.specs.declared.entry.Entry.{Entry}
@@ -21,6 +26,17 @@ hears_within NoPe issuer n p below h = absurd (false≢true h)
 
 pub publishes_within : (dsb : Dsb) (issuer n p : ℕ) → issuer < n → publishes dsb issuer n p ≡ true → p < n
 publishes_within dsb issuer n p below h = hears_within (audience dsb.domain dsb.types) issuer n p below h
+
+reach_in : (d : Domain) (t : Types) (issuer n p : ℕ) → hears (audience d t) issuer n p ≡ true → (not (is_non d) || nat_eq p issuer) ≡ true
+reach_in Full t issuer n p h = refl
+reach_in Inner t issuer n p h = refl
+reach_in Outer t issuer n p h = refl
+reach_in Non All issuer n p h = h
+reach_in Non Stores issuer n p h = h
+reach_in Non Loads issuer n p h = absurd (false≢true h)
+
+reach_by : (dsb : Dsb) (issuer n p : ℕ) → publishes dsb issuer n p ≡ true → (not (is_non dsb.domain) || nat_eq p issuer) ≡ true
+reach_by dsb issuer n p h = reach_in dsb.domain dsb.types issuer n p h
 
 once : (x y s : Bool) → (x ≡ true → y ≡ true → s ≡ true) → s ≡ ((x && y) || s)
 once true true s h = h refl refl
@@ -61,58 +77,69 @@ module _ (by : Barrier) where
         | inr did ↦ again_both o p r did h
       ]
 
-  pub same_published : (e : Entry) → ((p : ℕ) → publishes by.dsb by.issuer by.n p ≡ true → pe_in e.marks.writers by.issuer ≡ true → pe_in e.marks.seen p ≡ true)
-      → Publishes by e e
-  same_published e told = (
+  same_published : (e : Entry) → IsHeard by e.marks → Publishes by e e
+  same_published e heard = (
     refl,
     record {
       core = refl;
       broken = refl;
       writers = λ p. refl;
-      seen = λ p. once (publishes by.dsb by.issuer by.n p) (pe_in e.marks.writers by.issuer) (pe_in e.marks.seen p) (told p);
+      seen = λ p. once (publishes by.dsb by.issuer by.n p) (pe_in e.marks.writers by.issuer) (pe_in e.marks.seen p) (heard p);
       half = λ p. refl;
       clean = λ p. refl;
     },
   )
 
   -- where nothing more is published, an entry that may have been visited was
-  pub told_advances : (o p : Option Entry) → ((e : Entry) → o ≡ Some e → IsTold by.n by.issuer e.marks) → MayPublish by o p
+  pub heard_advances : (o p : Option Entry) → ((e : Entry) → o ≡ Some e → IsHeard by e.marks) → MayPublish by o p
       → Advances (Publishes by) o p
-  told_advances None p told may =
+  heard_advances None p heard may =
       elim may [
         | inl same ↦ let P : Option Entry → Type 0 = λ x. Advances (Publishes by) None x in subst P (sym same) tt
         | inr did ↦ did
       ]
-  told_advances (Some e) p told may =
+  heard_advances (Some e) p heard may =
       elim may [
         | inl same ↦
             let P : Option Entry → Type 0 = λ x. Advances (Publishes by) (Some e) x in
-            subst P (sym same) (refl, same_published e (told e refl by.dsb))
+            subst P (sym same) (refl, same_published e (heard e refl))
         | inr did ↦ did
       ]
 
-  -- where a DSB reached every PE no more is published
-  pub told_after : (e f : Entry) → by.issuer < by.n → ((p : ℕ) → p < by.n → publishes by.dsb by.issuer by.n p ≡ true) → Publishes by e f
-      → IsTold by.n by.issuer f.marks
-  told_after e f below all h dsb' p heard wrote =
+  -- what a DSB published it publishes no more
+  pub heard_after : (e f : Entry) → Publishes by e f → IsHeard by f.marks
+  heard_after e f h p reached wrote =
       h.1.seen p
       ∙ or_left (publishes by.dsb by.issuer by.n p && pe_in e.marks.writers by.issuer) (pe_in e.marks.seen p)
-      (and_from (publishes by.dsb by.issuer by.n p) (pe_in e.marks.writers by.issuer) (all p (publishes_within dsb' by.issuer by.n p below heard))
-      (sym (h.1.writers by.issuer) ∙ wrote))
+      (and_from (publishes by.dsb by.issuer by.n p) (pe_in e.marks.writers by.issuer) reached (sym (h.1.writers by.issuer) ∙ wrote))
 
   -- of any PE, where nothing more was published nothing more is
-  pub told_kept : (q : ℕ) (e f : Entry) → Publishes by e f → IsTold by.n q e.marks → IsTold by.n q f.marks
-  told_kept q e f h told dsb' p heard wrote =
+  pub told_kept : (wide : Bool) (q : ℕ) (e f : Entry) → Publishes by e f → IsTold wide by.n q e.marks → IsTold wide by.n q f.marks
+  told_kept wide q e f h told p below reach wrote =
       h.1.seen p
       ∙ or_right (publishes by.dsb by.issuer by.n p && pe_in e.marks.writers by.issuer) (pe_in e.marks.seen p)
-      (told dsb' p heard (sym (h.1.writers q) ∙ wrote))
+      (told p below reach (sym (h.1.writers q) ∙ wrote))
 
-pub told_no_writer : (n q : ℕ) (marks : Marks) → pe_in marks.writers q ≡ false → IsTold n q marks
-told_no_writer n q marks none dsb p heard wrote = absurd (false≢true (sym none ∙ wrote))
+  -- a DSB publishes no more where none does that reaches as many PEs
+  pub heard_told : (marks : Marks) → by.issuer < by.n → IsTold (not (is_non by.dsb.domain)) by.n by.issuer marks → IsHeard by marks
+  heard_told marks below told p reached wrote =
+      told p (publishes_within by.dsb by.issuer by.n p below reached) (reach_by by.dsb by.issuer by.n p reached) wrote
 
-pub told_after_write : (n q : ℕ) (b marks : Marks) → pe_in b.writers q ≡ true → ((p : ℕ) → pe_in b.seen p ≡ true → pe_in marks.seen p ≡ true)
-    → IsTold n q b → IsTold n q marks
-told_after_write n q b marks wrote more told dsb p heard _ = more p (told dsb p heard wrote)
+  -- and none that reaches the PE alone, or any, where this one reached the PE, or each
+  pub told_alone : (marks : Marks) → publishes by.dsb by.issuer by.n by.issuer ≡ true → IsHeard by marks → IsTold false by.n by.issuer marks
+  told_alone marks own heard p below reach wrote =
+      heard p (ap (publishes by.dsb by.issuer by.n) (eqb-true p by.issuer reach) ∙ own) wrote
+
+  pub told_all : (wide : Bool) (marks : Marks) → ((p : ℕ) → p < by.n → publishes by.dsb by.issuer by.n p ≡ true) → IsHeard by marks
+      → IsTold wide by.n by.issuer marks
+  told_all wide marks all heard p below reach wrote = heard p (all p below) wrote
+
+pub told_no_writer : (wide : Bool) (n q : ℕ) (marks : Marks) → pe_in marks.writers q ≡ false → IsTold wide n q marks
+told_no_writer wide n q marks none p below reach wrote = absurd (false≢true (sym none ∙ wrote))
+
+pub told_after_write : (wide : Bool) (n q : ℕ) (b marks : Marks) → pe_in b.writers q ≡ true
+    → ((p : ℕ) → pe_in b.seen p ≡ true → pe_in marks.seen p ≡ true) → IsTold wide n q b → IsTold wide n q marks
+told_after_write wide n q b marks wrote more told p below reach _ = more p (told p below reach wrote)
 
 pub slot_cases : (s : Option ℕ) (k : ℕ) → (s ≡ Some k) ⊎ (s ≡ Some k → ⊥)
 slot_cases None k = inr (λ h. cc)

@@ -1,5 +1,5 @@
 -- Where a TLBI is noted at the places of a few items, and at no others.
-use Rattle.std.proofs.Common.{◌≡◌, ◌≢◌, ℕ, true, false, nat_eq, List, [], ◌∷◌, ◌++◌, Option, Some, None, refl, ap}
+use Rattle.std.proofs.Common.{◌≡◌, ◌≢◌, ℕ, Bool, true, false, nat_eq, List, [], ◌∷◌, ◌++◌, Option, Some, None, refl, ap}
 use Rattle.std.proofs.Common.{sym, subst, ◌∙◌, inl, inr, if◌then◌else◌, slice_get, map}
 use Rattle.std.specs.Option.{option_map}
 use Rattle.std.proofs.lemmas.Bool.{cases_eq, cases_Bool, eq-eqb, ne_eqb, eqb-true, false≢true, cond-true, cond-false}
@@ -78,7 +78,7 @@ advance_then A B C by (Some e) (Some f) (Some g) h h' = (h'.0 ∙ h.0, by e f g 
 
 -- one more item
 module _ (xs : List Found) (x : Found) (by : Issuing) (lists lists' : List WorkList)
-    (kept : (q j : ℕ) → HoldsFor lists q j → HoldsFor lists' q j) where
+    (kept : (wide : Bool) (q j : ℕ) → HoldsFor lists q wide j → HoldsFor lists' q wide j) where
   by_cover : (c c' : Cover) (e f : Entry) → c' ≡ c → NotesAs c by e f → NotesAs c' by e f
   by_cover c c' e f is notes = let P : Cover → Type 0 = λ y. NotesAs y by e f in subst P (sym is) notes
 

@@ -1,14 +1,14 @@
 -- What a DSB finds and leaves: cells and entries, and the list of its PE.
 -- Source: project's own choice.
-use Rattle.std.specs.Prelude.{◌≡◌, ◌≤◌, ◌<◌, ◌^◌, ◌⊎◌, ℕ, Bool, true, false, Some, List, Vec, vec_len}
+use Rattle.std.specs.Prelude.{◌≡◌, ◌≤◌, ◌<◌, ◌^◌, ◌⊎◌, ℕ, Bool, true, false, Some, List, Contains, Vec, vec_len}
 use Rattle.std.specs.Prelude.{slice_get, not, ◌&&◌}
 use Rattle.std.specs.declared.alloc.Global.{Global}
 use Rattle.bbm_barriers.specs.declared.Dsb.{Dsb}
-use Rattle.bbm_barriers.specs.Options.{answers}
+use Rattle.bbm_barriers.specs.Options.{answers, publishes}
+use Rattle.bbm_regimes.specs.PeMask.{pe_in}
 use Rattle.bbm_tlbi_scope.specs.declared.entry.Cover.{Cover}
 use Rattle.bbm_entry_state.specs.Answered.{answered_at}
 use Rattle.bbm_entry_state.specs.Points.{waits, waits_in}
-use Rattle.bbm_entry_state.specs.EntryStanding.{IsIdle}
 use Rattle.bbm_entry_state.specs.declared.marks.Marks.{Marks}
 use Rattle.bbm_entry_state.specs.declared.pending.Pend.{Pend}
 use Rattle.bbm_entry_state.specs.declared.pending.Pends.{Pends}
@@ -16,11 +16,10 @@ use Rattle.bbm_place_map.specs.Each.{Advances, Completes, Publishes, loses_table
 use Rattle.bbm_place_map.specs.Entries.{entry_in}
 use Rattle.bbm_place_map.specs.Parts.{marks_in, pends_for}
 use Rattle.bbm_place_map.specs.Sound.{Linked, SameSize, StillSound}
-use Rattle.bbm_place_map.specs.Works.{Holds, IsTold, is_clean}
+use Rattle.bbm_place_map.specs.Works.{IsQuiet, IsTold, is_clean}
 use Rattle.bbm_place_map.specs.declared.cell.Cell.{Cell}
 use Rattle.bbm_place_map.specs.declared.entry.Entry.{Entry}
 use Rattle.bbm_place_map.specs.declared.orders.Barrier.{Barrier}
-use Rattle.bbm_place_map.specs.declared.work.WorkList.{WorkList}
 
 -- the PEs whose answer a DSB of the issuer is
 abbrev pub AreAnswered : Dsb → Pends → Pend → Type 0
@@ -49,21 +48,30 @@ pub record CanPublish (by : Barrier) (cells : List Cell) (entries : List Entry) 
   pub linked : Linked cells entries
 
 -- these hold each cell at whose place something waits for the answers of the issuer's TLBIs
-abbrev pub HoldWaiting : (ℕ → Type 0) → Barrier → List Cell → List Entry → Type 0
-HoldWaiting held by cells entries = (j : ℕ) → held j ⊎ IsIdle (pends_for cells entries by.issuer j)
+abbrev pub HoldWaiting : (Bool → ℕ → Type 0) → Barrier → List Cell → List Entry → Type 0
+HoldWaiting held by cells entries = (wide : Bool) (j : ℕ) → held wide j ⊎ IsQuiet wide (pends_for cells entries by.issuer j)
 
 -- these hold the cell of each entry of which a DSB of the issuer publishes more
-abbrev pub HoldUntold : (ℕ → Type 0) → Barrier → List Entry → Type 0
-HoldUntold held by entries = (k : ℕ) (e : Entry) → slice_get entries k ≡ Some e → held e.cell ⊎ IsTold by.n by.issuer e.marks
+abbrev pub HoldUntold : (Bool → ℕ → Type 0) → Barrier → List Entry → Type 0
+HoldUntold held by entries =
+    (wide : Bool) (k : ℕ) (e : Entry) → slice_get entries k ≡ Some e → held wide e.cell ⊎ IsTold wide by.n by.issuer e.marks
+
+-- a DSB publishes no more of a place with these marks
+abbrev pub IsHeard : Barrier → Marks → Type 0
+IsHeard by marks =
+    (p : ℕ) → publishes by.dsb by.issuer by.n p ≡ true → pe_in marks.writers by.issuer ≡ true → pe_in marks.seen p ≡ true
+
+-- a DSB answers nothing of what waits
+abbrev pub IsUnanswered : Dsb → Pends → Type 0
+IsUnanswered dsb pends = (b : Bool) (c : Cover) (p : ℕ) → (answers dsb b && waits pends b c p) ≡ false
 
 -- no place waits to leave
 abbrev pub IsSettled : Barrier → List Cell → List Entry → Type 0
 IsSettled by cells entries = (j : ℕ) (marks : Marks) → marks_in cells entries j ≡ Some marks → is_clean by.n marks ≡ false
 
--- A list has each cell at whose place something waits for the answers of the issuer's TLBIs, and no place waits to leave.
-pub record HasWaiting (list : WorkList) (by : Barrier) (cells : List Cell) (entries : List Entry) : Type 0 where
-  pub open' : list.given_up ≡ false
-  pub known : HoldWaiting (Holds list) by cells entries
+-- Each cell at whose place a DSB answers something is among these, and no place waits to leave.
+pub record HasWaiting (list : List ℕ) (by : Barrier) (cells : List Cell) (entries : List Entry) : Type 0 where
+  pub known : (j : ℕ) → Contains list j ⊎ IsUnanswered by.dsb (pends_for cells entries by.issuer j)
   pub settled : IsSettled by cells entries
 
 -- A DSB of the issuer published its writes at each entry.

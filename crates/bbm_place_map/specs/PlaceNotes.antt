@@ -60,4 +60,4 @@ NotesFound found by lists e f =
 pub record OnlyNotes (old new : Vec Entry Global) (lists lists' : List WorkList) : Type 0 where
   pub len : length new.items ≡ length old.items
   pub room : vec_capacity new ≡ vec_capacity old
-  pub kept : (q j : ℕ) → HoldsFor lists q j → HoldsFor lists' q j
+  pub kept : (wide : Bool) (q j : ℕ) → HoldsFor lists q wide j → HoldsFor lists' q wide j

@@ -1,9 +1,8 @@
 //! What a DSB answers.
 
-ghost use Rattle.std.specs.Prelude.{◌≡◌, ◌≢◌, ◌≤◌, ◌<◌, ◌+◌, ◌^◌, ◌⊎◌, ℕ, Some, Option, vec_len, vec_capacity, length};
-ghost use Rattle.std.specs.Prelude.{slice_get, slice_index, nat_eq, true, false, if◌then◌else◌};
+ghost use Rattle.std.specs.Prelude.{◌≡◌, ◌≢◌, ◌≤◌, ◌<◌, ◌+◌, ◌^◌, ◌⊎◌, ℕ, Bool, Some, Option, vec_len, vec_capacity};
+ghost use Rattle.std.specs.Prelude.{length, slice_get, slice_index, nat_eq, true, false, if◌then◌else◌};
 ghost use Rattle.bbm_entry_state.specs.EntryCalls.{Completed};
-ghost use Rattle.bbm_entry_state.specs.EntryStanding.{IsIdle};
 ghost use Rattle.bbm_entry_state.specs.declared.state.EntryState.TheVariants as state;
 ghost use Rattle.bbm_place_map.specs.Cells.{slot_in};
 ghost use Rattle.bbm_place_map.specs.Dsbs.{CanAnswer, CompletesAll, HasWaiting, HoldWaiting, IsSettled};
@@ -11,15 +10,15 @@ ghost use Rattle.bbm_place_map.specs.Each.{Completes, loses_table, is_table as s
 ghost use Rattle.bbm_place_map.specs.Entries.{cell_at, entry_in, no_pends, pends_in, seat};
 ghost use Rattle.bbm_place_map.specs.Parts.{marks_in};
 ghost use Rattle.bbm_place_map.specs.Sound.{FrontStays, SameSize, StillSound};
-ghost use Rattle.bbm_place_map.specs.Works.{Holds, HoldsFor, MayComplete};
+ghost use Rattle.bbm_place_map.specs.Works.{Holds, HoldsFor, IsQuiet, MayComplete};
 ghost use Rattle.bbm_place_map.specs.declared.entry.Entry.{Entry as TheEntry};
 
 use crate::cell::Cell;
-use crate::entry::{Entry, is_idle, pends_of, take_answered};
+use crate::entry::{Entry, is_quiet, pends_of, take_answered};
 use crate::links::unlink;
 use crate::orders::Barrier;
 use crate::read::slot_of;
-use crate::work::{WorkList, add, restart};
+use crate::work::{WorkList, add, part, pass_local, restart};
 use bbm_barriers::{completes_broadcast, completes_local};
 use bbm_descriptor::Core;
 use bbm_entry_state::law_completes;
@@ -149,18 +148,19 @@ fn complete_cells(
 
 /// Lists the cell of an entry at which something waits for the answers of the issuer's TLBIs.
 fn list_waiting(list: &mut WorkList, entry: &Entry, issuer: Pe, broken: usize)
-    ensures there { Holds list.new entry.now.cell ⊎ IsIdle (pends_in entry.now.pends.items issuer) }
-    ensures kept { (j : ℕ) → Holds list.old j → Holds list.new j }
+    ensures there { (wide : Bool) → Holds list.new wide entry.now.cell
+        ⊎ IsQuiet wide (pends_in entry.now.pends.items issuer) }
+    ensures kept { (wide : Bool) (j : ℕ) → Holds list.old wide j → Holds list.new wide j }
 {
-    if !is_idle(&pends_of(&entry.pends, issuer)) {
+    if !is_quiet(&pends_of(&entry.pends, issuer), true) {
         add(list, entry.cell, broken);
     }
 }
 
 /// Lists the cells of the entries at which something waits for the answers of the issuer's TLBIs.
 fn relist(broken: &[Entry], list: &mut WorkList, issuer: Pe)
-    ensures { (k : ℕ) (e : TheEntry) → slice_get broken.now k ≡ Some e
-        → Holds list.new e.cell ⊎ IsIdle (pends_in e.pends.items issuer) }
+    ensures { (wide : Bool) (k : ℕ) (e : TheEntry) → slice_get broken.now k ≡ Some e
+        → Holds list.new wide e.cell ⊎ IsQuiet wide (pends_in e.pends.items issuer) }
 {
     restart(list, false);
     for k in 0..broken.len() {
@@ -168,21 +168,21 @@ fn relist(broken: &[Entry], list: &mut WorkList, issuer: Pe)
     }
 }
 
-/// A DSB of the issuer answered its TLBIs. Its list has all cells at which something waits for that, and stays.
+/// A DSB of the issuer answered its TLBIs. The list has all cells at which something waits for that.
 fn complete_list(
     cells: &mut Vec<Cell>,
     broken: &mut Vec<Entry>,
-    list: &WorkList,
+    list: &[u32],
     barrier: &Barrier,
 ) -> bool
     requires able { CanAnswer barrier.now cells.old broken.old }
     requires waiting { HasWaiting list.now barrier.now cells.old.items broken.old.items }
     ensures { CompletesAll barrier.now cells.old cells.new broken.old broken.new result }
 {
-    complete_cells(cells, broken, &list.cells, barrier)
+    complete_cells(cells, broken, list, barrier)
 }
 
-/// The same, where nothing may stay in the list.
+/// The same of the issuer's list, which loses the cells where nothing is left, or passes them for the next such DSB.
 fn complete_listed(
     cells: &mut Vec<Cell>,
     broken: &mut Vec<Entry>,
@@ -190,16 +190,21 @@ fn complete_listed(
     barrier: &Barrier,
 ) -> bool
     requires able { CanAnswer barrier.now cells.old broken.old }
-    requires waiting { HasWaiting list.old barrier.now cells.old.items broken.old.items }
+    requires open { list.old.given_up ≡ false }
+    requires known { HoldWaiting (Holds list.old) barrier.now cells.old.items broken.old.items }
+    requires settled { IsSettled barrier.now cells.old.items broken.old.items }
     ensures completed { CompletesAll barrier.now cells.old cells.new broken.old broken.new result }
     ensures known { HoldWaiting (Holds list.new) barrier.now cells.new.items broken.new.items }
 {
     if !completes_local(barrier.dsb) {
         return false;
     }
-    let lost = complete_list(cells, broken, list, barrier);
-    if completes_broadcast(barrier.dsb) {
-        list.cells.clear();
+    let wide = completes_broadcast(barrier.dsb);
+    let lost = complete_list(cells, broken, part(list, wide), barrier);
+    if wide {
+        restart(list, false);
+    } else {
+        pass_local(list);
     }
     lost
 }
@@ -244,8 +249,8 @@ pub fn complete(
     ensures completed { CompletesAll barrier.now cells.old cells.new broken.old broken.new result }
     ensures known { HoldWaiting (HoldsFor lists.new.items barrier.now.issuer) barrier.now cells.new.items
         broken.new.items }
-    ensures kept_lists { (q j : ℕ) → q ≢ barrier.now.issuer → HoldsFor lists.old.items q j
-        → HoldsFor lists.new.items q j }
+    ensures kept_lists { (wide : Bool) (q j : ℕ) → q ≢ barrier.now.issuer → HoldsFor lists.old.items q wide j
+        → HoldsFor lists.new.items q wide j }
 {
     let q = barrier.issuer.get() as usize;
     if q < lists.len() {

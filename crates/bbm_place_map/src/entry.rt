@@ -8,7 +8,7 @@ ghost use Rattle.bbm_place_map.specs.Entries.{HasRoom, IsFirst, Lacks};
 ghost use Rattle.smallvec.specs.SmallVec.{HasRoomFor};
 ghost use Rattle.bbm_entry_state.specs.EntryCalls.{Noted};
 ghost use Rattle.bbm_entry_state.specs.Points.{waits_in};
-ghost use Rattle.bbm_entry_state.specs.EntryStanding.{IsIdle};
+ghost use Rattle.bbm_place_map.specs.Works.{IsQuiet};
 ghost use Rattle.bbm_entry_state.specs.declared.state.EntryState.TheVariants as state;
 ghost use Rattle.bbm_tlbi_scope.specs.declared.entry.Cover.{Cover as TheCover};
 
@@ -57,11 +57,15 @@ fn is_none(pend: &Pend) -> bool
     pend.half.or(pend.second).or(pend.full).is_empty()
 }
 
-/// Whether nothing waits.
-pub fn is_idle(pends: &Pends) -> bool
-    ensures { IsTrue result ↔ IsIdle pends.now }
+/// Whether nothing waits; or nothing for the answer of a TLBI that isn't broadcast.
+pub fn is_quiet(pends: &Pends, wide: bool) -> bool
+    ensures { IsTrue result ↔ IsQuiet wide pends.now }
 {
-    is_none(&pends.broadcast.or(pends.local))
+    if wide {
+        is_none(&pends.broadcast.or(pends.local))
+    } else {
+        is_none(&pends.local)
+    }
 }
 
 /// What waits for the answers of the issuer's TLBIs.
@@ -90,7 +94,7 @@ fn place_of(pendings: &[Pending], issuer: Pe) -> Option<usize>
 }
 
 /// Notes a TLBI over a place with these marks in what waits for the answers of its issuer's, which is kept here.
-/// Whether nothing waited.
+/// Whether nothing waited, or of one that isn't broadcast nothing for another such.
 fn note_here(
     pendings: &mut [Pending],
     i: usize,
@@ -102,15 +106,15 @@ fn note_here(
     requires { i < length pendings.old }
     ensures here { (q : ℕ) → IsFirst pendings.old i q → Noted (state.Broken marks.now) (pends_in pendings.old q) reach
         broadcast cover (pends_in pendings.new q) }
-    ensures idle { (q : ℕ) → IsFirst pendings.old i q → IsTrue result ↔ IsIdle (pends_in pendings.old q) }
+    ensures quiet { (q : ℕ) → IsFirst pendings.old i q → IsTrue result ↔ IsQuiet broadcast (pends_in pendings.old q) }
     ensures others { (q r : ℕ) → IsFirst pendings.old i q → r ≢ q
         → pends_in pendings.new r ≡ pends_in pendings.old r }
     ensures len { length pendings.new ≡ length pendings.old }
 {
     let pends = &mut pendings[i].pends;
-    let idle = is_idle(pends);
+    let quiet = is_quiet(pends, broadcast);
     pends.note(marks, reach, broadcast, cover);
-    idle
+    quiet
 }
 
 /// Takes those whose answer a DSB is out of those that wait here for the answers of its issuer's TLBIs.
@@ -156,7 +160,7 @@ pub fn make_room_for_issuer(pendings: &mut SmallVec<Pending, 1>, issuer: Pe) -> 
 }
 
 /// Notes a TLBI of the issuer over a place with these marks, where there is room for what waits for its answer. Whether
-/// nothing waited.
+/// nothing waited, or of one that isn't broadcast nothing for another such.
 pub fn note_pends(
     pendings: &mut SmallVec<Pending, 1>,
     issuer: Pe,
@@ -168,7 +172,7 @@ pub fn note_pends(
     requires { HasRoom pendings.old issuer }
     ensures there { Noted (state.Broken marks.now) (pends_in pendings.old.items issuer) reach broadcast cover
         (pends_in pendings.new.items issuer) }
-    ensures idle { IsTrue result ↔ IsIdle (pends_in pendings.old.items issuer) }
+    ensures quiet { IsTrue result ↔ IsQuiet broadcast (pends_in pendings.old.items issuer) }
     ensures others { (q : ℕ) → q ≢ issuer → pends_in pendings.new.items q ≡ pends_in pendings.old.items q }
 {
     match place_of(pendings.as_slice(), issuer) {

@@ -1,9 +1,8 @@
 //! What the issue of a TLBI leaves to its answer.
 
-ghost use Rattle.std.specs.Prelude.{◌≡◌, ◌≢◌, ◌<◌, ◌+◌, ◌^◌, ℕ, take, vec_len, vec_capacity, length, slice_get, Some};
+ghost use Rattle.std.specs.Prelude.{◌≡◌, ◌≢◌, ◌<◌, ◌+◌, ◌^◌, ℕ, Bool, take, vec_len, vec_capacity, length, slice_get, Some};
 ghost use Rattle.std.specs.Prelude.{OnOk, List, nat_eq, true, false, if◌then◌else◌};
 ghost use Rattle.bbm_entry_state.specs.EntryCalls.{Noted};
-ghost use Rattle.bbm_entry_state.specs.EntryStanding.{IsIdle};
 ghost use Rattle.bbm_entry_state.specs.declared.state.EntryState.TheVariants as state;
 ghost use Rattle.bbm_tlbi_scope.specs.declared.entry.Cover.{Cover as TheCover};
 ghost use Rattle.bbm_place_map.specs.Each.{Advances};
@@ -13,7 +12,7 @@ ghost use Rattle.indexmap.specs.IndexMap.{get};
 ghost use Rattle.bbm_place_map.specs.Sound.{IsSound, SameSize};
 ghost use Rattle.bbm_place_map.specs.PlaceNotes.{Keeps, Readies, NotesAs, NotesAt, NotesFound, NotesOne};
 ghost use Rattle.bbm_place_map.specs.PlaceNotes.{OnlyNotes, is_cover as spec_is_cover};
-ghost use Rattle.bbm_place_map.specs.Works.{Waits};
+ghost use Rattle.bbm_place_map.specs.Works.{IsQuiet, Waits};
 ghost use Rattle.bbm_place_map.specs.declared.entry.Entry.{Entry as TheEntry};
 
 use crate::cell::Cell;
@@ -59,7 +58,8 @@ fn make_room_at(broken: &mut Vec<Entry>, k: usize, issuer: Pe) -> Result<(), NoM
     make_room_for_issuer(&mut entry.pends, issuer)
 }
 
-/// Notes the TLBI at an entry with room for its issuer. Whether nothing waited there.
+/// Notes the TLBI at an entry with room for its issuer. Whether nothing waited there, or of one that isn't broadcast
+/// nothing for another such.
 #[inline(always)]
 fn note_at(broken: &mut Vec<Entry>, k: usize, tlbi: &Issuing, cover: Cover) -> bool
     requires within { k < vec_len broken.old }
@@ -68,8 +68,8 @@ fn note_at(broken: &mut Vec<Entry>, k: usize, tlbi: &Issuing, cover: Cover) -> b
         × (f.marks ≡ e.marks) × ((q : ℕ) → q ≢ tlbi.now.issuer → pends_in f.pends.items q ≡ pends_in e.pends.items q)
         × Noted (state.Broken e.marks) (pends_in e.pends.items tlbi.now.issuer) tlbi.now.reach tlbi.now.broadcast cover
         (pends_in f.pends.items tlbi.now.issuer)
-        × (result ≡ false → IsIdle (pends_in e.pends.items tlbi.now.issuer)
-        → IsIdle (pends_in f.pends.items tlbi.now.issuer))
+        × (result ≡ false → (wide : Bool) → IsQuiet wide (pends_in e.pends.items tlbi.now.issuer)
+        → IsQuiet wide (pends_in f.pends.items tlbi.now.issuer))
         × ((i : ℕ) → slice_get broken.new.items i ≡ (if nat_eq i k then Some f else slice_get broken.old.items i)) }
     ensures size { SameSize broken.old broken.new }
 {
@@ -85,7 +85,7 @@ fn note_at(broken: &mut Vec<Entry>, k: usize, tlbi: &Issuing, cover: Cover) -> b
     )
 }
 
-/// The same at an entry that is covered so far. The cell of one at which nothing waited is listed for the issuer.
+/// The same at an entry that is covered so far. The cell of one at which nothing so waited is listed for the issuer.
 #[inline(always)]
 fn note_entry(
     broken: &mut Vec<Entry>,

@@ -15,7 +15,7 @@
 //! - At a DSB call `publish`, then `complete`. They visit the places where the DSB may change something, seldom all.
 //! - Where a page leaves its tree call `release`.
 //! - Where all places of a page are asked, `is_blank` tells whether there is anything, and `value_from` reads each
-//!   value from the seat of the page's first place, `first_seat`, without a look-up.
+//!   value, `core_from` each core, from the seat of the page's first place, `first_seat`, without a look-up.
 //!
 //! `restless` and `restless_at` list the broken places. Each contract says of every place what it is after the call.
 //! `break_before_make` is an example of the calls, with its proof.

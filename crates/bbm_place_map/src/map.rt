@@ -196,6 +196,22 @@ impl PlaceMap {
         self.cells[seat.index + number as usize].value
     }
 
+    /// The core that the place with this number, 0 to 511, has, of the page whose first place the seat has: the one that
+    /// it is broken over; where it isn't broken that of its value, read at this kind and level, 0 to 3, and None where
+    /// that is invalid.
+    pub fn core_from(&self, seat: &Seat, number: u64, kind: Kind, level: u8) -> Option<Core>
+        requires seat { IsSeat self.now seat.now }
+        requires first { seat.now.place % 4096 ≡ 0 }
+        requires within { number < 512 }
+        requires level { level ≤ 3 }
+        ensures { result ≡ core_in (state_at self.now
+            (core_of kind level (value_at self.now (seat.now.place + 8 * number))) (seat.now.place + 8 * number)) }
+    {
+        let live = core(kind, level, self.value_from(seat, number));
+        let j = seat.index + number as usize;
+        read::core(&self.cells, &self.broken, j, live)
+    }
+
     /// How many places are broken.
     pub fn restless(&self) -> u64
         ensures count { result ≡ restless_in self.now }

@@ -1,7 +1,7 @@
 //! What a DSB publishes.
 
-ghost use Rattle.std.specs.Prelude.{◌≡◌, ◌≢◌, ◌≤◌, ◌<◌, ◌⊎◌, ℕ, Some, true, false, vec_len, vec_capacity, length};
-ghost use Rattle.std.specs.Prelude.{slice_get, slice_index, nat_eq, if◌then◌else◌};
+ghost use Rattle.std.specs.Prelude.{◌≡◌, ◌≢◌, ◌≤◌, ◌<◌, ◌⊎◌, ℕ, Bool, Some, true, false, vec_len, vec_capacity};
+ghost use Rattle.std.specs.Prelude.{length, slice_get, slice_index, nat_eq, if◌then◌else◌};
 ghost use Rattle.bbm_entry_state.specs.EntryCalls.{Published};
 ghost use Rattle.bbm_place_map.specs.Cells.{slot_in};
 ghost use Rattle.bbm_place_map.specs.Dsbs.{CanPublish, HoldUntold, InLog, PublishesAll};
@@ -15,9 +15,9 @@ use crate::cell::Cell;
 use crate::entry::Entry;
 use crate::orders::Barrier;
 use crate::read::{broken_marks, slot_of};
-use crate::work::{WorkList, add, restart};
+use crate::work::{WorkList, add, part, pass_local, restart};
 use crate::write::remark;
-use bbm_barriers::publishes_to;
+use bbm_barriers::{is_non, publishes_to};
 use bbm_entry_state::{EntryState, Marks};
 use bbm_regimes::PeMask;
 
@@ -84,7 +84,7 @@ fn publish_cells(cells: &[Cell], broken: &mut Vec<Entry>, list: &[u32], barrier:
 /// Whether no DSB of the issuer publishes more of a place with these marks.
 fn is_told(marks: &Marks, barrier: &Barrier) -> bool
     requires { InLog barrier.now }
-    ensures { result ≡ true → IsTold barrier.now.n barrier.now.issuer marks.now }
+    ensures { result ≡ true → (wide : Bool) → IsTold wide barrier.now.n barrier.now.issuer marks.now }
 {
     !marks.writers.has(barrier.issuer) || PeMask::all(barrier.n).minus(marks.seen).is_empty()
 }
@@ -92,8 +92,9 @@ fn is_told(marks: &Marks, barrier: &Barrier) -> bool
 /// Lists the cell of an entry of which DSBs of the issuer may publish more.
 fn list_untold(list: &mut WorkList, entry: &Entry, barrier: &Barrier, broken: usize)
     requires { InLog barrier.now }
-    ensures there { Holds list.new entry.now.cell ⊎ IsTold barrier.now.n barrier.now.issuer entry.now.marks }
-    ensures kept { (j : ℕ) → Holds list.old j → Holds list.new j }
+    ensures there { (wide : Bool) → Holds list.new wide entry.now.cell
+        ⊎ IsTold wide barrier.now.n barrier.now.issuer entry.now.marks }
+    ensures kept { (wide : Bool) (j : ℕ) → Holds list.old wide j → Holds list.new wide j }
 {
     if !is_told(&entry.marks, barrier) {
         add(list, entry.cell, broken);
@@ -118,10 +119,11 @@ fn publish_list(cells: &[Cell], broken: &mut Vec<Entry>, list: &WorkList, barrie
     requires known { HoldUntold (Holds list.now) barrier.now broken.old.items }
     ensures { PublishesAll barrier.now broken.old broken.new }
 {
-    publish_cells(cells, broken, &list.cells, barrier);
+    let wide = !is_non(barrier.dsb.domain);
+    publish_cells(cells, broken, part(list, wide), barrier);
 }
 
-/// The same, where nothing may stay in the list.
+/// The same. The list loses its cells where nothing is left, or passes them for the next DSB that reaches its PE alone.
 fn publish_listed(cells: &[Cell], broken: &mut Vec<Entry>, list: &mut WorkList, barrier: &Barrier)
     requires able { CanPublish barrier.now cells.now broken.old.items }
     requires open { list.old.given_up ≡ false }
@@ -133,7 +135,9 @@ fn publish_listed(cells: &[Cell], broken: &mut Vec<Entry>, list: &mut WorkList, 
     if !list.cells.is_empty() {
         let heard = publishes_to(barrier.dsb, barrier.issuer, barrier.n);
         if PeMask::all(barrier.n).minus(heard).is_empty() {
-            list.cells.clear();
+            restart(list, false);
+        } else if heard.has(barrier.issuer) {
+            pass_local(list);
         }
     }
 }
@@ -165,8 +169,8 @@ pub fn publish(
     requires known { HoldUntold (HoldsFor lists.old.items barrier.now.issuer) barrier.now broken.old.items }
     ensures published { PublishesAll barrier.now broken.old broken.new }
     ensures known { HoldUntold (HoldsFor lists.new.items barrier.now.issuer) barrier.now broken.new.items }
-    ensures others { (q j : ℕ) → q ≢ barrier.now.issuer → HoldsFor lists.old.items q j
-        → HoldsFor lists.new.items q j }
+    ensures others { (wide : Bool) (q j : ℕ) → q ≢ barrier.now.issuer → HoldsFor lists.old.items q wide j
+        → HoldsFor lists.new.items q wide j }
 {
     let q = barrier.issuer.get() as usize;
     if q < lists.len() {

@@ -1,21 +1,24 @@
 //! Lists of the broken places that a DSB has to visit.
 //! Source: project's own choice, where no other is named.
 
-ghost use Rattle.std.specs.Prelude.{◌≡◌, ◌≢◌, ◌≤◌, ◌<◌, ◌⊎◌, ℕ, Some, true, false, Contains, vec_len, length};
-ghost use Rattle.std.specs.Prelude.{slice_get};
+ghost use Rattle.std.specs.Prelude.{◌≡◌, ◌≢◌, ◌≤◌, ◌<◌, ◌⊎◌, ℕ, Bool, Some, true, false, Contains, vec_len, length};
+ghost use Rattle.std.specs.Prelude.{drop, slice_get};
 ghost use Rattle.bbm_regimes.specs.PeMask.{pe_in};
 ghost use Rattle.bbm_place_map.specs.Works.{AddsAll, GivesUp, Holds, HoldsFor, is_clean, IsToldAsBefore};
+ghost use Rattle.bbm_place_map.specs.Works.{part as spec_part};
 
 use bbm_entry_state::Marks;
 use bbm_regimes::{Pe, PeMask};
 use std::alloc::Global;
 
 /// The numbers of cells at whose places something may be left to do, unless there were too many. A cell may stand here
-/// twice, and one with nothing left to do too.
+/// twice, and one with nothing left to do too. New cells come at the end.
 #[derive(Drop)]
 pub struct WorkList {
     /// Whether there may be something left at any other place, too.
     pub given_up: bool,
+    /// How many of the cells, from the first, leave nothing to do for a DSB that reaches its PE alone.
+    pub local_done: usize,
     /// The numbers of the cells.
     pub cells: Vec<u32>,
 }
@@ -50,16 +53,53 @@ pub fn restart(list: &mut WorkList, given_up: bool)
     ensures { list.new.given_up ≡ given_up }
 {
     list.given_up = given_up;
+    list.local_done = 0;
     list.cells.clear();
+}
+
+/// Where the cells start that may leave something to do for a DSB that reaches its PE alone.
+fn local_start(list: &WorkList) -> usize
+    ensures within { result ≤ vec_len list.now.cells }
+    ensures same { spec_part false list.now ≡ drop result list.now.cells.items }
+{
+    if list.local_done < list.cells.len() {
+        list.local_done
+    } else {
+        list.cells.len()
+    }
+}
+
+/// The cells that a DSB has to visit: all, or where it reaches its PE alone those behind the ones that leave it nothing
+/// to do.
+pub fn part(list: &WorkList, wide: bool) -> &[u32]
+    ensures { result.now ≡ spec_part wide list.now }
+{
+    if wide {
+        return &list.cells;
+    }
+    let from = local_start(list);
+    &list.cells[from..]
+}
+
+/// No cell of the list leaves anything to do for a DSB that reaches its PE alone.
+pub fn pass_local(list: &mut WorkList)
+    ensures { (j : ℕ) → Holds list.old true j → Holds list.new true j }
+{
+    list.local_done = list.cells.len();
+}
+
+/// Whether a list is long beside the number of broken places.
+fn is_long(count: usize, broken: usize) -> bool {
+    count >= 64 && count / 2 >= broken
 }
 
 /// Adds a cell, or gives up where the list is long beside the number of broken places, or there is no room for it.
 pub fn add(list: &mut WorkList, cell: u32, broken: usize)
-    ensures there { Holds list.new cell }
-    ensures kept { (j : ℕ) → Holds list.old j → Holds list.new j }
+    ensures there { (wide : Bool) → Holds list.new wide cell }
+    ensures kept { (wide : Bool) (j : ℕ) → Holds list.old wide j → Holds list.new wide j }
 {
     let count = list.cells.len();
-    if count >= 64 && count / 2 >= broken {
+    if count < list.local_done || is_long(count, broken) {
         list.given_up = true;
     } else {
         match list.cells.push(cell) {
@@ -71,8 +111,8 @@ pub fn add(list: &mut WorkList, cell: u32, broken: usize)
 
 /// Adds a cell to the list of a PE.
 pub fn add_for(lists: &mut Vec<WorkList>, pe: Pe, cell: u32, broken: usize)
-    ensures there { HoldsFor lists.new.items pe cell }
-    ensures kept { (q j : ℕ) → HoldsFor lists.old.items q j → HoldsFor lists.new.items q j }
+    ensures there { (wide : Bool) → HoldsFor lists.new.items pe wide cell }
+    ensures kept { (wide : Bool) (q j : ℕ) → HoldsFor lists.old.items q wide j → HoldsFor lists.new.items q wide j }
 {
     let q = pe.get() as usize;
     if q < lists.len() {
@@ -103,8 +143,8 @@ fn fresh_writers(before: &Option<Marks>, marks: &Marks) -> PeMask
 /// Adds a cell to the list of the PE with this number, where it is among these.
 fn add_writer(lists: &mut Vec<WorkList>, writers: PeMask, i: u8, cell: u32, broken: usize)
     requires { i < 128 }
-    ensures there { pe_in writers i ≡ true → HoldsFor lists.new.items i cell }
-    ensures kept { (q j : ℕ) → HoldsFor lists.old.items q j → HoldsFor lists.new.items q j }
+    ensures there { (wide : Bool) → pe_in writers i ≡ true → HoldsFor lists.new.items i wide cell }
+    ensures kept { (wide : Bool) (q j : ℕ) → HoldsFor lists.old.items q wide j → HoldsFor lists.new.items q wide j }
 {
     if let Some(pe) = Pe::new(i) {
         if writers.has(pe) {
@@ -175,9 +215,10 @@ pub fn note_write(
     requires some { 1 ≤ work.old.pes }
     requires most { work.old.pes ≤ 128 }
     ensures pes { work.new.pes ≡ work.old.pes }
-    ensures told { (q : ℕ) → q < work.old.pes → HoldsFor work.new.unpublished.items q cell
+    ensures told { (wide : Bool) (q : ℕ) → q < work.old.pes → HoldsFor work.new.unpublished.items q wide cell
         ⊎ ((pe_in marks.now.writers q ≡ false) ⊎ IsToldAsBefore before.now marks.now q) }
-    ensures kept { (q j : ℕ) → HoldsFor work.old.unpublished.items q j → HoldsFor work.new.unpublished.items q j }
+    ensures kept { (wide : Bool) (q j : ℕ) → HoldsFor work.old.unpublished.items q wide j
+        → HoldsFor work.new.unpublished.items q wide j }
     ensures waiting { work.new.waiting.items ≡ work.old.waiting.items }
     ensures settled { work.new.settled ≡ true → work.old.settled ≡ true }
     ensures unclean { work.new.settled ≡ true → is_clean work.old.pes marks.now ≡ false }
@@ -192,7 +233,7 @@ pub fn note_write(
 
 /// Restarts each list.
 fn restart_all(lists: &mut Vec<WorkList>, given_up: bool)
-    ensures { given_up ≡ true → (q j : ℕ) → HoldsFor lists.new.items q j }
+    ensures { given_up ≡ true → (wide : Bool) (q j : ℕ) → HoldsFor lists.new.items q wide j }
 {
     for k in 0..lists.len() {
         restart(&mut lists[k], given_up);
@@ -230,11 +271,12 @@ pub fn begin(work: &mut Work, n: u8, broken: usize)
 
 /// Makes a list for each PE that has none, as far as there is memory. A PE without one visits all broken places.
 pub fn make_lists(lists: &mut Vec<WorkList>, alloc: Global)
-    ensures { (q j : ℕ) → HoldsFor lists.old.items q j → HoldsFor lists.new.items q j }
+    ensures { (wide : Bool) (q j : ℕ) → HoldsFor lists.old.items q wide j → HoldsFor lists.new.items q wide j }
 {
     for _pe in lists.len()..128 {
         let list = WorkList {
             given_up: true,
+            local_done: 0,
             cells: Vec::new(alloc),
         };
         match lists.push(list) {

@@ -5,28 +5,28 @@ use Rattle.bbm_place_map.proofs.Holding.{set_there, set_others, read_for}
 use Rattle.bbm_place_map.proofs.complete.complete.Goals as goal
 
 pub complete_by-requires-clause-known : goal.complete_by-requires-clause-known
-complete_by-requires-clause-known c = λ j.
-    elim (c.requires.known j) [
-      | inl holds ↦ inl (read_for c.args.lists.now.items c.get-q.result c.args.barrier.now.issuer c.index_mut.result.now (omega arith) c.get-q.ensures.value c.index_mut.ensures.value j holds)
-      | inr idle ↦ inr idle
+complete_by-requires-clause-known c = λ wide j.
+    elim (c.requires.known wide j) [
+      | inl holds ↦ inl (read_for c.args.lists.now.items c.get-q.result c.args.barrier.now.issuer c.index_mut.result.now (omega arith) c.get-q.ensures.value c.index_mut.ensures.value wide j holds)
+      | inr quiet ↦ inr quiet
     ]
 
 pub returns-then-q-len-clause-known : goal.returns-then-q-len-clause-known
-returns-then-q-len-clause-known c = λ j.
-    elim (c.complete_by.ensures.known j) [
+returns-then-q-len-clause-known c = λ wide j.
+    elim (c.complete_by.ensures.known wide j) [
       | inl holds ↦
-          let P : ℕ → Type 0 = λ x. HoldsFor (set c.args.lists.now.items c.get-q.result c.complete_by.new.list) x j in
+          let P : ℕ → Type 0 = λ x. HoldsFor (set c.args.lists.now.items c.get-q.result c.complete_by.new.list) x wide j in
           inl (subst P c.get-q.ensures.value
-          (set_there c.args.lists.now.items c.get-q.result c.index_mut.result.now c.complete_by.new.list (omega arith) c.index_mut.ensures.value j holds))
-      | inr idle ↦ inr idle
+          (set_there c.args.lists.now.items c.get-q.result c.index_mut.result.now c.complete_by.new.list (omega arith) c.index_mut.ensures.value wide j holds))
+      | inr quiet ↦ inr quiet
     ]
 
 pub returns-then-q-len-clause-kept_lists : goal.returns-then-q-len-clause-kept_lists
-returns-then-q-len-clause-kept_lists c = λ q j other.
-    set_others c.args.lists.now.items c.get-q.result c.complete_by.new.list (omega arith) q (λ same. other (same ∙ c.get-q.ensures.value)) j
+returns-then-q-len-clause-kept_lists c = λ wide q j other.
+    set_others c.args.lists.now.items c.get-q.result c.complete_by.new.list (omega arith) wide q (λ same. other (same ∙ c.get-q.ensures.value)) j
 
 pub returns-else-q-len-clause-known : goal.returns-else-q-len-clause-known
-returns-else-q-len-clause-known c = λ j. inl (λ list is.
+returns-else-q-len-clause-known c = λ wide j. inl (λ list is.
     let value = c.get-q.ensures.value in
     let past : length c.args.lists.now.items ≤ c.args.barrier.now.issuer = omega arith in
     absurd (none-some list (sym (slice_get_past c.args.lists.now.items c.args.barrier.now.issuer past) ∙ is)))

@@ -1,21 +1,16 @@
-use Rattle.std.proofs.Common.{ℕ, ◌<◌, List, length, subst, slice_index}
-use Rattle.bbm_place_map.specs.Each.{Completes}
 use Rattle.bbm_place_map.specs.Entries.{entry_in}
 use Rattle.bbm_place_map.proofs.Rounds.{all_answered}
 use Rattle.bbm_place_map.proofs.complete.complete_list.Goals as goal
 
 pub returns : goal.returns
 returns c =
-    let P : List ℕ → Type 0 = λ xs. (i : ℕ) → i < length xs → Completes c.args.barrier.now
-    (entry_in c.args.cells.now.items c.args.broken.now.items (slice_index xs i))
-    (entry_in c.complete_cells.new.cells.items c.complete_cells.new.broken.items (slice_index xs i)) in
     let done = c.complete_cells.ensures in
     record {
       sound = done.sound;
       each =
           all_answered c.args.barrier.now c.args.list.now (entry_in c.args.cells.now.items c.args.broken.now.items)
-          (entry_in c.complete_cells.new.cells.items c.complete_cells.new.broken.items) c.requires.waiting.open' c.requires.waiting.known c.requires.waiting.settled
-          (subst P c.deref.ensures.value done.here) done.each;
+          (entry_in c.complete_cells.new.cells.items c.complete_cells.new.broken.items) c.requires.waiting.known c.requires.waiting.settled
+          done.here done.each;
       lost = done.lost;
       kept = done.kept;
     }

@@ -1,32 +1,62 @@
-use Rattle.std.proofs.Common.{sym, ◌∙◌, inl, inr}
+use Rattle.std.proofs.Common.{◌⊎◌, ℕ, Bool, true, false, List, Contains, sym, subst, ◌∙◌, inl, inr}
 use Rattle.std.proofs.lemmas.Bool.{false≢true}
 use Rattle.bbm_place_map.specs.Entries.{entry_in}
-use Rattle.bbm_place_map.proofs.Resting.{idle_kept, idle_answered, nothing_answered, stays_kept, answers_both}
-use Rattle.bbm_place_map.proofs.Resting.{answers_none}
+use Rattle.bbm_place_map.specs.Parts.{pends_for}
+use Rattle.bbm_place_map.specs.Works.{Holds, IsQuiet}
+use Rattle.bbm_place_map.proofs.Resting.{quiet_kept, quiet_answered, quiet_unanswered, unanswered_same, stays_kept}
+use Rattle.bbm_place_map.proofs.Resting.{no_answer, answers_all, answers_own}
 use Rattle.bbm_place_map.proofs.Seats.{still_same}
 use Rattle.bbm_place_map.proofs.complete.complete_listed.Goals as goal
+
+pub complete_list-lost-requires-clause-waiting : goal.complete_list-lost-requires-clause-waiting
+complete_list-lost-requires-clause-waiting c = record {
+  known = λ j.
+      elim (c.requires.known c.completes_broadcast-wide.result j) [
+        | inl holds ↦
+            elim holds [
+              | inl up ↦ absurd (false≢true (sym c.requires.open ∙ up))
+              | inr has ↦ inl (subst (λ (xs : List ℕ). Contains xs j) (sym c.part.ensures) has)
+            ]
+        | inr quiet ↦
+            inr (quiet_unanswered c.args.barrier.now.dsb c.completes_broadcast-wide.result
+            (pends_for c.args.cells.now.items c.args.broken.now.items c.args.barrier.now.issuer j) c.completes_broadcast-wide.ensures quiet)
+      ];
+  settled = c.requires.settled;
+}
 
 pub returns-then-not-completes_local-clause-completed : goal.returns-then-not-completes_local-clause-completed
 returns-then-not-completes_local-clause-completed c = record {
   sound = still_same c.args.cells.now c.args.broken.now c.requires.able.linked;
   each = λ j.
-      nothing_answered c.args.barrier.now (answers_none c.args.barrier.now.dsb (sym c.completes_local.ensures ∙ c.if-not-completes_local.true))
-      (sym c.completes_local.ensures ∙ c.if-not-completes_local.true) (entry_in c.args.cells.now.items c.args.broken.now.items j) (c.requires.waiting.settled j);
+      unanswered_same c.args.barrier.now (entry_in c.args.cells.now.items c.args.broken.now.items j)
+      (no_answer c.args.barrier.now.dsb (pends_for c.args.cells.now.items c.args.broken.now.items c.args.barrier.now.issuer j)
+      (sym c.completes_local.ensures ∙ c.if-not-completes_local.true))
+      (c.requires.settled j);
   lost = λ none. absurd (false≢true none);
   kept = λ _ j. stays_kept (entry_in c.args.cells.now.items c.args.broken.now.items j);
 }
 
-pub returns-then-completes_broadcast-clause-known : goal.returns-then-completes_broadcast-clause-known
-returns-then-completes_broadcast-clause-known c = λ j.
-    inr (idle_answered c.args.barrier.now (sym c.completes_broadcast.ensures ∙ c.if-completes_broadcast.true)
-    (answers_both c.args.barrier.now.dsb (sym c.completes_broadcast.ensures ∙ c.if-completes_broadcast.true)) (entry_in c.args.cells.now.items c.args.broken.now.items j)
+pub returns-then-wide-clause-known : goal.returns-then-wide-clause-known
+returns-then-wide-clause-known c = λ wide j.
+    inr (quiet_answered c.args.barrier.now wide
+    (λ b _. answers_all c.args.barrier.now.dsb (sym c.completes_broadcast-wide.ensures ∙ c.if-wide.true) b)
+    (entry_in c.args.cells.now.items c.args.broken.now.items j)
     (entry_in c.complete_list-lost.new.cells.items c.complete_list-lost.new.broken.items j) (c.complete_list-lost.ensures.each j))
 
-pub returns-else-completes_broadcast-clause-known : goal.returns-else-completes_broadcast-clause-known
-returns-else-completes_broadcast-clause-known c = λ j.
-    elim (c.requires.waiting.known j) [
-      | inl holds ↦ inl holds
-      | inr idle ↦
-          inr (idle_kept c.args.barrier.now (entry_in c.args.cells.now.items c.args.broken.now.items j)
-          (entry_in c.complete_list-lost.new.cells.items c.complete_list-lost.new.broken.items j) (c.complete_list-lost.ensures.each j) idle)
+known_then : (c : goal.After-pass_local) → (wide : Bool) (j : ℕ) → Holds c.pass_local.new.list wide j
+    ⊎ IsQuiet wide (pends_for c.complete_list-lost.new.cells.items c.complete_list-lost.new.broken.items c.args.barrier.now.issuer j)
+known_then c true j =
+    elim (c.requires.known true j) [
+      | inl holds ↦ inl (c.pass_local.ensures j holds)
+      | inr quiet ↦
+          inr (quiet_kept c.args.barrier.now true (entry_in c.args.cells.now.items c.args.broken.now.items j)
+          (entry_in c.complete_list-lost.new.cells.items c.complete_list-lost.new.broken.items j) (c.complete_list-lost.ensures.each j) quiet)
     ]
+known_then c false j =
+    inr (quiet_answered c.args.barrier.now false
+    (answers_own c.args.barrier.now.dsb (sym c.completes_local.ensures ∙ c.if-not-completes_local.false))
+    (entry_in c.args.cells.now.items c.args.broken.now.items j)
+    (entry_in c.complete_list-lost.new.cells.items c.complete_list-lost.new.broken.items j) (c.complete_list-lost.ensures.each j))
+
+pub returns-else-wide-clause-known : goal.returns-else-wide-clause-known
+returns-else-wide-clause-known c = known_then c

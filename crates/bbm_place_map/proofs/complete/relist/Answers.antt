@@ -1,30 +1,29 @@
 use Rattle.std.proofs.Common.{◌≡◌, ◌⊎◌, ◌<◌, arith, inl, inr, subst, sym, ap, ◌∙◌, slice_get, length}
 use Rattle.std.proofs.lemmas.Bool.{cases_eq}
 use Rattle.std.proofs.lemmas.Option.{slice_get_within}
-use Rattle.bbm_entry_state.specs.EntryStanding.{IsIdle}
 use Rattle.bbm_place_map.specs.Entries.{pends_in}
-use Rattle.bbm_place_map.specs.Works.{Holds}
+use Rattle.bbm_place_map.specs.Works.{Holds, IsQuiet}
 use Rattle.bbm_place_map.specs.declared.entry.Entry.{Entry}
 use Rattle.bbm_place_map.proofs.Leaving.{entry_same}
 use Rattle.bbm_place_map.proofs.complete.relist.Goals as goal
 
 pub loop-k-preserved : goal.loop-k-preserved
-loop-k-preserved c = λ m e below is.
+loop-k-preserved c = λ wide m e below is.
     elim (cases_eq m c.loop-k.k) [
       | inl same ↦
           let entry : c.index-broken-k.result ≡ e
           = entry_same c.args.broken.now c.loop-k.k c.index-broken-k.result e (omega arith) c.index-broken-k.is
           (ap (slice_get c.args.broken.now) (sym same) ∙ is) in
-          let P : Entry → Type 0 = λ x. Holds c.list_waiting.new.list x.cell ⊎ IsIdle (pends_in x.pends.items c.args.issuer) in
-          subst P entry c.list_waiting.ensures.there
+          let P : Entry → Type 0 = λ x. Holds c.list_waiting.new.list wide x.cell ⊎ IsQuiet wide (pends_in x.pends.items c.args.issuer) in
+          subst P entry (c.list_waiting.ensures.there wide)
       | inr other ↦
-          elim (c.loop-k.invariant m e (omega arith) is) [
-            | inl holds ↦ inl (c.list_waiting.ensures.kept e.cell holds)
-            | inr idle ↦ inr idle
+          elim (c.loop-k.invariant wide m e (omega arith) is) [
+            | inl holds ↦ inl (c.list_waiting.ensures.kept wide e.cell holds)
+            | inr quiet ↦ inr quiet
           ]
     ]
 
 pub returns : goal.returns
-returns c = λ k e is.
+returns c = λ wide k e is.
     let within : k < length c.args.broken.now = slice_get_within c.args.broken.now k e is in
-    c.loop-k.invariant k e (omega arith) is
+    c.loop-k.invariant wide k e (omega arith) is

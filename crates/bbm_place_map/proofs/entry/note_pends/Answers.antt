@@ -1,9 +1,9 @@
 use Rattle.std.proofs.Common.{◌≡◌, ap, sym, ◌∙◌, arith, refl, subst, List, ◌↔◌, IsTrue, length}
 use Rattle.std.proofs.lemmas.Bool.{eq-eqb, ne_eqb}
-use Rattle.bbm_entry_state.specs.EntryStanding.{IsIdle}
 use Rattle.bbm_place_map.specs.Entries.{pends_in, no_pends, IsFirst, Lacks}
+use Rattle.bbm_place_map.specs.Works.{IsQuiet}
 use Rattle.bbm_place_map.specs.declared.entry.Pending.{Pending}
-use Rattle.bbm_place_map.proofs.Idle.{idle_from}
+use Rattle.bbm_place_map.proofs.Idle.{idle_from, quiet_from}
 use Rattle.bbm_place_map.proofs.Noting.{noted_alike}
 use Rattle.bbm_place_map.proofs.Pendings.{lacks_all, more_there, more_others, written}
 use Rattle.bbm_place_map.proofs.entry.note_pends.Goals as goal
@@ -13,10 +13,10 @@ first c =
     let P : List Pending → Type 0 = λ ps. IsFirst ps c.in-Some.i c.args.issuer in
     subst P (c.as_slice.ensures ∙ sym c.as_mut_slice.ensures.value) c.in-Some.ensures.some
 
-pub returns-in-Some-clause-idle : goal.returns-in-Some-clause-idle
-returns-in-Some-clause-idle c =
-    let P : List Pending → Type 0 = λ ps. IsTrue c.note_here.result ↔ IsIdle (pends_in ps c.args.issuer) in
-    subst P c.as_mut_slice.ensures.value (c.note_here.ensures.idle c.args.issuer (first c))
+pub returns-in-Some-clause-quiet : goal.returns-in-Some-clause-quiet
+returns-in-Some-clause-quiet c =
+    let P : List Pending → Type 0 = λ ps. IsTrue c.note_here.result ↔ IsQuiet c.args.broadcast (pends_in ps c.args.issuer) in
+    subst P c.as_mut_slice.ensures.value (c.note_here.ensures.quiet c.args.issuer (first c))
 
 pub returns-in-Some-clause-others : goal.returns-in-Some-clause-others
 returns-in-Some-clause-others c = λ q other.
@@ -42,8 +42,11 @@ returns-in-None-clause-there c =
     ∙ more_there items (record { issuer = c.args.issuer; pends = c.note.new.self }) c.args.issuer (length items) (omega arith) (lacks c)
     (eq-eqb c.args.issuer c.args.issuer refl)) c.note.ensures
 
-pub returns-in-None-clause-idle : goal.returns-in-None-clause-idle
-returns-in-None-clause-idle c = (λ _. idle_from (pends_in c.args.pendings.now.items c.args.issuer) (none c), λ _. refl)
+pub returns-in-None-clause-quiet : goal.returns-in-None-clause-quiet
+returns-in-None-clause-quiet c = (
+  λ _. quiet_from c.args.broadcast (pends_in c.args.pendings.now.items c.args.issuer) (idle_from (pends_in c.args.pendings.now.items c.args.issuer) (none c)),
+  λ _. refl,
+)
 
 pub returns-in-None-clause-others : goal.returns-in-None-clause-others
 returns-in-None-clause-others c = λ q other.

@@ -32,7 +32,7 @@ loop-k-preserved c =
     record {
       done = done_more R start mid new k e.0 f.0 c.loop-k.invariant.done c.loop-k.invariant.rest e.1 f.1 notes f.4;
       waits = done_more S start mid new k e.0 f.0 waits c.loop-k.invariant.rest e.1 f.1 f.3 f.4;
-      kept = λ q j holds. c.note_entry.ensures.rest.kept q j (c.loop-k.invariant.kept q j holds);
+      kept = λ wide q j holds. c.note_entry.ensures.rest.kept wide q j (c.loop-k.invariant.kept wide q j holds);
       rest = rest_more R start mid new k e.0 f.0 c.loop-k.invariant.done c.loop-k.invariant.rest e.1 f.1 notes f.4;
       len = c.note_entry.ensures.rest.len ∙ c.loop-k.invariant.len;
       room = c.note_entry.ensures.rest.room ∙ c.loop-k.invariant.room;

@@ -1,4 +1,4 @@
-use Rattle.std.proofs.Common.{◌≡◌, ℕ, ◌<◌, ◌≤◌, length, slice_get, vec_capacity}
+use Rattle.std.proofs.Common.{◌≡◌, ℕ, Bool, ◌<◌, ◌≤◌, length, slice_get, vec_capacity}
 use Rattle.bbm_place_map.specs.Each.{Advances}
 use Rattle.bbm_place_map.specs.PlaceNotes.{NotesAt}
 use Rattle.bbm_place_map.specs.Works.{HoldsFor, Waits}
@@ -9,7 +9,7 @@ invariant-loop-k l = record {
   done : (m : ℕ) → m < l.k
       → Advances (NotesAt l.covers l.tlbi m) (slice_get l.initial.broken.items m) (slice_get l.broken.items m);
   waits : (m : ℕ) → m < l.k → Advances (Waits l.lists.items l.tlbi.issuer) (slice_get l.initial.broken.items m) (slice_get l.broken.items m);
-  kept : (q j : ℕ) → HoldsFor l.initial.lists.items q j → HoldsFor l.lists.items q j;
+  kept : (wide : Bool) (q j : ℕ) → HoldsFor l.initial.lists.items q wide j → HoldsFor l.lists.items q wide j;
   rest : (m : ℕ) → l.k ≤ m → slice_get l.broken.items m ≡ slice_get l.initial.broken.items m;
   len : length l.broken.items ≡ length l.initial.broken.items;
   room : vec_capacity l.broken ≡ vec_capacity l.initial.broken;

@@ -1,5 +1,5 @@
 use Rattle.std.proofs.lemmas.Bool.{false≢true, cond-true, eq-eqb}
-use Rattle.std.proofs.Common.{◌≡◌, nat_eq, Some, ap, sym, subst, ◌∙◌, inl, inr, refl, slice_get, arith, ℕ}
+use Rattle.std.proofs.Common.{◌≡◌, Bool, nat_eq, Some, ap, sym, subst, ◌∙◌, inl, inr, refl, slice_get, arith, ℕ}
 use Rattle.bbm_place_map.specs.Works.{HoldsFor}
 use Rattle.bbm_place_map.specs.declared.entry.Entry.{Entry}
 use Rattle.bbm_place_map.proofs.Noting.{not_noted, gets_same}
@@ -9,14 +9,14 @@ use Rattle.bbm_place_map.proofs.issue.note_entry.Goals as goal
 pub returns-then-note_at-clause-entry : goal.returns-then-note_at-clause-entry
 returns-then-note_at-clause-entry c = λ e is.
     let f = c.note_at.ensures.entry e is in
-    let P : ℕ → Type 0 = λ x. HoldsFor c.add_for.new.lists.items c.args.tlbi.now.issuer x in
+    let P : ℕ → Type 0 = λ x. (wide : Bool) → HoldsFor c.add_for.new.lists.items c.args.tlbi.now.issuer wide x in
     let now : c.index.result.now ≡ f.0
     = entry_same c.note_at.new.broken.items c.args.k c.index.result.now f.0 (omega (arith, c.note_at.ensures.size.len)) c.index.ensures
     (f.6 c.args.k ∙ cond-true (nat_eq c.args.k c.args.k) (Some f.0) (slice_get c.args.broken.now.items c.args.k) (eq-eqb c.args.k c.args.k refl)) in (
       f.0,
       f.1,
       (f.2, f.3, f.4, λ none. absurd (false≢true (sym none ∙ sym c.is_cover.ensures ∙ c.if-is_cover.true))),
-      inl (subst P (ap (λ (x : Entry). x.cell) now ∙ ap (λ (s : ℕ × ℕ). s.1) f.1) c.add_for.ensures.there),
+      λ wide. inl ((subst P (ap (λ (x : Entry). x.cell) now ∙ ap (λ (s : ℕ × ℕ). s.1) f.1) c.add_for.ensures.there) wide),
       f.6,
     )
 
@@ -26,7 +26,7 @@ returns-else-note_at-clause-entry c = λ e is.
       f.0,
       f.1,
       (f.2, f.3, f.4, λ none. absurd (false≢true (sym none ∙ sym c.is_cover.ensures ∙ c.if-is_cover.true))),
-      inr (f.5 c.if-note_at.false),
+      λ wide. inr (f.5 c.if-note_at.false wide),
       f.6,
     )
 
@@ -35,6 +35,6 @@ returns-else-is_cover-clause-entry c = λ e is. (
   e,
   refl,
   not_noted c.args.cover c.args.tlbi.now e (sym c.is_cover.ensures ∙ c.if-is_cover.false),
-  inr (λ idle. idle),
+  λ wide. inr (λ quiet. quiet),
   gets_same c.args.broken.now.items c.args.k e is,
 )

@@ -30,7 +30,7 @@ returns-in-Some-clause-each c =
           (sym (slot_of_place (get nat_eq c.args.kept.now.pages.now) c.args.kept.now.cells.now c.args.broken.now.items c.requires.sound.linked c.requires.sound.placed c.args.item.place m x is at)
           ∙ sym c.entry_at.ensures ∙ c.in-Some.is))),
       λ apart. refl,
-      inr (λ idle. idle),
+      λ wide. inr (λ quiet. quiet),
     ))
 
 pub returns-in_default-clause-each : goal.returns-in_default-clause-each
@@ -41,5 +41,5 @@ returns-in_default-clause-each c = λ m.
           (sym (sym c.entry_at.ensures ∙ c.in_default.is)
           ∙ slot_of_place (get nat_eq c.args.kept.now.pages.now) c.args.kept.now.cells.now c.args.broken.now.items c.requires.sound.linked c.requires.sound.placed c.args.item.place m x is at)),
       λ apart. refl,
-      inr (λ idle. idle),
+      λ wide. inr (λ quiet. quiet),
     ))

@@ -36,7 +36,7 @@ note_next-requires-clause-ready c = λ m e is among none.
 pub loop-i-preserved : goal.loop-i-preserved
 loop-i-preserved c = record {
   each = c.note_next.ensures.each c.args.broken.now.items c.loop-i.invariant.each;
-  kept = λ q j holds. c.note_next.ensures.rest.kept q j (c.loop-i.invariant.kept q j holds);
+  kept = λ wide q j holds. c.note_next.ensures.rest.kept wide q j (c.loop-i.invariant.kept wide q j holds);
   len = c.note_next.ensures.rest.len ∙ c.loop-i.invariant.len;
   room = c.note_next.ensures.rest.room ∙ c.loop-i.invariant.room;
 }

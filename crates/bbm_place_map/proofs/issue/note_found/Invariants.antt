@@ -1,4 +1,4 @@
-use Rattle.std.proofs.Common.{◌≡◌, ℕ, length, slice_get, take, vec_capacity}
+use Rattle.std.proofs.Common.{◌≡◌, ℕ, Bool, length, slice_get, take, vec_capacity}
 use Rattle.bbm_place_map.specs.Each.{Advances}
 use Rattle.bbm_place_map.specs.PlaceNotes.{NotesFound}
 use Rattle.bbm_place_map.specs.Works.{HoldsFor}
@@ -8,7 +8,7 @@ abbrev pub invariant-loop-i : goal.invariant-loop-i
 invariant-loop-i l = record {
   each : (m : ℕ) → Advances (NotesFound (take l.i l.found) l.tlbi l.lists.items)
       (slice_get l.initial.broken.items m) (slice_get l.broken.items m);
-  kept : (q j : ℕ) → HoldsFor l.initial.lists.items q j → HoldsFor l.lists.items q j;
+  kept : (wide : Bool) (q j : ℕ) → HoldsFor l.initial.lists.items q wide j → HoldsFor l.lists.items q wide j;
   len : length l.broken.items ≡ length l.initial.broken.items;
   room : vec_capacity l.broken ≡ vec_capacity l.initial.broken;
 }

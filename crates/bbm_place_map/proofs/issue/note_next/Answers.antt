@@ -38,5 +38,5 @@ returns-else-not-is_among-clause-each c = λ start before m.
     Advances (NotesFound ys c.args.tlbi.now lists) (slice_get start m) (slice_get c.args.broken.now.items m) in
     subst P (sym (take_more c.args.found.now c.args.i x c.requires.within c.index-found-i.is))
     (advance_by (NotesFound xs c.args.tlbi.now lists) (NotesFound (xs ++ x ∷ []) c.args.tlbi.now lists)
-    (skip_step xs x c.args.tlbi.now lists lists (λ q j holds. holds) (sym c.is_among.ensures ∙ c.if-not-is_among.false))
+    (skip_step xs x c.args.tlbi.now lists lists (λ wide q j holds. holds) (sym c.is_among.ensures ∙ c.if-not-is_among.false))
     (slice_get start m) (slice_get c.args.broken.now.items m) (before m))

@@ -7,22 +7,22 @@ use Rattle.bbm_place_map.proofs.Leaving.{entry_same}
 use Rattle.bbm_place_map.proofs.publish.relist.Goals as goal
 
 pub loop-k-preserved : goal.loop-k-preserved
-loop-k-preserved c = λ m e below is.
+loop-k-preserved c = λ wide m e below is.
     elim (cases_eq m c.loop-k.k) [
       | inl same ↦
           let entry : c.index-broken-k.result ≡ e
           = entry_same c.args.broken.now c.loop-k.k c.index-broken-k.result e (omega arith) c.index-broken-k.is
           (ap (slice_get c.args.broken.now) (sym same) ∙ is) in
-          let P : Entry → Type 0 = λ x. Holds c.list_untold.new.list x.cell ⊎ IsTold c.args.barrier.now.n c.args.barrier.now.issuer x.marks in
-          subst P entry c.list_untold.ensures.there
+          let P : Entry → Type 0 = λ x. Holds c.list_untold.new.list wide x.cell ⊎ IsTold wide c.args.barrier.now.n c.args.barrier.now.issuer x.marks in
+          subst P entry (c.list_untold.ensures.there wide)
       | inr other ↦
-          elim (c.loop-k.invariant m e (omega arith) is) [
-            | inl holds ↦ inl (c.list_untold.ensures.kept e.cell holds)
+          elim (c.loop-k.invariant wide m e (omega arith) is) [
+            | inl holds ↦ inl (c.list_untold.ensures.kept wide e.cell holds)
             | inr told ↦ inr told
           ]
     ]
 
 pub returns : goal.returns
-returns c = λ k e is.
+returns c = λ wide k e is.
     let within : k < length c.args.broken.now = slice_get_within c.args.broken.now k e is in
-    c.loop-k.invariant k e (omega arith) is
+    c.loop-k.invariant wide k e (omega arith) is

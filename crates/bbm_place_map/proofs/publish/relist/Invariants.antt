@@ -1,7 +1,9 @@
-use Rattle.std.proofs.Common.{◌≡◌, ℕ, ◌<◌, ◌⊎◌, Some, slice_get}
+use Rattle.std.proofs.Common.{◌≡◌, ℕ, Bool, ◌<◌, ◌⊎◌, Some, slice_get}
 use Rattle.bbm_place_map.specs.Works.{Holds, IsTold}
 use Rattle.bbm_place_map.specs.declared.entry.Entry.{Entry}
 use Rattle.bbm_place_map.proofs.publish.relist.Given as goal
 
 abbrev pub invariant-loop-k : goal.invariant-loop-k
-invariant-loop-k l = (m : ℕ) (e : Entry) → m < l.k → slice_get l.broken m ≡ Some e → Holds l.list e.cell ⊎ IsTold l.barrier.n l.barrier.issuer e.marks
+invariant-loop-k l =
+    (wide : Bool) (m : ℕ) (e : Entry) → m < l.k → slice_get l.broken m ≡ Some e
+    → Holds l.list wide e.cell ⊎ IsTold wide l.barrier.n l.barrier.issuer e.marks

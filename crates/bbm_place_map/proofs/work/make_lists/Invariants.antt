@@ -1,6 +1,6 @@
-use Rattle.std.proofs.Common.{ℕ}
+use Rattle.std.proofs.Common.{ℕ, Bool}
 use Rattle.bbm_place_map.specs.Works.{HoldsFor}
 use Rattle.bbm_place_map.proofs.work.make_lists.Given as goal
 
 abbrev pub invariant-loop-pe : goal.invariant-loop-pe
-invariant-loop-pe l = (q j : ℕ) → HoldsFor l.initial.lists.items q j → HoldsFor l.lists.items q j
+invariant-loop-pe l = (wide : Bool) (q j : ℕ) → HoldsFor l.initial.lists.items q wide j → HoldsFor l.lists.items q wide j

@@ -11,9 +11,9 @@ either P R b one other =
     ]
 
 pub returns-then-is_clean-clause-told : goal.returns-then-is_clean-clause-told
-returns-then-is_clean-clause-told c = λ q below.
-    either _ _ (pe_in c.fresh_writers-fresh.result q) (c.add_fresh.ensures.there q below) (c.fresh_writers-fresh.ensures q)
+returns-then-is_clean-clause-told c = λ wide q below.
+    either _ _ (pe_in c.fresh_writers-fresh.result q) (c.add_fresh.ensures.there wide q below) (c.fresh_writers-fresh.ensures q)
 
 pub returns-else-is_clean-clause-told : goal.returns-else-is_clean-clause-told
-returns-else-is_clean-clause-told c = λ q below.
-    either _ _ (pe_in c.fresh_writers-fresh.result q) (c.add_fresh.ensures.there q below) (c.fresh_writers-fresh.ensures q)
+returns-else-is_clean-clause-told c = λ wide q below.
+    either _ _ (pe_in c.fresh_writers-fresh.result q) (c.add_fresh.ensures.there wide q below) (c.fresh_writers-fresh.ensures q)

@@ -9,13 +9,13 @@ use Rattle.bbm_place_map.specs.Works.{is_clean}
 use Rattle.bbm_place_map.specs.Sound.{Numbered, index_of}
 use Rattle.bbm_place_map.proofs.Answering.{completes_whole}
 use Rattle.bbm_place_map.proofs.Completed.{completed_at, others_at, kept_at, lost_at}
-use Rattle.bbm_place_map.proofs.Listing.{listed_begun, listed_completed, idle_of}
+use Rattle.bbm_place_map.proofs.Listing.{listed_begun, listed_completed, quiet_of}
 use Rattle.bbm_place_map.proofs.Made.{barrier}
 use Rattle.bbm_place_map.proofs.map.PlaceMap.complete.Goals as goal
 
 pub complete-lost-requires-clause-known : goal.complete-lost-requires-clause-known
-complete-lost-requires-clause-known c = idle_of c.begin.new.work c.args.self.now.cells.items c.args.self.now.broken.items (listed_begun c.args.self.now.work c.begin.new.work c.args.n c.len.result c.args.self.now.cells.items c.args.self.now.broken.items c.requires.some c.requires.within
-    c.begin.ensures.pes (omega (arith, c.len.ensures)) c.begin.ensures.kept c.args.self.now.listed) c.args.issuer
+complete-lost-requires-clause-known c = λ wide. quiet_of c.begin.new.work c.args.self.now.cells.items c.args.self.now.broken.items (listed_begun c.args.self.now.work c.begin.new.work c.args.n c.len.result c.args.self.now.cells.items c.args.self.now.broken.items c.requires.some c.requires.within
+    c.begin.ensures.pes (omega (arith, c.len.ensures)) c.begin.ensures.kept c.args.self.now.listed) wide c.args.issuer
 
 pub complete-lost-requires-clause-settled : goal.complete-lost-requires-clause-settled
 complete-lost-requires-clause-settled c =

@@ -18,12 +18,12 @@ use Rattle.bbm_place_map.proofs.Made.{barrier}
 use Rattle.bbm_place_map.proofs.map.PlaceMap.publish.Goals as goal
 
 pub publish-requires-clause-known : goal.publish-requires-clause-known
-publish-requires-clause-known c =
-    told_entry c.args.self.now.cells.items c.args.self.now.broken.items c.args.self.now.linked (HoldsFor c.begin.new.work.unpublished.items c.args.issuer) c.args.n c.args.issuer
+publish-requires-clause-known c = λ wide.
+    told_entry c.args.self.now.cells.items c.args.self.now.broken.items c.args.self.now.linked (HoldsFor c.begin.new.work.unpublished.items c.args.issuer wide) wide c.args.n c.args.issuer
     (let P : ℕ → Type 0 = λ x. (j : ℕ) (marks : Marks) → c.args.issuer < x → marks_in c.args.self.now.cells.items c.args.self.now.broken.items j ≡ Some marks
-    → HoldsFor c.begin.new.work.unpublished.items c.args.issuer j ⊎ IsTold x c.args.issuer marks in
+    → HoldsFor c.begin.new.work.unpublished.items c.args.issuer wide j ⊎ IsTold wide x c.args.issuer marks in
     λ j marks is. subst P c.begin.ensures.pes (told_of c.begin.new.work c.args.self.now.cells.items c.args.self.now.broken.items (listed_begun c.args.self.now.work c.begin.new.work c.args.n c.len.result c.args.self.now.cells.items c.args.self.now.broken.items c.requires.some c.requires.within
-    c.begin.ensures.pes (omega (arith, c.len.ensures)) c.begin.ensures.kept c.args.self.now.listed) c.args.issuer)
+    c.begin.ensures.pes (omega (arith, c.len.ensures)) c.begin.ensures.kept c.args.self.now.listed) wide c.args.issuer)
     j marks c.requires.issuer_below is)
 
 seats : (by : Barrier) (old new : List Entry) → ((k : ℕ) → Advances (Publishes by) (slice_get old k) (slice_get new k))

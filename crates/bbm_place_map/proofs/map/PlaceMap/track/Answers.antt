@@ -17,7 +17,7 @@ invariant_of-self c = record {
   few = omega (arith, c.clear_page.ensures.sound.len);
   listed =
       listed_fewer c.args.self.now.work c.args.self.now.work c.args.self.now.cells.items c.zero_page.new.cells.items
-      c.args.self.now.broken.items c.clear_page.new.broken.items refl refl (λ q j holds. holds) (λ q j holds. holds)
+      c.args.self.now.broken.items c.clear_page.new.broken.items refl refl (λ wide q j holds. holds) (λ wide q j holds. holds)
       (λ j. gone_or_same (in_page c.in-Some.base 512 j) (entry_in c.args.self.now.cells.items c.args.self.now.broken.items j)
       (entry_in c.zero_page.new.cells.items c.clear_page.new.broken.items j)
       (by_slots c.clear_page.new.cells.items c.zero_page.new.cells.items c.clear_page.new.broken.items c.zero_page.ensures.kept.slots j ∙ c.clear_page.ensures.entries j))
