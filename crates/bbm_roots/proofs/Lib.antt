@@ -13,6 +13,8 @@ pub mod Conflicts
 pub mod Entries
 pub mod Rooted
 pub mod Judged
+pub mod Taken
+pub mod Settled
 pub mod Numbers
 pub mod Users
 pub mod Callers

@@ -1,6 +1,8 @@
 -- What a register write leaves readable.
 use Rattle.std.proofs.Common.{◌≡◌, ℕ, Bool, true, false, ◌&&◌, not, nat_eq, List, ◌∷◌, refl, sym, ◌∙◌, ap, cond}
+use Rattle.std.proofs.Common.{Option}
 use Rattle.std.proofs.lemmas.Bool.{false≢true, eqb-true}
+use Rattle.bbm_regimes.specs.Registers.{tag_number}
 use Rattle.bbm_regimes.specs.declared.regime.Reg.{Reg}
 use Rattle.bbm_regimes.specs.declared.regime.Reg.TheVariants.{Ttbr0El2, VttbrEl2, Ttbr0El1, Ttbr1El1}
 use Rattle.bbm_regimes.specs.declared.regime.World.{World}
@@ -8,9 +10,17 @@ use Rattle.bbm_regimes.specs.declared.regime.World.TheVariants.{Hyp, Kernel}
 use Rattle.bbm_roots.specs.RootCalls.{Call, WriteReg}
 use Rattle.bbm_roots.specs.Readings.{readings_of}
 use Rattle.bbm_roots.specs.RootRegisters.{register_values, first_reg, second_reg, is_first, is_of_world, same_reg}
-use Rattle.bbm_roots.specs.RootRegisters.{load_of}
+use Rattle.bbm_roots.specs.RootRegisters.{load_of, root_of}
 use Rattle.bbm_roots.specs.RootTags.{readings}
 use Rattle.bbm_roots.specs.declared.load.Load.{Load}
+
+-- what a value names, by its parts
+pub load-is : (number : ℕ) (root : Option ℕ) (reg : Reg) (value : ℕ) (null : Bool) → number ≡ tag_number value →
+    root ≡ root_of reg value null →
+    let load : Load = record { number = number; root = root } in load ≡ load_of reg value null
+load-is number root reg value null same_number same_root =
+    ap (λ (n : ℕ). let l : Load = record { number = n; root = root } in l) same_number
+    ∙ ap (λ (o : Option ℕ). let l : Load = record { number = tag_number value; root = o } in l) same_root
 
 -- a register of the world is its first or its second
 pub is_the_first : (world : World) (reg : Reg) → is_of_world world reg ≡ true → same_reg reg (first_reg world) ≡ is_first reg

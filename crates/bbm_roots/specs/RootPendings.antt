@@ -7,9 +7,12 @@ use Rattle.bbm_barriers.specs.Options.{answers}
 use Rattle.bbm_barriers.specs.declared.Dsb.{Dsb}
 use Rattle.bbm_regimes.specs.PeMask.{pe_in}
 use Rattle.bbm_regimes.specs.declared.regime.Tag.{Tag}
+use Rattle.bbm_tlbi_scope.specs.ScopeTags.{takes_whole_tag}
+use Rattle.bbm_tlbi_scope.specs.declared.scope.Scope.{Scope}
 use Rattle.bbm_roots.specs.Columns.{loads_in}
 use Rattle.bbm_roots.specs.Holds.{tag_key}
 use Rattle.bbm_roots.specs.Readings.{same_tag, reads_tag}
+use Rattle.bbm_roots.specs.declared.hold.Held.{Held}
 use Rattle.bbm_roots.specs.declared.pending.Pendings.{Pendings}
 use Rattle.bbm_roots.specs.declared.pending.Waiting.{Waiting}
 use Rattle.bbm_roots.specs.declared.registers.Registers.{Registers}
@@ -55,6 +58,10 @@ pending_in ps q broadcast tag p =
 abbrev pub answered_in : Pendings → ℕ → Dsb → Tag → ℕ → Bool
 answered_in ps q dsb tag p =
     (answers dsb true && pending_in ps q true tag p) || (answers dsb false && pending_in ps q false tag p)
+
+-- whether a TLBI of this scope, under this VMID, takes the tag of an entry
+abbrev pub takes_entry : Scope → Option ℕ → Held → Bool
+takes_entry scope vmid held = takes_whole_tag scope vmid held.tag
 
 -- whether a TLBI of q, broadcast or not, reaches p while the tag is readable there for no root
 abbrev pub unread_at : Registers → ℕ → Bool → Tag → ℕ → Bool

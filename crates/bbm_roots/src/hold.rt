@@ -48,6 +48,25 @@ fn is_hold(held: &Held, tag: Tag, root: Page) -> bool
     same_tag(held.tag, tag) && held.root == root
 }
 
+/// Whether the PE holds the tag for the root, as the entry of the tag says.
+fn is_held_at(holds: &Holds, reading: &Reading, pe: Pe) -> bool
+    ensures { result ≡ spec.is_held_at holds.now pe reading.now }
+{
+    match holds.get(&tag_key(reading.tag)) {
+        Some(held) => is_hold(held, reading.tag, reading.root) && held.pes.has(pe),
+        None => false,
+    }
+}
+
+/// Whether the PE holds each of the tags for its root.
+pub fn are_held(holds: &Holds, readings: &[Reading], pe: Pe) -> bool
+    ensures { result ≡ spec.are_held holds.now pe readings.now }
+{
+    readings
+        .iter()
+        .all(|reading| is_held_at(holds, reading, pe))
+}
+
 /// The key of a tag, which is no other tag's, 0 to 131073.
 pub fn tag_key(tag: Tag) -> u32
     ensures { result ≡ spec.tag_key tag }
@@ -144,65 +163,38 @@ pub fn mark(holds: &mut Holds, readings: &[Reading], pe: Pe)
     }
 }
 
+/// Takes the PEs out of the entry under the key. Whether none is left in it.
+fn narrow(holds: &mut Holds, key: u32, pes: PeMask) -> bool
+    ensures others { (q : ℕ) → nat_eq key q ≡ false → get nat_eq holds.new q ≡ get nat_eq holds.old q }
+    ensures here { (g : TheTag) (r p : ℕ) → spec.entry_bit g r p (get nat_eq holds.new key)
+        ≡ (spec.entry_bit g r p (get nat_eq holds.old key) && not (pe_in pes p)) }
+    ensures none { result ≡ true → (g : TheTag) (r p : ℕ) → spec.entry_bit g r p (get nat_eq holds.new key) ≡ false }
+{
+    match holds.get_mut(&key) {
+        Some(held) => {
+            held.pes = held.pes.minus(pes);
+            held.pes.is_empty()
+        }
+        None => false,
+    }
+}
+
+/// Forgets the entry under the key, in which there is no PE.
+fn forget(holds: &mut Holds, key: u32)
+    requires { (g : TheTag) (r p : ℕ) → spec.entry_bit g r p (get nat_eq holds.old key) ≡ false }
+    ensures { (g : TheTag) (r p : ℕ) → spec.hold_in holds.new g r p ≡ spec.hold_in holds.old g r p }
+{
+    holds.swap_remove(&key);
+}
+
 /// Takes the PEs out of the entry of the tag, and forgets it where none is left.
 fn take_from(holds: &mut Holds, tag: Tag, pes: PeMask)
     ensures { (g : TheTag) (r p : ℕ) → spec.hold_in holds.new g r p
         ≡ (spec.hold_in holds.old g r p && not (spec_same_tag tag g && pe_in pes p)) }
 {
     let key = tag_key(tag);
-    let left = left_of(holds, key, pes);
-    put_back(holds, key, left);
-}
-
-/// Puts an entry into the place of the key's, or forgets the key's where there is none.
-fn put_back(holds: &mut Holds, key: u32, entry: Option<Held>)
-    requires { is_some entry ≡ true → is_some (get nat_eq holds.old key) ≡ true }
-    ensures { (q : ℕ) → get nat_eq holds.new q ≡ (if nat_eq key q then entry else get nat_eq holds.old q) }
-{
-    match entry {
-        Some(held) => overwrite(holds, key, held),
-        None => {
-            holds.swap_remove(&key);
-        }
-    }
-}
-
-/// Puts an entry into the place of the key's.
-fn overwrite(holds: &mut Holds, key: u32, entry: Held)
-    requires { is_some (get nat_eq holds.old key) ≡ true }
-    ensures { (q : ℕ) → get nat_eq holds.new q ≡ (if nat_eq key q then Some entry else get nat_eq holds.old q) }
-{
-    match holds.get_mut(&key) {
-        Some(held) => *held = entry,
-        None => {}
-    }
-}
-
-/// The entry without the PEs, where one is left.
-fn left_of(holds: &Holds, key: u32, pes: PeMask) -> Option<Held>
-    ensures bits { (g : TheTag) (r p : ℕ) → spec.entry_bit g r p result
-        ≡ (spec.entry_bit g r p (get nat_eq holds.now key) && not (pe_in pes p)) }
-    ensures known { is_some result ≡ true → is_some (get nat_eq holds.now key) ≡ true }
-{
-    match holds.get(&key) {
-        Some(held) => without(*held, pes),
-        None => None,
-    }
-}
-
-/// The entry without the PEs; None where no PE is left in it.
-fn without(held: Held, pes: PeMask) -> Option<Held>
-    ensures { (g : TheTag) (r p : ℕ) → spec.entry_bit g r p result ≡ (spec.holds_bit g r p held && not (pe_in pes p)) }
-{
-    let left = held.pes.minus(pes);
-    if left.is_empty() {
-        None
-    } else {
-        Some(Held {
-            tag: held.tag,
-            root: held.root,
-            pes: left,
-        })
+    if narrow(holds, key, pes) {
+        forget(holds, key);
     }
 }
 

@@ -1,8 +1,9 @@
 //! What the issue of a whole-tag TLBI leaves to its answer.
 
-ghost use Rattle.std.specs.Prelude.{◌≡◌, ℕ, ◌<◌, Bool, ◌&&◌, ◌||◌, not, nat_eq, true, false, Option, Some, OnOk, IfSome};
-ghost use Rattle.std.specs.Prelude.{is_some, length};
-ghost use Rattle.indexmap.specs.IndexMap.{get};
+ghost use Rattle.std.specs.Prelude.{◌≡◌, ℕ, ◌<◌, Bool, ◌&&◌, ◌||◌, not, nat_eq, true, false, Option, Some, OnOk};
+ghost use Rattle.std.specs.Prelude.{IfSome, is_some, length};
+ghost use Rattle.std.specs.List.{list_any};
+ghost use Rattle.indexmap.specs.IndexMap.{get, values};
 ghost use Rattle.bbm_regimes.specs.PeMask.{pe_in};
 ghost use Rattle.bbm_regimes.specs.declared.regime.Tag.{Tag as TheTag};
 ghost use Rattle.bbm_tlbi_scope.specs.Operations.{has_page};
@@ -72,15 +73,23 @@ fn make_entry(waits: &mut Waits, tag: Tag) -> Result<(), NoMemory>
     }
 }
 
-/// Makes an entry of the tag, where it is held.
-fn make_one(waits: &mut Waits, holds: &Holds, tag: Tag) -> Result<(), NoMemory>
-    ensures same { (g : TheTag) (p : ℕ) → spec.wait_in waits.new g p ≡ spec.wait_in waits.old g p }
-    ensures made { OnOk result ((r p : ℕ) → hold_in holds.now tag r p ≡ true → spec.has_wait waits.new tag ≡ true) }
+/// Whether the TLBI takes a tag that is held.
+fn takes_some(holds: &Holds, scope: &Scope, vmid: Option<u16>) -> bool
+    ensures { result ≡ list_any (spec.takes_entry scope.now vmid) (values holds.now) }
 {
-    if holds.contains_key(&tag_key(tag)) {
-        make_entry(waits, tag)
-    } else {
-        Ok(())
+    entries(holds)
+        .iter()
+        .any(|held| takes(scope, vmid, held.tag))
+}
+
+/// Whether the TLBI may take a tag that is held. One that takes one tag alone looks that tag up alone.
+fn takes_held(holds: &Holds, scope: &Scope, vmid: Option<u16>) -> bool
+    ensures { result ≡ false → (g : TheTag) (r p : ℕ) → hold_in holds.now g r p ≡ true
+        → takes_whole_tag scope.now vmid g ≡ false }
+{
+    match one_tag(scope, vmid) {
+        Some(tag) => holds.contains_key(&tag_key(tag)),
+        None => takes_some(holds, scope, vmid),
     }
 }
 
@@ -126,7 +135,7 @@ fn make_entries(
         → takes_whole_tag scope.now vmid g ≡ true → spec.has_wait waits.new g ≡ true) }
 {
     match one_tag(scope, vmid) {
-        Some(tag) => make_one(waits, holds, tag),
+        Some(tag) => make_entry(waits, tag),
         None => make_each(waits, holds, scope, vmid),
     }
 }
@@ -150,7 +159,7 @@ fn make_place(
 }
 
 /// Makes an entry of the issuer for each tag that is held and that its TLBI takes. `NoMemory` where there is none.
-/// No DSB takes more or less away.
+/// No DSB takes more or less away. Where the TLBI takes no tag that is held, nothing is made.
 pub fn make_room(
     alloc: Global,
     pendings: &mut Pendings,
@@ -165,6 +174,9 @@ pub fn make_room(
         → takes_whole_tag scope.now vmid g ≡ true
         → spec.has_pending pendings.new issuer scope.now.broadcast g ≡ true) }
 {
+    if !takes_held(holds, scope, vmid) {
+        return Ok(());
+    }
     open(pendings, alloc, issuer)?;
     let place = slot(issuer, scope.broadcast);
     make_place(&mut pendings.waits, place, holds, scope, vmid)
@@ -289,7 +301,7 @@ fn note_place(
 }
 
 /// Notes a TLBI of the issuer in the entries of the tags that are held and that it takes: the PEs that it reaches and
-/// at which the tag is readable for no root. It takes no memory.
+/// at which the tag is readable for no root. It takes no memory. An issuer of whom nothing waits has no entries.
 pub fn note(
     pendings: &mut Pendings,
     holds: &Holds,
@@ -304,5 +316,7 @@ pub fn note(
         && ((nat_eq q issuer && spec.same_flag scope.now.broadcast b && takes_whole_tag scope.now vmid g)
         && spec.unread_at registers.now issuer scope.now.broadcast g p))) }
 {
-    note_place(&mut pendings.waits, holds, registers, issuer, scope, vmid);
+    if pendings.issuers.has(issuer) {
+        note_place(&mut pendings.waits, holds, registers, issuer, scope, vmid);
+    }
 }

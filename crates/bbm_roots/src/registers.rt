@@ -210,6 +210,29 @@ impl Registers {
         }
     }
 
+    /// The tags that this value of the register makes readable at the PE, and those that the values of the other
+    /// register do. `NoMemory` where there is none.
+    pub fn readings_by(
+        &self,
+        alloc: Global,
+        pe: Pe,
+        reg: Reg,
+        load: Load,
+    ) -> Result<Readings, NoMemory>
+        requires known { pe < self.now.pes }
+        ensures { IfOk result (λ readings. readings.items ≡ readings_of self.now.world
+            (if spec_is_first reg then load ∷ [] else loads_in self.now.first.items pe)
+            (if spec_is_first reg then loads_in self.now.second.items pe else load ∷ [])) }
+    {
+        if is_first(reg) {
+            let second = loads_at(&self.second, pe);
+            readings(alloc, self.world, &[load], &[], &[], second)
+        } else {
+            let first = loads_at(&self.first, pe);
+            readings(alloc, self.world, &[], first, &[load], &[])
+        }
+    }
+
     /// Whether a readable value of the PE names the root with this first page.
     fn uses(&self, pe: Pe, page: Page) -> bool
         requires { pe < self.now.pes }

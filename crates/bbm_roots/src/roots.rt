@@ -43,7 +43,7 @@ impl Roots {
     ghost use Rattle.bbm_roots.specs.Listed.{count_in, nth_in};
     ghost use Rattle.bbm_roots.specs.declared.root.Declared.{Declared as TheRoot};
     ghost use Rattle.bbm_tlbi_scope.specs.TagSets.{HasTags};
-    ghost use Rattle.bbm_roots.specs.Holds.{hold_in, has_entry, conflict_in, IsCalm};
+    ghost use Rattle.bbm_roots.specs.Holds.{are_held, hold_in, has_entry, conflict_in, IsCalm};
     ghost use Rattle.bbm_roots.specs.RootPendings.{pending_in, answered_in};
     ghost use Rattle.bbm_barriers.specs.Options.{answers as dsb_answers};
     ghost use Rattle.bbm_roots.specs.Readings.{has_reading, has_tag, readings_of};
@@ -431,7 +431,57 @@ impl Roots {
     {
         hold::mark(&mut self.holds, seen, pe);
         pending::clear(&mut self.pendings, seen, pe);
+        self.put(pe, reg, number, root);
+    }
+
+    /// Puts the value in front of those of the register. Nothing else changes.
+    fn put(&mut self, pe: Pe, reg: Reg, number: u16, root: Option<Page>)
+        requires known { pe < pes_of self.old }
+        requires room { length (if spec_is_first reg then loads_in self.old.registers.first.items pe
+            else loads_in self.old.registers.second.items pe) < 9 }
+        ensures first { (p : ℕ) → loads_in self.new.registers.first.items p
+            ≡ (if nat_eq p pe && spec_is_first reg
+            then record { number = number; root = root } ∷ loads_in self.old.registers.first.items p
+            else loads_in self.old.registers.first.items p) }
+        ensures second { (p : ℕ) → loads_in self.new.registers.second.items p
+            ≡ (if nat_eq p pe && not (spec_is_first reg)
+            then record { number = number; root = root } ∷ loads_in self.old.registers.second.items p
+            else loads_in self.old.registers.second.items p) }
+        ensures holds { self.new.holds ≡ self.old.holds }
+        ensures pendings { self.new.pendings ≡ self.old.pendings }
+        ensures declared { self.new.declared ≡ self.old.declared }
+        ensures names_locks { self.new.names_locks ≡ self.old.names_locks }
+        ensures pes { pes_of self.new ≡ pes_of self.old }
+        ensures world { world_of self.new ≡ world_of self.old }
+    {
         self.registers.put(pe, reg, Load { number, root });
+    }
+
+    /// Whether a write of a value of this VMID or ASID and root is known to change the register alone: the register
+    /// isn't full, no TLBI waits, and the PE holds each tag, for its root, that the value makes readable.
+    fn is_settled(&self, alloc: Global, pe: Pe, reg: Reg, number: u16, root: &Option<Page>) -> bool
+        requires { pe < pes_of self.now }
+        ensures room { result ≡ true → length (if spec_is_first reg then loads_in self.now.registers.first.items pe
+            else loads_in self.now.registers.second.items pe) < 9 }
+        ensures quiet { result ≡ true → (q : ℕ) (b : Bool) (g : TheTag) (p : ℕ)
+            → pending_in self.now.pendings q b g p ≡ false }
+        ensures held { result ≡ true → are_held self.now.holds pe (readings_of (world_of self.now)
+            (if spec_is_first reg then record { number = number; root = root.now } ∷ []
+            else loads_in self.now.registers.first.items pe)
+            (if spec_is_first reg then loads_in self.now.registers.second.items pe
+            else record { number = number; root = root.now } ∷ [])) ≡ true }
+    {
+        if !self.pendings.issuers.is_empty() || self.registers.is_full(pe, reg) {
+            return false;
+        }
+        let load = Load {
+            number,
+            root: *root,
+        };
+        match self.registers.readings_by(alloc, pe, reg, load) {
+            Ok(seen) => hold::are_held(&self.holds, &seen, pe),
+            Err(_) => false,
+        }
     }
 
     /// The PE writes the register, which is one of the world. `null` tells whether the base of the value is a null
@@ -464,6 +514,10 @@ impl Roots {
     {
         let root = self.named_root(reg, value, null)?;
         let number = tag_number(value);
+        if self.is_settled(alloc, pe, reg, number, &root) {
+            self.put(pe, reg, number, root);
+            return Ok(());
+        }
         let seen = self.readings_after(alloc, pe, reg, number, &root)?;
         self.judge(pe, reg, &seen)?;
         self.make_room(&seen)?;

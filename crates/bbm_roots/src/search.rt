@@ -1,6 +1,6 @@
 //! Searches among the entries of the roots that hold tags.
 
-ghost use Rattle.std.specs.Prelude.{◌≡◌, ℕ, ◌≤◌, Bool, ◌&&◌, ◌||◌, nat_eq, true, false, Option, Some, None};
+ghost use Rattle.std.specs.Prelude.{◌≡◌, ℕ, ◌≤◌, Bool, ◌&&◌, ◌||◌, nat_eq, true, false, Option, Some, None, IfSome};
 ghost use Rattle.bbm_regimes.specs.declared.regime.Tag.{Tag as TheTag};
 ghost use Rattle.bbm_tlbi_scope.specs.TagSets.{HasTags};
 ghost use Rattle.bbm_roots.specs.declared.reading.Reading.{Reading as TheReading};
@@ -173,17 +173,19 @@ pub fn first_tag(holds: &Holds, n: u8, root: Page) -> Option<Tag>
     first
 }
 
-/// The set, with the tag of the entry under this key where the root holds it at one of the first n PEs.
-fn with_entry(set: TagSet, key: u32, held: &Held, n: u8, root: Page) -> TagSet
+/// The set with the tag of the entry under this key, where the root holds it at one of the first n PEs; None where it
+/// doesn't.
+fn with_entry(set: TagSet, key: u32, held: &Held, n: u8, root: Page) -> Option<TagSet>
     requires some { 1 ≤ n }
     requires within { n ≤ 128 }
-    ensures { (test : TheTag → Bool) → HasTags test set
-        → HasTags (λ g. test g || spec.is_held_under n g root key held.now) result }
+    ensures added { IfSome result (λ more. (test : TheTag → Bool) → HasTags test set
+        → HasTags (λ g. test g || spec.is_held_under n g root key held.now) more) }
+    ensures none { result ≡ None → (g : TheTag) → spec.is_held_under n g root key held.now ≡ false }
 {
     if is_held_under(key, held, n, root) {
-        with_tag(set, held.tag)
+        Some(with_tag(set, held.tag))
     } else {
-        set
+        None
     }
 }
 
@@ -202,11 +204,13 @@ pub fn tags_in(holds: &Holds, n: u8, root: Page) -> TagSet
 {
     let mut tags = TagSet::None;
     for index in 0..holds.len() {
-        if is_many(tags) {
-            return TagSet::Many;
-        }
         if let Some((key, held)) = holds.get_index(index) {
-            tags = with_entry(tags, *key, held, n, root);
+            if let Some(more) = with_entry(tags, *key, held, n, root) {
+                if is_many(more) {
+                    return TagSet::Many;
+                }
+                tags = more;
+            }
         }
     }
     tags

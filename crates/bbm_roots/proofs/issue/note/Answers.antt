@@ -1,4 +1,5 @@
-use Rattle.std.proofs.Common.{◌≡◌, ◌∙◌, ◌&&◌, ◌||◌, ap, Bool, true, false, nat_eq, is_some, refl}
+use Rattle.std.proofs.Common.{◌≡◌, ◌∙◌, ◌&&◌, ◌||◌, ap, sym, Bool, true, false, nat_eq, is_some, refl, ℕ}
+use Rattle.std.proofs.lemmas.Bool.{false≢true, eqb-true}
 use Rattle.bbm_regimes.specs.PeMask.{pe_in}
 use Rattle.bbm_tlbi_scope.specs.ScopeTags.{takes_whole_tag}
 use Rattle.bbm_roots.specs.Holds.{tag_key}
@@ -13,8 +14,15 @@ known true false false s t u = refl
 known true false true true t u = refl
 known true false true false t u = refl
 
-pub returns : goal.returns
-returns c = λ q b g r h p held.
+unnoted : (k w h q s t u : Bool) → (q ≡ true → k ≡ false) → (k && w) ≡ ((k && w) || ((k && h) && ((q && s && t) && u)))
+unnoted false w h q s t u f = refl
+unnoted true true h q s t u f = refl
+unnoted true false h true s t u f = absurd (false≢true (sym (f refl)))
+unnoted true false true false s t u f = refl
+unnoted true false false false s t u f = refl
+
+pub returns-then-has : goal.returns-then-has
+returns-then-has c = λ q b g r h p held.
     let ms = c.args.pendings.now.waits.items in
     let here = pe_in c.args.pendings.now.issuers q in
     let flag = c.args.scope.now.broadcast in
@@ -25,3 +33,14 @@ returns c = λ q b g r h p held.
     ∙ ap (λ (x : Bool). here && (wait_bit g p w
     || (is_some w && (x && (takes && unread))))) (slots q b c.args.issuer flag)
     ∙ known here (wait_bit g p w) (is_some w) (nat_eq q c.args.issuer && same_flag flag b) takes unread
+
+pub returns-else-has : goal.returns-else-has
+returns-else-has c = λ q b g r h p held.
+    let ps = c.args.pendings.now in
+    let flag = c.args.scope.now.broadcast in
+    let w = wait_at ps.waits.items (slot_of q b) (tag_key g) in
+    let takes = takes_whole_tag c.args.scope.now c.args.vmid g in
+    let unread = unread_at c.args.registers.now c.args.issuer flag g p in
+    let none : pe_in ps.issuers c.args.issuer ≡ false = sym c.has.ensures ∙ c.if-has.false in
+    unnoted (pe_in ps.issuers q) (wait_bit g p w) (is_some w) (nat_eq q c.args.issuer) (same_flag flag b) takes unread
+    (λ at. ap (λ (n : ℕ). pe_in ps.issuers n) (eqb-true q c.args.issuer at) ∙ none)

@@ -5,8 +5,8 @@ use Rattle.bbm_roots.proofs.Bits.{hold-tag, hold-self}
 use Rattle.bbm_roots.proofs.search.with_entry.Goals as goal
 use mathlib.Core.Bool.{and-true}
 
-pub returns-then-is_held_under : goal.returns-then-is_held_under
-returns-then-is_held_under c = λ test h.
+pub returns-then-is_held_under-clause-added : goal.returns-then-is_held_under-clause-added
+returns-then-is_held_under-clause-added c = λ test h.
     let held = c.args.held.now in
     let show = λ (g : Tag). is_held_under c.args.n g c.args.root c.args.key held in
     let is : (g : Tag) → show g ≡ is_hold g c.args.root held = λ g.
