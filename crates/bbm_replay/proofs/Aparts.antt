@@ -3,10 +3,9 @@ use Rattle.std.proofs.Common.{◌≡◌, ℕ, Bool, true, false, not, ◌&&◌, 
 use Rattle.std.proofs.Common.{◌∙◌, ap, subst, inl, inr, true≢false}
 use Rattle.std.proofs.lemmas.Bool.{and_parts, eqb-true, not-true}
 use Rattle.bbm_rules.specs.Tree.{Node}
-use Rattle.bbm_replay_trees.specs.Told.{kept}
+use Rattle.bbm_replay_trees.specs.Told.{View, kept}
 use Rattle.bbm_replay.proofs.Moves.{Begins, Grown, Leaves, Nullifies, SameNodes, SamePages}
 use Rattle.bbm_replay.specs.ReplayTold.{Apart}
-use Rattle.bbm_replay.specs.View.{View}
 
 pub apart_same : (old new : View) → Apart old → SameNodes old new → SamePages old new
     → ((p : ℕ) → new.tracked p ≡ old.tracked p) → Apart new

@@ -1,6 +1,5 @@
 -- What the cover of a place doesn't depend on.
-use Rattle.std.proofs.Common.{◌≡◌, ◌≤◌, ℕ, Bool, true, false, cond, ◌&&◌, not, is_none, Option, Some, None, refl, sym}
-use Rattle.std.proofs.Common.{◌∙◌, ap, true≢false}
+use Rattle.std.proofs.Common.{◌≡◌, ℕ, Bool, true, false, cond, ◌&&◌, not, is_none, Option, refl, ◌∙◌, ap, true≢false}
 use Rattle.bbm_regimes.specs.Extent.{Extent}
 use Rattle.bbm_regimes.specs.declared.regime.Kind.{Kind}
 use Rattle.bbm_regimes.specs.declared.regime.Kind.TheVariants.{El2, S2, Ttbr0, Ttbr1}
@@ -15,13 +14,7 @@ use Rattle.bbm_tlbi_scope.specs.declared.scope.Family.{Family}
 use Rattle.bbm_tlbi_scope.specs.declared.scope.Family.TheVariants.{El2All, El2Va, E1All, VmAll1, VmAll12, Ipa, Va}
 use Rattle.bbm_tlbi_scope.specs.declared.scope.Family.TheVariants.{VaAll, Asid}
 use Rattle.bbm_tlbi_scope.specs.declared.scope.Scope.{Scope}
-use Rattle.bbm_replay.specs.Covering.{asks_tags}
-use Rattle.bbm_replay.proofs.Extents.{holds_meets}
-
--- a scope that names all pages of a region names some
-all_some : (i : Option Extent) (r : Extent) → r.lo ≤ r.hi → names_some i r ≡ false → names_all i r ≡ false
-all_some None r some k = refl
-all_some (Some i) r some k = holds_meets i r some k
+use Rattle.bbm_replay.specs.Covering.{asks_childless, asks_tags}
 
 module _ (s : Scope) (vmid : Option ℕ) (kind : Kind) (region : Extent) (level : ℕ) (table global : Bool) where
   abbrev pub seen : Bool → TagSet → PlaceView
@@ -150,41 +143,31 @@ module _ (s : Scope) (vmid : Option ℕ) (kind : Kind) (region : Extent) (level 
       by false e = untagged kind f e fits c t t'
 
   -- whether a table is childless counts where it is asked
-  abbrev asked : Bool
-  asked = not s.last_only && is_none s.level && names_some s.interval region
-
-  same_table : (region.lo ≤ region.hi) → (c c' : Bool) (t : TagSet) → (asked ≡ true → c ≡ c')
+  same_table : (c c' : Bool) (t : TagSet) → ((not s.last_only && is_none s.level) ≡ true → c ≡ c')
       → fits_table s (seen c t) ≡ fits_table s (seen c' t)
-  same_table some c c' t same = by (not s.last_only && is_none s.level) (names_some s.interval region) (names_all s.interval region)
-      (all_some s.interval region some) same
+  same_table c c' t = by (not s.last_only && is_none s.level)
     where
-      by : (g one all : Bool) → (one ≡ false → all ≡ false) → ((g && one) ≡ true → c ≡ c')
-          → (g && cond c one all) ≡ (g && cond c' one all)
-      by false one all k e = refl
-      by true true all k e = ap (λ b. cond b true all) (e refl)
-      by true false all k e = neither c all (k refl) ∙ sym (neither c' all (k refl))
-        where
-          neither : (b all : Bool) → all ≡ false → cond b false all ≡ false
-          neither true all k = refl
-          neither false all k = k
+      by : (g : Bool) → (g ≡ true → c ≡ c') → (g && cond c (names_some s.interval region) (names_all s.interval region))
+          ≡ (g && cond c' (names_some s.interval region) (names_all s.interval region))
+      by false same = refl
+      by true same = ap (λ b. cond b (names_some s.interval region) (names_all s.interval region)) (same refl)
 
-  same_fits : (region.lo ≤ region.hi) → (f : Family) (c c' : Bool) (t : TagSet) (v : PlaceView)
-      → ((has_page f && (table && asked)) ≡ true → c ≡ c')
+  same_fits : (f : Family) (c c' : Bool) (t : TagSet) (v : PlaceView)
+      → ((table && has_page f && not s.last_only && is_none s.level) ≡ true → c ≡ c')
       → cover_by kind f (fits_place s (seen c t)) s vmid v ≡ cover_by kind f (fits_place s (seen c' t)) s vmid v
-  same_fits some f c c' t v same = by (has_page f) table refl same
+  same_fits f c c' t v same = by table (has_page f) refl same
     where
-      by : (p w : Bool) → has_page f ≡ p → ((p && (w && asked)) ≡ true → c ≡ c')
+      by : (w p : Bool) → has_page f ≡ p → ((w && p && not s.last_only && is_none s.level) ≡ true → c ≡ c')
           → cover_by kind f (cond w (fits_table s (seen c t)) (fits_leaf s (seen c t))) s vmid v
           ≡ cover_by kind f (cond w (fits_table s (seen c' t)) (fits_leaf s (seen c' t))) s vmid v
-      by false w e k = unpaged kind f e (cond w (fits_table s (seen c t)) (fits_leaf s (seen c t)))
+      by w false e k = unpaged kind f e (cond w (fits_table s (seen c t)) (fits_leaf s (seen c t)))
           (cond w (fits_table s (seen c' t)) (fits_leaf s (seen c' t))) v
-      by true false e k = refl
-      by true true e k = ap (λ x. cover_by kind f x s vmid v) (same_table some c c' t k)
+      by false true e k = refl
+      by true true e k = ap (λ x. cover_by kind f x s vmid v) (same_table c c' t k)
 
-  pub alike : (region.lo ≤ region.hi) → (c c' : Bool) (t t' : TagSet)
-      → ((has_page s.family && (table && (not s.last_only && is_none s.level && names_some s.interval region))) ≡ true → c ≡ c')
+  pub alike : (c c' : Bool) (t t' : TagSet) → (asks_childless s table ≡ true → c ≡ c')
       → (asks_tags s.family kind ≡ true → t ≡ t') → cover_of s vmid (seen c t) ≡ cover_of s vmid (seen c' t')
-  alike some c c' t t' childless tags = ap (λ (x : Cover). cond (lacks_vmid s.vmid_scoped vmid) NoCover x)
-      (same_fits some s.family c c' t (seen c t) childless
+  alike c c' t t' childless tags = ap (λ (x : Cover). cond (lacks_vmid s.vmid_scoped vmid) NoCover x)
+      (same_fits s.family c c' t (seen c t) childless
       ∙ by_fits kind s.family (fits_place s (seen c' t)) c c' t
       ∙ same_tags s.family (fits_place s (seen c' t)) c' t t' tags)

@@ -1,8 +1,8 @@
 -- How far a TLBI covers a broken place.
-use Rattle.std.proofs.Common.{◌≡◌, ℕ, suc, Bool, true, false, List, Option, Some, None, is_some, option_and_then, refl}
+use Rattle.std.proofs.Common.{◌≡◌, ℕ, Bool, true, false, List, Option, Some, None, is_some, option_and_then, refl}
 use Rattle.std.proofs.Common.{sym, ◌∙◌, ap}
 use Rattle.std.specs.Prelude.{unwrap_or}
-use Rattle.bbm_descriptor.specs.Descriptor.{core_of, desc_of}
+use Rattle.bbm_descriptor.specs.Descriptor.{desc_of}
 use Rattle.bbm_descriptor.specs.Descriptor as descriptor
 use Rattle.bbm_descriptor.specs.declared.desc.Core.{Core}
 use Rattle.bbm_descriptor.specs.declared.desc.Core.TheVariants as core
@@ -10,11 +10,8 @@ use Rattle.bbm_descriptor.specs.declared.desc.Desc.{Desc}
 use Rattle.bbm_descriptor.specs.declared.desc.Desc.TheVariants.{Invalid, Table, Leaf}
 use Rattle.bbm_entry_state.specs.Points.{core_in}
 use Rattle.bbm_entry_state.specs.declared.marks.Marks.{Marks}
-use Rattle.bbm_entry_state.specs.declared.state.EntryState.TheVariants.{Broken, Clean, Live}
 use Rattle.bbm_place_map.specs.Each.{is_table}
-use Rattle.bbm_place_map.specs.Map.{marks_at, value_at}
 use Rattle.bbm_place_map.specs.States.{state_from}
-use Rattle.bbm_place_map.specs.declared.map.PlaceMap.{PlaceMap}
 use Rattle.bbm_tlbi_scope.specs.ScopeCovers as scopes
 use Rattle.bbm_tlbi_scope.specs.declared.entry.Cover.TheVariants.{None as NoCover}
 use Rattle.bbm_tlbi_scope.specs.declared.entry.PlaceView.{PlaceView}
@@ -23,12 +20,11 @@ use Rattle.bbm_rules.specs.Claims.Trust.{Patterns}
 use Rattle.bbm_rules.specs.Covers.{cover_at, is_global, view_at}
 use Rattle.bbm_rules.specs.Notes.{events_of}
 use Rattle.bbm_rules.specs.Places.{page_of}
-use Rattle.bbm_rules.specs.Prelude.{Kind, Heading, Event, Scope, TlbiOp, Tlbi}
+use Rattle.bbm_rules.specs.Prelude.{Heading, Event, Scope, TlbiOp, Tlbi}
 use Rattle.bbm_rules.specs.RegisterValues.{named_scope, vmid_of}
 use Rattle.bbm_rules.specs.Tags.{tag_set, tags_of}
 use Rattle.bbm_rules.specs.Tree.{Node, held_at, is_childless, next_in, next_of, node_of, region_of}
-use Rattle.bbm_tree_index.specs.HeldCores as index
-use Rattle.bbm_replay_trees.specs.Told.{Childless, notes}
+use Rattle.bbm_replay_trees.specs.Told.{notes}
 use Rattle.bbm_replay.specs.Leaves.{is_global_core}
 
 pub table_is : (d : Desc) (c : Core) → descriptor.core_in d ≡ Some c → is_table c ≡ is_some (next_in d)
@@ -49,23 +45,6 @@ pub same_by_truth : (a b : Bool) → ((a ≡ true) → b ≡ true) → ((b ≡ t
 same_by_truth true b f g = sym (f refl)
 same_by_truth false true f g = g refl
 same_by_truth false false f g = refl
-
--- childless, as the index reads the map and as the law reads it
-module _ (map : PlaceMap) (core : Kind → ℕ → ℕ → Option Core) (is : (kind : Kind) (level a : ℕ)
-    → index.core_with (marks_at map a) kind level (value_at map a) ≡ core kind level a) (n : Node) (place : ℕ) where
-  pub childless_to : index.Childless map n place → Childless core n place
-  childless_to c = record {
-    next = c.next;
-    table = ap (λ (o : Option Core). index.next_in o) (sym (is n.kind n.level place)) ∙ c.table;
-    holds_none = λ a inside. ap (λ (o : Option Core). is_some o) (sym (is n.kind (suc n.level) a)) ∙ c.holds_none a inside;
-  }
-
-  pub childless_from : Childless core n place → index.Childless map n place
-  childless_from c = record {
-    next = c.next;
-    table = ap (λ (o : Option Core). index.next_in o) (is n.kind n.level place) ∙ c.table;
-    holds_none = λ a inside. ap (λ (o : Option Core). is_some o) (is n.kind (suc n.level) a) ∙ c.holds_none a inside;
-  }
 
 module _ (heading : Heading) (h : List Event) (pe : ℕ) (op : TlbiOp) (xt : ℕ) (scope : Scope) (vmid : Option ℕ) (place : ℕ)
     (n : Node) (value : ℕ) (table global childless : Bool) (tags : TagSet)
@@ -121,13 +100,6 @@ module _ (heading : Heading) (h : List Event) (pe : ℕ) (op : TlbiOp) (xt : ℕ
           ∙ ap (λ b. Some (seen table global b (tag_set (tags_of heading Patterns n.root (events_of (notes heading h)))))) (sym c)
           ∙ ap (λ (x : TagSet). Some (seen table global childless x))
           (ap (λ (es : List Event). tag_set (tags_of heading Patterns n.root es)) ev ∙ sym s)
-
-pub marks_of : (o : Option Core) (m : Option Marks) (x : Marks) → state_from o m ≡ Broken x → m ≡ Some x
-marks_of None None x k = let bad : Clean ≡ Broken x = k in absurd cc
-marks_of (Some c) None x k = let bad : Live c ≡ Broken x = k in absurd cc
-marks_of None (Some y) x k = let same : Broken y ≡ Broken x = k in let one : y ≡ x = cc in ap (λ (z : Marks). Some z) one
-marks_of (Some c) (Some y) x k =
-    let same : Broken y ≡ Broken x = k in let one : y ≡ x = cc in ap (λ (z : Marks). Some z) one
 
 pub core_of_marks : (o : Option Core) (m : Option Marks) (x : Marks) → m ≡ Some x → core_in (state_from o m) ≡ Some x.core
 core_of_marks o m x k = ap (λ (z : Option Marks). core_in (state_from o z)) k ∙ by o

@@ -1,11 +1,10 @@
 -- What a TLBI of one page covers lies on the way down to the page.
 use Rattle.std.proofs.Common.{◌≡◌, ℕ, zero, suc, ◌+◌, ◌*◌, ◌%◌, ◌<◌, ◌≤◌, ◌&&◌, ◌==◌, nat_le, Bool, true, false, cond}
-use Rattle.std.proofs.Common.{List, [], ◌∷◌, length, Option, Some, is_none, not, refl, sym, ◌∙◌, ap, subst, arith}
-use Rattle.std.proofs.Common.{true≢false}
+use Rattle.std.proofs.Common.{List, [], ◌∷◌, length, Option, Some, None, is_none, not, refl, sym, ◌∙◌, ap, subst}
+use Rattle.std.proofs.Common.{true≢false, arith}
 use Rattle.std.proofs.Math.Nat.{mul-le-mul_right}
 use Rattle.std.proofs.lemmas.Bool.{eq-eqb, and_right, and_left, and_from}
-use Rattle.bbm_descriptor.specs.declared.desc.Core.{Core}
-use Rattle.bbm_regimes.specs.Extent.{Extent, holds, meets}
+use Rattle.bbm_regimes.specs.Extent.{Extent, meets}
 use Rattle.bbm_regimes.specs.World.{input_pages}
 use Rattle.bbm_regimes.specs.declared.regime.Kind.{Kind}
 use Rattle.bbm_regimes.specs.declared.regime.Kind.TheVariants.{El2, S2, Ttbr0, Ttbr1}
@@ -24,7 +23,7 @@ use Rattle.bbm_rules.specs.Claims.Trust.{Patterns}
 use Rattle.bbm_rules.specs.Places.{index_of, page_of}
 use Rattle.bbm_rules.specs.Prelude.{Event}
 use Rattle.bbm_rules.specs.Tree.{Above, Node, region_start}
-use Rattle.bbm_replay_trees.specs.Told.{AllFit, SameCores, SameNodes}
+use Rattle.bbm_replay_trees.specs.Told.{AllFit, SameCores, SameNodes, View, core_at}
 use Rattle.bbm_tree_index.specs.Descent.{IsWay, Translates}
 use Rattle.bbm_tree_index.specs.HeldCores.{is_at, next_in}
 use Rattle.bbm_replay.specs.ReplayLaws.{Laws}
@@ -103,24 +102,20 @@ lies_in at r = nat_le r.lo at && nat_le at r.hi
 names_no_page : (at : ℕ) (r : Extent) → lies_in at r ≡ false → meets (record { lo = at; hi = at }) r ≡ false
 names_no_page at r k = and_swap (nat_le r.lo at) (nat_le at r.hi) k
 
-names_not_all : (at : ℕ) (r : Extent) → r.lo ≤ r.hi → lies_in at r ≡ false → holds (record { lo = at; hi = at }) r ≡ false
-names_not_all at r some k = holds_meets (record { lo = at; hi = at }) r some (names_no_page at r k)
+-- a scope that names no page of a region doesn't name them all
+not_all : (i : Option Extent) (r : Extent) → r.lo ≤ r.hi → names_some i r ≡ false → names_all i r ≡ false
+not_all None r some k = refl
+not_all (Some i) r some k = holds_meets i r some k
 
--- a TLBI of one page covers no place whose region doesn't have the page, and none of a kind that its family doesn't cover
-pub away : (s : Scope) (at : ℕ) → NamesOne s at → (vmid : Option ℕ) (v : PlaceView) → v.region.lo ≤ v.region.hi
-    → lies_in at v.region ≡ false → cover_of s vmid v ≡ NoCover
-away s at one vmid v some k =
-    none_by s vmid v (ap (λ b. cover_by v.kind s.family b s vmid v) (no_fit v.table v.childless) ∙ unfit v.kind s.family one.family s vmid v)
+-- a TLBI for pages covers no place of whose region it names none
+pub unnamed : (s : Scope) → has_page s.family ≡ true → (vmid : Option ℕ) (v : PlaceView) → v.region.lo ≤ v.region.hi
+    → names_some s.interval v.region ≡ false → cover_of s vmid v ≡ NoCover
+unnamed s paged vmid v some none =
+    none_by s vmid v (ap (λ b. cover_by v.kind s.family b s vmid v) (no_fit v.table v.childless) ∙ unfit v.kind s.family paged s vmid v)
   where
-    some_none : names_some s.interval v.region ≡ false
-    some_none = ap (λ (o : Option Extent). names_some o v.region) one.page ∙ names_no_page at v.region k
-
-    all_none : names_all s.interval v.region ≡ false
-    all_none = ap (λ (o : Option Extent). names_all o v.region) one.page ∙ names_not_all at v.region some k
-
     either : (childless : Bool) → cond childless (names_some s.interval v.region) (names_all s.interval v.region) ≡ false
-    either true = some_none
-    either false = all_none
+    either true = none
+    either false = not_all s.interval v.region some none
 
     no_fit : (table childless : Bool)
         → cond table (not s.last_only && is_none s.level
@@ -129,7 +124,13 @@ away s at one vmid v some k =
     no_fit true childless =
         and_right (not s.last_only && is_none s.level)
         (cond childless (names_some s.interval v.region) (names_all s.interval v.region)) (either childless)
-    no_fit false childless = and_left (names_some s.interval v.region) (hint_allows s.level v.level) some_none
+    no_fit false childless = and_left (names_some s.interval v.region) (hint_allows s.level v.level) none
+
+-- a TLBI of one page covers no place whose region doesn't have the page, and none of a kind that its family doesn't cover
+pub away : (s : Scope) (at : ℕ) → NamesOne s at → (vmid : Option ℕ) (v : PlaceView) → v.region.lo ≤ v.region.hi
+    → lies_in at v.region ≡ false → cover_of s vmid v ≡ NoCover
+away s at one vmid v some k = unnamed s one.family vmid v some
+    (ap (λ (o : Option Extent). names_some o v.region) one.page ∙ names_no_page at v.region k)
 
 pub foreign : (s : Scope) (at : ℕ) → NamesOne s at → (vmid : Option ℕ) (v : PlaceView) → covers_kind s.family v.kind ≡ false
     → cover_of s vmid v ≡ NoCover
@@ -157,84 +158,84 @@ part_inside base i width at small from to =
     suc_width : (i width : ℕ) → (i + 1) * width ≡ i * width + width
     suc_width i width = grind arith
 
-module _ (heading : Heading) (laws : Laws heading) (h : List Event) (node : ℕ → Option Node)
-    (core : Kind → ℕ → ℕ → Option Core) (kept : keeps heading Patterns h ≡ true) (fit : AllFit heading h)
-    (nodes : SameNodes heading h node) (cores : SameCores heading h core) (at a : ℕ) where
-  -- a page of a root, from which the way goes down to the place
-  pub record Top (m : Node) (steps : ℕ) : Type 0 where
-    pub page : ℕ
-    pub start : Node
-    pub is_start : node page ≡ Some start
-    pub first : start.above ≡ []
-    pub root : start.root ≡ m.root
-    pub kind : start.kind ≡ m.kind
-    pub way : List ℕ
-    pub leads : IsWay node core at page way a
-    pub count : length way + start.level ≡ steps + m.level
+module _ (heading : Heading) (laws : Laws heading) (h : List Event) (v : View) (kept : keeps heading Patterns h ≡ true)
+    (fit : AllFit heading h) (nodes : SameNodes heading h v.node) (cores : SameCores heading h (core_at v)) (at a : ℕ)
+  where
+    -- a page of a root, from which the way goes down to the place
+    pub record Top (m : Node) (steps : ℕ) : Type 0 where
+      pub page : ℕ
+      pub start : Node
+      pub is_start : v.node page ≡ Some start
+      pub first : start.above ≡ []
+      pub root : start.root ≡ m.root
+      pub kind : start.kind ≡ m.kind
+      pub way : List ℕ
+      pub leads : IsWay v.node (core_at v) at page way a
+      pub count : length way + start.level ≡ steps + m.level
 
-  climb : (above : List Above) (p : ℕ) (m : Node) → node p ≡ Some m → m.above ≡ above → m.base ≤ at
-      → at < m.base + 512 * input_pages m.level → (way : List ℕ) → IsWay node core at p way a → Top m (length way)
-  climb [] p m is none lo hi way leads = record {
-    page = p;
-    start = m;
-    is_start = is;
-    first = none;
-    root = refl;
-    kind = refl;
-    way = way;
-    leads = leads;
-    count = refl;
-  }
-  climb (x ∷ above) p m is up lo hi way leads =
-      let hangs = laws.nodes.up h node core p m x above kept fit nodes cores is up in
-      let parent = hangs.parent in
-      let place = x.place in
-      let made = hangs.is_below in
-      let own = laws.nodes.own h node p m nodes is in
-      let level : m.level ≡ suc parent.level = ap (λ (n : Node). n.level) made in
-      let base : m.base ≡ region_start parent place = ap (λ (n : Node). n.base) made in
-      let deep : suc parent.level < 4 = subst (λ l. l < 4) level own.1 in
-      let width : 512 * input_pages m.level ≡ input_pages parent.level
-      = ap (λ l. 512 * input_pages l) level ∙ wide parent.level deep in
-      let from : region_start parent place ≤ at = subst (λ b. b ≤ at) base lo in
-      let to : at < region_start parent place + input_pages parent.level
-      = subst (λ w. at < region_start parent place + w) width (subst (λ b. at < b + 512 * input_pages m.level) base hi) in
-      let inside = part_inside parent.base (index_of place) (input_pages parent.level) at (index_small place) from to in
-      let here = laws.nodes.own h node (page_of place) parent nodes hangs.is_parent in
-      let step : Translates (page_of place) parent at place = record {
-        inside = subst (λ q. is_at q place ≡ true) here.0 hangs.at;
-        from = from;
-        to = to;
-      } in
-      let table : next_in (core parent.kind parent.level place) ≡ Some p = hangs.table ∙ ap (λ q. Some q) own.0 in
-      let rest : parent.above ≡ above = tails (record { place = place; level = parent.level }) x parent.above above
-      (sym (ap (λ (n : Node). n.above) made) ∙ up) in
-      let top = climb above (page_of place) parent hangs.is_parent rest inside.0 inside.1 (place ∷ way)
-      (parent, hangs.is_parent, step, p, table, leads) in
-      record {
-        page = top.page;
-        start = top.start;
-        is_start = top.is_start;
-        first = top.first;
-        root = top.root ∙ sym (ap (λ (n : Node). n.root) made);
-        kind = top.kind ∙ sym (ap (λ (n : Node). n.kind) made);
-        way = top.way;
-        leads = top.leads;
-        count = shift (length top.way + top.start.level) (length way) parent.level m.level top.count level;
-      }
-    where
-      tails : (y z : Above) (ys zs : List Above) → y ∷ ys ≡ z ∷ zs → ys ≡ zs
-      tails y z ys zs e = cc
+    climb : (above : List Above) (p : ℕ) (m : Node) → v.node p ≡ Some m → m.above ≡ above → m.base ≤ at
+        → at < m.base + 512 * input_pages m.level → (way : List ℕ) → IsWay v.node (core_at v) at p way a → Top m (length way)
+    climb [] p m is none lo hi way leads = record {
+      page = p;
+      start = m;
+      is_start = is;
+      first = none;
+      root = refl;
+      kind = refl;
+      way = way;
+      leads = leads;
+      count = refl;
+    }
+    climb (x ∷ above) p m is up lo hi way leads =
+        let hangs = laws.neighbours.up h v p m x above kept fit nodes cores is up in
+        let parent = hangs.parent in
+        let place = x.place in
+        let made = hangs.is_below in
+        let own = laws.neighbours.own h v p m nodes is in
+        let level : m.level ≡ suc parent.level = ap (λ (n : Node). n.level) made in
+        let base : m.base ≡ region_start parent place = ap (λ (n : Node). n.base) made in
+        let deep : suc parent.level < 4 = subst (λ l. l < 4) level own.1 in
+        let width : 512 * input_pages m.level ≡ input_pages parent.level
+        = ap (λ l. 512 * input_pages l) level ∙ wide parent.level deep in
+        let from : region_start parent place ≤ at = subst (λ b. b ≤ at) base lo in
+        let to : at < region_start parent place + input_pages parent.level
+        = subst (λ w. at < region_start parent place + w) width (subst (λ b. at < b + 512 * input_pages m.level) base hi) in
+        let inside = part_inside parent.base (index_of place) (input_pages parent.level) at (index_small place) from to in
+        let here = laws.neighbours.own h v (page_of place) parent nodes hangs.is_parent in
+        let step : Translates (page_of place) parent at place = record {
+          inside = subst (λ q. is_at q place ≡ true) here.0 hangs.at;
+          from = from;
+          to = to;
+        } in
+        let table : next_in (core_at v parent.kind parent.level place) ≡ Some p = hangs.table ∙ ap (λ q. Some q) own.0 in
+        let rest : parent.above ≡ above = tails (record { place = place; level = parent.level }) x parent.above above
+        (sym (ap (λ (n : Node). n.above) made) ∙ up) in
+        let top = climb above (page_of place) parent hangs.is_parent rest inside.0 inside.1 (place ∷ way)
+        (parent, hangs.is_parent, step, p, table, leads) in
+        record {
+          page = top.page;
+          start = top.start;
+          is_start = top.is_start;
+          first = top.first;
+          root = top.root ∙ sym (ap (λ (n : Node). n.root) made);
+          kind = top.kind ∙ sym (ap (λ (n : Node). n.kind) made);
+          way = top.way;
+          leads = top.leads;
+          count = shift (length top.way + top.start.level) (length way) parent.level m.level top.count level;
+        }
+      where
+        tails : (y z : Above) (ys zs : List Above) → y ∷ ys ≡ z ∷ zs → ys ≡ zs
+        tails y z ys zs e = cc
 
-      shift : (n k l m : ℕ) → n ≡ suc k + l → m ≡ suc l → n ≡ k + m
-      shift n k l m e f = omega arith
+        shift : (n k l m : ℕ) → n ≡ suc k + l → m ≡ suc l → n ≡ k + m
+        shift n k l m e f = omega arith
 
-  pub top : (n : Node) → node (page_of a) ≡ Some n → a % 8 ≡ 0 → region_start n a ≤ at
-      → at < region_start n a + input_pages n.level → Top n 0
-  top n is eighth from to =
-      let inside = part_inside n.base (index_of a) (input_pages n.level) at (index_small a) from to in
-      climb n.above (page_of a) n is refl inside.0 inside.1 []
-      (n, is, record { inside = at_own (page_of a) a refl eighth; from = from; to = to })
-    where
-      at_own : (page a : ℕ) → page_of a ≡ page → a % 8 ≡ 0 → is_at page a ≡ true
-      at_own page a e f = and_from (page_of a == page) (a % 8 == 0) (eq-eqb (page_of a) page e) (eq-eqb (a % 8) 0 f)
+    pub top : (n : Node) → v.node (page_of a) ≡ Some n → a % 8 ≡ 0 → region_start n a ≤ at
+        → at < region_start n a + input_pages n.level → Top n 0
+    top n is eighth from to =
+        let inside = part_inside n.base (index_of a) (input_pages n.level) at (index_small a) from to in
+        climb n.above (page_of a) n is refl inside.0 inside.1 []
+        (n, is, record { inside = at_own (page_of a) a refl eighth; from = from; to = to })
+      where
+        at_own : (page a : ℕ) → page_of a ≡ page → a % 8 ≡ 0 → is_at page a ≡ true
+        at_own page a e f = and_from (page_of a == page) (a % 8 == 0) (eq-eqb (page_of a) page e) (eq-eqb (a % 8) 0 f)

@@ -21,16 +21,17 @@ use Rattle.bbm_rules.specs.Prelude.{Barrier, Kind, Heading, Event, Dsb}
 use Rattle.bbm_rules.specs.Tree.{Above, Node}
 use Rattle.bbm_replay_entries.specs.EntryEvents.{Heard}
 use Rattle.bbm_replay_entries.specs.EntryStands.{EntryStands}
-use Rattle.bbm_replay_trees.specs.Told.{is_held_by, kept, next_in, notes}
+use Rattle.bbm_tree_index.specs.HeldCores.{core_with}
+use Rattle.bbm_replay_trees.specs.Told.{View, core_at, is_held_by, kept, next_in, notes}
 use Rattle.bbm_replay.specs.ReplayLaws.{Laws}
 use Rattle.bbm_replay.proofs.Moves.{Completes, Hears, Leaves}
-use Rattle.bbm_replay.specs.ReplayTold.{Told}
-use Rattle.bbm_replay.specs.View.{View, core_at, state_of, waiting}
+use Rattle.bbm_replay.specs.ReplayTold.{Told, state_of, waiting}
 use Rattle.bbm_replay.proofs.Aparts.{apart_leaves, apart_same}
 use Rattle.bbm_replay.proofs.Entries.{entry_same, fit_more, keeps_more, some_pe, state_same}
 use Rattle.bbm_replay.proofs.Leaving.{was_there}
 use Rattle.bbm_replay.proofs.Quiet.{tracked_stay}
 use Rattle.bbm_replay.proofs.Writing.{cores}
+use Rattle.bbm_replay.proofs.Ways.{state_core}
 
 pub broken_marks : (live : Option Core) (m : Option Marks) → is_broken (state_from live m) ≡ is_some m
 broken_marks None None = refl
@@ -111,7 +112,7 @@ module _ (heading : Heading) (laws : Laws heading) (h : List Event) (old mid new
         = broken_marks live (old.marks a) ∙ ap (λ (m : Option Marks). is_some m) k in
         entry_same heading laws (e ∷ h) n.kind n.level a (state_of old n.kind n.level a) (state_of new n.kind n.level a)
         (waiting old a) (waiting new a)
-        (laws.entries.dsb_whole h n.kind n.level a q dsb (state_of old n.kind n.level a) (waiting old a) (some_pe heading laws h old t) unbroken s)
+        (laws.dsb.whole h n.kind n.level a q dsb (state_of old n.kind n.level a) (waiting old a) (some_pe heading laws h old t) unbroken s)
         (state_same n.kind n.level (old.value a) (new.value a) (old.marks a) (new.marks a) (value_same a) (whole_stays a k ∙ sym k))
         (λ p b c i. none_waits a (whole_stays a k) p b c i ∙ sym (s.idle unbroken p b c i))
 
@@ -120,7 +121,7 @@ module _ (heading : Heading) (laws : Laws heading) (h : List Event) (old mid new
     broken_entry k =
         let s = t.entries n a is in
         let now_broken : is_broken (state_of old n.kind n.level a) ≡ true = broken_marks live (old.marks a) ∙ k in
-        let dead : live ≡ None = no_core live (laws.entries.core_where_valid n.kind n.level (old.value a)
+        let dead : live ≡ None = no_core live (laws.core_where_valid n.kind n.level (old.value a)
         ∙ ap (λ (x : ℕ). is_valid n.kind n.level x) (t.values a)
         ∙ not-true _ (and_parts _ _ (sym s.broken ∙ now_broken)).1) in
         let mid_broken : is_some (mid.marks a) ≡ true = heard_marks a ∙ k in
@@ -134,7 +135,7 @@ module _ (heading : Heading) (laws : Laws heading) (h : List Event) (old mid new
           unheard = λ quiet. sym same_mid ∙ ap (λ (m : Option Marks). state_from live m) (hears.unheard quiet a);
         } in
         subst (λ (x : EntryState). EntryStands heading (e ∷ h) n.kind n.level a x (waiting new a)) same_new
-        (laws.entries.dsb h n.kind n.level a q dsb (state_of old n.kind n.level a) (state_from None (mid.marks a))
+        (laws.dsb.calls h n.kind n.level a q dsb (state_of old n.kind n.level a) (state_from None (mid.marks a))
         (state_from None (new.marks a)) (waiting mid a) (waiting new a) (some_pe heading laws h old t) heard
         (completes.completed a)
         (λ p other b c i. completes.others p a other b c i
@@ -156,11 +157,12 @@ module _ (heading : Heading) (laws : Laws heading) (h : List Event) (old mid new
   holds_is : (m : Node) (a : Above) → old.node m.page ≡ Some m → Contains m.above a
       → holds m.kind a.level a.place ≡ is_some (held heading Patterns m.kind a.level a.place (notes heading (e ∷ h)))
   holds_is m a is inside =
-      let up = laws.nodes.above h old.node (core_at old) m.page m a t.kept t.nodes (cores heading h old t) is inside in
+      let up = laws.neighbours.above h old m.page m a t.kept t.nodes (cores heading h old t) is inside in
       let n = up.0 in
       let stands = dsb_entry n a.place up.1 in
       let here : holds n.kind n.level a.place ≡ is_some (held heading Patterns n.kind n.level a.place (notes heading (e ∷ h)))
-      = sym (laws.entries.holds (e ∷ h) n.kind n.level a.place (state_of new n.kind n.level a.place) (waiting new a.place) stands) in
+      = ap (λ (o : Option Core). is_some o) (sym (state_core n.kind n.level (new.value a.place) (new.marks a.place)))
+      ∙ sym (laws.holds.holds (e ∷ h) n.kind n.level a.place (state_of new n.kind n.level a.place) (waiting new a.place) stands) in
       subst (λ (k : Kind). holds k a.level a.place ≡ is_some (held heading Patterns k a.level a.place (notes heading (e ∷ h)))) up.2
       (subst (λ (l : ℕ). holds n.kind l a.place ≡ is_some (held heading Patterns n.kind l a.place (notes heading (e ∷ h)))) up.3 here)
 
@@ -179,30 +181,31 @@ module _ (heading : Heading) (laws : Laws heading) (h : List Event) (old mid new
     some_next None next k = let bad : None ≡ Some next = k in absurd cc
     some_next (Some core) next k = refl
 
-    broken_core : (o : Option Core) (m : Option Marks) → is_some m ≡ true → core_in (state_from o m) ≡ core_in (state_from None m)
-    broken_core o m k = ap (λ (s : EntryState). core_in s) (same_state o None m k)
-
-    marked : (o : Option Core) (m : Option Marks) → is_some m ≡ true → is_some (core_in (state_from o m)) ≡ true
-    marked o m k = ap (λ (x : Option Core). is_some x) (broken_core o m k) ∙ core_some m ∙ k
+    broken_core : (kind : Kind) (level v : ℕ) (m : Option Marks) → is_some m ≡ true
+        → core_with m kind level v ≡ core_in (state_from None m)
+    broken_core kind level v None k = absurd (true≢false (sym k))
+    broken_core kind level v (Some m) k = refl
 
     still_holds : (kind : Kind) (level a next : ℕ) → next_in (core_at old kind level a) ≡ Some next → holds kind level a ≡ true
     still_holds kind level a next table = by (old.marks a) refl
       where
         by : (m : Option Marks) → old.marks a ≡ m → holds kind level a ≡ true
-        by None k = ap (λ (s : EntryState). is_some (core_in s))
-            (sym (state_same kind level (old.value a) (new.value a) (old.marks a) (new.marks a) (value_same a) (whole_stays a k ∙ sym k)))
+        by None k =
+            ap (λ (m : Option Marks). is_some (core_with m kind level (new.value a))) (whole_stays a k ∙ sym k)
+            ∙ ap (λ v. is_some (core_with (old.marks a) kind level v)) (value_same a)
             ∙ some_next (core_at old kind level a) next table
         by (Some m) k =
             let is_marked : is_some (old.marks a) ≡ true = ap (λ (m : Option Marks). is_some m) k in
-            marked (core_of kind level (new.value a)) (new.marks a) (no_loss a next
-            (ap (λ (o : Option Core). next_in o)
-            (heard_core a ∙ sym (broken_core (core_of kind level (old.value a)) (old.marks a) is_marked)) ∙ table))
+            let still = no_loss a next (ap (λ (o : Option Core). next_in o)
+            (heard_core a ∙ sym (broken_core kind level (old.value a) (old.marks a) is_marked)) ∙ table) in
+            ap (λ (o : Option Core). is_some o) (broken_core kind level (new.value a) (new.marks a) still)
+            ∙ core_some (new.marks a) ∙ still
 
     all_above : (xs : List Above) (p : ℕ) (m : Node) → old.node p ≡ Some m → m.above ≡ xs
         → every (λ a. holds m.kind a.level a.place) xs ≡ true
     all_above [] p m is e = refl
     all_above (a ∷ rest) p m is e =
-        let up = laws.nodes.up h old.node (core_at old) p m a rest t.kept t.fit t.nodes (cores heading h old t) is e in
+        let up = laws.neighbours.up h old p m a rest t.kept t.fit t.nodes (cores heading h old t) is e in
         let n = up.parent in
         let lists : a ∷ rest ≡ record { place = a.place; level = n.level } ∷ n.above
         = sym e ∙ ap (λ (x : Node). x.above) up.is_below in
@@ -234,7 +237,7 @@ module _ (heading : Heading) (laws : Laws heading) (h : List Event) (old mid new
       → Told heading (e ∷ h) last
   after_dsb last fits unbroken nodes move fresh null tracked known pages =
       let sound = keeps_more heading h e t.kept unbroken in
-      let proper = laws.nodes.proper t.proper in
+      let proper = laws.proper t.proper in
       let rest = tracked_stay heading laws h old last t e refl (record {
         tracked = λ p. move.tracking.tracked p ∙ tracked p;
         known = λ p. move.tracking.known p ∙ known p;
@@ -244,11 +247,11 @@ module _ (heading : Heading) (laws : Laws heading) (h : List Event) (old mid new
         proper = t.proper;
         kept = sound;
         fit = fit_more heading h e t.fit fits;
-        values = λ a. move.value a ∙ value_same a ∙ laws.pages.same_values h old.value e refl t.values a;
-        nodes = laws.nodes.dsb h old.node last.node holds q dsb sound t.nodes holds_is
+        values = λ a. move.value a ∙ value_same a ∙ laws.values.others h old e refl t.values a;
+        nodes = laws.nodes.dsb h old last holds q dsb sound t.nodes holds_is
             (λ p. move.node p ∙ ap (λ (o : Option Node). kept (is_held_by holds) o) (nodes p));
-        fresh = λ p. move.roles.fresh p ∙ fresh p ∙ laws.pages.fresh_others h old.fresh e sound refl refl refl t.fresh p;
-        null = λ p. move.roles.null p ∙ null p ∙ laws.pages.same_null h old.null e refl t.null p;
+        fresh = λ p. move.roles.fresh p ∙ fresh p ∙ laws.fresh.others h old e sound refl refl refl t.fresh p;
+        null = λ p. move.roles.null p ∙ null p ∙ laws.pages.same_null h old e refl t.null p;
         known = rest.0;
         pages = rest.1;
         tracked = rest.2;

@@ -5,8 +5,8 @@ use Rattle.bbm_rules.specs.Claims.Trust.{Patterns}
 use Rattle.bbm_rules.specs.Places.{page_of}
 use Rattle.bbm_rules.specs.Prelude.{Heading}
 use Rattle.bbm_rules.specs.Tree.{node_of, tree}
+use Rattle.bbm_replay_trees.specs.Told.{View}
 use Rattle.bbm_replay.specs.ReplayTold.{Told}
-use Rattle.bbm_replay.specs.View.{View}
 
 no_node : (heading : Heading) (p : ℕ) → node_of heading Patterns [] p ≡ None
 unfolding tree

@@ -15,11 +15,10 @@ use Rattle.bbm_rules.specs.Prelude.{Kind, Heading, Event}
 use Rattle.bbm_rules.specs.Tree.{Node}
 use Rattle.bbm_replay_entries.specs.EntryEvents.{touches}
 use Rattle.bbm_replay_entries.specs.EntryStands.{EntryStands}
-use Rattle.bbm_replay_trees.specs.Told.{AllFit}
+use Rattle.bbm_replay_trees.specs.Told.{AllFit, View}
 use Rattle.bbm_replay.specs.ReplayLaws.{Laws}
 use Rattle.bbm_replay.proofs.Moves.{Alike}
-use Rattle.bbm_replay.specs.ReplayTold.{Told}
-use Rattle.bbm_replay.specs.View.{View, state_of, waiting}
+use Rattle.bbm_replay.specs.ReplayTold.{Told, state_of, waiting}
 
 pub keeps_more : (heading : Heading) (h : List Event) (e : Event) → keeps heading Patterns h ≡ true
     → broken heading Patterns h e ≡ None → keeps heading Patterns (e ∷ h) ≡ true
@@ -40,7 +39,7 @@ state_same kind level v v' m m' e k =
 
 module _ (heading : Heading) (laws : Laws heading) where
   pub some_pe : (h : List Event) (v : View) → Told heading h v → 0 < heading.pes
-  some_pe h v t = (laws.nodes.proper t.proper).some_pe
+  some_pe h v t = (laws.proper t.proper).some_pe
 
   -- the same state, and pendings that are alike
   pub entry_same : (h : List Event) (kind : Kind) (level a : ℕ) (s s' : EntryState) (pends pends' : ℕ → Pends)
@@ -48,7 +47,7 @@ module _ (heading : Heading) (laws : Laws heading) where
       → EntryStands heading h kind level a s' pends'
   entry_same h kind level a s s' pends pends' t e alike =
       subst (λ (x : EntryState). EntryStands heading h kind level a x pends') e
-      (laws.entries.alike h kind level a s pends pends' t
+      (laws.alike h kind level a s pends pends' t
       (λ q b c p. alike q b c p ∙ guard (is_broken s) (waits (pends q) b c p) (λ k. t.idle k q b c p)))
 
   pub carried : (h : List Event) (old new : View) → Told heading h old → (e : Event) (n : Node) (a : ℕ)
@@ -57,5 +56,5 @@ module _ (heading : Heading) (laws : Laws heading) where
       → EntryStands heading (e ∷ h) n.kind n.level a (state_of new n.kind n.level a) (waiting new a)
   carried h old new t e n a is untouched value marks alike =
       entry_same (e ∷ h) n.kind n.level a (state_of old n.kind n.level a) (state_of new n.kind n.level a) (waiting old a) (waiting new a)
-      (laws.entries.stays h e n.kind n.level a (state_of old n.kind n.level a) (waiting old a) (some_pe h old t) untouched (t.entries n a is))
+      (laws.stays h e n.kind n.level a (state_of old n.kind n.level a) (waiting old a) (some_pe h old t) untouched (t.entries n a is))
       (state_same n.kind n.level (old.value a) (new.value a) (old.marks a) (new.marks a) value marks) alike

@@ -8,7 +8,7 @@ use Rattle.bbm_tree_index.specs.Index.{node_in}
 use Rattle.bbm_tree_index.specs.Nodes.{path_at}
 use Rattle.bbm_tree_index.specs.declared.role.Path.{Path}
 use Rattle.bbm_replay.specs.ReplayLaws.{Laws}
-use Rattle.bbm_replay.specs.ReplayStanding.{IsAt, Stands}
+use Rattle.bbm_replay.specs.ReplayStanding.{IsAt, Stands, view_of}
 use Rattle.bbm_replay.specs.declared.parts.ReplayState.{ReplayState}
 
 pub at_path : (p : ReplayState) (place : ℕ) (r : Option Path) (path : Path) → r ≡ Some path
@@ -35,7 +35,7 @@ no_path p place r e k = by (node_in p.index (page_of place)) refl
 pub shallow : (heading : Heading) → Laws heading → (h : List Event) (p : ReplayState) → Stands p heading h → (place : ℕ) (path : Path)
     → IsAt p place path → path.level ≤ 3
 shallow heading laws h p s place path at =
-    let own = laws.nodes.own h (node_in p.index) (page_of place) at.0 s.told.nodes at.1 in
+    let own = laws.neighbours.own h (view_of p.map p.index) (page_of place) at.0 s.told.nodes at.1 in
     let deep : at.0.level < 4 = own.1 in
     let same : path.level ≡ at.0.level = ap (λ (x : Path). x.level) at.2 in
     omega arith

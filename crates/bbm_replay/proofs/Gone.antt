@@ -12,12 +12,11 @@ use Rattle.bbm_rules.specs.Tree.{Node}
 use Rattle.bbm_rules.specs.declared.step_fault.StepFault.{StepFault}
 use Rattle.bbm_tree_index.specs.HeldCores.{leaves}
 use Rattle.bbm_replay_roots.specs.RootStateStands as roots
-use Rattle.bbm_replay_trees.specs.Told.{kept}
+use Rattle.bbm_replay_trees.specs.Told.{View, kept}
 use Rattle.bbm_replay.specs.ReplayLaws.{Laws}
 use Rattle.bbm_replay.proofs.Moves.{Leaves, SamePages, SameTracked}
 use Rattle.bbm_replay.specs.ReplayRules.{Rules}
 use Rattle.bbm_replay.specs.ReplayStanding.{MayMeet, Meets, SameFrame, Stands, view_of}
-use Rattle.bbm_replay.specs.View.{View}
 use Rattle.bbm_replay.specs.declared.parts.ReplayState.{ReplayState}
 use Rattle.bbm_replay.proofs.Framing.{stands_next}
 use Rattle.bbm_replay.proofs.Leaving.{after_unroot}
@@ -65,7 +64,7 @@ module _ (laws : (heading : Heading) → Laws heading) (rules : (heading : Headi
       → ((heading : Heading) (h : List Event) → roots.Stands old.roots heading h
       → roots.Judges (Err fault) (broken heading Patterns h (Unroot pe page))) → Meets old old (Unroot pe page) (Err fault)
   unroot_err fault judged = record {
-    judged = λ heading h s. answers (Err fault) _ _ (judged heading h s.roots) ((rules heading).no_limit h (Unroot pe page) refl);
+    judged = λ heading h s. answers (Err fault) _ _ (judged heading h s.roots) ((rules heading).limits.others h (Unroot pe page) refl);
     taken = tt;
     unchanged = λ heading h s. s;
     frugal = frugal_else old (Unroot pe page) (Err fault) (λ heading h s. (refl, refl));
@@ -81,7 +80,7 @@ module _ (laws : (heading : Heading) → Laws heading) (rules : (heading : Headi
       → broken heading Patterns h (Unroot pe page) ≡ None → roots.Stands new.roots heading (Unroot pe page ∷ h))
       → Meets old new (Unroot pe page) (Ok tt)
   unroot_ok new unbroken frame move taken = record {
-    judged = λ heading h s. (unbroken heading h s.roots, (rules heading).no_limit h (Unroot pe page) refl);
+    judged = λ heading h s. (unbroken heading h s.roots, (rules heading).limits.others h (Unroot pe page) refl);
     taken = λ heading h s.
         let free = unbroken heading h s.roots in
         stands_next old new frame heading h (Unroot pe page ∷ h) s

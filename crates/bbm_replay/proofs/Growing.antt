@@ -17,10 +17,10 @@ use Rattle.bbm_rules.specs.Values.{value_of}
 use Rattle.bbm_replay_entries.specs.EntryEvents.{touches}
 use Rattle.bbm_replay_entries.specs.EntryStands.{EntryStands}
 use Rattle.bbm_tree_index.specs.Paths.{Attached, Through}
+use Rattle.bbm_replay_trees.specs.Told.{View}
 use Rattle.bbm_replay.specs.ReplayLaws.{Laws}
 use Rattle.bbm_replay.proofs.Moves.{Alike, Attaches, Grown, SameMap}
-use Rattle.bbm_replay.specs.ReplayTold.{Told}
-use Rattle.bbm_replay.specs.View.{View, state_of, waiting}
+use Rattle.bbm_replay.specs.ReplayTold.{Told, state_of, waiting}
 use Rattle.bbm_replay.proofs.Aparts.{apart_grown}
 use Rattle.bbm_replay.proofs.Entries.{carried, fit_more, keeps_more, some_pe}
 use Rattle.bbm_replay.proofs.Quiet.{tracked_stay}
@@ -71,8 +71,8 @@ module _ (heading : Heading) (laws : Laws heading) where
       = ap (λ (x : ℕ). state_from (core_of n.kind level x) None) (sym (t.values a) ∙ sym value)
       ∙ ap (λ (m : Option Marks). state_from (core_of n.kind level (new.value a)) m) (sym marks) in
       subst (λ x. EntryStands heading (e ∷ h) n.kind level a x (waiting new a)) same
-      (laws.entries.stays h e n.kind level a _ (waiting new a) (some_pe heading laws h old t) untouched
-      (laws.entries.fresh h n.kind level a _ (waiting new a) (some_pe heading laws h old t) t.kept
+      (laws.stays h e n.kind level a _ (waiting new a) (some_pe heading laws h old t) untouched
+      (laws.begins.fresh h n.kind level a _ (waiting new a) (some_pe heading laws h old t) t.kept
       (sym (t.fresh (page_of a)) ∙ fresh) (record {
         core = core_whole (core_of n.kind level (value_of h a));
         unbroken = unbroken_whole (core_of n.kind level (value_of h a));
@@ -107,19 +107,19 @@ module _ (heading : Heading) (laws : Laws heading) where
   after_root h old new t pe page kind lock fits unbroken map move idle =
       let e = Root pe kind lock page in
       let sound = keeps_more heading h e t.kept unbroken in
-      let proper = laws.nodes.proper t.proper in
+      let proper = laws.proper t.proper in
       let rest = tracked_stay heading laws h old new t e refl move.tracking in
       let g = grown old new (nodes_of_root heading (record { page = page; kind = kind; lock = None })) move in
-      let nodes = laws.nodes.root h old.node new.node old.fresh old.value pe page kind lock proper t.fit sound
+      let nodes = laws.nodes.root h old new pe page kind lock proper t.fit sound
       t.nodes t.fresh t.values move.node in
       record {
         proper = t.proper;
         kept = sound;
         fit = fit_more heading h e t.fit fits;
-        values = λ a. map.value a ∙ laws.pages.same_values h old.value e refl t.values a;
+        values = λ a. map.value a ∙ laws.values.others h old e refl t.values a;
         nodes = nodes;
-        fresh = laws.pages.fresh_attached h old.fresh new.fresh new.node e refl refl t.fresh nodes move.fresh;
-        null = λ p. move.null p ∙ laws.pages.same_null h old.null e refl t.null p;
+        fresh = laws.fresh.attached h old new e refl refl t.fresh nodes move.fresh;
+        null = λ p. move.null p ∙ laws.pages.same_null h old e refl t.null p;
         known = rest.0;
         pages = rest.1;
         tracked = rest.2;

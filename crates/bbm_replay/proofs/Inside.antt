@@ -29,12 +29,12 @@ use Rattle.bbm_rules.specs.declared.rule.Rule.TheVariants.{NoLock, NullWritten, 
 use Rattle.bbm_rules.specs.declared.rule.Rule.TheVariants.{NotFresh, RewrittenFresh, BadKind, GlobalUser}
 use Rattle.bbm_rules.specs.declared.step_fault.StepFault.TheVariants.{Broken}
 use Rattle.bbm_place_map.specs.Map.{marks_at, pends_at, value_at}
-use Rattle.bbm_tree_index.specs.HeldCores.{limbo_at}
+use Rattle.bbm_tree_index.specs.HeldCores.{limbo_by}
 use Rattle.bbm_tree_index.specs.Index.{fresh_in, node_in, null_in}
 use Rattle.bbm_tree_index.specs.declared.role.Path.{Path}
 use Rattle.bbm_replay_roots.specs.RootStateStands as roots
 use Rattle.bbm_replay_roots.specs.declared.state.RootState.{RootState}
-use Rattle.bbm_replay_trees.specs.Told.{notes}
+use Rattle.bbm_replay_trees.specs.Told.{View, core_at, notes}
 use Rattle.bbm_replay.specs.ReplayLaws.{Laws}
 use Rattle.bbm_replay.specs.Leaves.{attached_next, is_contiguous_core, is_global_core}
 use Rattle.bbm_replay.specs.ReplayFaults.{step_fault}
@@ -46,14 +46,14 @@ use Rattle.bbm_tree_index.specs.declared.fault.TreeFault.{TreeFault}
 use Rattle.bbm_tree_index.specs.declared.fault.TreeFault.TheVariants as tree
 use Rattle.bbm_replay.specs.ReplayRules.{Rules}
 use Rattle.bbm_replay.specs.ReplayStanding.{Clears, Holds, IsAt, MayMeet, Meets, SameFrame, Stands, view_of}
-use Rattle.bbm_replay.specs.ReplayTold.{Told}
-use Rattle.bbm_replay.specs.View.{View, core_at, state_of}
+use Rattle.bbm_replay.specs.ReplayTold.{Told, state_of}
 use Rattle.bbm_replay.specs.declared.parts.ReplayState.{ReplayState}
 use Rattle.bbm_replay.proofs.Framing.{stands_next}
 use Rattle.bbm_replay.proofs.Judging.{Verdict, passes, stops, verdict, where_false, where_true, write_is}
 use Rattle.bbm_replay.proofs.Meeting.{fits_all}
-use Rattle.bbm_replay.proofs.Starting.{Others, meets_broken}
+use Rattle.bbm_replay.proofs.Starting.{meets_broken}
 use Rattle.bbm_replay.proofs.Writing.{after_attaching_write, after_plain_write, cores}
+use Rattle.bbm_replay.proofs.Ways.{state_core}
 use Rattle.std.proofs.lemmas.Bool.{and_right}
 
 -- ---- what the core of a descriptor says
@@ -114,30 +114,31 @@ module _ (laws : (heading : Heading) → Laws heading) (rules : (heading : Headi
   v_old = view_of old.map old.index
 
   held_n : held ≡ core_at v_old n.kind n.level place
-  held_n = holds ∙ ap (λ (x : Path). core_at v_old x.kind x.level place) at.2
+  held_n = holds ∙ state_core path.kind path.level (value_at old.map place) (marks_at old.map place)
+      ∙ ap (λ (x : Path). core_at v_old x.kind x.level place) at.2
 
   new_n : new ≡ core_of n.kind n.level v
   new_n = new_is ∙ ap (λ (x : Path). core_of x.kind x.level v) at.2
 
   module _ (heading : Heading) (h : List Event) (s : Stands old heading h) where
     null_none : null_written heading Patterns (notes heading h) e ≡ None
-    null_none = (rules heading).null h (null_in old.index) pe place v s.told.null
+    null_none = (rules heading).writes.null h v_old pe place v s.told.null
         ∙ where_false (null_in old.index (page_of place)) place (s.told.apart.node_not_null (page_of place) n at.1)
 
     bbm_is : break_before_make heading Patterns (notes heading h) e ≡ if_so (differ held new) place
-    bbm_is = (rules heading).held h (node_in old.index) (core_at v_old) n pe place v s.told.nodes (cores heading h v_old s.told) at.1
+    bbm_is = (rules heading).writes.held h v_old n pe place v s.told.nodes (cores heading h v_old s.told) at.1
         ∙ ap (λ (x : Option Core). if_so (differ x (core_of n.kind n.level v)) place) (sym held_n)
         ∙ ap (λ (x : Option Core). if_so (differ held x) place) (sym new_n)
 
     limbo_is : limbo_make heading Patterns (notes heading h) e
-        ≡ if_so (is_some new && option_map_or (limbo_at old.map) (node_in old.index (page_of place)) false) place
-    limbo_is = (rules heading).limbo h (node_in old.index) (value_at old.map) n pe place v s.told.nodes s.told.values at.1
-        ∙ ap (λ b. if_so (b && limbo_at old.map n) place)
-        (sym ((laws heading).entries.core_where_valid n.kind n.level v) ∙ ap (λ (x : Option Core). is_some x) (sym new_n))
-        ∙ ap (λ (o : Option Node). if_so (is_some new && option_map_or (limbo_at old.map) o false) place) (sym at.1)
+        ≡ if_so (is_some new && option_map_or (limbo_by (value_at old.map)) (node_in old.index (page_of place)) false) place
+    limbo_is = (rules heading).writes.limbo h v_old n pe place v s.told.nodes s.told.values at.1
+        ∙ ap (λ b. if_so (b && limbo_by (value_at old.map) n) place)
+        (sym ((laws heading).core_where_valid n.kind n.level v) ∙ ap (λ (x : Option Core). is_some x) (sym new_n))
+        ∙ ap (λ (o : Option Node). if_so (is_some new && option_map_or (limbo_by (value_at old.map)) o false) place) (sym at.1)
 
     rewritten_none : rewritten_fresh heading Patterns (notes heading h) e ≡ None
-    rewritten_none = (rules heading).rewritten h (fresh_in old.index) (value_at old.map) pe place v s.told.fresh s.told.values
+    rewritten_none = (rules heading).writes.rewritten h v_old pe place v s.told.fresh s.told.values
         ∙ by (fresh_in old.index (page_of place)) refl
       where
         by : (b : Bool) → fresh_in old.index (page_of place) ≡ b
@@ -152,7 +153,7 @@ module _ (laws : (heading : Heading) → Laws heading) (rules : (heading : Headi
       → lock ≡ option_and_then (λ l. if_so (lacks h pe l) place) (lock_of h path.first)) where
     no_lock_is : (heading : Heading) (h : List Event) → Stands old heading h
         → no_lock heading Patterns (notes heading h) e ≡ lock
-    no_lock_is heading h s = (rules heading).lock h (node_in old.index) n pe place v s.told.nodes at.1
+    no_lock_is heading h s = (rules heading).writes.lock h v_old n pe place v s.told.nodes at.1
         ∙ ap (λ (x : Path). option_and_then (λ l. if_so (lacks h pe l) place) (lock_of h x.first)) (sym at.2)
         ∙ sym (lock_is heading h s.roots)
 
@@ -174,7 +175,7 @@ module _ (laws : (heading : Heading) → Laws heading) (rules : (heading : Headi
       }
 
       module _ (alike : differ held new ≡ false) where
-        pub entry_limbo : (is_some new && option_map_or (limbo_at old.map) (node_in old.index (page_of place)) false) ≡ true
+        pub entry_limbo : (is_some new && option_map_or (limbo_by (value_at old.map)) (node_in old.index (page_of place)) false) ≡ true
             → Clears old e (Err (Broken LimboMake place))
         entry_limbo k = record {
           passed = tt;
@@ -185,7 +186,7 @@ module _ (laws : (heading : Heading) → Laws heading) (rules : (heading : Headi
               ∙ stops LimboMake _ _ place (limbo_is heading h s ∙ where_true _ place k));
         }
 
-        pub entry_clear : (is_some new && option_map_or (limbo_at old.map) (node_in old.index (page_of place)) false) ≡ false
+        pub entry_clear : (is_some new && option_map_or (limbo_by (value_at old.map)) (node_in old.index (page_of place)) false) ≡ false
             → Clears old e (Ok tt)
         entry_clear k = record {
           passed = λ heading h s. (
@@ -209,8 +210,8 @@ module _ (laws : (heading : Heading) → Laws heading) (rules : (heading : Headi
           × (bad_kind heading Patterns (notes heading h) e ≡ if_so (is_contiguous n.kind (desc_of n.kind n.level v)) place)
           × (global_user heading Patterns (notes heading h) e
           ≡ if_so (same_kind n.kind Ttbr0 && is_global (desc_of n.kind n.level v)) place)
-      leaves = (rules heading).inside_leaves h (node_in old.index) n pe place v s.told.nodes at.1
-          ((laws heading).pages.attaches_none h (node_in old.index) (core_at v_old) n pe place v s.told.nodes
+      leaves = (rules heading).unattached.inside h v_old n pe place v s.told.nodes at.1
+          ((laws heading).unattached.attaches_none h v_old n pe place v s.told.nodes
           (cores heading h v_old s.told) at.1 attaches)
 
       bad_is : bad_kind heading Patterns (notes heading h) e ≡ if_so (is_contiguous_core new) place
@@ -251,14 +252,14 @@ module _ (laws : (heading : Heading) → Laws heading) (rules : (heading : Headi
             ∙ passes BadKind _ _ (bad_is heading h s ∙ where_false (is_contiguous_core new) place good)
             ∙ passes GlobalUser _ _ (user_is heading h s ∙ where_false (same_kind path.kind Ttbr0 && is_global_core new) place own)
 
-        pub plain_ok : Others → (next : ReplayState) → SameFrame old next → next.roots ≡ old.roots → next.index ≡ old.index
+        pub plain_ok : roots.OthersStand → (next : ReplayState) → SameFrame old next → next.roots ≡ old.roots → next.index ≡ old.index
             → (state : EntryState) → Written (state_of v_old path.kind path.level place) pe new state
             → Writes v_old (view_of next.map old.index) place v state
             → ((p : ℕ) → (view_of next.map old.index).tracked p ≡ v_old.tracked p)
             → ((q a : ℕ) → marks_at next.map a ≡ None → IsIdle (pends_at next.map q a))
             → Meets old next e (Ok tt)
         plain_ok others next frame same_roots same_index state written move tracked idle = record {
-          judged = λ heading h s. (plain_free heading h s, (rules heading).no_limit h e refl);
+          judged = λ heading h s. (plain_free heading h s, (rules heading).limits.others h e refl);
           taken = λ heading h s. stands_next old next frame heading h (e ∷ h) s
               (subst (λ i. Told heading (e ∷ h) (view_of next.map i)) (sym same_index)
               (after_plain_write heading (laws heading) h v_old (view_of next.map old.index) s.told pe place v state move
@@ -282,7 +283,7 @@ module _ (laws : (heading : Heading) → Laws heading) (rules : (heading : Headi
 
     pub below_three : n.level < 3
     below_three = table_level n.kind n.level v next
-        ((laws m.0).nodes.own m.1 (node_in old.index) (page_of place) n m.2.told.nodes at.1).1 both.1
+        ((laws m.0).neighbours.own m.1 v_old (page_of place) n m.2.told.nodes at.1).1 both.1
 
     abbrev from : List Node
     from = node_below n place next ∷ []
@@ -293,7 +294,7 @@ module _ (laws : (heading : Heading) → Laws heading) (rules : (heading : Headi
           → Verdict r (not_fresh heading Patterns (notes heading h) e) (bad_kind heading Patterns (notes heading h) e)
           (global_user heading Patterns (notes heading h) e)
       judged_here r k = verdict (fresh_in old.index) (value_at old.map) from heading h false e
-          ((rules heading).judging_write h (node_in old.index) (fresh_in old.index) (value_at old.map) (core_at v_old) n pe place v next
+          ((rules heading).judging.write h v_old n pe place v next
           s.told.fit s.told.nodes s.told.fresh s.told.values (cores heading h v_old s.told) at.1 (sym held_n ∙ both.0) both.1) r
           (subst (λ (o : Option Node). index.Judges (fresh_in old.index) (value_at old.map) (index_paths.below_all o place next) {A = Unit {0}} false r) at.1 k)
 
@@ -310,8 +311,9 @@ module _ (laws : (heading : Heading) → Laws heading) (rules : (heading : Headi
 
         held_none : held_at heading Patterns (notes heading h) n place ≡ None
         held_none = none_of (held_at heading Patterns (notes heading h) n place)
-            ((laws heading).entries.holds h n.kind n.level place _ _ (s.told.entries n place at.1)
-            ∙ ap (λ (x : Option Core). is_some x) (sym held_n ∙ both.0))
+            ((laws heading).holds.holds h n.kind n.level place _ _ (s.told.entries n place at.1)
+            ∙ ap (λ (x : Option Core). is_some x)
+            (state_core n.kind n.level (value_at old.map place) (marks_at old.map place) ∙ sym held_n ∙ both.0))
 
         some_attached : held_at heading Patterns (notes heading h) n place ≡ None
             → is_none (attached_by heading Patterns (notes heading h) e) ≡ false
@@ -365,14 +367,14 @@ module _ (laws : (heading : Heading) → Laws heading) (rules : (heading : Headi
           ∙ passes BreakBeforeMake _ _ first.2 ∙ passes LimboMake _ _ first.3 ∙ passes NotFresh _ _ w.0
           ∙ passes RewrittenFresh _ _ (rewritten_none heading h s) ∙ passes BadKind _ _ w.1 ∙ passes GlobalUser _ _ w.2
 
-      pub attach_ok : Others → (last : ReplayState) → SameFrame old last → last.roots ≡ old.roots
+      pub attach_ok : roots.OthersStand → (last : ReplayState) → SameFrame old last → last.roots ≡ old.roots
           → (state : EntryState) → Written (state_of v_old path.kind path.level place) pe new state
           → Writes v_old (view_of last.map last.index) place v state
           → Attaches v_old (view_of last.map last.index) (index_paths.starts_of old.index (attach.Below place next))
           → ((q a : ℕ) → marks_at last.map a ≡ None → IsIdle (pends_at last.map q a))
           → Meets old last e (Ok tt)
       attach_ok others last frame same_roots state written move attached idle = record {
-        judged = λ heading h s. (attach_free heading h s, (rules heading).no_limit h e refl);
+        judged = λ heading h s. (attach_free heading h s, (rules heading).limits.others h e refl);
         taken = λ heading h s. stands_next old last frame heading h (e ∷ h) s
             (after_attaching_write heading (laws heading) h v_old (view_of last.map last.index) s.told pe place v state move
             (fits_all old e m heading h s) (attach_free heading h s) attached.null attached.tracking n next at.1 written_n

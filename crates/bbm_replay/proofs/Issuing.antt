@@ -44,7 +44,7 @@ pub tlbi_meets : ((heading : Heading) → Laws heading) → ((heading : Heading)
     → ((heading : Heading) (h : List Event) → Stands old heading h → roots.Stands r heading (Tlbi pe op xt ∷ h))
     → Meets old (record old { map = map; roots = r }) (Tlbi pe op xt) (Ok tt)
 tlbi_meets laws rules old map r pe op xt m unbroken reach reached noted others idle idle' values marks pages taken = record {
-  judged = λ heading h s. (unbroken heading h s.roots, (rules heading).no_limit h (Tlbi pe op xt) refl);
+  judged = λ heading h s. (unbroken heading h s.roots, (rules heading).limits.others h (Tlbi pe op xt) refl);
   taken = λ heading h s. stands_next old (record old { map = map; roots = r })
       (record { header = refl; index_header = refl; sound = λ k. k }) heading h (Tlbi pe op xt ∷ h) s
       (after_tlbi heading (laws heading) h (view_of old.map old.index) (view_of map old.index) s.told pe op xt reach

@@ -21,10 +21,9 @@ use Rattle.bbm_tree_index.specs.Attaching.{Judges}
 use Rattle.bbm_tree_index.specs.declared.fault.TreeFault.{TreeFault}
 use Rattle.bbm_tree_index.specs.declared.fault.TreeFault.TheVariants as tree
 use Rattle.bbm_replay_trees.specs.Judging.{Judging}
-use Rattle.bbm_replay_trees.specs.Told.{notes}
+use Rattle.bbm_replay_trees.specs.Told.{View, notes}
 use Rattle.bbm_replay.specs.ReplayRules.{Rules}
 use Rattle.bbm_replay.specs.ReplayTold.{Told}
-use Rattle.bbm_replay.specs.View.{View}
 
 -- the rule is the least broken one where it is broken, and else what the others say counts
 abbrev pub found : Rule → Option ℕ → Option Breach → Option Breach
@@ -49,8 +48,8 @@ module _ (heading : Heading) (rules : Rules heading) (h : List Event) (v : View)
   module _ (pe page : ℕ) where
     pub init_is : broken heading Patterns h (Init pe page)
         ≡ found PageInUse (if_so (is_some (v.node page) || v.null page) page) None
-    init_is = rules.by_kind h (Init pe page)
-        ∙ ap (λ o. found PageInUse o None) (rules.used_init h v.node v.null pe page t.nodes t.null)
+    init_is = rules.by_kind Patterns h (Init pe page)
+        ∙ ap (λ o. found PageInUse o None) (rules.on_pages.init h v pe page t.nodes t.null)
 
     pub init_used : (is_some (v.node page) || v.null page) ≡ true
         → broken heading Patterns h (Init pe page) ≡ Some (record { rule = PageInUse; at = page })
@@ -60,11 +59,11 @@ module _ (heading : Heading) (rules : Rules heading) (h : List Event) (v : View)
     init_free k = init_is ∙ passes PageInUse _ None (where_false (is_some (v.node page) || v.null page) page k)
 
     pub init_limit : v.known page ≡ false → 16384 ≤ v.pages → limit_of h (Init pe page) ≡ Some Pages
-    init_limit k l = rules.limit_init h pe page v.pages (v.known page) (t.known page) t.pages
+    init_limit k l = rules.limits.init h pe page v.pages (v.known page) (t.known page) t.pages
         ∙ where_true (not (v.known page) && nat_le 16384 v.pages) Pages (rw (k, le-leb 16384 v.pages l) refl)
 
     pub init_no_limit : ((v.known page ≡ false) × (16384 ≤ v.pages) → ⊥) → limit_of h (Init pe page) ≡ None
-    init_no_limit k = rules.limit_init h pe page v.pages (v.known page) (t.known page) t.pages
+    init_no_limit k = rules.limits.init h pe page v.pages (v.known page) (t.known page) t.pages
         ∙ where_false (not (v.known page) && nat_le 16384 v.pages) Pages (by (v.known page) (nat_le 16384 v.pages) refl refl)
       where
         by : (x y : Bool) → v.known page ≡ x → nat_le 16384 v.pages ≡ y → (not x && y) ≡ false
@@ -78,7 +77,7 @@ module _ (heading : Heading) (rules : Rules heading) (h : List Event) (v : View)
     null_is : broken heading Patterns h (Null pe page)
         ≡ found WrongWorld (if_so (kind_in_world heading.world S2) 0)
         (found PageInUse (page_in_use heading Patterns (notes heading h) (Null pe page)) None)
-    null_is = rules.by_kind h (Null pe page)
+    null_is = rules.by_kind Patterns h (Null pe page)
 
     pub null_wrong : kind_in_world heading.world S2 ≡ true
         → broken heading Patterns h (Null pe page) ≡ Some (record { rule = WrongWorld; at = 0 })
@@ -105,12 +104,12 @@ module _ (heading : Heading) (rules : Rules heading) (h : List Event) (v : View)
         (found BadKind (bad_kind heading Patterns (notes heading h) (Root pe kind lock page))
         (found GlobalUser (global_user heading Patterns (notes heading h) (Root pe kind lock page))
         (found PageInUse (least (filter (λ p. not (v.fresh p)) (root_pages heading.world kind page))) None))))
-    root_is = rules.by_kind h (Root pe kind lock page)
+    root_is = rules.by_kind Patterns h (Root pe kind lock page)
         ∙ ap (λ o. found WrongWorld (if_so (not (kind_in_world heading.world kind)) 0)
         (found NotFresh (not_fresh heading Patterns (notes heading h) (Root pe kind lock page))
         (found BadKind (bad_kind heading Patterns (notes heading h) (Root pe kind lock page))
         (found GlobalUser (global_user heading Patterns (notes heading h) (Root pe kind lock page))
-        (found PageInUse o None))))) (rules.used_root h v.fresh pe page kind lock t.fresh)
+        (found PageInUse o None))))) (rules.on_pages.root h v pe page kind lock t.fresh)
 
   -- ---- write
 
@@ -124,7 +123,7 @@ module _ (heading : Heading) (rules : Rules heading) (h : List Event) (v : View)
         (found RewrittenFresh (rewritten_fresh heading Patterns (notes heading h) (Write pe place value))
         (found BadKind (bad_kind heading Patterns (notes heading h) (Write pe place value))
         (found GlobalUser (global_user heading Patterns (notes heading h) (Write pe place value)) None)))))))
-    write_is = rules.by_kind h (Write pe place value)
+    write_is = rules.by_kind Patterns h (Write pe place value)
 
 -- ---- pages to attach
 

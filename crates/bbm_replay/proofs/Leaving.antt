@@ -7,11 +7,10 @@ use Rattle.bbm_rules.specs.Claims.Trust.{Patterns}
 use Rattle.bbm_rules.specs.Places.{page_of}
 use Rattle.bbm_rules.specs.Prelude.{Heading, Event, Unroot}
 use Rattle.bbm_rules.specs.Tree.{Node}
-use Rattle.bbm_replay_trees.specs.Told.{kept}
+use Rattle.bbm_replay_trees.specs.Told.{View, kept}
 use Rattle.bbm_replay.specs.ReplayLaws.{Laws}
 use Rattle.bbm_replay.proofs.Moves.{Leaves}
 use Rattle.bbm_replay.specs.ReplayTold.{Told}
-use Rattle.bbm_replay.specs.View.{View}
 use Rattle.bbm_replay.proofs.Aparts.{apart_leaves}
 use Rattle.bbm_replay.proofs.Entries.{carried, fit_more, keeps_more}
 use Rattle.bbm_replay.proofs.Quiet.{tracked_stay}
@@ -32,16 +31,16 @@ module _ (heading : Heading) (laws : Laws heading) (h : List Event) (old new : V
   after_unroot fits unbroken move =
       let e = Unroot pe page in
       let sound = keeps_more heading h e t.kept unbroken in
-      let proper = laws.nodes.proper t.proper in
+      let proper = laws.proper t.proper in
       let rest = tracked_stay heading laws h old new t e refl move.tracking in
       record {
         proper = t.proper;
         kept = sound;
         fit = fit_more heading h e t.fit fits;
-        values = λ a. move.value a ∙ laws.pages.same_values h old.value e refl t.values a;
-        nodes = laws.nodes.unroot h old.node new.node pe page proper sound t.nodes move.node;
-        fresh = λ p. move.roles.fresh p ∙ laws.pages.fresh_others h old.fresh e sound refl refl refl t.fresh p;
-        null = λ p. move.roles.null p ∙ laws.pages.same_null h old.null e refl t.null p;
+        values = λ a. move.value a ∙ laws.values.others h old e refl t.values a;
+        nodes = laws.nodes.unroot h old new pe page proper sound t.nodes move.node;
+        fresh = λ p. move.roles.fresh p ∙ laws.fresh.others h old e sound refl refl refl t.fresh p;
+        null = λ p. move.roles.null p ∙ laws.pages.same_null h old e refl t.null p;
         known = rest.0;
         pages = rest.1;
         tracked = rest.2;

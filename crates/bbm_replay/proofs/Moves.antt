@@ -14,8 +14,7 @@ use Rattle.bbm_rules.specs.Places.{page_of}
 use Rattle.bbm_rules.specs.Prelude.{Barrier, Event, Dmb, Isb, Msr, Lock, Unlock}
 use Rattle.bbm_rules.specs.Tree.{Node}
 use Rattle.bbm_tree_index.specs.Paths.{Attached}
-use Rattle.bbm_replay_trees.specs.Told.{kept}
-use Rattle.bbm_replay.specs.View.{View}
+use Rattle.bbm_replay_trees.specs.Told.{View, kept}
 
 -- the same waits
 abbrev pub Alike : Pends → Pends → Type 0

@@ -9,10 +9,10 @@ use Rattle.bbm_rules.specs.Claims.Trust.{Patterns}
 use Rattle.bbm_rules.specs.Places.{page_of}
 use Rattle.bbm_rules.specs.Prelude.{Heading, Event, Init, Null}
 use Rattle.bbm_rules.specs.Tree.{Node}
+use Rattle.bbm_replay_trees.specs.Told.{View}
 use Rattle.bbm_replay.specs.ReplayLaws.{Laws}
 use Rattle.bbm_replay.proofs.Moves.{Begins, Nullifies}
 use Rattle.bbm_replay.specs.ReplayTold.{Told}
-use Rattle.bbm_replay.specs.View.{View}
 use Rattle.bbm_replay.proofs.Aparts.{apart_begins, apart_nullifies}
 use Rattle.bbm_replay.proofs.Entries.{carried, fit_more, keeps_more}
 use Rattle.bbm_replay.proofs.Quiet.{nodes_stay, tracked_stay}
@@ -35,17 +35,17 @@ module _ (heading : Heading) (laws : Laws heading) (h : List Event) (old new : V
   after_init fits unbroken move =
       let e = Init pe page in
       let kept = keeps_more heading h e t.kept unbroken in
-      let proper = laws.nodes.proper t.proper in
+      let proper = laws.proper t.proper in
       record {
         proper = t.proper;
         kept = kept;
         fit = fit_more heading h e t.fit fits;
-        values = laws.pages.value_init h old.value new.value pe page t.values move.value;
+        values = laws.values.init h old new pe page t.values move.value;
         nodes = nodes_stay heading laws h old new t e kept refl move.nodes;
-        fresh = laws.pages.fresh_init h old.fresh new.fresh pe page kept t.fresh move.fresh;
-        null = λ p. move.null p ∙ laws.pages.same_null h old.null e refl t.null p;
-        known = laws.pages.known h old.known new.known pe page t.known move.known;
-        pages = move.pages ∙ sym (laws.pages.count h old.known old.pages pe page t.known t.pages);
+        fresh = laws.fresh.init h old new pe page kept t.fresh move.fresh;
+        null = λ p. move.null p ∙ laws.pages.same_null h old e refl t.null p;
+        known = laws.pages.known h old new pe page t.known move.known;
+        pages = move.pages ∙ sym (laws.pages.count h old pe page t.known t.pages);
         tracked = λ p. move.tracked p ∙ ap (λ b. p == page || b) (t.tracked p) ∙ sym (move.known p);
         apart = apart_begins old new page t.apart move;
         entries = λ n a is.
@@ -63,16 +63,16 @@ module _ (heading : Heading) (laws : Laws heading) (h : List Event) (old new : V
   after_null fits unbroken move =
       let e = Null pe page in
       let kept = keeps_more heading h e t.kept unbroken in
-      let proper = laws.nodes.proper t.proper in
+      let proper = laws.proper t.proper in
       let rest = tracked_stay heading laws h old new t e refl move.tracking in
       record {
         proper = t.proper;
         kept = kept;
         fit = fit_more heading h e t.fit fits;
-        values = λ a. move.map.value a ∙ laws.pages.same_values h old.value e refl t.values a;
+        values = λ a. move.map.value a ∙ laws.values.others h old e refl t.values a;
         nodes = nodes_stay heading laws h old new t e kept refl move.nodes;
-        fresh = laws.pages.fresh_null h old.fresh new.fresh pe page kept t.fresh move.fresh;
-        null = laws.pages.null h old.null new.null pe page t.null move.null;
+        fresh = laws.fresh.null h old new pe page kept t.fresh move.fresh;
+        null = laws.pages.null h old new pe page t.null move.null;
         known = rest.0;
         pages = rest.1;
         tracked = rest.2;

@@ -11,12 +11,11 @@ use Rattle.bbm_rules.specs.Prelude.{Heading, Event, Init, Null, Root, Unroot, Wr
 use Rattle.bbm_rules.specs.Prelude.{Unlock}
 use Rattle.bbm_replay_entries.specs.EntryEvents.{touches}
 use Rattle.bbm_replay_trees.specs.TreeEvents.{leaves_trees}
-use Rattle.bbm_replay_trees.specs.Told.{SameKnown, SameNull, SameValues}
+use Rattle.bbm_replay_trees.specs.Told.{SameKnown, SameNull, SameValues, View}
 use Rattle.bbm_replay_trees.specs.Told as told
 use Rattle.bbm_replay.specs.ReplayLaws.{Laws}
 use Rattle.bbm_replay.proofs.Moves.{Same, SameTracked, is_quiet}
-use Rattle.bbm_replay.specs.ReplayTold.{Told}
-use Rattle.bbm_replay.specs.View.{View, state_of, waiting}
+use Rattle.bbm_replay.specs.ReplayTold.{Told, state_of, waiting}
 use Rattle.bbm_replay.proofs.Aparts.{apart_same}
 use Rattle.bbm_replay.proofs.Entries.{carried, entry_same, fit_more, keeps_more, state_same}
 
@@ -62,7 +61,7 @@ module _ (heading : Heading) (laws : Laws heading) where
       → SameTracked old new
       → SameKnown (e ∷ h) new.known × (new.pages ≡ length (initialised (e ∷ h))) × ((p : ℕ) → new.tracked p ≡ new.known p)
   tracked_stay h old new t e k s = (
-    (λ p. s.known p ∙ laws.pages.same_known h old.known e k t.known p),
+    (λ p. s.known p ∙ laws.pages.same_known h old e k t.known p),
     s.pages ∙ t.pages ∙ sym (laws.pages.same_count h e k),
     (λ p. s.tracked p ∙ t.tracked p ∙ sym (s.known p)),
   )
@@ -72,7 +71,7 @@ module _ (heading : Heading) (laws : Laws heading) where
       → keeps heading Patterns (e ∷ h) ≡ true → leaves_trees e ≡ true → ((p : ℕ) → new.node p ≡ old.node p)
       → told.SameNodes heading (e ∷ h) new.node
   nodes_stay h old new t e kept trees same p =
-      same p ∙ laws.nodes.others h old.node e (laws.nodes.proper t.proper) kept trees t.nodes p
+      same p ∙ laws.nodes.others h old e (laws.proper t.proper) kept trees t.nodes p
 
   pub after_quiet : (h : List Event) (old new : View) → Told heading h old → (e : Event) → is_quiet e ≡ true
       → fits_heading heading e ≡ true → broken heading Patterns h e ≡ None → Same old new → Told heading (e ∷ h) new
@@ -84,12 +83,12 @@ module _ (heading : Heading) (laws : Laws heading) where
         proper = t.proper;
         kept = kept;
         fit = fit_more heading h e t.fit fits;
-        values = λ a. same.map.value a ∙ laws.pages.same_values h old.value e plain.values t.values a;
+        values = λ a. same.map.value a ∙ laws.values.others h old e plain.values t.values a;
         nodes = nodes_stay h old new t e kept plain.trees same.nodes;
         fresh = λ p. same.roles.fresh p
-            ∙ laws.pages.fresh_others h old.fresh e kept plain.inits plain.nulls
+            ∙ laws.fresh.others h old e kept plain.inits plain.nulls
             (plain.unattached heading (told.notes heading h)) t.fresh p;
-        null = λ p. same.roles.null p ∙ laws.pages.same_null h old.null e plain.nulls t.null p;
+        null = λ p. same.roles.null p ∙ laws.pages.same_null h old e plain.nulls t.null p;
         known = rest.0;
         pages = rest.1;
         tracked = rest.2;

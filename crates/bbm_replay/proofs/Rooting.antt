@@ -11,7 +11,6 @@ use Rattle.bbm_rules.specs.Lists.{if_so, least}
 use Rattle.bbm_rules.specs.Prelude.{Kind, kind_in_world, Heading, Event, Root}
 use Rattle.bbm_events.specs.Fits.{fits_heading, is_pe, is_root_lock, is_root_page}
 use Rattle.bbm_rules.specs.Roots.{page_count, pages_from, root_pages, roots_of}
-use Rattle.bbm_replay.specs.View.{View}
 use Rattle.bbm_rules.specs.Rules.{bad_kind, global_user, not_fresh}
 use Rattle.bbm_rules.specs.Tree.{Node, nodes_of_root}
 use Rattle.bbm_rules.specs.declared.rule.Rule.TheVariants.{WrongWorld, NotFresh, BadKind, GlobalUser, PageInUse}
@@ -25,7 +24,7 @@ use Rattle.bbm_tree_index.specs.declared.fault.TreeFault.{TreeFault}
 use Rattle.bbm_tree_index.specs.declared.fault.TreeFault.TheVariants as tree
 use Rattle.bbm_replay_roots.specs.RootStateStands as roots
 use Rattle.bbm_replay_roots.specs.declared.state.RootState.{RootState}
-use Rattle.bbm_replay_trees.specs.Told.{notes}
+use Rattle.bbm_replay_trees.specs.Told.{View, notes}
 use Rattle.bbm_replay.specs.ReplayFaults.{step_fault}
 use Rattle.bbm_replay.specs.ReplayLaws.{Laws}
 use Rattle.bbm_replay.proofs.Moves.{Attaches, SameMap, SameTracked}
@@ -64,8 +63,8 @@ module _ (laws : (heading : Heading) → Laws heading) (rules : (heading : Headi
           → Verdict r (not_fresh heading Patterns (notes heading h) e) (bad_kind heading Patterns (notes heading h) e)
           (global_user heading Patterns (notes heading h) e)
       verdict_here r k = verdict (fresh_in old.index) (value_at old.map) (starts heading kind page) heading h true e
-          ((rules heading).judging_root h (fresh_in old.index) (value_at old.map) pe page kind lock
-          ((laws heading).nodes.proper s.told.proper) s.told.fit s.told.fresh s.told.values) r
+          ((rules heading).judging.root h (view_of old.map old.index) pe page kind lock
+          ((laws heading).proper s.told.proper) s.told.fit s.told.fresh s.told.values) r
           (subst (λ (x : Heading). index.Judges (fresh_in old.index) (value_at old.map) (starts x kind page) {A = Unit {0}} true r) s.index_header k)
 
     pub root_fault : (fault : TreeFault)

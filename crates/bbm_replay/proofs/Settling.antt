@@ -1,8 +1,7 @@
 -- A DSB at the parts.
-use Rattle.std.proofs.Common.{◌≡◌, ℕ, Bool, true, false, cond, ◌&&◌, List, [], ◌∷◌, Option, Some, None, is_some, nat_eq}
+use Rattle.std.proofs.Common.{◌≡◌, ℕ, Bool, true, false, ◌&&◌, List, ◌∷◌, Option, Some, None, is_some, nat_eq}
 use Rattle.std.proofs.Common.{Ok, refl, sym, ◌∙◌, ap, subst}
 use Rattle.bbm_barriers.specs.Options.{is_non}
-use Rattle.bbm_descriptor.specs.Descriptor.{core_of}
 use Rattle.bbm_descriptor.specs.declared.desc.Core.{Core}
 use Rattle.bbm_descriptor.specs.declared.desc.Core.TheVariants.{Table, Leaf}
 use Rattle.bbm_entry_state.specs.EntryCalls.{Completed, Published}
@@ -18,59 +17,21 @@ use Rattle.bbm_place_map.specs.declared.map.PlaceMap.{PlaceMap}
 use Rattle.bbm_rules.specs.Broken.{broken}
 use Rattle.bbm_rules.specs.Claims.Trust.{Patterns}
 use Rattle.bbm_rules.specs.Limits.{limit_of}
-use Rattle.bbm_rules.specs.Lists.{every}
 use Rattle.bbm_rules.specs.Places.{page_of}
 use Rattle.bbm_rules.specs.Prelude.{Barrier, Kind, Heading, Event, Dsb}
-use Rattle.bbm_rules.specs.Tree.{Above, Node}
-use Rattle.bbm_tree_index.specs.HeldCores.{core_with, is_held}
 use Rattle.bbm_replay_roots.specs.RootStateStands as roots
-use Rattle.bbm_replay_trees.specs.Told.{is_held_by, kept, next_in}
+use Rattle.bbm_replay_trees.specs.Told.{View, core_at, is_held_by, next_in}
 use Rattle.bbm_replay.specs.ReplayLaws.{Laws}
 use Rattle.bbm_replay.proofs.Moves.{Completes, Hears, Leaves}
 use Rattle.bbm_replay.specs.ReplayStanding.{MayMeet, Meets, SameFrame, Stands, view_of}
-use Rattle.bbm_replay.specs.View.{View, core_at}
 use Rattle.bbm_replay.specs.declared.parts.ReplayState.{ReplayState}
 use Rattle.bbm_replay.proofs.DsbMoves.{after_dsb, all_held, whole_stays}
 use Rattle.bbm_replay.proofs.Framing.{stands_next}
-use Rattle.bbm_replay.proofs.Growing.{core_whole}
 use Rattle.bbm_replay.proofs.Meeting.{fits_all}
-
--- the core of a place, as the index reads it
-pub core_with_is : (m : Option Marks) (kind : Kind) (level v : ℕ)
-    → core_with m kind level v ≡ core_in (state_from (core_of kind level v) m)
-core_with_is None kind level v = sym (core_whole (core_of kind level v))
-core_with_is (Some marks) kind level v = by (core_of kind level v)
-  where
-    by : (o : Option Core) → Some marks.core ≡ core_in (state_from o (Some marks))
-    by None = refl
-    by (Some core) = refl
-
-every_alike : (f g : Above → Bool) (xs : List Above) → ((a : Above) → f a ≡ g a) → every f xs ≡ every g xs
-every_alike f g [] same = refl
-every_alike f g (x ∷ xs) same = ap (λ b. b && every f xs) (same x) ∙ ap (λ b. g x && b) (every_alike f g xs same)
 
 -- what still holds something in a map
 abbrev pub holding : View → Kind → ℕ → ℕ → Bool
 holding v kind level a = is_some (core_at v kind level a)
-
-pub held_is : (p : ReplayState) (map : PlaceMap) (m : Node) → is_held map m ≡ is_held_by (holding (view_of map p.index)) m
-held_is p map m = every_alike (λ a. is_some (core_with (marks_at map a.place) m.kind a.level (value_at map a.place)))
-    (λ a. holding (view_of map p.index) m.kind a.level a.place) m.above
-    (λ a. ap (λ (o : Option Core). is_some o) (core_with_is (marks_at map a.place) m.kind a.level (value_at map a.place)))
-
-pub leaves_alike : (old new : View) (k k' : Node → Bool) → ((n : Node) → k n ≡ k' n) → Leaves old new k → Leaves old new k'
-leaves_alike old new k k' same move = record {
-  node = λ p. move.node p ∙ by (old.node p);
-  value = move.value;
-  marks = move.marks;
-  pends = move.pends;
-  roles = move.roles;
-  tracking = move.tracking;
-}
-  where
-    by : (o : Option Node) → kept k o ≡ kept k' o
-    by None = refl
-    by (Some n) = ap (λ b. cond b (Some n) None) (same n)
 
 -- a place that has lost no table still is broken
 pub not_lost : (m m' : Option Marks) (next : ℕ) → loses_table m m' ≡ false → next_in (core_in (state_from None m)) ≡ Some next

@@ -15,7 +15,6 @@ use Rattle.bbm_rules.specs.declared.step_fault.StepFault.TheVariants.{Broken, Li
 use Rattle.bbm_place_map.specs.Map.{value_at}
 use Rattle.bbm_tree_index.specs.Index.{fresh_in, known_in, node_in, null_in, pages_in}
 use Rattle.bbm_replay_roots.specs.RootStateStands as roots
-use Rattle.bbm_replay_roots.specs.RootStateStands.{concerns_roots}
 use Rattle.bbm_replay_roots.specs.declared.state.RootState.{RootState}
 use Rattle.bbm_replay_trees.specs.Told.{is_at}
 use Rattle.bbm_rules.specs.Tree.{Node}
@@ -32,18 +31,13 @@ use Rattle.bbm_replay.proofs.Judging.{init_free, init_limit, init_no_limit, init
 use Rattle.bbm_replay.proofs.Meeting.{fits_all, frugal_else}
 use Rattle.bbm_replay.proofs.PageMoves.{after_init, after_null}
 
--- the law of the roots for an event that doesn't concern them
-abbrev pub Others : Type 0
-Others = (state : RootState) (heading : Heading) (h : List Event) (e : Event) → roots.Stands state heading h
-    → concerns_roots e ≡ false → broken heading Patterns h e ≡ None → roots.Stands state heading (e ∷ h)
-
 -- an event that breaks a rule
 pub meets_broken : (p : ReplayState) (e : Event) (rule : Rule) (at : ℕ)
     → ((heading : Heading) (h : List Event) → Stands p heading h
     → broken heading Patterns h e ≡ Some (record { rule = rule; at = at })) → Meets p p e (Err (Broken rule at))
 meets_broken p e rule at k = record { judged = k; taken = tt; unchanged = λ heading h s. s; frugal = tt }
 
-module _ (laws : (heading : Heading) → Laws heading) (rules : (heading : Heading) → Rules heading) (others : Others)
+module _ (laws : (heading : Heading) → Laws heading) (rules : (heading : Heading) → Rules heading) (others : roots.OthersStand)
     (old new : ReplayState) (pe page : ℕ) where
   module _ (m : MayMeet old (Init pe page)) where
     pub init_refused : (is_some (node_in old.index page) || null_in old.index page) ≡ true
@@ -109,19 +103,19 @@ module _ (laws : (heading : Heading) → Laws heading) (rules : (heading : Headi
       pub null_unfresh : fresh_in old.index page ≡ false → Meets old old (Null pe page) (Err (Broken PageInUse page))
       null_unfresh k = meets_broken old (Null pe page) PageInUse page
           (λ heading h s. null_used heading (rules heading) h (view_of old.map old.index) s.told pe page (right heading s.header)
-          ((rules heading).null_unfresh h (fresh_in old.index) pe page s.told.fresh k))
+          ((rules heading).on_pages.null_unfresh h (view_of old.map old.index) pe page s.told.fresh k))
 
       pub null_nonzero : ((a : ℕ) × (is_at page a ≡ true) × (value_at old.map a ≡ 0 → ⊥))
           → Meets old old (Null pe page) (Err (Broken PageInUse page))
       null_nonzero k = meets_broken old (Null pe page) PageInUse page
           (λ heading h s. null_used heading (rules heading) h (view_of old.map old.index) s.told pe page (right heading s.header)
-          ((rules heading).null_used h (value_at old.map) pe page k.0 s.told.values k.1 k.2))
+          ((rules heading).on_pages.null_used h (view_of old.map old.index) pe page k.0 s.told.values k.1 k.2))
 
       pub null_ok : fresh_in old.index page ≡ true → ((a : ℕ) → is_at page a ≡ true → value_at old.map a ≡ 0)
           → SameFrame old new → new.roots ≡ old.roots
           → Nullifies (view_of old.map old.index) (view_of new.map new.index) page → Meets old new (Null pe page) (Ok tt)
       null_ok fresh zero frame same_roots move = record {
-        judged = λ heading h s. (unbroken heading h s, (rules heading).no_limit h (Null pe page) refl);
+        judged = λ heading h s. (unbroken heading h s, (rules heading).limits.others h (Null pe page) refl);
         taken = λ heading h s. stands_next old new frame heading h (Null pe page ∷ h) s
             (after_null heading (laws heading) h (view_of old.map old.index) (view_of new.map new.index) s.told pe page
             (fits_all old (Null pe page) m heading h s) (unbroken heading h s) move)
@@ -134,7 +128,7 @@ module _ (laws : (heading : Heading) → Laws heading) (rules : (heading : Headi
           unbroken : (heading : Heading) (h : List Event) → Stands old heading h → broken heading Patterns h (Null pe page) ≡ None
           unbroken heading h s = null_free heading (rules heading) h (view_of old.map old.index) s.told pe page
               (right heading s.header)
-              ((rules heading).null_unused h (fresh_in old.index) (value_at old.map) pe page s.told.fit s.told.fresh s.told.values fresh zero)
+              ((rules heading).on_pages.null_unused h (view_of old.map old.index) pe page s.told.fit s.told.fresh s.told.values fresh zero)
 
 pub free_parts : (o : Option Node) (b : Bool) → (is_some o || b) ≡ false → (o ≡ None) × (b ≡ false)
 free_parts None b k = (refl, k)

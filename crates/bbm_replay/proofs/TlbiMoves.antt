@@ -18,11 +18,10 @@ use Rattle.bbm_rules.specs.Prelude.{Heading, Event, Tlbi, TlbiOp}
 use Rattle.bbm_rules.specs.Reach.{reaches}
 use Rattle.bbm_rules.specs.Tree.{Node}
 use Rattle.bbm_replay_entries.specs.EntryStands.{EntryStands}
-use Rattle.bbm_replay_trees.specs.Told.{notes}
+use Rattle.bbm_replay_trees.specs.Told.{View, notes}
 use Rattle.bbm_replay.specs.ReplayLaws.{Laws}
 use Rattle.bbm_replay.proofs.Moves.{Issues}
-use Rattle.bbm_replay.specs.ReplayTold.{Told}
-use Rattle.bbm_replay.specs.View.{View, state_of, waiting}
+use Rattle.bbm_replay.specs.ReplayTold.{Told, state_of, waiting}
 use Rattle.bbm_replay.proofs.DsbMoves.{broken_marks, same_state}
 use Rattle.bbm_replay.proofs.Aparts.{apart_same}
 use Rattle.bbm_replay.proofs.Entries.{entry_same, fit_more, keeps_more, some_pe, state_same}
@@ -48,7 +47,7 @@ module _ (heading : Heading) (laws : Laws heading) (h : List Event) (old new : V
         let whole : is_broken state ≡ false = broken_marks (core_of n.kind n.level (old.value a)) (old.marks a)
         ∙ ap (λ (m : Option Marks). is_some m) k in
         entry_same heading laws (e ∷ h) n.kind n.level a state (state_of new n.kind n.level a) (waiting old a) (waiting new a)
-        (laws.entries.tlbi_idle h n.kind n.level a q op xt state (waiting old a) (some_pe heading laws h old t) (inl whole) (t.entries n a is))
+        (laws.tlbi.idle h n.kind n.level a q op xt state (waiting old a) (some_pe heading laws h old t) (inl whole) (t.entries n a is))
         same_new (λ p. move.others p a (off (nat_eq p q) (old.marks a) k))
       where
         off : (b : Bool) (m : Option Marks) → m ≡ None → (b && is_some m) ≡ false
@@ -57,7 +56,7 @@ module _ (heading : Heading) (laws : Laws heading) (h : List Event) (old new : V
     entry (Some m) k =
         let marked : is_some (old.marks a) ≡ true = ap (λ (m : Option Marks). is_some m) k in
         subst (λ (x : EntryState). EntryStands heading (e ∷ h) n.kind n.level a x (waiting new a)) same_new
-        (laws.entries.tlbi h n.kind n.level a q op xt reach (cover_at heading Patterns (notes heading h) e a) state
+        (laws.tlbi.call h n.kind n.level a q op xt reach (cover_at heading Patterns (notes heading h) e a) state
         (waiting old a) (waiting new a) (some_pe heading laws h old t) reached refl
         (subst (λ (x : EntryState). Noted x (old.pends q a) reach (operation op).broadcast
         (cover_at heading Patterns (notes heading h) e a) (new.pends q a))
@@ -67,16 +66,16 @@ module _ (heading : Heading) (laws : Laws heading) (h : List Event) (old new : V
   pub after_tlbi : fits_heading heading e ≡ true → broken heading Patterns h e ≡ None → Told heading (e ∷ h) new
   after_tlbi fits unbroken =
       let sound = keeps_more heading h e t.kept unbroken in
-      let proper = laws.nodes.proper t.proper in
+      let proper = laws.proper t.proper in
       let rest = tracked_stay heading laws h old new t e refl move.tracking in
       record {
         proper = t.proper;
         kept = sound;
         fit = fit_more heading h e t.fit fits;
-        values = λ a. move.value a ∙ laws.pages.same_values h old.value e refl t.values a;
+        values = λ a. move.value a ∙ laws.values.others h old e refl t.values a;
         nodes = nodes_stay heading laws h old new t e sound refl move.nodes;
-        fresh = λ p. move.roles.fresh p ∙ laws.pages.fresh_others h old.fresh e sound refl refl refl t.fresh p;
-        null = λ p. move.roles.null p ∙ laws.pages.same_null h old.null e refl t.null p;
+        fresh = λ p. move.roles.fresh p ∙ laws.fresh.others h old e sound refl refl refl t.fresh p;
+        null = λ p. move.roles.null p ∙ laws.pages.same_null h old e refl t.null p;
         known = rest.0;
         pages = rest.1;
         tracked = rest.2;

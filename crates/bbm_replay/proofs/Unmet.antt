@@ -15,7 +15,7 @@ use Rattle.bbm_entry_state.specs.declared.state.EntryState.TheVariants.{Clean, L
 use Rattle.bbm_events.specs.Heading.{Heading}
 use Rattle.std.specs.HashMap.{get}
 use Rattle.std.specs.Option.{option_map}
-use Rattle.bbm_place_map.specs.Map.{marks_at, value_at}
+use Rattle.bbm_place_map.specs.Map.{marks_at}
 use Rattle.bbm_place_map.specs.Parts.{marks_in}
 use Rattle.bbm_place_map.specs.Sound.{at_index}
 use Rattle.bbm_place_map.specs.declared.map.PlaceMap.{PlaceMap}
@@ -43,16 +43,16 @@ use Rattle.bbm_tree_index.specs.HeldCores.{core_at}
 use Rattle.bbm_tree_index.specs.Index.{node_in}
 use Rattle.bbm_tree_index.specs.declared.index.TreeIndex.{TreeIndex}
 use Rattle.bbm_replay_roots.specs.declared.state.RootState.{RootState}
-use Rattle.bbm_replay_trees.specs.Told.{SameCores, SameNodes, notes}
+use Rattle.bbm_replay_trees.specs.NodeLaws.{Starts}
+use Rattle.bbm_replay_trees.specs.Told.{SameCores, notes}
 use Rattle.bbm_replay.specs.Covering.{MayBeIssued}
 use Rattle.bbm_replay_roots.specs.declared.named.NamedTlbi.{NamedTlbi}
 use Rattle.bbm_replay.specs.ReplayLaws.{Laws}
 use Rattle.bbm_replay.specs.OnePage.{IsPage, MetFromAll, NamesOne, covers_kind}
 use Rattle.bbm_replay.specs.ReplayStanding.{view_of}
 use Rattle.bbm_replay.proofs.Descents.{Top, away, foreign, lies_in, top}
-use Rattle.bbm_replay.proofs.Settling.{core_with_is}
 use Rattle.bbm_replay.proofs.Writing.{cores}
-use Rattle.bbm_lemmas.proofs.Bools.{and_none, or_nothing}
+use Rattle.bbm_lemmas.proofs.Bools.{or_nothing}
 
 -- a broken place is an address of a descriptor
 pub broken_eighth : (map : PlaceMap) (a : ℕ) → is_some (marks_at map a) ≡ true → a % 8 ≡ 0
@@ -111,14 +111,11 @@ noted_none state p reach broadcast b c q = sym (by c)
     by Second = or_nothing (same_bool broadcast b) (pe_in reach q) (waits p b Second q)
     by Full = or_nothing (same_bool broadcast b) (pe_in reach q) (waits p b Full q)
 
-module _ (heading : Heading) (laws : Laws heading) (h : List Event)
-    (starts : (node : ℕ → Option Node) (p : ℕ) (m : Node) → SameNodes heading h node → node p ≡ Some m → m.above ≡ []
-    → (r : Declared) × (root_at h r.page ≡ Some r) × (m.root ≡ r.page) × (m.kind ≡ r.kind)
-    × Contains (root_pages heading.world r.kind r.page) m.page)
-    (ev : events_of (notes heading h) ≡ h) (map : PlaceMap) (index : TreeIndex) (state : RootState) (pe : ℕ) (op : TlbiOp)
-    (xt : ℕ) (named : NamedTlbi) (m : MayBeIssued heading h map index state pe op xt named) where
+module _ (heading : Heading) (h : List Event) (ev : events_of (notes heading h) ≡ h) (map : PlaceMap) (index : TreeIndex)
+    (state : RootState) (pe : ℕ) (op : TlbiOp) (xt : ℕ) (named : NamedTlbi)
+    (m : MayBeIssued heading h map index state pe op xt named) where
   -- a place isn't covered where the scope covers no view of its kind and region
-  cover_none : (n : Node) (a : ℕ) → node_of heading Patterns (notes heading h) (page_of a) ≡ Some n
+  pub cover_none : (n : Node) (a : ℕ) → node_of heading Patterns (notes heading h) (page_of a) ≡ Some n
       → ((v : PlaceView) (own : Option ℕ) → v.kind ≡ n.kind → v.region ≡ region_of n a → scopes.cover_of named.scope own v ≡ NoCover)
       → cover_at heading Patterns (notes heading h) (Tlbi pe op xt) a ≡ NoCover
   cover_none n a node none =
@@ -149,21 +146,25 @@ module _ (heading : Heading) (laws : Laws heading) (h : List Event)
       by None = refl
       by (Some v) = none (told n v) (vmid_of heading (events_of (notes heading h)) pe) refl refl
 
+module _ (heading : Heading) (laws : Laws heading) (h : List Event)
+    (starts : Starts heading)
+    (ev : events_of (notes heading h) ≡ h) (map : PlaceMap) (index : TreeIndex) (state : RootState) (pe : ℕ) (op : TlbiOp)
+    (xt : ℕ) (named : NamedTlbi) (m : MayBeIssued heading h map index state pe op xt named) where
   module _ (sound : IsSound index) (at : ℕ) (one : NamesOne named.scope at) (Has : ℕ → Type 0)
       (met : (r : Declared) → root_at h r.page ≡ Some r → covers_kind named.scope.family r.kind ≡ true
       → MetFromAll (node_in index) (core_at map) at r.page (page_count heading.world r.kind) Has) where
     same_cores : SameCores heading h (core_at map)
-    same_cores n a is = core_with_is (marks_at map a) n.kind n.level (value_at map a) ∙ cores heading h (view_of map index) m.told n a is
+    same_cores = cores heading h (view_of map index) m.told
 
     is_page : (p : ℕ) (n : Node) → node_in index p ≡ Some n → IsPage p
     is_page p n is = sound.pages p (sym (m.told.tracked p) ∙ m.told.apart.node_tracked p n is)
 
     found_top : (n : Node) (a : ℕ) → covers_kind named.scope.family n.kind ≡ true
-        → (t : Top heading laws h (node_in index) (core_at map) m.told.kept m.told.fit m.told.nodes same_cores at a n 0)
+        → (t : Top heading laws h (view_of map index) m.told.kept m.told.fit m.told.nodes same_cores at a n 0)
         → n.level < 4 → Has a
     found_top n a covers t low =
-        let own = laws.nodes.own h (node_in index) t.page t.start m.told.nodes t.is_start in
-        let st = starts (node_in index) t.page t.start m.told.nodes t.is_start t.first in
+        let own = laws.neighbours.own h (view_of map index) t.page t.start m.told.nodes t.is_start in
+        let st = starts h (view_of map index) t.page t.start m.told.nodes t.is_start t.first in
         let r = st.0 in
         let part = part_of heading r.kind r.page t.start.page st.4 in
         let here : t.page ≡ r.page + 4096 * part.0 = sym own.0 ∙ part.2 in
@@ -188,26 +189,26 @@ module _ (heading : Heading) (laws : Laws heading) (h : List Event)
             node = sym (m.told.nodes (page_of a)) ∙ is
 
             low : n.level < 4
-            low = (laws.nodes.own h (node_in index) (page_of a) n m.told.nodes is).1
+            low = (laws.neighbours.own h (view_of map index) (page_of a) n m.told.nodes is).1
 
             width : 1 ≤ input_pages n.level
             width = some_width n.level low
 
             inside : (b k : Bool) → lies_in at (region_of n a) ≡ b → covers_kind named.scope.family n.kind ≡ k
                 → cover_at heading Patterns (notes heading h) (Tlbi pe op xt) a ≡ NoCover
-            inside false k e f = cover_none n a node (λ v own kind region. away named.scope at one own v
+            inside false k e f = cover_none heading h ev map index state pe op xt named m n a node (λ v own kind region. away named.scope at one own v
                 (subst (λ x. x.lo ≤ x.hi) (sym region) (ends (region_start n a) (input_pages n.level) width))
                 (ap (λ x. lies_in at x) region ∙ e))
               where
                 ends : (start w : ℕ) → 1 ≤ w → start ≤ start + w - 1
                 ends start w k = omega arith
-            inside true false e f = cover_none n a node (λ v own kind region. foreign named.scope at one own v
+            inside true false e f = cover_none heading h ev map index state pe op xt named m n a node (λ v own kind region. foreign named.scope at one own v
                 (ap (λ (x : Kind). covers_kind named.scope.family x) kind ∙ f))
             inside true true e f =
                 let both = and_parts (nat_le (region_start n a) at) (nat_le at (region_start n a + input_pages n.level - 1)) e in
                 let from = leb-true (region_start n a) at both.0 in
                 let to = before (region_start n a) (input_pages n.level) width (leb-true at (region_start n a + input_pages n.level - 1) both.1) in
-                absurd (missed (found_top n a f (top heading laws h (node_in index) (core_at map) m.told.kept m.told.fit m.told.nodes same_cores at a
+                absurd (missed (found_top n a f (top heading laws h (view_of map index) m.told.kept m.told.fit m.told.nodes same_cores at a
                 n is (broken_eighth map a broken) from to) low))
               where
                 before : (start w : ℕ) → 1 ≤ w → at ≤ start + w - 1 → at < start + w

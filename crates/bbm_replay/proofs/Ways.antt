@@ -2,20 +2,17 @@
 use Rattle.std.proofs.Common.{◌≡◌, ℕ, suc, ◌<◌, List, [], ◌∷◌, Option, Some, None, length, refl, sym, ap, ◌∙◌, subst}
 use Rattle.std.proofs.Common.{arith}
 use Rattle.std.specs.Option.{option_map}
-use Rattle.bbm_descriptor.specs.declared.desc.Core.{Core}
 use Rattle.bbm_descriptor.specs.Descriptor.{core_of}
+use Rattle.bbm_descriptor.specs.declared.desc.Core.{Core}
 use Rattle.bbm_entry_state.specs.Points.{core_in}
 use Rattle.bbm_entry_state.specs.declared.marks.Marks.{Marks}
-use Rattle.bbm_entry_state.specs.declared.state.EntryState.{EntryState}
-use Rattle.bbm_place_map.specs.Map.{marks_at, value_at}
 use Rattle.bbm_place_map.specs.States.{state_from}
-use Rattle.bbm_place_map.specs.declared.map.PlaceMap.{PlaceMap}
 use Rattle.bbm_regimes.specs.declared.regime.Kind.{Kind}
 use Rattle.bbm_rules.specs.Tree.{Node}
 use Rattle.bbm_tree_index.specs.Descent.{IsWay, Translates}
-use Rattle.bbm_tree_index.specs.HeldCores.{core_at, core_with, next_in}
-use Rattle.bbm_tree_index.specs.Nodes.{path_at}
+use Rattle.bbm_tree_index.specs.HeldCores.{core_with, next_in}
 use Rattle.bbm_tree_index.specs.declared.role.Path.{Path}
+use Rattle.bbm_replay.proofs.Growing.{core_whole}
 
 -- what the place of a page that translates an input page says of the way down through the page
 module _ (node : ℕ → Option Node) (core : Kind → ℕ → ℕ → Option Core) (at page : ℕ) (met : Option (ℕ × Path))
@@ -62,17 +59,10 @@ state_core kind level value (Some x) = by (core_of kind level value)
     by : (o : Option Core) → core_in (state_from o (Some x)) ≡ Some x.core
     by None = refl
     by (Some c) = refl
-state_core kind level value None = by (core_of kind level value)
-  where
-    by : (o : Option Core) → core_in (state_from o None) ≡ o
-    by None = refl
-    by (Some c) = refl
+state_core kind level value None = core_whole (core_of kind level value)
 
--- the next page of a state is that of what its place holds
-pub goes_on : (map : PlaceMap) (path : Path) (n : Node) (place : ℕ) (next : Option ℕ) (state : EntryState)
-    → next ≡ next_in (core_in state)
-    → state ≡ state_from (core_of path.kind path.level (value_at map place)) (marks_at map place) → path ≡ path_at n place
-    → next ≡ next_in (core_at map n.kind n.level place)
-goes_on map path n place next state goes is same = goes ∙ ap (λ (s : EntryState). next_in (core_in s)) is
-    ∙ ap (λ (o : Option Core). next_in o) (state_core path.kind path.level (value_at map place) (marks_at map place))
-    ∙ ap (λ (y : Path). next_in (core_at map y.kind y.level place)) same
+-- a place without a core of its value has one only where it is broken, that of its marks
+pub broken_over : (m : Option Marks) (core : Core) → Some core ≡ core_in (state_from None m)
+    → (x : Marks) × (m ≡ Some x) × (x.core ≡ core)
+broken_over None core k = let bad : Some core ≡ None = k in absurd cc
+broken_over (Some x) core k = let both : Some core ≡ Some x.core = k in (x, refl, cc)

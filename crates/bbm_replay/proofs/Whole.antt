@@ -11,14 +11,12 @@ use Rattle.bbm_rules.specs.Lists.{any}
 use Rattle.bbm_rules.specs.Places.{page_of}
 use Rattle.bbm_rules.specs.Prelude.{Kind, Heading, Event}
 use Rattle.bbm_rules.specs.Tree.{Above, Node}
-use Rattle.bbm_replay_trees.specs.Told.{SameCores}
-use Rattle.bbm_tree_index.specs.HeldCores.{core_at, core_with, limbo_at, next_in}
+use Rattle.bbm_tree_index.specs.HeldCores.{core_with, limbo_by, next_in}
 use Rattle.bbm_tree_index.specs.Index.{node_in}
 use Rattle.bbm_tree_index.specs.declared.index.TreeIndex.{TreeIndex}
 use Rattle.bbm_replay.specs.ReplayLaws.{Laws}
 use Rattle.bbm_replay.specs.ReplayStanding.{view_of}
 use Rattle.bbm_replay.specs.ReplayTold.{Told}
-use Rattle.bbm_replay.proofs.Settling.{core_with_is}
 use Rattle.bbm_replay.proofs.Writing.{cores}
 use Rattle.std.proofs.lemmas.Bool.{or_from}
 
@@ -32,14 +30,12 @@ none_marked (Some x) k = absurd (k refl)
 
 module _ (heading : Heading) (laws : Laws heading) (h : List Event) (map : PlaceMap) (index : TreeIndex)
     (told : Told heading h (view_of map index)) (whole : (a : ℕ) → is_some (marks_at map a) ≡ true → ⊥) where
-  same_cores : SameCores heading h (core_at map)
-  same_cores n a is = core_with_is (marks_at map a) n.kind n.level (value_at map a) ∙ cores heading h (view_of map index) told n a is
-
   above_valid : (kind : Kind) (above : List Above) (p : ℕ) (m : Node) → node_in index p ≡ Some m → m.kind ≡ kind
       → m.above ≡ above → any (λ a. not (is_valid kind a.level (value_at map a.place))) above ≡ false
   above_valid kind [] p m is same up = refl
   above_valid kind (x ∷ above) p m is same up =
-      let hangs = laws.nodes.up h (node_in index) (core_at map) p m x above told.kept told.fit told.nodes same_cores is up in
+      let hangs = laws.neighbours.up h (view_of map index) p m x above told.kept told.fit told.nodes
+      (cores heading h (view_of map index) told) is up in
       let parent = hangs.parent in
       let value = value_at map x.place in
       let own : parent.kind ≡ kind = sym (ap (λ (n : Node). n.kind) hangs.is_below) ∙ same in
@@ -51,7 +47,7 @@ module _ (heading : Heading) (laws : Laws heading) (h : List Event) (map : Place
       let good : is_valid kind x.level value ≡ true
       = ap (λ (k : Kind). is_valid k x.level value) (sym own)
       ∙ ap (λ l. is_valid parent.kind l value) (sym (ap (λ (y : Above). y.level) both.0))
-      ∙ sym (laws.entries.core_where_valid parent.kind parent.level value)
+      ∙ sym (laws.core_where_valid parent.kind parent.level value)
       ∙ some_next (core_of parent.kind parent.level value) m.page bare in
       or_from (not (is_valid kind x.level value)) (any (λ a. not (is_valid kind a.level (value_at map a.place))) above)
       (ap (λ b. not b) good) (above_valid kind above (page_of x.place) parent hangs.is_parent own both.1)
@@ -59,9 +55,9 @@ module _ (heading : Heading) (laws : Laws heading) (h : List Event) (map : Place
       parts : (y z : Above) (ys zs : List Above) → y ∷ ys ≡ z ∷ zs → (y ≡ z) × (ys ≡ zs)
       parts y z ys zs e = (cc, cc)
 
-  pub no_limbo : (place : ℕ) → option_map_or (limbo_at map) (node_in index (page_of place)) false ≡ false
+  pub no_limbo : (place : ℕ) → option_map_or (limbo_by (value_at map)) (node_in index (page_of place)) false ≡ false
   no_limbo place = by (node_in index (page_of place)) refl
     where
-      by : (o : Option Node) → node_in index (page_of place) ≡ o → option_map_or (limbo_at map) o false ≡ false
+      by : (o : Option Node) → node_in index (page_of place) ≡ o → option_map_or (limbo_by (value_at map)) o false ≡ false
       by None e = refl
       by (Some n) e = above_valid n.kind n.above (page_of place) n e refl refl

@@ -19,17 +19,17 @@ use Rattle.bbm_rules.specs.Places.{page_of}
 use Rattle.bbm_rules.specs.Prelude.{Heading, Event, Write}
 use Rattle.bbm_rules.specs.Tree.{Node, next_of, node_below}
 use Rattle.bbm_replay_entries.specs.EntryStands.{EntryStands}
-use Rattle.bbm_replay_trees.specs.Told.{SameCores, notes}
+use Rattle.bbm_replay_trees.specs.Told.{SameCores, View, core_at, notes}
 use Rattle.bbm_replay_trees.specs.Told as told
 use Rattle.bbm_replay.specs.ReplayLaws.{Laws}
 use Rattle.bbm_replay.proofs.Moves.{Attaches, Grown, SameNodes, SameTracked, Writes}
-use Rattle.bbm_replay.specs.ReplayTold.{Apart, Told}
+use Rattle.bbm_replay.specs.ReplayTold.{Apart, Told, state_of, waiting}
 use Rattle.bbm_replay.proofs.Aparts.{apart_grown, apart_same}
-use Rattle.bbm_replay.specs.View.{View, core_at, state_of, waiting}
 use Rattle.bbm_replay.proofs.Entries.{carried, fit_more, keeps_more, some_pe}
 use Rattle.bbm_replay.proofs.Growing.{grown, grown_entry, grown_outside}
 use Rattle.bbm_replay.proofs.PageMoves.{apart}
 use Rattle.bbm_replay.proofs.Quiet.{tracked_stay}
+use Rattle.bbm_replay.proofs.Ways.{state_core}
 
 -- the state that a write leaves is the one that is read back
 read_back : (new : EntryState) (value : Option Core) (old : EntryState) (pe : ℕ) → Written old pe value new
@@ -48,7 +48,8 @@ read_back (Broken marks) (Some value) old pe w = refl
 
 -- the core of what each place of a tree holds
 pub cores : (heading : Heading) (h : List Event) (v : View) → Told heading h v → SameCores heading h (core_at v)
-cores heading h v t n a is = (t.entries n a (t.nodes (page_of a) ∙ is)).core
+cores heading h v t n a is =
+    sym (state_core n.kind n.level (v.value a) (v.marks a)) ∙ (t.entries n a (t.nodes (page_of a) ∙ is)).core
 
 module _ (heading : Heading) (laws : Laws heading) (h : List Event) (old new : View) (t : Told heading h old)
     (pe place v : ℕ) (state : EntryState) (move : Writes old new place v state) where
@@ -88,7 +89,7 @@ module _ (heading : Heading) (laws : Laws heading) (h : List Event) (old new : V
       ∙ ap (λ (x : ℕ). state_from (core_of n.kind n.level x) (marks_of_state state)) (sym value_here)
       ∙ ap (λ (m : Option Marks). state_from (core_of n.kind n.level (new.value place)) m) (sym marks_here) in
       subst (λ x. EntryStands heading (e ∷ h) n.kind n.level place x (waiting new place)) same
-      (laws.entries.write h n.kind n.level place pe v (state_of old n.kind n.level place) state (waiting old place)
+      (laws.write h n.kind n.level place pe v (state_of old n.kind n.level place) state (waiting old place)
       (waiting new place) (some_pe heading laws h old t) written left (t.entries n place is))
 
   module _ (fits : fits_heading heading e ≡ true) (unbroken : broken heading Patterns h e ≡ None)
@@ -104,10 +105,10 @@ module _ (heading : Heading) (laws : Laws heading) (h : List Event) (old new : V
           proper = t.proper;
           kept = keeps_more heading h e t.kept unbroken;
           fit = fit_more heading h e t.fit fits;
-          values = laws.pages.value_write h old.value new.value pe place v t.values move.value;
+          values = laws.values.write h old new pe place v t.values move.value;
           nodes = nodes;
           fresh = fresh;
-          null = λ p. null p ∙ laws.pages.same_null h old.null e refl t.null p;
+          null = λ p. null p ∙ laws.pages.same_null h old e refl t.null p;
           known = rest.0;
           pages = rest.1;
           tracked = rest.2;
@@ -148,15 +149,15 @@ module _ (heading : Heading) (laws : Laws heading) (h : List Event) (old new : V
         → ((q a : ℕ) → new.marks a ≡ None → IsIdle (new.pends q a)) → Told heading (e ∷ h) new
     after_plain_write n is written plain nodes fresh idle =
         let sound = keeps_more heading h e t.kept unbroken in
-        let proper = laws.nodes.proper t.proper in
-        let unattached = laws.pages.attaches_none h old.node (core_at old) n pe place v t.nodes (cores heading h old t) is plain in
+        let proper = laws.proper t.proper in
+        let unattached = laws.unattached.attaches_none h old n pe place v t.nodes (cores heading h old t) is plain in
         let g : Grown old new = record {
           stays = λ p m k. nodes p ∙ k;
           comes = λ p m k. inl (sym (nodes p) ∙ k);
         } in
         after_write n is written g
-        (λ p. nodes p ∙ laws.nodes.plain_write h old.node pe place v proper sound unattached t.nodes p)
-        (λ p. fresh p ∙ laws.pages.fresh_others h old.fresh e sound refl refl unattached t.fresh p)
+        (λ p. nodes p ∙ laws.nodes.plain_write h old pe place v proper sound unattached t.nodes p)
+        (λ p. fresh p ∙ laws.fresh.others h old e sound refl refl unattached t.fresh p)
         (apart_same old new t.apart nodes (record { fresh = fresh; null = null }) tracking.tracked) idle
 
     -- one that attaches the next page
@@ -167,11 +168,11 @@ module _ (heading : Heading) (laws : Laws heading) (h : List Event) (old new : V
         → ((q a : ℕ) → new.marks a ≡ None → IsIdle (new.pends q a)) → Told heading (e ∷ h) new
     after_attaching_write n next is written empty table attached idle =
         let sound = keeps_more heading h e t.kept unbroken in
-        let proper = laws.nodes.proper t.proper in
-        let nodes = laws.nodes.write h old.node new.node old.fresh old.value (core_at old) n pe place v next proper
+        let proper = laws.proper t.proper in
+        let nodes = laws.nodes.write h old new n pe place v next proper
         t.fit sound t.nodes t.fresh t.values (cores heading h old t) is empty table attached.node in
         after_write n is written (grown old new (node_below n place next ∷ []) attached) nodes
-        (laws.pages.fresh_attached h old.fresh new.fresh new.node e refl refl t.fresh nodes attached.fresh)
+        (laws.fresh.attached h old new e refl refl t.fresh nodes attached.fresh)
         (apart_grown old new t.apart (grown old new (node_below n place next ∷ []) attached) attached.fresh null tracking.tracked) idle
 
     -- one outside the trees
@@ -180,16 +181,16 @@ module _ (heading : Heading) (laws : Laws heading) (h : List Event) (old new : V
         → ((p : ℕ) → new.fresh p ≡ old.fresh p) → Told heading (e ∷ h) new
     after_write_outside away clean unattached nodes fresh =
         let sound = keeps_more heading h e t.kept unbroken in
-        let proper = laws.nodes.proper t.proper in
+        let proper = laws.proper t.proper in
         let rest = tracked_stay heading laws h old new t e refl tracking in
         record {
           proper = t.proper;
           kept = sound;
           fit = fit_more heading h e t.fit fits;
-          values = laws.pages.value_write h old.value new.value pe place v t.values move.value;
-          nodes = λ p. nodes p ∙ laws.nodes.plain_write h old.node pe place v proper sound unattached t.nodes p;
-          fresh = λ p. fresh p ∙ laws.pages.fresh_others h old.fresh e sound refl refl unattached t.fresh p;
-          null = λ p. null p ∙ laws.pages.same_null h old.null e refl t.null p;
+          values = laws.values.write h old new pe place v t.values move.value;
+          nodes = λ p. nodes p ∙ laws.nodes.plain_write h old pe place v proper sound unattached t.nodes p;
+          fresh = λ p. fresh p ∙ laws.fresh.others h old e sound refl refl unattached t.fresh p;
+          null = λ p. null p ∙ laws.pages.same_null h old e refl t.null p;
           known = rest.0;
           pages = rest.1;
           tracked = rest.2;

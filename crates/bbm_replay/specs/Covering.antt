@@ -1,5 +1,5 @@
 -- What a TLBI covers, asked of the parts. Source: project's own choice.
-use Rattle.std.specs.Prelude.{◌≡◌, ℕ, Bool, true, false, List, Option, Some, None, is_some}
+use Rattle.std.specs.Prelude.{◌≡◌, ℕ, Bool, true, false, not, ◌&&◌, List, Some, None, is_none, is_some}
 use Rattle.bbm_descriptor.specs.declared.desc.Core.{Core}
 use Rattle.bbm_entry_state.specs.declared.marks.Marks.{Marks}
 use Rattle.bbm_place_map.specs.Finds.{FoundAs, is_found}
@@ -11,9 +11,10 @@ use Rattle.bbm_place_map.specs.declared.map.PlaceMap.{PlaceMap}
 use Rattle.bbm_regimes.specs.declared.pe.PeMask.{PeMask}
 use Rattle.bbm_regimes.specs.declared.regime.Kind.{Kind}
 use Rattle.bbm_regimes.specs.declared.regime.Kind.TheVariants.{S2, Ttbr0}
-use Rattle.bbm_tlbi_scope.specs.Operations.{operation}
+use Rattle.bbm_tlbi_scope.specs.Operations.{has_page}
 use Rattle.bbm_tlbi_scope.specs.declared.scope.Family.{Family}
 use Rattle.bbm_tlbi_scope.specs.declared.scope.Family.TheVariants.{VmAll1, VmAll12, Ipa, Va, Asid}
+use Rattle.bbm_tlbi_scope.specs.declared.scope.Scope.{Scope}
 use Rattle.bbm_tree_index.specs.declared.index.TreeIndex.{TreeIndex}
 use Rattle.bbm_replay_roots.specs.RootStateStands as roots
 use Rattle.bbm_replay_roots.specs.declared.named.NamedTlbi.{NamedTlbi}
@@ -59,13 +60,17 @@ abbrev pub Grows : PlaceMap → TreeIndex → RootState → NamedTlbi → List F
 Grows map index state named old new = (AreCovered map index state named old → AreCovered map index state named new)
     × ((a : ℕ) → is_found old a ≡ true → is_found new a ≡ true)
 
--- What the issue of a TLBI by a PE, which reaches these PEs, leaves of a map: it is noted at each broken place, as far as
--- it covers it.
-abbrev pub IsNoted : Heading → TreeIndex → RootState → NamedTlbi → ℕ → TlbiOp → PeMask → PlaceMap → PlaceMap → Type 0
-IsNoted its index state named pe op reach old new = (heading : Heading) (h : List Event) (xt : ℕ) → its ≡ heading
-    → MayBeIssued heading h old index state pe op xt named → (a : ℕ) → is_some (marks_at old a) ≡ true
-    → Noted (state_from None (marks_at old a)) (pends_at old pe a) reach (operation op).broadcast
+-- What the issue of a TLBI by a PE, which reaches these PEs, leaves of a map: it is noted at each broken place, as far
+-- as it covers it.
+abbrev pub IsNoted : Heading → TreeIndex → RootState → NamedTlbi → ℕ → PeMask → PlaceMap → PlaceMap → Type 0
+IsNoted its index state named pe reach old new = (heading : Heading) (h : List Event) (op : TlbiOp) (xt : ℕ)
+    → its ≡ heading → MayBeIssued heading h old index state pe op xt named → (a : ℕ) → is_some (marks_at old a) ≡ true
+    → Noted (state_from None (marks_at old a)) (pends_at old pe a) reach named.scope.broadcast
     (cover_at heading Patterns (notes heading h) (Tlbi pe op xt) a) (pends_at new pe a)
+
+-- whether the cover of a place that holds a table, or doesn't, depends on whether that is childless
+abbrev pub asks_childless : Scope → Bool → Bool
+asks_childless scope table = table && has_page scope.family && not scope.last_only && is_none scope.level
 
 -- whether the cover of a place of this kind depends on the tags of its root
 abbrev pub asks_tags : Family → Kind → Bool

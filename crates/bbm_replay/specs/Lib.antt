@@ -1,4 +1,3 @@
-pub mod View
 pub mod ReplayTold
 pub mod ReplayLaws
 pub mod ReplayRules

@@ -3,7 +3,7 @@
 use Rattle.std.specs.Prelude.{◌≡◌, ℕ, ◌+◌, ◌*◌, ◌<◌, ◌%◌, ◌^◌, Bool, true, false, List, Option, Some, is_some, length}
 use Rattle.bbm_descriptor.specs.declared.desc.Core.{Core}
 use Rattle.bbm_place_map.specs.Finds.{is_found}
-use Rattle.bbm_place_map.specs.Map.{marks_at}
+use Rattle.bbm_place_map.specs.Map.{is_tracked, marks_at}
 use Rattle.bbm_place_map.specs.declared.found.Found.{Found}
 use Rattle.bbm_place_map.specs.declared.map.PlaceMap.{PlaceMap}
 use Rattle.bbm_regimes.specs.declared.regime.Kind.{Kind}
@@ -14,6 +14,8 @@ use Rattle.bbm_tlbi_scope.specs.declared.scope.Family.TheVariants.{El2Va, Ipa, V
 use Rattle.bbm_tlbi_scope.specs.declared.scope.Scope.{Scope}
 use Rattle.bbm_rules.specs.Tree.{Node}
 use Rattle.bbm_tree_index.specs.Descent.{IsWay}
+use Rattle.bbm_tree_index.specs.Index.{node_in}
+use Rattle.bbm_tree_index.specs.declared.index.TreeIndex.{TreeIndex}
 
 -- whether an operation by address of this family can cover places of a root of this kind
 abbrev pub covers_kind : Family → Kind → Bool
@@ -29,6 +31,10 @@ covers_kind _ _ = false
 pub record NamesOne (scope : Scope) (at : ℕ) : Type 0 where
   pub page : scope.interval ≡ Some (record { lo = at; hi = at })
   pub family : has_page scope.family ≡ true
+
+-- each page of a tree is tracked
+abbrev pub AreTracked : PlaceMap → TreeIndex → Type 0
+AreTracked map index = (p : ℕ) (n : Node) → node_in index p ≡ Some n → is_tracked map p ≡ true
 
 -- an address of a page
 abbrev pub IsPage : ℕ → Type 0

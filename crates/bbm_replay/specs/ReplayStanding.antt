@@ -1,5 +1,6 @@
 -- What a checker without a history stands for. A history is newest first. Source: project's own choice.
 use Rattle.std.specs.Prelude.{◌≡◌, ℕ, true, false, List, ◌∷◌, length, Option, Some, None, Result, Err, OnErr, OnOk}
+use Rattle.bbm_entry_state.specs.Points.{core_in}
 use Rattle.bbm_place_map.specs.Map.{is_tracked, marks_at, pends_at, value_at}
 use Rattle.bbm_place_map.specs.declared.map.PlaceMap.{PlaceMap}
 use Rattle.bbm_tree_index.specs.IndexAgreement.{IsSound}
@@ -17,12 +18,11 @@ use Rattle.bbm_rules.specs.Rules.{break_before_make, limbo_make, no_lock, null_w
 use Rattle.bbm_rules.specs.Tree.{Node}
 use Rattle.bbm_tree_index.specs.Nodes.{path_at}
 use Rattle.bbm_tree_index.specs.declared.role.Path.{Path}
-use Rattle.bbm_replay_trees.specs.Told.{notes}
+use Rattle.bbm_replay_trees.specs.Told.{View, notes}
 use Rattle.bbm_rules.specs.Prelude.{Heading, Event}
 use Rattle.bbm_rules.specs.declared.step_fault.StepFault.{StepFault}
 use Rattle.bbm_rules.specs.declared.step_fault.StepFault.TheVariants.{NoMemory}
-use Rattle.bbm_replay.specs.ReplayTold.{Told}
-use Rattle.bbm_replay.specs.View.{View, core_at}
+use Rattle.bbm_replay.specs.ReplayTold.{Told, state_of}
 use Rattle.bbm_replay.specs.declared.parts.ReplayState.{ReplayState}
 use Rattle.bbm_replay.specs.declared.replay.Replay.{Replay}
 
@@ -93,6 +93,6 @@ pub record Clears (parts : ReplayState) (e : Event) (result : Result (Unit {0}) 
 abbrev pub IsAt : ReplayState → ℕ → Path → Type 0
 IsAt parts place path = (n : Node) × (node_in parts.index (page_of place) ≡ Some n) × (path ≡ path_at n place)
 
--- what a place of a tree holds
+-- the core of the state of a place of a tree
 abbrev pub Holds : ReplayState → ℕ → Path → Option Core → Type 0
-Holds parts place path held = held ≡ core_at (view_of parts.map parts.index) path.kind path.level place
+Holds parts place path held = held ≡ core_in (state_of (view_of parts.map parts.index) path.kind path.level place)

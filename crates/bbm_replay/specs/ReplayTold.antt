@@ -1,15 +1,27 @@
 -- When a view is what the definitions say after a history. A history is newest first. Source: project's own choice.
 use Rattle.std.specs.Prelude.{◌≡◌, ℕ, true, false, List, length, Some, None}
+use Rattle.bbm_descriptor.specs.Descriptor.{core_of}
+use Rattle.bbm_entry_state.specs.declared.pending.Pends.{Pends}
+use Rattle.bbm_entry_state.specs.declared.state.EntryState.{EntryState}
 use Rattle.bbm_events.specs.Heading.{heading_ok}
-use Rattle.bbm_rules.specs.Prelude.{Heading, Event}
+use Rattle.bbm_place_map.specs.States.{state_from}
+use Rattle.bbm_rules.specs.Prelude.{Kind, Heading, Event}
 use Rattle.bbm_rules.specs.Broken.{keeps}
 use Rattle.bbm_rules.specs.Claims.Trust.{Patterns}
 use Rattle.bbm_rules.specs.Pages.{initialised}
 use Rattle.bbm_rules.specs.Places.{page_of}
 use Rattle.bbm_rules.specs.Tree.{Node}
 use Rattle.bbm_replay_entries.specs.EntryStands.{EntryStands}
-use Rattle.bbm_replay_trees.specs.Told.{AllFit, SameFresh, SameKnown, SameNodes, SameNull, SameValues}
-use Rattle.bbm_replay.specs.View.{View, state_of, waiting}
+use Rattle.bbm_replay_trees.specs.Told.{AllFit, SameFresh, SameKnown, SameNodes, SameNull, SameValues, View}
+
+module _ (v : View) where
+  -- the state of a place that is read at this kind and level
+  abbrev pub state_of : Kind → ℕ → ℕ → EntryState
+  state_of kind level a = state_from (core_of kind level (v.value a)) (v.marks a)
+
+  -- what waits at a place, by issuer
+  abbrev pub waiting : ℕ → ℕ → Pends
+  waiting a q = v.pends q a
 
 -- The pages of trees, the fresh pages and the null pages are apart, and the first two are tracked.
 pub record Apart (v : View) : Type 0 where

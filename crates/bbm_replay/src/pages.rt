@@ -10,9 +10,8 @@ ghost use Rattle.bbm_replay.specs.ReplayStanding.{MayMeet, Meets};
 use crate::faults::step_fault;
 use crate::laws::{laws, rules};
 use crate::parts::ReplayState;
-use bbm_descriptor::Memory;
 use bbm_place_map::PlaceMap;
-use bbm_regimes::{Kind, Page, Pe, Place};
+use bbm_regimes::{Kind, Page, Pe};
 use bbm_replay_roots::law_others;
 use bbm_rules::{Rule, StepFault};
 use std::alloc::Global;
@@ -22,11 +21,13 @@ fn is_zero(map: &PlaceMap, page: Page) -> bool
     ensures zero { result ≡ true → (a : ℕ) → is_at page a ≡ true → value_at map.now a ≡ 0 }
     ensures other { result ≡ false → (a : ℕ) × (is_at page a ≡ true) × (value_at map.now a ≡ 0 → ⊥) }
 {
+    if map.is_blank(page) {
+        return true;
+    }
+    let seat = map.first_seat(page);
     for index in 0..512 {
-        if let Some(place) = Place::new(page.get() + 8 * index) {
-            if map.value(place) != 0 {
-                return false;
-            }
+        if map.value_from(&seat, index) != 0 {
+            return false;
         }
     }
     true

@@ -2,7 +2,7 @@
 
 ghost use Rattle.std.specs.Prelude.{◌≡◌, ◌≤◌, ◌%◌, ◌==◌, ◌&&◌, not, ℕ, List, true, false, Some, None, is_some};
 ghost use Rattle.std.specs.Option.{option_map, option_map_or};
-ghost use Rattle.bbm_tree_index.specs.HeldCores.{limbo_at};
+ghost use Rattle.bbm_tree_index.specs.HeldCores.{limbo_by, next_in};
 ghost use Rattle.bbm_descriptor.specs.Descriptor as spec;
 ghost use Rattle.bbm_entry_state.specs.Points as points;
 ghost use Rattle.bbm_place_map.specs.Map.{IsSeat, marks_at, value_at};
@@ -10,7 +10,7 @@ ghost use Rattle.bbm_replay.specs.Leaves as leaves;
 ghost use Rattle.bbm_replay.specs.ReplayStanding.{Stands, view_of};
 ghost use Rattle.bbm_events.specs.Heading.{Heading};
 ghost use Rattle.bbm_events.specs.declared.event.Event.{Event};
-ghost use Rattle.bbm_replay.specs.View.{state_of};
+ghost use Rattle.bbm_replay.specs.ReplayTold.{state_of};
 ghost use Rattle.bbm_regimes.specs.SameRegister.{same_kind};
 ghost use Rattle.std.specs.Prelude.{Ok};
 ghost use Rattle.bbm_replay.specs.ReplayStanding.{Clears, Holds, IsAt};
@@ -85,8 +85,9 @@ fn is_whole(map: &PlaceMap) -> bool
 }
 
 /// The next page of a core that is a table.
-fn next_of(core: &Core) -> Option<Page>
-    ensures { result ≡ leaves.attached_next None (Some core.now) }
+pub(crate) fn next_of(core: &Core) -> Option<Page>
+    ensures attached { result ≡ leaves.attached_next None (Some core.now) }
+    ensures held { result ≡ next_in (Some core.now) }
 {
     match *core {
         Core::Table { next, ns: _ } => Some(next),
@@ -147,7 +148,7 @@ impl ReplayState {
     fn makes_in_limbo(&self, place: Place, valid: bool) -> bool
         requires { (heading : Heading) × (h : List Event) × Stands self.now heading h }
         ensures { result ≡ (valid
-            && option_map_or (limbo_at self.now.map) (node_in self.now.index (page_of place)) false) }
+            && option_map_or (limbo_by (value_at self.now.map)) (node_in self.now.index (page_of place)) false) }
     {
         laws();
         if !valid {

@@ -103,11 +103,20 @@ module _ (heading : Heading) (k : Known heading) (h : List Event) (place p : ℕ
   pub phase_outside : node_of heading Patterns (noted heading Patterns h) (page_of place) ≡ None → phase_of heading Patterns h place p ≡ Clean
   phase_outside is = phase_is ∙ ap by_node is
 
+abbrev restless_by : Heading → List Event → ℕ → Option Node → Bool
+restless_by heading h place o =
+    option_map_or (λ (n : Node). is_some (held_at heading Patterns (noted heading Patterns h) n place)
+    && not (is_valid n.kind n.level (value_of (events_of (noted heading Patterns h)) place))) o false
+
 pub restless_tells : (heading : Heading) (k : Known heading) (h : List Event) (n : Node) (place : ℕ) (s : EntryState) (pends : ℕ → Pends)
     → node_of heading Patterns (noted heading Patterns h) (page_of place) ≡ Some n → EntryStands heading h n.kind n.level place s pends
     → is_restless heading Patterns (noted heading Patterns h) place ≡ is_broken s
 restless_tells heading k h n place s pends is e =
-    ap (λ (o : Option Node). option_map_or (λ n. is_some (held_at heading Patterns (noted heading Patterns h) n place)
-    && not (is_valid n.kind n.level (value_of (events_of (noted heading Patterns h)) place))) o false) is
+    ap (restless_by heading h place) is
     ∙ (ap (λ (x : List Event). is_some (held_now heading h n.kind n.level place) && not (is_valid n.kind n.level (value_of x place))) (k.events_noted h)
     ∙ sym e.broken)
+
+pub restless_outside : (heading : Heading) (h : List Event) (place : ℕ)
+    → node_of heading Patterns (noted heading Patterns h) (page_of place) ≡ None
+    → is_restless heading Patterns (noted heading Patterns h) place ≡ false
+restless_outside heading h place is = ap (restless_by heading h place) is

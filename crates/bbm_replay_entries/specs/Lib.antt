@@ -3,3 +3,4 @@ pub mod EntryEvents
 pub mod Marked
 pub mod EntryPhases
 pub mod EntryStands
+pub mod EntryLaws

@@ -1,12 +1,13 @@
 -- What the part of a checker that knows roots, registers, tags and locks stands for. A history is newest first.
 -- Source: project's own choice.
-use Rattle.std.specs.Prelude.{◌≡◌, ℕ, Bool, true, false, List, Option, None, Some, Result, Ok, Err}
+use Rattle.std.specs.Prelude.{◌≡◌, ℕ, Bool, true, false, List, ◌∷◌, Option, None, Some, Result, Ok, Err}
 use Rattle.bbm_locks.specs.Holders.{holder_at}
 use Rattle.bbm_roots.specs.RootsStand.{IsPrepared, pes_of, world_of}
 use Rattle.bbm_roots.specs.RootsStand as lower
 use Rattle.bbm_events.specs.Fits.{fits_heading}
 use Rattle.bbm_events.specs.Heading.{heading_ok}
-use Rattle.bbm_rules.specs.Prelude.{Heading, Event, Root, Unroot, Dsb, Isb, Tlbi, Msr, Lock, Unlock}
+use Rattle.bbm_rules.specs.Limits.{limit_of}
+use Rattle.bbm_rules.specs.Prelude.{Barrier, Heading, Event, Root, Unroot, Dsb, Dmb, Isb, Tlbi, Msr, Lock, Unlock}
 use Rattle.bbm_rules.specs.Broken.{Breach, broken, keeps}
 use Rattle.bbm_rules.specs.Claims.{Patterns}
 use Rattle.bbm_rules.specs.Locks.{holder_of}
@@ -50,6 +51,22 @@ concerns_roots (Msr pe reg value) = true
 concerns_roots (Lock pe lock) = true
 concerns_roots (Unlock pe lock) = true
 concerns_roots _ = false
+
+-- What stands for a history stands for it with an `init`, a `null`, a write or a DMB more that breaks no rule.
+abbrev pub OthersStand : Type 0
+OthersStand = (state : RootState) (heading : Heading) (h : List Event) (e : Event) → Stands state heading h
+    → concerns_roots e ≡ false → broken heading Patterns h e ≡ None → Stands state heading (e ∷ h)
+
+-- A DSB, a DMB and an ISB break no rule and reach no limit.
+pub record BarriersPass : Type 0 where
+  pub dsb : (heading : Heading) (h : List Event) (pe : ℕ) (dsb : Barrier)
+      → broken heading Patterns h (Dsb pe dsb) ≡ None
+  pub dmb : (heading : Heading) (h : List Event) (pe : ℕ) (dsb : Barrier)
+      → broken heading Patterns h (Dmb pe dsb) ≡ None
+  pub isb : (heading : Heading) (h : List Event) (pe : ℕ) → broken heading Patterns h (Isb pe) ≡ None
+  pub dsb_limit : (h : List Event) (pe : ℕ) (dsb : Barrier) → limit_of h (Dsb pe dsb) ≡ None
+  pub dmb_limit : (h : List Event) (pe : ℕ) (dsb : Barrier) → limit_of h (Dmb pe dsb) ≡ None
+  pub isb_limit : (h : List Event) (pe : ℕ) → limit_of h (Isb pe) ≡ None
 
 -- the answer where this is the least broken rule, or none is broken
 abbrev pub Judges : Result (Unit {0}) StepFault → Option Breach → Type 0

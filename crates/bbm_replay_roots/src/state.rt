@@ -78,6 +78,7 @@ impl RootState {
     ghost use Rattle.bbm_rules.specs.Roots as spec;
     ghost use Rattle.bbm_rules.specs.Rules as rules;
     ghost use Rattle.bbm_rules.specs.Tags as tags;
+    ghost use Rattle.bbm_tlbi_scope.specs.Operations.{operation};
     ghost use Rattle.bbm_tlbi_scope.specs.declared.op.TlbiOp.{TlbiOp as TheOp};
     ghost use Rattle.bbm_replay_roots.specs.Bridge.{has_null_base};
     ghost use Rattle.bbm_replay_roots.specs.RootsByNumber.{nth_in};
@@ -223,8 +224,9 @@ impl RootState {
     /// breaks. Nothing changes.
     pub fn judge_tlbi(&self, pe: Pe, op: TlbiOp, xt: u64) -> Result<NamedTlbi, StepFault>
         requires { MayAsk (Stands self.now) pe }
-        ensures { (heading : Heading) (h : List TheEvent) → Stands self.now heading h
+        ensures judged { (heading : Heading) (h : List TheEvent) → Stands self.now heading h
             → JudgesTlbi heading h pe op xt result }
+        ensures broadcast { IfOk result (λ named. named.scope.broadcast ≡ (operation op).broadcast) }
     {
         laws_below();
         if !op.of_world(self.header.world) {

@@ -1,6 +1,6 @@
--- The fresh pages after an event.
-use Rattle.std.proofs.Common.{◌≡◌, ℕ, not, Bool, true, false, ◌&&◌, ◌||◌, ◌==◌, List, ◌∷◌, None, refl, sym, ◌∙◌, ap}
-use Rattle.std.proofs.Common.{true≢false}
+-- The fresh pages after an event, and what else is known of pages and values.
+use Rattle.std.proofs.Common.{◌≡◌, ℕ, suc, ◌+◌, not, Bool, true, false, cond, ◌&&◌, ◌||◌, ◌==◌, List, ◌∷◌, length}
+use Rattle.std.proofs.Common.{Option, None, is_none, refl, sym, ◌∙◌, ap, true≢false, arith}
 use Rattle.std.proofs.lemmas.Bool.{eq-eqb, eqb-true}
 use Rattle.bbm_events.specs.Heading.{Heading}
 use Rattle.bbm_rules.specs.Prelude.{Event, Init, Null, Root, Unroot, Write, Dsb, Dmb, Isb, Tlbi, Msr, Lock, Unlock}
@@ -8,9 +8,12 @@ use Rattle.bbm_rules.specs.Attach.{attached_by}
 use Rattle.bbm_rules.specs.Broken.{keeps}
 use Rattle.bbm_rules.specs.Changes.{changes}
 use Rattle.bbm_rules.specs.Claims.Trust.{Patterns}
-use Rattle.bbm_rules.specs.Pages.{is_fresh, may_be_fresh}
+use Rattle.bbm_rules.specs.Lists.{among, with_number}
+use Rattle.bbm_rules.specs.Pages.{initialised, is_fresh, is_null, may_be_fresh}
+use Rattle.bbm_rules.specs.Tree.{Node, in_tree}
+use Rattle.bbm_rules.specs.Values.{value_of}
 use Rattle.bbm_replay_trees.specs.BelowTrees.{Below}
-use Rattle.bbm_replay_trees.specs.Told.{SameFresh, notes}
+use Rattle.bbm_replay_trees.specs.Told.{SameFresh, SameNodes, notes}
 use mathlib.Core.Bool.{and_comm}
 
 -- numbers by either side
@@ -39,6 +42,46 @@ before_stays (Msr pe reg value) page before i n = refl
 before_stays (Lock pe lock) page before i n = refl
 before_stays (Unlock pe lock) page before i n = refl
 
+-- ---- what an event leaves that doesn't change it
+
+pub null_stays : (e : Event) (h : List Event) (page : ℕ) → (changes e).nulls ≡ false
+    → is_null (e ∷ h) page ≡ is_null h page
+null_stays (Null pe at) h page k = absurd (true≢false k)
+null_stays e h page k = refl
+
+pub inits_stay : (e : Event) (h : List Event) → (changes e).inits ≡ false → initialised (e ∷ h) ≡ initialised h
+inits_stay (Init pe at) h k = absurd (true≢false k)
+inits_stay e h k = refl
+
+pub value_stays : (e : Event) (h : List Event) (a : ℕ) → (changes e).values ≡ false → value_of (e ∷ h) a ≡ value_of h a
+value_stays (Init pe at) h a k = absurd (true≢false k)
+value_stays (Write pe at value) h a k = absurd (true≢false k)
+value_stays e h a k = refl
+
+-- ---- the initialised pages with one more
+
+pub known_more : (ms : List ℕ) (page p : ℕ) (known : Bool) → known ≡ among p ms
+    → (p == page || known) ≡ among p (with_number page ms)
+known_more ms page p known same = by (among page ms) refl
+  where
+    there : (c : Bool) → (p == page) ≡ c → among page ms ≡ true → (c || known) ≡ among p ms
+    there true e k = sym (ap (λ x. among x ms) (eqb-true p page e) ∙ k)
+    there false e k = same
+
+    by : (c : Bool) → among page ms ≡ c → (p == page || known) ≡ among p (cond c ms (page ∷ ms))
+    by true k = there (p == page) refl k
+    by false k = ap (λ c. c || known) (eq_swap p page) ∙ ap (λ c. page == p || c) same
+
+pub count_more : (ms : List ℕ) (page pages : ℕ) (known : Bool) → known ≡ among page ms → pages ≡ length ms
+    → length (with_number page ms) ≡ pages + cond known 0 1
+count_more ms page pages known same count = by (among page ms) known same
+  where
+    by : (c k : Bool) → k ≡ c → length (cond c ms (page ∷ ms)) ≡ pages + cond k 0 1
+    by true true e = let here : pages ≡ pages + 0 = omega arith in sym count ∙ here
+    by false false e = let more : suc pages ≡ pages + 1 = omega arith in ap suc (sym count) ∙ more
+    by true false e = absurd (true≢false (sym e))
+    by false true e = absurd (true≢false e)
+
 module _ (heading : Heading) (b : Below heading) (h : List Event) (fresh : ℕ → Bool) (same : SameFresh heading h fresh) where
   -- the fresh pages after an event that attaches nothing
   fresh_by : (e : Event) → keeps heading Patterns (e ∷ h) ≡ true → attached_by heading Patterns (notes heading h) e ≡ None
@@ -61,3 +104,12 @@ module _ (heading : Heading) (b : Below heading) (h : List Event) (fresh : ℕ �
   after_null next_fresh pe page kept is p =
       is p ∙ (ap (λ c. fresh p && not c) (eq_swap p page)
       ∙ (and_comm (fresh p) (not (page == p)) ∙ fresh_by (Null pe page) kept refl p))
+
+  pub after_attached : (next_fresh : ℕ → Bool) (next_node : ℕ → Option Node) (e : Event) → (changes e).inits ≡ false
+      → (changes e).nulls ≡ false → SameNodes heading (e ∷ h) next_node
+      → ((p : ℕ) → next_fresh p ≡ (fresh p && is_none (next_node p))) → SameFresh heading (e ∷ h) next_fresh
+  after_attached next_fresh next_node e inits nulls nodes is p =
+      is p ∙ (ap (λ (o : Option Node). fresh p && is_none o) (nodes p)
+      ∙ (ap (λ c. c && not (in_tree heading Patterns (notes heading (e ∷ h)) p))
+      (sym (before_stays e p (fresh p) inits nulls))
+      ∙ ap (λ c. may_be_fresh e p c && not (in_tree heading Patterns (notes heading (e ∷ h)) p)) (same p)))

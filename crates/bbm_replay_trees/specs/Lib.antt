@@ -1,5 +1,10 @@
 pub mod Told
 pub mod BelowTrees
 pub mod TreeEvents
+pub mod NodeLaws
+pub mod PageLaws
+pub mod CoreLaws
 pub mod Judging
+pub mod RuleLaws
 pub mod Restless
+pub mod PlaceLaws

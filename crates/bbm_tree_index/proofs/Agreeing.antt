@@ -5,7 +5,7 @@ use Rattle.bbm_place_map.specs.declared.map.PlaceMap.{PlaceMap}
 use Rattle.bbm_rules.specs.Places.{page_of}
 use Rattle.bbm_rules.specs.Tree.{Node}
 use Rattle.bbm_tree_index.specs.IndexAgreement.{Agrees, IsSound}
-use Rattle.bbm_tree_index.specs.HeldCores.{core_with, next_at, next_in}
+use Rattle.bbm_tree_index.specs.HeldCores.{child, core_at, core_with, next_in}
 use Rattle.bbm_tree_index.specs.Index.{node_in}
 use Rattle.bbm_tree_index.specs.declared.index.TreeIndex.{TreeIndex}
 
@@ -14,7 +14,8 @@ pub record SamePlace (map map' : PlaceMap) (a : ℕ) : Type 0 where
   pub marks : marks_at map' a ≡ marks_at map a
   pub value : value_at map' a ≡ value_at map a
 
-pub next_same : (map map' : PlaceMap) (n : Node) (a : ℕ) → SamePlace map map' a → next_at map' n a ≡ next_at map n a
+pub next_same : (map map' : PlaceMap) (n : Node) (a : ℕ) → SamePlace map map' a
+    → child (core_at map') n a ≡ child (core_at map) n a
 next_same map map' n a s = ap (λ m. next_in (core_with m n.kind n.level (value_at map' a))) s.marks
     ∙ ap (λ v. next_in (core_with (marks_at map a) n.kind n.level v)) s.value
 

@@ -1,12 +1,15 @@
 -- Pages no place of which has a value or is broken.
-use Rattle.std.proofs.Common.{◌≡◌, ℕ, Bool, true, false, ◌||◌, ◌==◌, List, Option, None, is_some, refl, sym}
+use Rattle.std.proofs.Common.{◌≡◌, ℕ, Bool, true, false, ◌||◌, ◌==◌, List, Option, Some, None, is_some, refl, sym}
 use Rattle.std.proofs.Common.{ap, ◌∙◌, true≢false}
 use Rattle.std.proofs.lemmas.Bool.{eqb-true}
 use Rattle.std.proofs.lemmas.Option.{none-some}
 use Rattle.bbm_descriptor.specs.Descriptor.{core_of, desc_of}
+use Rattle.bbm_descriptor.specs.declared.desc.Core.{Core}
 use Rattle.bbm_descriptor.specs.declared.desc.Desc.TheVariants.{Invalid}
+use Rattle.bbm_entry_state.specs.Points.{core_in}
 use Rattle.bbm_entry_state.specs.declared.marks.Marks.{Marks}
 use Rattle.bbm_place_map.specs.Map.{marks_at, value_at}
+use Rattle.bbm_place_map.specs.States.{state_from}
 use Rattle.bbm_place_map.specs.declared.map.PlaceMap.{PlaceMap}
 use Rattle.bbm_regimes.specs.SameRegister.{same_kind}
 use Rattle.bbm_regimes.specs.declared.regime.Kind.{Kind}
@@ -27,6 +30,15 @@ pub holds_nothing : (map : PlaceMap) (kind : Kind) (level a : ℕ) → value_at 
 holds_nothing map kind level a value marks =
     ap (λ (o : Option Marks). is_some (core_with o kind level (value_at map a))) marks
     ∙ ap (λ (v : ℕ). is_some (core_of kind level v)) value
+
+core_whole : (o : Option Core) → core_in (state_from o None) ≡ o
+core_whole None = refl
+core_whole (Some core) = refl
+
+-- the core of a state that a place has by its marks and its value
+pub core_read : (m : Option Marks) (kind : Kind) (level value : ℕ) → core_in (state_from (core_of kind level value) m) ≡ core_with m kind level value
+core_read None kind level value = core_whole (core_of kind level value)
+core_read (Some marks) kind level value = refl
 
 asks_nothing : (leaf : Leaf) (kind : Kind) → asks leaf kind Invalid ≡ false
 asks_nothing Contiguous kind = refl

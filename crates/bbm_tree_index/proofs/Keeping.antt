@@ -13,7 +13,7 @@ use Rattle.bbm_rules.specs.Places.{page_of}
 use Rattle.bbm_rules.specs.Tree.{Node, node_below}
 use Rattle.bbm_tree_index.specs.IndexAgreement.{Sound}
 use Rattle.bbm_tree_index.specs.Climbs.{cut_by, passes_at}
-use Rattle.bbm_tree_index.specs.HeldCores.{core_with, holds_at, is_held}
+use Rattle.bbm_tree_index.specs.HeldCores.{core_with, holds_at, is_held_by}
 use Rattle.bbm_tree_index.specs.HeldCores.{leaves as leaves_node}
 use Rattle.bbm_tree_index.specs.Leaving.{leaves_role, stays}
 use Rattle.bbm_tree_index.specs.Nodes.{node_by, node_with}
@@ -83,7 +83,7 @@ module _ (map : PlaceMap) (roles : ℕ → Role) (heading : Heading) (sound : So
       → not (stays map leaving (node_below n place next)) ≡ true
   below_leaves Unheld n place next e = by (holds_at map n.kind n.level place)
     where
-      by : (b : Bool) → not (b && is_held map n) ≡ true
+      by : (b : Bool) → not (b && is_held_by (holds_at map) n) ≡ true
       by true = e
       by false = refl
   below_leaves (Root page) n place next e = e

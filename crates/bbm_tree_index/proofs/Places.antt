@@ -1,6 +1,6 @@
 -- The places of a page.
 use Rattle.std.proofs.Common.{◌≡◌, ℕ, ◌<◌, ◌+◌, ◌*◌, ◌/◌, ◌%◌, true, ◌==◌, sym, arith, subst}
-use Rattle.std.proofs.lemmas.Bool.{and_parts, eqb-true}
+use Rattle.std.proofs.lemmas.Bool.{and_from, and_parts, eqb-true, eq-eqb}
 use Rattle.bbm_rules.specs.Places.{page_of}
 use Rattle.bbm_tree_index.specs.HeldCores.{is_at}
 
@@ -19,6 +19,18 @@ at_eighth page a e = eqb-true (a % 8) 0 (and_parts (page_of a == page) (a % 8 ==
 
 pub place_is : (page a : ℕ) → is_at page a ≡ true → a ≡ page + 8 * (a % 4096 / 8)
 place_is page a e = place_number page a (at_page page a e) (at_eighth page a e)
+
+number_aligned : (page j : ℕ) → page % 4096 ≡ 0 → j < 512 → (page + 8 * j) / 4096 * 4096 ≡ page
+number_aligned page j aligned below = omega arith
+
+number_eighth : (page j : ℕ) → page % 4096 ≡ 0 → (page + 8 * j) % 8 ≡ 0
+number_eighth page j aligned = omega arith
+
+-- and the place of a number is in the page
+pub number_at : (page j : ℕ) → page % 4096 ≡ 0 → j < 512 → is_at page (page + 8 * j) ≡ true
+number_at page j aligned below =
+    and_from (page_of (page + 8 * j) == page) ((page + 8 * j) % 8 == 0)
+    (eq-eqb (page_of (page + 8 * j)) page (number_aligned page j aligned below)) (eq-eqb ((page + 8 * j) % 8) 0 (number_eighth page j aligned))
 
 -- what holds of each number of a page holds of each place of it
 pub each_place : (page : ℕ) (P : ℕ → Type 0) → ((j : ℕ) → j < 512 → P (page + 8 * j)) → (a : ℕ) → is_at page a ≡ true → P a

@@ -4,7 +4,7 @@ use Rattle.bbm_descriptor.specs.declared.desc.Core.{Core}
 use Rattle.bbm_regimes.specs.declared.regime.Kind.{Kind}
 use Rattle.bbm_rules.specs.Roots.{input_pages}
 use Rattle.bbm_rules.specs.Tree.{Node, region_start}
-use Rattle.bbm_tree_index.specs.HeldCores.{is_at, next_in}
+use Rattle.bbm_tree_index.specs.HeldCores.{child, is_at}
 
 -- the place is one of the page, where the node stands, and translates the input page
 pub record Translates (page : ℕ) (n : Node) (at place : ℕ) : Type 0 where
@@ -18,4 +18,4 @@ module _ (node : ℕ → Option Node) (core : Kind → ℕ → ℕ → Option Co
   abbrev pub IsWay : ℕ → List ℕ → ℕ → Type 0
   IsWay page [] a = (n : Node) × (node page ≡ Some n) × Translates page n at a
   IsWay page (b ∷ way) a = (n : Node) × (node page ≡ Some n) × Translates page n at b
-      × (next : ℕ) × (next_in (core n.kind n.level b) ≡ Some next) × IsWay next way a
+      × (next : ℕ) × (child core n b ≡ Some next) × IsWay next way a

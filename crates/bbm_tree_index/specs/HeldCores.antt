@@ -1,5 +1,5 @@
 -- What the places of trees hold, by a map: a broken place its core, another the core of its value where that is valid.
--- Source: project's own choice.
+-- And what that, and the values, say of tables and nodes. Source: project's own choice.
 use Rattle.std.specs.Prelude.{◌≡◌, ℕ, suc, ◌%◌, Bool, true, false, not, ◌&&◌, ◌==◌, Option, Some, None}
 use Rattle.std.specs.Prelude.{is_some, if◌then◌else◌}
 use Rattle.std.specs.Option.{option_map_or}
@@ -38,23 +38,24 @@ module _ (map : PlaceMap) where
   abbrev pub holds_at : Kind → ℕ → ℕ → Bool
   holds_at kind level place = is_some (core_at kind level place)
 
+-- Limbo: the present value of a place above the node is invalid.
+abbrev pub limbo_by : (ℕ → ℕ) → Node → Bool
+limbo_by value n = any (λ a. not (is_valid n.kind a.level (value a.place))) n.above
+
+-- whether each place above a node holds something
+abbrev pub is_held_by : (Kind → ℕ → ℕ → Bool) → Node → Bool
+is_held_by holds m = every (λ a. holds m.kind a.level a.place) m.above
+
+module _ (core : Kind → ℕ → ℕ → Option Core) where
   -- the next page of the table that a place of a node holds
-  abbrev pub next_at : Node → ℕ → Option ℕ
-  next_at n place = next_in (core_at n.kind n.level place)
-
-  -- whether each place above a node still holds something
-  abbrev pub is_held : Node → Bool
-  is_held m = every (λ a. holds_at m.kind a.level a.place) m.above
-
-  -- Limbo: the present value of a place above is invalid.
-  abbrev pub limbo_at : Node → Bool
-  limbo_at n = any (λ a. not (is_valid n.kind a.level (value_at map a.place))) n.above
+  abbrev pub child : Node → ℕ → Option ℕ
+  child n place = next_in (core n.kind n.level place)
 
   -- Childless: the place holds a table, and no place of its next page holds anything.
   pub record Childless (n : Node) (place : ℕ) : Type 0 where
     pub next : ℕ
-    pub table : next_at n place ≡ Some next
-    pub holds_none : (a : ℕ) → is_at next a ≡ true → holds_at n.kind (suc n.level) a ≡ false
+    pub table : child n place ≡ Some next
+    pub holds_none : (a : ℕ) → is_at next a ≡ true → is_some (core n.kind (suc n.level) a) ≡ false
 
 -- ---- pages that leave
 

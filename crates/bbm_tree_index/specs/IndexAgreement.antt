@@ -7,7 +7,7 @@ use Rattle.bbm_regimes.specs.declared.regime.Kind.{Kind}
 use Rattle.bbm_rules.specs.Places.{page_of}
 use Rattle.bbm_rules.specs.Roots.{input_pages}
 use Rattle.bbm_rules.specs.Tree.{Above, Node, node_below, region_start}
-use Rattle.bbm_tree_index.specs.HeldCores.{is_at, next_at}
+use Rattle.bbm_tree_index.specs.HeldCores.{child, core_at, is_at}
 use Rattle.bbm_tree_index.specs.Index.{heading_of, known_in, node_in, role_in}
 use Rattle.bbm_tree_index.specs.Nodes.{node_by}
 use Rattle.bbm_tree_index.specs.declared.index.TreeIndex.{TreeIndex}
@@ -40,7 +40,7 @@ pub record IsSound (index : TreeIndex) : Type 0 where
 pub record Agrees (index : TreeIndex) (map : PlaceMap) : Type 0 where
   pub sound : IsSound index
   pub below : (n : Node) (place next : ℕ) → node_in index (page_of place) ≡ Some n → is_at n.page place ≡ true
-      → next_at map n place ≡ Some next → node_in index next ≡ Some (node_below n place next)
+      → child (core_at map) n place ≡ Some next → node_in index next ≡ Some (node_below n place next)
   pub above : (page : ℕ) (m : Node) (a : Above) (rest : List Above) → node_in index page ≡ Some m → m.above ≡ a ∷ rest
-      → (n : Node) × (node_in index (page_of a.place) ≡ Some n) × (next_at map n a.place ≡ Some page)
+      → (n : Node) × (node_in index (page_of a.place) ≡ Some n) × (child (core_at map) n a.place ≡ Some page)
   pub outside : (place : ℕ) → node_in index (page_of place) ≡ None → marks_at map place ≡ None

@@ -5,7 +5,7 @@ use Rattle.bbm_place_map.specs.declared.map.PlaceMap.{PlaceMap}
 use Rattle.bbm_rules.specs.Lists.{any}
 use Rattle.bbm_rules.specs.Tree.{Node}
 use Rattle.bbm_tree_index.specs.Climbs.{cut_by, passes_at}
-use Rattle.bbm_tree_index.specs.HeldCores.{is_held}
+use Rattle.bbm_tree_index.specs.HeldCores.{holds_at, is_held_by}
 use Rattle.bbm_tree_index.specs.declared.climb.Asked.TheVariants as asked
 use Rattle.bbm_tree_index.specs.declared.leaving.Leaving.{Leaving}
 use Rattle.bbm_tree_index.specs.declared.leaving.Leaving.TheVariants.{Unheld, Root, Below}
@@ -18,7 +18,7 @@ roles_of table page = unwrap_or (get nat_eq table page) Untracked
 
 -- whether a node stays
 abbrev pub stays : PlaceMap → Leaving → Node → Bool
-stays map Unheld m = is_held map m
+stays map Unheld m = is_held_by (holds_at map) m
 stays map (Root first) m = not (m.root == first)
 stays map (Below place) m = not (any (λ a. a.place == place) m.above)
 

@@ -61,8 +61,9 @@ pub fn holds_none(map: &PlaceMap, kind: Kind, level: u8, page: Page) -> bool
     if map.is_blank(page) {
         return true;
     }
+    let seat = map.first_seat(page);
     for index in 0..PLACES {
-        if core_at(map, kind, level, place_of(page, index)).is_some() {
+        if map.core_from(&seat, index, kind, level).is_some() {
             return false;
         }
     }

@@ -52,7 +52,8 @@ impl TreeIndex {
     ghost use Rattle.bbm_tree_index.specs.Spots.{Fits, StandsAt, spot_with};
     ghost use Rattle.bbm_rules.specs.Tree.{Node};
     ghost use Rattle.bbm_tree_index.specs.Descent.{Translates};
-    ghost use Rattle.bbm_tree_index.specs.HeldCores.{Childless, is_at, is_held, kept, leaves, limbo_at, stays_without};
+    ghost use Rattle.bbm_tree_index.specs.HeldCores.{Childless, core_at, holds_at, is_at, is_held_by, kept, leaves};
+    ghost use Rattle.bbm_tree_index.specs.HeldCores.{limbo_by, stays_without};
     ghost use Rattle.bbm_tree_index.specs.Leaving.{stays};
     ghost use Rattle.bbm_tree_index.specs.Attaching.{Judges, MayJudge, names_pages};
     ghost use Rattle.bbm_tree_index.specs.LeastPages.{IsSurvey};
@@ -169,7 +170,7 @@ impl TreeIndex {
     /// Whether the present value of a place above the place is invalid; false where its page is in no tree.
     pub fn in_limbo(&self, map: &PlaceMap, place: Place) -> bool
         requires { IsSound self.now }
-        ensures { result ≡ option_map_or (limbo_at map.now) (node_in self.now (page_of place)) false }
+        ensures { result ≡ option_map_or (limbo_by (value_at map.now)) (node_in self.now (page_of place)) false }
     {
         let role = self.role(place.page());
         match role {
@@ -186,7 +187,7 @@ impl TreeIndex {
     pub fn childless(&self, map: &PlaceMap, place: Place) -> bool
         requires { IsSound self.now }
         ensures inside { (n : Node) → node_in self.now (page_of place) ≡ Some n
-            → (result ≡ true) ↔ Childless map.now n place }
+            → (result ≡ true) ↔ Childless (core_at map.now) n place }
         ensures outside { node_in self.now (page_of place) ≡ None → result ≡ false }
     {
         match self.spot(place.page()) {
@@ -232,17 +233,18 @@ impl TreeIndex {
     /// place of it is broken any more, and nothing waits there. All else stays.
     pub fn prune(&mut self, map: &mut PlaceMap)
         requires { IsSound self.old }
-        ensures node { (p : ℕ) → node_in self.new p ≡ kept (is_held map.old) (node_in self.old p) }
+        ensures node { (p : ℕ) → node_in self.new p ≡ kept (is_held_by (holds_at map.old)) (node_in self.old p) }
         ensures fresh { (p : ℕ) → fresh_in self.new p ≡ fresh_in self.old p }
         ensures null { (p : ℕ) → null_in self.new p ≡ null_in self.old p }
         ensures tracked { SameTracked self.old self.new }
         ensures sound { IsSound self.new }
         ensures values { (a : ℕ) → value_at map.new a ≡ value_at map.old a }
         ensures marks { (a : ℕ) → marks_at map.new a
-            ≡ (if leaves (is_held map.old) (node_in self.old (page_of a)) then None else marks_at map.old a) }
-        ensures pends { (q a : ℕ) → leaves (is_held map.old) (node_in self.old (page_of a)) ≡ false
+            ≡ (if leaves (is_held_by (holds_at map.old)) (node_in self.old (page_of a)) then None
+            else marks_at map.old a) }
+        ensures pends { (q a : ℕ) → leaves (is_held_by (holds_at map.old)) (node_in self.old (page_of a)) ≡ false
             → pends_at map.new q a ≡ pends_at map.old q a }
-        ensures dropped { (q a : ℕ) → leaves (is_held map.old) (node_in self.old (page_of a)) ≡ true
+        ensures dropped { (q a : ℕ) → leaves (is_held_by (holds_at map.old)) (node_in self.old (page_of a)) ≡ true
             → IsIdle (pends_at map.new q a) }
         ensures map_pages { (p : ℕ) → is_tracked map.new p ≡ is_tracked map.old p }
     {

@@ -71,7 +71,7 @@ fn deeper(level: u8) -> u8
 impl Spot {
     ghost use Rattle.std.specs.Prelude.{◌↔◌, ◌<◌, true, Some, IfSome};
     ghost use Rattle.bbm_rules.specs.Tree.{Node};
-    ghost use Rattle.bbm_tree_index.specs.HeldCores.{Childless, is_at};
+    ghost use Rattle.bbm_tree_index.specs.HeldCores.{Childless, core_at, is_at};
     ghost use Rattle.bbm_tree_index.specs.Spots.{StandsAt};
     ghost use Rattle.bbm_rules.specs.Places.{index_of};
 
@@ -105,7 +105,7 @@ impl Spot {
     /// Whether the place of the page holds a table no place of which holds anything.
     pub fn childless(&self, map: &PlaceMap, place: Place) -> bool
         requires { Fits self.now }
-        ensures { (n : Node) → StandsAt self.now n → (result ≡ true) ↔ Childless map.now n place }
+        ensures { (n : Node) → StandsAt self.now n → (result ≡ true) ↔ Childless (core_at map.now) n place }
     {
         match next_at(map, self.kind, self.level, place) {
             Some(next) => holds_none(map, self.kind, deeper(self.level), next),

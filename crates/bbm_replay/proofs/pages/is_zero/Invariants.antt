@@ -3,4 +3,4 @@ use Rattle.bbm_place_map.specs.Map.{value_at}
 use Rattle.bbm_replay.proofs.pages.is_zero.Given as goal
 
 abbrev pub invariant-loop-index : goal.invariant-loop-index
-invariant-loop-index l = (k : ℕ) → k < l.index → value_at l.map (l.page + 8 * k) ≡ 0
+invariant-loop-index l = (k : ℕ) → k < l.index → value_at l.map (l.fn.page + 8 * k) ≡ 0

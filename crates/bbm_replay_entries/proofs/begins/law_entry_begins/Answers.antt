@@ -5,15 +5,15 @@ use Rattle.bbm_rules.specs.Values.{value_of}
 use Rattle.bbm_replay_entries.proofs.Places.{fresh_holds, value_stands}
 use Rattle.bbm_replay_entries.proofs.begins.law_entry_begins.Goals as goal
 
-pub returns-clause-fresh : goal.returns-clause-fresh
-returns-clause-fresh c heading h kind level place state pends pes keeps fresh b =
-    value_stands heading (c.known.ensures heading) kind level place h state pends
-    (fresh_holds heading (c.known.ensures heading) kind level place h pes
-    (λ value holds. (c.known.ensures heading).fresh_held h keeps kind level place value fresh holds)) b
-
-pub returns-clause-attached : goal.returns-clause-attached
-returns-clause-attached c heading h e n place state pends pes keeps attaches inside b =
-    value_stands heading (c.known.ensures heading) n.kind n.level place (e ∷ h) state pends
-    (((c.known.ensures heading).attached_holds h e pes keeps n place attaches inside).holds
-    ∙ ap (λ (x : List Event). cond (is_valid n.kind n.level (value_of x place)) (Some (value_of x place)) None)
-    ((c.known.ensures heading).events_noted (e ∷ h))) b
+pub returns : goal.returns
+returns c heading = let k = c.known.ensures heading in record {
+  fresh = λ h kind level place state pends pes keeps fresh b.
+      value_stands heading k kind level place h state pends
+      (fresh_holds heading k kind level place h pes
+      (λ value holds. k.fresh_held h keeps kind level place value fresh holds)) b;
+  attached = λ h e n place state pends pes keeps attaches inside b.
+      value_stands heading k n.kind n.level place (e ∷ h) state pends
+      ((k.attached_holds h e pes keeps n place attaches inside).holds
+      ∙ ap (λ (x : List Event). cond (is_valid n.kind n.level (value_of x place)) (Some (value_of x place)) None)
+      (k.events_noted (e ∷ h))) b;
+}

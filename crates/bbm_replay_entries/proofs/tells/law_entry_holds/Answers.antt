@@ -25,18 +25,14 @@ next_held : (kind : Kind) (level : ℕ) (o : Option ℕ) → option_and_then (ne
 next_held kind level None = refl
 next_held kind level (Some value) = next_fields (desc_of kind level value)
 
-pub returns-clause-holds : goal.returns-clause-holds
-returns-clause-holds c heading h kind level place state pends s =
-    holds_core heading (c.known.ensures heading) kind level place h state pends s
-
-pub returns-clause-descriptor : goal.returns-clause-descriptor
-returns-clause-descriptor c heading h kind level place value core state pends s holds is =
-    fields (desc_of kind level value) core (sym (ap (option_and_then (core_of kind level)) holds) ∙ (sym s.core ∙ is))
-
-pub returns-clause-present : goal.returns-clause-present
-returns-clause-present c heading h kind level place state pends pes s unbroken =
-    present_core heading (c.known.ensures heading) kind level place h state pends pes s unbroken
-
-pub returns-clause-next : goal.returns-clause-next
-returns-clause-next c heading h kind level place state pends s =
-    next_held kind level (held_now heading h kind level place) ∙ sym (ap next_of_core s.core)
+pub returns : goal.returns
+returns c heading = let k = c.known.ensures heading in record {
+  holds = λ h kind level place state pends s. holds_core heading k kind level place h state pends s;
+  descriptor = λ h kind level place value core state pends s holds is.
+      fields (desc_of kind level value) core
+      (sym (ap (option_and_then (core_of kind level)) holds) ∙ (sym s.core ∙ is));
+  next = λ h kind level place state pends s.
+      next_held kind level (held_now heading h kind level place) ∙ sym (ap next_of_core s.core);
+  present = λ h kind level place state pends pes s unbroken.
+      present_core heading k kind level place h state pends pes s unbroken;
+}

@@ -1,14 +1,11 @@
-use Rattle.bbm_replay_trees.proofs.PageLemmas.{after_init, after_null, others}
+use Rattle.bbm_replay_trees.proofs.PageLemmas.{after_attached, after_init, after_null, others}
 use Rattle.bbm_replay_trees.proofs.pages.law_fresh_pages.Goals as goal
 
-pub returns-clause-init : goal.returns-clause-init
-returns-clause-init c heading h fresh next_fresh pe page kept same is =
-    after_init heading (c.below.ensures heading) h fresh same next_fresh pe page kept is
-
-pub returns-clause-null : goal.returns-clause-null
-returns-clause-null c heading h fresh next_fresh pe page kept same is =
-    after_null heading (c.below.ensures heading) h fresh same next_fresh pe page kept is
-
-pub returns-clause-others : goal.returns-clause-others
-returns-clause-others c heading h fresh e kept inits nulls none same =
-    others heading (c.below.ensures heading) h fresh same e kept inits nulls none
+pub returns : goal.returns
+returns c heading = let b = c.below.ensures heading in record {
+  init = λ h old new pe page kept same is. after_init heading b h old.fresh same new.fresh pe page kept is;
+  null = λ h old new pe page kept same is. after_null heading b h old.fresh same new.fresh pe page kept is;
+  attached = λ h old new e inits nulls same nodes is.
+      after_attached heading b h old.fresh same new.fresh new.node e inits nulls nodes is;
+  others = λ h view e kept inits nulls none same. others heading b h view.fresh same e kept inits nulls none;
+}

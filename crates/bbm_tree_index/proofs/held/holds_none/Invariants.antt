@@ -3,4 +3,4 @@ use Rattle.bbm_tree_index.specs.HeldCores.{holds_at}
 use Rattle.bbm_tree_index.proofs.held.holds_none.Given as goal
 
 abbrev pub invariant-loop-index : goal.invariant-loop-index
-invariant-loop-index l = (j : ℕ) → j < l.index → holds_at l.map l.kind l.level (l.page + 8 * j) ≡ false
+invariant-loop-index l = (j : ℕ) → j < l.index → holds_at l.map l.kind l.level (l.fn.page + 8 * j) ≡ false

@@ -1,6 +1,7 @@
 use Rattle.std.specs.Option.{option_map_or}
+use Rattle.bbm_place_map.specs.Map.{value_at}
 use Rattle.bbm_rules.specs.Places.{page_of}
-use Rattle.bbm_tree_index.specs.HeldCores.{limbo_at}
+use Rattle.bbm_tree_index.specs.HeldCores.{limbo_by}
 use Rattle.bbm_tree_index.specs.Index.{node_in}
 use Rattle.std.proofs.Common.{◌≡◌, ℕ, false, ◌&&◌, Some, None, Option, option_and_then, refl, sym, ◌∙◌, ap}
 use Rattle.bbm_rules.specs.Lists.{if_so}
@@ -37,7 +38,7 @@ returns-then-makes_in_limbo c = rw c.get-then-makes_in_limbo.ensures.value
     ∙ ap (λ (x : ℕ). option_and_then (λ l. if_so (lacks h c.args.write.now.pe l) x) (lock_of h c.args.write.now.path.now.first)) c.get.ensures.value)
     (no_some c.without_lock.result c.in_default.not-Some)
     (sym c.differ.ensures ∙ c.if-differ.false)
-    (ap (λ b. b && option_map_or (limbo_at c.args.self.now.map) (node_in c.args.self.now.index (page_of c.args.write.now.seat.now.place)) false) (sym c.is_some.ensures)
+    (ap (λ b. b && option_map_or (limbo_by (value_at c.args.self.now.map)) (node_in c.args.self.now.index (page_of c.args.write.now.seat.now.place)) false) (sym c.is_some.ensures)
     ∙ sym c.makes_in_limbo.ensures ∙ c.if-makes_in_limbo.true))
 
 pub returns : goal.returns
@@ -47,5 +48,5 @@ returns c = entry_clear c.laws.ensures c.rules.ensures c.args.self.now c.args.wr
     ∙ ap (λ (x : ℕ). option_and_then (λ l. if_so (lacks h c.args.write.now.pe l) x) (lock_of h c.args.write.now.path.now.first)) c.get.ensures.value)
     (no_some c.without_lock.result c.in_default.not-Some)
     (sym c.differ.ensures ∙ c.if-differ.false)
-    (ap (λ b. b && option_map_or (limbo_at c.args.self.now.map) (node_in c.args.self.now.index (page_of c.args.write.now.seat.now.place)) false) (sym c.is_some.ensures)
+    (ap (λ b. b && option_map_or (limbo_by (value_at c.args.self.now.map)) (node_in c.args.self.now.index (page_of c.args.write.now.seat.now.place)) false) (sym c.is_some.ensures)
     ∙ sym c.makes_in_limbo.ensures ∙ c.if-makes_in_limbo.false)

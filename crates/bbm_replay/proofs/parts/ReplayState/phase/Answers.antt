@@ -4,8 +4,8 @@ use Rattle.bbm_rules.specs.Places.{page_of}
 use Rattle.bbm_rules.specs.Prelude.{Heading}
 use Rattle.bbm_replay_entries.specs.EntryPhases.{phase_in}
 use Rattle.bbm_replay.specs.ReplayStanding.{view_of}
-use Rattle.bbm_replay.specs.View.{state_of, waiting}
 use Rattle.bbm_tree_index.specs.declared.role.Path.{Path}
+use Rattle.bbm_replay.specs.ReplayTold.{state_of, waiting}
 use Rattle.bbm_replay.proofs.Found.{at_path, no_path, shallow}
 use Rattle.bbm_replay.proofs.parts.ReplayState.phase.Goals as goal
 
@@ -19,13 +19,13 @@ returns-in-Some c heading h s =
     c.phase_of_state.ensures
     ∙ ap (λ (x : EntryState). phase_in x c.args.pe) c.state_at.ensures
     ∙ ap (λ (x : Path). phase_in (state_of (view_of p.map p.index) x.kind x.level c.args.place) c.args.pe) at.2
-    ∙ sym (c.law_entry_phase.ensures.phase heading h n c.args.place c.args.pe (state_of (view_of p.map p.index) n.kind n.level c.args.place)
+    ∙ sym ((c.law_entry_phase.ensures heading).phase h n c.args.place c.args.pe (state_of (view_of p.map p.index) n.kind n.level c.args.place)
     (waiting (view_of p.map p.index) c.args.place) below (sym (s.told.nodes (page_of c.args.place)) ∙ at.1)
     (s.told.entries n c.args.place at.1))
 
 pub returns-in-None : goal.returns-in-None
 returns-in-None c heading h s =
-    sym (c.law_entry_phase.ensures.outside_clean heading h c.args.place c.args.pe
+    sym ((c.law_entry_phase.ensures heading).outside_clean h c.args.place c.args.pe
     (sym (s.told.nodes (page_of c.args.place)) ∙ no_path c.args.self.now c.args.place c.path.result c.in-None.is c.path.ensures))
 
 pub state_at-requires : goal.state_at-requires

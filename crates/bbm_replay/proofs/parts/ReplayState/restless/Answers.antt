@@ -9,14 +9,14 @@ use Rattle.bbm_rules.specs.Tree.{Node}
 use Rattle.bbm_tree_index.specs.Index.{node_in}
 use Rattle.bbm_replay_trees.specs.Told.{notes}
 use Rattle.bbm_replay.specs.ReplayStanding.{view_of}
-use Rattle.bbm_replay.specs.View.{state_of, waiting}
+use Rattle.bbm_replay.specs.ReplayTold.{state_of, waiting}
 use Rattle.bbm_replay.specs.declared.parts.ReplayState.{ReplayState}
 use Rattle.bbm_replay.proofs.DsbMoves.{broken_marks}
 use Rattle.bbm_replay.proofs.parts.ReplayState.restless.Goals as goal
 
 pub returns : goal.returns
 returns c heading h s = c.restless.ensures.count
-    ∙ sym (c.law_restless_places.ensures.numbered heading h _ (restless_place p.map) (record {
+    ∙ sym ((c.law_restless_places.ensures heading).numbered h _ (restless_place p.map) (record {
       restless = λ i below. is (restless_place p.map i) ∙ c.restless.ensures.broken i below;
       each = λ a k. c.restless.ensures.each a (sym (is a) ∙ k);
       once = c.restless.ensures.once;
@@ -27,10 +27,10 @@ returns c heading h s = c.restless.ensures.count
 
     by : (a : ℕ) (o : Option Node) → node_in p.index (page_of a) ≡ o
         → is_restless heading Patterns (notes heading h) a ≡ is_some (marks_at p.map a)
-    by a (Some n) k = c.law_entry_phase.ensures.restless heading h n a (state_of (view_of p.map p.index) n.kind n.level a)
+    by a (Some n) k = (c.law_entry_phase.ensures heading).restless h n a (state_of (view_of p.map p.index) n.kind n.level a)
         (waiting (view_of p.map p.index) a) (sym (s.told.nodes (page_of a)) ∙ k) (s.told.entries n a k)
         ∙ broken_marks (core_of n.kind n.level (value_at p.map a)) (marks_at p.map a)
-    by a None k = c.law_entry_phase.ensures.outside_restless heading h a (sym (s.told.nodes (page_of a)) ∙ k)
+    by a None k = (c.law_entry_phase.ensures heading).outside_restless h a (sym (s.told.nodes (page_of a)) ∙ k)
         ∙ sym (ap (λ (m : Option Marks). is_some m) (s.told.outside a k))
 
     is : (a : ℕ) → is_restless heading Patterns (notes heading h) a ≡ is_some (marks_at p.map a)

@@ -1,9 +1,20 @@
-use Rattle.std.proofs.Common.{refl, sym, ◌∙◌}
+use Rattle.std.proofs.Common.{◌≡◌, ℕ, ◌<◌, None, not, ◌&&◌, ◌||◌, nat_eq, refl, subst}
+use Rattle.bbm_entry_state.specs.EntryCalls.{Noted}
+use Rattle.bbm_place_map.specs.Map.{marks_at, pends_at}
+use Rattle.bbm_place_map.specs.States.{state_from}
+use Rattle.bbm_regimes.specs.PeMask.{pe_in}
+use Rattle.bbm_rules.specs.Claims.Trust.{Patterns}
+use Rattle.bbm_rules.specs.Covers.{cover_at}
+use Rattle.bbm_rules.specs.Prelude.{Tlbi}
+use Rattle.bbm_replay_trees.specs.Told.{notes}
 use Rattle.bbm_replay.specs.Covering.{MayBeIssued}
 use Rattle.bbm_replay.specs.declared.parts.ReplayState.{ReplayState}
 use Rattle.bbm_replay.proofs.Framing.{same_of, stands_still}
 use Rattle.bbm_replay.proofs.Issuing.{tlbi_meets}
 use Rattle.bbm_replay.proofs.parts.ReplayState.tlbi.Goals as goal
+
+pub issue-requires-clause-tracked : goal.issue-requires-clause-tracked
+issue-requires-clause-tracked c p n is = c.requires.2.told.apart.node_tracked p n is
 
 pub returns-in-Err-issue : goal.returns-in-Err-issue
 returns-in-Err-issue c =
@@ -12,30 +23,42 @@ returns-in-Err-issue c =
     record {
       judged = λ heading h s. tt;
       taken = tt;
-      unchanged = λ heading h s. stands_still c.laws.ensures old new (record { header = refl; index_header = refl; sound = λ k. k })
+      unchanged = λ heading h s. stands_still c.laws.ensures old new (record
+          { header = refl; index_header = refl; sound = λ k. k })
           (same_of old.map new.map old.index old.index c.in-Err-issue.ensures.kept
           (record { node = λ p. refl; fresh = λ p. refl; null = λ p. refl })
-          (record { known = λ p. refl; pages = refl; heading = refl })) heading h s (c.prepare_issue.ensures.same heading h s.roots);
+          (record { known = λ p. refl; pages = refl; heading = refl })) heading h s
+          (c.prepare_issue.ensures.same heading h s.roots);
       frugal = λ heading h s. (refl, refl);
     }
 
 pub returns-in-Ok-issue : goal.returns-in-Ok-issue
 returns-in-Ok-issue c =
     let old = c.args.self.now in
+    let pe = c.args.pe in
+    let op = c.args.op in
     let e = c.in-Ok-issue.ensures in
-    tlbi_meets c.laws.ensures c.rules.ensures old c.issue.new.map c.issue_ready.new.self c.args.pe c.args.op c.args.xt c.requires
-    (λ heading h s. (c.in-Ok.ensures heading h s).0) c.reach_of-reach.result c.reach_of-reach.ensures
+    let broadcast = c.in-Ok.ensures.broadcast in
+    let new = c.issue.new.map in
+    let reach = c.reach-reach.result in
+    tlbi_meets c.laws.ensures c.rules.ensures old new c.issue_ready.new.self pe op c.args.xt c.requires
+    (λ heading h s. (c.in-Ok.ensures.judged heading h s).0) reach
+    (subst (λ b. (p : ℕ) → p < old.header.pes → pe_in reach p ≡ (b || (not old.header.cnp && nat_eq pe p)))
+    broadcast c.reach-reach.ensures)
     (λ heading h s a broken.
-    let names = (c.in-Ok.ensures heading h s.roots).1 in
-    let m : MayBeIssued heading h old.map old.index c.prepare_issue.new.self c.args.pe c.args.op c.args.xt c.in-Ok.named
+    let names = (c.in-Ok.ensures.judged heading h s.roots).1 in
+    let m : MayBeIssued heading h old.map old.index c.prepare_issue.new.self pe op c.args.xt c.in-Ok.named
     = record {
       told = s.told;
       stands = c.prepare_issue.ensures.same heading h s.roots;
       names = names.0;
       vmid_is = names.1;
     } in
-    e.noted heading h c.args.xt s.header m a broken)
+    subst (λ b. Noted (state_from None (marks_at old.map a)) (pends_at old.map pe a) reach b
+    (cover_at heading Patterns (notes heading h) (Tlbi pe op c.args.xt) a) (pends_at new pe a))
+    broadcast (e.noted heading h op c.args.xt s.header m a broken))
     e.others c.law_idle.ensures c.law_idle-in-Ok-issue.ensures e.values e.marks e.pages
     (λ heading h s.
-    let judged = c.in-Ok.ensures heading h s.roots in
-    c.issue_ready.ensures.taken heading h c.args.op c.args.xt (c.prepare_issue.ensures.same heading h s.roots) judged.1 judged.0)
+    let judged = c.in-Ok.ensures.judged heading h s.roots in
+    c.issue_ready.ensures.taken heading h op c.args.xt (c.prepare_issue.ensures.same heading h s.roots) judged.1
+    judged.0)

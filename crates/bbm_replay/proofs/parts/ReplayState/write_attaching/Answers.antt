@@ -9,7 +9,7 @@ use Rattle.bbm_tree_index.specs.declared.role.Path.{Path}
 use Rattle.bbm_tree_index.specs.Paths.{starts_of}
 use Rattle.bbm_tree_index.specs.declared.role.Attach.TheVariants as attach
 use Rattle.bbm_replay.specs.ReplayStanding.{view_of}
-use Rattle.bbm_replay.specs.View.{state_of}
+use Rattle.bbm_replay.specs.ReplayTold.{state_of}
 use Rattle.bbm_replay.specs.declared.parts.ReplayState.{ReplayState}
 use Rattle.bbm_replay.proofs.Framing.{stands_still}
 use Rattle.bbm_replay.proofs.Inside.{attach_fault, attach_ok, below_three}

@@ -5,7 +5,7 @@ use Rattle.bbm_entry_state.specs.Points.{core_in, waits}
 use Rattle.bbm_entry_state.specs.declared.pending.Pends.{Pends}
 use Rattle.bbm_place_map.specs.Map.{state_at}
 use Rattle.bbm_replay.specs.ReplayStanding.{view_of}
-use Rattle.bbm_replay.specs.View.{state_of}
+use Rattle.bbm_replay.specs.ReplayTold.{state_of}
 use Rattle.bbm_replay.specs.declared.parts.ReplayState.{ReplayState}
 use Rattle.bbm_replay.proofs.Inside.{plain_bad, plain_global, plain_ok}
 use Rattle.bbm_replay.proofs.parts.ReplayState.write_plain.Goals as goal

@@ -1,9 +1,10 @@
 use Rattle.std.proofs.Common.{false, sym, ap, ◌∙◌}
 use Rattle.std.specs.Option.{option_map_or}
+use Rattle.bbm_place_map.specs.Map.{value_at}
 use Rattle.bbm_tree_index.proofs.Indexes.{cut_in}
 use Rattle.bbm_tree_index.proofs.Limbo.{hanging, level_low}
 use Rattle.bbm_tree_index.specs.Climbs.{cut_by, passes_at}
-use Rattle.bbm_tree_index.specs.HeldCores.{limbo_at}
+use Rattle.bbm_tree_index.specs.HeldCores.{limbo_by}
 use Rattle.bbm_tree_index.specs.Index.{node_in, role_in}
 use Rattle.bbm_tree_index.specs.declared.climb.Asked.TheVariants.{Invalid}
 use Rattle.bbm_tree_index.specs.declared.role.Role.TheVariants.{Hangs}
@@ -23,4 +24,5 @@ returns-in-Hangs c =
     ∙ ap (λ level. cut_by (passes_at c.args.map.now Invalid) (role_in c.args.self.now) level (Hangs h.parent h.kind h.level h.base h.first)) (sym n.2)
     ∙ ap (cut_by (passes_at c.args.map.now Invalid) (role_in c.args.self.now) n.0.level) (sym h.is ∙ c.role-role.ensures)
     ∙ cut_in c.args.self.now (passes_at c.args.map.now Invalid) c.requires c.page.result n.0 n.1
-    ∙ ap (λ o. option_map_or (limbo_at c.args.map.now) o false) (sym n.1 ∙ ap (node_in c.args.self.now) c.page.ensures)
+    ∙ ap (λ o. option_map_or (limbo_by (value_at c.args.map.now)) o false)
+    (sym n.1 ∙ ap (node_in c.args.self.now) c.page.ensures)

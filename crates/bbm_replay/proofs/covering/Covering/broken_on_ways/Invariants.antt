@@ -6,12 +6,13 @@ use Rattle.bbm_tree_index.specs.Index.{node_in}
 use Rattle.bbm_replay_roots.specs.RootsByNumber.{nth_in}
 use Rattle.bbm_replay.specs.Covering.{AreCovered}
 use Rattle.bbm_replay.specs.OnePage.{IsFoundIn, MetFromAll, covers_kind}
-use Rattle.bbm_replay.proofs.by_page.broken_on_ways.Given as goal
+use Rattle.bbm_replay.proofs.covering.Covering.broken_on_ways.Given as goal
 
 abbrev pub invariant-loop-number : goal.invariant-loop-number
 invariant-loop-number l = record {
-  covers : AreCovered l.map l.by.index.now l.by.roots.now l.by.named.now l.found.items;
-  met : (i : ℕ) → i < l.number → (kind : Kind) (first : ℕ) → nth_in l.by.roots.now i ≡ Some (kind, first)
-      → covers_kind l.by.named.now.scope.family kind ≡ true
-      → MetFromAll (node_in l.by.index.now) (core_at l.map) l.at first (page_count l.by.header.now.world kind) (IsFoundIn l.map l.found.items);
+  covers : AreCovered l.map l.self.index.now l.self.roots.now l.self.named.now l.found.items;
+  met : (i : ℕ) → i < l.number → (kind : Kind) (first : ℕ) → nth_in l.self.roots.now i ≡ Some (kind, first)
+      → covers_kind l.self.named.now.scope.family kind ≡ true
+      → MetFromAll (node_in l.self.index.now) (core_at l.map) l.at first (page_count l.self.header.now.world kind)
+      (IsFoundIn l.map l.found.items);
 }

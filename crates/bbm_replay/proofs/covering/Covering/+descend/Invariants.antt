@@ -1,4 +1,4 @@
-use Rattle.bbm_replay.proofs.by_page.+descend.Given as goal
+use Rattle.bbm_replay.proofs.covering.Covering.+descend.Given as goal
 
 abbrev pub decreases-descend : goal.decreases-descend
 decreases-descend l = l.left

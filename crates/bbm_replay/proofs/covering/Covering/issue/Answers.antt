@@ -7,7 +7,6 @@ use Rattle.bbm_place_map.specs.Map.{marks_at, pends_at}
 use Rattle.bbm_place_map.specs.States.{state_from}
 use Rattle.bbm_place_map.specs.declared.found.Found.{Found}
 use Rattle.bbm_regimes.specs.World.{page_count}
-use Rattle.bbm_tlbi_scope.specs.Operations.{operation}
 use Rattle.bbm_tlbi_scope.specs.declared.entry.Cover.{Cover}
 use Rattle.bbm_tlbi_scope.specs.declared.entry.Cover.TheVariants as cover
 use Rattle.bbm_rules.specs.Claims.Trust.{Patterns}
@@ -21,63 +20,68 @@ use Rattle.bbm_replay.proofs.Findings.{if_some, on_ok, may_cover}
 use Rattle.bbm_replay.proofs.Unmet.{noted_none, uncovered}
 use Rattle.bbm_place_map.specs.declared.map.PlaceMap.{PlaceMap}
 use Rattle.bbm_replay.specs.Covering.{MayBeCovered}
-use Rattle.bbm_replay.proofs.issues.issue.Goals as goal
+use Rattle.bbm_replay.proofs.covering.Covering.issue.Goals as goal
 
 pub returns-in-None-clause-noted : goal.returns-in-None-clause-noted
 returns-in-None-clause-noted c =
+    let by = c.args.self.now in
     let map = c.args.map.now in
     let pe = c.args.pe in
     let new = c.issue.new.self in
-    on_ok c.issue.result c.issue.ensures.noted (λ all heading h xt headed m a broken.
+    on_ok c.issue.result c.issue.ensures.noted (λ all heading h op xt headed m a broken.
     let n = all a broken in
     let shown = n.1.shown in
     let shows = n.1.shows in
     let says = n.1.says in
-    let same : n.0 ≡ cover_at heading Patterns (notes heading h) (Tlbi pe c.args.op xt) a
+    let same : n.0 ≡ cover_at heading Patterns (notes heading h) (Tlbi pe op xt) a
     = (let told = says.met.1 in
     let core = n.1.marks.core in
-    let may : MayBeCovered heading h shown.now c.args.by.now.index.now c.args.by.now.roots.now pe c.args.op xt c.args.by.now.named.now a core
-    = subst (λ (x : PlaceMap). MayBeCovered heading h x c.args.by.now.index.now c.args.by.now.roots.now pe c.args.op xt c.args.by.now.named.now a core) (sym shows)
-    (may_cover heading h map c.args.by.now.index.now c.args.by.now.roots.now pe c.args.op xt c.args.by.now.named.now a core m (n.1.marks, n.1.broken, refl)) in
+    let may : MayBeCovered heading h shown.now by.index.now by.roots.now pe op xt by.named.now a core
+    = subst (λ (x : PlaceMap). MayBeCovered heading h x by.index.now by.roots.now pe op xt by.named.now a core)
+    (sym shows)
+    (may_cover heading h map by.index.now by.roots.now pe op xt by.named.now a core m (n.1.marks, n.1.broken, refl)) in
     search rules) in
-    let at : Noted (state_from None (marks_at map a)) (pends_at map pe a) c.args.reach c.is_broadcast-broadcast.result n.0 (pends_at new pe a) = n.2 in
-    subst (λ (x : Cover). Noted (state_from None (marks_at map a)) (pends_at map pe a) c.args.reach (operation c.args.op).broadcast x (pends_at new pe a)) same
-    (subst (λ b. Noted (state_from None (marks_at map a)) (pends_at map pe a) c.args.reach b n.0 (pends_at new pe a)) c.is_broadcast-broadcast.ensures at))
+    subst (λ (x : Cover). Noted (state_from None (marks_at map a)) (pends_at map pe a) c.args.reach
+    by.named.now.scope.broadcast x (pends_at new pe a)) same n.2)
 
 pub returns-in_ok-found-in-Some-clause-noted : goal.returns-in_ok-found-in-Some-clause-noted
 returns-in_ok-found-in-Some-clause-noted c =
+    let by = c.args.self.now in
     let map = c.args.map.now in
-    let index = c.args.by.now.index.now in
-    let scope = c.args.by.now.named.now.scope in
+    let index = by.index.now in
+    let scope = by.named.now.scope in
     let pe = c.args.pe in
     let items = c.in_ok-found-in-Some.found.items in
     let found = c.deref.result.now in
-    let one : NamesOne scope c.in-Some.at = if_some (λ at. NamesOne scope at) c.page_looked_at.result c.in-Some.at c.in-Some.is c.page_looked_at.ensures in
+    let one : NamesOne scope c.in-Some.at = if_some (λ at. NamesOne scope at) c.page_looked_at.result c.in-Some.at
+    c.in-Some.is c.page_looked_at.ensures in
     let new = c.issue_at.new.self in
-    on_ok c.issue_at.result c.issue_at.ensures.noted (λ noted heading h xt same m a broken.
-    let f = cover_at heading Patterns (notes heading h) (Tlbi pe c.args.op xt) in
+    on_ok c.issue_at.result c.issue_at.ensures.noted (λ noted heading h op xt same m a broken.
+    let f = cover_at heading Patterns (notes heading h) (Tlbi pe op xt) in
     let told : FoundAs found f
-    = subst (λ (xs : List Found). FoundAs xs f) (sym c.deref.ensures.value) (c.in_ok-found-in-Some.ensures.covers heading h pe c.args.op xt m) in
+    = subst (λ (xs : List Found). FoundAs xs f) (sym c.deref.ensures.value)
+    (c.in_ok-found-in-Some.ensures.covers heading h pe op xt m) in
     let hit : is_found found a ≡ true → Noted (state_from None (marks_at map a)) (pends_at map pe a) c.args.reach
-    (operation c.args.op).broadcast (f a) (pends_at new pe a)
-    = λ e. subst (λ b. Noted (state_from None (marks_at map a)) (pends_at map pe a) c.args.reach b (f a) (pends_at new pe a))
-    c.is_broadcast-broadcast.ensures (noted f told a e broken) in
+    scope.broadcast (f a) (pends_at new pe a)
+    = λ e. noted f told a e broken in
     let missed : is_found found a ≡ false → IsFoundIn map items a → ⊥
-    = λ e has. true≢false (sym (has broken) ∙ ap (λ (xs : List Found). is_found xs a) (sym c.deref.ensures.value) ∙ e) in
+    = λ e has. true≢false (sym (has broken) ∙ ap (λ (xs : List Found). is_found xs a) (sym c.deref.ensures.value)
+    ∙ e) in
     let away : is_found found a ≡ false → f a ≡ cover.None
-    = λ e. uncovered heading (c.laws.ensures heading) h (c.law_starts.ensures heading h)
-    (c.law_notes_keep_the_events.ensures heading Patterns h) map index c.args.by.now.roots.now pe c.args.op xt
-    c.args.by.now.named.now m c.requires c.in-Some.at one (IsFoundIn map items)
-    (λ r at covers. subst (λ (x : Heading). MetFromAll (node_in index) (core_at map) c.in-Some.at r.page (page_count x.world r.kind)
+    = λ e. uncovered heading (c.laws.ensures heading) h (c.law_starts.ensures heading)
+    (c.law_notes_keep_the_events.ensures heading Patterns h) map index by.roots.now pe op xt by.named.now m
+    c.requires.sound c.in-Some.at one (IsFoundIn map items)
+    (λ r at covers. subst (λ (x : Heading). MetFromAll (node_in index) (core_at map) c.in-Some.at r.page
+    (page_count x.world r.kind)
     (IsFoundIn map items)) same (c.in_ok-found-in-Some.ensures.met heading h r m.stands at covers))
     a broken (missed e) in
     let quiet : is_found found a ≡ false → Noted (state_from None (marks_at map a)) (pends_at map pe a) c.args.reach
-    (operation c.args.op).broadcast (f a) (pends_at new pe a)
+    scope.broadcast (f a) (pends_at new pe a)
     = λ e. subst (λ (k : Cover). Noted (state_from None (marks_at map a)) (pends_at map pe a) c.args.reach
-    (operation c.args.op).broadcast k (pends_at new pe a)) (sym (away e))
+    scope.broadcast k (pends_at new pe a)) (sym (away e))
     (subst (λ (p : Pends). Noted (state_from None (marks_at map a)) (pends_at map pe a) c.args.reach
-    (operation c.args.op).broadcast cover.None p) (sym (c.issue_at.ensures.unnoted a e))
-    (noted_none (state_from None (marks_at map a)) (pends_at map pe a) c.args.reach (operation c.args.op).broadcast)) in
+    scope.broadcast cover.None p) (sym (c.issue_at.ensures.unnoted a e))
+    (noted_none (state_from None (marks_at map a)) (pends_at map pe a) c.args.reach scope.broadcast)) in
     either (is_found found a) hit quiet)
   where
     either : (b : Bool) {P : Type 0} → (b ≡ true → P) → (b ≡ false → P) → P

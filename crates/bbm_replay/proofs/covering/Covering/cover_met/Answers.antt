@@ -1,0 +1,92 @@
+use Rattle.std.proofs.Common.{◌≡◌, ◌≤◌, ◌<◌, ◌+◌, ◌-◌, ℕ, true, false, Some, refl, sym, ◌∙◌, ap, subst, arith}
+use Rattle.bbm_descriptor.specs.Descriptor.{core_of, desc_of}
+use Rattle.bbm_descriptor.specs.declared.desc.Core.{Core}
+use Rattle.bbm_place_map.specs.Map.{marks_at, value_at}
+use Rattle.bbm_tlbi_scope.specs.ScopeCovers as scopes
+use Rattle.bbm_regimes.specs.Extent.{Extent}
+use Rattle.bbm_regimes.specs.World.{input_pages}
+use Rattle.bbm_tlbi_scope.specs.Numbers.{names_some}
+use Rattle.bbm_tlbi_scope.specs.Operations.{has_page}
+use Rattle.bbm_rules.specs.Claims.Trust.{Patterns}
+use Rattle.bbm_rules.specs.Places.{page_of}
+use Rattle.bbm_rules.specs.Tags.{tag_set, tags_of}
+use Rattle.bbm_rules.specs.Tree.{held_at, is_childless, region_of, region_start}
+use Rattle.bbm_tree_index.specs.declared.role.Path.{Path}
+use Rattle.bbm_replay_trees.specs.Told.{notes}
+use Rattle.bbm_replay.specs.Covering.{asks_childless, asks_tags}
+use Rattle.bbm_replay.specs.ReplayStanding.{view_of}
+use Rattle.bbm_replay.proofs.Asking.{alike}
+use Rattle.bbm_replay.proofs.Covered.{core_of_marks, covered, global_is, held_of, same_by_truth, table_is}
+use Rattle.bbm_replay.proofs.Descents.{unnamed}
+use Rattle.bbm_replay.proofs.Unmet.{cover_none, some_width}
+use Rattle.bbm_replay.proofs.Writing.{cores}
+use Rattle.bbm_replay.proofs.covering.Covering.cover_met.Goals as goal
+
+pub returns-then-not-names_some : goal.returns-then-not-names_some
+returns-then-not-names_some c over heading h pe op xt m =
+    let by = c.args.self.now in
+    let place = c.args.place in
+    let n = c.requires.path.0 in
+    let paged : has_page by.named.now.scope.family ≡ true = sym c.has_page.ensures ∙ c.if-has_page.true in
+    let none : names_some by.named.now.scope.interval c.args.path.now.region ≡ false
+    = sym c.names_some.ensures ∙ c.if-not-names_some.true in
+    let low : n.level < 4
+    = ((c.laws.ensures heading).neighbours.own h (view_of c.args.map.now by.index.now) (page_of place) n
+    m.told.nodes c.requires.path.1).1 in
+    sym (cover_none heading h (c.law_notes_keep_the_events.ensures heading Patterns h) c.args.map.now by.index.now
+    by.roots.now
+    pe op xt by.named.now m n place (sym (m.told.nodes (page_of place)) ∙ c.requires.path.1)
+    (λ v own kind region. unnamed by.named.now.scope paged own v
+    (subst (λ (x : Extent). x.lo ≤ x.hi) (sym region) (ends (region_start n place) (input_pages n.level)
+    (some_width n.level low)))
+    (ap (λ (x : Extent). names_some by.named.now.scope.interval x) (region ∙ sym
+    (ap (λ (y : Path). y.region) c.requires.path.2)) ∙ none)))
+  where
+    ends : (start w : ℕ) → 1 ≤ w → start ≤ start + w - 1
+    ends start w k = omega arith
+
+pub returns : goal.returns
+returns c over heading h pe op xt m =
+    let map = c.args.map.now in
+    let index = c.args.self.now.index.now in
+    let scope = c.args.self.now.named.now.scope in
+    let vmid = c.args.self.now.named.now.vmid in
+    let place = c.args.place in
+    let view = view_of map index in
+    let n = c.requires.path.0 in
+    let is = c.requires.path.1 in
+    let at = c.requires.path.2 in
+    let core = c.args.core.now in
+    let stands = m.told.entries n place is in
+    let held = held_of (held_at heading Patterns (notes heading h) n place) (core_of n.kind n.level) core
+    (sym stands.core ∙ core_of_marks (core_of n.kind n.level (value_at map place)) (marks_at map place) over.0 over.1
+    ∙ ap (λ (k : Core). Some k) over.2) in
+    let law = c.law_childless_by_cores.ensures heading h view n place held.0 m.told.kept m.told.fit
+    m.told.nodes (cores heading h view m.told) is held.1 in
+    let childless = is_childless heading Patterns (notes heading h) n held.0 in
+    let tags = tag_set (tags_of heading Patterns n.root h) in
+    let table = c.is_table-table.result in
+    let same_childless : asks_childless scope table ≡ true → c.is_childless.result ≡ childless
+    = λ asked. let inside = c.is_childless.ensures asked n is in
+    same_by_truth c.is_childless.result childless
+    (λ k. law.1 (inside.0 k)) (λ k. inside.1 (law.0 k)) in
+    let same_tags : asks_tags scope.family n.kind ≡ true → c.tags.result ≡ tags
+    = λ asked. c.tags.ensures (ap (λ (y : Path). asks_tags scope.family y.kind) at ∙ asked) heading h m.stands
+    ∙ ap (λ (y : Path). tag_set (tags_of heading Patterns y.first h)) at in
+    c.cover.ensures
+    ∙ ap (λ (y : Path). scopes.cover_of scope vmid (record {
+      kind = y.kind;
+      region = y.region;
+      level = y.level;
+      table = table;
+      global = c.is_global.result;
+      childless = c.is_childless.result;
+      tags = c.tags.result;
+    })) at
+    ∙ alike scope vmid n.kind (region_of n place) n.level table c.is_global.result
+    c.is_childless.result childless c.tags.result tags same_childless same_tags
+    ∙ covered heading h pe op xt scope vmid place n held.0 table c.is_global.result
+    childless tags (c.law_notes_keep_the_events.ensures heading Patterns h)
+    m.names m.vmid_is (sym (m.told.nodes (page_of place)) ∙ is) held.1
+    (c.is_table-table.ensures ∙ table_is (desc_of n.kind n.level held.0) core held.2)
+    (c.is_global.ensures ∙ global_is (desc_of n.kind n.level held.0) core held.2) refl refl

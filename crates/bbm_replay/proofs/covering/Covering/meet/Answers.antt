@@ -1,0 +1,39 @@
+use Rattle.std.proofs.Common.{◌≡◌, true, List, sym, ◌∙◌, ap, subst}
+use Rattle.bbm_place_map.specs.Finds.{FoundAs, is_found}
+use Rattle.bbm_place_map.specs.Map.{marks_at}
+use Rattle.bbm_place_map.specs.declared.found.Found.{Found}
+use Rattle.bbm_place_map.specs.declared.seat.Seat.{Seat}
+use Rattle.bbm_rules.specs.Claims.Trust.{Patterns}
+use Rattle.bbm_rules.specs.Covers.{cover_at}
+use Rattle.bbm_rules.specs.Prelude.{Tlbi}
+use Rattle.bbm_replay_trees.specs.Told.{notes}
+use Rattle.bbm_replay.specs.Covering.{IsBrokenOver}
+use Rattle.bbm_replay.proofs.Findings.{as_end, found_before, found_end, if_some}
+use Rattle.bbm_replay.proofs.Ways.{broken_over}
+use Rattle.bbm_replay.proofs.covering.Covering.meet.Goals as goal
+
+pub returns-in_ok-push-in-Some-clause-grows : goal.returns-in_ok-push-in-Some-clause-grows
+returns-in_ok-push-in-Some-clause-grows c =
+    let map = c.args.map.now in
+    let place = c.args.place in
+    let old = c.args.found.now.items in
+    let item : Found = record { place = place; cover = c.cover_met-cover.result } in
+    let seat = c.unwrap-seat.result in
+    let here : seat.place ≡ place
+    = if_some (λ (s : Seat). s.place ≡ place) c.seat.result seat c.unwrap-seat.ensures c.seat.ensures.place in
+    let o = broken_over (marks_at map seat.place) c.in-Some.core (sym c.in-Some.is ∙ c.core_at.ensures) in
+    let over : IsBrokenOver map place c.in-Some.core = (o.0, ap (λ a. marks_at map a) (sym here) ∙ o.1, o.2) in
+    let more = c.in_ok-push-in-Some.ensures.items in (
+      λ all heading h pe op xt m.
+          subst (λ (xs : List Found). FoundAs xs (cover_at heading Patterns (notes heading h) (Tlbi pe op xt)))
+          (sym more)
+          (as_end old item (cover_at heading Patterns (notes heading h) (Tlbi pe op xt)) (all heading h pe op xt m)
+          (c.cover_met-cover.ensures over heading h pe op xt m)),
+      λ a has. subst (λ (xs : List Found). is_found xs a ≡ true) (sym more) (found_before old item a has),
+    )
+
+pub returns-in_ok-push-in-Some-clause-added : goal.returns-in_ok-push-in-Some-clause-added
+returns-in_ok-push-in-Some-clause-added c =
+    let item : Found = record { place = c.args.place; cover = c.cover_met-cover.result } in
+    λ broken. subst (λ (xs : List Found). is_found xs c.args.place ≡ true) (sym c.in_ok-push-in-Some.ensures.items)
+    (found_end c.args.found.now.items item)

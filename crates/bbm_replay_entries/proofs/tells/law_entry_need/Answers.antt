@@ -1,0 +1,39 @@
+use Rattle.std.proofs.Common.{◌≡◌, ℕ, false, List, Option, Some, None, option_and_then, refl, ap, sym, ◌∙◌}
+use Rattle.std.specs.Option.{option_map_or}
+use Rattle.bbm_descriptor.specs.Descriptor.{core_of, differ, needs}
+use Rattle.bbm_descriptor.specs.declared.desc.Core.{Core}
+use Rattle.bbm_rules.specs.Claims.Trust.{Patterns}
+use Rattle.bbm_rules.specs.Covers.{noted}
+use Rattle.bbm_rules.specs.Lists.{if_so}
+use Rattle.bbm_rules.specs.Prelude.{Heading, Event, Kind}
+use Rattle.bbm_rules.specs.Tree.{Node, held_at}
+use Rattle.bbm_replay_entries.specs.EntryStands.{held_now}
+use Rattle.bbm_replay_entries.proofs.tells.law_entry_need.Goals as goal
+
+needs_by : (kind : Kind) (level value : ℕ) (o : Option ℕ) → option_map_or (λ old. needs kind level old value) o false
+    ≡ differ (option_and_then (core_of kind level) o) (core_of kind level value)
+needs_by kind level value None = refl
+needs_by kind level value (Some old) = refl
+
+rule_by : (kind : Kind) (level value place : ℕ) (o : Option ℕ)
+    → option_and_then (λ old. if_so (needs kind level old value) place) o
+    ≡ if_so (differ (option_and_then (core_of kind level) o) (core_of kind level value)) place
+rule_by kind level value place None = refl
+rule_by kind level value place (Some old) = refl
+
+abbrev broken_by : Heading → List Event → ℕ → ℕ → Option Node → Option ℕ
+broken_by heading h place value o =
+    option_and_then (λ (n : Node). option_and_then (λ old. if_so (needs n.kind n.level old value) place)
+    (held_at heading Patterns (noted heading Patterns h) n place)) o
+
+pub returns : goal.returns
+returns c heading = record {
+  need = λ h kind level place value state pends s.
+      needs_by kind level value (held_now heading h kind level place)
+      ∙ ap (λ (o : Option Core). differ o (core_of kind level value)) (sym s.core);
+  rule = λ h n pe place value state pends is s.
+      ap (broken_by heading h place value) is
+      ∙ (rule_by n.kind n.level value place (held_now heading h n.kind n.level place)
+      ∙ ap (λ (o : Option Core). if_so (differ o (core_of n.kind n.level value)) place) (sym s.core));
+  outside = λ h pe place value is. ap (broken_by heading h place value) is;
+}
