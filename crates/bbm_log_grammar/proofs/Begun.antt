@@ -1,9 +1,11 @@
 -- The first word of a line, the option of a barrier, or the operation of a TLBI, where a space follows it.
-use Rattle.std.proofs.Common.{◌≡◌, ℕ, suc, ◌-◌, ◌<◌, ◌≤◌, List, [], ◌∷◌, ◌++◌, length, take, drop, get_or, codes, refl, ap, ◌∙◌, Ok, arith}
+use Rattle.std.proofs.Common.{◌≡◌, ℕ, suc, ◌-◌, ◌<◌, ◌≤◌, List, [], ◌∷◌, ◌++◌, length, take, drop, get_or}
+use Rattle.std.proofs.Common.{codes, refl, ap, ◌∙◌, Ok, arith}
 use Rattle.std.specs.Bool.{⊤}
 use Rattle.std.proofs.lemmas.List.{take_rest}
 use Rattle.bbm_tlbi_scope.specs.declared.op.TlbiOp.{TlbiOp}
-use Rattle.bbm_tlbi_scope.specs.declared.op.TlbiOp.TheVariants.{Vae2is, Vale2is, Vae1is, Vale1is, Ipas2e1is, Vmalle1is, Alle2is}
+use Rattle.bbm_tlbi_scope.specs.declared.op.TlbiOp.TheVariants.{Vae2is, Vale2is, Vae1is, Vale1is, Ipas2e1is}
+use Rattle.bbm_tlbi_scope.specs.declared.op.TlbiOp.TheVariants.{Vmalle1is, Alle2is}
 use Rattle.bbm_barriers.specs.declared.Dsb.{Dsb}
 use Rattle.bbm_barriers.specs.declared.Domain.TheVariants.{Inner}
 use Rattle.bbm_barriers.specs.declared.Types.TheVariants.{All, Stores}
@@ -17,7 +19,7 @@ abbrev keyword : List ℕ → FieldRead Keyword
 keyword line = keyword_field (fields line)
 
 -- these codes stand in the text, from the position on
-abbrev Has : List ℕ → ℕ → List ℕ → Type 0
+abbrev pub Has : List ℕ → ℕ → List ℕ → Type 0
 Has text i [] = ⊤
 Has text i (code ∷ more) = (get_or text i 0 ≡ code) × Has text (suc i) more
 
@@ -27,7 +29,7 @@ behind byte bytes i [] has = tt
 behind byte bytes i (code ∷ more) has = (has.0, behind byte bytes (suc i) more has.1)
 
 -- the text is the word and what stands behind it
-begins : (word text : List ℕ) → length word ≤ length text → Has text 0 word → text ≡ word ++ drop (length word) text
+pub begins : (word text : List ℕ) → length word ≤ length text → Has text 0 word → text ≡ word ++ drop (length word) text
 begins [] text some has = refl
 begins (code ∷ more) [] some has = absurd (omega arith)
 begins (code ∷ more) (byte ∷ bytes) some has =

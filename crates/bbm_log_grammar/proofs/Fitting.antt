@@ -1,9 +1,9 @@
 -- A number of at most 15 hex digits has room for one more; the table of the values of hex digits, and four of them read
 -- at once.
-use Rattle.std.proofs.Common.{◌≡◌, ℕ, zero, suc, ◌+◌, ◌*◌, ◌^◌, ◌<◌, ◌≤◌, Bool, true, false, ◌&&◌, ◌==◌, nat_lt, cond}
+use Rattle.std.proofs.Common.{◌≡◌, ℕ, suc, ◌+◌, ◌*◌, ◌^◌, ◌<◌, ◌≤◌, Bool, true, false, ◌&&◌, ◌==◌, nat_lt, cond}
 use Rattle.std.proofs.Common.{List, [], ◌∷◌, ◌-◌, length, take, drop, get_or, ap, sym, ◌∙◌, Option, Some, None}
-use Rattle.std.proofs.Common.{slice_index_or, subst, inl, inr, refl, arith}
-use Rattle.std.proofs.lemmas.Bool.{eqb-true, ltb-true, lt-ltb, cases_lt, and_parts}
+use Rattle.std.proofs.Common.{slice_index_or, subst, refl, arith}
+use Rattle.std.proofs.lemmas.Bool.{eqb-true, ltb-true, lt-ltb, and_parts, agree_below_at}
 use Rattle.std.proofs.Math.Nat.{pow-suc, pow-le-pow_right}
 use Rattle.std.proofs.lemmas.List.{take_all}
 use Rattle.std.specs.Char.{digit_value}
@@ -30,31 +30,19 @@ early i n few h = let low : i ≤ 2 = omega arith in let most : 65536 ^ i ≤ 65
 pub twelve : (i n : ℕ) → i ≤ 3 → n < 65536 ^ i → n < 2 ^ 48
 twelve i n few h = let most : 65536 ^ i ≤ 65536 ^ 3 = pow-le-pow_right (omega arith) few in omega (arith, h, most)
 
-abbrev pub below : (ℕ → Bool) → ℕ → Bool
-below test zero = true
-below test (suc n) = test n && below test n
-
--- the test holds of each number below n
-pub below_each : (test : ℕ → Bool) (n k : ℕ) → below test n ≡ true → k < n → test k ≡ true
-below_each test zero k e l = absurd (omega arith)
-below_each test (suc n) k e l = elim (cases_lt k n) [
-  | inl less ↦ below_each test n k (and_parts (test n) (below test n) e).1 less
-  | inr same ↦ subst (λ (j : ℕ). test j ≡ true) {x = n} {y = k} (omega arith) (and_parts (test n) (below test n) e).0
-]
-
 abbrev right : ℕ → Bool
 right byte = slice_index_or HEX_VALUES byte 0 == hex_worth byte
 
 -- the table has the value of each byte
 pub hex_values : (byte : ℕ) → byte < 256 → slice_index_or HEX_VALUES byte 0 ≡ hex_worth byte
-hex_values byte l = eqb-true (slice_index_or HEX_VALUES byte 0) (hex_worth byte) (below_each right 256 byte refl l)
+hex_values byte l = eqb-true (slice_index_or HEX_VALUES byte 0) (hex_worth byte) (agree_below_at right (λ _. true) 256 byte refl l)
 
 abbrev bounded : ℕ → Bool
 bounded byte = nat_lt (hex_worth byte) 65537
 
 -- a byte counts for 2 ^ 16 at most
 pub worth_bounded : (byte : ℕ) → byte < 256 → hex_worth byte ≤ 65536
-worth_bounded byte l = let few : hex_worth byte < 65537 = ltb-true (hex_worth byte) 65537 (below_each bounded 256 byte refl l) in omega (arith, few)
+worth_bounded byte l = let few : hex_worth byte < 65537 = ltb-true (hex_worth byte) 65537 (agree_below_at bounded (λ _. true) 256 byte refl l) in omega (arith, few)
 
 -- a digit more
 digit_more : (n byte : ℕ) (bytes : List ℕ) → n < 2 ^ 60 → hex_worth byte < 16 → run 16 n (byte ∷ bytes) ≡ run 16 (n * 16 + hex_worth byte) bytes

@@ -10,3 +10,5 @@ pub mod Named
 pub mod Parts
 pub mod Short
 pub mod Spelled
+pub mod Lanes
+pub mod Ahead

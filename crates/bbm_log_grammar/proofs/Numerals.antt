@@ -23,7 +23,7 @@ pub record IsBase (base : ℕ) : Type 0 where
   large : (n : ℕ) → base ≤ n → 0 < n / base
   rest : (n : ℕ) → n % base < base
   half : (n k : ℕ) → n < 2 * k → n / base < k
-  joined : (p d : ℕ) → d < base → (p * base + d) / base ≡ p
+  pub joined : (p d : ℕ) → d < base → (p * base + d) / base ≡ p
   joined_rest : (p d : ℕ) → d < base → (p * base + d) % base ≡ d
   more : (p d : ℕ) → 0 < p → base ≤ p * base + d
   grows : (p d : ℕ) → p ≤ p * base + d
@@ -179,14 +179,14 @@ module _ (base : ℕ) (is : IsBase base) where
 
   -- reading the digits again
 
-  lower_below : (c : ℕ) → is_lower_digit base c ≡ true → digit_value c < base
+  pub lower_below : (c : ℕ) → is_lower_digit base c ≡ true → digit_value c < base
   lower_below c h = by (nat_lt (digit_value c) base) refl h
     where
       by : (t : Bool) → nat_lt (digit_value c) base ≡ t → (t && (c == glyph (digit_value c))) ≡ true → digit_value c < base
       by true e f = ltb-true (digit_value c) base e
       by false e f = cc
 
-  lower_glyph : (c : ℕ) → is_lower_digit base c ≡ true → c ≡ glyph (digit_value c)
+  pub lower_glyph : (c : ℕ) → is_lower_digit base c ≡ true → c ≡ glyph (digit_value c)
   lower_glyph c h = by (nat_lt (digit_value c) base) h
     where
       by : (t : Bool) → (t && (c == glyph (digit_value c))) ≡ true → c ≡ glyph (digit_value c)
@@ -209,7 +209,7 @@ module _ (base : ℕ) (is : IsBase base) where
       ∙ ap (λ (x : ℕ). text p ++ (x ∷ cs)) (sym (lower_glyph c here.0))
 
   -- a single digit, or digits of which the first is no zero, spell their value
-  text_value : (c : ℕ) (cs : List ℕ) → (c ≡ 48 → cs ≡ []) → all_lower (c ∷ cs) ≡ true → digits_value base (c ∷ cs) < 2 ^ 64 → text (digits_value base (c ∷ cs)) ≡ c ∷ cs
+  pub text_value : (c : ℕ) (cs : List ℕ) → (c ≡ 48 → cs ≡ []) → all_lower (c ∷ cs) ≡ true → digits_value base (c ∷ cs) < 2 ^ 64 → text (digits_value base (c ∷ cs)) ≡ c ∷ cs
   text_value c cs lead lower bound = elim (cases_lt 0 (digit_value c)) [
     | inl some ↦
         let start : digits_value base (c ∷ cs) ≡ digits_value_after base (digit_value c) cs = ap (λ (n : ℕ). digits_value_after base n cs) {x = 0 * base + digit_value c} {y = digit_value c} (omega arith) in

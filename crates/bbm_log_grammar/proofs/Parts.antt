@@ -1,13 +1,10 @@
 -- A label is one part more of a line.
-use Rattle.std.proofs.Common.{◌≡◌, ℕ, List, [], ◌∷◌, ◌++◌, length, ◌≤◌, true, ◌&&◌, nat_le, refl, ap, sym, ◌∙◌, Some}
-use Rattle.std.proofs.Common.{None}
-use Rattle.std.proofs.lemmas.Bool.{and_parts, leb-true}
+use Rattle.std.proofs.Common.{◌≡◌, ℕ, List, [], ◌∷◌, ◌++◌, refl, ap, sym, ◌∙◌, Some, None}
 use Rattle.std.proofs.lemmas.List.{append_assoc, append-nil}
-use Rattle.std.specs.List.{list_all}
 use Rattle.bbm_events.specs.declared.event.Event.{Event}
 use Rattle.bbm_events.specs.Spelling.{joined}
-use Rattle.bbm_events.specs.Label.{is_label, is_label_byte}
 use Rattle.bbm_events.specs.Lines.{Fields, event_fields, label_fields}
+use Rattle.bbm_events.proofs.Labels.{label_length}
 use Rattle.bbm_events.proofs.Written.{event_fields_some}
 
 joined_more : (piece : List ℕ) (pieces : Fields) (last : List ℕ) → joined (piece ∷ pieces) ++ 32 ∷ last ≡ joined ((piece ∷ pieces) ++ (last ∷ []))
@@ -29,8 +26,5 @@ one_label front line event label e =
     (ap (λ (x : List ℕ). x ++ 32 ∷ 64 ∷ label) (ap joined some.2)
     ∙ joined_more some.0 some.1 (64 ∷ label)
     ∙ ap (λ (fs : Fields). joined (fs ++ ((64 ∷ label) ∷ []))) (sym some.2))
-
-pub label_length : (label : List ℕ) → is_label label ≡ true → length label ≤ 32
-label_length label e = leb-true (length label) 32 (and_parts (nat_le 1 (length label)) (nat_le (length label) 32) (and_parts (nat_le 1 (length label) && nat_le (length label) 32) (list_all is_label_byte label) e).0).1
 
 pub ruleset parts = (no_label, one_label, label_length)

@@ -1,12 +1,11 @@
 -- The digits of a number, two, four and eight at a time.
 use Rattle.std.proofs.Common.{◌≡◌, ℕ, ◌+◌, ◌*◌, ◌/◌, ◌%◌, ◌^◌, ◌<◌, ◌≤◌, Bool, ◌==◌, slice_index_or, List, [], ◌∷◌}
-use Rattle.std.proofs.Common.{◌++◌, false, decimal, refl, rules, tests, ap, sym, ◌∙◌, arith}
+use Rattle.std.proofs.Common.{◌++◌, true, false, decimal, refl, rules, tests, ap, sym, ◌∙◌, arith}
 use Rattle.std.specs.Fmt.{digit_glyph, digits}
-use Rattle.std.proofs.lemmas.Bool.{eqb-true}
+use Rattle.std.proofs.lemmas.Bool.{eqb-true, agree_below_at}
 use Rattle.std.proofs.lemmas.List.{append_assoc}
 use Rattle.bbm_log_grammar.specs.Digits.{two, four}
 use Rattle.bbm_log_grammar.specs.declared.spell.TheConstants.{PAIRS}
-use Rattle.bbm_log_grammar.proofs.Fitting.{below_each}
 use Rattle.bbm_log_grammar.proofs.Numerals.{is_base_10, is_base_16, text_small, text_more}
 
 hex_small : (n : ℕ) → n < 16 → digits 16 false n ≡ digit_glyph false n ∷ []
@@ -52,8 +51,8 @@ second_right value = slice_index_or PAIRS (value * 2 + 1) 0 == digit_glyph false
 pub pair_at : (value : ℕ) → value < 256
     → (slice_index_or PAIRS (value * 2) 0 ≡ digit_glyph false (value / 16)) × (slice_index_or PAIRS (value * 2 + 1) 0 ≡ digit_glyph false (value % 16))
 pair_at value l = (
-  eqb-true (slice_index_or PAIRS (value * 2) 0) (digit_glyph false (value / 16)) (below_each first_right 256 value refl l),
-  eqb-true (slice_index_or PAIRS (value * 2 + 1) 0) (digit_glyph false (value % 16)) (below_each second_right 256 value refl l),
+  eqb-true (slice_index_or PAIRS (value * 2) 0) (digit_glyph false (value / 16)) (agree_below_at first_right (λ _. true) 256 value refl l),
+  eqb-true (slice_index_or PAIRS (value * 2 + 1) 0) (digit_glyph false (value % 16)) (agree_below_at second_right (λ _. true) 256 value refl l),
 )
 
 -- the same behind what stands there

@@ -1,14 +1,16 @@
 //! The fields of a line.
 
-ghost use Rattle.std.specs.Prelude.{◌≡◌, ℕ, [], ◌∷◌, ◌==◌, MatchOption, MatchResult, Ok, Err, slice_get};
+ghost use Rattle.std.specs.Prelude.{◌≡◌, ℕ, [], ◌∷◌, ◌==◌, true, IfSome, MatchOption, MatchResult, Ok, Err, slice_get};
 ghost use Rattle.std.specs.List.{position};
 ghost use Rattle.std.specs.Option.{option_copied};
+ghost use Rattle.bbm_events.specs.Label.{is_label};
 ghost use Rattle.bbm_events.specs.Spelling.{decimal_value, fields, hex_value};
 ghost use Rattle.bbm_events.specs.Lines as lines;
 ghost use Rattle.bbm_events.specs.Words.{with_word};
 ghost use Rattle.bbm_log_grammar.specs.Front.{named_op};
 
 use crate::firsts::{first_decimal, first_dsb, first_hex, first_op};
+use crate::line::LabelText;
 use crate::words::{Worded, named};
 use bbm_barriers::Dsb;
 use bbm_events::Malformed;
@@ -36,6 +38,19 @@ fn first_space(line: &[u8]) -> Option<usize>
     ensures { result ≡ position (λ byte. byte == 32) line.now }
 {
     line.iter().position(|byte| *byte == b' ')
+}
+
+/// The label behind its mark that all of the bytes are; None where they are something else. A label has no space, so
+/// none is sought.
+#[inline(never)]
+#[tactic(auto, using(crate::proofs::Marks::last_label))]
+fn marked_label<'a>(line: &'a [u8]) -> Option<LabelText<'a>>
+    ensures { IfSome result (λ text. (fields line.now ≡ (64 ∷ text) ∷ []) × (is_label text ≡ true)) }
+{
+    match line {
+        [b'@', bytes @ ..] => LabelText::of(bytes),
+        _ => None,
+    }
 }
 
 #[tactic(auto, using(crate::proofs::Splitting::splitting, crate::proofs::Fronts::next_of))]
@@ -134,6 +149,14 @@ impl<'a> Fields<'a> {
             Some((text, rest)) => { if word == text { Ok(rest) } else { Err(other) } }
             None => Err(absent),
         }
+    }
+
+    /// The label behind its mark that is all that is left of the line; None where something else is left.
+    #[inline]
+    pub(crate) fn label(&self) -> Option<LabelText<'a>>
+        ensures { IfSome result (λ text. (self.now ≡ (64 ∷ text) ∷ []) × (is_label text ≡ true)) }
+    {
+        marked_label(self.rest?)
     }
 
     /// The next field, and those after it; None where no field is left.

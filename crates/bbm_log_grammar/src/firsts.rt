@@ -234,7 +234,7 @@ pub(crate) fn first_keyword<'a>(line: &'a [u8]) -> Result<(Keyword, Fields<'a>),
 
 /// The barrier of the inner shareable domain for these accesses.
 #[inline]
-fn inner(types: Types) -> Dsb
+pub(crate) fn inner(types: Types) -> Dsb
     ensures { result ≡ record { domain = Inner; types = types } }
 {
     Dsb {

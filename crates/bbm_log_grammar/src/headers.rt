@@ -1,6 +1,6 @@
 //! The first line.
 
-ghost use Rattle.std.specs.Prelude.{◌≡◌, ◌||◌, not, true, if◌then◌else◌, Some, None, IfOk, IfErr, IfSome};
+ghost use Rattle.std.specs.Prelude.{◌≡◌, ◌||◌, not, true, Some, None, IfOk, IfErr, IfSome};
 ghost use Rattle.bbm_regimes.specs.declared.regime.World.TheVariants.{Hyp, Kernel};
 ghost use Rattle.bbm_regimes.specs.World.{world_ok};
 ghost use Rattle.bbm_regimes.specs.declared.regime.World.{World as TheWorld};

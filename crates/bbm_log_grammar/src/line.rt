@@ -1,7 +1,7 @@
 //! An item as it stands in its line.
 //! Source: project's own choice, where no other is named.
 
-ghost use Rattle.std.specs.Prelude.{◌≡◌, Some, None, if◌then◌else◌};
+ghost use Rattle.std.specs.Prelude.{◌≡◌, Some, None, if◌then◌else◌, true};
 ghost use Rattle.bbm_events.specs.Label.{is_label};
 
 use bbm_events::{Event, Item, Label};
@@ -29,10 +29,19 @@ impl<'a> LabelText<'a> {
     pub(crate) fn of(bytes: &'a [u8]) -> Option<LabelText<'a>>
         ensures { result ≡ (if is_label bytes.now then Some bytes.now else None) }
     {
-        match Label::new(bytes) {
-            Some(_) => Some(LabelText { bytes }),
-            None => None,
+        if Label::is_text(bytes) {
+            Some(LabelText { bytes })
+        } else {
+            None
         }
+    }
+
+    /// The label of these bytes, which are those of one.
+    pub(crate) fn told(bytes: &'a [u8]) -> LabelText<'a>
+        requires { is_label bytes.now ≡ true }
+        ensures { result ≡ bytes.now }
+    {
+        LabelText { bytes }
     }
 
     /// A copy of the label.

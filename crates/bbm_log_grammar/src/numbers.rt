@@ -8,7 +8,7 @@ ghost use Rattle.bbm_log_grammar.specs.Digits as digits;
 
 /// The value of a decimal digit, 0 to 9.
 #[inline]
-fn decimal_digit(byte: u8) -> Option<u64>
+pub(crate) fn decimal_digit(byte: u8) -> Option<u64>
     ensures { result ≡ (if digits.is_lower_digit 10 byte then Some (digit_value byte) else None) }
 {
     let digit = byte.wrapping_sub(b'0');

@@ -165,6 +165,7 @@ pub(crate) fn operand_field<'a>(
 }
 
 /// The event with the label that its line's last field is, where no field is left.
+#[inline(always)]
 fn labelled<'a>(
     header: &Header,
     event: Event,
@@ -181,6 +182,8 @@ fn labelled<'a>(
 }
 
 /// The event, and the label where a field is left.
+#[inline(always)]
+#[tactic(auto, using(crate::proofs::Marks::labelled))]
 pub(crate) fn event_item<'a>(
     header: &Header,
     event: Event,
@@ -188,6 +191,11 @@ pub(crate) fn event_item<'a>(
 ) -> Result<LineItem<'a>, Malformed>
     ensures { read_in result ≡ lines.event_item header.now event fields.entry }
 {
+    if let Some(label) = fields.label()
+        && header.version >= 3
+    {
+        return Ok(LineItem::Event(event, Some(label)));
+    }
     match fields.next() {
         None => Ok(LineItem::Event(event, None)),
         Some((text, rest)) => labelled(header, event, text, rest),

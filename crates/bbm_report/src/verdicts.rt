@@ -12,7 +12,7 @@ use bbm_regimes::Which;
 use bbm_rules::{Rule, Verdict};
 
 /// A space, the mark `@` and the label, where there is one.
-#[tactic(auto, using(bbm_log_grammar::proofs::Parts::label_length))]
+#[tactic(auto, using(bbm_events::proofs::Labels::label_length))]
 fn add_label(out: &mut ArrayVec<u8, 200>, label: Option<Label>)
     requires room { array_vec_len out.old ≤ 100 }
     ensures appended { out.new.items ≡ out.old.items ++ label_text label }

@@ -32,7 +32,7 @@ pub record Facts (n count : ℕ) : Type 0 where
   pub item_short : (item : Item) → item_fits heading item ≡ true → length (item_line item) ≤ 200
   pub item_read : (item : Item) → item_fits heading item ≡ true → item_of heading (item_line item) ≡ Ok item
 
-plain_is : (line : List ℕ) → plain line ≡ is_plain line
+pub plain_is : (line : List ℕ) → plain line ≡ is_plain line
 plain_is [] = refl
 plain_is (byte ∷ bytes) = rw (plain_is bytes) refl
 

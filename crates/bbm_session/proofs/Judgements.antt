@@ -145,13 +145,24 @@ judged-at frugal stands limits heading h n line (Err (Decided d)) number judged 
 judged-at frugal stands limits heading h n line (Err ReadFault) number judged = absurd judged
 judged-at frugal stands limits heading h n line (Err NoMemory) number judged = judged
 
-pub judged-takes : (frugal frugal' : Bool) (stands stands' : Heading → List EventOf → Type 0) (limits : Limits) (heading : Heading) (fold : Fold Progress Judged) (p : Progress) (n : ℕ) (line : List ℕ) (read : Result Item Cause) (r : Result Turn Stop) → frugal' ≡ frugal → Judges frugal stands limits fold heading p n → read ≡ item_of heading line → ((h : List EventOf) → Keeps stands heading h → JudgesLine stands' heading h (event_in read) (item_needs frugal heading h read ≡ true) r (after_item Patterns limits n heading h read)) → TakesLine fold (Judges frugal' stands' limits fold heading) n p line r
-judged-takes frugal frugal' stands stands' limits heading fold p n line read r same judges is says =
-    let judged = subst (λ (x : Result Item Cause). JudgesLine stands' heading judges.h (event_in x) (item_needs frugal heading judges.h x ≡ true) r (after_item Patterns limits n heading judges.h x)) is (says judges.h judges.keeps) in
+pub judged-takes : (frugal frugal' : Bool) (stands stands' : Heading → List EventOf → Type 0) (limits limits' : Limits)
+    (heading : Heading) (fold : Fold Progress Judged) (p : Progress) (n : ℕ) (line : List ℕ) (read : Result Item Cause)
+    (r : Result Turn Stop) → frugal' ≡ frugal → limits' ≡ limits → Judges frugal stands limits fold heading p n
+    → read ≡ item_of heading line
+    → ((h : List EventOf) → Keeps stands heading h → JudgesLine stands' heading h (event_in read)
+    (item_needs frugal heading h read ≡ true) r (after_item Patterns limits n heading h read))
+    → TakesLine fold (Judges frugal' stands' limits' fold heading) n p line r
+judged-takes frugal frugal' stands stands' limits limits' heading fold p n line read r same within judges is says =
+    let judged = subst (λ (x : Result Item Cause). JudgesLine stands' heading judges.h (event_in x)
+    (item_needs frugal heading judges.h x ≡ true) r (after_item Patterns limits n heading judges.h x)) is
+    (says judges.h judges.keeps) in
     let at = judged-at frugal stands' limits heading judges.h n line r judges.number judged in
-    subst (λ (b : Bool). TakesLine fold (Judges b stands' limits fold heading) n p line r) (sym same)
-    (subst (λ (f : Fold Progress Judged). TakesLine f (Judges frugal stands' limits f heading) n p line r) (sym judges.fold_is)
-    (subst (λ (q : Progress). TakesLine (judging frugal limits) (Judges frugal stands' limits (judging frugal limits) heading) n q line r) (sym judges.is) at))
+    subst (λ (l : Limits). TakesLine fold (Judges frugal' stands' l fold heading) n p line r) (sym within)
+    (subst (λ (b : Bool). TakesLine fold (Judges b stands' limits fold heading) n p line r) (sym same)
+    (subst (λ (f : Fold Progress Judged). TakesLine f (Judges frugal stands' limits f heading) n p line r)
+    (sym judges.fold_is)
+    (subst (λ (q : Progress). TakesLine (judging frugal limits) (Judges frugal stands' limits (judging frugal limits)
+    heading) n q line r) (sym judges.is) at)))
 
 -- ---- the whole log
 

@@ -70,15 +70,18 @@ impl Taker for Following {
 
     ghost stands = { λ following. Follows following.steps.items };
 
-    fn take(
-        &mut self,
-        _alloc: Global,
-        number: u64,
-        header: &Header,
-        line: &[u8],
-        stop: &mut Stop,
-    ) -> Option<Turn> {
+    fn take(&mut self, number: u64, header: &Header, line: &[u8], stop: &mut Stop) -> Option<Turn> {
         follow_line(number, &mut self.steps, header, line, stop)
+    }
+
+    fn take_ahead(
+        &mut self,
+        _number: u64,
+        _header: &Header,
+        _bytes: &[u8],
+        _stop: &mut Stop,
+    ) -> Option<(usize, Option<Turn>)> {
+        None
     }
 }
 
@@ -93,7 +96,7 @@ pub fn follow<S: Source, K: Sink>(alloc: Global, log: &mut S, out: &mut K) -> St
             let mut following = Following {
                 steps: Vec::new(alloc),
             };
-            match read_log(alloc, &header, &mut following, &mut lines, log) {
+            match read_log(&header, &mut following, &mut lines, log) {
                 Ok(()) => report_run(follow_run(alloc, &header, &following.steps), out),
                 Err(stop) => report_stop(stop, out),
             }

@@ -44,7 +44,6 @@ fn judge_end<C: Checker>(checker: &C, read: Result<(), Stop>) -> Stop
 
 /// Reads the log behind its header up to the line that decides, and answers why reading stopped.
 fn judge_lines<C: Checker, S: Source>(
-    alloc: Global,
     header: &Header,
     judging: &mut Judging<C>,
     lines: &mut Lines,
@@ -58,7 +57,7 @@ fn judge_lines<C: Checker, S: Source>(
     ensures shrinks { Shrinks (201 * 4294967297) (S.left log.old) (S.left log.new) }
 {
     law_item_fits();
-    let read = read_log(alloc, header, judging, lines, log);
+    let read = read_log(header, judging, lines, log);
     judge_end(&judging.checker, read)
 }
 
@@ -81,8 +80,12 @@ pub fn judge_log<C: Fresh + Drop, S: Source>(
     match header_line::<Judging<C>, S>(&mut lines, log) {
         Ok(header) => match C::fresh(alloc, &header) {
             Ok(checker) => {
-                let mut judging = Judging { limits, checker };
-                let stop = judge_lines(alloc, &header, &mut judging, &mut lines, log);
+                let mut judging = Judging {
+                    alloc,
+                    limits,
+                    checker,
+                };
+                let stop = judge_lines(&header, &mut judging, &mut lines, log);
                 let checker = judging.checker;
                 Ok(Judgement {
                     header,

@@ -1,6 +1,8 @@
 //! The events of a log, judged one after another.
 
-ghost use Rattle.std.specs.Prelude.{◌≡◌, ◌<◌, ℕ, suc, List, length, Option, Some, IfOk, Err, ok_or, true};
+ghost use Rattle.std.specs.Prelude.{◌≡◌, ◌<◌, ℕ, suc, List, take, Option, Some, None, Err, ok_or, true};
+ghost use Rattle.std.specs.Prelude.{IfSome, IfOk};
+ghost use Rattle.bbm_io.specs.Reading.{LiesWhole};
 ghost use Rattle.bbm_regimes.specs.declared.regime.Which.{Which as WhichOf};
 ghost use Rattle.bbm_events.specs.declared.event.Event.{Event};
 ghost use Rattle.bbm_events.specs.Fits.{fits_heading, item_fits};
@@ -20,7 +22,7 @@ use crate::reading::{limit, stop_limit, stop_malformed};
 use crate::stop::{Stop, Turn};
 use crate::taker::Taker;
 use bbm_events::{Event, Header, Malformed};
-use bbm_log_grammar::{LabelText, LineItem, kept_label, read_line};
+use bbm_log_grammar::{LabelText, LineItem, kept_label, quick_line, read_line};
 use bbm_regimes::Which;
 use bbm_rules::{Checker, Limits, StepFault, Verdict};
 use bbm_texts::Decision;
@@ -82,31 +84,43 @@ fn limit_reached(limits: &Limits, number: u64, taken: u64) -> Option<Which>
     }
 }
 
+/// Events that are judged by a checker, under these limits.
+#[derive(Drop)]
+pub struct Judging<C> {
+    /// What gives the checker its memory.
+    pub alloc: Global,
+    /// The limits.
+    pub limits: Limits,
+    /// The checker, which has taken the events of the lines so far, and maybe the one on the line that decides where it
+    /// reaches a limit.
+    pub checker: C,
+}
+
 /// What an event with this label decides on this line.
+#[inline(always)]
 fn judge_event<C: Checker>(
-    alloc: Global,
-    limits: &Limits,
+    judging: &mut Judging<C>,
     number: u64,
-    checker: &mut C,
     event: Event,
     label: Option<LabelText>,
     stop: &mut Stop,
 ) -> Option<Turn>
-    requires { MayTake (C.stands checker.old) event }
-    ensures judges { (heading : Heading) (h : List Event) → Keeps (C.stands checker.old) heading h
+    requires { MayTake (C.stands judging.old.checker) event }
+    ensures judges { (heading : Heading) (h : List Event) → Keeps (C.stands judging.old.checker) heading h
         → fits_heading heading event ≡ true
-        → JudgesLine (C.stands checker.new) heading h (Some event)
-        (event_needs (C.frugal checker.old) heading h event ≡ true)
+        → JudgesLine (C.stands judging.new.checker) heading h (Some event)
+        (event_needs (C.frugal judging.old.checker) heading h event ≡ true)
         (ok_or result stop.new)
-        (after_event Patterns limits.now number heading h event label.entry) }
-    ensures frugal { C.frugal checker.new ≡ C.frugal checker.old }
+        (after_event Patterns judging.old.limits number heading h event label.entry) }
+    ensures frugal { C.frugal judging.new.checker ≡ C.frugal judging.old.checker }
+    ensures limits { judging.new.limits ≡ judging.old.limits }
     ensures few { result ≡ Some Turn.Taken → number < 4294967295 }
 {
-    if let Err(fault) = checker.step(alloc, event) {
+    if let Err(fault) = judging.checker.step(judging.alloc, event) {
         refuse(number, &event, label, fault, stop);
         return None;
     }
-    match limit_reached(limits, number, checker.events()) {
+    match limit_reached(&judging.limits, number, judging.checker.events()) {
         Some(which) => {
             stop_limit(number, which, stop);
             None
@@ -116,30 +130,28 @@ fn judge_event<C: Checker>(
 }
 
 /// What a line after the header decides, by what was read of it.
+#[inline(always)]
 fn judge_item<C: Checker>(
-    alloc: Global,
-    limits: &Limits,
+    judging: &mut Judging<C>,
     number: u64,
-    checker: &mut C,
     read: Result<LineItem, Malformed>,
     stop: &mut Stop,
 ) -> Option<Turn>
-    requires { MayJudge (C.stands checker.old) (read_in read) }
-    ensures judges { (heading : Heading) (h : List Event) → Keeps (C.stands checker.old) heading h
+    requires { MayJudge (C.stands judging.old.checker) (read_in read) }
+    ensures judges { (heading : Heading) (h : List Event) → Keeps (C.stands judging.old.checker) heading h
         → IfOk (read_in read.entry) (λ item. item_fits heading item ≡ true)
-        → JudgesLine (C.stands checker.new) heading h (event_in (read_in read.entry))
-        (item_needs (C.frugal checker.old) heading h (read_in read.entry) ≡ true)
+        → JudgesLine (C.stands judging.new.checker) heading h (event_in (read_in read.entry))
+        (item_needs (C.frugal judging.old.checker) heading h (read_in read.entry) ≡ true)
         (ok_or result stop.new)
-        (after_item Patterns limits.now number heading h (read_in read.entry)) }
-    ensures frugal { C.frugal checker.new ≡ C.frugal checker.old }
+        (after_item Patterns judging.old.limits number heading h (read_in read.entry)) }
+    ensures frugal { C.frugal judging.new.checker ≡ C.frugal judging.old.checker }
+    ensures limits { judging.new.limits ≡ judging.old.limits }
     ensures few { result ≡ Some Turn.Taken → number < 4294967295 }
 {
     match read {
-        Ok(LineItem::Event(event, label)) => {
-            judge_event(alloc, limits, number, checker, event, label, stop)
-        }
+        Ok(LineItem::Event(event, label)) => { judge_event(judging, number, event, label, stop) }
         Ok(LineItem::End(count)) => {
-            if u64::from(count) == checker.events() {
+            if u64::from(count) == judging.checker.events() {
                 Some(Turn::End)
             } else {
                 stop_malformed(number, Malformed::WrongCount, stop);
@@ -155,39 +167,51 @@ fn judge_item<C: Checker>(
 
 /// What a line after the header decides.
 fn judge_line<C: Checker>(
-    alloc: Global,
-    limits: &Limits,
+    judging: &mut Judging<C>,
     number: u64,
-    checker: &mut C,
     header: &Header,
     line: &[u8],
     stop: &mut Stop,
 ) -> Option<Turn>
-    requires { MayTakeLine (Judges (C.frugal checker.old) (C.stands checker.old) limits.now) header.now number }
+    requires { MayTakeLine (Judges (C.frugal judging.old.checker) (C.stands judging.old.checker) judging.old.limits)
+        header.now number }
     ensures takes { (fold : Fold Progress Judged) (p : Progress)
-        → Judges (C.frugal checker.old) (C.stands checker.old) limits.now fold header.now p number
-        → TakesLine fold (Judges (C.frugal checker.new) (C.stands checker.new) limits.now fold header.now) number p line.now
-        (ok_or result stop.new) }
+        → Judges (C.frugal judging.old.checker) (C.stands judging.old.checker) judging.old.limits fold header.now p
+        number
+        → TakesLine fold (Judges (C.frugal judging.new.checker) (C.stands judging.new.checker) judging.new.limits fold
+        header.now) number p line.now (ok_or result stop.new) }
     ensures few { result ≡ Some Turn.Taken → number < 4294967295 }
 {
-    judge_item(
-        alloc,
-        limits,
-        number,
-        checker,
-        read_line::<C>(header, line),
-        stop,
-    )
+    judge_item(judging, number, read_line::<C>(header, line), stop)
 }
 
-/// Events that are judged by a checker, under these limits.
-#[derive(Drop)]
-pub struct Judging<C> {
-    /// The limits.
-    pub limits: Limits,
-    /// The checker, which has taken the events of the lines so far, and maybe the one on the line that decides where it
-    /// reaches a limit.
-    pub checker: C,
+/// What a line decides that lies whole at the front of these bytes, if it is one of those that most logs have, with the
+/// number of bytes before its newline.
+fn judge_ahead<C: Checker>(
+    judging: &mut Judging<C>,
+    number: u64,
+    header: &Header,
+    bytes: &[u8],
+    stop: &mut Stop,
+) -> Option<(usize, Option<Turn>)>
+    requires { MayTakeLine (Judges (C.frugal judging.old.checker) (C.stands judging.old.checker) judging.old.limits)
+        header.now number }
+    ensures line { IfSome result (λ x. LiesWhole x.0 bytes.now) }
+    ensures takes { IfSome result (λ x. (fold : Fold Progress Judged) (p : Progress)
+        → Judges (C.frugal judging.old.checker) (C.stands judging.old.checker) judging.old.limits fold header.now p
+        number
+        → TakesLine fold (Judges (C.frugal judging.new.checker) (C.stands judging.new.checker) judging.new.limits fold
+        header.now) number p (take x.0 bytes.now) (ok_or x.1 stop.new)) }
+    ensures few { IfSome result (λ x. x.1 ≡ Some Turn.Taken → number < 4294967295) }
+    ensures untaken { result ≡ None → judging.new ≡ judging.old }
+{
+    match quick_line::<C>(header, bytes) {
+        Some((event, label, count)) => {
+            let read = Ok(LineItem::Event(event, label));
+            Some((count, judge_item(judging, number, read, stop)))
+        }
+        None => None,
+    }
 }
 
 impl<C: Checker> Taker for Judging<C> {
@@ -200,22 +224,18 @@ impl<C: Checker> Taker for Judging<C> {
 
     ghost stands = { λ judging. Judges (C.frugal judging.checker) (C.stands judging.checker) judging.limits };
 
-    fn take(
+    fn take(&mut self, number: u64, header: &Header, line: &[u8], stop: &mut Stop) -> Option<Turn> {
+        judge_line(self, number, header, line, stop)
+    }
+
+    #[inline(always)]
+    fn take_ahead(
         &mut self,
-        alloc: Global,
         number: u64,
         header: &Header,
-        line: &[u8],
+        bytes: &[u8],
         stop: &mut Stop,
-    ) -> Option<Turn> {
-        judge_line(
-            alloc,
-            &self.limits,
-            number,
-            &mut self.checker,
-            header,
-            line,
-            stop,
-        )
+    ) -> Option<(usize, Option<Turn>)> {
+        judge_ahead(self, number, header, bytes, stop)
     }
 }

@@ -14,7 +14,6 @@ use bbm_io::{Lines, Source};
 use bbm_log_grammar::read_header;
 use bbm_regimes::Which;
 use bbm_rules::Verdict;
-use std::alloc::Global;
 
 /// Why reading stops at a malformed line.
 pub fn malformed(line: u64, cause: Malformed) -> Stop
@@ -77,10 +76,10 @@ pub fn header_line<T: Taker, S: Source>(lines: &mut Lines, log: &mut S) -> Resul
     }
 }
 
-/// Reads line number `number`, after the header. None: reading stops, and `stop` says why: so no verdict is moved about
-/// for a line that decides nothing. The line is taken in both arms, which leaves the loop one test for each line.
-fn log_line<T: Taker, S: Source>(
-    alloc: Global,
+/// Reads line number `number`, after the header, whatever line it is. The line is taken in both arms, which leaves one test
+/// for each line.
+#[inline(never)]
+fn any_line<T: Taker, S: Source>(
     number: u64,
     header: &Header,
     taker: &mut T,
@@ -101,7 +100,7 @@ fn log_line<T: Taker, S: Source>(
 {
     let whole = lines.at_hand(log);
     match find_piece(whole, lines, log) {
-        Piece::Line => match taker.take(alloc, number, header, lines.shown(whole, log), stop) {
+        Piece::Line => match taker.take(number, header, lines.shown(whole, log), stop) {
             Some(turn) => {
                 take_found(whole, lines, log);
                 Some(turn)
@@ -126,9 +125,36 @@ fn log_line<T: Taker, S: Source>(
     }
 }
 
+/// Reads line number `number`, after the header. None: reading stops, and `stop` says why: so no verdict is moved about
+/// for a line that decides nothing. A line that most logs have is read at once, and any other by a function of its own.
+fn log_line<T: Taker, S: Source>(
+    number: u64,
+    header: &Header,
+    taker: &mut T,
+    lines: &mut Lines,
+    log: &mut S,
+    stop: &mut Stop,
+) -> Option<Turn>
+    requires stands { MayGoOn (T.stands taker.old) header.now number }
+    requires number { number ≤ 4294967295 }
+    requires ready { Ready lines.old number }
+    ensures ready { OnSome result (Ready lines.new (number + 1)) }
+    ensures advances { (fold : Fold T.Reached T.Said) (p : T.Reached) → IsInside fold p
+        → T.stands taker.old fold header.now p number
+        → Advances fold (T.stands taker.new fold header.now) number p (ok_or result stop.new)
+        (S.left log.old) (S.left log.new) (S.faults log.old) (S.faults log.new) }
+    ensures shrinks { Shrinks 201 (S.left log.old) (S.left log.new) }
+    ensures few { result ≡ Some Turn.Taken → number < 4294967295 }
+{
+    if let Some((count, turn)) = taker.take_ahead(number, header, log.ahead(), stop) {
+        lines.take(count, log);
+        return turn;
+    }
+    any_line(number, header, taker, lines, log, stop)
+}
+
 /// Reads the lines from line 2 to the `end` line; answers the number of the line behind it.
 fn log_lines<T: Taker, S: Source>(
-    alloc: Global,
     header: &Header,
     taker: &mut T,
     lines: &mut Lines,
@@ -147,7 +173,7 @@ fn log_lines<T: Taker, S: Source>(
     let mut number = 2;
     let mut stop = Stop::ReadFault;
     'lines: loop {
-        match log_line(alloc, number, header, taker, lines, log, &mut stop) {
+        match log_line(number, header, taker, lines, log, &mut stop) {
             Some(Turn::Taken) => number += 1,
             Some(Turn::End) => return Ok(number + 1),
             None => return Err(stop),
@@ -184,7 +210,6 @@ fn nothing_follows<T: Taker, S: Source>(
 
 /// Reads the log behind its header up to the line that stops reading, or whole: Ok where it was read to its end.
 pub fn read_log<T: Taker, S: Source>(
-    alloc: Global,
     header: &Header,
     taker: &mut T,
     lines: &mut Lines,
@@ -198,7 +223,7 @@ pub fn read_log<T: Taker, S: Source>(
         (S.faults log.old) (S.faults log.new) }
     ensures shrinks { Shrinks (201 * 4294967297) (S.left log.old) (S.left log.new) }
 {
-    match log_lines(alloc, header, taker, lines, log) {
+    match log_lines(header, taker, lines, log) {
         Ok(number) => nothing_follows::<T, S>(number, lines, log),
         Err(stop) => Err(stop),
     }

@@ -1,13 +1,13 @@
 //! What takes the lines of a log.
 
-ghost use Rattle.std.specs.Prelude.{◌≡◌, ◌<◌, ℕ, Some, ok_or};
+ghost use Rattle.std.specs.Prelude.{◌≡◌, ◌<◌, ℕ, Some, None, IfSome, ok_or, take};
+ghost use Rattle.bbm_io.specs.Reading.{LiesWhole};
 ghost use Rattle.bbm_events.specs.Heading.{Heading};
 ghost use Rattle.bbm_session.specs.Fold.{Fold};
 ghost use Rattle.bbm_session.specs.Stages.{MayTakeLine, TakesLine};
 
 use crate::stop::{Stop, Turn};
 use bbm_events::Header;
-use std::alloc::Global;
 
 /// It takes the lines between the header of a log and its end one by one, as a fold over the lines says. Source:
 /// project's own choice.
@@ -24,16 +24,27 @@ pub trait Taker {
     /// Takes line `number`, of at most 200 bytes and without its newline. `Taken`: the line was taken. `End`: the line
     /// is the end. None: the line stops reading, and `stop` is why: a verdict, or `NoMemory`, where there was none for a
     /// line that needs it. There is no other answer.
-    fn take(
-        &mut self,
-        alloc: Global,
-        number: u64,
-        header: &Header,
-        line: &[u8],
-        stop: &mut Stop,
-    ) -> Option<Turn>
+    fn take(&mut self, number: u64, header: &Header, line: &[u8], stop: &mut Stop) -> Option<Turn>
         requires { MayTakeLine (stands self.old) header.now number }
         ensures takes { (fold : Fold Reached Said) (p : Reached) → stands self.old fold header.now p number
             → TakesLine fold (stands self.new fold header.now) number p line.now (ok_or result stop.new) }
         ensures few { result ≡ Some Turn.Taken → number < 4294967295 };
+
+    /// Takes line `number` where it is one of those that most logs have, and lies whole at the front of these bytes:
+    /// the number of bytes before its newline, and what `take` answers for it. None: nothing was taken.
+    fn take_ahead(
+        &mut self,
+        number: u64,
+        header: &Header,
+        bytes: &[u8],
+        stop: &mut Stop,
+    ) -> Option<(usize, Option<Turn>)>
+        requires { MayTakeLine (stands self.old) header.now number }
+        ensures line { IfSome result (λ x. LiesWhole x.0 bytes.now) }
+        ensures takes { IfSome result (λ x. (fold : Fold Reached Said) (p : Reached)
+            → stands self.old fold header.now p number
+            → TakesLine fold (stands self.new fold header.now) number p (take x.0 bytes.now) (ok_or x.1 stop.new)) }
+        ensures few { IfSome result (λ x. x.1 ≡ Some Turn.Taken → number < 4294967295) }
+        ensures untaken { result ≡ None → (fold : Fold Reached Said) (p : Reached)
+            → stands self.old fold header.now p number → stands self.new fold header.now p number };
 }

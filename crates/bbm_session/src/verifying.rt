@@ -69,15 +69,18 @@ impl Taker for Verifying {
 
     ghost stands = { λ verifying. Certifies verifying.kept };
 
-    fn take(
-        &mut self,
-        _alloc: Global,
-        number: u64,
-        header: &Header,
-        line: &[u8],
-        stop: &mut Stop,
-    ) -> Option<Turn> {
+    fn take(&mut self, number: u64, header: &Header, line: &[u8], stop: &mut Stop) -> Option<Turn> {
         verify_line(number, &mut self.kept, header, line, stop)
+    }
+
+    fn take_ahead(
+        &mut self,
+        _number: u64,
+        _header: &Header,
+        _bytes: &[u8],
+        _stop: &mut Stop,
+    ) -> Option<(usize, Option<Turn>)> {
+        None
     }
 }
 
@@ -94,7 +97,7 @@ pub fn verify<S: Source, K: Sink>(alloc: Global, log: &mut S, out: &mut K) -> St
             let mut verifying = Verifying {
                 kept: Kept::new(alloc),
             };
-            match read_log(alloc, &header, &mut verifying, &mut lines, log) {
+            match read_log(&header, &mut verifying, &mut lines, log) {
                 Ok(()) => report_judged(
                     judge_kept(alloc, &header, &verifying.kept),
                     &verifying.kept,

@@ -14,7 +14,8 @@ use bbm_io::Sink;
 fn usage() -> &'static [u8]
     ensures { result.now ≡ usage_text }
 {
-    b"usage: bbm check | slow | explain | walk KIND ROOT ADDR | gen N COUNT | selftest N COUNT | follow | counterrun | cert | verify | idle\n"
+    b"usage: bbm check | slow | explain | walk KIND ROOT ADDR | gen N COUNT | selftest N COUNT | follow | counterrun \
+        | cert | verify | idle\n"
 }
 
 /// Writes the usage line: `Usage`, or `WriteFault` where the write failed.

@@ -6,7 +6,8 @@ use std::test::Fail;
 
 /// The usage line.
 const USAGE: &[u8] =
-    b"usage: bbm check | slow | explain | walk KIND ROOT ADDR | gen N COUNT | selftest N COUNT | follow | counterrun | cert | verify | idle\n";
+    b"usage: bbm check | slow | explain | walk KIND ROOT ADDR | gen N COUNT | selftest N COUNT | follow | counterrun \
+        | cert | verify | idle\n";
 
 /// Words that ask for nothing: too few, too many, nearly a command, and nearly a number.
 const NO_REQUESTS: [&str; 38] = [

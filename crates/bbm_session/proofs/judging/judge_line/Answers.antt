@@ -4,10 +4,15 @@ use Rattle.bbm_session.proofs.Judgements.{may-judge, judged-takes}
 use Rattle.bbm_session.proofs.judging.judge_line.Goals as goal
 
 pub judge_item-requires : goal.judge_item-requires
-judge_item-requires g c = may-judge _ _ c.args.limits.now c.args.header.now c.args.number (read_in c.read_line.result) c.requires (search) c.read_line.ensures.fits
+judge_item-requires g c = may-judge _ _ c.args.judging.now.limits c.args.header.now c.args.number (read_in c.read_line.result) c.requires (search) c.read_line.ensures.fits
 
 pub returns-clause-takes : goal.returns-clause-takes
 returns-clause-takes g c = λ fold p judges.
     let header = c.args.header.now in
-    judged-takes (g.C.Checker.frugal c.args.checker.now) (g.C.Checker.frugal c.judge_item.new.checker) (g.C.Checker.stands c.args.checker.now) (g.C.Checker.stands c.judge_item.new.checker) c.args.limits.now header fold p c.args.number c.args.line.now (read_in c.read_line.result) (ok_or c.judge_item.result c.judge_item.new.stop) c.judge_item.ensures.frugal judges c.read_line.ensures.item
+    let before = c.args.judging.now in
+    let after = c.judge_item.new.judging in
+    judged-takes (g.C.Checker.frugal before.checker) (g.C.Checker.frugal after.checker)
+    (g.C.Checker.stands before.checker) (g.C.Checker.stands after.checker) before.limits after.limits header fold p
+    c.args.number c.args.line.now (read_in c.read_line.result) (ok_or c.judge_item.result c.judge_item.new.stop)
+    c.judge_item.ensures.frugal c.judge_item.ensures.limits judges c.read_line.ensures.item
     (λ h keeps. c.judge_item.ensures.judges header h keeps c.read_line.ensures.fits)

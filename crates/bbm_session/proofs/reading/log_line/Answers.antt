@@ -1,65 +1,41 @@
-use Rattle.std.proofs.Common.{◌∙◌, subst, ℕ, List, Ok, Err}
-use Rattle.bbm_io.specs.Reading.{shown}
-use Rattle.bbm_session.specs.declared.line.Piece.TheVariants as piece
+-- A line that was taken from the bytes ahead, or by the function for any line.
+use Rattle.std.proofs.Common.{◌≤◌, ℕ, List, length, take}
+use Rattle.std.proofs.Common.{refl, arith, ok_or, subst, length-take}
+use Rattle.bbm_io.specs.Reading.{LiesWhole}
 use Rattle.bbm_session.specs.Stages.{TakesLine}
-use Rattle.bbm_session.proofs.Stages.{found-takes, takes-shrinks, line-advances, rest-advances, long-advances}
-use Rattle.bbm_session.proofs.Stages.{fault-advances}
+use Rattle.bbm_session.specs.declared.line.Piece.TheVariants as piece
+use Rattle.bbm_session.proofs.Stages.{takes-shrinks, line-advances}
 use Rattle.bbm_session.proofs.reading.log_line.Goals as goal
 
-pub take-requires : goal.take-requires
-take-requires g c = (c.requires.stands.0, c.requires.stands.1, c.requires.stands.3)
+short : (count : ℕ) (hand : List ℕ) → LiesWhole count hand → length (take count hand) ≤ 200
+short count hand whole = omega (arith, length-take count hand, whole.short, whole.within)
+
+pub take_ahead-requires : goal.take_ahead-requires
+take_ahead-requires g c = (c.requires.stands.0, c.requires.stands.1, c.requires.stands.3)
+
+pub take-requires-clause-line : goal.take-requires-clause-line
+take-requires-clause-line g c = subst (LiesWhole c.in-Some.count) c.ahead.ensures c.in-Some.ensures.line
 
 pub returns-in-Some-clause-advances : goal.returns-in-Some-clause-advances
 returns-in-Some-clause-advances g c = λ fold p inside stands.
     let n = c.args.number in
-    let header = c.args.header.now in
-    let whole = c.at_hand-whole.result in
-    let line = shown whole (g.S.Source.at_hand c.find_piece.new.log) c.find_piece.new.lines.bytes in
-    let after = g.T.Taker.stands c.take.new.self fold header in
-    let taken = subst (λ (l : List ℕ). TakesLine fold after n p l (Ok c.in-Some.turn)) c.shown.ensures (c.in-Some.ensures.takes fold p stands) in
-    let takes = found-takes whole line _ _ _ c.in-Line.ensures.finds c.take_found.ensures.takes in
-    line-advances fold after n p (Ok c.in-Some.turn) line _ _ _ _ c.in-Line.ensures.plain c.in-Line.ensures.within takes taken (c.take_found.ensures.sound ∙ c.in-Line.ensures.counted)
+    let hand = g.S.Source.at_hand c.args.log.now in
+    let count = c.in-Some.count in
+    let said = ok_or c.in-Some.turn c.take_ahead.new.stop in
+    let after = g.T.Taker.stands c.take_ahead.new.self fold c.args.header.now in
+    let whole = subst (LiesWhole count) c.ahead.ensures c.in-Some.ensures.line in
+    let says = λ (l : List ℕ). TakesLine fold after n p (take count l) said in
+    let taken = subst says c.ahead.ensures (c.in-Some.ensures.takes fold p stands) in
+    line-advances fold after n p said (take count hand) _ _ _ _ whole.no_newline (short count hand whole)
+    c.take.ensures.took taken c.take.ensures.sound
 
 pub returns-in-Some-clause-shrinks : goal.returns-in-Some-clause-shrinks
 returns-in-Some-clause-shrinks g c =
-    let whole = c.at_hand-whole.result in
-    let line = shown whole (g.S.Source.at_hand c.find_piece.new.log) c.find_piece.new.lines.bytes in
-    takes-shrinks piece.Line line _ _ c.in-Line.ensures.within (found-takes whole line _ _ _ c.in-Line.ensures.finds c.take_found.ensures.takes)
+    let hand = g.S.Source.at_hand c.args.log.now in
+    let whole = subst (LiesWhole c.in-Some.count) c.ahead.ensures c.in-Some.ensures.line in
+    takes-shrinks piece.Line (take c.in-Some.count hand) _ _ (short c.in-Some.count hand whole) c.take.ensures.took
 
-pub returns-in-None-clause-advances : goal.returns-in-None-clause-advances
-returns-in-None-clause-advances g c = λ fold p inside stands.
-    let n = c.args.number in
-    let header = c.args.header.now in
-    let whole = c.at_hand-whole.result in
-    let line = shown whole (g.S.Source.at_hand c.find_piece.new.log) c.find_piece.new.lines.bytes in
-    let after = g.T.Taker.stands c.take.new.self fold header in
-    let taken = subst (λ (l : List ℕ). TakesLine fold after n p l (Err c.take.new.stop)) c.shown.ensures (c.in-None.ensures.takes fold p stands) in
-    let takes = found-takes whole line _ _ _ c.in-Line.ensures.finds c.take_found-in-None.ensures.takes in
-    line-advances fold after n p (Err c.take.new.stop) line _ _ _ _ c.in-Line.ensures.plain c.in-Line.ensures.within takes taken (c.take_found-in-None.ensures.sound ∙ c.in-Line.ensures.counted)
-
-pub returns-in-None-clause-shrinks : goal.returns-in-None-clause-shrinks
-returns-in-None-clause-shrinks g c =
-    let whole = c.at_hand-whole.result in
-    let line = shown whole (g.S.Source.at_hand c.find_piece.new.log) c.find_piece.new.lines.bytes in
-    takes-shrinks piece.Line line _ _ c.in-Line.ensures.within (found-takes whole line _ _ _ c.in-Line.ensures.finds c.take_found-in-None.ensures.takes)
-
-pub returns-in-Rest-clause-advances : goal.returns-in-Rest-clause-advances
-returns-in-Rest-clause-advances g c = λ fold p inside stands.
-    rw c.stop_malformed.ensures (rest-advances fold (g.T.Taker.stands c.args.taker.now fold c.args.header.now) c.args.number p (shown c.at_hand-whole.result (g.S.Source.at_hand c.find_piece.new.log) c.find_piece.new.lines.bytes) _ _ _ _ inside c.in-Rest.ensures.plain c.in-Rest.ensures.within c.in-Rest.ensures.finds c.in-Rest.ensures.counted)
-
-pub returns-in-TooLong-clause-advances : goal.returns-in-TooLong-clause-advances
-returns-in-TooLong-clause-advances g c = λ fold p inside stands.
-    rw c.stop_limit.ensures (long-advances fold (g.T.Taker.stands c.args.taker.now fold c.args.header.now) c.args.number p (shown c.at_hand-whole.result (g.S.Source.at_hand c.find_piece.new.log) c.find_piece.new.lines.bytes) _ _ _ _ inside c.in-TooLong.ensures.plain c.in-TooLong.ensures.finds c.in-TooLong.ensures.counted)
-
-pub returns-in-ReadFault-clause-advances : goal.returns-in-ReadFault-clause-advances
-returns-in-ReadFault-clause-advances g c = λ fold p inside stands.
-    fault-advances fold (g.T.Taker.stands c.args.taker.now fold c.args.header.now) c.args.number p (shown c.at_hand-whole.result (g.S.Source.at_hand c.find_piece.new.log) c.find_piece.new.lines.bytes) _ _ _ _ c.in-ReadFault.ensures.plain c.in-ReadFault.ensures.within c.in-ReadFault.ensures.finds c.in-ReadFault.ensures.counted
-
-pub returns-in-Rest-clause-shrinks : goal.returns-in-Rest-clause-shrinks
-returns-in-Rest-clause-shrinks g c = takes-shrinks piece.Rest (shown c.at_hand-whole.result (g.S.Source.at_hand c.find_piece.new.log) c.find_piece.new.lines.bytes) _ _ c.in-Rest.ensures.within c.in-Rest.ensures.finds
-
-pub returns-in-TooLong-clause-shrinks : goal.returns-in-TooLong-clause-shrinks
-returns-in-TooLong-clause-shrinks g c = takes-shrinks piece.TooLong (shown c.at_hand-whole.result (g.S.Source.at_hand c.find_piece.new.log) c.find_piece.new.lines.bytes) _ _ c.in-TooLong.ensures.within c.in-TooLong.ensures.finds
-
-pub returns-in-ReadFault-clause-shrinks : goal.returns-in-ReadFault-clause-shrinks
-returns-in-ReadFault-clause-shrinks g c = takes-shrinks piece.ReadFault (shown c.at_hand-whole.result (g.S.Source.at_hand c.find_piece.new.log) c.find_piece.new.lines.bytes) _ _ c.in-ReadFault.ensures.within c.in-ReadFault.ensures.finds
+pub any_line-requires-clause-stands : goal.any_line-requires-clause-stands
+any_line-requires-clause-stands g c =
+    let stands = c.requires.stands in
+    (stands.0, stands.1, stands.2, c.in_default.ensures.untaken refl stands.0 stands.1 stands.3)
