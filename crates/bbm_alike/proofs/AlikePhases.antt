@@ -39,23 +39,23 @@ module _ (heading : Heading) (k : Known heading) (one other : Trust) (h h' : Lis
         → node_of heading other marks' (page_of place) ≡ Some n → held_at heading one marks n place ≡ o
         → held_at heading other marks' n place ≡ o → phase_of heading one h place p ≡ phase_of heading other h' place p
     by_held n None found found' is is' =
-        k.phase_empty one h place p n found is ∙ sym (k.phase_empty other h' place p n found' is')
+        (k.phase_parts one).empty h place p n found is ∙ sym ((k.phase_parts other).empty h' place p n found' is')
     by_held n (Some value) found found' is is' =
         let w = last_of heading one place value (last_valid n.kind n.level place marks) is in
         let w' = last_of heading other place value (last_valid n.kind n.level place marks') is' in
-        let taken = k.node_taken one marks (page_of place) n found in
+        let taken = (k.tree one).taken marks (page_of place) n found in
         let same : SamePatterns heading place one other w.0.since w'.0.since
         = a.patterns n place w.0 w'.0 taken.0 (sym taken.1) (ap is_some is) w.1 w'.1 in
-        k.phase_holding one h place p value n w.0 found is w.1
+        (k.phase_parts one).holding h place p value n w.0 found is w.1
         ∙ (ap (λ (v : ℕ). cond (is_valid n.kind n.level v) Live (broken_phase heading one place p w.0.since)) (a.values place)
         ∙ (ap (λ (phase : Phase). cond (is_valid n.kind n.level (value_of h' place)) Live phase)
         (same_broken_phase place p w.0.since w'.0.since under same)
-        ∙ sym (k.phase_holding other h' place p value n w'.0 found' is' w'.1)))
+        ∙ sym ((k.phase_parts other).holding h' place p value n w'.0 found' is' w'.1)))
 
     by_node : (o : Option Node) → node_of heading one marks (page_of place) ≡ o
         → node_of heading other marks' (page_of place) ≡ o → phase_of heading one h place p ≡ phase_of heading other h' place p
     by_node None found found' =
-        k.phase_outside one h place p found ∙ sym (k.phase_outside other h' place p found')
+        (k.phase_parts one).outside h place p found ∙ sym ((k.phase_parts other).outside h' place p found')
     by_node (Some n) found found' =
         by_held n (held_at heading one marks n place) found found' refl
         (sym (held_alike heading k one other h h' a n place found))

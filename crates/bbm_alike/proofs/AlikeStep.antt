@@ -26,7 +26,7 @@ module _ (heading : Heading) (k : Known heading) (one other : Trust) (h h' : Lis
 
   tags : SameTags heading one other (e ∷ h) (e ∷ h')
   tags =
-      same_tags_step heading k.tags_equal k.tag_waits_step h h' e a.roots a.registers one other t.takes
+      same_tags_step heading k.equality_tests.tags k.tag_steps.waits h h' e a.roots a.registers one other t.takes
       (record { tags = a.tags; holds = a.holds; tag_wait = a.tag_wait })
 
   pub alike_step : Alike heading one other (e ∷ h) (e ∷ h')

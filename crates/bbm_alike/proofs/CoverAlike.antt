@@ -34,7 +34,7 @@ module _ (heading : Heading) (k : Known heading) (one other : Trust) (h h' : Lis
 
   -- what is asked of the events alone
   pub of_events : {A : Type 0} (f g : List Event → A) → f h ≡ g h' → f (events_of marks) ≡ g (events_of marks')
-  of_events f g same = ap f (k.events_noted one h) ∙ (same ∙ sym (ap g (k.events_noted other h')))
+  of_events f g same = ap f (k.notes_keep_the_events one h) ∙ (same ∙ sym (ap g (k.notes_keep_the_events other h')))
 
   pub values_alike : (place : ℕ) → value_of (events_of marks) place ≡ value_of (events_of marks') place
   values_alike place = of_events (λ (es : List Event). value_of es place) (λ (es : List Event). value_of es place) (a.values place)
@@ -48,7 +48,7 @@ module _ (heading : Heading) (k : Known heading) (one other : Trust) (h h' : Lis
   -- what a place of the node of a page holds
   pub held_alike : (n : Node) (place : ℕ) → node_of heading one marks (page_of place) ≡ Some n
       → held_at heading one marks n place ≡ held_at heading other marks' n place
-  held_alike n place is = let t = k.node_taken one marks (page_of place) n is in a.held n place t.0 (sym t.1)
+  held_alike n place is = let t = (k.tree one).taken marks (page_of place) n is in a.held n place t.0 (sym t.1)
 
   -- ---- childless
 
@@ -57,7 +57,8 @@ module _ (heading : Heading) (k : Known heading) (one other : Trust) (h h' : Lis
       → (below : ℕ) → page_of below ≡ next → held heading one n.kind (suc n.level) below marks
       ≡ held heading other n.kind (suc n.level) below marks'
   none_below n place value next there inside holds table below under =
-      a.held (node_below n place next) below (k.tree_below one marks n place value next there inside holds table) under
+      a.held (node_below n place next) below ((k.tree one).below marks n place value next there inside holds table)
+      under
 
   pub childless_alike : (n : Node) (place value : ℕ) → Contains (tree heading one marks) n → page_of place ≡ n.page
       → held_at heading one marks n place ≡ Some value
@@ -70,10 +71,12 @@ module _ (heading : Heading) (k : Known heading) (one other : Trust) (h h' : Lis
       by (Some next) table =
           let same = none_below n place value next there inside holds table in
           same_truth (is_childless heading one marks n value) (is_childless heading other marks' n value)
-          (λ c. (k.childless_table other marks' n value next table).1
-          (λ below under. sym (same below under) ∙ (k.childless_table one marks n value next table).0 c below under))
-          (λ c. (k.childless_table one marks n value next table).1
-          (λ below under. same below under ∙ (k.childless_table other marks' n value next table).0 c below under))
+          (λ c. ((k.childless_step other).table marks' n value next table).1
+          (λ below under. sym (same below under) ∙ ((k.childless_step one).table marks n value next table).0 c below
+          under))
+          (λ c. ((k.childless_step one).table marks n value next table).1
+          (λ below under. same below under ∙ ((k.childless_step other).table marks' n value next table).0 c below
+          under))
 
   -- ---- tags
 
@@ -116,7 +119,7 @@ module _ (heading : Heading) (k : Known heading) (one other : Trust) (h h' : Lis
   of_value_alike : (place : ℕ) (n : Node) (value : ℕ) → node_of heading one marks (page_of place) ≡ Some n
       → held_at heading one marks n place ≡ Some value → of_value one marks n place value ≡ of_value other marks' n place value
   of_value_alike place n value is holds =
-      let t = k.node_taken one marks (page_of place) n is in
+      let t = (k.tree one).taken marks (page_of place) n is in
       ap (λ (b : Bool). with_parts n place value b (tag_set (tags_of heading one n.root (events_of marks))))
       (childless_alike n place value t.0 (sym t.1) holds)
       ∙ ap (λ (s : TagSet). with_parts n place value (is_childless heading other marks' n value) s) (tag_set_alike n.root)

@@ -1,10 +1,11 @@
 -- A tag that a root holds was readable for it; and one that waits to be taken away, and is held, was held when the TLBI
 -- was issued that is to take it.
-use Rattle.std.proofs.Common.{◌≡◌, ◌↔◌, ℕ, zero, suc, ◌<◌, ◌≤◌, Bool, true, false, not, ◌&&◌, ◌==◌, nat_le, List, []}
+use Rattle.std.proofs.Common.{◌≡◌, ◌↔◌, ℕ, ◌<◌, ◌≤◌, Bool, true, false, not, ◌&&◌, ◌==◌, nat_le, List, []}
 use Rattle.std.proofs.Common.{◌∷◌, ◌++◌, length, Some, filter_map, flat_map, refl, sym, ◌∙◌, ap, subst, inl, inr}
 use Rattle.std.proofs.Common.{true≢false, arith}
-use Rattle.std.proofs.lemmas.Bool.{and_parts, cases_eq, le-leb, or_cases, or_left, or_parts, not-true}
+use Rattle.std.proofs.lemmas.Bool.{and_parts, le-leb, or_cases, or_left, or_parts, not-true}
 use Rattle.std.proofs.lemmas.List.{length-append}
+use Rattle.bbm_lemmas.proofs.Words.{in_below}
 use Rattle.bbm_lemmas.specs.Elements.{In}
 use Rattle.bbm_lemmas.proofs.Elements.{any_found, in_left, in_right, to_flat, to_filter_map}
 use Rattle.bbm_rules.specs.Claims.{Trust, same_tag}
@@ -17,10 +18,6 @@ use Rattle.bbm_rules.specs.Tags.{readings, readings_in, reads, reads_for_some, t
 use Rattle.bbm_histories.specs.HistorySteps.{takes}
 use Rattle.bbm_alike.proofs.Distinct.{distinct_keeps}
 use Rattle.bbm_alike.proofs.TagSteps.{held_before}
-
-pub in_below : (n p : ℕ) → p < n → In (below n) p
-in_below zero p less = absurd (omega arith)
-in_below (suc n) p less = elim (cases_eq n p) [ inl same ↦ inl same | inr apart ↦ inr (in_below n p (omega arith)) ]
 
 -- ---- what is readable
 

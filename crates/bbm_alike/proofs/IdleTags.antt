@@ -2,6 +2,9 @@
 use Rattle.std.proofs.Common.{◌≡◌, ◌↔◌, ℕ, ◌<◌, Bool, true, false, cond, not, ◌&&◌, ◌||◌, ◌==◌, List, [], ◌∷◌, ◌++◌}
 use Rattle.std.proofs.Common.{Contains, filter_map, flat_map, refl, sym, ◌∙◌, ap, subst, true≢false}
 use Rattle.std.proofs.lemmas.Bool.{and_from, and_parts, eqb-true, false_from_ne_true}
+use Rattle.bbm_lemmas.proofs.Words.{in_below}
+use Rattle.bbm_lemmas.proofs.Tautologies.{proved}
+use Rattle.bbm_lemmas.proofs.Tautologies.Claim.{Is}
 use Rattle.bbm_lemmas.specs.Elements.{In}
 use Rattle.bbm_lemmas.proofs.Elements.{any_finds, any_found, in_left, is_none_of, to_contains}
 use Rattle.bbm_barriers.specs.Options.{answers}
@@ -22,7 +25,7 @@ use Rattle.bbm_histories.specs.HistorySteps.{answered_by, is_tlbi, tag_waits, ta
 use Rattle.bbm_histories.specs.TagSteps.{kind_of_tag}
 use Rattle.bbm_alike.specs.SameTags.{AnswersNone, SameTags, TakesNone}
 use Rattle.bbm_alike.proofs.Distinct.{distinct_again}
-use Rattle.bbm_alike.proofs.HeldTags.{held_at_issue, held_is_listed, in_below, no_readings, read_is_held}
+use Rattle.bbm_alike.proofs.HeldTags.{held_at_issue, held_is_listed, no_readings, read_is_held}
 use Rattle.bbm_alike.proofs.ReadingsAlike.{readings_alike}
 use Rattle.bbm_alike.proofs.TagSteps.{WaitsStep}
 use Rattle.bbm_alike.proofs.ListsAlike.{same_flat}
@@ -158,14 +161,11 @@ module _ (heading : Heading) (equal : (g k : Tag) → (same_tag g k ≡ true) �
         same_tags heading (Tlbi pe op xt) h
         (readings_alike (Tlbi pe op xt ∷ h) h (λ q reg. refl) refl heading) equal waits Patterns
         (λ p root tag less held. refl)
-        (λ p q root b tag less held. ap (λ (c : Bool). (pe == q && (is_tlbi b (Tlbi pe op xt) && c)) || tag_waits heading p tag q b h)
+        (λ p q root b tag less held. ap (λ (c : Bool). (pe == q && (is_tlbi b (Tlbi pe op xt) && c))
+        || tag_waits heading p tag q b h)
         (takes_none h (Tlbi pe op xt) declared none p root tag less held)
-        ∙ by (pe == q) (is_tlbi b (Tlbi pe op xt)) (tag_waits heading p tag q b h))
-      where
-        by : (x y w : Bool) → ((x && (y && false)) || w) ≡ w
-        by true true w = refl
-        by true false w = refl
-        by false y w = refl
+        ∙ proved 3 (λ x y w. Is ((x && (y && false)) || w) w) refl (pe == q) (is_tlbi b (Tlbi pe op xt))
+        (tag_waits heading p tag q b h))
 
     -- a DSB completes what it answers
     answered_kind : (dsb : Barrier) (b : Bool) (e : Event) → answers dsb b ≡ true → is_tlbi b e ≡ true

@@ -1,6 +1,6 @@
 -- Lists and tests that are made alike.
-use Rattle.std.proofs.Common.{◌≡◌, ℕ, zero, suc, ◌<◌, ◌||◌, Bool, true, false, cond, List, [], ◌∷◌, Option, filter}
-use Rattle.std.proofs.Common.{filter_map, flat_map, refl, sym, ◌∙◌, ap, inl, inr, arith}
+use Rattle.std.proofs.Common.{◌≡◌, ℕ, zero, suc, ◌<◌, ◌||◌, Bool, cond, List, [], ◌∷◌, Option, filter}
+use Rattle.std.proofs.Common.{filter_map, flat_map, refl, ◌∙◌, ap, inl, inr, arith}
 use Rattle.bbm_lemmas.specs.Elements.{In}
 use Rattle.bbm_rules.specs.Lists.{some_pe}
 

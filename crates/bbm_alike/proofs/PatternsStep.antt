@@ -27,7 +27,7 @@ module _ (heading : Heading) (k : Known heading) where
   -- what was cleansed stays so, and what was half
   pub cleansed_before : (trust : Trust) (place p : ℕ) (n : Noted) (since : List Noted)
       → cleansed heading trust place p (n ∷ since) ≡ false → cleansed heading trust place p since ≡ false
-  cleansed_before trust place p n since none = by n.event (sym (k.cleansed_step trust place p n since) ∙ none)
+  cleansed_before trust place p n since none = by n.event (sym ((k.claim_steps trust).cleansed place p n since) ∙ none)
     where
       by : (e : Event) → cleansed_under heading place p trust n.position e since ≡ false → cleansed heading trust place p since ≡ false
       by (Dsb q dsb) c =
@@ -38,7 +38,7 @@ module _ (heading : Heading) (k : Known heading) where
 
   pub half_before : (place p : ℕ) (n : Noted) (since : List Noted) → half heading place p (n ∷ since) ≡ false
       → half heading place p since ≡ false
-  half_before place p n since none = by n.event (sym (k.half_step place p n since) ∙ none)
+  half_before place p n since none = by n.event (sym (k.pattern_steps.half place p n since) ∙ none)
     where
       by : (e : Event) → half_after heading place p e since ≡ false → half heading place p since ≡ false
       by (Dsb q dsb) c =
@@ -57,7 +57,8 @@ module _ (heading : Heading) (k : Known heading) where
     writers_after p q = ap (λ (b : Bool). writes q place e || b) (s.writers p q)
 
     seen_alike_after : (p : ℕ) → p < heading.pes → seen heading place p (next ∷ since) ≡ seen heading place p (next' ∷ since')
-    seen_alike_after p below = k.seen_step place p next since ∙ (by e ∙ sym (k.seen_step place p next' since'))
+    seen_alike_after p below = k.pattern_steps.seen place p next since
+        ∙ (by e ∙ sym (k.pattern_steps.seen place p next' since'))
       where
         by : (f : Event) → seen_after heading place p f since ≡ seen_after heading place p f since'
         by (Dsb q dsb) =
@@ -66,7 +67,8 @@ module _ (heading : Heading) (k : Known heading) where
         by f = s.seen_alike p below
 
     half_alike_after : (p : ℕ) → p < heading.pes → half heading place p (next ∷ since) ≡ half heading place p (next' ∷ since')
-    half_alike_after p below = k.half_step place p next since ∙ (by e ∙ sym (k.half_step place p next' since'))
+    half_alike_after p below = k.pattern_steps.half place p next since
+        ∙ (by e ∙ sym (k.pattern_steps.half place p next' since'))
       where
         dsb_by : (q : ℕ) (dsb : Barrier) (c : Bool) → half heading place p since ≡ c
             → half_after heading place p (Dsb q dsb) since ≡ half_after heading place p (Dsb q dsb) since'
@@ -90,8 +92,8 @@ module _ (heading : Heading) (k : Known heading) where
         → waits event_of q b (flushes heading place p cover test) (next ∷ since)
         ≡ waits event_of q b (flushes heading place p cover test) (next' ∷ since')
     waits_alike p q b cover test tested waiting =
-        k.waits_step q b (flushes heading place p cover test) next since
-        ∙ (by e ∙ sym (k.waits_step q b (flushes heading place p cover test) next' since'))
+        k.pattern_steps.waits q b (flushes heading place p cover test) next since
+        ∙ (by e ∙ sym (k.pattern_steps.waits q b (flushes heading place p cover test) next' since'))
       where
         flushed : flushes heading place p cover test (record { tlbi = next; before = since })
             ≡ flushes heading place p cover test (record { tlbi = next'; before = since' })

@@ -1,5 +1,5 @@
 -- Where no write of a place is seen after its last valid write, nothing is half, cleansed or waits.
-use Rattle.std.proofs.Common.{◌≡◌, ℕ, ◌&&◌, Bool, true, false, cond, ◌==◌, List, [], ◌∷◌, ◌++◌, refl, sym, ◌∙◌, ap}
+use Rattle.std.proofs.Common.{◌≡◌, ℕ, ◌&&◌, Bool, true, false, ◌==◌, List, [], ◌∷◌, ◌++◌, refl, sym, ◌∙◌, ap}
 use Rattle.std.proofs.Common.{true≢false, inl, inr}
 use Rattle.std.proofs.Math.Bool.{and-false}
 use Rattle.std.proofs.lemmas.Bool.{and_right, eqb-true, false_from_ne_true, or_from, or_parts}
@@ -59,7 +59,7 @@ module _ (heading : Heading) (k : Known heading) where
     pub no_waits : (since : List Noted) → Fails since → waits event_of q b test since ≡ false
     no_waits [] none = refl
     no_waits (n ∷ since) none =
-        k.waits_step q b test n since
+        k.pattern_steps.waits q b test n since
         ∙ none_after n.event n since (none n [] since refl)
         (no_waits since (λ m after before split. none m (n ∷ after) before (ap (λ (x : List Noted). n ∷ x) split)))
 
@@ -67,7 +67,7 @@ module _ (heading : Heading) (k : Known heading) where
     -- ---- what isn't seen wasn't seen before
 
     seen_less : (n : Noted) (since : List Noted) → seen heading place p (n ∷ since) ≡ false → seen heading place p since ≡ false
-    seen_less n since unseen = by n.event (sym (k.seen_step place p n since) ∙ unseen)
+    seen_less n since unseen = by n.event (sym (k.pattern_steps.seen place p n since) ∙ unseen)
       where
         by : (e : Event) → seen_after heading place p e since ≡ false → seen heading place p since ≡ false
         by (Dsb q dsb) none = (or_parts (publishes_to heading dsb q p && wrote heading place p q since) (seen heading place p since) none).1
@@ -89,22 +89,26 @@ module _ (heading : Heading) (k : Known heading) where
         (unseen_before since f.answer.newer f.answer.older d f.answer.split unseen)
 
     pub half_none : (since : List Noted) → seen heading place p since ≡ false → half heading place p since ≡ false
-    half_none since unseen = false_from_ne_true (half heading place p since) (λ c. impossible (k.half_sound place p since c))
+    half_none since unseen = false_from_ne_true (half heading place p since)
+        (λ c. impossible (k.half.sound place p since c))
       where
         impossible : IsHalf heading place p since → ⊥
         impossible (b, t, d, by) =
-            true≢false (sym (k.seen_complete place p t.before (b, by.published)) ∙ unflushed Half since t d by.flush unseen)
+            true≢false (sym (k.seen.complete place p t.before (b, by.published))
+            ∙ unflushed Half since t d by.flush unseen)
 
     pub cleansed_none : (trust : Trust) (since : List Noted) → seen heading place p since ≡ false
         → cleansed heading trust place p since ≡ false
     cleansed_none trust since unseen =
-        false_from_ne_true (cleansed heading trust place p since) (λ c. impossible (k.cleansed_sound trust place p since c))
+        false_from_ne_true (cleansed heading trust place p since)
+        (λ c. impossible ((k.cleansed trust).sound place p since c))
       where
         impossible : Cleansed heading trust place p since → ⊥
         impossible (inl o) =
-            true≢false (sym (k.seen_complete place p o.t.before (o.b, o.published)) ∙ unflushed Full since o.t o.d o.flush unseen)
+            true≢false (sym (k.seen.complete place p o.t.before (o.b, o.published))
+            ∙ unflushed Full since o.t o.d o.flush unseen)
         impossible (inr t) =
-            true≢false (sym (k.half_complete place p t.t2.before (t.b, t.t1, t.d1, t.first))
+            true≢false (sym (k.half.complete place p t.t2.before (t.b, t.t1, t.d1, t.first))
             ∙ half_none t.t2.before (unflushed Second since t.t2 t.d2 t.second unseen))
 
     -- ---- waits

@@ -3,6 +3,8 @@ use Rattle.std.proofs.Common.{◌≡◌, ◌↔◌, ℕ, ◌<◌, Bool, true, fa
 use Rattle.std.proofs.Common.{Some, None, filter_map, flat_map, refl, sym, ◌∙◌, ap, true≢false, inl, inr}
 use Rattle.std.proofs.Math.Bool.{and-false}
 use Rattle.std.proofs.lemmas.Bool.{and_parts, or_cases}
+use Rattle.bbm_lemmas.proofs.Tautologies.{proved}
+use Rattle.bbm_lemmas.proofs.Tautologies.Claim.{If, Is}
 use Rattle.bbm_lemmas.proofs.Elements.{any_finds, any_found}
 use Rattle.bbm_barriers.specs.Options.{answers}
 use Rattle.bbm_rules.specs.Claims.{Trust, same_tag}
@@ -41,10 +43,7 @@ held_before heading trust p root tag e h held unread =
     ]
 
 not_lost : (a b x y : Bool) → a ≡ b → (a ≡ true → x ≡ y) → (a && not x) ≡ (b && not y)
-not_lost true true x y same rest = ap not (rest refl)
-not_lost false false x y same rest = refl
-not_lost true false x y same rest = absurd (true≢false same)
-not_lost false true x y same rest = absurd (true≢false (sym same))
+not_lost = proved 4 (λ a b x y. If (Is a b) (If (If (Is a true) (Is x y)) (Is (a && not x) (b && not y)))) refl
 
 -- the step equation of what waits
 abbrev pub WaitsStep : Heading → Type 0

@@ -47,21 +47,21 @@ module _ (heading : Heading) (k : Known heading) where
     lost_by : (e : Event) (p root : ℕ) (tag : Tag) → p < heading.pes → holds_at heading Patterns p root tag h ≡ true
         → loses heading Patterns p tag e h ≡ loses heading Patterns p tag e h'
     lost_by (Dsb q dsb) p root tag below holds =
-        k.lost_patterns p tag q dsb h
+        k.tag_steps.lost p tag q dsb h
         ∙ (ap (λ (x : Bool). x && not (reads_for_some heading (Dsb q dsb ∷ h) p tag))
         (answers_alike dsb (λ b. tag_waits heading p tag q b h) (λ b. tag_waits heading p tag q b h')
         (λ b. a.tag_wait p q root b tag below holds))
         ∙ (ap (λ (x : Bool). answered_by dsb (λ b. tag_waits heading p tag q b h') && not x)
         (reads_some_alike (Dsb q dsb ∷ h) (Dsb q dsb ∷ h') a.registers a.roots heading p tag)
-        ∙ sym (k.lost_patterns p tag q dsb h')))
+        ∙ sym (k.tag_steps.lost p tag q dsb h')))
     lost_by e p root tag below holds = refl
 
     pub takes_patterns : (e : Event) → TakesAlike heading Patterns Patterns h h' e
     takes_patterns e = record {
       cleanses = λ n place p w w' there stays inside some last last' below.
-          k.cleansed_patterns place p (note heading Patterns (noted heading Patterns h) e) w.since
+          k.pattern_steps.cleansed place p (note heading Patterns (noted heading Patterns h) e) w.since
           ∙ (cleansed_by place p below w.since w'.since (a.patterns n place w w' there inside some last last') e
-          ∙ sym (k.cleansed_patterns place p (note heading Patterns (noted heading Patterns h') e) w'.since));
+          ∙ sym (k.pattern_steps.cleansed place p (note heading Patterns (noted heading Patterns h') e) w'.since));
       takes = lost_by e;
     }
 
@@ -82,10 +82,10 @@ module _ (heading : Heading) (k : Known heading) where
     takes_nothing e no_dsb = record {
       cleanses = λ n place p w w' there stays inside some last last' below.
           let s = a.patterns n place w w' there inside some last last' in
-          k.cleansed_step one place p (note heading one (noted heading one h) e) w.since
+          (k.claim_steps one).cleansed place p (note heading one (noted heading one h) e) w.since
           ∙ (cleansed_still one place p (note heading one (noted heading one h) e).position e w.since no_dsb
           ∙ (s.cleansed_alike p below
-          ∙ sym (k.cleansed_step other place p (note heading other (noted heading other h') e) w'.since
+          ∙ sym ((k.claim_steps other).cleansed place p (note heading other (noted heading other h') e) w'.since
           ∙ cleansed_still other place p (note heading other (noted heading other h') e).position e w'.since no_dsb)));
       takes = λ p root tag below holds. none_lost one p tag e h no_dsb ∙ sym (none_lost other p tag e h' no_dsb);
     }

@@ -70,16 +70,17 @@ module _ (heading : Heading) (k : Known heading) (one other : Trust) (h h' : Lis
     now' = noted heading other (e ∷ h')
 
     events_alike : {X : Type 0} (f : List Event → X) → f (e ∷ h) ≡ f (e ∷ h') → f (events_of now) ≡ f (events_of now')
-    events_alike f same = ap f (k.events_noted one (e ∷ h)) ∙ (same ∙ sym (ap f (k.events_noted other (e ∷ h'))))
+    events_alike f same = ap f (k.notes_keep_the_events one (e ∷ h))
+        ∙ (same ∙ sym (ap f (k.notes_keep_the_events other (e ∷ h'))))
 
     -- ---- a page that the event attaches
 
     module _ (n : Node) (place : ℕ) (made : Attaches heading one marks e n) (inside : page_of place ≡ n.page) where
       present : HoldsPresent heading one now n place
-      present = k.attached_holds one h e pes unbroken n place made inside
+      present = (k.fresh_content one).attached h e pes unbroken n place made inside
 
       present' : HoldsPresent heading other now' n place
-      present' = k.attached_holds other h' e pes unbroken' n place (attaches_alike e n made) inside
+      present' = (k.fresh_content other).attached h' e pes unbroken' n place (attaches_alike e n made) inside
 
       abbrev if_valid : ℕ → Option ℕ
       if_valid value = cond (is_valid n.kind n.level value) (Some value) None
@@ -117,7 +118,7 @@ module _ (heading : Heading) (k : Known heading) (one other : Trust) (h h' : Lis
               → last_valid n.kind n.level place x ≡ Some u
               → (q v : ℕ) (m : Noted) (after before : List Noted) → u.since ≡ after ++ m ∷ before → m.event ≡ Write q place v → ⊥
           quiet x u live is q v m after before split =
-              let l = k.last_live n.kind n.level place x live in
+              let l = k.last_valid.live n.kind n.level place x live in
               let same : l.0 ≡ u = let both : Some l.0 ≡ Some u = sym l.1 ∙ is in cc in
               l.3 q v m after before (ap (λ (y : ValidWrite). y.since) same ∙ split)
 
@@ -126,7 +127,7 @@ module _ (heading : Heading) (k : Known heading) (one other : Trust) (h h' : Lis
     pub held_step : (n : Node) (place : ℕ) → Contains (tree heading one now) n → page_of place ≡ n.page
         → held_at heading one now n place ≡ held_at heading other now' n place
     held_step n place there inside =
-        elim (k.gained one h e unbroken n there) [
+        elim ((k.one_position one).gained h e unbroken n there) [
           | inl old ↦ held_old heading k one other h h' pes a e t n place old there inside
           | inr made ↦ held_new n place made.0 inside
         ]
@@ -135,7 +136,7 @@ module _ (heading : Heading) (k : Known heading) (one other : Trust) (h h' : Lis
         → is_some (held_at heading one now n place) ≡ true → last_valid n.kind n.level place now ≡ Some w
         → last_valid n.kind n.level place now' ≡ Some w' → SamePatterns heading place one other w.since w'.since
     patterns_step n place w w' there inside some last last' =
-        elim (k.gained one h e unbroken n there) [
+        elim ((k.one_position one).gained h e unbroken n there) [
           | inl old ↦ patterns_old heading k one other h h' pes a e t n place old there inside w w' some last last'
           | inr made ↦ patterns_new n place made.0 inside w w' some last last'
         ]

@@ -1,3 +1,4 @@
 pub mod Alike
 pub mod KnownOfHistories
 pub mod SameTags
+pub mod AlikeLaws

@@ -1,22 +1,20 @@
 //! The same events in two histories that are alike.
 
-ghost use Rattle.std.specs.Prelude.{◌≡◌, ◌<◌, true, List, ◌∷◌, ◌++◌};
+ghost use Rattle.std.specs.Prelude.{◌≡◌, ◌<◌, true, List, ◌++◌};
 ghost use Rattle.bbm_events.specs.Heading.{Heading};
 ghost use Rattle.bbm_events.specs.declared.event.Event.{Event};
 ghost use Rattle.bbm_rules.specs.Broken.{keeps};
 ghost use Rattle.bbm_rules.specs.Claims.{Trust};
 ghost use Rattle.bbm_rules.specs.Claims.Trust.{Patterns};
-ghost use Rattle.bbm_alike.specs.Alike.{Alike, TakesAlike};
+ghost use Rattle.bbm_alike.specs.Alike.{Alike};
+ghost use Rattle.bbm_alike.specs.AlikeLaws.{StepAlike};
 
 use crate::known::known;
 
 /// Two histories that are alike are so still after the same event, where it breaks no rule in either and takes away
-/// alike in both. The law is the contract.
+/// alike in both. The law is `StepAlike`.
 pub fn law_alike_step()
-    ensures { (heading : Heading) (one other : Trust) (h h' : List Event) (e : Event) → 0 < heading.pes →
-        keeps heading one (e ∷ h) ≡ true → keeps heading other (e ∷ h') ≡ true →
-        Alike heading one other h h' → TakesAlike heading one other h h' e →
-        Alike heading one other (e ∷ h) (e ∷ h') }
+    ensures { (heading : Heading) (one other : Trust) → StepAlike heading one other }
 {
     known();
 }

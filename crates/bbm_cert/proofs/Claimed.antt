@@ -1,8 +1,9 @@
 -- A place is cleansed by the newer part of a log exactly where some claim of it has a mark above what came before.
 use Rattle.std.proofs.Common.{◌≡◌, ℕ, suc, ◌≤◌, Bool, true, false, cond, ◌&&◌, ◌||◌, nat_lt, ◌==◌, List, [], ◌∷◌, ◌++◌}
 use Rattle.std.proofs.Common.{length, refl, sym, ◌∙◌, ap, arith, zero-le}
-use Rattle.std.proofs.Math.Bool.{and_comm}
 use Rattle.std.proofs.lemmas.Bool.{and_right, eqb-true, le-ltb}
+use Rattle.bbm_lemmas.proofs.Tautologies.{proved}
+use Rattle.bbm_lemmas.proofs.Tautologies.Claim.{If, Is}
 use Rattle.bbm_tlbi_scope.specs.declared.entry.Cover.{Cover}
 use Rattle.bbm_tlbi_scope.specs.declared.entry.Cover.TheVariants.{Second, Full}
 use Rattle.bbm_events.specs.declared.claim.Claim.{Claim}
@@ -23,10 +24,8 @@ use Rattle.bbm_cert.proofs.Marked.{mark_within, seen_marks}
 -- tests of a claim, in two orders
 combined : (x y here f f' g : Bool) → (x ≡ true → y ≡ true → f' ≡ f)
     → (((x && (y && here)) && f') || ((x && y) && g)) ≡ ((x && y) && ((f && here) || g))
-combined true true here f f' g same =
-    ap (λ (b : Bool). (here && b) || g) (same refl refl) ∙ ap (λ (b : Bool). b || g) (and_comm here f)
-combined true false here f f' g same = refl
-combined false y here f f' g same = refl
+combined = proved 6 (λ x y here f f' g. If (If (Is x true) (If (Is y true) (Is f' f))) (Is (((x && (y && here)) && f')
+    || ((x && y) && g)) ((x && y) && ((f && here) || g)))) refl
 
 module _ (heading : Heading) (known : Known heading) where
   pub claim_within : (claim : Claim) (h : List Noted) → claim_mark heading claim h ≤ length h
@@ -133,7 +132,7 @@ module _ (heading : Heading) (known : Known heading) where
         (λ c. and_right (is_of place p c) (nat_lt (length older) (claim_mark heading c older))
         (le-ltb (length older) (claim_mark heading c older) (claim_within c older))))
     cleansed_is cs (n ∷ newer) older numbered =
-        known.cleansed_step cs place p n newer
+        known.claim_steps.listed cs place p n newer
         ∙ listed_is cs n.position n.event newer
         ∙ ap (λ (b : Bool). any (ends n.position n.event newer) cs || b) (cleansed_is cs newer older numbered.1)
         ∙ any_both (ends n.position n.event newer) (is_true_of heading place p (length older) (newer ++ older))

@@ -1,5 +1,5 @@
 -- What is kept of the claims that are true, after one more claim and after one more event, and what it says.
-use Rattle.std.proofs.Common.{◌≡◌, ℕ, suc, ◌+◌, ◌≤◌, ◌<◌, ◌≢◌, Bool, true, false, cond, ◌&&◌, ◌||◌, nat_eq}
+use Rattle.std.proofs.Common.{◌≡◌, ℕ, suc, ◌+◌, ◌≤◌, ◌<◌, Bool, true, false, cond, ◌&&◌, ◌||◌, nat_eq}
 use Rattle.std.proofs.Common.{nat_lt, ◌==◌, inl, inr, true≢false, List, [], ◌∷◌, ◌++◌, length, take, drop, get_or}
 use Rattle.std.proofs.Common.{slice_set, reverse, refl, sym, ◌∙◌, ap, subst, arith}
 use Rattle.std.proofs.Math.Bool.{and-false, or-false}
@@ -7,6 +7,8 @@ use Rattle.std.proofs.Math.Seq.{drop-cons}
 use Rattle.std.proofs.lemmas.Bool.{cases_eq, eq-eqb, eqb-true, ne_eqb}
 use Rattle.std.proofs.lemmas.List.{length-append, length-reverse, reverse-append, set_split, take-append-drop}
 use Rattle.std.proofs.lemmas.List.Folds.{list_any-append}
+use Rattle.bbm_lemmas.proofs.Tautologies.{proved}
+use Rattle.bbm_lemmas.proofs.Tautologies.Claim.{Is}
 use Rattle.bbm_events.specs.declared.claim.Claim.{Claim}
 use Rattle.bbm_events.specs.declared.claim.Claim.TheVariants.{Place, Two, Taken}
 use Rattle.bbm_regimes.specs.PeMask.{pe_in}
@@ -188,19 +190,11 @@ tells_set kept i old pes place pe since a p n below is is_place is_since is_pes 
     ap (λ (xs : List Cleansing). tells xs a p n) (set_split kept i new below)
     ∙ list_any-append (counts a p n) (take i kept) (new ∷ drop (suc i) kept)
     ∙ ap (λ (b : Bool). front || ((at && b) || back)) (is_pes ∙ ap (λ (b : Bool). pe_in old.pes p || b) (eq_sym p pe))
-    ∙ spread front at (pe_in old.pes p) (pe == p) back
+    ∙ proved 5 (λ t x o e d. Is (t || ((x && (o || e)) || d)) ((t || ((x && o) || d)) || (x && e))) refl front at
+    (pe_in old.pes p) (pe == p) back
     ∙ ap (λ (b : Bool). b || (at && pe == p)) (sym told)
     ∙ ap (λ (x : ℕ). tells kept a p n || ((x == a && nat_lt n old.since) && pe == p)) is_place
     ∙ ap (λ (x : ℕ). tells kept a p n || ((place == a && nat_lt n x) && pe == p)) is_since
-  where
-    spread : (t x o e d : Bool) → (t || ((x && (o || e)) || d)) ≡ ((t || ((x && o) || d)) || (x && e))
-    spread true x o e d = refl
-    spread false false o e d = sym (or-false d)
-    spread false true true e d = refl
-    spread false true false true true = refl
-    spread false true false true false = refl
-    spread false true false false true = refl
-    spread false true false false false = refl
 
 pub found_in : (xs ys : List Cleansing) (i : ℕ) (old : Cleansing) (place since : ℕ) → xs ≡ ys
     → (i < length xs) × ((d : Cleansing) → (get_or xs i d).place ≡ place)

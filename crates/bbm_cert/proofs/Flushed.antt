@@ -7,6 +7,8 @@ use Rattle.std.proofs.lemmas.Bool.{and_right, eq-eqb, ne_eqb}
 use Rattle.std.proofs.lemmas.List.{get_or_default, length-drop, reverse-append, take_all}
 use Rattle.std.proofs.lemmas.List.Folds.{list_any-append}
 use Rattle.std.specs.List.{list_any}
+use Rattle.bbm_lemmas.proofs.Tautologies.{proved}
+use Rattle.bbm_lemmas.proofs.Tautologies.Claim.{Is}
 use Rattle.bbm_barriers.specs.Options.{answers}
 use Rattle.bbm_tlbi_scope.specs.declared.entry.Cover.{Cover}
 use Rattle.bbm_tlbi_scope.specs.Operations.{operation}
@@ -41,48 +43,16 @@ any_same f g (x ∷ xs) each =
 
 pick_true : (a b n m i r : Bool)
     → ((a && (n && ((i && true) && r))) || (b && (m && ((i && false) && r)))) ≡ ((i && (a && r)) && n)
-pick_true true true true true true true = refl
-pick_true true true true true true false = refl
-pick_true true true true false true true = refl
-pick_true true true true false true false = refl
-pick_true true true false true true true = refl
-pick_true true true false true true false = refl
-pick_true true true false false true true = refl
-pick_true true true false false true false = refl
-pick_true true false true m true true = refl
-pick_true true false true m true false = refl
-pick_true true false false m true true = refl
-pick_true true false false m true false = refl
-pick_true false true n true true r = refl
-pick_true false true n false true r = refl
-pick_true false false n m true r = refl
-pick_true true true true true false r = refl
-pick_true true true true false false r = refl
-pick_true true true false true false r = refl
-pick_true true true false false false r = refl
-pick_true true false true m false r = refl
-pick_true true false false m false r = refl
-pick_true false true n true false r = refl
-pick_true false true n false false r = refl
-pick_true false false n m false r = refl
+pick_true = proved 6 (λ a b n m i r. Is ((a && (n && ((i && true) && r))) || (b && (m && ((i && false) && r)))) ((i &&
+    (a && r)) && n)) refl
 
 pick_false : (a b n m i r : Bool)
     → ((a && (n && ((i && false) && r))) || (b && (m && ((i && true) && r)))) ≡ ((i && (b && r)) && m)
-pick_false a b n m i r = flip (a && (n && ((i && false) && r))) (b && (m && ((i && true) && r))) ∙ pick_true b a m n i r
-  where
-    flip : (x y : Bool) → (x || y) ≡ (y || x)
-    flip x y = or_comm x y
+pick_false = proved 6 (λ a b n m i r. Is ((a && (n && ((i && false) && r))) || (b && (m && ((i && true) && r)))) ((i &&
+    (b && r)) && m)) refl
 
 pick_none : (a b n m : Bool) → ((a && (n && false)) || (b && (m && false))) ≡ false
-pick_none true true true true = refl
-pick_none true true true false = refl
-pick_none true true false true = refl
-pick_none true true false false = refl
-pick_none true false true m = refl
-pick_none true false false m = refl
-pick_none false true n true = refl
-pick_none false true n false = refl
-pick_none false false n m = refl
+pick_none = proved 4 (λ a b n m. Is ((a && (n && false)) || (b && (m && false))) false) refl
 
 -- ---- what is answered
 
@@ -141,12 +111,9 @@ module _ (heading : Heading) (place p q : ℕ) (cover : Cover) where
       (λ e. omega (arith, length_notes (newer ++ k ∷ older), length-append newer (k ∷ older))) in
       rw there
       (ap (λ (w : Bool). not (answers_for q b x.event) && w) (waits_kept b newer older k)
-      ∙ both (answers_for q b x.event) (answers_of b newer) (flushes_for heading place p q b cover
+      ∙ proved 3 (λ a n f. Is (not a && (not n && f)) (not (a || n) && f)) refl (answers_for q b x.event)
+      (answers_of b newer) (flushes_for heading place p q b cover
       (note_of (length older) k)))
-    where
-      both : (a n f : Bool) → (not a && (not n && f)) ≡ (not (a || n) && f)
-      both true n f = refl
-      both false n f = refl
 
   waits_found : (b : Bool) (log : List Kept) (t i : ℕ) (k : Kept) → i < length log → t ≡ suc i → k ≡ get_or log i k
       → waits_at heading place p q b cover t (notes_of (reverse log))

@@ -1,10 +1,12 @@
 -- What is kept of the tags that roots hold: one more of them, and one more event.
 use Rattle.std.proofs.Common.{◌≡◌, ℕ, ◌<◌, ◌+◌, Bool, true, false, not, ◌&&◌, ◌||◌, ◌==◌, List, [], ◌∷◌, ◌++◌}
 use Rattle.std.proofs.Common.{length, take, get_or, refl, sym, ◌∙◌, ap, true≢false}
-use Rattle.std.proofs.Math.Bool.{and-false, or_comm, or-false}
+use Rattle.std.proofs.Math.Bool.{and-false}
 use Rattle.std.proofs.lemmas.Bool.{or_left}
 use Rattle.std.proofs.lemmas.List.Folds.{list_any_more}
 use Rattle.std.specs.List.{list_any}
+use Rattle.bbm_lemmas.proofs.Tautologies.{proved}
+use Rattle.bbm_lemmas.proofs.Tautologies.Claim.{If, Is}
 use Rattle.bbm_events.specs.declared.claim.Claim.{Claim}
 use Rattle.bbm_rules.specs.Changes.{changes}
 use Rattle.bbm_rules.specs.Claims.{same_tag}
@@ -29,19 +31,12 @@ pub keep_more : (heading : Heading) (h : List Event) (losses : List Loss) (held 
 keep_more heading h losses held i x p root tag before after below is is_before is_after =
     is_after
     ∙ ap (λ (b : Bool). b || (has (x ∷ []) p root tag && stays_held heading h losses p tag)) is_before
-    ∙ spread (has (take i held) p root tag) (is_holding p root tag x) (stays_held heading h losses p tag)
+    ∙ proved 3 (λ a b s. Is ((a && s) || ((b || false) && s)) ((a || b) && s)) refl (has (take i held) p root tag)
+    (is_holding p root tag x) (stays_held heading h losses p tag)
     ∙ ap (λ (y : Holding). (has (take i held) p root tag || is_holding p root tag y)
     && stays_held heading h losses p tag) is
     ∙ ap (λ (b : Bool). b && stays_held heading h losses p tag)
     (sym (list_any_more (is_holding p root tag) held i x below))
-  where
-    spread : (a b s : Bool) → ((a && s) || ((b || false) && s)) ≡ ((a || b) && s)
-    spread true true true = refl
-    spread true true false = refl
-    spread true false true = refl
-    spread true false false = refl
-    spread false true s = refl
-    spread false false s = refl
 
 -- ---- what is readable where nothing changes it
 
@@ -115,7 +110,7 @@ module _ (heading : Heading) (known : Known heading) (claims : List Claim) (p ro
 
   lost_is : (e : Event) (h : List Event) → loses heading (Listed claims) p tag e h
       ≡ (ends_some heading claims p tag e h && not (reads_for_some heading (e ∷ h) p tag))
-  lost_is (Dsb q dsb) h = known.lost claims p tag q dsb h
+  lost_is (Dsb q dsb) h = known.tag_claim_steps.lost claims p tag q dsb h
   lost_is e h = refl
 
   pub held_next : (e : Event) (h : List Event) (losses : List Loss) (held : List Holding)
@@ -130,20 +125,14 @@ module _ (heading : Heading) (known : Known heading) (claims : List Claim) (p ro
       ap (λ (b : Bool). (b && stays_held heading (e ∷ h) losses p tag) || (change && read)) is_held
       ∙ ap (λ (b : Bool). (before && not (b && not some)) || (change && read)) is_lost_there
       ∙ ap (λ (b : Bool). (before && not b) || (change && read)) (sym (lost_is e h))
-      ∙ together change read before (loses heading (Listed claims) p tag e h)
+      ∙ proved 4 (λ c r b l. If (If (Is c false) (If (Is r true) (Is b true))) (If (If (Is r true) (Is l false)) (Is ((b
+      && not l) || (c && r)) (r || (b && not l))))) refl change read before (loses heading (Listed claims)
+      p tag e h)
       (λ c r. read_held h (sym (ap (λ (rs : List Reading). list_any (λ r. same_tag r.tag tag && r.root == root) rs)
       (unchanged heading.world e h p c)) ∙ r))
       (λ r. lost_is e h ∙ ap (λ (b : Bool). ends_some heading claims p tag e h && not b)
       (read_some (readings_in heading.world (e ∷ h) p) r)
       ∙ and-false (ends_some heading claims p tag e h))
-    where
-      together : (c r b l : Bool) → (c ≡ false → r ≡ true → b ≡ true) → (r ≡ true → l ≡ false)
-          → ((b && not l) || (c && r)) ≡ (r || (b && not l))
-      together true true b l held kept = or_comm (b && not l) true
-      together true false b l held kept = or-false (b && not l)
-      together false true b l held kept = ap (λ (x : Bool). (x && not l) || false) (held refl refl)
-          ∙ ap (λ (x : Bool). (true && not x) || false) (kept refl)
-      together false false b l held kept = or-false (b && not l)
 
   -- the same where the code has the lists in other words
   pub held_then : (e : Event) (h now : List Event) (losses asked : List Loss) (held : List Holding) (after : Bool)

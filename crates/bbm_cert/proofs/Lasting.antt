@@ -8,6 +8,8 @@ use Rattle.std.proofs.lemmas.Bool.{and_right, le-ltb, leb-false, leb-true, lt-lt
 use Rattle.std.proofs.lemmas.List.{set_split, take-append-drop}
 use Rattle.std.proofs.lemmas.List.Folds.{list_any-append, list_any_more}
 use Rattle.std.specs.List.{list_any}
+use Rattle.bbm_lemmas.proofs.Tautologies.{proved}
+use Rattle.bbm_lemmas.proofs.Tautologies.Claim.{Is}
 use Rattle.bbm_rules.specs.Changes.{changes}
 use Rattle.bbm_rules.specs.Claims.{same_tag}
 use Rattle.bbm_rules.specs.Prelude.{Tag, Heading, Event}
@@ -30,17 +32,10 @@ pub ended_more : (spans : List Span) (i : ℕ) (x : Span) (p n count : ℕ) (tag
 ended_more spans i x p n count tag before after below is is_before is_after =
     is_after
     ∙ ap (λ (b : Bool). b || (lasts (x ∷ []) p tag n && nat_lt n count)) is_before
-    ∙ spread (lasts (take i spans) p tag n) (is_span p tag n x) (nat_lt n count)
+    ∙ proved 3 (λ a b s. Is ((a && s) || ((b || false) && s)) ((a || b) && s)) refl (lasts (take i spans) p tag n)
+    (is_span p tag n x) (nat_lt n count)
     ∙ ap (λ (y : Span). (lasts (take i spans) p tag n || is_span p tag n y) && nat_lt n count) is
     ∙ ap (λ (b : Bool). b && nat_lt n count) (sym (list_any_more (is_span p tag n) spans i x below))
-  where
-    spread : (a b s : Bool) → ((a && s) || ((b || false) && s)) ≡ ((a || b) && s)
-    spread true true true = refl
-    spread true true false = refl
-    spread true false true = refl
-    spread true false false = refl
-    spread false true s = refl
-    spread false false s = refl
 
 -- one of them that goes on from now
 pub lasts_set : (spans : List Span) (i : ℕ) (old : Span) (p n : ℕ) (tag : Tag) → i < length spans → old
@@ -59,15 +54,9 @@ lasts_set spans i old p n tag below is =
     (old ∷ drop (suc i) spans) in
     ap (λ (xs : List Span). lasts xs p tag n) (set_split spans i new below)
     ∙ list_any-append (is_span p tag n) (take i spans) (new ∷ drop (suc i) spans)
-    ∙ spread front (old.pe == p && same_tag old.tag tag) (goes_past n old.until) back
+    ∙ proved 4 (λ f m o b. Is (f || ((m && true) || b)) ((f || ((m && o) || b)) || m)) refl front (old.pe == p
+    && same_tag old.tag tag) (goes_past n old.until) back
     ∙ ap (λ (b : Bool). b || (old.pe == p && same_tag old.tag tag)) (sym told)
-  where
-    spread : (f m o b : Bool) → (f || ((m && true) || b)) ≡ ((f || ((m && o) || b)) || m)
-    spread true m o b = refl
-    spread false true true b = refl
-    spread false true false true = refl
-    spread false true false false = refl
-    spread false false o b = sym (or-false b)
 
 pub found_in : (xs ys : List Span) (i : ℕ) (old : Span) (pe : ℕ) (tag : Tag) → xs ≡ ys
     → (i < length xs) × ((d : Span) → (get_or xs i d).pe ≡ pe) × ((d : Span) → same_tag (get_or xs i d).tag tag ≡ true)
@@ -80,10 +69,7 @@ found_in xs ys i old pe tag same found is =
 -- ---- one more event
 
 same_twice : (c r s : Bool) → (r || ((c && r) || s)) ≡ (r || s)
-same_twice true true s = refl
-same_twice false true s = refl
-same_twice true false s = refl
-same_twice false false s = refl
+same_twice = proved 3 (λ c r s. Is (r || ((c && r) || s)) (r || s)) refl
 
 module _ (heading : Heading) (p : ℕ) (tag : Tag) where
   -- what was readable before the events so far, or only now
@@ -101,12 +87,7 @@ module _ (heading : Heading) (p : ℕ) (tag : Tag) where
       by true k =
           ap (λ (b : Bool). (read || (read || read_since heading n p tag h)) && b)
           (lt-ltb n (suc (length h)) (omega (arith, leb-true n (length h) k)))
-          ∙ all read (read_since heading n p tag h)
-        where
-          all : (r s : Bool) → ((r || (r || s)) && true) ≡ (r || s)
-          all true s = refl
-          all false true = refl
-          all false false = refl
+          ∙ proved 2 (λ r s. Is ((r || (r || s)) && true) (r || s)) refl read (read_since heading n p tag h)
       by false k =
           ap (λ (b : Bool). (read || read_since heading n p tag h) && b)
           (le-ltb n (suc (length h)) (omega (arith, leb-false n (length h) k)))

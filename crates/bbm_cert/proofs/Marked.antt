@@ -167,7 +167,7 @@ module _ (heading : Heading) (place p : ℕ) where
         (λ k. let e = eqb-true t (suc (length (newer ++ older))) k in
         waits_none q _ cover t (newer ++ older) (omega arith))
         (waits_is q k newer older numbered.1) (marks.is newer older numbered.1)
-        ∙ sym (known.waits_step q k (flush_at cover t test) n newer)
+        ∙ sym (known.pattern_steps.waits q k (flush_at cover t test) n newer)
 
     -- a barrier that answers it
     pub flush_is : (q : ℕ) (dsb : Barrier) (newer older : List Noted) → Numbered (newer ++ older)
@@ -237,7 +237,7 @@ module _ (heading : Heading) (place p : ℕ) where
     half_is [] older numbered = le-ltb (length older) (half_mark heading place p b t d older) (half_within older)
     half_is (n ∷ newer) older numbered =
         one_half n.event n newer older numbered (half_is newer older numbered.1)
-        ∙ sym (known.half_step place p b t d n newer)
+        ∙ sym (known.claim_steps.half place p b t d n newer)
 
     pub half_marks : Marks (half_mark heading place p b t d) (half_by heading place p b t d)
     half_marks = record { within = half_within; is = half_is }

@@ -7,6 +7,8 @@ use Rattle.std.proofs.Math.Bool.{or-false}
 use Rattle.std.proofs.lemmas.Bool.{and_from, and_right, eq-eqb, le-leb, leb-true, ne_eqb, or_from, or_left, or_right}
 use Rattle.std.proofs.lemmas.List.{get_or_default, length-drop, length-reverse, take_all}
 use Rattle.std.specs.List.{list_any}
+use Rattle.bbm_lemmas.proofs.Tautologies.{proved}
+use Rattle.bbm_lemmas.proofs.Tautologies.Claim.{Is}
 use Rattle.bbm_barriers.specs.Options.{answers}
 use Rattle.bbm_rules.specs.Prelude.{Barrier, Tag, Heading, Event, Dsb, Tlbi}
 use Rattle.bbm_rules.specs.Reach.{completes, reaches}
@@ -23,55 +25,27 @@ use Rattle.bbm_cert.proofs.TagSteps.{next}
 use Rattle.bbm_cert.proofs.Tests.{and_true}
 
 stops : (c w : Bool) → cond c false w ≡ (w && not c)
-stops true true = refl
-stops true false = refl
-stops false true = refl
-stops false false = refl
+stops = proved 2 (λ c w. Is (cond c false w) (w && not c)) refl
 
 at_none : (a i x w : Bool) → ((a && (i && (false && x))) || w) ≡ (w && true)
-at_none true true x w = sym (and_true w)
-at_none true false x w = sym (and_true w)
-at_none false i x w = sym (and_true w)
+at_none = proved 4 (λ a i x w. Is ((a && (i && (false && x))) || w) (w && true)) refl
 
 at_here : (a i x : Bool) → ((a && (i && (true && x))) || false) ≡ ((a && i) && x)
-at_here true true x = or-false x
-at_here true false x = refl
-at_here false i x = refl
+at_here = proved 3 (λ a i x. Is ((a && (i && (true && x))) || false) ((a && i) && x)) refl
 
 nothing : (c : Bool) → cond c false false ≡ false
-nothing true = refl
-nothing false = refl
+nothing = proved 1 (λ c. Is (cond c false false) false) refl
 
 -- one more event: whether it or a later one answers, what the TLBI does, and whether the tag was readable since
 one_later : (a b x s r : Bool) → ((((not b && x) && not s) && not a) && not r) ≡ ((not (a || b) && x) && not (r || s))
-one_later true true x s r = refl
-one_later true false true true r = refl
-one_later true false true false r = refl
-one_later true false false s r = refl
-one_later false true x s r = refl
-one_later false false false s r = refl
-one_later false false true true true = refl
-one_later false false true true false = refl
-one_later false false true false true = refl
-one_later false false true false false = refl
+one_later = proved 5 (λ a b x s r. Is ((((not b && x) && not s) && not a) && not r) ((not (a || b) && x) && not (r
+    || s))) refl
 
 apart_sorts : (a x b y s : Bool) → ((a && (x && s)) || (b && (y && s))) ≡ (((a && x) || (b && y)) && s)
-apart_sorts true true b y true = refl
-apart_sorts true true true true false = refl
-apart_sorts true true true false false = refl
-apart_sorts true true false y false = refl
-apart_sorts true false true y s = refl
-apart_sorts true false false y s = refl
-apart_sorts false x true y s = refl
-apart_sorts false x false y s = refl
+apart_sorts = proved 5 (λ a x b y s. Is ((a && (x && s)) || (b && (y && s))) (((a && x) || (b && y)) && s)) refl
 
 in_parts : (i c r n t : Bool) → ((i && (c && (r && t))) && n) ≡ (((i && (c && r)) && n) && t)
-in_parts true true true true t = and_true t
-in_parts true true true false true = refl
-in_parts true true true false false = refl
-in_parts true true false n t = refl
-in_parts true false r n t = refl
-in_parts false c r n t = refl
+in_parts = proved 5 (λ i c r n t. Is ((i && (c && (r && t))) && n) (((i && (c && r)) && n) && t)) refl
 
 -- the positions that no event has
 pub unheld : (t count : ℕ) → (t ≡ 0) ⊎ (count < t) → (n : ℕ) → n < count → (t == suc n) ≡ false
@@ -144,7 +118,7 @@ module _ (heading : Heading) (p : ℕ) (tag : Tag) where
         → tag_waits_at heading p tag t q k h ≡ false
     none_waits t k [] apart = refl
     none_waits t k (e ∷ h) apart =
-        known.tag_waits_step p tag t q k e h
+        known.tag_claim_steps.waits p tag t q k e h
         ∙ ap (λ (b : Bool). b && not (reads_for_some heading (e ∷ h) p tag))
         (after_later t k e h (apart (length h) (omega arith))
         ∙ ap (λ (b : Bool). b && not (answers_for q k e)) (none_waits t k h (λ n less. apart n (omega (arith, less)))))
@@ -174,7 +148,7 @@ module _ (heading : Heading) (p : ℕ) (tag : Tag) where
     waits_split t k [] older e at =
         let none : tag_waits_at heading p tag t q k older ≡ false
         = none_waits t k older (λ n less. unheld t (length older) (inr (omega (arith, at))) n less) in
-        known.tag_waits_step p tag t q k e older
+        known.tag_claim_steps.waits p tag t q k e older
         ∙ ap (λ (b : Bool). b && not (reads_for_some heading (e ∷ older) p tag)) (after_here t k e older at none)
         ∙ ap (λ (b : Bool). does_for k e older && not b) (sym read)
       where
@@ -193,7 +167,7 @@ module _ (heading : Heading) (p : ℕ) (tag : Tag) where
         let within : nat_le (length older) (length h) ≡ true
         = le-leb (length older) (length h) (omega (arith, length-append newer (e ∷ older))) in
         let read : Bool = reads_for_some heading (x ∷ h) p tag in
-        known.tag_waits_step p tag t q k x h
+        known.tag_claim_steps.waits p tag t q k x h
         ∙ ap (λ (b : Bool). b && not read)
         (after_later t k x h apart ∙ ap (λ (b : Bool). b && not (answers_for q k x)) (waits_split t k newer older e at))
         ∙ one_later (answers_for q k x) (answered itself q k newer) (does_for k e older)
@@ -272,10 +246,4 @@ module _ (heading : Heading) (p : ℕ) (tag : Tag) where
           (reverse events)))
           (none true)
           ∙ ap (λ (b : Bool). (answers dsb true && false) || (answers dsb false && b)) (none false)
-          ∙ neither (answers dsb true) (answers dsb false)
-        where
-          neither : (a b : Bool) → ((a && false) || (b && false)) ≡ false
-          neither true true = refl
-          neither true false = refl
-          neither false true = refl
-          neither false false = refl
+          ∙ proved 2 (λ a b. Is ((a && false) || (b && false)) false) refl (answers dsb true) (answers dsb false)

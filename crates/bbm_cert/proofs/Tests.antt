@@ -4,10 +4,11 @@ use Rattle.std.proofs.Common.{◌∷◌, refl, sym, ◌∙◌, ap, zero-le}
 use Rattle.std.proofs.Math.Bool.{and-false, or-false}
 use Rattle.std.proofs.lemmas.Bool.{le-ltb, or_from}
 use Rattle.std.specs.List.{list_any}
+use Rattle.bbm_lemmas.proofs.Tautologies.{proved}
+use Rattle.bbm_lemmas.proofs.Tautologies.Claim.{Is}
 
 pub and_true : (a : Bool) → (a && true) ≡ a
-and_true true = refl
-and_true false = refl
+and_true = proved 1 (λ a. Is (a && true) a) refl
 
 -- no number is below 0
 pub none_below : (n : ℕ) → nat_lt n 0 ≡ false
@@ -28,29 +29,17 @@ lt_at true n x y f g is_f is_g none =
 lt_at false n x y f g is_f is_g none = is_g ∙ ap (λ (b : Bool). b || g) (sym (and-false f))
 
 pub and_or : (a x c y m : Bool) → (((a && x) || (c && y)) && m) ≡ ((a && (x && m)) || (c && (y && m)))
-and_or true true c y true = refl
-and_or true true false y false = refl
-and_or true true true true false = refl
-and_or true true true false false = refl
-and_or true false true y m = refl
-and_or true false false y m = refl
-and_or false x true y m = refl
-and_or false x false y m = refl
+and_or = proved 5 (λ a x c y m. Is (((a && x) || (c && y)) && m) ((a && (x && m)) || (c && (y && m)))) refl
 
 -- two searches of one list
 pub any_both : {X : Type 0} (f g h : X → Bool) (xs : List X) → ((x : X) → (f x || g x) ≡ h x)
     → (list_any f xs || list_any g xs) ≡ list_any h xs
 any_both f g h [] each = refl
 any_both f g h (x ∷ xs) each =
-    pairs (f x) (list_any f xs) (g x) (list_any g xs)
+    proved 4 (λ a b c d. Is ((a || b) || (c || d)) ((a || c) || (b || d))) refl (f x) (list_any f xs) (g x)
+    (list_any g xs)
     ∙ ap (λ (b : Bool). b || (list_any f xs || list_any g xs)) (each x)
     ∙ ap (λ (b : Bool). h x || b) (any_both f g h xs each)
-  where
-    pairs : (a b c d : Bool) → ((a || b) || (c || d)) ≡ ((a || c) || (b || d))
-    pairs true b c d = refl
-    pairs false true true d = refl
-    pairs false true false d = refl
-    pairs false false c d = refl
 
 pub any_never : {X : Type 0} (f : X → Bool) (xs : List X) → ((x : X) → f x ≡ false) → list_any f xs ≡ false
 any_never f [] each = refl
@@ -68,21 +57,11 @@ pub tlbi_case : (here a i r waited : Bool) (n m y : ℕ) (f w : Bool) → (here 
     → (cond here ((a && i) && r) waited && nat_lt n (cond here m y)) ≡ ((a && (i && (r && (here && f)))) || w)
 tlbi_case true a i r waited n m y f w none before marked =
     ap (λ (b : Bool). ((a && i) && r) && b) marked
-    ∙ regroup a i r f
+    ∙ proved 4 (λ a i r f. Is (((a && i) && r) && f) (a && (i && (r && f)))) refl a i r f
     ∙ sym (or-false (a && (i && (r && f))))
     ∙ ap (λ (b : Bool). (a && (i && (r && f))) || b) (sym (stops true waited n m y w none before refl))
-  where
-    regroup : (a i r f : Bool) → (((a && i) && r) && f) ≡ (a && (i && (r && f)))
-    regroup true true r f = refl
-    regroup true false r f = refl
-    regroup false i r f = refl
 tlbi_case false a i r waited n m y f w none before marked =
-    before ∙ ap (λ (b : Bool). b || w) (sym (nothing a i r))
-  where
-    nothing : (a i r : Bool) → (a && (i && (r && false))) ≡ false
-    nothing true true r = and-false r
-    nothing true false r = refl
-    nothing false i r = refl
+    before ∙ ap (λ (b : Bool). b || w) (sym (proved 3 (λ a i r. Is (a && (i && (r && false))) false) refl a i r))
 
 pub dsb_case : (here c waited : Bool) (n m y : ℕ) (w : Bool) → (here ≡ true → waited ≡ false)
     → (waited && nat_lt n y) ≡ w

@@ -4,14 +4,12 @@ ghost use Rattle.bbm_events.specs.Heading.{Heading};
 ghost use Rattle.bbm_cert.specs.KnownOfClaims.{Known};
 
 use bbm_histories::{law_claim_steps, law_pattern_steps, law_tag_claim_steps};
-use bbm_rules::law_equality_tests;
 
 /// The laws that the proofs here stand on.
 pub(crate) fn known()
     ensures { (heading : Heading) → Known heading }
 {
     law_claim_steps();
-    law_equality_tests();
     law_pattern_steps();
     law_tag_claim_steps();
 }

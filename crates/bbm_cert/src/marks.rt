@@ -197,6 +197,30 @@ fn flush_index(header: &Header, log: &[Kept], answer: &Event, flush: &Flush) -> 
     }
 }
 
+/// The TLBI at position t that does what it has to: with this cover of the place, for the PE.
+fn flush_by(t: u32, cover: Cover, place: Place, pe: Pe) -> Flush
+    ensures { result ≡ record { t = t; cover = cover; place = place; pe = pe } }
+{
+    Flush {
+        t,
+        cover,
+        place,
+        pe,
+    }
+}
+
+/// How many events there are up to the write that the event at position b publishes before the TLBI, where the event,
+/// which comes behind the log, answers it and it does what it has to; else 0.
+fn seen_since(header: &Header, log: &[Kept], answer: &Event, flush: &Flush, b: u32) -> usize
+    ensures { result ≡ spec.flush_mark header.now flush.now.place flush.now.pe flush.now.cover flush.now.t
+        (spec.seen_mark header.now flush.now.place flush.now.pe b) answer.now (notes_of (reverse log.now)) }
+{
+    match flush_index(header, log, answer, flush) {
+        Some(i) => published_at(header, &log[..i], flush.place, flush.pe, b),
+        None => 0,
+    }
+}
+
 /// How many events there are up to the write by which the events of this step make the place half; 0 where they don't.
 fn half_by(header: &Header, log: &[Kept], step: &FirstStep) -> usize
     ensures { result ≡ spec.half_mark header.now step.now.place step.now.pe step.now.b step.now.t step.now.d
@@ -210,12 +234,27 @@ fn half_by(header: &Header, log: &[Kept], step: &FirstStep) -> usize
                 place: step.place,
                 pe: step.pe,
             };
-            let before = &log[..i];
-            match flush_index(header, before, &log[i].event, &flush) {
-                Some(j) => published_at(header, &before[..j], step.place, step.pe, step.b),
-                None => 0,
-            }
+            seen_since(header, &log[..i], &log[i].event, &flush, step.b)
         }
+        None => 0,
+    }
+}
+
+/// How many events there are up to the write by which the events of the first step make the place half before the TLBI,
+/// where the event, which comes behind the log, answers it and it does what it has to; else 0.
+fn half_since(
+    header: &Header,
+    log: &[Kept],
+    answer: &Event,
+    flush: &Flush,
+    step: &FirstStep,
+) -> usize
+    ensures { result ≡ spec.flush_mark header.now flush.now.place flush.now.pe flush.now.cover flush.now.t
+        (spec.half_mark header.now step.now.place step.now.pe step.now.b step.now.t step.now.d) answer.now
+        (notes_of (reverse log.now)) }
+{
+    match flush_index(header, log, answer, flush) {
+        Some(i) => half_by(header, &log[..i], step),
         None => 0,
     }
 }
@@ -233,17 +272,8 @@ pub fn completed_since(header: &Header, log: &[Kept], answer: &Event, claim: &Cl
             t,
             ..
         } => {
-            let cover = Cover::Full;
-            let flush = Flush {
-                t,
-                cover,
-                place,
-                pe,
-            };
-            match flush_index(header, log, answer, &flush) {
-                Some(i) => published_at(header, &log[..i], place, pe, b),
-                None => 0,
-            }
+            let flush = flush_by(t, Cover::Full, place, pe);
+            seen_since(header, log, answer, &flush, b)
         }
         Claim::Two {
             pe,
@@ -254,26 +284,15 @@ pub fn completed_since(header: &Header, log: &[Kept], answer: &Event, claim: &Cl
             t2,
             ..
         } => {
-            let cover = Cover::Second;
-            let flush = Flush {
-                t: t2,
-                cover,
+            let flush = flush_by(t2, Cover::Second, place, pe);
+            let step = FirstStep {
                 place,
                 pe,
+                b,
+                t: t1,
+                d: d1,
             };
-            match flush_index(header, log, answer, &flush) {
-                Some(i) => {
-                    let step = FirstStep {
-                        place,
-                        pe,
-                        b,
-                        t: t1,
-                        d: d1,
-                    };
-                    half_by(header, &log[..i], &step)
-                }
-                None => 0,
-            }
+            half_since(header, log, answer, &flush, &step)
         }
         Claim::Taken { .. } => 0,
     }

@@ -17,8 +17,9 @@ use Rattle.bbm_events.specs.declared.malformed.Malformed.{Malformed as Cause}
 use Rattle.bbm_events.specs.declared.malformed.Malformed.TheVariants.{WrongCount}
 use Rattle.bbm_rules.specs.declared.verdict.Verdict.TheVariants.{Malformed, Limit}
 use Rattle.bbm_events.specs.Certificate.{certificate_of, claim_of}
-use Rattle.bbm_events.specs.Fits.{fits_heading, item_fits, label_fits}
+use Rattle.bbm_events.specs.Fits.{fits_heading, label_fits}
 use Rattle.bbm_events.specs.Heading.{Heading, heading_ok}
+use Rattle.bbm_events.specs.LineLaws.{HeadersAreInRange, ItemsFit}
 use Rattle.bbm_events.specs.Lines.{header_of, item_of}
 use Rattle.bbm_rules.specs.Outcome.{is_too_long, text_of}
 use Rattle.bbm_certificate.specs.CertificateReading.{AreRead, AtClaims, AtEnd, AtEvents, AtHeader, BehindLog, GoesOn}
@@ -28,10 +29,10 @@ use Rattle.bbm_certificate.specs.CertificateReading.{after_header, after_item, a
 use Rattle.bbm_certificate.specs.CertificateReading.{cut_at, end_of, event_limit, next_number, read_after, read_from}
 use Rattle.bbm_certificate.specs.CertificateReading.{read_of, too_long_at, turned_by}
 
--- what is known of the lines of a log
+-- the laws of the lines of a log
 pub record LineLaws : Type 0 where
-  pub header : (line : List ℕ) (heading : Heading) → header_of line ≡ Ok heading → heading_ok heading ≡ true
-  pub item : (heading : Heading) (line : List ℕ) (item : Item) → item_of heading line ≡ Ok item → item_fits heading item ≡ true
+  pub header : HeadersAreInRange
+  pub item : ItemsFit
 
 -- what is kept after a line is sound, and one line longer
 abbrev pub Turns : Reached → Turned → Type 0

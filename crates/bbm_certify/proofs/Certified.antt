@@ -71,7 +71,7 @@ module _ (heading : Heading) (known : Known heading) (cs : List Claim) where
     same_note e =
         let same_covers : cover_at heading Patterns (noted heading Patterns h) e
         ≡ cover_at heading (Listed cs) (noted heading (Listed cs) h) e =
-        fun_ext (λ place. known.covers cs h e place so_far.alike) in
+        fun_ext (λ place. known.covers_alike (Listed cs) h h e place so_far.alike) in
         ap (λ (f : ℕ → Cover). marked e f (suc (length (noted heading Patterns h)))) same_covers
         ∙ ap (λ (ns : List Noted). marked e (cover_at heading (Listed cs) (noted heading (Listed cs) h) e) (suc (length ns)))
         so_far.notes
@@ -100,7 +100,8 @@ module _ (heading : Heading) (known : Known heading) (cs : List Claim) where
         not_before : cleansed heading Patterns place p w.since ≡ false → (v : ValidWrite)
             → IsCleansed heading (noted heading Patterns h) place p v → ⊥
         not_before unclean v k =
-            let same_node : k.node ≡ n = known.one_node h kept k.node n k.in_tree in_tree (sym k.inside ∙ inside) in
+            let same_node : k.node ≡ n = known.one_node.at_most_one h kept k.node n k.in_tree in_tree
+            (sym k.inside ∙ inside) in
             let same : v ≡ w = same_some v w (sym k.is_last
             ∙ (ap (λ (m : Node). last_valid m.kind m.level place (noted heading Patterns h)) same_node ∙ is)) in
             true≢false (sym k.is_clean ∙ (ap (λ (x : ValidWrite). cleansed heading Patterns place p x.since) same ∙ unclean))
@@ -185,22 +186,27 @@ module _ (heading : Heading) (known : Known heading) (cs : List Claim) where
     takes_alike e due (inl is) =
         subst (λ (x : Event). ((c : Claim) → IsDue heading h x c → Contains cs c)
         → TakesAlike heading Patterns (Listed cs) h h x) (sym is.2) (takes_dsb is.0 is.1) due
-    takes_alike e due (inr other) = known.no_dsb cs h e other so_far.alike
+    takes_alike e due (inr other) = known.takes_alike.no_dsb Patterns (Listed cs) h h e other so_far.alike
 
     next : (e : Event) → keeps heading Patterns (e ∷ h) ≡ true → ((c : Claim) → IsDue heading h e c → Contains cs c)
         → Certified (e ∷ h)
     next e keeps_e due =
         let kept_too : keeps heading (Listed cs) (e ∷ h) ≡ true =
-        sym (known.judges cs h e so_far.alike (kept ∙ sym so_far.kept)) ∙ keeps_e in
+        sym ((known.alike_judges (Listed cs)).keeps h h e so_far.alike (kept ∙ sym so_far.kept)) ∙ keeps_e in
         record {
-          alike = known.step cs h e keeps_e kept_too so_far.alike (takes_alike e due (dsb_or e));
+          alike = known.alike_step (Listed cs) h h e known.proper.some_pe keeps_e kept_too so_far.alike
+              (takes_alike e due (dsb_or e));
           notes = same_notes e;
           kept = kept_too;
         }
 
   pub certified : (h : List Event) (claims : List Claim) → keeps heading Patterns h ≡ true → IsCertificate heading h claims
       → ((c : Claim) → In claims c → In cs c) → Certified h
-  certified [] claims kept cert among = record { alike = known.start cs; notes = refl; kept = refl }
+  certified [] claims kept cert among = record {
+    alike = known.alike_joins.start Patterns (Listed cs);
+    notes = refl;
+    kept = refl;
+  }
   certified (e ∷ h) claims kept cert among =
       let before = and_parts (keeps heading Patterns h) (is_none (broken heading Patterns h e)) kept in
       let within : (c : Claim) → In (cert.0 ++ cert.1) c → In cs c =

@@ -4,6 +4,8 @@ use Rattle.std.proofs.Common.{take, drop, get_or, insert, refl, sym, ◌∙◌, 
 use Rattle.std.proofs.lemmas.Bool.{cases_eq}
 use Rattle.std.proofs.lemmas.List.{get_or_default, length-take-le, take-append-drop, take_more}
 use Rattle.std.proofs.lemmas.List.Folds.{list_any-append}
+use Rattle.bbm_lemmas.proofs.Tautologies.{proved}
+use Rattle.bbm_lemmas.proofs.Tautologies.Claim.{Is}
 use Rattle.bbm_events.specs.declared.claim.Claim.{Claim}
 use Rattle.bbm_rules.specs.Lists.{among}
 use Rattle.bbm_certify.specs.LeastClaims.{claim_key, less}
@@ -62,10 +64,7 @@ put_not xs ys n c x same above at told below =
 -- ---- numbers
 
 swap : (a b c : Bool) → (a || (b || c)) ≡ (b || (a || c))
-swap true true c = refl
-swap true false c = refl
-swap false true c = refl
-swap false false c = refl
+swap = proved 3 (λ a b c. Is (a || (b || c)) (b || (a || c))) refl
 
 pub among_put : (a x : ℕ) (xs zs : List ℕ) (n : ℕ) → zs ≡ insert xs n x → among a zs ≡ ((x == a) || among a xs)
 among_put a x xs zs n is =

@@ -4,6 +4,8 @@ use Rattle.std.proofs.Common.{take, drop, get_or, Some, None, refl, sym, ◌∙�
 use Rattle.std.proofs.Common.{append_assoc, length-append, zero-le}
 use Rattle.std.proofs.lemmas.Bool.{and_from, and_parts, cases_eq, eq-eqb, eqb-true, not-true}
 use Rattle.std.proofs.lemmas.List.{drop_at, length-take-le, take-append-drop, take_more}
+use Rattle.bbm_lemmas.proofs.Tautologies.{proved}
+use Rattle.bbm_lemmas.proofs.Tautologies.Claim.{Is}
 use Rattle.bbm_tlbi_scope.specs.declared.entry.Cover.{Cover}
 use Rattle.bbm_tlbi_scope.specs.declared.entry.Cover.TheVariants.{Half, Second}
 use Rattle.bbm_rules.specs.Cleansing.{same_cover}
@@ -44,13 +46,10 @@ module _ (heading : Heading) (place p : ℕ) where
   pub no_flush : (cover : Cover) (e : Event) (k : Kept) (later : List Kept) → flushes heading place p cover k ≡ false
       → answers heading place p cover e k later ≡ false
   no_flush cover (Dsb q dsb) k later none =
-      ap (λ (b : Bool). (issues q k.event && (completes dsb k.event && b)) && not (any (completed_by q k.event) later)) none
-      ∙ never (issues q k.event) (completes dsb k.event) (not (any (completed_by q k.event) later))
-    where
-      never : (a b c : Bool) → ((a && (b && false)) && c) ≡ false
-      never true true c = refl
-      never true false c = refl
-      never false b c = refl
+      ap (λ (b : Bool). (issues q k.event && (completes dsb k.event && b)) && not (any (completed_by q k.event) later))
+      none
+      ∙ proved 3 (λ a b c. Is ((a && (b && false)) && c) false) refl (issues q k.event) (completes dsb k.event) (not
+      (any (completed_by q k.event) later))
   no_flush cover e k later none = refl
 
   -- ---- a TLBI is answered once

@@ -1,9 +1,9 @@
 -- A certificate that is made event by event.
-use Rattle.std.proofs.Common.{◌≡◌, ℕ, suc, ◌+◌, ◌-◌, ◌<◌, ◌≤◌, Bool, true, ◌||◌, List, [], ◌∷◌, ◌++◌, length, take}
-use Rattle.std.proofs.Common.{drop, get_or, reverse, is_none, refl, sym, ◌∙◌, ap, subst, arith, inl, inr, length-append}
+use Rattle.std.proofs.Common.{◌≡◌, ℕ, suc, ◌-◌, ◌≤◌, Bool, true, ◌||◌, List, [], ◌∷◌, ◌++◌, length, take}
+use Rattle.std.proofs.Common.{drop, reverse, is_none, refl, sym, ◌∙◌, ap, subst, arith, inl, inr, length-append}
 use Rattle.std.proofs.lemmas.Bool.{and_parts}
 use Rattle.std.proofs.lemmas.List.{length-reverse, length-take-le, reverse-append, reverse-reverse, take-append-drop}
-use Rattle.std.proofs.lemmas.List.{take_at, take_more}
+use Rattle.std.proofs.lemmas.List.{take_at}
 use Rattle.std.specs.List.{list_all}
 use Rattle.bbm_events.specs.declared.claim.Claim.{Claim}
 use Rattle.bbm_rules.specs.Broken.{broken, keeps}
@@ -16,7 +16,6 @@ use Rattle.bbm_rules.specs.Prelude.{Barrier, Heading, Event, Dsb}
 use Rattle.bbm_oracle_patterns.specs.Kept.{note_of, notes_of}
 use Rattle.bbm_oracle_patterns.specs.declared.kept.Kept.{Kept}
 use Rattle.bbm_oracle_trees.specs.Past.{Past, notes}
-use Rattle.bbm_lemmas.proofs.Elements.{in_split}
 use Rattle.bbm_lemmas.specs.Elements.{In}
 use Rattle.bbm_certify.specs.DueAt.{AreDue as ArePlaces, IsNewest, writes_at}
 use Rattle.bbm_certify.specs.KnownOfCertificates.{Known}
@@ -40,13 +39,6 @@ without_last {A} xs x rest split =
     = omega (arith, ap length whole, length-append (reverse rest) (x ∷ [])) in
     ap (λ (ys : List A). reverse (take (length xs - 1) ys)) whole
     ∙ (ap (λ (ys : List A). reverse ys) (take_at (reverse rest) (x ∷ []) (length xs - 1) count) ∙ reverse-reverse rest)
-
--- one more item, from the end
-pub reverse_more : {A : Type 0} (xs : List A) (i : ℕ) (x : A) → i < length xs → x ≡ get_or xs i x
-    → x ∷ reverse (take i xs) ≡ reverse (take (i + 1) xs)
-reverse_more {A} xs i x below is =
-    ap (λ (y : A). y ∷ reverse (take i xs)) is
-    ∙ sym (ap (λ (ys : List A). reverse ys) (take_more xs i x below) ∙ reverse-append (take i xs) (get_or xs i x ∷ []))
 
 pub length_notes : (ks : List Kept) → length (notes_of ks) ≡ length ks
 length_notes [] = refl
@@ -138,7 +130,8 @@ module _ (heading : Heading) (known : Known heading) (m : Making) (h : List Even
   making_next e new was kept stands places readable = record {
     history = stands;
     places = written_next heading h e m.places.items new.places.items was.places places;
-    known = readable (reads_written heading h e (known.becomes h e kept) (held_now heading h (known.held_complete h))) was.known;
+    known = readable (reads_written heading h e (known.tags.becomes h e known.proper kept)
+        (held_now heading h (λ p root tag. known.tag_held.complete p root tag h))) was.known;
   }
 
 -- ---- the certificate
@@ -155,16 +148,6 @@ all_in : {A : Type 0} (test : A → Bool) (xs : List A) (x : A) → list_all tes
 all_in test [] x e i = absurd i
 all_in {A} test (y ∷ ys) x e (inl same) = ap test (sym same) ∙ (and_parts (test y) (list_all test ys) e).0
 all_in test (y ∷ ys) x e (inr i) = all_in test ys x (and_parts (test y) (list_all test ys) e).1 i
-
-pub passes_at : {A : Type 0} (test : A → Bool) (xs : List A) (i : ℕ) (x : A) → list_all test (reverse xs) ≡ true
-    → i < length xs → x ≡ get_or xs i x → test x ≡ true
-passes_at {A} test xs i x all below is =
-    let split : reverse xs ≡ reverse (drop (i + 1) xs) ++ x ∷ reverse (take i xs)
-    = ap (λ (ys : List A). reverse ys) (sym (take-append-drop (i + 1) xs))
-    ∙ (reverse-append (take (i + 1) xs) (drop (i + 1) xs)
-    ∙ ap (λ (ys : List A). reverse (drop (i + 1) xs) ++ ys) (sym (reverse_more xs i x below is))) in
-    all_in test (reverse xs) x all
-    (subst (λ (ys : List A). In ys x) (sym split) (in_split (reverse (drop (i + 1) xs)) (reverse (take i xs)) x))
 
 -- how many events a history of the first of a log has
 pub first_count : (past : Past) (heading : Heading) (log : List Event) (i : ℕ) → i ≤ length log

@@ -20,13 +20,13 @@ module _ (heading : Heading) (known : Known heading) where
   pub only_this : (c d : Claim) → allows (Listed (c ∷ [])) d ≡ true → c ≡ d
   only_this c d e =
       elim (or_cases (same_claim c d) false e) [
-        | inl same ↦ (known.same_claims c d).0 same
+        | inl same ↦ (known.equality_tests.claims c d).0 same
         | inr none ↦ absurd (true≢false (sym none))
       ]
 
   pub this : (c : Claim) → allows (Listed (c ∷ [])) c ≡ true
-  this c = or_left (same_claim c c) false ((known.same_claims c c).1 refl)
+  this c = or_left (same_claim c c) false ((known.equality_tests.claims c c).1 refl)
 
   pub listed : (cs : List Claim) (c d : Claim) → Contains cs c → c ≡ d → allows (Listed cs) d ≡ true
   listed cs c d has same =
-      any_finds (λ (x : Claim). same_claim x d) cs c (from_contains cs c has) ((known.same_claims c d).1 same)
+      any_finds (λ (x : Claim). same_claim x d) cs c (from_contains cs c has) ((known.equality_tests.claims c d).1 same)

@@ -65,7 +65,7 @@ module _ (heading : Heading) (known : Known heading) (place p : ℕ) where
   pub forgotten : (cs : List Claim) (since : List Noted) → cleansed heading (Listed cs) place p since ≡ true
       → cleansed heading Patterns place p since ≡ true
   forgotten cs since e =
-      known.cleansed_complete Patterns place p since (forget (known.cleansed_sound (Listed cs) place p since e))
+      (known.cleansed Patterns).complete place p since (forget ((known.cleansed (Listed cs)).sound place p since e))
     where
       forget : Cleansed heading (Listed cs) place p since → Cleansed heading Patterns place p since
       forget (inl o) = inl (record { b = o.b; t = o.t; d = o.d; published = o.published; flush = o.flush; allowed = refl })
@@ -90,7 +90,7 @@ module _ (heading : Heading) (known : Known heading) (place p : ℕ) where
   one_sound since (b ∷ []) e = absurd (true≢false (sym e))
   one_sound since (b ∷ t ∷ []) e = absurd (true≢false (sym e))
   one_sound since (b ∷ t ∷ d ∷ []) e =
-      one_here since b t d (known.cleansed_sound (Listed (Place p place b t d ∷ [])) place p since e)
+      one_here since b t d ((known.cleansed (Listed (Place p place b t d ∷ []))).sound place p since e)
   one_sound since (b ∷ t ∷ d ∷ x ∷ ns) e = absurd (true≢false (sym e))
 
   module _ (since : List Noted) (o : OneStep heading Patterns place p since) where
@@ -99,7 +99,7 @@ module _ (heading : Heading) (known : Known heading) (place p : ℕ) where
 
     one_complete : one_test since (named one_claim) ≡ true
     one_complete =
-        known.cleansed_complete (Listed (one_claim ∷ [])) place p since
+        (known.cleansed (Listed (one_claim ∷ []))).complete place p since
         (inl (record { b = o.b; t = o.t; d = o.d; published = o.published; flush = o.flush; allowed = this heading known one_claim }))
 
     one_over : Over (positions since) 3 (named one_claim)
@@ -141,7 +141,7 @@ module _ (heading : Heading) (known : Known heading) (place p : ℕ) where
   pub listed_one : (cs : List Claim) (since : List Noted) (b t d : ℕ) → OneAt heading place p since (b ∷ t ∷ d ∷ [])
       → Contains cs (Place p place b t d) → cleansed heading (Listed cs) place p since ≡ true
   listed_one cs since b t d at has = let o = at.0 in
-      known.cleansed_complete (Listed cs) place p since (inl (record {
+      (known.cleansed (Listed cs)).complete place p since (inl (record {
         b = o.b;
         t = o.t;
         d = o.d;
@@ -173,7 +173,7 @@ module _ (heading : Heading) (known : Known heading) (place p : ℕ) where
   two_sound since (b ∷ t1 ∷ d1 ∷ []) e = absurd (true≢false (sym e))
   two_sound since (b ∷ t1 ∷ d1 ∷ t2 ∷ []) e = absurd (true≢false (sym e))
   two_sound since (b ∷ t1 ∷ d1 ∷ t2 ∷ d2 ∷ []) e =
-      two_here since b t1 d1 t2 d2 (known.cleansed_sound (Listed (Two p place b t1 d1 t2 d2 ∷ [])) place p since e)
+      two_here since b t1 d1 t2 d2 ((known.cleansed (Listed (Two p place b t1 d1 t2 d2 ∷ []))).sound place p since e)
   two_sound since (b ∷ t1 ∷ d1 ∷ t2 ∷ d2 ∷ x ∷ ns) e = absurd (true≢false (sym e))
 
   module _ (since : List Noted) (o : TwoSteps heading Patterns place p since) where
@@ -182,7 +182,7 @@ module _ (heading : Heading) (known : Known heading) (place p : ℕ) where
 
     two_complete : two_test since (named two_claim) ≡ true
     two_complete =
-        known.cleansed_complete (Listed (two_claim ∷ [])) place p since (inr (record {
+        (known.cleansed (Listed (two_claim ∷ []))).complete place p since (inr (record {
           b = o.b;
           t1 = o.t1;
           d1 = o.d1;
@@ -238,7 +238,7 @@ module _ (heading : Heading) (known : Known heading) (place p : ℕ) where
       → TwoAt heading place p since (b ∷ t1 ∷ d1 ∷ t2 ∷ d2 ∷ []) → Contains cs (Two p place b t1 d1 t2 d2)
       → cleansed heading (Listed cs) place p since ≡ true
   listed_two cs since b t1 d1 t2 d2 at has = let o = at.0 in
-      known.cleansed_complete (Listed cs) place p since (inr (record {
+      (known.cleansed (Listed cs)).complete place p since (inr (record {
         b = o.b;
         t1 = o.t1;
         d1 = o.d1;
@@ -258,7 +258,7 @@ module _ (heading : Heading) (known : Known heading) (place p : ℕ) where
 
   pub least_claim : (since : List Noted) → cleansed heading Patterns place p since ≡ true → LeastClaim since
   least_claim since e =
-      by (some_list (positions since) 3 (one_test since)) refl (known.cleansed_sound Patterns place p since e)
+      by (some_list (positions since) 3 (one_test since)) refl ((known.cleansed Patterns).sound place p since e)
     where
       by : (c : Bool) → some_list (positions since) 3 (one_test since) ≡ c → Cleansed heading Patterns place p since
           → LeastClaim since

@@ -105,7 +105,7 @@ module _ (heading : Heading) (known : Known heading) (p : ℕ) (tag : Tag) (q : 
               later = [];
               earlier = h;
               split = refl;
-              is_open = known.open_sound q h t (to_contains (unanswered itself q h) t i);
+              is_open = known.answered.sound q h t (to_contains (unanswered itself q h) t i);
               answered = a.0;
               reached = a.1;
               whole = b.1;
@@ -128,7 +128,7 @@ module _ (heading : Heading) (known : Known heading) (p : ℕ) (tag : Tag) (q : 
 
     is_found : In (unanswered itself q h) t
     is_found =
-        from_contains (unanswered itself q h) t (known.open_complete q h t
+        from_contains (unanswered itself q h) t (known.answered.complete q h t
         (subst (λ (x : ℕ). Open itself x h t) same.0 (subst (λ (xs : List Event). Open itself k.q xs t) same.2 k.is_open)))
 
     pub taken : (trust : Trust) → allows trust (claim_of t) ≡ true → loses heading trust p tag (Dsb q dsb) h ≡ true
@@ -155,7 +155,7 @@ module _ (heading : Heading) (known : Known heading) (p : ℕ) (tag : Tag) (q : 
       (holds_at heading Patterns p k.0 tag h && not (loses heading Patterns p tag (Dsb q dsb) h)) k.1) [
         | inl reading ↦
             let parts = and_parts (answered_by dsb (λ b. tag_waits heading p tag q b h))
-            (not (reads_for_some heading (Dsb q dsb ∷ h) p tag)) (sym (known.lost_patterns p tag q dsb h) ∙ lost) in
+            (not (reads_for_some heading (Dsb q dsb ∷ h) p tag)) (sym (known.tag_steps.lost p tag q dsb h) ∙ lost) in
             true≢false (sym (reads_some heading (Dsb q dsb ∷ h) p k.0 tag reading)
             ∙ not-true (reads_for_some heading (Dsb q dsb ∷ h) p tag) parts.1)
         | inr stays ↦

@@ -68,8 +68,10 @@ module _ (heading : Heading) (known : Known heading) (h : List Event) where
   pub none_at : (e : Event) → keeps heading Patterns (e ∷ h) ≡ true → ((q : ℕ) (dsb : Barrier) → e ≡ Dsb q dsb → ⊥)
       → AreDue heading h e []
   none_at e kept other =
-      none_are_due heading h e (none_due heading h e other (known.cleansed_sound Patterns) known.cleansed_step
-      known.seen_complete (known.gained h e kept) (known.attached h e kept))
+      none_are_due heading h e (none_due heading h e other ((known.cleansed Patterns).sound)
+      known.pattern_steps.cleansed
+      known.seen.complete (λ n k. elim (known.one_position.gained h e kept n k)
+      [ inl old ↦ inl old | inr new ↦ inr new.0 ]) (known.fresh_content.attached h e known.proper.some_pe kept))
 
   module _ (q : ℕ) (dsb : Barrier) (kept : keeps heading Patterns (Dsb q dsb ∷ h) ≡ true) (written : List ℕ)
       (are_written : AreWritten heading h written) (held : List Holding) (are_known : IsKnown heading h held) where
@@ -96,9 +98,9 @@ module _ (heading : Heading) (known : Known heading) (h : List Event) where
           by : (b : Bool) → among a written ≡ b → b ≡ true
           by true e = refl
           by false e =
-              let x = had_write heading h q dsb (known.cleansed_sound Patterns) (known.cleansed_complete Patterns)
-              (known.one_node h kept_before) (known.was_node h q dsb kept) (known.node_in after)
-              (known.node_is (Dsb q dsb ∷ h) kept) a p w below k not_yet in
+              let x = had_write heading h q dsb ((known.cleansed Patterns).sound) ((known.cleansed Patterns).complete)
+              (known.one_node.at_most_one h kept_before) (known.was_node h q dsb kept) (known.tree.taken after)
+              (known.one_node.the_first (Dsb q dsb ∷ h) kept) a p w below k not_yet in
               absurd (none_some x.0 (sym (are_written k.node.kind k.node.level a e) ∙ x.1))
 
     parts : (c : Claim) → IsDue heading h (Dsb q dsb) c → Places c ⊎ AreTaken heading h (Dsb q dsb) held c
@@ -106,29 +108,33 @@ module _ (heading : Heading) (known : Known heading) (h : List Event) where
         inl (
           a,
           is_written a p k.1.0 k.0 k.1.1 k.2,
-          due_found heading h q dsb (known.cleansed_sound Patterns) (known.cleansed_complete Patterns)
-              (known.one_node h kept_before) (known.was_node h q dsb kept) (known.node_in after)
-              (known.node_is (Dsb q dsb ∷ h) kept) a p k.1.0 k.0 k.1.1 k.2 (Place p a b t d) (refl, refl, k.1.2),
+          due_found heading h q dsb ((known.cleansed Patterns).sound) ((known.cleansed Patterns).complete)
+              (known.one_node.at_most_one h kept_before) (known.was_node h q dsb kept) (known.tree.taken after)
+              (known.one_node.the_first (Dsb q dsb ∷ h) kept) a p k.1.0 k.0 k.1.1 k.2 (Place p a b t d)
+              (refl, refl, k.1.2),
         )
     parts (Two p a b t1 d1 t2 d2) k =
         inl (
           a,
           is_written a p k.1.0 k.0 k.1.1 k.2,
-          due_found heading h q dsb (known.cleansed_sound Patterns) (known.cleansed_complete Patterns)
-              (known.one_node h kept_before) (known.was_node h q dsb kept) (known.node_in after)
-              (known.node_is (Dsb q dsb ∷ h) kept) a p k.1.0 k.0 k.1.1 k.2 (Two p a b t1 d1 t2 d2) (refl, refl, k.1.2, k.1.3),
+          due_found heading h q dsb ((known.cleansed Patterns).sound) ((known.cleansed Patterns).complete)
+              (known.one_node.at_most_one h kept_before) (known.was_node h q dsb kept) (known.tree.taken after)
+              (known.one_node.the_first (Dsb q dsb ∷ h) kept) a p k.1.0 k.0 k.1.1 k.2 (Two p a b t1 d1 t2 d2)
+              (refl, refl, k.1.2, k.1.3),
         )
     parts (Taken p tag t d) k =
-        inr (due_taken heading known h q dsb (λ g x. (known.same_tags g x).0) (λ g. (known.same_tags g g).1 refl)
-        (known.lost_listed q dsb h) p tag t d held are_known k)
+        inr (due_taken heading known h q dsb (λ g x. (known.equality_tests.tags g x).0)
+        (λ g. (known.equality_tests.tags g g).1 refl)
+        (λ cs p tag. known.tag_claim_steps.lost cs p tag q dsb h) p tag t d held are_known k)
 
     pub due_at_dsb : (xs ys : List Claim) → Adds Places [] xs → Adds (AreTaken heading h (Dsb q dsb) held) xs ys
         → AreDue heading h (Dsb q dsb) ys
     due_at_dsb xs ys a b =
         all_due heading h (Dsb q dsb) Places (AreTaken heading h (Dsb q dsb) held) xs ys a b
-        (λ c k. found_due heading h q dsb (known.cleansed_sound Patterns) (known.cleansed_complete Patterns)
-        (known.one_node h kept_before) (known.was_node h q dsb kept) (known.node_in after)
-        (known.node_is (Dsb q dsb ∷ h) kept) k.0 c k.2)
-        (λ c k. taken_due heading known h q dsb (λ g x. (known.same_tags g x).0) (λ g. (known.same_tags g g).1 refl)
-        (known.lost_listed q dsb h) k.0 c k.2)
-        parts (one_due heading h (Dsb q dsb) (known.one_node (Dsb q dsb ∷ h) kept))
+        (λ c k. found_due heading h q dsb ((known.cleansed Patterns).sound) ((known.cleansed Patterns).complete)
+        (known.one_node.at_most_one h kept_before) (known.was_node h q dsb kept) (known.tree.taken after)
+        (known.one_node.the_first (Dsb q dsb ∷ h) kept) k.0 c k.2)
+        (λ c k. taken_due heading known h q dsb (λ g x. (known.equality_tests.tags g x).0)
+        (λ g. (known.equality_tests.tags g g).1 refl)
+        (λ cs p tag. known.tag_claim_steps.lost cs p tag q dsb h) k.0 c k.2)
+        parts (one_due heading h (Dsb q dsb) (known.one_node.at_most_one (Dsb q dsb ∷ h) kept))

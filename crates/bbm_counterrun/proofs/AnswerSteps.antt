@@ -2,6 +2,8 @@
 use Rattle.std.proofs.Common.{◌≡◌, ℕ, ◌+◌, ◌<◌, Bool, true, false, ◌&&◌, ◌||◌, ◌==◌, nat_le, nat_lt, cond, List, []}
 use Rattle.std.proofs.Common.{◌∷◌, ◌++◌, length, map, filter, get_or, take, reverse, refl, sym, ◌∙◌, ap, subst}
 use Rattle.std.proofs.lemmas.List.Folds.{list_any-append}
+use Rattle.bbm_lemmas.proofs.Tautologies.{proved}
+use Rattle.bbm_lemmas.proofs.Tautologies.Claim.{Is}
 use Rattle.bbm_rules.specs.Lists.{any}
 use Rattle.bbm_rules.specs.Prelude.{Barrier, Heading, Event, Dsb, Tlbi}
 use Rattle.bbm_rules.specs.Reach.{Issued, completes, unanswered}
@@ -48,15 +50,15 @@ must_is heading t x = by t.tlbi
 forbidden_now : (heading : Heading) (h : List Event) (q : ℕ) (dsb : Barrier) (pending : List Pending) (x : Entry) → IsPending heading h pending
     → any (λ p. is_answered q dsb p && must_leave heading p x) pending ≡ forbids heading x (Dsb q dsb) h
 forbidden_now heading h q dsb pending x is =
-    any_alike _ _ pending (λ (p : Pending). and_assoc (p.issuer == q) (completes dsb p.tlbi) (must_leave heading p x))
-    ∙ sym (any_filter (λ (p : Pending). completes dsb p.tlbi && must_leave heading p x) (λ (p : Pending). p.issuer == q) pending)
+    any_alike _ _ pending (λ (p : Pending). proved 3 (λ a b c. Is (a && b && c) (a && (b && c))) refl (p.issuer == q)
+    (completes dsb p.tlbi) (must_leave heading p x))
+    ∙ sym (any_filter (λ (p : Pending). completes dsb p.tlbi && must_leave heading p x) (λ (p : Pending). p.issuer == q)
+    pending)
     ∙ ap (any (λ (p : Pending). completes dsb p.tlbi && must_leave heading p x)) (is q)
-    ∙ any_map (λ (p : Pending). completes dsb p.tlbi && must_leave heading p x) (pending_of heading) (unanswered itself q h)
-    ∙ any_alike _ _ (unanswered itself q h) (λ (t : Issued Event). ap (λ b. completes dsb t.tlbi && b) (must_is heading t x))
-  where
-    and_assoc : (a b c : Bool) → (a && b && c) ≡ (a && (b && c))
-    and_assoc true b c = refl
-    and_assoc false b c = refl
+    ∙ any_map (λ (p : Pending). completes dsb p.tlbi && must_leave heading p x) (pending_of heading)
+    (unanswered itself q h)
+    ∙ any_alike _ _ (unanswered itself q h) (λ (t : Issued Event). ap (λ b. completes dsb t.tlbi && b)
+    (must_is heading t x))
 
 dsb_answers : (heading : Heading) (h : List Event) (q : ℕ) (dsb : Barrier) (pending : List Pending) (old : List Answer)
     → IsPending heading h pending → IsAnswers heading h old
@@ -67,16 +69,12 @@ dsb_answers heading h q dsb pending old is was from to x =
     ∙ ap (λ b. any (forbids_by heading from to x) old || b)
     (any_map (forbids_by heading from to x) (answer_at (length h)) (filter (is_answered q dsb) pending)
     ∙ any_filter (λ (p : Pending). within && must_leave heading p x) (is_answered q dsb) pending
-    ∙ any_alike _ _ pending (λ (p : Pending). and_swap (is_answered q dsb p) within (must_leave heading p x))
+    ∙ any_alike _ _ pending (λ (p : Pending). proved 3 (λ a b c. Is (a && (b && c)) (b && (a && c))) refl
+    (is_answered q dsb p) within (must_leave heading p x))
     ∙ any_and within (λ (p : Pending). is_answered q dsb p && must_leave heading p x) pending
     ∙ ap (λ b. within && b) (forbidden_now heading h q dsb pending x is))
     ∙ or_comm (any (forbids_by heading from to x) old) (within && forbids heading x (Dsb q dsb) h)
     ∙ ap (λ b. (within && forbids heading x (Dsb q dsb) h) || b) (was from to x)
-  where
-    and_swap : (a b c : Bool) → (a && (b && c)) ≡ (b && (a && c))
-    and_swap true b c = refl
-    and_swap false true c = refl
-    and_swap false false c = refl
 
 -- an event that answers nothing
 other_answers : (heading : Heading) (h : List Event) (e : Event) (old : List Answer) → ((q : ℕ) (dsb : Barrier) → e ≡ Dsb q dsb → ⊥)

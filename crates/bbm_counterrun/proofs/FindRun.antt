@@ -10,7 +10,6 @@ use Rattle.bbm_events.specs.Fits.{fits_heading}
 use Rattle.bbm_events.specs.Heading.{heading_ok}
 use Rattle.bbm_oracle_trees.specs.Past.{Past, notes}
 use Rattle.bbm_oracle_trees.specs.HistoryStandsFor.{StandsFor}
-use Rattle.bbm_rules.specs.Broken.{keeps}
 use Rattle.bbm_rules.specs.Claims.{Trust, Patterns}
 use Rattle.bbm_rules.specs.Covers.{noted}
 use Rattle.bbm_rules.specs.Notes.{Noted}
@@ -20,11 +19,11 @@ use Rattle.bbm_rules.specs.Tree.{Node, node_of}
 use Rattle.bbm_tlb_machine.specs.declared.step.Step.{Step}
 use Rattle.bbm_tlb_machine.specs.Safe.{IsLog}
 use Rattle.bbm_counterrun.specs.Goals.{goals_among, places_by, way_among}
-use Rattle.bbm_counterrun.specs.LeastList.{HasLeastReads}
+use Rattle.bbm_counterrun.specs.LeastList.{HasLeastReads, PlansHaveLeastReads}
 use Rattle.bbm_counterrun.specs.Plans.{Finds, IsPlain, Plan, run_of}
 use Rattle.bbm_counterrun.specs.RefusedWrite.{IsRefused, ends_at_leaf, holds_leaf}
 use Rattle.bbm_counterrun.specs.Searching.{FindsRun, plan_found}
-use Rattle.bbm_counterrun.specs.Tested.{is_plain}
+use Rattle.bbm_counterrun.specs.Tested.{PlainIsTested, is_plain}
 use Rattle.bbm_counterrun.specs.Ways.{Goal, places_to, way_to}
 use Rattle.bbm_counterrun.proofs.FirstFound.{found_first, none_first}
 use Rattle.bbm_counterrun.proofs.WalkCode.{newest_first}
@@ -115,24 +114,21 @@ module _ (heading : Heading) (h : List Event) (pe place value : ℕ)
 
 -- ---- the same of a program
 
-pub record Laws : Type 0 where
-  pub tested : (heading : Heading) (h : List Event) (e : Event) (plan : Plan)
-      → IsPlain heading h e plan ↔ (is_plain heading h e plan ≡ true)
-  pub least : (heading : Heading) (h : List Event) (pe place value : ℕ) (plan : Plan) → IsLog heading h → keeps heading Patterns h ≡ true
-      → holds_leaf heading h place ≡ true → is_plain heading h (Write pe place value) plan ≡ true
-      → HasLeastReads heading h (Write pe place value) place plan
+pub record Laws (heading : Heading) : Type 0 where
+  pub tested : PlainIsTested heading
+  pub least : PlansHaveLeastReads heading
 
-module _ (laws : Laws) (heading : Heading) (before : List Event) (ok : heading_ok heading ≡ true)
+module _ (heading : Heading) (laws : Laws heading) (before : List Event) (ok : heading_ok heading ≡ true)
     (fit : All (λ event. fits_heading heading event ≡ true) before) (past : Past) (trust : past.trust ≡ Patterns)
     (stands : StandsFor past heading (reverse before)) (pe place value : ℕ) (refused : IsRefused heading (reverse before) pe place value)
     (leaf : holds_leaf heading (reverse before) place ≡ true) where
   least_of : (plan : Plan) → is_plain heading (reverse before) (Write pe place value) plan ≡ true
       → HasLeastReads heading (reverse before) (Write pe place value) place plan
-  least_of plan plain = laws.least heading (reverse before) pe place value plan (is_log heading before ok fit) refused.kept leaf plain
+  least_of plan plain = laws.least (reverse before) pe place value plan (is_log heading before ok fit) refused.kept leaf plain
 
   pub no_tree_found : None ≡ kind_by past.heading past.trust (notes past) place → Finds heading (reverse before) (Write pe place value) None
   no_tree_found none =
-      no_tree heading (reverse before) pe place value (laws.tested heading (reverse before) (Write pe place value)) least_of
+      no_tree heading (reverse before) pe place value (laws.tested (reverse before) (Write pe place value)) least_of
       (none ∙ kind_is past heading (reverse before) place trust stands)
 
   pub run_found : (log : List Event) → reverse log ≡ Write pe place value ∷ reverse before → (kind : Kind)
@@ -140,7 +136,7 @@ module _ (laws : Laws) (heading : Heading) (before : List Event) (ok : heading_o
       → way ≡ way_among past.heading past.trust (notes past) place → (steps : Option (List Step))
       → FindsRun heading (reverse before) (Write 0 place value) kind way log steps → Finds heading (reverse before) (Write pe place value) steps
   run_found log same kind is way are steps f =
-      finds heading (reverse before) pe place value (laws.tested heading (reverse before) (Write pe place value)) least_of kind log steps
+      finds heading (reverse before) pe place value (laws.tested (reverse before) (Write pe place value)) least_of kind log steps
       (sym (reverse-reverse log) ∙ ap (reverse {A = Event}) same) (is ∙ kind_is past heading (reverse before) place trust stands)
       (subst (λ (w : List Goal). FindsRun heading (reverse before) (Write 0 place value) kind w log steps)
       (are ∙ way_is past heading (reverse before) place trust stands) f)

@@ -1,20 +1,13 @@
 -- The state to which steps lead, oldest first, and the runs that it stands for.
-use Rattle.std.proofs.Common.{◌≡◌, Bool, true, false, ◌&&◌, ◌↔◌, List, [], ◌∷◌, ◌++◌, Option, Some, None, refl, ◌∙◌, ap}
+use Rattle.std.proofs.Common.{◌≡◌, Bool, true, false, ◌&&◌, List, [], ◌∷◌, ◌++◌, Option, Some, None, refl, ◌∙◌, ap}
 use Rattle.std.proofs.Common.{subst}
 use mathlib.Core.List.{reverse_aux}
+use Rattle.bbm_lemmas.proofs.Words.{bind_some}
 use Rattle.bbm_rules.specs.Lists.{◌>>=◌, if_so}
 use Rattle.bbm_rules.specs.Prelude.{Heading}
 use Rattle.bbm_tlb_machine.specs.declared.step.Step.{Step}
-use Rattle.bbm_tlb_machine.specs.MachineRun.{IsRun, Leads, State, step_to}
-
--- what the law of runs says of one step
-abbrev pub StepLaw : Type 0
-StepLaw = (heading : Heading) (s : State) (step : Step) (next : State) → Leads heading s step next ↔ (step_to heading s step ≡ Some next)
-
-pub bind_some : {A B : Type 0} (f : A → Option B) (o : Option A) (y : B) → (o >>= f) ≡ Some y
-    → (x : A) × (o ≡ Some x) × (f x ≡ Some y)
-bind_some f None y k = cc
-bind_some f (Some x) y k = (x, refl, k)
+use Rattle.bbm_tlb_machine.specs.MachineLaws.{RunsAreFollowed}
+use Rattle.bbm_tlb_machine.specs.MachineRun.{IsRun, State, step_to}
 
 -- a step that is taken where one test passes, and then another where a second one does
 pub then_so : {A B : Type 0} (a b : Bool) (s : A) (t : B) (f : A → Option B) → f s ≡ if_so b t → (if_so a s >>= f) ≡ if_so (a && b) t
@@ -39,17 +32,17 @@ module _ (heading : Heading) where
   pub run_after : (s t : State) (xs ys : List Step) → run_to s xs ≡ Some t → run_to s (xs ++ ys) ≡ run_to t ys
   run_after s t xs ys e = run_append s xs ys ∙ ap (λ (o : Option State). o >>= (λ u. run_to u ys)) e
 
-  pub run_from : StepLaw → (base steps : List Step) (s t : State) → IsRun heading base s → run_to s steps ≡ Some t
+  pub run_from : RunsAreFollowed → (base steps : List Step) (s t : State) → IsRun heading base s → run_to s steps ≡ Some t
       → IsRun heading (reverse_aux steps base) t
   run_from law base [] s t run e = let same : s ≡ t = cc in subst (IsRun heading base) same run
   run_from law base (step ∷ steps) s t run e =
       let r = bind_some (λ next. run_to next steps) (step_to heading s step) t e in
-      run_from law (step ∷ base) steps r.0 t (s, run, (law heading s step r.0).1 r.1) r.2
+      run_from law (step ∷ base) steps r.0 t (s, run, (law.step heading s step r.0).1 r.1) r.2
 
-  pub run_back : StepLaw → (base steps : List Step) (t : State) → IsRun heading (reverse_aux steps base) t
+  pub run_back : RunsAreFollowed → (base steps : List Step) (t : State) → IsRun heading (reverse_aux steps base) t
       → (s : State) × IsRun heading base s × (run_to s steps ≡ Some t)
   run_back law base [] t run = (t, run, refl)
   run_back law base (step ∷ steps) t run =
       let r = run_back law (step ∷ base) steps t run in
       let q = r.1 in
-      (q.0, q.1, ap (λ (o : Option State). o >>= (λ next. run_to next steps)) ((law heading q.0 step r.0).0 q.2) ∙ r.2)
+      (q.0, q.1, ap (λ (o : Option State). o >>= (λ next. run_to next steps)) ((law.step heading q.0 step r.0).0 q.2) ∙ r.2)

@@ -1,5 +1,5 @@
 -- A conflict run over events that keep the rules conflicts at its last step alone.
-use Rattle.std.proofs.Common.{◌≡◌, ℕ, ◌↔◌, true, false, List, [], ◌∷◌, ◌++◌, length, Option, Some, None, Result, Ok}
+use Rattle.std.proofs.Common.{◌≡◌, ℕ, true, false, List, [], ◌∷◌, ◌++◌, length, Option, Some, None, Result, Ok}
 use Rattle.std.proofs.Common.{refl, sym, ◌∙◌, ap, subst, true≢false}
 use Rattle.std.proofs.lemmas.List.{append_assoc}
 use Rattle.bbm_events.specs.declared.machine.MachineLine.TheVariants.{Start, Extend, Combine, Share, Drop}
@@ -9,17 +9,16 @@ use Rattle.bbm_rules.specs.Prelude.{Heading, Event, Write}
 use Rattle.bbm_tlb_machine.specs.declared.step.Step.{Step}
 use Rattle.bbm_tlb_machine.specs.declared.step.Step.TheVariants.{Machine, Event as Taken}
 use Rattle.bbm_tlb_machine.specs.First.{IsFirstConflict}
+use Rattle.bbm_tlb_machine.specs.MachineLaws.{ConflictsAreTested, KeptIsSafe, RunsAreFollowed}
 use Rattle.bbm_tlb_machine.specs.MachineRun.{IsRun, Leads, State, after_event, follow_steps, next_in}
-use Rattle.bbm_tlb_machine.specs.Safe.{ComesTo, IsLog, Safe, first_conflict, in_conflict}
+use Rattle.bbm_tlb_machine.specs.Safe.{IsLog, Safe, first_conflict, in_conflict}
 use Rattle.bbm_counterrun.specs.Plans.{EndsInConflict, IsConflictRun}
 
--- what the laws of runs, of conflicts and of safe logs say
-pub record RunLaws : Type 0 where
-  pub run : (heading : Heading) (steps : List Step) (s : State) → IsRun heading steps s ↔ (follow_steps heading steps ≡ Ok s)
-  pub safe : (heading : Heading) (log : List Event)
-      → Safe heading log ↔ ((s : State) (e : Event) → ComesTo heading log s e → in_conflict heading s e ≡ false)
-  pub first : (heading : Heading) (steps : List Step) (i : ℕ) → IsFirstConflict heading steps i ↔ (first_conflict heading steps ≡ Some i)
-  pub kept_is_safe : (heading : Heading) (trust : Trust) (log : List Event) → IsLog heading log → keeps heading trust log ≡ true → Safe heading log
+-- the laws of runs, of conflicts and of safe logs
+pub record RunLaws (heading : Heading) (trust : Trust) : Type 0 where
+  pub runs : RunsAreFollowed
+  pub conflicts : ConflictsAreTested
+  pub kept : KeptIsSafe heading trust
 
 -- the log of a state begins with that of an earlier one
 record Grows (s t : State) : Type 0 where
@@ -53,11 +52,11 @@ module _ (heading : Heading) where
       let p : Passed older run.0 = passed newer older run.0 run.1 in
       record { at = p.at; run = p.run; grows = then_grows p.at run.0 t p.grows (grows_by run.0 t step run.2) }
 
-  module _ (laws : RunLaws) where
+  module _ (trust : Trust) (laws : RunLaws heading trust) where
     one_state : (steps : List Step) (s t : State) → IsRun heading steps s → IsRun heading steps t → s ≡ t
     one_state steps s t a b =
-        let one = (laws.run heading steps s).0 a in
-        let other = (laws.run heading steps t).0 b in
+        let one = (laws.runs.run heading steps s).0 a in
+        let other = (laws.runs.run heading steps t).0 b in
         cc
 
     -- no earlier step conflicts
@@ -74,25 +73,25 @@ module _ (heading : Heading) where
             let log : p.at.log ≡ c.event ∷ c.before.log = ap (λ (u : State). u.log) r.2.1 ∙ ap (λ (u : State). c.event ∷ u.log) same in
             let split : h ≡ p.grows.later ++ c.event ∷ c.before.log = sym over ∙ p.grows.split ∙ ap (λ es. p.grows.later ++ es) log in
             let quiet : in_conflict heading c.before c.event ≡ false
-            = (laws.safe heading h).0 safe c.before c.event (record { steps = c.older; run = c.run; later = p.grows.later; split = split }) in
+            = (laws.conflicts.safe heading h).0 safe c.before c.event (record { steps = c.older; run = c.run; later = p.grows.later; split = split }) in
             true≢false (sym c.conflict ∙ quiet)
 
         by : (o : Option ℕ) → first_conflict heading steps ≡ o → first_conflict heading steps ≡ None
         by None e = e
-        by (Some i) e = absurd (apart i ((laws.first heading steps i).1 e))
+        by (Some i) e = absurd (apart i ((laws.conflicts.first heading steps i).1 e))
 
-    ends : (trust : Trust) (h : List Event) (pe place value : ℕ) (steps : List Step) → IsLog heading h → keeps heading trust h ≡ true
+    ends : (h : List Event) (pe place value : ℕ) (steps : List Step) → IsLog heading h → keeps heading trust h ≡ true
         → IsConflictRun heading h (Write pe place value) steps → EndsInConflict heading steps
-    ends trust h pe place value steps is_log kept c =
-        let followed : follow_steps heading c.older ≡ Ok c.before = (laws.run heading c.older c.before).0 c.run in
-        let quiet = earlier_is_quiet h c.older c.before (laws.kept_is_safe heading trust h is_log kept) c.run c.over in
+    ends h pe place value steps is_log kept c =
+        let followed : follow_steps heading c.older ≡ Ok c.before = (laws.runs.run heading c.older c.before).0 c.run in
+        let quiet = earlier_is_quiet h c.older c.before (laws.kept h is_log kept) c.run c.over in
         record {
           after = after_event c.before (Write pe place value);
           followed = ap (follow_steps heading) c.last
               ∙ ap (λ (r : Result State ℕ). next_in heading r (Taken (Write pe place value)) (length c.older)) followed;
           older = length c.older;
           count = ap length c.last;
-          first = (laws.first heading steps (length c.older)).0 (record {
+          first = (laws.conflicts.first heading steps (length c.older)).0 (record {
             newer = [];
             event = Write pe place value;
             older = c.older;
@@ -105,6 +104,6 @@ module _ (heading : Heading) where
           });
         }
 
-pub conflict_ends : RunLaws → (heading : Heading) (trust : Trust) (h : List Event) (pe place value : ℕ) (steps : List Step)
-    → IsLog heading h → keeps heading trust h ≡ true → IsConflictRun heading h (Write pe place value) steps → EndsInConflict heading steps
-conflict_ends laws heading = ends heading laws
+pub conflict_ends : (heading : Heading) (trust : Trust) → RunLaws heading trust → (h : List Event) (pe place value : ℕ)
+    (steps : List Step) → IsLog heading h → keeps heading trust h ≡ true → IsConflictRun heading h (Write pe place value) steps → EndsInConflict heading steps
+conflict_ends = ends

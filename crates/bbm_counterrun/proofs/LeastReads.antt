@@ -18,7 +18,7 @@ use Rattle.bbm_tlb_machine.specs.Entry.{Entry, Part, parts_of, tag_of_entry}
 use Rattle.bbm_tlb_machine.specs.Invariant.{Begins, Chained, Fine}
 use Rattle.bbm_tlb_machine.specs.Safe.{IsLog, conflicts_with, is_stale}
 use Rattle.bbm_tlb_machine.specs.Step.{combined, has_number, may_start}
-use Rattle.bbm_counterrun.specs.LeastList.{HasLeastReads}
+use Rattle.bbm_counterrun.specs.LeastList.{HasLeastReads, PlansHaveLeastReads}
 use Rattle.bbm_counterrun.specs.Plans.{Plan, Read, reads_of}
 use Rattle.bbm_counterrun.specs.RefusedWrite.{holds_leaf}
 use Rattle.bbm_counterrun.specs.Tested.{combined_by, first_events, is_plain, is_within, may_extend_by, may_walk}
@@ -66,7 +66,7 @@ module _ (heading : Heading) (laws : WayLaws heading) (h : List Event) (kept : k
   fine_where_kept x is_log k =
       subst (λ (y : Entry). Fine heading Patterns h y) k.is
       (subst (λ (es : List Event). Fine heading Patterns es k.living.entry) k.over
-      (laws.fine k.steps k.state (subst (λ (es : List Event). IsLog heading es) (sym k.over) is_log)
+      (laws.fine.fine k.steps k.state (subst (λ (es : List Event). IsLog heading es) (sym k.over) is_log)
       (ap (keeps heading Patterns) k.over ∙ kept) k.run k.living k.kept))
 
   module _ (plan : Plan) (w : IsFineWalk heading h (walked_by heading plan)) where
@@ -159,9 +159,7 @@ module _ (heading : Heading) (laws : WayLaws heading) (h : List Event) (kept : k
             least = λ next e. first_if_least (reads_of plan) (l ∷ ls) next low e;
           }
 
-pub least_list : (heading : Heading) → WayLaws heading → (h : List Event) (pe place value : ℕ) (plan : Plan)
-    → IsLog heading h → keeps heading Patterns h ≡ true → holds_leaf heading h place ≡ true
-    → is_plain heading h (Write pe place value) plan ≡ true → HasLeastReads heading h (Write pe place value) place plan
+pub least_list : (heading : Heading) → WayLaws heading → PlansHaveLeastReads heading
 least_list heading laws h pe place value plan is_log kept leaf k =
     let x : Entry = walked_by heading plan in
     let a = and_parts (is_within plan (length h) && may_walk heading (first_events plan.starts h) plan
@@ -169,6 +167,6 @@ least_list heading laws h pe place value plan is_log kept leaf k =
     let b = and_parts (is_within plan (length h) && may_walk heading (first_events plan.starts h) plan)
     (outlives heading x plan.starts plan.combines h) a.0 in
     let c = and_parts (is_within plan (length h)) (may_walk heading (first_events plan.starts h) plan) b.0 in
-    let f = fine_where_kept heading laws h kept (combined_by plan.combines x) is_log (plain_is_kept laws.step heading h (Write pe place value) plan k) in
+    let f = fine_where_kept heading laws h kept (combined_by plan.combines x) is_log (plain_is_kept laws.runs heading h (Write pe place value) plan k) in
     has_least heading laws h kept plan (fine_walk heading laws h kept plan.combines x f) place value leaf
     (sym (conflict_is heading h pe place value plan.combines x) ∙ a.1) pe c.0 c.1 b.1

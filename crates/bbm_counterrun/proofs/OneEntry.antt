@@ -1,8 +1,10 @@
 -- What becomes of the state where no entry is kept, and where one is.
-use Rattle.std.proofs.Common.{◌≡◌, ℕ, ◌+◌, ◌<◌, ◌≤◌, arith, Bool, true, false, ◌&&◌, ◌||◌, not, ◌==◌, nat_lt, nat_le}
+use Rattle.std.proofs.Common.{◌≡◌, ℕ, ◌+◌, ◌<◌, ◌≤◌, arith, Bool, true, false, ◌&&◌, ◌||◌, not, nat_lt, nat_le}
 use Rattle.std.proofs.Common.{List, [], ◌∷◌, ◌++◌, length, map, reverse, Option, Some, refl, sym, ◌∙◌, ap}
-use Rattle.std.proofs.lemmas.Bool.{and_left, and_right, eq-eqb, le-leb, le-ltb, lt-leb, lt-ltb, or_from}
+use Rattle.std.proofs.lemmas.Bool.{and_left, and_right, le-leb, le-ltb, lt-leb, lt-ltb, or_from}
 use Rattle.std.proofs.lemmas.List.{length-append, map-append, reverse-append}
+use Rattle.bbm_lemmas.proofs.Tautologies.{proved}
+use Rattle.bbm_lemmas.proofs.Tautologies.Claim.{Is}
 use Rattle.bbm_rules.specs.Lists.{◌>>=◌, any, if_so}
 use Rattle.bbm_rules.specs.Prelude.{Heading, Event, Dsb}
 use Rattle.bbm_rules.specs.Reach.{Issued, completes, unanswered}
@@ -40,13 +42,7 @@ so_some true x = refl
 so_some false x = refl
 
 not_or : (now before : Bool) → (not before && not now) ≡ not (now || before)
-not_or true true = refl
-not_or true false = refl
-not_or false true = refl
-not_or false false = refl
-
-pub same_number : (n : ℕ) → (n == n) ≡ true
-same_number n = eq-eqb n n refl
+not_or = proved 2 (λ now before. Is (not before && not now) (not (now || before))) refl
 
 module _ (heading : Heading) where
   -- ---- events

@@ -1,33 +1,31 @@
 -- A plan's run is a plain conflict run exactly where the test of the plan says so.
-use Rattle.std.proofs.Common.{◌≡◌, ℕ, suc, ◌+◌, ◌-◌, ◌≤◌, arith, Bool, true, false, ◌&&◌, not, nat_lt, nat_le, ◌↔◌}
+use Rattle.std.proofs.Common.{◌≡◌, ℕ, suc, ◌+◌, ◌-◌, ◌≤◌, arith, Bool, true, ◌&&◌, not, nat_lt, nat_le}
 use Rattle.std.proofs.Common.{List, [], ◌∷◌, ◌++◌, length, map, take, drop, reverse, Option, Contains, zero-le, Some}
 use Rattle.std.proofs.Common.{None, refl, sym, ◌∙◌, ap, subst, suc-le-suc, le_of_suc-le-suc}
 use Rattle.std.proofs.lemmas.Bool.{and_from, and_parts, le-leb, leb-true, lt-ltb, ltb-true}
 use Rattle.std.proofs.lemmas.List.{append-nil, append_assoc, drop-append-le, drop_at, length-append, length-drop}
 use Rattle.std.proofs.lemmas.List.{length-reverse, map-append, reverse-append, take-append-drop, take-append-le}
 use Rattle.std.proofs.lemmas.List.{take_at}
+use Rattle.bbm_lemmas.proofs.Words.{if_so_some}
 use Rattle.bbm_rules.specs.Lists.{◌>>=◌, if_so}
 use Rattle.bbm_rules.specs.Prelude.{Heading, Event}
 use Rattle.bbm_tlb_machine.specs.declared.step.Step.{Step}
 use Rattle.bbm_tlb_machine.specs.declared.step.Step.TheVariants.{Event as Taken}
 use Rattle.bbm_tlb_machine.specs.Entry.{Entry}
+use Rattle.bbm_tlb_machine.specs.MachineLaws.{RunsAreFollowed}
 use Rattle.bbm_tlb_machine.specs.MachineRun.{IsRun, Living, State, at_start}
 use Rattle.bbm_tlb_machine.specs.Safe.{conflicts_with, in_conflict}
 use Rattle.bbm_tlb_machine.specs.Step.{combined, is_stage2}
 use Rattle.bbm_counterrun.specs.Plans.{Fits, IsPlain, Plan, behind, combine_fits, combine_of, made_by, run_of, walk_of}
-use Rattle.bbm_counterrun.specs.Tested.{combine_within, combined_by, first_events, is_forbidden, is_plain, is_within}
-use Rattle.bbm_counterrun.specs.Tested.{may_walk, outlives, walked_by}
-use Rattle.bbm_counterrun.proofs.Following.{StepLaw, run_after, run_append, run_back, run_from, run_to, then_so}
+use Rattle.bbm_counterrun.specs.Tested.{PlainIsTested, combine_within, combined_by, first_events, is_forbidden}
+use Rattle.bbm_counterrun.specs.Tested.{is_plain, is_within, may_walk, outlives, walked_by}
+use Rattle.bbm_counterrun.proofs.Following.{run_after, run_append, run_back, run_from, run_to, then_so}
 use Rattle.bbm_counterrun.proofs.OneEntry.{forbidden_in, forbidden_is, none_kept, one_kept, one_meets, past_none}
 use Rattle.bbm_counterrun.proofs.OneEntry.{past_one}
 use Rattle.bbm_counterrun.proofs.WalkSteps.{past_combine, past_walk}
 
 tail_is : {X : Type 0} (x : X) (xs ys : List X) → x ∷ xs ≡ x ∷ ys → xs ≡ ys
 tail_is x xs ys e = cc
-
-if_so_some : {A : Type 0} (b : Bool) (x y : A) → if_so b x ≡ Some y → (b ≡ true) × (y ≡ x)
-if_so_some true x y k = (refl, cc)
-if_so_some false x y k = cc
 
 -- ---- the events of a run
 
@@ -233,7 +231,7 @@ module _ (heading : Heading) where
       (one_kept h (number_by plan.combines (made_by plan)) (combined_by plan.combines (walked_by heading plan)))
   leads_to h plan fits = leads h plan plan.combines (le_of_suc-le-suc fits.before_last) fits.combine
 
-  test_from : StepLaw → (h : List Event) (e : Event) (plan : Plan) → IsPlain heading h e plan → is_plain heading h e plan ≡ true
+  test_from : RunsAreFollowed → (h : List Event) (e : Event) (plan : Plan) → IsPlain heading h e plan → is_plain heading h e plan ≡ true
   test_from law h e plan p =
       let c = p.conflicts in
       let same : reverse (run_of plan (reverse h)) ≡ c.older = tail_is _ _ _ (sym (run_to_event plan h e p.fits) ∙ c.last) in
@@ -246,7 +244,7 @@ module _ (heading : Heading) where
       (sym (one_meets heading h (number_by plan.combines (made_by plan)) (combined_by plan.combines (walked_by heading plan)) e)
       ∙ ap (λ s. in_conflict heading s e) (sym q.1) ∙ c.conflict)
 
-  test_to : StepLaw → (h : List Event) (e : Event) (plan : Plan) → is_plain heading h e plan ≡ true → IsPlain heading h e plan
+  test_to : RunsAreFollowed → (h : List Event) (e : Event) (plan : Plan) → is_plain heading h e plan ≡ true → IsPlain heading h e plan
   test_to law h e plan k =
       let a = and_parts _ (conflicts_with heading h e (combined_by plan.combines (walked_by heading plan))) k in
       let b = and_parts _ (outlives heading (walked_by heading plan) plan.starts plan.combines h) a.0 in
@@ -267,8 +265,7 @@ module _ (heading : Heading) where
         };
       }
 
-pub plain_is_tested : StepLaw → (heading : Heading) (h : List Event) (e : Event) (plan : Plan)
-    → IsPlain heading h e plan ↔ (is_plain heading h e plan ≡ true)
+pub plain_is_tested : RunsAreFollowed → (heading : Heading) → PlainIsTested heading
 plain_is_tested law heading h e plan = (test_from heading law h e plan, test_to heading law h e plan)
 
 -- the entry that is kept at the event, where the test passes
@@ -281,7 +278,7 @@ pub record KeptAt (heading : Heading) (h : List Event) (x : Entry) : Type 0 wher
   pub kept : Contains state.living living
   pub is : living.entry ≡ x
 
-pub plain_is_kept : StepLaw → (heading : Heading) (h : List Event) (e : Event) (plan : Plan) → is_plain heading h e plan ≡ true
+pub plain_is_kept : RunsAreFollowed → (heading : Heading) (h : List Event) (e : Event) (plan : Plan) → is_plain heading h e plan ≡ true
     → KeptAt heading h (combined_by plan.combines (walked_by heading plan))
 unfolding test_to
 plain_is_kept law heading h e plan k =

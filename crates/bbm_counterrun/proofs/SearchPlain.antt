@@ -3,6 +3,8 @@ use Rattle.std.proofs.Common.{◌≡◌, ℕ, ◌-◌, ◌<◌, ◌≤◌, arith
 use Rattle.std.proofs.Common.{length, take, drop, reverse, Option, Some, None, refl, sym, ◌∙◌, ap, subst, ◌⊎◌, inl, inr}
 use Rattle.std.proofs.lemmas.Bool.{and_left, and_right, le-leb, lt-ltb, and_from}
 use Rattle.std.proofs.lemmas.List.{drop_at, length-drop, length-reverse, reverse-append, take-append-drop}
+use Rattle.bbm_lemmas.proofs.Tautologies.{proved}
+use Rattle.bbm_lemmas.proofs.Tautologies.Claim.{Is}
 use Rattle.bbm_rules.specs.Lists.{◌>>=◌, any, if_so}
 use Rattle.bbm_rules.specs.Prelude.{Kind, Heading, Event, Write}
 use Rattle.bbm_tlb_machine.specs.Entry.{Entry, parts_of}
@@ -101,17 +103,16 @@ module _ (heading : Heading) (h : List Event) (place value k p : ℕ) (kind : Ki
         let plan : Plan = plan_of k p kind number (r ∷ rs) o in
         ap (λ b. is_within plan (length h) && b && outlives heading (walked_by heading plan) k o h
         && conflicts_with heading h (Write 0 place value) (combined_by o (walked_by heading plan))) w.0
-        ∙ ap (λ y. is_within plan (length h) && true && outlives heading y k o h && conflicts_with heading h (Write 0 place value) (combined_by o y)) w.1
+        ∙ ap (λ y. is_within plan (length h) && true && outlives heading y k o h && conflicts_with heading h
+        (Write 0 place value) (combined_by o y)) w.1
         ∙ ap (λ b. is_within plan (length h) && true && outlives heading x k o h && b) (stale_is x o ∙ stale)
         ∙ ap (λ b. is_within plan (length h) && true && b && true) (outlives_is x o)
-        ∙ ap (λ b. b && nat_le k (length h) && combine_within k (length h) o && true && outlives_by heading answers x k (length h) o && true) (lt-ltb 0 k some)
-        ∙ ap (λ b. b && combine_within k (length h) o && true && outlives_by heading answers x k (length h) o && true) (le-leb k (length h) le)
-        ∙ trims (combine_within k (length h) o) (outlives_by heading answers x k (length h) o)
-      where
-        trims : (a b : Bool) → (true && a && true && b && true) ≡ (a && b)
-        trims true true = refl
-        trims true false = refl
-        trims false b = refl
+        ∙ ap (λ b. b && nat_le k (length h) && combine_within k (length h) o && true && outlives_by heading answers x k
+        (length h) o && true) (lt-ltb 0 k some)
+        ∙ ap (λ b. b && combine_within k (length h) o && true && outlives_by heading answers x k (length h) o && true)
+        (le-leb k (length h) le)
+        ∙ proved 2 (λ a b. Is (true && a && true && b && true) (a && b)) refl (combine_within k (length h) o)
+        (outlives_by heading answers x k (length h) o)
 
     chosen : (reads : List Read) (x : Entry) (found : Option (Option ℕ)) → walk_by heading (first_events k h) p kind number reads ≡ Some x
         → any (is_stale place value) (parts_of x) ≡ true

@@ -2,6 +2,7 @@
 use Rattle.std.proofs.Common.{◌≡◌, ℕ, suc, ◌+◌, ◌<◌, arith, Bool, true, false, not, ◌==◌, cond, List, [], ◌∷◌, ◌++◌}
 use Rattle.std.proofs.Common.{length, find, filter, Option, Some, None, option_map, refl, ◌∙◌, ap}
 use Rattle.std.proofs.lemmas.Bool.{ne_eqb}
+use Rattle.bbm_lemmas.proofs.Words.{same_number}
 use Rattle.bbm_rules.specs.Lists.{◌>>=◌, if_so}
 use Rattle.bbm_rules.specs.Prelude.{Heading, Event}
 use Rattle.bbm_events.specs.declared.machine.MachineLine.TheVariants.{Drop}
@@ -12,7 +13,7 @@ use Rattle.bbm_tlb_machine.specs.Step.{combined, extended, is_stage2, may_extend
 use Rattle.bbm_counterrun.specs.Plans.{Plan, Read, combine_of, drops, extends, made_by, walk_of}
 use Rattle.bbm_counterrun.specs.Tested.{extended_by, may_extend_by, may_walk, started_by, walked_by}
 use Rattle.bbm_counterrun.proofs.Following.{run_append, run_to, then_so}
-use Rattle.bbm_counterrun.proofs.OneEntry.{none_kept, one_kept, same_number}
+use Rattle.bbm_counterrun.proofs.OneEntry.{none_kept, one_kept}
 
 -- the entries of a walk from this one on, the newest first, before others; and how many were made
 abbrev tower : ℕ → Entry → List Read → List Living → List Living

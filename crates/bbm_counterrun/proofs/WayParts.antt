@@ -14,45 +14,37 @@ use Rattle.bbm_rules.specs.Broken.{keeps}
 use Rattle.bbm_rules.specs.Claims.{Patterns}
 use Rattle.bbm_rules.specs.Covers.{noted}
 use Rattle.bbm_rules.specs.Held.{held}
+use Rattle.bbm_rules.specs.HeldLaws.{HeldBySentence}
 use Rattle.bbm_rules.specs.Lists.{◌>>=◌, any, is_that}
 use Rattle.bbm_rules.specs.Notes.{Noted}
 use Rattle.bbm_rules.specs.Places.{page_of}
 use Rattle.bbm_rules.specs.Prelude.{Heading, Event, start_of}
-use Rattle.bbm_rules.specs.Roots.{Declared, root_pages}
-use Rattle.bbm_rules.specs.Tree.{Above, Node, held_at, next_in, next_of, node_below, node_of, nodes_of_root, tree}
+use Rattle.bbm_rules.specs.Roots.{Declared}
+use Rattle.bbm_rules.specs.Tree.{Above, Node, held_at, next_in, next_of, node_below, node_of, tree}
+use Rattle.bbm_rules.specs.TreeLaws.{PagesOfRoots, TreeBySentence}
 use Rattle.bbm_rules.specs.TreeSentences.{Down, IsNode}
 use Rattle.bbm_rules.specs.Values.{is_readable}
-use Rattle.bbm_tlb_machine.specs.declared.step.Step.{Step}
+use Rattle.bbm_histories.specs.PositionLaws.{SingleNode}
 use Rattle.bbm_tlb_machine.specs.Entry.{Entry, Part, desc_in, is_leaf, parts_of}
 use Rattle.bbm_tlb_machine.specs.Invariant.{Begins, Chained, Fine, Holding, Placed}
-use Rattle.bbm_tlb_machine.specs.MachineRun.{IsRun, Living, State}
-use Rattle.bbm_tlb_machine.specs.Safe.{IsLog, is_stale}
+use Rattle.bbm_tlb_machine.specs.MachineLaws.{EntriesAreFine, RunsAreFollowed}
+use Rattle.bbm_tlb_machine.specs.Safe.{is_stale}
 use Rattle.bbm_tlb_machine.specs.Step.{extended, may_extend}
 use Rattle.bbm_counterrun.specs.Plans.{Read}
 use Rattle.bbm_counterrun.specs.RefusedWrite.{holds_leaf, leaf_among, leaf_in}
 use Rattle.bbm_counterrun.specs.Tested.{extended_by, may_extend_by}
 use Rattle.bbm_counterrun.specs.Ways.{Goal, goal_at}
-use Rattle.bbm_counterrun.proofs.Following.{StepLaw}
 use Rattle.bbm_counterrun.proofs.LeastGoals.{CoreLaw, HaveGoals, means_same}
 
--- what the laws of the machine, of trees, of what is held and of cores say
+-- the laws of the machine, of trees, of what is held and of cores
 pub record WayLaws (heading : Heading) : Type 0 where
-  pub step : StepLaw
+  pub runs : RunsAreFollowed
+  pub fine : EntriesAreFine heading Patterns
   pub cores : CoreLaw
-  pub held_valid : (kind : Kind) (level place : ℕ) (h : List Noted) (value : ℕ)
-      → held heading Patterns kind level place h ≡ Some value → is_valid kind level value ≡ true
-  pub node_sound : (h : List Noted) (n : Node) → Contains (tree heading Patterns h) n → IsNode heading Patterns h n
-  pub tree_below : (h : List Noted) (n : Node) (place value next : ℕ) → Contains (tree heading Patterns h) n
-      → page_of place ≡ n.page → held_at heading Patterns h n place ≡ Some value → next_of n.kind n.level value ≡ Some next
-      → Contains (tree heading Patterns h) (node_below n place next)
-  pub root_nodes : (r : Declared) (n : Node) → Contains (nodes_of_root heading r) n
-      → (n.kind ≡ r.kind) × (n.level ≡ start_of heading.world r.kind) × (n.root ≡ r.page) × (n.above ≡ [])
-      × Contains (root_pages heading.world r.kind r.page) n.page
-  pub first_node : (h : List Event) → keeps heading Patterns h ≡ true → (n : Node)
-      → Contains (tree heading Patterns (noted heading Patterns h)) n
-      → node_of heading Patterns (noted heading Patterns h) n.page ≡ Some n
-  pub fine : (steps : List Step) (s : State) → IsLog heading s.log → keeps heading Patterns s.log ≡ true
-      → IsRun heading steps s → (l : Living) → Contains s.living l → Fine heading Patterns s.log l.entry
+  pub held : HeldBySentence heading Patterns
+  pub tree : TreeBySentence heading Patterns
+  pub root_pages : PagesOfRoots heading
+  pub one_node : SingleNode heading Patterns
 
 -- a part whose place is in the tree, and what that holds
 pub record IsOnWay (heading : Heading) (h : List Event) (part : Part) : Type 0 where
@@ -149,7 +141,7 @@ module _ (heading : Heading) (laws : WayLaws heading) (h : List Event) (kept : k
       let c : Contains (parts_of x) part = to_contains (parts_of x) part i in
       let p : Placed heading Patterns h x.root part = f.placed part c in
       let q : Holding heading Patterns h part = f.holding part c in
-      let valid : is_valid part.kind part.level q.value ≡ true = laws.held_valid part.kind part.level part.place notes q.value q.holds in
+      let valid : is_valid part.kind part.level q.value ≡ true = laws.held.valid part.kind part.level part.place notes q.value q.holds in
       record {
         node = p.node;
         in_tree = p.in_tree;
@@ -165,7 +157,7 @@ module _ (heading : Heading) (laws : WayLaws heading) (h : List Event) (kept : k
       }
 
   pub node_at : (part : Part) (w : IsOnWay heading h part) → node_of heading Patterns notes (page_of part.place) ≡ Some w.node
-  node_at part w = ap (node_of heading Patterns notes) w.page ∙ laws.first_node h kept w.node w.in_tree
+  node_at part w = ap (node_of heading Patterns notes) w.page ∙ laws.one_node.the_first h kept w.node w.in_tree
 
   goal_is : (part : Part) (w : IsOnWay heading h part)
       → goal_at heading h part.place ≡ Some (goal_of part.place part.kind part.level w.value)
@@ -204,12 +196,12 @@ module _ (heading : Heading) (laws : WayLaws heading) (h : List Event) (kept : k
   none_above_start n c e = by s.places s.down
     where
       s : IsNode heading Patterns notes n
-      s = laws.node_sound notes n c
+      s = laws.tree.sound notes n c
 
       by : (places : List ℕ) → Down heading Patterns notes s.start places n → n.above ≡ []
-      by [] d = sym (ap (λ (k : Node). k.above) d) ∙ (laws.root_nodes s.root s.start s.is_start).3
+      by [] d = sym (ap (λ (k : Node). k.above) d) ∙ (laws.root_pages.fields s.root s.start s.is_start).3
       by (place ∷ places) d =
-          let r = laws.root_nodes s.root s.start s.is_start in
+          let r = laws.root_pages.fields s.root s.start s.is_start in
           let down = down_from (place ∷ places) s.start n d in
           let deeper : n.level ≡ s.start.level + suc (length places) = down.1 in
           let level : n.level ≡ s.start.level = e ∙ ap (start_of heading.world) (down.0 ∙ r.0) ∙ sym r.1 in
@@ -221,7 +213,7 @@ module _ (heading : Heading) (laws : WayLaws heading) (h : List Event) (kept : k
   places_above root part [] begins c on one =
       let first : Declared = record { page = root; kind = part.kind; lock = None } in
       let level : one.node.level ≡ start_of heading.world one.node.kind
-      = one.level ∙ sym begins.2.level ∙ (laws.root_nodes first begins.0 begins.1).1 ∙ ap (start_of heading.world) (sym one.kind) in
+      = one.level ∙ sym begins.2.level ∙ (laws.root_pages.fields first begins.0 begins.1).1 ∙ ap (start_of heading.world) (sym one.kind) in
       ap (λ (bs : List Above). map (λ (b : Above). b.place) bs) (none_above_start one.node one.in_tree level)
   places_above root part (a ∷ above) begins c on one =
       let upper : IsOnWay heading h a = on a (inl refl) in
@@ -230,8 +222,8 @@ module _ (heading : Heading) (laws : WayLaws heading) (h : List Event) (kept : k
       ∙ ap (λ (l : ℕ). next_of a.kind l upper.value) upper.level ∙ ap next_in upper.means ∙ c.0.inside in
       let lower : Node = node_below upper.node a.place (page_of part.place) in
       let there : Contains (tree heading Patterns notes) lower
-      = laws.tree_below notes upper.node a.place upper.value (page_of part.place) upper.in_tree upper.page upper.holds table in
-      let same : one.node ≡ lower = same_some one.node lower (sym (node_at part one) ∙ laws.first_node h kept lower there) in
+      = laws.tree.below notes upper.node a.place upper.value (page_of part.place) upper.in_tree upper.page upper.holds table in
+      let same : one.node ≡ lower = same_some one.node lower (sym (node_at part one) ∙ laws.one_node.the_first h kept lower there) in
       ap (λ (n : Node). map (λ (b : Above). b.place) n.above) same
       ∙ ap (λ (ps : List ℕ). a.place ∷ ps) (places_above root a above begins c.1 (λ q i. on q (inr i)) upper)
 

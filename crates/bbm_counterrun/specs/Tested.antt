@@ -3,8 +3,8 @@
 -- combined, and combined from there on; and it conflicts with that event. `law_plain_is_tested` says so. A history is
 -- newest first.
 -- Source: project's own choice.
-use Rattle.std.specs.Prelude.{ℕ, ◌-◌, Bool, true, false, ◌&&◌, not, nat_le, nat_lt, List, [], ◌∷◌, length, drop, Option}
-use Rattle.std.specs.Prelude.{Some, None}
+use Rattle.std.specs.Prelude.{◌≡◌, ◌↔◌, ℕ, ◌-◌, Bool, true, false, ◌&&◌, not, nat_le, nat_lt, List, [], ◌∷◌, length}
+use Rattle.std.specs.Prelude.{drop, Option, Some, None}
 use Rattle.bbm_rules.specs.Lists.{◌>>=◌, any, if_so, some}
 use Rattle.bbm_rules.specs.Prelude.{Kind, Heading, Event, Dsb}
 use Rattle.bbm_rules.specs.Reach.{completes, unanswered}
@@ -12,7 +12,7 @@ use Rattle.bbm_rules.specs.Tags.{itself}
 use Rattle.bbm_tlb_machine.specs.Entry.{Entry}
 use Rattle.bbm_tlb_machine.specs.Safe.{conflicts_with}
 use Rattle.bbm_tlb_machine.specs.Step.{combined, extended, is_stage2, may_extend, may_start, must_go, started}
-use Rattle.bbm_counterrun.specs.Plans.{Plan, Read}
+use Rattle.bbm_counterrun.specs.Plans.{IsPlain, Plan, Read}
 
 -- the first so many events of a history
 abbrev pub first_events : ℕ → List Event → List Event
@@ -86,3 +86,7 @@ module _ (heading : Heading) where
   is_plain h e plan = is_within plan (length h) && may_walk (first_events plan.starts h) plan
       && outlives (walked_by plan) plan.starts plan.combines h
       && conflicts_with heading h e (combined_by plan.combines (walked_by plan))
+
+  -- the run of a plan is a plain conflict run exactly where the test passes
+  abbrev pub PlainIsTested : Type 0
+  PlainIsTested = (h : List Event) (e : Event) (plan : Plan) → IsPlain heading h e plan ↔ (is_plain h e plan ≡ true)

@@ -1,8 +1,8 @@
 //! Laws of conflict runs.
 
-ghost use Rattle.std.specs.Prelude.{◌≡◌, ◌↔◌, ℕ, true, List};
-ghost use Rattle.bbm_counterrun.specs.Plans.{EndsInConflict, IsConflictRun, IsPlain, Plan};
-ghost use Rattle.bbm_counterrun.specs.Tested.{is_plain};
+ghost use Rattle.std.specs.Prelude.{◌≡◌, ℕ, true, List};
+ghost use Rattle.bbm_counterrun.specs.Plans.{EndsInConflict, IsConflictRun};
+ghost use Rattle.bbm_counterrun.specs.Tested.{PlainIsTested};
 ghost use Rattle.bbm_events.specs.Heading.{Heading};
 ghost use Rattle.bbm_events.specs.declared.event.Event.{Event};
 ghost use Rattle.bbm_events.specs.declared.event.Event.TheVariants.{Write};
@@ -13,11 +13,10 @@ ghost use Rattle.bbm_tlb_machine.specs.declared.step.Step.{Step};
 
 use bbm_tlb_machine::{law_conflict, law_run, law_safe};
 
-/// The run of a plan is a plain conflict run at an event exactly where the test of the plan passes. The call does
-/// nothing; the law is its contract.
+/// The run of a plan is a plain conflict run at an event exactly where the test of the plan passes. The law
+/// is `PlainIsTested`.
 pub fn law_plain_is_tested()
-    ensures { (heading : Heading) (h : List Event) (e : Event) (plan : Plan) →
-        IsPlain heading h e plan ↔ (is_plain heading h e plan ≡ true) }
+    ensures { (heading : Heading) → PlainIsTested heading }
 {
     law_run();
 }

@@ -2,6 +2,8 @@
 use Rattle.std.proofs.Common.{◌≡◌, ◌≢◌, ℕ, Bool, true, false, not, ◌↔◌, Option, Some, None, is_some, refl, ap, sym, ◌∙◌}
 use Rattle.std.proofs.Common.{subst, arith}
 use Rattle.std.proofs.lemmas.Bool.Decides.{nat_tests}
+use Rattle.bbm_lemmas.proofs.Tautologies.{proved}
+use Rattle.bbm_lemmas.proofs.Tautologies.Claim.{If, Is, Never}
 use Rattle.bbm_regimes.specs.declared.regime.Kind.{Kind}
 use Rattle.bbm_descriptor.specs.declared.desc.Core.{Core}
 use Rattle.bbm_descriptor.specs.declared.desc.Core.TheVariants.{Table as CoreTable, Leaf as CoreLeaf}
@@ -55,7 +57,7 @@ some-eq : (c d : Core) → Some c ≡ Some d → c ≡ d
 some-eq c d h = cc
 
 not_true : (b : Bool) → not b ≡ true → b ≡ true → ⊥
-not_true b is_false is_true = cc
+not_true = proved 1 (λ b. If (Is (not b) true) (If (Is b true) Never)) refl
 
 -- two cores differ where both are there and they aren't equal
 pub differ-tells : (one other : Option Core) → (differ one other ≡ true) ↔ ((is_some one ≡ true) × (is_some other ≡ true) × (one ≢ other))

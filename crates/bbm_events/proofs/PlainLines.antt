@@ -275,5 +275,3 @@ header_plain h =
     let after = cnp_fields h.version h.cnp in
     joined_plain (codes "bbmlog" ∷ decimal h.version ∷ header_fields h.pes h.world after)
     (dec h.version (header_fields h.pes h.world after) (header_all_visible h.pes h.world after (cnp_all_visible h.version h.cnp)))
-
-pub ruleset plain_lines = (header_plain, header_short, item_plain, item_short)

@@ -7,6 +7,7 @@ use Rattle.std.specs.Fmt.{digits}
 use Rattle.std.proofs.lemmas.Slice.Eq.{bytes_eq-Decides}
 use Rattle.std.proofs.lemmas.Bool.{and_parts, ltb-true, leb-true, eqb-true}
 use Rattle.std.proofs.lemmas.Bool.Decides.{nat_tests}
+use Rattle.bbm_events.proofs.Readings.{both}
 use Rattle.bbm_regimes.specs.declared.regime.World.{World}
 use Rattle.bbm_regimes.specs.declared.regime.HypWorld.{HypWorld}
 use Rattle.bbm_regimes.specs.declared.regime.KernelWorld.{KernelWorld}
@@ -55,9 +56,6 @@ field_read absent unreadable read text rest e = ap (λ o. found unreadable o res
 
 pub passing_read : {A : Type 0} (test : A → Bool) (o : Option A) {n : A} → o ≡ Some n → test n ≡ true → passing test o ≡ Some n
 passing_read test o {n = n} e h = ap (λ o. passing test o) e ∙ ap (λ t. cond t (Some n) None) h
-
-both : {a b : Bool} → a ≡ true → b ≡ true → (a && b) ≡ true
-both p q = rw (p, q) refl
 
 -- what a heading's ranges say of its parts
 pub record Ranges (h : Heading) : Type 0 where

@@ -6,4 +6,5 @@ pub mod Label
 pub mod Lines
 pub mod Machine
 pub mod Spelling
+pub mod LineLaws
 pub mod Words

@@ -1,6 +1,6 @@
 //! What the grammar promises of each line.
 
-ghost use Rattle.std.specs.Prelude.{◌≡◌, ◌≤◌, ℕ, List, length, true, Ok, IfErr};
+ghost use Rattle.std.specs.Prelude.{◌≡◌, ℕ, List, true, Ok, IfErr};
 ghost use Rattle.bbm_events.specs.declared.event.Item.{Item};
 ghost use Rattle.bbm_events.specs.declared.machine.MachineLine.{MachineLine};
 ghost use Rattle.bbm_events.specs.declared.certificate.ClaimItem.{ClaimItem};
@@ -8,21 +8,19 @@ ghost use Rattle.bbm_events.specs.Certificate.{certificate_line, certificate_of,
 ghost use Rattle.bbm_events.specs.Machine.{machine_of, machine_fits, machine_line};
 ghost use Rattle.bbm_events.specs.Heading.{Heading, heading_ok};
 ghost use Rattle.bbm_events.specs.Causes.{IsHeaderCause, IsFieldCause, IsLineCause};
-ghost use Rattle.bbm_events.specs.Fits.{item_fits};
-ghost use Rattle.bbm_events.specs.Spelling.{is_plain};
+ghost use Rattle.bbm_events.specs.LineLaws.{HeadersAreInRange, ItemsFit, WrittenIsALine, WrittenIsRead};
 ghost use Rattle.bbm_events.specs.Lines.{header_of, item_of, header_line, item_line};
 
-/// Each header that a line spells has its numbers in their ranges.
+/// Each header that a line spells has its numbers in their ranges. The law is `HeadersAreInRange`.
 #[tactic(auto, using(crate::proofs::Readings::header_of_ok))]
 pub fn law_header_in_range()
-    ensures { (line : List ℕ) (heading : Heading) → header_of line ≡ Ok heading → heading_ok heading ≡ true }
+    ensures { HeadersAreInRange }
 {}
 
-/// Each item that a line spells fits the header under which the line is read.
+/// Each item that a line spells fits the header under which the line is read. The law is `ItemsFit`.
 #[tactic(auto, using(crate::proofs::Readings::item_of_fits))]
 pub fn law_item_fits()
-    ensures { (heading : Heading) (line : List ℕ) (item : Item) → item_of heading line ≡ Ok item
-        → item_fits heading item ≡ true }
+    ensures { ItemsFit }
 {}
 
 /// A line that spells no header has a cause of line 1.
@@ -37,24 +35,16 @@ pub fn law_item_causes()
     ensures { (heading : Heading) (line : List ℕ) → IfErr (item_of heading line) IsLineCause }
 {}
 
-/// A written header is read as the same header, and a written item that fits is read as the same item.
-#[tactic(auto, using(crate::proofs::Written::header_written_is_read, crate::proofs::Written::item_written_is_read))]
+/// A written header is read as the same header, and a written item that fits is read as the same item. The law is
+/// `WrittenIsRead`.
 pub fn law_written_is_read()
-    ensures header { (heading : Heading) → heading_ok heading ≡ true → header_of (header_line heading) ≡ Ok heading }
-    ensures item { (heading : Heading) (item : Item) → heading_ok heading ≡ true → item_fits heading item ≡ true
-        → item_of heading (item_line item) ≡ Ok item }
+    ensures { WrittenIsRead }
 {}
 
 /// A written header, and a written item that fits, is one line: no byte of it is a newline, byte 10, and it has at most
-/// 200 bytes.
-#[tactic(auto, using(crate::proofs::PlainLines::plain_lines))]
+/// 200 bytes. The law is `WrittenIsALine`.
 pub fn law_written_is_a_line()
-    ensures header_plain { (heading : Heading) → is_plain (header_line heading) ≡ true }
-    ensures header_short { (heading : Heading) → heading_ok heading ≡ true → length (header_line heading) ≤ 200 }
-    ensures item_plain { (heading : Heading) (item : Item) → item_fits heading item ≡ true → is_plain (item_line item)
-        ≡ true }
-    ensures item_short { (heading : Heading) (item : Item) → heading_ok heading ≡ true → item_fits heading item ≡ true
-        → length (item_line item) ≤ 200 }
+    ensures { WrittenIsALine }
 {}
 
 /// Each header and each item has one line: what a line is read as is written as that line.

@@ -67,69 +67,77 @@ const OTHER_PE: [&[u8]; 9] = [
     b"w 0 0x40000008 0xc0000701",
 ];
 
+const UNBROKEN: Judged = Judged::No {
+    position: 9,
+    rule: Rule::BreakBeforeMake,
+    at: 0x4000_0008,
+};
+
+// A log, claims, and what these make of it.
+const EL2: [(&[&[u8]], &[&[u8]], Judged); 11] = [
+    (
+        &MOVED,
+        &[b"c place 0 0x40000008 6 7 8", b"c place 1 0x40000008 6 7 8"],
+        Judged::Yes,
+    ),
+    // In another order.
+    (
+        &MOVED,
+        &[b"c place 1 0x40000008 6 7 8", b"c place 0 0x40000008 6 7 8"],
+        Judged::Yes,
+    ),
+    // No claim of PE 1.
+    (&MOVED, &[b"c place 0 0x40000008 6 7 8"], UNBROKEN),
+    // The publication before the clear, and no barrier that publishes.
+    (
+        &MOVED,
+        &[b"c place 0 0x40000008 6 7 8", b"c place 1 0x40000008 4 7 8"],
+        UNBROKEN,
+    ),
+    (
+        &MOVED,
+        &[b"c place 0 0x40000008 6 7 8", b"c place 1 0x40000008 5 7 8"],
+        UNBROKEN,
+    ),
+    // No TLBI, no answer, position 0, and one behind the log.
+    (
+        &MOVED,
+        &[b"c place 0 0x40000008 6 7 8", b"c place 1 0x40000008 6 6 8"],
+        UNBROKEN,
+    ),
+    (
+        &MOVED,
+        &[b"c place 0 0x40000008 6 7 8", b"c place 1 0x40000008 6 7 9"],
+        UNBROKEN,
+    ),
+    (
+        &MOVED,
+        &[b"c place 0 0x40000008 6 7 8", b"c place 1 0x40000008 0 7 8"],
+        UNBROKEN,
+    ),
+    (
+        &MOVED,
+        &[
+            b"c place 0 0x40000008 6 7 8",
+            b"c place 1 0x40000008 6 7 10",
+        ],
+        UNBROKEN,
+    ),
+    (
+        &EARLY,
+        &[b"c place 0 0x40000008 7 6 8", b"c place 1 0x40000008 7 6 8"],
+        UNBROKEN,
+    ),
+    (
+        &OTHER_PE,
+        &[b"c place 0 0x40000008 6 7 8", b"c place 1 0x40000008 6 7 8"],
+        UNBROKEN,
+    ),
+];
+
 #[test]
 fn places_of_el2(rt: HostRuntime) {
-    let rows: [(&[&[u8]], &[&[u8]], Judged); 11] = [
-        (
-            &MOVED,
-            &[b"c place 0 0x40000008 6 7 8", b"c place 1 0x40000008 6 7 8"],
-            Judged::Yes,
-        ),
-        // In another order.
-        (
-            &MOVED,
-            &[b"c place 1 0x40000008 6 7 8", b"c place 0 0x40000008 6 7 8"],
-            Judged::Yes,
-        ),
-        // No claim of PE 1.
-        (&MOVED, &[b"c place 0 0x40000008 6 7 8"], refused(9)),
-        // The publication before the clear, and no barrier that publishes.
-        (
-            &MOVED,
-            &[b"c place 0 0x40000008 6 7 8", b"c place 1 0x40000008 4 7 8"],
-            refused(9),
-        ),
-        (
-            &MOVED,
-            &[b"c place 0 0x40000008 6 7 8", b"c place 1 0x40000008 5 7 8"],
-            refused(9),
-        ),
-        // No TLBI, no answer, position 0, and one behind the log.
-        (
-            &MOVED,
-            &[b"c place 0 0x40000008 6 7 8", b"c place 1 0x40000008 6 6 8"],
-            refused(9),
-        ),
-        (
-            &MOVED,
-            &[b"c place 0 0x40000008 6 7 8", b"c place 1 0x40000008 6 7 9"],
-            refused(9),
-        ),
-        (
-            &MOVED,
-            &[b"c place 0 0x40000008 6 7 8", b"c place 1 0x40000008 0 7 8"],
-            refused(9),
-        ),
-        (
-            &MOVED,
-            &[
-                b"c place 0 0x40000008 6 7 8",
-                b"c place 1 0x40000008 6 7 10",
-            ],
-            refused(9),
-        ),
-        (
-            &EARLY,
-            &[b"c place 0 0x40000008 7 6 8", b"c place 1 0x40000008 7 6 8"],
-            refused(9),
-        ),
-        (
-            &OTHER_PE,
-            &[b"c place 0 0x40000008 6 7 8", b"c place 1 0x40000008 6 7 8"],
-            refused(9),
-        ),
-    ];
-    for (log, claims, expected) in rows {
+    for (log, claims, expected) in EL2 {
         assert!(rt; judged(rt.alloc(), log, claims) == Some(expected));
     }
 }

@@ -1,5 +1,5 @@
 -- A round takes away what it makes.
-use Rattle.std.proofs.Common.{◌≡◌, ℕ, suc, ◌<◌, Bool, true, false, ◌==◌, ◌&&◌, List, [], ◌∷◌, length, Some, None, refl}
+use Rattle.std.proofs.Common.{◌≡◌, ℕ, suc, ◌<◌, Bool, true, false, ◌==◌, List, [], ◌∷◌, length, Some, None, refl}
 use Rattle.std.proofs.Common.{sym, ap, ◌∙◌, subst, arith, if◌then◌else◌, true≢false}
 use Rattle.std.proofs.lemmas.Bool.{eq-eqb, eqb-true}
 use Rattle.std.specs.Result.{result_ok}
@@ -104,12 +104,12 @@ module _ (b : Below) where
   el2_at : (h : List Event) (place : ℕ) → Stands h → page_of place ≡ el2_root
       → node_of heading Patterns (notes h) (page_of place) ≡ Some el2_node
   el2_at h place s inside =
-      ap (λ (page : ℕ). node_of heading Patterns (notes h) page) inside ∙ b.first h s.kept el2_node s.el2
+      ap (λ (page : ℕ). node_of heading Patterns (notes h) page) inside ∙ b.one_node.the_first h s.kept el2_node s.el2
 
   s2_at : (h : List Event) (place : ℕ) → Stands h → page_of place ≡ s2_root
       → node_of heading Patterns (notes h) (page_of place) ≡ Some s2_node
   s2_at h place s inside =
-      ap (λ (page : ℕ). node_of heading Patterns (notes h) page) inside ∙ b.first h s.kept s2_node s.s2
+      ap (λ (page : ℕ). node_of heading Patterns (notes h) page) inside ∙ b.one_node.the_first h s.kept s2_node s.s2
 
   el2_lock : (h : List Event) → roots_of h ≡ declared → lock_of h el2_root ≡ None
   el2_lock h e = rw e refl
@@ -125,8 +125,10 @@ module _ (b : Below) where
       advance h (Write p place value) place refl (λ q a v e. cc)
       (unbroken h (Write p place value) (write_free (notes h) El2 el2_root p place value (record {
         node = el2_at h place m.stands inside;
-        lock = subst (λ (k : List Event). lock_of k el2_root ≡ None) (sym (b.events h)) (el2_lock h m.stands.roots);
-        null = subst (λ (k : List Event). is_null k (page_of place) ≡ false) (sym (b.events h)) (m.stands.nulls (page_of place));
+        lock = subst (λ (k : List Event). lock_of k el2_root ≡ None) (sym (b.notes_keep_the_events h))
+            (el2_lock h m.stands.roots);
+        null = subst (λ (k : List Event). is_null k (page_of place) ≡ false) (sym (b.notes_keep_the_events h))
+            (m.stands.nulls (page_of place));
         old = ap (λ (page : ℕ). is_fresh heading Patterns (notes h) page) inside ∙ m.stands.el2_old;
         lower = refl;
         leaf = no_table;
@@ -142,8 +144,10 @@ module _ (b : Below) where
       advance h (Write p place value) place refl (λ q a v e. cc)
       (unbroken h (Write p place value) (write_free (notes h) S2 s2_root p place value (record {
         node = s2_at h place m.stands inside;
-        lock = subst (λ (k : List Event). lock_of k s2_root ≡ None) (sym (b.events h)) (s2_lock h m.stands.roots);
-        null = subst (λ (k : List Event). is_null k (page_of place) ≡ false) (sym (b.events h)) (m.stands.nulls (page_of place));
+        lock = subst (λ (k : List Event). lock_of k s2_root ≡ None) (sym (b.notes_keep_the_events h))
+            (s2_lock h m.stands.roots);
+        null = subst (λ (k : List Event). is_null k (page_of place) ≡ false) (sym (b.notes_keep_the_events h))
+            (m.stands.nulls (page_of place));
         old = ap (λ (page : ℕ). is_fresh heading Patterns (notes h) page) inside ∙ m.stands.s2_old;
         lower = refl;
         leaf = no_table;
@@ -153,12 +157,12 @@ module _ (b : Below) where
 
   vmid_is : (h : List Event) (p : ℕ) → Stands h → p < 4
       → vmid_of heading (events_of (notes h)) p ≡ Some (tag_number (loaded p VttbrEl2))
-  vmid_is h p s lt = rw (b.events h, s.registers p VttbrEl2 lt) refl
+  vmid_is h p s lt = rw (b.notes_keep_the_events h, s.registers p VttbrEl2 lt) refl
 
   matches_noted : (h : List Event) → Stands h
       → vmid_matches (Some 1) (tag_set (tags_of heading Patterns s2_root (events_of (notes h)))) ≡ true
   matches_noted h s = subst (λ (k : List Event). vmid_matches (Some 1) (tag_set (tags_of heading Patterns s2_root k)) ≡ true)
-      (sym (b.events h)) (matches h s)
+      (sym (b.notes_keep_the_events h)) (matches h s)
 
   -- what holds nothing stays so
   el2_none_on : (h : List Event) (e : Event) (place : ℕ) → page_of place ≡ el2_root → ((q v : ℕ) → e ≡ Write q place v → ⊥)
@@ -166,7 +170,8 @@ module _ (b : Below) where
       → held_at heading Patterns (notes (e ∷ h)) el2_node place ≡ None
   el2_none_on h e place inside other s after none =
       stays_none El2 1 place e (held_at heading Patterns (notes h) el2_node place)
-      (held_at heading Patterns (notes (e ∷ h)) el2_node place) (b.changes h e after.kept el2_node place s.el2 inside) other none
+      (held_at heading Patterns (notes (e ∷ h)) el2_node place)
+      (b.held_changes.changes h e b.proper.some_pe after.kept el2_node place s.el2 inside) other none
 
 -- ---- covers
 

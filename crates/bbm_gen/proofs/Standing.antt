@@ -1,5 +1,5 @@
 -- What stands after the opening, and after each event of a round.
-use Rattle.std.proofs.Common.{◌≡◌, ℕ, zero, suc, ◌<◌, Bool, true, false, ◌==◌, ◌&&◌, inl, inr, List, [], ◌∷◌, ◌++◌}
+use Rattle.std.proofs.Common.{◌≡◌, ℕ, zero, suc, ◌<◌, Bool, true, false, ◌==◌, inl, inr, List, [], ◌∷◌, ◌++◌}
 use Rattle.std.proofs.Common.{Option, Some, None, take, flat_map, filter_map, refl, ap, ◌∙◌, subst, Contains, arith}
 use Rattle.std.proofs.Common.{if◌then◌else◌}
 use Rattle.bbm_regimes.specs.declared.regime.Kind.{Kind}
@@ -75,12 +75,16 @@ none_above above c = omega (arith, c.1)
 stays_in_tree : Below → (h : List Event) (e : Event) → of_round e ≡ true → keeps heading Patterns (e ∷ h) ≡ true
     → (n : Node) → n.above ≡ [] → Contains (tree heading Patterns (notes h)) n
     → Contains (tree heading Patterns (notes (e ∷ h))) n
-stays_in_tree b h (Write pe place value) is k n top inside = (b.step h (Write pe place value) k (λ q dsb e. cc) n).1 (inl inside)
-stays_in_tree b h (Dmb pe dsb) is k n top inside = (b.step h (Dmb pe dsb) k (λ q dsb' e. cc) n).1 inside
-stays_in_tree b h (Isb pe) is k n top inside = (b.step h (Isb pe) k (λ q dsb e. cc) n).1 inside
-stays_in_tree b h (Tlbi pe op xt) is k n top inside = (b.step h (Tlbi pe op xt) k (λ q dsb e. cc) n).1 inside
+stays_in_tree b h (Write pe place value) is k n top inside =
+    (b.tree_step.step h (Write pe place value) b.proper k (λ q dsb e. cc) n).1 (inl inside)
+stays_in_tree b h (Dmb pe dsb) is k n top inside = (b.tree_step.step h (Dmb pe dsb) b.proper k (λ q dsb' e. cc) n).1
+    inside
+stays_in_tree b h (Isb pe) is k n top inside = (b.tree_step.step h (Isb pe) b.proper k (λ q dsb e. cc) n).1 inside
+stays_in_tree b h (Tlbi pe op xt) is k n top inside =
+    (b.tree_step.step h (Tlbi pe op xt) b.proper k (λ q dsb e. cc) n).1 inside
 stays_in_tree b h (Dsb pe dsb) is k n top inside =
-    (b.dsb h pe dsb k n).1 (inside, λ above c. absurd (none_above above (subst (λ (xs : List Above). Contains xs above) top c)))
+    (b.tree_step.dsb h pe dsb k n).1
+    (inside, λ above c. absurd (none_above above (subst (λ (xs : List Above). Contains xs above) top c)))
 stays_in_tree b h (Init pe page) is k n top inside = cc
 stays_in_tree b h (Null pe page) is k n top inside = cc
 stays_in_tree b h (Root pe kind lock page) is k n top inside = cc
@@ -165,8 +169,8 @@ stands_on b h e is free s = record {
   kept = kept;
   el2 = el2;
   s2 = s2;
-  el2_old = not_old h e el2_root el2_node (b.first (e ∷ h) kept el2_node el2);
-  s2_old = not_old h e s2_root s2_node (b.first (e ∷ h) kept s2_node s2);
+  el2_old = not_old h e el2_root el2_node (b.one_node.the_first (e ∷ h) kept el2_node el2);
+  s2_old = not_old h e s2_root s2_node (b.one_node.the_first (e ∷ h) kept s2_node s2);
   roots = roots;
   nulls = λ page. same_nulls h e page is ∙ s.nulls page;
   registers = registers;
@@ -209,10 +213,12 @@ pub clear_on : Below → (h : List Event) (e : Event) (except : ℕ) → Stands 
 clear_on b h e except s after at c = record {
   el2 = λ place inside apart. stays_none El2 1 place e (held_at heading Patterns (notes h) el2_node place)
       (held_at heading Patterns (notes (e ∷ h)) el2_node place)
-      (b.changes h e after.kept el2_node place s.el2 inside) (λ q v w. apart (at q place v w)) (c.el2 place inside apart);
+      (b.held_changes.changes h e b.proper.some_pe after.kept el2_node place s.el2 inside)
+      (λ q v w. apart (at q place v w)) (c.el2 place inside apart);
   s2 = λ place inside apart. stays_none S2 1 place e (held_at heading Patterns (notes h) s2_node place)
       (held_at heading Patterns (notes (e ∷ h)) s2_node place)
-      (b.changes h e after.kept s2_node place s.s2 inside) (λ q v w. apart (at q place v w)) (c.s2 place inside apart);
+      (b.held_changes.changes h e b.proper.some_pe after.kept s2_node place s.s2 inside)
+      (λ q v w. apart (at q place v w)) (c.s2 place inside apart);
 }
 
 -- the stage 2 root holds VMID 1 alone, or nothing

@@ -1,8 +1,8 @@
 -- The generated logs, one for each number n. An EL2 root and a stage 2 root are declared and put into the registers of
 -- PE 0. Then come rounds of eight events: each makes a block and takes it away again, break and flush included, in turn
 -- in the EL2 tree and in the stage 2 tree. Source: project's own choice.
-use Rattle.std.specs.Prelude.{ℕ, zero, suc, ◌+◌, ◌-◌, ◌*◌, ◌/◌, ◌%◌, ◌^◌, List, [], ◌∷◌, None, false, ◌==◌, nat_lt}
-use Rattle.std.specs.Prelude.{if◌then◌else◌}
+use Rattle.std.specs.Prelude.{◌≡◌, ◌<◌, ℕ, zero, suc, ◌+◌, ◌-◌, ◌*◌, ◌/◌, ◌%◌, ◌^◌, List, [], ◌∷◌, None, true, false}
+use Rattle.std.specs.Prelude.{◌==◌, nat_lt, if◌then◌else◌}
 use Rattle.bbm_regimes.specs.declared.regime.HypWorld.{HypWorld}
 use Rattle.bbm_regimes.specs.declared.regime.World.TheVariants.{Hyp}
 use Rattle.bbm_regimes.specs.declared.regime.Kind.TheVariants.{El2, S2}
@@ -11,9 +11,13 @@ use Rattle.bbm_barriers.specs.declared.Dsb.{Dsb as Barrier}
 use Rattle.bbm_barriers.specs.declared.Domain.TheVariants.{Inner}
 use Rattle.bbm_barriers.specs.declared.Types.TheVariants.{All, Stores}
 use Rattle.bbm_tlbi_scope.specs.declared.op.TlbiOp.TheVariants.{Vae2is, Ipas2e1is, Vmalle1is}
+use Rattle.bbm_events.specs.Fits.{fits_heading}
 use Rattle.bbm_events.specs.Heading.{Heading}
 use Rattle.bbm_events.specs.declared.event.Event.{Event}
 use Rattle.bbm_events.specs.declared.event.Event.TheVariants.{Init, Root, Write, Dsb, Dmb, Isb, Tlbi, Msr}
+use Rattle.bbm_rules.specs.Broken.{broken, keeps}
+use Rattle.bbm_rules.specs.Claims.{Patterns}
+use Rattle.bbm_rules.specs.Limits.{limit_of}
 
 -- four PEs of version 1; walks of both kinds start at level 1, and a stage 2 root has one page
 abbrev pub small_world : HypWorld
@@ -104,3 +108,11 @@ event_at n i = if nat_lt i 7 then opening i else round_step n ((i - 7) / 8) ((i 
 abbrev pub log_of : ℕ → ℕ → List Event
 log_of n zero = []
 log_of n (suc i) = event_at n i ∷ log_of n i
+
+-- The first so many events of the log of a number keep the rules: each of them breaks none after those before it. Each
+-- fits the header, and none reaches a limit of pages, roots or register values.
+pub record GeneratedKeepsRules (n count : ℕ) : Type 0 where
+  pub kept : keeps heading Patterns (log_of n count) ≡ true
+  pub unbroken : (i : ℕ) → i < count → broken heading Patterns (log_of n i) (event_at n i) ≡ None
+  pub fits : (i : ℕ) → i < count → fits_heading heading (event_at n i) ≡ true
+  pub limits : (i : ℕ) → i < count → limit_of (log_of n i) (event_at n i) ≡ None

@@ -34,7 +34,7 @@ module _ (heading : Heading) (trust : Trust) (b : Below heading trust) (h : List
   unwritten : (q v : ℕ) → e ≡ Write q place v → ⊥
   unwritten q v is =
       let l = subst (λ (x : Event). Attaches heading trust h x n) is a in
-      let k = b.node_taken h (page_of place) l.parent l.is_parent in
+      let k = b.tree.taken h (page_of place) l.parent l.is_parent in
       not_fresh_there heading trust b h l.parent (page_of place) k.0 k.1 fresh
 
   no_init : (q : ℕ) → e ≡ Init q (page_of place) → ⊥
@@ -79,13 +79,13 @@ module _ (heading : Heading) (trust : Trust) (b : Below heading trust) (h : List
 
       by : (v : Bool) → is_valid n.kind n.level (value_of (e ∷ events_of h) place) ≡ v
           → held_at heading trust now n place ≡ cond v (Some (value_of (e ∷ events_of h) place)) None
-      by true v = b.held_live n.kind n.level place now pes v
+      by true v = b.held.live n.kind n.level place now pes v
       by false v = nothing (held_at heading trust now n place) refl v
 
   -- it is no barrier, so it publishes nothing
   unseen : (w : ValidWrite) (p : ℕ) → last_valid n.kind n.level place now ≡ Some w → seen heading place p w.since ≡ false
   unseen w p last =
-      let l : IsLastValid n.kind n.level place now w = b.last_sound n.kind n.level place now w last in
+      let l : IsLastValid n.kind n.level place now w = b.last_valid.sound n.kind n.level place now w last in
       by w.since refl l
     where
       quiet : (since : List Noted) → seen heading place p since ≡ false

@@ -1,14 +1,13 @@
 -- What the bases of readable register values are.
-use Rattle.std.proofs.Common.{◌≡◌, ℕ, ◌<◌, ◌⊎◌, Bool, true, false, not, ◌||◌, ◌==◌, List, [], ◌∷◌, Option, Some, refl}
-use Rattle.std.proofs.Common.{sym, ◌∙◌, ap, subst, inl, inr, true≢false}
+use Rattle.std.proofs.Common.{◌≡◌, ℕ, ◌<◌, true, false, not, ◌==◌, List, [], ◌∷◌, Option, Some}
+use Rattle.std.proofs.Common.{sym, ◌∙◌, subst, inl, inr, true≢false}
 use Rattle.bbm_events.specs.Heading.{Heading}
-use Rattle.bbm_rules.specs.Prelude.{Kind, Reg, Event, Root, Unroot, Null}
+use Rattle.bbm_rules.specs.Prelude.{Kind, Reg, Event, Root, Null}
 use Rattle.bbm_rules.specs.declared.rule.Rule.TheVariants.{PageInUse}
 use Rattle.bbm_rules.specs.Broken.{keeps}
 use Rattle.bbm_rules.specs.Claims.{Trust}
 use Rattle.bbm_rules.specs.Covers.{noted}
 use Rattle.bbm_rules.specs.Lists.{among}
-use Rattle.bbm_rules.specs.Notes.{events_of}
 use Rattle.bbm_rules.specs.Pages.{is_fresh, is_null}
 use Rattle.bbm_rules.specs.RegisterValues.{base_of, kind_of_reg, register_values}
 use Rattle.bbm_rules.specs.Roots.{is_root}
@@ -31,7 +30,7 @@ module _ (heading : Heading) (trust : Trust) (b : Below heading trust) where
       → keeps heading trust (Root pe kind lock page ∷ h) ≡ true → is_root h other page ≡ false
   new_root proper h pe page kind other lock kept = false_from_ne_true (is_root h other page) (λ k.
       let parts = last_kept heading trust b h (Root pe kind lock page) kept in
-      let r = b.root_of_kind h other page k in
+      let r = b.root.of_kind h other page k in
       root_not_fresh heading trust b proper h r.0 parts.0 r.1
       (subst (λ (x : ℕ). is_fresh heading trust (noted heading trust h) x ≡ true) (sym r.2)
       (planted_fresh heading trust b proper h pe kind lock page parts.1)))
@@ -52,7 +51,7 @@ module _ (heading : Heading) (trust : Trust) (b : Below heading trust) where
       → is_root h kind page ≡ true → ⊥
   null_unfresh proper h pe page kind kept root =
       let parts = last_kept heading trust b h (Null pe page) kept in
-      let r = b.root_of_kind h kind page root in
+      let r = b.root.of_kind h kind page root in
       root_not_fresh heading trust b proper h r.0 parts.0 r.1
       (subst (λ (x : ℕ). is_fresh heading trust (noted heading trust h) x ≡ true) (sym r.2)
       (not-false (is_fresh heading trust (noted heading trust h) page)

@@ -26,13 +26,13 @@ module _ (heading : Heading) (trust : Trust) (b : Below heading trust) (m : Node
   pub to_none : (h : List Noted) → is_childless heading trust h m value ≡ true
       → HoldsNone heading trust m.kind (suc m.level) next h
   to_none h k place inside =
-      let c : Childless heading trust h m value = b.childless_sound h m value k in
+      let c : Childless heading trust h m value = b.childless.sound h m value k in
       let both : Some next ≡ Some c.next = sym table ∙ c.table in
       let same : next ≡ c.next = cc in c.holds_none place (inside ∙ same)
 
   pub from_none : (h : List Noted) → HoldsNone heading trust m.kind (suc m.level) next h
       → is_childless heading trust h m value ≡ true
-  from_none h none = b.childless_complete h m value (record { next = next; table = table; holds_none = none })
+  from_none h none = b.childless.complete h m value (record { next = next; table = table; holds_none = none })
 
   -- a history where what was held in the page is held still, and nothing else
   as_before : (n : Noted) (h : List Noted) → ((place : ℕ) → page_of place ≡ next → held_below (n ∷ h) place ≡ held_below h place)

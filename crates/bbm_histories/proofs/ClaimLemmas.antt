@@ -1,6 +1,8 @@
 -- The step equations of cleansed, claim by claim.
-use Rattle.std.proofs.Common.{◌≡◌, ℕ, ◌&&◌, ◌||◌, Bool, true, false, ◌==◌, List, ◌∷◌, refl, sym, ◌∙◌, ap}
-use Rattle.std.proofs.Math.Bool.{and-false, and_comm, or-false}
+use Rattle.std.proofs.Common.{◌≡◌, ℕ, ◌&&◌, ◌||◌, Bool, false, ◌==◌, List, ◌∷◌, refl, sym, ◌∙◌, ap}
+use Rattle.std.proofs.Math.Bool.{or-false}
+use Rattle.bbm_lemmas.proofs.Tautologies.{proved}
+use Rattle.bbm_lemmas.proofs.Tautologies.Claim.{Is}
 use Rattle.bbm_tlbi_scope.specs.declared.entry.Cover.TheVariants.{Half, Second, Full}
 use Rattle.bbm_events.specs.Heading.{Heading}
 use Rattle.bbm_rules.specs.Prelude.{Barrier, Event, Dsb}
@@ -22,18 +24,12 @@ use Rattle.bbm_histories.proofs.StepLemmas.{answered_kinds, any_and, any_or, cle
 
 -- the tests of a claim, those that don't depend on what is searched first
 place_order : (r a b t e : Bool) → ((((r && a) && b) && t) && e) ≡ ((r && (a && e)) && (t && b))
-place_order false a b t e = refl
-place_order true false b t e = refl
-place_order true true b t e = and_comm (b && t) e ∙ ap (λ (x : Bool). e && x) (and_comm b t)
+place_order = proved 5 (λ r a b t e. Is ((((r && a) && b) && t) && e) ((r && (a && e)) && (t && b))) refl
 
 two_order : (r a b t1 d1 t2 e : Bool)
     → ((((((r && a) && b) && t1) && d1) && t2) && e) ≡ ((r && (a && e)) && (t2 && (d1 && (t1 && b))))
-two_order false a b t1 d1 t2 e = refl
-two_order true false b t1 d1 t2 e = refl
-two_order true true b t1 d1 t2 e =
-    and_comm (((b && t1) && d1) && t2) e
-    ∙ ap (λ (x : Bool). e && x) (and_comm ((b && t1) && d1) t2
-    ∙ ap (λ (x : Bool). t2 && x) (and_comm (b && t1) d1 ∙ ap (λ (x : Bool). d1 && x) (and_comm b t1)))
+two_order = proved 7 (λ r a b t1 d1 t2 e. Is ((((((r && a) && b) && t1) && d1) && t2) && e) ((r && (a && e)) && (t2 &&
+    (d1 && (t1 && b))))) refl
 
 -- ---- one place
 
@@ -81,9 +77,7 @@ module _ (heading : Heading) (place p : ℕ) where
       ∙ ap (λ (c : Bool). d == now && c) (answered_kinds Noted event_of q dsb (half_at heading place p b t) since))
     where
       swap : (a r c x : Bool) → (a && (r && (c && x))) ≡ (c && (a && (r && x)))
-      swap true true c x = refl
-      swap true false c x = sym (and-false c)
-      swap false r c x = sym (and-false c)
+      swap = proved 4 (λ a r c x. Is (a && (r && (c && x))) (c && (a && (r && x)))) refl
 
       one : (i : Issued Noted) (c k : Bool)
           → (completes dsb i.tlbi.event && flushes heading place p Half (seen_where heading place p (λ x. c && (k && b == x))) i)

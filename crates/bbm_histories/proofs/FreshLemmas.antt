@@ -2,6 +2,8 @@
 use Rattle.std.proofs.Common.{◌≡◌, ℕ, ◌%◌, ◌&&◌, ◌||◌, not, Bool, true, false, cond, ◌==◌, List, [], ◌∷◌, ◌++◌, Some}
 use Rattle.std.proofs.Common.{refl, sym, ◌∙◌, ap, subst, true≢false}
 use Rattle.std.proofs.lemmas.Bool.{and_parts, eq-eqb, eqb-true, not-true}
+use Rattle.bbm_lemmas.proofs.Tautologies.{proved}
+use Rattle.bbm_lemmas.proofs.Tautologies.Claim.{If, Is}
 use Rattle.bbm_regimes.specs.declared.regime.Kind.{Kind}
 use Rattle.bbm_descriptor.specs.Descriptor.{is_valid}
 use Rattle.bbm_events.specs.Heading.{Heading}
@@ -72,16 +74,12 @@ module _ (heading : Heading) (trust : Trust) where
       → is_fresh heading trust h (page_of at) ≡ true → value_of (events_of h) at % 2 ≡ 1 → value_of (events_of h) at ≡ value
   same_value h pe at value kept fresh odd =
       eqb-true (value_of (events_of h) at) value
-      (third (is_fresh heading trust h (page_of at)) (value_of (events_of h) at % 2 == 1) (value_of (events_of h) at == value)
+      (proved 3 (λ a b c. If (Is a true) (If (Is b true) (If (Is (a && b && not c) false) (Is c true)))) refl
+      (is_fresh heading trust h (page_of at)) (value_of (events_of h) at % 2 == 1) (value_of (events_of h)
+      at == value)
       fresh (eq-eqb (value_of (events_of h) at % 2) 1 odd)
       (if_none (is_fresh heading trust h (page_of at) && value_of (events_of h) at % 2 == 1
       && not (value_of (events_of h) at == value)) at (kept RewrittenFresh)))
-    where
-      third : (a b c : Bool) → a ≡ true → b ≡ true → (a && b && not c) ≡ false → c ≡ true
-      third true true true a b e = refl
-      third true true false a b e = absurd (true≢false e)
-      third true false c a b e = absurd (true≢false (sym b))
-      third false b c a k e = absurd (true≢false (sym a))
 
   kept_value : (h : List Noted) (e : Event) (place value : ℕ) → Unbroken heading trust h e
       → ((q : ℕ) → e ≡ Init q (page_of place) → ⊥) → is_fresh heading trust h (page_of place) ≡ true
@@ -135,14 +133,15 @@ module _ (heading : Heading) (trust : Trust) where
 
     pub content : (h : List Noted) → OddStays heading trust h → FreshContent heading trust h
     content h odd kind level place w fresh last =
-        let l : IsLastValid kind level place h w = b.last_sound kind level place h w last in
+        let l : IsLastValid kind level place h w = b.last_valid.sound kind level place h w last in
         let split : events_of h ≡ events_of w.since ++ Write l.pe place w.value ∷ events_of l.older =
         ap events_of l.split ∙ (events_append w.since (l.write ∷ l.older)
         ∙ ap (λ (x : Event). events_of w.since ++ x ∷ events_of l.older) l.wrote) in
         let present : value_of (events_of h) place ≡ w.value =
         odd l.pe place w.value (events_of w.since) (events_of l.older) fresh split
-        (no_init_of w.since (page_of place) l.no_init) (b.valid_is_odd kind level w.value l.valid) in
-        let live = b.live_is_last kind level place h (subst (λ (x : ℕ). is_valid kind level x ≡ true) (sym present) l.valid) in
+        (no_init_of w.since (page_of place) l.no_init) (b.last_valid.odd kind level w.value l.valid) in
+        let live = b.last_valid.live kind level place h
+        (subst (λ (x : ℕ). is_valid kind level x ≡ true) (sym present) l.valid) in
         let both : Some live.0 ≡ Some w = sym live.1 ∙ last in
         let same : live.0 ≡ w = cc in (
           present,
@@ -154,10 +153,10 @@ module _ (heading : Heading) (trust : Trust) where
     pub holds_last : (kind : Kind) (level place : ℕ) (h : List Noted) (value : ℕ) → held heading trust kind level place h ≡ Some value
         → (w : ValidWrite) × (last_valid kind level place h ≡ Some w) × (w.value ≡ value)
     holds_last kind level place h value e =
-        let k : Holds heading trust kind level place h value = b.held_sound kind level place h value e in
+        let k : Holds heading trust kind level place h value = b.held.sound kind level place h value e in
         let w : ValidWrite = record { value = value; since = k.since } in (
           w,
-          b.last_complete kind level place h w k.last_write,
+          b.last_valid.complete kind level place h w k.last_write,
           refl,
         )
 

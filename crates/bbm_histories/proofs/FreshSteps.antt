@@ -51,7 +51,7 @@ module _ (heading : Heading) (trust : Trust) (b : Below heading trust) (h : List
           → not (is_some o) ≡ true
       outside may None k = refl
       outside may (Some m) k =
-          let t = b.node_taken now page m k in
+          let t = b.tree.taken now page m k in
           absurd (was_outside page may (old m t.1 (added heading trust b h i.odd i.one e m kept t.0)))
 
       by : (c : Bool) → may_be_fresh e page (is_fresh heading trust h page) ≡ c → (c && not (in_tree heading trust now page)) ≡ c

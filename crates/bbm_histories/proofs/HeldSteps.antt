@@ -50,14 +50,14 @@ module _ (heading : Heading) (trust : Trust) (b : Below heading trust) (kind : K
   held_back n h value e = by k.since refl k.last_write.split
     where
       k : Holds heading trust kind level place (n ∷ h) value
-      k = b.held_sound kind level place (n ∷ h) value e
+      k = b.held.sound kind level place (n ∷ h) value e
 
       by : (newer : List Noted) → k.since ≡ newer → n ∷ h ≡ newer ++ k.last_write.write ∷ k.last_write.older
           → (held heading trust kind level place h ≡ Some value) ⊎ ((q : ℕ) × (n.event ≡ Write q place value))
       by [] is split =
           let first : n ≡ k.last_write.write = cc in
           inr (k.last_write.pe, ap (λ (x : Noted). x.event) first ∙ k.last_write.wrote)
-      by (m ∷ newer) is split = inl (b.held_complete kind level place h value (record {
+      by (m ∷ newer) is split = inl (b.held.complete kind level place h value (record {
         since = newer;
         last_write = record {
           pe = k.last_write.pe;
@@ -78,7 +78,8 @@ module _ (heading : Heading) (trust : Trust) (b : Below heading trust) (kind : K
   pub held_valid : (h : List Noted) (value : ℕ) → held heading trust kind level place h ≡ Some value
       → is_valid kind level value ≡ true
   held_valid h value e =
-      let k : Holds heading trust kind level place h value = b.held_sound kind level place h value e in k.last_write.valid
+      let k : Holds heading trust kind level place h value = b.held.sound kind level place h value e in
+      k.last_write.valid
 
   -- the event is no valid write of the place, no init of its page, and no DSB
   pub record Leaves (e : Event) : Type 0 where
@@ -89,8 +90,8 @@ module _ (heading : Heading) (trust : Trust) (b : Below heading trust) (kind : K
   pub held_on : (n : Noted) (h : List Noted) (value : ℕ) → Leaves n.event → held heading trust kind level place h ≡ Some value
       → held heading trust kind level place (n ∷ h) ≡ Some value
   held_on n h value leaves e =
-      let k : Holds heading trust kind level place h value = b.held_sound kind level place h value e in
-      b.held_complete kind level place (n ∷ h) value (record {
+      let k : Holds heading trust kind level place h value = b.held.sound kind level place h value e in
+      b.held.complete kind level place (n ∷ h) value (record {
         since = n ∷ k.since;
         last_write = record {
           pe = k.last_write.pe;
@@ -201,7 +202,8 @@ module _ (heading : Heading) (trust : Trust) (b : Below heading trust) (h : List
             value,
             ap (λ (y : ℕ). Write pe y value) same,
             v,
-            b.held_live n.kind n.level place (x ∷ h) pes (subst (λ (y : ℕ). is_valid n.kind n.level y ≡ true) (sym present) v)
+            b.held.live n.kind n.level place (x ∷ h) pes
+                (subst (λ (y : ℕ). is_valid n.kind n.level y ≡ true) (sym present) v)
                 ∙ ap Some present,
             λ old holds. same_core heading trust h n pe at value old kept
                 (ap (λ (y : ℕ). node_of heading trust h (page_of y)) same ∙ node)

@@ -22,8 +22,11 @@ module _ (heading : Heading) (trust : Trust) where
 
   pub last_kept : Below heading trust → (h : List Event) (e : Event) → keeps heading trust (e ∷ h) ≡ true
       → (keeps heading trust h ≡ true) × Unbroken (noted heading trust h) e
-  last_kept b h e k =
-      ((and_parts (keeps heading trust h) (is_none (broken heading trust h e)) k).0, b.unbroken (e ∷ h) [] h e k refl)
+  last_kept b h e k = (
+    (and_parts (keeps heading trust h) (is_none (broken heading trust h e)) k).0,
+    b.each_rule.sound (e ∷ h) [] h e k
+        refl,
+  )
 
   pub kept_before : (newer older : List Event) → keeps heading trust (newer ++ older) ≡ true → keeps heading trust older ≡ true
   kept_before [] older k = k

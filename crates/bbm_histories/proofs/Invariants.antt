@@ -24,7 +24,7 @@ module _ (heading : Heading) (trust : Trust) (b : Below heading trust) where
   -- no node before the first event
   pub none_at_start : (n : Node) → InTree heading trust [] n → ⊥
   none_at_start n t =
-      let k : IsNode heading trust [] n = b.tree_sound [] n t in
+      let k : IsNode heading trust [] n = b.tree.sound [] n t in
       let below = k.declared.1 in omega arith
 
   pub invariants : (h : List Event) → keeps heading trust h ≡ true → Invariants heading trust (noted heading trust h)

@@ -38,20 +38,21 @@ module _ (heading : Heading) (trust : Trust) (b : Below heading trust) (h : List
       let level : n.level ≡ suc l.parent.level + length l.places
       = through_level heading trust h l.places (node_below l.parent at l.next) n l.through in
       subst (λ (k : Kind). is_global (desc_of k n.level (value_of (events_of h) place)) ≡ false) (sym lower)
-      (b.attached_lower h (Write pe at value) (suc l.parent.level) (l.next ∷ [])
+      (b.global_user.attached h (Write pe at value) (suc l.parent.level) (l.next ∷ [])
       (subst (λ (k : Kind). attached_by heading trust h (Write pe at value) ≡ Some (attached_from heading trust h k (suc l.parent.level) (l.next ∷ []))) kind
       (write_attaches heading trust b h pe at value kept i.odd i.one l.parent l.next l.is_parent l.empty l.table)) (kept GlobalUser)
       l.next place l.places (end_at n.level n.page) (0, suc-le-suc zero-le, refl) (omega arith)
       (subst (λ (k : Kind). Leads heading trust h k (suc l.parent.level) l.next l.places (end_at n.level n.page)) kind
       (through_leads heading trust h l.places (node_below l.parent at l.next) n l.through)) inside)
   attached_value (Root pe kind lock page) n place kept below l lower inside =
-      let begin = b.root_node (record { page = page; kind = kind; lock = lock }) l.start l.is_start in
+      let begin = b.root_pages.fields (record { page = page; kind = kind; lock = lock }) l.start l.is_start in
       let same : n.kind ≡ kind = through_kind heading trust h l.places l.start n l.through ∙ begin.0 in
       let is_lower : kind ≡ Ttbr0 = sym same ∙ lower in
       let first : l.start.level ≡ start_of heading.world kind = begin.1 in
       let level : n.level ≡ l.start.level + length l.places = through_level heading trust h l.places l.start n l.through in
       subst (λ (k : Kind). is_global (desc_of k n.level (value_of (events_of h) place)) ≡ false) (sym lower)
-      (b.attached_lower h (Root pe kind lock page) (start_of heading.world kind) (root_pages heading.world kind page)
+      (b.global_user.attached h (Root pe kind lock page) (start_of heading.world kind)
+      (root_pages heading.world kind page)
       (ap (λ (k : Kind). Some (attached_from heading trust h k (start_of heading.world kind) (root_pages heading.world kind page))) is_lower)
       (kept GlobalUser) l.start.page place l.places (end_at n.level n.page) begin.4 (omega arith)
       (subst (λ (k : Kind). Leads heading trust h k (start_of heading.world kind) l.start.page l.places (end_at n.level n.page)) is_lower
@@ -65,7 +66,8 @@ module _ (heading : Heading) (trust : Trust) (b : Below heading trust) (h : List
       elim (added heading trust b h i.odd i.one e n kept t) [
         | inl old ↦ elim (held_back heading trust b n.kind n.level place (note heading trust h e) h value holds) [
           | inl held ↦ before n place value old lower inside held
-          | inr w ↦ b.written_lower h w.0 place value n (subst (λ (x : Event). Unbroken heading trust h x) w.1 kept GlobalUser)
+          | inr w ↦ b.global_user.written h w.0 place value n
+              (subst (λ (x : Event). Unbroken heading trust h x) w.1 kept GlobalUser)
               (node_is heading trust b h i.one n (page_of place) old (sym inside)) lower
         ]
         | inr a ↦ elim (held_back heading trust b n.kind n.level place (note heading trust h e) h value holds) [
@@ -82,12 +84,13 @@ module _ (heading : Heading) (trust : Trust) (b : Below heading trust) (h : List
       fresh a = subst (λ (x : ℕ). is_fresh heading trust h x ≡ true) (sym inside) (attached_fresh heading trust b h i.odd i.one e n a)
 
       level : InTree heading trust (note heading trust h e ∷ h) n → n.level < 4
-      level t = let k : IsNode heading trust (note heading trust h e ∷ h) n = b.tree_sound (note heading trust h e ∷ h) n t in k.level
+      level t = let k : IsNode heading trust (note heading trust h e ∷ h) n = b.tree.sound (note heading trust h e ∷ h)
+          n t in k.level
 
       unwritten : Attaches heading trust h e n → (q : ℕ) → e ≡ Write q place value → ⊥
       unwritten a q is =
           let l = subst (λ (x : Event). Attaches heading trust h x n) is a in
-          let k = b.node_taken h (page_of place) l.parent l.is_parent in
+          let k = b.tree.taken h (page_of place) l.parent l.is_parent in
           not_fresh_there heading trust b h l.parent (page_of place) k.0 k.1 (fresh a)
 
 module _ (heading : Heading) (trust : Trust) (b : Below heading trust) where

@@ -51,15 +51,15 @@ module _ (heading : Heading) (trust : Trust) (b : Below heading trust) (now h : 
       none : (p : Option Node) → node_of heading trust now page ≡ p
           → ((m : Node) → m.page ≡ page → InTree heading trust now m → ⊥) → p ≡ None
       none None k out = refl
-      none (Some m) k out = let t = b.node_taken now page m k in absurd (out m t.1 t.0)
+      none (Some m) k out = let t = b.tree.taken now page m k in absurd (out m t.1 t.0)
 
       tested : (m : Node) (c : Bool) → test m ≡ c → (p : Option Node) → node_of heading trust h page ≡ Some m
           → node_of heading trust now page ≡ p → p ≡ cond c (Some m) None
       tested m true c p k l =
-          let t = b.node_taken h page m k in
+          let t = b.tree.taken h page m k in
           sym l ∙ node_is heading trust b now one_now m page (on m t.1 t.0 c) t.1
       tested m false c p k l =
-          let t = b.node_taken h page m k in
+          let t = b.tree.taken h page m k in
           none p l (λ x in_page there. let old = back x in_page there in
           true≢false (sym old.1 ∙ (ap test (one x m old.0 t.0 (in_page ∙ sym t.1)) ∙ c)))
 

@@ -11,6 +11,7 @@ use Rattle.bbm_tlbi_scope.specs.declared.entry.Cover.TheVariants.{Half, Second, 
 use Rattle.bbm_rules.specs.Claims.{Trust}
 use Rattle.bbm_rules.specs.Cleansing.{seen}
 use Rattle.bbm_rules.specs.Held.{ValidWrite, last_valid}
+use Rattle.bbm_rules.specs.HeldLaws.{LastValidBySentence}
 use Rattle.bbm_rules.specs.Notes.{Noted}
 use Rattle.bbm_rules.specs.PatternSentences.{Answer, Cleansed, Flush, HalfBy, IsLastValid, OneStep, Publication}
 use Rattle.bbm_rules.specs.PatternSentences.{TwoSteps}
@@ -227,15 +228,15 @@ module _ (heading : Heading) (trust : Trust) (b : Below heading trust) where
       by : (c : Bool) → seen heading place p since ≡ c → c ≡ false
       by false s = refl
       by true s =
-          let k = b.seen_sound place p since s in
+          let k = b.seen.sound place p since s in
           absurd (none k.1.q k.1.value k.1.write (k.1.newer ++ k.0 ∷ k.1.between) k.1.older
           (write_in heading place p since k.0 k.1) k.1.wrote)
 
   pub seen_stays : (place p : ℕ) (newer since : List Noted) → seen heading place p since ≡ true
       → seen heading place p (newer ++ since) ≡ true
   seen_stays place p newer since s =
-      let k = b.seen_sound place p since s in
-      b.seen_complete place p (newer ++ since) (k.0, publication_stays heading place p newer since k.0 k.1)
+      let k = b.seen.sound place p since s in
+      b.seen.complete place p (newer ++ since) (k.0, publication_stays heading place p newer since k.0 k.1)
 
   -- the part of the events after it that came before some of them
   module _ (kind : Kind) (level place : ℕ) where
@@ -259,18 +260,11 @@ module _ (heading : Heading) (trust : Trust) (b : Below heading trust) where
         → last_valid kind level place h ≡ Some (record { value = value; since = since })
     last_one_before n h since value e =
         let w : ValidWrite = record { value = value; since = n ∷ since } in
-        b.last_complete kind level place h (record { value = value; since = since })
-        (last_before (n ∷ []) h value since w refl refl (b.last_sound kind level place (n ∷ h) w e))
+        b.last_valid.complete kind level place h (record { value = value; since = since })
+        (last_before (n ∷ []) h value since w refl refl (b.last_valid.sound kind level place (n ∷ h) w e))
 
--- the last valid write as a sentence, and back
-pub record LastLaws : Type 0 where
-  pub sound : (kind : Kind) (level place : ℕ) (h : List Noted) (w : ValidWrite)
-      → last_valid kind level place h ≡ Some w → IsLastValid kind level place h w
-  pub complete : (kind : Kind) (level place : ℕ) (h : List Noted) (w : ValidWrite)
-      → IsLastValid kind level place h w → last_valid kind level place h ≡ Some w
-
--- it stays where no event ends it
-pub last_on : LastLaws → (kind : Kind) (level place : ℕ) (newer h : List Noted) (w : ValidWrite) → Quiet kind level place newer
+-- the last valid write stays where no event ends it
+pub last_on : LastValidBySentence → (kind : Kind) (level place : ℕ) (newer h : List Noted) (w : ValidWrite) → Quiet kind level place newer
     → last_valid kind level place h ≡ Some w
     → last_valid kind level place (newer ++ h) ≡ Some (record { value = w.value; since = newer ++ w.since })
 last_on laws kind level place newer h w quiet e =
@@ -291,6 +285,3 @@ last_on laws kind level place newer h w quiet e =
         | inr a ↦ k.no_init q n a.0 before a.1 is
       ];
     })
-
-pub last_laws : (heading : Heading) (trust : Trust) → Below heading trust → LastLaws
-last_laws heading trust b = record { sound = b.last_sound; complete = b.last_complete }

@@ -2,8 +2,10 @@
 use Rattle.std.proofs.Common.{◌≡◌, ℕ, ◌<◌, ◌≤◌, ◌&&◌, ◌||◌, not, Bool, true, false, cond, ◌==◌, nat_le, List, [], ◌∷◌}
 use Rattle.std.proofs.Common.{length, Option, Some, None, filter, option_and_then, refl, sym, ◌∙◌, ap, subst}
 use Rattle.std.proofs.Common.{true≢false, arith}
-use Rattle.std.proofs.Math.Bool.{and-false, and-true, and_assoc, and_comm, or-false}
+use Rattle.std.proofs.Math.Bool.{and-false, and-true, or-false}
 use Rattle.std.proofs.lemmas.Bool.{eq-eqb, le-leb, leb-true}
+use Rattle.bbm_lemmas.proofs.Tautologies.{proved}
+use Rattle.bbm_lemmas.proofs.Tautologies.Claim.{Is}
 use Rattle.bbm_barriers.specs.Options.{answers}
 use Rattle.bbm_regimes.specs.declared.regime.Kind.{Kind}
 use Rattle.bbm_regimes.specs.declared.regime.Tag.{Tag}
@@ -74,19 +76,14 @@ left_kind dsb b (Tlbi pe op xt) test = by b (operation op).broadcast
     one false = refl
 
     other : (a c : Bool) → (not a && false) ≡ cond c false false
-    other a true = and-false (not a)
-    other a false = and-false (not a)
+    other = proved 2 (λ a c. Is (not a && false) (cond c false false)) refl
 
     by : (b x : Bool) → (not (answers dsb x) && (same_bool x b && test)) ≡ cond (answers dsb b) false (same_bool x b && test)
     by true true = one (answers dsb true)
     by false false = one (answers dsb false)
     by true false = other (answers dsb false) (answers dsb true)
     by false true = other (answers dsb true) (answers dsb false)
-left_kind dsb b e test = by (answers dsb b)
-  where
-    by : (c : Bool) → false ≡ cond c false false
-    by true = refl
-    by false = refl
+left_kind dsb b e test = proved 1 (λ c. Is false (cond c false false)) refl (answers dsb b)
 
 -- those that it completes, by kind
 completed_kind : (dsb : Barrier) (e : Event) (test : Bool) → (completes dsb e && test)
@@ -217,7 +214,8 @@ module _ (heading : Heading) (trust : Trust) (b : Below heading trust) (kind : K
       by true true c v =
           let present : value_of (n.event ∷ events_of h) place ≡ value
           = ap (λ (x : Event). value_of (x ∷ events_of h) place) change ∙ ap (λ (t : Bool). cond t value (value_of (events_of h) place)) c in
-          b.held_live kind level place (n ∷ h) pes (subst (λ (y : ℕ). is_valid kind level y ≡ true) (sym present) v) ∙ ap Some present
+          b.held.live kind level place (n ∷ h) pes (subst (λ (y : ℕ). is_valid kind level y ≡ true) (sym present) v)
+          ∙ ap Some present
       by true false c v = held_same heading trust b kind level place n h (record {
         no_write = λ q u is. let both : Write pe at value ≡ Write q place u = sym change ∙ is in
             let same : value ≡ u = cc in subst (λ (y : ℕ). is_valid kind level y ≡ false) same v;
@@ -319,15 +317,9 @@ module _ (heading : Heading) (p : ℕ) (tag : Tag) where
       ap (λ (c : Bool). (reaches heading t.tlbi p && takes_tag heading t.tlbi t.before tag)
       && not ((c && reads_for_some heading (e ∷ h) p tag) || read_since heading (length t.before) p tag h))
       (le-leb (length t.before) (length h) (omega arith))
-      ∙ by (reaches heading t.tlbi p && takes_tag heading t.tlbi t.before tag) (reads_for_some heading (e ∷ h) p tag)
+      ∙ proved 3 (λ a r s. Is (a && not ((true && r) || s)) ((a && not s) && not r)) refl (reaches heading t.tlbi p
+      && takes_tag heading t.tlbi t.before tag) (reads_for_some heading (e ∷ h) p tag)
       (read_since heading (length t.before) p tag h)
-    where
-      by : (a r s : Bool) → (a && not ((true && r) || s)) ≡ ((a && not s) && not r)
-      by false r s = refl
-      by true true true = refl
-      by true true false = refl
-      by true false true = refl
-      by true false false = refl
 
   -- the TLBI that the event is
   takes_now : (e : Event) (h : List Event) → takes heading p tag (e ∷ h) (record { tlbi = e; before = h })
@@ -353,8 +345,7 @@ module _ (heading : Heading) (p : ℕ) (tag : Tag) where
   waits_of_after pos q b _ h = waits_of pos q b h
 
   outwards : (k a t r : Bool) → (k && (a && (t && r))) ≡ ((k && (a && t)) && r)
-  outwards true a t r = sym (and_assoc a t r)
-  outwards false a t r = refl
+  outwards = proved 4 (λ k a t r. Is (k && (a && (t && r))) ((k && (a && t)) && r)) refl
 
   -- what waited before the event
   waited : (pos : ℕ → Bool) (q : ℕ) (b : Bool) (e : Event) (h : List Event) → waits itself q b (takes_of pos (e ∷ h)) h
@@ -370,28 +361,22 @@ module _ (heading : Heading) (p : ℕ) (tag : Tag) where
       → waits_after itself q b (takes_of pos (e ∷ h)) x e h
       ≡ (waits_of_after pos q b x h && not (reads_for_some heading (e ∷ h) p tag))
   tag_by pos q b (Tlbi pe op xt) e h same =
-      ap (λ (c : Bool). (pe == q && (is_tlbi b (Tlbi pe op xt) && (pos (length h) && c))) || waits itself q b (takes_of pos (e ∷ h)) h)
-      (takes_now e h ∙ ap (λ (y : Event). (reaches heading y p && takes_tag heading y h tag) && not (reads_for_some heading (e ∷ h) p tag)) same)
+      ap (λ (c : Bool). (pe == q && (is_tlbi b (Tlbi pe op xt) && (pos (length h) && c))) || waits itself q b
+      (takes_of pos (e ∷ h)) h)
+      (takes_now e h ∙ ap (λ (y : Event). (reaches heading y p && takes_tag heading y h tag) && not
+      (reads_for_some heading (e ∷ h) p tag)) same)
       ∙ (ap (λ (c : Bool). (pe == q && (is_tlbi b (Tlbi pe op xt) && (pos (length h)
-      && ((reaches heading (Tlbi pe op xt) p && takes_tag heading (Tlbi pe op xt) h tag) && not (reads_for_some heading (e ∷ h) p tag))))) || c)
+      && ((reaches heading (Tlbi pe op xt) p && takes_tag heading (Tlbi pe op xt) h tag) && not (reads_for_some heading
+      (e ∷ h) p tag))))) || c)
       (waited pos q b e h)
-      ∙ by (pe == q) (is_tlbi b (Tlbi pe op xt)) (pos (length h)) (reaches heading (Tlbi pe op xt) p && takes_tag heading (Tlbi pe op xt) h tag)
+      ∙ proved 6 (λ a k o s w c. Is ((a && (k && (o && (s && c)))) || (w && c)) (((a && (k && (o && s))) || w) && c))
+      refl (pe == q) (is_tlbi b (Tlbi pe op xt)) (pos (length h)) (reaches heading (Tlbi pe op xt) p
+      && takes_tag heading (Tlbi pe op xt) h tag)
       (waits_of pos q b h) (not (reads_for_some heading (e ∷ h) p tag)))
-    where
-      by : (a k o s w c : Bool) → ((a && (k && (o && (s && c)))) || (w && c)) ≡ (((a && (k && (o && s))) || w) && c)
-      by a k o s w true =
-          ap (λ (x : Bool). (a && (k && (o && x))) || (w && true)) (and-true s)
-          ∙ (ap (λ (x : Bool). (a && (k && (o && s))) || x) (and-true w) ∙ sym (and-true ((a && (k && (o && s))) || w)))
-      by a k o s w false =
-          ap (λ (x : Bool). (a && x) || (w && false)) (outwards k o s false ∙ and-false (k && (o && s)))
-          ∙ (ap (λ (x : Bool). x || (w && false)) (and-false a) ∙ (and-false w ∙ sym (and-false ((a && (k && (o && s))) || w))))
   tag_by pos q b (Dsb pe dsb) e h same =
       ap (λ (c : Bool). cond (pe == q && answers dsb b) false c) (waited pos q b e h)
-      ∙ by (pe == q && answers dsb b) (waits_of pos q b h) (not (reads_for_some heading (e ∷ h) p tag))
-    where
-      by : (c w r : Bool) → cond c false (w && r) ≡ (cond c false w && r)
-      by true w r = refl
-      by false w r = refl
+      ∙ proved 3 (λ c w r. Is (cond c false (w && r)) (cond c false w && r)) refl (pe == q && answers dsb b)
+      (waits_of pos q b h) (not (reads_for_some heading (e ∷ h) p tag))
   tag_by pos q b x e h same = waited pos q b e h
 
   pub waits_of_step : (pos : ℕ → Bool) (q : ℕ) (b : Bool) (e : Event) (h : List Event) → waits_of pos q b (e ∷ h)
@@ -422,17 +407,16 @@ module _ (heading : Heading) (p : ℕ) (tag : Tag) where
   lost_of pos q dsb h =
       same_unanswered q (λ t. is_taken q dsb h t && pos (length t.before))
       (λ t. (completes dsb t.tlbi && takes_of pos h t) && not (reads_for_some heading (Dsb q dsb ∷ h) p tag)) h
-      (λ t less. by (completes dsb t.tlbi) (reaches heading t.tlbi p) (takes_tag heading t.tlbi t.before tag)
+      (λ t less. proved 5 (λ a b c d o. Is ((((a && b) && c) && d) && o) (a && (o && ((b && c) && d)))) refl
+      (completes dsb t.tlbi) (reaches heading t.tlbi p) (takes_tag heading t.tlbi t.before tag)
       (not (read_since heading (length t.before) p tag (Dsb q dsb ∷ h))) (pos (length t.before))
       ∙ (ap (λ (c : Bool). completes dsb t.tlbi && (pos (length t.before) && c)) (takes_on (Dsb q dsb) h t less)
-      ∙ outwards (completes dsb t.tlbi) (pos (length t.before)) (takes heading p tag h t) (not (reads_for_some heading (Dsb q dsb ∷ h) p tag))))
-      ∙ (any_both (λ t. completes dsb t.tlbi && takes_of pos h t) (not (reads_for_some heading (Dsb q dsb ∷ h) p tag)) (unanswered itself q h)
+      ∙ outwards (completes dsb t.tlbi) (pos (length t.before)) (takes heading p tag h t) (not (reads_for_some heading
+      (Dsb q dsb ∷ h) p tag))))
+      ∙ (any_both (λ t. completes dsb t.tlbi && takes_of pos h t) (not (reads_for_some heading (Dsb q dsb ∷ h) p tag))
+      (unanswered itself q h)
       ∙ ap (λ (c : Bool). c && not (reads_for_some heading (Dsb q dsb ∷ h) p tag))
       (answered_kinds Event itself q dsb (takes_of pos h) h))
-    where
-      by : (a b c d o : Bool) → ((((a && b) && c) && d) && o) ≡ (a && (o && ((b && c) && d)))
-      by true b c d o = and_comm ((b && c) && d) o
-      by false b c d o = refl
 
   pub tag_lost : (q : ℕ) (dsb : Barrier) (h : List Event) → loses heading Patterns p tag (Dsb q dsb) h
       ≡ (answered_by dsb (λ b. tag_waits heading p tag q b h) && not (reads_for_some heading (Dsb q dsb ∷ h) p tag))

@@ -1,6 +1,8 @@
 -- The tags that a DSB takes away, claim by claim.
-use Rattle.std.proofs.Common.{◌≡◌, ℕ, suc, length, ◌&&◌, not, Bool, true, false, ◌==◌, List, ◌∷◌, refl, sym, ◌∙◌, ap}
-use Rattle.std.proofs.Math.Bool.{and_assoc, and_comm}
+use Rattle.std.proofs.Common.{◌≡◌, ℕ, suc, length, ◌&&◌, not, Bool, ◌==◌, List, ◌∷◌, refl, sym, ◌∙◌, ap}
+use Rattle.std.proofs.Math.Bool.{and_assoc}
+use Rattle.bbm_lemmas.proofs.Tautologies.{proved}
+use Rattle.bbm_lemmas.proofs.Tautologies.Claim.{Is}
 use Rattle.bbm_events.specs.Heading.{Heading}
 use Rattle.bbm_rules.specs.Prelude.{Barrier, Tag, Event, Dsb, Tlbi}
 use Rattle.bbm_events.specs.declared.claim.Claim.{Claim}
@@ -16,9 +18,7 @@ use Rattle.bbm_histories.proofs.Searches.{Search, apart_from, each_test, search_
 use Rattle.bbm_histories.proofs.StepLemmas.{any_both, is_taken, lost_of, same_test, waits_of_after, waits_of_step}
 
 taken_order : (r g t e : Bool) → (((r && g) && t) && e) ≡ ((r && (g && e)) && t)
-taken_order false g t e = refl
-taken_order true false t e = refl
-taken_order true true t e = and_comm t e
+taken_order = proved 4 (λ r g t e. Is (((r && g) && t) && e) ((r && (g && e)) && t)) refl
 
 module _ (heading : Heading) (p : ℕ) (tag : Tag) where
   one_position : (t q : ℕ) (b : Bool) (e : Event) (h : List Event)

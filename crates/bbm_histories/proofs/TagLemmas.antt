@@ -1,9 +1,10 @@
 -- When tags are readable, and which root holds them.
-use Rattle.std.proofs.Common.{◌≡◌, ℕ, zero, suc, ◌<◌, ◌⊎◌, ◌&&◌, ◌||◌, not, Bool, true, false, cond, ◌==◌, List, []}
+use Rattle.std.proofs.Common.{◌≡◌, ℕ, ◌<◌, ◌⊎◌, ◌&&◌, ◌||◌, not, Bool, true, false, cond, ◌==◌, List, []}
 use Rattle.std.proofs.Common.{◌∷◌, ◌++◌, Option, Some, None, option_and_then, take, Contains, refl, sym, ◌∙◌, ap, subst}
-use Rattle.std.proofs.Common.{inl, inr, true≢false, arith}
+use Rattle.std.proofs.Common.{inl, inr, true≢false}
 use Rattle.std.proofs.lemmas.List.{append_assoc}
 use Rattle.std.proofs.lemmas.Bool.{and_parts, eq-eqb, eqb-true, not-false, or_cases, or_left, or_right}
+use Rattle.bbm_lemmas.proofs.Words.{pe_finds, pe_found}
 use Rattle.bbm_events.specs.Heading.{Heading}
 use Rattle.bbm_rules.specs.Prelude.{AsidFrom, FromTtbr0, FromTtbr1, Kind, Reg, Ttbr0El2, VttbrEl2, Ttbr0El1, Ttbr1El1}
 use Rattle.bbm_rules.specs.Prelude.{Tag, El2Tag, Vmid, Asid, Ttbr1Tag, World, Hyp, Kernel, Event, Init, Null, Root}
@@ -12,7 +13,7 @@ use Rattle.bbm_rules.specs.declared.rule.Rule.TheVariants.{NoRoot, PageInUse, Ro
 use Rattle.bbm_rules.specs.Broken.{keeps}
 use Rattle.bbm_rules.specs.Claims.{Trust}
 use Rattle.bbm_rules.specs.Covers.{note, noted}
-use Rattle.bbm_rules.specs.Lists.{among, if_so, some_pe}
+use Rattle.bbm_rules.specs.Lists.{among, if_so}
 use Rattle.bbm_rules.specs.Notes.{Noted, events_of}
 use Rattle.bbm_rules.specs.Pages.{is_fresh, is_null, may_be_fresh}
 use Rattle.bbm_rules.specs.Reach.{Issued}
@@ -32,23 +33,6 @@ use Rattle.bbm_histories.proofs.RootLemmas.{declared_back, declared_on}
 use Rattle.bbm_histories.proofs.TreeSteps.{not_fresh_there, start_in_tree}
 
 -- ---- PEs
-
-pe_found : (n : ℕ) (test : ℕ → Bool) → some_pe n test ≡ true → (p : ℕ) × (p < n) × (test p ≡ true)
-pe_found zero test e = absurd (true≢false (sym e))
-pe_found (suc n) test e =
-    elim (or_cases (test n) (some_pe n test) e) [
-      | inl here ↦ (n, omega arith, here)
-      | inr there ↦ let k = pe_found n test there in let below = k.1 in (k.0, omega arith, k.2)
-    ]
-
-pe_finds : (n : ℕ) (test : ℕ → Bool) (p : ℕ) → p < n → test p ≡ true → some_pe n test ≡ true
-pe_finds zero test p less e = absurd (omega arith)
-pe_finds (suc n) test p less e = by (p == n) refl (λ lower. pe_finds n test p lower e)
-  where
-    by : (c : Bool) → (p == n) ≡ c → (p < n → some_pe n test ≡ true) → (test n || some_pe n test) ≡ true
-    by true c rest = or_left (test n) (some_pe n test) (ap test (sym (eqb-true p n c)) ∙ e)
-    by false c rest =
-        let apart : p ≡ n → ⊥ = λ k. true≢false (sym (eq-eqb p n k) ∙ c) in or_right (test n) (some_pe n test) (rest (omega arith))
 
 -- ---- the values of registers
 
@@ -155,31 +139,33 @@ module _ (heading : Heading) (trust : Trust) (b : Below heading trust) where
 
   -- a property of a history is one of the events of its notes
   pub noted_too : (P : List Event → Type 0) (h : List Event) → P h → P (events_of (noted heading trust h))
-  noted_too P h k = subst P (sym (b.events_noted h)) k
+  noted_too P h k = subst P (sym (b.notes_keep_the_events h)) k
 
   of_world : (h : List Event) (r : Declared) → keeps heading trust h ≡ true → IsDeclared h r → kind_in_world heading.world r.kind ≡ true
   of_world h r kept d =
       not-false (kind_in_world heading.world r.kind)
       (if_none (not (kind_in_world heading.world r.kind)) 0
-      (b.unbroken h d.newer d.older (Root d.pe r.kind r.lock r.page) kept d.split WrongWorld))
+      (b.each_rule.sound h d.newer d.older (Root d.pe r.kind r.lock r.page) kept d.split WrongWorld))
 
   -- the first page of a declared root is in a tree, so it isn't fresh
   pub root_not_fresh : Proper heading → (h : List Event) (r : Declared) → keeps heading trust h ≡ true → IsDeclared h r
       → is_fresh heading trust (noted heading trust h) r.page ≡ true → ⊥
   root_not_fresh proper h r kept d fresh =
-      let m = b.page_node r r.page (b.first_page r.kind r.page (of_world h r kept d) (proper.some_page r.kind)) in
-      let fields = b.root_node r m.0 m.1 in
+      let m = b.root_pages.each r r.page
+      (b.root_pages.named r.kind r.page (of_world h r kept d) (proper.some_page r.kind)) in
+      let fields = b.root_pages.fields r m.0 m.1 in
       not_fresh_there heading trust b (noted heading trust h) m.0 r.page
       (start_in_tree heading trust b (noted heading trust h) r m.0
-      (noted_too (λ (es : List Event). Contains (roots_of es) r) h (b.root_complete h r d)) m.1
+      (noted_too (λ (es : List Event). Contains (roots_of es) r) h (b.root.complete h r d)) m.1
       (subst (λ (x : ℕ). x < 4) (sym fields.1) (proper.start r.kind))) m.2 fresh
 
   -- the first page that a `root` names is fresh
   pub planted_fresh : Proper heading → (h : List Event) (pe : ℕ) (kind : Kind) (lock : Option ℕ) (page : ℕ)
       → Unbroken heading trust (noted heading trust h) (Root pe kind lock page) → is_fresh heading trust (noted heading trust h) page ≡ true
   planted_fresh proper h pe kind lock page kept =
-      b.rooted_fresh (noted heading trust h) pe kind lock page page (kept PageInUse)
-      (b.first_page kind page (not-false (kind_in_world heading.world kind) (if_none (not (kind_in_world heading.world kind)) 0 (kept WrongWorld)))
+      b.attaching.rooted (noted heading trust h) pe kind lock page page (kept PageInUse)
+      (b.root_pages.named kind page (not-false (kind_in_world heading.world kind)
+      (if_none (not (kind_in_world heading.world kind)) 0 (kept WrongWorld)))
       (proper.some_page kind))
 
   -- a declared root stays, unless the event retires it
@@ -187,22 +173,22 @@ module _ (heading : Heading) (trust : Trust) (b : Below heading trust) where
       → Unbroken heading trust (noted heading trust h) e → ((q : ℕ) → e ≡ Unroot q root → ⊥) → is_root h kind root ≡ true
       → is_root (e ∷ h) kind root ≡ true
   root_on proper h e kind root kept rule no_unroot k =
-      let r = b.root_of_kind h kind root k in
+      let r = b.root.of_kind h kind root k in
       let d : IsDeclared (e ∷ h) r.0 = declared_on e h r.0 r.1
       (λ q c l is. root_not_fresh proper h r.0 kept r.1
       (planted_fresh proper h q c l r.0.page (subst (λ (x : Event). Unbroken heading trust (noted heading trust h) x) is rule)))
       (λ q is. no_unroot q (is ∙ ap (Unroot q) r.2)) in
       subst (λ (x : ℕ). is_root (e ∷ h) kind x ≡ true) r.2
-      (subst (λ (x : Kind). is_root (e ∷ h) x r.0.page ≡ true) r.3 (b.is_root_of_kind (e ∷ h) r.0 d))
+      (subst (λ (x : Kind). is_root (e ∷ h) x r.0.page ≡ true) r.3 (b.root.is_of_kind (e ∷ h) r.0 d))
 
   -- a root that is no new one was there before
   pub root_back : (h : List Event) (e : Event) (kind : Kind) (root : ℕ) → is_root (e ∷ h) kind root ≡ true
       → (is_root h kind root ≡ true) ⊎ ((q : ℕ) × (lock : Option ℕ) × (e ≡ Root q kind lock root))
   root_back h e kind root k =
-      let r = b.root_of_kind (e ∷ h) kind root k in
+      let r = b.root.of_kind (e ∷ h) kind root k in
       elim (declared_back e h r.0 r.1) [
         | inl old ↦ inl (subst (λ (x : ℕ). is_root h kind x ≡ true) r.2
-            (subst (λ (x : Kind). is_root h x r.0.page ≡ true) r.3 (b.is_root_of_kind h r.0 old)))
+            (subst (λ (x : Kind). is_root h x r.0.page ≡ true) r.3 (b.root.is_of_kind h r.0 old)))
         | inr new ↦ inr (
           new.0,
           r.0.lock,
@@ -217,7 +203,7 @@ module _ (heading : Heading) (trust : Trust) (b : Below heading trust) where
   unroot_misses h e p reg value base rule is_pe readable names q is =
       let kept : Unbroken heading trust (noted heading trust h) (Unroot q base)
       = subst (λ (x : Event). Unbroken heading trust (noted heading trust h) x) is rule in
-      b.no_base (noted heading trust h) q base p reg value (kept RootInUse) (kept NoRoot) is_pe
+      b.tag_rules.no_base (noted heading trust h) q base p reg value (kept RootInUse) (kept NoRoot) is_pe
       (noted_too (λ (es : List Event). among value (register_values es p reg) ≡ true) h readable) names
 
   -- ---- what registers name
@@ -261,9 +247,9 @@ module _ (heading : Heading) (trust : Trust) (b : Below heading trust) where
             | inr old ↦ before reg value base old names
             | inl new ↦
                 let parts = and_parts (pe == p) (same_reg r reg) c in
-                let same : r ≡ reg = (b.reg_equal r reg).0 parts.1 in
+                let same : r ≡ reg = (b.equality_tests.registers r reg).0 parts.1 in
                 subst (λ (x : Reg). Named h p x base) same
-                (subst (λ (es : List Event). Named es p r base) (b.events_noted h)
+                (subst (λ (es : List Event). Named es p r base) (b.notes_keep_the_events h)
                 (named_by_write h pe r v base rule (ap base_of (eqb-true v value new) ∙ names)))
           ]
   named_step proper h (Isb pe) kept rule p is_pe before reg value base readable names =
@@ -338,16 +324,17 @@ module _ (heading : Heading) (trust : Trust) (b : Below heading trust) where
       → among value (register_values h p reg) ≡ true) → (root : ℕ) (tag : Tag) → reads heading (e ∷ h) p tag root ≡ true
       → reads heading h p tag root ≡ true
   reads_back proper h e kept rule p is_pe values root tag k =
-      b.reads_complete h p tag root (reads_on heading.world (e ∷ h) h p root
-      (names_back proper h e kept rule p is_pe values root) (values Ttbr1El1) tag (b.reads_sound (e ∷ h) p tag root k))
+      b.readable_tag.complete h p tag root (reads_on heading.world (e ∷ h) h p root
+      (names_back proper h e kept rule p is_pe values root) (values Ttbr1El1) tag
+      (b.readable_tag.sound (e ∷ h) p tag root k))
 
   reads_after : Proper heading → (h : List Event) (e : Event) → keeps heading trust h ≡ true → Unbroken heading trust (noted heading trust h) e
       → (p : ℕ) → p < heading.pes → ((reg : Reg) (value : ℕ) → among value (register_values h p reg) ≡ true
       → among value (register_values (e ∷ h) p reg) ≡ true) → (root : ℕ) (tag : Tag) → reads heading h p tag root ≡ true
       → reads heading (e ∷ h) p tag root ≡ true
   reads_after proper h e kept rule p is_pe values root tag k =
-      b.reads_complete (e ∷ h) p tag root (reads_on heading.world h (e ∷ h) p root
-      (names_on proper h e kept rule p is_pe values root) (values Ttbr1El1) tag (b.reads_sound h p tag root k))
+      b.readable_tag.complete (e ∷ h) p tag root (reads_on heading.world h (e ∷ h) p root
+      (names_on proper h e kept rule p is_pe values root) (values Ttbr1El1) tag (b.readable_tag.sound h p tag root k))
 
   -- whether the event is a register write of p, an ISB of it, or neither
   data Kinds (p : ℕ) (e : Event) : Type 0 where
@@ -420,7 +407,7 @@ module _ (heading : Heading) (trust : Trust) (b : Below heading trust) where
   held_by_root proper (e ∷ h) kept p root tag is_pe k =
       let parts = last_kept heading trust b h e kept in
       elim (or_cases (reads heading (e ∷ h) p tag root) (holds_at heading trust p root tag h && not (loses heading trust p tag e h)) k) [
-        | inl read ↦ reads_declared heading.world (e ∷ h) p root tag (b.reads_sound (e ∷ h) p tag root read)
+        | inl read ↦ reads_declared heading.world (e ∷ h) p root tag (b.readable_tag.sound (e ∷ h) p tag root read)
         | inr held ↦
             let before : holds_at heading trust p root tag h ≡ true
             = (and_parts (holds_at heading trust p root tag h) (not (loses heading trust p tag e h)) held).0 in
@@ -435,7 +422,7 @@ module _ (heading : Heading) (trust : Trust) (b : Below heading trust) where
           = subst (λ (x : Event). Unbroken heading trust (noted heading trust h) x) is rule in
           true≢false (sym (noted_too (λ (es : List Event). holds_tag heading trust root tag es ≡ true) h
           (pe_finds heading.pes (λ p. holds_at heading trust p root tag h) p is_pe before))
-          ∙ b.no_tag (noted heading trust h) q root tag (kept RootInUse) (kept NoRoot))
+          ∙ b.tag_rules.no_tag (noted heading trust h) q root tag (kept RootInUse) (kept NoRoot))
 
   pub holder_is_root : Proper heading → (h : List Event) → keeps heading trust h ≡ true → (root : ℕ) (tag : Tag)
       → holds_tag heading trust root tag h ≡ true → is_root h (kind_of_tag tag) root ≡ true
@@ -446,7 +433,7 @@ module _ (heading : Heading) (trust : Trust) (b : Below heading trust) where
   -- a root holds what is readable for it
   reads_hold : (h : List Event) (p root : ℕ) (tag : Tag) → reads heading h p tag root ≡ true → holds_at heading trust p root tag h ≡ true
   reads_hold [] p root tag k =
-      absurd (true≢false (sym (reads_declared heading.world [] p root tag (b.reads_sound [] p tag root k))))
+      absurd (true≢false (sym (reads_declared heading.world [] p root tag (b.readable_tag.sound [] p tag root k))))
   reads_hold (e ∷ h) p root tag k =
       or_left (reads heading (e ∷ h) p tag root) (holds_at heading trust p root tag h && not (loses heading trust p tag e h)) k
 
@@ -473,17 +460,18 @@ module _ (heading : Heading) (trust : Trust) (b : Below heading trust) where
   new_holder proper h e kept p q r s tag is_pe is_pe' now before holds =
       let parts = last_kept heading trust b h e kept in
       let w = becomes proper h e kept p r tag is_pe now before in
-      let root = b.root_of_kind (e ∷ h) (kind_of_tag tag) s (held_by_root proper (e ∷ h) kept q s tag is_pe' holds) in
+      let root = b.root.of_kind (e ∷ h) (kind_of_tag tag) s (held_by_root proper (e ∷ h) kept q s tag is_pe' holds) in
       let rule : Unbroken heading trust (noted heading trust h) (Msr p w.0 w.1)
       = subst (λ (x : Event). Unbroken heading trust (noted heading trust h) x) w.2 parts.1 in
       let same : e ∷ h ≡ Msr p w.0 w.1 ∷ events_of (noted heading trust h)
-      = ap (λ (x : Event). x ∷ h) w.2 ∙ ap (λ (es : List Event). Msr p w.0 w.1 ∷ es) (sym (b.events_noted h)) in
+      = ap (λ (x : Event). x ∷ h) w.2 ∙ ap (λ (es : List Event). Msr p w.0 w.1 ∷ es)
+      (sym (b.notes_keep_the_events h)) in
       let some : holds_tag heading trust s tag (e ∷ h) ≡ true
       = pe_finds heading.pes (λ p. holds_at heading trust p s tag (e ∷ h)) q is_pe' holds in
       sym root.2
-      ∙ b.one_holder (noted heading trust h) p w.0 w.1 tag r root.0 (rule TagConflict)
+      ∙ b.tag_rules.one_holder (noted heading trust h) p w.0 w.1 tag r root.0 (rule TagConflict)
       (subst (λ (es : List Event). reads heading es p tag r ≡ true) same now)
-      (subst (λ (es : List Event). Contains (roots_of es) root.0) same (b.root_complete (e ∷ h) root.0 root.1))
+      (subst (λ (es : List Event). Contains (roots_of es) root.0) same (b.root.complete (e ∷ h) root.0 root.1))
       (subst (λ (es : List Event). holds_tag heading trust root.0.page tag es ≡ true) same
       (subst (λ (x : ℕ). holds_tag heading trust x tag (e ∷ h) ≡ true) (sym root.2) some))
 
@@ -551,7 +539,7 @@ module _ (heading : Heading) (trust : Trust) (b : Below heading trust) where
 
   pub between : HeldBetween heading trust
   between p root tag h k after middle split =
-      b.tag_held_complete p root tag (middle ++ k.older) (record {
+      b.tag_held.complete p root tag (middle ++ k.older) (record {
         newer = middle;
         older = k.older;
         split = refl;

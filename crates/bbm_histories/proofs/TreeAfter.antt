@@ -1,7 +1,7 @@
 -- The trees after an event, exactly.
-use Rattle.std.proofs.Common.{◌≡◌, ℕ, zero, suc, ◌<◌, ◌⊎◌, not, Bool, true, false, cond, ◌==◌, List, [], ◌∷◌, length}
-use Rattle.std.proofs.Common.{Option, Some, None, is_some, Contains, slice_index_or, refl, sym, ◌∙◌, ap, subst, inl}
-use Rattle.std.proofs.Common.{inr, arith, true≢false, not-suc-le-zero, le_of_suc-le-suc, suc-le-suc, zero-le}
+use Rattle.std.proofs.Common.{◌≡◌, ℕ, ◌<◌, ◌⊎◌, not, Bool, true, false, cond, ◌==◌, List, [], ◌∷◌}
+use Rattle.std.proofs.Common.{Option, Some, None, is_some, Contains, refl, sym, ◌∙◌, ap, subst, inl}
+use Rattle.std.proofs.Common.{inr, arith, true≢false, not-suc-le-zero, suc-le-suc, zero-le}
 use Rattle.std.proofs.lemmas.Bool.{eq-eqb, eqb-true, not-false}
 use Rattle.bbm_regimes.specs.declared.regime.Kind.{Kind}
 use Rattle.bbm_descriptor.specs.Descriptor.{is_valid}
@@ -106,7 +106,7 @@ module _ (heading : Heading) (trust : Trust) (b : Below heading trust) (h : List
   pub old_stays : Proper heading → (IsDsb e → ⊥) → (m : Node) → (k : IsNode heading trust h m)
       → Contains (roots_of (e ∷ events_of h)) k.root → InTree heading trust now m
   old_stays proper other m k declared =
-      b.tree_complete now m (record {
+      b.tree.complete now m (record {
         root = k.root;
         declared = declared;
         start = k.start;
@@ -128,8 +128,8 @@ module _ (heading : Heading) (trust : Trust) (b : Below heading trust) (h : List
       let same : value_of (e ∷ events_of h) place ≡ value_of (events_of h) place = unchanged place fresh in
       let table : next_of n.kind n.level (value_of (e ∷ events_of h) place) ≡ Some p.2 = ap (next_of n.kind n.level) same ∙ p.3 in
       through_on proper unchanged places (node_below n place p.2) m
-      (b.tree_below now n place (value_of (e ∷ events_of h) place) p.2 t p.1
-      (b.held_live n.kind n.level place now proper.some_pe
+      (b.tree.below now n place (value_of (e ∷ events_of h) place) p.2 t p.1
+      (b.held.live n.kind n.level place now proper.some_pe
       (table_is_valid n.kind n.level (value_of (e ∷ events_of h) place) p.2 table)) table) p.4
 
   -- ---- a DSB
@@ -171,8 +171,8 @@ module _ (heading : Heading) (trust : Trust) (b : Below heading trust) (h : List
 
       there : InTree heading trust (note heading trust h e ∷ h) m → InTreeAfterDsb heading trust h e m
       there t =
-          let k : IsNode heading trust (note heading trust h e ∷ h) m = b.tree_sound (note heading trust h e ∷ h) m t in
-          let begin = b.root_node k.root k.start k.is_start in (
+          let k : IsNode heading trust (note heading trust h e ∷ h) m = b.tree.sound (note heading trust h e ∷ h) m t in
+          let begin = b.root_pages.fields k.root k.start k.is_start in (
             dsb_adds_nothing (added heading trust b h i.odd i.one e m kept t),
             held_above heading trust (note heading trust h e ∷ h) k.places k.start m k.down
                 (λ a c. absurd (none a (subst (λ (xs : List Above). Contains xs a) begin.3 c))),
@@ -187,8 +187,8 @@ module _ (heading : Heading) (trust : Trust) (b : Below heading trust) (h : List
 
       back : InTreeAfterDsb heading trust h e m → InTree heading trust (note heading trust h e ∷ h) m
       back s =
-          let k : IsNode heading trust h m = b.tree_sound h m s.0 in
-          b.tree_complete (note heading trust h e ∷ h) m (record {
+          let k : IsNode heading trust h m = b.tree.sound h m s.0 in
+          b.tree.complete (note heading trust h e ∷ h) m (record {
             root = k.root;
             declared = subst (λ (x : Event). Contains (roots_of (x ∷ events_of h)) k.root) (sym dsb.2) k.declared;
             start = k.start;
@@ -202,7 +202,8 @@ module _ (heading : Heading) (trust : Trust) (b : Below heading trust) (h : List
       → ((q : ℕ) (kind : Kind) (lock : Option ℕ) → e ≡ Root q kind lock r.page → ⊥) → ((q : ℕ) → e ≡ Unroot q r.page → ⊥)
       → Contains (roots_of (e ∷ events_of h)) r
   stays_declared e r c no_root no_unroot =
-      b.root_complete (e ∷ events_of h) r (declared_on e (events_of h) r (b.root_sound (events_of h) r c) no_root no_unroot)
+      b.root.complete (e ∷ events_of h) r
+      (declared_on e (events_of h) r (b.root.sound (events_of h) r c) no_root no_unroot)
 
   -- the pages of the root of a node are in the trees, so no `root` names its first page again
   first_is_taken : Proper heading → (pe : ℕ) (kind : Kind) (lock : Option ℕ) (page : ℕ) → Unbroken heading trust h (Root pe kind lock page)
@@ -211,10 +212,11 @@ module _ (heading : Heading) (trust : Trust) (b : Below heading trust) (h : List
       let known : kind_in_world heading.world kind ≡ true
       = not-false (kind_in_world heading.world kind) (if_none (not (kind_in_world heading.world kind)) 0 (kept WrongWorld)) in
       let fresh : is_fresh heading trust h page ≡ true
-      = b.rooted_fresh h pe kind lock page page (kept PageInUse) (b.first_page kind page known (proper.some_page kind)) in
-      let first = b.first_node k.root k.start k.is_start in
-      let fields = b.root_node k.root first.0 first.1 in
-      let fields' = b.root_node k.root k.start k.is_start in
+      = b.attaching.rooted h pe kind lock page page (kept PageInUse)
+      (b.root_pages.named kind page known (proper.some_page kind)) in
+      let first = b.root_pages.first k.root k.start k.is_start in
+      let fields = b.root_pages.fields k.root first.0 first.1 in
+      let fields' = b.root_pages.fields k.root k.start k.is_start in
       let below : k.start.level < 4 = start_below heading trust h m k in
       let one : first.0.level ≡ start_of heading.world k.root.kind = fields.1 in
       let other : k.start.level ≡ start_of heading.world k.root.kind = fields'.1 in
@@ -226,7 +228,7 @@ module _ (heading : Heading) (trust : Trust) (b : Below heading trust) (h : List
       → ((q page : ℕ) → e ≡ Unroot q page → ⊥) → (m : Node) → InTree heading trust h m
       → InTree heading trust (note heading trust h e ∷ h) m
   still_there proper e kept no_dsb no_unroot m t =
-      let k : IsNode heading trust h m = b.tree_sound h m t in
+      let k : IsNode heading trust h m = b.tree.sound h m t in
       old_stays heading trust b h i e kept proper no_dsb m k
       (stays_declared e k.root k.declared
       (λ q kind lock is. first_is_taken proper q kind lock k.root.page (subst (λ (x : Event). Unbroken heading trust h x) is kept) m k refl)
@@ -236,7 +238,7 @@ module _ (heading : Heading) (trust : Trust) (b : Below heading trust) (h : List
       → Linked heading trust h at value m → InTree heading trust (note heading trust h (Write pe at value) ∷ h) m
   linked_is_there proper pe at value kept m l =
       let now : List Noted = note heading trust h (Write pe at value) ∷ h in
-      let taken = b.node_taken h (page_of at) l.parent l.is_parent in
+      let taken = b.tree.taken h (page_of at) l.parent l.is_parent in
       let parent : InTree heading trust now l.parent = still_there proper (Write pe at value) kept
       (λ d. let apart : Write pe at value ≡ Dsb d.0 d.1 = d.2 in cc) (λ q page is. cc) l.parent taken.0 in
       let present : value_of (Write pe at value ∷ events_of h) at ≡ value
@@ -245,9 +247,9 @@ module _ (heading : Heading) (trust : Trust) (b : Below heading trust) (h : List
       = subst (λ (x : ℕ). is_valid l.parent.kind l.parent.level x ≡ true) (sym present)
       (table_is_valid l.parent.kind l.parent.level value l.next l.table) in
       let holds : held_at heading trust now l.parent at ≡ Some value
-      = b.held_live l.parent.kind l.parent.level at now proper.some_pe valid ∙ ap Some present in
+      = b.held.live l.parent.kind l.parent.level at now proper.some_pe valid ∙ ap Some present in
       through_on heading trust b h i (Write pe at value) kept proper (unchanged taken.0 taken.1) l.places (node_below l.parent at l.next) m
-      (b.tree_below now l.parent at value l.next parent (sym taken.1) holds l.table) l.through
+      (b.tree.below now l.parent at value l.next parent (sym taken.1) holds l.table) l.through
     where
       unchanged : InTree heading trust h l.parent → l.parent.page ≡ page_of at → (place : ℕ)
           → is_fresh heading trust h (page_of place) ≡ true
@@ -266,10 +268,10 @@ module _ (heading : Heading) (trust : Trust) (b : Below heading trust) (h : List
   planted_is_there proper pe kind lock page kept m l =
       let r : Declared = record { page = page; kind = kind; lock = lock } in
       let now : List Noted = note heading trust h (Root pe kind lock page) ∷ h in
-      let fields = b.root_node r l.start l.is_start in
+      let fields = b.root_pages.fields r l.start l.is_start in
       let level : l.start.level < 4 = subst (λ (x : ℕ). x < 4) (sym fields.1) (proper.start kind) in
       through_on heading trust b h i (Root pe kind lock page) kept proper (λ place fresh. refl) l.places l.start m
-      (b.tree_complete now l.start (record {
+      (b.tree.complete now l.start (record {
         root = r;
         declared = (0, suc-le-suc zero-le, refl);
         start = l.start;
@@ -283,8 +285,8 @@ module _ (heading : Heading) (trust : Trust) (b : Below heading trust) (h : List
       → InTree heading trust (note heading trust h (Unroot pe page) ∷ h) m → InTree heading trust h m × (m.root ≡ page → ⊥)
   unroot_there pe page kept m t =
       let k : IsNode heading trust (note heading trust h (Unroot pe page) ∷ h) m
-      = b.tree_sound (note heading trust h (Unroot pe page) ∷ h) m t in
-      let begin = b.root_node k.root k.start k.is_start in
+      = b.tree.sound (note heading trust h (Unroot pe page) ∷ h) m t in
+      let begin = b.root_pages.fields k.root k.start k.is_start in
       let root : m.root ≡ k.root.page
       = down_root heading trust (note heading trust h (Unroot pe page) ∷ h) k.places k.start m k.down ∙ begin.2 in (
         old (added heading trust b h i.odd i.one (Unroot pe page) m kept t),
@@ -298,8 +300,8 @@ module _ (heading : Heading) (trust : Trust) (b : Below heading trust) (h : List
   unroot_back : Proper heading → (pe page : ℕ) → Unbroken heading trust h (Unroot pe page) → (m : Node)
       → InTree heading trust h m × (m.root ≡ page → ⊥) → InTree heading trust (note heading trust h (Unroot pe page) ∷ h) m
   unroot_back proper pe page kept m s =
-      let k : IsNode heading trust h m = b.tree_sound h m s.0 in
-      let begin = b.root_node k.root k.start k.is_start in
+      let k : IsNode heading trust h m = b.tree.sound h m s.0 in
+      let begin = b.root_pages.fields k.root k.start k.is_start in
       let root : m.root ≡ k.root.page = down_root heading trust h k.places k.start m k.down ∙ begin.2 in
       old_stays heading trust b h i (Unroot pe page) kept proper (λ d. let apart : Unroot pe page ≡ Dsb d.0 d.1 = d.2 in cc) m k
       (stays_declared (Unroot pe page) k.root k.declared (λ q kind lock is. cc)
@@ -354,7 +356,7 @@ module _ (heading : Heading) (trust : Trust) (b : Below heading trust) (h : List
           × (IsDsb (Dsb pe dsb) ⊎ ((q : ℕ) × (Dsb pe dsb ≡ Unroot q n.root))))
       by None e = inr (ap is_some e, inl (pe, dsb, refl))
       by (Some m) e =
-          let k = b.node_taken (note heading trust h (Dsb pe dsb) ∷ h) n.page m e in
+          let k = b.tree.taken (note heading trust h (Dsb pe dsb) ∷ h) n.page m e in
           let old : InTree heading trust h m = ((dsb_step (Dsb pe dsb) kept (pe, dsb, refl) m).0 k.0).0 in
           inl (subst (λ (x : Node). InTree heading trust (note heading trust h (Dsb pe dsb) ∷ h) x) (i.one m n old t k.1) k.0)
   kept_or_left proper (Unroot pe page) kept n t = by (n.root == page) refl
@@ -372,7 +374,7 @@ module _ (heading : Heading) (trust : Trust) (b : Below heading trust) (h : List
               × (IsDsb (Unroot pe page) ⊎ ((q : ℕ) × (Unroot pe page ≡ Unroot q n.root))))
           go None e = inr (ap is_some e, inr (pe, ap (Unroot pe) (sym (eqb-true n.root page c))))
           go (Some m) e =
-              let k = b.node_taken (note heading trust h (Unroot pe page) ∷ h) n.page m e in
+              let k = b.tree.taken (note heading trust h (Unroot pe page) ∷ h) n.page m e in
               let old : InTree heading trust h m = (unroot_there pe page kept m k.0).0 in
               inl (subst (λ (x : Node). InTree heading trust (note heading trust h (Unroot pe page) ∷ h) x) (i.one m n old t k.1) k.0)
   kept_or_left proper e kept n t =

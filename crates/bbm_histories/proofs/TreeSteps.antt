@@ -95,13 +95,13 @@ module _ (heading : Heading) (trust : Trust) (b : Below heading trust) (h : List
     where
       by : (o : Option Node) → node_of heading trust h page ≡ o → node_of heading trust h page ≡ Some n
       by None e =
-          absurd (true≢false (sym (b.tree_has h n t) ∙ (ap (in_tree heading trust h) same ∙ ap is_some e)))
+          absurd (true≢false (sym (b.tree.has h n t) ∙ (ap (in_tree heading trust h) same ∙ ap is_some e)))
       by (Some q) e =
-          let r = b.node_taken h page q e in
+          let r = b.tree.taken h page q e in
           e ∙ ap Some (one q n r.0 t (r.1 ∙ sym same))
 
   pub is_tracked : (n : Node) (page : ℕ) → InTree heading trust h n → n.page ≡ page → in_tree heading trust h page ≡ true
-  is_tracked n page t same = sym (ap (in_tree heading trust h) same) ∙ b.tree_has h n t
+  is_tracked n page t same = sym (ap (in_tree heading trust h) same) ∙ b.tree.has h n t
 
   pub not_fresh_there : (n : Node) (page : ℕ) → InTree heading trust h n → n.page ≡ page
       → is_fresh heading trust h page ≡ true → ⊥
@@ -112,7 +112,7 @@ module _ (heading : Heading) (trust : Trust) (b : Below heading trust) (h : List
   pub start_in_tree : (r : Declared) (start : Node) → Contains (roots_of (events_of h)) r → Contains (nodes_of_root heading r) start
       → start.level < 4 → InTree heading trust h start
   start_in_tree r start declared is_start below =
-      b.tree_complete h start (record {
+      b.tree.complete h start (record {
         root = r;
         declared = declared;
         start = start;
@@ -124,7 +124,7 @@ module _ (heading : Heading) (trust : Trust) (b : Below heading trust) (h : List
 
   pub link_in_tree : (n : Node) (place next : ℕ) → InTree heading trust h n → Link heading trust h n place next
       → InTree heading trust h (node_below n place next)
-  link_in_tree n place next t l = b.tree_below h n place l.value next t l.inside l.holds l.table
+  link_in_tree n place next t l = b.tree.below h n place l.value next t l.inside l.holds l.table
 
   module _ (e : Event) (kept : Unbroken heading trust h e) (odd : OddStays heading trust h) (one : OneNode heading trust h) where
     abbrev now : List Noted
@@ -209,7 +209,7 @@ module _ (heading : Heading) (trust : Trust) (b : Below heading trust) (h : List
         → ((r : Declared) → Contains (roots_of (e ∷ events_of h)) r → Contains (roots_of (events_of h)) r)
         → (m : Node) → InTree heading trust now m → InTree heading trust h m
     nothing_added no_write roots m t =
-        let k : IsNode heading trust now m = b.tree_sound now m t in
+        let k : IsNode heading trust now m = b.tree.sound now m t in
         elim (descend (λ x. ⊥) (λ n place next i inside l places x d lower. no_write l.q place l.value l.is) k.places k.start m
         (start_in_tree k.root k.start (roots k.root k.declared) k.is_start (start_below heading trust now m k)) k.down k.level) [
           | inl old ↦ old
@@ -229,10 +229,12 @@ module _ (heading : Heading) (trust : Trust) (b : Below heading trust) (h : List
         → next_of n.kind n.level value ≡ Some next → FreshPaths heading trust h (node_below n at next)
     paths_after_write n next node empty table [] end short l =
         subst (λ (x : End). is_fresh heading trust h x.page ≡ true) l
-        (b.written_fresh h pe at value n.kind (suc n.level) (next ∷ []) (write_attaches n next node empty table) (kept NotFresh)
+        (b.attaching.written h pe at value n.kind (suc n.level) (next ∷ []) (write_attaches n next node empty table)
+        (kept NotFresh)
         next (0, suc-le-suc zero-le, refl))
     paths_after_write n next node empty table (place ∷ places) end short l =
-        b.deeper_fresh h (Write pe at value) n.kind (suc n.level) (next ∷ []) (write_attaches n next node empty table)
+        b.attaching.deeper h (Write pe at value) n.kind (suc n.level) (next ∷ [])
+        (write_attaches n next node empty table)
         (kept NotFresh) next place places end (0, suc-le-suc zero-le, refl) short l
 
     pub added_by_write : (m : Node) → InTree heading trust (note heading trust h (Write pe at value) ∷ h) m
@@ -244,7 +246,7 @@ module _ (heading : Heading) (trust : Trust) (b : Below heading trust) (h : List
         (start_below heading trust (note heading trust h (Write pe at value) ∷ h) m k)) k.down k.level
       where
         k : IsNode heading trust (note heading trust h (Write pe at value) ∷ h) m
-        k = b.tree_sound (note heading trust h (Write pe at value) ∷ h) m t
+        k = b.tree.sound (note heading trust h (Write pe at value) ∷ h) m t
 
         new : (n : Node) (place next : ℕ) → InTree heading trust h n → n.page ≡ page_of place
             → Linking (Write pe at value) kept odd one n place next → (places : List ℕ) (x : Node)
@@ -287,7 +289,7 @@ module _ (heading : Heading) (trust : Trust) (b : Below heading trust) (h : List
         = through_level heading trust h l.places (node_below l.parent at l.next) m l.through in
         let level' : o.level ≡ suc l.parent.level + length l'.places
         = through_level heading trust h l'.places (node_below l.parent at l.next) o moved in
-        let paths = b.single_paths h (Write pe at value) l.parent.kind (suc l.parent.level) (l.next ∷ [])
+        let paths = b.attaching.single h (Write pe at value) l.parent.kind (suc l.parent.level) (l.next ∷ [])
         (write_attaches l.parent l.next l.is_parent l.empty l.table) (kept NotFresh) l.next l.next l.places l'.places
         (end_at m.level m.page) (end_at o.level o.page) (0, suc-le-suc zero-le, refl) (0, suc-le-suc zero-le, refl)
         (omega arith) (omega arith)
@@ -308,26 +310,28 @@ module _ (heading : Heading) (trust : Trust) (b : Below heading trust) (h : List
         → Leads heading trust h start.kind start.level start.page places end
         → Leads heading trust h kind (start_of heading.world kind) start.page places end
     start_leads start places end c l =
-        let k = b.root_node planted start c in
+        let k = b.root_pages.fields planted start c in
         subst (λ (x : ℕ). Leads heading trust h kind x start.page places end) k.1
         (subst (λ (x : Kind). Leads heading trust h x start.level start.page places end) k.0 l)
 
     paths_after_root : (start : Node) → Contains (nodes_of_root heading planted) start → FreshPaths heading trust h start
     paths_after_root start c [] end short l =
-        let k = b.root_node planted start c in
+        let k = b.root_pages.fields planted start c in
         subst (λ (x : End). is_fresh heading trust h x.page ≡ true) l
-        (b.rooted_fresh h pe kind lock page start.page (kept PageInUse) k.4)
+        (b.attaching.rooted h pe kind lock page start.page (kept PageInUse) k.4)
     paths_after_root start c (place ∷ places) end short l =
-        let k = b.root_node planted start c in
+        let k = b.root_pages.fields planted start c in
         let level : start.level ≡ start_of heading.world kind = k.1 in
-        b.deeper_fresh h (Root pe kind lock page) kind (start_of heading.world kind) (root_pages heading.world kind page) refl
+        b.attaching.deeper h (Root pe kind lock page) kind (start_of heading.world kind)
+        (root_pages heading.world kind page) refl
         (kept NotFresh) start.page place places end k.4 (omega arith) (start_leads start (place ∷ places) end c l)
 
     old_or_planted : (r : Declared) → Contains (roots_of (Root pe kind lock page ∷ events_of h)) r
         → Contains (roots_of (events_of h)) r ⊎ (planted ≡ r)
     old_or_planted r c =
-        elim (declared_back (Root pe kind lock page) (events_of h) r (b.root_sound (Root pe kind lock page ∷ events_of h) r c)) [
-          | inl old ↦ inl (b.root_complete (events_of h) r old)
+        elim (declared_back (Root pe kind lock page) (events_of h) r
+        (b.root.sound (Root pe kind lock page ∷ events_of h) r c)) [
+          | inl old ↦ inl (b.root.complete (events_of h) r old)
           | inr new ↦
               let first : Root pe kind lock page ≡ Root new.0 r.kind r.lock r.page = new.1 in
               let a : page ≡ r.page = cc in
@@ -365,24 +369,26 @@ module _ (heading : Heading) (trust : Trust) (b : Below heading trust) (h : List
         ]
       where
         k : IsNode heading trust (note heading trust h (Root pe kind lock page) ∷ h) m
-        k = b.tree_sound (note heading trust h (Root pe kind lock page) ∷ h) m t
+        k = b.tree.sound (note heading trust h (Root pe kind lock page) ∷ h) m t
 
     pub one_planted : (m o : Node) → m.level < 4 → o.level < 4 → Planted heading trust h planted m → Planted heading trust h planted o
         → m.page ≡ o.page → m ≡ o
     one_planted m o below below' l l' same =
-        let first = b.root_node planted l.start l.is_start in
-        let other = b.root_node planted l'.start l'.is_start in
+        let first = b.root_pages.fields planted l.start l.is_start in
+        let other = b.root_pages.fields planted l'.start l'.is_start in
         let start_level : l.start.level ≡ start_of heading.world kind = first.1 in
         let start_level' : l'.start.level ≡ start_of heading.world kind = other.1 in
         let level : m.level ≡ l.start.level + length l.places = through_level heading trust h l.places l.start m l.through in
         let level' : o.level ≡ l'.start.level + length l'.places = through_level heading trust h l'.places l'.start o l'.through in
-        let paths = b.single_paths h (Root pe kind lock page) kind (start_of heading.world kind) (root_pages heading.world kind page)
+        let paths = b.attaching.single h (Root pe kind lock page) kind (start_of heading.world kind)
+        (root_pages heading.world kind page)
         refl (kept NotFresh) l.start.page l'.start.page l.places l'.places (end_at m.level m.page) (end_at o.level o.page)
         first.4 other.4 (omega arith) (omega arith)
         (start_leads l.start l.places (end_at m.level m.page) l.is_start (through_leads heading trust h l.places l.start m l.through))
         (start_leads l'.start l'.places (end_at o.level o.page) l'.is_start (through_leads heading trust h l'.places l'.start o l'.through))
         same in
-        let begin : l'.start ≡ l.start = b.one_root_node planted l'.start l.start l'.is_start l.is_start (sym paths.0) in
+        let begin : l'.start ≡ l.start = b.root_pages.single planted l'.start l.start l'.is_start l.is_start
+        (sym paths.0) in
         through_same heading trust h l.places l.start m o l.through
         (subst (λ (xs : List ℕ). Through heading trust h l.start xs o) (sym paths.1)
         (subst (λ (x : Node). Through heading trust h x l'.places o) begin l'.through))
@@ -393,13 +399,13 @@ module _ (heading : Heading) (trust : Trust) (b : Below heading trust) (h : List
   pub roots_after_unroot : (pe page : ℕ) (r : Declared) → Contains (roots_of (Unroot pe page ∷ events_of h)) r
       → Contains (roots_of (events_of h)) r × (r.page ≡ page → ⊥)
   roots_after_unroot pe page r c =
-      let k : IsDeclared (Unroot pe page ∷ events_of h) r = b.root_sound (Unroot pe page ∷ events_of h) r c in (
+      let k : IsDeclared (Unroot pe page ∷ events_of h) r = b.root.sound (Unroot pe page ∷ events_of h) r c in (
         old (declared_back (Unroot pe page) (events_of h) r k),
         λ same. not_retired (Unroot pe page) (events_of h) r k pe (ap (Unroot pe) (sym same)),
       )
     where
       old : IsDeclared (events_of h) r ⊎ ((q : ℕ) × (Unroot pe page ≡ Root q r.kind r.lock r.page)) → Contains (roots_of (events_of h)) r
-      old (inl d) = b.root_complete (events_of h) r d
+      old (inl d) = b.root.complete (events_of h) r d
       old (inr new) = let apart : Unroot pe page ≡ Root new.0 r.kind r.lock r.page = new.1 in cc
 
   module _ (odd : OddStays heading trust h) (one : OneNode heading trust h) where
@@ -430,8 +436,8 @@ module _ (heading : Heading) (trust : Trust) (b : Below heading trust) (h : List
     pub one_step : (e : Event) → Unbroken heading trust h e → OneNode heading trust (note heading trust h e ∷ h)
     one_step e kept m o t u same =
         let now : List Noted = note heading trust h e ∷ h in
-        let below : IsNode heading trust now m = b.tree_sound now m t in
-        let below' : IsNode heading trust now o = b.tree_sound now o u in
+        let below : IsNode heading trust now m = b.tree.sound now m t in
+        let below' : IsNode heading trust now o = b.tree.sound now o u in
         elim (added e m kept t) [
           | inl i ↦ elim (added e o kept u) [
             | inl j ↦ one m o i j same

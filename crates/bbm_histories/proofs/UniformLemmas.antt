@@ -1,5 +1,5 @@
 -- Under `cnp` all PEs are alike.
-use Rattle.std.proofs.Common.{◌≡◌, ℕ, ◌<◌, Bool, true, false, ◌&&◌, ◌||◌, not, ◌==◌, nat_lt, List, refl, sym, ◌∙◌, ap}
+use Rattle.std.proofs.Common.{◌≡◌, ℕ, ◌<◌, Bool, true, ◌&&◌, ◌||◌, not, ◌==◌, nat_lt, List, refl, sym, ◌∙◌, ap}
 use Rattle.std.proofs.Common.{true≢false}
 use Rattle.std.proofs.lemmas.Bool.{and_from, and_parts, lt-ltb}
 use Rattle.bbm_barriers.specs.declared.Dsb.{Dsb as Barrier}
@@ -85,8 +85,8 @@ module _ (heading : Heading) (cnp : heading.cnp ≡ true) where
   pub published_alike : (trust : Trust) → Below heading trust → (q p r : ℕ) (later : List Event) → r < heading.pes
       → published heading q p later ≡ true → published heading q r later ≡ true
   published_alike trust b q p r later below k =
-      let s : Published heading q p later = b.published_sound q p later k in
-      b.published_complete q r later (record {
+      let s : Published heading q p later = b.published.sound q p later k in
+      b.published.complete q r later (record {
         dsb = s.dsb;
         after = s.after;
         before = s.before;
@@ -102,8 +102,8 @@ module _ (heading : Heading) (cnp : heading.cnp ≡ true) where
     where
       go : (p r : ℕ) → r < heading.pes → seen heading place p since ≡ true → seen heading place r since ≡ true
       go p r below s =
-          let k = b.seen_sound place p since s in
-          b.seen_complete place r since (k.0, publication_alike place p r since k.0 below k.1)
+          let k = b.seen.sound place p since s in
+          b.seen.complete place r since (k.0, publication_alike place p r since k.0 below k.1)
 
   pub half_test_alike : (trust : Trust) → Below heading trust → (place p r : ℕ) (since : List Noted) → p < heading.pes → r < heading.pes
       → half heading place p since ≡ half heading place r since
@@ -112,5 +112,5 @@ module _ (heading : Heading) (cnp : heading.cnp ≡ true) where
     where
       go : (p r : ℕ) → r < heading.pes → half heading place p since ≡ true → half heading place r since ≡ true
       go p r below s =
-          let k = b.half_sound place p since s in
-          b.half_complete place r since (k.0, k.1, k.2, half_alike place p r since k.0 k.1 k.2 below k.3)
+          let k = b.half.sound place p since s in
+          b.half.complete place r since (k.0, k.1, k.2, half_alike place p r since k.0 k.1 k.2 below k.3)

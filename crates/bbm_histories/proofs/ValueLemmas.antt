@@ -17,8 +17,8 @@ module _ (heading : Heading) (trust : Trust) (b : Below heading trust) where
   pub published_stays : (q p : ℕ) (newer later : List Event) → published heading q p later ≡ true
       → published heading q p (newer ++ later) ≡ true
   published_stays q p newer later k =
-      let s : Published heading q p later = b.published_sound q p later k in
-      b.published_complete q p (newer ++ later) (record {
+      let s : Published heading q p later = b.published.sound q p later k in
+      b.published.complete q p (newer ++ later) (record {
         dsb = s.dsb;
         after = newer ++ s.after;
         before = s.before;
@@ -48,14 +48,14 @@ module _ (heading : Heading) (trust : Trust) (b : Below heading trust) where
   readable_back e h place p value k = by r.newer refl r.split
     where
       r : Readable heading (e ∷ h) place p value
-      r = b.readable_sound (e ∷ h) place p value k
+      r = b.readable_value.sound (e ∷ h) place p value k
 
       by : (newer : List Event) → r.newer ≡ newer → e ∷ h ≡ newer ++ r.older
           → MakesReadable place value e ⊎ (is_readable heading h place p value ≡ true)
       by [] is split =
           elim (value_back e h place p value (ap (λ (es : List Event). value_of es place) split ∙ r.had)) [
             | inl made ↦ inl made
-            | inr old ↦ inr (b.readable_complete h place p value (record {
+            | inr old ↦ inr (b.readable_value.complete h place p value (record {
               newer = [];
               older = h;
               split = refl;
@@ -68,7 +68,7 @@ module _ (heading : Heading) (trust : Trust) (b : Below heading trust) where
           none : (after : List Event) (x : Event) (before : List Event) → [] ≡ after ++ x ∷ before → ⊥
           none [] x before s = cc
           none (y ∷ after) x before s = cc
-      by (y ∷ newer) is split = inr (b.readable_complete h place p value (record {
+      by (y ∷ newer) is split = inr (b.readable_value.complete h place p value (record {
         newer = newer;
         older = r.older;
         split = cc;

@@ -42,7 +42,7 @@ module _ (heading : Heading) (trust : Trust) (b : Below heading trust) where
       by : (v : Bool) → is_valid kind level (value_of (events_of h) place) ≡ v → v ≡ false
       by false e = refl
       by true e =
-          let live = b.live_is_last kind level place h e in
+          let live = b.last_valid.live kind level place h e in
           let both : Some live.0 ≡ Some w = sym live.1 ∙ last in
           let same : live.0 ≡ w = cc in
           absurd (true≢false (sym s ∙ subst (λ (x : ValidWrite). seen heading place p x.since ≡ false) same
@@ -83,7 +83,7 @@ module _ (heading : Heading) (trust : Trust) (b : Below heading trust) where
         by_held (inl old) = old
         by_held (inr w) =
             let l : IsLastValid n.kind n.level place (note heading trust h e ∷ h) (record { value = last; since = note heading trust h e ∷ since })
-            = b.last_sound n.kind n.level place (note heading trust h e ∷ h)
+            = b.last_valid.sound n.kind n.level place (note heading trust h e ∷ h)
             (record { value = last; since = note heading trust h e ∷ since }) k.is_last in
             absurd (true≢false (sym (held_valid heading trust b n.kind n.level place (note heading trust h e ∷ h) value k.holds)
             ∙ l.last w.0 value (note heading trust h e) [] since refl w.1))
@@ -118,8 +118,8 @@ module _ (heading : Heading) (trust : Trust) (b : Below heading trust) where
         → seen heading place p since ≡ true → Held h since last → is_childless heading trust h n value ≡ true
         → is_childless heading trust (note heading trust h e ∷ h) n value ≡ true
     still_childless h e since last kept i s k none =
-        let c : Childless heading trust h n value = b.childless_sound h n value none in
-        b.childless_complete (note heading trust h e ∷ h) n value (record {
+        let c : Childless heading trust h n value = b.childless.sound h n value none in
+        b.childless.complete (note heading trust h e ∷ h) n value (record {
           next = c.next;
           table = c.table;
           holds_none = λ x below. by c x below (held heading trust n.kind (suc n.level) x (note heading trust h e ∷ h)) refl;
@@ -137,14 +137,14 @@ module _ (heading : Heading) (trust : Trust) (b : Below heading trust) where
             ]
           where
             child_in_tree : (c : Childless heading trust h n value) → InTree heading trust h (node_below n place c.next)
-            child_in_tree c = b.tree_below h n place value c.next k.in_tree inside k.holds c.table
+            child_in_tree c = b.tree.below h n place value c.next k.in_tree inside k.holds c.table
 
             node : (c : Childless heading trust h n value) (x : ℕ) → page_of x ≡ c.next
                 → node_of heading trust h (page_of x) ≡ Some (node_below n place c.next)
             node c x below = node_is heading trust b h i.one (node_below n place c.next) (page_of x) (child_in_tree c) (sym below)
 
             limbo : (c : Childless heading trust h n value) → in_limbo h (node_below n place c.next) ≡ true
-            limbo c = b.limbo_complete h (node_below n place c.next) (record {
+            limbo c = b.limbo.complete h (node_below n place c.next) (record {
               above = record { place = place; level = n.level };
               is_above = contains_head n.above (record { place = place; level = n.level });
               invalid = seen_is_invalid n.kind n.level place p h (record { value = last; since = since }) k.is_last s;
@@ -210,7 +210,7 @@ module _ (heading : Heading) (trust : Trust) (b : Below heading trust) where
   history_before : (kind : Kind) (level place : ℕ) (h : List Noted) (w : ValidWrite) (newer before : List Noted) (t : Noted)
       → last_valid kind level place h ≡ Some w → w.since ≡ newer ++ t ∷ before → Before h newer before t
   history_before kind level place h w newer before t last longer =
-      let l : IsLastValid kind level place h w = b.last_sound kind level place h w last in
+      let l : IsLastValid kind level place h w = b.last_valid.sound kind level place h w last in
       record {
         older = before ++ l.write ∷ l.older;
         split = l.split ∙ (ap (λ (xs : List Noted). xs ++ l.write ∷ l.older) longer

@@ -28,7 +28,7 @@ use Rattle.bbm_histories.proofs.CoreLemmas.{core_same}
 use Rattle.bbm_histories.proofs.HeldSteps.{init_outside, same_core}
 use Rattle.bbm_histories.proofs.Induction.{NotesSplit, Unbroken, events_append, notes_split, throughout}
 use Rattle.bbm_histories.proofs.Invariants.{Invariants, invariants, none_at_start}
-use Rattle.bbm_histories.proofs.PatternLemmas.{cleansed_is_seen, last_before, last_laws, last_on, split_cases, write_in}
+use Rattle.bbm_histories.proofs.PatternLemmas.{cleansed_is_seen, last_before, last_on, split_cases, write_in}
 use Rattle.bbm_histories.proofs.TreeSteps.{added, attached_fresh, is_tracked, node_is, not_fresh_there}
 use Rattle.bbm_histories.proofs.ValueLemmas.{readable_back}
 
@@ -111,7 +111,7 @@ module _ (heading : Heading) (trust : Trust) (b : Below heading trust) where
     -- the barrier is among the events after the write
     is_published : published heading k.q p (events_of (k.newer ++ d ∷ k.between)) ≡ true
     is_published =
-        b.published_complete k.q p (events_of (k.newer ++ d ∷ k.between)) (record {
+        b.published.complete k.q p (events_of (k.newer ++ d ∷ k.between)) (record {
           dsb = k.dsb;
           after = events_of k.newer;
           before = events_of k.between;
@@ -128,14 +128,15 @@ module _ (heading : Heading) (trust : Trust) (b : Below heading trust) where
         (sym n.new_events ∙ (ap events_of newer.1 ∙ (events_append (k.newer ++ d ∷ k.between) (k.write ∷ newer.0)
         ∙ ap (λ (x : Event). events_of (k.newer ++ d ∷ k.between) ++ x ∷ events_of newer.0) k.wrote))))
     clash (inr older) =
-        let live = b.live_is_last kind level place n.old
+        let live = b.last_valid.live kind level place n.old
         (subst (λ (x : ℕ). is_valid kind level x ≡ true)
         (sym (ap (λ (es : List Event). value_of es place) n.old_events ∙ r.had)) valid) in
         let longer : w.since ≡ n.new ++ (older.0 ++ k.write ∷ k.older)
         = write_in heading place p w.since d k
         ∙ (ap (λ (xs : List Noted). xs ++ k.write ∷ k.older) older.2 ∙ append_assoc n.new older.0 (k.write ∷ k.older)) in
         let was : last_valid kind level place n.old ≡ Some (record { value = w.value; since = older.0 ++ k.write ∷ k.older })
-        = b.last_complete kind level place n.old (record { value = w.value; since = older.0 ++ k.write ∷ k.older })
+        = b.last_valid.complete kind level place n.old
+        (record { value = w.value; since = older.0 ++ k.write ∷ k.older })
         (last_before heading trust b kind level place n.new n.old w.value (older.0 ++ k.write ∷ k.older) w refl longer
         (subst (λ (xs : List Noted). IsLastValid kind level place xs w) n.split l)) in
         let both : Some live.0 ≡ Some (record { value = w.value; since = older.0 ++ k.write ∷ k.older }) = sym live.1 ∙ was in
@@ -156,28 +157,28 @@ module _ (heading : Heading) (trust : Trust) (b : Below heading trust) where
   unseen_if_readable kind level place p value h w readable valid last = by (seen heading place p w.since) refl
     where
       r : Readable heading (events_of h) place p value
-      r = b.readable_sound (events_of h) place p value readable
+      r = b.readable_value.sound (events_of h) place p value readable
 
       by : (c : Bool) → seen heading place p w.since ≡ c → c ≡ false
       by false s = refl
       by true s =
-          let k = b.seen_sound place p w.since s in
+          let k = b.seen.sound place p w.since s in
           absurd (never kind level place p value h w valid r (notes_split h r.newer r.older r.split)
-          (b.last_sound kind level place h w last) k.0 k.1)
+          (b.last_valid.sound kind level place h w last) k.0 k.1)
 
   -- where the place isn't seen at some PE, it holds the last valid value
   pub held_if_unseen : (kind : Kind) (level place p : ℕ) (h : List Noted) (w : ValidWrite) → p < heading.pes
       → last_valid kind level place h ≡ Some w → seen heading place p w.since ≡ false
       → held heading trust kind level place h ≡ Some w.value
   held_if_unseen kind level place p h w is_pe last unseen =
-      let l : IsLastValid kind level place h w = b.last_sound kind level place h w last in
-      b.held_complete kind level place h w.value (record {
+      let l : IsLastValid kind level place h w = b.last_valid.sound kind level place h w last in
+      b.held.complete kind level place h w.value (record {
         since = w.since;
         last_write = l;
         p = p;
         is_pe = is_pe;
         uncleansed = λ c. true≢false
-            (sym (b.seen_complete place p w.since (cleansed_is_seen heading trust place p w.since c)) ∙ unseen);
+            (sym (b.seen.complete place p w.since (cleansed_is_seen heading trust place p w.since c)) ∙ unseen);
       })
 
   -- a value that is readable in a fresh page, and valid, is the present one
@@ -185,7 +186,7 @@ module _ (heading : Heading) (trust : Trust) (b : Below heading trust) where
       → is_fresh heading trust h (page_of place) ≡ true → is_readable heading (events_of h) place p value ≡ true
       → is_valid kind level value ≡ true → value_of (events_of h) place ≡ value
   present_if_readable kind level place p value h odd fresh readable valid =
-      let is_odd : value % 2 ≡ 1 = b.valid_is_odd kind level value valid in
+      let is_odd : value % 2 ≡ 1 = b.last_valid.odd kind level value valid in
       let g : Given r.older place value = given r.older place value r.had (λ zero. not_zero zero is_odd) in
       odd g.q place value (r.newer ++ g.newer) g.older fresh
       (r.split ∙ (ap (λ (xs : List Event). r.newer ++ xs) g.split ∙ sym (append_assoc r.newer g.newer (Write g.q place value ∷ g.older))))
@@ -195,7 +196,7 @@ module _ (heading : Heading) (trust : Trust) (b : Below heading trust) where
       ]) is_odd
     where
       r : Readable heading (events_of h) place p value
-      r = b.readable_sound (events_of h) place p value readable
+      r = b.readable_value.sound (events_of h) place p value readable
 
       not_zero : value ≡ 0 → value % 2 ≡ 1 → ⊥
       not_zero z o = let k : 0 % 2 ≡ 1 = sym (ap (λ (x : ℕ). x % 2) z) ∙ o in cc
@@ -222,7 +223,7 @@ module _ (heading : Heading) (trust : Trust) (b : Below heading trust) where
     just_written : (q : ℕ) (v : ℕ) → e ≡ Write q place v → is_valid n.kind n.level v ≡ true
         → last_valid n.kind n.level place now ≡ Some (record { value = v; since = [] })
     just_written q v is valid_v =
-        b.last_complete n.kind n.level place now (record { value = v; since = [] }) (record {
+        b.last_valid.complete n.kind n.level place now (record { value = v; since = [] }) (record {
           pe = q;
           write = note heading trust h e;
           older = h;
@@ -241,7 +242,7 @@ module _ (heading : Heading) (trust : Trust) (b : Below heading trust) where
         → LastLike h n place value → LastLike now n place value
     goes_on no_write no_init l = record {
       w = record { value = l.w.value; since = note heading trust h e ∷ l.w.since };
-      is = last_on (last_laws heading trust b) n.kind n.level place (note heading trust h e ∷ []) h l.w
+      is = last_on b.last_valid n.kind n.level place (note heading trust h e ∷ []) h l.w
           (quiet_one n.kind n.level place (note heading trust h e) no_write no_init) l.is;
       core = l.core;
     }
@@ -254,7 +255,7 @@ module _ (heading : Heading) (trust : Trust) (b : Below heading trust) where
           | inr old ↦
               let present : value_of (events_of h) place ≡ value
               = present_if_readable n.kind n.level place p value h i.odd fresh old valid in
-              let live = b.live_is_last n.kind n.level place h
+              let live = b.last_valid.live n.kind n.level place h
               (subst (λ (x : ℕ). is_valid n.kind n.level x ≡ true) (sym present) valid) in
               goes_on (λ q v is. absurd (unwritten q v is)) (λ q is. no_init q is)
               (record { w = live.0; is = live.1; core = ap (core_of n.kind n.level) (live.2 ∙ present) })
@@ -267,7 +268,7 @@ module _ (heading : Heading) (trust : Trust) (b : Below heading trust) where
         unwritten : (q v : ℕ) → e ≡ Write q place v → ⊥
         unwritten q v is =
             let l = subst (λ (x : Event). Attaches heading trust h x n) is a in
-            let k = b.node_taken h (page_of place) l.parent l.is_parent in
+            let k = b.tree.taken h (page_of place) l.parent l.is_parent in
             not_fresh_there heading trust b h l.parent (page_of place) k.0 k.1 fresh
 
         no_init : (q : ℕ) → e ≡ Init q (page_of place) → ⊥
@@ -306,7 +307,7 @@ module _ (heading : Heading) (trust : Trust) (b : Below heading trust) where
             = unseen_if_readable n.kind n.level place p value h l.w old valid l.is in
             let holds : held_at heading trust h n place ≡ Some l.w.value
             = held_if_unseen n.kind n.level place p h l.w is_pe l.is unseen in
-            let last : IsLastValid n.kind n.level place h l.w = b.last_sound n.kind n.level place h l.w l.is in
+            let last : IsLastValid n.kind n.level place h l.w = b.last_valid.sound n.kind n.level place h l.w l.is in
             let same : core_of n.kind n.level l.w.value ≡ core_of n.kind n.level u
             = core_same heading trust b n.kind n.level l.w.value u last.valid valid_u
             (same_core heading trust h n q place u l.w.value (subst (λ (x : Event). Unbroken heading trust h x) is kept)
@@ -348,7 +349,8 @@ module _ (heading : Heading) (trust : Trust) (b : Below heading trust) where
       → is_valid n.kind n.level value ≡ true → Window heading trust (noted heading trust h) n place p value
   window h kept n place p value is_pe t inside readable valid =
       let there : is_readable heading (events_of (noted heading trust h)) place p value ≡ true
-      = subst (λ (es : List Event). is_readable heading es place p value ≡ true) (sym (b.events_noted h)) readable in
+      = subst (λ (es : List Event). is_readable heading es place p value ≡ true) (sym (b.notes_keep_the_events h))
+      readable in
       let l : LastLike (noted heading trust h) n place value = same_cores h kept n place p value is_pe t inside there valid in
       let unseen : seen heading place p l.w.since ≡ false
       = unseen_if_readable n.kind n.level place p value (noted heading trust h) l.w there valid l.is in

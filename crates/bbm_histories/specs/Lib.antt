@@ -9,3 +9,7 @@ pub mod TreeSteps
 pub mod ValueChanges
 pub mod Versions
 pub mod ValueSteps
+pub mod PositionLaws
+pub mod ContentLaws
+pub mod PatternLaws
+pub mod HolderLaws

@@ -1,18 +1,14 @@
 //! Step equations of roots, fresh pages and readable values.
 
-ghost use Rattle.std.specs.Prelude.{◌≡◌, ℕ, false, true, List, [], ◌∷◌, map};
+ghost use Rattle.std.specs.Prelude.{◌≡◌, ℕ, List, [], ◌∷◌, map};
 ghost use Rattle.bbm_regimes.specs.declared.regime.Kind.{Kind};
 ghost use Rattle.bbm_events.specs.Heading.{Heading};
 ghost use Rattle.bbm_events.specs.declared.event.Event.{Event};
-ghost use Rattle.bbm_rules.specs.Broken.{keeps};
 ghost use Rattle.bbm_rules.specs.Claims.{Trust};
-ghost use Rattle.bbm_rules.specs.Covers.{noted};
-ghost use Rattle.bbm_rules.specs.Pages.{is_fresh, may_be_fresh};
 ghost use Rattle.bbm_rules.specs.Roots.{is_root, root_at};
-ghost use Rattle.bbm_rules.specs.Tree.{Node};
 ghost use Rattle.bbm_rules.specs.Values.{readable_before};
-ghost use Rattle.bbm_histories.specs.TreeChanges.{Attaches, Proper};
-ghost use Rattle.bbm_histories.specs.ValueSteps.{Written, is_root_after, readable_writes, root_after};
+ghost use Rattle.bbm_histories.specs.ValueSteps.{is_root_after, readable_writes, root_after};
+ghost use Rattle.bbm_histories.specs.PositionLaws.{FreshByEvent};
 
 use crate::below::below;
 
@@ -25,16 +21,9 @@ pub fn law_root_step()
 {}
 
 /// Which pages are fresh after an event that breaks no rule: a page in which it attaches a node isn't; of any other
-/// page an init makes it so, a `null` ends it, and other events leave it. The law is the contract.
+/// page an init makes it so, a `null` ends it, and other events leave it. The law is `FreshByEvent`.
 pub fn law_fresh_step()
-    ensures attached { (heading : Heading) (trust : Trust) (h : List Event) (e : Event) → Proper heading →
-        keeps heading trust (e ∷ h) ≡ true → (m : Node) → Attaches heading trust (noted heading trust h) e m →
-        is_fresh heading trust (noted heading trust (e ∷ h)) m.page ≡ false }
-    ensures others { (heading : Heading) (trust : Trust) (h : List Event) (e : Event) →
-        keeps heading trust (e ∷ h) ≡ true → (page : ℕ) →
-        ((m : Node) → Attaches heading trust (noted heading trust h) e m → m.page ≡ page → ⊥) →
-        is_fresh heading trust (noted heading trust (e ∷ h)) page
-        ≡ may_be_fresh e page (is_fresh heading trust (noted heading trust h) page) }
+    ensures { (heading : Heading) (trust : Trust) → FreshByEvent heading trust }
 {
     below();
 }

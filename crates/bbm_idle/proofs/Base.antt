@@ -2,6 +2,9 @@
 use Rattle.std.proofs.Common.{◌≡◌, ℕ, Bool, true, false, not, ◌&&◌, ◌||◌, ◌==◌, List, [], ◌∷◌, Option, Some, None, find}
 use Rattle.std.proofs.Common.{is_none, is_some, Contains, refl, sym, ◌∙◌, ap, subst, true≢false}
 use Rattle.std.proofs.lemmas.Bool.{and_parts, false_from_ne_true, not-true}
+use Rattle.bbm_lemmas.proofs.Words.{pe_finds}
+use Rattle.bbm_lemmas.proofs.Tautologies.{proved}
+use Rattle.bbm_lemmas.proofs.Tautologies.Claim.{If, Is}
 use Rattle.bbm_lemmas.proofs.Elements.{none_of}
 use Rattle.bbm_rules.specs.Broken.{broken, keeps}
 use Rattle.bbm_rules.specs.Changes.{changes}
@@ -26,7 +29,6 @@ use Rattle.bbm_idle.specs.Idle.{adds, adds_at, answers_needed, is_idle, is_neede
 use Rattle.bbm_idle.specs.Idle.{wrote_register}
 use Rattle.bbm_idle.specs.KnownOfIdle.{Known}
 use Rattle.bbm_idle.proofs.DsbBase.{same_held, same_patterns, same_tree}
-use Rattle.bbm_idle.proofs.FindLists.{one_pe}
 use Rattle.bbm_idle.proofs.Needed.{adds_needed}
 use Rattle.bbm_idle.proofs.Registers.{idle_isb}
 use Rattle.bbm_idle.proofs.Waits.{changeless, of_dmb, of_isb, of_tlbi}
@@ -38,14 +40,12 @@ module _ (heading : Heading) where
   -- a TLBI that isn't needed takes no tag
   takes_none : (h : List Event) (e : Event) → is_needed heading h e ≡ false → TakesNone heading h e
   takes_none h e needless p less =
-      by (reaches heading e p) (any (adds_at heading (noted heading Patterns h) e p) (written_places h)) (any (takes_of heading h e p) (roots_of h))
-      (false_from_ne_true (is_needed_at heading h e p) (λ needed. true≢false (sym (one_pe heading.pes (is_needed_at heading h e) p less needed)
+      proved 3 (λ r a b. If (Is (r && (a || b)) false) (Is (r && b) false)) refl (reaches heading e p) (any
+      (adds_at heading (noted heading Patterns h) e p) (written_places h)) (any (takes_of heading h e p)
+      (roots_of h))
+      (false_from_ne_true (is_needed_at heading h e p) (λ needed. true≢false (sym (pe_finds heading.pes
+      (is_needed_at heading h e) p less needed)
       ∙ needless)))
-    where
-      by : (r a b : Bool) → (r && (a || b)) ≡ false → (r && b) ≡ false
-      by false a b e = refl
-      by true true b e = absurd (true≢false e)
-      by true false b e = e
 
   answers_none : (q : ℕ) (dsb : Barrier) (h : List Event) → any (answers_needed heading dsb) (unanswered itself q h) ≡ false
       → AnswersNone heading q dsb h
@@ -66,12 +66,8 @@ module _ (heading : Heading) where
   fresh_outside : (ns : List Noted) (page : ℕ) → (is_fresh heading Patterns ns page && not (in_tree heading Patterns ns page))
       ≡ is_fresh heading Patterns ns page
   fresh_outside [] page = refl
-  fresh_outside (n ∷ ns) page = by (may_be_fresh n.event page (is_fresh heading Patterns ns page)) (in_tree heading Patterns (n ∷ ns) page)
-    where
-      by : (m t : Bool) → ((m && not t) && not t) ≡ (m && not t)
-      by false t = refl
-      by true true = refl
-      by true false = refl
+  fresh_outside (n ∷ ns) page = proved 2 (λ m t. Is ((m && not t) && not t) (m && not t)) refl
+      (may_be_fresh n.event page (is_fresh heading Patterns ns page)) (in_tree heading Patterns (n ∷ ns) page)
 
   module _ (k : Known heading) (h : List Event) (e : Event) where
     abbrev before : List Noted
@@ -96,7 +92,8 @@ module _ (heading : Heading) where
     same_fresh : Quiet e → tree heading Patterns after ≡ tree heading Patterns before → (page : ℕ)
         → is_fresh heading Patterns after page ≡ is_fresh heading Patterns before page
     same_fresh quiet trees page =
-        ap (λ (b : Bool). b && not (in_tree heading Patterns after page)) (k.fresh e page (is_fresh heading Patterns before page) quiet.inits quiet.nulls)
+        ap (λ (b : Bool). b && not (in_tree heading Patterns after page))
+        (k.changes.fresh e page (is_fresh heading Patterns before page) quiet.inits quiet.nulls)
         ∙ (ap (λ (ns : List Node). is_fresh heading Patterns before page && not (is_some (find (λ (n : Node). n.page == page) ns))) trees
         ∙ fresh_outside before page)
 
@@ -104,7 +101,8 @@ module _ (heading : Heading) where
         → page_of place ≡ n.page → held_at heading Patterns before n place ≡ Some value → last_valid n.kind n.level place after ≡ Some w
         → last_valid n.kind n.level place before ≡ Some w' → SamePatterns heading place Patterns Patterns w.since w'.since
     patterns_on quiet stay n place value w w' t inside holds last last' =
-        let v = was_some item (last_valid n.kind n.level place before) w (sym (k.valid item before n.kind n.level place quiet.values) ∙ last) in
+        let v = was_some item (last_valid n.kind n.level place before) w
+        (sym (k.changes.valid item before n.kind n.level place quiet.values) ∙ last) in
         let same : Some v.0 ≡ Some w' = sym v.1 ∙ last' in
         let one : v.0 ≡ w' = cc in
         let since : item ∷ w'.since ≡ w.since = ap (λ (x : ValidWrite). item ∷ x.since) (sym one) ∙ v.3 in
@@ -114,12 +112,12 @@ module _ (heading : Heading) where
         → tree heading Patterns after ≡ tree heading Patterns before → SameHeld → PatternsStay → SameTags heading Patterns Patterns (e ∷ h) h
         → Alike heading Patterns Patterns (e ∷ h) h
     alike_by quiet registers trees same_held stay tags = record {
-      values = λ place. k.values e h place quiet.values;
-      places = k.places e h quiet.values;
-      roots = k.roots e h quiet.roots;
-      nulls = λ page. k.nulls e h page quiet.nulls;
+      values = λ place. k.changes.values e h place quiet.values;
+      places = k.changes.written e h quiet.values;
+      roots = k.changes.roots e h quiet.roots;
+      nulls = λ page. k.changes.nulls e h page quiet.nulls;
       registers = registers;
-      locks = λ lock. k.locks e h lock quiet.locks;
+      locks = λ lock. k.changes.locks e h lock quiet.locks;
       trees = trees;
       fresh = same_fresh quiet trees;
       held = λ n place t inside. same_held n place (there n t) inside;
@@ -144,9 +142,9 @@ module _ (heading : Heading) where
     same_trees : Quiet e → ((n : Node) (place : ℕ) → held_at heading Patterns after n place ≡ held_at heading Patterns before n place)
         → tree heading Patterns after ≡ tree heading Patterns before
     same_trees quiet same_held =
-        k.same_tree after before
-        (k.roots e (events_of before) quiet.roots)
-        (k.places e (events_of before) quiet.values)
+        k.trees_alike after before
+        (k.changes.roots e (events_of before) quiet.roots)
+        (k.changes.written e (events_of before) quiet.values)
         (λ n place t inside. same_held n place)
 
   -- ---- the base
@@ -154,7 +152,8 @@ module _ (heading : Heading) where
   node_before : Known heading → (h : List Event) → keeps heading Patterns h ≡ true → (n : Node) (place : ℕ)
       → Contains (tree heading Patterns (noted heading Patterns h)) n → page_of place ≡ n.page
       → node_of heading Patterns (noted heading Patterns h) (page_of place) ≡ Some n
-  node_before k h kept n place t inside = ap (node_of heading Patterns (noted heading Patterns h)) inside ∙ k.first_node h kept n t
+  node_before k h kept n place t inside = ap (node_of heading Patterns (noted heading Patterns h)) inside
+      ∙ k.one_node.the_first h kept n t
 
   pub base : Known heading → (h : List Event) (e : Event) → keeps heading Patterns (e ∷ h) ≡ true
       → is_idle heading h e ≡ true → Alike heading Patterns Patterns (e ∷ h) h
@@ -163,7 +162,7 @@ module _ (heading : Heading) where
       alike_by k h (Dmb pe dsb) quiet (λ p reg. refl) (same_trees k h (Dmb pe dsb) quiet held) (λ n place t inside. held n place)
       (λ n place value w t inside holds last. changeless heading k place item w.since
       (of_dmb heading k place item.covers item.position w.since pe dsb))
-      (k.tags_dmb pe dsb h)
+      (k.same_tags.dmb Patterns pe dsb h)
     where
       quiet : Quiet (Dmb pe dsb)
       quiet = record { values = refl; inits = refl; nulls = refl; roots = refl; locks = refl }
@@ -178,7 +177,7 @@ module _ (heading : Heading) where
       alike_by k h (Isb pe) quiet registers (same_trees k h (Isb pe) quiet held) (λ n place t inside. held n place)
       (λ n place value w t inside holds last. changeless heading k place item w.since
       (of_isb heading k place item.covers item.position w.since pe))
-      (k.tags_isb pe h registers)
+      (k.same_tags.isb Patterns pe h registers)
     where
       quiet : Quiet (Isb pe)
       quiet = record { values = refl; inits = refl; nulls = refl; roots = refl; locks = refl }
@@ -199,7 +198,7 @@ module _ (heading : Heading) where
       false_from_ne_true (adds (item.covers place) (seen heading place p w.since) (half heading place p w.since)
       (cleansed heading Patterns place p w.since)) (λ adding. true≢false (sym (adds_needed heading k h (Tlbi pe op xt) p place n w less reached
       (node_before k h kept_before n place t inside) last adding) ∙ needless)))))
-      (k.tags_tlbi pe op xt h kept_before (takes_none h (Tlbi pe op xt) needless))
+      (k.same_tags.tlbi pe op xt h k.proper kept_before (takes_none h (Tlbi pe op xt) needless))
     where
       quiet : Quiet (Tlbi pe op xt)
       quiet = record { values = refl; inits = refl; nulls = refl; roots = refl; locks = refl }
@@ -220,7 +219,8 @@ module _ (heading : Heading) where
       alike_by k h (Dsb pe dsb) (record { values = refl; inits = refl; nulls = refl; roots = refl; locks = refl }) (λ p reg. refl)
       (same_tree heading k h pe dsb kept idle) (same_held heading k h pe dsb kept idle)
       (same_patterns heading k h pe dsb kept idle)
-      (k.tags_dsb pe dsb h (and_parts (keeps heading Patterns h) (is_none (broken heading Patterns h (Dsb pe dsb))) kept).0
+      (k.same_tags.dsb pe dsb h k.proper
+      (and_parts (keeps heading Patterns h) (is_none (broken heading Patterns h (Dsb pe dsb))) kept).0
       (answers_none pe dsb h (not-true (any (answers_needed heading dsb) (unanswered itself pe h))
       (and_parts (keeps_phases heading h (Dsb pe dsb)) (not (any (answers_needed heading dsb) (unanswered itself pe h))) idle).1)))
   base k h e kept idle = absurd (true≢false (sym idle))

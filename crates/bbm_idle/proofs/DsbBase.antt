@@ -85,12 +85,13 @@ module _ (heading : Heading) where
 
     in_written : (kind : Kind) (level place : ℕ) (w : ValidWrite) → last_valid kind level place before ≡ Some w → In (written_places h) place
     in_written kind level place w last =
-        subst (λ (es : List Event). In (written_places es) place) (k.events_noted h) (written kind level place before w last)
+        subst (λ (es : List Event). In (written_places es) place) (k.notes_keep_the_events h)
+        (written kind level place before w last)
 
     -- the node of a place of a tree
     node_before : (n : Node) (place : ℕ) → Contains (tree heading Patterns before) n → page_of place ≡ n.page
         → node_of heading Patterns before (page_of place) ≡ Some n
-    node_before n place t inside = ap (node_of heading Patterns before) inside ∙ k.first_node h kept_before n t
+    node_before n place t inside = ap (node_of heading Patterns before) inside ∙ k.one_node.the_first h kept_before n t
 
     -- ---- what is held
 
@@ -100,11 +101,12 @@ module _ (heading : Heading) where
     now_clean n place p node none = by (holds_above heading Patterns after n) refl
       where
         then : node_of heading Patterns after (page_of place) ≡ node_where (holds_above heading Patterns after) (Some n)
-        then = k.node_dsb h pe dsb kept (page_of place) ∙ ap (node_where (holds_above heading Patterns after)) node
+        then = k.node_step.dsb h pe dsb kept (page_of place) ∙ ap (node_where (holds_above heading Patterns after)) node
 
         by : (c : Bool) → holds_above heading Patterns after n ≡ c → phase_of heading Patterns (Dsb pe dsb ∷ h) place p ≡ Clean
-        by true c = k.phase_empty (Dsb pe dsb ∷ h) place p n (then ∙ ap (λ (x : Bool). cond x (Some n) None) c) none
-        by false c = k.phase_outside (Dsb pe dsb ∷ h) place p (then ∙ ap (λ (x : Bool). cond x (Some n) None) c)
+        by true c = k.phase_parts.empty (Dsb pe dsb ∷ h) place p n (then ∙ ap (λ (x : Bool). cond x (Some n) None) c)
+            none
+        by false c = k.phase_parts.outside (Dsb pe dsb ∷ h) place p (then ∙ ap (λ (x : Bool). cond x (Some n) None) c)
 
     not_ended : (n : Node) (place value : ℕ) → Contains (tree heading Patterns before) n → page_of place ≡ n.page
         → held_at heading Patterns before n place ≡ Some value → held_at heading Patterns after n place ≡ None → ⊥
@@ -113,13 +115,14 @@ module _ (heading : Heading) where
         let last = held_last n.kind n.level place before value holds in
         never_clean (is_valid n.kind n.level (value_of h place)) (cleansed heading Patterns place 0 last.0.since)
         (half heading place 0 last.0.since) (seen heading place 0 last.0.since)
-        (subst (λ (x : Phase). same_phase Clean x ≡ true) (k.phase_holding h place 0 value n last.0 node holds last.1)
+        (subst (λ (x : Phase). same_phase Clean x ≡ true)
+        (k.phase_parts.holding h place 0 value n last.0 node holds last.1)
         (subst (λ (x : Phase). same_phase x (phase_of heading Patterns h place 0) ≡ true) (now_clean n place 0 node none)
         (same_phases place 0 (in_written n.kind n.level place last.0 last.1) k.proper.some_pe)))
 
     pub same_held : (n : Node) (place : ℕ) → Contains (tree heading Patterns before) n → page_of place ≡ n.page
         → held_at heading Patterns after n place ≡ held_at heading Patterns before n place
-    same_held n place t inside = by (k.held_changes h (Dsb pe dsb) k.proper.some_pe kept n place t inside)
+    same_held n place t inside = by (k.held_changes.changes h (Dsb pe dsb) k.proper.some_pe kept n place t inside)
       where
         ends : (o : Option ℕ) → held_at heading Patterns before n place ≡ o → held_at heading Patterns after n place ≡ None
             → held_at heading Patterns after n place ≡ held_at heading Patterns before n place
@@ -133,7 +136,7 @@ module _ (heading : Heading) where
         by (inr (inr d)) = ends (held_at heading Patterns before n place) refl d.3
 
     pub same_tree : tree heading Patterns after ≡ tree heading Patterns before
-    same_tree = sym (k.same_tree before after refl refl (λ n place t inside. sym (same_held n place t inside)))
+    same_tree = sym (k.trees_alike before after refl refl (λ n place t inside. sym (same_held n place t inside)))
 
     -- ---- patterns
 
@@ -146,23 +149,25 @@ module _ (heading : Heading) where
       node_after : node_of heading Patterns after (page_of place) ≡ Some n
       node_after =
           ap (node_of heading Patterns after) inside
-          ∙ k.first_node (Dsb pe dsb ∷ h) kept n (subst (λ (ns : List Node). Contains ns n) (sym same_tree) t)
+          ∙ k.one_node.the_first (Dsb pe dsb ∷ h) kept n (subst (λ (ns : List Node). Contains ns n) (sym same_tree) t)
 
       phases_alike : same_phase (cond (is_valid n.kind n.level (value_of h place)) Live (broken_phase heading Patterns place p (item ∷ w.since)))
           (cond (is_valid n.kind n.level (value_of h place)) Live (broken_phase heading Patterns place p w.since)) ≡ true
       phases_alike =
           subst (λ (x : Phase). same_phase (cond (is_valid n.kind n.level (value_of h place)) Live (broken_phase heading Patterns place p (item ∷ w.since))) x ≡ true)
-          (k.phase_holding h place p value n w (node_before n place t inside) holds last)
+          (k.phase_parts.holding h place p value n w (node_before n place t inside) holds last)
           (subst (λ (x : Phase). same_phase x (phase_of heading Patterns h place p) ≡ true)
-          (k.phase_holding (Dsb pe dsb ∷ h) place p value n (record { value = w.value; since = item ∷ w.since }) node_after
+          (k.phase_parts.holding (Dsb pe dsb ∷ h) place p value n (record { value = w.value; since = item ∷ w.since })
+          node_after
           (same_held n place t inside ∙ holds) last_after)
           (same_phases place p (in_written n.kind n.level place w last) less))
 
       -- where the present value is valid, nobody wrote the place since
       live : is_valid n.kind n.level (value_of h place) ≡ true → Unwritten heading k place p w.since
       live valid =
-          let v = k.last_live n.kind n.level place before
-          (subst (λ (es : List Event). is_valid n.kind n.level (value_of es place) ≡ true) (sym (k.events_noted h)) valid) in
+          let v = k.last_valid.live n.kind n.level place before
+          (subst (λ (es : List Event). is_valid n.kind n.level (value_of es place) ≡ true)
+          (sym (k.notes_keep_the_events h)) valid) in
           let same : Some v.0 ≡ Some w = sym v.1 ∙ last in
           let one : v.0 ≡ w = cc in
           subst (λ (x : ValidWrite). Unwritten heading k place p x.since) one v.3
@@ -185,7 +190,7 @@ module _ (heading : Heading) where
                 cleansed_same = now.uncleansed ∙ sym old.uncleansed;
               }
           by false c e = same_marks heading k place p (item ∷ w.since) w.since e (λ clean.
-              k.half_step place p item w.since
+              k.pattern_steps.half place p item w.since
               ∙ half_stays heading k h kept_before n place value w (record { in_tree = t; inside = inside; holds = holds; is_last = last })
               p less pe dsb (not-true (any (answers_needed heading dsb) (unanswered itself pe h)) idle_parts.1))
 
@@ -194,6 +199,9 @@ module _ (heading : Heading) where
         → SamePatterns heading place Patterns Patterns (item ∷ w.since) w.since
     same_patterns n place value w t inside holds last =
         changeless heading k place item w.since (of_dsb heading k place (cover_at heading Patterns before (Dsb pe dsb)) item.position w.since pe dsb
-        (λ p less. let m = marks n place value p w t inside holds last less in sym (k.seen_step place p item w.since) ∙ m.seen_same)
-        (λ p less. let m = marks n place value p w t inside holds last less in sym (k.half_step place p item w.since) ∙ m.half_same)
-        (λ p less. let m = marks n place value p w t inside holds last less in sym (k.cleansed_step place p item w.since) ∙ m.cleansed_same))
+        (λ p less. let m = marks n place value p w t inside holds last less in sym
+        (k.pattern_steps.seen place p item w.since) ∙ m.seen_same)
+        (λ p less. let m = marks n place value p w t inside holds last less in sym
+        (k.pattern_steps.half place p item w.since) ∙ m.half_same)
+        (λ p less. let m = marks n place value p w t inside holds last less in sym
+        (k.pattern_steps.cleansed place p item w.since) ∙ m.cleansed_same))

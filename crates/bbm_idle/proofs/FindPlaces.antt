@@ -2,6 +2,7 @@
 use Rattle.std.proofs.Common.{◌≡◌, ℕ, ◌+◌, ◌-◌, ◌<◌, ◌≤◌, Bool, false, ◌&&◌, ◌||◌, List, [], ◌∷◌, Option, Some, None}
 use Rattle.std.proofs.Common.{length, get_or, take, reverse, refl, ap, ◌∙◌, arith}
 use Rattle.std.proofs.lemmas.List.{take_all}
+use Rattle.bbm_lemmas.proofs.Reversed.{reverse_more}
 use Rattle.bbm_tlbi_scope.specs.declared.entry.Cover.{Cover}
 use Rattle.bbm_tlbi_scope.specs.declared.entry.Cover.TheVariants.{None as NoCover}
 use Rattle.bbm_rules.specs.Claims.{Patterns, Trust}
@@ -19,7 +20,7 @@ use Rattle.bbm_oracle_trees.specs.Past.{Past, notes}
 use Rattle.bbm_idle.specs.Finding.{Stands, adds_since, adds_with, needed_by, place_adds}
 use Rattle.bbm_idle.specs.Idle.{adds_at, is_needed, is_needed_at, takes_of}
 use Rattle.bbm_idle.specs.declared.find_places.Seat.{Seat}
-use Rattle.bbm_idle.proofs.FindLists.{any_alike, reverse_more}
+use Rattle.bbm_idle.proofs.FindLists.{any_alike}
 
 -- a TLBI that doesn't cover the place adds nothing
 pub adds_nothing : (heading : Heading) (p place : ℕ) (found : Option ValidWrite) → adds_since heading NoCover p place found ≡ false

@@ -3,6 +3,8 @@ use Rattle.std.proofs.Common.{◌≡◌, ℕ, Bool, true, false, not, cond, ◌&
 use Rattle.std.proofs.Common.{true≢false}
 use Rattle.std.proofs.lemmas.Bool.{and_parts}
 use Rattle.std.proofs.lemmas.Map.Views.{any-filter_same}
+use Rattle.bbm_lemmas.proofs.Tautologies.{proved}
+use Rattle.bbm_lemmas.proofs.Tautologies.Claim.{Is}
 use Rattle.bbm_barriers.specs.Options.{answers}
 use Rattle.bbm_tlbi_scope.specs.Operations.{operation}
 use Rattle.bbm_regimes.specs.PeMask.{pe_in}
@@ -29,8 +31,7 @@ sorted true dsb e k = absurd (true≢false (sym k))
 sorted false dsb e k = absurd (true≢false (sym k))
 
 not_twice : (b : Bool) → b ≡ not (not b)
-not_twice true = refl
-not_twice false = refl
+not_twice = proved 1 (λ b. Is b (not (not b))) refl
 
 module _ (heading : Heading) where
   left_waiting : (dsb : Barrier) (cast : Bool) (ts : List (Issued Event))
@@ -72,22 +73,7 @@ module _ (heading : Heading) where
   answered_one dsb t = by_event t.tlbi (is_needed heading t.before t.tlbi)
     where
       cast : (a f n : Bool) → (b : Bool) → (cond b a f && n) ≡ ((a && (b && n)) || (f && (not b && n)))
-      cast true true true true = refl
-      cast true true true false = refl
-      cast true true false true = refl
-      cast true true false false = refl
-      cast true false true true = refl
-      cast true false true false = refl
-      cast true false false true = refl
-      cast true false false false = refl
-      cast false true true true = refl
-      cast false true true false = refl
-      cast false true false true = refl
-      cast false true false false = refl
-      cast false false true true = refl
-      cast false false true false = refl
-      cast false false false true = refl
-      cast false false false false = refl
+      cast = proved 4 (λ a f n b. Is (cond b a f && n) ((a && (b && n)) || (f && (not b && n)))) refl
 
       either_of : (b : Bool) → answers dsb b ≡ cond b (answers dsb true) (answers dsb false)
       either_of true = refl
@@ -102,13 +88,8 @@ module _ (heading : Heading) where
 
   pub answered : (dsb : Barrier) (ts : List (Issued Event)) → any (answers_needed heading dsb) ts
       ≡ ((answers dsb true && any (waits_for heading true) ts) || (answers dsb false && any (waits_for heading false) ts))
-  answered dsb [] = by_case (answers dsb true) (answers dsb false)
-    where
-      by_case : (a f : Bool) → false ≡ ((a && false) || (f && false))
-      by_case true true = refl
-      by_case true false = refl
-      by_case false true = refl
-      by_case false false = refl
+  answered dsb [] = proved 2 (λ a f. Is false ((a && false) || (f && false))) refl (answers dsb true)
+      (answers dsb false)
   answered dsb (t ∷ ts) =
       ap (λ (b : Bool). b || any (answers_needed heading dsb) ts) (answered_one dsb t)
       ∙ ap (λ (b : Bool). ((answers dsb true && waits_for heading true t) || (answers dsb false && waits_for heading false t)) || b) (answered dsb ts)

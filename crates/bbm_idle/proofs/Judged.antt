@@ -150,7 +150,7 @@ module _ (heading : Heading) (h h' : List Event) (a : Alike heading Patterns Pat
             = a.patterns n place w.0 w'.0 t inside (ap is_some holds) w.1 w'.1 in
             ap (adds_by here) w.1
             ∙ (ap (λ (x : Cover). adds x (seen heading place p w.0.since) (half heading place p w.0.since) (cleansed heading Patterns place p w.0.since))
-            (k.covers h h' e place a)
+            (k.covers_alike h h' e place a)
             ∙ (ap (λ (x : Bool). adds (cover_at heading Patterns there e place) x (half heading place p w.0.since) (cleansed heading Patterns place p w.0.since))
             (s.seen_alike p less)
             ∙ (ap (λ (x : Bool). adds (cover_at heading Patterns there e place) (seen heading place p w'.0.since) x (cleansed heading Patterns place p w.0.since))
@@ -164,9 +164,9 @@ module _ (heading : Heading) (h h' : List Event) (a : Alike heading Patterns Pat
         inside_tree n node None o =
             let none : cover_at heading Patterns here e place ≡ NoCover = uncovered heading here e place n node o in
             adds_none here (last_valid n.kind n.level place here) none
-            ∙ sym (adds_none there (last_valid n.kind n.level place there) (sym (k.covers h h' e place a) ∙ none))
+            ∙ sym (adds_none there (last_valid n.kind n.level place there) (sym (k.covers_alike h h' e place a) ∙ none))
         inside_tree n node (Some value) o =
-            let t = k.node_taken here (page_of place) n node in holding n value t.0 (sym t.1) o
+            let t = k.tree.taken here (page_of place) n node in holding n value t.0 (sym t.1) o
 
         by : (o : Option Node) → node_of heading Patterns here (page_of place) ≡ o → adds_at heading here e p place ≡ adds_at heading there e p place
         by None node = out here node ∙ sym (out there (sym same_node ∙ node))
@@ -196,8 +196,10 @@ module _ (heading : Heading) (h h' : List Event) (a : Alike heading Patterns Pat
       ap (every (test h)) a.places ∙ every_alike (test h) (test h') (written_places h') (λ place.
       every_same heading.pes (λ p. same_phase (phase_of heading Patterns (e ∷ h) place p) (phase_of heading Patterns h place p))
       (λ p. same_phase (phase_of heading Patterns (e ∷ h') place p) (phase_of heading Patterns h' place p))
-      (λ p less. ap (λ (x : Phase). same_phase x (phase_of heading Patterns h place p)) (k.phases (e ∷ h) (e ∷ h') place p on less)
-      ∙ ap (λ (x : Phase). same_phase (phase_of heading Patterns (e ∷ h') place p) x) (k.phases h h' place p a less)))
+      (λ p less. ap (λ (x : Phase). same_phase x (phase_of heading Patterns h place p))
+      (k.alike_judges.phase (e ∷ h) (e ∷ h') place p on less)
+      ∙ ap (λ (x : Phase). same_phase (phase_of heading Patterns (e ∷ h') place p) x)
+      (k.alike_judges.phase h h' place p a less)))
     where
       test : List Event → ℕ → Bool
       test es place = every_pe heading.pes (λ p. same_phase (phase_of heading Patterns (e ∷ es) place p) (phase_of heading Patterns es place p))

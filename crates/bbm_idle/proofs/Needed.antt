@@ -3,6 +3,7 @@ use Rattle.std.proofs.Common.{◌≡◌, ℕ, ◌<◌, Bool, true, false, not, �
 use Rattle.std.proofs.Common.{option_and_then, Contains, is_none, unwrap_or, refl, sym, ◌∙◌, ap, subst, true≢false}
 use Rattle.std.proofs.lemmas.Bool.{and_from, and_parts, false_from_ne_true, or_left, or_right}
 use Rattle.std.proofs.lemmas.List.{append_assoc}
+use Rattle.bbm_lemmas.proofs.Words.{pe_finds}
 use Rattle.bbm_lemmas.specs.Elements.{In}
 use Rattle.bbm_lemmas.proofs.Elements.{any_finds, any_found, from_contains, none_of, to_contains}
 use Rattle.bbm_barriers.specs.Options.{answers}
@@ -29,7 +30,6 @@ use Rattle.bbm_histories.specs.HistorySteps.{answered_by, half_after, half_waits
 use Rattle.bbm_histories.specs.TreeChanges.{HeldBy, View}
 use Rattle.bbm_idle.specs.Idle.{adds, adds_at, answers_needed, is_needed, is_needed_at, takes_of}
 use Rattle.bbm_idle.specs.KnownOfIdle.{Known}
-use Rattle.bbm_idle.proofs.FindLists.{one_pe}
 use Rattle.bbm_idle.proofs.Since.{answered_waits, half_later}
 use Rattle.bbm_idle.proofs.Written.{written}
 
@@ -97,7 +97,7 @@ module _ (heading : Heading) where
           (cleansed heading Patterns place p v.since))
 
   needs_at : (h : List Event) (e : Event) (p : ℕ) → p < heading.pes → is_needed_at heading h e p ≡ true → is_needed heading h e ≡ true
-  needs_at h e p less needed = one_pe heading.pes (is_needed_at heading h e) p less needed
+  needs_at h e p less needed = pe_finds heading.pes (is_needed_at heading h e) p less needed
 
   -- a TLBI that adds something at a place of a tree is needed
   pub adds_needed : Known heading → (h : List Event) (e : Event) (p place : ℕ) (n : Node) (w : ValidWrite) → p < heading.pes
@@ -110,7 +110,8 @@ module _ (heading : Heading) where
       (any (adds_at heading (noted heading Patterns h) e p) (written_places h) || any (takes_of heading h e p) (roots_of h)) reached
       (or_left (any (adds_at heading (noted heading Patterns h) e p) (written_places h)) (any (takes_of heading h e p) (roots_of h))
       (any_finds (adds_at heading (noted heading Patterns h) e p) (written_places h) place
-      (subst (λ (es : List Event). In (written_places es) place) (k.events_noted h) (written n.kind n.level place (noted heading Patterns h) w last))
+      (subst (λ (es : List Event). In (written_places es) place) (k.notes_keep_the_events h)
+      (written n.kind n.level place (noted heading Patterns h) w last))
       (adds_there (noted heading Patterns h) e p place n w node last ∙ adding))))
 
   -- and so is one that takes a tag which a root holds
@@ -141,7 +142,7 @@ module _ (heading : Heading) (k : Known heading) (h : List Event) (kept : keeps 
   by_view q t o older split was same covers = record {
     before = events_of older;
     waiting = from_contains (unanswered itself q h) (record { tlbi = t.tlbi.event; before = events_of older })
-        (k.open_complete q h (record { tlbi = t.tlbi.event; before = events_of older }) (record {
+        (k.answered.complete q h (record { tlbi = t.tlbi.event; before = events_of older }) (record {
           newer = events_of o.newer;
           split = parts;
           issued = o.issued;
@@ -149,32 +150,36 @@ module _ (heading : Heading) (k : Known heading) (h : List Event) (kept : keeps 
               subst (λ (y : Event). completes_for q t.tlbi.event y ≡ false) m.4 (o.uncompleted m.1 m.0 m.2 m.3);
         }));
     node = ap (node_of heading Patterns (noted heading Patterns (events_of older))) was.inside
-        ∙ k.first_node (events_of older) kept_then n (subst (λ (ns : List Noted). Contains (tree heading Patterns ns) n) same was.in_tree);
+        ∙ k.one_node.the_first (events_of older) kept_then n
+        (subst (λ (ns : List Noted). Contains (tree heading Patterns ns) n) same was.in_tree);
     last = subst (λ (ns : List Noted). last_valid n.kind n.level place ns ≡ Some (record { value = value; since = t.before })) same was.is_last;
     covered = ap (λ (c : ℕ → Cover). c place) covers
         ∙ ap (λ (ns : List Noted). cover_at heading Patterns ns t.tlbi.event place) same;
   }
     where
       parts : h ≡ events_of o.newer ++ t.tlbi.event ∷ events_of older
-      parts = sym (k.events_noted h) ∙ (ap events_of split ∙ events_append o.newer (t.tlbi ∷ older))
+      parts = sym (k.notes_keep_the_events h) ∙ (ap events_of split ∙ events_append o.newer (t.tlbi ∷ older))
 
       kept_then : keeps heading Patterns (events_of older) ≡ true
       kept_then = (and_parts (keeps heading Patterns (events_of older)) (is_none (broken heading Patterns (events_of older) t.tlbi.event))
-          (k.kept (events_of o.newer) (t.tlbi.event ∷ events_of older) (subst (λ (es : List Event). keeps heading Patterns es ≡ true) parts kept))).0
+          (k.frozen.kept (events_of o.newer) (t.tlbi.event ∷ events_of older)
+          (subst (λ (es : List Event). keeps heading Patterns es ≡ true) parts kept))).0
 
   at_issue : (q : ℕ) (t : Issued Noted) → In (unanswered event_of q w.since) t → seen heading place p t.before ≡ true → AtIssue q t
   at_issue q t waiting was_seen =
-      let o : Open event_of q w.since t = k.open_sound q w.since t (to_contains (unanswered event_of q w.since) t waiting) in
+      let o : Open event_of q w.since t = k.answered.noted_sound q w.since t
+      (to_contains (unanswered event_of q w.since) t waiting) in
       let v : View heading Patterns (noted heading Patterns h) n place value o.newer t.before t.tlbi
       = k.frozen_view h kept n place value p w o.newer t.before t.tlbi held o.split was_seen in
-      let notes = k.each_noted h o.newer v.older t.tlbi v.split in
+      let notes = k.notes.each h o.newer v.older t.tlbi v.split in
       by_view q t o v.older v.split v.was notes.0 notes.1
 
   -- it was half before only if it is half
   unhalf_before : half heading place p w.since ≡ false → (q : ℕ) (t : Issued Noted) → In (unanswered event_of q w.since) t
       → half heading place p t.before ≡ false
   unhalf_before unhalf q t waiting =
-      let o : Open event_of q w.since t = k.open_sound q w.since t (to_contains (unanswered event_of q w.since) t waiting) in
+      let o : Open event_of q w.since t = k.answered.noted_sound q w.since t
+      (to_contains (unanswered event_of q w.since) t waiting) in
       let split : w.since ≡ (o.newer ++ t.tlbi ∷ []) ++ t.before = o.split ∙ sym (append_assoc o.newer (t.tlbi ∷ []) t.before) in
       false_from_ne_true (half heading place p t.before) (λ e. true≢false (sym (ap (half heading place p) split
       ∙ half_later heading k place p (o.newer ++ t.tlbi ∷ []) t.before e) ∙ unhalf))

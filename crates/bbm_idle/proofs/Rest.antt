@@ -2,6 +2,8 @@
 use Rattle.std.proofs.Common.{◌≡◌, ℕ, Bool, true, false, cond, not, ◌&&◌, ◌||◌, ◌==◌, List, [], ◌∷◌, ◌++◌, is_none}
 use Rattle.std.proofs.Common.{refl, sym, ◌∙◌, ap, subst}
 use Rattle.std.proofs.lemmas.Bool.{and_parts, not-true}
+use Rattle.bbm_lemmas.proofs.Tautologies.{proved}
+use Rattle.bbm_lemmas.proofs.Tautologies.Claim.{Is}
 use Rattle.bbm_barriers.specs.Options.{answers}
 use Rattle.bbm_rules.specs.Broken.{broken, keeps}
 use Rattle.bbm_rules.specs.Claims.{Patterns}
@@ -41,16 +43,11 @@ module _ (heading : Heading) where
   left_out h (Tlbi pe op xt) cast q idle =
       dropped (pe == q) (is_cast cast (Tlbi pe op xt)) false (waits heading cast q h) refl
   left_out h (Dsb pe dsb) cast q idle =
-      by (waits heading cast q h) (pe == q && answers dsb cast)
+      proved 2 (λ b t. Is (b && not t) (cond t false b)) refl (waits heading cast q h) (pe == q && answers dsb cast)
       ∙ left_alone pe q cast dsb (λ x c. waits heading c x h) (sym (answered heading dsb (unanswered itself pe h))
       ∙ not-true (any (answers_needed heading dsb) (unanswered itself pe h))
-      (and_parts (keeps_phases heading h (Dsb pe dsb)) (not (any (answers_needed heading dsb) (unanswered itself pe h))) idle).1)
-    where
-      by : (b t : Bool) → (b && not t) ≡ cond t false b
-      by true true = refl
-      by true false = refl
-      by false true = refl
-      by false false = refl
+      (and_parts (keeps_phases heading h (Dsb pe dsb)) (not (any (answers_needed heading dsb) (unanswered itself pe h)))
+      idle).1)
   left_out h e cast q idle = refl
 
   idle_out : (h : List Event) (e : Event) → is_idle heading h e ≡ true → WaitAlike (e ∷ h) h

@@ -38,8 +38,8 @@ module _ (heading : Heading) (k : Known heading) (place p : ℕ) where
 
   pub half_later : (newer since : List Noted) → half heading place p since ≡ true → half heading place p (newer ++ since) ≡ true
   half_later newer since s =
-      let i = k.half_sound place p since s in
-      k.half_complete place p (newer ++ since) (i.0, i.1, i.2, k.half_kept place p newer since i.0 i.1 i.2 i.3)
+      let i = k.half.sound place p since s in
+      k.half.complete place p (newer ++ since) (i.0, i.1, i.2, k.patterns_stay.half place p newer since i.0 i.1 i.2 i.3)
 
   -- what was published before a TLBI that is answered
   flushed : (c : Cover) (since : List Noted) (b : Noted) (t : Issued Noted) (d : Noted) → Flush heading c place p since t d
@@ -47,25 +47,27 @@ module _ (heading : Heading) (k : Known heading) (place p : ℕ) where
   flushed c since b t d f before =
       let a = f.answer in
       let o = a.is_open in
-      let issued : Publication heading place p (t.tlbi ∷ t.before) b = k.publication_kept place p (t.tlbi ∷ []) t.before b before in
-      let open_still = k.publication_kept place p o.newer (t.tlbi ∷ t.before) b issued in
+      let issued : Publication heading place p (t.tlbi ∷ t.before) b = k.patterns_stay.publication place p
+      (t.tlbi ∷ []) t.before b before in
+      let open_still = k.patterns_stay.publication place p o.newer (t.tlbi ∷ t.before) b issued in
       let older : Publication heading place p a.older b
       = subst (λ (xs : List Noted). Publication heading place p xs b) (sym o.split) open_still in
-      let answered : Publication heading place p (d ∷ a.older) b = k.publication_kept place p (d ∷ []) a.older b older in
+      let answered : Publication heading place p (d ∷ a.older) b = k.patterns_stay.publication place p (d ∷ []) a.older
+      b older in
       subst (λ (xs : List Noted). Publication heading place p xs b) (sym a.split)
-      (k.publication_kept place p a.newer (d ∷ a.older) b answered)
+      (k.patterns_stay.publication place p a.newer (d ∷ a.older) b answered)
 
   pub half_seen : (since : List Noted) → half heading place p since ≡ true → seen heading place p since ≡ true
   half_seen since s =
-      let i = k.half_sound place p since s in
-      k.seen_complete place p since (i.0, flushed Half since i.0 i.1 i.2 i.3.flush i.3.published)
+      let i = k.half.sound place p since s in
+      k.seen.complete place p since (i.0, flushed Half since i.0 i.1 i.2 i.3.flush i.3.published)
 
   pub cleansed_seen : (since : List Noted) → cleansed heading Patterns place p since ≡ true → seen heading place p since ≡ true
-  cleansed_seen since s = by (k.cleansed_sound place p since s)
+  cleansed_seen since s = by (k.cleansed.sound place p since s)
     where
       by : Cleansed heading Patterns place p since → seen heading place p since ≡ true
-      by (inl one) = k.seen_complete place p since (one.b, flushed Full since one.b one.t one.d one.flush one.published)
-      by (inr two) = k.seen_complete place p since (
+      by (inl one) = k.seen.complete place p since (one.b, flushed Full since one.b one.t one.d one.flush one.published)
+      by (inr two) = k.seen.complete place p since (
         two.b,
         flushed Second since two.b two.t2 two.d2 two.second
             (flushed Half two.t2.before two.b two.t1 two.d1 two.first.flush two.first.published),
@@ -87,7 +89,7 @@ module _ (heading : Heading) (k : Known heading) (place p : ℕ) where
 
   unseen : (since : List Noted) → Unwritten since → seen heading place p since ≡ false
   unseen since none = false_from_ne_true (seen heading place p since) (λ t.
-      let s = k.seen_sound place p since t in
+      let s = k.seen.sound place p since t in
       let w = s.1 in
       none w.q w.value w.write (w.newer ++ s.0 ∷ w.between) w.older
       (w.split ∙ sym (append_assoc w.newer (s.0 ∷ w.between) (w.write ∷ w.older))) w.wrote)

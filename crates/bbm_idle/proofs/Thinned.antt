@@ -15,7 +15,7 @@ module _ (heading : Heading) (k : Known heading) (chosen : List Event → Event 
     pub kept : keeps heading Patterns (without chosen h) ≡ true
 
   pub thinned : (h : List Event) → keeps heading Patterns h ≡ true → Thin h
-  thinned [] kept = record { alike = k.start; kept = refl }
+  thinned [] kept = record { alike = k.alike_joins.start Patterns Patterns; kept = refl }
   thinned (e ∷ h) kept = let r = by (thinned h parts.0) (chosen h e) refl in record { alike = r.0; kept = r.1 }
     where
       parts : (keeps heading Patterns h ≡ true) × (is_none (broken heading Patterns h e) ≡ true)
@@ -26,9 +26,13 @@ module _ (heading : Heading) (k : Known heading) (chosen : List Event → Event 
 
       by : Thin h → (b : Bool) → chosen h e ≡ b → Alike heading Patterns Patterns (e ∷ h) (cond b rest (e ∷ rest))
           × (keeps heading Patterns (cond b rest (e ∷ rest)) ≡ true)
-      by t true b = (k.joined (e ∷ h) h rest (base heading k h e kept (idle h e b)) t.alike, t.kept)
+      by t true b = (
+        k.alike_joins.joined Patterns Patterns Patterns (e ∷ h) h rest
+            (base heading k h e kept (idle h e b)) t.alike,
+        t.kept,
+      )
       by t false b =
           let on : keeps heading Patterns (e ∷ rest) ≡ true
           = and_from (keeps heading Patterns rest) (is_none (broken heading Patterns rest e)) t.kept
-          (ap (λ (x : Option Breach). is_none x) (sym (k.judges h rest e t.alike)) ∙ parts.1) in
-          (k.step h rest e kept on t.alike, on)
+          (ap (λ (x : Option Breach). is_none x) (sym (k.alike_judges.rule h rest e t.alike)) ∙ parts.1) in
+          (k.alike_step h rest e k.proper.some_pe kept on t.alike (k.takes_alike.patterns h rest e t.alike), on)

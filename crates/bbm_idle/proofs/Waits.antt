@@ -2,6 +2,8 @@
 use Rattle.std.proofs.Common.{◌≡◌, ℕ, ◌<◌, Bool, true, false, cond, not, ◌&&◌, ◌||◌, ◌==◌, List, ◌∷◌, refl, sym, ◌∙◌}
 use Rattle.std.proofs.Common.{ap, true≢false}
 use Rattle.std.proofs.lemmas.Bool.{and_parts, eqb-true, false_from_ne_true, or_parts}
+use Rattle.bbm_lemmas.proofs.Tautologies.{proved}
+use Rattle.bbm_lemmas.proofs.Tautologies.Claim.{If, Is}
 use Rattle.bbm_barriers.specs.Options.{answers}
 use Rattle.bbm_tlbi_scope.specs.declared.entry.Cover.{Cover}
 use Rattle.bbm_tlbi_scope.specs.declared.entry.Cover.TheVariants.{Half, Second, Full}
@@ -21,42 +23,25 @@ use Rattle.bbm_idle.proofs.Since.{waits_answered}
 
 no_full : (r : Bool) (c : Cover) (s h d : Bool) → (r ≡ true → adds c s h d ≡ false) → d ≡ false → ((r && same_cover c Full) && s) ≡ false
 no_full false c s h d needless yet = refl
-no_full true Full s h d needless yet = by s d yet (needless refl)
-  where
-    by : (s d : Bool) → d ≡ false → (s && not d) ≡ false → s ≡ false
-    by true true yet e = absurd (true≢false yet)
-    by true false yet e = e
-    by false d yet e = refl
+no_full true Full s h d needless yet = proved 2 (λ s d. If (Is d false) (If (Is (s && not d) false) (Is s false)))
+    refl s d yet (needless refl)
 no_full true c s h d needless yet = refl
 
 no_half : (r : Bool) (c : Cover) (s h d : Bool) → (r ≡ true → adds c s h d ≡ false) → h ≡ false → ((r && same_cover c Half) && s) ≡ false
 no_half false c s h d needless yet = refl
-no_half true Half s h d needless yet = by s h yet (needless refl)
-  where
-    by : (s h : Bool) → h ≡ false → (s && not h) ≡ false → s ≡ false
-    by true true yet e = absurd (true≢false yet)
-    by true false yet e = e
-    by false h yet e = refl
+no_half true Half s h d needless yet = proved 2 (λ s h. If (Is h false) (If (Is (s && not h) false) (Is s false)))
+    refl s h yet (needless refl)
 no_half true c s h d needless yet = refl
 
 no_second : (r : Bool) (c : Cover) (s h d : Bool) → (r ≡ true → adds c s h d ≡ false) → d ≡ false → ((r && same_cover c Second) && h) ≡ false
 no_second false c s h d needless yet = refl
-no_second true Second s h d needless yet = by h d yet (needless refl)
-  where
-    by : (h d : Bool) → d ≡ false → (h && not d) ≡ false → h ≡ false
-    by true true yet e = absurd (true≢false yet)
-    by true false yet e = e
-    by false d yet e = refl
+no_second true Second s h d needless yet = proved 2 (λ h d. If (Is d false) (If (Is (h && not d) false) (Is h false)))
+    refl h d yet (needless refl)
 no_second true c s h d needless yet = refl
 
 -- what doesn't count adds nothing
 pub dropped : (a t x w : Bool) → x ≡ false → ((a && (t && x)) || w) ≡ w
-dropped a t x w none = ap (λ (y : Bool). (a && (t && y)) || w) none ∙ by a t
-  where
-    by : (a t : Bool) → ((a && (t && false)) || w) ≡ w
-    by true true = refl
-    by true false = refl
-    by false t = refl
+dropped = proved 4 (λ a t x w. If (Is x false) (Is ((a && (t && x)) || w) w)) refl
 
 -- what a DSB would answer, where it answers nothing
 pub left_alone : (pe q : ℕ) (b : Bool) (dsb : Barrier) (waiting : ℕ → Bool → Bool) → answered_by dsb (λ c. waiting pe c) ≡ false
@@ -96,15 +81,18 @@ module _ (heading : Heading) (k : Known heading) (place : ℕ) where
       → SamePatterns heading place Patterns Patterns (n ∷ since) since
   changeless n since c = record {
     writers = λ p q. ap (λ (x : Bool). x || wrote_before p q) (c.no_write q);
-    seen_alike = λ p less. k.seen_step place p n since ∙ c.seen_same p less;
-    half_alike = λ p less. k.half_step place p n since ∙ c.half_same p less;
-    cleansed_alike = λ p less. k.cleansed_step place p n since ∙ c.cleansed_same p less;
-    full_wait = λ p q b less yet. k.waits_step q b (flushes heading place p Full (seen heading place p)) n since
-        ∙ c.full_same p q b less (sym (k.cleansed_step place p n since) ∙ yet);
-    half_wait = λ p q b less yet. k.waits_step q b (flushes heading place p Half (seen heading place p)) n since
-        ∙ c.half_open p q b less (sym (k.half_step place p n since) ∙ yet);
-    second_wait = λ p q b less yet. k.waits_step q b (flushes heading place p Second (half heading place p)) n since
-        ∙ c.second_same p q b less (sym (k.cleansed_step place p n since) ∙ yet);
+    seen_alike = λ p less. k.pattern_steps.seen place p n since ∙ c.seen_same p less;
+    half_alike = λ p less. k.pattern_steps.half place p n since ∙ c.half_same p less;
+    cleansed_alike = λ p less. k.pattern_steps.cleansed place p n since ∙ c.cleansed_same p less;
+    full_wait = λ p q b less yet. k.pattern_steps.waits q b (flushes heading place p Full (seen heading place p)) n
+        since
+        ∙ c.full_same p q b less (sym (k.pattern_steps.cleansed place p n since) ∙ yet);
+    half_wait = λ p q b less yet. k.pattern_steps.waits q b (flushes heading place p Half (seen heading place p)) n
+        since
+        ∙ c.half_open p q b less (sym (k.pattern_steps.half place p n since) ∙ yet);
+    second_wait = λ p q b less yet. k.pattern_steps.waits q b (flushes heading place p Second (half heading place p)) n
+        since
+        ∙ c.second_same p q b less (sym (k.pattern_steps.cleansed place p n since) ∙ yet);
   }
     where
       wrote_before : ℕ → ℕ → Bool

@@ -1,30 +1,16 @@
 -- A place with a last valid write was written.
 use Rattle.std.proofs.Common.{◌≡◌, ℕ, Bool, true, false, cond, ◌==◌, ◌&&◌, List, [], ◌∷◌, Option, Some, None, refl, ap}
-use Rattle.std.proofs.Common.{subst, inl, inr}
+use Rattle.std.proofs.Common.{subst}
 use Rattle.std.proofs.lemmas.Bool.{and_parts, eqb-true}
+use Rattle.bbm_lemmas.proofs.Words.{with_has, with_keeps}
 use Rattle.bbm_lemmas.specs.Elements.{In}
-use Rattle.bbm_lemmas.proofs.Elements.{any_found}
 use Rattle.bbm_descriptor.specs.Descriptor.{is_valid}
 use Rattle.bbm_rules.specs.Prelude.{Kind, Event, Init, Write}
 use Rattle.bbm_rules.specs.Held.{ValidWrite, last_valid, last_valid_after, later}
-use Rattle.bbm_rules.specs.Lists.{among, with_number}
+use Rattle.bbm_rules.specs.Lists.{with_number}
 use Rattle.bbm_rules.specs.Notes.{Noted, events_of}
 use Rattle.bbm_rules.specs.Places.{page_of}
 use Rattle.bbm_rules.specs.Values.{written_places}
-
-in_with : (n : ℕ) (ms : List ℕ) → In (with_number n ms) n
-in_with n ms = by (among n ms) refl
-  where
-    by : (c : Bool) → among n ms ≡ c → In (cond c ms (n ∷ ms)) n
-    by true c = let f = any_found (λ m. m == n) ms c in subst (λ (x : ℕ). In ms x) (eqb-true f.0 n f.2) f.1
-    by false c = inl refl
-
-with_keeps : (n : ℕ) (ms : List ℕ) (m : ℕ) → In ms m → In (with_number n ms) m
-with_keeps n ms m there = by (among n ms)
-  where
-    by : (c : Bool) → In (cond c ms (n ∷ ms)) m
-    by true = there
-    by false = inr there
 
 pub was_some : (n : Noted) (o : Option ValidWrite) (w : ValidWrite) → later n o ≡ Some w
     → (v : ValidWrite) × (o ≡ Some v) × (v.value ≡ w.value) × (n ∷ v.since ≡ w.since)
@@ -48,7 +34,7 @@ written kind level place (n ∷ h) w e = by n.event (λ k. let v = was_some n (l
             → cond c (Some (record { value = value; since = [] })) (later n (last_valid kind level place h)) ≡ Some w
             → In (with_number at (written_places (events_of h))) place
         go true c k = subst (λ (x : ℕ). In (with_number at (written_places (events_of h))) x)
-            (eqb-true at place (and_parts (at == place) (is_valid kind level value) c).0) (in_with at (written_places (events_of h)))
+            (eqb-true at place (and_parts (at == place) (is_valid kind level value) c).0) (with_has at (written_places (events_of h)))
         go false c k = with_keeps at (written_places (events_of h)) place (older k)
     by (Init pe page) older k = go (page == page_of place) k
       where

@@ -84,10 +84,11 @@ IsKnown heading h known = (root : ℕ) (test : Tag → Bool) → any (passes roo
 abbrev pub is_taken : Scope → Option ℕ → ℕ → (Reading → Bool) → Reading → Bool
 is_taken scope vmid root test r = (r.root == root && takes_whole_tag scope vmid r.tag) && test r
 
--- the list has what was ever readable for a declared root under a tag that the TLBI takes whole
+-- what was ever readable for the declared root under a tag that the TLBI takes whole passes the test
 abbrev pub taken_passes : Heading → List Event → Event → (ℕ → Tag → Bool) → Declared → Bool
 taken_passes heading h e test r = any (λ tag. takes_tag heading e h tag && test r.page tag) (ever_read heading r.page h)
 
+-- the list has what was ever readable for a declared root under a tag that the TLBI takes whole
 abbrev pub AreTaken : Heading → List Event → Event → List Reading → Type 0
 AreTaken heading h e taken = (test : ℕ → Tag → Bool)
     → any (λ r. test r.root r.tag) taken ≡ any (taken_passes heading h e test) (roots_of h)
@@ -137,14 +138,22 @@ waits_after cast idle (Tlbi pe op xt) q before = (pe == q && (is_cast cast (Tlbi
 waits_after cast idle (Dsb pe dsb) q before = before && not (pe == q && answers dsb cast)
 waits_after cast idle _ q before = before
 
+-- which PEs wait for a local TLBI of theirs that may matter, and which for a broadcast one
 pub record IsWaiting (w : Waiting) (heading : Heading) (h : List Event) : Type 0 where
   pub local : (q : ℕ) → pe_in w.local q ≡ waits heading false q h
   pub broadcast : (q : ℕ) → pe_in w.broadcast q ≡ waits heading true q h
 
 -- ---- all of it
 
+-- the search stands after these events
 pub record IsSearch (s : Search) (heading : Heading) (h : List Event) : Type 0 where
   pub history : Stands s.history heading h
   pub written : s.written.items ≡ written_places h
   pub known : IsKnown heading h s.known.items
   pub waiting : IsWaiting s.waiting heading h
+
+-- what is kept of the events beside the history stays
+pub record KeepsRest (old new : Search) : Type 0 where
+  pub written : new.written ≡ old.written
+  pub known : new.known ≡ old.known
+  pub waiting : new.waiting ≡ old.waiting

@@ -61,9 +61,7 @@ impl Search {
         requires fits { fits_heading header.now event.now ≡ true }
         ensures needed { IfOk result (λ needed. needed ≡ idle.is_needed header.now (reverse before.now) event.now) }
         ensures stands { OnOk result (spec.Stands self.new.history header.now (event.now ∷ reverse before.now)) }
-        ensures written { self.new.written ≡ self.old.written }
-        ensures known { self.new.known ≡ self.old.known }
-        ensures waiting { self.new.waiting ≡ self.old.waiting }
+        ensures rest { spec.KeepsRest self.old self.new }
     {
         let seats = seats_of(alloc, &self.history, &self.written)?;
         let taken = taken_by(alloc, header, before, event, &self.known)?;
@@ -89,9 +87,7 @@ impl Search {
         requires fits { fits_heading header.now (TheDsb pe dsb) ≡ true }
         ensures idle { IfOk result (λ is_idle. is_idle ≡ idle.is_idle header.now (reverse before.now) (TheDsb pe dsb)) }
         ensures stands { OnOk result (spec.Stands self.new.history header.now (TheDsb pe dsb ∷ reverse before.now)) }
-        ensures written { self.new.written ≡ self.old.written }
-        ensures known { self.new.known ≡ self.old.known }
-        ensures waiting { self.new.waiting ≡ self.old.waiting }
+        ensures rest { spec.KeepsRest self.old self.new }
     {
         let event = Event::Dsb { pe, dsb };
         if self.waiting.answers(pe, dsb) {
@@ -114,9 +110,7 @@ impl Search {
         requires fits { fits_heading header.now event.now ≡ true }
         ensures idle { IfOk result (λ is_idle. is_idle ≡ idle.is_idle header.now (reverse before.now) event.now) }
         ensures stands { OnOk result (spec.Stands self.new.history header.now (event.now ∷ reverse before.now)) }
-        ensures written { self.new.written ≡ self.old.written }
-        ensures known { self.new.known ≡ self.old.known }
-        ensures waiting { self.new.waiting ≡ self.old.waiting }
+        ensures rest { spec.KeepsRest self.old self.new }
     {
         match *event {
             Event::Tlbi { .. } => {

@@ -2,6 +2,8 @@
 use Rattle.std.proofs.Common.{◌≡◌, ℕ, Bool, true, false, not, IsTrue, nat_lt, ◌&&◌, ◌<◌, ◌↔◌, zero, suc, refl, ap, sym}
 use Rattle.std.proofs.Common.{◌∙◌, arith, inl, inr}
 use Rattle.std.proofs.lemmas.Bool.{and_from, and_parts, cases_lt, false_from_ne_true, lt-ltb, ltb-true}
+use Rattle.bbm_lemmas.proofs.Tautologies.{proved}
+use Rattle.bbm_lemmas.proofs.Tautologies.Claim.{If, Is}
 use Rattle.bbm_lemmas.specs.EveryPe.{every_pe}
 
 -- two tests that say the same of each PE
@@ -40,13 +42,10 @@ every_none (suc n) f some none = ap (λ (b : Bool). b && every_pe n f) (none n)
 
 -- no PE is missing exactly where the test holds of every one
 not_missing : (below here : Bool) → below ≡ true → (below && not here) ≡ false → here ≡ true
-not_missing below true b h = refl
-not_missing true false b h = cc
-not_missing false false b h = cc
+not_missing = proved 2 (λ below here. If (Is below true) (If (Is (below && not here) false) (Is here true))) refl
 
 missing_none : (below here : Bool) → (below ≡ true → here ≡ true) → (below && not here) ≡ false
-missing_none true here h = rw (h refl) refl
-missing_none false here h = refl
+missing_none = proved 2 (λ below here. If (If (Is below true) (Is here true)) (Is (below && not here) false)) refl
 
 pub none_missing : (n : ℕ) (f missing : ℕ → Bool) (empty : Bool) → ((p : ℕ) → missing p ≡ (nat_lt p n && not (f p)))
     → (IsTrue empty ↔ ((p : ℕ) → missing p ≡ false)) → empty ≡ every_pe n f

@@ -1,3 +1,6 @@
 pub mod Elements
 pub mod Bools
+pub mod Tautologies
 pub mod Every
+pub mod Words
+pub mod Reversed

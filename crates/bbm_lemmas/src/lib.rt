@@ -1,5 +1,5 @@
-//! The elements of lists, Booleans, and tests of every PE, for proofs. The crate has no code but an empty body: crates
-//! above cite the lemmas of its `proofs`.
+//! The elements of lists, Booleans, options, lists of numbers, and tests of some or every PE, for proofs. The crate has
+//! no code but an empty body: crates above cite the lemmas of its `proofs`.
 #![tactic(auto)]
 
 ghost use Rattle.std.specs.Prelude.{List, Contains};

@@ -3,6 +3,8 @@ use Rattle.std.proofs.Common.{◌≡◌, ℕ, Bool, true, false, cond, ◌&&◌,
 use Rattle.std.proofs.Common.{ap}
 use Rattle.std.proofs.lemmas.Bool.{false≢true}
 use Rattle.std.proofs.lemmas.Map.Views.{any-filter_same}
+use Rattle.bbm_lemmas.proofs.Tautologies.{proved}
+use Rattle.bbm_lemmas.proofs.Tautologies.Claim.{Is}
 use Rattle.bbm_barriers.specs.Options.{answers}
 use Rattle.bbm_tlbi_scope.specs.declared.entry.Cover.{Cover}
 use Rattle.bbm_tlbi_scope.specs.declared.op.TlbiOp.{TlbiOp}
@@ -22,34 +24,13 @@ use Rattle.bbm_lemmas.proofs.Bools.{is_none_of_two, first_true}
 -- ---- tests
 
 pick : (answer : Bool → Bool) (b : Bool) → answer b ≡ ((answer true && b) || (answer false && not b))
-pick answer true = first (answer true) (answer false)
-  where
-    first : (a c : Bool) → a ≡ ((a && true) || (c && false))
-    first true c = refl
-    first false true = refl
-    first false false = refl
-pick answer false = second (answer true) (answer false)
-  where
-    second : (a c : Bool) → c ≡ ((a && false) || (c && true))
-    second true true = refl
-    second true false = refl
-    second false true = refl
-    second false false = refl
+pick answer true = proved 2 (λ a c. Is a ((a && true) || (c && false))) refl (answer true) (answer false)
+pick answer false = proved 2 (λ a c. Is c ((a && false) || (c && true))) refl (answer true) (answer false)
 
 mix : (a c x y k u v : Bool) →
     ((((a && x) || (c && y)) && k) || ((a && u) || (c && v))) ≡ ((a && ((x && k) || u)) || (c && ((y && k) || v)))
-mix false false x y k u v = refl
-mix false true x y k u v = refl
-mix true false true y true u v = refl
-mix true false true y false u v = refl
-mix true false false y k u v = refl
-mix true true true y true u v = refl
-mix true true true true false u v = refl
-mix true true true false false u v = refl
-mix true true false true true true v = refl
-mix true true false true true false v = refl
-mix true true false true false u v = refl
-mix true true false false k u v = refl
+mix = proved 7 (λ a c x y k u v. Is ((((a && x) || (c && y)) && k) || ((a && u) || (c && v))) ((a && ((x && k) || u)) ||
+    (c && ((y && k) || v)))) refl
 
 -- ---- a DSB
 

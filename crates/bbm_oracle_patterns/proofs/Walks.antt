@@ -4,6 +4,8 @@ use Rattle.std.proofs.Common.{◌==◌, List, [], ◌∷◌, refl, sym, ◌∙�
 use Rattle.std.proofs.lemmas.Bool.{false≢true, or_parts, and_right, not-true}
 use Rattle.std.proofs.lemmas.List.{reverse-append}
 use Rattle.std.proofs.lemmas.List.Folds.{list_any-append}
+use Rattle.bbm_lemmas.proofs.Tautologies.{proved}
+use Rattle.bbm_lemmas.proofs.Tautologies.Claim.{If, Is}
 use Rattle.bbm_barriers.specs.Options.{answers}
 use Rattle.bbm_regimes.specs.PeMask.{pe_in}
 use Rattle.bbm_regimes.specs.declared.pe.PeMask.{PeMask}
@@ -34,22 +36,13 @@ use Rattle.bbm_lemmas.proofs.Bools.{or_middle, is_none_of_two}
 -- ---- tests
 
 shuffle : (r k s : Bool) → (k && (r && s)) ≡ (r && k && s)
-shuffle true true s = refl
-shuffle true false s = refl
-shuffle false true s = refl
-shuffle false false s = refl
+shuffle = proved 3 (λ r k s. Is (k && (r && s)) (r && k && s)) refl
 
 last_false : (r k s : Bool) → s ≡ false → (r && k && s) ≡ false
-last_false true true s e = e
-last_false true false s e = refl
-last_false false true s e = refl
-last_false false false s e = refl
+last_false = proved 3 (λ r k s. If (Is s false) (Is (r && k && s) false)) refl
 
 no_more : (a k f : Bool) → a ≡ (a || (k && (f && false)))
-no_more true k f = refl
-no_more false true true = refl
-no_more false true false = refl
-no_more false false f = refl
+no_more = proved 3 (λ a k f. Is a (a || (k && (f && false)))) refl
 
 -- ---- an event that changes nothing
 

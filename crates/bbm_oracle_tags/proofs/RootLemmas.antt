@@ -4,6 +4,7 @@ use Rattle.std.proofs.Common.{None, refl, sym, ap, ◌∙◌}
 use Rattle.std.specs.List.{list_any}
 use Rattle.std.proofs.lemmas.Bool.{eqb-true, eq-eqb, ne_eqb, false≢true}
 use Rattle.std.proofs.lemmas.Map.Views.{any-filter_same}
+use mathlib.Core.Bool.{or-false}
 use Rattle.bbm_rules.specs.Prelude.{Kind, Event, Root, Unroot}
 use Rattle.bbm_rules.specs.Roots.{Declared, is_at, is_root, retired, root_at, roots_of, same_kind}
 
@@ -80,10 +81,6 @@ pub any-declared : (kind declared : Kind) (lock : Option ℕ) (page q : ℕ) (rs
 any-declared kind declared lock page q rs =
     ap (λ (b : Bool). (eqb page q && same_kind declared kind) || b) (any-retired kind page q rs) ∙ by_case (eqb page q)
   where
-    or-false : (b : Bool) → (b || false) ≡ b
-    or-false true = refl
-    or-false false = refl
-
     by_case : (b : Bool) → ((b && same_kind declared kind) || (not b && list_any (test kind q) rs))
         ≡ cond b (same_kind declared kind) (list_any (test kind q) rs)
     by_case true = or-false (same_kind declared kind)

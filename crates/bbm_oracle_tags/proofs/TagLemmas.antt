@@ -3,6 +3,8 @@ use Rattle.std.proofs.Common.{◌≡◌, ℕ, zero, suc, ◌+◌, ◌<◌, take,
 use Rattle.std.proofs.Common.{[], ◌∷◌, length, refl, sym, ap, ◌∙◌, arith, true≢false}
 use Rattle.std.proofs.lemmas.Bool.{eqb-true, eqb-false, and_from}
 use Rattle.std.proofs.lemmas.List.Folds.{list_any_more}
+use Rattle.bbm_lemmas.proofs.Tautologies.{proved}
+use Rattle.bbm_lemmas.proofs.Tautologies.Claim.{Is}
 use Rattle.bbm_tlbi_scope.specs.declared.entry.TagSet.{TagSet}
 use Rattle.bbm_tlbi_scope.specs.declared.entry.TagSet.TheVariants.{None as NoTag, One, Many}
 use Rattle.bbm_rules.specs.Prelude.{Heading, Event, Tag}
@@ -26,8 +28,7 @@ one-pe zero test p lt k = absurd (omega arith)
 one-pe (suc n) test p lt k = by_case (eqb p n) refl (λ below. one-pe n test p below k)
   where
     or-true : (a : Bool) → (a || true) ≡ true
-    or-true true = refl
-    or-true false = refl
+    or-true = proved 1 (λ a. Is (a || true) true) refl
 
     by_case : (b : Bool) → eqb p n ≡ b → (p < n → some_pe n test ≡ true) → (test n || some_pe n test) ≡ true
     by_case true e rest = ap (λ (b : Bool). b || some_pe n test) (ap test (sym (eqb-true p n e)) ∙ k)
@@ -131,8 +132,7 @@ module _ (decides : (g k : Tag) → same_tag g k ≡ true → g ≡ k) where
   missed test holds tag none g = by_case (same_tag tag g) refl
     where
       or-nothing : (b : Bool) → b ≡ (b || false)
-      or-nothing true = refl
-      or-nothing false = refl
+      or-nothing = proved 1 (λ b. Is b (b || false)) refl
 
       by_case : (b : Bool) → same_tag tag g ≡ b → test g ≡ (test g || (b && holds g))
       by_case true e = or-nothing (test g) ∙ ap (λ (b : Bool). test g || b)

@@ -3,6 +3,8 @@ use Rattle.std.proofs.Common.{◌≡◌, ℕ, suc, ◌<◌, ◌≤◌, Bool, tru
 use Rattle.std.proofs.Common.{◌∷◌, length, refl, sym, ap, ◌∙◌, arith, true≢false}
 use Rattle.std.proofs.lemmas.Bool.{le-leb, leb-true}
 use Rattle.std.proofs.lemmas.Map.Views.{any-filter_same}
+use Rattle.bbm_lemmas.proofs.Tautologies.{proved}
+use Rattle.bbm_lemmas.proofs.Tautologies.Claim.{Is}
 use Rattle.bbm_regimes.specs.PeMask.{pe_in}
 use Rattle.bbm_barriers.specs.Options.{answers}
 use Rattle.bbm_tlbi_scope.specs.Operations.{operation}
@@ -213,13 +215,8 @@ module _ (heading : Heading) (p : ℕ) (tag : Tag) where
       → any (is_taken_by heading Patterns p tag q dsb h) ts
       ≡ ((answers dsb true && any (would_take heading p tag h true) ts)
       || (answers dsb false && any (would_take heading p tag h false) ts))
-  all-taken q dsb h [] k = by_case (answers dsb true) (answers dsb false)
-    where
-      by_case : (a f : Bool) → false ≡ ((a && false) || (f && false))
-      by_case true true = refl
-      by_case true false = refl
-      by_case false true = refl
-      by_case false false = refl
+  all-taken q dsb h [] k = proved 2 (λ a f. Is false ((a && false) || (f && false))) refl (answers dsb true)
+      (answers dsb false)
   all-taken q dsb h (t ∷ ts) k =
       ap (λ (b : Bool). b || any (is_taken_by heading Patterns p tag q dsb h) ts) (taken-by q dsb h t k.0)
       ∙ ap (λ (b : Bool). ((answers dsb true && would_take heading p tag h true t)

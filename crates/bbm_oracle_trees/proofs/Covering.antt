@@ -1,7 +1,7 @@
 -- What a TLBI covers, of the places of the trees page by page.
 use Rattle.std.proofs.Common.{◌≡◌, ℕ, Bool, true, false, ◌&&◌, ◌||◌, ◌==◌, cond, List, [], ◌∷◌, ◌++◌, filter, Option}
 use Rattle.std.proofs.Common.{Some, None, refl, sym, ◌∙◌, ap, subst, append_assoc}
-use Rattle.std.proofs.lemmas.Bool.{eqb-true, eq-eqb}
+use Rattle.std.proofs.lemmas.Bool.{eqb-true, eq-eqb, or_parts}
 use Rattle.std.specs.List.{flat_map}
 use Rattle.std.specs.Option.{option_map_or}
 use Rattle.bbm_descriptor.specs.Descriptor.{is_valid}
@@ -23,10 +23,6 @@ use Rattle.bbm_oracle_trees.specs.Views.{cover_under, covers_of_page, entry_of, 
 use Rattle.bbm_oracle_trees.proofs.Finds.{found_passes}
 
 -- ---- places that were never written hold nothing
-
-or_parts : (a b : Bool) → (a || b) ≡ false → (a ≡ false) × (b ≡ false)
-or_parts true b e = cc
-or_parts false b e = (refl, e)
 
 true_false : {A : Type 0} (b : Bool) → b ≡ true → b ≡ false → A
 true_false b e f = cc

@@ -1,10 +1,11 @@
 -- The first item of a list that passes a test.
-use Rattle.std.proofs.Common.{◌≡◌, ℕ, zero, suc, ◌+◌, ◌<◌, Bool, true, false, ◌||◌, cond, List, [], ◌∷◌, ◌++◌, length}
+use Rattle.std.proofs.Common.{◌≡◌, ℕ, zero, suc, ◌+◌, ◌<◌, Bool, true, false, cond, List, [], ◌∷◌, ◌++◌, length}
 use Rattle.std.proofs.Common.{get_or, take, Option, Some, None, refl, sym, ◌∙◌, ap, subst, append_assoc, arith}
 use Rattle.std.proofs.lemmas.List.{take_more}
 use Rattle.std.proofs.lemmas.List.Elements.{filter_map-append}
 use Rattle.std.specs.List.{cons_option, filter_map, find, list_any}
 use Rattle.std.specs.Option.{option_to_list}
+use Rattle.std.proofs.lemmas.Bool.{or_parts}
 
 module _ {X : Type 0} (test : X → Bool) where
   -- where no item before it passes
@@ -45,10 +46,6 @@ found_passes test other [] x found none = cc
 found_passes {X} test other (y ∷ ys) x found none =
     by_test (test y) refl found (λ later. found_passes test other ys x later (or_parts (other y) (list_any other ys) none).1)
   where
-    or_parts : (a b : Bool) → (a || b) ≡ false → (a ≡ false) × (b ≡ false)
-    or_parts true b e = cc
-    or_parts false b e = (refl, e)
-
     by_test : (b : Bool) → test y ≡ b → cond b (Some y) (find test ys) ≡ Some x →
         (find test ys ≡ Some x → (test x ≡ true) × (other x ≡ false)) → (test x ≡ true) × (other x ≡ false)
     by_test true e found later =

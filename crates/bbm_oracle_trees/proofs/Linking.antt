@@ -1,10 +1,13 @@
 -- Which events leave the trees as they are.
-use Rattle.std.proofs.Common.{◌≡◌, ℕ, suc, Bool, true, false, not, ◌&&◌, ◌||◌, ◌==◌, cond, List, [], ◌∷◌, ◌++◌, filter}
+use Rattle.std.proofs.Common.{◌≡◌, ℕ, suc, Bool, true, false, not, ◌&&◌, ◌==◌, cond, List, [], ◌∷◌, ◌++◌, filter}
 use Rattle.std.proofs.Common.{filter_map, flat_map, find, Option, Some, None, is_none, is_some, true≢false, refl, sym}
 use Rattle.std.proofs.Common.{◌∙◌, ap, subst}
-use Rattle.std.proofs.lemmas.Bool.{and_parts, eq-eqb, eqb-true, or_parts}
+use Rattle.std.proofs.lemmas.Bool.{and_parts, eq-eqb, eqb-true, not-true, or_parts}
 use Rattle.std.proofs.lemmas.List.Folds.{list_any-append}
 use Rattle.std.specs.List.{cons_option}
+use Rattle.bbm_lemmas.proofs.Bools.{or_later}
+use Rattle.bbm_lemmas.proofs.Tautologies.{proved}
+use Rattle.bbm_lemmas.proofs.Tautologies.Claim.{Is}
 use Rattle.bbm_lemmas.proofs.Every.{every_wider}
 use Rattle.bbm_tlbi_scope.specs.declared.entry.Cover.{Cover}
 use Rattle.bbm_descriptor.specs.Descriptor.{is_valid}
@@ -167,17 +170,11 @@ module _ (heading : Heading) (trust : Trust) (place : ℕ) where
       ap (λ (b : Bool). cond b None (Some w.value)) (same_cleansed e covers k w.since other)
 
   -- what is cleansed stays so
-  more : (a b c d : Bool) → (b || d) ≡ true → ((a || b) || (c || d)) ≡ true
-  more true b c d e = refl
-  more false true c d e = refl
-  more false false true d e = refl
-  more false false false d e = e
-
   stays_cleansed : (n : Noted) (since : List Noted) → cleansed_everywhere heading trust place since ≡ true
       → cleansed_everywhere heading trust place (n ∷ since) ≡ true
   stays_cleansed n since all =
       every_wider heading.pes (λ p. cleansed heading trust place p since) (λ p. cleansed heading trust place p (n ∷ since))
-      (λ p one. more (answers_one (full_step heading trust place p n.position) n.event since)
+      (λ p one. or_later (answers_one (full_step heading trust place p n.position) n.event since)
       (answered_where (full_step heading trust place p) since)
       (answers_one (second_step heading trust place p n.position) n.event since)
       (answered_where (second_step heading trust place p) since) one) all
@@ -200,10 +197,6 @@ is_other (Init pe page) = false
 is_other (Write pe at value) = false
 is_other (Dsb pe dsb) = false
 is_other _ = true
-
-not_from : (b : Bool) → not b ≡ true → b ≡ false
-not_from true e = cc
-not_from false e = refl
 
 any_none : (ms : List Node) → any (λ m. false) ms ≡ false
 any_none [] = refl
@@ -357,10 +350,10 @@ module _ (heading : Heading) (trust : Trust) (h : List Noted) (covers : ℕ → 
   by_event (Unroot pe page) left = cc
   by_event (Write pe at value) left =
       same_tree heading trust h (written pe at value) (is_touched at value) (write_step pe at value)
-      (write_places pe at value) refl (not_from (any (is_touched at value) (tree heading trust h)) left)
+      (write_places pe at value) refl (not-true (any (is_touched at value) (tree heading trust h)) left)
   by_event (Dsb pe dsb) left =
       same_tree heading trust h (answered pe dsb) (is_cut heading trust (answered pe dsb ∷ h)) (dsb_step pe dsb)
-      (λ m ok. refl) refl (not_from (any (is_cut heading trust (answered pe dsb ∷ h)) (tree heading trust h)) left)
+      (λ m ok. refl) refl (not-true (any (is_cut heading trust (answered pe dsb ∷ h)) (tree heading trust h)) left)
   by_event e left =
       same_tree heading trust h (noted_as e covers k) (λ m. false) (other_step e refl) (λ m ok. refl) refl
       (any_none (tree heading trust h))
@@ -386,9 +379,7 @@ module _ (heading : Heading) (trust : Trust) (n : Noted) (h : List Noted)
       ∙ by_history h
     where
       twice : (a b : Bool) → ((a && b) && b) ≡ (a && b)
-      twice true true = refl
-      twice true false = refl
-      twice false b = refl
+      twice = proved 2 (λ a b. Is ((a && b) && b) (a && b)) refl
 
       by_history : (g : List Noted)
           → (is_fresh heading trust g page && not (in_tree heading trust g page)) ≡ is_fresh heading trust g page

@@ -1,8 +1,10 @@
 -- What one more event does to the masks and the pendings of a broken place.
 use Rattle.std.proofs.Common.{◌≡◌, ℕ, ◌<◌, Bool, true, false, cond, not, ◌&&◌, ◌||◌, ◌==◌, nat_eq, List, ◌∷◌, is_some}
 use Rattle.std.proofs.Common.{refl, sym, ◌∙◌, ap, inl, inr, true≢false}
-use Rattle.std.proofs.Math.Bool.{and-false, and-true, and_assoc, or-false, or-true}
+use Rattle.std.proofs.Math.Bool.{and-false, and-true, and_assoc}
 use Rattle.std.proofs.lemmas.Bool.{and_parts, eq-eqb, eqb-true, or_cases}
+use Rattle.bbm_lemmas.proofs.Tautologies.{proved}
+use Rattle.bbm_lemmas.proofs.Tautologies.Claim.{If, Is}
 use Rattle.bbm_barriers.specs.Options.{answers, is_non, publishes}
 use Rattle.bbm_barriers.specs.declared.Dsb.{Dsb as Barrier}
 use Rattle.bbm_descriptor.specs.Descriptor.{same_bool}
@@ -112,12 +114,10 @@ same_cover_back Full Full = refl
 
 -- what was so before, and what is so now where the PE has seen it
 add_seen : (x s a : Bool) → (a ≡ true → s ≡ true) → (x || (s && a)) ≡ (a || x)
-add_seen x s true h = ap (λ (t : Bool). x || (t && true)) (h refl) ∙ or-true x
-add_seen x s false h = ap (λ (t : Bool). x || t) (and-false s) ∙ or-false x
+add_seen = proved 3 (λ x s a. If (If (Is a true) (Is s true)) (Is (x || (s && a)) (a || x))) refl
 
 left_bits : (ends w : Bool) → (true && (not ends && w)) ≡ cond (true && ends) false w
-left_bits true w = refl
-left_bits false w = refl
+left_bits = proved 2 (λ ends w. Is (true && (not ends && w)) (cond (true && ends) false w)) refl
 
 -- numbers as PEs
 same_number : (i q : ℕ) → nat_eq i q ≡ nat_eq q i
@@ -174,7 +174,8 @@ module _ (heading : Heading) (k : Known heading) (place : ℕ) where
   counted_step : (p q : ℕ) (b : Bool) (c : Cover) (n : Noted) (since : List Noted) → cover_waits heading place p q b c (n ∷ since)
       ≡ waits_after event_of q b (flushes heading place p c (counts heading place p c)) n.event n since
   counted_step p q b c n since =
-      cover_counted heading place p q b c (n ∷ since) ∙ k.waits_step q b (flushes heading place p c (counts heading place p c)) n since
+      cover_counted heading place p q b c (n ∷ since)
+      ∙ k.pattern_steps.waits q b (flushes heading place p c (counts heading place p c)) n since
 
   -- ---- an event that is neither a DSB nor a TLBI
 
@@ -186,9 +187,11 @@ module _ (heading : Heading) (k : Known heading) (place : ℕ) where
       → Marked heading place (n ∷ since) new pends'
   marked_still n since old new pends pends' still m writers seen_same half_same clean_same waits_same = record {
     writers = λ p. writers p ∙ ap (λ (b : Bool). writes p place n.event || b) (m.writers p);
-    seen = λ p. seen_same p ∙ m.seen p ∙ sym (k.seen_step place p n since ∙ seen_by p n.event still);
-    half = λ p below. half_same p ∙ m.half p below ∙ sym (k.half_step place p n since ∙ half_by p n.event still);
-    clean = λ p below. clean_same p ∙ m.clean p below ∙ sym (k.cleansed_step place p n since ∙ cleansed_by p n.event still);
+    seen = λ p. seen_same p ∙ m.seen p ∙ sym (k.pattern_steps.seen place p n since ∙ seen_by p n.event still);
+    half = λ p below. half_same p ∙ m.half p below
+        ∙ sym (k.pattern_steps.half place p n since ∙ half_by p n.event still);
+    clean = λ p below. clean_same p ∙ m.clean p below
+        ∙ sym (k.pattern_steps.cleansed place p n since ∙ cleansed_by p n.event still);
     waiting = λ p below q b c. waits_same q b c p ∙ m.waiting p below q b c
         ∙ (cover_counted heading place p q b c since ∙ sym (counted_step p q b c n since ∙ waits_by p q b c n.event still));
   }
@@ -249,9 +252,13 @@ module _ (heading : Heading) (k : Known heading) (place : ℕ) where
         → Marked heading place (n ∷ since) state pends'
     tlbi_marks state pends pends' m now = record {
       writers = λ p. m.writers p ∙ ap (λ (e : Event). writes p place e || wrote heading place p p since) (sym is);
-      seen = λ p. m.seen p ∙ sym (k.seen_step place p n since ∙ ap (λ (e : Event). seen_after heading place p e since) is);
-      half = λ p below. m.half p below ∙ sym (k.half_step place p n since ∙ ap (λ (e : Event). half_after heading place p e since) is);
-      clean = λ p below. m.clean p below ∙ sym (k.cleansed_step place p n since ∙ ap (λ (e : Event). cleansed_after heading place p e since) is);
+      seen = λ p. m.seen p ∙ sym (k.pattern_steps.seen place p n since
+          ∙ ap (λ (e : Event). seen_after heading place p e since) is);
+      half = λ p below. m.half p below
+          ∙ sym (k.pattern_steps.half place p n since ∙ ap (λ (e : Event). half_after heading place p e since) is);
+      clean = λ p below. m.clean p below
+          ∙ sym (k.pattern_steps.cleansed place p n since ∙ ap (λ (e : Event). cleansed_after heading place p e since)
+          is);
       waiting = λ p below i b c. now p below i b c
           ∙ (ap (λ (x : Bool). (q == i && (same_bool (operation op).broadcast b
           && (reaches heading (Tlbi q op xt) p && (same_cover (n.covers place) c && counts heading place p c since)))) || x) (m.waiting p below i b c)
@@ -321,7 +328,7 @@ module _ (heading : Heading) (k : Known heading) (place : ℕ) where
         mids.seen p
         ∙ (ap (λ (x : Bool). (publishes_to heading dsb q p && x) || seen_at old p) (m.writers q)
         ∙ (ap (λ (x : Bool). (publishes_to heading dsb q p && wrote heading place p q since) || x) (m.seen p)
-        ∙ sym (k.seen_step place p n since ∙ ap (λ (e : Event). seen_after heading place p e since) is)))
+        ∙ sym (k.pattern_steps.seen place p n since ∙ ap (λ (e : Event). seen_after heading place p e since) is)))
 
     answered_now : (p : ℕ) → p < heading.pes → (c : Cover) → answered_at (pends q) dsb c p ≡ answered_by dsb (λ b. cover_waits heading place p q b c since)
     answered_now p below c =
@@ -335,7 +342,7 @@ module _ (heading : Heading) (k : Known heading) (place : ℕ) where
         ∙ (ap (λ (x : Bool). half heading place p since || (seen heading place p (n ∷ since) && x)) (answered_now p below Half)
         ∙ (add_seen (half heading place p since) (seen heading place p (n ∷ since)) (answered_by dsb (λ b. half_waits heading place p q b since))
         (λ a. seen_on heading k place p n since (answered_seen heading k place p q dsb Half since a))
-        ∙ sym (k.half_step place p n since ∙ ap (λ (e : Event). half_after heading place p e since) is))))
+        ∙ sym (k.pattern_steps.half place p n since ∙ ap (λ (e : Event). half_after heading place p e since) is))))
 
     pub clean_now : (p : ℕ) → p < heading.pes → clean_after mid (pends q) dsb p ≡ cleansed heading Patterns place p (n ∷ since)
     clean_now p below =
@@ -348,7 +355,8 @@ module _ (heading : Heading) (k : Known heading) (place : ℕ) where
         ∙ (add_seen (cleansed heading Patterns place p since) (seen heading place p (n ∷ since))
         (answered_by dsb (λ b. full_waits heading place p q b since) || answered_by dsb (λ b. second_waits heading place p q b since))
         (λ a. seen_on heading k place p n since (either p a))
-        ∙ sym (k.cleansed_step place p n since ∙ ap (λ (e : Event). cleansed_after heading place p e since) is)))))
+        ∙ sym (k.pattern_steps.cleansed place p n since ∙ ap (λ (e : Event). cleansed_after heading place p e since)
+        is)))))
       where
         either : (p : ℕ) → (answered_by dsb (λ b. full_waits heading place p q b since) || answered_by dsb (λ b. second_waits heading place p q b since)) ≡ true
             → seen heading place p since ≡ true

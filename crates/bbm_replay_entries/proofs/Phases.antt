@@ -113,7 +113,8 @@ pub restless_tells : (heading : Heading) (k : Known heading) (h : List Event) (n
     → is_restless heading Patterns (noted heading Patterns h) place ≡ is_broken s
 restless_tells heading k h n place s pends is e =
     ap (restless_by heading h place) is
-    ∙ (ap (λ (x : List Event). is_some (held_now heading h n.kind n.level place) && not (is_valid n.kind n.level (value_of x place))) (k.events_noted h)
+    ∙ (ap (λ (x : List Event). is_some (held_now heading h n.kind n.level place) && not
+    (is_valid n.kind n.level (value_of x place))) (k.notes_keep_the_events h)
     ∙ sym e.broken)
 
 pub restless_outside : (heading : Heading) (h : List Event) (place : ℕ)

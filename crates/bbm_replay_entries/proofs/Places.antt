@@ -52,19 +52,21 @@ module _ (heading : Heading) (k : Known heading) (kind : Kind) (level place : �
 
   valid_held : (h : List Event) → 0 < heading.pes → is_valid kind level (value_of h place) ≡ true → held_now heading h kind level place ≡ Some (value_of h place)
   valid_held h pes v =
-      let same : events_of (noted heading Patterns h) ≡ h = k.events_noted h in
-      k.held_live kind level place (noted heading Patterns h) pes (ap (λ (x : List Event). is_valid kind level (value_of x place)) same ∙ v)
+      let same : events_of (noted heading Patterns h) ≡ h = k.notes_keep_the_events h in
+      k.held.live kind level place (noted heading Patterns h) pes
+      (ap (λ (x : List Event). is_valid kind level (value_of x place)) same ∙ v)
       ∙ ap (λ (x : List Event). Some (value_of x place)) same
 
   -- a valid value was written last
   valid_unwritten : (h : List Event) (w : ValidWrite) → is_valid kind level (value_of h place) ≡ true
       → last_valid kind level place (noted heading Patterns h) ≡ Some w → (p q : ℕ) → wrote heading place p q w.since ≡ false
   valid_unwritten h w v last p q =
-      let same : events_of (noted heading Patterns h) ≡ h = k.events_noted h in
+      let same : events_of (noted heading Patterns h) ≡ h = k.notes_keep_the_events h in
       let live : (w : ValidWrite) × (last_valid kind level place (noted heading Patterns h) ≡ Some w)
       × (w.value ≡ value_of (events_of (noted heading Patterns h)) place) × ((q v : ℕ) (n : Noted) (after before : List Noted)
       → w.since ≡ after ++ n ∷ before → n.event ≡ Write q place v → ⊥)
-      = k.last_live kind level place (noted heading Patterns h) (ap (λ (x : List Event). is_valid kind level (value_of x place)) same ∙ v) in
+      = k.last_valid.live kind level place (noted heading Patterns h)
+      (ap (λ (x : List Event). is_valid kind level (value_of x place)) same ∙ v) in
       let one : live.0 ≡ w = cc in
       ap (λ (x : ValidWrite). wrote heading place p q x.since) (sym one) ∙ unwritten heading place p live.0.since live.3 q
 
@@ -82,7 +84,7 @@ module _ (heading : Heading) (k : Known heading) (kind : Kind) (level place : �
       by None e = ap (λ (x : Option ℕ). is_some x) e ∙ sym (ap (λ (x : Option ℕ). is_some (option_and_then (core_of kind level) x)) e)
       by (Some x) e = ap (λ (x : Option ℕ). is_some x) e
           ∙ sym (ap (λ (x : Option ℕ). is_some (option_and_then (core_of kind level) x)) e
-          ∙ core_valid x (k.held_valid kind level place (noted heading Patterns h) x e))
+          ∙ core_valid x (k.held.valid kind level place (noted heading Patterns h) x e))
 
   -- the state has a core where something is held
   pub holds_core : (h : List Event) (state : EntryState) (pends : ℕ → Pends) → EntryStands heading h kind level place state pends
@@ -123,7 +125,7 @@ module _ (heading : Heading) (k : Known heading) (kind : Kind) (level place : �
       by false t =
           none_is (held_now heading h kind level place) (false_from_ne_true (is_some (held_now heading h kind level place)) (λ some.
           let x : (value : ℕ) × (held_now heading h kind level place ≡ Some value) = some_is (held_now heading h kind level place) some in
-          true≢false (sym (k.held_valid kind level place (noted heading Patterns h) x.0 x.1)
+          true≢false (sym (k.held.valid kind level place (noted heading Patterns h) x.0 x.1)
           ∙ (ap (is_valid kind level) (sym (present x.0 x.1)) ∙ t))))
           ∙ sym (ap (λ (x : Bool). cond x (Some (value_of h place)) None) t)
 

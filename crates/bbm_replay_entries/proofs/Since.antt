@@ -3,6 +3,8 @@ use Rattle.std.proofs.Common.{◌≡◌, ℕ, Bool, true, false, cond, ◌&&◌,
 use Rattle.std.proofs.Common.{ap, inl, inr, true≢false}
 use Rattle.std.proofs.Math.Bool.{and-false}
 use Rattle.std.proofs.lemmas.Bool.{and_parts, eqb-true, false_from_ne_true, or_cases, or_right}
+use Rattle.bbm_lemmas.proofs.Tautologies.{proved}
+use Rattle.bbm_lemmas.proofs.Tautologies.Claim.{If, Is}
 use Rattle.bbm_barriers.specs.Options.{answers}
 use Rattle.bbm_barriers.specs.declared.Dsb.{Dsb as Barrier}
 use Rattle.bbm_tlbi_scope.specs.declared.entry.Cover.{Cover}
@@ -57,7 +59,7 @@ module _ (heading : Heading) (k : Known heading) (place p : ℕ) where
   -- ---- whatever is half, cleansed or waits was seen, and seen stays
 
   pub seen_on : (n : Noted) (since : List Noted) → seen heading place p since ≡ true → seen heading place p (n ∷ since) ≡ true
-  seen_on n since s = k.seen_step place p n since ∙ by n.event
+  seen_on n since s = k.pattern_steps.seen place p n since ∙ by n.event
     where
       by : (e : Event) → seen_after heading place p e since ≡ true
       by (Dsb q dsb) = or_right (publishes_to heading dsb q p && wrote heading place p q since) (seen heading place p since) s
@@ -68,11 +70,11 @@ module _ (heading : Heading) (k : Known heading) (place p : ℕ) where
       → waits event_of q b (flushes heading place p c test) since ≡ true → seen heading place p since ≡ true
   waits_seen c test q b needs [] w = absurd (true≢false (sym w))
   waits_seen c test q b needs (n ∷ since) w =
-      seen_on n since (by (waits_seen c test q b needs since) n.event (sym (k.waits_step q b (flushes heading place p c test) n since) ∙ w))
+      seen_on n since (by (waits_seen c test q b needs since) n.event
+      (sym (k.pattern_steps.waits q b (flushes heading place p c test) n since) ∙ w))
     where
       left : (t x : Bool) → cond t false x ≡ true → x ≡ true
-      left true x w = absurd (true≢false (sym w))
-      left false x w = w
+      left = proved 2 (λ t x. If (Is (cond t false x) true) (Is x true)) refl
 
       by : (waits event_of q b (flushes heading place p c test) since ≡ true → seen heading place p since ≡ true)
           → (e : Event) → waits_after event_of q b (flushes heading place p c test) e n since ≡ true → seen heading place p since ≡ true
@@ -89,7 +91,8 @@ module _ (heading : Heading) (k : Known heading) (place p : ℕ) where
 
   half_seen : (since : List Noted) → half heading place p since ≡ true → seen heading place p since ≡ true
   half_seen [] t = absurd (true≢false (sym t))
-  half_seen (n ∷ since) t = seen_on n since (by (half_seen since) n.event (sym (k.half_step place p n since) ∙ t))
+  half_seen (n ∷ since) t = seen_on n since
+      (by (half_seen since) n.event (sym (k.pattern_steps.half place p n since) ∙ t))
     where
       by : (half heading place p since ≡ true → seen heading place p since ≡ true)
           → (e : Event) → half_after heading place p e since ≡ true → seen heading place p since ≡ true
@@ -118,7 +121,8 @@ module _ (heading : Heading) (k : Known heading) (place p : ℕ) where
 
   cleansed_seen : (since : List Noted) → cleansed heading Patterns place p since ≡ true → seen heading place p since ≡ true
   cleansed_seen [] t = absurd (true≢false (sym t))
-  cleansed_seen (n ∷ since) t = seen_on n since (by (cleansed_seen since) n.event (sym (k.cleansed_step place p n since) ∙ t))
+  cleansed_seen (n ∷ since) t = seen_on n since
+      (by (cleansed_seen since) n.event (sym (k.pattern_steps.cleansed place p n since) ∙ t))
     where
       by : (cleansed heading Patterns place p since ≡ true → seen heading place p since ≡ true)
           → (e : Event) → cleansed_after heading place p e since ≡ true → seen heading place p since ≡ true
@@ -134,7 +138,7 @@ module _ (heading : Heading) (k : Known heading) (place p : ℕ) where
       by on e t = on t
 
   pub cleansed_on : (n : Noted) (since : List Noted) → cleansed heading Patterns place p since ≡ true → cleansed heading Patterns place p (n ∷ since) ≡ true
-  cleansed_on n since t = k.cleansed_step place p n since ∙ by n.event
+  cleansed_on n since t = k.pattern_steps.cleansed place p n since ∙ by n.event
     where
       by : (e : Event) → cleansed_after heading place p e since ≡ true
       by (Dsb q dsb) = or_right (answered_by dsb (λ b. full_waits heading place p q b since) || answered_by dsb (λ b. second_waits heading place p q b since))
@@ -149,7 +153,7 @@ module _ (heading : Heading) (k : Known heading) (place p : ℕ) where
       let older : (q : ℕ) → wrote heading place p q since ≡ false
       = λ q. false_from_ne_true (wrote heading place p q since) (λ t.
       true≢false (sym (or_right (writes q place n.event) (wrote heading place p q since) t) ∙ none q)) in
-      k.seen_step place p n since ∙ by older (unseen since older) n.event
+      k.pattern_steps.seen place p n since ∙ by older (unseen since older) n.event
     where
       by : ((q : ℕ) → wrote heading place p q since ≡ false) → seen heading place p since ≡ false
           → (e : Event) → seen_after heading place p e since ≡ false

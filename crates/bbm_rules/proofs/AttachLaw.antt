@@ -10,9 +10,10 @@ use Rattle.bbm_descriptor.specs.declared.desc.Desc.{Desc}
 use Rattle.bbm_events.specs.Heading.{Heading}
 use Rattle.bbm_events.specs.declared.event.Event.{Event}
 use Rattle.bbm_events.specs.declared.event.Event.TheVariants.{Root, Write}
+use Rattle.bbm_lemmas.proofs.Words.{Apart, apart}
 use Rattle.bbm_lemmas.specs.Elements.{In}
 use Rattle.bbm_lemmas.proofs.Elements.{from_contains, in_left, in_right, none_in, to_filter, to_flat}
-use Rattle.bbm_rules.proofs.ListLemmas.{Apart, Parted, append_none, apart, in_pages, least_none, parted, place_apart}
+use Rattle.bbm_rules.proofs.ListLemmas.{Parted, append_none, in_pages, least_none, parted, place_apart}
 use Rattle.bbm_rules.proofs.ListLemmas.{same_place}
 use Rattle.bbm_rules.proofs.TreeLaw.{below_fresh, ends_from, one_more, path_to_end, place_of_table, written_by}
 use Rattle.bbm_rules.specs.Attach.{Attached, End, all_ends, attached_by, attached_from, end_at, ends_below, pages_of}
@@ -298,5 +299,3 @@ module _ (heading : Heading) (trust : Trust) (h : List Noted) where
           (to_flat (places_with is_lower_global Ttbr0 (events_of h)) (all_ends (attached_from heading trust h Ttbr0 level pages)) end place
           (in_all Ttbr0 level pages page places end (from_contains pages page c) short l)
           (to_filter (λ (x : ℕ). is_lower_global Ttbr0 (desc_of Ttbr0 end.level (value_of (events_of h) x))) (places_in (events_of h) end.page) place (written g) g)))
-
-pub ruleset laws = (written_fresh, single_paths)

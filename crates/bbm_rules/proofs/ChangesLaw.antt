@@ -108,5 +108,3 @@ cleansed_kept heading trust place p n since k =
     (answered_kept (full_step heading trust place p) n since k)
     ∙ ap (λ (b : Bool). answered_where (full_step heading trust place p) since || b)
     (answered_kept (second_step heading trust place p) n since k)
-
-pub ruleset laws = (values_kept, written_kept, published_kept, inits_kept, nulls_kept, roots_kept, registers_kept, flushes_kept, locks_kept, valid_kept, fresh_kept, seen_kept, half_kept, cleansed_kept)

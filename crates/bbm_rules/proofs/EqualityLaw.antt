@@ -1,13 +1,14 @@
 -- The tests for equality of tags, registers, kinds and claims decide equality.
 use Rattle.std.proofs.Common.{◌≡◌, ◌↔◌, ℕ, true, ◌&&◌, ◌==◌, sym, ◌∙◌, ap, true≢false}
 use Rattle.std.proofs.lemmas.Bool.{and_parts, eqb-true}
+use Rattle.bbm_lemmas.proofs.Words.{same_number}
 use Rattle.bbm_regimes.specs.declared.regime.Kind.{Kind}
 use Rattle.bbm_regimes.specs.declared.regime.Reg.{Reg}
 use Rattle.bbm_regimes.specs.declared.regime.Tag.{Tag}
 use Rattle.bbm_events.specs.declared.claim.Claim.{Claim}
 use Rattle.bbm_events.specs.declared.claim.Claim.TheVariants.{Place, Two, Taken}
-use Rattle.bbm_regimes.proofs.SameRegister.{same_number, tag_self, tag_equal, reg_self, reg_equal, kind_self}
-use Rattle.bbm_regimes.proofs.SameRegister.{kind_equal}
+use Rattle.bbm_rules.proofs.SameRegister.{tag_self, tag_equal, reg_self, reg_equal, kind_self}
+use Rattle.bbm_rules.proofs.SameRegister.{kind_equal}
 use Rattle.bbm_rules.specs.Claims.{same_claim, same_tag}
 use Rattle.bbm_rules.specs.RegisterValues.{same_reg}
 use Rattle.bbm_rules.specs.Roots.{same_kind}
@@ -73,5 +74,3 @@ kinds k l = (kind_equal k l, λ e. sym (ap (same_kind k) e) ∙ kind_self k)
 
 pub claims : (c k : Claim) → (same_claim c k ≡ true) ↔ (c ≡ k)
 claims c k = (claim_equal c k, λ e. sym (ap (same_claim c) e) ∙ claim_self c)
-
-pub ruleset laws = (tags, regs, kinds, claims)

@@ -365,7 +365,3 @@ live_is_last kind level place h v =
 
 pub valid_has_bit_0 : (kind : Kind) (level value : ℕ) → is_valid kind level value ≡ true → value % 2 ≡ 1
 valid_has_bit_0 kind level value v = eqb-true (value % 2) 1 (valid_is_odd kind level value v)
-
-pub ruleset laws = (held_sound, held_complete, valid_if_held, live_is_held)
-
-pub ruleset last_laws = (last_sound, live_is_last, valid_has_bit_0)

@@ -8,7 +8,7 @@ use Rattle.bbm_descriptor.specs.Fields.{type_bits}
 use Rattle.bbm_events.specs.Heading.{Heading}
 use Rattle.bbm_events.specs.declared.event.Event.{Event}
 use Rattle.bbm_events.specs.declared.event.Event.TheVariants.{Init, Write}
-use Rattle.bbm_rules.proofs.ListLemmas.{with_keeps}
+use Rattle.bbm_lemmas.proofs.Words.{with_keeps}
 use Rattle.bbm_lemmas.specs.Elements.{In}
 use Rattle.bbm_rules.specs.Claims.{Trust}
 use Rattle.bbm_rules.specs.Held.{ValidWrite, cleansed_everywhere, held, last_valid, last_valid_after, later}

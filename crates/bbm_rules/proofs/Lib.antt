@@ -24,6 +24,7 @@ pub mod CasesUnreached
 pub mod ReadableLaw
 pub mod OpenLaw
 pub mod EqualityLaw
+mod SameRegister
 pub mod SearchLemmas
 pub mod LimitLaw
 pub mod VmidLaw

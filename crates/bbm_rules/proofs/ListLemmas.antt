@@ -1,12 +1,12 @@
 -- What `find` finds, lists of numbers, and lists of ends that lie in pages of their own.
-use Rattle.std.proofs.Common.{◌≡◌, ℕ, Bool, true, false, cond, ◌⊎◌, ◌==◌, List, [], ◌∷◌, ◌++◌, Option, Some, None}
+use Rattle.std.proofs.Common.{◌≡◌, ℕ, Bool, true, false, cond, ◌⊎◌, List, [], ◌∷◌, ◌++◌, Option, Some, None}
 use Rattle.std.proofs.Common.{is_some, find, flat_map, filter_map, refl, sym, ◌∙◌, ap, subst, inl, inr, true≢false}
-use Rattle.std.proofs.lemmas.Bool.{eq-eqb, or_left, or_right}
 use Rattle.std.specs.List.{cons_option}
+use Rattle.bbm_lemmas.proofs.Words.{Apart}
 use Rattle.bbm_lemmas.specs.Elements.{In}
 use Rattle.bbm_lemmas.proofs.Elements.{in_left, in_right, to_filter_map, to_flat}
 use Rattle.bbm_rules.specs.Attach.{End, pages_of}
-use Rattle.bbm_rules.specs.Lists.{among, least, repeated, with_number}
+use Rattle.bbm_rules.specs.Lists.{least}
 
 -- what `find` finds
 found_one : {X : Type 0} (test : X → Bool) (x : X) (rest : Option X) (y : X) (b : Bool) → test x ≡ b
@@ -37,18 +37,6 @@ finds test (x ∷ xs) y (inr i) k = find_there x (find test xs) (test x) (finds 
 
 -- ---- numbers
 
-pub among_in : (n : ℕ) (ms : List ℕ) → In ms n → among n ms ≡ true
-among_in n [] i = absurd i
-among_in n (m ∷ ms) (inl e) = or_left (m == n) (among n ms) (eq-eqb m n e)
-among_in n (m ∷ ms) (inr i) = or_right (m == n) (among n ms) (among_in n ms i)
-
-with_kept : (n : ℕ) (ms : List ℕ) (m : ℕ) (b : Bool) → In ms m → In (cond b ms (n ∷ ms)) m
-with_kept n ms m true i = i
-with_kept n ms m false i = inr i
-
-pub with_keeps : (n : ℕ) (ms : List ℕ) (m : ℕ) → In ms m → In (with_number n ms) m
-with_keeps n ms m i = with_kept n ms m (among n ms) i
-
 pub least_none : (ms : List ℕ) → least ms ≡ None → ms ≡ []
 least_none [] e = refl
 least_none (m ∷ ms) e = cc
@@ -56,20 +44,6 @@ least_none (m ∷ ms) e = cc
 pub append_none : {X : Type 0} (xs ys : List X) → xs ++ ys ≡ [] → (xs ≡ []) × (ys ≡ [])
 append_none [] ys e = (refl, e)
 append_none (x ∷ xs) ys e = cc
-
--- no number stands twice in the list
-abbrev pub Apart : List ℕ → Type 0
-Apart [] = Unit {0}
-Apart (n ∷ ns) = (In ns n → ⊥) × Apart ns
-
-apart_one : (n : ℕ) (ms : List ℕ) (b : Bool) → among n ms ≡ b → cond b (n ∷ repeated ms) (repeated ms) ≡ []
-    → (repeated ms ≡ [] → Apart ms) → Apart (n ∷ ms)
-apart_one n ms true a e rest = cc
-apart_one n ms false a e rest = (λ i. true≢false (sym (among_in n ms i) ∙ a), rest e)
-
-pub apart : (ms : List ℕ) → repeated ms ≡ [] → Apart ms
-apart [] e = tt
-apart (n ∷ ms) e = apart_one n ms (among n ms) refl e (apart ms)
 
 -- ---- ends in pages of their own
 

@@ -2,8 +2,8 @@
 use Rattle.std.proofs.Common.{◌≡◌, ℕ, Bool, true, false, cond, ◌&&◌, ◌==◌, List, [], ◌∷◌, ◌++◌, Option, Some, None}
 use Rattle.std.proofs.Common.{refl, sym, ◌∙◌, ap, subst, true≢false}
 use Rattle.std.proofs.lemmas.Bool.{and_parts, and_from, eqb-true, false_from_ne_true, or_from, or_parts}
+use Rattle.bbm_lemmas.proofs.Words.{same_number}
 use Rattle.bbm_rules.specs.Prelude.{Event, Lock, Unlock}
-use Rattle.bbm_regimes.proofs.SameRegister.{same_number}
 use Rattle.bbm_rules.proofs.SearchLemmas.{is_none_at, none_at}
 use Rattle.bbm_rules.specs.Lists.{any, is_that}
 use Rattle.bbm_rules.specs.Locks.{holder_of}

@@ -42,5 +42,3 @@ module _ (heading : Heading) (trust : Trust) where
   notes_given h newer older n split =
       let r = older_is_noted h newer older n split in
       (r.0, ap (λ (x : Noted). x.covers) r.1, ap (λ (x : Noted). x.position) r.1)
-
-pub ruleset laws = (events_noted, ends_in_older, notes_given)

@@ -1,6 +1,8 @@
 -- The unanswered TLBIs of a PE are those that no later DSB of it completes.
 use Rattle.std.proofs.Common.{◌≡◌, ℕ, Bool, true, false, cond, ◌&&◌, ◌⊎◌, ◌==◌, List, [], ◌∷◌, ◌++◌, Contains, refl}
 use Rattle.std.proofs.Common.{sym, ◌∙◌, ap, subst, inl, inr, true≢false, not}
+use Rattle.bbm_lemmas.proofs.Tautologies.{proved}
+use Rattle.bbm_lemmas.proofs.Tautologies.Claim.{Either, If, Is}
 use Rattle.bbm_lemmas.specs.Elements.{In}
 use Rattle.bbm_lemmas.proofs.Elements.{from_contains, to_contains}
 use Rattle.bbm_rules.specs.Prelude.{Barrier, Event, Dsb, Tlbi}
@@ -100,9 +102,7 @@ module _ (A : Type 0) (event : A → Event) (q : ℕ) where
   at_dsb x h dsb ts t false unrelated i rest = further x h t (unrelated (inr refl)) (rest i)
 
   or_of : (b c : Bool) → (c ≡ false) ⊎ (b ≡ false) → (b && c) ≡ false
-  or_of true c (inl k) = k
-  or_of true c (inr k) = absurd (true≢false k)
-  or_of false c k = refl
+  or_of = proved 2 (λ b c. If (Either (Is c false) (Is b false)) (Is (b && c) false)) refl
 
   one_more : (x : A) (h : List A) (ts : List (Issued A)) (t : Issued A) (e : Event) → event x ≡ e
       → In (still_open event q e (record { tlbi = x; before = h }) ts) t
@@ -170,5 +170,3 @@ open_note_sound q h t c = sound Noted event_of q h t (from_contains (unanswered 
 pub open_note_complete : (q : ℕ) (h : List Noted) (t : Issued Noted)
     → Open event_of q h t → Contains (unanswered event_of q h) t
 open_note_complete q h t o = to_contains (unanswered event_of q h) t (complete Noted event_of q h t o)
-
-pub ruleset laws = (open_sound, open_complete, open_note_sound, open_note_complete)

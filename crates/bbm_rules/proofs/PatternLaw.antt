@@ -272,5 +272,3 @@ module _ (heading : Heading) (trust : Trust) (place p : ℕ) where
   cleansed_complete since (inr two) =
       or_right (answered_where (full_step heading trust place p) since)
       (answered_where (second_step heading trust place p) since) (two_finds since two)
-
-pub ruleset laws = (seen_sound, seen_complete, half_sound, half_complete, cleansed_sound, cleansed_complete)

@@ -2,8 +2,10 @@
 use Rattle.std.proofs.Common.{◌≡◌, ℕ, Bool, true, false, cond, ◌||◌, ◌==◌, List, [], ◌∷◌, ◌++◌, refl, sym, ◌∙◌, ap}
 use Rattle.std.proofs.Common.{subst, inl, inr, true≢false}
 use Rattle.std.proofs.lemmas.Bool.{and_from, and_parts, eqb-true, or_cases, or_left, or_right}
+use Rattle.bbm_lemmas.proofs.Words.{same_number}
+use Rattle.bbm_lemmas.proofs.Tautologies.{proved}
+use Rattle.bbm_lemmas.proofs.Tautologies.Claim.{If, Is}
 use Rattle.bbm_rules.specs.Prelude.{Barrier, Heading, Event, Init, Write, Dsb}
-use Rattle.bbm_regimes.proofs.SameRegister.{same_number}
 use Rattle.bbm_lemmas.specs.Elements.{In}
 use Rattle.bbm_lemmas.proofs.Elements.{any_finds, any_found, in_split, split_in}
 use Rattle.bbm_rules.proofs.OpenLaw.{head_of, tail_of}
@@ -56,18 +58,10 @@ here heading later h place p value had = record {
     none (y ∷ after) x before k = cc
 
 shifted : (a b c : Bool) → (a || (b || c)) ≡ false → ((b || a) || c) ≡ false
-shifted true b c k = absurd (true≢false k)
-shifted false true c k = absurd (true≢false k)
-shifted false false c k = k
+shifted = proved 3 (λ a b c. If (Is (a || (b || c)) false) (Is ((b || a) || c) false)) refl
 
 shifted_back : (a b c : Bool) → ((b || a) || c) ≡ false → (a || (b || c)) ≡ false
-shifted_back true true c k = absurd (true≢false k)
-shifted_back true false c k = absurd (true≢false k)
-shifted_back false b c k = or_right_false b c k
-  where
-    or_right_false : (b c : Bool) → ((b || false) || c) ≡ false → (b || c) ≡ false
-    or_right_false true c k = k
-    or_right_false false c k = k
+shifted_back = proved 3 (λ a b c. If (Is ((b || a) || c) false) (Is (a || (b || c)) false)) refl
 
 -- one event more in front, which is no init of the page and, if it is a write of the place, one that isn't published
 further : (heading : Heading) (later h : List Event) (place p value : ℕ) (e : Event)
@@ -236,12 +230,10 @@ complete heading later (e ∷ newer) older place p kept =
     complete heading (e ∷ later) newer older place p (kept_tail heading later newer place p e kept)
 
 or_none : (b : Bool) → (b || false) ≡ false → b ≡ false
-or_none true k = k
-or_none false k = k
+or_none = proved 1 (λ b. If (Is (b || false) false) (Is b false)) refl
 
 none_or : (b : Bool) → b ≡ false → (b || false) ≡ false
-none_or true k = k
-none_or false k = k
+none_or = proved 1 (λ b. If (Is b false) (Is (b || false) false)) refl
 
 -- The list and the sentence say the same.
 pub readable_sound : (heading : Heading) (h : List Event) (place p value : ℕ)
@@ -266,8 +258,6 @@ readable_complete heading h place p value r =
       no_init = r.no_init;
       unreplaced = λ q w after before k. none_or (published heading q p after) (r.unreplaced q w after before k);
     })))
-
-pub ruleset laws = (readable_sound, readable_complete)
 
 -- Published, by a later DSB.
 is_publisher : (heading : Heading) (q p : ℕ) (e : Event) → publishes_for heading q p e ≡ true
@@ -298,5 +288,3 @@ published_complete heading q p later s =
     any_finds (publishes_for heading q p) later (Dsb q s.dsb)
     (subst (λ (es : List Event). In es (Dsb q s.dsb)) (sym s.split) (in_split s.after s.before (Dsb q s.dsb)))
     (and_from (q == q) (publishes_to heading s.dsb q p) (same_number q) s.publishes)
-
-pub ruleset published_laws = (published_sound, published_complete)

@@ -1,20 +1,21 @@
 -- A tag is readable exactly where the sentence says so; and what the rules on tags and roots say of a register write and
 -- of an `unroot`.
-use Rattle.std.proofs.Common.{◌≡◌, ℕ, zero, suc, ◌<◌, ◌&&◌, not, Bool, true, false, ◌==◌, nat_lt, List, [], ◌∷◌, length}
+use Rattle.std.proofs.Common.{◌≡◌, ℕ, suc, ◌<◌, ◌&&◌, not, Bool, true, false, ◌==◌, nat_lt, List, [], ◌∷◌, length}
 use Rattle.std.proofs.Common.{Option, Some, None, is_none, option_and_then, Contains, filter, flat_map, refl, sym, ◌∙◌}
 use Rattle.std.proofs.Common.{ap, subst, inl, inr, true≢false, arith}
-use Rattle.std.proofs.lemmas.Bool.{and_from, and_parts, eq-eqb, eqb-true, lt-ltb, not_from_false, or_parts}
+use Rattle.std.proofs.lemmas.Bool.{and_from, and_parts, eqb-true, lt-ltb, not_from_false, or_parts}
 use Rattle.bbm_regimes.specs.declared.regime.Reg.TheVariants as reg
 use Rattle.bbm_events.specs.Heading.{Heading}
 use Rattle.bbm_events.specs.declared.event.Event.TheVariants.{Msr, Unroot}
 use Rattle.bbm_rules.specs.Prelude.{AsidFrom, FromTtbr0, FromTtbr1, Reg, Ttbr0El2, VttbrEl2, Ttbr0El1, Ttbr1El1, Tag}
 use Rattle.bbm_rules.specs.Prelude.{El2Tag, Vmid, Asid, Ttbr1Tag, World, Hyp, Kernel, Event}
-use Rattle.bbm_regimes.proofs.SameRegister.{same_number, tag_equal, tag_self}
+use Rattle.bbm_rules.proofs.SameRegister.{tag_equal, tag_self}
 use Rattle.bbm_rules.proofs.HeldLemmas.{among_from}
+use Rattle.bbm_lemmas.proofs.Words.{among_in, in_below, same_number}
 use Rattle.bbm_lemmas.specs.Elements.{In}
 use Rattle.bbm_lemmas.proofs.Elements.{any_finds, any_found, from_contains, from_filter_map, from_flat, in_append}
 use Rattle.bbm_lemmas.proofs.Elements.{in_left, in_map, in_right, none_in, none_of, to_filter, to_filter_map, to_flat}
-use Rattle.bbm_rules.proofs.ListLemmas.{among_in, least_none}
+use Rattle.bbm_rules.proofs.ListLemmas.{least_none}
 use Rattle.bbm_rules.proofs.TagSetLaw.{no_tag}
 use Rattle.bbm_rules.specs.Claims.{Trust, same_tag}
 use Rattle.bbm_rules.specs.Lists.{among, below, if_so, is_that, some_pe}
@@ -210,15 +211,6 @@ module _ (heading : Heading) (trust : Trust) (h : List Noted) where
       by true u c e k l = cc
       by false true c e k l = cc
       by false false c e k l = refl
-
-  in_below : (n p : ℕ) → p < n → In (below n) p
-  in_below zero p less = absurd (omega arith)
-  in_below (suc n) p less = by (p == n) refl (λ lower. in_below n p lower)
-    where
-      by : (c : Bool) → (p == n) ≡ c → (p < n → In (below n) p) → In (n ∷ below n) p
-      by true c rest = inl (sym (eqb-true p n c))
-      by false c rest =
-          let apart : p ≡ n → ⊥ = λ e. true≢false (sym (eq-eqb p n e) ∙ c) in inr (rest (omega arith))
 
   in_registers : (reg : Reg) → In (Ttbr0El2 ∷ VttbrEl2 ∷ Ttbr0El1 ∷ Ttbr1El1 ∷ []) reg
   in_registers reg.Ttbr0El2 = inl refl

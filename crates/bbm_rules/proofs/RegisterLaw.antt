@@ -4,7 +4,8 @@ use Rattle.std.proofs.Common.{subst, inl, inr, true≢false, take}
 use Rattle.std.proofs.lemmas.Bool.{and_from, and_left, and_parts, eqb-true, false_from_ne_true, or_cases, or_from}
 use Rattle.std.proofs.lemmas.Bool.{or_left, or_parts, or_right}
 use Rattle.bbm_rules.specs.Prelude.{Reg, Event, Isb, Msr}
-use Rattle.bbm_regimes.proofs.SameRegister.{reg_equal, reg_self, same_number}
+use Rattle.bbm_rules.proofs.SameRegister.{reg_equal, reg_self}
+use Rattle.bbm_lemmas.proofs.Words.{same_number}
 use Rattle.bbm_lemmas.proofs.Elements.{in_split, is_none_of, none_of, split_in}
 use Rattle.bbm_rules.proofs.SearchLemmas.{is_none_before, none_before}
 use Rattle.bbm_rules.specs.Lists.{among, any, some}

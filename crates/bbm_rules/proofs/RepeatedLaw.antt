@@ -6,9 +6,9 @@ use Rattle.std.proofs.lemmas.Bool.{eq-eqb, eqb-true}
 use Rattle.bbm_regimes.specs.declared.regime.Kind.{Kind}
 use Rattle.bbm_events.specs.Heading.{Heading}
 use Rattle.bbm_rules.specs.Prelude.{Event, Root, Write}
+use Rattle.bbm_lemmas.proofs.Words.{Apart}
 use Rattle.bbm_lemmas.specs.Elements.{In}
 use Rattle.bbm_lemmas.proofs.Elements.{from_contains, from_filter, from_flat, to_contains}
-use Rattle.bbm_rules.proofs.ListLemmas.{Apart}
 use Rattle.bbm_rules.proofs.RootPages.{apart_pages}
 use Rattle.bbm_rules.proofs.TreeLaw.{below_fresh, ends_from, one_more, path_from, path_to_end, place_of_table}
 use Rattle.bbm_rules.proofs.Twice.{InPage, Parts, Twice, apart_places, flat_via, from_repeated, of_flat, of_one, of_two}

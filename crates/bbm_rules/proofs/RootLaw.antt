@@ -4,7 +4,8 @@ use Rattle.std.proofs.Common.{Contains, find, refl, sym, ◌∙◌, ap, subst, i
 use Rattle.std.proofs.lemmas.Bool.{and_from, and_parts, eqb-true, false_from_ne_true, not-true, not_from_false, or_from}
 use Rattle.std.proofs.lemmas.Bool.{or_parts}
 use Rattle.bbm_rules.specs.Prelude.{Kind, Event, Root, Unroot}
-use Rattle.bbm_regimes.proofs.SameRegister.{kind_equal, kind_self, same_number}
+use Rattle.bbm_rules.proofs.SameRegister.{kind_equal, kind_self}
+use Rattle.bbm_lemmas.proofs.Words.{same_number}
 use Rattle.bbm_lemmas.specs.Elements.{In}
 use Rattle.bbm_lemmas.proofs.Elements.{any_finds, any_found, from_contains, from_filter, to_contains, to_filter}
 use Rattle.bbm_rules.proofs.ListLemmas.{found}
@@ -173,5 +174,3 @@ is_root_of_kind h r d =
     any_finds (λ (s : Declared). is_at r.page s && same_kind s.kind r.kind) (roots_of h) r
     (from_contains (roots_of h) r (root_complete h r d))
     (and_from (is_at r.page r) (same_kind r.kind r.kind) (same_number r.page) (kind_self r.kind))
-
-pub ruleset laws = (root_sound, root_complete, root_found, root_of_page)

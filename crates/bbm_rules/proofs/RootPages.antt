@@ -3,7 +3,7 @@ use Rattle.std.proofs.Common.{◌≡◌, ℕ, zero, suc, ◌+◌, ◌*◌, ◌<�
 use Rattle.std.proofs.Common.{refl, sym, ◌∙◌, ap, subst, inl, inr, arith}
 use Rattle.bbm_regimes.specs.declared.regime.Kind.{Kind}
 use Rattle.bbm_events.specs.Heading.{Heading}
-use Rattle.bbm_rules.proofs.ListLemmas.{Apart}
+use Rattle.bbm_lemmas.proofs.Words.{Apart}
 use Rattle.bbm_lemmas.specs.Elements.{In}
 use Rattle.bbm_lemmas.proofs.Elements.{from_contains, to_contains}
 use Rattle.bbm_rules.specs.Roots.{Declared, first_input_page, input_pages, kind_in_world, page_count, pages_from}

@@ -99,5 +99,3 @@ module _ (heading : Heading) (trust : Trust) where
       and_from (keeps heading trust h) (is_none (broken heading trust h e))
       (kept_by_each h (λ newer older d split. each (e ∷ newer) older d (ap (λ (es : List Event). e ∷ es) split)))
       (ap is_none (broken_by_none h e (each [] h e refl)))
-
-pub ruleset laws = (each_unbroken, kept_by_each)

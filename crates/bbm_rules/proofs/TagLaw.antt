@@ -261,5 +261,3 @@ held_complete heading trust p root tag h k =
     subst (λ (es : List Event). holds_at heading trust p root tag es ≡ true) (sym k.split)
     (complete_from heading trust p tag root k.newer k.older k.read
     (λ t taken old. k.not_taken t (subst (λ (es : List Event). TakenAway heading trust p tag es t) (sym k.split) taken) old))
-
-pub ruleset laws = (held_sound, held_complete)

@@ -4,7 +4,7 @@ use Rattle.std.proofs.Common.{flat_map, Some, refl, sym, ◌∙◌, ap, subst, i
 use Rattle.std.proofs.lemmas.Bool.{and_parts, false_from_ne_true, or_cases}
 use Rattle.bbm_tlbi_scope.specs.declared.entry.TagSet.TheVariants.{None as NoTag, One, Many}
 use Rattle.bbm_rules.specs.Prelude.{Tag, Heading, Event}
-use Rattle.bbm_regimes.proofs.SameRegister.{tag_equal, tag_self}
+use Rattle.bbm_rules.proofs.SameRegister.{tag_equal, tag_self}
 use Rattle.bbm_lemmas.specs.Elements.{In}
 use Rattle.bbm_lemmas.proofs.Elements.{any_finds, any_found, from_filter, in_left, in_right, to_filter, to_filter_map}
 use Rattle.bbm_lemmas.proofs.Elements.{to_flat}
@@ -168,5 +168,3 @@ pub many_tags : (heading : Heading) (trust : Trust) (root : ℕ) (h : List Event
     → (g k : Tag) × (same_tag g k ≡ false) × (holds_tag heading trust root g h ≡ true) × (holds_tag heading trust root k h ≡ true)
 many_tags heading trust root h e =
     many_by (λ (g : Tag). holds_tag heading trust root g h) (tags_of heading trust root h) (lists heading trust root h) e
-
-pub ruleset laws = (no_tag, one_tag, many_tags)

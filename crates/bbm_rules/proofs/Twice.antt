@@ -1,10 +1,10 @@
 -- Pages in which two ends of a list lie.
 use Rattle.std.proofs.Common.{◌≡◌, ℕ, ◌⊎◌, Bool, true, false, cond, ◌==◌, List, [], ◌∷◌, ◌++◌, Option, Some, None}
 use Rattle.std.proofs.Common.{filter, flat_map, filter_map, refl, sym, ◌∙◌, ap, subst, inl, inr, true≢false}
-use Rattle.std.proofs.lemmas.Bool.{eqb-true}
+use Rattle.bbm_lemmas.proofs.Words.{Apart, among_in, in_among}
 use Rattle.bbm_lemmas.specs.Elements.{In}
-use Rattle.bbm_lemmas.proofs.Elements.{any_found, from_filter, from_flat, in_append, in_left, in_right}
-use Rattle.bbm_rules.proofs.ListLemmas.{Apart, among_in, in_pages, from_pages}
+use Rattle.bbm_lemmas.proofs.Elements.{from_filter, from_flat, in_append, in_left, in_right}
+use Rattle.bbm_rules.proofs.ListLemmas.{in_pages, from_pages}
 use Rattle.bbm_rules.specs.Prelude.{Event, Write}
 use Rattle.bbm_rules.specs.Attach.{End, pages_of}
 use Rattle.bbm_rules.specs.Lists.{among, repeated}
@@ -22,10 +22,6 @@ Twice page [] = ⊥
 Twice page (e ∷ ends) = ((e.page ≡ page) × InPage page ends) ⊎ Twice page ends
 
 -- ---- repeated
-
-pub in_among : (n : ℕ) (ms : List ℕ) → among n ms ≡ true → In ms n
-in_among n ms k =
-    let f = any_found (λ m. m == n) ms k in subst (λ (x : ℕ). In ms x) (eqb-true f.0 n f.2) f.1
 
 repeated_twice : (page : ℕ) (ends : List End) → In (repeated (pages_of ends)) page → Twice page ends
 repeated_twice page [] i = absurd i

@@ -2,7 +2,7 @@
 use Rattle.std.proofs.Common.{◌≡◌, ℕ, Bool, true, false, cond, ◌==◌, List, [], ◌∷◌, Some, None, map, refl, sym, ◌∙◌, ap}
 use Rattle.std.proofs.Common.{inl, inr, true≢false, take}
 use Rattle.std.proofs.lemmas.Bool.{and_cases, and_parts, eqb-true, or_cases, or_left, or_right}
-use Rattle.bbm_regimes.proofs.SameRegister.{same_number}
+use Rattle.bbm_lemmas.proofs.Words.{same_number}
 use Rattle.bbm_rules.proofs.RegisterLaw.{first}
 use Rattle.bbm_rules.specs.Lists.{among, every, one_number}
 use Rattle.bbm_rules.specs.Prelude.{Event, Heading, Hyp, HypWorld, VttbrEl2}

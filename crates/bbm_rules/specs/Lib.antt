@@ -28,3 +28,8 @@ pub mod Texts
 pub mod Tree
 pub mod TreeSentences
 pub mod Values
+pub mod HeldLaws
+pub mod TreeLaws
+pub mod TagLaws
+pub mod EventLaws
+pub mod BrokenLaws

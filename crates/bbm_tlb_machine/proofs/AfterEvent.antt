@@ -1,6 +1,7 @@
 -- What one more event does to the last valid write of a place and to the patterns after it.
 use Rattle.std.proofs.Common.{◌≡◌, ℕ, ◌⊎◌, ◌&&◌, Bool, true, false, cond, ◌==◌, List, [], ◌∷◌, ◌++◌, Some, None, sym}
 use Rattle.std.proofs.Common.{◌∙◌, ap, subst, inl, inr}
+use Rattle.bbm_lemmas.proofs.Words.{bind_some}
 use Rattle.bbm_descriptor.specs.Descriptor.{is_valid}
 use Rattle.bbm_rules.specs.Claims.{Trust}
 use Rattle.bbm_rules.specs.Held.{ValidWrite, last_valid, last_valid_after, later}
@@ -11,7 +12,6 @@ use Rattle.bbm_rules.specs.Prelude.{Barrier, Heading, Kind, Event, Init, Write, 
 use Rattle.bbm_rules.specs.Reach.{Issued, completes}
 use Rattle.bbm_rules.specs.Sentences.{Open}
 use Rattle.bbm_tlb_machine.specs.KnownOfMachine.{Known}
-use Rattle.bbm_tlb_machine.proofs.ListWords.{bind_some}
 
 -- ---- the last valid write
 
@@ -81,21 +81,23 @@ module _ (heading : Heading) (trust : Trust) (k : Known heading trust) (place p 
       → Publication heading place p t.before b → Publication heading place p since b
   publication_before q since t b o published =
       subst (λ (xs : List Noted). Publication heading place p xs b) (sym o.split)
-      (k.publication_stays place p o.newer (t.tlbi ∷ t.before) b (k.publication_stays place p (t.tlbi ∷ []) t.before b published))
+      (k.patterns_stay.publication place p o.newer (t.tlbi ∷ t.before) b
+      (k.patterns_stay.publication place p (t.tlbi ∷ []) t.before b published))
 
   pub publication_answered : (since : List Noted) (t : Issued Noted) (d b : Noted) → Answer since t d
       → Publication heading place p t.before b → Publication heading place p since b
   publication_answered since t d b a published =
       subst (λ (xs : List Noted). Publication heading place p xs b) (sym a.split)
-      (k.publication_stays place p a.newer (d ∷ a.older) b
-      (k.publication_stays place p (d ∷ []) a.older b (publication_before a.q a.older t b a.is_open published)))
+      (k.patterns_stay.publication place p a.newer (d ∷ a.older) b
+      (k.patterns_stay.publication place p (d ∷ []) a.older b (publication_before a.q a.older t b a.is_open published)))
 
   -- what is half before a TLBI is half after it
   pub half_before : (q : ℕ) (since : List Noted) (t2 : Issued Noted) (b : Noted) (t : Issued Noted) (d : Noted)
       → Open event_of q since t2 → HalfBy heading place p t2.before b t d → HalfBy heading place p since b t d
   half_before q since t2 b t d o half =
       subst (λ (xs : List Noted). HalfBy heading place p xs b t d) (sym o.split)
-      (k.half_stays place p o.newer (t2.tlbi ∷ t2.before) b t d (k.half_stays place p (t2.tlbi ∷ []) t2.before b t d half))
+      (k.patterns_stay.half place p o.newer (t2.tlbi ∷ t2.before) b t d
+      (k.patterns_stay.half place p (t2.tlbi ∷ []) t2.before b t d half))
 
 -- ---- answers
 

@@ -110,7 +110,7 @@ module _ (heading : Heading) (trust : Trust) (k : Known heading trust) (h : List
     table_ends e none = by (last_or_above x.last x.above f.shape.chained part i)
       where
         c : Childless heading trust (noted heading trust h) (f.placed part i).node (f.holding part i).value
-        c = k.childless_sound notes n value none
+        c = k.childless.sound notes n value none
 
         by : (x.last ≡ part) ⊎ ((lower : Part) × Contains (parts_of x) lower × IsBelow lower part)
             → EndsBy true true (head_of x) (view_of heading trust [] (f.placed part i).node part.place (f.holding part i).value)
@@ -172,7 +172,7 @@ module _ (heading : Heading) (trust : Trust) (k : Known heading trust) (h : List
         (t : Issued Noted) (o : Open event_of q w.since t) (b : Noted) (published : Publication heading part.place p t.before b)
         (made : x.since < b.position) (cover : Cover) (some : cover ≡ NoCover → ⊥) (covered : t.tlbi.covers part.place ≡ cover) where
       was_seen : seen heading part.place p t.before ≡ true
-      was_seen = k.seen_complete part.place p t.before (b, published)
+      was_seen = k.seen.complete part.place p t.before (b, published)
 
       holds_it : HeldBy heading trust (noted heading trust h) (f.placed part i).node part.place (f.holding part i).value w
       holds_it = record {
@@ -187,10 +187,11 @@ module _ (heading : Heading) (trust : Trust) (k : Known heading trust) (h : List
       view = k.frozen_view h kept n part.place value p w o.newer t.before t.tlbi holds_it o.split was_seen
 
       is_split : h ≡ events_of o.newer ++ t.tlbi.event ∷ events_of view.older
-      is_split = sym (k.events_noted h) ∙ (ap events_of view.split ∙ events_append o.newer (t.tlbi ∷ view.older))
+      is_split = sym (k.notes_keep_the_events h)
+          ∙ (ap events_of view.split ∙ events_append o.newer (t.tlbi ∷ view.older))
 
       is_noted : view.older ≡ noted heading trust (events_of view.older)
-      is_noted = (k.each_noted h o.newer view.older t.tlbi view.split).0
+      is_noted = (k.notes.each h o.newer view.older t.tlbi view.split).0
 
       kept_then : keeps heading trust (events_of view.older) ≡ true
       kept_then =
@@ -202,7 +203,7 @@ module _ (heading : Heading) (trust : Trust) (k : Known heading trust) (h : List
       node_then =
           ap (node_of heading trust view.older) at.inside
           ∙ subst (λ (xs : List Noted). node_of heading trust xs n.page ≡ Some n) (sym is_noted)
-          (k.first_node (events_of view.older) kept_then n
+          (k.one_node.the_first (events_of view.older) kept_then n
           (subst (λ (xs : List Noted). Contains (tree heading trust xs) n) is_noted view.was.in_tree))
 
       view_then : view_at heading trust view.older part.place ≡ Some (view_of heading trust view.older (f.placed part i).node part.place (f.holding part i).value)
@@ -215,11 +216,12 @@ module _ (heading : Heading) (trust : Trust) (k : Known heading trust) (h : List
       covers =
           covers_by heading trust view.older t.tlbi.event part.place (view_of heading trust view.older n part.place value) cover
           view_then some
-          (ap (λ (c : ℕ → Cover). c part.place) (sym (k.each_noted h o.newer view.older t.tlbi view.split).1) ∙ covered)
+          (ap (λ (c : ℕ → Cover). c part.place) (sym (k.notes.each h o.newer view.older t.tlbi view.split).1) ∙ covered)
 
       -- the events before the TLBI
       write : IsLastValid (f.placed part i).node.kind (f.placed part i).node.level part.place view.older (record { value = (f.holding part i).value; since = t.before })
-      write = k.last_sound n.kind n.level part.place view.older (record { value = value; since = t.before }) view.was.is_last
+      write = k.last_valid.sound n.kind n.level part.place view.older (record { value = value; since = t.before })
+          view.was.is_last
 
       earlier : (a c : List Noted) (d : Noted) → t.before ≡ a ++ d ∷ c → d.position ≤ length (events_of view.older)
       earlier a c d split =
@@ -228,7 +230,7 @@ module _ (heading : Heading) (trust : Trust) (k : Known heading trust) (h : List
           = write.split ∙ (ap (λ (xs : List Noted). xs ++ write.write ∷ write.older) split ∙ append_assoc a (d ∷ c) (write.write ∷ write.older)) in
           let whole : notes ≡ (o.newer ++ t.tlbi ∷ a) ++ d ∷ rest
           = view.split ∙ (ap (λ (xs : List Noted). o.newer ++ t.tlbi ∷ xs) older ∙ sym (append_assoc o.newer (t.tlbi ∷ a) (d ∷ rest))) in
-          let position : d.position ≡ suc (length rest) = (k.each_noted h (o.newer ++ t.tlbi ∷ a) rest d whole).2 in
+          let position : d.position ≡ suc (length rest) = (k.notes.each h (o.newer ++ t.tlbi ∷ a) rest d whole).2 in
           let long : length (a ++ d ∷ rest) ≡ length a + suc (length rest) = length-append a (d ∷ rest) in
           let count : length (events_of view.older) ≡ length a + suc (length rest) = events_length view.older ∙ (ap length older ∙ long) in
           omega (arith, position, count)

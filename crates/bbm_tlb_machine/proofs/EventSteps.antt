@@ -1,6 +1,7 @@
 -- An entry that is fine stays so after an event that breaks no rule and leaves it.
 use Rattle.std.proofs.Common.{◌≡◌, ℕ, suc, ◌≤◌, true, false, cond, List, [], ◌∷◌, length, Option, Some, None, Contains}
 use Rattle.std.proofs.Common.{refl, sym, ◌∙◌, ap, subst, inl, inr, arith}
+use Rattle.bbm_lemmas.proofs.Words.{bind_some}
 use Rattle.bbm_regimes.specs.declared.regime.Kind.{Kind}
 use Rattle.bbm_descriptor.specs.Descriptor.{needs}
 use Rattle.bbm_tlbi_scope.specs.Agreement.{tag_of}
@@ -21,7 +22,6 @@ use Rattle.bbm_tlb_machine.specs.KnownOfMachine.{Known}
 use Rattle.bbm_tlb_machine.proofs.Descs.{no_need}
 use Rattle.bbm_tlb_machine.proofs.Facts.{held_there, held_valid, keeps_older, tag_now}
 use Rattle.bbm_tlb_machine.proofs.InTrees.{all_placed}
-use Rattle.bbm_tlb_machine.proofs.ListWords.{bind_some}
 use Rattle.bbm_tlb_machine.proofs.Patterns.{LeavesIt, joined_before_after, made_before_after, tagged_after}
 use Rattle.bbm_tlb_machine.proofs.Patterns.{uncleansed_after}
 
@@ -53,9 +53,9 @@ module _ (heading : Heading) (trust : Trust) (k : Known heading trust) (h : List
         ∙ (later_is (last_valid part.kind part.level part.place (noted heading trust h))
         ∙ ap (λ (o : Option ValidWrite). later (note heading trust (noted heading trust h) e) o) b.1) in
         let l : IsLastValid part.kind part.level part.place (noted heading trust (e ∷ h)) w
-        = k.last_sound part.kind part.level part.place (noted heading trust (e ∷ h)) w last in
+        = k.last_valid.sound part.kind part.level part.place (noted heading trust (e ∷ h)) w last in
         let holds : held heading trust part.kind part.level part.place (noted heading trust (e ∷ h)) ≡ Some b.0.value
-        = k.held_complete part.kind part.level part.place (noted heading trust (e ∷ h)) b.0.value (record {
+        = k.held.complete part.kind part.level part.place (noted heading trust (e ∷ h)) b.0.value (record {
           since = w.since;
           last_write = l;
           p = x.pe;
@@ -66,7 +66,8 @@ module _ (heading : Heading) (trust : Trust) (k : Known heading trust) (h : List
         cc
 
     holding_after : Holding heading trust (e ∷ h) part
-    holding_after = by (k.held_changes h e kept (f.placed part i).node part.place (f.placed part i).in_tree (f.placed part i).is_at.inside)
+    holding_after = by (k.held_changes.changes h e k.proper.some_pe kept (f.placed part i).node part.place
+        (f.placed part i).in_tree (f.placed part i).is_at.inside)
       where
         n : Node
         n = (f.placed part i).node
@@ -113,7 +114,8 @@ module _ (heading : Heading) (trust : Trust) (k : Known heading trust) (h : List
       let joined : x.joined ≤ suc (length h) = omega (arith, f.shape.joined) in
       let declared : is_root (e ∷ h) x.last.kind x.root ≡ true
       = subst (λ (c : Kind). is_root (e ∷ h) c x.root ≡ true) (tag_kind x.last.kind (head_of x))
-      (k.root_of_tag (e ∷ h) kept x.root (tag_of_entry x) (tag_now heading trust k (e ∷ h) kept x tagged made)) in
+      (k.tags.root (e ∷ h) k.proper kept x.root (tag_of_entry x)
+      (tag_now heading trust k (e ∷ h) kept x tagged made)) in
       record {
         shape = record {
           is_pe = f.shape.is_pe;

@@ -1,5 +1,5 @@
 -- What a fine entry gives at once: the node, the value and the tag of its parts, in one place.
-use Rattle.std.proofs.Common.{◌≡◌, ℕ, ◌≤◌, ◌&&◌, Bool, true, false, List, [], ◌∷◌, ◌++◌, length, Some, is_none, refl}
+use Rattle.std.proofs.Common.{◌≡◌, ℕ, ◌≤◌, true, false, List, [], ◌∷◌, ◌++◌, length, Some, is_none, refl}
 use Rattle.std.proofs.Common.{sym, ◌∙◌, ap, arith, true≢false}
 use Rattle.std.proofs.lemmas.Bool.{and_parts, and_right}
 use Rattle.bbm_regimes.specs.declared.regime.Kind.{Kind}
@@ -20,7 +20,8 @@ use Rattle.bbm_tlb_machine.specs.Entry.{Entry, Part, desc_in, head_of, is_leaf, 
 use Rattle.bbm_tlb_machine.specs.Invariant.{Fine, Holding, IsAt, Placed, Tagged}
 use Rattle.bbm_tlb_machine.specs.KnownOfMachine.{Known}
 use Rattle.bbm_tlb_machine.proofs.Descs.{same_desc}
-use Rattle.bbm_tlb_machine.proofs.Elements.{Between, between_splits, pe_finds}
+use Rattle.bbm_tlb_machine.proofs.Elements.{Between, between_splits}
+use Rattle.bbm_lemmas.proofs.Words.{pe_finds}
 use Rattle.bbm_lemmas.proofs.Elements.{contains_head}
 
 module _ (heading : Heading) (trust : Trust) where
@@ -42,7 +43,7 @@ module _ (heading : Heading) (trust : Trust) (k : Known heading trust) (h : List
       ∙ (ap (λ (l : ℕ). held heading trust part.kind l part.place notes) a.level ∙ e)
 
   pub held_valid : (part : Part) (q : Holding heading trust h part) → is_valid part.kind part.level q.value ≡ true
-  held_valid part q = (k.held_sound part.kind part.level part.place notes q.value q.holds).last_write.valid
+  held_valid part q = (k.held.sound part.kind part.level part.place notes q.value q.holds).last_write.valid
 
   -- what the place holds means what was read
   pub means : (part : Part) (n : Node) → IsAt n x.root part → (q : Holding heading trust h part)
@@ -61,7 +62,7 @@ module _ (heading : Heading) (trust : Trust) (k : Known heading trust) (h : List
       = between_splits newer older t.held.newer t.held.older (sym split ∙ t.held.split) since in
       pe_finds heading.pes (λ (p : ℕ). holds_at heading trust p x.root (tag_of_entry x) older) t.pe t.is_pe
       (ap (holds_at heading trust t.pe x.root (tag_of_entry x)) b.end
-      ∙ k.held_between t.pe x.root (tag_of_entry x) h t.held newer b.between b.start)
+      ∙ k.tags.between t.pe x.root (tag_of_entry x) h t.held newer b.between b.start)
 
   pub tag_now : Tagged heading trust h x → x.since ≤ length h → holds_tag heading trust x.root (tag_of_entry x) h ≡ true
   tag_now t le = tag_then t [] h refl le
@@ -71,8 +72,9 @@ module _ (heading : Heading) (trust : Trust) (k : Known heading trust) (h : List
   has_tag older e = by (tag_set (tags_of heading trust x.root older)) refl
     where
       by : (s : TagSet) → tag_set (tags_of heading trust x.root older) ≡ s → HasTag s (tag_of_entry x)
-      by NoTag s = true≢false (sym e ∙ k.no_tags x.root older s (tag_of_entry x))
-      by (One g) s = k.tags_equal g (tag_of_entry x) (sym (k.one_tag x.root older g s (tag_of_entry x)) ∙ e)
+      by NoTag s = true≢false (sym e ∙ k.tag_set.none x.root older s (tag_of_entry x))
+      by (One g) s = (k.equality_tests.tags g (tag_of_entry x)).0
+          (sym (k.tag_set.one x.root older g s (tag_of_entry x)) ∙ e)
       by Many s = tt
 
   -- no entry of the lower range ends in a leaf for every ASID

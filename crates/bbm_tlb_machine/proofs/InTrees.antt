@@ -25,20 +25,21 @@ module _ (heading : Heading) (trust : Trust) (k : Known heading trust) (h : List
   pub start_placed : (kind : Kind) → is_root h kind x.root ≡ true → (part : Part) → part.kind ≡ kind → (n : Node)
       → Contains (start_nodes heading part.kind x.root) n → IsAt n x.root part → Placed heading trust h x.root part
   start_placed kind declared part same n c a =
-      let r = k.root_of_kind h kind x.root declared in
+      let r = k.root.of_kind h kind x.root declared in
       let there : Contains (nodes_of_root heading r.0) n
       = subst (λ (p : ℕ). Contains (start_nodes heading r.0.kind p) n) (sym r.2)
       (subst (λ (s : Kind). Contains (start_nodes heading s x.root) n) (same ∙ sym r.3) c) in
       record {
         node = n;
-        in_tree = k.tree_complete notes n (record {
+        in_tree = k.tree.complete notes n (record {
           root = r.0;
-          declared = subst (λ (es : List Event). Contains (roots_of es) r.0) (sym (k.events_noted h)) (k.root_complete h r.0 r.1);
+          declared = subst (λ (es : List Event). Contains (roots_of es) r.0) (sym (k.notes_keep_the_events h))
+              (k.root.complete h r.0 r.1);
           start = n;
           is_start = there;
           places = [];
           down = refl;
-          level = subst (λ (l : ℕ). l < 4) (sym (k.start_level r.0 n there)) (k.proper.start r.0.kind);
+          level = subst (λ (l : ℕ). l < 4) (sym ((k.root_pages.fields r.0 n there).1)) (k.proper.start r.0.kind);
         });
         is_at = a;
       }
@@ -50,7 +51,7 @@ module _ (heading : Heading) (trust : Trust) (k : Known heading trust) (h : List
       = ap next_in (means heading trust k h kept x above p.node p.is_at q valid) ∙ c.inside in
       record {
         node = node_below p.node above.place (page_of part.place);
-        in_tree = k.tree_below notes p.node above.place q.value (page_of part.place) p.in_tree p.is_at.inside
+        in_tree = k.tree.below notes p.node above.place q.value (page_of part.place) p.in_tree p.is_at.inside
             (held_there heading trust k h kept x above p.node p.is_at q.value q.holds) next;
         is_at = record {
           inside = refl;

@@ -1,10 +1,10 @@
 -- Tests of a list and options in the words of sentences.
-use Rattle.std.proofs.Common.{◌≡◌, ℕ, Bool, true, false, ◌||◌, ◌==◌, List, [], ◌∷◌, map, Option, Some, None, Contains}
+use Rattle.std.proofs.Common.{◌≡◌, ℕ, Bool, false, ◌||◌, ◌==◌, List, [], ◌∷◌, map, Contains}
 use Rattle.std.proofs.Common.{refl, sym, ◌∙◌, ap, true≢false}
 use Rattle.std.proofs.lemmas.Bool.{false_from_ne_true}
 use Rattle.std.proofs.lemmas.List.Elements.{All-contains_itself, All-weaker}
 use Rattle.std.proofs.lemmas.List.Folds.{list_any_at, list_any_none}
-use Rattle.bbm_rules.specs.Lists.{◌>>=◌, among, any, if_so}
+use Rattle.bbm_rules.specs.Lists.{among, any}
 use Rattle.bbm_rules.specs.RegisterValues.{tag_number}
 
 pub none_in : {X : Type 0} (p : X → Bool) (xs : List X) → any p xs ≡ false → (x : X) → Contains xs x → p x ≡ false
@@ -14,19 +14,6 @@ none_in p xs k x c =
 pub is_none : {X : Type 0} (p : X → Bool) (xs : List X) → ((x : X) → Contains xs x → p x ≡ false) → any p xs ≡ false
 is_none {X} p xs all =
     list_any_none p xs (All-weaker (Contains xs) (λ (x : X). p x ≡ false) all xs (All-contains_itself xs))
-
-pub bind_some : {A B : Type 0} (f : A → Option B) (o : Option A) (y : B) → (o >>= f) ≡ Some y
-    → (x : A) × (o ≡ Some x) × (f x ≡ Some y)
-bind_some f None y k = cc
-bind_some f (Some x) y k = (x, refl, k)
-
-pub if_so_some : {A : Type 0} (b : Bool) (x y : A) → if_so b x ≡ Some y → (b ≡ true) × (y ≡ x)
-if_so_some true x y k = (refl, cc)
-if_so_some false x y k = cc
-
-pub some_if_so : {A : Type 0} (b : Bool) (x y : A) → b ≡ true → y ≡ x → if_so b x ≡ Some y
-some_if_so true x y k e = ap Some (sym e)
-some_if_so false x y k e = absurd (true≢false (sym k))
 
 -- the numbers of register values
 pub among_numbers : (n : ℕ) (values : List ℕ) → any (λ v. tag_number v == n) values ≡ among n (map tag_number values)

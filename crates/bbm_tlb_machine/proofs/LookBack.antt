@@ -5,6 +5,8 @@ use Rattle.std.proofs.lemmas.Bool.{eq-eqb, eqb-true, false_from_ne_true, or_left
 use Rattle.std.proofs.Math.Bool.{or_comm}
 use Rattle.std.proofs.Common.{add-one, drop-cons}
 use Rattle.std.proofs.lemmas.List.{reverse-append, take_more}
+use Rattle.bbm_lemmas.proofs.Tautologies.{proved}
+use Rattle.bbm_lemmas.proofs.Tautologies.Claim.{If, Is}
 use Rattle.bbm_rules.specs.Lists.{among}
 use Rattle.bbm_rules.specs.Places.{page_of}
 use Rattle.bbm_rules.specs.Prelude.{Barrier, Heading, Event, Init, Write, Dsb}
@@ -73,12 +75,10 @@ same_test a b = by (a == b) refl
     by false e = e ∙ sym (false_from_ne_true (b == a) (λ k. true≢false (sym (eq-eqb a b (sym (eqb-true b a k))) ∙ e)))
 
 and_one : (a b : Bool) → b ≡ true → (a && b) ≡ a
-and_one true b e = e
-and_one false b e = refl
+and_one = proved 2 (λ a b. If (Is b true) (Is (a && b) a)) refl
 
 and_zero : (a b c : Bool) → b ≡ false → ((a && b) || c) ≡ c
-and_zero true b c e = ap (λ x. x || c) e
-and_zero false b c e = refl
+and_zero = proved 3 (λ a b c. If (Is b false) (Is ((a && b) || c) c)) refl
 
 self_and : (by : ℕ) (b c : Bool) → (by == by && b) ≡ c → b ≡ c
 self_and by b c e = sym (ap (λ x. x && b) (eq-eqb by by refl)) ∙ e

@@ -98,7 +98,7 @@ module _ (heading : Heading) (trust : Trust) (k : Known heading trust) (h : List
         let both : Some win.last ≡ Some w = sym win.is_last ∙ is_last in
         let same : win.last ≡ w = cc in
         let here : Publication heading part.place x.pe w.since b = at_pe q near part.place w.since b published in
-        true≢false (sym (k.seen_complete part.place x.pe w.since (b, here))
+        true≢false (sym (k.seen.complete part.place x.pe w.since (b, here))
         ∙ (ap (λ (v : ValidWrite). seen heading part.place x.pe v.since) (sym same) ∙ win.unseen));
   }
     where
@@ -113,7 +113,7 @@ module _ (heading : Heading) (trust : Trust) (k : Known heading trust) (h : List
       at_pe : (q : ℕ) → IsNear heading x q → (place : ℕ) (since : List Noted) (b : Noted) → Publication heading place q since b
           → Publication heading place x.pe since b
       at_pe q (inl e) place since b published = subst (λ (r : ℕ). Publication heading place r since b) e published
-      at_pe q (inr c) place since b published = k.publication_alike place q x.pe since b c.0 is_pe published
+      at_pe q (inr c) place since b published = k.uniform.publication place q x.pe since b c.0 is_pe published
 
   new_uncleansed : (x : Entry) (part : Part) → IsNew x part → (w : ValidWrite)
       → last_valid part.kind part.level part.place (noted heading trust h) ≡ Some w → (p : ℕ) → IsNear heading x p
@@ -159,7 +159,7 @@ module _ (heading : Heading) (trust : Trust) (k : Known heading trust) (h : List
     where_read =
         reads_at heading h log.events p (root_of heading.world kind place) kind
         (head_of (started heading (length h) p kind number place value)) heading.world
-        (k.reads_sound h p (tag_of_entry x) (root_of heading.world kind place) s.tag)
+        (k.readable_tag.sound h p (tag_of_entry x) (root_of heading.world kind place) s.tag)
 
     start_tagged : Tagged heading trust h (started heading (length h) p kind number place value)
     start_tagged = record {
@@ -192,7 +192,7 @@ module _ (heading : Heading) (trust : Trust) (k : Known heading trust) (h : List
     first_placed =
         start_placed heading trust k h kept x kind
         (subst (λ (c : Kind). is_root h c (root_of heading.world kind place) ≡ true) (tag_kind kind (head_of x))
-        (k.root_of_tag h kept (root_of heading.world kind place) (tag_of_entry x)
+        (k.tags.root h k.proper kept (root_of heading.world kind place) (tag_of_entry x)
         (tag_now heading trust k h kept x start_tagged (omega arith))))
         first refl start_is.0 start_is.1 start_is.2
 

@@ -79,7 +79,7 @@ module _ (heading : Heading) (trust : Trust) (k : Known heading trust) (h : List
   now = note heading trust (noted heading trust h) e
 
   count : length (noted heading trust h) ≡ length h
-  count = sym (events_length notes) ∙ ap length (k.events_noted h)
+  count = sym (events_length notes) ∙ ap length (k.notes_keep_the_events h)
 
   its : Taken heading trust h x
   its = taken_entry heading trust k h kept x f
@@ -109,7 +109,8 @@ module _ (heading : Heading) (trust : Trust) (k : Known heading trust) (h : List
           = must_go_by heading x t.tlbi t.before w.pe w.op w.xt w.scope w.is (reached_here heading trust k h kept x f t.tlbi f.tagged.pe f.tagged.near a.reached)
           w.named takes x.since age old in
           true≢false (sym must ∙ none a.q a.dsb first t
-          (k.open_complete a.q h t (subst (λ (es : List Event). Open itself a.q es t) (sym rest) a.is_open)) a.answered)
+          (k.answered.complete a.q h t (subst (λ (es : List Event). Open itself a.q es t) (sym rest) a.is_open))
+          a.answered)
       by (y ∷ later) s =
           let rest : h ≡ later ++ Dsb a.q a.dsb ∷ a.earlier = cc in
           f.tagged.held.not_taken t (record {
@@ -166,7 +167,7 @@ module _ (heading : Heading) (trust : Trust) (k : Known heading trust) (h : List
     unanswered_by : (cover : Cover) → t.tlbi.covers part.place ≡ cover → Unanswered heading trust h cover part.place p v.since t
     unanswered_by cover covered =
         let w : IsLastValid part.kind part.level part.place (noted heading trust h) v
-        = k.last_sound part.kind part.level part.place (noted heading trust h) v last in
+        = k.last_valid.sound part.kind part.level part.place (noted heading trust h) v last in
         record {
           q = a.q;
           is_open = a.is_open;
@@ -184,7 +185,7 @@ module _ (heading : Heading) (trust : Trust) (k : Known heading trust) (h : List
         let u : Unanswered heading trust h cover part.place p v.since t = unanswered_by cover covered in
         let plain : Issued Event = record { tlbi = t.tlbi.event; before = events_of u.older } in
         true≢false (sym must ∙ none a.q a.dsb a.barrier plain
-        (k.open_complete a.q h plain (open_among heading trust k h cover part.place p v.since t u)) a.completed)
+        (k.answered.complete a.q h plain (open_among heading trust k h cover part.place p v.since t u)) a.completed)
 
     full_stays : (b : Noted) → Publication heading part.place p t.before b → t.tlbi.covers part.place ≡ Full → ⊥
     full_stays b published covered =

@@ -2,6 +2,8 @@
 use Rattle.std.proofs.Common.{◌≡◌, ℕ, Bool, true, false, cond, ◌&&◌, ◌||◌, not, ◌==◌, nat_le, List, [], ◌∷◌, map}
 use Rattle.std.proofs.Common.{filter, None, refl, sym, ◌∙◌, ap, true≢false}
 use Rattle.std.proofs.lemmas.Bool.{eqb-true, eq-eqb, false_from_ne_true}
+use Rattle.bbm_lemmas.proofs.Tautologies.{proved}
+use Rattle.bbm_lemmas.proofs.Tautologies.Claim.{If, Is}
 use Rattle.bbm_rules.specs.Lists.{any}
 use Rattle.bbm_rules.specs.Prelude.{Barrier, TlbiOp, Heading, Event, Dsb, Tlbi}
 use Rattle.bbm_rules.specs.Reach.{Issued, completes, left_open, reaches, unanswered}
@@ -16,11 +18,8 @@ use Rattle.bbm_tlb_machine.specs.Step.{must_go, takes_by}
 pub never : (heading : Heading) (p : Pending) (x : Entry) → p.scope ≡ None → false ≡ must_leave heading p x
 never heading p x e =
     let none : takes_by p.scope p.vmid x ≡ false = ap (λ o. takes_by o p.vmid x) e in
-    sym (by (reaches heading p.tlbi x.pe) (takes_by p.scope p.vmid x) (nat_le (age_for p.family x) p.before) none)
-  where
-    by : (a b c : Bool) → b ≡ false → (a && b && c) ≡ false
-    by true b c e = ap (λ b. b && c) e
-    by false b c e = refl
+    sym (proved 3 (λ a b c. If (Is b false) (Is (a && b && c) false)) refl (reaches heading p.tlbi x.pe)
+    (takes_by p.scope p.vmid x) (nat_le (age_for p.family x) p.before) none)
 
 -- tests of lists
 any_step : {X : Type 0} (i c m : X → Bool) (x : X) (xs ys : List X) (b : Bool) → i x ≡ b

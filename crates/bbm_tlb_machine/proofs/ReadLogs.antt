@@ -3,8 +3,8 @@ use Rattle.std.proofs.Common.{◌≡◌, ℕ, suc, ◌==◌, Bool, true, false, 
 use Rattle.std.proofs.Common.{is_none, Result, Ok, Err, refl, sym, ◌∙◌, ap, subst, inl, inr}
 use Rattle.std.proofs.lemmas.Bool.{and_from, and_parts}
 use Rattle.bbm_regimes.specs.declared.regime.Which.{Which}
-use Rattle.bbm_events.specs.Fits.{fits_heading, item_fits, label_fits}
-use Rattle.bbm_events.specs.Heading.{heading_ok}
+use Rattle.bbm_events.specs.Fits.{fits_heading, label_fits}
+use Rattle.bbm_events.specs.LineLaws.{HeadersAreInRange, ItemsFit}
 use Rattle.bbm_events.specs.Lines.{header_of, item_of}
 use Rattle.bbm_events.specs.declared.event.Item.{Item}
 use Rattle.bbm_events.specs.declared.event.Item.TheVariants as item
@@ -25,10 +25,10 @@ use Rattle.bbm_tlb_machine.specs.Accepted.{SafeBytes}
 use Rattle.bbm_tlb_machine.specs.Safe.{IsLog, Safe}
 use Rattle.bbm_lemmas.proofs.Elements.{contains_cases, contains_none}
 
--- what is known of the lines of a log
+-- the laws of the lines of a log
 pub record LineLaws : Type 0 where
-  pub header : (line : List ℕ) (heading : Heading) → header_of line ≡ Ok heading → heading_ok heading ≡ true
-  pub item : (heading : Heading) (line : List ℕ) (item : Item) → item_of heading line ≡ Ok item → item_fits heading item ≡ true
+  pub header : HeadersAreInRange
+  pub item : ItemsFit
 
 module _ (laws : LineLaws) (trust : Trust) (limits : Limits) (heading : Heading) where
   -- the events are a log of the header that keeps the rules

@@ -1,7 +1,8 @@
 -- The run that is computed is the run that the relation names.
-use Rattle.std.proofs.Common.{◌≡◌, ℕ, Bool, true, false, ◌&&◌, not, ◌↔◌, List, [], ◌∷◌, ◌++◌, length, Option, Some}
-use Rattle.std.proofs.Common.{None, Result, Ok, Err, Contains, refl, sym, ◌∙◌, ap, true≢false}
+use Rattle.std.proofs.Common.{◌≡◌, ℕ, Bool, true, false, ◌&&◌, ◌↔◌, List, [], ◌∷◌, ◌++◌, length, Option, Some}
+use Rattle.std.proofs.Common.{None, Result, Ok, Err, Contains, refl, sym, ◌∙◌, ap}
 use Rattle.std.proofs.lemmas.Bool.{and_from, and_left, and_parts, and_right, not_from_false, not-true}
+use Rattle.bbm_lemmas.proofs.Words.{bind_some, if_so_some, some_if_so}
 use Rattle.bbm_events.specs.declared.machine.MachineLine.TheVariants.{Start, Extend, Combine, Share, Drop}
 use Rattle.bbm_rules.specs.Lists.{◌>>=◌, any, if_so}
 use Rattle.bbm_rules.specs.Prelude.{Barrier, Heading, Event, Dsb}
@@ -15,7 +16,7 @@ use Rattle.bbm_tlb_machine.specs.MachineRun.{leaves_some, or_index, step_to, wit
 use Rattle.bbm_tlb_machine.specs.First.{IsFirstBad}
 use Rattle.bbm_tlb_machine.specs.Step.{Extends, Starts, combined, extended, is_stage2, may_extend, may_share, may_start}
 use Rattle.bbm_tlb_machine.specs.Step.{must_go, shared}
-use Rattle.bbm_tlb_machine.proofs.ListWords.{bind_some, if_so_some, is_none, none_in, some_if_so}
+use Rattle.bbm_tlb_machine.proofs.ListWords.{is_none, none_in}
 
 module _ (heading : Heading) where
   starts_from : (h : List Event) (x : Entry) (n : ℕ) → may_start heading h x n ≡ true → Starts heading h x n
@@ -193,5 +194,3 @@ run_law heading steps s = (run_complete heading steps s, run_sound heading steps
 
 pub stop_law : (heading : Heading) (steps : List Step) (i : ℕ) → IsFirstBad heading steps i ↔ (follow_steps heading steps ≡ Err i)
 stop_law heading steps i = (stop_complete heading steps i, stop_sound heading steps i)
-
-pub ruleset laws = (leads_law, run_law, stop_law)

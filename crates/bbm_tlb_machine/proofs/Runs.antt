@@ -25,12 +25,12 @@ use Rattle.bbm_tlb_machine.specs.KnownOfMachine.{Known}
 use Rattle.bbm_tlb_machine.specs.MachineRun.{IsRun, Leads, LeavesNone, Living, State, entry_at, with_entry}
 use Rattle.bbm_tlb_machine.specs.Safe.{ComesTo, IsLog, Safe}
 use Rattle.bbm_tlb_machine.proofs.Descs.{no_need}
-use Rattle.bbm_tlb_machine.proofs.Elements.{pe_finds}
 use Rattle.bbm_tlb_machine.proofs.EventSteps.{fine_after}
 use Rattle.bbm_tlb_machine.proofs.Facts.{held_there, held_valid, keeps_older, tag_now}
 use Rattle.bbm_tlb_machine.proofs.Made.{fine_combined, fine_extended, fine_shared, fine_start}
 use Rattle.bbm_tlb_machine.proofs.Patterns.{LeavesIt, tagged_after}
 use Rattle.bbm_tlb_machine.proofs.Taken.{taken}
+use Rattle.bbm_lemmas.proofs.Words.{pe_finds}
 use Rattle.bbm_lemmas.proofs.Elements.{contains_after, contains_cases, contains_head, contains_more, contains_none}
 
 -- ---- entries by number
@@ -155,14 +155,15 @@ module _ (heading : Heading) (trust : Trust) (k : Known heading trust) where
         let q : Holding heading trust s.log part = f.holding part i in
         let node : node_of heading trust (noted heading trust s.log) (page_of place) ≡ Some p.node
         = ap (λ (a : ℕ). node_of heading trust (noted heading trust s.log) (page_of a)) (sym e)
-        ∙ (ap (node_of heading trust (noted heading trust s.log)) p.is_at.inside ∙ k.first_node s.log older p.node p.in_tree) in
+        ∙ (ap (node_of heading trust (noted heading trust s.log)) p.is_at.inside
+        ∙ k.one_node.the_first s.log older p.node p.in_tree) in
         let held : held_at heading trust (noted heading trust s.log) p.node place ≡ Some q.value
         = ap (held_at heading trust (noted heading trust s.log) p.node) (sym e)
         ∙ held_there heading trust k s.log older x part p.node p.is_at q.value q.holds in
         let rule : (node_of heading trust (noted heading trust s.log) (page_of place)
         >>= (λ (n : Node). held_at heading trust (noted heading trust s.log) n place
         >>= (λ (old : ℕ). if_so (needs n.kind n.level old value) place))) ≡ None
-        = k.unbroken (Write pe place value ∷ s.log) [] s.log (Write pe place value) kept refl BreakBeforeMake in
+        = k.each_rule.sound (Write pe place value ∷ s.log) [] s.log (Write pe place value) kept refl BreakBeforeMake in
         let one : if_so (needs p.node.kind p.node.level q.value value) place ≡ None
         = sym (ap (λ (o : Option Node). o >>= (λ (n : Node). held_at heading trust (noted heading trust s.log) n place
         >>= (λ (old : ℕ). if_so (needs n.kind n.level old value) place))) node
@@ -180,8 +181,9 @@ module _ (heading : Heading) (trust : Trust) (k : Known heading trust) where
         → page_of part.place ≡ page → ⊥
     no_page pe page kept part i e =
         let p : Placed heading trust s.log x.root part = f.placed part i in
-        true≢false (sym (k.tree_has (noted heading trust s.log) p.node p.in_tree)
-        ∙ (ap (in_tree heading trust (noted heading trust s.log)) (sym p.is_at.inside ∙ e) ∙ k.no_init s.log pe page kept))
+        true≢false (sym (k.tree.has (noted heading trust s.log) p.node p.in_tree)
+        ∙ (ap (in_tree heading trust (noted heading trust s.log)) (sym p.is_at.inside ∙ e)
+        ∙ (k.one_position.no_init s.log pe page kept).0))
 
     no_other : (pe value : ℕ) (reg : Reg) → pe < heading.pes → keeps heading trust (Msr pe reg value ∷ s.log) ≡ true → (r : Reading)
         → Contains (readings heading (Msr pe reg value ∷ s.log) pe) r → r.tag ≡ tag_of_entry x → r.root ≡ x.root
@@ -197,7 +199,7 @@ module _ (heading : Heading) (trust : Trust) (k : Known heading trust) where
         let its : holds_tag heading trust r.root (tag_of_entry x) (Msr pe reg value ∷ s.log) ≡ true
         = pe_finds heading.pes (λ (p : ℕ). holds_at heading trust p r.root (tag_of_entry x) (Msr pe reg value ∷ s.log)) pe is_pe
         (or_left (reads heading (Msr pe reg value ∷ s.log) pe (tag_of_entry x) r.root) _ read) in
-        k.one_root (Msr pe reg value ∷ s.log) kept r.root x.root (tag_of_entry x) its mine
+        k.tags.one_root (Msr pe reg value ∷ s.log) k.proper kept r.root x.root (tag_of_entry x) its mine
       where
         apart : (q : ℕ) (dsb : Barrier) → Msr pe reg value ≡ Dsb q dsb → ⊥
         apart q dsb is = cc
@@ -210,7 +212,8 @@ module _ (heading : Heading) (trust : Trust) (k : Known heading trust) where
             = λ j. read_by rs tag r j e in
             elim (contains_cases rs y r i) [
               | inl same ↦ or_left (same_tag y.tag tag && y.root == r.root) (any (λ (y : Reading). same_tag y.tag tag && y.root == r.root) rs)
-                  (and_from (same_tag y.tag tag) (y.root == r.root) (k.same_tags y.tag tag (ap (λ (z : Reading). z.tag) same ∙ e))
+                  (and_from (same_tag y.tag tag) (y.root == r.root)
+                  ((k.equality_tests.tags y.tag tag).1 (ap (λ (z : Reading). z.tag) same ∙ e))
                   (eq-eqb y.root r.root (ap (λ (z : Reading). z.root) same)))
               | inr j ↦ or_right (same_tag y.tag tag && y.root == r.root) (any (λ (y : Reading). same_tag y.tag tag && y.root == r.root) rs) (rest j)
             ]

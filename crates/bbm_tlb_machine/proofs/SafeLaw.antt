@@ -1,10 +1,10 @@
 -- The tests for conflicts say the same as the clauses of a safe log.
-use Rattle.std.proofs.Common.{◌≡◌, ℕ, Bool, true, false, ◌&&◌, not, ◌==◌, ◌↔◌, List, [], ◌∷◌, ◌++◌, length, Option}
+use Rattle.std.proofs.Common.{◌≡◌, ℕ, Bool, true, false, not, ◌==◌, ◌↔◌, List, [], ◌∷◌, ◌++◌, length, Option}
 use Rattle.std.proofs.Common.{Some, None, Result, Ok, Err, Contains, refl, sym, ◌∙◌, ap, true≢false}
 use Rattle.std.proofs.lemmas.Bool.{eq-eqb, eqb-true, false_from_ne_true, not-false}
 use Rattle.bbm_descriptor.specs.Descriptor.{needs}
 use Rattle.bbm_regimes.specs.SameRegister.{same_tag}
-use Rattle.bbm_regimes.proofs.SameRegister.{tag_self, tag_equal}
+use Rattle.bbm_rules.specs.EventLaws.{TestsAreExact}
 use Rattle.bbm_rules.specs.Lists.{any, if_so}
 use Rattle.bbm_rules.specs.Places.{page_of}
 use Rattle.bbm_rules.specs.Prelude.{Reg, Heading, Event, Init, Write, Msr}
@@ -20,7 +20,7 @@ use Rattle.bbm_tlb_machine.proofs.ListWords.{any_none, is_none, none_in}
 use Rattle.bbm_tlb_machine.proofs.RunLaw.{run_complete, run_sound}
 use Rattle.bbm_lemmas.proofs.Bools.{second_false, and_apart}
 
-module _ (heading : Heading) where
+module _ (heading : Heading) (tests : TestsAreExact) where
   -- one entry
   at_write : (x : Entry) (h : List Event) (pe place value : ℕ) → conflicts_with heading h (Write pe place value) x ≡ false
       → (part : Part) → Contains (parts_of x) part → part.place ≡ place → needs part.kind part.level part.value value ≡ false
@@ -36,7 +36,7 @@ module _ (heading : Heading) where
       → (r : Reading) → Contains (readings heading (Msr pe reg value ∷ h) pe) r → r.tag ≡ tag_of_entry x → r.root ≡ x.root
   at_msr x h pe value reg k r i e =
       let none = none_in (has_other_root x) (readings heading (Msr pe reg value ∷ h) pe) k r i in
-      let same : same_tag r.tag (tag_of_entry x) ≡ true = ap (λ g. same_tag g (tag_of_entry x)) e ∙ tag_self (tag_of_entry x) in
+      let same : same_tag r.tag (tag_of_entry x) ≡ true = ap (λ g. same_tag g (tag_of_entry x)) e ∙ (tests.tags (tag_of_entry x) (tag_of_entry x)).1 refl in
       eqb-true r.root x.root (not-false _ (second_false (same_tag r.tag (tag_of_entry x)) _ none same))
 
   no_write : (x : Entry) (h : List Event) (pe place value : ℕ)
@@ -59,7 +59,7 @@ module _ (heading : Heading) where
   no_msr x h pe value reg all =
       is_none (has_other_root x) (readings heading (Msr pe reg value ∷ h) pe) (λ r i.
       and_apart (same_tag r.tag (tag_of_entry x)) _ (λ e.
-      ap not (eq-eqb r.root x.root (all r i (tag_equal r.tag (tag_of_entry x) e)))))
+      ap not (eq-eqb r.root x.root (all r i ((tests.tags r.tag (tag_of_entry x)).0 e)))))
 
   -- all of them
   each : (s : State) (e : Event) → in_conflict heading s e ≡ false → (l : Living) → Contains s.living l
@@ -91,6 +91,7 @@ module _ (heading : Heading) where
       all_of s (Msr pe reg value) (λ l i. no_msr l.entry s.log pe value reg (safe.at_msr s pe value reg c l i))
   safe_to log safe s e c = all_of s e (λ l i. refl)
 
+module _ (heading : Heading) where
   -- the first conflict of a run
   fails_is : (steps : List Step) (s : State) (e : Event) → IsRun heading steps s
       → fails_at heading (follow_steps heading steps) (Taken e) ≡ in_conflict heading s e
@@ -190,9 +191,9 @@ quiet heading h (Write pe at v) living a b d = absurd (b pe at v refl)
 quiet heading h (Msr pe reg v) living a b d = absurd (d pe reg v refl)
 quiet heading h _ living a b d = any_none living
 
-pub safe_law : (heading : Heading) (log : List Event)
+pub safe_law : TestsAreExact → (heading : Heading) (log : List Event)
     → Safe heading log ↔ ((s : State) (e : Event) → ComesTo heading log s e → in_conflict heading s e ≡ false)
-safe_law heading log = (safe_to heading log, safe_from heading log)
+safe_law tests heading log = (safe_to heading tests log, safe_from heading tests log)
 
 pub none_law : (heading : Heading) (steps : List Step) → first_conflict heading steps ≡ None
     → (newer : List Step) (e : Event) (older : List Step) (s : State)
@@ -201,5 +202,3 @@ none_law heading steps = none_sound heading steps
 
 pub found_law : (heading : Heading) (steps : List Step) (i : ℕ) → IsFirstConflict heading steps i ↔ (first_conflict heading steps ≡ Some i)
 found_law heading steps i = (found_complete heading steps i, found_sound heading steps i)
-
-pub ruleset laws = (safe_law, none_law, found_law)

@@ -42,7 +42,7 @@ pub open_among : (heading : Heading) (trust : Trust) (k : Known heading trust) (
     → Open itself u.q h (record { tlbi = t.tlbi.event; before = events_of u.older })
 open_among heading trust k h cover place p since t u = record {
   newer = events_of u.is_open.newer;
-  split = sym (k.events_noted h) ∙ (ap events_of u.whole ∙ events_append u.is_open.newer (t.tlbi ∷ u.older));
+  split = sym (k.notes_keep_the_events h) ∙ (ap events_of u.whole ∙ events_append u.is_open.newer (t.tlbi ∷ u.older));
   issued = u.is_open.issued;
   uncompleted = λ y after before s.
       let a : At u.is_open.newer y = event_at u.is_open.newer after before y s in
@@ -54,7 +54,7 @@ module _ (heading : Heading) (trust : Trust) (k : Known heading trust) (h : List
   -- what reaches a PE near reaches the entry's own
   pub reached_here : (t : Event) (p : ℕ) → IsNear heading x p → reaches heading t p ≡ true → reaches heading t x.pe ≡ true
   reached_here t p (inl same) r = ap (reaches heading t) (sym same) ∙ r
-  reached_here t p (inr c) r = k.reached_alike t x.pe p c.0 ∙ r
+  reached_here t p (inr c) r = k.uniform.reached t x.pe p c.0 ∙ r
 
   module _ (part : Part) (i : Contains (parts_of x) part) (w : ValidWrite)
       (last : last_valid part.kind part.level part.place (noted heading trust h) ≡ Some w) (p : ℕ) (near : IsNear heading x p)

@@ -5,6 +5,7 @@ pub mod Followed
 pub mod Invariant
 pub mod KnownOfMachine
 pub mod Looking
+pub mod MachineLaws
 pub mod MachinePendings
 pub mod MachineRegisters
 pub mod MachineRun

@@ -43,7 +43,7 @@ pub record Safe (heading : Heading) (log : List Event) : Type 0 where
       → (l : Living) → Contains s.living l → (r : Reading) → Contains (readings heading (Msr pe reg value ∷ s.log) pe) r
       → r.tag ≡ tag_of_entry l.entry → r.root ≡ l.entry.root
 
--- The same, computed. `law_safe_by_test` says so.
+-- The same, computed. `law_conflict` says so.
 
 abbrev pub is_stale : ℕ → ℕ → Part → Bool
 is_stale place value part = part.place == place && needs part.kind part.level part.value value

@@ -1,19 +1,14 @@
 //! The law of safe logs: no TLB keeps what a write, an init or a new root needs gone.
 
-ghost use Rattle.std.specs.Prelude.{◌≡◌, ℕ, true, List, Contains};
+ghost use Rattle.std.specs.Prelude.{◌≡◌, ℕ, true, List};
 ghost use Rattle.bbm_events.specs.Heading.{Heading, heading_ok};
-ghost use Rattle.bbm_events.specs.declared.event.Event.{Event};
-ghost use Rattle.bbm_rules.specs.Broken.{keeps};
 ghost use Rattle.bbm_rules.specs.Claims.{Trust};
 ghost use Rattle.bbm_rules.specs.Outcome.{verdict_of_bytes};
 ghost use Rattle.bbm_rules.specs.declared.limits.Limits.{Limits};
 ghost use Rattle.bbm_rules.specs.declared.verdict.Verdict.TheVariants.{Accepted};
 ghost use Rattle.bbm_tlb_machine.specs.Accepted.{SafeBytes};
-ghost use Rattle.bbm_tlb_machine.specs.declared.step.Step.{Step};
-ghost use Rattle.bbm_tlb_machine.specs.Invariant.{Fine, Taken};
 ghost use Rattle.bbm_tlb_machine.specs.KnownOfMachine.{Known};
-ghost use Rattle.bbm_tlb_machine.specs.MachineRun.{IsRun, Living, State};
-ghost use Rattle.bbm_tlb_machine.specs.Safe.{IsLog, Safe};
+ghost use Rattle.bbm_tlb_machine.specs.MachineLaws.{EntriesAreFine, KeptIsSafe};
 
 use bbm_descriptor::laws::{law_need, law_same_core_is_equal};
 use bbm_events::{law_header_in_range, law_item_fits};
@@ -65,24 +60,18 @@ fn known()
 
 /// In each run over a log that keeps the rules, each entry that some TLB keeps is fine, point by point, whatever the
 /// rules trust; and so each unanswered TLBI that covers a place of a part of it takes it. A log has a header that can
-/// be said, and each event fits it. The law is the contract.
+/// be said, and each event fits it. The law is `EntriesAreFine`.
 pub fn law_fine()
-    ensures fine { (heading : Heading) (trust : Trust) (steps : List Step) (s : State) → IsLog heading s.log →
-        keeps heading trust s.log ≡ true → IsRun heading steps s → (l : Living) → Contains s.living l →
-        Fine heading trust s.log l.entry }
-    ensures taken { (heading : Heading) (trust : Trust) (steps : List Step) (s : State) → IsLog heading s.log →
-        keeps heading trust s.log ≡ true → IsRun heading steps s → (l : Living) → Contains s.living l →
-        Taken heading trust s.log l.entry }
+    ensures { (heading : Heading) (trust : Trust) → EntriesAreFine heading trust }
 {
     known();
 }
 
 /// Every log that keeps the rules is safe: in each run over it no TLB keeps what a write, an init or a register write
 /// needs gone. So it is where the rules trust every pattern, and where they trust those of a list of claims alone. A
-/// log has a header that can be said, and each event fits it. The law is the contract.
+/// log has a header that can be said, and each event fits it. The law is `KeptIsSafe`.
 pub fn law_safe()
-    ensures { (heading : Heading) (trust : Trust) (log : List Event) → IsLog heading log →
-        keeps heading trust log ≡ true → Safe heading log }
+    ensures { (heading : Heading) (trust : Trust) → KeptIsSafe heading trust }
 {
     known();
 }

@@ -3,6 +3,8 @@ use Rattle.std.proofs.Common.{◌≡◌, ℕ, Bool, true, false, Option, Some, N
 use Rattle.std.proofs.Common.{sym, ◌∙◌, arith, if◌then◌else◌}
 use Rattle.std.proofs.lemmas.Bool.{and_from, and_parts, or_left, or_right, not_from_false, not-true}
 use Rattle.std.proofs.lemmas.Bool.Decides.{nat_tests}
+use Rattle.bbm_lemmas.proofs.Tautologies.{proved}
+use Rattle.bbm_lemmas.proofs.Tautologies.Claim.{If, Is, Never}
 use Rattle.bbm_regimes.specs.Extent.{Extent, meets, holds}
 use Rattle.bbm_regimes.specs.declared.regime.Kind.{Kind}
 use Rattle.bbm_regimes.specs.declared.regime.Kind.TheVariants.{El2, S2, Ttbr0, Ttbr1}
@@ -57,11 +59,8 @@ asid_of_tag (Some m) Many n has same = cc
 free_of_hint : (last last_only : Bool) (hint : Option ℕ) (level : ℕ) → (not last_only && is_none hint) ≡ true
     → (if last then hint_allows hint level else (not last_only && is_none hint)) ≡ true
 free_of_hint true last_only None level free = refl
-free_of_hint true last_only (Some hint) level free = absurd (no_hint (not last_only) free)
-  where
-    no_hint : (b : Bool) → (b && false) ≡ true → ⊥
-    no_hint true h = cc
-    no_hint false h = cc
+free_of_hint true last_only (Some hint) level free = absurd (proved 1 (λ b. If (Is (b && false) true) Never) refl
+    (not last_only) free)
 free_of_hint false last_only hint level free = free
 
 -- a scope whose address fits a place fits each entry that ends there or below

@@ -3,6 +3,8 @@ use Rattle.std.proofs.Common.{◌≡◌, ◌≢◌, ℕ, Bool, true, false, Opti
 use Rattle.std.proofs.Common.{◌↔◌, refl, ap, sym, ◌∙◌, arith, if◌then◌else◌}
 use Rattle.std.proofs.lemmas.Bool.{and_from, and_parts}
 use Rattle.std.proofs.lemmas.Bool.Decides.{nat_tests}
+use Rattle.bbm_lemmas.proofs.Tautologies.{proved}
+use Rattle.bbm_lemmas.proofs.Tautologies.Claim.{If, Is}
 use Rattle.bbm_regimes.specs.Extent.{Extent, Has, meets, holds}
 use Rattle.bbm_regimes.specs.declared.regime.Kind.{Kind}
 use Rattle.bbm_regimes.specs.declared.regime.Kind.TheVariants.{El2, S2, Ttbr0, Ttbr1}
@@ -44,7 +46,8 @@ holds_wider pages region n inside h = grind (arith, nat_tests)
 
 -- a conjunction holds where its first part holds of the wider
 and_wider : (a b other : Bool) → (a ≡ true → b ≡ true) → (a && other) ≡ true → (b && other) ≡ true
-and_wider a b other wider h = and_from b other (wider (and_parts a other h).0) (and_parts a other h).1
+and_wider = proved 3 (λ a b other. If (If (Is a true) (Is b true)) (If (Is (a && other) true) (Is (b && other) true)))
+    refl
 
 -- the pages of a scope count for nothing beside the fit
 covers_at_page : (k : Kind) (f : Family) (fits : Bool) (s : Scope) (n : ℕ) (vmid : Option ℕ) (v : PlaceView) → cover_by k f fits (at_page s n) vmid v ≡ cover_by k f fits s vmid v

@@ -4,21 +4,9 @@ use Rattle.bbm_cert.specs.Marks.{flush_mark, seen_mark}
 use Rattle.bbm_cert.proofs.Kepts.{mark_got, mark_lost}
 use Rattle.bbm_cert.proofs.marks.half_by.Goals as goal
 
-pub returns-in-Some-flush_index : goal.returns-in-Some-flush_index
-returns-in-Some-flush_index c =
-    c.published_at.ensures
-    ∙ sym (c.in-Some-flush_index.ensures.marks (seen_mark c.args.header.now c.args.step.now.place c.args.step.now.pe
-    c.args.step.now.b))
-    ∙ sym (mark_got (λ n before. flush_mark c.args.header.now c.args.step.now.place c.args.step.now.pe Half
-    c.args.step.now.t
-    (seen_mark c.args.header.now c.args.step.now.place c.args.step.now.pe c.args.step.now.b) n.event before)
-    c.args.log.now c.args.step.now.d
-    c.in-Some.i c.index-log-i.result c.in-Some.ensures.found)
-
-pub returns-in-None-flush_index : goal.returns-in-None-flush_index
-returns-in-None-flush_index c =
-    sym (c.in-None-flush_index.ensures.marks (seen_mark c.args.header.now c.args.step.now.place c.args.step.now.pe
-    c.args.step.now.b))
+pub returns-in-Some : goal.returns-in-Some
+returns-in-Some c =
+    c.seen_since.ensures
     ∙ sym (mark_got (λ n before. flush_mark c.args.header.now c.args.step.now.place c.args.step.now.pe Half
     c.args.step.now.t
     (seen_mark c.args.header.now c.args.step.now.place c.args.step.now.pe c.args.step.now.b) n.event before)

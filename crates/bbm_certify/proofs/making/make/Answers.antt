@@ -1,5 +1,6 @@
 use Rattle.std.proofs.Common.{◌≡◌, ◌∷◌, ◌++◌, ◌+◌, ◌<◌, true, List, length, take, reverse, ap, subst, ◌∙◌, arith}
 use Rattle.std.proofs.lemmas.List.{take_all}
+use Rattle.bbm_lemmas.proofs.Reversed.{passes_at, reverse_more}
 use Rattle.bbm_events.specs.Fits.{fits_heading}
 use Rattle.bbm_events.specs.declared.claim.Claim.{Claim}
 use Rattle.bbm_rules.specs.Broken.{keeps}
@@ -7,7 +8,7 @@ use Rattle.bbm_rules.specs.Claims.Trust.{Patterns}
 use Rattle.bbm_rules.specs.Prelude.{Event}
 use Rattle.bbm_certify.specs.LeastClaims.{IsCertificate}
 use Rattle.bbm_certify.specs.Made.{IsMaking}
-use Rattle.bbm_certify.proofs.Finished.{certificate_next, first_count, keeps_first, passes_at, reverse_more}
+use Rattle.bbm_certify.proofs.Finished.{certificate_next, first_count, keeps_first}
 use Rattle.bbm_certify.proofs.making.make.Goals as goal
 
 pub loop-event-init : goal.loop-event-init

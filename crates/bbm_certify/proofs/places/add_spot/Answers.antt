@@ -9,8 +9,8 @@ use Rattle.bbm_certify.proofs.places.add_spot.Goals as goal
 pub returns-then-has : goal.returns-then-has
 returns-then-has c = λ newest k told.
     spot_cleansed c.args.header.now c.args.spot.now.place c.args.spot.now.pe c.args.spot.now.before c.args.log.now newest
-    (c.law_cleansed.ensures.sound c.args.header.now Patterns c.args.spot.now.place c.args.spot.now.pe)
-    (c.law_cleansed.ensures.complete c.args.header.now Patterns c.args.spot.now.place c.args.spot.now.pe)
+    ((c.law_cleansed.ensures c.args.header.now Patterns).sound c.args.spot.now.place c.args.spot.now.pe)
+    ((c.law_cleansed.ensures c.args.header.now Patterns).complete c.args.spot.now.place c.args.spot.now.pe)
     c.args.cleansed c.args.due.now.items (sym c.has.ensures ∙ c.if-has.true) told
 
 pub claim_of-claim-requires-clause-inside : goal.claim_of-claim-requires-clause-inside
@@ -21,8 +21,8 @@ claim_of-claim-requires-clause-inside c =
 pub returns-in-Some : goal.returns-in-Some
 returns-in-Some c = on_ok_weaker c.add_claim.result (λ adds newest k told.
     spot_found c.args.header.now c.args.spot.now.place c.args.spot.now.pe c.args.spot.now.before c.args.log.now newest
-    (c.law_cleansed.ensures.sound c.args.header.now Patterns c.args.spot.now.place c.args.spot.now.pe)
-    (c.law_cleansed.ensures.complete c.args.header.now Patterns c.args.spot.now.place c.args.spot.now.pe)
+    ((c.law_cleansed.ensures c.args.header.now Patterns).sound c.args.spot.now.place c.args.spot.now.pe)
+    ((c.law_cleansed.ensures c.args.header.now Patterns).complete c.args.spot.now.place c.args.spot.now.pe)
     c.args.cleansed c.args.answer.now c.in-Some.pattern c.args.due.now.items c.add_claim.new.claims.items
     (sym c.has.ensures ∙ c.if-has.false) told k c.in-Some.ensures
     (subst (λ (y : Claim). Adds (λ x. x ≡ y) c.args.due.now.items c.add_claim.new.claims.items) c.claim_of-claim.ensures adds))
@@ -31,6 +31,6 @@ returns-in-Some c = on_ok_weaker c.add_claim.result (λ adds newest k told.
 pub returns-in-None : goal.returns-in-None
 returns-in-None c = λ newest k told.
     spot_none c.args.header.now c.args.spot.now.place c.args.spot.now.pe c.args.spot.now.before c.args.log.now newest
-    (c.law_cleansed.ensures.sound c.args.header.now Patterns c.args.spot.now.place c.args.spot.now.pe)
-    (c.law_cleansed.ensures.complete c.args.header.now Patterns c.args.spot.now.place c.args.spot.now.pe)
+    ((c.law_cleansed.ensures c.args.header.now Patterns).sound c.args.spot.now.place c.args.spot.now.pe)
+    ((c.law_cleansed.ensures c.args.header.now Patterns).complete c.args.spot.now.place c.args.spot.now.pe)
     c.args.cleansed c.args.answer.now c.args.due.now.items (sym c.has.ensures ∙ c.if-has.false) told k c.in-None.ensures

@@ -12,7 +12,8 @@ returns-else-has c = λ newest k seen told.
     let s = c.args.spot.now in
     let heading = c.args.header.now in
     spot_without heading s.place s.pe s.before c.args.log.now newest
-    (c.law_cleansed.ensures.sound heading Patterns s.place s.pe) (c.law_cleansed.ensures.complete heading Patterns s.place s.pe)
+    ((c.law_cleansed.ensures heading Patterns).sound s.place s.pe)
+    ((c.law_cleansed.ensures heading Patterns).complete s.place s.pe)
     c.args.answer.now c.args.due.now.items k
     (unseen_none heading s.place s.pe s.before c.args.log.now c.args.answer.now
-    (c.law_seen.ensures.complete heading s.place s.pe) (sym seen ∙ (sym c.has.ensures ∙ c.if-has.false)))
+    ((c.law_seen.ensures heading).complete s.place s.pe) (sym seen ∙ (sym c.has.ensures ∙ c.if-has.false)))

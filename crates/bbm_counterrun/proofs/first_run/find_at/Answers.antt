@@ -14,8 +14,7 @@ run_found-requires c =
 pub returns-in_ok-found-in-Some : goal.returns-in_ok-found-in-Some
 returns-in_ok-found-in-Some c pe same refused leaf =
     let write = c.args.write.now in
-    run_found (record { tested = c.law_plain_is_tested.ensures; least = c.law_least_reads.ensures }) c.args.header.now
-    write.before.now c.said.ensures c.requires.fits c.args.history.now c.requires.trust c.requires.stands pe write.place
+    run_found c.args.header.now (record { tested = c.law_plain_is_tested.ensures c.args.header.now; least = c.law_least_reads.ensures c.args.header.now }) write.before.now c.said.ensures c.requires.fits c.args.history.now c.requires.trust c.requires.stands pe write.place
     write.value refused leaf write.log.now same c.in-Some.kind (sym c.in-Some.is ∙ c.kind_at.ensures)
     c.deref-in-Some.result.now (c.deref-in-Some.ensures.value ∙ c.in_ok-way-in-Some.ensures)
     (option_map (λ v. v.items) c.in_ok-found-in-Some.found)
@@ -24,6 +23,5 @@ returns-in_ok-found-in-Some c pe same refused leaf =
 pub returns-in-None : goal.returns-in-None
 returns-in-None c pe same refused leaf plan plain =
     let write = c.args.write.now in
-    no_tree_found (record { tested = c.law_plain_is_tested.ensures; least = c.law_least_reads.ensures })
-    c.args.header.now write.before.now c.said.ensures c.requires.fits c.args.history.now c.requires.trust c.requires.stands pe write.place
+    no_tree_found c.args.header.now (record { tested = c.law_plain_is_tested.ensures c.args.header.now; least = c.law_least_reads.ensures c.args.header.now }) write.before.now c.said.ensures c.requires.fits c.args.history.now c.requires.trust c.requires.stands pe write.place
     write.value refused leaf (sym c.in-None.is ∙ c.kind_at.ensures) plan plain

@@ -2,14 +2,13 @@ use Rattle.std.proofs.Common.{◌≡◌, Bool, true, false, ◌&&◌, List, [], 
 use Rattle.std.specs.List.{list_all}
 use Rattle.std.proofs.lemmas.List.{reverse-append}
 use Rattle.std.proofs.lemmas.List.Folds.{list_all-append}
+use Rattle.bbm_lemmas.proofs.Tautologies.{proved}
+use Rattle.bbm_lemmas.proofs.Tautologies.Claim.{Is}
 use Rattle.bbm_events.specs.Fits.{fits_heading}
 use Rattle.bbm_evidence_tests.proofs.idle.idle_lines.Goals as goal
 
 both : (a b : Bool) → (b && (a && true)) ≡ (a && b)
-both true true = refl
-both true false = refl
-both false true = refl
-both false false = refl
+both = proved 2 (λ a b. Is (b && (a && true)) (a && b)) refl
 
 every_reverse : {A : Type 0} (test : A → Bool) (xs : List A) → list_all test (reverse xs) ≡ list_all test xs
 every_reverse test [] = refl

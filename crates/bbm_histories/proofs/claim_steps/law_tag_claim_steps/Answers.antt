@@ -1,8 +1,8 @@
 use Rattle.bbm_histories.proofs.TagClaims.{listed_lost, waits_at_step}
 use Rattle.bbm_histories.proofs.claim_steps.law_tag_claim_steps.Goals as goal
 
-pub returns-clause-waits : goal.returns-clause-waits
-returns-clause-waits c = waits_at_step
-
-pub returns-clause-lost : goal.returns-clause-lost
-returns-clause-lost c heading cs p tag q dsb h = listed_lost heading p tag q dsb h cs
+pub returns : goal.returns
+returns c heading = record {
+  waits = waits_at_step heading;
+  lost = λ cs p tag q dsb h. listed_lost heading p tag q dsb h cs;
+}

@@ -6,30 +6,22 @@ use Rattle.bbm_histories.proofs.Invariants.{invariants}
 use Rattle.bbm_histories.proofs.NodeSteps.{node_after_dsb, node_after_unroot, node_attached, node_stays, unattached}
 use Rattle.bbm_histories.proofs.tree_steps.law_node_step.Goals as goal
 
-pub returns-clause-attached : goal.returns-clause-attached
-returns-clause-attached c heading trust h e proper kept m a =
-    let b = c.below.ensures heading trust in
-    let parts = last_kept heading trust b h e kept in
-    node_attached heading trust b (noted heading trust h) (invariants heading trust b h parts.0) proper e parts.1 m a
-
-pub returns-clause-others : goal.returns-clause-others
-returns-clause-others c heading trust h e proper kept no_dsb no_unroot page none =
-    let b = c.below.ensures heading trust in
-    let parts = last_kept heading trust b h e kept in
-    node_stays heading trust b (noted heading trust h) (invariants heading trust b h parts.0) proper e parts.1
-    (λ d. no_dsb d.0 d.1 d.2) no_unroot page none
-
-pub returns-clause-unroot : goal.returns-clause-unroot
-returns-clause-unroot c heading trust h q first proper kept page =
-    let b = c.below.ensures heading trust in
-    let parts = last_kept heading trust b h (Unroot q first) kept in
-    node_after_unroot heading trust b (noted heading trust h) (invariants heading trust b h parts.0) proper q first parts.1 page
-
-pub returns-clause-dsb : goal.returns-clause-dsb
-returns-clause-dsb c heading trust h q dsb kept page =
-    let b = c.below.ensures heading trust in
-    let parts = last_kept heading trust b h (Dsb q dsb) kept in
-    node_after_dsb heading trust b (noted heading trust h) (invariants heading trust b h parts.0) (Dsb q dsb) (q, dsb, refl) parts.1 page
-
-pub returns-clause-unattached : goal.returns-clause-unattached
-returns-clause-unattached c = unattached
+pub returns : goal.returns
+returns c heading trust = let b = c.below.ensures heading trust in record {
+  attached = λ h e proper kept m a.
+      let parts = last_kept heading trust b h e kept in
+      node_attached heading trust b (noted heading trust h) (invariants heading trust b h parts.0) proper e parts.1 m a;
+  others = λ h e proper kept no_dsb no_unroot page none.
+      let parts = last_kept heading trust b h e kept in
+      node_stays heading trust b (noted heading trust h) (invariants heading trust b h parts.0) proper e parts.1
+      (λ d. no_dsb d.0 d.1 d.2) no_unroot page none;
+  unroot = λ h q first proper kept page.
+      let parts = last_kept heading trust b h (Unroot q first) kept in
+      node_after_unroot heading trust b (noted heading trust h) (invariants heading trust b h parts.0)
+      proper q first parts.1 page;
+  dsb = λ h q dsb kept page.
+      let parts = last_kept heading trust b h (Dsb q dsb) kept in
+      node_after_dsb heading trust b (noted heading trust h) (invariants heading trust b h parts.0)
+      (Dsb q dsb) (q, dsb, refl) parts.1 page;
+  unattached = unattached heading trust;
+}

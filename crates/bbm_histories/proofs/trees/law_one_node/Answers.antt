@@ -4,10 +4,9 @@ use Rattle.bbm_histories.proofs.Invariants.{invariants}
 use Rattle.bbm_histories.proofs.TreeSteps.{node_is}
 use Rattle.bbm_histories.proofs.trees.law_one_node.Goals as goal
 
-pub returns-clause-at_most_one : goal.returns-clause-at_most_one
-returns-clause-at_most_one c heading trust h kept = (invariants heading trust (c.below.ensures heading trust) h kept).one
-
-pub returns-clause-the_first : goal.returns-clause-the_first
-returns-clause-the_first c heading trust h kept n t =
-    node_is heading trust (c.below.ensures heading trust) (noted heading trust h)
-    (invariants heading trust (c.below.ensures heading trust) h kept).one n n.page t refl
+pub returns : goal.returns
+returns c heading trust = let b = c.below.ensures heading trust in record {
+  at_most_one = λ h kept. (invariants heading trust b h kept).one;
+  the_first = λ h kept n t.
+      node_is heading trust b (noted heading trust h) (invariants heading trust b h kept).one n n.page t refl;
+}

@@ -1,16 +1,16 @@
 use Rattle.std.proofs.Common.{◌≡◌, reverse, sym, ap, ◌∙◌, arith, rules, inl, inr}
 use Rattle.std.proofs.lemmas.Bool.{cases_lt}
+use Rattle.bbm_lemmas.proofs.Words.{pe_none, pe_finds}
 use Rattle.bbm_events.specs.Heading.{Heading}
 use Rattle.bbm_regimes.specs.PeMask.{pe_in}
 use Rattle.bbm_idle.specs.Finding.{needed_by}
-use Rattle.bbm_idle.proofs.FindLists.{no_pe, one_pe}
 use Rattle.bbm_idle.proofs.find_needed.is_needed.Goals as goal
 
 pub returns-then-branch : goal.returns-then-branch
 returns-then-branch c =
     let at : c.unwrap-pe.result ≡ c.loop-number.number = search rules in
     let pes : c.header.inside.pes ≡ c.args.header.now.pes = ap (λ (h : Heading). h.pes) c.header.view_is in
-    sym (one_pe c.args.header.now.pes (needed_by c.args.header.now (reverse c.args.before.now) c.args.event.now
+    sym (pe_finds c.args.header.now.pes (needed_by c.args.header.now (reverse c.args.before.now) c.args.event.now
     (pe_in c.args.effect.now.added))
     c.unwrap-pe.result (omega (arith, at, pes, c.loop-number-test.true))
     (sym c.in_ok-is_needed_at.ensures ∙ c.if-branch.true))
@@ -30,6 +30,6 @@ loop-number-preserved c = λ p lt.
 pub returns : goal.returns
 returns c =
     let pes : c.header.inside.pes ≡ c.args.header.now.pes = ap (λ (h : Heading). h.pes) c.header.view_is in
-    sym (no_pe c.args.header.now.pes (needed_by c.args.header.now (reverse c.args.before.now) c.args.event.now
+    sym (pe_none c.args.header.now.pes (needed_by c.args.header.now (reverse c.args.before.now) c.args.event.now
     (pe_in c.args.effect.now.added))
     (λ p lt. c.loop-number.invariant p (omega (arith, pes, lt))))

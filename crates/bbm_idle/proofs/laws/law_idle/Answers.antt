@@ -20,13 +20,13 @@ pub returns-clause-phases : goal.returns-clause-phases
 returns-clause-phases c heading h chosen place p ok idle kept less =
     let k = c.known.ensures heading ok in
     let t = thinned heading k chosen idle h kept in
-    sym (k.phases h (without chosen h) place p t.alike less)
+    sym (k.alike_judges.phase h (without chosen h) place p t.alike less)
 
 pub returns-clause-judged : goal.returns-clause-judged
 returns-clause-judged c heading h chosen e ok idle kept =
     let k = c.known.ensures heading ok in
     let t = thinned heading k chosen idle h kept in
-    sym (k.judges h (without chosen h) e t.alike)
+    sym (k.alike_judges.rule h (without chosen h) e t.alike)
 
 pub returns-clause-rest : goal.returns-clause-rest
 returns-clause-rest c heading h newer older e ok kept split =

@@ -1,4 +1,3 @@
-use Rattle.std.proofs.Common.{Option, Err, sym, ◌∙◌, subst}
 use Rattle.std.proofs.lemmas.Result.{err_from_is_err_and}
 use Rattle.bbm_rules.specs.Limits.{limit_of}
 use Rattle.bbm_judge.proofs.RuleLemmas.{answers_broken, answers_limit}

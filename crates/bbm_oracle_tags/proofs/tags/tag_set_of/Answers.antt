@@ -23,7 +23,7 @@ returns g c =
     (λ g. holds_tag heading trust root g h) set
     (λ g. and_implied (has_tag g c.deref.result.now) (holds_tag heading trust root g h)
     (λ held. rw c.deref.ensures.value (c.in_ok-tags.ensures trust g held))) has)
-    (λ e. c.law_tag_set.ensures.none heading trust root h e)
-    (λ t e. c.law_tag_set.ensures.one heading trust root h t e)
-    (λ e. c.law_tag_set.ensures.many heading trust root h e))
+    (λ e. (c.law_tag_set.ensures heading trust).none root h e)
+    (λ t e. (c.law_tag_set.ensures heading trust).one root h t e)
+    (λ e. (c.law_tag_set.ensures heading trust).many root h e))
     c.held_among.ensures

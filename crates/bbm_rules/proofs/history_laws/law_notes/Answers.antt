@@ -1,5 +1,8 @@
-use Rattle.bbm_rules.proofs.NotesLaw.{notes_given}
+use Rattle.bbm_rules.proofs.NotesLaw.{ends_in_older, notes_given}
 use Rattle.bbm_rules.proofs.history_laws.law_notes.Goals as goal
 
-pub returns-clause-each : goal.returns-clause-each
-returns-clause-each c = notes_given
+pub returns : goal.returns
+returns c heading trust = record {
+  ends_in_older = ends_in_older heading trust;
+  each = notes_given heading trust;
+}

@@ -1,5 +1,8 @@
-use Rattle.bbm_rules.proofs.TreeLaw.{paths_complete}
+use Rattle.bbm_rules.proofs.TreeLaw.{paths_complete, paths_sound}
 use Rattle.bbm_rules.proofs.history_laws.law_paths.Goals as goal
 
-pub returns-clause-complete : goal.returns-clause-complete
-returns-clause-complete c = paths_complete
+pub returns : goal.returns
+returns c heading trust = record {
+  sound = paths_sound heading trust;
+  complete = paths_complete heading trust;
+}

@@ -1,5 +1,5 @@
-use Rattle.bbm_tlb_machine.proofs.RunLaw.{stop_law}
+use Rattle.bbm_tlb_machine.proofs.RunLaw.{leads_law, run_law, stop_law}
 use Rattle.bbm_tlb_machine.proofs.laws.law_run.Goals as goal
 
-pub returns-clause-stop : goal.returns-clause-stop
-returns-clause-stop c = stop_law
+pub returns : goal.returns
+returns c = record { step = leads_law; run = run_law; stop = stop_law }

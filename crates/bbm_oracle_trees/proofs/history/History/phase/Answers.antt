@@ -2,7 +2,7 @@ use Rattle.std.proofs.Common.{◌≡◌, Some, None, ap, sym, ◌∙◌}
 use Rattle.std.specs.Option.{option_copied}
 use Rattle.bbm_rules.specs.Notes.{events_of}
 use Rattle.bbm_rules.specs.Places.{page_of}
-use Rattle.bbm_rules.specs.Tree.{Node, node_of}
+use Rattle.bbm_rules.specs.Tree.{node_of}
 use Rattle.bbm_rules.specs.Values.{value_of}
 use Rattle.bbm_oracle_patterns.specs.PlacePhases.{phase_at}
 use Rattle.bbm_oracle_trees.specs.Past.{notes}

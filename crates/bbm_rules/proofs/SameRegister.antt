@@ -1,6 +1,7 @@
--- The tests for equality of numbers, tags, registers and kinds decide equality.
-use Rattle.std.proofs.Common.{◌≡◌, ℕ, true, ◌==◌, refl, sym, ap, true≢false}
-use Rattle.std.proofs.lemmas.Bool.{eqb-true, eq-eqb}
+-- The tests for equality of tags, registers and kinds decide equality.
+use Rattle.std.proofs.Common.{◌≡◌, true, refl, sym, ap, true≢false}
+use Rattle.std.proofs.lemmas.Bool.{eqb-true}
+use Rattle.bbm_lemmas.proofs.Words.{same_number}
 use Rattle.bbm_regimes.specs.declared.regime.Kind.{Kind}
 use Rattle.bbm_regimes.specs.declared.regime.Kind.TheVariants.{El2 as El2Kind, S2, Ttbr0, Ttbr1 as Ttbr1Kind}
 use Rattle.bbm_regimes.specs.declared.regime.Reg.{Reg}
@@ -8,9 +9,6 @@ use Rattle.bbm_regimes.specs.declared.regime.Reg.TheVariants.{Ttbr0El2, VttbrEl2
 use Rattle.bbm_regimes.specs.declared.regime.Tag.{Tag}
 use Rattle.bbm_regimes.specs.declared.regime.Tag.TheVariants.{El2, Vmid, Asid, Ttbr1}
 use Rattle.bbm_regimes.specs.SameRegister.{same_kind, same_reg, same_tag}
-
-pub same_number : (n : ℕ) → (n == n) ≡ true
-same_number n = eq-eqb n n refl
 
 pub tag_self : (g : Tag) → same_tag g g ≡ true
 tag_self El2 = refl
