@@ -1,5 +1,5 @@
 -- The least rule that an event breaks, and what stands after one that breaks none.
-use Rattle.std.proofs.Common.{◌≡◌, ℕ, ◌<◌, Bool, true, false, not, ◌&&◌, ◌||◌, ◌==◌, cond, nat_le, length, ◌≤◌, ◌↔◌}
+use Rattle.std.proofs.Common.{◌≡◌, ℕ, ◌<◌, Bool, true, false, not, ◌&&◌, ◌==◌, cond, nat_le, length, ◌≤◌, ◌↔◌}
 use Rattle.std.proofs.Common.{Result, Ok, List, ◌∷◌, Option, Some, None, refl, sym, ap, ◌∙◌, arith, true≢false}
 use Rattle.std.specs.Option.{is_none, option_map, option_map_or}
 use Rattle.std.proofs.lemmas.Bool.{and_from, eq-eqb, eqb-true, le-leb, leb-true, ne_eqb}
@@ -15,7 +15,7 @@ use Rattle.bbm_regimes.specs.declared.regime.Which.TheVariants.{Roots as Roots'}
 use Rattle.bbm_tlbi_scope.specs.Decode.{scope_of}
 use Rattle.bbm_tlbi_scope.specs.Operations.{of_world}
 use Rattle.bbm_tlbi_scope.specs.declared.scope.BadOperand.{BadOperand as BadOperandOf}
-use Rattle.bbm_rules.specs.RegisterValues.{lacks_vmid, named_scope, vmid_of}
+use Rattle.bbm_rules.specs.RegisterValues.{lacks_vmid, named_scope}
 use Rattle.bbm_rules.specs.Prelude.{World, Scope, Init, Null, Root, Write, Kind, Reg, TlbiOp, Heading, Event, Dsb, Dmb}
 use Rattle.bbm_rules.specs.Prelude.{Isb, Tlbi, Msr, Lock, Unlock, Unroot}
 use Rattle.bbm_rules.specs.Broken.{Breach, broken, keeps}
@@ -28,15 +28,15 @@ use Rattle.bbm_rules.specs.Rules as rules
 use Rattle.bbm_rules.specs.declared.rule.Rule.{Rule}
 use Rattle.bbm_rules.specs.declared.rule.Rule.TheVariants.{WrongWorld, NoLock, NoRoot, TagConflict, RootInUse}
 use Rattle.bbm_rules.specs.declared.rule.Rule.TheVariants.{UnsyncedVmid, BadOperand, LockBusy, LockNotMine}
+use Rattle.bbm_roots.specs.RootChanges as changes
 use Rattle.bbm_roots.specs.RootsStand.{pes_of, world_of}
 use Rattle.bbm_roots.specs.RootsStand as lower
-use Rattle.bbm_roots.specs.RootCalls.{Call, Issue}
+use Rattle.bbm_roots.specs.RootCalls.{Call}
 use Rattle.bbm_roots.specs.DeclaredRoots as called
 use Rattle.bbm_replay_roots.proofs.RootMaps.{as_root, root_same}
-use Rattle.bbm_replay_roots.specs.Bridge.{calls_of, issue_of, with_call}
+use Rattle.bbm_replay_roots.specs.Bridge.{calls_of}
 use Rattle.bbm_replay_roots.specs.RootLaws.{Laws}
-use Rattle.bbm_replay_roots.specs.RootStateStands.{IsNamed, Stands, concerns_roots}
-use Rattle.bbm_replay_roots.specs.declared.named.NamedTlbi.{NamedTlbi}
+use Rattle.bbm_replay_roots.specs.RootStateStands.{Keeps, Stands, concerns_roots}
 use Rattle.bbm_replay_roots.specs.declared.state.RootState.{RootState}
 use Rattle.bbm_replay_roots.proofs.TagMaps.{Agrees, agrees}
 
@@ -123,6 +123,13 @@ stays new s header pes world roots locks = record {
   locks = λ lock. locks lock ∙ s.locks lock;
 }
 
+pub kept : {old : RootState} (new : RootState) → new.header ≡ old.header
+    → ((lock : ℕ) → holder_at new.locks lock ≡ holder_at old.locks lock) → changes.Keeps old.roots new.roots → Keeps old new
+kept new header locks same = record {
+  same = λ heading h s. stays new s header same.log.pes same.log.world (same.same (calls_of heading h) s.roots) locks;
+  room = same.prepared;
+}
+
 pub agrees_by : {state : RootState} {heading : Heading} {h : List Event} → Laws heading → Stands state heading h → Agrees heading h
 agrees_by {heading = heading} {h = h} laws s = agrees heading laws (laws.proper s.proper) h s.kept
 
@@ -149,7 +156,7 @@ lock_is : (heading : Heading) (h : List Event) (pe lock : ℕ) → Laws heading 
     → broken heading Patterns h (Lock pe lock) ≡ or_rule LockBusy o None
 lock_is heading h pe lock laws o e =
     broken_lock heading h pe lock
-    ∙ (ap (λ (es : List Event). or_rule LockBusy (holder_of es lock) None) (laws.events_noted h)
+    ∙ (ap (λ (es : List Event). or_rule LockBusy (holder_of es lock) None) (laws.notes_keep_the_events h)
     ∙ ap (λ (x : Option ℕ). or_rule LockBusy x None) e)
 
 pub lock_free : (heading : Heading) (h : List Event) (pe lock : ℕ) → Laws heading → ((q : ℕ) → holder_of h lock ≡ Some q → ⊥)
@@ -168,7 +175,8 @@ unlock_is : (heading : Heading) (h : List Event) (pe lock : ℕ) → Laws headin
     → broken heading Patterns h (Unlock pe lock) ≡ or_rule LockNotMine (if_so (not b) lock) None
 unlock_is heading h pe lock laws b e =
     broken_unlock heading h pe lock
-    ∙ (ap (λ (es : List Event). or_rule LockNotMine (if_so (not (is_that (holder_of es lock) pe)) lock) None) (laws.events_noted h)
+    ∙ (ap (λ (es : List Event). or_rule LockNotMine (if_so (not (is_that (holder_of es lock) pe)) lock) None)
+    (laws.notes_keep_the_events h)
     ∙ ap (λ (x : Bool). or_rule LockNotMine (if_so (not x) lock) None) e)
 
 pub is_mine : (o : Option ℕ) (pe : ℕ) → o ≡ Some pe → is_that o pe ≡ true
@@ -205,9 +213,10 @@ free_page {heading = heading} {h = h} pe page kind lock laws s none = by (root_a
     by : (o : Option Declared) → root_at h page ≡ o → o ≡ None
     by None e = refl
     by (Some r) e =
-        let d = laws.root_of_page h page r e in
-        let there : is_root h r.kind page ≡ true = ap (is_root h r.kind) (sym d.1) ∙ laws.is_root_of_kind h r d.0 in
-        let apart : is_root h r.kind page ≡ false = laws.new_root h pe page kind r.kind lock (laws.proper s.proper)
+        let d = laws.root.of_page h page r e in
+        let there : is_root h r.kind page ≡ true = ap (is_root h r.kind) (sym d.1) ∙ laws.root.is_of_kind h r d.0 in
+        let apart : is_root h r.kind page ≡ false = laws.bases.new_root h pe page kind r.kind lock
+        (laws.proper s.proper)
         (kept_next heading h (Root pe kind lock page) s.kept none) in
         absurd (true≢false (sym there ∙ apart))
 
@@ -226,7 +235,8 @@ pub tlbi_is : (heading : Heading) (h : List Event) (pe : ℕ) (op : TlbiOp) (xt 
 tlbi_is heading h pe op xt laws w l d world lacks scope =
     broken_tlbi heading h pe op xt
     ∙ (ap (λ (es : List Event). or_rule WrongWorld (if_so (not (of_world heading.world op)) 0)
-    (or_rule UnsyncedVmid (if_so (lacks_vmid heading es pe op) pe) (or_rule BadOperand (if_so (is_none (result_ok (scope_of op xt))) xt) None))) (laws.events_noted h)
+    (or_rule UnsyncedVmid (if_so (lacks_vmid heading es pe op) pe)
+    (or_rule BadOperand (if_so (is_none (result_ok (scope_of op xt))) xt) None))) (laws.notes_keep_the_events h)
     ∙ (ap (λ (b : Bool). or_rule WrongWorld (if_so (not b) 0)
     (or_rule UnsyncedVmid (if_so (lacks_vmid heading h pe op) pe) (or_rule BadOperand (if_so (is_none (result_ok (scope_of op xt))) xt) None))) world
     ∙ (ap (λ (b : Bool). or_rule WrongWorld (if_so (not w) 0)

@@ -92,22 +92,22 @@ is_root_by heading laws h kind page = by (root_at h page) refl (rules.is_root h 
         → calls.is_of_kind kind (option_map as_root o) ≡ b
     by None at false is = refl
     by None at true is =
-        let r = laws.root_of_kind h kind page is in
-        let found : root_at h page ≡ Some r.0 = ap (root_at h) (sym r.2) ∙ laws.root_found h r.0 r.1 in cc
+        let r = laws.root.of_kind h kind page is in
+        let found : root_at h page ≡ Some r.0 = ap (root_at h) (sym r.2) ∙ laws.root.found h r.0 r.1 in cc
     by (Some r) at true is =
-        let s = laws.root_of_kind h kind page is in
-        let found : root_at h page ≡ Some s.0 = ap (root_at h) (sym s.2) ∙ laws.root_found h s.0 s.1 in
+        let s = laws.root.of_kind h kind page is in
+        let found : root_at h page ≡ Some s.0 = ap (root_at h) (sym s.2) ∙ laws.root.found h s.0 s.1 in
         let same : r ≡ s.0 = cc in
-        (laws.kind_equal r.kind kind).1 (ap (λ (x : rules.Declared). x.kind) same ∙ s.3)
+        (laws.equality_tests.kinds r.kind kind).1 (ap (λ (x : rules.Declared). x.kind) same ∙ s.3)
     by (Some r) at false is = by_kind (same_kind r.kind kind) refl
       where
         by_kind : (c : Bool) → same_kind r.kind kind ≡ c → c ≡ false
         by_kind false c = refl
         by_kind true c =
-            let d = laws.root_of_page h page r at in
+            let d = laws.root.of_page h page r at in
             let there : rules.is_root h kind page ≡ true =
-            ap (λ (k : Kind). rules.is_root h k page) (sym ((laws.kind_equal r.kind kind).0 c))
-            ∙ (ap (rules.is_root h r.kind) (sym d.1) ∙ laws.is_root_of_kind h r d.0) in
+            ap (λ (k : Kind). rules.is_root h k page) (sym ((laws.equality_tests.kinds r.kind kind).0 c))
+            ∙ (ap (rules.is_root h r.kind) (sym d.1) ∙ laws.root.is_of_kind h r d.0) in
             absurd (true≢false (sym there ∙ is))
 
 pub is_root_same : (heading : Heading) → Laws heading → (h : List Event) (kind : Kind) (page : ℕ)

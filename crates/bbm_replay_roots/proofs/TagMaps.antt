@@ -5,6 +5,8 @@ use Rattle.std.specs.List.{flat_map}
 use Rattle.std.specs.Option.{is_none}
 use Rattle.std.specs.Result.{result_ok}
 use Rattle.std.proofs.lemmas.Bool.{and_parts}
+use Rattle.bbm_lemmas.proofs.Tautologies.{proved}
+use Rattle.bbm_lemmas.proofs.Tautologies.Claim.{If, Is}
 use Rattle.bbm_barriers.specs.Options.{answers}
 use Rattle.bbm_barriers.specs.declared.Dsb.{Dsb as Barrier}
 use Rattle.bbm_descriptor.specs.Descriptor.{same_bool}
@@ -47,8 +49,7 @@ use mathlib.Core.Bool.{and-true}
 
 -- what follows from the other adds nothing
 implied-or : (a b : Bool) → (a ≡ true → b ≡ true) → b ≡ (a || b)
-implied-or true b k = k refl
-implied-or false b k = refl
+implied-or = proved 2 (λ a b. If (If (Is a true) (Is b true)) (Is b (a || b))) refl
 
 flag : (a b : Bool) → same_flag a b ≡ same_bool a b
 flag true b = refl
@@ -95,12 +96,8 @@ module _ (world : World) where
       → awaited world cs q b tag p ≡ (awaited world cs q b tag p && not (reads_for_some world cs p tag))
   awaited_unread [] q b tag p = refl
   awaited_unread (c ∷ cs) q b tag p =
-      twice (issues c q b tag p || (awaited world cs q b tag p && not (answered_by c q b))) (not (reads_for_some world (c ∷ cs) p tag))
-    where
-      twice : (x y : Bool) → (x && y) ≡ ((x && y) && y)
-      twice true true = refl
-      twice true false = refl
-      twice false y = refl
+      proved 2 (λ x y. Is (x && y) ((x && y) && y)) refl (issues c q b tag p || (awaited world cs q b tag p && not
+      (answered_by c q b))) (not (reads_for_some world (c ∷ cs) p tag))
 
   awaited_next : (o : Option Call) (cs : List Call) (q : ℕ) (b : Bool) (tag : Tag) (p : ℕ)
       → awaited world (with_call o cs) q b tag p
@@ -188,30 +185,18 @@ pub issued_test : (heading : Heading) (pe : ℕ) (vmid : Option ℕ) (o : Option
     → ((scope : Scope) → o ≡ Some scope → scope.broadcast ≡ x)
     → issues_by (issue_of heading pe vmid o) q b tag p
     ≡ (pe == q && (same_bool x b && ((x || (not heading.cnp && pe == p)) && taken_under o vmid tag)))
-issued_test heading pe vmid None x q b tag p k = none (pe == q) (same_bool x b) (x || (not heading.cnp && pe == p))
-  where
-    none : (a c d : Bool) → false ≡ (a && (c && (d && false)))
-    none true true true = refl
-    none true true false = refl
-    none true false d = refl
-    none false c d = refl
+issued_test heading pe vmid None x q b tag p k = proved 3 (λ a c d. Is false (a && (c && (d && false)))) refl (pe == q)
+    (same_bool x b) (x || (not heading.cnp && pe == p))
 issued_test heading pe vmid (Some scope) x q b tag p k =
     by scope.broadcast heading.cnp (k scope refl) refl
     ∙ (ap (λ (y : Bool). y && (same_bool x b && ((x || (not heading.cnp && (p == pe))) && takes_whole_tag scope vmid tag))) (swap q pe)
     ∙ ap (λ (y : Bool). pe == q && (same_bool x b && ((x || (not heading.cnp && y)) && takes_whole_tag scope vmid tag))) (swap p pe))
   where
     reach : (a c t r : Bool) → ((a && c) && t) && r ≡ (a && (c && (r && t)))
-    reach true true true true = refl
-    reach true true true false = refl
-    reach true true false true = refl
-    reach true true false false = refl
-    reach true false t r = refl
-    reach false c t r = refl
+    reach = proved 4 (λ a c t r. Is (((a && c) && t) && r) (a && (c && (r && t)))) refl
 
     never : (a c t : Bool) → false ≡ (a && (c && (false && t)))
-    never true true t = refl
-    never true false t = refl
-    never false c t = refl
+    never = proved 3 (λ a c t. Is false (a && (c && (false && t)))) refl
 
     takes : Bool
     takes = takes_whole_tag scope vmid tag
@@ -255,13 +240,8 @@ module _ (heading : Heading) (laws : Laws heading) (h : List Event) (before : Ag
       → (issues_by (call_of heading h e) q b tag p || (w && not (answers_by (call_of heading h e) q b)))
       ≡ tag_waits_after heading p tag q b e h
   waits_test (Dsb pe dsb) p q b tag w is =
-      ap (λ (x : Bool). w && not (x && answers dsb b)) (swap q pe) ∙ (by (pe == q && answers dsb b) w ∙ ap (λ (x : Bool). cond (pe == q && answers dsb b) false x) is)
-    where
-      by : (c w : Bool) → (w && not c) ≡ cond c false w
-      by true true = refl
-      by true false = refl
-      by false true = refl
-      by false false = refl
+      ap (λ (x : Bool). w && not (x && answers dsb b)) (swap q pe) ∙ (proved 2 (λ c w. Is (w && not c) (cond c false w))
+      refl (pe == q && answers dsb b) w ∙ ap (λ (x : Bool). cond (pe == q && answers dsb b) false x) is)
   waits_test (Tlbi pe op xt) p q b tag w is =
       ap (λ (x : Bool). issues_by (issue_of heading pe (vmid_of heading h pe) (named_scope heading h pe op xt)) q b tag p || (w && not x))
       (tlbi_answers heading pe (vmid_of heading h pe) (named_scope heading h pe op xt) q b)
@@ -288,7 +268,7 @@ module _ (heading : Heading) (laws : Laws heading) (h : List Event) (before : Ag
   lost_same pe dsb p less tag =
       let lost : rules.loses heading Patterns p tag (Dsb pe dsb) h
       ≡ (((answers dsb true && tag_waits heading p tag pe true h) || (answers dsb false && tag_waits heading p tag pe false h))
-      && not (rules.reads_for_some heading (Dsb pe dsb ∷ h) p tag)) = laws.lost p tag pe dsb h in
+      && not (rules.reads_for_some heading (Dsb pe dsb ∷ h) p tag)) = laws.tag_steps.lost p tag pe dsb h in
       by (reads_for_some heading.world (calls_of heading h) p tag)
       (answers dsb true) (answers dsb false)
       (awaited heading.world (calls_of heading h) pe true tag p) (awaited heading.world (calls_of heading h) pe false tag p)
@@ -303,21 +283,8 @@ module _ (heading : Heading) (laws : Laws heading) (h : List Event) (before : Ag
       ∙ sym lost)))
     where
       by : (r a c x y : Bool) → x ≡ (x && not r) → y ≡ (y && not r) → ((a && x) || (c && y)) ≡ (((a && x) || (c && y)) && not r)
-      by false a c x y e f = sym (and-true ((a && x) || (c && y)))
-      by true a c x y e f =
-          ap (λ (z : Bool). (a && z) || (c && y)) (e ∙ never x)
-          ∙ (ap (λ (z : Bool). (a && false) || (c && z)) (f ∙ never y)
-          ∙ (none a c ∙ sym (never ((a && x) || (c && y)))))
-        where
-          never : (z : Bool) → (z && false) ≡ false
-          never true = refl
-          never false = refl
-
-          none : (a c : Bool) → ((a && false) || (c && false)) ≡ false
-          none true true = refl
-          none true false = refl
-          none false true = refl
-          none false false = refl
+      by = proved 5 (λ r a c x y. If (Is x (x && not r)) (If (Is y (y && not r)) (Is ((a && x) || (c && y)) (((a && x)
+          || (c && y)) && not r)))) refl
 
   -- after one more event, where the calls know the values
   next_holds : (e : Event) → Values heading (e ∷ h) → ((q : ℕ) (dsb : Barrier) → e ≡ Dsb q dsb → ⊥)
@@ -355,7 +322,7 @@ module _ (heading : Heading) (laws : Laws heading) (h : List Event) (before : Ag
         ∙ (ap (λ (x : Bool). x && not (reads_for_some heading.world (calls_of heading (e ∷ h)) p tag))
         (waits_test e p q b tag (awaited heading.world (calls_of heading h) q b tag p) (before.waits p less q b tag))
         ∙ (ap (λ (x : Bool). tag_waits_after heading p tag q b e h && not x) (reads_some_same heading (e ∷ h) values p less tag)
-        ∙ sym (laws.waits p tag q b e h)));
+        ∙ sym (laws.tag_steps.waits p tag q b e h)));
   }
 
 -- ---- a history that keeps the rules
@@ -366,11 +333,12 @@ agrees heading laws proper (Msr pe reg value ∷ h) kept =
     let kept_before = (and_parts (keeps heading Patterns h) (is_none (broken heading Patterns h (Msr pe reg value))) kept).0 in
     let before = agrees heading laws proper h kept_before in
     agrees_next heading laws h before (Msr pe reg value)
-    (values_written heading h pe reg value laws (laws.null h proper kept_before) (laws.unbroken (Msr pe reg value ∷ h) [] h (Msr pe reg value) kept refl NoRoot) before.values)
+    (values_written heading h pe reg value laws (laws.bases.null h proper kept_before)
+    (laws.each_rule.sound (Msr pe reg value ∷ h) [] h (Msr pe reg value) kept refl NoRoot) before.values)
 agrees heading laws proper (e ∷ h) kept =
     let kept_before = (and_parts (keeps heading Patterns h) (is_none (broken heading Patterns h e)) kept).0 in
     let before = agrees heading laws proper h kept_before in
-    agrees_next heading laws h before e (values_next heading h e refl (laws.stay h e proper kept) before.values)
+    agrees_next heading laws h before e (values_next heading h e refl (laws.bases.stay h e proper kept) before.values)
 
 -- ---- at some PE
 

@@ -1,5 +1,5 @@
 -- Whether a root may be retired, by the history and by its calls.
-use Rattle.std.proofs.Common.{◌≡◌, ℕ, zero, suc, ◌<◌, ◌≤◌, Bool, true, false, not, ◌&&◌, ◌||◌, ◌==◌, nat_lt, List, []}
+use Rattle.std.proofs.Common.{◌≡◌, ℕ, ◌<◌, ◌≤◌, Bool, true, false, not, ◌&&◌, ◌||◌, ◌==◌, nat_lt, List, []}
 use Rattle.std.proofs.Common.{◌∷◌, map, length, Option, Some, None, Result, Ok, Err, refl, sym, ap, ◌∙◌, subst}
 use Rattle.std.proofs.Common.{true≢false, inl, inr, arith}
 use Rattle.std.specs.Cmp.{both_ways}
@@ -7,6 +7,7 @@ use Rattle.std.specs.List.{list_any}
 use Rattle.std.specs.Option.{is_none, option_and_then, option_map}
 use Rattle.std.proofs.lemmas.Bool.{cases_lt, lt-ltb, eqb-true, eq-eqb, not-false, or_cases, or_left, or_right}
 use Rattle.std.proofs.lemmas.List.Folds.{list_any-append}
+use Rattle.bbm_lemmas.proofs.Words.{pe_finds, pe_none}
 use Rattle.bbm_lemmas.proofs.Elements.{any_finds, any_found}
 use Rattle.bbm_tlbi_scope.specs.declared.entry.TagSet.{TagSet}
 use Rattle.bbm_tlbi_scope.specs.declared.entry.TagSet.TheVariants.{None as NoTag, One, Many}
@@ -53,20 +54,6 @@ err_of fault = Err fault
 value_found : (f : ℕ → Bool) (vs : List ℕ) → list_any f vs ≡ true → (v : ℕ) × (among v vs ≡ true) × (f v ≡ true)
 value_found f vs e =
     let k = any_found f vs e in (k.0, any_finds (λ m. m == k.0) vs k.0 k.1 (eq-eqb k.0 k.0 refl), k.2)
-
-pub pe_finds : (n : ℕ) (test : ℕ → Bool) (p : ℕ) → p < n → test p ≡ true → some_pe n test ≡ true
-pe_finds zero test p less e = absurd (omega arith)
-pe_finds (suc n) test p less e = by (p == n) refl (λ lower. pe_finds n test p lower e)
-  where
-    by : (c : Bool) → (p == n) ≡ c → (p < n → some_pe n test ≡ true) → (test n || some_pe n test) ≡ true
-    by true c rest = or_left (test n) (some_pe n test) (ap test (sym (eqb-true p n c)) ∙ e)
-    by false c rest =
-        let apart : p ≡ n → ⊥ = λ k. true≢false (sym (eq-eqb p n k) ∙ c) in or_right (test n) (some_pe n test) (rest (omega arith))
-
-pe_none : (n : ℕ) (test : ℕ → Bool) → ((p : ℕ) → p < n → test p ≡ false) → some_pe n test ≡ false
-pe_none zero test k = refl
-pe_none (suc n) test k =
-    ap (λ (b : Bool). b || some_pe n test) (k n (omega arith)) ∙ pe_none n test (λ p less. k p (omega arith))
 
 -- ---- the bases of one register
 
@@ -166,12 +153,12 @@ module _ (heading : Heading) (laws : Laws heading) (proper : Proper heading) (h 
     (agree : Agrees heading h) where
   root_in_world : (kind : Kind) (page : ℕ) → is_root h kind page ≡ true → kind_in_world heading.world kind ≡ true
   root_in_world kind page root =
-      let r = laws.root_of_kind h kind page root in
+      let r = laws.root.of_kind h kind page root in
       let d = r.1 in
       ap (kind_in_world heading.world) (sym r.3)
       ∙ not-false (kind_in_world heading.world r.0.kind)
       (if_none (not (kind_in_world heading.world r.0.kind)) 0
-      (laws.unbroken h d.newer d.older (Root d.pe r.0.kind r.0.lock r.0.page) kept d.split WrongWorld))
+      (laws.each_rule.sound h d.newer d.older (Root d.pe r.0.kind r.0.lock r.0.page) kept d.split WrongWorld))
     where
       if_none : (b : Bool) (n : ℕ) → if_so b n ≡ None → b ≡ false
       if_none true n e = cc
@@ -180,15 +167,15 @@ module _ (heading : Heading) (laws : Laws heading) (proper : Proper heading) (h 
   module _ (page : ℕ) (r : Declared) (at : root_at h page ≡ Some r) where
     is_declared : is_root h r.kind page ≡ true
     is_declared =
-        let d = laws.root_of_page h page r at in ap (is_root h r.kind) (sym d.1) ∙ laws.is_root_of_kind h r d.0
+        let d = laws.root.of_page h page r at in ap (is_root h r.kind) (sym d.1) ∙ laws.root.is_of_kind h r d.0
 
     -- a base that is this page is a root of its register's kind
     base_root : (p : ℕ) → p < heading.pes → (reg : Reg) → in_reg h page p reg ≡ true → is_root h (kind_of_reg reg) page ≡ true
     base_root p less reg e =
         let f = value_found (at_base page) (rules.register_values h p reg) e in
-        elim (laws.named h proper kept p f.0 page reg less f.1 (base_there page (base_of f.0) f.2)) [
+        elim (laws.bases.named h proper kept p f.0 page reg less f.1 (base_there page (base_of f.0) f.2)) [
           | inl root ↦ root
-          | inr null ↦ absurd (true≢false (sym is_declared ∙ laws.null h proper kept r.kind page null))
+          | inr null ↦ absurd (true≢false (sym is_declared ∙ laws.bases.null h proper kept r.kind page null))
         ]
 
     reg_same : (p : ℕ) → p < heading.pes → (reg : Reg) → names_in (register_values (calls_of heading h) p reg) page ≡ in_reg h page p reg
@@ -212,7 +199,7 @@ module _ (heading : Heading) (laws : Laws heading) (proper : Proper heading) (h 
   some_tag page tag e = by (tags_of heading Patterns page h) refl
     where
       by : (gs : List Tag) → tags_of heading Patterns page h ≡ gs → nat_lt 0 (length gs) ≡ true
-      by [] k = absurd (true≢false (sym e ∙ laws.no_tag page h (ap tag_set k) tag))
+      by [] k = absurd (true≢false (sym e ∙ laws.tag_set.none page h (ap tag_set k) tag))
       by (g ∷ []) k = refl
       by (g ∷ g' ∷ gs) k = lt-ltb 0 (length (g ∷ g' ∷ gs)) (omega arith)
 
@@ -222,8 +209,9 @@ module _ (heading : Heading) (laws : Laws heading) (proper : Proper heading) (h 
     where
       by : (gs : List Tag) → tags_of heading Patterns page h ≡ gs → nat_lt 0 (length gs) ≡ false
       by [] k = refl
-      by (g ∷ []) k = absurd (true≢false (sym ((laws.tag_equal g g).1 refl) ∙ (sym (laws.one_tag page h g (ap tag_set k) g) ∙ none g)))
-      by (g ∷ g' ∷ gs) k = let m = laws.many_tags page h (ap tag_set k) in absurd (true≢false (sym m.3 ∙ none m.0))
+      by (g ∷ []) k = absurd (true≢false
+          (sym ((laws.equality_tests.tags g g).1 refl) ∙ (sym (laws.tag_set.one page h g (ap tag_set k) g) ∙ none g)))
+      by (g ∷ g' ∷ gs) k = let m = laws.tag_set.many page h (ap tag_set k) in absurd (true≢false (sym m.3 ∙ none m.0))
 
   -- ---- the two rules
 
@@ -299,11 +287,12 @@ module _ (heading : Heading) (laws : Laws heading) (proper : Proper heading) (h 
       ≡ verdict page (root_at h page) (base_anywhere page) (tag_anywhere page)
   verdict_is pe page = ap (λ (es : List Event). or_rule NoRoot (if_so (is_none (root_at es page)) page)
       (or_rule RootInUse (if_so (not (is_none (root_at es page)) && (some_pe heading.pes (is_base_at es page)
-      || nat_lt 0 (length (tags_of heading Patterns page es)))) page) None)) (laws.events_noted h)
+      || nat_lt 0 (length (tags_of heading Patterns page es)))) page) None)) (laws.notes_keep_the_events h)
 
   lock_rule_is : (pe page : ℕ) → no_lock heading Patterns (noted heading Patterns h) (Unroot pe page)
       ≡ option_and_then (λ lock. if_so (lacks h pe lock) page) (lock_of h page)
-  lock_rule_is pe page = ap (λ (es : List Event). option_and_then (λ lock. if_so (lacks es pe lock) page) (lock_of es page)) (laws.events_noted h)
+  lock_rule_is pe page = ap (λ (es : List Event). option_and_then (λ lock. if_so (lacks es pe lock) page)
+      (lock_of es page)) (laws.notes_keep_the_events h)
 
   -- an `unroot` without its lock breaks that rule
   pub unlocked : (pe page at : ℕ) → Some at ≡ option_and_then (λ lock. if_so (lacks h pe lock) page) (lock_of h page)
@@ -350,25 +339,30 @@ pub set_is : (heading : Heading) (laws : Laws heading) (h : List Event) (page : 
 set_is heading laws h page test same set has = by set (tag_set (tags_of heading Patterns page h)) refl has
   where
     own : (g : Tag) → same_tag g g ≡ true
-    own g = (laws.tag_equal g g).1 refl
+    own g = (laws.equality_tests.tags g g).1 refl
 
     by : (set other : TagSet) → tag_set (tags_of heading Patterns page h) ≡ other → HasTags test set → set ≡ other
     by NoTag NoTag is has = refl
-    by NoTag (One u) is has = absurd (true≢false (sym (laws.one_tag page h u is u ∙ own u) ∙ (sym (same u) ∙ has u)))
-    by NoTag Many is has = let m = laws.many_tags page h is in absurd (true≢false (sym m.3 ∙ (sym (same m.0) ∙ has m.0)))
-    by (One t) NoTag is has = absurd (true≢false (sym (has t ∙ own t) ∙ (same t ∙ laws.no_tag page h is t)))
+    by NoTag (One u) is has = absurd
+        (true≢false (sym (laws.tag_set.one page h u is u ∙ own u) ∙ (sym (same u) ∙ has u)))
+    by NoTag Many is has = let m = laws.tag_set.many page h is in absurd
+        (true≢false (sym m.3 ∙ (sym (same m.0) ∙ has m.0)))
+    by (One t) NoTag is has = absurd (true≢false (sym (has t ∙ own t) ∙ (same t ∙ laws.tag_set.none page h is t)))
     by (One t) (One u) is has =
-        let e : u ≡ t = (laws.tag_equal u t).0 (sym (laws.one_tag page h u is t) ∙ (sym (same t) ∙ (has t ∙ own t))) in
+        let e : u ≡ t = (laws.equality_tests.tags u t).0
+        (sym (laws.tag_set.one page h u is t) ∙ (sym (same t) ∙ (has t ∙ own t))) in
         ap (λ (g : Tag). One g) (sym e)
     by (One t) Many is has =
-        let m = laws.many_tags page h is in
-        let a : m.0 ≡ t = sym ((laws.tag_equal t m.0).0 (sym (has m.0) ∙ (same m.0 ∙ m.3))) in
-        let b : m.1 ≡ t = sym ((laws.tag_equal t m.1).0 (sym (has m.1) ∙ (same m.1 ∙ m.4))) in
+        let m = laws.tag_set.many page h is in
+        let a : m.0 ≡ t = sym ((laws.equality_tests.tags t m.0).0 (sym (has m.0) ∙ (same m.0 ∙ m.3))) in
+        let b : m.1 ≡ t = sym ((laws.equality_tests.tags t m.1).0 (sym (has m.1) ∙ (same m.1 ∙ m.4))) in
         absurd (true≢false (sym (own t) ∙ (ap (λ (g : Tag). same_tag g t) (sym a) ∙ (ap (λ (g : Tag). same_tag m.0 g) (sym b) ∙ m.2))))
-    by Many NoTag is has = absurd (true≢false (sym has.3 ∙ (same has.0 ∙ laws.no_tag page h is has.0)))
+    by Many NoTag is has = absurd (true≢false (sym has.3 ∙ (same has.0 ∙ laws.tag_set.none page h is has.0)))
     by Many (One u) is has =
-        let a : u ≡ has.0 = (laws.tag_equal u has.0).0 (sym (laws.one_tag page h u is has.0) ∙ (sym (same has.0) ∙ has.3)) in
-        let b : u ≡ has.1 = (laws.tag_equal u has.1).0 (sym (laws.one_tag page h u is has.1) ∙ (sym (same has.1) ∙ has.4)) in
+        let a : u ≡ has.0 = (laws.equality_tests.tags u has.0).0
+        (sym (laws.tag_set.one page h u is has.0) ∙ (sym (same has.0) ∙ has.3)) in
+        let b : u ≡ has.1 = (laws.equality_tests.tags u has.1).0
+        (sym (laws.tag_set.one page h u is has.1) ∙ (sym (same has.1) ∙ has.4)) in
         absurd (true≢false (sym (own u) ∙ (ap (λ (g : Tag). same_tag g u) a ∙ (ap (λ (g : Tag). same_tag has.0 g) b ∙ has.2))))
     by Many Many is has = refl
 

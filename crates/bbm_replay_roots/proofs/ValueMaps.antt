@@ -5,6 +5,8 @@ use Rattle.std.specs.List.{filter_map, flat_map, cons_option, list_any}
 use Rattle.std.specs.Option.{option_and_then, option_map_or}
 use Rattle.std.proofs.lemmas.Bool.{and_parts, eqb-true, eq-eqb}
 use Rattle.std.proofs.lemmas.List.{map-append}
+use Rattle.bbm_lemmas.proofs.Tautologies.{proved}
+use Rattle.bbm_lemmas.proofs.Tautologies.Claim.{If, Is}
 use Rattle.bbm_rules.specs.Prelude.{AsidFrom, FromTtbr0, FromTtbr1, Kind, El2, S2, Ttbr0, Ttbr1, Reg, Ttbr0El2}
 use Rattle.bbm_rules.specs.Prelude.{VttbrEl2, Ttbr0El1, Ttbr1El1, Tag, El2Tag, Vmid, Asid, Ttbr1Tag}
 use Rattle.bbm_rules.specs.Prelude.{World, Hyp, Kernel, Heading, Event, Root, Unroot, Tlbi, Msr, Isb}
@@ -87,11 +89,8 @@ map_same : (f g : ℕ → Load) (vs : List ℕ) → ((v : ℕ) → among v vs �
 map_same f g [] k = refl
 map_same f g (v ∷ vs) k =
     ap (λ (x : Load). x ∷ map f vs) (k v (ap (λ (b : Bool). b || among v vs) (eq-eqb v v refl)))
-    ∙ ap (λ (xs : List Load). g v ∷ xs) (map_same f g vs (λ w e. k w (by (v == w) (among w vs) e)))
-  where
-    by : (a b : Bool) → b ≡ true → (a || b) ≡ true
-    by true b e = refl
-    by false b e = e
+    ∙ ap (λ (xs : List Load). g v ∷ xs) (map_same f g vs (λ w e. k w (proved 2 (λ a b. If (Is b true) (Is (a || b)
+    true)) refl (v == w) (among w vs) e)))
 
 -- the calls know what the values name
 abbrev pub Values : Heading → List Event → Type 0
@@ -118,7 +117,7 @@ values_written heading h pe r v laws apart rule before p reg less =
 
     rule_here : option_and_then (λ b. if_so (not (is_root h (kind_of_reg r) b || (same_reg r Ttbr0El1 && is_null h b))) b) (base_of v) ≡ None
     rule_here = ap (λ (es : List Event). option_and_then (λ b. if_so (not (is_root es (kind_of_reg r) b || (same_reg r Ttbr0El1 && is_null es b))) b) (base_of v))
-        (sym (laws.events_noted h)) ∙ rule
+        (sym (laws.notes_keep_the_events h)) ∙ rule
 
     here : load_of r v (has_null_base h v) ≡ load_in h r v
     here = load_root (tag_number v) _ _ (written_root r (base_of v) (λ b. is_root h (kind_of_reg r) b) (λ b. is_null h b)
@@ -129,7 +128,7 @@ values_written heading h pe r v laws apart rule before p reg less =
         ≡ map (load_in h reg) (cond c (v ∷ rules.register_values h p reg) (rules.register_values h p reg))
     by false c = refl
     by true c =
-        let same : r ≡ reg = (laws.reg_equal r reg).0 (and_parts (pe == p) (same_reg r reg) c).1 in
+        let same : r ≡ reg = (laws.equality_tests.registers r reg).0 (and_parts (pe == p) (same_reg r reg) c).1 in
         ap (λ (x : Load). x ∷ map (load_in h reg) (rules.register_values h p reg)) (here ∙ ap (λ (x : Reg). load_in h x v) same)
 
 -- what the base of a readable value is stays

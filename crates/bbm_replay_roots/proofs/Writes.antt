@@ -1,11 +1,12 @@
 -- Whether a register write may be taken, by the history and by its calls.
-use Rattle.std.proofs.Common.{◌≡◌, ℕ, zero, suc, ◌<◌, ◌≤◌, Bool, true, false, not, ◌&&◌, ◌||◌, ◌==◌, cond, nat_le, List}
+use Rattle.std.proofs.Common.{◌≡◌, ℕ, suc, ◌<◌, ◌≤◌, Bool, true, false, not, ◌&&◌, ◌||◌, ◌==◌, cond, nat_le, List}
 use Rattle.std.proofs.Common.{[], ◌∷◌, map, length, min, Option, Some, None, Result, Ok, Err, refl, sym, ap, ◌∙◌, subst}
 use Rattle.std.proofs.Common.{true≢false, inl, inr, arith}
 use Rattle.std.specs.List.{filter, flat_map, list_any}
 use Rattle.std.specs.Option.{option_and_then, option_map_or, unwrap_or}
 use Rattle.std.proofs.lemmas.Bool.{and_from, and_parts, eqb-true, eq-eqb, le-leb, lt-leb, or_cases, or_left, or_right}
 use Rattle.std.proofs.lemmas.List.Folds.{list_any-append}
+use Rattle.bbm_lemmas.proofs.Words.{pe_finds, pe_found}
 use Rattle.bbm_regimes.specs.declared.regime.Which.{Which}
 use Rattle.bbm_regimes.specs.declared.regime.Which.TheVariants.{Values as ValuesLimit}
 use Rattle.bbm_rules.specs.Prelude.{Kind, Reg, Ttbr0El2, VttbrEl2, Ttbr0El1, Ttbr1El1, Tag, El2Tag, Vmid, Asid}
@@ -14,7 +15,7 @@ use Rattle.bbm_rules.specs.Answers.{Answers}
 use Rattle.bbm_rules.specs.Broken.{broken, keeps}
 use Rattle.bbm_rules.specs.Claims.{Patterns, same_tag}
 use Rattle.bbm_rules.specs.Covers.{noted}
-use Rattle.bbm_rules.specs.Lists.{among, if_so, least, some_pe}
+use Rattle.bbm_rules.specs.Lists.{among, if_so, least}
 use Rattle.bbm_rules.specs.Notes.{Noted}
 use Rattle.bbm_rules.specs.Pages.{is_null}
 use Rattle.bbm_rules.specs.RegisterValues.{base_of, kind_of_reg, same_reg}
@@ -45,7 +46,6 @@ use Rattle.bbm_replay_roots.specs.RootLaws.{Laws}
 use Rattle.bbm_replay_roots.proofs.Judge.{broken_msr, or_rule}
 use Rattle.bbm_replay_roots.proofs.RootMaps.{is_root_same}
 use Rattle.bbm_replay_roots.proofs.TagMaps.{Agrees, agrees_next, tag_same}
-use Rattle.bbm_replay_roots.proofs.Unroots.{pe_finds}
 use Rattle.bbm_replay_roots.proofs.ValueMaps.{any_map, load_in, null_test, readings_same, swap, values_written}
 
 -- ---- the least number of a list
@@ -182,14 +182,6 @@ reads_root (Kernel world) h p root (Asid asid) k = (_, k.2.declared)
 reads_root (Kernel world) h p root Ttbr1Tag k = (_, k.1.declared)
 reads_root world h p root tag k = absurd k
 
-pe_found : (n : ℕ) (test : ℕ → Bool) → some_pe n test ≡ true → (p : ℕ) × (p < n) × (test p ≡ true)
-pe_found zero test e = absurd (true≢false (sym e))
-pe_found (suc n) test e =
-    elim (or_cases (test n) (some_pe n test) e) [
-      | inl here ↦ (n, omega arith, here)
-      | inr there ↦ let k = pe_found n test there in let below = k.1 in (k.0, omega arith, k.2)
-    ]
-
 -- ---- the world
 
 pub reg_of_world : (world : World) (reg : Reg) → kind_in_world world (kind_of_reg reg) ≡ true → is_of_world world reg ≡ true
@@ -226,7 +218,7 @@ module _ (heading : Heading) (laws : Laws heading) (proper : Proper heading) (h 
   missing_same : missing_root (calls_of heading h) reg value (has_null_base h value) ≡ no_root heading Patterns notes (Msr pe reg value)
   missing_same = by (base_of value)
       ∙ ap (λ (es : List Event). option_and_then (λ b. if_so (not (is_root es (kind_of_reg reg) b || (same_reg reg Ttbr0El1 && is_null es b))) b) (base_of value))
-      (sym (laws.events_noted h))
+      (sym (laws.notes_keep_the_events h))
     where
       by : (base : Option ℕ)
           → unless_root (calls_of heading h) (kind_of_reg reg) (cond (names_null reg (option_map_or (λ b. is_null h b) base false)) None base)
@@ -262,7 +254,7 @@ module _ (heading : Heading) (laws : Laws heading) (proper : Proper heading) (h 
   module _ (rule : no_root heading Patterns notes (Msr pe reg value) ≡ None) where
     agree_after : Agrees heading after
     agree_after = agrees_next heading laws h agree (Msr pe reg value)
-        (values_written heading h pe reg value laws (laws.null h proper kept) rule agree.values)
+        (values_written heading h pe reg value laws (laws.bases.null h proper kept) rule agree.values)
 
     conflict_same : (x : CallReading) → conflicts heading.world heading.pes (calls_of heading after) pe x
         ≡ (clash_in (readings heading after pe) x.root x.tag && holds_after x.root x.tag)
@@ -275,9 +267,10 @@ module _ (heading : Heading) (laws : Laws heading) (proper : Proper heading) (h 
     held_root n tag e =
         let f = pe_found heading.pes (λ p. holds_at heading Patterns p n tag after) e in
         elim (or_cases (reads heading after f.0 tag n) _ f.2) [
-          | inl read ↦ let r = reads_root heading.world after f.0 n tag (laws.reads_sound after f.0 tag n read) in any_at r.0 n (roots_of after) r.1
+          | inl read ↦ let r = reads_root heading.world after f.0 n tag
+              (laws.readable_tag.sound after f.0 tag n read) in any_at r.0 n (roots_of after) r.1
           | inr before ↦
-              any_at (kind_of_tag tag) n (roots_of h) (laws.holder h proper kept n tag
+              any_at (kind_of_tag tag) n (roots_of h) (laws.tags.root h proper kept n tag
               (pe_finds heading.pes (λ p. holds_at heading Patterns p n tag h) f.0 f.1
               (and_parts (holds_at heading Patterns f.0 n tag h) (not (loses heading Patterns f.0 tag (Msr pe reg value) h)) before).0))
         ]
@@ -287,12 +280,14 @@ module _ (heading : Heading) (laws : Laws heading) (proper : Proper heading) (h 
 
     conflict_is : tag_conflict heading Patterns notes (Msr pe reg value) ≡ least clashing
     conflict_is = ap (λ (es : List Event). least (flat_map (λ r. pages_with (test_of (λ n tag. holds_tag heading Patterns n tag (Msr pe reg value ∷ es)) r)
-        (roots_of (Msr pe reg value ∷ es))) (readings heading (Msr pe reg value ∷ es) pe))) (laws.events_noted h)
+        (roots_of (Msr pe reg value ∷ es))) (readings heading (Msr pe reg value ∷ es) pe)))
+        (laws.notes_keep_the_events h)
 
     found : (m : ℕ) → among m clashing ≡ true
         → (tag : Tag) × (conflicts heading.world heading.pes (calls_of heading after) pe (record { tag = tag; root = m }) ≡ true)
     found m e =
-        let f = clash_found (λ g. (laws.tag_equal g g).1 refl) holds_after (roots_of after) (readings heading after pe) m e in
+        let f = clash_found (λ g. (laws.equality_tests.tags g g).1 refl) holds_after (roots_of after)
+        (readings heading after pe) m e in
         (f.0, conflict_same (record { tag = f.0; root = m }) ∙ and_from (clash_in (readings heading after pe) m f.0) (holds_after m f.0) f.1 f.2)
 
     no_conflict : IsLeast ReadingUpTo (conflicts heading.world heading.pes (calls_of heading after) pe) None
@@ -306,7 +301,8 @@ module _ (heading : Heading) (laws : Laws heading) (proper : Proper heading) (h 
         let both = and_parts (clash_in (readings heading after pe) n tag) (holds_after n tag)
         (sym (conflict_same (record { tag = tag; root = n })) ∙ k.0) in
         conflict_is ∙ least_some clashing n
-        (clash_finds (λ g l. (laws.tag_equal g l).0) holds_after (roots_of after) (readings heading after pe) n tag both.0 both.1
+        (clash_finds (λ g l. (laws.equality_tests.tags g l).0) holds_after (roots_of after) (readings heading after pe)
+        n tag both.0 both.1
         (held_root n tag both.1))
         (λ m e. let f = found m e in (k.1 (record { tag = f.0; root = m }) f.1).0)
 

@@ -1,6 +1,6 @@
 -- What the part of a checker that knows roots, registers, tags and locks stands for. A history is newest first.
 -- Source: project's own choice.
-use Rattle.std.specs.Prelude.{◌≡◌, ℕ, Bool, true, false, List, ◌∷◌, Option, None, Some, Result, Ok, Err}
+use Rattle.std.specs.Prelude.{◌≡◌, ℕ, Bool, true, false, List, ◌∷◌, Option, None, Some, Result, Ok, Err, OnOk, OnErr}
 use Rattle.bbm_locks.specs.Holders.{holder_at}
 use Rattle.bbm_roots.specs.RootsStand.{IsPrepared, pes_of, world_of}
 use Rattle.bbm_roots.specs.RootsStand as lower
@@ -39,6 +39,27 @@ MayFollow state e =
 -- it has room for one more root
 abbrev pub HasRoom : RootState → Type 0
 HasRoom state = IsPrepared state.roots
+
+-- It stands for what it stood for and, in front, this event. Where there was room for one more root, there is.
+pub record Takes (e : Event) (old new : RootState) : Type 0 where
+  pub taken : (heading : Heading) (h : List Event) → Stands old heading h → Stands new heading (e ∷ h)
+  pub room : HasRoom old → HasRoom new
+
+-- the same, of histories of which a condition holds
+pub record TakesWhere (holds : Heading → List Event → Type 0) (e : Event) (old new : RootState) : Type 0 where
+  pub taken : (heading : Heading) (h : List Event) → Stands old heading h → holds heading h
+      → Stands new heading (e ∷ h)
+  pub room : HasRoom old → HasRoom new
+
+-- It stands for what it stood for. Where there was room for one more root, there is.
+pub record Keeps (old new : RootState) : Type 0 where
+  pub same : (heading : Heading) (h : List Event) → Stands old heading h → Stands new heading h
+  pub room : HasRoom old → HasRoom new
+
+-- a call that may be refused: after Ok the event is taken, after a refusal nothing changes
+pub record Tries {A E : Type 0} (e : Event) (old new : RootState) (result : Result A E) : Type 0 where
+  pub taken : OnOk result (Takes e old new)
+  pub kept : OnErr result (Keeps old new)
 
 -- whether an event concerns roots, registers, tags or locks
 abbrev pub concerns_roots : Event → Bool
@@ -87,5 +108,5 @@ JudgesTlbi heading h pe op xt (Ok named) =
 JudgesTlbi heading h pe op xt (Err fault) = Judges (Err fault) (broken heading Patterns h (Tlbi pe op xt))
 
 -- there is room for what a TLBI of the PE that names this leaves to its answer
-abbrev pub IsReady : RootState → ℕ → NamedTlbi → Type 0
-IsReady state pe named = lower.IsReady state.roots pe named.scope named.vmid
+abbrev pub IsReady : RootState → ℕ → NamedTlbi → Bool → Type 0
+IsReady state pe named takes = lower.IsReady state.roots pe named.scope named.vmid takes

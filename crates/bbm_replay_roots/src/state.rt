@@ -83,21 +83,19 @@ impl RootState {
     ghost use Rattle.bbm_replay_roots.specs.Bridge.{has_null_base};
     ghost use Rattle.bbm_replay_roots.specs.RootsByNumber.{nth_in};
     ghost use Rattle.bbm_replay_roots.specs.RootStateStands.{Stands, MayFollow, HasRoom, IsNamed, IsReady, Judges};
-    ghost use Rattle.bbm_replay_roots.specs.RootStateStands.{JudgesTlbi};
+    ghost use Rattle.bbm_replay_roots.specs.RootStateStands.{JudgesTlbi, Takes, TakesWhere, Keeps, Tries};
 
     /// What stands for the empty history of the header. `NoMemory` where there is none.
     pub fn new(alloc: Global, header: &Header) -> Result<RootState, NoMemory>
         ensures empty { IfOk result (λ state. Stands state header.now []) }
     {
         header.in_ranges();
-        match Roots::new(alloc, header) {
-            Ok(roots) => Ok(RootState {
-                header: *header,
-                roots,
-                locks: Locks::new(),
-            }),
-            Err(_) => Err(NoMemory),
-        }
+        let roots = Roots::new(alloc, header)?;
+        Ok(RootState {
+            header: *header,
+            roots,
+            locks: Locks::new(),
+        })
     }
 
     // ---- questions
@@ -245,8 +243,7 @@ impl RootState {
     // ---- changes
 
     /// Makes room for one more root. `Limit(Roots)` exactly where 1,024 are declared; else `NoMemory` where there is
-    /// none. It stands for what it stood for. After Ok the next `declare` answers Ok, unless `write_reg` or `issue`
-    /// comes between.
+    /// none. It stands for what it stood for. After Ok the next `declare` answers Ok.
     pub fn prepare(&mut self, alloc: Global) -> Result<(), StepFault>
         ensures room { OnOk result (HasRoom self.new) }
         ensures limit { (heading : Heading) (h : List TheEvent) (pe : ℕ) (kind : Kind) (lock : Option ℕ) (page : ℕ)
@@ -254,7 +251,7 @@ impl RootState {
             → (result ≡ Err (StepFault.Limit Which.Roots))
             ↔ (limit_of h (TheEvent.Root pe kind lock page) ≡ Some Which.Roots) }
         ensures fault { IfErr result (λ fault. fault ≢ StepFault.Limit Which.Roots → fault ≡ StepFault.NoMemory) }
-        ensures same { (heading : Heading) (h : List TheEvent) → Stands self.old heading h → Stands self.new heading h }
+        ensures kept { Keeps self.old self.new }
     {
         match self.roots.prepare(alloc) {
             Ok(()) => Ok(()),
@@ -276,8 +273,7 @@ impl RootState {
             → broken heading Patterns h (TheEvent.Root pe kind lock page) ≡ None
             → Stands self.new heading (TheEvent.Root pe kind lock page ∷ h)) }
         ensures room { HasRoom self.old → IsOk result }
-        ensures same { OnErr result ((heading : Heading) (h : List TheEvent) → Stands self.old heading h
-            → Stands self.new heading h) }
+        ensures kept { OnErr result (Keeps self.old self.new) }
     {
         laws_below();
         match self.roots.declare(alloc, kind, page, lock) {
@@ -289,10 +285,8 @@ impl RootState {
     /// An `unroot` that breaks no rule. It takes no memory.
     pub fn retire(&mut self, page: Page)
         requires { (pe : ℕ) × MayFollow self.old (TheEvent.Unroot pe page) }
-        ensures taken { (heading : Heading) (h : List TheEvent) (pe : ℕ) → Stands self.old heading h
-            → broken heading Patterns h (TheEvent.Unroot pe page) ≡ None
-            → Stands self.new heading (TheEvent.Unroot pe page ∷ h) }
-        ensures room { HasRoom self.old → HasRoom self.new }
+        ensures { (pe : ℕ) → TakesWhere (λ heading h. broken heading Patterns h (TheEvent.Unroot pe page) ≡ None)
+            (TheEvent.Unroot pe page) self.old self.new }
     {
         laws_below();
         match self.roots.retire(page) {
@@ -318,11 +312,9 @@ impl RootState {
             ≡ has_null_base h value
             → Answers result (broken heading Patterns h (TheEvent.Msr pe reg value))
             (limit_of h (TheEvent.Msr pe reg value)) }
-        ensures taken { OnOk result ((heading : Heading) (h : List TheEvent) → Stands self.old heading h
-            → null ≡ has_null_base h value → Stands self.new heading (TheEvent.Msr pe reg value ∷ h)) }
-        ensures same { OnErr result ((heading : Heading) (h : List TheEvent) → Stands self.old heading h
-            → Stands self.new heading h) }
-        ensures room { HasRoom self.old → HasRoom self.new }
+        ensures taken { OnOk result (TakesWhere (λ _ h. null ≡ has_null_base h value)
+            (TheEvent.Msr pe reg value) self.old self.new) }
+        ensures kept { OnErr result (Keeps self.old self.new) }
     {
         laws_below();
         if let Some(at) = wrong_world(&self.header, &Event::Msr { pe, reg, value }) {
@@ -337,46 +329,38 @@ impl RootState {
     /// An ISB of the PE. It takes no memory.
     pub fn isb(&mut self, pe: Pe)
         requires { MayAsk (Stands self.old) pe }
-        ensures taken { (heading : Heading) (h : List TheEvent) → Stands self.old heading h
-            → Stands self.new heading (TheEvent.Isb pe ∷ h) }
-        ensures room { HasRoom self.old → HasRoom self.new }
+        ensures { Takes (TheEvent.Isb pe) self.old self.new }
     {
         laws_below();
         self.roots.isb(pe);
     }
 
     /// Makes room for a TLBI of the PE that names this. `NoMemory` where there is none. It stands for what it stood
-    /// for. After Ok `issue_ready` takes that TLBI without memory.
+    /// for. After Ok, which tells whether the TLBI may take a tag that is held, `issue_ready` takes that TLBI without
+    /// memory.
     pub fn prepare_issue(
         &mut self,
         alloc: Global,
         pe: Pe,
         named: &NamedTlbi,
-    ) -> Result<(), NoMemory>
-        ensures ready { OnOk result (IsReady self.new pe named.now) }
-        ensures same { (heading : Heading) (h : List TheEvent) → Stands self.old heading h → Stands self.new heading h }
-        ensures room { HasRoom self.old → HasRoom self.new }
+    ) -> Result<bool, NoMemory>
+        ensures ready { IfOk result (λ takes. IsReady self.new pe named.now takes) }
+        ensures kept { Keeps self.old self.new }
     {
-        match self
-            .roots
+        self.roots
             .prepare_issue(alloc, pe, &named.scope, named.vmid)
-        {
-            Ok(()) => Ok(()),
-            Err(_) => Err(NoMemory),
-        }
     }
 
-    /// A TLBI of the PE that breaks no rule, names this, and for which there is room. It takes no memory.
-    pub fn issue_ready(&mut self, pe: Pe, named: &NamedTlbi)
+    /// A TLBI of the PE that breaks no rule, names this, for which there is room, and which may take a tag that is held
+    /// or doesn't. It takes no memory.
+    pub fn issue_ready(&mut self, pe: Pe, named: &NamedTlbi, takes: bool)
         requires pe { MayAsk (Stands self.old) pe }
-        requires ready { IsReady self.old pe named.now }
-        ensures taken { (heading : Heading) (h : List TheEvent) (op : TheOp) (xt : ℕ) → Stands self.old heading h
-            → IsNamed heading h pe op xt named.now → broken heading Patterns h (TheEvent.Tlbi pe op xt) ≡ None
-            → Stands self.new heading (TheEvent.Tlbi pe op xt ∷ h) }
-        ensures room { HasRoom self.old → HasRoom self.new }
+        requires ready { IsReady self.old pe named.now takes }
+        ensures { (op : TheOp) (xt : ℕ) → TakesWhere (λ heading h. IsNamed heading h pe op xt named.now
+            × (broken heading Patterns h (TheEvent.Tlbi pe op xt) ≡ None)) (TheEvent.Tlbi pe op xt) self.old self.new }
     {
         if named.scope.broadcast || !self.header.cnp {
-            self.roots.issue_ready(pe, &named.scope, named.vmid);
+            self.roots.issue_ready(pe, &named.scope, named.vmid, takes);
         }
     }
 
@@ -384,9 +368,7 @@ impl RootState {
     #[inline]
     pub fn complete(&mut self, pe: Pe, dsb: Dsb)
         requires { MayAsk (Stands self.old) pe }
-        ensures taken { (heading : Heading) (h : List TheEvent) → Stands self.old heading h
-            → Stands self.new heading (TheEvent.Dsb pe dsb ∷ h) }
-        ensures room { HasRoom self.old → HasRoom self.new }
+        ensures { Takes (TheEvent.Dsb pe dsb) self.old self.new }
     {
         laws_below();
         self.roots.complete(pe, dsb);
@@ -399,11 +381,7 @@ impl RootState {
         ensures judged { (heading : Heading) (h : List TheEvent) → Stands self.old heading h
             → Judges result (broken heading Patterns h (TheEvent.Lock pe lock)) }
         ensures limit { (h : List TheEvent) → limit_of h (TheEvent.Lock pe lock) ≡ None }
-        ensures taken { OnOk result ((heading : Heading) (h : List TheEvent) → Stands self.old heading h
-            → Stands self.new heading (TheEvent.Lock pe lock ∷ h)) }
-        ensures same { OnErr result ((heading : Heading) (h : List TheEvent) → Stands self.old heading h
-            → Stands self.new heading h) }
-        ensures room { HasRoom self.old → HasRoom self.new }
+        ensures tried { Tries (TheEvent.Lock pe lock) self.old self.new result }
     {
         laws_below();
         match self.locks.take(pe, lock) {
@@ -419,11 +397,7 @@ impl RootState {
         ensures judged { (heading : Heading) (h : List TheEvent) → Stands self.old heading h
             → Judges result (broken heading Patterns h (TheEvent.Unlock pe lock)) }
         ensures limit { (h : List TheEvent) → limit_of h (TheEvent.Unlock pe lock) ≡ None }
-        ensures taken { OnOk result ((heading : Heading) (h : List TheEvent) → Stands self.old heading h
-            → Stands self.new heading (TheEvent.Unlock pe lock ∷ h)) }
-        ensures same { OnErr result ((heading : Heading) (h : List TheEvent) → Stands self.old heading h
-            → Stands self.new heading h) }
-        ensures room { HasRoom self.old → HasRoom self.new }
+        ensures tried { Tries (TheEvent.Unlock pe lock) self.old self.new result }
     {
         laws_below();
         match self.locks.give(pe, lock) {

@@ -1,7 +1,9 @@
 -- Tests of tags and sets of PEs.
-use Rattle.std.proofs.Common.{◌≡◌, ℕ, zero, suc, ◌<◌, ◌≤◌, Bool, true, false, ◌&&◌, ◌||◌, not, nat_lt, nat_eq, refl}
+use Rattle.std.proofs.Common.{◌≡◌, ℕ, zero, suc, ◌<◌, ◌≤◌, Bool, true, false, ◌&&◌, not, nat_lt, nat_eq, refl}
 use Rattle.std.proofs.Common.{sym, ◌∙◌, ap, arith, IsTrue, ⊎_elim}
 use Rattle.std.proofs.lemmas.Bool.{true_from_ne_false, cases_lt, false≢true, lt-ltb, ltb-true, eqb-true, eq-eqb}
+use Rattle.bbm_lemmas.proofs.Tautologies.{proved}
+use Rattle.bbm_lemmas.proofs.Tautologies.Claim.{If, Is}
 use Rattle.bbm_regimes.specs.declared.regime.Tag.{Tag}
 use Rattle.bbm_regimes.specs.declared.regime.Tag.TheVariants.{El2, Vmid, Asid, Ttbr1}
 use Rattle.bbm_roots.specs.Holds.{some_pe, is_hold}
@@ -45,9 +47,7 @@ some_pe-empty n test both false same none all =
         by_test false beyond = ap (λ (b : Bool). test p && b) beyond ∙ and-false (test p)
 
 pub and_right : (a b : Bool) → (a && b) ≡ true → b ≡ true
-and_right true b e = e
-and_right false true e = refl
-and_right false false e = e
+and_right = proved 2 (λ a b. If (Is (a && b) true) (Is b true)) refl
 
 pub same_flag-true : (a b : Bool) → same_flag a b ≡ true → a ≡ b
 same_flag-true true true e = refl

@@ -2,6 +2,8 @@
 use Rattle.std.proofs.Common.{◌≡◌, ℕ, zero, suc, ◌<◌, ◌≤◌, ⊎_elim, Option, Some, None, Bool, true, false, ◌&&◌, ◌||◌}
 use Rattle.std.proofs.Common.{nat_eq, List, [], ◌∷◌, refl, sym, ◌∙◌, ap}
 use Rattle.std.specs.List.{list_any}
+use Rattle.bbm_lemmas.proofs.Tautologies.{proved}
+use Rattle.bbm_lemmas.proofs.Tautologies.Claim.{Is}
 use Rattle.indexmap.specs.IndexMap.{IndexMap, get}
 use Rattle.std.proofs.Math.Path.{fun_ext}
 use Rattle.std.proofs.lemmas.Bool.{cases_lt, false≢true, eq-eqb, true_from_ne_false}
@@ -19,18 +21,13 @@ use Rattle.bbm_roots.specs.declared.reading.Reading.{Reading}
 use Rattle.bbm_roots.proofs.Bits.{none_below, none_at}
 use Rattle.bbm_roots.proofs.Steps.{holds-written}
 use mathlib.Core.Bool.{or_comm, and-false}
-use Rattle.bbm_lemmas.proofs.Bools.{ands_of_last, first_none, second_none}
+use Rattle.bbm_lemmas.proofs.Bools.{first_none, second_none}
 
 some_pe-or : (n : ℕ) (f g : ℕ → Bool) → some_pe n (λ p. f p || g p) ≡ (some_pe n f || some_pe n g)
 some_pe-or zero f g = refl
 some_pe-or (suc n) f g =
-    ap (λ (b : Bool). (f n || g n) || b) (some_pe-or n f g) ∙ swap (f n) (g n) (some_pe n f) (some_pe n g)
-  where
-    swap : (a b c d : Bool) → ((a || b) || (c || d)) ≡ ((a || c) || (b || d))
-    swap true b c d = refl
-    swap false true true d = refl
-    swap false true false d = refl
-    swap false false c d = refl
+    ap (λ (b : Bool). (f n || g n) || b) (some_pe-or n f g) ∙ proved 4 (λ a b c d. Is ((a || b) || (c || d)) ((a || c)
+    || (b || d))) refl (f n) (g n) (some_pe n f) (some_pe n g)
 
 some_pe-and : (n : ℕ) (b : Bool) (f : ℕ → Bool) → some_pe n (λ p. b && f p) ≡ (b && some_pe n f)
 some_pe-and n true f = refl
@@ -70,18 +67,8 @@ module _ {S : Type 0} (hs : IndexMap ℕ Held S) where
       ∙ turn (has_reading x.tag x.root seen) (has_other x.tag x.root seen) (tag_in hs n x.tag x.root)
     where
       swap : (a b c d o t : Bool) → (((a && o) || (b && t)) || ((c && o) || (d && t))) ≡ (((a || c) && o) || ((b || d) && t))
-      swap true b c d true t = refl
-      swap false true true d true true = refl
-      swap false true true d true false = refl
-      swap false false true d true t = refl
-      swap false true false d true true = refl
-      swap false true false true true false = refl
-      swap false true false false true false = refl
-      swap false false false d true t = refl
-      swap true b true d false t = ands_of_last b d t
-      swap true b false d false t = ands_of_last b d t
-      swap false b true d false t = ands_of_last b d t
-      swap false b false d false t = ands_of_last b d t
+      swap = proved 6 (λ a b c d o t. Is (((a && o) || (b && t)) || ((c && o) || (d && t))) (((a || c) && o) || ((b
+          || d) && t))) refl
 
       split : (o t : Bool) (xs : List Reading) →
           list_any (λ y. (is_reading x.tag x.root y && o) || (is_other x.tag x.root y && t)) xs
@@ -92,10 +79,7 @@ module _ {S : Type 0} (hs : IndexMap ℕ Held S) where
           ∙ swap (is_reading x.tag x.root y) (is_other x.tag x.root y) (has_reading x.tag x.root ys) (has_other x.tag x.root ys) o t
 
       turn : (a o t : Bool) → ((a && o) || (o && t)) ≡ (o && (a || t))
-      turn true true t = refl
-      turn true false t = refl
-      turn false true t = refl
-      turn false false t = refl
+      turn = proved 3 (λ a o t. Is ((a && o) || (o && t)) (o && (a || t))) refl
 
 -- A register write of one PE, at which the tags and roots seen are then readable.
 module _ {S : Type 0} (world : World) (c : Call) (cs : List Call) (pe : ℕ) (seen : List Reading)

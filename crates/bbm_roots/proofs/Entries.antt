@@ -6,6 +6,8 @@ use Rattle.std.specs.Map.{lookup, keys_of, values_of}
 use Rattle.std.proofs.lemmas.Bool.{false≢true, eqb-true, eq-eqb, or_left, or_right}
 use Rattle.std.proofs.lemmas.List.{take_all}
 use Rattle.std.proofs.lemmas.Option.{get_or_from_slice_get}
+use Rattle.bbm_lemmas.proofs.Tautologies.{proved}
+use Rattle.bbm_lemmas.proofs.Tautologies.Claim.{If, Is}
 use Rattle.indexmap.specs.IndexMap.{IndexMap, values}
 use Rattle.bbm_regimes.specs.PeMask.{pe_in}
 use Rattle.bbm_regimes.specs.declared.regime.Tag.{Tag}
@@ -87,15 +89,9 @@ module _ (n root : ℕ) where
 pub marked-step : (same here held pe seen : Bool) → (same ≡ true → here ≡ false → held ≡ false) →
     (same ≡ true → here ≡ false → seen ≡ false) →
     cond same (here && ((held || (pe && seen)) || pe)) (held || (pe && seen)) ≡ (held || (pe && (seen || (same && here))))
-marked-step true true true pe seen f g = refl
-marked-step true true false true true f g = refl
-marked-step true true false true false f g = refl
-marked-step true true false false seen f g = refl
-marked-step true false true pe seen f g = absurd (false≢true (sym (f refl refl)))
-marked-step true false false true true f g = absurd (false≢true (sym (g refl refl)))
-marked-step true false false true false f g = refl
-marked-step true false false false seen f g = refl
-marked-step false here held pe seen f g = ap (λ (b : Bool). held || (pe && b)) (sym (or-false seen))
+marked-step = proved 5 (λ same here held pe seen. If (If (Is same true) (If (Is here false) (Is held false))) (If (If
+    (Is same true) (If (Is here false) (Is seen false))) (Is (cond same (here && ((held || (pe && seen)) || pe)) (held
+    || (pe && seen))) (held || (pe && (seen || (same && here))))))) refl
 
 -- the reading of a tag and a root, which is this one
 pub reading-clash : (y : Reading) (seen : List Reading) → has_other y.tag y.root seen ≡ true → (x : Reading) →

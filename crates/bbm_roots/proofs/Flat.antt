@@ -3,6 +3,8 @@ use Rattle.std.proofs.Common.{◌≡◌, ℕ, Bool, true, false, ◌&&◌, ◌||
 use Rattle.std.proofs.Common.{cond, Option, Some, None, is_some}
 use Rattle.std.specs.List.{list_any, flat_map}
 use Rattle.std.proofs.lemmas.List.Folds.{list_any-append}
+use Rattle.bbm_lemmas.proofs.Tautologies.{proved}
+use Rattle.bbm_lemmas.proofs.Tautologies.Claim.{If, Is}
 use Rattle.bbm_regimes.specs.declared.regime.AsidFrom.{AsidFrom}
 use Rattle.bbm_regimes.specs.declared.regime.AsidFrom.TheVariants.{Ttbr0 as FromTtbr0, Ttbr1 as FromTtbr1}
 use Rattle.bbm_regimes.specs.declared.regime.Kind.{Kind}
@@ -55,12 +57,9 @@ module _ (t : Reading → Bool) where
   both : (ls bs cs ds : List Reading) → (list_any t ls ≡ true → list_any t cs ≡ true) →
       (list_any t bs ≡ true → list_any t ds ≡ true) → list_any t (ls ++ bs) ≡ true → list_any t (cs ++ ds) ≡ true
   both ls bs cs ds f g e =
-      list_any-append t cs ds ∙ either (list_any t ls) (list_any t bs) (list_any t cs) (list_any t ds) f g (sym (list_any-append t ls bs) ∙ e)
-    where
-      either : (a b c d : Bool) → (a ≡ true → c ≡ true) → (b ≡ true → d ≡ true) → (a || b) ≡ true → (c || d) ≡ true
-      either true b c d f g e = ap (λ (x : Bool). x || d) (f refl)
-      either false b true d f g e = refl
-      either false b false d f g e = g e
+      list_any-append t cs ds ∙ proved 4 (λ a b c d. If (If (Is a true) (Is c true)) (If (If (Is b true) (Is d true))
+      (If (Is (a || b) true) (Is (c || d) true)))) refl (list_any t ls) (list_any t bs) (list_any t cs)
+      (list_any t ds) f g (sym (list_any-append t ls bs) ∙ e)
 
   asids-newest : (from : AsidFrom) (xs ys : List Load) →
       list_any t (asid_readings from (newest xs) (newest ys) ++ flat_map (own_reading Ttbr1) (newest ys)) ≡ true →
@@ -136,15 +135,11 @@ crossed-one : (a n : ℕ) (xs : List Load) → has_tag (Asid a) (flat_map (readi
 crossed-one a n [] = refl
 crossed-one a n (x ∷ xs) =
     list_any-append (is_of_tag (Asid a)) (reading_at (Asid n) x.root) (flat_map (reading_under (Asid n)) xs)
-    ∙ ap (λ (b : Bool). b || has_tag (Asid a) (flat_map (reading_under (Asid n)) xs)) (some-name x.root (Asid n) (Asid a))
+    ∙ ap (λ (b : Bool). b || has_tag (Asid a) (flat_map (reading_under (Asid n)) xs)) (some-name x.root (Asid n)
+    (Asid a))
     ∙ ap (λ (b : Bool). (is_some x.root && (n == a)) || b) (crossed-one a n xs)
-    ∙ factor (is_some x.root) (list_any names_root xs) (n == a)
-  where
-    factor : (p q c : Bool) → ((p && c) || (q && c)) ≡ ((p || q) && c)
-    factor true true true = refl
-    factor true true false = refl
-    factor true false c = or-false c
-    factor false q c = refl
+    ∙ proved 3 (λ p q c. Is ((p && c) || (q && c)) ((p || q) && c)) refl (is_some x.root) (list_any names_root xs)
+    (n == a)
 
 crossed-asid : (a : ℕ) (xs ys : List Load) → has_tag (Asid a) (flat_map (readings_with xs) ys) ≡ (list_any names_root xs && list_any (numbered a) ys)
 crossed-asid a xs [] = sym (and-false (list_any names_root xs))
@@ -152,11 +147,8 @@ crossed-asid a xs (y ∷ ys) =
     list_any-append (is_of_tag (Asid a)) (readings_with xs y) (flat_map (readings_with xs) ys)
     ∙ ap (λ (b : Bool). b || has_tag (Asid a) (flat_map (readings_with xs) ys)) (crossed-one a y.number xs)
     ∙ ap (λ (b : Bool). (list_any names_root xs && (y.number == a)) || b) (crossed-asid a xs ys)
-    ∙ factor (list_any names_root xs) (y.number == a) (list_any (numbered a) ys)
-  where
-    factor : (p c d : Bool) → ((p && c) || (p && d)) ≡ (p && (c || d))
-    factor true c d = refl
-    factor false c d = refl
+    ∙ proved 3 (λ p c d. Is ((p && c) || (p && d)) (p && (c || d))) refl (list_any names_root xs) (y.number == a)
+    (list_any (numbered a) ys)
 
 crossed-none : (g : Tag) → ((n : ℕ) → same_tag (Asid n) g ≡ false) → (xs ys : List Load) → has_tag g (flat_map (readings_with xs) ys) ≡ false
 crossed-none g h xs ys =

@@ -19,3 +19,4 @@ pub mod Numbers
 pub mod Users
 pub mod Callers
 pub mod Listing
+pub mod Changes

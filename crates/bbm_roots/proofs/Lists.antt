@@ -4,18 +4,17 @@ use Rattle.std.proofs.Common.{refl, sym, ◌∙◌, ap}
 use Rattle.std.specs.List.{list_any}
 use Rattle.std.proofs.lemmas.Bool.{false≢true}
 use Rattle.std.proofs.lemmas.List.Folds.{list_any_more}
+use Rattle.bbm_lemmas.proofs.Tautologies.{proved}
+use Rattle.bbm_lemmas.proofs.Tautologies.Claim.{If, Is}
 
 -- a weaker test finds what a stronger one finds
 pub any-weaker : {X : Type 0} (strong weak : X → Bool) → ((x : X) → strong x ≡ true → weak x ≡ true) →
     (xs : List X) → list_any strong xs ≡ true → list_any weak xs ≡ true
 any-weaker strong weak h [] e = e
 any-weaker strong weak h (x ∷ xs) e =
-    or_cases (strong x) (weak x) (list_any strong xs) (list_any weak xs) (h x) (any-weaker strong weak h xs) e
-  where
-    or_cases : (a a' b b' : Bool) → (a ≡ true → a' ≡ true) → (b ≡ true → b' ≡ true) → (a || b) ≡ true → (a' || b') ≡ true
-    or_cases true a' b b' f g e = ap (λ (t : Bool). t || b') (f refl)
-    or_cases false true b b' f g e = refl
-    or_cases false false b b' f g e = g e
+    proved 4 (λ a a' b b'. If (If (Is a true) (Is a' true)) (If (If (Is b true) (Is b' true)) (If (Is (a || b) true) (Is
+    (a' || b') true)))) refl (strong x) (weak x) (list_any strong xs) (list_any weak xs) (h x)
+    (any-weaker strong weak h xs) e
 
 -- what a loop has found with the item at its index
 pub any-next : {X : Type 0} (test : X → Bool) (xs : List X) (i : ℕ) (x : X) → i < length xs → x ≡ get_or xs i x →

@@ -1,26 +1,28 @@
 -- A register write that makes nothing readable that the PE doesn't hold.
 use Rattle.std.proofs.Common.{◌≡◌, ◌<◌, ℕ, Bool, true, false, ◌&&◌, ◌||◌, not, nat_eq, List, [], ◌∷◌, ◌++◌, Option}
 use Rattle.std.proofs.Common.{Some, None, cond, refl, sym, ◌∙◌, ap}
-use Rattle.std.specs.List.{list_any, flat_map}
+use Rattle.std.specs.List.{list_all, list_any, flat_map}
 use Rattle.std.proofs.lemmas.Bool.{false≢true, eqb-true, eq-eqb, not-true}
 use Rattle.std.proofs.lemmas.List.Folds.{list_any-append}
+use Rattle.bbm_lemmas.proofs.Tautologies.{proved}
+use Rattle.bbm_lemmas.proofs.Tautologies.Claim.{Is}
 use Rattle.indexmap.specs.IndexMap.{IndexMap, get}
 use Rattle.bbm_regimes.specs.PeMask.{pe_in}
 use Rattle.bbm_regimes.specs.declared.regime.AsidFrom.{AsidFrom}
 use Rattle.bbm_regimes.specs.declared.regime.AsidFrom.TheVariants.{Ttbr0 as FromTtbr0, Ttbr1 as FromTtbr1}
-use Rattle.bbm_regimes.specs.declared.regime.Kind.{Kind}
 use Rattle.bbm_regimes.specs.declared.regime.Kind.TheVariants.{El2, S2, Ttbr0, Ttbr1}
 use Rattle.bbm_regimes.specs.declared.regime.Reg.{Reg}
 use Rattle.bbm_regimes.specs.declared.regime.Tag.{Tag}
-use Rattle.bbm_regimes.specs.declared.regime.Tag.TheVariants.{Asid}
+use Rattle.bbm_regimes.specs.declared.regime.Tag.TheVariants.{El2 as El2Tag, Vmid, Asid, Ttbr1 as Ttbr1Tag}
 use Rattle.bbm_regimes.specs.declared.regime.World.{World}
 use Rattle.bbm_regimes.specs.declared.regime.World.TheVariants.{Hyp, Kernel}
 use Rattle.bbm_lemmas.proofs.Bools.{first_true, or_middle}
 use Rattle.bbm_lemmas.proofs.Elements.{any_found, any_finds}
 use Rattle.bbm_roots.specs.Columns.{loads_in}
 use Rattle.bbm_roots.specs.Holds.{some_pe, is_hold, hold_in, tag_in, entry_bit, entry_held, tag_key, conflict_in}
-use Rattle.bbm_roots.specs.Holds.{are_held, is_held_at}
-use Rattle.bbm_roots.specs.Readings.{asid_readings, readings_of, readings_with, own_reading, reading_under}
+use Rattle.bbm_roots.specs.HoldsNew.{holds_root, holds_asids, holds_under, holds_new}
+use Rattle.bbm_roots.specs.LoadsOf.{other_loads, readings_after}
+use Rattle.bbm_roots.specs.Readings.{asid_readings, readings_of, readings_with, own_reading, reading_at}
 use Rattle.bbm_roots.specs.Readings.{has_reading, has_other, is_reading, is_other, same_tag}
 use Rattle.bbm_roots.specs.RootCalls.{Call}
 use Rattle.bbm_roots.specs.RootRegisters.{register_values, first_reg, is_first}
@@ -30,99 +32,145 @@ use Rattle.bbm_roots.specs.declared.load.Load.{Load}
 use Rattle.bbm_roots.specs.declared.reading.Reading.{Reading}
 use Rattle.bbm_roots.specs.declared.roots.Roots.{Roots}
 use Rattle.bbm_roots.proofs.Bits.{and_right, same_tag-true}
-use Rattle.bbm_roots.proofs.Flat.{any-flat_map}
 use Rattle.bbm_roots.proofs.Leasts.{or-split}
 use Rattle.bbm_roots.proofs.Steps.{reads-holds}
 use mathlib.Core.Bool.{or-false, and-false}
 
--- what a test finds among the readings of one more value and of the others
+-- what a test finds among readings, with those of one more value
 module _ (t : Reading → Bool) where
-  front : (f : Load → List Reading) (x : Load) (xs : List Load) →
-      list_any t (flat_map f (x ∷ xs)) ≡ (list_any t (flat_map f (x ∷ [])) || list_any t (flat_map f xs))
-  front f x xs =
-      any-flat_map t f (x ∷ xs)
-      ∙ ap (λ (b : Bool). b || list_any (λ y. list_any t (f y)) xs) (sym (or-false (list_any t (f x))))
-      ∙ ap (λ (b : Bool). (list_any t (f x) || false) || b) (sym (any-flat_map t f xs))
-      ∙ ap (λ (b : Bool). b || list_any t (flat_map f xs)) (sym (any-flat_map t f (x ∷ [])))
+  ahead : (ls xs ys : List Reading) → list_any t ((ls ++ xs) ++ ys) ≡ (list_any t ls || list_any t (xs ++ ys))
+  ahead ls xs ys =
+      list_any-append t (ls ++ xs) ys
+      ∙ ap (λ (b : Bool). b || list_any t ys) (list_any-append t ls xs)
+      ∙ proved 3 (λ a b c. Is ((a || b) || c) (a || (b || c))) refl (list_any t ls) (list_any t xs) (list_any t ys)
+      ∙ ap (λ (b : Bool). list_any t ls || b) (sym (list_any-append t xs ys))
 
+  behind : (xs ls ys : List Reading) → list_any t (xs ++ (ls ++ ys)) ≡ (list_any t ls || list_any t (xs ++ ys))
+  behind xs ls ys =
+      list_any-append t xs (ls ++ ys)
+      ∙ ap (λ (b : Bool). list_any t xs || b) (list_any-append t ls ys)
+      ∙ proved 3 (λ a b c. Is (a || (b || c)) (b || (a || c))) refl (list_any t xs) (list_any t ls) (list_any t ys)
+      ∙ ap (λ (b : Bool). list_any t ls || b) (sym (list_any-append t xs ys))
+
+  both : (ls xs ms ys : List Reading) →
+      list_any t ((ls ++ xs) ++ (ms ++ ys)) ≡ ((list_any t ls || list_any t ms) || list_any t (xs ++ ys))
+  both ls xs ms ys =
+      list_any-append t (ls ++ xs) (ms ++ ys)
+      ∙ ap (λ (b : Bool). b || list_any t (ms ++ ys)) (list_any-append t ls xs)
+      ∙ ap (λ (b : Bool). (list_any t ls || list_any t xs) || b) (list_any-append t ms ys)
+      ∙ or_middle (list_any t ls) (list_any t xs) (list_any t ms) (list_any t ys)
+      ∙ ap (λ (b : Bool). (list_any t ls || list_any t ms) || b) (sym (list_any-append t xs ys))
+
+  -- one more value of TTBR0_EL1, under each ASID of the values of TTBR1_EL1
   each : (x : Load) (xs ys : List Load) →
       list_any t (flat_map (readings_with (x ∷ xs)) ys)
-      ≡ (list_any t (flat_map (readings_with (x ∷ [])) ys) || list_any t (flat_map (readings_with xs) ys))
+      ≡ (list_any t (flat_map (λ (y : Load). reading_at (Asid y.number) x.root) ys)
+      || list_any t (flat_map (readings_with xs) ys))
   each x xs [] = refl
   each x xs (y ∷ ys) =
+      let rest = flat_map (λ (z : Load). reading_at (Asid z.number) x.root) ys in
       list_any-append t (readings_with (x ∷ xs) y) (flat_map (readings_with (x ∷ xs)) ys)
       ∙ ap (λ (b : Bool). b || list_any t (flat_map (readings_with (x ∷ xs)) ys))
-      (front (reading_under (Asid y.number)) x xs)
-      ∙ ap (λ (b : Bool). (list_any t (readings_with (x ∷ []) y) || list_any t (readings_with xs y)) || b)
+      (list_any-append t (reading_at (Asid y.number) x.root) (readings_with xs y))
+      ∙ ap (λ (b : Bool). (list_any t (reading_at (Asid y.number) x.root) || list_any t (readings_with xs y)) || b)
       (each x xs ys)
-      ∙ or_middle (list_any t (readings_with (x ∷ []) y)) (list_any t (readings_with xs y))
-      (list_any t (flat_map (readings_with (x ∷ [])) ys)) (list_any t (flat_map (readings_with xs) ys))
+      ∙ or_middle (list_any t (reading_at (Asid y.number) x.root)) (list_any t (readings_with xs y))
+      (list_any t rest) (list_any t (flat_map (readings_with xs) ys))
       ∙ ap (λ (b : Bool). b || (list_any t (readings_with xs y) || list_any t (flat_map (readings_with xs) ys)))
-      (sym (list_any-append t (readings_with (x ∷ []) y) (flat_map (readings_with (x ∷ [])) ys)))
-      ∙ ap (λ (b : Bool). list_any t (flat_map (readings_with (x ∷ [])) (y ∷ ys)) || b)
+      (sym (list_any-append t (reading_at (Asid y.number) x.root) rest))
+      ∙ ap (λ (b : Bool). list_any t (reading_at (Asid y.number) x.root ++ rest) || b)
       (sym (list_any-append t (readings_with xs y) (flat_map (readings_with xs) ys)))
 
-  twice : (b : Bool) → b ≡ (b || b)
-  twice true = refl
-  twice false = refl
+module _ {S : Type 0} (hs : IndexMap ℕ Held S) (pe : ℕ) (g : Tag) (r : ℕ) where
+  root-held : (tag : Tag) (root : Option ℕ) → holds_root hs pe tag root ≡ true →
+      list_any (is_reading g r) (reading_at tag root) ≡ true → hold_in hs g r pe ≡ true
+  root-held tag None held e = absurd (false≢true e)
+  root-held tag (Some root) held e =
+      let k : (same_tag tag g && nat_eq root r) ≡ true = sym (or-false (same_tag tag g && nat_eq root r)) ∙ e in
+      ap (λ (h : Tag). hold_in hs h r pe) (sym (same_tag-true tag g (first_true (same_tag tag g) (nat_eq root r) k)))
+      ∙ ap (λ (m : ℕ). hold_in hs tag m pe) (sym (eqb-true root r (and_right (same_tag tag g) (nat_eq root r) k)))
+      ∙ held
 
-  joined : (ps ls fs qs ms ss : List Reading) → list_any t ps ≡ (list_any t ls || list_any t fs) →
-      list_any t qs ≡ (list_any t ms || list_any t ss) →
-      list_any t (ps ++ qs) ≡ (list_any t (ls ++ ms) || list_any t (fs ++ ss))
-  joined ps ls fs qs ms ss e k =
-      list_any-append t ps qs
-      ∙ ap (λ (b : Bool). b || list_any t qs) e
-      ∙ ap (λ (b : Bool). (list_any t ls || list_any t fs) || b) k
-      ∙ or_middle (list_any t ls) (list_any t fs) (list_any t ms) (list_any t ss)
-      ∙ ap (λ (b : Bool). b || (list_any t fs || list_any t ss)) (sym (list_any-append t ls ms))
-      ∙ ap (λ (b : Bool). list_any t (ls ++ ms) || b) (sym (list_any-append t fs ss))
+  -- each of some values, with its tag and root
+  all-held : (tag : Load → Tag) (root : Load → Option ℕ) (xs : List Load) →
+      list_all (λ (x : Load). holds_root hs pe (tag x) (root x)) xs ≡ true →
+      list_any (is_reading g r) (flat_map (λ (x : Load). reading_at (tag x) (root x)) xs) ≡ true →
+      hold_in hs g r pe ≡ true
+  all-held tag root [] all e = absurd (false≢true e)
+  all-held tag root (x ∷ xs) all e =
+      let rest = flat_map (λ (y : Load). reading_at (tag y) (root y)) xs in
+      let others = list_all (λ (y : Load). holds_root hs pe (tag y) (root y)) xs in
+      or-split (list_any (is_reading g r) (reading_at (tag x) (root x))) (list_any (is_reading g r) rest)
+      (hold_in hs g r pe ≡ true)
+      (root-held (tag x) (root x) (first_true (holds_root hs pe (tag x) (root x)) others all))
+      (all-held tag root xs (and_right (holds_root hs pe (tag x) (root x)) others all))
+      (sym (list_any-append (is_reading g r) (reading_at (tag x) (root x)) rest) ∙ e)
 
-  same : (xs : List Reading) → list_any t xs ≡ (list_any t xs || list_any t xs)
-  same xs = twice (list_any t xs)
-
-  -- what is readable after a write of a value, by that value and the other register, or by the values before
-  parts : (world : World) (b : Bool) (load : Load) (first second : List Load) →
-      list_any t (readings_of world (cond b (load ∷ first) first) (cond b second (load ∷ second)))
-      ≡ (list_any t (readings_of world (cond b (load ∷ []) first) (cond b second (load ∷ [])))
-      || list_any t (readings_of world first second))
-  parts (Hyp w) true load first second =
-      let second_read = flat_map (own_reading S2) second in
-      joined (flat_map (own_reading El2) (load ∷ first)) (flat_map (own_reading El2) (load ∷ []))
-      (flat_map (own_reading El2) first) second_read second_read second_read
-      (front (own_reading El2) load first) (same second_read)
-  parts (Hyp w) false load first second =
-      let first_read = flat_map (own_reading El2) first in
-      joined first_read first_read first_read (flat_map (own_reading S2) (load ∷ second))
-      (flat_map (own_reading S2) (load ∷ [])) (flat_map (own_reading S2) second)
-      (same first_read) (front (own_reading S2) load second)
-  parts (Kernel w) b load first second = by_asid w.asid_from b
+  -- a write of a value, where what it makes readable anew is held, and what was readable too
+  pub new-held : (world : World) (b : Bool) (load : Load) (first second : List Load) →
+      holds_new hs pe world b load (cond b second first) ≡ true →
+      (has_reading g r (readings_of world first second) ≡ true → hold_in hs g r pe ≡ true) →
+      has_reading g r (readings_of world (cond b (load ∷ first) first) (cond b second (load ∷ second))) ≡ true →
+      hold_in hs g r pe ≡ true
+  new-held (Hyp w) true load first second new old e =
+      or-split (has_reading g r (own_reading El2 load)) (has_reading g r (readings_of (Hyp w) first second))
+      (hold_in hs g r pe ≡ true) (root-held El2Tag load.root new) old
+      (sym (ahead (is_reading g r) (own_reading El2 load) (flat_map (own_reading El2) first)
+      (flat_map (own_reading S2) second)) ∙ e)
+  new-held (Hyp w) false load first second new old e =
+      or-split (has_reading g r (own_reading S2 load)) (has_reading g r (readings_of (Hyp w) first second))
+      (hold_in hs g r pe ≡ true) (root-held (Vmid load.number) load.root new) old
+      (sym (behind (is_reading g r) (flat_map (own_reading El2) first) (own_reading S2 load)
+      (flat_map (own_reading S2) second)) ∙ e)
+  new-held (Kernel w) true load first second new old e = of_first w.asid_from new old e
     where
-      by_asid : (from : AsidFrom) (b : Bool) →
-          list_any t (asid_readings from (cond b (load ∷ first) first) (cond b second (load ∷ second))
-          ++ flat_map (own_reading Ttbr1) (cond b second (load ∷ second)))
-          ≡ (list_any t (asid_readings from (cond b (load ∷ []) first) (cond b second (load ∷ []))
-          ++ flat_map (own_reading Ttbr1) (cond b second (load ∷ [])))
-          || list_any t (asid_readings from first second ++ flat_map (own_reading Ttbr1) second))
-      by_asid FromTtbr0 true =
-          let second_read = flat_map (own_reading Ttbr1) second in
-          joined (flat_map (own_reading Ttbr0) (load ∷ first)) (flat_map (own_reading Ttbr0) (load ∷ []))
-          (flat_map (own_reading Ttbr0) first) second_read second_read second_read
-          (front (own_reading Ttbr0) load first) (same second_read)
-      by_asid FromTtbr0 false =
-          let first_read = flat_map (own_reading Ttbr0) first in
-          joined first_read first_read first_read (flat_map (own_reading Ttbr1) (load ∷ second))
-          (flat_map (own_reading Ttbr1) (load ∷ [])) (flat_map (own_reading Ttbr1) second)
-          (same first_read) (front (own_reading Ttbr1) load second)
-      by_asid FromTtbr1 true =
-          let second_read = flat_map (own_reading Ttbr1) second in
-          joined (flat_map (readings_with (load ∷ first)) second) (flat_map (readings_with (load ∷ [])) second)
-          (flat_map (readings_with first) second) second_read second_read second_read
-          (each load first second) (same second_read)
-      by_asid FromTtbr1 false =
-          joined (flat_map (readings_with first) (load ∷ second)) (flat_map (readings_with first) (load ∷ []))
-          (flat_map (readings_with first) second) (flat_map (own_reading Ttbr1) (load ∷ second))
-          (flat_map (own_reading Ttbr1) (load ∷ [])) (flat_map (own_reading Ttbr1) second)
-          (front (readings_with first) load second) (front (own_reading Ttbr1) load second)
+      upper : List Reading
+      upper = flat_map (own_reading Ttbr1) second
+
+      of_first : (from : AsidFrom) → holds_asids hs pe from load second ≡ true →
+          (has_reading g r (asid_readings from first second ++ upper) ≡ true → hold_in hs g r pe ≡ true) →
+          has_reading g r (asid_readings from (load ∷ first) second ++ upper) ≡ true → hold_in hs g r pe ≡ true
+      of_first FromTtbr0 new old e =
+          or-split (has_reading g r (own_reading Ttbr0 load))
+          (has_reading g r (asid_readings FromTtbr0 first second ++ upper)) (hold_in hs g r pe ≡ true)
+          (root-held (Asid load.number) load.root new) old
+          (sym (ahead (is_reading g r) (own_reading Ttbr0 load) (flat_map (own_reading Ttbr0) first) upper) ∙ e)
+      of_first FromTtbr1 new old e =
+          let anew = flat_map (λ (y : Load). reading_at (Asid y.number) load.root) second in
+          let others = flat_map (readings_with first) second in
+          or-split (has_reading g r anew) (has_reading g r (others ++ upper)) (hold_in hs g r pe ≡ true)
+          (all-held (λ (y : Load). Asid y.number) (λ (y : Load). load.root) second new) old
+          (sym (list_any-append (is_reading g r) (flat_map (readings_with (load ∷ first)) second) upper
+          ∙ ap (λ (b : Bool). b || has_reading g r upper) (each (is_reading g r) load first second)
+          ∙ proved 3 (λ a b c. Is ((a || b) || c) (a || (b || c))) refl (has_reading g r anew) (has_reading g r others)
+          (has_reading g r upper)
+          ∙ ap (λ (b : Bool). has_reading g r anew || b) (sym (list_any-append (is_reading g r) others upper))) ∙ e)
+  new-held (Kernel w) false load first second new old e = of_second w.asid_from new old e
+    where
+      upper : List Reading
+      upper = flat_map (own_reading Ttbr1) second
+
+      of_second : (from : AsidFrom) → (holds_root hs pe Ttbr1Tag load.root && holds_under hs pe from load first) ≡ true →
+          (has_reading g r (asid_readings from first second ++ upper) ≡ true → hold_in hs g r pe ≡ true) →
+          has_reading g r (asid_readings from first (load ∷ second) ++ (own_reading Ttbr1 load ++ upper)) ≡ true →
+          hold_in hs g r pe ≡ true
+      of_second FromTtbr0 new old e =
+          or-split (has_reading g r (own_reading Ttbr1 load))
+          (has_reading g r (asid_readings FromTtbr0 first second ++ upper)) (hold_in hs g r pe ≡ true)
+          (root-held Ttbr1Tag load.root (first_true (holds_root hs pe Ttbr1Tag load.root) true new)) old
+          (sym (behind (is_reading g r) (flat_map (own_reading Ttbr0) first) (own_reading Ttbr1 load) upper) ∙ e)
+      of_second FromTtbr1 new old e =
+          let under = list_all (λ (y : Load). holds_root hs pe (Asid load.number) y.root) first in
+          or-split (has_reading g r (readings_with first load) || has_reading g r (own_reading Ttbr1 load))
+          (has_reading g r (flat_map (readings_with first) second ++ upper)) (hold_in hs g r pe ≡ true)
+          (or-split (has_reading g r (readings_with first load)) (has_reading g r (own_reading Ttbr1 load))
+          (hold_in hs g r pe ≡ true)
+          (all-held (λ (y : Load). Asid load.number) (λ (y : Load). y.root) first
+          (and_right (holds_root hs pe Ttbr1Tag load.root) under new))
+          (root-held Ttbr1Tag load.root (first_true (holds_root hs pe Ttbr1Tag load.root) under new)))
+          old
+          (sym (both (is_reading g r) (readings_with first load) (flat_map (readings_with first) second)
+          (own_reading Ttbr1 load) upper) ∙ e)
 
 -- an entry is of one root
 one-root : (n : ℕ) (g : Tag) (r s p : ℕ) (o : Option Held) → entry_bit g r p o ≡ true → nat_eq r s ≡ false →
@@ -139,32 +187,6 @@ one-root n g r s p (Some held) e apart =
     )
 
 module _ {S : Type 0} (hs : IndexMap ℕ Held S) (pe : ℕ) where
-  found-held : (xs : List Reading) → are_held hs pe xs ≡ true → (g : Tag) (r : ℕ) → has_reading g r xs ≡ true →
-      hold_in hs g r pe ≡ true
-  found-held [] all g r e = absurd (false≢true e)
-  found-held (x ∷ xs) all g r e =
-      or-split (is_reading g r x) (has_reading g r xs) (hold_in hs g r pe ≡ true)
-      (λ k.
-      ap (λ (h : Tag). hold_in hs h r pe)
-      (sym (same_tag-true x.tag g (first_true (same_tag x.tag g) (nat_eq x.root r) k)))
-      ∙ ap (λ (m : ℕ). hold_in hs x.tag m pe)
-      (sym (eqb-true x.root r (and_right (same_tag x.tag g) (nat_eq x.root r) k)))
-      ∙ first_true (is_held_at hs pe x) (are_held hs pe xs) all)
-      (found-held xs (and_right (is_held_at hs pe x) (are_held hs pe xs) all) g r) e
-
-  -- a write of a value, where what it makes readable with the other register is held, and what was readable too
-  pub all-held : (world : World) (b : Bool) (load : Load) (first second : List Load) →
-      are_held hs pe (readings_of world (cond b (load ∷ []) first) (cond b second (load ∷ []))) ≡ true →
-      ((g : Tag) (r : ℕ) → has_reading g r (readings_of world first second) ≡ true → hold_in hs g r pe ≡ true) →
-      (g : Tag) (r : ℕ) →
-      has_reading g r (readings_of world (cond b (load ∷ first) first) (cond b second (load ∷ second))) ≡ true →
-      hold_in hs g r pe ≡ true
-  all-held world b load first second new old g r e =
-      or-split (has_reading g r (readings_of world (cond b (load ∷ []) first) (cond b second (load ∷ []))))
-      (has_reading g r (readings_of world first second)) (hold_in hs g r pe ≡ true)
-      (found-held (readings_of world (cond b (load ∷ []) first) (cond b second (load ∷ []))) new g r) (old g r)
-      (sym (parts (is_reading g r) world b load first second) ∙ e)
-
   -- where all that is then readable is held, nothing is in conflict, and nothing more is held
   module _ (seen : List Reading)
       (held : (g : Tag) (r : ℕ) → has_reading g r seen ≡ true → hold_in hs g r pe ≡ true) where
@@ -204,22 +226,19 @@ module _ {S : Type 0} (hs : IndexMap ℕ Held S) (pe : ℕ) where
             let h : hold_in hs g r p ≡ true = ap (hold_in hs g r) (eqb-true p pe e) ∙ held g r k in
             h ∙ sym (ap (λ (b : Bool). b || true) h)
 
--- where what a value makes readable with the other register is held, all that is readable after its write is
+-- where what a value makes readable anew is held, all that is readable after its write is
 pub held-after : (roots : Roots) (pe : ℕ) (reg : Reg) (load : Load) (cs : List Call) → Stands roots cs →
-    pe < pes_of roots → are_held roots.holds pe (readings_of (world_of roots)
-    (cond (is_first reg) (load ∷ []) (loads_in roots.registers.first.items pe))
-    (cond (is_first reg) (loads_in roots.registers.second.items pe) (load ∷ []))) ≡ true →
-    (g : Tag) (r : ℕ) → has_reading g r (readings_of (world_of roots)
-    (cond (is_first reg) (load ∷ loads_in roots.registers.first.items pe) (loads_in roots.registers.first.items pe))
-    (cond (is_first reg) (loads_in roots.registers.second.items pe) (load ∷ loads_in roots.registers.second.items pe)))
-    ≡ true → hold_in roots.holds g r pe ≡ true
-held-after roots pe reg load cs stands known new =
-    all-held roots.holds pe (world_of roots) (is_first reg) load
+    pe < pes_of roots →
+    holds_new roots.holds pe (world_of roots) (is_first reg) load (other_loads roots.registers pe reg) ≡ true →
+    (g : Tag) (r : ℕ) → has_reading g r (readings_after roots.registers pe reg load) ≡ true →
+    hold_in roots.holds g r pe ≡ true
+held-after roots pe reg load cs stands known new g r =
+    new-held roots.holds pe g r (world_of roots) (is_first reg) load
     (loads_in roots.registers.first.items pe) (loads_in roots.registers.second.items pe) new old
   where
-    old : (g : Tag) (r : ℕ) → has_reading g r (readings_of (world_of roots) (loads_in roots.registers.first.items pe)
+    old : has_reading g r (readings_of (world_of roots) (loads_in roots.registers.first.items pe)
         (loads_in roots.registers.second.items pe)) ≡ true → hold_in roots.holds g r pe ≡ true
-    old g r e =
+    old e =
         stands.holds g r pe
         ∙ reads-holds (world_of roots) cs g r pe
         (ap (λ (ys : List Load). has_reading g r (readings_of (world_of roots)

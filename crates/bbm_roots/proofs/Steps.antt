@@ -2,6 +2,8 @@
 use Rattle.std.proofs.Common.{◌≡◌, ℕ, Bool, true, false, ◌&&◌, ◌||◌, not, nat_eq, List, [], ◌∷◌, ◌++◌, refl, sym, ◌∙◌}
 use Rattle.std.proofs.Common.{ap, Option}
 use Rattle.std.proofs.lemmas.Bool.{false≢true, not-true}
+use Rattle.bbm_lemmas.proofs.Tautologies.{proved}
+use Rattle.bbm_lemmas.proofs.Tautologies.Claim.{If, Is}
 use Rattle.bbm_barriers.specs.Options.{answers}
 use Rattle.bbm_barriers.specs.declared.Dsb.{Dsb}
 use Rattle.bbm_regimes.specs.declared.regime.AsidFrom.{AsidFrom}
@@ -19,7 +21,7 @@ use Rattle.bbm_roots.specs.RootTags.{readings, reads, reads_for_some, awaited, l
 use Rattle.bbm_roots.specs.declared.reading.Reading.{Reading}
 use Rattle.bbm_roots.proofs.Lists.{any-weaker}
 use Rattle.bbm_roots.proofs.Bits.{and_right}
-use mathlib.Core.Bool.{and-true, and-false}
+use mathlib.Core.Bool.{and-true, and-false, or-false}
 use Rattle.bbm_lemmas.proofs.Bools.{first_true}
 
 -- where a tag is readable for a root, the root holds it
@@ -53,13 +55,9 @@ pub holds-stay : (world : World) (c : Call) (cs : List Call) (g : Tag) (r p : �
     (reads world (c ∷ cs) p g r ≡ true → reads world cs p g r ≡ true) → loses world c cs g p ≡ false →
     holds_at world (c ∷ cs) g r p ≡ holds_at world cs g r p
 holds-stay world c cs g r p less none =
-    by_case (reads world (c ∷ cs) p g r) (holds_at world cs g r p) (loses world c cs g p)
+    proved 3 (λ a h l. If (If (Is a true) (Is h true)) (If (Is l false) (Is (a || (h && not l)) h))) refl (reads world
+    (c ∷ cs) p g r) (holds_at world cs g r p) (loses world c cs g p)
     (λ e. reads-holds world cs g r p (less e)) none
-  where
-    by_case : (a h l : Bool) → (a ≡ true → h ≡ true) → l ≡ false → (a || (h && not l)) ≡ h
-    by_case true h l f e = sym (f refl)
-    by_case false h true f e = absurd (false≢true (sym e))
-    by_case false h false f e = and-true h
 
 -- a call that issues nothing, answers nothing, and makes no tag readable
 pub awaited-stay : (world : World) (c : Call) (cs : List Call) (q : ℕ) (b : Bool) (g : Tag) (p : ℕ) →
@@ -67,62 +65,39 @@ pub awaited-stay : (world : World) (c : Call) (cs : List Call) (q : ℕ) (b : Bo
     issues c q b g p ≡ false → answered_by c q b ≡ false →
     awaited world (c ∷ cs) q b g p ≡ awaited world cs q b g p
 awaited-stay world c cs q b g p less no_issue no_answer =
-    by_case (issues c q b g p) (awaited world cs q b g p) (answered_by c q b) (reads_for_some world (c ∷ cs) p g)
+    proved 5 (λ i w n s t. If (If (Is w true) (Is t false)) (If (If (Is s true) (Is t true)) (If (Is i false) (If
+    (Is n false) (Is ((i || (w && not n)) && not s) w))))) refl (issues c q b g p) (awaited world cs q b g p)
+    (answered_by c q b) (reads_for_some world (c ∷ cs) p g)
     (reads_for_some world cs p g) (awaited-unread world cs q b g p) less no_issue no_answer
-  where
-    by_case : (i w n s t : Bool) → (w ≡ true → t ≡ false) → (s ≡ true → t ≡ true) → i ≡ false → n ≡ false →
-        ((i || (w && not n)) && not s) ≡ w
-    by_case true w n s t f h e k = absurd (false≢true (sym e))
-    by_case false w true s t f h e k = absurd (false≢true (sym k))
-    by_case false true false true t f h e k = absurd (false≢true (sym (f refl) ∙ h refl))
-    by_case false true false false t f h e k = refl
-    by_case false false false s t f h e k = refl
 
 -- a tag that is readable is taken away by no call
 pub reads-kept : (world : World) (pe : ℕ) (dsb : Dsb) (cs : List Call) (g : Tag) (r p : ℕ) →
     reads world cs p g r ≡ true → loses world (Complete pe dsb) cs g p ≡ false
 reads-kept world pe dsb cs g r p e =
-    by_case (answers dsb true) (answers dsb false) (awaited world cs pe true g p) (awaited world cs pe false g p)
+    proved 5 (λ a b v w s. If (If (Is v true) (Is s false)) (If (If (Is w true) (Is s false)) (If (Is s true) (Is ((a
+    && v) || (b && w)) false)))) refl (answers dsb true) (answers dsb false) (awaited world cs pe true g p)
+    (awaited world cs pe false g p)
     (reads_for_some world cs p g) (awaited-unread world cs pe true g p) (awaited-unread world cs pe false g p)
     (reads-some world cs g r p e)
-  where
-    by_case : (a b v w s : Bool) → (v ≡ true → s ≡ false) → (w ≡ true → s ≡ false) → s ≡ true → ((a && v) || (b && w)) ≡ false
-    by_case a b true w s f h k = absurd (false≢true (sym (f refl) ∙ k))
-    by_case a b false true s f h k = absurd (false≢true (sym (h refl) ∙ k))
-    by_case true true false false s f h k = refl
-    by_case true false false false s f h k = refl
-    by_case false true false false s f h k = refl
-    by_case false false false false s f h k = refl
 
 -- a DSB takes away what it answers
 pub holds-complete : (world : World) (pe : ℕ) (dsb : Dsb) (cs : List Call) (g : Tag) (r p : ℕ) →
     holds_at world (Complete pe dsb ∷ cs) g r p ≡ (holds_at world cs g r p && not (loses world (Complete pe dsb) cs g p))
 holds-complete world pe dsb cs g r p =
-    by_case (reads world cs p g r) (holds_at world cs g r p) (loses world (Complete pe dsb) cs g p)
+    proved 3 (λ a h l. If (If (Is a true) (Is h true)) (If (If (Is a true) (Is l false)) (Is (a || (h && not l)) (h
+    && not l)))) refl (reads world cs p g r) (holds_at world cs g r p) (loses world (Complete pe dsb) cs g p)
     (reads-holds world cs g r p) (reads-kept world pe dsb cs g r p)
-  where
-    by_case : (a h l : Bool) → (a ≡ true → h ≡ true) → (a ≡ true → l ≡ false) → (a || (h && not l)) ≡ (h && not l)
-    by_case true h l f e = sym (ap (λ (x : Bool). x && not l) (f refl) ∙ ap not (e refl))
-    by_case false h l f e = refl
 
 pub awaited-complete : (world : World) (pe : ℕ) (dsb : Dsb) (cs : List Call) (q : ℕ) (b : Bool) (g : Tag) (p : ℕ) →
     awaited world (Complete pe dsb ∷ cs) q b g p ≡ (awaited world cs q b g p && not (nat_eq q pe && answers dsb b))
 awaited-complete world pe dsb cs q b g p =
-    by_case (awaited world cs q b g p) (nat_eq q pe && answers dsb b) (reads_for_some world cs p g)
+    proved 3 (λ w n s. If (If (Is w true) (Is s false)) (Is ((w && not n) && not s) (w && not n))) refl
+    (awaited world cs q b g p) (nat_eq q pe && answers dsb b) (reads_for_some world cs p g)
     (awaited-unread world cs q b g p)
-  where
-    by_case : (w n s : Bool) → (w ≡ true → s ≡ false) → ((w && not n) && not s) ≡ (w && not n)
-    by_case true n true f = absurd (false≢true (sym (f refl)))
-    by_case true true false f = refl
-    by_case true false false f = refl
-    by_case false n s f = refl
 
 pub awaited-issue : (i w s : Bool) → (w ≡ true → s ≡ false) → ((i || (w && true)) && not s) ≡ (w || (i && not s))
-awaited-issue i true true f = absurd (false≢true (sym (f refl)))
-awaited-issue true true false f = refl
-awaited-issue false true false f = refl
-awaited-issue true false s f = refl
-awaited-issue false false s f = refl
+awaited-issue = proved 3 (λ i w s. If (If (Is w true) (Is s false)) (Is ((i || (w && true)) && not s) (w || (i
+    && not s)))) refl
 
 -- what a list of entries takes away is what the calls take away
 pub holds-completed : (world : World) (pe : ℕ) (dsb : Dsb) (cs : List Call) (g : Tag) (r p : ℕ) (h t f : Bool) →
@@ -195,14 +170,7 @@ module _ (world : World) (c : Call) (cs : List Call) (pe : ℕ) (seen : List Rea
   holds-written g r p = by_pe (nat_eq p pe) refl
     where
       swap : (h s l : Bool) → l ≡ false → (h || s) ≡ (s || (h && not l))
-      swap true true l e = refl
-      swap true false l e = sym (ap not e)
-      swap false true l e = refl
-      swap false false l e = refl
-
-      or-false : (h : Bool) → (h || false) ≡ h
-      or-false true = refl
-      or-false false = refl
+      swap = proved 3 (λ h s l. If (Is l false) (Is (h || s) (s || (h && not l)))) refl
 
       by_pe : (b : Bool) → nat_eq p pe ≡ b → (holds_at world cs g r p || (b && has_reading g r seen)) ≡ holds_at world (c ∷ cs) g r p
       by_pe true e =
@@ -219,16 +187,11 @@ module _ (world : World) (c : Call) (cs : List Call) (pe : ℕ) (seen : List Rea
   awaited-written q b g r p old no_issue no_answer held is_old = by_pe (nat_eq p pe) refl
     where
       last : (h s l t : Bool) → (s ≡ true → t ≡ true) → t ≡ false → (s || (h && not l)) ≡ true → h ≡ true
-      last true s l t f e k = refl
-      last false true l t f e k = absurd (false≢true (sym e ∙ f refl))
-      last false false l t f e k = absurd (false≢true k)
+      last = proved 4 (λ h s l t. If (If (Is s true) (Is t true)) (If (Is t false) (If (Is (s || (h && not l)) true)
+          (Is h true)))) refl
 
       plain : (w i n : Bool) → i ≡ false → n ≡ false → (w && true) ≡ ((i || (w && not n)) && true)
-      plain true true n e k = absurd (false≢true (sym e))
-      plain true false true e k = absurd (false≢true (sym k))
-      plain true false false e k = refl
-      plain false true n e k = absurd (false≢true (sym e))
-      plain false false n e k = refl
+      plain = proved 3 (λ w i n. If (Is i false) (If (Is n false) (Is (w && true) ((i || (w && not n)) && true)))) refl
 
       by_tag : (t : Bool) → nat_eq p pe ≡ true → has_tag g seen ≡ t → (old && not t) ≡ awaited world (c ∷ cs) q b g p
       by_tag true at tag =

@@ -1,19 +1,19 @@
--- What a register write that is taken leaves, and that it stands for the calls with the write.
+-- Roots after a register write that is taken stand for the calls with the write.
 use Rattle.std.proofs.Common.{◌≡◌, ◌≢◌, ◌<◌, ◌≤◌, ◌∙◌, ap, sym, refl, Bool, ◌&&◌, ◌||◌, not, nat_eq, List, ◌∷◌, true}
 use Rattle.std.proofs.Common.{false, cond, ℕ, None, arith}
 use Rattle.std.proofs.lemmas.Bool.{ne_eqb}
 use Rattle.bbm_regimes.specs.declared.regime.Reg.{Reg}
 use Rattle.bbm_regimes.specs.declared.regime.Tag.{Tag}
-use Rattle.bbm_regimes.specs.declared.regime.World.{World}
 use Rattle.bbm_roots.specs.RootCalls.{Call, WriteReg}
 use Rattle.bbm_roots.specs.Columns.{loads_in}
-use Rattle.bbm_roots.specs.Holds.{hold_in}
+use Rattle.bbm_roots.specs.Holds.{Marks}
 use Rattle.bbm_roots.specs.RootPendings.{pending_in}
-use Rattle.bbm_roots.specs.Readings.{has_reading, has_tag, readings_of}
+use Rattle.bbm_roots.specs.Readings.{has_reading, readings_of}
 use Rattle.bbm_roots.specs.Refusals.{missing_root}
 use Rattle.bbm_roots.specs.RootRegisters.{register_values, first_reg, second_reg, is_first, same_reg, load_of}
 use Rattle.bbm_roots.specs.RootRegisters.{is_of_world, kind_of_reg, names_in}
 use Rattle.bbm_roots.specs.DeclaredRoots.{root_at, is_root}
+use Rattle.bbm_roots.specs.RootChanges.{Writes}
 use Rattle.bbm_roots.specs.RootsStand.{Stands, world_of, pes_of}
 use Rattle.bbm_roots.specs.RootTags.{readings, holds_at}
 use Rattle.bbm_roots.specs.declared.load.Load.{Load}
@@ -24,29 +24,14 @@ use Rattle.bbm_roots.proofs.Rooted.{holders-next, root-there, written-named}
 use Rattle.bbm_roots.proofs.Steps.{holds-written, awaited-written}
 use Rattle.bbm_roots.proofs.Written.{elsewhere, right-here, is_the_first, is_the_second}
 
--- the value is put in front of those of its register, and the tags seen are readable at the PE
-pub record Taken (old new : Roots) (pe : ℕ) (reg : Reg) (load : Load) (seen : List Reading) : Type 0 where
-  pub first : (p : ℕ) → loads_in new.registers.first.items p ≡ cond (nat_eq p pe && is_first reg)
-      (load ∷ loads_in old.registers.first.items p) (loads_in old.registers.first.items p)
-  pub second : (p : ℕ) → loads_in new.registers.second.items p ≡ cond (nat_eq p pe && not (is_first reg))
-      (load ∷ loads_in old.registers.second.items p) (loads_in old.registers.second.items p)
-  pub declared : new.declared ≡ old.declared
-  pub locks : new.names_locks ≡ old.names_locks
-  pub world : world_of new ≡ world_of old
-  pub pes : pes_of new ≡ pes_of old
-  pub holds : (g : Tag) (r p : ℕ) → hold_in new.holds g r p
-      ≡ (hold_in old.holds g r p || (nat_eq p pe && has_reading g r seen))
-  pub pendings : (q : ℕ) (b : Bool) (g : Tag) (p : ℕ) → pending_in new.pendings q b g p
-      ≡ (pending_in old.pendings q b g p && not (nat_eq p pe && has_tag g seen))
-
 pub stands-taken : (old new : Roots) (pe : ℕ) (reg : Reg) (value : ℕ) (null : Bool) (calls : List Call) (load : Load)
     (seen : List Reading) → Stands old calls → pe < pes_of old → is_of_world (world_of old) reg ≡ true →
     load ≡ load_of reg value null → missing_root calls reg value null ≡ None →
     seen ≡ readings_of (world_of old)
     (cond (is_first reg) (load ∷ loads_in old.registers.first.items pe) (loads_in old.registers.first.items pe))
     (cond (is_first reg) (loads_in old.registers.second.items pe) (load ∷ loads_in old.registers.second.items pe)) →
-    Taken old new pe reg load seen → Stands new (WriteReg pe reg value null ∷ calls)
-stands-taken old new pe reg value null calls load seen stands known of_world is_load found is_seen taken =
+    Writes pe reg load seen old new → Marks old.holds new.holds pe seen → Stands new (WriteReg pe reg value null ∷ calls)
+stands-taken old new pe reg value null calls load seen stands known of_world is_load found is_seen taken marked =
     let world = world_of old in
     let call : Call = WriteReg pe reg value null in
     let here : (p : ℕ) → nat_eq p pe ≡ true → readings world (call ∷ calls) p ≡ seen = λ p at.
@@ -66,16 +51,16 @@ stands-taken old new pe reg value null calls load seen stands known of_world is_
     let other : p ≢ pe = omega (arith, known) in ne_eqb p pe other in
     let first_values : (p : ℕ) → List Load = λ p. register_values calls p (first_reg world) in
     let second_values : (p : ℕ) → List Load = λ p. register_values calls p (second_reg world) in
-    stands-made new (call ∷ calls) world (pes_of old) taken.world taken.pes
+    stands-made new (call ∷ calls) world (pes_of old) taken.loads.world taken.loads.pes
     (record {
       first = λ p lt.
-          taken.first p
+          taken.loads.first p
           ∙ ap (λ (xs : List Load). cond (nat_eq p pe && is_first reg) (load ∷ xs) xs) (stands.first p lt)
           ∙ ap (λ (l : Load). cond (nat_eq p pe && is_first reg) (l ∷ first_values p) (first_values p)) is_load
           ∙ ap (λ (b : Bool). cond (nat_eq p pe && b) (load_of reg value null ∷ first_values p) (first_values p))
           (sym (is_the_first world reg of_world));
       second = λ p lt.
-          taken.second p
+          taken.loads.second p
           ∙ ap (λ (xs : List Load). cond (nat_eq p pe && not (is_first reg)) (load ∷ xs) xs) (stands.second p lt)
           ∙ ap (λ (l : Load). cond (nat_eq p pe && not (is_first reg)) (l ∷ second_values p) (second_values p)) is_load
           ∙ ap (λ (b : Bool). cond (nat_eq p pe && b) (load_of reg value null ∷ second_values p) (second_values p))
@@ -84,11 +69,11 @@ stands-taken old new pe reg value null calls load seen stands known of_world is_
           ap (λ (b : Bool). cond (b && same_reg reg other) (load_of reg value null ∷ register_values calls p other)
           (register_values calls p other)) (ne p past)
           ∙ stands.outside p other past;
-      declared = λ q. let d = taken.declared in let s = stands.declared q in cc;
-      count = let d = taken.declared in let s = stands.count in cc;
-      locks = λ none. stands.locks (sym taken.locks ∙ none);
+      declared = λ q. let d = taken.roots.declared in let s = stands.declared q in cc;
+      count = let d = taken.roots.declared in let s = stands.count in cc;
+      locks = λ none. stands.locks (sym taken.roots.locks ∙ none);
       holds = λ g r p.
-          taken.holds g r p
+          marked g r p
           ∙ ap (λ (b : Bool). b || (nat_eq p pe && has_reading g r seen)) (stands.holds g r p)
           ∙ written g r p;
       apart = stands.apart;

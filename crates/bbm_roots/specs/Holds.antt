@@ -1,7 +1,6 @@
 -- Which PEs hold a tag for a root: a map from the key of a tag to the root and the set of them.
 use Rattle.std.specs.Prelude.{◌≡◌, ℕ, zero, suc, ◌+◌, ◌*◌, Bool, true, false, ◌&&◌, ◌||◌, nat_eq, ◌==◌, List}
 use Rattle.std.specs.Prelude.{Option, Some, None, is_some}
-use Rattle.std.specs.List.{list_all}
 use Rattle.bbm_regimes.specs.PeMask.{pe_in}
 use Rattle.indexmap.specs.IndexMap.{IndexMap, get}
 use Rattle.bbm_regimes.specs.declared.regime.Tag.{Tag}
@@ -57,13 +56,6 @@ module _ {S : Type 0} (holds : IndexMap ℕ Held S) where
   abbrev pub tag_in : ℕ → Tag → ℕ → Bool
   tag_in n tag root = entry_held n tag root (get nat_eq holds (tag_key tag))
 
-  -- whether the PE p holds the tag of a reading for its root, and those of all of some readings
-  abbrev pub is_held_at : ℕ → Reading → Bool
-  is_held_at p x = hold_in x.tag x.root p
-
-  abbrev pub are_held : ℕ → List Reading → Bool
-  are_held p readings = list_all (is_held_at p) readings
-
   -- whether the root holds its tag, or is about to, while the tag is about to be readable for another root
   abbrev pub conflict_in : ℕ → List Reading → Reading → Bool
   conflict_in n seen x =
@@ -79,3 +71,13 @@ module _ {S : Type 0} (holds : IndexMap ℕ Held S) where
   abbrev pub IsCalm : List Reading → Type 0
   IsCalm seen = (tag : Tag) (root : ℕ) → has_other tag root seen ≡ true
       → (has_reading tag root seen ≡ false) × ((p : ℕ) → hold_in tag root p ≡ false)
+
+module _ {S : Type 0} (old new : IndexMap ℕ Held S) where
+  -- nobody holds more or less
+  abbrev pub SameHolds : Type 0
+  SameHolds = (tag : Tag) (root p : ℕ) → hold_in new tag root p ≡ hold_in old tag root p
+
+  -- the PE holds the tags of the readings for their roots, and nothing else changes
+  abbrev pub Marks : ℕ → List Reading → Type 0
+  Marks pe readings = (tag : Tag) (root p : ℕ) → hold_in new tag root p
+      ≡ (hold_in old tag root p || (nat_eq p pe && has_reading tag root readings))

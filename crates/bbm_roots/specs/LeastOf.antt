@@ -1,6 +1,6 @@
 -- The least of what passes a test.
 -- Source: project's own choice.
-use Rattle.std.specs.Prelude.{◌≡◌, ◌≤◌, ℕ, Bool, true, false, Option, Some, None}
+use Rattle.std.specs.Prelude.{◌≡◌, ◌≤◌, ℕ, Bool, true, false, ◌||◌, Option, Some, None}
 use Rattle.bbm_regimes.specs.declared.regime.Tag.{Tag}
 use Rattle.bbm_roots.specs.Readings.{tag_rank}
 use Rattle.bbm_roots.specs.declared.reading.Reading.{Reading}
@@ -10,6 +10,11 @@ module _ {X : Type 0} (before : X → X → Type 0) (test : X → Bool) where
   abbrev pub IsLeast : Option X → Type 0
   IsLeast None = (x : X) → test x ≡ false
   IsLeast (Some x) = (test x ≡ true) × ((y : X) → test y ≡ true → before x y)
+
+-- what was the least of what passes any test is, with what is the least now, where what passes the further one is added
+abbrev pub IsLeastWith : {X : Type 0} → (X → X → Type 0) → (X → Bool) → Option X → Option X → Type 0
+IsLeastWith {X} before further old new =
+    (test : X → Bool) → IsLeast before test old → IsLeast before (λ x. test x || further x) new
 
 -- numbers in their order, tags in the order `El2`, VMIDs, ASIDs, `Ttbr1`, and tags with roots by the root's first page
 -- and then by the tag

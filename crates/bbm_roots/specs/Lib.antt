@@ -1,12 +1,17 @@
 pub mod RootCalls
 pub mod Columns
+pub mod Keyed
 pub mod Holds
+pub mod HoldsNew
 pub mod LeastOf
 pub mod RootPendings
 pub mod Readings
 pub mod Refusals
 pub mod RootRegisters
+pub mod LoadsOf
 pub mod DeclaredRoots
 pub mod RootsStand
+pub mod RootChanges
+pub mod RootJudgements
 pub mod Listed
 pub mod RootTags

@@ -1,7 +1,7 @@
 -- Whole-tag TLBIs that no DSB has answered yet: for each issuer, broadcast ones and others apart, a map from the key
 -- of a tag to the PEs at which the tag is taken away by the answer.
-use Rattle.std.specs.Prelude.{ℕ, zero, suc, ◌+◌, ◌*◌, Bool, true, false, not, ◌&&◌, ◌||◌, nat_eq, nat_lt, List, [], ◌∷◌}
-use Rattle.std.specs.Prelude.{Option, Some, None, is_some}
+use Rattle.std.specs.Prelude.{◌≡◌, ℕ, zero, suc, ◌+◌, ◌*◌, Bool, true, false, not, ◌&&◌, ◌||◌, nat_eq}
+use Rattle.std.specs.Prelude.{nat_lt, List, [], ◌∷◌, Option, Some, None, is_some, if◌then◌else◌}
 use Rattle.indexmap.specs.IndexMap.{IndexMap, get}
 use Rattle.bbm_barriers.specs.Options.{answers}
 use Rattle.bbm_barriers.specs.declared.Dsb.{Dsb}
@@ -9,12 +9,13 @@ use Rattle.bbm_regimes.specs.PeMask.{pe_in}
 use Rattle.bbm_regimes.specs.declared.regime.Tag.{Tag}
 use Rattle.bbm_tlbi_scope.specs.ScopeTags.{takes_whole_tag}
 use Rattle.bbm_tlbi_scope.specs.declared.scope.Scope.{Scope}
-use Rattle.bbm_roots.specs.Columns.{loads_in}
-use Rattle.bbm_roots.specs.Holds.{tag_key}
-use Rattle.bbm_roots.specs.Readings.{same_tag, reads_tag}
+use Rattle.bbm_roots.specs.Holds.{tag_key, hold_in}
+use Rattle.bbm_roots.specs.LoadsOf.{reads_at}
+use Rattle.bbm_roots.specs.Readings.{same_tag, has_tag}
 use Rattle.bbm_roots.specs.declared.hold.Held.{Held}
 use Rattle.bbm_roots.specs.declared.pending.Pendings.{Pendings}
 use Rattle.bbm_roots.specs.declared.pending.Waiting.{Waiting}
+use Rattle.bbm_roots.specs.declared.reading.Reading.{Reading}
 use Rattle.bbm_roots.specs.declared.registers.Registers.{Registers}
 
 abbrev pub same_flag : Bool → Bool → Bool
@@ -67,4 +68,42 @@ takes_entry scope vmid held = takes_whole_tag scope vmid held.tag
 abbrev pub unread_at : Registers → ℕ → Bool → Tag → ℕ → Bool
 unread_at registers q broadcast tag p =
     nat_lt p registers.pes && ((broadcast || nat_eq p q)
-    && not (reads_tag registers.world (loads_in registers.first.items p) (loads_in registers.second.items p) tag))
+    && not (reads_at registers p tag))
+
+-- the PEs of every tag stay in a place, in the places of a list, and for every issuer
+abbrev pub SameWaits : {S : Type 0} → IndexMap ℕ Waiting S → IndexMap ℕ Waiting S → Type 0
+SameWaits old new = (tag : Tag) (p : ℕ) → wait_in new tag p ≡ wait_in old tag p
+
+abbrev pub SamePlaces : {S : Type 0} → List (IndexMap ℕ Waiting S) → List (IndexMap ℕ Waiting S) → Type 0
+SamePlaces old new = (n key : ℕ) → wait_at new n key ≡ wait_at old n key
+
+abbrev pub SamePendings : Pendings → Pendings → Type 0
+SamePendings old new =
+    (q : ℕ) (broadcast : Bool) (tag : Tag) (p : ℕ) → pending_in new q broadcast tag p ≡ pending_in old q broadcast tag p
+
+-- the PE is out of the entries of the tags of the readings, and nothing else changes
+abbrev pub Clears : ℕ → List Reading → Pendings → Pendings → Type 0
+Clears pe readings old new = (q : ℕ) (broadcast : Bool) (tag : Tag) (p : ℕ) → pending_in new q broadcast tag p
+    ≡ (pending_in old q broadcast tag p && not (nat_eq p pe && has_tag tag readings))
+
+-- nothing waits
+abbrev pub IsQuiet : Pendings → Type 0
+IsQuiet ps = (q : ℕ) (broadcast : Bool) (tag : Tag) (p : ℕ) → pending_in ps q broadcast tag p ≡ false
+
+-- nothing is left in the place of this number, and all other places stay
+abbrev pub EmptiesPlace : {S : Type 0} → ℕ → List (IndexMap ℕ Waiting S) → List (IndexMap ℕ Waiting S) → Type 0
+EmptiesPlace place old new = (n key : ℕ) → wait_at new n key ≡ (if nat_eq n place then None else wait_at old n key)
+
+-- a TLBI of this scope, under this VMID
+module _ (scope : Scope) (vmid : Option ℕ) {S : Type 0} (holds : IndexMap ℕ Held S) where
+  -- each tag that is held and that it takes passes the test
+  abbrev pub EachTaken : (Tag → Bool) → Type 0
+  EachTaken test = (tag : Tag) (root p : ℕ) → hold_in holds tag root p ≡ true → takes_whole_tag scope vmid tag ≡ true
+      → test tag ≡ true
+
+  -- In a place: of each tag that is held, the entry, where there is one and the TLBI takes the tag, gets the PEs that a
+  -- TLBI of q reaches while the tag is readable there for no root.
+  abbrev pub NotesTaken : {T : Type 0} → Registers → ℕ → IndexMap ℕ Waiting T → IndexMap ℕ Waiting T → Type 0
+  NotesTaken registers q old new = (tag : Tag) (root h p : ℕ) → hold_in holds tag root h ≡ true → wait_in new tag p
+      ≡ (wait_in old tag p || (has_wait old tag && (takes_whole_tag scope vmid tag
+      && unread_at registers q scope.broadcast tag p)))

@@ -62,11 +62,11 @@ register_values (Isb pe ∷ cs) p reg =
     if p == pe then newest (register_values cs p reg) else register_values cs p reg
 register_values (_ ∷ cs) p reg = register_values cs p reg
 
--- whether a value names the root with this first page
 abbrev pub is_that : Option ℕ → ℕ → Bool
 is_that None page = false
 is_that (Some root) page = root == page
 
+-- whether a value names the root with this first page
 abbrev pub names_page : ℕ → Load → Bool
 names_page page load = is_that load.root page
 

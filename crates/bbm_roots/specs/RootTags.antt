@@ -69,11 +69,12 @@ module _ (world : World) where
   abbrev pub holds_tag : ℕ → List Call → Tag → ℕ → Bool
   holds_tag pes cs tag root = some_pe pes (holds_at cs tag root)
 
--- the one number of a list, None where it has several
+-- whether all values of a list have this number
 abbrev pub all_are : ℕ → List Load → Bool
 all_are n [] = true
 all_are n (load ∷ loads) = load.number == n && all_are n loads
 
+-- the one number of a list, None where it has several
 abbrev pub one_number : List Load → Option ℕ
 one_number [] = None
 one_number (load ∷ loads) = if all_are load.number loads then Some load.number else None

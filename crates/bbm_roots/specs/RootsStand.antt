@@ -1,15 +1,15 @@
 -- What the roots stand for: a list of accepted calls, point by point.
-use Rattle.std.specs.Prelude.{◌≡◌, ◌<◌, ◌≤◌, ℕ, Bool, true, false, List, [], ◌∷◌, IsSome, nat_eq, length, Option, None}
+use Rattle.std.specs.Prelude.{◌≡◌, ◌<◌, ◌≤◌, ◌&&◌, ℕ, Bool, true, false, List, [], ◌∷◌, IsSome, nat_eq, length}
+use Rattle.std.specs.Prelude.{Option, None}
 use Rattle.indexmap.specs.IndexMap.{get, index_map_len, spare}
 use Rattle.bbm_regimes.specs.declared.regime.Reg.{Reg}
 use Rattle.bbm_regimes.specs.declared.regime.Tag.{Tag}
 use Rattle.bbm_regimes.specs.declared.regime.World.{World}
-use Rattle.bbm_tlbi_scope.specs.ScopeTags.{takes_whole_tag}
 use Rattle.bbm_tlbi_scope.specs.declared.scope.Scope.{Scope}
 use Rattle.bbm_roots.specs.RootCalls.{Call}
 use Rattle.bbm_roots.specs.Columns.{loads_in}
 use Rattle.bbm_roots.specs.Holds.{hold_in}
-use Rattle.bbm_roots.specs.RootPendings.{has_pending, pending_in}
+use Rattle.bbm_roots.specs.RootPendings.{has_pending, pending_in, EachTaken}
 use Rattle.bbm_roots.specs.RootRegisters.{at_start, first_reg, second_reg, register_values, is_of_world, kind_of_reg}
 use Rattle.bbm_roots.specs.RootRegisters.{names_in}
 use Rattle.bbm_roots.specs.DeclaredRoots.{root_at, roots_of, is_root, are_apart, lock_of}
@@ -51,6 +51,6 @@ abbrev pub IsPrepared : Roots → Type 0
 IsPrepared roots = (0 < spare roots.declared) × (index_map_len roots.declared < 1024)
 
 -- there is an entry for each tag that a TLBI of the issuer, of this scope and under this VMID, takes and that is held
-abbrev pub IsReady : Roots → ℕ → Scope → Option ℕ → Type 0
-IsReady roots issuer scope vmid = (tag : Tag) (root p : ℕ) → hold_in roots.holds tag root p ≡ true
-    → takes_whole_tag scope vmid tag ≡ true → has_pending roots.pendings issuer scope.broadcast tag ≡ true
+abbrev pub IsReady : Roots → ℕ → Scope → Option ℕ → Bool → Type 0
+IsReady roots issuer scope vmid takes =
+    EachTaken scope vmid roots.holds (λ tag. takes && has_pending roots.pendings issuer scope.broadcast tag)

@@ -1,17 +1,19 @@
 //! Which PEs hold a tag for a root.
 //! Source: project's own choice, where no other is named.
 
-ghost use Rattle.std.specs.Prelude.{◌≡◌, ℕ, ◌≤◌, Bool, ◌&&◌, ◌||◌, not, nat_eq, true, false, Option, Some, None};
+ghost use Rattle.std.specs.Prelude.{◌≡◌, ℕ, Bool, ◌&&◌, ◌||◌, not, nat_eq, true, false, Option, Some, None};
 ghost use Rattle.std.specs.Prelude.{is_some, OnOk, if◌then◌else◌};
 ghost use Rattle.indexmap.specs.IndexMap.{get, values};
 ghost use Rattle.bbm_regimes.specs.PeMask.{pe_in};
 ghost use Rattle.bbm_regimes.specs.declared.regime.Tag.{Tag as TheTag};
 ghost use Rattle.bbm_roots.specs.Holds as spec;
+ghost use Rattle.bbm_roots.specs.Keyed.{OthersStay};
 ghost use Rattle.bbm_barriers.specs.Options.{answers as dsb_answers};
-ghost use Rattle.bbm_roots.specs.RootPendings.{same_flag, slot_of, wait_at, wait_bit, wait_in};
+ghost use Rattle.bbm_roots.specs.RootPendings.{same_flag, slot_of, wait_at, wait_bit, wait_in, EmptiesPlace};
 ghost use Rattle.bbm_roots.specs.Readings.{same_tag as spec_same_tag, has_reading as spec_has_reading};
 ghost use Rattle.bbm_roots.specs.Readings.{has_tag as spec_has_tag};
 
+use crate::count::PeCount;
 use crate::pending::{Waiting, Waits, answers, slot};
 use crate::reading::Reading;
 use bbm_barriers::Dsb;
@@ -33,12 +35,10 @@ pub struct Held {
 }
 
 /// Whether one of the first n PEs is in the set.
-pub fn some_pe(pes: PeMask, n: u8) -> bool
-    requires some { 1 ≤ n }
-    requires within { n ≤ 128 }
+pub fn some_pe(pes: PeMask, n: PeCount) -> bool
     ensures { result ≡ spec.some_pe n (λ p. pe_in pes p) }
 {
-    !pes.and(PeMask::all(n)).is_empty()
+    !pes.and(n.all()).is_empty()
 }
 
 /// Whether the entry is that of the tag and the root.
@@ -49,22 +49,13 @@ fn is_hold(held: &Held, tag: Tag, root: Page) -> bool
 }
 
 /// Whether the PE holds the tag for the root, as the entry of the tag says.
-fn is_held_at(holds: &Holds, reading: &Reading, pe: Pe) -> bool
-    ensures { result ≡ spec.is_held_at holds.now pe reading.now }
+pub fn is_held_at(holds: &Holds, tag: Tag, root: Page, pe: Pe) -> bool
+    ensures { result ≡ spec.hold_in holds.now tag root pe }
 {
-    match holds.get(&tag_key(reading.tag)) {
-        Some(held) => is_hold(held, reading.tag, reading.root) && held.pes.has(pe),
+    match holds.get(&tag_key(tag)) {
+        Some(held) => is_hold(held, tag, root) && held.pes.has(pe),
         None => false,
     }
-}
-
-/// Whether the PE holds each of the tags for its root.
-pub fn are_held(holds: &Holds, readings: &[Reading], pe: Pe) -> bool
-    ensures { result ≡ spec.are_held holds.now pe readings.now }
-{
-    readings
-        .iter()
-        .all(|reading| is_held_at(holds, reading, pe))
 }
 
 /// The key of a tag, which is no other tag's, 0 to 131073.
@@ -88,7 +79,7 @@ pub fn entries(holds: &Holds) -> &[Held]
 
 /// Makes an entry of the tag and the root, with no PE in it, where the tag has none.
 fn make_entry(holds: &mut Holds, tag: Tag, root: Page) -> Result<(), NoMemory>
-    ensures same { (g : TheTag) (r p : ℕ) → spec.hold_in holds.new g r p ≡ spec.hold_in holds.old g r p }
+    ensures same { spec.SameHolds holds.old holds.new }
     ensures made { OnOk result ((g : TheTag) → spec.has_entry holds.new g
         ≡ (spec.has_entry holds.old g || spec_same_tag tag g)) }
 {
@@ -105,7 +96,7 @@ fn make_entry(holds: &mut Holds, tag: Tag, root: Page) -> Result<(), NoMemory>
 
 /// Makes an entry for each readable tag that has none. `NoMemory` where there is none. Nobody holds more or less.
 pub fn make_room(holds: &mut Holds, readings: &[Reading]) -> Result<(), NoMemory>
-    ensures same { (g : TheTag) (r p : ℕ) → spec.hold_in holds.new g r p ≡ spec.hold_in holds.old g r p }
+    ensures same { spec.SameHolds holds.old holds.new }
     ensures made { OnOk result ((g : TheTag) → spec_has_tag g readings.now ≡ true → spec.has_entry holds.new g ≡ true) }
 {
     for reading in readings {
@@ -141,7 +132,7 @@ fn mark_one(holds: &mut Holds, tag: Tag, root: Page, pe: Pe)
 /// The same, by the key of the tag.
 fn enter(holds: &mut Holds, key: u32, tag: Tag, root: Page, pe: Pe)
     requires { is_some (get nat_eq holds.old key) ≡ true }
-    ensures others { (q : ℕ) → nat_eq key q ≡ false → get nat_eq holds.new q ≡ get nat_eq holds.old q }
+    ensures others { OthersStay key holds.old holds.new }
     ensures here { (r p : ℕ) → spec.entry_bit tag r p (get nat_eq holds.new key)
         ≡ (nat_eq root r && (spec.entry_bit tag r p (get nat_eq holds.old key) || nat_eq p pe)) }
     ensures known { (q : ℕ) → is_some (get nat_eq holds.new q) ≡ is_some (get nat_eq holds.old q) }
@@ -155,8 +146,7 @@ fn enter(holds: &mut Holds, key: u32, tag: Tag, root: Page, pe: Pe)
 /// Puts the PE into the entries of the readable tags, where no other root holds one of them.
 pub fn mark(holds: &mut Holds, readings: &[Reading], pe: Pe)
     requires { (g : TheTag) → spec_has_tag g readings.now ≡ true → spec.has_entry holds.old g ≡ true }
-    ensures { spec.IsCalm holds.old readings.now → (g : TheTag) (r p : ℕ) → spec.hold_in holds.new g r p
-        ≡ (spec.hold_in holds.old g r p || (nat_eq p pe && spec_has_reading g r readings.now)) }
+    ensures { spec.IsCalm holds.old readings.now → spec.Marks holds.old holds.new pe readings.now }
 {
     for reading in readings {
         mark_one(holds, reading.tag, reading.root, pe);
@@ -165,7 +155,7 @@ pub fn mark(holds: &mut Holds, readings: &[Reading], pe: Pe)
 
 /// Takes the PEs out of the entry under the key. Whether none is left in it.
 fn narrow(holds: &mut Holds, key: u32, pes: PeMask) -> bool
-    ensures others { (q : ℕ) → nat_eq key q ≡ false → get nat_eq holds.new q ≡ get nat_eq holds.old q }
+    ensures others { OthersStay key holds.old holds.new }
     ensures here { (g : TheTag) (r p : ℕ) → spec.entry_bit g r p (get nat_eq holds.new key)
         ≡ (spec.entry_bit g r p (get nat_eq holds.old key) && not (pe_in pes p)) }
     ensures none { result ≡ true → (g : TheTag) (r p : ℕ) → spec.entry_bit g r p (get nat_eq holds.new key) ≡ false }
@@ -182,7 +172,7 @@ fn narrow(holds: &mut Holds, key: u32, pes: PeMask) -> bool
 /// Forgets the entry under the key, in which there is no PE.
 fn forget(holds: &mut Holds, key: u32)
     requires { (g : TheTag) (r p : ℕ) → spec.entry_bit g r p (get nat_eq holds.old key) ≡ false }
-    ensures { (g : TheTag) (r p : ℕ) → spec.hold_in holds.new g r p ≡ spec.hold_in holds.old g r p }
+    ensures { spec.SameHolds holds.old holds.new }
 {
     holds.swap_remove(&key);
 }
@@ -225,8 +215,7 @@ fn release_all(holds: &mut Holds, waits: &mut Waits)
 fn release_place(holds: &mut Holds, waits: &mut Vec<Waits>, place: usize)
     ensures holds { (g : TheTag) (r p : ℕ) → spec.hold_in holds.new g r p
         ≡ (spec.hold_in holds.old g r p && not (wait_bit g p (wait_at waits.old.items place (spec.tag_key g)))) }
-    ensures waits { (n key : ℕ) → wait_at waits.new.items n key
-        ≡ (if nat_eq n place then None else wait_at waits.old.items n key) }
+    ensures waits { EmptiesPlace place waits.old.items waits.new.items }
 {
     if place < waits.len() {
         release_all(holds, &mut waits[place]);

@@ -1,7 +1,7 @@
 //! What the issue of a whole-tag TLBI leaves to its answer.
 
 ghost use Rattle.std.specs.Prelude.{◌≡◌, ℕ, ◌<◌, Bool, ◌&&◌, ◌||◌, not, nat_eq, true, false, Option, Some, OnOk};
-ghost use Rattle.std.specs.Prelude.{IfSome, is_some, length};
+ghost use Rattle.std.specs.Prelude.{IfOk, IfSome, is_some, length};
 ghost use Rattle.std.specs.List.{list_any};
 ghost use Rattle.indexmap.specs.IndexMap.{get, values};
 ghost use Rattle.bbm_regimes.specs.PeMask.{pe_in};
@@ -9,6 +9,7 @@ ghost use Rattle.bbm_regimes.specs.declared.regime.Tag.{Tag as TheTag};
 ghost use Rattle.bbm_tlbi_scope.specs.Operations.{has_page};
 ghost use Rattle.bbm_tlbi_scope.specs.ScopeTags.{takes_whole_tag};
 ghost use Rattle.bbm_roots.specs.Holds.{hold_in, tag_key as key_of};
+ghost use Rattle.bbm_roots.specs.Keyed.{OthersStay};
 ghost use Rattle.bbm_roots.specs.RootPendings as spec;
 ghost use Rattle.bbm_roots.specs.Readings.{same_tag as spec_same_tag};
 
@@ -58,7 +59,7 @@ fn one_tag(scope: &Scope, vmid: Option<u16>) -> Option<Tag>
 
 /// Makes an entry of the tag, with no PE in it, where there is none.
 fn make_entry(waits: &mut Waits, tag: Tag) -> Result<(), NoMemory>
-    ensures same { (g : TheTag) (p : ℕ) → spec.wait_in waits.new g p ≡ spec.wait_in waits.old g p }
+    ensures same { spec.SameWaits waits.old waits.new }
     ensures made { OnOk result ((g : TheTag) → spec.has_wait waits.new g
         ≡ (spec.has_wait waits.old g || spec_same_tag tag g)) }
 {
@@ -84,8 +85,7 @@ fn takes_some(holds: &Holds, scope: &Scope, vmid: Option<u16>) -> bool
 
 /// Whether the TLBI may take a tag that is held. One that takes one tag alone looks that tag up alone.
 fn takes_held(holds: &Holds, scope: &Scope, vmid: Option<u16>) -> bool
-    ensures { result ≡ false → (g : TheTag) (r p : ℕ) → hold_in holds.now g r p ≡ true
-        → takes_whole_tag scope.now vmid g ≡ false }
+    ensures { spec.EachTaken scope.now vmid holds.now (λ tag. result) }
 {
     match one_tag(scope, vmid) {
         Some(tag) => holds.contains_key(&tag_key(tag)),
@@ -95,7 +95,7 @@ fn takes_held(holds: &Holds, scope: &Scope, vmid: Option<u16>) -> bool
 
 /// Makes an entry of the tag, where the TLBI takes it.
 fn make_taken(waits: &mut Waits, scope: &Scope, vmid: Option<u16>, tag: Tag) -> Result<(), NoMemory>
-    ensures same { (g : TheTag) (p : ℕ) → spec.wait_in waits.new g p ≡ spec.wait_in waits.old g p }
+    ensures same { spec.SameWaits waits.old waits.new }
     ensures made { OnOk result ((g : TheTag) → spec.has_wait waits.new g
         ≡ (spec.has_wait waits.old g || (takes_whole_tag scope.now vmid tag && spec_same_tag tag g))) }
 {
@@ -106,38 +106,23 @@ fn make_taken(waits: &mut Waits, scope: &Scope, vmid: Option<u16>, tag: Tag) -> 
     }
 }
 
-/// Makes an entry of each tag that is held and that the TLBI takes.
-fn make_each(
-    waits: &mut Waits,
-    holds: &Holds,
-    scope: &Scope,
-    vmid: Option<u16>,
-) -> Result<(), NoMemory>
-    ensures same { (g : TheTag) (p : ℕ) → spec.wait_in waits.new g p ≡ spec.wait_in waits.old g p }
-    ensures made { OnOk result ((g : TheTag) (r p : ℕ) → hold_in holds.now g r p ≡ true
-        → takes_whole_tag scope.now vmid g ≡ true → spec.has_wait waits.new g ≡ true) }
-{
-    for held in entries(holds) {
-        make_taken(waits, scope, vmid, held.tag)?;
-    }
-    Ok(())
-}
-
-/// The same. A TLBI that takes one tag alone looks at that tag alone.
+/// Makes an entry of each tag that is held and that the TLBI takes. One that takes one tag alone looks at that alone.
 fn make_entries(
     waits: &mut Waits,
     holds: &Holds,
     scope: &Scope,
     vmid: Option<u16>,
 ) -> Result<(), NoMemory>
-    ensures same { (g : TheTag) (p : ℕ) → spec.wait_in waits.new g p ≡ spec.wait_in waits.old g p }
-    ensures made { OnOk result ((g : TheTag) (r p : ℕ) → hold_in holds.now g r p ≡ true
-        → takes_whole_tag scope.now vmid g ≡ true → spec.has_wait waits.new g ≡ true) }
+    ensures same { spec.SameWaits waits.old waits.new }
+    ensures made { OnOk result (spec.EachTaken scope.now vmid holds.now (spec.has_wait waits.new)) }
 {
-    match one_tag(scope, vmid) {
-        Some(tag) => make_entry(waits, tag),
-        None => make_each(waits, holds, scope, vmid),
+    if let Some(tag) = one_tag(scope, vmid) {
+        return make_entry(waits, tag);
     }
+    for held in entries(holds) {
+        make_taken(waits, scope, vmid, held.tag)?;
+    }
+    Ok(())
 }
 
 /// The same in the place of this number.
@@ -151,15 +136,15 @@ fn make_place(
     requires { place < length waits.old.items }
     ensures same { (n : ℕ) (g : TheTag) (p : ℕ) → spec.wait_bit g p (spec.wait_at waits.new.items n (key_of g))
         ≡ spec.wait_bit g p (spec.wait_at waits.old.items n (key_of g)) }
-    ensures made { OnOk result ((g : TheTag) (r p : ℕ) → hold_in holds.now g r p ≡ true
-        → takes_whole_tag scope.now vmid g ≡ true
-        → is_some (spec.wait_at waits.new.items place (key_of g)) ≡ true) }
+    ensures made { OnOk result (spec.EachTaken scope.now vmid holds.now
+        (λ g. is_some (spec.wait_at waits.new.items place (key_of g)))) }
 {
     make_entries(&mut waits[place], holds, scope, vmid)
 }
 
-/// Makes an entry of the issuer for each tag that is held and that its TLBI takes. `NoMemory` where there is none.
-/// No DSB takes more or less away. Where the TLBI takes no tag that is held, nothing is made.
+/// Makes an entry of the issuer for each tag that is held and that its TLBI takes, and tells whether there may be one.
+/// `NoMemory` where there is none. No DSB takes more or less away. Where the TLBI takes no tag that is held, nothing is
+/// made.
 pub fn make_room(
     alloc: Global,
     pendings: &mut Pendings,
@@ -167,19 +152,18 @@ pub fn make_room(
     issuer: Pe,
     scope: &Scope,
     vmid: Option<u16>,
-) -> Result<(), NoMemory>
-    ensures same { (q : ℕ) (b : Bool) (g : TheTag) (p : ℕ) → spec.pending_in pendings.new q b g p
-        ≡ spec.pending_in pendings.old q b g p }
-    ensures made { OnOk result ((g : TheTag) (r p : ℕ) → hold_in holds.now g r p ≡ true
-        → takes_whole_tag scope.now vmid g ≡ true
-        → spec.has_pending pendings.new issuer scope.now.broadcast g ≡ true) }
+) -> Result<bool, NoMemory>
+    ensures same { spec.SamePendings pendings.old pendings.new }
+    ensures made { IfOk result (λ takes. spec.EachTaken scope.now vmid holds.now
+        (λ tag. takes && spec.has_pending pendings.new issuer scope.now.broadcast tag)) }
 {
     if !takes_held(holds, scope, vmid) {
-        return Ok(());
+        return Ok(false);
     }
     open(pendings, alloc, issuer)?;
     let place = slot(issuer, scope.broadcast);
-    make_place(&mut pendings.waits, place, holds, scope, vmid)
+    make_place(&mut pendings.waits, place, holds, scope, vmid)?;
+    Ok(true)
 }
 
 /// The PEs that a TLBI of the issuer reaches and at which the tag is readable for no root.
@@ -187,7 +171,7 @@ fn unread(registers: &Registers, issuer: Pe, broadcast: bool, tag: Tag) -> PeMas
     ensures { (p : ℕ) → pe_in result p ≡ spec.unread_at registers.now issuer broadcast tag p }
 {
     let reach = if broadcast {
-        PeMask::all(registers.pes)
+        registers.pes.all()
     } else {
         PeMask::one(issuer)
     };
@@ -209,7 +193,7 @@ fn widened(waiting: Waiting, tag: Tag, pes: PeMask) -> Waiting
 
 /// Puts the PEs into the entry under the key, as one of the tag.
 fn widen(waits: &mut Waits, key: u32, tag: Tag, pes: PeMask)
-    ensures others { (k : ℕ) → nat_eq key k ≡ false → get nat_eq waits.new k ≡ get nat_eq waits.old k }
+    ensures others { OthersStay key waits.old waits.new }
     ensures here { (p : ℕ) → spec.wait_bit tag p (get nat_eq waits.new key)
         ≡ (spec.wait_bit tag p (get nat_eq waits.old key) || (is_some (get nat_eq waits.old key) && pe_in pes p)) }
     ensures known { (k : ℕ) → is_some (get nat_eq waits.new k) ≡ is_some (get nat_eq waits.old k) }
@@ -242,25 +226,8 @@ fn note_one(
     }
 }
 
-/// Notes a TLBI of the issuer in the entries of the tags that are held and that it takes.
-fn note_each(
-    waits: &mut Waits,
-    holds: &Holds,
-    registers: &Registers,
-    issuer: Pe,
-    scope: &Scope,
-    vmid: Option<u16>,
-)
-    ensures { (g : TheTag) (r h p : ℕ) → hold_in holds.now g r h ≡ true → spec.wait_in waits.new g p
-        ≡ (spec.wait_in waits.old g p || (spec.has_wait waits.old g && (takes_whole_tag scope.now vmid g
-        && spec.unread_at registers.now issuer scope.now.broadcast g p))) }
-{
-    for held in entries(holds) {
-        note_one(waits, registers, issuer, scope, vmid, held.tag);
-    }
-}
-
-/// The same. A TLBI that takes one tag alone looks at that tag alone.
+/// Notes a TLBI of the issuer in the entries of the tags that are held and that it takes. One that takes one tag alone
+/// looks at that alone.
 fn note_entries(
     waits: &mut Waits,
     holds: &Holds,
@@ -269,13 +236,13 @@ fn note_entries(
     scope: &Scope,
     vmid: Option<u16>,
 )
-    ensures { (g : TheTag) (r h p : ℕ) → hold_in holds.now g r h ≡ true → spec.wait_in waits.new g p
-        ≡ (spec.wait_in waits.old g p || (spec.has_wait waits.old g && (takes_whole_tag scope.now vmid g
-        && spec.unread_at registers.now issuer scope.now.broadcast g p))) }
+    ensures { spec.NotesTaken scope.now vmid holds.now registers.now issuer waits.old waits.new }
 {
-    match one_tag(scope, vmid) {
-        Some(tag) => note_one(waits, registers, issuer, scope, vmid, tag),
-        None => note_each(waits, holds, registers, issuer, scope, vmid),
+    if let Some(tag) = one_tag(scope, vmid) {
+        return note_one(waits, registers, issuer, scope, vmid, tag);
+    }
+    for held in entries(holds) {
+        note_one(waits, registers, issuer, scope, vmid, held.tag);
     }
 }
 

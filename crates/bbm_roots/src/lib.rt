@@ -8,7 +8,8 @@
 //! - At each root that comes or goes call `declare` or `retire`, at each write of a root register `write_reg`, and at
 //!   each ISB, TLBI and DSB `isb`, `issue` and `complete`. A TLBI that reaches no PE, as a local one may where TLB
 //!   entries are shared, is left out.
-//! - A call that is refused changes nothing. `RootFault` says why it was.
+//! - A call that is refused changes nothing. `RootFault` says why it was; of a call that may want memory alone
+//!   `NoMemory` does.
 //! - `vmid_of`, `tags_of`, `lock_of`, `is_root`, `is_declared`, `count` and `nth` tell what the list of accepted calls
 //!   comes to.
 //!
@@ -16,6 +17,8 @@
 //! with its proof.
 #![tactic(auto)]
 
+mod anew;
+mod count;
 pub mod example;
 mod fault;
 mod hold;

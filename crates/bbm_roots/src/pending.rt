@@ -8,6 +8,7 @@ ghost use Rattle.bbm_barriers.specs.Options.{answers as dsb_answers};
 ghost use Rattle.bbm_regimes.specs.PeMask.{pe_in};
 ghost use Rattle.bbm_regimes.specs.declared.regime.Tag.{Tag as TheTag};
 ghost use Rattle.bbm_roots.specs.Holds.{tag_key as key_of};
+ghost use Rattle.bbm_roots.specs.Keyed.{OthersStay};
 ghost use Rattle.bbm_roots.specs.RootPendings as spec;
 ghost use Rattle.bbm_roots.specs.Readings.{has_tag as spec_has_tag, same_tag as spec_same_tag};
 
@@ -41,7 +42,7 @@ pub struct Pendings {
 
 /// Where nothing waits. It takes no memory.
 pub fn no_pendings(alloc: Global) -> Pendings
-    ensures { (q : ℕ) (b : Bool) (g : TheTag) (p : ℕ) → spec.pending_in result q b g p ≡ false }
+    ensures { spec.IsQuiet result }
 {
     Pendings {
         issuers: PeMask::none(),
@@ -74,7 +75,7 @@ pub fn slot(issuer: Pe, broadcast: bool) -> usize
 #[tactic(auto, using(crate::proofs::Places::growing))]
 fn add_place(waits: &mut Vec<Waits>, alloc: Global) -> Result<(), NoMemory>
     ensures len { OnOk result (length waits.new.items ≡ length waits.old.items + 1) }
-    ensures same { (n key : ℕ) → spec.wait_at waits.new.items n key ≡ spec.wait_at waits.old.items n key }
+    ensures same { spec.SamePlaces waits.old.items waits.new.items }
 {
     match waits.push(IndexMap::new(alloc)) {
         Ok(()) => Ok(()),
@@ -85,7 +86,7 @@ fn add_place(waits: &mut Vec<Waits>, alloc: Global) -> Result<(), NoMemory>
 /// Makes places up to this number.
 fn add_places(waits: &mut Vec<Waits>, alloc: Global, count: usize) -> Result<(), NoMemory>
     ensures len { OnOk result (count ≤ length waits.new.items) }
-    ensures same { (n key : ℕ) → spec.wait_at waits.new.items n key ≡ spec.wait_at waits.old.items n key }
+    ensures same { spec.SamePlaces waits.old.items waits.new.items }
 {
     while waits.len() < count {
         add_place(waits, alloc)?;
@@ -105,8 +106,7 @@ fn empty(map: &mut Waits)
 /// Empties the place of this number.
 fn forget(waits: &mut Vec<Waits>, place: usize)
     requires { place < length waits.old.items }
-    ensures waits { (n key : ℕ) → spec.wait_at waits.new.items n key
-        ≡ (if nat_eq n place then None else spec.wait_at waits.old.items n key) }
+    ensures waits { spec.EmptiesPlace place waits.old.items waits.new.items }
     ensures len { length waits.new.items ≡ length waits.old.items }
 {
     empty(&mut waits[place]);
@@ -114,8 +114,7 @@ fn forget(waits: &mut Vec<Waits>, place: usize)
 
 /// Makes the places of an issuer. `NoMemory` where there is none. What waits stays.
 pub fn open(pendings: &mut Pendings, alloc: Global, issuer: Pe) -> Result<(), NoMemory>
-    ensures same { (q : ℕ) (b : Bool) (g : TheTag) (p : ℕ) → spec.pending_in pendings.new q b g p
-        ≡ spec.pending_in pendings.old q b g p }
+    ensures same { spec.SamePendings pendings.old pendings.new }
     ensures known { OnOk result (pe_in pendings.new.issuers issuer ≡ true) }
     ensures room { OnOk result ((b : Bool) → spec.slot_of issuer b < length pendings.new.waits.items) }
 {
@@ -137,8 +136,7 @@ fn is_quiet(waits: &Vec<Waits>, place: usize) -> bool
 
 /// Forgets an issuer whose places are empty. What waits stays.
 pub fn close(pendings: &mut Pendings, issuer: Pe)
-    ensures { (q : ℕ) (b : Bool) (g : TheTag) (p : ℕ) → spec.pending_in pendings.new q b g p
-        ≡ spec.pending_in pendings.old q b g p }
+    ensures { spec.SamePendings pendings.old pendings.new }
 {
     if is_quiet(&pendings.waits, slot(issuer, false))
         && is_quiet(&pendings.waits, slot(issuer, true))
@@ -149,7 +147,7 @@ pub fn close(pendings: &mut Pendings, issuer: Pe)
 
 /// Takes the PE out of the entry under the key.
 fn narrow(map: &mut Waits, key: u32, pe: Pe)
-    ensures others { (k : ℕ) → nat_eq key k ≡ false → get nat_eq map.new k ≡ get nat_eq map.old k }
+    ensures others { OthersStay key map.old map.new }
     ensures here { (g : TheTag) (p : ℕ) → spec.wait_bit g p (get nat_eq map.new key)
         ≡ (spec.wait_bit g p (get nat_eq map.old key) && not (nat_eq p pe)) }
 {
@@ -167,23 +165,16 @@ fn clear_tag(map: &mut Waits, tag: Tag, pe: Pe)
     narrow(map, tag_key(tag), pe);
 }
 
-/// Takes the PE out of the entries of the tags that are readable.
-fn clear_tags(map: &mut Waits, readings: &[Reading], pe: Pe)
-    ensures { (g : TheTag) (p : ℕ) → spec.wait_in map.new g p
-        ≡ (spec.wait_in map.old g p && not (nat_eq p pe && spec_has_tag g readings.now)) }
-{
-    for reading in readings {
-        clear_tag(map, reading.tag, pe);
-    }
-}
-
-/// The same, without a look at the readable tags where the place is empty.
+/// Takes the PE out of the entries of the tags that are readable. Where the place is empty it looks at none.
 fn clear_place(map: &mut Waits, readings: &[Reading], pe: Pe)
     ensures { (g : TheTag) (p : ℕ) → spec.wait_in map.new g p
         ≡ (spec.wait_in map.old g p && not (nat_eq p pe && spec_has_tag g readings.now)) }
 {
-    if !map.is_empty() {
-        clear_tags(map, readings, pe);
+    if map.is_empty() {
+        return;
+    }
+    for reading in readings {
+        clear_tag(map, reading.tag, pe);
     }
 }
 
@@ -191,7 +182,8 @@ fn clear_place(map: &mut Waits, readings: &[Reading], pe: Pe)
 #[inline(never)]
 fn clear_places(waits: &mut [Waits], readings: &[Reading], pe: Pe)
     ensures { (n : ℕ) (g : TheTag) (p : ℕ) → spec.wait_bit g p (spec.wait_at waits.new n (key_of g))
-        ≡ (spec.wait_bit g p (spec.wait_at waits.old n (key_of g)) && not (nat_eq p pe && spec_has_tag g readings.now)) }
+        ≡ (spec.wait_bit g p (spec.wait_at waits.old n (key_of g))
+        && not (nat_eq p pe && spec_has_tag g readings.now)) }
 {
     for map in waits.iter_mut() {
         clear_place(map, readings, pe);
@@ -201,8 +193,7 @@ fn clear_places(waits: &mut [Waits], readings: &[Reading], pe: Pe)
 /// Takes the PE out of the entries of the tags that are readable.
 #[inline]
 pub fn clear(pendings: &mut Pendings, readings: &[Reading], pe: Pe)
-    ensures { (q : ℕ) (b : Bool) (g : TheTag) (p : ℕ) → spec.pending_in pendings.new q b g p
-        ≡ (spec.pending_in pendings.old q b g p && not (nat_eq p pe && spec_has_tag g readings.now)) }
+    ensures { spec.Clears pe readings.now pendings.old pendings.new }
 {
     if !pendings.issuers.is_empty() {
         clear_places(&mut pendings.waits, readings, pe);

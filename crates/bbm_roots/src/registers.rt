@@ -5,9 +5,10 @@
 ghost use Rattle.std.specs.Prelude.{◌≡◌, ℕ, ◌<◌, ◌≤◌, ◌+◌, ◌∷◌, ◌++◌, [], nat_eq, nat_le, length, vec_len, ◌&&◌, ◌||◌};
 ghost use Rattle.std.specs.Prelude.{IfOk, OnOk, if◌then◌else◌};
 ghost use Rattle.bbm_regimes.specs.PeMask.{pe_in};
-ghost use Rattle.bbm_roots.specs.Columns.{Column, loads_in};
+ghost use Rattle.bbm_roots.specs.Columns.{ChangesLoads, loads_in};
 ghost use Rattle.bbm_roots.specs.RootRegisters.{at_start, newest};
 
+use crate::count::PeCount;
 use crate::load::{self, Load, is_first};
 use crate::reading::{Readings, readings, reads_tag};
 use arrayvec::ArrayVec;
@@ -47,9 +48,7 @@ fn put_front(loads: &mut Loads, number: u16, root: Option<Page>)
 pub fn put(column: &mut Vec<Loads>, pe: Pe, load: Load)
     requires known { pe < length column.old.items }
     requires room { length (loads_in column.old.items pe) < 9 }
-    ensures loads { (p : ℕ) → loads_in column.new.items p
-        ≡ (if nat_eq p pe then load ∷ loads_in column.old.items p else loads_in column.old.items p) }
-    ensures pes { length column.new.items ≡ length column.old.items }
+    ensures { ChangesLoads (λ loads. load ∷ loads) pe column.old.items column.new.items }
 {
     put_front(&mut column[pe.get() as usize], load.number, load.root);
 }
@@ -57,9 +56,7 @@ pub fn put(column: &mut Vec<Loads>, pe: Pe, load: Load)
 /// Leaves the newest value alone.
 pub fn sync(column: &mut Vec<Loads>, pe: Pe)
     requires known { pe < length column.old.items }
-    ensures loads { (p : ℕ) → loads_in column.new.items p
-        ≡ (if nat_eq p pe then newest (loads_in column.old.items p) else loads_in column.old.items p) }
-    ensures pes { length column.new.items ≡ length column.old.items }
+    ensures { ChangesLoads newest pe column.old.items column.new.items }
 {
     column[pe.get() as usize].truncate(1);
 }
@@ -109,25 +106,23 @@ fn with_pe(pes: PeMask, pe: Pe, test: bool) -> PeMask
 /// the two registers of the world.
 #[derive(Drop)]
 pub struct Registers {
-    /// The number of PEs, 1 to 128.
-    pub pes: u8,
+    /// The number of PEs.
+    pub pes: PeCount,
     /// The world.
     pub world: World,
     /// TTBR0_EL2 or TTBR0_EL1, by the PE's number.
     pub first: Vec<Loads>,
     /// VTTBR_EL2 or TTBR1_EL1, by the PE's number.
     pub second: Vec<Loads>,
-    ghost some: { 1 ≤ pes },
-    ghost within: { pes ≤ 128 },
     ghost first_pes: { vec_len first ≡ pes },
     ghost second_pes: { vec_len second ≡ pes },
 }
 
 impl Registers {
     ghost use Rattle.std.specs.Prelude.{not, nat_lt};
-    ghost use Rattle.bbm_roots.specs.Readings.{readings_of, reads_tag as spec_reads_tag};
     ghost use Rattle.bbm_roots.specs.LeastOf.{IsLeast, UpTo};
-    ghost use Rattle.bbm_roots.specs.RootRegisters.{is_first as spec_is_first, names_in};
+    ghost use Rattle.bbm_roots.specs.LoadsOf.{loads_of, other_loads, readings_after, reads_at, uses_at};
+    ghost use Rattle.bbm_roots.specs.RootChanges.{PutsLoad};
 
     /// The registers of the header's PEs, each with the value 0.
     pub fn new(alloc: Global, header: &Header) -> Result<Registers, NoMemory>
@@ -139,7 +134,7 @@ impl Registers {
         let first = new_column(alloc, header.pes)?;
         let second = new_column(alloc, header.pes)?;
         Ok(Registers {
-            pes: header.pes,
+            pes: PeCount::new(header.pes),
             world: header.world,
             first,
             second,
@@ -149,8 +144,7 @@ impl Registers {
     /// Whether the PE wrote the register eight times without an ISB between.
     pub fn is_full(&self, pe: Pe, reg: Reg) -> bool
         requires { pe < self.now.pes }
-        ensures { result ≡ nat_le 9 (length (if spec_is_first reg then loads_in self.now.first.items pe
-            else loads_in self.now.second.items pe)) }
+        ensures { result ≡ nat_le 9 (length (loads_of self.now pe reg)) }
     {
         if is_first(reg) {
             is_full(&self.first, pe)
@@ -162,11 +156,10 @@ impl Registers {
     /// The PEs of the set at which the tag is readable for no root.
     pub fn unread(&self, reach: PeMask, tag: Tag) -> PeMask
         ensures { (p : ℕ) → pe_in result p ≡ (nat_lt p self.now.pes && (pe_in reach p
-            && not (spec_reads_tag self.now.world (loads_in self.now.first.items p)
-            (loads_in self.now.second.items p) tag))) }
+            && not (reads_at self.now p tag))) }
     {
         let mut unread = PeMask::none();
-        for number in 0..self.pes {
+        for number in 0..self.pes.get() {
             let pe = Pe::new(number).unwrap();
             unread = with_pe(unread, pe, reach.has(pe) && !self.reads(pe, tag));
         }
@@ -176,8 +169,7 @@ impl Registers {
     /// Whether the tag is readable at the PE for some root.
     fn reads(&self, pe: Pe, tag: Tag) -> bool
         requires { pe < self.now.pes }
-        ensures { result ≡ spec_reads_tag self.now.world (loads_in self.now.first.items pe)
-            (loads_in self.now.second.items pe) tag }
+        ensures { result ≡ reads_at self.now pe tag }
     {
         reads_tag(
             self.world,
@@ -193,51 +185,36 @@ impl Registers {
         alloc: Global,
         pe: Pe,
         reg: Reg,
-        load: Load,
+        load: &Load,
     ) -> Result<Readings, NoMemory>
         requires known { pe < self.now.pes }
-        ensures { IfOk result (λ readings. readings.items ≡ readings_of self.now.world
-            (if spec_is_first reg then load ∷ loads_in self.now.first.items pe else loads_in self.now.first.items pe)
-            (if spec_is_first reg then loads_in self.now.second.items pe
-            else load ∷ loads_in self.now.second.items pe)) }
+        ensures { IfOk result (λ readings. readings.items ≡ readings_after self.now pe reg load.now) }
     {
         let first = loads_at(&self.first, pe);
         let second = loads_at(&self.second, pe);
         if is_first(reg) {
-            readings(alloc, self.world, &[load], first, &[], second)
+            readings(alloc, self.world, &[*load], first, &[], second)
         } else {
-            readings(alloc, self.world, &[], first, &[load], second)
+            readings(alloc, self.world, &[], first, &[*load], second)
         }
     }
 
-    /// The tags that this value of the register makes readable at the PE, and those that the values of the other
-    /// register do. `NoMemory` where there is none.
-    pub fn readings_by(
-        &self,
-        alloc: Global,
-        pe: Pe,
-        reg: Reg,
-        load: Load,
-    ) -> Result<Readings, NoMemory>
-        requires known { pe < self.now.pes }
-        ensures { IfOk result (λ readings. readings.items ≡ readings_of self.now.world
-            (if spec_is_first reg then load ∷ [] else loads_in self.now.first.items pe)
-            (if spec_is_first reg then loads_in self.now.second.items pe else load ∷ [])) }
+    /// The values of the other register of the PE.
+    pub fn others(&self, pe: Pe, reg: Reg) -> &[Load]
+        requires { pe < self.now.pes }
+        ensures { result.now ≡ other_loads self.now pe reg }
     {
         if is_first(reg) {
-            let second = loads_at(&self.second, pe);
-            readings(alloc, self.world, &[load], &[], &[], second)
+            loads_at(&self.second, pe)
         } else {
-            let first = loads_at(&self.first, pe);
-            readings(alloc, self.world, &[], first, &[load], &[])
+            loads_at(&self.first, pe)
         }
     }
 
     /// Whether a readable value of the PE names the root with this first page.
     fn uses(&self, pe: Pe, page: Page) -> bool
         requires { pe < self.now.pes }
-        ensures { result ≡ (names_in (loads_in self.now.first.items pe) page
-            || names_in (loads_in self.now.second.items pe) page) }
+        ensures { result ≡ uses_at self.now pe page }
     {
         load::names_in(loads_at(&self.first, pe), page)
             || load::names_in(loads_at(&self.second, pe), page)
@@ -245,10 +222,9 @@ impl Registers {
 
     /// The first PE with a readable value that names the root with this first page. None where there is none.
     pub fn first_user(&self, page: Page) -> Option<Pe>
-        ensures { IsLeast UpTo (λ p. nat_lt p self.now.pes && (names_in (loads_in self.now.first.items p) page
-            || names_in (loads_in self.now.second.items p) page)) result }
+        ensures { IsLeast UpTo (λ p. nat_lt p self.now.pes && uses_at self.now p page) result }
     {
-        for number in 0..self.pes {
+        for number in 0..self.pes.get() {
             let pe = Pe::new(number).unwrap();
             if self.uses(pe, page) {
                 return Some(pe);
@@ -260,14 +236,8 @@ impl Registers {
     /// Puts the value in front of those of the register, which isn't full.
     pub fn put(&mut self, pe: Pe, reg: Reg, load: Load)
         requires known { pe < self.old.pes }
-        requires room { length (if spec_is_first reg then loads_in self.old.first.items pe
-            else loads_in self.old.second.items pe) < 9 }
-        ensures first { (p : ℕ) → loads_in self.new.first.items p ≡ (if nat_eq p pe && spec_is_first reg
-            then load ∷ loads_in self.old.first.items p else loads_in self.old.first.items p) }
-        ensures second { (p : ℕ) → loads_in self.new.second.items p ≡ (if nat_eq p pe && not (spec_is_first reg)
-            then load ∷ loads_in self.old.second.items p else loads_in self.old.second.items p) }
-        ensures pes { self.new.pes ≡ self.old.pes }
-        ensures world { self.new.world ≡ self.old.world }
+        requires room { length (loads_of self.old pe reg) < 9 }
+        ensures { PutsLoad pe reg load self.old self.new }
     {
         if is_first(reg) {
             put(&mut self.first, pe, load);

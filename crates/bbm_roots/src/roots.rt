@@ -3,12 +3,12 @@
 
 use crate::fault::{InUse, RootFault, Unsynced};
 use crate::hold::Holds;
-use crate::load::{Load, names_null};
+use crate::load::{Load, is_first, names_null};
 use crate::pending::Pendings;
 use crate::reading::{Reading, Readings};
 use crate::registers::Registers;
 use crate::root::{Declared, same_kind};
-use crate::{hold, issue, pending, registers, search, vmid};
+use crate::{anew, hold, issue, pending, registers, search, vmid};
 use bbm_barriers::Dsb;
 use bbm_events::Header;
 use bbm_regimes::{Kind, NoMemory, Page, Pe, Reg, Which, World, base_of, kind_of, tag_number};
@@ -32,34 +32,33 @@ pub struct Roots {
 }
 
 impl Roots {
-    ghost use Rattle.std.specs.Prelude.{◌≡◌, ◌≢◌, ◌||◌, ◌&&◌, not, true, false, Bool, if◌then◌else◌, Some, IfSome};
-    ghost use Rattle.std.specs.Prelude.{nat_eq, ℕ, ◌<◌, ◌≤◌, ◌↔◌, List, [], ◌∷◌, Err, None, length, IsOk, IfOk, OnOk};
-    ghost use Rattle.std.specs.Prelude.{OnErr, IfErr, is_some};
+    ghost use Rattle.std.specs.Prelude.{◌≡◌, ◌<◌, ℕ, List, [], ◌∷◌, Option, None, Some, true, false};
+    ghost use Rattle.std.specs.Prelude.{is_some, length, nat_eq};
+    ghost use Rattle.std.specs.Prelude.{IfOk, IfErr, IfSome, IsOk, OnOk, OnErr};
+    ghost use Rattle.indexmap.specs.IndexMap.{get};
     ghost use Rattle.bbm_regimes.specs.PeMask.{pe_in};
+    ghost use Rattle.bbm_regimes.specs.declared.regime.Tag.{Tag as TheTag};
+    ghost use Rattle.bbm_tlbi_scope.specs.TagSets.{HasTags};
+    ghost use Rattle.bbm_roots.specs.DeclaredRoots as spec;
+    ghost use Rattle.bbm_roots.specs.Holds.{has_entry, conflict_in, IsCalm, Marks};
+    ghost use Rattle.bbm_roots.specs.Listed.{count_in, nth_in};
+    ghost use Rattle.bbm_roots.specs.LoadsOf.{loads_of};
+    ghost use Rattle.bbm_roots.specs.Readings.{has_tag};
+    ghost use Rattle.bbm_roots.specs.Refusals.{missing_root, conflicts, JudgesWrite, JudgesVmid};
     ghost use Rattle.bbm_roots.specs.RootCalls as call;
     ghost use Rattle.bbm_roots.specs.RootCalls.{Call};
-    ghost use Rattle.bbm_roots.specs.DeclaredRoots as spec;
-    ghost use Rattle.bbm_roots.specs.Columns.{loads_in};
-    ghost use Rattle.bbm_roots.specs.Listed.{count_in, nth_in};
-    ghost use Rattle.bbm_roots.specs.declared.root.Declared.{Declared as TheRoot};
-    ghost use Rattle.bbm_tlbi_scope.specs.TagSets.{HasTags};
-    ghost use Rattle.bbm_roots.specs.Holds.{are_held, hold_in, has_entry, conflict_in, IsCalm};
-    ghost use Rattle.bbm_roots.specs.RootPendings.{pending_in, answered_in};
-    ghost use Rattle.bbm_barriers.specs.Options.{answers as dsb_answers};
-    ghost use Rattle.bbm_roots.specs.Readings.{has_reading, has_tag, readings_of};
-    ghost use Rattle.bbm_roots.specs.Refusals.{missing_root, conflicts, JudgesWrite, JudgesRetire, JudgesVmid};
-    ghost use Rattle.bbm_roots.specs.RootRegisters.{is_first as spec_is_first, is_of_world, register_values, root_of};
-    ghost use Rattle.bbm_roots.specs.RootRegisters.{second_reg, uses};
-    ghost use Rattle.bbm_regimes.specs.declared.regime.Tag.{Tag as TheTag};
+    ghost use Rattle.bbm_roots.specs.RootChanges.{Takes, Keeps, Tries, SameLog, Writes, Answers};
+    ghost use Rattle.bbm_roots.specs.RootJudgements.{JudgesRoom, JudgesRetirement, IsSettled};
+    ghost use Rattle.bbm_roots.specs.RootRegisters.{is_of_world, register_values, root_of, second_reg};
     ghost use Rattle.bbm_roots.specs.RootTags.{holds_tag, vmid_of};
     ghost use Rattle.bbm_roots.specs.RootsStand.{IsReady, Stands, IsPrepared, pes_of, world_of};
+    ghost use Rattle.bbm_roots.specs.declared.root.Declared.{Declared as TheRoot};
 
     /// The roots of a log with this header before any call. `NoMemory` where there is none.
-    pub fn new(alloc: Global, header: &Header) -> Result<Roots, RootFault>
+    pub fn new(alloc: Global, header: &Header) -> Result<Roots, NoMemory>
         ensures empty { IfOk result (λ roots. Stands roots []) }
         ensures pes { IfOk result (λ roots. pes_of roots ≡ header.now.pes) }
         ensures world { IfOk result (λ roots. world_of roots ≡ header.now.world) }
-        ensures fault { IfErr result (λ fault. fault ≡ RootFault.NoMemory) }
     {
         Ok(Roots {
             registers: Registers::new(alloc, header)?,
@@ -102,7 +101,7 @@ impl Roots {
     /// The same, looked up among the declared roots.
     #[inline(never)]
     fn declared_lock(&self, page: Page) -> Option<u16>
-        ensures { (calls : List Call) → Stands self.now calls → result ≡ spec.lock_of calls page }
+        ensures { result ≡ spec.lock_in (get nat_eq self.now.declared page) }
     {
         match self.declared.get(&page.get()) {
             Some(root) => root.lock,
@@ -130,16 +129,11 @@ impl Roots {
     }
 
     /// Makes room for one more root. `Limit(Roots)` exactly where 1,024 are declared; else `NoMemory` where there is
-    /// none. Nothing else changes. After Ok the next `declare` answers Ok, unless another call that takes memory comes
-    /// between.
+    /// none. Nothing else changes. After Ok the next `declare` answers Ok.
     pub fn prepare(&mut self, _alloc: Global) -> Result<(), RootFault>
         ensures prepared { OnOk result (IsPrepared self.new) }
-        ensures limit { (calls : List Call) → Stands self.old calls
-            → (result ≡ Err (RootFault.Limit Which.Roots)) ↔ (1024 ≤ length (spec.roots_of calls)) }
-        ensures fault { IfErr result (λ fault. fault ≢ RootFault.Limit Which.Roots → fault ≡ RootFault.NoMemory) }
-        ensures same { (calls : List Call) → Stands self.old calls → Stands self.new calls }
-        ensures pes { pes_of self.new ≡ pes_of self.old }
-        ensures world { world_of self.new ≡ world_of self.old }
+        ensures judged { JudgesRoom self.old result }
+        ensures kept { Keeps self.old self.new }
     {
         if self.declared.len() >= MAX_ROOTS {
             return Err(RootFault::Limit(Which::Roots));
@@ -164,12 +158,9 @@ impl Roots {
         ensures taken { OnOk result ((calls : List Call) → Stands self.old calls
             → Stands self.new (call.Declare kind page lock ∷ calls)) }
         ensures prepared { IsPrepared self.old → IsOk result }
-        ensures limit { (calls : List Call) → Stands self.old calls
-            → (result ≡ Err (RootFault.Limit Which.Roots)) ↔ (1024 ≤ length (spec.roots_of calls)) }
-        ensures fault { IfErr result (λ fault. fault ≢ RootFault.Limit Which.Roots → fault ≡ RootFault.NoMemory) }
-        ensures same { OnErr result ((calls : List Call) → Stands self.old calls → Stands self.new calls) }
-        ensures pes { pes_of self.new ≡ pes_of self.old }
-        ensures world { world_of self.new ≡ world_of self.old }
+        ensures judged { JudgesRoom self.old result }
+        ensures kept { OnErr result (Keeps self.old self.new) }
+        ensures log { SameLog self.old self.new }
     {
         if self.declared.len() >= MAX_ROOTS {
             return Err(RootFault::Limit(Which::Roots));
@@ -191,15 +182,8 @@ impl Roots {
     /// such PE, else with the first such tag in the order `El2`, VMIDs, ASIDs, `Ttbr1`. A refusal changes nothing. It
     /// takes no memory.
     pub fn retire(&mut self, page: Page) -> Result<(), RootFault>
-        ensures taken { OnOk result ((calls : List Call) → Stands self.old calls
-            → Stands self.new (call.Retire page ∷ calls)) }
-        ensures judged { (calls : List Call) → Stands self.old calls
-            → JudgesRetire page (spec.root_at calls page) (uses (world_of self.old) calls page)
-            (λ tag. holds_tag (world_of self.old) (pes_of self.old) calls tag page) result }
-        ensures same { OnErr result ((calls : List Call) → Stands self.old calls → Stands self.new calls) }
-        ensures prepared { IsPrepared self.old → IsPrepared self.new }
-        ensures pes { pes_of self.new ≡ pes_of self.old }
-        ensures world { world_of self.new ≡ world_of self.old }
+        ensures tried { Tries (call.Retire page) self.old self.new result }
+        ensures judged { JudgesRetirement self.old page result }
     {
         match self.may_retire(page) {
             Ok(()) => {
@@ -212,9 +196,7 @@ impl Roots {
 
     /// Judges the retirement of the declared root with this first page, as `retire` does. Nothing changes.
     pub fn may_retire(&self, page: Page) -> Result<(), RootFault>
-        ensures { (calls : List Call) → Stands self.now calls
-            → JudgesRetire page (spec.root_at calls page) (uses (world_of self.now) calls page)
-            (λ tag. holds_tag (world_of self.now) (pes_of self.now) calls tag page) result }
+        ensures { JudgesRetirement self.now page result }
     {
         if !self.is_declared(page) {
             return Err(RootFault::NoRoot(page.get()));
@@ -253,10 +235,7 @@ impl Roots {
     /// An ISB of the PE: its newest register values alone stay in use.
     pub fn isb(&mut self, pe: Pe)
         requires { pe < pes_of self.old }
-        ensures taken { (calls : List Call) → Stands self.old calls → Stands self.new (call.Isb pe ∷ calls) }
-        ensures prepared { IsPrepared self.old → IsPrepared self.new }
-        ensures pes { pes_of self.new ≡ pes_of self.old }
-        ensures world { world_of self.new ≡ world_of self.old }
+        ensures { Takes (call.Isb pe) self.old self.new }
     {
         registers::sync(&mut self.registers.first, pe);
         registers::sync(&mut self.registers.second, pe);
@@ -266,11 +245,7 @@ impl Roots {
     #[inline]
     pub fn complete(&mut self, issuer: Pe, dsb: Dsb)
         requires { issuer < pes_of self.old }
-        ensures taken { (calls : List Call) → Stands self.old calls
-            → Stands self.new (call.Complete issuer dsb ∷ calls) }
-        ensures prepared { IsPrepared self.old → IsPrepared self.new }
-        ensures pes { pes_of self.new ≡ pes_of self.old }
-        ensures world { world_of self.new ≡ world_of self.old }
+        ensures { Takes (call.Complete issuer dsb) self.old self.new }
     {
         if self.pendings.issuers.has(issuer) {
             self.answer(issuer, dsb);
@@ -281,13 +256,7 @@ impl Roots {
     #[inline(never)]
     fn answer(&mut self, issuer: Pe, dsb: Dsb)
         requires { pe_in self.old.pendings.issuers issuer ≡ true }
-        ensures holds { (g : TheTag) (r p : ℕ) → hold_in self.new.holds g r p
-            ≡ (hold_in self.old.holds g r p && not (answered_in self.old.pendings issuer dsb g p)) }
-        ensures pendings { (q : ℕ) (b : Bool) (g : TheTag) (p : ℕ) → pending_in self.new.pendings q b g p
-            ≡ (pending_in self.old.pendings q b g p && not (nat_eq q issuer && dsb_answers dsb b)) }
-        ensures registers { self.new.registers ≡ self.old.registers }
-        ensures declared { self.new.declared ≡ self.old.declared }
-        ensures names_locks { self.new.names_locks ≡ self.old.names_locks }
+        ensures { Answers issuer dsb self.old self.new }
     {
         hold::release(&mut self.holds, &mut self.pendings.waits, issuer, dsb);
         pending::close(&mut self.pendings, issuer);
@@ -301,59 +270,42 @@ impl Roots {
         issuer: Pe,
         scope: Scope,
         vmid: Option<u16>,
-    ) -> Result<(), RootFault>
+    ) -> Result<(), NoMemory>
         requires { issuer < pes_of self.old }
-        ensures taken { OnOk result ((calls : List Call) → Stands self.old calls
-            → Stands self.new (call.Issue issuer scope vmid ∷ calls)) }
-        ensures fault { IfErr result (λ fault. fault ≡ RootFault.NoMemory) }
-        ensures same { OnErr result ((calls : List Call) → Stands self.old calls → Stands self.new calls) }
-        ensures prepared { IsPrepared self.old → IsPrepared self.new }
-        ensures pes { pes_of self.new ≡ pes_of self.old }
-        ensures world { world_of self.new ≡ world_of self.old }
+        ensures { Tries (call.Issue issuer scope vmid) self.old self.new result }
     {
-        match self.prepare_issue(alloc, issuer, &scope, vmid) {
-            Ok(()) => {
-                self.issue_ready(issuer, &scope, vmid);
-                Ok(())
-            }
-            Err(_) => Err(RootFault::NoMemory),
-        }
+        let takes = self.prepare_issue(alloc, issuer, &scope, vmid)?;
+        self.issue_ready(issuer, &scope, vmid, takes);
+        Ok(())
     }
 
     /// Makes room for a TLBI of the PE, of this scope and under this VMID, 0 to 65535. `NoMemory` where there is none.
-    /// They stand for what they stood for. After Ok `issue_ready` takes that TLBI without memory.
+    /// They stand for what they stood for. After Ok, which tells whether the TLBI may take a tag that is held,
+    /// `issue_ready` takes that TLBI without memory.
     pub fn prepare_issue(
         &mut self,
         alloc: Global,
         issuer: Pe,
         scope: &Scope,
         vmid: Option<u16>,
-    ) -> Result<(), RootFault>
-        ensures ready { OnOk result (IsReady self.new issuer scope.now vmid) }
-        ensures fault { IfErr result (λ fault. fault ≡ RootFault.NoMemory) }
-        ensures same { (calls : List Call) → Stands self.old calls → Stands self.new calls }
-        ensures prepared { IsPrepared self.old → IsPrepared self.new }
-        ensures pes { pes_of self.new ≡ pes_of self.old }
-        ensures world { world_of self.new ≡ world_of self.old }
+    ) -> Result<bool, NoMemory>
+        ensures ready { IfOk result (λ takes. IsReady self.new issuer scope.now vmid takes) }
+        ensures kept { Keeps self.old self.new }
     {
         if !issue::takes_tags(scope) {
-            return Ok(());
+            return Ok(false);
         }
-        issue::make_room(alloc, &mut self.pendings, &self.holds, issuer, scope, vmid)?;
-        Ok(())
+        issue::make_room(alloc, &mut self.pendings, &self.holds, issuer, scope, vmid)
     }
 
-    /// A TLBI of the PE, of this scope and under this VMID, 0 to 65535, for which there is room. It takes no memory.
-    pub fn issue_ready(&mut self, issuer: Pe, scope: &Scope, vmid: Option<u16>)
+    /// A TLBI of the PE, of this scope and under this VMID, 0 to 65535, for which there is room, and which may take a
+    /// tag that is held or doesn't. It takes no memory.
+    pub fn issue_ready(&mut self, issuer: Pe, scope: &Scope, vmid: Option<u16>, takes: bool)
         requires pe { issuer < pes_of self.old }
-        requires ready { IsReady self.old issuer scope.now vmid }
-        ensures taken { (calls : List Call) → Stands self.old calls
-            → Stands self.new (call.Issue issuer scope.now vmid ∷ calls) }
-        ensures prepared { IsPrepared self.old → IsPrepared self.new }
-        ensures pes { pes_of self.new ≡ pes_of self.old }
-        ensures world { world_of self.new ≡ world_of self.old }
+        requires ready { IsReady self.old issuer scope.now vmid takes }
+        ensures { Takes (call.Issue issuer scope.now vmid) self.old self.new }
     {
-        if !issue::takes_tags(scope) {
+        if !takes {
             return;
         }
         issue::note(
@@ -407,81 +359,30 @@ impl Roots {
     }
 
     /// Takes the value of a register that names what was judged, under the readable tags that it gives.
-    fn take(&mut self, pe: Pe, reg: Reg, number: u16, root: Option<Page>, seen: &[Reading])
+    fn take(&mut self, pe: Pe, reg: Reg, load: &Load, seen: &[Reading])
         requires known { pe < pes_of self.old }
-        requires room { length (if spec_is_first reg then loads_in self.old.registers.first.items pe
-            else loads_in self.old.registers.second.items pe) < 9 }
+        requires room { length (loads_of self.old.registers pe reg) < 9 }
         requires entries { (g : TheTag) → has_tag g seen.now ≡ true → has_entry self.old.holds g ≡ true }
-        ensures first { (p : ℕ) → loads_in self.new.registers.first.items p
-            ≡ (if nat_eq p pe && spec_is_first reg
-            then record { number = number; root = root } ∷ loads_in self.old.registers.first.items p
-            else loads_in self.old.registers.first.items p) }
-        ensures second { (p : ℕ) → loads_in self.new.registers.second.items p
-            ≡ (if nat_eq p pe && not (spec_is_first reg)
-            then record { number = number; root = root } ∷ loads_in self.old.registers.second.items p
-            else loads_in self.old.registers.second.items p) }
-        ensures holds { IsCalm self.old.holds seen.now → (g : TheTag) (r p : ℕ) → hold_in self.new.holds g r p
-            ≡ (hold_in self.old.holds g r p || (nat_eq p pe && has_reading g r seen.now)) }
-        ensures pendings { (q : ℕ) (b : Bool) (g : TheTag) (p : ℕ) → pending_in self.new.pendings q b g p
-            ≡ (pending_in self.old.pendings q b g p && not (nat_eq p pe && has_tag g seen.now)) }
-        ensures declared { self.new.declared ≡ self.old.declared }
-        ensures names_locks { self.new.names_locks ≡ self.old.names_locks }
-        ensures pes { pes_of self.new ≡ pes_of self.old }
-        ensures world { world_of self.new ≡ world_of self.old }
+        ensures written { Writes pe reg load.now seen.now self.old self.new }
+        ensures marked { IsCalm self.old.holds seen.now → Marks self.old.holds self.new.holds pe seen.now }
     {
         hold::mark(&mut self.holds, seen, pe);
         pending::clear(&mut self.pendings, seen, pe);
-        self.put(pe, reg, number, root);
+        self.registers.put(pe, reg, *load);
     }
 
-    /// Puts the value in front of those of the register. Nothing else changes.
-    fn put(&mut self, pe: Pe, reg: Reg, number: u16, root: Option<Page>)
-        requires known { pe < pes_of self.old }
-        requires room { length (if spec_is_first reg then loads_in self.old.registers.first.items pe
-            else loads_in self.old.registers.second.items pe) < 9 }
-        ensures first { (p : ℕ) → loads_in self.new.registers.first.items p
-            ≡ (if nat_eq p pe && spec_is_first reg
-            then record { number = number; root = root } ∷ loads_in self.old.registers.first.items p
-            else loads_in self.old.registers.first.items p) }
-        ensures second { (p : ℕ) → loads_in self.new.registers.second.items p
-            ≡ (if nat_eq p pe && not (spec_is_first reg)
-            then record { number = number; root = root } ∷ loads_in self.old.registers.second.items p
-            else loads_in self.old.registers.second.items p) }
-        ensures holds { self.new.holds ≡ self.old.holds }
-        ensures pendings { self.new.pendings ≡ self.old.pendings }
-        ensures declared { self.new.declared ≡ self.old.declared }
-        ensures names_locks { self.new.names_locks ≡ self.old.names_locks }
-        ensures pes { pes_of self.new ≡ pes_of self.old }
-        ensures world { world_of self.new ≡ world_of self.old }
-    {
-        self.registers.put(pe, reg, Load { number, root });
-    }
-
-    /// Whether a write of a value of this VMID or ASID and root is known to change the register alone: the register
-    /// isn't full, no TLBI waits, and the PE holds each tag, for its root, that the value makes readable.
-    fn is_settled(&self, alloc: Global, pe: Pe, reg: Reg, number: u16, root: &Option<Page>) -> bool
+    /// Whether a write of this value is known to change the register alone: the register isn't full, no TLBI waits, and
+    /// the PE holds each tag, for its root, that the value makes readable anew.
+    fn is_settled(&self, pe: Pe, reg: Reg, load: &Load) -> bool
         requires { pe < pes_of self.now }
-        ensures room { result ≡ true → length (if spec_is_first reg then loads_in self.now.registers.first.items pe
-            else loads_in self.now.registers.second.items pe) < 9 }
-        ensures quiet { result ≡ true → (q : ℕ) (b : Bool) (g : TheTag) (p : ℕ)
-            → pending_in self.now.pendings q b g p ≡ false }
-        ensures held { result ≡ true → are_held self.now.holds pe (readings_of (world_of self.now)
-            (if spec_is_first reg then record { number = number; root = root.now } ∷ []
-            else loads_in self.now.registers.first.items pe)
-            (if spec_is_first reg then loads_in self.now.registers.second.items pe
-            else record { number = number; root = root.now } ∷ [])) ≡ true }
+        ensures { result ≡ true → IsSettled pe reg load.now self.now }
     {
         if !self.pendings.issuers.is_empty() || self.registers.is_full(pe, reg) {
             return false;
         }
-        let load = Load {
-            number,
-            root: *root,
-        };
-        match self.registers.readings_by(alloc, pe, reg, load) {
-            Ok(seen) => hold::are_held(&self.holds, &seen, pe),
-            Err(_) => false,
-        }
+        let world = self.registers.world;
+        let other = self.registers.others(pe, reg);
+        anew::holds_new(&self.holds, world, is_first(reg), load, other, pe)
     }
 
     /// The PE writes the register, which is one of the world. `null` tells whether the base of the value is a null
@@ -501,66 +402,29 @@ impl Roots {
     ) -> Result<(), RootFault>
         requires known { pe < pes_of self.old }
         requires of_world { is_of_world (world_of self.old) reg ≡ true }
-        ensures taken { OnOk result ((calls : List Call) → Stands self.old calls
-            → Stands self.new (call.WriteReg pe reg value null ∷ calls)) }
+        ensures tried { Tries (call.WriteReg pe reg value null) self.old self.new result }
         ensures judged { (calls : List Call) → Stands self.old calls
             → JudgesWrite (missing_root calls reg value null)
             (conflicts (world_of self.old) (pes_of self.old) (call.WriteReg pe reg value null ∷ calls) pe)
             (length (register_values calls pe reg)) result }
-        ensures same { OnErr result ((calls : List Call) → Stands self.old calls → Stands self.new calls) }
-        ensures prepared { IsPrepared self.old → IsPrepared self.new }
-        ensures pes { pes_of self.new ≡ pes_of self.old }
-        ensures world { world_of self.new ≡ world_of self.old }
     {
         let root = self.named_root(reg, value, null)?;
         let number = tag_number(value);
-        if self.is_settled(alloc, pe, reg, number, &root) {
-            self.put(pe, reg, number, root);
+        let load = Load { number, root };
+        if self.is_settled(pe, reg, &load) {
+            self.registers.put(pe, reg, load);
             return Ok(());
         }
-        let seen = self.readings_after(alloc, pe, reg, number, &root)?;
-        self.judge(pe, reg, &seen)?;
-        self.make_room(&seen)?;
-        self.take(pe, reg, number, root, &seen);
-        Ok(())
-    }
-
-    /// The readable tags of the PE after the write.
-    fn readings_after(
-        &self,
-        alloc: Global,
-        pe: Pe,
-        reg: Reg,
-        number: u16,
-        root: &Option<Page>,
-    ) -> Result<Readings, RootFault>
-        requires known { pe < pes_of self.now }
-        ensures seen { IfOk result (λ seen. seen.items ≡ readings_of (world_of self.now)
-            (if spec_is_first reg then record { number = number; root = root.now }
-            ∷ loads_in self.now.registers.first.items pe
-            else loads_in self.now.registers.first.items pe)
-            (if spec_is_first reg then loads_in self.now.registers.second.items pe
-            else record { number = number; root = root.now } ∷ loads_in self.now.registers.second.items pe)) }
-        ensures fault { IfErr result (λ fault. fault ≡ RootFault.NoMemory) }
-    {
-        let load = Load {
-            number,
-            root: *root,
+        let seen = match self.registers.readings_with(alloc, pe, reg, &load) {
+            Ok(seen) => seen,
+            Err(_) => return Err(RootFault::NoMemory),
         };
-        Ok(self.registers.readings_with(alloc, pe, reg, load)?)
-    }
-
-    /// Makes an entry for each of these readable tags. Nobody holds more or less.
-    fn make_room(&mut self, seen: &[Reading]) -> Result<(), RootFault>
-        ensures entries { OnOk result ((g : TheTag) → has_tag g seen.now ≡ true → has_entry self.new.holds g ≡ true) }
-        ensures fault { IfErr result (λ fault. fault ≡ RootFault.NoMemory) }
-        ensures holds { (g : TheTag) (r p : ℕ) → hold_in self.new.holds g r p ≡ hold_in self.old.holds g r p }
-        ensures registers { self.new.registers ≡ self.old.registers }
-        ensures declared { self.new.declared ≡ self.old.declared }
-        ensures pendings { self.new.pendings ≡ self.old.pendings }
-        ensures names_locks { self.new.names_locks ≡ self.old.names_locks }
-    {
-        hold::make_room(&mut self.holds, seen)?;
+        self.judge(pe, reg, &seen)?;
+        match hold::make_room(&mut self.holds, &seen) {
+            Ok(()) => {}
+            Err(_) => return Err(RootFault::NoMemory),
+        }
+        self.take(pe, reg, &load, &seen);
         Ok(())
     }
 
@@ -568,8 +432,7 @@ impl Roots {
     fn judge(&self, pe: Pe, reg: Reg, seen: &[Reading]) -> Result<(), RootFault>
         requires { pe < pes_of self.now }
         ensures { JudgesWrite None (conflict_in self.now.holds (pes_of self.now) seen.now)
-            (length (if spec_is_first reg then loads_in self.now.registers.first.items pe
-            else loads_in self.now.registers.second.items pe)) result }
+            (length (loads_of self.now.registers pe reg)) result }
     {
         match search::least_conflict(&self.holds, self.registers.pes, seen) {
             Some(held) => Err(RootFault::TagConflict(held.tag, held.root)),

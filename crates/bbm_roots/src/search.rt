@@ -1,6 +1,6 @@
 //! Searches among the entries of the roots that hold tags.
 
-ghost use Rattle.std.specs.Prelude.{◌≡◌, ℕ, ◌≤◌, Bool, ◌&&◌, ◌||◌, nat_eq, true, false, Option, Some, None, IfSome};
+ghost use Rattle.std.specs.Prelude.{◌≡◌, ℕ, Bool, ◌&&◌, ◌||◌, nat_eq, true, false, Option, Some, None, IfSome};
 ghost use Rattle.bbm_regimes.specs.declared.regime.Tag.{Tag as TheTag};
 ghost use Rattle.bbm_tlbi_scope.specs.TagSets.{HasTags};
 ghost use Rattle.bbm_roots.specs.declared.reading.Reading.{Reading as TheReading};
@@ -8,8 +8,9 @@ ghost use Rattle.bbm_roots.specs.Holds as spec;
 ghost use Rattle.bbm_roots.specs.Readings.{is_other, is_reading, has_other as spec_has_other};
 ghost use Rattle.bbm_roots.specs.Readings.{same_tag as spec_same_tag};
 ghost use Rattle.bbm_roots.specs.RootRegisters.{is_that};
-ghost use Rattle.bbm_roots.specs.LeastOf.{IsLeast, ReadingUpTo, TagUpTo};
+ghost use Rattle.bbm_roots.specs.LeastOf.{IsLeast, IsLeastWith, ReadingUpTo, TagUpTo};
 
+use crate::count::PeCount;
 use crate::hold::{Held, Holds, some_pe, tag_key};
 use crate::reading::{Reading, has_other, tag_rank};
 use bbm_regimes::{Page, Tag, same_tag};
@@ -31,8 +32,7 @@ fn is_up_to(tag: Tag, root: Page, other: Tag, page: Page) -> bool
 
 /// The least, where the tag and the root are one more candidate.
 fn lesser(least: Option<Reading>, tag: Tag, root: Page) -> Option<Reading>
-    ensures { (test : TheReading → Bool) → IsLeast ReadingUpTo test least
-        → IsLeast ReadingUpTo (λ x. test x || (spec_same_tag tag x.tag && nat_eq root x.root)) result }
+    ensures { IsLeastWith ReadingUpTo (λ x. spec_same_tag tag x.tag && nat_eq root x.root) least result }
 {
     match least {
         Some(best) => {
@@ -47,9 +47,7 @@ fn lesser(least: Option<Reading>, tag: Tag, root: Page) -> Option<Reading>
 }
 
 /// The root that holds the tag at one of the first n PEs.
-fn holder_of(holds: &Holds, n: u8, tag: Tag) -> Option<Page>
-    requires some { 1 ≤ n }
-    requires within { n ≤ 128 }
+fn holder_of(holds: &Holds, n: PeCount, tag: Tag) -> Option<Page>
     ensures { (r : ℕ) → spec.tag_in holds.now n tag r ≡ is_that result r }
 {
     match holds.get(&tag_key(tag)) {
@@ -65,11 +63,14 @@ fn holder_of(holds: &Holds, n: u8, tag: Tag) -> Option<Page>
 }
 
 /// The least, where the tag is one more candidate for another root that holds it.
-fn with_holder(least: Option<Reading>, holds: &Holds, n: u8, reading: &Reading) -> Option<Reading>
-    requires some { 1 ≤ n }
-    requires within { n ≤ 128 }
-    ensures { (test : TheReading → Bool) → IsLeast ReadingUpTo test least → IsLeast ReadingUpTo
-        (λ x. test x || (is_other x.tag x.root reading.now && spec.tag_in holds.now n x.tag x.root)) result }
+fn with_holder(
+    least: Option<Reading>,
+    holds: &Holds,
+    n: PeCount,
+    reading: &Reading,
+) -> Option<Reading>
+    ensures { IsLeastWith ReadingUpTo (λ x. is_other x.tag x.root reading.now && spec.tag_in holds.now n x.tag x.root)
+        least result }
 {
     match holder_of(holds, n, reading.tag) {
         Some(root) => {
@@ -85,8 +86,8 @@ fn with_holder(least: Option<Reading>, holds: &Holds, n: u8, reading: &Reading) 
 
 /// The least, where the reading is one more candidate, if its tag is about to be readable for another root.
 fn with_reading(least: Option<Reading>, seen: &[Reading], reading: &Reading) -> Option<Reading>
-    ensures { (test : TheReading → Bool) → IsLeast ReadingUpTo test least → IsLeast ReadingUpTo
-        (λ x. test x || (is_reading x.tag x.root reading.now && spec_has_other x.tag x.root seen.now)) result }
+    ensures { IsLeastWith ReadingUpTo (λ x. is_reading x.tag x.root reading.now && spec_has_other x.tag x.root seen.now)
+        least result }
 {
     if has_other(seen, reading.tag, reading.root) {
         lesser(least, reading.tag, reading.root)
@@ -99,22 +100,17 @@ fn with_reading(least: Option<Reading>, seen: &[Reading], reading: &Reading) -> 
 fn with_clash(
     least: Option<Reading>,
     holds: &Holds,
-    n: u8,
+    n: PeCount,
     seen: &[Reading],
     reading: &Reading,
 ) -> Option<Reading>
-    requires some { 1 ≤ n }
-    requires within { n ≤ 128 }
-    ensures { (test : TheReading → Bool) → IsLeast ReadingUpTo test least → IsLeast ReadingUpTo
-        (λ x. test x || spec.is_clash holds.now n seen.now x reading.now) result }
+    ensures { IsLeastWith ReadingUpTo (λ x. spec.is_clash holds.now n seen.now x reading.now) least result }
 {
     with_holder(with_reading(least, seen, reading), holds, n, reading)
 }
 
 /// The least root and tag in conflict: by the root's first page, then by the tag. None where there is none.
-pub fn least_conflict(holds: &Holds, n: u8, seen: &[Reading]) -> Option<Reading>
-    requires some { 1 ≤ n }
-    requires within { n ≤ 128 }
+pub fn least_conflict(holds: &Holds, n: PeCount, seen: &[Reading]) -> Option<Reading>
     ensures { IsLeast ReadingUpTo (spec.conflict_in holds.now n seen.now) result }
 {
     let mut least = None;
@@ -126,9 +122,7 @@ pub fn least_conflict(holds: &Holds, n: u8, seen: &[Reading]) -> Option<Reading>
 
 /// Whether the root holds the tag of the entry under this key at one of the first n PEs. Under the key of another tag
 /// it says nothing.
-fn is_held_under(key: u32, held: &Held, n: u8, root: Page) -> bool
-    requires some { 1 ≤ n }
-    requires within { n ≤ 128 }
+fn is_held_under(key: u32, held: &Held, n: PeCount, root: Page) -> bool
     ensures held { (g : TheTag) → spec.is_held_under n g root key held.now ≡ (spec.is_hold g root held.now && result) }
     ensures root { result ≡ true → held.now.root ≡ root }
 {
@@ -136,11 +130,8 @@ fn is_held_under(key: u32, held: &Held, n: u8, root: Page) -> bool
 }
 
 /// The first tag, where that of the entry under this key is one more candidate.
-fn first_of(first: Option<Tag>, key: u32, held: &Held, n: u8, root: Page) -> Option<Tag>
-    requires some { 1 ≤ n }
-    requires within { n ≤ 128 }
-    ensures { (test : TheTag → Bool) → IsLeast TagUpTo test first
-        → IsLeast TagUpTo (λ g. test g || spec.is_held_under n g root key held.now) result }
+fn first_of(first: Option<Tag>, key: u32, held: &Held, n: PeCount, root: Page) -> Option<Tag>
+    ensures { IsLeastWith TagUpTo (λ g. spec.is_held_under n g root key held.now) first result }
 {
     if !is_held_under(key, held, n, root) {
         return first;
@@ -159,9 +150,7 @@ fn first_of(first: Option<Tag>, key: u32, held: &Held, n: u8, root: Page) -> Opt
 
 /// The first tag that the root holds at one of the first n PEs, in the order `El2`, VMIDs, ASIDs, `Ttbr1`. None where
 /// it holds none.
-pub fn first_tag(holds: &Holds, n: u8, root: Page) -> Option<Tag>
-    requires some { 1 ≤ n }
-    requires within { n ≤ 128 }
+pub fn first_tag(holds: &Holds, n: PeCount, root: Page) -> Option<Tag>
     ensures { IsLeast TagUpTo (λ g. spec.tag_in holds.now n g root) result }
 {
     let mut first = None;
@@ -175,9 +164,7 @@ pub fn first_tag(holds: &Holds, n: u8, root: Page) -> Option<Tag>
 
 /// The set with the tag of the entry under this key, where the root holds it at one of the first n PEs; None where it
 /// doesn't.
-fn with_entry(set: TagSet, key: u32, held: &Held, n: u8, root: Page) -> Option<TagSet>
-    requires some { 1 ≤ n }
-    requires within { n ≤ 128 }
+fn with_entry(set: TagSet, key: u32, held: &Held, n: PeCount, root: Page) -> Option<TagSet>
     ensures added { IfSome result (λ more. (test : TheTag → Bool) → HasTags test set
         → HasTags (λ g. test g || spec.is_held_under n g root key held.now) more) }
     ensures none { result ≡ None → (g : TheTag) → spec.is_held_under n g root key held.now ≡ false }
@@ -197,9 +184,7 @@ fn is_many(set: TagSet) -> bool
 }
 
 /// The tags that the root holds at one of the first n PEs. It stops where it has found two.
-pub fn tags_in(holds: &Holds, n: u8, root: Page) -> TagSet
-    requires some { 1 ≤ n }
-    requires within { n ≤ 128 }
+pub fn tags_in(holds: &Holds, n: PeCount, root: Page) -> TagSet
     ensures { HasTags (λ g. spec.tag_in holds.now n g root) result }
 {
     let mut tags = TagSet::None;

@@ -1,7 +1,7 @@
 //! The VMID that a PE uses.
 
 ghost use Rattle.std.specs.Prelude.{◌≡◌, ℕ, ◌<◌, Bool, ◌&&◌, ◌||◌, not, nat_eq, length, []};
-ghost use Rattle.bbm_roots.specs.LeastOf.{IsLeast, UpTo};
+ghost use Rattle.bbm_roots.specs.LeastOf.{IsLeast, IsLeastWith, UpTo};
 ghost use Rattle.bbm_roots.specs.Refusals.{other_number, JudgesVmid};
 ghost use Rattle.bbm_roots.specs.RootRegisters.{is_that};
 ghost use Rattle.bbm_roots.specs.RootTags as spec;
@@ -21,8 +21,7 @@ fn is_number(number: Option<u16>, other: u16) -> bool
 
 /// The least, where the number is one more candidate unless it is the one left out.
 fn lesser(least: Option<u16>, number: u16, than: Option<u16>) -> Option<u16>
-    ensures { (test : ℕ → Bool) → IsLeast UpTo test least
-        → IsLeast UpTo (λ n. test n || (nat_eq number n && not (is_that than n))) result }
+    ensures { IsLeastWith UpTo (λ n. nat_eq number n && not (is_that than n)) least result }
 {
     if is_number(than, number) {
         return least;

@@ -2,7 +2,7 @@
 
 use bbm_barriers::{Domain, Dsb, Types};
 use bbm_events::Header;
-use bbm_regimes::{HypWorld, Kind, Page, Pe, Tag, World};
+use bbm_regimes::{HypWorld, Kind, NoMemory, Page, Pe, Tag, World};
 use bbm_roots::{Roots, first_root};
 use bbm_tlbi_scope::{TagSet, TlbiOp, decode};
 use std::test::Fail;
@@ -28,7 +28,7 @@ fn the_first_root_holds_its_tag(rt: HostRuntime) -> Result<(), Fail> {
 }
 
 #[test]
-fn a_tlbi_is_issued_and_answered(rt: HostRuntime) -> Result<(), Fail> {
+fn a_tlbi_is_issued_and_answered(rt: HostRuntime) -> Result<(), NoMemory> {
     let mut roots = Roots::new(rt.alloc(), &HYP)?;
     let pe = Pe::new(1).unwrap();
     if let Ok(scope) = decode(TlbiOp::Alle2is, 0) {

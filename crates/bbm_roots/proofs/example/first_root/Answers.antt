@@ -20,4 +20,4 @@ returns c =
     let base : c.get.result ≡ c.args.page = c.get.ensures.value in
     subst (λ (q : ℕ). Stands c.write_reg.new.self (call.WriteReg q Ttbr0El2 c.args.page false ∷ declared)) pe
     (subst (λ (v : ℕ). Stands c.write_reg.new.self (call.WriteReg c.unwrap-pe.result Ttbr0El2 v false ∷ declared)) base
-    (c.in_ok-write_reg.ensures.taken declared (c.in_ok-declare.ensures.taken none c.in_ok-roots.ensures.empty)))
+    (c.in_ok-write_reg.ensures.tried.taken.taken declared (c.in_ok-declare.ensures.taken none c.in_ok-roots.ensures.empty)))

@@ -1,16 +1,15 @@
-use Rattle.std.proofs.Common.{◌≡◌, ◌∙◌, ◌&&◌, ◌||◌, not, ap, refl, Bool, true, false, cond, Option, None, nat_eq, ℕ}
+use Rattle.std.proofs.Common.{◌≡◌, ◌∙◌, ◌&&◌, ◌||◌, not, ap, refl, Bool, true, false, cond, Option, None, nat_eq}
+use Rattle.bbm_lemmas.proofs.Tautologies.{proved}
+use Rattle.bbm_lemmas.proofs.Tautologies.Claim.{Is}
 use Rattle.bbm_barriers.specs.Options.{answers}
 use Rattle.bbm_barriers.specs.declared.Dsb.{Dsb}
 use Rattle.bbm_roots.specs.Holds.{hold_in, tag_key}
 use Rattle.bbm_roots.specs.RootPendings.{same_flag, slot_of, wait_at, wait_bit}
 use Rattle.bbm_roots.specs.declared.pending.Waiting.{Waiting}
 use Rattle.bbm_roots.proofs.hold.release.Goals as goal
-use mathlib.Core.Bool.{and-false}
 
 cleared : (h a b : Bool) → ((h && not a) && not b) ≡ (h && not (a || b))
-cleared true true b = refl
-cleared true false b = refl
-cleared false a b = refl
+cleared = proved 3 (λ h a b. Is ((h && not a) && not b) (h && not (a || b))) refl
 
 both : (dsb : Dsb) (k b : Bool) (o : Option Waiting) →
     cond ((k && same_flag false b) && answers dsb false) None (cond ((k && same_flag true b)

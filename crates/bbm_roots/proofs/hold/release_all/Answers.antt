@@ -1,4 +1,4 @@
-use Rattle.std.proofs.Common.{◌≡◌, ◌∙◌, ◌&&◌, not, arith, ap, sym, Bool, Option, ℕ, HashMap}
+use Rattle.std.proofs.Common.{◌∙◌, ◌&&◌, not, arith, ap, sym, Bool, Option, ℕ, HashMap}
 use Rattle.std.proofs.Common.{BuildHasherDefault, FoldHasher}
 use Rattle.std.proofs.lemmas.Bool.{false≢true}
 use Rattle.bbm_roots.specs.Holds.{hold_in, tag_key}

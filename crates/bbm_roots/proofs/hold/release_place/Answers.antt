@@ -1,4 +1,4 @@
-use Rattle.std.proofs.Common.{◌≡◌, ◌<◌, ◌≤◌, ◌∙◌, ◌&&◌, not, arith, ap, sym, length, Option}
+use Rattle.std.proofs.Common.{◌<◌, ◌≤◌, ◌∙◌, ◌&&◌, not, arith, ap, sym, length, Option}
 use Rattle.bbm_roots.specs.Holds.{hold_in, tag_key}
 use Rattle.bbm_roots.specs.RootPendings.{wait_bit}
 use Rattle.bbm_roots.specs.declared.pending.Waiting.{Waiting}

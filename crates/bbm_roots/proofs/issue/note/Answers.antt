@@ -1,5 +1,7 @@
 use Rattle.std.proofs.Common.{◌≡◌, ◌∙◌, ◌&&◌, ◌||◌, ap, sym, Bool, true, false, nat_eq, is_some, refl, ℕ}
-use Rattle.std.proofs.lemmas.Bool.{false≢true, eqb-true}
+use Rattle.std.proofs.lemmas.Bool.{eqb-true}
+use Rattle.bbm_lemmas.proofs.Tautologies.{proved}
+use Rattle.bbm_lemmas.proofs.Tautologies.Claim.{If, Is}
 use Rattle.bbm_regimes.specs.PeMask.{pe_in}
 use Rattle.bbm_tlbi_scope.specs.ScopeTags.{takes_whole_tag}
 use Rattle.bbm_roots.specs.Holds.{tag_key}
@@ -8,18 +10,12 @@ use Rattle.bbm_roots.proofs.Places.{slots}
 use Rattle.bbm_roots.proofs.issue.note.Goals as goal
 
 known : (k w h s t u : Bool) → (k && (w || (h && (s && (t && u))))) ≡ ((k && w) || ((k && h) && ((s && t) && u)))
-known false w h s t u = refl
-known true true h s t u = refl
-known true false false s t u = refl
-known true false true true t u = refl
-known true false true false t u = refl
+known = proved 6 (λ k w h s t u. Is (k && (w || (h && (s && (t && u))))) ((k && w) || ((k && h) && ((s && t) && u))))
+    refl
 
 unnoted : (k w h q s t u : Bool) → (q ≡ true → k ≡ false) → (k && w) ≡ ((k && w) || ((k && h) && ((q && s && t) && u)))
-unnoted false w h q s t u f = refl
-unnoted true true h q s t u f = refl
-unnoted true false h true s t u f = absurd (false≢true (sym (f refl)))
-unnoted true false true false s t u f = refl
-unnoted true false false false s t u f = refl
+unnoted = proved 7 (λ k w h q s t u. If (If (Is q true) (Is k false)) (Is (k && w) ((k && w) || ((k && h) && ((q && s
+    && t) && u))))) refl
 
 pub returns-then-has : goal.returns-then-has
 returns-then-has c = λ q b g r h p held.

@@ -1,4 +1,4 @@
-use Rattle.std.proofs.Common.{◌≡◌, ◌<◌, ◌≤◌, ◌∙◌, ◌&&◌, ◌||◌, ap, arith, length, ℕ, Bool, nat_eq, is_some}
+use Rattle.std.proofs.Common.{◌<◌, ◌≤◌, ◌∙◌, ◌&&◌, ◌||◌, ap, arith, length, ℕ, nat_eq, is_some}
 use Rattle.bbm_tlbi_scope.specs.ScopeTags.{takes_whole_tag}
 use Rattle.bbm_roots.specs.Holds.{tag_key}
 use Rattle.bbm_roots.specs.RootPendings.{wait_at, wait_bit, unread_at}

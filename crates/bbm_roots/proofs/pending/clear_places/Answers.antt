@@ -1,13 +1,9 @@
-use Rattle.std.proofs.Common.{◌≡◌, ◌<◌, ◌≤◌, ◌+◌, ◌∙◌, ◌&&◌, not, nat_eq, arith, ap, sym, refl, Bool, true, false, ℕ}
-use Rattle.std.proofs.Common.{List, length, set, get_or, ⊎_elim}
-use Rattle.std.proofs.lemmas.Bool.{cases_lt, eqb-true}
-use Rattle.std.proofs.Math.Dec.{eqb-suc-suc}
-use Rattle.indexmap.specs.IndexMap.{IndexMap}
-use Rattle.bbm_regimes.specs.declared.regime.Tag.{Tag}
+use Rattle.std.proofs.Common.{◌<◌, ◌≤◌, ◌∙◌, ◌&&◌, not, nat_eq, arith, ap, sym}
+use Rattle.std.proofs.Common.{⊎_elim}
+use Rattle.std.proofs.lemmas.Bool.{cases_lt}
 use Rattle.bbm_roots.specs.Holds.{tag_key}
-use Rattle.bbm_roots.specs.RootPendings.{wait_at, wait_bit, wait_in}
+use Rattle.bbm_roots.specs.RootPendings.{wait_bit}
 use Rattle.bbm_roots.specs.Readings.{has_tag}
-use Rattle.bbm_roots.specs.declared.pending.Waiting.{Waiting}
 use Rattle.bbm_roots.proofs.Places.{at-past, at-next, at-behind}
 use Rattle.bbm_roots.proofs.pending.clear_places.Goals as goal
 

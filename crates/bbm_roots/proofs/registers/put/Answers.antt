@@ -1,13 +1,15 @@
-use Rattle.std.proofs.Common.{List, ◌∷◌, ◌≡◌}
+use Rattle.std.proofs.Common.{List, ◌∷◌, ◌≡◌, rules}
 use Rattle.bbm_roots.specs.declared.load.Load.{Load}
 use Rattle.bbm_roots.specs.Columns.{loads_in}
 use Rattle.bbm_roots.proofs.Columns.{changed, read}
 use Rattle.bbm_roots.proofs.registers.put.Goals as goal
 
-pub returns-clause-loads : goal.returns-clause-loads
-returns-clause-loads c =
-    changed (λ (xs : List Load). c.args.load ∷ xs) _ _ _ c.index_mut.result.now c.put_front.new.loads c.get.ensures.value
-    c.requires.known c.index_mut.ensures.value c.put_front.ensures
+pub returns : goal.returns
+returns c = record {
+  loads = changed (λ (xs : List Load). c.args.load ∷ xs) _ _ _ c.index_mut.result.now c.put_front.new.loads c.get.ensures.value
+      c.requires.known c.index_mut.ensures.value c.put_front.ensures;
+  pes = search rules;
+}
 
 pub put_front-requires : goal.put_front-requires
 put_front-requires c =

@@ -9,7 +9,8 @@ use Rattle.bbm_roots.specs.declared.hold.Held.{Held}
 use Rattle.bbm_roots.proofs.Entries.{shows, shows_before, shown, shown-front, shown-next}
 use Rattle.bbm_roots.proofs.Leasts.{tags-same, tags-more}
 use Rattle.bbm_roots.proofs.search.tags_in.Goals as goal
-use Rattle.bbm_roots.proofs.search.tags_in.Goals.{in-Some+in-Some-with_entry+else-is_many, in-Some+in_default-with_entry, in_default}
+use Rattle.bbm_roots.proofs.search.tags_in.Goals.{in-Some+in-Some-with_entry+else-is_many}
+use Rattle.bbm_roots.proofs.search.tags_in.Goals.{in-Some+in_default-with_entry, in_default}
 
 pub loop-index-preserved : goal.loop-index-preserved
 loop-index-preserved c =

@@ -1,4 +1,4 @@
-use Rattle.std.proofs.Common.{◌≡◌, ◌||◌, ◌&&◌, Bool, true, false, refl}
+use Rattle.std.proofs.Common.{◌||◌, ◌&&◌}
 use Rattle.bbm_roots.specs.Holds.{tag_in, is_clash}
 use Rattle.bbm_roots.specs.LeastOf.{ReadingUpTo}
 use Rattle.bbm_roots.specs.Readings.{is_reading, is_other, has_other}

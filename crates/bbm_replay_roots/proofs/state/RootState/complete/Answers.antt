@@ -7,7 +7,11 @@ use Rattle.bbm_replay_roots.proofs.state.RootState.complete.Goals as goal
 pub complete-requires : goal.complete-requires
 complete-requires c = of_state c.requires.2 c.requires.3
 
-pub returns-clause-taken : goal.returns-clause-taken
-returns-clause-taken c heading h s =
-    stood _ (Dsb c.args.pe c.args.dsb) s (broken_dsb heading h c.args.pe c.args.dsb) refl c.complete.ensures.pes c.complete.ensures.world
-    (c.complete.ensures.taken (calls_of heading h) s.roots) s.locks
+pub returns : goal.returns
+returns c =
+    let taken = c.complete.ensures in
+    record {
+      taken = λ heading h s.
+          stood _ (Dsb c.args.pe c.args.dsb) s (broken_dsb heading h c.args.pe c.args.dsb) refl taken.log.pes taken.log.world (taken.taken (calls_of heading h) s.roots) s.locks;
+      room = taken.prepared;
+    }

@@ -1,7 +1,7 @@
 use Rattle.std.proofs.Common.{refl}
 use Rattle.bbm_rules.specs.Prelude.{Root}
 use Rattle.bbm_replay_roots.specs.Bridge.{calls_of}
-use Rattle.bbm_replay_roots.proofs.Judge.{free_page, stays, stood, undeclared}
+use Rattle.bbm_replay_roots.proofs.Judge.{free_page, kept, stood, undeclared}
 use Rattle.bbm_replay_roots.proofs.state.RootState.declare.Goals as goal
 
 pub declare-requires : goal.declare-requires
@@ -11,9 +11,8 @@ declare-requires c =
 
 pub returns-in-Ok-clause-taken : goal.returns-in-Ok-clause-taken
 returns-in-Ok-clause-taken c heading h pe s none =
-    stood _ (Root pe c.args.kind c.args.lock c.args.page) s none refl c.declare.ensures.pes c.declare.ensures.world
+    stood _ (Root pe c.args.kind c.args.lock c.args.page) s none refl c.declare.ensures.log.pes c.declare.ensures.log.world
     (c.in-Ok.ensures.taken (calls_of heading h) s.roots) s.locks
 
-pub returns-in-Err-clause-same : goal.returns-in-Err-clause-same
-returns-in-Err-clause-same c heading h s =
-    stays _ s refl c.declare.ensures.pes c.declare.ensures.world (c.in-Err.ensures.same (calls_of heading h) s.roots) (λ l. refl)
+pub returns-in-Err-clause-kept : goal.returns-in-Err-clause-kept
+returns-in-Err-clause-kept c = kept _ refl (λ l. refl) c.in-Err.ensures.kept

@@ -9,10 +9,16 @@ returns-in-Ok-clause-judged c heading h s =
     lock_free heading h c.args.pe c.args.lock (c.laws_below.ensures heading) (λ q e.
     let k = (c.in-Ok.ensures.busy q).1 (s.locks c.args.lock ∙ e) in cc)
 
-pub returns-in-Ok-clause-taken : goal.returns-in-Ok-clause-taken
-returns-in-Ok-clause-taken c heading h s =
-    stood _ (Lock c.args.pe c.args.lock) s (returns-in-Ok-clause-judged c heading h s) refl refl refl s.roots
-    (λ l. c.in-Ok.ensures.taken l ∙ ap (λ (o : Option ℕ). cond (c.args.lock == l) (Some c.args.pe) o) (s.locks l))
+pub returns-in-Ok-clause-tried : goal.returns-in-Ok-clause-tried
+returns-in-Ok-clause-tried c = record {
+  taken = record {
+    taken = λ heading h s.
+        stood _ (Lock c.args.pe c.args.lock) s (returns-in-Ok-clause-judged c heading h s) refl refl refl s.roots
+        (λ l. c.in-Ok.ensures.taken l ∙ ap (λ (o : Option ℕ). cond (c.args.lock == l) (Some c.args.pe) o) (s.locks l));
+    room = λ room. room;
+  };
+  kept = tt;
+}
 
 pub returns-in-Err-clause-judged : goal.returns-in-Err-clause-judged
 returns-in-Err-clause-judged c heading h s =
@@ -20,5 +26,11 @@ returns-in-Err-clause-judged c heading h s =
     (sym (s.locks c.args.lock) ∙ (c.in-Err.ensures.busy c.in-Err.busy.0).0 refl)
     ∙ ap (λ (n : ℕ). Some (record { rule = LockBusy; at = n })) (sym c.get.ensures.value)
 
-pub returns-in-Err-clause-same : goal.returns-in-Err-clause-same
-returns-in-Err-clause-same c heading h s = stays _ s refl refl refl s.roots (c.in-Err.ensures.refused)
+pub returns-in-Err-clause-tried : goal.returns-in-Err-clause-tried
+returns-in-Err-clause-tried c = record {
+  taken = tt;
+  kept = record {
+    same = λ heading h s. stays _ s refl refl refl s.roots (c.in-Err.ensures.refused);
+    room = λ room. room;
+  };
+}

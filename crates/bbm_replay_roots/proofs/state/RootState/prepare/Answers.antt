@@ -6,19 +6,19 @@ use Rattle.bbm_rules.specs.declared.step_fault.StepFault.TheVariants.{Limit}
 use Rattle.bbm_roots.specs.declared.fault.RootFault.{RootFault}
 use Rattle.bbm_roots.specs.declared.fault.RootFault.TheVariants as faults
 use Rattle.bbm_replay_roots.specs.RootFaults.{room_fault}
-use Rattle.bbm_replay_roots.proofs.Judge.{full, room_up, stays}
+use Rattle.bbm_replay_roots.proofs.Judge.{full, kept, room_up}
 use Rattle.bbm_replay_roots.proofs.RootMaps.{count_same}
 use Rattle.bbm_replay_roots.proofs.state.RootState.prepare.Goals as goal
 
 pub returns-in-Ok-clause-limit : goal.returns-in-Ok-clause-limit
 returns-in-Ok-clause-limit c heading h pe kind lock page s =
-    let k = c.in-Ok.ensures.limit (calls_of heading h) s.roots in
+    let k = c.in-Ok.ensures.judged.limit (calls_of heading h) s.roots in
     let f = full h _ (count_same heading h) in
     (λ e. cc, λ e. let never = k.1 (f.0 e) in cc)
 
 pub returns-in-Err-clause-limit : goal.returns-in-Err-clause-limit
 returns-in-Err-clause-limit c heading h pe kind lock page s =
-    let k = c.in-Err.ensures.limit (calls_of heading h) s.roots in
+    let k = c.in-Err.ensures.judged.limit (calls_of heading h) s.roots in
     let f = full h _ (count_same heading h) in
     let ensured = c.room_fault.ensures in (
       λ e. let r : c.room_fault.result ≡ Limit Roots = cc in
@@ -27,6 +27,8 @@ returns-in-Err-clause-limit c heading h pe kind lock page s =
           ap (λ (x : StepFault). Err x) (ensured ∙ ap room_fault n),
     )
 
-pub returns-in-Err-clause-same : goal.returns-in-Err-clause-same
-returns-in-Err-clause-same c heading h s =
-    stays _ s refl c.prepare.ensures.pes c.prepare.ensures.world (c.prepare.ensures.same (calls_of heading h) s.roots) (λ l. refl)
+pub returns-in-Err-clause-kept : goal.returns-in-Err-clause-kept
+returns-in-Err-clause-kept c = kept _ refl (λ l. refl) c.prepare.ensures.kept
+
+pub returns-in-Ok-clause-kept : goal.returns-in-Ok-clause-kept
+returns-in-Ok-clause-kept c = kept _ refl (λ l. refl) c.prepare.ensures.kept

@@ -5,13 +5,20 @@ use Rattle.bbm_replay_roots.proofs.Judge.{agrees_by, stood}
 use Rattle.bbm_replay_roots.proofs.Unroots.{judged_by, outside_by, unroot_taken}
 use Rattle.bbm_replay_roots.proofs.state.RootState.retire.Goals as goal
 
-pub returns-in-Err-clause-taken : goal.returns-in-Err-clause-taken
-returns-in-Err-clause-taken c heading h pe s none =
-    let laws = c.laws_below.ensures heading in
-    absurd (unroot_taken heading laws (laws.proper s.proper) h s.kept (agrees_by laws s) pe c.args.page (outside_by s) c.in-Err.field-0
-    (judged_by s c.args.page (Err c.in-Err.field-0) (c.in-Err.ensures.judged (calls_of heading h) s.roots)) none)
+pub returns-in-Err : goal.returns-in-Err
+returns-in-Err c pe = record {
+  taken = λ heading h s none.
+      let laws = c.laws_below.ensures heading in
+      absurd (unroot_taken heading laws (laws.proper s.proper) h s.kept (agrees_by laws s) pe c.args.page (outside_by s) c.in-Err.field-0
+      (judged_by s c.args.page (Err c.in-Err.field-0) (c.in-Err.ensures.judged (calls_of heading h) s.roots)) none);
+  room = c.in-Err.ensures.tried.kept.prepared;
+}
 
-pub returns-in-Ok-clause-taken : goal.returns-in-Ok-clause-taken
-returns-in-Ok-clause-taken c heading h pe s none =
-    stood _ (Unroot pe c.args.page) s none refl c.retire.ensures.pes c.retire.ensures.world
-    (c.in-Ok.ensures.taken (calls_of heading h) s.roots) s.locks
+pub returns-in-Ok : goal.returns-in-Ok
+returns-in-Ok c pe =
+    let taken = c.in-Ok.ensures.tried.taken in
+    record {
+      taken = λ heading h s none.
+          stood _ (Unroot pe c.args.page) s none refl taken.log.pes taken.log.world (taken.taken (calls_of heading h) s.roots) s.locks;
+      room = taken.prepared;
+    }

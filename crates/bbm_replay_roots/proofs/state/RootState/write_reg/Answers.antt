@@ -10,7 +10,7 @@ use Rattle.bbm_roots.specs.RootCalls.{WriteReg}
 use Rattle.bbm_roots.specs.RootRegisters.{is_of_world}
 use Rattle.bbm_roots.specs.RootsStand as lower
 use Rattle.bbm_replay_roots.specs.Bridge.{calls_of}
-use Rattle.bbm_replay_roots.proofs.Judge.{agrees_by, in_range, stood}
+use Rattle.bbm_replay_roots.proofs.Judge.{agrees_by, in_range, kept, stood}
 use Rattle.bbm_replay_roots.proofs.Writes.{msr_elsewhere, reg_of_world, right_world, world_here, write_by, write_err}
 use Rattle.bbm_replay_roots.proofs.Writes.{write_ok}
 use Rattle.bbm_replay_roots.proofs.state.RootState.write_reg.Goals as goal
@@ -36,10 +36,18 @@ returns-in-Ok-clause-judged c heading h s e =
     (write_by s c.args.pe c.args.reg c.args.value c.args.null e (Ok c.in-Ok.field-0) (c.in-Ok.ensures.judged (calls_of heading h) s.roots))
 
 pub returns-in-Ok-clause-taken : goal.returns-in-Ok-clause-taken
-returns-in-Ok-clause-taken c heading h s e =
-    stood _ (Msr c.args.pe c.args.reg c.args.value) s (returns-in-Ok-clause-judged c heading h s e).0 refl c.write_reg.ensures.pes c.write_reg.ensures.world
-    (subst (λ (b : Bool). lower.Stands c.write_reg.new.self (WriteReg c.args.pe c.args.reg c.args.value b ∷ calls_of heading h)) e
-    (c.in-Ok.ensures.taken (calls_of heading h) s.roots)) s.locks
+returns-in-Ok-clause-taken c =
+    let taken = c.in-Ok.ensures.tried.taken in
+    record {
+      taken = λ heading h s e.
+          stood _ (Msr c.args.pe c.args.reg c.args.value) s (returns-in-Ok-clause-judged c heading h s e).0 refl taken.log.pes taken.log.world
+          (subst (λ (b : Bool). lower.Stands c.write_reg.new.self (WriteReg c.args.pe c.args.reg c.args.value b ∷ calls_of heading h)) e
+          (taken.taken (calls_of heading h) s.roots)) s.locks;
+      room = taken.prepared;
+    }
+
+pub returns-in-Err-clause-kept : goal.returns-in-Err-clause-kept
+returns-in-Err-clause-kept c = kept _ refl (λ l. refl) c.in-Err.ensures.tried.kept
 
 pub returns-in-Err-clause-judged : goal.returns-in-Err-clause-judged
 returns-in-Err-clause-judged c heading h s e =

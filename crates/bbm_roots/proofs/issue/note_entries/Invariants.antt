@@ -4,7 +4,7 @@ use Rattle.bbm_regimes.specs.declared.regime.Tag.{Tag}
 use Rattle.bbm_tlbi_scope.specs.ScopeTags.{takes_whole_tag}
 use Rattle.bbm_roots.specs.RootPendings.{has_wait, wait_in, unread_at}
 use Rattle.bbm_roots.proofs.Entries.{is_held_as}
-use Rattle.bbm_roots.proofs.issue.note_each.Given as goal
+use Rattle.bbm_roots.proofs.issue.note_entries.Given as goal
 
 abbrev pub invariant-loop-held : goal.invariant-loop-held
 invariant-loop-held l = record {

@@ -1,4 +1,4 @@
-use Rattle.std.proofs.Common.{◌≡◌, take, arith, ap, sym, ◌∙◌, ◌&&◌, ◌||◌, Bool, true, ◌+◌}
+use Rattle.std.proofs.Common.{◌≡◌, take, arith, ap, sym, ◌∙◌, ◌&&◌, ◌||◌, Bool, true}
 use Rattle.std.specs.List.{list_any}
 use Rattle.std.proofs.lemmas.Bool.{or_left, or_right}
 use Rattle.std.proofs.lemmas.List.{take_all}
@@ -10,7 +10,7 @@ use Rattle.bbm_roots.proofs.Lists.{any-next}
 use Rattle.bbm_roots.proofs.Bits.{same_tag-true}
 use Rattle.bbm_roots.proofs.Entries.{held-among, is_held_as}
 use Rattle.bbm_roots.proofs.Leasts.{or-split}
-use Rattle.bbm_roots.proofs.issue.make_each.Goals as goal
+use Rattle.bbm_roots.proofs.issue.make_entries.Goals as goal
 
 pub returns-clause-made : goal.returns-clause-made
 returns-clause-made c = λ g r p held takes.

@@ -1,14 +1,13 @@
-use Rattle.std.proofs.Common.{◌≡◌, ◌∙◌, ◌&&◌, ◌||◌, not, take, arith, ap, sym, refl, Bool, true, false, nat_eq}
+use Rattle.std.proofs.Common.{◌≡◌, ◌∙◌, ◌&&◌, ◌||◌, not, take, arith, ap, sym, refl, Bool, nat_eq}
+use Rattle.bbm_lemmas.proofs.Tautologies.{proved}
+use Rattle.bbm_lemmas.proofs.Tautologies.Claim.{Is}
 use Rattle.bbm_roots.specs.RootPendings.{wait_in}
 use Rattle.bbm_roots.specs.Readings.{has_tag, is_of_tag, same_tag}
 use Rattle.bbm_roots.proofs.Lists.{any-next}
-use Rattle.bbm_roots.proofs.pending.clear_tags.Goals as goal
+use Rattle.bbm_roots.proofs.pending.clear_place.Goals as goal
 
 cleared : (h k a b : Bool) → ((h && not (k && a)) && not (k && b)) ≡ (h && not (k && (a || b)))
-cleared true true true b = refl
-cleared true true false b = refl
-cleared true false a b = refl
-cleared false k a b = refl
+cleared = proved 4 (λ h k a b. Is ((h && not (k && a)) && not (k && b)) (h && not (k && (a || b)))) refl
 
 pub loop-reading-preserved : goal.loop-reading-preserved
 loop-reading-preserved c = λ g p.

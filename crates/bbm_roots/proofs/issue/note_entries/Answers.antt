@@ -1,20 +1,17 @@
-use Rattle.std.proofs.Common.{◌≡◌, take, arith, ap, sym, ◌∙◌, ◌&&◌, ◌||◌, Bool, true, false, refl, ◌+◌}
+use Rattle.std.proofs.Common.{◌≡◌, take, arith, ap, sym, ◌∙◌, ◌&&◌, ◌||◌, Bool, refl}
 use Rattle.std.specs.List.{list_any}
 use Rattle.std.proofs.lemmas.List.{take_all}
+use Rattle.bbm_lemmas.proofs.Tautologies.{proved}
+use Rattle.bbm_lemmas.proofs.Tautologies.Claim.{Is}
 use Rattle.bbm_tlbi_scope.specs.ScopeTags.{takes_whole_tag}
 use Rattle.bbm_roots.specs.RootPendings.{has_wait, wait_in, unread_at}
 use Rattle.bbm_roots.specs.Readings.{same_tag}
 use Rattle.bbm_roots.proofs.Lists.{any-next}
 use Rattle.bbm_roots.proofs.Entries.{held-among, is_held_as}
-use Rattle.bbm_roots.proofs.issue.note_each.Goals as goal
+use Rattle.bbm_roots.proofs.issue.note_entries.Goals as goal
 
 noted-more : (o h s t z : Bool) → ((o || (h && (s && z))) || (h && (t && z))) ≡ (o || (h && ((s || t) && z)))
-noted-more true h s t z = refl
-noted-more false false s t z = refl
-noted-more false true true t true = refl
-noted-more false true true true false = refl
-noted-more false true true false false = refl
-noted-more false true false t z = refl
+noted-more = proved 5 (λ o h s t z. Is ((o || (h && (s && z))) || (h && (t && z))) (o || (h && ((s || t) && z)))) refl
 
 pub loop-held-preserved : goal.loop-held-preserved
 loop-held-preserved c =
@@ -26,7 +23,7 @@ loop-held-preserved c =
       bits = λ g p.
           let z = takes_whole_tag c.args.scope.now c.args.vmid g
           && unread_at c.args.registers.now c.args.issuer c.args.scope.now.broadcast g p in
-          c.note_one.ensures.bits g p
+          c.note_one-in-loop-held.ensures.bits g p
           ∙ ap (λ (b : Bool). b
           || (has_wait c.loop-held.waits g && (same_tag x.tag g && z))) (c.loop-held.invariant.bits g p)
           ∙ ap (λ (b : Bool). (wait_in old g p || (has_wait old g && (list_any (is_held_as g) (take i all) && z)))
@@ -35,7 +32,7 @@ loop-held-preserved c =
           ∙ noted-more (wait_in old g p) (has_wait old g) (list_any (is_held_as g) (take i all)) (same_tag x.tag g) z
           ∙ ap (λ (b : Bool). wait_in old g p || (has_wait old g && (b && z)))
           (sym (any-next (is_held_as g) all i x (omega arith) c.held-item.is));
-      known = λ g. c.note_one.ensures.known g ∙ c.loop-held.invariant.known g;
+      known = λ g. c.note_one-in-loop-held.ensures.known g ∙ c.loop-held.invariant.known g;
     }
 
 pub returns : goal.returns

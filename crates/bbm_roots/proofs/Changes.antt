@@ -1,0 +1,19 @@
+-- What stays with the registers, and with the declared roots.
+use Rattle.std.proofs.Common.{◌≡◌, ◌<◌, ℕ, ap, subst, sym, HashMap, BuildHasherDefault, FoldHasher}
+use Rattle.indexmap.specs.IndexMap.{index_map_len, spare}
+use Rattle.bbm_roots.specs.RootChanges.{SameLog}
+use Rattle.bbm_roots.specs.RootsStand.{IsPrepared}
+use Rattle.bbm_roots.specs.declared.registers.Registers.{Registers}
+use Rattle.bbm_roots.specs.declared.root.Declared.{Declared}
+use Rattle.bbm_roots.specs.declared.roots.Roots.{Roots}
+
+pub log-same : (old new : Roots) → new.registers ≡ old.registers → SameLog old new
+log-same old new same = record {
+  pes = ap (λ (r : Registers). r.pes) same;
+  world = ap (λ (r : Registers). r.world) same;
+}
+
+pub room-same : (old new : Roots) → new.declared ≡ old.declared → IsPrepared old → IsPrepared new
+room-same old new same room =
+    subst (λ (d : HashMap ℕ Declared (BuildHasherDefault FoldHasher)). (0 < spare d) × (index_map_len d < 1024)) (sym same)
+    room

@@ -1,0 +1,37 @@
+-- How roots judge a call, by the calls that they stand for. A list of calls is newest first.
+-- Source: project's own choice.
+use Rattle.std.specs.Prelude.{◌≡◌, ◌≢◌, ◌≤◌, ◌<◌, ◌↔◌, ℕ, true, List, length, Result, Err, IfErr}
+use Rattle.bbm_regimes.specs.declared.regime.Reg.{Reg}
+use Rattle.bbm_regimes.specs.declared.regime.Which.TheVariants.{Roots as RootCount}
+use Rattle.bbm_roots.specs.DeclaredRoots.{root_at, roots_of}
+use Rattle.bbm_roots.specs.HoldsNew.{holds_new}
+use Rattle.bbm_roots.specs.LoadsOf.{loads_of, other_loads}
+use Rattle.bbm_roots.specs.Refusals.{JudgesRetire}
+use Rattle.bbm_roots.specs.RootCalls.{Call}
+use Rattle.bbm_roots.specs.RootPendings.{IsQuiet}
+use Rattle.bbm_roots.specs.RootRegisters.{is_first, uses}
+use Rattle.bbm_roots.specs.RootsStand.{Stands, pes_of, world_of}
+use Rattle.bbm_roots.specs.RootTags.{holds_tag}
+use Rattle.bbm_roots.specs.declared.fault.RootFault.{RootFault}
+use Rattle.bbm_roots.specs.declared.fault.RootFault.TheVariants.{Limit, NoMemory}
+use Rattle.bbm_roots.specs.declared.load.Load.{Load}
+use Rattle.bbm_roots.specs.declared.roots.Roots.{Roots}
+
+-- One more root: the limit is reached exactly where 1,024 are declared; else memory alone may be wanting.
+pub record JudgesRoom {A : Type 0} (roots : Roots) (result : Result A RootFault) : Type 0 where
+  pub limit : (calls : List Call) → Stands roots calls
+      → (result ≡ Err (Limit RootCount)) ↔ (1024 ≤ length (roots_of calls))
+  pub fault : IfErr result (λ fault. fault ≢ Limit RootCount → fault ≡ NoMemory)
+
+-- the retirement of a root
+abbrev pub JudgesRetirement : {A : Type 0} → Roots → ℕ → Result A RootFault → Type 0
+JudgesRetirement roots page result = (calls : List Call) → Stands roots calls
+    → JudgesRetire page (root_at calls page) (uses (world_of roots) calls page)
+    (λ tag. holds_tag (world_of roots) (pes_of roots) calls tag page) result
+
+-- A write of the value changes the register alone: the register isn't full, no TLBI waits, and the PE holds, for its
+-- root, each tag that the value makes readable anew.
+pub record IsSettled (pe : ℕ) (reg : Reg) (load : Load) (roots : Roots) : Type 0 where
+  pub room : length (loads_of roots.registers pe reg) < 9
+  pub quiet : IsQuiet roots.pendings
+  pub held : holds_new roots.holds pe (world_of roots) (is_first reg) load (other_loads roots.registers pe reg) ≡ true
