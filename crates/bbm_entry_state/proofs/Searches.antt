@@ -2,7 +2,8 @@
 use Rattle.std.proofs.Common.{◌≡◌, ℕ, Bool, true, false, ◌&&◌, ◌||◌, ◌==◌, List, [], ◌∷◌, refl, ap, sym, ◌∙◌, inl, inr}
 use Rattle.std.proofs.Common.{if◌then◌else◌}
 use Rattle.std.proofs.lemmas.Bool.{and_from, and_parts, or_cases, or_left, or_right, eqb-true, false_from_ne_true}
-use Rattle.std.proofs.Math.Bool.{or-true, or-false}
+use Rattle.bbm_lemmas.proofs.Tautologies.{proved}
+use Rattle.bbm_lemmas.proofs.Tautologies.Claim.{If, Is}
 use Rattle.bbm_descriptor.specs.Descriptor.{same_bool}
 use Rattle.bbm_barriers.specs.declared.Dsb.{Dsb}
 use Rattle.bbm_barriers.specs.Options.{publishes, answers}
@@ -12,7 +13,6 @@ use Rattle.bbm_tlbi_scope.specs.SameCover.{same_cover}
 use Rattle.bbm_entry_state.specs.EntrySteps.{Step, Wrote, Barrier, Flush, some, is_write, writes, issues, answers_one}
 use Rattle.bbm_entry_state.specs.EntrySteps.{answered, still_waits}
 use Rattle.bbm_entry_state.specs.EntryPatterns.{publishes_write, seen, flushes, half, earned}
-use Rattle.bbm_lemmas.proofs.Bools.{and_implied}
 
 -- where a test passes, the PE had seen the break
 pub record NeedsSeen (n p : ℕ) (test : Step → List Step → Bool) : Type 0 where
@@ -55,8 +55,7 @@ module _ (n p : ℕ) (test : Step → List Step → Bool) (needs : NeedsSeen n p
       ])
 
   stopped : (stop waits : Bool) → (if stop then false else waits) ≡ true → waits ≡ true
-  stopped true waits h = cc
-  stopped false waits h = h
+  stopped = proved 2 (λ stop waits. If (Is (if stop then false else waits) true) (Is waits true)) refl
 
   waiting_seen : (q : ℕ) (b : Bool) (steps : List Step) → still_waits test q b steps ≡ true → seen n p steps ≡ true
   waiting_seen q b [] h = cc
@@ -93,23 +92,21 @@ counted_seen n p c = record { before = flush_seen n p c (earned n c p) (earned_s
 
 -- three laws of tests
 under_or : (i x y a : Bool) → (x || a) ≡ (y || a) → ((i || x) || a) ≡ ((i || y) || a)
-under_or true x y a h = refl
-under_or false x y a h = h
+under_or = proved 4 (λ i x y a. If (Is (x || a) (y || a)) (Is ((i || x) || a) ((i || y) || a))) refl
 
 over_or : (x y o a : Bool) → (x || a) ≡ (y || a) → (x || (o || a)) ≡ (y || (o || a))
-over_or x y true a h = or-true x ∙ sym (or-true y)
-over_or x y false a h = h
+over_or = proved 4 (λ x y o a. If (Is (x || a) (y || a)) (Is (x || (o || a)) (y || (o || a)))) refl
 
 absorbed : (x o a : Bool) → (x ≡ true → o ≡ true) → (x || (o || a)) ≡ (o || a)
-absorbed true o a h = rw (h refl) refl
-absorbed false o a h = refl
+absorbed = proved 3 (λ x o a. If (If (Is x true) (Is o true)) (Is (x || (o || a)) (o || a))) refl
 
 -- a TLBI that was issued still waits or was answered
 module _ (test : Step → List Step → Bool) where
   barrier_waits : (stops issued waits answer rest : Bool) → (stops ≡ true → issued ≡ true → answer ≡ true) → (issued || rest) ≡ (waits || rest)
       → (issued || (answer || rest)) ≡ ((if stops then false else waits) || (answer || rest))
-  barrier_waits true issued waits answer rest ends h = absorbed issued answer rest (ends refl)
-  barrier_waits false issued waits answer rest ends h = over_or issued waits answer rest h
+  barrier_waits = proved 5 (λ stops issued waits answer rest. If (If (Is stops true) (If (Is issued true)
+      (Is answer true))) (If (Is (issued || rest) (waits || rest)) (Is (issued || (answer || rest))
+      ((if stops then false else waits) || (answer || rest))))) refl
 
   answer_of : (b : Bool) (pe : ℕ) (dsb : Dsb) (older : List Step) → answers dsb b ≡ true → some (issues pe b test) older ≡ true → answers_one test (Barrier pe dsb) older ≡ true
   answer_of true pe dsb older ends issued =
@@ -137,18 +134,10 @@ module _ (test : Step → List Step → Bool) where
 answer_bits : (wide local issued issued' waits waits' rest seen : Bool) → (issued || rest) ≡ (waits || rest) → (issued' || rest) ≡ (waits' || rest)
     → (waits ≡ true → seen ≡ true) → (waits' ≡ true → seen ≡ true)
     → (rest || (seen && ((wide && waits) || (local && waits')))) ≡ (((wide && issued) || (local && issued')) || rest)
-answer_bits wide local issued issued' waits waits' true seen e e' s s' = sym (or-true ((wide && issued) || (local && issued')))
-answer_bits wide local issued issued' waits waits' false seen e e' s s' =
-    let same : issued ≡ waits = sym (or-false issued) ∙ e ∙ or-false waits in
-    let same' : issued' ≡ waits' = sym (or-false issued') ∙ e' ∙ or-false waits' in
-    and_implied seen ((wide && waits) || (local && waits'))
-    (λ h. elim (or_cases (wide && waits) (local && waits') h) [
-      | inl a ↦ s (and_parts wide waits a).1
-      | inr b ↦ s' (and_parts local waits' b).1
-    ])
-    ∙ ap (λ (x : Bool). (wide && x) || (local && waits')) (sym same)
-    ∙ ap (λ (x : Bool). (wide && issued) || (local && x)) (sym same')
-    ∙ sym (or-false ((wide && issued) || (local && issued')))
+answer_bits = proved 8 (λ wide local issued issued' waits waits' rest seen. If (Is (issued || rest) (waits || rest)) (If
+    (Is (issued' || rest) (waits' || rest)) (If (If (Is waits true) (Is seen true)) (If (If (Is waits' true)
+    (Is seen true)) (Is (rest || (seen && ((wide && waits) || (local && waits')))) (((wide && issued) || (local
+    && issued')) || rest)))))) refl
 
 pub answer_adds : (n p q : ℕ) (dsb : Dsb) (test : Step → List Step → Bool) (steps : List Step) → NeedsSeen n p test
     → (answered test steps || (seen n p (Barrier q dsb ∷ steps) && ((answers dsb true && still_waits test q true steps) || (answers dsb false && still_waits test q false steps))))

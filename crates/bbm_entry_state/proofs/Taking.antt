@@ -1,8 +1,9 @@
 -- Each call keeps that a state and its pendings stand for the steps of their place.
 use Rattle.std.proofs.Common.{◌≡◌, ℕ, Bool, true, false, ◌&&◌, ◌||◌, ◌==◌, nat_eq, not, ◌≤◌, List, [], ◌∷◌, Option}
 use Rattle.std.proofs.Common.{Some, None, is_some, refl, ap, sym, ◌∙◌, inl, inr, if◌then◌else◌}
-use Rattle.std.proofs.lemmas.Bool.{or_cases, or_left, or_right, cases_Bool, eqb-true}
-use Rattle.std.proofs.Math.Bool.{or-true}
+use Rattle.std.proofs.lemmas.Bool.{cases_Bool, eqb-true}
+use Rattle.bbm_lemmas.proofs.Tautologies.{proved}
+use Rattle.bbm_lemmas.proofs.Tautologies.Claim.{If, Is}
 use Rattle.bbm_lemmas.specs.EveryPe.{every_pe}
 use Rattle.bbm_regimes.specs.PeMask.{pe_in}
 use Rattle.bbm_regimes.specs.declared.pe.PeMask.{PeMask}
@@ -25,7 +26,7 @@ use Rattle.bbm_entry_state.specs.EntryPatterns.{seen, half, cleansed, flushes, e
 use Rattle.bbm_entry_state.specs.EntryStanding.{IsIdle, Marked, Between, Stands, KeepsPends, SetsPends}
 use Rattle.bbm_lemmas.proofs.Every.{every_same, every_wider, every_none}
 use Rattle.bbm_entry_state.proofs.Searches.{counted_seen, answer_adds, unwritten_waits}
-use Rattle.bbm_lemmas.proofs.Bools.{and_no_third}
+use Rattle.bbm_lemmas.proofs.Bools.{and_no_third, or_later}
 
 -- no core is a core
 none_some : (core : Option Core) → core ≡ None → is_some core ≡ true → ⊥
@@ -138,8 +139,8 @@ counts_none (Broken marks) c p none = cc
 
 -- pendings of which those of one issuer were set
 set_there : (t : Bool) (mine other target : Bool) → (t ≡ true → mine ≡ target) → (t ≡ false → other ≡ target) → (if t then mine else other) ≡ target
-set_there true mine other target same differs = same refl
-set_there false mine other target same differs = differs refl
+set_there = proved 4 (λ t mine other target. If (If (Is t true) (Is mine target)) (If (If (Is t false)
+    (Is other target)) (Is (if t then mine else other) target))) refl
 
 pub tlbi_stands : (n : ℕ) (state : EntryState) (pends pends' : ℕ → Pends) (left : Pends) (steps : List Step) (q : ℕ) (reach : PeMask) (r : ℕ → Bool) (broadcast : Bool) (cover : Cover)
     → Noted state (pends q) reach broadcast cover left → ((p : ℕ) → pe_in reach p ≡ r p) → SetsPends q left pends pends'
@@ -198,21 +199,12 @@ had_core : (done : Bool) (old : Option Core) → is_some (if done then None else
 had_core true old h = cc
 had_core false old h = h
 
-or_later : (a b c d : Bool) → (b || d) ≡ true → ((a || b) || (c || d)) ≡ true
-or_later a b c d h = elim (or_cases b d h) [
-  | inl x ↦ or_left (a || b) (c || d) (or_right a b x)
-  | inr y ↦ or_right (a || b) (c || d) (or_right c d y)
-]
-
 clean_bits : (full second seen f g : Bool) → ((full || second) || (seen && (f || g))) ≡ ((full || (seen && f)) || (second || (seen && g)))
-clean_bits true second seen f g = refl
-clean_bits false true seen f g = sym (or-true (seen && f))
-clean_bits false false true f g = refl
-clean_bits false false false f g = refl
+clean_bits = proved 5 (λ full second seen f g. Is ((full || second) || (seen && (f || g))) ((full || (seen && f)) ||
+    (second || (seen && g)))) refl
 
 left_bits : (ends waits : Bool) → (not ends && waits) ≡ (if ends then false else waits)
-left_bits true waits = refl
-left_bits false waits = refl
+left_bits = proved 2 (λ ends waits. Is (not ends && waits) (if ends then false else waits)) refl
 
 module _ (n : ℕ) (old : EntryState) (pends : ℕ → Pends) (steps : List Step) (q : ℕ) (dsb : Dsb) (m : Marked n old pends (Barrier q dsb ∷ steps) steps) where
   answered_is : (c : Cover) (p : ℕ) → answered_at (pends q) dsb c p

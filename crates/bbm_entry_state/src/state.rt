@@ -38,6 +38,7 @@ impl EntryState {
     /// The state after this PE wrote the place: a value with this core, or an invalid value where it is None.
     /// A valid value makes the place live, whatever it was before. Source: Arm ARM (DDI 0487), "Using
     /// break-before-make when updating translation table entries".
+    #[inline(always)]
     pub fn write(self, pe: Pe, new: Option<Core>) -> EntryState
         ensures { Written self pe new result }
     {

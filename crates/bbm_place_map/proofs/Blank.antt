@@ -31,6 +31,10 @@ module _ (cells : List Cell) (entries : List Entry) where
       let e = found entries k j (linked.forth j k is) in
       absurd (none-some e.0.marks (sym h ∙ ap marks_of e.1))
 
+  -- a cell has no entry where its place isn't broken
+  pub free_cell : Linked cells entries → (j : ℕ) → marks_in cells entries j ≡ None → slot_in cells j ≡ None
+  free_cell linked j none = free (slot_in cells j) (unlisted linked j (slot_in cells j) refl none)
+
   blank_from : Linked cells entries → (j : ℕ) → value_in cells j ≡ 0 → marks_in cells entries j ≡ None
       → blank_at cells j ≡ true
   blank_from linked j value marks =

@@ -4,6 +4,8 @@ use Rattle.std.proofs.Common.{get_or, refl, arith, ap, sym, ◌∙◌, inl, inr,
 use Rattle.std.proofs.Math.Seq.{take-suc}
 use Rattle.std.proofs.lemmas.Bool.{cases_Bool, cond-true, cond-false, eq-eqb, eqb-true, false≢true}
 use Rattle.std.proofs.lemmas.List.{take-append-drop}
+use Rattle.bbm_lemmas.proofs.Tautologies.{proved}
+use Rattle.bbm_lemmas.proofs.Tautologies.Claim.{If, Is}
 use Rattle.bbm_tlbi_scope.specs.declared.entry.Cover.{Cover}
 use Rattle.bbm_tlbi_scope.specs.declared.entry.Cover.TheVariants.{None as NoCover}
 use Rattle.bbm_place_map.specs.Finds.{cover_in, is_found, FoundAs}
@@ -39,8 +41,7 @@ cover_append (x ∷ xs) ys a =
     pick (nat_eq x.place a) (is_found xs a) x.cover (cover_in (xs ++ ys) a) (cover_in xs a) (cover_in ys a) (cover_append xs ys a)
 
 or_or : (b c d e : Bool) → c ≡ (d || e) → (b || c) ≡ ((b || d) || e)
-or_or true c d e h = refl
-or_or false c d e h = h
+or_or = proved 4 (λ b c d e. If (Is c (d || e)) (Is (b || c) ((b || d) || e))) refl
 
 pub found_append : (xs ys : List Found) (a : ℕ) → is_found (xs ++ ys) a ≡ (is_found xs a || is_found ys a)
 found_append [] ys a = refl

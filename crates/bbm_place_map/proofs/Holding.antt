@@ -1,9 +1,13 @@
 -- What lists of work have after an edit, and what marks are told.
-use Rattle.std.proofs.Common.{◌≡◌, ◌≢◌, ℕ, ◌<◌, ◌≤◌, ◌⊎◌, Bool, true, false, not, ◌&&◌, nat_eq, zero, suc, List, [], ◌∷◌}
-use Rattle.std.proofs.Common.{◌++◌, length, Some, Vec, Global, Contains, refl, ap, sym, subst, ◌∙◌, arith, inl, inr, slice_get}
+use Rattle.std.proofs.Common.{◌≡◌, ◌≢◌, ℕ, ◌<◌, ◌≤◌, ◌⊎◌, Bool, true, false, not, ◌&&◌, nat_eq, zero, suc, List, []}
+use Rattle.std.proofs.Common.{◌∷◌}
+use Rattle.std.proofs.Common.{◌++◌, length, Some, Vec, Global, Contains, refl, ap, sym, subst, ◌∙◌, arith, inl, inr}
+use Rattle.std.proofs.Common.{slice_get}
 use Rattle.std.proofs.Common.{set, get_or, drop}
 use Rattle.std.proofs.lemmas.Bool.{cases_eq, eq-eqb, ne_eqb, cond-true, cond-false}
 use Rattle.std.proofs.lemmas.Option.{same_Some, slice_get_read}
+use Rattle.bbm_lemmas.proofs.Tautologies.{proved}
+use Rattle.bbm_lemmas.proofs.Tautologies.Claim.{Either, If, Is}
 use Rattle.bbm_regimes.specs.PeMask.{pe_in}
 use Rattle.bbm_regimes.specs.declared.pe.PeMask.{PeMask}
 use Rattle.bbm_place_map.specs.Works.{Holds, HoldsFor, part}
@@ -45,14 +49,10 @@ push_kept lists new up wide q j holds list is =
     ]
 
 pub still_in : (x y : Bool) → (x && not y) ≡ false → (x ≡ true → y ≡ true)
-still_in true true h is = refl
-still_in true false h is = cc
-still_in false y h is = cc
+still_in = proved 2 (λ x y. If (Is (x && not y) false) (If (Is x true) (Is y true))) refl
 
 not_fresh : (x y : Bool) → (x && not y) ≡ false → (x ≡ false) ⊎ (y ≡ true)
-not_fresh true true h = inr refl
-not_fresh true false h = cc
-not_fresh false y h = inl refl
+not_fresh = proved 2 (λ x y. If (Is (x && not y) false) (Either (Is x false) (Is y true))) refl
 
 -- a writer that isn't fresh was one before, and what was seen before is seen
 pub told_before : (writers old seen seen' gone fresh : PeMask) → ((p : ℕ) → pe_in gone p ≡ (pe_in seen p && not (pe_in seen' p)))

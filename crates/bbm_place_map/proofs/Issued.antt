@@ -26,7 +26,7 @@ use Rattle.bbm_place_map.proofs.Advancing.{at_both}
 use Rattle.bbm_place_map.proofs.Finding.{cover_is, cover_none}
 use Rattle.bbm_place_map.proofs.Noting.{noted_alike}
 use Rattle.bbm_place_map.proofs.Places.{index_once}
-use Rattle.bbm_place_map.proofs.Restless.{entry_there, marks_are, place_each}
+use Rattle.bbm_place_map.proofs.Restless.{entry_there, marks_are, place_each, place_is, place_of}
 use Rattle.bbm_place_map.proofs.Visiting.{covers_of, cover_was, notes_each}
 use Rattle.std.proofs.lemmas.List.{length-map}
 
@@ -92,6 +92,22 @@ module _ (base : ℕ → Option ℕ) (cells : List Cell) (entries mid new : List
       (at_index no_pends (pends_for cells entries by.issuer) (index_of base x)) by.reach by.broadcast c.0
       (at_index no_pends (pends_for cells new by.issuer) (index_of base x)) in
       (c.0, subst M place (may i.0 e.0 c.0 e.1 c.1), subst N place (at_place i.0 e.0 c.0 e.1 c.1))
+
+  -- the same of the place of an entry, by its number
+  abbrev by_number : ℕ → Option ℕ
+  by_number i = index_of base (place_of base cells entries linked placed i)
+
+  pub noted_by_number : (i : ℕ) (c : Cover) → slice_get covers i ≡ Some c
+      → Noted (state_from None (at_index None (marks_in cells entries) (by_number i)))
+      (at_index no_pends (pends_for cells entries by.issuer) (by_number i)) by.reach by.broadcast c
+      (at_index no_pends (pends_for cells new by.issuer) (by_number i))
+  noted_by_number i c cover =
+      let within : i < length covers = slice_get_within covers i c cover in
+      let e = entry_there entries i (omega (arith, within, len)) in
+      let N : ℕ → Type 0 = λ x. Noted (state_from None (at_index None (marks_in cells entries) (index_of base x)))
+      (at_index no_pends (pends_for cells entries by.issuer) (index_of base x)) by.reach by.broadcast c
+      (at_index no_pends (pends_for cells new by.issuer) (index_of base x)) in
+      subst N (sym (place_is base cells entries linked placed i e.0 e.1)) (at_place i e.0 c e.1 cover)
 
   gone : (m : ℕ) (o p r : Option Entry) → Advances Keeps o p → Advances (NotesAt covers by m) p r → o ≡ None
       → pends_of by.issuer r ≡ pends_of by.issuer o

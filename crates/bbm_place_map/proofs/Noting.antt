@@ -3,6 +3,8 @@ use Rattle.std.proofs.Common.{◌≡◌, ℕ, Bool, true, false, List, Some, sli
 use Rattle.std.proofs.Common.{◌||◌, refl, ap, sym, subst, ◌∙◌}
 use Rattle.std.proofs.lemmas.Bool.{false≢true, cases_eq, eq-eqb, ne_eqb, cond-true, cond-false}
 use Rattle.std.proofs.lemmas.Option.{same_Some}
+use Rattle.bbm_lemmas.proofs.Tautologies.{proved}
+use Rattle.bbm_lemmas.proofs.Tautologies.Claim.{Is}
 use Rattle.bbm_descriptor.specs.Descriptor.{same_bool}
 use Rattle.bbm_regimes.specs.PeMask.{pe_in}
 use Rattle.bbm_regimes.specs.declared.pe.PeMask.{PeMask}
@@ -37,9 +39,7 @@ none_counts marks Second p = refl
 none_counts marks Full p = refl
 
 nothing : (x y w : Bool) → w ≡ ((x && (y && false)) || w)
-nothing true true w = refl
-nothing true false w = refl
-nothing false y w = refl
+nothing = proved 3 (λ x y w. Is w ((x && (y && false)) || w)) refl
 
 -- a TLBI that doesn't cover the place leaves what waits
 pub noted_none : (marks : Marks) (r : Pends) (reach : PeMask) (broadcast : Bool) → Noted (Broken marks) r reach broadcast NoCover r

@@ -1,5 +1,7 @@
 -- What a DSB publishes, of a place.
-use Rattle.std.proofs.Common.{◌≡◌, ℕ, Bool, true, false, ◌&&◌, ◌||◌, List, Option, Some, None, refl, ap, slice_get}
+use Rattle.std.proofs.Common.{◌≡◌, ℕ, Bool, false, ◌&&◌, ◌||◌, List, Option, Some, None, refl, ap, slice_get}
+use Rattle.bbm_lemmas.proofs.Tautologies.{proved}
+use Rattle.bbm_lemmas.proofs.Tautologies.Claim.{Is}
 use Rattle.smallvec.specs.SmallVec.{SmallVec}
 use Rattle.bbm_barriers.specs.Options.{publishes}
 use Rattle.bbm_descriptor.specs.declared.desc.Core.{Core}
@@ -17,8 +19,7 @@ use Rattle.bbm_place_map.specs.declared.entry.Pending.{Pending}
 use Rattle.bbm_place_map.proofs.Advancing.{of_cell}
 
 none_seen : (b : Bool) → false ≡ ((b && false) || false)
-none_seen true = refl
-none_seen false = refl
+none_seen = proved 1 (λ b. Is false ((b && false) || false)) refl
 
 module _ (by : Barrier) where
   whole : (live : Option Core) → Published (state_from live None) by.issuer by.dsb by.n (state_from live None)

@@ -4,6 +4,8 @@ use Rattle.std.proofs.Common.{refl, ap, sym, ◌∙◌, if◌then◌else◌, inl
 use Rattle.std.proofs.lemmas.Bool.{cases_Bool, false≢true}
 use Rattle.std.proofs.lemmas.Option.{same_Some, none-some}
 use mathlib.Core.Path.{fun_ext}
+use Rattle.bbm_lemmas.proofs.Tautologies.{proved}
+use Rattle.bbm_lemmas.proofs.Tautologies.Claim.{If, Is}
 use Rattle.bbm_barriers.specs.declared.Dsb.{Dsb}
 use Rattle.bbm_barriers.specs.Options.{answers, answers_broadcast, answers_local, completed, has_broadcast, has_local}
 use Rattle.bbm_barriers.specs.Options.{Completed as Answers}
@@ -32,13 +34,10 @@ use mathlib.Core.Bool.{and-false, and_self_left}
 use Rattle.bbm_lemmas.proofs.Bools.{and_none}
 
 none_answered : (a w : Bool) → (a && (not a && w)) ≡ false
-none_answered true w = refl
-none_answered false w = refl
+none_answered = proved 2 (λ a w. Is (a && (not a && w)) false) refl
 
 or_none : (x y : Bool) → (x || (y && false)) ≡ x
-or_none true y = refl
-or_none false true = refl
-or_none false false = refl
+or_none = proved 2 (λ x y. Is (x || (y && false)) x) refl
 
 -- an entry that stays is no table that left
 pub stays_kept : (o : Option Entry) → loses_table (marks_of o) (marks_of o) ≡ false
@@ -46,8 +45,7 @@ stays_kept None = refl
 stays_kept (Some e) = and-false (is_table e.marks.core)
 
 waits_on : (a w : Bool) → (a && w) ≡ false → w ≡ (not a && w)
-waits_on true w none = none
-waits_on false w none = refl
+waits_on = proved 2 (λ a w. If (Is (a && w) false) (Is w (not a && w))) refl
 
 has_both : (c : Answers) → has_broadcast c ≡ true → has_local c ≡ true
 has_both EveryTlbi h = refl

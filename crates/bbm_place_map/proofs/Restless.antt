@@ -28,7 +28,7 @@ module _ (base : ℕ → Option ℕ) (cells : List Cell) (entries : List Entry) 
   abbrev pub place_of : ℕ → ℕ
   place_of i = unwrap_or (option_map (λ (e : Entry). e.place) (slice_get entries i)) 0
 
-  place_is : (i : ℕ) (e : Entry) → slice_get entries i ≡ Some e → place_of i ≡ e.place
+  pub place_is : (i : ℕ) (e : Entry) → slice_get entries i ≡ Some e → place_of i ≡ e.place
   place_is i e h = ap (λ (o : Option Entry). unwrap_or (option_map (λ (x : Entry). x.place) o) 0) h
 
   slot_is : (i : ℕ) (e : Entry) → slice_get entries i ≡ Some e → slot_in cells e.cell ≡ Some i

@@ -1,8 +1,12 @@
 -- What DSBs of a PE publish, and where they publish no more.
-use Rattle.std.proofs.Common.{◌≡◌, ℕ, ◌<◌, ◌⊎◌, Bool, true, false, not, ◌&&◌, ◌||◌, nat_eq, Option, Some, None, refl, arith, ap, sym}
+use Rattle.std.proofs.Common.{◌≡◌, ℕ, ◌<◌, ◌⊎◌, Bool, true, false, not, ◌&&◌, ◌||◌, nat_eq, Option, Some, None, refl}
+use Rattle.std.proofs.Common.{arith, ap, sym}
 use Rattle.std.proofs.Common.{subst, ◌∙◌, inl, inr}
-use Rattle.std.proofs.lemmas.Bool.{cases_eq, ltb-true, eqb-true, and_from, false≢true, or_left, or_right}
+use Rattle.std.proofs.lemmas.Bool.{cases_eq, ltb-true, lt-ltb, eqb-true, eq-eqb, and_from, false≢true, or_left}
+use Rattle.std.proofs.lemmas.Bool.{or_right}
 use Rattle.std.proofs.lemmas.Option.{same_Some}
+use Rattle.bbm_lemmas.proofs.Tautologies.{proved}
+use Rattle.bbm_lemmas.proofs.Tautologies.Claim.{If, Is}
 use Rattle.bbm_barriers.specs.declared.Dsb.{Dsb}
 use Rattle.bbm_barriers.specs.declared.Domain.{Domain}
 use Rattle.bbm_barriers.specs.declared.Domain.TheVariants.{Full, Inner, Outer, Non}
@@ -38,10 +42,18 @@ reach_in Non Loads issuer n p h = absurd (false≢true h)
 reach_by : (dsb : Dsb) (issuer n p : ℕ) → publishes dsb issuer n p ≡ true → (not (is_non dsb.domain) || nat_eq p issuer) ≡ true
 reach_by dsb issuer n p h = reach_in dsb.domain dsb.types issuer n p h
 
+own_in : (a : Audience) (issuer n : ℕ) → issuer < n → (hears a issuer n issuer ≡ true) ⊎ ((p : ℕ) → hears a issuer n p ≡ false)
+own_in EveryPe issuer n below = inl (lt-ltb issuer n below)
+own_in IssuerAlone issuer n below = inl (eq-eqb issuer issuer refl)
+own_in NoPe issuer n below = inr (λ p. refl)
+
+-- a DSB that publishes anything publishes to its own PE
+pub publishes_own : (dsb : Dsb) (issuer n : ℕ) → issuer < n
+    → (publishes dsb issuer n issuer ≡ true) ⊎ ((p : ℕ) → publishes dsb issuer n p ≡ false)
+publishes_own dsb issuer n below = own_in (audience dsb.domain dsb.types) issuer n below
+
 once : (x y s : Bool) → (x ≡ true → y ≡ true → s ≡ true) → s ≡ ((x && y) || s)
-once true true s h = h refl refl
-once true false s h = refl
-once false y s h = refl
+once = proved 3 (λ x y s. If (If (Is x true) (If (Is y true) (Is s true))) (Is s ((x && y) || s))) refl
 
 module _ (by : Barrier) where
   again_entry : (e f g : Entry) → Publishes by e f → Publishes by f g → Publishes by e g

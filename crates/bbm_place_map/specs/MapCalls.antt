@@ -1,28 +1,13 @@
 -- What the calls that concern all broken places say of each.
 -- Source: project's own choice.
-use Rattle.std.specs.Prelude.{◌≡◌, ℕ, Bool, false, Some, nat_eq, not, ◌&&◌, if◌then◌else◌}
-use Rattle.std.specs.Fn.{FnReturns, Shared}
-use denote.Ref.{Bor}
-use Rattle.bbm_descriptor.specs.declared.desc.Core.{Core}
+use Rattle.std.specs.Prelude.{◌≡◌, ℕ, Bool, false, nat_eq, not, ◌&&◌, if◌then◌else◌}
 use Rattle.bbm_entry_state.specs.Points.{is_broken}
 use Rattle.bbm_entry_state.specs.EntryStanding.{IsIdle}
-use Rattle.bbm_entry_state.specs.declared.marks.Marks.{Marks}
 use Rattle.bbm_entry_state.specs.declared.state.EntryState.{EntryState}
-use Rattle.bbm_tlbi_scope.specs.declared.entry.Cover.{Cover}
 use Rattle.bbm_place_map.specs.Each.{loses_table}
 use Rattle.bbm_place_map.specs.Map.{value_at, marks_at, pends_at, is_tracked, restless_in, restless_place}
 use Rattle.bbm_place_map.specs.States.{marks_of_state}
 use Rattle.bbm_place_map.specs.declared.map.PlaceMap.{PlaceMap}
-
--- The place is broken, and the closure may answer, of this map, the place and the core that it is broken over, that a
--- TLBI covers the place so far.
-pub record MayCover {F : Type 0} (calls : Shared F (Bor PlaceMap × (ℕ × (Core × Unit {0}))) Cover) (f : F) (map : PlaceMap)
-    (place : ℕ) (cover : Cover) : Type 0 where
-  pub shown : Bor PlaceMap
-  pub shows : shown.now ≡ map
-  pub marks : Marks
-  pub broken : marks_at map place ≡ Some marks
-  pub says : FnReturns calls f (shown, (place, (marks.core, tt))) cover
 
 -- whether a place was broken over a table, and isn't broken any more
 abbrev pub lost_table : PlaceMap → PlaceMap → ℕ → Bool

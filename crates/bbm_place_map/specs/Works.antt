@@ -1,6 +1,7 @@
 -- What is left to do for DSBs: the lists of the cells that they visit.
 -- Source: project's own choice.
-use Rattle.std.specs.Prelude.{◌≡◌, ◌≤◌, ◌<◌, ◌⊎◌, ℕ, Bool, true, false, Option, Some, None, List, [], ◌∷◌, nat_eq, not, ◌||◌}
+use Rattle.std.specs.Prelude.{◌≡◌, ◌≤◌, ◌<◌, ◌⊎◌, ℕ, Bool, true, false, Option, Some, None, List, [], ◌∷◌, nat_eq, not}
+use Rattle.std.specs.Prelude.{◌||◌}
 use Rattle.std.specs.Prelude.{Contains, drop, slice_get}
 use Rattle.bbm_lemmas.specs.EveryPe.{every_pe}
 use Rattle.bbm_regimes.specs.PeMask.{pe_in}

@@ -3,6 +3,7 @@
 ghost use Rattle.std.specs.Prelude.{◌≡◌, ◌≤◌, ◌<◌, ℕ, None, OnOk, true, nat_eq, if◌then◌else◌};
 ghost use Rattle.bbm_place_map.specs.Map.{value_at, marks_at, is_tracked, page_of};
 
+use crate::found::Found;
 use crate::map::PlaceMap;
 use bbm_barriers::{Domain, Dsb, Types};
 use bbm_descriptor::Core;
@@ -44,7 +45,11 @@ pub fn break_before_make(
     let broken = map.state(place, Some(core)).write(issuer, None);
     map.set(place, 0, broken);
     map.publish(issuer, ISHST, n);
-    map.issue(alloc, issuer, PeMask::all(n), true, |_, _, _| Cover::Full)?;
+    let full = Found {
+        place,
+        cover: Cover::Full,
+    };
+    map.issue_at(alloc, issuer, PeMask::all(n), true, &[full])?;
     map.publish(issuer, ISH, n);
     map.complete(issuer, ISH, n);
     Ok(())

@@ -14,6 +14,16 @@ pub struct Found {
     pub cover: Cover,
 }
 
+/// What fills an unused place of a list: the first place, with no cover.
+impl Default for Found {
+    fn default() -> Found {
+        Found {
+            place: Place::new(0).unwrap(),
+            cover: Cover::None,
+        }
+    }
+}
+
 /// How far a TLBI covers one of the broken places. Contracts see the cover.
 #[derive(Clone, Copy, Debug)]
 pub struct Answer {

@@ -1,7 +1,7 @@
 //! What the issue of a TLBI leaves to its answer.
 
-ghost use Rattle.std.specs.Prelude.{◌≡◌, ◌≢◌, ◌<◌, ◌+◌, ◌^◌, ℕ, Bool, take, vec_len, vec_capacity, length, slice_get, Some};
-ghost use Rattle.std.specs.Prelude.{OnOk, List, nat_eq, true, false, if◌then◌else◌};
+ghost use Rattle.std.specs.Prelude.{◌≡◌, ◌≢◌, ◌<◌, ◌+◌, ◌^◌, ℕ, Bool, take, vec_len, vec_capacity, length, slice_get};
+ghost use Rattle.std.specs.Prelude.{OnOk, List, Some, nat_eq, true, false, if◌then◌else◌};
 ghost use Rattle.bbm_entry_state.specs.EntryCalls.{Noted};
 ghost use Rattle.bbm_entry_state.specs.declared.state.EntryState.TheVariants as state;
 ghost use Rattle.bbm_tlbi_scope.specs.declared.entry.Cover.{Cover as TheCover};
@@ -9,7 +9,7 @@ ghost use Rattle.bbm_place_map.specs.Each.{Advances};
 ghost use Rattle.bbm_place_map.specs.Entries.{seat, pends_in, HasRoom};
 ghost use Rattle.bbm_place_map.specs.Finds.{is_found};
 ghost use Rattle.indexmap.specs.IndexMap.{get};
-ghost use Rattle.bbm_place_map.specs.Sound.{IsSound, SameSize};
+ghost use Rattle.bbm_place_map.specs.Sound.{IsSound, SameSize, slot_at};
 ghost use Rattle.bbm_place_map.specs.PlaceNotes.{Keeps, Readies, NotesAs, NotesAt, NotesFound, NotesOne};
 ghost use Rattle.bbm_place_map.specs.PlaceNotes.{OnlyNotes, is_cover as spec_is_cover};
 ghost use Rattle.bbm_place_map.specs.Works.{IsQuiet, Waits};
@@ -32,6 +32,22 @@ pub struct Kept<'a> {
     pub pages: &'a IndexMap<u64, usize>,
     /// The cells.
     pub cells: &'a [Cell],
+    /// The number of an entry that is tried before a place is looked up.
+    pub near: u32,
+}
+
+/// The number of a place's entry; None where the place isn't broken.
+fn entry_of(kept: &Kept, broken: &[Entry], place: Place) -> Option<u32>
+    requires { IsSound (get nat_eq kept.now.pages.now) kept.now.cells.now broken.now }
+    ensures { result ≡ slot_at (get nat_eq kept.now.pages.now) kept.now.cells.now place }
+{
+    let near = kept.near as usize;
+    if near < broken.len() {
+        if broken[near].place == place {
+            return Some(kept.near);
+        }
+    }
+    entry_at(kept.pages, kept.cells, place)
 }
 
 /// Whether a TLBI covers a place at all.
@@ -172,7 +188,7 @@ fn make_room_for(
         → slice_get broken.new.items m ≡ slice_get broken.old.items m }
     ensures size { SameSize broken.old broken.new }
 {
-    match entry_at(kept.pages, kept.cells, place) {
+    match entry_of(kept, broken, place) {
         Some(k) => make_room_at(broken, k as usize, issuer),
         None => Ok(()),
     }
@@ -213,7 +229,7 @@ fn note_for(
         (slice_get broken.old.items m) (slice_get broken.new.items m) }
     ensures rest { OnlyNotes broken.old broken.new lists.old.items lists.new.items }
 {
-    if let Some(k) = entry_at(kept.pages, kept.cells, item.place) {
+    if let Some(k) = entry_of(kept, broken, item.place) {
         note_entry(broken, k as usize, tlbi, item.cover, lists);
     }
 }

@@ -27,6 +27,9 @@ use std::alloc::Global;
 /// The number of cells that may be kept.
 const MAX_CELLS: usize = 1 << 31;
 
+/// The number of cells of a page. Pages have theirs one after another, in the order in which they were tracked.
+const CELLS: usize = 512;
+
 /// The values of the places of the tracked pages, and of the broken ones among them the marks and the pendings.
 #[derive(Drop)]
 pub struct PlaceMap {
@@ -35,6 +38,7 @@ pub struct PlaceMap {
     cells: Vec<Cell>,
     broken: Vec<Entry>,
     work: Work,
+    recent: usize,
     ghost numbered: { Numbered (get nat_eq pages) (vec_len cells) },
     ghost linked: { Linked cells.items broken.items },
     ghost placed: { Placed (get nat_eq pages) broken.items },
@@ -49,10 +53,11 @@ impl PlaceMap {
     ghost use Rattle.std.specs.Prelude.{slice_get, is_some, OnOk, OnErr, ◌||◌, not, ◌&&◌, ◌+◌, ◌*◌, ◌%◌, ◌↔◌};
     ghost use Rattle.std.specs.Prelude.{if◌then◌else◌};
     ghost use Rattle.bbm_entry_state.specs.Points.{core_in, is_broken, waits};
+    ghost use Rattle.bbm_entry_state.specs.declared.marks.Marks.{Marks as TheMarks};
     ghost use Rattle.bbm_entry_state.specs.declared.state.EntryState.{EntryState as TheState};
     ghost use Rattle.bbm_tlbi_scope.specs.declared.entry.Cover.{Cover as TheCover};
     ghost use Rattle.bbm_place_map.specs.Finds.{is_found, FoundAs};
-    ghost use Rattle.bbm_place_map.specs.MapCalls.{lost_table, IsSame, Leaves, MayCover, Puts};
+    ghost use Rattle.bbm_place_map.specs.MapCalls.{lost_table, IsSame, Leaves, Puts};
     ghost use Rattle.bbm_place_map.specs.declared.entry.Entry.{Entry as TheEntry};
     ghost use Rattle.bbm_entry_state.specs.EntryCalls.{Written, Published, Noted, Completed};
     ghost use Rattle.bbm_descriptor.specs.Descriptor.{core_of};
@@ -78,6 +83,7 @@ impl PlaceMap {
             cells: Vec::new(alloc),
             broken: Vec::new(alloc),
             work: work::no_work(alloc),
+            recent: 0,
         }
     }
 
@@ -88,7 +94,19 @@ impl PlaceMap {
         self.pages.contains_key(&page.get())
     }
 
-    /// The number of the place's cell; None where its page isn't tracked.
+    /// The number of the place's cell; None where its page isn't tracked. No answer depends on the number `near`, at
+    /// which the page is looked for first.
+    #[inline(always)]
+    fn index_near(&self, place: Place, near: usize) -> Option<usize>
+        ensures index { result ≡ index_of (get nat_eq self.now.pages) place }
+        ensures within { IfSome result (λ j. j < vec_len self.now.cells) }
+        ensures tracked { is_tracked self.now (page_of place) ≡ true → IsSome result }
+    {
+        let _ = place.get();
+        read::index_near(&self.pages, &self.cells, near, place)
+    }
+
+    /// The same, looked up at once: most places that are asked for are in another page than that of the last write.
     fn index(&self, place: Place) -> Option<usize>
         ensures index { result ≡ index_of (get nat_eq self.now.pages) place }
         ensures within { IfSome result (λ j. j < vec_len self.now.cells) }
@@ -118,6 +136,35 @@ impl PlaceMap {
         Some(Seat { place, index })
     }
 
+    /// The same. No answer depends on the number `near`: the page is looked for first where it has this number in the
+    /// order in which pages were tracked.
+    #[inline(always)]
+    pub fn seat_near(&self, place: Place, near: usize) -> Option<Seat>
+        ensures place { IfSome result (λ seat. seat.place ≡ place) }
+        ensures seat { IfSome result (λ seat. IsSeat self.now seat) }
+        ensures tracked { is_tracked self.now (page_of place) ≡ true → IsSome result }
+    {
+        let index = self.index_near(place, near)?;
+        Some(Seat { place, index })
+    }
+
+    /// The seat of a place, where its page has this number in the order in which pages were tracked; None says nothing.
+    #[inline(always)]
+    pub fn seat_at(&self, place: Place, number: usize) -> Option<Seat>
+        ensures place { IfSome result (λ seat. seat.place ≡ place) }
+        ensures seat { IfSome result (λ seat. IsSeat self.now seat) }
+    {
+        let index = read::index_here(&self.pages, &self.cells, number, place)?;
+        Some(Seat { place, index })
+    }
+
+    /// The number of the page of the last write in the order in which pages were tracked: where to look first for that
+    /// of the next one. No answer depends on it.
+    #[inline(always)]
+    pub fn recent_page(&self) -> usize {
+        self.recent
+    }
+
     /// The core of the value of a seat's place, read at this kind and level, 0 to 3; None where the value is invalid.
     pub fn live_at(&self, seat: &Seat, kind: Kind, level: u8) -> Option<Core>
         requires seat { IsSeat self.now seat.now }
@@ -125,6 +172,15 @@ impl PlaceMap {
         ensures { result ≡ core_of kind level (value_at self.now seat.now.place) }
     {
         core(kind, level, self.cells[seat.index].value)
+    }
+
+    /// Whether a seat's place is broken.
+    #[inline(always)]
+    pub fn is_broken_at(&self, seat: &Seat) -> bool
+        requires { IsSeat self.now seat.now }
+        ensures { result ≡ is_some (marks_at self.now seat.now.place) }
+    {
+        read::is_broken(&self.cells, &self.broken, seat.index)
     }
 
     /// The core that a seat's place is broken over; where it isn't broken, this one.
@@ -235,6 +291,15 @@ impl PlaceMap {
         self.broken[i as usize].place
     }
 
+    /// The core that one of the broken places is broken over, by its number below `restless`.
+    pub fn restless_core(&self, i: u64) -> Core
+        requires { i < restless_in self.now }
+        ensures { (marks : TheMarks) × (marks_at self.now (restless_place self.now i) ≡ Some marks)
+            × (marks.core ≡ result) }
+    {
+        self.broken[i as usize].marks.core
+    }
+
     /// The PE writes a value at a seat's place, the core of which is `new`, None where it is invalid; `live` is the
     /// core of the value before. The state is after what the write leaves of the one before. What waits there stays
     /// where the place is broken, and else is dropped. Nothing else changes.
@@ -257,6 +322,36 @@ impl PlaceMap {
         match new {
             Some(_core) => self.put_whole(seat, value),
             None => self.clear_at(seat, pe, value, live),
+        }
+    }
+
+    /// Writes a value at a seat's place, and changes nothing else: whether the place is broken, and what waits there,
+    /// stays. So does `write_at`, of a valid value at a place that isn't broken.
+    #[inline(always)]
+    pub fn put_at(&mut self, seat: &Seat, value: u64)
+        requires { IsSeat self.old seat.now }
+        ensures put { Puts value seat.now.place self.old self.new }
+        ensures marks { (a : ℕ) → marks_at self.new a ≡ marks_at self.old a }
+        ensures pends { (q a : ℕ) → pends_at self.new q a ≡ pends_at self.old q a }
+    {
+        write::put_bare(&mut self.cells, seat.index, value);
+        self.recent = seat.index / CELLS;
+    }
+
+    /// The PE writes an invalid value at a seat's place, which is live with this core and isn't broken. The state is
+    /// after what `write_at` leaves. What waits there stays, and nothing else changes.
+    #[inline(always)]
+    pub fn break_at(&mut self, seat: &Seat, pe: Pe, value: u64, core: Core)
+        requires seat { IsSeat self.old seat.now }
+        requires whole { marks_at self.old seat.now.place ≡ None }
+        ensures written { (state : TheState) × Written (TheState.Live core) pe None state
+            × Leaves state seat.now.place self.old self.new }
+        ensures put { Puts value seat.now.place self.old self.new }
+    {
+        match (EntryState::Live { core }).write(pe, None) {
+            EntryState::Broken { marks } => self.put_fresh(seat, pe, value, marks),
+            EntryState::Clean => unreachable!(),
+            EntryState::Live { .. } => unreachable!(),
         }
     }
 
@@ -304,6 +399,7 @@ impl PlaceMap {
         ensures dropped { (q : ℕ) → IsIdle (pends_at self.new q seat.now.place) }
     {
         write::put_whole(&mut self.cells, &mut self.broken, seat.index, value);
+        self.recent = seat.index / CELLS;
     }
 
     /// Writes a value at a seat's place, which is broken with these marks after. What waits there stays. Nothing else
@@ -328,6 +424,31 @@ impl PlaceMap {
             marks,
             self.alloc,
         );
+        self.recent = j / CELLS;
+    }
+
+    /// The same at a place that isn't broken before.
+    #[inline(always)]
+    fn put_fresh(&mut self, seat: &Seat, pe: Pe, value: u64, marks: Marks)
+        requires seat { IsSeat self.old seat.now }
+        requires whole { marks_at self.old seat.now.place ≡ None }
+        ensures put { Puts value seat.now.place self.old self.new }
+        ensures marks { (a : ℕ) → marks_at self.new a
+            ≡ (if nat_eq a seat.now.place then Some marks else marks_at self.old a) }
+        ensures pends { (q a : ℕ) → pends_at self.new q a ≡ pends_at self.old q a }
+    {
+        let j = seat.index;
+        let broken = self.broken.len();
+        work::note_write(&mut self.work, pe, j as u32, &None, &marks, broken);
+        write::put_fresh(
+            &mut self.cells,
+            &mut self.broken,
+            seat,
+            value,
+            marks,
+            self.alloc,
+        );
+        self.recent = j / CELLS;
     }
 
     /// Writes a value at a place of a tracked page, and the state that the write leaves. What waits there stays where
@@ -481,47 +602,21 @@ impl PlaceMap {
         self.broken.reserve(wanted).is_ok() && self.cells.reserve(512).is_ok()
     }
 
-    /// Adds to an empty list how far the closure says that a TLBI covers each broken place, over its core. `NoMemory`
-    /// where there is none.
-    fn add_covers<F: Fn(&PlaceMap, Place, Core) -> Cover>(
-        &self,
-        cover: &F,
-        covers: &mut SmallVec<Answer, 8>,
-    ) -> Result<(), NoMemory>
-        requires callable { F.IsAlwaysCallable cover.now }
-        requires empty { covers.old.items ≡ [] }
-        ensures len { OnOk result (length covers.new.items ≡ length self.now.broken.items) }
-        ensures each { OnOk result ((m : ℕ) (e : TheEntry) (c : TheCover)
-            → slice_get self.now.broken.items m ≡ Some e
-            → slice_get covers.new.items m ≡ Some c → MayCover F.Fn cover.now self.now e.place c) }
-    {
-        for k in 0..self.broken.len() {
-            let entry = &self.broken[k];
-            let found = cover(self, entry.place, entry.marks.core);
-            match covers.push(Answer::new(found)) {
-                Ok(()) => {}
-                Err(_) => return Err(NoMemory),
-            }
-        }
-        Ok(())
-    }
-
-    /// The issuer issued a TLBI that reaches these PEs, is broadcast or not, and covers each broken place as far as the
-    /// closure says of the map before the call, the place, and the core that it is broken over. `NoMemory` where there
-    /// is none, and nothing changes then. Only the pendings of the issuer change.
-    pub fn issue<F: Fn(&PlaceMap, Place, Core) -> Cover>(
+    /// The issuer issued a TLBI that reaches these PEs, is broadcast or not, and covers the broken places as far as
+    /// these covers say, which stand in the order of the numbers of `restless_at`. `NoMemory` where there is none, and
+    /// nothing changes then. Only the pendings of the issuer change.
+    pub fn issue_all(
         &mut self,
-        alloc: Global,
         issuer: Pe,
         reach: PeMask,
         broadcast: bool,
-        cover: F,
+        covers: &[Answer],
     ) -> Result<(), NoMemory>
-        requires { F.IsAlwaysCallable cover }
-        ensures noted { OnOk result ((a : ℕ) → is_some (marks_at self.old a) ≡ true → (c : TheCover)
-            × MayCover F.Fn cover self.old a c
-            × Noted (state_at self.old None a) (pends_at self.old issuer a) reach broadcast c
-            (pends_at self.new issuer a)) }
+        requires { length covers.now ≡ restless_in self.old }
+        ensures noted { OnOk result ((i : ℕ) (c : TheCover) → slice_get covers.now i ≡ Some c
+            → Noted (state_at self.old None (restless_place self.old i))
+            (pends_at self.old issuer (restless_place self.old i)) reach broadcast c
+            (pends_at self.new issuer (restless_place self.old i))) }
         ensures others { (q a : ℕ) → nat_eq q issuer ≡ false → pends_at self.new q a ≡ pends_at self.old q a }
         ensures kept { OnErr result (IsSame self.old self.new) }
         ensures values { (a : ℕ) → value_at self.new a ≡ value_at self.old a }
@@ -530,12 +625,10 @@ impl PlaceMap {
         ensures restless { restless_in self.new ≡ restless_in self.old }
         ensures places { (i : ℕ) → restless_place self.new i ≡ restless_place self.old i }
     {
-        let mut covers = SmallVec::new(alloc);
-        self.add_covers(&cover, &mut covers)?;
-        issue::make_room(&mut self.broken, &covers, issuer)?;
+        issue::make_room(&mut self.broken, covers, issuer)?;
         issue::note(
             &mut self.broken,
-            &covers,
+            covers,
             &Issuing {
                 issuer,
                 reach,
@@ -575,9 +668,11 @@ impl PlaceMap {
         if found.is_empty() {
             return Ok(());
         }
+        let first = read::entry_at(&self.pages, &self.cells, found[0].place);
         let kept = Kept {
             pages: &self.pages,
             cells: &self.cells,
+            near: first.unwrap_or(0),
         };
         issue::make_room_found(&kept, &mut self.broken, found, issuer)?;
         issue::note_found(

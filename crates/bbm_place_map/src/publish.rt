@@ -124,6 +124,7 @@ fn publish_list(cells: &[Cell], broken: &mut Vec<Entry>, list: &WorkList, barrie
 }
 
 /// The same. The list loses its cells where nothing is left, or passes them for the next DSB that reaches its PE alone.
+/// A DSB that publishes nothing visits none.
 fn publish_listed(cells: &[Cell], broken: &mut Vec<Entry>, list: &mut WorkList, barrier: &Barrier)
     requires able { CanPublish barrier.now cells.now broken.old.items }
     requires open { list.old.given_up ≡ false }
@@ -131,12 +132,15 @@ fn publish_listed(cells: &[Cell], broken: &mut Vec<Entry>, list: &mut WorkList, 
     ensures published { PublishesAll barrier.now broken.old broken.new }
     ensures known { HoldUntold (Holds list.new) barrier.now broken.new.items }
 {
+    let heard = publishes_to(barrier.dsb, barrier.issuer, barrier.n);
+    if heard.is_empty() {
+        return;
+    }
     publish_list(cells, broken, list, barrier);
     if !list.cells.is_empty() {
-        let heard = publishes_to(barrier.dsb, barrier.issuer, barrier.n);
         if PeMask::all(barrier.n).minus(heard).is_empty() {
             restart(list, false);
-        } else if heard.has(barrier.issuer) {
+        } else {
             pass_local(list);
         }
     }

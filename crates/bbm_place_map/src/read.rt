@@ -1,6 +1,7 @@
 //! What is kept of a cell.
 
-ghost use Rattle.std.specs.Prelude.{◌≡◌, ◌<◌, IfSome, length, None, nat_eq, true, ◌≤◌, ◌+◌, ◌^◌, ◌↔◌, ℕ};
+ghost use Rattle.std.specs.Prelude.{◌≡◌, ◌<◌, IfSome, length, None, Some, nat_eq, true, ◌≤◌, ◌+◌, ◌^◌, ◌↔◌, ℕ};
+ghost use Rattle.std.specs.Prelude.{is_some};
 ghost use Rattle.bbm_entry_state.specs.Points.{core_in, is_broken};
 ghost use Rattle.bbm_place_map.specs.Cells.{blank_at, slot_in};
 ghost use Rattle.bbm_place_map.specs.Entries.{WaitsAlike, entry_in};
@@ -62,6 +63,68 @@ pub fn index_at(pages: &IndexMap<u64, usize>, cells: &[Cell], place: Place) -> O
     }
 }
 
+/// The number of the first cell of the page that has this number in the order of the pages, where it is this page; None
+/// says nothing.
+#[inline(always)]
+fn base_here(pages: &IndexMap<u64, usize>, number: usize, page: u64) -> Option<usize>
+    ensures { IfSome result (λ base. get nat_eq pages.now page ≡ Some base) }
+{
+    match pages.get_index(number) {
+        Some((key, base)) => { if *key == page { Some(*base) } else { None } }
+        None => None,
+    }
+}
+
+/// The number of the first cell of a page; None where it isn't tracked. No answer depends on the number `near`, at
+/// which the page is looked for first.
+#[inline(always)]
+fn base_near(pages: &IndexMap<u64, usize>, near: usize, page: u64) -> Option<usize>
+    ensures { result ≡ get nat_eq pages.now page }
+{
+    match base_here(pages, near, page) {
+        Some(base) => Some(base),
+        None => pages.get(&page).copied(),
+    }
+}
+
+/// The number of a place's cell, where its page has this number in the order of the pages; None says nothing.
+#[inline(always)]
+pub fn index_here(
+    pages: &IndexMap<u64, usize>,
+    cells: &[Cell],
+    number: usize,
+    place: Place,
+) -> Option<usize>
+    requires { FewNumbered (get nat_eq pages.now) (length cells.now) }
+    ensures { IfSome result (λ j. index_of (get nat_eq pages.now) place ≡ Some j) }
+{
+    let _ = place.get();
+    match base_here(pages, number, place.page().get()) {
+        Some(base) => Some(base + place.index() as usize),
+        None => None,
+    }
+}
+
+/// The number of a place's cell; None where its page isn't tracked. No answer depends on the number `near`, at which
+/// the page is looked for first.
+#[inline(always)]
+pub fn index_near(
+    pages: &IndexMap<u64, usize>,
+    cells: &[Cell],
+    near: usize,
+    place: Place,
+) -> Option<usize>
+    requires { FewNumbered (get nat_eq pages.now) (length cells.now) }
+    ensures index { result ≡ index_of (get nat_eq pages.now) place }
+    ensures within { IfSome result (λ j. j < length cells.now) }
+{
+    let _ = place.get();
+    match base_near(pages, near, place.page().get()) {
+        Some(base) => Some(base + place.index() as usize),
+        None => None,
+    }
+}
+
 /// The number of a place's entry; None where the place isn't broken.
 pub fn entry_at(pages: &IndexMap<u64, usize>, cells: &[Cell], place: Place) -> Option<u32>
     requires { FewNumbered (get nat_eq pages.now) (length cells.now) }
@@ -92,6 +155,18 @@ pub fn state(cells: &[Cell], broken: &[Entry], j: usize, live: Option<Core>) -> 
     match entry(cells, broken, j) {
         Some(entry) => EntryState::Broken { marks: entry.marks },
         None => whole(live),
+    }
+}
+
+/// Whether a cell's place is broken.
+#[inline(always)]
+pub fn is_broken(cells: &[Cell], broken: &[Entry], j: usize) -> bool
+    requires { HasCell j cells.now broken.now }
+    ensures { result ≡ is_some (marks_in cells.now broken.now j) }
+{
+    match entry(cells, broken, j) {
+        Some(_entry) => true,
+        None => false,
     }
 }
 

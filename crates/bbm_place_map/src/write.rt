@@ -94,6 +94,42 @@ pub fn put_broken(
     mark(cells, broken, seat.index, seat.place, marks, alloc);
 }
 
+/// The same where the place isn't broken before.
+#[inline(always)]
+pub fn put_fresh(
+    cells: &mut Vec<Cell>,
+    broken: &mut Vec<Entry>,
+    seat: &Seat,
+    value: u64,
+    marks: Marks,
+    alloc: Global,
+)
+    requires able { CanBreak seat.now.index cells.old broken.old }
+    requires free { slot_in cells.old.items seat.now.index ≡ None }
+    ensures written { Writes seat.now.index value cells.old cells.new broken.old broken.new }
+    ensures marks { (i : ℕ) → marks_in cells.new.items broken.new.items i
+        ≡ (if nat_eq i seat.now.index then Some marks else marks_in cells.old.items broken.old.items i) }
+    ensures pends { (q i : ℕ) → pends_for cells.new.items broken.new.items q i
+        ≡ pends_for cells.old.items broken.old.items q i }
+    ensures placed { (base : ℕ → Option ℕ) → index_of base seat.now.place ≡ Some seat.now.index
+        → Placed base broken.old.items → Placed base broken.new.items }
+{
+    put_value(cells, seat.index, value);
+    link(cells, broken, seat.index, seat.place, marks, alloc);
+}
+
+/// Writes a value. Whether its place is broken, and what waits there, stays.
+#[inline(always)]
+pub fn put_bare(cells: &mut Vec<Cell>, j: usize, value: u64)
+    requires { j < vec_len cells.old }
+    ensures len { vec_len cells.new ≡ vec_len cells.old }
+    ensures values { (i : ℕ) → value_in cells.new.items i
+        ≡ (if nat_eq i j then value else value_in cells.old.items i) }
+    ensures kept { KeepsSlots cells.old.items cells.new.items }
+{
+    put_value(cells, j, value);
+}
+
 /// No place of the 512 cells from the base on is broken, and nothing waits there.
 pub fn clear_page(cells: &mut Vec<Cell>, broken: &mut Vec<Entry>, base: usize)
     requires able { FewLinked cells.old broken.old }

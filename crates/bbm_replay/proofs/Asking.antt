@@ -3,11 +3,12 @@ use Rattle.std.proofs.Common.{◌≡◌, ℕ, Bool, true, false, cond, ◌&&◌,
 use Rattle.bbm_regimes.specs.Extent.{Extent}
 use Rattle.bbm_regimes.specs.declared.regime.Kind.{Kind}
 use Rattle.bbm_regimes.specs.declared.regime.Kind.TheVariants.{El2, S2, Ttbr0, Ttbr1}
-use Rattle.bbm_tlbi_scope.specs.ScopeCovers.{cover_by, cover_of, fits_leaf, fits_place, fits_table}
+use Rattle.bbm_tlbi_scope.specs.ScopeCovers.{asid_matches, cover_by, cover_of, fits_leaf, fits_place, fits_table}
+use Rattle.bbm_tlbi_scope.specs.ScopeCovers.{vmid_matches, where_fits}
 use Rattle.bbm_tlbi_scope.specs.Numbers.{lacks_vmid, names_all, names_some}
 use Rattle.bbm_tlbi_scope.specs.Operations.{has_page}
 use Rattle.bbm_tlbi_scope.specs.declared.entry.Cover.{Cover}
-use Rattle.bbm_tlbi_scope.specs.declared.entry.Cover.TheVariants.{None as NoCover}
+use Rattle.bbm_tlbi_scope.specs.declared.entry.Cover.TheVariants.{None as NoCover, Second, Full}
 use Rattle.bbm_tlbi_scope.specs.declared.entry.PlaceView.{PlaceView}
 use Rattle.bbm_tlbi_scope.specs.declared.entry.TagSet.{TagSet}
 use Rattle.bbm_tlbi_scope.specs.declared.scope.Family.{Family}
@@ -67,32 +68,33 @@ module _ (s : Scope) (vmid : Option ℕ) (kind : Kind) (region : Extent) (level 
   by_fits Ttbr1 VaAll fits c c' t = refl
   by_fits Ttbr1 Asid fits c c' t = refl
 
-  -- it asks whether a place fits at operations that name pages alone
-  unpaged : (k : Kind) (f : Family) → has_page f ≡ false → (b b' : Bool) (v : PlaceView) → cover_by k f b s vmid v ≡ cover_by k f b' s vmid v
-  unpaged El2 El2All p b b' v = refl
-  unpaged S2 El2All p b b' v = refl
-  unpaged Ttbr0 El2All p b b' v = refl
-  unpaged Ttbr1 El2All p b b' v = refl
-  unpaged k El2Va p b b' v = absurd (true≢false p)
-  unpaged El2 E1All p b b' v = refl
-  unpaged S2 E1All p b b' v = refl
-  unpaged Ttbr0 E1All p b b' v = refl
-  unpaged Ttbr1 E1All p b b' v = refl
-  unpaged El2 VmAll1 p b b' v = refl
-  unpaged S2 VmAll1 p b b' v = refl
-  unpaged Ttbr0 VmAll1 p b b' v = refl
-  unpaged Ttbr1 VmAll1 p b b' v = refl
-  unpaged El2 VmAll12 p b b' v = refl
-  unpaged S2 VmAll12 p b b' v = refl
-  unpaged Ttbr0 VmAll12 p b b' v = refl
-  unpaged Ttbr1 VmAll12 p b b' v = refl
-  unpaged k Ipa p b b' v = absurd (true≢false p)
-  unpaged k Va p b b' v = absurd (true≢false p)
-  unpaged k VaAll p b b' v = absurd (true≢false p)
-  unpaged El2 Asid p b b' v = refl
-  unpaged S2 Asid p b b' v = refl
-  unpaged Ttbr0 Asid p b b' v = refl
-  unpaged Ttbr1 Asid p b b' v = refl
+  -- at operations that name no pages it asks the tags of a place alone
+  pub unpaged : (k : Kind) (f : Family) → has_page f ≡ false → (b b' : Bool) (v w : PlaceView) → v.tags ≡ w.tags
+      → cover_by k f b s vmid v ≡ cover_by k f b' s vmid w
+  unpaged El2 El2All p b b' v w same = refl
+  unpaged S2 El2All p b b' v w same = refl
+  unpaged Ttbr0 El2All p b b' v w same = refl
+  unpaged Ttbr1 El2All p b b' v w same = refl
+  unpaged k El2Va p b b' v w same = absurd (true≢false p)
+  unpaged El2 E1All p b b' v w same = refl
+  unpaged S2 E1All p b b' v w same = refl
+  unpaged Ttbr0 E1All p b b' v w same = refl
+  unpaged Ttbr1 E1All p b b' v w same = refl
+  unpaged El2 VmAll1 p b b' v w same = refl
+  unpaged S2 VmAll1 p b b' v w same = ap (λ t. where_fits Second (vmid_matches vmid t)) same
+  unpaged Ttbr0 VmAll1 p b b' v w same = refl
+  unpaged Ttbr1 VmAll1 p b b' v w same = refl
+  unpaged El2 VmAll12 p b b' v w same = refl
+  unpaged S2 VmAll12 p b b' v w same = ap (λ t. where_fits Full (vmid_matches vmid t)) same
+  unpaged Ttbr0 VmAll12 p b b' v w same = refl
+  unpaged Ttbr1 VmAll12 p b b' v w same = refl
+  unpaged k Ipa p b b' v w same = absurd (true≢false p)
+  unpaged k Va p b b' v w same = absurd (true≢false p)
+  unpaged k VaAll p b b' v w same = absurd (true≢false p)
+  unpaged El2 Asid p b b' v w same = refl
+  unpaged S2 Asid p b b' v w same = refl
+  unpaged Ttbr0 Asid p b b' v w same = ap (λ t. where_fits Full (asid_matches s.asid t)) same
+  unpaged Ttbr1 Asid p b b' v w same = refl
 
   untagged : (k : Kind) (f : Family) → asks_tags f k ≡ false → (fits c : Bool) (t t' : TagSet)
       → cover_by k f fits s vmid (seen c t) ≡ cover_by k f fits s vmid (seen c t')
@@ -161,7 +163,7 @@ module _ (s : Scope) (vmid : Option ℕ) (kind : Kind) (region : Extent) (level 
           → cover_by kind f (cond w (fits_table s (seen c t)) (fits_leaf s (seen c t))) s vmid v
           ≡ cover_by kind f (cond w (fits_table s (seen c' t)) (fits_leaf s (seen c' t))) s vmid v
       by w false e k = unpaged kind f e (cond w (fits_table s (seen c t)) (fits_leaf s (seen c t)))
-          (cond w (fits_table s (seen c' t)) (fits_leaf s (seen c' t))) v
+          (cond w (fits_table s (seen c' t)) (fits_leaf s (seen c' t))) v v refl
       by false true e k = refl
       by true true e k = ap (λ x. cover_by kind f x s vmid v) (same_table c c' t k)
 

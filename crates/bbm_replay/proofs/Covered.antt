@@ -1,7 +1,9 @@
 -- How far a TLBI covers a broken place.
-use Rattle.std.proofs.Common.{◌≡◌, ℕ, Bool, true, false, List, Option, Some, None, is_some, option_and_then, refl}
+use Rattle.std.proofs.Common.{◌≡◌, ℕ, Bool, true, List, Option, Some, None, is_some, option_and_then, refl}
 use Rattle.std.proofs.Common.{sym, ◌∙◌, ap}
 use Rattle.std.specs.Prelude.{unwrap_or}
+use Rattle.bbm_lemmas.proofs.Tautologies.{proved}
+use Rattle.bbm_lemmas.proofs.Tautologies.Claim.{If, Is}
 use Rattle.bbm_descriptor.specs.Descriptor.{desc_of}
 use Rattle.bbm_descriptor.specs.Descriptor as descriptor
 use Rattle.bbm_descriptor.specs.declared.desc.Core.{Core}
@@ -42,9 +44,7 @@ global_is (Leaf out attrs share global contiguous) c k =
     let same : core.Leaf out attrs share global contiguous ≡ c = cc in ap (λ (x : Core). is_global_core (Some x)) (sym same)
 
 pub same_by_truth : (a b : Bool) → ((a ≡ true) → b ≡ true) → ((b ≡ true) → a ≡ true) → a ≡ b
-same_by_truth true b f g = sym (f refl)
-same_by_truth false true f g = g refl
-same_by_truth false false f g = refl
+same_by_truth = proved 2 (λ a b. If (If (Is a true) (Is b true)) (If (If (Is b true) (Is a true)) (Is a b))) refl
 
 module _ (heading : Heading) (h : List Event) (pe : ℕ) (op : TlbiOp) (xt : ℕ) (scope : Scope) (vmid : Option ℕ) (place : ℕ)
     (n : Node) (value : ℕ) (table global childless : Bool) (tags : TagSet)

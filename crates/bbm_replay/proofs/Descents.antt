@@ -1,9 +1,11 @@
 -- What a TLBI of one page covers lies on the way down to the page.
 use Rattle.std.proofs.Common.{◌≡◌, ℕ, zero, suc, ◌+◌, ◌*◌, ◌%◌, ◌<◌, ◌≤◌, ◌&&◌, ◌==◌, nat_le, Bool, true, false, cond}
-use Rattle.std.proofs.Common.{List, [], ◌∷◌, length, Option, Some, None, is_none, not, refl, sym, ◌∙◌, ap, subst}
+use Rattle.std.proofs.Common.{List, [], ◌∷◌, Option, Some, None, is_none, not, refl, sym, ◌∙◌, ap, subst}
 use Rattle.std.proofs.Common.{true≢false, arith}
 use Rattle.std.proofs.Math.Nat.{mul-le-mul_right}
 use Rattle.std.proofs.lemmas.Bool.{eq-eqb, and_right, and_left, and_from}
+use Rattle.bbm_lemmas.proofs.Tautologies.{proved}
+use Rattle.bbm_lemmas.proofs.Tautologies.Claim.{If, Is}
 use Rattle.bbm_regimes.specs.Extent.{Extent, meets}
 use Rattle.bbm_regimes.specs.World.{input_pages}
 use Rattle.bbm_regimes.specs.declared.regime.Kind.{Kind}
@@ -90,10 +92,7 @@ none_by s vmid v e = by (lacks_vmid s.vmid_scoped vmid)
     by false = e
 
 and_swap : (a b : Bool) → (a && b) ≡ false → (b && a) ≡ false
-and_swap true true k = k
-and_swap true false k = refl
-and_swap false true k = refl
-and_swap false false k = refl
+and_swap = proved 2 (λ a b. If (Is (a && b) false) (Is (b && a) false)) refl
 
 -- the input page isn't one of the region
 abbrev pub lies_in : ℕ → Extent → Bool
@@ -162,7 +161,7 @@ module _ (heading : Heading) (laws : Laws heading) (h : List Event) (v : View) (
     (fit : AllFit heading h) (nodes : SameNodes heading h v.node) (cores : SameCores heading h (core_at v)) (at a : ℕ)
   where
     -- a page of a root, from which the way goes down to the place
-    pub record Top (m : Node) (steps : ℕ) : Type 0 where
+    pub record Top (m : Node) : Type 0 where
       pub page : ℕ
       pub start : Node
       pub is_start : v.node page ≡ Some start
@@ -171,10 +170,9 @@ module _ (heading : Heading) (laws : Laws heading) (h : List Event) (v : View) (
       pub kind : start.kind ≡ m.kind
       pub way : List ℕ
       pub leads : IsWay v.node (core_at v) at page way a
-      pub count : length way + start.level ≡ steps + m.level
 
     climb : (above : List Above) (p : ℕ) (m : Node) → v.node p ≡ Some m → m.above ≡ above → m.base ≤ at
-        → at < m.base + 512 * input_pages m.level → (way : List ℕ) → IsWay v.node (core_at v) at p way a → Top m (length way)
+        → at < m.base + 512 * input_pages m.level → (way : List ℕ) → IsWay v.node (core_at v) at p way a → Top m
     climb [] p m is none lo hi way leads = record {
       page = p;
       start = m;
@@ -184,7 +182,6 @@ module _ (heading : Heading) (laws : Laws heading) (h : List Event) (v : View) (
       kind = refl;
       way = way;
       leads = leads;
-      count = refl;
     }
     climb (x ∷ above) p m is up lo hi way leads =
         let hangs = laws.neighbours.up h v p m x above kept fit nodes cores is up in
@@ -221,17 +218,13 @@ module _ (heading : Heading) (laws : Laws heading) (h : List Event) (v : View) (
           kind = top.kind ∙ sym (ap (λ (n : Node). n.kind) made);
           way = top.way;
           leads = top.leads;
-          count = shift (length top.way + top.start.level) (length way) parent.level m.level top.count level;
         }
       where
         tails : (y z : Above) (ys zs : List Above) → y ∷ ys ≡ z ∷ zs → ys ≡ zs
         tails y z ys zs e = cc
 
-        shift : (n k l m : ℕ) → n ≡ suc k + l → m ≡ suc l → n ≡ k + m
-        shift n k l m e f = omega arith
-
     pub top : (n : Node) → v.node (page_of a) ≡ Some n → a % 8 ≡ 0 → region_start n a ≤ at
-        → at < region_start n a + input_pages n.level → Top n 0
+        → at < region_start n a + input_pages n.level → Top n
     top n is eighth from to =
         let inside = part_inside n.base (index_of a) (input_pages n.level) at (index_small a) from to in
         climb n.above (page_of a) n is refl inside.0 inside.1 []

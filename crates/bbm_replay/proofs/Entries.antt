@@ -1,6 +1,8 @@
 -- One place after an event that leaves it.
 use Rattle.std.proofs.Common.{◌≡◌, ℕ, ◌<◌, Bool, true, false, ◌&&◌, List, ◌∷◌, Option, Some, None, refl, sym, ◌∙◌, ap}
 use Rattle.std.proofs.Common.{subst}
+use Rattle.bbm_lemmas.proofs.Tautologies.{proved}
+use Rattle.bbm_lemmas.proofs.Tautologies.Claim.{If, Is}
 use Rattle.bbm_descriptor.specs.Descriptor.{core_of}
 use Rattle.bbm_entry_state.specs.Points.{is_broken, waits}
 use Rattle.bbm_entry_state.specs.declared.marks.Marks.{Marks}
@@ -29,8 +31,7 @@ pub fit_more : (heading : Heading) (h : List Event) (e : Event) → AllFit headi
 fit_more heading h e k f = rw (f, k) refl
 
 guard : (x y : Bool) → (x ≡ false → y ≡ false) → y ≡ (x && y)
-guard true y k = refl
-guard false y k = k refl
+guard = proved 2 (λ x y. If (If (Is x false) (Is y false)) (Is y (x && y))) refl
 
 pub state_same : (kind : Kind) (level : ℕ) (v v' : ℕ) (m m' : Option Marks) → v' ≡ v → m' ≡ m
     → state_from (core_of kind level v) m ≡ state_from (core_of kind level v') m'

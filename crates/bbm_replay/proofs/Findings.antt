@@ -1,19 +1,13 @@
 -- Places that are found, each with its cover.
 use Rattle.std.specs.Prelude.{IfSome, OnOk}
 use Rattle.std.proofs.Common.{◌≡◌, ℕ, zero, suc, Bool, true, false, ◌||◌, List, [], ◌∷◌, ◌++◌, Option, Some, nat_eq}
-use Rattle.std.proofs.Common.{Result, Ok, Err, refl, ap, subst, not-suc-le-zero, le_of_suc-le-suc}
+use Rattle.std.proofs.Common.{Result, Ok, Err, refl, ap, subst, not-suc-le-zero, le_of_suc-le-suc, slice_get, length}
+use Rattle.std.proofs.Common.{◌<◌}
 use Rattle.std.proofs.lemmas.Bool.{eq-eqb, or_right}
 use Rattle.std.proofs.lemmas.List.Elements.{All-append}
-use Rattle.bbm_descriptor.specs.declared.desc.Core.{Core}
 use Rattle.bbm_place_map.specs.Finds.{FoundAs, is_found}
 use Rattle.bbm_place_map.specs.declared.found.Found.{Found}
-use Rattle.bbm_place_map.specs.declared.map.PlaceMap.{PlaceMap}
-use Rattle.bbm_tree_index.specs.declared.index.TreeIndex.{TreeIndex}
 use Rattle.bbm_tlbi_scope.specs.declared.entry.Cover.{Cover}
-use Rattle.bbm_replay_roots.specs.declared.state.RootState.{RootState}
-use Rattle.bbm_rules.specs.Prelude.{Heading, Event, TlbiOp}
-use Rattle.bbm_replay_roots.specs.declared.named.NamedTlbi.{NamedTlbi}
-use Rattle.bbm_replay.specs.Covering.{IsBrokenOver, MayBeCovered, MayBeIssued}
 
 pub on_ok : {A E : Type 0} (r : Result A E) {P Q : Type 0} → OnOk r P → (P → Q) → OnOk r Q
 on_ok (Ok x) p f = f p
@@ -27,28 +21,15 @@ pub on_both : {A E : Type 0} (r : Result A E) {P Q R : Type 0} → OnOk r P → 
 on_both (Ok x) p q f = f p q
 on_both (Err x) p q f = tt
 
-pub may_cover : (heading : Heading) (h : List Event) (map : PlaceMap) (index : TreeIndex) (state : RootState) (pe : ℕ)
-    (op : TlbiOp) (xt : ℕ) (named : NamedTlbi) (place : ℕ) (core : Core)
-    → MayBeIssued heading h map index state pe op xt named → IsBrokenOver map place core
-    → MayBeCovered heading h map index state pe op xt named place core
-may_cover heading h map index state pe op xt named place core m over = record {
-  told = m.told;
-  stands = m.stands;
-  names = m.names;
-  vmid_is = m.vmid_is;
-  over = over;
-}
+-- an element before the end, and the one at the end
+pub at_end : {X : Type 0} (xs : List X) (x : X) → slice_get (xs ++ x ∷ []) (length xs) ≡ Some x
+at_end [] x = refl
+at_end (y ∷ ys) x = at_end ys x
 
-pub issued : (heading : Heading) (h : List Event) (map : PlaceMap) (index : TreeIndex) (state : RootState) (pe : ℕ)
-    (op : TlbiOp) (xt : ℕ) (named : NamedTlbi) (place : ℕ) (core : Core)
-    → MayBeCovered heading h map index state pe op xt named place core
-    → MayBeIssued heading h map index state pe op xt named
-issued heading h map index state pe op xt named place core m = record {
-  told = m.told;
-  stands = m.stands;
-  names = m.names;
-  vmid_is = m.vmid_is;
-}
+pub before_end : {X : Type 0} (xs : List X) (x : X) (i : ℕ) → i < length xs → slice_get (xs ++ x ∷ []) i ≡ slice_get xs i
+before_end [] x i below = absurd (not-suc-le-zero below)
+before_end (y ∷ ys) x zero below = refl
+before_end (y ∷ ys) x (suc i) below = before_end ys x i (le_of_suc-le-suc below)
 
 pub as_end : (xs : List Found) (x : Found) (f : ℕ → Cover) → FoundAs xs f → x.cover ≡ f x.place → FoundAs (xs ++ x ∷ []) f
 as_end xs x f all e = All-append (λ (y : Found). y.cover ≡ f y.place) xs (x ∷ []) all one

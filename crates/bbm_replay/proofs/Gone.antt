@@ -4,6 +4,8 @@ use Rattle.std.proofs.Common.{sym, ◌∙◌, ap}
 use Rattle.bbm_entry_state.specs.Points.{waits}
 use Rattle.bbm_entry_state.specs.declared.marks.Marks.{Marks}
 use Rattle.bbm_entry_state.specs.declared.pending.Pends.{Pends}
+use Rattle.bbm_place_map.specs.Map.{marks_at}
+use Rattle.bbm_place_map.specs.declared.map.PlaceMap.{PlaceMap}
 use Rattle.bbm_rules.specs.Broken.{broken}
 use Rattle.bbm_rules.specs.Claims.Trust.{Patterns}
 use Rattle.bbm_rules.specs.Places.{page_of}
@@ -11,10 +13,13 @@ use Rattle.bbm_rules.specs.Prelude.{Heading, Event, Unroot}
 use Rattle.bbm_rules.specs.Tree.{Node}
 use Rattle.bbm_rules.specs.declared.step_fault.StepFault.{StepFault}
 use Rattle.bbm_tree_index.specs.HeldCores.{leaves}
+use Rattle.bbm_tree_index.specs.Index.{node_in}
+use Rattle.bbm_tree_index.specs.IndexChanges.{TakesOut}
+use Rattle.bbm_tree_index.specs.declared.index.TreeIndex.{TreeIndex}
 use Rattle.bbm_replay_roots.specs.RootStateStands as roots
-use Rattle.bbm_replay_trees.specs.Told.{View, kept}
+use Rattle.bbm_replay_trees.specs.Told.{kept}
 use Rattle.bbm_replay.specs.ReplayLaws.{Laws}
-use Rattle.bbm_replay.proofs.Moves.{Leaves, SamePages, SameTracked}
+use Rattle.bbm_replay.proofs.Moves.{Leaves}
 use Rattle.bbm_replay.specs.ReplayRules.{Rules}
 use Rattle.bbm_replay.specs.ReplayStanding.{MayMeet, Meets, SameFrame, Stands, view_of}
 use Rattle.bbm_replay.specs.declared.parts.ReplayState.{ReplayState}
@@ -40,23 +45,24 @@ goes keeps (Some n) m k whole = by (keeps n) refl k
     by true e k = let bad : Some n ≡ None = k in absurd cc
     by false e k = ap (λ b. cond (not b) None m) e
 
-pub leaves_of : (old new : View) (keeps : Node → Bool) → ((a : ℕ) → old.node (page_of a) ≡ None → old.marks a ≡ None)
-    → ((p : ℕ) → new.node p ≡ kept keeps (old.node p)) → ((a : ℕ) → new.value a ≡ old.value a)
-    → ((a : ℕ) → new.marks a ≡ cond (leaves keeps (old.node (page_of a))) None (old.marks a))
-    → ((q a : ℕ) → leaves keeps (old.node (page_of a)) ≡ false → new.pends q a ≡ old.pends q a)
-    → SamePages old new → SameTracked old new → Leaves old new keeps
-leaves_of old new keeps outside node value marks pends roles tracking = record {
-  node = node;
-  value = value;
-  marks = λ a. (
-    (λ none. marks a ∙ goes keeps (old.node (page_of a)) (old.marks a) (sym (node _) ∙ none) (outside a)),
-    (λ n is. marks a ∙ ap (λ b. cond b None (old.marks a)) (stays_there keeps (old.node (page_of a)) n (sym (node _) ∙ is))),
-  );
-  pends = λ q a n is b c p. ap (λ (x : Pends). waits x b c p)
-      (pends q a (stays_there keeps (old.node (page_of a)) n (sym (node _) ∙ is)));
-  roles = roles;
-  tracking = tracking;
-}
+pub leaves_of : (old new : TreeIndex) (before after : PlaceMap) (keeps : Node → Bool)
+    → ((a : ℕ) → node_in old (page_of a) ≡ None → marks_at before a ≡ None) → TakesOut keeps old new before after
+    → Leaves (view_of before old) (view_of after new) keeps
+leaves_of old new before after keeps outside out =
+    let node = out.trees.node in
+    record {
+      node = node;
+      value = out.map.values;
+      marks = λ a. (
+        (λ none. out.map.marks a ∙ goes keeps (node_in old (page_of a)) (marks_at before a) (sym (node _) ∙ none) (outside a)),
+        (λ n is. out.map.marks a
+            ∙ ap (λ b. cond b None (marks_at before a)) (stays_there keeps (node_in old (page_of a)) n (sym (node _) ∙ is))),
+      );
+      pends = λ q a n is b c p. ap (λ (x : Pends). waits x b c p)
+          (out.map.pends q a (stays_there keeps (node_in old (page_of a)) n (sym (node _) ∙ is)));
+      roles = record { fresh = out.trees.fresh; null = out.trees.null };
+      tracking = record { tracked = out.map.pages; known = out.tracked.known; pages = out.tracked.pages };
+    }
 
 module _ (laws : (heading : Heading) → Laws heading) (rules : (heading : Heading) → Rules heading) (old : ReplayState)
     (pe page : ℕ) (m : MayMeet old (Unroot pe page)) where

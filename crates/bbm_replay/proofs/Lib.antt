@@ -19,6 +19,7 @@ pub mod Settling
 pub mod Rooting
 pub mod RootPages
 pub mod Inside
+pub mod Quick
 pub mod Found
 pub mod Empty
 pub mod Covered
@@ -26,6 +27,7 @@ pub mod Extents
 pub mod Descents
 pub mod Findings
 pub mod Asking
+pub mod SamePage
 pub mod Ways
 pub mod Whole
 pub mod Unmet

@@ -1,11 +1,11 @@
 -- Events that concern the roots, registers and locks alone.
-use Rattle.std.proofs.Common.{◌≡◌, ℕ, ◌<◌, Bool, true, false, ◌||◌, ◌==◌, nat_lt, List, [], ◌∷◌, Option, None, Result}
+use Rattle.std.proofs.Common.{◌≡◌, ℕ, Bool, true, false, ◌||◌, ◌==◌, nat_lt, List, [], ◌∷◌, Option, None, Result}
 use Rattle.std.proofs.Common.{Ok, Err, OnOk, OnErr, refl, sym, ◌∙◌, ap, subst}
 use Rattle.std.proofs.lemmas.Bool.{and_parts, eqb-true}
 use Rattle.bbm_regimes.specs.declared.regime.Reg.{Reg}
 use Rattle.bbm_regimes.specs.declared.regime.Which.{Which}
 use Rattle.bbm_events.specs.Fits.{fits_heading, is_page}
-use Rattle.bbm_rules.specs.Answers.{Answers, MayAsk, rewrites, takes_no_memory}
+use Rattle.bbm_rules.specs.Answers.{Answers, rewrites, takes_no_memory}
 use Rattle.bbm_rules.specs.Broken.{Breach, broken}
 use Rattle.bbm_rules.specs.Claims.Trust.{Patterns}
 use Rattle.bbm_rules.specs.Limits.{limit_of}
@@ -89,20 +89,20 @@ pub meets_judged : ((heading : Heading) → Laws heading) → (p : ReplayState) 
     → is_quiet e ≡ true → (result : Result (Unit {0}) StepFault)
     → ((heading : Heading) (h : List Event) → roots.Stands p.roots heading h → roots.Judges result (broken heading Patterns h e))
     → ((h : List Event) → limit_of h e ≡ None)
-    → OnOk result ((heading : Heading) (h : List Event) → roots.Stands p.roots heading h → roots.Stands r heading (e ∷ h))
-    → OnErr result ((heading : Heading) (h : List Event) → roots.Stands p.roots heading h → roots.Stands r heading h)
+    → OnOk result (roots.Takes e p.roots r)
+    → OnErr result (roots.Keeps p.roots r)
     → Meets p (with_roots p r) e result
 meets_judged laws p r e m quiet (Ok u) judged limit taken same = record {
   judged = λ heading h s. (judged heading h s.roots, limit h);
   taken = λ heading h s. stands_quiet laws p r e quiet heading h s (fits_all p e m heading h s) (judged heading h s.roots)
-      (taken heading h s.roots);
+      (taken.taken heading h s.roots);
   unchanged = tt;
   frugal = tt;
 }
 meets_judged laws p r e m quiet (Err fault) judged limit taken same = record {
   judged = λ heading h s. answers (Err fault) (broken heading Patterns h e) (limit_of h e) (judged heading h s.roots) (limit h);
   taken = tt;
-  unchanged = λ heading h s. stands_same p r heading h s (same heading h s.roots);
+  unchanged = λ heading h s. stands_same p r heading h s (same.same heading h s.roots);
   frugal = frugal_judged p e fault (λ heading h s. judged heading h s.roots);
 }
 
@@ -157,16 +157,15 @@ pub meets_msr : ((heading : Heading) → Laws heading) → (p : ReplayState) (r 
     → ((heading : Heading) (h : List Event) → Stands p heading h → null ≡ has_null_base h value)
     → ((heading : Heading) (h : List Event) → roots.Stands p.roots heading h → null ≡ has_null_base h value
     → Answers result (broken heading Patterns h (Msr pe reg value)) (limit_of h (Msr pe reg value)))
-    → OnOk result ((heading : Heading) (h : List Event) → roots.Stands p.roots heading h → null ≡ has_null_base h value
-    → roots.Stands r heading (Msr pe reg value ∷ h))
-    → OnErr result ((heading : Heading) (h : List Event) → roots.Stands p.roots heading h → roots.Stands r heading h)
+    → OnOk result (roots.TakesWhere (λ _ h. null ≡ has_null_base h value) (Msr pe reg value) p.roots r)
+    → OnErr result (roots.Keeps p.roots r)
     → Meets p (with_roots p r) (Msr pe reg value) result
 meets_msr laws p r pe reg value m (Ok u) null names judged taken same =
     meets_answered laws p r (Msr pe reg value) m refl (Ok u) (λ heading h s. judged heading h s.roots (names heading h s))
-    (λ heading h s. taken heading h s.roots (names heading h s)) same (λ heading h s. (refl, refl))
+    (λ heading h s. taken.taken heading h s.roots (names heading h s)) tt (λ heading h s. (refl, refl))
 meets_msr laws p r pe reg value m (Err fault) null names judged taken same =
     meets_answered laws p r (Msr pe reg value) m refl (Err fault) (λ heading h s. judged heading h s.roots (names heading h s))
-    tt same (λ heading h s. (refl, refl))
+    tt same.same (λ heading h s. (refl, refl))
 
 -- an address that is no page's is no null page
 pub never_null : (heading : Heading) (h : List Event) (base : ℕ) → AllFit heading h → (is_page base ≡ true → ⊥)

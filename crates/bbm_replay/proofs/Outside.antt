@@ -1,6 +1,8 @@
 -- A write at a place of no tree, at the parts.
-use Rattle.std.proofs.Common.{◌≡◌, ℕ, ◌%◌, Bool, true, false, not, ◌&&◌, ◌||◌, ◌==◌, List, ◌∷◌, Some, None, Ok, Err}
-use Rattle.std.proofs.Common.{refl, sym, ◌∙◌, ap, subst}
+use Rattle.std.proofs.Common.{◌≡◌, ℕ, ◌%◌, true, false, not, ◌&&◌, ◌||◌, ◌==◌, List, ◌∷◌, Some, None, Ok, Err}
+use Rattle.std.proofs.Common.{refl, sym, ◌∙◌, subst}
+use Rattle.bbm_lemmas.proofs.Tautologies.{proved}
+use Rattle.bbm_lemmas.proofs.Tautologies.Claim.{If, Is}
 use Rattle.bbm_entry_state.specs.declared.state.EntryState.TheVariants as state
 use Rattle.bbm_rules.specs.Broken.{broken}
 use Rattle.bbm_rules.specs.Claims.Trust.{Patterns}
@@ -59,36 +61,44 @@ module _ (laws : (heading : Heading) → Laws heading) (rules : (heading : Headi
         is_rewritten : (value_at old.map place % 2 == 1 && not (value_at old.map place == v)) ≡ true
             → broken heading Patterns h (Write pe place v) ≡ Some (record { rule = RewrittenFresh; at = place })
         is_rewritten k = write_is heading (rules heading) h (view_of old.map old.index) s.told pe place v
-            ∙ passes NoLock _ _ ((rules heading).writes.outside h (view_of old.map old.index) pe place v s.told.nodes away).0
+            ∙ passes NoLock _ _ ((rules heading).writes.outside h (view_of old.map old.index)
+            pe place v s.told.nodes away).0
             ∙ passes NullWritten _ _ (null_is ∙ where_false (null_in old.index (page_of place)) place real)
-            ∙ passes BreakBeforeMake _ _ ((rules heading).writes.outside h (view_of old.map old.index) pe place v s.told.nodes away).1 ∙ passes LimboMake _ _ ((rules heading).writes.outside h (view_of old.map old.index) pe place v s.told.nodes away).2
-            ∙ passes NotFresh _ _ (((rules heading).unattached.outside h (view_of old.map old.index) pe place v s.told.nodes s.told.fresh s.told.null away).1
-            ∙ where_false (not (fresh_in old.index (page_of place) || null_in old.index (page_of place))) (page_of place) (rw fresh refl))
+            ∙ passes BreakBeforeMake _ _ ((rules heading).writes.outside h (view_of old.map old.index)
+            pe place v s.told.nodes away).1 ∙ passes LimboMake _ _ ((rules heading).writes.outside h
+            (view_of old.map old.index) pe place v s.told.nodes away).2
+            ∙ passes NotFresh _ _ (((rules heading).unattached.outside h (view_of old.map old.index)
+            pe place v s.told.nodes s.told.fresh s.told.null away).1
+            ∙ where_false (not (fresh_in old.index (page_of place) || null_in old.index (page_of place)))
+            (page_of place) (rw fresh refl))
             ∙ stops RewrittenFresh _ _ place (rewritten_is
-            ∙ where_true (fresh_in old.index (page_of place) && (value_at old.map place % 2 == 1) && not (value_at old.map place == v)) place
-            (and_all (fresh_in old.index (page_of place)) (value_at old.map place % 2 == 1) (not (value_at old.map place == v)) fresh k))
-          where
-            and_all : (x y z : Bool) → x ≡ true → (y && z) ≡ true → (x && y && z) ≡ true
-            and_all x true z e k = ap (λ b. b && true && z) e ∙ k
-            and_all x false z e k = let bad : false ≡ true = k in absurd cc
+            ∙ where_true (fresh_in old.index (page_of place) && (value_at old.map place % 2 == 1) && not
+            (value_at old.map place == v)) place
+            (proved 3 (λ x y z. If (Is x true) (If (Is (y && z) true) (Is (x && y && z) true))) refl (fresh_in old.index
+            (page_of place)) (value_at old.map place % 2 == 1) (not (value_at old.map place == v)) fresh k))
 
         is_fine : (value_at old.map place % 2 == 1 && not (value_at old.map place == v)) ≡ false
             → broken heading Patterns h (Write pe place v) ≡ None
         is_fine k = write_is heading (rules heading) h (view_of old.map old.index) s.told pe place v
-            ∙ passes NoLock _ _ ((rules heading).writes.outside h (view_of old.map old.index) pe place v s.told.nodes away).0
+            ∙ passes NoLock _ _ ((rules heading).writes.outside h (view_of old.map old.index)
+            pe place v s.told.nodes away).0
             ∙ passes NullWritten _ _ (null_is ∙ where_false (null_in old.index (page_of place)) place real)
-            ∙ passes BreakBeforeMake _ _ ((rules heading).writes.outside h (view_of old.map old.index) pe place v s.told.nodes away).1 ∙ passes LimboMake _ _ ((rules heading).writes.outside h (view_of old.map old.index) pe place v s.told.nodes away).2
-            ∙ passes NotFresh _ _ (((rules heading).unattached.outside h (view_of old.map old.index) pe place v s.told.nodes s.told.fresh s.told.null away).1
-            ∙ where_false (not (fresh_in old.index (page_of place) || null_in old.index (page_of place))) (page_of place) (rw fresh refl))
+            ∙ passes BreakBeforeMake _ _ ((rules heading).writes.outside h (view_of old.map old.index)
+            pe place v s.told.nodes away).1 ∙ passes LimboMake _ _ ((rules heading).writes.outside h
+            (view_of old.map old.index) pe place v s.told.nodes away).2
+            ∙ passes NotFresh _ _ (((rules heading).unattached.outside h (view_of old.map old.index)
+            pe place v s.told.nodes s.told.fresh s.told.null away).1
+            ∙ where_false (not (fresh_in old.index (page_of place) || null_in old.index (page_of place)))
+            (page_of place) (rw fresh refl))
             ∙ passes RewrittenFresh _ _ (rewritten_is
-            ∙ where_false (fresh_in old.index (page_of place) && (value_at old.map place % 2 == 1) && not (value_at old.map place == v)) place
-            (and_none (fresh_in old.index (page_of place)) (value_at old.map place % 2 == 1) (not (value_at old.map place == v)) k))
-            ∙ passes BadKind _ _ ((rules heading).unattached.outside h (view_of old.map old.index) pe place v s.told.nodes s.told.fresh s.told.null away).2 ∙ passes GlobalUser _ _ ((rules heading).unattached.outside h (view_of old.map old.index) pe place v s.told.nodes s.told.fresh s.told.null away).3
-          where
-            and_none : (x y z : Bool) → (y && z) ≡ false → (x && y && z) ≡ false
-            and_none true y z k = k
-            and_none false true z k = refl
-            and_none false false z k = refl
+            ∙ where_false (fresh_in old.index (page_of place) && (value_at old.map place % 2 == 1) && not
+            (value_at old.map place == v)) place
+            (proved 3 (λ x y z. If (Is (y && z) false) (Is (x && y && z) false)) refl (fresh_in old.index
+            (page_of place)) (value_at old.map place % 2 == 1) (not (value_at old.map place == v)) k))
+            ∙ passes BadKind _ _ ((rules heading).unattached.outside h (view_of old.map old.index)
+            pe place v s.told.nodes s.told.fresh s.told.null away).2 ∙ passes GlobalUser _ _
+            ((rules heading).unattached.outside h (view_of old.map old.index)
+            pe place v s.told.nodes s.told.fresh s.told.null away).3
 
   pub outside_null : null_in old.index (page_of place) ≡ true → Meets old old (Write pe place v) (Err (Broken NullWritten place))
   outside_null k = meets_broken old (Write pe place v) NullWritten place (λ heading h s. is_null heading h s k)

@@ -3,6 +3,8 @@ use Rattle.std.proofs.Common.{◌≡◌, ℕ, zero, suc, ◌+◌, ◌*◌, ◌%�
 use Rattle.std.proofs.Common.{◌||◌, ◌==◌, nat_le, nat_lt, List, [], ◌∷◌, length, Contains, slice_index_or, None, filter}
 use Rattle.std.proofs.Common.{refl, sym, ◌∙◌, ap, subst, inl, inr, arith, not-suc-le-zero, le_of_suc-le-suc}
 use Rattle.std.proofs.lemmas.Bool.{and_parts, eqb-true, ltb-true}
+use Rattle.bbm_lemmas.proofs.Tautologies.{proved}
+use Rattle.bbm_lemmas.proofs.Tautologies.Claim.{If, Is}
 use Rattle.bbm_regimes.specs.World.{are_s2_pages, input_pages, page_count, world_ok}
 use Rattle.bbm_regimes.specs.declared.regime.Kind.{Kind}
 use Rattle.bbm_regimes.specs.declared.regime.Kind.TheVariants.{El2, S2, Ttbr0, Ttbr1}
@@ -15,10 +17,7 @@ use Rattle.bbm_rules.specs.Tree.{Node, nodes_of_pages}
 use Rattle.bbm_lemmas.proofs.Bools.{third_true}
 
 last4 : (a b c d : Bool) → (a && b && c && d) ≡ true → d ≡ true
-last4 true true true d k = k
-last4 true true false d k = let bad : false ≡ true = k in absurd cc
-last4 true false c d k = let bad : false ≡ true = k in absurd cc
-last4 false b c d k = let bad : false ≡ true = k in absurd cc
+last4 = proved 4 (λ a b c d. If (Is (a && b && c && d) true) (Is d true)) refl
 
 -- a stage 2 root has 1, 2, 4, 8 or 16 pages
 few : (start pages : ℕ) → are_s2_pages start pages ≡ true

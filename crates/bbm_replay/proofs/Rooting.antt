@@ -1,6 +1,6 @@
 -- A root that is declared, at the parts.
-use Rattle.std.proofs.Common.{◌≡◌, ℕ, ◌⊎◌, ◌↔◌, Bool, true, false, cond, not, ◌&&◌, List, [], ◌∷◌, length, Option, Some}
-use Rattle.std.proofs.Common.{None, is_none, filter, Result, Ok, Err, refl, sym, ◌∙◌, ap, subst, nat_le}
+use Rattle.std.proofs.Common.{◌≡◌, ℕ, Bool, true, false, cond, not, List, [], ◌∷◌, length, Option, Some}
+use Rattle.std.proofs.Common.{None, filter, Result, Ok, Err, refl, sym, ◌∙◌, ap, subst, nat_le}
 use Rattle.bbm_entry_state.specs.EntryStanding.{IsIdle}
 use Rattle.bbm_regimes.specs.declared.regime.Which.TheVariants.{Roots}
 use Rattle.bbm_rules.specs.Answers.{Answers}
@@ -17,14 +17,18 @@ use Rattle.bbm_rules.specs.declared.rule.Rule.TheVariants.{WrongWorld, NotFresh,
 use Rattle.bbm_rules.specs.declared.step_fault.StepFault.{StepFault}
 use Rattle.bbm_rules.specs.declared.step_fault.StepFault.TheVariants.{Broken, Limit, NoMemory}
 use Rattle.bbm_place_map.specs.Map.{marks_at, pends_at, value_at}
+use Rattle.bbm_place_map.specs.declared.map.PlaceMap.{PlaceMap}
 use Rattle.bbm_tree_index.specs.Index.{fresh_in, heading_of}
 use Rattle.bbm_tree_index.specs.Attaching as index
-use Rattle.bbm_tree_index.specs.Paths as index_paths
+use Rattle.bbm_tree_index.specs.IndexChanges as changes
+use Rattle.bbm_tree_index.specs.Paths.{starts_of}
+use Rattle.bbm_tree_index.specs.declared.index.TreeIndex.{TreeIndex}
+use Rattle.bbm_tree_index.specs.declared.role.Attach.{Attach}
 use Rattle.bbm_tree_index.specs.declared.fault.TreeFault.{TreeFault}
 use Rattle.bbm_tree_index.specs.declared.fault.TreeFault.TheVariants as tree
 use Rattle.bbm_replay_roots.specs.RootStateStands as roots
 use Rattle.bbm_replay_roots.specs.declared.state.RootState.{RootState}
-use Rattle.bbm_replay_trees.specs.Told.{View, notes}
+use Rattle.bbm_replay_trees.specs.Told.{notes}
 use Rattle.bbm_replay.specs.ReplayFaults.{step_fault}
 use Rattle.bbm_replay.specs.ReplayLaws.{Laws}
 use Rattle.bbm_replay.proofs.Moves.{Attaches, SameMap, SameTracked}
@@ -177,10 +181,7 @@ unfresh_is p kind page count heading e right is =
     ∙ ap (λ (n : ℕ). least (filter (λ x. not (fresh_in p.index x)) (pages_from page n))) (sym is)
 
 -- what was attached, in the words of the laws
-pub attaches_of : (old new : View) (from : List Node)
-    → ((p : ℕ) (n : Node) → (new.node p ≡ Some n) ↔ ((old.node p ≡ Some n)
-    ⊎ ((n.page ≡ p) × index_paths.Attached old.fresh old.value from n)))
-    → ((p : ℕ) → new.fresh p ≡ (old.fresh p && is_none (new.node p))) → ((p : ℕ) → new.null p ≡ old.null p)
-    → SameTracked old new → Attaches old new from
-attaches_of old new from node fresh null tracking =
-    record { node = node; fresh = fresh; null = null; tracking = tracking }
+pub attaches_of : (old new : TreeIndex) (map map' : PlaceMap) (at : Attach) → changes.Attaches (value_at map) at old new
+    → SameTracked (view_of map old) (view_of map' new) → Attaches (view_of map old) (view_of map' new) (starts_of old at)
+attaches_of old new map map' at attached tracking =
+    record { node = attached.node; fresh = attached.fresh; null = attached.null; tracking = tracking }

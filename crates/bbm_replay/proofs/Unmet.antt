@@ -160,9 +160,9 @@ module _ (heading : Heading) (laws : Laws heading) (h : List Event)
     is_page p n is = sound.pages p (sym (m.told.tracked p) ∙ m.told.apart.node_tracked p n is)
 
     found_top : (n : Node) (a : ℕ) → covers_kind named.scope.family n.kind ≡ true
-        → (t : Top heading laws h (view_of map index) m.told.kept m.told.fit m.told.nodes same_cores at a n 0)
-        → n.level < 4 → Has a
-    found_top n a covers t low =
+        → (t : Top heading laws h (view_of map index) m.told.kept m.told.fit m.told.nodes same_cores at a n)
+        → Has a
+    found_top n a covers t =
         let own = laws.neighbours.own h (view_of map index) t.page t.start m.told.nodes t.is_start in
         let st = starts h (view_of map index) t.page t.start m.told.nodes t.is_start t.first in
         let r = st.0 in
@@ -171,11 +171,7 @@ module _ (heading : Heading) (laws : Laws heading) (h : List Event)
         let same : n.kind ≡ r.kind = sym t.kind ∙ st.3 in
         let right : covers_kind named.scope.family r.kind ≡ true = ap (λ (k : Kind). covers_kind named.scope.family k) (sym same) ∙ covers in
         met r st.1 right part.0 part.1 (subst IsPage here (is_page t.page t.start t.is_start)) t.way a
-        (short (length t.way) t.start.level n.level t.count low)
         (subst (λ p. IsWay (node_in index) (core_at map) at p t.way a) here t.leads)
-      where
-        short : (w s l : ℕ) → w + s ≡ 0 + l → l < 4 → w < 4
-        short w s l e k = omega arith
 
     pub uncovered : (a : ℕ) → is_some (marks_at map a) ≡ true → (Has a → ⊥)
         → cover_at heading Patterns (notes heading h) (Tlbi pe op xt) a ≡ NoCover
@@ -209,7 +205,7 @@ module _ (heading : Heading) (laws : Laws heading) (h : List Event)
                 let from = leb-true (region_start n a) at both.0 in
                 let to = before (region_start n a) (input_pages n.level) width (leb-true at (region_start n a + input_pages n.level - 1) both.1) in
                 absurd (missed (found_top n a f (top heading laws h (view_of map index) m.told.kept m.told.fit m.told.nodes same_cores at a
-                n is (broken_eighth map a broken) from to) low))
+                n is (broken_eighth map a broken) from to)))
               where
                 before : (start w : ℕ) → 1 ≤ w → at ≤ start + w - 1 → at < start + w
                 before start w k l = omega arith

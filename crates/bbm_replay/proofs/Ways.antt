@@ -1,55 +1,125 @@
 -- Going down a tree along an input page.
-use Rattle.std.proofs.Common.{◌≡◌, ℕ, suc, ◌<◌, List, [], ◌∷◌, Option, Some, None, length, refl, sym, ap, ◌∙◌, subst}
-use Rattle.std.proofs.Common.{arith}
+use Rattle.std.proofs.Common.{◌≡◌, ℕ, suc, ◌+◌, ◌*◌, ◌^◌, ◌%◌, ◌<◌, ◌≤◌, ◌==◌, true, List, [], ◌∷◌, Option, Some, None}
+use Rattle.std.proofs.Common.{refl, sym, ap, ◌∙◌, subst, arith}
+use Rattle.std.proofs.lemmas.Bool.{and_parts, eqb-true}
 use Rattle.std.specs.Option.{option_map}
 use Rattle.bbm_descriptor.specs.Descriptor.{core_of}
 use Rattle.bbm_descriptor.specs.declared.desc.Core.{Core}
 use Rattle.bbm_entry_state.specs.Points.{core_in}
 use Rattle.bbm_entry_state.specs.declared.marks.Marks.{Marks}
 use Rattle.bbm_place_map.specs.States.{state_from}
+use Rattle.bbm_place_map.specs.declared.map.PlaceMap.{PlaceMap}
 use Rattle.bbm_regimes.specs.declared.regime.Kind.{Kind}
-use Rattle.bbm_rules.specs.Tree.{Node}
+use Rattle.bbm_rules.specs.Places.{page_of}
+use Rattle.bbm_rules.specs.Roots.{input_pages}
+use Rattle.bbm_rules.specs.Tree.{Node, node_below, region_start}
 use Rattle.bbm_tree_index.specs.Descent.{IsWay, Translates}
-use Rattle.bbm_tree_index.specs.HeldCores.{core_with, next_in}
+use Rattle.bbm_tree_index.specs.HeldCores.{core_at, core_with, is_at, next_in}
+use Rattle.bbm_tree_index.specs.Index.{node_in}
+use Rattle.bbm_tree_index.specs.IndexAgreement.{IsSound}
+use Rattle.bbm_tree_index.specs.Nodes.{path_at}
+use Rattle.bbm_tree_index.specs.declared.index.TreeIndex.{TreeIndex}
 use Rattle.bbm_tree_index.specs.declared.role.Path.{Path}
+use Rattle.bbm_replay.specs.OnePage.{FitTogether, IsOnWay}
 use Rattle.bbm_replay.proofs.Growing.{core_whole}
 
--- what the place of a page that translates an input page says of the way down through the page
-module _ (node : ℕ → Option Node) (core : Kind → ℕ → ℕ → Option Core) (at page : ℕ) (met : Option (ℕ × Path))
-    (meets : (n : Node) (a : ℕ) → node page ≡ Some n → Translates page n at a → option_map (λ m. m.0) met ≡ Some a) where
-  pub met_none : met ≡ None → (way : List ℕ) (a : ℕ) → IsWay node core at page way a → ⊥
-  met_none none [] a w =
-      let bad : None ≡ Some a = sym (ap (λ m. option_map (λ x. x.0) m) none) ∙ meets w.0 a w.1 w.2 in cc
-  met_none none (b ∷ way) a w =
-      let bad : None ≡ Some b = sym (ap (λ m. option_map (λ x. x.0) m) none) ∙ meets w.0 b w.1 w.2 in cc
+-- where no place of a page is found, none translates the input page
+pub none_met : (node : ℕ → Option Node) (at page : ℕ) (n : Node) → node page ≡ Some n → (met : Option (ℕ × Path))
+    → met ≡ None
+    → ((a : ℕ) → Translates page n at a → option_map (λ y. y.0) met ≡ Some a)
+    → (k : Node) (a : ℕ) → node page ≡ Some k → Translates page k at a → ⊥
+none_met node at page n is met none meets k a has t =
+    let both : Some n ≡ Some k = sym is ∙ has in
+    let same : n ≡ k = cc in
+    let bad : None ≡ Some a
+    = sym (ap (λ y. option_map (λ z. z.0) y) none)
+    ∙ meets a (subst (λ (y : Node). Translates page y at a) (sym same) t) in
+    cc
 
-  module _ (m : ℕ × Path) (that : met ≡ Some m) (n : Node) (is : node page ≡ Some n) (next : Option ℕ)
-      (goes : next ≡ next_in (core n.kind n.level m.0)) where
-    same_place : (k : Node) (a : ℕ) → node page ≡ Some k → Translates page k at a → m.0 ≡ a
-    same_place k a has t =
-        let both : Some m.0 ≡ Some a = sym (ap (λ x. option_map (λ y. y.0) x) that) ∙ meets k a has t in cc
+-- where no place of a page translates the input page, no way goes on through the page
+module _ (node : ℕ → Option Node) (core : Kind → ℕ → ℕ → Option Core) (at page : ℕ)
+    (none : (n : Node) (a : ℕ) → node page ≡ Some n → Translates page n at a → ⊥) where
+  pub no_way : (way : List ℕ) (a : ℕ) → IsWay node core at page way a → ⊥
+  no_way [] a w = none w.0 a w.1 w.2
+  no_way (b ∷ way) a w = none w.0 b w.1 w.2
 
-    went : (k : Node) (b x : ℕ) → node page ≡ Some k → Translates page k at b → next_in (core k.kind k.level b) ≡ Some x
-        → next ≡ Some x
-    went k b x has t table =
-        let both : Some n ≡ Some k = sym is ∙ has in
-        let same : n ≡ k = cc in
-        goes ∙ ap (λ (y : Node). next_in (core y.kind y.level m.0)) same
-        ∙ ap (λ p. next_in (core k.kind k.level p)) (same_place k b has t) ∙ table
+-- the way down through the page of a place that is on it
+module _ (node : ℕ → Option Node) (core : Kind → ℕ → ℕ → Option Core) (at place : ℕ) (path : Path)
+    (on : IsOnWay node at place path) (next : Option ℕ) (goes : next ≡ next_in (core path.kind path.level place)) where
+  same_node : (k : Node) → node (page_of place) ≡ Some k → on.stands ≡ k
+  same_node k has = let both : Some on.stands ≡ Some k = sym on.is_node ∙ has in cc
 
-    -- the way ends here, or goes on in the next page
-    pub met_last : next ≡ None → (way : List ℕ) (a : ℕ) → IsWay node core at page way a → m.0 ≡ a
-    met_last none [] a w = same_place w.0 a w.1 w.2
-    met_last none (b ∷ way) a w = let bad : None ≡ Some w.3 = sym none ∙ went w.0 b w.3 w.1 w.2 w.4 in cc
+  same_place : (k : Node) (a : ℕ) → node (page_of place) ≡ Some k → Translates (page_of place) k at a → place ≡ a
+  same_place k a has t =
+      on.only a (subst (λ (y : Node). Translates (page_of place) y at a) (sym (same_node k has)) t)
 
-    pub met_more : (x : ℕ) → next ≡ Some x → (left : ℕ) (Has : ℕ → Type 0) → Has m.0
-        → ((way : List ℕ) (a : ℕ) → length way < left → IsWay node core at x way a → Has a)
-        → (way : List ℕ) (a : ℕ) → length way < suc left → IsWay node core at page way a → Has a
-    met_more x some left Has here below [] a short w = subst Has (same_place w.0 a w.1 w.2) here
-    met_more x some left Has here below (b ∷ way) a short w =
-        let both : Some x ≡ Some w.3 = sym some ∙ went w.0 b w.3 w.1 w.2 w.4 in
-        let same : x ≡ w.3 = cc in
-        below way a (omega arith) (subst (λ y. IsWay node core at y way a) (sym same) w.5)
+  pub its_next : next ≡ next_in (core on.stands.kind on.stands.level place)
+  its_next = goes ∙ ap (λ (y : Path). next_in (core y.kind y.level place)) on.has_path
+
+  went : (k : Node) (b x : ℕ) → node (page_of place) ≡ Some k → Translates (page_of place) k at b
+      → next_in (core k.kind k.level b) ≡ Some x → next ≡ Some x
+  went k b x has t table =
+      its_next ∙ ap (λ (y : Node). next_in (core y.kind y.level place)) (same_node k has)
+      ∙ ap (λ p. next_in (core k.kind k.level p)) (same_place k b has t) ∙ table
+
+  -- it ends here, or goes on in the next page
+  pub way_ends : next ≡ None → (way : List ℕ) (a : ℕ) → IsWay node core at (page_of place) way a → place ≡ a
+  way_ends none [] a w = same_place w.0 a w.1 w.2
+  way_ends none (b ∷ way) a w = let bad : None ≡ Some w.3 = sym none ∙ went w.0 b w.3 w.1 w.2 w.4 in cc
+
+  pub way_goes : (x : ℕ) → next ≡ Some x → (Has : ℕ → Type 0) → Has place
+      → ((way : List ℕ) (a : ℕ) → IsWay node core at x way a → Has a)
+      → (way : List ℕ) (a : ℕ) → IsWay node core at (page_of place) way a → Has a
+  way_goes x some Has here below [] a w = subst Has (same_place w.0 a w.1 w.2) here
+  way_goes x some Has here below (b ∷ way) a w =
+      let both : Some x ≡ Some w.3 = sym some ∙ went w.0 b w.3 w.1 w.2 w.4 in
+      let same : x ≡ w.3 = cc in
+      below way a (subst (λ y. IsWay node core at y way a) (sym same) w.5)
+
+pub own_page : (page a : ℕ) → is_at page a ≡ true → page_of a ≡ page
+own_page page a inside = eqb-true (page_of a) page (and_parts (page_of a == page) (a % 8 == 0) inside).0
+
+-- the place of a page that translates an input page is on the way
+pub on_way : (node : ℕ → Option Node) (at page : ℕ) (n : Node) → node page ≡ Some n → (met : Option (ℕ × Path))
+    (m : ℕ × Path) → met ≡ Some m → is_at page m.0 ≡ true → m.1 ≡ path_at n m.0
+    → ((a : ℕ) → Translates page n at a → option_map (λ y. y.0) met ≡ Some a) → IsOnWay node at m.0 m.1
+on_way node at page n is met m some inside path meets = record {
+  stands = n;
+  is_node = ap (λ p. node p) own ∙ is;
+  has_path = path;
+  only = λ a t.
+      let both : Some m.0 ≡ Some a
+      = sym (ap (λ y. option_map (λ z. z.0) y) some) ∙ meets a (subst (λ p. Translates p n at a) own t) in cc;
+}
+  where
+    own : page_of m.0 ≡ page
+    own = own_page page m.0 inside
+
+-- below a place on the way, which holds a table
+module _ (map : PlaceMap) (index : TreeIndex) (sound : IsSound index) (fits : FitTogether map index) (at place : ℕ)
+    (path : Path) (on : IsOnWay (node_in index) at place path) (next : Option ℕ)
+    (goes : next ≡ next_in (core_at map path.kind path.level place)) (x : ℕ) (table : next ≡ Some x) where
+  pub hangs : node_in index x ≡ Some (node_below on.stands place x)
+  hangs = fits.below on.stands place x on.is_node
+      (sym (its_next (node_in index) (core_at map) at place path on next goes) ∙ table)
+
+  in_range : (suc on.stands.level < 4)
+      × (region_start on.stands place + 512 * input_pages (suc on.stands.level) ≤ 2 ^ 45)
+  unfolding node_in
+  in_range = (
+    sound.roles.shallow x (node_below on.stands place x) hangs,
+    sound.roles.within x (node_below on.stands place x) hangs,
+  )
+
+  pub low_below : path.level ≤ 2
+  low_below =
+      let same : path.level ≡ on.stands.level = ap (λ (y : Path). y.level) on.has_path in
+      let low : suc on.stands.level < 4 = in_range.0 in
+      omega arith
+
+  pub within_below : path.region.lo + 512 * input_pages (suc path.level) ≤ 2 ^ 45
+  within_below = subst (λ (y : Path). y.region.lo + 512 * input_pages (suc y.level) ≤ 2 ^ 45) (sym on.has_path)
+      in_range.1
 
 -- the core of a state is what its place holds
 pub state_core : (kind : Kind) (level value : ℕ) (m : Option Marks)

@@ -1,10 +1,10 @@
 -- What a TLBI covers, asked of the parts. Source: project's own choice.
-use Rattle.std.specs.Prelude.{◌≡◌, ℕ, Bool, true, false, not, ◌&&◌, List, Some, None, is_none, is_some}
+use Rattle.std.specs.Prelude.{◌≡◌, ℕ, Bool, true, false, not, ◌&&◌, List, Some, None, is_none, is_some, slice_get}
 use Rattle.bbm_descriptor.specs.declared.desc.Core.{Core}
 use Rattle.bbm_entry_state.specs.declared.marks.Marks.{Marks}
 use Rattle.bbm_place_map.specs.Finds.{FoundAs, is_found}
 use Rattle.bbm_entry_state.specs.EntryCalls.{Noted}
-use Rattle.bbm_place_map.specs.Map.{marks_at, pends_at}
+use Rattle.bbm_place_map.specs.Map.{marks_at, pends_at, restless_place}
 use Rattle.bbm_place_map.specs.States.{state_from}
 use Rattle.bbm_place_map.specs.declared.found.Found.{Found}
 use Rattle.bbm_place_map.specs.declared.map.PlaceMap.{PlaceMap}
@@ -12,6 +12,7 @@ use Rattle.bbm_regimes.specs.declared.pe.PeMask.{PeMask}
 use Rattle.bbm_regimes.specs.declared.regime.Kind.{Kind}
 use Rattle.bbm_regimes.specs.declared.regime.Kind.TheVariants.{S2, Ttbr0}
 use Rattle.bbm_tlbi_scope.specs.Operations.{has_page}
+use Rattle.bbm_tlbi_scope.specs.declared.entry.Cover.{Cover}
 use Rattle.bbm_tlbi_scope.specs.declared.scope.Family.{Family}
 use Rattle.bbm_tlbi_scope.specs.declared.scope.Family.TheVariants.{VmAll1, VmAll12, Ipa, Va, Asid}
 use Rattle.bbm_tlbi_scope.specs.declared.scope.Scope.{Scope}
@@ -31,17 +32,7 @@ use Rattle.bbm_replay.specs.ReplayTold.{Told}
 abbrev pub IsBrokenOver : PlaceMap → ℕ → Core → Type 0
 IsBrokenOver map place core = (marks : Marks) × (marks_at map place ≡ Some marks) × (marks.core ≡ core)
 
--- The map, the index and the roots stand for the history, this is what the TLBI names with the VMID of its issuer, and
--- the place is broken over the core.
-pub record MayBeCovered (heading : Heading) (h : List Event) (map : PlaceMap) (index : TreeIndex) (state : RootState)
-    (pe : ℕ) (op : TlbiOp) (xt : ℕ) (named : NamedTlbi) (place : ℕ) (core : Core) : Type 0 where
-  pub told : Told heading h (view_of map index)
-  pub stands : roots.Stands state heading h
-  pub names : named_scope heading h pe op xt ≡ Some named.scope
-  pub vmid_is : named.vmid ≡ vmid_of heading h pe
-  pub over : IsBrokenOver map place core
-
--- the same of any place
+-- The map, the index and the roots stand for the history, and this is what the TLBI names with the VMID of its issuer.
 pub record MayBeIssued (heading : Heading) (h : List Event) (map : PlaceMap) (index : TreeIndex) (state : RootState)
     (pe : ℕ) (op : TlbiOp) (xt : ℕ) (named : NamedTlbi) : Type 0 where
   pub told : Told heading h (view_of map index)
@@ -54,6 +45,13 @@ abbrev pub AreCovered : PlaceMap → TreeIndex → RootState → NamedTlbi → L
 AreCovered map index state named found = (heading : Heading) (h : List Event) (pe : ℕ) (op : TlbiOp) (xt : ℕ)
     → MayBeIssued heading h map index state pe op xt named
     → FoundAs found (cover_at heading Patterns (notes heading h) (Tlbi pe op xt))
+
+-- each broken place has a number, by which stands how far it is covered
+abbrev pub CoverEach : PlaceMap → TreeIndex → RootState → NamedTlbi → List Cover → Type 0
+CoverEach map index state named covers = (heading : Heading) (h : List Event) (pe : ℕ) (op : TlbiOp) (xt : ℕ)
+    → MayBeIssued heading h map index state pe op xt named → (a : ℕ) → is_some (marks_at map a) ≡ true
+    → (i : ℕ) × (restless_place map i ≡ a)
+    × (slice_get covers i ≡ Some (cover_at heading Patterns (notes heading h) (Tlbi pe op xt) a))
 
 -- what was found stays covered as said beside it, and among what is found
 abbrev pub Grows : PlaceMap → TreeIndex → RootState → NamedTlbi → List Found → List Found → Type 0

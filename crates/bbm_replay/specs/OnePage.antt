@@ -1,6 +1,6 @@
 -- A TLBI that names one input page, and the places that it can cover. Source: project's own choice; which kinds an
 -- operation by address covers is that of the table of covers.
-use Rattle.std.specs.Prelude.{◌≡◌, ℕ, ◌+◌, ◌*◌, ◌<◌, ◌%◌, ◌^◌, Bool, true, false, List, Option, Some, is_some, length}
+use Rattle.std.specs.Prelude.{◌≡◌, ℕ, ◌+◌, ◌*◌, ◌<◌, ◌%◌, ◌^◌, Bool, true, false, List, Option, Some, is_some}
 use Rattle.bbm_descriptor.specs.declared.desc.Core.{Core}
 use Rattle.bbm_place_map.specs.Finds.{is_found}
 use Rattle.bbm_place_map.specs.Map.{is_tracked, marks_at}
@@ -12,9 +12,13 @@ use Rattle.bbm_tlbi_scope.specs.Operations.{has_page}
 use Rattle.bbm_tlbi_scope.specs.declared.scope.Family.{Family}
 use Rattle.bbm_tlbi_scope.specs.declared.scope.Family.TheVariants.{El2Va, Ipa, Va, VaAll}
 use Rattle.bbm_tlbi_scope.specs.declared.scope.Scope.{Scope}
-use Rattle.bbm_rules.specs.Tree.{Node}
-use Rattle.bbm_tree_index.specs.Descent.{IsWay}
+use Rattle.bbm_rules.specs.Places.{page_of}
+use Rattle.bbm_rules.specs.Tree.{Node, node_below}
+use Rattle.bbm_tree_index.specs.Descent.{IsWay, Translates}
+use Rattle.bbm_tree_index.specs.HeldCores.{child, core_at}
 use Rattle.bbm_tree_index.specs.Index.{node_in}
+use Rattle.bbm_tree_index.specs.Nodes.{path_at}
+use Rattle.bbm_tree_index.specs.declared.role.Path.{Path}
 use Rattle.bbm_tree_index.specs.declared.index.TreeIndex.{TreeIndex}
 
 -- whether an operation by address of this family can cover places of a root of this kind
@@ -32,9 +36,19 @@ pub record NamesOne (scope : Scope) (at : ℕ) : Type 0 where
   pub page : scope.interval ≡ Some (record { lo = at; hi = at })
   pub family : has_page scope.family ≡ true
 
--- each page of a tree is tracked
-abbrev pub AreTracked : PlaceMap → TreeIndex → Type 0
-AreTracked map index = (p : ℕ) (n : Node) → node_in index p ≡ Some n → is_tracked map p ≡ true
+-- The map and the index fit together: each page of a tree is tracked, and where a place of a tree holds a table, the
+-- next page hangs there.
+pub record FitTogether (map : PlaceMap) (index : TreeIndex) : Type 0 where
+  pub tracked : (p : ℕ) (n : Node) → node_in index p ≡ Some n → is_tracked map p ≡ true
+  pub below : (n : Node) (place next : ℕ) → node_in index (page_of place) ≡ Some n
+      → child (core_at map) n place ≡ Some next → node_in index next ≡ Some (node_below n place next)
+
+-- The place lies in the page of a tree and has this path, and no other place of its page translates the input page.
+pub record IsOnWay (node : ℕ → Option Node) (at place : ℕ) (path : Path) : Type 0 where
+  pub stands : Node
+  pub is_node : node (page_of place) ≡ Some stands
+  pub has_path : path ≡ path_at stands place
+  pub only : (a : ℕ) → Translates (page_of place) stands at a → place ≡ a
 
 -- an address of a page
 abbrev pub IsPage : ℕ → Type 0
@@ -43,7 +57,7 @@ IsPage page = (page < 2 ^ 48) × (page % 4096 ≡ 0)
 module _ (node : ℕ → Option Node) (core : Kind → ℕ → ℕ → Option Core) (at : ℕ) where
   -- each place that is met on the way down from the page has the property
   abbrev pub MetFrom : ℕ → (ℕ → Type 0) → Type 0
-  MetFrom page Has = IsPage page → (way : List ℕ) (a : ℕ) → length way < 4 → IsWay node core at page way a → Has a
+  MetFrom page Has = IsPage page → (way : List ℕ) (a : ℕ) → IsWay node core at page way a → Has a
 
   -- the same of so many consecutive pages
   abbrev pub MetFromAll : ℕ → ℕ → (ℕ → Type 0) → Type 0

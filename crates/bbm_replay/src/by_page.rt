@@ -1,6 +1,6 @@
 //! The TLBIs of one input page: they look at the places on the way down to it alone.
 
-ghost use Rattle.std.specs.Prelude.{◌≡◌, ◌<◌, ◌≤◌, ℕ, true, List, Some, length, OnOk};
+ghost use Rattle.std.specs.Prelude.{◌≡◌, ◌≤◌, ℕ, true, List, Some, OnOk};
 ghost use Rattle.std.specs.Prelude.{IfOk, IfSome};
 ghost use Rattle.bbm_events.specs.Heading.{Heading};
 ghost use Rattle.bbm_events.specs.declared.event.Event.{Event};
@@ -18,7 +18,7 @@ ghost use Rattle.bbm_tree_index.specs.Nodes.{path_at};
 ghost use Rattle.bbm_replay_roots.specs.RootsByNumber.{nth_in};
 ghost use Rattle.bbm_replay_roots.specs.RootStateStands.{Stands};
 ghost use Rattle.bbm_replay.specs.Covering.{AreCovered, Grows};
-ghost use Rattle.bbm_replay.specs.OnePage.{AreTracked, IsFoundIn, MetFrom, MetFromAll, NamesOne};
+ghost use Rattle.bbm_replay.specs.OnePage.{FitTogether, IsFoundIn, IsOnWay, MetFrom, MetFromAll, NamesOne};
 ghost use Rattle.bbm_replay.specs.OnePage.{covers_kind as spec_covers_kind};
 
 use crate::covering::Covering;
@@ -26,7 +26,8 @@ use crate::writes::next_of;
 use bbm_place_map::{Found, PlaceMap};
 use bbm_regimes::{Kind, NoMemory, Page, Place};
 use bbm_tlbi_scope::Family;
-use bbm_tree_index::Path;
+use bbm_tree_index::{Path, place_below};
+use smallvec::SmallVec;
 use std::alloc::Global;
 
 /// How many places may be broken for a TLBI of one page to look at each of them. Source: project's own choice.
@@ -73,7 +74,7 @@ impl Covering<'_> {
         map: &PlaceMap,
         place: Place,
         path: &Path,
-        found: &mut Vec<Found>,
+        found: &mut SmallVec<Found, 4>,
     ) -> Result<Option<Page>, NoMemory>
         requires sound { IsSound self.now.index.now }
         requires tracked { is_tracked map.now (page_of place) ≡ true }
@@ -99,30 +100,29 @@ impl Covering<'_> {
         }
     }
 
-    /// Adds the broken places that are met on the way down from the page along the input page, of so many pages at
-    /// most, each with its cover.
+    /// Adds the broken places that are met from this one on down along the input page, which it can translate, each with
+    /// its cover. It has this path.
     fn descend(
         &self,
         map: &PlaceMap,
         at: u64,
-        page: Page,
-        left: u8,
-        found: &mut Vec<Found>,
+        place: Place,
+        path: &Path,
+        found: &mut SmallVec<Found, 4>,
     ) -> Result<(), NoMemory>
         requires sound { IsSound self.now.index.now }
-        requires tracked { AreTracked map.now self.now.index.now }
+        requires fits { FitTogether map.now self.now.index.now }
+        requires low { path.now.level ≤ 3 }
+        requires on_way { IsOnWay (node_in self.now.index.now) at place path.now }
         ensures grows { OnOk result (Grows map.now self.now.index.now self.now.roots.now self.now.named.now
             found.old.items found.new.items) }
-        ensures met { OnOk result ((way : List ℕ) (a : ℕ) → length way < left
-            → IsWay (node_in self.now.index.now) (core_at map.now) at page way a
+        ensures met { OnOk result ((way : List ℕ) (a : ℕ)
+            → IsWay (node_in self.now.index.now) (core_at map.now) at (page_of place) way a
             → IsFoundIn map.now found.new.items a) }
     {
-        if left == 0 {
-            return Ok(());
-        }
-        match self.index.place_translating(page, at) {
-            Some(met) => match self.meet(map, met.0, &met.1, found)? {
-                Some(next) => self.descend(map, at, next, left - 1, found),
+        match self.meet(map, place, path, found)? {
+            Some(next) => match place_below(path, next, at) {
+                Some(below) => self.descend(map, at, below.0, &below.1, found),
                 None => Ok(()),
             },
             None => Ok(()),
@@ -135,17 +135,20 @@ impl Covering<'_> {
         map: &PlaceMap,
         at: u64,
         addr: u64,
-        found: &mut Vec<Found>,
+        found: &mut SmallVec<Found, 4>,
     ) -> Result<(), NoMemory>
         requires sound { IsSound self.now.index.now }
-        requires tracked { AreTracked map.now self.now.index.now }
+        requires fits { FitTogether map.now self.now.index.now }
         ensures grows { OnOk result (Grows map.now self.now.index.now self.now.roots.now self.now.named.now
             found.old.items found.new.items) }
         ensures met { OnOk result
             (MetFrom (node_in self.now.index.now) (core_at map.now) at addr (IsFoundIn map.now found.new.items)) }
     {
-        match Page::new(addr) {
-            Some(page) => self.descend(map, at, page, 4, found),
+        let Some(page) = Page::new(addr) else {
+            return Ok(());
+        };
+        match self.index.place_translating(page, at) {
+            Some(met) => self.descend(map, at, met.0, &met.1, found),
             None => Ok(()),
         }
     }
@@ -157,10 +160,10 @@ impl Covering<'_> {
         at: u64,
         first: Page,
         count: u8,
-        found: &mut Vec<Found>,
+        found: &mut SmallVec<Found, 4>,
     ) -> Result<(), NoMemory>
         requires sound { IsSound self.now.index.now }
-        requires tracked { AreTracked map.now self.now.index.now }
+        requires fits { FitTogether map.now self.now.index.now }
         ensures grows { OnOk result (Grows map.now self.now.index.now self.now.roots.now self.now.named.now
             found.old.items found.new.items) }
         ensures met { OnOk result (MetFromAll (node_in self.now.index.now) (core_at map.now) at first count
@@ -180,10 +183,10 @@ impl Covering<'_> {
         map: &PlaceMap,
         at: u64,
         number: usize,
-        found: &mut Vec<Found>,
+        found: &mut SmallVec<Found, 4>,
     ) -> Result<(), NoMemory>
         requires sound { IsSound self.now.index.now }
-        requires tracked { AreTracked map.now self.now.index.now }
+        requires fits { FitTogether map.now self.now.index.now }
         ensures grows { OnOk result (Grows map.now self.now.index.now self.now.roots.now self.now.named.now
             found.old.items found.new.items) }
         ensures met { OnOk result ((kind : TheKind) (first : ℕ) → nth_in self.now.roots.now number ≡ Some (kind, first)
@@ -210,9 +213,9 @@ impl Covering<'_> {
         alloc: Global,
         map: &PlaceMap,
         at: u64,
-    ) -> Result<Vec<Found>, NoMemory>
+    ) -> Result<SmallVec<Found, 4>, NoMemory>
         requires sound { IsSound self.now.index.now }
-        requires tracked { AreTracked map.now self.now.index.now }
+        requires fits { FitTogether map.now self.now.index.now }
         ensures covers { IfOk result (λ found. AreCovered map.now self.now.index.now self.now.roots.now
             self.now.named.now found.items) }
         ensures met { IfOk result (λ found. (heading : Heading) (h : List Event) (root : Declared)
@@ -221,7 +224,7 @@ impl Covering<'_> {
             → MetFromAll (node_in self.now.index.now) (core_at map.now) at root.page
             (spec.page_count self.now.header.now.world root.kind) (IsFoundIn map.now found.items)) }
     {
-        let mut found = Vec::new(alloc);
+        let mut found = SmallVec::new(alloc);
         for number in 0..self.roots.count() {
             self.add_of_root(map, at, number, &mut found)?;
         }

@@ -1,6 +1,6 @@
 //! How far a TLBI covers a broken place.
 
-ghost use Rattle.std.specs.Prelude.{◌≡◌, ◌↔◌, ◌&&◌, not, is_none, ℕ, true, List, Some};
+ghost use Rattle.std.specs.Prelude.{◌≡◌, ◌↔◌, ◌&&◌, not, is_none, length, ℕ, true, List, Some, IfOk};
 ghost use Rattle.bbm_events.specs.Heading.{Heading};
 ghost use Rattle.bbm_events.specs.declared.event.Event.{Event};
 ghost use Rattle.bbm_events.specs.declared.event.Event.TheVariants.{Tlbi};
@@ -8,7 +8,7 @@ ghost use Rattle.bbm_tlbi_scope.specs.declared.op.TlbiOp.{TlbiOp};
 ghost use Rattle.bbm_rules.specs.Claims.Trust.{Patterns};
 ghost use Rattle.bbm_rules.specs.Covers.{cover_at};
 ghost use Rattle.bbm_replay_trees.specs.Told.{notes};
-ghost use Rattle.bbm_replay.specs.Covering.{IsBrokenOver, MayBeCovered, MayBeIssued};
+ghost use Rattle.bbm_replay.specs.Covering.{CoverEach, IsBrokenOver, MayBeIssued};
 ghost use Rattle.bbm_replay.specs.Covering.{asks_childless, asks_tags as spec_asks_tags};
 ghost use Rattle.bbm_replay_roots.specs.RootStateStands.{Stands};
 ghost use Rattle.bbm_rules.specs.Places.{page_of};
@@ -18,19 +18,22 @@ ghost use Rattle.bbm_tree_index.specs.HeldCores.{Childless, core_at};
 ghost use Rattle.bbm_tree_index.specs.Index.{node_in};
 ghost use Rattle.bbm_tree_index.specs.Nodes.{path_at};
 ghost use Rattle.bbm_place_map.specs.Each.{is_table as is_table_core};
+ghost use Rattle.bbm_place_map.specs.Map.{restless_in};
 ghost use Rattle.bbm_replay.specs.Leaves.{is_global_core};
 ghost use Rattle.bbm_tree_index.specs.IndexAgreement.{IsSound};
 
 use crate::covering::Covering;
 use crate::laws::laws;
 use bbm_descriptor::Core;
-use bbm_place_map::PlaceMap;
-use bbm_regimes::{Kind, Place};
+use bbm_place_map::{Answer, PlaceMap};
+use bbm_regimes::{Kind, NoMemory, Place};
 use bbm_replay_entries::law_entry_holds;
 use bbm_replay_trees::law_childless_by_cores;
 use bbm_rules::law_notes_keep_the_events;
 use bbm_tlbi_scope::{Cover, Family, PlaceView, TagSet, cover};
 use bbm_tree_index::Path;
+use smallvec::SmallVec;
+use std::alloc::Global;
 
 /// Whether the core is that of a table.
 fn is_table(core: &Core) -> bool
@@ -69,7 +72,8 @@ impl Covering<'_> {
     fn is_childless(&self, map: &PlaceMap, place: Place, table: bool) -> bool
         requires { IsSound self.now.index.now }
         ensures { asks_childless self.now.named.now.scope table ≡ true → (n : Node)
-            → node_in self.now.index.now (page_of place) ≡ Some n → (result ≡ true) ↔ Childless (core_at map.now) n place }
+            → node_in self.now.index.now (page_of place) ≡ Some n
+            → (result ≡ true) ↔ Childless (core_at map.now) n place }
     {
         let scope = &self.named.scope;
         let asked = table && scope.family.has_page() && !scope.last_only && scope.level.is_none();
@@ -122,17 +126,37 @@ impl Covering<'_> {
         )
     }
 
-    /// How far the TLBI covers the place, where it is broken over this core.
-    pub(crate) fn cover_of(&self, map: &PlaceMap, place: Place, core: Core) -> Cover
+    /// How far the TLBI covers each of the broken places, in the order of their numbers. One that names no pages covers
+    /// the broken places of a page alike, and is asked once of those that follow one another. `NoMemory` where there is
+    /// none.
+    pub(crate) fn covers(
+        &self,
+        alloc: Global,
+        map: &PlaceMap,
+    ) -> Result<SmallVec<Answer, 8>, NoMemory>
         requires { IsSound self.now.index.now }
-        ensures { (heading : Heading) (h : List Event) (pe : ℕ) (op : TlbiOp) (xt : ℕ)
-            → MayBeCovered heading h map.now self.now.index.now self.now.roots.now pe op xt self.now.named.now
-            place core
-            → result ≡ cover_at heading Patterns (notes heading h) (Tlbi pe op xt) place }
+        ensures len { IfOk result (λ covers. length covers.items ≡ restless_in map.now) }
+        ensures each { IfOk result (λ covers. CoverEach map.now self.now.index.now self.now.roots.now self.now.named.now
+            covers.items) }
     {
-        match self.index.path(place) {
-            Some(path) => self.cover_met(map, place, &path, &core),
-            None => Cover::None,
+        law_notes_keep_the_events();
+        let mut covers = SmallVec::new(alloc);
+        let paged = self.named.scope.family.has_page();
+        // The page of the place before, at first that of none, and the cover there.
+        let mut page = 1;
+        let mut cover = Cover::None;
+        for i in 0..map.restless() {
+            let place = map.restless_at(i);
+            let at = place.page().get();
+            if paged || at != page {
+                page = at;
+                cover = match self.index.path(place) {
+                    Some(path) => self.cover_met(map, place, &path, &map.restless_core(i)),
+                    None => Cover::None,
+                };
+            }
+            covers.push(Answer::new(cover))?;
         }
+        Ok(covers)
     }
 }

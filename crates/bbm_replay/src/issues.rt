@@ -5,7 +5,7 @@ ghost use Rattle.bbm_place_map.specs.MapCalls.{IsSame};
 ghost use Rattle.bbm_place_map.specs.Map.{is_tracked, marks_at, pends_at, value_at};
 ghost use Rattle.bbm_tree_index.specs.IndexAgreement.{IsSound};
 ghost use Rattle.bbm_replay.specs.Covering.{IsNoted};
-ghost use Rattle.bbm_replay.specs.OnePage.{AreTracked};
+ghost use Rattle.bbm_replay.specs.OnePage.{FitTogether};
 
 use crate::covering::Covering;
 use crate::laws::laws;
@@ -27,7 +27,7 @@ impl Covering<'_> {
         reach: PeMask,
     ) -> Result<(), NoMemory>
         requires sound { IsSound self.now.index.now }
-        requires tracked { AreTracked map.old self.now.index.now }
+        requires fits { FitTogether map.old self.now.index.now }
         ensures noted { OnOk result (IsNoted self.now.header.now self.now.index.now self.now.roots.now
             self.now.named.now pe reach map.old map.new) }
         ensures others { (q a : ℕ) → nat_eq q pe ≡ false → pends_at map.new q a ≡ pends_at map.old q a }
@@ -45,9 +45,10 @@ impl Covering<'_> {
                 let found = self.broken_on_ways(alloc, map, at)?;
                 map.issue_at(alloc, pe, reach, broadcast, &found)
             }
-            None => map.issue(alloc, pe, reach, broadcast, |map, place, core| {
-                self.cover_of(map, place, core)
-            }),
+            None => {
+                let covers = self.covers(alloc, map)?;
+                map.issue_all(pe, reach, broadcast, &covers)
+            }
         }
     }
 }

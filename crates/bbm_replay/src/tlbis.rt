@@ -29,10 +29,10 @@ impl ReplayState {
             Ok(named) => named,
             Err(fault) => return Err(fault),
         };
-        match self.roots.prepare_issue(alloc, pe, &named) {
-            Ok(()) => {}
+        let takes = match self.roots.prepare_issue(alloc, pe, &named) {
+            Ok(takes) => takes,
             Err(_) => return Err(StepFault::NoMemory),
-        }
+        };
         self.map.law_idle();
         let covering = Covering {
             header: &self.header,
@@ -44,7 +44,7 @@ impl ReplayState {
         match covering.issue(alloc, &mut self.map, pe, reach) {
             Ok(()) => {
                 self.map.law_idle();
-                self.roots.issue_ready(pe, &named);
+                self.roots.issue_ready(pe, &named, takes);
                 Ok(())
             }
             Err(_) => Err(StepFault::NoMemory),

@@ -1,7 +1,7 @@
 //! Writes of places.
 
 ghost use Rattle.std.specs.Prelude.{◌≡◌, ◌≤◌, ◌%◌, ◌==◌, ◌&&◌, not, ℕ, List, true, false, Some, None, is_some};
-ghost use Rattle.std.specs.Option.{option_map, option_map_or};
+ghost use Rattle.std.specs.Option.{option_and_then, option_map, option_map_or};
 ghost use Rattle.bbm_tree_index.specs.HeldCores.{limbo_by, next_in};
 ghost use Rattle.bbm_descriptor.specs.Descriptor as spec;
 ghost use Rattle.bbm_entry_state.specs.Points as points;
@@ -15,7 +15,11 @@ ghost use Rattle.bbm_regimes.specs.SameRegister.{same_kind};
 ghost use Rattle.std.specs.Prelude.{Ok};
 ghost use Rattle.bbm_replay.specs.ReplayStanding.{Clears, Holds, IsAt};
 ghost use Rattle.bbm_events.specs.declared.event.Event.TheVariants.{Write};
+ghost use Rattle.bbm_replay_roots.specs.RootStateStands as roots;
+ghost use Rattle.bbm_rules.specs.Lists.{if_so};
 ghost use Rattle.bbm_rules.specs.Places.{page_of};
+ghost use Rattle.bbm_rules.specs.Roots.{lock_of};
+ghost use Rattle.bbm_rules.specs.Rules.{lacks};
 ghost use Rattle.bbm_rules.specs.Tree.{Node};
 ghost use Rattle.bbm_tree_index.specs.Index.{node_in};
 ghost use Rattle.bbm_tree_index.specs.Nodes.{path_at};
@@ -34,6 +38,7 @@ use bbm_tree_index::{Attach, Path};
 use std::alloc::Global;
 
 /// Whether both are cores, and they differ.
+#[inline(always)]
 fn differ(old: &Option<Core>, new: &Option<Core>) -> bool
     ensures { result ≡ spec.differ old.now new.now }
 {
@@ -51,6 +56,7 @@ fn rewrites(old: u64, value: u64) -> bool
 }
 
 /// Whether it is a leaf with the Contiguous hint.
+#[inline(always)]
 fn is_contiguous(new: &Option<Core>) -> bool
     ensures { result ≡ leaves.is_contiguous_core new.now }
 {
@@ -61,6 +67,7 @@ fn is_contiguous(new: &Option<Core>) -> bool
 }
 
 /// Whether it is a leaf for every ASID.
+#[inline(always)]
 fn is_global(new: &Option<Core>) -> bool
     ensures { result ≡ leaves.is_global_core new.now }
 {
@@ -71,6 +78,7 @@ fn is_global(new: &Option<Core>) -> bool
 }
 
 /// Whether it is such a leaf in a tree of the lower range.
+#[inline(always)]
 fn is_user_global(kind: Kind, new: &Option<Core>) -> bool
     ensures { result ≡ (same_kind kind Kind.Ttbr0 && leaves.is_global_core new.now) }
 {
@@ -78,6 +86,7 @@ fn is_user_global(kind: Kind, new: &Option<Core>) -> bool
 }
 
 /// Whether no place is broken.
+#[inline(always)]
 fn is_whole(map: &PlaceMap) -> bool
     ensures { result ≡ true → (a : ℕ) → is_some (marks_at map.now a) ≡ true → ⊥ }
 {
@@ -85,6 +94,7 @@ fn is_whole(map: &PlaceMap) -> bool
 }
 
 /// The next page of a core that is a table.
+#[inline(always)]
 pub(crate) fn next_of(core: &Core) -> Option<Page>
     ensures attached { result ≡ leaves.attached_next None (Some core.now) }
     ensures held { result ≡ next_in (Some core.now) }
@@ -96,6 +106,7 @@ pub(crate) fn next_of(core: &Core) -> Option<Page>
 }
 
 /// The next page that the write attaches, if any.
+#[inline(always)]
 fn attached_next(old: &Option<Core>, new: &Option<Core>) -> Option<Page>
     ensures { result ≡ leaves.attached_next old.now new.now }
 {
@@ -145,6 +156,7 @@ impl ReplayState {
     }
 
     /// Whether the write makes a valid value at a place in limbo. None is where no place is broken.
+    #[inline(always)]
     fn makes_in_limbo(&self, place: Place, valid: bool) -> bool
         requires { (heading : Heading) × (h : List Event) × Stands self.now heading h }
         ensures { result ≡ (valid
@@ -301,7 +313,156 @@ impl ReplayState {
         }
     }
 
+    /// Whether a value with this core can be written at a place of a tree that isn't broken and has this core, by all
+    /// rules but that on locks, and attaches nothing.
+    #[inline(always)]
+    fn may_put(&self, write: &TreeWrite, live: &Option<Core>, new: &Option<Core>) -> bool
+        requires { (heading : Heading) × (h : List Event) × Stands self.now heading h }
+        ensures alike { result ≡ true → spec.differ live.now new.now ≡ false }
+        ensures plain { result ≡ true → leaves.attached_next live.now new.now ≡ None }
+        ensures good { result ≡ true → leaves.is_contiguous_core new.now ≡ false }
+        ensures own { result ≡ true
+            → (same_kind write.now.path.now.kind Kind.Ttbr0 && leaves.is_global_core new.now) ≡ false }
+        ensures limbo { result ≡ true → (is_some new.now && option_map_or (limbo_by (value_at self.now.map))
+            (node_in self.now.index (page_of write.now.seat.now.place)) false) ≡ false }
+    {
+        if differ(live, new) {
+            return false;
+        }
+        if attached_next(live, new).is_some() {
+            return false;
+        }
+        if is_contiguous(new) || is_user_global(write.path.kind, new) {
+            return false;
+        }
+        !self.makes_in_limbo(write.seat.place, new.is_some())
+    }
+
+    /// Whether the root of the tree names no lock that the PE doesn't hold.
+    #[inline(always)]
+    fn is_open(&self, write: &TreeWrite) -> bool
+        ensures { result ≡ true → (heading : Heading) (h : List Event) → roots.Stands self.now.roots heading h
+            → None ≡ option_and_then (λ lock. if_so (lacks h write.now.pe lock) write.now.seat.now.place)
+            (lock_of h write.now.path.now.first) }
+    {
+        let at = write.seat.place.get();
+        match self.roots.without_lock(write.pe, write.path.first, at) {
+            Some(_at) => false,
+            None => true,
+        }
+    }
+
+    /// Takes a write of a valid value at a place of a tree that isn't broken and has this core, where it attaches
+    /// nothing and breaks no rule; false says nothing, and nothing changed then.
+    #[inline(always)]
+    fn make_whole(&mut self, write: &TreeWrite, live: &Option<Core>) -> bool
+        requires may { MayMeet self.old (Write write.now.pe write.now.seat.now.place write.now.value) }
+        requires seat { IsSeat self.old.map write.now.seat.now }
+        requires at { IsAt self.old write.now.seat.now.place write.now.path.now }
+        requires whole { marks_at self.old.map write.now.seat.now.place ≡ None }
+        requires live { live.now ≡ spec.core_of write.now.path.now.kind write.now.path.now.level
+            (value_at self.old.map write.now.seat.now.place) }
+        ensures taken { result ≡ true
+            → Meets self.old self.new (Write write.now.pe write.now.seat.now.place write.now.value) (Ok tt) }
+        ensures kept { result ≡ false → self.new ≡ self.old }
+    {
+        laws();
+        rules();
+        law_others();
+        if !self.is_open(write) {
+            return false;
+        }
+        let path = write.path;
+        let new = core(path.kind, path.level, write.value);
+        if !new.is_some() {
+            return false;
+        }
+        if !self.may_put(write, live, &new) {
+            return false;
+        }
+        self.map.put_at(write.seat, write.value);
+        self.map.law_idle();
+        true
+    }
+
+    /// Takes a write of an invalid value at a place of a tree that isn't broken and has this core, where it breaks no
+    /// rule; false says nothing, and nothing changed then.
+    #[inline(always)]
+    fn break_whole(&mut self, write: &TreeWrite, live: Core) -> bool
+        requires may { MayMeet self.old (Write write.now.pe write.now.seat.now.place write.now.value) }
+        requires seat { IsSeat self.old.map write.now.seat.now }
+        requires at { IsAt self.old write.now.seat.now.place write.now.path.now }
+        requires whole { marks_at self.old.map write.now.seat.now.place ≡ None }
+        requires live { Some live ≡ spec.core_of write.now.path.now.kind write.now.path.now.level
+            (value_at self.old.map write.now.seat.now.place) }
+        requires dead { None ≡ spec.core_of write.now.path.now.kind write.now.path.now.level write.now.value }
+        ensures taken { result ≡ true
+            → Meets self.old self.new (Write write.now.pe write.now.seat.now.place write.now.value) (Ok tt) }
+        ensures kept { result ≡ false → self.new ≡ self.old }
+    {
+        laws();
+        rules();
+        law_others();
+        if !self.is_open(write) {
+            return false;
+        }
+        self.map.break_at(write.seat, write.pe, write.value, live);
+        self.map.law_idle();
+        true
+    }
+
+    /// Takes a write at a place of a tree that isn't broken, where it attaches nothing and breaks no rule; false says
+    /// nothing, and nothing changed then. A value over none has a way of its own, so that it carries no core about.
+    #[inline(always)]
+    fn write_whole(&mut self, write: &TreeWrite) -> bool
+        requires may { MayMeet self.old (Write write.now.pe write.now.seat.now.place write.now.value) }
+        requires seat { IsSeat self.old.map write.now.seat.now }
+        requires at { IsAt self.old write.now.seat.now.place write.now.path.now }
+        requires whole { marks_at self.old.map write.now.seat.now.place ≡ None }
+        ensures taken { result ≡ true
+            → Meets self.old self.new (Write write.now.pe write.now.seat.now.place write.now.value) (Ok tt) }
+        ensures kept { result ≡ false → self.new ≡ self.old }
+    {
+        laws();
+        let path = write.path;
+        match self.map.live_at(write.seat, path.kind, path.level) {
+            None => self.make_whole(write, &None),
+            Some(live) => {
+                let new = core(path.kind, path.level, write.value);
+                if new.is_some() {
+                    return self.make_whole(write, &Some(live));
+                }
+                self.break_whole(write, live)
+            }
+        }
+    }
+
+    /// The same, where the page of the place has this number in the order in which pages were tracked, and else false.
+    #[inline(always)]
+    fn write_quick(&mut self, pe: Pe, place: Place, value: u64, number: usize) -> bool
+        requires { MayMeet self.old (Write pe place value) }
+        ensures taken { result ≡ true → Meets self.old self.new (Write pe place value) (Ok tt) }
+        ensures kept { result ≡ false → self.new ≡ self.old }
+    {
+        let Some(path) = self.index.path_at(place, number) else {
+            return false;
+        };
+        let Some(seat) = self.map.seat_at(place, number) else {
+            return false;
+        };
+        if self.map.is_broken_at(&seat) {
+            return false;
+        }
+        self.write_whole(&TreeWrite {
+            pe,
+            seat: &seat,
+            value,
+            path: &path,
+        })
+    }
+
     /// A write.
+    #[inline(never)]
     pub(crate) fn write(
         &mut self,
         alloc: Global,
@@ -312,9 +473,29 @@ impl ReplayState {
         requires { MayMeet self.old (Write pe place value) }
         ensures { Meets self.old self.new (Write pe place value) result }
     {
-        match self.index.path(place) {
+        let near = self.index.number(place.page(), self.map.recent_page());
+        if self.write_quick(pe, place, value, near) {
+            return Ok(());
+        }
+        self.write_any(alloc, pe, place, value, near)
+    }
+
+    /// A write. No answer depends on the number `near`, at which its page is looked for first.
+    #[inline(never)]
+    fn write_any(
+        &mut self,
+        alloc: Global,
+        pe: Pe,
+        place: Place,
+        value: u64,
+        near: usize,
+    ) -> Result<(), StepFault>
+        requires { MayMeet self.old (Write pe place value) }
+        ensures { Meets self.old self.new (Write pe place value) result }
+    {
+        match self.index.path_near(place, near) {
             Some(path) => {
-                let seat = self.map.seat(place).unwrap();
+                let seat = self.map.seat_near(place, near).unwrap();
                 self.write_inside(alloc, pe, &seat, value, &path)
             }
             None => self.write_outside(pe, place, value),

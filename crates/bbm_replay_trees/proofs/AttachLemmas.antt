@@ -54,7 +54,7 @@ module _ (heading : Heading) (b : Below heading) (h : List Event) where
       by None k l = refl
       by (Some v) k l =
           let some : is_some (core_of n.kind n.level v) ≡ true
-          = b.core_where_valid n.kind n.level v ∙ b.held_valid n.kind n.level place marks v k in
+          = b.core_where_valid n.kind n.level v ∙ b.held.valid n.kind n.level place marks v k in
           absurd (true≢false (sym some ∙ ap is_some l))
 
   pub core_some : (n : Node) (place : ℕ)
@@ -64,15 +64,16 @@ module _ (heading : Heading) (b : Below heading) (h : List Event) where
     where
       by : (o : Option ℕ) → held_at heading Patterns marks n place ≡ o → is_some (option_and_then (core_of n.kind n.level) o) ≡ is_some o
       by None k = refl
-      by (Some v) k = b.core_where_valid n.kind n.level v ∙ b.held_valid n.kind n.level place marks v k
+      by (Some v) k = b.core_where_valid n.kind n.level v ∙ b.held.valid n.kind n.level place marks v k
 
   -- ---- the starts
 
   pub root_starts : Proper heading → (kind : Kind) (page : ℕ) → Starts kind (start_of heading.world kind)
       (root_pages heading.world kind page) (nodes_of_root heading (record { page = page; kind = kind; lock = None }))
   root_starts proper kind page = record {
-    of_start = λ s c. let f = b.root_node (record { page = page; kind = kind; lock = None }) s c in (f.0, f.1, f.4);
-    to_start = b.page_node (record { page = page; kind = kind; lock = None });
+    of_start = λ s c. let f = b.root_pages.fields (record { page = page; kind = kind; lock = None }) s c in
+        (f.0, f.1, f.4);
+    to_start = b.root_pages.each (record { page = page; kind = kind; lock = None });
     shallow = proper.start kind;
   }
 
@@ -192,7 +193,7 @@ module _ (heading : Heading) (b : Below heading) (h : List Event) where
         ∙ (ap (λ (c : Bool). least (cond (not (c || is_null (events_of marks) (page_of place))) (page_of place ∷ []) []))
         (sym (same_fresh (page_of place)))
         ∙ (ap (λ (c : Bool). least (cond (not (fresh (page_of place) || c)) (page_of place ∷ []) []))
-        (ap (λ es. is_null es (page_of place)) (b.events_noted h) ∙ sym (same_null (page_of place)))
+        (ap (λ es. is_null es (page_of place)) (b.notes_keep_the_events h) ∙ sym (same_null (page_of place)))
         ∙ one (not (fresh (page_of place) || null (page_of place))))))
       where
         one : (c : Bool) → least (cond c (page_of place ∷ []) []) ≡ if_so c (page_of place)

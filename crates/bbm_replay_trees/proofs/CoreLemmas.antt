@@ -64,7 +64,8 @@ module _ (heading : Heading) (b : Below heading) (h : List Event) where
           ≡ option_and_then (core_of n.kind n.level) (cond c None (held heading Patterns n.kind n.level a marks))
       by true k =
           absurd (true≢false (sym (ap is_some at)
-          ∙ (ap (in_tree heading Patterns marks) (sym (eqb-true page (page_of a) k)) ∙ (b.no_init h pe page kept).0)))
+          ∙ (ap (in_tree heading Patterns marks) (sym (eqb-true page (page_of a) k))
+          ∙ (b.one_position.no_init h pe page kept).0)))
       by false k = refl
   stays (Dsb pe dsb) kept no_dsb n a at = absurd (no_dsb pe dsb refl)
   stays e kept no_dsb n a at = refl
@@ -77,10 +78,10 @@ module _ (heading : Heading) (b : Below heading) (h : List Event) where
       ≡ cond (is_some (node (page_of a))) (core_after n e a (core n.kind n.level a)) (core_of n.kind n.level (next_value a)))
       → SameCores heading (e ∷ h) next_core
   cores_step node next_node next_value core next_core e proper kept no_dsb same next_same values cores is n a at =
-      is n a (next_same (page_of a) ∙ at) ∙ by (b.gained h e kept n taken.0)
+      is n a (next_same (page_of a) ∙ at) ∙ by (b.one_position.gained h e kept n taken.0)
     where
       taken : Contains (tree heading Patterns (notes heading (e ∷ h))) n × (n.page ≡ page_of a)
-      taken = b.node_taken (notes heading (e ∷ h)) (page_of a) n at
+      taken = b.tree.taken (notes heading (e ∷ h)) (page_of a) n at
 
       kept_before : keeps heading Patterns h ≡ true
       kept_before = (and_parts (keeps heading Patterns h) _ kept).0
@@ -91,7 +92,7 @@ module _ (heading : Heading) (b : Below heading) (h : List Event) where
           ≡ option_and_then (core_of n.kind n.level) (held_at heading Patterns (notes heading (e ∷ h)) n a)
       by (inl there) =
           let old : node_of heading Patterns marks (page_of a) ≡ Some n
-          = ap (node_of heading Patterns marks) (sym taken.1) ∙ b.the_first h kept_before n there in
+          = ap (node_of heading Patterns marks) (sym taken.1) ∙ b.one_node.the_first h kept_before n there in
           ap (λ (o : Option Node). cond (is_some o) (core_after n e a (core n.kind n.level a)) (core_of n.kind n.level (next_value a)))
           (same (page_of a) ∙ old)
           ∙ (ap (core_after n e a) (cores n a old)
@@ -101,9 +102,9 @@ module _ (heading : Heading) (b : Below heading) (h : List Event) where
       by (inr new) =
           let none : node (page_of a) ≡ None
           = same (page_of a) ∙ fresh_outside heading marks (page_of a) (ap (is_fresh heading Patterns marks) (sym taken.1) ∙ new.1) in
-          let holds = (b.holds_present h e proper.some_pe kept n a new.0 (sym taken.1)).holds in
+          let holds = (b.fresh_content.attached h e proper.some_pe kept n a new.0 (sym taken.1)).holds in
           let value : value_of (events_of (notes heading (e ∷ h))) a ≡ next_value a
-          = ap (λ es. value_of es a) (b.events_noted (e ∷ h)) ∙ sym (values a) in
+          = ap (λ es. value_of es a) (b.notes_keep_the_events (e ∷ h)) ∙ sym (values a) in
           ap (λ (o : Option Node). cond (is_some o) (core_after n e a (core n.kind n.level a)) (core_of n.kind n.level (next_value a))) none
           ∙ (sym (present n (next_value a))
           ∙ (ap (λ (v : ℕ). option_and_then (core_of n.kind n.level) (cond (is_valid n.kind n.level v) (Some v) None)) (sym value)
@@ -116,13 +117,13 @@ module _ (heading : Heading) (b : Below heading) (h : List Event) where
       ≡ cond (is_some (held_at heading Patterns (notes heading (Dsb pe dsb ∷ h)) n a)) (core n.kind n.level a) None)
       → SameCores heading (Dsb pe dsb ∷ h) next_core
   cores_dsb next_node core next_core pe dsb proper kept next_same cores is n a at =
-      is n a (next_same (page_of a) ∙ at) ∙ by (b.gained h (Dsb pe dsb) kept n taken.0)
+      is n a (next_same (page_of a) ∙ at) ∙ by (b.one_position.gained h (Dsb pe dsb) kept n taken.0)
     where
       now : List Noted
       now = notes heading (Dsb pe dsb ∷ h)
 
       taken : Contains (tree heading Patterns (notes heading (Dsb pe dsb ∷ h))) n × (n.page ≡ page_of a)
-      taken = b.node_taken (notes heading (Dsb pe dsb ∷ h)) (page_of a) n at
+      taken = b.tree.taken (notes heading (Dsb pe dsb ∷ h)) (page_of a) n at
 
       kept_before : keeps heading Patterns h ≡ true
       kept_before = (and_parts (keeps heading Patterns h) _ kept).0
@@ -141,7 +142,7 @@ module _ (heading : Heading) (b : Below heading) (h : List Event) where
           ≡ option_and_then (core_of n.kind n.level) (held_at heading Patterns (notes heading (Dsb pe dsb ∷ h)) n a)
       by (inl there) =
           let old : node_of heading Patterns marks (page_of a) ≡ Some n
-          = ap (node_of heading Patterns marks) (sym taken.1) ∙ b.the_first h kept_before n there in
+          = ap (node_of heading Patterns marks) (sym taken.1) ∙ b.one_node.the_first h kept_before n there in
           change (held_at heading Patterns marks n a) (held_at heading Patterns (notes heading (Dsb pe dsb ∷ h)) n a)
-          (b.held_changes h (Dsb pe dsb) proper.some_pe kept n a there (sym taken.1)) (cores n a old)
+          (b.held_changes.changes h (Dsb pe dsb) proper.some_pe kept n a there (sym taken.1)) (cores n a old)
       by (inr new) = absurd new.0

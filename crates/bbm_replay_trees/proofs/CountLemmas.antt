@@ -1,5 +1,5 @@
 -- The number of restless places.
-use Rattle.std.proofs.Common.{◌≡◌, ℕ, zero, suc, ◌<◌, ◌≤◌, ◌⊎◌, not, Bool, true, false, cond, ◌&&◌, List, [], ◌∷◌}
+use Rattle.std.proofs.Common.{◌≡◌, ℕ, zero, suc, ◌<◌, ◌≤◌, ◌⊎◌, not, Bool, true, false, ◌&&◌, List, [], ◌∷◌}
 use Rattle.std.proofs.Common.{length, Option, Some, None, is_some, filter, map, refl, sym, ◌∙◌, ap, subst, inl, inr}
 use Rattle.std.proofs.Common.{true≢false, arith}
 use Rattle.std.proofs.lemmas.Bool.{and_parts, cases_eq}
@@ -9,7 +9,7 @@ use Rattle.bbm_descriptor.specs.Descriptor.{is_valid}
 use Rattle.bbm_events.specs.Heading.{Heading}
 use Rattle.bbm_rules.specs.Prelude.{Event, Write}
 use Rattle.bbm_rules.specs.Claims.Trust.{Patterns}
-use Rattle.bbm_rules.specs.Lists.{among, below, repeated, with_number}
+use Rattle.bbm_rules.specs.Lists.{below}
 use Rattle.bbm_rules.specs.Notes.{events_of}
 use Rattle.bbm_rules.specs.Phases.{is_restless, restless_of}
 use Rattle.bbm_rules.specs.Places.{page_of}
@@ -18,44 +18,17 @@ use Rattle.bbm_rules.specs.Values.{value_of, written_places}
 use Rattle.bbm_replay_trees.specs.BelowTrees.{Below}
 use Rattle.bbm_replay_trees.specs.Restless.{Numbers}
 use Rattle.bbm_replay_trees.specs.Told.{notes}
+use Rattle.bbm_lemmas.proofs.Words.{Apart, below_less, filter_apart, with_apart}
 use Rattle.bbm_lemmas.specs.Elements.{In}
 use Rattle.bbm_lemmas.proofs.Elements.{from_filter, from_map, in_map, to_filter}
 use Rattle.bbm_replay_trees.proofs.HangLemmas.{held_written}
-use Rattle.bbm_replay_trees.proofs.LeastLemmas.{among_in}
 
 -- ---- lists without repeats
-
-abbrev pub Apart : List ℕ → Type 0
-Apart [] = Unit {0}
-Apart (n ∷ ns) = (In ns n → ⊥) × Apart ns
-
-pub apart : (ms : List ℕ) → repeated ms ≡ [] → Apart ms
-apart [] e = tt
-apart (n ∷ ms) e = by (among n ms) refl e (apart ms)
-  where
-    by : (c : Bool) → among n ms ≡ c → cond c (n ∷ repeated ms) (repeated ms) ≡ [] → (repeated ms ≡ [] → Apart ms) → Apart (n ∷ ms)
-    by true k l rest = cc
-    by false k l rest = (λ i. true≢false (sym (among_in n ms i) ∙ k), rest l)
-
-with_apart : (n : ℕ) (ms : List ℕ) → Apart ms → Apart (with_number n ms)
-with_apart n ms a = by (among n ms) refl
-  where
-    by : (c : Bool) → among n ms ≡ c → Apart (cond c ms (n ∷ ms))
-    by true k = a
-    by false k = (λ i. true≢false (sym (among_in n ms i) ∙ k), a)
 
 written_apart : (h : List Event) → Apart (written_places h)
 written_apart [] = tt
 written_apart (Write pe at value ∷ h) = with_apart at (written_places h) (written_apart h)
 written_apart (e ∷ h) = written_apart h
-
-filter_apart : (test : ℕ → Bool) (ms : List ℕ) → Apart ms → Apart (filter test ms)
-filter_apart test [] a = tt
-filter_apart test (n ∷ ms) a = by (test n) (filter_apart test ms a.1)
-  where
-    by : (c : Bool) → Apart (filter test ms) → Apart (cond c (n ∷ filter test ms) (filter test ms))
-    by true rest = (λ i. a.0 (from_filter test ms n i).0, rest)
-    by false rest = rest
 
 -- a list without one element
 cut : (ys : List ℕ) (x : ℕ) → In ys x → List ℕ
@@ -95,11 +68,6 @@ same_length xs ys a b to from =
 
 -- ---- the numbers below a count
 
-in_below : (n i : ℕ) → In (below n) i → i < n
-in_below zero i k = absurd k
-in_below (suc n) i (inl e) = omega (arith, e)
-in_below (suc n) i (inr k) = let less : i < n = in_below n i k in omega (arith, less)
-
 to_below : (n i : ℕ) → i < n → In (below n) i
 to_below zero i l = absurd (omega (arith, l))
 to_below (suc n) i l = by (cases_eq n i) (to_below n i)
@@ -116,7 +84,8 @@ module _ (heading : Heading) (b : Below heading) (h : List Event) where
 
   restless_written : (a : ℕ) → is_one a ≡ true → In (written_places h) a
   restless_written a k =
-      subst (λ es. In (written_places es) a) (b.events_noted h) (by (node_of heading Patterns (notes heading h) (page_of a)) k)
+      subst (λ es. In (written_places es) a) (b.notes_keep_the_events h)
+      (by (node_of heading Patterns (notes heading h) (page_of a)) k)
     where
       by : (o : Option Node) → option_map_or (λ n. is_some (held_at heading Patterns (notes heading h) n a)
           && not (is_valid n.kind n.level (value_of (events_of (notes heading h)) a))) o false ≡ true
@@ -141,7 +110,7 @@ module _ (heading : Heading) (b : Below heading) (h : List Event) where
   numbers_apart place count zero within once = tt
   numbers_apart place count (suc n) within once = (
     λ i. let f = from_map place (below n) (place n) i in
-        let less : f.0 < n = in_below n f.0 f.1 in
+        let less : f.0 < n = below_less n f.0 f.1 in
         let same : f.0 ≡ n = once f.0 n (omega (arith, less, within)) (omega (arith, within)) f.2 in
         absurd (omega (arith, less, same)),
     numbers_apart place count n (omega (arith, within)) once,
@@ -155,6 +124,6 @@ module _ (heading : Heading) (b : Below heading) (h : List Event) where
   numbered count place k =
       counted (map place (below count)) (numbers_apart place count count (omega arith) k.once)
       (λ a i. let f = from_map place (below count) a i in
-      subst (λ (x : ℕ). is_one x ≡ true) f.2 (k.restless f.0 (in_below count f.0 f.1)))
+      subst (λ (x : ℕ). is_one x ≡ true) f.2 (k.restless f.0 (below_less count f.0 f.1)))
       (λ a r. let f = k.each a r in subst (In (map place (below count))) f.2 (in_map place (below count) f.0 (to_below count f.0 f.1)))
       ∙ numbers_length place count

@@ -5,35 +5,15 @@ use Rattle.std.proofs.lemmas.Bool.{and_from, and_parts, eq-eqb, eqb-true}
 use Rattle.bbm_events.specs.Heading.{Heading}
 use Rattle.bbm_events.specs.Fits.{fits_heading, is_pe, is_place, is_value}
 use Rattle.bbm_rules.specs.Prelude.{Event, Init, Write}
-use Rattle.bbm_rules.specs.Lists.{among, every, with_number}
+use Rattle.bbm_rules.specs.Lists.{every, with_number}
 use Rattle.bbm_rules.specs.Places.{page_of}
 use Rattle.bbm_rules.specs.Values.{places_in, value_of, written_places}
 use Rattle.bbm_replay_trees.specs.Told.{is_at}
+use Rattle.bbm_lemmas.proofs.Words.{in_with, with_has, with_keeps}
 use Rattle.bbm_lemmas.specs.Elements.{In}
-use Rattle.bbm_lemmas.proofs.Elements.{any_found, from_filter, to_filter}
+use Rattle.bbm_lemmas.proofs.Elements.{from_filter, to_filter}
 
 -- ---- lists without repeats
-
-pub in_with : (n : ℕ) (ms : List ℕ) (m : ℕ) → In (with_number n ms) m → (n ≡ m) ⊎ In ms m
-in_with n ms m i = by (among n ms) i
-  where
-    by : (b : Bool) → In (cond b ms (n ∷ ms)) m → (n ≡ m) ⊎ In ms m
-    by true k = inr k
-    by false k = k
-
-pub with_keeps : (n : ℕ) (ms : List ℕ) (m : ℕ) → In ms m → In (with_number n ms) m
-with_keeps n ms m i = by (among n ms)
-  where
-    by : (b : Bool) → In (cond b ms (n ∷ ms)) m
-    by true = i
-    by false = inr i
-
-pub with_has : (n : ℕ) (ms : List ℕ) → In (with_number n ms) n
-with_has n ms = by (among n ms) refl
-  where
-    by : (b : Bool) → among n ms ≡ b → In (cond b ms (n ∷ ms)) n
-    by true k = let f = any_found (λ (m : ℕ). m == n) ms k in subst (In ms) (eqb-true f.0 n f.2) f.1
-    by false k = inl refl
 
 -- ---- written places
 

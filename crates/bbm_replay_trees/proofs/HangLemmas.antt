@@ -20,9 +20,10 @@ use Rattle.bbm_rules.specs.TreeSentences.{Down, IsNode}
 use Rattle.bbm_rules.specs.Values.{written_places}
 use Rattle.bbm_replay_trees.specs.BelowTrees.{Below}
 use Rattle.bbm_replay_trees.specs.Told.{AllFit, Hangs, SameCores, SameNodes, next_in, notes}
+use Rattle.bbm_lemmas.proofs.Words.{with_has, with_keeps}
 use Rattle.bbm_lemmas.specs.Elements.{In}
 use Rattle.bbm_lemmas.proofs.Elements.{from_contains}
-use Rattle.bbm_replay_trees.proofs.FitLemmas.{is_at_page, with_has, with_keeps}
+use Rattle.bbm_replay_trees.proofs.FitLemmas.{is_at_page}
 
 -- ---- the core of a table
 
@@ -121,7 +122,7 @@ module _ (heading : Heading) (b : Below heading) (h : List Event) where
   down_under [] n m c d = inl d
   down_under (place ∷ places) n m c d =
       let next : Node = node_below n place d.3 in
-      let there : Contains (tree heading Patterns marks) next = b.tree_below marks n place d.1 d.3 c d.0 d.2 d.4 in
+      let there : Contains (tree heading Patterns marks) next = b.tree.below marks n place d.1 d.3 c d.0 d.2 d.4 in
       elim (down_under places next m there d.5) [
         | inl same ↦ inr (subst Under same (under_next n place d.1 d.3 c d.0 d.2 d.4))
         | inr under ↦ inr under
@@ -135,10 +136,10 @@ module _ (heading : Heading) (b : Below heading) (h : List Event) where
   -- a node of a tree with a place above lies below another
   pub hangs : (m : Node) → Contains (tree heading Patterns marks) m → (a : Above) (rest : List Above) → m.above ≡ a ∷ rest → Under m
   hangs m c a rest above =
-      let k : IsNode heading Patterns marks m = b.tree_sound marks m c in
+      let k : IsNode heading Patterns marks m = b.tree.sound marks m c in
       let deep : m.level ≡ k.start.level + length k.places = down_level k.places k.start m k.down in
       let low : m.level < 4 = k.level in
-      let start : Contains (tree heading Patterns marks) k.start = b.tree_complete marks k.start (record {
+      let start : Contains (tree heading Patterns marks) k.start = b.tree.complete marks k.start (record {
         root = k.root;
         declared = k.declared;
         start = k.start;
@@ -149,7 +150,7 @@ module _ (heading : Heading) (b : Below heading) (h : List Event) where
       }) in
       elim (down_under k.places k.start m start k.down) [
         | inl same ↦ (let none : [] ≡ a ∷ rest
-            = sym (b.root_node k.root k.start k.is_start).3 ∙ (ap (λ (x : Node). x.above) same ∙ above) in cc)
+            = sym (b.root_pages.fields k.root k.start k.is_start).3 ∙ (ap (λ (x : Node). x.above) same ∙ above) in cc)
         | inr under ↦ under
       ]
 
@@ -158,26 +159,27 @@ module _ (heading : Heading) (b : Below heading) (h : List Event) where
   module _ (node : ℕ → Option Node) (same : SameNodes heading h node) where
     pub own : (p : ℕ) (m : Node) → node p ≡ Some m → (m.page ≡ p) × (m.level < 4)
     own p m k =
-        let t = b.node_taken marks p m (sym (same p) ∙ k) in
-        let i : IsNode heading Patterns marks m = b.tree_sound marks m t.0 in
+        let t = b.tree.taken marks p m (sym (same p) ∙ k) in
+        let i : IsNode heading Patterns marks m = b.tree.sound marks m t.0 in
         (t.1, i.level)
 
     module _ (core : Kind → ℕ → ℕ → Option Core) (same_core : SameCores heading h core) (kept_rules : keeps heading Patterns h ≡ true) where
       node_is : (n : Node) → Contains (tree heading Patterns marks) n → node n.page ≡ Some n
-      node_is n c = same n.page ∙ b.the_first h kept_rules n c
+      node_is n c = same n.page ∙ b.one_node.the_first h kept_rules n c
 
       pub down : (n : Node) (place next : ℕ) → node (page_of place) ≡ Some n
           → next_in (core n.kind n.level place) ≡ Some next → node next ≡ Some (node_below n place next)
       down n place next k table =
           let at : node_of heading Patterns marks (page_of place) ≡ Some n = sym (same (page_of place)) ∙ k in
-          let t = b.node_taken marks (page_of place) n at in
+          let t = b.tree.taken marks (page_of place) n at in
           let v = table_held n.kind n.level (held_at heading Patterns marks n place) next (ap next_in (sym (same_core n place at)) ∙ table) in
-          node_is (node_below n place next) (b.tree_below marks n place v.0 next t.0 (sym t.1) v.1 v.2)
+          node_is (node_below n place next) (b.tree.below marks n place v.0 next t.0 (sym t.1) v.1 v.2)
 
       -- the core of the place at which a node hangs
       core_is : (m : Node) → (u : Under m) → core u.parent.kind u.parent.level u.place ≡ core_of u.parent.kind u.parent.level u.value
       core_is m u =
-          same_core u.parent u.place (ap (node_of heading Patterns marks) u.inside ∙ b.the_first h kept_rules u.parent u.there)
+          same_core u.parent u.place (ap (node_of heading Patterns marks) u.inside
+          ∙ b.one_node.the_first h kept_rules u.parent u.there)
           ∙ ap (option_and_then (core_of u.parent.kind u.parent.level)) u.holds
 
       hang_at : AllFit heading h → (m : Node) → (u : Under m) → Hangs node core u.place m
@@ -185,7 +187,7 @@ module _ (heading : Heading) (b : Below heading) (h : List Event) where
         parent = u.parent;
         is_parent = ap node u.inside ∙ node_is u.parent u.there;
         at = is_at_page heading h fit u.parent.page u.place
-            (subst (λ es. In (written_places es) u.place) (b.events_noted h)
+            (subst (λ es. In (written_places es) u.place) (b.notes_keep_the_events h)
             (held_written heading u.parent.kind u.parent.level u.place marks (ap is_some u.holds))) u.inside;
         table = ap next_in (core_is m u) ∙ (table_core (desc_of u.parent.kind u.parent.level u.value) ∙ u.table);
         is_below = u.made;
@@ -202,7 +204,7 @@ module _ (heading : Heading) (b : Below heading) (h : List Event) where
       pub up : AllFit heading h → (p : ℕ) (m : Node) (a : Above) (rest : List Above) → node p ≡ Some m → m.above ≡ a ∷ rest
           → Hangs node core a.place m
       up fit p m a rest k above =
-          let t = b.node_taken marks p m (sym (same p) ∙ k) in
+          let t = b.tree.taken marks p m (sym (same p) ∙ k) in
           let u : Under m = hangs m t.0 a rest above in
           let place : u.place ≡ a.place
           = ap (λ (xs : List Above). (head_of a xs).place) (sym (ap (λ (x : Node). x.above) u.made) ∙ above) in
@@ -223,7 +225,7 @@ module _ (heading : Heading) (b : Below heading) (h : List Event) where
         same_kind = sym (ap (λ (x : Node). x.kind) u.made);
         same_level = refl;
         holds = ap is_some (core_is m u) ∙ (b.core_where_valid u.parent.kind u.parent.level u.value
-            ∙ b.held_valid u.parent.kind u.parent.level u.place marks u.value u.holds);
+            ∙ b.held.valid u.parent.kind u.parent.level u.place marks u.value u.holds);
       }
 
       pub stands : (xs : List Above) (m : Node) → Contains (tree heading Patterns marks) m → m.above ≡ xs → (a : Above) → In xs a
@@ -246,6 +248,6 @@ module _ (heading : Heading) (b : Below heading) (h : List Event) where
           × (node (page_of a.place) ≡ Some n) × (n.kind ≡ m.kind) × (n.level ≡ a.level)
           × (is_some (core n.kind n.level a.place) ≡ true)
       above p m a k c =
-          let t = b.node_taken marks p m (sym (same p) ∙ k) in
+          let t = b.tree.taken marks p m (sym (same p) ∙ k) in
           let s : Stands m.kind a = stands m.above m t.0 refl a (from_contains m.above a c) in
           (s.at, s.is_at_place, s.same_kind, s.same_level, s.holds)

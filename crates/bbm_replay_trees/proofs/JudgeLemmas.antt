@@ -23,12 +23,13 @@ use Rattle.bbm_replay_trees.specs.BelowTrees.{Below}
 use Rattle.bbm_tree_index.specs.Attaching.{EndsTwice, HasPlace, IsPath, IsUnfresh, UnfreshEnd, is_bad, is_user_global}
 use Rattle.bbm_replay_trees.specs.Judging.{Finds, Judging}
 use Rattle.bbm_replay_trees.specs.Told.{AllFit, SameFresh, SameValues, notes}
+use Rattle.bbm_lemmas.proofs.Words.{among_in, in_among}
 use Rattle.bbm_lemmas.specs.Elements.{In}
 use Rattle.bbm_lemmas.proofs.Elements.{from_filter, from_flat, from_map, in_append, in_left, in_map, in_right}
 use Rattle.bbm_lemmas.proofs.Elements.{to_filter}
 use Rattle.bbm_lemmas.proofs.Elements.{to_flat}
 use Rattle.bbm_replay_trees.proofs.FitLemmas.{at_page, in_page, is_at_page, to_page, written}
-use Rattle.bbm_replay_trees.proofs.LeastLemmas.{among_in, in_among, least_is}
+use Rattle.bbm_replay_trees.proofs.LeastLemmas.{least_is}
 use Rattle.bbm_replay_trees.proofs.PathLemmas.{Longer, AnyPath, Starts, from_all, from_deeper, in_all, in_deeper}
 use Rattle.bbm_replay_trees.proofs.PathLemmas.{leads_at, path_from, to_mine, to_theirs, value_is, within_at}
 use mathlib.Core.Bool.{and-false}
@@ -155,7 +156,7 @@ module _ (heading : Heading) (b : Below heading) (h : List Event) (fit : AllFit 
               let r = from_map (λ (end : End). end.page) (ends_of named) page f.0 in
               inl (unfresh_from named page r.0 r.1 r.2 (same_fresh page ∙ not-true (is_fresh heading Patterns marks page) f.1)))
           | inr twice ↦
-              inr (twice_from page (b.repeated_sound marks e kind level pages is page
+              inr (twice_from page (b.repeated.sound marks e kind level pages is page
               (among_in page (repeated (pages_of (all_ends whole))) twice)))
         ]
 
@@ -168,7 +169,8 @@ module _ (heading : Heading) (b : Below heading) (h : List Event) (fit : AllFit 
         (not_from_false (is_fresh heading Patterns marks page) (sym (same_fresh page) ∙ u.unfresh)))
     in_list named page (inr t) =
         in_right (unfresh heading Patterns marks (pages_of (ends_of named))) (repeated (pages_of (all_ends whole))) page
-        (in_among page (repeated (pages_of (all_ends whole))) (b.repeated_complete marks kind level pages page (twice_to page t)))
+        (in_among page (repeated (pages_of (all_ends whole)))
+        (b.repeated.complete marks kind level pages page (twice_to page t)))
 
     pub pages_judged : (named : Bool) → judged_ends e whole ≡ ends_of named → untracked_page heading Patterns marks e ≡ []
         → (o : Option ℕ) → Finds (IsUnfresh fresh value starts named) o → not_fresh heading Patterns marks e ≡ o
@@ -192,7 +194,8 @@ module _ (heading : Heading) (b : Below heading) (h : List Event) (fit : AllFit 
           let f = from_flat (places_with test kind (events_of marks)) (all_ends whole) place i in
           let r : AnyPath fresh value starts f.0 = from_all heading b h fit fresh value same_fresh same_value kind level pages starts st f.0 f.1 in
           let g = from_filter (λ p. test kind (desc_of kind f.0.level (value_of (events_of marks) p))) (places_in (events_of marks) f.0.page) place f.2 in
-          let there = in_page h f.0.page place (subst (λ es. In (places_in es f.0.page) place) (b.events_noted h) g.0) in
+          let there = in_page h f.0.page place
+          (subst (λ es. In (places_in es f.0.page) place) (b.notes_keep_the_events h) g.0) in
           record {
             start = r.start;
             places = r.places;
@@ -209,9 +212,10 @@ module _ (heading : Heading) (b : Below heading) (h : List Event) (fit : AllFit 
           to_flat (places_with test kind (events_of marks)) (all_ends whole) p.end place
           (in_all heading b h fit fresh value same_fresh same_value kind level pages starts st p.start p.places p.end p.path)
           (to_filter (λ x. test kind (desc_of kind p.end.level (value_of (events_of marks) x))) (places_in (events_of marks) p.end.page) place
-          (subst (λ es. In (places_in es p.end.page) place) (sym (b.events_noted h))
+          (subst (λ es. In (places_in es p.end.page) place) (sym (b.notes_keep_the_events h))
           (to_page h p.end.page place (written h place (λ z. true≢false (sym passes
-          ∙ (ap (λ (v : ℕ). test kind (desc_of kind p.end.level v)) (ap (λ es. value_of es place) (b.events_noted h) ∙ z)
+          ∙ (ap (λ (v : ℕ). test kind (desc_of kind p.end.level v))
+          (ap (λ es. value_of es place) (b.notes_keep_the_events h) ∙ z)
           ∙ leaves.invalid kind)))) (at_page p.end.page place p.inside))) passes)
         where
           passes : test kind (desc_of kind p.end.level (value_of (events_of marks) place)) ≡ true

@@ -1,17 +1,10 @@
 -- The least number of a list, by what is in it.
-use Rattle.std.proofs.Common.{◌≡◌, ℕ, ◌<◌, ◌≤◌, min, true, ◌⊎◌, ◌==◌, List, [], ◌∷◌, Option, Some, None, unwrap_or}
+use Rattle.std.proofs.Common.{◌≡◌, ℕ, ◌<◌, ◌≤◌, min, ◌⊎◌, List, [], ◌∷◌, Option, Some, None, unwrap_or}
 use Rattle.std.proofs.Common.{refl, ap, subst, inl, inr, arith}
-use Rattle.std.proofs.lemmas.Bool.{cases_lt, eq-eqb, eqb-true}
-use Rattle.bbm_rules.specs.Lists.{among, least}
+use Rattle.std.proofs.lemmas.Bool.{cases_lt}
+use Rattle.bbm_rules.specs.Lists.{least}
 use Rattle.bbm_replay_trees.specs.Judging.{Finds}
 use Rattle.bbm_lemmas.specs.Elements.{In}
-use Rattle.bbm_lemmas.proofs.Elements.{any_finds, any_found}
-
-pub in_among : (n : ℕ) (ms : List ℕ) → among n ms ≡ true → In ms n
-in_among n ms e = let f = any_found (λ (m : ℕ). m == n) ms e in subst (In ms) (eqb-true f.0 n f.2) f.1
-
-pub among_in : (n : ℕ) (ms : List ℕ) → In ms n → among n ms ≡ true
-among_in n ms i = any_finds (λ (m : ℕ). m == n) ms n i (eq-eqb n n refl)
 
 -- what the answer is among the list
 record IsMin (ms : List ℕ) (k : ℕ) : Type 0 where

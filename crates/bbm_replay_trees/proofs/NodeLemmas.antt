@@ -159,7 +159,7 @@ module _ (heading : Heading) (b : Below heading) (h : List Event) where
         known : (m : Node) → (node p ≡ Some m) ⊎ ((m.page ≡ p) × IsAdded m)
             → node_of heading Patterns (noted heading Patterns (e ∷ h)) p ≡ Some m
         known m (inl old) =
-            b.node_others h e proper kept_rules no_dsb no_unroot p (λ x a in_page.
+            b.node_step.others h e proper kept_rules no_dsb no_unroot p (λ x a in_page.
             let gone : node_of heading Patterns marks x.page ≡ None
             = fresh_outside heading marks x.page (attached_fresh e x a) in
             let none : None ≡ Some m
@@ -167,7 +167,7 @@ module _ (heading : Heading) (b : Below heading) (h : List Event) where
             ∙ (sym (same p) ∙ old)
         known m (inr a) =
             ap (node_of heading Patterns (noted heading Patterns (e ∷ h))) (sym a.0)
-            ∙ b.node_attached h e proper kept_rules m (theirs m a.1)
+            ∙ b.node_step.attached h e proper kept_rules m (theirs m a.1)
 
         no_old : next_node p ≡ None → (o : Option Node) → node p ≡ o → o ≡ None
         no_old none None k = refl
@@ -176,7 +176,7 @@ module _ (heading : Heading) (b : Below heading) (h : List Event) where
         by : (o : Option Node) → next_node p ≡ o → next_node p ≡ node_of heading Patterns (noted heading Patterns (e ∷ h)) p
         by (Some m) k = k ∙ sym (known m ((iff p m).0 k))
         by None k =
-            k ∙ sym (b.node_others h e proper kept_rules no_dsb no_unroot p (λ x a in_page.
+            k ∙ sym (b.node_step.others h e proper kept_rules no_dsb no_unroot p (λ x a in_page.
             let apart : None ≡ Some x = sym k ∙ (iff p x).1 (inr (in_page, mine x a)) in cc)
             ∙ (sym (same p) ∙ no_old k (node p) refl))
 
@@ -186,7 +186,8 @@ module _ (heading : Heading) (b : Below heading) (h : List Event) where
         → ((q : ℕ) (dsb : Barrier) → e ≡ Dsb q dsb → ⊥) → ((q first : ℕ) → e ≡ Unroot q first → ⊥)
         → attached_by heading Patterns marks e ≡ None → SameNodes heading (e ∷ h) node
     after_nothing e proper kept_rules no_dsb no_unroot none p =
-        same p ∙ sym (b.node_others h e proper kept_rules no_dsb no_unroot p (λ m a in_page. b.unattached marks e none m a))
+        same p ∙ sym (b.node_step.others h e proper kept_rules no_dsb no_unroot p
+        (λ m a in_page. b.node_step.unattached marks e none m a))
 
     pub after_quiet : (e : Event) → Proper heading → keeps heading Patterns (e ∷ h) ≡ true → leaves_trees e ≡ true
         → SameNodes heading (e ∷ h) node
@@ -216,7 +217,8 @@ module _ (heading : Heading) (b : Below heading) (h : List Event) where
         → SameNodes heading (Unroot pe page ∷ h) next_node
     after_unroot next_node pe page proper kept_rules is p =
         is p ∙ (kept_is (λ m. not (m.root == page)) (node p)
-        ∙ (ap (node_where (λ m. not (is_under page m))) (same p) ∙ sym (b.node_unroot h pe page proper kept_rules p)))
+        ∙ (ap (node_where (λ m. not (is_under page m))) (same p)
+        ∙ sym (b.node_step.unroot h pe page proper kept_rules p)))
 
     pub after_dsb : (next_node : ℕ → Option Node) (holds : Kind → ℕ → ℕ → Bool) (pe : ℕ) (dsb : Barrier)
         → keeps heading Patterns (Dsb pe dsb ∷ h) ≡ true
@@ -224,7 +226,8 @@ module _ (heading : Heading) (b : Below heading) (h : List Event) where
         ≡ is_some (held heading Patterns m.kind a.level a.place (notes heading (Dsb pe dsb ∷ h))))
         → ((p : ℕ) → next_node p ≡ kept (is_held_by holds) (node p)) → SameNodes heading (Dsb pe dsb ∷ h) next_node
     after_dsb next_node holds pe dsb kept_rules told is p =
-        is p ∙ (by (node p) refl ∙ (ap (node_where (holds_above heading Patterns now)) (same p) ∙ sym (b.node_dsb h pe dsb kept_rules p)))
+        is p ∙ (by (node p) refl ∙ (ap (node_where (holds_above heading Patterns now)) (same p)
+        ∙ sym (b.node_step.dsb h pe dsb kept_rules p)))
       where
         now : List Noted
         now = notes heading (Dsb pe dsb ∷ h)
@@ -232,7 +235,7 @@ module _ (heading : Heading) (b : Below heading) (h : List Event) where
         by : (o : Option Node) → node p ≡ o → kept (is_held_by holds) o ≡ node_where (holds_above heading Patterns (notes heading (Dsb pe dsb ∷ h))) o
         by None k = refl
         by (Some m) k =
-            let in_page : m.page ≡ p = (b.node_taken marks p m (sym (same p) ∙ k)).1 in
+            let in_page : m.page ≡ p = (b.tree.taken marks p m (sym (same p) ∙ k)).1 in
             let there : node m.page ≡ Some m = ap node in_page ∙ k in
             ap (λ (c : Bool). cond c (Some m) None)
             (every_same (λ a. holds m.kind a.level a.place)

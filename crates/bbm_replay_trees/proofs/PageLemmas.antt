@@ -88,7 +88,7 @@ module _ (heading : Heading) (b : Below heading) (h : List Event) (fresh : ℕ �
       → (p : ℕ) → may_be_fresh e p (fresh p) ≡ is_fresh heading Patterns (notes heading (e ∷ h)) p
   fresh_by e kept none p =
       ap (may_be_fresh e p) (same p)
-      ∙ sym (b.fresh_others h e kept p (λ m a in_page. b.unattached (notes heading h) e none m a))
+      ∙ sym (b.fresh_step.others h e kept p (λ m a in_page. b.node_step.unattached (notes heading h) e none m a))
 
   pub others : (e : Event) → keeps heading Patterns (e ∷ h) ≡ true → (changes e).inits ≡ false → (changes e).nulls ≡ false
       → attached_by heading Patterns (notes heading h) e ≡ None → SameFresh heading (e ∷ h) fresh

@@ -60,7 +60,7 @@ module _ (heading : Heading) (b : Below heading) (h : List Event) (fit : AllFit 
 
   -- the value of a place
   pub value_is : (a : ℕ) → value a ≡ value_of (events_of marks) a
-  value_is a = same_value a ∙ ap (λ es. value_of es a) (sym (b.events_noted h))
+  value_is a = same_value a ∙ ap (λ es. value_of es a) (sym (b.notes_keep_the_events h))
 
   -- a place with a table value
   pub table_at : (kind : Kind) (level page place next : ℕ) → next_of kind level (value_of (events_of marks) place) ≡ Some next
@@ -68,7 +68,7 @@ module _ (heading : Heading) (b : Below heading) (h : List Event) (fit : AllFit 
   table_at kind level page place next table inside =
       is_at_page heading h fit page place (written h place (λ z.
       let none : next_of kind level (value_of (events_of marks) place) ≡ None
-      = ap (λ v. next_of kind level v) (ap (λ es. value_of es place) (b.events_noted h) ∙ z) in
+      = ap (λ v. next_of kind level v) (ap (λ es. value_of es place) (b.notes_keep_the_events h) ∙ z) in
       let apart : None ≡ Some next = sym none ∙ table in cc)) inside
 
   pub to_mine : (kind : Kind) (level page : ℕ) (places : List ℕ) (end : End)
@@ -153,7 +153,7 @@ module _ (heading : Heading) (b : Below heading) (h : List Event) (fit : AllFit 
         to_flat (ends_below heading Patterns marks kind (3 - level) level) pages s.page end
         (from_contains pages s.page (st.of_start s p.is_start).2)
         (by (from_contains (end_at level s.page ∷ ends_below heading Patterns marks kind (3 - level) level s.page) end
-        (b.path_complete marks (3 - level) kind level s.page (place ∷ places) end (omega (arith, short))
+        (b.paths.complete marks (3 - level) kind level s.page (place ∷ places) end (omega (arith, short))
         (to_theirs kind level s.page (place ∷ places) end l))))
       where
         l : Leads fresh value kind level s.page (place ∷ places) end
@@ -179,7 +179,7 @@ module _ (heading : Heading) (b : Below heading) (h : List Event) (fit : AllFit 
     pub from_deeper : (end : End) → In whole.deeper end → Longer fresh value starts end
     from_deeper end i =
         let f = from_flat (ends_below heading Patterns marks kind (3 - level) level) pages end i in
-        let p = b.path_sound marks (3 - level) kind level f.0 end
+        let p = b.paths.sound marks (3 - level) kind level f.0 end
         (to_contains (end_at level f.0 ∷ ends_below heading Patterns marks kind (3 - level) level f.0) end (inr f.2)) in
         by f.0 (to_contains pages f.0 f.1) (below_level (3 - level) kind level f.0 end f.2) p.0 p.1
         (to_mine kind level f.0 p.0 end p.2)

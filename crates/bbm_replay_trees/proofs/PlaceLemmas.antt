@@ -43,7 +43,7 @@ module _ (heading : Heading) (b : Below heading) (h : List Event) (kept_rules : 
   childless_from k = by (next_of n.kind n.level value) refl
     where
       by : (o : Option ℕ) → next_of n.kind n.level value ≡ o → Childless core n place
-      by None e = absurd (true≢false (sym k ∙ b.childless_none (notes heading h) n value e))
+      by None e = absurd (true≢false (sym k ∙ b.childless_step.no_table (notes heading h) n value e))
       by (Some next) e =
           let table : next_in (core n.kind n.level place) ≡ Some next
           = ap next_in core_is ∙ (table_core (desc_of n.kind n.level value) ∙ e) in
@@ -52,21 +52,21 @@ module _ (heading : Heading) (b : Below heading) (h : List Event) (kept_rules : 
             table = table;
             holds_none = λ a inside. ap is_some (core_below next a table (at_page next a inside)
                 ∙ ap (option_and_then (core_of n.kind (suc n.level)))
-                ((b.childless_table (notes heading h) n value next e).0 k a (at_page next a inside)));
+                ((b.childless_step.table (notes heading h) n value next e).0 k a (at_page next a inside)));
           }
 
   pub childless_to : Childless core n place → is_childless heading Patterns (notes heading h) n value ≡ true
   childless_to c =
       let table : next_of n.kind n.level value ≡ Some c.next
       = sym (table_core (desc_of n.kind n.level value)) ∙ (ap next_in (sym core_is) ∙ c.table) in
-      (b.childless_table (notes heading h) n value c.next table).1
+      (b.childless_step.table (notes heading h) n value c.next table).1
       (λ a inside. none a inside (held heading Patterns n.kind (suc n.level) a (notes heading h)) refl)
     where
       none : (a : ℕ) → page_of a ≡ c.next → (o : Option ℕ) → held heading Patterns n.kind (suc n.level) a (notes heading h) ≡ o → o ≡ None
       none a inside None k = refl
       none a inside (Some v) k =
           let at_next : is_at c.next a ≡ true = is_at_page heading h fit c.next a
-          (subst (λ es. In (written_places es) a) (b.events_noted h)
+          (subst (λ es. In (written_places es) a) (b.notes_keep_the_events h)
           (held_written heading n.kind (suc n.level) a (notes heading h) (ap is_some k))) inside in
           let held_none : is_some (held heading Patterns n.kind (suc n.level) a (notes heading h)) ≡ false
           = sym (core_some heading b h (node_below n place c.next) a)

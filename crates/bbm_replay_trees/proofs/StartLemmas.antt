@@ -25,12 +25,12 @@ module _ (heading : Heading) (b : Below heading) (h : List Event) where
       → (r : Declared) × (root_at h r.page ≡ Some r) × (m.root ≡ r.page) × (m.kind ≡ r.kind)
       × Contains (root_pages heading.world r.kind r.page) m.page
   start_of found node same p m is none =
-      let t = b.node_taken (notes heading h) p m (sym (same p) ∙ is) in
-      let k : IsNode heading Patterns (notes heading h) m = b.tree_sound (notes heading h) m t.0 in
+      let t = b.tree.taken (notes heading h) p m (sym (same p) ∙ is) in
+      let k : IsNode heading Patterns (notes heading h) m = b.tree.sound (notes heading h) m t.0 in
       let deep : m.level ≡ k.start.level + length k.places = down_level heading b h k.places k.start m k.down in
       let low : m.level < 4 = k.level in
       let there : Contains (tree heading Patterns (notes heading h)) k.start
-      = b.tree_complete (notes heading h) k.start (record {
+      = b.tree.complete (notes heading h) k.start (record {
         root = k.root;
         declared = k.declared;
         start = k.start;
@@ -40,9 +40,9 @@ module _ (heading : Heading) (b : Below heading) (h : List Event) where
         level = omega (arith, deep, low);
       }) in
       let one : k.start ≡ m = first_of m none k.start (down_under heading b h k.places k.start m there k.down) in
-      let says = b.root_node k.root k.start k.is_start in (
+      let says = b.root_pages.fields k.root k.start k.is_start in (
         k.root,
-        found k.root (subst (λ es. Contains (roots_of es) k.root) (b.events_noted h) k.declared),
+        found k.root (subst (λ es. Contains (roots_of es) k.root) (b.notes_keep_the_events h) k.declared),
         sym (ap (λ (x : Node). x.root) one) ∙ says.2,
         sym (ap (λ (x : Node). x.kind) one) ∙ says.0,
         subst (λ (x : Node). Contains (root_pages heading.world k.root.kind k.root.page) x.page) one says.4,

@@ -13,6 +13,7 @@ use Rattle.indexmap.specs.IndexMap.{IndexMap, get, index_map_len, keys}
 use Rattle.bbm_events.specs.Heading.{Heading}
 use Rattle.bbm_rules.specs.Roots.{input_pages}
 use Rattle.bbm_regimes.specs.declared.regime.Kind.{Kind}
+use Rattle.bbm_tree_index.specs.PageTables.{SameKeys}
 use Rattle.bbm_tree_index.specs.Spots.{Fits, RoleFits}
 use Rattle.bbm_tree_index.specs.Survey.{Well, grown, joined}
 use Rattle.bbm_tree_index.specs.declared.mark.Mark.{Mark}
@@ -87,6 +88,14 @@ pub well_none : (heading : Heading) (g : ℕ → Option Mark) → ((p : ℕ) →
 well_none heading g none = record {
   pages = λ p e. absurd (true≢false (sym e ∙ ap (λ o. is_some o) (none p)));
   fit = λ p m e. absurd (none-some m (sym (none p) ∙ e));
+}
+
+-- what keeps the keys twice keeps them
+pub same_keys : {V S : Type 0} {one two three : IndexMap ℕ V S} → SameKeys two three → SameKeys one two → SameKeys one three
+same_keys later first = record {
+  known = λ p. later.known p ∙ first.known p;
+  keys = later.keys ∙ first.keys;
+  len = later.len ∙ first.len;
 }
 
 -- one more key is among the first

@@ -1,7 +1,9 @@
 -- What keeps nodes, soundness and agreement, said of indexes.
 use Rattle.std.proofs.Common.{◌≡◌, ℕ, ◌<◌, ◌%◌, ◌^◌, Bool, true, false, Option, Some, None, refl, sym, ap, subst, ◌∙◌}
-use Rattle.std.proofs.Common.{unwrap_or, ◌==◌, if◌then◌else◌}
+use Rattle.std.proofs.Common.{unwrap_or, ◌==◌, ◌||◌, ◌&&◌, not, if◌then◌else◌}
 use Rattle.std.proofs.Common.{nat_eq, is_some}
+use Rattle.bbm_lemmas.proofs.Tautologies.{proved}
+use Rattle.bbm_lemmas.proofs.Tautologies.Claim.{Is}
 use Rattle.indexmap.specs.IndexMap.{get}
 use Rattle.bbm_place_map.specs.declared.map.PlaceMap.{PlaceMap}
 use Rattle.bbm_rules.specs.Lists.{any}
@@ -10,8 +12,8 @@ use Rattle.bbm_regimes.specs.declared.regime.Kind.{Kind}
 use Rattle.bbm_tree_index.specs.Climbs.{cut_by}
 use Rattle.bbm_tree_index.proofs.Cutting.{cut_node}
 use Rattle.bbm_tree_index.specs.IndexAgreement.{Agrees, IsSound, Sound}
-use Rattle.bbm_tree_index.specs.Index.{fresh_in, heading_of, known_in, node_in, role_in}
-use Rattle.bbm_tree_index.specs.Nodes.{node_by}
+use Rattle.bbm_tree_index.specs.Index.{fresh_in, heading_of, known_in, node_in, null_in, role_in}
+use Rattle.bbm_tree_index.specs.Nodes.{is_fresh_role, is_null_role, node_by}
 use Rattle.bbm_tree_index.specs.declared.index.TreeIndex.{TreeIndex}
 use Rattle.bbm_tree_index.specs.declared.role.Role.{Role}
 use Rattle.bbm_tree_index.specs.declared.role.Role.TheVariants.{Untracked, Gone}
@@ -40,6 +42,33 @@ module _ (old new : TreeIndex) (heading : heading_of new ≡ heading_of old) (tr
         subst (Sound (role_in new)) e (sound_same (role_in old) (role_in new) (heading_of old) trees s.roles));
     pages = pages;
   }
+
+-- the words of an index in which a page got a role
+module _ (old new : TreeIndex) (page : ℕ) (role : Role)
+    (put : (p : ℕ) → role_in new p ≡ (if p == page then role else role_in old p)) where
+  pub fresh_put : (p : ℕ) → fresh_in new p ≡ (if p == page then is_fresh_role role else fresh_in old p)
+  unfolding fresh_in
+  fresh_put p = ap is_fresh_role (put p) ∙ by (p == page)
+    where
+      by : (b : Bool) → is_fresh_role (if b then role else role_in old p)
+          ≡ (if b then is_fresh_role role else is_fresh_role (role_in old p))
+      by true = refl
+      by false = refl
+
+  pub null_put : (p : ℕ) → null_in new p ≡ (if p == page then is_null_role role else null_in old p)
+  unfolding null_in
+  null_put p = ap is_null_role (put p) ∙ by (p == page)
+    where
+      by : (b : Bool) → is_null_role (if b then role else role_in old p)
+          ≡ (if b then is_null_role role else is_null_role (role_in old p))
+      by true = refl
+      by false = refl
+
+pub true_there : (b x : Bool) → (if b then true else x) ≡ (b || x)
+true_there = proved 2 (λ b x. Is (if b then true else x) (b || x)) refl
+
+pub false_there : (b x : Bool) → (if b then false else x) ≡ (x && not b)
+false_there = proved 2 (λ b x. Is (if b then false else x) (x && not b)) refl
 
 pub fresh_out : (index : TreeIndex) (p : ℕ) → fresh_in index p ≡ true → tree_part (role_in index p) ≡ Gone
 unfolding fresh_in

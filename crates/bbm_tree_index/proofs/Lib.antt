@@ -5,11 +5,11 @@ pub mod Cutting
 pub mod Sweeping
 pub mod Keeping
 pub mod Leavings
+pub mod Growing
 pub mod Swept
 pub mod Injective
 pub mod Counting
 pub mod Scanning
-pub mod Growing
 pub mod Levels
 pub mod Starts
 pub mod Begun

@@ -2,6 +2,8 @@
 use Rattle.std.proofs.Common.{◌≡◌, ℕ, ◌<◌, ◌≤◌, ◌+◌, ◌*◌, ◌/◌, ◌%◌, Bool, true, false, ◌&&◌, ◌||◌, ◌==◌, nat_lt, List}
 use Rattle.std.proofs.Common.{refl, sym, ap, ◌∙◌, true≢false, arith}
 use Rattle.std.proofs.lemmas.Bool.{eqb-true, eqb-false, ltb-true, lt-ltb}
+use Rattle.bbm_lemmas.proofs.Tautologies.{proved}
+use Rattle.bbm_lemmas.proofs.Tautologies.Claim.{Is}
 use Rattle.bbm_rules.specs.Places.{index_of, page_of}
 use Rattle.bbm_rules.specs.Tree.{Node}
 use Rattle.bbm_tree_index.specs.HeldCores.{is_at}
@@ -76,9 +78,7 @@ lt_more i j = by (nat_lt i (j + 1)) (nat_lt i j) (i == j) refl refl refl
     by false false false ex ey ez = refl
 
 spread : (d b x e : Bool) → ((d || (b && x)) || (b && e)) ≡ (d || (b && (x || e)))
-spread true b x e = refl
-spread false true x e = refl
-spread false false x e = refl
+spread = proved 4 (λ d b x e. Is ((d || (b && x)) || (b && e)) (d || (b && (x || e)))) refl
 
 pub scan_more : (p j : ℕ) → is_at p (p + 8 * j) ≡ true → (done : ℕ → Bool) (page a : ℕ) → is_at page a ≡ true
     → (done a || scanned p (j + 1) a) ≡ ((done a || scanned p j a) || a == p + 8 * j)

@@ -1,31 +1,31 @@
 -- How far pages have left, over the table of roles.
-use Rattle.std.proofs.Common.{◌≡◌, ℕ, ◌≤◌, ◌+◌, Bool, true, false, ◌&&◌, ◌||◌, ◌==◌, [], ◌∷◌, ◌++◌, Option, Some, None}
-use Rattle.std.proofs.Common.{is_some, nat_eq, take, length, slice_get, refl, sym, ap, ◌∙◌, subst, true≢false}
+use Rattle.std.proofs.Common.{◌≡◌, ℕ, ◌≤◌, ◌+◌, Bool, true, false, ◌&&◌, ◌||◌, ◌==◌, Option, Some, None}
+use Rattle.std.proofs.Common.{is_some, nat_eq, take, slice_get, refl, sym, ap, ◌∙◌, subst, true≢false}
 use Rattle.std.proofs.Common.{if◌then◌else◌, arith}
 use Rattle.std.specs.List.{list_any}
+use Rattle.bbm_lemmas.proofs.Tautologies.{proved}
+use Rattle.bbm_lemmas.proofs.Tautologies.Claim.{Is}
 use Rattle.indexmap.specs.IndexMap.{IndexMap, get, keys}
 use Rattle.bbm_events.specs.Heading.{Heading}
-use Rattle.bbm_place_map.specs.Map.{is_tracked, marks_at, pends_at, value_at}
+use Rattle.bbm_place_map.specs.Map.{marks_at, pends_at}
 use Rattle.bbm_entry_state.specs.EntryStanding.{IsIdle}
 use Rattle.bbm_place_map.specs.declared.map.PlaceMap.{PlaceMap}
 use Rattle.bbm_rules.specs.Places.{page_of}
 use Rattle.bbm_tree_index.specs.IndexAgreement.{Sound}
-use Rattle.bbm_tree_index.specs.Leaving.{leaves_role, roles_of}
+use Rattle.bbm_tree_index.specs.IndexChanges.{Releases}
+use Rattle.bbm_tree_index.specs.Leaving.{LetsGo, leaves_in, leaves_role, roles_of}
 use Rattle.bbm_tree_index.specs.declared.leaving.Leaving.{Leaving}
 use Rattle.bbm_tree_index.specs.declared.role.Role.{Role}
 use Rattle.bbm_tree_index.specs.declared.role.Role.TheVariants.{Untracked, Gone}
+use Rattle.bbm_tree_index.proofs.Growing.{all_keys, first_more_keys, same_keys}
 use Rattle.bbm_tree_index.proofs.Leavings.{judged}
 use Rattle.std.proofs.lemmas.Bool.{and_parts, eqb-true, or_parts}
 use Rattle.std.proofs.Common.{unwrap_or}
-use Rattle.std.proofs.lemmas.List.{length-map, take_all, take_more}
-use Rattle.std.proofs.lemmas.List.Folds.{list_any-append}
-use Rattle.std.proofs.lemmas.Map.Made.{is_some-lookup}
-use Rattle.std.proofs.lemmas.Option.{get_or_from_slice_get, slice_get_within}
 use Rattle.bbm_regimes.specs.declared.regime.Kind.{Kind}
 use Rattle.bbm_tree_index.specs.Nodes.{node_with}
 use Rattle.bbm_tree_index.specs.declared.role.Role.TheVariants.{Hangs}
 use Rattle.indexmap.specs.IndexMap.{index_map_len}
-use mathlib.Core.Bool.{or-false, and-false}
+use mathlib.Core.Bool.{and-false}
 
 module _ {S : Type 0} (table table' : IndexMap ℕ Role S) (map map' : PlaceMap) (leaving : Leaving) where
   abbrev pub leaves_first : ℕ → Bool
@@ -36,14 +36,8 @@ module _ {S : Type 0} (table table' : IndexMap ℕ Role S) (map map' : PlaceMap)
   hidden index p = list_any (nat_eq p) (take index (keys table)) && leaves_first p
 
   pub record Swept (index : ℕ) : Type 0 where
-    pub same_keys : keys table' ≡ keys table
-    pub known : (p : ℕ) → is_some (get nat_eq table' p) ≡ is_some (get nat_eq table p)
-    pub roles : (p : ℕ) → roles_of table' p ≡ (if hidden index p then Gone else roles_of table p)
-    pub values : (a : ℕ) → value_at map' a ≡ value_at map a
-    pub marks : (a : ℕ) → marks_at map' a ≡ (if hidden index (page_of a) then None else marks_at map a)
-    pub pends : (q a : ℕ) → hidden index (page_of a) ≡ false → pends_at map' q a ≡ pends_at map q a
-    pub dropped : (q a : ℕ) → hidden index (page_of a) ≡ true → IsIdle (pends_at map' q a)
-    pub tracked : (p : ℕ) → is_tracked map' p ≡ is_tracked map p
+    pub roles : LetsGo (hidden index) table table'
+    pub places : Releases (hidden index) map map'
 
 pick_more : {A : Type 0} (b a l now : Bool) (g r : A) → (b ≡ true → now ≡ (if a && l then false else l))
     → (if b && now then g else (if a && l then g else r)) ≡ (if (a || b) && l then g else r)
@@ -55,58 +49,37 @@ pick_more true false true now g r h = ap (λ n. if n then g else r) (h refl)
 pick_more true false false now g r h = ap (λ n. if n then g else r) (h refl)
 
 as_if : (a b : Bool) → (a || b) ≡ (if a then true else (if b then true else false))
-as_if true b = refl
-as_if false true = refl
-as_if false false = refl
+as_if = proved 2 (λ a b. Is (a || b) (if a then true else (if b then true else false))) refl
 
 as_bool : (b : Bool) → b ≡ (if b then true else false)
-as_bool true = refl
-as_bool false = refl
+as_bool = proved 1 (λ b. Is b (if b then true else false)) refl
 
 module _ {S : Type 0} (table : IndexMap ℕ Role S) (map : PlaceMap) (leaving : Leaving) where
   pub start : Swept table table map map leaving 0
   start = record {
-    same_keys = refl;
-    known = λ p. refl;
-    roles = λ p. refl;
-    values = λ a. refl;
-    marks = λ a. refl;
-    pends = λ q a e. refl;
-    dropped = λ q a e. absurd (true≢false (sym e));
-    tracked = λ p. refl;
+    roles = record { roles = λ p. refl; same = record { known = λ p. refl; keys = refl; len = refl } };
+    places = record {
+      values = λ a. refl;
+      marks = λ a. refl;
+      pends = λ q a e. refl;
+      dropped = λ q a e. absurd (true≢false (sym e));
+      pages = λ p. refl;
+    };
   }
-
-  -- one more page is among the first
-  first_more : (index page p : ℕ) → slice_get (keys table) index ≡ Some page
-      → list_any (nat_eq p) (take (index + 1) (keys table)) ≡ (list_any (nat_eq p) (take index (keys table)) || p == page)
-  first_more index page p at =
-      ap (list_any (nat_eq p)) (take_more (keys table) index 0 (slice_get_within (keys table) index page at)
-      ∙ ap (λ (x : ℕ). take index (keys table) ++ x ∷ []) (get_or_from_slice_get (keys table) index page 0 at))
-      ∙ list_any-append (nat_eq p) (take index (keys table)) (page ∷ []) ∙ ap (λ b. list_any (nat_eq p) (take index (keys table)) || b) (or-false (p == page))
 
   module _ (table' : IndexMap ℕ Role S) (map' : PlaceMap) (heading : Heading) (sound : Sound (roles_of table) heading) (index : ℕ)
       (swept : Swept table table' map map' leaving index) where
     now_is : (page : ℕ) → leaves_role map' (roles_of table') leaving (roles_of table' page)
         ≡ (if hidden table table' map map' leaving index page then false else leaves_role map (roles_of table) leaving (roles_of table page))
     now_is page = judged map (roles_of table) heading sound map' (roles_of table') (hidden table table' map map' leaving index)
-        swept.values (λ a out. swept.marks a ∙ ap (λ b. if b then None else marks_at map a) out) swept.roles leaving
+        swept.places.values (λ a out. swept.places.marks a ∙ ap (λ b. if b then None else marks_at map a) out) swept.roles.roles leaving
         (λ q h. (and_parts (list_any (nat_eq q) (take index (keys table))) (leaves_role map (roles_of table) leaving (roles_of table q)) h).1) page
 
     module _ (table'' : IndexMap ℕ Role S) (map'' : PlaceMap) (page : ℕ) (at : slice_get (keys table') index ≡ Some page)
-        (step_keys : keys table'' ≡ keys table')
-        (step_known : (p : ℕ) → is_some (get nat_eq table'' p) ≡ is_some (get nat_eq table' p))
-        (step_roles : (p : ℕ) → roles_of table'' p
-        ≡ (if p == page && leaves_role map' (roles_of table') leaving (roles_of table' page) then Gone else roles_of table' p))
-        (step_values : (a : ℕ) → value_at map'' a ≡ value_at map' a)
-        (step_marks : (a : ℕ) → marks_at map'' a
-        ≡ (if page_of a == page && leaves_role map' (roles_of table') leaving (roles_of table' page) then None else marks_at map' a))
-        (step_pends : (q a : ℕ) → (page_of a == page && leaves_role map' (roles_of table') leaving (roles_of table' page)) ≡ false
-        → pends_at map'' q a ≡ pends_at map' q a)
-        (step_dropped : (q a : ℕ) → (page_of a == page && leaves_role map' (roles_of table') leaving (roles_of table' page)) ≡ true
-        → IsIdle (pends_at map'' q a))
-        (step_tracked : (p : ℕ) → is_tracked map'' p ≡ is_tracked map' p) where
+        (roles : LetsGo (λ p. p == page && leaves_in map' table' leaving page) table' table'')
+        (step : Releases (λ p. p == page && leaves_in map' table' leaving page) map' map'') where
       was_at : slice_get (keys table) index ≡ Some page
-      was_at = ap (λ ks. slice_get ks index) (sym swept.same_keys) ∙ at
+      was_at = ap (λ ks. slice_get ks index) (sym swept.roles.same.keys) ∙ at
 
       abbrev now : Bool
       now = leaves_role map' (roles_of table') leaving (roles_of table' page)
@@ -121,7 +94,7 @@ module _ {S : Type 0} (table : IndexMap ℕ Role S) (map : PlaceMap) (leaving : 
       pick : {A : Type 0} (p : ℕ) (g r : A) → (if p == page && now then g else (if list_any (nat_eq p) (take index (keys table)) && lf p then g else r))
           ≡ (if list_any (nat_eq p) (take (index + 1) (keys table)) && lf p then g else r)
       pick p g r = pick_more (p == page) (list_any (nat_eq p) (take index (keys table))) (lf p) now g r (now_at p)
-          ∙ ap (λ a. if a && lf p then g else r) (sym (first_more index page p was_at))
+          ∙ ap (λ a. if a && lf p then g else r) (sym (first_more_keys (keys table) index page p was_at))
 
       -- what is hidden next, as a test
       abbrev hid : ℕ → Bool
@@ -136,19 +109,23 @@ module _ {S : Type 0} (table : IndexMap ℕ Role S) (map : PlaceMap) (leaving : 
 
       pub more : Swept table table'' map map'' leaving (index + 1)
       more = record {
-        same_keys = step_keys ∙ swept.same_keys;
-        known = λ p. step_known p ∙ swept.known p;
-        roles = λ p. step_roles p ∙ ap (λ r. if p == page && now then Gone else r) (swept.roles p) ∙ pick p Gone (roles_of table p);
-        values = λ a. step_values a ∙ swept.values a;
-        marks = λ a. step_marks a ∙ ap (λ m. if page_of a == page && now then None else m) (swept.marks a) ∙ pick (page_of a) None (marks_at map a);
-        pends = λ q a e. let f = hid_not (page_of a) (hid_is (page_of a) ∙ e) in step_pends q a f.0 ∙ swept.pends q a f.1;
-        dropped = λ q a e. by_step q a (page_of a == page && now) refl (hid_is (page_of a) ∙ e);
-        tracked = λ p. step_tracked p ∙ swept.tracked p;
+        roles = record {
+          roles = λ p. roles.roles p ∙ ap (λ r. if p == page && now then Gone else r) (swept.roles.roles p) ∙ pick p Gone (roles_of table p);
+          same = same_keys roles.same swept.roles.same;
+        };
+        places = record {
+          values = λ a. step.values a ∙ swept.places.values a;
+          marks = λ a. step.marks a ∙ ap (λ m. if page_of a == page && now then None else m) (swept.places.marks a)
+              ∙ pick (page_of a) None (marks_at map a);
+          pends = λ q a e. let f = hid_not (page_of a) (hid_is (page_of a) ∙ e) in step.pends q a f.0 ∙ swept.places.pends q a f.1;
+          dropped = λ q a e. by_step q a (page_of a == page && now) refl (hid_is (page_of a) ∙ e);
+          pages = λ p. step.pages p ∙ swept.places.pages p;
+        };
       }
         where
           by_step : (q a : ℕ) (b : Bool) → (page_of a == page && now) ≡ b → hid (page_of a) ≡ true → IsIdle (pends_at map'' q a)
-          by_step q a true t e = step_dropped q a t
-          by_step q a false t e = subst IsIdle (sym (step_pends q a t)) (swept.dropped q a
+          by_step q a true t e = step.dropped q a t
+          by_step q a false t e = subst IsIdle (sym (step.pends q a t)) (swept.places.dropped q a
               (ap (λ b. b || (list_any (nat_eq (page_of a)) (take index (keys table)) && lf (page_of a))) (sym t) ∙ e))
 
   module _ (table' : IndexMap ℕ Role S) (map' : PlaceMap) (index : ℕ) (end : index_map_len table ≤ index) where
@@ -160,13 +137,9 @@ module _ {S : Type 0} (table : IndexMap ℕ Role S) (map : PlaceMap) (leaving : 
     pub all_hidden : (p : ℕ) → hidden table table' map map' leaving index p ≡ leaves_role map (roles_of table) leaving (roles_of table p)
     all_hidden p = by (leaves_role map (roles_of table) leaving (roles_of table p)) refl
       where
-        all : list_any (nat_eq p) (take index (keys table)) ≡ is_some (get nat_eq table p)
-        all = ap (list_any (nat_eq p)) (take_all index (keys table) (subst (λ n. n ≤ index) (sym (length-map table.entries (λ e. e.0))) end))
-            ∙ sym (is_some-lookup (nat_eq p) table.entries)
-
         by : (b : Bool) → leaves_role map (roles_of table) leaving (roles_of table p) ≡ b
             → (list_any (nat_eq p) (take index (keys table)) && b) ≡ b
-        by true e = ap (λ a. a && true) (all ∙ known_leaves (get nat_eq table p) e)
+        by true e = ap (λ a. a && true) (all_keys table index end p ∙ known_leaves (get nat_eq table p) e)
         by false e = and-false (list_any (nat_eq p) (take index (keys table)))
 
 -- the levels of hanging pages
@@ -184,9 +157,6 @@ module _ {S : Type 0} (table table' : IndexMap ℕ Role S) (map map' : PlaceMap)
       gone h = cc
 
       by : (b : Bool) → hidden table table' map map' leaving index p ≡ b → level ≤ 4
-      by true h = absurd (gone (sym (swept.roles p ∙ ap (λ b. if b then Gone else roles_of table p) h) ∙ e))
+      by true h = absurd (gone (sym (swept.roles.roles p ∙ ap (λ b. if b then Gone else roles_of table p) h) ∙ e))
       by false h = level_low (roles_of table) heading sound p parent level base first kind
-          (sym (swept.roles p ∙ ap (λ b. if b then Gone else roles_of table p) h) ∙ e)
-
-  pub swept_len : index_map_len table' ≡ index_map_len table
-  swept_len = sym (length-map table'.entries (λ e. e.0)) ∙ ap length swept.same_keys ∙ length-map table.entries (λ e. e.0)
+          (sym (swept.roles.roles p ∙ ap (λ b. if b then Gone else roles_of table p) h) ∙ e)

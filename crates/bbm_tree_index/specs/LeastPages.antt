@@ -1,6 +1,6 @@
 -- The least page that keeps pages from being attached, and the least place, by the tables of a survey.
 -- Source: project's own choice.
-use Rattle.std.specs.Prelude.{◌≡◌, ℕ, ◌+◌, ◌<◌, ◌%◌, ◌^◌, Bool, true, false, List, Option, Some, None, Contains, length}
+use Rattle.std.specs.Prelude.{◌≡◌, ℕ, ◌+◌, ◌<◌, Bool, true, false, List, Option, Some, None, Contains, length}
 use Rattle.std.specs.Prelude.{is_some, nat_eq, nat_lt, slice_get, if◌then◌else◌}
 use Rattle.indexmap.specs.IndexMap.{IndexMap, get}
 use Rattle.bbm_descriptor.specs.Descriptor.{desc_of}
@@ -13,6 +13,7 @@ use Rattle.bbm_tree_index.specs.Index.{fresh_in, heading_of}
 use Rattle.bbm_tree_index.specs.declared.role.Attach.{Attach}
 use Rattle.bbm_tree_index.specs.HeldCores.{is_at}
 use Rattle.bbm_tree_index.specs.Attaching.{IsLeast, Never, is_bad, is_user_global}
+use Rattle.bbm_tree_index.specs.PageTables.{HasPages}
 use Rattle.bbm_tree_index.specs.Paths.{starts_of}
 use Rattle.bbm_tree_index.specs.Survey.{Counts, Reached, Starting, Surveyed}
 use Rattle.bbm_tree_index.specs.declared.index.TreeIndex.{TreeIndex}
@@ -47,9 +48,6 @@ pub record LeafOf (value : ℕ → ℕ) (test : Kind → Desc → Bool) (kind : 
   pub passes : test kind (desc_of kind level (value a)) ≡ true
 
 module _ {S : Type 0} where
-  abbrev pub HasPages : IndexMap ℕ Mark S → Type 0
-  HasPages table = (p : ℕ) → is_some (get nat_eq table p) ≡ true → (p < 2 ^ 48) × (p % 4096 ≡ 0)
-
   abbrev pub HavePages : List (IndexMap ℕ Mark S) → Type 0
   HavePages tables = (k : ℕ) (table : IndexMap ℕ Mark S) → slice_get tables k ≡ Some table → HasPages table
 
@@ -83,11 +81,13 @@ module _ {S : Type 0} where
         many : mark.many ≡ true → Wrong level page mark
         elsewhere : Elsewhere level page → Wrong level page mark
 
+      -- a page with a wrong mark in the table of a level
       pub record WrongIn (level : ℕ) (table : IndexMap ℕ Mark S) (page : ℕ) : Type 0 where
         pub mark : Mark
         pub has : get nat_eq table page ≡ Some mark
         pub wrong : Wrong level page mark
 
+      -- a page that is wrong at some level
       pub record WrongPage (page : ℕ) : Type 0 where
         pub level : ℕ
         pub table : IndexMap ℕ Mark S

@@ -3,6 +3,7 @@ pub mod Spots
 pub mod Index
 pub mod HeldCores
 pub mod Climbs
+pub mod PageTables
 pub mod Leaving
 pub mod Paths
 pub mod Attaching
@@ -12,3 +13,4 @@ pub mod Hanging
 pub mod LeastPages
 pub mod Descent
 pub mod Prepared
+pub mod IndexChanges

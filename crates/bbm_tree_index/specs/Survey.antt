@@ -89,6 +89,10 @@ pub record Well (heading : Heading) (g : ℕ → Option Mark) : Type 0 where
   pub pages : (p : ℕ) → is_some (g p) ≡ true → (p < 2 ^ 48) × (p % 4096 ≡ 0)
   pub fit : (p : ℕ) (mark : Mark) → g p ≡ Some mark → RoleFits heading mark.role
 
+-- a table that was well formed, under whatever header, is so still
+abbrev pub StaysWell : {S : Type 0} → IndexMap ℕ Mark S → IndexMap ℕ Mark S → Type 0
+StaysWell old new = (heading : Heading) → Well heading (get nat_eq old) → Well heading (get nat_eq new)
+
 -- the role of each of the nodes tells where it stands
 abbrev pub spot_as : Node → Spot
 spot_as m = record { kind = m.kind; level = m.level; base = m.base; first = m.root }
@@ -107,6 +111,7 @@ pub record Starting (heading : Heading) (first : ℕ → Option Mark) (starts : 
   pub alike : (s s' : Node) → Contains starts s → Contains starts s' → (s.kind ≡ s'.kind) × (s.level ≡ s'.level)
   pub told : (q : ℕ) → Counts (Contains starts) q (first q)
 
+-- the tables have the pages that can be reached, level by level, each with its mark
 pub record Surveyed {S : Type 0} (heading : Heading) (fresh : ℕ → Bool) (value : ℕ → ℕ) (first : ℕ → Option Mark)
     (tables : List (IndexMap ℕ Mark S)) : Type 0 where
   pub wells : (k : ℕ) (table : IndexMap ℕ Mark S) → slice_get tables k ≡ Some table → Well heading (get nat_eq table)

@@ -1,8 +1,10 @@
 //! Pages of a survey get their roles.
 
-ghost use Rattle.std.specs.Prelude.{◌≡◌, ◌<◌, ◌%◌, ◌^◌, ℕ, true, List, Some, is_some, length, nat_eq, slice_get};
-ghost use Rattle.indexmap.specs.IndexMap.{get, index_map_len, keys, IndexMap as TheTable};
+ghost use Rattle.std.specs.Prelude.{◌≡◌, ℕ, true, Some, is_some, length, nat_eq, slice_get};
+ghost use Rattle.indexmap.specs.IndexMap.{get};
 ghost use Rattle.bbm_tree_index.specs.Hanging.{Hung, hung};
+ghost use Rattle.bbm_tree_index.specs.LeastPages.{HavePages};
+ghost use Rattle.bbm_tree_index.specs.PageTables.{HasPages, SameKeys};
 
 use crate::mark::Mark;
 use crate::role::Role;
@@ -12,11 +14,10 @@ use indexmap::IndexMap;
 
 /// The pages of a level get the roles that their marks tell.
 fn attach_prepared(roles: &mut IndexMap<u64, Role>, level: &IndexMap<u64, Mark>)
-    requires pages { (p : ℕ) → is_some (get nat_eq level.now p) ≡ true → (p < 2 ^ 48) × (p % 4096 ≡ 0) }
+    requires pages { HasPages level.now }
     requires known { (p : ℕ) → is_some (get nat_eq level.now p) ≡ true → is_some (get nat_eq roles.old p) ≡ true }
     ensures roles { (p : ℕ) → get nat_eq roles.new p ≡ hung (get nat_eq level.now p) (get nat_eq roles.old p) }
-    ensures known { (p : ℕ) → is_some (get nat_eq roles.new p) ≡ is_some (get nat_eq roles.old p) }
-    ensures len { index_map_len roles.new ≡ index_map_len roles.old }
+    ensures same { SameKeys roles.old roles.new }
 {
     for index in 0..level.len() {
         let (page, mark) = entry_at(level, index);
@@ -26,13 +27,11 @@ fn attach_prepared(roles: &mut IndexMap<u64, Role>, level: &IndexMap<u64, Mark>)
 
 /// The pages of all levels get the roles that their marks tell.
 pub fn attach_all(roles: &mut IndexMap<u64, Role>, tables: &[IndexMap<u64, Mark>])
-    requires pages { (k p : ℕ) → (table : _) → slice_get tables.now k ≡ Some table
-        → is_some (get nat_eq table p) ≡ true → (p < 2 ^ 48) × (p % 4096 ≡ 0) }
+    requires pages { HavePages tables.now }
     requires known { (k p : ℕ) → (table : _) → slice_get tables.now k ≡ Some table
         → is_some (get nat_eq table p) ≡ true → is_some (get nat_eq roles.old p) ≡ true }
     ensures roles { (p : ℕ) → Hung tables.now (length tables.now) p (get nat_eq roles.old p) (get nat_eq roles.new p) }
-    ensures known { (p : ℕ) → is_some (get nat_eq roles.new p) ≡ is_some (get nat_eq roles.old p) }
-    ensures len { index_map_len roles.new ≡ index_map_len roles.old }
+    ensures same { SameKeys roles.old roles.new }
 {
     for index in 0..tables.len() {
         attach_prepared(roles, &tables[index]);

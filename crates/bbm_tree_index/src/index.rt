@@ -11,7 +11,7 @@ use crate::role::{Attach, Detach, Path, Role};
 use crate::spot::{Spot, spot_of};
 use crate::start::{start_below, start_root};
 use crate::survey::survey;
-use crate::table::put;
+use crate::table::{put, role_here, role_near};
 use bbm_events::Header;
 use bbm_place_map::PlaceMap;
 use bbm_regimes::{Kind, NoMemory, Page, Place, Which};
@@ -37,41 +37,36 @@ pub struct Prepared {
 
 #[tactic(auto, unfolding(crate::specs::Index::heading_of, crate::specs::Index::role_in, crate::specs::Index::node_in, crate::specs::Index::fresh_in, crate::specs::Index::null_in, crate::specs::Index::known_in, crate::specs::Index::pages_in))]
 impl TreeIndex {
-    ghost use Rattle.std.specs.Prelude.{◌≡◌, ◌==◌, ◌+◌, ◌≤◌, ◌↔◌, ◌&&◌, ◌||◌, not, true, false, ℕ, None, Some, is_some};
-    ghost use Rattle.std.specs.Prelude.{nat_eq, IfOk, IfErr, IfSome, OnOk, OnErr, Err, if◌then◌else◌, ◌≢◌};
+    ghost use Rattle.std.specs.Prelude.{◌≡◌, ◌≢◌, ◌≤◌, ◌<◌, ◌↔◌, ℕ, true, false, Contains, nat_eq};
+    ghost use Rattle.std.specs.Prelude.{None, Some, is_some, Err, IfOk, IfErr, IfSome, OnOk, OnErr};
     ghost use Rattle.std.specs.Option.{option_map, option_map_or};
+    ghost use Rattle.indexmap.specs.IndexMap.{get};
     ghost use Rattle.bbm_rules.specs.Places.{page_of};
-    ghost use Rattle.bbm_place_map.specs.Map.{value_at, marks_at, pends_at, is_tracked};
-    ghost use Rattle.bbm_entry_state.specs.EntryStanding.{IsIdle};
+    ghost use Rattle.bbm_rules.specs.Tree.{Node};
+    ghost use Rattle.bbm_place_map.specs.Map.{value_at, marks_at};
     ghost use Rattle.bbm_place_map.specs.MapCalls.{IsSame};
     ghost use Rattle.bbm_place_map.specs.declared.map.PlaceMap.{PlaceMap as TheMap};
-    ghost use Rattle.bbm_tree_index.specs.IndexAgreement.{Agrees, IsSound};
-    ghost use Rattle.bbm_tree_index.specs.Index.{heading_of, role_in, node_in, fresh_in, null_in, known_in, pages_in};
-    ghost use Rattle.bbm_tree_index.specs.Index.{SamePages, SameTracked};
-    ghost use Rattle.bbm_tree_index.specs.Nodes.{path_at};
-    ghost use Rattle.bbm_tree_index.specs.Spots.{Fits, StandsAt, spot_with};
-    ghost use Rattle.bbm_rules.specs.Tree.{Node};
-    ghost use Rattle.bbm_tree_index.specs.Descent.{Translates};
-    ghost use Rattle.bbm_tree_index.specs.HeldCores.{Childless, core_at, holds_at, is_at, is_held_by, kept, leaves};
-    ghost use Rattle.bbm_tree_index.specs.HeldCores.{limbo_by, stays_without};
-    ghost use Rattle.bbm_tree_index.specs.Leaving.{stays};
     ghost use Rattle.bbm_tree_index.specs.Attaching.{Judges, MayJudge, names_pages};
+    ghost use Rattle.bbm_tree_index.specs.Descent.{Translates};
+    ghost use Rattle.bbm_tree_index.specs.HeldCores.{Childless, core_at, holds_at, is_at, is_held_by, limbo_by};
+    ghost use Rattle.bbm_tree_index.specs.HeldCores.{stays_without};
+    ghost use Rattle.bbm_tree_index.specs.Index.{SamePages, SameTracked, heading_of, role_in, node_in, fresh_in};
+    ghost use Rattle.bbm_tree_index.specs.Index.{null_in, known_in, pages_in};
+    ghost use Rattle.bbm_tree_index.specs.IndexAgreement.{Agrees, IsSound};
+    ghost use Rattle.bbm_tree_index.specs.IndexChanges.{Attaches, BecomesFresh, BecomesNull, BecomesZero};
+    ghost use Rattle.bbm_tree_index.specs.IndexChanges.{CountsTracked, IsNew, TakesOut};
     ghost use Rattle.bbm_tree_index.specs.LeastPages.{IsSurvey};
-    ghost use Rattle.bbm_tree_index.specs.Paths.{Attached, starts_of};
+    ghost use Rattle.bbm_tree_index.specs.Leaving.{stays};
+    ghost use Rattle.bbm_tree_index.specs.Nodes.{path_at};
+    ghost use Rattle.bbm_tree_index.specs.Paths.{starts_of};
     ghost use Rattle.bbm_tree_index.specs.Prepared.{AreNamedFresh, IsPrepared};
+    ghost use Rattle.bbm_tree_index.specs.Spots.{Fits, StandsAt, spot_with};
     ghost use Rattle.bbm_tree_index.specs.Survey.{Starting, Well};
     ghost use Rattle.bbm_tree_index.specs.declared.role.Attach.{Attach as TheAttach};
-    ghost use Rattle.std.specs.Prelude.{◌⊎◌, ◌<◌, Contains, List, is_none, length};
-    ghost use Rattle.indexmap.specs.IndexMap.{get};
 
     /// The index before any call. `NoMemory` where there is none.
     pub fn new(alloc: Global, header: &Header) -> Result<TreeIndex, TreeFault>
-        ensures node { IfOk result (λ index. (p : ℕ) → node_in index p ≡ None) }
-        ensures fresh { IfOk result (λ index. (p : ℕ) → fresh_in index p ≡ false) }
-        ensures null { IfOk result (λ index. (p : ℕ) → null_in index p ≡ false) }
-        ensures known { IfOk result (λ index. (p : ℕ) → known_in index p ≡ false) }
-        ensures pages { IfOk result (λ index. pages_in index ≡ 0) }
-        ensures heading { IfOk result (λ index. heading_of index ≡ header.now) }
+        ensures empty { IfOk result (IsNew header.now) }
         ensures agrees { IfOk result (λ index. (map : TheMap) → ((a : ℕ) → marks_at map a ≡ None) → Agrees index map) }
         ensures fault { IfErr result (λ fault. fault ≡ TreeFault.NoMemory) }
     {
@@ -131,6 +126,55 @@ impl TreeIndex {
         }
     }
 
+    /// The same. No answer depends on the number `near`: the page is looked for first where it has this number in the
+    /// order in which pages were tracked.
+    #[inline(always)]
+    pub fn path_near(&self, place: Place, near: usize) -> Option<Path>
+        requires { IsSound self.now }
+        ensures { result ≡ option_map (λ n. path_at n place) (node_in self.now (page_of place)) }
+    {
+        match self.spot_near(place.page(), near) {
+            Some(spot) => Some(spot.path(place)),
+            None => None,
+        }
+    }
+
+    /// What is known of the place, where its page has this number in the order in which pages were tracked; None says
+    /// nothing.
+    #[inline(always)]
+    pub fn path_at(&self, place: Place, number: usize) -> Option<Path>
+        requires { IsSound self.now }
+        ensures { IfSome result (λ path. Some path
+            ≡ option_map (λ n. path_at n place) (node_in self.now (page_of place))) }
+    {
+        match role_here(&self.roles, number, place.page()) {
+            Some(role) => match self.spot_as(place.page(), role) {
+                Some(spot) => Some(spot.path(place)),
+                None => None,
+            },
+            None => None,
+        }
+    }
+
+    /// Where to look first for the page: its number in the order in which pages were tracked. That is `near` where the
+    /// page is there, and else it is looked up. No answer depends on it.
+    #[inline(always)]
+    pub fn number(&self, page: Page, near: usize) -> usize {
+        match role_here(&self.roles, near, page) {
+            Some(_) => near,
+            None => self.number_far(page),
+        }
+    }
+
+    /// The same, looked up.
+    #[inline(never)]
+    fn number_far(&self, page: Page) -> usize {
+        match self.roles.get_index_of(&page.get()) {
+            Some(number) => number,
+            None => 0,
+        }
+    }
+
     /// Where the page stands, None where it is in no tree.
     #[inline(always)]
     fn spot(&self, page: Page) -> Option<Spot>
@@ -140,10 +184,35 @@ impl TreeIndex {
         ensures node { IfSome result (λ s. (n : Node) × (node_in self.now page ≡ Some n) × StandsAt s n) }
         ensures none { result ≡ None → node_in self.now page ≡ None }
     {
-        match self.roles.get(&page.get()) {
-            Some(role) => spot_of(&self.header, role),
+        self.spot_near(page, usize::MAX)
+    }
+
+    /// The same. The page is looked for first at the number `near`.
+    #[inline(always)]
+    fn spot_near(&self, page: Page, near: usize) -> Option<Spot>
+        requires { IsSound self.now }
+        ensures spot { result ≡ spot_with (heading_of self.now) (role_in self.now page) }
+        ensures fits { IfSome result Fits }
+        ensures node { IfSome result (λ s. (n : Node) × (node_in self.now page ≡ Some n) × StandsAt s n) }
+        ensures none { result ≡ None → node_in self.now page ≡ None }
+    {
+        match role_near(&self.roles, near, page) {
+            Some(role) => self.spot_as(page, role),
             None => None,
         }
+    }
+
+    /// The same of a page with this role.
+    #[inline(always)]
+    fn spot_as(&self, page: Page, role: &Role) -> Option<Spot>
+        requires sound { IsSound self.now }
+        requires role { get nat_eq self.now.roles page ≡ Some role.now }
+        ensures spot { result ≡ spot_with (heading_of self.now) (role_in self.now page) }
+        ensures fits { IfSome result Fits }
+        ensures node { IfSome result (λ s. (n : Node) × (node_in self.now page ≡ Some n) × StandsAt s n) }
+        ensures none { result ≡ None → node_in self.now page ≡ None }
+    {
+        spot_of(&self.header, role)
     }
 
     /// The place of a page that translates the input page, with what is known of it: where one goes on the way down
@@ -199,9 +268,7 @@ impl TreeIndex {
     /// The page is declared null. It is fresh.
     pub fn nullify(&mut self, page: Page)
         requires { fresh_in self.old page ≡ true }
-        ensures node { (p : ℕ) → node_in self.new p ≡ node_in self.old p }
-        ensures fresh { (p : ℕ) → fresh_in self.new p ≡ (fresh_in self.old p && not (p == page)) }
-        ensures null { (p : ℕ) → null_in self.new p ≡ (p == page || null_in self.old p) }
+        ensures null { BecomesNull page self.old self.new }
         ensures tracked { SameTracked self.old self.new }
         ensures sound { IsSound self.old → IsSound self.new }
         ensures agrees { (map : TheMap) → Agrees self.old map → Agrees self.new map }
@@ -212,19 +279,7 @@ impl TreeIndex {
     /// The pages that leave are in no tree any more, and no place of them is broken.
     fn leave(&mut self, map: &mut PlaceMap, leaving: &Leaving)
         requires { IsSound self.old }
-        ensures node { (p : ℕ) → node_in self.new p ≡ kept (stays map.old leaving.now) (node_in self.old p) }
-        ensures fresh { (p : ℕ) → fresh_in self.new p ≡ fresh_in self.old p }
-        ensures null { (p : ℕ) → null_in self.new p ≡ null_in self.old p }
-        ensures tracked { SameTracked self.old self.new }
-        ensures sound { IsSound self.new }
-        ensures values { (a : ℕ) → value_at map.new a ≡ value_at map.old a }
-        ensures marks { (a : ℕ) → marks_at map.new a
-            ≡ (if leaves (stays map.old leaving.now) (node_in self.old (page_of a)) then None else marks_at map.old a) }
-        ensures pends { (q a : ℕ) → leaves (stays map.old leaving.now) (node_in self.old (page_of a)) ≡ false
-            → pends_at map.new q a ≡ pends_at map.old q a }
-        ensures dropped { (q a : ℕ) → leaves (stays map.old leaving.now) (node_in self.old (page_of a)) ≡ true
-            → IsIdle (pends_at map.new q a) }
-        ensures map_pages { (p : ℕ) → is_tracked map.new p ≡ is_tracked map.old p }
+        ensures { TakesOut (stays map.old leaving.now) self.old self.new map.old map.new }
     {
         sweep(&mut self.roles, map, leaving);
     }
@@ -233,20 +288,7 @@ impl TreeIndex {
     /// place of it is broken any more, and nothing waits there. All else stays.
     pub fn prune(&mut self, map: &mut PlaceMap)
         requires { IsSound self.old }
-        ensures node { (p : ℕ) → node_in self.new p ≡ kept (is_held_by (holds_at map.old)) (node_in self.old p) }
-        ensures fresh { (p : ℕ) → fresh_in self.new p ≡ fresh_in self.old p }
-        ensures null { (p : ℕ) → null_in self.new p ≡ null_in self.old p }
-        ensures tracked { SameTracked self.old self.new }
-        ensures sound { IsSound self.new }
-        ensures values { (a : ℕ) → value_at map.new a ≡ value_at map.old a }
-        ensures marks { (a : ℕ) → marks_at map.new a
-            ≡ (if leaves (is_held_by (holds_at map.old)) (node_in self.old (page_of a)) then None
-            else marks_at map.old a) }
-        ensures pends { (q a : ℕ) → leaves (is_held_by (holds_at map.old)) (node_in self.old (page_of a)) ≡ false
-            → pends_at map.new q a ≡ pends_at map.old q a }
-        ensures dropped { (q a : ℕ) → leaves (is_held_by (holds_at map.old)) (node_in self.old (page_of a)) ≡ true
-            → IsIdle (pends_at map.new q a) }
-        ensures map_pages { (p : ℕ) → is_tracked map.new p ≡ is_tracked map.old p }
+        ensures { TakesOut (is_held_by (holds_at map.old)) self.old self.new map.old map.new }
     {
         self.leave(map, &Leaving::Unheld);
     }
@@ -255,19 +297,7 @@ impl TreeIndex {
     /// is broken any more, and nothing waits there. All else stays.
     pub fn detach(&mut self, map: &mut PlaceMap, at: Detach)
         requires { IsSound self.old }
-        ensures node { (p : ℕ) → node_in self.new p ≡ kept (stays_without at) (node_in self.old p) }
-        ensures fresh { (p : ℕ) → fresh_in self.new p ≡ fresh_in self.old p }
-        ensures null { (p : ℕ) → null_in self.new p ≡ null_in self.old p }
-        ensures tracked { SameTracked self.old self.new }
-        ensures sound { IsSound self.new }
-        ensures values { (a : ℕ) → value_at map.new a ≡ value_at map.old a }
-        ensures marks { (a : ℕ) → marks_at map.new a
-            ≡ (if leaves (stays_without at) (node_in self.old (page_of a)) then None else marks_at map.old a) }
-        ensures pends { (q a : ℕ) → leaves (stays_without at) (node_in self.old (page_of a)) ≡ false
-            → pends_at map.new q a ≡ pends_at map.old q a }
-        ensures dropped { (q a : ℕ) → leaves (stays_without at) (node_in self.old (page_of a)) ≡ true
-            → IsIdle (pends_at map.new q a) }
-        ensures map_pages { (p : ℕ) → is_tracked map.new p ≡ is_tracked map.old p }
+        ensures { TakesOut (stays_without at) self.old self.new map.old map.new }
     {
         match at {
             Detach::Root(first) => self.leave(map, &Leaving::Root(first)),
@@ -281,25 +311,14 @@ impl TreeIndex {
     pub fn track(&mut self, alloc: Global, map: &mut PlaceMap, page: Page) -> Result<(), TreeFault>
         requires no_tree { node_in self.old page ≡ None }
         requires not_null { null_in self.old page ≡ false }
-        ensures node { (p : ℕ) → node_in self.new p ≡ node_in self.old p }
-        ensures fresh { OnOk result ((p : ℕ) → fresh_in self.new p ≡ (p == page || fresh_in self.old p)) }
-        ensures null { (p : ℕ) → null_in self.new p ≡ null_in self.old p }
-        ensures known { OnOk result ((p : ℕ) → known_in self.new p ≡ (p == page || known_in self.old p)) }
-        ensures pages { OnOk result (pages_in self.new
-            ≡ pages_in self.old + (if known_in self.old page then 0 else 1)) }
-        ensures heading { heading_of self.new ≡ heading_of self.old }
+        ensures fresh { OnOk result (BecomesFresh page self.old self.new) }
+        ensures counted { OnOk result (CountsTracked page self.old self.new) }
+        ensures zero { OnOk result (BecomesZero page map.old map.new) }
         ensures limit { (result ≡ Err (TreeFault.Limit Which.Pages))
             ↔ ((known_in self.old page ≡ false) × (16384 ≤ pages_in self.old)) }
         ensures fault { IfErr result (λ fault. fault ≢ TreeFault.Limit Which.Pages → fault ≡ TreeFault.NoMemory) }
         ensures same_pages { OnErr result (SamePages self.old self.new) }
         ensures same_tracked { OnErr result (SameTracked self.old self.new) }
-        ensures values { OnOk result ((a : ℕ) → value_at map.new a
-            ≡ (if page_of a == page then 0 else value_at map.old a)) }
-        ensures marks { OnOk result ((a : ℕ) → marks_at map.new a
-            ≡ (if page_of a == page then None else marks_at map.old a)) }
-        ensures pends { OnOk result ((q a : ℕ) → nat_eq (page_of a) page ≡ false → pends_at map.new q a
-            ≡ pends_at map.old q a) }
-        ensures map_pages { OnOk result ((p : ℕ) → is_tracked map.new p ≡ (nat_eq p page || is_tracked map.old p)) }
         ensures same_map { OnErr result (IsSame map.old map.new) }
         ensures sound { IsSound self.old → IsSound self.new }
         ensures agrees { Agrees self.old map.old → Agrees self.new map.new }
@@ -421,12 +440,8 @@ impl TreeIndex {
         requires sound { IsSound self.old }
         requires prepared { (map : TheMap) × (at : TheAttach) × IsPrepared prepared.now self.old map at
             × AreNamedFresh self.old at }
-        ensures node { (map : TheMap) (at : TheAttach) → IsPrepared prepared.now self.old map at
-            → AreNamedFresh self.old at
-            → (p : ℕ) (m : Node) → (node_in self.new p ≡ Some m) ↔ ((node_in self.old p ≡ Some m)
-            ⊎ ((m.page ≡ p) × Attached (fresh_in self.old) (value_at map) (starts_of self.old at) m)) }
-        ensures fresh { (p : ℕ) → fresh_in self.new p ≡ (fresh_in self.old p && is_none (node_in self.new p)) }
-        ensures null { (p : ℕ) → null_in self.new p ≡ null_in self.old p }
+        ensures attached { (map : TheMap) (at : TheAttach) → IsPrepared prepared.now self.old map at
+            → AreNamedFresh self.old at → Attaches (value_at map) at self.old self.new }
         ensures tracked { SameTracked self.old self.new }
         ensures sound { IsSound self.new }
     {
@@ -440,11 +455,7 @@ impl TreeIndex {
         requires may { MayJudge self.old at }
         requires named { AreNamedFresh self.old at }
         ensures judged { Judges (fresh_in self.old) (value_at map.now) (starts_of self.old at) (names_pages at) result }
-        ensures node { OnOk result ((p : ℕ) (m : Node) → (node_in self.new p ≡ Some m) ↔ ((node_in self.old p ≡ Some m)
-            ⊎ ((m.page ≡ p) × Attached (fresh_in self.old) (value_at map.now) (starts_of self.old at) m))) }
-        ensures fresh { OnOk result ((p : ℕ) → fresh_in self.new p
-            ≡ (fresh_in self.old p && is_none (node_in self.new p))) }
-        ensures null { (p : ℕ) → null_in self.new p ≡ null_in self.old p }
+        ensures attached { OnOk result (Attaches (value_at map.now) at self.old self.new) }
         ensures tracked { SameTracked self.old self.new }
         ensures same { OnErr result (SamePages self.old self.new) }
         ensures sound { IsSound self.new }

@@ -1,14 +1,14 @@
 //! Which page or place keeps pages from being attached.
 
-ghost use Rattle.std.specs.Prelude.{◌≡◌, ◌≤◌, ◌<◌, ◌+◌, ◌↔◌, ℕ, List, true, Some, length, nat_eq, slice_get};
-ghost use Rattle.indexmap.specs.IndexMap.{get, index_map_len, keys};
+ghost use Rattle.std.specs.Prelude.{◌≡◌, ◌≤◌, ◌<◌, ◌+◌, ◌↔◌, List, true, Some, length, slice_get};
+ghost use Rattle.indexmap.specs.IndexMap.{index_map_len, keys};
 ghost use Rattle.bbm_descriptor.specs.Descriptor.{desc_of};
 ghost use Rattle.bbm_place_map.specs.Map.{value_at};
 ghost use Rattle.bbm_regimes.specs.SameRegister.{same_kind};
 ghost use Rattle.bbm_rules.specs.Tree.{Node};
 ghost use Rattle.bbm_tree_index.specs.Attaching.{Judges, names_pages};
-ghost use Rattle.bbm_tree_index.specs.LeastPages.{Elsewhere, HasPages, HavePages, LeafIn, LeafOf, LeafPlace, LeastOf};
-ghost use Rattle.bbm_tree_index.specs.LeastPages.{Told};
+ghost use Rattle.bbm_tree_index.specs.PageTables.{HasPages};
+ghost use Rattle.bbm_tree_index.specs.LeastPages.{Elsewhere, HavePages, LeafIn, LeafOf, LeafPlace, LeastOf, Told};
 ghost use Rattle.bbm_tree_index.specs.LeastPages.{Wrong, WrongIn, WrongPage, asks, lesser};
 ghost use Rattle.bbm_tree_index.specs.Survey.{fresh_of};
 

@@ -1,15 +1,14 @@
 //! Pages that leave the trees.
 
-ghost use Rattle.std.specs.Prelude.{◌≡◌, ◌==◌, ◌&&◌, ◌≤◌, ◌<◌, ◌%◌, ◌^◌, ℕ, Some, None, is_some, nat_eq, true, false};
-ghost use Rattle.std.specs.Prelude.{slice_get, if◌then◌else◌};
+ghost use Rattle.std.specs.Prelude.{◌≡◌, ◌==◌, ◌&&◌, ◌≤◌, ◌<◌, ℕ, Some, is_some, nat_eq, true, slice_get};
 ghost use Rattle.indexmap.specs.IndexMap.{get, index_map_len, keys};
 ghost use Rattle.bbm_events.specs.Heading.{Heading};
-ghost use Rattle.bbm_place_map.specs.Map.{marks_at, pends_at, value_at, is_tracked};
-ghost use Rattle.bbm_entry_state.specs.EntryStanding.{IsIdle};
 ghost use Rattle.bbm_regimes.specs.declared.regime.Kind.{Kind};
-ghost use Rattle.bbm_rules.specs.Places.{page_of};
 ghost use Rattle.bbm_tree_index.specs.IndexAgreement.{Sound};
-ghost use Rattle.bbm_tree_index.specs.Leaving.{leaves_role, leaves_root as spec_leaves_root, roles_of};
+ghost use Rattle.bbm_tree_index.specs.IndexChanges.{Releases};
+ghost use Rattle.bbm_tree_index.specs.Leaving.{LetsGo, leaves_in, leaves_role, leaves_root as spec_leaves_root};
+ghost use Rattle.bbm_tree_index.specs.Leaving.{roles_of};
+ghost use Rattle.bbm_tree_index.specs.PageTables.{HasPages};
 
 use crate::climb::{Asked, is_cut};
 use crate::role::Role;
@@ -61,24 +60,8 @@ pub fn step(roles: &mut IndexMap<u64, Role>, map: &mut PlaceMap, leaving: &Leavi
     requires known { is_some (get nat_eq roles.old page) ≡ true }
     requires shallow { (parent level base first : ℕ) (kind : Kind) →
         roles_of roles.old page ≡ Role.Hangs parent kind level base first → level ≤ 4 }
-    ensures roles { (p : ℕ) → roles_of roles.new p
-        ≡ (if p == page
-        && leaves_role map.old (roles_of roles.old) leaving.now (roles_of roles.old page) then Role.Gone
-        else roles_of roles.old p) }
-    ensures known { (p : ℕ) → is_some (get nat_eq roles.new p) ≡ is_some (get nat_eq roles.old p) }
-    ensures keys { keys roles.new ≡ keys roles.old }
-    ensures values { (a : ℕ) → value_at map.new a ≡ value_at map.old a }
-    ensures marks { (a : ℕ) → marks_at map.new a
-        ≡ (if page_of a == page
-        && leaves_role map.old (roles_of roles.old) leaving.now (roles_of roles.old page) then None
-        else marks_at map.old a) }
-    ensures pends { (q a : ℕ)
-        → (page_of a == page && leaves_role map.old (roles_of roles.old) leaving.now (roles_of roles.old page)) ≡ false
-        → pends_at map.new q a ≡ pends_at map.old q a }
-    ensures dropped { (q a : ℕ)
-        → (page_of a == page && leaves_role map.old (roles_of roles.old) leaving.now (roles_of roles.old page)) ≡ true
-        → IsIdle (pends_at map.new q a) }
-    ensures tracked { (p : ℕ) → is_tracked map.new p ≡ is_tracked map.old p }
+    ensures roles { LetsGo (λ p. p == page && leaves_in map.old roles.old leaving.now page) roles.old roles.new }
+    ensures map { Releases (λ p. p == page && leaves_in map.old roles.old leaving.now page) map.old map.new }
 {
     let role = role_of(roles, page);
     if leaves(roles, map, leaving, &role) {
@@ -90,7 +73,7 @@ pub fn step(roles: &mut IndexMap<u64, Role>, map: &mut PlaceMap, leaving: &Leavi
 /// The page at an index of the table.
 pub fn page_at(roles: &IndexMap<u64, Role>, index: usize) -> Page
     requires within { index < index_map_len roles.now }
-    requires pages { (p : ℕ) → is_some (get nat_eq roles.now p) ≡ true → (p < 2 ^ 48) × (p % 4096 ≡ 0) }
+    requires pages { HasPages roles.now }
     ensures at { slice_get (keys roles.now) index ≡ Some result }
     ensures known { is_some (get nat_eq roles.now result) ≡ true }
 {
@@ -101,23 +84,9 @@ pub fn page_at(roles: &IndexMap<u64, Role>, index: usize) -> Page
 /// The pages that leave are gone, and no place of them is broken.
 pub fn sweep(roles: &mut IndexMap<u64, Role>, map: &mut PlaceMap, leaving: &Leaving)
     requires sound { (heading : Heading) × Sound (roles_of roles.old) heading }
-    requires pages { (p : ℕ) → is_some (get nat_eq roles.old p) ≡ true → (p < 2 ^ 48) × (p % 4096 ≡ 0) }
-    ensures roles { (p : ℕ) → roles_of roles.new p
-        ≡ (if leaves_role map.old (roles_of roles.old) leaving.now (roles_of roles.old p) then Role.Gone
-        else roles_of roles.old p) }
-    ensures known { (p : ℕ) → is_some (get nat_eq roles.new p) ≡ is_some (get nat_eq roles.old p) }
-    ensures keys { keys roles.new ≡ keys roles.old }
-    ensures values { (a : ℕ) → value_at map.new a ≡ value_at map.old a }
-    ensures marks { (a : ℕ) → marks_at map.new a
-        ≡ (if leaves_role map.old (roles_of roles.old) leaving.now (roles_of roles.old (page_of a)) then None
-        else marks_at map.old a) }
-    ensures pends { (q a : ℕ) → leaves_role map.old (roles_of roles.old) leaving.now (roles_of roles.old (page_of a))
-        ≡ false
-        → pends_at map.new q a ≡ pends_at map.old q a }
-    ensures dropped { (q a : ℕ) → leaves_role map.old (roles_of roles.old) leaving.now (roles_of roles.old (page_of a))
-        ≡ true
-        → IsIdle (pends_at map.new q a) }
-    ensures tracked { (p : ℕ) → is_tracked map.new p ≡ is_tracked map.old p }
+    requires pages { HasPages roles.old }
+    ensures roles { LetsGo (leaves_in map.old roles.old leaving.now) roles.old roles.new }
+    ensures map { Releases (leaves_in map.old roles.old leaving.now) map.old map.new }
 {
     for index in 0..roles.len() {
         let page = page_at(roles, index);

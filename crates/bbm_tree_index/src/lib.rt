@@ -6,16 +6,19 @@
 //! - Keep one `TreeIndex`, at first `TreeIndex::new` of the header, and one `PlaceMap`.
 //! - Call `track` at each page that is initialised, `nullify` at each that is declared null, `prune` after a DSB by
 //!   which a table's place came to hold nothing, and `detach` where a root goes.
-//! - `prepare` tells whether pages can be attached, and which page or place is in the way; `attach_prepared` attaches them.
-//!   `attach` does both.
+//! - `prepare` tells whether pages can be attached, and which page or place is in the way; `attach_prepared` attaches
+//!   them. `attach` does both.
 //! - `role`, `is_fresh`, `is_null`, `is_in_tree`, `pages`, `path`, `in_limbo` and `childless` tell what the calls come
-//!   to.
+//!   to. `number` and `path_near` look for a page first at a number, as `PlaceMap::recent_page` tells it, and `path_at`
+//!   there alone. `place_translating` tells where one goes on the way down along an input page; from there
+//!   `place_below` does so level by level, and looks nothing up.
 //!
 //! Each contract speaks of the node of each page, by the words of `specs/Index.antt`. `null_page` is an example of the
 //! calls, with its proof.
 #![tactic(auto)]
 
 mod attach_prepared;
+mod below;
 mod climb;
 pub mod example;
 mod fault;
@@ -30,6 +33,7 @@ mod start;
 mod survey;
 mod table;
 
+pub use below::place_below;
 pub use example::null_page;
 pub use fault::TreeFault;
 pub use index::{Prepared, TreeIndex};

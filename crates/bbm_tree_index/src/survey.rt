@@ -1,17 +1,17 @@
 //! The pages that paths through fresh pages reach, level by level.
 
-ghost use Rattle.std.specs.Prelude.{◌≡◌, ◌≤◌, ◌<◌, ◌+◌, ◌*◌, ◌&&◌, ◌||◌, ◌==◌, ℕ, suc, Bool, true, false, List, []};
-ghost use Rattle.std.specs.Prelude.{◌∷◌, ◌++◌, Option, Some, is_some, nat_eq, slice_get, ◌%◌, ◌^◌, length, OnOk, IfOk};
+ghost use Rattle.std.specs.Prelude.{◌≡◌, ◌≤◌, ◌<◌, ◌+◌, ◌*◌, ◌||◌, ◌==◌, ℕ, suc, Bool, true, false, List, []};
+ghost use Rattle.std.specs.Prelude.{◌∷◌, ◌++◌, Option, Some, nat_eq, slice_get, length, OnOk, IfOk};
 ghost use Rattle.std.specs.Prelude.{IfSome};
 ghost use Rattle.indexmap.specs.IndexMap.{get, keys, index_map_len, IsUnique};
-ghost use Rattle.bbm_events.specs.Heading.{Heading};
 ghost use Rattle.bbm_place_map.specs.Map.{value_at};
 ghost use Rattle.bbm_rules.specs.Places.{index_of, page_of};
 ghost use Rattle.bbm_rules.specs.Tree.{Node, next_of};
 ghost use Rattle.bbm_regimes.specs.World.{input_pages};
+ghost use Rattle.bbm_tree_index.specs.PageTables.{HasPages};
 ghost use Rattle.bbm_tree_index.specs.Spots.{Fits, RoleFits, StandsAt};
-ghost use Rattle.bbm_tree_index.specs.Survey.{Counts, Found, Partly, Plain, Reached, Surveyed, Uniform, Well, fresh_of};
-ghost use Rattle.bbm_tree_index.specs.Survey.{grown};
+ghost use Rattle.bbm_tree_index.specs.Survey.{Counts, Found, Partly, Plain, Reached, StaysWell, Surveyed, Uniform};
+ghost use Rattle.bbm_tree_index.specs.Survey.{Well, fresh_of, grown};
 ghost use Rattle.bbm_tree_index.specs.declared.mark.Mark.{Mark as TheMark};
 
 use crate::held::place_of;
@@ -48,8 +48,7 @@ fn expand_place(
     below: &mut IndexMap<u64, Mark>,
 ) -> Result<(), NoMemory>
     requires { Fits spot.now }
-    ensures well { OnOk result ((heading : Heading) → Well heading (get nat_eq below.old)
-        → Well heading (get nat_eq below.new)) }
+    ensures well { OnOk result (StaysWell below.old below.new) }
     ensures grown { OnOk result ((q : ℕ) → get nat_eq below.new q
         ≡ grown (next_of spot.now.kind spot.now.level value)
         (record {
@@ -82,8 +81,7 @@ fn expand_page(
     below: &mut IndexMap<u64, Mark>,
 ) -> Result<(), NoMemory>
     requires { Fits spot.now }
-    ensures well { OnOk result ((heading : Heading) → Well heading (get nat_eq below.old)
-        → Well heading (get nat_eq below.new)) }
+    ensures well { OnOk result (StaysWell below.old below.new) }
     ensures level { OnOk result ((fresh : ℕ → Bool) (starts : List Node) (k : ℕ) (done : ℕ → Bool) (mark : TheMark) →
         Uniform fresh (value_at map.now) starts k → fresh page ≡ true → ((a : ℕ) → page_of a ≡ page → done a ≡ false)
         → mark.many ≡ many →
@@ -103,10 +101,10 @@ fn expand_page(
     Ok(())
 }
 
-// The entry at an index of a table of marks.
+/// The entry at an index of a table of marks.
 pub fn entry_at(table: &IndexMap<u64, Mark>, index: usize) -> (Page, Mark)
     requires within { index < index_map_len table.now }
-    requires pages { (p : ℕ) → is_some (get nat_eq table.now p) ≡ true → (p < 2 ^ 48) × (p % 4096 ≡ 0) }
+    requires pages { HasPages table.now }
     ensures at { slice_get (keys table.now) index ≡ Some result.0 }
     ensures mark { get nat_eq table.now result.0 ≡ Some result.1 }
     ensures unique { IsUnique nat_eq table.now }
@@ -126,8 +124,7 @@ fn expand_entry(
     below: &mut IndexMap<u64, Mark>,
 ) -> Result<(), NoMemory>
     requires { RoleFits header.now mark.now.role }
-    ensures well { OnOk result ((heading : Heading) → Well heading (get nat_eq below.old)
-        → Well heading (get nat_eq below.new)) }
+    ensures well { OnOk result (StaysWell below.old below.new) }
     ensures level { OnOk result ((starts : List Node) (k : ℕ) (done : ℕ → Bool) →
         Uniform (fresh_of roles.now) (value_at map.now) starts k →
         Plain header.now (Reached (fresh_of roles.now) (value_at map.now) starts k) →

@@ -1,7 +1,9 @@
 //! The table of the roles.
 
-ghost use Rattle.std.specs.Prelude.{◌≡◌, ◌==◌, ℕ, Some, is_some, nat_eq, unwrap_or, true, if◌then◌else◌};
+ghost use Rattle.std.specs.Prelude.{◌≡◌, ◌==◌, ℕ, IfSome, Some, is_some, nat_eq, unwrap_or, true, if◌then◌else◌};
+ghost use Rattle.std.specs.Option.{option_copied};
 ghost use Rattle.indexmap.specs.IndexMap.{get, index_map_len, keys};
+ghost use Rattle.bbm_tree_index.specs.PageTables.{SameKeys};
 ghost use Rattle.bbm_tree_index.specs.Survey.{fresh_of};
 
 use crate::role::Role;
@@ -12,9 +14,7 @@ use indexmap::IndexMap;
 pub fn put(roles: &mut IndexMap<u64, Role>, page: Page, role: Role)
     requires { is_some (get nat_eq roles.old page) ≡ true }
     ensures roles { (p : ℕ) → get nat_eq roles.new p ≡ (if p == page then Some role else get nat_eq roles.old p) }
-    ensures known { (p : ℕ) → is_some (get nat_eq roles.new p) ≡ is_some (get nat_eq roles.old p) }
-    ensures keys { keys roles.new ≡ keys roles.old }
-    ensures len { index_map_len roles.new ≡ index_map_len roles.old }
+    ensures same { SameKeys roles.old roles.new }
 {
     match roles.get_mut(&page.get()) {
         Some(old) => *old = role,
@@ -29,6 +29,28 @@ pub fn role_of(roles: &IndexMap<u64, Role>, page: Page) -> Role
     match roles.get(&page.get()) {
         Some(role) => *role,
         None => Role::Untracked,
+    }
+}
+
+/// The role of the page, where it has this number in the order in which pages got roles; None says nothing.
+#[inline(always)]
+pub fn role_here<'a>(roles: &'a IndexMap<u64, Role>, number: usize, page: Page) -> Option<&'a Role>
+    ensures { IfSome result (λ role. get nat_eq roles.now page ≡ Some role.now) }
+{
+    match roles.get_index(number) {
+        Some((key, role)) => { if *key == page.get() { Some(role) } else { None } }
+        None => None,
+    }
+}
+
+/// The role of the page, if it has one. No answer depends on the number `near`, at which the page is looked for first.
+#[inline(always)]
+pub fn role_near<'a>(roles: &'a IndexMap<u64, Role>, near: usize, page: Page) -> Option<&'a Role>
+    ensures { option_copied result ≡ get nat_eq roles.now page }
+{
+    match role_here(roles, near, page) {
+        Some(role) => Some(role),
+        None => roles.get(&page.get()),
     }
 }
 

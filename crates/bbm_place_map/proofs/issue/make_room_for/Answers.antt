@@ -13,12 +13,12 @@ use Rattle.bbm_place_map.proofs.issue.make_room_for.Goals as goal
 was : (c : goal.After-make_room_at) → (e : Entry) × (slice_get c.args.broken.now.items c.in-Some.k ≡ Some e) × (e.place ≡ c.args.place)
 was c =
     slot_place (get nat_eq c.args.kept.now.pages.now) c.args.kept.now.cells.now c.args.broken.now.items c.requires.linked c.requires.placed (length c.args.kept.now.cells.now) c.requires.numbered
-    c.args.place c.in-Some.k (sym c.entry_at.ensures ∙ c.in-Some.is)
+    c.args.place c.in-Some.k (sym c.entry_of.ensures ∙ c.in-Some.is)
 
 pub make_room_at-requires : goal.make_room_at-requires
 make_room_at-requires c =
     let e = slot_place (get nat_eq c.args.kept.now.pages.now) c.args.kept.now.cells.now c.args.broken.now.items c.requires.linked c.requires.placed (length c.args.kept.now.cells.now) c.requires.numbered
-    c.args.place c.in-Some.k (sym c.entry_at.ensures ∙ c.in-Some.is) in
+    c.args.place c.in-Some.k (sym c.entry_of.ensures ∙ c.in-Some.is) in
     omega (arith, slice_get_within c.args.broken.now.items c.in-Some.k e.0 e.1)
 
 pub returns-in-Some-clause-each : goal.returns-in-Some-clause-each
@@ -43,7 +43,7 @@ returns-in-Some-clause-ready c =
           absurd (away (same_Some m c.in-Some.k
           (sym (slot_of_place (get nat_eq c.args.kept.now.pages.now) c.args.kept.now.cells.now c.args.broken.now.items c.requires.linked c.requires.placed c.args.place m x
           (sym (gets_off Keeps c.args.broken.now.items c.make_room_at.new.broken.items c.in-Some.k e.0 f.0 e.1 f.1 f.2 f.4 m away) ∙ is) same)
-          ∙ sym c.entry_at.ensures ∙ c.in-Some.is)))
+          ∙ sym c.entry_of.ensures ∙ c.in-Some.is)))
     ])
     f.3
 
@@ -62,5 +62,5 @@ returns-in-Some-clause-others c = λ m x is other.
 
 pub returns-in-None-clause-ready : goal.returns-in-None-clause-ready
 returns-in-None-clause-ready c = λ m e is same.
-    absurd (none-some m (sym (sym c.entry_at.ensures ∙ c.in-None.is)
+    absurd (none-some m (sym (sym c.entry_of.ensures ∙ c.in-None.is)
     ∙ slot_of_place (get nat_eq c.args.kept.now.pages.now) c.args.kept.now.cells.now c.args.broken.now.items c.requires.linked c.requires.placed c.args.place m e is same))

@@ -4,7 +4,7 @@ use Rattle.bbm_replay_trees.proofs.RuleLemmas.{rewritten_rule, unroot_rule}
 use Rattle.bbm_replay_trees.proofs.rules.law_write_rules.Goals as goal
 
 pub returns : goal.returns
-returns c heading = let events = (c.below.ensures heading).events_noted in record {
+returns c heading = let events = (c.below.ensures heading).notes_keep_the_events in record {
   null = λ h view. null_rule heading h (events h) view.null;
   rewritten = λ h view. rewritten_rule heading h (events h) view.fresh view.value;
   lock = λ h view n pe place v same k. lock_rule heading h (events h) view.node same pe place v n k;

@@ -1,12 +1,12 @@
 use Rattle.std.proofs.Common.{◌∙◌, ap, sym, nat_eq, is_some, arith, if◌then◌else◌}
 use Rattle.indexmap.specs.IndexMap.{get, keys}
 use Rattle.bbm_tree_index.specs.Hanging.{hung}
-use Rattle.bbm_tree_index.proofs.Growing.{all_keys, first_more_keys}
+use Rattle.bbm_tree_index.proofs.Growing.{all_keys, first_more_keys, same_keys}
 use Rattle.bbm_tree_index.proofs.Hanging.{at_end, one_more}
 use Rattle.bbm_tree_index.proofs.attach_prepared.attach_prepared.Goals as goal
 
 pub put-requires : goal.put-requires
-put-requires c = c.loop-index.invariant.known c.entry_at-page.result.0
+put-requires c = c.loop-index.invariant.same.known c.entry_at-page.result.0
     ∙ c.requires.known c.entry_at-page.result.0 (ap (λ o. is_some o) c.entry_at-page.ensures.mark)
 
 pub loop-index-preserved : goal.loop-index-preserved
@@ -15,8 +15,7 @@ loop-index-preserved c = let page = c.entry_at-page.result.0 in record {
       (get nat_eq c.loop-index.roles p) (get nat_eq c.put.new.roles p) c.entry_at-page.ensures.mark (c.loop-index.invariant.roles p) (c.put.ensures.roles p)
       ∙ ap (λ b. if b then hung (get nat_eq c.args.level.now p) (get nat_eq c.args.roles.now p) else get nat_eq c.args.roles.now p)
       (sym (first_more_keys (keys c.args.level.now) c.loop-index.index page p c.entry_at-page.ensures.at));
-  known = λ p. c.put.ensures.known p ∙ c.loop-index.invariant.known p;
-  len = c.put.ensures.len ∙ c.loop-index.invariant.len;
+  same = same_keys c.put.ensures.same c.loop-index.invariant.same;
 }
 
 pub returns-clause-roles : goal.returns-clause-roles

@@ -37,7 +37,7 @@ make_room_found-requires c =
     let P : List Cell → Type 0 = λ xs. IsSound (get nat_eq self.pages) xs self.broken.items in
     let N : ℕ → Type 0 = Numbered (get nat_eq self.pages) in
     let len : vec_len self.cells ≡ length self.cells.items = omega arith in
-    subst P (sym c.deref.ensures.value)
+    subst P (sym c.deref-2.ensures.value)
     (record { numbered = subst N len self.numbered; few = omega arith; linked = self.linked; placed = self.placed })
 
 pub note_found-requires-clause-sound : goal.note_found-requires-clause-sound
@@ -48,7 +48,7 @@ note_found-requires-clause-sound c =
     let P : List Cell → Type 0 = λ xs. IsSound (get nat_eq self.pages) xs mid in
     let N : ℕ → Type 0 = Numbered (get nat_eq self.pages) in
     let len : vec_len self.cells ≡ length self.cells.items = omega arith in
-    subst P (sym c.deref.ensures.value) (record {
+    subst P (sym c.deref-2.ensures.value) (record {
       numbered = subst N len self.numbered;
       few = omega arith;
       linked = linked_seated self.broken.items mid all self.cells.items c.make_room_found.ensures.size.len self.linked;

@@ -1,78 +1,104 @@
-use Rattle.std.proofs.Common.{◌≡◌, ℕ, suc, ◌-◌, ◌<◌, ◌%◌, ◌==◌, true, Some, length, sym, ◌∙◌, ap, subst, arith}
-use Rattle.std.proofs.lemmas.Bool.{and_parts, eqb-true}
+use Rattle.std.proofs.Common.{◌≡◌, ℕ, suc, ◌≤◌, true, sym, subst, arith}
 use Rattle.bbm_rules.specs.Places.{page_of}
-use Rattle.bbm_rules.specs.Tree.{Node}
-use Rattle.bbm_place_map.specs.Map.{is_tracked}
-use Rattle.bbm_tree_index.specs.HeldCores.{core_at, is_at, next_in}
+use Rattle.bbm_rules.specs.Tree.{Node, node_below}
+use Rattle.bbm_tree_index.specs.Descent.{IsWay}
+use Rattle.bbm_tree_index.specs.HeldCores.{core_at, is_at}
 use Rattle.bbm_tree_index.specs.Index.{node_in}
 use Rattle.bbm_tree_index.specs.Nodes.{path_at}
 use Rattle.bbm_tree_index.specs.declared.role.Path.{Path}
-use Rattle.bbm_replay.specs.OnePage.{IsFoundIn}
+use Rattle.bbm_replay.specs.OnePage.{IsFoundIn, IsOnWay}
 use Rattle.bbm_replay.proofs.Findings.{if_some, on_both, on_ok}
-use Rattle.bbm_replay.proofs.Ways.{met_last, met_more, met_none}
+use Rattle.bbm_replay.proofs.Ways.{hangs, low_below, no_way, none_met, on_way, own_page, way_ends, way_goes}
+use Rattle.bbm_replay.proofs.Ways.{within_below}
 use Rattle.bbm_replay.proofs.covering.Covering.+descend.Goals as goal
 
 pub meet-requires-clause-tracked : goal.meet-requires-clause-tracked
 meet-requires-clause-tracked t c =
-    let met = c.in-Some.met in
-    let told = if_some (λ (m : ℕ × Path). (n : Node) × (node_in c.args.self.now.index.now c.args.page ≡ Some n)
-    × (m.1 ≡ path_at n m.0))
-    c.place_translating.result met c.in-Some.is c.place_translating.ensures.path in
-    let inside = if_some (λ (m : ℕ × Path). is_at c.args.page m.0 ≡ true) c.place_translating.result met c.in-Some.is
-    c.place_translating.ensures.inside in
-    let own : page_of met.0 ≡ c.args.page = eqb-true (page_of met.0) c.args.page
-    (and_parts (page_of met.0 == c.args.page) (met.0 % 8 == 0) inside).0 in
-    subst (λ p. is_tracked c.args.map.now p ≡ true) (sym own) (c.requires.tracked c.args.page told.0 told.1)
+    let on = c.requires.on_way in c.requires.fits.tracked (page_of c.args.place) on.stands on.is_node
 
-pub returns-in-Some-2-clause-grows : goal.returns-in-Some-2-clause-grows
-returns-in-Some-2-clause-grows t c =
-    let here = c.in_ok-next-in-Some.ensures.grows in
+pub meet-requires-clause-path : goal.meet-requires-clause-path
+meet-requires-clause-path t c = let on = c.requires.on_way in (on.stands, on.is_node, on.has_path)
+
+pub place_below-requires-clause-low : goal.place_below-requires-clause-low
+place_below-requires-clause-low t c =
+    low_below c.args.map.now c.args.self.now.index.now c.requires.sound c.requires.fits c.args.at c.args.place
+    c.args.path.now c.requires.on_way c.in_ok-next.field-0 c.in_ok-next.ensures.next c.in-Some.next c.in-Some.is
+
+pub place_below-requires-clause-within : goal.place_below-requires-clause-within
+place_below-requires-clause-within t c =
+    within_below c.args.map.now c.args.self.now.index.now c.requires.sound c.requires.fits c.args.at c.args.place
+    c.args.path.now c.requires.on_way c.in_ok-next.field-0 c.in_ok-next.ensures.next c.in-Some.next c.in-Some.is
+
+pub descend-requires : goal.descend-requires
+descend-requires t c =
+    let on = c.requires.on_way in
+    let map = c.args.map.now in
+    let index = c.args.self.now.index.now in
+    let path = c.args.path.now in
+    let x = c.in-Some.next in
+    let goes = c.in_ok-next.ensures.next in
+    let met = c.place_below.result in
+    let m = c.in-Some-place_below.below in
+    let is = c.in-Some-place_below.is in
+    let e = c.place_below.ensures in
+    let low : path.level ≤ 2
+    = low_below map index c.requires.sound c.requires.fits c.args.at c.args.place path on c.in_ok-next.field-0 goes x
+    c.in-Some.is in
+    let level : m.1.level ≡ suc path.level = if_some (λ (y : ℕ × Path). y.1.level ≡ suc path.level) met m is e.level in
+    let below : IsOnWay (node_in index) c.args.at m.0 m.1
+    = on_way (node_in index) c.args.at x (node_below on.stands c.args.place x)
+    (hangs map index c.requires.sound c.requires.fits c.args.at c.args.place path on c.in_ok-next.field-0 goes x
+    c.in-Some.is)
+    met m is (if_some (λ (y : ℕ × Path). is_at x y.0 ≡ true) met m is e.inside)
+    (if_some (λ (y : ℕ × Path). (n : Node) (a : ℕ) → path ≡ path_at n a → y.1 ≡ path_at (node_below n a x) y.0) met m is
+    e.path on.stands c.args.place on.has_path)
+    (λ a. e.met on.stands c.args.place a on.has_path) in
+    (omega (arith, low, level), (c.requires.sound, (c.requires.fits, (omega (arith, low, level), below))))
+
+pub returns-in-Some-place_below-clause-grows : goal.returns-in-Some-place_below-clause-grows
+returns-in-Some-place_below-clause-grows t c =
+    let here = c.in_ok-next.ensures.grows in
     on_ok c.descend.result c.descend.ensures.grows (λ below. (
       λ all. below.0 (here.0 all),
-      λ a has. below.1 a
-          (here.1 a has),
+      λ a has. below.1 a (here.1 a has),
     ))
 
-pub returns-in-Some-2-clause-met : goal.returns-in-Some-2-clause-met
-returns-in-Some-2-clause-met t c =
+pub returns-in-Some-place_below-clause-met : goal.returns-in-Some-place_below-clause-met
+returns-in-Some-place_below-clause-met t c =
     let map = c.args.map.now in
     let index = c.args.self.now.index.now in
-    let met = c.in-Some.met in
-    let told = if_some (λ (m : ℕ × Path). (n : Node) × (node_in index c.args.page ≡ Some n) × (m.1 ≡ path_at n m.0))
-    c.place_translating.result met c.in-Some.is c.place_translating.ensures.path in
-    let n = told.0 in
-    let is = told.1 in
-    let next = c.in_ok-next-in-Some.field-0 in
-    let goes : next ≡ next_in (core_at map n.kind n.level met.0)
-    = c.in_ok-next-in-Some.ensures.next ∙ ap (λ (y : Path). next_in (core_at map y.kind y.level met.0)) told.2 in
-    on_both c.descend.result c.descend.ensures.grows c.descend.ensures.met (λ grows below way a short w.
-    let short' : length way < suc (c.args.left - 1) = omega arith in
-    met_more (node_in index) (core_at map) c.args.at c.args.page c.place_translating.result
-    c.place_translating.ensures.met
-    met c.in-Some.is n is next goes c.in-Some-2.next c.in-Some-2.is (c.args.left - 1)
-    (IsFoundIn map c.descend.new.found.items)
-    (λ broken. grows.1 met.0 (c.in_ok-next-in-Some.ensures.added broken)) below way a short' w)
+    let place = c.args.place in
+    let found = c.descend.new.found.items in
+    let m = c.in-Some-place_below.below in
+    let own : page_of m.0 ≡ c.in-Some.next
+    = own_page c.in-Some.next m.0 (if_some (λ (y : ℕ × Path). is_at c.in-Some.next y.0 ≡ true) c.place_below.result m
+    c.in-Some-place_below.is c.place_below.ensures.inside) in
+    on_both c.descend.result c.descend.ensures.grows c.descend.ensures.met (λ grows below.
+    way_goes (node_in index) (core_at map) c.args.at place c.args.path.now c.requires.on_way c.in_ok-next.field-0
+    c.in_ok-next.ensures.next c.in-Some.next c.in-Some.is (IsFoundIn map found)
+    (λ broken. grows.1 place (c.in_ok-next.ensures.added broken))
+    (λ way a w. below way a (subst (λ p. IsWay (node_in index) (core_at map) c.args.at p way a) (sym own) w)))
 
-pub returns-in-None-2-clause-met : goal.returns-in-None-2-clause-met
-returns-in-None-2-clause-met t c way a short w =
+pub returns-in-None-place_below-clause-met : goal.returns-in-None-place_below-clause-met
+returns-in-None-place_below-clause-met t c =
     let map = c.args.map.now in
     let index = c.args.self.now.index.now in
-    let met = c.in-Some.met in
-    let told = if_some (λ (m : ℕ × Path). (n : Node) × (node_in index c.args.page ≡ Some n) × (m.1 ≡ path_at n m.0))
-    c.place_translating.result met c.in-Some.is c.place_translating.ensures.path in
-    let n = told.0 in
-    let is = told.1 in
-    let next = c.in_ok-next-in-Some.field-0 in
-    let goes : next ≡ next_in (core_at map n.kind n.level met.0)
-    = c.in_ok-next-in-Some.ensures.next ∙ ap (λ (y : Path). next_in (core_at map y.kind y.level met.0)) told.2 in
-    let same : met.0 ≡ a
-    = met_last (node_in index) (core_at map) c.args.at c.args.page c.place_translating.result
-    c.place_translating.ensures.met
-    met c.in-Some.is n is next goes c.in-None-2.is way a w in
-    subst (IsFoundIn map c.meet.new.found.items) same c.in_ok-next-in-Some.ensures.added
+    let on = c.requires.on_way in
+    let x = c.in-Some.next in
+    let goes = c.in_ok-next.ensures.next in
+    let hung = hangs map index c.requires.sound c.requires.fits c.args.at c.args.place c.args.path.now on
+    c.in_ok-next.field-0 goes x c.in-Some.is in
+    way_goes (node_in index) (core_at map) c.args.at c.args.place c.args.path.now on c.in_ok-next.field-0 goes x
+    c.in-Some.is (IsFoundIn map c.meet.new.found.items) c.in_ok-next.ensures.added
+    (λ way a w. absurd (no_way (node_in index) (core_at map) c.args.at x
+    (none_met (node_in index) c.args.at x (node_below on.stands c.args.place x) hung c.place_below.result
+    c.in-None-place_below.is (λ b. c.place_below.ensures.met on.stands c.args.place b on.has_path)) way a w))
 
 pub returns-in-None-clause-met : goal.returns-in-None-clause-met
-returns-in-None-clause-met t c way a short w =
-    absurd (met_none (node_in c.args.self.now.index.now) (core_at c.args.map.now) c.args.at c.args.page
-    c.place_translating.result
-    c.place_translating.ensures.met c.in-None.is way a w)
+returns-in-None-clause-met t c way a w =
+    let map = c.args.map.now in
+    let index = c.args.self.now.index.now in
+    let same : c.args.place ≡ a
+    = way_ends (node_in index) (core_at map) c.args.at c.args.place c.args.path.now c.requires.on_way
+    c.in_ok-next.field-0 c.in_ok-next.ensures.next c.in-None.is way a w in
+    subst (IsFoundIn map c.meet.new.found.items) same c.in_ok-next.ensures.added

@@ -21,5 +21,5 @@ loop-part-preserved c =
       grows = (λ all. e.grows.0 (v.grows.0 all), λ a has. e.grows.1 a (v.grows.1 a has));
       met = λ j below. below_more (λ (i : ℕ). MetFrom (node_in c.args.self.now.index.now) (core_at map) c.args.at
           (c.args.first + 4096 * i) (IsFoundIn map new)) part
-          (λ i less page way a short w broken. e.grows.1 a (v.met i less page way a short w broken)) here j below;
+          (λ i less page way a w broken. e.grows.1 a (v.met i less page way a w broken)) here j below;
     }

@@ -1,4 +1,4 @@
-use Rattle.std.proofs.Common.{◌≡◌, Bool, true, false, List, None, refl, sym, ◌∙◌, ap, subst, true≢false, rules}
+use Rattle.std.proofs.Common.{◌≡◌, ℕ, Bool, true, false, List, None, refl, sym, ◌∙◌, ap, subst, true≢false, slice_get}
 use Rattle.bbm_entry_state.specs.EntryCalls.{Noted}
 use Rattle.bbm_entry_state.specs.declared.pending.Pends.{Pends}
 use Rattle.bbm_events.specs.Heading.{Heading}
@@ -16,33 +16,21 @@ use Rattle.bbm_tree_index.specs.HeldCores.{core_at}
 use Rattle.bbm_tree_index.specs.Index.{node_in}
 use Rattle.bbm_replay_trees.specs.Told.{notes}
 use Rattle.bbm_replay.specs.OnePage.{IsFoundIn, MetFromAll, NamesOne}
-use Rattle.bbm_replay.proofs.Findings.{if_some, on_ok, may_cover}
+use Rattle.bbm_replay.proofs.Findings.{if_some, on_ok}
 use Rattle.bbm_replay.proofs.Unmet.{noted_none, uncovered}
-use Rattle.bbm_place_map.specs.declared.map.PlaceMap.{PlaceMap}
-use Rattle.bbm_replay.specs.Covering.{MayBeCovered}
 use Rattle.bbm_replay.proofs.covering.Covering.issue.Goals as goal
 
-pub returns-in-None-clause-noted : goal.returns-in-None-clause-noted
-returns-in-None-clause-noted c =
+pub returns-in_ok-covers-in-None-clause-noted : goal.returns-in_ok-covers-in-None-clause-noted
+returns-in_ok-covers-in-None-clause-noted c =
     let by = c.args.self.now in
     let map = c.args.map.now in
-    let pe = c.args.pe in
-    let new = c.issue.new.self in
-    on_ok c.issue.result c.issue.ensures.noted (λ all heading h op xt headed m a broken.
-    let n = all a broken in
-    let shown = n.1.shown in
-    let shows = n.1.shows in
-    let says = n.1.says in
-    let same : n.0 ≡ cover_at heading Patterns (notes heading h) (Tlbi pe op xt) a
-    = (let told = says.met.1 in
-    let core = n.1.marks.core in
-    let may : MayBeCovered heading h shown.now by.index.now by.roots.now pe op xt by.named.now a core
-    = subst (λ (x : PlaceMap). MayBeCovered heading h x by.index.now by.roots.now pe op xt by.named.now a core)
-    (sym shows)
-    (may_cover heading h map by.index.now by.roots.now pe op xt by.named.now a core m (n.1.marks, n.1.broken, refl)) in
-    search rules) in
-    subst (λ (x : Cover). Noted (state_from None (marks_at map a)) (pends_at map pe a) c.args.reach
-    by.named.now.scope.broadcast x (pends_at new pe a)) same n.2)
+    let new = c.issue_all.new.self in
+    on_ok c.issue_all.result c.issue_all.ensures.noted (λ noted heading h op xt headed m a broken.
+    let cover = cover_at heading Patterns (notes heading h) (Tlbi c.args.pe op xt) a in
+    let is = c.in_ok-covers-in-None.ensures.each heading h c.args.pe op xt m a broken in
+    subst (λ (x : ℕ). Noted (state_from None (marks_at map x)) (pends_at map c.args.pe x) c.args.reach
+    by.named.now.scope.broadcast cover (pends_at new c.args.pe x)) is.1
+    (noted is.0 cover (ap (λ (xs : List Cover). slice_get xs is.0) c.deref-in-None.ensures ∙ is.2)))
 
 pub returns-in_ok-found-in-Some-clause-noted : goal.returns-in_ok-found-in-Some-clause-noted
 returns-in_ok-found-in-Some-clause-noted c =
@@ -59,13 +47,13 @@ returns-in_ok-found-in-Some-clause-noted c =
     on_ok c.issue_at.result c.issue_at.ensures.noted (λ noted heading h op xt same m a broken.
     let f = cover_at heading Patterns (notes heading h) (Tlbi pe op xt) in
     let told : FoundAs found f
-    = subst (λ (xs : List Found). FoundAs xs f) (sym c.deref.ensures.value)
+    = subst (λ (xs : List Found). FoundAs xs f) (sym c.deref.ensures)
     (c.in_ok-found-in-Some.ensures.covers heading h pe op xt m) in
     let hit : is_found found a ≡ true → Noted (state_from None (marks_at map a)) (pends_at map pe a) c.args.reach
     scope.broadcast (f a) (pends_at new pe a)
     = λ e. noted f told a e broken in
     let missed : is_found found a ≡ false → IsFoundIn map items a → ⊥
-    = λ e has. true≢false (sym (has broken) ∙ ap (λ (xs : List Found). is_found xs a) (sym c.deref.ensures.value)
+    = λ e has. true≢false (sym (has broken) ∙ ap (λ (xs : List Found). is_found xs a) (sym c.deref.ensures)
     ∙ e) in
     let away : is_found found a ≡ false → f a ≡ cover.None
     = λ e. uncovered heading (c.laws.ensures heading) h (c.law_starts.ensures heading)

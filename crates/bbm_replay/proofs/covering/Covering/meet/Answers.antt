@@ -23,7 +23,7 @@ returns-in_ok-push-in-Some-clause-grows c =
     = if_some (λ (s : Seat). s.place ≡ place) c.seat.result seat c.unwrap-seat.ensures c.seat.ensures.place in
     let o = broken_over (marks_at map seat.place) c.in-Some.core (sym c.in-Some.is ∙ c.core_at.ensures) in
     let over : IsBrokenOver map place c.in-Some.core = (o.0, ap (λ a. marks_at map a) (sym here) ∙ o.1, o.2) in
-    let more = c.in_ok-push-in-Some.ensures.items in (
+    let more = c.in_ok-push-in-Some.ensures.ok in (
       λ all heading h pe op xt m.
           subst (λ (xs : List Found). FoundAs xs (cover_at heading Patterns (notes heading h) (Tlbi pe op xt)))
           (sym more)
@@ -35,5 +35,5 @@ returns-in_ok-push-in-Some-clause-grows c =
 pub returns-in_ok-push-in-Some-clause-added : goal.returns-in_ok-push-in-Some-clause-added
 returns-in_ok-push-in-Some-clause-added c =
     let item : Found = record { place = c.args.place; cover = c.cover_met-cover.result } in
-    λ broken. subst (λ (xs : List Found). is_found xs c.args.place ≡ true) (sym c.in_ok-push-in-Some.ensures.items)
+    λ broken. subst (λ (xs : List Found). is_found xs c.args.place ≡ true) (sym c.in_ok-push-in-Some.ensures.ok)
     (found_end c.args.found.now.items item)

@@ -9,5 +9,8 @@ returns c =
     meets_judged c.laws.ensures old old.roots (Dmb c.args.pe c.args.dsb) c.requires refl (Ok tt)
     (λ heading h s. c.law_barriers.ensures.dmb heading h c.args.pe c.args.dsb)
     (λ h. c.law_barriers.ensures.dmb_limit h c.args.pe c.args.dsb)
-    (λ heading h s. c.law_others.ensures old.roots heading h (Dmb c.args.pe c.args.dsb) s refl
-    (c.law_barriers.ensures.dmb heading h c.args.pe c.args.dsb)) tt
+    (record {
+      taken = λ heading h s. c.law_others.ensures old.roots heading h (Dmb c.args.pe c.args.dsb) s refl
+          (c.law_barriers.ensures.dmb heading h c.args.pe c.args.dsb);
+      room = λ room. room;
+    }) tt

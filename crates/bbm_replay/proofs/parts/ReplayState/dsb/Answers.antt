@@ -1,6 +1,5 @@
 use Rattle.std.proofs.Common.{refl, ◌∙◌}
 use Rattle.bbm_tree_index.specs.HeldCores.{holds_at, is_held_by}
-use Rattle.bbm_replay.specs.ReplayStanding.{view_of}
 use Rattle.bbm_replay.specs.declared.parts.ReplayState.{ReplayState}
 use Rattle.bbm_replay.proofs.Gone.{leaves_of}
 use Rattle.bbm_replay.proofs.Settling.{completes_of, dsb_meets, hears_of, nothing_leaves, still_outside}
@@ -23,14 +22,13 @@ returns-then-complete c =
     (λ heading h. c.law_barriers.ensures.dsb heading h c.args.pe c.args.dsb)
     (λ h. c.law_barriers.ensures.dsb_limit h c.args.pe c.args.dsb)
     c.complete-then-complete.ensures.taken
-    (λ heading h s. leaves_of (view_of m2 old.index) (view_of new.map new.index) (is_held_by (holds_at m2))
+    (λ heading h s. leaves_of old.index new.index m2 new.map (is_held_by (holds_at m2))
     (still_outside c.laws.ensures old new m1 m2 c.args.pe c.args.dsb c.requires hears completes (λ x. e.pages x ∙ p.pages x)
     (record { header = refl; index_header = r.tracked.heading; sound = λ s. r.sound })
     (λ heading h. c.law_barriers.ensures.dsb heading h c.args.pe c.args.dsb)
     (λ h. c.law_barriers.ensures.dsb_limit h c.args.pe c.args.dsb)
     c.complete-then-complete.ensures.taken heading h s)
-    r.node r.values r.marks r.pends (record { fresh = r.fresh; null = r.null })
-    (record { tracked = r.map_pages; known = r.tracked.known; pages = r.tracked.pages }))
+    r)
 
 pub returns : goal.returns
 returns c =

@@ -19,20 +19,20 @@ returns-in-Ok c =
     let new : ReplayState = record old { map = c.track.new.map; index = c.track.new.self } in
     let free = sym c.is_used.ensures ∙ c.if-is_used.false in
     init_ok c.laws.ensures c.rules.ensures c.law_others.ensures old new c.args.pe c.args.page c.requires free
-    (record { header = refl; index_header = c.track.ensures.heading; sound = c.track.ensures.sound }) refl
+    (record { header = refl; index_header = e.counted.heading; sound = c.track.ensures.sound }) refl
     (λ full. let bad = e.limit.1 full in absurd cc)
     (record {
       outside = (free_parts (node_in old.index c.args.page) (null_in old.index c.args.page) free).0;
       not_null = (free_parts (node_in old.index c.args.page) (null_in old.index c.args.page) free).1;
-      nodes = e.node;
-      value = e.values;
-      marks = e.marks;
-      pends = λ q a k b i p. ap (λ x. waits x b i p) (e.pends q a k);
-      fresh = e.fresh;
-      null = e.null;
-      tracked = e.map_pages;
-      known = e.known;
-      pages = e.pages;
+      nodes = e.fresh.node;
+      value = e.zero.values;
+      marks = e.zero.marks;
+      pends = λ q a k b i p. ap (λ x. waits x b i p) (e.zero.pends q a k);
+      fresh = e.fresh.fresh;
+      null = e.fresh.null;
+      tracked = e.zero.pages;
+      known = e.counted.known;
+      pages = e.counted.pages;
     })
 
 pub returns-in-Err : goal.returns-in-Err
@@ -42,7 +42,7 @@ returns-in-Err c =
     let new : ReplayState = record old { map = c.track.new.map; index = c.track.new.self } in
     init_err c.laws.ensures c.rules.ensures c.law_others.ensures old new c.args.pe c.args.page c.requires
     (sym c.is_used.ensures ∙ c.if-is_used.false)
-    (record { header = refl; index_header = c.track.ensures.heading; sound = c.track.ensures.sound }) refl
+    (record { header = refl; index_header = e.same_tracked.heading; sound = c.track.ensures.sound }) refl
     c.step_fault.result
     (full_by c.in-Err.fault c.step_fault.result _ c.step_fault.ensures (λ k. e.limit.0 (ap (λ (x : TreeFault). Err x) k)))
     (else_by c.in-Err.fault c.step_fault.result c.step_fault.ensures e.fault)

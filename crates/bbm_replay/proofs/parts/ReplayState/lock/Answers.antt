@@ -5,4 +5,4 @@ use Rattle.bbm_replay.proofs.parts.ReplayState.lock.Goals as goal
 
 pub returns : goal.returns
 returns c = meets_judged c.laws.ensures c.args.self.now c.lock.new.self (Lock c.args.pe c.args.lock) c.requires refl c.lock.result
-    c.lock.ensures.judged c.lock.ensures.limit c.lock.ensures.taken c.lock.ensures.same
+    c.lock.ensures.judged c.lock.ensures.limit c.lock.ensures.tried.taken c.lock.ensures.tried.kept

@@ -1,4 +1,4 @@
-use Rattle.std.proofs.Common.{◌≡◌, Bool, true, false, ◌&&◌, refl, sym, ◌∙◌, ap}
+use Rattle.std.proofs.Common.{◌&&◌, sym, ◌∙◌, ap}
 use Rattle.bbm_replay.proofs.Whole.{no_limbo}
 use Rattle.bbm_replay.proofs.parts.ReplayState.makes_in_limbo.Goals as goal
 use mathlib.Core.Bool.{and-false}

@@ -33,8 +33,8 @@ returns c =
     (record {
       was_fresh = sym c.is_fresh.ensures ∙ c.if-not-is_fresh.false;
       map = record { value = λ a. refl; marks = λ a. refl; pends = λ q a b i p. refl };
-      nodes = e.node;
+      nodes = e.null.node;
       tracking = record { tracked = λ p. refl; known = e.tracked.known; pages = e.tracked.pages };
-      fresh = e.fresh;
-      null = e.null;
+      fresh = e.null.fresh;
+      null = e.null.null;
     })

@@ -9,7 +9,6 @@ use Rattle.bbm_tree_index.specs.declared.index.TreeIndex.{TreeIndex}
 use Rattle.bbm_regimes.specs.declared.regime.Kind.{Kind}
 use Rattle.bbm_rules.specs.Lists.{least}
 use Rattle.bbm_tree_index.specs.declared.role.Attach.TheVariants as attach
-use Rattle.bbm_replay.specs.ReplayStanding.{view_of}
 use Rattle.bbm_replay.specs.declared.parts.ReplayState.{ReplayState}
 use Rattle.bbm_replay.proofs.RootPages.{named_fresh, room_for}
 use Rattle.bbm_replay.proofs.Rooting.{attaches_of, root_fault, root_full, root_ok, root_page, root_used, root_world}
@@ -50,7 +49,7 @@ returns-in-Err-prepare c =
     (unbroken c.laws.ensures c.rules.ensures old c.args.pe c.args.page c.args.kind c.args.lock c.requires right c.in-Ok.ensures.judged
     (λ heading k. unfresh_is old c.args.kind c.args.page c.page_count.result heading k
     (sym c.has_kind.ensures ∙ c.if-not-has_kind.false) c.page_count.ensures.value ∙ sym c.in-None.ensures))
-    c.prepare-2.new.self c.prepare-2.ensures.same c.in-Err-prepare.fault
+    c.prepare-2.new.self c.prepare-2.ensures.kept.same c.in-Err-prepare.fault
     (λ heading h s k. (e.limit heading h c.args.pe c.args.kind c.args.lock c.args.page s).0 (ap (λ (f : StepFault). Err f) k))
     e.fault
 
@@ -82,7 +81,7 @@ declare-requires c =
       (
         m.0,
         m.1,
-        c.prepare-2.ensures.same m.0 m.1 m.2.roots,
+        c.prepare-2.ensures.kept.same m.0 m.1 m.2.roots,
         m.3,
         unbroken c.laws.ensures c.rules.ensures old c.args.pe c.args.page c.args.kind c.args.lock c.requires right c.in-Ok.ensures.judged
             (λ heading k. unfresh_is old c.args.kind c.args.page c.page_count.result heading k
@@ -101,15 +100,15 @@ returns-in-Ok-declare c =
     (unbroken c.laws.ensures c.rules.ensures old c.args.pe c.args.page c.args.kind c.args.lock c.requires right c.in-Ok.ensures.judged
     (λ heading k. unfresh_is old c.args.kind c.args.page c.page_count.result heading k
     (sym c.has_kind.ensures ∙ c.if-not-has_kind.false) c.page_count.ensures.value ∙ sym c.in-None.ensures))
-    c.prepare-2.new.self c.prepare-2.ensures.same new
+    c.prepare-2.new.self c.prepare-2.ensures.kept.same new
     (record { header = refl; index_header = c.attach_prepared.ensures.tracked.heading; sound = λ k. c.attach_prepared.ensures.sound })
     (λ heading h s k. let bad = (r.limit heading h c.args.pe c.args.kind c.args.lock c.args.page s).1 k in absurd cc)
     (record { value = λ a. refl; marks = λ a. refl; pends = λ q a b i p. refl })
-    (attaches_of (view_of old.map old.index) (view_of new.map new.index) (starts (heading_of old.index) c.args.kind c.args.page)
-    (e.node old.map (attach.Root c.args.kind c.args.page) c.in-Ok.ensures.prepared
+    (attaches_of old.index new.index old.map new.map (attach.Root c.args.kind c.args.page)
+    (e.attached old.map (attach.Root c.args.kind c.args.page) c.in-Ok.ensures.prepared
     (named old.index c.requires.0 c.requires.2.index_header c.args.kind c.args.page
     (unfresh_is old c.args.kind c.args.page c.page_count.result c.requires.0 c.requires.2.header
-    (sym c.has_kind.ensures ∙ c.if-not-has_kind.false) c.page_count.ensures.value ∙ sym c.in-None.ensures))) e.fresh c.attach_prepared.ensures.null
+    (sym c.has_kind.ensures ∙ c.if-not-has_kind.false) c.page_count.ensures.value ∙ sym c.in-None.ensures)))
     (record { tracked = λ p. refl; known = c.attach_prepared.ensures.tracked.known; pages = c.attach_prepared.ensures.tracked.pages }))
     c.law_idle.ensures
     (λ heading h s free. c.in-Ok-declare.ensures.taken heading h c.args.pe s free)

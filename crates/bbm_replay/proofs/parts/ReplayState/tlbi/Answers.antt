@@ -8,13 +8,24 @@ use Rattle.bbm_rules.specs.Covers.{cover_at}
 use Rattle.bbm_rules.specs.Prelude.{Tlbi}
 use Rattle.bbm_replay_trees.specs.Told.{notes}
 use Rattle.bbm_replay.specs.Covering.{MayBeIssued}
+use Rattle.bbm_replay.specs.ReplayStanding.{view_of}
 use Rattle.bbm_replay.specs.declared.parts.ReplayState.{ReplayState}
 use Rattle.bbm_replay.proofs.Framing.{same_of, stands_still}
 use Rattle.bbm_replay.proofs.Issuing.{tlbi_meets}
+use Rattle.bbm_replay.proofs.Writing.{cores}
 use Rattle.bbm_replay.proofs.parts.ReplayState.tlbi.Goals as goal
 
-pub issue-requires-clause-tracked : goal.issue-requires-clause-tracked
-issue-requires-clause-tracked c p n is = c.requires.2.told.apart.node_tracked p n is
+pub issue-requires-clause-fits : goal.issue-requires-clause-fits
+issue-requires-clause-fits c =
+    let heading = c.requires.0 in
+    let h = c.requires.1 in
+    let told = c.requires.2.told in
+    let view = view_of c.args.self.now.map c.args.self.now.index in
+    record {
+      tracked = λ p n is. told.apart.node_tracked p n is;
+      below = λ n place next is table. (c.laws.ensures heading).neighbours.down h view n place next told.kept told.nodes
+          (cores heading h view told) is table;
+    }
 
 pub returns-in-Err-issue : goal.returns-in-Err-issue
 returns-in-Err-issue c =
@@ -28,7 +39,7 @@ returns-in-Err-issue c =
           (same_of old.map new.map old.index old.index c.in-Err-issue.ensures.kept
           (record { node = λ p. refl; fresh = λ p. refl; null = λ p. refl })
           (record { known = λ p. refl; pages = refl; heading = refl })) heading h s
-          (c.prepare_issue.ensures.same heading h s.roots);
+          (c.prepare_issue.ensures.kept.same heading h s.roots);
       frugal = λ heading h s. (refl, refl);
     }
 
@@ -50,7 +61,7 @@ returns-in-Ok-issue c =
     let m : MayBeIssued heading h old.map old.index c.prepare_issue.new.self pe op c.args.xt c.in-Ok.named
     = record {
       told = s.told;
-      stands = c.prepare_issue.ensures.same heading h s.roots;
+      stands = c.prepare_issue.ensures.kept.same heading h s.roots;
       names = names.0;
       vmid_is = names.1;
     } in
@@ -60,5 +71,5 @@ returns-in-Ok-issue c =
     e.others c.law_idle.ensures c.law_idle-in-Ok-issue.ensures e.values e.marks e.pages
     (λ heading h s.
     let judged = c.in-Ok.ensures.judged heading h s.roots in
-    c.issue_ready.ensures.taken heading h op c.args.xt (c.prepare_issue.ensures.same heading h s.roots) judged.1
-    judged.0)
+    (c.issue_ready.ensures op c.args.xt).taken heading h (c.prepare_issue.ensures.kept.same heading h s.roots)
+    (judged.1, judged.0))

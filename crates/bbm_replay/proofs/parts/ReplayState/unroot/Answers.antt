@@ -1,6 +1,5 @@
 use Rattle.std.proofs.Common.{not, ◌==◌, refl}
 use Rattle.bbm_rules.specs.Tree.{Node}
-use Rattle.bbm_replay.specs.ReplayStanding.{view_of}
 use Rattle.bbm_replay.specs.declared.parts.ReplayState.{ReplayState}
 use Rattle.bbm_replay.proofs.Gone.{leaves_of, unroot_err, unroot_ok}
 use Rattle.bbm_replay.proofs.parts.ReplayState.unroot.Goals as goal
@@ -17,11 +16,8 @@ returns-in-Ok c =
     let new : ReplayState = record old { map = c.detach.new.map; index = c.detach.new.self; roots = c.retire.new.self } in
     unroot_ok c.laws.ensures c.rules.ensures old c.args.pe c.args.page c.requires new c.in-Ok.ensures
     (record { header = refl; index_header = e.tracked.heading; sound = λ s. e.sound })
-    (λ heading h s. leaves_of (view_of old.map old.index) (view_of new.map new.index) (λ (n : Node). not (n.root == c.args.page))
-    s.told.outside e.node e.values e.marks e.pends
-    (record { fresh = e.fresh; null = e.null })
-    (record { tracked = e.map_pages; known = e.tracked.known; pages = e.tracked.pages }))
-    (λ heading h s free. c.retire.ensures.taken heading h c.args.pe s free)
+    (λ heading h s. leaves_of old.index new.index old.map new.map (λ (n : Node). not (n.root == c.args.page)) s.told.outside e)
+    (λ heading h s free. (c.retire.ensures c.args.pe).taken heading h s free)
 
 pub returns-in-Err : goal.returns-in-Err
 returns-in-Err c = unroot_err c.laws.ensures c.rules.ensures c.args.self.now c.args.pe c.args.page c.requires c.in-Err.fault c.in-Err.ensures

@@ -1,38 +1,19 @@
-use Rattle.std.proofs.Common.{◌≡◌, sym, subst}
-use Rattle.bbm_place_map.specs.Map.{IsSeat}
-use Rattle.bbm_place_map.specs.declared.seat.Seat.{Seat}
+use Rattle.std.proofs.Common.{sym, subst}
 use Rattle.bbm_rules.specs.Prelude.{Write}
-use Rattle.bbm_replay.specs.ReplayStanding.{IsAt, MayMeet, Meets}
-use Rattle.bbm_replay.proofs.Findings.{if_some}
-use Rattle.bbm_replay.proofs.Found.{at_path, no_path}
+use Rattle.bbm_replay.specs.ReplayStanding.{MayMeet, Meets}
+use Rattle.bbm_replay.specs.declared.parts.ReplayState.{ReplayState}
 use Rattle.bbm_replay.proofs.parts.ReplayState.write.Goals as goal
 
-pub unwrap-seat-requires : goal.unwrap-seat-requires
-unwrap-seat-requires c =
-    let n = at_path c.args.self.now c.args.place c.path.result c.in-Some.path c.in-Some.is c.path.ensures in
-    c.seat.ensures.tracked (c.requires.2.told.apart.node_tracked _ n.0 n.1)
+pub returns-then-write_quick : goal.returns-then-write_quick
+returns-then-write_quick c = c.write_quick.ensures.taken c.if-write_quick.true
 
-pub write_inside-requires-clause-at : goal.write_inside-requires-clause-at
-write_inside-requires-clause-at c =
-    subst (λ a. IsAt c.args.self.now a c.in-Some.path)
-    (sym (if_some (λ (s : Seat). s.place ≡ c.args.place) c.seat.result c.unwrap-seat.result c.unwrap-seat.ensures c.seat.ensures.place))
-    (at_path c.args.self.now c.args.place c.path.result c.in-Some.path c.in-Some.is c.path.ensures)
+pub write_any-requires : goal.write_any-requires
+write_any-requires c =
+    let P : ReplayState → Type 0 = λ p. MayMeet p (Write c.args.pe c.args.place c.args.value) in
+    subst P (sym (c.write_quick.ensures.kept c.if-write_quick.false)) c.requires
 
-pub write_inside-requires-clause-may : goal.write_inside-requires-clause-may
-write_inside-requires-clause-may c =
-    subst (λ a. MayMeet c.args.self.now (Write c.args.pe a c.args.value))
-    (sym (if_some (λ (s : Seat). s.place ≡ c.args.place) c.seat.result c.unwrap-seat.result c.unwrap-seat.ensures c.seat.ensures.place))
-    c.requires
-
-pub write_inside-requires-clause-seat : goal.write_inside-requires-clause-seat
-write_inside-requires-clause-seat c =
-    if_some (λ (s : Seat). IsSeat c.args.self.now.map s) c.seat.result c.unwrap-seat.result c.unwrap-seat.ensures c.seat.ensures.seat
-
-pub returns-in-Some : goal.returns-in-Some
-returns-in-Some c =
-    subst (λ a. Meets c.args.self.now c.write_inside.new.self (Write c.args.pe a c.args.value) c.write_inside.result)
-    (if_some (λ (s : Seat). s.place ≡ c.args.place) c.seat.result c.unwrap-seat.result c.unwrap-seat.ensures c.seat.ensures.place)
-    c.write_inside.ensures
-
-pub write_outside-requires-clause-outside : goal.write_outside-requires-clause-outside
-write_outside-requires-clause-outside c = no_path c.args.self.now c.args.place c.path.result c.in-None.is c.path.ensures
+pub returns : goal.returns
+returns c =
+    let P : ReplayState → Type 0
+    = λ p. Meets p c.write_any.new.self (Write c.args.pe c.args.place c.args.value) c.write_any.result in
+    subst P (c.write_quick.ensures.kept c.if-write_quick.false) c.write_any.ensures

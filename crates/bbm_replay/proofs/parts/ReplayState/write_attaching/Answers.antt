@@ -6,7 +6,6 @@ use Rattle.bbm_entry_state.specs.declared.pending.Pends.{Pends}
 use Rattle.bbm_entry_state.specs.declared.state.EntryState.{EntryState}
 use Rattle.bbm_place_map.specs.Map.{state_at}
 use Rattle.bbm_tree_index.specs.declared.role.Path.{Path}
-use Rattle.bbm_tree_index.specs.Paths.{starts_of}
 use Rattle.bbm_tree_index.specs.declared.role.Attach.TheVariants as attach
 use Rattle.bbm_replay.specs.ReplayStanding.{view_of}
 use Rattle.bbm_replay.specs.ReplayTold.{state_of}
@@ -39,8 +38,7 @@ returns-in-Ok c =
       pends = λ q a k b i p. ap (λ (x : Pends). waits x b i p) (left.pends q a k);
       dropped = left.dropped;
     })
-    (attaches_of (view_of old.map old.index) (view_of last.map last.index) (starts_of old.index (attach.Below c.args.write.now.seat.now.place c.args.next))
-    a.node a.fresh c.attach.ensures.null
+    (attaches_of old.index last.index old.map last.map (attach.Below c.args.write.now.seat.now.place c.args.next) a.attached
     (record { tracked = e.pages; known = c.attach.ensures.tracked.known; pages = c.attach.ensures.tracked.pages }))
     c.law_idle.ensures
 

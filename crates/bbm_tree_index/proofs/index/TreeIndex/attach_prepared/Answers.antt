@@ -6,7 +6,7 @@ use Rattle.bbm_tree_index.proofs.Attaching.{fresh_after, node_from, node_to, nul
 use Rattle.bbm_tree_index.proofs.index.TreeIndex.attach_prepared.Goals as goal
 
 pub attach_all-requires-clause-pages : goal.attach_all-requires-clause-pages
-attach_all-requires-clause-pages c = λ k p table at has.
+attach_all-requires-clause-pages c = λ k table at p has.
     let w = c.requires.prepared in
     let survey = subst (λ ts. IsSurvey ts c.args.self.now w.0 w.1) (sym c.deref.ensures.value) w.2.tells in
     (survey.surveyed.wells k table at).pages p has
@@ -26,30 +26,23 @@ same_heading c = refl
 
 known : (c : goal.After-attach_all) (p : ℕ) → known_in (new_of c) p ≡ known_in c.args.self.now p
 unfolding known_in
-known c p = c.attach_all.ensures.known p
+known c p = c.attach_all.ensures.same.known p
 
-pub returns-clause-node : goal.returns-clause-node
-returns-clause-node c = λ map at prepared named p m.
-    let survey = subst (λ ts. IsSurvey ts c.args.self.now map at) (sym c.deref.ensures.value) prepared.tells in (
-      node_from c.args.self.now map at c.deref.result.now c.requires.sound prepared.may named prepared.passes
-          survey (new_of c) (same_heading c) (known c) c.attach_all.ensures.roles p m,
-      node_to c.args.self.now map at c.deref.result.now c.requires.sound prepared.may named prepared.passes
-          survey (new_of c) (same_heading c) (known c) c.attach_all.ensures.roles p m,
-    )
-
-pub returns-clause-fresh : goal.returns-clause-fresh
-returns-clause-fresh c =
-    let w = c.requires.prepared in
-    fresh_after c.args.self.now w.0 w.1 c.deref.result.now c.requires.sound w.2.may w.3 w.2.passes
-    (subst (λ ts. IsSurvey ts c.args.self.now w.0 w.1) (sym c.deref.ensures.value) w.2.tells)
-    (new_of c) (same_heading c) (known c) c.attach_all.ensures.roles
-
-pub returns-clause-null : goal.returns-clause-null
-returns-clause-null c =
-    let w = c.requires.prepared in
-    null_after c.args.self.now w.0 w.1 c.deref.result.now c.requires.sound w.2.may w.3 w.2.passes
-    (subst (λ ts. IsSurvey ts c.args.self.now w.0 w.1) (sym c.deref.ensures.value) w.2.tells)
-    (new_of c) (same_heading c) (known c) c.attach_all.ensures.roles
+pub returns-clause-attached : goal.returns-clause-attached
+returns-clause-attached c = λ map at prepared named.
+    let survey = subst (λ ts. IsSurvey ts c.args.self.now map at) (sym c.deref.ensures.value) prepared.tells in
+    record {
+      node = λ p m. (
+        node_from c.args.self.now map at c.deref.result.now c.requires.sound prepared.may named prepared.passes
+            survey (new_of c) (same_heading c) (known c) c.attach_all.ensures.roles p m,
+        node_to c.args.self.now map at c.deref.result.now c.requires.sound prepared.may named prepared.passes
+            survey (new_of c) (same_heading c) (known c) c.attach_all.ensures.roles p m,
+      );
+      fresh = fresh_after c.args.self.now map at c.deref.result.now c.requires.sound prepared.may named prepared.passes
+          survey (new_of c) (same_heading c) (known c) c.attach_all.ensures.roles;
+      null = null_after c.args.self.now map at c.deref.result.now c.requires.sound prepared.may named prepared.passes
+          survey (new_of c) (same_heading c) (known c) c.attach_all.ensures.roles;
+    }
 
 pub returns-clause-sound : goal.returns-clause-sound
 returns-clause-sound c =

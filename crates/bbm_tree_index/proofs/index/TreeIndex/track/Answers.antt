@@ -8,9 +8,10 @@ use Rattle.bbm_rules.specs.Places.{page_of}
 use Rattle.bbm_rules.specs.Tree.{Node}
 use Rattle.bbm_tree_index.proofs.Agreeing.{SamePlace, agrees_same}
 use Rattle.bbm_tree_index.proofs.Climbing.{SameTrees, put_trees}
-use Rattle.bbm_tree_index.proofs.Indexes.{agrees_alike, node_kept, node_out, put_role, sound_alike, sound_kept}
+use Rattle.bbm_tree_index.proofs.Indexes.{agrees_alike, fresh_put, node_kept, node_out, null_put, put_role, sound_alike}
+use Rattle.bbm_tree_index.proofs.Indexes.{sound_kept, true_there}
 use Rattle.bbm_tree_index.specs.IndexAgreement.{IsSound}
-use Rattle.bbm_tree_index.specs.Index.{heading_of, known_in, node_in, role_in}
+use Rattle.bbm_tree_index.specs.Index.{fresh_in, heading_of, known_in, node_in, null_in, role_in}
 use Rattle.bbm_tree_index.specs.declared.index.TreeIndex.{TreeIndex}
 use Rattle.bbm_tree_index.specs.declared.role.Role.TheVariants.{Fresh}
 use Rattle.bbm_tree_index.proofs.index.TreeIndex.track.Goals as goal
@@ -46,10 +47,12 @@ put : (c : goal.In-Ok-insert) (p : ℕ) → get nat_eq c.insert.new.self p
     ≡ (if p == c.args.page then Some Fresh else get nat_eq c.args.self.now.roles p)
 put c p = grind (arith, common_steps, c.in-Ok-insert.ensures.updates.0 p, ap (λ es. lookup (nat_eq p) es) c.reserve.ensures.entries, c.get-key.ensures.value)
 
-trees : (c : goal.In-Ok-insert) → SameTrees (role_in c.args.self.now) (role_in (new_of c))
+role : (c : goal.In-Ok-insert) (p : ℕ) → role_in (new_of c) p ≡ (if p == c.args.page then Fresh else role_in c.args.self.now p)
 unfolding role_in
-trees c = put_trees (role_in c.args.self.now) (role_in (new_of c)) c.args.page Fresh
-    (put_role (get nat_eq c.args.self.now.roles) (get nat_eq c.insert.new.self) c.args.page Fresh (put c))
+role c = put_role (get nat_eq c.args.self.now.roles) (get nat_eq c.insert.new.self) c.args.page Fresh (put c)
+
+trees : (c : goal.In-Ok-insert) → SameTrees (role_in c.args.self.now) (role_in (new_of c))
+trees c = put_trees (role_in c.args.self.now) (role_in (new_of c)) c.args.page Fresh (role c)
     (node_out c.args.self.now c.args.page c.requires.no_tree) refl
 
 same_heading : (c : goal.In-Ok-insert) → heading_of (new_of c) ≡ heading_of c.args.self.now
@@ -92,8 +95,20 @@ clean c a e = (c.in-Ok-track.ensures).marks a ∙ by (page_of a == c.args.page)
     by true = refl
     by false = e
 
-pub returns-in-Ok-insert-clause-node : goal.returns-in-Ok-insert-clause-node
-returns-in-Ok-insert-clause-node c = node c
+null : (c : goal.In-Ok-insert) (p : ℕ) → null_in (new_of c) p ≡ null_in c.args.self.now p
+null c p = null_put c.args.self.now (new_of c) c.args.page Fresh (role c) p ∙ by (p == c.args.page) refl
+  where
+    by : (b : Bool) → (p == c.args.page) ≡ b → (if b then false else null_in c.args.self.now p) ≡ null_in c.args.self.now p
+    by true t = sym (ap (null_in c.args.self.now) (eqb-true p c.args.page t) ∙ c.requires.not_null)
+    by false t = refl
+
+pub returns-in-Ok-insert-clause-fresh : goal.returns-in-Ok-insert-clause-fresh
+returns-in-Ok-insert-clause-fresh c = record {
+  node = node c;
+  fresh = λ p. fresh_put c.args.self.now (new_of c) c.args.page Fresh (role c) p
+      ∙ true_there (p == c.args.page) (fresh_in c.args.self.now p);
+  null = null c;
+}
 
 pub returns-in-Ok-insert-clause-sound : goal.returns-in-Ok-insert-clause-sound
 returns-in-Ok-insert-clause-sound c = sound c

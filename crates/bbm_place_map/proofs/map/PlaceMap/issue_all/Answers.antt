@@ -1,18 +1,16 @@
-use Rattle.std.proofs.Common.{ℕ, refl, nat_eq, ap, sym, arith, ◌∙◌, vec_len, slice_get, List, length}
+use Rattle.std.proofs.Common.{ℕ, refl, nat_eq, arith, ◌∙◌, slice_get}
 use Rattle.indexmap.specs.IndexMap.{get}
-use Rattle.bbm_tlbi_scope.specs.declared.entry.Cover.{Cover}
-use Rattle.bbm_place_map.specs.MapCalls.{MayCover}
-use Rattle.bbm_place_map.specs.Map.{marks_at, pends_at}
+use Rattle.bbm_place_map.specs.Map.{marks_at, pends_at, restless_in, restless_place}
 use Rattle.bbm_place_map.specs.PlaceNotes.{Keeps, NotesAt}
 use Rattle.bbm_place_map.proofs.Advancing.{seat_kept}
-use Rattle.bbm_place_map.proofs.Issued.{noted_at}
+use Rattle.bbm_place_map.proofs.Issued.{noted_by_number}
 use Rattle.bbm_place_map.proofs.Seats.{linked_seated, placed_seated}
 use Rattle.bbm_place_map.proofs.Listing.{listed_roomed, listed_noted}
 use Rattle.bbm_place_map.proofs.Made.{issuing}
-use Rattle.bbm_place_map.proofs.map.PlaceMap.issue.Goals as goal
+use Rattle.bbm_place_map.proofs.map.PlaceMap.issue_all.Goals as goal
 
 pub invariant_of-self : goal.invariant_of-self
-invariant_of-self g c =
+invariant_of-self c =
     let old = c.args.self.now.broken.items in
     let mid = c.make_room.new.broken.items in
     let seats = λ (m : ℕ). seat_kept Keeps (slice_get old m) (slice_get mid m) (c.make_room.ensures.each m) in
@@ -26,12 +24,12 @@ invariant_of-self g c =
     }
 
 pub invariant_of-self-2 : goal.invariant_of-self-2
-invariant_of-self-2 g c =
+invariant_of-self-2 c =
     let old = c.args.self.now.broken.items in
     let mid = c.make_room.new.broken.items in
     let new = c.note.new.broken.items in
     let seats = λ (m : ℕ).
-    seat_kept (NotesAt c.deref-2.result.now (issuing c.args.issuer c.args.reach c.args.broadcast) m) (slice_get mid m) (slice_get new m) (c.note.ensures.each m)
+    seat_kept (NotesAt c.args.covers.now (issuing c.args.issuer c.args.reach c.args.broadcast) m) (slice_get mid m) (slice_get new m) (c.note.ensures.each m)
     ∙ seat_kept Keeps (slice_get old m) (slice_get mid m) (c.make_room.ensures.each m) in
     record {
       numbered = c.args.self.now.numbered;
@@ -40,18 +38,15 @@ invariant_of-self-2 g c =
       room = omega (arith, c.make_room.ensures.size.room, c.note.ensures.rest.room);
       few = c.args.self.now.few;
       listed =
-          listed_noted c.args.self.now.cells.items old mid c.make_room.ensures.each new c.deref-2.result.now (issuing c.args.issuer c.args.reach c.args.broadcast)
+          listed_noted c.args.self.now.cells.items old mid c.make_room.ensures.each new c.args.covers.now (issuing c.args.issuer c.args.reach c.args.broadcast)
           c.args.self.now.work (record c.args.self.now.work { waiting = c.note.new.lists })
           (linked_seated old mid (λ (m : ℕ). seat_kept Keeps (slice_get old m) (slice_get mid m) (c.make_room.ensures.each m)) c.args.self.now.cells.items c.make_room.ensures.size.len c.args.self.now.linked)
           refl refl refl c.note.ensures.each c.note.ensures.waits c.note.ensures.rest.kept c.args.self.now.listed;
     }
 
 pub returns-clause-noted : goal.returns-clause-noted
-unfolding marks_at pends_at
-returns-clause-noted g c =
-    noted_at (get nat_eq c.args.self.now.pages) c.args.self.now.cells.items c.args.self.now.broken.items c.make_room.new.broken.items c.note.new.broken.items
-    c.deref-2.result.now (issuing c.args.issuer c.args.reach c.args.broadcast) c.args.self.now.linked c.args.self.now.placed c.make_room.ensures.each c.note.ensures.each
-    (ap (λ (xs : List Cover). length xs) c.deref-2.ensures ∙ c.in_ok-add_covers.ensures.len)
-    (MayCover g.F.Fn c.args.cover c.args.self.now)
-    (λ m e cov at is. c.in_ok-add_covers.ensures.each m e cov at (sym (ap (λ (xs : List Cover). slice_get xs m) c.deref-2.ensures) ∙ is))
-    (vec_len c.args.self.now.cells) c.args.self.now.numbered
+unfolding marks_at pends_at restless_in restless_place
+returns-clause-noted c =
+    noted_by_number (get nat_eq c.args.self.now.pages) c.args.self.now.cells.items c.args.self.now.broken.items c.make_room.new.broken.items c.note.new.broken.items
+    c.args.covers.now (issuing c.args.issuer c.args.reach c.args.broadcast) c.args.self.now.linked c.args.self.now.placed c.make_room.ensures.each c.note.ensures.each
+    c.requires

@@ -1,0 +1,17 @@
+use Rattle.std.proofs.Common.{ap, sym, ◌∙◌, nat_eq, refl, length, arith, get_or}
+use Rattle.std.proofs.lemmas.Option.{slice_get_read}
+use Rattle.std.proofs.lemmas.Bool.{eqb-true}
+use Rattle.indexmap.specs.IndexMap.{get}
+use Rattle.bbm_place_map.specs.declared.entry.Entry.{Entry}
+use Rattle.bbm_place_map.proofs.Visiting.{slot_of_place}
+use Rattle.bbm_place_map.proofs.issue.entry_of.Goals as goal
+
+pub returns-then-eq : goal.returns-then-eq
+returns-then-eq c =
+    let e = c.index-broken-near.result in
+    let sound = c.requires in
+    sym (slot_of_place (get nat_eq c.args.kept.now.pages.now) c.args.kept.now.cells.now c.args.broken.now sound.linked
+    sound.placed c.args.place c.args.kept.now.near e
+    (slice_get_read c.args.broken.now (length c.args.broken.now) c.args.kept.now.near e refl (omega arith)
+    c.index-broken-near.is) (ap (λ (x : Entry). x.place) c.index-broken-near.is ∙ eqb-true
+    (get_or c.args.broken.now c.args.kept.now.near e).place c.args.place (sym c.eq.ensures ∙ c.if-eq.true)))

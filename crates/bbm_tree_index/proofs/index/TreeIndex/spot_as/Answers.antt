@@ -1,0 +1,47 @@
+use Rattle.std.proofs.Common.{◌≡◌, ℕ, Some, None, Option, IfSome, nat_eq, unwrap_or, refl, ap, sym, ◌∙◌, subst}
+use Rattle.indexmap.specs.IndexMap.{get}
+use Rattle.bbm_rules.specs.Tree.{Node}
+use Rattle.bbm_tree_index.proofs.Cutting.{spot_node}
+use Rattle.bbm_tree_index.proofs.Sounds.{role_fits}
+use Rattle.bbm_tree_index.specs.Index.{heading_of, node_in, role_in}
+use Rattle.bbm_tree_index.specs.Spots.{Fits, RoleFits, StandsAt, spot_with}
+use Rattle.bbm_tree_index.specs.declared.index.TreeIndex.{TreeIndex}
+use Rattle.bbm_tree_index.specs.declared.role.Role.{Role}
+use Rattle.bbm_tree_index.specs.declared.role.Role.TheVariants.{Untracked}
+use Rattle.bbm_tree_index.specs.declared.spot.Spot.{Spot}
+use Rattle.bbm_tree_index.proofs.index.TreeIndex.spot_as.Goals as goal
+
+role_is : (index : TreeIndex) (page : ℕ) (r : Role) → get nat_eq index.roles page ≡ Some r → role_in index page ≡ r
+unfolding role_in
+role_is index page r e = ap (λ (o : Option Role). unwrap_or o Untracked) e
+
+is_role : (c : goal.After-spot_of) → role_in c.args.self.now c.args.page ≡ c.args.role.now
+is_role c = role_is c.args.self.now c.args.page c.args.role.now c.requires.role
+
+pub spot_of-requires : goal.spot_of-requires
+unfolding heading_of
+spot_of-requires c = subst (RoleFits c.args.self.now.header)
+    (role_is c.args.self.now c.args.page c.args.role.now c.requires.role)
+    (role_fits (role_in c.args.self.now) (heading_of c.args.self.now) c.requires.sound.roles c.args.page)
+
+is_spot : (c : goal.After-spot_of)
+    → c.spot_of.result ≡ spot_with (heading_of c.args.self.now) (role_in c.args.self.now c.args.page)
+unfolding heading_of
+is_spot c = c.spot_of.ensures ∙ ap (spot_with c.args.self.now.header) (sym (is_role c))
+
+fits_some : (o : Option Spot) → ((s : Spot) → o ≡ Some s → Fits s) → IfSome o Fits
+fits_some None h = tt
+fits_some (Some s) h = h s refl
+
+node_some : (old : TreeIndex) (page : ℕ) (o : Option Spot) → o ≡ spot_with (heading_of old) (role_in old page)
+    → IfSome o (λ s. (n : Node) × (node_in old page ≡ Some n) × StandsAt s n)
+unfolding node_in
+node_some old page None e = tt
+node_some old page (Some s) e = spot_node (role_in old) (heading_of old) page (role_in old page) s (sym e)
+
+pub returns-clause-fits : goal.returns-clause-fits
+returns-clause-fits c = fits_some c.spot_of.result (λ s e. role_fits (role_in c.args.self.now)
+    (heading_of c.args.self.now) c.requires.sound.roles c.args.page s (sym (is_spot c) ∙ e))
+
+pub returns-clause-node : goal.returns-clause-node
+returns-clause-node c = node_some c.args.self.now c.args.page c.spot_of.result (is_spot c)
