@@ -7,6 +7,8 @@ mod checkers;
 #[cfg(test)]
 mod generator;
 #[cfg(test)]
+mod quick;
+#[cfg(test)]
 mod runs;
 #[cfg(test)]
 mod texts;

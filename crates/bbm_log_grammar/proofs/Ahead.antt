@@ -1,25 +1,5 @@
 -- The parts of a line at the front of some bytes, put together.
-use Rattle.std.proofs.Common.{
-  ◌≡◌,
-  ◌≢◌,
-  ℕ,
-  zero,
-  suc,
-  ◌+◌,
-  ◌-◌,
-  ◌*◌,
-  ◌^◌,
-  ◌<◌,
-  ◌≤◌,
-  Bool,
-  true,
-  false,
-  ◌&&◌,
-  cond,
-  nat_le,
-  List,
-  [],
-}
+use Rattle.std.proofs.Common.{◌≡◌, ◌≢◌, ℕ, zero, suc, ◌+◌, ◌-◌, ◌*◌, ◌<◌, ◌≤◌, Bool, true, false, cond, List, []}
 use Rattle.std.proofs.Common.{
   ◌∷◌,
   ◌++◌,
@@ -46,9 +26,9 @@ use Rattle.std.proofs.lemmas.List.{take_all, take_rest}
 use Rattle.std.specs.Char.{digit_value}
 use Rattle.std.specs.Fmt.{digits}
 use Rattle.std.specs.List.{list_all}
-use Rattle.bbm_barriers.specs.declared.Domain.TheVariants.{Inner}
+use Rattle.bbm_barriers.specs.declared.Domain.TheVariants.{Full, Inner, Non}
 use Rattle.bbm_barriers.specs.declared.Dsb.{Dsb}
-use Rattle.bbm_barriers.specs.declared.Types.TheVariants.{All, Stores}
+use Rattle.bbm_barriers.specs.declared.Types.TheVariants.{All, Loads, Stores}
 use Rattle.bbm_events.specs.declared.event.Event.{Event}
 use Rattle.bbm_events.specs.declared.event.Event.TheVariants as event
 use Rattle.bbm_events.specs.declared.event.Item.TheVariants as item
@@ -57,10 +37,13 @@ use Rattle.bbm_events.specs.Heading.{Heading}
 use Rattle.bbm_events.specs.Label.{is_label, is_label_byte}
 use Rattle.bbm_events.specs.Lines.{event_fields, item_line, item_of}
 use Rattle.bbm_events.specs.Spelling.{hex, is_plain, joined}
-use Rattle.bbm_events.specs.Words.{dsb_word, op_word}
+use Rattle.bbm_events.specs.Words.{dsb_word, op_word, reg_word}
+use Rattle.bbm_regimes.specs.declared.regime.Reg.{Reg}
+use Rattle.bbm_regimes.specs.declared.regime.Reg.TheVariants.{Ttbr0El2, VttbrEl2, Ttbr0El1, Ttbr1El1}
 use Rattle.bbm_tlbi_scope.specs.Operations.{has_operand}
 use Rattle.bbm_tlbi_scope.specs.declared.op.TlbiOp.{TlbiOp}
 use Rattle.bbm_tlbi_scope.specs.declared.op.TlbiOp.TheVariants.{Vae2is, Vale2is, Vae1is, Vale1is, Ipas2e1is}
+use Rattle.bbm_tlbi_scope.specs.declared.op.TlbiOp.TheVariants.{Vmalle1is, Vaale1is, Alle2is, Aside1is}
 use Rattle.bbm_log_grammar.specs.Ahead.{StandsFirst, label_part}
 use Rattle.bbm_log_grammar.specs.Digits.{is_lower_digit}
 use Rattle.bbm_log_grammar.proofs.Begun.{begins}
@@ -110,17 +93,22 @@ two_digits (x ∷ y ∷ ys) tens ones some led e f =
     let all : take (length (x ∷ y ∷ ys) - 2) ys ≡ ys = take_all (length (x ∷ y ∷ ys) - 2) ys (omega arith) in
     rw (all, value, spelled) refl
 
+-- two fields, and three, and what stands behind them
+
+two_fields : (one two s a b : List ℕ) → s ≡ one ++ a → a ≡ 32 ∷ (two ++ b) → s ≡ (one ++ 32 ∷ two) ++ b
+two_fields one two s a b e f = e ∙ ap (λ l. one ++ l) f ∙ sym (append_assoc one (32 ∷ two) b)
+
+three_fields : (one two three s a b c : List ℕ) → s ≡ one ++ a → a ≡ 32 ∷ (two ++ b) → b ≡ 32 ∷ (three ++ c)
+    → s ≡ (one ++ 32 ∷ (two ++ 32 ∷ three)) ++ c
+three_fields one two three s a b c e f g =
+    two_fields one (two ++ 32 ∷ three) s a c e (f ∙ ap (λ l. 32 ∷ l) (two_fields two three (two ++ b) b c refl g))
+
 -- the fields of a write
 pub write_fields : (pe place value : ℕ) (s a b c : List ℕ) → s ≡ decimal pe ++ a → a ≡ 32 ∷ (hex place ++ b)
     → b ≡ 32 ∷ (hex value ++ c)
     → 119 ∷ 32 ∷ s ≡ joined (event_fields (event.Write pe place value)) ++ c
 write_fields pe place value s a b c first second third =
-    ap (λ l. 119 ∷ 32 ∷ l) (
-    first
-    ∙ ap (λ l. decimal pe ++ l) (second ∙ ap (λ l. 32 ∷ (hex place ++ l)) third)
-    ∙ sym (append_assoc (decimal pe) (32 ∷ (hex place ++ 32 ∷ hex value)) c
-    ∙ ap (λ l. decimal pe ++ 32 ∷ l) (append_assoc (hex place) (32 ∷ hex value) c))
-    )
+    ap (λ l. 119 ∷ 32 ∷ l) (three_fields (decimal pe) (hex place) (hex value) s a b c first second third)
 
 -- an event and its label
 line_is : (e : Event) (label : Option (List ℕ)) (rest : List ℕ)
@@ -212,8 +200,7 @@ label_end s count within some h0 =
 pub dsb_fields : (pe : ℕ) (dsb : Dsb) (s a b : List ℕ) → s ≡ decimal pe ++ a → a ≡ 32 ∷ (dsb_word dsb ++ b)
     → 100 ∷ 115 ∷ 98 ∷ 32 ∷ s ≡ joined (event_fields (event.Dsb pe dsb)) ++ b
 dsb_fields pe dsb s a b first second =
-    ap (λ l. 100 ∷ 115 ∷ 98 ∷ 32 ∷ l) (first ∙ ap (λ l. decimal pe ++ l) second
-    ∙ sym (append_assoc (decimal pe) (32 ∷ dsb_word dsb) b))
+    ap (λ l. 100 ∷ 115 ∷ 98 ∷ 32 ∷ l) (two_fields (decimal pe) (dsb_word dsb) s a b first second)
 
 pub word_dsb : (s front a : List ℕ) → 4 ≤ length s → get_or s 0 0 ≡ 100 → get_or s 1 0 ≡ 115 → get_or s 2 0 ≡ 98
     → get_or s 3 0 ≡ 32 → 100 ∷ 115 ∷ 98 ∷ 32 ∷ take (length s - 4) (drop 4 s) ≡ front ++ a → s ≡ front ++ a
@@ -237,18 +224,43 @@ option_ishst s some h0 h1 h2 h3 h4 h5 =
     begins (codes " ishst") s some (h0, (h1, (h2, (h3, (h4, (h5, tt))))))
     ∙ ap (λ l. codes " ishst" ++ l) (sym (take_rest s 6))
 
--- the fields of a TLBI with an operand
+-- further options
+pub option_nsh : (s : List ℕ) → 4 ≤ length s → get_or s 0 0 ≡ 32 → get_or s 1 0 ≡ 110 → get_or s 2 0 ≡ 115
+    → get_or s 3 0 ≡ 104
+    → s ≡ 32 ∷ (dsb_word (record { domain = Non; types = All }) ++ take (length s - 4) (drop 4 s))
+option_nsh s some h0 h1 h2 h3 =
+    begins (codes " nsh") s some (h0, (h1, (h2, (h3, tt))))
+    ∙ ap (λ l. codes " nsh" ++ l) (sym (take_rest s 4))
+
+pub option_sy : (s : List ℕ) → 3 ≤ length s → get_or s 0 0 ≡ 32 → get_or s 1 0 ≡ 115 → get_or s 2 0 ≡ 121
+    → s ≡ 32 ∷ (dsb_word (record { domain = Full; types = All }) ++ take (length s - 3) (drop 3 s))
+option_sy s some h0 h1 h2 =
+    begins (codes " sy") s some (h0, (h1, (h2, tt)))
+    ∙ ap (λ l. codes " sy" ++ l) (sym (take_rest s 3))
+
+pub option_ld : (s : List ℕ) → 3 ≤ length s → get_or s 0 0 ≡ 32 → get_or s 1 0 ≡ 108 → get_or s 2 0 ≡ 100
+    → s ≡ 32 ∷ (dsb_word (record { domain = Full; types = Loads }) ++ take (length s - 3) (drop 3 s))
+option_ld s some h0 h1 h2 =
+    begins (codes " ld") s some (h0, (h1, (h2, tt)))
+    ∙ ap (λ l. codes " ld" ++ l) (sym (take_rest s 3))
+
+pub ruleset further_options = (option_nsh, option_sy, option_ld)
+
+-- the fields of a TLBI with an operand, and without one
+
 pub tlbi_fields : (pe : ℕ) (op : TlbiOp) (xt : ℕ) (s a b d : List ℕ) → s ≡ decimal pe ++ a
     → a ≡ 32 ∷ (op_word op ++ b) → has_operand op ≡ true
     → b ≡ 32 ∷ (hex xt ++ d) → 116 ∷ 108 ∷ 98 ∷ 105 ∷ 32 ∷ s ≡ joined (event_fields (event.Tlbi pe op xt)) ++ d
 tlbi_fields pe op xt s a b d first second has third =
-    ap (λ l. 116 ∷ 108 ∷ 98 ∷ 105 ∷ 32 ∷ l) (
-    first
-    ∙ ap (λ l. decimal pe ++ l) (second ∙ ap (λ l. 32 ∷ (op_word op ++ l)) third)
-    ∙ sym (append_assoc (decimal pe) (32 ∷ op_word op ++ 32 ∷ hex xt) d
-    ∙ ap (λ l. decimal pe ++ 32 ∷ l) (append_assoc (op_word op) (32 ∷ hex xt) d))
-    )
+    ap (λ l. 116 ∷ 108 ∷ 98 ∷ 105 ∷ 32 ∷ l) (three_fields (decimal pe) (op_word op) (hex xt) s a b d first second third)
     ∙ ap (λ (t : Bool). joined (codes "tlbi" ∷ decimal pe ∷ op_word op ∷ cond t (hex xt ∷ []) []) ++ d) (sym has)
+
+pub tlbi_alone : (pe : ℕ) (op : TlbiOp) (xt : ℕ) (s a b : List ℕ) → s ≡ decimal pe ++ a
+    → a ≡ 32 ∷ (op_word op ++ b) → has_operand op ≡ false
+    → 116 ∷ 108 ∷ 98 ∷ 105 ∷ 32 ∷ s ≡ joined (event_fields (event.Tlbi pe op xt)) ++ b
+tlbi_alone pe op xt s a b first second has =
+    ap (λ l. 116 ∷ 108 ∷ 98 ∷ 105 ∷ 32 ∷ l) (two_fields (decimal pe) (op_word op) s a b first second)
+    ∙ ap (λ (t : Bool). joined (codes "tlbi" ∷ decimal pe ∷ op_word op ∷ cond t (hex xt ∷ []) []) ++ b) (sym has)
 
 pub word_tlbi : (s front a : List ℕ) → 5 ≤ length s → get_or s 0 0 ≡ 116 → get_or s 1 0 ≡ 108 → get_or s 2 0 ≡ 98
     → get_or s 3 0 ≡ 105 → get_or s 4 0 ≡ 32
@@ -298,3 +310,138 @@ op_ipas2e1is s some h0 h1 h2 h3 h4 h5 h6 h7 h8 h9 =
     ∙ ap (λ l. codes " ipas2e1is" ++ l) (sym (take_rest s 10))
 
 pub ruleset operations = (op_vae2is, op_vale2is, op_vae1is, op_vale1is, op_ipas2e1is)
+
+-- further operations
+
+pub op_vmalle1is : (s : List ℕ) → 10 ≤ length s → get_or s 0 0 ≡ 32 → get_or s 1 0 ≡ 118 → get_or s 2 0 ≡ 109
+    → get_or s 3 0 ≡ 97 → get_or s 4 0 ≡ 108 → get_or s 5 0 ≡ 108 → get_or s 6 0 ≡ 101 → get_or s 7 0 ≡ 49
+    → get_or s 8 0 ≡ 105 → get_or s 9 0 ≡ 115
+    → s ≡ 32 ∷ (op_word Vmalle1is ++ take (length s - 10) (drop 10 s))
+op_vmalle1is s some h0 h1 h2 h3 h4 h5 h6 h7 h8 h9 =
+    begins (codes " vmalle1is") s some (h0, (h1, (h2, (h3, (h4, (h5, (h6, (h7, (h8, (h9, tt))))))))))
+    ∙ ap (λ l. codes " vmalle1is" ++ l) (sym (take_rest s 10))
+
+pub op_vaale1is : (s : List ℕ) → 9 ≤ length s → get_or s 0 0 ≡ 32 → get_or s 1 0 ≡ 118 → get_or s 2 0 ≡ 97
+    → get_or s 3 0 ≡ 97 → get_or s 4 0 ≡ 108 → get_or s 5 0 ≡ 101 → get_or s 6 0 ≡ 49 → get_or s 7 0 ≡ 105
+    → get_or s 8 0 ≡ 115
+    → s ≡ 32 ∷ (op_word Vaale1is ++ take (length s - 9) (drop 9 s))
+op_vaale1is s some h0 h1 h2 h3 h4 h5 h6 h7 h8 =
+    begins (codes " vaale1is") s some (h0, (h1, (h2, (h3, (h4, (h5, (h6, (h7, (h8, tt)))))))))
+    ∙ ap (λ l. codes " vaale1is" ++ l) (sym (take_rest s 9))
+
+pub op_alle2is : (s : List ℕ) → 8 ≤ length s → get_or s 0 0 ≡ 32 → get_or s 1 0 ≡ 97 → get_or s 2 0 ≡ 108
+    → get_or s 3 0 ≡ 108 → get_or s 4 0 ≡ 101 → get_or s 5 0 ≡ 50 → get_or s 6 0 ≡ 105 → get_or s 7 0 ≡ 115
+    → s ≡ 32 ∷ (op_word Alle2is ++ take (length s - 8) (drop 8 s))
+op_alle2is s some h0 h1 h2 h3 h4 h5 h6 h7 =
+    begins (codes " alle2is") s some (h0, (h1, (h2, (h3, (h4, (h5, (h6, (h7, tt))))))))
+    ∙ ap (λ l. codes " alle2is" ++ l) (sym (take_rest s 8))
+
+pub op_aside1is : (s : List ℕ) → 9 ≤ length s → get_or s 0 0 ≡ 32 → get_or s 1 0 ≡ 97 → get_or s 2 0 ≡ 115
+    → get_or s 3 0 ≡ 105 → get_or s 4 0 ≡ 100 → get_or s 5 0 ≡ 101 → get_or s 6 0 ≡ 49 → get_or s 7 0 ≡ 105
+    → get_or s 8 0 ≡ 115
+    → s ≡ 32 ∷ (op_word Aside1is ++ take (length s - 9) (drop 9 s))
+op_aside1is s some h0 h1 h2 h3 h4 h5 h6 h7 h8 =
+    begins (codes " aside1is") s some (h0, (h1, (h2, (h3, (h4, (h5, (h6, (h7, (h8, tt)))))))))
+    ∙ ap (λ l. codes " aside1is" ++ l) (sym (take_rest s 9))
+
+pub ruleset further_operations = (op_vmalle1is, op_alle2is)
+
+pub ruleset operand_operations = (op_vaale1is, op_aside1is)
+
+-- the registers
+
+pub reg_ttbr0_el1 : (s : List ℕ) → 10 ≤ length s → get_or s 0 0 ≡ 32 → get_or s 1 0 ≡ 116 → get_or s 2 0 ≡ 116
+    → get_or s 3 0 ≡ 98 → get_or s 4 0 ≡ 114 → get_or s 5 0 ≡ 48 → get_or s 6 0 ≡ 95 → get_or s 7 0 ≡ 101
+    → get_or s 8 0 ≡ 108 → get_or s 9 0 ≡ 49
+    → s ≡ 32 ∷ (reg_word Ttbr0El1 ++ take (length s - 10) (drop 10 s))
+reg_ttbr0_el1 s some h0 h1 h2 h3 h4 h5 h6 h7 h8 h9 =
+    begins (codes " ttbr0_el1") s some (h0, (h1, (h2, (h3, (h4, (h5, (h6, (h7, (h8, (h9, tt))))))))))
+    ∙ ap (λ l. codes " ttbr0_el1" ++ l) (sym (take_rest s 10))
+
+pub reg_ttbr1_el1 : (s : List ℕ) → 10 ≤ length s → get_or s 0 0 ≡ 32 → get_or s 1 0 ≡ 116 → get_or s 2 0 ≡ 116
+    → get_or s 3 0 ≡ 98 → get_or s 4 0 ≡ 114 → get_or s 5 0 ≡ 49 → get_or s 6 0 ≡ 95 → get_or s 7 0 ≡ 101
+    → get_or s 8 0 ≡ 108 → get_or s 9 0 ≡ 49
+    → s ≡ 32 ∷ (reg_word Ttbr1El1 ++ take (length s - 10) (drop 10 s))
+reg_ttbr1_el1 s some h0 h1 h2 h3 h4 h5 h6 h7 h8 h9 =
+    begins (codes " ttbr1_el1") s some (h0, (h1, (h2, (h3, (h4, (h5, (h6, (h7, (h8, (h9, tt))))))))))
+    ∙ ap (λ l. codes " ttbr1_el1" ++ l) (sym (take_rest s 10))
+
+pub reg_vttbr_el2 : (s : List ℕ) → 10 ≤ length s → get_or s 0 0 ≡ 32 → get_or s 1 0 ≡ 118 → get_or s 2 0 ≡ 116
+    → get_or s 3 0 ≡ 116 → get_or s 4 0 ≡ 98 → get_or s 5 0 ≡ 114 → get_or s 6 0 ≡ 95 → get_or s 7 0 ≡ 101
+    → get_or s 8 0 ≡ 108 → get_or s 9 0 ≡ 50
+    → s ≡ 32 ∷ (reg_word VttbrEl2 ++ take (length s - 10) (drop 10 s))
+reg_vttbr_el2 s some h0 h1 h2 h3 h4 h5 h6 h7 h8 h9 =
+    begins (codes " vttbr_el2") s some (h0, (h1, (h2, (h3, (h4, (h5, (h6, (h7, (h8, (h9, tt))))))))))
+    ∙ ap (λ l. codes " vttbr_el2" ++ l) (sym (take_rest s 10))
+
+pub reg_ttbr0_el2 : (s : List ℕ) → 10 ≤ length s → get_or s 0 0 ≡ 32 → get_or s 1 0 ≡ 116 → get_or s 2 0 ≡ 116
+    → get_or s 3 0 ≡ 98 → get_or s 4 0 ≡ 114 → get_or s 5 0 ≡ 48 → get_or s 6 0 ≡ 95 → get_or s 7 0 ≡ 101
+    → get_or s 8 0 ≡ 108 → get_or s 9 0 ≡ 50
+    → s ≡ 32 ∷ (reg_word Ttbr0El2 ++ take (length s - 10) (drop 10 s))
+reg_ttbr0_el2 s some h0 h1 h2 h3 h4 h5 h6 h7 h8 h9 =
+    begins (codes " ttbr0_el2") s some (h0, (h1, (h2, (h3, (h4, (h5, (h6, (h7, (h8, (h9, tt))))))))))
+    ∙ ap (λ l. codes " ttbr0_el2" ++ l) (sym (take_rest s 10))
+
+pub ruleset el1_registers = (reg_ttbr0_el1, reg_ttbr1_el1)
+
+pub ruleset el2_registers = (reg_vttbr_el2, reg_ttbr0_el2)
+
+-- what stands behind a space, in the form of a slice
+pub spaced : (s front a : List ℕ) → 1 ≤ length s → get_or s 0 0 ≡ 32
+    → take (length s - 1) (drop 1 s) ≡ front ++ a → s ≡ 32 ∷ (front ++ a)
+spaced s front a some h0 e = begins (32 ∷ []) s some (h0, tt) ∙ ap (λ l. 32 ∷ l) (sym (take_rest s 1) ∙ e)
+
+-- the fields of further events
+
+pub dmb_fields : (pe : ℕ) (dsb : Dsb) (s a b : List ℕ) → s ≡ decimal pe ++ a → a ≡ 32 ∷ (dsb_word dsb ++ b)
+    → 100 ∷ 109 ∷ 98 ∷ 32 ∷ s ≡ joined (event_fields (event.Dmb pe dsb)) ++ b
+dmb_fields pe dsb s a b first second =
+    ap (λ l. 100 ∷ 109 ∷ 98 ∷ 32 ∷ l) (two_fields (decimal pe) (dsb_word dsb) s a b first second)
+
+pub lock_fields : (pe : ℕ) (lock : ℕ) (s a b : List ℕ) → s ≡ decimal pe ++ a → a ≡ 32 ∷ (decimal lock ++ b)
+    → 108 ∷ 111 ∷ 99 ∷ 107 ∷ 32 ∷ s ≡ joined (event_fields (event.Lock pe lock)) ++ b
+lock_fields pe lock s a b first second =
+    ap (λ l. 108 ∷ 111 ∷ 99 ∷ 107 ∷ 32 ∷ l) (two_fields (decimal pe) (decimal lock) s a b first second)
+
+pub unlock_fields : (pe : ℕ) (lock : ℕ) (s a b : List ℕ) → s ≡ decimal pe ++ a → a ≡ 32 ∷ (decimal lock ++ b)
+    → 117 ∷ 110 ∷ 108 ∷ 111 ∷ 99 ∷ 107 ∷ 32 ∷ s ≡ joined (event_fields (event.Unlock pe lock)) ++ b
+unlock_fields pe lock s a b first second =
+    ap (λ l. 117 ∷ 110 ∷ 108 ∷ 111 ∷ 99 ∷ 107 ∷ 32 ∷ l) (two_fields (decimal pe) (decimal lock) s a b first second)
+
+pub msr_fields : (pe : ℕ) (reg : Reg) (value : ℕ) (s a b c : List ℕ) → s ≡ decimal pe ++ a
+    → a ≡ 32 ∷ (reg_word reg ++ b) → b ≡ 32 ∷ (hex value ++ c)
+    → 109 ∷ 115 ∷ 114 ∷ 32 ∷ s ≡ joined (event_fields (event.Msr pe reg value)) ++ c
+msr_fields pe reg value s a b c first second third =
+    ap (λ l. 109 ∷ 115 ∷ 114 ∷ 32 ∷ l) (three_fields (decimal pe) (reg_word reg) (hex value) s a b c first second third)
+
+-- the further words of event lines
+
+pub word_dmb : (s front a : List ℕ) → 4 ≤ length s → get_or s 0 0 ≡ 100 → get_or s 1 0 ≡ 109 → get_or s 2 0 ≡ 98
+    → get_or s 3 0 ≡ 32
+    → 100 ∷ 109 ∷ 98 ∷ 32 ∷ take (length s - 4) (drop 4 s) ≡ front ++ a → s ≡ front ++ a
+word_dmb s front a some h0 h1 h2 h3 e =
+    begins (codes "dmb ") s some (h0, (h1, (h2, (h3, tt))))
+    ∙ ap (λ l. 100 ∷ 109 ∷ 98 ∷ 32 ∷ l) (sym (take_rest s 4)) ∙ e
+
+pub word_msr : (s front a : List ℕ) → 4 ≤ length s → get_or s 0 0 ≡ 109 → get_or s 1 0 ≡ 115 → get_or s 2 0 ≡ 114
+    → get_or s 3 0 ≡ 32
+    → 109 ∷ 115 ∷ 114 ∷ 32 ∷ take (length s - 4) (drop 4 s) ≡ front ++ a → s ≡ front ++ a
+word_msr s front a some h0 h1 h2 h3 e =
+    begins (codes "msr ") s some (h0, (h1, (h2, (h3, tt))))
+    ∙ ap (λ l. 109 ∷ 115 ∷ 114 ∷ 32 ∷ l) (sym (take_rest s 4)) ∙ e
+
+pub word_lock : (s front a : List ℕ) → 5 ≤ length s → get_or s 0 0 ≡ 108 → get_or s 1 0 ≡ 111 → get_or s 2 0 ≡ 99
+    → get_or s 3 0 ≡ 107 → get_or s 4 0 ≡ 32
+    → 108 ∷ 111 ∷ 99 ∷ 107 ∷ 32 ∷ take (length s - 5) (drop 5 s) ≡ front ++ a → s ≡ front ++ a
+word_lock s front a some h0 h1 h2 h3 h4 e =
+    begins (codes "lock ") s some (h0, (h1, (h2, (h3, (h4, tt)))))
+    ∙ ap (λ l. 108 ∷ 111 ∷ 99 ∷ 107 ∷ 32 ∷ l) (sym (take_rest s 5)) ∙ e
+
+pub word_unlock : (s front a : List ℕ) → 7 ≤ length s → get_or s 0 0 ≡ 117 → get_or s 1 0 ≡ 110 → get_or s 2 0 ≡ 108
+    → get_or s 3 0 ≡ 111 → get_or s 4 0 ≡ 99 → get_or s 5 0 ≡ 107 → get_or s 6 0 ≡ 32
+    → 117 ∷ 110 ∷ 108 ∷ 111 ∷ 99 ∷ 107 ∷ 32 ∷ take (length s - 7) (drop 7 s) ≡ front ++ a → s ≡ front ++ a
+word_unlock s front a some h0 h1 h2 h3 h4 h5 h6 e =
+    begins (codes "unlock ") s some (h0, (h1, (h2, (h3, (h4, (h5, (h6, tt)))))))
+    ∙ ap (λ l. 117 ∷ 110 ∷ 108 ∷ 111 ∷ 99 ∷ 107 ∷ 32 ∷ l) (sym (take_rest s 7)) ∙ e
+
+pub ruleset further_words = (word_dmb, word_msr, word_dsb, word_tlbi)

@@ -13,6 +13,8 @@ use Rattle.std.proofs.Math.Nat.{pow-suc}
 use Rattle.std.specs.Option.{option_and_then}
 use Rattle.std.specs.Prelude.{bytes_eq}
 use Rattle.std.proofs.lemmas.Slice.Eq.{bytes_eq-Decides}
+use Rattle.bbm_lemmas.proofs.Tautologies.{proved}
+use Rattle.bbm_lemmas.proofs.Tautologies.Claim.{Both, If, Is}
 use Rattle.bbm_events.specs.Spelling.{where_spelled, decimal_value, hex_value}
 use Rattle.bbm_log_grammar.specs.Digits.{is_lower_digit, next_number, number_after, number_of}
 
@@ -73,9 +75,7 @@ glyph_nonzero : (d : ℕ) → 0 < d → d < 16 → glyph d ≢ 48
 glyph_nonzero d some h = λ e. grind (arith, nat_tests)
 
 both_true : (a b : Bool) → (a && b) ≡ true → (a ≡ true) × (b ≡ true)
-both_true true true e = (refl, refl)
-both_true true false e = cc
-both_true false b e = cc
+both_true = proved 2 (λ a b. If (Is (a && b) true) (Both (Is a true) (Is b true))) refl
 
 module _ (base : ℕ) (is : IsBase base) where
   abbrev spell : ℕ → ℕ → List ℕ → List ℕ

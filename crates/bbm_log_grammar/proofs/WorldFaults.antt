@@ -1,13 +1,14 @@
 -- A header whose world isn't in its ranges is none, whatever follows.
-use Rattle.std.proofs.Common.{◌≡◌, [], ◌∷◌, Bool, true, false, ◌&&◌, cond, refl, ap, Ok, Err}
+use Rattle.std.proofs.Common.{◌≡◌, [], ◌∷◌, Bool, false, ◌&&◌, cond, refl, ap, Ok, Err}
+use Rattle.bbm_lemmas.proofs.Tautologies.{proved}
+use Rattle.bbm_lemmas.proofs.Tautologies.Claim.{Is}
 use Rattle.bbm_regimes.specs.World.{world_ok}
 use Rattle.bbm_events.specs.Heading.{Heading, heading_ok}
 use Rattle.bbm_events.specs.declared.malformed.Malformed.TheVariants.{BadHeader}
 use Rattle.bbm_events.specs.Lines.{Fields, checked}
 
 never : (a : Bool) → (a && false) ≡ false
-never true = refl
-never false = refl
+never = proved 1 (λ a. Is (a && false) false) refl
 
 pub unfit_world : (h : Heading) (rest : Fields) → world_ok h.world ≡ false → checked h rest ≡ Err BadHeader
 unfit_world h [] e = ap (λ (t : Bool). cond t (Ok h) (Err BadHeader)) unfit

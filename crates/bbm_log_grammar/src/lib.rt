@@ -6,6 +6,7 @@ mod claims;
 mod events;
 mod fields;
 mod firsts;
+mod further;
 mod headers;
 pub mod line;
 mod machine;

@@ -15,6 +15,7 @@ ghost use Rattle.bbm_log_grammar.specs.Ahead.{StandsFirst, first_set, label_part
 ghost use Rattle.bbm_log_grammar.specs.Digits.{is_lower_digit};
 
 use crate::firsts::inner;
+use crate::further::further_line;
 use crate::line::LabelText;
 use crate::numbers::decimal_digit;
 use crate::values::pe_of;
@@ -104,7 +105,7 @@ fn digits_ahead<'a>(bytes: &'a [u8]) -> Option<(u64, &'a [u8])>
 /// The number whose hex spelling stands behind a space at the front, and the bytes behind it.
 #[inline(always)]
 #[tactic(auto, using(crate::proofs::Ahead::hex_begun))]
-fn hex_ahead<'a>(bytes: &'a [u8]) -> Option<(u64, &'a [u8])>
+pub(crate) fn hex_ahead<'a>(bytes: &'a [u8]) -> Option<(u64, &'a [u8])>
     ensures { IfSome result (λ x. bytes.now ≡ 32 ∷ hex x.0 ++ x.1.now) }
 {
     match bytes {
@@ -119,7 +120,7 @@ fn hex_ahead<'a>(bytes: &'a [u8]) -> Option<(u64, &'a [u8])>
 /// The number of one or two decimal digits at the front, and the bytes behind it.
 #[inline(always)]
 #[tactic(auto, using(crate::proofs::Ahead::one_digit, crate::proofs::Ahead::two_digits))]
-fn decimal_ahead<'a>(bytes: &'a [u8]) -> Option<(u64, &'a [u8])>
+pub(crate) fn decimal_ahead<'a>(bytes: &'a [u8]) -> Option<(u64, &'a [u8])>
     ensures { IfSome result (λ x. bytes.now ≡ decimal x.0 ++ x.1.now) }
 {
     match bytes {
@@ -142,7 +143,7 @@ fn decimal_ahead<'a>(bytes: &'a [u8]) -> Option<(u64, &'a [u8])>
 
 /// The PE at the front, and the bytes behind it.
 #[inline(always)]
-fn pe_ahead<'a>(header: &Header, bytes: &'a [u8]) -> Option<(Pe, &'a [u8])>
+pub(crate) fn pe_ahead<'a>(header: &Header, bytes: &'a [u8]) -> Option<(Pe, &'a [u8])>
     ensures { IfSome result (λ x. (bytes.now ≡ decimal x.0 ++ x.1.now) × (is_pe header.now x.0 ≡ true)) }
 {
     let (number, rest) = decimal_ahead(bytes)?;
@@ -225,7 +226,7 @@ fn isb_ahead<'a>(header: &Header, bytes: &'a [u8]) -> Option<(Event, &'a [u8])>
 /// The option of a barrier behind a space at the front, and the bytes behind it.
 #[inline(always)]
 #[tactic(auto, using(crate::proofs::Ahead::option_ish, crate::proofs::Ahead::option_ishst))]
-fn option_ahead<'a>(bytes: &'a [u8]) -> Option<(Dsb, &'a [u8])>
+pub(crate) fn option_ahead<'a>(bytes: &'a [u8]) -> Option<(Dsb, &'a [u8])>
     ensures { IfSome result (λ x. bytes.now ≡ 32 ∷ dsb_word x.0 ++ x.1.now) }
 {
     match bytes {
@@ -342,6 +343,49 @@ fn event_ahead<'a>(header: &Header, bytes: &'a [u8]) -> Option<(Event, &'a [u8])
     }
 }
 
+/// The line of this event with its label, where the rest ends it, and the number of bytes before its newline.
+#[inline(always)]
+pub(crate) fn whole_line<'a>(
+    header: &Header,
+    bytes: &'a [u8],
+    event: Event,
+    rest: &'a [u8],
+) -> Option<(Event, Option<LabelText<'a>>, usize)>
+    requires front { bytes.now ≡ joined (event_fields event) ++ rest.now }
+    requires fits { fits_heading header.now event ≡ true }
+    ensures { IfSome result (λ x. StandsFirst header.now (item.Event x.0 x.1) x.2 bytes.now) }
+{
+    let _ = &header.version;
+    law_written_is_read();
+    law_written_is_a_line();
+    let Some((label, rest)) = end_ahead(header, rest) else {
+        return None;
+    };
+    Some((event, label, bytes.len() - rest.len() - 1))
+}
+
+/// What `quick_line` answers of the lines that most logs have.
+#[inline(always)]
+fn near_line<'a>(header: &Header, bytes: &'a [u8]) -> Option<(Event, Option<LabelText<'a>>, usize)>
+    ensures { IfSome result (λ x. StandsFirst header.now (item.Event x.0 x.1) x.2 bytes.now) }
+{
+    let Some((event, rest)) = event_ahead(header, bytes) else {
+        return None;
+    };
+    whole_line(header, bytes, event, rest)
+}
+
+/// What `further_line` answers, taken out of memory in this branch alone.
+#[inline(always)]
+fn far_line<'a>(header: &Header, bytes: &'a [u8]) -> Option<(Event, Option<LabelText<'a>>, usize)>
+    ensures { IfSome result (λ x. StandsFirst header.now (item.Event x.0 x.1) x.2 bytes.now) }
+{
+    match further_line(bytes, header) {
+        Some((event, label, count)) => Some((event, label, count)),
+        None => None,
+    }
+}
+
 /// The event of a line that lies whole at the front of these bytes, with its label, and the number of bytes before its
 /// newline. None says nothing: it comes for lines that few logs have, for a PE of three digits, and where fewer than 16
 /// bytes follow the mark of a number, or 32 that of a label. Each reader `R` has code of its own, so that it can be
@@ -353,14 +397,8 @@ pub fn quick_line<'a, R>(
 ) -> Option<(Event, Option<LabelText<'a>>, usize)>
     ensures { IfSome result (λ x. StandsFirst header.now (item.Event x.0 x.1) x.2 bytes.now) }
 {
-    let _ = &header.version;
-    law_written_is_read();
-    law_written_is_a_line();
-    let Some((event, rest)) = event_ahead(header, bytes) else {
-        return None;
-    };
-    let Some((label, rest)) = end_ahead(header, rest) else {
-        return None;
-    };
-    Some((event, label, bytes.len() - rest.len() - 1))
+    match near_line(header, bytes) {
+        Some((event, label, count)) => Some((event, label, count)),
+        None => far_line(header, bytes),
+    }
 }

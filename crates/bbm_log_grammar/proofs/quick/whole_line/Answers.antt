@@ -4,19 +4,18 @@ use Rattle.bbm_events.specs.Fits.{item_fits}
 use Rattle.bbm_events.specs.Heading.{Heading, heading_ok}
 use Rattle.bbm_events.specs.declared.event.Item.TheVariants as item
 use Rattle.bbm_log_grammar.proofs.Ahead.{stands_first}
-use Rattle.bbm_log_grammar.proofs.quick.quick_line.Goals as goal
+use Rattle.bbm_log_grammar.proofs.quick.whole_line.Goals as goal
 
 pub returns : goal.returns
-returns g c =
+returns c =
     let heading = c.args.header.now in
-    let event = c.in-Some.event in
-    let label = c.in-Some-end_ahead.label in
-    let first = c.in-Some.ensures in
-    let second = c.in-Some-end_ahead.ensures in
+    let event = c.args.event in
+    let label = c.in-Some.label in
+    let second = c.in-Some.ensures in
     let ok = subst (λ (h : Heading). heading_ok h ≡ true) c.header.view_is c.header.invariant in
-    let fits : item_fits heading (item.Event event label) ≡ true = rw (first.1, second.1) refl in
+    let fits : item_fits heading (item.Event event label) ≡ true = rw (c.requires.fits, second.1) refl in
     let line = c.law_written_is_a_line.ensures in
-    stands_first heading event label c.args.bytes.now c.in-Some.rest.now c.in-Some-end_ahead.rest.now _ first.0 second.0
+    stands_first heading event label c.args.bytes.now c.args.rest.now c.in-Some.rest.now _ c.requires.front second.0
     refl
     (c.law_written_is_read.ensures.item heading (item.Event event label) ok fits) fits
     (line.item_plain heading (item.Event event label) fits) (line.item_short heading (item.Event event label) ok fits)
