@@ -1,9 +1,10 @@
 -- Bytes taken one after another, and bytes added one after another.
-use Rattle.std.proofs.Common.{◌≡◌, ◌≢◌, ℕ, ◌+◌, ◌-◌, List, [], ◌∷◌, ◌++◌, length, take, drop, Bool, true, false, ◌&&◌}
-use Rattle.std.proofs.Common.{not, nat_eq, Option, None, Some, refl, ap, sym, ◌∙◌, append_assoc}
+use Rattle.std.proofs.Common.{◌≡◌, ◌≢◌, ℕ, ◌+◌, ◌-◌, List, [], ◌∷◌, ◌++◌, length, take, drop, true}
+use Rattle.std.proofs.Common.{nat_eq, Option, None, Some, refl, ap, sym, ◌∙◌, append_assoc}
 use Rattle.std.proofs.lemmas.Bool.{ne_eqb}
 use Rattle.std.proofs.lemmas.List.{append-nil, take_rest, drop-drop, take-append-drop}
 use Rattle.std.proofs.Math.Seq.{take-add}
+use Rattle.bbm_lemmas.proofs.Bools.{guarded_wider}
 use Rattle.bbm_io.specs.Flow.{preceded, extended, plain}
 
 pub preceded-nil : (left : Option (List ℕ)) → preceded [] left ≡ left
@@ -18,14 +19,10 @@ preceded-append xs ys (Some left) = ap Some (sym (append_assoc xs ys left))
 pub took-more : (kept : List ℕ) (b : ℕ) (old mid new : Option (List ℕ)) → old ≡ preceded kept mid → mid ≡ preceded (b ∷ []) new → old ≡ preceded (kept ++ b ∷ []) new
 took-more kept b old mid new before after = before ∙ ap (preceded kept) after ∙ preceded-append kept (b ∷ []) new
 
-still_plain : (newline bs more : Bool) → (bs ≡ true → more ≡ true) → (not newline && bs) ≡ true → (not newline && more) ≡ true
-still_plain true bs more step all = all
-still_plain false bs more step all = step all
-
 pub plain-append : (bs : List ℕ) (b : ℕ) → plain bs ≡ true → b ≢ 10 → plain (bs ++ b ∷ []) ≡ true
 plain-append [] b all one = rw (ne_eqb b 10 one) refl
 plain-append (x ∷ bs) b all one =
-    still_plain (nat_eq x 10) (plain bs) (plain (bs ++ b ∷ [])) (λ rest. plain-append bs b rest one) all
+    guarded_wider (nat_eq x 10) (plain bs) (plain (bs ++ b ∷ [])) (λ rest. plain-append bs b rest one) all
 
 pub extended-nil : (held : Option (List ℕ)) → extended held [] ≡ held
 extended-nil None = refl

@@ -1,15 +1,18 @@
 -- The bytes before the first newline.
-use Rattle.std.proofs.Common.{◌≡◌, ℕ, zero, suc, ◌+◌, ◌-◌, ◌<◌, ◌≤◌, List, [], ◌∷◌, length, take, min, Option, None}
-use Rattle.std.proofs.Common.{Some, IfSome, Bool, true, false, cond, nat_eq, slice_index, get_or, refl, sym, ap, subst}
+use Rattle.std.proofs.Common.{◌≡◌, ℕ, zero, suc, ◌+◌, ◌-◌, ◌<◌, ◌≤◌, List, [], ◌∷◌, ◌++◌, length, take, min, Option}
+use Rattle.std.proofs.Common.{None, Some, IfSome, Bool, true, false, cond, nat_eq, slice_index, get_or, refl, sym, ap}
+use Rattle.std.proofs.Common.{subst}
 use Rattle.std.proofs.Common.{◌∙◌, inl, inr, arith}
-use Rattle.std.proofs.lemmas.Bool.{cases_eq, false≢true}
-use Rattle.std.proofs.lemmas.List.{length-take, take-take}
+use Rattle.std.proofs.lemmas.Bool.{cases_eq, eqb-true, false≢true}
+use Rattle.std.proofs.lemmas.List.{get_or-take, length-take, take-take, take_more}
+use Rattle.bbm_lemmas.proofs.Tautologies.{proved}
+use Rattle.bbm_lemmas.proofs.Tautologies.Claim.{If, Is, Never}
 use Rattle.memchr.specs.Find.{IsFirstByte, NoneBefore, Nowhere, Passes, TakesFirst, is_byte, places, places_from}
 use Rattle.bbm_io.specs.Flow.{plain}
+use Rattle.bbm_io.specs.Reading.{LiesWhole}
 
 other : (b : Bool) → ¬ (b ≡ true) → b ≡ false
-other true differs = absurd (differs refl)
-other false _ = refl
+other = proved 1 (λ b. If (If (Is b true) Never) (Is b false)) refl
 
 -- bytes of which none is a newline
 plain-front : (bytes : List ℕ) (at : ℕ) → at ≤ length bytes → ((k : ℕ) → k < at → nat_eq (slice_index bytes k) 10 ≡ false) → plain (take at bytes) ≡ true
@@ -25,6 +28,20 @@ plain-line (Some at) bytes m (none, here) =
     let within : at < min m (length bytes) = omega (arith, none.high, length-take m bytes) in
     let front = plain-front (take m bytes) at (omega (arith, none.high)) (λ k below. other _ (none.before k (omega arith) below)) in
     rw (← take-take at m bytes (omega (arith, within))) front
+
+-- the first newline of a front part of at most 201 bytes ends a line that lies whole
+pub lies-whole : (r : Option ℕ) (bytes : List ℕ) (m : ℕ) → IsFirstByte (is_byte 10) (take m bytes) r → m ≤ 201
+    → IfSome r (λ n. LiesWhole n bytes)
+lies-whole None bytes m first few = tt
+lies-whole (Some at) bytes m (none, here) few =
+    let within : at < min m (length bytes) = omega (arith, none.high, length-take m bytes) in
+    record {
+      newline = take_more bytes at 0 (omega (arith, within)) ∙ ap (λ (b : ℕ). take at bytes ++ b ∷ [])
+          (sym (get_or-take m bytes at 0 (omega (arith, within))) ∙ eqb-true (slice_index (take m bytes) at) 10 here);
+      no_newline = plain-line (Some at) bytes m (none, here);
+      short = omega (arith, within, few);
+      within = omega (arith, within);
+    }
 
 module _ (test : ℕ → Bool) (hay : List ℕ) where
   -- a place that doesn't pass, and those after it

@@ -45,6 +45,17 @@ Counts (Err ReadFault) was now =
 Counts (Err LogTooLong) was now =
     (length now.bytes ≤ 200) × (now.taken ≡ was.taken + length now.bytes) × (now.taken ≡ 2 ^ 40)
 
+-- where reading stands: the bytes of the line so far, how many were taken, and whether a call failed
+abbrev pub reading : List ℕ → ℕ → Bool → Reading
+reading bytes taken failed = record { bytes = bytes; taken = taken; failed = failed }
+
+-- What one call read, by its answer: what it took from the source, how many bytes it kept and counted, and that it kept
+-- no newline. The last two are what the source had left before and after.
+pub record Reads (result : Result LineOrEnd LineFault) (was now : Reading) (old new : Option (List ℕ)) : Type 0 where
+  pub took : Took result now.bytes old new
+  pub counts : Counts result was now
+  pub no_newline : plain now.bytes ≡ true
+
 -- The next line lies whole in the bytes at hand: it is so many of them, at most 200, and then a newline.
 pub record LiesWhole (count : ℕ) (hand : List ℕ) : Type 0 where
   pub newline : take (count + 1) hand ≡ take count hand ++ 10 ∷ []

@@ -1,6 +1,6 @@
 -- Sources and sinks over readers and writers of std.
-use Rattle.std.specs.Prelude.{ℕ, List, Option}
-use Rattle.std.specs.Io.KnownBytes.{prepend_known}
+use Rattle.std.specs.Prelude.{ℕ, ◌≡◌, ◌<◌, ◌≤◌, List, length, take, Option, Result, Ok, IfOk, OnErr}
+use Rattle.std.specs.Io.KnownBytes.{Appends, Consumes, IsAtEnd, Keeps, prepend_known}
 
 -- a source over a reader
 pub record Reader (R : Type 0) : Type 0 where
@@ -21,3 +21,17 @@ pub record Writer (W : Type 0) : Type 0 where
   pub writer : W
   -- how many of its calls failed, up to 2^64 - 1
   pub faults : ℕ
+
+-- A read answers how many bytes it put at the front of a buffer, which holds these bytes then, out of what is known to
+-- be left. Into a buffer with room it puts none only at the end; where it fails it takes none.
+pub record ReadsInto {E : Type 0} (result : Result ℕ E) (buf : List ℕ) (old new : Option (List ℕ)) : Type 0 where
+  pub bound : IfOk result (λ n. n ≤ length buf)
+  pub bytes : IfOk result (λ n. Consumes old new (take n buf))
+  pub end : result ≡ Ok 0 → 0 < length buf → IsAtEnd new
+  pub kept : OnErr result (Keeps old new)
+
+-- A write answers how many of the first bytes of a piece it added to what is known to be there, none where it fails.
+pub record Writes {E : Type 0} (result : Result ℕ E) (piece : List ℕ) (old new : Option (List ℕ)) : Type 0 where
+  pub bound : IfOk result (λ n. n ≤ length piece)
+  pub bytes : IfOk result (λ n. Appends old new (take n piece))
+  pub kept : OnErr result (Keeps old new)

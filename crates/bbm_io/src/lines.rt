@@ -2,10 +2,10 @@
 //! Source: project's own choice, where no other is named.
 
 ghost use Rattle.std.specs.Prelude.{◌≡◌, ◌+◌, ◌-◌, ◌<◌, ◌≤◌, ◌^◌, ◌≢◌, [], ◌∷◌, ◌++◌, take, drop, IfSome, length, true};
-ghost use Rattle.std.specs.Prelude.{false, is_err, Ok, Err, OnErr};
-ghost use Rattle.bbm_io.specs.Faults.{Rose};
+ghost use Rattle.std.specs.Prelude.{false, is_err, Ok, Err};
+ghost use Rattle.bbm_io.specs.Faults.{CountsFaultsIf, Rose};
 ghost use Rattle.bbm_io.specs.Flow.{preceded, plain};
-ghost use Rattle.bbm_io.specs.Reading.{Reading, Took, Counts, LiesWhole, shown};
+ghost use Rattle.bbm_io.specs.Reading.{LiesWhole, Reads, Took, reading, shown};
 ghost use Rattle.bbm_io.specs.Byte.{Gave};
 ghost use Rattle.memchr.specs.Find.{IsFirstByte, is_byte};
 
@@ -82,14 +82,10 @@ impl Lines {
     /// of a line and the 201st byte of a line that is too long. After a fault no further line is read.
     pub fn next<S: Source>(&mut self, src: &mut S) -> Result<LineOrEnd, LineFault>
         requires { self.old.failed ≡ false }
-        ensures took { Took result self.new.bytes (S.left src.old) (S.left src.new) }
-        ensures counts { Counts result self.old self.new }
-        ensures plain { plain self.new.bytes ≡ true }
+        ensures reads { Reads result self.old self.new (S.left src.old) (S.left src.new) }
         ensures failed { self.new.failed ≡ is_err result }
-        ensures read_fault { result ≡ Err LineFault.ReadFault → Rose (S.faults src.old) (S.faults src.new) }
+        ensures fault_count { CountsFaultsIf (result ≡ Err LineFault.ReadFault) (S.faults src.old) (S.faults src.new) }
         ensures quiet { ¬ (Rose (S.faults src.old) (S.faults src.new)) → result ≢ Err LineFault.ReadFault }
-        ensures sound { result ≢ Err LineFault.ReadFault → S.faults src.new ≡ S.faults src.old }
-        ensures never_falls { S.faults src.old ≤ S.faults src.new }
     {
         self.line.clear();
         let answer = next_line(&mut self.line, &mut self.taken, src);
@@ -203,10 +199,7 @@ fn first_newline(bytes: &[u8]) -> Option<usize>
 /// The number of bytes before the first newline, where there are at most 200.
 #[inline(never)]
 fn line_at_hand(bytes: &[u8]) -> Option<usize>
-    ensures newline { IfSome result (λ n. take (n + 1) bytes.now ≡ take n bytes.now ++ 10 ∷ []) }
-    ensures plain { IfSome result (λ n. plain (take n bytes.now) ≡ true) }
-    ensures short { IfSome result (λ n. n ≤ 200) }
-    ensures within { IfSome result (λ n. n + 1 ≤ length bytes.now) }
+    ensures { IfSome result (λ n. LiesWhole n bytes.now) }
 {
     first_newline(&bytes[..bytes.len().min(LINE_BYTES + 1)])
 }
@@ -219,14 +212,9 @@ fn next_line<S: Source>(
 ) -> Result<LineOrEnd, LineFault>
     requires empty { line.old.items ≡ [] }
     requires within { taken.old ≤ 2 ^ 40 }
-    ensures took { Took result line.new.items (S.left src.old) (S.left src.new) }
-    ensures counts { let was : Reading = record { bytes = line.old.items; taken = taken.old; failed = false } in
-        let now : Reading = record { bytes = line.new.items; taken = taken.new; failed = is_err result } in
-        Counts result was now }
-    ensures plain { plain line.new.items ≡ true }
-    ensures read_fault { result ≡ Err LineFault.ReadFault → Rose (S.faults src.old) (S.faults src.new) }
-    ensures sound { result ≢ Err LineFault.ReadFault → S.faults src.new ≡ S.faults src.old }
-    ensures never_falls { S.faults src.old ≤ S.faults src.new }
+    ensures reads { Reads result (reading line.old.items taken.old false)
+        (reading line.new.items taken.new (is_err result)) (S.left src.old) (S.left src.new) }
+    ensures fault_count { CountsFaultsIf (result ≡ Err LineFault.ReadFault) (S.faults src.old) (S.faults src.new) }
 {
     if take_line(line, taken, src) {
         return Ok(LineOrEnd::Line);
@@ -260,9 +248,7 @@ enum Next {
 #[tactic(auto, using(crate::proofs::Flow::flow))]
 fn next_byte<S: Source>(src: &mut S) -> Next
     ensures gave { Gave result (S.left src.old) (S.left src.new) }
-    ensures fault { result ≡ Next.Fault → Rose (S.faults src.old) (S.faults src.new) }
-    ensures sound { result ≢ Next.Fault → S.faults src.new ≡ S.faults src.old }
-    ensures never_falls { S.faults src.old ≤ S.faults src.new }
+    ensures fault_count { CountsFaultsIf (result ≡ Next.Fault) (S.faults src.old) (S.faults src.new) }
 {
     let mut buf = [0];
     match src.read(&mut buf) {
@@ -281,14 +267,9 @@ fn read_line<S: Source>(
 ) -> Result<LineOrEnd, LineFault>
     requires empty { line.old.items ≡ [] }
     requires within { taken.old ≤ 2 ^ 40 }
-    ensures took { Took result line.new.items (S.left src.old) (S.left src.new) }
-    ensures counts { let was : Reading = record { bytes = line.old.items; taken = taken.old; failed = false } in
-        let now : Reading = record { bytes = line.new.items; taken = taken.new; failed = is_err result } in
-        Counts result was now }
-    ensures plain { plain line.new.items ≡ true }
-    ensures read_fault { result ≡ Err LineFault.ReadFault → Rose (S.faults src.old) (S.faults src.new) }
-    ensures sound { result ≢ Err LineFault.ReadFault → S.faults src.new ≡ S.faults src.old }
-    ensures never_falls { S.faults src.old ≤ S.faults src.new }
+    ensures reads { Reads result (reading line.old.items taken.old false)
+        (reading line.new.items taken.new (is_err result)) (S.left src.old) (S.left src.new) }
+    ensures fault_count { CountsFaultsIf (result ≡ Err LineFault.ReadFault) (S.faults src.old) (S.faults src.new) }
 {
     while *taken < LOG_BYTES {
         match next_byte(src) {

@@ -3,7 +3,7 @@
 ghost use Rattle.std.specs.Prelude.{◌≡◌, ℕ, ◌+◌, ◌-◌, ◌^◌, ◌<◌, ◌≤◌, ◌||◌, ◌&&◌, List, [], ◌++◌, if◌then◌else◌, length};
 ghost use Rattle.std.specs.Prelude.{take, min, nat_lt, nat_le, is_err, IsOk, IfOk, OnOk, OnErr, Option, None, Some, Ok};
 ghost use Rattle.std.specs.Prelude.{vec_len, vec_capacity};
-ghost use Rattle.bbm_io.specs.Faults.{Rose};
+ghost use Rattle.bbm_io.specs.Faults.{CountsFaults, Rose};
 ghost use Rattle.bbm_io.specs.Flow.{extended};
 ghost use Rattle.bbm_io.specs.Memory.{fails_next};
 
@@ -25,9 +25,7 @@ pub trait Sink {
         ensures some { 0 < length piece.now → IfOk result (λ n. 1 ≤ n) }
         ensures bytes { IfOk result (λ n. held self.new ≡ extended (held self.old) (take n piece.now)) }
         ensures untaken { OnErr result (held self.new ≡ held self.old) }
-        ensures failed { OnErr result (Rose (faults self.old) (faults self.new)) }
-        ensures sound { OnOk result (faults self.new ≡ faults self.old) }
-        ensures never_falls { faults self.old ≤ faults self.new };
+        ensures fault_count { CountsFaults result (faults self.old) (faults self.new) };
 }
 
 /// A sink that takes each piece whole and keeps none of it. Its calls never fail: its count of faults
@@ -150,10 +148,8 @@ pub fn put<K: Sink>(out: &mut K, piece: &[u8]) -> Result<(), Failed>
     ensures whole { OnOk result (K.held out.new ≡ extended (K.held out.old) piece.now) }
     ensures part { OnErr result ((n : ℕ) × (n < length piece.now)
         × (K.held out.new ≡ extended (K.held out.old) (take n piece.now))) }
-    ensures failed { OnErr result (Rose (K.faults out.old) (K.faults out.new)) }
-    ensures sound { OnOk result (K.faults out.new ≡ K.faults out.old) }
+    ensures fault_count { CountsFaults result (K.faults out.old) (K.faults out.new) }
     ensures quiet { ¬ (Rose (K.faults out.old) (K.faults out.new)) → IsOk result }
-    ensures never_falls { K.faults out.old ≤ K.faults out.new }
 {
     let mut done = 0;
     while done < piece.len() {

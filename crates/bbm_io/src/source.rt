@@ -1,9 +1,9 @@
 //! Sources of bytes: the trait, and two sources in memory.
 
 ghost use Rattle.std.specs.Prelude.{◌≡◌, ℕ, ◌+◌, ◌-◌, ◌^◌, ◌<◌, ◌≤◌, ◌⊎◌, List, [], ◌++◌, if◌then◌else◌, length, take};
-ghost use Rattle.std.specs.Prelude.{drop, min, true, false, is_err, IfOk, OnOk, OnErr, Option, Some, Ok, vec_len};
-ghost use Rattle.bbm_io.specs.Faults.{Rose};
-ghost use Rattle.bbm_io.specs.Flow.{preceded, AtEnd, IsAllOf};
+ghost use Rattle.std.specs.Prelude.{drop, min, false, is_err, IfOk, OnErr, Option, Some, Ok, vec_len};
+ghost use Rattle.bbm_io.specs.Faults.{CountsFaults};
+ghost use Rattle.bbm_io.specs.Flow.{preceded, AtEnd, IsAllOf, TellsMore};
 ghost use Rattle.bbm_io.specs.Memory.{fails_next};
 
 use std::marker::Model;
@@ -32,9 +32,7 @@ pub trait Source {
         ensures bytes { IfOk result (λ n. left self.old ≡ preceded (take n buf.new) (left self.new)) }
         ensures end { result ≡ Ok 0 → 0 < length buf.new → AtEnd (left self.new) }
         ensures unread { OnErr result (left self.new ≡ left self.old) }
-        ensures failed { OnErr result (Rose (faults self.old) (faults self.new)) }
-        ensures sound { OnOk result (faults self.new ≡ faults self.old) }
-        ensures never_falls { faults self.old ≤ faults self.new };
+        ensures fault_count { CountsFaults result (faults self.old) (faults self.new) };
 
     /// The bytes that were read ahead and not yet taken, the next one first.
     fn ahead(&self) -> &[u8]
@@ -54,14 +52,10 @@ pub trait Source {
     fn more(&mut self) -> Result<bool, Failed>
         ensures untaken { left self.new ≡ left self.old }
         ensures behind { (further : List ℕ) × (at_hand self.new ≡ at_hand self.old ++ further) }
-        ensures some { result ≡ Ok true → length (at_hand self.old) < length (at_hand self.new) }
-        ensures none { result ≡ Ok false → at_hand self.new ≡ at_hand self.old }
+        ensures told { TellsMore result (at_hand self.old) (at_hand self.new) }
         ensures end { result ≡ Ok false
             → (room self.old ≤ length (at_hand self.old)) ⊎ IsAllOf (at_hand self.new) (left self.new) }
-        ensures unread { OnErr result (at_hand self.new ≡ at_hand self.old) }
-        ensures failed { OnErr result (Rose (faults self.old) (faults self.new)) }
-        ensures sound { OnOk result (faults self.new ≡ faults self.old) }
-        ensures never_falls { faults self.old ≤ faults self.new };
+        ensures fault_count { CountsFaults result (faults self.old) (faults self.new) };
 }
 
 /// A source over memory whose calls never fail: its count of faults is 0. It tells what is left, and has

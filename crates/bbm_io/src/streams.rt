@@ -1,10 +1,11 @@
 //! Sources and sinks over readers and writers of std, as far as these tell their bytes.
 
-ghost use Rattle.std.specs.Prelude.{◌≡◌, ℕ, ◌+◌, ◌-◌, ◌<◌, ◌≤◌, ◌⊎◌, List, [], ◌++◌, length, take, drop, min};
-ghost use Rattle.std.specs.Prelude.{slice_range, true, false, IfOk, OnOk, OnErr, None, Ok};
-ghost use Rattle.std.specs.Io.KnownBytes.{Keeps, Appends, Consumes, IsAtEnd};
-ghost use Rattle.bbm_io.specs.Faults.{Rose};
-ghost use Rattle.bbm_io.specs.Streams.{unread};
+ghost use Rattle.std.specs.Prelude.{◌≡◌, ℕ, ◌+◌, ◌-◌, ◌<◌, ◌≤◌, List, [], ◌++◌, length, take, drop, min};
+ghost use Rattle.std.specs.Prelude.{slice_range, false, IfOk, OnOk, OnErr, None, Ok};
+ghost use Rattle.std.specs.Io.KnownBytes.{Keeps, Consumes, IsAtEnd};
+ghost use Rattle.bbm_io.specs.Faults.{CountsFaults};
+ghost use Rattle.bbm_io.specs.Flow.{TellsMore};
+ghost use Rattle.bbm_io.specs.Streams.{ReadsInto, Writes, unread};
 
 use crate::sink::Sink;
 use crate::source::{Failed, Source, copy_front};
@@ -29,6 +30,7 @@ pub struct StdSource<R> {
 
 impl<R> Model for StdSource<R> {
     ghost use Rattle.std.specs.Prelude.{◌≤◌, slice_range};
+    ghost use Rattle.bbm_io.specs.Flow.{TellsMore};
     ghost use Rattle.bbm_io.specs.Streams.{Reader};
 
     ghost Value = { Reader R };
@@ -56,10 +58,7 @@ impl<R: Read> StdSource<R> {
 /// One read into `buf`, made again where a signal interrupts it.
 #[tactic(auto, using(crate::proofs::Readers::readers))]
 fn read_once<R: Read>(reader: &mut R, buf: &mut [u8]) -> Result<usize, Failed>
-    ensures bound { IfOk result (λ n. n ≤ length buf.new) }
-    ensures bytes { IfOk result (λ n. Consumes (R.remaining reader.old) (R.remaining reader.new) (take n buf.new)) }
-    ensures end { result ≡ Ok 0 → 0 < length buf.new → IsAtEnd (R.remaining reader.new) }
-    ensures unread { OnErr result (Keeps (R.remaining reader.old) (R.remaining reader.new)) }
+    ensures { ReadsInto result buf.new (R.remaining reader.old) (R.remaining reader.new) }
 {
     for _ in 0..u64::MAX {
         match reader.read(buf) {
@@ -102,14 +101,10 @@ impl<R: Read> StdSource<R> {
     fn refill(&mut self) -> Result<bool, Failed>
         ensures behind { OnOk result ((further : List ℕ) × (self.new.at_hand ≡ self.old.at_hand ++ further)
             × Consumes (R.remaining self.old.reader) (R.remaining self.new.reader) further) }
-        ensures some { result ≡ Ok true → length self.old.at_hand < length self.new.at_hand }
-        ensures none { result ≡ Ok false → self.new.at_hand ≡ self.old.at_hand }
+        ensures told { TellsMore result self.old.at_hand self.new.at_hand }
         ensures end { result ≡ Ok false → length self.old.at_hand < 4096 → IsAtEnd (R.remaining self.new.reader) }
-        ensures unread { OnErr result (self.new.at_hand ≡ self.old.at_hand) }
         ensures kept { OnErr result (Keeps (R.remaining self.old.reader) (R.remaining self.new.reader)) }
-        ensures failed { OnErr result (Rose self.old.faults self.new.faults) }
-        ensures sound { OnOk result (self.new.faults ≡ self.old.faults) }
-        ensures never_falls { self.old.faults ≤ self.new.faults }
+        ensures fault_count { CountsFaults result self.old.faults self.new.faults }
     {
         let count = self.end - self.at;
         move_to_front(&mut self.buffer, self.at, self.end);
@@ -153,16 +148,10 @@ impl<R: Read> Source for StdSource<R> {
     /// error of the reader is told as `Failed`, and then nothing was taken.
     #[tactic(auto, using(crate::proofs::Readers::readers))]
     fn read(&mut self, buf: &mut [u8]) -> Result<usize, Failed>
-        ensures bound { IfOk result (λ n. n ≤ length buf.new) }
-        ensures taken { IfOk result
-            (λ n. Consumes (unread R.remaining self.old) (unread R.remaining self.new) (take n buf.new)) }
-        ensures end { result ≡ Ok 0 → 0 < length buf.new → IsAtEnd (unread R.remaining self.new) }
-        ensures kept { OnErr result (Keeps (unread R.remaining self.old) (unread R.remaining self.new)) }
+        ensures reads { ReadsInto result buf.new (unread R.remaining self.old) (unread R.remaining self.new) }
         ensures spared { 0 < length self.old.at_hand → self.new.reader ≡ self.old.reader }
         ensures nothing_asked { buf.new ≡ [] → self.new ≡ self.old }
-        ensures failed { OnErr result (Rose self.old.faults self.new.faults) }
-        ensures sound { OnOk result (self.new.faults ≡ self.old.faults) }
-        ensures never_falls { self.old.faults ≤ self.new.faults }
+        ensures fault_count { CountsFaults result self.old.faults self.new.faults }
     {
         if self.at == self.end && !buf.is_empty() {
             self.refill()?;
@@ -190,13 +179,9 @@ impl<R: Read> Source for StdSource<R> {
     fn more(&mut self) -> Result<bool, Failed>
         ensures kept { Keeps (unread R.remaining self.old) (unread R.remaining self.new) }
         ensures behind { (further : List ℕ) × (self.new.at_hand ≡ self.old.at_hand ++ further) }
-        ensures some { result ≡ Ok true → length self.old.at_hand < length self.new.at_hand }
-        ensures none { result ≡ Ok false → self.new.at_hand ≡ self.old.at_hand }
+        ensures told { TellsMore result self.old.at_hand self.new.at_hand }
         ensures end { result ≡ Ok false → length self.old.at_hand < 4096 → IsAtEnd (R.remaining self.new.reader) }
-        ensures unread { OnErr result (self.new.at_hand ≡ self.old.at_hand) }
-        ensures failed { OnErr result (Rose self.old.faults self.new.faults) }
-        ensures sound { OnOk result (self.new.faults ≡ self.old.faults) }
-        ensures never_falls { self.old.faults ≤ self.new.faults }
+        ensures fault_count { CountsFaults result self.old.faults self.new.faults }
     {
         StdSource::refill(self)
     }
@@ -213,6 +198,7 @@ pub struct StdSink<W> {
 }
 
 impl<W> Model for StdSink<W> {
+    ghost use Rattle.bbm_io.specs.Flow.{TellsMore};
     ghost use Rattle.bbm_io.specs.Streams.{Writer};
 
     ghost Value = { Writer W };
@@ -232,9 +218,7 @@ impl<W: Write> StdSink<W> {
 /// One write, made again where a signal interrupts it.
 #[tactic(auto, using(crate::proofs::Readers::readers))]
 fn write_once<W: Write>(writer: &mut W, piece: &[u8]) -> Result<usize, Failed>
-    ensures bound { IfOk result (λ n. n ≤ length piece.now) }
-    ensures bytes { IfOk result (λ n. Appends (W.contents writer.old) (W.contents writer.new) (take n piece.now)) }
-    ensures unadded { OnErr result (Keeps (W.contents writer.old) (W.contents writer.new)) }
+    ensures { Writes result piece.now (W.contents writer.old) (W.contents writer.new) }
 {
     for _ in 0..u64::MAX {
         match writer.write(piece) {
@@ -255,14 +239,9 @@ impl<W: Write> Sink for StdSink<W> {
     /// piece of which it takes nothing, is told as `Failed`, and then nothing was added.
     #[tactic(auto, using(crate::proofs::Readers::readers))]
     fn write(&mut self, piece: &[u8]) -> Result<usize, Failed>
-        ensures bound { IfOk result (λ n. n ≤ length piece.now) }
+        ensures writes { Writes result piece.now (W.contents self.old.writer) (W.contents self.new.writer) }
         ensures some { 0 < length piece.now → IfOk result (λ n. 1 ≤ n) }
-        ensures added { IfOk result
-            (λ n. Appends (W.contents self.old.writer) (W.contents self.new.writer) (take n piece.now)) }
-        ensures kept { OnErr result (Keeps (W.contents self.old.writer) (W.contents self.new.writer)) }
-        ensures failed { OnErr result (Rose self.old.faults self.new.faults) }
-        ensures sound { OnOk result (self.new.faults ≡ self.old.faults) }
-        ensures never_falls { self.old.faults ≤ self.new.faults }
+        ensures fault_count { CountsFaults result self.old.faults self.new.faults }
     {
         match write_once(&mut self.writer, piece) {
             Ok(count) if count > 0 || piece.is_empty() => Ok(count),

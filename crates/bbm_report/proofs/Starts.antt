@@ -1,7 +1,8 @@
 -- How many pages a stage 2 root joins in a world that a header has.
-use Rattle.std.proofs.Common.{◌≡◌, Bool, true, false, cond, not, ◌&&◌, ◌||◌, ◌==◌, nat_le, IsTrue, refl, sym}
-use Rattle.std.proofs.Common.{true≢false}
+use Rattle.std.proofs.Common.{◌≡◌, Bool, true, cond, not, ◌&&◌, ◌||◌, ◌==◌, nat_le, IsTrue, refl}
 use Rattle.std.proofs.lemmas.Bool.{and_parts}
+use Rattle.bbm_lemmas.proofs.Tautologies.{proved}
+use Rattle.bbm_lemmas.proofs.Tautologies.Claim.{If, Is}
 use Rattle.bbm_regimes.specs.declared.regime.Kind.TheVariants.{S2}
 use Rattle.bbm_regimes.specs.declared.regime.World.{World}
 use Rattle.bbm_regimes.specs.declared.regime.World.TheVariants.{Hyp, Kernel}
@@ -16,10 +17,8 @@ world_is_ok heading ok =
 
 either : (zero one two four eight sixteen : Bool) → cond zero one (one || two || four || eight || sixteen) ≡ true
     → (one || not zero && (two || four || eight || sixteen)) ≡ true
-either true true b c d e k = refl
-either true false b c d e k = absurd (true≢false (sym k))
-either false true b c d e k = refl
-either false false b c d e k = k
+either = proved 6 (λ zero one two four eight sixteen. If (Is (cond zero one (one || two || four || eight || sixteen))
+    true) (Is (one || not zero && (two || four || eight || sixteen)) true)) refl
 
 joined_in : (world : World) → world_ok world ≡ true → can_join (start_of world S2) (page_count world S2) ≡ true
 joined_in (Hyp w) k =

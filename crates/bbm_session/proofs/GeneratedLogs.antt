@@ -3,8 +3,9 @@ use Rattle.std.proofs.Common.{◌≡◌, ℕ, zero, suc, ◌+◌, ◌<◌, ◌�
 use Rattle.std.proofs.Common.{None, Ok, refl, ap, sym, ◌∙◌, subst, arith, append_assoc}
 use Rattle.std.proofs.lemmas.Bool.Decides.{nat_tests}
 use Rattle.bbm_io.specs.Flow.{plain}
-use Rattle.bbm_gen.specs.Generated.{heading, event_at, log_of}
+use Rattle.bbm_gen.specs.Generated.{GeneratedKeepsRules, heading, event_at, log_of}
 use Rattle.bbm_events.specs.Fits.{fits_heading, item_fits}
+use Rattle.bbm_events.specs.LineLaws.{WrittenIsALine, WrittenIsRead}
 use Rattle.bbm_events.specs.Lines.{header_line, header_of, item_line, item_of}
 use Rattle.bbm_events.specs.Spelling.{is_plain}
 use Rattle.bbm_events.specs.declared.event.Item.{Item}
@@ -20,17 +21,11 @@ use Rattle.bbm_texts.specs.Generating.{gen_begin, gen_text}
 use Rattle.bbm_session.proofs.Judgements.{outcome_said, outcome-said}
 use Rattle.bbm_session.proofs.Stages.{ending-line}
 
--- what the crates below say of the events of a generated log, and of written lines
+-- the laws of the crates below on the events of a generated log, and on written lines
 pub record Facts (n count : ℕ) : Type 0 where
-  pub unbroken : (i : ℕ) → i < count → broken heading Patterns (log_of n i) (event_at n i) ≡ None
-  pub fits : (i : ℕ) → i < count → fits_heading heading (event_at n i) ≡ true
-  pub limits : (i : ℕ) → i < count → limit_of (log_of n i) (event_at n i) ≡ None
-  pub header_plain : is_plain (header_line heading) ≡ true
-  pub header_short : length (header_line heading) ≤ 200
-  pub header_read : header_of (header_line heading) ≡ Ok heading
-  pub item_plain : (item : Item) → item_fits heading item ≡ true → is_plain (item_line item) ≡ true
-  pub item_short : (item : Item) → item_fits heading item ≡ true → length (item_line item) ≤ 200
-  pub item_read : (item : Item) → item_fits heading item ≡ true → item_of heading (item_line item) ≡ Ok item
+  pub events : GeneratedKeepsRules n count
+  pub lines : WrittenIsALine
+  pub read : WrittenIsRead
 
 pub plain_is : (line : List ℕ) → plain line ≡ is_plain line
 plain_is [] = refl
@@ -63,7 +58,7 @@ module _ (n count : ℕ) (few : count ≤ 4294967293) (facts : Facts n count) wh
   item i = Event (event_at n i) None
 
   item_ok : (i : ℕ) → i < count → item_fits heading (item i) ≡ true
-  item_ok i below = rw (facts.fits i below) refl
+  item_ok i below = rw (facts.events.fits i below) refl
 
   end_ok : item_fits heading (End count) ≡ true
   end_ok = grind (arith, nat_tests, few)
@@ -72,13 +67,13 @@ module _ (n count : ℕ) (few : count ≤ 4294967293) (facts : Facts n count) wh
       → fold.line (i + 2) (AtEvents heading (log_of n i)) (item_line (item i)) ≡ Passes (AtEvents heading (log_of n (suc i)))
   event_line i below =
       let low : nat_le 4294967295 (i + 2) ≡ false = grind (arith, nat_tests, few, below) in
-      rw (facts.item_read (item i) (item_ok i below), facts.unbroken i below, facts.limits i below, low) refl
+      rw (facts.read.item heading (item i) refl (item_ok i below), facts.events.unbroken i below, facts.events.limits i below, low) refl
 
   end_line : fold.line (count + 2) (AtEvents heading (log_of n count)) (item_line (End count)) ≡ Passes (AtEnd (log_of n count))
   end_line =
       let all = log_length n count in
       let same : (count == length (log_of n count)) ≡ true = grind (arith, nat_tests, all) in
-      rw (facts.item_read (End count) end_ok, same) refl
+      rw (facts.read.item heading (End count) refl end_ok, same) refl
 
   abbrev done : Ending Judged
   done = record { says = judged_at (AtEnd (log_of n count)) (alone (Accepted count)); unread = [] }
@@ -87,7 +82,7 @@ module _ (n count : ℕ) (few : count ≤ 4294967293) (facts : Facts n count) wh
   unfolding end_by
   at_end =
       ending-line fold (count + 2) (AtEvents heading (log_of n count)) (item_line (End count)) []
-      (plain_is (item_line (End count)) ∙ facts.item_plain (End count) end_ok) (facts.item_short (End count) end_ok)
+      (plain_is (item_line (End count)) ∙ facts.lines.item_plain heading (End count) end_ok) (facts.lines.item_short heading (End count) refl end_ok)
       ∙ rw end_line (ap (λ (events : ℕ). record { says = judged_at (AtEnd (log_of n count)) (alone (Accepted events)); unread = [] }) (log_length n count))
 
   read_rest : (i k : ℕ) → i + k ≡ count → ending_at fold (i + 2) (AtEvents heading (log_of n i)) (rest i k) ≡ done
@@ -99,7 +94,7 @@ module _ (n count : ℕ) (few : count ≤ 4294967293) (facts : Facts n count) wh
       let next : suc i + 2 ≡ suc (i + 2) = omega arith in
       let line = item_line (item i) in
       ending-line fold (i + 2) (AtEvents heading (log_of n i)) line (rest (suc i) k)
-      (plain_is line ∙ facts.item_plain (item i) (item_ok i below)) (facts.item_short (item i) (item_ok i below))
+      (plain_is line ∙ facts.lines.item_plain heading (item i) (item_ok i below)) (facts.lines.item_short heading (item i) refl (item_ok i below))
       ∙ rw (event_line i below) (subst (λ (m : ℕ). ending_at fold m (AtEvents heading (log_of n (suc i))) (rest (suc i) k) ≡ done)
       next (read_rest (suc i) k (omega (arith, is))))
 
@@ -110,8 +105,8 @@ module _ (n count : ℕ) (few : count ≤ 4294967293) (facts : Facts n count) wh
   read_whole : ending_at fold 1 AtHeader (gen_text n count) ≡ done
   read_whole =
       ap (ending_at fold 1 AtHeader) (sym whole_text)
-      ∙ ending-line fold 1 AtHeader (header_line heading) (rest 0 count) (plain_is (header_line heading) ∙ facts.header_plain) facts.header_short
-      ∙ rw facts.header_read (read_rest 0 count (omega arith))
+      ∙ ending-line fold 1 AtHeader (header_line heading) (rest 0 count) (plain_is (header_line heading) ∙ facts.lines.header_plain heading) (facts.lines.header_short heading refl)
+      ∙ rw (facts.read.header heading refl) (read_rest 0 count (omega arith))
 
   pub accepted : outcome_of Patterns check_limits (gen_text n count)
       ≡ record { verdict = Accepted count; unread = []; log = log_of n count }

@@ -2,7 +2,10 @@
 use Rattle.std.proofs.Common.{◌≡◌, ◌≢◌, not, ℕ, suc, ◌<◌, ◌+◌, Bool, true, false, if◌then◌else◌, List, [], ◌∷◌, length}
 use Rattle.std.proofs.Common.{Option, Some, None, refl, ap, sym, ◌∙◌, arith, subst, ◌^◌, Result, Ok, Err, IfOk, IfErr}
 use Rattle.std.proofs.Common.{OnOk, ◌==◌, ◌⊎◌, inl, inr}
-use Rattle.std.proofs.lemmas.Bool.{and_parts}
+use Rattle.std.proofs.lemmas.Bool.{and_parts, not-true}
+use Rattle.bbm_lemmas.proofs.Bools.{not_from}
+use Rattle.bbm_lemmas.proofs.Tautologies.{proved}
+use Rattle.bbm_lemmas.proofs.Tautologies.Claim.{If, Is, Never}
 use Rattle.bbm_regimes.specs.declared.regime.Which.{Which}
 use Rattle.bbm_events.specs.declared.event.Event.{Event as EventOf}
 use Rattle.bbm_events.specs.declared.event.Item.{Item}
@@ -49,15 +52,11 @@ use Rattle.bbm_session.proofs.ReadBytes.{ByName, Named, read-by}
 -- ---- an event
 
 -- where a frugal checker may have found no memory
-unless : (b : Bool) → (b ≡ true → ⊥) → not b ≡ true
-unless true denied = absurd (denied refl)
-unless false denied = refl
-
 pub needed : (frugal : Bool) (heading : Heading) (h : List EventOf) (e : EventOf) (r : Result (Unit {0}) StepFault) → (frugal ≡ true → takes_no_memory e ≡ true → r ≢ Err step_fault.NoMemory)
     → (frugal ≡ true → rewrites heading h e ≡ true → r ≢ Err step_fault.NoMemory) → r ≡ Err step_fault.NoMemory → event_needs frugal heading h e ≡ true
 needed true heading h e r barriers writes is =
-    let first = unless (takes_no_memory e) (λ (t : takes_no_memory e ≡ true). barriers refl t is) in
-    let second = unless (rewrites heading h e) (λ (t : rewrites heading h e ≡ true). writes refl t is) in
+    let first = not_from (takes_no_memory e) (λ (t : takes_no_memory e ≡ true). barriers refl t is) in
+    let second = not_from (rewrites heading h e) (λ (t : rewrites heading h e ≡ true). writes refl t is) in
     rw (first, second) refl
 needed false heading h e r barriers writes is = refl
 
@@ -429,14 +428,10 @@ module _ (frugal : Bool) (limits : Limits) where
 
 -- ---- the line for which there was no memory
 
-not-is : (b : Bool) → not b ≡ true → b ≡ false
-not-is false is = refl
-not-is true is = cc
-
 needs-room : (heading : Heading) (h : List EventOf) (e : EventOf) → event_needs true heading h e ≡ true → NeedsRoom heading h e
 needs-room heading h e is =
     let both = and_parts (not (takes_no_memory e)) (not (rewrites heading h e)) is in
-    (not-is (takes_no_memory e) both.0, not-is (rewrites heading h e) both.1)
+    (not-true (takes_no_memory e) both.0, not-true (rewrites heading h e) both.1)
 
 needs-event : (command : Command) (heading : Heading) (h : List EventOf) (e : EventOf) → event_needs (is_frugal command) heading h e ≡ true → EventNeeds command heading h e
 needs-event Slow heading h e is = tt

@@ -3,12 +3,13 @@ use Rattle.std.proofs.Common.{◌≡◌, ℕ, Bool, true, false, if◌then◌els
 use Rattle.std.proofs.Common.{refl, ap, sym, ◌∙◌}
 use Rattle.std.proofs.lemmas.Bool.{false≢true}
 use Rattle.std.proofs.lemmas.Bool.Decides.{nat_tests}
+use Rattle.bbm_lemmas.proofs.Tautologies.{proved}
+use Rattle.bbm_lemmas.proofs.Tautologies.Claim.{Both, If, Is}
 use Rattle.bbm_io.specs.Flow.{plain}
 use Rattle.bbm_rules.specs.Outcome.{Text, before_text, text_of, bytes_of}
 
 both : (x y : Bool) → (not x && y) ≡ true → (x ≡ false) × (y ≡ true)
-both false y h = (refl, h)
-both true y h = absurd (false≢true h)
+both = proved 2 (λ x y. If (Is (not x && y) true) (Both (Is x false) (Is y true))) refl
 
 -- of a plain line that begins with a byte: the byte is no newline, and the rest is plain
 pub plain-head : (b : ℕ) (bs : List ℕ) → plain (b ∷ bs) ≡ true → (nat_eq b 10 ≡ false) × (plain bs ≡ true)

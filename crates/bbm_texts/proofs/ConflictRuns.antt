@@ -1,12 +1,14 @@
 -- The text of a conflict run, line by line, and what is known of a log whose last event is refused.
-use Rattle.std.proofs.Common.{◌≡◌, ℕ, zero, suc, ◌+◌, ◌<◌, true, false, Bool, List, [], ◌∷◌, ◌++◌, ◌&&◌, length, map}
-use Rattle.std.proofs.Common.{take, drop, get_or, reverse, Option, Some, None, Result, Ok, Err, refl, ap, sym, ◌∙◌}
-use Rattle.std.proofs.Common.{subst, arith, append_assoc, append-nil, All, IfSome, option_map, inl, inr}
+use Rattle.std.proofs.Common.{◌≡◌, ℕ, zero, suc, ◌+◌, ◌<◌, true, Bool, List, [], ◌∷◌, ◌++◌, ◌&&◌, length, map}
+use Rattle.std.proofs.Common.{take, drop, get_or, reverse, Option, Some, None, Result, Err, refl, ap, sym, ◌∙◌}
+use Rattle.std.proofs.Common.{subst, append_assoc, append-nil, All, IfSome, option_map, inl, inr}
 use Rattle.std.proofs.lemmas.Bool.{false≢true}
 use Rattle.std.proofs.lemmas.List.{length-reverse, reverse-append, reverse-reverse, take-append-drop, take_more}
 use Rattle.std.proofs.lemmas.List.Elements.{All-append, All-cons, All-drop, All-head, All-map, All-nil, All-push}
 use Rattle.std.proofs.lemmas.List.Elements.{All-tail, All-take}
 use Rattle.std.proofs.lemmas.List.Sums.{AllPass-from_list_all}
+use Rattle.bbm_lemmas.proofs.Tautologies.{proved}
+use Rattle.bbm_lemmas.proofs.Tautologies.Claim.{If, Is}
 use Rattle.bbm_counterrun.specs.Plans.{Finds, Plan, Read, behind, combine_of, drops, extends, run_of, walk_of}
 use Rattle.bbm_counterrun.specs.RefusedWrite.{IsRefused, ends_at_leaf, holds_leaf}
 use Rattle.bbm_events.specs.Fits.{fits_heading}
@@ -16,9 +18,8 @@ use Rattle.bbm_events.specs.declared.event.Event.{Event}
 use Rattle.bbm_events.specs.declared.event.Event.TheVariants.{Init, Null, Root, Unroot, Write, Dsb, Dmb, Isb, Tlbi, Msr}
 use Rattle.bbm_events.specs.declared.event.Event.TheVariants.{Lock, Unlock}
 use Rattle.bbm_io.specs.declared.source.Failed.{Failed}
-use Rattle.bbm_rules.specs.Broken.{Breach, broken}
+use Rattle.bbm_rules.specs.Broken.{broken}
 use Rattle.bbm_rules.specs.Claims.{Patterns}
-use Rattle.bbm_rules.specs.Texts.{verdict_text}
 use Rattle.bbm_texts.specs.declared.status.Status.{Status}
 use Rattle.bbm_texts.specs.declared.decision.Decision.{Decision}
 use Rattle.bbm_rules.specs.declared.rule.Rule.{Rule}
@@ -229,8 +230,7 @@ shows-run (Malformed line cause) e refused is = cc
 shows-run (Limit line which) e refused is = cc
 
 both-true : (a b : Bool) → a ≡ true → b ≡ true → (a && b) ≡ true
-both-true true b one other = other
-both-true false b one other = one
+both-true = proved 2 (λ a b. If (Is a true) (If (Is b true) (Is (a && b) true))) refl
 
 -- the log with the event that is refused after it
 pub ends-refused : (stands : Heading → List Event → Type 0) (heading : Heading) (h : List Event) (e : Event) (log all : List Event)

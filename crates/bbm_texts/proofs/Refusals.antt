@@ -2,7 +2,8 @@
 use Rattle.std.specs.Option.{option_map_or}
 use Rattle.std.proofs.Common.{◌≡◌, ◌⊎◌, ℕ, Bool, true, false, ◌&&◌, List, [], ◌∷◌, Option, Some, None, refl, ap, ◌∙◌}
 use Rattle.std.proofs.Common.{subst, inl, inr}
-use Rattle.std.proofs.lemmas.Bool.{false≢true}
+use Rattle.bbm_lemmas.proofs.Tautologies.{proved}
+use Rattle.bbm_lemmas.proofs.Tautologies.Claim.{If, Is}
 use Rattle.bbm_events.specs.declared.event.Event.{Event as EventOf}
 use Rattle.bbm_events.specs.declared.event.Event.TheVariants.{Init, Null, Root, Unroot, Write, Dsb, Dmb, Isb, Tlbi, Msr}
 use Rattle.bbm_events.specs.declared.event.Event.TheVariants.{Lock, Unlock}
@@ -55,9 +56,7 @@ only-so true place at is = cc
 only-so false place at is = cc
 
 middle : (a b c : Bool) → (a && b && c) ≡ true → b ≡ true
-middle true true c is = refl
-middle true false c is = is
-middle false b c is = absurd (false≢true is)
+middle = proved 3 (λ a b c. If (Is (a && b && c) true) (Is b true)) refl
 
 same-place : (heading : Heading) (h : List Noted) (pe place value at : ℕ) → break_before_make heading Patterns h (Write pe place value) ≡ Some at → place ≡ at
 same-place heading h pe place value at is =

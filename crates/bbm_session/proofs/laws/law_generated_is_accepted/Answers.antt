@@ -11,15 +11,9 @@ use Rattle.bbm_session.proofs.laws.law_generated_is_accepted.Goals as goal
 
 pub returns-clause-accepted : goal.returns-clause-accepted
 returns-clause-accepted c = accepted c.args.n c.args.count c.requires.lines (record {
-  unbroken = c.law_gen.ensures.unbroken;
-  fits = c.law_gen.ensures.fits;
-  limits = c.law_gen.ensures.limits;
-  header_plain = c.law_written_is_a_line.ensures.header_plain heading;
-  header_short = c.law_written_is_a_line.ensures.header_short heading refl;
-  header_read = c.law_written_is_read.ensures.header heading refl;
-  item_plain = c.law_written_is_a_line.ensures.item_plain heading;
-  item_short = λ item. c.law_written_is_a_line.ensures.item_short heading item refl;
-  item_read = λ item. c.law_written_is_read.ensures.item heading item refl;
+  events = c.law_gen.ensures;
+  lines = c.law_written_is_a_line.ensures;
+  read = c.law_written_is_read.ensures;
 })
 
 pub returns-clause-selftest : goal.returns-clause-selftest
