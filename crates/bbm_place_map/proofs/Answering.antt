@@ -12,7 +12,6 @@ use Rattle.bbm_place_map.specs.Each.{Completes, loses_table, is_table}
 use Rattle.bbm_place_map.specs.Entries.{pends_in, no_pends, seat, seat_at, cell_at, entry_of, entry_in, marks_of}
 use Rattle.bbm_place_map.specs.Parts.{marks_in}
 use Rattle.bbm_place_map.specs.Sound.{Linked, Placed}
-use Rattle.bbm_place_map.specs.declared.cell.Cell.{Cell}
 use Rattle.bbm_place_map.specs.declared.entry.Entry.{Entry}
 use Rattle.bbm_place_map.specs.declared.orders.Barrier.{Barrier}
 use Rattle.bbm_place_map.proofs.Completing.{completes_none}
@@ -32,7 +31,7 @@ none_broken entries none None = refl
 none_broken entries none (Some k) = ap (λ (es : List Entry). slice_get es k) none
 
 -- where no place is broken nothing is answered
-pub completes_whole : (by : Barrier) (cells : List Cell) (entries : List Entry) → entries ≡ [] → (j : ℕ)
+pub completes_whole : (by : Barrier) (cells : List ℕ) (entries : List Entry) → entries ≡ [] → (j : ℕ)
     → Completes by (entry_in cells entries j) (entry_in cells entries j)
 completes_whole by cells entries none j =
     let is = none_broken entries none (slot_in cells j) in
@@ -42,7 +41,7 @@ none_twice : (b : Bool) (x y : Option Entry) → (if b then None else if b then 
 none_twice true x y = refl
 none_twice false x y = refl
 
-module _ (by : Barrier) (cells : List Cell) (entries : List Entry) (k : ℕ) (e : Entry)
+module _ (by : Barrier) (cells : List ℕ) (entries : List Entry) (k : ℕ) (e : Entry)
     (linked : Linked cells entries) (was : slice_get entries k ≡ Some e) where
   old_entry : (j : ℕ) → cell_at entries k ≡ Some j → entry_in cells entries j ≡ Some e
   old_entry j at = ap (entry_of entries) (linked.back j k at) ∙ was
@@ -82,7 +81,7 @@ module _ (by : Barrier) (cells : List Cell) (entries : List Entry) (k : ℕ) (e 
           })
 
       -- and left
-      module _ (cells' : List Cell) (entries' : List Entry)
+      module _ (cells' : List ℕ) (entries' : List Entry)
           (gone : (j : ℕ) → cell_at mid k ≡ Some j → (i : ℕ) → entry_in cells' entries' i ≡ (if nat_eq i j then None else entry_in cells mid i)) where
         gone_is : (i : ℕ) → entry_in cells' entries' i ≡ (if nat_eq i j then None else entry_in cells entries i)
         gone_is i =

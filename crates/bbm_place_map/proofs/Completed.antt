@@ -14,13 +14,12 @@ use Rattle.bbm_place_map.specs.Entries.{entry_of, entry_in, marks_of, no_pends}
 use Rattle.bbm_place_map.specs.Parts.{marks_in, pends_for}
 use Rattle.bbm_place_map.specs.Sound.{Linked, Placed, index_of, at_index}
 use Rattle.bbm_place_map.specs.States.{state_from}
-use Rattle.bbm_place_map.specs.declared.cell.Cell.{Cell}
 use Rattle.bbm_place_map.specs.declared.entry.Entry.{Entry}
 use Rattle.bbm_place_map.specs.declared.orders.Barrier.{Barrier}
 use Rattle.bbm_place_map.proofs.Completing.{completes_none}
 use Rattle.bbm_place_map.proofs.Idle.{nothing_waits}
 
-module _ (by : Barrier) (cells cells' : List Cell) (entries entries' : List Entry)
+module _ (by : Barrier) (cells cells' : List ℕ) (entries entries' : List Entry)
     (each : (j : ℕ) → Completes by (entry_in cells entries j) (entry_in cells' entries' j)) where
   pub completed_at : (o : Option ℕ)
       → Completed (state_from None (at_index None (marks_in cells entries) o)) (at_index no_pends (pends_for cells entries by.issuer) o) by.dsb by.n
@@ -34,7 +33,7 @@ module _ (by : Barrier) (cells cells' : List Cell) (entries entries' : List Entr
   others_at q other None b c p = nothing_waits b c p
   others_at q other (Some j) b c p = (each j).others q other b c p
 
-pub kept_at : (cells cells' : List Cell) (entries entries' : List Entry)
+pub kept_at : (cells cells' : List ℕ) (entries entries' : List Entry)
     → ((j : ℕ) → loses_table (marks_in cells entries j) (marks_in cells' entries' j) ≡ false)
     → (o : Option ℕ) → loses_table (at_index None (marks_in cells entries) o) (at_index None (marks_in cells' entries') o) ≡ false
 kept_at cells cells' entries entries' none None = refl
@@ -44,12 +43,12 @@ entry_lost : (o : Option Entry) (new : Option Marks) → loses_table (marks_of o
 entry_lost None new h = absurd (false≢true h)
 entry_lost (Some e) new h = (e, refl)
 
-slot_of : (cells : List Cell) (entries : List Entry) (s : Option ℕ) (e : Entry) → entry_of entries s ≡ Some e
+slot_of : (cells : List ℕ) (entries : List Entry) (s : Option ℕ) (e : Entry) → entry_of entries s ≡ Some e
     → (k : ℕ) × (s ≡ Some k) × (slice_get entries k ≡ Some e)
 slot_of cells entries None e h = cc
 slot_of cells entries (Some k) e h = (k, refl, h)
 
-pub lost_at : (base : ℕ → Option ℕ) (cells cells' : List Cell) (entries entries' : List Entry) → Linked cells entries → Placed base entries
+pub lost_at : (base : ℕ → Option ℕ) (cells cells' : List ℕ) (entries entries' : List Entry) → Linked cells entries → Placed base entries
     → (j : ℕ) → loses_table (marks_in cells entries j) (marks_in cells' entries' j) ≡ true
     → (a : ℕ) × (loses_table (at_index None (marks_in cells entries) (index_of base a)) (at_index None (marks_in cells' entries') (index_of base a)) ≡ true)
 lost_at base cells cells' entries entries' linked placed j h =

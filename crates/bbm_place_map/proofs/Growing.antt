@@ -4,8 +4,9 @@ use Rattle.std.proofs.Common.{Option, Some, None, refl, ap, sym, ◌∙◌, arit
 use Rattle.std.specs.Option.{option_map}
 use Rattle.std.proofs.lemmas.Bool.{cases_eq, eq-eqb, ne_eqb, cond-true, cond-false}
 use Rattle.std.proofs.lemmas.Option.{same_Some, none-some}
-use Rattle.bbm_place_map.specs.Sound.{Numbered, Placed, index_of}
+use Rattle.bbm_place_map.specs.Sound.{Numbered, Placed, at_index, index_of}
 use Rattle.bbm_place_map.specs.declared.entry.Entry.{Entry}
+use Rattle.bbm_place_map.proofs.Places.{at_same, found}
 
 module _ (old new : ℕ → Option ℕ) (page count : ℕ) (updates : (p : ℕ) → new p ≡ (if nat_eq p page then Some count else old p))
     (free : old page ≡ None) (numbered : Numbered old count) where
@@ -61,6 +62,24 @@ module _ (old new : ℕ → Option ℕ) (page count : ℕ) (updates : (p : ℕ) 
       elim (cases_eq (e.place / 4096 * 4096) page) [
         | inl same ↦ absurd (none-some e.cell (sym (none_old e.place same) ∙ placed k e h))
         | inr other ↦ index_old e.place other ∙ placed k e h
+      ]
+
+  new_none : {X : Type 0} (d : X) (f g : ℕ → X) → ((i : ℕ) → g i ≡ f i) → ((i : ℕ) → count ≤ i → f i ≡ d) → (a : ℕ)
+      → a / 4096 * 4096 ≡ page → (o : Option ℕ) → index_of new a ≡ o → at_index d g o ≡ d
+  new_none d f g same past a here None h = refl
+  new_none d f g same past a here (Some j) h =
+      let w = found new a j h in
+      let start : w.start ≡ count = same_Some w.start count (sym w.is ∙ at_new (a / 4096 * 4096) here) in
+      let sum : w.start + a % 4096 / 8 ≡ j = w.sum in
+      same j ∙ past j (omega arith)
+
+  -- what is kept of each address stays, where nothing is kept past the count
+  pub points_more : {X : Type 0} (d : X) (f g : ℕ → X) → ((i : ℕ) → g i ≡ f i) → ((i : ℕ) → count ≤ i → f i ≡ d) → (a : ℕ)
+      → at_index d g (index_of new a) ≡ at_index d f (index_of old a)
+  points_more d f g same past a =
+      elim (cases_eq (a / 4096 * 4096) page) [
+        | inl here ↦ new_none d f g same past a here (index_of new a) refl ∙ sym (ap (at_index d f) (none_old a here))
+        | inr other ↦ at_same d f g same (index_of new a) ∙ ap (at_index d f) (index_old a other)
       ]
 
 -- a test with its sides exchanged

@@ -16,7 +16,6 @@ use Rattle.bbm_place_map.specs.PlaceNotes.{Keeps, NotesAt, NotesFound, is_cover}
 use Rattle.bbm_place_map.specs.Parts.{marks_in, pends_for}
 use Rattle.bbm_place_map.specs.Sound.{Linked, Numbered, Placed, index_of, at_index}
 use Rattle.bbm_place_map.specs.States.{state_from}
-use Rattle.bbm_place_map.specs.declared.cell.Cell.{Cell}
 use Rattle.bbm_place_map.specs.declared.entry.Entry.{Entry}
 use Rattle.bbm_place_map.specs.declared.entry.Pending.{Pending}
 use Rattle.bbm_place_map.specs.declared.found.Found.{Found}
@@ -40,7 +39,7 @@ cover_there covers i within =
 pub cover_read : (covers : List Cover) (i : ℕ) (x y : Cover) → i < length covers → x ≡ get_or covers i x → y ≡ x → slice_get covers i ≡ Some y
 cover_read covers i x y within is same = slice_get-get_or covers i x within ∙ ap (λ (c : Cover). Some c) (sym is ∙ sym same)
 
-module _ (base : ℕ → Option ℕ) (cells : List Cell) (entries mid new : List Entry) (covers : List Cover) (by : Issuing) (linked : Linked cells entries) (placed : Placed base entries)
+module _ (base : ℕ → Option ℕ) (cells : List ℕ) (entries mid new : List Entry) (covers : List Cover) (by : Issuing) (linked : Linked cells entries) (placed : Placed base entries)
     (kept : (m : ℕ) → Advances Keeps (slice_get entries m) (slice_get mid m))
     (noted : (m : ℕ) → Advances (NotesAt covers by m) (slice_get mid m) (slice_get new m))
     (len : length covers ≡ length entries) where
@@ -156,7 +155,7 @@ module _ (base : ℕ → Option ℕ) (cells : List Cell) (entries mid new : List
         (entry_of entries (at_index None (slot_in cells) (index_of base a))) refl none
 
 -- a TLBI that covers the places of a few items
-module _ (base : ℕ → Option ℕ) (cells : List Cell) (entries mid new : List Entry) (found : List Found) (by : Issuing) (lists : List WorkList) (linked : Linked cells entries) (placed : Placed base entries)
+module _ (base : ℕ → Option ℕ) (cells : List ℕ) (entries mid new : List Entry) (found : List Found) (by : Issuing) (lists : List WorkList) (linked : Linked cells entries) (placed : Placed base entries)
     (kept : (m : ℕ) → Advances Keeps (slice_get entries m) (slice_get mid m)) (len : length mid ≡ length entries)
     (each : (m : ℕ) → Advances (NotesFound found by lists) (slice_get mid m) (slice_get new m))
     (count : ℕ) (numbered : Numbered base count) where

@@ -11,7 +11,6 @@ use Rattle.bbm_place_map.specs.Entries.{entry_of, entry_in, marks_of, pends_of, 
 use Rattle.bbm_place_map.specs.Parts.{marks_in, pends_for}
 use Rattle.bbm_place_map.specs.Sound.{Linked}
 use Rattle.bbm_place_map.specs.Works.{Holds, HoldsFor, IsQuiet, IsTold, is_in, part, holds, has, holds_for}
-use Rattle.bbm_place_map.specs.declared.cell.Cell.{Cell}
 use Rattle.bbm_place_map.specs.declared.entry.Entry.{Entry}
 use Rattle.bbm_place_map.specs.declared.work.WorkList.{WorkList}
 use Rattle.bbm_place_map.proofs.Idle.{idle_from, quiet_from}
@@ -77,7 +76,7 @@ or_known lists q wide j P h none =
     ]
 
 -- what is known of each entry is known of each cell
-module _ (cells : List Cell) (entries : List Entry) (linked : Linked cells entries) (P : ℕ → Type 0) where
+module _ (cells : List ℕ) (entries : List Entry) (linked : Linked cells entries) (P : ℕ → Type 0) where
   quiet_at : (wide : Bool) (q j : ℕ)
       → ((k : ℕ) (e : Entry) → slice_get entries k ≡ Some e → P e.cell ⊎ IsQuiet wide (pends_in e.pends.items q))
       → (s : Option ℕ) → slot_in cells j ≡ s → (o : Option Entry) → entry_of entries s ≡ o → P j ⊎ IsQuiet wide (pends_of q o)

@@ -8,7 +8,6 @@ use Rattle.std.proofs.lemmas.Option.{slice_get_read, slice_get_past, none-some, 
 use Rattle.bbm_place_map.specs.Cells.{slot_in, is_listed}
 use Rattle.bbm_place_map.specs.Entries.{cell_at, entry_in}
 use Rattle.bbm_place_map.specs.Sound.{Linked, Placed}
-use Rattle.bbm_place_map.specs.declared.cell.Cell.{Cell}
 use Rattle.bbm_place_map.specs.declared.entry.Entry.{Entry}
 use Rattle.bbm_place_map.proofs.Lists.{swap_get}
 use Rattle.bbm_place_map.proofs.Edits.{slot_within, one_if}
@@ -26,18 +25,18 @@ pub cell_read : (entries : List Entry) (k : ℕ) (x : Entry) → k < length entr
 cell_read entries k x within is = ap (option_map (λ (e : Entry). e.cell)) (entry_read entries k x within is)
 
 -- the cell of an entry is one of the cells
-pub cell_inside : (cells : List Cell) (entries : List Entry) (k : ℕ) (x : Entry) → Linked cells entries → k < length entries
+pub cell_inside : (cells : List ℕ) (entries : List Entry) (k : ℕ) (x : Entry) → Linked cells entries → k < length entries
     → x ≡ get_or entries k x → x.cell < length cells
 cell_inside cells entries k x linked within is = slot_within cells x.cell k (linked.back x.cell k (cell_read entries k x within is))
 
-pub record Left (cells cells' : List Cell) (entries entries' : List Entry) (j k : ℕ) : Type 0 where
+pub record Left (cells cells' : List ℕ) (entries entries' : List Entry) (j k : ℕ) : Type 0 where
   pub linked : Linked cells' entries'
   pub kept : (i : ℕ) → entry_in cells' entries' i ≡ (if nat_eq i j then None else entry_in cells entries i)
   pub below : (i m : ℕ) → m < k → slot_in cells' i ≡ Some m → slot_in cells i ≡ Some m
   pub front : (m : ℕ) → m < k → slice_get entries' m ≡ slice_get entries m
   pub placed : (base : ℕ → Option ℕ) → Placed base entries → Placed base entries'
 
-module _ (cells mid cells' : List Cell) (entries entries' : List Entry) (k n : ℕ) (x y r : Entry)
+module _ (cells mid cells' : List ℕ) (entries entries' : List Entry) (k n : ℕ) (x y r : Entry)
     (linked : Linked cells entries) (within : k < length entries) (number : n ≡ length entries)
     (this : x ≡ get_or entries k x) (last : y ≡ get_or entries (n - 1) y)
     (mids : (i : ℕ) → slot_in mid i ≡ (if nat_eq i y.cell then Some k else slot_in cells i))

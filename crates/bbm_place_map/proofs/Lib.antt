@@ -6,6 +6,10 @@ pub mod Leaving
 pub mod Seats
 pub mod Pages
 pub mod Places
+pub mod Growing
+pub mod Parts
+pub mod Clearing
+pub mod Tracking
 pub mod Blank
 pub mod Idle
 pub mod Restless
@@ -24,7 +28,6 @@ pub mod Resting
 pub mod Rounds
 pub mod Listing
 pub mod Completed
-pub mod Growing
 pub mod Noting
 pub mod Finding
 pub mod Visiting

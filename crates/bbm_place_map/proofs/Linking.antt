@@ -11,7 +11,6 @@ use Rattle.bbm_place_map.specs.Cells.{slot_in, is_listed}
 use Rattle.bbm_place_map.specs.Entries.{cell_at, entry_of, entry_in, marks_of, pends_of, pends_in}
 use Rattle.bbm_place_map.specs.Parts.{marks_in, pends_for}
 use Rattle.bbm_place_map.specs.Sound.{Linked, Placed, index_of}
-use Rattle.bbm_place_map.specs.declared.cell.Cell.{Cell}
 use Rattle.bbm_place_map.specs.declared.entry.Entry.{Entry}
 use Rattle.bbm_place_map.specs.declared.entry.Pending.{Pending}
 use Rattle.bbm_place_map.proofs.Lists.{push_get}
@@ -36,7 +35,7 @@ choose_marks true x o = refl
 choose_marks false x o = refl
 
 -- an entry for a cell that had none
-module _ (cells cells' : List Cell) (entries : List Entry) (e : Entry) (j n : ℕ) (linked : Linked cells entries)
+module _ (cells cells' : List ℕ) (entries : List Entry) (e : Entry) (j n : ℕ) (linked : Linked cells entries)
     (free : slot_in cells j ≡ None) (at : e.cell ≡ j) (number : n ≡ length entries)
     (slot_is : (i : ℕ) → slot_in cells' i ≡ (if nat_eq i j then Some n else slot_in cells i))
     (count : count_by is_listed cells' + one_if (is_some (slot_in cells j)) ≡ count_by is_listed cells + 1) where
@@ -135,7 +134,7 @@ pub not_past : (n k m : ℕ) → k < n → m < k → nat_le (n - 1) m ≡ false
 not_past n k m within below = lt-leb (n - 1) m (omega arith)
 
 -- an entry leaves, and the last one takes its number
-module _ (cells cells' : List Cell) (entries entries' : List Entry) (j k l : ℕ) (linked : Linked cells entries)
+module _ (cells cells' : List ℕ) (entries entries' : List Entry) (j k l : ℕ) (linked : Linked cells entries)
     (this : cell_at entries k ≡ Some j) (last : cell_at entries (length entries - 1) ≡ Some l)
     (slots : (i : ℕ) → slot_in cells' i ≡ (if nat_eq i j then None else if nat_eq i l then Some k else slot_in cells i))
     (gets : (i : ℕ) → slice_get entries' i

@@ -23,7 +23,6 @@ use Rattle.bbm_place_map.specs.Parts.{marks_in, pends_for}
 use Rattle.bbm_place_map.specs.Sound.{Linked}
 use Rattle.bbm_place_map.specs.States.{marks_of_state}
 use Rattle.bbm_place_map.specs.Works.{HoldsFor, IsQuiet, IsTold, IsToldAsBefore, GivesUp, Listed, Waits, is_clean}
-use Rattle.bbm_place_map.specs.declared.cell.Cell.{Cell}
 use Rattle.bbm_place_map.specs.declared.entry.Entry.{Entry}
 use Rattle.bbm_place_map.specs.declared.orders.Barrier.{Barrier}
 use Rattle.bbm_place_map.specs.declared.orders.Issuing.{Issuing}
@@ -38,16 +37,16 @@ use Rattle.bbm_place_map.proofs.Resting.{completes_unclean, quiet_others, told_c
 use Rattle.bbm_place_map.proofs.Telling.{told_no_writer, told_after_write}
 use Rattle.bbm_lemmas.proofs.Bools.{with_true}
 
-pub told_of : (w : Work) (cells : List Cell) (entries : List Entry) → Listed w cells entries → (wide : Bool) (q j : ℕ) (marks : Marks) → q < w.pes
+pub told_of : (w : Work) (cells : List ℕ) (entries : List Entry) → Listed w cells entries → (wide : Bool) (q j : ℕ) (marks : Marks) → q < w.pes
     → marks_in cells entries j ≡ Some marks → HoldsFor w.unpublished.items q wide j ⊎ IsTold wide w.pes q marks
 told_of w cells entries listed wide q j marks below is =
     known_or w.unpublished.items q wide j (IsTold wide w.pes q marks) (listed.told wide q j marks below is)
 
-pub quiet_of : (w : Work) (cells : List Cell) (entries : List Entry) → Listed w cells entries → (wide : Bool) (q j : ℕ)
+pub quiet_of : (w : Work) (cells : List ℕ) (entries : List Entry) → Listed w cells entries → (wide : Bool) (q j : ℕ)
     → HoldsFor w.waiting.items q wide j ⊎ IsQuiet wide (pends_for cells entries q j)
 quiet_of w cells entries listed wide q j = known_or w.waiting.items q wide j (IsQuiet wide (pends_for cells entries q j)) (listed.idle wide q j)
 
-pub listed_by : (w : Work) (cells : List Cell) (entries : List Entry) → 1 ≤ w.pes → w.pes ≤ 128
+pub listed_by : (w : Work) (cells : List ℕ) (entries : List Entry) → 1 ≤ w.pes → w.pes ≤ 128
     → ((wide : Bool) (q j : ℕ) (marks : Marks) → q < w.pes → marks_in cells entries j ≡ Some marks
     → HoldsFor w.unpublished.items q wide j ⊎ IsTold wide w.pes q marks)
     → ((wide : Bool) (q j : ℕ) → HoldsFor w.waiting.items q wide j ⊎ IsQuiet wide (pends_for cells entries q j))
@@ -66,7 +65,7 @@ no_marks entries none None marks is = none-some marks is
 no_marks entries none (Some k) marks is = none-some marks (sym (ap (λ (es : List Entry). marks_of (slice_get es k)) none) ∙ is)
 
 -- where nothing is broken there is nothing to do
-pub listed_none : (w : Work) (cells : List Cell) (entries : List Entry) → 1 ≤ w.pes → w.pes ≤ 128 → entries ≡ [] → Listed w cells entries
+pub listed_none : (w : Work) (cells : List ℕ) (entries : List Entry) → 1 ≤ w.pes → w.pes ≤ 128 → entries ≡ [] → Listed w cells entries
 listed_none w cells entries some most none =
     listed_by w cells entries some most
     (λ wide q j marks below is. absurd (no_marks entries none (slot_in cells j) marks is))
@@ -74,7 +73,7 @@ listed_none w cells entries some most none =
     (λ settled j marks is. absurd (no_marks entries none (slot_in cells j) marks is))
 
 -- where the lists have given up
-pub listed_all : (w : Work) (cells : List Cell) (entries : List Entry) → 1 ≤ w.pes → w.pes ≤ 128
+pub listed_all : (w : Work) (cells : List ℕ) (entries : List Entry) → 1 ≤ w.pes → w.pes ≤ 128
     → ((wide : Bool) (q j : ℕ) → HoldsFor w.unpublished.items q wide j) → ((wide : Bool) (q j : ℕ) → HoldsFor w.waiting.items q wide j)
     → (w.settled ≡ true → ⊥) → Listed w cells entries
 listed_all w cells entries some most unpublished waiting unsettled =
@@ -85,7 +84,7 @@ empty [] none = refl
 empty (e ∷ es) none = absurd (omega arith)
 
 -- a log with so many PEs begins
-pub listed_begun : (w w' : Work) (n broken : ℕ) (cells : List Cell) (entries : List Entry) → 1 ≤ n → n ≤ 128 → w'.pes ≡ n → broken ≡ length entries
+pub listed_begun : (w w' : Work) (n broken : ℕ) (cells : List ℕ) (entries : List Entry) → 1 ≤ n → n ≤ 128 → w'.pes ≡ n → broken ≡ length entries
     → (w' ≡ w) ⊎ ((broken ≡ 0) ⊎ GivesUp w') → Listed w cells entries → Listed w' cells entries
 listed_begun w w' n broken cells entries some most pes number kept listed =
     let some' : 1 ≤ w'.pes = subst (λ (x : ℕ). 1 ≤ x) (sym pes) some in
@@ -100,7 +99,7 @@ listed_begun w w' n broken cells entries some most pes number kept listed =
     ]
 
 -- where no entry changes but some leave, and lists have no less
-module _ (w w' : Work) (cells cells' : List Cell) (entries entries' : List Entry) (pes : w'.pes ≡ w.pes) (settled : w'.settled ≡ w.settled)
+module _ (w w' : Work) (cells cells' : List ℕ) (entries entries' : List Entry) (pes : w'.pes ≡ w.pes) (settled : w'.settled ≡ w.settled)
     (unpublished : (wide : Bool) (q j : ℕ) → HoldsFor w.unpublished.items q wide j → HoldsFor w'.unpublished.items q wide j)
     (waiting : (wide : Bool) (q j : ℕ) → HoldsFor w.waiting.items q wide j → HoldsFor w'.waiting.items q wide j)
     (stays : (j : ℕ) → (entry_in cells' entries' j ≡ None) ⊎ (entry_in cells' entries' j ≡ entry_in cells entries j))
@@ -132,7 +131,7 @@ module _ (w w' : Work) (cells cells' : List Cell) (entries entries' : List Entry
       (λ is j marks at. subst (λ (x : ℕ). is_clean x marks ≡ false) (sym pes) (listed.settled (sym settled ∙ is) j marks (were j marks at)))
 
 -- a place is written
-module _ (w w' : Work) (cells cells' : List Cell) (entries entries' : List Entry) (j : ℕ) (state : EntryState) (before : Option Marks)
+module _ (w w' : Work) (cells cells' : List ℕ) (entries entries' : List Entry) (j : ℕ) (state : EntryState) (before : Option Marks)
     (pes : w'.pes ≡ w.pes) (was : before ≡ marks_in cells entries j)
     (told : (marks : Marks) → marks_of_state state ≡ Some marks → (wide : Bool) (q : ℕ) → q < w.pes
     → HoldsFor w'.unpublished.items q wide j ⊎ ((pe_in marks.writers q ≡ false) ⊎ IsToldAsBefore before marks q))
@@ -210,7 +209,7 @@ module _ (w w' : Work) (cells cells' : List Cell) (entries entries' : List Entry
       (subst (λ (x : ℕ). w'.settled ≡ true → (i : ℕ) (marks : Marks) → marks_in cells' entries' i ≡ Some marks → is_clean x marks ≡ false) (sym pes) settled_now)
 
 -- a place is written that isn't broken after
-pub listed_whole : (w : Work) (cells cells' : List Cell) (entries entries' : List Entry) (j : ℕ)
+pub listed_whole : (w : Work) (cells cells' : List ℕ) (entries entries' : List Entry) (j : ℕ)
     → ((i : ℕ) → marks_in cells' entries' i ≡ (if nat_eq i j then None else marks_in cells entries i))
     → ((q i : ℕ) → pends_for cells' entries' q i ≡ (if nat_eq i j then no_pends else pends_for cells entries q i))
     → Listed w cells entries → Listed w cells' entries'
@@ -222,7 +221,7 @@ listed_whole w cells cells' entries entries' j marks_are pends_are listed =
     listed
 
 -- a place is written that is broken after
-pub listed_broken : (w w' : Work) (cells cells' : List Cell) (entries entries' : List Entry) (j : ℕ) (marks : Marks) (before : Option Marks)
+pub listed_broken : (w w' : Work) (cells cells' : List ℕ) (entries entries' : List Entry) (j : ℕ) (marks : Marks) (before : Option Marks)
     → w'.pes ≡ w.pes → before ≡ marks_in cells entries j
     → ((wide : Bool) (q : ℕ) → q < w.pes
     → HoldsFor w'.unpublished.items q wide j ⊎ ((pe_in marks.writers q ≡ false) ⊎ IsToldAsBefore before marks q))
@@ -261,7 +260,7 @@ clean_same by m (Some e) None h known marks is = absurd h
 clean_same by m (Some e) (Some f) h known marks is =
     ap (is_clean m) (sym (same_Some f.marks marks is)) ∙ ap (every_pe m) (fun_ext h.1.1.clean) ∙ known e.marks refl
 
-module _ (w w' : Work) (by : Barrier) (cells : List Cell) (entries entries' : List Entry)
+module _ (w w' : Work) (by : Barrier) (cells : List ℕ) (entries entries' : List Entry)
     (number : w.pes ≡ by.n) (pes : w'.pes ≡ w.pes) (settled : w'.settled ≡ w.settled) (waiting : w'.waiting.items ≡ w.waiting.items)
     (each : (k : ℕ) → Advances (Publishes by) (slice_get entries k) (slice_get entries' k))
     (known : HoldUntold (HoldsFor w'.unpublished.items by.issuer) by entries')
@@ -305,7 +304,7 @@ module _ (w w' : Work) (by : Barrier) (cells : List Cell) (entries entries' : Li
       (listed.settled (sym settled ∙ is) j) marks at))
 
 -- a DSB answers
-module _ (w w' : Work) (by : Barrier) (cells cells' : List Cell) (entries entries' : List Entry)
+module _ (w w' : Work) (by : Barrier) (cells cells' : List ℕ) (entries entries' : List Entry)
     (number : w.pes ≡ by.n) (pes : w'.pes ≡ w.pes) (unpublished : w'.unpublished.items ≡ w.unpublished.items)
     (each : (j : ℕ) → Completes by (entry_in cells entries j) (entry_in cells' entries' j))
     (known : HoldWaiting (HoldsFor w'.waiting.items by.issuer) by cells' entries')
@@ -364,7 +363,7 @@ noted_pends R q same None (Some f) h = absurd h
 noted_pends R q same (Some e) None h = absurd h
 noted_pends R q same (Some e) (Some f) h = same e f h.1
 
-module _ (w w' : Work) (cells : List Cell) (entries entries' : List Entry) (pes : w'.pes ≡ w.pes) (settled : w'.settled ≡ w.settled)
+module _ (w w' : Work) (cells : List ℕ) (entries entries' : List Entry) (pes : w'.pes ≡ w.pes) (settled : w'.settled ≡ w.settled)
     (unpublished : w'.unpublished.items ≡ w.unpublished.items)
     (kept : (wide : Bool) (q j : ℕ) → HoldsFor w.waiting.items q wide j → HoldsFor w'.waiting.items q wide j)
     (marks_are : (j : ℕ) → marks_in cells entries' j ≡ marks_in cells entries j)
@@ -396,7 +395,7 @@ module _ (w w' : Work) (cells : List Cell) (entries entries' : List Entry) (pes 
 abbrev NotesAll : ℕ → Entry → Entry → Type 0
 NotesAll issuer e f = (f.marks ≡ e.marks) × ((q : ℕ) → q ≢ issuer → pends_in f.pends.items q ≡ pends_in e.pends.items q)
 
-module _ (cells : List Cell) (entries mid : List Entry) (kept : (k : ℕ) → Advances Keeps (slice_get entries k) (slice_get mid k)) where
+module _ (cells : List ℕ) (entries mid : List Entry) (kept : (k : ℕ) → Advances Keeps (slice_get entries k) (slice_get mid k)) where
   room_marks : (j : ℕ) → marks_in cells mid j ≡ marks_in cells entries j
   room_marks j = noted_marks Keeps (λ e f h. h.0) (entry_in cells entries j) (entry_in cells mid j) (of_cell Keeps entries mid kept (slot_in cells j))
 
@@ -461,6 +460,6 @@ pub gone_or_same : (gone : Bool) (o p : Option Entry) → p ≡ (if gone then No
 gone_or_same true o p is = inl is
 gone_or_same false o p is = inr is
 
-pub by_slots : (cells cells' : List Cell) (entries : List Entry) → ((i : ℕ) → slot_in cells' i ≡ slot_in cells i) → (j : ℕ)
+pub by_slots : (cells cells' : List ℕ) (entries : List Entry) → ((i : ℕ) → slot_in cells' i ≡ slot_in cells i) → (j : ℕ)
     → entry_in cells' entries j ≡ entry_in cells entries j
 by_slots cells cells' entries slots j = ap (entry_of entries) (slots j)

@@ -9,7 +9,6 @@ use Rattle.bbm_place_map.specs.Each.{Completes, loses_table}
 use Rattle.bbm_place_map.specs.Entries.{cell_at, entry_of, entry_in, marks_of}
 use Rattle.bbm_place_map.specs.Parts.{marks_in}
 use Rattle.bbm_place_map.specs.Sound.{Linked}
-use Rattle.bbm_place_map.specs.declared.cell.Cell.{Cell}
 use Rattle.bbm_place_map.specs.declared.entry.Entry.{Entry}
 use Rattle.bbm_place_map.specs.declared.orders.Barrier.{Barrier}
 use Rattle.bbm_place_map.proofs.Answering.{completes_at}
@@ -28,7 +27,7 @@ some_below : (k : ℕ) (o : Option ℕ) → is_below k o ≡ true → (m : ℕ) 
 some_below k None h = cc
 some_below k (Some m) h = (m, refl, ltb-true m k h)
 
-pub record Looked (by : Barrier) (k : ℕ) (lost : Bool) (cells cells' : List Cell) (entries entries' : List Entry) : Type 0 where
+pub record Looked (by : Barrier) (k : ℕ) (lost : Bool) (cells cells' : List ℕ) (entries entries' : List Entry) : Type 0 where
   pub untouched : (j : ℕ) → is_below k (slot_in cells' j) ≡ true → entry_in cells' entries' j ≡ entry_in cells entries j
   pub done : (j : ℕ) → is_below k (slot_in cells' j) ≡ false → Completes by (entry_in cells entries j) (entry_in cells' entries' j)
   pub found : lost ≡ true → (j : ℕ) × (is_below k (slot_in cells' j) ≡ false)
@@ -41,14 +40,14 @@ lose_none o is = ap (λ (x : Option Entry). loses_table (marks_of x) (marks_of x
 
 module _ (by : Barrier) where
   -- an entry that isn't among the first ones of the whole list isn't there
-  not_there : (cells : List Cell) (entries : List Entry) → Linked cells entries → (k : ℕ) → length entries ≤ k
+  not_there : (cells : List ℕ) (entries : List Entry) → Linked cells entries → (k : ℕ) → length entries ≤ k
       → (j : ℕ) (s : Option ℕ) → slot_in cells j ≡ s → is_below k s ≡ false → entry_of entries s ≡ None
   not_there cells entries linked k whole j None is h = refl
   not_there cells entries linked k whole j (Some m) is h =
       let within : m < length entries = cell_within entries m j (linked.forth j m is) in
       absurd (both_ways (nat_lt m k) h (lt-ltb m k (omega arith)))
 
-  pub looked_none : (cells : List Cell) (entries : List Entry) (k : ℕ) → Linked cells entries → k ≡ length entries
+  pub looked_none : (cells : List ℕ) (entries : List Entry) (k : ℕ) → Linked cells entries → k ≡ length entries
       → Looked by k false cells cells entries entries
   looked_none cells entries k linked whole = record {
     untouched = λ j h. refl;
@@ -59,7 +58,7 @@ module _ (by : Barrier) where
     none = λ _ j h. lose_none (entry_in cells entries j) (not_there cells entries linked k (omega arith) j (slot_in cells j) refl h);
   }
 
-  module _ (k m : ℕ) (lost answer : Bool) (cells cells' new : List Cell) (entries entries' after : List Entry)
+  module _ (k m : ℕ) (lost answer : Bool) (cells cells' new : List ℕ) (entries entries' after : List Entry)
       (step : k ≡ m + 1) (within : m < length entries')
       (looked : Looked by k lost cells cells' entries entries')
       (linked : Linked cells' entries') (linked' : Linked new after)

@@ -4,7 +4,7 @@ use Rattle.std.proofs.Common.{ap, sym, ◌∙◌, arith, inl, inr, if◌then◌e
 use Rattle.std.proofs.lemmas.Bool.{cases_eq, cases_lt, eq-eqb, ne_eqb, cond-true, cond-false, and_from, and_left}
 use Rattle.std.proofs.lemmas.Bool.{and_right, le-leb, lt-leb, lt-ltb, le-ltb}
 use Rattle.bbm_place_map.specs.Cells.{in_page}
-use Rattle.bbm_place_map.specs.Entries.{no_pends, pends_of}
+use Rattle.bbm_place_map.specs.Entries.{marks_of, no_pends, pends_of}
 use Rattle.bbm_place_map.specs.declared.entry.Entry.{Entry}
 
 pub inside : (b n j : ℕ) → b ≤ j → j < b + n → in_page b n j ≡ true
@@ -39,10 +39,11 @@ one_more b n d f g h old new i =
           ∙ ap (λ (t : Bool). if t then d else f i) (sym (page_more b n i other))
     ]
 
-choose_pends : (q : ℕ) (b : Bool) (o : Option Entry) → pends_of q (if b then None else o) ≡ (if b then no_pends else pends_of q o)
-choose_pends q true o = refl
-choose_pends q false o = refl
+-- what is kept of an entry that is gone, or stays
+pub lose_marks : (b : Bool) (o : Option Entry) → marks_of (if b then None else o) ≡ (if b then None else marks_of o)
+lose_marks true o = refl
+lose_marks false o = refl
 
-pub drop_pends : (q b : ℕ) (f g : ℕ → Option Entry) → ((i : ℕ) → g i ≡ (if in_page b 512 i then None else f i))
-    → (i : ℕ) → pends_of q (g i) ≡ (if in_page b 512 i then no_pends else pends_of q (f i))
-drop_pends q b f g new i = ap (pends_of q) (new i) ∙ choose_pends q (in_page b 512 i) (f i)
+pub lose_pends : (q : ℕ) (b : Bool) (o : Option Entry) → pends_of q (if b then None else o) ≡ (if b then no_pends else pends_of q o)
+lose_pends q true o = refl
+lose_pends q false o = refl

@@ -1,11 +1,22 @@
--- What waits, by issuer, after an edit.
-use Rattle.std.proofs.Common.{◌≡◌, ◌≢◌, ℕ, ◌<◌, ◌≤◌, true, false, nat_eq, zero, suc, List, [], ◌∷◌, ◌++◌, length}
+-- What waits, by lane, after an edit.
+use Rattle.std.proofs.Common.{◌≡◌, ◌≢◌, ℕ, ◌<◌, ◌≤◌, ◌&&◌, ◌||◌, not, Bool, true, false, nat_eq, zero, suc, List, [], ◌∷◌, ◌++◌, length}
 use Rattle.std.proofs.Common.{get_or, set, refl, ap, sym, ◌∙◌, arith, if◌then◌else◌, Option, Some, None, is_some}
-use Rattle.std.proofs.Common.{IfSome}
+use Rattle.std.proofs.Common.{IfSome, IsTrue, ◌↔◌}
 use Rattle.std.proofs.lemmas.Bool.{cond-true, cond-false, eq-eqb, ne_eqb, false≢true}
 use Rattle.std.proofs.lemmas.List.{get_or_default}
+use Rattle.bbm_entry_state.specs.declared.pending.Pend.{Pend}
+use Rattle.bbm_barriers.specs.declared.Dsb.{Dsb}
+use Rattle.bbm_barriers.specs.Options.{answers_broadcast, answers_local}
+use Rattle.bbm_regimes.specs.declared.pe.PeMask.{PeMask}
+use Rattle.bbm_tlbi_scope.specs.declared.entry.Cover.{Cover}
+use Rattle.bbm_entry_state.specs.EntryCalls.{Noted}
+use Rattle.bbm_entry_state.specs.Points.{waits_in}
+use Rattle.bbm_entry_state.specs.declared.marks.Marks.{Marks}
 use Rattle.bbm_entry_state.specs.declared.pending.Pends.{Pends}
-use Rattle.bbm_place_map.specs.Entries.{no_pends, pends_in, IsFirst, Lacks}
+use Rattle.bbm_entry_state.specs.declared.state.EntryState.TheVariants.{Broken}
+use Rattle.bbm_place_map.specs.Dsbs.{AreAnswered, WaitsOn}
+use Rattle.bbm_place_map.specs.Entries.{Adds, WaitsAlike, lane_of, no_pend, pend_in, pends_in, IsFirst, Lacks}
+use Rattle.bbm_place_map.specs.Works.{IsQuiet}
 use Rattle.bbm_place_map.specs.declared.entry.Pending.{Pending}
 use Rattle.smallvec.specs.SmallVec.{SmallVec, with_items}
 use Rattle.smallvec.proofs.SmallVecLemmas.{items-with_items}
@@ -13,75 +24,148 @@ use Rattle.smallvec.proofs.SmallVecLemmas.{items-with_items}
 tail_lacks : (p : Pending) (ps : List Pending) (n q : ℕ) → Lacks (p ∷ ps) (suc n) q → Lacks ps n q
 tail_lacks p ps n q lacks k d below in' = lacks (suc k) d (omega arith) (omega arith)
 
-pub lacks_all : (ps : List Pending) (n q : ℕ) → length ps ≤ n → Lacks ps n q → pends_in ps q ≡ no_pends
+pub lacks_all : (ps : List Pending) (n q : ℕ) → length ps ≤ n → Lacks ps n q → pend_in ps q ≡ no_pend
 lacks_all [] n q whole lacks = refl
 lacks_all (p ∷ ps) zero q whole lacks = absurd (omega arith)
 lacks_all (p ∷ ps) (suc n) q whole lacks =
-    cond-false (nat_eq p.issuer q) p.pends (pends_in ps q) (lacks 0 p (omega arith) (omega arith))
+    cond-false (nat_eq p.lane q) p.pend (pend_in ps q) (lacks 0 p (omega arith) (omega arith))
     ∙ lacks_all ps n q (omega arith) (tail_lacks p ps n q lacks)
 
-pub set_there : (ps : List Pending) (n : ℕ) (y : Pending) (q : ℕ) → n < length ps → Lacks ps n q → nat_eq y.issuer q ≡ true
-    → pends_in (set ps n y) q ≡ y.pends
+pub set_there : (ps : List Pending) (n : ℕ) (y : Pending) (q : ℕ) → n < length ps → Lacks ps n q → nat_eq y.lane q ≡ true
+    → pend_in (set ps n y) q ≡ y.pend
 set_there [] n y q within lacks is = absurd (omega arith)
-set_there (p ∷ ps) zero y q within lacks is = cond-true (nat_eq y.issuer q) y.pends (pends_in ps q) is
+set_there (p ∷ ps) zero y q within lacks is = cond-true (nat_eq y.lane q) y.pend (pend_in ps q) is
 set_there (p ∷ ps) (suc n) y q within lacks is =
-    cond-false (nat_eq p.issuer q) p.pends (pends_in (set ps n y) q) (lacks 0 p (omega arith) (omega arith))
+    cond-false (nat_eq p.lane q) p.pend (pend_in (set ps n y) q) (lacks 0 p (omega arith) (omega arith))
     ∙ set_there ps n y q (omega arith) (tail_lacks p ps n q lacks) is
 
--- an entry of another issuer in place of an entry of the same one
+-- an item of another lane in place of an item of the same one
 pub set_others : (ps : List Pending) (n : ℕ) (x y : Pending) (q : ℕ) → n < length ps → x ≡ get_or ps n x
-    → nat_eq x.issuer q ≡ false → nat_eq y.issuer q ≡ false → pends_in (set ps n y) q ≡ pends_in ps q
+    → nat_eq x.lane q ≡ false → nat_eq y.lane q ≡ false → pend_in (set ps n y) q ≡ pend_in ps q
 set_others [] n x y q within is not-x not-y = absurd (omega arith)
 set_others (p ∷ ps) zero x y q within is not-x not-y =
-    cond-false (nat_eq y.issuer q) y.pends (pends_in ps q) not-y
-    ∙ sym (cond-false (nat_eq p.issuer q) p.pends (pends_in ps q) (ap (λ (z : Pending). nat_eq z.issuer q) (sym is) ∙ not-x))
+    cond-false (nat_eq y.lane q) y.pend (pend_in ps q) not-y
+    ∙ sym (cond-false (nat_eq p.lane q) p.pend (pend_in ps q) (ap (λ (z : Pending). nat_eq z.lane q) (sym is) ∙ not-x))
 set_others (p ∷ ps) (suc n) x y q within is not-x not-y =
-    ap (λ (r : Pends). if nat_eq p.issuer q then p.pends else r) (set_others ps n x y q (omega arith) is not-x not-y)
+    ap (λ (r : Pend). if nat_eq p.lane q then p.pend else r) (set_others ps n x y q (omega arith) is not-x not-y)
 
-pub more_there : (ps : List Pending) (y : Pending) (q : ℕ) → (n : ℕ) → length ps ≤ n → Lacks ps n q → nat_eq y.issuer q ≡ true
-    → pends_in (ps ++ y ∷ []) q ≡ y.pends
-more_there [] y q n whole lacks is = cond-true (nat_eq y.issuer q) y.pends no_pends is
+pub more_there : (ps : List Pending) (y : Pending) (q : ℕ) → (n : ℕ) → length ps ≤ n → Lacks ps n q → nat_eq y.lane q ≡ true
+    → pend_in (ps ++ y ∷ []) q ≡ y.pend
+more_there [] y q n whole lacks is = cond-true (nat_eq y.lane q) y.pend no_pend is
 more_there (p ∷ ps) y q zero whole lacks is = absurd (omega arith)
 more_there (p ∷ ps) y q (suc n) whole lacks is =
-    cond-false (nat_eq p.issuer q) p.pends (pends_in (ps ++ y ∷ []) q) (lacks 0 p (omega arith) (omega arith))
+    cond-false (nat_eq p.lane q) p.pend (pend_in (ps ++ y ∷ []) q) (lacks 0 p (omega arith) (omega arith))
     ∙ more_there ps y q n (omega arith) (tail_lacks p ps n q lacks) is
 
-pub more_others : (ps : List Pending) (y : Pending) (q : ℕ) → nat_eq y.issuer q ≡ false → pends_in (ps ++ y ∷ []) q ≡ pends_in ps q
-more_others [] y q other = cond-false (nat_eq y.issuer q) y.pends no_pends other
-more_others (p ∷ ps) y q other = ap (λ (r : Pends). if nat_eq p.issuer q then p.pends else r) (more_others ps y q other)
+pub more_others : (ps : List Pending) (y : Pending) (q : ℕ) → nat_eq y.lane q ≡ false → pend_in (ps ++ y ∷ []) q ≡ pend_in ps q
+more_others [] y q other = cond-false (nat_eq y.lane q) y.pend no_pend other
+more_others (p ∷ ps) y q other = ap (λ (r : Pend). if nat_eq p.lane q then p.pend else r) (more_others ps y q other)
 
 -- a list that is written as a slice, which keeps its length
 module _ (v : SmallVec Pending) (old new : List Pending) (shown : old ≡ v.items) (len : length new ≡ length old) where
   pub written : (with_items v new).items ≡ new
   written = items-with_items v new (len ∙ ap (λ (ps : List Pending). length ps) shown)
 
--- what waits for an issuer is that of the first of its
-pub first_pends : (ps : List Pending) (i q : ℕ) (d : Pending) → IsFirst ps i q → pends_in ps q ≡ (get_or ps i d).pends
-first_pends [] i q d first = absurd (omega (arith, first.0))
-first_pends (p ∷ ps) zero q d first = cond-true (nat_eq p.issuer q) p.pends (pends_in ps q) (eq-eqb p.issuer q (first.1 p))
-first_pends (p ∷ ps) (suc n) q d first =
-    cond-false (nat_eq p.issuer q) p.pends (pends_in ps q) (first.2 0 p (omega arith) (omega arith))
-    ∙ first_pends ps n q d (omega (arith, first.0), λ e. first.1 e, tail_lacks p ps n q first.2)
+-- what waits for a lane is that of the first of its
+pub first_pend : (ps : List Pending) (i q : ℕ) (d : Pending) → IsFirst ps i q → pend_in ps q ≡ (get_or ps i d).pend
+first_pend [] i q d first = absurd (omega (arith, first.0))
+first_pend (p ∷ ps) zero q d first = cond-true (nat_eq p.lane q) p.pend (pend_in ps q) (eq-eqb p.lane q (first.1 p))
+first_pend (p ∷ ps) (suc n) q d first =
+    cond-false (nat_eq p.lane q) p.pend (pend_in ps q) (first.2 0 p (omega arith) (omega arith))
+    ∙ first_pend ps n q d (omega (arith, first.0), λ e. first.1 e, tail_lacks p ps n q first.2)
 
--- other pends there
-module _ (ps : List Pending) (i q : ℕ) (d : Pending) (new : Pends) (first : IsFirst ps i q) where
-  issued : nat_eq (get_or ps i d).issuer q ≡ true
-  issued = eq-eqb (get_or ps i d).issuer q (first.1 d)
+-- others wait there
+module _ (ps : List Pending) (i q : ℕ) (d : Pending) (new : Pend) (first : IsFirst ps i q) where
+  issued : nat_eq (get_or ps i d).lane q ≡ true
+  issued = eq-eqb (get_or ps i d).lane q (first.1 d)
 
-  pub first_there : pends_in (set ps i (record { issuer = (get_or ps i d).issuer; pends = new })) q ≡ new
-  first_there = set_there ps i (record { issuer = (get_or ps i d).issuer; pends = new }) q first.0 first.2 issued
+  pub first_there : pend_in (set ps i (record { lane = (get_or ps i d).lane; pend = new })) q ≡ new
+  first_there = set_there ps i (record { lane = (get_or ps i d).lane; pend = new }) q first.0 first.2 issued
 
-  pub first_others : (r : ℕ) → r ≢ q → pends_in (set ps i (record { issuer = (get_or ps i d).issuer; pends = new })) r ≡ pends_in ps r
+  pub first_others : (r : ℕ) → r ≢ q → pend_in (set ps i (record { lane = (get_or ps i d).lane; pend = new })) r ≡ pend_in ps r
   first_others r other =
-      let apart : nat_eq (get_or ps i d).issuer r ≡ false = ne_eqb (get_or ps i d).issuer r (λ is. other (sym is ∙ first.1 d)) in
-      set_others ps i (get_or ps i d) (record { issuer = (get_or ps i d).issuer; pends = new }) r first.0
+      let apart : nat_eq (get_or ps i d).lane r ≡ false = ne_eqb (get_or ps i d).lane r (λ is. other (sym is ∙ first.1 d)) in
+      set_others ps i (get_or ps i d) (record { lane = (get_or ps i d).lane; pend = new }) r first.0
       (get_or_default ps i d (get_or ps i d) first.0) apart apart
 
--- an issuer with a place of its own doesn't lack
+-- a lane with a place of its own doesn't lack
 first_known : (ps : List Pending) (i q : ℕ) → IsFirst ps i q → Lacks ps (length ps) q → ⊥
 first_known [] i q first lacks = absurd (omega (arith, first.0))
-first_known (p ∷ ps) i q first lacks = false≢true (sym (lacks i p first.0 first.0) ∙ eq-eqb (get_or (p ∷ ps) i p).issuer q (first.1 p))
+first_known (p ∷ ps) i q first lacks = false≢true (sym (lacks i p first.0 first.0) ∙ eq-eqb (get_or (p ∷ ps) i p).lane q (first.1 p))
 
 pub known_by : (ps : List Pending) (o : Option ℕ) (q : ℕ) → is_some o ≡ true → IfSome o (λ i. IsFirst ps i q) → Lacks ps (length ps) q → ⊥
 known_by ps None q is first = cc
 known_by ps (Some i) q is first = first_known ps i q first
+
+-- lanes of two issuers, or of one that are broadcast and that aren't, are two
+pub lanes_apart : (q r : ℕ) (b d : Bool) → q ≢ r → lane_of q b ≢ lane_of r d
+lanes_apart q r true true other same = other (omega (arith, same))
+lanes_apart q r true false other same = other (omega (arith, same))
+lanes_apart q r false true other same = other (omega (arith, same))
+lanes_apart q r false false other same = other (omega (arith, same))
+
+pub sides_apart : (q : ℕ) → lane_of q true ≢ lane_of q false
+sides_apart q same = absurd (omega (arith, same))
+
+pub both_alike : (x y : Pends) → ((c : Cover) (p : ℕ) → waits_in y.broadcast c p ≡ waits_in x.broadcast c p)
+    → ((c : Cover) (p : ℕ) → waits_in y.local c p ≡ waits_in x.local c p) → WaitsAlike x y
+both_alike x y all own true c p = all c p
+both_alike x y all own false c p = own c p
+
+pub quiet_alike : (x y : Pends) → WaitsAlike x y → (wide r : Bool) → (IsTrue r ↔ IsQuiet wide y) → IsTrue r ↔ IsQuiet wide x
+quiet_alike x y alike wide r tells = (
+  λ t b c p is. sym (alike b c p) ∙ (tells.0 t) b c p is,
+  λ quiet. tells.1 (λ b c p is. alike b c p ∙ quiet b c p is),
+)
+
+two_sides : Pend → Pend → Pends
+two_sides x y = record { broadcast = x; local = y }
+
+module _ (old new : List Pending) (k : ℕ) (others : (m : ℕ) → m ≢ k → pend_in new m ≡ pend_in old m) where
+  -- what waits for an issuer none of whose lanes changes
+  pub issuer_kept : (q : ℕ) → lane_of q true ≢ k → lane_of q false ≢ k → pends_in new q ≡ pends_in old q
+  unfolding two_sides
+  issuer_kept q all own =
+      ap (λ (x : Pend). two_sides x (pend_in new (lane_of q false))) (others (lane_of q true) all)
+      ∙ ap (two_sides (pend_in old (lane_of q true))) (others (lane_of q false) own)
+
+-- a TLBI is noted in its lane
+pub noted_in : (old new : List Pending) (q : ℕ) (marks : Marks) (reach : PeMask) (broadcast : Bool) (cover : Cover)
+    → Adds marks reach cover (pend_in old (lane_of q broadcast)) (pend_in new (lane_of q broadcast))
+    → ((m : ℕ) → m ≢ lane_of q broadcast → pend_in new m ≡ pend_in old m)
+    → Noted (Broken marks) (pends_in old q) reach broadcast cover (pends_in new q)
+noted_in old new q marks reach true cover there others true c p = there c p
+noted_in old new q marks reach true cover there others false c p =
+    ap (λ (x : Pend). waits_in x c p) (others (lane_of q false) (λ same. sides_apart q (sym same)))
+noted_in old new q marks reach false cover there others true c p =
+    ap (λ (x : Pend). waits_in x c p) (others (lane_of q true) (sides_apart q))
+noted_in old new q marks reach false cover there others false c p = there c p
+
+-- the answered ones are taken out of both lanes of an issuer
+module _ (old mid new : List Pending) (q : ℕ) (dsb : Dsb) (all own both : Pend)
+    (all_done : (c : Cover) (p : ℕ) → waits_in all c p ≡ (answers_broadcast dsb && waits_in (pend_in old (lane_of q true)) c p))
+    (all_left : (c : Cover) (p : ℕ) → waits_in (pend_in mid (lane_of q true)) c p
+    ≡ (not (answers_broadcast dsb) && waits_in (pend_in old (lane_of q true)) c p))
+    (all_others : (m : ℕ) → m ≢ lane_of q true → pend_in mid m ≡ pend_in old m)
+    (own_done : (c : Cover) (p : ℕ) → waits_in own c p ≡ (answers_local dsb && waits_in (pend_in mid (lane_of q false)) c p))
+    (own_left : (c : Cover) (p : ℕ) → waits_in (pend_in new (lane_of q false)) c p
+    ≡ (not (answers_local dsb) && waits_in (pend_in mid (lane_of q false)) c p))
+    (own_others : (m : ℕ) → m ≢ lane_of q false → pend_in new m ≡ pend_in mid m)
+    (both_are : (c : Cover) (p : ℕ) → waits_in both c p ≡ (waits_in all c p || waits_in own c p)) where
+  own_was : pend_in mid (lane_of q false) ≡ pend_in old (lane_of q false)
+  own_was = all_others (lane_of q false) (λ same. sides_apart q (sym same))
+
+  pub taken_done : AreAnswered dsb (pends_in old q) both
+  taken_done c p =
+      both_are c p ∙ ap (λ (w : Bool). w || waits_in own c p) (all_done c p)
+      ∙ ap (λ (w : Bool). (answers_broadcast dsb && waits_in (pend_in old (lane_of q true)) c p) || w)
+      (own_done c p ∙ ap (λ (x : Pend). answers_local dsb && waits_in x c p) own_was)
+
+  pub taken_left : WaitsOn dsb (pends_in old q) (pends_in new q)
+  taken_left true c p = ap (λ (x : Pend). waits_in x c p) (own_others (lane_of q true) (sides_apart q)) ∙ all_left c p
+  taken_left false c p = own_left c p ∙ ap (λ (x : Pend). not (answers_local dsb) && waits_in x c p) own_was
+
+  pub taken_others : (r : ℕ) → r ≢ q → pends_in new r ≡ pends_in old r
+  taken_others r other =
+      issuer_kept mid new (lane_of q false) own_others r (lanes_apart r q true false other) (lanes_apart r q false false other)
+      ∙ issuer_kept old mid (lane_of q true) all_others r (lanes_apart r q true true other) (lanes_apart r q false true other)

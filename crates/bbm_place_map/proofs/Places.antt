@@ -9,11 +9,11 @@ use Rattle.bbm_place_map.specs.Sound.{Numbered, index_of, at_index}
 use Rattle.bbm_place_map.proofs.Pages.{inside, before, behind}
 
 -- the page's base of a place that has a cell
-record Found (base : ℕ → Option ℕ) (a j : ℕ) : Type 0 where
-  aligned : a % 8 ≡ 0
-  start : ℕ
-  is : base (a / 4096 * 4096) ≡ Some start
-  sum : start + a % 4096 / 8 ≡ j
+pub record Found (base : ℕ → Option ℕ) (a j : ℕ) : Type 0 where
+  pub aligned : a % 8 ≡ 0
+  pub start : ℕ
+  pub is : base (a / 4096 * 4096) ≡ Some start
+  pub sum : start + a % 4096 / 8 ≡ j
 
 found_at : (base : ℕ → Option ℕ) (a j : ℕ) (t : Bool) (o : Option ℕ) → (a % 8 == 0) ≡ t → base (a / 4096 * 4096) ≡ o
     → (if t then option_map (λ b. b + a % 4096 / 8) o else None) ≡ Some j → Found base a j
@@ -21,7 +21,7 @@ found_at base a j true (Some b) is at h = record { aligned = eqb-true (a % 8) 0 
 found_at base a j true None is at h = absurd (none-some j h)
 found_at base a j false o is at h = absurd (none-some j h)
 
-found : (base : ℕ → Option ℕ) (a j : ℕ) → index_of base a ≡ Some j → Found base a j
+pub found : (base : ℕ → Option ℕ) (a j : ℕ) → index_of base a ≡ Some j → Found base a j
 found base a j h = found_at base a j (a % 8 == 0) (base (a / 4096 * 4096)) refl refl h
 
 pub index_from : (base : ℕ → Option ℕ) (a b : ℕ) → a % 8 ≡ 0 → base (a / 4096 * 4096) ≡ Some b → index_of base a ≡ Some (b + a % 4096 / 8)
@@ -86,6 +86,9 @@ module _ (base : ℕ → Option ℕ) (count : ℕ) (numbered : Numbered base cou
       let start : f.start ≡ j = omega (arith, sum, none_before page first) in
       sym (ap base (whole page first)) ∙ f.is ∙ ap (λ (n : ℕ). Some n) start
 
+  pub page_whole : (page j : ℕ) → index_of base page ≡ Some j → page % 4096 ≡ 0 → j + 512 ≤ count
+  page_whole page j h first = numbered.within page j (page_start page j h first)
+
   pub page_inside : (page j i : ℕ) → index_of base page ≡ Some j → page % 4096 ≡ 0 → i < 512 → j + i < count
   page_inside page j i h first below =
       let in' : j + 512 ≤ count = numbered.within page j (page_start page j h first) in
@@ -123,6 +126,20 @@ module _ (base : ℕ → Option ℕ) (count : ℕ) (numbered : Numbered base cou
   elsewhere d v f g place j here new a other (Some i) h =
       new i ∙ cond-false (nat_eq i j) v (f i)
       (ne_eqb i j (λ same. other (index_once a place j (h ∙ ap (λ (n : ℕ). Some n) same) here)))
+
+  -- a cell changes: so does its place
+  pub at_place : {X : Type 0} (d v : X) (f g : ℕ → X) (place j : ℕ) → index_of base place ≡ Some j
+      → ((i : ℕ) → g i ≡ (if nat_eq i j then v else f i))
+      → (a : ℕ) → at_index d g (index_of base a) ≡ (if nat_eq a place then v else at_index d f (index_of base a))
+  at_place d v f g place j here new a =
+      elim (cases_eq a place) [
+        | inl same ↦
+            ap (at_index d g) (ap (index_of base) same ∙ here) ∙ new j ∙ cond-true (nat_eq j j) v (f j) (eq-eqb j j refl)
+            ∙ sym (cond-true (nat_eq a place) v (at_index d f (index_of base a)) (eq-eqb a place same))
+        | inr other ↦
+            elsewhere d v f g place j here new a other (index_of base a) refl
+            ∙ sym (cond-false (nat_eq a place) v (at_index d f (index_of base a)) (ne_eqb a place other))
+      ]
 
   within_page : {X : Type 0} (d : X) (f g : ℕ → X) (page b : ℕ) → base page ≡ Some b
       → ((i : ℕ) → g i ≡ (if in_page b 512 i then d else f i)) → (a : ℕ) → a / 4096 * 4096 ≡ page

@@ -12,7 +12,6 @@ use Rattle.bbm_place_map.specs.Entries.{entry_in, marks_of, pends_of, pends_in, 
 use Rattle.bbm_place_map.specs.Parts.{marks_in, pends_for}
 use Rattle.bbm_place_map.specs.Sound.{at_index}
 use Rattle.bbm_place_map.specs.States.{state_from}
-use Rattle.bbm_place_map.specs.declared.cell.Cell.{Cell}
 use Rattle.bbm_place_map.specs.declared.entry.Entry.{Entry}
 use Rattle.bbm_place_map.specs.declared.orders.Barrier.{Barrier}
 use Rattle.bbm_place_map.specs.declared.entry.Pending.{Pending}
@@ -53,7 +52,7 @@ module _ (by : Barrier) where
   same_pends q (Some e) None h = absurd h
   same_pends q (Some e) (Some f) h = ap (λ (v : SmallVec Pending). pends_in v.items q) h.1.0
 
-  module _ (cells : List Cell) (old new : List Entry)
+  module _ (cells : List ℕ) (old new : List Entry)
       (each : (k : ℕ) → Advances (Publishes by) (slice_get old k) (slice_get new k)) where
     pub published_at : (live : Option Core) (o : Option ℕ)
         → Published (state_from live (at_index None (marks_in cells old) o)) by.issuer by.dsb by.n (state_from live (at_index None (marks_in cells new) o))

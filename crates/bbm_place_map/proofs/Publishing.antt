@@ -10,7 +10,6 @@ use Rattle.bbm_place_map.specs.Dsbs.{IsHeard}
 use Rattle.bbm_place_map.specs.Each.{Advances, Publishes}
 use Rattle.bbm_place_map.specs.Sound.{Linked}
 use Rattle.bbm_place_map.specs.Works.{IsTold, MayPublish}
-use Rattle.bbm_place_map.specs.declared.cell.Cell.{Cell}
 use Rattle.bbm_place_map.specs.declared.entry.Entry.{Entry}
 use Rattle.bbm_place_map.specs.declared.orders.Barrier.{Barrier}
 use Rattle.bbm_place_map.proofs.Telling.{heard_advances, heard_after, told_kept, again, slot_cases}
@@ -18,7 +17,7 @@ use Rattle.bbm_place_map.proofs.Advancing.{at_both}
 
 module _ (by : Barrier) where
   -- one more cell is visited
-  module _ (cells : List Cell) (list : List ℕ) (start mid new : List Entry) (i : ℕ)
+  module _ (cells : List ℕ) (list : List ℕ) (start mid new : List Entry) (i : ℕ)
       (here : (m k : ℕ) → m < i → slot_in cells (slice_index list m) ≡ Some k
       → Advances (Publishes by) (slice_get start k) (slice_get mid k))
       (each : (k : ℕ) → MayPublish by (slice_get start k) (slice_get mid k))
@@ -51,7 +50,7 @@ module _ (by : Barrier) where
               ]
         ]
 
-  module _ (cells : List Cell) (list : List ℕ) (start new : List Entry) (linked : Linked cells start)
+  module _ (cells : List ℕ) (list : List ℕ) (start new : List Entry) (linked : Linked cells start)
       (known : (k : ℕ) (e : Entry) → slice_get start k ≡ Some e → Contains list e.cell ⊎ IsHeard by e.marks)
       (here : (i k : ℕ) → i < length list → slot_in cells (slice_index list i) ≡ Some k
       → Advances (Publishes by) (slice_get start k) (slice_get new k))

@@ -9,7 +9,6 @@ use Rattle.bbm_place_map.specs.Cells.{slot_in}
 use Rattle.bbm_place_map.specs.Entries.{entry_of, entry_in, marks_of, pends_of, no_pends}
 use Rattle.bbm_place_map.specs.Parts.{marks_in, pends_for}
 use Rattle.bbm_place_map.specs.Sound.{Linked, Numbered, Placed, index_of, at_index}
-use Rattle.bbm_place_map.specs.declared.cell.Cell.{Cell}
 use Rattle.bbm_place_map.specs.declared.entry.Entry.{Entry}
 use Rattle.bbm_place_map.proofs.Places.{index_once}
 
@@ -20,7 +19,7 @@ entry_there entries i within =
       | inr past ↦ absurd (omega (arith, past.0))
     ]
 
-module _ (base : ℕ → Option ℕ) (cells : List Cell) (entries : List Entry) (linked : Linked cells entries)
+module _ (base : ℕ → Option ℕ) (cells : List ℕ) (entries : List Entry) (linked : Linked cells entries)
     (placed : Placed base entries) where
   abbrev pub marks_here : ℕ → Option Marks
   marks_here a = at_index None (marks_in cells entries) (index_of base a)

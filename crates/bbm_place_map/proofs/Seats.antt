@@ -11,7 +11,6 @@ use Rattle.bbm_place_map.specs.Cells.{slot_in}
 use Rattle.bbm_place_map.specs.Entries.{seat, seat_at, cell_at, entry_of, entry_in, marks_of, pends_of, pends_in}
 use Rattle.bbm_place_map.specs.Parts.{marks_in, pends_for}
 use Rattle.bbm_place_map.specs.Sound.{Linked, Placed, StillSound, index_of}
-use Rattle.bbm_place_map.specs.declared.cell.Cell.{Cell}
 use Rattle.bbm_place_map.specs.declared.entry.Entry.{Entry}
 use Rattle.bbm_place_map.specs.declared.entry.Pending.{Pending}
 use Rattle.bbm_place_map.proofs.Linking.{choose_marks}
@@ -32,7 +31,7 @@ module _ (entries entries' : List Entry) (seats : (m : ℕ) → seat_at entries'
   cells_same m =
       seat_cell (slice_get entries' m) ∙ ap (option_map (λ (p : ℕ × ℕ). p.1)) (seats m) ∙ sym (seat_cell (slice_get entries m))
 
-  pub linked_seated : (cells : List Cell) → length entries' ≡ length entries → Linked cells entries → Linked cells entries'
+  pub linked_seated : (cells : List ℕ) → length entries' ≡ length entries → Linked cells entries → Linked cells entries'
   linked_seated cells len linked = record {
     forth = λ j k h. cells_same k ∙ linked.forth j k h;
     back = λ j k h. linked.back j k (sym (cells_same k) ∙ h);
@@ -45,7 +44,7 @@ module _ (entries entries' : List Entry) (seats : (m : ℕ) → seat_at entries'
       ap (index_of base) (sym old.2) ∙ placed k old.0 old.1 ∙ ap (λ (n : ℕ). Some n) old.3
 
 -- one entry changes
-module _ (cells : List Cell) (entries entries' : List Entry) (e e' : Entry) (j k : ℕ) (linked : Linked cells entries)
+module _ (cells : List ℕ) (entries entries' : List Entry) (e e' : Entry) (j k : ℕ) (linked : Linked cells entries)
     (here : slot_in cells j ≡ Some k) (was : slice_get entries k ≡ Some e) (seated : seat e' ≡ seat e)
     (gets : (i : ℕ) → slice_get entries' i ≡ (if nat_eq i k then Some e' else slice_get entries i)) where
   at_k : (i : ℕ) → i ≡ k → slice_get entries' i ≡ Some e'
@@ -105,15 +104,15 @@ pub found : (entries : List Entry) (k j : ℕ) → cell_at entries k ≡ Some j 
 found entries k j h = found_in (slice_get entries k) j h
 
 -- cells and entries that stay as they are, and one edit after another
-pub still_same : (cells : Vec Cell Global) (entries : Vec Entry Global) → Linked cells.items entries.items → StillSound cells cells entries entries
-still_same cells entries linked = record { linked = linked; len = refl; room = refl; values = λ i. refl; placed = λ base placed. placed }
+pub still_same : (cells : Vec ℕ Global) (entries : Vec Entry Global) → Linked cells.items entries.items → StillSound cells cells entries entries
+still_same cells entries linked = record { linked = linked; len = refl; space = refl; room = refl; placed = λ base placed. placed }
 
-pub still_more : {cells cells' cells'' : Vec Cell Global} {old mid new : Vec Entry Global} → StillSound cells cells' old mid
+pub still_more : {cells cells' cells'' : Vec ℕ Global} {old mid new : Vec Entry Global} → StillSound cells cells' old mid
     → StillSound cells' cells'' mid new → StillSound cells cells'' old new
 still_more a b = record {
   linked = b.linked;
   len = b.len ∙ a.len;
+  space = b.space ∙ a.space;
   room = b.room ∙ a.room;
-  values = λ i. b.values i ∙ a.values i;
   placed = λ base placed. b.placed base (a.placed base placed);
 }

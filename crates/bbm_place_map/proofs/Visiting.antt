@@ -12,7 +12,6 @@ use Rattle.bbm_place_map.specs.Finds.{cover_in, is_found}
 use Rattle.bbm_place_map.specs.PlaceNotes.{Keeps, NotesAs, NotesAt, NotesOne, NotesFound}
 use Rattle.bbm_place_map.specs.Sound.{Linked, Numbered, Placed, index_of, at_index, slot_at}
 use Rattle.bbm_place_map.specs.Works.{HoldsFor, Waits}
-use Rattle.bbm_place_map.specs.declared.cell.Cell.{Cell}
 use Rattle.bbm_place_map.specs.declared.entry.Entry.{Entry}
 use Rattle.bbm_place_map.specs.declared.found.Found.{Found}
 use Rattle.bbm_place_map.specs.declared.orders.Issuing.{Issuing}
@@ -23,7 +22,7 @@ use Rattle.bbm_place_map.proofs.Noting.{notes_at, waits_kept}
 use Rattle.bbm_place_map.proofs.Places.{index_once}
 use Rattle.bbm_place_map.proofs.Seats.{found}
 
-module _ (base : ℕ → Option ℕ) (cells : List Cell) (entries : List Entry) (linked : Linked cells entries) (placed : Placed base entries) where
+module _ (base : ℕ → Option ℕ) (cells : List ℕ) (entries : List Entry) (linked : Linked cells entries) (placed : Placed base entries) where
   -- the entry of a place is the only one of that place
   pub slot_there : (m : ℕ) (e : Entry) → slice_get entries m ≡ Some e → slot_at base cells e.place ≡ Some m
   slot_there m e is = ap (at_index None (slot_in cells)) (placed m e is) ∙ linked.back e.cell m (ap (option_map (λ (x : Entry). x.cell)) is)

@@ -1,26 +1,36 @@
--- Cells: the value of a place, and the number of its entry where it is broken.
+-- Cells: the number of the entry of a broken place. And values of places.
 -- Source: project's own choice.
-use Rattle.std.specs.Prelude.{ℕ, Bool, not, Option, None, is_some, List, slice_index_or, ◌+◌, ◌&&◌, ◌==◌, nat_le}
-use Rattle.std.specs.Prelude.{nat_lt}
-use Rattle.bbm_place_map.specs.declared.cell.Cell.{Cell}
+use Rattle.std.specs.Prelude.{ℕ, zero, suc, Bool, Option, None, Some, is_some, List, slice_index_or, ◌+◌, ◌%◌, ◌/◌, ◌&&◌}
+use Rattle.std.specs.Prelude.{nat_le, nat_lt, nat_eq, false}
+use Rattle.std.specs.Option.{option_map}
 
--- what is read past the cells
-abbrev pub no_cell : Cell
-no_cell = record { value = 0; slot = None }
+-- what a cell stands for: none where it is 0, else the number below it
+abbrev pub number_of : ℕ → Option ℕ
+number_of zero = None
+number_of (suc k) = Some k
 
-abbrev pub value_in : List Cell → ℕ → ℕ
-value_in cells j = (slice_index_or cells j no_cell).value
+abbrev pub value_in : List ℕ → ℕ → ℕ
+value_in values j = slice_index_or values j 0
 
-abbrev pub slot_in : List Cell → ℕ → Option ℕ
-slot_in cells j = (slice_index_or cells j no_cell).slot
+abbrev pub slot_in : List ℕ → ℕ → Option ℕ
+slot_in cells j = number_of (slice_index_or cells j 0)
 
-abbrev pub is_listed : Cell → Bool
-is_listed cell = is_some cell.slot
-
--- whether a cell has the value 0 and no entry
-abbrev pub blank_at : List Cell → ℕ → Bool
-blank_at cells j = value_in cells j == 0 && not (is_some (slot_in cells j))
+abbrev pub is_listed : ℕ → Bool
+is_listed cell = is_some (number_of cell)
 
 -- whether a cell is among so many from the base on
 abbrev pub in_page : ℕ → ℕ → ℕ → Bool
 in_page base n j = nat_le base j && nat_lt j (base + n)
+
+-- the cell of the value at j, by the numbers that tell of each page where its cells start; None where it has none
+abbrev pub cell_by : List ℕ → ℕ → Option ℕ
+cell_by parts j = option_map (λ start. start + j % 512) (slot_in parts (j / 512))
+
+-- whether this is the cell, or one of the 512 cells from the start on
+abbrev pub is_at : Option ℕ → ℕ → Bool
+is_at None j = false
+is_at (Some i) j = nat_eq j i
+
+abbrev pub in_part : Option ℕ → ℕ → Bool
+in_part None j = false
+in_part (Some start) j = in_page start 512 j

@@ -1,6 +1,6 @@
 -- What a DSB finds and leaves: cells and entries, and the list of its PE.
 -- Source: project's own choice.
-use Rattle.std.specs.Prelude.{◌≡◌, ◌≤◌, ◌<◌, ◌^◌, ◌⊎◌, ℕ, Bool, true, false, Some, List, Contains, Vec, vec_len}
+use Rattle.std.specs.Prelude.{◌≡◌, ◌≢◌, ◌≤◌, ◌<◌, ◌^◌, ◌⊎◌, ℕ, Bool, true, false, Some, List, Contains, Vec, vec_len}
 use Rattle.std.specs.Prelude.{slice_get, not, ◌&&◌}
 use Rattle.std.specs.declared.alloc.Global.{Global}
 use Rattle.bbm_barriers.specs.declared.Dsb.{Dsb}
@@ -13,12 +13,12 @@ use Rattle.bbm_entry_state.specs.declared.marks.Marks.{Marks}
 use Rattle.bbm_entry_state.specs.declared.pending.Pend.{Pend}
 use Rattle.bbm_entry_state.specs.declared.pending.Pends.{Pends}
 use Rattle.bbm_place_map.specs.Each.{Advances, Completes, Publishes, loses_table}
-use Rattle.bbm_place_map.specs.Entries.{entry_in}
+use Rattle.bbm_place_map.specs.Entries.{entry_in, pend_in}
 use Rattle.bbm_place_map.specs.Parts.{marks_in, pends_for}
 use Rattle.bbm_place_map.specs.Sound.{Linked, SameSize, StillSound}
 use Rattle.bbm_place_map.specs.Works.{IsQuiet, IsTold, is_clean}
-use Rattle.bbm_place_map.specs.declared.cell.Cell.{Cell}
 use Rattle.bbm_place_map.specs.declared.entry.Entry.{Entry}
+use Rattle.bbm_place_map.specs.declared.entry.Pending.{Pending}
 use Rattle.bbm_place_map.specs.declared.orders.Barrier.{Barrier}
 
 -- the PEs whose answer a DSB of the issuer is
@@ -29,6 +29,12 @@ AreAnswered dsb pends done = (c : Cover) (p : ℕ) → waits_in done c p ≡ ans
 abbrev pub WaitsOn : Dsb → Pends → Pends → Type 0
 WaitsOn dsb old new = (b : Bool) (c : Cover) (p : ℕ) → waits new b c p ≡ (not (answers dsb b) && waits old b c p)
 
+-- Where the flag is true those that wait for the answers of a lane are taken out of a list, and else none.
+pub record Takes (lane : ℕ) (flag : Bool) (old new : List Pending) (taken : Pend) : Type 0 where
+  pub done : (c : Cover) (p : ℕ) → waits_in taken c p ≡ (flag && waits_in (pend_in old lane) c p)
+  pub left : (c : Cover) (p : ℕ) → waits_in (pend_in new lane) c p ≡ (not flag && waits_in (pend_in old lane) c p)
+  pub others : (m : ℕ) → m ≢ lane → pend_in new m ≡ pend_in old m
+
 -- The issuer is one of the PEs of the log.
 pub record InLog (by : Barrier) : Type 0 where
   pub some : 1 ≤ by.n
@@ -36,19 +42,19 @@ pub record InLog (by : Barrier) : Type 0 where
   pub issuer_below : by.issuer < by.n
 
 -- Cells and entries, fewer than 2^32, at which a DSB can answer.
-pub record CanAnswer (by : Barrier) (cells : Vec Cell Global) (entries : Vec Entry Global) : Type 0 where
+pub record CanAnswer (by : Barrier) (cells : Vec ℕ Global) (entries : Vec Entry Global) : Type 0 where
   pub some : 1 ≤ by.n
   pub most : by.n ≤ 128
   pub linked : Linked cells.items entries.items
   pub few : vec_len cells < 2 ^ 32
 
 -- Cells and entries at which a DSB can publish.
-pub record CanPublish (by : Barrier) (cells : List Cell) (entries : List Entry) : Type 0 where
+pub record CanPublish (by : Barrier) (cells : List ℕ) (entries : List Entry) : Type 0 where
   pub log : InLog by
   pub linked : Linked cells entries
 
 -- these hold each cell at whose place something waits for the answers of the issuer's TLBIs
-abbrev pub HoldWaiting : (Bool → ℕ → Type 0) → Barrier → List Cell → List Entry → Type 0
+abbrev pub HoldWaiting : (Bool → ℕ → Type 0) → Barrier → List ℕ → List Entry → Type 0
 HoldWaiting held by cells entries = (wide : Bool) (j : ℕ) → held wide j ⊎ IsQuiet wide (pends_for cells entries by.issuer j)
 
 -- these hold the cell of each entry of which a DSB of the issuer publishes more
@@ -66,11 +72,11 @@ abbrev pub IsUnanswered : Dsb → Pends → Type 0
 IsUnanswered dsb pends = (b : Bool) (c : Cover) (p : ℕ) → (answers dsb b && waits pends b c p) ≡ false
 
 -- no place waits to leave
-abbrev pub IsSettled : Barrier → List Cell → List Entry → Type 0
+abbrev pub IsSettled : Barrier → List ℕ → List Entry → Type 0
 IsSettled by cells entries = (j : ℕ) (marks : Marks) → marks_in cells entries j ≡ Some marks → is_clean by.n marks ≡ false
 
 -- Each cell at whose place a DSB answers something is among these, and no place waits to leave.
-pub record HasWaiting (list : List ℕ) (by : Barrier) (cells : List Cell) (entries : List Entry) : Type 0 where
+pub record HasWaiting (list : List ℕ) (by : Barrier) (cells : List ℕ) (entries : List Entry) : Type 0 where
   pub known : (j : ℕ) → Contains list j ⊎ IsUnanswered by.dsb (pends_for cells entries by.issuer j)
   pub settled : IsSettled by cells entries
 
@@ -80,7 +86,7 @@ pub record PublishesAll (by : Barrier) (old new : Vec Entry Global) : Type 0 whe
   pub size : SameSize old new
 
 -- A DSB of the issuer answered its TLBIs at each entry, and told whether one over a table left.
-pub record CompletesAll (by : Barrier) (cells cells' : Vec Cell Global) (old new : Vec Entry Global)
+pub record CompletesAll (by : Barrier) (cells cells' : Vec ℕ Global) (old new : Vec Entry Global)
     (told : Bool) : Type 0 where
   pub sound : StillSound cells cells' old new
   pub each : (j : ℕ) → Completes by (entry_in cells.items old.items j) (entry_in cells'.items new.items j)

@@ -1,15 +1,18 @@
 -- Entries: what is kept of the broken places, and of each the TLBIs that wait for their answers.
 -- Source: project's own choice.
-use Rattle.std.specs.Prelude.{◌≡◌, ℕ, Bool, false, Option, Some, None, List, [], ◌∷◌, nat_eq, ◌<◌, length}
-use Rattle.std.specs.Prelude.{slice_index_or, slice_get, if◌then◌else◌}
+use Rattle.std.specs.Prelude.{◌≡◌, ◌+◌, ℕ, Bool, true, false, cond, Option, Some, None, List, [], ◌∷◌, nat_eq, ◌<◌, length}
+use Rattle.std.specs.Prelude.{slice_index_or, slice_get, option_and_then, if◌then◌else◌, ◌&&◌, ◌||◌}
 use Rattle.std.specs.Option.{option_map}
 use Rattle.bbm_tlbi_scope.specs.declared.entry.Cover.{Cover}
-use Rattle.bbm_entry_state.specs.Points.{waits}
+use Rattle.bbm_tlbi_scope.specs.SameCover.{same_cover}
+use Rattle.bbm_regimes.specs.PeMask.{pe_in}
+use Rattle.bbm_regimes.specs.declared.pe.PeMask.{PeMask}
+use Rattle.bbm_entry_state.specs.Marking.{counts_for}
+use Rattle.bbm_entry_state.specs.Points.{waits, waits_in}
 use Rattle.bbm_entry_state.specs.declared.marks.Marks.{Marks}
 use Rattle.bbm_entry_state.specs.declared.pending.Pend.{Pend}
 use Rattle.bbm_entry_state.specs.declared.pending.Pends.{Pends}
-use Rattle.bbm_place_map.specs.Cells.{slot_in}
-use Rattle.bbm_place_map.specs.declared.cell.Cell.{Cell}
+use Rattle.bbm_place_map.specs.Cells.{slot_in, cell_by}
 use Rattle.bbm_place_map.specs.declared.entry.Entry.{Entry}
 use Rattle.bbm_place_map.specs.declared.entry.Pending.{Pending}
 use Rattle.smallvec.specs.SmallVec.{SmallVec, HasRoomFor}
@@ -21,10 +24,18 @@ no_pend = record { half = record { bits = 0 }; second = record { bits = 0 }; ful
 abbrev pub no_pends : Pends
 no_pends = record { broadcast = no_pend; local = no_pend }
 
+-- the TLBIs of one issuer that are broadcast, or its others
+abbrev pub lane_of : ℕ → Bool → ℕ
+lane_of q broadcast = q + q + cond broadcast 1 0
+
+-- what waits for the answers of a lane
+abbrev pub pend_in : List Pending → ℕ → Pend
+pend_in [] k = no_pend
+pend_in (p ∷ ps) k = if nat_eq p.lane k then p.pend else pend_in ps k
+
 -- what waits for the answers of an issuer's TLBIs
 abbrev pub pends_in : List Pending → ℕ → Pends
-pends_in [] q = no_pends
-pends_in (p ∷ ps) q = if nat_eq p.issuer q then p.pends else pends_in ps q
+pends_in ps q = record { broadcast = pend_in ps (lane_of q true); local = pend_in ps (lane_of q false) }
 
 -- the cell of the entry with this number
 abbrev pub cell_at : List Entry → ℕ → Option ℕ
@@ -35,8 +46,12 @@ abbrev pub entry_of : List Entry → Option ℕ → Option Entry
 entry_of entries None = None
 entry_of entries (Some k) = slice_get entries k
 
-abbrev pub entry_in : List Cell → List Entry → ℕ → Option Entry
+abbrev pub entry_in : List ℕ → List Entry → ℕ → Option Entry
 entry_in cells entries j = entry_of entries (slot_in cells j)
+
+-- the entry of the place of the value at j
+abbrev pub entry_by : List ℕ → List ℕ → List Entry → ℕ → Option Entry
+entry_by parts cells entries j = option_and_then (entry_in cells entries) (cell_by parts j)
 
 abbrev pub marks_of : Option Entry → Option Marks
 marks_of None = None
@@ -53,18 +68,23 @@ seat e = (e.place, e.cell)
 abbrev pub seat_at : List Entry → ℕ → Option (ℕ × ℕ)
 seat_at entries k = option_map seat (slice_get entries k)
 
+-- the PEs wait too that a TLBI reaches and for which it counts, as far as it covers a place with these marks
+abbrev pub Adds : Marks → PeMask → Cover → Pend → Pend → Type 0
+Adds marks reach cover old new = (c : Cover) (p : ℕ)
+    → waits_in new c p ≡ ((pe_in reach p && (same_cover c cover && counts_for marks c p)) || waits_in old c p)
+
 -- the same waits
 abbrev pub WaitsAlike : Pends → Pends → Type 0
 WaitsAlike old new = (b : Bool) (c : Cover) (p : ℕ) → waits new b c p ≡ waits old b c p
 
--- none of the first n is of this issuer
+-- none of the first n is of this lane
 abbrev pub Lacks : List Pending → ℕ → ℕ → Type 0
-Lacks ps n q = (k : ℕ) (d : Pending) → k < n → k < length ps → nat_eq (slice_index_or ps k d).issuer q ≡ false
+Lacks ps n lane = (k : ℕ) (d : Pending) → k < n → k < length ps → nat_eq (slice_index_or ps k d).lane lane ≡ false
 
--- what waits for this issuer has its place there, the first of its
+-- what waits for this lane has its place there, the first of its
 abbrev pub IsFirst : List Pending → ℕ → ℕ → Type 0
-IsFirst ps i q = (i < length ps) × ((d : Pending) → (slice_index_or ps i d).issuer ≡ q) × Lacks ps i q
+IsFirst ps i lane = (i < length ps) × ((d : Pending) → (slice_index_or ps i d).lane ≡ lane) × Lacks ps i lane
 
--- what waits for this issuer has its place there, or there is room for it
+-- what waits for this lane has its place there, or there is room for it
 abbrev pub HasRoom : SmallVec Pending → ℕ → Type 0
-HasRoom pends q = Lacks pends.items (length pends.items) q → HasRoomFor pends 1
+HasRoom pends lane = Lacks pends.items (length pends.items) lane → HasRoomFor pends 1

@@ -11,7 +11,7 @@ use Rattle.bbm_entry_state.specs.declared.state.EntryState.{EntryState}
 use Rattle.bbm_place_map.specs.Cells.{value_in}
 use Rattle.bbm_place_map.specs.Entries.{no_pends}
 use Rattle.bbm_place_map.specs.Parts.{marks_in, pends_for}
-use Rattle.bbm_place_map.specs.Sound.{index_of, at_index}
+use Rattle.bbm_place_map.specs.Sound.{index_of, at_index, starts}
 use Rattle.bbm_place_map.specs.States.{state_from}
 use Rattle.bbm_place_map.specs.declared.entry.Entry.{Entry}
 use Rattle.bbm_place_map.specs.declared.map.PlaceMap.{PlaceMap}
@@ -23,15 +23,19 @@ page_of a = a / 4096 * 4096
 
 -- the value of a place
 unfoldable pub value_at : PlaceMap → ℕ → ℕ
-value_at map a = at_index 0 (value_in map.cells.items) (index_of (get nat_eq map.pages) a)
+value_at map a = at_index 0 (value_in map.values.items) (index_of (get nat_eq map.pages) a)
+
+-- the number of the cell of a place; None where it has none, so that it isn't broken
+abbrev pub place_cell : PlaceMap → ℕ → Option ℕ
+place_cell map a = index_of (starts (get nat_eq map.pages) map.parts.items) a
 
 -- how far each PE is cleansed of the core of a broken place; None where the place isn't broken
 unfoldable pub marks_at : PlaceMap → ℕ → Option Marks
-marks_at map a = at_index None (marks_in map.cells.items map.broken.items) (index_of (get nat_eq map.pages) a)
+marks_at map a = at_index None (marks_in map.cells.items map.broken.items) (place_cell map a)
 
 -- what waits at a place for the answers of an issuer's TLBIs
 unfoldable pub pends_at : PlaceMap → ℕ → ℕ → Pends
-pends_at map q a = at_index no_pends (pends_for map.cells.items map.broken.items q) (index_of (get nat_eq map.pages) a)
+pends_at map q a = at_index no_pends (pends_for map.cells.items map.broken.items q) (place_cell map a)
 
 -- whether the page is tracked
 unfoldable pub is_tracked : PlaceMap → ℕ → Bool

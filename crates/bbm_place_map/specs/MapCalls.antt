@@ -1,6 +1,6 @@
 -- What the calls that concern all broken places say of each.
 -- Source: project's own choice.
-use Rattle.std.specs.Prelude.{◌≡◌, ℕ, Bool, false, nat_eq, not, ◌&&◌, if◌then◌else◌}
+use Rattle.std.specs.Prelude.{◌≡◌, ℕ, Bool, false, nat_eq, not, ◌&&◌, if◌then◌else◌, vec_len}
 use Rattle.bbm_entry_state.specs.Points.{is_broken}
 use Rattle.bbm_entry_state.specs.EntryStanding.{IsIdle}
 use Rattle.bbm_entry_state.specs.declared.state.EntryState.{EntryState}
@@ -32,3 +32,12 @@ pub record IsSame (old new : PlaceMap) : Type 0 where
   pub pages : (p : ℕ) → is_tracked new p ≡ is_tracked old p
   pub restless : restless_in new ≡ restless_in old
   pub places : (i : ℕ) → restless_place new i ≡ restless_place old i
+
+-- Pages, values, cells and entries are the same, in as much room or more.
+pub record KeepsItems (old new : PlaceMap) : Type 0 where
+  pub pages : new.pages ≡ old.pages
+  pub values : new.values.items ≡ old.values.items
+  pub len : vec_len new.values ≡ vec_len old.values
+  pub parts : new.parts.items ≡ old.parts.items
+  pub cells : new.cells.items ≡ old.cells.items
+  pub entries : new.broken.items ≡ old.broken.items

@@ -25,11 +25,11 @@ is_cover Full = true
 abbrev pub Keeps : Entry → Entry → Type 0
 Keeps e f = (f.marks ≡ e.marks) × (f.pends.items ≡ e.pends.items)
 
--- and there is room for the issuer, where the place is covered
+-- and there is room for the lane, where the place is covered
 abbrev pub Readies : ℕ → List Cover → ℕ → Entry → Entry → Type 0
-Readies issuer covers m e f =
+Readies lane covers m e f =
     (f.marks ≡ e.marks) × (f.pends.items ≡ e.pends.items)
-    × ((c : Cover) → slice_get covers m ≡ Some c → is_cover c ≡ true → HasRoom f.pends issuer)
+    × ((c : Cover) → slice_get covers m ≡ Some c → is_cover c ≡ true → HasRoom f.pends lane)
 
 -- the TLBI is noted, which covers the place so far
 abbrev pub NotesAs : Cover → Issuing → Entry → Entry → Type 0

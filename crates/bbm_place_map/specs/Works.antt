@@ -13,7 +13,6 @@ use Rattle.bbm_entry_state.specs.declared.pending.Pends.{Pends}
 use Rattle.bbm_place_map.specs.Each.{Advances, Publishes, Completes}
 use Rattle.bbm_place_map.specs.Entries.{pends_in}
 use Rattle.bbm_place_map.specs.Parts.{marks_in, pends_for}
-use Rattle.bbm_place_map.specs.declared.cell.Cell.{Cell}
 use Rattle.bbm_place_map.specs.declared.entry.Entry.{Entry}
 use Rattle.bbm_place_map.specs.declared.orders.Barrier.{Barrier}
 use Rattle.bbm_place_map.specs.declared.work.Work.{Work}
@@ -80,7 +79,7 @@ GivesUp work =
 
 -- Where a list doesn't have a cell no DSB of its PE publishes, or answers, anything of the cell's place, or none that
 -- reaches the PE alone does; and where all is settled no place waits to leave.
-pub record Listed (work : Work) (cells : List Cell) (entries : List Entry) : Type 0 where
+pub record Listed (work : Work) (cells : List ℕ) (entries : List Entry) : Type 0 where
   pub some : 1 ≤ work.pes
   pub most : work.pes ≤ 128
   pub told : (wide : Bool) (q j : ℕ) (marks : Marks) → q < work.pes → marks_in cells entries j ≡ Some marks

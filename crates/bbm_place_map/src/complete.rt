@@ -13,7 +13,6 @@ ghost use Rattle.bbm_place_map.specs.Sound.{FrontStays, SameSize, StillSound};
 ghost use Rattle.bbm_place_map.specs.Works.{Holds, HoldsFor, IsQuiet, MayComplete};
 ghost use Rattle.bbm_place_map.specs.declared.entry.Entry.{Entry as TheEntry};
 
-use crate::cell::Cell;
 use crate::entry::{Entry, is_quiet, pends_of, take_answered};
 use crate::links::unlink;
 use crate::orders::Barrier;
@@ -57,7 +56,7 @@ fn answer_at(broken: &mut Vec<Entry>, k: usize, barrier: &Barrier) -> bool
 /// A DSB of the issuer answered its TLBIs at one entry, which leaves where its place is cleansed at every PE. Whether
 /// it left, and its core is a table.
 #[inline(always)]
-fn complete_at(cells: &mut Vec<Cell>, broken: &mut Vec<Entry>, k: usize, barrier: &Barrier) -> bool
+fn complete_at(cells: &mut Vec<u32>, broken: &mut Vec<Entry>, k: usize, barrier: &Barrier) -> bool
     requires able { CanAnswer barrier.now cells.old broken.old }
     requires within { k < vec_len broken.old }
     ensures sound { StillSound cells.old cells.new broken.old broken.new }
@@ -81,7 +80,7 @@ fn complete_at(cells: &mut Vec<Cell>, broken: &mut Vec<Entry>, k: usize, barrier
 
 /// A DSB of the issuer answered its TLBIs at each entry. One whose place is cleansed at every PE leaves. Whether one
 /// over a table left.
-fn complete_all(cells: &mut Vec<Cell>, broken: &mut Vec<Entry>, barrier: &Barrier) -> bool
+fn complete_all(cells: &mut Vec<u32>, broken: &mut Vec<Entry>, barrier: &Barrier) -> bool
     requires { CanAnswer barrier.now cells.old broken.old }
     ensures { CompletesAll barrier.now cells.old cells.new broken.old broken.new result }
 {
@@ -98,7 +97,7 @@ fn complete_all(cells: &mut Vec<Cell>, broken: &mut Vec<Entry>, barrier: &Barrie
 
 /// A DSB of the issuer answered its TLBIs at the entry of a cell, if it has one.
 fn complete_cell(
-    cells: &mut Vec<Cell>,
+    cells: &mut Vec<u32>,
     broken: &mut Vec<Entry>,
     cell: u32,
     barrier: &Barrier,
@@ -112,7 +111,7 @@ fn complete_cell(
     ensures others { (i : ℕ) → i ≢ cell → entry_in cells.new.items broken.new.items i
         ≡ entry_in cells.old.items broken.old.items i }
 {
-    match slot_of(cells, cell) {
+    match slot_of(cells, cell as usize) {
         Some(k) => complete_at(cells, broken, k as usize, barrier),
         None => false,
     }
@@ -120,7 +119,7 @@ fn complete_cell(
 
 /// A DSB of the issuer answered its TLBIs at the entries of these cells.
 fn complete_cells(
-    cells: &mut Vec<Cell>,
+    cells: &mut Vec<u32>,
     broken: &mut Vec<Entry>,
     list: &[u32],
     barrier: &Barrier,
@@ -170,7 +169,7 @@ fn relist(broken: &[Entry], list: &mut WorkList, issuer: Pe)
 
 /// A DSB of the issuer answered its TLBIs. The list has all cells at which something waits for that.
 fn complete_list(
-    cells: &mut Vec<Cell>,
+    cells: &mut Vec<u32>,
     broken: &mut Vec<Entry>,
     list: &[u32],
     barrier: &Barrier,
@@ -184,7 +183,7 @@ fn complete_list(
 
 /// The same of the issuer's list, which loses the cells where nothing is left, or passes them for the next such DSB.
 fn complete_listed(
-    cells: &mut Vec<Cell>,
+    cells: &mut Vec<u32>,
     broken: &mut Vec<Entry>,
     list: &mut WorkList,
     barrier: &Barrier,
@@ -211,7 +210,7 @@ fn complete_listed(
 
 /// The same for any list.
 fn complete_by(
-    cells: &mut Vec<Cell>,
+    cells: &mut Vec<u32>,
     broken: &mut Vec<Entry>,
     list: &mut WorkList,
     settled: bool,
@@ -236,7 +235,7 @@ fn complete_by(
 /// table left. Where it is settled that no other place waits to leave, and the issuer's list has all cells at which
 /// something waits, only these are visited.
 pub fn complete(
-    cells: &mut Vec<Cell>,
+    cells: &mut Vec<u32>,
     broken: &mut Vec<Entry>,
     lists: &mut Vec<WorkList>,
     settled: bool,

@@ -2,8 +2,8 @@
 //! Source: project's own choice, where no other is named.
 
 ghost use Rattle.std.specs.Prelude.{◌≡◌, ◌≢◌, ◌↔◌, ◌<◌, ℕ, IsTrue, OnOk, IfSome, None, length, true, false};
-ghost use Rattle.bbm_place_map.specs.Dsbs.{AreAnswered, WaitsOn};
-ghost use Rattle.bbm_place_map.specs.Entries.{pends_in, WaitsAlike};
+ghost use Rattle.bbm_place_map.specs.Dsbs.{AreAnswered, Takes, WaitsOn};
+ghost use Rattle.bbm_place_map.specs.Entries.{Adds, lane_of as spec_lane_of, pend_in, pends_in, WaitsAlike};
 ghost use Rattle.bbm_place_map.specs.Entries.{HasRoom, IsFirst, Lacks};
 ghost use Rattle.smallvec.specs.SmallVec.{HasRoomFor};
 ghost use Rattle.bbm_entry_state.specs.EntryCalls.{Noted};
@@ -12,27 +12,27 @@ ghost use Rattle.bbm_place_map.specs.Works.{IsQuiet};
 ghost use Rattle.bbm_entry_state.specs.declared.state.EntryState.TheVariants as state;
 ghost use Rattle.bbm_tlbi_scope.specs.declared.entry.Cover.{Cover as TheCover};
 
-use bbm_barriers::Dsb;
+use bbm_barriers::{Dsb, completes_broadcast, completes_local};
 use bbm_entry_state::{Marks, Pend, Pends};
 use bbm_regimes::{NoMemory, Pe, PeMask, Place};
 use bbm_tlbi_scope::Cover;
 use smallvec::SmallVec;
 
-/// What waits at a place for the answers of one issuer's TLBIs.
+/// What waits at a place for the answers of one lane: the TLBIs of one issuer that are broadcast, or its others.
 #[derive(Clone, Copy, Debug)]
 pub struct Pending {
-    /// The PE that issued them.
-    pub issuer: Pe,
-    /// What waits.
-    pub pends: Pends,
+    /// The lane: twice the number of the PE that issued them, and one more where they are broadcast.
+    pub lane: u8,
+    /// The PEs that wait.
+    pub pend: Pend,
 }
 
 /// What fills an unused place of a list: nothing waits for an answer to PE 0.
 impl Default for Pending {
     fn default() -> Pending {
         Pending {
-            issuer: Pe::new(0).unwrap(),
-            pends: Pends::none(),
+            lane: 0,
+            pend: Pend::none(),
         }
     }
 }
@@ -46,7 +46,7 @@ pub struct Entry {
     pub cell: u32,
     /// How far each PE is cleansed of its core.
     pub marks: Marks,
-    /// What waits there, for each issuer of TLBIs that cover the place. Most often there is one.
+    /// What waits there, for each lane of TLBIs that cover the place. Most often there is one.
     pub pends: SmallVec<Pending, 1>,
 }
 
@@ -68,68 +68,71 @@ pub fn is_quiet(pends: &Pends, wide: bool) -> bool
     }
 }
 
-/// What waits for the answers of the issuer's TLBIs.
-pub fn pends_of(pendings: &[Pending], issuer: Pe) -> Pends
-    ensures { WaitsAlike (pends_in pendings.now issuer) result }
+/// The lane of an issuer's TLBIs that are broadcast, or of its others.
+#[inline(always)]
+pub fn lane_of(issuer: Pe, broadcast: bool) -> u8
+    ensures { result ≡ spec_lane_of issuer broadcast }
 {
-    for pending in pendings {
-        if pending.issuer == issuer {
-            return pending.pends;
-        }
-    }
-    Pends::none()
+    let twice = issuer.get() + issuer.get();
+    if broadcast { twice + 1 } else { twice }
 }
 
-/// Where what waits for the answers of the issuer's TLBIs is kept; None where nothing is.
-fn place_of(pendings: &[Pending], issuer: Pe) -> Option<usize>
-    ensures some { IfSome result (λ i. IsFirst pendings.now i issuer) }
-    ensures none { result ≡ None → Lacks pendings.now (length pendings.now) issuer }
+/// Where what waits for the answers of a lane is kept; None where nothing is.
+fn place_of(pendings: &[Pending], lane: u8) -> Option<usize>
+    ensures some { IfSome result (λ i. IsFirst pendings.now i lane) }
+    ensures none { result ≡ None → Lacks pendings.now (length pendings.now) lane }
 {
     for i in 0..pendings.len() {
-        if pendings[i].issuer == issuer {
+        if pendings[i].lane == lane {
             return Some(i);
         }
     }
     None
 }
 
-/// Notes a TLBI over a place with these marks in what waits for the answers of its issuer's, which is kept here.
-/// Whether nothing waited, or of one that isn't broadcast nothing for another such.
-fn note_here(
-    pendings: &mut [Pending],
-    i: usize,
-    marks: &Marks,
-    reach: PeMask,
-    broadcast: bool,
-    cover: Cover,
-) -> bool
-    requires { i < length pendings.old }
-    ensures here { (q : ℕ) → IsFirst pendings.old i q → Noted (state.Broken marks.now) (pends_in pendings.old q) reach
-        broadcast cover (pends_in pendings.new q) }
-    ensures quiet { (q : ℕ) → IsFirst pendings.old i q → IsTrue result ↔ IsQuiet broadcast (pends_in pendings.old q) }
-    ensures others { (q r : ℕ) → IsFirst pendings.old i q → r ≢ q
-        → pends_in pendings.new r ≡ pends_in pendings.old r }
-    ensures len { length pendings.new ≡ length pendings.old }
+/// What waits for the answers of a lane.
+fn pend_of(pendings: &[Pending], lane: u8) -> Pend
+    ensures { (c : TheCover) (p : ℕ) → waits_in result c p ≡ waits_in (pend_in pendings.now lane) c p }
 {
-    let pends = &mut pendings[i].pends;
-    let quiet = is_quiet(pends, broadcast);
-    pends.note(marks, reach, broadcast, cover);
-    quiet
+    match place_of(pendings, lane) {
+        Some(i) => pendings[i].pend,
+        None => Pend::none(),
+    }
 }
 
-/// Takes those whose answer a DSB is out of those that wait here for the answers of its issuer's TLBIs.
-fn take_here(pendings: &mut [Pending], i: usize, dsb: Dsb) -> Pend
+/// What waits for the answers of the issuer's TLBIs.
+pub fn pends_of(pendings: &[Pending], issuer: Pe) -> Pends
+    ensures { WaitsAlike (pends_in pendings.now issuer) result }
+{
+    let broadcast = pend_of(pendings, lane_of(issuer, true));
+    let local = pend_of(pendings, lane_of(issuer, false));
+    Pends { broadcast, local }
+}
+
+/// Notes a TLBI over a place with these marks in what waits for the answers of its lane, which is kept here.
+fn note_here(pendings: &mut [Pending], i: usize, marks: &Marks, reach: PeMask, cover: Cover)
     requires { i < length pendings.old }
-    ensures done { (q : ℕ) → IsFirst pendings.old i q → AreAnswered dsb (pends_in pendings.old q) result }
-    ensures left { (q : ℕ) → IsFirst pendings.old i q
-        → WaitsOn dsb (pends_in pendings.old q) (pends_in pendings.new q) }
-    ensures others { (q r : ℕ) → IsFirst pendings.old i q → r ≢ q
-        → pends_in pendings.new r ≡ pends_in pendings.old r }
+    ensures here { (k : ℕ) → IsFirst pendings.old i k
+        → Adds marks.now reach cover (pend_in pendings.old k) (pend_in pendings.new k) }
+    ensures others { (k m : ℕ) → IsFirst pendings.old i k → m ≢ k → pend_in pendings.new m ≡ pend_in pendings.old m }
     ensures len { length pendings.new ≡ length pendings.old }
 {
-    let pends = &mut pendings[i].pends;
-    let done = pends.answered(dsb);
-    pends.drop_answered(dsb);
+    let pend = &mut pendings[i].pend;
+    pend.note(marks, reach, cover);
+}
+
+/// Takes those out that wait for the answers of the lane that is kept here.
+fn take_here(pendings: &mut [Pending], i: usize) -> Pend
+    requires { i < length pendings.old }
+    ensures done { (k : ℕ) → IsFirst pendings.old i k → result ≡ pend_in pendings.old k }
+    ensures left { (k : ℕ) → IsFirst pendings.old i k
+        → (c : TheCover) (p : ℕ) → waits_in (pend_in pendings.new k) c p ≡ false }
+    ensures others { (k m : ℕ) → IsFirst pendings.old i k → m ≢ k → pend_in pendings.new m ≡ pend_in pendings.old m }
+    ensures len { length pendings.new ≡ length pendings.old }
+{
+    let pend = &mut pendings[i].pend;
+    let done = *pend;
+    *pend = Pend::none();
     done
 }
 
@@ -145,18 +148,40 @@ fn grow(pendings: &mut SmallVec<Pending, 1>) -> Result<(), NoMemory>
     }
 }
 
-/// Makes room for what waits for the answers of the issuer's TLBIs. `NoMemory` where there is none.
-pub fn make_room_for_issuer(pendings: &mut SmallVec<Pending, 1>, issuer: Pe) -> Result<(), NoMemory>
+/// Makes room for what waits for the answers of a lane. `NoMemory` where there is none.
+pub fn make_room_for_lane(pendings: &mut SmallVec<Pending, 1>, lane: u8) -> Result<(), NoMemory>
     ensures items { pendings.new.items ≡ pendings.old.items }
-    ensures room { OnOk result (HasRoom pendings.new issuer) }
+    ensures room { OnOk result (HasRoom pendings.new lane) }
 {
     if pendings.len() < pendings.capacity() {
         return Ok(());
     }
-    if place_of(pendings.as_slice(), issuer).is_some() {
+    if place_of(pendings.as_slice(), lane).is_some() {
         return Ok(());
     }
     grow(pendings)
+}
+
+/// Notes a TLBI over a place with these marks, where there is room for what waits for the answers of its lane.
+fn note_lane(
+    pendings: &mut SmallVec<Pending, 1>,
+    lane: u8,
+    marks: &Marks,
+    reach: PeMask,
+    cover: Cover,
+)
+    requires { HasRoom pendings.old lane }
+    ensures there { Adds marks.now reach cover (pend_in pendings.old.items lane) (pend_in pendings.new.items lane) }
+    ensures others { (m : ℕ) → m ≢ lane → pend_in pendings.new.items m ≡ pend_in pendings.old.items m }
+{
+    match place_of(pendings.as_slice(), lane) {
+        Some(i) => note_here(pendings.as_mut_slice(), i, marks, reach, cover),
+        None => {
+            let mut pend = Pend::none();
+            pend.note(marks, reach, cover);
+            pendings.push_reserved(Pending { lane, pend });
+        }
+    }
 }
 
 /// Notes a TLBI of the issuer over a place with these marks, where there is room for what waits for its answer. Whether
@@ -169,20 +194,27 @@ pub fn note_pends(
     broadcast: bool,
     cover: Cover,
 ) -> bool
-    requires { HasRoom pendings.old issuer }
+    requires { HasRoom pendings.old (spec_lane_of issuer broadcast) }
     ensures there { Noted (state.Broken marks.now) (pends_in pendings.old.items issuer) reach broadcast cover
         (pends_in pendings.new.items issuer) }
     ensures quiet { IsTrue result ↔ IsQuiet broadcast (pends_in pendings.old.items issuer) }
     ensures others { (q : ℕ) → q ≢ issuer → pends_in pendings.new.items q ≡ pends_in pendings.old.items q }
 {
-    match place_of(pendings.as_slice(), issuer) {
-        Some(i) => note_here(pendings.as_mut_slice(), i, marks, reach, broadcast, cover),
-        None => {
-            let mut pends = Pends::none();
-            pends.note(marks, reach, broadcast, cover);
-            pendings.push_reserved(Pending { issuer, pends });
-            true
-        }
+    let quiet = is_quiet(&pends_of(pendings.as_slice(), issuer), broadcast);
+    note_lane(pendings, lane_of(issuer, broadcast), marks, reach, cover);
+    quiet
+}
+
+/// Takes those out that wait for the answers of a lane, where the flag is true, and else none.
+fn take_if(pendings: &mut SmallVec<Pending, 1>, lane: u8, flag: bool) -> Pend
+    ensures { Takes lane flag pendings.old.items pendings.new.items result }
+{
+    if !flag {
+        return Pend::none();
+    }
+    match place_of(pendings.as_slice(), lane) {
+        Some(i) => take_here(pendings.as_mut_slice(), i),
+        None => Pend::none(),
     }
 }
 
@@ -192,8 +224,7 @@ pub fn take_answered(pendings: &mut SmallVec<Pending, 1>, issuer: Pe, dsb: Dsb) 
     ensures left { WaitsOn dsb (pends_in pendings.old.items issuer) (pends_in pendings.new.items issuer) }
     ensures others { (q : ℕ) → q ≢ issuer → pends_in pendings.new.items q ≡ pends_in pendings.old.items q }
 {
-    match place_of(pendings.as_slice(), issuer) {
-        Some(i) => take_here(pendings.as_mut_slice(), i, dsb),
-        None => Pend::none(),
-    }
+    let all = take_if(pendings, lane_of(issuer, true), completes_broadcast(dsb));
+    let own = take_if(pendings, lane_of(issuer, false), completes_local(dsb));
+    all.or(own)
 }

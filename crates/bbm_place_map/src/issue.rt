@@ -6,40 +6,41 @@ ghost use Rattle.bbm_entry_state.specs.EntryCalls.{Noted};
 ghost use Rattle.bbm_entry_state.specs.declared.state.EntryState.TheVariants as state;
 ghost use Rattle.bbm_tlbi_scope.specs.declared.entry.Cover.{Cover as TheCover};
 ghost use Rattle.bbm_place_map.specs.Each.{Advances};
-ghost use Rattle.bbm_place_map.specs.Entries.{seat, pends_in, HasRoom};
+ghost use Rattle.bbm_place_map.specs.Entries.{seat, lane_of, pends_in, HasRoom};
 ghost use Rattle.bbm_place_map.specs.Finds.{is_found};
 ghost use Rattle.indexmap.specs.IndexMap.{get};
-ghost use Rattle.bbm_place_map.specs.Sound.{IsSound, SameSize, slot_at};
+ghost use Rattle.bbm_place_map.specs.Sound.{IsSound, SameSize, slot_at, starts};
 ghost use Rattle.bbm_place_map.specs.PlaceNotes.{Keeps, Readies, NotesAs, NotesAt, NotesFound, NotesOne};
 ghost use Rattle.bbm_place_map.specs.PlaceNotes.{OnlyNotes, is_cover as spec_is_cover};
 ghost use Rattle.bbm_place_map.specs.Works.{IsQuiet, Waits};
 ghost use Rattle.bbm_place_map.specs.declared.entry.Entry.{Entry as TheEntry};
 
-use crate::cell::Cell;
-use crate::entry::{Entry, make_room_for_issuer, note_pends};
+use crate::entry::{Entry, make_room_for_lane, note_pends};
 use crate::found::{Answer, Found};
 use crate::orders::Issuing;
 use crate::read::entry_at;
 use crate::work::{WorkList, add_for};
-use bbm_regimes::{NoMemory, Pe, Place};
+use bbm_regimes::{NoMemory, Place};
 use bbm_tlbi_scope::Cover;
 use indexmap::IndexMap;
 
 /// Where each place is kept.
 #[derive(Clone, Copy)]
 pub struct Kept<'a> {
-    /// The number of the first cell of each page.
+    /// The number of the first value of each page.
     pub pages: &'a IndexMap<u64, usize>,
+    /// Where the cells of each page start.
+    pub parts: &'a [u32],
     /// The cells.
-    pub cells: &'a [Cell],
+    pub cells: &'a [u32],
     /// The number of an entry that is tried before a place is looked up.
     pub near: u32,
 }
 
 /// The number of a place's entry; None where the place isn't broken.
 fn entry_of(kept: &Kept, broken: &[Entry], place: Place) -> Option<u32>
-    requires { IsSound (get nat_eq kept.now.pages.now) kept.now.cells.now broken.now }
-    ensures { result ≡ slot_at (get nat_eq kept.now.pages.now) kept.now.cells.now place }
+    requires { IsSound (starts (get nat_eq kept.now.pages.now) kept.now.parts.now) kept.now.cells.now broken.now }
+    ensures { result ≡ slot_at (starts (get nat_eq kept.now.pages.now) kept.now.parts.now) kept.now.cells.now place }
 {
     let near = kept.near as usize;
     if near < broken.len() {
@@ -47,7 +48,7 @@ fn entry_of(kept: &Kept, broken: &[Entry], place: Place) -> Option<u32>
             return Some(kept.near);
         }
     }
-    entry_at(kept.pages, kept.cells, place)
+    entry_at(kept.pages, kept.parts, kept.cells, place)
 }
 
 /// Whether a TLBI covers a place at all.
@@ -62,24 +63,25 @@ fn is_cover(cover: Cover) -> bool
     }
 }
 
-/// Makes room at an entry for what waits for the issuer. `NoMemory` where there is none.
-fn make_room_at(broken: &mut Vec<Entry>, k: usize, issuer: Pe) -> Result<(), NoMemory>
+/// Makes room at an entry for what waits for the answers of a lane. `NoMemory` where there is none.
+fn make_room_at(broken: &mut Vec<Entry>, k: usize, lane: u8) -> Result<(), NoMemory>
     requires { k < vec_len broken.old }
     ensures entry { (e : TheEntry) → slice_get broken.old.items k ≡ Some e → (f : TheEntry) × (seat f ≡ seat e)
-        × Keeps e f × OnOk result (HasRoom f.pends issuer)
+        × Keeps e f × OnOk result (HasRoom f.pends lane)
         × ((i : ℕ) → slice_get broken.new.items i ≡ (if nat_eq i k then Some f else slice_get broken.old.items i)) }
     ensures size { SameSize broken.old broken.new }
 {
     let entry = &mut broken[k];
-    make_room_for_issuer(&mut entry.pends, issuer)
+    make_room_for_lane(&mut entry.pends, lane)
 }
 
-/// Notes the TLBI at an entry with room for its issuer. Whether nothing waited there, or of one that isn't broadcast
+/// Notes the TLBI at an entry with room for its lane. Whether nothing waited there, or of one that isn't broadcast
 /// nothing for another such.
 #[inline(always)]
 fn note_at(broken: &mut Vec<Entry>, k: usize, tlbi: &Issuing, cover: Cover) -> bool
     requires within { k < vec_len broken.old }
-    requires ready { (e : TheEntry) → slice_get broken.old.items k ≡ Some e → HasRoom e.pends tlbi.now.issuer }
+    requires ready { (e : TheEntry) → slice_get broken.old.items k ≡ Some e
+        → HasRoom e.pends (lane_of tlbi.now.issuer tlbi.now.broadcast) }
     ensures entry { (e : TheEntry) → slice_get broken.old.items k ≡ Some e → (f : TheEntry) × (seat f ≡ seat e)
         × (f.marks ≡ e.marks) × ((q : ℕ) → q ≢ tlbi.now.issuer → pends_in f.pends.items q ≡ pends_in e.pends.items q)
         × Noted (state.Broken e.marks) (pends_in e.pends.items tlbi.now.issuer) tlbi.now.reach tlbi.now.broadcast cover
@@ -112,7 +114,7 @@ fn note_entry(
 )
     requires within { k < vec_len broken.old }
     requires ready { (e : TheEntry) → slice_get broken.old.items k ≡ Some e → spec_is_cover cover ≡ true
-        → HasRoom e.pends tlbi.now.issuer }
+        → HasRoom e.pends (lane_of tlbi.now.issuer tlbi.now.broadcast) }
     ensures entry { (e : TheEntry) → slice_get broken.old.items k ≡ Some e → (f : TheEntry) × (seat f ≡ seat e)
         × NotesAs cover tlbi.now e f × Waits lists.new.items tlbi.now.issuer e f
         × ((i : ℕ) → slice_get broken.new.items i ≡ (if nat_eq i k then Some f else slice_get broken.old.items i)) }
@@ -125,28 +127,29 @@ fn note_entry(
     }
 }
 
-/// Makes room for the issuer at each place that is covered. `NoMemory` where there is none.
-pub fn make_room(broken: &mut Vec<Entry>, covers: &[Answer], issuer: Pe) -> Result<(), NoMemory>
+/// Makes room for the lane at each place that is covered. `NoMemory` where there is none.
+pub fn make_room(broken: &mut Vec<Entry>, covers: &[Answer], lane: u8) -> Result<(), NoMemory>
     requires { length covers.now ≡ length broken.old.items }
     ensures each { (m : ℕ) → Advances Keeps (slice_get broken.old.items m) (slice_get broken.new.items m) }
     ensures ready { OnOk result ((m : ℕ)
-        → Advances (Readies issuer covers.now m) (slice_get broken.old.items m) (slice_get broken.new.items m)) }
+        → Advances (Readies lane covers.now m) (slice_get broken.old.items m) (slice_get broken.new.items m)) }
     ensures size { SameSize broken.old broken.new }
 {
     for k in 0..broken.len() {
         if is_cover(covers[k].get()) {
-            make_room_at(broken, k, issuer)?;
+            make_room_at(broken, k, lane)?;
         }
     }
     Ok(())
 }
 
-/// Notes the TLBI at each place that is covered, where there is room for its issuer. The cells of those at which
+/// Notes the TLBI at each place that is covered, where there is room for its lane. The cells of those at which
 /// something waits now are listed for the issuer.
 pub fn note(broken: &mut Vec<Entry>, covers: &[Answer], tlbi: &Issuing, lists: &mut Vec<WorkList>)
     requires len { length covers.now ≡ length broken.old.items }
     requires ready { (m : ℕ) (e : TheEntry) → slice_get broken.old.items m ≡ Some e → (c : TheCover)
-        → slice_get covers.now m ≡ Some c → spec_is_cover c ≡ true → HasRoom e.pends tlbi.now.issuer }
+        → slice_get covers.now m ≡ Some c → spec_is_cover c ≡ true
+        → HasRoom e.pends (lane_of tlbi.now.issuer tlbi.now.broadcast) }
     ensures each { (m : ℕ)
         → Advances (NotesAt covers.now tlbi.now m) (slice_get broken.old.items m)
         (slice_get broken.new.items m) }
@@ -173,42 +176,42 @@ fn is_among(found: &[Found], place: Place) -> bool
     false
 }
 
-/// Makes room for the issuer at a place, if it is broken. `NoMemory` where there is none.
+/// Makes room for the lane at a place, if it is broken. `NoMemory` where there is none.
 fn make_room_for(
     kept: &Kept,
     broken: &mut Vec<Entry>,
     place: Place,
-    issuer: Pe,
+    lane: u8,
 ) -> Result<(), NoMemory>
-    requires { IsSound (get nat_eq kept.now.pages.now) kept.now.cells.now broken.old.items }
+    requires { IsSound (starts (get nat_eq kept.now.pages.now) kept.now.parts.now) kept.now.cells.now broken.old.items }
     ensures each { (m : ℕ) → Advances Keeps (slice_get broken.old.items m) (slice_get broken.new.items m) }
     ensures ready { OnOk result ((m : ℕ) (e : TheEntry) → slice_get broken.new.items m ≡ Some e → e.place ≡ place
-        → HasRoom e.pends issuer) }
+        → HasRoom e.pends lane) }
     ensures others { (m : ℕ) (e : TheEntry) → slice_get broken.new.items m ≡ Some e → e.place ≢ place
         → slice_get broken.new.items m ≡ slice_get broken.old.items m }
     ensures size { SameSize broken.old broken.new }
 {
     match entry_of(kept, broken, place) {
-        Some(k) => make_room_at(broken, k as usize, issuer),
+        Some(k) => make_room_at(broken, k as usize, lane),
         None => Ok(()),
     }
 }
 
-/// Makes room for the issuer at each broken place of these items. `NoMemory` where there is none.
+/// Makes room for the lane at each broken place of these items. `NoMemory` where there is none.
 pub fn make_room_found(
     kept: &Kept,
     broken: &mut Vec<Entry>,
     found: &[Found],
-    issuer: Pe,
+    lane: u8,
 ) -> Result<(), NoMemory>
-    requires { IsSound (get nat_eq kept.now.pages.now) kept.now.cells.now broken.old.items }
+    requires { IsSound (starts (get nat_eq kept.now.pages.now) kept.now.parts.now) kept.now.cells.now broken.old.items }
     ensures each { (m : ℕ) → Advances Keeps (slice_get broken.old.items m) (slice_get broken.new.items m) }
     ensures ready { OnOk result ((m : ℕ) (e : TheEntry) → slice_get broken.new.items m ≡ Some e
-        → is_found found.now e.place ≡ true → HasRoom e.pends issuer) }
+        → is_found found.now e.place ≡ true → HasRoom e.pends lane) }
     ensures size { SameSize broken.old broken.new }
 {
     for i in 0..found.len() {
-        make_room_for(kept, broken, found[i].place, issuer)?;
+        make_room_for(kept, broken, found[i].place, lane)?;
     }
     Ok(())
 }
@@ -222,9 +225,10 @@ fn note_for(
     tlbi: &Issuing,
     lists: &mut Vec<WorkList>,
 )
-    requires sound { IsSound (get nat_eq kept.now.pages.now) kept.now.cells.now broken.old.items }
+    requires sound { IsSound (starts (get nat_eq kept.now.pages.now) kept.now.parts.now) kept.now.cells.now
+        broken.old.items }
     requires ready { (m : ℕ) (e : TheEntry) → slice_get broken.old.items m ≡ Some e → e.place ≡ item.place
-        → HasRoom e.pends tlbi.now.issuer }
+        → HasRoom e.pends (lane_of tlbi.now.issuer tlbi.now.broadcast) }
     ensures each { (m : ℕ) → Advances (NotesOne item.place item.cover tlbi.now lists.new.items)
         (slice_get broken.old.items m) (slice_get broken.new.items m) }
     ensures rest { OnlyNotes broken.old broken.new lists.old.items lists.new.items }
@@ -243,11 +247,12 @@ fn note_next(
     tlbi: &Issuing,
     lists: &mut Vec<WorkList>,
 )
-    requires sound { IsSound (get nat_eq kept.now.pages.now) kept.now.cells.now broken.old.items }
+    requires sound { IsSound (starts (get nat_eq kept.now.pages.now) kept.now.parts.now) kept.now.cells.now
+        broken.old.items }
     requires within { i < length found.now }
     requires ready { (m : ℕ) (e : TheEntry) → slice_get broken.old.items m ≡ Some e
         → is_found found.now e.place ≡ true → is_found (take i found.now) e.place ≡ false
-        → HasRoom e.pends tlbi.now.issuer }
+        → HasRoom e.pends (lane_of tlbi.now.issuer tlbi.now.broadcast) }
     ensures each { (start : List TheEntry) → ((m : ℕ)
         → Advances (NotesFound (take i found.now) tlbi.now lists.old.items)
         (slice_get start m) (slice_get broken.old.items m)) → (m : ℕ)
@@ -262,7 +267,7 @@ fn note_next(
 }
 
 /// Notes the TLBI at each broken place of these items, as far as the first item of it says, where there is room for its
-/// issuer. The cells of those at which something waits now are listed for the issuer.
+/// lane. The cells of those at which something waits now are listed for the issuer.
 pub fn note_found(
     kept: &Kept,
     broken: &mut Vec<Entry>,
@@ -270,9 +275,10 @@ pub fn note_found(
     tlbi: &Issuing,
     lists: &mut Vec<WorkList>,
 )
-    requires sound { IsSound (get nat_eq kept.now.pages.now) kept.now.cells.now broken.old.items }
+    requires sound { IsSound (starts (get nat_eq kept.now.pages.now) kept.now.parts.now) kept.now.cells.now
+        broken.old.items }
     requires ready { (m : ℕ) (e : TheEntry) → slice_get broken.old.items m ≡ Some e
-        → is_found found.now e.place ≡ true → HasRoom e.pends tlbi.now.issuer }
+        → is_found found.now e.place ≡ true → HasRoom e.pends (lane_of tlbi.now.issuer tlbi.now.broadcast) }
     ensures each { (m : ℕ) → Advances (NotesFound found.now tlbi.now lists.new.items)
         (slice_get broken.old.items m) (slice_get broken.new.items m) }
     ensures rest { OnlyNotes broken.old broken.new lists.old.items lists.new.items }

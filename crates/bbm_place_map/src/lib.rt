@@ -16,14 +16,14 @@
 //!   cover are known call `issue_at` with these.
 //! - At a DSB call `publish`, then `complete`. They visit the places where the DSB may change something, seldom all.
 //! - Where a page leaves its tree call `release`.
-//! - Where all places of a page are asked, `is_blank` tells whether there is anything, and `value_from` reads each
-//!   value, `core_from` each core, from the seat of the page's first place, `first_seat`, without a look-up.
+//! - Where all places of a page are asked, `is_blank` tells whether there is anything. From the seat of the page's
+//!   first place, `first_seat`, `values_of` gives the values, `value_from` reads one of them, and `core_from` a core,
+//!   without a look-up.
 //!
 //! `restless` and `restless_at` list the broken places, `restless_core` tells what each is broken over. Each contract
 //! says of every place what it is after the call. `break_before_make` is an example of the calls, with its proof.
 #![tactic(auto)]
 
-mod cell;
 mod complete;
 mod entry;
 pub mod example;

@@ -1,47 +1,46 @@
-//! Edits of the cells and the entries, which keep naming each other.
+//! Edits of cells and entries, which keep naming each other.
 
 ghost use Rattle.std.specs.Prelude.{◌≡◌, ◌≤◌, ◌<◌, ◌+◌, ◌^◌, ℕ, Option, Some, None, is_some, nat_eq, vec_len};
-ghost use Rattle.std.specs.Prelude.{vec_capacity, count_by, slice_get, cond, if◌then◌else◌};
-ghost use Rattle.bbm_place_map.specs.Cells.{value_in, slot_in, is_listed};
+ghost use Rattle.std.specs.Prelude.{vec_capacity, count_by, slice_get, cond, if◌then◌else◌, ◌-◌, IfSome};
+ghost use Rattle.bbm_place_map.specs.Cells.{slot_in, is_listed, number_of};
 ghost use Rattle.bbm_place_map.specs.Entries.{cell_at, entry_in};
 ghost use Rattle.bbm_place_map.specs.Puts.{Breaks};
 ghost use Rattle.bbm_place_map.specs.Sound.{CanBreak, FewLinked, FrontStays, StillSound};
 
-use crate::cell::Cell;
 use crate::entry::Entry;
 use bbm_entry_state::Marks;
 use bbm_regimes::Place;
 use smallvec::SmallVec;
 use std::alloc::Global;
 
-/// Writes the value of a cell.
-pub fn put_value(cells: &mut Vec<Cell>, j: usize, value: u64)
-    requires { j < vec_len cells.old }
-    ensures values { (i : ℕ) → value_in cells.new.items i ≡ (if nat_eq i j then value else value_in cells.old.items i) }
-    ensures slots { (i : ℕ) → slot_in cells.new.items i ≡ slot_in cells.old.items i }
-    ensures count { count_by is_listed cells.new.items ≡ count_by is_listed cells.old.items }
-    ensures len { vec_len cells.new ≡ vec_len cells.old }
+/// The cell that stands for this number.
+#[inline(always)]
+fn cell_for(number: Option<u32>) -> u32
+    requires { IfSome number (λ k. k < 2 ^ 32 - 1) }
+    ensures { number_of result ≡ number }
 {
-    let slot = cells[j].slot;
-    cells[j] = Cell { value, slot };
+    match number {
+        Some(k) => k + 1,
+        None => 0,
+    }
 }
 
 /// Writes the number of a cell's entry.
-fn put_slot(cells: &mut Vec<Cell>, j: usize, slot: Option<u32>)
-    requires { j < vec_len cells.old }
-    ensures values { (i : ℕ) → value_in cells.new.items i ≡ value_in cells.old.items i }
+pub fn put_slot(cells: &mut Vec<u32>, j: usize, slot: Option<u32>)
+    requires within { j < vec_len cells.old }
+    requires few { IfSome slot (λ k. k < 2 ^ 32 - 1) }
     ensures slots { (i : ℕ) → slot_in cells.new.items i ≡ (if nat_eq i j then slot else slot_in cells.old.items i) }
     ensures count { count_by is_listed cells.new.items + cond (is_some (slot_in cells.old.items j)) 1 0
         ≡ count_by is_listed cells.old.items + cond (is_some slot) 1 0 }
     ensures len { vec_len cells.new ≡ vec_len cells.old }
+    ensures space { vec_capacity cells.new ≡ vec_capacity cells.old }
 {
-    let value = cells[j].value;
-    cells[j] = Cell { value, slot };
+    cells[j] = cell_for(slot);
 }
 
 /// Makes an entry for a cell that has none, with nothing waiting.
 pub fn link(
-    cells: &mut Vec<Cell>,
+    cells: &mut Vec<u32>,
     broken: &mut Vec<Entry>,
     j: usize,
     place: Place,
@@ -63,7 +62,7 @@ pub fn link(
 }
 
 /// Takes an entry out. The last one takes its number.
-pub fn unlink(cells: &mut Vec<Cell>, broken: &mut Vec<Entry>, k: usize)
+pub fn unlink(cells: &mut Vec<u32>, broken: &mut Vec<Entry>, k: usize)
     requires able { FewLinked cells.old broken.old }
     requires within { k < vec_len broken.old }
     ensures sound { StillSound cells.old cells.new broken.old broken.new }

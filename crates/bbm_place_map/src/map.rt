@@ -4,13 +4,13 @@
 ghost use Rattle.std.specs.Prelude.{◌≡◌, ◌≤◌, ◌<◌, ◌^◌, vec_len, vec_capacity, nat_eq};
 ghost use Rattle.std.proofs.Props.{props};
 ghost use Rattle.indexmap.specs.IndexMap.{get};
-ghost use Rattle.bbm_place_map.specs.Sound.{Linked, Numbered, Placed};
+ghost use Rattle.bbm_place_map.specs.Sound.{Linked, Numbered, Parted, Placed, starts};
 ghost use Rattle.bbm_place_map.specs.Works.{Listed};
 
-use crate::cell::Cell;
-use crate::entry::Entry;
+use crate::entry::{Entry, lane_of};
 use crate::found::{Answer, Found};
 use crate::issue::Kept;
+use crate::links::put_slot;
 use crate::orders::{Barrier, Issuing};
 use crate::seat::Seat;
 use crate::work::{self, Work};
@@ -24,47 +24,60 @@ use indexmap::IndexMap;
 use smallvec::SmallVec;
 use std::alloc::Global;
 
-/// The number of cells that may be kept.
-const MAX_CELLS: usize = 1 << 31;
+/// The number of values that may be kept.
+const MAX_VALUES: usize = 1 << 31;
 
-/// The number of cells of a page. Pages have theirs one after another, in the order in which they were tracked.
-const CELLS: usize = 512;
+/// The number of values of a page. Pages have theirs one after another, in the order in which they were tracked. A page
+/// has as many cells from its first broken place on.
+const VALUES: usize = 512;
 
 /// The values of the places of the tracked pages, and of the broken ones among them the marks and the pendings.
 #[derive(Drop)]
 pub struct PlaceMap {
     alloc: Global,
     pages: IndexMap<u64, usize>,
-    cells: Vec<Cell>,
+    values: Vec<u64>,
+    parts: Vec<u32>,
+    cells: Vec<u32>,
     broken: Vec<Entry>,
     work: Work,
     recent: usize,
-    ghost numbered: { Numbered (get nat_eq pages) (vec_len cells) },
+    ghost numbered: { Numbered (get nat_eq pages) (vec_len values) },
+    ghost parted: { Parted (get nat_eq pages) parts.items (vec_len values) (vec_len cells) },
     ghost linked: { Linked cells.items broken.items },
-    ghost placed: { Placed (get nat_eq pages) broken.items },
-    ghost room: { vec_len cells ≤ vec_capacity broken },
-    ghost few: { vec_len cells < 2 ^ 32 },
+    ghost placed: { Placed (starts (get nat_eq pages) parts.items) broken.items },
+    ghost space: { vec_len values ≤ vec_capacity cells },
+    ghost room: { vec_len values ≤ vec_capacity broken },
+    ghost fewer: { vec_len cells ≤ vec_len values },
+    ghost few: { vec_len values < 2 ^ 32 },
     ghost listed: { Listed work cells.items broken.items },
 }
 
-#[tactic(auto, unfolding(crate::specs::Map::value_at, crate::specs::Map::marks_at, crate::specs::Map::pends_at, crate::specs::Map::is_tracked, crate::specs::Map::IsSeat, crate::specs::Map::restless_in, crate::specs::Map::restless_place))]
+#[tactic(auto, unfolding(
+// values, marks and pendings
+crate::specs::Map::value_at, crate::specs::Map::marks_at, crate::specs::Map::pends_at,
+// pages and seats
+crate::specs::Map::is_tracked, crate::specs::Map::IsSeat,
+// the broken places by their numbers
+crate::specs::Map::restless_in, crate::specs::Map::restless_place))]
 impl PlaceMap {
     ghost use Rattle.std.specs.Prelude.{ℕ, Bool, Some, None, [], true, false, Option, IsSome, IfSome, IfOk, length};
     ghost use Rattle.std.specs.Prelude.{slice_get, is_some, OnOk, OnErr, ◌||◌, not, ◌&&◌, ◌+◌, ◌*◌, ◌%◌, ◌↔◌};
-    ghost use Rattle.std.specs.Prelude.{if◌then◌else◌};
+    ghost use Rattle.std.specs.Prelude.{if◌then◌else◌, slice_index_or};
     ghost use Rattle.bbm_entry_state.specs.Points.{core_in, is_broken, waits};
     ghost use Rattle.bbm_entry_state.specs.declared.marks.Marks.{Marks as TheMarks};
     ghost use Rattle.bbm_entry_state.specs.declared.state.EntryState.{EntryState as TheState};
     ghost use Rattle.bbm_tlbi_scope.specs.declared.entry.Cover.{Cover as TheCover};
     ghost use Rattle.bbm_place_map.specs.Finds.{is_found, FoundAs};
-    ghost use Rattle.bbm_place_map.specs.MapCalls.{lost_table, IsSame, Leaves, Puts};
+    ghost use Rattle.bbm_place_map.specs.MapCalls.{lost_table, IsSame, KeepsItems, Leaves, Puts};
+    ghost use Rattle.bbm_place_map.specs.Cells.{cell_by};
     ghost use Rattle.bbm_place_map.specs.declared.entry.Entry.{Entry as TheEntry};
     ghost use Rattle.bbm_entry_state.specs.EntryCalls.{Written, Published, Noted, Completed};
     ghost use Rattle.bbm_descriptor.specs.Descriptor.{core_of};
     ghost use Rattle.bbm_descriptor.specs.declared.desc.Core.{Core as TheCore};
     ghost use Rattle.bbm_entry_state.specs.EntryStanding.{IsIdle};
     ghost use Rattle.bbm_place_map.specs.Map.{value_at, marks_at, pends_at, is_tracked, IsSeat, page_of, restless_in};
-    ghost use Rattle.bbm_place_map.specs.Map.{restless_place, state_at};
+    ghost use Rattle.bbm_place_map.specs.Map.{place_cell, restless_place, state_at};
     ghost use Rattle.bbm_place_map.specs.Entries.{WaitsAlike};
     ghost use Rattle.bbm_place_map.specs.Sound.{index_of};
     ghost use Rattle.bbm_place_map.specs.States.{marks_of_state};
@@ -80,6 +93,8 @@ impl PlaceMap {
         PlaceMap {
             alloc,
             pages: IndexMap::new(alloc),
+            values: Vec::new(alloc),
+            parts: Vec::new(alloc),
             cells: Vec::new(alloc),
             broken: Vec::new(alloc),
             work: work::no_work(alloc),
@@ -94,26 +109,26 @@ impl PlaceMap {
         self.pages.contains_key(&page.get())
     }
 
-    /// The number of the place's cell; None where its page isn't tracked. No answer depends on the number `near`, at
+    /// The number of the place's value; None where its page isn't tracked. No answer depends on the number `near`, at
     /// which the page is looked for first.
     #[inline(always)]
     fn index_near(&self, place: Place, near: usize) -> Option<usize>
         ensures index { result ≡ index_of (get nat_eq self.now.pages) place }
-        ensures within { IfSome result (λ j. j < vec_len self.now.cells) }
+        ensures within { IfSome result (λ j. j < vec_len self.now.values) }
         ensures tracked { is_tracked self.now (page_of place) ≡ true → IsSome result }
     {
         let _ = place.get();
-        read::index_near(&self.pages, &self.cells, near, place)
+        read::index_near(&self.pages, &self.values, near, place)
     }
 
     /// The same, looked up at once: most places that are asked for are in another page than that of the last write.
     fn index(&self, place: Place) -> Option<usize>
         ensures index { result ≡ index_of (get nat_eq self.now.pages) place }
-        ensures within { IfSome result (λ j. j < vec_len self.now.cells) }
+        ensures within { IfSome result (λ j. j < vec_len self.now.values) }
         ensures tracked { is_tracked self.now (page_of place) ≡ true → IsSome result }
     {
         let _ = place.get();
-        read::index_at(&self.pages, &self.cells, place)
+        read::index_at(&self.pages, &self.values, place)
     }
 
     /// The state of a place, where a place that isn't broken is live with this core, or clean without one.
@@ -121,7 +136,7 @@ impl PlaceMap {
         ensures { result ≡ state_at self.now live place }
     {
         match self.index(place) {
-            Some(j) => read::state(&self.cells, &self.broken, j, live),
+            Some(j) => read::state(&self.parts, &self.cells, &self.broken, j, live),
             None => read::whole(live),
         }
     }
@@ -154,7 +169,7 @@ impl PlaceMap {
         ensures place { IfSome result (λ seat. seat.place ≡ place) }
         ensures seat { IfSome result (λ seat. IsSeat self.now seat) }
     {
-        let index = read::index_here(&self.pages, &self.cells, number, place)?;
+        let index = read::index_here(&self.pages, &self.values, number, place)?;
         Some(Seat { place, index })
     }
 
@@ -171,7 +186,7 @@ impl PlaceMap {
         requires level { level ≤ 3 }
         ensures { result ≡ core_of kind level (value_at self.now seat.now.place) }
     {
-        core(kind, level, self.cells[seat.index].value)
+        core(kind, level, self.values[seat.index])
     }
 
     /// Whether a seat's place is broken.
@@ -180,7 +195,7 @@ impl PlaceMap {
         requires { IsSeat self.now seat.now }
         ensures { result ≡ is_some (marks_at self.now seat.now.place) }
     {
-        read::is_broken(&self.cells, &self.broken, seat.index)
+        read::is_broken(&self.parts, &self.cells, &self.broken, seat.index)
     }
 
     /// The core that a seat's place is broken over; where it isn't broken, this one.
@@ -188,7 +203,7 @@ impl PlaceMap {
         requires { IsSeat self.now seat.now }
         ensures { result ≡ core_in (state_at self.now live seat.now.place) }
     {
-        read::core(&self.cells, &self.broken, seat.index, live)
+        read::core(&self.parts, &self.cells, &self.broken, seat.index, live)
     }
 
     /// The state of the place, read at this kind and level, 0 to 3: one that isn't broken is live with the core of its
@@ -199,8 +214,8 @@ impl PlaceMap {
     {
         match self.index(place) {
             Some(j) => {
-                let live = core(kind, level, self.cells[j].value);
-                read::state(&self.cells, &self.broken, j, live)
+                let live = core(kind, level, self.values[j]);
+                read::state(&self.parts, &self.cells, &self.broken, j, live)
             }
             None => read::whole(core(kind, level, 0)),
         }
@@ -212,7 +227,7 @@ impl PlaceMap {
         ensures idle { marks_at self.now place ≡ None → IsIdle (pends_at self.now issuer place) }
     {
         match self.index(place) {
-            Some(j) => read::pends(&self.cells, &self.broken, j, issuer),
+            Some(j) => read::pends(&self.parts, &self.cells, &self.broken, j, issuer),
             None => Pends::none(),
         }
     }
@@ -225,7 +240,12 @@ impl PlaceMap {
     {
         let _ = page.get();
         match self.base(page) {
-            Some(base) => read::is_blank(&self.cells, base),
+            Some(base) => {
+                if !read::is_zero(&self.values, base) {
+                    return false;
+                }
+                read::is_free(&self.parts, &self.cells, base)
+            }
             None => true,
         }
     }
@@ -249,12 +269,24 @@ impl PlaceMap {
         requires within { number < 512 }
         ensures { result ≡ value_at self.now (seat.now.place + 8 * number) }
     {
-        self.cells[seat.index + number as usize].value
+        self.values[seat.index + number as usize]
     }
 
-    /// The core that the place with this number, 0 to 511, has, of the page whose first place the seat has: the one that
-    /// it is broken over; where it isn't broken that of its value, read at this kind and level, 0 to 3, and None where
-    /// that is invalid.
+    /// The values of the 512 places, in their order, of the page whose first place the seat has.
+    #[inline(always)]
+    pub fn values_of(&self, seat: &Seat) -> &[u64]
+        requires seat { IsSeat self.now seat.now }
+        requires first { seat.now.place % 4096 ≡ 0 }
+        ensures len { length result.now ≡ 512 }
+        ensures each { (i : ℕ) → i < 512 → slice_index_or result.now i 0
+            ≡ value_at self.now (seat.now.place + 8 * i) }
+    {
+        read::values_of(&self.values, seat.index)
+    }
+
+    /// The core that the place with this number, 0 to 511, has, of the page whose first place the seat has: the one
+    /// that it is broken over; where it isn't broken that of its value, read at this kind and level, 0 to 3, and None
+    /// where that is invalid.
     pub fn core_from(&self, seat: &Seat, number: u64, kind: Kind, level: u8) -> Option<Core>
         requires seat { IsSeat self.now seat.now }
         requires first { seat.now.place % 4096 ≡ 0 }
@@ -265,7 +297,7 @@ impl PlaceMap {
     {
         let live = core(kind, level, self.value_from(seat, number));
         let j = seat.index + number as usize;
-        read::core(&self.cells, &self.broken, j, live)
+        read::core(&self.parts, &self.cells, &self.broken, j, live)
     }
 
     /// How many places are broken.
@@ -334,8 +366,9 @@ impl PlaceMap {
         ensures marks { (a : ℕ) → marks_at self.new a ≡ marks_at self.old a }
         ensures pends { (q a : ℕ) → pends_at self.new q a ≡ pends_at self.old q a }
     {
-        write::put_bare(&mut self.cells, seat.index, value);
-        self.recent = seat.index / CELLS;
+        let j = seat.index;
+        write::put_value(&mut self.values, j, value);
+        self.recent = j / VALUES;
     }
 
     /// The PE writes an invalid value at a seat's place, which is live with this core and isn't broken. The state is
@@ -363,7 +396,7 @@ impl PlaceMap {
             × Leaves state seat.now.place self.old self.new }
         ensures put { Puts value seat.now.place self.old self.new }
     {
-        match read::state(&self.cells, &self.broken, seat.index, *live) {
+        match read::state(&self.parts, &self.cells, &self.broken, seat.index, *live) {
             EntryState::Live { core } => {
                 self.clear_from(seat, pe, value, EntryState::Live { core })
             }
@@ -398,8 +431,39 @@ impl PlaceMap {
         ensures pends { (q a : ℕ) → nat_eq a seat.now.place ≡ false → pends_at self.new q a ≡ pends_at self.old q a }
         ensures dropped { (q : ℕ) → IsIdle (pends_at self.new q seat.now.place) }
     {
-        write::put_whole(&mut self.cells, &mut self.broken, seat.index, value);
-        self.recent = seat.index / CELLS;
+        write::put_value(&mut self.values, seat.index, value);
+        write::clear_by(&self.parts, &mut self.cells, &mut self.broken, seat.index);
+        self.recent = seat.index / VALUES;
+    }
+
+    /// The number of the cell of a seat's place. Where its page has no cells it gets them, which changes nothing else.
+    #[inline(always)]
+    fn cell(&mut self, seat: &Seat) -> usize
+        requires { IsSeat self.old seat.now }
+        ensures cell { place_cell self.new seat.now.place ≡ Some result }
+        ensures seat { IsSeat self.new seat.now }
+        ensures same { IsSame self.old self.new }
+    {
+        match read::cell(&self.parts, seat.index) {
+            Some(i) => i,
+            None => self.add_part(seat),
+        }
+    }
+
+    /// Makes the cells of the page of a seat's place, which has none. The number of that of the place.
+    #[cold]
+    #[inline(never)]
+    fn add_part(&mut self, seat: &Seat) -> usize
+        requires seat { IsSeat self.old seat.now }
+        requires none { cell_by self.old.parts.items seat.now.index ≡ None }
+        ensures cell { place_cell self.new seat.now.place ≡ Some result }
+        ensures seat { IsSeat self.new seat.now }
+        ensures same { IsSame self.old self.new }
+    {
+        let start = self.cells.len();
+        write::add_cells(&mut self.cells, 512);
+        put_slot(&mut self.parts, seat.index / 512, Some(start as u32));
+        start + seat.index % 512
     }
 
     /// Writes a value at a seat's place, which is broken with these marks after. What waits there stays. Nothing else
@@ -412,19 +476,10 @@ impl PlaceMap {
             ≡ (if nat_eq a seat.now.place then Some marks else marks_at self.old a) }
         ensures pends { (q a : ℕ) → pends_at self.new q a ≡ pends_at self.old q a }
     {
-        let j = seat.index;
-        let before = read::marks(&self.cells, &self.broken, j);
-        let broken = self.broken.len();
-        work::note_write(&mut self.work, mostly, j as u32, &before, &marks, broken);
-        write::put_broken(
-            &mut self.cells,
-            &mut self.broken,
-            seat,
-            value,
-            marks,
-            self.alloc,
-        );
-        self.recent = j / CELLS;
+        let i = self.cell(seat);
+        let before = read::marks(&self.cells, &self.broken, i);
+        self.mark(seat, i, mostly, &before, marks);
+        self.put_at(seat, value);
     }
 
     /// The same at a place that isn't broken before.
@@ -437,18 +492,35 @@ impl PlaceMap {
             ≡ (if nat_eq a seat.now.place then Some marks else marks_at self.old a) }
         ensures pends { (q a : ℕ) → pends_at self.new q a ≡ pends_at self.old q a }
     {
-        let j = seat.index;
+        let i = self.cell(seat);
+        self.mark(seat, i, pe, &None, marks);
+        self.put_at(seat, value);
+    }
+
+    /// The place of a seat, which has this cell and had these marks, is broken with other marks after. What waits there
+    /// stays. Nothing else changes.
+    #[inline(always)]
+    fn mark(&mut self, seat: &Seat, i: usize, mostly: Pe, before: &Option<Marks>, marks: Marks)
+        requires seat { IsSeat self.old seat.now }
+        requires cell { place_cell self.old seat.now.place ≡ Some i }
+        requires before { before.now ≡ marks_at self.old seat.now.place }
+        ensures seat { IsSeat self.new seat.now }
+        ensures values { (a : ℕ) → value_at self.new a ≡ value_at self.old a }
+        ensures pages { (page : ℕ) → is_tracked self.new page ≡ is_tracked self.old page }
+        ensures marks { (a : ℕ) → marks_at self.new a
+            ≡ (if nat_eq a seat.now.place then Some marks else marks_at self.old a) }
+        ensures pends { (q a : ℕ) → pends_at self.new q a ≡ pends_at self.old q a }
+    {
         let broken = self.broken.len();
-        work::note_write(&mut self.work, pe, j as u32, &None, &marks, broken);
-        write::put_fresh(
+        work::note_write(&mut self.work, mostly, i as u32, before, &marks, broken);
+        write::mark(
             &mut self.cells,
             &mut self.broken,
-            seat,
-            value,
+            i,
+            seat.place,
             marks,
             self.alloc,
         );
-        self.recent = j / CELLS;
     }
 
     /// Writes a value at a place of a tracked page, and the state that the write leaves. What waits there stays where
@@ -483,7 +555,9 @@ impl PlaceMap {
         ensures pages { (p : ℕ) → is_tracked self.new p ≡ is_tracked self.old p }
     {
         match self.base(page) {
-            Some(base) => write::clear_page(&mut self.cells, &mut self.broken, base),
+            Some(base) => {
+                write::clear_part(&self.parts, &mut self.cells, &mut self.broken, base)
+            }
             None => {}
         }
     }
@@ -557,8 +631,8 @@ impl PlaceMap {
     {
         match self.base(page) {
             Some(base) => {
-                write::clear_page(&mut self.cells, &mut self.broken, base);
-                write::zero_page(&mut self.cells, base);
+                write::clear_part(&self.parts, &mut self.cells, &mut self.broken, base);
+                write::zero_page(&mut self.values, base);
                 Ok(())
             }
             None => self.add_page(page),
@@ -574,13 +648,14 @@ impl PlaceMap {
         ensures pends { OnOk result ((q a : ℕ) → pends_at self.new q a ≡ pends_at self.old q a) }
         ensures kept { OnErr result (IsSame self.old self.new) }
     {
-        let base = self.cells.len();
-        if base >= MAX_CELLS || !self.has_room() {
+        let base = self.values.len();
+        if base >= MAX_VALUES || !self.has_room() {
             return Err(NoMemory);
         }
         match self.pages.insert(page.get(), base) {
             Ok(_) => {
-                write::add_cells(&mut self.cells);
+                write::add_values(&mut self.values);
+                write::add_cells(&mut self.parts, 1);
                 work::make_lists(&mut self.work.unpublished, self.alloc);
                 work::make_lists(&mut self.work.waiting, self.alloc);
                 Ok(())
@@ -589,17 +664,21 @@ impl PlaceMap {
         }
     }
 
-    /// Makes room for the cells of one more page, and for an entry of each cell. Whether there is.
+    /// Makes room for one more page: for its values and cells, and for an entry of each. Whether there is.
     fn has_room(&mut self) -> bool
-        ensures cells { result ≡ true → vec_len self.new.cells + 512 ≤ vec_capacity self.new.cells }
-        ensures broken { result ≡ true → vec_len self.new.cells + 512 ≤ vec_capacity self.new.broken }
-        ensures pages { self.new.pages ≡ self.old.pages }
-        ensures items { self.new.cells.items ≡ self.old.cells.items }
-        ensures len { vec_len self.new.cells ≡ vec_len self.old.cells }
-        ensures entries { self.new.broken.items ≡ self.old.broken.items }
+        ensures values { result ≡ true → vec_len self.new.values + 512 ≤ vec_capacity self.new.values }
+        ensures parts { result ≡ true → vec_len self.new.parts + 1 ≤ vec_capacity self.new.parts }
+        ensures cells { result ≡ true → vec_len self.new.values + 512 ≤ vec_capacity self.new.cells }
+        ensures broken { result ≡ true → vec_len self.new.values + 512 ≤ vec_capacity self.new.broken }
+        ensures same { KeepsItems self.old self.new }
     {
-        let wanted = self.cells.len() + 512 - self.broken.len();
-        self.broken.reserve(wanted).is_ok() && self.cells.reserve(512).is_ok()
+        let all = self.values.len() + 512;
+        let cells = all - self.cells.len();
+        let entries = all - self.broken.len();
+        self.broken.reserve(entries).is_ok()
+            && self.cells.reserve(cells).is_ok()
+            && self.parts.reserve(1).is_ok()
+            && self.values.reserve(512).is_ok()
     }
 
     /// The issuer issued a TLBI that reaches these PEs, is broadcast or not, and covers the broken places as far as
@@ -625,7 +704,7 @@ impl PlaceMap {
         ensures restless { restless_in self.new ≡ restless_in self.old }
         ensures places { (i : ℕ) → restless_place self.new i ≡ restless_place self.old i }
     {
-        issue::make_room(&mut self.broken, covers, issuer)?;
+        issue::make_room(&mut self.broken, covers, lane_of(issuer, broadcast))?;
         issue::note(
             &mut self.broken,
             covers,
@@ -668,13 +747,14 @@ impl PlaceMap {
         if found.is_empty() {
             return Ok(());
         }
-        let first = read::entry_at(&self.pages, &self.cells, found[0].place);
+        let first = read::entry_at(&self.pages, &self.parts, &self.cells, found[0].place);
         let kept = Kept {
             pages: &self.pages,
+            parts: &self.parts,
             cells: &self.cells,
             near: first.unwrap_or(0),
         };
-        issue::make_room_found(&kept, &mut self.broken, found, issuer)?;
+        issue::make_room_found(&kept, &mut self.broken, found, lane_of(issuer, broadcast))?;
         issue::note_found(
             &kept,
             &mut self.broken,
@@ -694,10 +774,10 @@ impl PlaceMap {
         ensures { (q a : ℕ) → marks_at self.now a ≡ None → IsIdle (pends_at self.now q a) }
     {}
 
-    /// The number of the first cell of a page; None where the page isn't tracked.
+    /// The number of the first value of a page; None where the page isn't tracked.
     fn base(&self, page: Page) -> Option<usize>
         ensures base { result ≡ get nat_eq self.now.pages page }
-        ensures within { IfSome result (λ b. b + 512 ≤ vec_len self.now.cells) }
+        ensures within { IfSome result (λ b. b + 512 ≤ vec_len self.now.values) }
     {
         self.pages.get(&page.get()).copied()
     }
@@ -710,7 +790,7 @@ impl Memory for PlaceMap {
 
     fn value(&self, place: Place) -> u64 {
         match self.index(place) {
-            Some(j) => self.cells[j].value,
+            Some(j) => self.values[j],
             None => 0,
         }
     }

@@ -11,7 +11,6 @@ ghost use Rattle.bbm_place_map.specs.Sound.{Linked, SameSize};
 ghost use Rattle.bbm_place_map.specs.Works.{Holds, HoldsFor, IsTold, MayPublish};
 ghost use Rattle.bbm_place_map.specs.declared.entry.Entry.{Entry as TheEntry};
 
-use crate::cell::Cell;
 use crate::entry::Entry;
 use crate::orders::Barrier;
 use crate::read::{broken_marks, slot_of};
@@ -54,7 +53,7 @@ fn publish_all(broken: &mut Vec<Entry>, barrier: &Barrier)
 }
 
 /// A DSB of the issuer published its writes at the entry of a cell, if it has one.
-fn publish_cell(cells: &[Cell], broken: &mut Vec<Entry>, cell: u32, barrier: &Barrier)
+fn publish_cell(cells: &[u32], broken: &mut Vec<Entry>, cell: u32, barrier: &Barrier)
     requires { CanPublish barrier.now cells.now broken.old.items }
     ensures linked { Linked cells.now broken.new.items }
     ensures here { (k : ℕ) → slot_in cells.now cell ≡ Some k
@@ -63,13 +62,13 @@ fn publish_cell(cells: &[Cell], broken: &mut Vec<Entry>, cell: u32, barrier: &Ba
         ≡ slice_get broken.old.items k }
     ensures size { SameSize broken.old broken.new }
 {
-    if let Some(k) = slot_of(cells, cell) {
+    if let Some(k) = slot_of(cells, cell as usize) {
         publish_at(broken, k as usize, barrier);
     }
 }
 
 /// A DSB of the issuer published its writes at the entries of these cells.
-fn publish_cells(cells: &[Cell], broken: &mut Vec<Entry>, list: &[u32], barrier: &Barrier)
+fn publish_cells(cells: &[u32], broken: &mut Vec<Entry>, list: &[u32], barrier: &Barrier)
     requires { CanPublish barrier.now cells.now broken.old.items }
     ensures here { (i k : ℕ) → i < length list.now → slot_in cells.now (slice_index list.now i) ≡ Some k
         → Advances (Publishes barrier.now) (slice_get broken.old.items k) (slice_get broken.new.items k) }
@@ -113,7 +112,7 @@ fn relist(broken: &[Entry], list: &mut WorkList, barrier: &Barrier)
 }
 
 /// A DSB of the issuer published its writes. Its list has all entries of which it can publish more, and stays.
-fn publish_list(cells: &[Cell], broken: &mut Vec<Entry>, list: &WorkList, barrier: &Barrier)
+fn publish_list(cells: &[u32], broken: &mut Vec<Entry>, list: &WorkList, barrier: &Barrier)
     requires able { CanPublish barrier.now cells.now broken.old.items }
     requires open { list.now.given_up ≡ false }
     requires known { HoldUntold (Holds list.now) barrier.now broken.old.items }
@@ -125,7 +124,7 @@ fn publish_list(cells: &[Cell], broken: &mut Vec<Entry>, list: &WorkList, barrie
 
 /// The same. The list loses its cells where nothing is left, or passes them for the next DSB that reaches its PE alone.
 /// A DSB that publishes nothing visits none.
-fn publish_listed(cells: &[Cell], broken: &mut Vec<Entry>, list: &mut WorkList, barrier: &Barrier)
+fn publish_listed(cells: &[u32], broken: &mut Vec<Entry>, list: &mut WorkList, barrier: &Barrier)
     requires able { CanPublish barrier.now cells.now broken.old.items }
     requires open { list.old.given_up ≡ false }
     requires known { HoldUntold (Holds list.old) barrier.now broken.old.items }
@@ -147,7 +146,7 @@ fn publish_listed(cells: &[Cell], broken: &mut Vec<Entry>, list: &mut WorkList, 
 }
 
 /// A DSB of the issuer published its writes. Its list has given up, or has all entries of which it can publish more.
-fn publish_by(cells: &[Cell], broken: &mut Vec<Entry>, list: &mut WorkList, barrier: &Barrier)
+fn publish_by(cells: &[u32], broken: &mut Vec<Entry>, list: &mut WorkList, barrier: &Barrier)
     requires able { CanPublish barrier.now cells.now broken.old.items }
     requires known { HoldUntold (Holds list.old) barrier.now broken.old.items }
     ensures published { PublishesAll barrier.now broken.old broken.new }
@@ -163,12 +162,7 @@ fn publish_by(cells: &[Cell], broken: &mut Vec<Entry>, list: &mut WorkList, barr
 
 /// A DSB of the issuer published its writes. Where its list has all entries of which it can publish more only these are
 /// visited.
-pub fn publish(
-    cells: &[Cell],
-    broken: &mut Vec<Entry>,
-    lists: &mut Vec<WorkList>,
-    barrier: &Barrier,
-)
+pub fn publish(cells: &[u32], broken: &mut Vec<Entry>, lists: &mut Vec<WorkList>, barrier: &Barrier)
     requires able { CanPublish barrier.now cells.now broken.old.items }
     requires known { HoldUntold (HoldsFor lists.old.items barrier.now.issuer) barrier.now broken.old.items }
     ensures published { PublishesAll barrier.now broken.old broken.new }

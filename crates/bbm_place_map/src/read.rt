@@ -1,17 +1,15 @@
-//! What is kept of a cell.
+//! What is kept of a place: its value, its cell, and the entry that the cell names.
 
 ghost use Rattle.std.specs.Prelude.{◌≡◌, ◌<◌, IfSome, length, None, Some, nat_eq, true, ◌≤◌, ◌+◌, ◌^◌, ◌↔◌, ℕ};
-ghost use Rattle.std.specs.Prelude.{is_some};
+ghost use Rattle.std.specs.Prelude.{is_some, ◌/◌};
 ghost use Rattle.bbm_entry_state.specs.Points.{core_in, is_broken};
-ghost use Rattle.bbm_place_map.specs.Cells.{blank_at, slot_in};
-ghost use Rattle.bbm_place_map.specs.Entries.{WaitsAlike, entry_in};
+ghost use Rattle.bbm_place_map.specs.Cells.{cell_by, number_of, slot_in, value_in};
+ghost use Rattle.bbm_place_map.specs.Entries.{WaitsAlike, entry_by, entry_in, marks_of, pends_of as spec_pends_of};
 ghost use Rattle.std.specs.Option.{option_copied};
-ghost use Rattle.bbm_place_map.specs.Parts.{marks_in, pends_for};
-ghost use Rattle.bbm_place_map.specs.Sound.{FewNumbered, HasCell, index_of, slot_at};
+ghost use Rattle.bbm_place_map.specs.Sound.{FewNumbered, HasValue, Linked, index_of, slot_at, starts};
 ghost use Rattle.indexmap.specs.IndexMap.{get};
 ghost use Rattle.bbm_place_map.specs.States.{state_from};
 
-use crate::cell::Cell;
 use crate::entry::{Entry, pends_of};
 use bbm_descriptor::Core;
 use bbm_entry_state::{EntryState, Marks, Pends};
@@ -40,21 +38,42 @@ pub fn broken_marks(state: EntryState) -> Marks
     }
 }
 
+/// The number that a cell stands for: None where it is 0, else the one below it.
+#[inline(always)]
+fn number(cell: u32) -> Option<u32>
+    ensures { result ≡ number_of cell }
+{
+    if cell == 0 { None } else { Some(cell - 1) }
+}
+
 /// The number of a cell's entry; None where it has none, or there is no such cell.
-pub fn slot_of(cells: &[Cell], j: u32) -> Option<u32>
+#[inline(always)]
+pub fn slot_of(cells: &[u32], j: usize) -> Option<u32>
     ensures { result ≡ slot_in cells.now j }
 {
-    match cells.get(j as usize) {
-        Some(cell) => cell.slot,
+    match cells.get(j) {
+        Some(cell) => number(*cell),
         None => None,
     }
 }
 
-/// The number of a place's cell; None where its page isn't tracked.
-pub fn index_at(pages: &IndexMap<u64, usize>, cells: &[Cell], place: Place) -> Option<usize>
-    requires { FewNumbered (get nat_eq pages.now) (length cells.now) }
+/// The number of the cell of the value with this number; None where no place of its page was broken yet.
+#[inline(always)]
+pub fn cell(parts: &[u32], j: usize) -> Option<usize>
+    requires { j / 512 < length parts.now }
+    ensures { result ≡ cell_by parts.now j }
+{
+    match number(parts[j / 512]) {
+        Some(start) => Some(start as usize + j % 512),
+        None => None,
+    }
+}
+
+/// The number of a place's value; None where its page isn't tracked.
+pub fn index_at(pages: &IndexMap<u64, usize>, values: &[u64], place: Place) -> Option<usize>
+    requires { FewNumbered (get nat_eq pages.now) (length values.now) }
     ensures index { result ≡ index_of (get nat_eq pages.now) place }
-    ensures within { IfSome result (λ j. j < length cells.now) }
+    ensures within { IfSome result (λ j. j < length values.now) }
 {
     let _ = place.get();
     match pages.get(&place.page().get()).copied() {
@@ -63,8 +82,8 @@ pub fn index_at(pages: &IndexMap<u64, usize>, cells: &[Cell], place: Place) -> O
     }
 }
 
-/// The number of the first cell of the page that has this number in the order of the pages, where it is this page; None
-/// says nothing.
+/// The number of the first value of the page that has this number in the order of the pages, where it is this page;
+/// None says nothing.
 #[inline(always)]
 fn base_here(pages: &IndexMap<u64, usize>, number: usize, page: u64) -> Option<usize>
     ensures { IfSome result (λ base. get nat_eq pages.now page ≡ Some base) }
@@ -75,7 +94,7 @@ fn base_here(pages: &IndexMap<u64, usize>, number: usize, page: u64) -> Option<u
     }
 }
 
-/// The number of the first cell of a page; None where it isn't tracked. No answer depends on the number `near`, at
+/// The number of the first value of a page; None where it isn't tracked. No answer depends on the number `near`, at
 /// which the page is looked for first.
 #[inline(always)]
 fn base_near(pages: &IndexMap<u64, usize>, near: usize, page: u64) -> Option<usize>
@@ -87,15 +106,15 @@ fn base_near(pages: &IndexMap<u64, usize>, near: usize, page: u64) -> Option<usi
     }
 }
 
-/// The number of a place's cell, where its page has this number in the order of the pages; None says nothing.
+/// The number of a place's value, where its page has this number in the order of the pages; None says nothing.
 #[inline(always)]
 pub fn index_here(
     pages: &IndexMap<u64, usize>,
-    cells: &[Cell],
+    values: &[u64],
     number: usize,
     place: Place,
 ) -> Option<usize>
-    requires { FewNumbered (get nat_eq pages.now) (length cells.now) }
+    requires { FewNumbered (get nat_eq pages.now) (length values.now) }
     ensures { IfSome result (λ j. index_of (get nat_eq pages.now) place ≡ Some j) }
 {
     let _ = place.get();
@@ -105,18 +124,18 @@ pub fn index_here(
     }
 }
 
-/// The number of a place's cell; None where its page isn't tracked. No answer depends on the number `near`, at which
+/// The number of a place's value; None where its page isn't tracked. No answer depends on the number `near`, at which
 /// the page is looked for first.
 #[inline(always)]
 pub fn index_near(
     pages: &IndexMap<u64, usize>,
-    cells: &[Cell],
+    values: &[u64],
     near: usize,
     place: Place,
 ) -> Option<usize>
-    requires { FewNumbered (get nat_eq pages.now) (length cells.now) }
+    requires { FewNumbered (get nat_eq pages.now) (length values.now) }
     ensures index { result ≡ index_of (get nat_eq pages.now) place }
-    ensures within { IfSome result (λ j. j < length cells.now) }
+    ensures within { IfSome result (λ j. j < length values.now) }
 {
     let _ = place.get();
     match base_near(pages, near, place.page().get()) {
@@ -126,103 +145,167 @@ pub fn index_near(
 }
 
 /// The number of a place's entry; None where the place isn't broken.
-pub fn entry_at(pages: &IndexMap<u64, usize>, cells: &[Cell], place: Place) -> Option<u32>
-    requires { FewNumbered (get nat_eq pages.now) (length cells.now) }
-    ensures { result ≡ slot_at (get nat_eq pages.now) cells.now place }
+pub fn entry_at(
+    pages: &IndexMap<u64, usize>,
+    parts: &[u32],
+    cells: &[u32],
+    place: Place,
+) -> Option<u32>
+    ensures { result ≡ slot_at (starts (get nat_eq pages.now) parts.now) cells.now place }
 {
-    match index_at(pages, cells, place) {
-        Some(j) => slot_of(cells, j as u32),
+    let _ = place.get();
+    match pages.get(&place.page().get()).copied() {
+        Some(base) => match slot_of(parts, base / 512) {
+            Some(start) => slot_of(cells, start as usize + place.index() as usize),
+            None => None,
+        },
         None => None,
     }
 }
 
-/// The entry of a cell; None where its place isn't broken.
-fn entry<'a>(cells: &[Cell], broken: &'a [Entry], j: usize) -> Option<&'a Entry>
-    requires { HasCell j cells.now broken.now }
-    ensures { option_copied result ≡ entry_in cells.now broken.now j }
+/// The entry of a cell; None where it has none.
+#[inline(always)]
+fn entry_of<'a>(cells: &[u32], broken: &'a [Entry], i: usize) -> Option<&'a Entry>
+    requires { Linked cells.now broken.now }
+    ensures { option_copied result ≡ entry_in cells.now broken.now i }
 {
-    match cells[j].slot {
+    match slot_of(cells, i) {
         Some(k) => Some(&broken[k as usize]),
         None => None,
     }
 }
 
-/// The state of a cell's place.
-pub fn state(cells: &[Cell], broken: &[Entry], j: usize, live: Option<Core>) -> EntryState
-    requires { HasCell j cells.now broken.now }
-    ensures { result ≡ state_from live (marks_in cells.now broken.now j) }
+/// The entry of the place of a value; None where the place isn't broken.
+#[inline(always)]
+fn entry<'a>(parts: &[u32], cells: &[u32], broken: &'a [Entry], j: usize) -> Option<&'a Entry>
+    requires { HasValue j parts.now cells.now broken.now }
+    ensures { option_copied result ≡ entry_by parts.now cells.now broken.now j }
 {
-    match entry(cells, broken, j) {
+    match cell(parts, j) {
+        Some(i) => entry_of(cells, broken, i),
+        None => None,
+    }
+}
+
+/// The state of the place of a value.
+pub fn state(
+    parts: &[u32],
+    cells: &[u32],
+    broken: &[Entry],
+    j: usize,
+    live: Option<Core>,
+) -> EntryState
+    requires { HasValue j parts.now cells.now broken.now }
+    ensures { result ≡ state_from live (marks_of (entry_by parts.now cells.now broken.now j)) }
+{
+    match entry(parts, cells, broken, j) {
         Some(entry) => EntryState::Broken { marks: entry.marks },
         None => whole(live),
     }
 }
 
-/// Whether a cell's place is broken.
+/// Whether the place of a value is broken.
 #[inline(always)]
-pub fn is_broken(cells: &[Cell], broken: &[Entry], j: usize) -> bool
-    requires { HasCell j cells.now broken.now }
-    ensures { result ≡ is_some (marks_in cells.now broken.now j) }
+pub fn is_broken(parts: &[u32], cells: &[u32], broken: &[Entry], j: usize) -> bool
+    requires { HasValue j parts.now cells.now broken.now }
+    ensures { result ≡ is_some (marks_of (entry_by parts.now cells.now broken.now j)) }
 {
-    match entry(cells, broken, j) {
+    match entry(parts, cells, broken, j) {
         Some(_entry) => true,
         None => false,
     }
 }
 
-/// The core that a cell's place is broken over; where it isn't broken, this one.
-pub fn core(cells: &[Cell], broken: &[Entry], j: usize, live: Option<Core>) -> Option<Core>
-    requires { HasCell j cells.now broken.now }
-    ensures { result ≡ core_in (state_from live (marks_in cells.now broken.now j)) }
+/// The core that the place of a value is broken over; where it isn't broken, this one.
+pub fn core(
+    parts: &[u32],
+    cells: &[u32],
+    broken: &[Entry],
+    j: usize,
+    live: Option<Core>,
+) -> Option<Core>
+    requires { HasValue j parts.now cells.now broken.now }
+    ensures { result ≡ core_in (state_from live (marks_of (entry_by parts.now cells.now broken.now j))) }
 {
-    match entry(cells, broken, j) {
+    match entry(parts, cells, broken, j) {
         Some(entry) => Some(entry.marks.core),
         None => live,
     }
 }
 
 /// The marks of a cell's place; None where it isn't broken.
-pub fn marks(cells: &[Cell], broken: &[Entry], j: usize) -> Option<Marks>
-    requires { HasCell j cells.now broken.now }
-    ensures { result ≡ marks_in cells.now broken.now j }
+pub fn marks(cells: &[u32], broken: &[Entry], i: usize) -> Option<Marks>
+    requires { Linked cells.now broken.now }
+    ensures { result ≡ marks_of (entry_in cells.now broken.now i) }
 {
-    match entry(cells, broken, j) {
+    match entry_of(cells, broken, i) {
         Some(entry) => Some(entry.marks),
         None => None,
     }
 }
 
-/// What waits at a cell's place for the answers of the issuer's TLBIs.
-pub fn pends(cells: &[Cell], broken: &[Entry], j: usize, issuer: Pe) -> Pends
-    requires { HasCell j cells.now broken.now }
-    ensures { WaitsAlike (pends_for cells.now broken.now issuer j) result }
+/// What waits at the place of a value for the answers of the issuer's TLBIs.
+pub fn pends(parts: &[u32], cells: &[u32], broken: &[Entry], j: usize, issuer: Pe) -> Pends
+    requires { HasValue j parts.now cells.now broken.now }
+    ensures { WaitsAlike (spec_pends_of issuer (entry_by parts.now cells.now broken.now j)) result }
 {
-    match entry(cells, broken, j) {
+    match entry(parts, cells, broken, j) {
         Some(entry) => pends_of(&entry.pends, issuer),
         None => Pends::none(),
     }
 }
 
-/// Whether a cell has the value 0, and its place isn't broken.
-fn is_clear(cells: &[Cell], j: usize) -> bool
-    requires { j < length cells.now }
-    ensures { result ≡ blank_at cells.now j }
+/// The values of a page, 512 from the base on.
+#[inline(always)]
+pub fn values_of(values: &[u64], base: usize) -> &[u64]
+    requires { base + 512 ≤ length values.now }
+    ensures len { length result.now ≡ 512 }
+    ensures each { (i : ℕ) → i < 512 → value_in result.now i ≡ value_in values.now (base + i) }
 {
-    if cells[j].value != 0 {
-        return false;
-    }
-    cells[j].slot.is_none()
+    &values[base..base + 512]
 }
 
-/// Whether each of the 512 cells from the base on has the value 0, and its place isn't broken.
-pub fn is_blank(cells: &[Cell], base: usize) -> bool
-    requires { base + 512 ≤ length cells.now }
-    ensures { (result ≡ true) ↔ ((i : ℕ) → i < 512 → blank_at cells.now (base + i) ≡ true) }
+/// Whether these values are all 0.
+fn are_zero(values: &[u64]) -> bool
+    ensures { (result ≡ true) ↔ ((i : ℕ) → i < length values.now → value_in values.now i ≡ 0) }
 {
-    for i in 0..512 {
-        if !is_clear(cells, base + i) {
+    for i in 0..values.len() {
+        if values[i] != 0 {
             return false;
         }
     }
     true
+}
+
+/// Whether each of the 512 values from the base on is 0.
+pub fn is_zero(values: &[u64], base: usize) -> bool
+    requires { base + 512 ≤ length values.now }
+    ensures { (result ≡ true) ↔ ((i : ℕ) → i < 512 → value_in values.now (base + i) ≡ 0) }
+{
+    are_zero(values_of(values, base))
+}
+
+/// Whether each of the 512 cells from the start on is 0.
+fn are_free(cells: &[u32], start: usize) -> bool
+    requires { start + 512 ≤ length cells.now }
+    ensures { (result ≡ true) ↔ ((i : ℕ) → i < 512 → value_in cells.now (start + i) ≡ 0) }
+{
+    for i in 0..512 {
+        if cells[start + i] != 0 {
+            return false;
+        }
+    }
+    true
+}
+
+/// Whether no cell of the page whose values start there has an entry.
+pub fn is_free(parts: &[u32], cells: &[u32], base: usize) -> bool
+    requires { (start : ℕ) → slot_in parts.now (base / 512) ≡ Some start → start + 512 ≤ length cells.now }
+    ensures { (result ≡ true) ↔ ((start : ℕ) → slot_in parts.now (base / 512) ≡ Some start
+        → (i : ℕ) → i < 512 → value_in cells.now (start + i) ≡ 0) }
+{
+    match slot_of(parts, base / 512) {
+        Some(start) => are_free(cells, start as usize),
+        None => true,
+    }
 }

@@ -7,6 +7,6 @@ use bbm_regimes::Place;
 pub struct Seat {
     /// The place.
     pub place: Place,
-    /// The number of its cell.
+    /// The number of its value.
     pub(crate) index: usize,
 }

@@ -61,8 +61,8 @@ returns-then-answer_at-clause-sound c =
     record {
       linked = still.linked;
       len = still.len;
+      space = still.space;
       room = still.room ∙ c.answer_at.ensures.size.room;
-      values = still.values;
       placed = λ base placed. still.placed base (with.mid_placed c.args.barrier.now c.args.cells.now.items c.args.broken.now.items c.args.k x c.requires.able.linked was c.answer_at.new.broken.items f.0 f.1 f.5 base placed);
     }
 
@@ -74,8 +74,8 @@ returns-else-answer_at-clause-sound c =
     record {
       linked = with.mid_linked c.args.barrier.now c.args.cells.now.items c.args.broken.now.items c.args.k x c.requires.able.linked was c.answer_at.new.broken.items f.0 f.1 f.5 c.answer_at.ensures.size.len;
       len = refl;
+      space = refl;
       room = c.answer_at.ensures.size.room;
-      values = λ i. refl;
       placed = with.mid_placed c.args.barrier.now c.args.cells.now.items c.args.broken.now.items c.args.k x c.requires.able.linked was c.answer_at.new.broken.items f.0 f.1 f.5;
     }
 

@@ -1,7 +1,6 @@
-use Rattle.std.proofs.Common.{◌≡◌, None, List, arith, ap, sym, ◌∙◌}
+use Rattle.std.proofs.Common.{◌≡◌, ℕ, None, List, arith, ap, sym, ◌∙◌}
 use Rattle.bbm_place_map.specs.Entries.{entry_of, entry_in}
 use Rattle.bbm_place_map.specs.Cells.{slot_in}
-use Rattle.bbm_place_map.specs.declared.cell.Cell.{Cell}
 use Rattle.bbm_place_map.proofs.Answering.{completes_at}
 use Rattle.bbm_place_map.proofs.Completing.{completes_none}
 use Rattle.bbm_place_map.proofs.Linking.{cell_within}
@@ -13,13 +12,13 @@ complete_at-requires-clause-within c =
       arith,
       cell_within c.args.broken.now.items c.in-Some.k c.args.cell
           (c.requires.linked.forth c.args.cell c.in-Some.k
-          (ap (λ (xs : List Cell). slot_in xs c.args.cell) (sym c.deref.ensures.value) ∙ sym c.slot_of.ensures ∙ c.in-Some.is)),
+          (ap (λ (xs : List ℕ). slot_in xs c.args.cell) (sym c.deref.ensures.value) ∙ sym c.slot_of.ensures ∙ c.in-Some.is)),
     )
 
 pub returns-in-None-clause-here : goal.returns-in-None-clause-here
 returns-in-None-clause-here c =
     let none : entry_in c.args.cells.now.items c.args.broken.now.items c.args.cell ≡ None
     = ap (entry_of c.args.broken.now.items)
-    (ap (λ (xs : List Cell). slot_in xs c.args.cell) (sym c.deref.ensures.value) ∙ sym c.slot_of.ensures ∙ c.in-None.is) in
+    (ap (λ (xs : List ℕ). slot_in xs c.args.cell) (sym c.deref.ensures.value) ∙ sym c.slot_of.ensures ∙ c.in-None.is) in
     completes_at c.args.barrier.now (entry_in c.args.cells.now.items c.args.broken.now.items c.args.cell) None
     (entry_in c.args.cells.now.items c.args.broken.now.items c.args.cell) None none none (completes_none c.args.barrier.now)

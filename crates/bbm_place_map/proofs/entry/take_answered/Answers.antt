@@ -1,38 +1,43 @@
-use Rattle.std.proofs.Common.{ap, sym, ◌∙◌, arith, subst, List, length}
-use Rattle.bbm_entry_state.specs.EntryStanding.{IsIdle}
-use Rattle.bbm_place_map.specs.Entries.{pends_in, IsFirst, Lacks}
-use Rattle.bbm_place_map.specs.declared.entry.Pending.{Pending}
-use Rattle.bbm_place_map.proofs.Idle.{idle_from, idle_answered, idle_on}
-use Rattle.bbm_place_map.proofs.Pendings.{lacks_all, written}
-use Rattle.bbm_place_map.specs.Dsbs.{AreAnswered}
+use Rattle.std.proofs.Common.{ℕ, Bool, true, false, subst}
+use Rattle.bbm_barriers.specs.Options.{answers_broadcast, answers_local}
+use Rattle.bbm_place_map.specs.Dsbs.{Takes}
+use Rattle.bbm_place_map.specs.Entries.{lane_of}
+use Rattle.bbm_place_map.proofs.Pendings.{taken_done, taken_left, taken_others}
 use Rattle.bbm_place_map.proofs.entry.take_answered.Goals as goal
 
-first : (c : goal.After-pendings-1) → IsFirst c.as_mut_slice.result.now c.in-Some.i c.args.issuer
-first c =
-    let P : List Pending → Type 0 = λ ps. IsFirst ps c.in-Some.i c.args.issuer in
-    subst P (c.as_slice.ensures ∙ sym c.as_mut_slice.ensures.value) c.in-Some.ensures.some
+-- of the TLBIs that are broadcast, and of the others
+all : (c : goal.After-or) → Takes (lane_of c.args.issuer true) (answers_broadcast c.args.dsb) c.args.pendings.now.items
+    c.take_if-all.new.pendings.items c.take_if-all.result
+all c =
+    let P : ℕ → Type 0 = λ k. Takes k c.completes_broadcast.result c.args.pendings.now.items c.take_if-all.new.pendings.items c.take_if-all.result in
+    let Q : Bool → Type 0 = λ b. Takes (lane_of c.args.issuer true) b c.args.pendings.now.items c.take_if-all.new.pendings.items c.take_if-all.result in
+    subst Q c.completes_broadcast.ensures (subst P c.lane_of.ensures c.take_if-all.ensures)
 
-pub returns-in-Some-clause-done : goal.returns-in-Some-clause-done
-returns-in-Some-clause-done c =
-    let P : List Pending → Type 0 = λ ps. AreAnswered c.args.dsb (pends_in ps c.args.issuer) c.take_here.result in
-    subst P c.as_mut_slice.ensures.value (c.take_here.ensures.done c.args.issuer (first c))
+own : (c : goal.After-or) → Takes (lane_of c.args.issuer false) (answers_local c.args.dsb) c.take_if-all.new.pendings.items
+    c.take_if-own.new.pendings.items c.take_if-own.result
+own c =
+    let old = c.take_if-all.new.pendings.items in
+    let P : ℕ → Type 0 = λ k. Takes k c.completes_local.result old c.take_if-own.new.pendings.items c.take_if-own.result in
+    let Q : Bool → Type 0 = λ b. Takes (lane_of c.args.issuer false) b old c.take_if-own.new.pendings.items c.take_if-own.result in
+    subst Q c.completes_local.ensures (subst P c.lane_of-2.ensures c.take_if-own.ensures)
 
-pub returns-in-Some-clause-others : goal.returns-in-Some-clause-others
-returns-in-Some-clause-others c = λ q other.
-    ap (λ (ps : List Pending). pends_in ps q)
-    (written c.args.pendings.now c.as_mut_slice.result.now c.take_here.new.pendings c.as_mut_slice.ensures.value c.take_here.ensures.len)
-    ∙ c.take_here.ensures.others c.args.issuer q (first c) other ∙ ap (λ (ps : List Pending). pends_in ps q) c.as_mut_slice.ensures.value
+pub returns-clause-done : goal.returns-clause-done
+returns-clause-done c =
+    let a = all c in
+    let o = own c in
+    taken_done c.args.pendings.now.items c.take_if-all.new.pendings.items c.take_if-own.new.pendings.items c.args.issuer c.args.dsb
+    c.take_if-all.result c.take_if-own.result c.or.result a.done a.left a.others o.done o.left o.others c.or.ensures
 
-idle : (c : goal.After-none) → IsIdle (pends_in c.args.pendings.now.items c.args.issuer)
-idle c =
-    let items = c.args.pendings.now.items in
-    let P : List Pending → Type 0 = λ ps. Lacks ps (length ps) c.args.issuer in
-    idle_from (pends_in items c.args.issuer)
-    (lacks_all items (length items) c.args.issuer (omega arith) (subst P c.as_slice.ensures (c.place_of.ensures.none c.in-None.is)))
+pub returns-clause-left : goal.returns-clause-left
+returns-clause-left c =
+    let a = all c in
+    let o = own c in
+    taken_left c.args.pendings.now.items c.take_if-all.new.pendings.items c.take_if-own.new.pendings.items c.args.issuer c.args.dsb
+    c.take_if-all.result c.take_if-own.result c.or.result a.done a.left a.others o.done o.left o.others c.or.ensures
 
-pub returns-in-None-clause-done : goal.returns-in-None-clause-done
-returns-in-None-clause-done c =
-    idle_answered (pends_in c.args.pendings.now.items c.args.issuer) c.args.dsb (idle c) c.none.result c.none.ensures
-
-pub returns-in-None-clause-left : goal.returns-in-None-clause-left
-returns-in-None-clause-left c = idle_on (pends_in c.args.pendings.now.items c.args.issuer) c.args.dsb (idle c)
+pub returns-clause-others : goal.returns-clause-others
+returns-clause-others c =
+    let a = all c in
+    let o = own c in
+    taken_others c.args.pendings.now.items c.take_if-all.new.pendings.items c.take_if-own.new.pendings.items c.args.issuer c.args.dsb
+    c.take_if-all.result c.take_if-own.result c.or.result a.done a.left a.others o.done o.left o.others c.or.ensures

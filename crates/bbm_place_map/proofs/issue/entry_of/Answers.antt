@@ -2,6 +2,7 @@ use Rattle.std.proofs.Common.{ap, sym, ◌∙◌, nat_eq, refl, length, arith, g
 use Rattle.std.proofs.lemmas.Option.{slice_get_read}
 use Rattle.std.proofs.lemmas.Bool.{eqb-true}
 use Rattle.indexmap.specs.IndexMap.{get}
+use Rattle.bbm_place_map.specs.Sound.{starts}
 use Rattle.bbm_place_map.specs.declared.entry.Entry.{Entry}
 use Rattle.bbm_place_map.proofs.Visiting.{slot_of_place}
 use Rattle.bbm_place_map.proofs.issue.entry_of.Goals as goal
@@ -10,7 +11,7 @@ pub returns-then-eq : goal.returns-then-eq
 returns-then-eq c =
     let e = c.index-broken-near.result in
     let sound = c.requires in
-    sym (slot_of_place (get nat_eq c.args.kept.now.pages.now) c.args.kept.now.cells.now c.args.broken.now sound.linked
+    sym (slot_of_place (starts (get nat_eq c.args.kept.now.pages.now) c.args.kept.now.parts.now) c.args.kept.now.cells.now c.args.broken.now sound.linked
     sound.placed c.args.place c.args.kept.now.near e
     (slice_get_read c.args.broken.now (length c.args.broken.now) c.args.kept.now.near e refl (omega arith)
     c.index-broken-near.is) (ap (λ (x : Entry). x.place) c.index-broken-near.is ∙ eqb-true

@@ -8,10 +8,10 @@ use Rattle.bbm_place_map.proofs.issue.make_room_at.Goals as goal
 pub returns-clause-entry : goal.returns-clause-entry
 returns-clause-entry c = λ e is.
     let same = entry_same c.args.broken.now.items c.args.k c.index_mut-entry.result.now e (omega arith) c.index_mut-entry.ensures.value is in
-    let f : Entry = record c.index_mut-entry.result.now { pends = c.make_room_for_issuer.new.pendings } in (
+    let f : Entry = record c.index_mut-entry.result.now { pends = c.make_room_for_lane.new.pendings } in (
       f,
       ap seat same,
-      (ap (λ (x : Entry). x.marks) same, c.make_room_for_issuer.ensures.items ∙ ap (λ (x : Entry). x.pends.items) same),
-      c.make_room_for_issuer.ensures.room,
+      (ap (λ (x : Entry). x.marks) same, c.make_room_for_lane.ensures.items ∙ ap (λ (x : Entry). x.pends.items) same),
+      c.make_room_for_lane.ensures.room,
       λ i. set_get c.args.broken.now.items c.args.k f i (omega arith),
     )

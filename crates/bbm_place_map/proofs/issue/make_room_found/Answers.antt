@@ -1,6 +1,7 @@
 use Rattle.std.proofs.Common.{ℕ, nat_eq, ap, sym, ◌∙◌, inl, inr, slice_get, take}
 use Rattle.std.proofs.lemmas.Bool.{cases_Bool, eq-eqb, eqb-true, false≢true}
 use Rattle.indexmap.specs.IndexMap.{get}
+use Rattle.bbm_place_map.specs.Sound.{starts}
 use Rattle.bbm_place_map.specs.Finds.{is_found}
 use Rattle.bbm_place_map.specs.PlaceNotes.{Keeps}
 use Rattle.bbm_place_map.specs.declared.found.Found.{Found}
@@ -20,7 +21,7 @@ make_room_for-requires c =
       numbered = c.requires.numbered;
       few = c.requires.few;
       linked = linked_seated old mid seats c.args.kept.now.cells.now c.loop-i.invariant.len c.requires.linked;
-      placed = placed_seated old mid seats (get nat_eq c.args.kept.now.pages.now) c.requires.placed;
+      placed = placed_seated old mid seats (starts (get nat_eq c.args.kept.now.pages.now) c.args.kept.now.parts.now) c.requires.placed;
     }
 
 pub loop-i-preserved : goal.loop-i-preserved

@@ -10,7 +10,7 @@ abbrev pub invariant-loop-i : goal.invariant-loop-i
 invariant-loop-i l = record {
   each : (m : ℕ) → Advances Keeps (slice_get l.initial.broken.items m) (slice_get l.broken.items m);
   ready : (m : ℕ) (e : Entry) → slice_get l.broken.items m ≡ Some e → is_found (take l.i l.found) e.place ≡ true
-      → HasRoom e.pends l.issuer;
+      → HasRoom e.pends l.lane;
   len : length l.broken.items ≡ length l.initial.broken.items;
   room : vec_capacity l.broken ≡ vec_capacity l.initial.broken;
 }

@@ -1,6 +1,7 @@
 use Rattle.std.proofs.Common.{◌≡◌, ℕ, Option, nat_eq, arith, ◌∙◌, List, subst, take, slice_get}
 use Rattle.std.proofs.lemmas.List.{take_all}
 use Rattle.indexmap.specs.IndexMap.{get}
+use Rattle.bbm_place_map.specs.Sound.{starts}
 use Rattle.bbm_place_map.specs.Each.{Advances}
 use Rattle.bbm_place_map.specs.Entries.{seat_at}
 use Rattle.bbm_place_map.specs.PlaceNotes.{NotesFound}
@@ -21,7 +22,7 @@ note_next-requires-clause-sound c = record {
   numbered = c.requires.sound.numbered;
   few = c.requires.sound.few;
   linked = linked_seated c.args.broken.now.items c.loop-i.broken.items (seats c) c.args.kept.now.cells.now c.loop-i.invariant.len c.requires.sound.linked;
-  placed = placed_seated c.args.broken.now.items c.loop-i.broken.items (seats c) (get nat_eq c.args.kept.now.pages.now) c.requires.sound.placed;
+  placed = placed_seated c.args.broken.now.items c.loop-i.broken.items (seats c) (starts (get nat_eq c.args.kept.now.pages.now) c.args.kept.now.parts.now) c.requires.sound.placed;
 }
 
 pub note_next-requires-clause-ready : goal.note_next-requires-clause-ready

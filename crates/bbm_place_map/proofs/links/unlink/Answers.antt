@@ -1,15 +1,20 @@
 use Rattle.std.proofs.Common.{rules, ℕ, arith, ap, sym, ◌∙◌, ◌-◌, None, nat_eq, if◌then◌else◌}
 use Rattle.std.proofs.lemmas.Option.{same_Some}
 use Rattle.bbm_place_map.specs.Entries.{entry_in}
+use Rattle.bbm_place_map.proofs.Edits.{entries_few}
 use Rattle.bbm_place_map.proofs.Leaving.{Left, left, cell_inside, cell_read}
 use Rattle.bbm_place_map.proofs.links.unlink.Goals as goal
 
-pub put_slot-requires : goal.put_slot-requires
-put_slot-requires c =
+pub put_slot-requires-clause-within : goal.put_slot-requires-clause-within
+put_slot-requires-clause-within c =
     omega (arith, cell_inside c.args.cells.now.items c.args.broken.now.items (c.len.result - 1) c.index-2.result.now c.requires.able.linked (omega arith) c.index-2.ensures)
 
-pub put_slot-requires-2 : goal.put_slot-requires-2
-put_slot-requires-2 c =
+pub put_slot-requires-clause-few : goal.put_slot-requires-clause-few
+put_slot-requires-clause-few c =
+    omega (arith, c.requires.able.few, c.requires.within, entries_few c.args.cells.now.items c.args.broken.now.items c.requires.able.linked)
+
+pub put_slot-requires-2-clause-within : goal.put_slot-requires-2-clause-within
+put_slot-requires-2-clause-within c =
     omega (arith, cell_inside c.args.cells.now.items c.args.broken.now.items c.args.k c.index.result.now c.requires.able.linked (omega arith) c.index.ensures)
 
 pub returns : goal.returns
@@ -23,8 +28,8 @@ returns c =
       sound = record {
         linked = all.linked;
         len = c.put_slot-2.ensures.len ∙ c.put_slot.ensures.len;
+        space = c.put_slot-2.ensures.space ∙ c.put_slot.ensures.space;
         room = search rules;
-        values = λ i. c.put_slot-2.ensures.values i ∙ c.put_slot.ensures.values i;
         placed = all.placed;
       };
       count = omega arith;

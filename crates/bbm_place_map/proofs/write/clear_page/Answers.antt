@@ -4,19 +4,16 @@ use Rattle.bbm_place_map.proofs.Pages.{one_more}
 use Rattle.bbm_place_map.proofs.Seats.{still_more}
 use Rattle.bbm_place_map.proofs.write.clear_page.Goals as goal
 
-pub clear-requires-clause-able : goal.clear-requires-clause-able
-clear-requires-clause-able c = record {
+pub clear-requires : goal.clear-requires
+clear-requires c = record {
   linked = c.loop-i.invariant.sound.linked;
   few = omega (arith, c.loop-i.invariant.sound.len, c.requires.able.few);
 }
 
-pub clear-requires-clause-within : goal.clear-requires-clause-within
-clear-requires-clause-within c = omega (arith, c.loop-i.invariant.sound.len, c.requires.within)
-
 pub loop-i-preserved : goal.loop-i-preserved
 loop-i-preserved c = record {
   sound = still_more c.loop-i.invariant.sound c.clear.ensures.sound;
-  entries = one_more c.args.base c.loop-i.i None (entry_in c.args.cells.now.items c.args.broken.now.items)
+  entries = one_more c.args.start c.loop-i.i None (entry_in c.args.cells.now.items c.args.broken.now.items)
       (entry_in c.loop-i.cells.items c.loop-i.broken.items) (entry_in c.clear.new.cells.items c.clear.new.broken.items)
       c.loop-i.invariant.entries c.clear.ensures.entries;
 }

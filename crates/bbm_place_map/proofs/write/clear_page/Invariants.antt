@@ -8,5 +8,5 @@ abbrev pub invariant-loop-i : goal.invariant-loop-i
 invariant-loop-i l = record {
   sound : StillSound l.initial.cells l.cells l.initial.broken l.broken;
   entries : (i : ℕ) → entry_in l.cells.items l.broken.items i
-      ≡ (if in_page l.base l.i i then None else entry_in l.initial.cells.items l.initial.broken.items i);
+      ≡ (if in_page l.start l.i i then None else entry_in l.initial.cells.items l.initial.broken.items i);
 }

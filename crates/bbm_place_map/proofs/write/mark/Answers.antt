@@ -1,8 +1,7 @@
-use Rattle.std.proofs.Common.{◌≡◌, ℕ, Some, arith, refl, slice_get}
+use Rattle.std.proofs.Common.{◌≡◌, ℕ, List, Some, ap, sym, ◌∙◌, arith, refl, slice_get}
 use Rattle.bbm_place_map.specs.Cells.{slot_in}
 use Rattle.bbm_place_map.specs.Entries.{seat_at}
 use Rattle.bbm_place_map.specs.declared.entry.Entry.{Entry}
-use Rattle.bbm_place_map.proofs.Edits.{slot_read}
 use Rattle.bbm_place_map.proofs.Linking.{cell_within}
 use Rattle.bbm_place_map.proofs.Seats.{linked_seated, placed_seated, seats_changed, marks_changed, pends_changed, found}
 use Rattle.bbm_place_map.proofs.write.mark.Goals as goal
@@ -12,11 +11,11 @@ remark-requires c =
     omega (
       arith,
       cell_within c.args.broken.now.items c.in-Some.k c.args.j (c.requires.linked.forth c.args.j c.in-Some.k
-          (slot_read c.args.cells.now.items c.args.j c.index.result.now (omega arith) c.index.ensures (Some c.in-Some.k) c.in-Some.is)),
+          (ap (λ (xs : List ℕ). slot_in xs c.args.j) (sym c.deref.ensures.value) ∙ sym c.slot_of.ensures ∙ c.in-Some.is)),
     )
 
 here : (c : goal.After-remark) → slot_in c.args.cells.now.items c.args.j ≡ Some c.in-Some.k
-here c = slot_read c.args.cells.now.items c.args.j c.index.result.now (omega arith) c.index.ensures (Some c.in-Some.k) c.in-Some.is
+here c = ap (λ (xs : List ℕ). slot_in xs c.args.j) (sym c.deref.ensures.value) ∙ sym c.slot_of.ensures ∙ c.in-Some.is
 
 was : (c : goal.After-remark) → (e : Entry) × (slice_get c.args.broken.now.items c.in-Some.k ≡ Some e)
 was c = found c.args.broken.now.items c.in-Some.k c.args.j (c.requires.linked.forth c.args.j c.in-Some.k (here c))
@@ -37,7 +36,7 @@ returns-in-Some c =
       linked = linked_seated c.args.broken.now.items c.remark.new.broken.items (seats c) c.args.cells.now.items c.remark.ensures.size.len c.requires.linked;
       len = refl;
       room = c.remark.ensures.size.room;
-      values = λ i. refl;
+      space = refl;
       marks =
           marks_changed c.args.cells.now.items c.args.broken.now.items c.remark.new.broken.items w.0 (after c w.0) c.args.j c.in-Some.k
           c.requires.linked (here c) w.1 refl (c.remark.ensures.entry w.0 w.1);

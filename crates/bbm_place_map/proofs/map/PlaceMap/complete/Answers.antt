@@ -6,7 +6,7 @@ use Rattle.bbm_place_map.specs.Map.{marks_at, pends_at}
 use Rattle.bbm_entry_state.specs.declared.marks.Marks.{Marks}
 use Rattle.bbm_place_map.specs.Parts.{marks_in}
 use Rattle.bbm_place_map.specs.Works.{is_clean}
-use Rattle.bbm_place_map.specs.Sound.{Numbered, index_of}
+use Rattle.bbm_place_map.specs.Sound.{Parted, index_of, starts}
 use Rattle.bbm_place_map.proofs.Answering.{completes_whole}
 use Rattle.bbm_place_map.proofs.Completed.{completed_at, others_at, kept_at, lost_at}
 use Rattle.bbm_place_map.proofs.Listing.{listed_begun, listed_completed, quiet_of}
@@ -26,11 +26,16 @@ complete-lost-requires-clause-settled c =
 
 pub invariant_of-self-2 : goal.invariant_of-self-2
 invariant_of-self-2 c = record {
-  numbered = let P : ℕ → Type 0 = Numbered (get nat_eq c.args.self.now.pages) in subst P (sym c.complete-lost.ensures.completed.sound.len) c.args.self.now.numbered;
+  numbered = c.args.self.now.numbered;
+  parted =
+      let P : ℕ → Type 0 = Parted (get nat_eq c.args.self.now.pages) c.args.self.now.parts.items (vec_len c.args.self.now.values) in
+      subst P (sym c.complete-lost.ensures.completed.sound.len) c.args.self.now.parted;
   linked = c.complete-lost.ensures.completed.sound.linked;
-  placed = c.complete-lost.ensures.completed.sound.placed (get nat_eq c.args.self.now.pages) c.args.self.now.placed;
-  room = omega (arith, c.complete-lost.ensures.completed.sound.len, c.complete-lost.ensures.completed.sound.room);
-  few = omega (arith, c.complete-lost.ensures.completed.sound.len);
+  placed = c.complete-lost.ensures.completed.sound.placed (starts (get nat_eq c.args.self.now.pages) c.args.self.now.parts.items) c.args.self.now.placed;
+  space = omega (arith, c.complete-lost.ensures.completed.sound.space);
+  room = omega (arith, c.complete-lost.ensures.completed.sound.room);
+  fewer = omega (arith, c.complete-lost.ensures.completed.sound.len);
+  few = c.args.self.now.few;
   listed =
       listed_completed c.begin.new.work (record c.begin.new.work { settled = true; waiting = c.complete-lost.new.lists }) (barrier c.args.issuer c.args.dsb c.args.n)
       c.args.self.now.cells.items c.complete-lost.new.cells.items c.args.self.now.broken.items c.complete-lost.new.broken.items c.begin.ensures.pes refl refl
@@ -44,7 +49,7 @@ returns-then-is_empty-clause-completed c = λ a.
     completed_at (barrier c.args.issuer c.args.dsb c.args.n) c.args.self.now.cells.items c.args.self.now.cells.items c.args.self.now.broken.items c.args.self.now.broken.items
     (completes_whole (barrier c.args.issuer c.args.dsb c.args.n) c.args.self.now.cells.items c.args.self.now.broken.items
     (nil_from_length c.args.self.now.broken.items (omega (arith, eqb-true (vec_len c.args.self.now.broken) 0 (sym c.is_empty.ensures ∙ c.if-is_empty.true)))))
-    (index_of (get nat_eq c.args.self.now.pages) a)
+    (index_of (starts (get nat_eq c.args.self.now.pages) c.args.self.now.parts.items) a)
 
 pub returns-then-is_empty-clause-others : goal.returns-then-is_empty-clause-others
 unfolding marks_at pends_at
@@ -52,29 +57,29 @@ returns-then-is_empty-clause-others c = λ q a b cover p other.
     others_at (barrier c.args.issuer c.args.dsb c.args.n) c.args.self.now.cells.items c.args.self.now.cells.items c.args.self.now.broken.items c.args.self.now.broken.items
     (completes_whole (barrier c.args.issuer c.args.dsb c.args.n) c.args.self.now.cells.items c.args.self.now.broken.items
     (nil_from_length c.args.self.now.broken.items (omega (arith, eqb-true (vec_len c.args.self.now.broken) 0 (sym c.is_empty.ensures ∙ c.if-is_empty.true)))))
-    q (eqb-false q c.args.issuer other) (index_of (get nat_eq c.args.self.now.pages) a) b cover p
+    q (eqb-false q c.args.issuer other) (index_of (starts (get nat_eq c.args.self.now.pages) c.args.self.now.parts.items) a) b cover p
 
 pub returns-clause-completed : goal.returns-clause-completed
 unfolding marks_at pends_at
 returns-clause-completed c = λ a.
     completed_at (barrier c.args.issuer c.args.dsb c.args.n) c.args.self.now.cells.items c.complete-lost.new.cells.items c.args.self.now.broken.items c.complete-lost.new.broken.items
-    c.complete-lost.ensures.completed.each (index_of (get nat_eq c.args.self.now.pages) a)
+    c.complete-lost.ensures.completed.each (index_of (starts (get nat_eq c.args.self.now.pages) c.args.self.now.parts.items) a)
 
 pub returns-clause-others : goal.returns-clause-others
 unfolding marks_at pends_at
 returns-clause-others c = λ q a b cover p other.
     others_at (barrier c.args.issuer c.args.dsb c.args.n) c.args.self.now.cells.items c.complete-lost.new.cells.items c.args.self.now.broken.items c.complete-lost.new.broken.items
-    c.complete-lost.ensures.completed.each q (eqb-false q c.args.issuer other) (index_of (get nat_eq c.args.self.now.pages) a) b cover p
+    c.complete-lost.ensures.completed.each q (eqb-false q c.args.issuer other) (index_of (starts (get nat_eq c.args.self.now.pages) c.args.self.now.parts.items) a) b cover p
 
 pub returns-clause-lost : goal.returns-clause-lost
 unfolding marks_at
 returns-clause-lost c = λ is.
     let w = c.complete-lost.ensures.completed.lost is in
-    lost_at (get nat_eq c.args.self.now.pages) c.args.self.now.cells.items c.complete-lost.new.cells.items c.args.self.now.broken.items c.complete-lost.new.broken.items
+    lost_at (starts (get nat_eq c.args.self.now.pages) c.args.self.now.parts.items) c.args.self.now.cells.items c.complete-lost.new.cells.items c.args.self.now.broken.items c.complete-lost.new.broken.items
     c.args.self.now.linked c.args.self.now.placed w.0 w.1
 
 pub returns-clause-kept : goal.returns-clause-kept
 unfolding marks_at
 returns-clause-kept c = λ is a.
     kept_at c.args.self.now.cells.items c.complete-lost.new.cells.items c.args.self.now.broken.items c.complete-lost.new.broken.items
-    (c.complete-lost.ensures.completed.kept is) (index_of (get nat_eq c.args.self.now.pages) a)
+    (c.complete-lost.ensures.completed.kept is) (index_of (starts (get nat_eq c.args.self.now.pages) c.args.self.now.parts.items) a)

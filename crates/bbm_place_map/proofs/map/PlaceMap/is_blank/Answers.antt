@@ -1,36 +1,65 @@
-use Rattle.std.proofs.Common.{◌≡◌, ℕ, ◌<◌, ◌+◌, true, List, None, refl, nat_eq, ap, sym, subst, ◌∙◌}
+use Rattle.std.proofs.Common.{◌≡◌, ℕ, ◌<◌, ◌+◌, ◌/◌, List, Some, refl, nat_eq, ap, sym, subst, ◌∙◌, arith, length}
+use Rattle.std.proofs.lemmas.Bool.{false≢true}
 use Rattle.indexmap.specs.IndexMap.{get}
-use Rattle.bbm_place_map.specs.Cells.{value_in, blank_at}
-use Rattle.bbm_place_map.specs.Map.{value_at, marks_at}
-use Rattle.bbm_place_map.specs.Parts.{marks_in}
+use Rattle.bbm_place_map.specs.Cells.{slot_in, value_in}
+use Rattle.bbm_place_map.specs.Map.{value_at}
 use Rattle.bbm_place_map.specs.Sound.{at_index}
-use Rattle.bbm_place_map.specs.declared.cell.Cell.{Cell}
-use Rattle.bbm_place_map.proofs.Blank.{blank_places, blank_cells}
+use Rattle.bbm_place_map.proofs.Blank.{free_marks, marks_free, values_zero, zero_values}
+use Rattle.bbm_place_map.proofs.Parts.{none_marks, part_within}
 use Rattle.bbm_place_map.proofs.Places.{index_none}
 use Rattle.bbm_place_map.proofs.map.PlaceMap.is_blank.Goals as goal
 
-pub returns-in-Some-clause-blank : goal.returns-in-Some-clause-blank
-unfolding value_at marks_at
-returns-in-Some-clause-blank c =
+-- the values that are looked at are those of the map
+abbrev Zero : ℕ → List ℕ → Type 0
+Zero b xs = (i : ℕ) → i < 512 → value_in xs (b + i) ≡ 0
+
+abbrev Free : ℕ → List ℕ → List ℕ → Type 0
+Free b ps xs = (start : ℕ) → slot_in ps (b / 512) ≡ Some start → (i : ℕ) → i < 512 → value_in xs (start + i) ≡ 0
+
+pub returns-then-not-is_zero-clause-blank : goal.returns-then-not-is_zero-clause-blank
+returns-then-not-is_zero-clause-blank c = (
+  λ e. absurd (false≢true e),
+  λ h.
+      let self = c.args.self.now in
+      let zero = values_zero self c.args.page c.in-Some.base (sym c.base.ensures.base ∙ c.in-Some.is) c.get.ensures.aligned (λ a same. (h a same).0) in
+      absurd (false≢true (sym c.if-not-is_zero.true ∙ c.is_zero.ensures.1 (subst (Zero c.in-Some.base) (sym c.deref.ensures.value) zero))),
+)
+
+pub returns-else-not-is_zero-clause-blank : goal.returns-else-not-is_zero-clause-blank
+returns-else-not-is_zero-clause-blank c =
     let self = c.args.self.now in
-    let base = get nat_eq self.pages in
+    let b = c.in-Some.base in
     let is = sym c.base.ensures.base ∙ c.in-Some.is in
-    let P : List Cell → Type 0 = λ xs. (i : ℕ) → i < 512 → blank_at xs (c.in-Some.base + i) ≡ true in (
-      λ e. blank_places self.cells.items self.broken.items base c.args.page c.in-Some.base is
-          (subst P c.deref.ensures.value (c.is_blank.ensures.0 e)),
-      λ h. c.is_blank.ensures.1 (subst P (sym c.deref.ensures.value)
-          (blank_cells self.cells.items self.broken.items base c.args.page c.in-Some.base is self.linked
-          c.get.ensures.aligned h)),
+    let F : List ℕ → Type 0 = λ xs. Free b c.deref-in-Some.result.now xs in
+    let G : List ℕ → Type 0 = λ ps. Free b ps self.cells.items in (
+      λ e a same. (
+        zero_values self c.args.page b is (subst (Zero b) c.deref.ensures.value (c.is_zero.ensures.0 c.if-not-is_zero.false)) a same,
+        free_marks self c.args.page b is (subst G c.deref-in-Some.ensures.value (subst F c.deref-in-Some-2.ensures.value (c.is_free.ensures.0 e))) a same,
+      ),
+      λ h.
+          let free = marks_free self c.args.page b is c.get.ensures.aligned (λ a same. (h a same).1) in
+          c.is_free.ensures.1 (subst F (sym c.deref-in-Some-2.ensures.value) (subst G (sym c.deref-in-Some.ensures.value) free)),
+    )
+
+pub is_free-requires : goal.is_free-requires
+is_free-requires c = λ start at.
+    let self = c.args.self.now in
+    omega (
+      arith,
+      part_within self c.deref-in-Some.result.now c.deref-in-Some.ensures.value c.args.page c.in-Some.base
+          (sym c.base.ensures.base ∙ c.in-Some.is) start at,
+      ap (λ (xs : List ℕ). length xs) c.deref-in-Some-2.ensures.value,
     )
 
 pub returns-in-None-clause-blank : goal.returns-in-None-clause-blank
-unfolding value_at marks_at
+unfolding value_at
 returns-in-None-clause-blank c =
     let self = c.args.self.now in
     let base = get nat_eq self.pages in (
-      λ e a same. let none = index_none base a (ap base same ∙ sym c.base.ensures.base ∙ c.in-None.is) in (
-        ap (at_index 0 (value_in self.cells.items)) none,
-        ap (at_index None (marks_in self.cells.items self.broken.items)) none,
-      ),
+      λ e a same.
+          let none = index_none base a (ap base same ∙ sym c.base.ensures.base ∙ c.in-None.is) in (
+            ap (at_index 0 (value_in self.values.items)) none,
+            none_marks self a none,
+          ),
       λ h. refl,
     )

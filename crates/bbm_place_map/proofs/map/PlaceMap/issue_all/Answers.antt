@@ -1,5 +1,6 @@
 use Rattle.std.proofs.Common.{ℕ, refl, nat_eq, arith, ◌∙◌, slice_get}
 use Rattle.indexmap.specs.IndexMap.{get}
+use Rattle.bbm_place_map.specs.Sound.{starts}
 use Rattle.bbm_place_map.specs.Map.{marks_at, pends_at, restless_in, restless_place}
 use Rattle.bbm_place_map.specs.PlaceNotes.{Keeps, NotesAt}
 use Rattle.bbm_place_map.proofs.Advancing.{seat_kept}
@@ -16,9 +17,12 @@ invariant_of-self c =
     let seats = λ (m : ℕ). seat_kept Keeps (slice_get old m) (slice_get mid m) (c.make_room.ensures.each m) in
     record {
       numbered = c.args.self.now.numbered;
+      parted = c.args.self.now.parted;
       linked = linked_seated old mid seats c.args.self.now.cells.items c.make_room.ensures.size.len c.args.self.now.linked;
-      placed = placed_seated old mid seats (get nat_eq c.args.self.now.pages) c.args.self.now.placed;
+      placed = placed_seated old mid seats (starts (get nat_eq c.args.self.now.pages) c.args.self.now.parts.items) c.args.self.now.placed;
       room = omega (arith, c.make_room.ensures.size.room);
+      space = c.args.self.now.space;
+      fewer = c.args.self.now.fewer;
       few = c.args.self.now.few;
       listed = listed_roomed c.args.self.now.cells.items old mid c.make_room.ensures.each c.args.self.now.work c.args.self.now.listed;
     }
@@ -33,9 +37,12 @@ invariant_of-self-2 c =
     ∙ seat_kept Keeps (slice_get old m) (slice_get mid m) (c.make_room.ensures.each m) in
     record {
       numbered = c.args.self.now.numbered;
+      parted = c.args.self.now.parted;
       linked = linked_seated old new seats c.args.self.now.cells.items (c.note.ensures.rest.len ∙ c.make_room.ensures.size.len) c.args.self.now.linked;
-      placed = placed_seated old new seats (get nat_eq c.args.self.now.pages) c.args.self.now.placed;
+      placed = placed_seated old new seats (starts (get nat_eq c.args.self.now.pages) c.args.self.now.parts.items) c.args.self.now.placed;
       room = omega (arith, c.make_room.ensures.size.room, c.note.ensures.rest.room);
+      space = c.args.self.now.space;
+      fewer = c.args.self.now.fewer;
       few = c.args.self.now.few;
       listed =
           listed_noted c.args.self.now.cells.items old mid c.make_room.ensures.each new c.args.covers.now (issuing c.args.issuer c.args.reach c.args.broadcast)
@@ -47,6 +54,6 @@ invariant_of-self-2 c =
 pub returns-clause-noted : goal.returns-clause-noted
 unfolding marks_at pends_at restless_in restless_place
 returns-clause-noted c =
-    noted_by_number (get nat_eq c.args.self.now.pages) c.args.self.now.cells.items c.args.self.now.broken.items c.make_room.new.broken.items c.note.new.broken.items
+    noted_by_number (starts (get nat_eq c.args.self.now.pages) c.args.self.now.parts.items) c.args.self.now.cells.items c.args.self.now.broken.items c.make_room.new.broken.items c.note.new.broken.items
     c.args.covers.now (issuing c.args.issuer c.args.reach c.args.broadcast) c.args.self.now.linked c.args.self.now.placed c.make_room.ensures.each c.note.ensures.each
     c.requires

@@ -1,8 +1,7 @@
-use Rattle.std.proofs.Common.{ℕ, ◌≡◌, List, sym, subst, refl, nat_eq, arith, ◌∙◌, vec_len, length, slice_get}
+use Rattle.std.proofs.Common.{ℕ, ◌≡◌, List, refl, nat_eq, arith, ◌∙◌, vec_len, slice_get}
 use Rattle.indexmap.specs.IndexMap.{get}
 use Rattle.bbm_place_map.specs.Each.{Advances}
-use Rattle.bbm_place_map.specs.Sound.{IsSound, Numbered}
-use Rattle.bbm_place_map.specs.declared.cell.Cell.{Cell}
+use Rattle.bbm_place_map.specs.Sound.{starts}
 use Rattle.bbm_place_map.specs.declared.entry.Entry.{Entry}
 use Rattle.bbm_place_map.specs.Map.{marks_at, pends_at}
 use Rattle.bbm_place_map.specs.PlaceNotes.{Keeps, NotesFound}
@@ -11,6 +10,7 @@ use Rattle.bbm_place_map.proofs.Advancing.{seat_kept}
 use Rattle.bbm_place_map.proofs.Issued.{noted_found, unnoted_found}
 use Rattle.bbm_place_map.proofs.Seats.{linked_seated, placed_seated}
 use Rattle.bbm_place_map.proofs.Listing.{listed_roomed, listed_noted}
+use Rattle.bbm_place_map.proofs.Parts.{sound_by}
 use Rattle.bbm_place_map.proofs.Visiting.{covers_of, notes_each, waits_each}
 use Rattle.bbm_place_map.proofs.Made.{issuing}
 use Rattle.bbm_place_map.proofs.map.PlaceMap.issue_at.Goals as goal
@@ -24,9 +24,12 @@ invariant_of-self c =
     let mid = c.make_room_found.new.broken.items in
     record {
       numbered = c.args.self.now.numbered;
+      parted = c.args.self.now.parted;
       linked = linked_seated old mid (seats old mid c.make_room_found.ensures.each) c.args.self.now.cells.items c.make_room_found.ensures.size.len c.args.self.now.linked;
-      placed = placed_seated old mid (seats old mid c.make_room_found.ensures.each) (get nat_eq c.args.self.now.pages) c.args.self.now.placed;
+      placed = placed_seated old mid (seats old mid c.make_room_found.ensures.each) (starts (get nat_eq c.args.self.now.pages) c.args.self.now.parts.items) c.args.self.now.placed;
       room = omega (arith, c.make_room_found.ensures.size.room);
+      space = c.args.self.now.space;
+      fewer = c.args.self.now.fewer;
       few = c.args.self.now.few;
       listed = listed_roomed c.args.self.now.cells.items old mid c.make_room_found.ensures.each c.args.self.now.work c.args.self.now.listed;
     }
@@ -34,26 +37,16 @@ invariant_of-self c =
 pub make_room_found-requires : goal.make_room_found-requires
 make_room_found-requires c =
     let self = c.args.self.now in
-    let P : List Cell → Type 0 = λ xs. IsSound (get nat_eq self.pages) xs self.broken.items in
-    let N : ℕ → Type 0 = Numbered (get nat_eq self.pages) in
-    let len : vec_len self.cells ≡ length self.cells.items = omega arith in
-    subst P (sym c.deref-2.ensures.value)
-    (record { numbered = subst N len self.numbered; few = omega arith; linked = self.linked; placed = self.placed })
+    sound_by self c.deref-3.result.now c.deref-4.result.now self.broken.items c.deref-3.ensures.value c.deref-4.ensures.value self.linked self.placed
 
 pub note_found-requires-clause-sound : goal.note_found-requires-clause-sound
 note_found-requires-clause-sound c =
     let self = c.args.self.now in
     let mid = c.make_room_found.new.broken.items in
     let all = seats self.broken.items mid c.make_room_found.ensures.each in
-    let P : List Cell → Type 0 = λ xs. IsSound (get nat_eq self.pages) xs mid in
-    let N : ℕ → Type 0 = Numbered (get nat_eq self.pages) in
-    let len : vec_len self.cells ≡ length self.cells.items = omega arith in
-    subst P (sym c.deref-2.ensures.value) (record {
-      numbered = subst N len self.numbered;
-      few = omega arith;
-      linked = linked_seated self.broken.items mid all self.cells.items c.make_room_found.ensures.size.len self.linked;
-      placed = placed_seated self.broken.items mid all (get nat_eq self.pages) self.placed;
-    })
+    sound_by self c.deref-3.result.now c.deref-4.result.now mid c.deref-3.ensures.value c.deref-4.ensures.value
+    (linked_seated self.broken.items mid all self.cells.items c.make_room_found.ensures.size.len self.linked)
+    (placed_seated self.broken.items mid all (starts (get nat_eq self.pages) self.parts.items) self.placed)
 
 pub invariant_of-self-2 : goal.invariant_of-self-2
 invariant_of-self-2 c =
@@ -66,9 +59,12 @@ invariant_of-self-2 c =
     seat_kept (NotesFound found (issuing c.args.issuer c.args.reach c.args.broadcast) c.note_found.new.lists.items) (slice_get mid m) (slice_get new m) (each m) ∙ seats old mid c.make_room_found.ensures.each m in
     record {
       numbered = c.args.self.now.numbered;
+      parted = c.args.self.now.parted;
       linked = linked_seated old new all c.args.self.now.cells.items (c.note_found.ensures.rest.len ∙ c.make_room_found.ensures.size.len) c.args.self.now.linked;
-      placed = placed_seated old new all (get nat_eq c.args.self.now.pages) c.args.self.now.placed;
+      placed = placed_seated old new all (starts (get nat_eq c.args.self.now.pages) c.args.self.now.parts.items) c.args.self.now.placed;
       room = omega (arith, c.make_room_found.ensures.size.room, c.note_found.ensures.rest.room);
+      space = c.args.self.now.space;
+      fewer = c.args.self.now.fewer;
       few = c.args.self.now.few;
       listed =
           listed_noted c.args.self.now.cells.items old mid c.make_room_found.ensures.each new (covers_of found mid) (issuing c.args.issuer c.args.reach c.args.broadcast)
@@ -82,15 +78,15 @@ invariant_of-self-2 c =
 pub returns-clause-noted : goal.returns-clause-noted
 unfolding marks_at pends_at
 returns-clause-noted c =
-    noted_found (get nat_eq c.args.self.now.pages) c.args.self.now.cells.items c.args.self.now.broken.items c.make_room_found.new.broken.items
+    noted_found (starts (get nat_eq c.args.self.now.pages) c.args.self.now.parts.items) c.args.self.now.cells.items c.args.self.now.broken.items c.make_room_found.new.broken.items
     c.note_found.new.broken.items c.args.found.now (issuing c.args.issuer c.args.reach c.args.broadcast) c.note_found.new.lists.items c.args.self.now.linked
     c.args.self.now.placed c.make_room_found.ensures.each c.make_room_found.ensures.size.len c.note_found.ensures.each
-    (vec_len c.args.self.now.cells) c.args.self.now.numbered
+    (vec_len c.args.self.now.cells) c.args.self.now.parted.numbered
 
 pub returns-clause-unnoted : goal.returns-clause-unnoted
 unfolding pends_at
 returns-clause-unnoted c =
-    unnoted_found (get nat_eq c.args.self.now.pages) c.args.self.now.cells.items c.args.self.now.broken.items c.make_room_found.new.broken.items
+    unnoted_found (starts (get nat_eq c.args.self.now.pages) c.args.self.now.parts.items) c.args.self.now.cells.items c.args.self.now.broken.items c.make_room_found.new.broken.items
     c.note_found.new.broken.items c.args.found.now (issuing c.args.issuer c.args.reach c.args.broadcast) c.note_found.new.lists.items c.args.self.now.linked
     c.args.self.now.placed c.make_room_found.ensures.each c.make_room_found.ensures.size.len c.note_found.ensures.each
-    (vec_len c.args.self.now.cells) c.args.self.now.numbered
+    (vec_len c.args.self.now.cells) c.args.self.now.parted.numbered

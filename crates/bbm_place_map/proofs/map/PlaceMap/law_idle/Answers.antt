@@ -1,5 +1,6 @@
 use Rattle.std.proofs.Common.{nat_eq}
 use Rattle.indexmap.specs.IndexMap.{get}
+use Rattle.bbm_place_map.specs.Sound.{starts}
 use Rattle.bbm_place_map.specs.Map.{marks_at, pends_at}
 use Rattle.bbm_place_map.proofs.Idle.{idle_from}
 use Rattle.bbm_place_map.proofs.Restless.{none_waits}
@@ -9,4 +10,4 @@ pub returns : goal.returns
 unfolding marks_at pends_at
 returns c = λ q a none.
     idle_from (pends_at c.args.self.now q a)
-    (none_waits (get nat_eq c.args.self.now.pages) c.args.self.now.cells.items c.args.self.now.broken.items c.args.self.now.linked c.args.self.now.placed q a none)
+    (none_waits (starts (get nat_eq c.args.self.now.pages) c.args.self.now.parts.items) c.args.self.now.cells.items c.args.self.now.broken.items c.args.self.now.linked c.args.self.now.placed q a none)

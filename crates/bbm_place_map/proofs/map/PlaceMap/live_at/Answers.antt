@@ -11,7 +11,7 @@ use Rattle.bbm_place_map.proofs.map.PlaceMap.live_at.Goals as goal
 pub returns : goal.returns
 unfolding value_at IsSeat
 returns c =
-    let cells = c.args.self.now.cells.items in
+    let cells = c.args.self.now.values.items in
     let j = c.args.seat.now.index in
     let within = index_inside (get nat_eq c.args.self.now.pages) _ c.args.self.now.numbered c.args.seat.now.place j c.requires.seat in
     c.core.ensures.value

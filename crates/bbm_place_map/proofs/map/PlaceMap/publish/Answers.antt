@@ -6,7 +6,7 @@ use Rattle.bbm_place_map.specs.Map.{marks_at, pends_at, restless_in, restless_pl
 use Rattle.bbm_entry_state.specs.declared.marks.Marks.{Marks}
 use Rattle.bbm_place_map.specs.declared.entry.Entry.{Entry}
 use Rattle.bbm_place_map.specs.Parts.{marks_in}
-use Rattle.bbm_place_map.specs.Sound.{index_of}
+use Rattle.bbm_place_map.specs.Sound.{index_of, starts}
 use Rattle.bbm_place_map.specs.Works.{HoldsFor, IsTold}
 use Rattle.bbm_place_map.proofs.Knowing.{told_entry}
 use Rattle.bbm_place_map.proofs.Advancing.{seat_kept, place_kept}
@@ -33,9 +33,12 @@ seats by old new each m = seat_kept (Publishes by) (slice_get old m) (slice_get 
 pub invariant_of-self-2 : goal.invariant_of-self-2
 invariant_of-self-2 c = record {
   numbered = c.args.self.now.numbered;
+  parted = c.args.self.now.parted;
   linked = linked_seated c.args.self.now.broken.items c.publish.new.broken.items (seats (barrier c.args.issuer c.args.dsb c.args.n) c.args.self.now.broken.items c.publish.new.broken.items c.publish.ensures.published.each) c.args.self.now.cells.items c.publish.ensures.published.size.len c.args.self.now.linked;
-  placed = placed_seated c.args.self.now.broken.items c.publish.new.broken.items (seats (barrier c.args.issuer c.args.dsb c.args.n) c.args.self.now.broken.items c.publish.new.broken.items c.publish.ensures.published.each) (get nat_eq c.args.self.now.pages) c.args.self.now.placed;
+  placed = placed_seated c.args.self.now.broken.items c.publish.new.broken.items (seats (barrier c.args.issuer c.args.dsb c.args.n) c.args.self.now.broken.items c.publish.new.broken.items c.publish.ensures.published.each) (starts (get nat_eq c.args.self.now.pages) c.args.self.now.parts.items) c.args.self.now.placed;
   room = omega (arith, c.publish.ensures.published.size.room);
+  space = c.args.self.now.space;
+  fewer = c.args.self.now.fewer;
   few = c.args.self.now.few;
   listed =
       listed_published c.begin.new.work (record c.begin.new.work { unpublished = c.publish.new.lists }) (barrier c.args.issuer c.args.dsb c.args.n)
@@ -50,13 +53,13 @@ pub returns-clause-published : goal.returns-clause-published
 unfolding marks_at
 returns-clause-published c = λ live a.
     published_at (barrier c.args.issuer c.args.dsb c.args.n) c.args.self.now.cells.items c.args.self.now.broken.items c.publish.new.broken.items c.publish.ensures.published.each
-    live (index_of (get nat_eq c.args.self.now.pages) a)
+    live (index_of (starts (get nat_eq c.args.self.now.pages) c.args.self.now.parts.items) a)
 
 pub returns-clause-pends : goal.returns-clause-pends
 unfolding pends_at
 returns-clause-pends c = λ q a.
     pends_at_same (barrier c.args.issuer c.args.dsb c.args.n) c.args.self.now.cells.items c.args.self.now.broken.items c.publish.new.broken.items c.publish.ensures.published.each
-    q (index_of (get nat_eq c.args.self.now.pages) a)
+    q (index_of (starts (get nat_eq c.args.self.now.pages) c.args.self.now.parts.items) a)
 
 pub returns-clause-restless : goal.returns-clause-restless
 unfolding restless_in

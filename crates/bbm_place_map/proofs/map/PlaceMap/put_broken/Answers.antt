@@ -1,26 +1,35 @@
-use Rattle.std.proofs.Common.{List, ℕ, nat_eq, ap, sym, arith, subst, ◌∙◌}
-use Rattle.indexmap.specs.IndexMap.{get}
-use Rattle.bbm_place_map.specs.Map.{IsSeat}
+use Rattle.std.proofs.Common.{List, ℕ, None, Some, Option, nat_eq, ap, sym, ◌∙◌, if◌then◌else◌}
+use Rattle.bbm_entry_state.specs.declared.marks.Marks.{Marks}
+use Rattle.bbm_place_map.specs.Map.{is_tracked, marks_at, pends_at, value_at}
 use Rattle.bbm_place_map.specs.Parts.{marks_in}
-use Rattle.bbm_place_map.specs.declared.cell.Cell.{Cell}
+use Rattle.bbm_place_map.specs.Sound.{at_index}
 use Rattle.bbm_place_map.specs.declared.entry.Entry.{Entry}
-use Rattle.bbm_place_map.specs.Sound.{Numbered}
-use Rattle.bbm_place_map.proofs.Listing.{listed_broken}
 use Rattle.bbm_place_map.proofs.map.PlaceMap.put_broken.Goals as goal
 
-pub invariant_of-self : goal.invariant_of-self
-unfolding IsSeat
-invariant_of-self c = record {
-  numbered = let P : ℕ → Type 0 = Numbered (get nat_eq c.args.self.now.pages) in subst P (sym c.put_broken.ensures.written.len) c.args.self.now.numbered;
-  linked = c.put_broken.ensures.written.linked;
-  placed = c.put_broken.ensures.placed (get nat_eq c.args.self.now.pages) c.requires c.args.self.now.placed;
-  room = omega (arith, c.put_broken.ensures.written.len, c.put_broken.ensures.written.room);
-  few = omega (arith, c.put_broken.ensures.written.len);
-  listed =
-      listed_broken c.args.self.now.work c.note_write.new.work c.args.self.now.cells.items c.put_broken.new.cells.items c.args.self.now.broken.items c.put_broken.new.broken.items
-      c.args.seat.now.index c.args.marks c.marks-before.result c.note_write.ensures.pes
-      (c.marks-before.ensures ∙ ap (λ (xs : List Cell). marks_in xs c.deref-2.result.now c.args.seat.now.index) c.deref.ensures.value
-      ∙ ap (λ (xs : List Entry). marks_in c.args.self.now.cells.items xs c.args.seat.now.index) c.deref-2.ensures.value)
-      c.note_write.ensures.told c.note_write.ensures.kept c.note_write.ensures.waiting c.note_write.ensures.settled c.note_write.ensures.unclean
-      c.put_broken.ensures.marks c.put_broken.ensures.pends c.args.self.now.listed;
+pub mark-requires-clause-before : goal.mark-requires-clause-before
+unfolding marks_at
+mark-requires-clause-before c =
+    let mid = c.cell-i.new.self in
+    c.marks-before.ensures
+    ∙ ap (λ (xs : List ℕ). marks_in xs c.deref-2.result.now c.cell-i.result) c.deref.ensures.value
+    ∙ ap (λ (xs : List Entry). marks_in mid.cells.items xs c.cell-i.result) c.deref-2.ensures.value
+    ∙ sym (ap (at_index None (marks_in mid.cells.items mid.broken.items)) c.cell-i.ensures.cell)
+
+pub returns-clause-put : goal.returns-clause-put
+unfolding value_at is_tracked
+returns-clause-put c = record {
+  values = λ a.
+      c.put_at.ensures.put.values a
+      ∙ ap (λ (v : ℕ). if nat_eq a c.args.seat.now.place then c.args.value else v) (c.mark.ensures.values a ∙ c.cell-i.ensures.same.values a);
+  pages = λ p. c.put_at.ensures.put.pages p ∙ c.mark.ensures.pages p ∙ c.cell-i.ensures.same.pages p;
 }
+
+pub returns-clause-marks : goal.returns-clause-marks
+unfolding marks_at
+returns-clause-marks c = λ a.
+    c.put_at.ensures.marks a ∙ c.mark.ensures.marks a
+    ∙ ap (λ (m : Option Marks). if nat_eq a c.args.seat.now.place then Some c.args.marks else m) (c.cell-i.ensures.same.marks a)
+
+pub returns-clause-pends : goal.returns-clause-pends
+unfolding pends_at
+returns-clause-pends c = λ q a. c.put_at.ensures.pends q a ∙ c.mark.ensures.pends q a ∙ c.cell-i.ensures.same.pends q a

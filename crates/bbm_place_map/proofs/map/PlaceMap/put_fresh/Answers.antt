@@ -1,41 +1,22 @@
-use Rattle.std.proofs.Common.{◌≡◌, ℕ, None, nat_eq, ap, sym, arith, subst, ◌∙◌}
-use Rattle.indexmap.specs.IndexMap.{get}
-use Rattle.bbm_place_map.specs.Map.{IsSeat, marks_at}
-use Rattle.bbm_place_map.specs.Parts.{marks_in}
-use Rattle.bbm_place_map.specs.Sound.{Numbered, at_index}
-use Rattle.bbm_place_map.specs.declared.map.PlaceMap.{PlaceMap}
-use Rattle.bbm_place_map.specs.declared.seat.Seat.{Seat}
-use Rattle.bbm_place_map.proofs.Blank.{free_cell}
-use Rattle.bbm_place_map.proofs.Listing.{listed_broken}
+use Rattle.std.proofs.Common.{ℕ, Some, Option, nat_eq, ap, sym, ◌∙◌, if◌then◌else◌}
+use Rattle.bbm_entry_state.specs.declared.marks.Marks.{Marks}
 use Rattle.bbm_place_map.proofs.map.PlaceMap.put_fresh.Goals as goal
 
--- the cell of a seat whose place isn't broken has no marks
-whole_cell : (map : PlaceMap) (seat : Seat) → IsSeat map seat → marks_at map seat.place ≡ None
-    → marks_in map.cells.items map.broken.items seat.index ≡ None
-unfolding IsSeat marks_at
-whole_cell map seat at whole = sym (ap (at_index None (marks_in map.cells.items map.broken.items)) at) ∙ whole
+pub mark-requires-clause-before : goal.mark-requires-clause-before
+mark-requires-clause-before c = sym (c.cell-i.ensures.same.marks c.args.seat.now.place ∙ c.requires.whole)
 
-pub put_fresh-requires-clause-free : goal.put_fresh-requires-clause-free
-put_fresh-requires-clause-free c =
-    let self = c.args.self.now in
-    free_cell self.cells.items self.broken.items self.linked c.args.seat.now.index
-    (whole_cell self c.args.seat.now c.requires.seat c.requires.whole)
+pub returns-clause-put : goal.returns-clause-put
+returns-clause-put c = record {
+  values = λ a.
+      c.put_at.ensures.put.values a
+      ∙ ap (λ (v : ℕ). if nat_eq a c.args.seat.now.place then c.args.value else v) (c.mark.ensures.values a ∙ c.cell-i.ensures.same.values a);
+  pages = λ p. c.put_at.ensures.put.pages p ∙ c.mark.ensures.pages p ∙ c.cell-i.ensures.same.pages p;
+}
 
-pub invariant_of-self : goal.invariant_of-self
-unfolding IsSeat
-invariant_of-self c =
-    let self = c.args.self.now in
-    let e = c.put_fresh.ensures in
-    let n = c.note_write.ensures in
-    record {
-      numbered = let P : ℕ → Type 0 = Numbered (get nat_eq self.pages) in subst P (sym e.written.len) self.numbered;
-      linked = e.written.linked;
-      placed = e.placed (get nat_eq self.pages) c.requires.seat self.placed;
-      room = omega (arith, e.written.len, e.written.room);
-      few = omega (arith, e.written.len);
-      listed =
-          listed_broken self.work c.note_write.new.work self.cells.items c.put_fresh.new.cells.items self.broken.items
-          c.put_fresh.new.broken.items c.args.seat.now.index c.args.marks None n.pes
-          (sym (whole_cell self c.args.seat.now c.requires.seat c.requires.whole))
-          n.told n.kept n.waiting n.settled n.unclean e.marks e.pends self.listed;
-    }
+pub returns-clause-marks : goal.returns-clause-marks
+returns-clause-marks c = λ a.
+    c.put_at.ensures.marks a ∙ c.mark.ensures.marks a
+    ∙ ap (λ (m : Option Marks). if nat_eq a c.args.seat.now.place then Some c.args.marks else m) (c.cell-i.ensures.same.marks a)
+
+pub returns-clause-pends : goal.returns-clause-pends
+returns-clause-pends c = λ q a. c.put_at.ensures.pends q a ∙ c.mark.ensures.pends q a ∙ c.cell-i.ensures.same.pends q a

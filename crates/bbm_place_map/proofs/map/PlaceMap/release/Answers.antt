@@ -1,47 +1,85 @@
-use Rattle.std.proofs.Common.{ℕ, refl, nat_eq, ap, sym, arith, subst, ◌∙◌, vec_len}
-use Rattle.std.proofs.lemmas.Bool.{cond-true, eqb-true}
+use Rattle.std.proofs.Common.{ℕ, ◌/◌, None, refl, nat_eq, ap, sym, arith, subst, ◌∙◌}
+use Rattle.std.proofs.Common.{inl, inr, vec_len}
+use Rattle.std.proofs.lemmas.Bool.{cases_Bool, cond-false, cond-true, eqb-true}
 use Rattle.indexmap.specs.IndexMap.{get}
-use Rattle.bbm_place_map.specs.Cells.{in_page}
-use Rattle.bbm_place_map.specs.Entries.{no_pends, entry_in}
-use Rattle.bbm_place_map.specs.Map.{pends_at, page_of}
-use Rattle.bbm_place_map.specs.Parts.{pends_for}
-use Rattle.bbm_place_map.specs.Sound.{Numbered, at_index}
+use Rattle.bbm_place_map.specs.Cells.{in_part, slot_in}
+use Rattle.bbm_place_map.specs.Entries.{entry_in, no_pends}
+use Rattle.bbm_place_map.specs.Map.{marks_at, page_of, pends_at}
+use Rattle.bbm_place_map.specs.Sound.{Parted, starts}
 use Rattle.bbm_place_map.proofs.Idle.{idle_from}
-use Rattle.bbm_place_map.proofs.Places.{at_page, index_none}
-use Rattle.bbm_place_map.proofs.Pages.{drop_pends}
-use Rattle.bbm_place_map.proofs.Listing.{listed_fewer, gone_or_same}
+use Rattle.bbm_place_map.proofs.Listing.{gone_or_same, listed_fewer}
+use Rattle.bbm_place_map.proofs.Clearing.{page_clears, page_marks, page_pends}
+use Rattle.bbm_place_map.proofs.Parts.{none_marks, none_pends, part_within}
+use Rattle.bbm_place_map.proofs.Places.{index_none}
 use Rattle.bbm_place_map.proofs.map.PlaceMap.release.Goals as goal
 
+pub clear_part-requires-clause-able : goal.clear_part-requires-clause-able
+clear_part-requires-clause-able c =
+    let self = c.args.self.now in
+    record { linked = self.linked; few = omega (arith, self.fewer, self.few) }
+
+pub clear_part-requires-clause-within : goal.clear_part-requires-clause-within
+clear_part-requires-clause-within c =
+    part_within c.args.self.now c.deref.result.now c.deref.ensures.value c.args.page c.in-Some.base (sym c.base.ensures.base ∙ c.in-Some.is)
+
 pub invariant_of-self : goal.invariant_of-self
-invariant_of-self c = record {
-  numbered = let P : ℕ → Type 0 = Numbered (get nat_eq c.args.self.now.pages) in subst P (sym c.clear_page.ensures.sound.len) c.args.self.now.numbered;
-  linked = c.clear_page.ensures.sound.linked;
-  placed = c.clear_page.ensures.sound.placed (get nat_eq c.args.self.now.pages) c.args.self.now.placed;
-  room = omega (arith, c.clear_page.ensures.sound.len, c.clear_page.ensures.sound.room);
-  few = omega (arith, c.clear_page.ensures.sound.len);
-  listed =
-      listed_fewer c.args.self.now.work c.args.self.now.work c.args.self.now.cells.items c.clear_page.new.cells.items
-      c.args.self.now.broken.items c.clear_page.new.broken.items refl refl (λ wide q j holds. holds) (λ wide q j holds. holds)
-      (λ j. gone_or_same (in_page c.in-Some.base 512 j) (entry_in c.args.self.now.cells.items c.args.self.now.broken.items j)
-      (entry_in c.clear_page.new.cells.items c.clear_page.new.broken.items j) (c.clear_page.ensures.entries j)) c.args.self.now.listed;
-}
+invariant_of-self c =
+    let self = c.args.self.now in
+    let e = page_clears self c.deref.result.now c.deref.ensures.value c.clear_part.new.cells c.clear_part.new.broken c.args.page c.in-Some.base
+    (sym c.base.ensures.base ∙ c.in-Some.is) c.clear_part.ensures in
+    let P : ℕ → Type 0 = Parted (get nat_eq self.pages) self.parts.items (vec_len self.values) in
+    record {
+      numbered = self.numbered;
+      parted = subst P (sym e.sound.len) self.parted;
+      linked = e.sound.linked;
+      placed = e.sound.placed (starts (get nat_eq self.pages) self.parts.items) self.placed;
+      space = omega (arith, e.sound.space, self.space);
+      room = omega (arith, e.sound.room, self.room);
+      fewer = omega (arith, e.sound.len, self.fewer);
+      few = self.few;
+      listed =
+          listed_fewer self.work self.work self.cells.items c.clear_part.new.cells.items self.broken.items c.clear_part.new.broken.items
+          refl refl (λ wide q j holds. holds) (λ wide q j holds. holds)
+          (λ j. gone_or_same (in_part (slot_in self.parts.items (c.in-Some.base / 512)) j) (entry_in self.cells.items self.broken.items j)
+          (entry_in c.clear_part.new.cells.items c.clear_part.new.broken.items j) (e.entries j)) self.listed;
+    }
+
+pub returns-in-Some-clause-marks : goal.returns-in-Some-clause-marks
+unfolding marks_at
+returns-in-Some-clause-marks c =
+    let self = c.args.self.now in
+    page_marks self c.deref.result.now c.deref.ensures.value c.clear_part.new.cells c.clear_part.new.broken c.args.page c.in-Some.base
+    (sym c.base.ensures.base ∙ c.in-Some.is) c.clear_part.ensures
+
+pub returns-in-Some-clause-pends : goal.returns-in-Some-clause-pends
+unfolding pends_at
+returns-in-Some-clause-pends c = λ q a off.
+    let self = c.args.self.now in
+    page_pends self c.deref.result.now c.deref.ensures.value c.clear_part.new.cells c.clear_part.new.broken c.args.page c.in-Some.base
+    (sym c.base.ensures.base ∙ c.in-Some.is) c.clear_part.ensures q a
+    ∙ cond-false (nat_eq (page_of a) c.args.page) no_pends (pends_at self q a) off
 
 pub returns-in-Some-clause-dropped : goal.returns-in-Some-clause-dropped
 unfolding pends_at
 returns-in-Some-clause-dropped c = λ q a same.
-    idle_from _
-    (at_page (get nat_eq c.args.self.now.pages) (vec_len c.args.self.now.cells) c.args.self.now.numbered no_pends
-    (pends_for c.args.self.now.cells.items c.args.self.now.broken.items q)
-    (pends_for c.clear_page.new.cells.items c.clear_page.new.broken.items q) c.args.page c.in-Some.base
-    (sym c.base.ensures.base ∙ c.in-Some.is)
-    (drop_pends q c.in-Some.base (entry_in c.args.self.now.cells.items c.args.self.now.broken.items)
-    (entry_in c.clear_page.new.cells.items c.clear_page.new.broken.items) c.clear_page.ensures.entries) a
-    ∙ cond-true (nat_eq (page_of a) c.args.page) no_pends (pends_at c.args.self.now q a) same)
+    let self = c.args.self.now in
+    idle_from _ (page_pends self c.deref.result.now c.deref.ensures.value c.clear_part.new.cells c.clear_part.new.broken c.args.page c.in-Some.base
+    (sym c.base.ensures.base ∙ c.in-Some.is) c.clear_part.ensures q a
+    ∙ cond-true (nat_eq (page_of a) c.args.page) no_pends (pends_at self q a) same)
+
+pub returns-in-None-clause-marks : goal.returns-in-None-clause-marks
+returns-in-None-clause-marks c = λ a.
+    let self = c.args.self.now in
+    elim (cases_Bool (nat_eq (page_of a) c.args.page)) [
+      | inl same ↦
+          none_marks self a (index_none (get nat_eq self.pages) a
+          (ap (get nat_eq self.pages) (eqb-true (page_of a) c.args.page same) ∙ sym c.base.ensures.base ∙ c.in-None.is))
+          ∙ sym (cond-true (nat_eq (page_of a) c.args.page) None (marks_at self a) same)
+      | inr off ↦ sym (cond-false (nat_eq (page_of a) c.args.page) None (marks_at self a) off)
+    ]
 
 pub returns-in-None-clause-dropped : goal.returns-in-None-clause-dropped
-unfolding pends_at
 returns-in-None-clause-dropped c = λ q a same.
-    idle_from _
-    (ap (at_index no_pends (pends_for c.args.self.now.cells.items c.args.self.now.broken.items q))
-    (index_none (get nat_eq c.args.self.now.pages) a
-    (ap (get nat_eq c.args.self.now.pages) (eqb-true (page_of a) c.args.page same) ∙ sym c.base.ensures.base ∙ c.in-None.is)))
+    let self = c.args.self.now in
+    idle_from (pends_at self q a) (none_pends self a (index_none (get nat_eq self.pages) a
+    (ap (get nat_eq self.pages) (eqb-true (page_of a) c.args.page same) ∙ sym c.base.ensures.base ∙ c.in-None.is)) q)

@@ -1,5 +1,6 @@
 use Rattle.std.proofs.Common.{nat_eq, ap, is_some, Option}
 use Rattle.indexmap.specs.IndexMap.{get}
+use Rattle.bbm_place_map.specs.Sound.{starts}
 use Rattle.bbm_entry_state.specs.declared.marks.Marks.{Marks}
 use Rattle.bbm_place_map.specs.Map.{marks_at, restless_in}
 use Rattle.bbm_place_map.proofs.Leaving.{entry_read}
@@ -10,5 +11,5 @@ pub returns-clause-broken : goal.returns-clause-broken
 unfolding marks_at restless_in
 returns-clause-broken c =
     ap (λ (o : Option Marks). is_some o)
-    (marks_are (get nat_eq c.args.self.now.pages) c.args.self.now.cells.items c.args.self.now.broken.items c.args.self.now.linked c.args.self.now.placed
+    (marks_are (starts (get nat_eq c.args.self.now.pages) c.args.self.now.parts.items) c.args.self.now.cells.items c.args.self.now.broken.items c.args.self.now.linked c.args.self.now.placed
     c.args.i c.index.result.now (entry_read c.args.self.now.broken.items c.args.i c.index.result.now c.requires c.index.ensures))

@@ -1,5 +1,6 @@
 use Rattle.std.proofs.Common.{nat_eq, refl, ap, ◌∙◌}
 use Rattle.indexmap.specs.IndexMap.{get}
+use Rattle.bbm_place_map.specs.Sound.{starts}
 use Rattle.bbm_place_map.specs.Map.{marks_at, restless_in, restless_place}
 use Rattle.bbm_place_map.specs.declared.entry.Entry.{Entry}
 use Rattle.bbm_place_map.proofs.Leaving.{entry_read}
@@ -9,7 +10,7 @@ use Rattle.bbm_place_map.proofs.map.PlaceMap.restless_core.Goals as goal
 pub returns : goal.returns
 unfolding marks_at restless_in restless_place
 returns c =
-    let base = get nat_eq c.args.self.now.pages in
+    let base = starts (get nat_eq c.args.self.now.pages) c.args.self.now.parts.items in
     let cells = c.args.self.now.cells.items in
     let entries = c.args.self.now.broken.items in
     let e : Entry = c.index.result.now in

@@ -8,9 +8,9 @@ use Rattle.bbm_place_map.proofs.map.PlaceMapMemory.value.Goals as goal
 pub returns-in-Some : goal.returns-in-Some
 unfolding value_at
 returns-in-Some c =
-    sym (ap (at_index 0 (value_in c.args.self.now.cells.items)) (sym c.index.ensures.index ∙ c.in-Some.is)
-    ∙ value_read c.args.self.now.cells.items c.in-Some.j c.index-in-Some.result.now (omega (arith, c.in-Some.ensures.within)) c.index-in-Some.ensures)
+    sym (ap (at_index 0 (value_in c.args.self.now.values.items)) (sym c.index.ensures.index ∙ c.in-Some.is)
+    ∙ value_read c.args.self.now.values.items c.in-Some.j c.index-in-Some.result.now (omega (arith, c.in-Some.ensures.within)) c.index-in-Some.ensures)
 
 pub returns-in-None : goal.returns-in-None
 unfolding value_at
-returns-in-None c = sym (ap (at_index 0 (value_in c.args.self.now.cells.items)) (sym c.index.ensures.index ∙ c.in-None.is))
+returns-in-None c = sym (ap (at_index 0 (value_in c.args.self.now.values.items)) (sym c.index.ensures.index ∙ c.in-None.is))

@@ -2,13 +2,14 @@ use Rattle.std.proofs.Common.{ap, sym, ◌∙◌, refl, Option, ℕ, length}
 use Rattle.std.proofs.lemmas.Option.{slice_get_read}
 use Rattle.bbm_place_map.specs.Entries.{entry_of}
 use Rattle.bbm_place_map.proofs.Linking.{cell_within}
-use Rattle.bbm_place_map.proofs.read.entry.Goals as goal
+use Rattle.bbm_place_map.proofs.read.entry_of.Goals as goal
 
 pub bounds-broken-k : goal.bounds-broken-k
-bounds-broken-k c = cell_within c.args.broken.now c.in-Some.k c.args.j (c.requires.linked.forth c.args.j c.in-Some.k c.in-Some.is)
+bounds-broken-k c = cell_within c.args.broken.now c.in-Some.k c.args.i (c.requires.forth c.args.i c.in-Some.k (sym c.slot_of.ensures ∙ c.in-Some.is))
 
 pub returns-in-Some : goal.returns-in-Some
 returns-in-Some c =
-    let within = cell_within c.args.broken.now c.in-Some.k c.args.j (c.requires.linked.forth c.args.j c.in-Some.k c.in-Some.is) in
+    let is = sym c.slot_of.ensures ∙ c.in-Some.is in
+    let within = cell_within c.args.broken.now c.in-Some.k c.args.i (c.requires.forth c.args.i c.in-Some.k is) in
     let read = slice_get_read c.args.broken.now (length c.args.broken.now) c.in-Some.k c.index-broken-k.result refl within c.index-broken-k.is in
-    sym (ap (λ (o : Option ℕ). entry_of c.args.broken.now o) c.in-Some.is ∙ read)
+    sym (ap (λ (o : Option ℕ). entry_of c.args.broken.now o) is ∙ read)

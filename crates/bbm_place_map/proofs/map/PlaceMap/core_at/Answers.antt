@@ -1,0 +1,21 @@
+use Rattle.std.proofs.Common.{Option, ap, ◌∙◌}
+use Rattle.bbm_entry_state.specs.Points.{core_in}
+use Rattle.bbm_entry_state.specs.declared.marks.Marks.{Marks}
+use Rattle.bbm_place_map.specs.Map.{IsSeat}
+use Rattle.bbm_place_map.specs.States.{state_from}
+use Rattle.bbm_place_map.proofs.Parts.{has_value, read_marks}
+use Rattle.bbm_place_map.proofs.map.PlaceMap.core_at.Goals as goal
+
+pub core-requires : goal.core-requires
+unfolding IsSeat
+core-requires c =
+    has_value c.args.self.now c.args.seat.now.place c.args.seat.now.index c.requires
+    c.deref.result.now c.deref-2.result.now c.deref-3.result.now c.deref.ensures.value c.deref-2.ensures.value c.deref-3.ensures.value
+
+pub returns : goal.returns
+unfolding IsSeat
+returns c =
+    c.core.ensures
+    ∙ ap (λ (m : Option Marks). core_in (state_from c.args.live m))
+    (read_marks c.args.self.now c.args.seat.now.place c.args.seat.now.index c.requires
+    c.deref.result.now c.deref-2.result.now c.deref-3.result.now c.deref.ensures.value c.deref-2.ensures.value c.deref-3.ensures.value)

@@ -1,0 +1,19 @@
+use Rattle.std.proofs.Common.{Option, ap, is_some, ◌∙◌}
+use Rattle.bbm_entry_state.specs.declared.marks.Marks.{Marks}
+use Rattle.bbm_place_map.specs.Map.{IsSeat}
+use Rattle.bbm_place_map.proofs.Parts.{has_value, read_marks}
+use Rattle.bbm_place_map.proofs.map.PlaceMap.is_broken_at.Goals as goal
+
+pub is_broken-requires : goal.is_broken-requires
+unfolding IsSeat
+is_broken-requires c =
+    has_value c.args.self.now c.args.seat.now.place c.args.seat.now.index c.requires
+    c.deref.result.now c.deref-2.result.now c.deref-3.result.now c.deref.ensures.value c.deref-2.ensures.value c.deref-3.ensures.value
+
+pub returns : goal.returns
+unfolding IsSeat
+returns c =
+    c.is_broken.ensures
+    ∙ ap (λ (m : Option Marks). is_some m)
+    (read_marks c.args.self.now c.args.seat.now.place c.args.seat.now.index c.requires
+    c.deref.result.now c.deref-2.result.now c.deref-3.result.now c.deref.ensures.value c.deref-2.ensures.value c.deref-3.ensures.value)

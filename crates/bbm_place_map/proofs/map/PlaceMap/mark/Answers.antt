@@ -1,0 +1,58 @@
+use Rattle.std.proofs.Common.{ℕ, None, Some, nat_eq, ap, sym, subst, ◌∙◌, arith, vec_len}
+use Rattle.indexmap.specs.IndexMap.{get}
+use Rattle.bbm_place_map.specs.Entries.{no_pends}
+use Rattle.bbm_place_map.specs.Map.{marks_at, pends_at, place_cell}
+use Rattle.bbm_place_map.specs.Parts.{marks_in, pends_for}
+use Rattle.bbm_place_map.specs.Sound.{Parted, at_index, starts}
+use Rattle.bbm_place_map.proofs.Listing.{listed_broken}
+use Rattle.bbm_place_map.proofs.Places.{at_place, at_same, index_inside}
+use Rattle.bbm_place_map.proofs.map.PlaceMap.mark.Goals as goal
+
+pub mark-requires : goal.mark-requires
+mark-requires c =
+    let self = c.args.self.now in
+    let base = starts (get nat_eq self.pages) self.parts.items in
+    record {
+      linked = self.linked;
+      within = index_inside base (vec_len self.cells) self.parted.numbered c.args.seat.now.place c.args.i c.requires.cell;
+      few = omega (arith, self.fewer, self.few);
+      room = omega (arith, self.fewer, self.room);
+    }
+
+pub invariant_of-self : goal.invariant_of-self
+unfolding marks_at
+invariant_of-self c =
+    let self = c.args.self.now in
+    let e = c.mark.ensures in
+    let n = c.note_write.ensures in
+    let P : ℕ → Type 0 = Parted (get nat_eq self.pages) self.parts.items (vec_len self.values) in
+    record {
+      numbered = self.numbered;
+      parted = subst P (sym e.len) self.parted;
+      linked = e.linked;
+      placed = e.placed (starts (get nat_eq self.pages) self.parts.items) c.requires.cell self.placed;
+      space = omega (arith, e.space, self.space);
+      room = omega (arith, e.room, self.room);
+      fewer = omega (arith, e.len, self.fewer);
+      few = self.few;
+      listed =
+          listed_broken self.work c.note_write.new.work self.cells.items c.mark.new.cells.items self.broken.items c.mark.new.broken.items
+          c.args.i c.args.marks c.args.before.now n.pes
+          (c.requires.before ∙ ap (at_index None (marks_in self.cells.items self.broken.items)) c.requires.cell)
+          n.told n.kept n.waiting n.settled n.unclean e.marks e.pends self.listed;
+    }
+
+pub returns-clause-marks : goal.returns-clause-marks
+unfolding marks_at
+returns-clause-marks c =
+    let self = c.args.self.now in
+    at_place (starts (get nat_eq self.pages) self.parts.items) (vec_len self.cells) self.parted.numbered None (Some c.args.marks)
+    (marks_in self.cells.items self.broken.items) (marks_in c.mark.new.cells.items c.mark.new.broken.items)
+    c.args.seat.now.place c.args.i c.requires.cell c.mark.ensures.marks
+
+pub returns-clause-pends : goal.returns-clause-pends
+unfolding pends_at
+returns-clause-pends c = λ q a.
+    let self = c.args.self.now in
+    at_same no_pends (pends_for self.cells.items self.broken.items q) (pends_for c.mark.new.cells.items c.mark.new.broken.items q)
+    (c.mark.ensures.pends q) (place_cell self a)
