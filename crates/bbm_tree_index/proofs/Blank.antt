@@ -40,7 +40,7 @@ pub core_read : (m : Option Marks) (kind : Kind) (level value : ℕ) → core_in
 core_read None kind level value = core_whole (core_of kind level value)
 core_read (Some marks) kind level value = refl
 
-asks_nothing : (leaf : Leaf) (kind : Kind) → asks leaf kind Invalid ≡ false
+pub asks_nothing : (leaf : Leaf) (kind : Kind) → asks leaf kind Invalid ≡ false
 asks_nothing Contiguous kind = refl
 asks_nothing UserGlobal kind = and-false (same_kind kind Ttbr0)
 

@@ -16,6 +16,8 @@ pub mod Begun
 pub mod Leasts
 pub mod Blank
 pub mod Wrongs
+pub mod LeafBits
+pub mod Joined
 pub mod Ways
 pub mod Judging
 pub mod Rooted

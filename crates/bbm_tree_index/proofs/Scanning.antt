@@ -1,13 +1,16 @@
 -- The places of a page, one after the other.
-use Rattle.std.proofs.Common.{◌≡◌, ℕ, ◌<◌, ◌≤◌, ◌+◌, ◌*◌, ◌/◌, ◌%◌, Bool, true, false, ◌&&◌, ◌||◌, ◌==◌, nat_lt, List}
+use Rattle.std.proofs.Common.{◌≡◌, ℕ, ◌<◌, ◌≤◌, ◌+◌, ◌*◌, ◌/◌, ◌%◌, Bool, true, false, ◌&&◌, ◌||◌, ◌==◌, nat_lt, List, Option}
 use Rattle.std.proofs.Common.{refl, sym, ap, ◌∙◌, true≢false, arith}
-use Rattle.std.proofs.lemmas.Bool.{eqb-true, eqb-false, ltb-true, lt-ltb}
+use Rattle.std.proofs.lemmas.Bool.{eqb-true, eqb-false, ltb-true, ltb-false, lt-ltb}
+use Rattle.std.proofs.lemmas.Option.{none-some}
 use Rattle.bbm_lemmas.proofs.Tautologies.{proved}
 use Rattle.bbm_lemmas.proofs.Tautologies.Claim.{Is}
 use Rattle.bbm_rules.specs.Places.{index_of, page_of}
-use Rattle.bbm_rules.specs.Tree.{Node}
+use Rattle.bbm_rules.specs.Tree.{Node, next_of}
 use Rattle.bbm_tree_index.specs.HeldCores.{is_at}
-use Rattle.bbm_tree_index.specs.Survey.{Partly}
+use Rattle.bbm_tree_index.specs.Survey.{Counts, Partly}
+use Rattle.bbm_tree_index.specs.declared.mark.Mark.{Mark}
+use Rattle.bbm_tree_index.proofs.Counting.{counts_same}
 use Rattle.bbm_tree_index.proofs.Places.{at_page, place_is}
 use mathlib.Core.Bool.{and-false}
 
@@ -108,3 +111,55 @@ scan_all p n end done a = ap (λ b. done a || b) (by (page_of a == p) (nat_lt (i
     by true true e = refl
     by true false e = absurd (true≢false (sym (lt-ltb (index_of a) n below) ∙ e))
     by false x e = refl
+
+-- tests that agree on places give the same marks
+pub alike : (fresh : ℕ → Bool) (value : ℕ → ℕ) (starts : List Node) (k : ℕ) (done done' : ℕ → Bool)
+    → ((page a : ℕ) → is_at page a ≡ true → done' a ≡ done a) → (g : ℕ → Option Mark)
+    → ((q : ℕ) → Counts (Partly fresh value starts k done) q (g q)) → (q : ℕ) → Counts (Partly fresh value starts k done') q (g q)
+alike fresh value starts k done done' same g h q = counts_same (Partly fresh value starts k done) (Partly fresh value starts k done') q (g q)
+    (λ m at. partly_same fresh value starts k done done' same m)
+    (λ m at. partly_same fresh value starts k done' done (λ page a i. sym (same page a i)) m) (h q)
+
+-- places with the value 0 lead nowhere
+module _ (value : ℕ → ℕ) (p from to : ℕ) (zero : (j : ℕ) → from ≤ j → j < to → value (p + 8 * j) ≡ 0)
+    (fresh : ℕ → Bool) (starts : List Node) (k : ℕ) (done : ℕ → Bool) where
+  pub skipped : (m : Node) → Partly fresh value starts k (λ a. done a || scanned p to a) m
+      → Partly fresh value starts k (λ a. done a || scanned p from a) m
+  skipped m r = record {
+    above = r.above;
+    is_above = r.is_above;
+    place = r.place;
+    is_done = by (done r.place) (page_of r.place == p) (nat_lt (index_of r.place) to) (nat_lt (index_of r.place) from)
+        refl refl refl r.is_done;
+    step = r.step;
+  }
+    where
+      at : (page_of r.place == p) ≡ true → r.place ≡ p + 8 * index_of r.place
+      at e = place_is r.above.page r.place r.step.inside
+          ∙ ap (λ s. s + 8 * index_of r.place) (sym (at_page r.above.page r.place r.step.inside) ∙ eqb-true (page_of r.place) p e)
+
+      none : (page_of r.place == p) ≡ true → nat_lt (index_of r.place) to ≡ true → nat_lt (index_of r.place) from ≡ false → ⊥
+      none e x y = none-some m.page (sym (ap (next_of r.above.kind r.above.level) (ap value (at e)
+          ∙ zero (index_of r.place) (ltb-false (index_of r.place) from y) (ltb-true (index_of r.place) to x))) ∙ r.step.table)
+
+      by : (d b x y : Bool) → (page_of r.place == p) ≡ b → nat_lt (index_of r.place) to ≡ x → nat_lt (index_of r.place) from ≡ y
+          → (d || (b && x)) ≡ true → (d || (b && y)) ≡ true
+      by true b x y eb ex ey e = refl
+      by false true true true eb ex ey e = refl
+      by false true true false eb ex ey e = absurd (none eb ex ey)
+      by false true false y eb ex ey e = absurd (true≢false (sym e))
+      by false false x y eb ex ey e = absurd (true≢false (sym e))
+
+pub wider : (p n : ℕ) (done : ℕ → Bool) (a : ℕ) → (done a || scanned p n a) ≡ true → (done a || scanned p (n + 8) a) ≡ true
+wider p n done a = by (done a) (page_of a == p) (nat_lt (index_of a) n) (nat_lt (index_of a) (n + 8)) refl refl
+  where
+    more : index_of a < n → index_of a < n + 8
+    more l = omega (arith, l)
+
+    by : (d b x y : Bool) → nat_lt (index_of a) n ≡ x → nat_lt (index_of a) (n + 8) ≡ y → (d || (b && x)) ≡ true → (d || (b && y)) ≡ true
+    by true b x y ex ey e = refl
+    by false true true true ex ey e = refl
+    by false true true false ex ey e =
+        absurd (true≢false (sym (lt-ltb (index_of a) (n + 8) (more (ltb-true (index_of a) n ex))) ∙ ey))
+    by false true false y ex ey e = absurd (true≢false (sym e))
+    by false false x y ex ey e = absurd (true≢false (sym e))

@@ -1,9 +1,11 @@
 -- The least page that keeps pages from being attached, and the least place, by the tables of a survey.
 -- Source: project's own choice.
 use Rattle.std.specs.Prelude.{◌≡◌, ℕ, ◌+◌, ◌<◌, Bool, true, false, List, Option, Some, None, Contains, length}
-use Rattle.std.specs.Prelude.{is_some, nat_eq, nat_lt, slice_get, if◌then◌else◌}
+use Rattle.std.specs.Prelude.{is_some, nat_eq, nat_lt, slice_get, if◌then◌else◌, zero, suc, not}
+use Rattle.std.specs.Prelude.{◌%◌, ◌==◌, ◌&&◌, ◌||◌}
 use Rattle.indexmap.specs.IndexMap.{IndexMap, get}
 use Rattle.bbm_descriptor.specs.Descriptor.{desc_of}
+use Rattle.bbm_descriptor.specs.Fields.{contiguous_of, not_global}
 use Rattle.bbm_descriptor.specs.declared.desc.Desc.{Desc}
 use Rattle.bbm_regimes.specs.declared.regime.Kind.{Kind}
 use Rattle.bbm_rules.specs.Tree.{Node}
@@ -41,6 +43,20 @@ pub record Before (passes : ℕ → ℕ → Type 0) (n m : ℕ) : Type 0 where
 abbrev pub asks : Leaf → Kind → Desc → Bool
 asks Contiguous kind desc = is_bad kind desc
 asks UserGlobal kind desc = is_user_global kind desc
+
+-- Bits [1:0] of a leaf, by its level; 4, which no value has there, where there is none.
+-- Source: Arm ARM (DDI 0487), "VMSAv8-64 descriptor formats".
+abbrev pub leaf_bits : ℕ → ℕ
+leaf_bits zero = 4
+leaf_bits (suc zero) = 1
+leaf_bits (suc (suc zero)) = 1
+leaf_bits _ = 3
+
+-- A value isn't that of a leaf with the Contiguous hint, nor, in a tree of the lower range, that of one for every ASID.
+-- Leaves have these bits [1:0].
+abbrev pub spares : Bool → ℕ → ℕ → Bool
+spares lower bits value = not (value % 4 == bits)
+    || (not (contiguous_of value) && not (lower && not (not_global value)))
 
 -- a place of the page, read at a kind and a level, has a descriptor that passes the test
 pub record LeafOf (value : ℕ → ℕ) (test : Kind → Desc → Bool) (kind : Kind) (level page a : ℕ) : Type 0 where

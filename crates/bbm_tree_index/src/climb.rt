@@ -1,12 +1,16 @@
 //! The places above a page.
 
-ghost use Rattle.std.specs.Prelude.{◌≡◌, ◌≤◌, ℕ, nat_eq, unwrap_or};
+ghost use Rattle.std.specs.Prelude.{◌≡◌, ◌≤◌, ℕ, nat_eq, not, unwrap_or};
 ghost use Rattle.indexmap.specs.IndexMap.{get};
+ghost use Rattle.bbm_descriptor.specs.Descriptor.{is_valid};
+ghost use Rattle.bbm_place_map.specs.Map.{value_at};
 ghost use Rattle.bbm_tree_index.specs.Climbs.{cut_by, passes_at};
+ghost use Rattle.bbm_tree_index.specs.HeldCores.{holds_at};
 
 use crate::held::core_at;
 use crate::role::Role;
-use crate::table::role_of;
+use crate::table::{number_near, role_by};
+use bbm_descriptor::laws::law_core_where_valid;
 use bbm_descriptor::{Memory, core};
 use bbm_place_map::PlaceMap;
 use bbm_regimes::{Kind, Place};
@@ -23,26 +27,55 @@ pub enum Asked {
     This(Place),
 }
 
-/// Whether what is asked holds of the place, at this kind and level, 0 to 3.
-pub fn passes(map: &PlaceMap, asked: &Asked, kind: Kind, level: u8, place: Place) -> bool
+/// Whether the present value of the place is invalid at this kind and level, 0 to 3. No answer depends on the number
+/// `near`, at which its page is looked for first.
+fn is_invalid(map: &PlaceMap, kind: Kind, level: u8, place: Place, near: usize) -> bool
+    requires { level ≤ 3 }
+    ensures { result ≡ not (is_valid kind level (value_at map.now place)) }
+{
+    law_core_where_valid();
+    match map.seat_near(place, near) {
+        Some(seat) => map.live_at(&seat, kind, level).is_none(),
+        None => core(kind, level, map.value(place)).is_none(),
+    }
+}
+
+/// Whether the place holds nothing, in the same way.
+fn is_unheld(map: &PlaceMap, kind: Kind, level: u8, place: Place, near: usize) -> bool
+    requires { level ≤ 3 }
+    ensures { result ≡ not (holds_at map.now kind level place) }
+{
+    match map.seat_near(place, near) {
+        Some(seat) => {
+            let live = map.live_at(&seat, kind, level);
+            map.core_at(&seat, live).is_none()
+        }
+        None => core_at(map, kind, level, place).is_none(),
+    }
+}
+
+/// Whether what is asked holds of the place, at this kind and level, 0 to 3, in the same way.
+fn passes(map: &PlaceMap, asked: &Asked, kind: Kind, level: u8, place: Place, near: usize) -> bool
     requires { level ≤ 3 }
     ensures { result ≡ passes_at map.now asked.now kind level place }
 {
     match *asked {
-        Asked::Invalid => core(kind, level, map.value(place)).is_none(),
-        Asked::Unheld => core_at(map, kind, level, place).is_none(),
+        Asked::Invalid => is_invalid(map, kind, level, place, near),
+        Asked::Unheld => is_unheld(map, kind, level, place, near),
         Asked::This(at) => place == at,
     }
 }
 
 /// Whether what is asked holds of a place above a page with this role, whose level is `left`, 0 to 4; true where a page
-/// above it is in no tree.
+/// above it is in no tree. No answer depends on the numbers `near`, at which the pages above are looked for first, by
+/// their level: there pages have been found before.
 pub fn is_cut(
     roles: &IndexMap<u64, Role>,
     map: &PlaceMap,
     asked: &Asked,
     left: u8,
     role: &Role,
+    near: &mut [usize; 4],
 ) -> bool
     requires { left ≤ 4 }
     ensures { result
@@ -54,9 +87,13 @@ pub fn is_cut(
             if left == 0 {
                 return false;
             }
-            let above = role_of(roles, parent.page());
-            passes(map, asked, kind, left - 1, parent)
-                || is_cut(roles, map, asked, left - 1, &above)
+            let level = left - 1;
+            let page = parent.page();
+            let number = number_near(roles, near[level as usize], page);
+            near[level as usize] = number;
+            let above = role_by(roles, number, page);
+            passes(map, asked, kind, level, parent, number)
+                || is_cut(roles, map, asked, level, &above, near)
         }
         _ => true,
     }

@@ -23,7 +23,7 @@ pub fn null_page(
     ensures fresh { IfOk result (λ index. fresh_in index page ≡ false) }
     ensures node { IfOk result (λ index. (p : ℕ) → node_in index p ≡ None) }
 {
-    let mut index = TreeIndex::new(alloc, header)?;
+    let mut index = TreeIndex::new(alloc, header);
     index.track(alloc, map, page)?;
     index.nullify(page);
     Ok(index)

@@ -11,7 +11,7 @@ use crate::role::{Attach, Detach, Path, Role};
 use crate::spot::{Spot, spot_of};
 use crate::start::{start_below, start_root};
 use crate::survey::survey;
-use crate::table::{put, role_here, role_near};
+use crate::table::{number_near, put, role_here, role_near};
 use bbm_events::Header;
 use bbm_place_map::PlaceMap;
 use bbm_regimes::{Kind, NoMemory, Page, Place, Which};
@@ -35,7 +35,6 @@ pub struct Prepared {
     tables: Vec<IndexMap<u64, Mark>>,
 }
 
-#[tactic(auto, unfolding(crate::specs::Index::heading_of, crate::specs::Index::role_in, crate::specs::Index::node_in, crate::specs::Index::fresh_in, crate::specs::Index::null_in, crate::specs::Index::known_in, crate::specs::Index::pages_in))]
 impl TreeIndex {
     ghost use Rattle.std.specs.Prelude.{◌≡◌, ◌≢◌, ◌≤◌, ◌<◌, ◌↔◌, ℕ, true, false, Contains, nat_eq};
     ghost use Rattle.std.specs.Prelude.{None, Some, is_some, Err, IfOk, IfErr, IfSome, OnOk, OnErr};
@@ -64,19 +63,19 @@ impl TreeIndex {
     ghost use Rattle.bbm_tree_index.specs.Survey.{Starting, Well};
     ghost use Rattle.bbm_tree_index.specs.declared.role.Attach.{Attach as TheAttach};
 
-    /// The index before any call. `NoMemory` where there is none.
-    pub fn new(alloc: Global, header: &Header) -> Result<TreeIndex, TreeFault>
-        ensures empty { IfOk result (IsNew header.now) }
-        ensures agrees { IfOk result (λ index. (map : TheMap) → ((a : ℕ) → marks_at map a ≡ None) → Agrees index map) }
-        ensures fault { IfErr result (λ fault. fault ≡ TreeFault.NoMemory) }
+    /// The index before any call. It takes no memory yet.
+    pub fn new(alloc: Global, header: &Header) -> TreeIndex
+        ensures empty { IsNew header.now result }
+        ensures agrees { (map : TheMap) → ((a : ℕ) → marks_at map a ≡ None) → Agrees result map }
     {
-        Ok(TreeIndex {
+        TreeIndex {
             header: *header,
             roles: IndexMap::new(alloc),
-        })
+        }
     }
 
     /// What the page is used for.
+    #[tactic(auto, unfolding(crate::specs::Index::role_in))]
     pub fn role(&self, page: Page) -> Role
         ensures { result ≡ role_in self.now page }
     {
@@ -87,13 +86,27 @@ impl TreeIndex {
     }
 
     /// Whether the page is fresh.
+    #[tactic(auto, unfolding(crate::specs::Index::fresh_in))]
     pub fn is_fresh(&self, page: Page) -> bool
         ensures { result ≡ fresh_in self.now page }
     {
         matches!(self.role(page), Role::Fresh)
     }
 
+    /// Whether the page is fresh and has this number in the order in which pages were tracked; false says nothing.
+    #[inline(always)]
+    #[tactic(auto, unfolding(crate::specs::Index::fresh_in, crate::specs::Index::role_in))]
+    pub fn is_fresh_at(&self, page: Page, number: usize) -> bool
+        ensures { result ≡ true → fresh_in self.now page ≡ true }
+    {
+        match role_here(&self.roles, number, page) {
+            Some(role) => matches!(*role, Role::Fresh),
+            None => false,
+        }
+    }
+
     /// Whether the page is a null page.
+    #[tactic(auto, unfolding(crate::specs::Index::null_in))]
     pub fn is_null(&self, page: Page) -> bool
         ensures { result ≡ null_in self.now page }
     {
@@ -101,6 +114,7 @@ impl TreeIndex {
     }
 
     /// Whether the page is in a tree.
+    #[tactic(auto, unfolding(crate::specs::Index::node_in))]
     pub fn is_in_tree(&self, page: Page) -> bool
         ensures { result ≡ is_some (node_in self.now page) }
     {
@@ -108,6 +122,7 @@ impl TreeIndex {
     }
 
     /// The number of pages that were ever tracked, 0 to 16,384.
+    #[tactic(auto, unfolding(crate::specs::Index::pages_in))]
     pub fn pages(&self) -> u64
         ensures { result ≡ pages_in self.now }
     {
@@ -160,19 +175,7 @@ impl TreeIndex {
     /// page is there, and else it is looked up. No answer depends on it.
     #[inline(always)]
     pub fn number(&self, page: Page, near: usize) -> usize {
-        match role_here(&self.roles, near, page) {
-            Some(_) => near,
-            None => self.number_far(page),
-        }
-    }
-
-    /// The same, looked up.
-    #[inline(never)]
-    fn number_far(&self, page: Page) -> usize {
-        match self.roles.get_index_of(&page.get()) {
-            Some(number) => number,
-            None => 0,
-        }
+        number_near(&self.roles, near, page)
     }
 
     /// Where the page stands, None where it is in no tree.
@@ -189,6 +192,7 @@ impl TreeIndex {
 
     /// The same. The page is looked for first at the number `near`.
     #[inline(always)]
+    #[tactic(auto, unfolding(crate::specs::Index::node_in, crate::specs::Index::role_in))]
     fn spot_near(&self, page: Page, near: usize) -> Option<Spot>
         requires { IsSound self.now }
         ensures spot { result ≡ spot_with (heading_of self.now) (role_in self.now page) }
@@ -217,8 +221,10 @@ impl TreeIndex {
 
     /// The place of a page that translates the input page, with what is known of it: where one goes on the way down
     /// from the page along the input page. None where the page is in no tree, or no place of it translates the input
-    /// page.
-    pub fn place_translating(&self, page: Page, at: u64) -> Option<(Place, Path)>
+    /// page. No answer depends on the number `near`: the page is looked for first where it has this number in the order
+    /// in which pages were tracked.
+    #[inline(always)]
+    pub fn place_translating(&self, page: Page, at: u64, near: usize) -> Option<(Place, Path)>
         requires { IsSound self.now }
         ensures inside { IfSome result (λ met. is_at page met.0 ≡ true) }
         ensures path { IfSome result (λ met. (n : Node) × (node_in self.now page ≡ Some n)
@@ -227,7 +233,7 @@ impl TreeIndex {
         ensures met { (n : Node) (a : ℕ) → node_in self.now page ≡ Some n → Translates page n at a
             → option_map (λ met. met.0) result ≡ Some a }
     {
-        match self.spot(page) {
+        match self.spot_near(page, near) {
             Some(spot) => match spot.place_at(page, at) {
                 Some(place) => Some((place, spot.path(place))),
                 None => None,
@@ -237,13 +243,16 @@ impl TreeIndex {
     }
 
     /// Whether the present value of a place above the place is invalid; false where its page is in no tree.
+    #[tactic(auto, unfolding(crate::specs::Index::node_in))]
     pub fn in_limbo(&self, map: &PlaceMap, place: Place) -> bool
         requires { IsSound self.now }
         ensures { result ≡ option_map_or (limbo_by (value_at map.now)) (node_in self.now (page_of place)) false }
     {
         let role = self.role(place.page());
         match role {
-            Role::Hangs { level, .. } => { is_cut(&self.roles, map, &Asked::Invalid, level, &role) }
+            Role::Hangs { level, .. } => {
+                is_cut(&self.roles, map, &Asked::Invalid, level, &role, &mut [0; 4])
+            }
             Role::RootPage { .. } => false,
             Role::Untracked => false,
             Role::Fresh => false,
@@ -266,6 +275,7 @@ impl TreeIndex {
     }
 
     /// The page is declared null. It is fresh.
+    #[tactic(auto, unfolding(crate::specs::Index::fresh_in, crate::specs::Index::role_in))]
     pub fn nullify(&mut self, page: Page)
         requires { fresh_in self.old page ≡ true }
         ensures null { BecomesNull page self.old self.new }
@@ -381,6 +391,7 @@ impl TreeIndex {
     }
 
     /// The pages that would be attached, a table for each level from the one at which the paths begin.
+    #[tactic(auto, unfolding(crate::specs::Index::heading_of))]
     fn survey(
         &self,
         alloc: Global,

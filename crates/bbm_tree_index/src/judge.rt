@@ -4,7 +4,6 @@ ghost use Rattle.std.specs.Prelude.{◌≡◌, ◌≤◌, ◌<◌, ◌+◌, ◌�
 ghost use Rattle.indexmap.specs.IndexMap.{index_map_len, keys};
 ghost use Rattle.bbm_descriptor.specs.Descriptor.{desc_of};
 ghost use Rattle.bbm_place_map.specs.Map.{value_at};
-ghost use Rattle.bbm_regimes.specs.SameRegister.{same_kind};
 ghost use Rattle.bbm_rules.specs.Tree.{Node};
 ghost use Rattle.bbm_tree_index.specs.Attaching.{Judges, names_pages};
 ghost use Rattle.bbm_tree_index.specs.PageTables.{HasPages};
@@ -13,6 +12,7 @@ ghost use Rattle.bbm_tree_index.specs.LeastPages.{Wrong, WrongIn, WrongPage, ask
 ghost use Rattle.bbm_tree_index.specs.Survey.{fresh_of};
 
 use crate::fault::TreeFault;
+use crate::harmless::{are_harmless, is_lower};
 use crate::held::place_of;
 use crate::mark::Mark;
 use crate::role::{Attach, Role};
@@ -243,13 +243,6 @@ fn least_leaf(
     least
 }
 
-/// Whether the kind is that of the lower range.
-fn is_lower(kind: Kind) -> bool
-    ensures { result ≡ same_kind kind Kind.Ttbr0 }
-{
-    kind == Kind::Ttbr0
-}
-
 /// The least place of the attached pages with a leaf for every ASID, in a tree of the lower range.
 fn least_global(
     map: &PlaceMap,
@@ -284,6 +277,9 @@ pub fn judge_tables(
 {
     if let Some(page) = least_wrong(roles, tables, named) {
         return Err(TreeFault::NotFresh(page));
+    }
+    if are_harmless(map, tables, kind, level) {
+        return Ok(());
     }
     if let Some(place) = least_leaf(map, tables, &Leaf::Contiguous, kind, level) {
         return Err(TreeFault::BadKind(place));

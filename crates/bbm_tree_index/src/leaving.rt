@@ -12,7 +12,7 @@ ghost use Rattle.bbm_tree_index.specs.PageTables.{HasPages};
 
 use crate::climb::{Asked, is_cut};
 use crate::role::Role;
-use crate::table::{put, role_of};
+use crate::table::{put, role_by};
 use bbm_place_map::PlaceMap;
 use bbm_regimes::{Page, Place};
 use indexmap::IndexMap;
@@ -28,8 +28,15 @@ pub enum Leaving {
     Below(Place),
 }
 
-/// Whether a page with this role, of a level of at most 4, leaves.
-pub fn leaves(roles: &IndexMap<u64, Role>, map: &PlaceMap, leaving: &Leaving, role: &Role) -> bool
+/// Whether a page with this role, of a level of at most 4, leaves. No answer depends on the numbers `near`, at which
+/// the pages above are looked for first, by their level.
+pub fn leaves(
+    roles: &IndexMap<u64, Role>,
+    map: &PlaceMap,
+    leaving: &Leaving,
+    role: &Role,
+    near: &mut [usize; 4],
+) -> bool
     requires { (parent level base first : ℕ) (kind : Kind) → role.now ≡ Role.Hangs parent kind level base first
         → level ≤ 4 }
     ensures { result ≡ leaves_role map.now (roles_of roles.now) leaving.now role.now }
@@ -37,9 +44,9 @@ pub fn leaves(roles: &IndexMap<u64, Role>, map: &PlaceMap, leaving: &Leaving, ro
     match *role {
         Role::RootPage { first, .. } => leaves_root(leaving, first),
         Role::Hangs { level, first, .. } => match *leaving {
-            Leaving::Unheld => is_cut(roles, map, &Asked::Unheld, level, role),
+            Leaving::Unheld => is_cut(roles, map, &Asked::Unheld, level, role, near),
             Leaving::Root(page) => first == page,
-            Leaving::Below(place) => is_cut(roles, map, &Asked::This(place), level, role),
+            Leaving::Below(place) => is_cut(roles, map, &Asked::This(place), level, role, near),
         },
         _ => false,
     }
@@ -55,16 +62,24 @@ fn leaves_root(leaving: &Leaving, first: Page) -> bool
     }
 }
 
-/// The page leaves if it is one that does: it is gone, and no place of it is broken.
-pub fn step(roles: &mut IndexMap<u64, Role>, map: &mut PlaceMap, leaving: &Leaving, page: Page)
+/// The page leaves if it is one that does: it is gone, and no place of it is broken. No answer depends on the numbers,
+/// at which it and the pages above it are looked for first.
+pub fn step(
+    roles: &mut IndexMap<u64, Role>,
+    map: &mut PlaceMap,
+    leaving: &Leaving,
+    page: Page,
+    number: usize,
+    near: &mut [usize; 4],
+)
     requires known { is_some (get nat_eq roles.old page) ≡ true }
     requires shallow { (parent level base first : ℕ) (kind : Kind) →
         roles_of roles.old page ≡ Role.Hangs parent kind level base first → level ≤ 4 }
     ensures roles { LetsGo (λ p. p == page && leaves_in map.old roles.old leaving.now page) roles.old roles.new }
     ensures map { Releases (λ p. p == page && leaves_in map.old roles.old leaving.now page) map.old map.new }
 {
-    let role = role_of(roles, page);
-    if leaves(roles, map, leaving, &role) {
+    let role = role_by(roles, number, page);
+    if leaves(roles, map, leaving, &role, near) {
         put(roles, page, Role::Gone);
         map.release(page);
     }
@@ -88,8 +103,9 @@ pub fn sweep(roles: &mut IndexMap<u64, Role>, map: &mut PlaceMap, leaving: &Leav
     ensures roles { LetsGo (leaves_in map.old roles.old leaving.now) roles.old roles.new }
     ensures map { Releases (leaves_in map.old roles.old leaving.now) map.old map.new }
 {
+    let mut near = [0; 4];
     for index in 0..roles.len() {
         let page = page_at(roles, index);
-        step(roles, map, leaving, page);
+        step(roles, map, leaving, page, index, &mut near);
     }
 }

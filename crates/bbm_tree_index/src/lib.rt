@@ -22,6 +22,7 @@ mod below;
 mod climb;
 pub mod example;
 mod fault;
+mod harmless;
 mod held;
 mod index;
 mod judge;

@@ -1,10 +1,9 @@
 //! The pages that paths through fresh pages reach, level by level.
 
-ghost use Rattle.std.specs.Prelude.{◌≡◌, ◌≤◌, ◌<◌, ◌+◌, ◌*◌, ◌||◌, ◌==◌, ℕ, suc, Bool, true, false, List, []};
-ghost use Rattle.std.specs.Prelude.{◌∷◌, ◌++◌, Option, Some, nat_eq, slice_get, length, OnOk, IfOk};
-ghost use Rattle.std.specs.Prelude.{IfSome};
+ghost use Rattle.std.specs.Prelude.{◌≡◌, ◌≤◌, ◌<◌, ◌+◌, ◌*◌, ◌%◌, ◌&&◌, ◌||◌, ◌==◌, nat_lt, ℕ, suc, Bool, true, false};
+ghost use Rattle.std.specs.Prelude.{List, [], ◌∷◌, ◌++◌, Option, Some, nat_eq, slice_get, length, OnOk, IfOk, IfSome};
 ghost use Rattle.indexmap.specs.IndexMap.{get, keys, index_map_len, IsUnique};
-ghost use Rattle.bbm_place_map.specs.Map.{value_at};
+ghost use Rattle.bbm_place_map.specs.Map.{IsSeat, value_at};
 ghost use Rattle.bbm_rules.specs.Places.{index_of, page_of};
 ghost use Rattle.bbm_rules.specs.Tree.{Node, next_of};
 ghost use Rattle.bbm_regimes.specs.World.{input_pages};
@@ -14,25 +13,29 @@ ghost use Rattle.bbm_tree_index.specs.Survey.{Counts, Found, Partly, Plain, Reac
 ghost use Rattle.bbm_tree_index.specs.Survey.{Well, fresh_of, grown};
 ghost use Rattle.bbm_tree_index.specs.declared.mark.Mark.{Mark as TheMark};
 
-use crate::held::place_of;
+use crate::held::{are_eight_zero, first_seat, place_of};
 use crate::mark::{Mark, add};
 use crate::role::Role;
 use crate::spot::{Spot, spot_of};
 use crate::table::is_fresh;
 use bbm_descriptor::{Desc, read};
 use bbm_events::Header;
-use bbm_place_map::PlaceMap;
+use bbm_place_map::{PlaceMap, Seat};
 use bbm_regimes::{Kind, NoMemory, Page, Place};
 use indexmap::IndexMap;
 use std::alloc::Global;
 
-/// The next page of a value at this kind and level, 0 to 3; None where it is no table. Source: Arm ARM (DDI 0487),
-/// "VMSAv8-64 descriptor formats".
+/// The next page of a value at this kind and level, 0 to 3; None where it is no table. That is told at once where bits
+/// [1:0] aren't 11. Source: Arm ARM (DDI 0487), "VMSAv8-64 descriptor formats".
+#[inline(always)]
 fn next_page(kind: Kind, level: u8, value: u64) -> Option<Page>
     requires { level ≤ 3 }
     ensures next { result ≡ next_of kind level value }
     ensures low { IfSome result (λ next. level < 3) }
 {
+    if value % 4 != 3 {
+        return None;
+    }
     match read(kind, level, value) {
         Desc::Table { next, .. } => Some(next),
         _ => None,
@@ -72,6 +75,42 @@ fn expand_place(
     }
 }
 
+/// Notes the paths that go on through the eight places of a fresh page that have this number and the next ones, by the
+/// seat of its first place. Most have the value 0.
+#[inline(always)]
+fn expand_eight(
+    map: &PlaceMap,
+    spot: &Spot,
+    many: bool,
+    seat: &Seat,
+    from: u64,
+    below: &mut IndexMap<u64, Mark>,
+) -> Result<(), NoMemory>
+    requires fits { Fits spot.now }
+    requires seat { IsSeat map.now seat.now }
+    requires first { seat.now.place % 4096 ≡ 0 }
+    requires within { from + 8 ≤ 512 }
+    ensures well { OnOk result (StaysWell below.old below.new) }
+    ensures level { OnOk result ((fresh : ℕ → Bool) (starts : List Node) (k : ℕ) (done : ℕ → Bool) (mark : TheMark) →
+        Uniform fresh (value_at map.now) starts k → fresh seat.now.place ≡ true →
+        ((a : ℕ) → page_of a ≡ seat.now.place → done a ≡ false) → mark.many ≡ many →
+        (found : Found (Reached fresh (value_at map.now) starts k) seat.now.place mark) → StandsAt spot.now found.node →
+        ((q : ℕ) → Counts (Partly fresh (value_at map.now) starts k (λ a. done a
+        || (page_of a == seat.now.place && nat_lt (index_of a) from))) q (get nat_eq below.old q)) →
+        (q : ℕ) → Counts (Partly fresh (value_at map.now) starts k (λ a. done a
+        || (page_of a == seat.now.place && nat_lt (index_of a) (from + 8)))) q (get nat_eq below.new q)) }
+{
+    if are_eight_zero(map, seat, from) {
+        return Ok(());
+    }
+    let page = seat.place.page();
+    for index in from..from + 8 {
+        let value = map.value_from(seat, index);
+        expand_place(spot, many, place_of(page, index), value, below)?;
+    }
+    Ok(())
+}
+
 /// Notes the paths that go on through the places of a fresh page that stands there.
 fn expand_page(
     map: &PlaceMap,
@@ -90,13 +129,11 @@ fn expand_page(
         (q : ℕ) → Counts (Partly fresh (value_at map.now) starts k (λ a. done a
         || page_of a == page)) q (get nat_eq below.new q)) }
 {
-    if map.is_blank(page) {
+    let Some(seat) = first_seat(map, page) else {
         return Ok(());
-    }
-    let seat = map.first_seat(page);
-    for index in 0..512 {
-        let value = map.value_from(&seat, index);
-        expand_place(spot, many, place_of(page, index), value, below)?;
+    };
+    for part in 0..64 {
+        expand_eight(map, spot, many, &seat, 8 * part, below)?;
     }
     Ok(())
 }

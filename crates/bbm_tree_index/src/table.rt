@@ -22,16 +22,6 @@ pub fn put(roles: &mut IndexMap<u64, Role>, page: Page, role: Role)
     }
 }
 
-/// The role of the page.
-pub fn role_of(roles: &IndexMap<u64, Role>, page: Page) -> Role
-    ensures { result ≡ unwrap_or (get nat_eq roles.now page) Role.Untracked }
-{
-    match roles.get(&page.get()) {
-        Some(role) => *role,
-        None => Role::Untracked,
-    }
-}
-
 /// The role of the page, where it has this number in the order in which pages got roles; None says nothing.
 #[inline(always)]
 pub fn role_here<'a>(roles: &'a IndexMap<u64, Role>, number: usize, page: Page) -> Option<&'a Role>
@@ -51,6 +41,46 @@ pub fn role_near<'a>(roles: &'a IndexMap<u64, Role>, near: usize, page: Page) ->
     match role_here(roles, near, page) {
         Some(role) => Some(role),
         None => roles.get(&page.get()),
+    }
+}
+
+/// The role of the page. No answer depends on the number `near`, at which the page is looked for first.
+#[inline(always)]
+pub fn role_by(roles: &IndexMap<u64, Role>, near: usize, page: Page) -> Role
+    ensures { result ≡ unwrap_or (get nat_eq roles.now page) Role.Untracked }
+{
+    match role_near(roles, near, page) {
+        Some(role) => *role,
+        None => Role::Untracked,
+    }
+}
+
+/// The role of the page.
+pub fn role_of(roles: &IndexMap<u64, Role>, page: Page) -> Role
+    ensures { result ≡ unwrap_or (get nat_eq roles.now page) Role.Untracked }
+{
+    match roles.get(&page.get()) {
+        Some(role) => *role,
+        None => Role::Untracked,
+    }
+}
+
+/// Where to look first for the page: its number in the order in which pages got roles. That is `near` where the page is
+/// there, and else it is looked up. No answer depends on it.
+#[inline(always)]
+pub fn number_near(roles: &IndexMap<u64, Role>, near: usize, page: Page) -> usize {
+    match role_here(roles, near, page) {
+        Some(_) => near,
+        None => number_far(roles, page),
+    }
+}
+
+/// The same, looked up.
+#[inline(never)]
+fn number_far(roles: &IndexMap<u64, Role>, page: Page) -> usize {
+    match roles.get_index_of(&page.get()) {
+        Some(number) => number,
+        None => 0,
     }
 }
 

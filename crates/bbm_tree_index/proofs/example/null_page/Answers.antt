@@ -9,4 +9,4 @@ returns-clause-null c = c.nullify.ensures.null.null c.args.page
 
 pub nullify-requires : goal.nullify-requires
 nullify-requires c = c.in_ok-track.ensures.fresh.fresh c.args.page
-    ∙ ap (λ b. b || fresh_in c.in_ok-index.index c.args.page) (eq-eqb c.args.page c.args.page refl)
+    ∙ ap (λ b. b || fresh_in c.new-index.result c.args.page) (eq-eqb c.args.page c.args.page refl)

@@ -1,4 +1,4 @@
-use Rattle.std.proofs.Common.{◌≡◌, ℕ, None, Some, List, Bool, subst, Option}
+use Rattle.std.proofs.Common.{◌≡◌, ℕ, None, Some, List, Bool, refl, subst, Option}
 use Rattle.indexmap.specs.IndexMap.{IndexMap}
 use Rattle.bbm_descriptor.specs.declared.desc.Desc.{Desc}
 use Rattle.bbm_place_map.specs.Map.{value_at}
@@ -7,6 +7,7 @@ use Rattle.bbm_rules.specs.Tree.{Node}
 use Rattle.bbm_tree_index.specs.Attaching.{HasPlace, IsUnfresh, is_bad, is_user_global}
 use Rattle.bbm_tree_index.specs.LeastPages.{LeafPlace, LeastOf, Told, WrongPage}
 use Rattle.bbm_tree_index.specs.Survey.{fresh_of}
+use Rattle.bbm_tree_index.specs.declared.judge.Leaf.TheVariants.{Contiguous, UserGlobal}
 use Rattle.bbm_tree_index.specs.declared.mark.Mark.{Mark}
 use Rattle.bbm_tree_index.proofs.Judging.{leaf_of, of_leaf, of_wrong, wrong_of}
 use Rattle.bbm_tree_index.proofs.Leasts.{least_same}
@@ -27,6 +28,16 @@ module _ {S : Type 0} (tables : List (IndexMap ℕ Mark S)) (fresh : ℕ → Boo
 pub returns-in-Some : goal.returns-in-Some
 returns-in-Some c = λ starts told. pages c.args.tables.now (fresh_of c.args.roles.now) (value_at c.args.map.now) starts c.args.kind c.args.level told
     c.least_wrong.result (Some c.in-Some.page) c.in-Some.is c.args.named c.least_wrong.ensures
+
+pub returns-then-are_harmless : goal.returns-then-are_harmless
+returns-then-are_harmless c = λ starts told. (
+  pages c.args.tables.now (fresh_of c.args.roles.now) (value_at c.args.map.now) starts c.args.kind c.args.level told
+      c.least_wrong.result None c.in_default.is c.args.named c.least_wrong.ensures,
+  leaves c.args.tables.now (fresh_of c.args.roles.now) (value_at c.args.map.now) starts c.args.kind c.args.level told
+      None None refl is_bad (c.are_harmless.ensures c.if-are_harmless.true Contiguous),
+  leaves c.args.tables.now (fresh_of c.args.roles.now) (value_at c.args.map.now) starts c.args.kind c.args.level told
+      None None refl is_user_global (c.are_harmless.ensures c.if-are_harmless.true UserGlobal),
+)
 
 pub returns-in-Some-least_leaf : goal.returns-in-Some-least_leaf
 returns-in-Some-least_leaf c = λ starts told. (

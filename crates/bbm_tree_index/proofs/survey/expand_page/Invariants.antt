@@ -1,4 +1,4 @@
-use Rattle.std.proofs.Common.{◌≡◌, ℕ, Bool, true, false, List, ◌&&◌, ◌||◌, ◌==◌, nat_eq, nat_lt}
+use Rattle.std.proofs.Common.{◌≡◌, ℕ, Bool, true, false, List, ◌*◌, ◌&&◌, ◌||◌, ◌==◌, nat_eq, nat_lt}
 use Rattle.indexmap.specs.IndexMap.{get}
 use Rattle.bbm_place_map.specs.Map.{value_at}
 use Rattle.bbm_rules.specs.Places.{index_of, page_of}
@@ -9,12 +9,15 @@ use Rattle.bbm_events.specs.Heading.{Heading}
 use Rattle.bbm_tree_index.specs.declared.mark.Mark.{Mark}
 use Rattle.bbm_tree_index.proofs.survey.expand_page.Given as goal
 
-abbrev pub invariant-loop-index : goal.invariant-loop-index
-invariant-loop-index l = record {
+abbrev pub invariant-loop-part : goal.invariant-loop-part
+invariant-loop-part l = record {
   well : (heading : Heading) → Well heading (get nat_eq l.initial.below) → Well heading (get nat_eq l.below);
   level : (fresh : ℕ → Bool) (starts : List Node) (k : ℕ) (done : ℕ → Bool) (mark : Mark) →
-      Uniform fresh (value_at l.map) starts k → fresh l.page ≡ true → ((a : ℕ) → page_of a ≡ l.page → done a ≡ false) → mark.many ≡ l.many →
-      (found : Found (Reached fresh (value_at l.map) starts k) l.page mark) → StandsAt l.spot found.node →
+      Uniform fresh (value_at l.map) starts k → fresh l.fn.page ≡ true
+      → ((a : ℕ) → page_of a ≡ l.fn.page → done a ≡ false) → mark.many ≡ l.many →
+      (found : Found (Reached fresh (value_at l.map) starts k) l.fn.page mark) → StandsAt l.spot found.node →
       ((q : ℕ) → Counts (Partly fresh (value_at l.map) starts k done) q (get nat_eq l.initial.below q)) →
-      (q : ℕ) → Counts (Partly fresh (value_at l.map) starts k (λ a. done a || (page_of a == l.page && nat_lt (index_of a) l.index))) q (get nat_eq l.below q);
+      (q : ℕ)
+      → Counts (Partly fresh (value_at l.map) starts k
+      (λ a. done a || (page_of a == l.fn.page && nat_lt (index_of a) (8 * l.part)))) q (get nat_eq l.below q);
 }

@@ -1,6 +1,6 @@
 use Rattle.std.proofs.Common.{◌≡◌, ℕ, refl, sym, subst}
 use Rattle.bbm_tree_index.specs.LeastPages.{IsSurvey}
-use Rattle.bbm_tree_index.specs.Index.{heading_of, known_in}
+use Rattle.bbm_tree_index.specs.Index.{heading_of, known_in, pages_in}
 use Rattle.bbm_tree_index.specs.declared.index.TreeIndex.{TreeIndex}
 use Rattle.bbm_tree_index.proofs.Attaching.{fresh_after, node_from, node_to, null_after, sound_after, tables_known}
 use Rattle.bbm_tree_index.proofs.index.TreeIndex.attach_prepared.Goals as goal
@@ -50,3 +50,7 @@ returns-clause-sound c =
     sound_after c.args.self.now w.0 w.1 c.deref.result.now c.requires.sound w.2.may w.3 w.2.passes
     (subst (λ ts. IsSurvey ts c.args.self.now w.0 w.1) (sym c.deref.ensures.value) w.2.tells)
     (new_of c) (same_heading c) (known c) c.attach_all.ensures.roles
+
+pub returns-clause-tracked : goal.returns-clause-tracked
+unfolding pages_in
+returns-clause-tracked c = record { known = known c; pages = c.attach_all.ensures.same.len; heading = same_heading c }

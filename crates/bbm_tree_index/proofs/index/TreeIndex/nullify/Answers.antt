@@ -5,7 +5,7 @@ use Rattle.bbm_tree_index.proofs.Indexes.{false_there, fresh_out, fresh_put, nod
 use Rattle.bbm_tree_index.proofs.Indexes.{true_there}
 use Rattle.bbm_tree_index.proofs.Agreeing.{agrees_same}
 use Rattle.bbm_tree_index.specs.IndexAgreement.{IsSound}
-use Rattle.bbm_tree_index.specs.Index.{fresh_in, heading_of, known_in, node_in, null_in, role_in}
+use Rattle.bbm_tree_index.specs.Index.{fresh_in, heading_of, known_in, node_in, null_in, pages_in, role_in}
 use Rattle.bbm_tree_index.specs.declared.index.TreeIndex.{TreeIndex}
 use Rattle.bbm_tree_index.specs.declared.role.Role.TheVariants.{Null}
 use Rattle.bbm_tree_index.proofs.index.TreeIndex.nullify.Goals as goal
@@ -51,3 +51,7 @@ returns-clause-sound c = sound c
 pub returns-clause-agrees : goal.returns-clause-agrees
 returns-clause-agrees c = λ map g. agrees_same c.args.self.now (new_of c) map map (sound c g.sound) (node c)
     (λ a n e. record { marks = refl; value = refl }) (λ a e. e) g
+
+pub returns-clause-tracked : goal.returns-clause-tracked
+unfolding pages_in
+returns-clause-tracked c = record { known = known c; pages = c.put.ensures.same.len; heading = same_heading c }

@@ -4,10 +4,11 @@ use Rattle.bbm_rules.specs.Tree.{Node}
 use Rattle.bbm_tree_index.proofs.Cutting.{spot_node}
 use Rattle.bbm_tree_index.proofs.Sounds.{role_fits}
 use Rattle.bbm_tree_index.specs.Index.{heading_of, node_in, role_in}
+use Rattle.bbm_tree_index.specs.Nodes.{node_with}
 use Rattle.bbm_tree_index.specs.Spots.{Fits, RoleFits, StandsAt, spot_with}
 use Rattle.bbm_tree_index.specs.declared.index.TreeIndex.{TreeIndex}
 use Rattle.bbm_tree_index.specs.declared.role.Role.{Role}
-use Rattle.bbm_tree_index.specs.declared.role.Role.TheVariants.{Untracked}
+use Rattle.bbm_tree_index.specs.declared.role.Role.TheVariants.{Untracked, Fresh, RootPage, Hangs, Gone, Null}
 use Rattle.bbm_tree_index.specs.declared.spot.Spot.{Spot}
 use Rattle.bbm_tree_index.proofs.index.TreeIndex.spot_as.Goals as goal
 
@@ -45,3 +46,20 @@ returns-clause-fits c = fits_some c.spot_of.result (λ s e. role_fits (role_in c
 
 pub returns-clause-node : goal.returns-clause-node
 returns-clause-node c = node_some c.args.self.now c.args.page c.spot_of.result (is_spot c)
+
+node_none : (old : TreeIndex) (page : ℕ) (role : Role) → spot_with (heading_of old) role ≡ None
+    → node_with (role_in old) (heading_of old) page role ≡ None
+node_none old page Untracked e = refl
+node_none old page Fresh e = refl
+node_none old page (RootPage kind first part) e = absurd cc
+node_none old page (Hangs parent kind level base first) e = absurd cc
+node_none old page Gone e = refl
+node_none old page Null e = refl
+
+pub returns-clause-spot : goal.returns-clause-spot
+returns-clause-spot c = is_spot c
+
+pub returns-clause-none : goal.returns-clause-none
+unfolding node_in
+returns-clause-none c = λ e.
+    node_none c.args.self.now c.args.page (role_in c.args.self.now c.args.page) (sym (is_spot c) ∙ e)

@@ -1,4 +1,4 @@
-use Rattle.std.proofs.Common.{◌≡◌, ℕ, refl, sym, ap, ◌∙◌, nat_eq, Some, None, is_some, Bool, true, false, ◌==◌, ◌||◌}
+use Rattle.std.proofs.Common.{rules, ◌≡◌, ℕ, refl, sym, ap, ◌∙◌, nat_eq, Some, None, is_some, Bool, true, false, ◌==◌, ◌||◌}
 use Rattle.std.proofs.Common.{if◌then◌else◌, ◌<◌, ◌%◌, ◌^◌, subst, arith}
 use Rattle.std.proofs.lemmas.Bool.{eqb-true}
 use Rattle.std.proofs.lemmas.Grind.{common_steps}
@@ -11,7 +11,7 @@ use Rattle.bbm_tree_index.proofs.Climbing.{SameTrees, put_trees}
 use Rattle.bbm_tree_index.proofs.Indexes.{agrees_alike, fresh_put, node_kept, node_out, null_put, put_role, sound_alike}
 use Rattle.bbm_tree_index.proofs.Indexes.{sound_kept, true_there}
 use Rattle.bbm_tree_index.specs.IndexAgreement.{IsSound}
-use Rattle.bbm_tree_index.specs.Index.{fresh_in, heading_of, known_in, node_in, null_in, role_in}
+use Rattle.bbm_tree_index.specs.Index.{fresh_in, heading_of, known_in, node_in, null_in, pages_in, role_in}
 use Rattle.bbm_tree_index.specs.declared.index.TreeIndex.{TreeIndex}
 use Rattle.bbm_tree_index.specs.declared.role.Role.TheVariants.{Fresh}
 use Rattle.bbm_tree_index.proofs.index.TreeIndex.track.Goals as goal
@@ -116,3 +116,39 @@ returns-in-Ok-insert-clause-sound c = sound c
 pub returns-in-Ok-insert-clause-agrees : goal.returns-in-Ok-insert-clause-agrees
 returns-in-Ok-insert-clause-agrees c = λ g. agrees_same c.args.self.now (new_of c) c.args.map.now c.track.new.self
     (sound c g.sound) (node c) (places c) (clean c) g
+
+pub returns-then-len-ge-MAX_PAGES-clause-limit : goal.returns-then-len-ge-MAX_PAGES-clause-limit
+unfolding known_in pages_in
+returns-then-len-ge-MAX_PAGES-clause-limit c = search rules
+
+pub returns-in-Err-clause-limit : goal.returns-in-Err-clause-limit
+unfolding known_in pages_in
+returns-in-Err-clause-limit c = search rules
+
+pub returns-in-Err-clause-same_pages : goal.returns-in-Err-clause-same_pages
+unfolding fresh_in heading_of node_in null_in role_in
+returns-in-Err-clause-same_pages c = search rules
+
+pub returns-in-Err-clause-same_tracked : goal.returns-in-Err-clause-same_tracked
+unfolding heading_of known_in pages_in
+returns-in-Err-clause-same_tracked c = search rules
+
+pub returns-in-Err-track-clause-limit : goal.returns-in-Err-track-clause-limit
+unfolding known_in pages_in
+returns-in-Err-track-clause-limit c = search rules
+
+pub returns-in-Err-track-clause-same_pages : goal.returns-in-Err-track-clause-same_pages
+unfolding fresh_in heading_of node_in null_in role_in
+returns-in-Err-track-clause-same_pages c = search rules
+
+pub returns-in-Err-track-clause-same_tracked : goal.returns-in-Err-track-clause-same_tracked
+unfolding heading_of known_in pages_in
+returns-in-Err-track-clause-same_tracked c = search rules
+
+pub returns-in-Ok-insert-clause-counted : goal.returns-in-Ok-insert-clause-counted
+unfolding heading_of known_in pages_in
+returns-in-Ok-insert-clause-counted c = search rules
+
+pub returns-in-Ok-insert-clause-limit : goal.returns-in-Ok-insert-clause-limit
+unfolding known_in pages_in
+returns-in-Ok-insert-clause-limit c = search rules

@@ -1,0 +1,8 @@
+use Rattle.std.proofs.Common.{◌≡◌, ℕ, ◌<◌, ◌≤◌, ◌+◌, ◌*◌, true}
+use Rattle.bbm_place_map.specs.Map.{value_at}
+use Rattle.bbm_tree_index.specs.LeastPages.{spares}
+use Rattle.bbm_tree_index.proofs.harmless.are_eight_harmless.Given as goal
+
+abbrev pub invariant-loop-index : goal.invariant-loop-index
+invariant-loop-index l = (j : ℕ) → l.fn.from ≤ j → j < l.index
+    → spares l.lower l.bits (value_at l.map (l.seat.place + 8 * j)) ≡ true

@@ -1,0 +1,10 @@
+use Rattle.std.proofs.Common.{None}
+use Rattle.bbm_place_map.specs.Map.{value_at}
+use Rattle.bbm_tree_index.specs.LeastPages.{Before, LeastOf, asks}
+use Rattle.bbm_tree_index.specs.declared.judge.Leaf.{Leaf}
+use Rattle.bbm_tree_index.proofs.Wrongs.{LeafTable}
+use Rattle.bbm_tree_index.proofs.harmless.are_harmless.Given as goal
+
+abbrev pub invariant-loop-depth : goal.invariant-loop-depth
+invariant-loop-depth l = (leaf : Leaf)
+    → LeastOf (Before (LeafTable (value_at l.map) (asks leaf) l.kind l.tables l.start) l.depth) None

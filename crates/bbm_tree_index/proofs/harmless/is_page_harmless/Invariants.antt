@@ -1,0 +1,10 @@
+use Rattle.std.proofs.Common.{◌≡◌, ℕ, ◌<◌, ◌+◌, ◌*◌, false}
+use Rattle.bbm_descriptor.specs.Descriptor.{desc_of}
+use Rattle.bbm_place_map.specs.Map.{value_at}
+use Rattle.bbm_tree_index.specs.LeastPages.{asks}
+use Rattle.bbm_tree_index.specs.declared.judge.Leaf.{Leaf}
+use Rattle.bbm_tree_index.proofs.harmless.is_page_harmless.Given as goal
+
+abbrev pub invariant-loop-part : goal.invariant-loop-part
+invariant-loop-part l = (leaf : Leaf) (j : ℕ) → j < 8 * l.part
+    → asks leaf l.fn.kind (desc_of l.fn.kind l.fn.level (value_at l.map (l.fn.page + 8 * j))) ≡ false
