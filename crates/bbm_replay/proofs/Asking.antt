@@ -1,5 +1,7 @@
 -- What the cover of a place doesn't depend on.
-use Rattle.std.proofs.Common.{◌≡◌, ℕ, Bool, true, false, cond, ◌&&◌, not, is_none, Option, refl, ◌∙◌, ap, true≢false}
+use Rattle.std.proofs.Common.{◌≡◌, ℕ, Bool, true, false, cond, ◌&&◌, not, is_none, Option, refl, sym, ◌∙◌, ap}
+use Rattle.std.proofs.Common.{true≢false}
+use Rattle.std.proofs.lemmas.Bool.{and_right}
 use Rattle.bbm_regimes.specs.Extent.{Extent}
 use Rattle.bbm_regimes.specs.declared.regime.Kind.{Kind}
 use Rattle.bbm_regimes.specs.declared.regime.Kind.TheVariants.{El2, S2, Ttbr0, Ttbr1}
@@ -8,7 +10,7 @@ use Rattle.bbm_tlbi_scope.specs.ScopeCovers.{vmid_matches, where_fits}
 use Rattle.bbm_tlbi_scope.specs.Numbers.{lacks_vmid, names_all, names_some}
 use Rattle.bbm_tlbi_scope.specs.Operations.{has_page}
 use Rattle.bbm_tlbi_scope.specs.declared.entry.Cover.{Cover}
-use Rattle.bbm_tlbi_scope.specs.declared.entry.Cover.TheVariants.{None as NoCover, Second, Full}
+use Rattle.bbm_tlbi_scope.specs.declared.entry.Cover.TheVariants.{None as NoCover, Half, Second, Full}
 use Rattle.bbm_tlbi_scope.specs.declared.entry.PlaceView.{PlaceView}
 use Rattle.bbm_tlbi_scope.specs.declared.entry.TagSet.{TagSet}
 use Rattle.bbm_tlbi_scope.specs.declared.scope.Family.{Family}
@@ -16,6 +18,7 @@ use Rattle.bbm_tlbi_scope.specs.declared.scope.Family.TheVariants.{El2All, El2Va
 use Rattle.bbm_tlbi_scope.specs.declared.scope.Family.TheVariants.{VaAll, Asid}
 use Rattle.bbm_tlbi_scope.specs.declared.scope.Scope.{Scope}
 use Rattle.bbm_replay.specs.Covering.{asks_childless, asks_tags}
+use Rattle.bbm_replay.proofs.Descents.{none_by}
 
 module _ (s : Scope) (vmid : Option ℕ) (kind : Kind) (region : Extent) (level : ℕ) (table global : Bool) where
   abbrev pub seen : Bool → TagSet → PlaceView
@@ -173,3 +176,50 @@ module _ (s : Scope) (vmid : Option ℕ) (kind : Kind) (region : Extent) (level 
       (same_fits s.family c c' t (seen c t) childless
       ∙ by_fits kind s.family (fits_place s (seen c' t)) c c' t
       ∙ same_tags s.family (fits_place s (seen c' t)) c' t t' tags)
+
+-- where the tags are asked, and neither the VMID nor the ASID is the only one of them, nothing is covered
+mismatch : (s : Scope) (vmid : Option ℕ) (k : Kind) (f : Family) → asks_tags f k ≡ true → (fits : Bool) (v : PlaceView)
+    → vmid_matches vmid v.tags ≡ false → asid_matches s.asid v.tags ≡ false → cover_by k f fits s vmid v ≡ NoCover
+mismatch s vmid El2 El2All p fits v no_vmid no_asid = absurd (true≢false (sym p))
+mismatch s vmid El2 El2Va p fits v no_vmid no_asid = absurd (true≢false (sym p))
+mismatch s vmid El2 E1All p fits v no_vmid no_asid = absurd (true≢false (sym p))
+mismatch s vmid El2 VmAll1 p fits v no_vmid no_asid = absurd (true≢false (sym p))
+mismatch s vmid El2 VmAll12 p fits v no_vmid no_asid = absurd (true≢false (sym p))
+mismatch s vmid El2 Ipa p fits v no_vmid no_asid = absurd (true≢false (sym p))
+mismatch s vmid El2 Va p fits v no_vmid no_asid = absurd (true≢false (sym p))
+mismatch s vmid El2 VaAll p fits v no_vmid no_asid = absurd (true≢false (sym p))
+mismatch s vmid El2 Asid p fits v no_vmid no_asid = absurd (true≢false (sym p))
+mismatch s vmid S2 El2All p fits v no_vmid no_asid = absurd (true≢false (sym p))
+mismatch s vmid S2 El2Va p fits v no_vmid no_asid = absurd (true≢false (sym p))
+mismatch s vmid S2 E1All p fits v no_vmid no_asid = absurd (true≢false (sym p))
+mismatch s vmid S2 VmAll1 p fits v no_vmid no_asid = ap (λ b. where_fits Second b) no_vmid
+mismatch s vmid S2 VmAll12 p fits v no_vmid no_asid = ap (λ b. where_fits Full b) no_vmid
+mismatch s vmid S2 Ipa p fits v no_vmid no_asid =
+    ap (λ b. where_fits Half b) (and_right fits (vmid_matches vmid v.tags) no_vmid)
+mismatch s vmid S2 Va p fits v no_vmid no_asid = absurd (true≢false (sym p))
+mismatch s vmid S2 VaAll p fits v no_vmid no_asid = absurd (true≢false (sym p))
+mismatch s vmid S2 Asid p fits v no_vmid no_asid = absurd (true≢false (sym p))
+mismatch s vmid Ttbr0 El2All p fits v no_vmid no_asid = absurd (true≢false (sym p))
+mismatch s vmid Ttbr0 El2Va p fits v no_vmid no_asid = absurd (true≢false (sym p))
+mismatch s vmid Ttbr0 E1All p fits v no_vmid no_asid = absurd (true≢false (sym p))
+mismatch s vmid Ttbr0 VmAll1 p fits v no_vmid no_asid = absurd (true≢false (sym p))
+mismatch s vmid Ttbr0 VmAll12 p fits v no_vmid no_asid = absurd (true≢false (sym p))
+mismatch s vmid Ttbr0 Ipa p fits v no_vmid no_asid = absurd (true≢false (sym p))
+mismatch s vmid Ttbr0 Va p fits v no_vmid no_asid =
+    ap (λ b. where_fits Full b) (and_right fits (asid_matches s.asid v.tags) no_asid)
+mismatch s vmid Ttbr0 VaAll p fits v no_vmid no_asid = absurd (true≢false (sym p))
+mismatch s vmid Ttbr0 Asid p fits v no_vmid no_asid = ap (λ b. where_fits Full b) no_asid
+mismatch s vmid Ttbr1 El2All p fits v no_vmid no_asid = absurd (true≢false (sym p))
+mismatch s vmid Ttbr1 El2Va p fits v no_vmid no_asid = absurd (true≢false (sym p))
+mismatch s vmid Ttbr1 E1All p fits v no_vmid no_asid = absurd (true≢false (sym p))
+mismatch s vmid Ttbr1 VmAll1 p fits v no_vmid no_asid = absurd (true≢false (sym p))
+mismatch s vmid Ttbr1 VmAll12 p fits v no_vmid no_asid = absurd (true≢false (sym p))
+mismatch s vmid Ttbr1 Ipa p fits v no_vmid no_asid = absurd (true≢false (sym p))
+mismatch s vmid Ttbr1 Va p fits v no_vmid no_asid = absurd (true≢false (sym p))
+mismatch s vmid Ttbr1 VaAll p fits v no_vmid no_asid = absurd (true≢false (sym p))
+mismatch s vmid Ttbr1 Asid p fits v no_vmid no_asid = absurd (true≢false (sym p))
+
+pub mismatched : (s : Scope) (vmid : Option ℕ) (v : PlaceView) → asks_tags s.family v.kind ≡ true
+    → vmid_matches vmid v.tags ≡ false → asid_matches s.asid v.tags ≡ false → cover_of s vmid v ≡ NoCover
+mismatched s vmid v asked no_vmid no_asid =
+    none_by s vmid v (mismatch s vmid v.kind s.family asked (fits_place s v) v no_vmid no_asid)

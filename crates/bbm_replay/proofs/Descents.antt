@@ -83,8 +83,8 @@ unlike Ttbr0 VaAll p k b s vmid v = absurd (true≢false k)
 unlike Ttbr1 VaAll p k b s vmid v = absurd (true≢false k)
 
 -- where the table of covers gives none, there is none
-none_by : (s : Scope) (vmid : Option ℕ) (v : PlaceView) → cover_by v.kind s.family (fits_place s v) s vmid v ≡ NoCover
-    → cover_of s vmid v ≡ NoCover
+pub none_by : (s : Scope) (vmid : Option ℕ) (v : PlaceView)
+    → cover_by v.kind s.family (fits_place s v) s vmid v ≡ NoCover → cover_of s vmid v ≡ NoCover
 none_by s vmid v e = by (lacks_vmid s.vmid_scoped vmid)
   where
     by : (b : Bool) → cond b NoCover (cover_by v.kind s.family (fits_place s v) s vmid v) ≡ NoCover

@@ -20,6 +20,7 @@ pub mod Rooting
 pub mod RootPages
 pub mod Inside
 pub mod Quick
+pub mod Fresh
 pub mod Found
 pub mod Empty
 pub mod Covered

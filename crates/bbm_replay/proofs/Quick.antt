@@ -47,7 +47,7 @@ made old pe core = record {
 }
 
 -- what the marks of each place are where one that has none is written, and has none after
-marks_stay : (old new : ℕ → Option Marks) (place : ℕ) → old place ≡ None → ((a : ℕ) → new a ≡ old a)
+pub marks_stay : (old new : ℕ → Option Marks) (place : ℕ) → old place ≡ None → ((a : ℕ) → new a ≡ old a)
     → (a : ℕ) → new a ≡ (if a == place then None else old a)
 marks_stay old new place none same a = by (a == place) refl
   where

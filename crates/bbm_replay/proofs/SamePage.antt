@@ -31,7 +31,7 @@ use Rattle.bbm_replay.proofs.Covered.{core_of_marks, covered, held_of}
 module _ (heading : Heading) (h : List Event) (ev : events_of (notes heading h) ≡ h) (map : PlaceMap) (index : TreeIndex)
     (state : RootState) (pe : ℕ) (op : TlbiOp) (xt : ℕ) (named : NamedTlbi)
     (m : MayBeIssued heading h map index state pe op xt named) where
-  abbrev by_view : ℕ → Node → ℕ → PlaceView
+  abbrev pub by_view : ℕ → Node → ℕ → PlaceView
   by_view a n v = record {
     kind = n.kind;
     region = region_of n a;
@@ -42,7 +42,7 @@ module _ (heading : Heading) (h : List Event) (ev : events_of (notes heading h) 
     tags = tag_set (tags_of heading Patterns n.root h);
   }
 
-  held : (n : Node) (a : ℕ) → node_in index (page_of a) ≡ Some n → (o : Option Marks) → marks_at map a ≡ o
+  pub held : (n : Node) (a : ℕ) → node_in index (page_of a) ≡ Some n → (o : Option Marks) → marks_at map a ≡ o
       → is_some o ≡ true → (v : ℕ) × (held_at heading Patterns (notes heading h) n a ≡ Some v)
   held n a is None e broken = absurd (true≢false (sym broken))
   held n a is (Some x) e broken =
@@ -51,7 +51,7 @@ module _ (heading : Heading) (h : List Event) (ev : events_of (notes heading h) 
       (sym stands.core ∙ core_of_marks (core_of n.kind n.level (value_at map a)) (marks_at map a) x e) in
       (found.0, found.1)
 
-  view_covers : (n : Node) (a v : ℕ) → node_in index (page_of a) ≡ Some n
+  pub view_covers : (n : Node) (a v : ℕ) → node_in index (page_of a) ≡ Some n
       → held_at heading Patterns (notes heading h) n a ≡ Some v → scopes.cover_of named.scope named.vmid (by_view a n v)
       ≡ cover_at heading Patterns (notes heading h) (Tlbi pe op xt) a
   view_covers n a v is value =

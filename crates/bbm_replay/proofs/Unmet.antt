@@ -1,10 +1,10 @@
 -- A broken place that isn't met on the way down to an input page isn't covered by a TLBI of that page.
-use Rattle.std.proofs.Common.{◌≡◌, ℕ, zero, suc, ◌+◌, ◌-◌, ◌*◌, ◌/◌, ◌%◌, nat_eq, ◌<◌, ◌≤◌, ◌&&◌, ◌||◌, ◌==◌, nat_le}
+use Rattle.std.proofs.Common.{◌≡◌, ℕ, zero, suc, ◌+◌, ◌-◌, ◌*◌, ◌<◌, ◌≤◌, ◌&&◌, ◌||◌, nat_le}
 use Rattle.std.proofs.Common.{Bool, true, false, cond, List, [], length, Option, Some, None, Contains, slice_index_or}
 use Rattle.std.proofs.Common.{is_some, option_and_then, refl, sym, ◌∙◌, ap, subst, arith, true≢false, not-suc-le-zero}
 use Rattle.std.proofs.Common.{le_of_suc-le-suc}
 use Rattle.std.specs.Prelude.{unwrap_or}
-use Rattle.std.proofs.lemmas.Bool.{and_parts, eqb-true, leb-true}
+use Rattle.std.proofs.lemmas.Bool.{and_parts, leb-true}
 use Rattle.bbm_descriptor.specs.Descriptor.{desc_of, same_bool}
 use Rattle.bbm_entry_state.specs.EntryCalls.{Noted, counts_at}
 use Rattle.bbm_entry_state.specs.Points.{waits}
@@ -13,12 +13,9 @@ use Rattle.bbm_entry_state.specs.declared.pending.Pends.{Pends}
 use Rattle.bbm_entry_state.specs.declared.state.EntryState.{EntryState}
 use Rattle.bbm_entry_state.specs.declared.state.EntryState.TheVariants.{Clean, Live, Broken}
 use Rattle.bbm_events.specs.Heading.{Heading}
-use Rattle.std.specs.HashMap.{get}
-use Rattle.std.specs.Option.{option_map}
 use Rattle.bbm_place_map.specs.Map.{marks_at}
-use Rattle.bbm_place_map.specs.Parts.{marks_in}
-use Rattle.bbm_place_map.specs.Sound.{at_index}
 use Rattle.bbm_place_map.specs.declared.map.PlaceMap.{PlaceMap}
+use Rattle.bbm_place_map.proofs.Parts.{broken_eighth}
 use Rattle.bbm_regimes.specs.PeMask.{pe_in}
 use Rattle.bbm_regimes.specs.World.{input_pages, page_count}
 use Rattle.bbm_regimes.specs.declared.pe.PeMask.{PeMask}
@@ -53,17 +50,6 @@ use Rattle.bbm_replay.specs.ReplayStanding.{view_of}
 use Rattle.bbm_replay.proofs.Descents.{Top, away, foreign, lies_in, top}
 use Rattle.bbm_replay.proofs.Writing.{cores}
 use Rattle.bbm_lemmas.proofs.Bools.{or_nothing}
-
--- a broken place is an address of a descriptor
-pub broken_eighth : (map : PlaceMap) (a : ℕ) → is_some (marks_at map a) ≡ true → a % 8 ≡ 0
-unfolding marks_at
-broken_eighth map a k = by (a % 8 == 0) refl k
-  where
-    by : (b : Bool) → (a % 8 == 0) ≡ b → is_some (marks_at map a) ≡ true → a % 8 ≡ 0
-    by true e k = eqb-true (a % 8) 0 e
-    by false e k =
-        absurd (true≢false (sym k ∙ ap (λ b. is_some (at_index None (marks_in map.cells.items map.broken.items)
-        (cond b (option_map (λ base. base + a % 4096 / 8) (get nat_eq map.pages (a / 4096 * 4096))) None))) e))
 
 -- a level below 4 has a width
 pub some_width : (l : ℕ) → l < 4 → 1 ≤ input_pages l

@@ -1,6 +1,6 @@
 -- Going down a tree along an input page.
 use Rattle.std.proofs.Common.{◌≡◌, ℕ, suc, ◌+◌, ◌*◌, ◌^◌, ◌%◌, ◌<◌, ◌≤◌, ◌==◌, true, List, [], ◌∷◌, Option, Some, None}
-use Rattle.std.proofs.Common.{refl, sym, ap, ◌∙◌, subst, arith}
+use Rattle.std.proofs.Common.{◌⊎◌, inl, inr, refl, sym, ap, ◌∙◌, subst, arith}
 use Rattle.std.proofs.lemmas.Bool.{and_parts, eqb-true}
 use Rattle.std.specs.Option.{option_map}
 use Rattle.bbm_descriptor.specs.Descriptor.{core_of}
@@ -22,19 +22,6 @@ use Rattle.bbm_tree_index.specs.declared.index.TreeIndex.{TreeIndex}
 use Rattle.bbm_tree_index.specs.declared.role.Path.{Path}
 use Rattle.bbm_replay.specs.OnePage.{FitTogether, IsOnWay}
 use Rattle.bbm_replay.proofs.Growing.{core_whole}
-
--- where no place of a page is found, none translates the input page
-pub none_met : (node : ℕ → Option Node) (at page : ℕ) (n : Node) → node page ≡ Some n → (met : Option (ℕ × Path))
-    → met ≡ None
-    → ((a : ℕ) → Translates page n at a → option_map (λ y. y.0) met ≡ Some a)
-    → (k : Node) (a : ℕ) → node page ≡ Some k → Translates page k at a → ⊥
-none_met node at page n is met none meets k a has t =
-    let both : Some n ≡ Some k = sym is ∙ has in
-    let same : n ≡ k = cc in
-    let bad : None ≡ Some a
-    = sym (ap (λ y. option_map (λ z. z.0) y) none)
-    ∙ meets a (subst (λ (y : Node). Translates page y at a) (sym same) t) in
-    cc
 
 -- where no place of a page translates the input page, no way goes on through the page
 module _ (node : ℕ → Option Node) (core : Kind → ℕ → ℕ → Option Core) (at page : ℕ)
@@ -95,6 +82,21 @@ on_way node at page n is met m some inside path meets = record {
     own : page_of m.0 ≡ page
     own = own_page page m.0 inside
 
+-- a place is met on the way down from the place at which one is, if one is at any
+abbrev pub IsAhead : (ℕ → Option Node) → (Kind → ℕ → ℕ → Option Core) → ℕ → Option (ℕ × Path) → ℕ → Type 0
+IsAhead node core at here a =
+    (m : ℕ × Path) × (here ≡ Some m) × (way : List ℕ) × IsWay node core at (page_of m.0) way a
+
+-- what is met on the way down from a page is met from its place that translates the input page on
+pub ahead : (node : ℕ → Option Node) (core : Kind → ℕ → ℕ → Option Core) (at page : ℕ) (met : Option (ℕ × Path))
+    → ((m : ℕ × Path) → met ≡ Some m → is_at page m.0 ≡ true)
+    → ((n : Node) (a : ℕ) → node page ≡ Some n → Translates page n at a → option_map (λ y. y.0) met ≡ Some a)
+    → (way : List ℕ) (a : ℕ) → IsWay node core at page way a → IsAhead node core at met a
+ahead node core at page None inside meets way a w =
+    absurd (no_way node core at page (λ n b is t. let bad : None ≡ Some b = meets n b is t in cc) way a w)
+ahead node core at page (Some m) inside meets way a w =
+    (m, refl, way, subst (λ p. IsWay node core at p way a) (sym (own_page page m.0 (inside m refl))) w)
+
 -- below a place on the way, which holds a table
 module _ (map : PlaceMap) (index : TreeIndex) (sound : IsSound index) (fits : FitTogether map index) (at place : ℕ)
     (path : Path) (on : IsOnWay (node_in index) at place path) (next : Option ℕ)
@@ -120,6 +122,29 @@ module _ (map : PlaceMap) (index : TreeIndex) (sound : IsSound index) (fits : Fi
   pub within_below : path.region.lo + 512 * input_pages (suc path.level) ≤ 2 ^ 45
   within_below = subst (λ (y : Path). y.region.lo + 512 * input_pages (suc y.level) ≤ 2 ^ 45) (sym on.has_path)
       in_range.1
+
+  -- what is met on the way down through the place has the property, or is met below it
+  pub goes_on : (below : Option (ℕ × Path)) → ((m : ℕ × Path) → below ≡ Some m → is_at x m.0 ≡ true)
+      → ((n : Node) (a b : ℕ) → path ≡ path_at n a → Translates x (node_below n a x) at b
+      → option_map (λ y. y.0) below ≡ Some b) → (Has : ℕ → Type 0) → Has place
+      → (way : List ℕ) (a : ℕ) → IsWay (node_in index) (core_at map) at (page_of place) way a
+      → Has a ⊎ IsAhead (node_in index) (core_at map) at below a
+  goes_on below inside meets Has here =
+      way_goes (node_in index) (core_at map) at place path on next goes x table
+      (λ a. Has a ⊎ IsAhead (node_in index) (core_at map) at below a) (inl here)
+      (λ way a w. inr (ahead (node_in index) (core_at map) at x below inside (λ n b is t.
+      meets on.stands place b on.has_path (subst (λ (y : Node). Translates x y at b) (same n is) t)) way a w))
+    where
+      same : (n : Node) → node_in index x ≡ Some n → n ≡ node_below on.stands place x
+      same n is = let both : Some n ≡ Some (node_below on.stands place x) = sym is ∙ hangs in cc
+
+  pub on_way_below : (below : Option (ℕ × Path)) (m : ℕ × Path) → below ≡ Some m → is_at x m.0 ≡ true
+      → ((n : Node) (a : ℕ) → path ≡ path_at n a → m.1 ≡ path_at (node_below n a x) m.0)
+      → ((n : Node) (a b : ℕ) → path ≡ path_at n a → Translates x (node_below n a x) at b
+      → option_map (λ y. y.0) below ≡ Some b) → IsOnWay (node_in index) at m.0 m.1
+  on_way_below below m is inside has meets =
+      on_way (node_in index) at x (node_below on.stands place x) hangs below m is inside
+      (has on.stands place on.has_path) (λ a. meets on.stands place a on.has_path)
 
 -- the core of a state is what its place holds
 pub state_core : (kind : Kind) (level value : ℕ) (m : Option Marks)

@@ -1,4 +1,4 @@
--- Where no place is broken, no place is in limbo.
+-- Where no place is broken over a table, no place is in limbo.
 use Rattle.std.proofs.Common.{◌≡◌, ℕ, true, false, not, List, [], ◌∷◌, Option, Some, None, is_some, refl}
 use Rattle.std.proofs.Common.{sym, ◌∙◌, ap}
 use Rattle.std.specs.Option.{option_map_or}
@@ -15,7 +15,7 @@ use Rattle.bbm_tree_index.specs.HeldCores.{core_with, limbo_by, next_in}
 use Rattle.bbm_tree_index.specs.Index.{node_in}
 use Rattle.bbm_tree_index.specs.declared.index.TreeIndex.{TreeIndex}
 use Rattle.bbm_replay.specs.ReplayLaws.{Laws}
-use Rattle.bbm_replay.specs.ReplayStanding.{view_of}
+use Rattle.bbm_replay.specs.ReplayStanding.{OverLeaves, view_of}
 use Rattle.bbm_replay.specs.ReplayTold.{Told}
 use Rattle.bbm_replay.proofs.Writing.{cores}
 use Rattle.std.proofs.lemmas.Bool.{or_from}
@@ -24,12 +24,16 @@ some_next : (o : Option Core) (p : ℕ) → next_in o ≡ Some p → is_some o �
 some_next None p k = let bad : None ≡ Some p = k in absurd cc
 some_next (Some c) p k = refl
 
-none_marked : (o : Option Marks) → (is_some o ≡ true → ⊥) → o ≡ None
-none_marked None k = refl
-none_marked (Some x) k = absurd (k refl)
+-- a place that isn't broken over a table, and holds one, has the value of one
+bare_table : (kind : Kind) (level value p : ℕ) (o : Option Marks)
+    → ((marks : Marks) → o ≡ Some marks → next_in (Some marks.core) ≡ None)
+    → next_in (core_with o kind level value) ≡ Some p → next_in (core_of kind level value) ≡ Some p
+bare_table kind level value p None low table = table
+bare_table kind level value p (Some marks) low table =
+    let bad : None ≡ Some p = sym (low marks refl) ∙ table in absurd cc
 
 module _ (heading : Heading) (laws : Laws heading) (h : List Event) (map : PlaceMap) (index : TreeIndex)
-    (told : Told heading h (view_of map index)) (whole : (a : ℕ) → is_some (marks_at map a) ≡ true → ⊥) where
+    (told : Told heading h (view_of map index)) (low : OverLeaves map) where
   above_valid : (kind : Kind) (above : List Above) (p : ℕ) (m : Node) → node_in index p ≡ Some m → m.kind ≡ kind
       → m.above ≡ above → any (λ a. not (is_valid kind a.level (value_at map a.place))) above ≡ false
   above_valid kind [] p m is same up = refl
@@ -42,8 +46,7 @@ module _ (heading : Heading) (laws : Laws heading) (h : List Event) (map : Place
       let both = parts (record { place = x.place; level = parent.level }) x parent.above above
       (sym (ap (λ (n : Node). n.above) hangs.is_below) ∙ up) in
       let bare : next_in (core_of parent.kind parent.level value) ≡ Some m.page
-      = ap (λ (o : Option Marks). next_in (core_with o parent.kind parent.level value))
-      (sym (none_marked (marks_at map x.place) (whole x.place))) ∙ hangs.table in
+      = bare_table parent.kind parent.level value m.page (marks_at map x.place) (low x.place) hangs.table in
       let good : is_valid kind x.level value ≡ true
       = ap (λ (k : Kind). is_valid k x.level value) (sym own)
       ∙ ap (λ l. is_valid parent.kind l value) (sym (ap (λ (y : Above). y.level) both.0))

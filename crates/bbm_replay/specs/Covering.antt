@@ -12,7 +12,9 @@ use Rattle.bbm_regimes.specs.declared.pe.PeMask.{PeMask}
 use Rattle.bbm_regimes.specs.declared.regime.Kind.{Kind}
 use Rattle.bbm_regimes.specs.declared.regime.Kind.TheVariants.{S2, Ttbr0}
 use Rattle.bbm_tlbi_scope.specs.Operations.{has_page}
+use Rattle.bbm_tlbi_scope.specs.ScopeCovers.{asid_matches, vmid_matches}
 use Rattle.bbm_tlbi_scope.specs.declared.entry.Cover.{Cover}
+use Rattle.bbm_tlbi_scope.specs.declared.entry.TagSet.{TagSet}
 use Rattle.bbm_tlbi_scope.specs.declared.scope.Family.{Family}
 use Rattle.bbm_tlbi_scope.specs.declared.scope.Family.TheVariants.{VmAll1, VmAll12, Ipa, Va, Asid}
 use Rattle.bbm_tlbi_scope.specs.declared.scope.Scope.{Scope}
@@ -78,3 +80,7 @@ asks_tags VmAll1 S2 = true
 asks_tags Va Ttbr0 = true
 asks_tags Asid Ttbr0 = true
 asks_tags _ _ = false
+
+-- neither the VMID nor the ASID of the TLBI is the only one of the tags
+abbrev pub Mismatches : NamedTlbi → TagSet → Type 0
+Mismatches named tags = (vmid_matches named.vmid tags ≡ false) × (asid_matches named.scope.asid tags ≡ false)

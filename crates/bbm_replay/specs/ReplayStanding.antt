@@ -1,8 +1,10 @@
 -- What a checker without a history stands for. A history is newest first. Source: project's own choice.
 use Rattle.std.specs.Prelude.{◌≡◌, ℕ, true, false, List, ◌∷◌, length, Option, Some, None, Result, Err, OnErr, OnOk}
 use Rattle.bbm_entry_state.specs.Points.{core_in}
+use Rattle.bbm_entry_state.specs.declared.marks.Marks.{Marks}
 use Rattle.bbm_place_map.specs.Map.{is_tracked, marks_at, pends_at, value_at}
 use Rattle.bbm_place_map.specs.declared.map.PlaceMap.{PlaceMap}
+use Rattle.bbm_tree_index.specs.HeldCores.{next_in}
 use Rattle.bbm_tree_index.specs.IndexAgreement.{IsSound}
 use Rattle.bbm_tree_index.specs.Index.{fresh_in, heading_of, known_in, node_in, null_in, pages_in}
 use Rattle.bbm_tree_index.specs.declared.index.TreeIndex.{TreeIndex}
@@ -88,6 +90,10 @@ pub record Clears (parts : ReplayState) (e : Event) (result : Result (Unit {0}) 
       × (break_before_make heading Patterns (notes heading h) e ≡ None)
       × (limbo_make heading Patterns (notes heading h) e ≡ None))
   pub refused : OnErr result (Meets parts parts e result)
+
+-- no place is broken over a table
+abbrev pub OverLeaves : PlaceMap → Type 0
+OverLeaves map = (a : ℕ) (marks : Marks) → marks_at map a ≡ Some marks → next_in (Some marks.core) ≡ None
 
 -- the place is one of a tree, at this path
 abbrev pub IsAt : ReplayState → ℕ → Path → Type 0

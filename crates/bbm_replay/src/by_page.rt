@@ -4,7 +4,7 @@ ghost use Rattle.std.specs.Prelude.{◌≡◌, ◌≤◌, ℕ, true, List, Some,
 ghost use Rattle.std.specs.Prelude.{IfOk, IfSome};
 ghost use Rattle.bbm_events.specs.Heading.{Heading};
 ghost use Rattle.bbm_events.specs.declared.event.Event.{Event};
-ghost use Rattle.bbm_place_map.specs.Map.{is_tracked};
+ghost use Rattle.bbm_place_map.specs.Map.{IsSeat, is_tracked};
 ghost use Rattle.bbm_regimes.specs.World as spec;
 ghost use Rattle.bbm_regimes.specs.declared.regime.Kind.{Kind as TheKind};
 ghost use Rattle.bbm_rules.specs.Places.{page_of};
@@ -23,12 +23,11 @@ ghost use Rattle.bbm_replay.specs.OnePage.{covers_kind as spec_covers_kind};
 
 use crate::covering::Covering;
 use crate::writes::next_of;
-use bbm_place_map::{Found, PlaceMap};
+use bbm_place_map::{Found, PlaceMap, Seat};
 use bbm_regimes::{Kind, NoMemory, Page, Place};
 use bbm_tlbi_scope::Family;
 use bbm_tree_index::{Path, place_below};
 use smallvec::SmallVec;
-use std::alloc::Global;
 
 /// How many places may be broken for a TLBI of one page to look at each of them. Source: project's own choice.
 const FEW: u64 = 8;
@@ -42,6 +41,31 @@ fn covers_kind(family: Family, kind: Kind) -> bool
         Family::Ipa => matches!(kind, Kind::S2),
         Family::Va | Family::VaAll => matches!(kind, Kind::Ttbr0 | Kind::Ttbr1),
         _ => false,
+    }
+}
+
+/// The pages of a root. Source: project's own choice.
+#[derive(Clone, Copy)]
+struct RootPages {
+    /// The first page.
+    first: Page,
+    /// How many pages there are, one after another.
+    count: u8,
+    /// The number at which the first page is looked for first.
+    near: usize,
+}
+
+/// Where a place of a tracked page is kept. No answer depends on the number `near`: the page is looked for first where
+/// it has this number in the order in which pages were tracked, and then where that of the last write is.
+#[inline(always)]
+fn seat_of(map: &PlaceMap, place: Place, near: usize) -> Seat
+    requires { is_tracked map.now (page_of place) ≡ true }
+    ensures place { result.place ≡ place }
+    ensures seat { IsSeat map.now result }
+{
+    match map.seat_at(place, near) {
+        Some(seat) => seat,
+        None => map.seat_near(place, map.recent_page()).unwrap(),
     }
 }
 
@@ -68,12 +92,14 @@ impl Covering<'_> {
     }
 
     /// Adds the place, which has this path, with its cover, where it is broken. The next page of the table that it
-    /// holds; None where it holds none.
+    /// holds; None where it holds none. No answer depends on `near`, at which its page is looked for first.
+    #[inline(always)]
     fn meet(
         &self,
         map: &PlaceMap,
         place: Place,
         path: &Path,
+        near: usize,
         found: &mut SmallVec<Found, 4>,
     ) -> Result<Option<Page>, NoMemory>
         requires sound { IsSound self.now.index.now }
@@ -86,10 +112,12 @@ impl Covering<'_> {
             found.old.items found.new.items) }
         ensures added { OnOk result (IsFoundIn map.now found.new.items place) }
     {
-        let seat = map.seat(place).unwrap();
+        let seat = seat_of(map, place, near);
         match map.core_at(&seat, None) {
             Some(core) => {
-                let cover = self.cover_met(map, place, path, &core);
+                // A copy, so that the path of a place that isn't broken needs no memory.
+                let own = *path;
+                let cover = self.cover_met(map, place, &own, &core);
                 found.push(Found { place, cover })?;
                 Ok(next_of(&core))
             }
@@ -100,41 +128,15 @@ impl Covering<'_> {
         }
     }
 
-    /// Adds the broken places that are met from this one on down along the input page, which it can translate, each with
-    /// its cover. It has this path.
+    /// Adds the broken places that are met on the way down along the input page from the page at this address, in
+    /// bytes, each with its cover. No answer depends on `near`, at which the page is looked for first; that of the next
+    /// level, often made behind it, is looked for behind it.
     fn descend(
         &self,
         map: &PlaceMap,
         at: u64,
-        place: Place,
-        path: &Path,
-        found: &mut SmallVec<Found, 4>,
-    ) -> Result<(), NoMemory>
-        requires sound { IsSound self.now.index.now }
-        requires fits { FitTogether map.now self.now.index.now }
-        requires low { path.now.level ≤ 3 }
-        requires on_way { IsOnWay (node_in self.now.index.now) at place path.now }
-        ensures grows { OnOk result (Grows map.now self.now.index.now self.now.roots.now self.now.named.now
-            found.old.items found.new.items) }
-        ensures met { OnOk result ((way : List ℕ) (a : ℕ)
-            → IsWay (node_in self.now.index.now) (core_at map.now) at (page_of place) way a
-            → IsFoundIn map.now found.new.items a) }
-    {
-        match self.meet(map, place, path, found)? {
-            Some(next) => match place_below(path, next, at) {
-                Some(below) => self.descend(map, at, below.0, &below.1, found),
-                None => Ok(()),
-            },
-            None => Ok(()),
-        }
-    }
-
-    /// Adds those that are met on the way down from the page at this address, in bytes.
-    fn descend_at(
-        &self,
-        map: &PlaceMap,
-        at: u64,
         addr: u64,
+        near: usize,
         found: &mut SmallVec<Found, 4>,
     ) -> Result<(), NoMemory>
         requires sound { IsSound self.now.index.now }
@@ -147,38 +149,47 @@ impl Covering<'_> {
         let Some(page) = Page::new(addr) else {
             return Ok(());
         };
-        match self.index.place_translating(page, at) {
-            Some(met) => self.descend(map, at, met.0, &met.1, found),
-            None => Ok(()),
+        let mut here = self.index.place_translating(page, at, near);
+        for depth in 0..4 {
+            let Some(met) = here else {
+                return Ok(());
+            };
+            let near = near.wrapping_add(depth);
+            let Some(next) = self.meet(map, met.0, &met.1, near, found)? else {
+                return Ok(());
+            };
+            here = place_below(&met.1, next, at);
         }
+        Ok(())
     }
 
-    /// Adds those that are met on the way down from so many consecutive pages.
-    fn descend_all(
+    /// Adds those that are met on the way down from the pages of a root.
+    fn descend_pages(
         &self,
         map: &PlaceMap,
         at: u64,
-        first: Page,
-        count: u8,
+        pages: &RootPages,
         found: &mut SmallVec<Found, 4>,
     ) -> Result<(), NoMemory>
         requires sound { IsSound self.now.index.now }
         requires fits { FitTogether map.now self.now.index.now }
         ensures grows { OnOk result (Grows map.now self.now.index.now self.now.roots.now self.now.named.now
             found.old.items found.new.items) }
-        ensures met { OnOk result (MetFromAll (node_in self.now.index.now) (core_at map.now) at first count
-            (IsFoundIn map.now found.new.items)) }
+        ensures met { OnOk result (MetFromAll (node_in self.now.index.now) (core_at map.now) at pages.now.first
+            pages.now.count (IsFoundIn map.now found.new.items)) }
     {
-        for part in 0..count {
-            let addr = first.get() + 4096 * part as u64;
-            self.descend_at(map, at, addr, found)?;
+        for part in 0..pages.count {
+            let addr = pages.first.get() + 4096 * part as u64;
+            let near = pages.near.wrapping_add(part as usize);
+            self.descend(map, at, addr, near, found)?;
         }
         Ok(())
     }
 
     /// Adds those that are met on the way down from the pages of the root with this number, if there is one and the
-    /// operation can cover places of its kind.
-    fn add_of_root(
+    /// operation can cover places of its kind. They are looked for first at its own number, as where the roots were
+    /// made first.
+    fn descend_root(
         &self,
         map: &PlaceMap,
         at: u64,
@@ -197,7 +208,9 @@ impl Covering<'_> {
         match self.roots.nth(number) {
             Some((kind, first)) => {
                 if covers_kind(self.named.scope.family, kind) {
-                    self.descend_all(map, at, first, self.header.page_count(kind), found)
+                    let count = self.header.page_count(kind);
+                    let near = number;
+                    self.descend_pages(map, at, &RootPages { first, count, near }, found)
                 } else {
                     Ok(())
                 }
@@ -206,28 +219,27 @@ impl Covering<'_> {
         }
     }
 
-    /// The broken places that are met on the way down to an input page from the pages of each declared root of which
-    /// the operation can cover places, each with its cover. `NoMemory` where there is none.
-    pub(crate) fn broken_on_ways(
+    /// Adds those that are met on the way down to an input page from the pages of each declared root of which the
+    /// operation can cover places. `NoMemory` where there is none.
+    pub(crate) fn descend_all(
         &self,
-        alloc: Global,
         map: &PlaceMap,
         at: u64,
-    ) -> Result<SmallVec<Found, 4>, NoMemory>
+        found: &mut SmallVec<Found, 4>,
+    ) -> Result<(), NoMemory>
         requires sound { IsSound self.now.index.now }
         requires fits { FitTogether map.now self.now.index.now }
-        ensures covers { IfOk result (λ found. AreCovered map.now self.now.index.now self.now.roots.now
-            self.now.named.now found.items) }
-        ensures met { IfOk result (λ found. (heading : Heading) (h : List Event) (root : Declared)
+        ensures grows { OnOk result (Grows map.now self.now.index.now self.now.roots.now self.now.named.now
+            found.old.items found.new.items) }
+        ensures met { OnOk result ((heading : Heading) (h : List Event) (root : Declared)
             → Stands self.now.roots.now heading h
             → root_at h root.page ≡ Some root → spec_covers_kind self.now.named.now.scope.family root.kind ≡ true
             → MetFromAll (node_in self.now.index.now) (core_at map.now) at root.page
-            (spec.page_count self.now.header.now.world root.kind) (IsFoundIn map.now found.items)) }
+            (spec.page_count self.now.header.now.world root.kind) (IsFoundIn map.now found.new.items)) }
     {
-        let mut found = SmallVec::new(alloc);
         for number in 0..self.roots.count() {
-            self.add_of_root(map, at, number, &mut found)?;
+            self.descend_root(map, at, number, found)?;
         }
-        Ok(found)
+        Ok(())
     }
 }

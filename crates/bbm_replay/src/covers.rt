@@ -1,6 +1,7 @@
 //! How far a TLBI covers a broken place.
 
-ghost use Rattle.std.specs.Prelude.{◌≡◌, ◌↔◌, ◌&&◌, not, is_none, length, ℕ, true, List, Some, IfOk};
+ghost use Rattle.std.specs.Prelude.{◌≡◌, ◌↔◌, ◌&&◌, not, is_none, length, ℕ, true, false, List, []};
+ghost use Rattle.std.specs.Prelude.{Some, None, IfSome, OnOk};
 ghost use Rattle.bbm_events.specs.Heading.{Heading};
 ghost use Rattle.bbm_events.specs.declared.event.Event.{Event};
 ghost use Rattle.bbm_events.specs.declared.event.Event.TheVariants.{Tlbi};
@@ -8,7 +9,7 @@ ghost use Rattle.bbm_tlbi_scope.specs.declared.op.TlbiOp.{TlbiOp};
 ghost use Rattle.bbm_rules.specs.Claims.Trust.{Patterns};
 ghost use Rattle.bbm_rules.specs.Covers.{cover_at};
 ghost use Rattle.bbm_replay_trees.specs.Told.{notes};
-ghost use Rattle.bbm_replay.specs.Covering.{CoverEach, IsBrokenOver, MayBeIssued};
+ghost use Rattle.bbm_replay.specs.Covering.{CoverEach, IsBrokenOver, MayBeIssued, Mismatches};
 ghost use Rattle.bbm_replay.specs.Covering.{asks_childless, asks_tags as spec_asks_tags};
 ghost use Rattle.bbm_replay_roots.specs.RootStateStands.{Stands};
 ghost use Rattle.bbm_rules.specs.Places.{page_of};
@@ -26,14 +27,15 @@ use crate::covering::Covering;
 use crate::laws::laws;
 use bbm_descriptor::Core;
 use bbm_place_map::{Answer, PlaceMap};
-use bbm_regimes::{Kind, NoMemory, Place};
+use bbm_regimes::{Kind, NoMemory, Place, Tag};
 use bbm_replay_entries::law_entry_holds;
+use bbm_replay_roots::NamedTlbi;
 use bbm_replay_trees::law_childless_by_cores;
 use bbm_rules::law_notes_keep_the_events;
+use bbm_tlbi_scope::scope::is_number;
 use bbm_tlbi_scope::{Cover, Family, PlaceView, TagSet, cover};
 use bbm_tree_index::Path;
 use smallvec::SmallVec;
-use std::alloc::Global;
 
 /// Whether the core is that of a table.
 fn is_table(core: &Core) -> bool
@@ -66,6 +68,18 @@ fn asks_tags(family: Family, kind: Kind) -> bool
     }
 }
 
+/// Whether the TLBI may cover places of a root with these tags, where the cover depends on them.
+fn fits_tags(named: &NamedTlbi, tags: TagSet) -> bool
+    ensures { result ≡ false → Mismatches named.now tags }
+{
+    match tags {
+        TagSet::None => true,
+        TagSet::One(Tag::Vmid(held)) => is_number(named.vmid, held),
+        TagSet::One(Tag::Asid(held)) => is_number(named.scope.asid, held),
+        TagSet::One(_) | TagSet::Many => false,
+    }
+}
+
 impl Covering<'_> {
     /// Whether the place, which holds a table or not, holds one no place of which holds anything; told where the TLBI
     /// names pages of any level, on which alone it depends.
@@ -80,16 +94,24 @@ impl Covering<'_> {
         asked && self.index.childless(map, place)
     }
 
-    /// The tags of the root of a place with this path; told where its cover depends on them.
-    fn tags(&self, path: &Path) -> TagSet
-        ensures { spec_asks_tags self.now.named.now.scope.family path.now.kind ≡ true → (heading : Heading)
-            (h : List Event) → Stands self.now.roots.now heading h
-            → result ≡ tag_set (tags_of heading Patterns path.now.first h) }
+    /// The tags of the root of a place with this path; told where its cover depends on them. None where nothing covers
+    /// the place by them.
+    fn tags(&self, path: &Path) -> Option<TagSet>
+        ensures told { IfSome result (λ tags. spec_asks_tags self.now.named.now.scope.family path.now.kind ≡ true
+            → (heading : Heading) (h : List Event) → Stands self.now.roots.now heading h
+            → tags ≡ tag_set (tags_of heading Patterns path.now.first h)) }
+        ensures none { result ≡ None → (spec_asks_tags self.now.named.now.scope.family path.now.kind ≡ true)
+            × ((heading : Heading) (h : List Event) → Stands self.now.roots.now heading h
+            → Mismatches self.now.named.now (tag_set (tags_of heading Patterns path.now.first h))) }
     {
-        if asks_tags(self.named.scope.family, path.kind) {
-            self.roots.tags_of(path.first)
+        if !asks_tags(self.named.scope.family, path.kind) {
+            return Some(TagSet::None);
+        }
+        let tags = self.roots.tags_of(path.first);
+        if fits_tags(self.named, tags) {
+            Some(tags)
         } else {
-            TagSet::None
+            None
         }
     }
 
@@ -110,6 +132,9 @@ impl Covering<'_> {
         if scope.family.has_page() && !scope.names_some(path.region) {
             return Cover::None;
         }
+        let Some(tags) = self.tags(path) else {
+            return Cover::None;
+        };
         let table = is_table(core);
         cover(
             *scope,
@@ -121,26 +146,26 @@ impl Covering<'_> {
                 table,
                 global: is_global(core),
                 childless: self.is_childless(map, place, table),
-                tags: self.tags(path),
+                tags,
             },
         )
     }
 
-    /// How far the TLBI covers each of the broken places, in the order of their numbers. One that names no pages covers
-    /// the broken places of a page alike, and is asked once of those that follow one another. `NoMemory` where there is
-    /// none.
+    /// Adds how far the TLBI covers each of the broken places, in the order of their numbers. One that names no pages
+    /// covers the broken places of a page alike, and is asked once of those that follow one another. `NoMemory` where
+    /// there is none.
     pub(crate) fn covers(
         &self,
-        alloc: Global,
         map: &PlaceMap,
-    ) -> Result<SmallVec<Answer, 8>, NoMemory>
-        requires { IsSound self.now.index.now }
-        ensures len { IfOk result (λ covers. length covers.items ≡ restless_in map.now) }
-        ensures each { IfOk result (λ covers. CoverEach map.now self.now.index.now self.now.roots.now self.now.named.now
-            covers.items) }
+        covers: &mut SmallVec<Answer, 8>,
+    ) -> Result<(), NoMemory>
+        requires sound { IsSound self.now.index.now }
+        requires empty { covers.old.items ≡ [] }
+        ensures len { OnOk result (length covers.new.items ≡ restless_in map.now) }
+        ensures each { OnOk result (CoverEach map.now self.now.index.now self.now.roots.now self.now.named.now
+            covers.new.items) }
     {
         law_notes_keep_the_events();
-        let mut covers = SmallVec::new(alloc);
         let paged = self.named.scope.family.has_page();
         // The page of the place before, at first that of none, and the cover there.
         let mut page = 1;
@@ -150,13 +175,13 @@ impl Covering<'_> {
             let at = place.page().get();
             if paged || at != page {
                 page = at;
-                cover = match self.index.path(place) {
+                cover = match self.index.path_near(place, map.recent_page()) {
                     Some(path) => self.cover_met(map, place, &path, &map.restless_core(i)),
                     None => Cover::None,
                 };
             }
             covers.push(Answer::new(cover))?;
         }
-        Ok(covers)
+        Ok(())
     }
 }

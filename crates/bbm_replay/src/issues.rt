@@ -13,6 +13,7 @@ use bbm_place_map::PlaceMap;
 use bbm_regimes::{NoMemory, Pe, PeMask};
 use bbm_replay_trees::starts::law_starts;
 use bbm_rules::law_notes_keep_the_events;
+use smallvec::SmallVec;
 use std::alloc::Global;
 
 impl Covering<'_> {
@@ -39,14 +40,19 @@ impl Covering<'_> {
         laws();
         law_notes_keep_the_events();
         law_starts();
+        if map.restless() == 0 {
+            return Ok(());
+        }
         let broadcast = self.named.scope.broadcast;
         match self.page_looked_at(map) {
             Some(at) => {
-                let found = self.broken_on_ways(alloc, map, at)?;
+                let mut found = SmallVec::new(alloc);
+                self.descend_all(map, at, &mut found)?;
                 map.issue_at(alloc, pe, reach, broadcast, &found)
             }
             None => {
-                let covers = self.covers(alloc, map)?;
+                let mut covers = SmallVec::new(alloc);
+                self.covers(map, &mut covers)?;
                 map.issue_all(pe, reach, broadcast, &covers)
             }
         }

@@ -31,9 +31,7 @@ impl ReplayState {
         ensures { IfOk result (λ parts. Stands parts header.now []) }
     {
         header.in_ranges();
-        let Ok(index) = TreeIndex::new(alloc, header) else {
-            return Err(NoMemory);
-        };
+        let index = TreeIndex::new(alloc, header);
         let roots = RootState::new(alloc, header)?;
         Ok(ReplayState {
             header: *header,

@@ -23,7 +23,7 @@ ghost use Rattle.bbm_rules.specs.Rules.{lacks};
 ghost use Rattle.bbm_rules.specs.Tree.{Node};
 ghost use Rattle.bbm_tree_index.specs.Index.{node_in};
 ghost use Rattle.bbm_tree_index.specs.Nodes.{path_at};
-ghost use Rattle.bbm_replay.specs.ReplayStanding.{MayMeet, Meets};
+ghost use Rattle.bbm_replay.specs.ReplayStanding.{MayMeet, Meets, OverLeaves};
 
 use crate::faults::step_fault;
 use crate::laws::{laws, rules};
@@ -36,6 +36,9 @@ use bbm_replay_roots::law_others;
 use bbm_rules::{Rule, StepFault};
 use bbm_tree_index::{Attach, Path};
 use std::alloc::Global;
+
+/// To look through so many broken places takes less than to go up a tree.
+const MANY: u64 = 64;
 
 /// Whether both are cores, and they differ.
 #[inline(always)]
@@ -85,12 +88,32 @@ fn is_user_global(kind: Kind, new: &Option<Core>) -> bool
     kind == Kind::Ttbr0 && is_global(new)
 }
 
-/// Whether no place is broken.
-#[inline(always)]
-fn is_whole(map: &PlaceMap) -> bool
-    ensures { result ≡ true → (a : ℕ) → is_some (marks_at map.now a) ≡ true → ⊥ }
+/// Whether no place is broken over a table. False says nothing: it is the answer too where many places are broken.
+#[inline(never)]
+fn are_over_leaves(map: &PlaceMap) -> bool
+    ensures { result ≡ true → OverLeaves map.now }
 {
-    map.restless() == 0
+    let count = map.restless();
+    if count > MANY {
+        return false;
+    }
+    for i in 0..count {
+        if next_of(&map.restless_core(i)).is_some() {
+            return false;
+        }
+    }
+    true
+}
+
+/// The same, told at once where no place is broken.
+#[inline(always)]
+fn is_calm(map: &PlaceMap) -> bool
+    ensures { result ≡ true → OverLeaves map.now }
+{
+    if map.restless() == 0 {
+        return true;
+    }
+    are_over_leaves(map)
 }
 
 /// The next page of a core that is a table.
@@ -155,7 +178,32 @@ impl ReplayState {
         Ok(())
     }
 
-    /// Whether the write makes a valid value at a place in limbo. None is where no place is broken.
+    /// Takes a write at a place of a fresh page that has this number in the order in which pages were tracked, where
+    /// bit 0 of the value before is 0; false says nothing, and nothing changed then.
+    #[inline(never)]
+    fn write_fresh(&mut self, pe: Pe, place: Place, value: u64, number: usize) -> bool
+        requires { MayMeet self.old (Write pe place value) }
+        ensures taken { result ≡ true → Meets self.old self.new (Write pe place value) (Ok tt) }
+        ensures kept { result ≡ false → self.new ≡ self.old }
+    {
+        laws();
+        rules();
+        law_others();
+        if !self.index.is_fresh_at(place.page(), number) {
+            return false;
+        }
+        let Some(seat) = self.map.seat_at(place, number) else {
+            return false;
+        };
+        if self.map.live_at(&seat, Kind::El2, 1).is_some() {
+            return false;
+        }
+        self.map.put_at(&seat, value);
+        self.map.law_idle();
+        true
+    }
+
+    /// Whether the write makes a valid value at a place in limbo. None is where no place is broken over a table.
     #[inline(always)]
     fn makes_in_limbo(&self, place: Place, valid: bool) -> bool
         requires { (heading : Heading) × (h : List Event) × Stands self.now heading h }
@@ -166,7 +214,7 @@ impl ReplayState {
         if !valid {
             return false;
         }
-        if is_whole(&self.map) {
+        if is_calm(&self.map) {
             return false;
         }
         self.index.in_limbo(&self.map, place)
@@ -475,6 +523,9 @@ impl ReplayState {
     {
         let near = self.index.number(place.page(), self.map.recent_page());
         if self.write_quick(pe, place, value, near) {
+            return Ok(());
+        }
+        if self.write_fresh(pe, place, value, near) {
             return Ok(());
         }
         self.write_any(alloc, pe, place, value, near)

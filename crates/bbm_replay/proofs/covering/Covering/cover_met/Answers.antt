@@ -13,11 +13,12 @@ use Rattle.bbm_rules.specs.Tags.{tag_set, tags_of}
 use Rattle.bbm_rules.specs.Tree.{held_at, is_childless, region_of, region_start}
 use Rattle.bbm_tree_index.specs.declared.role.Path.{Path}
 use Rattle.bbm_replay_trees.specs.Told.{notes}
-use Rattle.bbm_replay.specs.Covering.{asks_childless, asks_tags}
+use Rattle.bbm_replay.specs.Covering.{Mismatches, asks_childless, asks_tags}
 use Rattle.bbm_replay.specs.ReplayStanding.{view_of}
-use Rattle.bbm_replay.proofs.Asking.{alike}
+use Rattle.bbm_replay.proofs.Asking.{alike, mismatched}
 use Rattle.bbm_replay.proofs.Covered.{core_of_marks, covered, global_is, held_of, same_by_truth, table_is}
 use Rattle.bbm_replay.proofs.Descents.{unnamed}
+use Rattle.bbm_replay.proofs.SamePage.{by_view, held, view_covers}
 use Rattle.bbm_replay.proofs.Unmet.{cover_none, some_width}
 use Rattle.bbm_replay.proofs.Writing.{cores}
 use Rattle.bbm_replay.proofs.covering.Covering.cover_met.Goals as goal
@@ -45,6 +46,26 @@ returns-then-not-names_some c over heading h pe op xt m =
     ends : (start w : ℕ) → 1 ≤ w → start ≤ start + w - 1
     ends start w k = omega arith
 
+pub returns-in_default : goal.returns-in_default
+returns-in_default c over heading h pe op xt m =
+    let by = c.args.self.now in
+    let map = c.args.map.now in
+    let place = c.args.place in
+    let named = by.named.now in
+    let n = c.requires.path.0 in
+    let is = c.requires.path.1 in
+    let at = c.requires.path.2 in
+    let ev = c.law_notes_keep_the_events.ensures heading Patterns h in
+    let v = held heading h ev map by.index.now by.roots.now pe op xt named m n place is (Some over.0) over.1 refl in
+    let none = c.tags.ensures.none c.in_default.is in
+    let miss : Mismatches named (tag_set (tags_of heading Patterns n.root h))
+    = subst (λ (y : Path). Mismatches named (tag_set (tags_of heading Patterns y.first h))) at
+    (none.1 heading h m.stands) in
+    sym (mismatched named.scope named.vmid
+    (by_view heading h ev map by.index.now by.roots.now pe op xt named m place n v.0)
+    (ap (λ (y : Path). asks_tags named.scope.family y.kind) (sym at) ∙ none.0) miss.0 miss.1)
+    ∙ view_covers heading h ev map by.index.now by.roots.now pe op xt named m n place v.0 is v.1
+
 pub returns : goal.returns
 returns c over heading h pe op xt m =
     let map = c.args.map.now in
@@ -58,20 +79,20 @@ returns c over heading h pe op xt m =
     let at = c.requires.path.2 in
     let core = c.args.core.now in
     let stands = m.told.entries n place is in
-    let held = held_of (held_at heading Patterns (notes heading h) n place) (core_of n.kind n.level) core
+    let value = held_of (held_at heading Patterns (notes heading h) n place) (core_of n.kind n.level) core
     (sym stands.core ∙ core_of_marks (core_of n.kind n.level (value_at map place)) (marks_at map place) over.0 over.1
     ∙ ap (λ (k : Core). Some k) over.2) in
-    let law = c.law_childless_by_cores.ensures heading h view n place held.0 m.told.kept m.told.fit
-    m.told.nodes (cores heading h view m.told) is held.1 in
-    let childless = is_childless heading Patterns (notes heading h) n held.0 in
+    let law = c.law_childless_by_cores.ensures heading h view n place value.0 m.told.kept m.told.fit
+    m.told.nodes (cores heading h view m.told) is value.1 in
+    let childless = is_childless heading Patterns (notes heading h) n value.0 in
     let tags = tag_set (tags_of heading Patterns n.root h) in
     let table = c.is_table-table.result in
     let same_childless : asks_childless scope table ≡ true → c.is_childless.result ≡ childless
     = λ asked. let inside = c.is_childless.ensures asked n is in
     same_by_truth c.is_childless.result childless
     (λ k. law.1 (inside.0 k)) (λ k. inside.1 (law.0 k)) in
-    let same_tags : asks_tags scope.family n.kind ≡ true → c.tags.result ≡ tags
-    = λ asked. c.tags.ensures (ap (λ (y : Path). asks_tags scope.family y.kind) at ∙ asked) heading h m.stands
+    let same_tags : asks_tags scope.family n.kind ≡ true → c.in-Some.tags ≡ tags
+    = λ asked. c.in-Some.ensures.told (ap (λ (y : Path). asks_tags scope.family y.kind) at ∙ asked) heading h m.stands
     ∙ ap (λ (y : Path). tag_set (tags_of heading Patterns y.first h)) at in
     c.cover.ensures
     ∙ ap (λ (y : Path). scopes.cover_of scope vmid (record {
@@ -81,12 +102,12 @@ returns c over heading h pe op xt m =
       table = table;
       global = c.is_global.result;
       childless = c.is_childless.result;
-      tags = c.tags.result;
+      tags = c.in-Some.tags;
     })) at
     ∙ alike scope vmid n.kind (region_of n place) n.level table c.is_global.result
-    c.is_childless.result childless c.tags.result tags same_childless same_tags
-    ∙ covered heading h pe op xt scope vmid place n held.0 table c.is_global.result
+    c.is_childless.result childless c.in-Some.tags tags same_childless same_tags
+    ∙ covered heading h pe op xt scope vmid place n value.0 table c.is_global.result
     childless tags (c.law_notes_keep_the_events.ensures heading Patterns h)
-    m.names m.vmid_is (sym (m.told.nodes (page_of place)) ∙ is) held.1
-    (c.is_table-table.ensures ∙ table_is (desc_of n.kind n.level held.0) core held.2)
-    (c.is_global.ensures ∙ global_is (desc_of n.kind n.level held.0) core held.2) refl refl
+    m.names m.vmid_is (sym (m.told.nodes (page_of place)) ∙ is) value.1
+    (c.is_table-table.ensures ∙ table_is (desc_of n.kind n.level value.0) core value.2)
+    (c.is_global.ensures ∙ global_is (desc_of n.kind n.level value.0) core value.2) refl refl

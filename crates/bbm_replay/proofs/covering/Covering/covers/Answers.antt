@@ -43,7 +43,7 @@ loop-i-preserved c =
           w.cover-is ∙ w.cover_met-cover.ensures (o.0, ap (λ a. marks_at map a) here ∙ o.1, o.2) heading h pe op xt m)
       | then-paged+in-None w ↦ absurd (true≢false (sym c.restless_at-place.ensures.broken
           ∙ ap (λ (x : Option Marks). is_some x) (m.told.outside place
-          (none_at (node_in by.index.now (page_of place)) place w.path.result w.in-None.is w.path.ensures))))
+          (none_at (node_in by.index.now (page_of place)) place w.path_near.result w.in-None.is w.path_near.ensures))))
       | else-paged+else-at-page w ↦ (let unpaged : has_page by.named.now.scope.family ≡ false
           = sym c.has_page-paged.ensures ∙ w.if-paged.false in
           let same : page_of place ≡ c.loop-i.page = omega (arith, w.if-at-page.false, at) in

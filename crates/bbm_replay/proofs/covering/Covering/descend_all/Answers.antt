@@ -1,25 +1,31 @@
-use Rattle.std.proofs.Common.{◌+◌, ◌*◌, ℕ, subst}
+use Rattle.std.proofs.Common.{◌≡◌, ℕ, true, Some, arith}
 use borrow.Author.Count.{below_more}
+use Rattle.bbm_regimes.specs.World.{page_count}
+use Rattle.bbm_regimes.specs.declared.regime.Kind.{Kind}
 use Rattle.bbm_tree_index.specs.HeldCores.{core_at}
 use Rattle.bbm_tree_index.specs.Index.{node_in}
-use Rattle.bbm_replay.specs.OnePage.{IsFoundIn, MetFrom}
+use Rattle.bbm_replay_roots.specs.RootsByNumber.{nth_in}
+use Rattle.bbm_replay.specs.OnePage.{IsFoundIn, MetFromAll, covers_kind}
 use Rattle.bbm_replay.proofs.covering.Covering.descend_all.Goals as goal
 
-pub loop-part-preserved : goal.loop-part-preserved
-loop-part-preserved c =
+pub loop-number-preserved : goal.loop-number-preserved
+loop-number-preserved c =
+    let by = c.args.self.now in
     let map = c.args.map.now in
-    let part = c.loop-part.part in
-    let new = c.descend_at.new.found.items in
-    let v = c.loop-part.invariant in
-    let e = c.in_ok-descend_at.ensures in
-    let here : MetFrom (node_in c.args.self.now.index.now) (core_at map) c.args.at (c.args.first + 4096 * part)
-    (IsFoundIn map new)
-    = subst (λ x. MetFrom (node_in c.args.self.now.index.now) (core_at map) c.args.at (x + 4096 * part)
-    (IsFoundIn map new))
-    c.get.ensures.value e.met in
+    let v = c.loop-number.invariant in
+    let e = c.in_ok-descend_root.ensures in
+    let new = c.descend_root.new.found.items in
     record {
       grows = (λ all. e.grows.0 (v.grows.0 all), λ a has. e.grows.1 a (v.grows.1 a has));
-      met = λ j below. below_more (λ (i : ℕ). MetFrom (node_in c.args.self.now.index.now) (core_at map) c.args.at
-          (c.args.first + 4096 * i) (IsFoundIn map new)) part
-          (λ i less page way a w broken. e.grows.1 a (v.met i less page way a w broken)) here j below;
+      met = λ j below. below_more (λ (i : ℕ). (kind : Kind) (first : ℕ) → nth_in by.roots.now i ≡ Some (kind, first)
+          → covers_kind by.named.now.scope.family kind ≡ true
+          → MetFromAll (node_in by.index.now) (core_at map) c.args.at first (page_count by.header.now.world kind)
+          (IsFoundIn map new)) c.loop-number.number
+          (λ i less kind first is covers part within page way a w broken.
+          e.grows.1 a (v.met i less kind first is covers part within page way a w broken)) e.met j below;
     }
+
+pub returns-clause-met : goal.returns-clause-met
+returns-clause-met c heading h root stands at covers =
+    let i = c.count-number-end.ensures heading h root.page root stands at in
+    c.loop-number.invariant.met i.0 (omega (arith, i.1)) root.kind root.page i.2 covers

@@ -1,11 +1,18 @@
+use Rattle.std.proofs.Common.{◌≡◌, ℕ, ◌<◌, true, Some}
+use Rattle.bbm_regimes.specs.World.{page_count}
+use Rattle.bbm_regimes.specs.declared.regime.Kind.{Kind}
 use Rattle.bbm_tree_index.specs.HeldCores.{core_at}
 use Rattle.bbm_tree_index.specs.Index.{node_in}
+use Rattle.bbm_replay_roots.specs.RootsByNumber.{nth_in}
 use Rattle.bbm_replay.specs.Covering.{Grows}
-use Rattle.bbm_replay.specs.OnePage.{IsFoundIn, MetFromAll}
+use Rattle.bbm_replay.specs.OnePage.{IsFoundIn, MetFromAll, covers_kind}
 use Rattle.bbm_replay.proofs.covering.Covering.descend_all.Given as goal
 
-abbrev pub invariant-loop-part : goal.invariant-loop-part
-invariant-loop-part l = record {
+abbrev pub invariant-loop-number : goal.invariant-loop-number
+invariant-loop-number l = record {
   grows : Grows l.map l.self.index.now l.self.roots.now l.self.named.now l.fn.found.items l.found.items;
-  met : MetFromAll (node_in l.self.index.now) (core_at l.map) l.at l.first l.part (IsFoundIn l.map l.found.items);
+  met : (i : ℕ) → i < l.number → (kind : Kind) (first : ℕ) → nth_in l.self.roots.now i ≡ Some (kind, first)
+      → covers_kind l.self.named.now.scope.family kind ≡ true
+      → MetFromAll (node_in l.self.index.now) (core_at l.map) l.at first (page_count l.self.header.now.world kind)
+      (IsFoundIn l.map l.found.items);
 }

@@ -1,4 +1,5 @@
-use Rattle.std.proofs.Common.{◌≡◌, ℕ, Bool, true, false, List, None, refl, sym, ◌∙◌, ap, subst, true≢false, slice_get}
+use Rattle.std.proofs.Common.{◌≡◌, ℕ, Bool, true, false, List, None, refl, sym, ◌∙◌, ap, subst, slice_get}
+use Rattle.std.proofs.Common.{true≢false, not-suc-le-zero}
 use Rattle.bbm_entry_state.specs.EntryCalls.{Noted}
 use Rattle.bbm_entry_state.specs.declared.pending.Pends.{Pends}
 use Rattle.bbm_events.specs.Heading.{Heading}
@@ -15,6 +16,7 @@ use Rattle.bbm_rules.specs.Prelude.{Tlbi}
 use Rattle.bbm_tree_index.specs.HeldCores.{core_at}
 use Rattle.bbm_tree_index.specs.Index.{node_in}
 use Rattle.bbm_replay_trees.specs.Told.{notes}
+use Rattle.bbm_replay.specs.Covering.{AreCovered}
 use Rattle.bbm_replay.specs.OnePage.{IsFoundIn, MetFromAll, NamesOne}
 use Rattle.bbm_replay.proofs.Findings.{if_some, on_ok}
 use Rattle.bbm_replay.proofs.Unmet.{noted_none, uncovered}
@@ -32,14 +34,18 @@ returns-in_ok-covers-in-None-clause-noted c =
     by.named.now.scope.broadcast cover (pends_at new c.args.pe x)) is.1
     (noted is.0 cover (ap (λ (xs : List Cover). slice_get xs is.0) c.deref-in-None.ensures ∙ is.2)))
 
-pub returns-in_ok-found-in-Some-clause-noted : goal.returns-in_ok-found-in-Some-clause-noted
-returns-in_ok-found-in-Some-clause-noted c =
+pub returns-in_ok-descend_all-in-Some-clause-noted : goal.returns-in_ok-descend_all-in-Some-clause-noted
+returns-in_ok-descend_all-in-Some-clause-noted c =
     let by = c.args.self.now in
     let map = c.args.map.now in
     let index = by.index.now in
     let scope = by.named.now.scope in
     let pe = c.args.pe in
-    let items = c.in_ok-found-in-Some.found.items in
+    let items = c.descend_all.new.found.items in
+    let all = c.in_ok-descend_all-in-Some.ensures in
+    let covers : AreCovered map index by.roots.now by.named.now items
+    = all.grows.0 (subst (λ (xs : List Found). AreCovered map index by.roots.now by.named.now xs)
+    (sym c.new-found.ensures.items) (λ heading h pe op xt m i d below. absurd (not-suc-le-zero below))) in
     let found = c.deref.result.now in
     let one : NamesOne scope c.in-Some.at = if_some (λ at. NamesOne scope at) c.page_looked_at.result c.in-Some.at
     c.in-Some.is c.page_looked_at.ensures in
@@ -48,7 +54,7 @@ returns-in_ok-found-in-Some-clause-noted c =
     let f = cover_at heading Patterns (notes heading h) (Tlbi pe op xt) in
     let told : FoundAs found f
     = subst (λ (xs : List Found). FoundAs xs f) (sym c.deref.ensures)
-    (c.in_ok-found-in-Some.ensures.covers heading h pe op xt m) in
+    (covers heading h pe op xt m) in
     let hit : is_found found a ≡ true → Noted (state_from None (marks_at map a)) (pends_at map pe a) c.args.reach
     scope.broadcast (f a) (pends_at new pe a)
     = λ e. noted f told a e broken in
@@ -61,7 +67,7 @@ returns-in_ok-found-in-Some-clause-noted c =
     c.requires.sound c.in-Some.at one (IsFoundIn map items)
     (λ r at covers. subst (λ (x : Heading). MetFromAll (node_in index) (core_at map) c.in-Some.at r.page
     (page_count x.world r.kind)
-    (IsFoundIn map items)) same (c.in_ok-found-in-Some.ensures.met heading h r m.stands at covers))
+    (IsFoundIn map items)) same (all.met heading h r m.stands at covers))
     a broken (missed e) in
     let quiet : is_found found a ≡ false → Noted (state_from None (marks_at map a)) (pends_at map pe a) c.args.reach
     scope.broadcast (f a) (pends_at new pe a)

@@ -2,13 +2,12 @@ use Rattle.std.proofs.Common.{◌≡◌, true, List, sym, ◌∙◌, ap, subst}
 use Rattle.bbm_place_map.specs.Finds.{FoundAs, is_found}
 use Rattle.bbm_place_map.specs.Map.{marks_at}
 use Rattle.bbm_place_map.specs.declared.found.Found.{Found}
-use Rattle.bbm_place_map.specs.declared.seat.Seat.{Seat}
 use Rattle.bbm_rules.specs.Claims.Trust.{Patterns}
 use Rattle.bbm_rules.specs.Covers.{cover_at}
 use Rattle.bbm_rules.specs.Prelude.{Tlbi}
 use Rattle.bbm_replay_trees.specs.Told.{notes}
 use Rattle.bbm_replay.specs.Covering.{IsBrokenOver}
-use Rattle.bbm_replay.proofs.Findings.{as_end, found_before, found_end, if_some}
+use Rattle.bbm_replay.proofs.Findings.{as_end, found_before, found_end}
 use Rattle.bbm_replay.proofs.Ways.{broken_over}
 use Rattle.bbm_replay.proofs.covering.Covering.meet.Goals as goal
 
@@ -18,9 +17,8 @@ returns-in_ok-push-in-Some-clause-grows c =
     let place = c.args.place in
     let old = c.args.found.now.items in
     let item : Found = record { place = place; cover = c.cover_met-cover.result } in
-    let seat = c.unwrap-seat.result in
-    let here : seat.place ≡ place
-    = if_some (λ (s : Seat). s.place ≡ place) c.seat.result seat c.unwrap-seat.ensures c.seat.ensures.place in
+    let seat = c.seat_of-seat.result in
+    let here : seat.place ≡ place = c.seat_of-seat.ensures.place in
     let o = broken_over (marks_at map seat.place) c.in-Some.core (sym c.in-Some.is ∙ c.core_at.ensures) in
     let over : IsBrokenOver map place c.in-Some.core = (o.0, ap (λ a. marks_at map a) (sym here) ∙ o.1, o.2) in
     let more = c.in_ok-push-in-Some.ensures.ok in (

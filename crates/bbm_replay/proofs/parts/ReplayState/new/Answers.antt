@@ -5,13 +5,14 @@ use Rattle.bbm_replay.proofs.parts.ReplayState.new.Goals as goal
 
 pub returns : goal.returns
 returns c =
-    let m = c.new-3.ensures in
-    let i = c.in-Ok.ensures.empty in
+    let m = c.new-2.ensures in
+    let i = c.new-index.ensures.empty in
     record {
       header = refl;
       index_header = i.heading;
-      sound = (c.in-Ok.ensures.agrees c.new-3.result m.marks).sound;
-      told = told_empty c.args.header.now (view_of c.new-3.result c.in-Ok.index) c.in_ranges.ensures m.values m.marks
+      sound = (c.new-index.ensures.agrees c.new-2.result m.marks).sound;
+      told =
+          told_empty c.args.header.now (view_of c.new-2.result c.new-index.result) c.in_ranges.ensures m.values m.marks
           i.node i.fresh i.null i.known m.pages i.pages;
       roots = c.in_ok-roots.ensures.empty;
     }

@@ -1,0 +1,18 @@
+use Rattle.std.proofs.Common.{◌≡◌, ◌≤◌, ◌⊎◌, ℕ, List, Some}
+use Rattle.bbm_tree_index.specs.Descent.{IsWay}
+use Rattle.bbm_tree_index.specs.HeldCores.{core_at}
+use Rattle.bbm_tree_index.specs.Index.{node_in}
+use Rattle.bbm_tree_index.specs.declared.role.Path.{Path}
+use Rattle.bbm_replay.specs.Covering.{Grows}
+use Rattle.bbm_replay.specs.OnePage.{IsFoundIn, IsOnWay}
+use Rattle.bbm_replay.proofs.Ways.{IsAhead}
+use Rattle.bbm_replay.proofs.covering.Covering.descend.Given as goal
+
+abbrev pub invariant-loop-depth : goal.invariant-loop-depth
+invariant-loop-depth l = record {
+  grows : Grows l.map l.self.index.now l.self.roots.now l.self.named.now l.fn.found.items l.found.items;
+  on_way : (m : ℕ × Path) → l.here ≡ Some m
+      → IsOnWay (node_in l.self.index.now) l.at m.0 m.1 × (m.1.level ≤ 3) × (l.depth ≤ m.1.level);
+  met : (way : List ℕ) (a : ℕ) → IsWay (node_in l.self.index.now) (core_at l.map) l.at l.addr way a
+      → IsFoundIn l.map l.found.items a ⊎ IsAhead (node_in l.self.index.now) (core_at l.map) l.at l.here a;
+}

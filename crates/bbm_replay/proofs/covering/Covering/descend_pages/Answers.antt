@@ -1,0 +1,25 @@
+use Rattle.std.proofs.Common.{◌+◌, ◌*◌, ℕ, subst}
+use borrow.Author.Count.{below_more}
+use Rattle.bbm_tree_index.specs.HeldCores.{core_at}
+use Rattle.bbm_tree_index.specs.Index.{node_in}
+use Rattle.bbm_replay.specs.OnePage.{IsFoundIn, MetFrom}
+use Rattle.bbm_replay.proofs.covering.Covering.descend_pages.Goals as goal
+
+pub loop-part-preserved : goal.loop-part-preserved
+loop-part-preserved c =
+    let map = c.args.map.now in
+    let part = c.loop-part.part in
+    let new = c.descend.new.found.items in
+    let v = c.loop-part.invariant in
+    let e = c.in_ok-descend.ensures in
+    let here : MetFrom (node_in c.args.self.now.index.now) (core_at map) c.args.at
+    (c.args.pages.now.first + 4096 * part) (IsFoundIn map new)
+    = subst (λ x. MetFrom (node_in c.args.self.now.index.now) (core_at map) c.args.at (x + 4096 * part)
+    (IsFoundIn map new))
+    c.get.ensures.value e.met in
+    record {
+      grows = (λ all. e.grows.0 (v.grows.0 all), λ a has. e.grows.1 a (v.grows.1 a has));
+      met = λ j below. below_more (λ (i : ℕ). MetFrom (node_in c.args.self.now.index.now) (core_at map) c.args.at
+          (c.args.pages.now.first + 4096 * i) (IsFoundIn map new)) part
+          (λ i less page way a w broken. e.grows.1 a (v.met i less page way a w broken)) here j below;
+    }

@@ -1,0 +1,9 @@
+use Rattle.std.proofs.Common.{◌≡◌, ℕ, ◌<◌, None, Some}
+use Rattle.bbm_entry_state.specs.declared.marks.Marks.{Marks}
+use Rattle.bbm_place_map.specs.Map.{marks_at, restless_place}
+use Rattle.bbm_tree_index.specs.HeldCores.{next_in}
+use Rattle.bbm_replay.proofs.writes.are_over_leaves.Given as goal
+
+abbrev pub invariant-loop-i : goal.invariant-loop-i
+invariant-loop-i l = (j : ℕ) → j < l.i → (marks : Marks) → marks_at l.map (restless_place l.map j) ≡ Some marks
+    → next_in (Some marks.core) ≡ None
