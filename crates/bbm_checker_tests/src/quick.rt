@@ -4,27 +4,35 @@ use bbm_events::Item;
 use bbm_log_grammar::{quick_line, read_event, read_header};
 use std::test::Fail;
 
-/// A line of each event that is read at once, with the bytes that must follow.
-const LINES: [&[u8]; 12] = [
-    b"w 1 0x40000008 0x3\n              ",
+/// A line of each event that is read at once.
+const LINES: [&[u8]; 14] = [
+    b"w 1 0x40000008 0x3\n",
     b"isb 12\n",
     b"dsb 0 ishst\n",
     b"dsb 0 nsh\n",
     b"dmb 3 ish\n",
     b"dmb 3 ld\n",
-    b"tlbi 0 vae2is 0x40\n             ",
-    b"tlbi 0 aside1is 0x1000000000000\n  ",
+    b"tlbi 0 vae2is 0x40\n",
+    b"tlbi 0 aside1is 0x1000000000000\n",
     b"tlbi 0 vmalle1is\n",
-    b"msr 1 ttbr0_el1 0x40001000\n       ",
-    b"lock 1 12 @mm:lock\n                        ",
+    b"tlbi 0 vmalls12e1is\n",
+    b"msr 1 ttbr0_el1 0x40001000\n",
+    b"lock 1 12 @mm:lock\n",
     b"unlock 1 12\n",
+    b"init 0 0x40000000\n",
 ];
+
+/// What is read at once of each has this behind it.
+const BEHIND: &[u8] = &[b' '; 64];
 
 #[test]
 fn a_line_of_each_event_is_read_at_once(rt: HostRuntime) -> Result<(), Fail> {
     let header = read_header(b"bbmlog 4 hyp 16 1 1 1 -")?;
-    for bytes in LINES {
-        let (event, _, count) = quick_line::<u8>(&header, bytes).expect(&rt, "a line");
+    for line in LINES {
+        let mut bytes = Vec::new(rt.alloc());
+        bytes.extend_from_slice(line)?;
+        bytes.extend_from_slice(BEHIND)?;
+        let (event, _, count) = quick_line::<u8>(&header, &bytes).expect(&rt, "a line");
         assert!(rt; bytes.get(count) == Some(&b'\n'));
         match read_event(&header, &bytes[..count]) {
             Ok(Item::Event(read, _)) => assert!(rt; read == event),

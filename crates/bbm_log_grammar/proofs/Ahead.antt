@@ -43,53 +43,38 @@ use Rattle.bbm_regimes.specs.declared.regime.Reg.TheVariants.{Ttbr0El2, VttbrEl2
 use Rattle.bbm_tlbi_scope.specs.Operations.{has_operand}
 use Rattle.bbm_tlbi_scope.specs.declared.op.TlbiOp.{TlbiOp}
 use Rattle.bbm_tlbi_scope.specs.declared.op.TlbiOp.TheVariants.{Vae2is, Vale2is, Vae1is, Vale1is, Ipas2e1is}
-use Rattle.bbm_tlbi_scope.specs.declared.op.TlbiOp.TheVariants.{Vmalle1is, Vaale1is, Alle2is, Aside1is}
+use Rattle.bbm_tlbi_scope.specs.declared.op.TlbiOp.TheVariants.{Vmalle1is, Vmalls12e1is, Vaale1is, Alle2is, Aside1is}
 use Rattle.bbm_log_grammar.specs.Ahead.{StandsFirst, label_part}
 use Rattle.bbm_log_grammar.specs.Digits.{is_lower_digit}
 use Rattle.bbm_log_grammar.proofs.Begun.{begins}
 use Rattle.bbm_log_grammar.proofs.Numerals.{is_base_10, text_value, lower_below}
 use Rattle.bbm_log_grammar.proofs.Parts.{one_label}
 
--- a digit that was read
-read_digit : (byte n : ℕ) → Some n ≡ cond (is_lower_digit 10 byte) (Some (digit_value byte)) None
-    → (is_lower_digit 10 byte ≡ true) × (n ≡ digit_value byte)
-read_digit byte n e = by (is_lower_digit 10 byte) refl e
-  where
-    by : (t : Bool) → is_lower_digit 10 byte ≡ t → Some n ≡ cond t (Some (digit_value byte)) None
-        → (is_lower_digit 10 byte ≡ true) × (n ≡ digit_value byte)
-    by true is f = (is, cc)
-    by false is f = cc
-
 -- a number of one digit
-pub one_digit : (s : List ℕ) (n : ℕ) → 1 ≤ length s
-    → Some n ≡ cond (is_lower_digit 10 (get_or s 0 0)) (Some (digit_value (get_or s 0 0))) None
-    → s ≡ decimal n ++ take (length s - 1) (drop 1 s)
-one_digit [] n some e = absurd (omega arith)
-one_digit (x ∷ xs) n some e =
-    let digit = read_digit x n e in
-    let small : digit_value x < 10 = lower_below 10 is_base_10 x digit.0 in
-    let value : n ≡ 0 * 10 + digit_value x = omega (arith, digit.1) in
-    let spelled : decimal (0 * 10 + digit_value x) ≡ x ∷ [] = text_value 10 is_base_10 x [] (λ _. refl) (rw (digit.0)
+pub one_digit : (s : List ℕ) (n : ℕ) → 1 ≤ length s → is_lower_digit 10 (get_or s 0 0) ≡ true
+    → n ≡ digit_value (get_or s 0 0) → s ≡ decimal n ++ take (length s - 1) (drop 1 s)
+one_digit [] n some is e = absurd (omega arith)
+one_digit (x ∷ xs) n some is e =
+    let small : digit_value x < 10 = lower_below 10 is_base_10 x is in
+    let value : n ≡ 0 * 10 + digit_value x = omega (arith, e) in
+    let spelled : decimal (0 * 10 + digit_value x) ≡ x ∷ [] = text_value 10 is_base_10 x [] (λ _. refl) (rw is
     refl) (omega (arith, small)) in
     let all : take (length (x ∷ xs) - 1) xs ≡ xs = take_all (length (x ∷ xs) - 1) xs (omega arith) in
     rw (all, value, spelled) refl
 
 -- a number of two digits
-pub two_digits : (s : List ℕ) (tens ones : ℕ) → 2 ≤ length s → tens ≢ 0
-    → Some tens ≡ cond (is_lower_digit 10 (get_or s 0 0)) (Some (digit_value (get_or s 0 0))) None
-    → Some ones ≡ cond (is_lower_digit 10 (get_or s 1 0)) (Some (digit_value (get_or s 1 0))) None
+pub two_digits : (s : List ℕ) (tens ones : ℕ) → 2 ≤ length s → tens ≢ 0 → is_lower_digit 10 (get_or s 0 0) ≡ true
+    → is_lower_digit 10 (get_or s 1 0) ≡ true → tens ≡ digit_value (get_or s 0 0) → ones ≡ digit_value (get_or s 1 0)
     → s ≡ decimal (tens * 10 + ones) ++ take (length s - 2) (drop 2 s)
-two_digits [] tens ones some led e f = absurd (omega arith)
-two_digits (x ∷ []) tens ones some led e f = absurd (omega arith)
-two_digits (x ∷ y ∷ ys) tens ones some led e f =
-    let first = read_digit x tens e in
-    let second = read_digit y ones f in
-    let ten : digit_value x < 10 = lower_below 10 is_base_10 x first.0 in
-    let one : digit_value y < 10 = lower_below 10 is_base_10 y second.0 in
-    let value : tens * 10 + ones ≡ (0 * 10 + digit_value x) * 10 + digit_value y = omega (arith, first.1, second.1) in
-    let lead : x ≡ 48 → (y ∷ []) ≡ [] = λ is. absurd (led (first.1 ∙ ap digit_value is)) in
+two_digits [] tens ones some led first second e f = absurd (omega arith)
+two_digits (x ∷ []) tens ones some led first second e f = absurd (omega arith)
+two_digits (x ∷ y ∷ ys) tens ones some led first second e f =
+    let ten : digit_value x < 10 = lower_below 10 is_base_10 x first in
+    let one : digit_value y < 10 = lower_below 10 is_base_10 y second in
+    let value : tens * 10 + ones ≡ (0 * 10 + digit_value x) * 10 + digit_value y = omega (arith, e, f) in
+    let lead : x ≡ 48 → (y ∷ []) ≡ [] = λ is. absurd (led (e ∙ ap digit_value is)) in
     let spelled : decimal ((0 * 10 + digit_value x) * 10 + digit_value y) ≡ x ∷ y ∷ [] =
-    text_value 10 is_base_10 x (y ∷ []) lead (rw (first.0, second.0) refl) (omega (arith, ten, one)) in
+    text_value 10 is_base_10 x (y ∷ []) lead (rw (first, second) refl) (omega (arith, ten, one)) in
     let all : take (length (x ∷ y ∷ ys) - 2) ys ≡ ys = take_all (length (x ∷ y ∷ ys) - 2) ys (omega arith) in
     rw (all, value, spelled) refl
 
@@ -269,7 +254,7 @@ word_tlbi s front a some h0 h1 h2 h3 h4 e =
     begins (codes "tlbi ") s some (h0, (h1, (h2, (h3, (h4, tt)))))
     ∙ ap (λ l. 116 ∷ 108 ∷ 98 ∷ 105 ∷ 32 ∷ l) (sym (take_rest s 5)) ∙ e
 
-pub ruleset words = (word_w, word_isb, word_dsb, word_tlbi)
+pub ruleset words = (word_isb, word_dsb, word_tlbi)
 
 -- the operations of most TLBIs
 
@@ -320,6 +305,15 @@ pub op_vmalle1is : (s : List ℕ) → 10 ≤ length s → get_or s 0 0 ≡ 32 �
 op_vmalle1is s some h0 h1 h2 h3 h4 h5 h6 h7 h8 h9 =
     begins (codes " vmalle1is") s some (h0, (h1, (h2, (h3, (h4, (h5, (h6, (h7, (h8, (h9, tt))))))))))
     ∙ ap (λ l. codes " vmalle1is" ++ l) (sym (take_rest s 10))
+
+pub op_vmalls12e1is : (s : List ℕ) → 13 ≤ length s → get_or s 0 0 ≡ 32 → get_or s 1 0 ≡ 118 → get_or s 2 0 ≡ 109
+    → get_or s 3 0 ≡ 97 → get_or s 4 0 ≡ 108 → get_or s 5 0 ≡ 108 → get_or s 6 0 ≡ 115 → get_or s 7 0 ≡ 49
+    → get_or s 8 0 ≡ 50 → get_or s 9 0 ≡ 101 → get_or s 10 0 ≡ 49 → get_or s 11 0 ≡ 105 → get_or s 12 0 ≡ 115
+    → s ≡ 32 ∷ (op_word Vmalls12e1is ++ take (length s - 13) (drop 13 s))
+op_vmalls12e1is s some h0 h1 h2 h3 h4 h5 h6 h7 h8 h9 h10 h11 h12 =
+    begins (codes " vmalls12e1is") s some
+    (h0, (h1, (h2, (h3, (h4, (h5, (h6, (h7, (h8, (h9, (h10, (h11, (h12, tt)))))))))))))
+    ∙ ap (λ l. codes " vmalls12e1is" ++ l) (sym (take_rest s 13))
 
 pub op_vaale1is : (s : List ℕ) → 9 ≤ length s → get_or s 0 0 ≡ 32 → get_or s 1 0 ≡ 118 → get_or s 2 0 ≡ 97
     → get_or s 3 0 ≡ 97 → get_or s 4 0 ≡ 108 → get_or s 5 0 ≡ 101 → get_or s 6 0 ≡ 49 → get_or s 7 0 ≡ 105
@@ -437,6 +431,19 @@ word_lock s front a some h0 h1 h2 h3 h4 e =
     begins (codes "lock ") s some (h0, (h1, (h2, (h3, (h4, tt)))))
     ∙ ap (λ l. 108 ∷ 111 ∷ 99 ∷ 107 ∷ 32 ∷ l) (sym (take_rest s 5)) ∙ e
 
+-- the fields of a page that is initialised
+pub init_fields : (pe page : ℕ) (s a b : List ℕ) → s ≡ decimal pe ++ a → a ≡ 32 ∷ (hex page ++ b)
+    → 105 ∷ 110 ∷ 105 ∷ 116 ∷ 32 ∷ s ≡ joined (event_fields (event.Init pe page)) ++ b
+init_fields pe page s a b first second =
+    ap (λ l. 105 ∷ 110 ∷ 105 ∷ 116 ∷ 32 ∷ l) (two_fields (decimal pe) (hex page) s a b first second)
+
+pub word_init : (s front a : List ℕ) → 5 ≤ length s → get_or s 0 0 ≡ 105 → get_or s 1 0 ≡ 110 → get_or s 2 0 ≡ 105
+    → get_or s 3 0 ≡ 116 → get_or s 4 0 ≡ 32
+    → 105 ∷ 110 ∷ 105 ∷ 116 ∷ 32 ∷ take (length s - 5) (drop 5 s) ≡ front ++ a → s ≡ front ++ a
+word_init s front a some h0 h1 h2 h3 h4 e =
+    begins (codes "init ") s some (h0, (h1, (h2, (h3, (h4, tt)))))
+    ∙ ap (λ l. 105 ∷ 110 ∷ 105 ∷ 116 ∷ 32 ∷ l) (sym (take_rest s 5)) ∙ e
+
 pub word_unlock : (s front a : List ℕ) → 7 ≤ length s → get_or s 0 0 ≡ 117 → get_or s 1 0 ≡ 110 → get_or s 2 0 ≡ 108
     → get_or s 3 0 ≡ 111 → get_or s 4 0 ≡ 99 → get_or s 5 0 ≡ 107 → get_or s 6 0 ≡ 32
     → 117 ∷ 110 ∷ 108 ∷ 111 ∷ 99 ∷ 107 ∷ 32 ∷ take (length s - 7) (drop 7 s) ≡ front ++ a → s ≡ front ++ a
@@ -445,3 +452,5 @@ word_unlock s front a some h0 h1 h2 h3 h4 h5 h6 e =
     ∙ ap (λ l. 117 ∷ 110 ∷ 108 ∷ 111 ∷ 99 ∷ 107 ∷ 32 ∷ l) (sym (take_rest s 7)) ∙ e
 
 pub ruleset further_words = (word_dmb, word_msr, word_dsb, word_tlbi)
+
+pub ruleset rarer_words = (word_lock, word_unlock, word_init)

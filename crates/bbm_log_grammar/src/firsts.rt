@@ -180,24 +180,24 @@ fn any_keyword<'a>(fields: Fields<'a>) -> Result<(Keyword, Fields<'a>), Malforme
 }
 
 /// The bytes `w `.
-const WRITE: u16 = 0x2077;
+pub(crate) const WRITE: u16 = 0x2077;
 /// The bytes `dsb `.
-const DSB: u32 = 0x2062_7364;
+pub(crate) const DSB: u32 = 0x2062_7364;
 /// The bytes `isb `.
-const ISB: u32 = 0x2062_7369;
+pub(crate) const ISB: u32 = 0x2062_7369;
 /// The bytes `dmb `.
 const DMB: u32 = 0x2062_6d64;
 /// The bytes `msr `.
 const MSR: u32 = 0x2072_736d;
 /// The bytes `tlbi`.
-const TLBI: u32 = 0x6962_6c74;
+pub(crate) const TLBI: u32 = 0x6962_6c74;
 /// The bytes `lock`.
 const LOCK: u32 = 0x6b63_6f6c;
 
 /// The first two bytes as a number, of which the first byte is the lowest, and the two after them; 0 and 0 where there
 /// are fewer than four.
 #[inline(always)]
-fn first_pairs(line: &[u8]) -> (u16, u16)
+pub(crate) fn first_pairs(line: &[u8]) -> (u16, u16)
     ensures few { length line.now < 4 → result ≡ (0, 0) }
     ensures first { 4 ≤ length line.now → result.0 ≡ get_or line.now 0 0 + get_or line.now 1 0 * 256 }
     ensures second { 4 ≤ length line.now → result.1 ≡ get_or line.now 2 0 + get_or line.now 3 0 * 256 }

@@ -15,7 +15,7 @@ use crate::quick::{decimal_ahead, hex_ahead, option_ahead, pe_ahead, whole_line}
 use crate::values::lock_of;
 use bbm_barriers::{Domain, Dsb, Types};
 use bbm_events::{Event, Header, has_op};
-use bbm_regimes::Reg;
+use bbm_regimes::{Page, Reg};
 use bbm_tlbi_scope::TlbiOp;
 
 /// The barrier of this domain for these accesses.
@@ -123,7 +123,40 @@ fn other_operand_op<'a>(bytes: &'a [u8]) -> Option<(TlbiOp, &'a [u8])>
     }
 }
 
-/// One of four further operations behind a space at the front, and the bytes behind it.
+/// The operation for both stages of one VMID behind a space at the front, or one with an operand, and the bytes behind
+/// it.
+#[inline(always)]
+#[tactic(auto, using(crate::proofs::Ahead::op_vmalls12e1is))]
+fn both_stages_op<'a>(bytes: &'a [u8]) -> Option<(TlbiOp, &'a [u8])>
+    ensures { IfSome result (λ x. bytes.now ≡ 32 ∷ op_word x.0 ++ x.1.now) }
+{
+    match bytes {
+        [
+            b' ',
+            b'v',
+            b'm',
+            b'a',
+            b'l',
+            b'l',
+            b's',
+            b'1',
+            b'2',
+            b'e',
+            b'1',
+            b'i',
+            b's',
+            rest @ ..,
+        ] => Some((TlbiOp::Vmalls12e1is, rest)),
+        _ => {
+            let Some((op, rest)) = other_operand_op(bytes) else {
+                return None;
+            };
+            Some((op, rest))
+        }
+    }
+}
+
+/// One of five further operations behind a space at the front, and the bytes behind it.
 #[inline(always)]
 #[tactic(auto, using(crate::proofs::Ahead::further_operations))]
 fn other_op<'a>(bytes: &'a [u8]) -> Option<(TlbiOp, &'a [u8])>
@@ -148,7 +181,7 @@ fn other_op<'a>(bytes: &'a [u8]) -> Option<(TlbiOp, &'a [u8])>
             rest,
         )),
         _ => {
-            let Some((op, rest)) = other_operand_op(bytes) else {
+            let Some((op, rest)) = both_stages_op(bytes) else {
                 return None;
             };
             Some((op, rest))
@@ -327,10 +360,26 @@ fn unlock_ahead<'a>(header: &Header, bytes: &'a [u8]) -> Option<(Event, &'a [u8]
     Some((Event::Unlock { pe, lock }, rest))
 }
 
-/// The event of a lock at the front, and the bytes behind it.
+/// The initialised page behind its word, and the bytes behind it.
 #[inline(always)]
-#[tactic(auto, using(crate::proofs::Ahead::word_lock, crate::proofs::Ahead::word_unlock))]
-fn lock_event<'a>(header: &Header, bytes: &'a [u8]) -> Option<(Event, &'a [u8])>
+#[tactic(auto, using(crate::proofs::Ahead::init_fields))]
+fn init_ahead<'a>(header: &Header, bytes: &'a [u8]) -> Option<(Event, &'a [u8])>
+    ensures { IfSome result (λ x.
+        (105 ∷ 110 ∷ 105 ∷ 116 ∷ 32 ∷ bytes.now ≡ joined (event_fields x.0) ++ x.1.now)
+        × (fits_heading header.now x.0 ≡ true)) }
+{
+    let Some((pe, rest)) = pe_ahead(header, bytes) else {
+        return None;
+    };
+    let (address, rest) = hex_ahead(rest)?;
+    let page = Page::new(address)?;
+    Some((Event::Init { pe, page }, rest))
+}
+
+/// The event of a lock, or of a page that is initialised, at the front, and the bytes behind it.
+#[inline(always)]
+#[tactic(auto, using(crate::proofs::Ahead::rarer_words))]
+fn rarer_event<'a>(header: &Header, bytes: &'a [u8]) -> Option<(Event, &'a [u8])>
     ensures { IfSome result (λ x. (bytes.now ≡ joined (event_fields x.0) ++ x.1.now)
         × (fits_heading header.now x.0 ≡ true)) }
 {
@@ -343,6 +392,12 @@ fn lock_event<'a>(header: &Header, bytes: &'a [u8]) -> Option<(Event, &'a [u8])>
         }
         [b'u', b'n', b'l', b'o', b'c', b'k', b' ', rest @ ..] => {
             let Some((event, rest)) = unlock_ahead(header, rest) else {
+                return None;
+            };
+            Some((event, rest))
+        }
+        [b'i', b'n', b'i', b't', b' ', rest @ ..] => {
+            let Some((event, rest)) = init_ahead(header, rest) else {
                 return None;
             };
             Some((event, rest))
@@ -384,7 +439,7 @@ fn further_event<'a>(header: &Header, bytes: &'a [u8]) -> Option<(Event, &'a [u8
             Some((event, rest))
         }
         _ => {
-            let Some((event, rest)) = lock_event(header, bytes) else {
+            let Some((event, rest)) = rarer_event(header, bytes) else {
                 return None;
             };
             Some((event, rest))

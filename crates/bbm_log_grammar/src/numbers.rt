@@ -1,18 +1,38 @@
 //! The two spellings of a number.
 //! Source: project's own choice, where no other is named.
 
-ghost use Rattle.std.specs.Prelude.{◌≡◌, ◌+◌, ◌*◌, ◌^◌, ◌<◌, ◌≤◌, if◌then◌else◌, Some, None, IfSome};
+ghost use Rattle.std.specs.Prelude.{◌≡◌, ◌+◌, ◌*◌, ◌^◌, ◌<◌, ◌≤◌, if◌then◌else◌, Some, None, IfSome, true};
 ghost use Rattle.std.specs.Char.{digit_value};
 ghost use Rattle.bbm_events.specs.Spelling.{decimal_value, hex_value};
 ghost use Rattle.bbm_log_grammar.specs.Digits as digits;
+
+/// Whether the byte is a decimal digit.
+#[inline(always)]
+pub(crate) fn is_decimal(byte: u8) -> bool
+    ensures { result ≡ digits.is_lower_digit 10 byte }
+{
+    byte.wrapping_sub(b'0') < 10
+}
+
+/// The value of this decimal digit, 0 to 9.
+#[inline(always)]
+pub(crate) fn decimal_worth(byte: u8) -> u64
+    requires { digits.is_lower_digit 10 byte ≡ true }
+    ensures { result ≡ digit_value byte }
+{
+    byte.wrapping_sub(b'0') as u64
+}
 
 /// The value of a decimal digit, 0 to 9.
 #[inline]
 pub(crate) fn decimal_digit(byte: u8) -> Option<u64>
     ensures { result ≡ (if digits.is_lower_digit 10 byte then Some (digit_value byte) else None) }
 {
-    let digit = byte.wrapping_sub(b'0');
-    if digit < 10 { Some(digit as u64) } else { None }
+    if is_decimal(byte) {
+        Some(decimal_worth(byte))
+    } else {
+        None
+    }
 }
 
 /// The value of each byte as a lower-case hex digit, and 65536 for a byte that is none.

@@ -14,16 +14,19 @@ ghost use Rattle.bbm_events.specs.declared.event.Item.TheVariants as item;
 ghost use Rattle.bbm_log_grammar.specs.Ahead.{StandsFirst, first_set, label_part, worth_after};
 ghost use Rattle.bbm_log_grammar.specs.Digits.{is_lower_digit};
 
-use crate::firsts::inner;
+use crate::firsts::{DSB, ISB, TLBI, WRITE, first_pairs, inner};
 use crate::further::further_line;
 use crate::line::LabelText;
-use crate::numbers::decimal_digit;
+use crate::numbers::{decimal_worth, is_decimal};
 use crate::values::pe_of;
 use bbm_barriers::{Dsb, Types};
 use bbm_events::{Event, Header, has_op, law_written_is_a_line, law_written_is_read};
 use bbm_regimes::{Pe, Place};
 use bbm_tlbi_scope::TlbiOp;
 use std::simd::prelude::*;
+
+/// So many bytes have the longest event of these in them, and more: a write takes at most 42.
+const LEAST: usize = 64;
 
 /// The number of the lowest bit of the mask that is set, or of its lanes where none is.
 #[inline(always)]
@@ -125,17 +128,17 @@ pub(crate) fn decimal_ahead<'a>(bytes: &'a [u8]) -> Option<(u64, &'a [u8])>
 {
     match bytes {
         [first, second, rest @ ..] => {
-            let tens = decimal_digit(*first)?;
-            match decimal_digit(*second) {
-                None => Some((tens, &bytes[1..])),
-                Some(ones) => {
-                    if tens == 0 {
-                        None
-                    } else {
-                        Some((tens * 10 + ones, rest))
-                    }
-                }
+            if !is_decimal(*first) {
+                return None;
             }
+            let tens = decimal_worth(*first);
+            if !is_decimal(*second) {
+                return Some((tens, &bytes[1..]));
+            }
+            if tens == 0 {
+                return None;
+            }
+            Some((tens * 10 + decimal_worth(*second), rest))
         }
         _ => None,
     }
@@ -307,33 +310,48 @@ fn tlbi_ahead<'a>(header: &Header, bytes: &'a [u8]) -> Option<(Event, &'a [u8])>
     }
 }
 
-/// The event at the front, and the bytes behind it.
+/// The write at the front, and the bytes behind it.
+#[inline(always)]
+#[tactic(auto, using(crate::proofs::Ahead::word_w))]
+fn write_begun<'a>(header: &Header, bytes: &'a [u8]) -> Option<(Event, &'a [u8])>
+    ensures { IfSome result (λ x. (bytes.now ≡ joined (event_fields x.0) ++ x.1.now)
+        × (fits_heading header.now x.0 ≡ true)) }
+{
+    let (first, _) = first_pairs(bytes);
+    match bytes {
+        [_, _, rest @ ..] if first == WRITE => {
+            let Some((event, rest)) = write_ahead(header, rest) else {
+                return None;
+            };
+            Some((event, rest))
+        }
+        _ => None,
+    }
+}
+
+/// Another event at the front, and the bytes behind it.
 #[inline(always)]
 #[tactic(auto, using(crate::proofs::Ahead::words))]
 fn event_ahead<'a>(header: &Header, bytes: &'a [u8]) -> Option<(Event, &'a [u8])>
     ensures { IfSome result (λ x. (bytes.now ≡ joined (event_fields x.0) ++ x.1.now)
         × (fits_heading header.now x.0 ≡ true)) }
 {
+    let (first, second) = first_pairs(bytes);
+    let word = first as u32 + second as u32 * 65536;
     match bytes {
-        [b'w', b' ', rest @ ..] => {
-            let Some((event, rest)) = write_ahead(header, rest) else {
-                return None;
-            };
-            Some((event, rest))
-        }
-        [b'i', b's', b'b', b' ', rest @ ..] => {
+        [_, _, _, _, rest @ ..] if word == ISB => {
             let Some((event, rest)) = isb_ahead(header, rest) else {
                 return None;
             };
             Some((event, rest))
         }
-        [b'd', b's', b'b', b' ', rest @ ..] => {
+        [_, _, _, _, rest @ ..] if word == DSB => {
             let Some((event, rest)) = dsb_ahead(header, rest) else {
                 return None;
             };
             Some((event, rest))
         }
-        [b't', b'l', b'b', b'i', b' ', rest @ ..] => {
+        [_, _, _, _, b' ', rest @ ..] if word == TLBI => {
             let Some((event, rest)) = tlbi_ahead(header, rest) else {
                 return None;
             };
@@ -364,11 +382,18 @@ pub(crate) fn whole_line<'a>(
     Some((event, label, bytes.len() - rest.len() - 1))
 }
 
-/// What `quick_line` answers of the lines that most logs have.
+/// What `quick_line` answers of the lines that most logs have. One test of the length stands for those of the parts. A
+/// write goes its own way to its end.
 #[inline(always)]
 fn near_line<'a>(header: &Header, bytes: &'a [u8]) -> Option<(Event, Option<LabelText<'a>>, usize)>
     ensures { IfSome result (λ x. StandsFirst header.now (item.Event x.0 x.1) x.2 bytes.now) }
 {
+    if bytes.len() < LEAST {
+        return None;
+    }
+    if let Some((event, rest)) = write_begun(header, bytes) {
+        return whole_line(header, bytes, event, rest);
+    }
     let Some((event, rest)) = event_ahead(header, bytes) else {
         return None;
     };
@@ -387,9 +412,9 @@ fn far_line<'a>(header: &Header, bytes: &'a [u8]) -> Option<(Event, Option<Label
 }
 
 /// The event of a line that lies whole at the front of these bytes, with its label, and the number of bytes before its
-/// newline. None says nothing: it comes for lines that few logs have, for a PE of three digits, and where fewer than 16
-/// bytes follow the mark of a number, or 32 that of a label. Each reader `R` has code of its own, so that it can be
-/// made part of the reader's loop; the answer doesn't depend on it.
+/// newline. None says nothing: it comes for lines that few logs have, for a PE of three digits, and where fewer than 64
+/// bytes are given, 16 follow the mark of a number, or 32 that of a label. Each reader `R` has code of its own, so that
+/// it can be made part of the reader's loop; the answer doesn't depend on it.
 #[inline(always)]
 pub fn quick_line<'a, R>(
     header: &Header,

@@ -32,6 +32,7 @@ pub(crate) fn version_of(field: &[u8]) -> Option<u8>
 }
 
 /// The PE of the log with this number.
+#[inline(always)]
 pub(crate) fn pe_of(header: &Header, number: u64) -> Option<Pe>
     ensures { result ≡ lines.passing (fits.is_pe header.now) (Some number) }
 {

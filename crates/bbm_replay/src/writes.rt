@@ -38,7 +38,7 @@ use bbm_tree_index::{Attach, Path};
 use std::alloc::Global;
 
 /// To look through so many broken places takes less than to go up a tree.
-const MANY: u64 = 64;
+const MANY: u64 = 32;
 
 /// Whether both are cores, and they differ.
 #[inline(always)]

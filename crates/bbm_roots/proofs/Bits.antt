@@ -1,5 +1,5 @@
 -- Tests of tags and sets of PEs.
-use Rattle.std.proofs.Common.{◌≡◌, ℕ, zero, suc, ◌<◌, ◌≤◌, Bool, true, false, ◌&&◌, not, nat_lt, nat_eq, refl}
+use Rattle.std.proofs.Common.{◌≡◌, ℕ, zero, suc, ◌<◌, ◌≤◌, Bool, true, false, ◌&&◌, ◌||◌, not, nat_lt, nat_eq, refl}
 use Rattle.std.proofs.Common.{sym, ◌∙◌, ap, arith, IsTrue, ⊎_elim}
 use Rattle.std.proofs.lemmas.Bool.{true_from_ne_false, cases_lt, false≢true, lt-ltb, ltb-true, eqb-true, eq-eqb}
 use Rattle.bbm_lemmas.proofs.Tautologies.{proved}
@@ -27,6 +27,16 @@ none_at (suc n) test p e lt =
     let same : p ≡ n = omega arith in
     ap test same ∙ first_none (test n) (some_pe n test) e)
     (cases_lt p n)
+
+-- some PE below n passes
+pub some-found : (n : ℕ) (test : ℕ → Bool) → some_pe n test ≡ true → (p : ℕ) × (test p ≡ true)
+some-found zero test e = absurd (false≢true e)
+some-found (suc n) test e = by_last (some-found n test) (test n) refl e
+  where
+    by_last : (some_pe n test ≡ true → (p : ℕ) × (test p ≡ true)) → (b : Bool) → test n ≡ b →
+        (b || some_pe n test) ≡ true → (p : ℕ) × (test p ≡ true)
+    by_last less true k e = (n, k)
+    by_last less false k e = less e
 
 -- whether the common part with the first n PEs is empty
 pub some_pe-empty : (n : ℕ) (test both : ℕ → Bool) (r : Bool) → ((p : ℕ) → both p ≡ (test p && nat_lt p n)) →

@@ -15,6 +15,7 @@ pub mod Rooted
 pub mod Judged
 pub mod Taken
 pub mod Settled
+pub mod Shared
 pub mod Numbers
 pub mod Users
 pub mod Callers

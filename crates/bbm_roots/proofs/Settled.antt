@@ -38,14 +38,14 @@ use mathlib.Core.Bool.{or-false, and-false}
 
 -- what a test finds among readings, with those of one more value
 module _ (t : Reading → Bool) where
-  ahead : (ls xs ys : List Reading) → list_any t ((ls ++ xs) ++ ys) ≡ (list_any t ls || list_any t (xs ++ ys))
+  pub ahead : (ls xs ys : List Reading) → list_any t ((ls ++ xs) ++ ys) ≡ (list_any t ls || list_any t (xs ++ ys))
   ahead ls xs ys =
       list_any-append t (ls ++ xs) ys
       ∙ ap (λ (b : Bool). b || list_any t ys) (list_any-append t ls xs)
       ∙ proved 3 (λ a b c. Is ((a || b) || c) (a || (b || c))) refl (list_any t ls) (list_any t xs) (list_any t ys)
       ∙ ap (λ (b : Bool). list_any t ls || b) (sym (list_any-append t xs ys))
 
-  behind : (xs ls ys : List Reading) → list_any t (xs ++ (ls ++ ys)) ≡ (list_any t ls || list_any t (xs ++ ys))
+  pub behind : (xs ls ys : List Reading) → list_any t (xs ++ (ls ++ ys)) ≡ (list_any t ls || list_any t (xs ++ ys))
   behind xs ls ys =
       list_any-append t xs (ls ++ ys)
       ∙ ap (λ (b : Bool). list_any t xs || b) (list_any-append t ls ys)
@@ -173,7 +173,7 @@ module _ {S : Type 0} (hs : IndexMap ℕ Held S) (pe : ℕ) (g : Tag) (r : ℕ) 
           (own_reading Ttbr1 load) upper) ∙ e)
 
 -- an entry is of one root
-one-root : (n : ℕ) (g : Tag) (r s p : ℕ) (o : Option Held) → entry_bit g r p o ≡ true → nat_eq r s ≡ false →
+pub one-root : (n : ℕ) (g : Tag) (r s p : ℕ) (o : Option Held) → entry_bit g r p o ≡ true → nat_eq r s ≡ false →
     (entry_held n g s o ≡ false) × ((q : ℕ) → entry_bit g s q o ≡ false)
 one-root n g r s p None e apart = absurd (false≢true e)
 one-root n g r s p (Some held) e apart =
@@ -187,33 +187,36 @@ one-root n g r s p (Some held) e apart =
     )
 
 module _ {S : Type 0} (hs : IndexMap ℕ Held S) (pe : ℕ) where
-  -- where all that is then readable is held, nothing is in conflict, and nothing more is held
+  -- where all that is then readable is held at some PE, nothing is in conflict
+  pub no-clash : (seen : List Reading) →
+      ((g : Tag) (r : ℕ) → has_reading g r seen ≡ true → (q : ℕ) × (hold_in hs g r q ≡ true)) →
+      (n : ℕ) (x : Reading) → conflict_in hs n seen x ≡ false
+  no-clash seen held n x = by_other (has_other x.tag x.root seen) refl
+    where
+      by_other : (b : Bool) → has_other x.tag x.root seen ≡ b →
+          (b && (has_reading x.tag x.root seen || tag_in hs n x.tag x.root)) ≡ false
+      by_other false e = refl
+      by_other true e =
+          let y = any_found (is_other x.tag x.root) seen e in
+          let tags : same_tag y.0.tag x.tag ≡ true =
+          first_true (same_tag y.0.tag x.tag) (not (nat_eq y.0.root x.root)) y.2 in
+          let apart : nat_eq y.0.root x.root ≡ false =
+          not-true (nat_eq y.0.root x.root) (and_right (same_tag y.0.tag x.tag) (not (nat_eq y.0.root x.root)) y.2) in
+          let there : has_reading x.tag y.0.root seen ≡ true =
+          any_finds (is_reading x.tag y.0.root) seen y.0 y.1
+          (ap (λ (b : Bool). b && nat_eq y.0.root y.0.root) tags ∙ eq-eqb y.0.root y.0.root refl) in
+          let q = held x.tag y.0.root there in
+          let others = one-root n x.tag y.0.root x.root q.0 (get nat_eq hs (tag_key x.tag)) q.1 apart in
+          unread (has_reading x.tag x.root seen) refl others.1 ∙ others.0
+        where
+          unread : (b : Bool) → has_reading x.tag x.root seen ≡ b → ((p : ℕ) → hold_in hs x.tag x.root p ≡ false) →
+              (b || tag_in hs n x.tag x.root) ≡ tag_in hs n x.tag x.root
+          unread false k none = refl
+          unread true k none = let q = held x.tag x.root k in absurd (false≢true (sym (none q.0) ∙ q.1))
+
+  -- where all that is then readable is held, nothing more is
   module _ (seen : List Reading)
       (held : (g : Tag) (r : ℕ) → has_reading g r seen ≡ true → hold_in hs g r pe ≡ true) where
-    pub no-clash : (n : ℕ) (x : Reading) → conflict_in hs n seen x ≡ false
-    no-clash n x = by_other (has_other x.tag x.root seen) refl
-      where
-        by_other : (b : Bool) → has_other x.tag x.root seen ≡ b →
-            (b && (has_reading x.tag x.root seen || tag_in hs n x.tag x.root)) ≡ false
-        by_other false e = refl
-        by_other true e =
-            let y = any_found (is_other x.tag x.root) seen e in
-            let tags : same_tag y.0.tag x.tag ≡ true =
-            first_true (same_tag y.0.tag x.tag) (not (nat_eq y.0.root x.root)) y.2 in
-            let apart : nat_eq y.0.root x.root ≡ false =
-            not-true (nat_eq y.0.root x.root) (and_right (same_tag y.0.tag x.tag) (not (nat_eq y.0.root x.root)) y.2) in
-            let there : has_reading x.tag y.0.root seen ≡ true =
-            any_finds (is_reading x.tag y.0.root) seen y.0 y.1
-            (ap (λ (b : Bool). b && nat_eq y.0.root y.0.root) tags ∙ eq-eqb y.0.root y.0.root refl) in
-            let others =
-            one-root n x.tag y.0.root x.root pe (get nat_eq hs (tag_key x.tag)) (held x.tag y.0.root there) apart in
-            unread (has_reading x.tag x.root seen) refl (others.1 pe) ∙ others.0
-          where
-            unread : (b : Bool) → has_reading x.tag x.root seen ≡ b → hold_in hs x.tag x.root pe ≡ false →
-                (b || tag_in hs n x.tag x.root) ≡ tag_in hs n x.tag x.root
-            unread false k none = refl
-            unread true k none = absurd (false≢true (sym none ∙ held x.tag x.root k))
-
     pub held-stays : (g : Tag) (r p : ℕ) →
         hold_in hs g r p ≡ (hold_in hs g r p || (nat_eq p pe && has_reading g r seen))
     held-stays g r p = by_case (nat_eq p pe) (has_reading g r seen) refl refl
@@ -226,6 +229,19 @@ module _ {S : Type 0} (hs : IndexMap ℕ Held S) (pe : ℕ) where
             let h : hold_in hs g r p ≡ true = ap (hold_in hs g r) (eqb-true p pe e) ∙ held g r k in
             h ∙ sym (ap (λ (b : Bool). b || true) h)
 
+-- what is readable is held
+pub read-held : (roots : Roots) (pe : ℕ) (cs : List Call) → Stands roots cs → pe < pes_of roots → (g : Tag) (r : ℕ) →
+    has_reading g r (readings_of (world_of roots) (loads_in roots.registers.first.items pe)
+    (loads_in roots.registers.second.items pe)) ≡ true → hold_in roots.holds g r pe ≡ true
+read-held roots pe cs stands known g r e =
+    stands.holds g r pe
+    ∙ reads-holds (world_of roots) cs g r pe
+    (ap (λ (ys : List Load). has_reading g r (readings_of (world_of roots)
+    (register_values cs pe (first_reg (world_of roots))) ys)) (sym (stands.second pe known))
+    ∙ ap (λ (xs : List Load). has_reading g r (readings_of (world_of roots) xs
+    (loads_in roots.registers.second.items pe))) (sym (stands.first pe known))
+    ∙ e)
+
 -- where what a value makes readable anew is held, all that is readable after its write is
 pub held-after : (roots : Roots) (pe : ℕ) (reg : Reg) (load : Load) (cs : List Call) → Stands roots cs →
     pe < pes_of roots →
@@ -234,15 +250,5 @@ pub held-after : (roots : Roots) (pe : ℕ) (reg : Reg) (load : Load) (cs : List
     hold_in roots.holds g r pe ≡ true
 held-after roots pe reg load cs stands known new g r =
     new-held roots.holds pe g r (world_of roots) (is_first reg) load
-    (loads_in roots.registers.first.items pe) (loads_in roots.registers.second.items pe) new old
-  where
-    old : has_reading g r (readings_of (world_of roots) (loads_in roots.registers.first.items pe)
-        (loads_in roots.registers.second.items pe)) ≡ true → hold_in roots.holds g r pe ≡ true
-    old e =
-        stands.holds g r pe
-        ∙ reads-holds (world_of roots) cs g r pe
-        (ap (λ (ys : List Load). has_reading g r (readings_of (world_of roots)
-        (register_values cs pe (first_reg (world_of roots))) ys)) (sym (stands.second pe known))
-        ∙ ap (λ (xs : List Load). has_reading g r (readings_of (world_of roots) xs
-        (loads_in roots.registers.second.items pe))) (sym (stands.first pe known))
-        ∙ e)
+    (loads_in roots.registers.first.items pe) (loads_in roots.registers.second.items pe) new
+    (read-held roots pe cs stands known g r)

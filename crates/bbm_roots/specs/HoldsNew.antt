@@ -12,6 +12,18 @@ use Rattle.bbm_roots.specs.Holds.{hold_in}
 use Rattle.bbm_roots.specs.declared.hold.Held.{Held}
 use Rattle.bbm_roots.specs.declared.load.Load.{Load}
 
+-- The one tag that a new value makes readable, of the first register of the world or the second, where that depends on
+-- the value alone; None where it depends on the other register too.
+abbrev pub kernel_tag : AsidFrom → Bool → ℕ → Option Tag
+kernel_tag FromTtbr0 true number = Some (Asid number)
+kernel_tag FromTtbr0 false number = Some Ttbr1
+kernel_tag FromTtbr1 first number = None
+
+abbrev pub own_tag : World → Bool → ℕ → Option Tag
+own_tag (Hyp world) true number = Some El2
+own_tag (Hyp world) false number = Some (Vmid number)
+own_tag (Kernel world) first number = kernel_tag world.asid_from first number
+
 module _ {S : Type 0} (holds : IndexMap ℕ Held S) (p : ℕ) where
   -- whether the PE p holds the tag for the root, where there is one
   abbrev pub holds_root : Tag → Option ℕ → Bool

@@ -1,10 +1,11 @@
 -- How roots judge a call, by the calls that they stand for. A list of calls is newest first.
 -- Source: project's own choice.
-use Rattle.std.specs.Prelude.{◌≡◌, ◌≢◌, ◌≤◌, ◌<◌, ◌↔◌, ℕ, true, List, length, Result, Err, IfErr}
+use Rattle.std.specs.Prelude.{◌≡◌, ◌≢◌, ◌≤◌, ◌<◌, ◌↔◌, ℕ, true, List, length, Result, Err, IfErr, Some}
 use Rattle.bbm_regimes.specs.declared.regime.Reg.{Reg}
 use Rattle.bbm_regimes.specs.declared.regime.Which.TheVariants.{Roots as RootCount}
 use Rattle.bbm_roots.specs.DeclaredRoots.{root_at, roots_of}
-use Rattle.bbm_roots.specs.HoldsNew.{holds_new}
+use Rattle.bbm_roots.specs.Holds.{tag_in}
+use Rattle.bbm_roots.specs.HoldsNew.{holds_new, own_tag}
 use Rattle.bbm_roots.specs.LoadsOf.{loads_of, other_loads}
 use Rattle.bbm_roots.specs.Refusals.{JudgesRetire}
 use Rattle.bbm_roots.specs.RootCalls.{Call}
@@ -15,6 +16,7 @@ use Rattle.bbm_roots.specs.RootTags.{holds_tag}
 use Rattle.bbm_roots.specs.declared.fault.RootFault.{RootFault}
 use Rattle.bbm_roots.specs.declared.fault.RootFault.TheVariants.{Limit, NoMemory}
 use Rattle.bbm_roots.specs.declared.load.Load.{Load}
+use Rattle.bbm_roots.specs.declared.reading.Reading.{Reading}
 use Rattle.bbm_roots.specs.declared.roots.Roots.{Roots}
 
 -- One more root: the limit is reached exactly where 1,024 are declared; else memory alone may be wanting.
@@ -35,3 +37,12 @@ pub record IsSettled (pe : ℕ) (reg : Reg) (load : Load) (roots : Roots) : Type
   pub room : length (loads_of roots.registers pe reg) < 9
   pub quiet : IsQuiet roots.pendings
   pub held : holds_new roots.holds pe (world_of roots) (is_first reg) load (other_loads roots.registers pe reg) ≡ true
+
+-- A write of the value makes one tag readable anew, which its root holds at some PE: the register isn't full, and no
+-- TLBI waits.
+pub record IsShared (pe : ℕ) (reg : Reg) (load : Load) (reading : Reading) (roots : Roots) : Type 0 where
+  pub room : length (loads_of roots.registers pe reg) < 9
+  pub quiet : IsQuiet roots.pendings
+  pub tag : own_tag (world_of roots) (is_first reg) load.number ≡ Some reading.tag
+  pub root : load.root ≡ Some reading.root
+  pub held : tag_in roots.holds (pes_of roots) reading.tag reading.root ≡ true

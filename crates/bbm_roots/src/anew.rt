@@ -1,13 +1,95 @@
 //! Whether a PE holds what a new value of a register makes readable.
 //! Source: project's own choice.
 
-ghost use Rattle.std.specs.Prelude.{◌≡◌};
+ghost use Rattle.std.specs.Prelude.{◌≡◌, Some, true};
 ghost use Rattle.std.specs.List.{list_all};
+ghost use Rattle.bbm_roots.specs.Holds.{hold_in, tag_in};
 ghost use Rattle.bbm_roots.specs.HoldsNew as spec;
+ghost use Rattle.bbm_roots.specs.declared.reading.Reading.{Reading as TheReading};
 
-use crate::hold::{Holds, is_held_at};
+use crate::count::PeCount;
+use crate::hold::{Holds, is_held_at, is_hold, some_pe, tag_key};
 use crate::load::Load;
+use crate::reading::Reading;
 use bbm_regimes::{AsidFrom, Page, Pe, Tag, World};
+
+/// What is known of the tags that a new value makes readable.
+#[derive(Clone, Copy, Debug)]
+pub enum Known {
+    /// The PE holds each of them, for its root.
+    Held,
+    /// There is this one, which its root holds at some PE.
+    Shared(Reading),
+    /// Nothing.
+    Open,
+}
+
+/// The one tag that a new value makes readable, of the first register of the world or the second, where that depends on
+/// the value alone.
+pub fn own_tag(world: World, first: bool, number: u16) -> Option<Tag>
+    ensures { result ≡ spec.own_tag world first number }
+{
+    match world {
+        World::Hyp(_) => {
+            if first {
+                Some(Tag::El2)
+            } else {
+                Some(Tag::Vmid(number))
+            }
+        }
+        World::Kernel(world) => kernel_tag(world.asid_from, first, number),
+    }
+}
+
+/// The same in the Kernel world.
+fn kernel_tag(asid_from: AsidFrom, first: bool, number: u16) -> Option<Tag>
+    ensures { result ≡ spec.kernel_tag asid_from first number }
+{
+    match asid_from {
+        AsidFrom::Ttbr0 => {
+            if first {
+                Some(Tag::Asid(number))
+            } else {
+                Some(Tag::Ttbr1)
+            }
+        }
+        AsidFrom::Ttbr1 => None,
+    }
+}
+
+/// What is known of the tag for the root, at the PE and the first n.
+fn known_for(holds: &Holds, n: PeCount, tag: Tag, root: Page, pe: Pe) -> Known
+    ensures held { result ≡ Known.Held → hold_in holds.now tag root pe ≡ true }
+    ensures shared { (x : TheReading) → result ≡ Known.Shared x
+        → (x.tag ≡ tag) × (x.root ≡ root) × (tag_in holds.now n tag root ≡ true) }
+{
+    match holds.get(&tag_key(tag)) {
+        Some(held) => {
+            if !is_hold(held, tag, root) {
+                Known::Open
+            } else if held.pes.has(pe) {
+                Known::Held
+            } else if some_pe(held.pes, n) {
+                Known::Shared(Reading { tag, root })
+            } else {
+                Known::Open
+            }
+        }
+        None => Known::Open,
+    }
+}
+
+/// The same for the root, where there is one.
+pub fn known_tag(holds: &Holds, n: PeCount, tag: Tag, root: Option<Page>, pe: Pe) -> Known
+    ensures held { result ≡ Known.Held → spec.holds_root holds.now pe tag root ≡ true }
+    ensures shared { (x : TheReading) → result ≡ Known.Shared x
+        → (x.tag ≡ tag) × (root ≡ Some x.root) × (tag_in holds.now n x.tag x.root ≡ true) }
+{
+    match root {
+        Some(root) => known_for(holds, n, tag, root, pe),
+        None => Known::Held,
+    }
+}
 
 /// Whether the PE holds the tag for the root, where there is one.
 fn holds_root(holds: &Holds, tag: Tag, root: Option<Page>, pe: Pe) -> bool

@@ -42,7 +42,7 @@ pub fn some_pe(pes: PeMask, n: PeCount) -> bool
 }
 
 /// Whether the entry is that of the tag and the root.
-fn is_hold(held: &Held, tag: Tag, root: Page) -> bool
+pub fn is_hold(held: &Held, tag: Tag, root: Page) -> bool
     ensures { result ≡ spec.is_hold tag root held.now }
 {
     same_tag(held.tag, tag) && held.root == root

@@ -1,6 +1,7 @@
 //! The roots, their tags and the registers that name them.
 //! Source: project's own choice, where no other is named.
 
+use crate::anew::{self, Known};
 use crate::fault::{InUse, RootFault, Unsynced};
 use crate::hold::Holds;
 use crate::load::{Load, is_first, names_null};
@@ -8,7 +9,7 @@ use crate::pending::Pendings;
 use crate::reading::{Reading, Readings};
 use crate::registers::Registers;
 use crate::root::{Declared, same_kind};
-use crate::{anew, hold, issue, pending, registers, search, vmid};
+use crate::{hold, issue, pending, registers, search, vmid};
 use bbm_barriers::Dsb;
 use bbm_events::Header;
 use bbm_regimes::{Kind, NoMemory, Page, Pe, Reg, Which, World, base_of, kind_of, tag_number};
@@ -48,7 +49,8 @@ impl Roots {
     ghost use Rattle.bbm_roots.specs.RootCalls as call;
     ghost use Rattle.bbm_roots.specs.RootCalls.{Call};
     ghost use Rattle.bbm_roots.specs.RootChanges.{Takes, Keeps, Tries, SameLog, Writes, Answers};
-    ghost use Rattle.bbm_roots.specs.RootJudgements.{JudgesRoom, JudgesRetirement, IsSettled};
+    ghost use Rattle.bbm_roots.specs.RootJudgements.{JudgesRoom, JudgesRetirement, IsSettled, IsShared};
+    ghost use Rattle.bbm_roots.specs.declared.reading.Reading.{Reading as TheReading};
     ghost use Rattle.bbm_roots.specs.RootRegisters.{is_of_world, register_values, root_of, second_reg};
     ghost use Rattle.bbm_roots.specs.RootTags.{holds_tag, vmid_of};
     ghost use Rattle.bbm_roots.specs.RootsStand.{IsReady, Stands, IsPrepared, pes_of, world_of};
@@ -371,18 +373,29 @@ impl Roots {
         self.registers.put(pe, reg, *load);
     }
 
-    /// Whether a write of this value is known to change the register alone: the register isn't full, no TLBI waits, and
-    /// the PE holds each tag, for its root, that the value makes readable anew.
-    fn is_settled(&self, pe: Pe, reg: Reg, load: &Load) -> bool
+    /// What is known of a write of this value, where the register isn't full and no TLBI waits: that it changes the
+    /// register alone, since the PE holds each tag, for its root, that the value makes readable anew; or that this one
+    /// tag is all that it makes readable anew, and held by its root.
+    fn known(&self, pe: Pe, reg: Reg, load: &Load) -> Known
         requires { pe < pes_of self.now }
-        ensures { result ≡ true → IsSettled pe reg load.now self.now }
+        ensures held { result ≡ Known.Held → IsSettled pe reg load.now self.now }
+        ensures shared { (x : TheReading) → result ≡ Known.Shared x → IsShared pe reg load.now x self.now }
     {
         if !self.pendings.issuers.is_empty() || self.registers.is_full(pe, reg) {
-            return false;
+            return Known::Open;
         }
         let world = self.registers.world;
-        let other = self.registers.others(pe, reg);
-        anew::holds_new(&self.holds, world, is_first(reg), load, other, pe)
+        match anew::own_tag(world, is_first(reg), load.number) {
+            Some(tag) => anew::known_tag(&self.holds, self.registers.pes, tag, load.root, pe),
+            None => {
+                let other = self.registers.others(pe, reg);
+                if anew::holds_new(&self.holds, world, is_first(reg), load, other, pe) {
+                    Known::Held
+                } else {
+                    Known::Open
+                }
+            }
+        }
     }
 
     /// The PE writes the register, which is one of the world. `null` tells whether the base of the value is a null
@@ -411,9 +424,16 @@ impl Roots {
         let root = self.named_root(reg, value, null)?;
         let number = tag_number(value);
         let load = Load { number, root };
-        if self.is_settled(pe, reg, &load) {
-            self.registers.put(pe, reg, load);
-            return Ok(());
+        match self.known(pe, reg, &load) {
+            Known::Held => {
+                self.registers.put(pe, reg, load);
+                return Ok(());
+            }
+            Known::Shared(reading) => {
+                self.take(pe, reg, &load, &[reading]);
+                return Ok(());
+            }
+            Known::Open => {}
         }
         let seen = match self.registers.readings_with(alloc, pe, reg, &load) {
             Ok(seen) => seen,

@@ -9,8 +9,8 @@
 //! - `prepare` tells whether pages can be attached, and which page or place is in the way; `attach_prepared` attaches
 //!   them. `attach` does both.
 //! - `role`, `is_fresh`, `is_null`, `is_in_tree`, `pages`, `path`, `in_limbo` and `childless` tell what the calls come
-//!   to. `number` and `path_near` look for a page first at a number, as `PlaceMap::recent_page` tells it, and `path_at`
-//!   there alone. `place_translating` tells where one goes on the way down along an input page; from there
+//!   to. `number` and `path_near` look for a page first at a number, as `PlaceMap::recent_page` tells it, `path_at` and
+//!   `is_fresh_at` there alone. `place_translating` tells where one goes on the way down along an input page; from there
 //!   `place_below` does so level by level, and looks nothing up.
 //!
 //! Each contract speaks of the node of each page, by the words of `specs/Index.antt`. `null_page` is an example of the

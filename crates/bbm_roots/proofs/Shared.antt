@@ -1,0 +1,194 @@
+-- A register write that makes one tag readable, which its root holds at some PE.
+use Rattle.std.proofs.Common.{◌≡◌, ◌<◌, ◌≤◌, ℕ, Bool, true, false, nat_le, ⊎_elim, ◌&&◌, ◌||◌, not, nat_eq, List, [], ◌∷◌, ◌++◌, Option}
+use Rattle.std.proofs.Common.{Some, None, cond, refl, sym, ◌∙◌, ap, is_some}
+use Rattle.std.specs.List.{flat_map}
+use Rattle.std.proofs.lemmas.Bool.{false≢true, eqb-true, not-true, cases_lt, le-leb}
+use Rattle.bbm_lemmas.proofs.Tautologies.{proved}
+use Rattle.bbm_lemmas.proofs.Tautologies.Claim.{If, Is}
+use Rattle.indexmap.specs.IndexMap.{IndexMap, get}
+use Rattle.bbm_regimes.specs.declared.regime.AsidFrom.{AsidFrom}
+use Rattle.bbm_regimes.specs.declared.regime.AsidFrom.TheVariants.{Ttbr0 as FromTtbr0, Ttbr1 as FromTtbr1}
+use Rattle.bbm_regimes.specs.declared.regime.Kind.TheVariants.{El2, S2, Ttbr0, Ttbr1}
+use Rattle.bbm_regimes.specs.declared.regime.Reg.{Reg}
+use Rattle.bbm_regimes.specs.declared.regime.Tag.{Tag}
+use Rattle.bbm_regimes.specs.declared.regime.Tag.TheVariants.{El2 as El2Tag, Vmid, Asid, Ttbr1 as Ttbr1Tag}
+use Rattle.bbm_regimes.specs.declared.regime.World.{World}
+use Rattle.bbm_regimes.specs.declared.regime.World.TheVariants.{Hyp, Kernel}
+use Rattle.bbm_lemmas.proofs.Bools.{first_true}
+use Rattle.bbm_roots.specs.Columns.{loads_in}
+use Rattle.bbm_roots.specs.Holds.{hold_in, tag_in, tag_key, entry_held, has_entry, IsCalm, Marks}
+use Rattle.bbm_roots.specs.HoldsNew.{holds_root, holds_asids, holds_under, holds_new, kernel_tag, own_tag}
+use Rattle.bbm_roots.specs.LoadsOf.{readings_after}
+use Rattle.bbm_roots.specs.Readings.{readings_of, own_reading, reading_at, has_reading, has_other, has_tag, same_tag}
+use Rattle.bbm_roots.specs.Readings.{is_reading, asid_readings}
+use Rattle.bbm_roots.specs.RootCalls.{Call}
+use Rattle.bbm_roots.specs.RootJudgements.{IsShared}
+use Rattle.bbm_roots.specs.RootRegisters.{is_first}
+use Rattle.bbm_roots.specs.RootsStand.{Stands, world_of, pes_of}
+use Rattle.bbm_roots.specs.declared.hold.Held.{Held}
+use Rattle.bbm_roots.specs.declared.load.Load.{Load}
+use Rattle.bbm_roots.specs.declared.reading.Reading.{Reading}
+use Rattle.bbm_roots.specs.declared.roots.Roots.{Roots}
+use Rattle.bbm_roots.proofs.Bits.{and_right, same_tag-true, some-found}
+use Rattle.bbm_roots.proofs.Conflicts.{tag_in-is}
+use Rattle.bbm_roots.proofs.Leasts.{or-split}
+use Rattle.bbm_roots.proofs.Settled.{ahead, behind, one-root, read-held}
+use mathlib.Core.Bool.{or-false, and-false}
+
+-- a register with fewer than nine values
+pub below-nine : (n : ℕ) (full : Bool) → full ≡ nat_le 9 n → full ≡ false → n < 9
+below-nine n full same less_than =
+    ⊎_elim (λ (less : n < 9). less)
+    (λ (le : 9 ≤ n). absurd (false≢true (sym less_than ∙ same ∙ le-leb 9 n le))) (cases_lt n 9)
+
+-- where the one tag that a value makes readable is held, so is all that it makes readable anew
+pub own-held : {S : Type 0} (hs : IndexMap ℕ Held S) (pe : ℕ) (world : World) (b : Bool) (load : Load) (other : List Load)
+    (tag : Tag) → own_tag world b load.number ≡ Some tag → holds_root hs pe tag load.root ≡ true →
+    holds_new hs pe world b load other ≡ true
+own-held hs pe (Hyp w) true load other tag is held =
+    let same : El2Tag ≡ tag = cc in ap (λ (g : Tag). holds_root hs pe g load.root) same ∙ held
+own-held hs pe (Hyp w) false load other tag is held =
+    let same : Vmid load.number ≡ tag = cc in ap (λ (g : Tag). holds_root hs pe g load.root) same ∙ held
+own-held hs pe (Kernel w) true load other tag is held = by_first w.asid_from is
+  where
+    by_first : (from : AsidFrom) → kernel_tag from true load.number ≡ Some tag → holds_asids hs pe from load other ≡ true
+    by_first FromTtbr0 e =
+        let same : Asid load.number ≡ tag = cc in ap (λ (g : Tag). holds_root hs pe g load.root) same ∙ held
+    by_first FromTtbr1 e = cc
+own-held hs pe (Kernel w) false load other tag is held = by_second w.asid_from is
+  where
+    by_second : (from : AsidFrom) → kernel_tag from false load.number ≡ Some tag →
+        (holds_root hs pe Ttbr1Tag load.root && holds_under hs pe from load other) ≡ true
+    by_second FromTtbr0 e =
+        let same : Ttbr1Tag ≡ tag = cc in
+        ap (λ (g : Tag). holds_root hs pe g load.root && true) same ∙ ap (λ (b : Bool). b && true) held
+    by_second FromTtbr1 e = cc
+
+module _ (g : Tag) (r : ℕ) (root : ℕ) where
+  read-one : (own tag : Tag) (o : Option ℕ) → own ≡ tag → o ≡ Some root →
+      has_reading g r (reading_at own o) ≡ (same_tag tag g && nat_eq root r)
+  read-one own tag o same at =
+      ap (λ (k : Option ℕ). has_reading g r (reading_at own k)) at
+      ∙ or-false (same_tag own g && nat_eq root r)
+      ∙ ap (λ (t : Tag). same_tag t g && nat_eq root r) same
+
+  -- what is readable after the write of such a value
+  pub own-anew : (world : World) (b : Bool) (load : Load) (first second : List Load) (tag : Tag) →
+      own_tag world b load.number ≡ Some tag → load.root ≡ Some root →
+      has_reading g r (readings_of world (cond b (load ∷ first) first) (cond b second (load ∷ second)))
+      ≡ ((same_tag tag g && nat_eq root r) || has_reading g r (readings_of world first second))
+  own-anew (Hyp w) true load first second tag is at =
+      let same : El2Tag ≡ tag = cc in
+      ahead (is_reading g r) (own_reading El2 load) (flat_map (own_reading El2) first) (flat_map (own_reading S2) second)
+      ∙ ap (λ (k : Bool). k || has_reading g r (readings_of (Hyp w) first second)) (read-one El2Tag tag load.root same at)
+  own-anew (Hyp w) false load first second tag is at =
+      let same : Vmid load.number ≡ tag = cc in
+      behind (is_reading g r) (flat_map (own_reading El2) first) (own_reading S2 load) (flat_map (own_reading S2) second)
+      ∙ ap (λ (k : Bool). k || has_reading g r (readings_of (Hyp w) first second))
+      (read-one (Vmid load.number) tag load.root same at)
+  own-anew (Kernel w) true load first second tag is at = by_first w.asid_from is
+    where
+      upper : List Reading
+      upper = flat_map (own_reading Ttbr1) second
+
+      by_first : (from : AsidFrom) → kernel_tag from true load.number ≡ Some tag →
+          has_reading g r (asid_readings from (load ∷ first) second ++ upper)
+          ≡ ((same_tag tag g && nat_eq root r) || has_reading g r (asid_readings from first second ++ upper))
+      by_first FromTtbr0 e =
+          let same : Asid load.number ≡ tag = cc in
+          ahead (is_reading g r) (own_reading Ttbr0 load) (flat_map (own_reading Ttbr0) first) upper
+          ∙ ap (λ (k : Bool). k || has_reading g r (asid_readings FromTtbr0 first second ++ upper))
+          (read-one (Asid load.number) tag load.root same at)
+      by_first FromTtbr1 e = cc
+  own-anew (Kernel w) false load first second tag is at = by_second w.asid_from is
+    where
+      upper : List Reading
+      upper = flat_map (own_reading Ttbr1) second
+
+      by_second : (from : AsidFrom) → kernel_tag from false load.number ≡ Some tag →
+          has_reading g r (asid_readings from first (load ∷ second) ++ (own_reading Ttbr1 load ++ upper))
+          ≡ ((same_tag tag g && nat_eq root r) || has_reading g r (asid_readings from first second ++ upper))
+      by_second FromTtbr0 e =
+          let same : Ttbr1Tag ≡ tag = cc in
+          behind (is_reading g r) (flat_map (own_reading Ttbr0) first) (own_reading Ttbr1 load) upper
+          ∙ ap (λ (k : Bool). k || has_reading g r (asid_readings FromTtbr0 first second ++ upper))
+          (read-one Ttbr1Tag tag load.root same at)
+      by_second FromTtbr1 e = cc
+
+-- the marks of the one reading are those of all that is then readable, where the others are held
+marks-step : (old pe own others : Bool) → (pe ≡ true → others ≡ true → old ≡ true) →
+    (old || (pe && (own || false))) ≡ (old || (pe && (own || others)))
+marks-step = proved 4 (λ old pe own others. If (If (Is pe true) (If (Is others true) (Is old true)))
+    (Is (old || (pe && (own || false))) (old || (pe && (own || others))))) refl
+
+module _ (roots : Roots) (pe : ℕ) (reg : Reg) (load : Load) (reading : Reading) (shared : IsShared pe reg load reading roots) where
+  -- a PE at which the root holds the tag
+  holder : (q : ℕ) × (hold_in roots.holds reading.tag reading.root q ≡ true)
+  holder =
+      some-found (pes_of roots) (hold_in roots.holds reading.tag reading.root)
+      (sym (tag_in-is roots.holds (pes_of roots) reading.tag reading.root) ∙ shared.held)
+
+  -- the tag has an entry
+  pub tag-there : (g : Tag) → has_tag g (reading ∷ []) ≡ true → has_entry roots.holds g ≡ true
+  tag-there g e =
+      let same : same_tag reading.tag g ≡ true = sym (or-false (same_tag reading.tag g)) ∙ e in
+      ap (has_entry roots.holds) (sym (same_tag-true reading.tag g same))
+      ∙ by_entry (get nat_eq roots.holds (tag_key reading.tag)) shared.held
+    where
+      by_entry : (o : Option Held) → entry_held (pes_of roots) reading.tag reading.root o ≡ true → is_some o ≡ true
+      by_entry None e = absurd (false≢true e)
+      by_entry (Some x) e = refl
+
+  -- no other root holds it
+  pub calm-one : IsCalm roots.holds (reading ∷ [])
+  calm-one g r e =
+      let other : (same_tag reading.tag g && not (nat_eq reading.root r)) ≡ true =
+      sym (or-false (same_tag reading.tag g && not (nat_eq reading.root r))) ∙ e in
+      let same : reading.tag ≡ g =
+      same_tag-true reading.tag g (first_true (same_tag reading.tag g) (not (nat_eq reading.root r)) other) in
+      let apart : nat_eq reading.root r ≡ false =
+      not-true (nat_eq reading.root r) (and_right (same_tag reading.tag g) (not (nat_eq reading.root r)) other) in
+      let others =
+      one-root (pes_of roots) reading.tag reading.root r holder.0 (get nat_eq roots.holds (tag_key reading.tag)) holder.1
+      apart in (
+        ap (λ (b : Bool). (same_tag reading.tag g && b) || false) apart
+            ∙ ap (λ (b : Bool). b || false) (and-false (same_tag reading.tag g)),
+        λ p. ap (λ (t : Tag). hold_in roots.holds t r p) (sym same) ∙ others.1 p,
+      )
+
+  module _ (cs : List Call) (stands : Stands roots cs) (known : pe < pes_of roots) where
+    anew : (g : Tag) (r : ℕ) → has_reading g r (readings_after roots.registers pe reg load)
+        ≡ ((same_tag reading.tag g && nat_eq reading.root r) || has_reading g r (readings_of (world_of roots)
+        (loads_in roots.registers.first.items pe) (loads_in roots.registers.second.items pe)))
+    anew g r =
+        own-anew g r reading.root (world_of roots) (is_first reg) load (loads_in roots.registers.first.items pe)
+        (loads_in roots.registers.second.items pe) reading.tag shared.tag shared.root
+
+    -- all that is then readable is held at some PE
+    pub held-somewhere : (g : Tag) (r : ℕ) → has_reading g r (readings_after roots.registers pe reg load) ≡ true →
+        (q : ℕ) × (hold_in roots.holds g r q ≡ true)
+    held-somewhere g r e =
+        or-split (same_tag reading.tag g && nat_eq reading.root r) (has_reading g r (readings_of (world_of roots)
+        (loads_in roots.registers.first.items pe) (loads_in roots.registers.second.items pe)))
+        ((q : ℕ) × (hold_in roots.holds g r q ≡ true))
+        (λ k. (
+          holder.0,
+          ap (λ (t : Tag). hold_in roots.holds t r holder.0)
+              (sym (same_tag-true reading.tag g (first_true (same_tag reading.tag g) (nat_eq reading.root r) k)))
+              ∙ ap (λ (m : ℕ). hold_in roots.holds reading.tag m holder.0)
+              (sym (eqb-true reading.root r (and_right (same_tag reading.tag g) (nat_eq reading.root r) k)))
+              ∙ holder.1,
+        ))
+        (λ k. (pe, read-held roots pe cs stands known g r k))
+        (sym (anew g r) ∙ e)
+
+    -- the mark of the one tag marks all
+    pub marks-all : (new : Roots) → Marks roots.holds new.holds pe (reading ∷ []) →
+        Marks roots.holds new.holds pe (readings_after roots.registers pe reg load)
+    marks-all new marked g r p =
+        marked g r p
+        ∙ marks-step (hold_in roots.holds g r p) (nat_eq p pe) (same_tag reading.tag g && nat_eq reading.root r)
+        (has_reading g r (readings_of (world_of roots) (loads_in roots.registers.first.items pe)
+        (loads_in roots.registers.second.items pe)))
+        (λ at k. ap (hold_in roots.holds g r) (eqb-true p pe at) ∙ read-held roots pe cs stands known g r k)
+        ∙ ap (λ (b : Bool). hold_in roots.holds g r p || (nat_eq p pe && b)) (sym (anew g r))

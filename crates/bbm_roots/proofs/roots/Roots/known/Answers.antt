@@ -1,0 +1,25 @@
+-- What is known of the one tag that a value makes readable.
+use Rattle.std.proofs.Common.{Bool, ◌&&◌, ap}
+use Rattle.bbm_roots.specs.Holds.{tag_key}
+use Rattle.bbm_roots.specs.RootPendings.{slot_of, wait_at, wait_bit}
+use Rattle.bbm_roots.proofs.Shared.{below-nine, own-held}
+use Rattle.bbm_roots.proofs.roots.Roots.known.Goals as goal
+
+pub returns-in-Some-clause-shared : goal.returns-in-Some-clause-shared
+returns-in-Some-clause-shared c = λ x is.
+    let told = c.known_tag.ensures.shared x is in
+    record {
+      room = below-nine _ _ c.is_full.ensures c.if-is_full.false;
+      quiet = λ q b g p.
+          ap (λ (none : Bool). none
+          && wait_bit g p (wait_at c.args.self.now.pendings.waits.items (slot_of q b) (tag_key g)))
+          (c.is_empty.ensures.0 c.if-not-is_empty.false q);
+      tag =
+          let own = c.own_tag.ensures in
+          let there = c.in-Some.is in
+          let first = c.is_first.ensures in
+          let same = told.0 in
+          cc;
+      root = told.1;
+      held = told.2;
+    }
