@@ -1,26 +1,16 @@
 -- Where two histories are alike, each event is judged alike, by each of the rules and by the least that it breaks. Of a
 -- place outside the trees a rule reads the value alone, which is alike at every place; what is held it reads at the node
 -- of a page alone.
-use Rattle.std.specs.Option.{option_map_or}
-use Rattle.std.proofs.Common.{◌≡◌, ℕ, ◌<◌, Bool, ◌&&◌, List, [], ◌∷◌, Option, Some, is_none, refl, ◌∙◌, ap}
+use Rattle.bbm_rules.proofs.Common.{option_map_or, ◌≡◌, ℕ, ◌<◌, Bool, ◌&&◌, List, [], ◌∷◌, Option, Some, is_none, refl}
+use Rattle.bbm_rules.proofs.Common.{◌∙◌, ap, Breach, breaks, first_broken, keeps, Trust, noted, holder_of, Noted}
+use Rattle.bbm_rules.proofs.Common.{events_of, is_null, page_of, Heading, Event, Reg, Tag, register_values, roots_of}
+use Rattle.bbm_rules.proofs.Common.{holds_at, tags_of, Node, held_at, node_of, value_of, written_places}
 use Rattle.bbm_rules.specs.declared.rule.Rule.{Rule}
 use Rattle.bbm_rules.specs.declared.rule.Rule.TheVariants.{WrongWorld, NoLock, NullWritten, BreakBeforeMake, LimboMake}
 use Rattle.bbm_rules.specs.declared.rule.Rule.TheVariants.{NotFresh, RewrittenFresh, BadKind, GlobalUser, PageInUse}
 use Rattle.bbm_rules.specs.declared.rule.Rule.TheVariants.{NoRoot, TagConflict, RootInUse, UnsyncedVmid, BadOperand}
 use Rattle.bbm_rules.specs.declared.rule.Rule.TheVariants.{LockBusy, LockNotMine}
-use Rattle.bbm_rules.specs.Broken.{Breach, breaks, broken, first_broken, keeps, rules}
-use Rattle.bbm_rules.specs.Claims.{Trust}
-use Rattle.bbm_rules.specs.Covers.{noted}
-use Rattle.bbm_rules.specs.Locks.{holder_of}
-use Rattle.bbm_rules.specs.Notes.{Noted, events_of}
-use Rattle.bbm_rules.specs.Pages.{is_null}
-use Rattle.bbm_rules.specs.Places.{page_of}
-use Rattle.bbm_rules.specs.Prelude.{Heading, Event, Reg, Tag}
-use Rattle.bbm_rules.specs.RegisterValues.{register_values}
-use Rattle.bbm_rules.specs.Roots.{roots_of}
-use Rattle.bbm_rules.specs.Tags.{holds_at, tags_of}
-use Rattle.bbm_rules.specs.Tree.{Node, held_at, node_of}
-use Rattle.bbm_rules.specs.Values.{value_of, written_places}
+use Rattle.bbm_rules.specs.Broken.{broken, rules}
 use Rattle.bbm_alike.specs.Alike.{Alike}
 use Rattle.bbm_alike.specs.KnownOfHistories.{Known}
 use Rattle.bbm_alike.proofs.CoverAlike.{held_alike, of_events, tags_alike, values_alike}

@@ -1,20 +1,11 @@
 -- Where two histories are alike, each place has the same phase at each PE of the header, and the same are restless.
-use Rattle.std.specs.Option.{option_map_or}
-use Rattle.std.proofs.Common.{◌≡◌, ℕ, ◌<◌, Bool, false, not, ◌&&◌, cond, List, Option, Some, None, count_by, is_some}
-use Rattle.std.proofs.Common.{refl, sym, ◌∙◌, ap}
-use Rattle.std.proofs.Math.Path.{fun_ext}
-use Rattle.bbm_descriptor.specs.Descriptor.{is_valid}
+use Rattle.bbm_rules.proofs.Common.{option_map_or, ◌≡◌, ℕ, ◌<◌, Bool, false, not, ◌&&◌, cond, List, Option, Some, None}
+use Rattle.bbm_rules.proofs.Common.{count_by, is_some, refl, sym, ◌∙◌, ap, fun_ext, is_valid, Trust, noted, last_valid}
+use Rattle.bbm_rules.proofs.Common.{Noted, events_of, broken_phase, is_restless, page_of, Heading, Event, Node, held_at}
+use Rattle.bbm_rules.proofs.Common.{node_of, value_of, written_places}
 use Rattle.bbm_rules.specs.declared.phase.Phase.{Phase}
 use Rattle.bbm_rules.specs.declared.phase.Phase.TheVariants.{Live}
-use Rattle.bbm_rules.specs.Claims.{Trust}
-use Rattle.bbm_rules.specs.Covers.{noted}
-use Rattle.bbm_rules.specs.Held.{last_valid}
-use Rattle.bbm_rules.specs.Notes.{Noted, events_of}
-use Rattle.bbm_rules.specs.Phases.{broken_phase, is_restless, phase_of, restless_of}
-use Rattle.bbm_rules.specs.Places.{page_of}
-use Rattle.bbm_rules.specs.Prelude.{Heading, Event}
-use Rattle.bbm_rules.specs.Tree.{Node, held_at, node_of}
-use Rattle.bbm_rules.specs.Values.{value_of, written_places}
+use Rattle.bbm_rules.specs.Phases.{phase_of, restless_of}
 use Rattle.bbm_alike.specs.Alike.{Alike, SamePatterns}
 use Rattle.bbm_alike.specs.KnownOfHistories.{Known}
 use Rattle.bbm_alike.proofs.CoverAlike.{held_alike, node_alike, values_alike}

@@ -1,10 +1,6 @@
 -- After the same event, histories that are alike are so still.
-use Rattle.std.proofs.Common.{◌≡◌, ℕ, ◌<◌, true, List, ◌∷◌}
-use Rattle.bbm_rules.specs.Prelude.{Heading, Event}
-use Rattle.bbm_rules.specs.Broken.{keeps}
-use Rattle.bbm_rules.specs.Claims.{Trust}
-use Rattle.bbm_rules.specs.Roots.{roots_of}
-use Rattle.bbm_rules.specs.Values.{value_of, written_places}
+use Rattle.bbm_rules.proofs.Common.{◌≡◌, ℕ, ◌<◌, true, List, ◌∷◌, Heading, Event, keeps, Trust, roots_of, value_of}
+use Rattle.bbm_rules.proofs.Common.{written_places}
 use Rattle.bbm_alike.specs.Alike.{Alike, TakesAlike}
 use Rattle.bbm_alike.specs.KnownOfHistories.{Known}
 use Rattle.bbm_alike.specs.SameTags.{SameTags}

@@ -1,16 +1,13 @@
 -- Worked cases: histories with the same phases, or the same tags, of which one has a TLBI that waits for its answer. They
 -- aren't alike, since they differ after the answer. The events stand newest first.
-use Rattle.std.proofs.Common.{◌≡◌, true, false, List, [], ◌∷◌, None, refl, sym, ◌∙◌, true≢false, arith}
-use Rattle.bbm_barriers.specs.declared.Domain.TheVariants.{Inner}
-use Rattle.bbm_barriers.specs.declared.Types.TheVariants.{All, Stores}
-use Rattle.bbm_rules.specs.Prelude.{El2, El2Tag, Event, Init, Root, Write, Dsb, Tlbi}
+use Rattle.bbm_rules.proofs.Common.{◌≡◌, true, false, List, [], ◌∷◌, None, refl, sym, ◌∙◌, true≢false, arith, Inner}
+use Rattle.bbm_rules.proofs.Common.{All, Stores, El2, El2Tag, Event, Init, Root, Write, Dsb, Tlbi, Patterns, holds_at}
+use Rattle.bbm_rules.proofs.Common.{Vae2is}
 use Rattle.bbm_rules.specs.declared.phase.Phase.TheVariants.{Clean, Seen}
 use Rattle.bbm_rules.specs.Broken.{broken}
-use Rattle.bbm_rules.specs.Claims.Trust.{Patterns}
 use Rattle.bbm_rules.specs.Phases.{phase_of}
-use Rattle.bbm_rules.specs.Tags.{holds_at}
 use Rattle.bbm_rules.specs.Tree.{tree}
-use Rattle.bbm_tlbi_scope.specs.declared.op.TlbiOp.TheVariants.{Alle2is, Vae2is}
+use Rattle.bbm_tlbi_scope.specs.declared.op.TlbiOp.TheVariants.{Alle2is}
 use Rattle.bbm_alike.specs.Alike.{Alike}
 use Rattle.bbm_alike.specs.KnownOfHistories.{Known}
 use Rattle.bbm_alike.proofs.AlikePhases.{same_phase}

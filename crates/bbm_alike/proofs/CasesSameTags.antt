@@ -1,8 +1,6 @@
 -- Worked cases: whether an event takes whole, at PE 0, a tag that a root holds there. The events stand newest first.
+use Rattle.bbm_rules.proofs.Common.{Inner, All, El2, Ttbr0El2, Hyp, Heading, Event, Init, Root, Dsb, Isb, Tlbi, Msr}
 use Rattle.std.specs.Prelude.{◌≡◌, true, false, List, [], ◌∷◌, None, refl}
-use Rattle.bbm_barriers.specs.declared.Domain.TheVariants.{Inner}
-use Rattle.bbm_barriers.specs.declared.Types.TheVariants.{All}
-use Rattle.bbm_rules.specs.Prelude.{El2, Ttbr0El2, Hyp, Heading, Event, Init, Root, Dsb, Isb, Tlbi, Msr}
 use Rattle.bbm_tlbi_scope.specs.declared.op.TlbiOp.TheVariants.{Alle2, Alle2is}
 use Rattle.bbm_alike.specs.SameTags.{takes_held}
 

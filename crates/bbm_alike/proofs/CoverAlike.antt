@@ -1,29 +1,18 @@
 -- In histories that are alike, a TLBI covers each place as far.
-use Rattle.std.proofs.Common.{◌≡◌, ℕ, suc, Bool, List, Option, Some, None, filter, is_some, option_and_then, unwrap_or}
-use Rattle.std.proofs.Common.{Contains, refl, sym, ◌∙◌, ap}
-use Rattle.bbm_descriptor.specs.Descriptor.{desc_of}
-use Rattle.bbm_tlbi_scope.specs.ScopeCovers.{cover_of}
-use Rattle.bbm_tlbi_scope.specs.declared.entry.Cover.{Cover}
+use Rattle.bbm_rules.proofs.Common.{◌≡◌, ℕ, suc, Bool, List, Option, Some, None, filter, is_some, option_and_then}
+use Rattle.bbm_rules.proofs.Common.{unwrap_or, Contains, refl, sym, ◌∙◌, ap, desc_of, cover_of, Cover, PlaceView}
+use Rattle.bbm_rules.proofs.Common.{TagSet, Heading, Event, Tlbi, Tag, Scope, Trust, cover_at, is_global, noted}
+use Rattle.bbm_rules.proofs.Common.{view_at, held, Noted, events_of, page_of, named_scope, vmid_of, distinct, ever_read}
+use Rattle.bbm_rules.proofs.Common.{holds_at, holds_tag, tag_set, tags_of, Node, held_at, in_tree, is_childless}
+use Rattle.bbm_rules.proofs.Common.{next_of, node_below, node_of, region_of, value_of, same_truth}
 use Rattle.bbm_tlbi_scope.specs.declared.entry.Cover.TheVariants.{None as NoCover}
-use Rattle.bbm_tlbi_scope.specs.declared.entry.PlaceView.{PlaceView}
-use Rattle.bbm_tlbi_scope.specs.declared.entry.TagSet.{TagSet}
-use Rattle.bbm_rules.specs.Prelude.{Heading, Event, Tlbi, Tag, Scope}
-use Rattle.bbm_rules.specs.Claims.{Trust}
-use Rattle.bbm_rules.specs.Covers.{cover_at, is_global, noted, view_at}
-use Rattle.bbm_rules.specs.Held.{held}
-use Rattle.bbm_rules.specs.Notes.{Noted, events_of}
-use Rattle.bbm_rules.specs.Places.{page_of}
-use Rattle.bbm_rules.specs.RegisterValues.{named_scope, vmid_of}
-use Rattle.bbm_rules.specs.Tags.{distinct, ever_read, holds_at, holds_tag, tag_set, tags_of}
-use Rattle.bbm_rules.specs.Tree.{Node, held_at, in_tree, is_childless, next_of, node_below, node_of, region_of, tree}
-use Rattle.bbm_rules.specs.Values.{value_of}
+use Rattle.bbm_rules.specs.Tree.{tree}
 use Rattle.bbm_alike.specs.Alike.{Alike}
 use Rattle.bbm_alike.specs.KnownOfHistories.{Known}
 use Rattle.bbm_alike.proofs.ListsAlike.{same_filter, same_some_pe}
 use Rattle.bbm_alike.proofs.PartsAlike.{same_node}
 use Rattle.bbm_alike.proofs.SameThen.{same_then}
 use Rattle.bbm_alike.proofs.ReadingsAlike.{scope_alike, vmid_alike}
-use Rattle.bbm_lemmas.proofs.Bools.{same_truth}
 
 module _ (heading : Heading) (k : Known heading) (one other : Trust) (h h' : List Event) (a : Alike heading one other h h') where
   abbrev marks : List Noted

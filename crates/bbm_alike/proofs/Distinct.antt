@@ -1,12 +1,6 @@
 -- A list with each tag once, by what the list has.
-use Rattle.std.proofs.Common.{◌≡◌, ◌↔◌, Bool, true, false, cond, ◌||◌, List, [], ◌∷◌, ◌++◌, refl, sym, ◌∙◌, ap, subst}
-use Rattle.std.proofs.Common.{inl, inr}
-use Rattle.bbm_lemmas.specs.Elements.{In}
-use Rattle.bbm_lemmas.proofs.Elements.{any_finds, any_found, in_right}
-use Rattle.bbm_rules.specs.Claims.{same_tag}
-use Rattle.bbm_rules.specs.Lists.{any}
-use Rattle.bbm_rules.specs.Prelude.{Tag}
-use Rattle.bbm_rules.specs.Tags.{distinct}
+use Rattle.bbm_rules.proofs.Common.{◌≡◌, ◌↔◌, Bool, true, false, cond, ◌||◌, List, [], ◌∷◌, ◌++◌, refl, sym, ◌∙◌, ap}
+use Rattle.bbm_rules.proofs.Common.{subst, inl, inr, In, any_finds, any_found, in_right, same_tag, any, Tag, distinct}
 
 module _ (equal : (g k : Tag) → (same_tag g k ≡ true) ↔ (g ≡ k)) where
   -- the list with each tag once has the same tags

@@ -1,17 +1,11 @@
 -- What a place of a tree holds after an event, and its patterns, in histories that are alike: where its page was in a
 -- tree before and is so still.
-use Rattle.std.proofs.Common.{◌≡◌, ℕ, ◌<◌, ◌&&◌, Bool, true, false, cond, ◌==◌, List, [], ◌∷◌, Option, Some, None}
-use Rattle.std.proofs.Common.{is_some, option_and_then, Contains, refl, sym, ◌∙◌, ap, subst, true≢false}
-use Rattle.bbm_lemmas.proofs.Every.{every_same, every_wider}
-use Rattle.bbm_descriptor.specs.Descriptor.{is_valid}
-use Rattle.bbm_rules.specs.Prelude.{Heading, Event, Init, Write, Dsb}
-use Rattle.bbm_rules.specs.Claims.{Trust}
-use Rattle.bbm_rules.specs.Cleansing.{cleansed}
-use Rattle.bbm_rules.specs.Covers.{cover_at, note, noted}
-use Rattle.bbm_rules.specs.Held.{ValidWrite, cleansed_everywhere, last_valid, last_valid_after, later}
-use Rattle.bbm_rules.specs.Notes.{Noted}
-use Rattle.bbm_rules.specs.Places.{page_of}
-use Rattle.bbm_rules.specs.Tree.{Node, held_at, tree}
+use Rattle.bbm_rules.proofs.Common.{◌≡◌, ℕ, ◌<◌, ◌&&◌, Bool, true, false, cond, ◌==◌, List, [], ◌∷◌, Option, Some, None}
+use Rattle.bbm_rules.proofs.Common.{is_some, option_and_then, Contains, refl, sym, ◌∙◌, ap, subst, true≢false}
+use Rattle.bbm_rules.proofs.Common.{every_same, every_wider, is_valid, Heading, Event, Init, Write, Dsb, Trust}
+use Rattle.bbm_rules.proofs.Common.{cleansed, cover_at, note, noted, ValidWrite, cleansed_everywhere, last_valid}
+use Rattle.bbm_rules.proofs.Common.{last_valid_after, later, Noted, page_of, Node, held_at}
+use Rattle.bbm_rules.specs.Tree.{tree}
 use Rattle.bbm_histories.specs.HistorySteps.{held_after}
 use Rattle.bbm_alike.specs.Alike.{Alike, SamePatterns, TakesAlike}
 use Rattle.bbm_alike.specs.KnownOfHistories.{Known}

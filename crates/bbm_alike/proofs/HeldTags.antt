@@ -1,20 +1,15 @@
 -- A tag that a root holds was readable for it; and one that waits to be taken away, and is held, was held when the TLBI
 -- was issued that is to take it.
-use Rattle.std.proofs.Common.{◌≡◌, ◌↔◌, ℕ, ◌<◌, ◌≤◌, Bool, true, false, not, ◌&&◌, ◌==◌, nat_le, List, []}
-use Rattle.std.proofs.Common.{◌∷◌, ◌++◌, length, Some, filter_map, flat_map, refl, sym, ◌∙◌, ap, subst, inl, inr}
-use Rattle.std.proofs.Common.{true≢false, arith}
-use Rattle.std.proofs.lemmas.Bool.{and_parts, le-leb, or_cases, or_left, or_parts, not-true}
+use Rattle.bbm_rules.proofs.Common.{◌≡◌, ◌↔◌, ℕ, ◌<◌, ◌≤◌, Bool, true, false, not, ◌&&◌, ◌==◌, nat_le, List, [], ◌∷◌}
+use Rattle.bbm_rules.proofs.Common.{◌++◌, length, Some, filter_map, flat_map, refl, sym, ◌∙◌, ap, subst, inl, inr}
+use Rattle.bbm_rules.proofs.Common.{true≢false, arith, and_parts, le-leb, or_cases, or_left, or_parts, not-true, In}
+use Rattle.bbm_rules.proofs.Common.{any_found, in_left, in_right, to_flat, Trust, same_tag, any, below, if_so, AsidFrom}
+use Rattle.bbm_rules.proofs.Common.{FromTtbr0, FromTtbr1, World, Hyp, Kernel, Heading, Event, Tag, Issued, reaches}
+use Rattle.bbm_rules.proofs.Common.{Open, Reading, asid_readings, distinct, ever_read, holds_at, itself, loses}
+use Rattle.bbm_rules.proofs.Common.{read_since, readings, readings_in, reads, reads_for_some, tag_for, takes_tag}
 use Rattle.std.proofs.lemmas.List.{length-append}
 use Rattle.bbm_lemmas.proofs.Words.{in_below}
-use Rattle.bbm_lemmas.specs.Elements.{In}
-use Rattle.bbm_lemmas.proofs.Elements.{any_found, in_left, in_right, to_flat, to_filter_map}
-use Rattle.bbm_rules.specs.Claims.{Trust, same_tag}
-use Rattle.bbm_rules.specs.Lists.{any, below, if_so}
-use Rattle.bbm_rules.specs.Prelude.{AsidFrom, FromTtbr0, FromTtbr1, World, Hyp, Kernel, Heading, Event, Tag}
-use Rattle.bbm_rules.specs.Reach.{Issued, reaches}
-use Rattle.bbm_rules.specs.Sentences.{Open}
-use Rattle.bbm_rules.specs.Tags.{Reading, asid_readings, distinct, ever_read, holds_at, itself, loses, read_since}
-use Rattle.bbm_rules.specs.Tags.{readings, readings_in, reads, reads_for_some, tag_for, takes_tag}
+use Rattle.bbm_lemmas.proofs.Elements.{to_filter_map}
 use Rattle.bbm_histories.specs.HistorySteps.{takes}
 use Rattle.bbm_alike.proofs.Distinct.{distinct_keeps}
 use Rattle.bbm_alike.proofs.TagSteps.{held_before}

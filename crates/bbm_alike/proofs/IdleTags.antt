@@ -1,26 +1,14 @@
 -- An event that leaves what is readable, and takes no tag that a root holds, leaves all tags.
-use Rattle.std.proofs.Common.{◌≡◌, ◌↔◌, ℕ, ◌<◌, Bool, true, false, cond, not, ◌&&◌, ◌||◌, ◌==◌, List, [], ◌∷◌, ◌++◌}
-use Rattle.std.proofs.Common.{Contains, filter_map, flat_map, refl, sym, ◌∙◌, ap, subst, true≢false}
-use Rattle.std.proofs.lemmas.Bool.{and_from, and_parts, eqb-true, false_from_ne_true}
+use Rattle.bbm_rules.proofs.Common.{◌≡◌, ◌↔◌, ℕ, ◌<◌, Bool, true, false, cond, not, ◌&&◌, ◌||◌, ◌==◌, List, [], ◌∷◌}
+use Rattle.bbm_rules.proofs.Common.{◌++◌, Contains, filter_map, flat_map, refl, sym, ◌∙◌, ap, subst, true≢false}
+use Rattle.bbm_rules.proofs.Common.{and_from, and_parts, eqb-true, false_from_ne_true, proved, Is, In, any_finds}
+use Rattle.bbm_rules.proofs.Common.{any_found, in_left, is_none_of, to_contains, answers, same_bool, operation, Trust}
+use Rattle.bbm_rules.proofs.Common.{same_tag, Patterns, any, below, Barrier, Heading, Event, Dmb, Dsb, Isb, Tlbi, Reg}
+use Rattle.bbm_rules.proofs.Common.{Tag, Issued, completes, reaches, unanswered, register_values, Declared, is_at}
+use Rattle.bbm_rules.proofs.Common.{is_root, roots_of, same_kind, Open, Reading, distinct, ever_read, holds_at}
+use Rattle.bbm_rules.proofs.Common.{holds_tag, itself, loses, readings, reads, reads_for_some, tag_for, takes_tag}
 use Rattle.bbm_lemmas.proofs.Words.{in_below}
-use Rattle.bbm_lemmas.proofs.Tautologies.{proved}
-use Rattle.bbm_lemmas.proofs.Tautologies.Claim.{Is}
-use Rattle.bbm_lemmas.specs.Elements.{In}
-use Rattle.bbm_lemmas.proofs.Elements.{any_finds, any_found, in_left, is_none_of, to_contains}
-use Rattle.bbm_barriers.specs.Options.{answers}
-use Rattle.bbm_descriptor.specs.Descriptor.{same_bool}
 use Rattle.bbm_tlbi_scope.specs.declared.op.TlbiOp.{TlbiOp}
-use Rattle.bbm_tlbi_scope.specs.Operations.{operation}
-use Rattle.bbm_rules.specs.Claims.{Trust, same_tag}
-use Rattle.bbm_rules.specs.Claims.Trust.{Patterns}
-use Rattle.bbm_rules.specs.Lists.{any, below}
-use Rattle.bbm_rules.specs.Prelude.{Barrier, Heading, Event, Dmb, Dsb, Isb, Tlbi, Reg, Tag}
-use Rattle.bbm_rules.specs.Reach.{Issued, completes, reaches, unanswered}
-use Rattle.bbm_rules.specs.RegisterValues.{register_values}
-use Rattle.bbm_rules.specs.Roots.{Declared, is_at, is_root, roots_of, same_kind}
-use Rattle.bbm_rules.specs.Sentences.{Open}
-use Rattle.bbm_rules.specs.Tags.{Reading, distinct, ever_read, holds_at, holds_tag, itself, loses, readings, reads}
-use Rattle.bbm_rules.specs.Tags.{reads_for_some, tag_for, takes_tag}
 use Rattle.bbm_histories.specs.HistorySteps.{answered_by, is_tlbi, tag_waits, tag_waits_after, takes}
 use Rattle.bbm_histories.specs.TagSteps.{kind_of_tag}
 use Rattle.bbm_alike.specs.SameTags.{AnswersNone, SameTags, TakesNone}

@@ -1,13 +1,8 @@
 -- The relation holds of the start by any two trusts, of a history and itself, both ways, and through a third.
-use Rattle.std.proofs.Common.{[], true≢false, ◌≡◌, ℕ, true, false, List, Option, Some, None, is_some, Contains, refl}
-use Rattle.std.proofs.Common.{sym, ◌∙◌, ap, subst}
-use Rattle.bbm_rules.specs.Prelude.{Heading, Event}
-use Rattle.bbm_rules.specs.Claims.{Trust}
-use Rattle.bbm_rules.specs.Covers.{noted}
-use Rattle.bbm_rules.specs.Held.{ValidWrite, last_valid}
-use Rattle.bbm_rules.specs.Notes.{Noted}
-use Rattle.bbm_rules.specs.Places.{page_of}
-use Rattle.bbm_rules.specs.Tree.{Node, held_at, tree}
+use Rattle.bbm_rules.proofs.Common.{[], true≢false, ◌≡◌, ℕ, true, false, List, Option, Some, None, is_some, Contains}
+use Rattle.bbm_rules.proofs.Common.{refl, sym, ◌∙◌, ap, subst, Heading, Event, Trust, noted, ValidWrite, last_valid}
+use Rattle.bbm_rules.proofs.Common.{Noted, page_of, Node, held_at}
+use Rattle.bbm_rules.specs.Tree.{tree}
 use Rattle.bbm_alike.specs.Alike.{Alike, SamePatterns}
 use Rattle.bbm_alike.proofs.HeldStep.{last_of}
 

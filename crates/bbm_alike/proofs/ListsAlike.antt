@@ -1,8 +1,6 @@
 -- Lists and tests that are made alike.
-use Rattle.std.proofs.Common.{◌≡◌, ℕ, zero, suc, ◌<◌, ◌||◌, Bool, cond, List, [], ◌∷◌, Option, filter}
-use Rattle.std.proofs.Common.{filter_map, flat_map, refl, ◌∙◌, ap, inl, inr, arith}
-use Rattle.bbm_lemmas.specs.Elements.{In}
-use Rattle.bbm_rules.specs.Lists.{some_pe}
+use Rattle.bbm_rules.proofs.Common.{◌≡◌, ℕ, zero, suc, ◌<◌, ◌||◌, Bool, cond, List, [], ◌∷◌, Option, filter, filter_map}
+use Rattle.bbm_rules.proofs.Common.{flat_map, refl, ◌∙◌, ap, inl, inr, arith, In, some_pe}
 
 pub same_flat : {A B : Type 0} (f g : A → List B) (xs : List A) → ((x : A) → In xs x → f x ≡ g x)
     → flat_map f xs ≡ flat_map g xs

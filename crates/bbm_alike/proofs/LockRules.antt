@@ -1,14 +1,8 @@
 -- The rules on locks, registers and operands judge alike.
-use Rattle.std.proofs.Common.{◌≡◌, ℕ, Bool, List, refl, ap}
-use Rattle.bbm_rules.specs.Claims.{Trust}
-use Rattle.bbm_rules.specs.Lists.{if_so}
-use Rattle.bbm_rules.specs.Locks.{holder_of}
-use Rattle.bbm_rules.specs.Notes.{Noted, events_of}
-use Rattle.bbm_rules.specs.Pages.{is_null}
-use Rattle.bbm_rules.specs.Prelude.{Heading, Event, Null, Root, Unroot, Tlbi, Msr, Lock, Unlock, Reg}
-use Rattle.bbm_rules.specs.RegisterValues.{register_values}
-use Rattle.bbm_rules.specs.Roots.{roots_of}
-use Rattle.bbm_rules.specs.Rules.{bad_operand, lock_busy, lock_not_mine, no_root, unsynced_vmid, wrong_world}
+use Rattle.bbm_rules.proofs.Common.{◌≡◌, ℕ, Bool, List, refl, ap, Trust, if_so, holder_of, Noted, events_of, is_null}
+use Rattle.bbm_rules.proofs.Common.{Heading, Event, Null, Root, Unroot, Tlbi, Msr, Lock, Unlock, Reg, register_values}
+use Rattle.bbm_rules.proofs.Common.{roots_of, no_root}
+use Rattle.bbm_rules.specs.Rules.{bad_operand, lock_busy, lock_not_mine, unsynced_vmid, wrong_world}
 use Rattle.bbm_alike.proofs.ReadingsAlike.{lacks_alike}
 
 module _ (heading : Heading) (one other : Trust) (h h' : List Noted) where

@@ -1,9 +1,7 @@
 -- Where every pattern is trusted, no later events tell histories apart that are alike.
-use Rattle.std.proofs.Common.{◌≡◌, ◌<◌, true, is_none, List, [], ◌∷◌, ◌++◌, sym, ◌∙◌}
-use Rattle.std.proofs.lemmas.Bool.{and_parts}
-use Rattle.bbm_rules.specs.Prelude.{Heading, Event}
-use Rattle.bbm_rules.specs.Broken.{broken, keeps}
-use Rattle.bbm_rules.specs.Claims.Trust.{Patterns}
+use Rattle.bbm_rules.proofs.Common.{◌≡◌, ◌<◌, true, is_none, List, [], ◌∷◌, ◌++◌, sym, ◌∙◌, and_parts, Heading, Event}
+use Rattle.bbm_rules.proofs.Common.{keeps, Patterns}
+use Rattle.bbm_rules.specs.Broken.{broken}
 use Rattle.bbm_alike.specs.Alike.{Alike}
 use Rattle.bbm_alike.specs.KnownOfHistories.{Known}
 use Rattle.bbm_alike.proofs.AlikeJudges.{same_keeps}

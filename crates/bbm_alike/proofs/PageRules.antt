@@ -1,21 +1,13 @@
 -- The rules on pages that are attached, initialised, declared or written judge alike.
-use Rattle.std.proofs.Common.{◌≡◌, ℕ, Bool, not, ◌&&◌, List, ◌++◌, Option, Some, option_and_then, option_to_list}
-use Rattle.std.proofs.Common.{flat_map, refl, ◌∙◌, ap}
-use Rattle.bbm_descriptor.specs.Descriptor.{desc_of}
-use Rattle.bbm_descriptor.specs.declared.desc.Desc.{Desc}
-use Rattle.bbm_rules.specs.Attach.{Attached, End, all_ends, attached_by, pages_of}
-use Rattle.bbm_rules.specs.Claims.{Trust}
-use Rattle.bbm_rules.specs.Covers.{is_global}
-use Rattle.bbm_rules.specs.Lists.{if_so, least, repeated}
-use Rattle.bbm_rules.specs.Notes.{Noted, events_of}
-use Rattle.bbm_rules.specs.Pages.{is_fresh, is_null}
-use Rattle.bbm_rules.specs.Places.{page_of}
-use Rattle.bbm_rules.specs.Prelude.{Kind, Ttbr0, Heading, Event, Init, Null, Root, Write}
-use Rattle.bbm_rules.specs.Roots.{root_pages, same_kind}
-use Rattle.bbm_rules.specs.Rules.{attached_with, bad_ends, bad_kind, global_user, is_contiguous, judged_ends, made_with}
-use Rattle.bbm_rules.specs.Rules.{not_fresh, page_in_use, places_with, unfresh, untracked_page, written_with}
-use Rattle.bbm_rules.specs.Tree.{Node, held_at, node_of, tree}
-use Rattle.bbm_rules.specs.Values.{value_of, written_places}
+use Rattle.bbm_rules.proofs.Common.{◌≡◌, ℕ, Bool, not, ◌&&◌, List, ◌++◌, Option, Some, option_and_then, option_to_list}
+use Rattle.bbm_rules.proofs.Common.{flat_map, refl, ◌∙◌, ap, desc_of, Desc, Attached, End, all_ends, attached_by}
+use Rattle.bbm_rules.proofs.Common.{pages_of, Trust, is_global, if_so, least, repeated, Noted, events_of, is_fresh}
+use Rattle.bbm_rules.proofs.Common.{is_null, page_of, Ttbr0, Heading, Event, Init, Null, Root, Write, root_pages}
+use Rattle.bbm_rules.proofs.Common.{same_kind, attached_with, bad_ends, bad_kind, global_user, is_contiguous}
+use Rattle.bbm_rules.proofs.Common.{judged_ends, made_with, not_fresh, page_in_use, places_with, unfresh}
+use Rattle.bbm_rules.proofs.Common.{untracked_page, written_with, Node, held_at, node_of, value_of, written_places}
+use Rattle.bbm_rules.specs.Prelude.{Kind}
+use Rattle.bbm_rules.specs.Tree.{tree}
 use Rattle.bbm_alike.proofs.PartsAlike.{same_attached_by, same_node}
 use Rattle.bbm_alike.proofs.ListsAlike.{same_filter, same_flat}
 

@@ -1,15 +1,11 @@
 -- What the definitions say of two annotated histories is the same where that of which they are made is the same.
-use Rattle.std.proofs.Common.{◌≡◌, ℕ, zero, suc, ◌-◌, Bool, cond, ◌==◌, List, [], ◌∷◌, Option, Some, None, is_none}
-use Rattle.std.proofs.Common.{option_and_then, find, filter_map, flat_map, map, refl, ◌∙◌, ap}
-use Rattle.bbm_rules.specs.Attach.{Attached, End, attached_by, attached_from, end_at, ends_below}
-use Rattle.bbm_rules.specs.Claims.{Trust}
-use Rattle.bbm_rules.specs.Notes.{Noted, events_of}
-use Rattle.bbm_rules.specs.Pages.{is_fresh}
-use Rattle.bbm_rules.specs.Places.{page_of}
-use Rattle.bbm_rules.specs.Prelude.{Kind, Heading, Event, Root, Write}
-use Rattle.bbm_rules.specs.Roots.{root_pages, start_of}
-use Rattle.bbm_rules.specs.Tree.{Node, held_at, in_limbo, next_of, node_of, tree}
-use Rattle.bbm_rules.specs.Values.{places_in, value_of, written_places}
+use Rattle.bbm_rules.proofs.Common.{◌≡◌, ℕ, zero, suc, ◌-◌, Bool, cond, ◌==◌, List, [], ◌∷◌, Option, Some, None}
+use Rattle.bbm_rules.proofs.Common.{is_none, option_and_then, find, filter_map, flat_map, map, refl, ◌∙◌, ap, Attached}
+use Rattle.bbm_rules.proofs.Common.{End, attached_by, attached_from, end_at, ends_below, Trust, Noted, events_of}
+use Rattle.bbm_rules.proofs.Common.{is_fresh, page_of, Heading, Event, Root, Write, root_pages, start_of, Node, held_at}
+use Rattle.bbm_rules.proofs.Common.{in_limbo, next_of, node_of, places_in, value_of, written_places}
+use Rattle.bbm_rules.specs.Prelude.{Kind}
+use Rattle.bbm_rules.specs.Tree.{tree}
 use Rattle.bbm_alike.proofs.ListsAlike.{same_flat}
 use Rattle.bbm_alike.proofs.SameThen.{same_then}
 

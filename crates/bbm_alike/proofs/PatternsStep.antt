@@ -1,15 +1,9 @@
 -- The patterns of a place after one more event, where those before it are alike and it covers the place as far.
-use Rattle.std.proofs.Common.{◌≡◌, ℕ, ◌<◌, ◌&&◌, ◌||◌, Bool, true, false, cond, ◌==◌, List, ◌∷◌, refl, sym, ◌∙◌, ap}
-use Rattle.std.proofs.lemmas.Bool.{or_parts, or_right}
-use Rattle.bbm_barriers.specs.Options.{answers}
-use Rattle.bbm_tlbi_scope.specs.declared.entry.Cover.{Cover}
-use Rattle.bbm_tlbi_scope.specs.declared.entry.Cover.TheVariants.{Half, Second, Full}
-use Rattle.bbm_rules.specs.Prelude.{Barrier, Heading, Event, Dsb, Tlbi}
-use Rattle.bbm_rules.specs.Claims.{Trust}
-use Rattle.bbm_rules.specs.Cleansing.{cleansed, flushes, full_step, half, same_cover, second_step, seen, writes}
-use Rattle.bbm_rules.specs.Notes.{Noted, event_of}
-use Rattle.bbm_rules.specs.Reach.{reaches}
-use Rattle.bbm_rules.specs.Values.{publishes_to}
+use Rattle.bbm_rules.proofs.Common.{◌≡◌, ℕ, ◌<◌, ◌&&◌, ◌||◌, Bool, true, false, cond, ◌==◌, List, ◌∷◌, refl, sym, ◌∙◌}
+use Rattle.bbm_rules.proofs.Common.{ap, or_parts, or_right, answers, Cover, Half, Second, Full, Barrier, Heading, Event}
+use Rattle.bbm_rules.proofs.Common.{Dsb, Tlbi, Trust, cleansed, flushes, full_step, half, same_cover, second_step, seen}
+use Rattle.bbm_rules.proofs.Common.{writes, Noted, reaches, publishes_to}
+use Rattle.bbm_rules.specs.Notes.{event_of}
 use Rattle.bbm_histories.specs.ClaimSteps.{cleansed_under}
 use Rattle.bbm_histories.specs.HistorySteps.{answered_by, half_after, half_waits, is_tlbi, seen_after, waits}
 use Rattle.bbm_histories.specs.HistorySteps.{waits_after, wrote}

@@ -1,11 +1,6 @@
 -- One event more, the same in both histories: what goes by the events alone stays alike, whatever the event is.
-use Rattle.std.proofs.Common.{◌≡◌, ℕ, List, ◌∷◌, refl}
-use Rattle.bbm_rules.specs.Locks.{holder_of}
-use Rattle.bbm_rules.specs.Pages.{is_null}
-use Rattle.bbm_rules.specs.Prelude.{Event, Init, Null, Root, Unroot, Write, Isb, Msr, Lock, Unlock, Reg}
-use Rattle.bbm_rules.specs.RegisterValues.{register_values}
-use Rattle.bbm_rules.specs.Roots.{roots_of}
-use Rattle.bbm_rules.specs.Values.{value_of, written_places}
+use Rattle.bbm_rules.proofs.Common.{◌≡◌, ℕ, List, ◌∷◌, refl, holder_of, is_null, Event, Init, Null, Root, Unroot, Write}
+use Rattle.bbm_rules.proofs.Common.{Isb, Msr, Lock, Unlock, Reg, register_values, roots_of, value_of, written_places}
 
 module _ (h h' : List Event) where
   pub values_step : (e : Event) (place : ℕ) → value_of h place ≡ value_of h' place

@@ -1,18 +1,12 @@
 -- Where no write of a place is seen after its last valid write, nothing is half, cleansed or waits.
-use Rattle.std.proofs.Common.{◌≡◌, ℕ, ◌&&◌, Bool, true, false, ◌==◌, List, [], ◌∷◌, ◌++◌, refl, sym, ◌∙◌, ap}
-use Rattle.std.proofs.Common.{true≢false, inl, inr}
+use Rattle.bbm_rules.proofs.Common.{◌≡◌, ℕ, ◌&&◌, Bool, true, false, ◌==◌, List, [], ◌∷◌, ◌++◌, refl, sym, ◌∙◌, ap}
+use Rattle.bbm_rules.proofs.Common.{true≢false, inl, inr, and_right, eqb-true, false_from_ne_true, or_from, or_parts}
+use Rattle.bbm_rules.proofs.Common.{answers, Cover, Half, Second, Full, Heading, Event, Write, Dsb, Tlbi, Trust}
+use Rattle.bbm_rules.proofs.Common.{cleansed, flushes, half, same_cover, seen, writes, Noted, Cleansed, Flush, Issued}
+use Rattle.bbm_rules.proofs.Common.{reaches, publishes_to}
 use Rattle.std.proofs.Math.Bool.{and-false}
-use Rattle.std.proofs.lemmas.Bool.{and_right, eqb-true, false_from_ne_true, or_from, or_parts}
-use Rattle.bbm_barriers.specs.Options.{answers}
-use Rattle.bbm_tlbi_scope.specs.declared.entry.Cover.{Cover}
-use Rattle.bbm_tlbi_scope.specs.declared.entry.Cover.TheVariants.{Half, Second, Full}
-use Rattle.bbm_rules.specs.Prelude.{Heading, Event, Write, Dsb, Tlbi}
-use Rattle.bbm_rules.specs.Claims.{Trust}
-use Rattle.bbm_rules.specs.Cleansing.{cleansed, flushes, half, same_cover, seen, writes}
-use Rattle.bbm_rules.specs.Notes.{Noted, event_of}
-use Rattle.bbm_rules.specs.PatternSentences.{Cleansed, Flush, IsHalf}
-use Rattle.bbm_rules.specs.Reach.{Issued, reaches}
-use Rattle.bbm_rules.specs.Values.{publishes_to}
+use Rattle.bbm_rules.specs.Notes.{event_of}
+use Rattle.bbm_rules.specs.PatternSentences.{IsHalf}
 use Rattle.bbm_histories.specs.HistorySteps.{full_waits, half_waits, is_tlbi, second_waits, seen_after, waits}
 use Rattle.bbm_histories.specs.HistorySteps.{waits_after, wrote}
 use Rattle.bbm_alike.specs.Alike.{SamePatterns}

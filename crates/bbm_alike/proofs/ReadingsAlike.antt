@@ -1,18 +1,15 @@
 -- Where the same registers have the same readable values, and the same roots are declared, the same VMIDs and the same
 -- tags are readable, and a TLBI names the same.
-use Rattle.std.proofs.Common.{◌≡◌, ℕ, ◌&&◌, ◌==◌, Bool, cond, List, ◌++◌, Option, None, filter_map, flat_map, is_none}
-use Rattle.std.proofs.Common.{map, option_and_then, refl, ◌∙◌, ap}
-use Rattle.std.specs.Result.{result_ok}
-use Rattle.bbm_tlbi_scope.specs.Operations.{scoped_by_vmid}
-use Rattle.bbm_rules.specs.Prelude.{AsidFrom, FromTtbr0, FromTtbr1, Reg, Ttbr0El2, VttbrEl2, Ttbr0El1, Ttbr1El1, Tag}
-use Rattle.bbm_rules.specs.Prelude.{El2Tag, Vmid, Asid, Ttbr1Tag, World, Hyp, Kernel, Heading, Event, TlbiOp, scope_of}
-use Rattle.bbm_rules.specs.Claims.{same_tag}
-use Rattle.bbm_rules.specs.Lists.{any, if_so, one_number}
-use Rattle.bbm_rules.specs.RegisterValues.{base_of, kind_of_reg, lacks_vmid, named_scope, register_values, tag_number}
-use Rattle.bbm_rules.specs.RegisterValues.{vmid_in, vmid_of}
-use Rattle.bbm_rules.specs.Roots.{Declared, is_at, roots_of, same_kind}
-use Rattle.bbm_rules.specs.Tags.{Reading, asid_readings, reading_of, readings, readings_in, readings_of, reads}
-use Rattle.bbm_rules.specs.Tags.{reads_for_some}
+use Rattle.bbm_rules.proofs.Common.{◌≡◌, ℕ, ◌&&◌, ◌==◌, Bool, cond, List, ◌++◌, Option, None, filter_map, flat_map}
+use Rattle.bbm_rules.proofs.Common.{is_none, map, option_and_then, refl, ◌∙◌, ap, result_ok, scoped_by_vmid, AsidFrom}
+use Rattle.bbm_rules.proofs.Common.{FromTtbr0, FromTtbr1, Reg, Ttbr0El2, VttbrEl2, Ttbr0El1, Ttbr1El1, Tag, El2Tag}
+use Rattle.bbm_rules.proofs.Common.{Vmid, Asid, Ttbr1Tag, World, Hyp, Kernel, Heading, Event, TlbiOp, same_tag, any}
+use Rattle.bbm_rules.proofs.Common.{if_so, one_number, base_of, kind_of_reg, lacks_vmid, named_scope, register_values}
+use Rattle.bbm_rules.proofs.Common.{tag_number, vmid_of, Declared, is_at, roots_of, same_kind, Reading, asid_readings}
+use Rattle.bbm_rules.proofs.Common.{readings, readings_in, readings_of, reads, reads_for_some}
+use Rattle.bbm_rules.specs.Prelude.{scope_of}
+use Rattle.bbm_rules.specs.RegisterValues.{vmid_in}
+use Rattle.bbm_rules.specs.Tags.{reading_of}
 use Rattle.bbm_alike.proofs.ListsAlike.{same_filter_map, same_flat}
 
 module _ (h h' : List Event) (registers : (p : ℕ) (reg : Reg) → register_values h p reg ≡ register_values h' p reg) where

@@ -1,5 +1,5 @@
 -- The same step after the same option gives the same.
-use Rattle.std.proofs.Common.{◌≡◌, Option, Some, None, option_and_then, refl, ◌∙◌, ap}
+use Rattle.bbm_rules.proofs.Common.{◌≡◌, Option, Some, None, option_and_then, refl, ◌∙◌, ap}
 
 -- the steps need be the same only at what is there
 pub same_then : {A B : Type 0} (f g : A → Option B) (o o' : Option A) → o ≡ o' → ((x : A) → o ≡ Some x → f x ≡ g x)

@@ -1,14 +1,10 @@
 -- The rules on tags and on roots in use judge alike.
-use Rattle.std.proofs.Common.{◌≡◌, ℕ, ◌<◌, Bool, not, ◌&&◌, ◌||◌, ◌==◌, nat_lt, List, ◌∷◌, length, Option, is_none}
-use Rattle.std.proofs.Common.{filter, find, flat_map, map, refl, ◌∙◌, ap}
-use Rattle.bbm_rules.specs.Claims.{Trust}
-use Rattle.bbm_rules.specs.Lists.{if_so, least, some_pe}
-use Rattle.bbm_rules.specs.Notes.{Noted, events_of}
-use Rattle.bbm_rules.specs.Prelude.{Heading, Event, Unroot, Msr, Reg, Tag}
-use Rattle.bbm_rules.specs.RegisterValues.{register_values}
-use Rattle.bbm_rules.specs.Roots.{Declared, root_at, roots_of}
-use Rattle.bbm_rules.specs.Rules.{is_base_at, is_used, other_holders, root_in_use, tag_conflict}
-use Rattle.bbm_rules.specs.Tags.{Reading, holds_at, holds_tag, readings, tags_of}
+use Rattle.bbm_rules.proofs.Common.{◌≡◌, ℕ, ◌<◌, Bool, not, ◌&&◌, ◌||◌, ◌==◌, nat_lt, List, ◌∷◌, length, Option}
+use Rattle.bbm_rules.proofs.Common.{is_none, filter, find, flat_map, map, refl, ◌∙◌, ap, Trust, if_so, least, some_pe}
+use Rattle.bbm_rules.proofs.Common.{Noted, events_of, Heading, Event, Unroot, Msr, Reg, Tag, register_values, Declared}
+use Rattle.bbm_rules.proofs.Common.{root_at, roots_of, is_base_at, tag_conflict, Reading, holds_at, holds_tag, readings}
+use Rattle.bbm_rules.proofs.Common.{tags_of}
+use Rattle.bbm_rules.specs.Rules.{is_used, other_holders, root_in_use}
 use Rattle.bbm_alike.proofs.ListsAlike.{same_filter, same_flat, same_some_pe}
 use Rattle.bbm_alike.proofs.TagSteps.{holds_step, readings_step}
 

@@ -1,21 +1,11 @@
 -- One event more, the same in two histories: the same roots hold the same tags, of which the same wait to be taken away.
-use Rattle.std.proofs.Common.{◌≡◌, ◌↔◌, ℕ, ◌<◌, Bool, true, false, cond, not, ◌&&◌, ◌||◌, ◌==◌, List, ◌∷◌, ◌++◌, Option}
-use Rattle.std.proofs.Common.{Some, None, filter_map, flat_map, refl, sym, ◌∙◌, ap, true≢false, inl, inr}
+use Rattle.bbm_rules.proofs.Common.{◌≡◌, ◌↔◌, ℕ, ◌<◌, Bool, true, false, cond, not, ◌&&◌, ◌||◌, ◌==◌, List, ◌∷◌, ◌++◌}
+use Rattle.bbm_rules.proofs.Common.{Option, Some, None, filter_map, flat_map, refl, sym, ◌∙◌, ap, true≢false, inl, inr}
+use Rattle.bbm_rules.proofs.Common.{and_parts, or_cases, proved, If, Is, any_finds, any_found, answers, Trust, same_tag}
+use Rattle.bbm_rules.proofs.Common.{below, Heading, Event, Dsb, Tlbi, Reg, Scope, Tag, takes_whole_tag, reaches}
+use Rattle.bbm_rules.proofs.Common.{named_scope, register_values, vmid_of, roots_of, Reading, distinct, ever_read}
+use Rattle.bbm_rules.proofs.Common.{holds_at, loses, readings, reads, reads_for_some, tag_for, takes_tag}
 use Rattle.std.proofs.Math.Bool.{and-false}
-use Rattle.std.proofs.lemmas.Bool.{and_parts, or_cases}
-use Rattle.bbm_lemmas.proofs.Tautologies.{proved}
-use Rattle.bbm_lemmas.proofs.Tautologies.Claim.{If, Is}
-use Rattle.bbm_lemmas.proofs.Elements.{any_finds, any_found}
-use Rattle.bbm_barriers.specs.Options.{answers}
-use Rattle.bbm_rules.specs.Claims.{Trust, same_tag}
-use Rattle.bbm_rules.specs.Lists.{below}
-use Rattle.bbm_rules.specs.Prelude.{Heading, Event, Dsb, Tlbi, Reg, Scope, Tag}
-use Rattle.bbm_tlbi_scope.specs.ScopeTags.{takes_whole_tag}
-use Rattle.bbm_rules.specs.Reach.{reaches}
-use Rattle.bbm_rules.specs.RegisterValues.{named_scope, register_values, vmid_of}
-use Rattle.bbm_rules.specs.Roots.{roots_of}
-use Rattle.bbm_rules.specs.Tags.{Reading, distinct, ever_read, holds_at, loses, readings, reads, reads_for_some}
-use Rattle.bbm_rules.specs.Tags.{tag_for, takes_tag}
 use Rattle.bbm_histories.specs.HistorySteps.{is_tlbi, tag_waits, tag_waits_after}
 use Rattle.bbm_alike.specs.SameTags.{SameTags}
 use Rattle.bbm_alike.proofs.Distinct.{distinct_append}

@@ -1,14 +1,8 @@
 -- What an event takes away is alike in histories that are alike: where every pattern is trusted, and by any trust where
 -- the event is no DSB.
-use Rattle.std.proofs.Common.{◌≡◌, ℕ, ◌<◌, ◌&&◌, ◌||◌, not, Bool, true, false, List, ◌∷◌, refl, sym, ◌∙◌, ap}
-use Rattle.std.proofs.lemmas.Bool.{or_right}
-use Rattle.bbm_rules.specs.Prelude.{Barrier, Heading, Event, Dsb, Tag}
-use Rattle.bbm_rules.specs.Claims.{Trust}
-use Rattle.bbm_rules.specs.Claims.Trust.{Patterns}
-use Rattle.bbm_rules.specs.Cleansing.{cleansed}
-use Rattle.bbm_rules.specs.Covers.{note, noted}
-use Rattle.bbm_rules.specs.Notes.{Noted}
-use Rattle.bbm_rules.specs.Tags.{holds_at, loses, reads_for_some}
+use Rattle.bbm_rules.proofs.Common.{◌≡◌, ℕ, ◌<◌, ◌&&◌, ◌||◌, not, Bool, true, false, List, ◌∷◌, refl, sym, ◌∙◌, ap}
+use Rattle.bbm_rules.proofs.Common.{or_right, Barrier, Heading, Event, Dsb, Tag, Trust, Patterns, cleansed, note, noted}
+use Rattle.bbm_rules.proofs.Common.{Noted, holds_at, loses, reads_for_some}
 use Rattle.bbm_histories.specs.ClaimSteps.{cleansed_under}
 use Rattle.bbm_histories.specs.HistorySteps.{answered_by, cleansed_after, full_waits, second_waits, tag_waits}
 use Rattle.bbm_alike.specs.Alike.{Alike, SamePatterns, TakesAlike}

@@ -1,17 +1,9 @@
 -- The rules on writes at places of trees, of null pages and of fresh pages judge alike.
-use Rattle.std.proofs.Common.{◌≡◌, ℕ, List, Option, Some, option_and_then, refl, ap}
-use Rattle.bbm_descriptor.specs.Descriptor.{needs}
-use Rattle.bbm_rules.specs.Claims.{Trust}
-use Rattle.bbm_rules.specs.Lists.{if_so}
-use Rattle.bbm_rules.specs.Locks.{holder_of}
-use Rattle.bbm_rules.specs.Notes.{Noted, events_of}
-use Rattle.bbm_rules.specs.Pages.{is_fresh, is_null}
-use Rattle.bbm_rules.specs.Places.{page_of}
-use Rattle.bbm_rules.specs.Prelude.{Heading, Event, Unroot, Write}
-use Rattle.bbm_rules.specs.Roots.{roots_of}
-use Rattle.bbm_rules.specs.Rules.{break_before_make, limbo_make, no_lock, null_written, rewritten_fresh}
-use Rattle.bbm_rules.specs.Tree.{Node, held_at, node_of, tree}
-use Rattle.bbm_rules.specs.Values.{value_of}
+use Rattle.bbm_rules.proofs.Common.{◌≡◌, ℕ, List, Option, Some, option_and_then, refl, ap, needs, Trust, if_so}
+use Rattle.bbm_rules.proofs.Common.{holder_of, Noted, events_of, is_fresh, is_null, page_of, Heading, Event, Unroot}
+use Rattle.bbm_rules.proofs.Common.{Write, roots_of, break_before_make, limbo_make, no_lock, null_written}
+use Rattle.bbm_rules.proofs.Common.{rewritten_fresh, Node, held_at, node_of, value_of}
+use Rattle.bbm_rules.specs.Tree.{tree}
 use Rattle.bbm_alike.proofs.SameThen.{same_then}
 use Rattle.bbm_alike.proofs.PartsAlike.{same_node}
 

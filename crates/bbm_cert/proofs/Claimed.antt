@@ -1,22 +1,12 @@
 -- A place is cleansed by the newer part of a log exactly where some claim of it has a mark above what came before.
-use Rattle.std.proofs.Common.{◌≡◌, ℕ, suc, ◌≤◌, Bool, true, false, cond, ◌&&◌, ◌||◌, nat_lt, ◌==◌, List, [], ◌∷◌, ◌++◌}
-use Rattle.std.proofs.Common.{length, refl, sym, ◌∙◌, ap, arith, zero-le}
-use Rattle.std.proofs.lemmas.Bool.{and_right, eqb-true, le-ltb}
-use Rattle.bbm_lemmas.proofs.Tautologies.{proved}
-use Rattle.bbm_lemmas.proofs.Tautologies.Claim.{If, Is}
-use Rattle.bbm_tlbi_scope.specs.declared.entry.Cover.{Cover}
-use Rattle.bbm_tlbi_scope.specs.declared.entry.Cover.TheVariants.{Second, Full}
-use Rattle.bbm_events.specs.declared.claim.Claim.{Claim}
-use Rattle.bbm_events.specs.declared.claim.Claim.TheVariants.{Place, Two, Taken}
-use Rattle.bbm_rules.specs.Claims.Trust.{Listed}
-use Rattle.bbm_rules.specs.Cleansing.{cleansed}
-use Rattle.bbm_rules.specs.Lists.{any}
-use Rattle.bbm_rules.specs.Notes.{Noted, event_of}
-use Rattle.bbm_rules.specs.Prelude.{Heading, Event, Dsb}
-use Rattle.bbm_histories.specs.ClaimSteps.{cleansed_listed, completes_claim, half_by, seen_by}
-use Rattle.bbm_histories.specs.HistorySteps.{answered_by, waits}
-use Rattle.bbm_cert.specs.KnownOfClaims.{Known}
-use Rattle.bbm_cert.specs.Marks.{claim_mark, flush_mark, half_mark, is_of, is_true_of, mark_at, seen_mark}
+use Rattle.bbm_cert.proofs.Common.{half_by, seen_by, answered_by, waits, Known, claim_mark, flush_mark, half_mark}
+use Rattle.bbm_cert.proofs.Common.{is_of, is_true_of, mark_at, seen_mark}
+use Rattle.bbm_rules.proofs.Common.{◌≡◌, ℕ, suc, ◌≤◌, Bool, true, false, cond, ◌&&◌, ◌||◌, nat_lt, ◌==◌, List, [], ◌∷◌}
+use Rattle.bbm_rules.proofs.Common.{◌++◌, length, refl, sym, ◌∙◌, ap, arith, zero-le, and_right, eqb-true, le-ltb}
+use Rattle.bbm_rules.proofs.Common.{proved, If, Is, Cover, Second, Full, Claim, Place, Two, Taken, Listed, cleansed}
+use Rattle.bbm_rules.proofs.Common.{any, Noted, Heading, Event, Dsb}
+use Rattle.bbm_rules.specs.Notes.{event_of}
+use Rattle.bbm_histories.specs.ClaimSteps.{cleansed_listed, completes_claim}
 use Rattle.bbm_cert.proofs.Tests.{any_both, any_never, lt_at, none_below}
 use Rattle.bbm_cert.proofs.Marked.{Marks, Numbered, flush_at, flush_is, flush_within, half_marks, mark_none}
 use Rattle.bbm_cert.proofs.Marked.{mark_within, seen_marks}

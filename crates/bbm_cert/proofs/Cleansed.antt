@@ -1,29 +1,15 @@
 -- What is kept of the claims that are true, after one more claim and after one more event, and what it says.
-use Rattle.std.proofs.Common.{◌≡◌, ℕ, suc, ◌+◌, ◌≤◌, ◌<◌, Bool, true, false, cond, ◌&&◌, ◌||◌, nat_eq}
-use Rattle.std.proofs.Common.{nat_lt, ◌==◌, inl, inr, true≢false, List, [], ◌∷◌, ◌++◌, length, take, drop, get_or}
-use Rattle.std.proofs.Common.{slice_set, reverse, refl, sym, ◌∙◌, ap, subst, arith}
-use Rattle.std.proofs.Math.Bool.{and-false, or-false}
-use Rattle.std.proofs.Math.Seq.{drop-cons}
-use Rattle.std.proofs.lemmas.Bool.{cases_eq, eq-eqb, eqb-true, ne_eqb}
-use Rattle.std.proofs.lemmas.List.{length-append, length-reverse, reverse-append, set_split, take-append-drop}
-use Rattle.std.proofs.lemmas.List.Folds.{list_any-append}
-use Rattle.bbm_lemmas.proofs.Tautologies.{proved}
-use Rattle.bbm_lemmas.proofs.Tautologies.Claim.{Is}
-use Rattle.bbm_events.specs.declared.claim.Claim.{Claim}
-use Rattle.bbm_events.specs.declared.claim.Claim.TheVariants.{Place, Two, Taken}
+use Rattle.bbm_cert.proofs.Common.{slice_set, and-false, or-false, length-append, set_split, note_of, notes_behind}
+use Rattle.bbm_cert.proofs.Common.{notes_of, Kept, ends_now, tells, Known, claim_mark, is_of, is_true_of, Cleansing}
+use Rattle.bbm_rules.proofs.Common.{◌≡◌, ℕ, suc, ◌+◌, ◌≤◌, ◌<◌, Bool, true, false, cond, ◌&&◌, ◌||◌, nat_eq, nat_lt}
+use Rattle.bbm_rules.proofs.Common.{◌==◌, inl, inr, true≢false, List, [], ◌∷◌, ◌++◌, length, take, drop, get_or}
+use Rattle.bbm_rules.proofs.Common.{reverse, refl, sym, ◌∙◌, ap, subst, arith, drop-cons, cases_eq, eq-eqb, eqb-true}
+use Rattle.bbm_rules.proofs.Common.{ne_eqb, length-reverse, reverse-append, take-append-drop, list_any-append, proved}
+use Rattle.bbm_rules.proofs.Common.{Is, Claim, Place, Two, Taken, PeMask, Listed, cleansed, any, Noted, Heading, Event}
+use Rattle.bbm_rules.proofs.Common.{Dsb}
 use Rattle.bbm_regimes.specs.PeMask.{pe_in}
-use Rattle.bbm_regimes.specs.declared.pe.PeMask.{PeMask}
-use Rattle.bbm_rules.specs.Claims.Trust.{Listed}
-use Rattle.bbm_rules.specs.Cleansing.{cleansed}
-use Rattle.bbm_rules.specs.Lists.{any}
-use Rattle.bbm_rules.specs.Notes.{Noted}
-use Rattle.bbm_rules.specs.Prelude.{Heading, Event, Dsb}
-use Rattle.bbm_oracle_patterns.specs.Kept.{note_of, notes_behind, notes_of}
-use Rattle.bbm_oracle_patterns.specs.declared.kept.Kept.{Kept}
-use Rattle.bbm_cert.specs.Cleansings.{Tell, counts, ends_now, is_barrier, tells}
-use Rattle.bbm_cert.specs.KnownOfClaims.{Known}
-use Rattle.bbm_cert.specs.Marks.{claim_mark, completed_mark, end_of, is_of, is_true_of}
-use Rattle.bbm_cert.specs.declared.cleansings.Cleansing.{Cleansing}
+use Rattle.bbm_cert.specs.Cleansings.{Tell, counts, is_barrier}
+use Rattle.bbm_cert.specs.Marks.{completed_mark, end_of}
 use Rattle.bbm_cert.proofs.Claimed.{cleansed_is}
 use Rattle.bbm_cert.proofs.Kepts.{length_before, length_notes, numbered}
 use Rattle.bbm_cert.proofs.Marked.{Numbered, mark_none}

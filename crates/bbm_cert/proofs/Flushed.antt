@@ -1,28 +1,15 @@
 -- The TLBI at a position of a log that is kept, and the barrier behind the log that answers it.
-use Rattle.std.proofs.Common.{◌≡◌, ℕ, suc, ◌+◌, ◌-◌, ◌<◌, ◌⊎◌, Bool, true, false, cond, ◌&&◌, ◌||◌, not, ◌==◌, List, []}
-use Rattle.std.proofs.Common.{◌∷◌, ◌++◌, length, take, drop, get_or, reverse, refl, sym, ◌∙◌, ap, arith}
-use Rattle.std.proofs.Common.{length-append}
-use Rattle.std.proofs.Math.Bool.{or_comm, or-false}
-use Rattle.std.proofs.lemmas.Bool.{and_right, eq-eqb, ne_eqb}
-use Rattle.std.proofs.lemmas.List.{get_or_default, length-drop, reverse-append, take_all}
-use Rattle.std.proofs.lemmas.List.Folds.{list_any-append}
-use Rattle.std.specs.List.{list_any}
-use Rattle.bbm_lemmas.proofs.Tautologies.{proved}
-use Rattle.bbm_lemmas.proofs.Tautologies.Claim.{Is}
-use Rattle.bbm_barriers.specs.Options.{answers}
-use Rattle.bbm_tlbi_scope.specs.declared.entry.Cover.{Cover}
-use Rattle.bbm_tlbi_scope.specs.Operations.{operation}
-use Rattle.bbm_rules.specs.Cleansing.{same_cover}
-use Rattle.bbm_rules.specs.Notes.{Noted}
-use Rattle.bbm_descriptor.specs.Descriptor.{same_bool}
-use Rattle.bbm_rules.specs.Prelude.{Barrier, Heading, Event, Dsb, Tlbi, TlbiOp}
-use Rattle.bbm_rules.specs.Reach.{completes, reaches}
-use Rattle.bbm_rules.specs.Sentences.{completes_for, issues}
-use Rattle.bbm_histories.specs.HistorySteps.{answered_by, is_tlbi}
-use Rattle.bbm_oracle_patterns.specs.Kept.{cover_in, note_of, notes_of}
-use Rattle.bbm_oracle_patterns.specs.declared.kept.Kept.{Kept}
-use Rattle.bbm_cert.specs.Flushes.{completed_by, is_flush_of}
-use Rattle.bbm_cert.specs.Marks.{answers_for, flush_mark, flushes_for, mark_at, waits_at}
+use Rattle.bbm_cert.proofs.Common.{or_comm, or-false, answered_by, is_tlbi, note_of, notes_of, Kept, completed_by}
+use Rattle.bbm_cert.proofs.Common.{answers_for, flush_mark, mark_at, waits_at}
+use Rattle.bbm_rules.proofs.Common.{◌≡◌, ℕ, suc, ◌+◌, ◌-◌, ◌<◌, ◌⊎◌, Bool, true, false, cond, ◌&&◌, ◌||◌, not, ◌==◌}
+use Rattle.bbm_rules.proofs.Common.{List, [], ◌∷◌, ◌++◌, length, take, drop, get_or, reverse, refl, sym, ◌∙◌, ap, arith}
+use Rattle.bbm_rules.proofs.Common.{length-append, and_right, eq-eqb, ne_eqb, get_or_default, length-drop}
+use Rattle.bbm_rules.proofs.Common.{reverse-append, take_all, list_any-append, list_any, proved, Is, answers, Cover}
+use Rattle.bbm_rules.proofs.Common.{operation, same_cover, Noted, same_bool, Barrier, Heading, Event, Dsb, Tlbi, TlbiOp}
+use Rattle.bbm_rules.proofs.Common.{completes, reaches, completes_for, issues}
+use Rattle.bbm_oracle_patterns.specs.Kept.{cover_in}
+use Rattle.bbm_cert.specs.Flushes.{is_flush_of}
+use Rattle.bbm_cert.specs.Marks.{flushes_for}
 use Rattle.bbm_cert.proofs.Kepts.{length_before, length_notes, mark_found, mark_lost, split}
 
 -- ---- tests

@@ -1,23 +1,12 @@
 -- What is kept of the tags that roots hold: one more of them, and one more event.
-use Rattle.std.proofs.Common.{◌≡◌, ℕ, ◌<◌, ◌+◌, Bool, true, false, not, ◌&&◌, ◌||◌, ◌==◌, List, [], ◌∷◌, ◌++◌}
-use Rattle.std.proofs.Common.{length, take, get_or, refl, sym, ◌∙◌, ap, true≢false}
-use Rattle.std.proofs.Math.Bool.{and-false}
-use Rattle.std.proofs.lemmas.Bool.{or_left}
-use Rattle.std.proofs.lemmas.List.Folds.{list_any_more}
-use Rattle.std.specs.List.{list_any}
-use Rattle.bbm_lemmas.proofs.Tautologies.{proved}
-use Rattle.bbm_lemmas.proofs.Tautologies.Claim.{If, Is}
-use Rattle.bbm_events.specs.declared.claim.Claim.{Claim}
-use Rattle.bbm_rules.specs.Changes.{changes}
-use Rattle.bbm_rules.specs.Claims.{same_tag}
-use Rattle.bbm_rules.specs.Claims.Trust.{Listed}
-use Rattle.bbm_rules.specs.Prelude.{AsidFrom, FromTtbr0, FromTtbr1, World, Hyp, Kernel, Tag, Heading, Event, Dsb, Root}
-use Rattle.bbm_rules.specs.Prelude.{Unroot, Isb, Msr, Ttbr1El1, Ttbr1Tag}
-use Rattle.bbm_rules.specs.Tags.{Reading, asid_readings, holds_at, loses, reads, reads_for_some, readings_in}
-use Rattle.bbm_rules.specs.Tags.{readings_of}
-use Rattle.bbm_cert.specs.Holdings.{ends_some, has, is_holding, is_lost, next_has, stays_held}
-use Rattle.bbm_cert.specs.KnownOfClaims.{Known}
-use Rattle.bbm_oracle_tags.specs.declared.holding.Holding.{Holding}
+use Rattle.bbm_cert.proofs.Common.{and-false, ends_some, has, is_lost, stays_held, Known, Holding}
+use Rattle.bbm_rules.proofs.Common.{◌≡◌, ℕ, ◌<◌, ◌+◌, Bool, true, false, not, ◌&&◌, ◌||◌, ◌==◌, List, [], ◌∷◌, ◌++◌}
+use Rattle.bbm_rules.proofs.Common.{length, take, get_or, refl, sym, ◌∙◌, ap, true≢false, or_left, list_any_more}
+use Rattle.bbm_rules.proofs.Common.{list_any, proved, If, Is, Claim, changes, same_tag, Listed, AsidFrom, FromTtbr0}
+use Rattle.bbm_rules.proofs.Common.{FromTtbr1, World, Hyp, Kernel, Tag, Heading, Event, Dsb, Root, Unroot, Isb, Msr}
+use Rattle.bbm_rules.proofs.Common.{Ttbr1El1, Ttbr1Tag, Reading, asid_readings, holds_at, loses, reads, reads_for_some}
+use Rattle.bbm_rules.proofs.Common.{readings_in, readings_of}
+use Rattle.bbm_cert.specs.Holdings.{is_holding, next_has}
 use Rattle.bbm_cert.specs.declared.holdings.Loss.{Loss}
 
 -- ---- one more of the tags that were held

@@ -1,15 +1,11 @@
 -- What claims make of a log, and the logs that keep the rules by them.
-use Rattle.std.proofs.Common.{◌≡◌, ℕ, suc, true, List, [], ◌∷◌, ◌++◌, length, Option, Some, None, is_none}
-use Rattle.std.proofs.Common.{refl, sym, ◌∙◌, ap}
-use Rattle.std.proofs.lemmas.Bool.{and_parts}
-use Rattle.bbm_rules.specs.Broken.{Breach, broken, keeps}
-use Rattle.bbm_rules.specs.Claims.Trust.{Listed}
-use Rattle.bbm_rules.specs.Prelude.{Heading, Event}
-use Rattle.bbm_events.specs.declared.claim.Claim.{Claim}
+use Rattle.bbm_cert.proofs.Common.{Judged, Yes, judged_with}
+use Rattle.bbm_rules.proofs.Common.{◌≡◌, ℕ, suc, true, List, [], ◌∷◌, ◌++◌, length, Option, Some, None, is_none, refl}
+use Rattle.bbm_rules.proofs.Common.{sym, ◌∙◌, ap, and_parts, Breach, keeps, Listed, Heading, Event, Claim}
+use Rattle.bbm_rules.specs.Broken.{broken}
 use Rattle.bbm_rules.specs.declared.rule.Rule.{Rule}
-use Rattle.bbm_cert.specs.declared.judged.Judged.{Judged}
-use Rattle.bbm_cert.specs.declared.judged.Judged.TheVariants.{Yes, No}
-use Rattle.bbm_cert.specs.Judged.{FirstBroken, judged, judged_with}
+use Rattle.bbm_cert.specs.declared.judged.Judged.TheVariants.{No}
+use Rattle.bbm_cert.specs.Judged.{FirstBroken, judged}
 
 kept_yes : (position : ℕ) (o : Option Breach) (j : Judged) → is_none o ≡ true → j ≡ Yes → judged_with position o j ≡ Yes
 kept_yes position None j free said = ap (judged_with position None) said

@@ -1,15 +1,9 @@
 -- The note at a position of a log that is kept, oldest first.
-use Rattle.std.proofs.Common.{◌≡◌, ℕ, suc, ◌+◌, ◌≤◌, ◌<◌, ◌⊎◌, Bool, true, false, cond}
-use Rattle.std.proofs.Common.{◌==◌, List, [], ◌∷◌, ◌++◌, length, take, drop, get_or, reverse, refl, sym, ◌∙◌, ap}
-use Rattle.std.proofs.Common.{arith, inl, inr}
-use Rattle.std.proofs.lemmas.Bool.{eq-eqb, ne_eqb}
-use Rattle.std.proofs.lemmas.List.{get_or_default, length-append, length-reverse, length-take-le, reverse-append}
-use Rattle.std.proofs.lemmas.List.{take-append-drop, take_more}
-use Rattle.bbm_oracle_patterns.specs.Kept.{note_of, notes_of}
-use Rattle.bbm_oracle_patterns.specs.declared.kept.Kept.{Kept}
-use Rattle.bbm_rules.specs.Cleansing.{writes}
-use Rattle.bbm_rules.specs.Notes.{Noted, events_of}
-use Rattle.bbm_cert.specs.Marks.{mark_at, wrote_mark}
+use Rattle.bbm_cert.proofs.Common.{length-append, note_of, notes_of, Kept, mark_at, wrote_mark}
+use Rattle.bbm_rules.proofs.Common.{◌≡◌, ℕ, suc, ◌+◌, ◌≤◌, ◌<◌, ◌⊎◌, Bool, true, false, cond, ◌==◌, List, [], ◌∷◌, ◌++◌}
+use Rattle.bbm_rules.proofs.Common.{length, take, drop, get_or, reverse, refl, sym, ◌∙◌, ap, arith, inl, inr, eq-eqb}
+use Rattle.bbm_rules.proofs.Common.{ne_eqb, get_or_default, length-reverse, length-take-le, reverse-append}
+use Rattle.bbm_rules.proofs.Common.{take-append-drop, take_more, writes, Noted, events_of}
 use Rattle.bbm_cert.proofs.Marked.{Numbered, mark_none}
 
 pub length_notes : (ks : List Kept) → length (notes_of ks) ≡ length ks

@@ -1,22 +1,11 @@
 -- What is kept of the tags that were readable, after one more event.
-use Rattle.std.proofs.Common.{◌≡◌, ℕ, suc, ◌+◌, ◌-◌, ◌<◌, Bool, true, false, cond, ◌&&◌, ◌||◌, ◌==◌}
-use Rattle.std.proofs.Common.{nat_lt, nat_le, List, [], ◌∷◌, ◌++◌, length, take, drop, get_or, slice_set}
-use Rattle.std.proofs.Common.{None, refl, sym, ◌∙◌, ap, subst, arith}
-use Rattle.std.proofs.Math.Bool.{or_comm, or-false}
-use Rattle.std.proofs.Math.Seq.{drop-cons}
-use Rattle.std.proofs.lemmas.Bool.{and_right, le-ltb, leb-false, leb-true, lt-ltb}
-use Rattle.std.proofs.lemmas.List.{set_split, take-append-drop}
-use Rattle.std.proofs.lemmas.List.Folds.{list_any-append, list_any_more}
-use Rattle.std.specs.List.{list_any}
-use Rattle.bbm_lemmas.proofs.Tautologies.{proved}
-use Rattle.bbm_lemmas.proofs.Tautologies.Claim.{Is}
-use Rattle.bbm_rules.specs.Changes.{changes}
-use Rattle.bbm_rules.specs.Claims.{same_tag}
-use Rattle.bbm_rules.specs.Prelude.{Tag, Heading, Event}
-use Rattle.bbm_rules.specs.Tags.{Reading, read_since, reads_for_some}
-use Rattle.bbm_cert.specs.Holdings.{next_lasts}
-use Rattle.bbm_cert.specs.Spans.{goes_past, is_span, lasts, read_after}
-use Rattle.bbm_cert.specs.declared.spans.Span.{Span}
+use Rattle.bbm_cert.proofs.Common.{slice_set, or_comm, or-false, set_split, next_lasts, lasts, Span}
+use Rattle.bbm_rules.proofs.Common.{◌≡◌, ℕ, suc, ◌+◌, ◌-◌, ◌<◌, Bool, true, false, cond, ◌&&◌, ◌||◌, ◌==◌, nat_lt}
+use Rattle.bbm_rules.proofs.Common.{nat_le, List, [], ◌∷◌, ◌++◌, length, take, drop, get_or, None, refl, sym, ◌∙◌, ap}
+use Rattle.bbm_rules.proofs.Common.{subst, arith, drop-cons, and_right, le-ltb, leb-false, leb-true, lt-ltb}
+use Rattle.bbm_rules.proofs.Common.{take-append-drop, list_any-append, list_any_more, list_any, proved, Is, changes}
+use Rattle.bbm_rules.proofs.Common.{same_tag, Tag, Heading, Event, Reading, read_since, reads_for_some}
+use Rattle.bbm_cert.specs.Spans.{goes_past, is_span, read_after}
 use Rattle.bbm_cert.proofs.HeldTags.{nothing_yet, unchanged}
 use Rattle.bbm_cert.proofs.Takers.{unread_yet}
 use Rattle.bbm_cert.proofs.Tests.{and_true, none_below}

@@ -1,3 +1,4 @@
+mod Common
 pub mod Tests
 pub mod Marked
 pub mod Claimed

@@ -1,24 +1,17 @@
 -- The marks of claims, and what they say of the newer part of a log. Everywhere `newer` are the events after the first
 -- `length older`, and a mark is above that number exactly where the definition holds of `newer`.
-use Rattle.std.proofs.Common.{◌≡◌, ℕ, suc, ◌≤◌, ◌<◌, Bool, true, false, cond, ◌&&◌, ◌||◌, not, nat_lt, ◌==◌, List}
-use Rattle.std.proofs.Common.{[], ◌∷◌, ◌++◌, length, refl, sym, ◌∙◌, ap, zero-le, arith, length-append}
+use Rattle.bbm_cert.proofs.Common.{half_by, seen_by, answered_by, is_tlbi, waits, Known, answers_for, flush_mark}
+use Rattle.bbm_cert.proofs.Common.{half_mark, mark_at, publication_mark, seen_mark, waits_at, wrote_mark}
+use Rattle.bbm_rules.proofs.Common.{◌≡◌, ℕ, suc, ◌≤◌, ◌<◌, Bool, true, false, cond, ◌&&◌, ◌||◌, not, nat_lt, ◌==◌, List}
+use Rattle.bbm_rules.proofs.Common.{[], ◌∷◌, ◌++◌, length, refl, sym, ◌∙◌, ap, zero-le, arith, length-append, and_right}
+use Rattle.bbm_rules.proofs.Common.{eqb-true, le-ltb, lt-ltb, ne_eqb, answers, Cover, Half, flushes, publishes_write}
+use Rattle.bbm_rules.proofs.Common.{same_cover, writes, some, Noted, Barrier, Heading, Event, Dsb, Tlbi, Issued}
+use Rattle.bbm_rules.proofs.Common.{reaches, issues, publishes_to}
 use Rattle.std.proofs.Math.Bool.{and_comm}
-use Rattle.std.proofs.lemmas.Bool.{and_right, cond_both, eqb-true, le-ltb, lt-ltb, ne_eqb}
-use Rattle.bbm_barriers.specs.Options.{answers}
-use Rattle.bbm_tlbi_scope.specs.declared.entry.Cover.{Cover}
-use Rattle.bbm_tlbi_scope.specs.declared.entry.Cover.TheVariants.{Half}
-use Rattle.bbm_rules.specs.Cleansing.{flushes, publishes_write, same_cover, writes}
-use Rattle.bbm_rules.specs.Lists.{some}
-use Rattle.bbm_rules.specs.Notes.{Noted, event_of}
-use Rattle.bbm_rules.specs.Prelude.{Barrier, Heading, Event, Dsb, Tlbi}
-use Rattle.bbm_rules.specs.Reach.{Issued, reaches}
-use Rattle.bbm_rules.specs.Sentences.{issues}
-use Rattle.bbm_rules.specs.Values.{publishes_to}
-use Rattle.bbm_histories.specs.ClaimSteps.{half_at, half_by, half_by_after, seen_by}
-use Rattle.bbm_histories.specs.HistorySteps.{answered_by, is_tlbi, waits, waits_after}
-use Rattle.bbm_cert.specs.KnownOfClaims.{Known}
-use Rattle.bbm_cert.specs.Marks.{answers_for, flush_mark, half_mark, mark_at, publication_mark, seen_mark, waits_at}
-use Rattle.bbm_cert.specs.Marks.{wrote_mark}
+use Rattle.std.proofs.lemmas.Bool.{cond_both}
+use Rattle.bbm_rules.specs.Notes.{event_of}
+use Rattle.bbm_histories.specs.ClaimSteps.{half_at, half_by_after}
+use Rattle.bbm_histories.specs.HistorySteps.{waits_after}
 use Rattle.bbm_cert.proofs.Tests.{and_or, dsb_case, lt_at, lt_cond, none_below, tlbi_case}
 
 -- the position of each note is the number of notes from it on

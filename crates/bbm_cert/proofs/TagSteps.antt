@@ -1,13 +1,11 @@
 -- A tag that is held, after one more event; the register writes behind the events that a history has taken.
-use Rattle.std.proofs.Common.{◌≡◌, ℕ, zero, suc, ◌+◌, ◌-◌, ◌<◌, ◌≤◌, Bool, false, not, ◌&&◌, ◌||◌, List, [], ◌∷◌, ◌++◌}
-use Rattle.std.proofs.Common.{length, take, get_or, reverse, refl, sym, ◌∙◌, ap, arith, length-append}
-use Rattle.std.proofs.Math.Bool.{or_comm}
-use Rattle.std.proofs.lemmas.List.{get_or-reverse, get_or_append_left, length-reverse, reverse-append, reverse-reverse}
-use Rattle.std.proofs.lemmas.List.{take_more}
+use Rattle.bbm_cert.proofs.Common.{or_comm}
+use Rattle.bbm_rules.proofs.Common.{◌≡◌, ℕ, zero, suc, ◌+◌, ◌-◌, ◌<◌, ◌≤◌, Bool, false, not, ◌&&◌, ◌||◌, List, [], ◌∷◌}
+use Rattle.bbm_rules.proofs.Common.{◌++◌, length, take, get_or, reverse, refl, sym, ◌∙◌, ap, arith, length-append}
+use Rattle.bbm_rules.proofs.Common.{length-reverse, reverse-append, reverse-reverse, take_more, Trust, Tag, Heading}
+use Rattle.bbm_rules.proofs.Common.{Event, Msr, holds_at, loses, reads}
+use Rattle.std.proofs.lemmas.List.{get_or-reverse, get_or_append_left}
 use Rattle.std.proofs.Math.Seq.{take-append_seam}
-use Rattle.bbm_rules.specs.Claims.{Trust}
-use Rattle.bbm_rules.specs.Prelude.{Tag, Heading, Event, Msr}
-use Rattle.bbm_rules.specs.Tags.{holds_at, loses, reads}
 use Rattle.bbm_cert.specs.Takings.{AreWrites}
 use Rattle.bbm_cert.proofs.Tests.{and_true}
 

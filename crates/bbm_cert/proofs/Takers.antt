@@ -1,23 +1,14 @@
 -- The TLBI at an index, where a DSB behind the log answers it: it takes a tag away where it takes the whole tag, and
 -- the tag isn't readable after it.
-use Rattle.std.proofs.Common.{◌≡◌, ◌⊎◌, ℕ, suc, ◌+◌, ◌-◌, ◌<◌, ◌≤◌, Bool, true, false, cond, not, ◌&&◌, ◌||◌}
-use Rattle.std.proofs.Common.{◌==◌, nat_le, List, [], ◌∷◌, ◌++◌, length, take, drop, get_or, reverse, refl, sym, ◌∙◌}
-use Rattle.std.proofs.Common.{ap, inl, inr, arith, length-append}
-use Rattle.std.proofs.Math.Bool.{or-false}
-use Rattle.std.proofs.lemmas.Bool.{and_from, and_right, eq-eqb, le-leb, leb-true, ne_eqb, or_from, or_left, or_right}
-use Rattle.std.proofs.lemmas.List.{get_or_default, length-drop, length-reverse, take_all}
-use Rattle.std.specs.List.{list_any}
-use Rattle.bbm_lemmas.proofs.Tautologies.{proved}
-use Rattle.bbm_lemmas.proofs.Tautologies.Claim.{Is}
-use Rattle.bbm_barriers.specs.Options.{answers}
-use Rattle.bbm_rules.specs.Prelude.{Barrier, Tag, Heading, Event, Dsb, Tlbi}
-use Rattle.bbm_rules.specs.Reach.{completes, reaches}
-use Rattle.bbm_rules.specs.Sentences.{completes_for, issues}
-use Rattle.bbm_rules.specs.Tags.{itself, read_since, reads_for_some, takes_tag}
+use Rattle.bbm_cert.proofs.Common.{or-false, answered_by, is_tlbi, Known, answers_for}
+use Rattle.bbm_rules.proofs.Common.{◌≡◌, ◌⊎◌, ℕ, suc, ◌+◌, ◌-◌, ◌<◌, ◌≤◌, Bool, true, false, cond, not, ◌&&◌, ◌||◌}
+use Rattle.bbm_rules.proofs.Common.{◌==◌, nat_le, List, [], ◌∷◌, ◌++◌, length, take, drop, get_or, reverse, refl, sym}
+use Rattle.bbm_rules.proofs.Common.{◌∙◌, ap, inl, inr, arith, length-append, and_from, and_right, eq-eqb, le-leb}
+use Rattle.bbm_rules.proofs.Common.{leb-true, ne_eqb, or_from, or_left, or_right, get_or_default, length-drop}
+use Rattle.bbm_rules.proofs.Common.{length-reverse, take_all, list_any, proved, Is, answers, Barrier, Tag, Heading}
+use Rattle.bbm_rules.proofs.Common.{Event, Dsb, Tlbi, completes, reaches, completes_for, issues, itself, read_since}
+use Rattle.bbm_rules.proofs.Common.{reads_for_some, takes_tag}
 use Rattle.bbm_histories.specs.ClaimSteps.{tag_waits_at, tag_waits_at_after}
-use Rattle.bbm_histories.specs.HistorySteps.{answered_by, is_tlbi}
-use Rattle.bbm_cert.specs.KnownOfClaims.{Known}
-use Rattle.bbm_cert.specs.Marks.{answers_for}
 use Rattle.bbm_cert.specs.Takings.{is_open_for}
 use Rattle.bbm_cert.proofs.Flushed.{answered, answered_is, any_reverse}
 use Rattle.bbm_cert.proofs.Kepts.{length_before, split}

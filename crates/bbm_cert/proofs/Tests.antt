@@ -1,11 +1,7 @@
 -- Tests that are combined, and numbers that are compared. None of them speaks of events.
-use Rattle.std.proofs.Common.{◌≡◌, ℕ, Bool, true, false, cond, ◌&&◌, ◌||◌, not, nat_lt, List, []}
-use Rattle.std.proofs.Common.{◌∷◌, refl, sym, ◌∙◌, ap, zero-le}
-use Rattle.std.proofs.Math.Bool.{and-false, or-false}
-use Rattle.std.proofs.lemmas.Bool.{le-ltb, or_from}
-use Rattle.std.specs.List.{list_any}
-use Rattle.bbm_lemmas.proofs.Tautologies.{proved}
-use Rattle.bbm_lemmas.proofs.Tautologies.Claim.{Is}
+use Rattle.bbm_cert.proofs.Common.{and-false, or-false}
+use Rattle.bbm_rules.proofs.Common.{◌≡◌, ℕ, Bool, true, false, cond, ◌&&◌, ◌||◌, not, nat_lt, List, [], ◌∷◌, refl, sym}
+use Rattle.bbm_rules.proofs.Common.{◌∙◌, ap, zero-le, le-ltb, or_from, list_any, proved, Is}
 
 pub and_true : (a : Bool) → (a && true) ≡ a
 and_true = proved 1 (λ a. Is (a && true) a) refl

@@ -1,17 +1,12 @@
 -- A log that keeps the rules by claims so far, and its next event.
-use Rattle.std.proofs.Common.{◌≡◌, ℕ, suc, ◌+◌, ◌<◌, Option, Some, None, List, [], ◌∷◌, ◌++◌, length, take, drop}
-use Rattle.std.proofs.Common.{get_or, reverse, refl, sym, ◌∙◌, ap, subst, arith}
-use Rattle.std.proofs.lemmas.List.{length-reverse, length-take-le, reverse-append, take-append-drop}
-use Rattle.bbm_events.specs.declared.claim.Claim.{Claim}
-use Rattle.bbm_rules.specs.Broken.{Breach, broken}
-use Rattle.bbm_rules.specs.Claims.{Trust}
-use Rattle.bbm_rules.specs.Claims.Trust.{Listed}
-use Rattle.bbm_rules.specs.Prelude.{Heading, Event}
+use Rattle.bbm_cert.proofs.Common.{Judged, Yes, judged_with}
+use Rattle.bbm_rules.proofs.Common.{◌≡◌, ℕ, suc, ◌+◌, ◌<◌, Option, Some, None, List, [], ◌∷◌, ◌++◌, length, take, drop}
+use Rattle.bbm_rules.proofs.Common.{get_or, reverse, refl, sym, ◌∙◌, ap, subst, arith, length-reverse, length-take-le}
+use Rattle.bbm_rules.proofs.Common.{reverse-append, take-append-drop, Claim, Breach, Trust, Listed, Heading, Event}
+use Rattle.bbm_rules.specs.Broken.{broken}
 use Rattle.bbm_oracle_trees.specs.Past.{Past}
 use Rattle.bbm_oracle_trees.specs.HistoryStandsFor.{StandsFor}
-use Rattle.bbm_cert.specs.declared.judged.Judged.{Judged}
-use Rattle.bbm_cert.specs.declared.judged.Judged.TheVariants.{Yes}
-use Rattle.bbm_cert.specs.Judged.{judged, judged_with, judges_as}
+use Rattle.bbm_cert.specs.Judged.{judged, judges_as}
 use Rattle.bbm_cert.proofs.JudgedLaw.{later_no}
 use Rattle.bbm_cert.proofs.TagSteps.{next}
 

@@ -1,27 +1,22 @@
 -- The events that are read from lines fit the header of the first line, and aren't more than the limits.
-use Rattle.std.proofs.Common.{◌≡◌, ℕ, suc, ◌<◌, ◌==◌, Bool, true, false, if◌then◌else◌, nat_le, List, [], ◌∷◌, ◌++◌}
-use Rattle.std.proofs.Common.{length, reverse, Contains, Result, Ok, Err, refl, subst, arith, All, inl, inr}
-use Rattle.std.proofs.Common.{slice_index_or}
-use Rattle.std.proofs.lemmas.Bool.{and_parts, leb-false}
-use Rattle.std.proofs.lemmas.List.{get_or_default, length-append, reverse-append}
-use Rattle.bbm_lemmas.specs.Elements.{In}
-use Rattle.bbm_lemmas.proofs.Elements.{from_contains, to_contains, in_left, in_right}
+use Rattle.bbm_rules.proofs.Common.{◌≡◌, ℕ, suc, ◌<◌, ◌==◌, Bool, true, false, if◌then◌else◌, nat_le, List, [], ◌∷◌}
+use Rattle.bbm_rules.proofs.Common.{◌++◌, length, reverse, Contains, Result, Ok, Err, refl, subst, arith, inl, inr}
+use Rattle.bbm_rules.proofs.Common.{slice_index_or, and_parts, leb-false, get_or_default, reverse-append, In}
+use Rattle.bbm_rules.proofs.Common.{from_contains, to_contains, in_left, in_right, Claim, Item, WrongCount}
+use Rattle.bbm_rules.proofs.Common.{fits_heading, label_fits, heading_ok, is_too_long, text_of}
+use Rattle.std.proofs.Common.{All}
+use Rattle.std.proofs.lemmas.List.{length-append}
 use Rattle.bbm_events.specs.declared.certificate.ClaimItem.{ClaimItem}
 use Rattle.bbm_events.specs.declared.certificate.ClaimItem.TheVariants as claim_item
-use Rattle.bbm_events.specs.declared.claim.Claim.{Claim}
 use Rattle.bbm_events.specs.declared.event.Event.{Event}
-use Rattle.bbm_events.specs.declared.event.Item.{Item}
 use Rattle.bbm_events.specs.declared.event.Item.TheVariants as item
 use Rattle.bbm_regimes.specs.declared.regime.Which.TheVariants.{Events, Claims}
 use Rattle.bbm_events.specs.declared.malformed.Malformed.{Malformed as Cause}
-use Rattle.bbm_events.specs.declared.malformed.Malformed.TheVariants.{WrongCount}
 use Rattle.bbm_rules.specs.declared.verdict.Verdict.TheVariants.{Malformed, Limit}
 use Rattle.bbm_events.specs.Certificate.{certificate_of, claim_of}
-use Rattle.bbm_events.specs.Fits.{fits_heading, label_fits}
-use Rattle.bbm_events.specs.Heading.{Heading, heading_ok}
+use Rattle.bbm_events.specs.Heading.{Heading}
 use Rattle.bbm_events.specs.LineLaws.{HeadersAreInRange, ItemsFit}
 use Rattle.bbm_events.specs.Lines.{header_of, item_of}
-use Rattle.bbm_rules.specs.Outcome.{is_too_long, text_of}
 use Rattle.bbm_certificate.specs.CertificateReading.{AreRead, AtClaims, AtEnd, AtEvents, AtHeader, BehindLog, GoesOn}
 use Rattle.bbm_certificate.specs.CertificateReading.{IsSound, Reached, Said, Stopped, Stops, Turned, Whole, after_claim}
 use Rattle.bbm_certificate.specs.CertificateReading.{after_claim_item, after_claims, after_event, after_first}

@@ -1,14 +1,10 @@
 -- Claims that are put in their order, one after the other.
-use Rattle.std.proofs.Common.{◌≡◌, ◌⊎◌, ℕ, ◌+◌, ◌<◌, ◌≤◌, true, false, List, [], ◌∷◌, ◌++◌, length, take, drop, get_or}
-use Rattle.std.proofs.Common.{refl, sym, ◌∙◌, ap, subst, inl, inr, arith, insert, length-append}
-use Rattle.std.proofs.lemmas.List.{get_or_at, get_or_default, length-take-le, take-append-drop}
-use Rattle.bbm_events.specs.declared.claim.Claim.{Claim}
-use Rattle.bbm_rules.specs.Prelude.{Heading, Event}
-use Rattle.bbm_lemmas.proofs.Elements.{from_contains, in_append, in_left, in_right, in_split, to_contains}
-use Rattle.bbm_lemmas.specs.Elements.{In}
-use Rattle.bbm_certify.specs.LeastClaims.{Ascending, IsDue, claim_key, less}
-use Rattle.bbm_certify.specs.Made.{AreDue}
-use Rattle.bbm_certify.specs.Orders.{Adds, HasKey}
+use Rattle.bbm_certify.proofs.Common.{insert, Ascending, IsDue, claim_key, less, AreDue, Adds}
+use Rattle.bbm_rules.proofs.Common.{◌≡◌, ◌⊎◌, ℕ, ◌+◌, ◌<◌, ◌≤◌, true, false, List, [], ◌∷◌, ◌++◌, length, take, drop}
+use Rattle.bbm_rules.proofs.Common.{get_or, refl, sym, ◌∙◌, ap, subst, inl, inr, arith, length-append, get_or_at}
+use Rattle.bbm_rules.proofs.Common.{get_or_default, length-take-le, take-append-drop, Claim, Heading, Event}
+use Rattle.bbm_rules.proofs.Common.{from_contains, in_append, in_left, in_right, in_split, to_contains, In}
+use Rattle.bbm_certify.specs.Orders.{HasKey}
 use Rattle.bbm_certify.proofs.OneDue.{key_size, less_neither}
 
 abbrev pub before_it : Claim → Claim → Type 0

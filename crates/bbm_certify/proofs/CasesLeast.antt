@@ -1,8 +1,7 @@
 -- Worked cases: the order of the claims of one event.
+use Rattle.bbm_certify.proofs.Common.{Ascending, claim_key, less}
+use Rattle.bbm_rules.proofs.Common.{Place, Two, Taken, El2Tag, Vmid, Asid, Ttbr1Tag}
 use Rattle.std.specs.Prelude.{◌≡◌, true, false, [], ◌∷◌, refl}
-use Rattle.bbm_events.specs.declared.claim.Claim.TheVariants.{Place, Two, Taken}
-use Rattle.bbm_rules.specs.Prelude.{El2Tag, Vmid, Asid, Ttbr1Tag}
-use Rattle.bbm_certify.specs.LeastClaims.{Ascending, claim_key, less}
 
 -- Two places and then their PEs, whatever the form, and behind them the tags.
 pub places_first : Ascending (

@@ -1,31 +1,18 @@
 -- A log that keeps the rules keeps them by the claims of its certificate alone: at each of its prefixes the rules tell the
 -- two ways to read it not apart.
-use Rattle.std.proofs.Common.{◌≡◌, ℕ, suc, ◌<◌, Bool, true, false, ◌⊎◌, List, [], ◌∷◌, ◌++◌, length, Some, is_none}
-use Rattle.std.proofs.Common.{is_some, Contains, refl, sym, ◌∙◌, ap, subst, inl, inr, true≢false}
-use Rattle.std.proofs.Math.Path.{fun_ext}
-use Rattle.std.proofs.lemmas.Bool.{and_parts, or_cases, or_left, or_right}
-use Rattle.bbm_events.specs.declared.claim.Claim.{Claim}
-use Rattle.bbm_events.specs.declared.claim.Claim.TheVariants.{Place, Two, Taken}
-use Rattle.bbm_tlbi_scope.specs.declared.entry.Cover.{Cover}
-use Rattle.bbm_rules.specs.Broken.{broken, keeps}
-use Rattle.bbm_rules.specs.Claims.{Trust}
-use Rattle.bbm_rules.specs.Claims.Trust.{Patterns, Listed}
-use Rattle.bbm_rules.specs.Cleansing.{answered_where, answers_one, cleansed, full_step, second_step}
-use Rattle.bbm_rules.specs.Covers.{cover_at, note, noted}
-use Rattle.bbm_rules.specs.Held.{ValidWrite, last_valid, later}
-use Rattle.bbm_rules.specs.Notes.{Noted}
-use Rattle.bbm_rules.specs.Places.{page_of}
-use Rattle.bbm_rules.specs.Prelude.{Barrier, Heading, Event, Dsb, Tag}
-use Rattle.bbm_rules.specs.Tags.{holds_at, loses}
-use Rattle.bbm_rules.specs.Tree.{Node, held_at, tree}
+use Rattle.bbm_certify.proofs.Common.{Known, IsCertificate, IsCleansed, IsDue}
+use Rattle.bbm_rules.proofs.Common.{◌≡◌, ℕ, suc, ◌<◌, Bool, true, false, ◌⊎◌, List, [], ◌∷◌, ◌++◌, length, Some}
+use Rattle.bbm_rules.proofs.Common.{is_none, is_some, Contains, refl, sym, ◌∙◌, ap, subst, inl, inr, true≢false}
+use Rattle.bbm_rules.proofs.Common.{fun_ext, and_parts, or_cases, or_left, or_right, Claim, Place, Two, Taken, Cover}
+use Rattle.bbm_rules.proofs.Common.{keeps, Trust, Patterns, Listed, answered_where, answers_one, cleansed, full_step}
+use Rattle.bbm_rules.proofs.Common.{second_step, cover_at, note, noted, ValidWrite, last_valid, later, Noted, page_of}
+use Rattle.bbm_rules.proofs.Common.{Barrier, Heading, Event, Dsb, Tag, holds_at, loses, Node, held_at, from_contains}
+use Rattle.bbm_rules.proofs.Common.{in_left, in_right, to_contains, In, same_truth}
+use Rattle.bbm_rules.specs.Broken.{broken}
+use Rattle.bbm_rules.specs.Tree.{tree}
 use Rattle.bbm_alike.specs.Alike.{Alike, TakesAlike}
-use Rattle.bbm_lemmas.proofs.Elements.{from_contains, in_left, in_right, to_contains}
-use Rattle.bbm_lemmas.specs.Elements.{In}
-use Rattle.bbm_certify.specs.KnownOfCertificates.{Known}
-use Rattle.bbm_certify.specs.LeastClaims.{IsCertificate, IsCleansed, IsDue}
 use Rattle.bbm_certify.proofs.PlaceClaims.{LeastClaim, forgotten, least_claim, listed_one, listed_two}
 use Rattle.bbm_certify.proofs.TagClaims as tags
-use Rattle.bbm_lemmas.proofs.Bools.{same_truth}
 
 same_some : {A : Type 0} (x y : A) → Some x ≡ Some y → x ≡ y
 same_some x y e = cc

@@ -1,15 +1,9 @@
 -- Where a claim has its place among others, and a number among others.
-use Rattle.std.proofs.Common.{◌≡◌, ℕ, ◌+◌, ◌-◌, ◌<◌, ◌≤◌, Bool, true, false, ◌||◌, ◌==◌, List, [], ◌∷◌, ◌++◌, length}
-use Rattle.std.proofs.Common.{take, drop, get_or, insert, refl, sym, ◌∙◌, ap, subst, arith, append_assoc, inl, inr}
-use Rattle.std.proofs.lemmas.Bool.{cases_eq}
-use Rattle.std.proofs.lemmas.List.{get_or_default, length-take-le, take-append-drop, take_more}
-use Rattle.std.proofs.lemmas.List.Folds.{list_any-append}
-use Rattle.bbm_lemmas.proofs.Tautologies.{proved}
-use Rattle.bbm_lemmas.proofs.Tautologies.Claim.{Is}
-use Rattle.bbm_events.specs.declared.claim.Claim.{Claim}
-use Rattle.bbm_rules.specs.Lists.{among}
-use Rattle.bbm_certify.specs.LeastClaims.{claim_key, less}
-use Rattle.bbm_certify.specs.Orders.{Adds}
+use Rattle.bbm_certify.proofs.Common.{insert, claim_key, less, Adds}
+use Rattle.bbm_rules.proofs.Common.{◌≡◌, ℕ, ◌+◌, ◌-◌, ◌<◌, ◌≤◌, Bool, true, false, ◌||◌, ◌==◌, List, [], ◌∷◌, ◌++◌}
+use Rattle.bbm_rules.proofs.Common.{length, take, drop, get_or, refl, sym, ◌∙◌, ap, subst, arith, append_assoc, inl}
+use Rattle.bbm_rules.proofs.Common.{inr, cases_eq, get_or_default, length-take-le, take-append-drop, take_more}
+use Rattle.bbm_rules.proofs.Common.{list_any-append, proved, Is, Claim, among}
 use Rattle.bbm_certify.proofs.Adding.{has_key, inserted}
 use Rattle.bbm_certify.proofs.Searches.{parts_at}
 

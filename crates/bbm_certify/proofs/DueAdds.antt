@@ -1,33 +1,19 @@
 -- Claims of places that are added spot by spot, place by place.
-use Rattle.std.proofs.Common.{◌≡◌, ◌⊎◌, ℕ, suc, ◌+◌, ◌<◌, ◌≤◌, Bool, true, false, List, [], ◌∷◌, ◌++◌, length, take}
-use Rattle.std.proofs.Common.{drop, get_or, reverse, Option, Some, None, refl, sym, ◌∙◌, ap, subst, inl, inr}
-use Rattle.std.proofs.Common.{true≢false, arith, length-append}
-use Rattle.std.proofs.lemmas.Bool.{cases_eq}
-use Rattle.std.proofs.lemmas.List.{length-drop, take_all, take_more}
-use Rattle.bbm_events.specs.declared.claim.Claim.{Claim}
-use Rattle.bbm_events.specs.declared.claim.Claim.TheVariants.{Place, Two, Taken}
+use Rattle.bbm_certify.proofs.Common.{Seen, note_of, notes_behind, notes_of, Kept, IsDueAt, IsDueIn, IsDueSince}
+use Rattle.bbm_certify.proofs.Common.{IsNewest, IsUncleansed, claim_key, IsFirst, IsLeastClaim, IsPattern, finishing}
+use Rattle.bbm_certify.proofs.Common.{publishes, Adds, Pattern, One}
+use Rattle.bbm_rules.proofs.Common.{◌≡◌, ◌⊎◌, ℕ, suc, ◌+◌, ◌<◌, ◌≤◌, Bool, true, false, List, [], ◌∷◌, ◌++◌, length}
+use Rattle.bbm_rules.proofs.Common.{take, drop, get_or, reverse, Option, Some, None, refl, sym, ◌∙◌, ap, subst, inl}
+use Rattle.bbm_rules.proofs.Common.{inr, true≢false, arith, length-append, cases_eq, length-drop, take_all, take_more}
+use Rattle.bbm_rules.proofs.Common.{Claim, Place, Two, Taken, PeMask, Trust, Patterns, cleansed, seen, ValidWrite}
+use Rattle.bbm_rules.proofs.Common.{last_valid, Noted, Cleansed, page_of, Heading, Event, Node, node_of, in_append}
+use Rattle.bbm_rules.proofs.Common.{in_left, in_right, In}
 use Rattle.bbm_regimes.specs.PeMask.{pe_in}
-use Rattle.bbm_regimes.specs.declared.pe.PeMask.{PeMask}
-use Rattle.bbm_rules.specs.Claims.{Trust}
-use Rattle.bbm_rules.specs.Claims.Trust.{Patterns}
-use Rattle.bbm_rules.specs.Cleansing.{cleansed, seen}
-use Rattle.bbm_rules.specs.Held.{ValidWrite, last_valid}
-use Rattle.bbm_rules.specs.Notes.{Noted}
-use Rattle.bbm_rules.specs.PatternSentences.{Cleansed, Seen}
-use Rattle.bbm_rules.specs.Places.{page_of}
-use Rattle.bbm_rules.specs.Prelude.{Heading, Event}
-use Rattle.bbm_rules.specs.Tree.{Node, node_of}
-use Rattle.bbm_oracle_patterns.specs.Kept.{note_of, notes_behind, notes_of, write_in}
-use Rattle.bbm_oracle_patterns.specs.declared.kept.Kept.{Kept}
+use Rattle.bbm_oracle_patterns.specs.Kept.{write_in}
 use Rattle.bbm_oracle_patterns.specs.declared.search.ValidWrite.{ValidWrite as Found}
-use Rattle.bbm_lemmas.proofs.Elements.{in_append, in_left, in_right}
-use Rattle.bbm_lemmas.specs.Elements.{In}
-use Rattle.bbm_certify.specs.DueAt.{IsDueAt, IsDueHere, IsDueIn, IsDueSince, IsNewest, IsUncleansed, Told}
-use Rattle.bbm_certify.specs.LeastClaims.{claim_key}
-use Rattle.bbm_certify.specs.Making.{IsFirst, IsInside, IsLeastClaim, IsPattern, claim_of, finishing, publishes}
-use Rattle.bbm_certify.specs.Orders.{Adds}
-use Rattle.bbm_certify.specs.declared.patterns.Pattern.{Pattern}
-use Rattle.bbm_certify.specs.declared.patterns.Pattern.TheVariants.{One, Two as Both}
+use Rattle.bbm_certify.specs.DueAt.{IsDueHere, Told}
+use Rattle.bbm_certify.specs.Making.{IsInside, claim_of}
+use Rattle.bbm_certify.specs.declared.patterns.Pattern.TheVariants.{Two as Both}
 use Rattle.bbm_certify.proofs.Adding.{adds_more, adds_none, adds_same}
 use Rattle.bbm_certify.proofs.Kepts.{publication_of}
 use Rattle.bbm_certify.proofs.Leasts.{claim_found, claim_none, none_finishes}

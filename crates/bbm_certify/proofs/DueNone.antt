@@ -1,25 +1,15 @@
 -- No claim is due at an event that is no DSB.
-use Rattle.std.proofs.Common.{◌≡◌, ◌⊎◌, ℕ, Bool, true, false, not, ◌&&◌, ◌==◌, cond, List, [], ◌∷◌, ◌++◌, Option, Some}
-use Rattle.std.proofs.Common.{None, Contains, refl, sym, ◌∙◌, ap, subst, inl, inr, true≢false, append_assoc}
-use Rattle.std.proofs.lemmas.Bool.{and_from, not_from_false, or_right}
-use Rattle.bbm_descriptor.specs.Descriptor.{is_valid}
-use Rattle.bbm_events.specs.declared.claim.Claim.{Claim}
-use Rattle.bbm_events.specs.declared.claim.Claim.TheVariants.{Place, Two, Taken}
-use Rattle.bbm_rules.specs.Claims.Trust.{Patterns}
-use Rattle.bbm_rules.specs.Cleansing.{cleansed, seen}
-use Rattle.bbm_rules.specs.Covers.{note, noted}
-use Rattle.bbm_rules.specs.Held.{ValidWrite, last_valid, last_valid_after, later}
-use Rattle.bbm_rules.specs.Notes.{Noted}
-use Rattle.bbm_rules.specs.PatternSentences.{Answer, Cleansed, Publication, Seen}
-use Rattle.bbm_rules.specs.Places.{page_of}
-use Rattle.bbm_rules.specs.Prelude.{Barrier, Heading, Event, Init, Write, Dsb, Kind, Tag}
-use Rattle.bbm_rules.specs.Reach.{Issued}
-use Rattle.bbm_rules.specs.Tags.{holds_at, loses, reads}
-use Rattle.bbm_rules.specs.Tree.{Node, tree}
+use Rattle.bbm_certify.proofs.Common.{Seen, Kind, IsCleansed, IsDue}
+use Rattle.bbm_rules.proofs.Common.{◌≡◌, ◌⊎◌, ℕ, Bool, true, false, not, ◌&&◌, ◌==◌, cond, List, [], ◌∷◌, ◌++◌, Option}
+use Rattle.bbm_rules.proofs.Common.{Some, None, Contains, refl, sym, ◌∙◌, ap, subst, inl, inr, true≢false, append_assoc}
+use Rattle.bbm_rules.proofs.Common.{and_from, not_from_false, or_right, is_valid, Claim, Place, Two, Taken, Patterns}
+use Rattle.bbm_rules.proofs.Common.{cleansed, seen, note, noted, ValidWrite, last_valid, last_valid_after, later, Noted}
+use Rattle.bbm_rules.proofs.Common.{Answer, Cleansed, Publication, page_of, Barrier, Heading, Event, Init, Write, Dsb}
+use Rattle.bbm_rules.proofs.Common.{Tag, Issued, holds_at, loses, reads, Node}
+use Rattle.bbm_rules.specs.Tree.{tree}
 use Rattle.bbm_histories.specs.HistorySteps.{cleansed_after}
 use Rattle.bbm_histories.specs.TreeChanges.{Attaches}
 use Rattle.bbm_histories.specs.ValueChanges.{HoldsPresent}
-use Rattle.bbm_certify.specs.LeastClaims.{IsCleansed, IsDue}
 use Rattle.bbm_certify.proofs.DuePlaces.{Was, was}
 
 -- ---- what is cleansed was seen

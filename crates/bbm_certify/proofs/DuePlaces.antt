@@ -1,19 +1,11 @@
 -- The claims of places that are due at a DSB are those that are found, place by place and PE by PE.
-use Rattle.std.proofs.Common.{◌≡◌, ℕ, ◌<◌, Bool, true, false, List, ◌∷◌, Option, Some, None, Contains, refl, sym, ◌∙◌}
-use Rattle.std.proofs.Common.{ap, subst, inl, inr, true≢false}
-use Rattle.bbm_events.specs.declared.claim.Claim.{Claim}
-use Rattle.bbm_events.specs.declared.claim.Claim.TheVariants.{Place, Two, Taken}
-use Rattle.bbm_rules.specs.Claims.Trust.{Patterns}
-use Rattle.bbm_rules.specs.Cleansing.{cleansed}
-use Rattle.bbm_rules.specs.Covers.{note, noted}
-use Rattle.bbm_rules.specs.Held.{ValidWrite, last_valid, later}
-use Rattle.bbm_rules.specs.Notes.{Noted}
-use Rattle.bbm_rules.specs.PatternSentences.{Cleansed}
-use Rattle.bbm_rules.specs.Places.{page_of}
-use Rattle.bbm_rules.specs.Prelude.{Barrier, Heading, Event, Dsb}
-use Rattle.bbm_rules.specs.Tree.{Node, node_of, tree}
-use Rattle.bbm_certify.specs.LeastClaims.{IsCleansed, IsDue}
-use Rattle.bbm_certify.specs.DueAt.{IsDueAt, IsLeastClaim, IsUncleansed}
+use Rattle.bbm_certify.proofs.Common.{IsCleansed, IsDue, IsDueAt, IsUncleansed}
+use Rattle.bbm_rules.proofs.Common.{◌≡◌, ℕ, ◌<◌, Bool, true, false, List, ◌∷◌, Option, Some, None, Contains, refl, sym}
+use Rattle.bbm_rules.proofs.Common.{◌∙◌, ap, subst, inl, inr, true≢false, Claim, Place, Two, Taken, Patterns, cleansed}
+use Rattle.bbm_rules.proofs.Common.{note, noted, ValidWrite, last_valid, later, Noted, Cleansed, page_of, Barrier}
+use Rattle.bbm_rules.proofs.Common.{Heading, Event, Dsb, Node, node_of}
+use Rattle.bbm_rules.specs.Tree.{tree}
+use Rattle.bbm_certify.specs.DueAt.{IsLeastClaim}
 
 -- the write before one more event
 pub record Was (n : Noted) (found : Option ValidWrite) (w : ValidWrite) : Type 0 where

@@ -1,25 +1,14 @@
 -- The claims of tags that are due at a DSB are those that are found among what was ever readable.
-use Rattle.std.proofs.Common.{◌≡◌, ℕ, suc, ◌<◌, Bool, true, false, not, ◌&&◌, ◌||◌, ◌==◌, nat_lt, List, [], ◌∷◌, length}
-use Rattle.std.proofs.Common.{refl, sym, ◌∙◌, ap, subst, true≢false, arith}
-use Rattle.std.proofs.lemmas.Bool.{and_from, and_parts, eq-eqb, eqb-true, lt-ltb, ltb-true, not-true, not_from_false}
-use Rattle.std.proofs.lemmas.Bool.{or_left, or_parts}
-use Rattle.bbm_events.specs.declared.claim.Claim.{Claim}
-use Rattle.bbm_events.specs.declared.claim.Claim.TheVariants.{Taken}
-use Rattle.bbm_rules.specs.Claims.{same_tag}
-use Rattle.bbm_rules.specs.Claims.Trust.{Patterns, Listed}
-use Rattle.bbm_rules.specs.Lists.{any}
-use Rattle.bbm_rules.specs.Prelude.{Barrier, Heading, Event, Dsb, Tag}
-use Rattle.bbm_rules.specs.Tags.{Reading, holds_at, loses, reads, reads_for_some, readings}
+use Rattle.bbm_certify.proofs.Common.{Holding, Known, IsDue, IsLeast, TakenAt, less, AreTaken, IsKnown, IsTaken, takes}
+use Rattle.bbm_rules.proofs.Common.{◌≡◌, ℕ, suc, ◌<◌, Bool, true, false, not, ◌&&◌, ◌||◌, ◌==◌, nat_lt, List, [], ◌∷◌}
+use Rattle.bbm_rules.proofs.Common.{length, refl, sym, ◌∙◌, ap, subst, true≢false, arith, and_from, and_parts, eq-eqb}
+use Rattle.bbm_rules.proofs.Common.{eqb-true, lt-ltb, ltb-true, not-true, not_from_false, or_left, or_parts, Claim}
+use Rattle.bbm_rules.proofs.Common.{Taken, same_tag, Patterns, Listed, any, Barrier, Heading, Event, Dsb, Tag, Reading}
+use Rattle.bbm_rules.proofs.Common.{holds_at, loses, reads, reads_for_some, readings, any_finds, any_found, In}
+use Rattle.bbm_rules.proofs.Common.{and-true, or-false, and-false}
 use Rattle.bbm_histories.specs.ClaimSteps.{completes_taken}
 use Rattle.bbm_cert.specs.Holdings.{is_holding}
-use Rattle.bbm_oracle_tags.specs.declared.holding.Holding.{Holding}
-use Rattle.bbm_lemmas.proofs.Elements.{any_finds, any_found}
-use Rattle.bbm_lemmas.specs.Elements.{In}
-use Rattle.bbm_certify.specs.KnownOfCertificates.{Known}
-use Rattle.bbm_certify.specs.LeastClaims.{IsDue, IsLeast, TakenAt, less}
-use Rattle.bbm_certify.specs.Taken.{AreTaken, IsKnown, IsTaken, takes}
 use Rattle.bbm_certify.proofs.TagClaims as tags
-use mathlib.Core.Bool.{and-true, or-false, and-false}
 
 module _ (heading : Heading) (known : Known heading) (h : List Event) (q : ℕ) (dsb : Barrier)
     (tag_equal : (g k : Tag) → same_tag g k ≡ true → g ≡ k) (tag_itself : (g : Tag) → same_tag g g ≡ true)

@@ -1,24 +1,13 @@
 -- The first two steps of a log: how a TLBI begins them, and which TLBI is the first.
-use Rattle.std.proofs.Common.{◌≡◌, ℕ, ◌+◌, ◌≤◌, ◌<◌, Bool, true, false, not, ◌&&◌, ◌==◌, List, [], ◌∷◌, ◌++◌, length}
-use Rattle.std.proofs.Common.{take, drop, get_or, Some, None, refl, sym, ◌∙◌, ap, subst, inl, inr, true≢false, arith}
-use Rattle.std.proofs.Common.{append_assoc, length-append, zero-le}
-use Rattle.std.proofs.lemmas.Bool.{and_from, and_parts, cases_eq, eq-eqb, eqb-true, not-true}
-use Rattle.std.proofs.lemmas.List.{drop_at, length-take-le, take-append-drop, take_more}
-use Rattle.bbm_lemmas.proofs.Tautologies.{proved}
-use Rattle.bbm_lemmas.proofs.Tautologies.Claim.{Is}
-use Rattle.bbm_tlbi_scope.specs.declared.entry.Cover.{Cover}
-use Rattle.bbm_tlbi_scope.specs.declared.entry.Cover.TheVariants.{Half, Second}
-use Rattle.bbm_rules.specs.Cleansing.{same_cover}
-use Rattle.bbm_rules.specs.Lists.{any}
-use Rattle.bbm_rules.specs.Prelude.{Barrier, Heading, Event, Dsb, Tlbi}
-use Rattle.bbm_rules.specs.Reach.{completes, reaches}
-use Rattle.bbm_rules.specs.Sentences.{completes_for, issues}
-use Rattle.bbm_oracle_patterns.specs.Kept.{cover_in}
-use Rattle.bbm_oracle_patterns.specs.declared.kept.Kept.{Kept}
-use Rattle.bbm_cert.specs.Flushes.{completed_by, is_flush_of}
-use Rattle.bbm_lemmas.proofs.Elements.{any_finds, in_split}
-use Rattle.bbm_certify.specs.Making.{AreEnds, AreHalves, Begins, BeginsAt, IsFirst, NoHalves, answering, answers}
-use Rattle.bbm_certify.specs.Making.{flushes, waiting}
+use Rattle.bbm_certify.proofs.Common.{cover_in, Kept, completed_by, is_flush_of, AreEnds, AreHalves, BeginsAt, IsFirst}
+use Rattle.bbm_certify.proofs.Common.{NoHalves, answering, answers, waiting}
+use Rattle.bbm_rules.proofs.Common.{◌≡◌, ℕ, ◌+◌, ◌≤◌, ◌<◌, Bool, true, false, not, ◌&&◌, ◌==◌, List, [], ◌∷◌, ◌++◌}
+use Rattle.bbm_rules.proofs.Common.{length, take, drop, get_or, Some, None, refl, sym, ◌∙◌, ap, subst, inl, inr}
+use Rattle.bbm_rules.proofs.Common.{true≢false, arith, append_assoc, length-append, zero-le, and_from, and_parts}
+use Rattle.bbm_rules.proofs.Common.{cases_eq, eq-eqb, eqb-true, not-true, drop_at, length-take-le, take-append-drop}
+use Rattle.bbm_rules.proofs.Common.{take_more, proved, Is, Cover, Half, Second, same_cover, any, Barrier, Heading}
+use Rattle.bbm_rules.proofs.Common.{Event, Dsb, Tlbi, completes, reaches, completes_for, issues, any_finds, in_split}
+use Rattle.bbm_certify.specs.Making.{Begins, flushes}
 use Rattle.bbm_certify.specs.declared.patterns.Ends.{Ends}
 use Rattle.bbm_certify.proofs.Leasts.{At, at_index, at_least}
 

@@ -1,28 +1,15 @@
 -- A certificate that is made event by event.
-use Rattle.std.proofs.Common.{◌≡◌, ℕ, suc, ◌-◌, ◌≤◌, Bool, true, ◌||◌, List, [], ◌∷◌, ◌++◌, length, take}
-use Rattle.std.proofs.Common.{drop, reverse, is_none, refl, sym, ◌∙◌, ap, subst, arith, inl, inr, length-append}
-use Rattle.std.proofs.lemmas.Bool.{and_parts}
-use Rattle.std.proofs.lemmas.List.{length-reverse, length-take-le, reverse-append, reverse-reverse, take-append-drop}
-use Rattle.std.proofs.lemmas.List.{take_at}
-use Rattle.std.specs.List.{list_all}
-use Rattle.bbm_events.specs.declared.claim.Claim.{Claim}
-use Rattle.bbm_rules.specs.Broken.{broken, keeps}
-use Rattle.bbm_rules.specs.Claims.{Trust}
-use Rattle.bbm_rules.specs.Claims.Trust.{Patterns}
-use Rattle.bbm_rules.specs.Covers.{note, noted}
-use Rattle.bbm_rules.specs.Lists.{among}
-use Rattle.bbm_rules.specs.Notes.{Noted, events_of}
-use Rattle.bbm_rules.specs.Prelude.{Barrier, Heading, Event, Dsb}
-use Rattle.bbm_oracle_patterns.specs.Kept.{note_of, notes_of}
-use Rattle.bbm_oracle_patterns.specs.declared.kept.Kept.{Kept}
-use Rattle.bbm_oracle_trees.specs.Past.{Past, notes}
-use Rattle.bbm_lemmas.specs.Elements.{In}
-use Rattle.bbm_certify.specs.DueAt.{AreDue as ArePlaces, IsNewest, writes_at}
-use Rattle.bbm_certify.specs.KnownOfCertificates.{Known}
-use Rattle.bbm_certify.specs.LeastClaims.{IsCertificate}
-use Rattle.bbm_certify.specs.Made.{AreDue, HasTaken, IsMaking, Stands}
-use Rattle.bbm_certify.specs.Orders.{Adds}
-use Rattle.bbm_certify.specs.Taken.{AreTaken, IsKnown, ReadsAreWritten}
+use Rattle.bbm_certify.proofs.Common.{note_of, notes_of, Kept, notes, IsNewest, writes_at, Known, IsCertificate, AreDue}
+use Rattle.bbm_certify.proofs.Common.{HasTaken, IsMaking, Adds, AreTaken, IsKnown, ReadsAreWritten}
+use Rattle.bbm_rules.proofs.Common.{◌≡◌, ℕ, suc, ◌-◌, ◌≤◌, Bool, true, ◌||◌, List, [], ◌∷◌, ◌++◌, length, take, drop}
+use Rattle.bbm_rules.proofs.Common.{reverse, is_none, refl, sym, ◌∙◌, ap, subst, arith, inl, inr, length-append}
+use Rattle.bbm_rules.proofs.Common.{and_parts, length-reverse, length-take-le, reverse-append, reverse-reverse}
+use Rattle.bbm_rules.proofs.Common.{take-append-drop, take_at, list_all, Claim, keeps, Trust, Patterns, note, noted}
+use Rattle.bbm_rules.proofs.Common.{among, Noted, events_of, Barrier, Heading, Event, Dsb, In}
+use Rattle.bbm_rules.specs.Broken.{broken}
+use Rattle.bbm_oracle_trees.specs.Past.{Past}
+use Rattle.bbm_certify.specs.DueAt.{AreDue as ArePlaces}
+use Rattle.bbm_certify.specs.Made.{Stands}
 use Rattle.bbm_certify.specs.declared.making.Making.{Making}
 use Rattle.bbm_certify.proofs.Knowing.{held_now, reads_written}
 use Rattle.bbm_certify.proofs.Whole.{due_at_dsb, written_next}

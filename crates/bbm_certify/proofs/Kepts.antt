@@ -1,23 +1,14 @@
 -- Publications and answers, by the events of a log that is kept. Everywhere `from` events came before the log.
-use Rattle.std.proofs.Common.{◌≡◌, ℕ, suc, ◌+◌, true, false, not, ◌&&◌, ◌==◌, List, ◌∷◌, ◌++◌, length, reverse, refl}
-use Rattle.std.proofs.Common.{sym, ◌∙◌, ap, subst, true≢false}
-use Rattle.std.proofs.lemmas.Bool.{and_from, and_parts, eq-eqb, eqb-true, not-true, not_from_false}
-use Rattle.bbm_tlbi_scope.specs.declared.entry.Cover.{Cover}
-use Rattle.bbm_tlbi_scope.specs.declared.entry.Cover.TheVariants.{None as NoCover, Half, Second, Full}
-use Rattle.bbm_rules.specs.Cleansing.{same_cover, writes}
-use Rattle.bbm_rules.specs.Lists.{any}
-use Rattle.bbm_rules.specs.Notes.{Noted, event_of}
-use Rattle.bbm_rules.specs.PatternSentences.{Publication}
-use Rattle.bbm_rules.specs.Prelude.{Barrier, Heading, Event, Dsb, Write}
-use Rattle.bbm_rules.specs.Reach.{Issued, completes, reaches}
-use Rattle.bbm_rules.specs.Sentences.{Open, completes_for, issues}
-use Rattle.bbm_rules.specs.Values.{publishes_to}
-use Rattle.bbm_oracle_patterns.specs.Kept.{cover_in, note_of, notes_behind}
-use Rattle.bbm_oracle_patterns.specs.declared.kept.Kept.{Kept}
-use Rattle.bbm_cert.specs.Flushes.{completed_by, is_flush_of}
-use Rattle.bbm_lemmas.proofs.Elements.{any_finds, any_found, in_split, is_none_of, none_of, split_in}
-use Rattle.bbm_lemmas.specs.Elements.{In}
-use Rattle.bbm_certify.specs.Making.{answers, publishes}
+use Rattle.bbm_certify.proofs.Common.{cover_in, note_of, notes_behind, Kept, completed_by, is_flush_of, split_in}
+use Rattle.bbm_certify.proofs.Common.{answers, publishes}
+use Rattle.bbm_rules.proofs.Common.{◌≡◌, ℕ, suc, ◌+◌, true, false, not, ◌&&◌, ◌==◌, List, ◌∷◌, ◌++◌, length, reverse}
+use Rattle.bbm_rules.proofs.Common.{refl, sym, ◌∙◌, ap, subst, true≢false, and_from, and_parts, eq-eqb, eqb-true}
+use Rattle.bbm_rules.proofs.Common.{not-true, not_from_false, Cover, Half, Second, Full, same_cover, writes, any, Noted}
+use Rattle.bbm_rules.proofs.Common.{Publication, Barrier, Heading, Event, Dsb, Write, Issued, completes, reaches, Open}
+use Rattle.bbm_rules.proofs.Common.{completes_for, issues, publishes_to, any_finds, any_found, in_split, is_none_of}
+use Rattle.bbm_rules.proofs.Common.{none_of, In}
+use Rattle.bbm_tlbi_scope.specs.declared.entry.Cover.TheVariants.{None as NoCover}
+use Rattle.bbm_rules.specs.Notes.{event_of}
 use Rattle.bbm_certify.proofs.Spots.{Seat, notes_split, seat}
 
 pub same_covers : (c d : Cover) → same_cover c d ≡ true → c ≡ d

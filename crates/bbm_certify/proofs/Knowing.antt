@@ -1,16 +1,10 @@
 -- What was ever readable, after one more event.
-use Rattle.std.proofs.Common.{◌≡◌, ◌⊎◌, ℕ, ◌≤◌, Bool, true, false, not, ◌&&◌, List, [], ◌∷◌, length, refl, ap, inl, inr}
-use Rattle.std.proofs.Common.{arith, length-append}
-use Rattle.std.proofs.lemmas.Bool.{and_parts, or_cases}
-use Rattle.bbm_rules.specs.Claims.Trust.{Patterns}
-use Rattle.bbm_rules.specs.Prelude.{Heading, Event, Dsb, Msr, Reg, Tag}
-use Rattle.bbm_rules.specs.Reach.{Issued}
-use Rattle.bbm_rules.specs.Sentences.{HoldsTag, TakenAway}
-use Rattle.bbm_rules.specs.Tags.{holds_at, loses, reads}
+use Rattle.bbm_certify.proofs.Common.{has, Holding, IsKnown, ReadsAreWritten}
+use Rattle.bbm_rules.proofs.Common.{◌≡◌, ◌⊎◌, ℕ, ◌≤◌, Bool, true, false, not, ◌&&◌, List, [], ◌∷◌, length, refl, ap}
+use Rattle.bbm_rules.proofs.Common.{inl, inr, arith, length-append, and_parts, or_cases, Patterns, Heading, Event, Dsb}
+use Rattle.bbm_rules.proofs.Common.{Msr, Reg, Tag, Issued, TakenAway, holds_at, loses, reads}
+use Rattle.bbm_rules.specs.Sentences.{HoldsTag}
 use Rattle.bbm_histories.specs.TagSteps.{BecomesReadable}
-use Rattle.bbm_cert.specs.Holdings.{has}
-use Rattle.bbm_oracle_tags.specs.declared.holding.Holding.{Holding}
-use Rattle.bbm_certify.specs.Taken.{IsKnown, ReadsAreWritten}
 
 module _ (heading : Heading) (h : List Event) where
   -- what is readable is held

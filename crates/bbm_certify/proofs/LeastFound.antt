@@ -1,11 +1,9 @@
 -- The least list of numbers that passes a test, among those that are made of the numbers of a list.
-use Rattle.std.proofs.Common.{◌≡◌, ℕ, zero, suc, ◌<◌, ◌≤◌, Bool, true, false, ◌&&◌, ◌||◌, ◌==◌, nat_lt, List, [], ◌∷◌}
-use Rattle.std.proofs.Common.{refl, sym, ◌∙◌, ap, subst, inl, inr, true≢false, arith}
-use Rattle.std.proofs.lemmas.Bool.{and_left, and_right, cases_eq, le-ltb, ltb-false, ltb-true, ne_eqb, or_from}
-use Rattle.std.specs.List.{list_any}
-use Rattle.bbm_lemmas.proofs.Elements.{any_finds, none_of}
-use Rattle.bbm_lemmas.specs.Elements.{In}
-use Rattle.bbm_certify.specs.LeastClaims.{less}
+use Rattle.bbm_certify.proofs.Common.{less}
+use Rattle.bbm_rules.proofs.Common.{◌≡◌, ℕ, zero, suc, ◌<◌, ◌≤◌, Bool, true, false, ◌&&◌, ◌||◌, ◌==◌, nat_lt, List, []}
+use Rattle.bbm_rules.proofs.Common.{◌∷◌, refl, sym, ◌∙◌, ap, subst, inl, inr, true≢false, arith, and_left, and_right}
+use Rattle.bbm_rules.proofs.Common.{cases_eq, le-ltb, ltb-false, ltb-true, ne_eqb, or_from, list_any, any_finds}
+use Rattle.bbm_rules.proofs.Common.{none_of, In}
 
 -- ---- one number
 

@@ -1,27 +1,16 @@
 -- The least pattern that a search finds in a log that is kept is the least of all that end with the newest event.
-use Rattle.std.proofs.Common.{◌≡◌, ◌⊎◌, ℕ, zero, suc, ◌+◌, ◌<◌, ◌≤◌, Bool, true, false, ◌&&◌, not, nat_lt, List, []}
-use Rattle.std.proofs.Common.{◌∷◌, ◌++◌, length, Option, Some, None, reverse, refl, sym, ◌∙◌, ap, subst, inl, inr}
-use Rattle.std.proofs.Common.{true≢false, arith, append_assoc, length-append}
-use Rattle.std.proofs.lemmas.Bool.{and_from, and_parts, le-ltb, ltb-false, ltb-true, or_left, or_right}
-use Rattle.bbm_tlbi_scope.specs.declared.entry.Cover.{Cover}
-use Rattle.bbm_tlbi_scope.specs.declared.entry.Cover.TheVariants.{Second, Full}
-use Rattle.bbm_rules.specs.Claims.Trust.{Patterns}
-use Rattle.bbm_rules.specs.Cleansing.{cleansed, same_cover}
-use Rattle.bbm_rules.specs.Lists.{any}
-use Rattle.bbm_rules.specs.Notes.{Noted}
-use Rattle.bbm_rules.specs.PatternSentences.{Cleansed, OneStep, TwoSteps}
-use Rattle.bbm_rules.specs.Prelude.{Barrier, Heading, Dsb}
-use Rattle.bbm_rules.specs.Reach.{completes, reaches}
-use Rattle.bbm_rules.specs.Sentences.{issues}
-use Rattle.bbm_cert.specs.Flushes.{completed_by, is_flush_of}
-use Rattle.bbm_oracle_patterns.specs.Kept.{cover_in, notes_behind}
-use Rattle.bbm_oracle_patterns.specs.declared.kept.Kept.{Kept}
-use Rattle.bbm_certify.specs.LeastClaims.{IsLeast, OneAt, TwoAt, less}
-use Rattle.bbm_certify.specs.Making.{AreHalves, BeginsAt, IsFirst, IsLeastClaim, IsPattern, IsPatternBehind, answers}
-use Rattle.bbm_certify.specs.Making.{claim_of, covers_rest, finishes, finishing, may_finish, publishing, waiting}
+use Rattle.bbm_certify.proofs.Common.{completed_by, is_flush_of, cover_in, notes_behind, Kept, IsLeast, OneAt, TwoAt}
+use Rattle.bbm_certify.proofs.Common.{less, AreHalves, BeginsAt, IsFirst, IsLeastClaim, IsPattern, answers, finishes}
+use Rattle.bbm_certify.proofs.Common.{finishing, publishing, waiting, Pattern, One}
+use Rattle.bbm_rules.proofs.Common.{◌≡◌, ◌⊎◌, ℕ, zero, suc, ◌+◌, ◌<◌, ◌≤◌, Bool, true, false, ◌&&◌, not, nat_lt, List}
+use Rattle.bbm_rules.proofs.Common.{[], ◌∷◌, ◌++◌, length, Option, Some, None, reverse, refl, sym, ◌∙◌, ap, subst, inl}
+use Rattle.bbm_rules.proofs.Common.{inr, true≢false, arith, append_assoc, length-append, and_from, and_parts, le-ltb}
+use Rattle.bbm_rules.proofs.Common.{ltb-false, ltb-true, or_left, or_right, Cover, Second, Full, Patterns, cleansed}
+use Rattle.bbm_rules.proofs.Common.{same_cover, any, Noted, Cleansed, OneStep, TwoSteps, Barrier, Heading, Dsb}
+use Rattle.bbm_rules.proofs.Common.{completes, reaches, issues}
+use Rattle.bbm_certify.specs.Making.{IsPatternBehind, claim_of, covers_rest, may_finish}
 use Rattle.bbm_certify.specs.declared.patterns.Halves.{Halves}
-use Rattle.bbm_certify.specs.declared.patterns.Pattern.{Pattern}
-use Rattle.bbm_certify.specs.declared.patterns.Pattern.TheVariants.{One, Two as Both}
+use Rattle.bbm_certify.specs.declared.patterns.Pattern.TheVariants.{Two as Both}
 use Rattle.bbm_certify.proofs.LeastFound.{not_less}
 use Rattle.bbm_certify.proofs.TwoSteps.{OnePositions, OneStepAt, TwoPositions, TwoStepsAt, count_in_two, one_in, one_of}
 use Rattle.bbm_certify.proofs.TwoSteps.{split_in_two, two_in, two_of}

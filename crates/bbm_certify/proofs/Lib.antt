@@ -1,3 +1,4 @@
+mod Common
 pub mod OneClaim
 pub mod LeastFound
 pub mod PlaceClaims

@@ -1,13 +1,9 @@
 -- A log has one certificate at most: what is due at an event has one order.
-use Rattle.std.proofs.Common.{◌≡◌, ℕ, ◌<◌, true, false, ◌&&◌, ◌==◌, nat_lt, ◌⊎◌, List, [], ◌∷◌, ◌++◌, refl, sym, ◌∙◌}
-use Rattle.std.proofs.Common.{ap, subst, inl, inr, true≢false, arith}
-use Rattle.std.proofs.lemmas.Bool.{and_from, and_parts, and_right, eq-eqb, eqb-true, le-ltb, lt-ltb, ltb-true, or_cases}
-use Rattle.std.proofs.lemmas.Bool.{or_from, or_left, or_right}
-use Rattle.bbm_events.specs.declared.claim.Claim.{Claim}
-use Rattle.bbm_rules.specs.Prelude.{Heading, Event}
-use Rattle.bbm_lemmas.proofs.Elements.{from_contains, to_contains}
-use Rattle.bbm_lemmas.specs.Elements.{In}
-use Rattle.bbm_certify.specs.LeastClaims.{Ascending, IsCertificate, claim_key, less}
+use Rattle.bbm_certify.proofs.Common.{Ascending, IsCertificate, claim_key, less}
+use Rattle.bbm_rules.proofs.Common.{◌≡◌, ℕ, ◌<◌, true, false, ◌&&◌, ◌==◌, nat_lt, ◌⊎◌, List, [], ◌∷◌, ◌++◌, refl, sym}
+use Rattle.bbm_rules.proofs.Common.{◌∙◌, ap, subst, inl, inr, true≢false, arith, and_from, and_parts, and_right, eq-eqb}
+use Rattle.bbm_rules.proofs.Common.{eqb-true, le-ltb, lt-ltb, ltb-true, or_cases, or_from, or_left, or_right, Claim}
+use Rattle.bbm_rules.proofs.Common.{Heading, Event, from_contains, to_contains, In}
 
 -- ---- the order is one
 

@@ -1,13 +1,8 @@
 -- What a list of claims allows, and the positions that a claim names.
-use Rattle.std.proofs.Common.{◌≡◌, ℕ, true, false, List, [], ◌∷◌, Contains, refl, sym, inl, inr, true≢false}
-use Rattle.std.proofs.lemmas.Bool.{or_cases, or_left}
-use Rattle.bbm_events.specs.declared.claim.Claim.{Claim}
-use Rattle.bbm_events.specs.declared.claim.Claim.TheVariants.{Place, Two, Taken}
-use Rattle.bbm_rules.specs.Claims.{allows, same_claim}
-use Rattle.bbm_rules.specs.Claims.Trust.{Listed}
-use Rattle.bbm_rules.specs.Prelude.{Heading}
-use Rattle.bbm_lemmas.proofs.Elements.{any_finds, from_contains}
-use Rattle.bbm_certify.specs.KnownOfCertificates.{Known}
+use Rattle.bbm_certify.proofs.Common.{allows, Known}
+use Rattle.bbm_rules.proofs.Common.{◌≡◌, ℕ, true, false, List, [], ◌∷◌, Contains, refl, sym, inl, inr, true≢false}
+use Rattle.bbm_rules.proofs.Common.{or_cases, or_left, Claim, Place, Two, Taken, same_claim, Listed, Heading, any_finds}
+use Rattle.bbm_rules.proofs.Common.{from_contains}
 
 -- the positions that a claim names, but the last of a tag
 abbrev pub named : Claim → List ℕ

@@ -1,17 +1,11 @@
 -- What is due at an event: one claim at most for a place or a tag at a PE.
-use Rattle.std.proofs.Common.{◌≡◌, ℕ, zero, suc, ◌≤◌, Bool, false, ◌&&◌, ◌==◌, nat_lt, List, [], ◌∷◌, ◌++◌, length}
-use Rattle.std.proofs.Common.{Some, Contains, refl, sym, ◌∙◌, ap, subst, arith}
-use Rattle.std.proofs.lemmas.Bool.{eq-eqb, ltb-false, or_parts}
-use Rattle.bbm_events.specs.declared.claim.Claim.{Claim}
-use Rattle.bbm_events.specs.declared.claim.Claim.TheVariants.{Place, Two, Taken}
-use Rattle.bbm_rules.specs.Claims.Trust.{Patterns}
-use Rattle.bbm_rules.specs.Covers.{noted}
-use Rattle.bbm_rules.specs.Held.{ValidWrite, last_valid}
-use Rattle.bbm_rules.specs.Notes.{Noted}
-use Rattle.bbm_rules.specs.PatternSentences.{OneStep}
-use Rattle.bbm_rules.specs.Prelude.{Heading, Event, Tag, El2Tag, Vmid, Asid, Ttbr1Tag}
-use Rattle.bbm_rules.specs.Tree.{Node, tree}
-use Rattle.bbm_certify.specs.LeastClaims.{IsCleansed, IsDue, IsLeast, OneAt, TakenAt, TwoAt, claim_key, less, tag_key}
+use Rattle.bbm_certify.proofs.Common.{IsCleansed, IsDue, IsLeast, OneAt, TakenAt, TwoAt, claim_key, less}
+use Rattle.bbm_rules.proofs.Common.{◌≡◌, ℕ, zero, suc, ◌≤◌, Bool, false, ◌&&◌, ◌==◌, nat_lt, List, [], ◌∷◌, ◌++◌}
+use Rattle.bbm_rules.proofs.Common.{length, Some, Contains, refl, sym, ◌∙◌, ap, subst, arith, eq-eqb, ltb-false}
+use Rattle.bbm_rules.proofs.Common.{or_parts, Claim, Place, Two, Taken, Patterns, noted, ValidWrite, last_valid, Noted}
+use Rattle.bbm_rules.proofs.Common.{OneStep, Heading, Event, Tag, El2Tag, Vmid, Asid, Ttbr1Tag, Node}
+use Rattle.bbm_rules.specs.Tree.{tree}
+use Rattle.bbm_certify.specs.LeastClaims.{tag_key}
 
 -- ---- lists of numbers
 

@@ -1,19 +1,10 @@
 -- What is cleansed, claim by claim: every place that is cleansed by a pattern has a least claim of it, in one step where
 -- there is one, and a list of claims that has this claim cleanses the place, too.
-use Rattle.std.proofs.Common.{◌≡◌, ℕ, Bool, true, false, ◌⊎◌, List, [], ◌∷◌, ◌++◌, map, Contains, refl, sym, ◌∙◌, ap}
-use Rattle.std.proofs.Common.{subst, inl, inr, true≢false}
-use Rattle.bbm_events.specs.declared.claim.Claim.{Claim}
-use Rattle.bbm_events.specs.declared.claim.Claim.TheVariants.{Place, Two}
-use Rattle.bbm_rules.specs.Claims.Trust.{Patterns, Listed}
-use Rattle.bbm_rules.specs.Cleansing.{cleansed}
-use Rattle.bbm_rules.specs.Notes.{Noted}
-use Rattle.bbm_rules.specs.PatternSentences.{Answer, Cleansed, OneStep, Publication, TwoSteps}
-use Rattle.bbm_rules.specs.Prelude.{Heading}
-use Rattle.bbm_rules.specs.Reach.{Issued}
-use Rattle.bbm_lemmas.proofs.Elements.{in_map, in_right, in_split}
-use Rattle.bbm_lemmas.specs.Elements.{In}
-use Rattle.bbm_certify.specs.KnownOfCertificates.{Known}
-use Rattle.bbm_certify.specs.LeastClaims.{IsLeast, OneAt, TwoAt, less}
+use Rattle.bbm_certify.proofs.Common.{Known, IsLeast, OneAt, TwoAt, less}
+use Rattle.bbm_rules.proofs.Common.{◌≡◌, ℕ, Bool, true, false, ◌⊎◌, List, [], ◌∷◌, ◌++◌, map, Contains, refl, sym, ◌∙◌}
+use Rattle.bbm_rules.proofs.Common.{ap, subst, inl, inr, true≢false, Claim, Place, Two, Patterns, Listed, cleansed}
+use Rattle.bbm_rules.proofs.Common.{Noted, Answer, Cleansed, OneStep, Publication, TwoSteps, Heading, Issued, in_map}
+use Rattle.bbm_rules.proofs.Common.{in_right, in_split, In}
 use Rattle.bbm_certify.proofs.OneClaim.{listed, named, only_this, this}
 use Rattle.bbm_certify.proofs.LeastFound.{LeastList, Over, Sized, finds_list, least_list, some_list}
 

@@ -1,10 +1,9 @@
 -- Searches through a log from its oldest event on.
-use Rattle.std.proofs.Common.{◌≡◌, ℕ, ◌+◌, ◌-◌, ◌<◌, Bool, true, false, List, [], ◌∷◌, ◌++◌, length, take, drop, get_or}
-use Rattle.std.proofs.Common.{sym, ◌∙◌, ap, arith, inl, inr, append_assoc, length-append}
-use Rattle.std.proofs.lemmas.Bool.{cases_eq}
-use Rattle.std.proofs.lemmas.List.{drop_at, get_or_at, length-drop, take_all, take_at}
-use Rattle.bbm_oracle_patterns.specs.declared.kept.Kept.{Kept}
-use Rattle.bbm_certify.specs.Making.{HoldsAt, NoneBelow}
+use Rattle.bbm_certify.proofs.Common.{Kept, NoneBelow}
+use Rattle.bbm_rules.proofs.Common.{◌≡◌, ℕ, ◌+◌, ◌-◌, ◌<◌, Bool, true, false, List, [], ◌∷◌, ◌++◌, length, take, drop}
+use Rattle.bbm_rules.proofs.Common.{get_or, sym, ◌∙◌, ap, arith, inl, inr, append_assoc, length-append, cases_eq}
+use Rattle.bbm_rules.proofs.Common.{drop_at, get_or_at, length-drop, take_all, take_at}
+use Rattle.bbm_certify.specs.Making.{HoldsAt}
 
 -- ---- the parts of a list at an index
 

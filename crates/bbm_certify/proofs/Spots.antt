@@ -1,10 +1,7 @@
 -- The events of a log that is kept, oldest first, and their notes, newest first.
-use Rattle.std.proofs.Common.{◌≡◌, ℕ, suc, ◌+◌, List, [], ◌∷◌, ◌++◌, length, reverse, refl, sym, ◌∙◌, ap, arith}
-use Rattle.std.proofs.Common.{append_assoc, length-append}
-use Rattle.std.proofs.lemmas.List.{length-reverse, reverse-append, reverse-reverse}
-use Rattle.bbm_oracle_patterns.specs.Kept.{note_of, notes_behind}
-use Rattle.bbm_oracle_patterns.specs.declared.kept.Kept.{Kept}
-use Rattle.bbm_rules.specs.Notes.{Noted}
+use Rattle.bbm_certify.proofs.Common.{note_of, notes_behind, Kept}
+use Rattle.bbm_rules.proofs.Common.{◌≡◌, ℕ, suc, ◌+◌, List, [], ◌∷◌, ◌++◌, length, reverse, refl, sym, ◌∙◌, ap, arith}
+use Rattle.bbm_rules.proofs.Common.{append_assoc, length-append, length-reverse, reverse-append, reverse-reverse, Noted}
 
 pub notes_append : (from : ℕ) (xs ys : List Kept)
     → notes_behind from (xs ++ ys) ≡ notes_behind (from + length ys) xs ++ notes_behind from ys

@@ -1,23 +1,18 @@
 -- Which tags a DSB takes away, claim by claim: each has a least claim of it, and a list of claims that has this claim
 -- takes the tag away, too.
-use Rattle.std.proofs.Common.{◌≡◌, ℕ, suc, ◌<◌, ◌≤◌, Bool, true, false, not, ◌&&◌, nat_le, ◌==◌, List, [], ◌∷◌, ◌++◌}
-use Rattle.std.proofs.Common.{length, map, Contains, refl, sym, ◌∙◌, ap, subst, inl, inr, true≢false, arith}
-use Rattle.std.proofs.lemmas.Bool.{and_cases, and_from, and_left, and_parts, and_right, le-leb, leb-true, not-true}
-use Rattle.std.proofs.lemmas.Bool.{not_from_false, or_cases, or_from, or_parts}
-use Rattle.bbm_events.specs.declared.claim.Claim.{Claim}
-use Rattle.bbm_events.specs.declared.claim.Claim.TheVariants.{Taken}
+use Rattle.bbm_certify.proofs.Common.{allows, Known, IsLeast, TakenAt, less}
+use Rattle.bbm_rules.proofs.Common.{◌≡◌, ℕ, suc, ◌<◌, ◌≤◌, Bool, true, false, not, ◌&&◌, nat_le, ◌==◌, List, [], ◌∷◌}
+use Rattle.bbm_rules.proofs.Common.{◌++◌, length, map, Contains, refl, sym, ◌∙◌, ap, subst, inl, inr, true≢false, arith}
+use Rattle.bbm_rules.proofs.Common.{and_from, and_left, and_parts, and_right, le-leb, leb-true, not-true}
+use Rattle.bbm_rules.proofs.Common.{not_from_false, or_cases, or_from, or_parts, Claim, Taken, Trust, same_tag}
+use Rattle.bbm_rules.proofs.Common.{Patterns, Listed, Barrier, Heading, Event, Dsb, Tag, Issued, completes, reaches}
+use Rattle.bbm_rules.proofs.Common.{unanswered, Open, TakenAway, Reading, holds_at, itself, loses, read_since, reads}
+use Rattle.bbm_rules.proofs.Common.{reads_for_some, readings, takes_tag, any_finds, any_found, from_contains, in_map}
+use Rattle.bbm_rules.proofs.Common.{to_contains, In}
+use Rattle.std.proofs.lemmas.Bool.{and_cases}
 use Rattle.bbm_histories.specs.HistorySteps.{answered_by, tag_waits}
-use Rattle.bbm_rules.specs.Claims.{Trust, allows, same_tag}
-use Rattle.bbm_rules.specs.Claims.Trust.{Patterns, Listed}
-use Rattle.bbm_rules.specs.Prelude.{Barrier, Heading, Event, Dsb, Tag}
-use Rattle.bbm_rules.specs.Reach.{Issued, completes, reaches, unanswered}
-use Rattle.bbm_rules.specs.Sentences.{Open, TakenAway}
-use Rattle.bbm_rules.specs.Tags.{Reading, holds_at, is_taken_by, itself, loses, read_since, reads, reads_for_some}
-use Rattle.bbm_rules.specs.Tags.{readings, takes_tag}
-use Rattle.bbm_lemmas.proofs.Elements.{any_finds, any_found, from_contains, in_map, to_contains}
-use Rattle.bbm_lemmas.specs.Elements.{In}
-use Rattle.bbm_certify.specs.KnownOfCertificates.{Known}
-use Rattle.bbm_certify.specs.LeastClaims.{Holding, IsLeast, TakenAt, less}
+use Rattle.bbm_rules.specs.Tags.{is_taken_by}
+use Rattle.bbm_certify.specs.LeastClaims.{Holding}
 use Rattle.bbm_certify.proofs.OneClaim.{listed, named, only_this, this}
 use Rattle.bbm_certify.proofs.LeastFound.{LeastList, Over, Sized, finds_list, least_list}
 

@@ -1,20 +1,14 @@
 -- The TLBIs that take a tag away are among those that wait.
-use Rattle.std.proofs.Common.{◌≡◌, ℕ, suc, ◌+◌, ◌≤◌, Bool, true, false, not, ◌&&◌, ◌==◌, List, [], ◌∷◌, ◌++◌, length}
-use Rattle.std.proofs.Common.{drop, get_or, reverse, refl, sym, ◌∙◌, ap, inl, inr, true≢false, arith, append_assoc}
-use Rattle.std.proofs.Common.{length-append}
-use Rattle.std.proofs.lemmas.Bool.{and_from, and_parts, cases_eq, eqb-true, not_from_false, or_cases}
-use Rattle.std.proofs.lemmas.List.{length-reverse, reverse-append, reverse-reverse}
-use Rattle.bbm_barriers.specs.Options.{answers}
+use Rattle.bbm_certify.proofs.Common.{split_in, is_open, takes}
+use Rattle.bbm_rules.proofs.Common.{◌≡◌, ℕ, suc, ◌+◌, ◌≤◌, Bool, true, false, not, ◌&&◌, ◌==◌, List, [], ◌∷◌, ◌++◌}
+use Rattle.bbm_rules.proofs.Common.{length, drop, get_or, reverse, refl, sym, ◌∙◌, ap, inl, inr, true≢false, arith}
+use Rattle.bbm_rules.proofs.Common.{append_assoc, length-append, and_from, and_parts, cases_eq, eqb-true}
+use Rattle.bbm_rules.proofs.Common.{not_from_false, or_cases, length-reverse, reverse-append, reverse-reverse, answers}
+use Rattle.bbm_rules.proofs.Common.{any, Barrier, Heading, Event, Tag, Issued, unanswered, Open, completes_for, issues}
+use Rattle.bbm_rules.proofs.Common.{itself, any_found, is_none_of, In}
 use Rattle.bbm_histories.specs.ClaimSteps.{takes_at}
 use Rattle.bbm_histories.specs.HistorySteps.{is_tlbi, waits}
-use Rattle.bbm_rules.specs.Lists.{any}
-use Rattle.bbm_rules.specs.Prelude.{Barrier, Heading, Event, Tag}
-use Rattle.bbm_rules.specs.Reach.{Issued, unanswered}
-use Rattle.bbm_rules.specs.Sentences.{Open, completes_for, issues}
-use Rattle.bbm_rules.specs.Tags.{itself}
-use Rattle.bbm_lemmas.proofs.Elements.{any_found, is_none_of, split_in}
-use Rattle.bbm_lemmas.specs.Elements.{In}
-use Rattle.bbm_certify.specs.Taken.{IsFirstTaking, is_open, takes}
+use Rattle.bbm_certify.specs.Taken.{IsFirstTaking}
 use Rattle.bbm_certify.proofs.Searches.{parts_at}
 
 turned : (xs ys : List Event) (k : Event) → reverse (xs ++ k ∷ ys) ≡ reverse ys ++ k ∷ reverse xs

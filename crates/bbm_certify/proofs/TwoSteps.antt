@@ -1,17 +1,10 @@
 -- The patterns that end with the newest event, by the events of a log that is kept.
-use Rattle.std.proofs.Common.{◌≡◌, ◌⊎◌, ℕ, suc, ◌+◌, true, List, [], ◌∷◌, ◌++◌, length, reverse, refl, sym, ◌∙◌, ap}
-use Rattle.std.proofs.Common.{subst, inl, inr, true≢false, arith, append_assoc, length-append}
-use Rattle.bbm_tlbi_scope.specs.declared.entry.Cover.{Cover}
-use Rattle.bbm_tlbi_scope.specs.declared.entry.Cover.TheVariants.{Half, Second, Full}
-use Rattle.bbm_rules.specs.Claims.Trust.{Patterns}
-use Rattle.bbm_rules.specs.Notes.{Noted, event_of}
-use Rattle.bbm_rules.specs.PatternSentences.{Flush, OneStep, Publication, TwoSteps}
-use Rattle.bbm_rules.specs.Prelude.{Barrier, Heading, Event, Dsb}
-use Rattle.bbm_rules.specs.Reach.{Issued, completes}
-use Rattle.bbm_rules.specs.Sentences.{Open}
-use Rattle.bbm_oracle_patterns.specs.Kept.{note_of, notes_behind}
-use Rattle.bbm_oracle_patterns.specs.declared.kept.Kept.{Kept}
-use Rattle.bbm_certify.specs.Making.{BeginsAt, answers, publishes}
+use Rattle.bbm_certify.proofs.Common.{note_of, notes_behind, Kept, BeginsAt, answers, publishes}
+use Rattle.bbm_rules.proofs.Common.{◌≡◌, ◌⊎◌, ℕ, suc, ◌+◌, true, List, [], ◌∷◌, ◌++◌, length, reverse, refl, sym, ◌∙◌}
+use Rattle.bbm_rules.proofs.Common.{ap, subst, inl, inr, true≢false, arith, append_assoc, length-append, Cover, Half}
+use Rattle.bbm_rules.proofs.Common.{Second, Full, Patterns, Noted, Flush, OneStep, Publication, TwoSteps, Barrier}
+use Rattle.bbm_rules.proofs.Common.{Heading, Event, Dsb, Issued, completes, Open}
+use Rattle.bbm_rules.specs.Notes.{event_of}
 use Rattle.bbm_certify.proofs.Kepts.{Answered, Published, Waiting, answered_of, publication_of, published_in}
 use Rattle.bbm_certify.proofs.Kepts.{waiting_in}
 use Rattle.bbm_certify.proofs.Spots.{Seat, notes_split, seat}

@@ -1,27 +1,14 @@
 -- All claims that are due at an event, and what is kept for the next one.
-use Rattle.std.proofs.Common.{◌≡◌, ◌⊎◌, ℕ, ◌<◌, Bool, true, false, cond, ◌&&◌, ◌||◌, ◌==◌, List, [], ◌∷◌, Option, Some}
-use Rattle.std.proofs.Common.{None, is_none, refl, sym, ◌∙◌, ap, subst, inl, inr, true≢false}
-use Rattle.std.proofs.lemmas.Bool.{and_parts, eqb-true, or_parts}
-use Rattle.bbm_descriptor.specs.Descriptor.{is_valid}
-use Rattle.bbm_events.specs.declared.claim.Claim.{Claim}
-use Rattle.bbm_events.specs.declared.claim.Claim.TheVariants.{Place, Two, Taken}
-use Rattle.bbm_rules.specs.Broken.{broken, keeps}
-use Rattle.bbm_rules.specs.Claims.Trust.{Patterns}
-use Rattle.bbm_rules.specs.Covers.{note, noted}
-use Rattle.bbm_rules.specs.Held.{ValidWrite, last_valid, last_valid_after, later}
-use Rattle.bbm_rules.specs.Lists.{among}
-use Rattle.bbm_rules.specs.Notes.{Noted}
-use Rattle.bbm_rules.specs.Places.{page_of}
-use Rattle.bbm_rules.specs.Prelude.{Barrier, Heading, Event, Init, Write, Dsb, Kind}
-use Rattle.bbm_oracle_tags.specs.declared.holding.Holding.{Holding}
-use Rattle.bbm_lemmas.proofs.Elements.{any_found}
-use Rattle.bbm_lemmas.specs.Elements.{In}
-use Rattle.bbm_certify.specs.DueAt.{AreDue as ArePlaces, writes_at}
-use Rattle.bbm_certify.specs.KnownOfCertificates.{Known}
-use Rattle.bbm_certify.specs.LeastClaims.{IsCleansed, IsDue}
-use Rattle.bbm_certify.specs.Made.{AreDue, AreWritten}
-use Rattle.bbm_certify.specs.Orders.{Adds}
-use Rattle.bbm_certify.specs.Taken.{AreTaken, IsKnown}
+use Rattle.bbm_certify.proofs.Common.{Kind, Holding, writes_at, Known, IsCleansed, IsDue, AreDue, Adds, AreTaken}
+use Rattle.bbm_certify.proofs.Common.{IsKnown}
+use Rattle.bbm_rules.proofs.Common.{◌≡◌, ◌⊎◌, ℕ, ◌<◌, Bool, true, false, cond, ◌&&◌, ◌||◌, ◌==◌, List, [], ◌∷◌, Option}
+use Rattle.bbm_rules.proofs.Common.{Some, None, is_none, refl, sym, ◌∙◌, ap, subst, inl, inr, true≢false, and_parts}
+use Rattle.bbm_rules.proofs.Common.{eqb-true, or_parts, is_valid, Claim, Place, Two, Taken, keeps, Patterns, note}
+use Rattle.bbm_rules.proofs.Common.{noted, ValidWrite, last_valid, last_valid_after, later, among, Noted, page_of}
+use Rattle.bbm_rules.proofs.Common.{Barrier, Heading, Event, Init, Write, Dsb, any_found, In}
+use Rattle.bbm_rules.specs.Broken.{broken}
+use Rattle.bbm_certify.specs.DueAt.{AreDue as ArePlaces}
+use Rattle.bbm_certify.specs.Made.{AreWritten}
 use Rattle.bbm_certify.proofs.Adding.{all_due, none_are_due}
 use Rattle.bbm_certify.proofs.DueNone.{none_due}
 use Rattle.bbm_certify.proofs.DuePlaces.{due_found, found_due, had_write}

@@ -1,20 +1,12 @@
 -- What one event more answers.
-use Rattle.std.proofs.Common.{◌≡◌, ℕ, ◌+◌, ◌<◌, Bool, true, false, ◌&&◌, ◌||◌, ◌==◌, nat_le, nat_lt, cond, List, []}
-use Rattle.std.proofs.Common.{◌∷◌, ◌++◌, length, map, filter, get_or, take, reverse, refl, sym, ◌∙◌, ap, subst}
-use Rattle.std.proofs.lemmas.List.Folds.{list_any-append}
-use Rattle.bbm_lemmas.proofs.Tautologies.{proved}
-use Rattle.bbm_lemmas.proofs.Tautologies.Claim.{Is}
-use Rattle.bbm_rules.specs.Lists.{any}
-use Rattle.bbm_rules.specs.Prelude.{Barrier, Heading, Event, Dsb, Tlbi}
-use Rattle.bbm_rules.specs.Reach.{Issued, completes, unanswered}
-use Rattle.bbm_rules.specs.Tags.{itself}
-use Rattle.bbm_tlb_machine.specs.Entry.{Entry}
-use Rattle.bbm_tlb_machine.specs.MachinePendings.{IsPending, Pending, is_answered, must_leave, pending_of}
-use Rattle.bbm_tlb_machine.specs.Step.{must_go}
-use Rattle.bbm_counterrun.specs.TlbiAnswers.{Answer, IsAnswers, answer_at, forbids_by}
-use Rattle.bbm_counterrun.specs.Tested.{forbids, is_forbidden}
+use Rattle.bbm_counterrun.proofs.Common.{Entry, IsPending, is_answered, must_leave, must_go, Answer, IsAnswers}
+use Rattle.bbm_counterrun.proofs.Common.{answer_at, forbids_by, forbids, is_forbidden}
+use Rattle.bbm_rules.proofs.Common.{◌≡◌, ℕ, ◌+◌, ◌<◌, Bool, true, false, ◌&&◌, ◌||◌, ◌==◌, nat_le, nat_lt, cond, List}
+use Rattle.bbm_rules.proofs.Common.{[], ◌∷◌, ◌++◌, length, map, filter, get_or, take, reverse, refl, sym, ◌∙◌, ap}
+use Rattle.bbm_rules.proofs.Common.{subst, list_any-append, proved, Is, any, Barrier, Heading, Event, Dsb, Tlbi, Issued}
+use Rattle.bbm_rules.proofs.Common.{completes, unanswered, itself, or_comm, and-false}
+use Rattle.bbm_tlb_machine.specs.MachinePendings.{Pending, pending_of}
 use Rattle.bbm_counterrun.proofs.WalkCode.{newest_first}
-use mathlib.Core.Bool.{or_comm, and-false}
 
 any_map : {X Y : Type 0} (test : Y → Bool) (f : X → Y) (xs : List X) → any test (map f xs) ≡ any (λ x. test (f x)) xs
 any_map test f [] = refl

@@ -1,13 +1,9 @@
 -- Worked cases: logs that end with a refused write, plans of conflict runs over them, and their runs.
-use Rattle.std.specs.Prelude.{◌≡◌, ℕ, Bool, true, false, List, [], ◌∷◌, Option, Some, None, reverse, refl}
-use Prim.Native.String.{String}
-use Rattle.bbm_rules.specs.Prelude.{El2, S2}
-use Rattle.bbm_tlb_machine.specs.declared.step.Step.{Step}
+use Rattle.bbm_counterrun.proofs.Common.{◌≡◌, ℕ, true, List, [], ◌∷◌, Option, Some, None, reverse, refl, Step}
+use Rattle.bbm_counterrun.proofs.Common.{first_conflict, Plan, comes_before, run_of, ends_at_leaf, is_plain}
+use Rattle.bbm_rules.proofs.Common.{String, El2, S2}
+use Rattle.std.specs.Prelude.{Bool, false}
 use Rattle.bbm_rules.specs.Tree.{tree}
-use Rattle.bbm_tlb_machine.specs.Safe.{first_conflict}
-use Rattle.bbm_counterrun.specs.Plans.{Plan, comes_before, run_of}
-use Rattle.bbm_counterrun.specs.RefusedWrite.{ends_at_leaf}
-use Rattle.bbm_counterrun.specs.Tested.{is_plain}
 use Rattle.bbm_counterrun.proofs.RunTexts.{before_last, of_events, steps_of}
 
 -- what the test of a plan says of the last event of a log

@@ -1,11 +1,8 @@
 -- Worked cases: the way to the place of a refused write, and the least reads of it.
-use Rattle.std.specs.Prelude.{◌≡◌, ℕ, true, List, [], ◌∷◌, Option, Some, None, reverse, refl}
-use Prim.Native.String.{String}
-use Rattle.bbm_rules.specs.Prelude.{El2}
+use Rattle.bbm_counterrun.proofs.Common.{◌≡◌, ℕ, true, List, [], ◌∷◌, Option, Some, None, reverse, refl, Read}
+use Rattle.bbm_counterrun.proofs.Common.{first_events, Goal, least_reads, way_to}
+use Rattle.bbm_rules.proofs.Common.{String, El2}
 use Rattle.bbm_rules.specs.Tree.{tree}
-use Rattle.bbm_counterrun.specs.Plans.{Read}
-use Rattle.bbm_counterrun.specs.Tested.{first_events}
-use Rattle.bbm_counterrun.specs.Ways.{Goal, least_reads, way_to}
 use Rattle.bbm_counterrun.proofs.CasesRuns.{is_plain_in, stale_log, stale_read, two_reads, two_reads_log}
 use Rattle.bbm_counterrun.proofs.RunTexts.{before_last, of_events}
 

@@ -1,15 +1,11 @@
 -- The best choice of some numbers, with one number more.
-use Rattle.std.proofs.Common.{◌≡◌, ℕ, ◌+◌, ◌<◌, ◌≤◌, arith, Bool, true, false, ◌==◌, List, [], ◌∷◌, ◌++◌, length}
-use Rattle.std.proofs.Common.{get_or, take, reverse, Option, Some, None, sym, ◌∙◌, ap, subst, ◌⊎◌, inl, inr, true≢false}
-use Rattle.std.proofs.lemmas.Bool.{and_parts, eqb-true, false_from_ne_true, leb-false, leb-true, or_cases}
-use Rattle.std.proofs.lemmas.List.{take_more}
-use Rattle.std.proofs.lemmas.List.Folds.{list_any-append}
-use Rattle.bbm_rules.specs.Lists.{among}
-use Rattle.bbm_rules.specs.Prelude.{Kind, Heading, Event, Write}
-use Rattle.bbm_tlb_machine.specs.Step.{may_start, started}
-use Rattle.bbm_counterrun.specs.Plans.{Read}
-use Rattle.bbm_counterrun.specs.Searching.{BestAmong, Choice, FindsNumber, FirstCombine, better, is_behind, plain_by}
-use Rattle.bbm_counterrun.specs.Tested.{first_events}
+use Rattle.bbm_counterrun.proofs.Common.{Kind, may_start, started, Read, BestAmong, Choice, FindsNumber, FirstCombine}
+use Rattle.bbm_counterrun.proofs.Common.{plain_by, first_events}
+use Rattle.bbm_rules.proofs.Common.{◌≡◌, ℕ, ◌+◌, ◌<◌, ◌≤◌, arith, Bool, true, false, ◌==◌, List, [], ◌∷◌, ◌++◌, length}
+use Rattle.bbm_rules.proofs.Common.{get_or, take, reverse, Option, Some, None, sym, ◌∙◌, ap, subst, ◌⊎◌, inl, inr}
+use Rattle.bbm_rules.proofs.Common.{true≢false, and_parts, eqb-true, false_from_ne_true, leb-false, leb-true, or_cases}
+use Rattle.bbm_rules.proofs.Common.{take_more, list_any-append, among, Heading, Event, Write}
+use Rattle.bbm_counterrun.specs.Searching.{better, is_behind}
 use Rattle.bbm_counterrun.proofs.SearchPlain.{first_is}
 
 among_more : (m n : ℕ) (numbers : List ℕ) → among m (numbers ++ n ∷ []) ≡ true → (among m numbers ≡ true) ⊎ (n ≡ m)

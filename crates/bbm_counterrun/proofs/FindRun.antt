@@ -1,30 +1,19 @@
 -- What a search over the events before a write finds is what the definitions ask for.
-use Rattle.std.proofs.Common.{◌≡◌, ℕ, ◌+◌, ◌-◌, ◌≤◌, arith, length, get_or, take, Bool, true, false, true≢false, ◌↔◌}
-use Rattle.std.proofs.Common.{List, [], ◌∷◌, reverse, option_map, All, IfSome, Option, Some, None, inl, inr, sym, ◌∙◌}
-use Rattle.std.proofs.Common.{ap, subst, refl}
-use Rattle.std.proofs.lemmas.List.{reverse-append, reverse-reverse, take_all}
+use Rattle.bbm_counterrun.proofs.Common.{notes, StandsFor, Patterns, Kind, Step, IsLog, HasLeastReads}
+use Rattle.bbm_counterrun.proofs.Common.{PlansHaveLeastReads, IsPlain, Plan, run_of, ends_at_leaf, holds_leaf}
+use Rattle.bbm_counterrun.proofs.Common.{plan_found, PlainIsTested, is_plain, Goal, way_to}
+use Rattle.bbm_rules.proofs.Common.{◌≡◌, ℕ, ◌+◌, ◌-◌, ◌≤◌, arith, length, get_or, take, Bool, true, false, true≢false}
+use Rattle.bbm_rules.proofs.Common.{◌↔◌, List, [], ◌∷◌, reverse, option_map, IfSome, Option, Some, None, inl, inr, sym}
+use Rattle.bbm_rules.proofs.Common.{◌∙◌, ap, subst, refl, reverse-append, reverse-reverse, take_all, In, from_contains}
+use Rattle.bbm_rules.proofs.Common.{in_append, to_contains, fits_heading, heading_ok, Trust, noted, Noted, page_of}
+use Rattle.bbm_rules.proofs.Common.{Heading, Event, Write, Node, node_of}
+use Rattle.std.proofs.Common.{All}
 use Rattle.std.proofs.lemmas.List.Elements.{All-contains}
-use Rattle.bbm_lemmas.specs.Elements.{In}
-use Rattle.bbm_lemmas.proofs.Elements.{from_contains, in_append, to_contains}
-use Rattle.bbm_events.specs.Fits.{fits_heading}
-use Rattle.bbm_events.specs.Heading.{heading_ok}
-use Rattle.bbm_oracle_trees.specs.Past.{Past, notes}
-use Rattle.bbm_oracle_trees.specs.HistoryStandsFor.{StandsFor}
-use Rattle.bbm_rules.specs.Claims.{Trust, Patterns}
-use Rattle.bbm_rules.specs.Covers.{noted}
-use Rattle.bbm_rules.specs.Notes.{Noted}
-use Rattle.bbm_rules.specs.Places.{page_of}
-use Rattle.bbm_rules.specs.Prelude.{Kind, Heading, Event, Write}
-use Rattle.bbm_rules.specs.Tree.{Node, node_of}
-use Rattle.bbm_tlb_machine.specs.declared.step.Step.{Step}
-use Rattle.bbm_tlb_machine.specs.Safe.{IsLog}
-use Rattle.bbm_counterrun.specs.Goals.{goals_among, places_by, way_among}
-use Rattle.bbm_counterrun.specs.LeastList.{HasLeastReads, PlansHaveLeastReads}
-use Rattle.bbm_counterrun.specs.Plans.{Finds, IsPlain, Plan, run_of}
-use Rattle.bbm_counterrun.specs.RefusedWrite.{IsRefused, ends_at_leaf, holds_leaf}
-use Rattle.bbm_counterrun.specs.Searching.{FindsRun, plan_found}
-use Rattle.bbm_counterrun.specs.Tested.{PlainIsTested, is_plain}
-use Rattle.bbm_counterrun.specs.Ways.{Goal, places_to, way_to}
+use Rattle.bbm_oracle_trees.specs.Past.{Past}
+use Rattle.bbm_counterrun.specs.Goals.{way_among}
+use Rattle.bbm_counterrun.specs.Plans.{Finds}
+use Rattle.bbm_counterrun.specs.RefusedWrite.{IsRefused}
+use Rattle.bbm_counterrun.specs.Searching.{FindsRun}
 use Rattle.bbm_counterrun.proofs.FirstFound.{found_first, none_first}
 use Rattle.bbm_counterrun.proofs.WalkCode.{newest_first}
 
@@ -57,12 +46,7 @@ kind_by heading trust ns place = option_map (λ n. n.kind) (node_of heading trus
 
 -- the way as a program asks for it is that of the definitions
 way_same : (heading : Heading) (h : List Event) (place : ℕ) → way_among heading Patterns (noted heading Patterns h) place ≡ way_to heading h place
-way_same heading h place =
-    ap (goals_among heading Patterns (noted heading Patterns h)) (places_same (node_of heading Patterns (noted heading Patterns h) (page_of place)))
-  where
-    places_same : (o : Option Node) → places_by o place ≡ places_to heading h o place
-    places_same None = refl
-    places_same (Some n) = refl
+way_same heading h place = refl
 
 module _ (past : Past) (heading : Heading) (h : List Event) (place : ℕ) (trust : past.trust ≡ Patterns) (stands : StandsFor past heading h) where
   notes_same : notes past ≡ noted heading Patterns h

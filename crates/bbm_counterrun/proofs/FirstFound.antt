@@ -1,24 +1,14 @@
 -- What a search with the least reads finds is the first plain conflict run of all.
-use Rattle.std.proofs.Common.{◌≡◌, ℕ, suc, ◌+◌, ◌<◌, ◌≤◌, arith, Bool, true, ◌↔◌, ◌==◌, List, [], ◌∷◌, length, Option}
-use Rattle.std.proofs.Common.{Some, None, inl, inr, refl, sym, ◌∙◌, ap, true≢false}
-use Rattle.std.proofs.lemmas.Bool.{and_parts, false_from_ne_true, leb-true, ltb-true}
-use Rattle.bbm_descriptor.specs.Descriptor.{desc_of}
-use Rattle.bbm_descriptor.specs.declared.desc.Desc.{Desc}
-use Rattle.bbm_descriptor.specs.declared.desc.Desc.TheVariants.{Invalid, Leaf, Table}
-use Rattle.bbm_rules.specs.Lists.{is_that}
-use Rattle.bbm_rules.specs.Places.{page_of}
-use Rattle.bbm_rules.specs.Prelude.{Kind, Heading, Event, Write}
-use Rattle.bbm_rules.specs.Roots.{start_of}
-use Rattle.bbm_rules.specs.Tree.{next_in}
-use Rattle.bbm_tlb_machine.specs.Entry.{Entry}
-use Rattle.bbm_tlb_machine.specs.Step.{extended, may_extend}
+use Rattle.bbm_counterrun.proofs.Common.{Kind, Entry, extended, may_extend, HasLeastReads, IsFirst, IsPlain, Plan, Read}
+use Rattle.bbm_counterrun.proofs.Common.{by_combine, by_number, by_reads, comes_before, reads_of, FindsAll, plain_at}
+use Rattle.bbm_counterrun.proofs.Common.{plain_with, plan_found, plan_of, first_events, is_plain, may_extend_by}
+use Rattle.bbm_counterrun.proofs.Common.{started_by, Goal, least_reads, way_to}
+use Rattle.bbm_rules.proofs.Common.{◌≡◌, ℕ, suc, ◌+◌, ◌<◌, ◌≤◌, arith, Bool, true, ◌↔◌, ◌==◌, List, [], ◌∷◌, length}
+use Rattle.bbm_rules.proofs.Common.{Option, Some, None, inl, inr, refl, sym, ◌∙◌, ap, true≢false, and_parts}
+use Rattle.bbm_rules.proofs.Common.{false_from_ne_true, leb-true, ltb-true, desc_of, Desc, Invalid, Leaf, Table}
+use Rattle.bbm_rules.proofs.Common.{is_that, page_of, Heading, Event, Write, start_of, next_in}
 use Rattle.bbm_tlb_machine.proofs.PartLemmas.{table_above}
-use Rattle.bbm_counterrun.specs.LeastList.{HasLeastReads}
-use Rattle.bbm_counterrun.specs.Plans.{IsFirst, IsPlain, Plan, Read, by_combine, by_number, by_reads, comes_before}
-use Rattle.bbm_counterrun.specs.Plans.{reads_of}
-use Rattle.bbm_counterrun.specs.Searching.{FindsAll, Found, plain_at, plain_with, plan_found, plan_of}
-use Rattle.bbm_counterrun.specs.Tested.{first_events, is_plain, may_extend_by, started_by}
-use Rattle.bbm_counterrun.specs.Ways.{Goal, least_reads, way_to}
+use Rattle.bbm_counterrun.specs.Searching.{Found}
 use Rattle.bbm_counterrun.proofs.FirstOfLeast.{first_of_least, with_least}
 use Rattle.bbm_counterrun.proofs.Order.{number_cases, reads_itself}
 

@@ -1,11 +1,9 @@
 -- A plan that comes before another does so with its least reads, too: so the first of those with their least reads is the
 -- first of all.
-use Rattle.std.proofs.Common.{◌≡◌, ℕ, Bool, true, false, List, ◌∷◌, refl, sym, ◌∙◌, ap, true≢false}
-use Rattle.std.proofs.lemmas.Bool.{false_from_ne_true}
-use Rattle.bbm_rules.specs.Prelude.{Heading, Event}
-use Rattle.bbm_counterrun.specs.LeastList.{HasLeastReads}
-use Rattle.bbm_counterrun.specs.Plans.{IsFirst, IsPlain, Plan, by_combine, by_number, by_reads, comes_before, reads_of}
-use Rattle.bbm_counterrun.specs.Tested.{is_plain}
+use Rattle.bbm_counterrun.proofs.Common.{HasLeastReads, IsFirst, IsPlain, Plan, by_combine, by_number, by_reads}
+use Rattle.bbm_counterrun.proofs.Common.{comes_before, reads_of, is_plain}
+use Rattle.bbm_rules.proofs.Common.{◌≡◌, ℕ, Bool, true, false, List, ◌∷◌, refl, sym, ◌∙◌, ap, true≢false}
+use Rattle.bbm_rules.proofs.Common.{false_from_ne_true, Heading, Event}
 use Rattle.bbm_counterrun.proofs.Order.{before_then, combine_itself, number_itself, same_if_neither}
 
 -- the plan with its least reads

@@ -1,13 +1,8 @@
 -- The state to which steps lead, oldest first, and the runs that it stands for.
-use Rattle.std.proofs.Common.{◌≡◌, Bool, true, false, ◌&&◌, List, [], ◌∷◌, ◌++◌, Option, Some, None, refl, ◌∙◌, ap}
-use Rattle.std.proofs.Common.{subst}
+use Rattle.bbm_counterrun.proofs.Common.{Step, RunsAreFollowed, IsRun, State, step_to}
+use Rattle.bbm_rules.proofs.Common.{◌≡◌, Bool, true, false, ◌&&◌, List, [], ◌∷◌, ◌++◌, Option, Some, None, refl, ◌∙◌}
+use Rattle.bbm_rules.proofs.Common.{ap, subst, bind_some, ◌>>=◌, if_so, Heading}
 use mathlib.Core.List.{reverse_aux}
-use Rattle.bbm_lemmas.proofs.Words.{bind_some}
-use Rattle.bbm_rules.specs.Lists.{◌>>=◌, if_so}
-use Rattle.bbm_rules.specs.Prelude.{Heading}
-use Rattle.bbm_tlb_machine.specs.declared.step.Step.{Step}
-use Rattle.bbm_tlb_machine.specs.MachineLaws.{RunsAreFollowed}
-use Rattle.bbm_tlb_machine.specs.MachineRun.{IsRun, State, step_to}
 
 -- a step that is taken where one test passes, and then another where a second one does
 pub then_so : {A B : Type 0} (a b : Bool) (s : A) (t : B) (f : A → Option B) → f s ≡ if_so b t → (if_so a s >>= f) ≡ if_so (a && b) t

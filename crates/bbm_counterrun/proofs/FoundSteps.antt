@@ -1,12 +1,10 @@
 -- What is found at one start and PE, at one start, and of all.
-use Rattle.std.proofs.Common.{◌≡◌, ℕ, ◌+◌, ◌<◌, ◌≤◌, arith, Bool, true, false, nat_lt, List, length, take, reverse}
-use Rattle.std.proofs.Common.{Option, Some, None, refl, sym, ◌∙◌, ap, subst}
-use Rattle.std.proofs.lemmas.Bool.{ltb-false, ltb-true}
-use Rattle.bbm_rules.specs.Prelude.{Kind, Heading, Event, Write}
-use Rattle.bbm_counterrun.specs.Plans.{Read}
-use Rattle.bbm_counterrun.specs.Searching.{Choice, FindsAt, FindsNumber, found_by, plain_at, plain_by, plain_with}
-use Rattle.bbm_counterrun.specs.Tested.{first_events}
-use Rattle.bbm_counterrun.specs.Ways.{Goal, least_reads}
+use Rattle.bbm_counterrun.proofs.Common.{Kind, Read, Choice, FindsAt, FindsNumber, plain_at, plain_by, plain_with}
+use Rattle.bbm_counterrun.proofs.Common.{first_events, Goal, least_reads}
+use Rattle.bbm_rules.proofs.Common.{◌≡◌, ℕ, ◌+◌, ◌<◌, ◌≤◌, arith, Bool, true, false, nat_lt, List, length, take}
+use Rattle.bbm_rules.proofs.Common.{reverse, Option, Some, None, refl, sym, ◌∙◌, ap, subst, ltb-false, ltb-true}
+use Rattle.bbm_rules.proofs.Common.{Heading, Event, Write}
+use Rattle.bbm_counterrun.specs.Searching.{found_by}
 use Rattle.bbm_counterrun.proofs.SearchPlain.{first_alike, first_is}
 
 number_alike : (one other : ℕ → Option ℕ → Bool) (best : Option Choice) → ((n : ℕ) (o : Option ℕ) → one n o ≡ other n o) → FindsNumber other best

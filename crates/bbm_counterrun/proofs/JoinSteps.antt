@@ -1,22 +1,14 @@
 -- The steps of the search for the first moment at which an entry can be combined.
-use Rattle.std.proofs.Common.{◌≡◌, ℕ, ◌+◌, ◌<◌, ◌≤◌, arith, Bool, true, false, ◌&&◌, not, nat_le, nat_lt, List, [], ◌∷◌}
-use Rattle.std.proofs.Common.{length, get_or, take, Option, Some, None, inl, inr, refl, sym, ◌∙◌, ap, true≢false}
-use Rattle.std.proofs.lemmas.Bool.{and_from, and_left, and_parts, and_right, false_from_ne_true, le-leb, leb-true}
-use Rattle.std.proofs.lemmas.Bool.{lt-ltb, ltb-false, ltb-true, not_from_false, not_from_true, or_cases, or_from}
-use Rattle.std.proofs.lemmas.Bool.{or_left, or_parts, or_right}
-use Rattle.std.proofs.lemmas.List.Folds.{list_any_at, list_any_more}
-use Rattle.bbm_tlbi_scope.specs.declared.entry.EntryKind.TheVariants.{Combined}
-use Rattle.bbm_tlbi_scope.specs.declared.scope.Family.{Family}
-use Rattle.bbm_tlbi_scope.specs.declared.scope.Family.TheVariants.{El2All, El2Va, E1All, VmAll1, VmAll12, Ipa, Va}
-use Rattle.bbm_tlbi_scope.specs.declared.scope.Family.TheVariants.{VaAll, Asid}
-use Rattle.bbm_rules.specs.Lists.{any}
-use Rattle.bbm_rules.specs.Prelude.{Heading, Scope}
-use Rattle.bbm_rules.specs.Reach.{reaches}
-use Rattle.bbm_tlb_machine.specs.Entry.{Entry, age_by}
-use Rattle.bbm_tlb_machine.specs.MachinePendings.{must_leave}
-use Rattle.bbm_tlb_machine.specs.Step.{combined, takes_by}
-use Rattle.bbm_counterrun.specs.TlbiAnswers.{Answer, forbids_by}
-use Rattle.bbm_counterrun.specs.Searching.{FirstIn, blocks, forbidden_by, joins}
+use Rattle.bbm_counterrun.proofs.Common.{not_from_true, Entry, age_by, must_leave, combined, takes_by, Answer}
+use Rattle.bbm_counterrun.proofs.Common.{forbids_by, FirstIn, blocks, forbidden_by, joins}
+use Rattle.bbm_rules.proofs.Common.{◌≡◌, ℕ, ◌+◌, ◌<◌, ◌≤◌, arith, Bool, true, false, ◌&&◌, not, nat_le, nat_lt, List}
+use Rattle.bbm_rules.proofs.Common.{[], ◌∷◌, length, get_or, take, Option, Some, None, inl, inr, refl, sym, ◌∙◌, ap}
+use Rattle.bbm_rules.proofs.Common.{true≢false, and_from, and_left, and_parts, and_right, false_from_ne_true, le-leb}
+use Rattle.bbm_rules.proofs.Common.{leb-true, lt-ltb, ltb-false, ltb-true, not_from_false, or_cases, or_from, or_left}
+use Rattle.bbm_rules.proofs.Common.{or_parts, or_right, list_any_more, Combined, Family, El2All, El2Va, E1All, VmAll1}
+use Rattle.bbm_rules.proofs.Common.{VmAll12, Ipa, Va, VaAll, any, Heading, Scope, reaches}
+use Rattle.std.proofs.lemmas.List.Folds.{list_any_at}
+use Rattle.bbm_tlbi_scope.specs.declared.scope.Family.TheVariants.{Asid}
 
 -- ---- what is forbidden where the entry is combined later
 

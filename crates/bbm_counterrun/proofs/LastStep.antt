@@ -1,17 +1,14 @@
 -- A conflict run over events that keep the rules conflicts at its last step alone.
-use Rattle.std.proofs.Common.{◌≡◌, ℕ, true, false, List, [], ◌∷◌, ◌++◌, length, Option, Some, None, Result, Ok}
-use Rattle.std.proofs.Common.{refl, sym, ◌∙◌, ap, subst, true≢false}
-use Rattle.std.proofs.lemmas.List.{append_assoc}
-use Rattle.bbm_events.specs.declared.machine.MachineLine.TheVariants.{Start, Extend, Combine, Share, Drop}
-use Rattle.bbm_rules.specs.Broken.{keeps}
-use Rattle.bbm_rules.specs.Claims.{Trust}
-use Rattle.bbm_rules.specs.Prelude.{Heading, Event, Write}
-use Rattle.bbm_tlb_machine.specs.declared.step.Step.{Step}
-use Rattle.bbm_tlb_machine.specs.declared.step.Step.TheVariants.{Machine, Event as Taken}
+use Rattle.bbm_counterrun.proofs.Common.{append_assoc, Step, Machine, RunsAreFollowed, IsRun, State, IsLog}
+use Rattle.bbm_counterrun.proofs.Common.{first_conflict, in_conflict}
+use Rattle.bbm_rules.proofs.Common.{◌≡◌, ℕ, true, false, List, [], ◌∷◌, ◌++◌, length, Option, Some, None, Result, Ok}
+use Rattle.bbm_rules.proofs.Common.{refl, sym, ◌∙◌, ap, subst, true≢false, Start, Extend, Combine, Share, Drop, keeps}
+use Rattle.bbm_rules.proofs.Common.{Trust, Heading, Event, Write}
+use Rattle.bbm_tlb_machine.specs.declared.step.Step.TheVariants.{Event as Taken}
 use Rattle.bbm_tlb_machine.specs.First.{IsFirstConflict}
-use Rattle.bbm_tlb_machine.specs.MachineLaws.{ConflictsAreTested, KeptIsSafe, RunsAreFollowed}
-use Rattle.bbm_tlb_machine.specs.MachineRun.{IsRun, Leads, State, after_event, follow_steps, next_in}
-use Rattle.bbm_tlb_machine.specs.Safe.{IsLog, Safe, first_conflict, in_conflict}
+use Rattle.bbm_tlb_machine.specs.MachineLaws.{ConflictsAreTested, KeptIsSafe}
+use Rattle.bbm_tlb_machine.specs.MachineRun.{Leads, after_event, follow_steps, next_in}
+use Rattle.bbm_tlb_machine.specs.Safe.{Safe}
 use Rattle.bbm_counterrun.specs.Plans.{EndsInConflict, IsConflictRun}
 
 -- the laws of runs, of conflicts and of safe logs

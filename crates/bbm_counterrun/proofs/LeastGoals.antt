@@ -1,25 +1,15 @@
 -- The least reads of a way: of each place the least value that means the same, at most what a walk read there.
-use Rattle.std.proofs.Common.{◌≡◌, ℕ, suc, ◌≤◌, arith, min, Bool, true, false, ◌&&◌, not, ◌==◌, nat_lt, cond, List, []}
-use Rattle.std.proofs.Common.{◌∷◌, map, filter, filter_map, Option, Some, unwrap_or, ◌⊎◌, inl, inr, refl, sym, ◌∙◌, ap}
-use Rattle.std.proofs.Common.{true≢false}
-use Rattle.std.proofs.lemmas.Bool.{and_from, and_parts, cases_lt, eqb-true, ltb-true, not-false, not-true}
-use Rattle.std.proofs.lemmas.Bool.{not_from_false, or_cases}
-use Rattle.std.specs.List.{cons_option}
-use Rattle.bbm_lemmas.specs.Elements.{In}
-use Rattle.bbm_lemmas.proofs.Elements.{from_filter, to_filter}
-use Rattle.bbm_regimes.specs.declared.regime.Kind.{Kind}
-use Rattle.bbm_descriptor.specs.Descriptor.{Form, core_in, desc_as, desc_of, desc_with, differ, form_of, is_valid}
-use Rattle.bbm_descriptor.specs.Descriptor.{needs, same_core, valid_form}
-use Rattle.bbm_descriptor.specs.declared.desc.Core.{Core}
+use Rattle.bbm_counterrun.proofs.Common.{Read, by_number, by_reads, Goal, goal_at, is_like, least_read, least_reads}
+use Rattle.bbm_counterrun.proofs.Common.{written_at}
+use Rattle.bbm_rules.proofs.Common.{◌≡◌, ℕ, suc, ◌≤◌, arith, min, Bool, true, false, ◌&&◌, not, ◌==◌, nat_lt, cond}
+use Rattle.bbm_rules.proofs.Common.{List, [], ◌∷◌, map, filter, filter_map, Option, Some, unwrap_or, ◌⊎◌, inl, inr}
+use Rattle.bbm_rules.proofs.Common.{refl, sym, ◌∙◌, ap, true≢false, and_from, and_parts, cases_lt, eqb-true, ltb-true}
+use Rattle.bbm_rules.proofs.Common.{not-false, not-true, not_from_false, or_cases, cons_option, In, from_filter}
+use Rattle.bbm_rules.proofs.Common.{to_filter, Kind, Form, core_in, desc_as, desc_of, desc_with, differ, form_of}
+use Rattle.bbm_rules.proofs.Common.{is_valid, needs, same_core, valid_form, Core, Desc, Invalid, Table, Leaf, ◌>>=◌}
+use Rattle.bbm_rules.proofs.Common.{among, least, page_of, Heading, Event, Init, Write, is_readable, published}
+use Rattle.bbm_rules.proofs.Common.{readable_before}
 use Rattle.bbm_descriptor.specs.declared.desc.Core.TheVariants.{Table as CoreTable, Leaf as CoreLeaf}
-use Rattle.bbm_descriptor.specs.declared.desc.Desc.{Desc}
-use Rattle.bbm_descriptor.specs.declared.desc.Desc.TheVariants.{Invalid, Table, Leaf}
-use Rattle.bbm_rules.specs.Lists.{◌>>=◌, among, least}
-use Rattle.bbm_rules.specs.Places.{page_of}
-use Rattle.bbm_rules.specs.Prelude.{Heading, Event, Init, Write}
-use Rattle.bbm_rules.specs.Values.{is_readable, published, readable_before}
-use Rattle.bbm_counterrun.specs.Plans.{Read, by_number, by_reads}
-use Rattle.bbm_counterrun.specs.Ways.{Goal, goal_at, is_like, least_read, least_reads, written_at}
 use Rattle.bbm_counterrun.proofs.Sights.{IsLikeRead, LikeReads}
 
 -- ---- the least number of a list

@@ -1,29 +1,15 @@
 -- A plain conflict run at a place that holds a leaf is plain with the least reads of the way to the place, too, and these
 -- come before its own, or are its own.
-use Rattle.std.proofs.Common.{◌≡◌, ℕ, ◌<◌, Bool, true, ◌&&◌, ◌==◌, List, [], ◌∷◌, ◌++◌, length, map, filter_map}
-use Rattle.std.proofs.Common.{reverse, Option, Some, None, inl, inr, refl, sym, ◌∙◌, ap, subst}
-use Rattle.std.proofs.lemmas.Bool.{and_from, and_parts, eqb-true, or_left}
-use Rattle.bbm_lemmas.specs.Elements.{In}
-use Rattle.bbm_descriptor.specs.Descriptor.{core_in, core_of, differ, is_valid, needs}
-use Rattle.bbm_rules.specs.Broken.{keeps}
-use Rattle.bbm_rules.specs.Claims.{Patterns}
-use Rattle.bbm_rules.specs.Covers.{noted}
-use Rattle.bbm_rules.specs.Lists.{any}
-use Rattle.bbm_rules.specs.Places.{page_of}
-use Rattle.bbm_rules.specs.Prelude.{Heading, Event, Write, start_of}
-use Rattle.bbm_rules.specs.Tags.{reads}
-use Rattle.bbm_rules.specs.Tree.{Node, node_of}
-use Rattle.bbm_rules.specs.Values.{is_readable}
-use Rattle.bbm_tlb_machine.specs.Entry.{Entry, Part, parts_of, tag_of_entry}
-use Rattle.bbm_tlb_machine.specs.Invariant.{Begins, Chained, Fine}
-use Rattle.bbm_tlb_machine.specs.Safe.{IsLog, conflicts_with, is_stale}
-use Rattle.bbm_tlb_machine.specs.Step.{combined, has_number, may_start}
-use Rattle.bbm_counterrun.specs.LeastList.{HasLeastReads, PlansHaveLeastReads}
-use Rattle.bbm_counterrun.specs.Plans.{Plan, Read, reads_of}
-use Rattle.bbm_counterrun.specs.RefusedWrite.{holds_leaf}
-use Rattle.bbm_counterrun.specs.Tested.{combined_by, first_events, is_plain, is_within, may_extend_by, may_walk}
-use Rattle.bbm_counterrun.specs.Tested.{outlives, started_by, walked_by}
-use Rattle.bbm_counterrun.specs.Ways.{goal_at, least_reads, places_to, way_to}
+use Rattle.bbm_counterrun.proofs.Common.{Patterns, start_of, Entry, Part, parts_of, tag_of_entry, Begins, Chained, Fine}
+use Rattle.bbm_counterrun.proofs.Common.{IsLog, conflicts_with, is_stale, combined, has_number, may_start}
+use Rattle.bbm_counterrun.proofs.Common.{HasLeastReads, PlansHaveLeastReads, Plan, Read, reads_of, holds_leaf}
+use Rattle.bbm_counterrun.proofs.Common.{combined_by, first_events, is_plain, is_within, may_extend_by, may_walk}
+use Rattle.bbm_counterrun.proofs.Common.{outlives, started_by, walked_by, goal_at, least_reads, way_to}
+use Rattle.bbm_rules.proofs.Common.{◌≡◌, ℕ, ◌<◌, Bool, true, ◌&&◌, ◌==◌, List, [], ◌∷◌, ◌++◌, length, map, filter_map}
+use Rattle.bbm_rules.proofs.Common.{reverse, Option, Some, None, inl, inr, refl, sym, ◌∙◌, ap, subst, and_from}
+use Rattle.bbm_rules.proofs.Common.{and_parts, eqb-true, or_left, In, core_in, core_of, differ, is_valid, needs, keeps}
+use Rattle.bbm_rules.proofs.Common.{noted, any, page_of, Heading, Event, Write, reads, Node, node_of, is_readable}
+use Rattle.bbm_counterrun.specs.Ways.{places_to}
 use Rattle.bbm_counterrun.proofs.LeastGoals.{HasLeast, HaveGoals, NotAbove, all_least, first_if_least}
 use Rattle.bbm_counterrun.proofs.PlainTest.{KeptAt, plain_is_kept}
 use Rattle.bbm_counterrun.proofs.Sights.{LikeReads, Sight, outlives_same, plan_same, with_reads}
@@ -108,7 +94,7 @@ module _ (heading : Heading) (laws : WayLaws heading) (h : List Event) (kept : k
       way_is : way_to heading h place ≡ filter_map (goal_at heading h) (read_places (reads_of plan))
       way_is =
           let x : Entry = walked_by heading plan in
-          ap (λ (o : Option Node). filter_map (goal_at heading h) (places_to heading h o place)) node_there
+          ap (λ (o : Option Node). filter_map (goal_at heading h) (places_to o place)) node_there
           ∙ ap (λ (ps : List ℕ). filter_map (goal_at heading h) (reverse ps ++ place ∷ []))
           (places_above heading laws h kept x.root x.last x.above w.begins w.chained (λ q i. w.on q (inr i)) last_on)
           ∙ ap (λ (p : ℕ). filter_map (goal_at heading h) (reverse (map (λ (q : Part). q.place) x.above) ++ p ∷ [])) (sym last_there)

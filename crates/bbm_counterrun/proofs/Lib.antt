@@ -1,3 +1,4 @@
+mod Common
 mod AnswerSteps
 mod CasesRuns
 mod CasesWays

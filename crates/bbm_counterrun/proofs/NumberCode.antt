@@ -1,14 +1,12 @@
 -- The numbers under which walks may be made are among those that are looked at.
-use Rattle.std.proofs.Common.{◌≡◌, ℕ, ◌+◌, ◌<◌, true, ◌==◌, List, ◌++◌, length, get_or, take, Some, option_to_list}
-use Rattle.std.proofs.Common.{refl, sym, ◌∙◌, ap, subst, true≢false}
-use Rattle.std.proofs.lemmas.Bool.{and_parts, eq-eqb, eqb-true}
-use Rattle.bbm_lemmas.proofs.Elements.{any_finds, any_found, to_filter_map}
-use Rattle.bbm_rules.specs.Lists.{among}
-use Rattle.bbm_rules.specs.Prelude.{Kind, El2, S2, Ttbr0, Ttbr1, Tag, El2Tag, Vmid, Asid, Ttbr1Tag, Heading, Event}
+use Rattle.bbm_counterrun.proofs.Common.{Kind, Entry, tag_of_entry, has_number, may_start, started}
+use Rattle.bbm_rules.proofs.Common.{◌≡◌, ℕ, ◌+◌, ◌<◌, true, ◌==◌, List, ◌++◌, length, get_or, take, Some}
+use Rattle.bbm_rules.proofs.Common.{option_to_list, refl, sym, ◌∙◌, ap, subst, true≢false, and_parts, eq-eqb, eqb-true}
+use Rattle.bbm_rules.proofs.Common.{any_finds, any_found, among, El2, S2, Ttbr0, Ttbr1, Tag, El2Tag, Vmid, Asid}
+use Rattle.bbm_rules.proofs.Common.{Ttbr1Tag, Heading, Event, Reading, readings, reads}
+use Rattle.bbm_lemmas.proofs.Elements.{to_filter_map}
 use Rattle.bbm_rules.specs.Prelude.{same_tag}
-use Rattle.bbm_rules.specs.Tags.{Reading, readings, reads}
-use Rattle.bbm_tlb_machine.specs.Entry.{Entry, tag_of_entry}
-use Rattle.bbm_tlb_machine.specs.Step.{current_asids, has_number, may_start, started}
+use Rattle.bbm_tlb_machine.specs.Step.{current_asids}
 use Rattle.bbm_counterrun.proofs.WayCode.{filter_more}
 use Rattle.bbm_counterrun.specs.RunNumbers.{number_of, numbers_of}
 

@@ -1,22 +1,15 @@
 -- What becomes of the state where no entry is kept, and where one is.
-use Rattle.std.proofs.Common.{◌≡◌, ℕ, ◌+◌, ◌<◌, ◌≤◌, arith, Bool, true, false, ◌&&◌, ◌||◌, not, nat_lt, nat_le}
-use Rattle.std.proofs.Common.{List, [], ◌∷◌, ◌++◌, length, map, reverse, Option, Some, refl, sym, ◌∙◌, ap}
-use Rattle.std.proofs.lemmas.Bool.{and_left, and_right, le-leb, le-ltb, lt-leb, lt-ltb, or_from}
-use Rattle.std.proofs.lemmas.List.{length-append, map-append, reverse-append}
-use Rattle.bbm_lemmas.proofs.Tautologies.{proved}
-use Rattle.bbm_lemmas.proofs.Tautologies.Claim.{Is}
-use Rattle.bbm_rules.specs.Lists.{◌>>=◌, any, if_so}
-use Rattle.bbm_rules.specs.Prelude.{Heading, Event, Dsb}
-use Rattle.bbm_rules.specs.Reach.{Issued, completes, unanswered}
-use Rattle.bbm_rules.specs.Tags.{itself}
+use Rattle.bbm_counterrun.proofs.Common.{length-append, Entry, State, conflicts_with, in_conflict, must_go, forbids}
+use Rattle.bbm_counterrun.proofs.Common.{is_forbidden}
+use Rattle.bbm_rules.proofs.Common.{◌≡◌, ℕ, ◌+◌, ◌<◌, ◌≤◌, arith, Bool, true, false, ◌&&◌, ◌||◌, not, nat_lt, nat_le}
+use Rattle.bbm_rules.proofs.Common.{List, [], ◌∷◌, ◌++◌, length, map, reverse, Option, Some, refl, sym, ◌∙◌, ap}
+use Rattle.bbm_rules.proofs.Common.{and_left, and_right, le-leb, le-ltb, lt-ltb, or_from, map-append, reverse-append}
+use Rattle.bbm_rules.proofs.Common.{proved, Is, ◌>>=◌, any, if_so, Heading, Event, Dsb, Issued, completes, unanswered}
+use Rattle.bbm_rules.proofs.Common.{itself, or-false}
+use Rattle.std.proofs.lemmas.Bool.{lt-leb}
 use Rattle.bbm_tlb_machine.specs.declared.step.Step.TheVariants.{Event as Taken}
-use Rattle.bbm_tlb_machine.specs.Entry.{Entry}
-use Rattle.bbm_tlb_machine.specs.MachineRun.{State, leaves_some}
-use Rattle.bbm_tlb_machine.specs.Safe.{conflicts_with, in_conflict}
-use Rattle.bbm_tlb_machine.specs.Step.{must_go}
-use Rattle.bbm_counterrun.specs.Tested.{forbids, is_forbidden}
+use Rattle.bbm_tlb_machine.specs.MachineRun.{leaves_some}
 use Rattle.bbm_counterrun.proofs.Following.{run_after, run_append, run_to, then_so}
-use mathlib.Core.Bool.{or-false}
 
 -- ---- the two states
 

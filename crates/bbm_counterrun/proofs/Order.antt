@@ -1,11 +1,11 @@
 -- The order of plans is a total one, for plans of one kind: none comes before itself, what comes before one that comes
 -- before a third comes before the third, and of two different ones one comes before the other.
-use Rattle.std.proofs.Common.{◌≡◌, ℕ, ◌<◌, arith, Bool, true, false, ◌&&◌, ◌||◌, ◌==◌, nat_lt, List, [], ◌∷◌, Option}
-use Rattle.std.proofs.Common.{Some, None, ◌⊎◌, inl, inr, refl, sym, ◌∙◌, ap, true≢false}
-use Rattle.std.proofs.lemmas.Bool.{and_from, and_parts, cases_order, eq-eqb, eqb-true, false_from_ne_true, le-ltb}
-use Rattle.std.proofs.lemmas.Bool.{lt-ltb, ltb-false, ltb-true, or_cases, or_left, or_right}
-use Rattle.bbm_rules.specs.Prelude.{Kind}
-use Rattle.bbm_counterrun.specs.Plans.{Plan, Read, by_combine, by_number, by_reads, comes_before, reads_of}
+use Rattle.bbm_counterrun.proofs.Common.{Kind, Plan, Read, by_combine, by_number, by_reads, comes_before, reads_of}
+use Rattle.bbm_rules.proofs.Common.{◌≡◌, ℕ, ◌<◌, arith, Bool, true, false, ◌&&◌, ◌||◌, ◌==◌, nat_lt, List, [], ◌∷◌}
+use Rattle.bbm_rules.proofs.Common.{Option, Some, None, ◌⊎◌, inl, inr, refl, sym, ◌∙◌, ap, true≢false, and_from}
+use Rattle.bbm_rules.proofs.Common.{and_parts, eq-eqb, eqb-true, false_from_ne_true, le-ltb, lt-ltb, ltb-false}
+use Rattle.bbm_rules.proofs.Common.{ltb-true, or_cases, or_left, or_right}
+use Rattle.std.proofs.lemmas.Bool.{cases_order}
 
 -- ---- numbers
 

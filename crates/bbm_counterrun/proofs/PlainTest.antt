@@ -1,24 +1,19 @@
 -- A plan's run is a plain conflict run exactly where the test of the plan says so.
-use Rattle.std.proofs.Common.{◌≡◌, ℕ, suc, ◌+◌, ◌-◌, ◌≤◌, arith, Bool, true, ◌&&◌, not, nat_lt, nat_le}
-use Rattle.std.proofs.Common.{List, [], ◌∷◌, ◌++◌, length, map, take, drop, reverse, Option, Contains, zero-le, Some}
-use Rattle.std.proofs.Common.{None, refl, sym, ◌∙◌, ap, subst, suc-le-suc, le_of_suc-le-suc}
-use Rattle.std.proofs.lemmas.Bool.{and_from, and_parts, le-leb, leb-true, lt-ltb, ltb-true}
-use Rattle.std.proofs.lemmas.List.{append-nil, append_assoc, drop-append-le, drop_at, length-append, length-drop}
-use Rattle.std.proofs.lemmas.List.{length-reverse, map-append, reverse-append, take-append-drop, take-append-le}
-use Rattle.std.proofs.lemmas.List.{take_at}
+use Rattle.bbm_counterrun.proofs.Common.{append-nil, append_assoc, length-append, Step, Entry, RunsAreFollowed, IsRun}
+use Rattle.bbm_counterrun.proofs.Common.{Living, State, conflicts_with, in_conflict, combined, is_stage2, IsPlain, Plan}
+use Rattle.bbm_counterrun.proofs.Common.{behind, combine_of, made_by, run_of, walk_of, PlainIsTested, combine_within}
+use Rattle.bbm_counterrun.proofs.Common.{combined_by, first_events, is_forbidden, is_plain, is_within, may_walk}
+use Rattle.bbm_counterrun.proofs.Common.{outlives, walked_by}
+use Rattle.bbm_rules.proofs.Common.{◌≡◌, ℕ, suc, ◌+◌, ◌-◌, ◌≤◌, arith, Bool, true, ◌&&◌, not, nat_lt, nat_le, List, []}
+use Rattle.bbm_rules.proofs.Common.{◌∷◌, ◌++◌, length, map, take, drop, reverse, Option, Contains, zero-le, Some, None}
+use Rattle.bbm_rules.proofs.Common.{refl, sym, ◌∙◌, ap, subst, suc-le-suc, le_of_suc-le-suc, and_from, and_parts}
+use Rattle.bbm_rules.proofs.Common.{le-leb, leb-true, lt-ltb, ltb-true, drop_at, length-drop, length-reverse}
+use Rattle.bbm_rules.proofs.Common.{map-append, reverse-append, take-append-drop, take_at, ◌>>=◌, if_so, Heading, Event}
+use Rattle.std.proofs.lemmas.List.{drop-append-le, take-append-le}
 use Rattle.bbm_lemmas.proofs.Words.{if_so_some}
-use Rattle.bbm_rules.specs.Lists.{◌>>=◌, if_so}
-use Rattle.bbm_rules.specs.Prelude.{Heading, Event}
-use Rattle.bbm_tlb_machine.specs.declared.step.Step.{Step}
 use Rattle.bbm_tlb_machine.specs.declared.step.Step.TheVariants.{Event as Taken}
-use Rattle.bbm_tlb_machine.specs.Entry.{Entry}
-use Rattle.bbm_tlb_machine.specs.MachineLaws.{RunsAreFollowed}
-use Rattle.bbm_tlb_machine.specs.MachineRun.{IsRun, Living, State, at_start}
-use Rattle.bbm_tlb_machine.specs.Safe.{conflicts_with, in_conflict}
-use Rattle.bbm_tlb_machine.specs.Step.{combined, is_stage2}
-use Rattle.bbm_counterrun.specs.Plans.{Fits, IsPlain, Plan, behind, combine_fits, combine_of, made_by, run_of, walk_of}
-use Rattle.bbm_counterrun.specs.Tested.{PlainIsTested, combine_within, combined_by, first_events, is_forbidden}
-use Rattle.bbm_counterrun.specs.Tested.{is_plain, is_within, may_walk, outlives, walked_by}
+use Rattle.bbm_tlb_machine.specs.MachineRun.{at_start}
+use Rattle.bbm_counterrun.specs.Plans.{Fits, combine_fits}
 use Rattle.bbm_counterrun.proofs.Following.{run_after, run_append, run_back, run_from, run_to, then_so}
 use Rattle.bbm_counterrun.proofs.OneEntry.{forbidden_in, forbidden_is, none_kept, one_kept, one_meets, past_none}
 use Rattle.bbm_counterrun.proofs.OneEntry.{past_one}

@@ -1,12 +1,9 @@
 -- The steps of the loops that look for the least reads of a way.
-use Rattle.std.proofs.Common.{◌≡◌, ℕ, ◌+◌, ◌<◌, min, Bool, true, false, ◌==◌, cond, List, [], ◌∷◌, ◌++◌, length, filter}
-use Rattle.std.proofs.Common.{drop, get_or, take, reverse, Option, Some, None, refl, sym, ◌∙◌, ap}
+use Rattle.bbm_counterrun.proofs.Common.{append_assoc, Read, Goal, least_read, least_reads, written_at}
+use Rattle.bbm_rules.proofs.Common.{◌≡◌, ℕ, ◌+◌, ◌<◌, min, Bool, true, false, ◌==◌, cond, List, [], ◌∷◌, ◌++◌, length}
+use Rattle.bbm_rules.proofs.Common.{filter, drop, get_or, take, reverse, Option, Some, None, refl, sym, ◌∙◌, ap, ◌>>=◌}
+use Rattle.bbm_rules.proofs.Common.{least, Heading, Event, Write}
 use Rattle.std.specs.Prelude.{unwrap_or}
-use Rattle.std.proofs.lemmas.List.{append_assoc}
-use Rattle.bbm_rules.specs.Lists.{◌>>=◌, least}
-use Rattle.bbm_rules.specs.Prelude.{Heading, Event, Write}
-use Rattle.bbm_counterrun.specs.Plans.{Read}
-use Rattle.bbm_counterrun.specs.Ways.{Goal, least_read, least_reads, written_at}
 use Rattle.bbm_counterrun.proofs.WalkCode.{newest_first, next_item}
 
 like : (test : ℕ → Bool) (value : ℕ) (ms : List ℕ) (best : Option ℕ) → test value ≡ true → best ≡ least (filter test ms)

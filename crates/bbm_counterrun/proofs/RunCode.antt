@@ -1,13 +1,11 @@
 -- The steps of the loops that make the run of a plan, and how its parts join.
-use Rattle.std.proofs.Common.{◌≡◌, ℕ, suc, ◌+◌, ◌-◌, ◌<◌, min, arith, List, [], ◌∷◌, ◌++◌, length, map, take, drop}
-use Rattle.std.proofs.Common.{get_or, Option, Some, None, refl, sym, ◌∙◌, ap}
-use Rattle.std.proofs.lemmas.List.{append-nil, append_assoc, drop_min, length-drop, take_all}
-use Rattle.bbm_events.specs.declared.machine.MachineLine.TheVariants.{Extend, Combine, Drop}
-use Rattle.bbm_rules.specs.Prelude.{Kind, Event}
-use Rattle.bbm_tlb_machine.specs.declared.step.Step.{Step}
-use Rattle.bbm_tlb_machine.specs.declared.step.Step.TheVariants.{Machine, Event as Taken}
-use Rattle.bbm_counterrun.specs.Plans.{Plan, Read, behind, combine_of, drops, extends, made_by, run_of, walk_of}
-use Rattle.bbm_counterrun.specs.Searching.{plan_of}
+use Rattle.bbm_counterrun.proofs.Common.{append-nil, append_assoc, Kind, Step, Machine, Plan, Read, behind, combine_of}
+use Rattle.bbm_counterrun.proofs.Common.{drops, extends, made_by, run_of, walk_of, plan_of}
+use Rattle.bbm_rules.proofs.Common.{◌≡◌, ℕ, suc, ◌+◌, ◌-◌, ◌<◌, min, arith, List, [], ◌∷◌, ◌++◌, length, map, take}
+use Rattle.bbm_rules.proofs.Common.{drop, get_or, Option, Some, None, refl, sym, ◌∙◌, ap, length-drop, take_all, Extend}
+use Rattle.bbm_rules.proofs.Common.{Combine, Drop, Event}
+use Rattle.std.proofs.lemmas.List.{drop_min}
+use Rattle.bbm_tlb_machine.specs.declared.step.Step.TheVariants.{Event as Taken}
 use Rattle.bbm_counterrun.proofs.WalkCode.{next_item}
 
 -- what stands behind the first so many

@@ -1,16 +1,14 @@
 -- The words in which the worked cases are written: the events of the lines of a log, and the steps of those of a run.
-use Rattle.std.specs.Prelude.{List, [], ◌∷◌, filter_map, Option, Some, None, Result, Ok, Err, codes}
+use Rattle.bbm_counterrun.proofs.Common.{List, [], ◌∷◌, Option, Some, None, Step, Machine}
+use Rattle.bbm_rules.proofs.Common.{codes, String, Item, Heading, Event}
+use Rattle.std.specs.Prelude.{filter_map, Result, Ok, Err}
 use Rattle.std.specs.Fmt.{digits}
-use Prim.Native.String.{String}
-use Rattle.bbm_events.specs.declared.event.Item.{Item}
 use Rattle.bbm_events.specs.declared.event.Item.TheVariants as item
 use Rattle.bbm_events.specs.declared.malformed.Malformed.{Malformed}
 use Rattle.bbm_events.specs.Lines.{header_of, item_of}
 use Rattle.bbm_events.specs.Machine.{machine_of}
 use Rattle.bbm_events.specs.Spelling.{decimal_value, hex_value}
-use Rattle.bbm_rules.specs.Prelude.{Heading, Event}
-use Rattle.bbm_tlb_machine.specs.declared.step.Step.{Step}
-use Rattle.bbm_tlb_machine.specs.declared.step.Step.TheVariants.{Machine, Event as Taken}
+use Rattle.bbm_tlb_machine.specs.declared.step.Step.TheVariants.{Event as Taken}
 
 abbrev pub event_in : Result Item Malformed → Option Event
 event_in (Ok (item.Event event label)) = Some event

@@ -1,14 +1,9 @@
 -- The steps of the search over combines.
-use Rattle.std.proofs.Common.{◌≡◌, ℕ, ◌≤◌, Bool, true, false, ◌&&◌, not, nat_le, List, Option, Some, None, refl, sym}
-use Rattle.std.proofs.Common.{◌∙◌, ap, true≢false}
-use Rattle.std.proofs.lemmas.Bool.{and_from, and_parts, le-leb, leb-true, ltb-true, not_from_false, not_from_true}
-use Rattle.bbm_rules.specs.Prelude.{Heading}
-use Rattle.bbm_tlb_machine.specs.Entry.{Entry}
-use Rattle.bbm_tlb_machine.specs.Step.{combined, is_stage2}
-use Rattle.bbm_counterrun.specs.TlbiAnswers.{Answer}
-use Rattle.bbm_counterrun.specs.Plans.{by_combine}
-use Rattle.bbm_counterrun.specs.Searching.{FirstCombine, FirstIn, forbidden_by, joins, outlives_by}
-use Rattle.bbm_counterrun.specs.Tested.{combine_within}
+use Rattle.bbm_counterrun.proofs.Common.{not_from_true, Entry, combined, is_stage2, Answer, by_combine, FirstCombine}
+use Rattle.bbm_counterrun.proofs.Common.{FirstIn, forbidden_by, joins, outlives_by, combine_within}
+use Rattle.bbm_rules.proofs.Common.{◌≡◌, ℕ, ◌≤◌, Bool, true, false, ◌&&◌, not, nat_le, List, Option, Some, None, refl}
+use Rattle.bbm_rules.proofs.Common.{sym, ◌∙◌, ap, true≢false, and_from, and_parts, le-leb, leb-true, ltb-true}
+use Rattle.bbm_rules.proofs.Common.{not_from_false, Heading}
 use Rattle.bbm_lemmas.proofs.Bools.{and_exchange}
 
 module _ (heading : Heading) (answers : List Answer) (x : Entry) (from count : ℕ) where

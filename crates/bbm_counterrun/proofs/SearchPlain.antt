@@ -1,20 +1,15 @@
 -- What the search of one number finds is what the test of the plans says.
-use Rattle.std.proofs.Common.{◌≡◌, ℕ, ◌-◌, ◌<◌, ◌≤◌, arith, Bool, true, false, ◌&&◌, not, nat_le, List, [], ◌∷◌, ◌++◌}
-use Rattle.std.proofs.Common.{length, take, drop, reverse, Option, Some, None, refl, sym, ◌∙◌, ap, subst, ◌⊎◌, inl, inr}
-use Rattle.std.proofs.lemmas.Bool.{and_left, and_right, le-leb, lt-ltb, and_from}
-use Rattle.std.proofs.lemmas.List.{drop_at, length-drop, length-reverse, reverse-append, take-append-drop}
-use Rattle.bbm_lemmas.proofs.Tautologies.{proved}
-use Rattle.bbm_lemmas.proofs.Tautologies.Claim.{Is}
-use Rattle.bbm_rules.specs.Lists.{◌>>=◌, any, if_so}
-use Rattle.bbm_rules.specs.Prelude.{Kind, Heading, Event, Write}
-use Rattle.bbm_tlb_machine.specs.Entry.{Entry, parts_of}
-use Rattle.bbm_tlb_machine.specs.Safe.{conflicts_with, is_stale}
-use Rattle.bbm_tlb_machine.specs.Step.{combined, is_stage2, may_start, started}
-use Rattle.bbm_counterrun.specs.TlbiAnswers.{Answer, IsAnswers}
-use Rattle.bbm_counterrun.specs.Plans.{Plan, Read}
-use Rattle.bbm_counterrun.specs.Searching.{FirstCombine, forbidden_by, outlives_by, plain_by, plan_of}
-use Rattle.bbm_counterrun.specs.Tested.{combine_within, combined_by, extended_by, first_events, is_forbidden, is_plain}
-use Rattle.bbm_counterrun.specs.Tested.{is_within, may_extend_by, may_walk, outlives, walk_by, walked_by}
+use Rattle.bbm_counterrun.proofs.Common.{Kind, Entry, parts_of, conflicts_with, is_stale, combined, is_stage2}
+use Rattle.bbm_counterrun.proofs.Common.{may_start, started, Answer, IsAnswers, Plan, Read, FirstCombine, forbidden_by}
+use Rattle.bbm_counterrun.proofs.Common.{outlives_by, plain_by, plan_of, combine_within, combined_by, extended_by}
+use Rattle.bbm_counterrun.proofs.Common.{first_events, is_forbidden, is_plain, is_within, may_extend_by, may_walk}
+use Rattle.bbm_counterrun.proofs.Common.{outlives, walked_by}
+use Rattle.bbm_rules.proofs.Common.{◌≡◌, ℕ, ◌-◌, ◌<◌, ◌≤◌, arith, Bool, true, false, ◌&&◌, not, nat_le, List, [], ◌∷◌}
+use Rattle.bbm_rules.proofs.Common.{◌++◌, length, take, drop, reverse, Option, Some, None, refl, sym, ◌∙◌, ap, subst}
+use Rattle.bbm_rules.proofs.Common.{◌⊎◌, inl, inr, and_left, and_right, le-leb, lt-ltb, and_from, drop_at, length-drop}
+use Rattle.bbm_rules.proofs.Common.{length-reverse, reverse-append, take-append-drop, proved, Is, ◌>>=◌, any, if_so}
+use Rattle.bbm_rules.proofs.Common.{Heading, Event, Write}
+use Rattle.bbm_counterrun.specs.Tested.{walk_by}
 
 -- the events that were taken at a moment
 pub first_is : (es : List Event) (k : ℕ) → k ≤ length es → reverse (take k es) ≡ first_events k (reverse es)

@@ -1,31 +1,17 @@
 -- What is seen of an entry: walks that read values which mean the same at the same places can't be told apart by it.
-use Rattle.std.proofs.Common.{◌≡◌, ℕ, suc, ◌+◌, ◌-◌, ◌*◌, Bool, true, ◌&&◌, ◌||◌, not, nat_le, nat_lt, List, [], ◌∷◌}
-use Rattle.std.proofs.Common.{length, Option, Some, None, refl, sym, ◌∙◌, ap}
-use Rattle.std.proofs.lemmas.Bool.{and_from, and_parts}
-use Rattle.bbm_regimes.specs.declared.regime.Kind.{Kind}
-use Rattle.bbm_descriptor.specs.Descriptor.{desc_of, is_valid}
-use Rattle.bbm_descriptor.specs.declared.desc.Desc.{Desc}
-use Rattle.bbm_tlbi_scope.specs.declared.entry.EntryHead.{EntryHead}
-use Rattle.bbm_tlbi_scope.specs.declared.entry.EntryKind.{EntryKind}
-use Rattle.bbm_tlbi_scope.specs.declared.entry.EntryKind.TheVariants.{Combined}
-use Rattle.bbm_tlbi_scope.specs.Agreement.{tag_of}
+use Rattle.bbm_counterrun.proofs.Common.{start_of, Entry, age_by, desc_in, is_leaf, combined, extended, has_number}
+use Rattle.bbm_counterrun.proofs.Common.{is_stage2, may_extend, may_start, must_go, started, takes_by, Plan, Read}
+use Rattle.bbm_counterrun.proofs.Common.{extended_by, forbids, is_forbidden, may_extend_by, may_walk, outlives}
+use Rattle.bbm_counterrun.proofs.Common.{started_by, walked_by}
+use Rattle.bbm_rules.proofs.Common.{◌≡◌, ℕ, suc, ◌+◌, ◌-◌, ◌*◌, Bool, true, ◌&&◌, ◌||◌, not, nat_le, nat_lt, List, []}
+use Rattle.bbm_rules.proofs.Common.{◌∷◌, length, Option, Some, None, refl, sym, ◌∙◌, ap, and_from, and_parts, Kind}
+use Rattle.bbm_rules.proofs.Common.{desc_of, is_valid, Desc, EntryHead, EntryKind, Combined, tag_of, taken, is_global}
+use Rattle.bbm_rules.proofs.Common.{any, is_that, some, index_of, page_of, Heading, Event, Dsb, Scope, Tlbi, Issued}
+use Rattle.bbm_rules.proofs.Common.{completes, reaches, unanswered, named_scope, vmid_of, itself, reads, next_in}
+use Rattle.bbm_rules.proofs.Common.{is_readable}
 use Rattle.bbm_tlbi_scope.specs.Operations.{family_of}
-use Rattle.bbm_tlbi_scope.specs.Takes.{taken}
-use Rattle.bbm_rules.specs.Covers.{is_global}
-use Rattle.bbm_rules.specs.Lists.{any, is_that, some}
-use Rattle.bbm_rules.specs.Places.{index_of, page_of}
-use Rattle.bbm_rules.specs.Prelude.{Heading, Event, Dsb, Scope, Tlbi, input_pages, start_of}
-use Rattle.bbm_rules.specs.Reach.{Issued, completes, reaches, unanswered}
-use Rattle.bbm_rules.specs.RegisterValues.{named_scope, vmid_of}
-use Rattle.bbm_rules.specs.Tags.{itself, reads}
-use Rattle.bbm_rules.specs.Tree.{next_in}
-use Rattle.bbm_rules.specs.Values.{is_readable}
-use Rattle.bbm_tlb_machine.specs.Entry.{Entry, age_by, desc_in, is_leaf}
-use Rattle.bbm_tlb_machine.specs.Step.{combined, extended, has_number, is_older, is_stage2, may_extend, may_start}
-use Rattle.bbm_tlb_machine.specs.Step.{must_go, started, takes, takes_by}
-use Rattle.bbm_counterrun.specs.Plans.{Plan, Read}
-use Rattle.bbm_counterrun.specs.Tested.{extended_by, forbids, is_forbidden, may_extend_by, may_walk, outlives}
-use Rattle.bbm_counterrun.specs.Tested.{started_by, walked_by}
+use Rattle.bbm_rules.specs.Prelude.{input_pages}
+use Rattle.bbm_tlb_machine.specs.Step.{is_older, takes}
 
 -- all of an entry but the value of its last part, which it has by its meaning alone, and the parts above
 pub record Sight : Type 0 where

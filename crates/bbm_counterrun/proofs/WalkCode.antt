@@ -1,13 +1,9 @@
 -- The steps of the loops that make a walk and a list of answers.
-use Rattle.std.proofs.Common.{◌≡◌, ℕ, ◌+◌, ◌<◌, Bool, true, false, ◌&&◌, cond, List, [], ◌∷◌, ◌++◌, length, map, filter}
-use Rattle.std.proofs.Common.{drop, get_or, take, reverse, Option, Some, refl, sym, ◌∙◌, ap}
-use Rattle.std.proofs.lemmas.List.{append_assoc, drop_more, reverse-append, take_more}
-use Rattle.bbm_rules.specs.Lists.{if_so}
-use Rattle.bbm_rules.specs.Prelude.{Heading, Event}
-use Rattle.bbm_tlb_machine.specs.Entry.{Entry}
-use Rattle.bbm_tlb_machine.specs.Step.{extended, may_extend}
-use Rattle.bbm_counterrun.specs.Plans.{Read}
-use Rattle.bbm_counterrun.specs.Tested.{extended_by, may_extend_by}
+use Rattle.bbm_counterrun.proofs.Common.{append_assoc, Entry, extended, may_extend, Read, extended_by, may_extend_by}
+use Rattle.bbm_rules.proofs.Common.{◌≡◌, ℕ, ◌+◌, ◌<◌, Bool, true, false, ◌&&◌, cond, List, [], ◌∷◌, ◌++◌, length, map}
+use Rattle.bbm_rules.proofs.Common.{filter, drop, get_or, take, reverse, Option, Some, refl, sym, ◌∙◌, ap}
+use Rattle.bbm_rules.proofs.Common.{reverse-append, take_more, if_so, Heading, Event}
+use Rattle.std.proofs.lemmas.List.{drop_more}
 
 made : {A : Type 0} (b : Bool) (x y : A) → if_so b x ≡ Some y → (b ≡ true) × (x ≡ y)
 made true x y k = (refl, cc)

@@ -1,17 +1,12 @@
 -- What a walk leaves: one entry, where each of its steps can be taken.
-use Rattle.std.proofs.Common.{◌≡◌, ℕ, suc, ◌+◌, ◌<◌, arith, Bool, true, false, not, ◌==◌, cond, List, [], ◌∷◌, ◌++◌}
-use Rattle.std.proofs.Common.{length, find, filter, Option, Some, None, option_map, refl, ◌∙◌, ap}
-use Rattle.std.proofs.lemmas.Bool.{ne_eqb}
+use Rattle.bbm_counterrun.proofs.Common.{Machine, Entry, Living, State, step_to, combined, extended, is_stage2}
+use Rattle.bbm_counterrun.proofs.Common.{may_extend, may_start, started, Plan, Read, combine_of, drops, extends}
+use Rattle.bbm_counterrun.proofs.Common.{made_by, walk_of, extended_by, may_extend_by, may_walk, started_by, walked_by}
+use Rattle.bbm_rules.proofs.Common.{◌≡◌, ℕ, suc, ◌+◌, ◌<◌, arith, Bool, true, false, not, ◌==◌, cond, List, [], ◌∷◌}
+use Rattle.bbm_rules.proofs.Common.{◌++◌, length, find, filter, Option, Some, None, option_map, refl, ◌∙◌, ap, ne_eqb}
+use Rattle.bbm_rules.proofs.Common.{◌>>=◌, if_so, Heading, Event, Drop}
 use Rattle.bbm_lemmas.proofs.Words.{same_number}
-use Rattle.bbm_rules.specs.Lists.{◌>>=◌, if_so}
-use Rattle.bbm_rules.specs.Prelude.{Heading, Event}
-use Rattle.bbm_events.specs.declared.machine.MachineLine.TheVariants.{Drop}
-use Rattle.bbm_tlb_machine.specs.declared.step.Step.TheVariants.{Machine}
-use Rattle.bbm_tlb_machine.specs.Entry.{Entry}
-use Rattle.bbm_tlb_machine.specs.MachineRun.{Living, State, entry_at, step_to, with_entry, without}
-use Rattle.bbm_tlb_machine.specs.Step.{combined, extended, is_stage2, may_extend, may_start, started}
-use Rattle.bbm_counterrun.specs.Plans.{Plan, Read, combine_of, drops, extends, made_by, walk_of}
-use Rattle.bbm_counterrun.specs.Tested.{extended_by, may_extend_by, may_walk, started_by, walked_by}
+use Rattle.bbm_tlb_machine.specs.MachineRun.{entry_at, with_entry, without}
 use Rattle.bbm_counterrun.proofs.Following.{run_append, run_to, then_so}
 use Rattle.bbm_counterrun.proofs.OneEntry.{none_kept, one_kept}
 

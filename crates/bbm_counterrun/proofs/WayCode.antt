@@ -1,9 +1,8 @@
 -- The steps of the loop over the places above a page.
-use Rattle.std.proofs.Common.{◌≡◌, ℕ, ◌+◌, ◌<◌, List, [], ◌∷◌, ◌++◌, length, map, filter_map, get_or, take, reverse}
-use Rattle.std.proofs.Common.{Option, Some, None, option_to_list, refl, sym, ◌∙◌, ap}
-use Rattle.std.specs.List.{cons_option}
-use Rattle.std.proofs.lemmas.List.{append-nil, append_assoc, map-append, take_more, reverse-append}
-use Rattle.bbm_rules.specs.Tree.{Above}
+use Rattle.bbm_counterrun.proofs.Common.{append-nil, append_assoc}
+use Rattle.bbm_rules.proofs.Common.{◌≡◌, ℕ, ◌+◌, ◌<◌, List, [], ◌∷◌, ◌++◌, length, map, filter_map, get_or, take}
+use Rattle.bbm_rules.proofs.Common.{reverse, Option, Some, None, option_to_list, refl, sym, ◌∙◌, ap, cons_option}
+use Rattle.bbm_rules.proofs.Common.{map-append, take_more, reverse-append, Above}
 
 first_by : {Y : Type 0} (o : Option Y) (ys : List Y) → cons_option o ys ≡ option_to_list o ++ ys
 first_by None ys = refl

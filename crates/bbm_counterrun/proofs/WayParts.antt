@@ -1,39 +1,20 @@
 -- The parts of an entry that conflicts with a write over a leaf stand on the way to the place of the write.
-use Rattle.std.proofs.Common.{◌≡◌, ℕ, suc, ◌+◌, arith, Bool, true, false, ◌&&◌, ◌||◌, ◌==◌, List, [], ◌∷◌, ◌++◌, length}
-use Rattle.std.proofs.Common.{map, reverse, Option, Some, None, unwrap_or, Contains, inl, inr, refl, sym, ◌∙◌, ap}
-use Rattle.std.proofs.Common.{true≢false}
-use Rattle.std.proofs.lemmas.Bool.{and_parts, eqb-true, or_cases}
-use Rattle.std.proofs.lemmas.List.{append_assoc, reverse-append}
-use Rattle.bbm_lemmas.specs.Elements.{In}
-use Rattle.bbm_lemmas.proofs.Elements.{to_contains}
-use Rattle.bbm_regimes.specs.declared.regime.Kind.{Kind}
-use Rattle.bbm_descriptor.specs.Descriptor.{desc_of, is_valid, needs}
-use Rattle.bbm_descriptor.specs.declared.desc.Desc.{Desc}
-use Rattle.bbm_descriptor.specs.declared.desc.Desc.TheVariants.{Invalid, Table, Leaf}
-use Rattle.bbm_rules.specs.Broken.{keeps}
-use Rattle.bbm_rules.specs.Claims.{Patterns}
-use Rattle.bbm_rules.specs.Covers.{noted}
-use Rattle.bbm_rules.specs.Held.{held}
+use Rattle.bbm_counterrun.proofs.Common.{append_assoc, Patterns, start_of, Entry, Part, desc_in, is_leaf, parts_of}
+use Rattle.bbm_counterrun.proofs.Common.{Begins, Chained, Fine, RunsAreFollowed, is_stale, extended, may_extend, Read}
+use Rattle.bbm_counterrun.proofs.Common.{holds_leaf, extended_by, may_extend_by, Goal, goal_at}
+use Rattle.bbm_rules.proofs.Common.{◌≡◌, ℕ, suc, ◌+◌, arith, Bool, true, false, ◌&&◌, ◌||◌, ◌==◌, List, [], ◌∷◌, ◌++◌}
+use Rattle.bbm_rules.proofs.Common.{length, map, reverse, Option, Some, None, unwrap_or, Contains, inl, inr, refl, sym}
+use Rattle.bbm_rules.proofs.Common.{◌∙◌, ap, true≢false, and_parts, eqb-true, or_cases, reverse-append, In, to_contains}
+use Rattle.bbm_rules.proofs.Common.{Kind, desc_of, is_valid, needs, Desc, Invalid, Table, Leaf, keeps, noted, held}
+use Rattle.bbm_rules.proofs.Common.{◌>>=◌, any, is_that, Noted, page_of, Heading, Event, Declared, Above, Node, held_at}
+use Rattle.bbm_rules.proofs.Common.{next_in, next_of, node_below, node_of, Down, IsNode, is_readable}
 use Rattle.bbm_rules.specs.HeldLaws.{HeldBySentence}
-use Rattle.bbm_rules.specs.Lists.{◌>>=◌, any, is_that}
-use Rattle.bbm_rules.specs.Notes.{Noted}
-use Rattle.bbm_rules.specs.Places.{page_of}
-use Rattle.bbm_rules.specs.Prelude.{Heading, Event, start_of}
-use Rattle.bbm_rules.specs.Roots.{Declared}
-use Rattle.bbm_rules.specs.Tree.{Above, Node, held_at, next_in, next_of, node_below, node_of, tree}
+use Rattle.bbm_rules.specs.Tree.{tree}
 use Rattle.bbm_rules.specs.TreeLaws.{PagesOfRoots, TreeBySentence}
-use Rattle.bbm_rules.specs.TreeSentences.{Down, IsNode}
-use Rattle.bbm_rules.specs.Values.{is_readable}
 use Rattle.bbm_histories.specs.PositionLaws.{SingleNode}
-use Rattle.bbm_tlb_machine.specs.Entry.{Entry, Part, desc_in, is_leaf, parts_of}
-use Rattle.bbm_tlb_machine.specs.Invariant.{Begins, Chained, Fine, Holding, Placed}
-use Rattle.bbm_tlb_machine.specs.MachineLaws.{EntriesAreFine, RunsAreFollowed}
-use Rattle.bbm_tlb_machine.specs.Safe.{is_stale}
-use Rattle.bbm_tlb_machine.specs.Step.{extended, may_extend}
-use Rattle.bbm_counterrun.specs.Plans.{Read}
-use Rattle.bbm_counterrun.specs.RefusedWrite.{holds_leaf, leaf_among, leaf_in}
-use Rattle.bbm_counterrun.specs.Tested.{extended_by, may_extend_by}
-use Rattle.bbm_counterrun.specs.Ways.{Goal, goal_at}
+use Rattle.bbm_tlb_machine.specs.Invariant.{Holding, Placed}
+use Rattle.bbm_tlb_machine.specs.MachineLaws.{EntriesAreFine}
+use Rattle.bbm_counterrun.specs.RefusedWrite.{leaf_among, leaf_in}
 use Rattle.bbm_counterrun.proofs.LeastGoals.{CoreLaw, HaveGoals, means_same}
 
 -- the laws of the machine, of trees, of what is held and of cores

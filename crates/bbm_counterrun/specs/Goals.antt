@@ -1,18 +1,13 @@
 -- The way to a place by the notes of a history and what is trusted, as a program asks for it. With the notes of a history
 -- that trusts every pattern it is that of `Ways`. A history is newest first. Source: project's own choice.
-use Rattle.std.specs.Prelude.{ℕ, List, [], ◌∷◌, ◌++◌, map, filter_map, reverse, Option, Some, None}
+use Rattle.std.specs.Prelude.{ℕ, List, filter_map, Option, Some}
 use Rattle.bbm_rules.specs.Claims.{Trust}
 use Rattle.bbm_rules.specs.Lists.{◌>>=◌}
 use Rattle.bbm_rules.specs.Notes.{Noted}
 use Rattle.bbm_rules.specs.Places.{page_of}
 use Rattle.bbm_rules.specs.Prelude.{Heading}
 use Rattle.bbm_rules.specs.Tree.{Node, held_at, node_of}
-use Rattle.bbm_counterrun.specs.Ways.{Goal}
-
--- the places of the way, from the root down: those above the page of the place, and the place
-abbrev pub places_by : Option Node → ℕ → List ℕ
-places_by None place = []
-places_by (Some n) place = reverse (map (λ a. a.place) n.above) ++ place ∷ []
+use Rattle.bbm_counterrun.specs.Ways.{Goal, places_to}
 
 module _ (heading : Heading) (trust : Trust) (h : List Noted) where
   -- a place of a page with what it holds
@@ -28,4 +23,4 @@ module _ (heading : Heading) (trust : Trust) (h : List Noted) where
   goals_among places = filter_map goal_among places
 
   abbrev pub way_among : ℕ → List Goal
-  way_among place = goals_among (places_by (node_of heading trust h (page_of place)) place)
+  way_among place = goals_among (places_to (node_of heading trust h (page_of place)) place)

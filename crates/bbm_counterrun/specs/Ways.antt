@@ -27,6 +27,11 @@ written_at [] place = []
 written_at (Write pe at value ∷ h) place = if at == place then value ∷ written_at h place else written_at h place
 written_at (_ ∷ h) place = written_at h place
 
+-- the places of the way, from the root down: those above the page of the place, and the place
+abbrev pub places_to : Option Node → ℕ → List ℕ
+places_to None place = []
+places_to (Some n) place = reverse (map (λ a. a.place) n.above) ++ place ∷ []
+
 module _ (heading : Heading) where
   module _ (h : List Event) where
     abbrev pub goal_at : ℕ → Option Goal
@@ -34,11 +39,6 @@ module _ (heading : Heading) where
       n ← node_of heading Patterns (noted heading Patterns h) (page_of place)
       value ← held_at heading Patterns (noted heading Patterns h) n place
       Some (record { place = place; kind = n.kind; level = n.level; value = value })
-
-    -- the places of the way, from the root down: those above the page of the place, and the place
-    abbrev pub places_to : Option Node → ℕ → List ℕ
-    places_to None place = []
-    places_to (Some n) place = reverse (map (λ a. a.place) n.above) ++ place ∷ []
 
     abbrev pub way_to : ℕ → List Goal
     way_to place =

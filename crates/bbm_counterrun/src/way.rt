@@ -2,6 +2,7 @@
 
 ghost use Rattle.std.specs.Prelude.{◌≡◌, ◌++◌, Some, map, reverse, option_to_list, IfOk, OnOk};
 ghost use Rattle.bbm_counterrun.specs.Goals as spec;
+ghost use Rattle.bbm_counterrun.specs.Ways.{places_to};
 ghost use Rattle.bbm_oracle_trees.specs.Past.{notes};
 
 use crate::read::Goal;
@@ -94,7 +95,7 @@ fn way_in(
     place: Place,
 ) -> Result<Vec<Goal>, NoMemory>
     ensures { IfOk result (λ way. way.items ≡ spec.goals_among history.now.heading history.now.trust (notes history.now)
-        (spec.places_by (Some node.now) place)) }
+        (places_to (Some node.now) place)) }
 {
     let mut way = Vec::new(alloc);
     add_above(history, &node.above, &mut way)?;

@@ -1,31 +1,26 @@
 -- Which causes the reading of a header, and of a line after it, can end with.
-use Rattle.std.proofs.Common.{ℕ, List, [], ◌∷◌, Bool, true, false, ◌&&◌, Option, Some, None, Result, Ok, Err}
-use Rattle.std.specs.Option.{option_map}
-use Rattle.std.specs.Prelude.{IfErr, bytes_eq, codes, if◌then◌else◌}
-use Rattle.bbm_events.specs.declared.event.Event.{Event}
+use Rattle.bbm_events.proofs.Common.{ℕ, List, [], ◌∷◌, Bool, true, false, ◌&&◌, Option, Some, None, Result, Ok, Err}
+use Rattle.bbm_events.proofs.Common.{option_map, IfErr, bytes_eq, codes, Event, Malformed, NoMagic, BadHeader}
+use Rattle.bbm_events.proofs.Common.{UnknownWord, BadNumber, BadPe, BadAddress, MissingField, BadLabel, Keyword, Hyp}
+use Rattle.bbm_events.proofs.Common.{Kernel, TlbiOp, has_operand, Heading, heading_ok, is_version, has_op, may_label}
+use Rattle.bbm_events.proofs.Common.{may_share, fields, is_pe, is_page, is_place, is_root_page, is_count, with_word}
+use Rattle.bbm_events.proofs.Common.{keyword_word, keywords, cnp_word, cnps, kind_word, kinds, reg_word, regs, dsb_word}
+use Rattle.bbm_events.proofs.Common.{dsbs, op_word, ops, asid_from_word, asid_froms, IsFieldCause, IsLineCause, ◌>>=◌}
+use Rattle.bbm_events.proofs.Common.{Fields, FieldRead, found, next_field, checked, hyp_fields, kernel_fields}
+use Rattle.bbm_events.proofs.Common.{world_fields, line_after, passing, exactly, magic_field, version_field, cnp_field}
+use Rattle.bbm_events.proofs.Common.{header_field, keyword_field, line_field, pe_field, page_field, place_field}
+use Rattle.bbm_events.proofs.Common.{root_page_field, lock_value, lock_field, root_lock, root_lock_field, count_field}
+use Rattle.bbm_events.proofs.Common.{kind_field, dsb_field, op_field, reg_field, operand_field, value_field, whole}
+use Rattle.bbm_events.proofs.Common.{is_marked, label_value, label_field, event_item, pe_alone, pe_and, pe_and_two}
+use Rattle.bbm_events.proofs.Common.{root_line, tlbi_line, count_line}
+use Rattle.std.specs.Prelude.{if◌then◌else◌}
 use Rattle.bbm_events.specs.declared.event.Event.TheVariants as event
 use Rattle.bbm_events.specs.declared.event.Item.TheVariants as item
-use Rattle.bbm_events.specs.declared.malformed.Malformed.{Malformed}
-use Rattle.bbm_events.specs.declared.malformed.Malformed.TheVariants.{NoMagic, BadHeader, UnknownWord, BadNumber, BadPe}
-use Rattle.bbm_events.specs.declared.malformed.Malformed.TheVariants.{BadAddress, MissingField, ExtraField, BadLabel}
-use Rattle.bbm_events.specs.declared.keyword.Keyword.{Keyword}
+use Rattle.bbm_events.specs.declared.malformed.Malformed.TheVariants.{ExtraField}
 use Rattle.bbm_events.specs.declared.keyword.Keyword.TheVariants as first
-use Rattle.bbm_regimes.specs.declared.regime.World.TheVariants.{Hyp, Kernel}
-use Rattle.bbm_tlbi_scope.specs.declared.op.TlbiOp.{TlbiOp}
-use Rattle.bbm_tlbi_scope.specs.Operations.{has_operand}
-use Rattle.bbm_events.specs.Heading.{Heading, heading_ok, is_version, has_op, may_label, may_share}
-use Rattle.bbm_events.specs.Spelling.{fields, decimal_value, hex_value}
-use Rattle.bbm_events.specs.Fits.{is_pe, is_page, is_place, is_root_page, is_count}
-use Rattle.bbm_events.specs.Words.{with_word, keyword_word, keywords, cnp_word, cnps, kind_word, kinds, reg_word, regs}
-use Rattle.bbm_events.specs.Words.{dsb_word, dsbs, op_word, ops, asid_from_word, asid_froms}
-use Rattle.bbm_events.specs.Causes.{IsHeaderCause, IsFieldCause, IsLineCause}
-use Rattle.bbm_events.specs.Lines.{◌>>=◌, Fields, FieldRead, found, next_field, checked, hyp_fields, kernel_fields}
-use Rattle.bbm_events.specs.Lines.{world_fields, header_of, item_of, line_after, passing, exactly, magic_field}
-use Rattle.bbm_events.specs.Lines.{version_field, cnp_field, header_field, keyword_field, line_field, pe_field}
-use Rattle.bbm_events.specs.Lines.{page_field, place_field, root_page_field, lock_value, lock_field, root_lock}
-use Rattle.bbm_events.specs.Lines.{root_lock_field, count_field, kind_field, dsb_field, op_field, reg_field}
-use Rattle.bbm_events.specs.Lines.{operand_field, value_field, whole, is_marked, label_value, label_field, event_item}
-use Rattle.bbm_events.specs.Lines.{pe_alone, pe_and, pe_and_two, root_line, tlbi_line, count_line}
+use Rattle.bbm_events.specs.Spelling.{decimal_value, hex_value}
+use Rattle.bbm_events.specs.Causes.{IsHeaderCause}
+use Rattle.bbm_events.specs.Lines.{header_of, item_of}
 
 -- each cause that the result can have is one of these
 abbrev pub Ends : {A : Type 0} → (Malformed → Type 0) → Result A Malformed → Type 0

@@ -1,10 +1,10 @@
 -- Lines of a certificate: what is read of one fits the header and has a cause of a field where it says nothing, what
 -- is written is read again, and no other line is read as it.
-use Rattle.std.proofs.Common.{◌≡◌, ℕ, ◌^◌, ◌<◌, List, [], ◌∷◌, Bool, true, false, ◌&&◌, cond, refl, ap, sym, ◌∙◌}
-use Rattle.std.proofs.Common.{Result, Ok, Err, arith}
-use Rattle.std.specs.Prelude.{IfErr, codes, decimal, bytes_eq}
-use Rattle.std.proofs.lemmas.Bool.{and_parts, ltb-true, eqb-true}
-use Rattle.std.proofs.lemmas.Slice.Eq.{bytes_eq-Decides}
+use Rattle.bbm_events.proofs.Common.{◌≡◌, ℕ, ◌^◌, ◌<◌, List, [], ◌∷◌, Bool, true, false, ◌&&◌, cond, refl, ap, sym, ◌∙◌}
+use Rattle.bbm_events.proofs.Common.{Result, Ok, Err, arith, IfErr, codes, decimal, bytes_eq, and_parts, ltb-true}
+use Rattle.bbm_events.proofs.Common.{eqb-true, bytes_eq-Decides, Malformed, NoMagic, BadNumber, MissingField}
+use Rattle.bbm_events.proofs.Common.{IsFieldCause, Heading, heading_ok, fields, hex, with_word, is_pe, is_place, ◌>>=◌}
+use Rattle.bbm_events.proofs.Common.{Fields, passing, pe_field, place_field, count_field}
 use Rattle.bbm_regimes.specs.declared.regime.Tag.{Tag}
 use Rattle.bbm_regimes.specs.declared.regime.Tag.TheVariants as tag
 use Rattle.bbm_events.specs.declared.claim.Claim.{Claim}
@@ -17,14 +17,7 @@ use Rattle.bbm_events.specs.declared.certificate.ClaimWord.{ClaimWord}
 use Rattle.bbm_events.specs.declared.certificate.ClaimWord.TheVariants as second
 use Rattle.bbm_events.specs.declared.certificate.TagWord.{TagWord}
 use Rattle.bbm_events.specs.declared.certificate.TagWord.TheVariants as word
-use Rattle.bbm_events.specs.declared.malformed.Malformed.{Malformed}
-use Rattle.bbm_events.specs.declared.malformed.Malformed.TheVariants.{NoMagic, BadNumber, MissingField}
-use Rattle.bbm_events.specs.Causes.{IsFieldCause}
-use Rattle.bbm_events.specs.Heading.{Heading, heading_ok}
-use Rattle.bbm_events.specs.Spelling.{fields, hex, decimal_value}
-use Rattle.bbm_events.specs.Words.{with_word}
-use Rattle.bbm_events.specs.Fits.{is_pe, is_place}
-use Rattle.bbm_events.specs.Lines.{◌>>=◌, Fields, passing, pe_field, place_field, count_field}
+use Rattle.bbm_events.specs.Spelling.{decimal_value}
 use Rattle.bbm_events.specs.Certificate.{certificate_line, certificate_of, certificate_word, certificate_words}
 use Rattle.bbm_events.specs.Certificate.{claim_word, claim_words, tag_word, tag_words, word_of_tag, number_of_tag}
 use Rattle.bbm_events.specs.Certificate.{tag_with, has_number, is_tag, is_position, is_claim, claim_fits}

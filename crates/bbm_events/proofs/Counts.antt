@@ -1,12 +1,8 @@
 -- The number of pages of a root is 1 to 16.
-use Rattle.std.proofs.Common.{◌≡◌, ℕ, ◌≤◌, Bool, true, false, cond, ◌||◌, ◌==◌, IsTrue, subst, sym, arith, inl, inr}
-use Rattle.std.proofs.Common.{true≢false}
-use Rattle.std.proofs.lemmas.Bool.{and_parts, eqb-true, or_cases}
-use Rattle.bbm_regimes.specs.declared.regime.HypWorld.{HypWorld}
-use Rattle.bbm_regimes.specs.declared.regime.World.TheVariants.{Hyp}
-use Rattle.bbm_regimes.specs.declared.regime.World.{World}
-use Rattle.bbm_regimes.specs.World.{world_ok}
-use Rattle.bbm_events.specs.Heading.{Heading, heading_ok}
+use Rattle.bbm_events.proofs.Common.{◌≡◌, ℕ, ◌≤◌, Bool, true, false, cond, ◌==◌, subst, sym, arith, and_parts, eqb-true}
+use Rattle.bbm_events.proofs.Common.{HypWorld, Hyp, World, world_ok, Heading, heading_ok}
+use Rattle.std.proofs.Common.{◌||◌, IsTrue, inl, inr, true≢false}
+use Rattle.std.proofs.lemmas.Bool.{or_cases}
 
 one_or : (n m : ℕ) (rest : Bool) → (rest ≡ true → (1 ≤ n) × (n ≤ 16)) → 1 ≤ m → m ≤ 16 → (rest || n == m) ≡ true → (1 ≤ n) × (n ≤ 16)
 one_or n m rest by low high k =

@@ -1,12 +1,10 @@
 -- Pieces that are joined by spaces and whose bytes all show are the fields of what they are joined to, which is one line.
-use Rattle.std.proofs.Common.{◌≡◌, ℕ, zero, suc, ◌/◌, ◌%◌, List, [], ◌∷◌, ◌++◌, Bool, true, false, ◌&&◌, cond, ◌==◌}
-use Rattle.std.proofs.Common.{refl, ap, sym, ◌∙◌, arith, nat_lt}
-use Rattle.std.specs.Fmt.{digit_glyph, digits_onto, digits}
+use Rattle.bbm_events.proofs.Common.{◌≡◌, ℕ, zero, suc, ◌/◌, ◌%◌, List, [], ◌∷◌, ◌++◌, Bool, true, false, ◌&&◌, cond}
+use Rattle.bbm_events.proofs.Common.{◌==◌, refl, ap, sym, ◌∙◌, arith, nat_lt, digit_glyph, digits_onto, and_parts}
+use Rattle.bbm_events.proofs.Common.{nat_tests, fields, joined}
+use Rattle.std.specs.Fmt.{digits}
 use Rattle.std.specs.List.{onto_first}
-use Rattle.std.proofs.lemmas.Bool.{and_parts}
-use Rattle.std.proofs.lemmas.Bool.Decides.{nat_tests}
 use Rattle.std.proofs.lemmas.List.Splits.{slice_split-cons_no, join_with_byte-slice_split}
-use Rattle.bbm_events.specs.Spelling.{fields, joined}
 
 -- whether each byte shows: none is a space, and none below it, as a newline is
 abbrev pub visible : List ℕ → Bool

@@ -1,16 +1,15 @@
 -- A label that is kept in 32 bytes is the front of them, and each byte of it shows; the table of the bytes of labels, and
 -- four of them asked at once.
-use Rattle.std.proofs.Common.{◌≡◌, ℕ, ◌-◌, ◌<◌, List, [], ◌∷◌, true, false, ◌&&◌, nat_le, ◌≤◌, length}
-use Rattle.std.proofs.Common.{take, drop, get_or, slice_index_or, refl, ap, ◌∙◌, arith, nat_lt}
+use Rattle.bbm_events.proofs.Common.{◌≡◌, ℕ, ◌<◌, List, [], ◌∷◌, true, false, ◌&&◌, ◌≤◌, length, drop, refl, ap, ◌∙◌}
+use Rattle.bbm_events.proofs.Common.{arith, nat_lt, and_parts, leb-true, list_all, nat_tests, is_label_byte, is_label}
+use Rattle.std.proofs.Common.{◌-◌, nat_le, take, get_or, slice_index_or}
 use Rattle.std.proofs.Math.ListN.{replicate}
 use Rattle.std.proofs.Math.Seq.{take-append_seam}
-use Rattle.std.proofs.lemmas.Bool.{and_parts, leb-true, agree_below_at}
+use Rattle.std.proofs.lemmas.Bool.{agree_below_at}
 use Rattle.std.proofs.lemmas.List.{take_all}
 use Rattle.std.proofs.Math.Bool.{and_assoc}
-use Rattle.std.specs.List.{list_all}
-use Rattle.std.proofs.lemmas.Bool.Decides.{nat_tests}
 use Rattle.bbm_events.proofs.Joining.{visible}
-use Rattle.bbm_events.specs.Label.{is_label_byte, is_label, padded}
+use Rattle.bbm_events.specs.Label.{padded}
 use Rattle.bbm_events.specs.declared.label.TheConstants.{IN_LABEL}
 
 pub label_length : (text : List ℕ) → is_label text ≡ true → length text ≤ 32

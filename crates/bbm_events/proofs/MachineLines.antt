@@ -1,22 +1,16 @@
 -- Machine lines: what is read of one fits the header and has a cause of a line where it spells none, a step that
 -- is written is read again, and no other line is read as it.
-use Rattle.std.proofs.Common.{◌≡◌, ℕ, ◌^◌, ◌<◌, List, [], ◌∷◌, true, ◌&&◌, refl, ap, ◌∙◌, Result, Ok, arith}
-use Rattle.std.specs.Prelude.{IfErr, codes, decimal}
-use Rattle.std.proofs.lemmas.Bool.{and_parts, ltb-true, eqb-true}
-use Rattle.bbm_regimes.specs.declared.regime.Kind.{Kind}
-use Rattle.bbm_regimes.specs.declared.regime.Kind.TheVariants.{El2, S2, Ttbr0, Ttbr1}
+use Rattle.bbm_events.proofs.Common.{◌≡◌, ℕ, ◌^◌, ◌<◌, List, [], ◌∷◌, true, ◌&&◌, refl, ap, ◌∙◌, Result, Ok, arith}
+use Rattle.bbm_events.proofs.Common.{IfErr, codes, decimal, and_parts, ltb-true, eqb-true, Kind, El2, S2, Ttbr0, Ttbr1}
+use Rattle.bbm_events.proofs.Common.{Malformed, UnknownWord, BadNumber, MissingField, IsFieldCause, IsLineCause}
+use Rattle.bbm_events.proofs.Common.{Heading, heading_ok, may_share, fields, hex, with_word, kind_word, kinds, is_pe}
+use Rattle.bbm_events.proofs.Common.{is_place, is_value, ◌>>=◌, Fields, passing, exactly, pe_field, kind_field}
+use Rattle.bbm_events.proofs.Common.{place_field, value_field}
 use Rattle.bbm_events.specs.declared.machine.MachineLine.{MachineLine}
 use Rattle.bbm_events.specs.declared.machine.MachineLine.TheVariants.{Start, Extend, Combine, Share, Drop}
 use Rattle.bbm_events.specs.declared.machine.MachineWord.{MachineWord}
 use Rattle.bbm_events.specs.declared.machine.MachineWord.TheVariants as second
-use Rattle.bbm_events.specs.declared.malformed.Malformed.{Malformed}
-use Rattle.bbm_events.specs.declared.malformed.Malformed.TheVariants.{UnknownWord, BadNumber, MissingField}
-use Rattle.bbm_events.specs.Causes.{IsFieldCause, IsLineCause}
-use Rattle.bbm_events.specs.Heading.{Heading, heading_ok, may_share}
-use Rattle.bbm_events.specs.Spelling.{fields, hex, decimal_value}
-use Rattle.bbm_events.specs.Words.{with_word, kind_word, kinds}
-use Rattle.bbm_events.specs.Fits.{is_pe, is_place, is_value}
-use Rattle.bbm_events.specs.Lines.{◌>>=◌, Fields, passing, exactly, pe_field, kind_field, place_field, value_field}
+use Rattle.bbm_events.specs.Spelling.{decimal_value}
 use Rattle.bbm_events.specs.Machine.{machine_word, machine_words, has_machine_word, is_tag, is_entry, machine_fits}
 use Rattle.bbm_events.specs.Machine.{mark_field, machine_word_field, tag_field, entry_field, start_line, extend_line}
 use Rattle.bbm_events.specs.Machine.{share_line, machine_after, machine_of, machine_fields, machine_line}

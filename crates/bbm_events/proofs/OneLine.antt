@@ -1,39 +1,25 @@
 -- A line that is read as a header or an item is the line that is written of it.
-use Rattle.std.proofs.Common.{◌≡◌, ℕ, List, [], ◌∷◌, ◌++◌, drop, Bool, true, false, ◌&&◌, cond, refl, ap, sym, ◌∙◌}
-use Rattle.std.proofs.Common.{Option, Some, None, Ok, Err}
-use Rattle.std.specs.Prelude.{codes, decimal, bytes_eq}
-use Rattle.std.specs.Option.{option_map}
-use Rattle.std.proofs.lemmas.Bool.{eqb-true}
-use Rattle.std.proofs.lemmas.Slice.Eq.{bytes_eq-Decides}
-use Rattle.bbm_regimes.specs.declared.regime.World.TheVariants.{Hyp, Kernel}
-use Rattle.bbm_regimes.specs.declared.regime.Kind.{Kind}
-use Rattle.bbm_regimes.specs.declared.regime.Reg.{Reg}
-use Rattle.bbm_barriers.specs.declared.Dsb.{Dsb}
-use Rattle.bbm_tlbi_scope.specs.declared.op.TlbiOp.{TlbiOp}
-use Rattle.bbm_events.specs.declared.keyword.Keyword.{Keyword}
+use Rattle.bbm_events.proofs.Common.{◌≡◌, ℕ, List, [], ◌∷◌, ◌++◌, drop, Bool, true, false, ◌&&◌, cond, refl, ap, sym}
+use Rattle.bbm_events.proofs.Common.{◌∙◌, Option, Some, None, Ok, Err, codes, decimal, bytes_eq, option_map, eqb-true}
+use Rattle.bbm_events.proofs.Common.{bytes_eq-Decides, Hyp, Kernel, Kind, Reg, Dsb, TlbiOp, Keyword, Event, Item}
+use Rattle.bbm_events.proofs.Common.{Malformed, NoMagic, BadHeader, UnknownWord, BadNumber, BadPe, BadAddress}
+use Rattle.bbm_events.proofs.Common.{MissingField, BadLabel, Heading, heading_ok, is_version, has_op, may_label}
+use Rattle.bbm_events.proofs.Common.{may_share, is_label, fields, hex, has_operand, with_word, keyword_word, keywords}
+use Rattle.bbm_events.proofs.Common.{cnp_word, cnps, kind_word, kinds, reg_word, regs, asid_from_word, asid_froms}
+use Rattle.bbm_events.proofs.Common.{dsb_word, dsbs, op_word, ops, item_fits, is_pe, is_page, is_place, is_lock}
+use Rattle.bbm_events.proofs.Common.{is_count, is_root_page, Fields, FieldRead, next_field, passing, checked}
+use Rattle.bbm_events.proofs.Common.{version_field, cnp_field, cnp_fields, header_field, hyp_fields, kernel_fields}
+use Rattle.bbm_events.proofs.Common.{world_fields, line_after, line_field, pe_field, page_field, place_field}
+use Rattle.bbm_events.proofs.Common.{root_page_field, value_field, operand_field, lock_field, lock_value, root_lock}
+use Rattle.bbm_events.proofs.Common.{root_lock_field, count_field, kind_field, dsb_field, op_field, reg_field, whole}
+use Rattle.bbm_events.proofs.Common.{found, is_marked, label_field, label_fields, event_item, pe_alone, pe_and}
+use Rattle.bbm_events.proofs.Common.{pe_and_two, root_line, tlbi_line, count_line, header_fields, lock_text}
+use Rattle.bbm_events.proofs.Common.{operand_fields, item_fields, magic_field, exactly}
 use Rattle.bbm_events.specs.declared.keyword.Keyword.TheVariants as first
-use Rattle.bbm_events.specs.declared.event.Event.{Event}
 use Rattle.bbm_events.specs.declared.event.Event.TheVariants as event
-use Rattle.bbm_events.specs.declared.event.Item.{Item}
 use Rattle.bbm_events.specs.declared.event.Item.TheVariants as item
-use Rattle.bbm_events.specs.declared.malformed.Malformed.{Malformed}
-use Rattle.bbm_events.specs.declared.malformed.Malformed.TheVariants.{NoMagic, BadHeader, UnknownWord, BadNumber, BadPe}
-use Rattle.bbm_events.specs.declared.malformed.Malformed.TheVariants.{BadAddress, MissingField, BadLabel}
-use Rattle.bbm_events.specs.Heading.{Heading, heading_ok, is_version, has_op, may_label, may_share}
-use Rattle.bbm_events.specs.Label.{is_label}
-use Rattle.bbm_events.specs.Spelling.{fields, hex, decimal_value, hex_value}
-use Rattle.bbm_tlbi_scope.specs.Operations.{has_operand}
-use Rattle.bbm_events.specs.Words.{with_word, keyword_word, keywords, cnp_word, cnps, kind_word, kinds, reg_word, regs}
-use Rattle.bbm_events.specs.Words.{asid_from_word, asid_froms, dsb_word, dsbs, op_word, ops}
-use Rattle.bbm_events.specs.Fits.{item_fits, is_pe, is_page, is_place, is_lock, is_count, is_root_page}
-use Rattle.bbm_events.specs.Lines.{Fields, FieldRead, next_field, passing, checked, version_field, cnp_field}
-use Rattle.bbm_events.specs.Lines.{cnp_fields, header_field, hyp_fields, kernel_fields, world_fields, header_of}
-use Rattle.bbm_events.specs.Lines.{item_of, line_after, line_field, pe_field, page_field, place_field, root_page_field}
-use Rattle.bbm_events.specs.Lines.{value_field, operand_field, lock_field, lock_value, root_lock, root_lock_field}
-use Rattle.bbm_events.specs.Lines.{count_field, kind_field, dsb_field, op_field, reg_field, whole, found, is_marked}
-use Rattle.bbm_events.specs.Lines.{label_field, label_fields, event_item, pe_alone, pe_and, pe_and_two, root_line}
-use Rattle.bbm_events.specs.Lines.{tlbi_line, count_line, header_fields, header_line, lock_text, operand_fields}
-use Rattle.bbm_events.specs.Lines.{item_fields, item_line, magic_field, exactly}
+use Rattle.bbm_events.specs.Spelling.{decimal_value, hex_value}
+use Rattle.bbm_events.specs.Lines.{header_of, item_of, header_line, item_line}
 use Rattle.bbm_events.proofs.Readings.{bind_ok, field_ok, count_kept}
 use Rattle.bbm_events.proofs.Joining.{joined_fields}
 use Rattle.bbm_events.proofs.OneSpelling.{decimal_once, hex_once, word_once}

@@ -1,14 +1,11 @@
 -- A number that is spelled is read again, and no other text is read as it; the same of a word.
-use Rattle.std.proofs.Common.{◌≡◌, ℕ, ◌^◌, ◌<◌, List, [], ◌∷◌, Bool, true, false, ◌&&◌, cond, nat_lt, drop, refl, ap}
-use Rattle.std.proofs.Common.{sym, ◌∙◌, Option, Some, None, arith}
-use Rattle.std.specs.Prelude.{bytes_eq, decimal}
+use Rattle.bbm_events.proofs.Common.{◌≡◌, ℕ, ◌^◌, ◌<◌, List, [], ◌∷◌, Bool, true, false, ◌&&◌, cond, nat_lt, drop, refl}
+use Rattle.bbm_events.proofs.Common.{ap, sym, ◌∙◌, Option, Some, None, arith, bytes_eq, decimal, digits_value}
+use Rattle.bbm_events.proofs.Common.{bytes_eq-Decides, hex, where_spelled, with_word}
 use Rattle.std.specs.Fmt.{digits}
-use Rattle.std.specs.Str.Parse.{digits_value}
 use Rattle.std.proofs.lemmas.Bool.{lt-ltb}
 use Rattle.std.proofs.lemmas.Fmt.{digits_is_IsNumeral, decimal_is_IsNumeral}
-use Rattle.std.proofs.lemmas.Slice.Eq.{bytes_eq-Decides}
-use Rattle.bbm_events.specs.Spelling.{hex, where_spelled, decimal_value, hex_value}
-use Rattle.bbm_events.specs.Words.{with_word}
+use Rattle.bbm_events.specs.Spelling.{decimal_value, hex_value}
 
 cond_true : {A : Type 0} {a b : Bool} (x : Option A) → a ≡ true → b ≡ true → cond (a && b) x None ≡ x
 cond_true x p q = rw (p, q) refl

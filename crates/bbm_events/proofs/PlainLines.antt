@@ -1,35 +1,22 @@
 -- A written header or item is one line: no byte of it is a newline, and it has at most 200.
-use Rattle.std.proofs.Common.{◌≡◌, ℕ, zero, suc, ◌+◌, ◌*◌, ◌/◌, ◌%◌, ◌^◌, ◌<◌, ◌≤◌, List, [], ◌∷◌, ◌++◌, length}
-use Rattle.std.proofs.Common.{length-append, append-nil, Bool, true, false, not, ◌&&◌, cond, nat_lt, ◌==◌, refl}
-use Rattle.std.proofs.Common.{sym, subst, Option, Some, None, arith}
-use Rattle.std.specs.Prelude.{◌||◌, nat_le, codes, decimal, bytes_eq}
-use Rattle.std.specs.Fmt.{digit_glyph, digits_onto, digits}
-use Rattle.std.specs.List.{list_all}
+use Rattle.bbm_events.proofs.Common.{◌≡◌, ℕ, zero, suc, ◌*◌, ◌/◌, ◌%◌, ◌^◌, ◌<◌, ◌≤◌, List, [], ◌∷◌, ◌++◌, length, Bool}
+use Rattle.bbm_events.proofs.Common.{true, false, not, ◌&&◌, cond, nat_lt, ◌==◌, refl, sym, subst, Option, Some, None}
+use Rattle.bbm_events.proofs.Common.{arith, ◌||◌, nat_le, codes, decimal, bytes_eq, digit_glyph, digits_onto, list_all}
+use Rattle.bbm_events.proofs.Common.{and_parts, leb-true, ltb-true, nat_tests, Dsb, AsidFrom, Kind, Reg, World, Hyp}
+use Rattle.bbm_events.proofs.Common.{Kernel, page_count, world_ok, TlbiOp, has_operand, Event, Item, Heading}
+use Rattle.bbm_events.proofs.Common.{heading_ok, has_op, is_version, may_label, may_share, is_label, joined, hex}
+use Rattle.bbm_events.proofs.Common.{with_word, cnp_word, cnps, kind_word, kinds, reg_word, regs, asid_from_word}
+use Rattle.bbm_events.proofs.Common.{asid_froms, dsb_word, dsbs, op_word, ops, fits_heading, item_fits, is_pe, is_page}
+use Rattle.bbm_events.proofs.Common.{is_place, is_value, is_lock, is_root_page, is_root_lock, is_operand, label_fits}
+use Rattle.bbm_events.proofs.Common.{Fields, cnp_fields, header_fields, lock_text, operand_fields, event_fields}
+use Rattle.bbm_events.proofs.Common.{label_fields}
+use Rattle.std.proofs.Common.{◌+◌, length-append, append-nil}
+use Rattle.std.specs.Fmt.{digits}
 use Rattle.std.proofs.lemmas.Fmt.{length-decimal-le}
-use Rattle.std.proofs.lemmas.Bool.{and_parts, leb-true, ltb-true}
-use Rattle.std.proofs.lemmas.Bool.Decides.{nat_tests}
-use Rattle.bbm_barriers.specs.declared.Dsb.{Dsb}
-use Rattle.bbm_regimes.specs.declared.regime.AsidFrom.{AsidFrom}
-use Rattle.bbm_regimes.specs.declared.regime.Kind.{Kind}
-use Rattle.bbm_regimes.specs.declared.regime.Reg.{Reg}
-use Rattle.bbm_regimes.specs.declared.regime.World.{World}
-use Rattle.bbm_regimes.specs.declared.regime.World.TheVariants.{Hyp, Kernel}
-use Rattle.bbm_regimes.specs.World.{page_count, world_ok}
-use Rattle.bbm_tlbi_scope.specs.declared.op.TlbiOp.{TlbiOp}
-use Rattle.bbm_tlbi_scope.specs.Operations.{has_operand}
-use Rattle.bbm_events.specs.declared.event.Event.{Event}
 use Rattle.bbm_events.specs.declared.event.Event.TheVariants as event
-use Rattle.bbm_events.specs.declared.event.Item.{Item}
 use Rattle.bbm_events.specs.declared.event.Item.TheVariants as item
-use Rattle.bbm_events.specs.Heading.{Heading, heading_ok, has_op, is_version, may_label, may_share}
-use Rattle.bbm_events.specs.Label.{is_label}
-use Rattle.bbm_events.specs.Spelling.{joined, hex, is_plain}
-use Rattle.bbm_events.specs.Words.{with_word, cnp_word, cnps, kind_word, kinds, reg_word, regs, asid_from_word}
-use Rattle.bbm_events.specs.Words.{asid_froms, dsb_word, dsbs, op_word, ops}
-use Rattle.bbm_events.specs.Fits.{fits_heading, item_fits, is_pe, is_page, is_place, is_value, is_lock}
-use Rattle.bbm_events.specs.Fits.{is_root_page, is_root_lock, is_operand, label_fits}
-use Rattle.bbm_events.specs.Lines.{Fields, cnp_fields, header_fields, header_line, lock_text, operand_fields}
-use Rattle.bbm_events.specs.Lines.{event_fields, label_fields, item_line}
+use Rattle.bbm_events.specs.Spelling.{is_plain}
+use Rattle.bbm_events.specs.Lines.{header_line, item_line}
 use Rattle.bbm_events.proofs.Joining.{visible, all_visible}
 use Rattle.bbm_events.proofs.Labels.{label_length}
 use Rattle.bbm_events.proofs.WordsRead.{cnp_word_read, kind_word_read, reg_word_read, asid_from_word_read}

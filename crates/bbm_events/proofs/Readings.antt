@@ -1,34 +1,24 @@
 -- What is read of a line fits the header, and a header that is read keeps its ranges.
-use Rattle.std.proofs.Common.{◌≡◌, ℕ, List, [], ◌∷◌, Bool, true, false, ◌&&◌, cond, refl, Option, Some, None, Result}
-use Rattle.std.proofs.Common.{Ok, Err}
-use Rattle.bbm_events.specs.declared.event.Event.{Event}
+use Rattle.bbm_events.proofs.Common.{◌≡◌, ℕ, List, [], ◌∷◌, Bool, true, false, ◌&&◌, cond, refl, Option, Some, None}
+use Rattle.bbm_events.proofs.Common.{Result, Ok, Err, Event, Item, Malformed, BadHeader, UnknownWord, BadNumber, BadPe}
+use Rattle.bbm_events.proofs.Common.{BadAddress, MissingField, BadLabel, bytes_eq, codes, ◌||◌, digits_value, Hyp}
+use Rattle.bbm_events.proofs.Common.{Kernel, option_map, Keyword, TlbiOp, has_operand, Heading, heading_ok, has_op}
+use Rattle.bbm_events.proofs.Common.{may_label, is_label, fields, hex, where_spelled, with_word, asid_from_word}
+use Rattle.bbm_events.proofs.Common.{asid_froms, op_word, ops, fits_heading, item_fits, is_pe, is_page, is_place}
+use Rattle.bbm_events.proofs.Common.{is_value, is_lock, is_count, is_root_page, is_root_lock, is_operand, label_fits}
+use Rattle.bbm_events.proofs.Common.{◌>>=◌, Fields, magic_field, version_field, cnp_field, header_field, FieldRead}
+use Rattle.bbm_events.proofs.Common.{found, next_field, passing, checked, hyp_fields, kernel_fields, world_fields}
+use Rattle.bbm_events.proofs.Common.{line_after, keyword_field, pe_field, page_field, place_field, root_page_field}
+use Rattle.bbm_events.proofs.Common.{value_field, operand_field, lock_field, lock_value, root_lock, root_lock_field}
+use Rattle.bbm_events.proofs.Common.{count_field, kind_field, dsb_field, op_field, reg_field, whole, is_marked}
+use Rattle.bbm_events.proofs.Common.{label_field, event_item, pe_alone, pe_and, pe_and_two, root_line, tlbi_line}
+use Rattle.bbm_events.proofs.Common.{count_line}
 use Rattle.bbm_events.specs.declared.event.Event.TheVariants as event
-use Rattle.bbm_events.specs.declared.event.Item.{Item}
 use Rattle.bbm_events.specs.declared.event.Item.TheVariants as item
-use Rattle.bbm_events.specs.declared.malformed.Malformed.{Malformed}
-use Rattle.bbm_events.specs.declared.malformed.Malformed.TheVariants.{BadHeader, UnknownWord, BadNumber, BadPe}
-use Rattle.bbm_events.specs.declared.malformed.Malformed.TheVariants.{BadAddress, MissingField, BadLabel}
-use Rattle.std.specs.Prelude.{bytes_eq, codes, drop, ◌==◌, ◌||◌}
-use Rattle.std.specs.Str.Parse.{digits_value}
-use Rattle.bbm_regimes.specs.declared.regime.World.TheVariants.{Hyp, Kernel}
-use Rattle.std.specs.Option.{option_map}
-use Rattle.bbm_events.specs.declared.keyword.Keyword.{Keyword}
+use Rattle.std.specs.Prelude.{drop, ◌==◌}
 use Rattle.bbm_events.specs.declared.keyword.Keyword.TheVariants as first
-use Rattle.bbm_tlbi_scope.specs.declared.op.TlbiOp.{TlbiOp}
-use Rattle.bbm_tlbi_scope.specs.Operations.{has_operand}
-use Rattle.bbm_events.specs.Heading.{Heading, heading_ok, has_op, may_label}
-use Rattle.bbm_events.specs.Label.{is_label}
-use Rattle.bbm_events.specs.Spelling.{fields, hex, decimal_value, hex_value, where_spelled}
-use Rattle.bbm_events.specs.Words.{with_word, asid_from_word, asid_froms, op_word, ops}
-use Rattle.bbm_events.specs.Fits.{fits_heading, item_fits, is_pe, is_page, is_place, is_value, is_lock, is_count}
-use Rattle.bbm_events.specs.Fits.{is_root_page, is_root_lock, is_operand, label_fits}
-use Rattle.bbm_events.specs.Lines.{◌>>=◌, Fields, magic_field, version_field, cnp_field, header_field, FieldRead, found}
-use Rattle.bbm_events.specs.Lines.{next_field, passing, checked, hyp_fields, kernel_fields, world_fields, header_of}
-use Rattle.bbm_events.specs.Lines.{item_of, line_after, keyword_field, pe_field, page_field, place_field}
-use Rattle.bbm_events.specs.Lines.{root_page_field, value_field, operand_field, lock_field, lock_value, root_lock}
-use Rattle.bbm_events.specs.Lines.{root_lock_field, count_field, kind_field, dsb_field, op_field, reg_field, whole}
-use Rattle.bbm_events.specs.Lines.{is_marked, label_field, event_item, pe_alone, pe_and, pe_and_two, root_line}
-use Rattle.bbm_events.specs.Lines.{tlbi_line, count_line}
+use Rattle.bbm_events.specs.Spelling.{decimal_value, hex_value}
+use Rattle.bbm_events.specs.Lines.{header_of, item_of}
 
 -- where two steps give a value, the first gave one that leads the second to it
 pub bind_ok : {A B : Type 0} (r : Result A Malformed) (f : A → Result B Malformed) {y : B} → (r >>= f) ≡ Ok y → (x : A) × (r ≡ Ok x) × (f x ≡ Ok y)

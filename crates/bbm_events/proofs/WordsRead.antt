@@ -1,17 +1,13 @@
 -- Each word is read as its value again, and each byte of it shows.
-use Rattle.std.proofs.Common.{◌≡◌, Bool, true, false, refl, Some}
-use Rattle.bbm_regimes.specs.declared.regime.Kind.{Kind}
-use Rattle.bbm_regimes.specs.declared.regime.Kind.TheVariants.{El2, S2, Ttbr0, Ttbr1}
-use Rattle.bbm_regimes.specs.declared.regime.Reg.{Reg}
+use Rattle.bbm_events.proofs.Common.{◌≡◌, Bool, true, false, refl, Some, Kind, El2, S2, Ttbr0, Ttbr1, Reg, AsidFrom}
+use Rattle.bbm_events.proofs.Common.{Dsb, TlbiOp, with_word, cnp_word, cnps, kind_word, kinds, reg_word, regs}
+use Rattle.bbm_events.proofs.Common.{asid_from_word, asid_froms, dsb_word, dsbs, op_word, ops}
 use Rattle.bbm_regimes.specs.declared.regime.Reg.TheVariants.{Ttbr0El2, VttbrEl2, Ttbr0El1, Ttbr1El1}
-use Rattle.bbm_regimes.specs.declared.regime.AsidFrom.{AsidFrom}
 use Rattle.bbm_regimes.specs.declared.regime.AsidFrom.TheVariants as from
-use Rattle.bbm_barriers.specs.declared.Dsb.{Dsb}
 use Rattle.bbm_barriers.specs.declared.Domain.{Domain}
 use Rattle.bbm_barriers.specs.declared.Domain.TheVariants.{Full, Inner, Outer, Non}
 use Rattle.bbm_barriers.specs.declared.Types.{Types}
 use Rattle.bbm_barriers.specs.declared.Types.TheVariants.{All, Stores, Loads}
-use Rattle.bbm_tlbi_scope.specs.declared.op.TlbiOp.{TlbiOp}
 use Rattle.bbm_tlbi_scope.specs.declared.op.TlbiOp.TheVariants.{Alle2, Alle2is, Vae2, Vae2is, Vale2, Vale2is, Alle1}
 use Rattle.bbm_tlbi_scope.specs.declared.op.TlbiOp.TheVariants.{Alle1is, Vmalle1, Vmalle1is, Vmalls12e1, Vmalls12e1is}
 use Rattle.bbm_tlbi_scope.specs.declared.op.TlbiOp.TheVariants.{Ipas2e1, Ipas2e1is, Ipas2le1, Ipas2le1is, Vae1, Vae1is}
@@ -20,8 +16,7 @@ use Rattle.bbm_tlbi_scope.specs.declared.op.TlbiOp.TheVariants.{Aside1, Aside1is
 use Rattle.bbm_tlbi_scope.specs.declared.op.TlbiOp.TheVariants.{Ripas2e1, Ripas2e1is, Ripas2le1, Ripas2le1is, Rvae1}
 use Rattle.bbm_tlbi_scope.specs.declared.op.TlbiOp.TheVariants.{Rvae1is, Rvale1, Rvale1is, Rvaae1, Rvaae1is, Rvaale1}
 use Rattle.bbm_tlbi_scope.specs.declared.op.TlbiOp.TheVariants.{Rvaale1is}
-use Rattle.bbm_events.specs.Words.{with_word, cnp_word, cnps, kind_word, kinds, reg_word, regs}
-use Rattle.bbm_events.specs.Words.{asid_from_word, asid_froms, option_word, dsb_word, dsbs, op_word, ops}
+use Rattle.bbm_events.specs.Words.{option_word}
 use Rattle.bbm_events.proofs.Joining.{visible}
 
 pub cnp_word_read : (cnp : Bool) → with_word cnp_word cnps (cnp_word cnp) ≡ Some cnp

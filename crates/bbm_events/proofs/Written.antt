@@ -1,45 +1,30 @@
 -- A line that is written is read as what was written.
-use Rattle.std.proofs.Common.{◌≡◌, ℕ, ◌^◌, ◌<◌, ◌≤◌, List, [], ◌∷◌, ◌++◌, Bool, true, false, not, ◌&&◌, cond, nat_lt}
-use Rattle.std.proofs.Common.{◌%◌, ◌*◌, ◌==◌, refl, ap, sym, ◌∙◌, Option, Some, None, Result, Ok, Err, arith}
-use Rattle.std.specs.Prelude.{◌||◌, nat_le, codes, decimal, bytes_eq}
-use Rattle.std.specs.Option.{option_map}
+use Rattle.bbm_events.proofs.Common.{◌≡◌, ℕ, ◌^◌, ◌<◌, ◌≤◌, List, [], ◌∷◌, ◌++◌, Bool, true, false, not, ◌&&◌, cond}
+use Rattle.bbm_events.proofs.Common.{nat_lt, ◌%◌, ◌*◌, ◌==◌, refl, ap, sym, ◌∙◌, Option, Some, None, Result, Ok, Err}
+use Rattle.bbm_events.proofs.Common.{arith, ◌||◌, nat_le, codes, decimal, bytes_eq, option_map, bytes_eq-Decides}
+use Rattle.bbm_events.proofs.Common.{and_parts, ltb-true, leb-true, eqb-true, nat_tests, World, HypWorld, Hyp, Kernel}
+use Rattle.bbm_events.proofs.Common.{world_ok, page_count, Kind, Reg, Dsb, TlbiOp, Event, Item, Malformed, NoMagic}
+use Rattle.bbm_events.proofs.Common.{BadHeader, UnknownWord, BadNumber, BadPe, BadAddress, MissingField, BadLabel}
+use Rattle.bbm_events.proofs.Common.{Heading, heading_ok, is_version, has_op, may_label, may_share, is_label, fields}
+use Rattle.bbm_events.proofs.Common.{joined, hex, has_operand, with_word, keyword_word, keywords, cnp_word, cnps}
+use Rattle.bbm_events.proofs.Common.{kind_word, kinds, reg_word, regs, asid_from_word, asid_froms, dsb_word, dsbs}
+use Rattle.bbm_events.proofs.Common.{op_word, ops, fits_heading, item_fits, is_pe, is_page, is_place, is_value, is_lock}
+use Rattle.bbm_events.proofs.Common.{is_count, is_root_page, is_root_lock, is_operand, label_fits, ◌>>=◌, Fields}
+use Rattle.bbm_events.proofs.Common.{FieldRead, found, next_field, passing, checked, version_field, cnp_field}
+use Rattle.bbm_events.proofs.Common.{cnp_fields, header_field, world_fields, line_after, line_field, pe_field}
+use Rattle.bbm_events.proofs.Common.{page_field, place_field, root_page_field, value_field, operand_field, lock_field}
+use Rattle.bbm_events.proofs.Common.{lock_value, root_lock, root_lock_field, count_field, kind_field, dsb_field}
+use Rattle.bbm_events.proofs.Common.{op_field, reg_field, label_value, label_field, label_fields, event_item, pe_alone}
+use Rattle.bbm_events.proofs.Common.{pe_and, pe_and_two, root_line, tlbi_line, count_line, header_fields, lock_text}
+use Rattle.bbm_events.proofs.Common.{operand_fields, event_fields, item_fields, magic_field}
 use Rattle.std.specs.Fmt.{digits}
-use Rattle.std.proofs.lemmas.Slice.Eq.{bytes_eq-Decides}
-use Rattle.std.proofs.lemmas.Bool.{and_parts, ltb-true, leb-true, eqb-true}
-use Rattle.std.proofs.lemmas.Bool.Decides.{nat_tests}
 use Rattle.bbm_events.proofs.Readings.{both}
-use Rattle.bbm_regimes.specs.declared.regime.World.{World}
-use Rattle.bbm_regimes.specs.declared.regime.HypWorld.{HypWorld}
 use Rattle.bbm_regimes.specs.declared.regime.KernelWorld.{KernelWorld}
-use Rattle.bbm_regimes.specs.declared.regime.World.TheVariants.{Hyp, Kernel}
-use Rattle.bbm_regimes.specs.World.{world_ok, page_count}
-use Rattle.bbm_regimes.specs.declared.regime.Kind.{Kind}
-use Rattle.bbm_regimes.specs.declared.regime.Reg.{Reg}
-use Rattle.bbm_barriers.specs.declared.Dsb.{Dsb}
-use Rattle.bbm_tlbi_scope.specs.declared.op.TlbiOp.{TlbiOp}
-use Rattle.bbm_events.specs.declared.event.Event.{Event}
 use Rattle.bbm_events.specs.declared.event.Event.TheVariants as event
-use Rattle.bbm_events.specs.declared.event.Item.{Item}
 use Rattle.bbm_events.specs.declared.event.Item.TheVariants as item
-use Rattle.bbm_events.specs.declared.malformed.Malformed.{Malformed}
-use Rattle.bbm_events.specs.declared.malformed.Malformed.TheVariants.{NoMagic, BadHeader, UnknownWord, BadNumber, BadPe}
-use Rattle.bbm_events.specs.declared.malformed.Malformed.TheVariants.{BadAddress, MissingField, BadLabel}
-use Rattle.bbm_events.specs.Heading.{Heading, heading_ok, is_version, are_pes, has_op, may_label, may_share}
-use Rattle.bbm_events.specs.Label.{is_label}
-use Rattle.bbm_events.specs.Spelling.{fields, joined, hex, decimal_value, hex_value}
-use Rattle.bbm_tlbi_scope.specs.Operations.{has_operand}
-use Rattle.bbm_events.specs.Words.{with_word, keyword_word, keywords, cnp_word, cnps, kind_word, kinds, reg_word, regs}
-use Rattle.bbm_events.specs.Words.{asid_from_word, asid_froms, dsb_word, dsbs, op_word, ops}
-use Rattle.bbm_events.specs.Fits.{fits_heading, item_fits, is_pe, is_page, is_place, is_value, is_lock, is_count}
-use Rattle.bbm_events.specs.Fits.{is_root_page, is_root_lock, is_operand, label_fits}
-use Rattle.bbm_events.specs.Lines.{◌>>=◌, Fields, FieldRead, found, next_field, passing, checked, version_field}
-use Rattle.bbm_events.specs.Lines.{cnp_field, cnp_fields, header_field, world_fields, header_of, item_of, line_after}
-use Rattle.bbm_events.specs.Lines.{line_field, pe_field, page_field, place_field, root_page_field, value_field}
-use Rattle.bbm_events.specs.Lines.{operand_field, lock_field, lock_value, root_lock, root_lock_field, count_field}
-use Rattle.bbm_events.specs.Lines.{kind_field, dsb_field, op_field, reg_field, label_value, label_field, label_fields}
-use Rattle.bbm_events.specs.Lines.{event_item, pe_alone, pe_and, pe_and_two, root_line, tlbi_line, count_line}
-use Rattle.bbm_events.specs.Lines.{header_fields, header_line, lock_text, operand_fields, event_fields, item_fields}
-use Rattle.bbm_events.specs.Lines.{item_line, magic_field}
+use Rattle.bbm_events.specs.Heading.{are_pes}
+use Rattle.bbm_events.specs.Spelling.{decimal_value, hex_value}
+use Rattle.bbm_events.specs.Lines.{header_of, item_of, header_line, item_line}
 use Rattle.bbm_events.proofs.Joining.{visible, all_visible, fields_joined, digits_visible}
 use Rattle.bbm_events.proofs.OneSpelling.{decimal_read, hex_read}
 use Rattle.bbm_events.proofs.Labels.{label_visible}

@@ -1,9 +1,7 @@
 -- The indices of steps.
-use Rattle.std.proofs.lemmas.List.{length-reverse}
-use Rattle.std.proofs.Common.{◌≡◌, ℕ, suc, ◌<◌, ◌≤◌, Bool, true, false, List, [], ◌∷◌, length, reverse, Option, Some}
-use Rattle.std.proofs.Common.{None, Result, Ok, Err, refl, arith}
+use Rattle.bbm_rules.proofs.Common.{length-reverse, ◌≡◌, ℕ, suc, ◌<◌, ◌≤◌, Bool, true, false, List, [], ◌∷◌, length}
+use Rattle.bbm_rules.proofs.Common.{reverse, Option, Some, None, Result, Ok, Err, refl, arith, if_so}
 use Rattle.bbm_events.specs.Heading.{Heading}
-use Rattle.bbm_rules.specs.Lists.{if_so}
 use Rattle.bbm_tlb_machine.specs.declared.step.Step.{Step}
 use Rattle.bbm_tlb_machine.specs.MachineRun.{State, follow_steps, next_in, or_index, step_to}
 use Rattle.bbm_tlb_machine.specs.Safe.{earlier, fails_at, first_conflict}

@@ -1,12 +1,9 @@
 -- When a round has cleansed its place: not before the flush is answered, and then at every PE.
-use Rattle.std.proofs.Common.{◌≡◌, ℕ, zero, suc, ◌<◌, true, false, ◌==◌, List, [], ◌∷◌, refl, arith}
-use Rattle.bbm_tlbi_scope.specs.declared.entry.Cover.{Cover}
-use Rattle.bbm_tlbi_scope.specs.declared.entry.Cover.TheVariants.{Half, Second, Full}
-use Rattle.bbm_tlbi_scope.specs.declared.op.TlbiOp.TheVariants.{Vae2is, Ipas2e1is, Vmalle1is}
-use Rattle.bbm_rules.specs.Prelude.{Event, Write, Dsb, Tlbi}
+use Rattle.bbm_rules.proofs.Common.{◌≡◌, ℕ, zero, suc, ◌<◌, true, false, ◌==◌, List, [], ◌∷◌, refl, arith, Cover, Half}
+use Rattle.bbm_rules.proofs.Common.{Second, Full, Vae2is, Ipas2e1is, Event, Write, Dsb, Tlbi, cleansed_everywhere}
+use Rattle.bbm_rules.proofs.Common.{Noted}
+use Rattle.bbm_tlbi_scope.specs.declared.op.TlbiOp.TheVariants.{Vmalle1is}
 use Rattle.bbm_rules.specs.Claims.{Patterns}
-use Rattle.bbm_rules.specs.Held.{cleansed_everywhere}
-use Rattle.bbm_rules.specs.Notes.{Noted}
 use Rattle.bbm_gen.specs.Generated.{heading, ish, ishst}
 
 -- an event with its notes

@@ -1,15 +1,12 @@
 -- The generated logs keep the rules: after each whole round all stands as before it.
-use Rattle.std.proofs.Common.{◌≡◌, ℕ, zero, suc, ◌+◌, ◌-◌, ◌*◌, ◌/◌, ◌%◌, ◌<◌, ◌≤◌, Bool, true, false, ◌==◌, nat_lt}
-use Rattle.std.proofs.Common.{List, ◌∷◌, None, is_none, refl, sym, ◌∙◌, subst, arith, if◌then◌else◌, true≢false, Option}
-use Rattle.std.proofs.Common.{Some}
-use Rattle.std.proofs.lemmas.Bool.{and_parts, eq-eqb, eqb-true}
-use Rattle.bbm_regimes.specs.declared.regime.Kind.{Kind}
+use Rattle.bbm_rules.proofs.Common.{◌≡◌, ℕ, zero, suc, ◌+◌, ◌-◌, ◌*◌, ◌/◌, ◌%◌, ◌<◌, ◌≤◌, Bool, true, false, ◌==◌}
+use Rattle.bbm_rules.proofs.Common.{nat_lt, List, ◌∷◌, None, is_none, refl, sym, ◌∙◌, subst, arith, if◌then◌else◌}
+use Rattle.bbm_rules.proofs.Common.{true≢false, Option, Some, and_parts, eq-eqb, eqb-true, Kind, fits_heading, is_place}
+use Rattle.bbm_rules.proofs.Common.{is_value, Event, Init, Null, Root, Unroot, Write, Dsb, Dmb, Isb, Tlbi, Msr, Lock}
+use Rattle.bbm_rules.proofs.Common.{Unlock, Breach, keeps, limit_of}
 use Rattle.bbm_regimes.specs.declared.regime.Kind.TheVariants.{El2, S2}
-use Rattle.bbm_events.specs.Fits.{fits_heading, is_place, is_value}
-use Rattle.bbm_rules.specs.Prelude.{Event, Init, Null, Root, Unroot, Write, Dsb, Dmb, Isb, Tlbi, Msr, Lock, Unlock}
-use Rattle.bbm_rules.specs.Broken.{Breach, broken, keeps}
+use Rattle.bbm_rules.specs.Broken.{broken}
 use Rattle.bbm_rules.specs.Claims.{Patterns}
-use Rattle.bbm_rules.specs.Limits.{limit_of}
 use Rattle.bbm_gen.specs.BelowGen.{Below}
 use Rattle.bbm_gen.specs.Generated.{heading, el2_root, s2_root, slot, place_in, first_page, block, el2_step, s2_step}
 use Rattle.bbm_gen.specs.Generated.{round_step, event_at, log_of}

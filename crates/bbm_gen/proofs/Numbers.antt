@@ -1,20 +1,11 @@
 -- What holds of each of the 512 descriptors of a root, and of each block, by looking at them all.
-use Rattle.std.proofs.Common.{◌≡◌, ℕ, zero, suc, ◌+◌, ◌*◌, ◌^◌, ◌<◌, Bool, true, false, ◌==◌, [], Some, None, map, refl}
-use Rattle.std.proofs.Common.{sym, ◌∙◌, subst, true≢false, nat_lt, arith}
-use Rattle.std.proofs.lemmas.Bool.{eq-eqb, eqb-true}
-use Rattle.std.specs.Result.{result_ok}
+use Rattle.bbm_rules.proofs.Common.{◌≡◌, ℕ, zero, suc, ◌+◌, ◌*◌, ◌^◌, ◌<◌, Bool, true, false, ◌==◌, [], Some, None, map}
+use Rattle.bbm_rules.proofs.Common.{refl, sym, ◌∙◌, subst, true≢false, nat_lt, arith, eq-eqb, eqb-true, result_ok}
+use Rattle.bbm_rules.proofs.Common.{meets, Form, form_of, contiguous_of, scope_of, Vae2is, Ipas2e1is, El2Va, Ipa}
+use Rattle.bbm_rules.proofs.Common.{is_place, is_value, below, page_of, Node, region_of}
 use Rattle.bbm_regimes.specs.declared.regime.Kind.TheVariants.{El2, S2}
-use Rattle.bbm_regimes.specs.Extent.{meets}
-use Rattle.bbm_descriptor.specs.Descriptor.{Form, form_of}
-use Rattle.bbm_descriptor.specs.Fields.{contiguous_of}
-use Rattle.bbm_tlbi_scope.specs.Decode.{scope_of, one_page}
-use Rattle.bbm_tlbi_scope.specs.declared.op.TlbiOp.TheVariants.{Vae2is, Ipas2e1is}
-use Rattle.bbm_tlbi_scope.specs.declared.scope.Family.TheVariants.{El2Va, Ipa}
+use Rattle.bbm_tlbi_scope.specs.Decode.{one_page}
 use Rattle.bbm_tlbi_scope.specs.declared.scope.Scope.{Scope}
-use Rattle.bbm_events.specs.Fits.{is_place, is_value}
-use Rattle.bbm_rules.specs.Lists.{below}
-use Rattle.bbm_rules.specs.Places.{page_of}
-use Rattle.bbm_rules.specs.Tree.{Node, region_of}
 use Rattle.bbm_gen.specs.Generated.{el2_root, s2_root, place_in, first_page}
 
 -- two functions that give the same for each number below n

@@ -1,32 +1,18 @@
 -- A round takes away what it makes.
-use Rattle.std.proofs.Common.{◌≡◌, ℕ, suc, ◌<◌, Bool, true, false, ◌==◌, List, [], ◌∷◌, length, Some, None, refl}
-use Rattle.std.proofs.Common.{sym, ap, ◌∙◌, subst, arith, if◌then◌else◌, true≢false}
-use Rattle.std.proofs.lemmas.Bool.{eq-eqb, eqb-true}
-use Rattle.std.specs.Result.{result_ok}
-use Rattle.bbm_regimes.specs.declared.regime.Kind.{Kind}
+use Rattle.bbm_rules.proofs.Common.{◌≡◌, ℕ, suc, ◌<◌, Bool, true, false, ◌==◌, List, [], ◌∷◌, length, Some, None, refl}
+use Rattle.bbm_rules.proofs.Common.{sym, ap, ◌∙◌, subst, arith, if◌then◌else◌, true≢false, eq-eqb, eqb-true, result_ok}
+use Rattle.bbm_rules.proofs.Common.{Kind, meets, Form, core_of, desc_of, form_of, is_valid, needs, contiguous_of}
+use Rattle.bbm_rules.proofs.Common.{vmid_matches, VmAll1, of_world, scoped_by_vmid, scope_of, Half, Second, Full}
+use Rattle.bbm_rules.proofs.Common.{Vae2is, Ipas2e1is, Barrier, Event, TlbiOp, Scope, Write, Dsb, Dmb, Isb, Tlbi}
+use Rattle.bbm_rules.proofs.Common.{VttbrEl2, cover_at, note, ValidWrite, cleansed_everywhere, held, last_valid, Noted}
+use Rattle.bbm_rules.proofs.Common.{events_of, page_of, vmid_of, lacks_vmid, tag_number, is_fresh, is_null, lock_of}
+use Rattle.bbm_rules.proofs.Common.{roots_of, is_contiguous, tag_set, tags_of, held_at, next_of, node_of, region_of}
+use Rattle.bbm_rules.proofs.Common.{and-false}
 use Rattle.bbm_regimes.specs.declared.regime.Kind.TheVariants.{El2, S2}
-use Rattle.bbm_regimes.specs.Extent.{meets}
-use Rattle.bbm_descriptor.specs.Descriptor.{Form, core_of, desc_of, form_of, is_valid, needs}
-use Rattle.bbm_descriptor.specs.Fields.{contiguous_of}
-use Rattle.bbm_tlbi_scope.specs.ScopeCovers.{vmid_matches}
-use Rattle.bbm_tlbi_scope.specs.declared.scope.Family.TheVariants.{VmAll1}
-use Rattle.bbm_tlbi_scope.specs.Operations.{of_world, scoped_by_vmid}
-use Rattle.bbm_tlbi_scope.specs.Decode.{scope_of, one_page}
-use Rattle.bbm_tlbi_scope.specs.declared.entry.Cover.TheVariants.{Half, Second, Full}
-use Rattle.bbm_tlbi_scope.specs.declared.op.TlbiOp.TheVariants.{Vae2is, Ipas2e1is, Vmalle1is}
-use Rattle.bbm_rules.specs.Prelude.{Barrier, Event, TlbiOp, Scope, Write, Dsb, Dmb, Isb, Tlbi, VttbrEl2}
+use Rattle.bbm_tlbi_scope.specs.Decode.{one_page}
+use Rattle.bbm_tlbi_scope.specs.declared.op.TlbiOp.TheVariants.{Vmalle1is}
 use Rattle.bbm_rules.specs.Broken.{broken}
 use Rattle.bbm_rules.specs.Claims.{Patterns}
-use Rattle.bbm_rules.specs.Covers.{cover_at, note}
-use Rattle.bbm_rules.specs.Held.{ValidWrite, cleansed_everywhere, held, last_valid}
-use Rattle.bbm_rules.specs.Notes.{Noted, events_of}
-use Rattle.bbm_rules.specs.Places.{page_of}
-use Rattle.bbm_rules.specs.RegisterValues.{vmid_of, lacks_vmid, tag_number}
-use Rattle.bbm_rules.specs.Pages.{is_fresh, is_null}
-use Rattle.bbm_rules.specs.Roots.{lock_of, roots_of}
-use Rattle.bbm_rules.specs.Rules.{is_contiguous}
-use Rattle.bbm_rules.specs.Tags.{tag_set, tags_of}
-use Rattle.bbm_rules.specs.Tree.{held_at, next_of, node_of, region_of}
 use Rattle.bbm_gen.specs.BelowGen.{Below, notes}
 use Rattle.bbm_gen.specs.Generated.{heading, el2_root, s2_root, ish, ishst}
 use Rattle.bbm_gen.proofs.Numbers.{el2_node, s2_node, el2_scope, s2_scope}
@@ -34,7 +20,6 @@ use Rattle.bbm_gen.proofs.Flushed.{not_before, el2_after, s2_not_half, s2_after}
 use Rattle.bbm_gen.proofs.Unbroken.{no_core, tlbi_free, unbroken, write_free, dsb_unbroken, dmb_unbroken, isb_unbroken}
 use Rattle.bbm_gen.proofs.Standing.{Stands, Clear, WritesAt, of_round, declared, loaded, stands_on, clear_on, matches}
 use Rattle.bbm_gen.proofs.Standing.{stays_none}
-use mathlib.Core.Bool.{and-false}
 
 -- the state after a whole round: all stands, and no place of the roots holds anything
 pub record Whole (h : List Event) : Type 0 where

@@ -1,26 +1,20 @@
 -- What stands after the opening, and after each event of a round.
-use Rattle.std.proofs.Common.{◌≡◌, ℕ, zero, suc, ◌<◌, Bool, true, false, ◌==◌, inl, inr, List, [], ◌∷◌, ◌++◌}
-use Rattle.std.proofs.Common.{Option, Some, None, take, flat_map, filter_map, refl, ap, ◌∙◌, subst, Contains, arith}
-use Rattle.std.proofs.Common.{if◌then◌else◌}
-use Rattle.bbm_regimes.specs.declared.regime.Kind.{Kind}
+use Rattle.bbm_rules.proofs.Common.{◌≡◌, ℕ, zero, suc, ◌<◌, Bool, true, false, ◌==◌, inl, inr, List, [], ◌∷◌, ◌++◌}
+use Rattle.bbm_rules.proofs.Common.{Option, Some, None, take, flat_map, filter_map, refl, ap, ◌∙◌, subst, Contains}
+use Rattle.bbm_rules.proofs.Common.{arith, if◌then◌else◌, Kind, vmid_matches, Event, Init, Null, Root, Unroot, Write}
+use Rattle.bbm_rules.proofs.Common.{Dsb, Dmb, Isb, Tlbi, Msr, Lock, Unlock, Reg, Ttbr0El2, VttbrEl2, Ttbr0El1, Ttbr1El1}
+use Rattle.bbm_rules.proofs.Common.{Tag, Vmid, keeps, any, below, is_fresh, is_null, may_be_fresh, page_of}
+use Rattle.bbm_rules.proofs.Common.{register_values, Declared, roots_of, distinct, ever_read, readings, tag_for}
+use Rattle.bbm_rules.proofs.Common.{tag_set, tags_of, holds_tag, Above, Node, held_at, node_of, and-false}
 use Rattle.bbm_regimes.specs.declared.regime.Kind.TheVariants.{El2, S2}
-use Rattle.bbm_tlbi_scope.specs.ScopeCovers.{vmid_matches}
-use Rattle.bbm_rules.specs.Prelude.{Event, Init, Null, Root, Unroot, Write, Dsb, Dmb, Isb, Tlbi, Msr, Lock, Unlock, Reg}
-use Rattle.bbm_rules.specs.Prelude.{Ttbr0El2, VttbrEl2, Ttbr0El1, Ttbr1El1, Tag, Vmid, same_tag}
-use Rattle.bbm_rules.specs.Broken.{broken, keeps}
+use Rattle.bbm_rules.specs.Prelude.{same_tag}
+use Rattle.bbm_rules.specs.Broken.{broken}
 use Rattle.bbm_rules.specs.Claims.{Patterns}
-use Rattle.bbm_rules.specs.Lists.{any, below}
-use Rattle.bbm_rules.specs.Pages.{is_fresh, is_null, may_be_fresh}
-use Rattle.bbm_rules.specs.Places.{page_of}
-use Rattle.bbm_rules.specs.RegisterValues.{register_values}
-use Rattle.bbm_rules.specs.Roots.{Declared, roots_of}
-use Rattle.bbm_rules.specs.Tags.{distinct, ever_read, readings, tag_for, tag_set, tags_of, holds_tag}
-use Rattle.bbm_rules.specs.Tree.{Above, Node, held_at, node_of, tree}
+use Rattle.bbm_rules.specs.Tree.{tree}
 use Rattle.bbm_histories.specs.TreeChanges.{HeldChange}
 use Rattle.bbm_gen.specs.BelowGen.{Below, notes}
 use Rattle.bbm_gen.specs.Generated.{heading, el2_root, s2_root, vttbr, log_of}
 use Rattle.bbm_gen.proofs.Numbers.{el2_node, s2_node}
-use mathlib.Core.Bool.{and-false}
 
 -- the events of rounds
 abbrev pub of_round : Event → Bool

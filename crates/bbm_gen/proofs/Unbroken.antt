@@ -1,36 +1,23 @@
 -- Which events break no rule.
-use Rattle.std.proofs.Common.{◌≡◌, ℕ, Bool, true, false, List, [], ◌∷◌, Option, Some, None, option_and_then}
-use Rattle.std.proofs.Common.{is_none, refl, ap, ◌∙◌, if◌then◌else◌}
-use Rattle.std.specs.Option.{option_map_or}
-use Rattle.std.specs.Result.{result_ok}
-use Rattle.bbm_regimes.specs.declared.regime.Kind.{Kind}
+use Rattle.bbm_rules.proofs.Common.{◌≡◌, ℕ, Bool, true, false, List, [], ◌∷◌, Option, Some, None, option_and_then}
+use Rattle.bbm_rules.proofs.Common.{is_none, refl, ap, ◌∙◌, if◌then◌else◌, option_map_or, result_ok, Kind, desc_of}
+use Rattle.bbm_rules.proofs.Common.{differ, needs, Core, scope_of, of_world, Barrier, Event, Write, Dsb, Dmb, Isb, Tlbi}
+use Rattle.bbm_rules.proofs.Common.{attached_by, attached_from, Breach, breaks, first_broken, if_so, Noted, events_of}
+use Rattle.bbm_rules.proofs.Common.{is_fresh, is_null, page_of, lacks_vmid, lock_of, is_contiguous, Node, held_at}
+use Rattle.bbm_rules.proofs.Common.{next_of, node_of, and-false}
 use Rattle.bbm_regimes.specs.declared.regime.Kind.TheVariants.{Ttbr0}
-use Rattle.bbm_descriptor.specs.Descriptor.{desc_of, differ, needs}
-use Rattle.bbm_descriptor.specs.declared.desc.Core.{Core}
-use Rattle.bbm_tlbi_scope.specs.Decode.{scope_of}
-use Rattle.bbm_tlbi_scope.specs.Operations.{of_world}
 use Rattle.bbm_tlbi_scope.specs.declared.op.TlbiOp.{TlbiOp}
 use Rattle.bbm_tlbi_scope.specs.declared.scope.Scope.{Scope}
-use Rattle.bbm_rules.specs.Prelude.{Barrier, Event, Write, Dsb, Dmb, Isb, Tlbi, same_kind}
+use Rattle.bbm_rules.specs.Prelude.{same_kind}
 use Rattle.bbm_rules.specs.declared.rule.Rule.{Rule}
 use Rattle.bbm_rules.specs.declared.rule.Rule.TheVariants.{WrongWorld, NoLock, NullWritten, BreakBeforeMake, LimboMake}
 use Rattle.bbm_rules.specs.declared.rule.Rule.TheVariants.{NotFresh, RewrittenFresh, BadKind, GlobalUser, PageInUse}
 use Rattle.bbm_rules.specs.declared.rule.Rule.TheVariants.{NoRoot, TagConflict, RootInUse, UnsyncedVmid, BadOperand}
 use Rattle.bbm_rules.specs.declared.rule.Rule.TheVariants.{LockBusy, LockNotMine}
-use Rattle.bbm_rules.specs.Attach.{attached_by, attached_from}
-use Rattle.bbm_rules.specs.Broken.{Breach, breaks, broken, first_broken, rules}
+use Rattle.bbm_rules.specs.Broken.{broken, rules}
 use Rattle.bbm_rules.specs.Claims.{Patterns}
-use Rattle.bbm_rules.specs.Lists.{if_so}
-use Rattle.bbm_rules.specs.Notes.{Noted, events_of}
-use Rattle.bbm_rules.specs.Pages.{is_fresh, is_null}
-use Rattle.bbm_rules.specs.Places.{page_of}
-use Rattle.bbm_rules.specs.RegisterValues.{lacks_vmid}
-use Rattle.bbm_rules.specs.Roots.{lock_of}
-use Rattle.bbm_rules.specs.Rules.{is_contiguous}
-use Rattle.bbm_rules.specs.Tree.{Node, held_at, next_of, node_of}
 use Rattle.bbm_gen.specs.Generated.{heading}
 use Rattle.bbm_gen.specs.BelowGen.{notes}
-use mathlib.Core.Bool.{and-false}
 
 abbrev pub Free : List Noted → Event → Type 0
 Free h e = (r : Rule) → breaks heading Patterns h e r ≡ None

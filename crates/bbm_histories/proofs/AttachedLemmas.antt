@@ -1,23 +1,9 @@
 -- What the places of a page hold when an event attaches it.
-use Rattle.std.proofs.Common.{◌≡◌, ℕ, ◌<◌, Bool, true, false, cond, ◌==◌, List, [], ◌∷◌, ◌++◌, Option, Some, None, refl}
-use Rattle.std.proofs.Common.{sym, ◌∙◌, ap, subst, inl, inr, true≢false}
-use Rattle.std.proofs.lemmas.Bool.{eqb-true}
-use Rattle.bbm_descriptor.specs.Descriptor.{is_valid}
-use Rattle.bbm_events.specs.Heading.{Heading}
-use Rattle.bbm_rules.specs.Prelude.{Event, Init, Write, Dsb}
-use Rattle.bbm_rules.specs.Claims.{Trust}
-use Rattle.bbm_rules.specs.Cleansing.{seen}
-use Rattle.bbm_rules.specs.Covers.{note}
-use Rattle.bbm_rules.specs.Held.{ValidWrite, last_valid}
-use Rattle.bbm_rules.specs.Notes.{Noted, events_of}
-use Rattle.bbm_rules.specs.Pages.{is_fresh}
-use Rattle.bbm_rules.specs.Places.{page_of}
-use Rattle.bbm_rules.specs.PatternSentences.{IsLastValid}
-use Rattle.bbm_rules.specs.Tree.{Node, held_at}
-use Rattle.bbm_rules.specs.Values.{value_of}
-use Rattle.bbm_histories.specs.BelowHistories.{Below}
-use Rattle.bbm_histories.specs.HistorySteps.{seen_after}
-use Rattle.bbm_histories.specs.TreeChanges.{Attaches}
+use Rattle.bbm_histories.proofs.Common.{Heading, Below, seen_after, Attaches}
+use Rattle.bbm_rules.proofs.Common.{◌≡◌, ℕ, ◌<◌, Bool, true, false, cond, ◌==◌, List, [], ◌∷◌, ◌++◌, Option, Some, None}
+use Rattle.bbm_rules.proofs.Common.{refl, sym, ◌∙◌, ap, subst, inl, inr, true≢false, eqb-true, is_valid, Event, Init}
+use Rattle.bbm_rules.proofs.Common.{Write, Dsb, Trust, seen, note, ValidWrite, last_valid, Noted, events_of, is_fresh}
+use Rattle.bbm_rules.proofs.Common.{page_of, IsLastValid, Node, held_at, value_of}
 use Rattle.bbm_histories.specs.ValueChanges.{HoldsPresent}
 use Rattle.bbm_histories.proofs.FreshLemmas.{content, held_is_present}
 use Rattle.bbm_histories.proofs.HeldSteps.{held_back, held_valid}

@@ -1,23 +1,13 @@
 -- What the bases of readable register values are.
-use Rattle.std.proofs.Common.{◌≡◌, ℕ, ◌<◌, true, false, not, ◌==◌, List, [], ◌∷◌, Option, Some}
-use Rattle.std.proofs.Common.{sym, ◌∙◌, subst, inl, inr, true≢false}
-use Rattle.bbm_events.specs.Heading.{Heading}
-use Rattle.bbm_rules.specs.Prelude.{Kind, Reg, Event, Root, Null}
-use Rattle.bbm_rules.specs.declared.rule.Rule.TheVariants.{PageInUse}
-use Rattle.bbm_rules.specs.Broken.{keeps}
-use Rattle.bbm_rules.specs.Claims.{Trust}
-use Rattle.bbm_rules.specs.Covers.{noted}
-use Rattle.bbm_rules.specs.Lists.{among}
-use Rattle.bbm_rules.specs.Pages.{is_fresh, is_null}
-use Rattle.bbm_rules.specs.RegisterValues.{base_of, kind_of_reg, register_values}
-use Rattle.bbm_rules.specs.Roots.{is_root}
-use Rattle.bbm_histories.specs.BelowHistories.{Below}
+use Rattle.bbm_histories.proofs.Common.{Heading, Kind, PageInUse, Below, Proper}
+use Rattle.bbm_rules.proofs.Common.{◌≡◌, ℕ, ◌<◌, true, false, not, ◌==◌, List, [], ◌∷◌, Option, Some, sym, ◌∙◌, subst}
+use Rattle.bbm_rules.proofs.Common.{inl, inr, true≢false, Reg, Event, Root, Null, keeps, Trust, noted, among, is_fresh}
+use Rattle.bbm_rules.proofs.Common.{is_null, base_of, kind_of_reg, register_values, is_root, eqb-true, not-false}
+use Rattle.bbm_rules.proofs.Common.{or_cases, false_from_ne_true}
 use Rattle.bbm_histories.specs.TagSteps.{BasesStay, NamesRoots}
-use Rattle.bbm_histories.specs.TreeChanges.{Proper}
 use Rattle.bbm_histories.proofs.Induction.{Unbroken, if_none, last_kept}
 use Rattle.bbm_histories.proofs.TagLemmas.{Named, named, noted_too, null_not_fresh, planted_fresh, root_back}
 use Rattle.bbm_histories.proofs.TagLemmas.{root_not_fresh, root_on, unroot_misses}
-use Rattle.std.proofs.lemmas.Bool.{eqb-true, not-false, or_cases, false_from_ne_true}
 use Rattle.bbm_lemmas.proofs.Bools.{first_none}
 
 module _ (heading : Heading) (trust : Trust) (b : Below heading trust) where

@@ -1,18 +1,9 @@
 -- Whether a table is childless after an event.
-use Rattle.std.proofs.Common.{◌≡◌, ℕ, suc, ◌<◌, ◌&&◌, Bool, true, false, cond, ◌==◌, List, ◌∷◌, Option, Some, None}
-use Rattle.std.proofs.Common.{is_some, refl, sym, ◌∙◌, ap, inl, inr, true≢false}
-use Rattle.std.proofs.lemmas.Bool.{eq-eqb, eqb-true}
-use Rattle.bbm_descriptor.specs.Descriptor.{is_valid}
-use Rattle.bbm_events.specs.Heading.{Heading}
-use Rattle.bbm_rules.specs.Prelude.{Event, Init, Write, Dsb}
-use Rattle.bbm_rules.specs.Claims.{Trust}
-use Rattle.bbm_rules.specs.Held.{held}
-use Rattle.bbm_rules.specs.Notes.{Noted}
-use Rattle.bbm_rules.specs.Places.{page_of}
-use Rattle.bbm_rules.specs.Tree.{Node, is_childless, next_of}
-use Rattle.bbm_rules.specs.TreeSentences.{Childless}
-use Rattle.bbm_histories.specs.BelowHistories.{Below}
-use Rattle.bbm_histories.specs.HistorySteps.{held_after}
+use Rattle.bbm_histories.proofs.Common.{Heading, Below, held_after}
+use Rattle.bbm_rules.proofs.Common.{◌≡◌, ℕ, suc, ◌<◌, ◌&&◌, Bool, true, false, cond, ◌==◌, List, ◌∷◌, Option, Some}
+use Rattle.bbm_rules.proofs.Common.{None, is_some, refl, sym, ◌∙◌, ap, inl, inr, true≢false, eq-eqb, eqb-true, is_valid}
+use Rattle.bbm_rules.proofs.Common.{Event, Init, Write, Dsb, Trust, held, Noted, page_of, Node, is_childless, next_of}
+use Rattle.bbm_rules.proofs.Common.{Childless}
 use Rattle.bbm_histories.specs.TreeSteps.{EndsAll, HoldsNone, childless_after}
 use Rattle.bbm_histories.proofs.HeldSteps.{IsDsb, held_after_dsb}
 use Rattle.bbm_histories.proofs.StepLemmas.{held_step}

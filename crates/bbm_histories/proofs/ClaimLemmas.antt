@@ -1,23 +1,13 @@
 -- The step equations of cleansed, claim by claim.
-use Rattle.std.proofs.Common.{◌≡◌, ℕ, ◌&&◌, ◌||◌, Bool, false, ◌==◌, List, ◌∷◌, refl, sym, ◌∙◌, ap}
-use Rattle.std.proofs.Math.Bool.{or-false}
-use Rattle.bbm_lemmas.proofs.Tautologies.{proved}
-use Rattle.bbm_lemmas.proofs.Tautologies.Claim.{Is}
-use Rattle.bbm_tlbi_scope.specs.declared.entry.Cover.TheVariants.{Half, Second, Full}
-use Rattle.bbm_events.specs.Heading.{Heading}
-use Rattle.bbm_rules.specs.Prelude.{Barrier, Event, Dsb}
-use Rattle.bbm_events.specs.declared.claim.Claim.{Claim}
-use Rattle.bbm_events.specs.declared.claim.Claim.TheVariants.{Place, Two, Taken}
-use Rattle.bbm_rules.specs.Claims.{same_claim}
-use Rattle.bbm_rules.specs.Claims.Trust.{Listed}
-use Rattle.bbm_rules.specs.Cleansing.{answers_one, cleansed, flushes, full_step, half_where, publishes_write}
-use Rattle.bbm_rules.specs.Cleansing.{same_cover, second_step, seen_where}
-use Rattle.bbm_rules.specs.Lists.{any}
-use Rattle.bbm_rules.specs.Notes.{Noted, event_of}
-use Rattle.bbm_rules.specs.Reach.{Issued, completes, reaches, unanswered}
-use Rattle.bbm_histories.specs.ClaimSteps.{cleansed_listed, cleansed_under, completes_claim, full_at, half_at, half_by}
-use Rattle.bbm_histories.specs.ClaimSteps.{half_by_after, second_at, seen_by, seen_by_after}
-use Rattle.bbm_histories.specs.HistorySteps.{answered_by, waits}
+use Rattle.bbm_histories.proofs.Common.{or-false, Heading, cleansed_under, answered_by, waits}
+use Rattle.bbm_rules.proofs.Common.{◌≡◌, ℕ, ◌&&◌, ◌||◌, Bool, false, ◌==◌, List, ◌∷◌, refl, sym, ◌∙◌, ap, proved, Is}
+use Rattle.bbm_rules.proofs.Common.{Half, Second, Full, Barrier, Event, Dsb, Claim, Place, Two, Taken, same_claim}
+use Rattle.bbm_rules.proofs.Common.{Listed, answers_one, cleansed, flushes, full_step, publishes_write, same_cover}
+use Rattle.bbm_rules.proofs.Common.{second_step, any, Noted, Issued, completes, reaches, unanswered}
+use Rattle.bbm_rules.specs.Cleansing.{half_where, seen_where}
+use Rattle.bbm_rules.specs.Notes.{event_of}
+use Rattle.bbm_histories.specs.ClaimSteps.{cleansed_listed, completes_claim, full_at, half_at, half_by, half_by_after}
+use Rattle.bbm_histories.specs.ClaimSteps.{second_at, seen_by, seen_by_after}
 use Rattle.bbm_histories.proofs.Searches.{Search, apart_from, each_test, search_any, search_at, search_by, search_never}
 use Rattle.bbm_histories.proofs.Searches.{search_some, search_where}
 use Rattle.bbm_histories.proofs.StepLemmas.{answered_kinds, any_and, any_or, cleansed_under_step, same_test}

@@ -1,16 +1,9 @@
 -- A write over a value of the same core: it links the same next table.
-use Rattle.std.proofs.Common.{◌≡◌, ℕ, true, false, Option, Some, None, is_some, refl, sym, ◌∙◌, ap, true≢false}
-use Rattle.std.proofs.lemmas.Bool.{not-false}
-use Rattle.bbm_regimes.specs.declared.regime.Kind.{Kind}
-use Rattle.bbm_descriptor.specs.Descriptor.{Form, core_in, core_of, desc_as, desc_of, differ, form_of, is_valid, needs}
-use Rattle.bbm_descriptor.specs.Descriptor.{same_core, valid_form}
-use Rattle.bbm_descriptor.specs.declared.desc.Core.{Core}
-use Rattle.bbm_descriptor.specs.declared.desc.Desc.{Desc}
-use Rattle.bbm_descriptor.specs.declared.desc.Desc.TheVariants.{Invalid, Table, Leaf}
-use Rattle.bbm_events.specs.Heading.{Heading}
-use Rattle.bbm_rules.specs.Claims.{Trust}
-use Rattle.bbm_rules.specs.Tree.{next_in, next_of}
-use Rattle.bbm_histories.specs.BelowHistories.{Below}
+use Rattle.bbm_histories.proofs.Common.{Heading, Below}
+use Rattle.bbm_rules.proofs.Common.{◌≡◌, ℕ, true, false, Option, Some, None, is_some, refl, sym, ◌∙◌, ap, true≢false}
+use Rattle.bbm_rules.proofs.Common.{not-false, Kind, Form, core_in, core_of, desc_as, desc_of, differ, form_of}
+use Rattle.bbm_rules.proofs.Common.{is_valid, needs, same_core, valid_form, Core, Desc, Invalid, Table, Leaf, Trust}
+use Rattle.bbm_rules.proofs.Common.{next_in, next_of}
 
 -- a table is valid
 pub table_is_valid : (kind : Kind) (level value next : ℕ) → next_of kind level value ≡ Some next → is_valid kind level value ≡ true

@@ -1,27 +1,13 @@
 -- In a fresh page a value with bit 0 set stays, so what a place holds there is its present value.
-use Rattle.std.proofs.Common.{◌≡◌, ℕ, ◌%◌, ◌&&◌, ◌||◌, not, Bool, true, false, cond, ◌==◌, List, [], ◌∷◌, ◌++◌, Some}
-use Rattle.std.proofs.Common.{refl, sym, ◌∙◌, ap, subst, true≢false}
-use Rattle.std.proofs.lemmas.Bool.{and_parts, eq-eqb, eqb-true, not-true}
-use Rattle.bbm_lemmas.proofs.Tautologies.{proved}
-use Rattle.bbm_lemmas.proofs.Tautologies.Claim.{If, Is}
-use Rattle.bbm_regimes.specs.declared.regime.Kind.{Kind}
-use Rattle.bbm_descriptor.specs.Descriptor.{is_valid}
-use Rattle.bbm_events.specs.Heading.{Heading}
-use Rattle.bbm_events.specs.declared.event.Event.{Event}
-use Rattle.bbm_events.specs.declared.event.Event.TheVariants.{Init, Null, Write}
+use Rattle.bbm_histories.proofs.Common.{Heading, Event, Init, Write, Holds, Below, NoInit, OddStays}
+use Rattle.bbm_rules.proofs.Common.{◌≡◌, ℕ, ◌%◌, ◌&&◌, ◌||◌, not, Bool, true, false, cond, ◌==◌, List, [], ◌∷◌, ◌++◌}
+use Rattle.bbm_rules.proofs.Common.{Some, refl, sym, ◌∙◌, ap, subst, true≢false, and_parts, eq-eqb, eqb-true, not-true}
+use Rattle.bbm_rules.proofs.Common.{proved, If, Is, Kind, is_valid, Trust, seen, note, noted, ValidWrite, held}
+use Rattle.bbm_rules.proofs.Common.{last_valid, Noted, events_of, is_fresh, may_be_fresh, IsLastValid, page_of, in_tree}
+use Rattle.bbm_rules.proofs.Common.{value_of}
+use Rattle.bbm_events.specs.declared.event.Event.TheVariants.{Null}
 use Rattle.bbm_rules.specs.declared.rule.Rule.TheVariants.{RewrittenFresh}
-use Rattle.bbm_rules.specs.Claims.{Trust}
-use Rattle.bbm_rules.specs.Cleansing.{seen}
-use Rattle.bbm_rules.specs.Covers.{note, noted}
-use Rattle.bbm_rules.specs.Held.{ValidWrite, held, last_valid}
-use Rattle.bbm_rules.specs.Notes.{Noted, events_of}
-use Rattle.bbm_rules.specs.Pages.{is_fresh, may_be_fresh}
-use Rattle.bbm_rules.specs.PatternSentences.{Holds, IsLastValid}
-use Rattle.bbm_rules.specs.Places.{page_of}
-use Rattle.bbm_rules.specs.Tree.{in_tree}
-use Rattle.bbm_rules.specs.Values.{value_of}
-use Rattle.bbm_histories.specs.BelowHistories.{Below}
-use Rattle.bbm_histories.specs.ValueChanges.{FreshContent, NoInit, OddStays}
+use Rattle.bbm_histories.specs.ValueChanges.{FreshContent}
 use Rattle.bbm_histories.proofs.Induction.{At, Unbroken, event_at, events_append, if_none}
 use Rattle.bbm_histories.proofs.PatternLemmas.{unseen}
 

@@ -1,15 +1,8 @@
 -- Which pages are fresh after an event that breaks no rule.
-use Rattle.std.proofs.Common.{◌≡◌, ℕ, ◌&&◌, not, ◌⊎◌, Bool, true, false, List, ◌∷◌, Option, Some, None, is_some, refl}
-use Rattle.std.proofs.Common.{sym, ◌∙◌, ap, subst, inl, inr, true≢false}
-use Rattle.bbm_events.specs.Heading.{Heading}
-use Rattle.bbm_rules.specs.Prelude.{Event}
-use Rattle.bbm_rules.specs.Claims.{Trust}
-use Rattle.bbm_rules.specs.Covers.{note}
-use Rattle.bbm_rules.specs.Notes.{Noted}
-use Rattle.bbm_rules.specs.Pages.{is_fresh, may_be_fresh}
-use Rattle.bbm_rules.specs.Tree.{Node, in_tree, node_of}
-use Rattle.bbm_histories.specs.BelowHistories.{Below}
-use Rattle.bbm_histories.specs.TreeChanges.{Attaches, InTree, Proper}
+use Rattle.bbm_histories.proofs.Common.{Heading, Below, Attaches, InTree, Proper}
+use Rattle.bbm_rules.proofs.Common.{◌≡◌, ℕ, ◌&&◌, not, ◌⊎◌, Bool, true, false, List, ◌∷◌, Option, Some, None, is_some}
+use Rattle.bbm_rules.proofs.Common.{refl, sym, ◌∙◌, ap, subst, inl, inr, true≢false, Event, Trust, note, Noted}
+use Rattle.bbm_rules.proofs.Common.{is_fresh, may_be_fresh, Node, in_tree, node_of}
 use Rattle.bbm_histories.proofs.FreshLemmas.{fresh_is_outside, was_fresh}
 use Rattle.bbm_histories.proofs.HeldSteps.{init_outside}
 use Rattle.bbm_histories.proofs.Induction.{Unbroken}

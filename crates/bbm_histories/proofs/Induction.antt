@@ -1,15 +1,8 @@
 -- The induction over a history that keeps the rules.
-use Rattle.std.proofs.Common.{◌≡◌, ℕ, Bool, true, false, List, [], ◌∷◌, ◌++◌, None, is_none, refl, ◌∙◌, ap}
-use Rattle.std.proofs.lemmas.Bool.{and_parts}
-use Rattle.bbm_events.specs.Heading.{Heading}
-use Rattle.bbm_events.specs.declared.event.Event.{Event}
-use Rattle.bbm_rules.specs.declared.rule.Rule.{Rule}
-use Rattle.bbm_rules.specs.Broken.{breaks, broken, keeps}
-use Rattle.bbm_rules.specs.Claims.{Trust}
-use Rattle.bbm_rules.specs.Covers.{note, noted}
-use Rattle.bbm_rules.specs.Lists.{if_so}
-use Rattle.bbm_rules.specs.Notes.{Noted, events_of}
-use Rattle.bbm_histories.specs.BelowHistories.{Below}
+use Rattle.bbm_histories.proofs.Common.{Heading, Event, Rule, Below}
+use Rattle.bbm_rules.proofs.Common.{◌≡◌, ℕ, Bool, true, false, List, [], ◌∷◌, ◌++◌, None, is_none, refl, ◌∙◌, ap}
+use Rattle.bbm_rules.proofs.Common.{and_parts, breaks, keeps, Trust, note, noted, if_so, Noted, events_of}
+use Rattle.bbm_rules.specs.Broken.{broken}
 
 pub if_none : (b : Bool) (n : ℕ) → if_so b n ≡ None → b ≡ false
 if_none true n e = cc

@@ -1,16 +1,7 @@
 -- What holds throughout a history that keeps the rules.
-use Rattle.std.proofs.Common.{◌≡◌, true, List, [], sym, true≢false, arith}
-use Rattle.bbm_events.specs.Heading.{Heading}
-use Rattle.bbm_events.specs.declared.event.Event.{Event}
-use Rattle.bbm_rules.specs.Broken.{keeps}
-use Rattle.bbm_rules.specs.Claims.{Trust}
-use Rattle.bbm_rules.specs.Covers.{noted}
-use Rattle.bbm_rules.specs.Notes.{Noted}
-use Rattle.bbm_rules.specs.Tree.{Node}
-use Rattle.bbm_rules.specs.TreeSentences.{IsNode}
-use Rattle.bbm_histories.specs.BelowHistories.{Below}
-use Rattle.bbm_histories.specs.TreeChanges.{InTree}
-use Rattle.bbm_histories.specs.ValueChanges.{OddStays}
+use Rattle.bbm_histories.proofs.Common.{Heading, Event, Below, InTree, OddStays}
+use Rattle.bbm_rules.proofs.Common.{◌≡◌, true, List, [], sym, true≢false, arith, keeps, Trust, noted, Noted, Node}
+use Rattle.bbm_rules.proofs.Common.{IsNode}
 use Rattle.bbm_histories.proofs.FreshLemmas.{odd_step}
 use Rattle.bbm_histories.proofs.Induction.{throughout}
 use Rattle.bbm_histories.proofs.TreeSteps.{OneNode, one_step}

@@ -1,26 +1,11 @@
 -- No place of a tree of the lower range holds a leaf for every ASID.
-use Rattle.std.proofs.Common.{◌≡◌, ℕ, suc, ◌+◌, ◌<◌, true, false, List, [], ◌∷◌, length, Some, refl, sym, ◌∙◌, ap}
-use Rattle.std.proofs.Common.{subst, inl, inr, arith, suc-le-suc, zero-le}
-use Rattle.bbm_regimes.specs.declared.regime.Kind.{Kind}
-use Rattle.bbm_regimes.specs.declared.regime.Kind.TheVariants.{Ttbr0}
-use Rattle.bbm_descriptor.specs.Descriptor.{desc_of}
-use Rattle.bbm_events.specs.Heading.{Heading}
-use Rattle.bbm_events.specs.declared.event.Event.{Event}
-use Rattle.bbm_events.specs.declared.event.Event.TheVariants.{Root, Write}
+use Rattle.bbm_histories.proofs.Common.{Ttbr0, Heading, Event, Root, Write, Leads, Below, Attaches, InTree}
+use Rattle.bbm_rules.proofs.Common.{◌≡◌, ℕ, suc, ◌+◌, ◌<◌, true, false, List, [], ◌∷◌, length, Some, refl, sym, ◌∙◌, ap}
+use Rattle.bbm_rules.proofs.Common.{subst, inl, inr, arith, suc-le-suc, zero-le, Kind, desc_of, attached_by}
+use Rattle.bbm_rules.proofs.Common.{attached_from, end_at, keeps, Trust, is_global, note, noted, Noted, events_of}
+use Rattle.bbm_rules.proofs.Common.{is_fresh, page_of, root_pages, start_of, Node, node_below, IsNode, value_of}
 use Rattle.bbm_rules.specs.declared.rule.Rule.TheVariants.{GlobalUser}
-use Rattle.bbm_rules.specs.Attach.{attached_by, attached_from, end_at}
-use Rattle.bbm_rules.specs.Broken.{keeps}
-use Rattle.bbm_rules.specs.Claims.{Trust}
-use Rattle.bbm_rules.specs.Covers.{is_global, note, noted}
-use Rattle.bbm_rules.specs.Notes.{Noted, events_of}
-use Rattle.bbm_rules.specs.Pages.{is_fresh}
-use Rattle.bbm_rules.specs.Places.{page_of}
-use Rattle.bbm_rules.specs.Roots.{root_pages, start_of}
-use Rattle.bbm_rules.specs.Tree.{Node, node_below}
-use Rattle.bbm_rules.specs.TreeSentences.{IsNode, Leads}
-use Rattle.bbm_rules.specs.Values.{value_of}
-use Rattle.bbm_histories.specs.BelowHistories.{Below}
-use Rattle.bbm_histories.specs.TreeChanges.{Attaches, InTree, NoGlobalLeaf}
+use Rattle.bbm_histories.specs.TreeChanges.{NoGlobalLeaf}
 use Rattle.bbm_histories.proofs.FreshLemmas.{content, held_is_present}
 use Rattle.bbm_histories.proofs.HeldSteps.{held_back}
 use Rattle.bbm_histories.proofs.Induction.{Unbroken, throughout}

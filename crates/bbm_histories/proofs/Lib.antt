@@ -1,3 +1,4 @@
+mod Common
 pub mod FreshLemmas
 pub mod Induction
 pub mod Invariants

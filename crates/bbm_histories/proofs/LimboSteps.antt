@@ -1,13 +1,6 @@
 -- Whether a node is in limbo after an event.
-use Rattle.std.proofs.Common.{◌≡◌, not, Bool, true, false, cond, ◌==◌, List, ◌∷◌, refl}
-use Rattle.bbm_regimes.specs.declared.regime.Kind.{Kind}
-use Rattle.bbm_descriptor.specs.Descriptor.{is_valid}
-use Rattle.bbm_rules.specs.Prelude.{Event, Init, Write}
-use Rattle.bbm_rules.specs.Lists.{any}
-use Rattle.bbm_rules.specs.Notes.{Noted, events_of}
-use Rattle.bbm_rules.specs.Places.{page_of}
-use Rattle.bbm_rules.specs.Tree.{Above, Node, in_limbo}
-use Rattle.bbm_rules.specs.Values.{value_of}
+use Rattle.bbm_rules.proofs.Common.{◌≡◌, not, Bool, true, false, cond, ◌==◌, List, ◌∷◌, refl, Kind, is_valid, Event}
+use Rattle.bbm_rules.proofs.Common.{Init, Write, any, Noted, events_of, page_of, Above, Node, in_limbo, value_of}
 use Rattle.bbm_histories.specs.TreeSteps.{invalid_after, invalid_at}
 use Rattle.bbm_histories.proofs.StepLemmas.{same_test}
 

@@ -1,20 +1,10 @@
 -- Between two writes under one lock by different PEs the lock changes hands.
-use Rattle.std.proofs.Common.{◌≡◌, ◌≢◌, ℕ, Bool, true, false, cond, not, ◌⊎◌, ◌&&◌, ◌==◌, List, [], ◌∷◌, ◌++◌, Option}
-use Rattle.std.proofs.Common.{Some, None, refl, sym, ◌∙◌, ap, subst, inl, inr, true≢false}
-use Rattle.std.proofs.lemmas.Bool.{and_parts, eqb-true}
-use Rattle.bbm_events.specs.Heading.{Heading}
-use Rattle.bbm_rules.specs.Prelude.{Event, Lock, Unlock, Write}
+use Rattle.bbm_histories.proofs.Common.{Heading, Below}
+use Rattle.bbm_rules.proofs.Common.{◌≡◌, ◌≢◌, ℕ, Bool, true, false, cond, not, ◌⊎◌, ◌&&◌, ◌==◌, List, [], ◌∷◌, ◌++◌}
+use Rattle.bbm_rules.proofs.Common.{Option, Some, None, refl, sym, ◌∙◌, ap, subst, inl, inr, true≢false, and_parts}
+use Rattle.bbm_rules.proofs.Common.{eqb-true, Event, Lock, Unlock, Write, keeps, Trust, noted, ◌>>=◌, if_so, is_that}
+use Rattle.bbm_rules.proofs.Common.{holder_of, page_of, lock_of, lacks, Node, node_of}
 use Rattle.bbm_rules.specs.declared.rule.Rule.TheVariants.{NoLock, LockBusy}
-use Rattle.bbm_rules.specs.Broken.{keeps}
-use Rattle.bbm_rules.specs.Claims.{Trust}
-use Rattle.bbm_rules.specs.Covers.{noted}
-use Rattle.bbm_rules.specs.Lists.{◌>>=◌, if_so, is_that}
-use Rattle.bbm_rules.specs.Locks.{holder_of}
-use Rattle.bbm_rules.specs.Places.{page_of}
-use Rattle.bbm_rules.specs.Roots.{lock_of}
-use Rattle.bbm_rules.specs.Rules.{lacks}
-use Rattle.bbm_rules.specs.Tree.{Node, node_of}
-use Rattle.bbm_histories.specs.BelowHistories.{Below}
 use Rattle.bbm_histories.specs.LockChanges.{HandsOver, lock_at}
 use Rattle.bbm_histories.proofs.Induction.{Unbroken, if_none, kept_before, last_kept}
 

@@ -1,27 +1,17 @@
 -- The node of a page after an event.
-use Rattle.std.proofs.Common.{◌≡◌, ℕ, suc, ◌⊎◌, not, Bool, true, false, cond, ◌==◌, List, [], ◌∷◌, Option, Some, None}
-use Rattle.std.proofs.Common.{is_some, Contains, refl, sym, ◌∙◌, ap, subst, inl, inr, true≢false}
-use Rattle.std.proofs.lemmas.Bool.{and_from, eq-eqb, eqb-true, not-true, not_from_false}
+use Rattle.bbm_histories.proofs.Common.{Heading, Below, Attaches, InTree, InTreeAfter, Proper, StillHeld}
+use Rattle.bbm_rules.proofs.Common.{◌≡◌, ℕ, suc, ◌⊎◌, not, Bool, true, false, cond, ◌==◌, List, [], ◌∷◌, Option, Some}
+use Rattle.bbm_rules.proofs.Common.{None, is_some, Contains, refl, sym, ◌∙◌, ap, subst, inl, inr, true≢false, and_from}
+use Rattle.bbm_rules.proofs.Common.{eq-eqb, eqb-true, not-true, not_from_false, AllPass-from_list_all, Event, Root}
+use Rattle.bbm_rules.proofs.Common.{Unroot, Write, Dsb, attached_by, attached_from, Trust, note, held, every, Noted}
+use Rattle.bbm_rules.proofs.Common.{Above, Node, node_of, contains_head, contains_more}
 use Rattle.std.proofs.lemmas.List.Elements.{All-contains}
-use Rattle.std.proofs.lemmas.List.Sums.{AllPass-from_list_all}
-use Rattle.bbm_events.specs.Heading.{Heading}
-use Rattle.bbm_rules.specs.Prelude.{Event, Root, Unroot, Write, Dsb}
-use Rattle.bbm_rules.specs.Attach.{attached_by, attached_from}
-use Rattle.bbm_rules.specs.Claims.{Trust}
-use Rattle.bbm_rules.specs.Covers.{note}
-use Rattle.bbm_rules.specs.Held.{held}
-use Rattle.bbm_rules.specs.Lists.{every}
-use Rattle.bbm_rules.specs.Notes.{Noted}
-use Rattle.bbm_rules.specs.Tree.{Above, Node, node_of}
-use Rattle.bbm_histories.specs.BelowHistories.{Below}
-use Rattle.bbm_histories.specs.TreeChanges.{Attaches, InTree, InTreeAfter, Proper, StillHeld}
 use Rattle.bbm_histories.specs.TreeSteps.{holds_above, is_under, node_where}
 use Rattle.bbm_histories.proofs.HeldSteps.{IsDsb}
 use Rattle.bbm_histories.proofs.Induction.{Unbroken}
 use Rattle.bbm_histories.proofs.Invariants.{Invariants}
 use Rattle.bbm_histories.proofs.TreeAfter.{dsb_step, step, still_there}
 use Rattle.bbm_histories.proofs.TreeSteps.{OneNode, added, node_is, one_step}
-use Rattle.bbm_lemmas.proofs.Elements.{contains_head, contains_more}
 
 -- ---- what is so of each element
 

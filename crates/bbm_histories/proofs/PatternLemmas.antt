@@ -1,23 +1,10 @@
 -- Later events keep a pattern.
-use Rattle.std.proofs.Common.{◌≡◌, ℕ, ◌⊎◌, Bool, true, false, List, [], ◌∷◌, ◌++◌, Some, refl, sym, ◌∙◌, ap, subst, inl}
-use Rattle.std.proofs.Common.{inr}
-use Rattle.std.proofs.lemmas.List.{append_assoc}
-use Rattle.bbm_regimes.specs.declared.regime.Kind.{Kind}
-use Rattle.bbm_descriptor.specs.Descriptor.{is_valid}
-use Rattle.bbm_events.specs.Heading.{Heading}
-use Rattle.bbm_events.specs.declared.event.Event.TheVariants.{Write}
-use Rattle.bbm_tlbi_scope.specs.declared.entry.Cover.{Cover}
-use Rattle.bbm_tlbi_scope.specs.declared.entry.Cover.TheVariants.{Half, Second, Full}
-use Rattle.bbm_rules.specs.Claims.{Trust}
-use Rattle.bbm_rules.specs.Cleansing.{seen}
-use Rattle.bbm_rules.specs.Held.{ValidWrite, last_valid}
+use Rattle.bbm_histories.proofs.Common.{append_assoc, Heading, Write, Below, Quiet}
+use Rattle.bbm_rules.proofs.Common.{◌≡◌, ℕ, ◌⊎◌, Bool, true, false, List, [], ◌∷◌, ◌++◌, Some, refl, sym, ◌∙◌, ap}
+use Rattle.bbm_rules.proofs.Common.{subst, inl, inr, Kind, is_valid, Cover, Half, Second, Full, Trust, seen, ValidWrite}
+use Rattle.bbm_rules.proofs.Common.{last_valid, Noted, Answer, Cleansed, Flush, HalfBy, IsLastValid, OneStep}
+use Rattle.bbm_rules.proofs.Common.{Publication, TwoSteps, Issued}
 use Rattle.bbm_rules.specs.HeldLaws.{LastValidBySentence}
-use Rattle.bbm_rules.specs.Notes.{Noted}
-use Rattle.bbm_rules.specs.PatternSentences.{Answer, Cleansed, Flush, HalfBy, IsLastValid, OneStep, Publication}
-use Rattle.bbm_rules.specs.PatternSentences.{TwoSteps}
-use Rattle.bbm_rules.specs.Reach.{Issued}
-use Rattle.bbm_histories.specs.BelowHistories.{Below}
-use Rattle.bbm_histories.specs.PatternSteps.{Quiet}
 
 -- an event of the older part is one of the whole
 pub later_split : {A : Type 0} (newer xs before after : List A) (x : A) → xs ≡ before ++ x ∷ after

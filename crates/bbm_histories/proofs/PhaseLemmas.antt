@@ -1,18 +1,12 @@
 -- The phase of a place by its node, what it holds, its value, and what is cleansed, half and seen.
-use Rattle.std.proofs.Common.{◌≡◌, ℕ, Bool, true, false, cond, List, Option, Some, None, option_and_then, unwrap_or}
-use Rattle.std.proofs.Common.{refl, sym, ◌∙◌, ap}
-use Rattle.bbm_descriptor.specs.Descriptor.{is_valid}
-use Rattle.bbm_events.specs.Heading.{Heading}
-use Rattle.bbm_rules.specs.Prelude.{Event}
+use Rattle.bbm_histories.proofs.Common.{Heading}
+use Rattle.bbm_rules.proofs.Common.{◌≡◌, ℕ, Bool, true, false, cond, List, Option, Some, None, option_and_then}
+use Rattle.bbm_rules.proofs.Common.{unwrap_or, refl, sym, ◌∙◌, ap, is_valid, Event, Trust, noted, ValidWrite}
+use Rattle.bbm_rules.proofs.Common.{cleansed_everywhere, last_valid, broken_phase, page_of, Node, held_at, node_of}
+use Rattle.bbm_rules.proofs.Common.{value_of}
 use Rattle.bbm_rules.specs.declared.phase.Phase.{Phase}
 use Rattle.bbm_rules.specs.declared.phase.Phase.TheVariants.{Clean, Live}
-use Rattle.bbm_rules.specs.Claims.{Trust}
-use Rattle.bbm_rules.specs.Covers.{noted}
-use Rattle.bbm_rules.specs.Held.{ValidWrite, cleansed_everywhere, last_valid}
-use Rattle.bbm_rules.specs.Phases.{broken_phase, phase_of}
-use Rattle.bbm_rules.specs.Places.{page_of}
-use Rattle.bbm_rules.specs.Tree.{Node, held_at, node_of}
-use Rattle.bbm_rules.specs.Values.{value_of}
+use Rattle.bbm_rules.specs.Phases.{phase_of}
 
 module _ (heading : Heading) (trust : Trust) (h : List Event) (place p : ℕ) where
   -- by the last valid write

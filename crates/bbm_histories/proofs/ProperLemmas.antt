@@ -1,14 +1,12 @@
 -- A heading that a header can say has a PE, pages for each root, and walks that start at a level below 4.
-use Rattle.std.proofs.Common.{◌≡◌, ℕ, ◌<◌, ◌≤◌, ◌&&◌, ◌||◌, not, Bool, true, false, cond, ◌==◌, nat_le, nat_lt, inl}
-use Rattle.std.proofs.Common.{inr, arith}
-use Rattle.std.proofs.lemmas.Bool.{and_parts, eqb-true, leb-true, or_cases}
-use Rattle.bbm_regimes.specs.declared.regime.Kind.{Kind}
-use Rattle.bbm_regimes.specs.declared.regime.Kind.TheVariants.{El2, S2, Ttbr0, Ttbr1}
+use Rattle.bbm_histories.proofs.Common.{Ttbr0, Heading, Proper}
+use Rattle.bbm_rules.proofs.Common.{◌≡◌, ℕ, ◌<◌, ◌≤◌, ◌&&◌, ◌||◌, not, Bool, true, false, cond, ◌==◌, nat_le, nat_lt}
+use Rattle.bbm_rules.proofs.Common.{inl, inr, arith, and_parts, eqb-true, leb-true, or_cases, Kind, are_s2_pages}
+use Rattle.bbm_rules.proofs.Common.{page_count, world_ok, are_pes, heading_ok, is_version, may_share}
+use Rattle.bbm_regimes.specs.declared.regime.Kind.TheVariants.{El2, S2, Ttbr1}
 use Rattle.bbm_regimes.specs.declared.regime.World.{World}
 use Rattle.bbm_regimes.specs.declared.regime.World.TheVariants.{Hyp, Kernel}
-use Rattle.bbm_regimes.specs.World.{are_s2_pages, page_count, start_of, world_ok}
-use Rattle.bbm_events.specs.Heading.{Heading, are_pes, heading_ok, is_version, may_share}
-use Rattle.bbm_histories.specs.TreeChanges.{Proper}
+use Rattle.bbm_regimes.specs.World.{start_of}
 
 some_joined : (start pages : ℕ) → are_s2_pages start pages ≡ true → 0 < pages
 some_joined start pages e = by (start == 0) e

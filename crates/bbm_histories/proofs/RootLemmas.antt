@@ -1,8 +1,7 @@
 -- The declared roots before and after one event.
-use Rattle.std.proofs.Common.{◌≡◌, ℕ, ◌⊎◌, List, [], ◌∷◌, ◌++◌, Option, refl, sym, ◌∙◌, ap, inl, inr}
-use Rattle.bbm_rules.specs.Prelude.{Kind, Event, Root, Unroot}
-use Rattle.bbm_rules.specs.Roots.{Declared}
-use Rattle.bbm_rules.specs.Sentences.{IsDeclared}
+use Rattle.bbm_histories.proofs.Common.{Kind}
+use Rattle.bbm_rules.proofs.Common.{◌≡◌, ℕ, ◌⊎◌, List, [], ◌∷◌, ◌++◌, Option, refl, sym, ◌∙◌, ap, inl, inr, Event, Root}
+use Rattle.bbm_rules.proofs.Common.{Unroot, Declared, IsDeclared}
 
 -- a root is an old one, or the event declares it
 pub declared_back : (e : Event) (h : List Event) (r : Declared) → IsDeclared (e ∷ h) r

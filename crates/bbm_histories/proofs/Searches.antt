@@ -1,8 +1,7 @@
 -- Searches: a search for what passes any of several tests is a search for each of them.
-use Rattle.std.proofs.Common.{◌≡◌, ◌&&◌, ◌||◌, Bool, true, false, List, [], ◌∷◌, refl, ◌∙◌, ap}
-use Rattle.bbm_rules.specs.Lists.{any, some}
+use Rattle.bbm_rules.proofs.Common.{◌≡◌, ◌&&◌, ◌||◌, Bool, true, false, List, [], ◌∷◌, refl, ◌∙◌, ap, any, some}
+use Rattle.bbm_rules.proofs.Common.{or_middle}
 use Rattle.bbm_histories.proofs.StepLemmas.{any_never, any_or, same_test}
-use Rattle.bbm_lemmas.proofs.Bools.{or_middle}
 
 -- A search asks whether something passes a test.
 pub record Search (T : Type 0) (find : (T → Bool) → Bool) : Type 0 where

@@ -1,36 +1,21 @@
 -- The step equations of the definitions that search.
-use Rattle.std.proofs.Common.{◌≡◌, ℕ, ◌<◌, ◌≤◌, ◌&&◌, ◌||◌, not, Bool, true, false, cond, ◌==◌, nat_le, List, [], ◌∷◌}
-use Rattle.std.proofs.Common.{length, Option, Some, None, filter, option_and_then, refl, sym, ◌∙◌, ap, subst}
-use Rattle.std.proofs.Common.{true≢false, arith}
-use Rattle.std.proofs.Math.Bool.{and-false, and-true, or-false}
-use Rattle.std.proofs.lemmas.Bool.{eq-eqb, le-leb, leb-true}
-use Rattle.bbm_lemmas.proofs.Tautologies.{proved}
-use Rattle.bbm_lemmas.proofs.Tautologies.Claim.{Is}
-use Rattle.bbm_barriers.specs.Options.{answers}
-use Rattle.bbm_regimes.specs.declared.regime.Kind.{Kind}
+use Rattle.bbm_histories.proofs.Common.{and-false, and-true, or-false, Heading, Below, cleansed_under, answered_by}
+use Rattle.bbm_histories.proofs.Common.{held_after, seen_after, waits}
+use Rattle.bbm_rules.proofs.Common.{◌≡◌, ℕ, ◌<◌, ◌≤◌, ◌&&◌, ◌||◌, not, Bool, true, false, cond, ◌==◌, nat_le, List, []}
+use Rattle.bbm_rules.proofs.Common.{◌∷◌, length, Option, Some, None, filter, option_and_then, refl, sym, ◌∙◌, ap, subst}
+use Rattle.bbm_rules.proofs.Common.{true≢false, arith, eq-eqb, le-leb, leb-true, proved, Is, answers, Kind, is_valid}
+use Rattle.bbm_rules.proofs.Common.{same_bool, operation, Half, Barrier, Event, Init, Write, Dsb, Tlbi, Trust, Patterns}
+use Rattle.bbm_rules.proofs.Common.{answered_where, answers_one, cleansed, flushes, full_step, half, publishes_write}
+use Rattle.bbm_rules.proofs.Common.{second_step, seen, ValidWrite, cleansed_everywhere, held, last_valid}
+use Rattle.bbm_rules.proofs.Common.{last_valid_after, later, any, Noted, events_of, page_of, Issued, completes}
+use Rattle.bbm_rules.proofs.Common.{left_open, reaches, unanswered, itself, loses, read_since, reads_for_some}
+use Rattle.bbm_rules.proofs.Common.{takes_tag, publishes_to, value_of, or_middle}
 use Rattle.bbm_regimes.specs.declared.regime.Tag.{Tag}
-use Rattle.bbm_descriptor.specs.Descriptor.{is_valid, same_bool}
-use Rattle.bbm_tlbi_scope.specs.Operations.{operation}
-use Rattle.bbm_tlbi_scope.specs.declared.entry.Cover.TheVariants.{Half}
-use Rattle.bbm_events.specs.Heading.{Heading}
-use Rattle.bbm_rules.specs.Prelude.{Barrier, Event, Init, Write, Dsb, Tlbi}
-use Rattle.bbm_rules.specs.Claims.{Trust}
-use Rattle.bbm_rules.specs.Claims.Trust.{Patterns}
-use Rattle.bbm_rules.specs.Cleansing.{answered_where, answers_one, cleansed, flushes, full_step, half, publishes_write}
-use Rattle.bbm_rules.specs.Cleansing.{second_step, seen}
-use Rattle.bbm_rules.specs.Held.{ValidWrite, cleansed_everywhere, held, last_valid, last_valid_after, later}
-use Rattle.bbm_rules.specs.Lists.{any}
-use Rattle.bbm_rules.specs.Notes.{Noted, event_of, events_of}
-use Rattle.bbm_rules.specs.Places.{page_of}
-use Rattle.bbm_rules.specs.Reach.{Issued, completes, left_open, reaches, still_open, unanswered}
-use Rattle.bbm_rules.specs.Tags.{itself, loses, read_since, reads_for_some, takes_tag}
-use Rattle.bbm_rules.specs.Values.{publishes_to, value_of}
-use Rattle.bbm_histories.specs.BelowHistories.{Below}
-use Rattle.bbm_histories.specs.ClaimSteps.{cleansed_under}
-use Rattle.bbm_histories.specs.HistorySteps.{answered_by, cleansed_after, half_after, held_after, is_tlbi, seen_after}
-use Rattle.bbm_histories.specs.HistorySteps.{tag_waits, tag_waits_after, takes, waits, waits_after, wrote}
+use Rattle.bbm_rules.specs.Notes.{event_of}
+use Rattle.bbm_rules.specs.Reach.{still_open}
+use Rattle.bbm_histories.specs.HistorySteps.{cleansed_after, half_after, is_tlbi, tag_waits, tag_waits_after, takes}
+use Rattle.bbm_histories.specs.HistorySteps.{waits_after, wrote}
 use Rattle.bbm_histories.proofs.HeldSteps.{held_same}
-use Rattle.bbm_lemmas.proofs.Bools.{or_middle}
 
 -- ---- tests
 

@@ -1,19 +1,10 @@
 -- The tags that a DSB takes away, claim by claim.
-use Rattle.std.proofs.Common.{◌≡◌, ℕ, suc, length, ◌&&◌, not, Bool, ◌==◌, List, ◌∷◌, refl, sym, ◌∙◌, ap}
+use Rattle.bbm_histories.proofs.Common.{Heading, answered_by}
+use Rattle.bbm_rules.proofs.Common.{◌≡◌, ℕ, suc, length, ◌&&◌, not, Bool, ◌==◌, List, ◌∷◌, refl, sym, ◌∙◌, ap, proved}
+use Rattle.bbm_rules.proofs.Common.{Is, Barrier, Tag, Event, Dsb, Tlbi, Claim, Place, Two, Taken, same_claim, same_tag}
+use Rattle.bbm_rules.proofs.Common.{Listed, any, Issued, unanswered, itself, loses, reads_for_some}
 use Rattle.std.proofs.Math.Bool.{and_assoc}
-use Rattle.bbm_lemmas.proofs.Tautologies.{proved}
-use Rattle.bbm_lemmas.proofs.Tautologies.Claim.{Is}
-use Rattle.bbm_events.specs.Heading.{Heading}
-use Rattle.bbm_rules.specs.Prelude.{Barrier, Tag, Event, Dsb, Tlbi}
-use Rattle.bbm_events.specs.declared.claim.Claim.{Claim}
-use Rattle.bbm_events.specs.declared.claim.Claim.TheVariants.{Place, Two, Taken}
-use Rattle.bbm_rules.specs.Claims.{same_claim, same_tag}
-use Rattle.bbm_rules.specs.Claims.Trust.{Listed}
-use Rattle.bbm_rules.specs.Lists.{any}
-use Rattle.bbm_rules.specs.Reach.{Issued, unanswered}
-use Rattle.bbm_rules.specs.Tags.{itself, loses, reads_for_some}
 use Rattle.bbm_histories.specs.ClaimSteps.{completes_taken, tag_waits_at, tag_waits_at_after}
-use Rattle.bbm_histories.specs.HistorySteps.{answered_by}
 use Rattle.bbm_histories.proofs.Searches.{Search, apart_from, each_test, search_any, search_at, search_where}
 use Rattle.bbm_histories.proofs.StepLemmas.{any_both, is_taken, lost_of, same_test, waits_of_after, waits_of_step}
 

@@ -1,31 +1,18 @@
 -- When tags are readable, and which root holds them.
-use Rattle.std.proofs.Common.{◌≡◌, ℕ, ◌<◌, ◌⊎◌, ◌&&◌, ◌||◌, not, Bool, true, false, cond, ◌==◌, List, []}
-use Rattle.std.proofs.Common.{◌∷◌, ◌++◌, Option, Some, None, option_and_then, take, Contains, refl, sym, ◌∙◌, ap, subst}
-use Rattle.std.proofs.Common.{inl, inr, true≢false}
-use Rattle.std.proofs.lemmas.List.{append_assoc}
-use Rattle.std.proofs.lemmas.Bool.{and_parts, eq-eqb, eqb-true, not-false, or_cases, or_left, or_right}
-use Rattle.bbm_lemmas.proofs.Words.{pe_finds, pe_found}
-use Rattle.bbm_events.specs.Heading.{Heading}
-use Rattle.bbm_rules.specs.Prelude.{AsidFrom, FromTtbr0, FromTtbr1, Kind, Reg, Ttbr0El2, VttbrEl2, Ttbr0El1, Ttbr1El1}
-use Rattle.bbm_rules.specs.Prelude.{Tag, El2Tag, Vmid, Asid, Ttbr1Tag, World, Hyp, Kernel, Event, Init, Null, Root}
-use Rattle.bbm_rules.specs.Prelude.{Unroot, Dsb, Isb, Msr}
-use Rattle.bbm_rules.specs.declared.rule.Rule.TheVariants.{NoRoot, PageInUse, RootInUse, TagConflict, WrongWorld}
-use Rattle.bbm_rules.specs.Broken.{keeps}
-use Rattle.bbm_rules.specs.Claims.{Trust}
-use Rattle.bbm_rules.specs.Covers.{note, noted}
-use Rattle.bbm_rules.specs.Lists.{among, if_so}
-use Rattle.bbm_rules.specs.Notes.{Noted, events_of}
-use Rattle.bbm_rules.specs.Pages.{is_fresh, is_null, may_be_fresh}
-use Rattle.bbm_rules.specs.Reach.{Issued}
-use Rattle.bbm_rules.specs.RegisterValues.{base_of, kind_of_reg, register_values, same_reg}
-use Rattle.bbm_rules.specs.Roots.{Declared, is_root, kind_in_world, roots_of}
-use Rattle.bbm_rules.specs.Sentences.{IsDeclared, TakenAway}
-use Rattle.bbm_rules.specs.TagSentences.{GivesAsid, Names, ReadsTag}
-use Rattle.bbm_rules.specs.Tags.{holds_at, holds_tag, loses, reads}
-use Rattle.bbm_rules.specs.Tree.{in_tree}
-use Rattle.bbm_histories.specs.BelowHistories.{Below}
+use Rattle.bbm_histories.proofs.Common.{append_assoc, Heading, Kind, PageInUse, WrongWorld, Below, Proper}
+use Rattle.bbm_rules.proofs.Common.{◌≡◌, ℕ, ◌<◌, ◌⊎◌, ◌&&◌, ◌||◌, not, Bool, true, false, cond, ◌==◌, List, [], ◌∷◌}
+use Rattle.bbm_rules.proofs.Common.{◌++◌, Option, Some, None, option_and_then, take, Contains, refl, sym, ◌∙◌, ap}
+use Rattle.bbm_rules.proofs.Common.{subst, inl, inr, true≢false, and_parts, eq-eqb, eqb-true, not-false, or_cases}
+use Rattle.bbm_rules.proofs.Common.{or_left, or_right, pe_finds, AsidFrom, FromTtbr0, FromTtbr1, Reg, Ttbr0El2}
+use Rattle.bbm_rules.proofs.Common.{VttbrEl2, Ttbr0El1, Ttbr1El1, Tag, El2Tag, Vmid, Asid, Ttbr1Tag, World, Hyp, Kernel}
+use Rattle.bbm_rules.proofs.Common.{Event, Init, Null, Root, Unroot, Dsb, Isb, Msr, keeps, Trust, note, noted, among}
+use Rattle.bbm_rules.proofs.Common.{if_so, Noted, events_of, is_fresh, is_null, may_be_fresh, Issued, base_of}
+use Rattle.bbm_rules.proofs.Common.{kind_of_reg, register_values, same_reg, Declared, is_root, kind_in_world, roots_of}
+use Rattle.bbm_rules.proofs.Common.{IsDeclared, TakenAway, ReadsTag, holds_at, holds_tag, loses, reads, in_tree}
+use Rattle.bbm_lemmas.proofs.Words.{pe_found}
+use Rattle.bbm_rules.specs.declared.rule.Rule.TheVariants.{NoRoot, RootInUse, TagConflict}
+use Rattle.bbm_rules.specs.TagSentences.{GivesAsid, Names}
 use Rattle.bbm_histories.specs.TagSteps.{BecomesReadable, HeldBetween, StopsToBeReadable, kind_of_tag}
-use Rattle.bbm_histories.specs.TreeChanges.{Proper}
 use Rattle.bbm_histories.proofs.HeldSteps.{init_outside}
 use Rattle.bbm_histories.proofs.Induction.{Unbroken, if_none, last_kept, throughout}
 use Rattle.bbm_histories.proofs.PatternLemmas.{later_split}

@@ -1,27 +1,13 @@
 -- The trees after an event, exactly.
-use Rattle.std.proofs.Common.{◌≡◌, ℕ, ◌<◌, ◌⊎◌, not, Bool, true, false, cond, ◌==◌, List, [], ◌∷◌}
-use Rattle.std.proofs.Common.{Option, Some, None, is_some, Contains, refl, sym, ◌∙◌, ap, subst, inl}
-use Rattle.std.proofs.Common.{inr, arith, true≢false, not-suc-le-zero, suc-le-suc, zero-le}
-use Rattle.std.proofs.lemmas.Bool.{eq-eqb, eqb-true, not-false}
-use Rattle.bbm_regimes.specs.declared.regime.Kind.{Kind}
-use Rattle.bbm_descriptor.specs.Descriptor.{is_valid}
-use Rattle.bbm_events.specs.Heading.{Heading}
-use Rattle.bbm_events.specs.declared.event.Event.{Event}
-use Rattle.bbm_events.specs.declared.event.Event.TheVariants.{Root, Unroot, Write, Dsb}
-use Rattle.bbm_rules.specs.declared.rule.Rule.TheVariants.{PageInUse, WrongWorld}
-use Rattle.bbm_rules.specs.Claims.{Trust}
-use Rattle.bbm_rules.specs.Covers.{note}
-use Rattle.bbm_rules.specs.Held.{held}
-use Rattle.bbm_rules.specs.Notes.{Noted, events_of}
-use Rattle.bbm_rules.specs.Pages.{is_fresh}
-use Rattle.bbm_rules.specs.Places.{page_of}
-use Rattle.bbm_rules.specs.Roots.{Declared, kind_in_world, roots_of, start_of}
-use Rattle.bbm_rules.specs.Tree.{Above, Node, held_at, in_tree, next_of, node_below, node_of}
-use Rattle.bbm_rules.specs.TreeSentences.{Down, IsNode}
-use Rattle.bbm_rules.specs.Values.{value_of}
-use Rattle.bbm_histories.specs.BelowHistories.{Below}
-use Rattle.bbm_histories.specs.TreeChanges.{Attaches, InTree, InTreeAfter, InTreeAfterDsb, Linked, Planted, Proper}
-use Rattle.bbm_histories.specs.TreeChanges.{StillHeld, Through}
+use Rattle.bbm_histories.proofs.Common.{Heading, Event, Root, Unroot, Write, Dsb, PageInUse, WrongWorld, Below}
+use Rattle.bbm_histories.proofs.Common.{Attaches, InTree, InTreeAfter, Linked, Planted, Proper, StillHeld, Through}
+use Rattle.bbm_rules.proofs.Common.{◌≡◌, ℕ, ◌<◌, ◌⊎◌, not, Bool, true, false, cond, ◌==◌, List, [], ◌∷◌, Option, Some}
+use Rattle.bbm_rules.proofs.Common.{None, is_some, Contains, refl, sym, ◌∙◌, ap, subst, inl, inr, arith, true≢false}
+use Rattle.bbm_rules.proofs.Common.{not-suc-le-zero, suc-le-suc, zero-le, eq-eqb, eqb-true, not-false, Kind, is_valid}
+use Rattle.bbm_rules.proofs.Common.{Trust, note, held, Noted, events_of, is_fresh, page_of, Declared, kind_in_world}
+use Rattle.bbm_rules.proofs.Common.{roots_of, start_of, Above, Node, held_at, in_tree, next_of, node_below, node_of}
+use Rattle.bbm_rules.proofs.Common.{Down, IsNode, value_of, contains_head, contains_more, contains_cases}
+use Rattle.bbm_histories.specs.TreeChanges.{InTreeAfterDsb}
 use Rattle.bbm_histories.proofs.CoreLemmas.{table_is_valid, table_on}
 use Rattle.bbm_histories.proofs.HeldSteps.{IsDsb, held_after_dsb, held_change}
 use Rattle.bbm_histories.proofs.Induction.{Unbroken, if_none}
@@ -29,7 +15,6 @@ use Rattle.bbm_histories.proofs.Invariants.{Invariants}
 use Rattle.bbm_histories.proofs.RootLemmas.{declared_on}
 use Rattle.bbm_histories.proofs.TreeSteps.{Link, added, is_tracked, link_in_tree, node_is, not_fresh_there}
 use Rattle.bbm_histories.proofs.TreeSteps.{roots_after_unroot, start_below, start_in_tree}
-use Rattle.bbm_lemmas.proofs.Elements.{contains_head, contains_more, contains_cases}
 
 -- ---- elements
 

@@ -1,25 +1,13 @@
 -- What one more event adds to the trees.
-use Rattle.std.proofs.Common.{◌≡◌, ℕ, suc, ◌+◌, ◌<◌, ◌⊎◌, true, List, [], ◌∷◌, length, Option, Some, None, is_some}
-use Rattle.std.proofs.Common.{Contains, refl, sym, ◌∙◌, ap, subst, inl, inr, arith, true≢false, suc-le-suc, zero-le}
-use Rattle.bbm_regimes.specs.declared.regime.Kind.{Kind}
-use Rattle.bbm_events.specs.Heading.{Heading}
-use Rattle.bbm_events.specs.declared.event.Event.{Event}
-use Rattle.bbm_events.specs.declared.event.Event.TheVariants.{Root, Unroot, Write}
-use Rattle.bbm_rules.specs.declared.rule.Rule.TheVariants.{NotFresh, PageInUse}
-use Rattle.bbm_rules.specs.Attach.{End, attached_by, attached_from, end_at}
-use Rattle.bbm_rules.specs.Claims.{Trust}
-use Rattle.bbm_rules.specs.Covers.{note}
-use Rattle.bbm_rules.specs.Notes.{Noted, events_of}
-use Rattle.bbm_rules.specs.Pages.{is_fresh}
-use Rattle.bbm_rules.specs.Places.{page_of}
-use Rattle.bbm_rules.specs.Roots.{Declared, root_pages, roots_of, start_of}
-use Rattle.bbm_rules.specs.Sentences.{IsDeclared}
-use Rattle.bbm_rules.specs.Tree.{Node, held_at, in_tree, next_of, node_below, node_of, nodes_of_root}
-use Rattle.bbm_rules.specs.TreeSentences.{Down, IsNode, Leads}
-use Rattle.bbm_rules.specs.Values.{value_of}
-use Rattle.bbm_histories.specs.BelowHistories.{Below}
-use Rattle.bbm_histories.specs.TreeChanges.{Attaches, InTree, Linked, Planted, Through}
-use Rattle.bbm_histories.specs.ValueChanges.{OddStays}
+use Rattle.bbm_histories.proofs.Common.{Heading, Event, Root, Unroot, Write, PageInUse, Leads, Below, Attaches, InTree}
+use Rattle.bbm_histories.proofs.Common.{Linked, Planted, Through, OddStays}
+use Rattle.bbm_rules.proofs.Common.{◌≡◌, ℕ, suc, ◌+◌, ◌<◌, ◌⊎◌, true, List, [], ◌∷◌, length, Option, Some, None}
+use Rattle.bbm_rules.proofs.Common.{is_some, Contains, refl, sym, ◌∙◌, ap, subst, inl, inr, arith, true≢false}
+use Rattle.bbm_rules.proofs.Common.{suc-le-suc, zero-le, Kind, End, attached_by, attached_from, end_at, Trust, note}
+use Rattle.bbm_rules.proofs.Common.{Noted, events_of, is_fresh, page_of, Declared, root_pages, roots_of, start_of}
+use Rattle.bbm_rules.proofs.Common.{IsDeclared, Node, held_at, in_tree, next_of, node_below, node_of, nodes_of_root}
+use Rattle.bbm_rules.proofs.Common.{Down, IsNode, value_of}
+use Rattle.bbm_rules.specs.declared.rule.Rule.TheVariants.{NotFresh}
 use Rattle.bbm_histories.proofs.CoreLemmas.{table_back}
 use Rattle.bbm_histories.proofs.FreshLemmas.{content, fresh_is_outside, held_is_present}
 use Rattle.bbm_histories.proofs.HeldSteps.{held_back, held_valid, same_core}

@@ -1,29 +1,16 @@
 -- Under `cnp` all PEs are alike.
-use Rattle.std.proofs.Common.{◌≡◌, ℕ, ◌<◌, Bool, true, ◌&&◌, ◌||◌, not, ◌==◌, nat_lt, List, refl, sym, ◌∙◌, ap}
-use Rattle.std.proofs.Common.{true≢false}
-use Rattle.std.proofs.lemmas.Bool.{and_from, and_parts, lt-ltb}
+use Rattle.bbm_histories.proofs.Common.{Heading, Event, Published, Below}
+use Rattle.bbm_rules.proofs.Common.{◌≡◌, ℕ, ◌<◌, Bool, true, ◌&&◌, ◌||◌, not, ◌==◌, nat_lt, List, refl, sym, ◌∙◌, ap}
+use Rattle.bbm_rules.proofs.Common.{true≢false, and_from, and_parts, lt-ltb, Inner, All, Stores, is_non, Cover, Half}
+use Rattle.bbm_rules.proofs.Common.{operation, Trust, half, seen, Noted, Flush, HalfBy, Publication, Issued, reaches}
+use Rattle.bbm_rules.proofs.Common.{published, publishes_to, same_truth}
 use Rattle.bbm_barriers.specs.declared.Dsb.{Dsb as Barrier}
 use Rattle.bbm_barriers.specs.declared.Domain.{Domain}
-use Rattle.bbm_barriers.specs.declared.Domain.TheVariants.{Full as FullDomain, Inner, Outer, Non}
+use Rattle.bbm_barriers.specs.declared.Domain.TheVariants.{Full as FullDomain, Outer, Non}
 use Rattle.bbm_barriers.specs.declared.Types.{Types}
-use Rattle.bbm_barriers.specs.declared.Types.TheVariants.{All, Stores, Loads}
+use Rattle.bbm_barriers.specs.declared.Types.TheVariants.{Loads}
 use Rattle.bbm_barriers.specs.Options.{audience, hears}
-use Rattle.bbm_tlbi_scope.specs.declared.entry.Cover.{Cover}
-use Rattle.bbm_tlbi_scope.specs.declared.entry.Cover.TheVariants.{Half}
-use Rattle.bbm_tlbi_scope.specs.Operations.{operation}
-use Rattle.bbm_events.specs.Heading.{Heading}
-use Rattle.bbm_events.specs.declared.event.Event.{Event}
 use Rattle.bbm_events.specs.declared.event.Event.TheVariants.{Tlbi}
-use Rattle.bbm_rules.specs.Claims.{Trust}
-use Rattle.bbm_rules.specs.Cleansing.{half, seen}
-use Rattle.bbm_rules.specs.Notes.{Noted}
-use Rattle.bbm_rules.specs.PatternSentences.{Flush, HalfBy, Publication}
-use Rattle.bbm_rules.specs.Reach.{Issued, reaches}
-use Rattle.bbm_rules.specs.Sentences.{Published}
-use Rattle.bbm_barriers.specs.Options.{is_non}
-use Rattle.bbm_rules.specs.Values.{published, publishes_to}
-use Rattle.bbm_histories.specs.BelowHistories.{Below}
-use Rattle.bbm_lemmas.proofs.Bools.{same_truth}
 
 -- a barrier of another domain than the non-shareable one is heard by each PE where it is by one
 heard : (domain : Domain) (types : Types) (q pes p r : ℕ) → not (is_non domain) ≡ true → nat_lt r pes ≡ true

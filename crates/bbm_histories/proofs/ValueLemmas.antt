@@ -1,16 +1,8 @@
 -- What is published, answered and covered stays so; what is readable after an event was so before, or the event made it so.
-use Rattle.std.proofs.Common.{◌≡◌, ℕ, ◌⊎◌, Bool, true, false, cond, ◌==◌, List, [], ◌∷◌, ◌++◌, refl, sym, ◌∙◌, ap, inl}
-use Rattle.std.proofs.Common.{inr}
-use Rattle.std.proofs.lemmas.Bool.{eqb-true, or_parts}
-use Rattle.bbm_events.specs.Heading.{Heading}
-use Rattle.bbm_events.specs.declared.event.Event.{Event}
-use Rattle.bbm_events.specs.declared.event.Event.TheVariants.{Init, Write, Dsb}
-use Rattle.bbm_rules.specs.Claims.{Trust}
-use Rattle.bbm_rules.specs.Places.{page_of}
-use Rattle.bbm_rules.specs.Sentences.{Published, Readable}
-use Rattle.bbm_rules.specs.Values.{is_readable, published, publishes_for, value_of}
-use Rattle.bbm_histories.specs.BelowHistories.{Below}
-use Rattle.bbm_histories.specs.ValueChanges.{MakesReadable}
+use Rattle.bbm_histories.proofs.Common.{Heading, Event, Init, Write, Dsb, Published, Readable, Below, MakesReadable}
+use Rattle.bbm_rules.proofs.Common.{◌≡◌, ℕ, ◌⊎◌, Bool, true, false, cond, ◌==◌, List, [], ◌∷◌, ◌++◌, refl, sym, ◌∙◌, ap}
+use Rattle.bbm_rules.proofs.Common.{inl, inr, eqb-true, or_parts, Trust, page_of, is_readable, published, value_of}
+use Rattle.bbm_rules.specs.Values.{publishes_for}
 use Rattle.bbm_histories.proofs.PatternLemmas.{later_split}
 
 module _ (heading : Heading) (trust : Trust) (b : Below heading trust) where

@@ -1,15 +1,10 @@
 -- The root of a page, and the readable values of a place, after an event.
-use Rattle.std.specs.Option.{option_map_or}
-use Rattle.std.proofs.Common.{◌≡◌, ℕ, ◌&&◌, ◌||◌, not, Bool, true, false, cond, ◌==◌, List, [], ◌∷◌, Option, Some, None}
-use Rattle.std.proofs.Common.{find, map, refl, sym, ◌∙◌, ap, true≢false}
-use Rattle.std.proofs.Math.Bool.{and-false, and-true, or-false}
-use Rattle.std.proofs.lemmas.Bool.{eq-eqb, eqb-true}
-use Rattle.bbm_events.specs.Heading.{Heading}
-use Rattle.bbm_rules.specs.Prelude.{Barrier, Kind, Event, Init, Root, Unroot, Write, Dsb}
-use Rattle.bbm_rules.specs.Lists.{any}
-use Rattle.bbm_rules.specs.Places.{page_of}
-use Rattle.bbm_rules.specs.Roots.{Declared, is_at, is_root, retired, root_at, roots_of, same_kind}
-use Rattle.bbm_rules.specs.Values.{published, publishes_to, readable_before}
+use Rattle.bbm_histories.proofs.Common.{and-false, and-true, or-false, Heading, Kind}
+use Rattle.bbm_rules.proofs.Common.{option_map_or, ◌≡◌, ℕ, ◌&&◌, ◌||◌, not, Bool, true, false, cond, ◌==◌, List, []}
+use Rattle.bbm_rules.proofs.Common.{◌∷◌, Option, Some, None, find, map, refl, sym, ◌∙◌, ap, true≢false, eq-eqb}
+use Rattle.bbm_rules.proofs.Common.{eqb-true, Barrier, Event, Init, Root, Unroot, Write, Dsb, any, page_of, Declared}
+use Rattle.bbm_rules.proofs.Common.{is_at, is_root, retired, root_at, roots_of, same_kind, published, publishes_to}
+use Rattle.bbm_rules.proofs.Common.{readable_before}
 use Rattle.bbm_histories.specs.ValueSteps.{Written, first_zero, is_by, is_root_after, readable_writes, root_after}
 use Rattle.bbm_histories.specs.ValueSteps.{up_to}
 use Rattle.bbm_histories.proofs.StepLemmas.{any_filter, any_never, same_test}

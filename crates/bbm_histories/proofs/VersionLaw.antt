@@ -1,20 +1,10 @@
 -- Versions 1 and 2 judge alike, where the header has no `cnp` and no register is given a value with bit 0 set.
-use Rattle.std.specs.Option.{option_map_or}
-use Rattle.std.proofs.Common.{◌≡◌, ℕ, suc, ◌&&◌, ◌||◌, not, Bool, false, List, [], ◌∷◌, length, Option, Some, is_none}
-use Rattle.std.proofs.Common.{refl, sym, ◌∙◌, ap}
-use Rattle.std.proofs.lemmas.Bool.{or_parts}
-use Rattle.bbm_events.specs.Heading.{Heading}
-use Rattle.bbm_events.specs.declared.event.Event.{Event}
+use Rattle.bbm_histories.proofs.Common.{Heading, Event, Rule, WrongWorld}
+use Rattle.bbm_rules.proofs.Common.{option_map_or, ◌≡◌, ℕ, suc, ◌&&◌, ◌||◌, not, Bool, false, List, [], ◌∷◌, length}
+use Rattle.bbm_rules.proofs.Common.{Option, Some, is_none, refl, sym, ◌∙◌, ap, or_parts, Breach, breaks, first_broken}
+use Rattle.bbm_rules.proofs.Common.{keeps, Trust, noted, any, if_so, Noted, kind_of_reg, kind_in_world}
 use Rattle.bbm_events.specs.declared.event.Event.TheVariants.{Msr}
-use Rattle.bbm_rules.specs.declared.rule.Rule.{Rule}
-use Rattle.bbm_rules.specs.declared.rule.Rule.TheVariants.{WrongWorld}
-use Rattle.bbm_rules.specs.Broken.{Breach, breaks, broken, first_broken, keeps, rules}
-use Rattle.bbm_rules.specs.Claims.{Trust}
-use Rattle.bbm_rules.specs.Covers.{noted}
-use Rattle.bbm_rules.specs.Lists.{any, if_so}
-use Rattle.bbm_rules.specs.Notes.{Noted}
-use Rattle.bbm_rules.specs.RegisterValues.{kind_of_reg}
-use Rattle.bbm_rules.specs.Roots.{kind_in_world}
+use Rattle.bbm_rules.specs.Broken.{broken, rules}
 use Rattle.bbm_rules.specs.Tree.{tree}
 use Rattle.bbm_histories.specs.Versions.{in_version, sets_bit_0, verdict_after, verdict_of}
 

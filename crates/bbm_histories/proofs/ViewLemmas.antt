@@ -1,37 +1,19 @@
 -- While the last valid write of a place stays and a PE has seen the place, its node stays and what it holds does, and its
 -- table stays childless.
-use Rattle.std.proofs.Common.{◌≡◌, ℕ, suc, ◌&&◌, ◌⊎◌, Bool, true, false, List, [], ◌∷◌, ◌++◌, Option, Some, None}
-use Rattle.std.proofs.Common.{option_and_then, refl, sym, ◌∙◌, ap, subst, inl, inr, true≢false}
-use Rattle.std.proofs.lemmas.List.{append_assoc}
-use Rattle.std.proofs.lemmas.Bool.{and_from}
-use Rattle.bbm_regimes.specs.declared.regime.Kind.{Kind}
-use Rattle.bbm_descriptor.specs.Descriptor.{is_valid}
-use Rattle.bbm_events.specs.Heading.{Heading}
-use Rattle.bbm_events.specs.declared.event.Event.{Event}
-use Rattle.bbm_events.specs.declared.event.Event.TheVariants.{Write}
+use Rattle.bbm_histories.proofs.Common.{append_assoc, Heading, Event, Write, Below, Attaches, InTree}
+use Rattle.bbm_rules.proofs.Common.{◌≡◌, ℕ, suc, ◌&&◌, ◌⊎◌, Bool, true, false, List, [], ◌∷◌, ◌++◌, Option, Some, None}
+use Rattle.bbm_rules.proofs.Common.{option_and_then, refl, sym, ◌∙◌, ap, subst, inl, inr, true≢false, and_from, Kind}
+use Rattle.bbm_rules.proofs.Common.{is_valid, keeps, Trust, seen, note, noted, ValidWrite, held, last_valid, if_so}
+use Rattle.bbm_rules.proofs.Common.{Noted, events_of, is_fresh, IsLastValid, page_of, Node, held_at, in_limbo}
+use Rattle.bbm_rules.proofs.Common.{is_childless, node_below, node_of, Childless, value_of, contains_head}
 use Rattle.bbm_rules.specs.declared.rule.Rule.TheVariants.{LimboMake}
-use Rattle.bbm_rules.specs.Broken.{keeps}
-use Rattle.bbm_rules.specs.Claims.{Trust}
-use Rattle.bbm_rules.specs.Cleansing.{seen}
-use Rattle.bbm_rules.specs.Covers.{note, noted}
-use Rattle.bbm_rules.specs.Held.{ValidWrite, held, last_valid}
-use Rattle.bbm_rules.specs.Lists.{if_so}
-use Rattle.bbm_rules.specs.Notes.{Noted, events_of}
-use Rattle.bbm_rules.specs.Pages.{is_fresh}
-use Rattle.bbm_rules.specs.PatternSentences.{IsLastValid}
-use Rattle.bbm_rules.specs.Places.{page_of}
-use Rattle.bbm_rules.specs.Tree.{Node, held_at, in_limbo, is_childless, node_below, node_of}
-use Rattle.bbm_rules.specs.TreeSentences.{Childless}
-use Rattle.bbm_rules.specs.Values.{value_of}
-use Rattle.bbm_histories.specs.BelowHistories.{Below}
-use Rattle.bbm_histories.specs.TreeChanges.{Attaches, HeldBy, InTree, View}
+use Rattle.bbm_histories.specs.TreeChanges.{HeldBy, View}
 use Rattle.bbm_histories.proofs.FreshLemmas.{content, holds_last}
 use Rattle.bbm_histories.proofs.HeldSteps.{held_back, held_valid}
 use Rattle.bbm_histories.proofs.Induction.{Unbroken, if_none, last_kept}
 use Rattle.bbm_histories.proofs.Invariants.{Invariants, invariants}
 use Rattle.bbm_histories.proofs.PatternLemmas.{last_one_before, seen_stays, unseen}
 use Rattle.bbm_histories.proofs.TreeSteps.{added, attached_fresh, node_is}
-use Rattle.bbm_lemmas.proofs.Elements.{contains_head}
 
 module _ (heading : Heading) (trust : Trust) (b : Below heading trust) where
   -- a place that is seen after its last valid write has an invalid value

@@ -1,29 +1,12 @@
 -- What a PE can still read at a place of a tree has the core of what the place holds.
-use Rattle.std.proofs.Common.{◌≡◌, ℕ, ◌<◌, ◌%◌, ◌⊎◌, Bool, true, false, cond, ◌==◌, List, [], ◌∷◌, ◌++◌, Some, refl}
-use Rattle.std.proofs.Common.{sym, ◌∙◌, ap, subst, inl, inr, true≢false}
-use Rattle.std.proofs.lemmas.List.{append_assoc}
-use Rattle.std.proofs.lemmas.Bool.{eq-eqb, eqb-true}
-use Rattle.bbm_regimes.specs.declared.regime.Kind.{Kind}
-use Rattle.bbm_descriptor.specs.Descriptor.{core_of, is_valid}
-use Rattle.bbm_events.specs.Heading.{Heading}
-use Rattle.bbm_events.specs.declared.event.Event.{Event}
-use Rattle.bbm_events.specs.declared.event.Event.TheVariants.{Init, Write}
-use Rattle.bbm_rules.specs.Broken.{keeps}
-use Rattle.bbm_rules.specs.Claims.{Trust}
-use Rattle.bbm_rules.specs.Cleansing.{seen}
-use Rattle.bbm_rules.specs.Covers.{note, noted}
-use Rattle.bbm_rules.specs.Held.{ValidWrite, held, last_valid}
-use Rattle.bbm_rules.specs.Notes.{Noted, events_of}
-use Rattle.bbm_rules.specs.Pages.{is_fresh}
-use Rattle.bbm_rules.specs.PatternSentences.{IsLastValid, Publication}
-use Rattle.bbm_rules.specs.Places.{page_of}
-use Rattle.bbm_rules.specs.Sentences.{Readable}
-use Rattle.bbm_rules.specs.Tree.{Node, held_at}
-use Rattle.bbm_rules.specs.Values.{is_readable, published, value_of}
-use Rattle.bbm_histories.specs.BelowHistories.{Below}
-use Rattle.bbm_histories.specs.PatternSteps.{Quiet}
-use Rattle.bbm_histories.specs.TreeChanges.{Attaches, InTree}
-use Rattle.bbm_histories.specs.ValueChanges.{MakesReadable, NoInit, OddStays, Window}
+use Rattle.bbm_histories.proofs.Common.{append_assoc, Heading, Event, Init, Write, Readable, Below, Quiet, Attaches}
+use Rattle.bbm_histories.proofs.Common.{InTree, MakesReadable, NoInit, OddStays}
+use Rattle.bbm_rules.proofs.Common.{◌≡◌, ℕ, ◌<◌, ◌%◌, ◌⊎◌, Bool, true, false, cond, ◌==◌, List, [], ◌∷◌, ◌++◌, Some}
+use Rattle.bbm_rules.proofs.Common.{refl, sym, ◌∙◌, ap, subst, inl, inr, true≢false, eq-eqb, eqb-true, Kind, core_of}
+use Rattle.bbm_rules.proofs.Common.{is_valid, keeps, Trust, seen, note, noted, ValidWrite, held, last_valid, Noted}
+use Rattle.bbm_rules.proofs.Common.{events_of, is_fresh, IsLastValid, Publication, page_of, Node, held_at, is_readable}
+use Rattle.bbm_rules.proofs.Common.{published, value_of}
+use Rattle.bbm_histories.specs.ValueChanges.{Window}
 use Rattle.bbm_histories.proofs.CoreLemmas.{core_same}
 use Rattle.bbm_histories.proofs.HeldSteps.{init_outside, same_core}
 use Rattle.bbm_histories.proofs.Induction.{NotesSplit, Unbroken, events_append, notes_split, throughout}

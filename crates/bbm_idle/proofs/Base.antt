@@ -1,33 +1,17 @@
 -- A history is alike to what came before its last event, where that event is idle.
-use Rattle.std.proofs.Common.{◌≡◌, ℕ, Bool, true, false, not, ◌&&◌, ◌||◌, ◌==◌, List, [], ◌∷◌, Option, Some, None, find}
-use Rattle.std.proofs.Common.{is_none, is_some, Contains, refl, sym, ◌∙◌, ap, subst, true≢false}
-use Rattle.std.proofs.lemmas.Bool.{and_parts, false_from_ne_true, not-true}
-use Rattle.bbm_lemmas.proofs.Words.{pe_finds}
-use Rattle.bbm_lemmas.proofs.Tautologies.{proved}
-use Rattle.bbm_lemmas.proofs.Tautologies.Claim.{If, Is}
-use Rattle.bbm_lemmas.proofs.Elements.{none_of}
-use Rattle.bbm_rules.specs.Broken.{broken, keeps}
-use Rattle.bbm_rules.specs.Changes.{changes}
-use Rattle.bbm_rules.specs.Claims.{Patterns}
-use Rattle.bbm_rules.specs.Cleansing.{cleansed, half, seen}
-use Rattle.bbm_rules.specs.Covers.{note, noted}
-use Rattle.bbm_rules.specs.Held.{ValidWrite, last_valid}
-use Rattle.bbm_rules.specs.Lists.{any}
-use Rattle.bbm_rules.specs.Notes.{Noted, events_of}
-use Rattle.bbm_rules.specs.Pages.{is_fresh, may_be_fresh}
-use Rattle.bbm_rules.specs.Places.{page_of}
-use Rattle.bbm_rules.specs.Prelude.{Barrier, Heading, Event, Dsb, Dmb, Isb, Tlbi, Reg}
-use Rattle.bbm_rules.specs.Reach.{reaches, unanswered}
-use Rattle.bbm_rules.specs.RegisterValues.{register_values}
-use Rattle.bbm_rules.specs.Roots.{roots_of}
-use Rattle.bbm_rules.specs.Tags.{itself}
-use Rattle.bbm_rules.specs.Tree.{Node, held_at, in_tree, node_of, tree}
-use Rattle.bbm_rules.specs.Values.{written_places}
-use Rattle.bbm_alike.specs.Alike.{Alike, SamePatterns}
+use Rattle.bbm_idle.proofs.Common.{Patterns, Alike, SamePatterns, adds, adds_at, answers_needed, is_needed}
+use Rattle.bbm_idle.proofs.Common.{is_needed_at, keeps_phases, takes_of, wrote_register, Known}
+use Rattle.bbm_rules.proofs.Common.{◌≡◌, ℕ, Bool, true, false, not, ◌&&◌, ◌||◌, ◌==◌, List, [], ◌∷◌, Option, Some, None}
+use Rattle.bbm_rules.proofs.Common.{find, is_none, is_some, Contains, refl, sym, ◌∙◌, ap, subst, true≢false, and_parts}
+use Rattle.bbm_rules.proofs.Common.{false_from_ne_true, not-true, pe_finds, proved, If, Is, none_of, keeps, changes}
+use Rattle.bbm_rules.proofs.Common.{cleansed, half, seen, note, noted, ValidWrite, last_valid, any, Noted, events_of}
+use Rattle.bbm_rules.proofs.Common.{is_fresh, may_be_fresh, page_of, Barrier, Heading, Event, Dsb, Dmb, Isb, Tlbi, Reg}
+use Rattle.bbm_rules.proofs.Common.{reaches, unanswered, register_values, roots_of, itself, Node, held_at, in_tree}
+use Rattle.bbm_rules.proofs.Common.{node_of, written_places}
+use Rattle.bbm_rules.specs.Broken.{broken}
+use Rattle.bbm_rules.specs.Tree.{tree}
 use Rattle.bbm_alike.specs.SameTags.{AnswersNone, SameTags, TakesNone}
-use Rattle.bbm_idle.specs.Idle.{adds, adds_at, answers_needed, is_idle, is_needed, is_needed_at, keeps_phases, takes_of}
-use Rattle.bbm_idle.specs.Idle.{wrote_register}
-use Rattle.bbm_idle.specs.KnownOfIdle.{Known}
+use Rattle.bbm_idle.specs.Idle.{is_idle}
 use Rattle.bbm_idle.proofs.DsbBase.{same_held, same_patterns, same_tree}
 use Rattle.bbm_idle.proofs.Needed.{adds_needed}
 use Rattle.bbm_idle.proofs.Registers.{idle_isb}

@@ -1,10 +1,10 @@
 -- Worked cases: idle ISBs, flushes and barriers beside those that aren't, and what is left of a log without its idle
 -- events. The newest event stands first.
-use Rattle.std.specs.Prelude.{◌≡◌, Bool, true, false, List, [], ◌∷◌, Option, Some, refl}
-use Prim.Native.String.{String}
+use Rattle.bbm_idle.proofs.Common.{◌≡◌, Bool, true, false, List, [], ◌∷◌, Option, Some, refl, idle_marks, without_idle}
+use Rattle.bbm_rules.proofs.Common.{String}
 use Rattle.bbm_rules.proofs.Judged.{after}
 use Rattle.bbm_rules.specs.Phases.{phase_of}
-use Rattle.bbm_idle.specs.Idle.{idle_marks, is_idle, without_idle}
+use Rattle.bbm_idle.specs.Idle.{is_idle}
 use Rattle.bbm_idle.proofs.CasesIdle.{marks}
 
 -- The second ISB finds no register written since the first.

@@ -1,34 +1,20 @@
 -- After a DSB that changes no phase and answers no TLBI that was needed, the places of trees hold what they held, with
 -- the same patterns.
-use Rattle.std.proofs.Common.{◌≡◌, ℕ, ◌<◌, Bool, true, false, cond, not, List, [], ◌∷◌, Option, Some, None}
-use Rattle.std.proofs.Common.{option_and_then, is_none, Contains, refl, sym, ◌∙◌, ap, subst, inl, inr}
-use Rattle.std.proofs.lemmas.Bool.{and_parts, not-true}
-use Rattle.bbm_lemmas.specs.Elements.{In}
+use Rattle.bbm_idle.proofs.Common.{Phase, Clean, Live, Patterns, Kind, SamePatterns, answers_needed, keeps_phases}
+use Rattle.bbm_idle.proofs.Common.{Known, same_phase}
+use Rattle.bbm_rules.proofs.Common.{◌≡◌, ℕ, ◌<◌, Bool, true, false, cond, not, List, [], ◌∷◌, Option, Some, None}
+use Rattle.bbm_rules.proofs.Common.{option_and_then, is_none, Contains, refl, sym, ◌∙◌, ap, subst, inl, inr, and_parts}
+use Rattle.bbm_rules.proofs.Common.{not-true, In, is_valid, every_pe, keeps, cleansed, half, seen, cover_at, note}
+use Rattle.bbm_rules.proofs.Common.{noted, ValidWrite, cleansed_everywhere, held, last_valid, any, every, Noted}
+use Rattle.bbm_rules.proofs.Common.{broken_phase, page_of, Barrier, Heading, Event, Write, Dsb, unanswered, itself}
+use Rattle.bbm_rules.proofs.Common.{Node, held_at, node_of, value_of, written_places}
 use Rattle.bbm_lemmas.proofs.Every.{every_at}
-use Rattle.bbm_descriptor.specs.Descriptor.{is_valid}
-use Rattle.bbm_lemmas.specs.EveryPe.{every_pe}
-use Rattle.bbm_rules.specs.declared.phase.Phase.{Phase}
-use Rattle.bbm_rules.specs.declared.phase.Phase.TheVariants.{Clean, Live}
-use Rattle.bbm_rules.specs.Broken.{broken, keeps}
-use Rattle.bbm_rules.specs.Claims.{Patterns}
-use Rattle.bbm_rules.specs.Cleansing.{cleansed, half, seen}
-use Rattle.bbm_rules.specs.Covers.{cover_at, note, noted}
-use Rattle.bbm_rules.specs.Held.{ValidWrite, cleansed_everywhere, held, last_valid}
-use Rattle.bbm_rules.specs.Lists.{any, every}
-use Rattle.bbm_rules.specs.Notes.{Noted}
-use Rattle.bbm_rules.specs.Phases.{broken_phase, phase_of}
-use Rattle.bbm_rules.specs.Places.{page_of}
-use Rattle.bbm_rules.specs.Prelude.{Barrier, Kind, Heading, Event, Write, Dsb}
-use Rattle.bbm_rules.specs.Reach.{unanswered}
-use Rattle.bbm_rules.specs.Tags.{itself}
-use Rattle.bbm_rules.specs.Tree.{Node, held_at, node_of, tree}
-use Rattle.bbm_rules.specs.Values.{value_of, written_places}
+use Rattle.bbm_rules.specs.Broken.{broken}
+use Rattle.bbm_rules.specs.Phases.{phase_of}
+use Rattle.bbm_rules.specs.Tree.{tree}
 use Rattle.bbm_histories.specs.TreeChanges.{HeldChange}
 use Rattle.bbm_histories.specs.TreeSteps.{holds_above, node_where}
-use Rattle.bbm_alike.specs.Alike.{SamePatterns}
-use Rattle.bbm_idle.specs.Idle.{answers_needed, is_idle, keeps_phases}
-use Rattle.bbm_idle.specs.KnownOfIdle.{Known}
-use Rattle.bbm_idle.specs.SamePhase.{same_phase}
+use Rattle.bbm_idle.specs.Idle.{is_idle}
 use Rattle.bbm_idle.proofs.Needed.{half_stays}
 use Rattle.bbm_idle.proofs.Phases.{SameMarks, never_clean, same_marks}
 use Rattle.bbm_idle.proofs.Since.{Untouched, Unwritten, untouched, unwritten_on}

@@ -1,8 +1,6 @@
 -- Tests over lists and over PEs.
-use Rattle.std.proofs.Common.{◌≡◌, Bool, false, ◌&&◌, ◌||◌, List, [], ◌∷◌}
-use Rattle.std.proofs.Common.{refl, ap, ◌∙◌, flat_map}
-use Rattle.std.specs.List.{list_any, list_all}
-use Rattle.std.proofs.lemmas.List.Folds.{list_any-append}
+use Rattle.bbm_rules.proofs.Common.{◌≡◌, Bool, false, ◌&&◌, ◌||◌, List, [], ◌∷◌, refl, ap, ◌∙◌, flat_map, list_any}
+use Rattle.bbm_rules.proofs.Common.{list_all, list_any-append}
 
 -- ---- tests
 

@@ -1,8 +1,8 @@
 -- The marks of a log after one more event.
-use Rattle.std.proofs.Common.{◌≡◌, Bool, List, [], ◌∷◌, ◌++◌, reverse, sym, ap, ◌∙◌}
-use Rattle.std.proofs.lemmas.List.{reverse-append}
-use Rattle.bbm_rules.specs.Prelude.{Heading, Event}
-use Rattle.bbm_idle.specs.Idle.{idle_marks, is_idle}
+use Rattle.bbm_idle.proofs.Common.{idle_marks}
+use Rattle.bbm_rules.proofs.Common.{◌≡◌, Bool, List, [], ◌∷◌, ◌++◌, reverse, sym, ap, ◌∙◌, reverse-append, Heading}
+use Rattle.bbm_rules.proofs.Common.{Event}
+use Rattle.bbm_idle.specs.Idle.{is_idle}
 
 pub marks_more : (heading : Heading) (e : Event) (h longer : List Event) (mark : Bool) (old new : List Bool) → e ∷ h ≡ longer
     → old ≡ reverse (idle_marks heading h) → mark ≡ is_idle heading h e → new ≡ old ++ mark ∷ []

@@ -1,28 +1,16 @@
 -- The phases of places at all PEs.
-use Rattle.std.proofs.Common.{◌≡◌, ℕ, ◌<◌, Bool, true, false, not, cond, ◌&&◌, ◌||◌, nat_lt, List, Option, Some, None}
-use Rattle.std.proofs.Common.{refl, sym, ap, ◌∙◌}
+use Rattle.bbm_idle.proofs.Common.{Clean, Live, Patterns, phase_at, Past, notes, Stands, same_phase}
+use Rattle.bbm_rules.proofs.Common.{◌≡◌, ℕ, ◌<◌, Bool, true, false, not, cond, ◌&&◌, ◌||◌, nat_lt, List, Option, Some}
+use Rattle.bbm_rules.proofs.Common.{None, refl, sym, ap, ◌∙◌, lt-ltb, is_valid, Trust, cleansed, half, seen, noted}
+use Rattle.bbm_rules.proofs.Common.{cleansed_everywhere, last_valid, ◌>>=◌, Noted, events_of, broken_phase, page_of}
+use Rattle.bbm_rules.proofs.Common.{Heading, Event, Node, node_of, value_of}
 use Rattle.std.specs.Option.{unwrap_or}
-use Rattle.std.proofs.lemmas.Bool.{lt-ltb}
-use Rattle.bbm_descriptor.specs.Descriptor.{is_valid}
 use Rattle.bbm_regimes.specs.PeMask.{pe_in}
-use Rattle.bbm_rules.specs.declared.phase.Phase.TheVariants.{Clean, Live}
-use Rattle.bbm_rules.specs.Claims.{Patterns, Trust}
-use Rattle.bbm_rules.specs.Cleansing.{cleansed, half, seen}
-use Rattle.bbm_rules.specs.Covers.{noted}
-use Rattle.bbm_rules.specs.Held.{cleansed_everywhere, last_valid}
-use Rattle.bbm_rules.specs.Lists.{◌>>=◌}
-use Rattle.bbm_rules.specs.Notes.{Noted, events_of}
-use Rattle.bbm_rules.specs.Phases.{broken_phase, phase_of}
-use Rattle.bbm_rules.specs.Places.{page_of}
-use Rattle.bbm_rules.specs.Prelude.{Heading, Event}
-use Rattle.bbm_rules.specs.Tree.{Node, node_of}
-use Rattle.bbm_rules.specs.Values.{value_of}
-use Rattle.bbm_oracle_patterns.specs.PlacePhases.{furthest, phase_at}
+use Rattle.bbm_rules.specs.Phases.{phase_of}
+use Rattle.bbm_oracle_patterns.specs.PlacePhases.{furthest}
 use Rattle.bbm_oracle_patterns.specs.declared.trace.Trace.{Trace}
-use Rattle.bbm_oracle_trees.specs.Past.{Past, notes}
 use Rattle.bbm_oracle_trees.specs.TreePhases.{phase_among}
-use Rattle.bbm_idle.specs.Finding.{Stands, phase_by}
-use Rattle.bbm_idle.specs.SamePhase.{same_phase}
+use Rattle.bbm_idle.specs.Finding.{phase_by}
 
 -- ---- of a history
 

@@ -1,25 +1,12 @@
 -- What a TLBI adds at a place, by the sets of PEs at which it is seen, half and cleansed.
-use Rattle.std.proofs.Common.{◌≡◌, ℕ, ◌+◌, ◌-◌, ◌<◌, ◌≤◌, Bool, false, ◌&&◌, ◌||◌, List, [], ◌∷◌, Option, Some, None}
-use Rattle.std.proofs.Common.{length, get_or, take, reverse, refl, ap, ◌∙◌, arith}
-use Rattle.std.proofs.lemmas.List.{take_all}
-use Rattle.bbm_lemmas.proofs.Reversed.{reverse_more}
-use Rattle.bbm_tlbi_scope.specs.declared.entry.Cover.{Cover}
+use Rattle.bbm_idle.proofs.Common.{Patterns, cover_in, notes_of, Kept, Past, notes, Stands, adds_with, needed_by}
+use Rattle.bbm_idle.proofs.Common.{place_adds, adds_at, is_needed, is_needed_at, takes_of, Seat}
+use Rattle.bbm_rules.proofs.Common.{◌≡◌, ℕ, ◌+◌, ◌-◌, ◌<◌, ◌≤◌, Bool, false, ◌&&◌, ◌||◌, List, [], ◌∷◌, Option, Some}
+use Rattle.bbm_rules.proofs.Common.{None, length, get_or, take, reverse, refl, ap, ◌∙◌, arith, take_all, reverse_more}
+use Rattle.bbm_rules.proofs.Common.{Cover, Trust, cover_at, noted, ValidWrite, any, below, some_pe, Noted, Heading}
+use Rattle.bbm_rules.proofs.Common.{Event, reaches, roots_of, written_places}
 use Rattle.bbm_tlbi_scope.specs.declared.entry.Cover.TheVariants.{None as NoCover}
-use Rattle.bbm_rules.specs.Claims.{Patterns, Trust}
-use Rattle.bbm_rules.specs.Covers.{cover_at, noted}
-use Rattle.bbm_rules.specs.Held.{ValidWrite}
-use Rattle.bbm_rules.specs.Lists.{any, below, some_pe}
-use Rattle.bbm_rules.specs.Notes.{Noted}
-use Rattle.bbm_rules.specs.Prelude.{Heading, Event}
-use Rattle.bbm_rules.specs.Reach.{reaches}
-use Rattle.bbm_rules.specs.Roots.{roots_of}
-use Rattle.bbm_rules.specs.Values.{written_places}
-use Rattle.bbm_oracle_patterns.specs.Kept.{cover_in, notes_of}
-use Rattle.bbm_oracle_patterns.specs.declared.kept.Kept.{Kept}
-use Rattle.bbm_oracle_trees.specs.Past.{Past, notes}
-use Rattle.bbm_idle.specs.Finding.{Stands, adds_since, adds_with, needed_by, place_adds}
-use Rattle.bbm_idle.specs.Idle.{adds_at, is_needed, is_needed_at, takes_of}
-use Rattle.bbm_idle.specs.declared.find_places.Seat.{Seat}
+use Rattle.bbm_idle.specs.Finding.{adds_since}
 use Rattle.bbm_idle.proofs.FindLists.{any_alike}
 
 -- a TLBI that doesn't cover the place adds nothing

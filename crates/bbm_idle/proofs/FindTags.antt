@@ -1,24 +1,16 @@
 -- The tags that were ever readable, and those of them that a TLBI takes whole.
-use Rattle.std.proofs.Common.{◌≡◌, ℕ, ◌+◌, add-one, Bool, true, false, cond, ◌&&◌, ◌||◌, eqb, List, [], ◌∷◌, ◌++◌}
-use Rattle.std.proofs.Common.{Option, Some, None, refl, sym, ap, ◌∙◌, flat_map, filter_map, true≢false}
-use Rattle.std.specs.List.{cons_option}
-use Rattle.std.proofs.lemmas.Bool.{and_parts, eqb-true, or_left}
-use Rattle.std.proofs.lemmas.List.Folds.{list_any-append}
-use Rattle.bbm_lemmas.proofs.Elements.{any_finds, any_found}
-use Rattle.bbm_rules.specs.Prelude.{AsidFrom, FromTtbr0, FromTtbr1, Ttbr1El1, Ttbr1Tag, World, Hyp, Kernel, Heading}
-use Rattle.bbm_rules.specs.Prelude.{Event, Root, Unroot, Isb, Msr, Tag, Tlbi, TlbiOp, Scope}
-use Rattle.bbm_tlbi_scope.specs.ScopeTags.{takes_whole_tag}
-use Rattle.bbm_rules.specs.Changes.{changes}
-use Rattle.bbm_rules.specs.Claims.{Patterns, same_tag}
-use Rattle.bbm_rules.specs.Lists.{any, below, if_so}
-use Rattle.bbm_rules.specs.RegisterValues.{named_scope, vmid_of}
-use Rattle.bbm_rules.specs.Roots.{Declared, roots_of}
-use Rattle.bbm_rules.specs.Tags.{Reading, asid_readings, distinct, ever_read, holds_at, readings, readings_in}
-use Rattle.bbm_rules.specs.Tags.{readings_of, tag_for, takes_tag}
-use Rattle.bbm_idle.specs.Finding.{AreTaken, IsKnown, is_taken, passes, taken_passes}
-use Rattle.bbm_idle.specs.Idle.{takes_of}
+use Rattle.bbm_idle.proofs.Common.{Patterns, AreTaken, is_taken, takes_of}
+use Rattle.bbm_rules.proofs.Common.{◌≡◌, ℕ, ◌+◌, add-one, Bool, true, false, cond, ◌&&◌, ◌||◌, eqb, List, [], ◌∷◌, ◌++◌}
+use Rattle.bbm_rules.proofs.Common.{Option, Some, None, refl, sym, ap, ◌∙◌, flat_map, filter_map, true≢false}
+use Rattle.bbm_rules.proofs.Common.{cons_option, and_parts, eqb-true, or_left, list_any-append, any_finds, any_found}
+use Rattle.bbm_rules.proofs.Common.{AsidFrom, FromTtbr0, FromTtbr1, Ttbr1El1, Ttbr1Tag, World, Hyp, Kernel, Heading}
+use Rattle.bbm_rules.proofs.Common.{Event, Root, Unroot, Isb, Msr, Tag, Tlbi, TlbiOp, Scope, takes_whole_tag, changes}
+use Rattle.bbm_rules.proofs.Common.{same_tag, any, below, if_so, named_scope, vmid_of, Declared, roots_of, Reading}
+use Rattle.bbm_rules.proofs.Common.{asid_readings, distinct, ever_read, holds_at, readings, readings_in, readings_of}
+use Rattle.bbm_rules.proofs.Common.{tag_for, takes_tag, or-false, or_comm}
+use Rattle.bbm_idle.specs.Finding.{IsKnown, passes, taken_passes}
 use Rattle.bbm_idle.proofs.FindLists.{any_alike, any_flat, any_never}
-use mathlib.Core.Bool.{or_assoc, or-false, or_self_left, or_comm}
+use mathlib.Core.Bool.{or_assoc, or_self_left}
 
 -- ---- one more reading
 

@@ -1,22 +1,13 @@
 -- Needed TLBIs that aren't answered, after one more event.
-use Rattle.std.proofs.Common.{◌≡◌, ℕ, Bool, true, false, not, cond, ◌&&◌, ◌||◌, ◌==◌, List, [], ◌∷◌, refl, sym, ap, ◌∙◌}
-use Rattle.std.proofs.Common.{true≢false}
-use Rattle.std.proofs.lemmas.Bool.{and_parts}
-use Rattle.std.proofs.lemmas.Map.Views.{any-filter_same}
-use Rattle.bbm_lemmas.proofs.Tautologies.{proved}
-use Rattle.bbm_lemmas.proofs.Tautologies.Claim.{Is}
-use Rattle.bbm_barriers.specs.Options.{answers}
-use Rattle.bbm_tlbi_scope.specs.Operations.{operation}
+use Rattle.bbm_idle.proofs.Common.{is_cast, waits, waits_after, answers_needed, is_needed}
+use Rattle.bbm_rules.proofs.Common.{◌≡◌, ℕ, Bool, true, false, not, cond, ◌&&◌, ◌||◌, ◌==◌, List, [], ◌∷◌, refl, sym}
+use Rattle.bbm_rules.proofs.Common.{ap, ◌∙◌, true≢false, and_parts, any-filter_same, proved, Is, answers, operation}
+use Rattle.bbm_rules.proofs.Common.{any, Barrier, Heading, Event, Dsb, Tlbi, Issued, completes, left_open, unanswered}
+use Rattle.bbm_rules.proofs.Common.{itself, and-true, and_comm}
 use Rattle.bbm_regimes.specs.PeMask.{pe_in}
-use Rattle.bbm_rules.specs.Lists.{any}
-use Rattle.bbm_rules.specs.Prelude.{Barrier, Heading, Event, Dsb, Tlbi}
-use Rattle.bbm_rules.specs.Reach.{Issued, completes, left_open, unanswered}
-use Rattle.bbm_rules.specs.Tags.{itself}
-use Rattle.bbm_oracle_tags.specs.Watches.{is_cast}
-use Rattle.bbm_idle.specs.Finding.{IsWaiting, waits, waits_after, waits_for}
-use Rattle.bbm_idle.specs.Idle.{answers_needed, is_idle, is_needed}
+use Rattle.bbm_idle.specs.Finding.{IsWaiting, waits_for}
+use Rattle.bbm_idle.specs.Idle.{is_idle}
 use Rattle.bbm_idle.specs.declared.find_waiting.Waiting.{Waiting}
-use mathlib.Core.Bool.{and-true, and_comm}
 use Rattle.bbm_lemmas.proofs.Bools.{never_of_two, both_of_two}
 
 -- a DSB completes all TLBIs of a sort, or none

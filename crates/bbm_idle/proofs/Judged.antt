@@ -1,38 +1,20 @@
 -- Histories that are alike judge alike which TLBIs are needed, and which phases an event keeps.
-use Rattle.std.proofs.Common.{◌≡◌, ℕ, zero, suc, ◌<◌, Bool, false, cond, ◌&&◌, ◌||◌, ◌==◌, List, [], ◌∷◌, Option, Some}
-use Rattle.std.proofs.Common.{None, option_and_then, Contains, find, is_none, is_some, map, unwrap_or, refl, sym, ◌∙◌}
-use Rattle.std.proofs.Common.{ap, inl, inr, arith}
-use Rattle.std.specs.Result.{result_ok}
-use Rattle.bbm_lemmas.specs.Elements.{In}
-use Rattle.bbm_lemmas.proofs.Every.{every_same}
-use Rattle.bbm_tlbi_scope.specs.Operations.{scoped_by_vmid}
-use Rattle.bbm_tlbi_scope.specs.declared.entry.Cover.{Cover}
+use Rattle.bbm_idle.proofs.Common.{Phase, Patterns, Alike, SamePatterns, adds, adds_at, is_needed, is_needed_at}
+use Rattle.bbm_idle.proofs.Common.{keeps_phases, takes_of, Known, same_phase}
+use Rattle.bbm_rules.proofs.Common.{◌≡◌, ℕ, zero, suc, ◌<◌, Bool, false, cond, ◌&&◌, ◌||◌, ◌==◌, List, [], ◌∷◌, Option}
+use Rattle.bbm_rules.proofs.Common.{Some, None, option_and_then, Contains, find, is_none, is_some, map, unwrap_or, refl}
+use Rattle.bbm_rules.proofs.Common.{sym, ◌∙◌, ap, inl, inr, arith, result_ok, In, every_same, scoped_by_vmid, Cover}
+use Rattle.bbm_rules.proofs.Common.{PlaceView, cover_of, takes_whole_tag, desc_of, every_pe, cleansed, half, seen}
+use Rattle.bbm_rules.proofs.Common.{cover_at, is_global, noted, view_at, ValidWrite, last_valid, any, below, every}
+use Rattle.bbm_rules.proofs.Common.{one_number, Noted, events_of, page_of, Heading, Event, Tlbi, Tag, World, Hyp}
+use Rattle.bbm_rules.proofs.Common.{Kernel, VttbrEl2, Scope, reaches, named_scope, tag_number, vmid_of, Declared}
+use Rattle.bbm_rules.proofs.Common.{roots_of, distinct, ever_read, holds_at, tag_set, tags_of, takes_tag, Node, held_at}
+use Rattle.bbm_rules.proofs.Common.{is_childless, next_of, node_of, region_of, written_places}
 use Rattle.bbm_tlbi_scope.specs.declared.entry.Cover.TheVariants.{None as NoCover}
-use Rattle.bbm_tlbi_scope.specs.declared.entry.PlaceView.{PlaceView}
-use Rattle.bbm_tlbi_scope.specs.ScopeCovers.{cover_of}
-use Rattle.bbm_tlbi_scope.specs.ScopeTags.{takes_whole_tag}
-use Rattle.bbm_descriptor.specs.Descriptor.{desc_of}
-use Rattle.bbm_lemmas.specs.EveryPe.{every_pe}
-use Rattle.bbm_rules.specs.declared.phase.Phase.{Phase}
-use Rattle.bbm_rules.specs.Claims.{Patterns}
-use Rattle.bbm_rules.specs.Cleansing.{cleansed, half, seen}
-use Rattle.bbm_rules.specs.Covers.{cover_at, is_global, noted, view_at}
-use Rattle.bbm_rules.specs.Held.{ValidWrite, last_valid}
-use Rattle.bbm_rules.specs.Lists.{any, below, every, one_number}
-use Rattle.bbm_rules.specs.Notes.{Noted, events_of}
 use Rattle.bbm_rules.specs.Phases.{phase_of}
-use Rattle.bbm_rules.specs.Places.{page_of}
-use Rattle.bbm_rules.specs.Prelude.{Heading, Event, Tlbi, Tag, World, Hyp, Kernel, VttbrEl2, Scope, scope_of}
-use Rattle.bbm_rules.specs.Reach.{reaches}
-use Rattle.bbm_rules.specs.RegisterValues.{named_scope, tag_number, vmid_in, vmid_of}
-use Rattle.bbm_rules.specs.Roots.{Declared, roots_of}
-use Rattle.bbm_rules.specs.Tags.{distinct, ever_read, holds_at, tag_set, tags_of, takes_tag}
-use Rattle.bbm_rules.specs.Tree.{Node, held_at, is_childless, next_of, node_of, region_of, tree}
-use Rattle.bbm_rules.specs.Values.{written_places}
-use Rattle.bbm_alike.specs.Alike.{Alike, SamePatterns}
-use Rattle.bbm_idle.specs.Idle.{adds, adds_at, is_needed, is_needed_at, keeps_phases, takes_of}
-use Rattle.bbm_idle.specs.KnownOfIdle.{Known}
-use Rattle.bbm_idle.specs.SamePhase.{same_phase}
+use Rattle.bbm_rules.specs.Prelude.{scope_of}
+use Rattle.bbm_rules.specs.RegisterValues.{vmid_in}
+use Rattle.bbm_rules.specs.Tree.{tree}
 use Rattle.bbm_idle.proofs.DsbBase.{held_last}
 use Rattle.bbm_idle.proofs.FindLists.{every_alike}
 

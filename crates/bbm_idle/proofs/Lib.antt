@@ -1,3 +1,4 @@
+mod Common
 pub mod Registers
 pub mod CasesIdle
 pub mod CasesLeft

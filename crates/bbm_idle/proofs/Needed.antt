@@ -1,35 +1,20 @@
 -- What it says of a TLBI that it is needed, or isn't.
-use Rattle.std.proofs.Common.{◌≡◌, ℕ, ◌<◌, Bool, true, false, not, ◌&&◌, ◌||◌, List, [], ◌∷◌, ◌++◌, Option, Some}
-use Rattle.std.proofs.Common.{option_and_then, Contains, is_none, unwrap_or, refl, sym, ◌∙◌, ap, subst, true≢false}
-use Rattle.std.proofs.lemmas.Bool.{and_from, and_parts, false_from_ne_true, or_left, or_right}
+use Rattle.bbm_idle.proofs.Common.{Patterns, answered_by, half_after, half_waits, is_tlbi, adds, adds_at}
+use Rattle.bbm_idle.proofs.Common.{answers_needed, is_needed, is_needed_at, takes_of, Known}
+use Rattle.bbm_rules.proofs.Common.{◌≡◌, ℕ, ◌<◌, Bool, true, false, not, ◌&&◌, ◌||◌, List, [], ◌∷◌, ◌++◌, Option, Some}
+use Rattle.bbm_rules.proofs.Common.{option_and_then, Contains, is_none, unwrap_or, refl, sym, ◌∙◌, ap, subst}
+use Rattle.bbm_rules.proofs.Common.{true≢false, and_from, and_parts, false_from_ne_true, or_left, or_right, pe_finds}
+use Rattle.bbm_rules.proofs.Common.{In, any_finds, any_found, from_contains, none_of, to_contains, answers, same_bool}
+use Rattle.bbm_rules.proofs.Common.{operation, Cover, Half, Second, Full, keeps, cleansed, flushes, half, same_cover}
+use Rattle.bbm_rules.proofs.Common.{seen, cover_at, noted, ValidWrite, last_valid, any, Noted, events_of, page_of}
+use Rattle.bbm_rules.proofs.Common.{Barrier, Heading, Event, Dsb, Tlbi, Issued, completes, reaches, unanswered}
+use Rattle.bbm_rules.proofs.Common.{Declared, roots_of, Open, completes_for, itself, Node, node_of, written_places}
 use Rattle.std.proofs.lemmas.List.{append_assoc}
-use Rattle.bbm_lemmas.proofs.Words.{pe_finds}
-use Rattle.bbm_lemmas.specs.Elements.{In}
-use Rattle.bbm_lemmas.proofs.Elements.{any_finds, any_found, from_contains, none_of, to_contains}
-use Rattle.bbm_barriers.specs.Options.{answers}
-use Rattle.bbm_descriptor.specs.Descriptor.{same_bool}
-use Rattle.bbm_tlbi_scope.specs.Operations.{operation}
-use Rattle.bbm_tlbi_scope.specs.declared.entry.Cover.{Cover}
-use Rattle.bbm_tlbi_scope.specs.declared.entry.Cover.TheVariants.{None as NoCover, Half, Second, Full}
-use Rattle.bbm_rules.specs.Broken.{broken, keeps}
-use Rattle.bbm_rules.specs.Claims.{Patterns}
-use Rattle.bbm_rules.specs.Cleansing.{cleansed, flushes, half, same_cover, seen}
-use Rattle.bbm_rules.specs.Covers.{cover_at, noted}
-use Rattle.bbm_rules.specs.Held.{ValidWrite, last_valid}
-use Rattle.bbm_rules.specs.Lists.{any}
-use Rattle.bbm_rules.specs.Notes.{Noted, event_of, events_of}
-use Rattle.bbm_rules.specs.Places.{page_of}
-use Rattle.bbm_rules.specs.Prelude.{Barrier, Heading, Event, Dsb, Tlbi}
-use Rattle.bbm_rules.specs.Reach.{Issued, completes, reaches, unanswered}
-use Rattle.bbm_rules.specs.Roots.{Declared, roots_of}
-use Rattle.bbm_rules.specs.Sentences.{Open, completes_for}
-use Rattle.bbm_rules.specs.Tags.{itself}
-use Rattle.bbm_rules.specs.Tree.{Node, node_of, tree}
-use Rattle.bbm_rules.specs.Values.{written_places}
-use Rattle.bbm_histories.specs.HistorySteps.{answered_by, half_after, half_waits, is_tlbi}
+use Rattle.bbm_tlbi_scope.specs.declared.entry.Cover.TheVariants.{None as NoCover}
+use Rattle.bbm_rules.specs.Broken.{broken}
+use Rattle.bbm_rules.specs.Notes.{event_of}
+use Rattle.bbm_rules.specs.Tree.{tree}
 use Rattle.bbm_histories.specs.TreeChanges.{HeldBy, View}
-use Rattle.bbm_idle.specs.Idle.{adds, adds_at, answers_needed, is_needed, is_needed_at, takes_of}
-use Rattle.bbm_idle.specs.KnownOfIdle.{Known}
 use Rattle.bbm_idle.proofs.Since.{answered_waits, half_later}
 use Rattle.bbm_idle.proofs.Written.{written}
 

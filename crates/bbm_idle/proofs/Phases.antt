@@ -1,14 +1,8 @@
 -- What two places of the same phase have in common.
-use Rattle.std.proofs.Common.{◌≡◌, ℕ, Bool, true, false, cond, List, refl, sym, true≢false}
-use Rattle.bbm_rules.specs.declared.phase.Phase.{Phase}
-use Rattle.bbm_rules.specs.declared.phase.Phase.TheVariants.{Clean, Live, Broken, Seen, Half, Cleansed}
-use Rattle.bbm_rules.specs.Prelude.{Heading}
-use Rattle.bbm_rules.specs.Claims.{Patterns}
-use Rattle.bbm_rules.specs.Cleansing.{cleansed, half, seen}
-use Rattle.bbm_rules.specs.Notes.{Noted}
-use Rattle.bbm_rules.specs.Phases.{broken_phase}
-use Rattle.bbm_idle.specs.KnownOfIdle.{Known}
-use Rattle.bbm_idle.specs.SamePhase.{same_phase}
+use Rattle.bbm_idle.proofs.Common.{Phase, Clean, Live, Patterns, Known, same_phase}
+use Rattle.bbm_rules.proofs.Common.{◌≡◌, ℕ, Bool, true, false, cond, List, refl, sym, true≢false, Heading, cleansed}
+use Rattle.bbm_rules.proofs.Common.{half, seen, Noted, broken_phase}
+use Rattle.bbm_rules.specs.declared.phase.Phase.TheVariants.{Broken, Seen, Half, Cleansed}
 use Rattle.bbm_idle.proofs.Since.{cleansed_seen, half_seen}
 
 -- the phase of a broken place that is cleansed, half and seen as told

@@ -1,21 +1,11 @@
 -- What is left without the idle events has no idle event.
-use Rattle.std.proofs.Common.{◌≡◌, ℕ, Bool, true, false, cond, not, ◌&&◌, ◌||◌, ◌==◌, List, [], ◌∷◌, ◌++◌, is_none}
-use Rattle.std.proofs.Common.{refl, sym, ◌∙◌, ap, subst}
-use Rattle.std.proofs.lemmas.Bool.{and_parts, not-true}
-use Rattle.bbm_lemmas.proofs.Tautologies.{proved}
-use Rattle.bbm_lemmas.proofs.Tautologies.Claim.{Is}
-use Rattle.bbm_barriers.specs.Options.{answers}
-use Rattle.bbm_rules.specs.Broken.{broken, keeps}
-use Rattle.bbm_rules.specs.Claims.{Patterns}
-use Rattle.bbm_rules.specs.Lists.{any}
-use Rattle.bbm_rules.specs.Prelude.{Barrier, Heading, Event, Dsb, Isb, Tlbi}
-use Rattle.bbm_rules.specs.Reach.{unanswered}
-use Rattle.bbm_rules.specs.Tags.{itself}
-use Rattle.bbm_oracle_tags.specs.Watches.{is_cast}
-use Rattle.bbm_alike.specs.Alike.{Alike}
-use Rattle.bbm_idle.specs.Finding.{waits, waits_after}
-use Rattle.bbm_idle.specs.Idle.{answers_needed, is_idle, keeps_phases, without_idle}
-use Rattle.bbm_idle.specs.KnownOfIdle.{Known}
+use Rattle.bbm_idle.proofs.Common.{Patterns, is_cast, Alike, waits, waits_after, answers_needed, keeps_phases}
+use Rattle.bbm_idle.proofs.Common.{without_idle, Known}
+use Rattle.bbm_rules.proofs.Common.{◌≡◌, ℕ, Bool, true, false, cond, not, ◌&&◌, ◌||◌, ◌==◌, List, [], ◌∷◌, ◌++◌}
+use Rattle.bbm_rules.proofs.Common.{is_none, refl, sym, ◌∙◌, ap, subst, and_parts, not-true, proved, Is, answers, keeps}
+use Rattle.bbm_rules.proofs.Common.{any, Barrier, Heading, Event, Dsb, Isb, Tlbi, unanswered, itself}
+use Rattle.bbm_rules.specs.Broken.{broken}
+use Rattle.bbm_idle.specs.Idle.{is_idle}
 use Rattle.bbm_idle.proofs.FindWaiting.{answered, waits_next}
 use Rattle.bbm_idle.proofs.Judged.{same_kept, same_needed}
 use Rattle.bbm_idle.proofs.Registers.{wrote_alike}

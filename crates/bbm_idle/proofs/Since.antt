@@ -1,19 +1,10 @@
 -- What is known of the events since the last valid write of a place: what is half or cleansed was seen, what is half
 -- stays so, and where nothing was written there is nothing of these.
-use Rattle.std.proofs.Common.{◌≡◌, ℕ, Bool, true, false, ◌&&◌, List, [], ◌∷◌, ◌++◌, sym, ◌∙◌, ap, subst, inl, inr}
-use Rattle.std.proofs.Common.{append_assoc, true≢false}
-use Rattle.std.proofs.lemmas.Bool.{and_from, and_parts, false_from_ne_true, or_cases, or_left, or_right}
-use Rattle.bbm_barriers.specs.Options.{answers}
-use Rattle.bbm_tlbi_scope.specs.declared.entry.Cover.{Cover}
-use Rattle.bbm_tlbi_scope.specs.declared.entry.Cover.TheVariants.{Half, Second, Full}
-use Rattle.bbm_rules.specs.Prelude.{Barrier, Heading, Write}
-use Rattle.bbm_rules.specs.Claims.{Patterns}
-use Rattle.bbm_rules.specs.Cleansing.{cleansed, half, seen}
-use Rattle.bbm_rules.specs.Notes.{Noted}
-use Rattle.bbm_rules.specs.PatternSentences.{Cleansed, Flush, Publication}
-use Rattle.bbm_rules.specs.Reach.{Issued}
-use Rattle.bbm_histories.specs.HistorySteps.{answered_by}
-use Rattle.bbm_idle.specs.KnownOfIdle.{Known}
+use Rattle.bbm_idle.proofs.Common.{Patterns, answered_by, Known}
+use Rattle.bbm_rules.proofs.Common.{◌≡◌, ℕ, Bool, true, false, ◌&&◌, List, [], ◌∷◌, ◌++◌, sym, ◌∙◌, ap, subst, inl, inr}
+use Rattle.bbm_rules.proofs.Common.{append_assoc, true≢false, and_from, and_parts, false_from_ne_true, or_cases}
+use Rattle.bbm_rules.proofs.Common.{or_left, or_right, answers, Cover, Half, Second, Full, Barrier, Heading, Write}
+use Rattle.bbm_rules.proofs.Common.{cleansed, half, seen, Noted, Cleansed, Flush, Publication, Issued}
 
 -- ---- what a DSB answers
 

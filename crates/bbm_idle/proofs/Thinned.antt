@@ -1,12 +1,9 @@
 -- A history that keeps the rules is alike to itself without idle events, and that keeps them, too.
-use Rattle.std.proofs.Common.{◌≡◌, Bool, true, false, cond, List, [], ◌∷◌, Option, is_none, refl, sym, ◌∙◌, ap}
-use Rattle.std.proofs.lemmas.Bool.{and_from, and_parts}
-use Rattle.bbm_rules.specs.Broken.{Breach, broken, keeps}
-use Rattle.bbm_rules.specs.Claims.{Patterns}
-use Rattle.bbm_rules.specs.Prelude.{Heading, Event}
-use Rattle.bbm_alike.specs.Alike.{Alike}
-use Rattle.bbm_idle.specs.Idle.{ChoosesIdle, without}
-use Rattle.bbm_idle.specs.KnownOfIdle.{Known}
+use Rattle.bbm_idle.proofs.Common.{Patterns, Alike, without, Known}
+use Rattle.bbm_rules.proofs.Common.{◌≡◌, Bool, true, false, cond, List, [], ◌∷◌, Option, is_none, refl, sym, ◌∙◌, ap}
+use Rattle.bbm_rules.proofs.Common.{and_from, and_parts, Breach, keeps, Heading, Event}
+use Rattle.bbm_rules.specs.Broken.{broken}
+use Rattle.bbm_idle.specs.Idle.{ChoosesIdle}
 use Rattle.bbm_idle.proofs.Base.{base}
 
 module _ (heading : Heading) (k : Known heading) (chosen : List Event → Event → Bool) (idle : ChoosesIdle heading chosen) where

@@ -1,22 +1,12 @@
 -- What is seen, half and cleansed, and what waits and still counts, after an event that is idle.
-use Rattle.std.proofs.Common.{◌≡◌, ℕ, ◌<◌, Bool, true, false, cond, not, ◌&&◌, ◌||◌, ◌==◌, List, ◌∷◌, refl, sym, ◌∙◌}
-use Rattle.std.proofs.Common.{ap, true≢false}
-use Rattle.std.proofs.lemmas.Bool.{and_parts, eqb-true, false_from_ne_true, or_parts}
-use Rattle.bbm_lemmas.proofs.Tautologies.{proved}
-use Rattle.bbm_lemmas.proofs.Tautologies.Claim.{If, Is}
-use Rattle.bbm_barriers.specs.Options.{answers}
-use Rattle.bbm_tlbi_scope.specs.declared.entry.Cover.{Cover}
-use Rattle.bbm_tlbi_scope.specs.declared.entry.Cover.TheVariants.{Half, Second, Full}
-use Rattle.bbm_rules.specs.Prelude.{Barrier, Heading, Event, Dsb, Dmb, Isb, Tlbi, TlbiOp}
-use Rattle.bbm_rules.specs.Claims.{Patterns}
-use Rattle.bbm_rules.specs.Cleansing.{cleansed, flushes, half, same_cover, seen, writes}
-use Rattle.bbm_rules.specs.Notes.{Noted, event_of}
-use Rattle.bbm_rules.specs.Reach.{Issued, reaches}
-use Rattle.bbm_histories.specs.HistorySteps.{answered_by, cleansed_after, full_waits, half_after, half_waits, is_tlbi}
-use Rattle.bbm_histories.specs.HistorySteps.{second_waits, seen_after, waits_after, wrote}
-use Rattle.bbm_alike.specs.Alike.{SamePatterns}
-use Rattle.bbm_idle.specs.Idle.{adds}
-use Rattle.bbm_idle.specs.KnownOfIdle.{Known}
+use Rattle.bbm_idle.proofs.Common.{Patterns, answered_by, half_after, half_waits, is_tlbi, SamePatterns, adds, Known}
+use Rattle.bbm_rules.proofs.Common.{◌≡◌, ℕ, ◌<◌, Bool, true, false, cond, not, ◌&&◌, ◌||◌, ◌==◌, List, ◌∷◌, refl, sym}
+use Rattle.bbm_rules.proofs.Common.{◌∙◌, ap, true≢false, and_parts, eqb-true, false_from_ne_true, or_parts, proved, If}
+use Rattle.bbm_rules.proofs.Common.{Is, answers, Cover, Half, Second, Full, Barrier, Heading, Event, Dsb, Dmb, Isb}
+use Rattle.bbm_rules.proofs.Common.{Tlbi, TlbiOp, cleansed, flushes, half, same_cover, seen, writes, Noted, Issued}
+use Rattle.bbm_rules.proofs.Common.{reaches}
+use Rattle.bbm_rules.specs.Notes.{event_of}
+use Rattle.bbm_histories.specs.HistorySteps.{cleansed_after, full_waits, second_waits, seen_after, waits_after, wrote}
 use Rattle.bbm_idle.proofs.Since.{waits_answered}
 
 -- ---- a TLBI that adds nothing covers no place in full, half or for the rest, where that counts

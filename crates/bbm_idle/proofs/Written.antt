@@ -1,16 +1,9 @@
 -- A place with a last valid write was written.
-use Rattle.std.proofs.Common.{◌≡◌, ℕ, Bool, true, false, cond, ◌==◌, ◌&&◌, List, [], ◌∷◌, Option, Some, None, refl, ap}
-use Rattle.std.proofs.Common.{subst}
-use Rattle.std.proofs.lemmas.Bool.{and_parts, eqb-true}
-use Rattle.bbm_lemmas.proofs.Words.{with_has, with_keeps}
-use Rattle.bbm_lemmas.specs.Elements.{In}
-use Rattle.bbm_descriptor.specs.Descriptor.{is_valid}
-use Rattle.bbm_rules.specs.Prelude.{Kind, Event, Init, Write}
-use Rattle.bbm_rules.specs.Held.{ValidWrite, last_valid, last_valid_after, later}
-use Rattle.bbm_rules.specs.Lists.{with_number}
-use Rattle.bbm_rules.specs.Notes.{Noted, events_of}
-use Rattle.bbm_rules.specs.Places.{page_of}
-use Rattle.bbm_rules.specs.Values.{written_places}
+use Rattle.bbm_idle.proofs.Common.{Kind}
+use Rattle.bbm_rules.proofs.Common.{◌≡◌, ℕ, Bool, true, false, cond, ◌==◌, ◌&&◌, List, [], ◌∷◌, Option, Some, None}
+use Rattle.bbm_rules.proofs.Common.{refl, ap, subst, and_parts, eqb-true, with_has, with_keeps, In, is_valid, Event}
+use Rattle.bbm_rules.proofs.Common.{Init, Write, ValidWrite, last_valid, last_valid_after, later, with_number, Noted}
+use Rattle.bbm_rules.proofs.Common.{events_of, page_of, written_places}
 
 pub was_some : (n : Noted) (o : Option ValidWrite) (w : ValidWrite) → later n o ≡ Some w
     → (v : ValidWrite) × (o ≡ Some v) × (v.value ≡ w.value) × (n ∷ v.since ≡ w.since)

@@ -1,12 +1,10 @@
 -- The least of a list, from its parts.
-use Rattle.std.proofs.Common.{◌≡◌, ℕ, ◌+◌, ◌<◌, ◌++◌, ◌∷◌, [], Bool, true, false, cond, List, Option, Some, None, min}
-use Rattle.std.proofs.Common.{unwrap_or, option_to_list, length, take, get_or, filter, flat_map, refl, sym, ◌∙◌, ap}
-use Rattle.std.proofs.Common.{arith}
-use Rattle.std.proofs.lemmas.Bool.Decides.{nat_tests}
+use Rattle.bbm_rules.proofs.Common.{◌≡◌, ℕ, ◌+◌, ◌<◌, ◌++◌, ◌∷◌, [], Bool, true, false, cond, List, Option, Some, None}
+use Rattle.bbm_rules.proofs.Common.{min, unwrap_or, option_to_list, length, take, get_or, filter, flat_map, refl, sym}
+use Rattle.bbm_rules.proofs.Common.{◌∙◌, ap, arith, nat_tests, among, if_so, least, repeated}
 use Rattle.std.proofs.lemmas.Grind.{flat_map-append}
 use Rattle.std.proofs.lemmas.List.{append-nil}
 use Rattle.std.proofs.lemmas.List.Elements.{filter-append}
-use Rattle.bbm_rules.specs.Lists.{among, if_so, least, repeated}
 use Rattle.bbm_judge.specs.Lesser.{is_at_most, lesser}
 use Rattle.bbm_judge.proofs.Lists.{taken_more}
 

@@ -1,10 +1,8 @@
 -- One more item of a list.
-use Rattle.std.proofs.Common.{◌≡◌, ℕ, ◌+◌, ◌-◌, ◌<◌, ◌++◌, ◌∷◌, [], List, Option, Some, None, option_to_list, length}
-use Rattle.std.proofs.Common.{take, drop, get_or, filter_map, refl, sym, ◌∙◌, ap, add-one, length-drop, arith}
-use Rattle.std.specs.List.{cons_option}
-use Rattle.std.proofs.lemmas.List.{take_all, take_more}
-use Rattle.std.proofs.lemmas.List.Elements.{filter_map-append}
-use Rattle.std.proofs.Math.Seq.{drop-cons}
+use Rattle.bbm_rules.proofs.Common.{◌≡◌, ℕ, ◌+◌, ◌-◌, ◌<◌, ◌++◌, ◌∷◌, [], List, Option, Some, None, option_to_list}
+use Rattle.bbm_rules.proofs.Common.{length, take, drop, get_or, filter_map, refl, sym, ◌∙◌, ap, add-one, arith}
+use Rattle.bbm_rules.proofs.Common.{cons_option, take_all, take_more, filter_map-append, drop-cons}
+use Rattle.std.proofs.Common.{length-drop}
 
 pub taken_more : {A : Type 0} (xs : List A) (i : ℕ) (x : A) → i < length xs → x ≡ get_or xs i x → take (i + 1) xs ≡ take i xs ++ x ∷ []
 taken_more xs i x lt is = take_more xs i x lt ∙ ap (λ y. take i xs ++ y ∷ []) (sym is)

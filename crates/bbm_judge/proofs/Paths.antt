@@ -1,14 +1,9 @@
 -- Ends of paths and pages of roots, one after another.
-use Rattle.std.proofs.Common.{◌≡◌, ℕ, zero, suc, ◌+◌, ◌-◌, ◌<◌, ◌*◌, ◌++◌, ◌∷◌, [], Bool, true, cond, List, filter_map}
-use Rattle.std.proofs.Common.{flat_map, sym, ◌∙◌, ap, add-one, arith}
-use Rattle.bbm_rules.specs.Prelude.{Kind, Heading}
-use Rattle.bbm_rules.specs.Attach.{End, end_at, ends_below}
-use Rattle.bbm_rules.specs.Claims.{Trust}
-use Rattle.bbm_rules.specs.Notes.{Noted, events_of}
-use Rattle.bbm_rules.specs.Pages.{is_fresh}
-use Rattle.bbm_rules.specs.Roots.{pages_from}
-use Rattle.bbm_rules.specs.Tree.{next_of}
-use Rattle.bbm_rules.specs.Values.{places_in, value_of}
+use Rattle.bbm_rules.proofs.Common.{◌≡◌, ℕ, zero, suc, ◌+◌, ◌-◌, ◌<◌, ◌*◌, ◌++◌, ◌∷◌, [], Bool, true, cond, List}
+use Rattle.bbm_rules.proofs.Common.{filter_map, flat_map, sym, ◌∙◌, ap, add-one, arith, Heading, End, end_at}
+use Rattle.bbm_rules.proofs.Common.{ends_below, Trust, Noted, events_of, is_fresh, pages_from, next_of, places_in}
+use Rattle.bbm_rules.proofs.Common.{value_of}
+use Rattle.bbm_rules.specs.Prelude.{Kind}
 
 -- the ends of the paths that go on through a next page
 abbrev pub through : Heading → Trust → List Noted → Kind → ℕ → ℕ → ℕ → List End

@@ -1,16 +1,10 @@
 -- The first broken rule, one rule after another, and the answers that tell it.
-use Rattle.std.proofs.Common.{◌≡◌, ℕ, ◌+◌, ◌<◌, ◌∷◌, [], List, Option, Some, None, Result, Ok, Err, length, drop}
-use Rattle.std.proofs.Common.{get_or, refl}
-use Rattle.std.specs.Option.{option_map_or}
-use Rattle.bbm_regimes.specs.declared.regime.Which.{Which}
-use Rattle.bbm_rules.specs.Prelude.{Heading, Event}
+use Rattle.bbm_rules.proofs.Common.{◌≡◌, ℕ, ◌+◌, ◌<◌, ◌∷◌, [], List, Option, Some, None, Result, Ok, Err, length, drop}
+use Rattle.bbm_rules.proofs.Common.{get_or, refl, option_map_or, Which, Heading, Event, Answers, Breach, breaks}
+use Rattle.bbm_rules.proofs.Common.{first_broken, Trust, Noted}
 use Rattle.bbm_rules.specs.declared.rule.Rule.{Rule}
 use Rattle.bbm_rules.specs.declared.step_fault.StepFault.{StepFault}
 use Rattle.bbm_rules.specs.declared.step_fault.StepFault.TheVariants.{Broken, Limit, NoMemory}
-use Rattle.bbm_rules.specs.Answers.{Answers}
-use Rattle.bbm_rules.specs.Broken.{Breach, breaks, first_broken}
-use Rattle.bbm_rules.specs.Claims.{Trust}
-use Rattle.bbm_rules.specs.Notes.{Noted}
 use Rattle.bbm_judge.specs.Judges.{Judges, Reaches}
 use Rattle.bbm_judge.proofs.Lists.{dropped_less}
 

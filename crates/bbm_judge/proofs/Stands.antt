@@ -1,11 +1,8 @@
 -- What a kept history that stands for a history tells of it.
-use Rattle.std.proofs.Common.{◌≡◌, ℕ, List, count_by, ◌∙◌, ap}
-use Rattle.bbm_rules.specs.Prelude.{Heading, Event}
-use Rattle.bbm_rules.specs.Broken.{broken, first_broken, rules}
-use Rattle.bbm_rules.specs.Claims.{Trust}
-use Rattle.bbm_rules.specs.Notes.{Noted, events_of}
-use Rattle.bbm_rules.specs.Phases.{is_restless, restless_of}
-use Rattle.bbm_rules.specs.Values.{written_places}
+use Rattle.bbm_rules.proofs.Common.{◌≡◌, ℕ, List, count_by, ◌∙◌, ap, Heading, Event, first_broken, Trust, Noted}
+use Rattle.bbm_rules.proofs.Common.{events_of, is_restless, written_places}
+use Rattle.bbm_rules.specs.Broken.{broken, rules}
+use Rattle.bbm_rules.specs.Phases.{restless_of}
 use Rattle.bbm_oracle_trees.specs.Past.{Past, notes}
 use Rattle.bbm_oracle_trees.specs.HistoryStandsFor.{StandsFor}
 

@@ -1,7 +1,7 @@
--- Words on lists, on options and on tests, of no subject of their own.
+-- Words on lists, on options, on flags and on tests, of no subject of their own.
 -- Source: project's own choice.
 use Rattle.std.specs.Option.{option_map_or}
-use Rattle.std.specs.Prelude.{ℕ, zero, suc, min, Bool, true, false, ◌||◌, ◌==◌, List, [], ◌∷◌, Option, Some, None}
+use Rattle.std.specs.Prelude.{ℕ, zero, suc, min, Bool, true, false, not, ◌||◌, ◌==◌, List, [], ◌∷◌, Option, Some, None}
 use Rattle.std.specs.Prelude.{option_and_then, unwrap_or, if◌then◌else◌}
 -- whether some item of a list passes the test, and whether every item does
 pub use Rattle.std.specs.List.{list_any as any, list_all as every}
@@ -15,6 +15,11 @@ o >>= f = option_and_then f o
 abbrev pub if_so : {A : Type 0} → Bool → A → Option A
 if_so false x = None
 if_so true x = Some x
+
+-- whether two flags are the same
+abbrev pub same_flag : Bool → Bool → Bool
+same_flag true b = b
+same_flag false b = not b
 
 -- whether there is a number and it is this one
 abbrev pub is_that : Option ℕ → ℕ → Bool

@@ -1,5 +1,12 @@
 -- The parts of a line at the front of some bytes, put together.
-use Rattle.std.proofs.Common.{◌≡◌, ◌≢◌, ℕ, zero, suc, ◌+◌, ◌-◌, ◌*◌, ◌<◌, ◌≤◌, Bool, true, false, cond, List, []}
+use Rattle.bbm_log_grammar.proofs.Common.{◌≡◌, ◌≢◌, ℕ, zero, suc, ◌+◌, ◌-◌, ◌*◌, ◌<◌, ◌≤◌, Bool, true, false, cond}
+use Rattle.bbm_log_grammar.proofs.Common.{List, [], arith, take-append-drop, length-take, le-leb, take_all, take_rest}
+use Rattle.bbm_log_grammar.proofs.Common.{digit_value, list_all, Full, Inner, Non, Dsb, All, Loads, Stores, Event}
+use Rattle.bbm_log_grammar.proofs.Common.{item_fits, Heading, is_label, is_label_byte, event_fields, joined, dsb_word}
+use Rattle.bbm_log_grammar.proofs.Common.{op_word, reg_word, Reg, Ttbr0El2, VttbrEl2, Ttbr0El1, Ttbr1El1, TlbiOp}
+use Rattle.bbm_log_grammar.proofs.Common.{Vae2is, Vale2is, Vae1is, Vale1is, Ipas2e1is, Vmalle1is, Vmalls12e1is}
+use Rattle.bbm_log_grammar.proofs.Common.{Vaale1is, Alle2is, Aside1is, is_lower_digit}
+use Rattle.std.proofs.Common.{append_assoc, append-nil, length-append}
 use Rattle.std.proofs.Common.{
   ◌∷◌,
   ◌++◌,
@@ -18,34 +25,14 @@ use Rattle.std.proofs.Common.{
   ap,
   ◌∙◌,
 }
-use Rattle.std.proofs.Common.{arith, append_assoc, append-nil, length-append, take-append-drop}
-use Rattle.std.proofs.Common.{length-take}
 use Rattle.std.proofs.Math.Seq.{take-append_seam, take-append-add}
-use Rattle.std.proofs.lemmas.Bool.{le-leb}
-use Rattle.std.proofs.lemmas.List.{take_all, take_rest}
-use Rattle.std.specs.Char.{digit_value}
 use Rattle.std.specs.Fmt.{digits}
-use Rattle.std.specs.List.{list_all}
-use Rattle.bbm_barriers.specs.declared.Domain.TheVariants.{Full, Inner, Non}
-use Rattle.bbm_barriers.specs.declared.Dsb.{Dsb}
-use Rattle.bbm_barriers.specs.declared.Types.TheVariants.{All, Loads, Stores}
-use Rattle.bbm_events.specs.declared.event.Event.{Event}
 use Rattle.bbm_events.specs.declared.event.Event.TheVariants as event
 use Rattle.bbm_events.specs.declared.event.Item.TheVariants as item
-use Rattle.bbm_events.specs.Fits.{item_fits}
-use Rattle.bbm_events.specs.Heading.{Heading}
-use Rattle.bbm_events.specs.Label.{is_label, is_label_byte}
-use Rattle.bbm_events.specs.Lines.{event_fields, item_line, item_of}
-use Rattle.bbm_events.specs.Spelling.{hex, is_plain, joined}
-use Rattle.bbm_events.specs.Words.{dsb_word, op_word, reg_word}
-use Rattle.bbm_regimes.specs.declared.regime.Reg.{Reg}
-use Rattle.bbm_regimes.specs.declared.regime.Reg.TheVariants.{Ttbr0El2, VttbrEl2, Ttbr0El1, Ttbr1El1}
+use Rattle.bbm_events.specs.Lines.{item_line, item_of}
+use Rattle.bbm_events.specs.Spelling.{hex, is_plain}
 use Rattle.bbm_tlbi_scope.specs.Operations.{has_operand}
-use Rattle.bbm_tlbi_scope.specs.declared.op.TlbiOp.{TlbiOp}
-use Rattle.bbm_tlbi_scope.specs.declared.op.TlbiOp.TheVariants.{Vae2is, Vale2is, Vae1is, Vale1is, Ipas2e1is}
-use Rattle.bbm_tlbi_scope.specs.declared.op.TlbiOp.TheVariants.{Vmalle1is, Vmalls12e1is, Vaale1is, Alle2is, Aside1is}
 use Rattle.bbm_log_grammar.specs.Ahead.{StandsFirst, label_part}
-use Rattle.bbm_log_grammar.specs.Digits.{is_lower_digit}
 use Rattle.bbm_log_grammar.proofs.Begun.{begins}
 use Rattle.bbm_log_grammar.proofs.Numerals.{is_base_10, text_value, lower_below}
 use Rattle.bbm_log_grammar.proofs.Parts.{one_label}

@@ -1,19 +1,12 @@
 -- The first word of a line, the option of a barrier, or the operation of a TLBI, where a space follows it.
-use Rattle.std.proofs.Common.{◌≡◌, ℕ, suc, ◌-◌, ◌<◌, ◌≤◌, List, [], ◌∷◌, ◌++◌, length, take, drop, get_or}
-use Rattle.std.proofs.Common.{codes, refl, ap, ◌∙◌, Ok, arith}
-use Rattle.std.specs.Bool.{⊤}
-use Rattle.std.proofs.lemmas.List.{take_rest}
-use Rattle.bbm_tlbi_scope.specs.declared.op.TlbiOp.{TlbiOp}
-use Rattle.bbm_tlbi_scope.specs.declared.op.TlbiOp.TheVariants.{Vae2is, Vale2is, Vae1is, Vale1is, Ipas2e1is}
-use Rattle.bbm_tlbi_scope.specs.declared.op.TlbiOp.TheVariants.{Vmalle1is, Alle2is}
-use Rattle.bbm_barriers.specs.declared.Dsb.{Dsb}
-use Rattle.bbm_barriers.specs.declared.Domain.TheVariants.{Inner}
-use Rattle.bbm_barriers.specs.declared.Types.TheVariants.{All, Stores}
-use Rattle.bbm_events.specs.Spelling.{fields}
+use Rattle.bbm_log_grammar.proofs.Common.{◌≡◌, ℕ, suc, ◌-◌, ◌<◌, ◌≤◌, List, [], ◌∷◌, ◌++◌, length, take, drop, get_or}
+use Rattle.bbm_log_grammar.proofs.Common.{refl, ap, ◌∙◌, Ok, arith, ⊤, take_rest, TlbiOp, Vae2is, Vale2is, Vae1is}
+use Rattle.bbm_log_grammar.proofs.Common.{Vale1is, Ipas2e1is, Vmalle1is, Alle2is, Dsb, Inner, All, Stores, fields}
+use Rattle.bbm_log_grammar.proofs.Common.{named_op}
+use Rattle.std.proofs.Common.{codes}
 use Rattle.bbm_events.specs.declared.keyword.Keyword.{Keyword}
 use Rattle.bbm_events.specs.declared.keyword.Keyword.TheVariants as first
 use Rattle.bbm_events.specs.Lines.{FieldRead, keyword_field, dsb_field}
-use Rattle.bbm_log_grammar.specs.Front.{named_op}
 
 abbrev keyword : List ℕ → FieldRead Keyword
 keyword line = keyword_field (fields line)

@@ -1,17 +1,12 @@
 -- A number of at most 15 hex digits has room for one more; the table of the values of hex digits, and four of them read
 -- at once.
-use Rattle.std.proofs.Common.{◌≡◌, ℕ, suc, ◌+◌, ◌*◌, ◌^◌, ◌<◌, ◌≤◌, Bool, true, false, ◌&&◌, ◌==◌, nat_lt, cond}
-use Rattle.std.proofs.Common.{List, [], ◌∷◌, ◌-◌, length, take, drop, get_or, ap, sym, ◌∙◌, Option, Some, None}
-use Rattle.std.proofs.Common.{slice_index_or, subst, refl, arith}
-use Rattle.std.proofs.lemmas.Bool.{eqb-true, ltb-true, lt-ltb, and_parts, agree_below_at}
-use Rattle.std.proofs.Math.Nat.{pow-suc, pow-le-pow_right}
-use Rattle.std.proofs.lemmas.List.{take_all}
-use Rattle.std.specs.Char.{digit_value}
-use Rattle.std.specs.Fmt.{digit_glyph}
-use Rattle.std.specs.Option.{option_and_then}
-use Rattle.bbm_events.specs.Spelling.{fields}
-use Rattle.bbm_log_grammar.specs.Digits.{is_lower_digit, hex_worth, next_number}
-use Rattle.bbm_log_grammar.specs.Front.{run}
+use Rattle.bbm_log_grammar.proofs.Common.{◌≡◌, ℕ, suc, ◌+◌, ◌*◌, ◌^◌, ◌<◌, ◌≤◌, Bool, true, false, ◌&&◌, ◌==◌, nat_lt}
+use Rattle.bbm_log_grammar.proofs.Common.{cond, List, [], ◌∷◌, ◌-◌, length, take, drop, get_or, ap, sym, ◌∙◌, Option}
+use Rattle.bbm_log_grammar.proofs.Common.{Some, None, slice_index_or, subst, refl, arith, eqb-true, ltb-true, lt-ltb}
+use Rattle.bbm_log_grammar.proofs.Common.{and_parts, agree_below_at, pow-suc, take_all, digit_value, digit_glyph}
+use Rattle.bbm_log_grammar.proofs.Common.{option_and_then, fields, is_lower_digit, next_number, run}
+use Rattle.std.proofs.Math.Nat.{pow-le-pow_right}
+use Rattle.bbm_log_grammar.specs.Digits.{hex_worth}
 use Rattle.bbm_log_grammar.specs.declared.numbers.TheConstants.{HEX_VALUES}
 
 pub fits : (i n : ℕ) → i < 3 → n < 2 ^ 48 * 16 ^ i → n < 2 ^ 60

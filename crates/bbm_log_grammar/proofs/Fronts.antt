@@ -1,16 +1,13 @@
 -- What is read of a line up to its first space is the value of its first field.
-use Rattle.std.proofs.Common.{◌≡◌, ◌≢◌, ◌⊎◌, inl, inr, subst, ℕ, ◌-◌, ◌<◌, ◌≤◌, List, [], ◌∷◌, Bool, true, false, ◌&&◌}
-use Rattle.std.proofs.Common.{cond, length, take, drop, get_or, ◌==◌, refl, ap, sym, ◌∙◌, Option, Some, None, arith}
-use Rattle.std.specs.Option.{option_and_then}
+use Rattle.bbm_log_grammar.proofs.Common.{◌≡◌, ◌≢◌, inl, inr, subst, ℕ, ◌-◌, ◌<◌, ◌≤◌, List, [], ◌∷◌, Bool, true, false}
+use Rattle.bbm_log_grammar.proofs.Common.{◌&&◌, cond, length, take, drop, get_or, ◌==◌, refl, ap, sym, ◌∙◌, Option}
+use Rattle.bbm_log_grammar.proofs.Common.{Some, None, arith, option_and_then, eqb-true, nat_tests, take_all, fields}
+use Rattle.bbm_log_grammar.proofs.Common.{Malformed, next_field, found, next_number, number_after, number_of, run}
+use Rattle.std.proofs.Common.{◌⊎◌}
 use Rattle.std.specs.List.{onto_first}
-use Rattle.std.proofs.lemmas.Bool.{false≢true, eqb-true, eq-eqb}
-use Rattle.std.proofs.lemmas.Bool.Decides.{nat_tests}
-use Rattle.std.proofs.lemmas.List.{take_all}
-use Rattle.bbm_events.specs.Spelling.{fields, decimal_value, hex_value}
-use Rattle.bbm_events.specs.declared.malformed.Malformed.{Malformed}
-use Rattle.bbm_events.specs.Lines.{next_field, found}
-use Rattle.bbm_log_grammar.specs.Digits.{next_number, number_after, number_of}
-use Rattle.bbm_log_grammar.specs.Front.{front, after, with_rest, first_value, run, only_zero}
+use Rattle.std.proofs.lemmas.Bool.{false≢true, eq-eqb}
+use Rattle.bbm_events.specs.Spelling.{decimal_value, hex_value}
+use Rattle.bbm_log_grammar.specs.Front.{front, after, with_rest, first_value, only_zero}
 use Rattle.bbm_log_grammar.proofs.Numerals.{hex_of, hex_is, decimal_is}
 
 pub fields_cut : (line : List ℕ) → fields line ≡ front line ∷ after line

@@ -1,21 +1,21 @@
 -- Some bytes at once: how many of them pass a test, and which number they write.
-use Rattle.std.proofs.Common.{◌≡◌, ◌≢◌, ℕ, zero, suc, ◌+◌, ◌-◌, ◌*◌, ◌/◌, ◌%◌, ◌^◌, ◌<◌, ◌≤◌, Bool, true, false, not}
-use Rattle.std.proofs.Common.{◌==◌, cond, List, [], ◌∷◌, ◌++◌, map, length, take, drop, get_or, Fits, w8, refl, sym, ap}
-use Rattle.std.proofs.Common.{ap₂, ◌∙◌, subst, arith, div-one, pow-suc, pow-add, div-le_self, length-drop, length-take}
-use Rattle.std.proofs.Common.{take-take, take-append-drop, bit_and, ltb, replicate, w64}
-use Rattle.std.proofs.lemmas.Bool.{agree_below, agree_below_at, and_parts, eqb-true}
+use Rattle.bbm_log_grammar.proofs.Common.{◌≡◌, ◌≢◌, ℕ, zero, suc, ◌+◌, ◌-◌, ◌*◌, ◌/◌, ◌%◌, ◌^◌, ◌<◌, ◌≤◌, Bool, true}
+use Rattle.bbm_log_grammar.proofs.Common.{false, ◌==◌, cond, List, [], ◌∷◌, ◌++◌, length, take, drop, get_or, refl, sym}
+use Rattle.bbm_log_grammar.proofs.Common.{ap, ◌∙◌, subst, arith, length-drop, length-take, take-append-drop, bit_and}
+use Rattle.bbm_log_grammar.proofs.Common.{agree_below_at, and_parts, eqb-true, take_all, digit_value, digit_glyph}
+use Rattle.bbm_log_grammar.proofs.Common.{list_all, digits_value, digits_value_after, is_lower_digit}
+use Rattle.std.proofs.Common.{not, map, Fits, w8, ap₂, div-one, pow-suc, pow-add, div-le_self, take-take, ltb}
+use Rattle.std.proofs.Common.{replicate, w64}
+use Rattle.std.proofs.lemmas.Bool.{agree_below}
 use Rattle.std.proofs.lemmas.Simd.{map-map, mask_l-mod, first_set_mask_l, pick_l_whole}
-use Rattle.std.proofs.lemmas.List.{length-map, take_all}
+use Rattle.std.proofs.lemmas.List.{length-map}
 use Rattle.std.proofs.Math.Nat.{div-div-eq-div-mul}
-use Rattle.std.specs.Char.{digit_value}
-use Rattle.std.specs.Fmt.{digit_glyph, digits}
+use Rattle.std.specs.Fmt.{digits}
 use Rattle.std.proofs.lemmas.Nat.{and_mask}
 use Rattle.std.specs.Int.{from_be_bytes}
-use Rattle.std.specs.List.{list_all, prefix_len}
-use Rattle.std.specs.Str.Parse.{digits_value, digits_value_after}
+use Rattle.std.specs.List.{prefix_len}
 use lib.Lanes.{Each1, mask_l, pick_l, sel_l, top, zip2}
 use Rattle.bbm_log_grammar.specs.Ahead.{first_set, lane_worth, worth_after}
-use Rattle.bbm_log_grammar.specs.Digits.{is_lower_digit}
 use Rattle.bbm_log_grammar.proofs.Numerals.{is_base_16, all_lower, text_value, lower_below, lower_glyph}
 
 -- two tests that agree on bytes stop at the same lane

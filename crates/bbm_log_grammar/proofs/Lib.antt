@@ -1,3 +1,4 @@
+mod Common
 pub mod WorldFaults
 pub mod Marks
 pub mod Numerals

@@ -1,18 +1,14 @@
 -- What follows the first byte of a field, and a label that is all that is left of a line.
-use Rattle.std.proofs.Common.{◌≡◌, ℕ, ◌-◌, ◌<◌, ◌≤◌, List, [], ◌∷◌, length, take, drop, get_or, Bool, true, false, cond}
-use Rattle.std.proofs.Common.{◌&&◌, Option, Some, None, IfSome, Result, Ok, arith, refl, ap, sym, subst, ◌∙◌}
+use Rattle.bbm_log_grammar.proofs.Common.{◌≡◌, ℕ, ◌-◌, ◌<◌, ◌≤◌, List, [], ◌∷◌, length, take, drop, get_or, Bool, true}
+use Rattle.bbm_log_grammar.proofs.Common.{false, cond, ◌&&◌, Option, Some, None, Result, Ok, arith, refl, ap, sym}
+use Rattle.bbm_log_grammar.proofs.Common.{subst, ◌∙◌, le-leb, take_all, Heading, is_label, fields, Event, Malformed}
+use Rattle.bbm_log_grammar.proofs.Common.{Fields, found}
+use Rattle.std.proofs.Common.{IfSome}
 use Rattle.std.specs.Option.{option_map}
-use Rattle.std.proofs.lemmas.Bool.{le-leb}
-use Rattle.std.proofs.lemmas.List.{take_all}
-use Rattle.bbm_events.specs.Heading.{Heading}
-use Rattle.bbm_events.specs.Label.{is_label}
-use Rattle.bbm_events.specs.Spelling.{fields}
-use Rattle.bbm_events.specs.declared.event.Event.{Event}
 use Rattle.bbm_events.specs.declared.event.Item.{Item}
 use Rattle.bbm_events.specs.declared.event.Item.TheVariants as item
-use Rattle.bbm_events.specs.declared.malformed.Malformed.{Malformed}
 use Rattle.bbm_events.specs.declared.malformed.Malformed.TheVariants.{BadLabel}
-use Rattle.bbm_events.specs.Lines.{Fields, ◌>>=◌, found, whole, is_marked, event_item}
+use Rattle.bbm_events.specs.Lines.{◌>>=◌, whole, is_marked, event_item}
 use Rattle.bbm_events.proofs.Joining.{fields_last}
 use Rattle.bbm_events.proofs.Labels.{label_visible}
 

@@ -1,11 +1,8 @@
 -- What is found by its word among some values is found among all.
-use Rattle.std.proofs.Common.{◌≡◌, ℕ, List, [], ◌∷◌, Bool, true, false, cond, bytes_eq, refl, ap, sym, ◌∙◌}
-use Rattle.std.proofs.Common.{Some}
-use Rattle.std.specs.Bool.{⊤}
-use Rattle.std.proofs.lemmas.Slice.Eq.{bytes_eq-Decides}
-use Rattle.bbm_tlbi_scope.specs.declared.op.TlbiOp.{TlbiOp}
-use Rattle.bbm_tlbi_scope.specs.declared.op.TlbiOp.TheVariants.{Alle2is, Vmalle1is, Vmalls12e1is, Alle1is, Aside1is}
-use Rattle.bbm_events.specs.Words.{with_word, op_word, ops}
+use Rattle.bbm_log_grammar.proofs.Common.{◌≡◌, ℕ, List, [], ◌∷◌, Bool, true, false, cond, refl, ap, sym, ◌∙◌, Some, ⊤}
+use Rattle.bbm_log_grammar.proofs.Common.{bytes_eq-Decides, TlbiOp, Alle2is, Vmalle1is, Vmalls12e1is, Alle1is, Aside1is}
+use Rattle.bbm_log_grammar.proofs.Common.{with_word, op_word, ops}
+use Rattle.std.proofs.Common.{bytes_eq}
 
 -- each of them is found by its word
 abbrev EachFound : {A : Type 0} → (A → List ℕ) → List A → List A → Type 0

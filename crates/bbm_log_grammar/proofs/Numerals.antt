@@ -1,22 +1,18 @@
 -- The digits that a number is written with are those that lead back to it, read one by one.
-use Rattle.std.proofs.Common.{◌≡◌, ◌≢◌, ◌-◌, length, take, drop, get_or, ℕ, zero, suc, ◌+◌, ◌*◌, ◌/◌, ◌%◌, ◌^◌, ◌<◌}
-use Rattle.std.proofs.Common.{◌≤◌, List, [], ◌∷◌, ◌++◌, Bool, true, false, ◌&&◌, cond, nat_lt, ◌==◌, inl, inr, refl, ap}
-use Rattle.std.proofs.Common.{sym, ◌∙◌, subst, Option, Some, None, arith}
-use Rattle.std.specs.Fmt.{digit_glyph, digits_onto, digits}
-use Rattle.std.specs.Char.{digit_value}
-use Rattle.std.specs.Str.Parse.{digits_value, digits_value_after}
+use Rattle.bbm_log_grammar.proofs.Common.{◌≡◌, ◌≢◌, ◌-◌, length, take, drop, get_or, ℕ, zero, suc, ◌+◌, ◌*◌, ◌/◌, ◌%◌}
+use Rattle.bbm_log_grammar.proofs.Common.{◌^◌, ◌<◌, ◌≤◌, List, [], ◌∷◌, ◌++◌, Bool, true, false, ◌&&◌, cond, nat_lt}
+use Rattle.bbm_log_grammar.proofs.Common.{◌==◌, inl, inr, refl, ap, sym, ◌∙◌, subst, Option, Some, None, arith}
+use Rattle.bbm_log_grammar.proofs.Common.{digit_glyph, digit_value, digits_value, digits_value_after, ltb-true}
+use Rattle.bbm_log_grammar.proofs.Common.{ltb-false, lt-ltb, nat_tests, append_assoc, append-nil, take_all, pow-suc}
+use Rattle.bbm_log_grammar.proofs.Common.{option_and_then, bytes_eq-Decides, proved, Is, is_lower_digit, next_number}
+use Rattle.bbm_log_grammar.proofs.Common.{number_after, number_of}
+use Rattle.std.specs.Fmt.{digits_onto, digits}
 use Rattle.std.proofs.lemmas.Str.{digit_value-digit_char}
-use Rattle.std.proofs.lemmas.Bool.{cases_lt, ltb-true, ltb-false, lt-ltb}
-use Rattle.std.proofs.lemmas.Bool.Decides.{eqb_tells, nat_tests}
-use Rattle.std.proofs.lemmas.List.{append_assoc, append-nil, take_all}
-use Rattle.std.proofs.Math.Nat.{pow-suc}
-use Rattle.std.specs.Option.{option_and_then}
+use Rattle.std.proofs.lemmas.Bool.{cases_lt}
+use Rattle.std.proofs.lemmas.Bool.Decides.{eqb_tells}
 use Rattle.std.specs.Prelude.{bytes_eq}
-use Rattle.std.proofs.lemmas.Slice.Eq.{bytes_eq-Decides}
-use Rattle.bbm_lemmas.proofs.Tautologies.{proved}
-use Rattle.bbm_lemmas.proofs.Tautologies.Claim.{Both, If, Is}
+use Rattle.bbm_lemmas.proofs.Tautologies.Claim.{Both, If}
 use Rattle.bbm_events.specs.Spelling.{where_spelled, decimal_value, hex_value}
-use Rattle.bbm_log_grammar.specs.Digits.{is_lower_digit, next_number, number_after, number_of}
 
 -- what division by the base does
 pub record IsBase (base : ℕ) : Type 0 where

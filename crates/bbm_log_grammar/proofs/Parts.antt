@@ -1,9 +1,7 @@
 -- A label is one part more of a line.
-use Rattle.std.proofs.Common.{◌≡◌, ℕ, List, [], ◌∷◌, ◌++◌, refl, ap, sym, ◌∙◌, Some, None}
-use Rattle.std.proofs.lemmas.List.{append_assoc, append-nil}
-use Rattle.bbm_events.specs.declared.event.Event.{Event}
-use Rattle.bbm_events.specs.Spelling.{joined}
-use Rattle.bbm_events.specs.Lines.{Fields, event_fields, label_fields}
+use Rattle.bbm_log_grammar.proofs.Common.{◌≡◌, ℕ, List, [], ◌∷◌, ◌++◌, refl, ap, sym, ◌∙◌, Some, None, append_assoc}
+use Rattle.bbm_log_grammar.proofs.Common.{append-nil, Event, joined, Fields, event_fields}
+use Rattle.bbm_events.specs.Lines.{label_fields}
 use Rattle.bbm_events.proofs.Labels.{label_length}
 use Rattle.bbm_events.proofs.Written.{event_fields_some}
 

@@ -1,12 +1,10 @@
 -- A field whose value has to pass a test is read, and then tested.
-use Rattle.std.proofs.Common.{◌≡◌, ℕ, List, [], ◌∷◌, Bool, Option, Some, None, Result, Ok, Err, ap}
+use Rattle.bbm_log_grammar.proofs.Common.{◌≡◌, ℕ, List, [], ◌∷◌, Bool, Option, Some, None, Result, Ok, Err, ap}
+use Rattle.bbm_log_grammar.proofs.Common.{Malformed, Fields, next_field, found, with_word, op_word, ops, TlbiOp}
+use Rattle.bbm_log_grammar.proofs.Common.{named_op}
 use Rattle.bbm_events.specs.Spelling.{decimal_value, hex_value}
-use Rattle.bbm_events.specs.declared.malformed.Malformed.{Malformed}
 use Rattle.bbm_events.specs.declared.malformed.Malformed.TheVariants.{MissingField, UnknownWord}
-use Rattle.bbm_events.specs.Lines.{Fields, next_field, line_field, found, passing}
-use Rattle.bbm_events.specs.Words.{with_word, op_word, ops}
-use Rattle.bbm_tlbi_scope.specs.declared.op.TlbiOp.{TlbiOp}
-use Rattle.bbm_log_grammar.specs.Front.{named_op}
+use Rattle.bbm_events.specs.Lines.{line_field, passing}
 
 passed : {A : Type 0} (absent unreadable : Malformed) (read : List ℕ → Option A) (test : A → Bool) (fields : Fields) {n : A} {rest : Fields}
     → next_field absent unreadable read fields ≡ Ok (n, rest)

@@ -1,26 +1,22 @@
 -- Each word has at most 12 bytes.
-use Rattle.std.proofs.Common.{◌≤◌, length, Bool, true, false, arith}
+use Rattle.bbm_log_grammar.proofs.Common.{◌≤◌, length, Bool, true, false, arith, Reg, Ttbr0El2, VttbrEl2, Ttbr0El1}
+use Rattle.bbm_log_grammar.proofs.Common.{Ttbr1El1, Dsb, Full, Inner, Non, All, Stores, Loads, TlbiOp, Alle2is, Vae2is}
+use Rattle.bbm_log_grammar.proofs.Common.{Vale2is, Alle1is, Vmalle1is, Vmalls12e1is, Ipas2e1is, Vae1is, Vale1is}
+use Rattle.bbm_log_grammar.proofs.Common.{Vaale1is, Aside1is, reg_word, dsb_word, op_word}
 use Rattle.bbm_regimes.specs.declared.regime.Kind.{Kind}
 use Rattle.bbm_regimes.specs.declared.regime.Kind.TheVariants.{El2, S2, Ttbr0, Ttbr1}
-use Rattle.bbm_regimes.specs.declared.regime.Reg.{Reg}
-use Rattle.bbm_regimes.specs.declared.regime.Reg.TheVariants.{Ttbr0El2, VttbrEl2, Ttbr0El1, Ttbr1El1}
 use Rattle.bbm_regimes.specs.declared.regime.AsidFrom.{AsidFrom}
 use Rattle.bbm_regimes.specs.declared.regime.AsidFrom.TheVariants as from
-use Rattle.bbm_barriers.specs.declared.Dsb.{Dsb}
 use Rattle.bbm_barriers.specs.declared.Domain.{Domain}
-use Rattle.bbm_barriers.specs.declared.Domain.TheVariants.{Full, Inner, Outer, Non}
+use Rattle.bbm_barriers.specs.declared.Domain.TheVariants.{Outer}
 use Rattle.bbm_barriers.specs.declared.Types.{Types}
-use Rattle.bbm_barriers.specs.declared.Types.TheVariants.{All, Stores, Loads}
-use Rattle.bbm_tlbi_scope.specs.declared.op.TlbiOp.{TlbiOp}
-use Rattle.bbm_tlbi_scope.specs.declared.op.TlbiOp.TheVariants.{Alle2, Alle2is, Vae2, Vae2is, Vale2, Vale2is, Alle1}
-use Rattle.bbm_tlbi_scope.specs.declared.op.TlbiOp.TheVariants.{Alle1is, Vmalle1, Vmalle1is, Vmalls12e1, Vmalls12e1is}
-use Rattle.bbm_tlbi_scope.specs.declared.op.TlbiOp.TheVariants.{Ipas2e1, Ipas2e1is, Ipas2le1, Ipas2le1is, Vae1, Vae1is}
-use Rattle.bbm_tlbi_scope.specs.declared.op.TlbiOp.TheVariants.{Vale1, Vale1is, Vaae1, Vaae1is, Vaale1, Vaale1is}
-use Rattle.bbm_tlbi_scope.specs.declared.op.TlbiOp.TheVariants.{Aside1, Aside1is, Rvae2, Rvae2is, Rvale2, Rvale2is}
+use Rattle.bbm_tlbi_scope.specs.declared.op.TlbiOp.TheVariants.{Alle2, Vae2, Vale2, Alle1, Vmalle1, Vmalls12e1, Ipas2e1}
+use Rattle.bbm_tlbi_scope.specs.declared.op.TlbiOp.TheVariants.{Ipas2le1, Ipas2le1is, Vae1, Vale1, Vaae1, Vaae1is}
+use Rattle.bbm_tlbi_scope.specs.declared.op.TlbiOp.TheVariants.{Vaale1, Aside1, Rvae2, Rvae2is, Rvale2, Rvale2is}
 use Rattle.bbm_tlbi_scope.specs.declared.op.TlbiOp.TheVariants.{Ripas2e1, Ripas2e1is, Ripas2le1, Ripas2le1is, Rvae1}
 use Rattle.bbm_tlbi_scope.specs.declared.op.TlbiOp.TheVariants.{Rvae1is, Rvale1, Rvale1is, Rvaae1, Rvaae1is, Rvaale1}
 use Rattle.bbm_tlbi_scope.specs.declared.op.TlbiOp.TheVariants.{Rvaale1is}
-use Rattle.bbm_events.specs.Words.{cnp_word, kind_word, reg_word, asid_from_word, option_word, dsb_word, op_word}
+use Rattle.bbm_events.specs.Words.{cnp_word, kind_word, asid_from_word, option_word}
 
 pub cnp_word_short : (cnp : Bool) → length (cnp_word cnp) ≤ 12
 cnp_word_short true = omega arith

@@ -1,9 +1,9 @@
 -- The digits of a number, two, four and eight at a time.
-use Rattle.std.proofs.Common.{◌≡◌, ℕ, ◌+◌, ◌*◌, ◌/◌, ◌%◌, ◌^◌, ◌<◌, ◌≤◌, Bool, ◌==◌, slice_index_or, List, [], ◌∷◌}
-use Rattle.std.proofs.Common.{◌++◌, true, false, decimal, refl, rules, tests, ap, sym, ◌∙◌, arith}
-use Rattle.std.specs.Fmt.{digit_glyph, digits}
-use Rattle.std.proofs.lemmas.Bool.{eqb-true, agree_below_at}
-use Rattle.std.proofs.lemmas.List.{append_assoc}
+use Rattle.bbm_log_grammar.proofs.Common.{◌≡◌, ℕ, ◌+◌, ◌*◌, ◌/◌, ◌%◌, ◌^◌, ◌<◌, ◌≤◌, Bool, ◌==◌, slice_index_or, List}
+use Rattle.bbm_log_grammar.proofs.Common.{[], ◌∷◌, ◌++◌, true, false, refl, rules, tests, ap, sym, ◌∙◌, arith}
+use Rattle.bbm_log_grammar.proofs.Common.{digit_glyph, eqb-true, agree_below_at, append_assoc}
+use Rattle.std.proofs.Common.{decimal}
+use Rattle.std.specs.Fmt.{digits}
 use Rattle.bbm_log_grammar.specs.Digits.{two, four}
 use Rattle.bbm_log_grammar.specs.declared.spell.TheConstants.{PAIRS}
 use Rattle.bbm_log_grammar.proofs.Numerals.{is_base_10, is_base_16, text_small, text_more}

@@ -1,12 +1,10 @@
 -- The first field of a line ends at its first space.
-use Rattle.std.proofs.Common.{◌≡◌, ℕ, ◌+◌, ◌-◌, ◌<◌, ◌≤◌, length-drop, List, [], ◌∷◌, Bool, true, false, cond, length}
-use Rattle.std.proofs.Common.{take, drop, ◌==◌, nat_lt, refl, ap, sym, ◌∙◌, Some, None, arith}
+use Rattle.bbm_log_grammar.proofs.Common.{◌≡◌, ℕ, ◌+◌, ◌-◌, ◌<◌, ◌≤◌, length-drop, List, [], ◌∷◌, Bool, true, false}
+use Rattle.bbm_log_grammar.proofs.Common.{cond, length, take, drop, ◌==◌, nat_lt, refl, ap, sym, ◌∙◌, Some, None, arith}
+use Rattle.bbm_log_grammar.proofs.Common.{ltb-true, ltb-false, take_all, fields}
 use Rattle.std.specs.List.{position, position_or_len}
-use Rattle.std.proofs.lemmas.Bool.{ltb-true, ltb-false}
-use Rattle.std.proofs.lemmas.List.{take_all}
 use Rattle.std.proofs.lemmas.List.Splits.{slice_split_first, slice_split_none}
 use Rattle.std.proofs.lemmas.List.Sums.{fails_before_first}
-use Rattle.bbm_events.specs.Spelling.{fields}
 
 abbrev pub is_space : ℕ → Bool
 is_space byte = byte == 32

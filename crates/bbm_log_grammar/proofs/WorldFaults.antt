@@ -1,11 +1,9 @@
 -- A header whose world isn't in its ranges is none, whatever follows.
-use Rattle.std.proofs.Common.{◌≡◌, [], ◌∷◌, Bool, false, ◌&&◌, cond, refl, ap, Ok, Err}
-use Rattle.bbm_lemmas.proofs.Tautologies.{proved}
-use Rattle.bbm_lemmas.proofs.Tautologies.Claim.{Is}
+use Rattle.bbm_log_grammar.proofs.Common.{◌≡◌, [], ◌∷◌, Bool, false, ◌&&◌, cond, refl, ap, Ok, Err, proved, Is, Heading}
+use Rattle.bbm_log_grammar.proofs.Common.{heading_ok, Fields}
 use Rattle.bbm_regimes.specs.World.{world_ok}
-use Rattle.bbm_events.specs.Heading.{Heading, heading_ok}
 use Rattle.bbm_events.specs.declared.malformed.Malformed.TheVariants.{BadHeader}
-use Rattle.bbm_events.specs.Lines.{Fields, checked}
+use Rattle.bbm_events.specs.Lines.{checked}
 
 never : (a : Bool) → (a && false) ≡ false
 never = proved 1 (λ a. Is (a && false) false) refl

@@ -1,17 +1,14 @@
 -- Tests of flags, covers and barriers.
-use Rattle.std.proofs.Common.{◌≡◌, ℕ, ◌≤◌, Bool, true, false, ◌&&◌, not, nat_eq, nat_lt, refl, sym, ◌∙◌, ap}
-use Rattle.std.proofs.Common.{arith}
-use Rattle.std.proofs.lemmas.Bool.{false≢true, true≢false}
-use Rattle.std.proofs.lemmas.Bool.Decides.{nat_tests}
+use Rattle.bbm_rules.proofs.Common.{◌≡◌, ℕ, ◌≤◌, Bool, true, false, ◌&&◌, not, nat_eq, nat_lt, refl, sym, ◌∙◌, ap}
+use Rattle.bbm_rules.proofs.Common.{arith, false≢true, nat_tests, is_non, Inner, All, Stores, same_flag, and-true}
+use Rattle.bbm_rules.proofs.Common.{and-false}
+use Rattle.std.proofs.lemmas.Bool.{true≢false}
 use Rattle.bbm_barriers.specs.Options.{publishes}
 use Rattle.bbm_barriers.specs.declared.Dsb.{Dsb}
 use Rattle.bbm_barriers.specs.declared.Domain.{Domain}
-use Rattle.bbm_barriers.specs.declared.Domain.TheVariants.{Full, Inner, Outer, Non}
+use Rattle.bbm_barriers.specs.declared.Domain.TheVariants.{Full, Outer, Non}
 use Rattle.bbm_barriers.specs.declared.Types.{Types}
-use Rattle.bbm_barriers.specs.declared.Types.TheVariants.{All, Stores, Loads}
-use Rattle.bbm_barriers.specs.Options.{is_non}
-use Rattle.bbm_oracle_patterns.specs.Relation.{same_flag}
-use mathlib.Core.Bool.{and-true, and-false}
+use Rattle.bbm_barriers.specs.declared.Types.TheVariants.{Loads}
 
 pub same_flag-true : (a b : Bool) → same_flag a b ≡ true → b ≡ a
 same_flag-true true b e = e

@@ -1,10 +1,9 @@
 -- The last valid write, searched from the newest event back.
-use Rattle.std.proofs.Common.{◌≡◌, ℕ, zero, suc, ◌+◌, ◌-◌, ◌<◌, ◌≤◌, List, [], ◌∷◌, ◌++◌, length, take, drop, reverse}
-use Rattle.std.proofs.Common.{get_or, Option, Some, None, refl, sym, ◌∙◌, ap, subst, arith}
-use Rattle.std.proofs.lemmas.List.{append-nil, append_assoc, reverse-append, length-append, length-reverse}
-use Rattle.std.proofs.lemmas.List.{length-take-le, take-append-drop, take_more, drop_more}
-use Rattle.bbm_rules.specs.Held.{ValidWrite, last_valid, later}
-use Rattle.bbm_rules.specs.Notes.{Noted}
+use Rattle.bbm_rules.proofs.Common.{◌≡◌, ℕ, zero, suc, ◌+◌, ◌-◌, ◌<◌, ◌≤◌, List, [], ◌∷◌, ◌++◌, length, take, drop}
+use Rattle.bbm_rules.proofs.Common.{reverse, get_or, Option, Some, None, refl, sym, ◌∙◌, ap, subst, arith}
+use Rattle.bbm_rules.proofs.Common.{reverse-append, length-reverse, length-take-le, take-append-drop, take_more}
+use Rattle.bbm_rules.proofs.Common.{ValidWrite, last_valid, later, Noted}
+use Rattle.std.proofs.lemmas.List.{append-nil, append_assoc, length-append, drop_more}
 use Rattle.bbm_rules.specs.Prelude.{Kind}
 use Rattle.bbm_oracle_patterns.specs.Kept.{note_of, notes_behind, notes_of, write_in}
 use Rattle.bbm_oracle_patterns.specs.Lasts.{said, TellsOf}

@@ -1,25 +1,16 @@
 -- Unanswered TLBIs after one more event.
-use Rattle.std.proofs.Common.{◌≡◌, ℕ, Bool, true, false, cond, ◌&&◌, ◌||◌, not, nat_eq, List, [], ◌∷◌, refl, sym, ◌∙◌}
-use Rattle.std.proofs.Common.{ap}
-use Rattle.std.proofs.lemmas.Bool.{false≢true}
-use Rattle.std.proofs.lemmas.Map.Views.{any-filter_same}
-use Rattle.bbm_lemmas.proofs.Tautologies.{proved}
-use Rattle.bbm_lemmas.proofs.Tautologies.Claim.{Is}
-use Rattle.bbm_barriers.specs.Options.{answers}
-use Rattle.bbm_tlbi_scope.specs.declared.entry.Cover.{Cover}
+use Rattle.bbm_rules.proofs.Common.{◌≡◌, ℕ, Bool, true, false, cond, ◌&&◌, ◌||◌, not, nat_eq, List, [], ◌∷◌, refl, sym}
+use Rattle.bbm_rules.proofs.Common.{◌∙◌, ap, false≢true, any-filter_same, proved, Is, answers, Cover, operation}
+use Rattle.bbm_rules.proofs.Common.{answers_one, any, Noted, Barrier, Event, Dsb, Tlbi, Issued, completes, left_open}
+use Rattle.bbm_rules.proofs.Common.{unanswered, same_flag, and_comm, and-true, or_comm, or-false, first_true}
 use Rattle.bbm_tlbi_scope.specs.declared.op.TlbiOp.{TlbiOp}
-use Rattle.bbm_tlbi_scope.specs.Operations.{operation}
-use Rattle.bbm_rules.specs.Cleansing.{answers_one, is_completed}
-use Rattle.bbm_rules.specs.Lists.{any}
-use Rattle.bbm_rules.specs.Notes.{Noted, event_of}
-use Rattle.bbm_rules.specs.Prelude.{Barrier, Event, Dsb, Tlbi}
-use Rattle.bbm_rules.specs.Reach.{Issued, completes, left_open, unanswered}
-use Rattle.bbm_oracle_patterns.specs.Relation.{is_open, same_flag}
+use Rattle.bbm_rules.specs.Cleansing.{is_completed}
+use Rattle.bbm_rules.specs.Notes.{event_of}
+use Rattle.bbm_oracle_patterns.specs.Relation.{is_open}
 use Rattle.bbm_oracle_patterns.specs.Walk.{IsOpen, is_of, open_to}
 use Rattle.bbm_oracle_patterns.specs.declared.open.Open.{Open}
 use Rattle.bbm_oracle_patterns.proofs.Bits.{same_flag-true}
-use mathlib.Core.Bool.{and_comm, and-true, or_comm, or-false}
-use Rattle.bbm_lemmas.proofs.Bools.{is_none_of_two, first_true}
+use Rattle.bbm_lemmas.proofs.Bools.{is_none_of_two}
 
 -- ---- tests
 

@@ -1,13 +1,8 @@
 -- The phase of a place, by the trace of its last valid write.
-use Rattle.std.proofs.Common.{◌≡◌, ℕ, Bool, true, false, refl, cond, List, Option, Some, None, sym, ◌∙◌, ap}
-use Rattle.std.proofs.Common.{option_and_then, unwrap_or}
-use Rattle.bbm_descriptor.specs.Descriptor.{is_valid}
-use Rattle.bbm_rules.specs.Claims.{Trust}
-use Rattle.bbm_rules.specs.Cleansing.{cleansed, half, seen}
-use Rattle.bbm_rules.specs.Held.{ValidWrite, cleansed_everywhere, last_valid}
-use Rattle.bbm_rules.specs.Notes.{Noted}
-use Rattle.bbm_rules.specs.Phases.{broken_phase}
-use Rattle.bbm_rules.specs.Prelude.{Heading, Kind}
+use Rattle.bbm_rules.proofs.Common.{◌≡◌, ℕ, Bool, true, false, refl, cond, List, Option, Some, None, sym, ◌∙◌, ap}
+use Rattle.bbm_rules.proofs.Common.{option_and_then, unwrap_or, is_valid, Trust, cleansed, half, seen, ValidWrite}
+use Rattle.bbm_rules.proofs.Common.{cleansed_everywhere, last_valid, Noted, broken_phase, Heading}
+use Rattle.bbm_rules.specs.Prelude.{Kind}
 use Rattle.bbm_rules.specs.declared.phase.Phase.TheVariants.{Clean, Live}
 use Rattle.bbm_oracle_patterns.specs.PlacePhases.{furthest, phase_at}
 

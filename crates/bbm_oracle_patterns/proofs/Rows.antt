@@ -1,11 +1,10 @@
 -- The sets of a relation.
-use Rattle.std.proofs.Common.{◌≡◌, ℕ, zero, suc, ◌<◌, Bool, false, ◌&&◌, ◌||◌, not, nat_eq, List, [], ◌∷◌, length, set}
-use Rattle.std.proofs.Common.{get_or, replicate, refl, sym, ◌∙◌, ap, arith, inl, inr}
-use Rattle.std.proofs.lemmas.Bool.{cases_eq, eq-eqb, ne_eqb}
+use Rattle.bbm_rules.proofs.Common.{◌≡◌, ℕ, zero, suc, ◌<◌, Bool, false, ◌&&◌, ◌||◌, not, nat_eq, List, [], ◌∷◌, length}
+use Rattle.bbm_rules.proofs.Common.{get_or, refl, sym, ◌∙◌, ap, arith, inl, inr, cases_eq, eq-eqb, ne_eqb, PeMask}
+use Rattle.bbm_rules.proofs.Common.{and-false, and-true, or-false}
+use Rattle.std.proofs.Common.{set, replicate}
 use Rattle.bbm_regimes.specs.PeMask.{pe_in}
-use Rattle.bbm_regimes.specs.declared.pe.PeMask.{PeMask}
 use Rattle.bbm_oracle_patterns.specs.Relation.{row_has}
-use mathlib.Core.Bool.{and-false, and-true, or-false}
 
 pub row_at : (ms : List PeMask) (i p : ℕ) (d : PeMask) → i < length ms → pe_in (get_or ms i d) p ≡ row_has ms i p
 row_at [] i p d h = absurd (omega arith)

@@ -1,22 +1,15 @@
 -- A place that is cleansed stays so.
-use Rattle.std.proofs.Common.{◌≡◌, ℕ, ◌+◌, ◌<◌, ◌≤◌, Bool, true, false, List, [], ◌∷◌, ◌++◌, length, get_or, take, drop}
-use Rattle.std.proofs.Common.{reverse, sym, ◌∙◌, ap, subst, inl, inr}
-use Rattle.std.proofs.lemmas.Bool.{or_cases, or_left, or_right}
-use Rattle.std.proofs.lemmas.List.{reverse-append, take-append-drop, take_all}
-use Rattle.bbm_lemmas.specs.EveryPe.{every_pe}
+use Rattle.bbm_rules.proofs.Common.{◌≡◌, ℕ, ◌+◌, ◌<◌, ◌≤◌, Bool, true, false, List, [], ◌∷◌, ◌++◌, length, get_or, take}
+use Rattle.bbm_rules.proofs.Common.{drop, reverse, sym, ◌∙◌, ap, subst, inl, inr, or_cases, or_left, or_right}
+use Rattle.bbm_rules.proofs.Common.{reverse-append, take-append-drop, take_all, every_pe, PeMask, answers_one, cleansed}
+use Rattle.bbm_rules.proofs.Common.{cleansed_everywhere, some, Noted, Heading, every_same}
 use Rattle.bbm_regimes.specs.PeMask.{pe_in}
-use Rattle.bbm_regimes.specs.declared.pe.PeMask.{PeMask}
 use Rattle.bbm_rules.specs.Claims.{Patterns}
-use Rattle.bbm_rules.specs.Cleansing.{answers_one, cleansed}
-use Rattle.bbm_rules.specs.Held.{cleansed_everywhere}
-use Rattle.bbm_rules.specs.Lists.{some}
-use Rattle.bbm_rules.specs.Notes.{Noted}
-use Rattle.bbm_rules.specs.Prelude.{Heading}
 use Rattle.bbm_oracle_patterns.specs.Kept.{note_of, notes_behind}
 use Rattle.bbm_oracle_patterns.specs.Walk.{IsWalk, Steps, Traces, full_test, second_test, some_writes}
 use Rattle.bbm_oracle_patterns.specs.declared.kept.Kept.{Kept}
 use Rattle.bbm_oracle_patterns.specs.declared.walk.Walk.{Walk}
-use Rattle.bbm_lemmas.proofs.Every.{every_at, every_from, every_same}
+use Rattle.bbm_lemmas.proofs.Every.{every_at, every_from}
 use Rattle.bbm_oracle_patterns.proofs.Lasts.{notes_append, notes_more}
 use Rattle.bbm_oracle_patterns.proofs.Walks.{trace_unwritten}
 

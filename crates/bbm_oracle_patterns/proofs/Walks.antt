@@ -1,27 +1,17 @@
 -- A walk after one more event.
-use Rattle.std.proofs.Common.{◌≡◌, ℕ, suc, subst, reverse, ◌+◌, length, Bool, true, false, ◌&&◌, ◌||◌, not, nat_eq}
-use Rattle.std.proofs.Common.{◌==◌, List, [], ◌∷◌, refl, sym, ◌∙◌, ap}
-use Rattle.std.proofs.lemmas.Bool.{false≢true, or_parts, and_right, not-true}
-use Rattle.std.proofs.lemmas.List.{reverse-append}
-use Rattle.std.proofs.lemmas.List.Folds.{list_any-append}
-use Rattle.bbm_lemmas.proofs.Tautologies.{proved}
-use Rattle.bbm_lemmas.proofs.Tautologies.Claim.{If, Is}
-use Rattle.bbm_barriers.specs.Options.{answers}
+use Rattle.bbm_rules.proofs.Common.{◌≡◌, ℕ, suc, subst, reverse, ◌+◌, length, Bool, true, false, ◌&&◌, ◌||◌, not}
+use Rattle.bbm_rules.proofs.Common.{nat_eq, ◌==◌, List, [], ◌∷◌, refl, sym, ◌∙◌, ap, false≢true, or_parts, and_right}
+use Rattle.bbm_rules.proofs.Common.{not-true, reverse-append, list_any-append, proved, If, Is, answers, PeMask, Cover}
+use Rattle.bbm_rules.proofs.Common.{Half, Second, Full, operation, answers_one, publishes_write, same_cover, writes}
+use Rattle.bbm_rules.proofs.Common.{some, Noted, Barrier, Event, Heading, Dsb, Tlbi, Write, Issued, unanswered}
+use Rattle.bbm_rules.proofs.Common.{publishes_to, same_flag, or_comm, or-false, and-true, and-false, or_middle}
 use Rattle.bbm_regimes.specs.PeMask.{pe_in}
-use Rattle.bbm_regimes.specs.declared.pe.PeMask.{PeMask}
-use Rattle.bbm_tlbi_scope.specs.declared.entry.Cover.{Cover}
-use Rattle.bbm_tlbi_scope.specs.declared.entry.Cover.TheVariants.{Half, Second, Full}
 use Rattle.bbm_tlbi_scope.specs.declared.op.TlbiOp.{TlbiOp}
-use Rattle.bbm_tlbi_scope.specs.Operations.{operation}
-use Rattle.bbm_rules.specs.Cleansing.{answers_one, publishes_write, same_cover, writes}
 use Rattle.bbm_rules.specs.Cleansing as spec
 use Rattle.bbm_rules.specs.Claims.{Patterns}
-use Rattle.bbm_rules.specs.Lists.{some}
-use Rattle.bbm_rules.specs.Notes.{Noted, event_of}
-use Rattle.bbm_rules.specs.Prelude.{Barrier, Event, Heading, Dsb, Tlbi, Write}
-use Rattle.bbm_rules.specs.Reach.{Issued, still_open, unanswered}
-use Rattle.bbm_rules.specs.Values.{publishes_to}
-use Rattle.bbm_oracle_patterns.specs.Relation.{is_open, related, same_flag}
+use Rattle.bbm_rules.specs.Notes.{event_of}
+use Rattle.bbm_rules.specs.Reach.{still_open}
+use Rattle.bbm_oracle_patterns.specs.Relation.{is_open, related}
 use Rattle.bbm_oracle_patterns.specs.Walk.{IsOpen, IsWalk, Traces, full_test, half_test, second_test, is_idle}
 use Rattle.bbm_oracle_patterns.specs.Walk.{is_write_of, some_writes, writes_place}
 use Rattle.bbm_oracle_patterns.specs.Kept.{cover_in, note_of, notes_behind}
@@ -30,8 +20,7 @@ use Rattle.bbm_oracle_patterns.specs.declared.open.Open.{Open}
 use Rattle.bbm_oracle_patterns.specs.declared.trace.Trace.{Trace}
 use Rattle.bbm_oracle_patterns.specs.declared.walk.Walk.{Walk}
 use Rattle.bbm_oracle_patterns.proofs.Opens.{answered_by, after_dsb, after_tlbi}
-use mathlib.Core.Bool.{or_comm, or-false, and-true, and-false}
-use Rattle.bbm_lemmas.proofs.Bools.{or_middle, is_none_of_two}
+use Rattle.bbm_lemmas.proofs.Bools.{is_none_of_two}
 
 -- ---- tests
 

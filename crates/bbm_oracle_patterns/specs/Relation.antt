@@ -1,5 +1,5 @@
 -- Which PEs are related to which, as a walk keeps it. No public contract cites these words.
-use Rattle.std.specs.Prelude.{ℕ, zero, suc, Bool, true, false, not, List, [], ◌∷◌}
+use Rattle.std.specs.Prelude.{ℕ, zero, suc, Bool, true, false, List, [], ◌∷◌}
 use Rattle.bbm_regimes.specs.PeMask.{pe_in}
 use Rattle.bbm_regimes.specs.declared.pe.PeMask.{PeMask}
 use Rattle.bbm_oracle_patterns.specs.declared.relation.Relation.{Relation}
@@ -19,8 +19,3 @@ related r q p = row_has r.rows q p
 abbrev pub is_open : Open → ℕ → Bool → ℕ → Bool
 is_open o q true p = related o.broadcast q p
 is_open o q false p = related o.local q p
-
--- whether two flags are the same
-abbrev pub same_flag : Bool → Bool → Bool
-same_flag true b = b
-same_flag false b = not b

@@ -9,7 +9,8 @@ use Rattle.bbm_rules.specs.Lists.{any, some}
 use Rattle.bbm_rules.specs.Notes.{Noted, event_of}
 use Rattle.bbm_rules.specs.Prelude.{Event, Heading, Dsb, Tlbi, Write}
 use Rattle.bbm_rules.specs.Reach.{Issued, unanswered}
-use Rattle.bbm_oracle_patterns.specs.Relation.{is_open, same_flag}
+use Rattle.bbm_oracle_patterns.specs.Relation.{is_open}
+use Rattle.bbm_lemmas.specs.ListWords.{same_flag}
 use Rattle.bbm_oracle_patterns.specs.declared.open.Open.{Open}
 use Rattle.bbm_oracle_patterns.specs.declared.walk.Walk.{Walk}
 use Rattle.bbm_oracle_patterns.specs.declared.trace.Trace.{Trace}

@@ -3,7 +3,8 @@
 ghost use Rattle.std.specs.Prelude.{◌≡◌, ℕ, Bool, true, false, ◌&&◌, ◌||◌, not, nat_eq};
 ghost use Rattle.bbm_barriers.specs.Options.{answers};
 ghost use Rattle.bbm_regimes.specs.PeMask.{pe_in};
-ghost use Rattle.bbm_oracle_patterns.specs.Relation.{is_open, related, same_flag};
+ghost use Rattle.bbm_oracle_patterns.specs.Relation.{is_open, related};
+ghost use Rattle.bbm_lemmas.specs.ListWords.{same_flag};
 
 use crate::relation::Relation;
 use bbm_barriers::{Dsb, completes_broadcast, completes_local};

@@ -1,7 +1,5 @@
 -- Equations of tests.
-use Rattle.std.proofs.Common.{◌≡◌, Bool, true, false, not, ◌&&◌, ◌||◌, refl}
-use Rattle.bbm_lemmas.proofs.Tautologies.{proved}
-use Rattle.bbm_lemmas.proofs.Tautologies.Claim.{Is}
+use Rattle.bbm_rules.proofs.Common.{◌≡◌, Bool, true, false, not, ◌&&◌, ◌||◌, refl, proved, Is}
 
 -- one moment more at which the tag is readable
 pub read-later : (c r k s u : Bool) → (c && (r && (k && not (s || u)))) ≡ (not s && (c && (r && (k && not u))))

@@ -1,6 +1,6 @@
 -- One more event of a list that is read from its end.
-use Rattle.std.proofs.Common.{◌≡◌, ℕ, ◌+◌, ◌<◌, List, [], ◌∷◌, length, take, get_or, reverse, sym, ap, ◌∙◌}
-use Rattle.std.proofs.lemmas.List.{reverse-append, take_more}
+use Rattle.bbm_rules.proofs.Common.{◌≡◌, ℕ, ◌+◌, ◌<◌, List, [], ◌∷◌, length, take, get_or, reverse, sym, ap, ◌∙◌}
+use Rattle.bbm_rules.proofs.Common.{reverse-append, take_more}
 
 pub reverse-more : {X : Type 0} (xs : List X) (i : ℕ) (x : X) → i < length xs → x ≡ get_or xs i x
     → x ∷ reverse (take i xs) ≡ reverse (take (i + 1) xs)

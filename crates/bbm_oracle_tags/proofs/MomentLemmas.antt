@@ -1,17 +1,13 @@
 -- What is readable at a moment: by the lists that are kept, at the start, and after an event that changes nothing of
 -- it.
-use Rattle.std.proofs.Common.{◌≡◌, ℕ, ◌+◌, ◌<◌, false, ◌||◌, List, [], ◌∷◌, ◌++◌, length, take, get_or, Option, Some}
-use Rattle.std.proofs.Common.{None, refl, sym, ap, ◌∙◌, true≢false, append_assoc}
-use Rattle.std.specs.List.{filter_map, cons_option}
+use Rattle.bbm_rules.proofs.Common.{◌≡◌, ℕ, ◌+◌, ◌<◌, false, ◌||◌, List, [], ◌∷◌, ◌++◌, length, take, get_or, Option}
+use Rattle.bbm_rules.proofs.Common.{Some, None, refl, sym, ap, ◌∙◌, true≢false, append_assoc, cons_option, take_more}
+use Rattle.bbm_rules.proofs.Common.{filter_map-append, AsidFrom, FromTtbr0, FromTtbr1, Ttbr0El1, Ttbr1El1, Ttbr1Tag}
+use Rattle.bbm_rules.proofs.Common.{World, Hyp, Kernel, Reg, Heading, Event, Root, Unroot, Isb, Msr, Tag, changes}
+use Rattle.bbm_rules.proofs.Common.{register_values, Declared, roots_of, Reading, asid_readings, readings_in}
+use Rattle.bbm_rules.proofs.Common.{readings_of, reads, reads_for_some}
+use Rattle.std.specs.List.{filter_map}
 use Rattle.std.specs.Option.{option_to_list}
-use Rattle.std.proofs.lemmas.List.{take_more}
-use Rattle.std.proofs.lemmas.List.Elements.{filter_map-append}
-use Rattle.bbm_rules.specs.Prelude.{AsidFrom, FromTtbr0, FromTtbr1, Ttbr0El1, Ttbr1El1, Ttbr1Tag, World, Hyp, Kernel}
-use Rattle.bbm_rules.specs.Prelude.{Reg, Heading, Event, Root, Unroot, Isb, Msr, Tag}
-use Rattle.bbm_rules.specs.Changes.{changes}
-use Rattle.bbm_rules.specs.RegisterValues.{register_values}
-use Rattle.bbm_rules.specs.Roots.{Declared, roots_of}
-use Rattle.bbm_rules.specs.Tags.{Reading, asid_readings, readings_in, readings_of, reads, reads_for_some}
 use Rattle.bbm_oracle_tags.specs.Moments.{IsMoment, asid_readings_by, first_reg, second_reg, readings_by, is_read}
 use Rattle.bbm_oracle_tags.specs.Moments.{is_read_for_some}
 use Rattle.bbm_oracle_tags.specs.declared.moment.Moment.{Moment}

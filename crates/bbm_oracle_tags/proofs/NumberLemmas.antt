@@ -1,12 +1,10 @@
 -- The least of a list with one more number behind, and the one number of a list.
-use Rattle.std.proofs.Common.{◌≡◌, ℕ, ◌<◌, min, Bool, true, false, ◌&&◌, eqb, get_or, length, map, List, [], ◌∷◌, ◌++◌}
-use Rattle.std.proofs.Common.{Option, Some, None, refl, sym, ap, ◌∙◌, arith}
-use Rattle.std.specs.List.{list_all}
+use Rattle.bbm_rules.proofs.Common.{◌≡◌, ℕ, ◌<◌, min, Bool, true, false, ◌&&◌, eqb, get_or, length, map, List, [], ◌∷◌}
+use Rattle.bbm_rules.proofs.Common.{◌++◌, Option, Some, None, refl, sym, ap, ◌∙◌, arith, list_all, and_parts, eq-eqb}
+use Rattle.bbm_rules.proofs.Common.{least, one_number, tag_number}
 use Rattle.std.specs.Option.{unwrap_or}
-use Rattle.std.proofs.lemmas.Bool.{and_parts, cond-true, cond-false, eq-eqb}
+use Rattle.std.proofs.lemmas.Bool.{cond-true, cond-false}
 use Rattle.std.proofs.lemmas.List.Folds.{list_all-map}
-use Rattle.bbm_rules.specs.Lists.{least, one_number}
-use Rattle.bbm_rules.specs.RegisterValues.{tag_number}
 
 pub least-push : (ns : List ℕ) (n : ℕ) → least (ns ++ n ∷ []) ≡ Some (min n (unwrap_or (least ns) n))
 least-push [] n = refl

@@ -1,9 +1,7 @@
 -- The places of a page after one more write.
-use Rattle.std.proofs.Common.{◌≡◌, ℕ, Bool, true, false, cond, eqb, List, ◌∷◌, refl, sym, ap, ◌∙◌}
+use Rattle.bbm_rules.proofs.Common.{◌≡◌, ℕ, Bool, true, false, cond, eqb, List, ◌∷◌, refl, sym, ap, ◌∙◌, eqb-true}
+use Rattle.bbm_rules.proofs.Common.{any-filter_same, among, with_number}
 use Rattle.std.specs.List.{filter}
-use Rattle.std.proofs.lemmas.Bool.{eqb-true}
-use Rattle.std.proofs.lemmas.Map.Views.{any-filter_same}
-use Rattle.bbm_rules.specs.Lists.{among, with_number}
 
 -- a number that passes is put in front before the filter or behind it
 pub filter-with : (t : ℕ → Bool) (at : ℕ) (ws : List ℕ) → t at ≡ true

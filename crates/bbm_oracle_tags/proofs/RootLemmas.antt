@@ -1,12 +1,9 @@
 -- The declared roots, where one is taken out or declared anew.
-use Rattle.std.proofs.Common.{◌≡◌, ℕ, Bool, true, false, not, ◌&&◌, ◌||◌, cond, eqb, find, List, [], ◌∷◌, Option, Some}
-use Rattle.std.proofs.Common.{None, refl, sym, ap, ◌∙◌}
-use Rattle.std.specs.List.{list_any}
-use Rattle.std.proofs.lemmas.Bool.{eqb-true, eq-eqb, ne_eqb, false≢true}
-use Rattle.std.proofs.lemmas.Map.Views.{any-filter_same}
-use mathlib.Core.Bool.{or-false}
-use Rattle.bbm_rules.specs.Prelude.{Kind, Event, Root, Unroot}
-use Rattle.bbm_rules.specs.Roots.{Declared, is_at, is_root, retired, root_at, roots_of, same_kind}
+use Rattle.bbm_rules.proofs.Common.{◌≡◌, ℕ, Bool, true, false, not, ◌&&◌, ◌||◌, cond, eqb, find, List, [], ◌∷◌, Option}
+use Rattle.bbm_rules.proofs.Common.{Some, None, refl, sym, ap, ◌∙◌, list_any, eqb-true, eq-eqb, ne_eqb, false≢true}
+use Rattle.bbm_rules.proofs.Common.{any-filter_same, or-false, Event, Root, Unroot, Declared, is_at, is_root, retired}
+use Rattle.bbm_rules.proofs.Common.{root_at, roots_of, same_kind}
+use Rattle.bbm_rules.specs.Prelude.{Kind}
 
 -- the root of a page, where the root of another page is taken out, or its own
 pub find-retired : (page q : ℕ) (rs : List Declared) →

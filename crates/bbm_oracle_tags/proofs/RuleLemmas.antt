@@ -1,12 +1,6 @@
 -- What the rules add to the questions that they ask.
-use Rattle.std.proofs.Common.{◌≡◌, ℕ, List, [], ◌∷◌, ◌++◌}
-use Rattle.std.proofs.Common.{reverse, Option, sym, ap, ◌∙◌}
-use Rattle.std.proofs.lemmas.List.{reverse-append}
-use Rattle.bbm_rules.specs.Prelude.{Heading, Event, Msr, Reg}
-use Rattle.bbm_rules.specs.Claims.{Trust}
-use Rattle.bbm_rules.specs.Lists.{least}
-use Rattle.bbm_rules.specs.Notes.{Noted, events_of}
-use Rattle.bbm_rules.specs.Rules.{tag_conflict}
+use Rattle.bbm_rules.proofs.Common.{◌≡◌, ℕ, List, [], ◌∷◌, ◌++◌, reverse, Option, sym, ap, ◌∙◌, reverse-append, Heading}
+use Rattle.bbm_rules.proofs.Common.{Event, Msr, Reg, Trust, least, Noted, events_of, tag_conflict}
 use Rattle.bbm_oracle_tags.specs.Conflicts.{conflict_pages}
 
 -- the conflicts after a register write

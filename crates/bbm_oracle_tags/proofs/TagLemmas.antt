@@ -1,20 +1,12 @@
 -- Which tags a root may hold, those that it holds, and the set of them.
-use Rattle.std.proofs.Common.{◌≡◌, ℕ, zero, suc, ◌+◌, ◌<◌, take, get_or, Bool, true, false, not, ◌&&◌, ◌||◌, eqb, List}
-use Rattle.std.proofs.Common.{[], ◌∷◌, length, refl, sym, ap, ◌∙◌, arith, true≢false}
-use Rattle.std.proofs.lemmas.Bool.{eqb-true, eqb-false, and_from}
-use Rattle.std.proofs.lemmas.List.Folds.{list_any_more}
-use Rattle.bbm_lemmas.proofs.Tautologies.{proved}
-use Rattle.bbm_lemmas.proofs.Tautologies.Claim.{Is}
-use Rattle.bbm_tlbi_scope.specs.declared.entry.TagSet.{TagSet}
-use Rattle.bbm_tlbi_scope.specs.declared.entry.TagSet.TheVariants.{None as NoTag, One, Many}
-use Rattle.bbm_rules.specs.Prelude.{Heading, Event, Tag}
-use Rattle.bbm_rules.specs.Changes.{changes}
-use Rattle.bbm_rules.specs.Claims.{Trust, same_tag}
-use Rattle.bbm_rules.specs.Lists.{some_pe}
-use Rattle.bbm_rules.specs.Tags.{holds_at, loses, reads}
+use Rattle.bbm_rules.proofs.Common.{◌≡◌, ℕ, zero, suc, ◌+◌, ◌<◌, take, get_or, Bool, true, false, not, ◌&&◌, ◌||◌, eqb}
+use Rattle.bbm_rules.proofs.Common.{List, [], ◌∷◌, length, refl, sym, ap, ◌∙◌, arith, true≢false, eqb-true, eqb-false}
+use Rattle.bbm_rules.proofs.Common.{and_from, list_any_more, proved, Is, TagSet, One, Many, Heading, Event, Tag}
+use Rattle.bbm_rules.proofs.Common.{changes, Trust, same_tag, some_pe, holds_at, loses, reads, first_true}
+use Rattle.bbm_tlbi_scope.specs.declared.entry.TagSet.TheVariants.{None as NoTag}
 use Rattle.bbm_oracle_tags.specs.HeldTagSets.{HasTags, has_tag, was_read}
 use Rattle.bbm_oracle_tags.proofs.MomentLemmas.{same-reads, reads-nothing}
-use Rattle.bbm_lemmas.proofs.Bools.{first_true, ands_of_last}
+use Rattle.bbm_lemmas.proofs.Bools.{ands_of_last}
 
 -- ---- tests of some PE
 

@@ -1,24 +1,19 @@
 -- One more event, and the TLBIs that the PEs await of it.
-use Rattle.std.proofs.Common.{◌≡◌, ℕ, suc, ◌<◌, ◌≤◌, Bool, true, false, not, ◌&&◌, ◌||◌, cond, ◌==◌, nat_le, List, []}
-use Rattle.std.proofs.Common.{◌∷◌, length, refl, sym, ap, ◌∙◌, arith, true≢false}
-use Rattle.std.proofs.lemmas.Bool.{le-leb, leb-true}
-use Rattle.std.proofs.lemmas.Map.Views.{any-filter_same}
-use Rattle.bbm_lemmas.proofs.Tautologies.{proved}
-use Rattle.bbm_lemmas.proofs.Tautologies.Claim.{Is}
+use Rattle.bbm_rules.proofs.Common.{◌≡◌, ℕ, suc, ◌<◌, ◌≤◌, Bool, true, false, not, ◌&&◌, ◌||◌, cond, ◌==◌, nat_le, List}
+use Rattle.bbm_rules.proofs.Common.{[], ◌∷◌, length, refl, sym, ap, ◌∙◌, arith, true≢false, le-leb, leb-true}
+use Rattle.bbm_rules.proofs.Common.{any-filter_same, proved, Is, answers, operation, Barrier, Heading, Event, Dsb, Tlbi}
+use Rattle.bbm_rules.proofs.Common.{Tag, any, Issued, completes, left_open, reaches, unanswered, holds_at, itself}
+use Rattle.bbm_rules.proofs.Common.{loses, read_since, reads, reads_for_some, takes_tag, and-false, and-true, and_comm}
+use Rattle.bbm_rules.proofs.Common.{first_true}
 use Rattle.bbm_regimes.specs.PeMask.{pe_in}
-use Rattle.bbm_barriers.specs.Options.{answers}
-use Rattle.bbm_tlbi_scope.specs.Operations.{operation}
-use Rattle.bbm_rules.specs.Prelude.{Barrier, Heading, Event, Dsb, Tlbi, Tag}
 use Rattle.bbm_rules.specs.Claims.{Patterns}
-use Rattle.bbm_rules.specs.Lists.{any}
-use Rattle.bbm_rules.specs.Reach.{Issued, completes, left_open, reaches, unanswered}
-use Rattle.bbm_rules.specs.Tags.{holds_at, is_taken_by, itself, loses, read_since, reads, reads_for_some, takes_tag}
+use Rattle.bbm_rules.specs.Tags.{is_taken_by}
 use Rattle.bbm_oracle_tags.specs.Watches.{IsWatch, Looks, awaits, awaits_after, is_cast, loses_by, would_take}
 use Rattle.bbm_oracle_tags.specs.declared.watch.Watch.{Watch}
 use Rattle.bbm_oracle_tags.proofs.BoolLemmas.{read-later, read-now, taken-broadcast, taken-local}
 use Rattle.bbm_oracle_tags.proofs.MomentLemmas.{same-reads-some}
-use mathlib.Core.Bool.{and-false, and-true, and_comm, or_self_left}
-use Rattle.bbm_lemmas.proofs.Bools.{first_true, ands_of_first, never_of_two, both_of_two}
+use mathlib.Core.Bool.{or_self_left}
+use Rattle.bbm_lemmas.proofs.Bools.{ands_of_first, never_of_two, both_of_two}
 
 -- each of the TLBIs was issued before so many events had come
 abbrev older : ℕ → List (Issued Event) → Type 0

@@ -1,22 +1,15 @@
 -- What a TLBI covers, of the places of the trees page by page.
-use Rattle.std.proofs.Common.{◌≡◌, ℕ, Bool, true, false, ◌&&◌, ◌||◌, ◌==◌, cond, List, [], ◌∷◌, ◌++◌, filter, Option}
-use Rattle.std.proofs.Common.{Some, None, refl, sym, ◌∙◌, ap, subst, append_assoc}
-use Rattle.std.proofs.lemmas.Bool.{eqb-true, eq-eqb, or_parts}
+use Rattle.bbm_rules.proofs.Common.{◌≡◌, ℕ, Bool, true, false, ◌&&◌, ◌||◌, ◌==◌, cond, List, [], ◌∷◌, ◌++◌, filter}
+use Rattle.bbm_rules.proofs.Common.{Option, Some, None, refl, sym, ◌∙◌, ap, subst, append_assoc, eqb-true, eq-eqb}
+use Rattle.bbm_rules.proofs.Common.{or_parts, option_map_or, is_valid, Cover, Half, Second, Full, cover_of, Scope}
+use Rattle.bbm_rules.proofs.Common.{Heading, Event, Init, Null, Root, Unroot, Write, Dsb, Dmb, Isb, Tlbi, Msr, Lock}
+use Rattle.bbm_rules.proofs.Common.{Unlock, Trust, ValidWrite, cleansed_everywhere, held, last_valid, last_valid_after}
+use Rattle.bbm_rules.proofs.Common.{later, ◌>>=◌, among, any, with_number, Noted, events_of, page_of, Node, held_at}
+use Rattle.bbm_rules.proofs.Common.{node_of, places_in, written_places}
 use Rattle.std.specs.List.{flat_map}
-use Rattle.std.specs.Option.{option_map_or}
-use Rattle.bbm_descriptor.specs.Descriptor.{is_valid}
-use Rattle.bbm_tlbi_scope.specs.declared.entry.Cover.{Cover}
-use Rattle.bbm_tlbi_scope.specs.declared.entry.Cover.TheVariants.{None as NoCover, Half, Second, Full}
-use Rattle.bbm_tlbi_scope.specs.ScopeCovers.{cover_of}
-use Rattle.bbm_rules.specs.Prelude.{Kind, Scope, Heading, Event, Init, Null, Root, Unroot, Write, Dsb, Dmb, Isb, Tlbi}
-use Rattle.bbm_rules.specs.Prelude.{Msr, Lock, Unlock}
-use Rattle.bbm_rules.specs.Claims.{Trust}
-use Rattle.bbm_rules.specs.Held.{ValidWrite, cleansed_everywhere, held, last_valid, last_valid_after, later}
-use Rattle.bbm_rules.specs.Lists.{◌>>=◌, among, any, with_number}
-use Rattle.bbm_rules.specs.Notes.{Noted, events_of}
-use Rattle.bbm_rules.specs.Places.{page_of}
-use Rattle.bbm_rules.specs.Tree.{Node, held_at, node_of, tree}
-use Rattle.bbm_rules.specs.Values.{places_in, written_places}
+use Rattle.bbm_tlbi_scope.specs.declared.entry.Cover.TheVariants.{None as NoCover}
+use Rattle.bbm_rules.specs.Prelude.{Kind}
+use Rattle.bbm_rules.specs.Tree.{tree}
 use Rattle.bbm_oracle_patterns.specs.Kept.{cover_in}
 use Rattle.bbm_oracle_patterns.specs.declared.kept.Covered.{Covered}
 use Rattle.bbm_oracle_trees.specs.Views.{cover_under, covers_of_page, entry_of, view_of}

@@ -1,13 +1,10 @@
 -- The roots of events that fit a header fit it.
-use Rattle.std.proofs.Common.{◌≡◌, ℕ, true, ◌&&◌, List, [], ◌∷◌, not, Result, IfOk}
+use Rattle.bbm_rules.proofs.Common.{◌≡◌, ℕ, true, ◌&&◌, List, [], ◌∷◌, not, Result, IfOk, and_parts, IfOk-weaker}
+use Rattle.bbm_rules.proofs.Common.{fits_heading, is_pe, is_root_lock, is_root_page, Heading, Event, Init, Null, Root}
+use Rattle.bbm_rules.proofs.Common.{Unroot, Write, Dsb, Dmb, Isb, Tlbi, Msr, Lock, Unlock, Declared, is_at, retired}
+use Rattle.bbm_rules.proofs.Common.{roots_of}
 use Rattle.std.specs.List.{All}
-use Rattle.std.proofs.lemmas.Bool.{and_parts}
 use Rattle.std.proofs.lemmas.List.Elements.{All-nil, All-cons, All-filter, All-same}
-use Rattle.std.proofs.lemmas.Result.{IfOk-weaker}
-use Rattle.bbm_events.specs.Fits.{fits_heading, is_pe, is_root_lock, is_root_page}
-use Rattle.bbm_rules.specs.Prelude.{Heading, Event, Init, Null, Root, Unroot, Write, Dsb, Dmb, Isb, Tlbi, Msr, Lock}
-use Rattle.bbm_rules.specs.Prelude.{Unlock}
-use Rattle.bbm_rules.specs.Roots.{Declared, is_at, retired, roots_of}
 use Rattle.bbm_oracle_trees.specs.HistoryFits.{all_fit, fits_root}
 
 module _ (heading : Heading) where

@@ -1,27 +1,15 @@
 -- Which events leave the trees as they are.
-use Rattle.std.proofs.Common.{◌≡◌, ℕ, suc, Bool, true, false, not, ◌&&◌, ◌==◌, cond, List, [], ◌∷◌, ◌++◌, filter}
-use Rattle.std.proofs.Common.{filter_map, flat_map, find, Option, Some, None, is_none, is_some, true≢false, refl, sym}
-use Rattle.std.proofs.Common.{◌∙◌, ap, subst}
-use Rattle.std.proofs.lemmas.Bool.{and_parts, eq-eqb, eqb-true, not-true, or_parts}
-use Rattle.std.proofs.lemmas.List.Folds.{list_any-append}
-use Rattle.std.specs.List.{cons_option}
+use Rattle.bbm_rules.proofs.Common.{◌≡◌, ℕ, suc, Bool, true, false, not, ◌&&◌, ◌==◌, cond, List, [], ◌∷◌, ◌++◌, filter}
+use Rattle.bbm_rules.proofs.Common.{filter_map, flat_map, find, Option, Some, None, is_none, is_some, true≢false, refl}
+use Rattle.bbm_rules.proofs.Common.{sym, ◌∙◌, ap, subst, and_parts, eq-eqb, eqb-true, not-true, or_parts}
+use Rattle.bbm_rules.proofs.Common.{list_any-append, cons_option, proved, Is, every_wider, Cover, is_valid, Barrier}
+use Rattle.bbm_rules.proofs.Common.{Heading, Event, Init, Null, Root, Unroot, Write, Dsb, Trust, answered_where}
+use Rattle.bbm_rules.proofs.Common.{answers_one, cleansed, full_step, second_step, ValidWrite, cleansed_everywhere}
+use Rattle.bbm_rules.proofs.Common.{held, last_valid, later, ◌>>=◌, among, any, Noted, events_of, is_fresh}
+use Rattle.bbm_rules.proofs.Common.{may_be_fresh, page_of, Declared, roots_of, Node, child_at, children, in_tree}
+use Rattle.bbm_rules.proofs.Common.{next_of, node_below, starts_at, places_in, written_places}
 use Rattle.bbm_lemmas.proofs.Bools.{or_later}
-use Rattle.bbm_lemmas.proofs.Tautologies.{proved}
-use Rattle.bbm_lemmas.proofs.Tautologies.Claim.{Is}
-use Rattle.bbm_lemmas.proofs.Every.{every_wider}
-use Rattle.bbm_tlbi_scope.specs.declared.entry.Cover.{Cover}
-use Rattle.bbm_descriptor.specs.Descriptor.{is_valid}
-use Rattle.bbm_rules.specs.Prelude.{Barrier, Heading, Event, Init, Null, Root, Unroot, Write, Dsb}
-use Rattle.bbm_rules.specs.Claims.{Trust}
-use Rattle.bbm_rules.specs.Cleansing.{answered_where, answers_one, cleansed, full_step, second_step}
-use Rattle.bbm_rules.specs.Held.{ValidWrite, cleansed_everywhere, held, last_valid, later}
-use Rattle.bbm_rules.specs.Lists.{◌>>=◌, among, any}
-use Rattle.bbm_rules.specs.Notes.{Noted, events_of}
-use Rattle.bbm_rules.specs.Pages.{is_fresh, may_be_fresh}
-use Rattle.bbm_rules.specs.Places.{page_of}
-use Rattle.bbm_rules.specs.Roots.{Declared, roots_of}
-use Rattle.bbm_rules.specs.Tree.{Node, child_at, children, in_tree, next_of, node_below, nodes_at, starts_at, tree}
-use Rattle.bbm_rules.specs.Values.{places_in, written_places}
+use Rattle.bbm_rules.specs.Tree.{nodes_at, tree}
 use Rattle.bbm_oracle_trees.specs.Links.{begins_at, is_cut, is_touched, leaves}
 use Rattle.bbm_oracle_trees.proofs.Covering.{none_valid}
 

@@ -1,11 +1,6 @@
 -- One more event in the notes.
-use Rattle.std.proofs.Common.{◌≡◌, ℕ, suc, List, [], ◌∷◌, length, refl, sym, ◌∙◌, ap}
-use Rattle.std.proofs.Math.Path.{fun_ext}
-use Rattle.bbm_tlbi_scope.specs.declared.entry.Cover.{Cover}
-use Rattle.bbm_rules.specs.Prelude.{Heading, Event}
-use Rattle.bbm_rules.specs.Claims.{Trust}
-use Rattle.bbm_rules.specs.Covers.{cover_at, note, noted}
-use Rattle.bbm_rules.specs.Notes.{Noted, events_of}
+use Rattle.bbm_rules.proofs.Common.{◌≡◌, ℕ, suc, List, [], ◌∷◌, length, refl, sym, ◌∙◌, ap, fun_ext, Cover, Heading}
+use Rattle.bbm_rules.proofs.Common.{Event, Trust, cover_at, note, noted, Noted, events_of}
 use Rattle.bbm_oracle_patterns.specs.Kept.{cover_in, notes_of}
 use Rattle.bbm_oracle_patterns.specs.declared.kept.Kept.{Kept}
 use Rattle.bbm_oracle_trees.specs.Past.{Past, notes}

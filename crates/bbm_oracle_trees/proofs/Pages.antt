@@ -1,10 +1,7 @@
 -- Pages of a root one after another, and the input pages of the page below a place.
-use Rattle.std.proofs.Common.{◌≡◌, ℕ, ◌+◌, ◌*◌, ◌<◌, ◌≤◌, ◌^◌, zero, suc, List, [], ◌∷◌, ◌++◌, ◌∙◌, ap, arith}
-use Rattle.bbm_regimes.specs.declared.regime.Kind.{Kind}
+use Rattle.bbm_rules.proofs.Common.{◌≡◌, ℕ, ◌+◌, ◌*◌, ◌<◌, ◌≤◌, ◌^◌, zero, suc, List, [], ◌∷◌, ◌++◌, ◌∙◌, ap, arith}
+use Rattle.bbm_rules.proofs.Common.{Kind, index_of, pages_from, Node, nodes_of_pages}
 use Rattle.bbm_regimes.specs.World.{input_pages}
-use Rattle.bbm_rules.specs.Places.{index_of}
-use Rattle.bbm_rules.specs.Roots.{pages_from}
-use Rattle.bbm_rules.specs.Tree.{Node, nodes_of_pages}
 
 -- the region of the page below a place lies in that of the page
 pub below_fits : (base place level : ℕ) → level < 3 → base + 512 * input_pages level ≤ 2 ^ 45 →

@@ -1,18 +1,10 @@
 -- The phase of a place of a tree.
-use Rattle.std.proofs.Common.{◌≡◌, ℕ, cond, List, Option, Some, None, refl, sym, ◌∙◌, ap}
+use Rattle.bbm_rules.proofs.Common.{◌≡◌, ℕ, cond, List, Option, Some, None, refl, sym, ◌∙◌, ap, is_valid, Heading}
+use Rattle.bbm_rules.proofs.Common.{Event, Trust, cleansed_everywhere, last_valid, ◌>>=◌, Noted, events_of}
+use Rattle.bbm_rules.proofs.Common.{broken_phase, noted, page_of, Node, node_of, value_of}
 use Rattle.std.specs.Option.{unwrap_or}
-use Rattle.bbm_descriptor.specs.Descriptor.{is_valid}
-use Rattle.bbm_rules.specs.Prelude.{Heading, Event}
 use Rattle.bbm_rules.specs.declared.phase.Phase.TheVariants.{Clean, Live}
-use Rattle.bbm_rules.specs.Claims.{Trust}
-use Rattle.bbm_rules.specs.Held.{cleansed_everywhere, last_valid}
-use Rattle.bbm_rules.specs.Lists.{◌>>=◌}
-use Rattle.bbm_rules.specs.Notes.{Noted, events_of}
-use Rattle.bbm_rules.specs.Phases.{broken_phase, phase_of}
-use Rattle.bbm_rules.specs.Covers.{noted}
-use Rattle.bbm_rules.specs.Places.{page_of}
-use Rattle.bbm_rules.specs.Tree.{Node, node_of}
-use Rattle.bbm_rules.specs.Values.{value_of}
+use Rattle.bbm_rules.specs.Phases.{phase_of}
 use Rattle.bbm_oracle_patterns.specs.PlacePhases.{phase_at}
 use Rattle.bbm_oracle_trees.specs.Past.{Past, notes}
 use Rattle.bbm_oracle_trees.specs.TreePhases.{phase_among}

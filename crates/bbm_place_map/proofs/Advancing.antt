@@ -1,12 +1,8 @@
 -- Entries that change one after another, each in its place.
-use Rattle.std.proofs.Common.{◌≡◌, ◌≢◌, ℕ, ◌+◌, ◌<◌, ◌≤◌, nat_eq, List, length, Option, Some, None, refl, ap, sym}
-use Rattle.std.proofs.Common.{subst, ◌∙◌, arith, inl, inr, if◌then◌else◌, slice_get, unwrap_or}
-use Rattle.std.specs.Option.{option_map}
-use Rattle.std.proofs.lemmas.Bool.{cases_eq, cases_lt, eq-eqb, ne_eqb, cond-true, cond-false}
-use Rattle.std.proofs.lemmas.Option.{slice_get_past}
-use Rattle.bbm_place_map.specs.Entries.{seat, entry_of}
-use Rattle.bbm_place_map.specs.Each.{Advances}
-use Rattle.bbm_place_map.specs.declared.entry.Entry.{Entry}
+use Rattle.bbm_place_map.proofs.Common.{◌≡◌, ◌≢◌, ℕ, ◌+◌, ◌<◌, ◌≤◌, nat_eq, List, length, Option, Some, None, refl, ap}
+use Rattle.bbm_place_map.proofs.Common.{sym, subst, ◌∙◌, arith, inl, inr, if◌then◌else◌, slice_get, unwrap_or}
+use Rattle.bbm_place_map.proofs.Common.{option_map, cases_eq, cases_lt, eq-eqb, ne_eqb, cond-true, cond-false}
+use Rattle.bbm_place_map.proofs.Common.{slice_get_past, seat, entry_of, Advances, Entry}
 
 pub at_both : (R : Entry → Entry → Type 0) (a a' b b' : Option Entry) → a ≡ a' → b ≡ b' → Advances R a' b' → Advances R a b
 at_both R a a' b b' is is' h =

@@ -1,23 +1,13 @@
 -- One entry that a DSB answered, among the others.
-use Rattle.std.proofs.Common.{◌≡◌, ◌≢◌, ℕ, Bool, true, false, nat_eq, List, [], length, Option, Some, None, refl}
-use Rattle.std.proofs.Common.{ap, sym, subst, ◌∙◌, if◌then◌else◌, slice_get}
-use Rattle.std.specs.Option.{option_map}
-use Rattle.std.proofs.lemmas.Bool.{eq-eqb, ne_eqb, cond-true, cond-false}
-use Rattle.bbm_entry_state.specs.EntryCalls.{Completed}
-use Rattle.bbm_entry_state.specs.Points.{waits}
-use Rattle.bbm_entry_state.specs.declared.pending.Pends.{Pends}
-use Rattle.bbm_entry_state.specs.declared.state.EntryState.TheVariants.{Clean, Broken}
-use Rattle.bbm_place_map.specs.Cells.{slot_in}
-use Rattle.bbm_place_map.specs.Each.{Completes, loses_table, is_table}
-use Rattle.bbm_place_map.specs.Entries.{pends_in, no_pends, seat, seat_at, cell_at, entry_of, entry_in, marks_of}
-use Rattle.bbm_place_map.specs.Parts.{marks_in}
-use Rattle.bbm_place_map.specs.Sound.{Linked, Placed}
-use Rattle.bbm_place_map.specs.declared.entry.Entry.{Entry}
-use Rattle.bbm_place_map.specs.declared.orders.Barrier.{Barrier}
+use Rattle.bbm_place_map.proofs.Common.{◌≡◌, ◌≢◌, ℕ, Bool, true, false, nat_eq, List, [], length, Option, Some, None}
+use Rattle.bbm_place_map.proofs.Common.{refl, ap, sym, subst, ◌∙◌, if◌then◌else◌, slice_get, option_map, eq-eqb, ne_eqb}
+use Rattle.bbm_place_map.proofs.Common.{cond-true, cond-false, Completed, waits, Pends, Clean, Broken, slot_in}
+use Rattle.bbm_place_map.proofs.Common.{Completes, loses_table, is_table, pends_in, no_pends, seat, seat_at, cell_at}
+use Rattle.bbm_place_map.proofs.Common.{entry_of, entry_in, marks_of, marks_in, Linked, Placed, Entry, Barrier}
+use Rattle.bbm_place_map.proofs.Common.{with_true}
 use Rattle.bbm_place_map.proofs.Completing.{completes_none}
 use Rattle.bbm_place_map.proofs.Idle.{nothing_waits}
 use Rattle.bbm_place_map.proofs.Seats.{cells_same, linked_seated, placed_seated, seats_changed, entries_changed}
-use Rattle.bbm_lemmas.proofs.Bools.{with_true}
 
 pub completes_at : (by : Barrier) (o o' p p' : Option Entry) → o ≡ o' → p ≡ p'
     → Completes by o' p' → Completes by o p

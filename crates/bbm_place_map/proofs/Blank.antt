@@ -1,14 +1,8 @@
 -- Pages no place of which has a value or is broken, by their values and cells.
-use Rattle.std.proofs.Common.{◌≡◌, ℕ, ◌+◌, ◌*◌, ◌/◌, ◌%◌, ◌<◌, List, Option, Some, None, refl, ap, sym, ◌∙◌, nat_eq}
-use Rattle.std.proofs.lemmas.Option.{none-some}
-use Rattle.indexmap.specs.IndexMap.{get}
-use Rattle.bbm_place_map.specs.Cells.{number_of, slot_in, value_in}
-use Rattle.bbm_place_map.specs.Entries.{entry_of, marks_of}
+use Rattle.bbm_place_map.proofs.Common.{◌≡◌, ℕ, ◌+◌, ◌*◌, ◌/◌, ◌%◌, ◌<◌, List, Option, Some, None, refl, ap, sym, ◌∙◌}
+use Rattle.bbm_place_map.proofs.Common.{nat_eq, none-some, get, number_of, slot_in, value_in, entry_of, marks_of}
+use Rattle.bbm_place_map.proofs.Common.{marks_in, Linked, at_index, index_of, starts, Entry, PlaceMap}
 use Rattle.bbm_place_map.specs.Map.{marks_at, value_at}
-use Rattle.bbm_place_map.specs.Parts.{marks_in}
-use Rattle.bbm_place_map.specs.Sound.{Linked, at_index, index_of, starts}
-use Rattle.bbm_place_map.specs.declared.entry.Entry.{Entry}
-use Rattle.bbm_place_map.specs.declared.map.PlaceMap.{PlaceMap}
 use Rattle.bbm_place_map.proofs.Parts.{number_zero, start_is}
 use Rattle.bbm_place_map.proofs.Places.{cell_of, eighth_at, index_from, index_none, number_at, number_below, page_at}
 use Rattle.bbm_place_map.proofs.Seats.{found}

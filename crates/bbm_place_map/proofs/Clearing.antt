@@ -1,16 +1,10 @@
 -- A place, or all places of a page, that aren't broken any more.
-use Rattle.std.proofs.Common.{◌≡◌, ℕ, ◌*◌, ◌/◌, List, Some, None, nat_eq, ap, subst, ◌∙◌, vec_len, if◌then◌else◌}
-use Rattle.std.specs.Prelude.{Vec}
-use Rattle.std.specs.declared.alloc.Global.{Global}
-use Rattle.indexmap.specs.IndexMap.{get}
-use Rattle.bbm_place_map.specs.Cells.{cell_by, in_part, is_at, slot_in}
-use Rattle.bbm_place_map.specs.Entries.{entry_in, marks_of, no_pends, pends_of}
-use Rattle.bbm_place_map.specs.Map.{marks_at, pends_at, place_cell}
-use Rattle.bbm_place_map.specs.Parts.{marks_in, pends_for}
+use Rattle.bbm_place_map.proofs.Common.{◌≡◌, ℕ, ◌*◌, ◌/◌, List, Some, None, nat_eq, ap, subst, ◌∙◌, vec_len}
+use Rattle.bbm_place_map.proofs.Common.{if◌then◌else◌, Vec, Global, get, cell_by, in_part, is_at, slot_in, entry_in}
+use Rattle.bbm_place_map.proofs.Common.{marks_of, no_pends, pends_of, place_cell, marks_in, pends_for, at_index}
+use Rattle.bbm_place_map.proofs.Common.{index_of, starts, Entry, PlaceMap}
+use Rattle.bbm_place_map.specs.Map.{marks_at, pends_at}
 use Rattle.bbm_place_map.specs.Puts.{Clears}
-use Rattle.bbm_place_map.specs.Sound.{at_index, index_of, starts}
-use Rattle.bbm_place_map.specs.declared.entry.Entry.{Entry}
-use Rattle.bbm_place_map.specs.declared.map.PlaceMap.{PlaceMap}
 use Rattle.bbm_place_map.proofs.Pages.{lose_marks, lose_pends}
 use Rattle.bbm_place_map.proofs.Parts.{at_maybe, at_part, cell_here}
 

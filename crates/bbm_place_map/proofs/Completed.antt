@@ -1,21 +1,9 @@
 -- What a DSB answers, of a place.
-use Rattle.std.proofs.Common.{◌≡◌, ◌≢◌, ℕ, Bool, true, false, ◌&&◌, List, Option, Some, None, is_some, refl, ap, sym}
-use Rattle.std.proofs.Common.{◌∙◌, slice_get}
-use Rattle.std.specs.Option.{option_map}
-use Rattle.std.proofs.lemmas.Bool.{false≢true}
-use Rattle.std.proofs.lemmas.Option.{same_Some}
-use Rattle.bbm_tlbi_scope.specs.declared.entry.Cover.{Cover}
-use Rattle.bbm_entry_state.specs.EntryCalls.{Completed}
-use Rattle.bbm_entry_state.specs.Points.{waits}
-use Rattle.bbm_entry_state.specs.declared.marks.Marks.{Marks}
-use Rattle.bbm_place_map.specs.Cells.{slot_in}
-use Rattle.bbm_place_map.specs.Each.{Completes, loses_table}
-use Rattle.bbm_place_map.specs.Entries.{entry_of, entry_in, marks_of, no_pends}
-use Rattle.bbm_place_map.specs.Parts.{marks_in, pends_for}
-use Rattle.bbm_place_map.specs.Sound.{Linked, Placed, index_of, at_index}
-use Rattle.bbm_place_map.specs.States.{state_from}
-use Rattle.bbm_place_map.specs.declared.entry.Entry.{Entry}
-use Rattle.bbm_place_map.specs.declared.orders.Barrier.{Barrier}
+use Rattle.bbm_place_map.proofs.Common.{◌≡◌, ◌≢◌, ℕ, Bool, true, false, ◌&&◌, List, Option, Some, None, is_some, refl}
+use Rattle.bbm_place_map.proofs.Common.{ap, sym, ◌∙◌, slice_get, option_map, false≢true, same_Some, Cover, Completed}
+use Rattle.bbm_place_map.proofs.Common.{waits, Marks, slot_in, Completes, loses_table, entry_of, entry_in, marks_of}
+use Rattle.bbm_place_map.proofs.Common.{no_pends, marks_in, pends_for, Linked, Placed, index_of, at_index, state_from}
+use Rattle.bbm_place_map.proofs.Common.{Entry, Barrier}
 use Rattle.bbm_place_map.proofs.Completing.{completes_none}
 use Rattle.bbm_place_map.proofs.Idle.{nothing_waits}
 

@@ -1,12 +1,6 @@
 -- What a DSB answers, of one place.
-use Rattle.std.proofs.Common.{◌≡◌, Bool, true, false, Option, None, refl, if◌then◌else◌}
-use Rattle.bbm_descriptor.specs.declared.desc.Core.{Core}
-use Rattle.bbm_place_map.specs.declared.orders.Barrier.{Barrier}
-use Rattle.bbm_lemmas.specs.EveryPe.{every_pe}
-use Rattle.bbm_entry_state.specs.EntryCalls.{clean_after}
-use Rattle.bbm_entry_state.specs.declared.state.EntryState.TheVariants.{Clean}
-use Rattle.bbm_place_map.specs.Entries.{no_pends}
-use Rattle.bbm_place_map.specs.Each.{Completes}
+use Rattle.bbm_place_map.proofs.Common.{◌≡◌, Bool, true, false, Option, None, refl, if◌then◌else◌, Core, Barrier}
+use Rattle.bbm_place_map.proofs.Common.{every_pe, clean_after, Clean, no_pends, Completes}
 use Rattle.bbm_place_map.proofs.Idle.{nothing_waits}
 
 cases : (b : Bool) → ◌≡◌ {A = Option Core} None (if b then None else None)

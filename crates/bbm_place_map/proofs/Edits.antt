@@ -1,13 +1,11 @@
 -- Numbers of entries within the cells.
-use Rattle.std.proofs.Common.{◌≡◌, ℕ, ◌+◌, ◌<◌, ◌≤◌, List, length, Bool, Option, Some, None, is_some, refl, ap, sym}
-use Rattle.std.proofs.Common.{◌∙◌, arith, inl, inr, cond, count_by, set, get_or}
-use Rattle.std.proofs.lemmas.Bool.{cases_lt}
-use Rattle.std.proofs.lemmas.List.{length-set, get_or_past}
-use Rattle.std.proofs.lemmas.List.Sums.{sum_by-set, count_by-le-length}
-use Rattle.std.proofs.lemmas.Option.{none-some, slice_get_read, get_or_from_slice_get}
-use Rattle.bbm_place_map.specs.Cells.{value_in, slot_in, is_listed, number_of}
-use Rattle.bbm_place_map.specs.Sound.{Linked}
-use Rattle.bbm_place_map.specs.declared.entry.Entry.{Entry}
+use Rattle.bbm_place_map.proofs.Common.{◌≡◌, ℕ, ◌+◌, ◌<◌, ◌≤◌, List, length, Bool, Option, Some, None, is_some, refl}
+use Rattle.bbm_place_map.proofs.Common.{ap, sym, ◌∙◌, arith, inl, inr, count_by, set, get_or, cases_lt, length-set}
+use Rattle.bbm_place_map.proofs.Common.{get_or_past, count_by-le-length, none-some, slice_get_read, value_in, slot_in}
+use Rattle.bbm_place_map.proofs.Common.{is_listed, number_of, Linked, Entry}
+use Rattle.std.proofs.Common.{cond}
+use Rattle.std.proofs.lemmas.List.Sums.{sum_by-set}
+use Rattle.std.proofs.lemmas.Option.{get_or_from_slice_get}
 
 pub slot_within : (cells : List ℕ) (j k : ℕ) → slot_in cells j ≡ Some k → j < length cells
 slot_within cells j k h =

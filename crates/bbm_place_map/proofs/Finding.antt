@@ -1,15 +1,12 @@
 -- How far items cover a place.
-use Rattle.std.proofs.Common.{◌≡◌, ℕ, ◌+◌, ◌<◌, Bool, true, false, nat_eq, suc, List, [], ◌∷◌, length, ◌++◌, drop, take}
-use Rattle.std.proofs.Common.{get_or, refl, arith, ap, sym, ◌∙◌, inl, inr, ◌||◌, if◌then◌else◌, add-one}
+use Rattle.bbm_place_map.proofs.Common.{◌≡◌, ℕ, ◌+◌, ◌<◌, Bool, true, false, nat_eq, suc, List, [], ◌∷◌, length, ◌++◌}
+use Rattle.bbm_place_map.proofs.Common.{drop, take, get_or, refl, arith, ap, sym, ◌∙◌, inl, inr, ◌||◌, if◌then◌else◌}
+use Rattle.bbm_place_map.proofs.Common.{cases_Bool, cond-true, cond-false, eq-eqb, eqb-true, false≢true, proved, If, Is}
+use Rattle.bbm_place_map.proofs.Common.{Cover, cover_in, is_found, FoundAs, Found}
+use Rattle.std.proofs.Common.{add-one}
 use Rattle.std.proofs.Math.Seq.{take-suc}
-use Rattle.std.proofs.lemmas.Bool.{cases_Bool, cond-true, cond-false, eq-eqb, eqb-true, false≢true}
 use Rattle.std.proofs.lemmas.List.{take-append-drop}
-use Rattle.bbm_lemmas.proofs.Tautologies.{proved}
-use Rattle.bbm_lemmas.proofs.Tautologies.Claim.{If, Is}
-use Rattle.bbm_tlbi_scope.specs.declared.entry.Cover.{Cover}
 use Rattle.bbm_tlbi_scope.specs.declared.entry.Cover.TheVariants.{None as NoCover}
-use Rattle.bbm_place_map.specs.Finds.{cover_in, is_found, FoundAs}
-use Rattle.bbm_place_map.specs.declared.found.Found.{Found}
 use mathlib.Core.Bool.{or-false, or-true}
 
 pub cover_none : (xs : List Found) (a : ℕ) → is_found xs a ≡ false → cover_in xs a ≡ NoCover

@@ -1,11 +1,8 @@
 -- One more page.
-use Rattle.std.proofs.Common.{◌≡◌, ◌≢◌, ℕ, ◌+◌, ◌*◌, ◌/◌, ◌%◌, ◌≤◌, Bool, true, false, nat_eq, ◌==◌, List}
-use Rattle.std.proofs.Common.{Option, Some, None, refl, ap, sym, ◌∙◌, arith, inl, inr, ◌⊎◌, if◌then◌else◌, is_some}
-use Rattle.std.specs.Option.{option_map}
-use Rattle.std.proofs.lemmas.Bool.{cases_eq, eq-eqb, ne_eqb, cond-true, cond-false}
-use Rattle.std.proofs.lemmas.Option.{same_Some, none-some}
-use Rattle.bbm_place_map.specs.Sound.{Numbered, Placed, at_index, index_of}
-use Rattle.bbm_place_map.specs.declared.entry.Entry.{Entry}
+use Rattle.bbm_place_map.proofs.Common.{◌≡◌, ◌≢◌, ℕ, ◌+◌, ◌*◌, ◌/◌, ◌%◌, ◌≤◌, Bool, true, false, nat_eq, ◌==◌, List}
+use Rattle.bbm_place_map.proofs.Common.{Option, Some, None, refl, ap, sym, ◌∙◌, arith, inl, inr, ◌⊎◌, if◌then◌else◌}
+use Rattle.bbm_place_map.proofs.Common.{is_some, option_map, cases_eq, eq-eqb, ne_eqb, cond-true, cond-false, same_Some}
+use Rattle.bbm_place_map.proofs.Common.{none-some, Numbered, Placed, at_index, index_of, Entry}
 use Rattle.bbm_place_map.proofs.Places.{at_same, found}
 
 module _ (old new : ℕ → Option ℕ) (page count : ℕ) (updates : (p : ℕ) → new p ≡ (if nat_eq p page then Some count else old p))

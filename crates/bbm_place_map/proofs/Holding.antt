@@ -1,17 +1,12 @@
 -- What lists of work have after an edit, and what marks are told.
-use Rattle.std.proofs.Common.{◌≡◌, ◌≢◌, ℕ, ◌<◌, ◌≤◌, ◌⊎◌, Bool, true, false, not, ◌&&◌, nat_eq, zero, suc, List, []}
-use Rattle.std.proofs.Common.{◌∷◌}
-use Rattle.std.proofs.Common.{◌++◌, length, Some, Vec, Global, Contains, refl, ap, sym, subst, ◌∙◌, arith, inl, inr}
-use Rattle.std.proofs.Common.{slice_get}
-use Rattle.std.proofs.Common.{set, get_or, drop}
-use Rattle.std.proofs.lemmas.Bool.{cases_eq, eq-eqb, ne_eqb, cond-true, cond-false}
-use Rattle.std.proofs.lemmas.Option.{same_Some, slice_get_read}
-use Rattle.bbm_lemmas.proofs.Tautologies.{proved}
-use Rattle.bbm_lemmas.proofs.Tautologies.Claim.{Either, If, Is}
+use Rattle.bbm_place_map.proofs.Common.{◌≡◌, ◌≢◌, ℕ, ◌<◌, ◌≤◌, ◌⊎◌, Bool, true, false, not, ◌&&◌, nat_eq, zero, suc}
+use Rattle.bbm_place_map.proofs.Common.{List, [], ◌∷◌, ◌++◌, length, Some, Contains, refl, ap, sym, subst, ◌∙◌, arith}
+use Rattle.bbm_place_map.proofs.Common.{inl, inr, slice_get, set, get_or, drop, cases_eq, eq-eqb, ne_eqb, cond-true}
+use Rattle.bbm_place_map.proofs.Common.{cond-false, same_Some, slice_get_read, proved, If, Is, PeMask, Holds, HoldsFor}
+use Rattle.bbm_place_map.proofs.Common.{part, WorkList}
+use Rattle.std.proofs.Common.{Vec, Global}
+use Rattle.bbm_lemmas.proofs.Tautologies.Claim.{Either}
 use Rattle.bbm_regimes.specs.PeMask.{pe_in}
-use Rattle.bbm_regimes.specs.declared.pe.PeMask.{PeMask}
-use Rattle.bbm_place_map.specs.Works.{Holds, HoldsFor, part}
-use Rattle.bbm_place_map.specs.declared.work.WorkList.{WorkList}
 use Rattle.bbm_place_map.proofs.Lists.{set_get, push_get}
 
 module _ (lists : List WorkList) (k : ℕ) (old new : WorkList) (within : k < length lists) (was : old ≡ get_or lists k old) where

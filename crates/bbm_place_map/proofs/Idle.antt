@@ -1,20 +1,10 @@
 -- Where nothing waits.
-use Rattle.std.proofs.Common.{◌≡◌, ℕ, Bool, true, false, ◌==◌, List, []}
-use Rattle.std.proofs.Common.{Option, Some, None, refl, ap, ◌∙◌}
-use Rattle.std.proofs.Common.{slice_get}
+use Rattle.bbm_place_map.proofs.Common.{◌≡◌, ℕ, Bool, true, false, ◌==◌, List, [], Option, Some, None, refl, ap, ◌∙◌}
+use Rattle.bbm_place_map.proofs.Common.{slice_get, Cover, Half, Second, Full, waits, waits_in, IsIdle, Pends, no_pend}
+use Rattle.bbm_place_map.proofs.Common.{no_pends, pends_of, entry_of, slot_in, pends_for, IsQuiet, Entry, at_index}
 use Rattle.std.proofs.lemmas.Nat.Bits.{bit_at-zero}
 use Rattle.bbm_regimes.specs.PeMask.{pe_in}
-use Rattle.bbm_tlbi_scope.specs.declared.entry.Cover.{Cover}
-use Rattle.bbm_tlbi_scope.specs.declared.entry.Cover.TheVariants.{None as NoCover, Half, Second, Full}
-use Rattle.bbm_entry_state.specs.Points.{waits, waits_in}
-use Rattle.bbm_entry_state.specs.EntryStanding.{IsIdle}
-use Rattle.bbm_entry_state.specs.declared.pending.Pends.{Pends}
-use Rattle.bbm_place_map.specs.Entries.{no_pend, no_pends, pends_of, entry_of}
-use Rattle.bbm_place_map.specs.Cells.{slot_in}
-use Rattle.bbm_place_map.specs.Parts.{pends_for}
-use Rattle.bbm_place_map.specs.Works.{IsQuiet}
-use Rattle.bbm_place_map.specs.declared.entry.Entry.{Entry}
-use Rattle.bbm_place_map.specs.Sound.{at_index}
+use Rattle.bbm_tlbi_scope.specs.declared.entry.Cover.TheVariants.{None as NoCover}
 
 no_pe : (p : ℕ) → pe_in (record { bits = 0 }) p ≡ false
 unfolding pe_in

@@ -1,14 +1,9 @@
 -- Whether nothing waits, by masks.
-use Rattle.std.proofs.Common.{◌≡◌, ℕ, Bool, true, false, ◌||◌, ◌↔◌, IsTrue, refl, sym, ◌∙◌}
+use Rattle.bbm_place_map.proofs.Common.{◌≡◌, ℕ, Bool, true, false, ◌||◌, ◌↔◌, IsTrue, refl, sym, ◌∙◌, PeMask, Cover}
+use Rattle.bbm_place_map.proofs.Common.{Half, Second, Full, waits, waits_in, Pend, Pends, IsQuiet, false≢true}
 use Rattle.bbm_regimes.specs.PeMask.{pe_in}
-use Rattle.bbm_regimes.specs.declared.pe.PeMask.{PeMask}
-use Rattle.bbm_tlbi_scope.specs.declared.entry.Cover.{Cover}
-use Rattle.bbm_tlbi_scope.specs.declared.entry.Cover.TheVariants.{None as NoCover, Half, Second, Full}
-use Rattle.bbm_entry_state.specs.Points.{waits, waits_in}
-use Rattle.bbm_entry_state.specs.declared.pending.Pend.{Pend}
-use Rattle.bbm_entry_state.specs.declared.pending.Pends.{Pends}
-use Rattle.bbm_place_map.specs.Works.{IsQuiet}
-use Rattle.std.proofs.lemmas.Bool.{false≢true, or_from}
+use Rattle.bbm_tlbi_scope.specs.declared.entry.Cover.TheVariants.{None as NoCover}
+use Rattle.std.proofs.lemmas.Bool.{or_from}
 use Rattle.bbm_lemmas.proofs.Bools.{first_none, second_none}
 
 module _ (pend : Pend) (m m' : PeMask) (is : (p : ℕ) → pe_in m p ≡ (pe_in pend.half p || pe_in pend.second p))

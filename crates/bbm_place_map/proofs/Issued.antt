@@ -1,26 +1,11 @@
 -- What the issue of a TLBI notes, of a place.
-use Rattle.std.proofs.Common.{◌≡◌, ℕ, true, false, ◌<◌, List, length, Option, Some, None, is_some, refl, ap, sym}
-use Rattle.std.proofs.Common.{subst, ◌∙◌, arith, inl, inr, slice_get, unwrap_or, get_or}
-use Rattle.std.specs.Option.{option_map}
-use Rattle.std.proofs.lemmas.Option.{slice_get_cases, slice_get_within, same_Some, slice_get-get_or}
-use Rattle.bbm_tlbi_scope.specs.declared.entry.Cover.{Cover}
-use Rattle.bbm_entry_state.specs.EntryCalls.{Noted}
-use Rattle.bbm_entry_state.specs.Points.{waits}
-use Rattle.bbm_entry_state.specs.declared.marks.Marks.{Marks}
-use Rattle.bbm_entry_state.specs.declared.state.EntryState.TheVariants.{Broken}
-use Rattle.bbm_place_map.specs.Cells.{slot_in}
-use Rattle.bbm_place_map.specs.Each.{Advances}
-use Rattle.bbm_place_map.specs.Entries.{no_pends, entry_of, pends_in, pends_of}
-use Rattle.bbm_place_map.specs.Finds.{cover_in, is_found, FoundAs}
-use Rattle.bbm_place_map.specs.PlaceNotes.{Keeps, NotesAt, NotesFound, is_cover}
-use Rattle.bbm_place_map.specs.Parts.{marks_in, pends_for}
-use Rattle.bbm_place_map.specs.Sound.{Linked, Numbered, Placed, index_of, at_index}
-use Rattle.bbm_place_map.specs.States.{state_from}
-use Rattle.bbm_place_map.specs.declared.entry.Entry.{Entry}
-use Rattle.bbm_place_map.specs.declared.entry.Pending.{Pending}
-use Rattle.bbm_place_map.specs.declared.found.Found.{Found}
-use Rattle.bbm_place_map.specs.declared.orders.Issuing.{Issuing}
-use Rattle.bbm_place_map.specs.declared.work.WorkList.{WorkList}
+use Rattle.bbm_place_map.proofs.Common.{◌≡◌, ℕ, true, false, ◌<◌, List, length, Option, Some, None, is_some, refl, ap}
+use Rattle.bbm_place_map.proofs.Common.{sym, subst, ◌∙◌, arith, inl, inr, slice_get, unwrap_or, get_or, option_map}
+use Rattle.bbm_place_map.proofs.Common.{slice_get_cases, slice_get_within, same_Some, slice_get-get_or, Cover, Noted}
+use Rattle.bbm_place_map.proofs.Common.{waits, Marks, Broken, slot_in, Advances, no_pends, entry_of, pends_in, pends_of}
+use Rattle.bbm_place_map.proofs.Common.{cover_in, is_found, FoundAs, Keeps, NotesAt, NotesFound, is_cover, marks_in}
+use Rattle.bbm_place_map.proofs.Common.{pends_for, Linked, Numbered, Placed, index_of, at_index, state_from, Entry}
+use Rattle.bbm_place_map.proofs.Common.{Pending, Found, Issuing, WorkList}
 use Rattle.bbm_place_map.proofs.Advancing.{at_both}
 use Rattle.bbm_place_map.proofs.Finding.{cover_is, cover_none}
 use Rattle.bbm_place_map.proofs.Noting.{noted_alike}

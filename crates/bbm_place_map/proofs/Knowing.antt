@@ -1,18 +1,12 @@
 -- What the lists of work tell of each cell.
-use Rattle.std.proofs.Common.{◌≡◌, ℕ, ◌<◌, ◌⊎◌, true, false, nat_eq, zero, suc, List, [], ◌∷◌, length}
-use Rattle.std.proofs.Common.{get_or, Option, Some, None, Contains, refl, ap, sym, subst, ◌∙◌, arith, inl, inr, Bool}
-use Rattle.std.proofs.Common.{slice_get}
-use Rattle.std.specs.Option.{option_map}
-use Rattle.std.proofs.lemmas.Bool.{cases_Bool, eq-eqb, eqb-true, false≢true, or_left, or_right, or_cases}
-use Rattle.std.proofs.lemmas.Option.{same_Some}
-use Rattle.bbm_entry_state.specs.declared.marks.Marks.{Marks}
-use Rattle.bbm_place_map.specs.Cells.{slot_in}
-use Rattle.bbm_place_map.specs.Entries.{entry_of, entry_in, marks_of, pends_of, pends_in, no_pends}
-use Rattle.bbm_place_map.specs.Parts.{marks_in, pends_for}
-use Rattle.bbm_place_map.specs.Sound.{Linked}
-use Rattle.bbm_place_map.specs.Works.{Holds, HoldsFor, IsQuiet, IsTold, is_in, part, holds, has, holds_for}
-use Rattle.bbm_place_map.specs.declared.entry.Entry.{Entry}
-use Rattle.bbm_place_map.specs.declared.work.WorkList.{WorkList}
+use Rattle.bbm_place_map.proofs.Common.{◌≡◌, ℕ, ◌<◌, ◌⊎◌, true, false, nat_eq, zero, suc, List, [], ◌∷◌, length, get_or}
+use Rattle.bbm_place_map.proofs.Common.{Option, Some, None, Contains, refl, ap, sym, subst, ◌∙◌, arith, inl, inr, Bool}
+use Rattle.bbm_place_map.proofs.Common.{slice_get, option_map, cases_Bool, eq-eqb, eqb-true, false≢true, or_left}
+use Rattle.bbm_place_map.proofs.Common.{or_right, same_Some, Marks, slot_in, entry_of, entry_in, marks_of, pends_of}
+use Rattle.bbm_place_map.proofs.Common.{pends_in, no_pends, marks_in, pends_for, Linked, Holds, HoldsFor, IsQuiet}
+use Rattle.bbm_place_map.proofs.Common.{IsTold, part, Entry, WorkList}
+use Rattle.std.proofs.lemmas.Bool.{or_cases}
+use Rattle.bbm_place_map.specs.Works.{is_in, holds, has, holds_for}
 use Rattle.bbm_place_map.proofs.Idle.{idle_from, quiet_from}
 
 in_from : (xs : List ℕ) (k d j : ℕ) → k < length xs → get_or xs k d ≡ j → is_in xs j ≡ true

@@ -1,14 +1,9 @@
 -- An entry taken out, and the last one put in its place.
-use Rattle.std.proofs.Common.{◌≡◌, ℕ, ◌+◌, ◌-◌, ◌<◌, true, nat_eq, nat_le, List, length, Option, Some, None, is_some}
-use Rattle.std.proofs.Common.{refl, ap, sym, ◌∙◌, arith, inl, inr, if◌then◌else◌, slice_get, get_or, count_by}
-use Rattle.std.specs.List.{swap_remove}
-use Rattle.std.specs.Option.{option_map}
-use Rattle.std.proofs.lemmas.Bool.{cases_eq, cases_lt, eq-eqb, ne_eqb, cond-true, cond-false}
-use Rattle.std.proofs.lemmas.Option.{slice_get_read, slice_get_past, none-some, same_Some}
-use Rattle.bbm_place_map.specs.Cells.{slot_in, is_listed}
-use Rattle.bbm_place_map.specs.Entries.{cell_at, entry_in}
-use Rattle.bbm_place_map.specs.Sound.{Linked, Placed}
-use Rattle.bbm_place_map.specs.declared.entry.Entry.{Entry}
+use Rattle.bbm_place_map.proofs.Common.{◌≡◌, ℕ, ◌+◌, ◌-◌, ◌<◌, true, nat_eq, nat_le, List, length, Option, Some, None}
+use Rattle.bbm_place_map.proofs.Common.{is_some, refl, ap, sym, ◌∙◌, arith, inl, inr, if◌then◌else◌, slice_get, get_or}
+use Rattle.bbm_place_map.proofs.Common.{count_by, swap_remove, option_map, cases_eq, cases_lt, eq-eqb, ne_eqb}
+use Rattle.bbm_place_map.proofs.Common.{cond-true, cond-false, slice_get_read, slice_get_past, none-some, same_Some}
+use Rattle.bbm_place_map.proofs.Common.{slot_in, is_listed, cell_at, entry_in, Linked, Placed, Entry}
 use Rattle.bbm_place_map.proofs.Lists.{swap_get}
 use Rattle.bbm_place_map.proofs.Edits.{slot_within, one_if}
 use Rattle.bbm_place_map.proofs.Linking as with

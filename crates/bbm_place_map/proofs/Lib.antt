@@ -1,3 +1,4 @@
+mod Common
 pub mod Made
 pub mod Lists
 pub mod Edits

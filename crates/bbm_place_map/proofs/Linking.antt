@@ -1,18 +1,13 @@
 -- Cells and entries that name each other, after an entry comes or goes.
-use Rattle.std.proofs.Common.{◌≡◌, ◌≢◌, ℕ, ◌+◌, ◌-◌, ◌<◌, Bool, true, false, nat_eq, nat_le, List, [], ◌∷◌, ◌++◌}
-use Rattle.std.proofs.Common.{length, Option, Some, None, refl, ap, sym, ◌∙◌, arith, inl, inr, if◌then◌else◌, slice_get}
-use Rattle.std.proofs.Common.{count_by, length-append, is_some}
-use Rattle.std.specs.List.{swap_remove}
-use Rattle.std.specs.Option.{option_map}
-use Rattle.std.proofs.lemmas.List.{length-take, length-set}
-use Rattle.std.proofs.lemmas.Bool.{cases_eq, cases_lt, eq-eqb, ne_eqb, lt-leb, cond-true, cond-false}
-use Rattle.std.proofs.lemmas.Option.{slice_get_past, same_Some, none-some}
-use Rattle.bbm_place_map.specs.Cells.{slot_in, is_listed}
-use Rattle.bbm_place_map.specs.Entries.{cell_at, entry_of, entry_in, marks_of, pends_of, pends_in}
-use Rattle.bbm_place_map.specs.Parts.{marks_in, pends_for}
-use Rattle.bbm_place_map.specs.Sound.{Linked, Placed, index_of}
-use Rattle.bbm_place_map.specs.declared.entry.Entry.{Entry}
-use Rattle.bbm_place_map.specs.declared.entry.Pending.{Pending}
+use Rattle.bbm_place_map.proofs.Common.{◌≡◌, ◌≢◌, ℕ, ◌+◌, ◌-◌, ◌<◌, Bool, true, false, nat_eq, nat_le, List, [], ◌∷◌}
+use Rattle.bbm_place_map.proofs.Common.{◌++◌, length, Option, Some, None, refl, ap, sym, ◌∙◌, arith, inl, inr}
+use Rattle.bbm_place_map.proofs.Common.{if◌then◌else◌, slice_get, count_by, is_some, swap_remove, option_map}
+use Rattle.bbm_place_map.proofs.Common.{length-set, cases_eq, cases_lt, eq-eqb, ne_eqb, lt-leb, cond-true, cond-false}
+use Rattle.bbm_place_map.proofs.Common.{slice_get_past, same_Some, none-some, slot_in, is_listed, cell_at, entry_of}
+use Rattle.bbm_place_map.proofs.Common.{entry_in, marks_of, pends_of, pends_in, marks_in, pends_for, Linked, Placed}
+use Rattle.bbm_place_map.proofs.Common.{index_of, Entry, Pending}
+use Rattle.std.proofs.Common.{length-append}
+use Rattle.std.proofs.lemmas.List.{length-take}
 use Rattle.bbm_place_map.proofs.Lists.{push_get}
 use Rattle.bbm_place_map.proofs.Edits.{one_if}
 

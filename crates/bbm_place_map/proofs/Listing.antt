@@ -1,41 +1,23 @@
 -- The lists of work after each call.
-use Rattle.std.proofs.Common.{◌≡◌, ◌≢◌, ℕ, ◌≤◌, ◌<◌, ◌⊎◌, Bool, true, false, not, ◌&&◌, nat_eq, List, [], ◌∷◌, length}
-use Rattle.std.proofs.Common.{Option, Some, None, refl, ap, sym, subst, ◌∙◌, arith, inl, inr, slice_get, if◌then◌else◌}
-use Rattle.std.specs.Option.{option_map}
-use Rattle.std.proofs.lemmas.Bool.{cases_Bool, cases_eq, cond-true, cond-false, eq-eqb, ne_eqb, false≢true}
-use Rattle.std.proofs.lemmas.Option.{same_Some, none-some}
-use Rattle.smallvec.specs.SmallVec.{SmallVec}
-use mathlib.Core.Path.{fun_ext}
-use Rattle.bbm_lemmas.specs.EveryPe.{every_pe}
+use Rattle.bbm_place_map.proofs.Common.{◌≡◌, ◌≢◌, ℕ, ◌≤◌, ◌<◌, ◌⊎◌, Bool, true, false, not, ◌&&◌, nat_eq, List, [], ◌∷◌}
+use Rattle.bbm_place_map.proofs.Common.{length, Option, Some, None, refl, ap, sym, subst, ◌∙◌, arith, inl, inr}
+use Rattle.bbm_place_map.proofs.Common.{slice_get, if◌then◌else◌, option_map, cases_Bool, cases_eq, cond-true}
+use Rattle.bbm_place_map.proofs.Common.{cond-false, eq-eqb, ne_eqb, false≢true, same_Some, none-some, SmallVec, fun_ext}
+use Rattle.bbm_place_map.proofs.Common.{every_pe, Cover, is_broken, Marks, Pends, EntryState, Clean, Broken, slot_in}
+use Rattle.bbm_place_map.proofs.Common.{Advances, Publishes, Completes, entry_of, entry_in, marks_of, pends_of}
+use Rattle.bbm_place_map.proofs.Common.{pends_in, no_pends, Keeps, NotesAt, marks_in, pends_for, Linked, marks_of_state}
+use Rattle.bbm_place_map.proofs.Common.{HoldsFor, IsQuiet, IsTold, Waits, is_clean, Entry, Barrier, Issuing, Pending}
+use Rattle.bbm_place_map.proofs.Common.{WorkList, with_true}
 use Rattle.bbm_regimes.specs.PeMask.{pe_in}
-use Rattle.bbm_tlbi_scope.specs.declared.entry.Cover.{Cover}
-use Rattle.bbm_entry_state.specs.Points.{is_broken}
-use Rattle.bbm_entry_state.specs.declared.marks.Marks.{Marks}
-use Rattle.bbm_entry_state.specs.declared.pending.Pends.{Pends}
-use Rattle.bbm_entry_state.specs.declared.state.EntryState.{EntryState}
-use Rattle.bbm_entry_state.specs.declared.state.EntryState.TheVariants.{Clean, Broken}
-use Rattle.bbm_place_map.specs.Cells.{slot_in}
 use Rattle.bbm_place_map.specs.Dsbs.{HoldUntold, HoldWaiting}
-use Rattle.bbm_place_map.specs.Each.{Advances, Publishes, Completes}
-use Rattle.bbm_place_map.specs.Entries.{entry_of, entry_in, marks_of, pends_of, pends_in, no_pends}
-use Rattle.bbm_place_map.specs.PlaceNotes.{Keeps, NotesAt}
-use Rattle.bbm_place_map.specs.Parts.{marks_in, pends_for}
-use Rattle.bbm_place_map.specs.Sound.{Linked}
-use Rattle.bbm_place_map.specs.States.{marks_of_state}
-use Rattle.bbm_place_map.specs.Works.{HoldsFor, IsQuiet, IsTold, IsToldAsBefore, GivesUp, Listed, Waits, is_clean}
-use Rattle.bbm_place_map.specs.declared.entry.Entry.{Entry}
-use Rattle.bbm_place_map.specs.declared.orders.Barrier.{Barrier}
-use Rattle.bbm_place_map.specs.declared.orders.Issuing.{Issuing}
-use Rattle.bbm_place_map.specs.declared.entry.Pending.{Pending}
+use Rattle.bbm_place_map.specs.Works.{IsToldAsBefore, GivesUp, Listed}
 use Rattle.bbm_place_map.specs.declared.work.Work.{Work}
-use Rattle.bbm_place_map.specs.declared.work.WorkList.{WorkList}
 use Rattle.bbm_place_map.proofs.Advancing.{of_cell, advance_by}
 use Rattle.bbm_place_map.proofs.Idle.{idle_from, quiet_from, none_kept}
 use Rattle.bbm_place_map.proofs.Knowing.{known_or, or_known, told_by_cell, told_entry}
 use Rattle.bbm_place_map.proofs.Publishing.{known_kept}
 use Rattle.bbm_place_map.proofs.Resting.{completes_unclean, quiet_others, told_completed}
 use Rattle.bbm_place_map.proofs.Telling.{told_no_writer, told_after_write}
-use Rattle.bbm_lemmas.proofs.Bools.{with_true}
 
 pub told_of : (w : Work) (cells : List ℕ) (entries : List Entry) → Listed w cells entries → (wide : Bool) (q j : ℕ) (marks : Marks) → q < w.pes
     → marks_in cells entries j ≡ Some marks → HoldsFor w.unpublished.items q wide j ⊎ IsTold wide w.pes q marks

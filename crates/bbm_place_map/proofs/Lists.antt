@@ -1,10 +1,8 @@
 -- Elements of a list after an edit.
-use Rattle.std.proofs.Common.{◌≡◌, ℕ, ◌-◌, ◌<◌, Bool, nat_eq, nat_le, zero, suc, List, [], ◌∷◌, ◌++◌, length, Option}
-use Rattle.std.proofs.Common.{Some, None, refl, ap, sym, ◌∙◌, arith, inl, inr, if◌then◌else◌, get_or, take, slice_get}
-use Rattle.std.proofs.Common.{set}
-use Rattle.std.specs.List.{swap_remove}
-use Rattle.std.proofs.lemmas.Bool.{cases_eq, cases_lt, cases_Bool, eq-eqb, ne_eqb, le-leb, lt-leb}
-use Rattle.std.proofs.lemmas.Option.{slice_get-get_or}
+use Rattle.bbm_place_map.proofs.Common.{◌≡◌, ℕ, ◌-◌, ◌<◌, Bool, nat_eq, nat_le, zero, suc, List, [], ◌∷◌, ◌++◌, length}
+use Rattle.bbm_place_map.proofs.Common.{Option, Some, None, refl, ap, sym, ◌∙◌, arith, inl, inr, if◌then◌else◌, get_or}
+use Rattle.bbm_place_map.proofs.Common.{take, slice_get, set, swap_remove, cases_eq, cases_lt, cases_Bool, eq-eqb}
+use Rattle.bbm_place_map.proofs.Common.{ne_eqb, le-leb, lt-leb, slice_get-get_or}
 
 same_test : (i n : ℕ) → nat_eq (suc i) (suc n) ≡ nat_eq i n
 same_test i n =

@@ -1,16 +1,9 @@
 -- Entries that a DSB answers, from the end of the list down.
-use Rattle.std.proofs.Common.{◌≡◌, ◌≢◌, ℕ, ◌+◌, ◌<◌, ◌≤◌, Bool, true, false, nat_lt, List, length, Option, Some, None}
-use Rattle.std.proofs.Common.{refl, ap, sym, ◌∙◌, arith, inl, inr, slice_get}
-use Rattle.std.specs.Option.{option_map}
-use Rattle.std.proofs.lemmas.Bool.{cases_eq, lt-ltb, ltb-true, both_ways, false_from_ne_true}
-use Rattle.std.proofs.lemmas.Option.{same_Some}
-use Rattle.bbm_place_map.specs.Cells.{slot_in}
-use Rattle.bbm_place_map.specs.Each.{Completes, loses_table}
-use Rattle.bbm_place_map.specs.Entries.{cell_at, entry_of, entry_in, marks_of}
-use Rattle.bbm_place_map.specs.Parts.{marks_in}
-use Rattle.bbm_place_map.specs.Sound.{Linked}
-use Rattle.bbm_place_map.specs.declared.entry.Entry.{Entry}
-use Rattle.bbm_place_map.specs.declared.orders.Barrier.{Barrier}
+use Rattle.bbm_place_map.proofs.Common.{◌≡◌, ◌≢◌, ℕ, ◌+◌, ◌<◌, ◌≤◌, Bool, true, false, nat_lt, List, length, Option}
+use Rattle.bbm_place_map.proofs.Common.{Some, None, refl, ap, sym, ◌∙◌, arith, inl, inr, slice_get, option_map}
+use Rattle.bbm_place_map.proofs.Common.{cases_eq, lt-ltb, ltb-true, same_Some, slot_in, Completes, loses_table, cell_at}
+use Rattle.bbm_place_map.proofs.Common.{entry_of, entry_in, marks_of, marks_in, Linked, Entry, Barrier}
+use Rattle.std.proofs.lemmas.Bool.{both_ways, false_from_ne_true}
 use Rattle.bbm_place_map.proofs.Answering.{completes_at}
 use Rattle.bbm_place_map.proofs.Completing.{completes_none}
 use Rattle.bbm_place_map.proofs.Linking.{cell_within}

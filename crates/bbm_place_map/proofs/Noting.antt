@@ -1,27 +1,13 @@
 -- What the issue of a TLBI notes at an entry.
-use Rattle.std.proofs.Common.{◌≡◌, ℕ, Bool, true, false, List, Some, slice_get, inl, inr, nat_eq, if◌then◌else◌, ◌&&◌}
-use Rattle.std.proofs.Common.{◌||◌, refl, ap, sym, subst, ◌∙◌}
-use Rattle.std.proofs.lemmas.Bool.{false≢true, cases_eq, eq-eqb, ne_eqb, cond-true, cond-false}
-use Rattle.std.proofs.lemmas.Option.{same_Some}
-use Rattle.bbm_lemmas.proofs.Tautologies.{proved}
-use Rattle.bbm_lemmas.proofs.Tautologies.Claim.{Is}
+use Rattle.bbm_place_map.proofs.Common.{◌≡◌, ℕ, Bool, true, false, List, Some, slice_get, inl, inr, nat_eq}
+use Rattle.bbm_place_map.proofs.Common.{if◌then◌else◌, ◌&&◌, ◌||◌, refl, ap, sym, subst, ◌∙◌, false≢true, cases_eq}
+use Rattle.bbm_place_map.proofs.Common.{eq-eqb, ne_eqb, cond-true, cond-false, same_Some, proved, Is, PeMask, Cover}
+use Rattle.bbm_place_map.proofs.Common.{Half, Second, Full, Noted, counts_at, same_cover, waits, Marks, Pends, Broken}
+use Rattle.bbm_place_map.proofs.Common.{WaitsAlike, pends_in, NotesAs, NotesAt, is_cover, HoldsFor, IsQuiet, Waits}
+use Rattle.bbm_place_map.proofs.Common.{Entry, Issuing, WorkList}
 use Rattle.bbm_descriptor.specs.Descriptor.{same_bool}
 use Rattle.bbm_regimes.specs.PeMask.{pe_in}
-use Rattle.bbm_regimes.specs.declared.pe.PeMask.{PeMask}
-use Rattle.bbm_tlbi_scope.specs.declared.entry.Cover.{Cover}
-use Rattle.bbm_tlbi_scope.specs.declared.entry.Cover.TheVariants.{None as NoCover, Half, Second, Full}
-use Rattle.bbm_entry_state.specs.EntryCalls.{Noted, counts_at}
-use Rattle.bbm_tlbi_scope.specs.SameCover.{same_cover}
-use Rattle.bbm_entry_state.specs.Points.{waits}
-use Rattle.bbm_entry_state.specs.declared.marks.Marks.{Marks}
-use Rattle.bbm_entry_state.specs.declared.pending.Pends.{Pends}
-use Rattle.bbm_entry_state.specs.declared.state.EntryState.TheVariants.{Broken}
-use Rattle.bbm_place_map.specs.Entries.{WaitsAlike, pends_in}
-use Rattle.bbm_place_map.specs.PlaceNotes.{NotesAs, NotesAt, is_cover}
-use Rattle.bbm_place_map.specs.Works.{HoldsFor, IsQuiet, Waits}
-use Rattle.bbm_place_map.specs.declared.entry.Entry.{Entry}
-use Rattle.bbm_place_map.specs.declared.orders.Issuing.{Issuing}
-use Rattle.bbm_place_map.specs.declared.work.WorkList.{WorkList}
+use Rattle.bbm_tlbi_scope.specs.declared.entry.Cover.TheVariants.{None as NoCover}
 
 pub noted_alike : (marks marks' : Marks) (r r' after after' : Pends) (reach : PeMask) (broadcast : Bool) (cover : Cover)
     → marks ≡ marks' → WaitsAlike r' r → after' ≡ after → Noted (Broken marks) r reach broadcast cover after

@@ -1,11 +1,9 @@
 -- Cells of a page, one more at a time.
-use Rattle.std.proofs.Common.{◌≡◌, ◌≢◌, ℕ, ◌+◌, ◌<◌, ◌≤◌, Bool, true, false, nat_eq, nat_le, nat_lt, Option, None, refl}
-use Rattle.std.proofs.Common.{ap, sym, ◌∙◌, arith, inl, inr, if◌then◌else◌}
-use Rattle.std.proofs.lemmas.Bool.{cases_eq, cases_lt, eq-eqb, ne_eqb, cond-true, cond-false, and_from, and_left}
-use Rattle.std.proofs.lemmas.Bool.{and_right, le-leb, lt-leb, lt-ltb, le-ltb}
-use Rattle.bbm_place_map.specs.Cells.{in_page}
-use Rattle.bbm_place_map.specs.Entries.{marks_of, no_pends, pends_of}
-use Rattle.bbm_place_map.specs.declared.entry.Entry.{Entry}
+use Rattle.bbm_place_map.proofs.Common.{◌≡◌, ◌≢◌, ℕ, ◌+◌, ◌<◌, ◌≤◌, Bool, true, false, nat_eq, nat_le, nat_lt, Option}
+use Rattle.bbm_place_map.proofs.Common.{None, refl, ap, sym, ◌∙◌, arith, inl, inr, if◌then◌else◌, cases_eq, cases_lt}
+use Rattle.bbm_place_map.proofs.Common.{eq-eqb, ne_eqb, cond-true, cond-false, and_from, le-leb, lt-leb, lt-ltb}
+use Rattle.bbm_place_map.proofs.Common.{in_page, marks_of, no_pends, pends_of, Entry}
+use Rattle.std.proofs.lemmas.Bool.{and_left, and_right, le-ltb}
 
 pub inside : (b n j : ℕ) → b ≤ j → j < b + n → in_page b n j ≡ true
 inside b n j low high = and_from (nat_le b j) (nat_lt j (b + n)) (le-leb b j low) (lt-ltb j (b + n) high)

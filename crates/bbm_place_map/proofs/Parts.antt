@@ -1,23 +1,19 @@
 -- Pages and where their cells start.
-use Rattle.std.proofs.Common.{◌≡◌, ◌≢◌, ℕ, zero, suc, ◌+◌, ◌*◌, ◌/◌, ◌%◌, ◌<◌, ◌≤◌, Bool, true, false, nat_eq, ◌==◌}
-use Rattle.std.proofs.Common.{List, length, Option, Some, None, refl, ap, sym, subst, ◌∙◌, arith, inl, inr, is_some}
-use Rattle.std.proofs.Common.{if◌then◌else◌, option_and_then, count_by, slice_index_or, slice_get, drop, take, vec_len}
+use Rattle.bbm_place_map.proofs.Common.{◌≡◌, ◌≢◌, ℕ, zero, suc, ◌+◌, ◌*◌, ◌/◌, ◌%◌, ◌<◌, ◌≤◌, Bool, true, false, nat_eq}
+use Rattle.bbm_place_map.proofs.Common.{◌==◌, List, length, Option, Some, None, refl, ap, sym, subst, ◌∙◌, arith, inl}
+use Rattle.bbm_place_map.proofs.Common.{inr, is_some, if◌then◌else◌, count_by, slice_get, drop, take, vec_len}
+use Rattle.bbm_place_map.proofs.Common.{option_map, cases_eq, cases_Bool, eq-eqb, ne_eqb, eqb-true, cond-true}
+use Rattle.bbm_place_map.proofs.Common.{cond-false, false≢true, get_or_past, count_by-le-length, same_Some, none-some}
+use Rattle.bbm_place_map.proofs.Common.{fun_ext, get, cell_by, in_part, is_at, is_listed, number_of, slot_in, value_in}
+use Rattle.bbm_place_map.proofs.Common.{entry_in, entry_of, marks_of, no_pends, pends_of, place_cell, IsSame}
+use Rattle.bbm_place_map.proofs.Common.{KeepsItems, marks_in, pends_for, Linked, Numbered, Parted, Placed, at_index}
+use Rattle.bbm_place_map.proofs.Common.{index_of, starts, Entry, PlaceMap}
+use Rattle.std.proofs.Common.{option_and_then, slice_index_or}
 use Rattle.std.specs.Prelude.{unwrap_or}
-use Rattle.std.specs.Option.{option_map}
-use Rattle.std.proofs.lemmas.Bool.{cases_eq, cases_Bool, eq-eqb, ne_eqb, eqb-true, cond-true, cond-false, false≢true}
-use Rattle.std.proofs.lemmas.List.{get_or_past, get_or-take, get_or-drop}
-use Rattle.std.proofs.lemmas.List.Sums.{count_by-le-length}
-use Rattle.std.proofs.lemmas.Option.{same_Some, none-some}
-use mathlib.Core.Path.{fun_ext}
-use Rattle.indexmap.specs.IndexMap.{get}
-use Rattle.bbm_place_map.specs.Cells.{cell_by, in_part, is_at, is_listed, number_of, slot_in, value_in}
-use Rattle.bbm_place_map.specs.Entries.{entry_by, entry_in, entry_of, marks_of, no_pends, pends_of}
-use Rattle.bbm_place_map.specs.Map.{is_tracked, marks_at, pends_at, place_cell, restless_in, restless_place, value_at}
-use Rattle.bbm_place_map.specs.MapCalls.{IsSame, KeepsItems}
-use Rattle.bbm_place_map.specs.Parts.{marks_in, pends_for}
-use Rattle.bbm_place_map.specs.Sound.{HasValue, IsSound, Linked, Numbered, Parted, Placed, at_index, index_of, starts}
-use Rattle.bbm_place_map.specs.declared.entry.Entry.{Entry}
-use Rattle.bbm_place_map.specs.declared.map.PlaceMap.{PlaceMap}
+use Rattle.std.proofs.lemmas.List.{get_or-take, get_or-drop}
+use Rattle.bbm_place_map.specs.Entries.{entry_by}
+use Rattle.bbm_place_map.specs.Map.{is_tracked, marks_at, pends_at, restless_in, restless_place, value_at}
+use Rattle.bbm_place_map.specs.Sound.{HasValue, IsSound}
 use Rattle.bbm_place_map.proofs.Edits.{fewer_listed, one_if}
 use Rattle.bbm_place_map.proofs.Growing.{numbered_more, placed_more, points_more}
 use Rattle.bbm_place_map.proofs.Places.{at_page, at_place, at_same, found, index_inside, index_none, number_below}

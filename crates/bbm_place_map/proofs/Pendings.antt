@@ -1,24 +1,13 @@
 -- What waits, by lane, after an edit.
-use Rattle.std.proofs.Common.{◌≡◌, ◌≢◌, ℕ, ◌<◌, ◌≤◌, ◌&&◌, ◌||◌, not, Bool, true, false, nat_eq, zero, suc, List, [], ◌∷◌, ◌++◌, length}
-use Rattle.std.proofs.Common.{get_or, set, refl, ap, sym, ◌∙◌, arith, if◌then◌else◌, Option, Some, None, is_some}
-use Rattle.std.proofs.Common.{IfSome, IsTrue, ◌↔◌}
-use Rattle.std.proofs.lemmas.Bool.{cond-true, cond-false, eq-eqb, ne_eqb, false≢true}
-use Rattle.std.proofs.lemmas.List.{get_or_default}
-use Rattle.bbm_entry_state.specs.declared.pending.Pend.{Pend}
-use Rattle.bbm_barriers.specs.declared.Dsb.{Dsb}
-use Rattle.bbm_barriers.specs.Options.{answers_broadcast, answers_local}
-use Rattle.bbm_regimes.specs.declared.pe.PeMask.{PeMask}
-use Rattle.bbm_tlbi_scope.specs.declared.entry.Cover.{Cover}
-use Rattle.bbm_entry_state.specs.EntryCalls.{Noted}
-use Rattle.bbm_entry_state.specs.Points.{waits_in}
-use Rattle.bbm_entry_state.specs.declared.marks.Marks.{Marks}
-use Rattle.bbm_entry_state.specs.declared.pending.Pends.{Pends}
-use Rattle.bbm_entry_state.specs.declared.state.EntryState.TheVariants.{Broken}
+use Rattle.bbm_place_map.proofs.Common.{◌≡◌, ◌≢◌, ℕ, ◌<◌, ◌≤◌, ◌&&◌, ◌||◌, not, Bool, true, false, nat_eq, zero, suc}
+use Rattle.bbm_place_map.proofs.Common.{List, [], ◌∷◌, ◌++◌, length, get_or, set, refl, ap, sym, ◌∙◌, arith}
+use Rattle.bbm_place_map.proofs.Common.{if◌then◌else◌, Option, Some, None, is_some, IfSome, IsTrue, ◌↔◌, cond-true}
+use Rattle.bbm_place_map.proofs.Common.{cond-false, eq-eqb, ne_eqb, false≢true, get_or_default, Pend, Dsb}
+use Rattle.bbm_place_map.proofs.Common.{answers_broadcast, answers_local, PeMask, Cover, Noted, waits_in, Marks, Pends}
+use Rattle.bbm_place_map.proofs.Common.{Broken, Adds, WaitsAlike, lane_of, no_pend, pend_in, pends_in, IsFirst, Lacks}
+use Rattle.bbm_place_map.proofs.Common.{IsQuiet, Pending, SmallVec}
 use Rattle.bbm_place_map.specs.Dsbs.{AreAnswered, WaitsOn}
-use Rattle.bbm_place_map.specs.Entries.{Adds, WaitsAlike, lane_of, no_pend, pend_in, pends_in, IsFirst, Lacks}
-use Rattle.bbm_place_map.specs.Works.{IsQuiet}
-use Rattle.bbm_place_map.specs.declared.entry.Pending.{Pending}
-use Rattle.smallvec.specs.SmallVec.{SmallVec, with_items}
+use Rattle.smallvec.specs.SmallVec.{with_items}
 use Rattle.smallvec.proofs.SmallVecLemmas.{items-with_items}
 
 tail_lacks : (p : Pending) (ps : List Pending) (n q : ℕ) → Lacks (p ∷ ps) (suc n) q → Lacks ps n q

@@ -1,11 +1,8 @@
 -- Places and their cells.
-use Rattle.std.proofs.Common.{◌≡◌, ◌≢◌, ℕ, ◌+◌, ◌-◌, ◌*◌, ◌/◌, ◌%◌, ◌<◌, ◌≤◌, Bool, true, false, nat_eq, ◌==◌, Option}
-use Rattle.std.proofs.Common.{Some, None, refl, ap, sym, ◌∙◌, arith, inl, inr, if◌then◌else◌}
-use Rattle.std.specs.Option.{option_map}
-use Rattle.std.proofs.lemmas.Bool.{cases_eq, cases_lt, cases_Bool, eq-eqb, ne_eqb, eqb-true, cond-true, cond-false}
-use Rattle.std.proofs.lemmas.Option.{same_Some, none-some}
-use Rattle.bbm_place_map.specs.Cells.{in_page}
-use Rattle.bbm_place_map.specs.Sound.{Numbered, index_of, at_index}
+use Rattle.bbm_place_map.proofs.Common.{◌≡◌, ◌≢◌, ℕ, ◌+◌, ◌-◌, ◌*◌, ◌/◌, ◌%◌, ◌<◌, ◌≤◌, Bool, true, false, nat_eq, ◌==◌}
+use Rattle.bbm_place_map.proofs.Common.{Option, Some, None, refl, ap, sym, ◌∙◌, arith, inl, inr, if◌then◌else◌}
+use Rattle.bbm_place_map.proofs.Common.{option_map, cases_eq, cases_lt, cases_Bool, eq-eqb, ne_eqb, eqb-true, cond-true}
+use Rattle.bbm_place_map.proofs.Common.{cond-false, same_Some, none-some, in_page, Numbered, index_of, at_index}
 use Rattle.bbm_place_map.proofs.Pages.{inside, before, behind}
 
 -- the page's base of a place that has a cell

@@ -1,20 +1,8 @@
 -- What a DSB publishes, of a place.
-use Rattle.std.proofs.Common.{◌≡◌, ℕ, Bool, false, ◌&&◌, ◌||◌, List, Option, Some, None, refl, ap, slice_get}
-use Rattle.bbm_lemmas.proofs.Tautologies.{proved}
-use Rattle.bbm_lemmas.proofs.Tautologies.Claim.{Is}
-use Rattle.smallvec.specs.SmallVec.{SmallVec}
-use Rattle.bbm_barriers.specs.Options.{publishes}
-use Rattle.bbm_descriptor.specs.declared.desc.Core.{Core}
-use Rattle.bbm_entry_state.specs.EntryCalls.{Published}
-use Rattle.bbm_place_map.specs.Cells.{slot_in}
-use Rattle.bbm_place_map.specs.Each.{Advances, Publishes}
-use Rattle.bbm_place_map.specs.Entries.{entry_in, marks_of, pends_of, pends_in, no_pends}
-use Rattle.bbm_place_map.specs.Parts.{marks_in, pends_for}
-use Rattle.bbm_place_map.specs.Sound.{at_index}
-use Rattle.bbm_place_map.specs.States.{state_from}
-use Rattle.bbm_place_map.specs.declared.entry.Entry.{Entry}
-use Rattle.bbm_place_map.specs.declared.orders.Barrier.{Barrier}
-use Rattle.bbm_place_map.specs.declared.entry.Pending.{Pending}
+use Rattle.bbm_place_map.proofs.Common.{◌≡◌, ℕ, Bool, false, ◌&&◌, ◌||◌, List, Option, Some, None, refl, ap, slice_get}
+use Rattle.bbm_place_map.proofs.Common.{proved, Is, SmallVec, publishes, Core, Published, slot_in, Advances, Publishes}
+use Rattle.bbm_place_map.proofs.Common.{entry_in, marks_of, pends_of, pends_in, no_pends, marks_in, pends_for, at_index}
+use Rattle.bbm_place_map.proofs.Common.{state_from, Entry, Barrier, Pending}
 use Rattle.bbm_place_map.proofs.Advancing.{of_cell}
 
 none_seen : (b : Bool) → false ≡ ((b && false) || false)

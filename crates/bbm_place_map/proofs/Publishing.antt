@@ -1,17 +1,8 @@
 -- Where a DSB visits the entries of a list, and no others.
-use Rattle.std.proofs.Common.{◌≡◌, ℕ, ◌+◌, ◌<◌, ◌⊎◌, Bool, List, Contains, length, Option, Some, None, refl, ap, sym}
-use Rattle.std.proofs.Common.{subst, ◌∙◌, arith, inl, inr, slice_get, slice_index}
-use Rattle.std.specs.Option.{option_map}
-use Rattle.std.proofs.lemmas.Bool.{cases_eq}
-use Rattle.std.proofs.lemmas.Option.{same_Some, none-some}
-use Rattle.std.proofs.lemmas.List.{get_or_default}
-use Rattle.bbm_place_map.specs.Cells.{slot_in}
-use Rattle.bbm_place_map.specs.Dsbs.{IsHeard}
-use Rattle.bbm_place_map.specs.Each.{Advances, Publishes}
-use Rattle.bbm_place_map.specs.Sound.{Linked}
-use Rattle.bbm_place_map.specs.Works.{IsTold, MayPublish}
-use Rattle.bbm_place_map.specs.declared.entry.Entry.{Entry}
-use Rattle.bbm_place_map.specs.declared.orders.Barrier.{Barrier}
+use Rattle.bbm_place_map.proofs.Common.{◌≡◌, ℕ, ◌+◌, ◌<◌, ◌⊎◌, Bool, List, Contains, length, Option, Some, None, refl}
+use Rattle.bbm_place_map.proofs.Common.{ap, sym, subst, ◌∙◌, arith, inl, inr, slice_get, slice_index, option_map}
+use Rattle.bbm_place_map.proofs.Common.{cases_eq, same_Some, none-some, get_or_default, slot_in, IsHeard, Advances}
+use Rattle.bbm_place_map.proofs.Common.{Publishes, Linked, IsTold, MayPublish, Entry, Barrier}
 use Rattle.bbm_place_map.proofs.Telling.{heard_advances, heard_after, told_kept, again, slot_cases}
 use Rattle.bbm_place_map.proofs.Advancing.{at_both}
 

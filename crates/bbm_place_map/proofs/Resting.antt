@@ -1,36 +1,20 @@
 -- What a DSB answers at an entry, once and twice, and where it answers nothing.
-use Rattle.std.proofs.Common.{◌≡◌, ◌≢◌, ℕ, Bool, true, false, not, ◌&&◌, ◌||◌, Option, Some, None, is_some, is_none}
-use Rattle.std.proofs.Common.{refl, ap, sym, ◌∙◌, if◌then◌else◌, inl, inr}
-use Rattle.std.proofs.lemmas.Bool.{cases_Bool, false≢true}
-use Rattle.std.proofs.lemmas.Option.{same_Some, none-some}
-use mathlib.Core.Path.{fun_ext}
-use Rattle.bbm_lemmas.proofs.Tautologies.{proved}
-use Rattle.bbm_lemmas.proofs.Tautologies.Claim.{If, Is}
-use Rattle.bbm_barriers.specs.declared.Dsb.{Dsb}
-use Rattle.bbm_barriers.specs.Options.{answers, answers_broadcast, answers_local, completed, has_broadcast, has_local}
-use Rattle.bbm_barriers.specs.Options.{Completed as Answers}
+use Rattle.bbm_place_map.proofs.Common.{◌≡◌, ◌≢◌, ℕ, Bool, true, false, not, ◌&&◌, ◌||◌, Option, Some, None, is_some}
+use Rattle.bbm_place_map.proofs.Common.{refl, ap, sym, ◌∙◌, if◌then◌else◌, inl, inr, cases_Bool, false≢true, same_Some}
+use Rattle.bbm_place_map.proofs.Common.{none-some, fun_ext, proved, If, Is, Dsb, answers, answers_broadcast}
+use Rattle.bbm_place_map.proofs.Common.{answers_local, Core, every_pe, Cover, Half, Second, Full, answered_at}
+use Rattle.bbm_place_map.proofs.Common.{clean_after, waits, core_in, Marks, Pends, Broken, IsUnanswered, Completes}
+use Rattle.bbm_place_map.proofs.Common.{loses_table, is_table, pends_in, pends_of, marks_of, state_from, IsQuiet}
+use Rattle.bbm_place_map.proofs.Common.{IsTold, MayComplete, is_clean, Entry, Barrier, and-false}
+use Rattle.std.proofs.Common.{is_none}
+use Rattle.bbm_barriers.specs.Options.{completed, has_broadcast, has_local, Completed as Answers}
 use Rattle.bbm_barriers.specs.Options.Completed.{EveryTlbi, LocalTlbis, NoTlbi}
-use Rattle.bbm_descriptor.specs.declared.desc.Core.{Core}
-use Rattle.bbm_lemmas.specs.EveryPe.{every_pe}
 use Rattle.bbm_regimes.specs.PeMask.{pe_in}
-use Rattle.bbm_tlbi_scope.specs.declared.entry.Cover.{Cover}
-use Rattle.bbm_tlbi_scope.specs.declared.entry.Cover.TheVariants.{Half, Second, Full}
-use Rattle.bbm_entry_state.specs.Answered.{answered_at}
-use Rattle.bbm_entry_state.specs.EntryCalls.{half_after, clean_after}
-use Rattle.bbm_entry_state.specs.Points.{waits, core_in}
-use Rattle.bbm_entry_state.specs.declared.marks.Marks.{Marks}
-use Rattle.bbm_entry_state.specs.declared.pending.Pends.{Pends}
-use Rattle.bbm_entry_state.specs.declared.state.EntryState.TheVariants.{Broken}
-use Rattle.bbm_place_map.specs.Dsbs.{IsUnanswered}
-use Rattle.bbm_place_map.specs.Each.{Completes, loses_table, has_table, is_table}
-use Rattle.bbm_place_map.specs.Entries.{pends_in, pends_of, marks_of}
-use Rattle.bbm_place_map.specs.States.{state_from}
-use Rattle.bbm_place_map.specs.Works.{IsQuiet, IsTold, MayComplete, is_clean}
-use Rattle.bbm_place_map.specs.declared.entry.Entry.{Entry}
-use Rattle.bbm_place_map.specs.declared.orders.Barrier.{Barrier}
+use Rattle.bbm_entry_state.specs.EntryCalls.{half_after}
+use Rattle.bbm_place_map.specs.Each.{has_table}
 use Rattle.bbm_place_map.proofs.Answering.{completes_at}
 use Rattle.bbm_place_map.proofs.Completing.{completes_none}
-use mathlib.Core.Bool.{and-false, and_self_left}
+use mathlib.Core.Bool.{and_self_left}
 use Rattle.bbm_lemmas.proofs.Bools.{and_none}
 
 none_answered : (a w : Bool) → (a && (not a && w)) ≡ false

@@ -1,15 +1,9 @@
 -- The entries are those of the broken places.
-use Rattle.std.proofs.Common.{◌≡◌, ℕ, ◌<◌, true, List, length, Option, Some, None, is_some, refl, ap, sym, ◌∙◌, arith}
-use Rattle.std.proofs.Common.{inl, inr, slice_get, unwrap_or}
-use Rattle.std.specs.Option.{option_map}
-use Rattle.std.proofs.lemmas.Bool.{false≢true}
-use Rattle.std.proofs.lemmas.Option.{same_Some, none-some, slice_get_within, slice_get_cases}
-use Rattle.bbm_entry_state.specs.declared.marks.Marks.{Marks}
-use Rattle.bbm_place_map.specs.Cells.{slot_in}
-use Rattle.bbm_place_map.specs.Entries.{entry_of, entry_in, marks_of, pends_of, no_pends}
-use Rattle.bbm_place_map.specs.Parts.{marks_in, pends_for}
-use Rattle.bbm_place_map.specs.Sound.{Linked, Numbered, Placed, index_of, at_index}
-use Rattle.bbm_place_map.specs.declared.entry.Entry.{Entry}
+use Rattle.bbm_place_map.proofs.Common.{◌≡◌, ℕ, ◌<◌, true, List, length, Option, Some, None, is_some, refl, ap, sym}
+use Rattle.bbm_place_map.proofs.Common.{◌∙◌, arith, inl, inr, slice_get, unwrap_or, option_map, false≢true, same_Some}
+use Rattle.bbm_place_map.proofs.Common.{none-some, slice_get_within, slice_get_cases, Marks, slot_in, entry_of}
+use Rattle.bbm_place_map.proofs.Common.{entry_in, marks_of, pends_of, no_pends, marks_in, pends_for, Linked, Numbered}
+use Rattle.bbm_place_map.proofs.Common.{Placed, index_of, at_index, Entry}
 use Rattle.bbm_place_map.proofs.Places.{index_once}
 
 pub entry_there : (entries : List Entry) (i : ℕ) → i < length entries → (e : Entry) × (slice_get entries i ≡ Some e)

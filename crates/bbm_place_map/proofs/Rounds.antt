@@ -1,16 +1,8 @@
 -- One more cell of a list is visited by a DSB that answers.
-use Rattle.std.proofs.Common.{◌≡◌, ◌≢◌, ℕ, ◌+◌, ◌<◌, ◌⊎◌, true, false, List, Contains, length, Option, Some, refl, ap}
-use Rattle.std.proofs.Common.{sym, subst}
-use Rattle.std.proofs.Common.{◌∙◌, arith, inl, inr, slice_index}
-use Rattle.std.proofs.lemmas.Bool.{cases_eq}
-use Rattle.std.proofs.lemmas.List.{get_or_default}
-use Rattle.bbm_entry_state.specs.declared.marks.Marks.{Marks}
-use Rattle.bbm_place_map.specs.Dsbs.{IsUnanswered}
-use Rattle.bbm_place_map.specs.Each.{Completes, loses_table}
-use Rattle.bbm_place_map.specs.Entries.{marks_of, pends_of}
-use Rattle.bbm_place_map.specs.Works.{MayComplete, is_clean}
-use Rattle.bbm_place_map.specs.declared.entry.Entry.{Entry}
-use Rattle.bbm_place_map.specs.declared.orders.Barrier.{Barrier}
+use Rattle.bbm_place_map.proofs.Common.{◌≡◌, ◌≢◌, ℕ, ◌+◌, ◌<◌, ◌⊎◌, true, false, List, Contains, length, Option, Some}
+use Rattle.bbm_place_map.proofs.Common.{refl, ap, sym, subst, ◌∙◌, arith, inl, inr, slice_index, cases_eq}
+use Rattle.bbm_place_map.proofs.Common.{get_or_default, Marks, IsUnanswered, Completes, loses_table, marks_of, pends_of}
+use Rattle.bbm_place_map.proofs.Common.{MayComplete, is_clean, Entry, Barrier}
 use Rattle.bbm_place_map.proofs.Answering.{completes_at}
 use Rattle.bbm_place_map.proofs.Resting.{answers_again, lost_stays, none_lost, lost_here, unanswered_same}
 

@@ -1,18 +1,9 @@
 -- Entries that change, each in its place.
-use Rattle.std.proofs.Common.{◌≡◌, ◌≢◌, ℕ, nat_eq, List, length, Option, Some, None, refl, ap, sym, ◌∙◌, inl, inr}
-use Rattle.std.proofs.Common.{if◌then◌else◌, slice_get}
-use Rattle.std.specs.Prelude.{Vec}
-use Rattle.std.specs.declared.alloc.Global.{Global}
-use Rattle.std.specs.Option.{option_map}
-use Rattle.std.proofs.lemmas.Bool.{cases_eq, eq-eqb, ne_eqb, cond-true, cond-false}
-use Rattle.std.proofs.lemmas.Option.{same_Some, none-some}
-use Rattle.smallvec.specs.SmallVec.{SmallVec}
-use Rattle.bbm_place_map.specs.Cells.{slot_in}
-use Rattle.bbm_place_map.specs.Entries.{seat, seat_at, cell_at, entry_of, entry_in, marks_of, pends_of, pends_in}
-use Rattle.bbm_place_map.specs.Parts.{marks_in, pends_for}
-use Rattle.bbm_place_map.specs.Sound.{Linked, Placed, StillSound, index_of}
-use Rattle.bbm_place_map.specs.declared.entry.Entry.{Entry}
-use Rattle.bbm_place_map.specs.declared.entry.Pending.{Pending}
+use Rattle.bbm_place_map.proofs.Common.{◌≡◌, ◌≢◌, ℕ, nat_eq, List, length, Option, Some, None, refl, ap, sym, ◌∙◌, inl}
+use Rattle.bbm_place_map.proofs.Common.{inr, if◌then◌else◌, slice_get, Vec, Global, option_map, cases_eq, eq-eqb}
+use Rattle.bbm_place_map.proofs.Common.{ne_eqb, cond-true, cond-false, same_Some, none-some, SmallVec, slot_in, seat}
+use Rattle.bbm_place_map.proofs.Common.{seat_at, cell_at, entry_of, entry_in, marks_of, pends_of, pends_in, marks_in}
+use Rattle.bbm_place_map.proofs.Common.{pends_for, Linked, Placed, StillSound, index_of, Entry, Pending}
 use Rattle.bbm_place_map.proofs.Linking.{choose_marks}
 
 seat_cell : (o : Option Entry) → option_map (λ (e : Entry). e.cell) o ≡ option_map (λ (p : ℕ × ℕ). p.1) (option_map seat o)

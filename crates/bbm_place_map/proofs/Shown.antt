@@ -1,23 +1,14 @@
 -- What the calls of break-before-make come to at their place.
-use Rattle.std.proofs.Common.{◌≡◌, ℕ, Bool, true, false, ◌&&◌, ◌||◌, nat_eq, nat_lt, ◌<◌, Option, Some, None, is_some}
-use Rattle.std.proofs.Common.{refl, ap, ◌∙◌, if◌then◌else◌}
-use Rattle.std.proofs.lemmas.Bool.{and_from, or_left, or_right, eq-eqb, lt-ltb}
+use Rattle.bbm_place_map.proofs.Common.{◌≡◌, ℕ, Bool, true, false, ◌&&◌, ◌||◌, nat_eq, nat_lt, ◌<◌, Option, Some, None}
+use Rattle.bbm_place_map.proofs.Common.{is_some, refl, ap, ◌∙◌, if◌then◌else◌, and_from, or_left, or_right, eq-eqb}
+use Rattle.bbm_place_map.proofs.Common.{lt-ltb, PeMask, Core, Dsb, publishes, answers, Full, Second, Marks, Pends}
+use Rattle.bbm_place_map.proofs.Common.{EntryState, Clean, Live, Broken, core_in, is_broken, waits, answered_at}
+use Rattle.bbm_place_map.proofs.Common.{counts_at, clean_after, Written, Published, Noted, Completed, state_from}
+use Rattle.bbm_place_map.proofs.Common.{marks_of_state}
 use Rattle.bbm_lemmas.proofs.Every.{every_from}
 use Rattle.bbm_regimes.specs.PeMask.{pe_in}
-use Rattle.bbm_regimes.specs.declared.pe.PeMask.{PeMask}
-use Rattle.bbm_descriptor.specs.declared.desc.Core.{Core}
-use Rattle.bbm_barriers.specs.declared.Dsb.{Dsb}
-use Rattle.bbm_barriers.specs.Options.{publishes, answers}
-use Rattle.bbm_tlbi_scope.specs.declared.entry.Cover.TheVariants.{Full, Second}
-use Rattle.bbm_entry_state.specs.declared.marks.Marks.{Marks}
-use Rattle.bbm_entry_state.specs.declared.pending.Pends.{Pends}
-use Rattle.bbm_entry_state.specs.declared.state.EntryState.{EntryState}
-use Rattle.bbm_entry_state.specs.declared.state.EntryState.TheVariants.{Clean, Live, Broken}
-use Rattle.bbm_entry_state.specs.Points.{core_in, is_broken, writer_at, seen_at, clean_at, waits}
-use Rattle.bbm_entry_state.specs.Answered.{answered_at}
-use Rattle.bbm_entry_state.specs.EntryCalls.{counts_at, clean_after, Written, Published, Noted, Completed}
+use Rattle.bbm_entry_state.specs.Points.{writer_at, seen_at, clean_at}
 use Rattle.bbm_entry_state.proofs.Shown.{counts_full}
-use Rattle.bbm_place_map.specs.States.{state_from, marks_of_state}
 
 marks_again : (state : EntryState) → is_broken state ≡ true → state_from None (marks_of_state state) ≡ state
 marks_again Clean broken = cc

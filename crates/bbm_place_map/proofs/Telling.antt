@@ -1,26 +1,16 @@
 -- What DSBs of a PE publish, and where they publish no more.
-use Rattle.std.proofs.Common.{◌≡◌, ℕ, ◌<◌, ◌⊎◌, Bool, true, false, not, ◌&&◌, ◌||◌, nat_eq, Option, Some, None, refl}
-use Rattle.std.proofs.Common.{arith, ap, sym}
-use Rattle.std.proofs.Common.{subst, ◌∙◌, inl, inr}
-use Rattle.std.proofs.lemmas.Bool.{cases_eq, ltb-true, lt-ltb, eqb-true, eq-eqb, and_from, false≢true, or_left}
-use Rattle.std.proofs.lemmas.Bool.{or_right}
-use Rattle.std.proofs.lemmas.Option.{same_Some}
-use Rattle.bbm_lemmas.proofs.Tautologies.{proved}
-use Rattle.bbm_lemmas.proofs.Tautologies.Claim.{If, Is}
-use Rattle.bbm_barriers.specs.declared.Dsb.{Dsb}
+use Rattle.bbm_place_map.proofs.Common.{◌≡◌, ℕ, ◌<◌, ◌⊎◌, Bool, true, false, not, ◌&&◌, ◌||◌, nat_eq, Option, Some}
+use Rattle.bbm_place_map.proofs.Common.{None, refl, arith, ap, sym, subst, ◌∙◌, inl, inr, cases_eq, ltb-true, lt-ltb}
+use Rattle.bbm_place_map.proofs.Common.{eqb-true, eq-eqb, and_from, false≢true, or_left, or_right, same_Some, proved}
+use Rattle.bbm_place_map.proofs.Common.{If, Is, Dsb, Inner, All, Stores, publishes, Marks, IsHeard, Advances, Publishes}
+use Rattle.bbm_place_map.proofs.Common.{IsTold, MayPublish, Entry, Barrier}
 use Rattle.bbm_barriers.specs.declared.Domain.{Domain}
-use Rattle.bbm_barriers.specs.declared.Domain.TheVariants.{Full, Inner, Outer, Non}
+use Rattle.bbm_barriers.specs.declared.Domain.TheVariants.{Full, Outer, Non}
 use Rattle.bbm_barriers.specs.declared.Types.{Types}
-use Rattle.bbm_barriers.specs.declared.Types.TheVariants.{All, Stores, Loads}
-use Rattle.bbm_barriers.specs.Options.{publishes, hears, audience, is_non, Audience}
+use Rattle.bbm_barriers.specs.declared.Types.TheVariants.{Loads}
+use Rattle.bbm_barriers.specs.Options.{hears, audience, is_non, Audience}
 use Rattle.bbm_barriers.specs.Options.Audience.{EveryPe, IssuerAlone, NoPe}
 use Rattle.bbm_regimes.specs.PeMask.{pe_in}
-use Rattle.bbm_entry_state.specs.declared.marks.Marks.{Marks}
-use Rattle.bbm_place_map.specs.Dsbs.{IsHeard}
-use Rattle.bbm_place_map.specs.Each.{Advances, Publishes}
-use Rattle.bbm_place_map.specs.Works.{IsTold, MayPublish}
-use Rattle.bbm_place_map.specs.declared.entry.Entry.{Entry}
-use Rattle.bbm_place_map.specs.declared.orders.Barrier.{Barrier}
 use mathlib.Core.Bool.{or_self_left}
 
 hears_within : (a : Audience) (issuer n p : ℕ) → issuer < n → hears a issuer n p ≡ true → p < n

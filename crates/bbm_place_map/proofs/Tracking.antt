@@ -1,15 +1,10 @@
 -- A page that is tracked anew, once there is room for it.
-use Rattle.std.proofs.Common.{◌≡◌, ◌||◌, ◌+◌, ◌≤◌, ℕ, Bool, true, false, List, length, Option, Some, None, nat_eq, refl, ap, sym, subst, ◌∙◌}
-use Rattle.std.proofs.Common.{arith, count_by, is_some, vec_len, if◌then◌else◌}
-use Rattle.std.proofs.lemmas.List.{get_or_past}
-use Rattle.indexmap.specs.IndexMap.{get}
-use Rattle.bbm_place_map.specs.Cells.{is_listed, slot_in, value_in}
-use Rattle.bbm_place_map.specs.Entries.{no_pends}
+use Rattle.bbm_place_map.proofs.Common.{◌≡◌, ◌||◌, ◌+◌, ◌≤◌, ℕ, Bool, true, false, List, length, Option, Some, None}
+use Rattle.bbm_place_map.proofs.Common.{nat_eq, refl, ap, sym, subst, ◌∙◌, arith, count_by, is_some, vec_len}
+use Rattle.bbm_place_map.proofs.Common.{if◌then◌else◌, get_or_past, get, is_listed, slot_in, value_in, no_pends, IsSame}
+use Rattle.bbm_place_map.proofs.Common.{KeepsItems, marks_in, pends_for, Numbered, Parted, Placed, at_index, index_of}
+use Rattle.bbm_place_map.proofs.Common.{starts, PlaceMap}
 use Rattle.bbm_place_map.specs.Map.{is_tracked, marks_at, pends_at, value_at}
-use Rattle.bbm_place_map.specs.MapCalls.{IsSame, KeepsItems}
-use Rattle.bbm_place_map.specs.Parts.{marks_in, pends_for}
-use Rattle.bbm_place_map.specs.Sound.{Numbered, Parted, Placed, at_index, index_of, starts}
-use Rattle.bbm_place_map.specs.declared.map.PlaceMap.{PlaceMap}
 use Rattle.bbm_place_map.proofs.Growing.{flip, not_some, numbered_more, points_more}
 use Rattle.bbm_place_map.proofs.Parts.{kept_same, parted_more, starts_kept}
 

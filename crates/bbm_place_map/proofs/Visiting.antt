@@ -1,21 +1,13 @@
 -- Where a TLBI is noted at the places of a few items, and at no others.
-use Rattle.std.proofs.Common.{◌≡◌, ◌≢◌, ℕ, Bool, true, false, nat_eq, List, [], ◌∷◌, ◌++◌, Option, Some, None, refl, ap}
-use Rattle.std.proofs.Common.{sym, subst, ◌∙◌, inl, inr, if◌then◌else◌, slice_get, map}
-use Rattle.std.specs.Option.{option_map}
-use Rattle.std.proofs.lemmas.Bool.{cases_eq, cases_Bool, eq-eqb, ne_eqb, eqb-true, false≢true, cond-true, cond-false}
-use Rattle.std.proofs.lemmas.Option.{same_Some, none-some, slice_get-map}
-use Rattle.bbm_tlbi_scope.specs.declared.entry.Cover.{Cover}
-use Rattle.bbm_place_map.specs.Cells.{slot_in}
-use Rattle.bbm_place_map.specs.Each.{Advances}
-use Rattle.bbm_place_map.specs.Entries.{seat}
-use Rattle.bbm_place_map.specs.Finds.{cover_in, is_found}
-use Rattle.bbm_place_map.specs.PlaceNotes.{Keeps, NotesAs, NotesAt, NotesOne, NotesFound}
-use Rattle.bbm_place_map.specs.Sound.{Linked, Numbered, Placed, index_of, at_index, slot_at}
-use Rattle.bbm_place_map.specs.Works.{HoldsFor, Waits}
-use Rattle.bbm_place_map.specs.declared.entry.Entry.{Entry}
-use Rattle.bbm_place_map.specs.declared.found.Found.{Found}
-use Rattle.bbm_place_map.specs.declared.orders.Issuing.{Issuing}
-use Rattle.bbm_place_map.specs.declared.work.WorkList.{WorkList}
+use Rattle.bbm_place_map.proofs.Common.{◌≡◌, ◌≢◌, ℕ, Bool, true, false, nat_eq, List, [], ◌∷◌, ◌++◌, Option, Some, None}
+use Rattle.bbm_place_map.proofs.Common.{refl, ap, sym, subst, ◌∙◌, inl, inr, if◌then◌else◌, slice_get, option_map}
+use Rattle.bbm_place_map.proofs.Common.{cases_eq, cases_Bool, eq-eqb, ne_eqb, eqb-true, false≢true, cond-true}
+use Rattle.bbm_place_map.proofs.Common.{cond-false, same_Some, none-some, Cover, slot_in, Advances, seat, cover_in}
+use Rattle.bbm_place_map.proofs.Common.{is_found, Keeps, NotesAs, NotesAt, NotesOne, NotesFound, Linked, Numbered}
+use Rattle.bbm_place_map.proofs.Common.{Placed, index_of, at_index, HoldsFor, Waits, Entry, Found, Issuing, WorkList}
+use Rattle.std.proofs.Common.{map}
+use Rattle.std.proofs.lemmas.Option.{slice_get-map}
+use Rattle.bbm_place_map.specs.Sound.{slot_at}
 use Rattle.bbm_place_map.proofs.Advancing.{advance_by, at_both}
 use Rattle.bbm_place_map.proofs.Finding.{cover_here, cover_off, cover_old, found_here, found_off}
 use Rattle.bbm_place_map.proofs.Noting.{notes_at, waits_kept}

@@ -1,17 +1,9 @@
 -- What a write leaves at a place that isn't broken after.
-use Rattle.std.proofs.Common.{◌≡◌, ℕ, false, nat_eq, Option, Some, None, refl, ap, sym, ◌∙◌}
-use Rattle.std.proofs.Common.{if◌then◌else◌}
-use Rattle.bbm_descriptor.specs.declared.desc.Core.{Core}
-use Rattle.bbm_entry_state.specs.EntryCalls.{Written}
-use Rattle.bbm_entry_state.specs.Points.{is_broken}
-use Rattle.bbm_entry_state.specs.EntryStanding.{IsIdle}
-use Rattle.bbm_entry_state.specs.declared.marks.Marks.{Marks}
-use Rattle.bbm_entry_state.specs.declared.state.EntryState.{EntryState}
-use Rattle.bbm_entry_state.specs.declared.state.EntryState.TheVariants.{Live}
+use Rattle.bbm_place_map.proofs.Common.{◌≡◌, ℕ, false, nat_eq, Option, Some, None, refl, ap, sym, ◌∙◌, if◌then◌else◌}
+use Rattle.bbm_place_map.proofs.Common.{Core, Written, is_broken, IsIdle, Marks, EntryState, Live, marks_of_state}
+use Rattle.bbm_place_map.proofs.Common.{PlaceMap}
 use Rattle.bbm_place_map.specs.MapCalls.{Leaves}
 use Rattle.bbm_place_map.specs.Map.{marks_at, pends_at}
-use Rattle.bbm_place_map.specs.States.{marks_of_state}
-use Rattle.bbm_place_map.specs.declared.map.PlaceMap.{PlaceMap}
 use Rattle.bbm_lemmas.proofs.Bools.{none_unless}
 
 -- a valid value makes it live

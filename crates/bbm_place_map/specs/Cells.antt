@@ -1,6 +1,7 @@
 -- Cells: the number of the entry of a broken place. And values of places.
 -- Source: project's own choice.
-use Rattle.std.specs.Prelude.{ℕ, zero, suc, Bool, Option, None, Some, is_some, List, slice_index_or, ◌+◌, ◌%◌, ◌/◌, ◌&&◌}
+use Rattle.std.specs.Prelude.{ℕ, zero, suc, Bool, Option, None, Some, is_some, List, slice_index_or, ◌+◌, ◌%◌, ◌/◌}
+use Rattle.std.specs.Prelude.{◌&&◌}
 use Rattle.std.specs.Prelude.{nat_le, nat_lt, nat_eq, false}
 use Rattle.std.specs.Option.{option_map}
 

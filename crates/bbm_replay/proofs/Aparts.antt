@@ -1,11 +1,8 @@
 -- The pages of trees, the fresh pages and the null pages stay apart, and the first two tracked.
-use Rattle.std.proofs.Common.{◌≡◌, ℕ, Bool, true, false, not, ◌&&◌, ◌||◌, ◌==◌, Option, Some, None, is_none, refl, sym}
-use Rattle.std.proofs.Common.{◌∙◌, ap, subst, inl, inr, true≢false}
-use Rattle.std.proofs.lemmas.Bool.{and_parts, eqb-true, not-true}
-use Rattle.bbm_rules.specs.Tree.{Node}
-use Rattle.bbm_replay_trees.specs.Told.{View, kept}
+use Rattle.bbm_replay.proofs.Common.{View, kept, Apart}
+use Rattle.bbm_rules.proofs.Common.{◌≡◌, ℕ, Bool, true, false, not, ◌&&◌, ◌||◌, ◌==◌, Option, Some, None, is_none, refl}
+use Rattle.bbm_rules.proofs.Common.{sym, ◌∙◌, ap, subst, inl, inr, true≢false, and_parts, eqb-true, not-true, Node}
 use Rattle.bbm_replay.proofs.Moves.{Begins, Grown, Leaves, Nullifies, SameNodes, SamePages}
-use Rattle.bbm_replay.specs.ReplayTold.{Apart}
 
 pub apart_same : (old new : View) → Apart old → SameNodes old new → SamePages old new
     → ((p : ℕ) → new.tracked p ≡ old.tracked p) → Apart new

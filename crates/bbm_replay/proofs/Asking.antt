@@ -1,23 +1,12 @@
 -- What the cover of a place doesn't depend on.
-use Rattle.std.proofs.Common.{◌≡◌, ℕ, Bool, true, false, cond, ◌&&◌, not, is_none, Option, refl, sym, ◌∙◌, ap}
-use Rattle.std.proofs.Common.{true≢false}
-use Rattle.std.proofs.lemmas.Bool.{and_right}
-use Rattle.bbm_regimes.specs.Extent.{Extent}
-use Rattle.bbm_regimes.specs.declared.regime.Kind.{Kind}
-use Rattle.bbm_regimes.specs.declared.regime.Kind.TheVariants.{El2, S2, Ttbr0, Ttbr1}
-use Rattle.bbm_tlbi_scope.specs.ScopeCovers.{asid_matches, cover_by, cover_of, fits_leaf, fits_place, fits_table}
-use Rattle.bbm_tlbi_scope.specs.ScopeCovers.{vmid_matches, where_fits}
-use Rattle.bbm_tlbi_scope.specs.Numbers.{lacks_vmid, names_all, names_some}
-use Rattle.bbm_tlbi_scope.specs.Operations.{has_page}
-use Rattle.bbm_tlbi_scope.specs.declared.entry.Cover.{Cover}
-use Rattle.bbm_tlbi_scope.specs.declared.entry.Cover.TheVariants.{None as NoCover, Half, Second, Full}
-use Rattle.bbm_tlbi_scope.specs.declared.entry.PlaceView.{PlaceView}
-use Rattle.bbm_tlbi_scope.specs.declared.entry.TagSet.{TagSet}
-use Rattle.bbm_tlbi_scope.specs.declared.scope.Family.{Family}
-use Rattle.bbm_tlbi_scope.specs.declared.scope.Family.TheVariants.{El2All, El2Va, E1All, VmAll1, VmAll12, Ipa, Va}
-use Rattle.bbm_tlbi_scope.specs.declared.scope.Family.TheVariants.{VaAll, Asid}
-use Rattle.bbm_tlbi_scope.specs.declared.scope.Scope.{Scope}
-use Rattle.bbm_replay.specs.Covering.{asks_childless, asks_tags}
+use Rattle.bbm_replay.proofs.Common.{El2, S2, Ttbr0, Ttbr1, lacks_vmid, names_all, Asid, Scope, asks_childless}
+use Rattle.bbm_replay.proofs.Common.{asks_tags}
+use Rattle.bbm_rules.proofs.Common.{◌≡◌, ℕ, Bool, true, false, cond, ◌&&◌, not, is_none, Option, refl, sym, ◌∙◌, ap}
+use Rattle.bbm_rules.proofs.Common.{true≢false, and_right, Extent, Kind, cover_by, cover_of, fits_place, vmid_matches}
+use Rattle.bbm_rules.proofs.Common.{names_some, has_page, Cover, Half, Second, Full, PlaceView, TagSet, Family, El2All}
+use Rattle.bbm_rules.proofs.Common.{El2Va, E1All, VmAll1, VmAll12, Ipa, Va, VaAll}
+use Rattle.bbm_tlbi_scope.specs.ScopeCovers.{asid_matches, fits_leaf, fits_table, where_fits}
+use Rattle.bbm_tlbi_scope.specs.declared.entry.Cover.TheVariants.{None as NoCover}
 use Rattle.bbm_replay.proofs.Descents.{none_by}
 
 module _ (s : Scope) (vmid : Option ℕ) (kind : Kind) (region : Extent) (level : ℕ) (table global : Bool) where

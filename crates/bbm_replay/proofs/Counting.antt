@@ -1,8 +1,7 @@
 -- The first of consecutive pages that isn't fresh is the least one.
-use Rattle.std.proofs.Common.{◌≡◌, ℕ, zero, suc, ◌+◌, ◌*◌, ◌<◌, ◌≤◌, Bool, true, false, not, List, ◌∷◌, Some, None, min}
-use Rattle.std.proofs.Common.{unwrap_or, filter, cond, refl, sym, ◌∙◌, ap, subst, arith}
-use Rattle.bbm_rules.specs.Lists.{least}
-use Rattle.bbm_rules.specs.Roots.{pages_from}
+use Rattle.bbm_rules.proofs.Common.{◌≡◌, ℕ, zero, suc, ◌+◌, ◌*◌, ◌<◌, ◌≤◌, Bool, true, false, not, List, ◌∷◌, Some}
+use Rattle.bbm_rules.proofs.Common.{None, min, unwrap_or, filter, cond, refl, sym, ◌∙◌, ap, subst, arith, least}
+use Rattle.bbm_rules.proofs.Common.{pages_from}
 
 module _ (fresh : ℕ → Bool) where
   abbrev unfresh : List ℕ → List ℕ

@@ -1,33 +1,14 @@
 -- How far a TLBI covers a broken place.
-use Rattle.std.proofs.Common.{◌≡◌, ℕ, Bool, true, List, Option, Some, None, is_some, option_and_then, refl}
-use Rattle.std.proofs.Common.{sym, ◌∙◌, ap}
-use Rattle.std.specs.Prelude.{unwrap_or}
-use Rattle.bbm_lemmas.proofs.Tautologies.{proved}
-use Rattle.bbm_lemmas.proofs.Tautologies.Claim.{If, Is}
-use Rattle.bbm_descriptor.specs.Descriptor.{desc_of}
+use Rattle.bbm_replay.proofs.Common.{unwrap_or, core_in, Marks, is_table, state_from, notes, is_global_core}
+use Rattle.bbm_rules.proofs.Common.{◌≡◌, ℕ, Bool, true, List, Option, Some, None, is_some, option_and_then, refl, sym}
+use Rattle.bbm_rules.proofs.Common.{◌∙◌, ap, proved, If, Is, desc_of, Core, Desc, Invalid, Table, Leaf, PlaceView}
+use Rattle.bbm_rules.proofs.Common.{TagSet, Patterns, cover_at, is_global, view_at, events_of, page_of, Heading, Event}
+use Rattle.bbm_rules.proofs.Common.{Scope, TlbiOp, Tlbi, named_scope, vmid_of, tag_set, tags_of, Node, held_at}
+use Rattle.bbm_rules.proofs.Common.{is_childless, next_in, next_of, node_of, region_of}
 use Rattle.bbm_descriptor.specs.Descriptor as descriptor
-use Rattle.bbm_descriptor.specs.declared.desc.Core.{Core}
 use Rattle.bbm_descriptor.specs.declared.desc.Core.TheVariants as core
-use Rattle.bbm_descriptor.specs.declared.desc.Desc.{Desc}
-use Rattle.bbm_descriptor.specs.declared.desc.Desc.TheVariants.{Invalid, Table, Leaf}
-use Rattle.bbm_entry_state.specs.Points.{core_in}
-use Rattle.bbm_entry_state.specs.declared.marks.Marks.{Marks}
-use Rattle.bbm_place_map.specs.Each.{is_table}
-use Rattle.bbm_place_map.specs.States.{state_from}
 use Rattle.bbm_tlbi_scope.specs.ScopeCovers as scopes
 use Rattle.bbm_tlbi_scope.specs.declared.entry.Cover.TheVariants.{None as NoCover}
-use Rattle.bbm_tlbi_scope.specs.declared.entry.PlaceView.{PlaceView}
-use Rattle.bbm_tlbi_scope.specs.declared.entry.TagSet.{TagSet}
-use Rattle.bbm_rules.specs.Claims.Trust.{Patterns}
-use Rattle.bbm_rules.specs.Covers.{cover_at, is_global, view_at}
-use Rattle.bbm_rules.specs.Notes.{events_of}
-use Rattle.bbm_rules.specs.Places.{page_of}
-use Rattle.bbm_rules.specs.Prelude.{Heading, Event, Scope, TlbiOp, Tlbi}
-use Rattle.bbm_rules.specs.RegisterValues.{named_scope, vmid_of}
-use Rattle.bbm_rules.specs.Tags.{tag_set, tags_of}
-use Rattle.bbm_rules.specs.Tree.{Node, held_at, is_childless, next_in, next_of, node_of, region_of}
-use Rattle.bbm_replay_trees.specs.Told.{notes}
-use Rattle.bbm_replay.specs.Leaves.{is_global_core}
 
 pub table_is : (d : Desc) (c : Core) → descriptor.core_in d ≡ Some c → is_table c ≡ is_some (next_in d)
 table_is Invalid c k = let bad : None ≡ Some c = k in absurd cc

@@ -1,35 +1,17 @@
 -- What a TLBI of one page covers lies on the way down to the page.
-use Rattle.std.proofs.Common.{◌≡◌, ℕ, zero, suc, ◌+◌, ◌*◌, ◌%◌, ◌<◌, ◌≤◌, ◌&&◌, ◌==◌, nat_le, Bool, true, false, cond}
-use Rattle.std.proofs.Common.{List, [], ◌∷◌, Option, Some, None, is_none, not, refl, sym, ◌∙◌, ap, subst}
-use Rattle.std.proofs.Common.{true≢false, arith}
+use Rattle.bbm_replay.proofs.Common.{input_pages, El2, S2, Ttbr0, Ttbr1, lacks_vmid, names_all, Asid, Scope, Heading}
+use Rattle.bbm_replay.proofs.Common.{AllFit, SameCores, View, IsWay, Translates, is_at, next_in, Laws, NamesOne}
+use Rattle.bbm_replay.proofs.Common.{covers_kind}
+use Rattle.bbm_rules.proofs.Common.{◌≡◌, ℕ, zero, suc, ◌+◌, ◌*◌, ◌%◌, ◌<◌, ◌≤◌, ◌&&◌, ◌==◌, nat_le, Bool, true, false}
+use Rattle.bbm_rules.proofs.Common.{cond, List, [], ◌∷◌, Option, Some, None, is_none, not, refl, sym, ◌∙◌, ap, subst}
+use Rattle.bbm_rules.proofs.Common.{true≢false, arith, eq-eqb, and_right, and_left, and_from, proved, If, Is, Extent}
+use Rattle.bbm_rules.proofs.Common.{meets, Kind, cover_by, cover_of, fits_place, names_some, has_page, PlaceView}
+use Rattle.bbm_rules.proofs.Common.{Family, El2All, El2Va, E1All, VmAll1, VmAll12, Ipa, Va, VaAll, keeps, Patterns}
+use Rattle.bbm_rules.proofs.Common.{index_of, page_of, Event, Above, Node, region_start}
 use Rattle.std.proofs.Math.Nat.{mul-le-mul_right}
-use Rattle.std.proofs.lemmas.Bool.{eq-eqb, and_right, and_left, and_from}
-use Rattle.bbm_lemmas.proofs.Tautologies.{proved}
-use Rattle.bbm_lemmas.proofs.Tautologies.Claim.{If, Is}
-use Rattle.bbm_regimes.specs.Extent.{Extent, meets}
-use Rattle.bbm_regimes.specs.World.{input_pages}
-use Rattle.bbm_regimes.specs.declared.regime.Kind.{Kind}
-use Rattle.bbm_regimes.specs.declared.regime.Kind.TheVariants.{El2, S2, Ttbr0, Ttbr1}
-use Rattle.bbm_tlbi_scope.specs.ScopeCovers.{cover_by, cover_of, fits_place}
-use Rattle.bbm_tlbi_scope.specs.Numbers.{hint_allows, lacks_vmid, names_all, names_some}
-use Rattle.bbm_tlbi_scope.specs.Operations.{has_page}
+use Rattle.bbm_tlbi_scope.specs.Numbers.{hint_allows}
 use Rattle.bbm_tlbi_scope.specs.declared.entry.Cover.TheVariants.{None as NoCover}
-use Rattle.bbm_tlbi_scope.specs.declared.entry.PlaceView.{PlaceView}
-use Rattle.bbm_tlbi_scope.specs.declared.scope.Family.{Family}
-use Rattle.bbm_tlbi_scope.specs.declared.scope.Family.TheVariants.{El2All, El2Va, E1All, VmAll1, VmAll12, Ipa, Va}
-use Rattle.bbm_tlbi_scope.specs.declared.scope.Family.TheVariants.{VaAll, Asid}
-use Rattle.bbm_tlbi_scope.specs.declared.scope.Scope.{Scope}
-use Rattle.bbm_events.specs.Heading.{Heading}
-use Rattle.bbm_rules.specs.Broken.{keeps}
-use Rattle.bbm_rules.specs.Claims.Trust.{Patterns}
-use Rattle.bbm_rules.specs.Places.{index_of, page_of}
-use Rattle.bbm_rules.specs.Prelude.{Event}
-use Rattle.bbm_rules.specs.Tree.{Above, Node, region_start}
-use Rattle.bbm_replay_trees.specs.Told.{AllFit, SameCores, SameNodes, View, core_at}
-use Rattle.bbm_tree_index.specs.Descent.{IsWay, Translates}
-use Rattle.bbm_tree_index.specs.HeldCores.{is_at, next_in}
-use Rattle.bbm_replay.specs.ReplayLaws.{Laws}
-use Rattle.bbm_replay.specs.OnePage.{NamesOne, covers_kind}
+use Rattle.bbm_replay_trees.specs.Told.{SameNodes, core_at}
 use Rattle.bbm_replay.proofs.Extents.{holds_meets}
 
 -- ---- what a TLBI of one page doesn't cover

@@ -1,31 +1,15 @@
 -- DSBs.
-use Rattle.std.proofs.Common.{◌≡◌, ℕ, Bool, true, false, cond, ◌&&◌, nat_eq, List, [], ◌∷◌, Contains, Option, Some}
-use Rattle.std.proofs.Common.{None, is_some, refl, sym, ◌∙◌, ap, subst, true≢false}
-use Rattle.std.proofs.lemmas.Bool.{and_parts, eqb-true, not-true, and_right}
-use Rattle.bbm_barriers.specs.Options.{is_non}
-use Rattle.bbm_descriptor.specs.Descriptor.{core_of, is_valid}
-use Rattle.bbm_descriptor.specs.declared.desc.Core.{Core}
-use Rattle.bbm_entry_state.specs.EntryCalls.{Published}
-use Rattle.bbm_entry_state.specs.Points.{core_in, is_broken, waits}
-use Rattle.bbm_entry_state.specs.declared.marks.Marks.{Marks}
-use Rattle.bbm_entry_state.specs.declared.state.EntryState.{EntryState}
-use Rattle.bbm_place_map.specs.States.{state_from}
-use Rattle.bbm_tlbi_scope.specs.declared.entry.Cover.{Cover}
-use Rattle.bbm_events.specs.Fits.{fits_heading}
+use Rattle.bbm_replay.proofs.Common.{Published, core_in, is_broken, waits, Marks, EntryState, state_from, Kind}
+use Rattle.bbm_replay.proofs.Common.{EntryStands, core_with, View, is_held_by, kept, notes, Laws, Told, state_of}
+use Rattle.bbm_replay.proofs.Common.{waiting}
+use Rattle.bbm_rules.proofs.Common.{◌≡◌, ℕ, Bool, true, false, cond, ◌&&◌, nat_eq, List, [], ◌∷◌, Contains, Option}
+use Rattle.bbm_rules.proofs.Common.{Some, None, is_some, refl, sym, ◌∙◌, ap, subst, true≢false, and_parts, eqb-true}
+use Rattle.bbm_rules.proofs.Common.{not-true, and_right, is_non, core_of, is_valid, Core, Cover, fits_heading, Patterns}
+use Rattle.bbm_rules.proofs.Common.{held, every, page_of, Barrier, Heading, Event, Dsb, Above, Node}
 use Rattle.bbm_rules.specs.Broken.{broken}
-use Rattle.bbm_rules.specs.Claims.Trust.{Patterns}
-use Rattle.bbm_rules.specs.Held.{held}
-use Rattle.bbm_rules.specs.Lists.{every}
-use Rattle.bbm_rules.specs.Places.{page_of}
-use Rattle.bbm_rules.specs.Prelude.{Barrier, Kind, Heading, Event, Dsb}
-use Rattle.bbm_rules.specs.Tree.{Above, Node}
 use Rattle.bbm_replay_entries.specs.EntryEvents.{Heard}
-use Rattle.bbm_replay_entries.specs.EntryStands.{EntryStands}
-use Rattle.bbm_tree_index.specs.HeldCores.{core_with}
-use Rattle.bbm_replay_trees.specs.Told.{View, core_at, is_held_by, kept, next_in, notes}
-use Rattle.bbm_replay.specs.ReplayLaws.{Laws}
+use Rattle.bbm_replay_trees.specs.Told.{core_at, next_in}
 use Rattle.bbm_replay.proofs.Moves.{Completes, Hears, Leaves}
-use Rattle.bbm_replay.specs.ReplayTold.{Told, state_of, waiting}
 use Rattle.bbm_replay.proofs.Aparts.{apart_leaves, apart_same}
 use Rattle.bbm_replay.proofs.Entries.{entry_same, fit_more, keeps_more, some_pe, state_same}
 use Rattle.bbm_replay.proofs.Leaving.{was_there}

@@ -1,12 +1,8 @@
 -- A view of nothing, for the empty history.
-use Rattle.std.proofs.Common.{◌≡◌, ℕ, true, false, [], Some, None, refl, sym, ◌∙◌, true≢false}
-use Rattle.bbm_events.specs.Heading.{heading_ok}
-use Rattle.bbm_rules.specs.Claims.Trust.{Patterns}
-use Rattle.bbm_rules.specs.Places.{page_of}
-use Rattle.bbm_rules.specs.Prelude.{Heading}
-use Rattle.bbm_rules.specs.Tree.{node_of, tree}
-use Rattle.bbm_replay_trees.specs.Told.{View}
-use Rattle.bbm_replay.specs.ReplayTold.{Told}
+use Rattle.bbm_replay.proofs.Common.{View, Told}
+use Rattle.bbm_rules.proofs.Common.{◌≡◌, ℕ, true, false, [], Some, None, refl, sym, ◌∙◌, true≢false, heading_ok}
+use Rattle.bbm_rules.proofs.Common.{Patterns, page_of, Heading, node_of}
+use Rattle.bbm_rules.specs.Tree.{tree}
 
 no_node : (heading : Heading) (p : ℕ) → node_of heading Patterns [] p ≡ None
 unfolding tree

@@ -1,26 +1,11 @@
 -- One place after an event that leaves it.
-use Rattle.std.proofs.Common.{◌≡◌, ℕ, ◌<◌, Bool, true, false, ◌&&◌, List, ◌∷◌, Option, Some, None, refl, sym, ◌∙◌, ap}
-use Rattle.std.proofs.Common.{subst}
-use Rattle.bbm_lemmas.proofs.Tautologies.{proved}
-use Rattle.bbm_lemmas.proofs.Tautologies.Claim.{If, Is}
-use Rattle.bbm_descriptor.specs.Descriptor.{core_of}
-use Rattle.bbm_entry_state.specs.Points.{is_broken, waits}
-use Rattle.bbm_entry_state.specs.declared.marks.Marks.{Marks}
-use Rattle.bbm_entry_state.specs.declared.pending.Pends.{Pends}
-use Rattle.bbm_entry_state.specs.declared.state.EntryState.{EntryState}
-use Rattle.bbm_place_map.specs.States.{state_from}
-use Rattle.bbm_events.specs.Fits.{fits_heading}
-use Rattle.bbm_rules.specs.Broken.{broken, keeps}
-use Rattle.bbm_rules.specs.Claims.Trust.{Patterns}
-use Rattle.bbm_rules.specs.Places.{page_of}
-use Rattle.bbm_rules.specs.Prelude.{Kind, Heading, Event}
-use Rattle.bbm_rules.specs.Tree.{Node}
-use Rattle.bbm_replay_entries.specs.EntryEvents.{touches}
-use Rattle.bbm_replay_entries.specs.EntryStands.{EntryStands}
-use Rattle.bbm_replay_trees.specs.Told.{AllFit, View}
-use Rattle.bbm_replay.specs.ReplayLaws.{Laws}
+use Rattle.bbm_replay.proofs.Common.{is_broken, waits, Marks, Pends, EntryState, state_from, Kind, touches, EntryStands}
+use Rattle.bbm_replay.proofs.Common.{AllFit, View, Laws, Told, state_of, waiting}
+use Rattle.bbm_rules.proofs.Common.{◌≡◌, ℕ, ◌<◌, Bool, true, false, ◌&&◌, List, ◌∷◌, Option, Some, None, refl, sym, ◌∙◌}
+use Rattle.bbm_rules.proofs.Common.{ap, subst, proved, If, Is, core_of, fits_heading, keeps, Patterns, page_of, Heading}
+use Rattle.bbm_rules.proofs.Common.{Event, Node}
+use Rattle.bbm_rules.specs.Broken.{broken}
 use Rattle.bbm_replay.proofs.Moves.{Alike}
-use Rattle.bbm_replay.specs.ReplayTold.{Told, state_of, waiting}
 
 pub keeps_more : (heading : Heading) (h : List Event) (e : Event) → keeps heading Patterns h ≡ true
     → broken heading Patterns h e ≡ None → keeps heading Patterns (e ∷ h) ≡ true

@@ -1,8 +1,7 @@
 -- Intervals of input pages.
-use Rattle.std.proofs.Common.{◌≡◌, ◌≤◌, nat_le, Bool, true, false, refl, sym, ◌∙◌, arith, true≢false}
-use Rattle.std.proofs.lemmas.Bool.{and_parts, leb-true, le-leb}
+use Rattle.bbm_rules.proofs.Common.{◌≡◌, ◌≤◌, nat_le, Bool, true, false, refl, sym, ◌∙◌, arith, true≢false, and_parts}
+use Rattle.bbm_rules.proofs.Common.{leb-true, le-leb, Extent, holds, meets}
 use Rattle.std.specs.Cmp.Derive.{both_true}
-use Rattle.bbm_regimes.specs.Extent.{Extent, holds, meets}
 
 -- an interval that holds all of another, which is not empty, meets it
 pub holds_meets : (i r : Extent) → r.lo ≤ r.hi → meets i r ≡ false → holds i r ≡ false

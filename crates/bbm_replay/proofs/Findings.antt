@@ -1,13 +1,10 @@
 -- Places that are found, each with its cover.
+use Rattle.bbm_replay.proofs.Common.{FoundAs, is_found, Found}
+use Rattle.bbm_rules.proofs.Common.{◌≡◌, ℕ, zero, suc, Bool, true, false, ◌||◌, List, [], ◌∷◌, ◌++◌, Option, Some}
+use Rattle.bbm_rules.proofs.Common.{nat_eq, Result, Ok, Err, refl, ap, subst, not-suc-le-zero, le_of_suc-le-suc}
+use Rattle.bbm_rules.proofs.Common.{slice_get, length, ◌<◌, eq-eqb, or_right, Cover}
 use Rattle.std.specs.Prelude.{IfSome, OnOk}
-use Rattle.std.proofs.Common.{◌≡◌, ℕ, zero, suc, Bool, true, false, ◌||◌, List, [], ◌∷◌, ◌++◌, Option, Some, nat_eq}
-use Rattle.std.proofs.Common.{Result, Ok, Err, refl, ap, subst, not-suc-le-zero, le_of_suc-le-suc, slice_get, length}
-use Rattle.std.proofs.Common.{◌<◌}
-use Rattle.std.proofs.lemmas.Bool.{eq-eqb, or_right}
 use Rattle.std.proofs.lemmas.List.Elements.{All-append}
-use Rattle.bbm_place_map.specs.Finds.{FoundAs, is_found}
-use Rattle.bbm_place_map.specs.declared.found.Found.{Found}
-use Rattle.bbm_tlbi_scope.specs.declared.entry.Cover.{Cover}
 
 pub on_ok : {A E : Type 0} (r : Result A E) {P Q : Type 0} → OnOk r P → (P → Q) → OnOk r Q
 on_ok (Ok x) p f = f p

@@ -1,15 +1,8 @@
 -- The path of a place, by the node of its page.
-use Rattle.std.proofs.Common.{◌≡◌, ℕ, ◌≤◌, ◌<◌, List, Option, Some, None, refl, sym, ◌∙◌, ap, arith}
-use Rattle.std.specs.Option.{option_map}
-use Rattle.bbm_rules.specs.Places.{page_of}
-use Rattle.bbm_rules.specs.Prelude.{Heading, Event}
-use Rattle.bbm_rules.specs.Tree.{Node}
+use Rattle.bbm_replay.proofs.Common.{option_map, path_at, Path, Laws, IsAt, Stands, view_of, ReplayState}
+use Rattle.bbm_rules.proofs.Common.{◌≡◌, ℕ, ◌≤◌, ◌<◌, List, Option, Some, None, refl, sym, ◌∙◌, ap, arith, page_of}
+use Rattle.bbm_rules.proofs.Common.{Heading, Event, Node}
 use Rattle.bbm_tree_index.specs.Index.{node_in}
-use Rattle.bbm_tree_index.specs.Nodes.{path_at}
-use Rattle.bbm_tree_index.specs.declared.role.Path.{Path}
-use Rattle.bbm_replay.specs.ReplayLaws.{Laws}
-use Rattle.bbm_replay.specs.ReplayStanding.{IsAt, Stands, view_of}
-use Rattle.bbm_replay.specs.declared.parts.ReplayState.{ReplayState}
 
 pub at_path : (p : ReplayState) (place : ℕ) (r : Option Path) (path : Path) → r ≡ Some path
     → r ≡ option_map (λ n. path_at n place) (node_in p.index (page_of place)) → IsAt p place path

@@ -1,18 +1,11 @@
 -- The parts after an event, by what their objects say.
-use Rattle.std.proofs.Common.{List, ◌∙◌, ap}
-use Rattle.bbm_rules.specs.Prelude.{Heading, Event}
-use Rattle.bbm_entry_state.specs.Points.{waits}
-use Rattle.bbm_entry_state.specs.declared.pending.Pends.{Pends}
+use Rattle.bbm_replay.proofs.Common.{waits, Pends, PlaceMap, TreeIndex, Laws, SameFrame, Stands, view_of, Told}
+use Rattle.bbm_replay.proofs.Common.{ReplayState}
+use Rattle.bbm_rules.proofs.Common.{List, ◌∙◌, ap, Heading, Event}
 use Rattle.bbm_place_map.specs.MapCalls.{IsSame}
-use Rattle.bbm_place_map.specs.declared.map.PlaceMap.{PlaceMap}
 use Rattle.bbm_tree_index.specs.Index.{SamePages, SameTracked}
-use Rattle.bbm_tree_index.specs.declared.index.TreeIndex.{TreeIndex}
 use Rattle.bbm_replay_roots.specs.RootStateStands as roots
-use Rattle.bbm_replay.specs.ReplayLaws.{Laws}
 use Rattle.bbm_replay.proofs.Moves.{Same}
-use Rattle.bbm_replay.specs.ReplayStanding.{SameFrame, Stands, view_of}
-use Rattle.bbm_replay.specs.ReplayTold.{Told}
-use Rattle.bbm_replay.specs.declared.parts.ReplayState.{ReplayState}
 use Rattle.bbm_replay.proofs.Quiet.{told_same}
 
 pub stands_next : (old new : ReplayState) → SameFrame old new → (heading : Heading) (h next : List Event) → Stands old heading h

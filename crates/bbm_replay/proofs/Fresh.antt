@@ -1,23 +1,11 @@
 -- A write at a place of a fresh page, where bit 0 of the value before is 0.
-use Rattle.std.proofs.Common.{◌≡◌, ℕ, ◌%◌, Bool, true, false, not, ◌&&◌, ◌==◌, Option, Some, None, Ok, refl, ◌∙◌, ap}
-use Rattle.std.proofs.Common.{if◌then◌else◌, arith}
-use Rattle.std.proofs.lemmas.Bool.{eqb-true, eqb-false}
-use Rattle.bbm_descriptor.specs.Descriptor.{invalid, core_in, core_of, desc_as, form_01, form_11}
-use Rattle.bbm_descriptor.specs.Fields.{type_bits}
-use Rattle.bbm_descriptor.specs.declared.desc.Core.{Core}
-use Rattle.bbm_entry_state.specs.EntryStanding.{IsIdle}
-use Rattle.bbm_entry_state.specs.Points.{waits}
-use Rattle.bbm_entry_state.specs.declared.pending.Pends.{Pends}
+use Rattle.bbm_replay.proofs.Common.{IsIdle, waits, Pends, Puts, Laws, Rules, MayMeet, Meets, SameFrame, ReplayState}
+use Rattle.bbm_rules.proofs.Common.{◌≡◌, ℕ, ◌%◌, Bool, true, false, not, ◌&&◌, ◌==◌, Option, Some, None, Ok, refl, ◌∙◌}
+use Rattle.bbm_rules.proofs.Common.{ap, if◌then◌else◌, arith, eqb-true, eqb-false, invalid, core_in, core_of, desc_as}
+use Rattle.bbm_rules.proofs.Common.{form_01, form_11, type_bits, Core, page_of, El2, Heading, Write}
 use Rattle.bbm_place_map.specs.Map.{marks_at, pends_at, value_at}
-use Rattle.bbm_place_map.specs.MapCalls.{Puts}
-use Rattle.bbm_rules.specs.Places.{page_of}
-use Rattle.bbm_rules.specs.Prelude.{El2, Heading, Write}
 use Rattle.bbm_tree_index.specs.Index.{fresh_in, node_in}
 use Rattle.bbm_replay_roots.specs.RootStateStands as roots
-use Rattle.bbm_replay.specs.ReplayLaws.{Laws}
-use Rattle.bbm_replay.specs.ReplayRules.{Rules}
-use Rattle.bbm_replay.specs.ReplayStanding.{MayMeet, Meets, SameFrame}
-use Rattle.bbm_replay.specs.declared.parts.ReplayState.{ReplayState}
 use Rattle.bbm_replay.proofs.Outside.{outside_ok}
 use Rattle.bbm_replay.proofs.Quick.{marks_stay}
 

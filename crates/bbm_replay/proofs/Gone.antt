@@ -1,28 +1,15 @@
 -- Pages that leave, as the index tells it; and a retired root at the parts.
-use Rattle.std.proofs.Common.{◌≡◌, ℕ, Bool, true, false, cond, not, ◌==◌, List, ◌∷◌, Option, Some, None, Ok, Err, refl}
-use Rattle.std.proofs.Common.{sym, ◌∙◌, ap}
-use Rattle.bbm_entry_state.specs.Points.{waits}
-use Rattle.bbm_entry_state.specs.declared.marks.Marks.{Marks}
-use Rattle.bbm_entry_state.specs.declared.pending.Pends.{Pends}
+use Rattle.bbm_replay.proofs.Common.{waits, Marks, Pends, PlaceMap, StepFault, TreeIndex, kept, Laws, Rules, MayMeet}
+use Rattle.bbm_replay.proofs.Common.{Meets, SameFrame, Stands, view_of, ReplayState}
+use Rattle.bbm_rules.proofs.Common.{◌≡◌, ℕ, Bool, true, false, cond, not, ◌==◌, List, ◌∷◌, Option, Some, None, Ok, Err}
+use Rattle.bbm_rules.proofs.Common.{refl, sym, ◌∙◌, ap, Patterns, page_of, Heading, Event, Unroot, Node}
 use Rattle.bbm_place_map.specs.Map.{marks_at}
-use Rattle.bbm_place_map.specs.declared.map.PlaceMap.{PlaceMap}
 use Rattle.bbm_rules.specs.Broken.{broken}
-use Rattle.bbm_rules.specs.Claims.Trust.{Patterns}
-use Rattle.bbm_rules.specs.Places.{page_of}
-use Rattle.bbm_rules.specs.Prelude.{Heading, Event, Unroot}
-use Rattle.bbm_rules.specs.Tree.{Node}
-use Rattle.bbm_rules.specs.declared.step_fault.StepFault.{StepFault}
 use Rattle.bbm_tree_index.specs.HeldCores.{leaves}
 use Rattle.bbm_tree_index.specs.Index.{node_in}
 use Rattle.bbm_tree_index.specs.IndexChanges.{TakesOut}
-use Rattle.bbm_tree_index.specs.declared.index.TreeIndex.{TreeIndex}
 use Rattle.bbm_replay_roots.specs.RootStateStands as roots
-use Rattle.bbm_replay_trees.specs.Told.{kept}
-use Rattle.bbm_replay.specs.ReplayLaws.{Laws}
 use Rattle.bbm_replay.proofs.Moves.{Leaves}
-use Rattle.bbm_replay.specs.ReplayRules.{Rules}
-use Rattle.bbm_replay.specs.ReplayStanding.{MayMeet, Meets, SameFrame, Stands, view_of}
-use Rattle.bbm_replay.specs.declared.parts.ReplayState.{ReplayState}
 use Rattle.bbm_replay.proofs.Framing.{stands_next}
 use Rattle.bbm_replay.proofs.Leaving.{after_unroot}
 use Rattle.bbm_replay.proofs.Meeting.{answers, fits_all, frugal_else}

@@ -1,26 +1,12 @@
 -- Pages that are attached.
-use Rattle.std.proofs.Common.{◌≡◌, ℕ, Bool, true, false, ◌⊎◌, List, [], ◌∷◌, Option, Some, None, refl, sym, ◌∙◌, ap}
-use Rattle.std.proofs.Common.{subst, inl, inr}
-use Rattle.bbm_descriptor.specs.Descriptor.{core_of}
-use Rattle.bbm_descriptor.specs.declared.desc.Core.{Core}
-use Rattle.bbm_entry_state.specs.Points.{core_in, is_broken}
-use Rattle.bbm_entry_state.specs.EntryStanding.{IsIdle}
-use Rattle.bbm_entry_state.specs.declared.marks.Marks.{Marks}
-use Rattle.bbm_place_map.specs.States.{state_from}
-use Rattle.bbm_events.specs.Fits.{fits_heading}
+use Rattle.bbm_replay.proofs.Common.{core_in, is_broken, IsIdle, Marks, state_from, Kind, touches, EntryStands}
+use Rattle.bbm_replay.proofs.Common.{Attached, View, Laws, Told, state_of, waiting}
+use Rattle.bbm_rules.proofs.Common.{◌≡◌, ℕ, Bool, true, false, ◌⊎◌, List, [], ◌∷◌, Option, Some, None, refl, sym, ◌∙◌}
+use Rattle.bbm_rules.proofs.Common.{ap, subst, inl, inr, core_of, Core, fits_heading, Patterns, page_of, Heading, Event}
+use Rattle.bbm_rules.proofs.Common.{Root, Node, node_below, nodes_of_root, value_of}
 use Rattle.bbm_rules.specs.Broken.{broken}
-use Rattle.bbm_rules.specs.Claims.Trust.{Patterns}
-use Rattle.bbm_rules.specs.Places.{page_of}
-use Rattle.bbm_rules.specs.Prelude.{Kind, Heading, Event, Root}
-use Rattle.bbm_rules.specs.Tree.{Node, node_below, nodes_of_root}
-use Rattle.bbm_rules.specs.Values.{value_of}
-use Rattle.bbm_replay_entries.specs.EntryEvents.{touches}
-use Rattle.bbm_replay_entries.specs.EntryStands.{EntryStands}
-use Rattle.bbm_tree_index.specs.Paths.{Attached, Through}
-use Rattle.bbm_replay_trees.specs.Told.{View}
-use Rattle.bbm_replay.specs.ReplayLaws.{Laws}
+use Rattle.bbm_tree_index.specs.Paths.{Through}
 use Rattle.bbm_replay.proofs.Moves.{Alike, Attaches, Grown, SameMap}
-use Rattle.bbm_replay.specs.ReplayTold.{Told, state_of, waiting}
 use Rattle.bbm_replay.proofs.Aparts.{apart_grown}
 use Rattle.bbm_replay.proofs.Entries.{carried, fit_more, keeps_more, some_pe}
 use Rattle.bbm_replay.proofs.Quiet.{tracked_stay}

@@ -1,60 +1,35 @@
 -- A write at a place of a tree, at the parts.
-use Rattle.std.proofs.Common.{◌≡◌, ℕ, zero, suc, ◌<◌, arith, ◌%◌, Bool, true, false, cond, not, ◌&&◌, ◌⊎◌, ◌==◌, List}
-use Rattle.std.proofs.Common.{[], ◌∷◌, Option, Some, None, is_none, is_some, option_and_then, Result, Ok, Err, refl}
-use Rattle.std.proofs.Common.{sym, ◌∙◌, ap, subst, true≢false, inl, inr}
-use Rattle.std.specs.Option.{option_map_or}
-use Rattle.bbm_descriptor.specs.Fields.{type_bits}
-use Rattle.bbm_descriptor.specs.Descriptor.{core_of, desc_as, desc_of, differ, invalid, is_valid, leaf}
+use Rattle.bbm_replay.proofs.Common.{Written, IsIdle, EntryState, same_kind, Kind, NoLock, NullWritten, BreakBeforeMake}
+use Rattle.bbm_replay.proofs.Common.{LimboMake, NotFresh, RewrittenFresh, BadKind, GlobalUser, Broken, limbo_by, Path}
+use Rattle.bbm_replay.proofs.Common.{RootState, View, notes, Laws, attached_next, is_contiguous_core, is_global_core}
+use Rattle.bbm_replay.proofs.Common.{step_fault, TreeFault, Rules, Clears, Holds, IsAt, MayMeet, Meets, SameFrame}
+use Rattle.bbm_replay.proofs.Common.{Stands, view_of, Told, state_of, ReplayState}
+use Rattle.bbm_rules.proofs.Common.{◌≡◌, ℕ, zero, suc, ◌<◌, arith, ◌%◌, Bool, true, false, cond, not, ◌&&◌, ◌⊎◌, ◌==◌}
+use Rattle.bbm_rules.proofs.Common.{List, [], ◌∷◌, Option, Some, None, is_none, is_some, option_and_then, Result, Ok}
+use Rattle.bbm_rules.proofs.Common.{Err, refl, sym, ◌∙◌, ap, subst, true≢false, inl, inr, option_map_or, type_bits}
+use Rattle.bbm_rules.proofs.Common.{core_of, desc_as, desc_of, differ, invalid, is_valid, leaf, Core, Desc, Invalid}
+use Rattle.bbm_rules.proofs.Common.{Table, Leaf, rewrites, attached_by, Patterns, is_global, if_so, page_of, Ttbr0}
+use Rattle.bbm_rules.proofs.Common.{Heading, Event, Write, lock_of, bad_kind, break_before_make, global_user}
+use Rattle.bbm_rules.proofs.Common.{is_contiguous, lacks, limbo_make, no_lock, not_fresh, null_written, rewritten_fresh}
+use Rattle.bbm_rules.proofs.Common.{Node, held_at, next_in, next_of, node_below, node_of, and_right}
 use Rattle.bbm_descriptor.specs.Descriptor as descriptor
-use Rattle.bbm_descriptor.specs.declared.desc.Core.{Core}
-use Rattle.bbm_descriptor.specs.declared.desc.Desc.{Desc}
-use Rattle.bbm_descriptor.specs.declared.desc.Desc.TheVariants.{Invalid, Table, Leaf}
-use Rattle.bbm_entry_state.specs.EntryCalls.{Written}
-use Rattle.bbm_entry_state.specs.EntryStanding.{IsIdle}
-use Rattle.bbm_entry_state.specs.declared.state.EntryState.{EntryState}
-use Rattle.bbm_regimes.specs.SameRegister.{same_kind}
-use Rattle.bbm_rules.specs.Answers.{is_written, rewrites}
-use Rattle.bbm_rules.specs.Attach.{attached_by}
+use Rattle.bbm_rules.specs.Answers.{is_written}
 use Rattle.bbm_rules.specs.Broken.{broken}
-use Rattle.bbm_rules.specs.Claims.Trust.{Patterns}
-use Rattle.bbm_rules.specs.Covers.{is_global}
-use Rattle.bbm_rules.specs.Lists.{if_so}
-use Rattle.bbm_rules.specs.Places.{page_of}
-use Rattle.bbm_rules.specs.Prelude.{Kind, Ttbr0, Heading, Event, Write}
-use Rattle.bbm_rules.specs.Roots.{lock_of}
-use Rattle.bbm_rules.specs.Rules.{bad_kind, break_before_make, global_user, is_contiguous, lacks, limbo_make, no_lock}
-use Rattle.bbm_rules.specs.Rules.{not_fresh, null_written, rewritten_fresh}
-use Rattle.bbm_rules.specs.Tree.{Node, held_at, next_in, next_of, node_below, node_of}
-use Rattle.bbm_rules.specs.declared.rule.Rule.TheVariants.{NoLock, NullWritten, BreakBeforeMake, LimboMake}
-use Rattle.bbm_rules.specs.declared.rule.Rule.TheVariants.{NotFresh, RewrittenFresh, BadKind, GlobalUser}
-use Rattle.bbm_rules.specs.declared.step_fault.StepFault.TheVariants.{Broken}
 use Rattle.bbm_place_map.specs.Map.{marks_at, pends_at, value_at}
-use Rattle.bbm_tree_index.specs.HeldCores.{limbo_by}
 use Rattle.bbm_tree_index.specs.Index.{fresh_in, node_in, null_in}
-use Rattle.bbm_tree_index.specs.declared.role.Path.{Path}
 use Rattle.bbm_replay_roots.specs.RootStateStands as roots
-use Rattle.bbm_replay_roots.specs.declared.state.RootState.{RootState}
-use Rattle.bbm_replay_trees.specs.Told.{View, core_at, notes}
-use Rattle.bbm_replay.specs.ReplayLaws.{Laws}
-use Rattle.bbm_replay.specs.Leaves.{attached_next, is_contiguous_core, is_global_core}
-use Rattle.bbm_replay.specs.ReplayFaults.{step_fault}
+use Rattle.bbm_replay_trees.specs.Told.{core_at}
 use Rattle.bbm_replay.proofs.Moves.{Attaches, Writes}
 use Rattle.bbm_tree_index.specs.Attaching as index
 use Rattle.bbm_tree_index.specs.Paths as index_paths
 use Rattle.bbm_tree_index.specs.declared.role.Attach.TheVariants as attach
-use Rattle.bbm_tree_index.specs.declared.fault.TreeFault.{TreeFault}
 use Rattle.bbm_tree_index.specs.declared.fault.TreeFault.TheVariants as tree
-use Rattle.bbm_replay.specs.ReplayRules.{Rules}
-use Rattle.bbm_replay.specs.ReplayStanding.{Clears, Holds, IsAt, MayMeet, Meets, SameFrame, Stands, view_of}
-use Rattle.bbm_replay.specs.ReplayTold.{Told, state_of}
-use Rattle.bbm_replay.specs.declared.parts.ReplayState.{ReplayState}
 use Rattle.bbm_replay.proofs.Framing.{stands_next}
 use Rattle.bbm_replay.proofs.Judging.{Verdict, passes, stops, verdict, where_false, where_true, write_is}
 use Rattle.bbm_replay.proofs.Meeting.{fits_all}
 use Rattle.bbm_replay.proofs.Starting.{meets_broken}
 use Rattle.bbm_replay.proofs.Writing.{after_attaching_write, after_plain_write, cores}
 use Rattle.bbm_replay.proofs.Ways.{state_core}
-use Rattle.std.proofs.lemmas.Bool.{and_right}
 
 -- ---- what the core of a descriptor says
 

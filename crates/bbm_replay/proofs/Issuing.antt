@@ -1,29 +1,14 @@
 -- A TLBI at the parts.
-use Rattle.std.proofs.Common.{◌≡◌, ℕ, ◌<◌, Bool, true, false, not, ◌&&◌, ◌||◌, nat_eq, List, ◌∷◌, Option, Some, None}
-use Rattle.std.proofs.Common.{is_some, Ok, refl, sym, ◌∙◌, ap, subst}
-use Rattle.bbm_entry_state.specs.EntryCalls.{Noted}
-use Rattle.bbm_entry_state.specs.Points.{waits}
-use Rattle.bbm_entry_state.specs.EntryStanding.{IsIdle}
-use Rattle.bbm_entry_state.specs.declared.marks.Marks.{Marks}
-use Rattle.bbm_entry_state.specs.declared.pending.Pends.{Pends}
+use Rattle.bbm_replay.proofs.Common.{Noted, waits, IsIdle, Marks, Pends, state_from, PlaceMap, RootState, notes, Laws}
+use Rattle.bbm_replay.proofs.Common.{Rules, MayMeet, Meets, Stands, view_of, ReplayState}
+use Rattle.bbm_rules.proofs.Common.{◌≡◌, ℕ, ◌<◌, Bool, true, false, not, ◌&&◌, ◌||◌, nat_eq, List, ◌∷◌, Option, Some}
+use Rattle.bbm_rules.proofs.Common.{None, is_some, Ok, refl, sym, ◌∙◌, ap, subst, PeMask, operation, Patterns, cover_at}
+use Rattle.bbm_rules.proofs.Common.{Heading, Event, Tlbi, TlbiOp}
 use Rattle.bbm_place_map.specs.Map.{is_tracked, marks_at, pends_at, value_at}
-use Rattle.bbm_place_map.specs.States.{state_from}
-use Rattle.bbm_place_map.specs.declared.map.PlaceMap.{PlaceMap}
 use Rattle.bbm_regimes.specs.PeMask.{pe_in}
-use Rattle.bbm_regimes.specs.declared.pe.PeMask.{PeMask}
-use Rattle.bbm_tlbi_scope.specs.Operations.{operation}
 use Rattle.bbm_rules.specs.Broken.{broken}
-use Rattle.bbm_rules.specs.Claims.Trust.{Patterns}
-use Rattle.bbm_rules.specs.Covers.{cover_at}
-use Rattle.bbm_rules.specs.Prelude.{Heading, Event, Tlbi, TlbiOp}
 use Rattle.bbm_replay_roots.specs.RootStateStands as roots
-use Rattle.bbm_replay_roots.specs.declared.state.RootState.{RootState}
-use Rattle.bbm_replay_trees.specs.Told.{notes}
-use Rattle.bbm_replay.specs.ReplayLaws.{Laws}
 use Rattle.bbm_replay.proofs.Moves.{Alike}
-use Rattle.bbm_replay.specs.ReplayRules.{Rules}
-use Rattle.bbm_replay.specs.ReplayStanding.{MayMeet, Meets, Stands, view_of}
-use Rattle.bbm_replay.specs.declared.parts.ReplayState.{ReplayState}
 use Rattle.bbm_replay.proofs.Framing.{stands_next}
 use Rattle.bbm_replay.proofs.Meeting.{fits_all}
 use Rattle.bbm_replay.proofs.TlbiMoves.{after_tlbi}

@@ -1,29 +1,17 @@
 -- Which rule an event breaks, and which limit it reaches, by a view; and what the index answers of pages to attach, in
 -- the words of the rules.
-use Rattle.std.proofs.Common.{◌≡◌, ℕ, ◌≤◌, Bool, true, false, not, ◌&&◌, ◌||◌, nat_le, List, Option, Some, None, Result}
-use Rattle.std.proofs.Common.{Ok, Err, is_some, filter, refl, ◌∙◌, ap}
-use Rattle.std.specs.Option.{option_map_or}
-use Rattle.std.proofs.lemmas.Bool.{le-leb, leb-true}
-use Rattle.bbm_regimes.specs.declared.regime.Which.TheVariants.{Pages}
-use Rattle.bbm_rules.specs.Broken.{Breach, broken}
-use Rattle.bbm_rules.specs.Claims.Trust.{Patterns}
-use Rattle.bbm_rules.specs.Limits.{limit_of}
-use Rattle.bbm_rules.specs.Lists.{if_so, least}
-use Rattle.bbm_rules.specs.Prelude.{Kind, S2, kind_in_world, Heading, Event, Init, Null, Root, Write}
-use Rattle.bbm_rules.specs.Roots.{root_pages}
-use Rattle.bbm_rules.specs.Rules.{bad_kind, break_before_make, global_user, limbo_make, no_lock, not_fresh}
-use Rattle.bbm_rules.specs.Rules.{null_written, page_in_use, rewritten_fresh}
-use Rattle.bbm_rules.specs.declared.rule.Rule.{Rule}
-use Rattle.bbm_rules.specs.declared.rule.Rule.TheVariants.{WrongWorld, NoLock, NullWritten, BreakBeforeMake, LimboMake}
-use Rattle.bbm_rules.specs.declared.rule.Rule.TheVariants.{NotFresh, RewrittenFresh, BadKind, GlobalUser, PageInUse}
-use Rattle.bbm_rules.specs.Tree.{Node}
+use Rattle.bbm_replay.proofs.Common.{Kind, kind_in_world, Rule, WrongWorld, NoLock, NullWritten, BreakBeforeMake}
+use Rattle.bbm_replay.proofs.Common.{LimboMake, NotFresh, RewrittenFresh, BadKind, GlobalUser, PageInUse, TreeFault}
+use Rattle.bbm_replay.proofs.Common.{View, notes, Rules, Told}
+use Rattle.bbm_rules.proofs.Common.{◌≡◌, ℕ, ◌≤◌, Bool, true, false, not, ◌&&◌, ◌||◌, nat_le, List, Option, Some, None}
+use Rattle.bbm_rules.proofs.Common.{Result, Ok, Err, is_some, filter, refl, ◌∙◌, ap, option_map_or, le-leb, leb-true}
+use Rattle.bbm_rules.proofs.Common.{Pages, Breach, Patterns, limit_of, if_so, least, S2, Heading, Event, Init, Null}
+use Rattle.bbm_rules.proofs.Common.{Root, Write, root_pages, bad_kind, break_before_make, global_user, limbo_make}
+use Rattle.bbm_rules.proofs.Common.{no_lock, not_fresh, null_written, page_in_use, rewritten_fresh, Node}
+use Rattle.bbm_rules.specs.Broken.{broken}
 use Rattle.bbm_tree_index.specs.Attaching.{Judges}
-use Rattle.bbm_tree_index.specs.declared.fault.TreeFault.{TreeFault}
 use Rattle.bbm_tree_index.specs.declared.fault.TreeFault.TheVariants as tree
 use Rattle.bbm_replay_trees.specs.Judging.{Judging}
-use Rattle.bbm_replay_trees.specs.Told.{View, notes}
-use Rattle.bbm_replay.specs.ReplayRules.{Rules}
-use Rattle.bbm_replay.specs.ReplayTold.{Told}
 
 -- the rule is the least broken one where it is broken, and else what the others say counts
 abbrev pub found : Rule → Option ℕ → Option Breach → Option Breach

@@ -1,16 +1,9 @@
 -- Pages that leave the trees with their root.
-use Rattle.std.proofs.Common.{◌≡◌, ℕ, Bool, true, false, cond, not, ◌==◌, List, ◌∷◌, Option, Some, None, refl, sym, ◌∙◌}
-use Rattle.std.proofs.Common.{ap}
-use Rattle.bbm_events.specs.Fits.{fits_heading}
-use Rattle.bbm_rules.specs.Broken.{broken, keeps}
-use Rattle.bbm_rules.specs.Claims.Trust.{Patterns}
-use Rattle.bbm_rules.specs.Places.{page_of}
-use Rattle.bbm_rules.specs.Prelude.{Heading, Event, Unroot}
-use Rattle.bbm_rules.specs.Tree.{Node}
-use Rattle.bbm_replay_trees.specs.Told.{View, kept}
-use Rattle.bbm_replay.specs.ReplayLaws.{Laws}
+use Rattle.bbm_replay.proofs.Common.{View, kept, Laws, Told}
+use Rattle.bbm_rules.proofs.Common.{◌≡◌, ℕ, Bool, true, false, cond, not, ◌==◌, List, ◌∷◌, Option, Some, None, refl}
+use Rattle.bbm_rules.proofs.Common.{sym, ◌∙◌, ap, fits_heading, keeps, Patterns, page_of, Heading, Event, Unroot, Node}
+use Rattle.bbm_rules.specs.Broken.{broken}
 use Rattle.bbm_replay.proofs.Moves.{Leaves}
-use Rattle.bbm_replay.specs.ReplayTold.{Told}
 use Rattle.bbm_replay.proofs.Aparts.{apart_leaves}
 use Rattle.bbm_replay.proofs.Entries.{carried, fit_more, keeps_more}
 use Rattle.bbm_replay.proofs.Quiet.{tracked_stay}

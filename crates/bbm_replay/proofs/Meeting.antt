@@ -1,27 +1,18 @@
 -- Events that concern the roots, registers and locks alone.
-use Rattle.std.proofs.Common.{◌≡◌, ℕ, Bool, true, false, ◌||◌, ◌==◌, nat_lt, List, [], ◌∷◌, Option, None, Result}
-use Rattle.std.proofs.Common.{Ok, Err, OnOk, OnErr, refl, sym, ◌∙◌, ap, subst}
-use Rattle.std.proofs.lemmas.Bool.{and_parts, eqb-true}
+use Rattle.bbm_replay.proofs.Common.{StepFault, Broken, Limit, NoMemory, RootState, AllFit, Laws, MayMeet, Meets}
+use Rattle.bbm_replay.proofs.Common.{Stands, view_of, ReplayState}
+use Rattle.bbm_rules.proofs.Common.{◌≡◌, ℕ, Bool, true, false, ◌||◌, ◌==◌, nat_lt, List, [], ◌∷◌, Option, None, Result}
+use Rattle.bbm_rules.proofs.Common.{Ok, Err, refl, sym, ◌∙◌, ap, subst, and_parts, eqb-true, Which, fits_heading}
+use Rattle.bbm_rules.proofs.Common.{is_page, Answers, rewrites, Breach, Patterns, limit_of, is_null, Heading, Event}
+use Rattle.bbm_rules.proofs.Common.{Init, Null, Root, Unroot, Write, Dsb, Dmb, Isb, Tlbi, Msr, Lock, Unlock}
+use Rattle.std.proofs.Common.{OnOk, OnErr}
 use Rattle.bbm_regimes.specs.declared.regime.Reg.{Reg}
-use Rattle.bbm_regimes.specs.declared.regime.Which.{Which}
-use Rattle.bbm_events.specs.Fits.{fits_heading, is_page}
-use Rattle.bbm_rules.specs.Answers.{Answers, rewrites, takes_no_memory}
-use Rattle.bbm_rules.specs.Broken.{Breach, broken}
-use Rattle.bbm_rules.specs.Claims.Trust.{Patterns}
-use Rattle.bbm_rules.specs.Limits.{limit_of}
-use Rattle.bbm_rules.specs.Pages.{is_null}
-use Rattle.bbm_rules.specs.Prelude.{Heading, Event, Init, Null, Root, Unroot, Write, Dsb, Dmb, Isb, Tlbi, Msr, Lock}
-use Rattle.bbm_rules.specs.Prelude.{Unlock}
-use Rattle.bbm_rules.specs.declared.step_fault.StepFault.{StepFault}
-use Rattle.bbm_rules.specs.declared.step_fault.StepFault.TheVariants.{Broken, Limit, NoMemory}
+use Rattle.bbm_rules.specs.Answers.{takes_no_memory}
+use Rattle.bbm_rules.specs.Broken.{broken}
 use Rattle.bbm_replay_roots.specs.Bridge.{has_null_base}
 use Rattle.bbm_replay_roots.specs.RootStateStands as roots
-use Rattle.bbm_replay_roots.specs.declared.state.RootState.{RootState}
-use Rattle.bbm_replay_trees.specs.Told.{AllFit}
-use Rattle.bbm_replay.specs.ReplayLaws.{Laws}
 use Rattle.bbm_replay.proofs.Moves.{is_quiet}
-use Rattle.bbm_replay.specs.ReplayStanding.{IsFrugal, MayMeet, Meets, Stands, view_of}
-use Rattle.bbm_replay.specs.declared.parts.ReplayState.{ReplayState}
+use Rattle.bbm_replay.specs.ReplayStanding.{IsFrugal}
 use Rattle.bbm_replay.proofs.Quiet.{after_quiet}
 
 -- the event fits the header of every history that the parts stand for

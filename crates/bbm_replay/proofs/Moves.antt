@@ -1,20 +1,9 @@
 -- What the calls of an event change in a view. Source: project's own choice.
+use Rattle.bbm_replay.proofs.Common.{Completed, Noted, Published, is_broken, waits, IsIdle, Pends, EntryState}
+use Rattle.bbm_replay.proofs.Common.{marks_of_state, state_from, Attached, View, kept}
+use Rattle.bbm_rules.proofs.Common.{Core, PeMask, Cover, page_of, Barrier, Event, Dmb, Isb, Msr, Lock, Unlock, Node}
 use Rattle.std.specs.Prelude.{◌≡◌, ℕ, ◌+◌, ◌⊎◌, ◌↔◌, Bool, true, false, not, ◌&&◌, ◌||◌, ◌==◌, List, Option, Some, None}
 use Rattle.std.specs.Prelude.{is_none, is_some, nat_eq, if◌then◌else◌}
-use Rattle.bbm_descriptor.specs.declared.desc.Core.{Core}
-use Rattle.bbm_entry_state.specs.EntryCalls.{Completed, Noted, Published}
-use Rattle.bbm_entry_state.specs.Points.{is_broken, waits}
-use Rattle.bbm_entry_state.specs.EntryStanding.{IsIdle}
-use Rattle.bbm_entry_state.specs.declared.pending.Pends.{Pends}
-use Rattle.bbm_entry_state.specs.declared.state.EntryState.{EntryState}
-use Rattle.bbm_place_map.specs.States.{marks_of_state, state_from}
-use Rattle.bbm_regimes.specs.declared.pe.PeMask.{PeMask}
-use Rattle.bbm_tlbi_scope.specs.declared.entry.Cover.{Cover}
-use Rattle.bbm_rules.specs.Places.{page_of}
-use Rattle.bbm_rules.specs.Prelude.{Barrier, Event, Dmb, Isb, Msr, Lock, Unlock}
-use Rattle.bbm_rules.specs.Tree.{Node}
-use Rattle.bbm_tree_index.specs.Paths.{Attached}
-use Rattle.bbm_replay_trees.specs.Told.{View, kept}
 
 -- the same waits
 abbrev pub Alike : Pends → Pends → Type 0

@@ -1,18 +1,10 @@
 -- A page that is initialised, or becomes a null page.
-use Rattle.std.proofs.Common.{◌≡◌, ℕ, Bool, true, false, cond, ◌==◌, ◌||◌, List, ◌∷◌, Option, Some, None, refl, sym}
-use Rattle.std.proofs.Common.{◌∙◌, ap}
-use Rattle.std.proofs.lemmas.Bool.{ne_eqb}
-use Rattle.bbm_entry_state.specs.declared.marks.Marks.{Marks}
-use Rattle.bbm_events.specs.Fits.{fits_heading}
+use Rattle.bbm_replay.proofs.Common.{Marks, View, Laws, Told}
+use Rattle.bbm_rules.proofs.Common.{◌≡◌, ℕ, Bool, true, false, cond, ◌==◌, ◌||◌, List, ◌∷◌, Option, Some, None, refl}
+use Rattle.bbm_rules.proofs.Common.{sym, ◌∙◌, ap, ne_eqb, fits_heading, Patterns, page_of, Heading, Event, Init, Null}
+use Rattle.bbm_rules.proofs.Common.{Node}
 use Rattle.bbm_rules.specs.Broken.{broken}
-use Rattle.bbm_rules.specs.Claims.Trust.{Patterns}
-use Rattle.bbm_rules.specs.Places.{page_of}
-use Rattle.bbm_rules.specs.Prelude.{Heading, Event, Init, Null}
-use Rattle.bbm_rules.specs.Tree.{Node}
-use Rattle.bbm_replay_trees.specs.Told.{View}
-use Rattle.bbm_replay.specs.ReplayLaws.{Laws}
 use Rattle.bbm_replay.proofs.Moves.{Begins, Nullifies}
-use Rattle.bbm_replay.specs.ReplayTold.{Told}
 use Rattle.bbm_replay.proofs.Aparts.{apart_begins, apart_nullifies}
 use Rattle.bbm_replay.proofs.Entries.{carried, fit_more, keeps_more}
 use Rattle.bbm_replay.proofs.Quiet.{nodes_stay, tracked_stay}

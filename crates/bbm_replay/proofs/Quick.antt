@@ -1,39 +1,19 @@
 -- A write at a place of a tree that isn't broken, where it attaches nothing.
-use Rattle.std.proofs.Common.{◌≡◌, ℕ, Bool, true, false, ◌&&◌, ◌==◌, List, Option, Some, None, is_some, option_and_then}
-use Rattle.std.proofs.Common.{Ok, refl, sym, ◌∙◌, ap, subst, if◌then◌else◌}
-use Rattle.std.specs.Option.{option_map_or}
-use Rattle.std.proofs.lemmas.Bool.{eqb-true, false≢true, true≢false}
-use Rattle.bbm_descriptor.specs.Descriptor.{core_of, differ}
-use Rattle.bbm_descriptor.specs.declared.desc.Core.{Core}
-use Rattle.bbm_entry_state.specs.EntryCalls.{Written}
-use Rattle.bbm_entry_state.specs.Points.{core_in, waits}
-use Rattle.bbm_entry_state.specs.EntryStanding.{IsIdle}
-use Rattle.bbm_entry_state.specs.declared.marks.Marks.{Marks}
-use Rattle.bbm_entry_state.specs.declared.pending.Pends.{Pends}
-use Rattle.bbm_entry_state.specs.declared.state.EntryState.{EntryState}
-use Rattle.bbm_entry_state.specs.declared.state.EntryState.TheVariants.{Live}
+use Rattle.bbm_replay.proofs.Common.{Written, core_in, waits, IsIdle, Marks, Pends, EntryState, Live, Puts, state_from}
+use Rattle.bbm_replay.proofs.Common.{same_kind, limbo_by, Path, attached_next, is_contiguous_core, is_global_core, Laws}
+use Rattle.bbm_replay.proofs.Common.{Rules, Clears, Holds, IsAt, MayMeet, Meets, SameFrame, view_of, state_of}
+use Rattle.bbm_replay.proofs.Common.{ReplayState}
+use Rattle.bbm_rules.proofs.Common.{◌≡◌, ℕ, Bool, true, false, ◌&&◌, ◌==◌, List, Option, Some, None, is_some}
+use Rattle.bbm_rules.proofs.Common.{option_and_then, Ok, refl, sym, ◌∙◌, ap, subst, if◌then◌else◌, option_map_or}
+use Rattle.bbm_rules.proofs.Common.{eqb-true, false≢true, core_of, differ, Core, if_so, page_of, Ttbr0, Heading, Event}
+use Rattle.bbm_rules.proofs.Common.{Write, lock_of, lacks, and-false}
+use Rattle.std.proofs.lemmas.Bool.{true≢false}
 use Rattle.bbm_place_map.specs.Map.{marks_at, pends_at, value_at}
-use Rattle.bbm_place_map.specs.MapCalls.{Leaves, Puts}
-use Rattle.bbm_place_map.specs.States.{state_from}
-use Rattle.bbm_regimes.specs.SameRegister.{same_kind}
-use Rattle.bbm_rules.specs.Lists.{if_so}
-use Rattle.bbm_rules.specs.Places.{page_of}
-use Rattle.bbm_rules.specs.Prelude.{Ttbr0, Heading, Event, Write}
-use Rattle.bbm_rules.specs.Roots.{lock_of}
-use Rattle.bbm_rules.specs.Rules.{lacks}
-use Rattle.bbm_tree_index.specs.HeldCores.{limbo_by}
+use Rattle.bbm_place_map.specs.MapCalls.{Leaves}
 use Rattle.bbm_tree_index.specs.Index.{node_in}
-use Rattle.bbm_tree_index.specs.declared.role.Path.{Path}
 use Rattle.bbm_replay_roots.specs.RootStateStands as roots
-use Rattle.bbm_replay.specs.Leaves.{attached_next, is_contiguous_core, is_global_core}
-use Rattle.bbm_replay.specs.ReplayLaws.{Laws}
-use Rattle.bbm_replay.specs.ReplayRules.{Rules}
-use Rattle.bbm_replay.specs.ReplayStanding.{Clears, Holds, IsAt, MayMeet, Meets, SameFrame, view_of}
-use Rattle.bbm_replay.specs.ReplayTold.{state_of}
-use Rattle.bbm_replay.specs.declared.parts.ReplayState.{ReplayState}
 use Rattle.bbm_replay.proofs.Growing.{core_whole}
 use Rattle.bbm_replay.proofs.Inside.{entry_clear, plain_ok}
-use mathlib.Core.Bool.{and-false}
 
 -- a valid value makes it live
 made : (old : EntryState) (pe : ℕ) (core : Core) → Written old pe (Some core) (Live core)

@@ -1,21 +1,13 @@
 -- Events that change nothing in a view.
-use Rattle.std.proofs.Common.{◌≡◌, ℕ, true, false, List, ◌∷◌, length, None, refl, sym, ◌∙◌, true≢false}
-use Rattle.bbm_events.specs.Fits.{fits_heading}
-use Rattle.bbm_rules.specs.Attach.{attached_by}
-use Rattle.bbm_rules.specs.Broken.{broken, keeps}
-use Rattle.bbm_rules.specs.Changes.{changes}
-use Rattle.bbm_rules.specs.Claims.Trust.{Patterns}
-use Rattle.bbm_rules.specs.Notes.{Noted}
-use Rattle.bbm_rules.specs.Pages.{initialised}
-use Rattle.bbm_rules.specs.Prelude.{Heading, Event, Init, Null, Root, Unroot, Write, Dsb, Dmb, Isb, Tlbi, Msr, Lock}
-use Rattle.bbm_rules.specs.Prelude.{Unlock}
-use Rattle.bbm_replay_entries.specs.EntryEvents.{touches}
+use Rattle.bbm_replay.proofs.Common.{touches, View, Laws, Told, state_of, waiting}
+use Rattle.bbm_rules.proofs.Common.{◌≡◌, ℕ, true, false, List, ◌∷◌, length, None, refl, sym, ◌∙◌, true≢false}
+use Rattle.bbm_rules.proofs.Common.{fits_heading, attached_by, keeps, changes, Patterns, Noted, initialised, Heading}
+use Rattle.bbm_rules.proofs.Common.{Event, Init, Null, Root, Unroot, Write, Dsb, Dmb, Isb, Tlbi, Msr, Lock, Unlock}
+use Rattle.bbm_rules.specs.Broken.{broken}
 use Rattle.bbm_replay_trees.specs.TreeEvents.{leaves_trees}
-use Rattle.bbm_replay_trees.specs.Told.{SameKnown, SameNull, SameValues, View}
+use Rattle.bbm_replay_trees.specs.Told.{SameKnown, SameNull, SameValues}
 use Rattle.bbm_replay_trees.specs.Told as told
-use Rattle.bbm_replay.specs.ReplayLaws.{Laws}
 use Rattle.bbm_replay.proofs.Moves.{Same, SameTracked, is_quiet}
-use Rattle.bbm_replay.specs.ReplayTold.{Told, state_of, waiting}
 use Rattle.bbm_replay.proofs.Aparts.{apart_same}
 use Rattle.bbm_replay.proofs.Entries.{carried, entry_same, fit_more, keeps_more, state_same}
 

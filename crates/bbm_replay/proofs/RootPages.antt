@@ -1,20 +1,13 @@
 -- The pages of a root: they lie below 2 ^ 48, and where none is found that isn't fresh, each is fresh.
-use Rattle.std.proofs.Common.{◌≡◌, ℕ, zero, suc, ◌+◌, ◌*◌, ◌%◌, ◌^◌, ◌<◌, ◌≤◌, ◌⊎◌, Bool, true, false, cond, not, ◌&&◌}
-use Rattle.std.proofs.Common.{◌||◌, ◌==◌, nat_le, nat_lt, List, [], ◌∷◌, length, Contains, slice_index_or, None, filter}
-use Rattle.std.proofs.Common.{refl, sym, ◌∙◌, ap, subst, inl, inr, arith, not-suc-le-zero, le_of_suc-le-suc}
-use Rattle.std.proofs.lemmas.Bool.{and_parts, eqb-true, ltb-true}
-use Rattle.bbm_lemmas.proofs.Tautologies.{proved}
-use Rattle.bbm_lemmas.proofs.Tautologies.Claim.{If, Is}
-use Rattle.bbm_regimes.specs.World.{are_s2_pages, input_pages, page_count, world_ok}
-use Rattle.bbm_regimes.specs.declared.regime.Kind.{Kind}
-use Rattle.bbm_regimes.specs.declared.regime.Kind.TheVariants.{El2, S2, Ttbr0, Ttbr1}
+use Rattle.bbm_replay.proofs.Common.{input_pages, El2, S2, Ttbr0, Ttbr1, Heading, third_true}
+use Rattle.bbm_rules.proofs.Common.{◌≡◌, ℕ, zero, suc, ◌+◌, ◌*◌, ◌%◌, ◌^◌, ◌<◌, ◌≤◌, ◌⊎◌, Bool, true, false, cond, not}
+use Rattle.bbm_rules.proofs.Common.{◌&&◌, ◌||◌, ◌==◌, nat_le, nat_lt, List, [], ◌∷◌, length, Contains, slice_index_or}
+use Rattle.bbm_rules.proofs.Common.{None, filter, refl, sym, ◌∙◌, ap, subst, inl, inr, arith, not-suc-le-zero}
+use Rattle.bbm_rules.proofs.Common.{le_of_suc-le-suc, and_parts, eqb-true, ltb-true, proved, If, Is, are_s2_pages}
+use Rattle.bbm_rules.proofs.Common.{page_count, world_ok, Kind, is_page, is_root_page, are_pes, heading_ok, is_version}
+use Rattle.bbm_rules.proofs.Common.{may_share, least, Node, nodes_of_pages}
 use Rattle.bbm_regimes.specs.declared.regime.World.{World}
 use Rattle.bbm_regimes.specs.declared.regime.World.TheVariants.{Hyp, Kernel}
-use Rattle.bbm_events.specs.Fits.{is_page, is_root_page}
-use Rattle.bbm_events.specs.Heading.{Heading, are_pes, heading_ok, is_version, may_share}
-use Rattle.bbm_rules.specs.Lists.{least}
-use Rattle.bbm_rules.specs.Tree.{Node, nodes_of_pages}
-use Rattle.bbm_lemmas.proofs.Bools.{third_true}
 
 last4 : (a b c d : Bool) → (a && b && c && d) ≡ true → d ≡ true
 last4 = proved 4 (λ a b c d. If (Is (a && b && c && d) true) (Is d true)) refl

@@ -1,46 +1,29 @@
 -- A root that is declared, at the parts.
-use Rattle.std.proofs.Common.{◌≡◌, ℕ, Bool, true, false, cond, not, List, [], ◌∷◌, length, Option, Some}
-use Rattle.std.proofs.Common.{None, filter, Result, Ok, Err, refl, sym, ◌∙◌, ap, subst, nat_le}
-use Rattle.bbm_entry_state.specs.EntryStanding.{IsIdle}
-use Rattle.bbm_regimes.specs.declared.regime.Which.TheVariants.{Roots}
-use Rattle.bbm_rules.specs.Answers.{Answers}
+use Rattle.bbm_replay.proofs.Common.{IsIdle, Kind, kind_in_world, WrongWorld, NotFresh, BadKind, GlobalUser, PageInUse}
+use Rattle.bbm_replay.proofs.Common.{StepFault, Broken, Limit, NoMemory, PlaceMap, TreeIndex, TreeFault, RootState}
+use Rattle.bbm_replay.proofs.Common.{notes, step_fault, Laws, Rules, MayMeet, Meets, SameFrame, Stands, view_of}
+use Rattle.bbm_replay.proofs.Common.{ReplayState, third_true}
+use Rattle.bbm_rules.proofs.Common.{◌≡◌, ℕ, Bool, true, false, cond, not, List, [], ◌∷◌, length, Option, Some, None}
+use Rattle.bbm_rules.proofs.Common.{filter, Result, Ok, Err, refl, sym, ◌∙◌, ap, subst, nat_le, Roots, Answers}
+use Rattle.bbm_rules.proofs.Common.{Patterns, limit_of, if_so, least, Heading, Event, Root, fits_heading, is_pe}
+use Rattle.bbm_rules.proofs.Common.{is_root_lock, is_root_page, pages_from, root_pages, roots_of, bad_kind, global_user}
+use Rattle.bbm_rules.proofs.Common.{not_fresh, Node, nodes_of_root}
 use Rattle.bbm_rules.specs.Broken.{broken}
-use Rattle.bbm_rules.specs.Claims.Trust.{Patterns}
-use Rattle.bbm_rules.specs.Limits.{limit_of}
-use Rattle.bbm_rules.specs.Lists.{if_so, least}
-use Rattle.bbm_rules.specs.Prelude.{Kind, kind_in_world, Heading, Event, Root}
-use Rattle.bbm_events.specs.Fits.{fits_heading, is_pe, is_root_lock, is_root_page}
-use Rattle.bbm_rules.specs.Roots.{page_count, pages_from, root_pages, roots_of}
-use Rattle.bbm_rules.specs.Rules.{bad_kind, global_user, not_fresh}
-use Rattle.bbm_rules.specs.Tree.{Node, nodes_of_root}
-use Rattle.bbm_rules.specs.declared.rule.Rule.TheVariants.{WrongWorld, NotFresh, BadKind, GlobalUser, PageInUse}
-use Rattle.bbm_rules.specs.declared.step_fault.StepFault.{StepFault}
-use Rattle.bbm_rules.specs.declared.step_fault.StepFault.TheVariants.{Broken, Limit, NoMemory}
+use Rattle.bbm_rules.specs.Roots.{page_count}
 use Rattle.bbm_place_map.specs.Map.{marks_at, pends_at, value_at}
-use Rattle.bbm_place_map.specs.declared.map.PlaceMap.{PlaceMap}
 use Rattle.bbm_tree_index.specs.Index.{fresh_in, heading_of}
 use Rattle.bbm_tree_index.specs.Attaching as index
 use Rattle.bbm_tree_index.specs.IndexChanges as changes
 use Rattle.bbm_tree_index.specs.Paths.{starts_of}
-use Rattle.bbm_tree_index.specs.declared.index.TreeIndex.{TreeIndex}
 use Rattle.bbm_tree_index.specs.declared.role.Attach.{Attach}
-use Rattle.bbm_tree_index.specs.declared.fault.TreeFault.{TreeFault}
 use Rattle.bbm_tree_index.specs.declared.fault.TreeFault.TheVariants as tree
 use Rattle.bbm_replay_roots.specs.RootStateStands as roots
-use Rattle.bbm_replay_roots.specs.declared.state.RootState.{RootState}
-use Rattle.bbm_replay_trees.specs.Told.{notes}
-use Rattle.bbm_replay.specs.ReplayFaults.{step_fault}
-use Rattle.bbm_replay.specs.ReplayLaws.{Laws}
 use Rattle.bbm_replay.proofs.Moves.{Attaches, SameMap, SameTracked}
-use Rattle.bbm_replay.specs.ReplayRules.{Rules}
-use Rattle.bbm_replay.specs.ReplayStanding.{MayMeet, Meets, SameFrame, Stands, view_of}
-use Rattle.bbm_replay.specs.declared.parts.ReplayState.{ReplayState}
 use Rattle.bbm_replay.proofs.Framing.{stands_next}
 use Rattle.bbm_replay.proofs.Growing.{after_root}
 use Rattle.bbm_replay.proofs.Judging.{Verdict, passes, root_is, stops, verdict, where_false, where_true}
 use Rattle.bbm_replay.proofs.Meeting.{fits_all, frugal_else, stands_same, with_roots}
 use Rattle.bbm_replay.proofs.Starting.{meets_broken}
-use Rattle.bbm_lemmas.proofs.Bools.{third_true}
 
 -- the nodes of the pages of a root
 abbrev pub starts : Heading → Kind → ℕ → List Node

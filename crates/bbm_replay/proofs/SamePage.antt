@@ -1,30 +1,13 @@
 -- A TLBI that names no pages covers the broken places of a page alike.
-use Rattle.std.proofs.Common.{◌≡◌, ℕ, cond, true, false, List, Option, Some, None, is_some, refl, sym, ◌∙◌, ap}
-use Rattle.std.proofs.Common.{true≢false}
-use Rattle.bbm_descriptor.specs.Descriptor.{core_of, desc_of}
-use Rattle.bbm_entry_state.specs.declared.marks.Marks.{Marks}
+use Rattle.bbm_replay.proofs.Common.{Marks, PlaceMap, lacks_vmid, TreeIndex, NamedTlbi, RootState, notes, MayBeIssued}
+use Rattle.bbm_rules.proofs.Common.{◌≡◌, ℕ, cond, true, false, List, Option, Some, None, is_some, refl, sym, ◌∙◌, ap}
+use Rattle.bbm_rules.proofs.Common.{true≢false, core_of, desc_of, has_page, fits_place, Cover, PlaceView, Patterns}
+use Rattle.bbm_rules.proofs.Common.{cover_at, is_global, events_of, page_of, Heading, Event, TlbiOp, Tlbi, tag_set}
+use Rattle.bbm_rules.proofs.Common.{tags_of, Node, held_at, is_childless, next_of, region_of}
 use Rattle.bbm_place_map.specs.Map.{marks_at, value_at}
-use Rattle.bbm_place_map.specs.declared.map.PlaceMap.{PlaceMap}
-use Rattle.bbm_tlbi_scope.specs.Numbers.{lacks_vmid}
-use Rattle.bbm_tlbi_scope.specs.Operations.{has_page}
 use Rattle.bbm_tlbi_scope.specs.ScopeCovers as scopes
-use Rattle.bbm_tlbi_scope.specs.ScopeCovers.{fits_place}
-use Rattle.bbm_tlbi_scope.specs.declared.entry.Cover.{Cover}
 use Rattle.bbm_tlbi_scope.specs.declared.entry.Cover.TheVariants.{None as NoCover}
-use Rattle.bbm_tlbi_scope.specs.declared.entry.PlaceView.{PlaceView}
 use Rattle.bbm_tree_index.specs.Index.{node_in}
-use Rattle.bbm_tree_index.specs.declared.index.TreeIndex.{TreeIndex}
-use Rattle.bbm_rules.specs.Claims.Trust.{Patterns}
-use Rattle.bbm_rules.specs.Covers.{cover_at, is_global}
-use Rattle.bbm_rules.specs.Notes.{events_of}
-use Rattle.bbm_rules.specs.Places.{page_of}
-use Rattle.bbm_rules.specs.Prelude.{Heading, Event, TlbiOp, Tlbi}
-use Rattle.bbm_rules.specs.Tags.{tag_set, tags_of}
-use Rattle.bbm_rules.specs.Tree.{Node, held_at, is_childless, next_of, region_of}
-use Rattle.bbm_replay_roots.specs.declared.named.NamedTlbi.{NamedTlbi}
-use Rattle.bbm_replay_roots.specs.declared.state.RootState.{RootState}
-use Rattle.bbm_replay_trees.specs.Told.{notes}
-use Rattle.bbm_replay.specs.Covering.{MayBeIssued}
 use Rattle.bbm_replay.proofs.Asking.{unpaged}
 use Rattle.bbm_replay.proofs.Covered.{core_of_marks, covered, held_of}
 

@@ -1,30 +1,18 @@
 -- A DSB at the parts.
-use Rattle.std.proofs.Common.{◌≡◌, ℕ, Bool, true, false, ◌&&◌, List, ◌∷◌, Option, Some, None, is_some, nat_eq}
-use Rattle.std.proofs.Common.{Ok, refl, sym, ◌∙◌, ap, subst}
-use Rattle.bbm_barriers.specs.Options.{is_non}
-use Rattle.bbm_descriptor.specs.declared.desc.Core.{Core}
+use Rattle.bbm_replay.proofs.Common.{Completed, Published, core_in, waits, Pends, Marks, is_table, state_from, PlaceMap}
+use Rattle.bbm_replay.proofs.Common.{Kind, View, is_held_by, Laws, MayMeet, Meets, SameFrame, Stands, view_of}
+use Rattle.bbm_replay.proofs.Common.{ReplayState}
+use Rattle.bbm_rules.proofs.Common.{◌≡◌, ℕ, Bool, true, false, ◌&&◌, List, ◌∷◌, Option, Some, None, is_some, nat_eq, Ok}
+use Rattle.bbm_rules.proofs.Common.{refl, sym, ◌∙◌, ap, subst, is_non, Core, Cover, Patterns, limit_of, page_of}
+use Rattle.bbm_rules.proofs.Common.{Barrier, Heading, Event, Dsb}
 use Rattle.bbm_descriptor.specs.declared.desc.Core.TheVariants.{Table, Leaf}
-use Rattle.bbm_entry_state.specs.EntryCalls.{Completed, Published}
-use Rattle.bbm_entry_state.specs.Points.{core_in, waits}
-use Rattle.bbm_entry_state.specs.declared.pending.Pends.{Pends}
-use Rattle.bbm_tlbi_scope.specs.declared.entry.Cover.{Cover}
-use Rattle.bbm_entry_state.specs.declared.marks.Marks.{Marks}
 use Rattle.bbm_place_map.specs.MapCalls.{lost_table}
-use Rattle.bbm_place_map.specs.Each.{is_table, loses_table}
+use Rattle.bbm_place_map.specs.Each.{loses_table}
 use Rattle.bbm_place_map.specs.Map.{is_tracked, marks_at, pends_at, value_at}
-use Rattle.bbm_place_map.specs.States.{state_from}
-use Rattle.bbm_place_map.specs.declared.map.PlaceMap.{PlaceMap}
 use Rattle.bbm_rules.specs.Broken.{broken}
-use Rattle.bbm_rules.specs.Claims.Trust.{Patterns}
-use Rattle.bbm_rules.specs.Limits.{limit_of}
-use Rattle.bbm_rules.specs.Places.{page_of}
-use Rattle.bbm_rules.specs.Prelude.{Barrier, Kind, Heading, Event, Dsb}
 use Rattle.bbm_replay_roots.specs.RootStateStands as roots
-use Rattle.bbm_replay_trees.specs.Told.{View, core_at, is_held_by, next_in}
-use Rattle.bbm_replay.specs.ReplayLaws.{Laws}
+use Rattle.bbm_replay_trees.specs.Told.{core_at, next_in}
 use Rattle.bbm_replay.proofs.Moves.{Completes, Hears, Leaves}
-use Rattle.bbm_replay.specs.ReplayStanding.{MayMeet, Meets, SameFrame, Stands, view_of}
-use Rattle.bbm_replay.specs.declared.parts.ReplayState.{ReplayState}
 use Rattle.bbm_replay.proofs.DsbMoves.{after_dsb, all_held, whole_stays}
 use Rattle.bbm_replay.proofs.Framing.{stands_next}
 use Rattle.bbm_replay.proofs.Meeting.{fits_all}

@@ -1,31 +1,17 @@
 -- A page that is made zero, or declared null, at the parts.
-use Rattle.std.proofs.Common.{◌≡◌, ℕ, ◌≤◌, Bool, true, false, ◌||◌, List, ◌∷◌, Option, Some, None, Ok, Err, is_some}
-use Rattle.std.proofs.Common.{refl, sym, ◌∙◌, ap, subst, true≢false}
-use Rattle.bbm_regimes.specs.declared.regime.Which.{Which}
-use Rattle.bbm_regimes.specs.declared.regime.Which.TheVariants.{Pages}
-use Rattle.bbm_rules.specs.Answers.{Answers}
+use Rattle.bbm_replay.proofs.Common.{kind_in_world, Rule, BadKind, GlobalUser, NotFresh, PageInUse, WrongWorld}
+use Rattle.bbm_replay.proofs.Common.{StepFault, Broken, Limit, NoMemory, RootState, TreeFault, step_fault, Laws, Rules}
+use Rattle.bbm_replay.proofs.Common.{MayMeet, Meets, SameFrame, Stands, view_of, ReplayState}
+use Rattle.bbm_rules.proofs.Common.{◌≡◌, ℕ, ◌≤◌, Bool, true, false, ◌||◌, List, ◌∷◌, Option, Some, None, Ok, Err}
+use Rattle.bbm_rules.proofs.Common.{is_some, refl, sym, ◌∙◌, ap, subst, true≢false, Which, Pages, Answers, Patterns}
+use Rattle.bbm_rules.proofs.Common.{limit_of, S2, Heading, Event, Init, Null, Node}
 use Rattle.bbm_rules.specs.Broken.{broken}
-use Rattle.bbm_rules.specs.Claims.Trust.{Patterns}
-use Rattle.bbm_rules.specs.Limits.{limit_of}
-use Rattle.bbm_rules.specs.Prelude.{S2, kind_in_world, Heading, Event, Init, Null}
-use Rattle.bbm_rules.specs.declared.rule.Rule.{Rule}
-use Rattle.bbm_rules.specs.declared.rule.Rule.TheVariants.{BadKind, GlobalUser, NotFresh, PageInUse, WrongWorld}
-use Rattle.bbm_rules.specs.declared.step_fault.StepFault.{StepFault}
-use Rattle.bbm_rules.specs.declared.step_fault.StepFault.TheVariants.{Broken, Limit, NoMemory}
 use Rattle.bbm_place_map.specs.Map.{value_at}
 use Rattle.bbm_tree_index.specs.Index.{fresh_in, known_in, node_in, null_in, pages_in}
 use Rattle.bbm_replay_roots.specs.RootStateStands as roots
-use Rattle.bbm_replay_roots.specs.declared.state.RootState.{RootState}
 use Rattle.bbm_replay_trees.specs.Told.{is_at}
-use Rattle.bbm_rules.specs.Tree.{Node}
-use Rattle.bbm_tree_index.specs.declared.fault.TreeFault.{TreeFault}
 use Rattle.bbm_tree_index.specs.declared.fault.TreeFault.TheVariants as tree
-use Rattle.bbm_replay.specs.ReplayFaults.{step_fault}
-use Rattle.bbm_replay.specs.ReplayLaws.{Laws}
 use Rattle.bbm_replay.proofs.Moves.{Begins, Nullifies, Same}
-use Rattle.bbm_replay.specs.ReplayRules.{Rules}
-use Rattle.bbm_replay.specs.ReplayStanding.{MayMeet, Meets, SameFrame, Stands, view_of}
-use Rattle.bbm_replay.specs.declared.parts.ReplayState.{ReplayState}
 use Rattle.bbm_replay.proofs.Framing.{stands_next, stands_still}
 use Rattle.bbm_replay.proofs.Judging.{init_free, init_limit, init_no_limit, init_used, null_free, null_used, null_wrong}
 use Rattle.bbm_replay.proofs.Meeting.{fits_all, frugal_else}

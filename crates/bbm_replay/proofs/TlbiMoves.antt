@@ -1,27 +1,12 @@
 -- TLBIs.
-use Rattle.std.proofs.Common.{◌≡◌, ℕ, ◌<◌, Bool, true, false, ◌&&◌, nat_eq, List, ◌∷◌, Option, Some, None, is_some}
-use Rattle.std.proofs.Common.{refl, sym, ◌∙◌, ap, subst, inl}
-use Rattle.bbm_descriptor.specs.Descriptor.{core_of}
-use Rattle.bbm_entry_state.specs.EntryCalls.{Noted}
-use Rattle.bbm_entry_state.specs.Points.{is_broken}
-use Rattle.bbm_entry_state.specs.declared.marks.Marks.{Marks}
-use Rattle.bbm_entry_state.specs.declared.state.EntryState.{EntryState}
+use Rattle.bbm_replay.proofs.Common.{Noted, is_broken, Marks, EntryState, EntryStands, View, notes, Laws, Told}
+use Rattle.bbm_replay.proofs.Common.{state_of, waiting}
+use Rattle.bbm_rules.proofs.Common.{◌≡◌, ℕ, ◌<◌, Bool, true, false, ◌&&◌, nat_eq, List, ◌∷◌, Option, Some, None}
+use Rattle.bbm_rules.proofs.Common.{is_some, refl, sym, ◌∙◌, ap, subst, inl, core_of, PeMask, operation, fits_heading}
+use Rattle.bbm_rules.proofs.Common.{Patterns, cover_at, page_of, Heading, Event, Tlbi, TlbiOp, reaches, Node}
 use Rattle.bbm_regimes.specs.PeMask.{pe_in}
-use Rattle.bbm_regimes.specs.declared.pe.PeMask.{PeMask}
-use Rattle.bbm_tlbi_scope.specs.Operations.{operation}
-use Rattle.bbm_events.specs.Fits.{fits_heading}
 use Rattle.bbm_rules.specs.Broken.{broken}
-use Rattle.bbm_rules.specs.Claims.Trust.{Patterns}
-use Rattle.bbm_rules.specs.Covers.{cover_at}
-use Rattle.bbm_rules.specs.Places.{page_of}
-use Rattle.bbm_rules.specs.Prelude.{Heading, Event, Tlbi, TlbiOp}
-use Rattle.bbm_rules.specs.Reach.{reaches}
-use Rattle.bbm_rules.specs.Tree.{Node}
-use Rattle.bbm_replay_entries.specs.EntryStands.{EntryStands}
-use Rattle.bbm_replay_trees.specs.Told.{View, notes}
-use Rattle.bbm_replay.specs.ReplayLaws.{Laws}
 use Rattle.bbm_replay.proofs.Moves.{Issues}
-use Rattle.bbm_replay.specs.ReplayTold.{Told, state_of, waiting}
 use Rattle.bbm_replay.proofs.DsbMoves.{broken_marks, same_state}
 use Rattle.bbm_replay.proofs.Aparts.{apart_same}
 use Rattle.bbm_replay.proofs.Entries.{entry_same, fit_more, keeps_more, some_pe, state_same}

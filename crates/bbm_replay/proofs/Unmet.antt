@@ -1,52 +1,26 @@
 -- A broken place that isn't met on the way down to an input page isn't covered by a TLBI of that page.
-use Rattle.std.proofs.Common.{◌≡◌, ℕ, zero, suc, ◌+◌, ◌-◌, ◌*◌, ◌<◌, ◌≤◌, ◌&&◌, ◌||◌, nat_le}
-use Rattle.std.proofs.Common.{Bool, true, false, cond, List, [], length, Option, Some, None, Contains, slice_index_or}
-use Rattle.std.proofs.Common.{is_some, option_and_then, refl, sym, ◌∙◌, ap, subst, arith, true≢false, not-suc-le-zero}
-use Rattle.std.proofs.Common.{le_of_suc-le-suc}
-use Rattle.std.specs.Prelude.{unwrap_or}
-use Rattle.std.proofs.lemmas.Bool.{and_parts, leb-true}
-use Rattle.bbm_descriptor.specs.Descriptor.{desc_of, same_bool}
-use Rattle.bbm_entry_state.specs.EntryCalls.{Noted, counts_at}
-use Rattle.bbm_entry_state.specs.Points.{waits}
-use Rattle.bbm_entry_state.specs.declared.marks.Marks.{Marks}
-use Rattle.bbm_entry_state.specs.declared.pending.Pends.{Pends}
-use Rattle.bbm_entry_state.specs.declared.state.EntryState.{EntryState}
-use Rattle.bbm_entry_state.specs.declared.state.EntryState.TheVariants.{Clean, Live, Broken}
-use Rattle.bbm_events.specs.Heading.{Heading}
+use Rattle.bbm_replay.proofs.Common.{unwrap_or, Noted, waits, Marks, Pends, EntryState, Clean, Live, Heading, PlaceMap}
+use Rattle.bbm_replay.proofs.Common.{input_pages, IsSound, IsWay, core_at, TreeIndex, RootState, SameCores, notes}
+use Rattle.bbm_replay.proofs.Common.{MayBeIssued, NamedTlbi, Laws, MetFromAll, NamesOne, covers_kind, view_of}
+use Rattle.bbm_rules.proofs.Common.{◌≡◌, ℕ, zero, suc, ◌+◌, ◌-◌, ◌*◌, ◌<◌, ◌≤◌, ◌&&◌, ◌||◌, nat_le, Bool, true, false}
+use Rattle.bbm_rules.proofs.Common.{cond, List, [], length, Option, Some, None, Contains, slice_index_or, is_some}
+use Rattle.bbm_rules.proofs.Common.{option_and_then, refl, sym, ◌∙◌, ap, subst, arith, true≢false, not-suc-le-zero}
+use Rattle.bbm_rules.proofs.Common.{le_of_suc-le-suc, and_parts, leb-true, desc_of, same_bool, page_count, PeMask, Kind}
+use Rattle.bbm_rules.proofs.Common.{Cover, Half, Second, Full, PlaceView, Patterns, cover_at, is_global, view_at}
+use Rattle.bbm_rules.proofs.Common.{events_of, page_of, Event, Scope, TlbiOp, Tlbi, named_scope, vmid_of, Declared}
+use Rattle.bbm_rules.proofs.Common.{kind_in_world, pages_from, root_at, root_pages, tag_set, tags_of, Node, held_at}
+use Rattle.bbm_rules.proofs.Common.{is_childless, next_of, node_of, region_of, region_start}
+use Rattle.bbm_entry_state.specs.EntryCalls.{counts_at}
+use Rattle.bbm_entry_state.specs.declared.state.EntryState.TheVariants.{Broken}
 use Rattle.bbm_place_map.specs.Map.{marks_at}
-use Rattle.bbm_place_map.specs.declared.map.PlaceMap.{PlaceMap}
 use Rattle.bbm_place_map.proofs.Parts.{broken_eighth}
 use Rattle.bbm_regimes.specs.PeMask.{pe_in}
-use Rattle.bbm_regimes.specs.World.{input_pages, page_count}
-use Rattle.bbm_regimes.specs.declared.pe.PeMask.{PeMask}
-use Rattle.bbm_regimes.specs.declared.regime.Kind.{Kind}
 use Rattle.bbm_tlbi_scope.specs.ScopeCovers as scopes
 use Rattle.bbm_tlbi_scope.specs.SameCover.{same_cover}
-use Rattle.bbm_tlbi_scope.specs.declared.entry.Cover.{Cover}
-use Rattle.bbm_tlbi_scope.specs.declared.entry.Cover.TheVariants.{None as NoCover, Half, Second, Full}
-use Rattle.bbm_tlbi_scope.specs.declared.entry.PlaceView.{PlaceView}
-use Rattle.bbm_rules.specs.Claims.Trust.{Patterns}
-use Rattle.bbm_rules.specs.Covers.{cover_at, is_global, view_at}
-use Rattle.bbm_rules.specs.Notes.{events_of}
-use Rattle.bbm_rules.specs.Places.{page_of}
-use Rattle.bbm_rules.specs.Prelude.{Event, Scope, TlbiOp, Tlbi}
-use Rattle.bbm_rules.specs.RegisterValues.{named_scope, vmid_of}
-use Rattle.bbm_rules.specs.Roots.{Declared, kind_in_world, pages_from, root_at, root_pages}
-use Rattle.bbm_rules.specs.Tags.{tag_set, tags_of}
-use Rattle.bbm_rules.specs.Tree.{Node, held_at, is_childless, next_of, node_of, region_of, region_start}
-use Rattle.bbm_tree_index.specs.IndexAgreement.{IsSound}
-use Rattle.bbm_tree_index.specs.Descent.{IsWay}
-use Rattle.bbm_tree_index.specs.HeldCores.{core_at}
+use Rattle.bbm_tlbi_scope.specs.declared.entry.Cover.TheVariants.{None as NoCover}
 use Rattle.bbm_tree_index.specs.Index.{node_in}
-use Rattle.bbm_tree_index.specs.declared.index.TreeIndex.{TreeIndex}
-use Rattle.bbm_replay_roots.specs.declared.state.RootState.{RootState}
 use Rattle.bbm_replay_trees.specs.NodeLaws.{Starts}
-use Rattle.bbm_replay_trees.specs.Told.{SameCores, notes}
-use Rattle.bbm_replay.specs.Covering.{MayBeIssued}
-use Rattle.bbm_replay_roots.specs.declared.named.NamedTlbi.{NamedTlbi}
-use Rattle.bbm_replay.specs.ReplayLaws.{Laws}
-use Rattle.bbm_replay.specs.OnePage.{IsPage, MetFromAll, NamesOne, covers_kind}
-use Rattle.bbm_replay.specs.ReplayStanding.{view_of}
+use Rattle.bbm_replay.specs.OnePage.{IsPage}
 use Rattle.bbm_replay.proofs.Descents.{Top, away, foreign, lies_in, top}
 use Rattle.bbm_replay.proofs.Writing.{cores}
 use Rattle.bbm_lemmas.proofs.Bools.{or_nothing}

@@ -1,26 +1,11 @@
 -- Going down a tree along an input page.
-use Rattle.std.proofs.Common.{◌≡◌, ℕ, suc, ◌+◌, ◌*◌, ◌^◌, ◌%◌, ◌<◌, ◌≤◌, ◌==◌, true, List, [], ◌∷◌, Option, Some, None}
-use Rattle.std.proofs.Common.{◌⊎◌, inl, inr, refl, sym, ap, ◌∙◌, subst, arith}
-use Rattle.std.proofs.lemmas.Bool.{and_parts, eqb-true}
-use Rattle.std.specs.Option.{option_map}
-use Rattle.bbm_descriptor.specs.Descriptor.{core_of}
-use Rattle.bbm_descriptor.specs.declared.desc.Core.{Core}
-use Rattle.bbm_entry_state.specs.Points.{core_in}
-use Rattle.bbm_entry_state.specs.declared.marks.Marks.{Marks}
-use Rattle.bbm_place_map.specs.States.{state_from}
-use Rattle.bbm_place_map.specs.declared.map.PlaceMap.{PlaceMap}
-use Rattle.bbm_regimes.specs.declared.regime.Kind.{Kind}
-use Rattle.bbm_rules.specs.Places.{page_of}
-use Rattle.bbm_rules.specs.Roots.{input_pages}
-use Rattle.bbm_rules.specs.Tree.{Node, node_below, region_start}
-use Rattle.bbm_tree_index.specs.Descent.{IsWay, Translates}
-use Rattle.bbm_tree_index.specs.HeldCores.{core_at, core_with, is_at, next_in}
+use Rattle.bbm_replay.proofs.Common.{option_map, core_in, Marks, state_from, PlaceMap, IsWay, Translates, core_at}
+use Rattle.bbm_replay.proofs.Common.{core_with, is_at, next_in, IsSound, path_at, TreeIndex, Path, IsOnWay}
+use Rattle.bbm_rules.proofs.Common.{◌≡◌, ℕ, suc, ◌+◌, ◌*◌, ◌^◌, ◌%◌, ◌<◌, ◌≤◌, ◌==◌, true, List, [], ◌∷◌, Option, Some}
+use Rattle.bbm_rules.proofs.Common.{None, ◌⊎◌, inl, inr, refl, sym, ap, ◌∙◌, subst, arith, and_parts, eqb-true, core_of}
+use Rattle.bbm_rules.proofs.Common.{Core, Kind, page_of, input_pages, Node, node_below, region_start}
 use Rattle.bbm_tree_index.specs.Index.{node_in}
-use Rattle.bbm_tree_index.specs.IndexAgreement.{IsSound}
-use Rattle.bbm_tree_index.specs.Nodes.{path_at}
-use Rattle.bbm_tree_index.specs.declared.index.TreeIndex.{TreeIndex}
-use Rattle.bbm_tree_index.specs.declared.role.Path.{Path}
-use Rattle.bbm_replay.specs.OnePage.{FitTogether, IsOnWay}
+use Rattle.bbm_replay.specs.OnePage.{FitTogether}
 use Rattle.bbm_replay.proofs.Growing.{core_whole}
 
 -- where no place of a page translates the input page, no way goes on through the page

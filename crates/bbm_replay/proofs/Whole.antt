@@ -1,24 +1,13 @@
 -- Where no place is broken over a table, no place is in limbo.
-use Rattle.std.proofs.Common.{◌≡◌, ℕ, true, false, not, List, [], ◌∷◌, Option, Some, None, is_some, refl}
-use Rattle.std.proofs.Common.{sym, ◌∙◌, ap}
-use Rattle.std.specs.Option.{option_map_or}
-use Rattle.bbm_descriptor.specs.Descriptor.{core_of, is_valid}
-use Rattle.bbm_descriptor.specs.declared.desc.Core.{Core}
-use Rattle.bbm_entry_state.specs.declared.marks.Marks.{Marks}
+use Rattle.bbm_replay.proofs.Common.{Marks, PlaceMap, Kind, core_with, limbo_by, next_in, TreeIndex, Laws, view_of}
+use Rattle.bbm_replay.proofs.Common.{Told}
+use Rattle.bbm_rules.proofs.Common.{◌≡◌, ℕ, true, false, not, List, [], ◌∷◌, Option, Some, None, is_some, refl, sym}
+use Rattle.bbm_rules.proofs.Common.{◌∙◌, ap, option_map_or, core_of, is_valid, Core, any, page_of, Heading, Event}
+use Rattle.bbm_rules.proofs.Common.{Above, Node, or_from}
 use Rattle.bbm_place_map.specs.Map.{marks_at, value_at}
-use Rattle.bbm_place_map.specs.declared.map.PlaceMap.{PlaceMap}
-use Rattle.bbm_rules.specs.Lists.{any}
-use Rattle.bbm_rules.specs.Places.{page_of}
-use Rattle.bbm_rules.specs.Prelude.{Kind, Heading, Event}
-use Rattle.bbm_rules.specs.Tree.{Above, Node}
-use Rattle.bbm_tree_index.specs.HeldCores.{core_with, limbo_by, next_in}
 use Rattle.bbm_tree_index.specs.Index.{node_in}
-use Rattle.bbm_tree_index.specs.declared.index.TreeIndex.{TreeIndex}
-use Rattle.bbm_replay.specs.ReplayLaws.{Laws}
-use Rattle.bbm_replay.specs.ReplayStanding.{OverLeaves, view_of}
-use Rattle.bbm_replay.specs.ReplayTold.{Told}
+use Rattle.bbm_replay.specs.ReplayStanding.{OverLeaves}
 use Rattle.bbm_replay.proofs.Writing.{cores}
-use Rattle.std.proofs.lemmas.Bool.{or_from}
 
 some_next : (o : Option Core) (p : ℕ) → next_in o ≡ Some p → is_some o ≡ true
 some_next None p k = let bad : None ≡ Some p = k in absurd cc

@@ -1,29 +1,17 @@
 -- Writes.
-use Rattle.std.proofs.Common.{◌≡◌, ℕ, Bool, true, false, cond, ◌&&◌, not, ◌⊎◌, ◌==◌, List, [], ◌∷◌, Option, Some, None}
-use Rattle.std.proofs.Common.{is_some, refl, sym, ◌∙◌, ap, subst, inl, true≢false}
-use Rattle.std.proofs.lemmas.Bool.{eq-eqb, eqb-true, ne_eqb}
-use Rattle.bbm_descriptor.specs.Descriptor.{core_of}
-use Rattle.bbm_descriptor.specs.declared.desc.Core.{Core}
-use Rattle.bbm_entry_state.specs.EntryCalls.{Written}
-use Rattle.bbm_entry_state.specs.Points.{core_in, is_broken, waits}
-use Rattle.bbm_entry_state.specs.EntryStanding.{IsIdle, KeepsPends}
-use Rattle.bbm_entry_state.specs.declared.marks.Marks.{Marks}
-use Rattle.bbm_entry_state.specs.declared.state.EntryState.{EntryState}
-use Rattle.bbm_entry_state.specs.declared.state.EntryState.TheVariants.{Clean, Live, Broken}
-use Rattle.bbm_place_map.specs.States.{marks_of_state, state_from}
-use Rattle.bbm_events.specs.Fits.{fits_heading}
-use Rattle.bbm_rules.specs.Attach.{attached_by}
+use Rattle.bbm_replay.proofs.Common.{Written, core_in, is_broken, waits, IsIdle, Marks, EntryState, Clean, Live}
+use Rattle.bbm_replay.proofs.Common.{marks_of_state, state_from, EntryStands, SameCores, View, notes, Laws, Apart, Told}
+use Rattle.bbm_replay.proofs.Common.{state_of, waiting}
+use Rattle.bbm_rules.proofs.Common.{◌≡◌, ℕ, Bool, true, false, cond, ◌&&◌, not, ◌⊎◌, ◌==◌, List, [], ◌∷◌, Option, Some}
+use Rattle.bbm_rules.proofs.Common.{None, is_some, refl, sym, ◌∙◌, ap, subst, inl, true≢false, eq-eqb, eqb-true, ne_eqb}
+use Rattle.bbm_rules.proofs.Common.{core_of, Core, fits_heading, attached_by, Patterns, page_of, Heading, Event, Write}
+use Rattle.bbm_rules.proofs.Common.{Node, next_of, node_below}
+use Rattle.bbm_entry_state.specs.EntryStanding.{KeepsPends}
+use Rattle.bbm_entry_state.specs.declared.state.EntryState.TheVariants.{Broken}
 use Rattle.bbm_rules.specs.Broken.{broken}
-use Rattle.bbm_rules.specs.Claims.Trust.{Patterns}
-use Rattle.bbm_rules.specs.Places.{page_of}
-use Rattle.bbm_rules.specs.Prelude.{Heading, Event, Write}
-use Rattle.bbm_rules.specs.Tree.{Node, next_of, node_below}
-use Rattle.bbm_replay_entries.specs.EntryStands.{EntryStands}
-use Rattle.bbm_replay_trees.specs.Told.{SameCores, View, core_at, notes}
+use Rattle.bbm_replay_trees.specs.Told.{core_at}
 use Rattle.bbm_replay_trees.specs.Told as told
-use Rattle.bbm_replay.specs.ReplayLaws.{Laws}
 use Rattle.bbm_replay.proofs.Moves.{Attaches, Grown, SameNodes, SameTracked, Writes}
-use Rattle.bbm_replay.specs.ReplayTold.{Apart, Told, state_of, waiting}
 use Rattle.bbm_replay.proofs.Aparts.{apart_grown, apart_same}
 use Rattle.bbm_replay.proofs.Entries.{carried, fit_more, keeps_more, some_pe}
 use Rattle.bbm_replay.proofs.Growing.{grown, grown_entry, grown_outside}

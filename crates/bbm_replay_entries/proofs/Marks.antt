@@ -1,18 +1,14 @@
 -- What one more event does to the masks and the pendings of a broken place.
-use Rattle.std.proofs.Common.{◌≡◌, ℕ, ◌<◌, Bool, true, false, cond, not, ◌&&◌, ◌||◌, ◌==◌, nat_eq, List, ◌∷◌, is_some}
-use Rattle.std.proofs.Common.{refl, sym, ◌∙◌, ap, inl, inr, true≢false}
+use Rattle.bbm_rules.proofs.Common.{◌≡◌, ℕ, ◌<◌, Bool, true, false, cond, not, ◌&&◌, ◌||◌, ◌==◌, nat_eq, List, ◌∷◌}
+use Rattle.bbm_rules.proofs.Common.{is_some, refl, sym, ◌∙◌, ap, inl, inr, true≢false, and_parts, eq-eqb, eqb-true}
+use Rattle.bbm_rules.proofs.Common.{or_cases, proved, If, Is, answers, is_non, same_bool, PeMask, operation, Cover}
+use Rattle.bbm_rules.proofs.Common.{Half, Second, Full, Patterns, cleansed, flushes, half, same_cover, seen, writes}
+use Rattle.bbm_rules.proofs.Common.{Noted, reaches, publishes_to}
 use Rattle.std.proofs.Math.Bool.{and-false, and-true, and_assoc}
-use Rattle.std.proofs.lemmas.Bool.{and_parts, eq-eqb, eqb-true, or_cases}
-use Rattle.bbm_lemmas.proofs.Tautologies.{proved}
-use Rattle.bbm_lemmas.proofs.Tautologies.Claim.{If, Is}
-use Rattle.bbm_barriers.specs.Options.{answers, is_non, publishes}
+use Rattle.bbm_barriers.specs.Options.{publishes}
 use Rattle.bbm_barriers.specs.declared.Dsb.{Dsb as Barrier}
-use Rattle.bbm_descriptor.specs.Descriptor.{same_bool}
 use Rattle.bbm_regimes.specs.PeMask.{pe_in}
-use Rattle.bbm_regimes.specs.declared.pe.PeMask.{PeMask}
-use Rattle.bbm_tlbi_scope.specs.Operations.{operation}
-use Rattle.bbm_tlbi_scope.specs.declared.entry.Cover.{Cover}
-use Rattle.bbm_tlbi_scope.specs.declared.entry.Cover.TheVariants.{None as NoCover, Half, Second, Full}
+use Rattle.bbm_tlbi_scope.specs.declared.entry.Cover.TheVariants.{None as NoCover}
 use Rattle.bbm_tlbi_scope.specs.declared.op.TlbiOp.{TlbiOp}
 use Rattle.bbm_entry_state.specs.Answered.{answered_at}
 use Rattle.bbm_entry_state.specs.EntryCalls.{Completed, Noted as Issues, clean_after, counts_at}
@@ -26,11 +22,7 @@ use Rattle.bbm_entry_state.specs.declared.state.EntryState.TheVariants.{Clean, L
 use Rattle.bbm_events.specs.Heading.{Heading}
 use Rattle.bbm_events.specs.declared.event.Event.{Event}
 use Rattle.bbm_events.specs.declared.event.Event.TheVariants.{Dsb, Tlbi}
-use Rattle.bbm_rules.specs.Claims.Trust.{Patterns}
-use Rattle.bbm_rules.specs.Cleansing.{cleansed, flushes, half, same_cover, seen, writes}
-use Rattle.bbm_rules.specs.Notes.{Noted, event_of}
-use Rattle.bbm_rules.specs.Reach.{reaches}
-use Rattle.bbm_rules.specs.Values.{publishes_to}
+use Rattle.bbm_rules.specs.Notes.{event_of}
 use Rattle.bbm_histories.specs.HistorySteps.{answered_by, cleansed_after, full_waits, half_after, half_waits}
 use Rattle.bbm_histories.specs.HistorySteps.{second_waits, seen_after, waits_after, wrote}
 use Rattle.bbm_replay_entries.specs.EntryEvents.{Heard, OthersStay, OthersWait}

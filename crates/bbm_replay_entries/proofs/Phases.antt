@@ -1,9 +1,9 @@
 -- The phase that a state tells.
-use Rattle.std.proofs.Common.{◌≡◌, ℕ, ◌<◌, Bool, true, false, cond, not, ◌&&◌, List, Option, Some, None, is_some}
-use Rattle.std.proofs.Common.{option_and_then, refl, sym, ◌∙◌, ap, true≢false}
-use Rattle.std.specs.Option.{option_map_or}
+use Rattle.bbm_rules.proofs.Common.{◌≡◌, ℕ, ◌<◌, Bool, true, false, cond, not, ◌&&◌, List, Option, Some, None, is_some}
+use Rattle.bbm_rules.proofs.Common.{option_and_then, refl, sym, ◌∙◌, ap, true≢false, option_map_or, is_valid, Patterns}
+use Rattle.bbm_rules.proofs.Common.{cleansed, half, noted, ValidWrite, cleansed_everywhere, last_valid, Noted}
+use Rattle.bbm_rules.proofs.Common.{events_of, broken_phase, is_restless, page_of, Node, held_at, node_of, value_of}
 use Rattle.std.specs.Prelude.{unwrap_or}
-use Rattle.bbm_descriptor.specs.Descriptor.{is_valid}
 use Rattle.bbm_regimes.specs.PeMask.{pe_in}
 use Rattle.bbm_entry_state.specs.Points.{core_in, is_broken}
 use Rattle.bbm_entry_state.specs.declared.pending.Pends.{Pends}
@@ -13,16 +13,7 @@ use Rattle.bbm_events.specs.Heading.{Heading}
 use Rattle.bbm_events.specs.declared.event.Event.{Event}
 use Rattle.bbm_rules.specs.declared.phase.Phase.{Phase}
 use Rattle.bbm_rules.specs.declared.phase.Phase.TheVariants.{Clean, Live, Broken, Seen, Half, Cleansed}
-use Rattle.bbm_rules.specs.Claims.Trust.{Patterns}
-use Rattle.bbm_rules.specs.Cleansing.{cleansed, half}
-use Rattle.bbm_rules.specs.Covers.{noted}
-use Rattle.bbm_rules.specs.Held.{ValidWrite, cleansed_everywhere, last_valid}
-use Rattle.bbm_rules.specs.Notes.{Noted}
-use Rattle.bbm_rules.specs.Phases.{broken_phase, is_restless, phase_of}
-use Rattle.bbm_rules.specs.Places.{page_of}
-use Rattle.bbm_rules.specs.Notes.{events_of}
-use Rattle.bbm_rules.specs.Tree.{Node, held_at, node_of}
-use Rattle.bbm_rules.specs.Values.{value_of}
+use Rattle.bbm_rules.specs.Phases.{phase_of}
 use Rattle.bbm_replay_entries.specs.KnownOfEntries.{Known}
 use Rattle.bbm_replay_entries.specs.Marked.{Marked}
 use Rattle.bbm_replay_entries.specs.EntryPhases.{phase_in}

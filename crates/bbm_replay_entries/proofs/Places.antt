@@ -1,18 +1,14 @@
 -- What one more event does to a state that stands for a history.
-use Rattle.std.proofs.Common.{◌≡◌, ℕ, ◌<◌, Bool, true, false, cond, not, ◌&&◌, ◌||◌, ◌==◌, nat_eq, List, [], ◌∷◌, ◌++◌}
-use Rattle.std.proofs.Common.{Option, Some, None, is_some, is_none, option_and_then, refl, sym, ◌∙◌, ap, subst}
-use Rattle.std.proofs.Common.{true≢false}
+use Rattle.bbm_rules.proofs.Common.{◌≡◌, ℕ, ◌<◌, Bool, true, false, cond, not, ◌&&◌, ◌||◌, ◌==◌, nat_eq, List, [], ◌∷◌}
+use Rattle.bbm_rules.proofs.Common.{◌++◌, Option, Some, None, is_some, is_none, option_and_then, refl, sym, ◌∙◌, ap}
+use Rattle.bbm_rules.proofs.Common.{subst, true≢false, and_parts, eq-eqb, eqb-true, false_from_ne_true, answers}
+use Rattle.bbm_rules.proofs.Common.{core_of, is_valid, Core, every_pe, every_same, every_wider, Kind, Cover, Patterns}
+use Rattle.bbm_rules.proofs.Common.{cleansed, writes, note, noted, ValidWrite, cleansed_everywhere, held, last_valid}
+use Rattle.bbm_rules.proofs.Common.{last_valid_after, later, Noted, events_of, value_of}
 use Rattle.std.proofs.Math.Bool.{and-false, and-true}
-use Rattle.std.proofs.lemmas.Bool.{and_parts, eq-eqb, eqb-true, false_from_ne_true}
 use Rattle.std.proofs.lemmas.Option.{option_and_then_some}
-use Rattle.bbm_barriers.specs.Options.{answers}
 use Rattle.bbm_barriers.specs.declared.Dsb.{Dsb as Barrier}
-use Rattle.bbm_descriptor.specs.Descriptor.{core_of, is_valid}
-use Rattle.bbm_descriptor.specs.declared.desc.Core.{Core}
-use Rattle.bbm_lemmas.specs.EveryPe.{every_pe}
-use Rattle.bbm_lemmas.proofs.Every.{every_none, every_same, every_wider}
-use Rattle.bbm_regimes.specs.declared.regime.Kind.{Kind}
-use Rattle.bbm_tlbi_scope.specs.declared.entry.Cover.{Cover}
+use Rattle.bbm_lemmas.proofs.Every.{every_none}
 use Rattle.bbm_entry_state.specs.EntryCalls.{Completed, Written, clean_after, core_after}
 use Rattle.bbm_entry_state.specs.Points.{clean_at, core_in, half_at, is_broken, seen_at, waits as waits_at, writer_at}
 use Rattle.bbm_entry_state.specs.EntryStanding.{IsIdle, KeepsPends}
@@ -22,12 +18,6 @@ use Rattle.bbm_entry_state.specs.declared.state.EntryState.TheVariants.{Clean, L
 use Rattle.bbm_events.specs.Heading.{Heading}
 use Rattle.bbm_events.specs.declared.event.Event.{Event}
 use Rattle.bbm_events.specs.declared.event.Event.TheVariants.{Init, Write, Dsb, Tlbi}
-use Rattle.bbm_rules.specs.Claims.Trust.{Patterns}
-use Rattle.bbm_rules.specs.Cleansing.{cleansed, writes}
-use Rattle.bbm_rules.specs.Covers.{note, noted}
-use Rattle.bbm_rules.specs.Held.{ValidWrite, cleansed_everywhere, held, last_valid, last_valid_after, later}
-use Rattle.bbm_rules.specs.Notes.{Noted, events_of}
-use Rattle.bbm_rules.specs.Values.{value_of}
 use Rattle.bbm_histories.specs.HistorySteps.{held_after, wrote}
 use Rattle.bbm_replay_entries.specs.EntryEvents.{Heard, OthersStay, touches}
 use Rattle.bbm_replay_entries.specs.KnownOfEntries.{Known}

@@ -1,23 +1,16 @@
 -- What is known of the events since the last valid write of a place.
-use Rattle.std.proofs.Common.{◌≡◌, ℕ, Bool, true, false, cond, ◌&&◌, ◌||◌, ◌==◌, List, [], ◌∷◌, ◌++◌, refl, sym, ◌∙◌}
-use Rattle.std.proofs.Common.{ap, inl, inr, true≢false}
+use Rattle.bbm_rules.proofs.Common.{◌≡◌, ℕ, Bool, true, false, cond, ◌&&◌, ◌||◌, ◌==◌, List, [], ◌∷◌, ◌++◌, refl, sym}
+use Rattle.bbm_rules.proofs.Common.{◌∙◌, ap, inl, inr, true≢false, and_parts, eqb-true, false_from_ne_true, or_cases}
+use Rattle.bbm_rules.proofs.Common.{or_right, proved, If, Is, answers, Cover, Half, Second, Full, Patterns, cleansed}
+use Rattle.bbm_rules.proofs.Common.{flushes, half, same_cover, seen, writes, any, Noted, Issued, reaches, unanswered}
+use Rattle.bbm_rules.proofs.Common.{publishes_to}
 use Rattle.std.proofs.Math.Bool.{and-false}
-use Rattle.std.proofs.lemmas.Bool.{and_parts, eqb-true, false_from_ne_true, or_cases, or_right}
-use Rattle.bbm_lemmas.proofs.Tautologies.{proved}
-use Rattle.bbm_lemmas.proofs.Tautologies.Claim.{If, Is}
-use Rattle.bbm_barriers.specs.Options.{answers}
 use Rattle.bbm_barriers.specs.declared.Dsb.{Dsb as Barrier}
-use Rattle.bbm_tlbi_scope.specs.declared.entry.Cover.{Cover}
-use Rattle.bbm_tlbi_scope.specs.declared.entry.Cover.TheVariants.{None as NoCover, Half, Second, Full}
+use Rattle.bbm_tlbi_scope.specs.declared.entry.Cover.TheVariants.{None as NoCover}
 use Rattle.bbm_events.specs.Heading.{Heading}
 use Rattle.bbm_events.specs.declared.event.Event.{Event}
 use Rattle.bbm_events.specs.declared.event.Event.TheVariants.{Write, Dsb, Tlbi}
-use Rattle.bbm_rules.specs.Claims.Trust.{Patterns}
-use Rattle.bbm_rules.specs.Cleansing.{cleansed, flushes, half, same_cover, seen, writes}
-use Rattle.bbm_rules.specs.Lists.{any}
-use Rattle.bbm_rules.specs.Notes.{Noted, event_of}
-use Rattle.bbm_rules.specs.Reach.{Issued, reaches, unanswered}
-use Rattle.bbm_rules.specs.Values.{publishes_to}
+use Rattle.bbm_rules.specs.Notes.{event_of}
 use Rattle.bbm_histories.specs.HistorySteps.{answered_by, cleansed_after, full_waits, half_after, half_waits, is_tlbi}
 use Rattle.bbm_histories.specs.HistorySteps.{second_waits, seen_after, waits, waits_after, wrote}
 use Rattle.bbm_replay_entries.specs.KnownOfEntries.{Known}

@@ -1,43 +1,27 @@
 -- The least rule that an event breaks, and what stands after one that breaks none.
-use Rattle.std.proofs.Common.{◌≡◌, ℕ, ◌<◌, Bool, true, false, not, ◌&&◌, ◌==◌, cond, nat_le, length, ◌≤◌, ◌↔◌}
-use Rattle.std.proofs.Common.{Result, Ok, List, ◌∷◌, Option, Some, None, refl, sym, ap, ◌∙◌, arith, true≢false}
-use Rattle.std.specs.Option.{is_none, option_map, option_map_or}
-use Rattle.std.proofs.lemmas.Bool.{and_from, eq-eqb, eqb-true, le-leb, leb-true, ne_eqb}
-use Rattle.std.specs.Result.{result_ok}
+use Rattle.bbm_replay_roots.proofs.Common.{is_none, option_map, Limit, RootFault, room_fault, Kind, Patterns, Rule}
+use Rattle.bbm_replay_roots.proofs.Common.{WrongWorld, NoLock, NoRoot, TagConflict, RootInUse, UnsyncedVmid, LockBusy}
+use Rattle.bbm_replay_roots.proofs.Common.{pes_of, world_of, Call, calls_of, Laws, Stands, RootState}
+use Rattle.bbm_rules.proofs.Common.{◌≡◌, ℕ, ◌<◌, Bool, true, false, not, ◌&&◌, ◌==◌, cond, nat_le, length, ◌≤◌, ◌↔◌}
+use Rattle.bbm_rules.proofs.Common.{Result, Ok, List, ◌∷◌, Option, Some, None, refl, sym, ap, ◌∙◌, arith, true≢false}
+use Rattle.bbm_rules.proofs.Common.{option_map_or, and_from, eq-eqb, eqb-true, le-leb, leb-true, ne_eqb, result_ok}
+use Rattle.bbm_rules.proofs.Common.{Which, scope_of, of_world, lacks_vmid, named_scope, World, Scope, Init, Null, Root}
+use Rattle.bbm_rules.proofs.Common.{Write, Reg, TlbiOp, Heading, Event, Dsb, Dmb, Isb, Tlbi, Msr, Lock, Unlock, Unroot}
+use Rattle.bbm_rules.proofs.Common.{Breach, keeps, noted, holder_of, if_so, is_that, Declared, is_root, root_at}
+use Rattle.bbm_rules.proofs.Common.{roots_of}
 use Rattle.bbm_barriers.specs.declared.Dsb.{Dsb as Barrier}
 use Rattle.bbm_locks.specs.Holders.{holder_at}
-use Rattle.bbm_regimes.specs.declared.regime.Which.{Which}
-use Rattle.bbm_rules.specs.declared.step_fault.StepFault.TheVariants.{Limit}
-use Rattle.bbm_roots.specs.declared.fault.RootFault.{RootFault}
 use Rattle.bbm_roots.specs.declared.fault.RootFault.TheVariants as roots
-use Rattle.bbm_replay_roots.specs.RootFaults.{room_fault}
 use Rattle.bbm_regimes.specs.declared.regime.Which.TheVariants.{Roots as Roots'}
-use Rattle.bbm_tlbi_scope.specs.Decode.{scope_of}
-use Rattle.bbm_tlbi_scope.specs.Operations.{of_world}
 use Rattle.bbm_tlbi_scope.specs.declared.scope.BadOperand.{BadOperand as BadOperandOf}
-use Rattle.bbm_rules.specs.RegisterValues.{lacks_vmid, named_scope}
-use Rattle.bbm_rules.specs.Prelude.{World, Scope, Init, Null, Root, Write, Kind, Reg, TlbiOp, Heading, Event, Dsb, Dmb}
-use Rattle.bbm_rules.specs.Prelude.{Isb, Tlbi, Msr, Lock, Unlock, Unroot}
-use Rattle.bbm_rules.specs.Broken.{Breach, broken, keeps}
-use Rattle.bbm_rules.specs.Claims.{Patterns}
-use Rattle.bbm_rules.specs.Covers.{noted}
-use Rattle.bbm_rules.specs.Locks.{holder_of}
-use Rattle.bbm_rules.specs.Lists.{if_so, is_that}
-use Rattle.bbm_rules.specs.Roots.{Declared, is_root, root_at, roots_of}
+use Rattle.bbm_rules.specs.Broken.{broken}
 use Rattle.bbm_rules.specs.Rules as rules
-use Rattle.bbm_rules.specs.declared.rule.Rule.{Rule}
-use Rattle.bbm_rules.specs.declared.rule.Rule.TheVariants.{WrongWorld, NoLock, NoRoot, TagConflict, RootInUse}
-use Rattle.bbm_rules.specs.declared.rule.Rule.TheVariants.{UnsyncedVmid, BadOperand, LockBusy, LockNotMine}
+use Rattle.bbm_rules.specs.declared.rule.Rule.TheVariants.{BadOperand, LockNotMine}
 use Rattle.bbm_roots.specs.RootChanges as changes
-use Rattle.bbm_roots.specs.RootsStand.{pes_of, world_of}
 use Rattle.bbm_roots.specs.RootsStand as lower
-use Rattle.bbm_roots.specs.RootCalls.{Call}
 use Rattle.bbm_roots.specs.DeclaredRoots as called
 use Rattle.bbm_replay_roots.proofs.RootMaps.{as_root, root_same}
-use Rattle.bbm_replay_roots.specs.Bridge.{calls_of}
-use Rattle.bbm_replay_roots.specs.RootLaws.{Laws}
-use Rattle.bbm_replay_roots.specs.RootStateStands.{Keeps, Stands, concerns_roots}
-use Rattle.bbm_replay_roots.specs.declared.state.RootState.{RootState}
+use Rattle.bbm_replay_roots.specs.RootStateStands.{Keeps, concerns_roots}
 use Rattle.bbm_replay_roots.proofs.TagMaps.{Agrees, agrees}
 
 -- the breach of the rule, or else the other

@@ -1,3 +1,4 @@
+mod Common
 pub mod Judge
 pub mod RootMaps
 pub mod TagMaps

@@ -1,17 +1,13 @@
 -- The declared roots of a history, and of its calls.
-use Rattle.std.proofs.Common.{◌≡◌, ℕ, suc, Bool, true, false, not, ◌||◌, ◌==◌, cond, List, [], ◌∷◌, map, length, Option}
-use Rattle.std.proofs.Common.{Some, None, refl, sym, ap, ◌∙◌, true≢false}
+use Rattle.bbm_replay_roots.proofs.Common.{option_map, option_and_then, Kind, Call, Issue, Declared, calls_of, issue_of}
+use Rattle.bbm_replay_roots.proofs.Common.{with_call, Laws}
+use Rattle.bbm_rules.proofs.Common.{◌≡◌, ℕ, suc, Bool, true, false, not, ◌||◌, ◌==◌, cond, List, [], ◌∷◌, map, length}
+use Rattle.bbm_rules.proofs.Common.{Option, Some, None, refl, sym, ap, ◌∙◌, true≢false, Scope, Heading, Event, Root}
+use Rattle.bbm_rules.proofs.Common.{Unroot, Tlbi, named_scope, vmid_of, is_at, root_at, roots_of, same_kind}
 use Rattle.std.specs.List.{find}
-use Rattle.std.specs.Option.{is_some, option_map, option_and_then}
-use Rattle.bbm_rules.specs.Prelude.{Kind, Scope, Heading, Event, Root, Unroot, Tlbi}
-use Rattle.bbm_rules.specs.RegisterValues.{named_scope, vmid_of}
+use Rattle.std.specs.Option.{is_some}
 use Rattle.bbm_rules.specs.Roots as rules
-use Rattle.bbm_rules.specs.Roots.{is_at, root_at, roots_of, same_kind}
-use Rattle.bbm_roots.specs.RootCalls.{Call, Issue}
 use Rattle.bbm_roots.specs.DeclaredRoots as calls
-use Rattle.bbm_roots.specs.declared.root.Declared.{Declared}
-use Rattle.bbm_replay_roots.specs.Bridge.{calls_of, issue_of, with_call}
-use Rattle.bbm_replay_roots.specs.RootLaws.{Laws}
 
 -- a declared root as the calls know it
 abbrev pub as_root : rules.Declared → Declared

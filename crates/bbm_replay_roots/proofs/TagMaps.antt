@@ -1,49 +1,35 @@
 -- The tags that roots hold after a history, and after its calls.
-use Rattle.std.proofs.Common.{◌≡◌, ℕ, zero, suc, ◌<◌, Bool, true, false, not, ◌&&◌, ◌||◌, ◌==◌, cond, List, [], ◌∷◌}
-use Rattle.std.proofs.Common.{Option, Some, None, Result, Ok, Err, ◌++◌, refl, sym, ap, ◌∙◌, arith}
-use Rattle.std.specs.List.{flat_map}
-use Rattle.std.specs.Option.{is_none}
-use Rattle.std.specs.Result.{result_ok}
-use Rattle.std.proofs.lemmas.Bool.{and_parts}
-use Rattle.bbm_lemmas.proofs.Tautologies.{proved}
-use Rattle.bbm_lemmas.proofs.Tautologies.Claim.{If, Is}
-use Rattle.bbm_barriers.specs.Options.{answers}
+use Rattle.bbm_replay_roots.proofs.Common.{flat_map, is_none, NoRoot, Patterns, Proper, Call, Issue, has_reading}
+use Rattle.bbm_replay_roots.proofs.Common.{own_reading, at_start, Reading, calls_of, issue_of, with_call, Laws}
+use Rattle.bbm_rules.proofs.Common.{◌≡◌, ℕ, zero, suc, ◌<◌, Bool, true, false, not, ◌&&◌, ◌||◌, ◌==◌, cond, List, []}
+use Rattle.bbm_rules.proofs.Common.{◌∷◌, Option, Some, None, Result, Ok, Err, ◌++◌, refl, sym, ap, ◌∙◌, arith}
+use Rattle.bbm_rules.proofs.Common.{result_ok, and_parts, proved, If, Is, answers, same_bool, scope_of, operation}
+use Rattle.bbm_rules.proofs.Common.{takes_whole_tag, AsidFrom, FromTtbr0, FromTtbr1, Ttbr1, Scope, TlbiOp, Tag, World}
+use Rattle.bbm_rules.proofs.Common.{Hyp, Kernel, Heading, Event, Root, Unroot, Dsb, Isb, Tlbi, Msr, keeps, lacks_vmid}
+use Rattle.bbm_rules.proofs.Common.{named_scope, vmid_of, takes_tag, and-true}
 use Rattle.bbm_barriers.specs.declared.Dsb.{Dsb as Barrier}
-use Rattle.bbm_descriptor.specs.Descriptor.{same_bool}
 use Rattle.bbm_range.specs.declared.BadRange.{BadRange}
 use Rattle.bbm_range.specs.declared.BadRange.TheVariants.{Granule, Unaligned}
 use Rattle.bbm_range.specs.declared.Range.{Range}
 use Rattle.bbm_range.specs.RangePages.{range_of}
 use Rattle.bbm_tlbi_scope.specs.Decode.{canonical, decoded, granule_known, hint_field, interval_field, page_scope}
-use Rattle.bbm_tlbi_scope.specs.Decode.{range_canonical, range_scope, scope_of, scope_over}
-use Rattle.bbm_tlbi_scope.specs.Operations.{Operation, operation}
-use Rattle.bbm_tlbi_scope.specs.ScopeTags.{takes_whole_tag}
-use Rattle.bbm_rules.specs.Prelude.{AsidFrom, FromTtbr0, FromTtbr1, Ttbr1, Scope, TlbiOp, Tag, World, Hyp, Kernel}
-use Rattle.bbm_rules.specs.Prelude.{Heading, Event, Root, Unroot, Dsb, Isb, Tlbi, Msr}
-use Rattle.bbm_rules.specs.declared.rule.Rule.TheVariants.{NoRoot}
-use Rattle.bbm_rules.specs.Broken.{broken, keeps}
-use Rattle.bbm_rules.specs.Claims.{Patterns}
-use Rattle.bbm_rules.specs.RegisterValues.{lacks_vmid, named_scope, vmid_of}
+use Rattle.bbm_tlbi_scope.specs.Decode.{range_canonical, range_scope, scope_over}
+use Rattle.bbm_tlbi_scope.specs.Operations.{Operation}
+use Rattle.bbm_rules.specs.Broken.{broken}
 use Rattle.bbm_rules.specs.Tags as rules
-use Rattle.bbm_rules.specs.Tags.{takes_tag}
 use Rattle.bbm_rules.specs.Lists as lists
 use Rattle.bbm_histories.specs.HistorySteps.{tag_waits, tag_waits_after}
-use Rattle.bbm_histories.specs.TreeChanges.{Proper}
-use Rattle.bbm_roots.specs.RootCalls.{Call, Issue, Complete}
+use Rattle.bbm_roots.specs.RootCalls.{Complete}
 use Rattle.bbm_roots.specs.Holds as holds
-use Rattle.bbm_roots.specs.RootPendings.{same_flag}
-use Rattle.bbm_roots.specs.Readings.{asid_readings, has_reading, own_reading}
-use Rattle.bbm_roots.specs.RootRegisters.{at_start}
-use Rattle.bbm_roots.specs.declared.reading.Reading.{Reading}
+use Rattle.bbm_lemmas.specs.ListWords.{same_flag}
+use Rattle.bbm_roots.specs.Readings.{asid_readings}
 use Rattle.bbm_tlbi_scope.specs.declared.scope.BadOperand.TheVariants.{NonCanonical, TtlGranule}
 use Rattle.bbm_tlbi_scope.specs.Operand.{hint_of}
 use Rattle.bbm_roots.specs.RootTags.{answered_by, readings, awaited, holds_at, holds_tag, issues, loses, reads}
 use Rattle.bbm_roots.specs.RootTags.{reads_for_some}
-use Rattle.bbm_replay_roots.specs.Bridge.{call_of, calls_of, issue_of, with_call}
-use Rattle.bbm_replay_roots.specs.RootLaws.{Laws}
+use Rattle.bbm_replay_roots.specs.Bridge.{call_of}
 use Rattle.bbm_replay_roots.proofs.ValueMaps.{Values, reads_same, reads_some_same, swap, values_next, values_start}
 use Rattle.bbm_replay_roots.proofs.ValueMaps.{values_written}
-use mathlib.Core.Bool.{and-true}
 
 -- ---- tests
 

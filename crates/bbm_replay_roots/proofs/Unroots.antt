@@ -1,46 +1,32 @@
 -- Whether a root may be retired, by the history and by its calls.
-use Rattle.std.proofs.Common.{◌≡◌, ℕ, ◌<◌, ◌≤◌, Bool, true, false, not, ◌&&◌, ◌||◌, ◌==◌, nat_lt, List, []}
-use Rattle.std.proofs.Common.{◌∷◌, map, length, Option, Some, None, Result, Ok, Err, refl, sym, ap, ◌∙◌, subst}
-use Rattle.std.proofs.Common.{true≢false, inl, inr, arith}
+use Rattle.bbm_replay_roots.proofs.Common.{is_none, option_and_then, option_map, Kind, Patterns, NoLock, NoRoot}
+use Rattle.bbm_replay_roots.proofs.Common.{RootInUse, WrongWorld, at_start, first_reg, register_values, second_reg}
+use Rattle.bbm_replay_roots.proofs.Common.{pes_of, world_of, RootFault, Load, Proper, calls_of, Laws, Stands, RootState}
+use Rattle.bbm_rules.proofs.Common.{◌≡◌, ℕ, ◌<◌, ◌≤◌, Bool, true, false, not, ◌&&◌, ◌||◌, ◌==◌, nat_lt, List, [], ◌∷◌}
+use Rattle.bbm_rules.proofs.Common.{map, length, Option, Some, None, Result, Ok, Err, refl, sym, ap, ◌∙◌, subst}
+use Rattle.bbm_rules.proofs.Common.{true≢false, inl, inr, arith, list_any, cases_lt, lt-ltb, eqb-true, eq-eqb}
+use Rattle.bbm_rules.proofs.Common.{not-false, or_cases, or_left, or_right, list_any-append, pe_finds, any_finds}
+use Rattle.bbm_rules.proofs.Common.{any_found, TagSet, One, Many, Reg, Ttbr0El2, VttbrEl2, Ttbr0El1, Ttbr1El1, Tag}
+use Rattle.bbm_rules.proofs.Common.{World, Hyp, Kernel, Heading, Event, Root, Unroot, Breach, keeps, same_tag, noted}
+use Rattle.bbm_rules.proofs.Common.{among, if_so, is_that, some_pe, base_of, kind_of_reg, Declared, is_root}
+use Rattle.bbm_rules.proofs.Common.{kind_in_world, lock_of, root_at, is_base_at, lacks, no_lock, no_root, holds_tag}
+use Rattle.bbm_rules.proofs.Common.{tag_set, tags_of}
 use Rattle.std.specs.Cmp.{both_ways}
-use Rattle.std.specs.List.{list_any}
-use Rattle.std.specs.Option.{is_none, option_and_then, option_map}
-use Rattle.std.proofs.lemmas.Bool.{cases_lt, lt-ltb, eqb-true, eq-eqb, not-false, or_cases, or_left, or_right}
-use Rattle.std.proofs.lemmas.List.Folds.{list_any-append}
-use Rattle.bbm_lemmas.proofs.Words.{pe_finds, pe_none}
-use Rattle.bbm_lemmas.proofs.Elements.{any_finds, any_found}
-use Rattle.bbm_tlbi_scope.specs.declared.entry.TagSet.{TagSet}
-use Rattle.bbm_tlbi_scope.specs.declared.entry.TagSet.TheVariants.{None as NoTag, One, Many}
-use Rattle.bbm_rules.specs.Prelude.{Kind, Reg, Ttbr0El2, VttbrEl2, Ttbr0El1, Ttbr1El1, Tag, World, Hyp, Kernel, Heading}
-use Rattle.bbm_rules.specs.Prelude.{Event, Root, Unroot}
-use Rattle.bbm_rules.specs.Broken.{Breach, broken, keeps}
-use Rattle.bbm_rules.specs.Claims.{Patterns, same_tag}
-use Rattle.bbm_rules.specs.Covers.{noted}
-use Rattle.bbm_rules.specs.Lists.{among, if_so, is_that, some_pe}
-use Rattle.bbm_rules.specs.RegisterValues.{base_of, kind_of_reg}
+use Rattle.bbm_lemmas.proofs.Words.{pe_none}
+use Rattle.bbm_tlbi_scope.specs.declared.entry.TagSet.TheVariants.{None as NoTag}
+use Rattle.bbm_rules.specs.Broken.{broken}
 use Rattle.bbm_rules.specs.RegisterValues as rules
-use Rattle.bbm_rules.specs.Roots.{Declared, is_root, kind_in_world, lock_of, root_at}
-use Rattle.bbm_rules.specs.Rules.{is_base_at, lacks, no_lock, no_root, root_in_use}
-use Rattle.bbm_rules.specs.Tags.{holds_tag, tag_set, tags_of}
-use Rattle.bbm_rules.specs.declared.rule.Rule.TheVariants.{NoLock, NoRoot, RootInUse, WrongWorld}
+use Rattle.bbm_rules.specs.Rules.{root_in_use}
 use Rattle.bbm_tlbi_scope.specs.TagSets.{HasTags}
 use Rattle.bbm_roots.specs.Refusals.{JudgesRetire}
-use Rattle.bbm_roots.specs.RootRegisters.{at_start, first_reg, names_in, names_page, register_values, second_reg, uses}
+use Rattle.bbm_roots.specs.RootRegisters.{names_in, names_page, uses}
 use Rattle.bbm_roots.specs.RootRegisters as named
 use Rattle.bbm_roots.specs.DeclaredRoots as calls
-use Rattle.bbm_roots.specs.RootsStand.{pes_of, world_of}
 use Rattle.bbm_roots.specs.RootTags as held
 use Rattle.bbm_roots.specs.declared.fault.InUse.TheVariants.{Pe as ByPe, Tag as ByTag}
-use Rattle.bbm_roots.specs.declared.fault.RootFault.{RootFault}
 use Rattle.bbm_roots.specs.declared.fault.RootFault.TheVariants as faults
-use Rattle.bbm_roots.specs.declared.load.Load.{Load}
 use Rattle.bbm_roots.specs.declared.root.Declared.{Declared as CallRoot}
-use Rattle.bbm_histories.specs.TreeChanges.{Proper}
-use Rattle.bbm_replay_roots.specs.Bridge.{calls_of}
 use Rattle.bbm_replay_roots.specs.RootFaults.{unroot_rule}
-use Rattle.bbm_replay_roots.specs.RootLaws.{Laws}
-use Rattle.bbm_replay_roots.specs.RootStateStands.{Stands}
-use Rattle.bbm_replay_roots.specs.declared.state.RootState.{RootState}
 use Rattle.bbm_replay_roots.proofs.Judge.{agrees_by, broken_unroot, or_rule}
 use Rattle.bbm_replay_roots.proofs.RootMaps.{as_root, root_same}
 use Rattle.bbm_replay_roots.proofs.TagMaps.{Agrees, tag_same}

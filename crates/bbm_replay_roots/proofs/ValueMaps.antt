@@ -1,35 +1,23 @@
 -- The readable register values of a history, and what its calls know of them.
-use Rattle.std.proofs.Common.{◌≡◌, ℕ, ◌<◌, Bool, true, false, not, ◌&&◌, ◌||◌, ◌==◌, cond, List, [], ◌∷◌, ◌++◌, map}
-use Rattle.std.proofs.Common.{take, Option, Some, None, refl, sym, ap, ◌∙◌, true≢false}
-use Rattle.std.specs.List.{filter_map, flat_map, cons_option, list_any}
-use Rattle.std.specs.Option.{option_and_then, option_map_or}
-use Rattle.std.proofs.lemmas.Bool.{and_parts, eqb-true, eq-eqb}
-use Rattle.std.proofs.lemmas.List.{map-append}
-use Rattle.bbm_lemmas.proofs.Tautologies.{proved}
-use Rattle.bbm_lemmas.proofs.Tautologies.Claim.{If, Is}
-use Rattle.bbm_rules.specs.Prelude.{AsidFrom, FromTtbr0, FromTtbr1, Kind, El2, S2, Ttbr0, Ttbr1, Reg, Ttbr0El2}
-use Rattle.bbm_rules.specs.Prelude.{VttbrEl2, Ttbr0El1, Ttbr1El1, Tag, El2Tag, Vmid, Asid, Ttbr1Tag}
-use Rattle.bbm_rules.specs.Prelude.{World, Hyp, Kernel, Heading, Event, Root, Unroot, Tlbi, Msr, Isb}
-use Rattle.bbm_rules.specs.Claims.{Patterns, same_tag}
-use Rattle.bbm_rules.specs.Covers.{noted}
-use Rattle.bbm_rules.specs.Lists.{among, every, if_so, one_number}
-use Rattle.bbm_rules.specs.Pages.{is_null}
-use Rattle.bbm_rules.specs.RegisterValues.{base_of, kind_of_reg, named_scope, same_reg, tag_number, vmid_of}
+use Rattle.bbm_replay_roots.proofs.Common.{flat_map, option_and_then, Kind, Patterns, Call, has_other, has_reading}
+use Rattle.bbm_replay_roots.proofs.Common.{own_reading, first_reg, names_null, register_values, second_reg, Load}
+use Rattle.bbm_replay_roots.proofs.Common.{Reading, calls_of, has_null_base, Laws}
+use Rattle.bbm_rules.proofs.Common.{◌≡◌, ℕ, ◌<◌, Bool, true, false, not, ◌&&◌, ◌||◌, ◌==◌, cond, List, [], ◌∷◌, ◌++◌}
+use Rattle.bbm_rules.proofs.Common.{map, take, Option, Some, None, refl, sym, ap, ◌∙◌, true≢false, cons_option}
+use Rattle.bbm_rules.proofs.Common.{list_any, option_map_or, and_parts, eqb-true, eq-eqb, map-append, proved, If, Is}
+use Rattle.bbm_rules.proofs.Common.{AsidFrom, FromTtbr0, FromTtbr1, El2, S2, Ttbr0, Ttbr1, Reg, Ttbr0El2, VttbrEl2}
+use Rattle.bbm_rules.proofs.Common.{Ttbr0El1, Ttbr1El1, Tag, El2Tag, Vmid, Asid, Ttbr1Tag, World, Hyp, Kernel, Heading}
+use Rattle.bbm_rules.proofs.Common.{Event, Root, Unroot, Tlbi, Msr, Isb, same_tag, noted, among, every, if_so}
+use Rattle.bbm_rules.proofs.Common.{one_number, is_null, base_of, kind_of_reg, named_scope, same_reg, tag_number}
+use Rattle.bbm_rules.proofs.Common.{vmid_of, is_root, no_root}
+use Rattle.std.specs.List.{filter_map}
 use Rattle.bbm_rules.specs.RegisterValues as rules
-use Rattle.bbm_rules.specs.Roots.{is_root}
-use Rattle.bbm_rules.specs.Rules.{no_root}
 use Rattle.bbm_rules.specs.Tags as tags
-use Rattle.bbm_roots.specs.RootCalls.{Call}
-use Rattle.bbm_roots.specs.Readings.{has_other, has_reading, has_tag, own_reading, reading_at, reading_under}
-use Rattle.bbm_roots.specs.Readings.{readings_with, tag_of}
+use Rattle.bbm_roots.specs.Readings.{has_tag, reading_at, reading_under, readings_with, tag_of}
 use Rattle.bbm_roots.specs.Readings as calls
-use Rattle.bbm_roots.specs.RootRegisters.{first_reg, load_of, names_null, newest, register_values, second_reg}
+use Rattle.bbm_roots.specs.RootRegisters.{load_of, newest}
 use Rattle.bbm_roots.specs.RootTags.{all_are}
 use Rattle.bbm_roots.specs.RootTags as held
-use Rattle.bbm_roots.specs.declared.load.Load.{Load}
-use Rattle.bbm_roots.specs.declared.reading.Reading.{Reading}
-use Rattle.bbm_replay_roots.specs.Bridge.{calls_of, has_null_base}
-use Rattle.bbm_replay_roots.specs.RootLaws.{Laws}
 use Rattle.bbm_replay_roots.proofs.RootMaps.{tlbi_same}
 use Rattle.bbm_histories.specs.TagSteps.{BasesStay}
 

@@ -1,48 +1,32 @@
 -- Whether a register write may be taken, by the history and by its calls.
-use Rattle.std.proofs.Common.{◌≡◌, ℕ, suc, ◌<◌, ◌≤◌, Bool, true, false, not, ◌&&◌, ◌||◌, ◌==◌, cond, nat_le, List}
-use Rattle.std.proofs.Common.{[], ◌∷◌, map, length, min, Option, Some, None, Result, Ok, Err, refl, sym, ap, ◌∙◌, subst}
-use Rattle.std.proofs.Common.{true≢false, inl, inr, arith}
-use Rattle.std.specs.List.{filter, flat_map, list_any}
-use Rattle.std.specs.Option.{option_and_then, option_map_or, unwrap_or}
-use Rattle.std.proofs.lemmas.Bool.{and_from, and_parts, eqb-true, eq-eqb, le-leb, lt-leb, or_cases, or_left, or_right}
-use Rattle.std.proofs.lemmas.List.Folds.{list_any-append}
-use Rattle.bbm_lemmas.proofs.Words.{pe_finds, pe_found}
-use Rattle.bbm_regimes.specs.declared.regime.Which.{Which}
+use Rattle.bbm_replay_roots.proofs.Common.{flat_map, option_and_then, Kind, Patterns, NoRoot, TagConflict, WrongWorld}
+use Rattle.bbm_replay_roots.proofs.Common.{WriteReg, has_other, is_of_world, names_null, register_values, pes_of}
+use Rattle.bbm_replay_roots.proofs.Common.{world_of, Stands, RootState, RootFault, Load, Proper, calls_of}
+use Rattle.bbm_replay_roots.proofs.Common.{has_null_base, Laws}
+use Rattle.bbm_rules.proofs.Common.{◌≡◌, ℕ, suc, ◌<◌, ◌≤◌, Bool, true, false, not, ◌&&◌, ◌||◌, ◌==◌, cond, nat_le, List}
+use Rattle.bbm_rules.proofs.Common.{[], ◌∷◌, map, length, min, Option, Some, None, Result, Ok, Err, refl, sym, ap, ◌∙◌}
+use Rattle.bbm_rules.proofs.Common.{subst, true≢false, inl, inr, arith, list_any, option_map_or, and_from, and_parts}
+use Rattle.bbm_rules.proofs.Common.{eqb-true, eq-eqb, le-leb, or_cases, or_left, or_right, list_any-append, pe_finds}
+use Rattle.bbm_rules.proofs.Common.{Which, Reg, Ttbr0El2, VttbrEl2, Ttbr0El1, Ttbr1El1, Tag, El2Tag, Vmid, Asid}
+use Rattle.bbm_rules.proofs.Common.{Ttbr1Tag, World, Hyp, Kernel, Heading, Event, Msr, Answers, keeps, same_tag, noted}
+use Rattle.bbm_rules.proofs.Common.{among, if_so, least, Noted, is_null, base_of, kind_of_reg, same_reg, Declared}
+use Rattle.bbm_rules.proofs.Common.{is_at, is_root, kind_in_world, roots_of, same_kind, no_root, tag_conflict, ReadsTag}
+use Rattle.bbm_rules.proofs.Common.{Reading, holds_at, holds_tag, loses, readings, reads}
+use Rattle.std.specs.List.{filter}
+use Rattle.std.specs.Option.{unwrap_or}
+use Rattle.std.proofs.lemmas.Bool.{lt-leb}
+use Rattle.bbm_lemmas.proofs.Words.{pe_found}
 use Rattle.bbm_regimes.specs.declared.regime.Which.TheVariants.{Values as ValuesLimit}
-use Rattle.bbm_rules.specs.Prelude.{Kind, Reg, Ttbr0El2, VttbrEl2, Ttbr0El1, Ttbr1El1, Tag, El2Tag, Vmid, Asid}
-use Rattle.bbm_rules.specs.Prelude.{Ttbr1Tag, World, Hyp, Kernel, Heading, Event, Msr}
-use Rattle.bbm_rules.specs.Answers.{Answers}
-use Rattle.bbm_rules.specs.Broken.{broken, keeps}
-use Rattle.bbm_rules.specs.Claims.{Patterns, same_tag}
-use Rattle.bbm_rules.specs.Covers.{noted}
-use Rattle.bbm_rules.specs.Lists.{among, if_so, least}
-use Rattle.bbm_rules.specs.Notes.{Noted}
-use Rattle.bbm_rules.specs.Pages.{is_null}
-use Rattle.bbm_rules.specs.RegisterValues.{base_of, kind_of_reg, same_reg}
+use Rattle.bbm_rules.specs.Broken.{broken}
 use Rattle.bbm_rules.specs.RegisterValues as rules
-use Rattle.bbm_rules.specs.Roots.{Declared, is_at, is_root, kind_in_world, roots_of, same_kind}
-use Rattle.bbm_rules.specs.Rules.{no_root, tag_conflict, wrong_world}
-use Rattle.bbm_rules.specs.TagSentences.{ReadsTag}
-use Rattle.bbm_rules.specs.Tags.{Reading, holds_at, holds_tag, loses, readings, reads}
-use Rattle.bbm_rules.specs.declared.rule.Rule.TheVariants.{NoRoot, TagConflict, WrongWorld}
-use Rattle.bbm_roots.specs.RootCalls.{WriteReg}
+use Rattle.bbm_rules.specs.Rules.{wrong_world}
 use Rattle.bbm_roots.specs.LeastOf.{IsLeast, ReadingUpTo}
-use Rattle.bbm_roots.specs.Readings.{has_other}
 use Rattle.bbm_roots.specs.Refusals.{JudgesWrite, conflicts, missing_root, unless_root}
-use Rattle.bbm_roots.specs.RootRegisters.{is_of_world, names_null, register_values}
-use Rattle.bbm_roots.specs.RootsStand.{pes_of, world_of}
 use Rattle.bbm_roots.specs.RootTags as held
-use Rattle.bbm_replay_roots.specs.RootStateStands.{Stands}
-use Rattle.bbm_replay_roots.specs.declared.state.RootState.{RootState}
-use Rattle.bbm_roots.specs.declared.fault.RootFault.{RootFault}
 use Rattle.bbm_roots.specs.declared.fault.RootFault.TheVariants as faults
-use Rattle.bbm_roots.specs.declared.load.Load.{Load}
 use Rattle.bbm_roots.specs.declared.reading.Reading.{Reading as CallReading}
-use Rattle.bbm_histories.specs.TreeChanges.{Proper}
 use Rattle.bbm_histories.specs.TagSteps.{kind_of_tag}
-use Rattle.bbm_replay_roots.specs.Bridge.{calls_of, has_null_base}
 use Rattle.bbm_replay_roots.specs.RootFaults.{write_fault}
-use Rattle.bbm_replay_roots.specs.RootLaws.{Laws}
 use Rattle.bbm_replay_roots.proofs.Judge.{broken_msr, or_rule}
 use Rattle.bbm_replay_roots.proofs.RootMaps.{is_root_same}
 use Rattle.bbm_replay_roots.proofs.TagMaps.{Agrees, agrees_next, tag_same}

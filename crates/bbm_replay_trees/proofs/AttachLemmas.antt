@@ -1,28 +1,18 @@
 -- The events that attach pages, and the writes that attach none.
-use Rattle.std.proofs.Common.{◌≡◌, ℕ, zero, suc, ◌<◌, ◌⊎◌, not, Bool, true, false, cond, ◌||◌, ◌==◌, List, [], ◌∷◌}
-use Rattle.std.proofs.Common.{◌++◌, Option, Some, None, is_some, is_none, Contains, flat_map, option_and_then}
-use Rattle.std.proofs.Common.{option_to_list, refl, sym, ◌∙◌, ap, inl, inr, true≢false, arith}
-use Rattle.bbm_regimes.specs.declared.regime.Kind.{Kind}
-use Rattle.bbm_descriptor.specs.Descriptor.{core_of, desc_of, form_of, form_11, form_01, desc_as}
-use Rattle.bbm_descriptor.specs.Fields.{type_bits}
-use Rattle.bbm_descriptor.specs.declared.desc.Desc.{Desc}
+use Rattle.bbm_rules.proofs.Common.{◌≡◌, ℕ, zero, suc, ◌<◌, ◌⊎◌, not, Bool, true, false, cond, ◌||◌, ◌==◌, List, []}
+use Rattle.bbm_rules.proofs.Common.{◌∷◌, ◌++◌, Option, Some, None, is_some, is_none, Contains, flat_map}
+use Rattle.bbm_rules.proofs.Common.{option_and_then, option_to_list, refl, sym, ◌∙◌, ap, inl, inr, true≢false, arith}
+use Rattle.bbm_rules.proofs.Common.{Kind, core_of, desc_of, form_of, form_11, form_01, desc_as, type_bits, Desc, Event}
+use Rattle.bbm_rules.proofs.Common.{Root, Write, Attached, attached_by, attached_from, Patterns, if_so, least, Noted}
+use Rattle.bbm_rules.proofs.Common.{events_of, is_fresh, is_null, page_of, root_pages, start_of, attached_with}
+use Rattle.bbm_rules.proofs.Common.{bad_ends, made_with, not_fresh, untracked_page, written_with, Node, held_at}
+use Rattle.bbm_rules.proofs.Common.{in_tree, next_in, next_of, node_below, node_of, nodes_of_root, In, from_contains}
+use Rattle.bbm_rules.proofs.Common.{to_contains}
 use Rattle.bbm_events.specs.Heading.{Heading}
 use Rattle.bbm_histories.specs.TreeChanges.{Proper}
-use Rattle.bbm_rules.specs.Prelude.{Event, Root, Write}
-use Rattle.bbm_rules.specs.Attach.{Attached, attached_by, attached_from}
-use Rattle.bbm_rules.specs.Claims.Trust.{Patterns}
-use Rattle.bbm_rules.specs.Lists.{if_so, least}
-use Rattle.bbm_rules.specs.Notes.{Noted, events_of}
-use Rattle.bbm_rules.specs.Pages.{is_fresh, is_null}
-use Rattle.bbm_rules.specs.Places.{page_of}
-use Rattle.bbm_rules.specs.Roots.{root_pages, start_of}
-use Rattle.bbm_rules.specs.Rules.{attached_with, bad_ends, made_with, not_fresh, untracked_page, written_with}
-use Rattle.bbm_rules.specs.Tree.{Node, held_at, in_tree, next_in, next_of, node_below, node_of, nodes_of_root}
 use Rattle.bbm_replay_trees.specs.BelowTrees.{Below}
 use Rattle.bbm_replay_trees.specs.Judging.{Judging}
 use Rattle.bbm_replay_trees.specs.Told.{AllFit, SameFresh, SameNull, SameValues, notes}
-use Rattle.bbm_lemmas.specs.Elements.{In}
-use Rattle.bbm_lemmas.proofs.Elements.{from_contains, to_contains}
 use Rattle.bbm_replay_trees.proofs.JudgeLemmas.{judging, no_leaf}
 use Rattle.bbm_replay_trees.proofs.PathLemmas.{Starts}
 

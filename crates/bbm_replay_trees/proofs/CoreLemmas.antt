@@ -1,23 +1,13 @@
 -- The cores of what the places of trees hold after an event.
-use Rattle.std.proofs.Common.{◌≡◌, ℕ, ◌⊎◌, Bool, true, false, cond, ◌&&◌, ◌==◌, List, ◌∷◌, Option, Some, None, is_some}
-use Rattle.std.proofs.Common.{Contains, option_and_then, refl, sym, ◌∙◌, ap, inl, inr, true≢false}
-use Rattle.std.proofs.lemmas.Bool.{and_parts, eqb-true}
-use Rattle.bbm_regimes.specs.declared.regime.Kind.{Kind}
-use Rattle.bbm_descriptor.specs.Descriptor.{core_of, is_valid}
-use Rattle.bbm_descriptor.specs.declared.desc.Core.{Core}
+use Rattle.bbm_rules.proofs.Common.{◌≡◌, ℕ, ◌⊎◌, Bool, true, false, cond, ◌&&◌, ◌==◌, List, ◌∷◌, Option, Some, None}
+use Rattle.bbm_rules.proofs.Common.{is_some, Contains, option_and_then, refl, sym, ◌∙◌, ap, inl, inr, true≢false}
+use Rattle.bbm_rules.proofs.Common.{and_parts, eqb-true, Kind, core_of, is_valid, Core, Barrier, Event, Init, Write}
+use Rattle.bbm_rules.proofs.Common.{Dsb, keeps, Patterns, note, held, Noted, events_of, is_fresh, page_of, Node}
+use Rattle.bbm_rules.proofs.Common.{held_at, in_tree, node_of, value_of}
 use Rattle.bbm_events.specs.Heading.{Heading}
 use Rattle.bbm_histories.specs.HistorySteps.{held_after}
 use Rattle.bbm_histories.specs.TreeChanges.{Attaches, HeldChange, Proper}
-use Rattle.bbm_rules.specs.Prelude.{Barrier, Event, Init, Write, Dsb}
-use Rattle.bbm_rules.specs.Broken.{keeps}
-use Rattle.bbm_rules.specs.Claims.Trust.{Patterns}
-use Rattle.bbm_rules.specs.Covers.{note}
-use Rattle.bbm_rules.specs.Held.{held}
-use Rattle.bbm_rules.specs.Notes.{Noted, events_of}
-use Rattle.bbm_rules.specs.Pages.{is_fresh}
-use Rattle.bbm_rules.specs.Places.{page_of}
-use Rattle.bbm_rules.specs.Tree.{Node, held_at, in_tree, node_of, tree}
-use Rattle.bbm_rules.specs.Values.{value_of}
+use Rattle.bbm_rules.specs.Tree.{tree}
 use Rattle.bbm_replay_trees.specs.BelowTrees.{Below}
 use Rattle.bbm_replay_trees.specs.Told.{SameCores, SameNodes, SameValues, core_after, notes}
 use Rattle.bbm_replay_trees.proofs.NodeLemmas.{fresh_outside}

@@ -1,26 +1,16 @@
 -- The number of restless places.
-use Rattle.std.proofs.Common.{◌≡◌, ℕ, zero, suc, ◌<◌, ◌≤◌, ◌⊎◌, not, Bool, true, false, ◌&&◌, List, [], ◌∷◌}
-use Rattle.std.proofs.Common.{length, Option, Some, None, is_some, filter, map, refl, sym, ◌∙◌, ap, subst, inl, inr}
-use Rattle.std.proofs.Common.{true≢false, arith}
-use Rattle.std.proofs.lemmas.Bool.{and_parts, cases_eq}
+use Rattle.bbm_rules.proofs.Common.{◌≡◌, ℕ, zero, suc, ◌<◌, ◌≤◌, ◌⊎◌, not, Bool, true, false, ◌&&◌, List, [], ◌∷◌}
+use Rattle.bbm_rules.proofs.Common.{length, Option, Some, None, is_some, filter, map, refl, sym, ◌∙◌, ap, subst, inl}
+use Rattle.bbm_rules.proofs.Common.{inr, true≢false, arith, and_parts, cases_eq, option_map_or, is_valid, Event, Write}
+use Rattle.bbm_rules.proofs.Common.{Patterns, below, events_of, is_restless, page_of, Node, held_at, node_of, value_of}
+use Rattle.bbm_rules.proofs.Common.{written_places, In, from_filter, from_map, in_map, to_filter}
 use Rattle.std.proofs.lemmas.List.Sums.{length-filter}
-use Rattle.std.specs.Option.{option_map_or}
-use Rattle.bbm_descriptor.specs.Descriptor.{is_valid}
 use Rattle.bbm_events.specs.Heading.{Heading}
-use Rattle.bbm_rules.specs.Prelude.{Event, Write}
-use Rattle.bbm_rules.specs.Claims.Trust.{Patterns}
-use Rattle.bbm_rules.specs.Lists.{below}
-use Rattle.bbm_rules.specs.Notes.{events_of}
-use Rattle.bbm_rules.specs.Phases.{is_restless, restless_of}
-use Rattle.bbm_rules.specs.Places.{page_of}
-use Rattle.bbm_rules.specs.Tree.{Node, held_at, node_of}
-use Rattle.bbm_rules.specs.Values.{value_of, written_places}
+use Rattle.bbm_rules.specs.Phases.{restless_of}
 use Rattle.bbm_replay_trees.specs.BelowTrees.{Below}
 use Rattle.bbm_replay_trees.specs.Restless.{Numbers}
 use Rattle.bbm_replay_trees.specs.Told.{notes}
 use Rattle.bbm_lemmas.proofs.Words.{Apart, below_less, filter_apart, with_apart}
-use Rattle.bbm_lemmas.specs.Elements.{In}
-use Rattle.bbm_lemmas.proofs.Elements.{from_filter, from_map, in_map, to_filter}
 use Rattle.bbm_replay_trees.proofs.HangLemmas.{held_written}
 
 -- ---- lists without repeats

@@ -1,17 +1,11 @@
 -- The places that were written in a history whose events fit the header.
-use Rattle.std.proofs.Common.{◌≡◌, ℕ, ◌%◌, ◌^◌, ◌&&◌, Bool, true, false, cond, ◌⊎◌, ◌==◌, nat_lt, List, [], ◌∷◌, refl}
-use Rattle.std.proofs.Common.{subst, inl, inr}
-use Rattle.std.proofs.lemmas.Bool.{and_from, and_parts, eq-eqb, eqb-true}
+use Rattle.bbm_rules.proofs.Common.{◌≡◌, ℕ, ◌%◌, ◌^◌, ◌&&◌, Bool, true, false, cond, ◌⊎◌, ◌==◌, nat_lt, List, [], ◌∷◌}
+use Rattle.bbm_rules.proofs.Common.{refl, subst, inl, inr, and_from, and_parts, eq-eqb, eqb-true, fits_heading, is_pe}
+use Rattle.bbm_rules.proofs.Common.{is_place, is_value, Event, Init, Write, every, with_number, page_of, places_in}
+use Rattle.bbm_rules.proofs.Common.{value_of, written_places, with_has, with_keeps, In, from_filter, to_filter}
 use Rattle.bbm_events.specs.Heading.{Heading}
-use Rattle.bbm_events.specs.Fits.{fits_heading, is_pe, is_place, is_value}
-use Rattle.bbm_rules.specs.Prelude.{Event, Init, Write}
-use Rattle.bbm_rules.specs.Lists.{every, with_number}
-use Rattle.bbm_rules.specs.Places.{page_of}
-use Rattle.bbm_rules.specs.Values.{places_in, value_of, written_places}
 use Rattle.bbm_replay_trees.specs.Told.{is_at}
-use Rattle.bbm_lemmas.proofs.Words.{in_with, with_has, with_keeps}
-use Rattle.bbm_lemmas.specs.Elements.{In}
-use Rattle.bbm_lemmas.proofs.Elements.{from_filter, to_filter}
+use Rattle.bbm_lemmas.proofs.Words.{in_with}
 
 -- ---- lists without repeats
 

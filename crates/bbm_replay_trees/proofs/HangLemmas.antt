@@ -1,28 +1,16 @@
 -- Where the pages of trees hang.
-use Rattle.std.proofs.Common.{◌≡◌, ℕ, suc, ◌+◌, ◌<◌, ◌⊎◌, Bool, true, false, cond, ◌&&◌, ◌==◌, List, [], ◌∷◌, length}
-use Rattle.std.proofs.Common.{Option, Some, None, is_some, Contains, option_and_then, refl, sym, ◌∙◌, ap, subst, inl}
-use Rattle.std.proofs.Common.{inr, true≢false, arith}
-use Rattle.std.proofs.lemmas.Bool.{eqb-true}
-use Rattle.bbm_regimes.specs.declared.regime.Kind.{Kind}
-use Rattle.bbm_descriptor.specs.Descriptor.{core_in, core_of, desc_of, is_valid}
-use Rattle.bbm_descriptor.specs.declared.desc.Core.{Core}
-use Rattle.bbm_descriptor.specs.declared.desc.Desc.{Desc}
-use Rattle.bbm_descriptor.specs.declared.desc.Desc.TheVariants.{Invalid, Table, Leaf}
+use Rattle.bbm_rules.proofs.Common.{◌≡◌, ℕ, suc, ◌+◌, ◌<◌, ◌⊎◌, Bool, true, false, cond, ◌&&◌, ◌==◌, List, [], ◌∷◌}
+use Rattle.bbm_rules.proofs.Common.{length, Option, Some, None, is_some, Contains, option_and_then, refl, sym, ◌∙◌, ap}
+use Rattle.bbm_rules.proofs.Common.{subst, inl, inr, true≢false, arith, eqb-true, Kind, core_in, core_of, desc_of}
+use Rattle.bbm_rules.proofs.Common.{is_valid, Core, Desc, Invalid, Table, Leaf, Event, Init, Null, Root, Unroot, Write}
+use Rattle.bbm_rules.proofs.Common.{Dsb, Dmb, Isb, Tlbi, Msr, Lock, Unlock, keeps, Patterns, ValidWrite}
+use Rattle.bbm_rules.proofs.Common.{cleansed_everywhere, held, last_valid, last_valid_after, later, Noted, events_of}
+use Rattle.bbm_rules.proofs.Common.{page_of, Above, Node, held_at, next_of, node_below, node_of, Down, IsNode}
+use Rattle.bbm_rules.proofs.Common.{written_places, with_has, with_keeps, In, from_contains}
 use Rattle.bbm_events.specs.Heading.{Heading}
-use Rattle.bbm_rules.specs.Prelude.{Event, Init, Null, Root, Unroot, Write, Dsb, Dmb, Isb, Tlbi, Msr, Lock, Unlock}
-use Rattle.bbm_rules.specs.Broken.{keeps}
-use Rattle.bbm_rules.specs.Claims.Trust.{Patterns}
-use Rattle.bbm_rules.specs.Held.{ValidWrite, cleansed_everywhere, held, last_valid, last_valid_after, later}
-use Rattle.bbm_rules.specs.Notes.{Noted, events_of}
-use Rattle.bbm_rules.specs.Places.{page_of}
-use Rattle.bbm_rules.specs.Tree.{Above, Node, held_at, next_in as next_in_desc, next_of, node_below, node_of, tree}
-use Rattle.bbm_rules.specs.TreeSentences.{Down, IsNode}
-use Rattle.bbm_rules.specs.Values.{written_places}
+use Rattle.bbm_rules.specs.Tree.{next_in as next_in_desc, tree}
 use Rattle.bbm_replay_trees.specs.BelowTrees.{Below}
 use Rattle.bbm_replay_trees.specs.Told.{AllFit, Hangs, SameCores, SameNodes, next_in, notes}
-use Rattle.bbm_lemmas.proofs.Words.{with_has, with_keeps}
-use Rattle.bbm_lemmas.specs.Elements.{In}
-use Rattle.bbm_lemmas.proofs.Elements.{from_contains}
 use Rattle.bbm_replay_trees.proofs.FitLemmas.{is_at_page}
 
 -- ---- the core of a table

@@ -1,38 +1,24 @@
 -- What the three rules on attached pages say, by paths through fresh pages and present values.
-use Rattle.std.proofs.Common.{◌≡◌, ℕ, ◌+◌, ◌<◌, not, Bool, true, false, List, [], ◌∷◌, ◌++◌, length, Option, Some}
-use Rattle.std.proofs.Common.{None, flat_map, option_to_list, refl, sym, ◌∙◌, ap, subst, inl, inr, true≢false}
-use Rattle.std.proofs.Common.{append-nil, arith}
-use Rattle.std.proofs.lemmas.Bool.{not-true, not_from_false}
-use Rattle.bbm_regimes.specs.declared.regime.Kind.{Kind}
-use Rattle.bbm_descriptor.specs.Descriptor.{desc_of}
-use Rattle.bbm_descriptor.specs.declared.desc.Desc.{Desc}
-use Rattle.bbm_descriptor.specs.declared.desc.Desc.TheVariants.{Invalid, Table, Leaf}
+use Rattle.bbm_rules.proofs.Common.{◌≡◌, ℕ, ◌+◌, ◌<◌, not, Bool, true, false, List, [], ◌∷◌, ◌++◌, length, Option, Some}
+use Rattle.bbm_rules.proofs.Common.{None, flat_map, option_to_list, refl, sym, ◌∙◌, ap, subst, inl, inr, true≢false}
+use Rattle.bbm_rules.proofs.Common.{append-nil, arith, not-true, not_from_false, Kind, desc_of, Desc, Invalid, Table}
+use Rattle.bbm_rules.proofs.Common.{Leaf, Event, Attached, End, all_ends, attached_by, attached_from, pages_of}
+use Rattle.bbm_rules.proofs.Common.{Patterns, least, repeated, Noted, events_of, is_fresh, attached_with, bad_ends}
+use Rattle.bbm_rules.proofs.Common.{judged_ends, made_with, not_fresh, places_with, unfresh, untracked_page}
+use Rattle.bbm_rules.proofs.Common.{written_with, Node, next_in, places_in, value_of, In, from_filter, from_map}
+use Rattle.bbm_rules.proofs.Common.{in_append, in_left, in_map, in_right, to_filter, to_flat, and-false}
 use Rattle.bbm_events.specs.Heading.{Heading}
-use Rattle.bbm_rules.specs.Prelude.{Event}
-use Rattle.bbm_rules.specs.Attach.{Attached, End, all_ends, attached_by, attached_from, pages_of}
-use Rattle.bbm_rules.specs.Claims.Trust.{Patterns}
-use Rattle.bbm_rules.specs.Lists.{least, repeated}
-use Rattle.bbm_rules.specs.Notes.{Noted, events_of}
-use Rattle.bbm_rules.specs.Pages.{is_fresh}
 use Rattle.bbm_rules.specs.PathSentences.{TwoPaths}
-use Rattle.bbm_rules.specs.Rules.{attached_with, bad_ends, judged_ends, made_with, not_fresh, places_with, unfresh}
-use Rattle.bbm_rules.specs.Rules.{untracked_page, written_with}
-use Rattle.bbm_rules.specs.Tree.{Node, next_in}
-use Rattle.bbm_rules.specs.Values.{places_in, value_of}
 use Rattle.bbm_replay_trees.specs.BelowTrees.{Below}
 use Rattle.bbm_tree_index.specs.Attaching.{EndsTwice, HasPlace, IsPath, IsUnfresh, UnfreshEnd, is_bad, is_user_global}
 use Rattle.bbm_replay_trees.specs.Judging.{Finds, Judging}
 use Rattle.bbm_replay_trees.specs.Told.{AllFit, SameFresh, SameValues, notes}
 use Rattle.bbm_lemmas.proofs.Words.{among_in, in_among}
-use Rattle.bbm_lemmas.specs.Elements.{In}
-use Rattle.bbm_lemmas.proofs.Elements.{from_filter, from_flat, from_map, in_append, in_left, in_map, in_right}
-use Rattle.bbm_lemmas.proofs.Elements.{to_filter}
-use Rattle.bbm_lemmas.proofs.Elements.{to_flat}
+use Rattle.bbm_lemmas.proofs.Elements.{from_flat}
 use Rattle.bbm_replay_trees.proofs.FitLemmas.{at_page, in_page, is_at_page, to_page, written}
 use Rattle.bbm_replay_trees.proofs.LeastLemmas.{least_is}
 use Rattle.bbm_replay_trees.proofs.PathLemmas.{Longer, AnyPath, Starts, from_all, from_deeper, in_all, in_deeper}
 use Rattle.bbm_replay_trees.proofs.PathLemmas.{leads_at, path_from, to_mine, to_theirs, value_is, within_at}
-use mathlib.Core.Bool.{and-false}
 
 -- a test that passes leaves alone
 pub record OfLeaves (test : Kind → Desc → Bool) : Type 0 where

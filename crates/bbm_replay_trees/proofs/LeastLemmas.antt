@@ -1,10 +1,7 @@
 -- The least number of a list, by what is in it.
-use Rattle.std.proofs.Common.{◌≡◌, ℕ, ◌<◌, ◌≤◌, min, ◌⊎◌, List, [], ◌∷◌, Option, Some, None, unwrap_or}
-use Rattle.std.proofs.Common.{refl, ap, subst, inl, inr, arith}
-use Rattle.std.proofs.lemmas.Bool.{cases_lt}
-use Rattle.bbm_rules.specs.Lists.{least}
+use Rattle.bbm_rules.proofs.Common.{◌≡◌, ℕ, ◌<◌, ◌≤◌, min, ◌⊎◌, List, [], ◌∷◌, Option, Some, None, unwrap_or, refl, ap}
+use Rattle.bbm_rules.proofs.Common.{subst, inl, inr, arith, cases_lt, least, In}
 use Rattle.bbm_replay_trees.specs.Judging.{Finds}
-use Rattle.bbm_lemmas.specs.Elements.{In}
 
 -- what the answer is among the list
 record IsMin (ms : List ℕ) (k : ℕ) : Type 0 where

@@ -1,29 +1,17 @@
 -- The node of each page after an event.
-use Rattle.std.proofs.Common.{◌≡◌, ℕ, ◌⊎◌, ◌↔◌, not, Bool, true, false, cond, ◌&&◌, ◌==◌, List, [], ◌∷◌, Option, Some}
-use Rattle.std.proofs.Common.{None, is_some, Contains, refl, sym, ◌∙◌, ap, subst, inl, inr, true≢false}
-use Rattle.std.proofs.lemmas.Bool.{and_parts, not-true}
-use Rattle.bbm_regimes.specs.declared.regime.Kind.{Kind}
+use Rattle.bbm_rules.proofs.Common.{◌≡◌, ℕ, ◌⊎◌, ◌↔◌, not, Bool, true, false, cond, ◌&&◌, ◌==◌, List, [], ◌∷◌, Option}
+use Rattle.bbm_rules.proofs.Common.{Some, None, is_some, Contains, refl, sym, ◌∙◌, ap, subst, inl, inr, true≢false}
+use Rattle.bbm_rules.proofs.Common.{and_parts, not-true, Kind, Event, Init, Null, Root, Unroot, Write, Dsb, Dmb, Isb}
+use Rattle.bbm_rules.proofs.Common.{Tlbi, Msr, Lock, Unlock, Barrier, attached_by, keeps, Patterns, noted, held, every}
+use Rattle.bbm_rules.proofs.Common.{Noted, is_fresh, may_be_fresh, page_of, Above, Node, held_at, in_tree, next_of}
+use Rattle.bbm_rules.proofs.Common.{node_below, node_of, nodes_of_root, In, from_contains, to_contains}
 use Rattle.bbm_events.specs.Heading.{Heading}
 use Rattle.bbm_histories.specs.TreeChanges.{Attaches, Linked, Proper, Through as ThroughIn}
 use Rattle.bbm_histories.specs.TreeSteps.{holds_above, is_under, node_where}
-use Rattle.bbm_rules.specs.Prelude.{Event, Init, Null, Root, Unroot, Write, Dsb, Dmb, Isb, Tlbi, Msr, Lock, Unlock}
-use Rattle.bbm_rules.specs.Prelude.{Barrier}
-use Rattle.bbm_rules.specs.Attach.{attached_by}
-use Rattle.bbm_rules.specs.Broken.{keeps}
-use Rattle.bbm_rules.specs.Claims.Trust.{Patterns}
-use Rattle.bbm_rules.specs.Covers.{noted}
-use Rattle.bbm_rules.specs.Held.{held}
-use Rattle.bbm_rules.specs.Lists.{every}
-use Rattle.bbm_rules.specs.Notes.{Noted}
-use Rattle.bbm_rules.specs.Pages.{is_fresh, may_be_fresh}
-use Rattle.bbm_rules.specs.Places.{page_of}
-use Rattle.bbm_rules.specs.Tree.{Above, Node, held_at, in_tree, next_of, node_below, node_of, nodes_of_root}
 use Rattle.bbm_replay_trees.specs.BelowTrees.{Below}
 use Rattle.bbm_replay_trees.specs.TreeEvents.{leaves_trees}
 use Rattle.bbm_tree_index.specs.Paths.{Attached, Through}
 use Rattle.bbm_replay_trees.specs.Told.{AllFit, SameFresh, SameNodes, SameValues, is_held_by, kept, notes}
-use Rattle.bbm_lemmas.specs.Elements.{In}
-use Rattle.bbm_lemmas.proofs.Elements.{from_contains, to_contains}
 use Rattle.bbm_replay_trees.proofs.FitLemmas.{at_page}
 use Rattle.bbm_replay_trees.proofs.PathLemmas.{table_at, value_is}
 

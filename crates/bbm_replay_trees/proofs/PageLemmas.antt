@@ -1,20 +1,12 @@
 -- The fresh pages after an event, and what else is known of pages and values.
-use Rattle.std.proofs.Common.{◌≡◌, ℕ, suc, ◌+◌, not, Bool, true, false, cond, ◌&&◌, ◌||◌, ◌==◌, List, ◌∷◌, length}
-use Rattle.std.proofs.Common.{Option, None, is_none, refl, sym, ◌∙◌, ap, true≢false, arith}
-use Rattle.std.proofs.lemmas.Bool.{eq-eqb, eqb-true}
+use Rattle.bbm_rules.proofs.Common.{◌≡◌, ℕ, suc, ◌+◌, not, Bool, true, false, cond, ◌&&◌, ◌||◌, ◌==◌, List, ◌∷◌, length}
+use Rattle.bbm_rules.proofs.Common.{Option, None, is_none, refl, sym, ◌∙◌, ap, true≢false, arith, eq-eqb, eqb-true}
+use Rattle.bbm_rules.proofs.Common.{Event, Init, Null, Root, Unroot, Write, Dsb, Dmb, Isb, Tlbi, Msr, Lock, Unlock}
+use Rattle.bbm_rules.proofs.Common.{attached_by, keeps, changes, Patterns, among, with_number, initialised, is_fresh}
+use Rattle.bbm_rules.proofs.Common.{is_null, may_be_fresh, Node, in_tree, value_of, and_comm}
 use Rattle.bbm_events.specs.Heading.{Heading}
-use Rattle.bbm_rules.specs.Prelude.{Event, Init, Null, Root, Unroot, Write, Dsb, Dmb, Isb, Tlbi, Msr, Lock, Unlock}
-use Rattle.bbm_rules.specs.Attach.{attached_by}
-use Rattle.bbm_rules.specs.Broken.{keeps}
-use Rattle.bbm_rules.specs.Changes.{changes}
-use Rattle.bbm_rules.specs.Claims.Trust.{Patterns}
-use Rattle.bbm_rules.specs.Lists.{among, with_number}
-use Rattle.bbm_rules.specs.Pages.{initialised, is_fresh, is_null, may_be_fresh}
-use Rattle.bbm_rules.specs.Tree.{Node, in_tree}
-use Rattle.bbm_rules.specs.Values.{value_of}
 use Rattle.bbm_replay_trees.specs.BelowTrees.{Below}
 use Rattle.bbm_replay_trees.specs.Told.{SameFresh, SameNodes, notes}
-use mathlib.Core.Bool.{and_comm}
 
 -- numbers by either side
 pub eq_swap : (a b : ℕ) → (a == b) ≡ (b == a)

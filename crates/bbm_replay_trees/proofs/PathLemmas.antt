@@ -1,24 +1,17 @@
 -- The paths of attached pages, by fresh pages and present values, are those of the definitions.
-use Rattle.std.proofs.Common.{◌≡◌, ℕ, zero, suc, ◌+◌, ◌-◌, ◌<◌, ◌≤◌, Bool, true, false, cond, List, [], ◌∷◌, length}
-use Rattle.std.proofs.Common.{Some, None, Contains, flat_map, filter_map, refl, sym, ◌∙◌, ap, subst, inl, inr, arith}
-use Rattle.bbm_regimes.specs.declared.regime.Kind.{Kind}
+use Rattle.bbm_rules.proofs.Common.{◌≡◌, ℕ, zero, suc, ◌+◌, ◌-◌, ◌<◌, ◌≤◌, Bool, true, false, cond, List, [], ◌∷◌}
+use Rattle.bbm_rules.proofs.Common.{length, Some, None, Contains, flat_map, filter_map, refl, sym, ◌∙◌, ap, subst, inl}
+use Rattle.bbm_rules.proofs.Common.{inr, arith, Kind, Event, Attached, End, all_ends, attached_from, end_at, ends_below}
+use Rattle.bbm_rules.proofs.Common.{Patterns, Noted, events_of, is_fresh, page_of, Node, next_of, places_in, value_of}
+use Rattle.bbm_rules.proofs.Common.{In, from_contains, from_map, in_append, in_left, in_map, in_right, to_contains}
+use Rattle.bbm_rules.proofs.Common.{to_flat}
 use Rattle.bbm_events.specs.Heading.{Heading}
-use Rattle.bbm_rules.specs.Prelude.{Event}
-use Rattle.bbm_rules.specs.Attach.{Attached, End, all_ends, attached_from, end_at, ends_below}
-use Rattle.bbm_rules.specs.Claims.Trust.{Patterns}
-use Rattle.bbm_rules.specs.Notes.{Noted, events_of}
-use Rattle.bbm_rules.specs.Pages.{is_fresh}
-use Rattle.bbm_rules.specs.Places.{page_of}
-use Rattle.bbm_rules.specs.Tree.{Node, next_of}
 use Rattle.bbm_rules.specs.TreeSentences.{Leads as LeadsIn}
-use Rattle.bbm_rules.specs.Values.{places_in, value_of}
 use Rattle.bbm_replay_trees.specs.BelowTrees.{Below}
 use Rattle.bbm_tree_index.specs.Attaching.{IsPath}
 use Rattle.bbm_tree_index.specs.Paths.{Leads}
 use Rattle.bbm_replay_trees.specs.Told.{AllFit, SameFresh, SameValues, is_at, notes}
-use Rattle.bbm_lemmas.specs.Elements.{In}
-use Rattle.bbm_lemmas.proofs.Elements.{from_contains, from_flat, from_map, in_append, in_left, in_map, in_right}
-use Rattle.bbm_lemmas.proofs.Elements.{to_contains, to_flat}
+use Rattle.bbm_lemmas.proofs.Elements.{from_flat}
 use Rattle.bbm_replay_trees.proofs.FitLemmas.{at_page, is_at_page, written}
 
 -- the nodes at which paths begin are those of these pages, of the kind and at the level

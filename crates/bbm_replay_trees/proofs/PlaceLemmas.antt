@@ -1,21 +1,12 @@
 -- Childless tables, and the number of restless places.
-use Rattle.std.proofs.Common.{◌≡◌, ℕ, suc, true, false, List, Option, Some, None, is_some, option_and_then, refl, sym}
-use Rattle.std.proofs.Common.{◌∙◌, ap, subst, true≢false}
-use Rattle.bbm_regimes.specs.declared.regime.Kind.{Kind}
-use Rattle.bbm_descriptor.specs.Descriptor.{core_of, desc_of}
-use Rattle.bbm_descriptor.specs.declared.desc.Core.{Core}
+use Rattle.bbm_rules.proofs.Common.{◌≡◌, ℕ, suc, true, false, List, Option, Some, None, is_some, option_and_then, refl}
+use Rattle.bbm_rules.proofs.Common.{sym, ◌∙◌, ap, subst, true≢false, Kind, core_of, desc_of, Core, Event, keeps}
+use Rattle.bbm_rules.proofs.Common.{Patterns, held, page_of, Node, held_at, is_childless, next_of, node_below, node_of}
+use Rattle.bbm_rules.proofs.Common.{written_places, In}
 use Rattle.bbm_events.specs.Heading.{Heading}
-use Rattle.bbm_rules.specs.Prelude.{Event}
-use Rattle.bbm_rules.specs.Broken.{keeps}
-use Rattle.bbm_rules.specs.Claims.Trust.{Patterns}
-use Rattle.bbm_rules.specs.Held.{held}
-use Rattle.bbm_rules.specs.Places.{page_of}
-use Rattle.bbm_rules.specs.Tree.{Node, held_at, is_childless, next_of, node_below, node_of}
-use Rattle.bbm_rules.specs.Values.{written_places}
 use Rattle.bbm_replay_trees.specs.BelowTrees.{Below}
 use Rattle.bbm_replay_trees.specs.Told.{AllFit, Childless, SameCores, SameNodes, is_at, next_in, notes}
 use Rattle.bbm_replay_trees.proofs.AttachLemmas.{core_some}
-use Rattle.bbm_lemmas.specs.Elements.{In}
 use Rattle.bbm_replay_trees.proofs.FitLemmas.{at_page, is_at_page}
 use Rattle.bbm_replay_trees.proofs.HangLemmas.{down, held_written, table_core}
 

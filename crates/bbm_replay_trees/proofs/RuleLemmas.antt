@@ -1,32 +1,18 @@
 -- What the rules say of an event by its kind.
-use Rattle.std.proofs.Common.{◌≡◌, ℕ, ◌%◌, not, Bool, true, false, ◌&&◌, ◌||◌, ◌==◌, List, [], ◌∷◌, Option, Some, None}
-use Rattle.std.proofs.Common.{is_some, filter, option_and_then, refl, sym, ◌∙◌, ap, subst, true≢false}
-use Rattle.std.proofs.lemmas.Bool.{eqb-true, or_right}
+use Rattle.bbm_rules.proofs.Common.{◌≡◌, ℕ, ◌%◌, not, Bool, true, false, ◌&&◌, ◌||◌, ◌==◌, List, [], ◌∷◌, Option, Some}
+use Rattle.bbm_rules.proofs.Common.{None, is_some, filter, option_and_then, refl, sym, ◌∙◌, ap, subst, true≢false}
+use Rattle.bbm_rules.proofs.Common.{eqb-true, or_right, Kind, core_of, differ, is_valid, Core, Event, Init, Null, Root}
+use Rattle.bbm_rules.proofs.Common.{Unroot, Write, Dsb, Dmb, Isb, Tlbi, Msr, Lock, Unlock, first_broken, Trust}
+use Rattle.bbm_rules.proofs.Common.{Patterns, noted, limit_of, any, if_so, least, events_of, is_fresh, is_null, page_of}
+use Rattle.bbm_rules.proofs.Common.{lock_of, root_pages, break_before_make, lacks, limbo_make, no_lock, null_written}
+use Rattle.bbm_rules.proofs.Common.{page_in_use, rewritten_fresh, Above, Node, held_at, in_limbo, node_of, places_in}
+use Rattle.bbm_rules.proofs.Common.{value_of, In, any_finds, is_none_of, to_filter}
 use Rattle.std.proofs.lemmas.List.Elements.{filter_agree}
-use Rattle.bbm_regimes.specs.declared.regime.Kind.{Kind}
-use Rattle.bbm_descriptor.specs.Descriptor.{core_of, differ, is_valid}
-use Rattle.bbm_descriptor.specs.declared.desc.Core.{Core}
 use Rattle.bbm_events.specs.Heading.{Heading}
-use Rattle.bbm_rules.specs.Prelude.{Event, Init, Null, Root, Unroot, Write, Dsb, Dmb, Isb, Tlbi, Msr, Lock, Unlock}
-use Rattle.bbm_rules.specs.Broken.{broken, first_broken}
-use Rattle.bbm_rules.specs.Claims.{Trust}
-use Rattle.bbm_rules.specs.Claims.Trust.{Patterns}
-use Rattle.bbm_rules.specs.Covers.{noted}
-use Rattle.bbm_rules.specs.Limits.{limit_of}
-use Rattle.bbm_rules.specs.Lists.{any, if_so, least}
-use Rattle.bbm_rules.specs.Notes.{events_of}
-use Rattle.bbm_rules.specs.Pages.{is_fresh, is_null}
-use Rattle.bbm_rules.specs.Places.{page_of}
-use Rattle.bbm_rules.specs.Roots.{lock_of, root_pages}
-use Rattle.bbm_rules.specs.Rules.{break_before_make, lacks, limbo_make, no_lock, null_written, page_in_use}
-use Rattle.bbm_rules.specs.Rules.{rewritten_fresh}
-use Rattle.bbm_rules.specs.Tree.{Above, Node, held_at, in_limbo, node_of}
-use Rattle.bbm_rules.specs.Values.{places_in, value_of}
+use Rattle.bbm_rules.specs.Broken.{broken}
 use Rattle.bbm_replay_trees.specs.TreeEvents.{may_reach_limit, rules_of}
 use Rattle.bbm_replay_trees.specs.Told.{AllFit, SameCores, SameFresh, SameNodes, SameNull, SameValues, is_at, limbo_by}
 use Rattle.bbm_replay_trees.specs.Told.{notes}
-use Rattle.bbm_lemmas.specs.Elements.{In}
-use Rattle.bbm_lemmas.proofs.Elements.{any_finds, is_none_of, to_filter}
 use Rattle.bbm_replay_trees.proofs.FitLemmas.{at_page, in_page, is_at_page, to_page, written}
 
 pub few : (heading : Heading) (trust : Trust) (h : List Event) (e : Event)

@@ -1,12 +1,9 @@
 -- The pages of trees that hang at no place.
-use Rattle.std.proofs.Common.{◌≡◌, ℕ, ◌+◌, ◌<◌, ◌⊎◌, inl, inr, List, [], ◌∷◌, length, Option, Some, Contains, refl, sym}
-use Rattle.std.proofs.Common.{◌∙◌, ap, subst, arith}
+use Rattle.bbm_rules.proofs.Common.{◌≡◌, ℕ, ◌+◌, ◌<◌, ◌⊎◌, inl, inr, List, [], ◌∷◌, length, Option, Some, Contains}
+use Rattle.bbm_rules.proofs.Common.{refl, sym, ◌∙◌, ap, subst, arith, Event, Patterns, Declared, root_at, root_pages}
+use Rattle.bbm_rules.proofs.Common.{roots_of, Node, IsNode}
 use Rattle.bbm_events.specs.Heading.{Heading}
-use Rattle.bbm_rules.specs.Prelude.{Event}
-use Rattle.bbm_rules.specs.Claims.Trust.{Patterns}
-use Rattle.bbm_rules.specs.Roots.{Declared, root_at, root_pages, roots_of}
-use Rattle.bbm_rules.specs.Tree.{Node, tree}
-use Rattle.bbm_rules.specs.TreeSentences.{IsNode}
+use Rattle.bbm_rules.specs.Tree.{tree}
 use Rattle.bbm_replay_trees.specs.BelowTrees.{Below}
 use Rattle.bbm_replay_trees.specs.Told.{SameNodes, notes}
 use Rattle.bbm_replay_trees.proofs.HangLemmas.{Under, down_level, down_under}

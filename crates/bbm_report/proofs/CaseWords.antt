@@ -1,12 +1,12 @@
 -- The words in which the worked cases are written: bytes, and the text of the verdict on them.
-use Rattle.std.specs.Prelude.{ℕ, List, [], ◌∷◌, ◌++◌, codes}
+use Rattle.bbm_rules.proofs.Common.{codes, String, verdict_of_bytes}
+use Rattle.std.specs.Prelude.{ℕ, List, [], ◌∷◌, ◌++◌}
 use Rattle.std.specs.Fmt.{digits}
-use Prim.Native.String.{String}
 use Rattle.bbm_events.specs.Lines.{header_of, item_of}
 use Rattle.bbm_events.specs.Spelling.{decimal_value, hex_value}
 use Rattle.bbm_rules.specs.Broken.{broken}
 use Rattle.bbm_rules.specs.Claims.{Patterns}
-use Rattle.bbm_rules.specs.Outcome.{check_limits, end_of, step_of, verdict_of_bytes}
+use Rattle.bbm_rules.specs.Outcome.{check_limits, end_of, step_of}
 use Rattle.bbm_rules.specs.Texts.{verdict_text}
 use Rattle.bbm_rules.specs.Tree.{tree}
 

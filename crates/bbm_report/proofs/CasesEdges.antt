@@ -1,5 +1,6 @@
 -- Worked cases: what each version of a log has, the last lock, and a DSB for loads.
-use Rattle.std.specs.Prelude.{◌≡◌, [], ◌∷◌, codes, refl}
+use Rattle.bbm_rules.proofs.Common.{codes}
+use Rattle.std.specs.Prelude.{◌≡◌, [], ◌∷◌, refl}
 use Rattle.bbm_report.proofs.CaseWords.{told}
 
 -- Version 2 has no labels.

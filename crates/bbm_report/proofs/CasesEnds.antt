@@ -1,5 +1,6 @@
 -- Worked cases: what stands behind the last line, and how large a count may be.
-use Rattle.std.specs.Prelude.{◌≡◌, ℕ, List, [], ◌∷◌, ◌++◌, codes, refl}
+use Rattle.bbm_rules.proofs.Common.{codes}
+use Rattle.std.specs.Prelude.{◌≡◌, ℕ, List, [], ◌∷◌, ◌++◌, refl}
 use Rattle.bbm_report.proofs.CaseWords.{told}
 
 abbrev hundred : List ℕ

@@ -1,25 +1,19 @@
 -- The roots of events that fit their header, and what a walk finds by the values after them.
-use Rattle.std.specs.List.{list_all}
-use Rattle.std.proofs.Common.{◌≡◌, ℕ, ◌*◌, ◌%◌, Bool, true, false, cond, not, ◌&&◌, ◌==◌, List, [], ◌∷◌, Some, filter}
-use Rattle.std.proofs.Common.{refl, sym, ap, subst, inl, inr, ◌∙◌, true≢false}
-use Rattle.std.proofs.Math.Path.{fun_ext}
-use Rattle.std.proofs.lemmas.Bool.{and_from, and_parts, eqb-true, or_cases}
-use Rattle.bbm_regimes.specs.declared.regime.Kind.{Kind}
+use Rattle.bbm_rules.proofs.Common.{list_all, ◌≡◌, ℕ, ◌*◌, ◌%◌, Bool, true, false, cond, not, ◌&&◌, ◌==◌, List, [], ◌∷◌}
+use Rattle.bbm_rules.proofs.Common.{Some, filter, refl, sym, ap, subst, inl, inr, ◌∙◌, true≢false, fun_ext, and_from}
+use Rattle.bbm_rules.proofs.Common.{and_parts, eqb-true, or_cases, Kind, page_count, fits_heading, is_page, is_pe}
+use Rattle.bbm_rules.proofs.Common.{is_root_lock, is_root_page, Event, Root, Unroot, any, value_of, Declared, is_at}
+use Rattle.bbm_rules.proofs.Common.{is_root, retired, roots_of, same_kind}
 use Rattle.bbm_regimes.specs.declared.regime.Kind.TheVariants.{El2, S2, Ttbr0, Ttbr1}
 use Rattle.bbm_regimes.specs.declared.regime.World.{World}
-use Rattle.bbm_regimes.specs.World.{page_count, start_of}
+use Rattle.bbm_regimes.specs.World.{start_of}
 use Rattle.bbm_walk_s1.specs.InputRanges.{stage1_root}
 use Rattle.bbm_walk_s2.specs.Joined.{stage2_root}
 use Rattle.bbm_descriptor.specs.Listing.{WalkRoot, IsAnswer}
 use Rattle.bbm_descriptor.specs.declared.walk.Walk.{Walk}
 use Rattle.bbm_events.specs.Heading.{Heading}
-use Rattle.bbm_events.specs.Fits.{fits_heading, is_page, is_pe, is_root_lock, is_root_page}
-use Rattle.bbm_rules.specs.Prelude.{Event, Root, Unroot}
-use Rattle.bbm_rules.specs.Lists.{any}
-use Rattle.bbm_rules.specs.Values.{value_of}
 use Rattle.bbm_report.specs.Further.{Found, root_of}
 use Rattle.bbm_report.specs.declared.questions.Question.{Question}
-use Rattle.bbm_rules.specs.Roots.{Declared, is_at, is_root, retired, roots_of, same_kind}
 
 every_kept : {A : Type 0} (test keep : A → Bool) (xs : List A) → list_all test xs ≡ true → list_all test (filter keep xs) ≡ true
 every_kept test keep [] k = refl

@@ -1,14 +1,13 @@
 -- How many pages a stage 2 root joins in a world that a header has.
-use Rattle.std.proofs.Common.{◌≡◌, Bool, true, cond, not, ◌&&◌, ◌||◌, ◌==◌, nat_le, IsTrue, refl}
-use Rattle.std.proofs.lemmas.Bool.{and_parts}
-use Rattle.bbm_lemmas.proofs.Tautologies.{proved}
-use Rattle.bbm_lemmas.proofs.Tautologies.Claim.{If, Is}
+use Rattle.bbm_rules.proofs.Common.{◌≡◌, Bool, true, cond, not, ◌&&◌, ◌||◌, ◌==◌, nat_le, refl, and_parts, proved, If}
+use Rattle.bbm_rules.proofs.Common.{Is, are_s2_pages, page_count, world_ok, heading_ok, is_version, are_pes, may_share}
+use Rattle.std.proofs.Common.{IsTrue}
 use Rattle.bbm_regimes.specs.declared.regime.Kind.TheVariants.{S2}
 use Rattle.bbm_regimes.specs.declared.regime.World.{World}
 use Rattle.bbm_regimes.specs.declared.regime.World.TheVariants.{Hyp, Kernel}
-use Rattle.bbm_regimes.specs.World.{are_s2_pages, page_count, start_of, world_ok}
+use Rattle.bbm_regimes.specs.World.{start_of}
 use Rattle.bbm_walk_s2.specs.Joined.{can_join}
-use Rattle.bbm_events.specs.Heading.{Heading, heading_ok, is_version, are_pes, may_share}
+use Rattle.bbm_events.specs.Heading.{Heading}
 
 world_is_ok : (heading : Heading) → IsTrue (heading_ok heading) → world_ok heading.world ≡ true
 world_is_ok heading ok =

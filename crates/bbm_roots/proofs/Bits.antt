@@ -1,17 +1,10 @@
 -- Tests of tags and sets of PEs.
-use Rattle.std.proofs.Common.{◌≡◌, ℕ, zero, suc, ◌<◌, ◌≤◌, Bool, true, false, ◌&&◌, ◌||◌, not, nat_lt, nat_eq, refl}
-use Rattle.std.proofs.Common.{sym, ◌∙◌, ap, arith, IsTrue, ⊎_elim}
-use Rattle.std.proofs.lemmas.Bool.{true_from_ne_false, cases_lt, false≢true, lt-ltb, ltb-true, eqb-true, eq-eqb}
-use Rattle.bbm_lemmas.proofs.Tautologies.{proved}
-use Rattle.bbm_lemmas.proofs.Tautologies.Claim.{If, Is}
-use Rattle.bbm_regimes.specs.declared.regime.Tag.{Tag}
-use Rattle.bbm_regimes.specs.declared.regime.Tag.TheVariants.{El2, Vmid, Asid, Ttbr1}
-use Rattle.bbm_roots.specs.Holds.{some_pe, is_hold}
-use Rattle.bbm_roots.specs.RootPendings.{same_flag}
-use Rattle.bbm_roots.specs.Readings.{same_tag}
-use Rattle.bbm_roots.specs.declared.hold.Held.{Held}
-use mathlib.Core.Bool.{and-true, and-false}
-use Rattle.bbm_lemmas.proofs.Bools.{first_none, second_none, first_true}
+use Rattle.bbm_roots.proofs.Common.{◌≡◌, ℕ, zero, suc, ◌<◌, ◌≤◌, Bool, true, false, ◌&&◌, ◌||◌, not, nat_lt, nat_eq}
+use Rattle.bbm_roots.proofs.Common.{refl, sym, ◌∙◌, ap, arith, ⊎_elim, true_from_ne_false, cases_lt, false≢true, lt-ltb}
+use Rattle.bbm_roots.proofs.Common.{ltb-true, eqb-true, eq-eqb, proved, If, Is, Tag, Vmid, Asid, some_pe, is_hold}
+use Rattle.bbm_roots.proofs.Common.{same_flag, same_tag, Held, and-true, and-false, first_none, second_none, first_true}
+use Rattle.std.proofs.Common.{IsTrue}
+use Rattle.bbm_regimes.specs.declared.regime.Tag.TheVariants.{El2, Ttbr1}
 
 -- no PE below n passes
 pub none_below : (n : ℕ) (test : ℕ → Bool) → ((p : ℕ) → p < n → test p ≡ false) → some_pe n test ≡ false

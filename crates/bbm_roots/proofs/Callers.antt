@@ -1,9 +1,5 @@
 -- What a caller who knows one list of calls knows of every other for which the roots stand.
-use Rattle.std.proofs.Common.{◌≡◌, ◌∙◌, sym, ℕ, List, None}
-use Rattle.bbm_roots.specs.RootCalls.{Call}
-use Rattle.bbm_roots.specs.DeclaredRoots.{root_at}
-use Rattle.bbm_roots.specs.RootsStand.{Stands}
-use Rattle.bbm_roots.specs.declared.roots.Roots.{Roots}
+use Rattle.bbm_roots.proofs.Common.{◌≡◌, ◌∙◌, sym, ℕ, List, None, Call, root_at, Stands, Roots}
 
 pub undeclared : (roots : Roots) (known calls : List Call) (page : ℕ) → Stands roots known → root_at known page ≡ None →
     Stands roots calls → root_at calls page ≡ None

@@ -1,11 +1,9 @@
 -- What stays with the registers, and with the declared roots.
-use Rattle.std.proofs.Common.{◌≡◌, ◌<◌, ℕ, ap, subst, sym, HashMap, BuildHasherDefault, FoldHasher}
-use Rattle.indexmap.specs.IndexMap.{index_map_len, spare}
+use Rattle.bbm_roots.proofs.Common.{◌≡◌, ◌<◌, ℕ, ap, subst, sym, HashMap, BuildHasherDefault, FoldHasher, index_map_len}
+use Rattle.bbm_roots.proofs.Common.{Registers, Declared, Roots}
+use Rattle.indexmap.specs.IndexMap.{spare}
 use Rattle.bbm_roots.specs.RootChanges.{SameLog}
 use Rattle.bbm_roots.specs.RootsStand.{IsPrepared}
-use Rattle.bbm_roots.specs.declared.registers.Registers.{Registers}
-use Rattle.bbm_roots.specs.declared.root.Declared.{Declared}
-use Rattle.bbm_roots.specs.declared.roots.Roots.{Roots}
 
 pub log-same : (old new : Roots) → new.registers ≡ old.registers → SameLog old new
 log-same old new same = record {

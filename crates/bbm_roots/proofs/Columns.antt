@@ -1,13 +1,9 @@
 -- A column of registers at one PE, read and written.
-use Rattle.std.proofs.Common.{◌≡◌, ℕ, ⊎_elim, ◌++◌, ◌+◌, zero, suc, ◌<◌, ◌≤◌, ◌∷◌, [], List, nat_eq, length, set}
-use Rattle.std.proofs.Common.{get_or, take, refl, arith, cond, nat_le, ◌==◌, sym, ◌∙◌, ap, subst}
-use Rattle.std.proofs.lemmas.Bool.{cases_lt}
-use Rattle.std.proofs.lemmas.Bool.Decides.{nat_tests}
-use Rattle.std.proofs.Math.Dec.{eqb-suc-zero, eqb-zero-suc, eqb-suc-suc}
+use Rattle.bbm_roots.proofs.Common.{◌≡◌, ℕ, ⊎_elim, ◌++◌, ◌+◌, zero, suc, ◌<◌, ◌≤◌, ◌∷◌, [], List, nat_eq, length, set}
+use Rattle.bbm_roots.proofs.Common.{get_or, take, refl, arith, cond, nat_le, ◌==◌, sym, ◌∙◌, ap, subst, cases_lt}
+use Rattle.bbm_roots.proofs.Common.{nat_tests, eqb-suc-zero, eqb-zero-suc, eqb-suc-suc, loads_in, newest, Load}
 use Rattle.arrayvec.specs.ArrayVec.{ArrayVec}
-use Rattle.bbm_roots.specs.Columns.{Column, loads_in}
-use Rattle.bbm_roots.specs.RootRegisters.{newest}
-use Rattle.bbm_roots.specs.declared.load.Load.{Load}
+use Rattle.bbm_roots.specs.Columns.{Column}
 
 pub loads_in-get_or : (vs : Column) (p : ℕ) (d : ArrayVec Load) → p < length vs → loads_in vs p ≡ (get_or vs p d).items
 loads_in-get_or [] p d h = absurd (omega arith)

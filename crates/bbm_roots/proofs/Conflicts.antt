@@ -1,27 +1,14 @@
 -- What the entries say of the roots that hold tags is what the calls say.
-use Rattle.std.proofs.Common.{◌≡◌, ℕ, zero, suc, ◌<◌, ◌≤◌, ⊎_elim, Option, Some, None, Bool, true, false, ◌&&◌, ◌||◌}
-use Rattle.std.proofs.Common.{nat_eq, List, [], ◌∷◌, refl, sym, ◌∙◌, ap}
-use Rattle.std.specs.List.{list_any}
-use Rattle.bbm_lemmas.proofs.Tautologies.{proved}
-use Rattle.bbm_lemmas.proofs.Tautologies.Claim.{Is}
-use Rattle.indexmap.specs.IndexMap.{IndexMap, get}
-use Rattle.std.proofs.Math.Path.{fun_ext}
-use Rattle.std.proofs.lemmas.Bool.{cases_lt, false≢true, eq-eqb, true_from_ne_false}
+use Rattle.bbm_roots.proofs.Common.{◌≡◌, ℕ, zero, suc, ◌<◌, ◌≤◌, ⊎_elim, Option, Some, None, Bool, true, false, ◌&&◌}
+use Rattle.bbm_roots.proofs.Common.{◌||◌, nat_eq, List, [], ◌∷◌, refl, sym, ◌∙◌, ap, list_any, proved, Is, IndexMap}
+use Rattle.bbm_roots.proofs.Common.{get, fun_ext, cases_lt, false≢true, eq-eqb, true_from_ne_false, Tag, World, Call}
+use Rattle.bbm_roots.proofs.Common.{some_pe, is_hold, hold_in, tag_in, entry_bit, entry_held, tag_key, conflict_in}
+use Rattle.bbm_roots.proofs.Common.{is_clash, IsCalm, has_reading, has_other, is_reading, is_other, conflicts, readings}
+use Rattle.bbm_roots.proofs.Common.{loses, holds_at, holds_tag, Held, Reading, and-false, first_none, second_none}
 use Rattle.bbm_regimes.specs.PeMask.{pe_in}
-use Rattle.bbm_regimes.specs.declared.regime.Tag.{Tag}
-use Rattle.bbm_regimes.specs.declared.regime.World.{World}
-use Rattle.bbm_roots.specs.RootCalls.{Call}
-use Rattle.bbm_roots.specs.Holds.{some_pe, is_hold, hold_in, tag_in, entry_bit, entry_held, tag_key, conflict_in}
-use Rattle.bbm_roots.specs.Holds.{is_clash, IsCalm}
-use Rattle.bbm_roots.specs.Readings.{has_reading, has_other, is_reading, is_other}
-use Rattle.bbm_roots.specs.Refusals.{conflicts}
-use Rattle.bbm_roots.specs.RootTags.{readings, loses, holds_at, holds_tag}
-use Rattle.bbm_roots.specs.declared.hold.Held.{Held}
-use Rattle.bbm_roots.specs.declared.reading.Reading.{Reading}
 use Rattle.bbm_roots.proofs.Bits.{none_below, none_at}
 use Rattle.bbm_roots.proofs.Steps.{holds-written}
-use mathlib.Core.Bool.{or_comm, and-false}
-use Rattle.bbm_lemmas.proofs.Bools.{first_none, second_none}
+use mathlib.Core.Bool.{or_comm}
 
 some_pe-or : (n : ℕ) (f g : ℕ → Bool) → some_pe n (λ p. f p || g p) ≡ (some_pe n f || some_pe n g)
 some_pe-or zero f g = refl

@@ -1,25 +1,17 @@
 -- The entries of the tags that are held, found by the key of a tag or one after another.
-use Rattle.std.proofs.Common.{◌≡◌, ◌+◌, ◌<◌, ◌≤◌, ℕ, Bool, true, false, ◌&&◌, ◌||◌, not, nat_eq, List, [], ◌∷◌, Option}
-use Rattle.std.proofs.Common.{Some, None, cond, refl, sym, ◌∙◌, ap, take, length}
-use Rattle.std.specs.List.{list_any, AllByRecursion, IsDistinct, slice_get}
-use Rattle.std.specs.Map.{lookup, keys_of, values_of}
-use Rattle.std.proofs.lemmas.Bool.{false≢true, eqb-true, eq-eqb, or_left, or_right}
-use Rattle.std.proofs.lemmas.List.{take_all}
+use Rattle.bbm_roots.proofs.Common.{◌≡◌, ◌+◌, ◌<◌, ◌≤◌, ℕ, Bool, true, false, ◌&&◌, ◌||◌, not, nat_eq, List, [], ◌∷◌}
+use Rattle.bbm_roots.proofs.Common.{Option, Some, None, cond, refl, sym, ◌∙◌, ap, take, length, list_any, lookup}
+use Rattle.bbm_roots.proofs.Common.{false≢true, eqb-true, eq-eqb, or_left, or_right, take_all, proved, If, Is, IndexMap}
+use Rattle.bbm_roots.proofs.Common.{values, Tag, is_hold, entry_bit, entry_held, is_held_under, hold_in, tag_in}
+use Rattle.bbm_roots.proofs.Common.{tag_key, same_tag, has_other, is_reading, is_other, Held, Reading, or-false}
+use Rattle.bbm_roots.proofs.Common.{first_true}
+use Rattle.std.specs.List.{AllByRecursion, IsDistinct, slice_get}
+use Rattle.std.specs.Map.{keys_of, values_of}
 use Rattle.std.proofs.lemmas.Option.{get_or_from_slice_get}
-use Rattle.bbm_lemmas.proofs.Tautologies.{proved}
-use Rattle.bbm_lemmas.proofs.Tautologies.Claim.{If, Is}
-use Rattle.indexmap.specs.IndexMap.{IndexMap, values}
 use Rattle.bbm_regimes.specs.PeMask.{pe_in}
-use Rattle.bbm_regimes.specs.declared.regime.Tag.{Tag}
-use Rattle.bbm_roots.specs.Holds.{is_hold, entry_bit, entry_held, is_held_by, is_held_under, hold_in, tag_in}
-use Rattle.bbm_roots.specs.Holds.{tag_key}
-use Rattle.bbm_roots.specs.Readings.{same_tag, has_other, is_reading, is_other}
-use Rattle.bbm_roots.specs.declared.hold.Held.{Held}
-use Rattle.bbm_roots.specs.declared.reading.Reading.{Reading}
+use Rattle.bbm_roots.specs.Holds.{is_held_by}
 use Rattle.bbm_roots.proofs.Bits.{and_right, same_tag-true}
 use Rattle.bbm_roots.proofs.Lists.{any-next, any-front}
-use mathlib.Core.Bool.{or-false}
-use Rattle.bbm_lemmas.proofs.Bools.{first_true}
 
 -- what an entry that a key finds passes, one of the entries does
 found-among : (entry : Option Held → Bool) (test : Held → Bool) → entry None ≡ false → ((x : Held) → entry (Some x) ≡ true → test x ≡ true) →

@@ -1,26 +1,14 @@
 -- Tests of the readings of a PE: what the values in front alone give, all values give; and the test by cases.
-use Rattle.std.proofs.Common.{◌≡◌, ℕ, Bool, true, false, ◌&&◌, ◌||◌, ◌==◌, List, [], ◌∷◌, ◌++◌, refl, sym, ◌∙◌, ap}
-use Rattle.std.proofs.Common.{cond, Option, Some, None, is_some}
-use Rattle.std.specs.List.{list_any, flat_map}
-use Rattle.std.proofs.lemmas.List.Folds.{list_any-append}
-use Rattle.bbm_lemmas.proofs.Tautologies.{proved}
-use Rattle.bbm_lemmas.proofs.Tautologies.Claim.{If, Is}
-use Rattle.bbm_regimes.specs.declared.regime.AsidFrom.{AsidFrom}
+use Rattle.bbm_roots.proofs.Common.{◌≡◌, ℕ, Bool, true, false, ◌&&◌, ◌||◌, ◌==◌, List, [], ◌∷◌, ◌++◌, refl, sym, ◌∙◌}
+use Rattle.bbm_roots.proofs.Common.{ap, cond, Option, Some, None, is_some, list_any, flat_map, list_any-append, proved}
+use Rattle.bbm_roots.proofs.Common.{If, Is, AsidFrom, Kind, El2, S2, Ttbr0, Ttbr1, Tag, Vmid, Asid, World, Hyp, Kernel}
+use Rattle.bbm_roots.proofs.Common.{asid_readings, readings_of, readings_with, own_reading, reading_under, reading_at}
+use Rattle.bbm_roots.proofs.Common.{tag_of, has_tag, is_of_tag, same_tag, reads_tag, newest, Load, Reading, and-false}
+use Rattle.bbm_roots.proofs.Common.{and-true, or-false}
 use Rattle.bbm_regimes.specs.declared.regime.AsidFrom.TheVariants.{Ttbr0 as FromTtbr0, Ttbr1 as FromTtbr1}
-use Rattle.bbm_regimes.specs.declared.regime.Kind.{Kind}
-use Rattle.bbm_regimes.specs.declared.regime.Kind.TheVariants.{El2, S2, Ttbr0, Ttbr1}
-use Rattle.bbm_regimes.specs.declared.regime.Tag.{Tag}
-use Rattle.bbm_regimes.specs.declared.regime.Tag.TheVariants.{El2 as El2Tag, Vmid, Asid, Ttbr1 as Ttbr1Tag}
-use Rattle.bbm_regimes.specs.declared.regime.World.{World}
-use Rattle.bbm_regimes.specs.declared.regime.World.TheVariants.{Hyp, Kernel}
-use Rattle.bbm_roots.specs.Readings.{asid_readings, readings_of, readings_with, own_reading, reading_under, reading_at}
-use Rattle.bbm_roots.specs.Readings.{tag_of, has_tag, is_of_tag, same_tag, reads_asid, reads_tag, names_some}
-use Rattle.bbm_roots.specs.Readings.{names_root, names_root_with, numbered}
-use Rattle.bbm_roots.specs.RootRegisters.{newest}
-use Rattle.bbm_roots.specs.declared.load.Load.{Load}
-use Rattle.bbm_roots.specs.declared.reading.Reading.{Reading}
+use Rattle.bbm_regimes.specs.declared.regime.Tag.TheVariants.{El2 as El2Tag, Ttbr1 as Ttbr1Tag}
+use Rattle.bbm_roots.specs.Readings.{reads_asid, names_some, names_root, names_root_with, numbered}
 use Rattle.bbm_roots.proofs.Lists.{any-weaker}
-use mathlib.Core.Bool.{and-false, and-true, or-false}
 
 -- a test of what each element gives
 pub any-flat_map : {X Y : Type 0} (t : Y → Bool) (f : X → List Y) (xs : List X) →

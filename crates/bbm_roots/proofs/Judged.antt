@@ -1,22 +1,11 @@
 -- The judgement of a register write by the entries is that by the calls.
-use Rattle.std.proofs.Common.{◌≡◌, ℕ, ◌<◌, Bool, true, List, ◌∷◌, Option, None, Result, length, refl, sym, ◌∙◌, ap}
-use Rattle.std.proofs.Common.{cond, subst}
-use Rattle.std.proofs.Math.Path.{fun_ext}
-use Rattle.indexmap.specs.IndexMap.{IndexMap}
-use Rattle.bbm_regimes.specs.declared.regime.Reg.{Reg}
-use Rattle.bbm_regimes.specs.declared.regime.Tag.{Tag}
-use Rattle.bbm_regimes.specs.declared.regime.World.{World}
-use Rattle.bbm_regimes.specs.declared.regime.World.TheVariants.{Hyp, Kernel}
-use Rattle.bbm_roots.specs.RootCalls.{Call, WriteReg}
-use Rattle.bbm_roots.specs.Holds.{hold_in, conflict_in}
-use Rattle.bbm_roots.specs.Readings.{readings_of}
-use Rattle.bbm_roots.specs.Refusals.{missing_root, conflicts, JudgesWrite}
-use Rattle.bbm_roots.specs.RootRegisters.{register_values, first_reg, second_reg, is_first, is_of_world, load_of}
-use Rattle.bbm_roots.specs.RootTags.{holds_at}
+use Rattle.bbm_roots.proofs.Common.{◌≡◌, ℕ, ◌<◌, Bool, true, List, ◌∷◌, Option, None, length, refl, sym, ◌∙◌, ap, cond}
+use Rattle.bbm_roots.proofs.Common.{subst, fun_ext, IndexMap, Reg, Tag, World, Hyp, Kernel, Call, WriteReg, hold_in}
+use Rattle.bbm_roots.proofs.Common.{conflict_in, readings_of, missing_root, conflicts, register_values, first_reg}
+use Rattle.bbm_roots.proofs.Common.{second_reg, is_first, is_of_world, load_of, holds_at, Held, Load, Reading}
+use Rattle.std.proofs.Common.{Result}
+use Rattle.bbm_roots.specs.Refusals.{JudgesWrite}
 use Rattle.bbm_roots.specs.declared.fault.RootFault.{RootFault}
-use Rattle.bbm_roots.specs.declared.hold.Held.{Held}
-use Rattle.bbm_roots.specs.declared.load.Load.{Load}
-use Rattle.bbm_roots.specs.declared.reading.Reading.{Reading}
 use Rattle.bbm_roots.proofs.Conflicts.{conflict-is}
 use Rattle.bbm_roots.proofs.Rooted.{by_register}
 use Rattle.bbm_roots.proofs.Written.{elsewhere, right-here}

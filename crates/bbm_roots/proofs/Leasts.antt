@@ -1,11 +1,7 @@
 -- The least of what passes a test, where one more thing passes.
-use Rattle.std.proofs.Common.{◌≡◌, Bool, true, false, ◌||◌, Option, Some, None, refl, sym, ◌∙◌, ap}
-use Rattle.std.proofs.lemmas.Bool.{false≢true, or_left, or_right}
-use Rattle.bbm_regimes.specs.declared.regime.Tag.{Tag}
-use Rattle.bbm_tlbi_scope.specs.declared.entry.TagSet.{TagSet}
-use Rattle.bbm_tlbi_scope.specs.declared.entry.TagSet.TheVariants.{None as NoTag, One, Many}
-use Rattle.bbm_tlbi_scope.specs.TagSets.{HasTags}
-use Rattle.bbm_roots.specs.LeastOf.{IsLeast}
+use Rattle.bbm_roots.proofs.Common.{◌≡◌, Bool, true, false, ◌||◌, Option, Some, None, refl, sym, ◌∙◌, ap, false≢true}
+use Rattle.bbm_roots.proofs.Common.{or_left, or_right, Tag, TagSet, Many, HasTags, IsLeast}
+use Rattle.bbm_tlbi_scope.specs.declared.entry.TagSet.TheVariants.{None as NoTag, One}
 
 pub or-split : (a b : Bool) → (P : Type 0) → (a ≡ true → P) → (b ≡ true → P) → (a || b) ≡ true → P
 or-split true b P f g e = f refl

@@ -1,8 +1,8 @@
 -- A root that is found by its page has a number.
-use Rattle.std.proofs.Common.{◌≡◌, ℕ, zero, suc, ◌<◌, Bool, true, false, cond, List, [], ◌∷◌, length, Some, None}
-use Rattle.std.proofs.Common.{slice_get, arith}
+use Rattle.bbm_roots.proofs.Common.{◌≡◌, ℕ, zero, suc, ◌<◌, Bool, true, false, cond, List, [], ◌∷◌, length, Some, None}
+use Rattle.bbm_roots.proofs.Common.{arith, lookup}
+use Rattle.std.proofs.Common.{slice_get}
 use Rattle.std.specs.Option.{option_map}
-use Rattle.std.specs.Map.{lookup}
 
 pub numbered : {X : Type 0} (test : ℕ → Bool) (es : List (ℕ × X)) (x : X) → lookup test es ≡ Some x
     → (i : ℕ) × (i < length es) × (option_map (λ (e : ℕ × X). e.1) (slice_get es i) ≡ Some x)

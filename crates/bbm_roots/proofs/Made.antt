@@ -1,20 +1,10 @@
 -- What roots stand for, with the number of PEs and the world named apart.
-use Rattle.std.proofs.Common.{◌≡◌, ◌<◌, ◌≤◌, ℕ, Bool, true, false, List, [], ◌∷◌, None, nat_eq, length, sym, subst}
-use Rattle.std.proofs.Common.{IsSome}
-use Rattle.indexmap.specs.IndexMap.{get, index_map_len}
-use Rattle.bbm_regimes.specs.declared.regime.Reg.{Reg}
-use Rattle.bbm_regimes.specs.declared.regime.Tag.{Tag}
-use Rattle.bbm_regimes.specs.declared.regime.World.{World}
-use Rattle.bbm_roots.specs.RootCalls.{Call}
-use Rattle.bbm_roots.specs.Columns.{loads_in}
-use Rattle.bbm_roots.specs.Holds.{hold_in}
-use Rattle.bbm_roots.specs.RootPendings.{pending_in}
-use Rattle.bbm_roots.specs.RootRegisters.{at_start, first_reg, second_reg, register_values, is_of_world, kind_of_reg}
-use Rattle.bbm_roots.specs.RootRegisters.{names_in}
-use Rattle.bbm_roots.specs.DeclaredRoots.{root_at, roots_of, is_root, are_apart, lock_of}
-use Rattle.bbm_roots.specs.RootsStand.{Stands, pes_of, world_of}
-use Rattle.bbm_roots.specs.RootTags.{holds_at, awaited}
-use Rattle.bbm_roots.specs.declared.roots.Roots.{Roots}
+use Rattle.bbm_roots.proofs.Common.{◌≡◌, ◌<◌, ◌≤◌, ℕ, Bool, true, false, List, [], ◌∷◌, None, nat_eq, length, sym}
+use Rattle.bbm_roots.proofs.Common.{subst, IsSome, get, index_map_len, Reg, Tag, World, Call, loads_in, hold_in}
+use Rattle.bbm_roots.proofs.Common.{pending_in, at_start, first_reg, second_reg, register_values, is_of_world}
+use Rattle.bbm_roots.proofs.Common.{kind_of_reg, names_in, root_at, roots_of, is_root, are_apart, Stands, pes_of}
+use Rattle.bbm_roots.proofs.Common.{world_of, holds_at, awaited, Roots}
+use Rattle.bbm_roots.specs.DeclaredRoots.{lock_of}
 
 pub record Made (world : World) (pes : ℕ) (roots : Roots) (cs : List Call) : Type 0 where
   pub first : (p : ℕ) → p < pes → loads_in roots.registers.first.items p ≡ register_values cs p (first_reg world)

@@ -1,17 +1,12 @@
 -- The numbers of a list of values: one, or several.
-use Rattle.std.proofs.Common.{◌≡◌, ℕ, ◌<◌, Bool, true, false, ◌&&◌, not, nat_eq, nat_lt, List, [], ◌∷◌, Option}
-use Rattle.std.proofs.Common.{Some, None, length, refl, sym, ◌∙◌, ap, cond, arith}
-use Rattle.std.proofs.lemmas.Bool.{false≢true, eqb-true, eq-eqb, ltb-true, or_left}
-use Rattle.bbm_regimes.specs.declared.regime.Reg.{Reg}
-use Rattle.bbm_roots.specs.RootCalls.{Call, Declare, Retire, WriteReg, Isb, Issue, Complete}
-use Rattle.bbm_roots.specs.LeastOf.{IsLeast, UpTo}
-use Rattle.bbm_roots.specs.Refusals.{is_other_number, other_number}
-use Rattle.bbm_roots.specs.RootRegisters.{register_values, newest, is_that, same_reg, load_of}
-use Rattle.bbm_roots.specs.RootTags.{one_number, all_are}
-use Rattle.bbm_roots.specs.declared.load.Load.{Load}
+use Rattle.bbm_roots.proofs.Common.{◌≡◌, ℕ, ◌<◌, Bool, true, false, ◌&&◌, not, nat_eq, nat_lt, List, [], ◌∷◌, Option}
+use Rattle.bbm_roots.proofs.Common.{Some, None, length, refl, sym, ◌∙◌, ap, cond, arith, false≢true, eqb-true, eq-eqb}
+use Rattle.bbm_roots.proofs.Common.{ltb-true, or_left, Reg, Call, Declare, Retire, WriteReg, Isb, Issue, Complete}
+use Rattle.bbm_roots.proofs.Common.{IsLeast, UpTo, is_other_number, other_number, register_values, newest, is_that}
+use Rattle.bbm_roots.proofs.Common.{same_reg, load_of, one_number, Load, first_none, second_none, first_true}
+use Rattle.bbm_roots.specs.RootTags.{all_are}
 use Rattle.bbm_roots.proofs.Bits.{and_right}
 use Rattle.bbm_roots.proofs.Leasts.{or-split}
-use Rattle.bbm_lemmas.proofs.Bools.{first_none, second_none, first_true}
 
 pub none-found : (pes : ℕ) (f : ℕ → Bool) → ((p : ℕ) → p < pes → f p ≡ false) → IsLeast UpTo (λ p. nat_lt p pes && f p) None
 none-found pes f before p = by_case (nat_lt p pes) refl

@@ -1,11 +1,7 @@
 -- What the entries of unanswered TLBIs say.
-use Rattle.std.proofs.Common.{◌≡◌, ℕ, Bool, true, ◌&&◌, nat_eq, sym, ◌∙◌, ap}
-use Rattle.std.proofs.lemmas.Bool.{eqb-true}
-use Rattle.bbm_regimes.specs.declared.regime.Tag.{Tag}
-use Rattle.bbm_roots.specs.RootPendings.{has_pending, same_flag}
+use Rattle.bbm_roots.proofs.Common.{◌≡◌, ℕ, Bool, true, ◌&&◌, nat_eq, sym, ◌∙◌, ap, eqb-true, Tag, has_pending}
+use Rattle.bbm_roots.proofs.Common.{same_flag, Pendings, first_true}
 use Rattle.bbm_roots.proofs.Bits.{and_right, same_flag-true}
-use Rattle.bbm_roots.specs.declared.pending.Pendings.{Pendings}
-use Rattle.bbm_lemmas.proofs.Bools.{first_true}
 
 -- the entry of an issuer, which is this one
 pub entry-there : (q issuer : ℕ) (flag b takes : Bool) (g : Tag) (ps : Pendings) →

@@ -1,17 +1,11 @@
 -- The places of issuers, where their TLBIs wait.
-use Rattle.std.proofs.Common.{◌≡◌, ℕ, zero, suc, ◌<◌, ◌≤◌, ◌++◌, Bool, true, false, ◌&&◌, nat_eq, List, [], ◌∷◌, length}
-use Rattle.std.proofs.Common.{set, get_or, refl, sym, ◌∙◌, ◌+◌, ◌||◌, not, ap, arith, cond, Option, Some, None}
-use Rattle.std.proofs.Common.{is_some, ⊎_elim}
-use Rattle.std.specs.Map.{lookup}
-use Rattle.std.proofs.lemmas.Bool.{eqb-true, eq-eqb, cases_lt, false≢true}
-use Rattle.std.proofs.lemmas.Bool.Decides.{nat_tests}
-use Rattle.std.proofs.Math.Dec.{eqb-suc-zero, eqb-zero-suc, eqb-suc-suc}
-use Rattle.indexmap.specs.IndexMap.{IndexMap, get, index_map_len, Updates}
-use Rattle.bbm_regimes.specs.declared.regime.Tag.{Tag}
-use Rattle.bbm_roots.specs.Holds.{tag_key}
-use Rattle.bbm_roots.specs.RootPendings.{slot_of, same_flag, wait_at, wait_bit, wait_in, has_wait}
-use Rattle.bbm_roots.specs.declared.pending.Waiting.{Waiting}
-use mathlib.Core.Bool.{and-true, and-false, or-false}
+use Rattle.bbm_roots.proofs.Common.{◌≡◌, ℕ, zero, suc, ◌<◌, ◌≤◌, ◌++◌, Bool, true, false, ◌&&◌, nat_eq, List, [], ◌∷◌}
+use Rattle.bbm_roots.proofs.Common.{length, set, get_or, refl, sym, ◌∙◌, ◌+◌, ◌||◌, not, ap, arith, cond, Option, Some}
+use Rattle.bbm_roots.proofs.Common.{None, is_some, ⊎_elim, lookup, eqb-true, eq-eqb, cases_lt, false≢true, nat_tests}
+use Rattle.bbm_roots.proofs.Common.{eqb-suc-zero, eqb-zero-suc, eqb-suc-suc, IndexMap, get, index_map_len, Tag, tag_key}
+use Rattle.bbm_roots.proofs.Common.{slot_of, wait_at, wait_bit, wait_in, has_wait, same_flag, Waiting, and-true}
+use Rattle.bbm_roots.proofs.Common.{and-false, or-false}
+use Rattle.indexmap.specs.IndexMap.{Updates}
 
 none-among : (key : ℕ) (es : List (ℕ × Waiting)) → length es ≡ 0 → lookup (nat_eq key) es ≡ None
 none-among key [] e = refl

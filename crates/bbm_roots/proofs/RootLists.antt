@@ -1,12 +1,11 @@
 -- The list of the declared roots: found, put in front, and taken out.
-use Rattle.std.proofs.Common.{◌≡◌, ℕ, ◌+◌, Bool, true, false, not, ◌&&◌, ◌||◌, nat_eq, List, [], ◌∷◌, Option, Some}
-use Rattle.std.proofs.Common.{None, find, length, cond, refl, sym, ◌∙◌, ap, subst, IsSome, arith}
-use Rattle.std.specs.List.{list_any}
-use Rattle.std.proofs.lemmas.Bool.{eqb-true, eq-eqb, false≢true, not-true}
-use Rattle.bbm_roots.specs.DeclaredRoots.{retired, is_at, are_apart, lock_in}
-use Rattle.bbm_roots.specs.declared.root.Declared.{Declared}
+use Rattle.bbm_roots.proofs.Common.{◌≡◌, ℕ, ◌+◌, Bool, true, false, not, ◌&&◌, ◌||◌, nat_eq, List, [], ◌∷◌, Option}
+use Rattle.bbm_roots.proofs.Common.{Some, None, length, cond, refl, sym, ◌∙◌, ap, subst, IsSome, arith, list_any}
+use Rattle.bbm_roots.proofs.Common.{eqb-true, eq-eqb, false≢true, not-true, retired, are_apart, Declared, first_none}
+use Rattle.bbm_roots.proofs.Common.{second_none, first_true}
+use Rattle.std.proofs.Common.{find}
+use Rattle.bbm_roots.specs.DeclaredRoots.{is_at, lock_in}
 use Rattle.bbm_roots.proofs.Bits.{and_right}
-use Rattle.bbm_lemmas.proofs.Bools.{first_none, second_none, first_true}
 
 pub absent-retired : (page : ℕ) (rs : List Declared) → find (is_at page) rs ≡ None → retired page rs ≡ rs
 absent-retired page [] e = refl

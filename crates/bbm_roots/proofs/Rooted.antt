@@ -1,35 +1,21 @@
 -- Readable values name declared roots, and roots that hold tags are declared: what one more call leaves of it.
-use Rattle.std.proofs.Common.{◌≡◌, ℕ, ◌<◌, ◌≤◌, Bool, true, false, ◌&&◌, ◌||◌, not, nat_eq, List, [], ◌∷◌, ◌++◌, Option}
-use Rattle.std.proofs.Common.{Some, None, IsSome, refl, sym, ◌∙◌, ap, cond, subst, ⊎_elim}
-use Rattle.std.specs.List.{list_any, flat_map}
-use Rattle.std.proofs.lemmas.Bool.{false≢true, eqb-true, cases_lt, or_left, or_right}
-use Rattle.std.proofs.lemmas.List.Folds.{list_any-append}
-use Rattle.bbm_regimes.specs.declared.regime.AsidFrom.{AsidFrom}
+use Rattle.bbm_roots.proofs.Common.{◌≡◌, ℕ, ◌<◌, ◌≤◌, Bool, true, false, ◌&&◌, ◌||◌, not, nat_eq, List, [], ◌∷◌, ◌++◌}
+use Rattle.bbm_roots.proofs.Common.{Option, Some, None, IsSome, refl, sym, ◌∙◌, ap, cond, subst, ⊎_elim, list_any}
+use Rattle.bbm_roots.proofs.Common.{flat_map, false≢true, eqb-true, cases_lt, or_left, or_right, list_any-append}
+use Rattle.bbm_roots.proofs.Common.{AsidFrom, Kind, El2, S2, Ttbr0, Ttbr1, Reg, Ttbr0El2, VttbrEl2, Ttbr0El1, Ttbr1El1}
+use Rattle.bbm_roots.proofs.Common.{Tag, Asid, World, Hyp, Kernel, Call, WriteReg, asid_readings, readings_of}
+use Rattle.bbm_roots.proofs.Common.{readings_with, own_reading, reading_under, reading_at, tag_of, has_reading}
+use Rattle.bbm_roots.proofs.Common.{is_reading, same_tag, missing_root, register_values, first_reg, second_reg}
+use Rattle.bbm_roots.proofs.Common.{is_of_world, same_reg, names_in, is_that, newest, root_of, load_of, kind_of_reg}
+use Rattle.bbm_roots.proofs.Common.{uses, is_root, is_of_kind, root_at, reads, holds_at, holds_tag, loses, Load}
+use Rattle.bbm_roots.proofs.Common.{Reading, Declared, first_true, first_none, second_none}
 use Rattle.bbm_regimes.specs.declared.regime.AsidFrom.TheVariants.{Ttbr0 as FromTtbr0, Ttbr1 as FromTtbr1}
-use Rattle.bbm_regimes.specs.declared.regime.Kind.{Kind}
-use Rattle.bbm_regimes.specs.declared.regime.Kind.TheVariants.{El2, S2, Ttbr0, Ttbr1}
-use Rattle.bbm_regimes.specs.declared.regime.Reg.{Reg}
-use Rattle.bbm_regimes.specs.declared.regime.Reg.TheVariants.{Ttbr0El2, VttbrEl2, Ttbr0El1, Ttbr1El1}
-use Rattle.bbm_regimes.specs.declared.regime.Tag.{Tag}
-use Rattle.bbm_regimes.specs.declared.regime.Tag.TheVariants.{Asid}
-use Rattle.bbm_regimes.specs.declared.regime.World.{World}
-use Rattle.bbm_regimes.specs.declared.regime.World.TheVariants.{Hyp, Kernel}
-use Rattle.bbm_roots.specs.RootCalls.{Call, WriteReg}
-use Rattle.bbm_roots.specs.Readings.{asid_readings, readings_of, readings_with, own_reading, reading_under, reading_at}
-use Rattle.bbm_roots.specs.Readings.{tag_of, has_reading, is_reading, same_tag}
-use Rattle.bbm_roots.specs.Refusals.{unless_root, missing_root}
-use Rattle.bbm_roots.specs.RootRegisters.{register_values, first_reg, second_reg, is_of_world, same_reg, names_in}
-use Rattle.bbm_roots.specs.RootRegisters.{names_page, is_that, newest, root_of, load_of, kind_of_reg, uses}
-use Rattle.bbm_roots.specs.DeclaredRoots.{is_root, is_of_kind, root_at}
-use Rattle.bbm_roots.specs.RootTags.{reads, holds_at, holds_tag, loses}
-use Rattle.bbm_roots.specs.declared.load.Load.{Load}
-use Rattle.bbm_roots.specs.declared.reading.Reading.{Reading}
-use Rattle.bbm_roots.specs.declared.root.Declared.{Declared}
+use Rattle.bbm_roots.specs.Refusals.{unless_root}
+use Rattle.bbm_roots.specs.RootRegisters.{names_page}
 use Rattle.bbm_roots.proofs.Bits.{and_right, none_at}
 use Rattle.bbm_roots.proofs.Flat.{any-flat_map}
 use Rattle.bbm_roots.proofs.Leasts.{or-split}
 use Rattle.bbm_roots.proofs.Lists.{any-weaker}
-use Rattle.bbm_lemmas.proofs.Bools.{first_true, first_none, second_none}
 
 -- a register of the world is its first or its second
 pub by_register : (world : World) (reg : Reg) (P : Reg → Type 0) → P (first_reg world) → P (second_reg world) →

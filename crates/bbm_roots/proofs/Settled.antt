@@ -1,40 +1,23 @@
 -- A register write that makes nothing readable that the PE doesn't hold.
-use Rattle.std.proofs.Common.{◌≡◌, ◌<◌, ℕ, Bool, true, false, ◌&&◌, ◌||◌, not, nat_eq, List, [], ◌∷◌, ◌++◌, Option}
-use Rattle.std.proofs.Common.{Some, None, cond, refl, sym, ◌∙◌, ap}
-use Rattle.std.specs.List.{list_all, list_any, flat_map}
-use Rattle.std.proofs.lemmas.Bool.{false≢true, eqb-true, eq-eqb, not-true}
-use Rattle.std.proofs.lemmas.List.Folds.{list_any-append}
-use Rattle.bbm_lemmas.proofs.Tautologies.{proved}
-use Rattle.bbm_lemmas.proofs.Tautologies.Claim.{Is}
-use Rattle.indexmap.specs.IndexMap.{IndexMap, get}
+use Rattle.bbm_roots.proofs.Common.{◌≡◌, ◌<◌, ℕ, Bool, true, false, ◌&&◌, ◌||◌, not, nat_eq, List, [], ◌∷◌, ◌++◌}
+use Rattle.bbm_roots.proofs.Common.{Option, Some, None, cond, refl, sym, ◌∙◌, ap, list_any, flat_map, false≢true}
+use Rattle.bbm_roots.proofs.Common.{eqb-true, eq-eqb, not-true, list_any-append, proved, Is, IndexMap, get, AsidFrom}
+use Rattle.bbm_roots.proofs.Common.{El2, S2, Ttbr0, Ttbr1, Reg, Tag, Vmid, Asid, World, Hyp, Kernel, first_true}
+use Rattle.bbm_roots.proofs.Common.{loads_in, some_pe, is_hold, hold_in, tag_in, entry_bit, entry_held, tag_key}
+use Rattle.bbm_roots.proofs.Common.{conflict_in, holds_root, holds_asids, holds_under, holds_new, readings_after}
+use Rattle.bbm_roots.proofs.Common.{asid_readings, readings_of, readings_with, own_reading, reading_at, has_reading}
+use Rattle.bbm_roots.proofs.Common.{has_other, is_reading, is_other, same_tag, Call, register_values, first_reg}
+use Rattle.bbm_roots.proofs.Common.{is_first, Stands, world_of, pes_of, Held, Load, Reading, Roots, or-false, and-false}
+use Rattle.std.specs.List.{list_all}
 use Rattle.bbm_regimes.specs.PeMask.{pe_in}
-use Rattle.bbm_regimes.specs.declared.regime.AsidFrom.{AsidFrom}
 use Rattle.bbm_regimes.specs.declared.regime.AsidFrom.TheVariants.{Ttbr0 as FromTtbr0, Ttbr1 as FromTtbr1}
-use Rattle.bbm_regimes.specs.declared.regime.Kind.TheVariants.{El2, S2, Ttbr0, Ttbr1}
-use Rattle.bbm_regimes.specs.declared.regime.Reg.{Reg}
-use Rattle.bbm_regimes.specs.declared.regime.Tag.{Tag}
-use Rattle.bbm_regimes.specs.declared.regime.Tag.TheVariants.{El2 as El2Tag, Vmid, Asid, Ttbr1 as Ttbr1Tag}
-use Rattle.bbm_regimes.specs.declared.regime.World.{World}
-use Rattle.bbm_regimes.specs.declared.regime.World.TheVariants.{Hyp, Kernel}
-use Rattle.bbm_lemmas.proofs.Bools.{first_true, or_middle}
+use Rattle.bbm_regimes.specs.declared.regime.Tag.TheVariants.{El2 as El2Tag, Ttbr1 as Ttbr1Tag}
+use Rattle.bbm_lemmas.proofs.Bools.{or_middle}
 use Rattle.bbm_lemmas.proofs.Elements.{any_found, any_finds}
-use Rattle.bbm_roots.specs.Columns.{loads_in}
-use Rattle.bbm_roots.specs.Holds.{some_pe, is_hold, hold_in, tag_in, entry_bit, entry_held, tag_key, conflict_in}
-use Rattle.bbm_roots.specs.HoldsNew.{holds_root, holds_asids, holds_under, holds_new}
-use Rattle.bbm_roots.specs.LoadsOf.{other_loads, readings_after}
-use Rattle.bbm_roots.specs.Readings.{asid_readings, readings_of, readings_with, own_reading, reading_at}
-use Rattle.bbm_roots.specs.Readings.{has_reading, has_other, is_reading, is_other, same_tag}
-use Rattle.bbm_roots.specs.RootCalls.{Call}
-use Rattle.bbm_roots.specs.RootRegisters.{register_values, first_reg, is_first}
-use Rattle.bbm_roots.specs.RootsStand.{Stands, world_of, pes_of}
-use Rattle.bbm_roots.specs.declared.hold.Held.{Held}
-use Rattle.bbm_roots.specs.declared.load.Load.{Load}
-use Rattle.bbm_roots.specs.declared.reading.Reading.{Reading}
-use Rattle.bbm_roots.specs.declared.roots.Roots.{Roots}
+use Rattle.bbm_roots.specs.LoadsOf.{other_loads}
 use Rattle.bbm_roots.proofs.Bits.{and_right, same_tag-true}
 use Rattle.bbm_roots.proofs.Leasts.{or-split}
 use Rattle.bbm_roots.proofs.Steps.{reads-holds}
-use mathlib.Core.Bool.{or-false, and-false}
 
 -- what a test finds among readings, with those of one more value
 module _ (t : Reading → Bool) where

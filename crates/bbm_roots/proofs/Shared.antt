@@ -1,39 +1,22 @@
 -- A register write that makes one tag readable, which its root holds at some PE.
-use Rattle.std.proofs.Common.{◌≡◌, ◌<◌, ◌≤◌, ℕ, Bool, true, false, nat_le, ⊎_elim, ◌&&◌, ◌||◌, not, nat_eq, List, [], ◌∷◌, ◌++◌, Option}
-use Rattle.std.proofs.Common.{Some, None, cond, refl, sym, ◌∙◌, ap, is_some}
-use Rattle.std.specs.List.{flat_map}
-use Rattle.std.proofs.lemmas.Bool.{false≢true, eqb-true, not-true, cases_lt, le-leb}
-use Rattle.bbm_lemmas.proofs.Tautologies.{proved}
-use Rattle.bbm_lemmas.proofs.Tautologies.Claim.{If, Is}
-use Rattle.indexmap.specs.IndexMap.{IndexMap, get}
-use Rattle.bbm_regimes.specs.declared.regime.AsidFrom.{AsidFrom}
+use Rattle.bbm_roots.proofs.Common.{◌≡◌, ◌<◌, ◌≤◌, ℕ, Bool, true, false, nat_le, ⊎_elim, ◌&&◌, ◌||◌, not, nat_eq, List}
+use Rattle.bbm_roots.proofs.Common.{[], ◌∷◌, ◌++◌, Option, Some, None, cond, refl, sym, ◌∙◌, ap, is_some, flat_map}
+use Rattle.bbm_roots.proofs.Common.{false≢true, eqb-true, not-true, cases_lt, proved, If, Is, IndexMap, get, AsidFrom}
+use Rattle.bbm_roots.proofs.Common.{El2, S2, Ttbr0, Ttbr1, Reg, Tag, Vmid, Asid, World, Hyp, Kernel, first_true}
+use Rattle.bbm_roots.proofs.Common.{loads_in, hold_in, tag_in, tag_key, entry_held, has_entry, IsCalm, Marks}
+use Rattle.bbm_roots.proofs.Common.{holds_root, holds_asids, holds_under, holds_new, readings_after, readings_of}
+use Rattle.bbm_roots.proofs.Common.{own_reading, reading_at, has_reading, has_other, has_tag, same_tag, is_reading}
+use Rattle.bbm_roots.proofs.Common.{asid_readings, Call, is_first, Stands, world_of, pes_of, Held, Load, Reading, Roots}
+use Rattle.bbm_roots.proofs.Common.{or-false, and-false}
+use Rattle.std.proofs.lemmas.Bool.{le-leb}
 use Rattle.bbm_regimes.specs.declared.regime.AsidFrom.TheVariants.{Ttbr0 as FromTtbr0, Ttbr1 as FromTtbr1}
-use Rattle.bbm_regimes.specs.declared.regime.Kind.TheVariants.{El2, S2, Ttbr0, Ttbr1}
-use Rattle.bbm_regimes.specs.declared.regime.Reg.{Reg}
-use Rattle.bbm_regimes.specs.declared.regime.Tag.{Tag}
-use Rattle.bbm_regimes.specs.declared.regime.Tag.TheVariants.{El2 as El2Tag, Vmid, Asid, Ttbr1 as Ttbr1Tag}
-use Rattle.bbm_regimes.specs.declared.regime.World.{World}
-use Rattle.bbm_regimes.specs.declared.regime.World.TheVariants.{Hyp, Kernel}
-use Rattle.bbm_lemmas.proofs.Bools.{first_true}
-use Rattle.bbm_roots.specs.Columns.{loads_in}
-use Rattle.bbm_roots.specs.Holds.{hold_in, tag_in, tag_key, entry_held, has_entry, IsCalm, Marks}
-use Rattle.bbm_roots.specs.HoldsNew.{holds_root, holds_asids, holds_under, holds_new, kernel_tag, own_tag}
-use Rattle.bbm_roots.specs.LoadsOf.{readings_after}
-use Rattle.bbm_roots.specs.Readings.{readings_of, own_reading, reading_at, has_reading, has_other, has_tag, same_tag}
-use Rattle.bbm_roots.specs.Readings.{is_reading, asid_readings}
-use Rattle.bbm_roots.specs.RootCalls.{Call}
+use Rattle.bbm_regimes.specs.declared.regime.Tag.TheVariants.{El2 as El2Tag, Ttbr1 as Ttbr1Tag}
+use Rattle.bbm_roots.specs.HoldsNew.{kernel_tag, own_tag}
 use Rattle.bbm_roots.specs.RootJudgements.{IsShared}
-use Rattle.bbm_roots.specs.RootRegisters.{is_first}
-use Rattle.bbm_roots.specs.RootsStand.{Stands, world_of, pes_of}
-use Rattle.bbm_roots.specs.declared.hold.Held.{Held}
-use Rattle.bbm_roots.specs.declared.load.Load.{Load}
-use Rattle.bbm_roots.specs.declared.reading.Reading.{Reading}
-use Rattle.bbm_roots.specs.declared.roots.Roots.{Roots}
 use Rattle.bbm_roots.proofs.Bits.{and_right, same_tag-true, some-found}
 use Rattle.bbm_roots.proofs.Conflicts.{tag_in-is}
 use Rattle.bbm_roots.proofs.Leasts.{or-split}
 use Rattle.bbm_roots.proofs.Settled.{ahead, behind, one-root, read-held}
-use mathlib.Core.Bool.{or-false, and-false}
 
 -- a register with fewer than nine values
 pub below-nine : (n : ℕ) (full : Bool) → full ≡ nat_le 9 n → full ≡ false → n < 9

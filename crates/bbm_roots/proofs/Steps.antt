@@ -1,28 +1,15 @@
 -- What one more call does to the tags that are held and to the TLBIs that are awaited.
-use Rattle.std.proofs.Common.{◌≡◌, ℕ, Bool, true, false, ◌&&◌, ◌||◌, not, nat_eq, List, [], ◌∷◌, ◌++◌, refl, sym, ◌∙◌}
-use Rattle.std.proofs.Common.{ap, Option}
-use Rattle.std.proofs.lemmas.Bool.{false≢true, not-true}
-use Rattle.bbm_lemmas.proofs.Tautologies.{proved}
-use Rattle.bbm_lemmas.proofs.Tautologies.Claim.{If, Is}
-use Rattle.bbm_barriers.specs.Options.{answers}
-use Rattle.bbm_barriers.specs.declared.Dsb.{Dsb}
-use Rattle.bbm_regimes.specs.declared.regime.AsidFrom.{AsidFrom}
+use Rattle.bbm_roots.proofs.Common.{◌≡◌, ℕ, Bool, true, false, ◌&&◌, ◌||◌, not, nat_eq, List, [], ◌∷◌, ◌++◌, refl, sym}
+use Rattle.bbm_roots.proofs.Common.{◌∙◌, ap, Option, false≢true, not-true, proved, If, Is, answers, Dsb, AsidFrom, Tag}
+use Rattle.bbm_roots.proofs.Common.{World, Hyp, Kernel, takes_whole_tag, Call, Complete, Issue, same_flag}
+use Rattle.bbm_roots.proofs.Common.{asid_readings, has_reading, has_tag, is_reading, is_of_tag, same_tag, at_start}
+use Rattle.bbm_roots.proofs.Common.{readings, reads, reads_for_some, awaited, loses, holds_at, Reading, and-true}
+use Rattle.bbm_roots.proofs.Common.{and-false, or-false, first_true}
 use Rattle.bbm_regimes.specs.declared.regime.AsidFrom.TheVariants.{Ttbr0 as FromTtbr0, Ttbr1 as FromTtbr1}
-use Rattle.bbm_regimes.specs.declared.regime.Tag.{Tag}
-use Rattle.bbm_regimes.specs.declared.regime.World.{World}
-use Rattle.bbm_regimes.specs.declared.regime.World.TheVariants.{Hyp, Kernel}
 use Rattle.bbm_tlbi_scope.specs.declared.scope.Scope.{Scope}
-use Rattle.bbm_tlbi_scope.specs.ScopeTags.{takes_whole_tag}
-use Rattle.bbm_roots.specs.RootCalls.{Call, Complete, Issue}
-use Rattle.bbm_roots.specs.RootPendings.{same_flag}
-use Rattle.bbm_roots.specs.Readings.{asid_readings, has_reading, has_tag, is_reading, is_of_tag, same_tag}
-use Rattle.bbm_roots.specs.RootRegisters.{at_start}
-use Rattle.bbm_roots.specs.RootTags.{readings, reads, reads_for_some, awaited, loses, holds_at, issues, answered_by}
-use Rattle.bbm_roots.specs.declared.reading.Reading.{Reading}
+use Rattle.bbm_roots.specs.RootTags.{issues, answered_by}
 use Rattle.bbm_roots.proofs.Lists.{any-weaker}
 use Rattle.bbm_roots.proofs.Bits.{and_right}
-use mathlib.Core.Bool.{and-true, and-false, or-false}
-use Rattle.bbm_lemmas.proofs.Bools.{first_true}
 
 -- where a tag is readable for a root, the root holds it
 pub reads-holds : (world : World) (cs : List Call) (g : Tag) (r p : ℕ) → reads world cs p g r ≡ true →

@@ -1,24 +1,11 @@
 -- Roots after a register write that is taken stand for the calls with the write.
-use Rattle.std.proofs.Common.{◌≡◌, ◌≢◌, ◌<◌, ◌≤◌, ◌∙◌, ap, sym, refl, Bool, ◌&&◌, ◌||◌, not, nat_eq, List, ◌∷◌, true}
-use Rattle.std.proofs.Common.{false, cond, ℕ, None, arith}
+use Rattle.bbm_roots.proofs.Common.{◌≡◌, ◌<◌, ◌≤◌, ◌∙◌, ap, sym, refl, Bool, ◌&&◌, ◌||◌, not, nat_eq, List, ◌∷◌, true}
+use Rattle.bbm_roots.proofs.Common.{false, cond, ℕ, None, arith, Reg, Tag, Call, WriteReg, loads_in, Marks, pending_in}
+use Rattle.bbm_roots.proofs.Common.{has_reading, readings_of, missing_root, register_values, first_reg, second_reg}
+use Rattle.bbm_roots.proofs.Common.{is_first, same_reg, load_of, is_of_world, kind_of_reg, names_in, root_at, is_root}
+use Rattle.bbm_roots.proofs.Common.{Writes, Stands, world_of, pes_of, readings, holds_at, Load, Reading, Roots}
+use Rattle.std.proofs.Common.{◌≢◌}
 use Rattle.std.proofs.lemmas.Bool.{ne_eqb}
-use Rattle.bbm_regimes.specs.declared.regime.Reg.{Reg}
-use Rattle.bbm_regimes.specs.declared.regime.Tag.{Tag}
-use Rattle.bbm_roots.specs.RootCalls.{Call, WriteReg}
-use Rattle.bbm_roots.specs.Columns.{loads_in}
-use Rattle.bbm_roots.specs.Holds.{Marks}
-use Rattle.bbm_roots.specs.RootPendings.{pending_in}
-use Rattle.bbm_roots.specs.Readings.{has_reading, readings_of}
-use Rattle.bbm_roots.specs.Refusals.{missing_root}
-use Rattle.bbm_roots.specs.RootRegisters.{register_values, first_reg, second_reg, is_first, same_reg, load_of}
-use Rattle.bbm_roots.specs.RootRegisters.{is_of_world, kind_of_reg, names_in}
-use Rattle.bbm_roots.specs.DeclaredRoots.{root_at, is_root}
-use Rattle.bbm_roots.specs.RootChanges.{Writes}
-use Rattle.bbm_roots.specs.RootsStand.{Stands, world_of, pes_of}
-use Rattle.bbm_roots.specs.RootTags.{readings, holds_at}
-use Rattle.bbm_roots.specs.declared.load.Load.{Load}
-use Rattle.bbm_roots.specs.declared.reading.Reading.{Reading}
-use Rattle.bbm_roots.specs.declared.roots.Roots.{Roots}
 use Rattle.bbm_roots.proofs.Made.{stands-made}
 use Rattle.bbm_roots.proofs.Rooted.{holders-next, root-there, written-named}
 use Rattle.bbm_roots.proofs.Steps.{holds-written, awaited-written}

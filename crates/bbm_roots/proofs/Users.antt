@@ -1,12 +1,7 @@
 -- Who uses a root, by the columns and by the calls.
-use Rattle.std.proofs.Common.{◌≡◌, ℕ, ◌<◌, ◌≤◌, Bool, true, false, ◌&&◌, ◌||◌, nat_lt, List, [], ◌∷◌, refl, sym, ◌∙◌}
-use Rattle.std.proofs.Common.{ap, arith, ⊎_elim}
-use Rattle.std.proofs.lemmas.Bool.{lt-ltb, ltb-true, cases_lt}
-use Rattle.bbm_regimes.specs.declared.regime.Reg.{Reg}
-use Rattle.bbm_regimes.specs.declared.regime.World.{World}
-use Rattle.bbm_roots.specs.RootCalls.{Call}
-use Rattle.bbm_roots.specs.RootRegisters.{register_values, first_reg, second_reg, names_in, at_start, uses}
-use Rattle.bbm_roots.specs.declared.load.Load.{Load}
+use Rattle.bbm_roots.proofs.Common.{◌≡◌, ℕ, ◌<◌, ◌≤◌, Bool, true, false, ◌&&◌, ◌||◌, nat_lt, List, [], ◌∷◌, refl, sym}
+use Rattle.bbm_roots.proofs.Common.{◌∙◌, ap, arith, ⊎_elim, lt-ltb, ltb-true, cases_lt, Reg, World, Call}
+use Rattle.bbm_roots.proofs.Common.{register_values, first_reg, second_reg, names_in, at_start, uses, Load}
 
 pub user-is : (world : World) (pes page : ℕ) (cs : List Call) (first second : ℕ → List Load) →
     ((p : ℕ) → p < pes → first p ≡ register_values cs p (first_reg world)) →

@@ -1,18 +1,9 @@
 -- What a register write leaves readable.
-use Rattle.std.proofs.Common.{◌≡◌, ℕ, Bool, true, false, ◌&&◌, not, nat_eq, List, ◌∷◌, refl, sym, ◌∙◌, ap, cond}
-use Rattle.std.proofs.Common.{Option}
-use Rattle.std.proofs.lemmas.Bool.{false≢true, eqb-true}
+use Rattle.bbm_roots.proofs.Common.{◌≡◌, ℕ, Bool, true, false, ◌&&◌, not, nat_eq, List, ◌∷◌, refl, sym, ◌∙◌, ap, cond}
+use Rattle.bbm_roots.proofs.Common.{Option, false≢true, eqb-true, Reg, Ttbr0El2, VttbrEl2, Ttbr0El1, Ttbr1El1, World}
+use Rattle.bbm_roots.proofs.Common.{Hyp, Kernel, Call, WriteReg, readings_of, register_values, first_reg, second_reg}
+use Rattle.bbm_roots.proofs.Common.{is_first, is_of_world, same_reg, load_of, root_of, readings, Load}
 use Rattle.bbm_regimes.specs.Registers.{tag_number}
-use Rattle.bbm_regimes.specs.declared.regime.Reg.{Reg}
-use Rattle.bbm_regimes.specs.declared.regime.Reg.TheVariants.{Ttbr0El2, VttbrEl2, Ttbr0El1, Ttbr1El1}
-use Rattle.bbm_regimes.specs.declared.regime.World.{World}
-use Rattle.bbm_regimes.specs.declared.regime.World.TheVariants.{Hyp, Kernel}
-use Rattle.bbm_roots.specs.RootCalls.{Call, WriteReg}
-use Rattle.bbm_roots.specs.Readings.{readings_of}
-use Rattle.bbm_roots.specs.RootRegisters.{register_values, first_reg, second_reg, is_first, is_of_world, same_reg}
-use Rattle.bbm_roots.specs.RootRegisters.{load_of, root_of}
-use Rattle.bbm_roots.specs.RootTags.{readings}
-use Rattle.bbm_roots.specs.declared.load.Load.{Load}
 
 -- what a value names, by its parts
 pub load-is : (number : ℕ) (root : Option ℕ) (reg : Reg) (value : ℕ) (null : Bool) → number ≡ tag_number value →

@@ -18,10 +18,6 @@ use Rattle.bbm_roots.specs.declared.pending.Waiting.{Waiting}
 use Rattle.bbm_roots.specs.declared.reading.Reading.{Reading}
 use Rattle.bbm_roots.specs.declared.registers.Registers.{Registers}
 
-abbrev pub same_flag : Bool → Bool → Bool
-same_flag true b = b
-same_flag false b = not b
-
 -- the place of an issuer's broadcast TLBIs, and that of its others
 abbrev pub slot_of : ℕ → Bool → ℕ
 slot_of q true = 2 * q + 1

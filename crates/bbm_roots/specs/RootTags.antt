@@ -10,7 +10,7 @@ use Rattle.bbm_tlbi_scope.specs.ScopeTags.{takes_whole_tag}
 use Rattle.bbm_tlbi_scope.specs.declared.scope.Scope.{Scope}
 use Rattle.bbm_roots.specs.RootCalls.{Call, Issue, Complete}
 use Rattle.bbm_roots.specs.Holds.{some_pe}
-use Rattle.bbm_roots.specs.RootPendings.{same_flag}
+use Rattle.bbm_lemmas.specs.ListWords.{same_flag}
 use Rattle.bbm_roots.specs.Readings.{readings_of, has_reading, has_tag}
 use Rattle.bbm_roots.specs.RootRegisters.{first_reg, second_reg, register_values}
 use Rattle.bbm_roots.specs.declared.load.Load.{Load}

@@ -9,7 +9,8 @@ ghost use Rattle.bbm_regimes.specs.declared.regime.Tag.{Tag as TheTag};
 ghost use Rattle.bbm_roots.specs.Holds as spec;
 ghost use Rattle.bbm_roots.specs.Keyed.{OthersStay};
 ghost use Rattle.bbm_barriers.specs.Options.{answers as dsb_answers};
-ghost use Rattle.bbm_roots.specs.RootPendings.{same_flag, slot_of, wait_at, wait_bit, wait_in, EmptiesPlace};
+ghost use Rattle.bbm_roots.specs.RootPendings.{slot_of, wait_at, wait_bit, wait_in, EmptiesPlace};
+ghost use Rattle.bbm_lemmas.specs.ListWords.{same_flag};
 ghost use Rattle.bbm_roots.specs.Readings.{same_tag as spec_same_tag, has_reading as spec_has_reading};
 ghost use Rattle.bbm_roots.specs.Readings.{has_tag as spec_has_tag};
 

@@ -10,6 +10,7 @@ ghost use Rattle.bbm_tlbi_scope.specs.Operations.{has_page};
 ghost use Rattle.bbm_tlbi_scope.specs.ScopeTags.{takes_whole_tag};
 ghost use Rattle.bbm_roots.specs.Holds.{hold_in, tag_key as key_of};
 ghost use Rattle.bbm_roots.specs.Keyed.{OthersStay};
+ghost use Rattle.bbm_lemmas.specs.ListWords.{same_flag};
 ghost use Rattle.bbm_roots.specs.RootPendings as spec;
 ghost use Rattle.bbm_roots.specs.Readings.{same_tag as spec_same_tag};
 
@@ -280,7 +281,7 @@ pub fn note(
     ensures { (q : ℕ) (b : Bool) (g : TheTag) (r h p : ℕ) → hold_in holds.now g r h ≡ true
         → spec.pending_in pendings.new q b g p
         ≡ (spec.pending_in pendings.old q b g p || (spec.has_pending pendings.old q b g
-        && ((nat_eq q issuer && spec.same_flag scope.now.broadcast b && takes_whole_tag scope.now vmid g)
+        && ((nat_eq q issuer && same_flag scope.now.broadcast b && takes_whole_tag scope.now vmid g)
         && spec.unread_at registers.now issuer scope.now.broadcast g p))) }
 {
     if pendings.issuers.has(issuer) {

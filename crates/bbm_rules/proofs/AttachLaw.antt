@@ -1,34 +1,22 @@
 -- What the rules on fresh pages say of an event that attaches pages, by paths.
-use Rattle.std.proofs.Common.{◌≡◌, ℕ, zero, suc, ◌+◌, ◌-◌, ◌<◌, ◌≤◌, Bool, true, false, not, List, [], ◌∷◌, ◌++◌}
-use Rattle.std.proofs.Common.{length, Option, Some, None, Contains, flat_map, filter_map, map, option_and_then}
-use Rattle.std.proofs.Common.{option_to_list, true≢false, ◌&&◌, ◌==◌, refl, sym, ◌∙◌, ap, subst, inl, inr, arith}
-use Rattle.std.proofs.lemmas.Bool.{and_from, eq-eqb, not_from_false}
-use Rattle.bbm_regimes.specs.declared.regime.Kind.{Kind}
+use Rattle.bbm_rules.proofs.Common.{◌≡◌, ℕ, zero, suc, ◌+◌, ◌-◌, ◌<◌, ◌≤◌, Bool, true, false, not, List, [], ◌∷◌, ◌++◌}
+use Rattle.bbm_rules.proofs.Common.{length, Option, Some, None, Contains, flat_map, filter_map, map, option_and_then}
+use Rattle.bbm_rules.proofs.Common.{option_to_list, true≢false, ◌&&◌, ◌==◌, refl, sym, ◌∙◌, ap, subst, inl, inr, arith}
+use Rattle.bbm_rules.proofs.Common.{and_from, eq-eqb, not_from_false, Kind, desc_of, Desc, In, from_contains, in_left}
+use Rattle.bbm_rules.proofs.Common.{in_right, to_filter, to_flat, Attached, End, all_ends, attached_by, attached_from}
+use Rattle.bbm_rules.proofs.Common.{end_at, ends_below, pages_of, Trust, if_so, repeated, is_global, page_of, Noted}
+use Rattle.bbm_rules.proofs.Common.{events_of, is_fresh, root_pages, same_kind, attached_with, bad_ends, global_user}
+use Rattle.bbm_rules.proofs.Common.{judged_ends, not_fresh, page_in_use, places_with, unfresh, untracked_page}
+use Rattle.bbm_rules.proofs.Common.{written_with, Node, next_of, node_of, places_in, value_of, written_places}
 use Rattle.bbm_regimes.specs.declared.regime.Kind.TheVariants.{Ttbr0}
-use Rattle.bbm_descriptor.specs.Descriptor.{desc_of}
-use Rattle.bbm_descriptor.specs.declared.desc.Desc.{Desc}
 use Rattle.bbm_events.specs.Heading.{Heading}
 use Rattle.bbm_events.specs.declared.event.Event.{Event}
 use Rattle.bbm_events.specs.declared.event.Event.TheVariants.{Root, Write}
 use Rattle.bbm_lemmas.proofs.Words.{Apart, apart}
-use Rattle.bbm_lemmas.specs.Elements.{In}
-use Rattle.bbm_lemmas.proofs.Elements.{from_contains, in_left, in_right, none_in, to_filter, to_flat}
-use Rattle.bbm_rules.proofs.ListLemmas.{Parted, append_none, in_pages, least_none, parted, place_apart}
-use Rattle.bbm_rules.proofs.ListLemmas.{same_place}
+use Rattle.bbm_lemmas.proofs.Elements.{none_in}
+use Rattle.bbm_rules.proofs.ListLemmas.{Parted, append_none, in_pages, least_none, parted, place_apart, same_place}
 use Rattle.bbm_rules.proofs.TreeLaw.{below_fresh, ends_from, one_more, path_to_end, place_of_table, written_by}
-use Rattle.bbm_rules.specs.Attach.{Attached, End, all_ends, attached_by, attached_from, end_at, ends_below, pages_of}
-use Rattle.bbm_rules.specs.Claims.{Trust}
-use Rattle.bbm_rules.specs.Lists.{if_so, repeated}
-use Rattle.bbm_rules.specs.Covers.{is_global}
-use Rattle.bbm_rules.specs.Places.{page_of}
-use Rattle.bbm_rules.specs.Notes.{Noted, events_of}
-use Rattle.bbm_rules.specs.Pages.{is_fresh}
-use Rattle.bbm_rules.specs.Roots.{root_pages, same_kind}
-use Rattle.bbm_rules.specs.Rules.{attached_with, bad_ends, global_user, judged_ends, not_fresh, page_in_use}
-use Rattle.bbm_rules.specs.Rules.{places_with, unfresh, untracked_page, written_with}
-use Rattle.bbm_rules.specs.Tree.{Node, next_of, node_of}
 use Rattle.bbm_rules.specs.TreeSentences.{Leads}
-use Rattle.bbm_rules.specs.Values.{places_in, value_of, written_places}
 
 all_some : (ns : List ℕ) → filter_map (λ (n : ℕ). Some n) ns ≡ ns
 all_some [] = refl

@@ -1,13 +1,9 @@
 -- Worked cases: what a checker's answer to an event means, and which events ask for no memory.
-use Rattle.std.proofs.Common.{◌≡◌, ℕ, Bool, true, false, List, [], ◌∷◌, Option, Some, None, Err, refl, ap, sym}
-use Rattle.std.proofs.lemmas.Option.{none-some}
-use Prim.Native.String.{String}
-use Rattle.bbm_regimes.specs.declared.regime.Which.{Which}
+use Rattle.bbm_rules.proofs.Common.{◌≡◌, ℕ, Bool, true, false, List, [], ◌∷◌, Option, Some, None, Err, refl, ap, sym}
+use Rattle.bbm_rules.proofs.Common.{none-some, String, Which, Answers, rewrites, Breach}
 use Rattle.bbm_events.specs.declared.event.Event.TheVariants.{Write}
 use Rattle.bbm_rules.specs.declared.rule.Rule.{Rule}
 use Rattle.bbm_rules.specs.declared.step_fault.StepFault.TheVariants.{Broken, Limit}
-use Rattle.bbm_rules.specs.Answers.{Answers, rewrites}
-use Rattle.bbm_rules.specs.Broken.{Breach}
 use Rattle.bbm_rules.proofs.Judged.{after}
 
 -- An answer names the rule that is broken, and its place.

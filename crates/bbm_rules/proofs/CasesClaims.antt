@@ -1,8 +1,7 @@
 -- Worked cases: logs judged by a certificate, the list of the claims that may be used.
-use Rattle.std.specs.Prelude.{◌≡◌, List, [], ◌∷◌, codes, refl}
-use Prim.Native.String.{String}
+use Rattle.bbm_rules.proofs.Common.{codes, String, Place, Two, Taken}
+use Rattle.std.specs.Prelude.{◌≡◌, List, [], ◌∷◌, refl}
 use Rattle.bbm_regimes.specs.declared.regime.Tag.TheVariants.{El2, Vmid, Asid, Ttbr1}
-use Rattle.bbm_events.specs.declared.claim.Claim.TheVariants.{Place, Two, Taken}
 use Rattle.bbm_rules.proofs.Judged.{judged_by}
 
 -- a block is moved by the whole sequence

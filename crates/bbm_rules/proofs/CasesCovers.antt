@@ -1,5 +1,6 @@
 -- Worked cases: which TLBIs cover a place, by its region, its level and its table.
-use Rattle.std.specs.Prelude.{◌≡◌, [], ◌∷◌, codes, refl}
+use Rattle.bbm_rules.proofs.Common.{codes}
+use Rattle.std.specs.Prelude.{◌≡◌, [], ◌∷◌, refl}
 use Rattle.bbm_rules.proofs.Judged.{judged}
 
 -- The TLBI names level 2, and the block stands at level 1.

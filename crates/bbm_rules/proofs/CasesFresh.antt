@@ -1,5 +1,6 @@
 -- Worked cases: pages that are in no tree.
-use Rattle.std.specs.Prelude.{◌≡◌, [], ◌∷◌, codes, refl}
+use Rattle.bbm_rules.proofs.Common.{codes}
+use Rattle.std.specs.Prelude.{◌≡◌, [], ◌∷◌, refl}
 use Rattle.bbm_rules.proofs.Judged.{judged}
 
 -- A descriptor of a page that is in no tree yet is written twice.

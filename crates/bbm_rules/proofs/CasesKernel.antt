@@ -1,5 +1,6 @@
 -- Worked cases: the tables of a kernel, with ASIDs.
-use Rattle.std.specs.Prelude.{◌≡◌, [], ◌∷◌, codes, refl}
+use Rattle.bbm_rules.proofs.Common.{codes}
+use Rattle.std.specs.Prelude.{◌≡◌, [], ◌∷◌, refl}
 use Rattle.bbm_rules.proofs.Judged.{judged}
 
 -- A global leaf of the upper range is flushed under ASID 7, which nobody uses.

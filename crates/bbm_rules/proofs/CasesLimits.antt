@@ -1,10 +1,10 @@
 -- Worked cases: where an event reaches a limit, and where not.
-use Rattle.std.proofs.Common.{◌≡◌, ℕ, List, [], ◌∷◌, length, Some, None, codes, refl}
-use Rattle.bbm_regimes.specs.declared.regime.Which.{Which}
+use Rattle.bbm_rules.proofs.Common.{◌≡◌, ℕ, List, [], ◌∷◌, length, Some, None, refl, Which, limit_at}
+use Rattle.std.proofs.Common.{codes}
 use Rattle.bbm_regimes.specs.declared.regime.Which.TheVariants.{Events, Lines}
 use Rattle.bbm_events.specs.declared.event.Event.{Event}
 use Rattle.bbm_rules.specs.declared.limits.Limits.{Limits}
-use Rattle.bbm_rules.specs.Outcome.{check_limits, slow_limits, limit_at}
+use Rattle.bbm_rules.specs.Outcome.{check_limits, slow_limits}
 use Rattle.bbm_rules.proofs.Judged.{judged}
 
 -- Eight writes of a register without an ISB of its PE between reach no limit.

@@ -1,5 +1,6 @@
 -- Worked cases: lines that are malformed, and how a log ends.
-use Rattle.std.specs.Prelude.{◌≡◌, ℕ, List, [], ◌∷◌, ◌++◌, codes, refl}
+use Rattle.bbm_rules.proofs.Common.{codes}
+use Rattle.std.specs.Prelude.{◌≡◌, ℕ, List, [], ◌∷◌, ◌++◌, refl}
 use Rattle.bbm_rules.proofs.Judged.{judged, judged_bytes, log}
 
 abbrev hundred : List ℕ

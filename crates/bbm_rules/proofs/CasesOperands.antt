@@ -1,5 +1,6 @@
 -- Worked cases: operands that can't be decoded, and what isn't of the world.
-use Rattle.std.specs.Prelude.{◌≡◌, [], ◌∷◌, codes, refl}
+use Rattle.bbm_rules.proofs.Common.{codes}
+use Rattle.std.specs.Prelude.{◌≡◌, [], ◌∷◌, refl}
 use Rattle.bbm_rules.proofs.Judged.{judged}
 
 -- The operand has a level hint of the 16 KiB granule.

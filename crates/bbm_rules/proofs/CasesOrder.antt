@@ -1,5 +1,6 @@
 -- Worked cases: an event that breaks several rules is refused by the least; the first bad line decides.
-use Rattle.std.specs.Prelude.{◌≡◌, [], ◌∷◌, codes, refl}
+use Rattle.bbm_rules.proofs.Common.{codes}
+use Rattle.std.specs.Prelude.{◌≡◌, [], ◌∷◌, refl}
 use Rattle.bbm_rules.proofs.Judged.{judged}
 
 -- Rule 1 comes before rule 11.

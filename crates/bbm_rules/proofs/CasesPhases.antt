@@ -1,6 +1,6 @@
 -- Worked cases: how far a place has come, at each PE, after the events of a log; and how many places are on the way.
+use Rattle.bbm_rules.proofs.Common.{String}
 use Rattle.std.specs.Prelude.{◌≡◌, ℕ, List, [], ◌∷◌, Option, Some, refl}
-use Prim.Native.String.{String}
 use Rattle.bbm_rules.specs.declared.phase.Phase.{Phase}
 use Rattle.bbm_rules.specs.declared.phase.Phase.TheVariants.{Clean, Live, Broken, Seen, Half, Cleansed}
 use Rattle.bbm_rules.specs.Claims.{Patterns}

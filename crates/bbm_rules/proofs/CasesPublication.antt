@@ -1,5 +1,6 @@
 -- Worked cases: a place is cleared, the clear is published, a flush is issued, and it is answered, in this order.
-use Rattle.std.specs.Prelude.{◌≡◌, [], ◌∷◌, codes, refl}
+use Rattle.bbm_rules.proofs.Common.{codes}
+use Rattle.std.specs.Prelude.{◌≡◌, [], ◌∷◌, refl}
 use Rattle.bbm_rules.proofs.Judged.{judged}
 
 -- A block is moved by the whole sequence, with a flush of the whole regime.

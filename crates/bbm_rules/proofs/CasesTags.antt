@@ -1,5 +1,6 @@
 -- Worked cases: which root holds a tag, and which TLBI takes it away.
-use Rattle.std.specs.Prelude.{◌≡◌, [], ◌∷◌, codes, refl}
+use Rattle.bbm_rules.proofs.Common.{codes}
+use Rattle.std.specs.Prelude.{◌≡◌, [], ◌∷◌, refl}
 use Rattle.bbm_rules.proofs.Judged.{judged}
 
 -- PE 1 takes another root while PE 0 holds the EL2 tag for the first.

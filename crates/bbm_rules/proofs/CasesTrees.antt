@@ -1,5 +1,6 @@
 -- Worked cases: pages, tables and roots: what is attached, what hangs, and what is in limbo.
-use Rattle.std.specs.Prelude.{◌≡◌, [], ◌∷◌, codes, refl}
+use Rattle.bbm_rules.proofs.Common.{codes}
+use Rattle.std.specs.Prelude.{◌≡◌, [], ◌∷◌, refl}
 use Rattle.bbm_rules.proofs.Judged.{judged}
 
 -- A block is written in a page whose table above was cleared and not flushed.

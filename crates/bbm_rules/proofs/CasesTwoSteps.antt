@@ -1,5 +1,6 @@
 -- Worked cases: stage 2 tables, where a flush by address takes two steps.
-use Rattle.std.specs.Prelude.{◌≡◌, [], ◌∷◌, codes, refl}
+use Rattle.bbm_rules.proofs.Common.{codes}
+use Rattle.std.specs.Prelude.{◌≡◌, [], ◌∷◌, refl}
 use Rattle.bbm_rules.proofs.Judged.{judged}
 
 -- The flush by address is answered, then the flush of the combined entries is issued and answered.

@@ -1,20 +1,16 @@
 -- Worked cases: what the definitions say of histories that no accepted log has. The events of a log come first, and then
 -- events that break a rule.
+use Rattle.bbm_rules.proofs.Common.{String, Cover, Full, cover_at, noted, holder_of, takes_tag, in_tree}
 use Rattle.std.specs.Prelude.{◌≡◌, ℕ, List, [], ◌∷◌, Bool, true, false, Option, Some, None, refl}
-use Prim.Native.String.{String}
 use Rattle.bbm_regimes.specs.declared.regime.Kind.TheVariants.{Ttbr0}
 use Rattle.bbm_regimes.specs.declared.regime.Tag.TheVariants.{Vmid}
 use Rattle.bbm_tlbi_scope.specs.declared.op.TlbiOp.{TlbiOp}
 use Rattle.bbm_tlbi_scope.specs.declared.op.TlbiOp.TheVariants.{Vmalls12e1is, Alle1is}
-use Rattle.bbm_tlbi_scope.specs.declared.entry.Cover.{Cover}
-use Rattle.bbm_tlbi_scope.specs.declared.entry.Cover.TheVariants.{None as NoCover, Full}
+use Rattle.bbm_tlbi_scope.specs.declared.entry.Cover.TheVariants.{None as NoCover}
 use Rattle.bbm_events.specs.declared.event.Event.{Event}
 use Rattle.bbm_events.specs.declared.event.Event.TheVariants.{Root, Tlbi, Unlock}
 use Rattle.bbm_rules.specs.Claims.{Patterns}
-use Rattle.bbm_rules.specs.Covers.{cover_at, noted}
-use Rattle.bbm_rules.specs.Locks.{holder_of}
-use Rattle.bbm_rules.specs.Tags.{takes_tag}
-use Rattle.bbm_rules.specs.Tree.{in_tree, tree}
+use Rattle.bbm_rules.specs.Tree.{tree}
 use Rattle.bbm_rules.proofs.Judged.{after}
 
 -- An `unlock` by a PE that doesn't hold the lock frees nothing.

@@ -1,7 +1,6 @@
 -- Worked cases: which values of a place a PE may still read after the events of a log.
+use Rattle.bbm_rules.proofs.Common.{String, is_readable}
 use Rattle.std.specs.Prelude.{◌≡◌, ℕ, List, [], ◌∷◌, Bool, true, false, Option, Some, refl}
-use Prim.Native.String.{String}
-use Rattle.bbm_rules.specs.Values.{is_readable}
 use Rattle.bbm_rules.proofs.Judged.{after}
 
 unfoldable pub readable_after : List String → ℕ → ℕ → ℕ → Option Bool

@@ -1,5 +1,6 @@
 -- Worked cases: what later versions of a log have: shared TLBs, more PEs, labels and flushes of ranges.
-use Rattle.std.specs.Prelude.{◌≡◌, [], ◌∷◌, codes, refl}
+use Rattle.bbm_rules.proofs.Common.{codes}
+use Rattle.std.specs.Prelude.{◌≡◌, [], ◌∷◌, refl}
 use Rattle.bbm_rules.proofs.Judged.{judged}
 
 -- Where PEs share no TLB entries each may flush for itself, as in version 1.

@@ -1,20 +1,11 @@
 -- An event keeps the answer of each definition that its row of the table doesn't name.
-use Rattle.std.proofs.Common.{◌≡◌, ℕ, Bool, true, false, ◌&&◌, ◌||◌, List, ◌∷◌, Option, refl, ap, ◌∙◌, true≢false}
-use Rattle.bbm_rules.specs.Prelude.{Kind, Reg, Heading, Event, Init, Null, Root, Unroot, Write, Dsb, Isb, Tlbi, Msr}
-use Rattle.bbm_rules.specs.Prelude.{Lock, Unlock}
-use Rattle.bbm_rules.specs.Changes.{changes}
-use Rattle.bbm_rules.specs.Claims.{Trust}
-use Rattle.bbm_rules.specs.Cleansing.{answered_where, answers_one, cleansed, full_step, half, publishes_write}
-use Rattle.bbm_rules.specs.Cleansing.{second_step, seen}
-use Rattle.bbm_rules.specs.Held.{ValidWrite, last_valid, last_valid_after, later}
-use Rattle.bbm_rules.specs.Locks.{holder_of}
-use Rattle.bbm_rules.specs.Notes.{Noted}
-use Rattle.bbm_rules.specs.Pages.{initialised, is_null, may_be_fresh}
-use Rattle.bbm_rules.specs.Reach.{Issued, unanswered}
-use Rattle.bbm_rules.specs.RegisterValues.{register_values}
-use Rattle.bbm_rules.specs.Roots.{roots_of}
-use Rattle.bbm_rules.specs.Tags.{itself}
-use Rattle.bbm_rules.specs.Values.{published, value_of, written_places}
+use Rattle.bbm_rules.proofs.Common.{◌≡◌, ℕ, Bool, true, false, ◌&&◌, ◌||◌, List, ◌∷◌, Option, refl, ap, ◌∙◌, true≢false}
+use Rattle.bbm_rules.proofs.Common.{Reg, Heading, Event, Init, Null, Root, Unroot, Write, Dsb, Isb, Tlbi, Msr, Lock}
+use Rattle.bbm_rules.proofs.Common.{Unlock, changes, Trust, answered_where, answers_one, cleansed, full_step, half}
+use Rattle.bbm_rules.proofs.Common.{publishes_write, second_step, seen, ValidWrite, last_valid, last_valid_after, later}
+use Rattle.bbm_rules.proofs.Common.{holder_of, Noted, initialised, is_null, may_be_fresh, Issued, unanswered}
+use Rattle.bbm_rules.proofs.Common.{register_values, roots_of, itself, published, value_of, written_places}
+use Rattle.bbm_rules.specs.Prelude.{Kind}
 
 pub values_kept : (e : Event) (h : List Event) (place : ℕ) → (changes e).values ≡ false → value_of (e ∷ h) place ≡ value_of h place
 values_kept (Init pe page) h place k = absurd (true≢false k)

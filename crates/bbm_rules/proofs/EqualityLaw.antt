@@ -1,17 +1,10 @@
 -- The tests for equality of tags, registers, kinds and claims decide equality.
-use Rattle.std.proofs.Common.{◌≡◌, ◌↔◌, ℕ, true, ◌&&◌, ◌==◌, sym, ◌∙◌, ap, true≢false}
-use Rattle.std.proofs.lemmas.Bool.{and_parts, eqb-true}
+use Rattle.bbm_rules.proofs.Common.{◌≡◌, ◌↔◌, ℕ, true, ◌&&◌, ◌==◌, sym, ◌∙◌, ap, true≢false, and_parts, eqb-true, Kind}
+use Rattle.bbm_rules.proofs.Common.{Claim, Place, Two, Taken, same_claim, same_tag, same_reg, same_kind}
 use Rattle.bbm_lemmas.proofs.Words.{same_number}
-use Rattle.bbm_regimes.specs.declared.regime.Kind.{Kind}
 use Rattle.bbm_regimes.specs.declared.regime.Reg.{Reg}
 use Rattle.bbm_regimes.specs.declared.regime.Tag.{Tag}
-use Rattle.bbm_events.specs.declared.claim.Claim.{Claim}
-use Rattle.bbm_events.specs.declared.claim.Claim.TheVariants.{Place, Two, Taken}
-use Rattle.bbm_rules.proofs.SameRegister.{tag_self, tag_equal, reg_self, reg_equal, kind_self}
-use Rattle.bbm_rules.proofs.SameRegister.{kind_equal}
-use Rattle.bbm_rules.specs.Claims.{same_claim, same_tag}
-use Rattle.bbm_rules.specs.RegisterValues.{same_reg}
-use Rattle.bbm_rules.specs.Roots.{same_kind}
+use Rattle.bbm_rules.proofs.SameRegister.{tag_self, tag_equal, reg_self, reg_equal, kind_self, kind_equal}
 
 pub claim_self : (c : Claim) → same_claim c c ≡ true
 claim_self (Place p a b t d) = simp same_number

@@ -1,11 +1,11 @@
 -- The verdict on lines is that of the first line that decides, or else that of the end.
-use Rattle.std.proofs.Common.{◌≡◌, ◌⊎◌, ℕ, suc, ◌+◌, List, [], ◌∷◌, ◌++◌, length, Option, Some, refl, ap, sym, ◌∙◌}
-use Rattle.std.proofs.Common.{subst, inl, inr, arith}
+use Rattle.bbm_rules.proofs.Common.{◌≡◌, ◌⊎◌, ℕ, suc, ◌+◌, List, [], ◌∷◌, ◌++◌, length, Option, Some, refl, ap, sym}
+use Rattle.bbm_rules.proofs.Common.{◌∙◌, subst, inl, inr, arith, Trust, Progress, AtHeader, Step, Decides, GoesOn}
+use Rattle.bbm_rules.proofs.Common.{Outcome}
 use Rattle.bbm_rules.specs.declared.verdict.Verdict.{Verdict}
-use Rattle.bbm_rules.specs.Claims.{Trust}
 use Rattle.bbm_rules.specs.declared.limits.Limits.{Limits}
-use Rattle.bbm_rules.specs.Outcome.{Progress, AtHeader, Step, Decides, GoesOn, step_of, end_of, outcome_after, Outcome}
-use Rattle.bbm_rules.specs.Outcome.{outcome_from, verdict_of_lines, goes_on_to, read_from, DecidedByLine, DecidedByEnd}
+use Rattle.bbm_rules.specs.Outcome.{step_of, end_of, outcome_after, outcome_from, verdict_of_lines, goes_on_to}
+use Rattle.bbm_rules.specs.Outcome.{read_from, DecidedByLine, DecidedByEnd}
 
 -- a line that decides
 decides_now : (p : Progress) (line : List ℕ) (lines : List (List ℕ)) (rest : List ℕ) (v : Verdict) (f : Progress → Outcome) (s : Step)

@@ -1,10 +1,10 @@
 -- What a place holds is what the sentence says, and a valid value that a place has is held.
-use Rattle.std.proofs.Common.{◌≡◌, ℕ, zero, suc, ◌<◌, ◌%◌, ◌&&◌, Bool, true, false, cond, ◌==◌, List, [], ◌∷◌, ◌++◌}
-use Rattle.std.proofs.Common.{Option, Some, None, option_and_then, refl, sym, ◌∙◌, ap, subst, true≢false, arith}
-use Rattle.std.proofs.lemmas.Bool.{and_from, and_parts, eq-eqb, eqb-true, or_from}
-use Rattle.bbm_lemmas.specs.EveryPe.{every_pe}
-use Rattle.bbm_regimes.specs.declared.regime.Kind.{Kind}
-use Rattle.bbm_descriptor.specs.Descriptor.{is_valid}
+use Rattle.bbm_rules.proofs.Common.{◌≡◌, ℕ, zero, suc, ◌<◌, ◌%◌, ◌&&◌, Bool, true, false, cond, ◌==◌, List, [], ◌∷◌}
+use Rattle.bbm_rules.proofs.Common.{◌++◌, Option, Some, None, option_and_then, refl, sym, ◌∙◌, ap, subst, true≢false}
+use Rattle.bbm_rules.proofs.Common.{arith, and_from, and_parts, eq-eqb, eqb-true, or_from, every_pe, Kind, is_valid}
+use Rattle.bbm_rules.proofs.Common.{Trust, cleansed, seen, writes, ValidWrite, held, last_valid, last_valid_after}
+use Rattle.bbm_rules.proofs.Common.{later, some, Noted, events_of, IsLastValid, Publication, page_of, value_of}
+use Rattle.bbm_rules.proofs.Common.{and-false}
 use Rattle.bbm_events.specs.Heading.{Heading}
 use Rattle.bbm_events.specs.declared.event.Event.{Event}
 use Rattle.bbm_events.specs.declared.event.Event.TheVariants.{Init, Write}
@@ -13,15 +13,7 @@ use Rattle.bbm_rules.proofs.HeldLemmas.{uncleansed as left_held}
 use Rattle.bbm_rules.proofs.PatternLaw.{cleansed_complete, cleansed_sound, seen_sound}
 use Rattle.bbm_rules.proofs.Patterns.{cleansed_is_seen, is_write}
 use Rattle.bbm_rules.proofs.SearchLemmas.{none_before, some_finds, some_later}
-use Rattle.bbm_rules.specs.Claims.{Trust}
-use Rattle.bbm_rules.specs.Cleansing.{cleansed, seen, writes}
-use Rattle.bbm_rules.specs.Held.{ValidWrite, held, last_valid, last_valid_after, later}
-use Rattle.bbm_rules.specs.Lists.{some}
-use Rattle.bbm_rules.specs.Notes.{Noted, events_of}
-use Rattle.bbm_rules.specs.PatternSentences.{Holds, IsLastValid, Publication, Seen}
-use Rattle.bbm_rules.specs.Places.{page_of}
-use Rattle.bbm_rules.specs.Values.{value_of}
-use mathlib.Core.Bool.{and-false}
+use Rattle.bbm_rules.specs.PatternSentences.{Holds, Seen}
 
 -- ---- PEs
 

@@ -1,21 +1,13 @@
 -- The last valid write of a place, and what it leaves held.
-use Rattle.std.proofs.Common.{◌≡◌, ℕ, ◌%◌, ◌&&◌, Bool, true, false, cond, ◌⊎◌, ◌==◌, List, [], ◌∷◌, Option, Some, None}
-use Rattle.std.proofs.Common.{option_and_then, if◌then◌else◌, refl, sym, ◌∙◌, ap, subst, inl, inr, arith, true≢false}
-use Rattle.std.proofs.lemmas.Bool.{and_parts, eq-eqb, eqb-true, or_cases}
-use Rattle.bbm_regimes.specs.declared.regime.Kind.{Kind}
-use Rattle.bbm_descriptor.specs.Descriptor.{Form, form_01, form_11, is_valid, valid_form}
-use Rattle.bbm_descriptor.specs.Fields.{type_bits}
+use Rattle.bbm_rules.proofs.Common.{◌≡◌, ℕ, ◌%◌, ◌&&◌, Bool, true, false, cond, ◌⊎◌, ◌==◌, List, [], ◌∷◌, Option, Some}
+use Rattle.bbm_rules.proofs.Common.{None, option_and_then, if◌then◌else◌, refl, sym, ◌∙◌, ap, subst, inl, inr, arith}
+use Rattle.bbm_rules.proofs.Common.{true≢false, and_parts, eq-eqb, eqb-true, or_cases, Kind, Form, form_01, form_11}
+use Rattle.bbm_rules.proofs.Common.{is_valid, valid_form, type_bits, with_keeps, In, Trust, ValidWrite}
+use Rattle.bbm_rules.proofs.Common.{cleansed_everywhere, held, last_valid, last_valid_after, later, Noted, events_of}
+use Rattle.bbm_rules.proofs.Common.{among, page_of, written_places}
 use Rattle.bbm_events.specs.Heading.{Heading}
 use Rattle.bbm_events.specs.declared.event.Event.{Event}
 use Rattle.bbm_events.specs.declared.event.Event.TheVariants.{Init, Write}
-use Rattle.bbm_lemmas.proofs.Words.{with_keeps}
-use Rattle.bbm_lemmas.specs.Elements.{In}
-use Rattle.bbm_rules.specs.Claims.{Trust}
-use Rattle.bbm_rules.specs.Held.{ValidWrite, cleansed_everywhere, held, last_valid, last_valid_after, later}
-use Rattle.bbm_rules.specs.Notes.{Noted, events_of}
-use Rattle.bbm_rules.specs.Lists.{among}
-use Rattle.bbm_rules.specs.Places.{page_of}
-use Rattle.bbm_rules.specs.Values.{written_places}
 
 -- ---- the last valid write
 

@@ -1,16 +1,15 @@
 -- The words in which the worked cases are written. A case is the text of a log, and the text of the verdict on it by the
 -- whole rules; or what one definition says after the events of a log.
-use Rattle.std.specs.Prelude.{ℕ, List, [], ◌∷◌, ◌++◌, Option, Some, None, codes}
-use Prim.Native.String.{String}
+use Rattle.bbm_rules.proofs.Common.{codes, String, Claim, Trust, Progress, AtEvents, verdict_of_bytes}
+use Rattle.std.specs.Prelude.{ℕ, List, [], ◌∷◌, ◌++◌, Option, Some, None}
 use Rattle.std.specs.Fmt.{digits}
 use Rattle.bbm_events.specs.declared.event.Event.{Event}
 use Rattle.bbm_events.specs.Heading.{Heading}
 use Rattle.bbm_events.specs.Lines.{header_of, item_of}
 use Rattle.bbm_events.specs.Spelling.{decimal_value, hex_value}
-use Rattle.bbm_events.specs.declared.claim.Claim.{Claim}
 use Rattle.bbm_rules.specs.Broken.{broken}
-use Rattle.bbm_rules.specs.Claims.{Trust, Listed, Patterns}
-use Rattle.bbm_rules.specs.Outcome.{check_limits, Progress, AtEvents, step_of, end_of, verdict_of_bytes, read_lines}
+use Rattle.bbm_rules.specs.Claims.{Listed, Patterns}
+use Rattle.bbm_rules.specs.Outcome.{check_limits, step_of, end_of, read_lines}
 use Rattle.bbm_rules.specs.Texts.{verdict_text}
 use Rattle.bbm_rules.specs.Tree.{tree}
 

@@ -1,3 +1,4 @@
+pub mod Common
 pub mod Judged
 pub mod FirstLineLaw
 pub mod SameLimits

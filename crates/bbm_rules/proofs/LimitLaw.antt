@@ -1,15 +1,10 @@
 -- An event reaches a limit exactly where the number that the limit counts is there.
-use Rattle.std.proofs.Common.{◌≡◌, ◌↔◌, ℕ, ◌≤◌, Bool, true, false, not, ◌&&◌, nat_le, List, length, Option, Some, refl}
-use Rattle.std.proofs.Common.{ap}
-use Rattle.std.proofs.lemmas.Bool.{and_from, and_parts, le-leb, leb-true, not-true, not_from_false}
-use Rattle.bbm_regimes.specs.declared.regime.Which.{Which}
-use Rattle.bbm_regimes.specs.declared.regime.Which.TheVariants.{Pages, Roots, Values}
-use Rattle.bbm_rules.specs.Limits.{limit_of}
-use Rattle.bbm_rules.specs.Lists.{among, if_so}
-use Rattle.bbm_rules.specs.Pages.{initialised}
-use Rattle.bbm_rules.specs.Prelude.{Event, Init, Kind, Msr, Reg, Root}
-use Rattle.bbm_rules.specs.RegisterValues.{register_values}
-use Rattle.bbm_rules.specs.Roots.{roots_of}
+use Rattle.bbm_rules.proofs.Common.{◌≡◌, ◌↔◌, ℕ, ◌≤◌, Bool, true, false, not, ◌&&◌, nat_le, List, length, Option, Some}
+use Rattle.bbm_rules.proofs.Common.{refl, ap, and_from, and_parts, le-leb, leb-true, not-true, not_from_false, Which}
+use Rattle.bbm_rules.proofs.Common.{Pages, Roots, limit_of, among, if_so, initialised, Event, Init, Msr, Reg, Root}
+use Rattle.bbm_rules.proofs.Common.{register_values, roots_of}
+use Rattle.bbm_regimes.specs.declared.regime.Which.TheVariants.{Values}
+use Rattle.bbm_rules.specs.Prelude.{Kind}
 
 so : (b : Bool) (which : Which) → if_so b which ≡ Some which → b ≡ true
 so true which e = refl

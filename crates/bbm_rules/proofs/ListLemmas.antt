@@ -1,12 +1,9 @@
 -- What `find` finds, lists of numbers, and lists of ends that lie in pages of their own.
-use Rattle.std.proofs.Common.{◌≡◌, ℕ, Bool, true, false, cond, ◌⊎◌, List, [], ◌∷◌, ◌++◌, Option, Some, None}
-use Rattle.std.proofs.Common.{is_some, find, flat_map, filter_map, refl, sym, ◌∙◌, ap, subst, inl, inr, true≢false}
-use Rattle.std.specs.List.{cons_option}
+use Rattle.bbm_rules.proofs.Common.{◌≡◌, ℕ, Bool, true, false, cond, ◌⊎◌, List, [], ◌∷◌, ◌++◌, Option, Some, None}
+use Rattle.bbm_rules.proofs.Common.{is_some, find, flat_map, filter_map, refl, sym, ◌∙◌, ap, subst, inl, inr}
+use Rattle.bbm_rules.proofs.Common.{true≢false, cons_option, In, in_left, in_right, to_flat, End, pages_of, least}
 use Rattle.bbm_lemmas.proofs.Words.{Apart}
-use Rattle.bbm_lemmas.specs.Elements.{In}
-use Rattle.bbm_lemmas.proofs.Elements.{in_left, in_right, to_filter_map, to_flat}
-use Rattle.bbm_rules.specs.Attach.{End, pages_of}
-use Rattle.bbm_rules.specs.Lists.{least}
+use Rattle.bbm_lemmas.proofs.Elements.{to_filter_map}
 
 -- what `find` finds
 found_one : {X : Type 0} (test : X → Bool) (x : X) (rest : Option X) (y : X) (b : Bool) → test x ≡ b

@@ -1,12 +1,9 @@
 -- The holder of a lock is the PE that the sentence names.
-use Rattle.std.proofs.Common.{◌≡◌, ℕ, Bool, true, false, cond, ◌&&◌, ◌==◌, List, [], ◌∷◌, ◌++◌, Option, Some, None}
-use Rattle.std.proofs.Common.{refl, sym, ◌∙◌, ap, subst, true≢false}
-use Rattle.std.proofs.lemmas.Bool.{and_parts, and_from, eqb-true, false_from_ne_true, or_from, or_parts}
+use Rattle.bbm_rules.proofs.Common.{◌≡◌, ℕ, Bool, true, false, cond, ◌&&◌, ◌==◌, List, [], ◌∷◌, ◌++◌, Option, Some}
+use Rattle.bbm_rules.proofs.Common.{None, refl, sym, ◌∙◌, ap, subst, true≢false, and_parts, and_from, eqb-true}
+use Rattle.bbm_rules.proofs.Common.{false_from_ne_true, or_from, or_parts, Event, Lock, Unlock, any, is_that, holder_of}
 use Rattle.bbm_lemmas.proofs.Words.{same_number}
-use Rattle.bbm_rules.specs.Prelude.{Event, Lock, Unlock}
 use Rattle.bbm_rules.proofs.SearchLemmas.{is_none_at, none_at}
-use Rattle.bbm_rules.specs.Lists.{any, is_that}
-use Rattle.bbm_rules.specs.Locks.{holder_of}
 use Rattle.bbm_rules.specs.Sentences.{HoldsLock}
 
 module _ (p lock : ℕ) where

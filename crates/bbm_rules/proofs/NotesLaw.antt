@@ -1,12 +1,10 @@
 -- The annotated history has the events of the history, ends in that of each older part, and has the notes that the
 -- definitions give.
-use Rattle.std.proofs.Common.{◌≡◌, suc, List, [], ◌∷◌, ◌++◌, length, refl, sym, ◌∙◌, ap}
+use Rattle.bbm_rules.proofs.Common.{◌≡◌, suc, List, [], ◌∷◌, ◌++◌, length, refl, sym, ◌∙◌, ap, Trust, cover_at, note}
+use Rattle.bbm_rules.proofs.Common.{noted, Noted, events_of}
 use Rattle.bbm_events.specs.Heading.{Heading}
 use Rattle.bbm_events.specs.declared.event.Event.{Event}
 use Rattle.bbm_rules.proofs.OpenLaw.{head_of, tail_of}
-use Rattle.bbm_rules.specs.Claims.{Trust}
-use Rattle.bbm_rules.specs.Covers.{cover_at, note, noted}
-use Rattle.bbm_rules.specs.Notes.{Noted, events_of}
 
 module _ (heading : Heading) (trust : Trust) where
   pub events_noted : (h : List Event) → events_of (noted heading trust h) ≡ h

@@ -1,8 +1,6 @@
 -- A page is a null page exactly where a `null` of it stands in the history.
-use Rattle.std.proofs.Common.{◌≡◌, ℕ, true, ◌==◌, List, [], ◌∷◌, ◌++◌, refl, sym, ◌∙◌, ap, inl, inr, true≢false}
-use Rattle.std.proofs.lemmas.Bool.{eq-eqb, eqb-true, or_cases, or_left, or_right}
-use Rattle.bbm_rules.specs.Prelude.{Event, Null}
-use Rattle.bbm_rules.specs.Pages.{is_null}
+use Rattle.bbm_rules.proofs.Common.{◌≡◌, ℕ, true, ◌==◌, List, [], ◌∷◌, ◌++◌, refl, sym, ◌∙◌, ap, inl, inr, true≢false}
+use Rattle.bbm_rules.proofs.Common.{eq-eqb, eqb-true, or_cases, or_left, or_right, Event, Null, is_null}
 
 -- a `null` of the page
 record Made (h : List Event) (page : ℕ) : Type 0 where

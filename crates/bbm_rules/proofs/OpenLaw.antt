@@ -1,15 +1,11 @@
 -- The unanswered TLBIs of a PE are those that no later DSB of it completes.
-use Rattle.std.proofs.Common.{◌≡◌, ℕ, Bool, true, false, cond, ◌&&◌, ◌⊎◌, ◌==◌, List, [], ◌∷◌, ◌++◌, Contains, refl}
-use Rattle.std.proofs.Common.{sym, ◌∙◌, ap, subst, inl, inr, true≢false, not}
-use Rattle.bbm_lemmas.proofs.Tautologies.{proved}
-use Rattle.bbm_lemmas.proofs.Tautologies.Claim.{Either, If, Is}
-use Rattle.bbm_lemmas.specs.Elements.{In}
-use Rattle.bbm_lemmas.proofs.Elements.{from_contains, to_contains}
-use Rattle.bbm_rules.specs.Prelude.{Barrier, Event, Dsb, Tlbi}
-use Rattle.bbm_rules.specs.Notes.{Noted, event_of}
-use Rattle.bbm_rules.specs.Reach.{Issued, completes, left_open, still_open, unanswered}
-use Rattle.bbm_rules.specs.Sentences.{Open, issues, completes_for}
-use Rattle.bbm_rules.specs.Tags.{itself}
+use Rattle.bbm_rules.proofs.Common.{◌≡◌, ℕ, Bool, true, false, cond, ◌&&◌, ◌⊎◌, ◌==◌, List, [], ◌∷◌, ◌++◌, Contains}
+use Rattle.bbm_rules.proofs.Common.{refl, sym, ◌∙◌, ap, subst, inl, inr, true≢false, not, proved, If, Is, In}
+use Rattle.bbm_rules.proofs.Common.{from_contains, to_contains, Barrier, Event, Dsb, Tlbi, Noted, Issued, completes}
+use Rattle.bbm_rules.proofs.Common.{left_open, unanswered, Open, issues, completes_for, itself}
+use Rattle.bbm_lemmas.proofs.Tautologies.Claim.{Either}
+use Rattle.bbm_rules.specs.Notes.{event_of}
+use Rattle.bbm_rules.specs.Reach.{still_open}
 
 abbrev pub tail_of : {A : Type 0} → List A → List A
 tail_of [] = []

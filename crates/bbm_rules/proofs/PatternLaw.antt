@@ -1,27 +1,22 @@
 -- Seen, half and cleansed are what the sentences say.
-use Rattle.std.proofs.Common.{◌≡◌, ℕ, Bool, true, ◌&&◌, ◌==◌, List, ◌∷◌, ◌++◌, refl, sym, ◌∙◌, ap, subst, inl, inr}
-use Rattle.std.proofs.Common.{true≢false}
-use Rattle.std.proofs.lemmas.Bool.{eq-eqb, eqb-true, or_cases, or_left, or_right, and_parts, and_from}
+use Rattle.bbm_rules.proofs.Common.{◌≡◌, ℕ, Bool, true, ◌&&◌, ◌==◌, List, ◌∷◌, ◌++◌, refl, sym, ◌∙◌, ap, subst, inl}
+use Rattle.bbm_rules.proofs.Common.{inr, true≢false, eq-eqb, eqb-true, or_cases, or_left, or_right, and_parts, and_from}
+use Rattle.bbm_rules.proofs.Common.{Cover, Half, Second, Full, any_finds, from_contains, Trust, answered_where}
+use Rattle.bbm_rules.proofs.Common.{answers_one, cleansed, flushes, full_step, half, publishes_write, same_cover}
+use Rattle.bbm_rules.proofs.Common.{second_step, seen, writes, some, Noted, Answer, Cleansed, Flush, HalfBy, OneStep}
+use Rattle.bbm_rules.proofs.Common.{Publication, TwoSteps, Issued, completes, reaches, unanswered, publishes_to}
 use Rattle.bbm_barriers.specs.declared.Dsb.{Dsb as Barrier}
-use Rattle.bbm_tlbi_scope.specs.declared.entry.Cover.{Cover}
-use Rattle.bbm_tlbi_scope.specs.declared.entry.Cover.TheVariants.{None as NoCover, Half, Second, Full}
+use Rattle.bbm_tlbi_scope.specs.declared.entry.Cover.TheVariants.{None as NoCover}
 use Rattle.bbm_events.specs.Heading.{Heading}
 use Rattle.bbm_events.specs.declared.event.Event.{Event}
 use Rattle.bbm_events.specs.declared.event.Event.TheVariants.{Write, Dsb}
-use Rattle.bbm_lemmas.proofs.Elements.{any_finds, from_contains}
 use Rattle.bbm_rules.proofs.OpenLaw.{open_note_complete}
 use Rattle.bbm_rules.proofs.Patterns.{one_allowed, two_allowed, AnsweredOne, answered_one, half_step, is_answer}
 use Rattle.bbm_rules.proofs.Patterns.{is_publication, is_write}
 use Rattle.bbm_rules.proofs.SearchLemmas.{Found, some_found, some_finds}
-use Rattle.bbm_rules.specs.Claims.{Trust}
-use Rattle.bbm_rules.specs.Cleansing.{answered_where, answers_one, cleansed, flushes, full_step, half, half_where}
-use Rattle.bbm_rules.specs.Cleansing.{is_completed, publishes_write, same_cover, second_step, seen, seen_where, writes}
-use Rattle.bbm_rules.specs.Lists.{some}
-use Rattle.bbm_rules.specs.Notes.{Noted, event_of}
-use Rattle.bbm_rules.specs.PatternSentences.{Answer, Cleansed, Flush, HalfBy, IsHalf, OneStep, Publication, Seen}
-use Rattle.bbm_rules.specs.PatternSentences.{TwoSteps}
-use Rattle.bbm_rules.specs.Reach.{Issued, completes, reaches, unanswered}
-use Rattle.bbm_rules.specs.Values.{publishes_to}
+use Rattle.bbm_rules.specs.Cleansing.{half_where, is_completed, seen_where}
+use Rattle.bbm_rules.specs.Notes.{event_of}
+use Rattle.bbm_rules.specs.PatternSentences.{IsHalf, Seen}
 
 -- ---- a grade of cover
 

@@ -1,22 +1,18 @@
 -- The patterns of Cleansing: later events keep them, and a cleansed place is seen.
-use Rattle.std.proofs.Common.{◌≡◌, ℕ, Bool, true, ◌&&◌, List, [], ◌∷◌, ◌++◌, refl, sym, subst, inl, inr, true≢false}
-use Rattle.std.proofs.lemmas.Bool.{or_cases, and_parts, and_from}
+use Rattle.bbm_rules.proofs.Common.{◌≡◌, ℕ, Bool, true, ◌&&◌, List, [], ◌∷◌, ◌++◌, refl, sym, subst, inl, inr}
+use Rattle.bbm_rules.proofs.Common.{true≢false, or_cases, and_parts, and_from, Cover, Half, Second, Full, Place, Two}
+use Rattle.bbm_rules.proofs.Common.{any_found, to_contains, Trust, answered_where, answers_one, cleansed, flushes}
+use Rattle.bbm_rules.proofs.Common.{full_step, publishes_write, same_cover, second_step, seen, writes, Noted, Issued}
+use Rattle.bbm_rules.proofs.Common.{completes, reaches, unanswered, Open}
 use Rattle.bbm_barriers.specs.declared.Dsb.{Dsb as Barrier}
-use Rattle.bbm_tlbi_scope.specs.declared.entry.Cover.{Cover}
-use Rattle.bbm_tlbi_scope.specs.declared.entry.Cover.TheVariants.{Half, Second, Full}
 use Rattle.bbm_events.specs.Heading.{Heading}
 use Rattle.bbm_events.specs.declared.event.Event.{Event}
 use Rattle.bbm_events.specs.declared.event.Event.TheVariants.{Dsb}
-use Rattle.bbm_events.specs.declared.claim.Claim.TheVariants.{Place, Two}
-use Rattle.bbm_lemmas.proofs.Elements.{any_found, to_contains}
 use Rattle.bbm_rules.proofs.OpenLaw.{open_note_sound}
 use Rattle.bbm_rules.proofs.SearchLemmas.{Found, some_found, some_later, some_weaker}
-use Rattle.bbm_rules.specs.Claims.{Trust, allows}
-use Rattle.bbm_rules.specs.Cleansing.{answered_where, answers_one, cleansed, flushes, full_step, half_where}
-use Rattle.bbm_rules.specs.Cleansing.{is_completed, publishes_write, same_cover, second_step, seen, seen_where, writes}
-use Rattle.bbm_rules.specs.Notes.{Noted, event_of}
-use Rattle.bbm_rules.specs.Reach.{Issued, completes, reaches, unanswered}
-use Rattle.bbm_rules.specs.Sentences.{Open}
+use Rattle.bbm_rules.specs.Claims.{allows}
+use Rattle.bbm_rules.specs.Cleansing.{half_where, is_completed, seen_where}
+use Rattle.bbm_rules.specs.Notes.{event_of}
 
 -- ---- the tests of the searches
 

@@ -1,22 +1,14 @@
 -- A place that holds a value is clean at no PE.
-use Rattle.std.proofs.Common.{◌≡◌, ◌≢◌, ℕ, Bool, true, false, Option, Some, None, unwrap_or, refl, subst}
+use Rattle.bbm_rules.proofs.Common.{◌≡◌, ◌≢◌, ℕ, Bool, true, false, Option, Some, None, unwrap_or, refl, subst}
+use Rattle.bbm_rules.proofs.Common.{is_valid, needs, Event, Write, breaks, Trust, cleansed, half, seen, noted}
+use Rattle.bbm_rules.proofs.Common.{ValidWrite, cleansed_everywhere, last_valid, ◌>>=◌, if_so, broken_phase, page_of}
+use Rattle.bbm_rules.proofs.Common.{Node, node_of, value_of}
 use Rattle.std.specs.Prelude.{List, if◌then◌else◌}
-use Rattle.bbm_descriptor.specs.Descriptor.{is_valid, needs}
 use Rattle.bbm_events.specs.Heading.{Heading}
-use Rattle.bbm_rules.specs.Prelude.{Event, Write}
 use Rattle.bbm_rules.specs.declared.phase.Phase.{Phase}
 use Rattle.bbm_rules.specs.declared.phase.Phase.TheVariants.{Clean, Live, Broken, Seen, Half, Cleansed}
 use Rattle.bbm_rules.specs.declared.rule.Rule.TheVariants.{BreakBeforeMake}
-use Rattle.bbm_rules.specs.Broken.{breaks}
-use Rattle.bbm_rules.specs.Claims.{Trust}
-use Rattle.bbm_rules.specs.Cleansing.{cleansed, half, seen}
-use Rattle.bbm_rules.specs.Covers.{noted}
-use Rattle.bbm_rules.specs.Held.{ValidWrite, cleansed_everywhere, last_valid}
-use Rattle.bbm_rules.specs.Lists.{◌>>=◌, if_so}
-use Rattle.bbm_rules.specs.Phases.{broken_phase, phase_of}
-use Rattle.bbm_rules.specs.Places.{page_of}
-use Rattle.bbm_rules.specs.Tree.{Node, node_of}
-use Rattle.bbm_rules.specs.Values.{value_of}
+use Rattle.bbm_rules.specs.Phases.{phase_of}
 
 if_at : (b : Bool) (n at : ℕ) → if_so b n ≡ Some at → n ≡ at
 if_at true n at e = cc

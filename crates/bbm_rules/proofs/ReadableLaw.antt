@@ -1,17 +1,13 @@
 -- The readable values of a place are those that the sentence names.
-use Rattle.std.proofs.Common.{◌≡◌, ℕ, Bool, true, false, cond, ◌||◌, ◌==◌, List, [], ◌∷◌, ◌++◌, refl, sym, ◌∙◌, ap}
-use Rattle.std.proofs.Common.{subst, inl, inr, true≢false}
-use Rattle.std.proofs.lemmas.Bool.{and_from, and_parts, eqb-true, or_cases, or_left, or_right}
+use Rattle.bbm_rules.proofs.Common.{◌≡◌, ℕ, Bool, true, false, cond, ◌||◌, ◌==◌, List, [], ◌∷◌, ◌++◌, refl, sym, ◌∙◌}
+use Rattle.bbm_rules.proofs.Common.{ap, subst, inl, inr, true≢false, and_from, and_parts, eqb-true, or_cases, or_left}
+use Rattle.bbm_rules.proofs.Common.{or_right, proved, If, Is, Barrier, Heading, Event, Init, Write, Dsb, In, any_finds}
+use Rattle.bbm_rules.proofs.Common.{any_found, in_split, among, page_of, value_of, published, publishes_to}
+use Rattle.bbm_rules.proofs.Common.{readable_before, is_readable}
 use Rattle.bbm_lemmas.proofs.Words.{same_number}
-use Rattle.bbm_lemmas.proofs.Tautologies.{proved}
-use Rattle.bbm_lemmas.proofs.Tautologies.Claim.{If, Is}
-use Rattle.bbm_rules.specs.Prelude.{Barrier, Heading, Event, Init, Write, Dsb}
-use Rattle.bbm_lemmas.specs.Elements.{In}
-use Rattle.bbm_lemmas.proofs.Elements.{any_finds, any_found, in_split, split_in}
+use Rattle.bbm_lemmas.proofs.Elements.{split_in}
 use Rattle.bbm_rules.proofs.OpenLaw.{head_of, tail_of}
-use Rattle.bbm_rules.specs.Lists.{among}
-use Rattle.bbm_rules.specs.Places.{page_of}
-use Rattle.bbm_rules.specs.Values.{value_of, published, publishes_for, publishes_to, readable_before, is_readable}
+use Rattle.bbm_rules.specs.Values.{publishes_for}
 use Rattle.bbm_rules.specs.Sentences.{Published, Readable}
 
 -- the event is an init of the page, or a write of the place

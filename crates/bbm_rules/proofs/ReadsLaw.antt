@@ -1,31 +1,28 @@
 -- A tag is readable exactly where the sentence says so; and what the rules on tags and roots say of a register write and
 -- of an `unroot`.
-use Rattle.std.proofs.Common.{◌≡◌, ℕ, suc, ◌<◌, ◌&&◌, not, Bool, true, false, ◌==◌, nat_lt, List, [], ◌∷◌, length}
-use Rattle.std.proofs.Common.{Option, Some, None, is_none, option_and_then, Contains, filter, flat_map, refl, sym, ◌∙◌}
-use Rattle.std.proofs.Common.{ap, subst, inl, inr, true≢false, arith}
-use Rattle.std.proofs.lemmas.Bool.{and_from, and_parts, eqb-true, lt-ltb, not_from_false, or_parts}
+use Rattle.bbm_rules.proofs.Common.{◌≡◌, ℕ, suc, ◌<◌, ◌&&◌, not, Bool, true, false, ◌==◌, nat_lt, List, [], ◌∷◌, length}
+use Rattle.bbm_rules.proofs.Common.{Option, Some, None, is_none, option_and_then, Contains, filter, flat_map, refl, sym}
+use Rattle.bbm_rules.proofs.Common.{◌∙◌, ap, subst, inl, inr, true≢false, arith, and_from, and_parts, eqb-true, lt-ltb}
+use Rattle.bbm_rules.proofs.Common.{not_from_false, or_parts, AsidFrom, FromTtbr0, FromTtbr1, Reg, Ttbr0El2, VttbrEl2}
+use Rattle.bbm_rules.proofs.Common.{Ttbr0El1, Ttbr1El1, Tag, El2Tag, Vmid, Asid, Ttbr1Tag, World, Hyp, Kernel, Event}
+use Rattle.bbm_rules.proofs.Common.{In, any_finds, any_found, from_contains, in_append, in_left, in_map, in_right}
+use Rattle.bbm_rules.proofs.Common.{none_of, to_filter, to_flat, Trust, same_tag, among, below, if_so, is_that, some_pe}
+use Rattle.bbm_rules.proofs.Common.{Noted, events_of, base_of, kind_of_reg, register_values, tag_number, Declared}
+use Rattle.bbm_rules.proofs.Common.{is_root, root_at, roots_of, is_base_at, no_root, tag_conflict, ReadsTag, Reading}
+use Rattle.bbm_rules.proofs.Common.{asid_readings, holds_tag, readings, readings_in, readings_of, reads, tag_set}
+use Rattle.bbm_rules.proofs.Common.{tags_of}
 use Rattle.bbm_regimes.specs.declared.regime.Reg.TheVariants as reg
 use Rattle.bbm_events.specs.Heading.{Heading}
 use Rattle.bbm_events.specs.declared.event.Event.TheVariants.{Msr, Unroot}
-use Rattle.bbm_rules.specs.Prelude.{AsidFrom, FromTtbr0, FromTtbr1, Reg, Ttbr0El2, VttbrEl2, Ttbr0El1, Ttbr1El1, Tag}
-use Rattle.bbm_rules.specs.Prelude.{El2Tag, Vmid, Asid, Ttbr1Tag, World, Hyp, Kernel, Event}
 use Rattle.bbm_rules.proofs.SameRegister.{tag_equal, tag_self}
 use Rattle.bbm_rules.proofs.HeldLemmas.{among_from}
 use Rattle.bbm_lemmas.proofs.Words.{among_in, in_below, same_number}
-use Rattle.bbm_lemmas.specs.Elements.{In}
-use Rattle.bbm_lemmas.proofs.Elements.{any_finds, any_found, from_contains, from_filter_map, from_flat, in_append}
-use Rattle.bbm_lemmas.proofs.Elements.{in_left, in_map, in_right, none_in, none_of, to_filter, to_filter_map, to_flat}
+use Rattle.bbm_lemmas.proofs.Elements.{from_filter_map, from_flat, none_in, to_filter_map}
 use Rattle.bbm_rules.proofs.ListLemmas.{least_none}
 use Rattle.bbm_rules.proofs.TagSetLaw.{no_tag}
-use Rattle.bbm_rules.specs.Claims.{Trust, same_tag}
-use Rattle.bbm_rules.specs.Lists.{among, below, if_so, is_that, some_pe}
-use Rattle.bbm_rules.specs.Notes.{Noted, events_of}
-use Rattle.bbm_rules.specs.RegisterValues.{base_of, kind_of_reg, register_values, tag_number}
-use Rattle.bbm_rules.specs.Roots.{Declared, is_root, root_at, roots_of}
-use Rattle.bbm_rules.specs.Rules.{is_base_at, is_used, no_root, other_holders, root_in_use, tag_conflict}
-use Rattle.bbm_rules.specs.TagSentences.{GivesAsid, Names, ReadsTag}
-use Rattle.bbm_rules.specs.Tags.{Reading, asid_readings, holds_tag, reading_of, readings, readings_in, readings_of}
-use Rattle.bbm_rules.specs.Tags.{reads, tag_set, tags_of}
+use Rattle.bbm_rules.specs.Rules.{is_used, other_holders, root_in_use}
+use Rattle.bbm_rules.specs.TagSentences.{GivesAsid, Names}
+use Rattle.bbm_rules.specs.Tags.{reading_of}
 
 module _ (h : List Event) (p : ℕ) where
   -- a reading that a register gives

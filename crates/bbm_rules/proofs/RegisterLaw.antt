@@ -1,15 +1,12 @@
 -- The readable values of a register are those that the sentence names.
-use Rattle.std.proofs.Common.{◌≡◌, ℕ, Bool, true, false, cond, ◌&&◌, ◌==◌, List, [], ◌∷◌, ◌++◌, refl, sym, ◌∙◌, ap}
-use Rattle.std.proofs.Common.{subst, inl, inr, true≢false, take}
-use Rattle.std.proofs.lemmas.Bool.{and_from, and_left, and_parts, eqb-true, false_from_ne_true, or_cases, or_from}
-use Rattle.std.proofs.lemmas.Bool.{or_left, or_parts, or_right}
-use Rattle.bbm_rules.specs.Prelude.{Reg, Event, Isb, Msr}
+use Rattle.bbm_rules.proofs.Common.{◌≡◌, ℕ, Bool, true, false, cond, ◌&&◌, ◌==◌, List, [], ◌∷◌, ◌++◌, refl, sym, ◌∙◌}
+use Rattle.bbm_rules.proofs.Common.{ap, subst, inl, inr, true≢false, take, and_from, and_left, and_parts, eqb-true}
+use Rattle.bbm_rules.proofs.Common.{false_from_ne_true, or_cases, or_from, or_left, or_parts, or_right, Reg, Event, Isb}
+use Rattle.bbm_rules.proofs.Common.{Msr, in_split, is_none_of, none_of, among, any, some, register_values, same_reg}
 use Rattle.bbm_rules.proofs.SameRegister.{reg_equal, reg_self}
 use Rattle.bbm_lemmas.proofs.Words.{same_number}
-use Rattle.bbm_lemmas.proofs.Elements.{in_split, is_none_of, none_of, split_in}
+use Rattle.bbm_lemmas.proofs.Elements.{split_in}
 use Rattle.bbm_rules.proofs.SearchLemmas.{is_none_before, none_before}
-use Rattle.bbm_rules.specs.Lists.{among, any, some}
-use Rattle.bbm_rules.specs.RegisterValues.{register_values, same_reg}
 use Rattle.bbm_rules.specs.Sentences.{ReadableRegister, register_value}
 
 module _ (p : ℕ) (reg : Reg) where

@@ -1,29 +1,20 @@
 -- A page that is repeated among the ends of the paths of attached pages is one in which two different paths end.
-use Rattle.std.proofs.Common.{◌≡◌, ℕ, zero, suc, ◌-◌, ◌≤◌, Bool, true, false, ◌==◌, List, [], ◌∷◌, length, Option, Some}
-use Rattle.std.proofs.Common.{None, option_and_then, is_none, cond, flat_map, map, refl, sym, ◌∙◌, ap, subst, inl, inr}
-use Rattle.std.proofs.Common.{arith, true≢false}
-use Rattle.std.proofs.lemmas.Bool.{eq-eqb, eqb-true}
-use Rattle.bbm_regimes.specs.declared.regime.Kind.{Kind}
+use Rattle.bbm_rules.proofs.Common.{◌≡◌, ℕ, zero, suc, ◌-◌, ◌≤◌, Bool, true, false, ◌==◌, List, [], ◌∷◌, length, Option}
+use Rattle.bbm_rules.proofs.Common.{Some, None, option_and_then, is_none, cond, flat_map, map, refl, sym, ◌∙◌, ap}
+use Rattle.bbm_rules.proofs.Common.{subst, inl, inr, arith, true≢false, eq-eqb, eqb-true, Kind, Event, Root, Write, In}
+use Rattle.bbm_rules.proofs.Common.{from_contains, from_filter, to_contains, Attached, End, all_ends, attached_by}
+use Rattle.bbm_rules.proofs.Common.{attached_from, end_at, ends_below, pages_of, Trust, among, repeated, Noted}
+use Rattle.bbm_rules.proofs.Common.{events_of, is_fresh, page_of, root_pages, start_of, Node, held_at, next_of, node_of}
+use Rattle.bbm_rules.proofs.Common.{places_in, value_of, written_places}
 use Rattle.bbm_events.specs.Heading.{Heading}
-use Rattle.bbm_rules.specs.Prelude.{Event, Root, Write}
 use Rattle.bbm_lemmas.proofs.Words.{Apart}
-use Rattle.bbm_lemmas.specs.Elements.{In}
-use Rattle.bbm_lemmas.proofs.Elements.{from_contains, from_filter, from_flat, to_contains}
+use Rattle.bbm_lemmas.proofs.Elements.{from_flat}
 use Rattle.bbm_rules.proofs.RootPages.{apart_pages}
 use Rattle.bbm_rules.proofs.TreeLaw.{below_fresh, ends_from, one_more, path_from, path_to_end, place_of_table}
 use Rattle.bbm_rules.proofs.Twice.{InPage, Parts, Twice, apart_places, flat_via, from_repeated, of_flat, of_one, of_two}
 use Rattle.bbm_rules.proofs.Twice.{to_page, to_repeated, twice_each, twice_parts, twice_right, via}
-use Rattle.bbm_rules.specs.Attach.{Attached, End, all_ends, attached_by, attached_from, end_at, ends_below, pages_of}
-use Rattle.bbm_rules.specs.Claims.{Trust}
-use Rattle.bbm_rules.specs.Lists.{among, repeated}
-use Rattle.bbm_rules.specs.Notes.{Noted, events_of}
-use Rattle.bbm_rules.specs.Pages.{is_fresh}
 use Rattle.bbm_rules.specs.PathSentences.{PathInto, TwoPaths}
-use Rattle.bbm_rules.specs.Places.{page_of}
-use Rattle.bbm_rules.specs.Roots.{root_pages, start_of}
-use Rattle.bbm_rules.specs.Tree.{Node, held_at, next_of, node_of}
 use Rattle.bbm_rules.specs.TreeSentences.{Leads}
-use Rattle.bbm_rules.specs.Values.{places_in, value_of, written_places}
 
 module _ (heading : Heading) (trust : Trust) (h : List Noted) (kind : Kind) where
   abbrev next_at : ℕ → ℕ → Option ℕ

@@ -1,18 +1,15 @@
 -- The roots of a history are those that the sentence names, and a page has one at most.
-use Rattle.std.proofs.Common.{◌≡◌, ℕ, Bool, true, false, cond, not, ◌&&◌, ◌==◌, List, [], ◌∷◌, ◌++◌, Option, Some}
-use Rattle.std.proofs.Common.{Contains, find, refl, sym, ◌∙◌, ap, subst, inl, inr, true≢false}
-use Rattle.std.proofs.lemmas.Bool.{and_from, and_parts, eqb-true, false_from_ne_true, not-true, not_from_false, or_from}
-use Rattle.std.proofs.lemmas.Bool.{or_parts}
-use Rattle.bbm_rules.specs.Prelude.{Kind, Event, Root, Unroot}
+use Rattle.bbm_rules.proofs.Common.{◌≡◌, ℕ, Bool, true, false, cond, not, ◌&&◌, ◌==◌, List, [], ◌∷◌, ◌++◌, Option, Some}
+use Rattle.bbm_rules.proofs.Common.{Contains, find, refl, sym, ◌∙◌, ap, subst, inl, inr, true≢false, and_from}
+use Rattle.bbm_rules.proofs.Common.{and_parts, eqb-true, false_from_ne_true, not-true, not_from_false, or_from}
+use Rattle.bbm_rules.proofs.Common.{or_parts, Event, Root, Unroot, In, any_finds, any_found, from_contains, from_filter}
+use Rattle.bbm_rules.proofs.Common.{to_contains, to_filter, any, Declared, is_at, is_root, retired, root_at, roots_of}
+use Rattle.bbm_rules.proofs.Common.{same_kind, IsDeclared}
+use Rattle.bbm_rules.specs.Prelude.{Kind}
 use Rattle.bbm_rules.proofs.SameRegister.{kind_equal, kind_self}
 use Rattle.bbm_lemmas.proofs.Words.{same_number}
-use Rattle.bbm_lemmas.specs.Elements.{In}
-use Rattle.bbm_lemmas.proofs.Elements.{any_finds, any_found, from_contains, from_filter, to_contains, to_filter}
 use Rattle.bbm_rules.proofs.ListLemmas.{found}
 use Rattle.bbm_rules.proofs.SearchLemmas.{is_none_at, none_at}
-use Rattle.bbm_rules.specs.Lists.{any}
-use Rattle.bbm_rules.specs.Roots.{Declared, is_at, is_root, retired, root_at, roots_of, same_kind}
-use Rattle.bbm_rules.specs.Sentences.{IsDeclared}
 
 pub kept_page : (page : ℕ) (rs : List Declared) (r : Declared) → In (retired page rs) r → In rs r × ((r.page == page) ≡ false)
 kept_page page rs r i =

@@ -1,14 +1,11 @@
 -- The pages of a root: their nodes, and that no page has two.
-use Rattle.std.proofs.Common.{◌≡◌, ℕ, zero, suc, ◌+◌, ◌*◌, ◌<◌, ◌≤◌, Bool, true, false, cond, List, [], ◌∷◌, Contains}
-use Rattle.std.proofs.Common.{refl, sym, ◌∙◌, ap, subst, inl, inr, arith}
-use Rattle.bbm_regimes.specs.declared.regime.Kind.{Kind}
+use Rattle.bbm_rules.proofs.Common.{◌≡◌, ℕ, zero, suc, ◌+◌, ◌*◌, ◌<◌, ◌≤◌, Bool, true, false, cond, List, [], ◌∷◌}
+use Rattle.bbm_rules.proofs.Common.{Contains, refl, sym, ◌∙◌, ap, subst, inl, inr, arith, Kind, In, from_contains}
+use Rattle.bbm_rules.proofs.Common.{to_contains, Declared, input_pages, kind_in_world, pages_from, root_pages, start_of}
+use Rattle.bbm_rules.proofs.Common.{Node, nodes_of_pages, nodes_of_root}
 use Rattle.bbm_events.specs.Heading.{Heading}
 use Rattle.bbm_lemmas.proofs.Words.{Apart}
-use Rattle.bbm_lemmas.specs.Elements.{In}
-use Rattle.bbm_lemmas.proofs.Elements.{from_contains, to_contains}
-use Rattle.bbm_rules.specs.Roots.{Declared, first_input_page, input_pages, kind_in_world, page_count, pages_from}
-use Rattle.bbm_rules.specs.Roots.{root_pages, start_of}
-use Rattle.bbm_rules.specs.Tree.{Node, nodes_of_pages, nodes_of_root}
+use Rattle.bbm_rules.specs.Roots.{first_input_page, page_count}
 
 -- what each node of the pages has
 record Of (kind : Kind) (level root : ℕ) (pages : List ℕ) (n : Node) : Type 0 where

@@ -1,21 +1,16 @@
 -- Each rule by itself.
-use Rattle.std.specs.Option.{option_map_or}
-use Rattle.std.proofs.Common.{◌≡◌, ℕ, true, List, [], ◌∷◌, ◌++◌, Option, Some, None, is_none, refl, sym, ◌∙◌, ap, subst}
-use Rattle.std.proofs.Common.{inl, inr, true≢false}
-use Rattle.std.proofs.lemmas.Bool.{and_from, and_parts}
+use Rattle.bbm_rules.proofs.Common.{option_map_or, ◌≡◌, ℕ, true, List, [], ◌∷◌, ◌++◌, Option, Some, None, is_none, refl}
+use Rattle.bbm_rules.proofs.Common.{sym, ◌∙◌, ap, subst, inl, inr, true≢false, and_from, and_parts, In, Breach, breaks}
+use Rattle.bbm_rules.proofs.Common.{first_broken, keeps, Trust, noted, Noted}
 use Rattle.bbm_events.specs.Heading.{Heading}
 use Rattle.bbm_events.specs.declared.event.Event.{Event}
-use Rattle.bbm_lemmas.specs.Elements.{In}
 use Rattle.bbm_rules.proofs.OpenLaw.{head_of, tail_of}
 use Rattle.bbm_rules.specs.declared.rule.Rule.{Rule}
 use Rattle.bbm_rules.specs.declared.rule.Rule.TheVariants.{WrongWorld, NoLock, NullWritten, BreakBeforeMake, LimboMake}
 use Rattle.bbm_rules.specs.declared.rule.Rule.TheVariants.{NotFresh, RewrittenFresh, BadKind, GlobalUser, PageInUse}
 use Rattle.bbm_rules.specs.declared.rule.Rule.TheVariants.{NoRoot, TagConflict, RootInUse, UnsyncedVmid, BadOperand}
 use Rattle.bbm_rules.specs.declared.rule.Rule.TheVariants.{LockBusy, LockNotMine}
-use Rattle.bbm_rules.specs.Broken.{Breach, breaks, broken, first_broken, keeps, rules}
-use Rattle.bbm_rules.specs.Claims.{Trust}
-use Rattle.bbm_rules.specs.Covers.{noted}
-use Rattle.bbm_rules.specs.Notes.{Noted}
+use Rattle.bbm_rules.specs.Broken.{broken, rules}
 
 listed : (r : Rule) → In rules r
 listed WrongWorld = inl refl

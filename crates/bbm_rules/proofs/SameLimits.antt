@@ -1,29 +1,22 @@
 -- Where `slow` reaches no limit of events, `check` says the same of every input; and `check` reaches none.
-use Rattle.std.proofs.Common.{◌≡◌, ◌≢◌, ◌⊎◌, ℕ, suc, Bool, true, false, not, ◌&&◌, ◌==◌, nat_le, List, [], ◌∷◌, length}
-use Rattle.std.proofs.Common.{Option, Some, None, if◌then◌else◌, Result, Ok, Err, refl, ap, ◌∙◌, inl, inr}
-use Rattle.bbm_regimes.specs.declared.regime.Which.{Which}
-use Rattle.bbm_regimes.specs.declared.regime.Which.TheVariants.{Events, Lines, Pages, Roots, Values}
+use Rattle.bbm_rules.proofs.Common.{◌≡◌, ◌≢◌, ◌⊎◌, ℕ, suc, Bool, true, false, not, ◌&&◌, ◌==◌, nat_le, List, [], ◌∷◌}
+use Rattle.bbm_rules.proofs.Common.{length, Option, Some, None, if◌then◌else◌, Result, Ok, Err, refl, ap, ◌∙◌, inl, inr}
+use Rattle.bbm_rules.proofs.Common.{Which, Pages, Roots, Item, WrongCount, Breach, Trust, limit_of, among, if_so}
+use Rattle.bbm_rules.proofs.Common.{Progress, AtHeader, AtEvents, AtEnd, Step, Decides, GoesOn, Outcome, after_header}
+use Rattle.bbm_rules.proofs.Common.{after_item, after_judged, after_kept, after_line, cut_at, is_too_long, limit_at}
+use Rattle.bbm_rules.proofs.Common.{outcome_of, text_of, too_long_at, verdict_of_bytes, initialised, Init, Msr, Root}
+use Rattle.bbm_rules.proofs.Common.{register_values, roots_of}
+use Rattle.bbm_regimes.specs.declared.regime.Which.TheVariants.{Events, Lines, Values}
 use Rattle.bbm_events.specs.declared.event.Event.{Event}
-use Rattle.bbm_events.specs.declared.event.Item.{Item}
 use Rattle.bbm_events.specs.declared.event.Item.TheVariants as item
 use Rattle.bbm_events.specs.declared.malformed.Malformed.{Malformed as Cause}
-use Rattle.bbm_events.specs.declared.malformed.Malformed.TheVariants.{WrongCount}
 use Rattle.bbm_events.specs.Heading.{Heading}
 use Rattle.bbm_events.specs.Lines.{header_of, item_of}
 use Rattle.bbm_rules.specs.declared.verdict.Verdict.{Verdict}
 use Rattle.bbm_rules.specs.declared.verdict.Verdict.TheVariants.{Limit, Malformed}
-use Rattle.bbm_rules.specs.Broken.{Breach, broken}
-use Rattle.bbm_rules.specs.Claims.{Trust}
-use Rattle.bbm_rules.specs.Limits.{limit_of}
-use Rattle.bbm_rules.specs.Lists.{among, if_so}
-use Rattle.bbm_rules.specs.Outcome.{Progress, AtHeader, AtEvents, AtEnd, Step, Decides, GoesOn, Outcome, after_header}
-use Rattle.bbm_rules.specs.Outcome.{after_item, after_judged, after_kept, after_line, check_limits, cut_at, end_of}
-use Rattle.bbm_rules.specs.Outcome.{is_too_long, limit_after, limit_at, outcome_after, outcome_from, outcome_of}
-use Rattle.bbm_rules.specs.Outcome.{slow_limits, step_of, text_of, too_long_at, verdict_of_bytes}
-use Rattle.bbm_rules.specs.Pages.{initialised}
-use Rattle.bbm_rules.specs.Prelude.{Init, Msr, Root}
-use Rattle.bbm_rules.specs.RegisterValues.{register_values}
-use Rattle.bbm_rules.specs.Roots.{roots_of}
+use Rattle.bbm_rules.specs.Broken.{broken}
+use Rattle.bbm_rules.specs.Outcome.{check_limits, end_of, limit_after, outcome_after, outcome_from, slow_limits}
+use Rattle.bbm_rules.specs.Outcome.{step_of}
 
 -- one line says the same under both, or reaches the limit of events under the second
 abbrev Same : ℕ → Step → Step → Type 0

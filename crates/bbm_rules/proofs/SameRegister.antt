@@ -1,8 +1,6 @@
 -- The tests for equality of tags, registers and kinds decide equality.
-use Rattle.std.proofs.Common.{◌≡◌, true, refl, sym, ap, true≢false}
-use Rattle.std.proofs.lemmas.Bool.{eqb-true}
+use Rattle.bbm_rules.proofs.Common.{◌≡◌, true, refl, sym, ap, true≢false, eqb-true, Kind}
 use Rattle.bbm_lemmas.proofs.Words.{same_number}
-use Rattle.bbm_regimes.specs.declared.regime.Kind.{Kind}
 use Rattle.bbm_regimes.specs.declared.regime.Kind.TheVariants.{El2 as El2Kind, S2, Ttbr0, Ttbr1 as Ttbr1Kind}
 use Rattle.bbm_regimes.specs.declared.regime.Reg.{Reg}
 use Rattle.bbm_regimes.specs.declared.regime.Reg.TheVariants.{Ttbr0El2, VttbrEl2, Ttbr0El1, Ttbr1El1}

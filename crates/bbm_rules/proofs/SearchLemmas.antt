@@ -1,10 +1,8 @@
 -- What a search finds, and that it finds what is there; later items keep what it found.
-use Rattle.std.proofs.Common.{◌≡◌, Bool, true, false, List, [], ◌∷◌, ◌++◌, refl, sym, ◌∙◌, ap, subst, inl, inr}
-use Rattle.std.proofs.Common.{true≢false}
-use Rattle.std.proofs.lemmas.Bool.{or_cases, or_left, or_right, or_from}
-use Rattle.bbm_lemmas.specs.Elements.{In}
-use Rattle.bbm_lemmas.proofs.Elements.{any_finds, any_found, in_split, is_none_of, none_of, split_in}
-use Rattle.bbm_rules.specs.Lists.{any, some}
+use Rattle.bbm_rules.proofs.Common.{◌≡◌, Bool, true, false, List, [], ◌∷◌, ◌++◌, refl, sym, ◌∙◌, ap, subst, inl, inr}
+use Rattle.bbm_rules.proofs.Common.{true≢false, or_cases, or_left, or_right, or_from, In, any_finds, any_found}
+use Rattle.bbm_rules.proofs.Common.{in_split, is_none_of, none_of, any, some}
+use Rattle.bbm_lemmas.proofs.Elements.{split_in}
 
 -- where none of the newer items passes, in the words of a sentence
 pub none_at : {A : Type 0} (test : A → Bool) (xs : List A) → any test xs ≡ false

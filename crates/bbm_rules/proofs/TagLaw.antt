@@ -1,9 +1,12 @@
 -- The tags that a root holds at a PE are those that the sentence names, and the list of all tags that it holds has
 -- each of them once.
-use Rattle.std.proofs.Common.{◌≡◌, ℕ, suc, ◌+◌, ◌<◌, ◌≤◌, Bool, true, false, not, ◌&&◌, ◌==◌, nat_le, List, [], ◌∷◌}
-use Rattle.std.proofs.Common.{◌++◌, length, refl, sym, ◌∙◌, ap, subst, inl, inr, arith, true≢false, length-append}
-use Rattle.std.proofs.lemmas.Bool.{or_cases, or_left, or_right, and_parts, and_from, leb-true, leb-false, le-leb}
-use Rattle.std.proofs.lemmas.Bool.{not-true, not_from_false}
+use Rattle.bbm_rules.proofs.Common.{◌≡◌, ℕ, suc, ◌+◌, ◌<◌, ◌≤◌, Bool, true, false, not, ◌&&◌, ◌==◌, nat_le, List, []}
+use Rattle.bbm_rules.proofs.Common.{◌∷◌, ◌++◌, length, refl, sym, ◌∙◌, ap, subst, inl, inr, arith, true≢false}
+use Rattle.bbm_rules.proofs.Common.{length-append, or_cases, or_left, or_right, and_parts, and_from, leb-true}
+use Rattle.bbm_rules.proofs.Common.{leb-false, le-leb, not-true, not_from_false, In, any_finds, any_found}
+use Rattle.bbm_rules.proofs.Common.{from_contains, to_contains, Taken, Trust, same_tag, Issued, completes, reaches}
+use Rattle.bbm_rules.proofs.Common.{unanswered, Open, TakenAway, Reading, asid_readings, holds_at, itself, loses}
+use Rattle.bbm_rules.proofs.Common.{read_since, readings, readings_in, readings_of, reads, reads_for_some, takes_tag}
 use Rattle.bbm_barriers.specs.declared.Dsb.{Dsb as Barrier}
 use Rattle.bbm_regimes.specs.declared.regime.AsidFrom.{AsidFrom}
 use Rattle.bbm_regimes.specs.declared.regime.AsidFrom.TheVariants.{Ttbr0 as FromTtbr0, Ttbr1 as FromTtbr1}
@@ -15,16 +18,11 @@ use Rattle.bbm_regimes.specs.declared.regime.World.TheVariants.{Hyp, Kernel}
 use Rattle.bbm_events.specs.Heading.{Heading}
 use Rattle.bbm_events.specs.declared.event.Event.{Event}
 use Rattle.bbm_events.specs.declared.event.Event.TheVariants.{Dsb}
-use Rattle.bbm_lemmas.specs.Elements.{In}
-use Rattle.bbm_lemmas.proofs.Elements.{any_finds, any_found, from_contains, to_contains}
 use Rattle.bbm_rules.proofs.OpenLaw.{head_of, tail_of, open_sound, open_complete}
 use Rattle.bbm_rules.proofs.SearchLemmas.{is_none_before, none_before}
-use Rattle.bbm_events.specs.declared.claim.Claim.TheVariants.{Taken}
-use Rattle.bbm_rules.specs.Claims.{Trust, allows, same_tag}
-use Rattle.bbm_rules.specs.Reach.{Issued, completes, reaches, unanswered}
-use Rattle.bbm_rules.specs.Sentences.{HoldsTag, Open, TakenAway}
-use Rattle.bbm_rules.specs.Tags.{Reading, asid_readings, holds_at, is_taken_by, itself, loses, read_since, readings}
-use Rattle.bbm_rules.specs.Tags.{readings_in, readings_of, reads, reads_for_some, takes_tag}
+use Rattle.bbm_rules.specs.Claims.{allows}
+use Rattle.bbm_rules.specs.Sentences.{HoldsTag}
+use Rattle.bbm_rules.specs.Tags.{is_taken_by}
 use Rattle.bbm_lemmas.proofs.Bools.{second_false}
 
 -- a tag that is readable for a root is readable for some root

@@ -1,17 +1,13 @@
 -- The list of the tags that a root holds has each of them once, so the tag set says whether there is none, one or more.
-use Rattle.std.proofs.Common.{◌≡◌, ℕ, Bool, true, false, cond, not, ◌&&◌, ◌==◌, List, [], ◌∷◌, filter, filter_map}
-use Rattle.std.proofs.Common.{flat_map, Some, refl, sym, ◌∙◌, ap, subst, inl, inr, true≢false}
-use Rattle.std.proofs.lemmas.Bool.{and_parts, false_from_ne_true, or_cases}
-use Rattle.bbm_tlbi_scope.specs.declared.entry.TagSet.TheVariants.{None as NoTag, One, Many}
-use Rattle.bbm_rules.specs.Prelude.{Tag, Heading, Event}
+use Rattle.bbm_rules.proofs.Common.{◌≡◌, ℕ, Bool, true, false, cond, not, ◌&&◌, ◌==◌, List, [], ◌∷◌, filter, filter_map}
+use Rattle.bbm_rules.proofs.Common.{flat_map, Some, refl, sym, ◌∙◌, ap, subst, inl, inr, true≢false, and_parts}
+use Rattle.bbm_rules.proofs.Common.{false_from_ne_true, or_cases, One, Many, Tag, Heading, Event, In, any_finds}
+use Rattle.bbm_rules.proofs.Common.{any_found, from_filter, in_left, in_right, to_filter, to_flat, Trust, same_tag, any}
+use Rattle.bbm_rules.proofs.Common.{below, if_so, Reading, distinct, ever_read, holds_at, holds_tag, loses, readings}
+use Rattle.bbm_rules.proofs.Common.{reads, tag_set, tag_for, tags_of}
+use Rattle.bbm_tlbi_scope.specs.declared.entry.TagSet.TheVariants.{None as NoTag}
 use Rattle.bbm_rules.proofs.SameRegister.{tag_equal, tag_self}
-use Rattle.bbm_lemmas.specs.Elements.{In}
-use Rattle.bbm_lemmas.proofs.Elements.{any_finds, any_found, from_filter, in_left, in_right, to_filter, to_filter_map}
-use Rattle.bbm_lemmas.proofs.Elements.{to_flat}
-use Rattle.bbm_rules.specs.Claims.{Trust, same_tag}
-use Rattle.bbm_rules.specs.Lists.{any, below, if_so}
-use Rattle.bbm_rules.specs.Tags.{Reading, distinct, ever_read, holds_at, holds_tag, loses, readings, reads, tag_set}
-use Rattle.bbm_rules.specs.Tags.{tag_for, tags_of}
+use Rattle.bbm_lemmas.proofs.Elements.{to_filter_map}
 
 -- ---- a list with each tag once
 

@@ -1,34 +1,23 @@
 -- Trees, limbo, childless, fresh and paths are what the sentences say.
-use Rattle.std.specs.Option.{option_map_or}
-use Rattle.std.proofs.Common.{◌≡◌, ℕ, zero, suc, ◌<◌, ◌≤◌, not, Bool, true, false, cond, ◌==◌, List, [], ◌∷◌, ◌++◌}
-use Rattle.std.proofs.Common.{length, Option, Some, None, is_some, Contains, flat_map, filter_map, refl, sym, ◌∙◌, ap}
-use Rattle.std.proofs.Common.{subst, inl, inr, true≢false, arith}
-use Rattle.std.proofs.lemmas.Bool.{and_from, and_parts, eq-eqb, eqb-true, or_cases, or_left, or_right, not-true}
-use Rattle.std.proofs.lemmas.Bool.{not_from_false}
-use Rattle.bbm_regimes.specs.declared.regime.Kind.{Kind}
-use Rattle.bbm_descriptor.specs.Descriptor.{Form, desc_as, is_valid}
-use Rattle.bbm_descriptor.specs.Fields.{type_bits}
+use Rattle.bbm_rules.proofs.Common.{option_map_or, ◌≡◌, ℕ, zero, suc, ◌<◌, ◌≤◌, not, Bool, true, false, cond, ◌==◌}
+use Rattle.bbm_rules.proofs.Common.{List, [], ◌∷◌, ◌++◌, length, Option, Some, None, is_some, Contains, flat_map}
+use Rattle.bbm_rules.proofs.Common.{filter_map, refl, sym, ◌∙◌, ap, subst, inl, inr, true≢false, arith, and_from}
+use Rattle.bbm_rules.proofs.Common.{and_parts, eq-eqb, eqb-true, or_cases, or_left, or_right, not-true, not_from_false}
+use Rattle.bbm_rules.proofs.Common.{Kind, Form, desc_as, is_valid, type_bits, In, any_finds, any_found, from_contains}
+use Rattle.bbm_rules.proofs.Common.{from_filter, is_none_of, none_of, to_contains, to_filter, to_flat, End, end_at}
+use Rattle.bbm_rules.proofs.Common.{ends_below, Trust, held, any, Noted, events_of, is_fresh, may_be_fresh, page_of}
+use Rattle.bbm_rules.proofs.Common.{roots_of, start_of, Node, held_at, in_limbo, in_tree, is_childless, next_in}
+use Rattle.bbm_rules.proofs.Common.{next_of, node_below, node_of, nodes_of_root, Above, Childless, Down, IsNode}
+use Rattle.bbm_rules.proofs.Common.{places_in, value_of, written_places}
 use Rattle.bbm_events.specs.Heading.{Heading}
 use Rattle.bbm_events.specs.declared.event.Event.{Event}
 use Rattle.bbm_events.specs.declared.event.Event.TheVariants.{Init, Null, Write}
 use Rattle.bbm_rules.proofs.HeldLemmas.{held_is_written, written_here, written_stays}
-use Rattle.bbm_lemmas.specs.Elements.{In}
-use Rattle.bbm_lemmas.proofs.Elements.{any_finds, any_found, from_contains, from_filter, from_filter_map, from_flat}
-use Rattle.bbm_lemmas.proofs.Elements.{is_none_of, none_of, to_contains, to_filter, to_filter_map, to_flat}
+use Rattle.bbm_lemmas.proofs.Elements.{from_filter_map, from_flat, to_filter_map}
 use Rattle.bbm_rules.proofs.TreeLemmas.{Child, InTree, Rooted, at_level, at_start, child_at_level, from_tree, has_node}
 use Rattle.bbm_rules.proofs.TreeLemmas.{level_is, node_found, root_at_level, to_tree}
-use Rattle.bbm_rules.specs.Attach.{End, end_at, ends_below}
-use Rattle.bbm_rules.specs.Claims.{Trust}
-use Rattle.bbm_rules.specs.Held.{held}
-use Rattle.bbm_rules.specs.Lists.{any}
-use Rattle.bbm_rules.specs.Notes.{Noted, events_of}
-use Rattle.bbm_rules.specs.Pages.{is_fresh, may_be_fresh}
-use Rattle.bbm_rules.specs.Places.{page_of}
-use Rattle.bbm_rules.specs.Roots.{roots_of, start_of}
-use Rattle.bbm_rules.specs.Tree.{Node, held_at, holds_some, in_limbo, in_tree, is_childless, next_in, next_of}
-use Rattle.bbm_rules.specs.Tree.{node_below, node_of, nodes_at, nodes_of_root, tree, Above}
-use Rattle.bbm_rules.specs.TreeSentences.{Childless, Down, InLimbo, IsFresh, IsNode, Leads}
-use Rattle.bbm_rules.specs.Values.{places_in, value_of, written_places}
+use Rattle.bbm_rules.specs.Tree.{holds_some, nodes_at, tree}
+use Rattle.bbm_rules.specs.TreeSentences.{InLimbo, IsFresh, Leads}
 
 -- ---- limbo
 

@@ -1,22 +1,18 @@
 -- The nodes of the trees by their parents, and the node that is taken for a page.
-use Rattle.std.proofs.Common.{◌≡◌, ℕ, zero, suc, ◌+◌, ◌*◌, ◌<◌, Bool, true, false, cond, ◌⊎◌, ◌==◌, List, [], ◌∷◌, ◌++◌}
-use Rattle.std.proofs.Common.{Option, Some, is_some, option_and_then, flat_map, refl, sym, ◌∙◌, ap, subst, inl, inr}
-use Rattle.std.proofs.Common.{arith, eqb-true, eq-eqb}
+use Rattle.bbm_rules.proofs.Common.{◌≡◌, ℕ, zero, suc, ◌+◌, ◌*◌, ◌<◌, Bool, true, false, cond, ◌⊎◌, ◌==◌, List, [], ◌∷◌}
+use Rattle.bbm_rules.proofs.Common.{◌++◌, Option, Some, is_some, option_and_then, flat_map, refl, sym, ◌∙◌, ap, subst}
+use Rattle.bbm_rules.proofs.Common.{inl, inr, arith, Kind, In, from_filter, in_append, in_left, in_right, to_filter}
+use Rattle.bbm_rules.proofs.Common.{to_flat, Trust, Noted, events_of, page_of, Declared, input_pages, root_pages}
+use Rattle.bbm_rules.proofs.Common.{roots_of, start_of, Node, child_at, children, held_at, next_of, node_below, node_of}
+use Rattle.bbm_rules.proofs.Common.{nodes_of_pages, nodes_of_root, starts_at, places_in, written_places}
+use Rattle.std.proofs.Common.{eqb-true, eq-eqb}
 use Rattle.std.proofs.lemmas.Option.{option_and_then_some}
-use Rattle.bbm_regimes.specs.declared.regime.Kind.{Kind}
 use Rattle.bbm_events.specs.Heading.{Heading}
 use Rattle.bbm_rules.proofs.HeldLemmas.{held_is_written}
-use Rattle.bbm_lemmas.specs.Elements.{In}
-use Rattle.bbm_lemmas.proofs.Elements.{from_filter, from_filter_map, from_flat, in_append, in_left, in_right, to_filter}
-use Rattle.bbm_lemmas.proofs.Elements.{to_filter_map, to_flat}
+use Rattle.bbm_lemmas.proofs.Elements.{from_filter_map, from_flat, to_filter_map}
 use Rattle.bbm_rules.proofs.ListLemmas.{finds, found}
-use Rattle.bbm_rules.specs.Claims.{Trust}
-use Rattle.bbm_rules.specs.Notes.{Noted, events_of}
-use Rattle.bbm_rules.specs.Places.{page_of}
-use Rattle.bbm_rules.specs.Roots.{Declared, first_input_page, input_pages, root_pages, roots_of, start_of}
-use Rattle.bbm_rules.specs.Tree.{Node, child_at, children, held_at, next_of, node_below, node_of, nodes_at}
-use Rattle.bbm_rules.specs.Tree.{nodes_of_pages, nodes_of_root, starts_at, tree}
-use Rattle.bbm_rules.specs.Values.{places_in, written_places}
+use Rattle.bbm_rules.specs.Roots.{first_input_page}
+use Rattle.bbm_rules.specs.Tree.{nodes_at, tree}
 
 -- ---- the pages of a root
 

@@ -1,15 +1,11 @@
 -- Pages in which two ends of a list lie.
-use Rattle.std.proofs.Common.{◌≡◌, ℕ, ◌⊎◌, Bool, true, false, cond, ◌==◌, List, [], ◌∷◌, ◌++◌, Option, Some, None}
-use Rattle.std.proofs.Common.{filter, flat_map, filter_map, refl, sym, ◌∙◌, ap, subst, inl, inr, true≢false}
+use Rattle.bbm_rules.proofs.Common.{◌≡◌, ℕ, ◌⊎◌, Bool, true, false, cond, ◌==◌, List, [], ◌∷◌, ◌++◌, Option, Some, None}
+use Rattle.bbm_rules.proofs.Common.{filter, flat_map, filter_map, refl, sym, ◌∙◌, ap, subst, inl, inr, true≢false, In}
+use Rattle.bbm_rules.proofs.Common.{from_filter, in_append, in_left, in_right, Event, Write, End, pages_of, among}
+use Rattle.bbm_rules.proofs.Common.{repeated, page_of, places_in, written_places}
 use Rattle.bbm_lemmas.proofs.Words.{Apart, among_in, in_among}
-use Rattle.bbm_lemmas.specs.Elements.{In}
-use Rattle.bbm_lemmas.proofs.Elements.{from_filter, from_flat, in_append, in_left, in_right}
+use Rattle.bbm_lemmas.proofs.Elements.{from_flat}
 use Rattle.bbm_rules.proofs.ListLemmas.{in_pages, from_pages}
-use Rattle.bbm_rules.specs.Prelude.{Event, Write}
-use Rattle.bbm_rules.specs.Attach.{End, pages_of}
-use Rattle.bbm_rules.specs.Lists.{among, repeated}
-use Rattle.bbm_rules.specs.Places.{page_of}
-use Rattle.bbm_rules.specs.Values.{places_in, written_places}
 
 -- some end lies in the page; and two of them do
 pub record InPage (page : ℕ) (ends : List End) : Type 0 where

@@ -1,12 +1,13 @@
 -- The VMID of a PE is the one of all its readable values, and there is none where two of them differ.
-use Rattle.std.proofs.Common.{◌≡◌, ℕ, Bool, true, false, cond, ◌==◌, List, [], ◌∷◌, Some, None, map, refl, sym, ◌∙◌, ap}
-use Rattle.std.proofs.Common.{inl, inr, true≢false, take}
-use Rattle.std.proofs.lemmas.Bool.{and_cases, and_parts, eqb-true, or_cases, or_left, or_right}
+use Rattle.bbm_rules.proofs.Common.{◌≡◌, ℕ, Bool, true, false, cond, ◌==◌, List, [], ◌∷◌, Some, None, map, refl, sym}
+use Rattle.bbm_rules.proofs.Common.{◌∙◌, ap, inl, inr, true≢false, take, and_parts, eqb-true, or_cases, or_left}
+use Rattle.bbm_rules.proofs.Common.{or_right, among, every, one_number, Event, Heading, Hyp, VttbrEl2, register_values}
+use Rattle.bbm_rules.proofs.Common.{tag_number, vmid_of}
+use Rattle.std.proofs.lemmas.Bool.{and_cases}
 use Rattle.bbm_lemmas.proofs.Words.{same_number}
 use Rattle.bbm_rules.proofs.RegisterLaw.{first}
-use Rattle.bbm_rules.specs.Lists.{among, every, one_number}
-use Rattle.bbm_rules.specs.Prelude.{Event, Heading, Hyp, HypWorld, VttbrEl2}
-use Rattle.bbm_rules.specs.RegisterValues.{register_values, tag_number, vmid_in, vmid_of}
+use Rattle.bbm_rules.specs.Prelude.{HypWorld}
+use Rattle.bbm_rules.specs.RegisterValues.{vmid_in}
 use Rattle.bbm_rules.specs.Sentences.{register_value}
 
 module _ (f : ℕ → ℕ) where

@@ -1,21 +1,18 @@
 -- The fold that keeps a log and its certificate: its parts, its lines, and that what it says is what is said of the text.
-use Rattle.std.proofs.Common.{◌≡◌, ℕ, suc, ◌<◌, ◌≤◌, ◌+◌, Bool, true, false, if◌then◌else◌, List, [], ◌∷◌, length}
-use Rattle.std.proofs.Common.{reverse, Option, Some, None, option_and_then, refl, ap, sym, ◌∙◌, arith, subst, nat_le}
-use Rattle.std.proofs.Common.{Result, Ok, Err, ◌==◌, ◌⊎◌, inl, inr, Contains, not-suc-le-zero}
+use Rattle.bbm_session.proofs.Common.{Event, Heading, Verdict, Accepted, Refused, Malformed, Limit, Kept, Stop, Turn}
+use Rattle.bbm_session.proofs.Common.{CertifiedReadFor, certified_lines, Fold, Halts, Ending, ending_after, ending_from}
+use Rattle.bbm_session.proofs.Common.{ending_at, passes_to, lines_from, header_by, IsStart, IsInside, IsEnd, Certifies}
+use Rattle.bbm_session.proofs.Common.{certifying, ReadAs, MayTakeLine, TakesLine, KnowsThat}
+use Rattle.bbm_rules.proofs.Common.{◌≡◌, ℕ, suc, ◌<◌, ◌≤◌, ◌+◌, Bool, true, false, if◌then◌else◌, List, [], ◌∷◌, length}
+use Rattle.bbm_rules.proofs.Common.{reverse, Option, Some, None, option_and_then, refl, ap, sym, ◌∙◌, arith, subst}
+use Rattle.bbm_rules.proofs.Common.{nat_le, Result, Ok, Err, ◌==◌, ◌⊎◌, inl, inr, Contains, not-suc-le-zero, Claim}
+use Rattle.bbm_rules.proofs.Common.{Item, heading_ok, Text, is_too_long, text_of}
 use Rattle.bbm_events.specs.declared.certificate.ClaimItem.{ClaimItem}
 use Rattle.bbm_events.specs.declared.certificate.ClaimItem.TheVariants as claim_item
-use Rattle.bbm_events.specs.declared.claim.Claim.{Claim}
-use Rattle.bbm_events.specs.declared.event.Event.{Event}
-use Rattle.bbm_events.specs.declared.event.Item.{Item}
 use Rattle.bbm_events.specs.declared.event.Item.TheVariants as item
 use Rattle.bbm_events.specs.declared.malformed.Malformed.{Malformed as Cause}
 use Rattle.bbm_events.specs.Certificate.{certificate_of, claim_of}
-use Rattle.bbm_events.specs.Heading.{Heading, heading_ok}
 use Rattle.bbm_events.specs.Lines.{header_of, item_of}
-use Rattle.bbm_rules.specs.declared.verdict.Verdict.{Verdict}
-use Rattle.bbm_rules.specs.declared.verdict.Verdict.TheVariants.{Accepted, Refused, Malformed, Limit}
-use Rattle.bbm_rules.specs.Outcome.{Text, is_too_long, text_of}
-use Rattle.bbm_certificate.specs.declared.kept.Kept.{Kept}
 use Rattle.bbm_certificate.specs.declared.kept.Part.{Part}
 use Rattle.bbm_certificate.specs.declared.kept.Part.TheVariants as part
 use Rattle.bbm_certificate.specs.declared.turn.LineFault.{LineFault}
@@ -31,15 +28,9 @@ use Rattle.bbm_certificate.specs.CertificateReading.{reached_in, too_long_at, tu
 use Rattle.bbm_certificate.specs.CertificateReading.{Stopped, Whole, cut_at, end_of, Read, read_after, read_from}
 use Rattle.bbm_certificate.specs.CertificateReading.{read_of}
 use Rattle.bbm_certificate.specs.CertificateReading as read
-use Rattle.bbm_session.specs.declared.stop.Stop.{Stop}
-use Rattle.bbm_session.specs.declared.stop.Turn.{Turn}
-use Rattle.bbm_session.specs.Certificates.{CertifiedReadFor, certified_leads, certified_lines}
-use Rattle.bbm_session.specs.Fold.{Fold, Halts, Ending, turned_by, end_by, ending_after, ending_from, ending_at}
-use Rattle.bbm_session.specs.Fold.{passes_to, lines_from, header_by, IsStart, IsInside, IsEnd}
-use Rattle.bbm_session.specs.Folds.{Certifies, TurnsRead, certified_by, certifying, whole_read}
-use Rattle.bbm_session.specs.Run.{ReadAs}
-use Rattle.bbm_session.specs.Stages.{MayTakeLine, TakesLine}
-use Rattle.bbm_texts.specs.Known.{KnowsThat}
+use Rattle.bbm_session.specs.Certificates.{certified_leads}
+use Rattle.bbm_session.specs.Fold.{turned_by, end_by}
+use Rattle.bbm_session.specs.Folds.{TurnsRead, certified_by, whole_read}
 use Rattle.bbm_session.proofs.Judgements.{named_line, read_for}
 use Rattle.bbm_session.proofs.ReadBytes.{ByName, Named, if-by, reaches, read-by}
 

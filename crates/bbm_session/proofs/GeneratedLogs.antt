@@ -1,23 +1,19 @@
 -- The text of a generated log: each line is read as what was written, and the log is accepted.
-use Rattle.std.proofs.Common.{◌≡◌, ℕ, zero, suc, ◌+◌, ◌<◌, ◌≤◌, ◌==◌, nat_le, true, false, List, [], ◌∷◌, ◌++◌, length}
-use Rattle.std.proofs.Common.{None, Ok, refl, ap, sym, ◌∙◌, subst, arith, append_assoc}
-use Rattle.std.proofs.lemmas.Bool.Decides.{nat_tests}
-use Rattle.bbm_io.specs.Flow.{plain}
-use Rattle.bbm_gen.specs.Generated.{GeneratedKeepsRules, heading, event_at, log_of}
-use Rattle.bbm_events.specs.Fits.{fits_heading, item_fits}
+use Rattle.bbm_session.proofs.Common.{plain, heading, item_fits, Patterns, Accepted, Ending, Fold, Passes, alone}
+use Rattle.bbm_session.proofs.Common.{ending_at, Judged, judged_at, judging, gen_text}
+use Rattle.bbm_rules.proofs.Common.{◌≡◌, ℕ, zero, suc, ◌+◌, ◌<◌, ◌≤◌, ◌==◌, nat_le, true, false, List, [], ◌∷◌, ◌++◌}
+use Rattle.bbm_rules.proofs.Common.{length, None, Ok, refl, ap, sym, ◌∙◌, subst, arith, append_assoc, nat_tests}
+use Rattle.bbm_rules.proofs.Common.{fits_heading, Item, limit_of, AtHeader, AtEvents, AtEnd, Outcome, Progress}
+use Rattle.bbm_rules.proofs.Common.{outcome_of}
+use Rattle.bbm_gen.specs.Generated.{GeneratedKeepsRules, event_at, log_of}
 use Rattle.bbm_events.specs.LineLaws.{WrittenIsALine, WrittenIsRead}
 use Rattle.bbm_events.specs.Lines.{header_line, header_of, item_line, item_of}
 use Rattle.bbm_events.specs.Spelling.{is_plain}
-use Rattle.bbm_events.specs.declared.event.Item.{Item}
 use Rattle.bbm_events.specs.declared.event.Item.TheVariants.{Event, End}
 use Rattle.bbm_rules.specs.Broken.{broken}
-use Rattle.bbm_rules.specs.Claims.{Patterns}
-use Rattle.bbm_rules.specs.Limits.{limit_of}
-use Rattle.bbm_rules.specs.Outcome.{AtHeader, AtEvents, AtEnd, Outcome, Progress, check_limits, outcome_of}
-use Rattle.bbm_rules.specs.declared.verdict.Verdict.TheVariants.{Accepted}
-use Rattle.bbm_session.specs.Fold.{Ending, Fold, Passes, alone, end_by, ending_at}
-use Rattle.bbm_session.specs.Folds.{Judged, judged_at, judging}
-use Rattle.bbm_texts.specs.Generating.{gen_begin, gen_text}
+use Rattle.bbm_rules.specs.Outcome.{check_limits}
+use Rattle.bbm_session.specs.Fold.{end_by}
+use Rattle.bbm_texts.specs.Generating.{gen_begin}
 use Rattle.bbm_session.proofs.Judgements.{outcome_said, outcome-said}
 use Rattle.bbm_session.proofs.Stages.{ending-line}
 

@@ -1,52 +1,36 @@
 -- The fold that judges events: its parts, its lines, and that what it says is the outcome of the bytes.
-use Rattle.std.proofs.Common.{◌≡◌, ◌≢◌, not, ℕ, suc, ◌<◌, ◌+◌, Bool, true, false, if◌then◌else◌, List, [], ◌∷◌, length}
-use Rattle.std.proofs.Common.{Option, Some, None, refl, ap, sym, ◌∙◌, arith, subst, ◌^◌, Result, Ok, Err, IfOk, IfErr}
-use Rattle.std.proofs.Common.{OnOk, ◌==◌, ◌⊎◌, inl, inr}
-use Rattle.std.proofs.lemmas.Bool.{and_parts, not-true}
+use Rattle.bbm_session.proofs.Common.{IfErr, item_fits, Heading, Rule, Verdict, Accepted, Refused, Malformed, Limit}
+use Rattle.bbm_session.proofs.Common.{Patterns, Limits, limit_after, read_from, goes_on_to, Command, Check, Slow}
+use Rattle.bbm_session.proofs.Common.{Explain, Walk, Show, Decision, Stop, Decided, ReadFault, NoMemory, Turn, Taken}
+use Rattle.bbm_session.proofs.Common.{End, Fold, Turned, Halts, alone, refusing, Ending, ending_after, ending_from}
+use Rattle.bbm_session.proofs.Common.{ending_at, passes_to, lines_from, header_by, IsStart, IsInside, IsEnd, Judged}
+use Rattle.bbm_session.proofs.Common.{Judges, judged_at, event_on, event_needs, is_frugal, judging, judging_for}
+use Rattle.bbm_session.proofs.Common.{NeedsMemory, ReadFor, command_lines, limits_of, event_in, IsRefused, Keeps}
+use Rattle.bbm_session.proofs.Common.{KnowsThat, MayTakeLine, KnowsAt, KnowsWhy, RefusedOn, TakesLine, Ends}
+use Rattle.bbm_rules.proofs.Common.{◌≡◌, ◌≢◌, not, ℕ, suc, ◌<◌, ◌+◌, Bool, true, false, if◌then◌else◌, List, [], ◌∷◌}
+use Rattle.bbm_rules.proofs.Common.{length, Option, Some, None, refl, ap, sym, ◌∙◌, arith, subst, ◌^◌, Result, Ok, Err}
+use Rattle.bbm_rules.proofs.Common.{IfOk, ◌==◌, ◌⊎◌, inl, inr, and_parts, not-true, proved, If, Is, Which, Item}
+use Rattle.bbm_rules.proofs.Common.{fits_heading, label_fits, WrongCount, rewrites, Breach, limit_of, Text, is_too_long}
+use Rattle.bbm_rules.proofs.Common.{limit_at, AtHeader, AtEvents, AtEnd, after_header, after_item, after_judged}
+use Rattle.bbm_rules.proofs.Common.{after_kept, after_line, too_long_at, cut_at, Progress, Step, Decides, GoesOn}
+use Rattle.bbm_rules.proofs.Common.{Outcome, outcome_of, verdict_of_bytes, events_in, text_of}
+use Rattle.std.proofs.Common.{OnOk}
 use Rattle.bbm_lemmas.proofs.Bools.{not_from}
-use Rattle.bbm_lemmas.proofs.Tautologies.{proved}
-use Rattle.bbm_lemmas.proofs.Tautologies.Claim.{If, Is, Never}
-use Rattle.bbm_regimes.specs.declared.regime.Which.{Which}
+use Rattle.bbm_lemmas.proofs.Tautologies.Claim.{Never}
 use Rattle.bbm_events.specs.declared.event.Event.{Event as EventOf}
-use Rattle.bbm_events.specs.declared.event.Item.{Item}
 use Rattle.bbm_events.specs.declared.event.Item.TheVariants as item
-use Rattle.bbm_events.specs.Fits.{fits_heading, item_fits, label_fits}
-use Rattle.bbm_events.specs.Heading.{Heading}
 use Rattle.bbm_events.specs.declared.malformed.Malformed.{Malformed as Cause}
-use Rattle.bbm_events.specs.declared.malformed.Malformed.TheVariants.{WrongCount}
 use Rattle.bbm_events.specs.Lines.{header_of, item_of}
-use Rattle.bbm_rules.specs.declared.rule.Rule.{Rule}
-use Rattle.bbm_rules.specs.declared.verdict.Verdict.{Verdict}
-use Rattle.bbm_rules.specs.declared.verdict.Verdict.TheVariants.{Accepted, Refused, Malformed, Limit}
 use Rattle.bbm_rules.specs.declared.step_fault.StepFault.{StepFault}
 use Rattle.bbm_rules.specs.declared.step_fault.StepFault.TheVariants as step_fault
-use Rattle.bbm_rules.specs.Answers.{rewrites, takes_no_memory}
-use Rattle.bbm_rules.specs.Broken.{Breach, broken}
-use Rattle.bbm_rules.specs.Claims.{Patterns}
-use Rattle.bbm_rules.specs.Limits.{limit_of}
-use Rattle.bbm_rules.specs.declared.limits.Limits.{Limits}
-use Rattle.bbm_rules.specs.Outcome.{Text, is_too_long, limit_after, limit_at, AtHeader, AtEvents, AtEnd, after_header}
-use Rattle.bbm_rules.specs.Outcome.{after_item, after_event, after_judged, after_kept, after_line, too_long_at, cut_at}
-use Rattle.bbm_rules.specs.Outcome.{Progress, Step, Decides, GoesOn, Outcome, outcome_from, outcome_of, outcome_after}
-use Rattle.bbm_rules.specs.Outcome.{verdict_of_bytes, read_from, goes_on_to, step_of, end_of, events_in, text_of}
-use Rattle.bbm_texts.specs.declared.commands.Command.{Command}
-use Rattle.bbm_texts.specs.declared.commands.Command.TheVariants.{Check, Slow, Explain, Walk, Show}
-use Rattle.bbm_texts.specs.declared.decision.Decision.{Decision}
-use Rattle.bbm_session.specs.declared.stop.Stop.{Stop}
-use Rattle.bbm_session.specs.declared.stop.Stop.TheVariants.{Decided, ReadFault, NoMemory}
-use Rattle.bbm_session.specs.declared.stop.Turn.{Turn}
-use Rattle.bbm_session.specs.declared.stop.Turn.TheVariants.{Taken, End}
-use Rattle.bbm_session.specs.Fold.{Fold, Turned, Halts, alone, refusing, Ending, turned_by, end_by, ending_after}
-use Rattle.bbm_session.specs.Fold.{ending_from, ending_at, passes_to, lines_from, header_by, IsStart, IsInside, IsEnd}
-use Rattle.bbm_session.specs.Folds.{Judged, Judges, StopsKnown, judged_at, judged_by, event_on, event_needs, item_needs}
-use Rattle.bbm_session.specs.Folds.{line_needs, is_frugal, judging, judging_for}
-use Rattle.bbm_session.specs.Run.{EventNeeds, ItemNeeds, NeedsMemory, NeedsRoom, ReadFor, ReadTo, UpTo, command_lines}
-use Rattle.bbm_session.specs.Run.{limits_of}
-use Rattle.bbm_session.specs.Refused.{event_in}
-use Rattle.bbm_texts.specs.Known.{IsRefused}
-use Rattle.bbm_session.specs.Stages.{StopsAt, MayJudge, MayTakeLine, KnowsAt, KnowsWhy, RefusedOn, JudgesLine}
-use Rattle.bbm_session.specs.Stages.{TakesLine, Ends}
-use Rattle.bbm_texts.specs.Known.{Keeps, KnowsThat, TellsEvent}
+use Rattle.bbm_rules.specs.Answers.{takes_no_memory}
+use Rattle.bbm_rules.specs.Broken.{broken}
+use Rattle.bbm_rules.specs.Outcome.{after_event, outcome_from, outcome_after, step_of, end_of}
+use Rattle.bbm_session.specs.Fold.{turned_by, end_by}
+use Rattle.bbm_session.specs.Folds.{StopsKnown, judged_by, item_needs, line_needs}
+use Rattle.bbm_session.specs.Run.{EventNeeds, ItemNeeds, NeedsRoom, ReadTo, UpTo}
+use Rattle.bbm_texts.specs.Known.{TellsEvent}
+use Rattle.bbm_session.specs.Stages.{StopsAt, MayJudge, JudgesLine}
 use Rattle.bbm_session.proofs.ReadBytes.{ByName, Named, read-by}
 
 -- ---- an event

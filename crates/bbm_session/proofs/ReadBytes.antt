@@ -1,17 +1,14 @@
 -- Which bytes are read for what is said of a text: all of them where no line is named, and else those up to the line.
-use Rattle.std.proofs.Common.{◌≡◌, ◌⊎◌, ℕ, zero, suc, ◌+◌, ◌≤◌, ◌<◌, Bool, true, false, nat_eq, if◌then◌else◌, List, []}
-use Rattle.std.proofs.Common.{◌∷◌, ◌++◌, length, drop, Option, Some, None, option_and_then, refl, ap, sym, ◌∙◌, subst}
-use Rattle.std.proofs.Common.{inl, inr, arith, append_assoc, append-nil}
-use Rattle.std.proofs.Math.ListN.{drop_of_length-le}
-use Rattle.std.proofs.lemmas.Bool.{and_parts}
-use Rattle.std.proofs.lemmas.Bool.Decides.{nat_tests}
-use Rattle.bbm_io.specs.Flow.{plain}
-use Rattle.bbm_rules.specs.Outcome.{Text, before_text, text_of, bytes_of, is_too_long}
-use Rattle.bbm_session.specs.Fold.{turned_by, Fold, Turned, Halts, Passes, Ending, end_by, ending_after}
-use Rattle.bbm_session.specs.Fold.{ending_at, ending_from}
-use Rattle.bbm_session.specs.Fold.{passes_to, lines_from}
+use Rattle.bbm_session.proofs.Common.{drop_of_length-le, plain, before_text, Fold, Turned, Halts, Passes, Ending}
+use Rattle.bbm_session.proofs.Common.{ending_after, ending_at, ending_from, passes_to, lines_from, plain_lines, Breaks}
+use Rattle.bbm_session.proofs.Common.{Starves}
+use Rattle.bbm_rules.proofs.Common.{◌≡◌, ◌⊎◌, ℕ, zero, suc, ◌+◌, ◌≤◌, ◌<◌, Bool, true, false, nat_eq, if◌then◌else◌}
+use Rattle.bbm_rules.proofs.Common.{List, [], ◌∷◌, ◌++◌, length, drop, Option, Some, None, option_and_then, refl, ap}
+use Rattle.bbm_rules.proofs.Common.{sym, ◌∙◌, subst, inl, inr, arith, append_assoc, append-nil, and_parts, nat_tests}
+use Rattle.bbm_rules.proofs.Common.{Text, text_of, bytes_of, is_too_long}
+use Rattle.bbm_session.specs.Fold.{turned_by, end_by}
 use Rattle.bbm_session.specs.Run.{ReadToFault, ReadToWant, reached_from}
-use Rattle.bbm_session.specs.Stages.{plain_lines, Broke, Breaks, Starved, Starves}
+use Rattle.bbm_session.specs.Stages.{Broke, Starved}
 use Rattle.bbm_session.proofs.Stages.{turned-short, turned-long, end-short, end-long, seam, bytes_of-append}
 use Rattle.bbm_session.proofs.Stages.{plain_lines-append}
 use Rattle.bbm_session.proofs.Texts.{plain-head, text_of-line, text_of-plain, bytes_of-text_of}

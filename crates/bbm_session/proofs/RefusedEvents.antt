@@ -1,24 +1,13 @@
 -- The event that a verdict on some bytes refuses is that of the line which the verdict names.
-use Rattle.std.proofs.Common.{◌≡◌, ℕ, suc, ◌-◌, List, [], ◌∷◌, ◌++◌, length, get_or, Option, Some, None, refl, ap, sym}
-use Rattle.std.proofs.Common.{◌∙◌, subst, arith}
-use Rattle.std.proofs.lemmas.List.{get_or_at}
-use Rattle.bbm_events.specs.declared.event.Event.{Event}
-use Rattle.bbm_events.specs.Heading.{Heading}
+use Rattle.bbm_session.proofs.Common.{Event, Heading, heading_in, Limits, Rule, Verdict, Accepted, Refused, Malformed}
+use Rattle.bbm_session.proofs.Common.{Limit, Command, Check, Slow, Explain, Walk, Show, ending_at, Judged, is_frugal}
+use Rattle.bbm_session.proofs.Common.{judging_for, RefusedIn, event_in, refused_in, limits_of, Says}
+use Rattle.bbm_rules.proofs.Common.{◌≡◌, ℕ, suc, ◌-◌, List, [], ◌∷◌, ◌++◌, length, get_or, Option, Some, None, refl, ap}
+use Rattle.bbm_rules.proofs.Common.{sym, ◌∙◌, subst, arith, get_or_at, AtHeader, text_of}
 use Rattle.bbm_events.specs.Lines.{item_of}
-use Rattle.bbm_report.specs.Further.{heading_in}
-use Rattle.bbm_rules.specs.declared.limits.Limits.{Limits}
-use Rattle.bbm_rules.specs.declared.rule.Rule.{Rule}
-use Rattle.bbm_rules.specs.declared.verdict.Verdict.{Verdict}
-use Rattle.bbm_rules.specs.declared.verdict.Verdict.TheVariants.{Accepted, Refused, Malformed, Limit}
-use Rattle.bbm_rules.specs.Outcome.{AtHeader, text_of}
-use Rattle.bbm_texts.specs.declared.commands.Command.{Command}
-use Rattle.bbm_texts.specs.declared.commands.Command.TheVariants.{Check, Slow, Explain, Walk, Show}
 use Rattle.bbm_texts.specs.declared.commands.Evidence.TheVariants.{Idle, Counterrun, Cert}
-use Rattle.bbm_session.specs.Fold.{ending_at}
-use Rattle.bbm_session.specs.Folds.{Judged, is_frugal, judging_for}
-use Rattle.bbm_session.specs.Refused.{RefusedIn, event_at, event_in, refused_at, refused_in}
-use Rattle.bbm_session.specs.Run.{limits_of}
-use Rattle.bbm_texts.specs.Says.{Says, SaysIn}
+use Rattle.bbm_session.specs.Refused.{event_at, refused_at}
+use Rattle.bbm_texts.specs.Says.{SaysIn}
 use Rattle.bbm_session.proofs.Judgements.{AllFit}
 use Rattle.bbm_session.proofs.RefusedLines.{refused-in}
 

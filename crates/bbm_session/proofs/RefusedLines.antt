@@ -1,36 +1,21 @@
 -- The line of a text that refuses an event.
-use Rattle.std.proofs.Common.{◌≡◌, ℕ, suc, ◌+◌, Bool, true, false, if◌then◌else◌, List, [], ◌∷◌, ◌++◌, length, Option}
-use Rattle.std.proofs.Common.{Some, None, refl, ap, sym, ◌∙◌, arith, subst, Result, Ok, Err, ◌==◌}
-use Rattle.std.specs.Result.{result_ok}
-use Rattle.bbm_regimes.specs.declared.regime.Which.{Which}
+use Rattle.bbm_session.proofs.Common.{Heading, Verdict, Accepted, Refused, Malformed, Limit, Rule, Patterns, Limits}
+use Rattle.bbm_session.proofs.Common.{goes_on_to, read_from, heading_in, Decision, Stop, Decided, ReadFault, NoMemory}
+use Rattle.bbm_session.proofs.Common.{Turned, Halts, refusing, ending_after, ending_at, ending_from, Judged, event_on}
+use Rattle.bbm_session.proofs.Common.{judged_at, judging, RefusedIn, event_in, IsRefused, Stops, Heads}
+use Rattle.bbm_rules.proofs.Common.{◌≡◌, ℕ, suc, ◌+◌, Bool, true, false, if◌then◌else◌, List, [], ◌∷◌, ◌++◌, length}
+use Rattle.bbm_rules.proofs.Common.{Option, Some, None, refl, ap, sym, ◌∙◌, arith, subst, Result, Ok, Err, ◌==◌}
+use Rattle.bbm_rules.proofs.Common.{result_ok, Which, Item, WrongCount, Breach, limit_of, AtHeader, AtEvents, AtEnd}
+use Rattle.bbm_rules.proofs.Common.{Decides, GoesOn, Progress, Step, after_header, after_item, after_judged, after_kept}
+use Rattle.bbm_rules.proofs.Common.{after_line, cut_at, events_in, is_too_long, limit_at, text_of, too_long_at}
 use Rattle.bbm_events.specs.declared.event.Event.{Event as EventOf}
-use Rattle.bbm_events.specs.declared.event.Item.{Item}
 use Rattle.bbm_events.specs.declared.event.Item.TheVariants as item
-use Rattle.bbm_events.specs.Heading.{Heading}
 use Rattle.bbm_events.specs.declared.malformed.Malformed.{Malformed as Cause}
-use Rattle.bbm_events.specs.declared.malformed.Malformed.TheVariants.{WrongCount}
 use Rattle.bbm_events.specs.Lines.{header_of, item_of}
-use Rattle.bbm_rules.specs.declared.verdict.Verdict.{Verdict}
-use Rattle.bbm_rules.specs.declared.verdict.Verdict.TheVariants.{Accepted, Refused, Malformed, Limit}
-use Rattle.bbm_rules.specs.declared.rule.Rule.{Rule}
-use Rattle.bbm_rules.specs.Broken.{Breach, broken}
-use Rattle.bbm_rules.specs.Claims.{Patterns}
-use Rattle.bbm_rules.specs.Limits.{limit_of}
-use Rattle.bbm_rules.specs.declared.limits.Limits.{Limits}
-use Rattle.bbm_rules.specs.Outcome.{AtHeader, AtEvents, AtEnd, Decides, GoesOn, Progress, Step, after_header}
-use Rattle.bbm_rules.specs.Outcome.{after_item, after_judged, after_kept, after_line, cut_at, end_of, events_in}
-use Rattle.bbm_rules.specs.Outcome.{goes_on_to, is_too_long, limit_at, read_from, step_of, text_of, too_long_at}
-use Rattle.bbm_report.specs.Further.{heading_in}
-use Rattle.bbm_texts.specs.declared.decision.Decision.{Decision}
-use Rattle.bbm_session.specs.declared.stop.Stop.{Stop}
-use Rattle.bbm_session.specs.declared.stop.Stop.TheVariants.{Decided, ReadFault, NoMemory}
-use Rattle.bbm_session.specs.Fold.{Turned, Halts, refusing, ending_after, ending_at, ending_from}
-use Rattle.bbm_session.specs.Folds.{Judged, event_on, judged_at, judged_by, judging}
+use Rattle.bbm_rules.specs.Broken.{broken}
+use Rattle.bbm_rules.specs.Outcome.{end_of, step_of}
+use Rattle.bbm_session.specs.Folds.{judged_by}
 use Rattle.bbm_session.specs.JudgedLog.{RefusesIn, StopsIn}
-use Rattle.bbm_session.specs.Refused.{RefusedIn, event_in}
-use Rattle.bbm_texts.specs.Known.{IsRefused}
-use Rattle.bbm_session.specs.Stages.{Stops}
-use Rattle.bbm_session.specs.Serving.{Heads}
 use Rattle.bbm_session.proofs.Judgements.{AllFit, decided-by, end-is, fits-read, refuses-item, step-is}
 
 -- the lines are read under this header

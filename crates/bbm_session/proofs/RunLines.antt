@@ -1,19 +1,16 @@
 -- The fold that keeps the steps of a run: its parts, its lines, and that what it says is what comes of the run.
-use Rattle.std.proofs.Common.{◌≡◌, ℕ, suc, ◌<◌, ◌≤◌, ◌+◌, Bool, true, false, if◌then◌else◌, List, [], ◌∷◌, length}
-use Rattle.std.proofs.Common.{reverse, Option, Some, None, option_and_then, refl, ap, sym, ◌∙◌, arith, subst, nat_le}
-use Rattle.std.proofs.Common.{Result, Ok, Err, ◌==◌, ◌⊎◌, inl, inr}
-use Rattle.std.proofs.lemmas.List.{length-reverse}
-use Rattle.bbm_events.specs.declared.event.Item.{Item}
+use Rattle.bbm_session.proofs.Common.{Heading, Verdict, Accepted, Refused, Malformed, Limit, Step, Stop, Turn, Fold}
+use Rattle.bbm_session.proofs.Common.{Halts, Ending, ending_after, ending_from, ending_at, passes_to, lines_from}
+use Rattle.bbm_session.proofs.Common.{header_by, IsStart, IsInside, IsEnd, Follows, following, ReadAs, RunReadFor}
+use Rattle.bbm_session.proofs.Common.{run_lines, MayTakeLine, TakesLine, KnowsThat}
+use Rattle.bbm_rules.proofs.Common.{◌≡◌, ℕ, suc, ◌<◌, ◌≤◌, ◌+◌, Bool, true, false, if◌then◌else◌, List, [], ◌∷◌, length}
+use Rattle.bbm_rules.proofs.Common.{reverse, Option, Some, None, option_and_then, refl, ap, sym, ◌∙◌, arith, subst}
+use Rattle.bbm_rules.proofs.Common.{nat_le, Result, Ok, Err, ◌==◌, ◌⊎◌, inl, inr, length-reverse, Item, MachineLine}
+use Rattle.bbm_rules.proofs.Common.{Text, is_too_long, text_of}
 use Rattle.bbm_events.specs.declared.event.Item.TheVariants as item
-use Rattle.bbm_events.specs.declared.machine.MachineLine.{MachineLine}
 use Rattle.bbm_events.specs.declared.malformed.Malformed.{Malformed as Cause}
-use Rattle.bbm_events.specs.Heading.{Heading}
 use Rattle.bbm_events.specs.Lines.{header_of, item_of}
 use Rattle.bbm_events.specs.Machine.{machine_of}
-use Rattle.bbm_rules.specs.declared.verdict.Verdict.{Verdict}
-use Rattle.bbm_rules.specs.declared.verdict.Verdict.TheVariants.{Accepted, Refused, Malformed, Limit}
-use Rattle.bbm_rules.specs.Outcome.{Text, is_too_long, text_of}
-use Rattle.bbm_tlb_machine.specs.declared.step.Step.{Step}
 use Rattle.bbm_follow.specs.declared.turn.LineFault.{LineFault}
 use Rattle.bbm_follow.specs.declared.turn.LineFault.TheVariants as line_fault
 use Rattle.bbm_follow.specs.declared.turn.Turn.{Turn as RunTurn}
@@ -24,15 +21,9 @@ use Rattle.bbm_follow.specs.Following.{after_header, after_line, too_long_at, tu
 use Rattle.bbm_follow.specs.Following.{Stopped, Whole, cut_at, end_of, RunOutcome, outcome_after, run_from, run_of}
 use Rattle.bbm_follow.specs.Following.{step_limit, is_step, event_count}
 use Rattle.bbm_follow.specs.Following as run
-use Rattle.bbm_session.specs.declared.stop.Stop.{Stop}
-use Rattle.bbm_session.specs.declared.stop.Turn.{Turn}
-use Rattle.bbm_session.specs.Fold.{Fold, Halts, Ending, turned_by, end_by, ending_after, ending_from, ending_at}
-use Rattle.bbm_session.specs.Fold.{passes_to, lines_from, header_by, IsStart, IsInside, IsEnd}
-use Rattle.bbm_session.specs.Folds.{Follows, Turns, following, kept_by}
-use Rattle.bbm_session.specs.Run.{ReadAs}
-use Rattle.bbm_session.specs.Runs.{RunReadFor, run_leads, run_lines}
-use Rattle.bbm_session.specs.Stages.{MayTakeLine, TakesLine}
-use Rattle.bbm_texts.specs.Known.{KnowsThat}
+use Rattle.bbm_session.specs.Fold.{turned_by, end_by}
+use Rattle.bbm_session.specs.Folds.{Turns, kept_by}
+use Rattle.bbm_session.specs.Runs.{run_leads}
 use Rattle.bbm_session.proofs.Judgements.{named_line, read_for}
 use Rattle.bbm_session.proofs.ReadBytes.{ByName, Named, if-by, reaches, read-by}
 

@@ -1,53 +1,38 @@
 -- What a text that was read says of a call of the program: the bytes that were read and written, and the status.
-use Rattle.std.proofs.Common.{◌≡◌, ◌⊎◌, ℕ, Bool, true, false, List, [], Option, Some, None, Result, Ok, Err}
-use Rattle.std.proofs.Common.{refl, ap, sym, ◌∙◌, subst, inl, inr, reverse, length, IfOk}
-use Rattle.std.proofs.lemmas.Bool.{false≢true}
+use Rattle.bbm_session.proofs.Common.{Heading, Event, Kept, Verdict, Accepted, Refused, Malformed, Limit, Limits}
+use Rattle.bbm_session.proofs.Common.{Patterns, heading_in, Step, Command, Judge, Verify, Generate, Selftest, Decision}
+use Rattle.bbm_session.proofs.Common.{Stop, Decided, ReadFault, NoMemory, CertifiedReadFor, certified_lines, Says}
+use Rattle.bbm_session.proofs.Common.{SaysFor, Fold, ending_at, Certifies, Follows, Judged, certifying, following}
+use Rattle.bbm_session.proofs.Common.{is_frugal, judged_at, judging_for, gen_text, NeedsMemory, ReadFor, command_lines}
+use Rattle.bbm_session.proofs.Common.{limits_of, refused_in, RunReadFor, run_lines, Breaks, Concludes, Ends, HeaderLine}
+use Rattle.bbm_session.proofs.Common.{Starts, Starves, Stops, Heads, Reports, ReportsShown}
+use Rattle.bbm_rules.proofs.Common.{◌≡◌, ◌⊎◌, ℕ, Bool, true, false, List, [], Option, Some, None, Result, Ok, Err, refl}
+use Rattle.bbm_rules.proofs.Common.{ap, sym, ◌∙◌, subst, inl, inr, reverse, length, IfOk, false≢true, Claim, AtHeader}
+use Rattle.bbm_rules.proofs.Common.{Outcome, Progress, Text, events_in, outcome_of, text_of, verdict_of_bytes}
 use Rattle.bbm_io.specs.Flow.{extended}
-use Rattle.bbm_events.specs.Heading.{Heading}
-use Rattle.bbm_events.specs.declared.claim.Claim.{Claim}
-use Rattle.bbm_events.specs.declared.event.Event.{Event}
 use Rattle.bbm_cert.specs.declared.judged.Judged.{Judged as JudgedBy}
 use Rattle.bbm_cert.specs.declared.judged.Judged.TheVariants.{Yes, No}
 use Rattle.bbm_cert.specs.Judged.{judged}
-use Rattle.bbm_certificate.specs.declared.kept.Kept.{Kept}
 use Rattle.bbm_certificate.specs.CertificateReading as read
 use Rattle.bbm_follow.specs.declared.followed.Followed.{Followed}
 use Rattle.bbm_follow.specs.declared.followed.Followed.TheVariants.{Run, BadStep}
 use Rattle.bbm_follow.specs.Following as run
-use Rattle.bbm_rules.specs.declared.verdict.Verdict.{Verdict}
-use Rattle.bbm_rules.specs.declared.verdict.Verdict.TheVariants.{Accepted, Refused, Malformed, Limit}
-use Rattle.bbm_rules.specs.declared.limits.Limits.{Limits}
-use Rattle.bbm_rules.specs.Claims.{Patterns}
-use Rattle.bbm_rules.specs.Outcome.{AtHeader, Outcome, Progress, Text, events_in, outcome_of, text_of, verdict_of_bytes}
-use Rattle.bbm_report.specs.Further.{heading_in}
-use Rattle.bbm_tlb_machine.specs.declared.step.Step.{Step}
-use Rattle.bbm_texts.specs.declared.commands.Command.{Command}
 use Rattle.bbm_session.specs.declared.command.Request.{Request}
-use Rattle.bbm_session.specs.declared.command.Request.TheVariants.{Judge, Follow, Verify, Generate, Selftest}
+use Rattle.bbm_session.specs.declared.command.Request.TheVariants.{Follow}
 use Rattle.bbm_texts.specs.declared.status.Status.{Status}
 use Rattle.bbm_texts.specs.declared.status.Status.TheVariants as status
-use Rattle.bbm_texts.specs.declared.decision.Decision.{Decision}
-use Rattle.bbm_session.specs.declared.stop.Stop.{Stop}
-use Rattle.bbm_session.specs.declared.stop.Stop.TheVariants.{Decided, ReadFault, NoMemory}
-use Rattle.bbm_session.specs.Certificates.{CertifiedReadFor, certified_lines, certified_needs, read_status, read_text}
-use Rattle.bbm_texts.specs.Statuses.{judged_status as status_judged}
-use Rattle.bbm_texts.specs.Says.{judged_text as text_judged}
-use Rattle.bbm_session.specs.Fold.{Fold, ending_at}
-use Rattle.bbm_session.specs.Folds.{Certifies, Follows, Judged, certifying, following, is_frugal, judged_at}
-use Rattle.bbm_session.specs.Folds.{judging_for, whole_run}
+use Rattle.bbm_session.specs.Certificates.{certified_needs, read_status, read_text}
+use Rattle.bbm_texts.specs.Statuses.{judged_status as status_judged, status_of, followed_status}
+use Rattle.bbm_texts.specs.Says.{judged_text as text_judged, ShowsMore}
+use Rattle.bbm_session.specs.Folds.{whole_run}
 use Rattle.bbm_session.specs.JudgedLog.{JudgedLog}
 use Rattle.bbm_session.specs.Requests.{status_for, IsTextFor, IsSomeTextFor, unread_for, ReadForAll, FaultAt, WantAt}
 use Rattle.bbm_session.specs.Requests.{reads_input}
-use Rattle.bbm_texts.specs.Generating.{gen_text, selftest_text}
-use Rattle.bbm_session.specs.Run.{IsTextOf, NeedsMemory, ReadFor, Wants, command_lines, limits_of, tells_verdict}
-use Rattle.bbm_texts.specs.Says.{Says, SaysFor, ShowsMore}
-use Rattle.bbm_texts.specs.Statuses.{status_of}
-use Rattle.bbm_session.specs.Refused.{refused_in}
-use Rattle.bbm_session.specs.Runs.{RunReadFor, run_lines, run_status, step_needs}
-use Rattle.bbm_texts.specs.Statuses.{followed_status}
-use Rattle.bbm_session.specs.Stages.{Breaks, Concludes, Ends, HeaderLine, Starts, Starves, Stops}
-use Rattle.bbm_session.specs.Serving.{Answered, FollowsRun, Heads, IsLine, Obeys, Reports, ReportsShown, Serves}
-use Rattle.bbm_session.specs.Serving.{SilentTo, Streams, Told, Verifies, WantsJudged, WantsRead, WantsRun, WroteTo}
+use Rattle.bbm_texts.specs.Generating.{selftest_text}
+use Rattle.bbm_session.specs.Run.{IsTextOf, Wants, tells_verdict}
+use Rattle.bbm_session.specs.Runs.{run_status, step_needs}
+use Rattle.bbm_session.specs.Serving.{Answered, FollowsRun, IsLine, Obeys, Serves, SilentTo, Streams, Told, Verifies}
+use Rattle.bbm_session.specs.Serving.{WantsJudged, WantsRead, WantsRun, WroteTo}
 use Rattle.bbm_texts.specs.Writing.{Part, ReportsJudged, ReportsRun}
 use Rattle.bbm_session.proofs.CertificateLines.{NotAccepted, certifying-start, certified-lines, certified-whole}
 use Rattle.bbm_session.proofs.CertificateLines.{certified-read-to, read-said, not-accepted}

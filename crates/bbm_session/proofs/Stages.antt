@@ -1,39 +1,28 @@
 -- How what is said of a text goes on after one line, over what a source had left and has left, for any fold over the
 -- lines of a log.
-use Rattle.std.proofs.Common.{◌≡◌, ◌≢◌, ℕ, suc, ◌<◌, ◌≤◌, ◌+◌, true, false, nat_eq, List, [], ◌++◌, length, drop}
-use Rattle.std.proofs.Common.{Option, Some, None, refl, ap, sym, ◌∙◌, arith, append_assoc, append-nil, length-append}
-use Rattle.std.proofs.Common.{add-one, subst, ◌∷◌, Result, Ok, Err, IfErr}
-use Rattle.std.specs.Result.{result_ok}
-use Rattle.std.proofs.Math.ListN.{drop_of_length-le}
+use Rattle.bbm_session.proofs.Common.{IfErr, drop_of_length-le, plain, Heading, Verdict, Accepted, Refused, Malformed}
+use Rattle.bbm_session.proofs.Common.{Limit, heading_in, Decision, Stop, Decided, ReadFault, NoMemory, Turn, Taken, End}
+use Rattle.bbm_session.proofs.Common.{Fold, alone, Turned, Halts, Passes, Ending, ending_after, ending_from, ending_at}
+use Rattle.bbm_session.proofs.Common.{passes_to, lines_from, header_by, IsStart, IsInside, IsEnd, plain_lines, Breaks}
+use Rattle.bbm_session.proofs.Common.{Starves, Shrinks, Concludes, Stops, IsBrief, KnowsWhy, RefusedOn, ReadsHeader}
+use Rattle.bbm_session.proofs.Common.{HeaderLine, Starts, TakesLine, Going, Ends, KnowsThat, Heads}
+use Rattle.bbm_rules.proofs.Common.{◌≡◌, ◌≢◌, ℕ, suc, ◌<◌, ◌≤◌, ◌+◌, true, false, nat_eq, List, [], ◌++◌, length, drop}
+use Rattle.bbm_rules.proofs.Common.{Option, Some, None, refl, ap, sym, ◌∙◌, arith, append_assoc, append-nil}
+use Rattle.bbm_rules.proofs.Common.{length-append, add-one, subst, ◌∷◌, Result, Ok, Err, result_ok, and_parts}
+use Rattle.bbm_rules.proofs.Common.{nat_tests, text_of, bytes_of, is_too_long}
 use Rattle.std.proofs.Math.Seq.{drop-append_seam}
-use Rattle.std.proofs.lemmas.Bool.{and_parts}
-use Rattle.std.proofs.lemmas.Bool.Decides.{nat_tests}
 use Rattle.bbm_io.specs.Faults.{Rose}
-use Rattle.bbm_io.specs.Flow.{preceded, plain}
+use Rattle.bbm_io.specs.Flow.{preceded}
 use Rattle.bbm_regimes.specs.declared.regime.Which.TheVariants.{LineBytes}
-use Rattle.bbm_events.specs.Heading.{Heading}
 use Rattle.bbm_events.specs.declared.malformed.Malformed.{Malformed as Cause}
 use Rattle.bbm_events.specs.declared.malformed.Malformed.TheVariants.{NoEnd, AfterEnd}
 use Rattle.bbm_events.specs.Lines.{header_of}
-use Rattle.bbm_rules.specs.declared.verdict.Verdict.{Verdict}
-use Rattle.bbm_rules.specs.declared.verdict.Verdict.TheVariants.{Accepted, Refused, Malformed, Limit}
-use Rattle.bbm_rules.specs.Outcome.{text_of, bytes_of, is_too_long}
-use Rattle.bbm_report.specs.Further.{heading_in}
 use Rattle.bbm_session.specs.declared.line.Piece.{Piece}
 use Rattle.bbm_session.specs.declared.line.Piece.TheVariants as piece
-use Rattle.bbm_texts.specs.declared.decision.Decision.{Decision}
-use Rattle.bbm_session.specs.declared.stop.Stop.{Stop}
-use Rattle.bbm_session.specs.declared.stop.Stop.TheVariants.{Decided, ReadFault, NoMemory}
-use Rattle.bbm_session.specs.declared.stop.Turn.{Turn}
-use Rattle.bbm_session.specs.declared.stop.Turn.TheVariants.{Taken, End}
-use Rattle.bbm_session.specs.Fold.{Fold, alone, Turned, Halts, Passes, Ending, turned_by, end_by, ending_after}
-use Rattle.bbm_session.specs.Fold.{ending_from, ending_at, passes_to, lines_from, header_by, IsStart, IsInside, IsEnd}
+use Rattle.bbm_session.specs.Fold.{turned_by, end_by}
 use Rattle.bbm_session.specs.Pieces.{Takes, Finds, TakesFound}
-use Rattle.bbm_session.specs.Stages.{plain_lines, Passed, Breaks, Starves, Shrinks, Continues, Concludes, Stops}
-use Rattle.bbm_session.specs.Stages.{IsBrief, KnowsWhy, RefusedOn, ReadsHeader, HeaderLine, Starts, TakesLine, Advances}
-use Rattle.bbm_session.specs.Stages.{Going, Reaches, Closes, Ends}
-use Rattle.bbm_texts.specs.Known.{EndsThere, KnowsThat}
-use Rattle.bbm_session.specs.Serving.{Heads}
+use Rattle.bbm_session.specs.Stages.{Passed, Continues, Advances, Reaches, Closes}
+use Rattle.bbm_texts.specs.Known.{EndsThere}
 use Rattle.bbm_session.proofs.Texts.{plain-head, text_of-line, text_of-plain, text_of-prefix, bytes_of-text_of}
 use Rattle.bbm_session.proofs.Texts.{prefixed}
 

@@ -1,12 +1,9 @@
 -- The lines of a text, read from its front.
-use Rattle.std.proofs.Common.{◌≡◌, ℕ, Bool, true, false, if◌then◌else◌, arith, ◌&&◌, not, nat_eq, List, [], ◌∷◌, ◌++◌}
-use Rattle.std.proofs.Common.{refl, ap, sym, ◌∙◌}
-use Rattle.std.proofs.lemmas.Bool.{false≢true}
-use Rattle.std.proofs.lemmas.Bool.Decides.{nat_tests}
-use Rattle.bbm_lemmas.proofs.Tautologies.{proved}
-use Rattle.bbm_lemmas.proofs.Tautologies.Claim.{Both, If, Is}
-use Rattle.bbm_io.specs.Flow.{plain}
-use Rattle.bbm_rules.specs.Outcome.{Text, before_text, text_of, bytes_of}
+use Rattle.bbm_session.proofs.Common.{plain, before_text}
+use Rattle.bbm_rules.proofs.Common.{◌≡◌, ℕ, Bool, true, false, if◌then◌else◌, arith, ◌&&◌, not, nat_eq, List, [], ◌∷◌}
+use Rattle.bbm_rules.proofs.Common.{◌++◌, refl, ap, sym, ◌∙◌, false≢true, nat_tests, proved, If, Is, Text, text_of}
+use Rattle.bbm_rules.proofs.Common.{bytes_of}
+use Rattle.bbm_lemmas.proofs.Tautologies.Claim.{Both}
 
 both : (x y : Bool) → (not x && y) ≡ true → (x ≡ false) × (y ≡ true)
 both = proved 2 (λ x y. If (Is (not x && y) true) (Both (Is x false) (Is y true))) refl

@@ -1,46 +1,27 @@
 -- The text of a conflict run, line by line, and what is known of a log whose last event is refused.
-use Rattle.std.proofs.Common.{◌≡◌, ℕ, zero, suc, ◌+◌, ◌<◌, true, Bool, List, [], ◌∷◌, ◌++◌, ◌&&◌, length, map}
-use Rattle.std.proofs.Common.{take, drop, get_or, reverse, Option, Some, None, Result, Err, refl, ap, sym, ◌∙◌}
-use Rattle.std.proofs.Common.{subst, append_assoc, append-nil, All, IfSome, option_map, inl, inr}
-use Rattle.std.proofs.lemmas.Bool.{false≢true}
-use Rattle.std.proofs.lemmas.List.{length-reverse, reverse-append, reverse-reverse, take-append-drop, take_more}
+use Rattle.bbm_texts.proofs.Common.{Heading, Event, Init, Null, Root, Unroot, Write, Dsb, Dmb, Isb, Tlbi, Msr, Lock}
+use Rattle.bbm_texts.proofs.Common.{Unlock, Failed, Patterns, Status, Decision, Rule, WrongWorld, NoLock, NullWritten}
+use Rattle.bbm_texts.proofs.Common.{BreakBeforeMake, LimboMake, NotFresh, RewrittenFresh, BadKind, GlobalUser}
+use Rattle.bbm_texts.proofs.Common.{PageInUse, NoRoot, TagConflict, RootInUse, UnsyncedVmid, BadOperand, LockBusy}
+use Rattle.bbm_texts.proofs.Common.{LockNotMine, Verdict, Accepted, Refused, Malformed, Limit, refused_write, step_line}
+use Rattle.bbm_texts.proofs.Common.{step_lines, Show, Counterrun, ended, ShowsMore, status_of, Keeps, KnowsThat}
+use Rattle.bbm_texts.proofs.Common.{TellsEvent, Pours, Puts, ReportsDecided, ReportsText, Wrote, Step}
+use Rattle.bbm_rules.proofs.Common.{◌≡◌, ℕ, zero, suc, ◌+◌, ◌<◌, true, Bool, List, [], ◌∷◌, ◌++◌, ◌&&◌, length, map}
+use Rattle.bbm_rules.proofs.Common.{take, drop, get_or, reverse, Option, Some, None, Result, Err, refl, ap, sym, ◌∙◌}
+use Rattle.bbm_rules.proofs.Common.{subst, append_assoc, append-nil, IfSome, option_map, inl, inr, false≢true}
+use Rattle.bbm_rules.proofs.Common.{length-reverse, reverse-append, reverse-reverse, take-append-drop, take_more}
+use Rattle.bbm_rules.proofs.Common.{AllPass-from_list_all, proved, If, Is, fits_heading, Combine, Drop}
+use Rattle.std.proofs.Common.{All}
 use Rattle.std.proofs.lemmas.List.Elements.{All-append, All-cons, All-drop, All-head, All-map, All-nil, All-push}
 use Rattle.std.proofs.lemmas.List.Elements.{All-tail, All-take}
-use Rattle.std.proofs.lemmas.List.Sums.{AllPass-from_list_all}
-use Rattle.bbm_lemmas.proofs.Tautologies.{proved}
-use Rattle.bbm_lemmas.proofs.Tautologies.Claim.{If, Is}
 use Rattle.bbm_counterrun.specs.Plans.{Finds, Plan, Read, behind, combine_of, drops, extends, run_of, walk_of}
 use Rattle.bbm_counterrun.specs.RefusedWrite.{IsRefused, ends_at_leaf, holds_leaf}
-use Rattle.bbm_events.specs.Fits.{fits_heading}
-use Rattle.bbm_events.specs.declared.machine.MachineLine.TheVariants.{Combine, Drop}
-use Rattle.bbm_events.specs.Heading.{Heading}
-use Rattle.bbm_events.specs.declared.event.Event.{Event}
-use Rattle.bbm_events.specs.declared.event.Event.TheVariants.{Init, Null, Root, Unroot, Write, Dsb, Dmb, Isb, Tlbi, Msr}
-use Rattle.bbm_events.specs.declared.event.Event.TheVariants.{Lock, Unlock}
-use Rattle.bbm_io.specs.declared.source.Failed.{Failed}
 use Rattle.bbm_rules.specs.Broken.{broken}
-use Rattle.bbm_rules.specs.Claims.{Patterns}
-use Rattle.bbm_texts.specs.declared.status.Status.{Status}
-use Rattle.bbm_texts.specs.declared.decision.Decision.{Decision}
-use Rattle.bbm_rules.specs.declared.rule.Rule.{Rule}
-use Rattle.bbm_rules.specs.declared.rule.Rule.TheVariants.{WrongWorld, NoLock, NullWritten, BreakBeforeMake, LimboMake}
-use Rattle.bbm_rules.specs.declared.rule.Rule.TheVariants.{NotFresh, RewrittenFresh, BadKind, GlobalUser, PageInUse}
-use Rattle.bbm_rules.specs.declared.rule.Rule.TheVariants.{NoRoot, TagConflict, RootInUse, UnsyncedVmid, BadOperand}
-use Rattle.bbm_rules.specs.declared.rule.Rule.TheVariants.{LockBusy, LockNotMine}
-use Rattle.bbm_rules.specs.declared.verdict.Verdict.{Verdict}
-use Rattle.bbm_rules.specs.declared.verdict.Verdict.TheVariants.{Accepted, Refused, Malformed, Limit}
-use Rattle.bbm_texts.specs.Counterruns.{RunAt, RunOf, found_steps, refused_by, refused_write, step_line, step_lines}
-use Rattle.bbm_texts.specs.declared.commands.Command.TheVariants.{Show}
-use Rattle.bbm_texts.specs.declared.commands.Evidence.TheVariants.{Counterrun}
-use Rattle.bbm_texts.specs.Generating.{ended}
+use Rattle.bbm_texts.specs.Counterruns.{RunAt, RunOf, found_steps, refused_by}
 use Rattle.bbm_texts.specs.RefusedLogs.{EndsRefused, Fits}
-use Rattle.bbm_texts.specs.Says.{ShowsMore}
-use Rattle.bbm_texts.specs.Statuses.{status_of}
-use Rattle.bbm_texts.specs.Known.{Keeps, KnowsThat, TellsEvent, all_fit}
-use Rattle.bbm_texts.specs.Writing.{Pours, Puts, ReportsDecided, ReportsText, Wrote}
+use Rattle.bbm_texts.specs.Known.{all_fit}
 use Rattle.bbm_texts.proofs.Pouring.{pours-longer}
 use Rattle.bbm_texts.proofs.Refusals.{write-place}
-use Rattle.bbm_tlb_machine.specs.declared.step.Step.{Step}
 use Rattle.bbm_tlb_machine.specs.declared.step.Step.TheVariants.{Machine, Event as Taken}
 
 -- ---- the lines of steps

@@ -1,10 +1,8 @@
 -- The lines of things, one behind the other, and a write that fails at one of them.
-use Rattle.std.proofs.Common.{◌≡◌, ℕ, ◌+◌, ◌<◌, List, [], ◌∷◌, ◌++◌, length, take, drop, get_or, Option, Err, refl, ap}
-use Rattle.std.proofs.Common.{sym, ◌∙◌, subst, append_assoc, append-nil}
-use Rattle.std.proofs.lemmas.List.{take-append-drop, take_more}
-use Rattle.bbm_io.specs.declared.source.Failed.{Failed}
-use Rattle.bbm_texts.specs.Generating.{ended, lines_of}
-use Rattle.bbm_texts.specs.Writing.{Pours}
+use Rattle.bbm_texts.proofs.Common.{Failed, ended, Pours}
+use Rattle.bbm_rules.proofs.Common.{◌≡◌, ℕ, ◌+◌, ◌<◌, List, [], ◌∷◌, ◌++◌, length, take, drop, get_or, Option, Err}
+use Rattle.bbm_rules.proofs.Common.{refl, ap, sym, ◌∙◌, subst, append_assoc, append-nil, take-append-drop, take_more}
+use Rattle.bbm_texts.specs.Generating.{lines_of}
 use Rattle.bbm_texts.proofs.Pouring.{pours-longer}
 
 module _ {A : Type 0} (line : A → List ℕ) where

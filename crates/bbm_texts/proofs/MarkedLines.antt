@@ -1,10 +1,9 @@
 -- The lines of marked events, one behind the other.
-use Rattle.std.proofs.Common.{◌≡◌, ℕ, ◌+◌, ◌<◌, Bool, List, [], ◌∷◌, ◌++◌, length, take, drop, get_or, reverse, Option}
-use Rattle.std.proofs.Common.{Ok, Err, ap, sym, ◌∙◌, subst, append_assoc, append-nil, arith}
-use Rattle.std.proofs.lemmas.List.{length-take-le, length-reverse, reverse-append, take-append-drop, take_more}
-use Rattle.bbm_io.specs.declared.source.Failed.{Failed}
-use Rattle.bbm_texts.specs.Shown.{marked_line, marked_lines}
-use Rattle.bbm_texts.specs.Writing.{Puts}
+use Rattle.bbm_texts.proofs.Common.{Failed, marked_lines, Puts}
+use Rattle.bbm_rules.proofs.Common.{◌≡◌, ℕ, ◌+◌, ◌<◌, Bool, List, [], ◌∷◌, ◌++◌, length, take, drop, get_or, reverse}
+use Rattle.bbm_rules.proofs.Common.{Option, Ok, Err, ap, sym, ◌∙◌, subst, append_assoc, append-nil, arith}
+use Rattle.bbm_rules.proofs.Common.{length-take-le, length-reverse, reverse-append, take-append-drop, take_more}
+use Rattle.bbm_texts.specs.Shown.{marked_line}
 use Rattle.bbm_texts.proofs.Puts.{puts-longer, puts-then}
 
 -- the lines of the first events and of one more

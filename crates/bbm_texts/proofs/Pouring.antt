@@ -1,12 +1,10 @@
 -- A text that is written through a buffer.
-use Rattle.std.proofs.Common.{◌≡◌, ℕ, zero, suc, ◌+◌, ◌-◌, ◌≤◌, List, [], ◌++◌, Option, None, Result, Ok, Err, refl, ap}
-use Rattle.std.proofs.Common.{sym, ◌∙◌, subst, arith, append_assoc, append-nil}
-use Rattle.bbm_io.specs.declared.source.Failed.{Failed}
+use Rattle.bbm_texts.proofs.Common.{Failed, event_at, ended, gen_first, Buffered, Pours, Puts}
+use Rattle.bbm_rules.proofs.Common.{◌≡◌, ℕ, zero, suc, ◌+◌, ◌-◌, ◌≤◌, List, [], ◌++◌, Option, None, Result, Ok, Err}
+use Rattle.bbm_rules.proofs.Common.{refl, ap, sym, ◌∙◌, subst, arith, append_assoc, append-nil}
 use Rattle.bbm_events.specs.declared.event.Item.TheVariants.{Event}
 use Rattle.bbm_events.specs.Lines.{item_line}
-use Rattle.bbm_gen.specs.Generated.{event_at}
-use Rattle.bbm_texts.specs.Generating.{ended, gen_first, gen_begin}
-use Rattle.bbm_texts.specs.Writing.{Buffered, Pours, Puts}
+use Rattle.bbm_texts.specs.Generating.{gen_begin}
 use Rattle.bbm_texts.proofs.Puts.{part-longer, puts-none, puts-then}
 
 -- nothing was written or buffered yet

@@ -1,34 +1,25 @@
 -- Texts that are written one behind the other.
-use Rattle.std.proofs.Common.{◌≡◌, Bool, true, false, if◌then◌else◌, ℕ, zero, suc, ◌+◌, ◌-◌, ◌<◌, List, [], ◌++◌}
-use Rattle.std.proofs.Common.{length, take, Option, Some, None, Result, Ok, Err, refl, ap, sym, ◌∙◌, arith}
-use Rattle.std.proofs.Common.{append_assoc, append-nil, length-append, subst}
+use Rattle.bbm_texts.proofs.Common.{Failed, Heading, Rule, WrongWorld, NoLock, NullWritten, BreakBeforeMake, LimboMake}
+use Rattle.bbm_texts.proofs.Common.{NotFresh, RewrittenFresh, BadKind, GlobalUser, PageInUse, NoRoot, TagConflict}
+use Rattle.bbm_texts.proofs.Common.{RootInUse, UnsyncedVmid, BadOperand, LockBusy, LockNotMine, Verdict, Accepted}
+use Rattle.bbm_texts.proofs.Common.{Refused, Malformed, Limit, Patterns, explained, Command, Show, Counterrun, Cert}
+use Rattle.bbm_texts.proofs.Common.{Says, SaysIn, Keeps, Knows, place_named, Part, Puts}
+use Rattle.bbm_rules.proofs.Common.{◌≡◌, Bool, true, false, if◌then◌else◌, ℕ, zero, suc, ◌+◌, ◌-◌, ◌<◌, List, [], ◌++◌}
+use Rattle.bbm_rules.proofs.Common.{length, take, Option, Some, None, Result, Ok, Err, refl, ap, sym, ◌∙◌, arith}
+use Rattle.bbm_rules.proofs.Common.{append_assoc, append-nil, length-append, subst, is_place}
 use Rattle.std.proofs.Math.Seq.{take-append-add}
 use Rattle.std.proofs.lemmas.List.{take-append-le}
 use Rattle.bbm_io.specs.Faults.{Rose}
 use Rattle.bbm_io.specs.Flow.{extended}
-use Rattle.bbm_io.specs.declared.source.Failed.{Failed}
 use Rattle.bbm_events.specs.declared.event.Event.{Event as EventOf}
-use Rattle.bbm_events.specs.Heading.{Heading}
-use Rattle.bbm_events.specs.Fits.{is_place}
-use Rattle.bbm_rules.specs.declared.rule.Rule.{Rule}
-use Rattle.bbm_rules.specs.declared.rule.Rule.TheVariants.{WrongWorld, NoLock, NullWritten, BreakBeforeMake, LimboMake}
-use Rattle.bbm_rules.specs.declared.rule.Rule.TheVariants.{NotFresh, RewrittenFresh, BadKind, GlobalUser, PageInUse}
-use Rattle.bbm_rules.specs.declared.rule.Rule.TheVariants.{NoRoot, TagConflict, RootInUse, UnsyncedVmid, BadOperand}
-use Rattle.bbm_rules.specs.declared.rule.Rule.TheVariants.{LockBusy, LockNotMine}
-use Rattle.bbm_rules.specs.declared.verdict.Verdict.{Verdict}
-use Rattle.bbm_rules.specs.declared.verdict.Verdict.TheVariants.{Accepted, Refused, Malformed, Limit}
-use Rattle.bbm_rules.specs.Claims.{Patterns}
 use Rattle.bbm_rules.specs.Phases.{phase_of}
 use Rattle.bbm_rules.specs.Texts.{verdict_text}
-use Rattle.bbm_report.specs.Further.{explained, lines_of_rule, phase_lines}
+use Rattle.bbm_report.specs.Further.{lines_of_rule, phase_lines}
 use Rattle.bbm_report.specs.ReportLines.{phase_text}
-use Rattle.bbm_texts.specs.declared.commands.Command.{Command}
-use Rattle.bbm_texts.specs.declared.commands.Command.TheVariants.{Check, Slow, Explain, Walk, Show}
-use Rattle.bbm_texts.specs.declared.commands.Evidence.TheVariants.{Idle, Counterrun, Cert}
-use Rattle.bbm_texts.specs.Says.{Says, SaysIn}
-use Rattle.bbm_texts.specs.Known.{EndsThere, Keeps, Knows}
-use Rattle.bbm_texts.specs.Telling.{place_named, place_of_rule}
-use Rattle.bbm_texts.specs.Writing.{Part, Puts}
+use Rattle.bbm_texts.specs.declared.commands.Command.TheVariants.{Check, Slow, Explain, Walk}
+use Rattle.bbm_texts.specs.declared.commands.Evidence.TheVariants.{Idle}
+use Rattle.bbm_texts.specs.Known.{EndsThere}
+use Rattle.bbm_texts.specs.Telling.{place_of_rule}
 
 extended-twice : (old : Option (List ℕ)) (a b : List ℕ) → extended (extended old a) b ≡ extended old (a ++ b)
 extended-twice None a b = refl

@@ -1,30 +1,16 @@
 -- The place that break-before-make names.
-use Rattle.std.specs.Option.{option_map_or}
-use Rattle.std.proofs.Common.{◌≡◌, ◌⊎◌, ℕ, Bool, true, false, ◌&&◌, List, [], ◌∷◌, Option, Some, None, refl, ap, ◌∙◌}
-use Rattle.std.proofs.Common.{subst, inl, inr}
-use Rattle.bbm_lemmas.proofs.Tautologies.{proved}
-use Rattle.bbm_lemmas.proofs.Tautologies.Claim.{If, Is}
+use Rattle.bbm_texts.proofs.Common.{Init, Null, Root, Unroot, Write, Dsb, Dmb, Isb, Tlbi, Msr, Lock, Unlock, Heading}
+use Rattle.bbm_texts.proofs.Common.{Rule, Verdict, Accepted, Refused, Malformed, Limit, WrongWorld, NoLock, NullWritten}
+use Rattle.bbm_texts.proofs.Common.{BreakBeforeMake, LimboMake, NotFresh, RewrittenFresh, BadKind, GlobalUser}
+use Rattle.bbm_texts.proofs.Common.{PageInUse, NoRoot, TagConflict, RootInUse, UnsyncedVmid, BadOperand, LockBusy}
+use Rattle.bbm_texts.proofs.Common.{LockNotMine, Patterns, Keeps, Knows, KnowsThat, TellsEvent}
+use Rattle.bbm_rules.proofs.Common.{option_map_or, ◌≡◌, ◌⊎◌, ℕ, Bool, true, false, ◌&&◌, List, [], ◌∷◌, Option, Some}
+use Rattle.bbm_rules.proofs.Common.{None, refl, ap, ◌∙◌, subst, inl, inr, proved, If, Is, fits_heading, is_pe, is_place}
+use Rattle.bbm_rules.proofs.Common.{is_value, Breach, breaks, first_broken, noted, ◌>>=◌, if_so, Noted, page_of}
+use Rattle.bbm_rules.proofs.Common.{break_before_make, node_of, held_at}
 use Rattle.bbm_events.specs.declared.event.Event.{Event as EventOf}
-use Rattle.bbm_events.specs.declared.event.Event.TheVariants.{Init, Null, Root, Unroot, Write, Dsb, Dmb, Isb, Tlbi, Msr}
-use Rattle.bbm_events.specs.declared.event.Event.TheVariants.{Lock, Unlock}
-use Rattle.bbm_events.specs.Fits.{fits_heading, is_pe, is_place, is_value}
-use Rattle.bbm_events.specs.Heading.{Heading}
-use Rattle.bbm_rules.specs.declared.rule.Rule.{Rule}
-use Rattle.bbm_rules.specs.declared.verdict.Verdict.{Verdict}
-use Rattle.bbm_rules.specs.declared.verdict.Verdict.TheVariants.{Accepted, Refused, Malformed, Limit}
-use Rattle.bbm_rules.specs.declared.rule.Rule.TheVariants.{WrongWorld, NoLock, NullWritten, BreakBeforeMake, LimboMake}
-use Rattle.bbm_rules.specs.declared.rule.Rule.TheVariants.{NotFresh, RewrittenFresh, BadKind, GlobalUser, PageInUse}
-use Rattle.bbm_rules.specs.declared.rule.Rule.TheVariants.{NoRoot, TagConflict, RootInUse, UnsyncedVmid, BadOperand}
-use Rattle.bbm_rules.specs.declared.rule.Rule.TheVariants.{LockBusy, LockNotMine}
-use Rattle.bbm_rules.specs.Broken.{Breach, rules, breaks, first_broken, broken}
-use Rattle.bbm_rules.specs.Claims.{Patterns}
-use Rattle.bbm_rules.specs.Covers.{noted}
-use Rattle.bbm_rules.specs.Lists.{◌>>=◌, if_so}
-use Rattle.bbm_rules.specs.Notes.{Noted}
-use Rattle.bbm_rules.specs.Places.{page_of}
-use Rattle.bbm_rules.specs.Rules.{break_before_make}
-use Rattle.bbm_rules.specs.Tree.{node_of, held_at}
-use Rattle.bbm_texts.specs.Known.{Keeps, Knows, KnowsThat, NamesPlace, TellsEvent}
+use Rattle.bbm_rules.specs.Broken.{rules, broken}
+use Rattle.bbm_texts.specs.Known.{NamesPlace}
 
 module _ (heading : Heading) (h : List Noted) (e : EventOf) where
   -- where the rule of a breach is broken at its number, or one behind it is

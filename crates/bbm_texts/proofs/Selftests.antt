@@ -1,20 +1,12 @@
 -- A generated log, event by event.
-use Rattle.std.proofs.Common.{◌≡◌, ℕ, zero, suc, ◌+◌, ◌∷◌, ◌++◌, List, length, Option, None, Err, refl, ap, sym, ◌∙◌}
-use Rattle.std.proofs.Common.{subst, arith}
-use Rattle.bbm_regimes.specs.declared.regime.Which.{Which}
-use Rattle.bbm_events.specs.declared.event.Event.{Event}
+use Rattle.bbm_texts.proofs.Common.{Event, Patterns, Accepted, event_at, heading, log_of, counts_text, Part}
+use Rattle.bbm_rules.proofs.Common.{◌≡◌, ℕ, zero, suc, ◌+◌, ◌∷◌, ◌++◌, List, length, Option, None, Err, refl, ap, sym}
+use Rattle.bbm_rules.proofs.Common.{◌∙◌, subst, arith, Which, Answers, Breach, limit_of, initialised}
 use Rattle.bbm_rules.specs.declared.step_fault.StepFault.{StepFault}
-use Rattle.bbm_rules.specs.Answers.{Answers}
-use Rattle.bbm_rules.specs.Broken.{Breach, broken}
-use Rattle.bbm_rules.specs.Claims.{Patterns}
-use Rattle.bbm_rules.specs.Limits.{limit_of}
-use Rattle.bbm_rules.specs.Pages.{initialised}
+use Rattle.bbm_rules.specs.Broken.{broken}
 use Rattle.bbm_rules.specs.Phases.{restless_of}
 use Rattle.bbm_rules.specs.Texts.{verdict_text}
-use Rattle.bbm_rules.specs.declared.verdict.Verdict.TheVariants.{Accepted}
-use Rattle.bbm_gen.specs.Generated.{event_at, heading, log_of}
-use Rattle.bbm_texts.specs.Generating.{counts_text, selftest_text}
-use Rattle.bbm_texts.specs.Writing.{Part}
+use Rattle.bbm_texts.specs.Generating.{selftest_text}
 use Rattle.bbm_texts.proofs.Puts.{part-longer}
 
 pub log-length : (n i : ℕ) → length (log_of n i) ≡ i

@@ -1,16 +1,10 @@
 -- What one more event does to the last valid write of a place and to the patterns after it.
-use Rattle.std.proofs.Common.{◌≡◌, ℕ, ◌⊎◌, ◌&&◌, Bool, true, false, cond, ◌==◌, List, [], ◌∷◌, ◌++◌, Some, None, sym}
-use Rattle.std.proofs.Common.{◌∙◌, ap, subst, inl, inr}
-use Rattle.bbm_lemmas.proofs.Words.{bind_some}
-use Rattle.bbm_descriptor.specs.Descriptor.{is_valid}
-use Rattle.bbm_rules.specs.Claims.{Trust}
-use Rattle.bbm_rules.specs.Held.{ValidWrite, last_valid, last_valid_after, later}
-use Rattle.bbm_rules.specs.Notes.{Noted, event_of}
-use Rattle.bbm_rules.specs.PatternSentences.{Answer, HalfBy, Publication}
-use Rattle.bbm_rules.specs.Places.{page_of}
-use Rattle.bbm_rules.specs.Prelude.{Barrier, Heading, Kind, Event, Init, Write, Dsb}
-use Rattle.bbm_rules.specs.Reach.{Issued, completes}
-use Rattle.bbm_rules.specs.Sentences.{Open}
+use Rattle.bbm_rules.proofs.Common.{◌≡◌, ℕ, ◌⊎◌, ◌&&◌, Bool, true, false, cond, ◌==◌, List, [], ◌∷◌, ◌++◌, Some, None}
+use Rattle.bbm_rules.proofs.Common.{sym, ◌∙◌, ap, subst, inl, inr, bind_some, is_valid, Trust, ValidWrite, last_valid}
+use Rattle.bbm_rules.proofs.Common.{last_valid_after, later, Noted, Answer, HalfBy, Publication, page_of, Barrier}
+use Rattle.bbm_rules.proofs.Common.{Heading, Event, Init, Write, Dsb, Issued, completes, Open}
+use Rattle.bbm_rules.specs.Notes.{event_of}
+use Rattle.bbm_rules.specs.Prelude.{Kind}
 use Rattle.bbm_tlb_machine.specs.KnownOfMachine.{Known}
 
 -- ---- the last valid write

@@ -1,5 +1,6 @@
 -- Worked cases: runs that come to a conflict, runs that come to none, and steps that are none of the machine's.
-use Rattle.std.specs.Prelude.{◌≡◌, [], ◌∷◌, codes, refl}
+use Rattle.bbm_rules.proofs.Common.{codes}
+use Rattle.std.specs.Prelude.{◌≡◌, [], ◌∷◌, refl}
 use Rattle.bbm_tlb_machine.proofs.RunTexts.{followed}
 
 -- PE 1 reads the old value after the TLBI, since no DSB has published the clear. The entry is younger than the

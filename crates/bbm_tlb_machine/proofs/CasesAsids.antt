@@ -1,5 +1,6 @@
 -- Worked cases: the ASID of an entry of the upper range.
-use Rattle.std.specs.Prelude.{◌≡◌, [], ◌∷◌, codes, refl}
+use Rattle.bbm_rules.proofs.Common.{codes}
+use Rattle.std.specs.Prelude.{◌≡◌, [], ◌∷◌, refl}
 use Rattle.bbm_tlb_machine.proofs.RunTexts.{followed}
 
 -- PE 0 reads under ASID 1, and no entry is made under ASID 2.

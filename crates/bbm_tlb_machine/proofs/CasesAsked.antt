@@ -1,5 +1,6 @@
 -- Worked cases: which TLBIs a DSB asks about.
-use Rattle.std.specs.Prelude.{◌≡◌, [], ◌∷◌, codes, refl}
+use Rattle.bbm_rules.proofs.Common.{codes}
+use Rattle.std.specs.Prelude.{◌≡◌, [], ◌∷◌, refl}
 use Rattle.bbm_tlb_machine.proofs.RunTexts.{followed}
 
 -- The DSB is of PE 1, and the TLBI of PE 0.

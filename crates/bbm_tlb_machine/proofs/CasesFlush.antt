@@ -1,5 +1,6 @@
 -- Worked cases: what a TLBI leaves by its reach and by what it names.
-use Rattle.std.specs.Prelude.{◌≡◌, [], ◌∷◌, codes, refl}
+use Rattle.bbm_rules.proofs.Common.{codes}
+use Rattle.std.specs.Prelude.{◌≡◌, [], ◌∷◌, refl}
 use Rattle.bbm_tlb_machine.proofs.RunTexts.{followed}
 
 -- The flush is local to PE 0, and the entry is of PE 1.

@@ -1,5 +1,6 @@
 -- Worked cases: what a TLBI leaves and takes by its VMID and its ASID.
-use Rattle.std.specs.Prelude.{◌≡◌, [], ◌∷◌, codes, refl}
+use Rattle.bbm_rules.proofs.Common.{codes}
+use Rattle.std.specs.Prelude.{◌≡◌, [], ◌∷◌, refl}
 use Rattle.bbm_tlb_machine.proofs.RunTexts.{followed}
 
 -- PE 1 has VMID 0, and both entries were made under VMID 5.

@@ -1,5 +1,6 @@
 -- Worked cases: copies of entries at other PEs.
-use Rattle.std.specs.Prelude.{◌≡◌, [], ◌∷◌, codes, refl}
+use Rattle.bbm_rules.proofs.Common.{codes}
+use Rattle.std.specs.Prelude.{◌≡◌, [], ◌∷◌, refl}
 use Rattle.bbm_tlb_machine.proofs.RunTexts.{followed}
 
 -- The entry is younger than the TLBI, and so is its copy.

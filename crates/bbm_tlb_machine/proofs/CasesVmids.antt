@@ -1,5 +1,6 @@
 -- Worked cases: the VMID of a TLBI is that of its issuer when it is issued.
-use Rattle.std.specs.Prelude.{◌≡◌, [], ◌∷◌, codes, refl}
+use Rattle.bbm_rules.proofs.Common.{codes}
+use Rattle.std.specs.Prelude.{◌≡◌, [], ◌∷◌, refl}
 use Rattle.bbm_tlb_machine.proofs.RunTexts.{followed}
 
 -- PE 0 may use VMID 5 and VMID 6, since it has taken no ISB after the second write of the register.

@@ -1,31 +1,17 @@
 -- A TLBI that covers a place of a part, and that was issued after the entry was made, takes the entry.
-use Rattle.std.proofs.Common.{◌≡◌, ℕ, suc, ◌+◌, ◌-◌, ◌<◌, ◌≤◌, ◌⊎◌, Bool, true, false, List, [], ◌∷◌, ◌++◌, length}
-use Rattle.std.proofs.Common.{Option, Some, None, is_some, Contains, refl, sym, ◌∙◌, ap, subst, inl, inr, arith}
-use Rattle.std.proofs.Common.{true≢false, length-append}
+use Rattle.bbm_rules.proofs.Common.{◌≡◌, ℕ, suc, ◌+◌, ◌-◌, ◌<◌, ◌≤◌, ◌⊎◌, Bool, true, false, List, [], ◌∷◌, ◌++◌}
+use Rattle.bbm_rules.proofs.Common.{length, Option, Some, None, is_some, Contains, refl, sym, ◌∙◌, ap, subst, inl, inr}
+use Rattle.bbm_rules.proofs.Common.{arith, true≢false, length-append, Kind, Extent, holds, desc_of, Desc, read_through}
+use Rattle.bbm_rules.proofs.Common.{tag_of, Cover, PlaceView, keeps, Trust, seen, is_global, noted, view_at, ValidWrite}
+use Rattle.bbm_rules.proofs.Common.{held, last_valid, ◌>>=◌, Noted, events_of, IsLastValid, Publication, page_of}
+use Rattle.bbm_rules.proofs.Common.{Heading, Ttbr0, Ttbr1, Event, Issued, Open, tag_set, tags_of, Node, held_at}
+use Rattle.bbm_rules.proofs.Common.{is_childless, next_in, next_of, node_of, region_of, region_start, Childless}
 use Rattle.std.proofs.lemmas.List.{append_assoc, append_cancel_left}
-use Rattle.bbm_regimes.specs.declared.regime.Kind.{Kind}
-use Rattle.bbm_regimes.specs.Extent.{Extent, holds}
-use Rattle.bbm_descriptor.specs.Descriptor.{desc_of}
-use Rattle.bbm_descriptor.specs.declared.desc.Desc.{Desc}
-use Rattle.bbm_tlbi_scope.specs.Agreement.{Agrees, EndsBy, HasTag, read_through, tag_of}
-use Rattle.bbm_tlbi_scope.specs.declared.entry.Cover.{Cover}
+use Rattle.bbm_tlbi_scope.specs.Agreement.{Agrees, EndsBy, HasTag}
 use Rattle.bbm_tlbi_scope.specs.declared.entry.Cover.TheVariants.{None as NoCover}
-use Rattle.bbm_tlbi_scope.specs.declared.entry.PlaceView.{PlaceView}
-use Rattle.bbm_rules.specs.Broken.{keeps}
-use Rattle.bbm_rules.specs.Claims.{Trust}
-use Rattle.bbm_rules.specs.Cleansing.{seen}
-use Rattle.bbm_rules.specs.Covers.{is_global, noted, view_at}
-use Rattle.bbm_rules.specs.Held.{ValidWrite, held, last_valid}
-use Rattle.bbm_rules.specs.Lists.{◌>>=◌}
-use Rattle.bbm_rules.specs.Notes.{Noted, event_of, events_of}
-use Rattle.bbm_rules.specs.PatternSentences.{IsLastValid, Publication}
-use Rattle.bbm_rules.specs.Places.{page_of}
-use Rattle.bbm_rules.specs.Prelude.{Heading, Ttbr0, Ttbr1, Event, input_pages}
-use Rattle.bbm_rules.specs.Reach.{Issued}
-use Rattle.bbm_rules.specs.Sentences.{Open}
-use Rattle.bbm_rules.specs.Tags.{tag_set, tags_of}
-use Rattle.bbm_rules.specs.Tree.{Node, held_at, is_childless, next_in, next_of, node_of, region_of, region_start, tree}
-use Rattle.bbm_rules.specs.TreeSentences.{Childless}
+use Rattle.bbm_rules.specs.Notes.{event_of}
+use Rattle.bbm_rules.specs.Prelude.{input_pages}
+use Rattle.bbm_rules.specs.Tree.{tree}
 use Rattle.bbm_histories.specs.TreeChanges.{HeldBy, View}
 use Rattle.bbm_tlb_machine.specs.Entry.{Entry, Part, desc_in, head_of, is_leaf, parts_of, region_in, tag_of_entry}
 use Rattle.bbm_tlb_machine.specs.Invariant.{Fine, Holding, IsAt, IsBelow, IsNear}

@@ -1,18 +1,11 @@
 -- What values of one core have in common, and what is known of tables and leaves.
-use Rattle.std.proofs.Common.{◌≡◌, ℕ, zero, suc, ◌+◌, ◌-◌, ◌*◌, ◌/◌, ◌^◌, ◌≤◌, Bool, true, false, cond, ◌==◌, Some}
-use Rattle.std.proofs.Common.{is_some, refl, sym, ◌∙◌, ap, subst, arith, true≢false}
-use Rattle.std.proofs.lemmas.Bool.{false_from_ne_true, not-false}
-use Rattle.bbm_regimes.specs.declared.regime.Kind.{Kind}
-use Rattle.bbm_descriptor.specs.Descriptor.{Form, core_in, desc_as, desc_of, desc_with, differ, form_of, is_valid}
-use Rattle.bbm_descriptor.specs.Descriptor.{needs, same_core, valid_form}
-use Rattle.bbm_descriptor.specs.Fields.{type_bits}
-use Rattle.bbm_descriptor.specs.declared.desc.Core.{Core}
+use Rattle.bbm_rules.proofs.Common.{◌≡◌, ℕ, zero, suc, ◌+◌, ◌-◌, ◌*◌, ◌/◌, ◌^◌, ◌≤◌, Bool, true, false, cond, ◌==◌}
+use Rattle.bbm_rules.proofs.Common.{Some, is_some, refl, sym, ◌∙◌, ap, subst, arith, true≢false, false_from_ne_true}
+use Rattle.bbm_rules.proofs.Common.{not-false, Kind, Form, core_in, desc_as, desc_of, desc_with, differ, form_of}
+use Rattle.bbm_rules.proofs.Common.{is_valid, needs, same_core, valid_form, type_bits, Core, Desc, Invalid, Table, Leaf}
+use Rattle.bbm_rules.proofs.Common.{Trust, Heading, next_in, next_of}
 use Rattle.bbm_descriptor.specs.declared.desc.Core.TheVariants.{Table as CoreTable, Leaf as CoreLeaf}
-use Rattle.bbm_descriptor.specs.declared.desc.Desc.{Desc}
-use Rattle.bbm_descriptor.specs.declared.desc.Desc.TheVariants.{Invalid, Table, Leaf}
-use Rattle.bbm_rules.specs.Claims.{Trust}
-use Rattle.bbm_rules.specs.Prelude.{Heading, input_pages}
-use Rattle.bbm_rules.specs.Tree.{next_in, next_of}
+use Rattle.bbm_rules.specs.Prelude.{input_pages}
 use Rattle.bbm_tlb_machine.specs.Entry.{is_leaf}
 use Rattle.bbm_tlb_machine.specs.KnownOfMachine.{Known}
 

@@ -1,8 +1,6 @@
 -- Elements of lists, splits, and PEs of a header.
-use Rattle.std.proofs.Common.{◌≡◌, suc, ◌+◌, ◌≤◌, List, [], ◌∷◌, ◌++◌}
-use Rattle.std.proofs.Common.{length, refl, sym, ◌∙◌, ap, arith}
-use Rattle.std.proofs.Common.{length-append}
-use Rattle.bbm_rules.specs.Notes.{Noted, events_of}
+use Rattle.bbm_rules.proofs.Common.{◌≡◌, suc, ◌+◌, ◌≤◌, List, [], ◌∷◌, ◌++◌, length, refl, sym, ◌∙◌, ap, arith}
+use Rattle.bbm_rules.proofs.Common.{length-append, Noted, events_of}
 
 -- of two splits of one list, that with the longer second part lies before the other
 pub record Between {X : Type 0} (newer older first rest : List X) : Type 0 where

@@ -1,19 +1,9 @@
 -- An entry that is fine stays so after an event that breaks no rule and leaves it.
-use Rattle.std.proofs.Common.{◌≡◌, ℕ, suc, ◌≤◌, true, false, cond, List, [], ◌∷◌, length, Option, Some, None, Contains}
-use Rattle.std.proofs.Common.{refl, sym, ◌∙◌, ap, subst, inl, inr, arith}
-use Rattle.bbm_lemmas.proofs.Words.{bind_some}
-use Rattle.bbm_regimes.specs.declared.regime.Kind.{Kind}
-use Rattle.bbm_descriptor.specs.Descriptor.{needs}
-use Rattle.bbm_tlbi_scope.specs.Agreement.{tag_of}
-use Rattle.bbm_tlbi_scope.specs.declared.entry.EntryHead.{EntryHead}
-use Rattle.bbm_rules.specs.Broken.{keeps}
-use Rattle.bbm_rules.specs.Claims.{Trust}
-use Rattle.bbm_rules.specs.Covers.{note, noted}
-use Rattle.bbm_rules.specs.Held.{ValidWrite, cleansed_everywhere, held, last_valid, last_valid_after, later}
-use Rattle.bbm_rules.specs.PatternSentences.{IsLastValid}
-use Rattle.bbm_rules.specs.Prelude.{Heading, El2, S2, Ttbr0, Ttbr1, Event, Dsb}
-use Rattle.bbm_rules.specs.Roots.{is_root}
-use Rattle.bbm_rules.specs.Tree.{Node, held_at}
+use Rattle.bbm_rules.proofs.Common.{◌≡◌, ℕ, suc, ◌≤◌, true, false, cond, List, [], ◌∷◌, length, Option, Some, None}
+use Rattle.bbm_rules.proofs.Common.{Contains, refl, sym, ◌∙◌, ap, subst, inl, inr, arith, bind_some, Kind, needs}
+use Rattle.bbm_rules.proofs.Common.{tag_of, EntryHead, keeps, Trust, note, noted, ValidWrite, cleansed_everywhere, held}
+use Rattle.bbm_rules.proofs.Common.{last_valid, last_valid_after, later, IsLastValid, Heading, El2, S2, Ttbr0, Ttbr1}
+use Rattle.bbm_rules.proofs.Common.{Event, Dsb, is_root, Node, held_at}
 use Rattle.bbm_histories.specs.TagSteps.{kind_of_tag}
 use Rattle.bbm_histories.specs.TreeChanges.{HeldChange}
 use Rattle.bbm_tlb_machine.specs.Entry.{Entry, Part, head_of, parts_of, tag_of_entry}

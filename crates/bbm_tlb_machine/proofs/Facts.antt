@@ -1,28 +1,17 @@
 -- What a fine entry gives at once: the node, the value and the tag of its parts, in one place.
-use Rattle.std.proofs.Common.{◌≡◌, ℕ, ◌≤◌, true, false, List, [], ◌∷◌, ◌++◌, length, Some, is_none, refl}
-use Rattle.std.proofs.Common.{sym, ◌∙◌, ap, arith, true≢false}
-use Rattle.std.proofs.lemmas.Bool.{and_parts, and_right}
-use Rattle.bbm_regimes.specs.declared.regime.Kind.{Kind}
-use Rattle.bbm_descriptor.specs.Descriptor.{desc_of, is_valid}
+use Rattle.bbm_rules.proofs.Common.{◌≡◌, ℕ, ◌≤◌, true, false, List, [], ◌∷◌, ◌++◌, length, Some, is_none, refl, sym}
+use Rattle.bbm_rules.proofs.Common.{◌∙◌, ap, arith, true≢false, and_parts, and_right, Kind, desc_of, is_valid, TagSet}
+use Rattle.bbm_rules.proofs.Common.{One, Many, keeps, Trust, is_global, noted, held, Noted, Heading, Ttbr0, Event}
+use Rattle.bbm_rules.proofs.Common.{holds_at, holds_tag, tag_set, tags_of, Node, held_at, pe_finds, contains_head}
 use Rattle.bbm_tlbi_scope.specs.Agreement.{HasTag}
-use Rattle.bbm_tlbi_scope.specs.declared.entry.TagSet.{TagSet}
-use Rattle.bbm_tlbi_scope.specs.declared.entry.TagSet.TheVariants.{None as NoTag, One, Many}
+use Rattle.bbm_tlbi_scope.specs.declared.entry.TagSet.TheVariants.{None as NoTag}
 use Rattle.bbm_tlbi_scope.specs.Takes.{is_global_leaf}
-use Rattle.bbm_rules.specs.Broken.{broken, keeps}
-use Rattle.bbm_rules.specs.Claims.{Trust}
-use Rattle.bbm_rules.specs.Covers.{is_global, noted}
-use Rattle.bbm_rules.specs.Held.{held}
-use Rattle.bbm_rules.specs.Notes.{Noted}
-use Rattle.bbm_rules.specs.Prelude.{Heading, Ttbr0, Event}
-use Rattle.bbm_rules.specs.Tags.{holds_at, holds_tag, tag_set, tags_of}
-use Rattle.bbm_rules.specs.Tree.{Node, held_at}
+use Rattle.bbm_rules.specs.Broken.{broken}
 use Rattle.bbm_tlb_machine.specs.Entry.{Entry, Part, desc_in, head_of, is_leaf, tag_of_entry}
 use Rattle.bbm_tlb_machine.specs.Invariant.{Fine, Holding, IsAt, Placed, Tagged}
 use Rattle.bbm_tlb_machine.specs.KnownOfMachine.{Known}
 use Rattle.bbm_tlb_machine.proofs.Descs.{same_desc}
 use Rattle.bbm_tlb_machine.proofs.Elements.{Between, between_splits}
-use Rattle.bbm_lemmas.proofs.Words.{pe_finds}
-use Rattle.bbm_lemmas.proofs.Elements.{contains_head}
 
 module _ (heading : Heading) (trust : Trust) where
   pub keeps_older : (newer older : List Event) → keeps heading trust (newer ++ older) ≡ true → keeps heading trust older ≡ true

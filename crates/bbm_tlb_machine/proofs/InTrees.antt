@@ -1,22 +1,14 @@
 -- The places of the parts of an entry lie in pages of the trees, where its root is declared and each place holds the core
 -- of what was read.
-use Rattle.std.proofs.Common.{◌≡◌, ℕ, suc, ◌+◌, ◌*◌, ◌<◌, true, List, [], ◌∷◌, Some, Contains, refl, sym, ◌∙◌, ap}
-use Rattle.std.proofs.Common.{subst, inl, inr}
-use Rattle.bbm_regimes.specs.declared.regime.Kind.{Kind}
-use Rattle.bbm_descriptor.specs.Descriptor.{is_valid}
-use Rattle.bbm_rules.specs.Broken.{keeps}
-use Rattle.bbm_rules.specs.Claims.{Trust}
-use Rattle.bbm_rules.specs.Covers.{noted}
-use Rattle.bbm_rules.specs.Notes.{Noted}
-use Rattle.bbm_rules.specs.Places.{index_of, page_of}
-use Rattle.bbm_rules.specs.Prelude.{Heading, Event, input_pages}
-use Rattle.bbm_rules.specs.Roots.{is_root, roots_of}
-use Rattle.bbm_rules.specs.Tree.{Node, next_in, next_of, node_below, nodes_of_root}
+use Rattle.bbm_rules.proofs.Common.{◌≡◌, ℕ, suc, ◌+◌, ◌*◌, ◌<◌, true, List, [], ◌∷◌, Some, Contains, refl, sym, ◌∙◌, ap}
+use Rattle.bbm_rules.proofs.Common.{subst, inl, inr, Kind, is_valid, keeps, Trust, noted, Noted, index_of, page_of}
+use Rattle.bbm_rules.proofs.Common.{Heading, Event, is_root, roots_of, Node, next_in, next_of, node_below}
+use Rattle.bbm_rules.proofs.Common.{nodes_of_root, contains_cases, contains_head, contains_more, contains_none}
+use Rattle.bbm_rules.specs.Prelude.{input_pages}
 use Rattle.bbm_tlb_machine.specs.Entry.{Entry, Part}
 use Rattle.bbm_tlb_machine.specs.Invariant.{Begins, Chained, Holding, IsAt, IsBelow, Placed, start_nodes}
 use Rattle.bbm_tlb_machine.specs.KnownOfMachine.{Known}
 use Rattle.bbm_tlb_machine.proofs.Facts.{held_there, means}
-use Rattle.bbm_lemmas.proofs.Elements.{contains_cases, contains_head, contains_more, contains_none}
 
 module _ (heading : Heading) (trust : Trust) (k : Known heading trust) (h : List Event) (kept : keeps heading trust h ≡ true) (x : Entry) where
   abbrev notes : List Noted

@@ -1,11 +1,8 @@
 -- Tests of a list and options in the words of sentences.
-use Rattle.std.proofs.Common.{◌≡◌, ℕ, Bool, false, ◌||◌, ◌==◌, List, [], ◌∷◌, map, Contains}
-use Rattle.std.proofs.Common.{refl, sym, ◌∙◌, ap, true≢false}
-use Rattle.std.proofs.lemmas.Bool.{false_from_ne_true}
+use Rattle.bbm_rules.proofs.Common.{◌≡◌, ℕ, Bool, false, ◌||◌, ◌==◌, List, [], ◌∷◌, map, Contains, refl, sym, ◌∙◌, ap}
+use Rattle.bbm_rules.proofs.Common.{true≢false, false_from_ne_true, among, any, tag_number}
 use Rattle.std.proofs.lemmas.List.Elements.{All-contains_itself, All-weaker}
 use Rattle.std.proofs.lemmas.List.Folds.{list_any_at, list_any_none}
-use Rattle.bbm_rules.specs.Lists.{among, any}
-use Rattle.bbm_rules.specs.RegisterValues.{tag_number}
 
 pub none_in : {X : Type 0} (p : X → Bool) (xs : List X) → any p xs ≡ false → (x : X) → Contains xs x → p x ≡ false
 none_in p xs k x c =

@@ -1,17 +1,12 @@
 -- One look back at an event, by the event.
-use Rattle.std.proofs.Common.{◌≡◌, ℕ, suc, ◌+◌, ◌<◌, Bool, true, false, cond, ◌&&◌, ◌||◌, ◌==◌, List, [], ◌∷◌, length}
-use Rattle.std.proofs.Common.{take, drop, get_or, reverse, refl, sym, ◌∙◌, ap, true≢false}
-use Rattle.std.proofs.lemmas.Bool.{eq-eqb, eqb-true, false_from_ne_true, or_left}
+use Rattle.bbm_rules.proofs.Common.{◌≡◌, ℕ, suc, ◌+◌, ◌<◌, Bool, true, false, cond, ◌&&◌, ◌||◌, ◌==◌, List, [], ◌∷◌}
+use Rattle.bbm_rules.proofs.Common.{length, take, drop, get_or, reverse, refl, sym, ◌∙◌, ap, true≢false, add-one}
+use Rattle.bbm_rules.proofs.Common.{eq-eqb, eqb-true, false_from_ne_true, or_left, reverse-append, take_more, proved}
+use Rattle.bbm_rules.proofs.Common.{If, Is, among, page_of, Barrier, Heading, Event, Init, Write, Dsb, published}
+use Rattle.bbm_rules.proofs.Common.{publishes_to, readable_before, or-false}
+use Rattle.std.proofs.Common.{drop-cons}
 use Rattle.std.proofs.Math.Bool.{or_comm}
-use Rattle.std.proofs.Common.{add-one, drop-cons}
-use Rattle.std.proofs.lemmas.List.{reverse-append, take_more}
-use Rattle.bbm_lemmas.proofs.Tautologies.{proved}
-use Rattle.bbm_lemmas.proofs.Tautologies.Claim.{If, Is}
-use Rattle.bbm_rules.specs.Lists.{among}
-use Rattle.bbm_rules.specs.Places.{page_of}
-use Rattle.bbm_rules.specs.Prelude.{Barrier, Heading, Event, Init, Write, Dsb}
-use Rattle.bbm_rules.specs.Values.{published, publishes_for, publishes_to, readable_before}
-use mathlib.Core.Bool.{or-false}
+use Rattle.bbm_rules.specs.Values.{publishes_for}
 
 -- a write at the place
 at_write : (v value : ℕ) (rest : List ℕ) (gone : Bool) → (v == value) ≡ false

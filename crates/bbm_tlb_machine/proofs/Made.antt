@@ -1,28 +1,14 @@
 -- What a step of the machine makes of fine entries is fine: an entry that is started, extended, joined or copied.
-use Rattle.std.proofs.Common.{◌≡◌, ℕ, suc, ◌+◌, ◌<◌, ◌≤◌, nat_lt, true, false, List, [], ◌∷◌, length, Option, Some}
-use Rattle.std.proofs.Common.{None, Contains, refl, sym, ◌∙◌, ap, subst, inl, inr, arith, true≢false, length-append}
-use Rattle.std.proofs.lemmas.Bool.{and_parts, eqb-true, ltb-true}
-use Rattle.bbm_regimes.specs.declared.regime.Kind.{Kind}
-use Rattle.bbm_descriptor.specs.Descriptor.{is_valid, needs}
-use Rattle.bbm_tlbi_scope.specs.Agreement.{read_through, tag_of}
-use Rattle.bbm_tlbi_scope.specs.declared.entry.EntryKind.{EntryKind}
-use Rattle.bbm_tlbi_scope.specs.declared.entry.EntryKind.TheVariants.{El2 as El2Entry, Stage2, Combined, El1}
-use Rattle.bbm_rules.specs.Broken.{keeps}
-use Rattle.bbm_rules.specs.Claims.{Trust}
-use Rattle.bbm_rules.specs.Cleansing.{seen}
-use Rattle.bbm_rules.specs.Covers.{noted}
-use Rattle.bbm_rules.specs.Held.{ValidWrite, held, last_valid}
-use Rattle.bbm_rules.specs.Lists.{is_that}
-use Rattle.bbm_rules.specs.Notes.{Noted}
-use Rattle.bbm_rules.specs.PatternSentences.{Cleansed, HalfBy, Publication}
-use Rattle.bbm_rules.specs.Places.{page_of}
-use Rattle.bbm_rules.specs.Prelude.{Heading, El2, S2, Ttbr0, Ttbr1, Tag, Vmid, Asid, Event, Dsb, kind_in_world}
-use Rattle.bbm_rules.specs.Reach.{Issued}
-use Rattle.bbm_rules.specs.Roots.{is_root}
-use Rattle.bbm_rules.specs.Sentences.{HoldsTag, TakenAway}
-use Rattle.bbm_rules.specs.Tags.{reads}
-use Rattle.bbm_rules.specs.Tree.{Node, next_of}
-use Rattle.bbm_rules.specs.Values.{is_readable}
+use Rattle.bbm_rules.proofs.Common.{◌≡◌, ℕ, suc, ◌+◌, ◌<◌, ◌≤◌, nat_lt, true, false, List, [], ◌∷◌, length, Option}
+use Rattle.bbm_rules.proofs.Common.{Some, None, Contains, refl, sym, ◌∙◌, ap, subst, inl, inr, arith, true≢false}
+use Rattle.bbm_rules.proofs.Common.{length-append, and_parts, eqb-true, ltb-true, Kind, is_valid, needs, read_through}
+use Rattle.bbm_rules.proofs.Common.{tag_of, EntryKind, Stage2, Combined, keeps, Trust, seen, noted, ValidWrite, held}
+use Rattle.bbm_rules.proofs.Common.{last_valid, is_that, Noted, Cleansed, HalfBy, Publication, page_of, Heading, El2}
+use Rattle.bbm_rules.proofs.Common.{S2, Ttbr0, Ttbr1, Tag, Vmid, Asid, Event, Dsb, Issued, is_root, TakenAway, reads}
+use Rattle.bbm_rules.proofs.Common.{Node, next_of, is_readable, contains_cases, contains_head, contains_none}
+use Rattle.bbm_tlbi_scope.specs.declared.entry.EntryKind.TheVariants.{El2 as El2Entry, El1}
+use Rattle.bbm_rules.specs.Prelude.{kind_in_world}
+use Rattle.bbm_rules.specs.Sentences.{HoldsTag}
 use Rattle.bbm_histories.specs.ValueChanges.{Window}
 use Rattle.bbm_tlb_machine.specs.Entry.{Entry, Part, head_of, parts_of, tag_of_entry}
 use Rattle.bbm_tlb_machine.specs.Invariant.{Fine, Holding, IsAt, IsBelow, IsNear, Placed, Tagged, start_nodes}
@@ -35,7 +21,6 @@ use Rattle.bbm_tlb_machine.proofs.EventSteps.{tag_kind}
 use Rattle.bbm_tlb_machine.proofs.Facts.{tag_now}
 use Rattle.bbm_tlb_machine.proofs.InTrees.{below_placed, start_placed}
 use Rattle.bbm_tlb_machine.proofs.Roots.{reads_at, start_node}
-use Rattle.bbm_lemmas.proofs.Elements.{contains_cases, contains_head, contains_none}
 
 -- the tag goes by the VMID and the ASID alone
 same_tag_of : (kind : Kind) (x y : Entry) → x.vmid ≡ y.vmid → x.asid ≡ y.asid → tag_of kind (head_of x) ≡ tag_of kind (head_of y)

@@ -1,9 +1,6 @@
 -- The entry that a line makes of an entry that was found.
-use Rattle.std.proofs.Common.{◌≡◌, ℕ, List, length, Option, Some, None, sym, ◌∙◌, ap}
-use Rattle.bbm_rules.specs.Lists.{◌>>=◌, if_so}
-use Rattle.bbm_rules.specs.Prelude.{Heading, Event}
-use Rattle.bbm_events.specs.declared.machine.MachineLine.{MachineLine}
-use Rattle.bbm_events.specs.declared.machine.MachineLine.TheVariants.{Extend, Combine, Share}
+use Rattle.bbm_rules.proofs.Common.{◌≡◌, ℕ, List, length, Option, Some, None, sym, ◌∙◌, ap, ◌>>=◌, if_so, Heading}
+use Rattle.bbm_rules.proofs.Common.{Event, MachineLine, Extend, Combine, Share}
 use Rattle.bbm_tlb_machine.specs.Entry.{Entry}
 use Rattle.bbm_tlb_machine.specs.Followed.{entry_made, found}
 use Rattle.bbm_tlb_machine.specs.MachineRun.{Living}

@@ -1,12 +1,7 @@
 -- A table stands above level 3, and what it names is its next page.
-use Rattle.std.proofs.Common.{◌≡◌, ℕ, zero, suc, ◌<◌, ◌≤◌, Bool, true, false, cond, ◌==◌, None, refl, sym, ◌∙◌, ap}
-use Rattle.std.proofs.Common.{arith, true≢false}
-use Rattle.bbm_descriptor.specs.Descriptor.{desc_as, desc_of, invalid, leaf}
-use Rattle.bbm_descriptor.specs.declared.desc.Desc.TheVariants.{Table}
-use Rattle.bbm_descriptor.specs.Fields.{type_bits}
-use Rattle.bbm_regimes.specs.declared.regime.Kind.{Kind}
-use Rattle.bbm_rules.specs.Lists.{is_that}
-use Rattle.bbm_rules.specs.Tree.{next_in, next_of}
+use Rattle.bbm_rules.proofs.Common.{◌≡◌, ℕ, zero, suc, ◌<◌, ◌≤◌, Bool, true, false, cond, ◌==◌, None, refl, sym, ◌∙◌}
+use Rattle.bbm_rules.proofs.Common.{ap, arith, true≢false, desc_as, desc_of, invalid, leaf, Table, type_bits, Kind}
+use Rattle.bbm_rules.proofs.Common.{is_that, next_in, next_of}
 
 no_table : (kind : Kind) (value : ℕ) (a b : Bool) → next_in (desc_as (cond a leaf (cond b invalid invalid)) kind 3 value) ≡ None
 no_table kind value true b = refl

@@ -1,31 +1,17 @@
 -- One more event after which no entry is left that a TLBI which it answers must have taken: the tag, and the patterns after
 -- the last valid writes of the parts' places.
-use Rattle.std.proofs.Common.{◌≡◌, ℕ, suc, ◌<◌, ◌≤◌, not, true, false, List, [], ◌∷◌, ◌++◌, length, Option, Some, None}
-use Rattle.std.proofs.Common.{Contains, refl, sym, ◌∙◌, ap, subst, inl, inr, arith, true≢false}
-use Rattle.std.proofs.lemmas.Bool.{and_parts}
+use Rattle.bbm_rules.proofs.Common.{◌≡◌, ℕ, suc, ◌<◌, ◌≤◌, not, true, false, List, [], ◌∷◌, ◌++◌, length, Option, Some}
+use Rattle.bbm_rules.proofs.Common.{None, Contains, refl, sym, ◌∙◌, ap, subst, inl, inr, arith, true≢false, and_parts}
+use Rattle.bbm_rules.proofs.Common.{Kind, read_through, tag_of, takes_whole_tag, taken, Cover, Half, Second, Full}
+use Rattle.bbm_rules.proofs.Common.{EntryKind, Combined, keeps, Trust, note, noted, ValidWrite, last_valid, Noted}
+use Rattle.bbm_rules.proofs.Common.{events_of, Answer, HalfBy, IsLastValid, Publication, Barrier, Heading, El2, S2}
+use Rattle.bbm_rules.proofs.Common.{Ttbr0, Ttbr1, Tag, Event, Dsb, Tlbi, Issued, completes, reaches, unanswered}
+use Rattle.bbm_rules.proofs.Common.{named_scope, vmid_of, Open, TakenAway, itself, takes_tag}
 use Rattle.std.proofs.lemmas.List.{append_assoc}
-use Rattle.bbm_regimes.specs.declared.regime.Kind.{Kind}
-use Rattle.bbm_tlbi_scope.specs.Agreement.{read_through, tag_of}
 use Rattle.bbm_tlbi_scope.specs.Numbers.{lacks_vmid as scope_lacks_vmid}
-use Rattle.bbm_tlbi_scope.specs.ScopeTags.{takes_whole_tag, whole_tag_by}
-use Rattle.bbm_tlbi_scope.specs.Takes.{taken}
+use Rattle.bbm_tlbi_scope.specs.ScopeTags.{whole_tag_by}
 use Rattle.bbm_tlbi_scope.specs.declared.op.TlbiOp.{TlbiOp}
 use Rattle.bbm_tlbi_scope.specs.declared.scope.Scope.{Scope}
-use Rattle.bbm_tlbi_scope.specs.declared.entry.Cover.{Cover}
-use Rattle.bbm_tlbi_scope.specs.declared.entry.Cover.TheVariants.{Half, Second, Full}
-use Rattle.bbm_tlbi_scope.specs.declared.entry.EntryKind.{EntryKind}
-use Rattle.bbm_tlbi_scope.specs.declared.entry.EntryKind.TheVariants.{Combined}
-use Rattle.bbm_rules.specs.Broken.{keeps}
-use Rattle.bbm_rules.specs.Claims.{Trust}
-use Rattle.bbm_rules.specs.Covers.{note, noted}
-use Rattle.bbm_rules.specs.Held.{ValidWrite, last_valid}
-use Rattle.bbm_rules.specs.Notes.{Noted, events_of}
-use Rattle.bbm_rules.specs.PatternSentences.{Answer, HalfBy, IsLastValid, Publication}
-use Rattle.bbm_rules.specs.Prelude.{Barrier, Heading, El2, S2, Ttbr0, Ttbr1, Tag, Event, Dsb, Tlbi}
-use Rattle.bbm_rules.specs.Reach.{Issued, completes, reaches, unanswered}
-use Rattle.bbm_rules.specs.RegisterValues.{named_scope, vmid_of}
-use Rattle.bbm_rules.specs.Sentences.{Open, TakenAway}
-use Rattle.bbm_rules.specs.Tags.{itself, takes_tag}
 use Rattle.bbm_tlb_machine.specs.Entry.{Entry, Part, age_by, head_of, parts_of, tag_of_entry}
 use Rattle.bbm_tlb_machine.specs.Invariant.{Fine, Goes, IsNear, JoinedBefore, MadeBefore, Tagged, Taken, Unanswered}
 use Rattle.bbm_tlb_machine.specs.Invariant.{Uncleansed}

@@ -1,13 +1,8 @@
 -- What is kept of the unanswered TLBIs, and what it says of the entries that are left.
-use Rattle.std.proofs.Common.{◌≡◌, ℕ, Bool, true, false, cond, ◌&&◌, ◌||◌, not, ◌==◌, nat_le, List, [], ◌∷◌, map}
-use Rattle.std.proofs.Common.{filter, None, refl, sym, ◌∙◌, ap, true≢false}
-use Rattle.std.proofs.lemmas.Bool.{eqb-true, eq-eqb, false_from_ne_true}
-use Rattle.bbm_lemmas.proofs.Tautologies.{proved}
-use Rattle.bbm_lemmas.proofs.Tautologies.Claim.{If, Is}
-use Rattle.bbm_rules.specs.Lists.{any}
-use Rattle.bbm_rules.specs.Prelude.{Barrier, TlbiOp, Heading, Event, Dsb, Tlbi}
-use Rattle.bbm_rules.specs.Reach.{Issued, completes, left_open, reaches, unanswered}
-use Rattle.bbm_rules.specs.Tags.{itself}
+use Rattle.bbm_rules.proofs.Common.{◌≡◌, ℕ, Bool, true, false, cond, ◌&&◌, ◌||◌, not, ◌==◌, nat_le, List, [], ◌∷◌, map}
+use Rattle.bbm_rules.proofs.Common.{filter, None, refl, sym, ◌∙◌, ap, true≢false, eqb-true, eq-eqb, false_from_ne_true}
+use Rattle.bbm_rules.proofs.Common.{proved, If, Is, any, Barrier, TlbiOp, Heading, Event, Dsb, Tlbi, Issued, completes}
+use Rattle.bbm_rules.proofs.Common.{left_open, reaches, unanswered, itself}
 use Rattle.bbm_tlb_machine.specs.Entry.{Entry, age_for}
 use Rattle.bbm_tlb_machine.specs.MachinePendings.{IsPending, Pending, is_answered, leaves_any, leaves_by, must_leave}
 use Rattle.bbm_tlb_machine.specs.MachinePendings.{pending_of}

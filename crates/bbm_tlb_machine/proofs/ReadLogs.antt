@@ -1,29 +1,22 @@
 -- The events that are read from lines fit the header of the first line and keep the rules.
-use Rattle.std.proofs.Common.{◌≡◌, ℕ, suc, ◌==◌, Bool, true, false, cond, List, [], ◌∷◌, length, Option, Some, None}
-use Rattle.std.proofs.Common.{is_none, Result, Ok, Err, refl, sym, ◌∙◌, ap, subst, inl, inr}
-use Rattle.std.proofs.lemmas.Bool.{and_from, and_parts}
-use Rattle.bbm_regimes.specs.declared.regime.Which.{Which}
-use Rattle.bbm_events.specs.Fits.{fits_heading, label_fits}
+use Rattle.bbm_rules.proofs.Common.{◌≡◌, ℕ, suc, ◌==◌, Bool, true, false, cond, List, [], ◌∷◌, length, Option, Some}
+use Rattle.bbm_rules.proofs.Common.{None, is_none, Result, Ok, Err, refl, sym, ◌∙◌, ap, subst, inl, inr, and_from}
+use Rattle.bbm_rules.proofs.Common.{and_parts, Which, fits_heading, label_fits, Item, WrongCount, Breach, keeps, Trust}
+use Rattle.bbm_rules.proofs.Common.{limit_of, AtEnd, AtEvents, AtHeader, Decides, GoesOn, Progress, Step, after_header}
+use Rattle.bbm_rules.proofs.Common.{after_item, after_judged, after_kept, after_line, cut_at, events_in, is_too_long}
+use Rattle.bbm_rules.proofs.Common.{limit_at, text_of, too_long_at, verdict_of_bytes, Heading, Event, contains_cases}
+use Rattle.bbm_rules.proofs.Common.{contains_none}
 use Rattle.bbm_events.specs.LineLaws.{HeadersAreInRange, ItemsFit}
 use Rattle.bbm_events.specs.Lines.{header_of, item_of}
-use Rattle.bbm_events.specs.declared.event.Item.{Item}
 use Rattle.bbm_events.specs.declared.event.Item.TheVariants as item
 use Rattle.bbm_events.specs.declared.malformed.Malformed.{Malformed as Cause}
-use Rattle.bbm_events.specs.declared.malformed.Malformed.TheVariants.{WrongCount}
-use Rattle.bbm_rules.specs.Broken.{Breach, broken, keeps}
-use Rattle.bbm_rules.specs.Claims.{Trust}
-use Rattle.bbm_rules.specs.Limits.{limit_of}
-use Rattle.bbm_rules.specs.Outcome.{AtEnd, AtEvents, AtHeader, Decides, GoesOn, Progress, Step, after_header}
-use Rattle.bbm_rules.specs.Outcome.{after_item, after_judged, after_kept, after_line, cut_at, end_of, events_in}
-use Rattle.bbm_rules.specs.Outcome.{is_too_long, limit_at, outcome_after, outcome_from, step_of, text_of, too_long_at}
-use Rattle.bbm_rules.specs.Outcome.{verdict_of_bytes}
-use Rattle.bbm_rules.specs.Prelude.{Heading, Event}
+use Rattle.bbm_rules.specs.Broken.{broken}
+use Rattle.bbm_rules.specs.Outcome.{end_of, outcome_after, outcome_from, step_of}
 use Rattle.bbm_rules.specs.declared.limits.Limits.{Limits}
 use Rattle.bbm_rules.specs.declared.verdict.Verdict.{Verdict}
 use Rattle.bbm_rules.specs.declared.verdict.Verdict.TheVariants.{Accepted, Malformed}
 use Rattle.bbm_tlb_machine.specs.Accepted.{SafeBytes}
 use Rattle.bbm_tlb_machine.specs.Safe.{IsLog, Safe}
-use Rattle.bbm_lemmas.proofs.Elements.{contains_cases, contains_none}
 
 -- the laws of the lines of a log
 pub record LineLaws : Type 0 where

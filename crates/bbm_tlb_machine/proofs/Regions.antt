@@ -1,14 +1,12 @@
 -- The parts of an entry one below the other: their kinds, and their regions, each inside that of a part above.
-use Rattle.std.proofs.Common.{◌≡◌, ℕ, suc, ◌+◌, ◌-◌, ◌*◌, ◌≤◌, ◌⊎◌, nat_le, true, List, [], ◌∷◌, Contains, sym, ◌∙◌, ap}
-use Rattle.std.proofs.Common.{subst, inl, inr, arith, mul-le-mul_right}
-use Rattle.std.proofs.lemmas.Bool.{and_from, le-leb}
-use Rattle.bbm_regimes.specs.Extent.{holds}
-use Rattle.bbm_rules.specs.Places.{index_of, page_of}
+use Rattle.bbm_rules.proofs.Common.{◌≡◌, ℕ, suc, ◌+◌, ◌-◌, ◌*◌, ◌≤◌, ◌⊎◌, nat_le, true, List, [], ◌∷◌, Contains, sym}
+use Rattle.bbm_rules.proofs.Common.{◌∙◌, ap, subst, inl, inr, arith, and_from, le-leb, holds, index_of, page_of}
+use Rattle.bbm_rules.proofs.Common.{contains_cases, contains_head, contains_more}
+use Rattle.std.proofs.Common.{mul-le-mul_right}
 use Rattle.bbm_rules.specs.Prelude.{input_pages}
 use Rattle.bbm_tlb_machine.specs.Entry.{Part, region_in}
 use Rattle.bbm_tlb_machine.specs.Invariant.{Chained, IsBelow}
 use Rattle.bbm_tlb_machine.proofs.Descs.{pages_below, some_pages}
-use Rattle.bbm_lemmas.proofs.Elements.{contains_cases, contains_head, contains_more}
 
 pub chain_kind : (part : Part) (above : List Part) → Chained part above → (q : Part) → Contains (part ∷ above) q → q.kind ≡ part.kind
 chain_kind part [] c q i =

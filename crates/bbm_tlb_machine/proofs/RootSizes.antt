@@ -1,5 +1,5 @@
 -- The first page of a root, and what is left of a place behind it.
-use Rattle.std.proofs.Common.{◌≡◌, ℕ, ◌-◌, ◌*◌, ◌/◌, ◌%◌, arith}
+use Rattle.bbm_rules.proofs.Common.{◌≡◌, ℕ, ◌-◌, ◌*◌, ◌/◌, ◌%◌, arith}
 use Rattle.std.proofs.Math.Nat.{mod-eq-sub-div-mul, mod-add-div'}
 
 pub root_is : (x n : ℕ) → x - x % n ≡ x / n * n

@@ -1,25 +1,18 @@
 -- The page of a root in which a walk starts, and the PEs at which a tag is readable.
-use Rattle.std.proofs.Common.{◌≡◌, ℕ, zero, suc, ◌+◌, ◌-◌, ◌*◌, ◌/◌, ◌%◌, ◌<◌, ◌≤◌, ◌⊎◌, inl, inr, nat_lt, ◌&&◌, ◌||◌}
-use Rattle.std.proofs.Common.{◌==◌, Bool, true, false, cond, List, [], ◌∷◌, take, Some, None, Contains, refl, sym, ◌∙◌}
-use Rattle.std.proofs.Common.{ap, subst, arith, true≢false, mod-lt, lt_of_not-le}
-use Rattle.std.proofs.lemmas.Bool.{and_parts, eqb-true, ltb-true, or_cases}
+use Rattle.bbm_rules.proofs.Common.{◌≡◌, ℕ, zero, suc, ◌+◌, ◌-◌, ◌*◌, ◌/◌, ◌%◌, ◌<◌, ◌≤◌, ◌⊎◌, inl, inr, nat_lt, ◌&&◌}
+use Rattle.bbm_rules.proofs.Common.{◌||◌, ◌==◌, Bool, true, false, cond, List, [], ◌∷◌, take, Some, None, Contains}
+use Rattle.bbm_rules.proofs.Common.{refl, sym, ◌∙◌, ap, subst, arith, true≢false, and_parts, eqb-true, ltb-true}
+use Rattle.bbm_rules.proofs.Common.{or_cases, Kind, fits_heading, is_value, among, index_of, page_of, El2, S2, Ttbr0}
+use Rattle.bbm_rules.proofs.Common.{Ttbr1, Reg, World, Hyp, Kernel, Heading, Event, Init, Null, Root, Unroot, Write}
+use Rattle.bbm_rules.proofs.Common.{Dsb, Dmb, Isb, Tlbi, Msr, Lock, Unlock, base_of, register_values, same_reg}
+use Rattle.bbm_rules.proofs.Common.{pages_from, root_pages, ReadsTag, Node, nodes_of_pages, tag_of, EntryHead}
+use Rattle.bbm_rules.proofs.Common.{contains_head, contains_more}
+use Rattle.std.proofs.Common.{mod-lt, lt_of_not-le}
 use Rattle.std.proofs.Math.Nat.{mod-add-div'}
-use Rattle.bbm_regimes.specs.declared.regime.Kind.{Kind}
-use Rattle.bbm_events.specs.Fits.{fits_heading, is_value}
-use Rattle.bbm_rules.specs.Lists.{among}
-use Rattle.bbm_rules.specs.Places.{index_of, page_of}
-use Rattle.bbm_rules.specs.Prelude.{El2, S2, Ttbr0, Ttbr1, Reg, World, Hyp, Kernel, Heading, Event, Init, Null, Root}
-use Rattle.bbm_rules.specs.Prelude.{Unroot, Write, Dsb, Dmb, Isb, Tlbi, Msr, Lock, Unlock, first_input_page}
-use Rattle.bbm_rules.specs.Prelude.{input_pages, kind_in_world, page_count, start_of}
-use Rattle.bbm_rules.specs.RegisterValues.{base_of, register_values, same_reg}
-use Rattle.bbm_rules.specs.Roots.{pages_from, root_pages}
-use Rattle.bbm_rules.specs.TagSentences.{Names, ReadsTag}
-use Rattle.bbm_rules.specs.Tree.{Node, nodes_of_pages}
-use Rattle.bbm_tlbi_scope.specs.Agreement.{tag_of}
-use Rattle.bbm_tlbi_scope.specs.declared.entry.EntryHead.{EntryHead}
+use Rattle.bbm_rules.specs.Prelude.{first_input_page, input_pages, kind_in_world, page_count, start_of}
+use Rattle.bbm_rules.specs.TagSentences.{Names}
 use Rattle.bbm_tlb_machine.specs.Invariant.{IsAt, start_nodes}
 use Rattle.bbm_tlb_machine.specs.Step.{first_part, root_of}
-use Rattle.bbm_lemmas.proofs.Elements.{contains_head, contains_more}
 
 -- ---- the page of a root
 

@@ -1,13 +1,10 @@
 -- The run that is computed is the run that the relation names.
-use Rattle.std.proofs.Common.{◌≡◌, ℕ, Bool, true, false, ◌&&◌, ◌↔◌, List, [], ◌∷◌, ◌++◌, length, Option, Some}
-use Rattle.std.proofs.Common.{None, Result, Ok, Err, Contains, refl, sym, ◌∙◌, ap}
-use Rattle.std.proofs.lemmas.Bool.{and_from, and_left, and_parts, and_right, not_from_false, not-true}
-use Rattle.bbm_lemmas.proofs.Words.{bind_some, if_so_some, some_if_so}
-use Rattle.bbm_events.specs.declared.machine.MachineLine.TheVariants.{Start, Extend, Combine, Share, Drop}
-use Rattle.bbm_rules.specs.Lists.{◌>>=◌, any, if_so}
-use Rattle.bbm_rules.specs.Prelude.{Barrier, Heading, Event, Dsb}
-use Rattle.bbm_rules.specs.Reach.{Issued, completes, unanswered}
-use Rattle.bbm_rules.specs.Tags.{itself}
+use Rattle.bbm_rules.proofs.Common.{◌≡◌, ℕ, Bool, true, false, ◌&&◌, ◌↔◌, List, [], ◌∷◌, ◌++◌, length, Option, Some}
+use Rattle.bbm_rules.proofs.Common.{None, Result, Ok, Err, Contains, refl, sym, ◌∙◌, ap, and_from, and_left, and_parts}
+use Rattle.bbm_rules.proofs.Common.{and_right, not_from_false, not-true, bind_some, Start, Extend, Combine, Share, Drop}
+use Rattle.bbm_rules.proofs.Common.{◌>>=◌, any, if_so, Barrier, Heading, Event, Dsb, Issued, completes, unanswered}
+use Rattle.bbm_rules.proofs.Common.{itself}
+use Rattle.bbm_lemmas.proofs.Words.{if_so_some, some_if_so}
 use Rattle.bbm_tlb_machine.specs.declared.step.Step.{Step}
 use Rattle.bbm_tlb_machine.specs.declared.step.Step.TheVariants.{Machine, Event as Taken}
 use Rattle.bbm_tlb_machine.specs.Entry.{Entry}

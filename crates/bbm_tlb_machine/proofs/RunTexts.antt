@@ -1,9 +1,8 @@
 -- The words in which the worked cases are written: the text of a run, and the text of what comes of it.
+use Rattle.bbm_rules.proofs.Common.{codes, String, Item}
 use Rattle.std.specs.Prelude.{ℕ, ◌+◌, List, [], ◌∷◌, ◌++◌, length, reverse, filter_map, Option, Some, None, Result, Ok}
-use Rattle.std.specs.Prelude.{Err, codes, decimal}
+use Rattle.std.specs.Prelude.{Err, decimal}
 use Rattle.std.specs.Fmt.{digits}
-use Prim.Native.String.{String}
-use Rattle.bbm_events.specs.declared.event.Item.{Item}
 use Rattle.bbm_events.specs.declared.event.Item.TheVariants as item
 use Rattle.bbm_events.specs.declared.malformed.Malformed.{Malformed}
 use Rattle.bbm_events.specs.Heading.{Heading}

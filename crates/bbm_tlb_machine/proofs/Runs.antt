@@ -1,22 +1,13 @@
 -- In each run over a log that keeps the rules each entry that is kept is fine; so the log is safe.
-use Rattle.std.proofs.Common.{◌≡◌, ℕ, suc, ◌<◌, ◌≤◌, arith, not, ◌&&◌, ◌==◌, nat_lt, Bool, true, false, cond, List, []}
-use Rattle.std.proofs.Common.{◌∷◌, length, Option, Some, None, option_map, find, filter, Contains, refl, sym, ◌∙◌, ap}
-use Rattle.std.proofs.Common.{subst, inl, inr, true≢false}
-use Rattle.std.proofs.lemmas.Bool.{and_from, and_parts, eq-eqb, ltb-true, or_left, or_right}
-use Rattle.bbm_regimes.specs.declared.regime.Kind.{Kind}
-use Rattle.bbm_descriptor.specs.Descriptor.{needs}
-use Rattle.bbm_events.specs.Fits.{fits_heading, is_value}
-use Rattle.bbm_events.specs.declared.machine.MachineLine.TheVariants.{Start, Extend, Combine, Share, Drop}
+use Rattle.bbm_rules.proofs.Common.{◌≡◌, ℕ, suc, ◌<◌, ◌≤◌, arith, not, ◌&&◌, ◌==◌, nat_lt, Bool, true, false, cond}
+use Rattle.bbm_rules.proofs.Common.{List, [], ◌∷◌, length, Option, Some, None, option_map, find, filter, Contains, refl}
+use Rattle.bbm_rules.proofs.Common.{sym, ◌∙◌, ap, subst, inl, inr, true≢false, and_from, and_parts, eq-eqb, ltb-true}
+use Rattle.bbm_rules.proofs.Common.{or_left, or_right, Kind, needs, fits_heading, is_value, Start, Extend, Combine}
+use Rattle.bbm_rules.proofs.Common.{Share, Drop, keeps, Trust, same_tag, noted, ◌>>=◌, any, if_so, page_of, Barrier}
+use Rattle.bbm_rules.proofs.Common.{Reg, Tag, Heading, Event, Init, Write, Dsb, Msr, completes, unanswered, Reading}
+use Rattle.bbm_rules.proofs.Common.{holds_at, holds_tag, itself, reads, readings, Node, held_at, in_tree, node_of}
+use Rattle.bbm_rules.proofs.Common.{pe_finds, contains_cases, contains_head, contains_more, contains_none}
 use Rattle.bbm_rules.specs.declared.rule.Rule.TheVariants.{BreakBeforeMake}
-use Rattle.bbm_rules.specs.Broken.{keeps}
-use Rattle.bbm_rules.specs.Claims.{Trust, same_tag}
-use Rattle.bbm_rules.specs.Covers.{noted}
-use Rattle.bbm_rules.specs.Lists.{◌>>=◌, any, if_so}
-use Rattle.bbm_rules.specs.Places.{page_of}
-use Rattle.bbm_rules.specs.Prelude.{Barrier, Reg, Tag, Heading, Event, Init, Write, Dsb, Msr}
-use Rattle.bbm_rules.specs.Reach.{completes, unanswered}
-use Rattle.bbm_rules.specs.Tags.{Reading, holds_at, holds_tag, itself, reads, readings}
-use Rattle.bbm_rules.specs.Tree.{Node, held_at, in_tree, node_of}
 use Rattle.bbm_tlb_machine.specs.declared.step.Step.{Step}
 use Rattle.bbm_tlb_machine.specs.declared.step.Step.TheVariants.{Machine, Event as Taken}
 use Rattle.bbm_tlb_machine.specs.Entry.{Entry, Part, parts_of, tag_of_entry}
@@ -30,8 +21,7 @@ use Rattle.bbm_tlb_machine.proofs.Facts.{held_there, held_valid, keeps_older, ta
 use Rattle.bbm_tlb_machine.proofs.Made.{fine_combined, fine_extended, fine_shared, fine_start}
 use Rattle.bbm_tlb_machine.proofs.Patterns.{LeavesIt, tagged_after}
 use Rattle.bbm_tlb_machine.proofs.Taken.{taken}
-use Rattle.bbm_lemmas.proofs.Words.{pe_finds}
-use Rattle.bbm_lemmas.proofs.Elements.{contains_after, contains_cases, contains_head, contains_more, contains_none}
+use Rattle.bbm_lemmas.proofs.Elements.{contains_after}
 
 -- ---- entries by number
 

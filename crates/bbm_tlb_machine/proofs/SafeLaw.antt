@@ -1,14 +1,10 @@
 -- The tests for conflicts say the same as the clauses of a safe log.
-use Rattle.std.proofs.Common.{◌≡◌, ℕ, Bool, true, false, not, ◌==◌, ◌↔◌, List, [], ◌∷◌, ◌++◌, length, Option}
-use Rattle.std.proofs.Common.{Some, None, Result, Ok, Err, Contains, refl, sym, ◌∙◌, ap, true≢false}
-use Rattle.std.proofs.lemmas.Bool.{eq-eqb, eqb-true, false_from_ne_true, not-false}
-use Rattle.bbm_descriptor.specs.Descriptor.{needs}
+use Rattle.bbm_rules.proofs.Common.{◌≡◌, ℕ, Bool, true, false, not, ◌==◌, ◌↔◌, List, [], ◌∷◌, ◌++◌, length, Option}
+use Rattle.bbm_rules.proofs.Common.{Some, None, Result, Ok, Err, Contains, refl, sym, ◌∙◌, ap, true≢false, eq-eqb}
+use Rattle.bbm_rules.proofs.Common.{eqb-true, false_from_ne_true, not-false, needs, any, if_so, page_of, Reg, Heading}
+use Rattle.bbm_rules.proofs.Common.{Event, Init, Write, Msr, Reading, readings}
 use Rattle.bbm_regimes.specs.SameRegister.{same_tag}
 use Rattle.bbm_rules.specs.EventLaws.{TestsAreExact}
-use Rattle.bbm_rules.specs.Lists.{any, if_so}
-use Rattle.bbm_rules.specs.Places.{page_of}
-use Rattle.bbm_rules.specs.Prelude.{Reg, Heading, Event, Init, Write, Msr}
-use Rattle.bbm_rules.specs.Tags.{Reading, readings}
 use Rattle.bbm_tlb_machine.specs.declared.step.Step.{Step}
 use Rattle.bbm_tlb_machine.specs.declared.step.Step.TheVariants.{Machine, Event as Taken}
 use Rattle.bbm_tlb_machine.specs.Entry.{Entry, Part, parts_of, tag_of_entry}

@@ -1,38 +1,28 @@
 -- What a TLBI that covers a place is, and the family of the scope that it names.
-use Rattle.std.proofs.Common.{◌≡◌, ℕ, ◌≤◌, ◌⊎◌, ◌&&◌, nat_le, Bool, true, false, cond, List, Option, Some, None, Result}
-use Rattle.std.proofs.Common.{Ok, Err, unwrap_or, ◌==◌, length, refl, sym, ◌∙◌, ap, subst, inl, inr, true≢false}
-use Rattle.std.specs.Result.{result_ok}
-use Rattle.std.proofs.lemmas.Bool.{and_from, eq-eqb, le-leb}
+use Rattle.bbm_rules.proofs.Common.{◌≡◌, ℕ, ◌≤◌, ◌⊎◌, ◌&&◌, nat_le, Bool, true, false, cond, List, Option, Some, None}
+use Rattle.bbm_rules.proofs.Common.{Result, Ok, Err, unwrap_or, ◌==◌, length, refl, sym, ◌∙◌, ap, subst, inl, inr}
+use Rattle.bbm_rules.proofs.Common.{true≢false, result_ok, and_from, eq-eqb, le-leb, Family, El2All, El2Va, E1All}
+use Rattle.bbm_rules.proofs.Common.{VmAll1, VmAll12, Ipa, Va, VaAll, Cover, Half, Second, Full, EntryKind, Stage2}
+use Rattle.bbm_rules.proofs.Common.{Combined, PlaceView, read_through, cover_by, cover_of, fits_place, scope_of}
+use Rattle.bbm_rules.proofs.Common.{operation, taken, Trust, cover_at, view_at, ◌>>=◌, Noted, events_of, Heading, El2}
+use Rattle.bbm_rules.proofs.Common.{S2, Ttbr0, Ttbr1, Tag, Vmid, Event, Tlbi, reaches, lacks_vmid, named_scope, vmid_of}
 use Rattle.bbm_range.specs.declared.Range.{Range}
 use Rattle.bbm_range.specs.declared.BadRange.{BadRange}
 use Rattle.bbm_range.specs.declared.BadRange.TheVariants.{Granule, Unaligned}
 use Rattle.bbm_range.specs.RangePages.{range_of}
 use Rattle.bbm_tlbi_scope.specs.declared.op.TlbiOp.{TlbiOp}
 use Rattle.bbm_tlbi_scope.specs.declared.scope.BadOperand.TheVariants.{NonCanonical, TtlGranule}
-use Rattle.bbm_tlbi_scope.specs.declared.scope.Family.{Family}
-use Rattle.bbm_tlbi_scope.specs.declared.scope.Family.TheVariants.{El2All, El2Va, E1All, VmAll1, VmAll12, Ipa, Va}
-use Rattle.bbm_tlbi_scope.specs.declared.scope.Family.TheVariants.{VaAll, Asid as ByAsid}
+use Rattle.bbm_tlbi_scope.specs.declared.scope.Family.TheVariants.{Asid as ByAsid}
 use Rattle.bbm_tlbi_scope.specs.declared.scope.Scope.{Scope}
-use Rattle.bbm_tlbi_scope.specs.declared.entry.Cover.{Cover}
-use Rattle.bbm_tlbi_scope.specs.declared.entry.Cover.TheVariants.{None as NoCover, Half, Second, Full}
-use Rattle.bbm_tlbi_scope.specs.declared.entry.EntryKind.{EntryKind}
-use Rattle.bbm_tlbi_scope.specs.declared.entry.EntryKind.TheVariants.{El2 as El2Entry, Stage2, Combined, El1}
-use Rattle.bbm_tlbi_scope.specs.declared.entry.PlaceView.{PlaceView}
-use Rattle.bbm_tlbi_scope.specs.Agreement.{read_through}
-use Rattle.bbm_tlbi_scope.specs.ScopeCovers.{cover_by, cover_of, fits_place, where_fits}
+use Rattle.bbm_tlbi_scope.specs.declared.entry.Cover.TheVariants.{None as NoCover}
+use Rattle.bbm_tlbi_scope.specs.declared.entry.EntryKind.TheVariants.{El2 as El2Entry, El1}
+use Rattle.bbm_tlbi_scope.specs.ScopeCovers.{where_fits}
 use Rattle.bbm_tlbi_scope.specs.Decode.{canonical, decoded, granule_known, hint_field, interval_field, page_scope}
-use Rattle.bbm_tlbi_scope.specs.Decode.{range_canonical, range_scope, scope_of, scope_over}
+use Rattle.bbm_tlbi_scope.specs.Decode.{range_canonical, range_scope, scope_over}
 use Rattle.bbm_tlbi_scope.specs.Numbers.{lacks_vmid as scope_lacks_vmid}
-use Rattle.bbm_tlbi_scope.specs.Operations.{family_of, operation}
+use Rattle.bbm_tlbi_scope.specs.Operations.{family_of}
 use Rattle.bbm_tlbi_scope.specs.ScopeTags.{whole_tag_by}
-use Rattle.bbm_tlbi_scope.specs.Takes.{taken}
-use Rattle.bbm_rules.specs.Claims.{Trust}
-use Rattle.bbm_rules.specs.Covers.{cover_at, view_at}
-use Rattle.bbm_rules.specs.Lists.{◌>>=◌}
-use Rattle.bbm_rules.specs.Notes.{Noted, events_of}
-use Rattle.bbm_rules.specs.Prelude.{Heading, Kind, El2, S2, Ttbr0, Ttbr1, Tag, Vmid, Event, Tlbi}
-use Rattle.bbm_rules.specs.Reach.{reaches}
-use Rattle.bbm_rules.specs.RegisterValues.{lacks_vmid, named_scope, vmid_of}
+use Rattle.bbm_rules.specs.Prelude.{Kind}
 use Rattle.bbm_tlb_machine.specs.Entry.{Entry, age_by, age_for, head_of}
 use Rattle.bbm_tlb_machine.specs.Step.{must_go, takes_by}
 

@@ -1,24 +1,11 @@
 -- An unanswered TLBI that covers a place of a part, behind a barrier that publishes a write of it, takes the entry.
-use Rattle.std.proofs.Common.{◌≡◌, ℕ, ◌<◌, ◌≤◌, true, false, List, ◌∷◌, length, Some, Contains, sym, ◌∙◌, ap, subst}
-use Rattle.std.proofs.Common.{inl, inr, arith}
-use Rattle.bbm_tlbi_scope.specs.Agreement.{read_through}
-use Rattle.bbm_tlbi_scope.specs.ScopeCovers.{cover_by, fits_place}
+use Rattle.bbm_rules.proofs.Common.{◌≡◌, ℕ, ◌<◌, ◌≤◌, true, false, List, ◌∷◌, length, Some, Contains, sym, ◌∙◌, ap}
+use Rattle.bbm_rules.proofs.Common.{subst, inl, inr, arith, read_through, cover_by, fits_place, Cover, Half, Second}
+use Rattle.bbm_rules.proofs.Common.{Full, EntryKind, Stage2, Combined, keeps, Trust, noted, ValidWrite, last_valid}
+use Rattle.bbm_rules.proofs.Common.{Noted, events_of, HalfBy, Publication, Heading, Event, S2, Issued, reaches, vmid_of}
+use Rattle.bbm_rules.proofs.Common.{Open, completes_for, itself}
 use Rattle.bbm_tlbi_scope.specs.Takes.{taken as taken_by_scope}
-use Rattle.bbm_tlbi_scope.specs.declared.entry.Cover.{Cover}
-use Rattle.bbm_tlbi_scope.specs.declared.entry.Cover.TheVariants.{None as NoCover, Half, Second, Full}
-use Rattle.bbm_tlbi_scope.specs.declared.entry.EntryKind.{EntryKind}
-use Rattle.bbm_tlbi_scope.specs.declared.entry.EntryKind.TheVariants.{Stage2, Combined}
-use Rattle.bbm_rules.specs.Broken.{keeps}
-use Rattle.bbm_rules.specs.Claims.{Trust}
-use Rattle.bbm_rules.specs.Covers.{noted}
-use Rattle.bbm_rules.specs.Held.{ValidWrite, last_valid}
-use Rattle.bbm_rules.specs.Notes.{Noted, events_of}
-use Rattle.bbm_rules.specs.PatternSentences.{HalfBy, Publication}
-use Rattle.bbm_rules.specs.Prelude.{Heading, Event, S2}
-use Rattle.bbm_rules.specs.Reach.{Issued, reaches}
-use Rattle.bbm_rules.specs.RegisterValues.{vmid_of}
-use Rattle.bbm_rules.specs.Sentences.{Open, completes_for}
-use Rattle.bbm_rules.specs.Tags.{itself}
+use Rattle.bbm_tlbi_scope.specs.declared.entry.Cover.TheVariants.{None as NoCover}
 use Rattle.bbm_tlb_machine.specs.Entry.{Entry, Part, age_by, head_of, parts_of}
 use Rattle.bbm_tlb_machine.specs.Invariant.{Fine, Goes, IsNear, Taken, Unanswered}
 use Rattle.bbm_tlb_machine.specs.KnownOfMachine.{Known}

@@ -1,13 +1,9 @@
 -- Which changes keep an index and a map in agreement.
-use Rattle.std.proofs.Common.{◌≡◌, ℕ, Some, None, sym, ap, ◌∙◌}
+use Rattle.bbm_tree_index.proofs.Common.{PlaceMap, Agrees, IsSound, core_at, core_with, TreeIndex}
+use Rattle.bbm_rules.proofs.Common.{◌≡◌, ℕ, Some, None, sym, ap, ◌∙◌, page_of, Node}
 use Rattle.bbm_place_map.specs.Map.{marks_at, value_at}
-use Rattle.bbm_place_map.specs.declared.map.PlaceMap.{PlaceMap}
-use Rattle.bbm_rules.specs.Places.{page_of}
-use Rattle.bbm_rules.specs.Tree.{Node}
-use Rattle.bbm_tree_index.specs.IndexAgreement.{Agrees, IsSound}
-use Rattle.bbm_tree_index.specs.HeldCores.{child, core_at, core_with, next_in}
+use Rattle.bbm_tree_index.specs.HeldCores.{child, next_in}
 use Rattle.bbm_tree_index.specs.Index.{node_in}
-use Rattle.bbm_tree_index.specs.declared.index.TreeIndex.{TreeIndex}
 
 -- a place of a tree has the same marks and the same value
 pub record SamePlace (map map' : PlaceMap) (a : ℕ) : Type 0 where

@@ -1,30 +1,16 @@
 -- The words of an index after pages were attached.
-use Rattle.std.proofs.Common.{◌≡◌, ℕ, ◌<◌, ◌⊎◌, ◌&&◌, Bool, true, false, List, [], Option, Some, None, Contains}
-use Rattle.std.proofs.Common.{is_none, is_some, length, nat_eq, slice_get, unwrap_or, inl, inr, refl, sym, ap, ◌∙◌}
-use Rattle.std.proofs.Common.{subst, arith, if◌then◌else◌}
-use Rattle.indexmap.specs.IndexMap.{IndexMap, get}
+use Rattle.bbm_tree_index.proofs.Common.{IndexMap, get, PlaceMap, first_input_page, start_of, IsSound, Sound, Hung}
+use Rattle.bbm_tree_index.proofs.Common.{IsUnfresh, MayJudge, Never, IsSurvey, is_fresh_role, node_by, Attached}
+use Rattle.bbm_tree_index.proofs.Common.{below_all, starts_of, Fits, spot_with, role_as, spot_as, TreeIndex, Mark}
+use Rattle.bbm_tree_index.proofs.Common.{Attach, Root, Below, Role, Untracked}
+use Rattle.bbm_rules.proofs.Common.{◌≡◌, ℕ, ◌<◌, ◌⊎◌, ◌&&◌, Bool, true, false, List, [], Option, Some, None, Contains}
+use Rattle.bbm_rules.proofs.Common.{is_none, is_some, length, nat_eq, slice_get, unwrap_or, inl, inr, refl, sym, ap}
+use Rattle.bbm_rules.proofs.Common.{◌∙◌, subst, arith, if◌then◌else◌, page_count, Kind, page_of, pages_from, Node}
+use Rattle.bbm_rules.proofs.Common.{node_below, nodes_of_pages}
 use Rattle.bbm_place_map.specs.Map.{value_at}
-use Rattle.bbm_place_map.specs.declared.map.PlaceMap.{PlaceMap}
-use Rattle.bbm_regimes.specs.World.{first_input_page, kind_in_world, page_count, start_of}
-use Rattle.bbm_regimes.specs.declared.regime.Kind.{Kind}
-use Rattle.bbm_rules.specs.Places.{page_of}
-use Rattle.bbm_rules.specs.Roots.{pages_from}
-use Rattle.bbm_rules.specs.Tree.{Node, node_below, nodes_of_pages}
-use Rattle.bbm_tree_index.specs.IndexAgreement.{IsSound, Sound}
-use Rattle.bbm_tree_index.specs.Hanging.{Hung}
+use Rattle.bbm_regimes.specs.World.{kind_in_world}
 use Rattle.bbm_tree_index.specs.Index.{fresh_in, heading_of, known_in, node_in, null_in, role_in}
-use Rattle.bbm_tree_index.specs.Attaching.{IsUnfresh, MayJudge, Never, names_pages}
-use Rattle.bbm_tree_index.specs.LeastPages.{IsSurvey}
-use Rattle.bbm_tree_index.specs.Nodes.{is_fresh_role, node_by}
-use Rattle.bbm_tree_index.specs.Paths.{Attached, below_all, starts_of}
-use Rattle.bbm_tree_index.specs.Spots.{Fits, spot_with}
-use Rattle.bbm_tree_index.specs.Survey.{role_as, spot_as}
-use Rattle.bbm_tree_index.specs.declared.index.TreeIndex.{TreeIndex}
-use Rattle.bbm_tree_index.specs.declared.mark.Mark.{Mark}
-use Rattle.bbm_tree_index.specs.declared.role.Attach.{Attach}
-use Rattle.bbm_tree_index.specs.declared.role.Attach.TheVariants.{Root, Below}
-use Rattle.bbm_tree_index.specs.declared.role.Role.{Role}
-use Rattle.bbm_tree_index.specs.declared.role.Role.TheVariants.{Untracked}
+use Rattle.bbm_tree_index.specs.Attaching.{names_pages}
 use Rattle.bbm_tree_index.proofs.Begins.{apart_of}
 use Rattle.bbm_tree_index.proofs.Begun.{only}
 use Rattle.bbm_tree_index.proofs.Hung.{Begins, Reach, fresh_hung, node_back, node_kept, node_reached, null_hung}

@@ -1,24 +1,12 @@
 -- Where the paths of what is attached begin.
-use Rattle.std.proofs.Common.{◌≡◌, ℕ, suc, ◌≤◌, ◌<◌, ◌+◌, ◌*◌, ◌^◌, true, List, [], ◌∷◌, Option, Some, Contains}
-use Rattle.std.proofs.Common.{length, sym, ap, ◌∙◌, subst, arith}
-use Rattle.std.proofs.lemmas.Option.{same_Some}
-use Rattle.indexmap.specs.IndexMap.{IndexMap}
-use Rattle.bbm_events.specs.Heading.{heading_ok}
+use Rattle.bbm_tree_index.proofs.Common.{IndexMap, PlaceMap, page_count, MayJudge, IsSurvey, Told, below_all, starts_of}
+use Rattle.bbm_tree_index.proofs.Common.{Starting, Well, root_marks, TreeIndex, Mark, Attach, Root, Below}
+use Rattle.bbm_rules.proofs.Common.{◌≡◌, ℕ, suc, ◌≤◌, ◌<◌, ◌+◌, ◌*◌, ◌^◌, true, List, [], ◌∷◌, Option, Some, Contains}
+use Rattle.bbm_rules.proofs.Common.{length, sym, ap, ◌∙◌, subst, arith, same_Some, heading_ok, Kind, page_of, start_of}
+use Rattle.bbm_rules.proofs.Common.{Node, node_below}
 use Rattle.bbm_place_map.specs.Map.{value_at}
-use Rattle.bbm_place_map.specs.declared.map.PlaceMap.{PlaceMap}
-use Rattle.bbm_regimes.specs.declared.regime.Kind.{Kind}
-use Rattle.bbm_rules.specs.Places.{page_of}
-use Rattle.bbm_rules.specs.Roots.{page_count, start_of}
-use Rattle.bbm_rules.specs.Tree.{Node, node_below}
 use Rattle.bbm_tree_index.specs.Index.{fresh_in, heading_of, node_in}
-use Rattle.bbm_tree_index.specs.Attaching.{MayJudge}
-use Rattle.bbm_tree_index.specs.LeastPages.{HavePages, IsSurvey, Told}
-use Rattle.bbm_tree_index.specs.Paths.{below_all, starts_of}
-use Rattle.bbm_tree_index.specs.Survey.{Starting, Well, root_marks}
-use Rattle.bbm_tree_index.specs.declared.index.TreeIndex.{TreeIndex}
-use Rattle.bbm_tree_index.specs.declared.mark.Mark.{Mark}
-use Rattle.bbm_tree_index.specs.declared.role.Attach.{Attach}
-use Rattle.bbm_tree_index.specs.declared.role.Attach.TheVariants.{Root, Below}
+use Rattle.bbm_tree_index.specs.LeastPages.{HavePages}
 use Rattle.bbm_tree_index.proofs.Begun.{is_only, only}
 use Rattle.bbm_tree_index.proofs.RootFits.{count_some, root_end, root_fits}
 use Rattle.bbm_tree_index.proofs.Rooted.{Pages, root_apart, root_nodes, root_same, root_some, root_starting, root_well}

@@ -1,17 +1,9 @@
 -- The table of one start.
-use Rattle.std.proofs.Common.{◌≡◌, ℕ, zero, suc, ◌<◌, ◌+◌, ◌*◌, ◌%◌, ◌^◌, ◌==◌, Bool, true, false, [], ◌∷◌, Option}
-use Rattle.std.proofs.Common.{Some, None, Contains, refl, sym, ap, ◌∙◌, subst, true≢false, if◌then◌else◌, arith}
-use Rattle.std.proofs.lemmas.Bool.{eqb-true, eq-eqb}
-use Rattle.std.proofs.lemmas.Option.{same_Some}
-use Rattle.bbm_events.specs.Heading.{Heading}
-use Rattle.bbm_rules.specs.Places.{index_of}
-use Rattle.bbm_rules.specs.Roots.{input_pages}
-use Rattle.bbm_rules.specs.Tree.{Node, node_below}
-use Rattle.bbm_tree_index.specs.Spots.{Fits, RoleFits, StandsAt, spot_with}
-use Rattle.bbm_tree_index.specs.Survey.{Counts, Starting, Well, role_as, spot_as}
-use Rattle.bbm_tree_index.specs.declared.mark.Mark.{Mark}
-use Rattle.bbm_tree_index.specs.declared.role.Role.TheVariants.{Hangs}
-use Rattle.bbm_tree_index.specs.declared.spot.Spot.{Spot}
+use Rattle.bbm_tree_index.proofs.Common.{Heading, Fits, RoleFits, StandsAt, spot_with, Counts, Starting, Well, role_as}
+use Rattle.bbm_tree_index.proofs.Common.{spot_as, Mark, Hangs, Spot}
+use Rattle.bbm_rules.proofs.Common.{◌≡◌, ℕ, zero, suc, ◌<◌, ◌+◌, ◌*◌, ◌%◌, ◌^◌, ◌==◌, Bool, true, false, [], ◌∷◌}
+use Rattle.bbm_rules.proofs.Common.{Option, Some, None, Contains, refl, sym, ap, ◌∙◌, subst, true≢false, if◌then◌else◌}
+use Rattle.bbm_rules.proofs.Common.{arith, eqb-true, eq-eqb, same_Some, index_of, input_pages, Node, node_below}
 use Rattle.bbm_tree_index.proofs.Growing.{hang_fits, well_grown, well_none}
 
 -- the only item of a list of one

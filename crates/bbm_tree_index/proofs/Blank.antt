@@ -1,29 +1,13 @@
 -- Pages no place of which has a value or is broken.
-use Rattle.std.proofs.Common.{◌≡◌, ℕ, Bool, true, false, ◌||◌, ◌==◌, List, Option, Some, None, is_some, refl, sym}
-use Rattle.std.proofs.Common.{ap, ◌∙◌, true≢false}
-use Rattle.std.proofs.lemmas.Bool.{eqb-true}
-use Rattle.std.proofs.lemmas.Option.{none-some}
-use Rattle.bbm_descriptor.specs.Descriptor.{core_of, desc_of}
-use Rattle.bbm_descriptor.specs.declared.desc.Core.{Core}
-use Rattle.bbm_descriptor.specs.declared.desc.Desc.TheVariants.{Invalid}
-use Rattle.bbm_entry_state.specs.Points.{core_in}
-use Rattle.bbm_entry_state.specs.declared.marks.Marks.{Marks}
+use Rattle.bbm_tree_index.proofs.Common.{core_in, Marks, PlaceMap, same_kind, Ttbr0, core_with, holds_at, LeafOf}
+use Rattle.bbm_tree_index.proofs.Common.{LeastOf, asks, Partly, Leaf, Contiguous, UserGlobal}
+use Rattle.bbm_rules.proofs.Common.{◌≡◌, ℕ, Bool, true, false, ◌||◌, ◌==◌, List, Option, Some, None, is_some, refl, sym}
+use Rattle.bbm_rules.proofs.Common.{ap, ◌∙◌, true≢false, eqb-true, none-some, core_of, desc_of, Core, Invalid, Kind}
+use Rattle.bbm_rules.proofs.Common.{page_of, Node, next_of, and-false}
 use Rattle.bbm_place_map.specs.Map.{marks_at, value_at}
 use Rattle.bbm_place_map.specs.States.{state_from}
-use Rattle.bbm_place_map.specs.declared.map.PlaceMap.{PlaceMap}
-use Rattle.bbm_regimes.specs.SameRegister.{same_kind}
-use Rattle.bbm_regimes.specs.declared.regime.Kind.{Kind}
-use Rattle.bbm_regimes.specs.declared.regime.Kind.TheVariants.{Ttbr0}
-use Rattle.bbm_rules.specs.Places.{page_of}
-use Rattle.bbm_rules.specs.Tree.{Node, next_of}
-use Rattle.bbm_tree_index.specs.HeldCores.{core_with, holds_at}
-use Rattle.bbm_tree_index.specs.LeastPages.{LeafOf, LeastOf, asks}
-use Rattle.bbm_tree_index.specs.Survey.{Partly}
-use Rattle.bbm_tree_index.specs.declared.judge.Leaf.{Leaf}
-use Rattle.bbm_tree_index.specs.declared.judge.Leaf.TheVariants.{Contiguous, UserGlobal}
 use Rattle.bbm_tree_index.proofs.Counting.{or_cases}
 use Rattle.bbm_tree_index.proofs.Places.{at_page}
-use mathlib.Core.Bool.{and-false}
 
 pub holds_nothing : (map : PlaceMap) (kind : Kind) (level a : ℕ) → value_at map a ≡ 0 → marks_at map a ≡ None
     → holds_at map kind level a ≡ false

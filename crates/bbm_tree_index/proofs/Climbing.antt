@@ -1,14 +1,8 @@
 -- Nodes depend on the roles of the pages of trees alone.
-use Rattle.std.proofs.Common.{◌≡◌, ℕ, zero, suc, List, ◌∷◌, Some, None, refl, sym, ap, ◌∙◌, Bool, true, false, ◌==◌}
-use Rattle.std.proofs.Common.{if◌then◌else◌}
-use Rattle.std.proofs.lemmas.Bool.{eqb-true}
-use Rattle.bbm_events.specs.Heading.{Heading}
-use Rattle.bbm_regimes.specs.declared.regime.Kind.{Kind}
-use Rattle.bbm_rules.specs.Places.{page_of}
-use Rattle.bbm_rules.specs.Tree.{Above}
-use Rattle.bbm_tree_index.specs.Nodes.{above_by, is_fresh_role, node_by, node_with}
-use Rattle.bbm_tree_index.specs.declared.role.Role.{Role}
-use Rattle.bbm_tree_index.specs.declared.role.Role.TheVariants.{Untracked, Fresh, RootPage, Hangs, Gone, Null}
+use Rattle.bbm_tree_index.proofs.Common.{Heading, above_by, is_fresh_role, node_by, node_with, Role, Untracked, Fresh}
+use Rattle.bbm_tree_index.proofs.Common.{RootPage, Hangs, Gone, Null}
+use Rattle.bbm_rules.proofs.Common.{◌≡◌, ℕ, zero, suc, List, ◌∷◌, Some, None, refl, sym, ap, ◌∙◌, Bool, true, false}
+use Rattle.bbm_rules.proofs.Common.{◌==◌, if◌then◌else◌, eqb-true, Kind, page_of, Above}
 
 -- the role where the page is in a tree
 abbrev pub tree_part : Role → Role

@@ -1,17 +1,9 @@
 -- A table of marks after one more place.
-use Rattle.std.proofs.Common.{◌≡◌, ℕ, suc, ◌+◌, ◌*◌, Bool, true, false, ◌||◌, ◌==◌, List, Option, Some, None, refl, sym}
-use Rattle.std.proofs.Common.{ap, ◌∙◌, subst, true≢false, if◌then◌else◌}
-use Rattle.std.proofs.lemmas.Bool.{eqb-true, eq-eqb}
-use Rattle.std.proofs.lemmas.Option.{none-some, same_Some}
-use Rattle.bbm_rules.specs.Places.{index_of, page_of}
-use Rattle.bbm_rules.specs.Roots.{input_pages}
-use Rattle.bbm_rules.specs.Tree.{Node, next_of, node_below}
-use Rattle.bbm_tree_index.specs.HeldCores.{is_at}
-use Rattle.bbm_tree_index.specs.Spots.{StandsAt}
-use Rattle.bbm_tree_index.specs.Survey.{Counts, Found, Partly, Reached, Step, grown, joined, role_as}
-use Rattle.bbm_tree_index.specs.declared.mark.Mark.{Mark}
-use Rattle.bbm_tree_index.specs.declared.role.Role.TheVariants.{Hangs}
-use Rattle.bbm_tree_index.specs.declared.spot.Spot.{Spot}
+use Rattle.bbm_tree_index.proofs.Common.{is_at, StandsAt, Counts, Found, Partly, Reached, Step, grown, joined, role_as}
+use Rattle.bbm_tree_index.proofs.Common.{Mark, Hangs, Spot}
+use Rattle.bbm_rules.proofs.Common.{◌≡◌, ℕ, suc, ◌+◌, ◌*◌, Bool, true, false, ◌||◌, ◌==◌, List, Option, Some, None}
+use Rattle.bbm_rules.proofs.Common.{refl, sym, ap, ◌∙◌, subst, true≢false, if◌then◌else◌, eqb-true, eq-eqb, none-some}
+use Rattle.bbm_rules.proofs.Common.{same_Some, index_of, page_of, input_pages, Node, next_of, node_below}
 use Rattle.bbm_tree_index.proofs.Injective.{above_same, place_same}
 use Rattle.bbm_tree_index.proofs.Places.{at_page}
 

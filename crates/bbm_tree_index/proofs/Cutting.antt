@@ -1,18 +1,8 @@
 -- What is asked of the places above a page, by its role and by its node.
-use Rattle.std.proofs.Common.{◌≡◌, ℕ, zero, suc, Bool, ◌||◌, [], Some, None, refl, sym, ap, ◌∙◌, subst}
-use Rattle.std.proofs.lemmas.Option.{none-some, same_Some}
-use Rattle.bbm_events.specs.Heading.{Heading}
-use Rattle.bbm_regimes.specs.declared.regime.Kind.{Kind}
-use Rattle.bbm_rules.specs.Lists.{any}
-use Rattle.bbm_rules.specs.Places.{page_of}
-use Rattle.bbm_rules.specs.Tree.{Node}
-use Rattle.bbm_tree_index.specs.IndexAgreement.{Sound}
-use Rattle.bbm_tree_index.specs.Climbs.{cut_by}
-use Rattle.bbm_tree_index.specs.Nodes.{above_by, node_by, node_with}
-use Rattle.bbm_tree_index.specs.Spots.{StandsAt, spot_with}
-use Rattle.bbm_tree_index.specs.declared.role.Role.{Role}
-use Rattle.bbm_tree_index.specs.declared.role.Role.TheVariants.{Untracked, Fresh, RootPage, Hangs, Gone, Null}
-use Rattle.bbm_tree_index.specs.declared.spot.Spot.{Spot}
+use Rattle.bbm_tree_index.proofs.Common.{Heading, Sound, cut_by, above_by, node_by, node_with, StandsAt, spot_with}
+use Rattle.bbm_tree_index.proofs.Common.{Role, Untracked, Fresh, RootPage, Hangs, Gone, Null, Spot}
+use Rattle.bbm_rules.proofs.Common.{◌≡◌, ℕ, zero, suc, Bool, ◌||◌, [], Some, None, refl, sym, ap, ◌∙◌, subst, none-some}
+use Rattle.bbm_rules.proofs.Common.{same_Some, Kind, any, page_of, Node}
 
 above_root : (roles : ℕ → Role) (level : ℕ) (kind : Kind) (first part : ℕ) → above_by roles level (RootPage kind first part) ≡ []
 above_root roles zero kind first part = refl

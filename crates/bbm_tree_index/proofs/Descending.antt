@@ -1,16 +1,8 @@
 -- Going down a tree along an input page.
-use Rattle.std.proofs.Common.{◌≡◌, ℕ, ◌+◌, ◌-◌, ◌*◌, ◌/◌, ◌<◌, ◌≤◌, true, Option, Some, sym, ap, ◌∙◌, subst, arith}
+use Rattle.bbm_tree_index.proofs.Common.{Translates, is_at, path_at, StandsAt, Path, Spot}
+use Rattle.bbm_rules.proofs.Common.{◌≡◌, ℕ, ◌+◌, ◌-◌, ◌*◌, ◌/◌, ◌<◌, ◌≤◌, true, Option, Some, sym, ap, ◌∙◌, subst}
+use Rattle.bbm_rules.proofs.Common.{arith, Kind, index_of, input_pages, Node, region_start}
 use Rattle.std.proofs.lemmas.Nat.{div-mul-add}
-use Rattle.bbm_regimes.specs.declared.regime.Kind.{Kind}
-use Rattle.bbm_rules.specs.Places.{index_of}
-use Rattle.bbm_rules.specs.Roots.{input_pages}
-use Rattle.bbm_rules.specs.Tree.{Node, region_start}
-use Rattle.bbm_tree_index.specs.Descent.{Translates}
-use Rattle.bbm_tree_index.specs.HeldCores.{is_at}
-use Rattle.bbm_tree_index.specs.Nodes.{path_at}
-use Rattle.bbm_tree_index.specs.Spots.{StandsAt}
-use Rattle.bbm_tree_index.specs.declared.role.Path.{Path}
-use Rattle.bbm_tree_index.specs.declared.spot.Spot.{Spot}
 
 -- which part of its page a place that translates an input page is
 pub part_is : (base at index width : ℕ) → base + index * width ≤ at → at < base + index * width + width

@@ -1,25 +1,15 @@
 -- Well formed tables of marks, and the order of their keys.
-use Rattle.std.proofs.Common.{◌≡◌, ℕ, zero, suc, ◌<◌, ◌≤◌, ◌+◌, ◌*◌, ◌%◌, ◌^◌, Bool, true, false, ◌||◌, ◌==◌, List, []}
-use Rattle.std.proofs.Common.{◌∷◌, ◌++◌, Option, Some, None, is_some, nat_eq, take, get_or, slice_get, refl, sym, ap}
-use Rattle.std.proofs.Common.{◌∙◌, subst, true≢false, if◌then◌else◌, arith}
-use Rattle.std.specs.List.{IsDistinct, list_any}
-use Rattle.std.proofs.lemmas.Bool.{eqb-true, eq-eqb}
-use Rattle.std.proofs.lemmas.Option.{get_or_from_slice_get, none-some, same_Some, slice_get_within}
+use Rattle.bbm_tree_index.proofs.Common.{length-map, IndexMap, get, index_map_len, keys, Heading, SameKeys, Fits}
+use Rattle.bbm_tree_index.proofs.Common.{RoleFits, Well, grown, joined, Mark, Spot, Hangs}
+use Rattle.bbm_rules.proofs.Common.{◌≡◌, ℕ, zero, suc, ◌<◌, ◌≤◌, ◌+◌, ◌*◌, ◌%◌, ◌^◌, Bool, true, false, ◌||◌, ◌==◌}
+use Rattle.bbm_rules.proofs.Common.{List, [], ◌∷◌, ◌++◌, Option, Some, None, is_some, nat_eq, take, get_or, slice_get}
+use Rattle.bbm_rules.proofs.Common.{refl, sym, ap, ◌∙◌, subst, true≢false, if◌then◌else◌, arith, list_any, eqb-true}
+use Rattle.bbm_rules.proofs.Common.{eq-eqb, none-some, same_Some, slice_get_within, take_all, take_more}
+use Rattle.bbm_rules.proofs.Common.{list_any-append, input_pages, Kind, or-false}
+use Rattle.std.specs.List.{IsDistinct}
+use Rattle.std.proofs.lemmas.Option.{get_or_from_slice_get}
 use Rattle.std.proofs.lemmas.Map.Keys.{apart_from_distinct}
-use Rattle.std.proofs.lemmas.List.{length-map, take_all, take_more}
-use Rattle.std.proofs.lemmas.List.Folds.{list_any-append}
 use Rattle.std.proofs.lemmas.Map.Made.{is_some-lookup}
-use Rattle.indexmap.specs.IndexMap.{IndexMap, get, index_map_len, keys}
-use Rattle.bbm_events.specs.Heading.{Heading}
-use Rattle.bbm_rules.specs.Roots.{input_pages}
-use Rattle.bbm_regimes.specs.declared.regime.Kind.{Kind}
-use Rattle.bbm_tree_index.specs.PageTables.{SameKeys}
-use Rattle.bbm_tree_index.specs.Spots.{Fits, RoleFits}
-use Rattle.bbm_tree_index.specs.Survey.{Well, grown, joined}
-use Rattle.bbm_tree_index.specs.declared.mark.Mark.{Mark}
-use Rattle.bbm_tree_index.specs.declared.spot.Spot.{Spot}
-use Rattle.bbm_tree_index.specs.declared.role.Role.TheVariants.{Hangs}
-use mathlib.Core.Bool.{or-false}
 
 below_low : (base index level : ℕ) → level < 3 → index < 512 → base + 512 * input_pages level ≤ 2 ^ 45
     → base + index * input_pages level + 512 * input_pages (suc level) ≤ 2 ^ 45

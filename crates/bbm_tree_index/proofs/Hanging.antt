@@ -1,12 +1,9 @@
 -- Tables of marks give pages their roles.
-use Rattle.std.proofs.Common.{◌≡◌, ℕ, ◌<◌, ◌+◌, ◌==◌, ◌||◌, Bool, true, false, List, Option, Some, None, is_some}
-use Rattle.std.proofs.Common.{nat_eq, slice_get, inl, inr, refl, sym, ap, ◌∙◌, true≢false, if◌then◌else◌, arith}
-use Rattle.std.proofs.lemmas.Bool.{eqb-true, eq-eqb}
-use Rattle.std.proofs.lemmas.Option.{same_Some}
-use Rattle.indexmap.specs.IndexMap.{IndexMap, get}
-use Rattle.bbm_tree_index.specs.Hanging.{Hung, Passed, hung}
-use Rattle.bbm_tree_index.specs.declared.mark.Mark.{Mark}
-use Rattle.bbm_tree_index.specs.declared.role.Role.{Role}
+use Rattle.bbm_tree_index.proofs.Common.{IndexMap, get, Hung, hung, Mark, Role}
+use Rattle.bbm_rules.proofs.Common.{◌≡◌, ℕ, ◌<◌, ◌+◌, ◌==◌, ◌||◌, Bool, true, false, List, Option, Some, None, is_some}
+use Rattle.bbm_rules.proofs.Common.{nat_eq, slice_get, inl, inr, refl, sym, ap, ◌∙◌, true≢false, if◌then◌else◌, arith}
+use Rattle.bbm_rules.proofs.Common.{eqb-true, eq-eqb, same_Some}
+use Rattle.bbm_tree_index.specs.Hanging.{Passed}
 
 -- one more page of a table got its role
 pub one_more : (p page : ℕ) (a : Bool) (o : ℕ → Option Mark) (mark : Mark) (old now new : Option Role) → o page ≡ Some mark

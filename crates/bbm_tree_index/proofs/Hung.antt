@@ -1,22 +1,15 @@
 -- Nodes and soundness after pages were hung: each page that is reached got the role of its node, the others kept theirs.
-use Rattle.std.proofs.Common.{◌≡◌, ℕ, zero, suc, ◌⊎◌, ◌&&◌, Bool, true, false, List, [], ◌∷◌, ◌++◌, Option, Some, None}
-use Rattle.std.proofs.Common.{is_none, Contains, inl, inr, refl, sym, ap, ◌∙◌, subst}
-use Rattle.std.proofs.lemmas.Option.{none-some, same_Some}
-use Rattle.bbm_events.specs.Heading.{Heading}
-use Rattle.bbm_regimes.specs.declared.regime.Kind.{Kind}
-use Rattle.bbm_rules.specs.Places.{page_of}
-use Rattle.bbm_rules.specs.Tree.{Above, Node, node_below, region_start}
-use Rattle.bbm_tree_index.specs.IndexAgreement.{Below, Sound}
-use Rattle.bbm_tree_index.specs.Nodes.{above_by, is_fresh_role, is_null_role, node_by, node_with}
-use Rattle.bbm_tree_index.specs.Spots.{Fits, spot_with}
-use Rattle.bbm_tree_index.specs.Survey.{Goes, role_as, spot_as}
-use Rattle.bbm_tree_index.specs.declared.role.Role.{Role}
-use Rattle.bbm_tree_index.specs.declared.role.Role.TheVariants.{Untracked, Fresh, RootPage, Hangs, Gone, Null}
+use Rattle.bbm_tree_index.proofs.Common.{Heading, Sound, above_by, is_fresh_role, is_null_role, node_by, node_with}
+use Rattle.bbm_tree_index.proofs.Common.{Fits, spot_with, Goes, role_as, spot_as, Role, Untracked, Fresh, RootPage}
+use Rattle.bbm_tree_index.proofs.Common.{Hangs, Gone, Null}
+use Rattle.bbm_rules.proofs.Common.{◌≡◌, ℕ, zero, suc, ◌⊎◌, ◌&&◌, Bool, true, false, List, [], ◌∷◌, ◌++◌, Option, Some}
+use Rattle.bbm_rules.proofs.Common.{None, is_none, Contains, inl, inr, refl, sym, ap, ◌∙◌, subst, none-some, same_Some}
+use Rattle.bbm_rules.proofs.Common.{Kind, page_of, Above, Node, node_below, region_start, and-false}
+use Rattle.bbm_tree_index.specs.IndexAgreement.{Below}
 use Rattle.bbm_tree_index.proofs.Climbing.{fresh_part, out_part, tree_part}
 use Rattle.bbm_tree_index.proofs.Levels.{goes_on}
 use Rattle.bbm_tree_index.proofs.Places.{at_page}
 use Rattle.bbm_tree_index.proofs.Sweeping.{node_hang}
-use mathlib.Core.Bool.{and-false}
 
 -- a path from a start reaches the node
 pub record Reach (fresh : ℕ → Bool) (value : ℕ → ℕ) (starts : List Node) (m : Node) : Type 0 where

@@ -1,22 +1,11 @@
 -- What keeps nodes, soundness and agreement, said of indexes.
-use Rattle.std.proofs.Common.{◌≡◌, ℕ, ◌<◌, ◌%◌, ◌^◌, Bool, true, false, Option, Some, None, refl, sym, ap, subst, ◌∙◌}
-use Rattle.std.proofs.Common.{unwrap_or, ◌==◌, ◌||◌, ◌&&◌, not, if◌then◌else◌}
-use Rattle.std.proofs.Common.{nat_eq, is_some}
-use Rattle.bbm_lemmas.proofs.Tautologies.{proved}
-use Rattle.bbm_lemmas.proofs.Tautologies.Claim.{Is}
-use Rattle.indexmap.specs.IndexMap.{get}
-use Rattle.bbm_place_map.specs.declared.map.PlaceMap.{PlaceMap}
-use Rattle.bbm_rules.specs.Lists.{any}
-use Rattle.bbm_rules.specs.Tree.{Node}
-use Rattle.bbm_regimes.specs.declared.regime.Kind.{Kind}
-use Rattle.bbm_tree_index.specs.Climbs.{cut_by}
+use Rattle.bbm_tree_index.proofs.Common.{get, PlaceMap, cut_by, Agrees, IsSound, Sound, is_fresh_role, is_null_role}
+use Rattle.bbm_tree_index.proofs.Common.{node_by, TreeIndex, Role, Untracked, Gone}
+use Rattle.bbm_rules.proofs.Common.{◌≡◌, ℕ, ◌<◌, ◌%◌, ◌^◌, Bool, true, false, Option, Some, None, refl, sym, ap, subst}
+use Rattle.bbm_rules.proofs.Common.{◌∙◌, unwrap_or, ◌==◌, ◌||◌, ◌&&◌, not, if◌then◌else◌, nat_eq, is_some, proved, Is}
+use Rattle.bbm_rules.proofs.Common.{any, Node, Kind}
 use Rattle.bbm_tree_index.proofs.Cutting.{cut_node}
-use Rattle.bbm_tree_index.specs.IndexAgreement.{Agrees, IsSound, Sound}
 use Rattle.bbm_tree_index.specs.Index.{fresh_in, heading_of, known_in, node_in, null_in, role_in}
-use Rattle.bbm_tree_index.specs.Nodes.{is_fresh_role, is_null_role, node_by}
-use Rattle.bbm_tree_index.specs.declared.index.TreeIndex.{TreeIndex}
-use Rattle.bbm_tree_index.specs.declared.role.Role.{Role}
-use Rattle.bbm_tree_index.specs.declared.role.Role.TheVariants.{Untracked, Gone}
 use Rattle.bbm_tree_index.proofs.Climbing.{SameTrees, fresh_part, node_same, out_part, tree_part}
 use Rattle.bbm_tree_index.proofs.Agreeing.{SamePlace, agrees_same}
 use Rattle.bbm_tree_index.proofs.Sounds.{sound_same}

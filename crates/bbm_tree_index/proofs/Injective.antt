@@ -1,9 +1,6 @@
 -- A node below a place tells the place and the node above.
-use Rattle.std.proofs.Common.{◌≡◌, ℕ, ◌+◌, ◌*◌, List, [], ◌∷◌, ap, arith}
-use Rattle.std.proofs.Math.Nat.{suc_inj}
-use Rattle.bbm_rules.specs.Places.{index_of}
-use Rattle.bbm_rules.specs.Roots.{input_pages}
-use Rattle.bbm_rules.specs.Tree.{Above, Node, node_below}
+use Rattle.bbm_rules.proofs.Common.{◌≡◌, ℕ, ◌+◌, ◌*◌, List, [], ◌∷◌, ap, arith, suc_inj, index_of, input_pages, Above}
+use Rattle.bbm_rules.proofs.Common.{Node, node_below}
 
 head_place : List Above → ℕ
 head_place [] = 0

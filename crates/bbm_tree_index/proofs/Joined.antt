@@ -1,10 +1,8 @@
 -- Values that are asked together.
-use Rattle.std.proofs.Common.{◌≡◌, ℕ, zero, suc, ◌<◌, ◌≤◌, ◌+◌, ◌&&◌, ◌||◌, ◌==◌, not, bit_or, Bool, true, false}
-use Rattle.std.proofs.Common.{inl, inr, refl, sym, ap, ◌∙◌, arith}
-use Rattle.std.proofs.lemmas.Bool.{cases_eq, eqb-true}
+use Rattle.bbm_tree_index.proofs.Common.{bit_or, not_global, leaf_bits, spares}
+use Rattle.bbm_rules.proofs.Common.{◌≡◌, ℕ, zero, suc, ◌<◌, ◌≤◌, ◌+◌, ◌&&◌, ◌||◌, ◌==◌, not, Bool, true, false, inl}
+use Rattle.bbm_rules.proofs.Common.{inr, refl, sym, ap, ◌∙◌, arith, cases_eq, eqb-true, contiguous_of}
 use Rattle.std.proofs.lemmas.Nat.{le_or_l, le_or_r}
-use Rattle.bbm_descriptor.specs.Fields.{contiguous_of, not_global}
-use Rattle.bbm_tree_index.specs.LeastPages.{leaf_bits, spares}
 
 pub zero_left : (a b : ℕ) → bit_or a b ≡ 0 → a ≡ 0
 zero_left a b e = omega (arith, le_or_l a b, e)

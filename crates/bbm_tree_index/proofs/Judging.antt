@@ -1,20 +1,12 @@
 -- What the tables of a survey say of the paths.
-use Rattle.std.proofs.Common.{◌≡◌, ℕ, zero, suc, ◌<◌, ◌+◌, ◌==◌, Bool, true, false, List, [], ◌∷◌, Option, Some, None}
-use Rattle.std.proofs.Common.{is_some, length, nat_eq, slice_get, inl, inr, refl, sym, ap, ◌∙◌, subst, arith}
-use Rattle.std.proofs.lemmas.Bool.{eqb-true, eq-eqb}
-use Rattle.std.proofs.Common.{true≢false}
-use Rattle.std.proofs.lemmas.Option.{slice_get_within}
-use Rattle.indexmap.specs.IndexMap.{IndexMap, get}
-use Rattle.bbm_descriptor.specs.Descriptor.{desc_of}
-use Rattle.bbm_descriptor.specs.declared.desc.Desc.{Desc}
-use Rattle.bbm_regimes.specs.declared.regime.Kind.{Kind}
-use Rattle.bbm_rules.specs.Attach.{End, end_at}
-use Rattle.bbm_rules.specs.Tree.{Node}
-use Rattle.bbm_tree_index.specs.HeldCores.{is_at}
-use Rattle.bbm_tree_index.specs.Attaching.{EndsTwice, HasPlace, IsPath, IsUnfresh, UnfreshEnd}
-use Rattle.bbm_tree_index.specs.LeastPages.{LeafPlace, Told, Wrong, WrongPage, elsewhere, many, unfresh}
-use Rattle.bbm_tree_index.specs.Survey.{Counts, Found, Goes, Reached}
-use Rattle.bbm_tree_index.specs.declared.mark.Mark.{Mark}
+use Rattle.bbm_tree_index.proofs.Common.{IndexMap, get, is_at, HasPlace, IsUnfresh, LeafPlace, Told, WrongPage, Counts}
+use Rattle.bbm_tree_index.proofs.Common.{Found, Goes, Reached, Mark}
+use Rattle.bbm_rules.proofs.Common.{◌≡◌, ℕ, zero, suc, ◌<◌, ◌+◌, ◌==◌, Bool, true, false, List, [], ◌∷◌, Option, Some}
+use Rattle.bbm_rules.proofs.Common.{None, is_some, length, nat_eq, slice_get, inl, inr, refl, sym, ap, ◌∙◌, subst}
+use Rattle.bbm_rules.proofs.Common.{arith, true≢false, eqb-true, eq-eqb, slice_get_within, desc_of, Desc, Kind, End}
+use Rattle.bbm_rules.proofs.Common.{end_at, Node}
+use Rattle.bbm_tree_index.specs.Attaching.{EndsTwice, IsPath, UnfreshEnd}
+use Rattle.bbm_tree_index.specs.LeastPages.{Wrong, elsewhere, many, unfresh}
 use Rattle.bbm_tree_index.proofs.Starts.{goes_kind}
 use Rattle.bbm_tree_index.proofs.Ways.{goes_back, goes_leads, goes_same, leads_goes}
 

@@ -1,27 +1,14 @@
 -- Whether a page leaves, by its role and by its node, and while other pages leave.
-use Rattle.std.proofs.Common.{◌≡◌, ℕ, zero, suc, Bool, true, false, not, ◌&&◌, ◌||◌, ◌==◌, List, [], ◌∷◌, Option, Some}
-use Rattle.std.proofs.Common.{None, is_some, refl, sym, ap, ◌∙◌, subst, true≢false, if◌then◌else◌}
-use Rattle.std.proofs.lemmas.Option.{none-some, same_Some}
-use Rattle.std.proofs.Math.Nat.{suc_inj}
-use Rattle.bbm_entry_state.specs.declared.marks.Marks.{Marks}
-use Rattle.bbm_events.specs.Heading.{Heading}
+use Rattle.bbm_tree_index.proofs.Common.{Marks, Heading, PlaceMap, Sound, cut_by, passes_at, core_with, holds_at}
+use Rattle.bbm_tree_index.proofs.Common.{leaves_role, stays, node_by, node_with, Leaving, Unheld, Role, Untracked}
+use Rattle.bbm_tree_index.proofs.Common.{Fresh, RootPage, Hangs, Gone, Null}
+use Rattle.bbm_rules.proofs.Common.{◌≡◌, ℕ, zero, suc, Bool, true, false, not, ◌&&◌, ◌||◌, ◌==◌, List, [], ◌∷◌, Option}
+use Rattle.bbm_rules.proofs.Common.{Some, None, is_some, refl, sym, ap, ◌∙◌, subst, true≢false, if◌then◌else◌}
+use Rattle.bbm_rules.proofs.Common.{none-some, same_Some, suc_inj, Kind, any, every, page_of, Node, node_below}
 use Rattle.bbm_place_map.specs.Map.{marks_at, value_at}
-use Rattle.bbm_place_map.specs.declared.map.PlaceMap.{PlaceMap}
-use Rattle.bbm_regimes.specs.declared.regime.Kind.{Kind}
-use Rattle.bbm_rules.specs.Lists.{any, every}
-use Rattle.bbm_rules.specs.Places.{page_of}
-use Rattle.bbm_rules.specs.Tree.{Node, node_below}
-use Rattle.bbm_tree_index.specs.IndexAgreement.{Sound}
-use Rattle.bbm_tree_index.specs.Climbs.{cut_by, passes_at}
-use Rattle.bbm_tree_index.specs.HeldCores.{core_with, holds_at, is_held_by}
-use Rattle.bbm_tree_index.specs.HeldCores.{leaves as leaves_node}
-use Rattle.bbm_tree_index.specs.Leaving.{leaves_role, stays}
-use Rattle.bbm_tree_index.specs.Nodes.{node_by, node_with}
+use Rattle.bbm_tree_index.specs.HeldCores.{is_held_by, leaves as leaves_node}
 use Rattle.bbm_tree_index.specs.declared.climb.Asked.TheVariants as asked
-use Rattle.bbm_tree_index.specs.declared.leaving.Leaving.{Leaving}
-use Rattle.bbm_tree_index.specs.declared.leaving.Leaving.TheVariants.{Unheld, Root, Below as Under}
-use Rattle.bbm_tree_index.specs.declared.role.Role.{Role}
-use Rattle.bbm_tree_index.specs.declared.role.Role.TheVariants.{Untracked, Fresh, RootPage, Hangs, Gone, Null}
+use Rattle.bbm_tree_index.specs.declared.leaving.Leaving.TheVariants.{Root, Below as Under}
 use Rattle.bbm_tree_index.proofs.Cutting.{cut_node}
 use Rattle.bbm_tree_index.proofs.Sweeping.{node_hang}
 use mathlib.Core.Bool.{not-not, or-true}

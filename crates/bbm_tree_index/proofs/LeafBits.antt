@@ -1,21 +1,12 @@
 -- Values that keep no page from being attached.
-use Rattle.std.proofs.Common.{◌≡◌, ℕ, zero, suc, ◌%◌, Bool, true, false, not, ◌&&◌, ◌||◌, ◌==◌, if◌then◌else◌, refl}
-use Rattle.std.proofs.Common.{sym}
-use Rattle.std.proofs.Common.{true≢false, arith}
-use Rattle.std.proofs.lemmas.Bool.{eqb-true, eqb-false}
-use Rattle.bbm_lemmas.proofs.Tautologies.{proved}
-use Rattle.bbm_lemmas.proofs.Tautologies.Claim.{If, Is}
-use Rattle.bbm_descriptor.specs.Descriptor.{Form, invalid, table, leaf, desc_as, desc_of, form_01, form_11, form_of}
-use Rattle.bbm_descriptor.specs.Descriptor.{stage1}
-use Rattle.bbm_descriptor.specs.Fields.{contiguous_of, not_global, type_bits}
-use Rattle.bbm_regimes.specs.SameRegister.{same_kind}
-use Rattle.bbm_regimes.specs.declared.regime.Kind.{Kind}
-use Rattle.bbm_regimes.specs.declared.regime.Kind.TheVariants.{Ttbr0}
-use Rattle.bbm_tree_index.specs.LeastPages.{asks, leaf_bits, spares}
-use Rattle.bbm_tree_index.specs.declared.judge.Leaf.{Leaf}
-use Rattle.bbm_tree_index.specs.declared.judge.Leaf.TheVariants.{Contiguous, UserGlobal}
+use Rattle.bbm_tree_index.proofs.Common.{not_global, same_kind, Ttbr0, asks, leaf_bits, spares, Leaf, Contiguous}
+use Rattle.bbm_tree_index.proofs.Common.{UserGlobal}
+use Rattle.bbm_rules.proofs.Common.{◌≡◌, ℕ, zero, suc, ◌%◌, Bool, true, false, not, ◌&&◌, ◌||◌, ◌==◌, if◌then◌else◌}
+use Rattle.bbm_rules.proofs.Common.{refl, sym, true≢false, arith, eqb-true, eqb-false, proved, If, Is, Form, invalid}
+use Rattle.bbm_rules.proofs.Common.{leaf, desc_as, desc_of, form_01, form_11, form_of, contiguous_of, type_bits, Kind}
+use Rattle.bbm_rules.proofs.Common.{and-false}
+use Rattle.bbm_descriptor.specs.Descriptor.{table, stage1}
 use Rattle.bbm_tree_index.proofs.Blank.{asks_nothing}
-use mathlib.Core.Bool.{and-false}
 
 type_is : (value n : ℕ) → type_bits value ≡ n → value % 4 ≡ n
 type_is value n e = omega (arith, e)

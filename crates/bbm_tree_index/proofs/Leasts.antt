@@ -1,9 +1,9 @@
 -- The least number that passes by one of the first indices.
-use Rattle.std.proofs.Common.{◌≡◌, ℕ, ◌<◌, ◌≤◌, ◌+◌, ◌==◌, Bool, true, false, Option, Some, None, nat_lt, refl, sym}
-use Rattle.std.proofs.Common.{◌∙◌, subst, true≢false, if◌then◌else◌, arith}
-use Rattle.std.proofs.lemmas.Bool.{eqb-true, eq-eqb, ltb-true, ltb-false}
-use Rattle.bbm_tree_index.specs.Attaching.{IsLeast}
-use Rattle.bbm_tree_index.specs.LeastPages.{Before, LeastOf, lesser}
+use Rattle.bbm_tree_index.proofs.Common.{IsLeast, Before, LeastOf}
+use Rattle.bbm_rules.proofs.Common.{◌≡◌, ℕ, ◌<◌, ◌≤◌, ◌+◌, ◌==◌, Bool, true, false, Option, Some, None, nat_lt, refl}
+use Rattle.bbm_rules.proofs.Common.{sym, ◌∙◌, subst, true≢false, if◌then◌else◌, arith, eqb-true, eq-eqb, ltb-true}
+use Rattle.bbm_rules.proofs.Common.{ltb-false}
+use Rattle.bbm_tree_index.specs.LeastPages.{lesser}
 
 pub least_same : (P Q : ℕ → Type 0) (o : Option ℕ) → ((m : ℕ) → P m → Q m) → ((m : ℕ) → Q m → P m) → LeastOf P o → LeastOf Q o
 least_same P Q None to from h = λ m q. h m (from m q)

@@ -1,19 +1,11 @@
 -- One more page is judged while others have left.
-use Rattle.std.proofs.Common.{◌≡◌, ℕ, Bool, true, false, not, refl, sym, ap, ◌∙◌, subst, if◌then◌else◌}
-use Rattle.bbm_events.specs.Heading.{Heading}
+use Rattle.bbm_tree_index.proofs.Common.{Heading, PlaceMap, Sound, cut_by, passes_at, leaves_role, node_with, Leaving}
+use Rattle.bbm_tree_index.proofs.Common.{Unheld, Role, Untracked, Fresh, RootPage, Hangs, Gone, Null}
+use Rattle.bbm_rules.proofs.Common.{◌≡◌, ℕ, Bool, true, false, not, refl, sym, ap, ◌∙◌, subst, if◌then◌else◌, Kind}
+use Rattle.bbm_rules.proofs.Common.{page_of}
 use Rattle.bbm_place_map.specs.Map.{marks_at, value_at}
-use Rattle.bbm_place_map.specs.declared.map.PlaceMap.{PlaceMap}
-use Rattle.bbm_regimes.specs.declared.regime.Kind.{Kind}
-use Rattle.bbm_rules.specs.Places.{page_of}
-use Rattle.bbm_tree_index.specs.IndexAgreement.{Sound}
-use Rattle.bbm_tree_index.specs.Climbs.{cut_by, passes_at}
-use Rattle.bbm_tree_index.specs.Leaving.{leaves_role}
-use Rattle.bbm_tree_index.specs.Nodes.{node_with}
 use Rattle.bbm_tree_index.specs.declared.climb.Asked.TheVariants as asked
-use Rattle.bbm_tree_index.specs.declared.leaving.Leaving.{Leaving}
-use Rattle.bbm_tree_index.specs.declared.leaving.Leaving.TheVariants.{Unheld, Root, Below as Under}
-use Rattle.bbm_tree_index.specs.declared.role.Role.{Role}
-use Rattle.bbm_tree_index.specs.declared.role.Role.TheVariants.{Untracked, Fresh, RootPage, Hangs, Gone, Null}
+use Rattle.bbm_tree_index.specs.declared.leaving.Leaving.TheVariants.{Root, Below as Under}
 use Rattle.bbm_tree_index.proofs.Keeping.{cut_same, held_same, left_cut}
 
 module _ (map : PlaceMap) (roles : ℕ → Role) (heading : Heading) (sound : Sound roles heading) (map' : PlaceMap)

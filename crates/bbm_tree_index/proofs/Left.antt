@@ -1,18 +1,11 @@
 -- The words of an index after pages left.
-use Rattle.std.proofs.Common.{◌≡◌, ℕ, Bool, true, false, not, Option, Some, None, refl, sym, ap, ◌∙◌, subst}
-use Rattle.std.proofs.Common.{if◌then◌else◌}
-use Rattle.bbm_place_map.specs.declared.map.PlaceMap.{PlaceMap}
-use Rattle.bbm_rules.specs.Tree.{Node}
-use Rattle.bbm_tree_index.specs.IndexAgreement.{IsSound, Sound}
-use Rattle.bbm_tree_index.specs.HeldCores.{kept}
-use Rattle.bbm_tree_index.specs.HeldCores.{leaves as leaves_node}
+use Rattle.bbm_tree_index.proofs.Common.{PlaceMap, IsSound, Sound, leaves_role, stays, is_fresh_role, is_null_role}
+use Rattle.bbm_tree_index.proofs.Common.{node_by, TreeIndex, Leaving, Role, Untracked, Fresh, RootPage, Hangs, Gone}
+use Rattle.bbm_tree_index.proofs.Common.{Null}
+use Rattle.bbm_rules.proofs.Common.{◌≡◌, ℕ, Bool, true, false, not, Option, Some, None, refl, sym, ap, ◌∙◌, subst}
+use Rattle.bbm_rules.proofs.Common.{if◌then◌else◌, Node}
+use Rattle.bbm_tree_index.specs.HeldCores.{kept, leaves as leaves_node}
 use Rattle.bbm_tree_index.specs.Index.{fresh_in, heading_of, known_in, node_in, null_in, role_in}
-use Rattle.bbm_tree_index.specs.Leaving.{leaves_role, stays}
-use Rattle.bbm_tree_index.specs.Nodes.{is_fresh_role, is_null_role, node_by}
-use Rattle.bbm_tree_index.specs.declared.index.TreeIndex.{TreeIndex}
-use Rattle.bbm_tree_index.specs.declared.leaving.Leaving.{Leaving}
-use Rattle.bbm_tree_index.specs.declared.role.Role.{Role}
-use Rattle.bbm_tree_index.specs.declared.role.Role.TheVariants.{Untracked, Fresh, RootPage, Hangs, Gone, Null}
 use Rattle.bbm_tree_index.proofs.Keeping.{closed, leaves_at}
 use Rattle.bbm_tree_index.proofs.Sweeping.{node_swept, sound_swept}
 

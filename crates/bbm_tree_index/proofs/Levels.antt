@@ -1,11 +1,8 @@
 -- The nodes of a level, and those of the next.
-use Rattle.std.proofs.Common.{◌≡◌, ℕ, zero, suc, Bool, true, false, ◌||◌, ◌==◌, List, [], ◌∷◌, ◌++◌, Option, Some, None}
-use Rattle.std.proofs.Common.{is_some, length, refl, sym, ap, ◌∙◌, subst, true≢false, arith}
-use Rattle.std.proofs.lemmas.Bool.{eqb-true}
-use Rattle.bbm_rules.specs.Places.{page_of}
-use Rattle.bbm_rules.specs.Tree.{Node}
-use Rattle.bbm_tree_index.specs.Survey.{Counts, Goes, Partly, Reached, Step}
-use Rattle.bbm_tree_index.specs.declared.mark.Mark.{Mark}
+use Rattle.bbm_tree_index.proofs.Common.{Counts, Goes, Partly, Reached, Step, Mark}
+use Rattle.bbm_rules.proofs.Common.{◌≡◌, ℕ, zero, suc, Bool, true, false, ◌||◌, ◌==◌, List, [], ◌∷◌, ◌++◌, Option, Some}
+use Rattle.bbm_rules.proofs.Common.{None, is_some, length, refl, sym, ap, ◌∙◌, subst, true≢false, arith, eqb-true}
+use Rattle.bbm_rules.proofs.Common.{page_of, Node}
 use Rattle.bbm_tree_index.proofs.Counting.{counts_same, or_cases}
 use Rattle.bbm_tree_index.proofs.Places.{at_page}
 

@@ -1,13 +1,7 @@
 -- Whether a place is in limbo, by the role of its page.
-use Rattle.std.proofs.Common.{◌≡◌, ℕ, ◌<◌, ◌≤◌, Some, refl, ap, arith}
-use Rattle.bbm_regimes.specs.declared.regime.Kind.{Kind}
-use Rattle.bbm_rules.specs.Tree.{Node}
-use Rattle.bbm_tree_index.specs.IndexAgreement.{IsSound}
+use Rattle.bbm_tree_index.proofs.Common.{IsSound, above_by, node_with, TreeIndex, Role, Hangs}
+use Rattle.bbm_rules.proofs.Common.{◌≡◌, ℕ, ◌<◌, ◌≤◌, Some, refl, ap, arith, Kind, Node}
 use Rattle.bbm_tree_index.specs.Index.{heading_of, node_in, role_in}
-use Rattle.bbm_tree_index.specs.Nodes.{above_by, node_with}
-use Rattle.bbm_tree_index.specs.declared.index.TreeIndex.{TreeIndex}
-use Rattle.bbm_tree_index.specs.declared.role.Role.{Role}
-use Rattle.bbm_tree_index.specs.declared.role.Role.TheVariants.{Hangs}
 
 -- the node of a page that hangs at a place
 pub hanging : (index : TreeIndex) (page parent level base first : ℕ) (kind : Kind)

@@ -1,8 +1,7 @@
 -- The places of a page.
-use Rattle.std.proofs.Common.{◌≡◌, ℕ, ◌<◌, ◌+◌, ◌*◌, ◌/◌, ◌%◌, true, ◌==◌, sym, arith, subst}
-use Rattle.std.proofs.lemmas.Bool.{and_from, and_parts, eqb-true, eq-eqb}
-use Rattle.bbm_rules.specs.Places.{page_of}
-use Rattle.bbm_tree_index.specs.HeldCores.{is_at}
+use Rattle.bbm_tree_index.proofs.Common.{is_at}
+use Rattle.bbm_rules.proofs.Common.{◌≡◌, ℕ, ◌<◌, ◌+◌, ◌*◌, ◌/◌, ◌%◌, true, ◌==◌, sym, arith, subst, and_from, and_parts}
+use Rattle.bbm_rules.proofs.Common.{eqb-true, eq-eqb, page_of}
 
 -- a place is the one of its number in its page
 place_number : (page a : ℕ) → a / 4096 * 4096 ≡ page → a % 8 ≡ 0 → a ≡ page + 8 * (a % 4096 / 8)

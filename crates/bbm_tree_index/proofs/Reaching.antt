@@ -1,20 +1,13 @@
 -- Paths through fresh pages, by steps, and what it means that pages can be attached.
-use Rattle.std.proofs.Common.{◌≡◌, ℕ, zero, suc, ◌<◌, ◌+◌, ◌==◌, Bool, true, false, List, [], ◌∷◌, Some, None, Contains}
-use Rattle.std.proofs.Common.{length, inl, inr, refl, sym, ap, ◌∙◌, subst, true≢false, arith}
-use Rattle.std.proofs.lemmas.Bool.{eqb-true, eq-eqb}
-use Rattle.std.proofs.lemmas.Option.{none-some}
-use Rattle.bbm_descriptor.specs.Descriptor.{desc_as, invalid, leaf}
-use Rattle.bbm_descriptor.specs.Fields.{type_bits}
-use Rattle.bbm_regimes.specs.declared.regime.Kind.{Kind}
-use Rattle.bbm_rules.specs.Attach.{end_at}
-use Rattle.bbm_rules.specs.Tree.{Node, next_in, next_of, node_below}
-use Rattle.bbm_tree_index.specs.Attaching.{IsUnfresh, Never}
-use Rattle.bbm_tree_index.specs.Paths.{Attached, Through}
-use Rattle.bbm_tree_index.specs.Survey.{Goes}
+use Rattle.bbm_tree_index.proofs.Common.{IsUnfresh, Never, Attached, Goes}
+use Rattle.bbm_rules.proofs.Common.{◌≡◌, ℕ, zero, suc, ◌<◌, ◌+◌, ◌==◌, Bool, true, false, List, [], ◌∷◌, Some, None}
+use Rattle.bbm_rules.proofs.Common.{Contains, length, inl, inr, refl, sym, ap, ◌∙◌, subst, true≢false, arith}
+use Rattle.bbm_rules.proofs.Common.{if◌then◌else◌, eqb-true, eq-eqb, none-some, desc_as, invalid, leaf, type_bits, Kind}
+use Rattle.bbm_rules.proofs.Common.{end_at, Node, next_in, next_of, node_below}
+use Rattle.bbm_tree_index.specs.Paths.{Through}
 use Rattle.bbm_tree_index.proofs.Hung.{Reach}
 use Rattle.bbm_tree_index.proofs.Starts.{goes_kind}
 use Rattle.bbm_tree_index.proofs.Ways.{goes_leads, goes_same}
-use Rattle.std.proofs.Common.{if◌then◌else◌}
 
 -- there are no tables at level 3
 no_table : (kind : Kind) (value : ℕ) (a b : Bool)

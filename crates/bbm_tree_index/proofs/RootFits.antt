@@ -1,17 +1,12 @@
 -- The pages of a root fit below the end of the addresses.
-use Rattle.std.proofs.Common.{◌≡◌, ℕ, zero, suc, ◌<◌, ◌≤◌, ◌+◌, ◌-◌, ◌*◌, ◌%◌, ◌^◌, Bool, true, false, cond, ◌||◌, ◌==◌}
-use Rattle.std.proofs.Common.{arith, inl, inr, subst, sym}
-use Rattle.std.proofs.lemmas.Bool.{and_parts, eqb-true, leb-true, ltb-true, or_cases}
-use Rattle.std.proofs.lemmas.Option.{same_Some}
-use Rattle.bbm_events.specs.Fits.{is_root_page}
-use Rattle.bbm_events.specs.Heading.{Heading, heading_ok}
-use Rattle.bbm_regimes.specs.World.{first_input_page, input_pages, page_count, start_of, world_ok}
-use Rattle.bbm_regimes.specs.declared.regime.Kind.{Kind}
-use Rattle.bbm_regimes.specs.declared.regime.Kind.TheVariants.{El2, S2, Ttbr0, Ttbr1}
+use Rattle.bbm_tree_index.proofs.Common.{Heading, first_input_page, start_of, Ttbr0, Fits, RoleFits, RootPage}
+use Rattle.bbm_rules.proofs.Common.{◌≡◌, ℕ, zero, suc, ◌<◌, ◌≤◌, ◌+◌, ◌-◌, ◌*◌, ◌%◌, ◌^◌, Bool, true, false, cond, ◌||◌}
+use Rattle.bbm_rules.proofs.Common.{◌==◌, arith, inl, inr, subst, sym, and_parts, eqb-true, leb-true, ltb-true}
+use Rattle.bbm_rules.proofs.Common.{or_cases, same_Some, is_root_page, heading_ok, page_count, world_ok, Kind}
+use Rattle.bbm_regimes.specs.World.{input_pages}
+use Rattle.bbm_regimes.specs.declared.regime.Kind.TheVariants.{El2, S2, Ttbr1}
 use Rattle.bbm_regimes.specs.declared.regime.World.{World}
 use Rattle.bbm_regimes.specs.declared.regime.World.TheVariants.{Hyp, Kernel}
-use Rattle.bbm_tree_index.specs.Spots.{Fits, RoleFits}
-use Rattle.bbm_tree_index.specs.declared.role.Role.TheVariants.{RootPage}
 
 one_or : (P : ℕ → Type 0) (n m : ℕ) (rest : Bool) → (rest ≡ true → P n) → P m → (rest || n == m) ≡ true → P n
 one_or P n m rest by p k =

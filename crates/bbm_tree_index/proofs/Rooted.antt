@@ -1,17 +1,12 @@
 -- The table of the pages of a root.
-use Rattle.std.proofs.Common.{◌≡◌, ℕ, zero, suc, ◌<◌, ◌≤◌, ◌+◌, ◌-◌, ◌*◌, ◌/◌, ◌%◌, ◌^◌, ◌==◌, Bool, true, false, List}
-use Rattle.std.proofs.Common.{[], Option, Some, None, Contains, is_some, refl, sym, ap, ◌∙◌, subst, true≢false}
-use Rattle.std.proofs.Common.{if◌then◌else◌, arith, add-one}
-use Rattle.std.proofs.lemmas.Bool.{eqb-true, eq-eqb}
-use Rattle.std.proofs.lemmas.Option.{none-some, same_Some}
-use Rattle.bbm_events.specs.Heading.{Heading}
-use Rattle.bbm_regimes.specs.declared.regime.Kind.{Kind}
-use Rattle.bbm_rules.specs.Roots.{first_input_page, input_pages, kind_in_world, page_count, pages_from, start_of}
-use Rattle.bbm_rules.specs.Tree.{Node, nodes_of_pages, nodes_of_root}
-use Rattle.bbm_tree_index.specs.Spots.{RoleFits, spot_with}
-use Rattle.bbm_tree_index.specs.Survey.{Counts, Starting, Well, joined, role_as, root_marks, spot_as}
-use Rattle.bbm_tree_index.specs.declared.mark.Mark.{Mark}
-use Rattle.bbm_tree_index.specs.declared.role.Role.TheVariants.{RootPage}
+use Rattle.bbm_tree_index.proofs.Common.{Heading, page_count, RoleFits, spot_with, Counts, Starting, Well, joined}
+use Rattle.bbm_tree_index.proofs.Common.{role_as, root_marks, spot_as, Mark, RootPage}
+use Rattle.bbm_rules.proofs.Common.{◌≡◌, ℕ, zero, suc, ◌<◌, ◌≤◌, ◌+◌, ◌-◌, ◌*◌, ◌/◌, ◌%◌, ◌^◌, ◌==◌, Bool, true, false}
+use Rattle.bbm_rules.proofs.Common.{List, [], Option, Some, None, Contains, is_some, refl, sym, ap, ◌∙◌, subst}
+use Rattle.bbm_rules.proofs.Common.{true≢false, if◌then◌else◌, arith, add-one, eqb-true, eq-eqb, none-some, same_Some}
+use Rattle.bbm_rules.proofs.Common.{Kind, input_pages, kind_in_world, pages_from, start_of, Node, nodes_of_pages}
+use Rattle.bbm_rules.proofs.Common.{nodes_of_root}
+use Rattle.bbm_rules.specs.Roots.{first_input_page}
 
 part_of : (first i : ℕ) → (first + 4096 * i - first) / 4096 ≡ i
 part_of first i = omega arith

@@ -1,18 +1,11 @@
 -- The places of a page, one after the other.
-use Rattle.std.proofs.Common.{◌≡◌, ℕ, ◌<◌, ◌≤◌, ◌+◌, ◌*◌, ◌/◌, ◌%◌, Bool, true, false, ◌&&◌, ◌||◌, ◌==◌, nat_lt, List, Option}
-use Rattle.std.proofs.Common.{refl, sym, ap, ◌∙◌, true≢false, arith}
-use Rattle.std.proofs.lemmas.Bool.{eqb-true, eqb-false, ltb-true, ltb-false, lt-ltb}
-use Rattle.std.proofs.lemmas.Option.{none-some}
-use Rattle.bbm_lemmas.proofs.Tautologies.{proved}
-use Rattle.bbm_lemmas.proofs.Tautologies.Claim.{Is}
-use Rattle.bbm_rules.specs.Places.{index_of, page_of}
-use Rattle.bbm_rules.specs.Tree.{Node, next_of}
-use Rattle.bbm_tree_index.specs.HeldCores.{is_at}
-use Rattle.bbm_tree_index.specs.Survey.{Counts, Partly}
-use Rattle.bbm_tree_index.specs.declared.mark.Mark.{Mark}
+use Rattle.bbm_tree_index.proofs.Common.{is_at, Counts, Partly, Mark}
+use Rattle.bbm_rules.proofs.Common.{◌≡◌, ℕ, ◌<◌, ◌≤◌, ◌+◌, ◌*◌, ◌/◌, ◌%◌, Bool, true, false, ◌&&◌, ◌||◌, ◌==◌, nat_lt}
+use Rattle.bbm_rules.proofs.Common.{List, Option, refl, sym, ap, ◌∙◌, true≢false, arith, eqb-true, eqb-false, ltb-true}
+use Rattle.bbm_rules.proofs.Common.{ltb-false, lt-ltb, none-some, proved, Is, index_of, page_of, Node, next_of}
+use Rattle.bbm_rules.proofs.Common.{and-false}
 use Rattle.bbm_tree_index.proofs.Counting.{counts_same}
 use Rattle.bbm_tree_index.proofs.Places.{at_page, place_is}
-use mathlib.Core.Bool.{and-false}
 
 -- two tests that agree on places
 pub partly_same : (fresh : ℕ → Bool) (value : ℕ → ℕ) (starts : List Node) (k : ℕ) (done done' : ℕ → Bool)

@@ -1,16 +1,8 @@
 -- Which changes keep an index sound.
-use Rattle.std.proofs.Common.{◌≡◌, ℕ, ◌<◌, ◌≤◌, ◌+◌, ◌*◌, ◌^◌, Some, refl, sym, ap, ◌∙◌, subst}
-use Rattle.std.proofs.lemmas.Option.{none-some, same_Some}
-use Rattle.bbm_events.specs.Heading.{Heading}
-use Rattle.bbm_rules.specs.Places.{page_of}
-use Rattle.bbm_rules.specs.Roots.{input_pages}
-use Rattle.bbm_rules.specs.Tree.{Node}
-use Rattle.bbm_tree_index.specs.IndexAgreement.{Sound}
-use Rattle.bbm_tree_index.specs.Nodes.{node_with}
-use Rattle.bbm_tree_index.specs.Spots.{Fits, RoleFits, spot_with}
-use Rattle.bbm_tree_index.specs.declared.role.Role.{Role}
-use Rattle.bbm_tree_index.specs.declared.role.Role.TheVariants.{Untracked, Fresh, RootPage, Hangs, Gone, Null}
-use Rattle.bbm_tree_index.specs.declared.spot.Spot.{Spot}
+use Rattle.bbm_tree_index.proofs.Common.{Heading, Sound, node_with, Fits, RoleFits, spot_with, Role, Untracked, Fresh}
+use Rattle.bbm_tree_index.proofs.Common.{RootPage, Hangs, Gone, Null, Spot}
+use Rattle.bbm_rules.proofs.Common.{◌≡◌, ℕ, ◌<◌, ◌≤◌, ◌+◌, ◌*◌, ◌^◌, Some, refl, sym, ap, ◌∙◌, subst, none-some}
+use Rattle.bbm_rules.proofs.Common.{same_Some, page_of, input_pages, Node}
 use Rattle.bbm_tree_index.proofs.Climbing.{SameTrees, hangs_part, node_same, tree_part}
 
 pub sound_same : (roles roles' : ℕ → Role) (heading : Heading) → SameTrees roles roles' → Sound roles heading

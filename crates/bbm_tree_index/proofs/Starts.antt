@@ -1,14 +1,9 @@
 -- From the starts on.
-use Rattle.std.proofs.Common.{◌≡◌, ℕ, zero, suc, ◌+◌, Bool, List, [], ◌∷◌, ◌++◌, Option, Some, Contains, length, nat_eq}
-use Rattle.std.proofs.Common.{slice_get, is_some, refl, sym, ap, ◌∙◌, subst, arith}
-use Rattle.std.proofs.lemmas.Option.{none-some, same_Some}
-use Rattle.indexmap.specs.IndexMap.{IndexMap, get}
-use Rattle.bbm_events.specs.Heading.{Heading}
-use Rattle.bbm_rules.specs.Tree.{Node}
-use Rattle.bbm_tree_index.specs.Spots.{spot_with}
-use Rattle.bbm_tree_index.specs.Survey.{Counts, Goes, Plain, Reached, Starting, Surveyed, Uniform, Well, role_as}
-use Rattle.bbm_tree_index.specs.Survey.{spot_as}
-use Rattle.bbm_tree_index.specs.declared.mark.Mark.{Mark}
+use Rattle.bbm_tree_index.proofs.Common.{IndexMap, get, Heading, spot_with, Counts, Goes, Plain, Reached, Starting}
+use Rattle.bbm_tree_index.proofs.Common.{Surveyed, Uniform, Well, role_as, spot_as, Mark}
+use Rattle.bbm_rules.proofs.Common.{◌≡◌, ℕ, zero, suc, ◌+◌, Bool, List, [], ◌∷◌, ◌++◌, Option, Some, Contains, length}
+use Rattle.bbm_rules.proofs.Common.{nat_eq, slice_get, is_some, refl, sym, ap, ◌∙◌, subst, arith, none-some, same_Some}
+use Rattle.bbm_rules.proofs.Common.{Node}
 use Rattle.bbm_tree_index.proofs.Counting.{counts_same}
 
 module _ (fresh : ℕ → Bool) (value : ℕ → ℕ) where

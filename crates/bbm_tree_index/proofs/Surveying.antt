@@ -1,17 +1,11 @@
 -- What a survey tells, where pages can be attached.
-use Rattle.std.proofs.Common.{◌≡◌, ℕ, ◌<◌, ◌≤◌, ◌+◌, ◌⊎◌, Bool, true, List, Option, Some, None, Contains, is_some}
-use Rattle.std.proofs.Common.{get_or, length, nat_eq, slice_get, unwrap_or, inl, inr, refl, sym, ap, ◌∙◌, true≢false}
-use Rattle.std.proofs.Common.{arith}
-use Rattle.std.proofs.lemmas.Option.{none-some, same_Some, slice_get_cases}
-use Rattle.indexmap.specs.IndexMap.{IndexMap, get}
-use Rattle.bbm_events.specs.Heading.{Heading}
-use Rattle.bbm_rules.specs.Tree.{Node}
-use Rattle.bbm_tree_index.specs.Hanging.{Given, Hung}
-use Rattle.bbm_tree_index.specs.Spots.{Fits, spot_with}
-use Rattle.bbm_tree_index.specs.Survey.{Counts, Found, Reached, Starting, Surveyed, role_as, spot_as}
-use Rattle.bbm_tree_index.specs.declared.mark.Mark.{Mark}
-use Rattle.bbm_tree_index.specs.declared.role.Role.{Role}
-use Rattle.bbm_tree_index.specs.declared.role.Role.TheVariants.{Untracked}
+use Rattle.bbm_tree_index.proofs.Common.{IndexMap, get, Heading, Hung, Fits, spot_with, Counts, Found, Reached}
+use Rattle.bbm_tree_index.proofs.Common.{Starting, Surveyed, role_as, spot_as, Mark, Role, Untracked}
+use Rattle.bbm_rules.proofs.Common.{◌≡◌, ℕ, ◌<◌, ◌≤◌, ◌+◌, ◌⊎◌, Bool, true, List, Option, Some, None, Contains, is_some}
+use Rattle.bbm_rules.proofs.Common.{get_or, length, nat_eq, slice_get, unwrap_or, inl, inr, refl, sym, ap, ◌∙◌}
+use Rattle.bbm_rules.proofs.Common.{true≢false, arith, none-some, same_Some, Node}
+use Rattle.std.proofs.lemmas.Option.{slice_get_cases}
+use Rattle.bbm_tree_index.specs.Hanging.{Given}
 use Rattle.bbm_tree_index.proofs.Hung.{Reach}
 use Rattle.bbm_tree_index.proofs.Reaching.{goes_shallow}
 use Rattle.bbm_tree_index.proofs.Starts.{goes_kind, plain}

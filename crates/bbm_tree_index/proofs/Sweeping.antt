@@ -1,15 +1,10 @@
 -- Nodes and soundness after pages left, where with a page each page that hangs on it leaves.
-use Rattle.std.proofs.Common.{◌≡◌, ℕ, zero, suc, Bool, true, false, List, [], ◌∷◌, Option, Some, None, refl, sym, ap}
-use Rattle.std.proofs.Common.{◌∙◌, subst, true≢false, if◌then◌else◌}
-use Rattle.std.proofs.lemmas.Option.{none-some}
-use Rattle.bbm_events.specs.Heading.{Heading}
-use Rattle.bbm_regimes.specs.declared.regime.Kind.{Kind}
-use Rattle.bbm_rules.specs.Places.{page_of}
-use Rattle.bbm_rules.specs.Tree.{Above, Node, node_below}
-use Rattle.bbm_tree_index.specs.IndexAgreement.{Below, Sound}
-use Rattle.bbm_tree_index.specs.Nodes.{above_by, node_by, node_with}
-use Rattle.bbm_tree_index.specs.declared.role.Role.{Role}
-use Rattle.bbm_tree_index.specs.declared.role.Role.TheVariants.{Untracked, Fresh, RootPage, Hangs, Gone, Null}
+use Rattle.bbm_tree_index.proofs.Common.{Heading, Sound, above_by, node_by, node_with, Role, Untracked, Fresh, RootPage}
+use Rattle.bbm_tree_index.proofs.Common.{Hangs, Gone, Null}
+use Rattle.bbm_rules.proofs.Common.{◌≡◌, ℕ, zero, suc, Bool, true, false, List, [], ◌∷◌, Option, Some, None, refl, sym}
+use Rattle.bbm_rules.proofs.Common.{ap, ◌∙◌, subst, true≢false, if◌then◌else◌, none-some, Kind, page_of, Above, Node}
+use Rattle.bbm_rules.proofs.Common.{node_below}
+use Rattle.bbm_tree_index.specs.IndexAgreement.{Below}
 use Rattle.bbm_tree_index.proofs.Cutting.{above_node}
 
 -- the node of a page that hangs at a place is the one below the node of that place

@@ -1,31 +1,15 @@
 -- How far pages have left, over the table of roles.
-use Rattle.std.proofs.Common.{◌≡◌, ℕ, ◌≤◌, ◌+◌, Bool, true, false, ◌&&◌, ◌||◌, ◌==◌, Option, Some, None}
-use Rattle.std.proofs.Common.{is_some, nat_eq, take, slice_get, refl, sym, ap, ◌∙◌, subst, true≢false}
-use Rattle.std.proofs.Common.{if◌then◌else◌, arith}
-use Rattle.std.specs.List.{list_any}
-use Rattle.bbm_lemmas.proofs.Tautologies.{proved}
-use Rattle.bbm_lemmas.proofs.Tautologies.Claim.{Is}
-use Rattle.indexmap.specs.IndexMap.{IndexMap, get, keys}
-use Rattle.bbm_events.specs.Heading.{Heading}
+use Rattle.bbm_tree_index.proofs.Common.{IndexMap, get, keys, index_map_len, Heading, PlaceMap, Sound, Releases}
+use Rattle.bbm_tree_index.proofs.Common.{leaves_role, roles_of, Leaving, Role, Untracked, Gone, Hangs, node_with}
+use Rattle.bbm_rules.proofs.Common.{◌≡◌, ℕ, ◌≤◌, ◌+◌, Bool, true, false, ◌&&◌, ◌||◌, ◌==◌, Option, Some, None, is_some}
+use Rattle.bbm_rules.proofs.Common.{nat_eq, take, slice_get, refl, sym, ap, ◌∙◌, subst, true≢false, if◌then◌else◌}
+use Rattle.bbm_rules.proofs.Common.{arith, unwrap_or, list_any, proved, Is, page_of, and_parts, eqb-true, or_parts}
+use Rattle.bbm_rules.proofs.Common.{Kind, and-false}
 use Rattle.bbm_place_map.specs.Map.{marks_at, pends_at}
 use Rattle.bbm_entry_state.specs.EntryStanding.{IsIdle}
-use Rattle.bbm_place_map.specs.declared.map.PlaceMap.{PlaceMap}
-use Rattle.bbm_rules.specs.Places.{page_of}
-use Rattle.bbm_tree_index.specs.IndexAgreement.{Sound}
-use Rattle.bbm_tree_index.specs.IndexChanges.{Releases}
-use Rattle.bbm_tree_index.specs.Leaving.{LetsGo, leaves_in, leaves_role, roles_of}
-use Rattle.bbm_tree_index.specs.declared.leaving.Leaving.{Leaving}
-use Rattle.bbm_tree_index.specs.declared.role.Role.{Role}
-use Rattle.bbm_tree_index.specs.declared.role.Role.TheVariants.{Untracked, Gone}
+use Rattle.bbm_tree_index.specs.Leaving.{LetsGo, leaves_in}
 use Rattle.bbm_tree_index.proofs.Growing.{all_keys, first_more_keys, same_keys}
 use Rattle.bbm_tree_index.proofs.Leavings.{judged}
-use Rattle.std.proofs.lemmas.Bool.{and_parts, eqb-true, or_parts}
-use Rattle.std.proofs.Common.{unwrap_or}
-use Rattle.bbm_regimes.specs.declared.regime.Kind.{Kind}
-use Rattle.bbm_tree_index.specs.Nodes.{node_with}
-use Rattle.bbm_tree_index.specs.declared.role.Role.TheVariants.{Hangs}
-use Rattle.indexmap.specs.IndexMap.{index_map_len}
-use mathlib.Core.Bool.{and-false}
 
 module _ {S : Type 0} (table table' : IndexMap ℕ Role S) (map map' : PlaceMap) (leaving : Leaving) where
   abbrev pub leaves_first : ℕ → Bool

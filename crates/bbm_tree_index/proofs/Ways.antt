@@ -1,12 +1,8 @@
 -- A path tells the node at its end, and a node the path of so many places that reaches it.
-use Rattle.std.proofs.Common.{◌≡◌, ℕ, suc, Bool, List, [], ◌∷◌, length, refl, sym, ap, ◌∙◌, subst, arith}
-use Rattle.std.proofs.Math.Nat.{suc_inj}
-use Rattle.std.proofs.lemmas.Option.{same_Some}
-use Rattle.bbm_rules.specs.Attach.{End, end_at}
-use Rattle.bbm_rules.specs.Places.{page_of}
-use Rattle.bbm_rules.specs.Tree.{Node, node_below}
+use Rattle.bbm_tree_index.proofs.Common.{Goes}
+use Rattle.bbm_rules.proofs.Common.{◌≡◌, ℕ, suc, Bool, List, [], ◌∷◌, length, refl, sym, ap, ◌∙◌, subst, arith, suc_inj}
+use Rattle.bbm_rules.proofs.Common.{same_Some, End, end_at, page_of, Node, node_below}
 use Rattle.bbm_tree_index.specs.Paths.{Leads}
-use Rattle.bbm_tree_index.specs.Survey.{Goes}
 use Rattle.bbm_tree_index.proofs.Injective.{above_same, place_same}
 use Rattle.bbm_tree_index.proofs.Places.{at_page}
 

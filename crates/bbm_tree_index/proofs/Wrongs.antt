@@ -1,18 +1,11 @@
 -- What is wrong with a page, by the tables.
-use Rattle.std.proofs.Common.{◌≡◌, ℕ, ◌<◌, ◌≤◌, ◌+◌, ◌*◌, ◌/◌, ◌%◌, Bool, true, false, List, Option, Some}
-use Rattle.std.proofs.Common.{inl, inr, is_some, nat_eq, get_or, slice_get, length, sym, ap, ◌∙◌, subst}
-use Rattle.std.proofs.Common.{true≢false, arith}
-use Rattle.std.proofs.lemmas.List.{length-map}
-use Rattle.std.proofs.lemmas.Bool.{cases_lt, eqb-true}
-use Rattle.std.proofs.lemmas.Option.{same_Some, slice_get-get_or, slice_get_within}
-use Rattle.indexmap.specs.IndexMap.{IndexMap, get, index_map_len, keys}
-use Rattle.bbm_descriptor.specs.Descriptor.{desc_of}
-use Rattle.bbm_descriptor.specs.declared.desc.Desc.{Desc}
-use Rattle.bbm_regimes.specs.declared.regime.Kind.{Kind}
-use Rattle.bbm_tree_index.specs.Attaching.{IsLeast, Never}
-use Rattle.bbm_tree_index.specs.HeldCores.{is_at}
-use Rattle.bbm_tree_index.specs.LeastPages.{Before, LeafIn, LeafOf, LeafPlace, LeastOf, WrongIn, WrongPage}
-use Rattle.bbm_tree_index.specs.declared.mark.Mark.{Mark}
+use Rattle.bbm_tree_index.proofs.Common.{length-map, IndexMap, get, index_map_len, keys, IsLeast, Never, is_at, Before}
+use Rattle.bbm_tree_index.proofs.Common.{LeafOf, LeafPlace, LeastOf, WrongPage, Mark}
+use Rattle.bbm_rules.proofs.Common.{◌≡◌, ℕ, ◌<◌, ◌≤◌, ◌+◌, ◌*◌, ◌/◌, ◌%◌, Bool, true, false, List, Option, Some, inl}
+use Rattle.bbm_rules.proofs.Common.{inr, is_some, nat_eq, get_or, slice_get, length, sym, ap, ◌∙◌, subst, true≢false}
+use Rattle.bbm_rules.proofs.Common.{arith, cases_lt, eqb-true, same_Some, slice_get_within, desc_of, Desc, Kind}
+use Rattle.std.proofs.lemmas.Option.{slice_get-get_or}
+use Rattle.bbm_tree_index.specs.LeastPages.{LeafIn, WrongIn}
 use Rattle.bbm_tree_index.proofs.Growing.{all_keys, any_at}
 use Rattle.bbm_tree_index.proofs.Leasts.{least_same}
 use Rattle.bbm_tree_index.proofs.Places.{place_is}

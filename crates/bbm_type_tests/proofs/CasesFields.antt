@@ -1,6 +1,5 @@
 -- Worked cases: values of places by the tables of descriptor fields, those of the worked logs among them.
-use Rattle.std.specs.Prelude.{[], ◌∷◌, true, false, refl}
-use Rattle.bbm_regimes.specs.declared.regime.Kind.TheVariants.{El2, S2, Ttbr0, Ttbr1}
+use Rattle.bbm_type_tests.proofs.Common.{[], ◌∷◌, true, false, refl, El2, S2, Ttbr0, Ttbr1}
 use Rattle.bbm_descriptor.specs.declared.desc.Desc.TheVariants.{Invalid, Table, Leaf}
 use Rattle.bbm_descriptor.specs.Descriptor.{desc_of, needs}
 use Rattle.bbm_type_tests.proofs.Rows.{Gives3, Gives4}

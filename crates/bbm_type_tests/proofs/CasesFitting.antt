@@ -1,16 +1,13 @@
 -- Worked cases: values of root registers, intervals of pages, the span of a descriptor, and what fits a header.
-use Rattle.std.specs.Prelude.{ℕ, Bool, [], ◌∷◌, ◌*◌, ◌^◌, true, false, Option, Some, None, refl}
-use Rattle.bbm_regimes.specs.Extent.{Extent, meets, holds, span_of}
+use Rattle.bbm_type_tests.proofs.Common.{ℕ, Bool, [], ◌∷◌, true, false, Option, Some, None, refl, Extent, El2, S2}
+use Rattle.bbm_type_tests.proofs.Common.{World, Hyp, Alle2is, Vae2is, Rvae2is, Heading}
+use Rattle.std.specs.Prelude.{◌*◌, ◌^◌}
+use Rattle.bbm_regimes.specs.Extent.{meets, holds, span_of}
 use Rattle.bbm_regimes.specs.Registers.{base_of, tag_number}
-use Rattle.bbm_regimes.specs.declared.regime.Kind.TheVariants.{El2, S2}
 use Rattle.bbm_regimes.specs.declared.regime.Tag.TheVariants as tag
-use Rattle.bbm_regimes.specs.declared.regime.World.{World}
-use Rattle.bbm_regimes.specs.declared.regime.World.TheVariants.{Hyp}
-use Rattle.bbm_tlbi_scope.specs.declared.op.TlbiOp.TheVariants.{Alle2is, Vae2is, Rvae2is}
 use Rattle.bbm_events.specs.declared.event.Event.TheVariants.{Lock, Tlbi, Root}
 use Rattle.bbm_events.specs.declared.claim.Claim.TheVariants.{Taken}
 use Rattle.bbm_events.specs.declared.certificate.ClaimItem.TheVariants as said
-use Rattle.bbm_events.specs.Heading.{Heading}
 use Rattle.bbm_events.specs.Fits.{fits_heading}
 use Rattle.bbm_events.specs.Certificate.{claim_fits}
 use Rattle.bbm_type_tests.proofs.Rows.{Gives, Gives2}

@@ -1,10 +1,9 @@
 -- Worked cases: the twelve options of a DSB.
-use Rattle.std.specs.Prelude.{Bool, List, [], ◌∷◌, true, false, map, refl}
-use Rattle.bbm_barriers.specs.declared.Dsb.{Dsb}
+use Rattle.bbm_type_tests.proofs.Common.{Bool, List, [], ◌∷◌, true, false, map, refl, Dsb, Inner, Non, All, Stores}
 use Rattle.bbm_barriers.specs.declared.Domain.{Domain}
-use Rattle.bbm_barriers.specs.declared.Domain.TheVariants.{Full, Inner, Outer, Non}
+use Rattle.bbm_barriers.specs.declared.Domain.TheVariants.{Full, Outer}
 use Rattle.bbm_barriers.specs.declared.Types.{Types}
-use Rattle.bbm_barriers.specs.declared.Types.TheVariants.{All, Stores, Loads}
+use Rattle.bbm_barriers.specs.declared.Types.TheVariants.{Loads}
 use Rattle.bbm_barriers.specs.Options.{publishes, answers}
 use Rattle.bbm_type_tests.proofs.Rows.{Gives2}
 

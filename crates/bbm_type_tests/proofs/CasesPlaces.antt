@@ -1,20 +1,14 @@
 -- Worked cases: how far TLBIs cover places.
-use Rattle.std.specs.Prelude.{ℕ, Bool, [], ◌∷◌, true, false, Option, Some, None, Result, Ok, Err, refl}
+use Rattle.bbm_type_tests.proofs.Common.{ℕ, Bool, [], ◌∷◌, true, false, Option, Some, None, Result, Ok, Err, refl, El2}
+use Rattle.bbm_type_tests.proofs.Common.{S2, Ttbr0, Ttbr1, TlbiOp, Alle1, Alle1is, Alle2, Aside1is, Ipas2e1is}
+use Rattle.bbm_type_tests.proofs.Common.{Ipas2le1is, Ripas2e1is, Rvae2is, Rvale2is, Vaae1is, Vae1is, Vae2is, Vale2is}
+use Rattle.bbm_type_tests.proofs.Common.{Vmalle1is, Vmalls12e1is, Scope, BadOperand, Cover, scope_of}
 use Rattle.bbm_regimes.specs.declared.regime.Kind.{Kind}
-use Rattle.bbm_regimes.specs.declared.regime.Kind.TheVariants.{El2, S2, Ttbr0, Ttbr1}
 use Rattle.bbm_regimes.specs.declared.regime.Tag.TheVariants as tag
-use Rattle.bbm_tlbi_scope.specs.declared.op.TlbiOp.{TlbiOp}
-use Rattle.bbm_tlbi_scope.specs.declared.op.TlbiOp.TheVariants.{Alle1, Alle1is, Alle2, Aside1is, Ipas2e1is, Ipas2le1is}
-use Rattle.bbm_tlbi_scope.specs.declared.op.TlbiOp.TheVariants.{Ripas2e1is, Rvae2is, Rvale2is, Vaae1is, Vae1is, Vae2is}
-use Rattle.bbm_tlbi_scope.specs.declared.op.TlbiOp.TheVariants.{Vale2is, Vmalle1is, Vmalls12e1is}
-use Rattle.bbm_tlbi_scope.specs.declared.scope.Scope.{Scope}
-use Rattle.bbm_tlbi_scope.specs.declared.scope.BadOperand.{BadOperand}
 use Rattle.bbm_tlbi_scope.specs.declared.entry.TagSet.{TagSet}
 use Rattle.bbm_tlbi_scope.specs.declared.entry.TagSet.TheVariants as tags
 use Rattle.bbm_tlbi_scope.specs.declared.entry.PlaceView.{PlaceView}
-use Rattle.bbm_tlbi_scope.specs.declared.entry.Cover.{Cover}
 use Rattle.bbm_tlbi_scope.specs.declared.entry.Cover.TheVariants as cover
-use Rattle.bbm_tlbi_scope.specs.Decode.{scope_of}
 use Rattle.bbm_tlbi_scope.specs.ScopeCovers.{cover_of}
 use Rattle.bbm_type_tests.proofs.Rows.{Gives2, Gives3}
 

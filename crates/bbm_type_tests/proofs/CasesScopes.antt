@@ -1,28 +1,21 @@
 -- Worked cases: what the operands of TLBIs name.
-use Rattle.std.specs.Prelude.{ℕ, Bool, [], ◌∷◌, true, false, Option, Some, None, Result, Ok, Err, refl}
-use Rattle.bbm_regimes.specs.Extent.{Extent}
-use Rattle.bbm_regimes.specs.declared.regime.World.TheVariants.{Hyp, Kernel}
+use Rattle.bbm_type_tests.proofs.Common.{ℕ, Bool, [], ◌∷◌, true, false, Option, Some, None, Result, Ok, Err, refl}
+use Rattle.bbm_type_tests.proofs.Common.{Extent, Hyp, Kernel, TlbiOp, Alle1, Alle2, Vae2is, Vale2is, Vmalle1, Vmalle1is}
+use Rattle.bbm_type_tests.proofs.Common.{Ipas2e1is, Ipas2le1is, Vae1is, Vaae1is, Aside1is, Rvae2is, Rvale2is}
+use Rattle.bbm_type_tests.proofs.Common.{Ripas2e1is, Scope, BadOperand, scope_of}
 use Rattle.bbm_regimes.specs.declared.regime.AsidFrom.TheVariants as from
 use Rattle.bbm_range.specs.declared.Range.{Range}
 use Rattle.bbm_range.specs.declared.BadRange.{BadRange}
 use Rattle.bbm_range.specs.declared.BadRange.TheVariants.{Granule, Unaligned}
 use Rattle.bbm_range.specs.RangePages.{range_of}
-use Rattle.bbm_tlbi_scope.specs.declared.op.TlbiOp.{TlbiOp}
-use Rattle.bbm_tlbi_scope.specs.declared.op.TlbiOp.TheVariants.{Alle1, Alle2, Vae2is, Vale2is, Vmalle1, Vmalle1is}
-use Rattle.bbm_tlbi_scope.specs.declared.op.TlbiOp.TheVariants.{Ipas2e1is, Ipas2le1is, Vae1is, Vaae1is}
-use Rattle.bbm_tlbi_scope.specs.declared.op.TlbiOp.TheVariants.{Aside1, Aside1is}
-use Rattle.bbm_tlbi_scope.specs.declared.op.TlbiOp.TheVariants.{Rvae2, Rvae2is, Rvale2, Rvale2is, Ripas2e1, Ripas2e1is}
-use Rattle.bbm_tlbi_scope.specs.declared.op.TlbiOp.TheVariants.{Ripas2le1, Ripas2le1is, Rvae1, Rvae1is}
-use Rattle.bbm_tlbi_scope.specs.declared.op.TlbiOp.TheVariants.{Rvale1, Rvale1is}
-use Rattle.bbm_tlbi_scope.specs.declared.op.TlbiOp.TheVariants.{Rvaae1, Rvaae1is, Rvaale1, Rvaale1is}
+use Rattle.bbm_tlbi_scope.specs.declared.op.TlbiOp.TheVariants.{Aside1, Rvae2, Rvale2, Ripas2e1, Ripas2le1, Ripas2le1is}
+use Rattle.bbm_tlbi_scope.specs.declared.op.TlbiOp.TheVariants.{Rvae1, Rvae1is, Rvale1, Rvale1is, Rvaae1, Rvaae1is}
+use Rattle.bbm_tlbi_scope.specs.declared.op.TlbiOp.TheVariants.{Rvaale1, Rvaale1is}
 use Rattle.bbm_tlbi_scope.specs.declared.scope.Family.{Family}
 use Rattle.bbm_tlbi_scope.specs.declared.scope.Family.TheVariants.{El2Va, Ipa, Va, VaAll}
-use Rattle.bbm_tlbi_scope.specs.declared.scope.Scope.{Scope}
-use Rattle.bbm_tlbi_scope.specs.declared.scope.BadOperand.{BadOperand}
 use Rattle.bbm_tlbi_scope.specs.declared.scope.BadOperand.TheVariants.{NonCanonical, TtlGranule, RangeGranule}
 use Rattle.bbm_tlbi_scope.specs.declared.scope.BadOperand.TheVariants.{RangeUnaligned}
 use Rattle.bbm_tlbi_scope.specs.Operations.{has_operand, scoped_by_vmid, of_world}
-use Rattle.bbm_tlbi_scope.specs.Decode.{scope_of}
 use Rattle.bbm_type_tests.proofs.Rows.{Gives, Gives2}
 
 abbrev of_scope : {A : Type 0} → (Scope → A) → Result Scope BadOperand → Result A BadOperand

@@ -1,17 +1,12 @@
 -- Worked cases: the first cause for which a line isn't well formed, and the lines of all forms of items.
-use Rattle.std.specs.Prelude.{◌≡◌, ℕ, List, [], ◌∷◌, ◌++◌, map, true, false, Option, Some, None, Result, Ok, Err}
-use Rattle.std.specs.Prelude.{codes, refl}
+use Rattle.bbm_type_tests.proofs.Common.{◌≡◌, ℕ, List, [], ◌∷◌, map, true, false, Option, Some, None, Result, Ok, Err}
+use Rattle.bbm_type_tests.proofs.Common.{refl, S2, World, Hyp, Kernel, Inner, Stores, Alle2is, Vae2is, Rvae2is, Heading}
+use Rattle.std.specs.Prelude.{◌++◌, codes}
 use Prim.Native.String.{String}
 use Rattle.std.specs.Fmt.{digits}
 use Rattle.bbm_regimes.specs.declared.regime.AsidFrom.TheVariants as from
-use Rattle.bbm_regimes.specs.declared.regime.Kind.TheVariants.{S2}
 use Rattle.bbm_regimes.specs.declared.regime.Reg.TheVariants.{VttbrEl2}
 use Rattle.bbm_regimes.specs.declared.regime.Tag.TheVariants as tag
-use Rattle.bbm_regimes.specs.declared.regime.World.{World}
-use Rattle.bbm_regimes.specs.declared.regime.World.TheVariants.{Hyp, Kernel}
-use Rattle.bbm_barriers.specs.declared.Domain.TheVariants.{Inner}
-use Rattle.bbm_barriers.specs.declared.Types.TheVariants.{Stores}
-use Rattle.bbm_tlbi_scope.specs.declared.op.TlbiOp.TheVariants.{Alle2is, Vae2is, Rvae2is}
 use Rattle.bbm_events.specs.declared.event.Event.TheVariants as event
 use Rattle.bbm_events.specs.declared.event.Item.TheVariants as item
 use Rattle.bbm_events.specs.declared.claim.Claim.TheVariants as claim
@@ -20,7 +15,6 @@ use Rattle.bbm_events.specs.declared.machine.MachineLine.TheVariants as step
 use Rattle.bbm_events.specs.declared.malformed.Malformed.{Malformed}
 use Rattle.bbm_events.specs.declared.malformed.Malformed.TheVariants.{NoMagic, BadHeader, UnknownWord, BadNumber, BadPe}
 use Rattle.bbm_events.specs.declared.malformed.Malformed.TheVariants.{BadAddress, MissingField, ExtraField, BadLabel}
-use Rattle.bbm_events.specs.Heading.{Heading}
 use Rattle.bbm_events.specs.Spelling.{decimal_value, hex_value}
 use Rattle.bbm_events.specs.Lines.{header_of, item_of, header_line, item_line}
 use Rattle.bbm_events.specs.Machine.{machine_of, machine_line}

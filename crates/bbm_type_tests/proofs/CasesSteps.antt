@@ -1,12 +1,9 @@
 -- Worked cases: how far two PEs are after steps of one place.
-use Rattle.std.specs.Prelude.{ℕ, Bool, true, false, ◌==◌, Option, Some, None, is_none, List, [], ◌∷◌, reverse, refl}
-use Rattle.std.specs.Prelude.{if◌then◌else◌}
+use Rattle.bbm_type_tests.proofs.Common.{ℕ, Bool, true, false, Option, Some, None, List, [], ◌∷◌, refl, Dsb, Inner, Non}
+use Rattle.bbm_type_tests.proofs.Common.{All, Stores, Cover}
+use Rattle.std.specs.Prelude.{◌==◌, is_none, reverse, if◌then◌else◌}
 use Rattle.bbm_descriptor.specs.declared.desc.Core.{Core}
 use Rattle.bbm_descriptor.specs.declared.desc.Core.TheVariants as core
-use Rattle.bbm_barriers.specs.declared.Dsb.{Dsb}
-use Rattle.bbm_barriers.specs.declared.Domain.TheVariants.{Inner, Non}
-use Rattle.bbm_barriers.specs.declared.Types.TheVariants.{All, Stores}
-use Rattle.bbm_tlbi_scope.specs.declared.entry.Cover.{Cover}
 use Rattle.bbm_tlbi_scope.specs.declared.entry.Cover.TheVariants.{Half, Second, Full}
 use Rattle.bbm_entry_state.specs.EntrySteps.{Step, Wrote, Barrier, Flush, since, some, is_write}
 use Rattle.bbm_entry_state.specs.EntryPatterns.{seen, half, cleansed, held}

@@ -1,18 +1,13 @@
 -- Worked cases: which entries and tags TLBIs take.
-use Rattle.std.specs.Prelude.{ℕ, Bool, [], ◌∷◌, true, false, Option, Some, None, Result, Ok, Err, refl}
+use Rattle.bbm_type_tests.proofs.Common.{ℕ, Bool, [], ◌∷◌, true, false, Option, Some, None, Result, Ok, Err, refl}
+use Rattle.bbm_type_tests.proofs.Common.{TlbiOp, Alle1, Alle1is, Aside1is, Ipas2e1is, Ripas2e1is, Rvale2is, Vae1is}
+use Rattle.bbm_type_tests.proofs.Common.{Vae2is, Vale2is, Vmalle1, Vmalle1is, Vmalls12e1is, Scope, BadOperand, scope_of}
 use Rattle.bbm_regimes.specs.declared.regime.Tag.{Tag}
 use Rattle.bbm_regimes.specs.declared.regime.Tag.TheVariants as tag
-use Rattle.bbm_tlbi_scope.specs.declared.op.TlbiOp.{TlbiOp}
-use Rattle.bbm_tlbi_scope.specs.declared.op.TlbiOp.TheVariants.{Alle1, Alle1is, Aside1is, Ipas2e1is}
-use Rattle.bbm_tlbi_scope.specs.declared.op.TlbiOp.TheVariants.{Ripas2e1is, Rvale2is}
-use Rattle.bbm_tlbi_scope.specs.declared.op.TlbiOp.TheVariants.{Vae1is, Vae2is, Vale1is, Vale2is, Vmalle1, Vmalle1is}
-use Rattle.bbm_tlbi_scope.specs.declared.op.TlbiOp.TheVariants.{Vmalls12e1is}
-use Rattle.bbm_tlbi_scope.specs.declared.scope.Scope.{Scope}
-use Rattle.bbm_tlbi_scope.specs.declared.scope.BadOperand.{BadOperand}
+use Rattle.bbm_tlbi_scope.specs.declared.op.TlbiOp.TheVariants.{Vale1is}
 use Rattle.bbm_tlbi_scope.specs.declared.entry.EntryKind.{EntryKind}
 use Rattle.bbm_tlbi_scope.specs.declared.entry.EntryKind.TheVariants.{El2, Stage2, Combined, El1}
 use Rattle.bbm_tlbi_scope.specs.declared.entry.EntryHead.{EntryHead}
-use Rattle.bbm_tlbi_scope.specs.Decode.{scope_of}
 use Rattle.bbm_tlbi_scope.specs.Takes.{taken}
 use Rattle.bbm_tlbi_scope.specs.ScopeTags.{takes_whole_tag}
 use Rattle.bbm_type_tests.proofs.Rows.{Gives3, Gives4}

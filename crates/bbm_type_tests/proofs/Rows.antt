@@ -1,5 +1,5 @@
 -- Tables of values that were worked out by hand: in each row stands what a definition is asked, and last what it gives.
-use Rattle.std.specs.Prelude.{◌≡◌, List, map}
+use Rattle.bbm_type_tests.proofs.Common.{◌≡◌, List, map}
 
 abbrev pub Gives : {A B : Type 0} → (A → B) → List (A × B) → Type 0
 Gives f rows = map (λ row. f row.0) rows ≡ map (λ row. row.1) rows

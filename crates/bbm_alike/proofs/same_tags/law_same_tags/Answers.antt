@@ -1,10 +1,5 @@
-use Rattle.std.proofs.Common.{◌≡◌, true, List, [], ◌∷◌, subst}
-use Rattle.bbm_lemmas.proofs.Elements.{to_contains}
-use Rattle.bbm_rules.specs.Broken.{keeps}
-use Rattle.bbm_rules.specs.Claims.Trust.{Patterns}
-use Rattle.bbm_rules.specs.Prelude.{Event}
-use Rattle.bbm_rules.specs.Reach.{unanswered}
-use Rattle.bbm_rules.specs.Tags.{itself}
+use Rattle.bbm_rules.proofs.Common.{◌≡◌, true, List, [], ◌∷◌, subst, to_contains, keeps, Patterns, Event, unanswered}
+use Rattle.bbm_rules.proofs.Common.{itself}
 use Rattle.bbm_alike.proofs.IdleTags.{same_after_dmb, same_after_dsb, same_after_isb, same_after_tlbi}
 use Rattle.bbm_alike.proofs.same_tags.law_same_tags.Goals as goal
 

@@ -1,9 +1,5 @@
-use Rattle.std.proofs.Common.{List, sym, ◌∙◌, ap, arith}
-use Rattle.bbm_rules.specs.Claims.Trust.{Listed}
-use Rattle.bbm_rules.specs.Prelude.{Event, Isb}
-use Rattle.bbm_rules.specs.Tags.{holds_at}
-use Rattle.bbm_cert.specs.Holdings.{has}
-use Rattle.bbm_oracle_tags.specs.declared.holding.Holding.{Holding}
+use Rattle.bbm_cert.proofs.Common.{has, Holding}
+use Rattle.bbm_rules.proofs.Common.{List, sym, ◌∙◌, ap, arith, Listed, Event, Isb, holds_at}
 use Rattle.bbm_cert.proofs.TagSteps.{first_of, holds_more}
 use Rattle.bbm_cert.proofs.by_claims.holds_from.Goals as goal
 

@@ -1,6 +1,4 @@
-use Rattle.std.proofs.Common.{◌≡◌, ◌≤◌, take, reverse}
-use Rattle.bbm_rules.specs.Claims.Trust.{Listed}
-use Rattle.bbm_rules.specs.Tags.{holds_at}
+use Rattle.bbm_rules.proofs.Common.{◌≡◌, ◌≤◌, take, reverse, Listed, holds_at}
 use Rattle.bbm_cert.proofs.by_claims.holds_from.Given as goal
 
 abbrev pub invariant-loop-i : goal.invariant-loop-i

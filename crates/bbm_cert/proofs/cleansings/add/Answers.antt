@@ -1,7 +1,6 @@
-use Rattle.std.proofs.Common.{◌≡◌, Bool, ◌||◌, sym, ◌∙◌, ap}
-use Rattle.std.proofs.lemmas.List.{get_or_default}
+use Rattle.bbm_cert.proofs.Common.{Cleansing}
+use Rattle.bbm_rules.proofs.Common.{◌≡◌, Bool, ◌||◌, sym, ◌∙◌, ap, get_or_default}
 use Rattle.bbm_regimes.specs.PeMask.{pe_in}
-use Rattle.bbm_cert.specs.declared.cleansings.Cleansing.{Cleansing}
 use Rattle.bbm_cert.proofs.Cleansed.{found_in, tells_set}
 use Rattle.bbm_cert.proofs.cleansings.add.Goals as goal
 

@@ -1,8 +1,5 @@
-use Rattle.std.proofs.Common.{Bool, ◌||◌, ◌&&◌, nat_lt, sym, ◌∙◌, ap}
-use Rattle.std.proofs.lemmas.Result.{on_ok_weaker}
-use Rattle.bbm_events.specs.declared.claim.Claim.{Claim}
-use Rattle.bbm_cert.specs.Cleansings.{tells}
-use Rattle.bbm_cert.specs.Marks.{is_of}
+use Rattle.bbm_cert.proofs.Common.{tells, is_of}
+use Rattle.bbm_rules.proofs.Common.{Bool, ◌||◌, ◌&&◌, nat_lt, sym, ◌∙◌, ap, on_ok_weaker, Claim}
 use Rattle.bbm_cert.proofs.Cleansed.{ends_elsewhere, ends_here}
 use Rattle.bbm_cert.proofs.cleansings.add_claim.Goals as goal
 

@@ -1,7 +1,5 @@
-use Rattle.std.proofs.Common.{◌≡◌, ℕ, ◌||◌, take, reverse}
-use Rattle.std.specs.List.{list_any}
-use Rattle.bbm_oracle_patterns.specs.Kept.{notes_of}
-use Rattle.bbm_cert.specs.Cleansings.{ends_now, tells}
+use Rattle.bbm_cert.proofs.Common.{notes_of, ends_now, tells}
+use Rattle.bbm_rules.proofs.Common.{◌≡◌, ℕ, ◌||◌, take, reverse, list_any}
 use Rattle.bbm_cert.proofs.cleansings.add_claims.Given as goal
 
 abbrev pub invariant-loop-claim : goal.invariant-loop-claim

@@ -1,6 +1,5 @@
-use Rattle.std.proofs.Common.{reverse, sym, ◌∙◌}
-use Rattle.bbm_oracle_patterns.specs.Kept.{notes_of}
-use Rattle.bbm_cert.specs.Cleansings.{tells}
+use Rattle.bbm_cert.proofs.Common.{notes_of, tells}
+use Rattle.bbm_rules.proofs.Common.{reverse, sym, ◌∙◌}
 use Rattle.bbm_cert.proofs.Cleansed.{none_ends}
 use Rattle.bbm_cert.proofs.cleansings.add_completed.Goals as goal
 

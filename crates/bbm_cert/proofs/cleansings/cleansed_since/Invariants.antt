@@ -1,6 +1,6 @@
-use Rattle.std.proofs.Common.{◌≡◌, ℕ, take}
+use Rattle.bbm_cert.proofs.Common.{tells}
+use Rattle.bbm_rules.proofs.Common.{◌≡◌, ℕ, take}
 use Rattle.bbm_regimes.specs.PeMask.{pe_in}
-use Rattle.bbm_cert.specs.Cleansings.{tells}
 use Rattle.bbm_cert.proofs.cleansings.cleansed_since.Given as goal
 
 abbrev pub invariant-loop-cleansing : goal.invariant-loop-cleansing

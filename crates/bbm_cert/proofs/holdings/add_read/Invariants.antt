@@ -1,8 +1,5 @@
-use Rattle.std.proofs.Common.{◌≡◌, ℕ, ◌&&◌, ◌||◌, nat_lt, reverse}
-use Rattle.bbm_regimes.specs.declared.regime.Tag.{Tag}
-use Rattle.bbm_rules.specs.Tags.{reads, reads_for_some}
-use Rattle.bbm_cert.specs.Holdings.{has}
-use Rattle.bbm_cert.specs.Spans.{lasts}
+use Rattle.bbm_cert.proofs.Common.{Tag, has, lasts}
+use Rattle.bbm_rules.proofs.Common.{◌≡◌, ℕ, ◌&&◌, ◌||◌, nat_lt, reverse, reads, reads_for_some}
 use Rattle.bbm_cert.proofs.holdings.add_read.Given as goal
 
 abbrev pub invariant-loop-number : goal.invariant-loop-number

@@ -1,6 +1,5 @@
-use Rattle.std.proofs.Common.{◌≡◌, take, reverse}
-use Rattle.bbm_rules.specs.Notes.{events_of}
-use Rattle.bbm_oracle_patterns.specs.Kept.{notes_of}
+use Rattle.bbm_cert.proofs.Common.{notes_of}
+use Rattle.bbm_rules.proofs.Common.{◌≡◌, take, reverse, events_of}
 use Rattle.bbm_cert.proofs.holdings.events_in.Given as goal
 
 abbrev pub invariant-loop-kept : goal.invariant-loop-kept

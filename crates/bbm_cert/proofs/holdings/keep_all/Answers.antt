@@ -1,6 +1,6 @@
+use Rattle.bbm_cert.proofs.Common.{has}
+use Rattle.bbm_rules.proofs.Common.{reverse}
 use Rattle.bbm_cert.proofs.HeldTags.{keep_more}
-use Rattle.bbm_cert.specs.Holdings.{has}
-use Rattle.std.proofs.Common.{reverse}
 use Rattle.bbm_cert.proofs.holdings.keep_all.Goals as goal
 
 pub loop-holding-preserved : goal.loop-holding-preserved

@@ -1,6 +1,5 @@
-use Rattle.std.proofs.Common.{◌≡◌, ℕ, ◌&&◌, take, reverse}
-use Rattle.bbm_regimes.specs.declared.regime.Tag.{Tag}
-use Rattle.bbm_cert.specs.Holdings.{has, stays_held}
+use Rattle.bbm_cert.proofs.Common.{Tag, has, stays_held}
+use Rattle.bbm_rules.proofs.Common.{◌≡◌, ℕ, ◌&&◌, take, reverse}
 use Rattle.bbm_cert.proofs.holdings.keep_all.Given as goal
 
 abbrev pub invariant-loop-holding : goal.invariant-loop-holding

@@ -1,8 +1,6 @@
-use Rattle.std.proofs.Common.{◌≡◌, ℕ, take, reverse}
-use Rattle.std.specs.List.{list_any}
-use Rattle.bbm_regimes.specs.declared.regime.Tag.{Tag}
+use Rattle.bbm_cert.proofs.Common.{Tag, is_lost}
+use Rattle.bbm_rules.proofs.Common.{◌≡◌, ℕ, take, reverse, list_any}
 use Rattle.bbm_histories.specs.ClaimSteps.{completes_taken}
-use Rattle.bbm_cert.specs.Holdings.{is_lost}
 use Rattle.bbm_cert.proofs.holdings.losses_by.Given as goal
 
 abbrev pub invariant-loop-claim : goal.invariant-loop-claim

@@ -1,9 +1,5 @@
-use Rattle.std.proofs.Common.{◌≡◌, ◌∷◌, List, reverse, ◌∙◌, ap}
-use Rattle.std.proofs.lemmas.Result.{IfOk-weaker}
-use Rattle.bbm_rules.specs.Notes.{events_of}
-use Rattle.bbm_rules.specs.Prelude.{Event}
-use Rattle.bbm_oracle_patterns.specs.Kept.{notes_of}
-use Rattle.bbm_cert.specs.Holdings.{ends_some, has, next_lasts}
+use Rattle.bbm_cert.proofs.Common.{notes_of, ends_some, has, next_lasts}
+use Rattle.bbm_rules.proofs.Common.{◌≡◌, ◌∷◌, List, reverse, ◌∙◌, ap, IfOk-weaker, events_of, Event}
 use Rattle.bbm_cert.proofs.HeldTags.{held_then}
 use Rattle.bbm_cert.proofs.Lasting.{spans_next}
 use Rattle.bbm_cert.proofs.holdings.tags_after.Goals as goal

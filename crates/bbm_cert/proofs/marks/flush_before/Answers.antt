@@ -1,4 +1,4 @@
-use Rattle.std.proofs.Common.{refl, sym, ◌∙◌}
+use Rattle.bbm_rules.proofs.Common.{refl, sym, ◌∙◌}
 use Rattle.bbm_cert.proofs.Flushed.{flush_answered, flush_lost, flush_not, flush_yes}
 use Rattle.bbm_cert.proofs.marks.flush_before.Goals.{else-is_flush-via-then-is_flush+else-not-is_answered}
 use Rattle.bbm_cert.proofs.marks.flush_before.Goals.{else-is_flush-via-else-is_flush}

@@ -1,6 +1,5 @@
-use Rattle.std.proofs.Common.{refl, sym, ◌∙◌}
-use Rattle.bbm_tlbi_scope.specs.declared.entry.Cover.TheVariants.{Half}
-use Rattle.bbm_cert.specs.Marks.{flush_mark, seen_mark}
+use Rattle.bbm_cert.proofs.Common.{flush_mark, seen_mark}
+use Rattle.bbm_rules.proofs.Common.{refl, sym, ◌∙◌, Half}
 use Rattle.bbm_cert.proofs.Kepts.{mark_got, mark_lost}
 use Rattle.bbm_cert.proofs.marks.half_by.Goals as goal
 

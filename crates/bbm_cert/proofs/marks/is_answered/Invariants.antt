@@ -1,6 +1,5 @@
-use Rattle.std.proofs.Common.{◌≡◌, drop}
-use Rattle.std.specs.List.{list_any}
-use Rattle.bbm_cert.specs.Flushes.{completed_by}
+use Rattle.bbm_cert.proofs.Common.{completed_by}
+use Rattle.bbm_rules.proofs.Common.{◌≡◌, drop, list_any}
 use Rattle.bbm_cert.proofs.marks.is_answered.Given as goal
 
 abbrev pub invariant-loop-kept : goal.invariant-loop-kept

@@ -1,4 +1,4 @@
-use Rattle.std.proofs.Common.{sym, ◌∙◌}
+use Rattle.bbm_rules.proofs.Common.{sym, ◌∙◌}
 use Rattle.bbm_cert.proofs.Kepts.{wrote_else, wrote_then}
 use Rattle.bbm_cert.proofs.marks.last_write.Goals.{then-writes, else-writes}
 use Rattle.bbm_cert.proofs.marks.last_write.Goals as goal

@@ -1,6 +1,5 @@
-use Rattle.std.proofs.Common.{◌≡◌, take, reverse}
-use Rattle.bbm_oracle_patterns.specs.Kept.{notes_of}
-use Rattle.bbm_cert.specs.Marks.{wrote_mark}
+use Rattle.bbm_cert.proofs.Common.{notes_of, wrote_mark}
+use Rattle.bbm_rules.proofs.Common.{◌≡◌, take, reverse}
 use Rattle.bbm_cert.proofs.marks.last_write.Given as goal
 
 abbrev pub invariant-loop-i : goal.invariant-loop-i

@@ -1,5 +1,5 @@
-use Rattle.std.proofs.Common.{refl, sym, ◌∙◌}
-use Rattle.bbm_cert.specs.Marks.{publication_mark}
+use Rattle.bbm_cert.proofs.Common.{publication_mark}
+use Rattle.bbm_rules.proofs.Common.{refl, sym, ◌∙◌}
 use Rattle.bbm_cert.proofs.Kepts.{mark_got, mark_lost}
 use Rattle.bbm_cert.proofs.marks.published_at.Goals as goal
 

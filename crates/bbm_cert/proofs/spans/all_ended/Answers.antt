@@ -1,4 +1,4 @@
-use Rattle.bbm_cert.specs.Spans.{lasts}
+use Rattle.bbm_cert.proofs.Common.{lasts}
 use Rattle.bbm_cert.proofs.Lasting.{ended_more}
 use Rattle.bbm_cert.proofs.spans.all_ended.Goals as goal
 

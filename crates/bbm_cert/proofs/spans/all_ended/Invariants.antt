@@ -1,6 +1,5 @@
-use Rattle.std.proofs.Common.{◌≡◌, ℕ, ◌&&◌, nat_lt, take}
-use Rattle.bbm_regimes.specs.declared.regime.Tag.{Tag}
-use Rattle.bbm_cert.specs.Spans.{lasts}
+use Rattle.bbm_cert.proofs.Common.{Tag, lasts}
+use Rattle.bbm_rules.proofs.Common.{◌≡◌, ℕ, ◌&&◌, nat_lt, take}
 use Rattle.bbm_cert.proofs.spans.all_ended.Given as goal
 
 abbrev pub invariant-loop-span : goal.invariant-loop-span

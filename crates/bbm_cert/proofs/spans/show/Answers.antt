@@ -1,8 +1,5 @@
-use Rattle.std.proofs.Common.{ℕ, ◌&&◌, ◌||◌, ◌==◌, ◌∙◌, ap}
-use Rattle.bbm_regimes.specs.declared.regime.Tag.{Tag}
-use Rattle.bbm_rules.specs.Claims.{same_tag}
-use Rattle.bbm_cert.specs.Spans.{lasts}
-use Rattle.bbm_cert.specs.declared.spans.Span.{Span}
+use Rattle.bbm_cert.proofs.Common.{Tag, lasts, Span}
+use Rattle.bbm_rules.proofs.Common.{ℕ, ◌&&◌, ◌||◌, ◌==◌, ◌∙◌, ap, same_tag}
 use Rattle.bbm_cert.proofs.Lasting.{found_in, lasts_set}
 use Rattle.bbm_cert.proofs.spans.show.Goals as goal
 

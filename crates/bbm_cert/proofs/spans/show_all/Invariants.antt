@@ -1,8 +1,5 @@
-use Rattle.std.proofs.Common.{◌≡◌, ℕ, ◌&&◌, ◌||◌, ◌==◌, take}
-use Rattle.std.specs.List.{list_any}
-use Rattle.bbm_regimes.specs.declared.regime.Tag.{Tag}
-use Rattle.bbm_rules.specs.Claims.{same_tag}
-use Rattle.bbm_cert.specs.Spans.{lasts}
+use Rattle.bbm_cert.proofs.Common.{Tag, lasts}
+use Rattle.bbm_rules.proofs.Common.{◌≡◌, ℕ, ◌&&◌, ◌||◌, ◌==◌, take, list_any, same_tag}
 use Rattle.bbm_cert.proofs.spans.show_all.Given as goal
 
 abbrev pub invariant-loop-reading : goal.invariant-loop-reading

@@ -1,5 +1,4 @@
-use Rattle.std.proofs.Common.{take, reverse, sym, ◌∙◌, arith}
-use Rattle.bbm_rules.specs.Prelude.{Isb}
+use Rattle.bbm_rules.proofs.Common.{take, reverse, sym, ◌∙◌, arith, Isb}
 use Rattle.bbm_cert.proofs.Kepts.{length_before}
 use Rattle.bbm_cert.proofs.Takers.{read_there, unread_more, unread_yet}
 use Rattle.bbm_cert.proofs.taken.is_read_since.Goals as goal

@@ -1,5 +1,4 @@
-use Rattle.std.proofs.Common.{◌≡◌, ◌≤◌, false, take, reverse}
-use Rattle.bbm_rules.specs.Tags.{read_since}
+use Rattle.bbm_rules.proofs.Common.{◌≡◌, ◌≤◌, false, take, reverse, read_since}
 use Rattle.bbm_cert.proofs.taken.is_read_since.Given as goal
 
 abbrev pub invariant-loop-i : goal.invariant-loop-i

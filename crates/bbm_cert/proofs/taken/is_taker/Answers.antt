@@ -1,6 +1,4 @@
-use Rattle.std.proofs.Common.{Bool, ◌&&◌, not, sym, ◌∙◌, ap, take, reverse}
-use Rattle.std.proofs.lemmas.Result.{IfOk-weaker}
-use Rattle.bbm_rules.specs.Tags.{read_since, takes_tag}
+use Rattle.bbm_rules.proofs.Common.{Bool, ◌&&◌, not, sym, ◌∙◌, ap, take, reverse, IfOk-weaker, read_since, takes_tag}
 use Rattle.bbm_cert.proofs.Takers.{taken_at}
 use Rattle.bbm_cert.proofs.taken.is_taker.Goals as goal
 

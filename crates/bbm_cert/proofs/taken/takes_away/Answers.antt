@@ -1,4 +1,4 @@
-use Rattle.std.proofs.Common.{refl, sym}
+use Rattle.bbm_rules.proofs.Common.{refl, sym}
 use Rattle.bbm_cert.proofs.Takers.{none_taken}
 use Rattle.bbm_cert.proofs.taken.takes_away.Goals as goal
 

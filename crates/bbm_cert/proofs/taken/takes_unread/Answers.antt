@@ -1,6 +1,4 @@
-use Rattle.std.proofs.Common.{◌≡◌, true, reverse, refl, sym, ◌∙◌, arith}
-use Rattle.std.proofs.lemmas.List.{length-reverse}
-use Rattle.bbm_rules.specs.Tags.{read_since}
+use Rattle.bbm_rules.proofs.Common.{◌≡◌, true, reverse, refl, sym, ◌∙◌, arith, length-reverse, read_since}
 use Rattle.bbm_cert.proofs.Lasting.{within_read}
 use Rattle.bbm_cert.proofs.Takers.{none_taken, read_taken}
 use Rattle.bbm_cert.proofs.taken.takes_unread.Goals as goal

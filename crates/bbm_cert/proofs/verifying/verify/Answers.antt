@@ -1,11 +1,5 @@
-use Rattle.std.proofs.Common.{◌≡◌, ◌<◌, List, length, get_or, take, reverse, refl, ◌∙◌, ap, arith}
-use Rattle.bbm_rules.specs.Prelude.{Event}
-use Rattle.bbm_cert.specs.Cleansings.{tells}
-use Rattle.bbm_cert.specs.Holdings.{has}
-use Rattle.bbm_cert.specs.declared.cleansings.Cleansing.{Cleansing}
-use Rattle.bbm_cert.specs.Spans.{lasts}
-use Rattle.bbm_oracle_tags.specs.declared.holding.Holding.{Holding}
-use Rattle.bbm_cert.specs.declared.spans.Span.{Span}
+use Rattle.bbm_cert.proofs.Common.{tells, has, Cleansing, lasts, Holding, Span}
+use Rattle.bbm_rules.proofs.Common.{◌≡◌, ◌<◌, List, length, get_or, take, reverse, refl, ◌∙◌, ap, arith, Event}
 use Rattle.bbm_cert.proofs.Cleansed.{tell_nothing}
 use Rattle.bbm_cert.proofs.Lasting.{nothing_lasts}
 use Rattle.bbm_cert.proofs.Verified.{going_next, going_start, stopped}

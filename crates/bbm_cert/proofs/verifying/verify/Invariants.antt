@@ -1,4 +1,4 @@
-use Rattle.std.proofs.Common.{take, reverse}
+use Rattle.bbm_rules.proofs.Common.{take, reverse}
 use Rattle.bbm_cert.proofs.Verified.{Going}
 use Rattle.bbm_cert.proofs.verifying.verify.Given as goal
 

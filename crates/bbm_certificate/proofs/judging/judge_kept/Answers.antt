@@ -1,5 +1,4 @@
-use Rattle.std.proofs.Common.{arith}
-use Rattle.std.proofs.lemmas.List.{length-reverse}
+use Rattle.bbm_rules.proofs.Common.{arith, length-reverse}
 use Rattle.bbm_certificate.proofs.Sound.{kept_fit}
 use Rattle.bbm_certificate.proofs.judging.judge_kept.Goals as goal
 

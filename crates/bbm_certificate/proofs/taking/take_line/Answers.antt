@@ -1,4 +1,4 @@
-use Rattle.std.proofs.Common.{Result, subst}
+use Rattle.bbm_rules.proofs.Common.{Result, subst}
 use Rattle.bbm_certificate.specs.CertificateReading.{TakesLine, after_line, kept_at}
 use Rattle.bbm_certificate.specs.declared.turn.LineFault.{LineFault}
 use Rattle.bbm_certificate.specs.declared.turn.Turn.{Turn}

@@ -1,4 +1,4 @@
-use Rattle.bbm_rules.specs.Claims.Trust.{Patterns}
+use Rattle.bbm_rules.proofs.Common.{Patterns}
 use Rattle.bbm_certify.proofs.known.known.Goals as goal
 
 pub returns : goal.returns

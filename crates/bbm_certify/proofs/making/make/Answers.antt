@@ -1,13 +1,7 @@
-use Rattle.std.proofs.Common.{◌≡◌, ◌∷◌, ◌++◌, ◌+◌, ◌<◌, true, List, length, take, reverse, ap, subst, ◌∙◌, arith}
-use Rattle.std.proofs.lemmas.List.{take_all}
-use Rattle.bbm_lemmas.proofs.Reversed.{passes_at, reverse_more}
-use Rattle.bbm_events.specs.Fits.{fits_heading}
-use Rattle.bbm_events.specs.declared.claim.Claim.{Claim}
-use Rattle.bbm_rules.specs.Broken.{keeps}
-use Rattle.bbm_rules.specs.Claims.Trust.{Patterns}
-use Rattle.bbm_rules.specs.Prelude.{Event}
-use Rattle.bbm_certify.specs.LeastClaims.{IsCertificate}
-use Rattle.bbm_certify.specs.Made.{IsMaking}
+use Rattle.bbm_certify.proofs.Common.{IsCertificate, IsMaking}
+use Rattle.bbm_rules.proofs.Common.{◌≡◌, ◌∷◌, ◌++◌, ◌+◌, ◌<◌, true, List, length, take, reverse, ap, subst, ◌∙◌, arith}
+use Rattle.bbm_rules.proofs.Common.{take_all, reverse_more, fits_heading, Claim, keeps, Patterns, Event}
+use Rattle.bbm_lemmas.proofs.Reversed.{passes_at}
 use Rattle.bbm_certify.proofs.Finished.{certificate_next, first_count, keeps_first}
 use Rattle.bbm_certify.proofs.making.make.Goals as goal
 

@@ -1,6 +1,5 @@
-use Rattle.std.proofs.Common.{take, reverse}
-use Rattle.bbm_certify.specs.LeastClaims.{IsCertificate}
-use Rattle.bbm_certify.specs.Made.{IsMaking}
+use Rattle.bbm_certify.proofs.Common.{IsCertificate, IsMaking}
+use Rattle.bbm_rules.proofs.Common.{take, reverse}
 use Rattle.bbm_certify.proofs.making.make.Given as goal
 
 abbrev pub invariant-loop-event : goal.invariant-loop-event

@@ -1,7 +1,5 @@
-use Rattle.std.proofs.Common.{ap, sym, take, ◌∙◌, arith, zero-le}
-use Rattle.bbm_oracle_patterns.specs.declared.kept.Kept.{Kept}
-use Rattle.bbm_tlbi_scope.specs.declared.entry.Cover.TheVariants.{Half}
-use Rattle.bbm_certify.specs.Making.{answering, answers}
+use Rattle.bbm_certify.proofs.Common.{Kept, answering, answers}
+use Rattle.bbm_rules.proofs.Common.{ap, sym, take, ◌∙◌, arith, zero-le, Half}
 use Rattle.bbm_certify.proofs.Ended.{no_flush}
 use Rattle.bbm_certify.proofs.Searches.{holds_here, none_more}
 use Rattle.bbm_certify.proofs.patterns.answer_of.Goals as goal

@@ -1,4 +1,4 @@
-use Rattle.bbm_certify.specs.Making.{NoneBelow, answering}
+use Rattle.bbm_certify.proofs.Common.{NoneBelow, answering}
 use Rattle.bbm_certify.proofs.patterns.answer_of.Given as goal
 
 abbrev pub invariant-loop-i : goal.invariant-loop-i

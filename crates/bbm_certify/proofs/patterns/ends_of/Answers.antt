@@ -1,4 +1,4 @@
-use Rattle.std.proofs.Common.{◌+◌, ◌-◌, length, take, drop}
+use Rattle.bbm_rules.proofs.Common.{◌+◌, ◌-◌, length, take, drop}
 use Rattle.bbm_certify.proofs.Ended.{ends_some, ends_without}
 use Rattle.bbm_certify.proofs.Searches.{behind}
 use Rattle.bbm_certify.proofs.patterns.ends_of.Goals as goal

@@ -1,6 +1,5 @@
-use Rattle.std.proofs.Common.{List, ap, sym, ◌∙◌, arith, zero-le}
-use Rattle.bbm_oracle_patterns.specs.declared.kept.Kept.{Kept}
-use Rattle.bbm_certify.specs.Making.{finishes, finishing}
+use Rattle.bbm_certify.proofs.Common.{Kept, finishes, finishing}
+use Rattle.bbm_rules.proofs.Common.{List, ap, sym, ◌∙◌, arith, zero-le}
 use Rattle.bbm_certify.proofs.Searches.{behind, holds_here, none_more}
 use Rattle.bbm_certify.proofs.patterns.first_finishing.Goals as goal
 

@@ -1,4 +1,4 @@
-use Rattle.bbm_certify.specs.Making.{NoneBelow, finishing}
+use Rattle.bbm_certify.proofs.Common.{NoneBelow, finishing}
 use Rattle.bbm_certify.proofs.patterns.first_finishing.Given as goal
 
 abbrev pub invariant-loop-i : goal.invariant-loop-i

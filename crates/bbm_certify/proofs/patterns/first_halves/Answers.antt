@@ -1,6 +1,5 @@
-use Rattle.std.proofs.Common.{None, Some, List, subst, arith}
-use Rattle.bbm_oracle_patterns.specs.declared.kept.Kept.{Kept}
-use Rattle.bbm_certify.specs.Making.{AreEnds}
+use Rattle.bbm_certify.proofs.Common.{Kept, AreEnds}
+use Rattle.bbm_rules.proofs.Common.{None, Some, List, subst, arith}
 use Rattle.bbm_certify.proofs.Ended.{at_here, halves_here, halves_more}
 use Rattle.bbm_certify.proofs.Searches.{behind}
 use Rattle.bbm_certify.proofs.patterns.first_halves.Goals as goal

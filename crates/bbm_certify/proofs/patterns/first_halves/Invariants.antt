@@ -1,4 +1,4 @@
-use Rattle.bbm_certify.specs.Making.{NoHalves}
+use Rattle.bbm_certify.proofs.Common.{NoHalves}
 use Rattle.bbm_certify.proofs.patterns.first_halves.Given as goal
 
 abbrev pub invariant-loop-t : goal.invariant-loop-t

@@ -1,6 +1,5 @@
-use Rattle.std.proofs.Common.{ap, sym, take, ◌∙◌, arith, zero-le}
-use Rattle.bbm_oracle_patterns.specs.declared.kept.Kept.{Kept}
-use Rattle.bbm_certify.specs.Making.{publishes, publishing}
+use Rattle.bbm_certify.proofs.Common.{Kept, publishes, publishing}
+use Rattle.bbm_rules.proofs.Common.{ap, sym, take, ◌∙◌, arith, zero-le}
 use Rattle.bbm_certify.proofs.Searches.{holds_here, none_more}
 use Rattle.bbm_certify.proofs.patterns.first_publication.Goals as goal
 

@@ -1,4 +1,4 @@
-use Rattle.bbm_certify.specs.Making.{NoneBelow, publishing}
+use Rattle.bbm_certify.proofs.Common.{NoneBelow, publishing}
 use Rattle.bbm_certify.proofs.patterns.first_publication.Given as goal
 
 abbrev pub invariant-loop-i : goal.invariant-loop-i

@@ -1,4 +1,4 @@
-use Rattle.bbm_certify.specs.Making.{NoneBelow, waiting}
+use Rattle.bbm_certify.proofs.Common.{NoneBelow, waiting}
 use Rattle.bbm_certify.proofs.patterns.first_waiting.Given as goal
 
 abbrev pub invariant-loop-i : goal.invariant-loop-i

@@ -1,12 +1,5 @@
-use Rattle.std.proofs.Common.{◌≡◌, Some, None, reverse, subst, sym}
-use Rattle.std.proofs.lemmas.Result.{on_ok_weaker}
-use Rattle.bbm_oracle_patterns.specs.Kept.{notes_of}
-use Rattle.bbm_oracle_trees.specs.Past.{notes}
-use Rattle.bbm_rules.specs.Places.{page_of}
-use Rattle.bbm_rules.specs.Prelude.{Heading}
-use Rattle.bbm_rules.specs.Tree.{node_of}
-use Rattle.bbm_certify.specs.DueAt.{IsDueIn}
-use Rattle.bbm_certify.specs.Orders.{Adds}
+use Rattle.bbm_certify.proofs.Common.{notes_of, notes, IsDueIn, Adds}
+use Rattle.bbm_rules.proofs.Common.{◌≡◌, Some, None, reverse, subst, sym, on_ok_weaker, page_of, Heading, node_of}
 use Rattle.bbm_certify.proofs.DueAdds.{at_found, at_none}
 use Rattle.bbm_certify.proofs.places.add_at.Goals as goal
 

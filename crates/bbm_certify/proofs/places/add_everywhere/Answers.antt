@@ -1,7 +1,5 @@
-use Rattle.std.proofs.Common.{◌≡◌, ℕ, reverse, subst, rules}
-use Rattle.bbm_oracle_patterns.specs.Kept.{notes_behind}
-use Rattle.bbm_certify.specs.DueAt.{IsDueSince}
-use Rattle.bbm_certify.specs.Orders.{Adds}
+use Rattle.bbm_certify.proofs.Common.{notes_behind, IsDueSince, Adds}
+use Rattle.bbm_rules.proofs.Common.{◌≡◌, ℕ, reverse, subst, rules}
 use Rattle.bbm_certify.proofs.DueAdds.{since_more, since_none}
 use Rattle.bbm_certify.proofs.places.add_everywhere.Goals as goal
 

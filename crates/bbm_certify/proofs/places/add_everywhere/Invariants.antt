@@ -1,8 +1,5 @@
-use Rattle.std.proofs.Common.{◌+◌, length, reverse}
-use Rattle.bbm_oracle_patterns.specs.Kept.{notes_behind}
-use Rattle.bbm_rules.specs.Notes.{Noted}
-use Rattle.bbm_certify.specs.DueAt.{IsDueSince, IsNewest}
-use Rattle.bbm_certify.specs.Orders.{Adds}
+use Rattle.bbm_certify.proofs.Common.{notes_behind, IsDueSince, IsNewest, Adds}
+use Rattle.bbm_rules.proofs.Common.{◌+◌, length, reverse, Noted}
 use Rattle.bbm_certify.proofs.places.add_everywhere.Given as goal
 
 abbrev pub invariant-loop-number : goal.invariant-loop-number

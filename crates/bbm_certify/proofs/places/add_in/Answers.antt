@@ -1,8 +1,5 @@
-use Rattle.std.proofs.Common.{◌+◌, ◌-◌, length, take, drop, reverse, ap, sym, ◌∙◌}
-use Rattle.std.proofs.lemmas.Result.{on_ok_weaker}
-use Rattle.bbm_oracle_patterns.specs.Kept.{notes_of}
-use Rattle.bbm_rules.specs.Held.{last_valid}
-use Rattle.bbm_rules.specs.Tree.{Node}
+use Rattle.bbm_certify.proofs.Common.{notes_of}
+use Rattle.bbm_rules.proofs.Common.{◌+◌, ◌-◌, length, take, drop, reverse, ap, sym, ◌∙◌, on_ok_weaker, last_valid, Node}
 use Rattle.bbm_certify.proofs.DueAdds.{in_found, in_none, newest_part}
 use Rattle.bbm_certify.proofs.Searches.{behind}
 use Rattle.bbm_certify.proofs.places.add_in.Goals as goal

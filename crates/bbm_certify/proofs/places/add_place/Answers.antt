@@ -1,4 +1,4 @@
-use Rattle.std.proofs.lemmas.Result.{on_ok_weaker}
+use Rattle.bbm_rules.proofs.Common.{on_ok_weaker}
 use Rattle.bbm_certify.proofs.Counted.{among_put}
 use Rattle.bbm_certify.proofs.places.add_place.Goals as goal
 

@@ -1,7 +1,5 @@
-use Rattle.std.proofs.Common.{reverse}
-use Rattle.bbm_oracle_patterns.specs.Kept.{notes_of}
-use Rattle.bbm_oracle_trees.specs.Past.{notes}
-use Rattle.bbm_certify.specs.DueAt.{IsDueAt}
+use Rattle.bbm_certify.proofs.Common.{notes_of, notes, IsDueAt}
+use Rattle.bbm_rules.proofs.Common.{reverse}
 use Rattle.bbm_certify.proofs.DueAdds.{each_all, each_more, each_none}
 use Rattle.bbm_certify.proofs.places.add_places.Goals as goal
 

@@ -1,9 +1,6 @@
-use Rattle.std.proofs.Common.{length, reverse, take}
-use Rattle.bbm_oracle_patterns.specs.Kept.{notes_of}
-use Rattle.bbm_oracle_trees.specs.Past.{notes}
-use Rattle.bbm_rules.specs.Notes.{Noted}
-use Rattle.bbm_certify.specs.DueAt.{AreDue, IsNewest}
-use Rattle.bbm_certify.specs.Orders.{Adds}
+use Rattle.bbm_certify.proofs.Common.{notes_of, notes, IsNewest, Adds}
+use Rattle.bbm_rules.proofs.Common.{length, reverse, take, Noted}
+use Rattle.bbm_certify.specs.DueAt.{AreDue}
 use Rattle.bbm_certify.proofs.places.add_places.Given as goal
 
 abbrev pub invariant-loop-place : goal.invariant-loop-place

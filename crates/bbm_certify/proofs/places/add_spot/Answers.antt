@@ -1,8 +1,5 @@
-use Rattle.std.proofs.Common.{◌≡◌, sym, subst, ◌∙◌}
-use Rattle.std.proofs.lemmas.Result.{on_ok_weaker}
-use Rattle.bbm_events.specs.declared.claim.Claim.{Claim}
-use Rattle.bbm_rules.specs.Claims.Trust.{Patterns}
-use Rattle.bbm_certify.specs.Orders.{Adds}
+use Rattle.bbm_certify.proofs.Common.{Adds}
+use Rattle.bbm_rules.proofs.Common.{◌≡◌, sym, subst, ◌∙◌, on_ok_weaker, Claim, Patterns}
 use Rattle.bbm_certify.proofs.DueAdds.{inside_of, spot_cleansed, spot_found, spot_none}
 use Rattle.bbm_certify.proofs.places.add_spot.Goals as goal
 

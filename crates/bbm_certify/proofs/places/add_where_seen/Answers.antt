@@ -1,6 +1,4 @@
-use Rattle.std.proofs.Common.{sym, ◌∙◌}
-use Rattle.std.proofs.lemmas.Result.{on_ok_weaker}
-use Rattle.bbm_rules.specs.Claims.Trust.{Patterns}
+use Rattle.bbm_rules.proofs.Common.{sym, ◌∙◌, on_ok_weaker, Patterns}
 use Rattle.bbm_certify.proofs.DueAdds.{spot_without, unseen_none}
 use Rattle.bbm_certify.proofs.places.add_where_seen.Goals as goal
 

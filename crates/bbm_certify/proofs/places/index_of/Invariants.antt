@@ -1,4 +1,4 @@
-use Rattle.std.proofs.Common.{◌≤◌, length}
+use Rattle.bbm_rules.proofs.Common.{◌≤◌, length}
 use Rattle.bbm_certify.proofs.places.index_of.Given as goal
 
 abbrev pub invariant-loop-index : goal.invariant-loop-index

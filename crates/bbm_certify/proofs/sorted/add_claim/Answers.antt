@@ -1,5 +1,4 @@
-use Rattle.std.proofs.Common.{sym, ◌∙◌, arith}
-use Rattle.std.proofs.lemmas.Result.{on_ok_weaker}
+use Rattle.bbm_rules.proofs.Common.{sym, ◌∙◌, arith, on_ok_weaker}
 use Rattle.bbm_certify.proofs.Counted.{put_before, put_last, put_not}
 use Rattle.bbm_certify.proofs.sorted.add_claim.Goals as goal
 

@@ -1,4 +1,4 @@
-use Rattle.std.proofs.Common.{sym, ◌∙◌, arith}
+use Rattle.bbm_rules.proofs.Common.{sym, ◌∙◌, arith}
 use Rattle.bbm_certify.proofs.Counted.{above_more}
 use Rattle.bbm_certify.proofs.sorted.count_before.Goals as goal
 

@@ -1,6 +1,5 @@
-use Rattle.std.proofs.Common.{◌≡◌, ◌≤◌, ◌∷◌, ◌++◌, false, List, length}
-use Rattle.bbm_events.specs.declared.claim.Claim.{Claim}
-use Rattle.bbm_certify.specs.LeastClaims.{claim_key, less}
+use Rattle.bbm_certify.proofs.Common.{claim_key, less}
+use Rattle.bbm_rules.proofs.Common.{◌≡◌, ◌≤◌, ◌∷◌, ◌++◌, false, List, length, Claim}
 use Rattle.bbm_certify.proofs.sorted.count_before.Given as goal
 
 abbrev pub invariant-loop-count : goal.invariant-loop-count

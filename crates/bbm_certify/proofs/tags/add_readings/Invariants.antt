@@ -1,8 +1,6 @@
-use Rattle.std.proofs.Common.{◌≡◌, ℕ, ◌&&◌, ◌||◌, ◌==◌, take}
-use Rattle.std.specs.List.{list_any}
+use Rattle.bbm_certify.proofs.Common.{has}
+use Rattle.bbm_rules.proofs.Common.{◌≡◌, ℕ, ◌&&◌, ◌||◌, ◌==◌, take, list_any, same_tag}
 use Rattle.bbm_regimes.specs.declared.regime.Tag.{Tag}
-use Rattle.bbm_rules.specs.Claims.{same_tag}
-use Rattle.bbm_cert.specs.Holdings.{has}
 use Rattle.bbm_certify.proofs.tags.add_readings.Given as goal
 
 abbrev pub invariant-loop-reading : goal.invariant-loop-reading

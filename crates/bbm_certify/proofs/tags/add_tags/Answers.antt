@@ -1,4 +1,4 @@
-use Rattle.bbm_certify.specs.Taken.{IsTaken}
+use Rattle.bbm_certify.proofs.Common.{IsTaken}
 use Rattle.bbm_certify.proofs.DueAdds.{each_all, each_more, each_none}
 use Rattle.bbm_certify.proofs.tags.add_tags.Goals as goal
 

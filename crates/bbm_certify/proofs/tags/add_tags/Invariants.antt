@@ -1,7 +1,5 @@
-use Rattle.std.proofs.Common.{◌≡◌, ◌∷◌, List, reverse, take}
-use Rattle.bbm_rules.specs.Prelude.{Event}
-use Rattle.bbm_certify.specs.Orders.{Adds}
-use Rattle.bbm_certify.specs.Taken.{AreTaken}
+use Rattle.bbm_certify.proofs.Common.{Adds, AreTaken}
+use Rattle.bbm_rules.proofs.Common.{◌≡◌, ◌∷◌, List, reverse, take, Event}
 use Rattle.bbm_certify.proofs.tags.add_tags.Given as goal
 
 abbrev pub invariant-loop-holding : goal.invariant-loop-holding

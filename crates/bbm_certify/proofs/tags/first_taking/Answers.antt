@@ -1,7 +1,4 @@
-use Rattle.std.proofs.Common.{◌+◌, reverse, refl, sym, ◌∙◌}
-use Rattle.bbm_lemmas.proofs.Elements.{to_contains}
-use Rattle.bbm_rules.specs.Reach.{unanswered}
-use Rattle.bbm_rules.specs.Tags.{itself}
+use Rattle.bbm_rules.proofs.Common.{◌+◌, reverse, refl, sym, ◌∙◌, to_contains, unanswered, itself}
 use Rattle.bbm_certify.proofs.Taking.{first_found, none_at_0, none_found, none_more}
 use Rattle.bbm_certify.proofs.tags.first_taking.Goals as goal
 

@@ -1,5 +1,5 @@
-use Rattle.std.proofs.Common.{◌≡◌, ◌≤◌, ℕ, false, reverse}
-use Rattle.bbm_certify.specs.Taken.{takes}
+use Rattle.bbm_certify.proofs.Common.{takes}
+use Rattle.bbm_rules.proofs.Common.{◌≡◌, ◌≤◌, ℕ, false, reverse}
 use Rattle.bbm_certify.proofs.tags.first_taking.Given as goal
 
 abbrev pub invariant-loop-i : goal.invariant-loop-i

@@ -1,9 +1,5 @@
-use Rattle.std.proofs.Common.{List, reverse, ap, sym, ◌∙◌}
-use Rattle.bbm_lemmas.proofs.Elements.{to_contains}
-use Rattle.bbm_rules.specs.Prelude.{Event}
-use Rattle.bbm_rules.specs.Reach.{unanswered}
-use Rattle.bbm_rules.specs.Tags.{itself}
-use Rattle.bbm_certify.specs.Taken.{is_open}
+use Rattle.bbm_certify.proofs.Common.{is_open}
+use Rattle.bbm_rules.proofs.Common.{List, reverse, ap, sym, ◌∙◌, to_contains, Event, unanswered, itself}
 use Rattle.bbm_certify.proofs.Searches.{behind}
 use Rattle.bbm_certify.proofs.Taking.{not_open}
 use Rattle.bbm_certify.proofs.tags.is_taking.Goals as goal

@@ -1,5 +1,4 @@
-use Rattle.std.proofs.Common.{◌≤◌, List, length}
-use Rattle.bbm_rules.specs.Prelude.{Event}
+use Rattle.bbm_rules.proofs.Common.{◌≤◌, List, length, Event}
 use Rattle.bbm_checker_tests.proofs.checkers.run.Given as goal
 
 abbrev pub invariant-loop-line : goal.invariant-loop-line

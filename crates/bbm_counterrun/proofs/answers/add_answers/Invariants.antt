@@ -1,6 +1,5 @@
-use Rattle.std.proofs.Common.{◌≡◌, ◌++◌, map, filter, drop}
-use Rattle.bbm_counterrun.specs.TlbiAnswers.{answer_at}
-use Rattle.bbm_tlb_machine.specs.MachinePendings.{is_answered}
+use Rattle.bbm_counterrun.proofs.Common.{answer_at, is_answered}
+use Rattle.bbm_rules.proofs.Common.{◌≡◌, ◌++◌, map, filter, drop}
 use Rattle.bbm_counterrun.proofs.answers.add_answers.Given as goal
 
 abbrev pub invariant-loop-pending : goal.invariant-loop-pending

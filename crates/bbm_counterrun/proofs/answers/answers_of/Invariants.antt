@@ -1,6 +1,5 @@
-use Rattle.std.proofs.Common.{take, reverse}
-use Rattle.bbm_counterrun.specs.TlbiAnswers.{IsAnswers}
-use Rattle.bbm_tlb_machine.specs.MachinePendings.{IsPending}
+use Rattle.bbm_counterrun.proofs.Common.{IsAnswers, IsPending}
+use Rattle.bbm_rules.proofs.Common.{take, reverse}
 use Rattle.bbm_counterrun.proofs.answers.answers_of.Given as goal
 
 abbrev pub invariant-loop-n : goal.invariant-loop-n

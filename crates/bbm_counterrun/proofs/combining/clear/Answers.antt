@@ -1,4 +1,4 @@
-use Rattle.std.proofs.Common.{arith, length}
+use Rattle.bbm_rules.proofs.Common.{arith, length}
 use Rattle.bbm_counterrun.proofs.JoinSteps.{clear_first, clear_free}
 use Rattle.bbm_counterrun.proofs.combining.clear.Goals as goal
 

@@ -1,7 +1,5 @@
-use Rattle.std.proofs.Common.{◌≡◌, ℕ, ◌<◌, ◌≤◌, true, false, length, take}
-use Rattle.bbm_rules.specs.Lists.{any}
-use Rattle.bbm_tlb_machine.specs.Step.{combined}
-use Rattle.bbm_counterrun.specs.Searching.{blocks, forbidden_by}
+use Rattle.bbm_counterrun.proofs.Common.{combined, blocks, forbidden_by}
+use Rattle.bbm_rules.proofs.Common.{◌≡◌, ℕ, ◌<◌, ◌≤◌, true, false, length, take, any}
 use Rattle.bbm_counterrun.proofs.combining.clear.Given as goal
 
 abbrev pub invariant-loop-answer : goal.invariant-loop-answer

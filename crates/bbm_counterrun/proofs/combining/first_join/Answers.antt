@@ -1,6 +1,5 @@
-use Rattle.std.proofs.Common.{◌≡◌, ap, length, Some, subst, sym, ◌∙◌}
-use Rattle.bbm_tlb_machine.specs.Entry.{Entry}
-use Rattle.bbm_counterrun.specs.Searching.{FirstIn, forbidden_by, joins}
+use Rattle.bbm_counterrun.proofs.Common.{Entry, FirstIn, forbidden_by, joins}
+use Rattle.bbm_rules.proofs.Common.{◌≡◌, ap, length, Some, subst, sym, ◌∙◌}
 use Rattle.bbm_counterrun.proofs.JoinSteps.{join_some}
 use Rattle.bbm_counterrun.proofs.combining.first_join.Goals as goal
 

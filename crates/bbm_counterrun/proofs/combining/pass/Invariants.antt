@@ -1,6 +1,5 @@
-use Rattle.std.proofs.Common.{◌≡◌, ℕ, ◌<◌, ◌≤◌, true, length}
-use Rattle.bbm_tlb_machine.specs.Step.{combined}
-use Rattle.bbm_counterrun.specs.Searching.{blocks}
+use Rattle.bbm_counterrun.proofs.Common.{combined, blocks}
+use Rattle.bbm_rules.proofs.Common.{◌≡◌, ℕ, ◌<◌, ◌≤◌, true, length}
 use Rattle.bbm_counterrun.proofs.combining.pass.Given as goal
 
 abbrev pub invariant-loop-n : goal.invariant-loop-n

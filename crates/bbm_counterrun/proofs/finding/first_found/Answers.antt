@@ -1,6 +1,6 @@
-use Rattle.std.proofs.Common.{ℕ, ◌+◌, ◌<◌, reverse, subst}
-use Rattle.bbm_rules.specs.Prelude.{Write}
-use Rattle.bbm_counterrun.specs.Searching.{FindsFrom, NoneAt}
+use Rattle.bbm_counterrun.proofs.Common.{NoneAt}
+use Rattle.bbm_rules.proofs.Common.{ℕ, ◌+◌, ◌<◌, reverse, subst, Write}
+use Rattle.bbm_counterrun.specs.Searching.{FindsFrom}
 use Rattle.bbm_counterrun.proofs.FoundSteps.{starts_more}
 use Rattle.bbm_counterrun.proofs.finding.first_found.Goals as goal
 

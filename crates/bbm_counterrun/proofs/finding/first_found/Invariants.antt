@@ -1,6 +1,5 @@
-use Rattle.std.proofs.Common.{ℕ, ◌<◌, ◌≤◌, reverse}
-use Rattle.bbm_rules.specs.Prelude.{Write}
-use Rattle.bbm_counterrun.specs.Searching.{NoneAt}
+use Rattle.bbm_counterrun.proofs.Common.{NoneAt}
+use Rattle.bbm_rules.proofs.Common.{ℕ, ◌<◌, ◌≤◌, reverse, Write}
 use Rattle.bbm_counterrun.proofs.finding.first_found.Given as goal
 
 abbrev pub invariant-loop-before : goal.invariant-loop-before

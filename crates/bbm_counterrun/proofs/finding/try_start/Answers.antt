@@ -1,6 +1,5 @@
-use Rattle.std.proofs.Common.{◌≡◌, reverse, rules, subst, None}
-use Rattle.bbm_rules.specs.Prelude.{Write}
-use Rattle.bbm_counterrun.specs.Searching.{FindsAt, NoneAt}
+use Rattle.bbm_counterrun.proofs.Common.{FindsAt, NoneAt}
+use Rattle.bbm_rules.proofs.Common.{◌≡◌, reverse, rules, subst, None, Write}
 use Rattle.bbm_counterrun.proofs.FoundSteps.{none_more}
 use Rattle.bbm_counterrun.proofs.finding.try_start.Goals as goal
 

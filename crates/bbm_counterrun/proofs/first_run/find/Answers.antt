@@ -1,7 +1,7 @@
-use Rattle.std.proofs.Common.{Vec, Global, Option, ap, is_some, sym, ◌∙◌}
+use Rattle.bbm_counterrun.proofs.Common.{Step}
+use Rattle.bbm_rules.proofs.Common.{Vec, Global, Option, ap, is_some, sym, ◌∙◌}
 use Rattle.bbm_counterrun.proofs.FindRun.{no_leaf_at_last}
 use Rattle.bbm_counterrun.proofs.first_run.find.Goals as goal
-use Rattle.bbm_tlb_machine.specs.declared.step.Step.{Step}
 
 pub returns-in-None : goal.returns-in-None
 returns-in-None c h pe place value same refused leaf =

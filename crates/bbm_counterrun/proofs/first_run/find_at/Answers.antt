@@ -1,5 +1,5 @@
-use Rattle.std.proofs.Common.{List, option_map, reverse, subst, sym, ◌∙◌}
-use Rattle.bbm_counterrun.specs.TlbiAnswers.{Answer, IsAnswers}
+use Rattle.bbm_counterrun.proofs.Common.{Answer, IsAnswers}
+use Rattle.bbm_rules.proofs.Common.{List, option_map, reverse, subst, sym, ◌∙◌}
 use Rattle.bbm_counterrun.proofs.FindRun.{no_tree_found, run_found}
 use Rattle.bbm_counterrun.proofs.first_run.find_at.Goals as goal
 

@@ -1,7 +1,7 @@
-use Rattle.std.proofs.Common.{Vec, Global, ◌-◌, length, option_map, take}
+use Rattle.bbm_counterrun.proofs.Common.{Step}
+use Rattle.bbm_rules.proofs.Common.{Vec, Global, ◌-◌, length, option_map, take}
 use Rattle.bbm_counterrun.proofs.FindRun.{last_is, leaf_at_last, some_at_last}
 use Rattle.bbm_counterrun.proofs.first_run.find_over_leaf.Goals as goal
-use Rattle.bbm_tlb_machine.specs.declared.step.Step.{Step}
 
 pub returns-in_ok-found-in-Write-clause-leaf : goal.returns-in_ok-found-in-Write-clause-leaf
 returns-in_ok-found-in-Write-clause-leaf c =

@@ -1,6 +1,5 @@
-use Rattle.std.proofs.Common.{◌≤◌, arith, length, reverse, subst}
-use Rattle.bbm_rules.specs.Prelude.{Write}
-use Rattle.bbm_counterrun.specs.Searching.{FindsAll}
+use Rattle.bbm_counterrun.proofs.Common.{FindsAll}
+use Rattle.bbm_rules.proofs.Common.{◌≤◌, arith, length, reverse, subst, Write}
 use Rattle.bbm_counterrun.proofs.FirstFound.{found_is_short}
 use Rattle.bbm_counterrun.proofs.first_run.run_found.Goals as goal
 

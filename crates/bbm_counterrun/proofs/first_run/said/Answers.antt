@@ -1,5 +1,5 @@
-use Rattle.std.proofs.Common.{◌≡◌, subst, true}
-use Rattle.bbm_events.specs.Heading.{Heading, heading_ok}
+use Rattle.bbm_rules.proofs.Common.{◌≡◌, subst, true, heading_ok}
+use Rattle.bbm_events.specs.Heading.{Heading}
 use Rattle.bbm_counterrun.proofs.first_run.said.Goals as goal
 
 pub returns : goal.returns

@@ -1,6 +1,5 @@
-use Rattle.std.proofs.Common.{◌≡◌, take, reverse}
-use Rattle.bbm_oracle_trees.specs.HistoryStandsFor.{StandsFor}
-use Rattle.bbm_rules.specs.Claims.{Patterns}
+use Rattle.bbm_counterrun.proofs.Common.{StandsFor, Patterns}
+use Rattle.bbm_rules.proofs.Common.{◌≡◌, take, reverse}
 use Rattle.bbm_counterrun.proofs.leaf.history_of.Given as goal
 
 abbrev pub invariant-loop-event : goal.invariant-loop-event

@@ -1,4 +1,4 @@
-use Rattle.bbm_rules.specs.Claims.{Patterns}
+use Rattle.bbm_counterrun.proofs.Common.{Patterns}
 use Rattle.bbm_counterrun.proofs.LeastReads.{least_list}
 use Rattle.bbm_counterrun.proofs.least_list.law_least_reads.Goals as goal
 

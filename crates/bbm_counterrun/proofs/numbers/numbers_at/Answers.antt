@@ -1,4 +1,4 @@
-use Rattle.std.proofs.Common.{reverse}
+use Rattle.bbm_rules.proofs.Common.{reverse}
 use Rattle.bbm_counterrun.proofs.NumberCode.{numbered_el2, numbered_s2, numbered_ttbr0}
 use Rattle.bbm_counterrun.proofs.numbers.numbers_at.Goals as goal
 

@@ -1,5 +1,4 @@
-use Rattle.std.proofs.Common.{◌≡◌, map, take}
-use Rattle.bbm_rules.specs.RegisterValues.{tag_number}
+use Rattle.bbm_rules.proofs.Common.{◌≡◌, map, take, tag_number}
 use Rattle.bbm_counterrun.proofs.numbers.numbers_in.Given as goal
 
 abbrev pub invariant-loop-value : goal.invariant-loop-value

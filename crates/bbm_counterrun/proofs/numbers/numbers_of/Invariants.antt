@@ -1,4 +1,4 @@
-use Rattle.std.proofs.Common.{◌≡◌, take}
+use Rattle.bbm_rules.proofs.Common.{◌≡◌, take}
 use Rattle.bbm_counterrun.specs.RunNumbers as spec
 use Rattle.bbm_counterrun.proofs.numbers.numbers_of.Given as goal
 

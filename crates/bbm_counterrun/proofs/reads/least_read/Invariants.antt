@@ -1,6 +1,5 @@
-use Rattle.std.proofs.Common.{◌≡◌, filter, take, reverse}
-use Rattle.bbm_rules.specs.Lists.{least}
-use Rattle.bbm_counterrun.specs.Ways.{is_like, written_at}
+use Rattle.bbm_counterrun.proofs.Common.{is_like, written_at}
+use Rattle.bbm_rules.proofs.Common.{◌≡◌, filter, take, reverse, least}
 use Rattle.bbm_counterrun.proofs.reads.least_read.Given as goal
 
 abbrev pub invariant-loop-event : goal.invariant-loop-event

@@ -1,4 +1,4 @@
-use Rattle.std.proofs.Common.{◌≡◌, drop, reverse}
+use Rattle.bbm_rules.proofs.Common.{◌≡◌, drop, reverse}
 use Rattle.bbm_counterrun.specs.Ways as spec
 use Rattle.bbm_counterrun.proofs.ReadCode.{and_then}
 use Rattle.bbm_counterrun.proofs.reads.least_reads.Given as goal

@@ -1,5 +1,5 @@
-use Rattle.std.proofs.Common.{◌≡◌, ◌-◌, ◌++◌}
-use Rattle.bbm_counterrun.specs.Plans.{drops}
+use Rattle.bbm_counterrun.proofs.Common.{drops}
+use Rattle.bbm_rules.proofs.Common.{◌≡◌, ◌-◌, ◌++◌}
 use Rattle.bbm_counterrun.proofs.runs.add_drops.Given as goal
 
 abbrev pub invariant-loop-entry : goal.invariant-loop-entry

@@ -1,4 +1,4 @@
-use Rattle.std.proofs.Common.{◌≡◌, ◌++◌, map, take}
+use Rattle.bbm_rules.proofs.Common.{◌≡◌, ◌++◌, map, take}
 use Rattle.bbm_tlb_machine.specs.declared.step.Step.TheVariants.{Event as Taken}
 use Rattle.bbm_counterrun.proofs.runs.add_events.Given as goal
 

@@ -1,5 +1,5 @@
-use Rattle.std.proofs.Common.{◌≡◌, ◌+◌, ◌++◌, drop}
-use Rattle.bbm_counterrun.specs.Plans.{extends}
+use Rattle.bbm_counterrun.proofs.Common.{extends}
+use Rattle.bbm_rules.proofs.Common.{◌≡◌, ◌+◌, ◌++◌, drop}
 use Rattle.bbm_counterrun.proofs.runs.add_extends.Given as goal
 
 abbrev pub invariant-loop-read : goal.invariant-loop-read

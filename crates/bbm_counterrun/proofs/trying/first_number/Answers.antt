@@ -1,5 +1,4 @@
-use Rattle.std.proofs.Common.{ap, ◌∙◌}
-use Rattle.bbm_rules.specs.Lists.{among}
+use Rattle.bbm_rules.proofs.Common.{ap, ◌∙◌, among}
 use Rattle.bbm_counterrun.proofs.ChoiceSteps.{every_number}
 use Rattle.bbm_counterrun.proofs.trying.first_number.Goals as goal
 

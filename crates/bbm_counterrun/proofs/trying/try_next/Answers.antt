@@ -1,6 +1,5 @@
-use Rattle.std.proofs.Common.{reverse, sym, ◌∙◌}
-use Rattle.bbm_rules.specs.Prelude.{Write}
-use Rattle.bbm_counterrun.specs.Searching.{plain_by}
+use Rattle.bbm_counterrun.proofs.Common.{plain_by}
+use Rattle.bbm_rules.proofs.Common.{reverse, sym, ◌∙◌, Write}
 use Rattle.bbm_counterrun.proofs.ChoiceSteps.{best_next}
 use Rattle.bbm_counterrun.proofs.trying.try_next.Goals as goal
 

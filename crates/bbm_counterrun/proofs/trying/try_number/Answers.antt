@@ -1,4 +1,4 @@
-use Rattle.std.proofs.Common.{sym, ◌∙◌}
+use Rattle.bbm_rules.proofs.Common.{sym, ◌∙◌}
 use Rattle.bbm_counterrun.proofs.SearchPlain.{try_chosen}
 use Rattle.bbm_counterrun.proofs.trying.try_number.Goals as goal
 

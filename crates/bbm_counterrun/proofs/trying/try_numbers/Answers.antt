@@ -1,6 +1,5 @@
-use Rattle.std.proofs.Common.{reverse, take}
-use Rattle.bbm_rules.specs.Prelude.{Write}
-use Rattle.bbm_counterrun.specs.Searching.{plain_by}
+use Rattle.bbm_counterrun.proofs.Common.{plain_by}
+use Rattle.bbm_rules.proofs.Common.{reverse, take, Write}
 use Rattle.bbm_counterrun.proofs.ChoiceSteps.{numbers_more}
 use Rattle.bbm_counterrun.proofs.trying.try_numbers.Goals as goal
 

@@ -1,6 +1,5 @@
-use Rattle.std.proofs.Common.{take, reverse}
-use Rattle.bbm_rules.specs.Prelude.{Write}
-use Rattle.bbm_counterrun.specs.Searching.{BestAmong, plain_by}
+use Rattle.bbm_counterrun.proofs.Common.{BestAmong, plain_by}
+use Rattle.bbm_rules.proofs.Common.{take, reverse, Write}
 use Rattle.bbm_counterrun.proofs.trying.try_numbers.Given as goal
 
 abbrev pub invariant-loop-number : goal.invariant-loop-number

@@ -1,4 +1,4 @@
-use Rattle.std.proofs.Common.{reverse}
+use Rattle.bbm_rules.proofs.Common.{reverse}
 use Rattle.bbm_counterrun.proofs.WalkCode.{extend_may, extend_same}
 use Rattle.bbm_counterrun.proofs.walk.extend_by.Goals as goal
 

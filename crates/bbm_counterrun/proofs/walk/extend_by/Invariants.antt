@@ -1,4 +1,4 @@
-use Rattle.std.proofs.Common.{◌≡◌, drop, reverse}
+use Rattle.bbm_rules.proofs.Common.{◌≡◌, drop, reverse}
 use Rattle.bbm_counterrun.specs.Tested as spec
 use Rattle.bbm_counterrun.proofs.walk.extend_by.Given as goal
 

@@ -1,7 +1,6 @@
-use Rattle.std.proofs.Common.{◌≡◌, ◌++◌, map, take, reverse}
+use Rattle.bbm_counterrun.proofs.Common.{notes}
+use Rattle.bbm_rules.proofs.Common.{◌≡◌, ◌++◌, map, take, reverse, Above}
 use Rattle.bbm_counterrun.specs.Goals.{goals_among}
-use Rattle.bbm_oracle_trees.specs.Past.{notes}
-use Rattle.bbm_rules.specs.Tree.{Above}
 use Rattle.bbm_counterrun.proofs.way.add_above.Given as goal
 
 abbrev pub invariant-loop-place : goal.invariant-loop-place

@@ -1,7 +1,5 @@
 -- The bytes that are left are all of a label exactly where all bytes are.
-use Rattle.std.proofs.Common.{◌≡◌, length}
-use Rattle.std.specs.List.{list_all}
-use Rattle.bbm_events.specs.Label.{is_label_byte}
+use Rattle.bbm_events.proofs.Common.{◌≡◌, length, list_all, is_label_byte}
 use Rattle.bbm_events.proofs.label.are_label_bytes.Given as goal
 
 abbrev pub invariant-loop-left : goal.invariant-loop-left

@@ -1,6 +1,4 @@
-use Rattle.std.proofs.Common.{arith}
-use Rattle.std.proofs.lemmas.List.Sums.{AllPass-from_list_all}
-use Rattle.bbm_events.specs.Fits.{fits_heading}
+use Rattle.bbm_rules.proofs.Common.{arith, AllPass-from_list_all, fits_heading}
 use Rattle.bbm_evidence_tests.proofs.certificates.judged.Goals as goal
 
 pub verify-requires : goal.verify-requires

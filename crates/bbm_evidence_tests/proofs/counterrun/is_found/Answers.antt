@@ -1,5 +1,4 @@
-use Rattle.std.proofs.lemmas.List.Sums.{AllPass-from_list_all}
-use Rattle.bbm_events.specs.Fits.{fits_heading}
+use Rattle.bbm_rules.proofs.Common.{AllPass-from_list_all, fits_heading}
 use Rattle.bbm_evidence_tests.proofs.counterrun.is_found.Goals as goal
 
 pub find-requires : goal.find-requires

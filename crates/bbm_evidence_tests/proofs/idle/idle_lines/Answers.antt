@@ -1,10 +1,6 @@
-use Rattle.std.proofs.Common.{◌≡◌, Bool, true, false, ◌&&◌, List, [], ◌∷◌, reverse, refl, ap, ◌∙◌}
-use Rattle.std.specs.List.{list_all}
-use Rattle.std.proofs.lemmas.List.{reverse-append}
+use Rattle.bbm_rules.proofs.Common.{◌≡◌, Bool, true, false, ◌&&◌, List, [], ◌∷◌, reverse, refl, ap, ◌∙◌, list_all}
+use Rattle.bbm_rules.proofs.Common.{reverse-append, proved, Is, fits_heading}
 use Rattle.std.proofs.lemmas.List.Folds.{list_all-append}
-use Rattle.bbm_lemmas.proofs.Tautologies.{proved}
-use Rattle.bbm_lemmas.proofs.Tautologies.Claim.{Is}
-use Rattle.bbm_events.specs.Fits.{fits_heading}
 use Rattle.bbm_evidence_tests.proofs.idle.idle_lines.Goals as goal
 
 both : (a b : Bool) → (b && (a && true)) ≡ (a && b)

@@ -1,4 +1,4 @@
-use Rattle.std.proofs.Common.{◌≡◌, ◌≤◌, take, reverse}
+use Rattle.bbm_rules.proofs.Common.{◌≡◌, ◌≤◌, take, reverse}
 use Rattle.bbm_follow.specs.Following.{event_count}
 use Rattle.bbm_follow.proofs.taking.count_events.Given as goal
 

@@ -1,4 +1,4 @@
-use Rattle.std.proofs.Common.{refl}
+use Rattle.bbm_rules.proofs.Common.{refl}
 use Rattle.bbm_rules.specs.Claims.{Patterns}
 use Rattle.bbm_gen.specs.Generated.{heading}
 use Rattle.bbm_gen.proofs.below.below.Goals as goal

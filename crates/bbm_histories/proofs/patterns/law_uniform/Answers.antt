@@ -1,4 +1,4 @@
-use Rattle.bbm_rules.specs.Claims.Trust.{Patterns}
+use Rattle.bbm_rules.proofs.Common.{Patterns}
 use Rattle.bbm_histories.proofs.UniformLemmas.{flush_alike, half_alike, half_test_alike, publication_alike}
 use Rattle.bbm_histories.proofs.UniformLemmas.{published_alike, reached_alike, seen_alike}
 use Rattle.bbm_histories.proofs.patterns.law_uniform.Goals as goal

@@ -1,4 +1,5 @@
-use Rattle.bbm_rules.specs.Notes.{Noted, event_of}
+use Rattle.bbm_rules.proofs.Common.{Noted}
+use Rattle.bbm_rules.specs.Notes.{event_of}
 use Rattle.bbm_histories.proofs.StepLemmas.{cleansed_step, half_step, seen_step, waits_step}
 use Rattle.bbm_histories.proofs.steps.law_pattern_steps.Goals as goal
 

@@ -1,4 +1,4 @@
-use Rattle.std.proofs.Common.{refl}
+use Rattle.bbm_rules.proofs.Common.{refl}
 use Rattle.bbm_histories.proofs.ChildlessSteps.{after, all_ended, ends_all, from_none, no_table, to_none}
 use Rattle.bbm_histories.proofs.tree_steps.law_childless_step.Goals as goal
 

@@ -1,4 +1,4 @@
-use Rattle.std.proofs.Common.{refl}
+use Rattle.bbm_rules.proofs.Common.{refl}
 use Rattle.bbm_histories.proofs.LimboSteps.{limbo_step, place_step}
 use Rattle.bbm_histories.proofs.tree_steps.law_limbo_step.Goals as goal
 

@@ -1,13 +1,6 @@
-use Rattle.std.proofs.Common.{◌≡◌, ℕ, ◌<◌, Bool, true, false, List, Some, None, refl, sym, ◌∙◌, ap, subst}
-use Rattle.bbm_descriptor.specs.Descriptor.{is_valid}
-use Rattle.bbm_rules.specs.Prelude.{Event, Heading, Kind}
-use Rattle.bbm_rules.specs.Claims.{Trust}
-use Rattle.bbm_rules.specs.Covers.{noted}
-use Rattle.bbm_rules.specs.Held.{held}
-use Rattle.bbm_rules.specs.Notes.{events_of}
-use Rattle.bbm_rules.specs.Places.{page_of}
-use Rattle.bbm_rules.specs.Values.{value_of}
-use Rattle.bbm_histories.specs.BelowHistories.{Below}
+use Rattle.bbm_histories.proofs.Common.{Kind, Below}
+use Rattle.bbm_rules.proofs.Common.{◌≡◌, ℕ, ◌<◌, Bool, true, false, List, Some, None, refl, sym, ◌∙◌, ap, subst}
+use Rattle.bbm_rules.proofs.Common.{is_valid, Event, Heading, Trust, noted, held, events_of, page_of, value_of}
 use Rattle.bbm_histories.proofs.FreshLemmas.{content, held_is_present}
 use Rattle.bbm_histories.proofs.HeldSteps.{held_change}
 use Rattle.bbm_histories.proofs.Induction.{last_kept}

@@ -1,5 +1,4 @@
-use Rattle.std.proofs.Common.{refl}
-use Rattle.bbm_rules.specs.Covers.{noted}
+use Rattle.bbm_rules.proofs.Common.{refl, noted}
 use Rattle.bbm_histories.proofs.Invariants.{invariants}
 use Rattle.bbm_histories.proofs.TreeSteps.{node_is}
 use Rattle.bbm_histories.proofs.trees.law_one_node.Goals as goal

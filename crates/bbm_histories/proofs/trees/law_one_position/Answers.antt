@@ -1,7 +1,4 @@
-use Rattle.std.proofs.Common.{List, sym, ◌∙◌, ap, inl, inr}
-use Rattle.bbm_rules.specs.Prelude.{Event, Init}
-use Rattle.bbm_rules.specs.Covers.{noted}
-use Rattle.bbm_rules.specs.Pages.{is_null}
+use Rattle.bbm_rules.proofs.Common.{List, sym, ◌∙◌, ap, inl, inr, Event, Init, noted, is_null}
 use Rattle.bbm_histories.proofs.FreshLemmas.{unfresh}
 use Rattle.bbm_histories.proofs.HeldSteps.{init_outside}
 use Rattle.bbm_histories.proofs.Induction.{last_kept}

@@ -1,6 +1,4 @@
-use Rattle.std.proofs.Common.{refl}
-use Rattle.bbm_rules.specs.Covers.{noted}
-use Rattle.bbm_rules.specs.Prelude.{Dsb}
+use Rattle.bbm_rules.proofs.Common.{refl, noted, Dsb}
 use Rattle.bbm_histories.proofs.Induction.{last_kept}
 use Rattle.bbm_histories.proofs.Invariants.{invariants}
 use Rattle.bbm_histories.proofs.TreeAfter.{dsb_step, step}

@@ -1,4 +1,4 @@
-use Rattle.bbm_rules.specs.Covers.{noted}
+use Rattle.bbm_rules.proofs.Common.{noted}
 use Rattle.bbm_histories.proofs.FreshSteps.{attached_unfresh, fresh_after}
 use Rattle.bbm_histories.proofs.Induction.{last_kept}
 use Rattle.bbm_histories.proofs.Invariants.{invariants}

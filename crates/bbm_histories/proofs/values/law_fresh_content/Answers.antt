@@ -1,4 +1,4 @@
-use Rattle.bbm_rules.specs.Covers.{noted}
+use Rattle.bbm_rules.proofs.Common.{noted}
 use Rattle.bbm_histories.proofs.AttachedLemmas.{holds_present}
 use Rattle.bbm_histories.proofs.FreshLemmas.{content}
 use Rattle.bbm_histories.proofs.Induction.{last_kept}

@@ -1,4 +1,4 @@
-use Rattle.std.proofs.Common.{◌∷◌}
+use Rattle.bbm_rules.proofs.Common.{◌∷◌}
 use Rattle.bbm_histories.proofs.Induction.{kept_before}
 use Rattle.bbm_histories.proofs.PatternLemmas.{answer_stays, publication_stays}
 use Rattle.bbm_histories.proofs.ValueLemmas.{published_stays, stays_unreadable}

@@ -1,9 +1,7 @@
-use Rattle.std.proofs.Common.{◌≡◌, reverse, sym, ap, ◌∙◌, arith, rules, inl, inr}
-use Rattle.std.proofs.lemmas.Bool.{cases_lt}
-use Rattle.bbm_lemmas.proofs.Words.{pe_none, pe_finds}
-use Rattle.bbm_events.specs.Heading.{Heading}
+use Rattle.bbm_idle.proofs.Common.{Heading, needed_by}
+use Rattle.bbm_rules.proofs.Common.{◌≡◌, reverse, sym, ap, ◌∙◌, arith, rules, inl, inr, cases_lt, pe_finds}
+use Rattle.bbm_lemmas.proofs.Words.{pe_none}
 use Rattle.bbm_regimes.specs.PeMask.{pe_in}
-use Rattle.bbm_idle.specs.Finding.{needed_by}
 use Rattle.bbm_idle.proofs.find_needed.is_needed.Goals as goal
 
 pub returns-then-branch : goal.returns-then-branch

@@ -1,6 +1,6 @@
-use Rattle.std.proofs.Common.{◌≡◌, ℕ, ◌<◌, false, reverse}
+use Rattle.bbm_idle.proofs.Common.{needed_by}
+use Rattle.bbm_rules.proofs.Common.{◌≡◌, ℕ, ◌<◌, false, reverse}
 use Rattle.bbm_regimes.specs.PeMask.{pe_in}
-use Rattle.bbm_idle.specs.Finding.{needed_by}
 use Rattle.bbm_idle.proofs.find_needed.is_needed.Given as goal
 
 abbrev pub invariant-loop-number : goal.invariant-loop-number

@@ -1,12 +1,6 @@
-use Rattle.std.proofs.Common.{◌≡◌, Bool, ◌&&◌, ◌||◌, reverse, ap, ◌∙◌}
-use Rattle.std.proofs.lemmas.Result.{IfOk-weaker}
+use Rattle.bbm_idle.proofs.Common.{Patterns, needed_by, takes_of}
+use Rattle.bbm_rules.proofs.Common.{◌≡◌, Bool, ◌&&◌, ◌||◌, reverse, ap, ◌∙◌, IfOk-weaker, any, roots_of, holds_at}
 use Rattle.bbm_regimes.specs.PeMask.{pe_in}
-use Rattle.bbm_rules.specs.Claims.{Patterns}
-use Rattle.bbm_rules.specs.Lists.{any}
-use Rattle.bbm_rules.specs.Roots.{roots_of}
-use Rattle.bbm_rules.specs.Tags.{holds_at}
-use Rattle.bbm_idle.specs.Finding.{needed_by}
-use Rattle.bbm_idle.specs.Idle.{takes_of}
 use Rattle.bbm_idle.proofs.FindTags.{takes_held}
 use Rattle.bbm_idle.proofs.find_needed.is_needed_at.Goals as goal
 

@@ -1,5 +1,4 @@
-use Rattle.std.proofs.Common.{◌≡◌, ◌<◌, length, sym, ◌∙◌, arith}
-use Rattle.std.proofs.lemmas.Bool.{eqb-false}
+use Rattle.bbm_rules.proofs.Common.{◌≡◌, ◌<◌, length, sym, ◌∙◌, arith, eqb-false}
 use Rattle.bbm_idle.proofs.FindPlaces.{newest_added}
 use Rattle.bbm_idle.proofs.find_needed.newest_adds.Goals as goal
 

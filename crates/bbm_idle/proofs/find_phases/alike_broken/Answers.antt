@@ -1,5 +1,5 @@
-use Rattle.std.proofs.Common.{◌≡◌, Bool, not, ◌&&◌, ◌||◌, nat_lt, ap, ◌∙◌, arith}
-use Rattle.bbm_events.specs.Heading.{Heading}
+use Rattle.bbm_idle.proofs.Common.{Heading}
+use Rattle.bbm_rules.proofs.Common.{◌≡◌, Bool, not, ◌&&◌, ◌||◌, nat_lt, ap, ◌∙◌, arith}
 use Rattle.bbm_regimes.specs.PeMask.{pe_in}
 use Rattle.bbm_idle.proofs.FindPhases.{alike_at, differ}
 use Rattle.bbm_idle.proofs.find_phases.alike_broken.Goals as goal

@@ -1,13 +1,8 @@
-use Rattle.std.proofs.Common.{ap, ◌∙◌}
-use Rattle.bbm_lemmas.proofs.Every.{every_same}
-use Rattle.bbm_lemmas.specs.EveryPe.{every_pe}
+use Rattle.bbm_idle.proofs.Common.{Phase, Heading, Patterns, same_phase}
+use Rattle.bbm_rules.proofs.Common.{ap, ◌∙◌, every_same, every_pe}
 use Rattle.bbm_regimes.specs.PeMask.{pe_in}
-use Rattle.bbm_rules.specs.declared.phase.Phase.{Phase}
-use Rattle.bbm_events.specs.Heading.{Heading}
-use Rattle.bbm_rules.specs.Claims.{Patterns}
 use Rattle.bbm_rules.specs.Phases.{phase_of}
 use Rattle.bbm_idle.specs.Finding.{phase_from}
-use Rattle.bbm_idle.specs.SamePhase.{same_phase}
 use Rattle.bbm_idle.proofs.find_phases.has_still.Goals as goal
 
 pub returns : goal.returns

@@ -1,9 +1,6 @@
-use Rattle.std.proofs.Common.{◌≡◌, List, true, take}
-use Rattle.bbm_rules.specs.Claims.{Patterns}
-use Rattle.bbm_rules.specs.Lists.{every}
+use Rattle.bbm_idle.proofs.Common.{Patterns, Stands, is_kept_by}
+use Rattle.bbm_rules.proofs.Common.{◌≡◌, List, true, take, every, Event}
 use Rattle.bbm_rules.specs.Phases.{phase_of}
-use Rattle.bbm_rules.specs.Prelude.{Event}
-use Rattle.bbm_idle.specs.Finding.{Stands, is_kept_by}
 use Rattle.bbm_idle.proofs.find_phases.have_still.Given as goal
 
 abbrev pub invariant-loop-place : goal.invariant-loop-place

@@ -1,14 +1,6 @@
-use Rattle.std.proofs.Common.{◌≡◌, ℕ, List, Some, None, reverse, ap, sym, ◌∙◌}
-use Rattle.bbm_rules.specs.Claims.{Patterns}
-use Rattle.bbm_rules.specs.Notes.{events_of}
-use Rattle.bbm_rules.specs.Places.{page_of}
-use Rattle.bbm_rules.specs.Prelude.{Heading, Event}
-use Rattle.bbm_rules.specs.Tree.{Node, node_of}
-use Rattle.bbm_rules.specs.Values.{value_of}
-use Rattle.bbm_oracle_patterns.specs.Kept.{notes_of}
-use Rattle.bbm_oracle_patterns.specs.PlacePhases.{phase_at}
-use Rattle.bbm_oracle_patterns.specs.declared.kept.Kept.{Kept}
-use Rattle.bbm_oracle_trees.specs.Past.{notes}
+use Rattle.bbm_idle.proofs.Common.{Patterns, notes_of, phase_at, Kept, notes}
+use Rattle.bbm_rules.proofs.Common.{◌≡◌, ℕ, List, Some, None, reverse, ap, sym, ◌∙◌, events_of, page_of, Heading, Event}
+use Rattle.bbm_rules.proofs.Common.{Node, node_of, value_of}
 use Rattle.bbm_idle.proofs.FindPhases.{at_node, at_no_node, phase_stands}
 use Rattle.bbm_idle.proofs.find_phases.phases_at.Goals as goal
 

@@ -1,10 +1,6 @@
-use Rattle.std.proofs.Common.{◌≡◌, ℕ, List, take}
-use Rattle.bbm_rules.specs.declared.phase.Phase.{Phase}
-use Rattle.bbm_rules.specs.Claims.{Patterns}
-use Rattle.bbm_rules.specs.Lists.{every}
+use Rattle.bbm_idle.proofs.Common.{Phase, Patterns, Stands, is_kept, is_kept_by}
+use Rattle.bbm_rules.proofs.Common.{◌≡◌, ℕ, List, take, every, Heading, Event}
 use Rattle.bbm_rules.specs.Phases.{phase_of}
-use Rattle.bbm_rules.specs.Prelude.{Heading, Event}
-use Rattle.bbm_idle.specs.Finding.{Stands, is_kept, is_kept_by}
 use Rattle.bbm_idle.proofs.find_phases.phases_of.Given as goal
 
 abbrev pub invariant-loop-place : goal.invariant-loop-place

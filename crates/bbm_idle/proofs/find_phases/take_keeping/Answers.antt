@@ -1,8 +1,6 @@
-use Rattle.std.proofs.Common.{ℕ, List, ◌∷◌, ap, ◌∙◌}
-use Rattle.bbm_rules.specs.Claims.{Patterns}
-use Rattle.bbm_rules.specs.Lists.{every}
+use Rattle.bbm_idle.proofs.Common.{Patterns, Stands, is_kept, is_kept_by}
+use Rattle.bbm_rules.proofs.Common.{ℕ, List, ◌∷◌, ap, ◌∙◌, every}
 use Rattle.bbm_rules.specs.Phases.{phase_of}
-use Rattle.bbm_idle.specs.Finding.{Stands, is_kept, is_kept_by}
 use Rattle.bbm_idle.specs.declared.find_phases.PlacePhases.{PlacePhases}
 use Rattle.bbm_idle.proofs.find_phases.take_keeping.Goals as goal
 

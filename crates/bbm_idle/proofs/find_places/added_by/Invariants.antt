@@ -1,8 +1,6 @@
-use Rattle.std.proofs.Common.{◌≡◌, ℕ, take, reverse}
+use Rattle.bbm_idle.proofs.Common.{cover_in, notes_of, place_adds}
+use Rattle.bbm_rules.proofs.Common.{◌≡◌, ℕ, take, reverse, any}
 use Rattle.bbm_regimes.specs.PeMask.{pe_in}
-use Rattle.bbm_rules.specs.Lists.{any}
-use Rattle.bbm_oracle_patterns.specs.Kept.{cover_in, notes_of}
-use Rattle.bbm_idle.specs.Finding.{place_adds}
 use Rattle.bbm_idle.proofs.find_places.added_by.Given as goal
 
 abbrev pub invariant-loop-seat : goal.invariant-loop-seat

@@ -1,8 +1,5 @@
-use Rattle.std.proofs.Common.{◌≡◌, ℕ, take}
-use Rattle.bbm_tlbi_scope.specs.declared.entry.Cover.{Cover}
-use Rattle.bbm_rules.specs.Lists.{any}
-use Rattle.bbm_oracle_trees.specs.Past.{notes}
-use Rattle.bbm_idle.specs.Finding.{adds_with, place_adds}
+use Rattle.bbm_idle.proofs.Common.{notes, adds_with, place_adds}
+use Rattle.bbm_rules.proofs.Common.{◌≡◌, ℕ, take, Cover, any}
 use Rattle.bbm_idle.proofs.find_places.seats_of.Given as goal
 
 abbrev pub invariant-loop-place : goal.invariant-loop-place

@@ -1,5 +1,5 @@
-use Rattle.std.proofs.Common.{◌≡◌, take, reverse}
-use Rattle.bbm_idle.specs.Idle.{wrote_register}
+use Rattle.bbm_idle.proofs.Common.{wrote_register}
+use Rattle.bbm_rules.proofs.Common.{◌≡◌, take, reverse}
 use Rattle.bbm_idle.proofs.find_registers.wrote_register.Given as goal
 
 abbrev pub invariant-loop-event : goal.invariant-loop-event

@@ -1,5 +1,4 @@
-use Rattle.std.proofs.Common.{sym, ◌∙◌}
-use Rattle.std.proofs.lemmas.Result.{on_ok_weaker}
+use Rattle.bbm_rules.proofs.Common.{sym, ◌∙◌, on_ok_weaker}
 use Rattle.bbm_idle.proofs.FindTags.{known_more, known_still}
 use Rattle.bbm_idle.proofs.find_tags.add_known.Goals as goal
 

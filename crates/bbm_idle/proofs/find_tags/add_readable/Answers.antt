@@ -1,6 +1,4 @@
-use Rattle.std.proofs.Common.{◌≡◌, ℕ, ◌||◌, List, reverse, ap, ◌∙◌, rules}
-use Rattle.bbm_rules.specs.Lists.{any}
-use Rattle.bbm_rules.specs.Tags.{Reading, readings}
+use Rattle.bbm_rules.proofs.Common.{◌≡◌, ℕ, ◌||◌, List, reverse, ap, ◌∙◌, rules, any, Reading, readings}
 use Rattle.bbm_idle.proofs.FindTags.{read_more}
 use Rattle.bbm_idle.proofs.find_tags.add_readable.Goals as goal
 

@@ -1,6 +1,4 @@
-use Rattle.std.proofs.Common.{◌≡◌, Bool, ◌||◌, reverse}
-use Rattle.bbm_rules.specs.Lists.{any, below}
-use Rattle.bbm_rules.specs.Tags.{Reading, readings}
+use Rattle.bbm_rules.proofs.Common.{◌≡◌, Bool, ◌||◌, reverse, any, below, Reading, readings}
 use Rattle.bbm_idle.proofs.find_tags.add_readable.Given as goal
 
 abbrev pub invariant-loop-number : goal.invariant-loop-number

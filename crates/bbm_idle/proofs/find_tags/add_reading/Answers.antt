@@ -1,5 +1,4 @@
-use Rattle.std.proofs.Common.{List, sym, ap, ◌∙◌}
-use Rattle.bbm_rules.specs.Tags.{Reading}
+use Rattle.bbm_rules.proofs.Common.{List, sym, ap, ◌∙◌, Reading}
 use Rattle.bbm_oracle_tags.specs.Moments.{is_read}
 use Rattle.bbm_idle.proofs.FindTags.{known_already}
 use Rattle.bbm_idle.proofs.find_tags.add_reading.Goals as goal

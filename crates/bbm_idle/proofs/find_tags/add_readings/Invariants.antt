@@ -1,6 +1,4 @@
-use Rattle.std.proofs.Common.{◌≡◌, Bool, ◌||◌, take}
-use Rattle.bbm_rules.specs.Lists.{any}
-use Rattle.bbm_rules.specs.Tags.{Reading}
+use Rattle.bbm_rules.proofs.Common.{◌≡◌, Bool, ◌||◌, take, any, Reading}
 use Rattle.bbm_idle.proofs.find_tags.add_readings.Given as goal
 
 abbrev pub invariant-loop-reading : goal.invariant-loop-reading

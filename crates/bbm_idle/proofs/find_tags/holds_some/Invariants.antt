@@ -1,7 +1,5 @@
-use Rattle.std.proofs.Common.{◌≡◌, false, take, reverse}
-use Rattle.bbm_rules.specs.Claims.{Patterns}
-use Rattle.bbm_rules.specs.Lists.{any}
-use Rattle.bbm_rules.specs.Tags.{holds_at}
+use Rattle.bbm_idle.proofs.Common.{Patterns}
+use Rattle.bbm_rules.proofs.Common.{◌≡◌, false, take, reverse, any, holds_at}
 use Rattle.bbm_idle.proofs.find_tags.holds_some.Given as goal
 
 abbrev pub invariant-loop-reading : goal.invariant-loop-reading

@@ -1,10 +1,6 @@
-use Rattle.std.proofs.Common.{◌≡◌, Bool, None, Some, reverse, sym, ◌∙◌}
-use Rattle.std.proofs.lemmas.Result.{IfOk-weaker}
-use Rattle.bbm_rules.specs.Lists.{any}
-use Rattle.bbm_rules.specs.Prelude.{Tlbi}
-use Rattle.bbm_rules.specs.RegisterValues.{named_scope}
-use Rattle.bbm_rules.specs.Tags.{Reading}
-use Rattle.bbm_idle.specs.Finding.{AreTaken, is_taken}
+use Rattle.bbm_idle.proofs.Common.{AreTaken, is_taken}
+use Rattle.bbm_rules.proofs.Common.{◌≡◌, Bool, None, Some, reverse, sym, ◌∙◌, IfOk-weaker, any, Tlbi, named_scope}
+use Rattle.bbm_rules.proofs.Common.{Reading}
 use Rattle.bbm_idle.proofs.FindTags.{taken_of, taken_other, taken_unnamed}
 use Rattle.bbm_idle.proofs.find_tags.taken_by.Goals as goal
 

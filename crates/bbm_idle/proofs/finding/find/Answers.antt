@@ -1,8 +1,6 @@
-use Rattle.std.proofs.Common.{◌≡◌, ◌+◌, ◌∷◌, List, take, reverse, subst}
-use Rattle.bbm_lemmas.proofs.Reversed.{passes_at, reverse_more}
-use Rattle.bbm_rules.specs.Prelude.{Event}
-use Rattle.bbm_events.specs.Fits.{fits_heading}
-use Rattle.bbm_idle.specs.Finding.{IsSearch}
+use Rattle.bbm_idle.proofs.Common.{IsSearch}
+use Rattle.bbm_rules.proofs.Common.{◌≡◌, ◌+◌, ◌∷◌, List, take, reverse, subst, reverse_more, Event, fits_heading}
+use Rattle.bbm_lemmas.proofs.Reversed.{passes_at}
 use Rattle.bbm_idle.specs.Idle.{is_idle}
 use Rattle.bbm_idle.proofs.FindMarks.{marks_more}
 use Rattle.bbm_idle.proofs.finding.find.Goals as goal

@@ -1,6 +1,5 @@
-use Rattle.std.proofs.Common.{◌≡◌, take, reverse}
-use Rattle.bbm_idle.specs.Finding.{IsSearch}
-use Rattle.bbm_idle.specs.Idle.{idle_marks}
+use Rattle.bbm_idle.proofs.Common.{IsSearch, idle_marks}
+use Rattle.bbm_rules.proofs.Common.{◌≡◌, take, reverse}
 use Rattle.bbm_idle.proofs.finding.find.Given as goal
 
 abbrev pub invariant-loop-index : goal.invariant-loop-index

@@ -1,5 +1,6 @@
-use Rattle.std.proofs.Common.{sym}
-use Rattle.bbm_idle.specs.Idle.{is_idle, without}
+use Rattle.bbm_idle.proofs.Common.{without}
+use Rattle.bbm_rules.proofs.Common.{sym}
+use Rattle.bbm_idle.specs.Idle.{is_idle}
 use Rattle.bbm_idle.proofs.Rest.{left}
 use Rattle.bbm_idle.proofs.Thinned.{thinned}
 use Rattle.bbm_idle.proofs.laws.law_idle.Goals as goal

@@ -1,7 +1,5 @@
-use Rattle.std.proofs.Common.{◌≡◌, ◌+◌, ◌-◌, ◌<◌, ◌++◌, List, true, flat_map, arith, rules, ap, ◌∙◌}
-use Rattle.std.proofs.lemmas.List.{take_all}
-use Rattle.bbm_rules.specs.Attach.{End}
-use Rattle.bbm_rules.specs.Pages.{is_fresh}
+use Rattle.bbm_rules.proofs.Common.{◌≡◌, ◌+◌, ◌-◌, ◌<◌, ◌++◌, List, true, flat_map, arith, rules, ap, ◌∙◌, take_all}
+use Rattle.bbm_rules.proofs.Common.{End, is_fresh}
 use Rattle.bbm_oracle_trees.specs.Past.{notes}
 use Rattle.bbm_judge.proofs.Paths.{ends_through, through}
 use Rattle.bbm_judge.proofs.ends.+add_ends.Goals as goal

@@ -1,4 +1,4 @@
-use Rattle.std.proofs.Common.{◌≡◌, ◌+◌, ◌-◌, ◌++◌, take, flat_map}
+use Rattle.bbm_rules.proofs.Common.{◌≡◌, ◌+◌, ◌-◌, ◌++◌, take, flat_map}
 use Rattle.bbm_judge.proofs.Paths.{through}
 use Rattle.bbm_oracle_trees.specs.Past.{notes}
 use Rattle.bbm_judge.proofs.ends.+add_ends.Given as goal

@@ -1,5 +1,4 @@
-use Rattle.std.proofs.Common.{◌≡◌, ◌-◌, ◌++◌, take, flat_map}
-use Rattle.bbm_rules.specs.Attach.{ends_below}
+use Rattle.bbm_rules.proofs.Common.{◌≡◌, ◌-◌, ◌++◌, take, flat_map, ends_below}
 use Rattle.bbm_oracle_trees.specs.Past.{notes}
 use Rattle.bbm_judge.proofs.ends.add_deeper.Given as goal
 

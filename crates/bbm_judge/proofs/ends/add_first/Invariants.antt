@@ -1,5 +1,4 @@
-use Rattle.std.proofs.Common.{◌≡◌, ◌++◌, take, map}
-use Rattle.bbm_rules.specs.Attach.{end_at}
+use Rattle.bbm_rules.proofs.Common.{◌≡◌, ◌++◌, take, map, end_at}
 use Rattle.bbm_judge.proofs.ends.add_first.Given as goal
 
 abbrev pub invariant-loop-page : goal.invariant-loop-page

@@ -1,4 +1,4 @@
-use Rattle.std.proofs.lemmas.Result.{IfOk-weaker}
+use Rattle.bbm_rules.proofs.Common.{IfOk-weaker}
 use Rattle.bbm_judge.proofs.ends.attached_by.Goals as goal
 
 pub returns-in-Write : goal.returns-in-Write

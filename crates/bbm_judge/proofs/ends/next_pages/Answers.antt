@@ -1,7 +1,4 @@
-use Rattle.std.proofs.Common.{arith}
-use Rattle.bbm_rules.specs.Notes.{events_of}
-use Rattle.bbm_rules.specs.Tree.{next_of}
-use Rattle.bbm_rules.specs.Values.{value_of}
+use Rattle.bbm_rules.proofs.Common.{arith, events_of, next_of, value_of}
 use Rattle.bbm_oracle_trees.specs.Past.{notes}
 use Rattle.bbm_judge.proofs.Lists.{filter_map_more}
 use Rattle.bbm_judge.proofs.ends.next_pages.Goals as goal

@@ -1,7 +1,4 @@
-use Rattle.std.proofs.Common.{arith}
-use Rattle.bbm_descriptor.specs.Descriptor.{desc_of}
-use Rattle.bbm_rules.specs.Notes.{events_of}
-use Rattle.bbm_rules.specs.Values.{value_of}
+use Rattle.bbm_rules.proofs.Common.{arith, desc_of, events_of, value_of}
 use Rattle.bbm_judge.specs.Flaws.{has_flaw}
 use Rattle.bbm_oracle_trees.specs.Past.{notes}
 use Rattle.bbm_judge.proofs.Leasts.{least_filter_more}

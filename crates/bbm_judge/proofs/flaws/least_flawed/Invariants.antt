@@ -1,8 +1,4 @@
-use Rattle.std.proofs.Common.{◌≡◌, take, filter}
-use Rattle.bbm_descriptor.specs.Descriptor.{desc_of}
-use Rattle.bbm_rules.specs.Lists.{least}
-use Rattle.bbm_rules.specs.Notes.{events_of}
-use Rattle.bbm_rules.specs.Values.{value_of}
+use Rattle.bbm_rules.proofs.Common.{◌≡◌, take, filter, desc_of, least, events_of, value_of}
 use Rattle.bbm_judge.specs.Flaws.{has_flaw}
 use Rattle.bbm_oracle_trees.specs.Past.{notes}
 use Rattle.bbm_judge.proofs.flaws.least_flawed.Given as goal

@@ -1,6 +1,4 @@
-use Rattle.std.proofs.Common.{arith}
-use Rattle.bbm_rules.specs.Notes.{events_of}
-use Rattle.bbm_rules.specs.Rules.{places_with}
+use Rattle.bbm_rules.proofs.Common.{arith, events_of, places_with}
 use Rattle.bbm_judge.specs.Flaws.{has_flaw}
 use Rattle.bbm_oracle_trees.specs.Past.{notes}
 use Rattle.bbm_judge.proofs.Leasts.{least_flat_more}

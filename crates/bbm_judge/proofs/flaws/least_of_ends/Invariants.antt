@@ -1,7 +1,4 @@
-use Rattle.std.proofs.Common.{◌≡◌, take, flat_map}
-use Rattle.bbm_rules.specs.Lists.{least}
-use Rattle.bbm_rules.specs.Notes.{events_of}
-use Rattle.bbm_rules.specs.Rules.{places_with}
+use Rattle.bbm_rules.proofs.Common.{◌≡◌, take, flat_map, least, events_of, places_with}
 use Rattle.bbm_judge.specs.Flaws.{has_flaw}
 use Rattle.bbm_oracle_trees.specs.Past.{notes}
 use Rattle.bbm_judge.proofs.flaws.least_of_ends.Given as goal

@@ -1,5 +1,4 @@
-use Rattle.std.proofs.Common.{ℕ, ◌-◌, List, ap, ◌∙◌, arith}
-use Rattle.bbm_rules.specs.Lists.{least, repeated}
+use Rattle.bbm_rules.proofs.Common.{ℕ, ◌-◌, List, ap, ◌∙◌, arith, least, repeated}
 use Rattle.bbm_judge.proofs.Lists.{range_behind}
 use Rattle.bbm_judge.proofs.least.least_repeated.Goals as goal
 

@@ -1,5 +1,4 @@
-use Rattle.std.proofs.Common.{◌≡◌, ◌≤◌, length, drop}
-use Rattle.bbm_rules.specs.Lists.{least, repeated}
+use Rattle.bbm_rules.proofs.Common.{◌≡◌, ◌≤◌, length, drop, least, repeated}
 use Rattle.bbm_judge.proofs.least.least_repeated.Given as goal
 
 abbrev pub invariant-loop-rest : goal.invariant-loop-rest

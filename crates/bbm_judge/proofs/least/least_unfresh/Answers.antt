@@ -1,5 +1,4 @@
-use Rattle.std.proofs.Common.{not, arith}
-use Rattle.bbm_rules.specs.Pages.{is_fresh}
+use Rattle.bbm_rules.proofs.Common.{not, arith, is_fresh}
 use Rattle.bbm_oracle_trees.specs.Past.{notes}
 use Rattle.bbm_judge.proofs.Leasts.{least_filter_more}
 use Rattle.bbm_judge.proofs.least.least_unfresh.Goals as goal

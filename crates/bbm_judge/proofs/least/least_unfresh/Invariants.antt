@@ -1,6 +1,4 @@
-use Rattle.std.proofs.Common.{◌≡◌, take}
-use Rattle.bbm_rules.specs.Lists.{least}
-use Rattle.bbm_rules.specs.Rules.{unfresh}
+use Rattle.bbm_rules.proofs.Common.{◌≡◌, take, least, unfresh}
 use Rattle.bbm_oracle_trees.specs.Past.{notes}
 use Rattle.bbm_judge.proofs.least.least_unfresh.Given as goal
 

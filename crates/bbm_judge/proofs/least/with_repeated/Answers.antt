@@ -1,4 +1,4 @@
-use Rattle.std.proofs.Common.{◌∙◌, sym}
+use Rattle.bbm_rules.proofs.Common.{◌∙◌, sym}
 use Rattle.bbm_judge.proofs.Leasts.{repeated_found, repeated_now}
 use Rattle.bbm_judge.proofs.least.with_repeated.Goals as goal
 

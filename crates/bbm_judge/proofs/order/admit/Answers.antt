@@ -1,5 +1,4 @@
-use Rattle.std.proofs.lemmas.Result.{err_from_is_err_and}
-use Rattle.bbm_rules.specs.Limits.{limit_of}
+use Rattle.bbm_rules.proofs.Common.{err_from_is_err_and, limit_of}
 use Rattle.bbm_judge.proofs.RuleLemmas.{answers_broken, answers_limit}
 use Rattle.bbm_judge.proofs.order.admit.Goals as goal
 

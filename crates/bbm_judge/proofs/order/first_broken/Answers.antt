@@ -1,7 +1,5 @@
-use Rattle.std.proofs.Common.{Option, Err, sym, ◌∙◌, subst, arith}
-use Rattle.std.proofs.lemmas.Result.{err_from_is_err_and}
+use Rattle.bbm_rules.proofs.Common.{Option, Err, sym, ◌∙◌, subst, arith, err_from_is_err_and, Breach}
 use Rattle.bbm_rules.specs.declared.rule.Rule.TheVariants.{WrongWorld}
-use Rattle.bbm_rules.specs.Broken.{Breach}
 use Rattle.bbm_oracle_trees.specs.Past.{notes}
 use Rattle.bbm_judge.specs.Judges.{Judges}
 use Rattle.bbm_judge.proofs.RuleLemmas.{first_at, judges_first}

@@ -1,5 +1,4 @@
-use Rattle.std.proofs.Common.{◌≡◌, drop}
-use Rattle.bbm_rules.specs.Broken.{first_broken}
+use Rattle.bbm_rules.proofs.Common.{◌≡◌, drop, first_broken}
 use Rattle.bbm_oracle_trees.specs.Past.{notes}
 use Rattle.bbm_judge.proofs.order.first_broken.Given as goal
 

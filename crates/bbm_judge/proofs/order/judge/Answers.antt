@@ -1,5 +1,4 @@
-use Rattle.std.proofs.Common.{Option, subst}
-use Rattle.bbm_rules.specs.Broken.{Breach}
+use Rattle.bbm_rules.proofs.Common.{Option, subst, Breach}
 use Rattle.bbm_judge.specs.Judges.{Judges}
 use Rattle.bbm_judge.proofs.Stands.{broken_stands}
 use Rattle.bbm_judge.proofs.order.judge.Goals as goal

@@ -1,5 +1,4 @@
-use Rattle.std.proofs.Common.{◌≡◌, ◌++◌, take}
-use Rattle.bbm_rules.specs.Attach.{pages_of}
+use Rattle.bbm_rules.proofs.Common.{◌≡◌, ◌++◌, take, pages_of}
 use Rattle.bbm_judge.proofs.page_rules.add_pages.Given as goal
 
 abbrev pub invariant-loop-end : goal.invariant-loop-end

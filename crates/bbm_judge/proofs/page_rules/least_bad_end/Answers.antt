@@ -1,7 +1,4 @@
-use Rattle.std.proofs.Common.{ℕ, List, ap, ◌∙◌}
-use Rattle.bbm_rules.specs.Attach.{all_ends, pages_of}
-use Rattle.bbm_rules.specs.Lists.{least, repeated}
-use Rattle.bbm_rules.specs.Rules.{judged_ends, unfresh}
+use Rattle.bbm_rules.proofs.Common.{ℕ, List, ap, ◌∙◌, all_ends, pages_of, least, repeated, judged_ends, unfresh}
 use Rattle.bbm_oracle_trees.specs.Past.{notes}
 use Rattle.bbm_judge.proofs.Leasts.{least_both}
 use Rattle.bbm_judge.proofs.page_rules.least_bad_end.Goals as goal

@@ -1,4 +1,4 @@
-use Rattle.std.proofs.lemmas.Result.{IfOk-weaker}
+use Rattle.bbm_rules.proofs.Common.{IfOk-weaker}
 use Rattle.bbm_judge.proofs.page_rules.page_in_use.Goals as goal
 
 pub returns-in-Init : goal.returns-in-Init

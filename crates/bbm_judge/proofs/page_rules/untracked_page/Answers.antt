@@ -1,4 +1,4 @@
-use Rattle.std.proofs.Common.{sym}
+use Rattle.bbm_rules.proofs.Common.{sym}
 use Rattle.bbm_judge.proofs.page_rules.untracked_page.Goals as goal
 
 pub returns-in-Write : goal.returns-in-Write

@@ -1,4 +1,4 @@
-use Rattle.std.proofs.Common.{◌∙◌}
+use Rattle.bbm_rules.proofs.Common.{◌∙◌}
 use Rattle.bbm_judge.proofs.Stands.{restless_stands}
 use Rattle.bbm_judge.proofs.restless.count_restless.Goals as goal
 

@@ -1,6 +1,4 @@
-use Rattle.std.proofs.Common.{◌≡◌, ◌≤◌, take, reverse, count_by}
-use Rattle.bbm_rules.specs.Phases.{is_restless}
-use Rattle.bbm_rules.specs.Values.{written_places}
+use Rattle.bbm_rules.proofs.Common.{◌≡◌, ◌≤◌, take, reverse, count_by, is_restless, written_places}
 use Rattle.bbm_oracle_trees.specs.Past.{notes}
 use Rattle.bbm_judge.proofs.restless.count_written.Given as goal
 

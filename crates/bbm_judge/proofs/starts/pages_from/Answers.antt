@@ -1,4 +1,4 @@
-use Rattle.std.proofs.Common.{rules}
+use Rattle.bbm_rules.proofs.Common.{rules}
 use Rattle.bbm_judge.proofs.Paths.{pages_from_more}
 use Rattle.bbm_judge.proofs.starts.pages_from.Goals as goal
 

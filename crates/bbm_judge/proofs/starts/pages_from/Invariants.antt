@@ -1,5 +1,4 @@
-use Rattle.std.proofs.Common.{◌≡◌}
-use Rattle.bbm_rules.specs.Roots.{pages_from}
+use Rattle.bbm_rules.proofs.Common.{◌≡◌, pages_from}
 use Rattle.bbm_judge.proofs.starts.pages_from.Given as goal
 
 abbrev pub invariant-loop-index : goal.invariant-loop-index

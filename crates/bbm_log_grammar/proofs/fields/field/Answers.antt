@@ -1,5 +1,5 @@
 -- The pieces between spaces, one after another.
-use Rattle.std.proofs.Common.{◌==◌, rules, tests}
+use Rattle.bbm_log_grammar.proofs.Common.{◌==◌, rules, tests}
 use Rattle.std.proofs.lemmas.Iterator.Consumers.{nth_from_yields_List}
 use Rattle.std.proofs.lemmas.Iterator.Splits.{YieldsList-from_slice_split}
 use Rattle.bbm_log_grammar.proofs.fields.field.Goals as goal

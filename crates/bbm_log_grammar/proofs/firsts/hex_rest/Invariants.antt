@@ -1,6 +1,5 @@
 -- The bytes that are left lead from the number so far to the number of all up to the space.
-use Rattle.std.proofs.Common.{◌≡◌, drop}
-use Rattle.bbm_log_grammar.specs.Front.{run}
+use Rattle.bbm_log_grammar.proofs.Common.{◌≡◌, drop, run}
 use Rattle.bbm_log_grammar.proofs.firsts.hex_rest.Given as goal
 
 abbrev pub invariant-loop-i : goal.invariant-loop-i

@@ -1,5 +1,5 @@
 -- Before each step the number has at most 8 digits, and after the last at most 12.
-use Rattle.std.proofs.Common.{◌<◌, ◌^◌, arith}
+use Rattle.bbm_log_grammar.proofs.Common.{◌<◌, ◌^◌, arith}
 use Rattle.bbm_log_grammar.proofs.Fitting.{early, twelve, four_more}
 use Rattle.bbm_log_grammar.proofs.firsts.hex_run.Goals as goal
 

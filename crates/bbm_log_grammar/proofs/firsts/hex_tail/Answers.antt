@@ -1,5 +1,5 @@
 -- The digit is one of the first 3 after a number below 2^48.
-use Rattle.std.proofs.Common.{arith}
+use Rattle.bbm_log_grammar.proofs.Common.{arith}
 use Rattle.bbm_log_grammar.proofs.Fitting.{fits}
 use Rattle.bbm_log_grammar.proofs.firsts.hex_tail.Goals as goal
 

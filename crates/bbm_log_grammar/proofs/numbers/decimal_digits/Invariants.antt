@@ -1,5 +1,5 @@
 -- The bytes that are left lead from the number so far to the number of all.
-use Rattle.std.proofs.Common.{◌≡◌, drop}
+use Rattle.bbm_log_grammar.proofs.Common.{◌≡◌, drop}
 use Rattle.bbm_log_grammar.specs.Digits as digits
 use Rattle.bbm_log_grammar.proofs.numbers.decimal_digits.Given as goal
 

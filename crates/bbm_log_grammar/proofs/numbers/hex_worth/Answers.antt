@@ -1,5 +1,5 @@
 -- A byte is below 256, and the table is right for it and has no value above 65536.
-use Rattle.std.proofs.Common.{rules, arith}
+use Rattle.bbm_log_grammar.proofs.Common.{rules, arith}
 use Rattle.bbm_log_grammar.proofs.Fitting.{hex_values, worth_bounded}
 use Rattle.bbm_log_grammar.proofs.numbers.hex_worth.Goals as goal
 

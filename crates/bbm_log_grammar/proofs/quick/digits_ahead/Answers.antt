@@ -1,5 +1,5 @@
 -- The first lanes are digits, and write the number of all lanes without its last digits.
-use Rattle.bbm_log_grammar.specs.Digits.{is_lower_digit}
+use Rattle.bbm_log_grammar.proofs.Common.{is_lower_digit}
 use Rattle.bbm_log_grammar.proofs.Lanes.{run_ahead, digits_ahead}
 use Rattle.bbm_log_grammar.proofs.quick.digits_ahead.Goals as goal
 

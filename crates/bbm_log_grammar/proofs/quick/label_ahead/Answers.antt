@@ -1,6 +1,5 @@
 -- The bytes before the first that can't stand in a label.
-use Rattle.std.proofs.Common.{arith}
-use Rattle.bbm_events.specs.Label.{is_label_byte}
+use Rattle.bbm_log_grammar.proofs.Common.{arith, is_label_byte}
 use Rattle.bbm_log_grammar.proofs.Ahead.{label_is}
 use Rattle.bbm_log_grammar.proofs.Lanes.{run_ahead}
 use Rattle.bbm_log_grammar.proofs.quick.label_ahead.Goals as goal

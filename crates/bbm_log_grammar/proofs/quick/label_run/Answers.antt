@@ -1,7 +1,5 @@
-use Rattle.std.proofs.Common.{ℕ, leb, cond, bit_and, refl, arith}
-use Rattle.std.proofs.lemmas.List.Sums.{prefix_len-le-length}
-use Rattle.std.proofs.lemmas.Simd.{zip2_splat, zip2_of_maps, splat_is_map}
-use Rattle.bbm_events.specs.Label.{is_label_byte}
+use Rattle.bbm_log_grammar.proofs.Common.{ℕ, leb, cond, bit_and, refl, arith, prefix_len-le-length, zip2_splat}
+use Rattle.bbm_log_grammar.proofs.Common.{zip2_of_maps, splat_is_map, is_label_byte}
 use Rattle.bbm_log_grammar.proofs.Lanes.{counted}
 use Rattle.bbm_log_grammar.proofs.quick.label_run.Goals as goal
 

@@ -1,5 +1,5 @@
 -- The lanes are made into pairs of digits, and those into a number.
-use Rattle.std.proofs.Common.{◌∙◌}
+use Rattle.bbm_log_grammar.proofs.Common.{◌∙◌}
 use Rattle.bbm_log_grammar.proofs.Lanes.{number_is}
 use Rattle.bbm_log_grammar.proofs.quick.number_in.Goals as goal
 

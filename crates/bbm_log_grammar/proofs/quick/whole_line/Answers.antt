@@ -1,7 +1,5 @@
 -- The line of an item that is written is read as the item.
-use Rattle.std.proofs.Common.{◌≡◌, true, refl, subst}
-use Rattle.bbm_events.specs.Fits.{item_fits}
-use Rattle.bbm_events.specs.Heading.{Heading, heading_ok}
+use Rattle.bbm_log_grammar.proofs.Common.{◌≡◌, true, refl, subst, item_fits, Heading, heading_ok}
 use Rattle.bbm_events.specs.declared.event.Item.TheVariants as item
 use Rattle.bbm_log_grammar.proofs.Ahead.{stands_first}
 use Rattle.bbm_log_grammar.proofs.quick.whole_line.Goals as goal

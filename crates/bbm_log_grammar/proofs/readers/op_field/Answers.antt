@@ -1,5 +1,5 @@
 -- The operation is read, and then the version tested.
-use Rattle.std.proofs.Common.{rules, sym, ◌∙◌}
+use Rattle.bbm_log_grammar.proofs.Common.{rules, sym, ◌∙◌}
 use Rattle.bbm_log_grammar.proofs.Passing.{op_passed, op_unread}
 use Rattle.bbm_events.specs.Heading.{has_op}
 use Rattle.bbm_log_grammar.proofs.readers.op_field.Goals as goal

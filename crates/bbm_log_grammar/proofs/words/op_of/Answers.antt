@@ -1,5 +1,5 @@
 -- What is found among the common operations is found among all.
-use Rattle.std.proofs.Common.{sym, ◌∙◌}
+use Rattle.bbm_log_grammar.proofs.Common.{sym, ◌∙◌}
 use Rattle.bbm_log_grammar.proofs.Named.{op_among}
 use Rattle.bbm_log_grammar.proofs.words.op_of.Goals as goal
 

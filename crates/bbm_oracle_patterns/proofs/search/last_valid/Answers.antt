@@ -1,4 +1,4 @@
-use Rattle.std.proofs.Common.{◌-◌, get_or, arith, subst}
+use Rattle.bbm_rules.proofs.Common.{◌-◌, get_or, arith, subst}
 use Rattle.bbm_oracle_patterns.specs.Lasts.{TellsOf}
 use Rattle.bbm_oracle_patterns.specs.declared.search.Says.{Says}
 use Rattle.bbm_oracle_patterns.proofs.Lasts.{found_before, none_before, silent_before, none_left}

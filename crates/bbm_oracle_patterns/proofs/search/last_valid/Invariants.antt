@@ -1,4 +1,4 @@
-use Rattle.std.proofs.Common.{◌≤◌, length}
+use Rattle.bbm_rules.proofs.Common.{◌≤◌, length}
 use Rattle.bbm_oracle_patterns.proofs.Lasts.{Silent}
 use Rattle.bbm_oracle_patterns.proofs.search.last_valid.Given as goal
 

@@ -1,9 +1,6 @@
-use Rattle.std.proofs.Common.{◌+◌, ℕ, List, ap, true, false, drop, reverse, refl, sym, ◌∙◌}
+use Rattle.bbm_rules.proofs.Common.{◌+◌, ℕ, List, ap, true, false, drop, reverse, refl, sym, ◌∙◌, is_valid, Trust}
+use Rattle.bbm_rules.proofs.Common.{cleansed, half, seen, Noted}
 use Rattle.std.proofs.lemmas.List.{take_rest}
-use Rattle.bbm_descriptor.specs.Descriptor.{is_valid}
-use Rattle.bbm_rules.specs.Claims.{Trust}
-use Rattle.bbm_rules.specs.Cleansing.{cleansed, half, seen}
-use Rattle.bbm_rules.specs.Notes.{Noted}
 use Rattle.bbm_oracle_patterns.specs.Kept.{notes_behind, notes_of}
 use Rattle.bbm_oracle_patterns.specs.declared.kept.Kept.{Kept}
 use Rattle.bbm_oracle_patterns.proofs.Phases.{phase_found}

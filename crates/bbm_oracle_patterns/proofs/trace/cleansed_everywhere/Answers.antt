@@ -1,4 +1,4 @@
-use Rattle.std.proofs.Common.{sym, ◌∙◌}
+use Rattle.bbm_rules.proofs.Common.{sym, ◌∙◌}
 use Rattle.bbm_oracle_patterns.proofs.Stops.{never}
 use Rattle.bbm_oracle_patterns.proofs.trace.cleansed_everywhere.Goals as goal
 

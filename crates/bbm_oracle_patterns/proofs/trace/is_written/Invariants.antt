@@ -1,4 +1,4 @@
-use Rattle.std.proofs.Common.{◌≡◌, drop}
+use Rattle.bbm_rules.proofs.Common.{◌≡◌, drop}
 use Rattle.bbm_oracle_patterns.specs.Walk.{some_writes}
 use Rattle.bbm_oracle_patterns.proofs.trace.is_written.Given as goal
 

@@ -1,4 +1,4 @@
-use Rattle.std.proofs.Common.{sym, ◌∙◌}
+use Rattle.bbm_rules.proofs.Common.{sym, ◌∙◌}
 use Rattle.bbm_oracle_patterns.proofs.Walks.{trace_unwritten}
 use Rattle.bbm_oracle_patterns.proofs.trace.trace_of.Goals as goal
 

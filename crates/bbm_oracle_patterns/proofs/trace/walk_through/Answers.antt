@@ -1,4 +1,4 @@
-use Rattle.std.proofs.Common.{arith}
+use Rattle.bbm_rules.proofs.Common.{arith}
 use Rattle.bbm_oracle_patterns.proofs.Stops.{walk_more}
 use Rattle.bbm_oracle_patterns.proofs.trace.walk_through.Goals as goal
 

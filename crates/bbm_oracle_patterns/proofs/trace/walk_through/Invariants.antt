@@ -1,4 +1,4 @@
-use Rattle.std.proofs.Common.{ℕ, take, reverse}
+use Rattle.bbm_rules.proofs.Common.{ℕ, take, reverse}
 use Rattle.bbm_oracle_patterns.specs.Kept.{notes_behind}
 use Rattle.bbm_oracle_patterns.specs.Walk.{IsWalk}
 use Rattle.bbm_oracle_patterns.proofs.trace.walk_through.Given as goal

@@ -1,4 +1,4 @@
-use Rattle.std.proofs.Common.{◌+◌, arith}
+use Rattle.bbm_rules.proofs.Common.{◌+◌, arith}
 use Rattle.bbm_oracle_patterns.proofs.Stops.{stopped, walk_more, walked_whole}
 use Rattle.bbm_oracle_patterns.proofs.trace.walk_to_cleansed.Goals as goal
 

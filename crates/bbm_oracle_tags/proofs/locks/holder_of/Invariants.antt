@@ -1,5 +1,4 @@
-use Rattle.std.proofs.Common.{◌≡◌, take, reverse}
-use Rattle.bbm_rules.specs.Locks.{holder_of}
+use Rattle.bbm_rules.proofs.Common.{◌≡◌, take, reverse, holder_of}
 use Rattle.bbm_oracle_tags.proofs.locks.holder_of.Given as goal
 
 abbrev pub invariant-loop-event : goal.invariant-loop-event

@@ -1,4 +1,4 @@
-use Rattle.std.proofs.Common.{arith}
+use Rattle.bbm_rules.proofs.Common.{arith}
 use Rattle.bbm_oracle_tags.specs.Moments.{own_reading}
 use Rattle.bbm_oracle_tags.proofs.MomentLemmas.{readings-more}
 use Rattle.bbm_oracle_tags.proofs.moment.add_own.Goals as goal

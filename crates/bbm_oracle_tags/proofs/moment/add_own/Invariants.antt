@@ -1,4 +1,4 @@
-use Rattle.std.proofs.Common.{◌≡◌, ◌++◌, take}
+use Rattle.bbm_rules.proofs.Common.{◌≡◌, ◌++◌, take}
 use Rattle.std.specs.List.{filter_map}
 use Rattle.bbm_oracle_tags.specs.Moments.{own_reading}
 use Rattle.bbm_oracle_tags.proofs.moment.add_own.Given as goal

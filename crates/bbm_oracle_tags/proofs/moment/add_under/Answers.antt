@@ -1,7 +1,6 @@
-use Rattle.std.proofs.Common.{arith}
+use Rattle.bbm_rules.proofs.Common.{arith, tag_number}
 use Rattle.bbm_regimes.specs.declared.regime.Kind.TheVariants.{Ttbr0}
 use Rattle.bbm_regimes.specs.declared.regime.Tag.TheVariants.{Asid}
-use Rattle.bbm_rules.specs.RegisterValues.{tag_number}
 use Rattle.bbm_oracle_tags.specs.Moments.{reading_in}
 use Rattle.bbm_oracle_tags.proofs.MomentLemmas.{readings-more}
 use Rattle.bbm_oracle_tags.proofs.moment.add_under.Goals as goal

@@ -1,4 +1,4 @@
-use Rattle.std.proofs.Common.{◌≡◌, ◌++◌, take}
+use Rattle.bbm_rules.proofs.Common.{◌≡◌, ◌++◌, take}
 use Rattle.bbm_oracle_tags.specs.Moments.{readings_under}
 use Rattle.bbm_oracle_tags.proofs.moment.add_under.Given as goal
 

@@ -1,5 +1,4 @@
-use Rattle.std.proofs.Common.{arith}
-use Rattle.std.proofs.lemmas.Grind.{common_steps}
+use Rattle.bbm_rules.proofs.Common.{arith, common_steps}
 use Rattle.bbm_oracle_tags.proofs.NumberLemmas.{least-push}
 use Rattle.bbm_oracle_tags.proofs.numbers.least.Goals as goal
 

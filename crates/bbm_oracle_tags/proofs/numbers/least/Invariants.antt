@@ -1,5 +1,4 @@
-use Rattle.std.proofs.Common.{◌≡◌, take}
-use Rattle.bbm_rules.specs.Lists.{least}
+use Rattle.bbm_rules.proofs.Common.{◌≡◌, take, least}
 use Rattle.bbm_oracle_tags.proofs.numbers.least.Given as goal
 
 abbrev pub invariant-loop-number : goal.invariant-loop-number

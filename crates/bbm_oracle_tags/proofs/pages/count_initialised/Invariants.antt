@@ -1,5 +1,4 @@
-use Rattle.std.proofs.Common.{◌≡◌, ◌≤◌, take, reverse, length}
-use Rattle.bbm_rules.specs.Pages.{initialised}
+use Rattle.bbm_rules.proofs.Common.{◌≡◌, ◌≤◌, take, reverse, length, initialised}
 use Rattle.bbm_oracle_tags.proofs.pages.count_initialised.Given as goal
 
 abbrev pub invariant-loop-i : goal.invariant-loop-i

@@ -1,6 +1,4 @@
-use Rattle.std.proofs.Common.{◌≡◌, take, reverse}
-use Rattle.bbm_rules.specs.Lists.{among}
-use Rattle.bbm_rules.specs.Pages.{initialised}
+use Rattle.bbm_rules.proofs.Common.{◌≡◌, take, reverse, among, initialised}
 use Rattle.bbm_oracle_tags.proofs.pages.is_initialised.Given as goal
 
 abbrev pub invariant-loop-event : goal.invariant-loop-event

@@ -1,8 +1,5 @@
-use Rattle.std.proofs.Common.{◌≡◌, take, reverse, List, ap, ◌∙◌, arith}
-use Rattle.std.proofs.lemmas.List.{take_all}
-use Rattle.std.proofs.lemmas.Result.{IfOk-weaker}
+use Rattle.bbm_rules.proofs.Common.{◌≡◌, take, reverse, List, ap, ◌∙◌, arith, take_all, IfOk-weaker, readings_in}
 use Rattle.bbm_events.specs.declared.event.Event.{Event}
-use Rattle.bbm_rules.specs.Tags.{readings_in}
 use Rattle.bbm_oracle_tags.proofs.MomentLemmas.{moment-readings}
 use Rattle.bbm_oracle_tags.proofs.readings.readings_at.Goals as goal
 

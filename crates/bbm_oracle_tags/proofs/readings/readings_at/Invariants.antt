@@ -1,4 +1,4 @@
-use Rattle.std.proofs.Common.{take, reverse}
+use Rattle.bbm_rules.proofs.Common.{take, reverse}
 use Rattle.bbm_oracle_tags.specs.Moments.{IsMoment}
 use Rattle.bbm_oracle_tags.proofs.readings.readings_at.Given as goal
 

@@ -1,5 +1,4 @@
-use Rattle.std.proofs.Common.{◌∙◌, sym, length, arith}
-use Rattle.std.proofs.lemmas.Bool.{eqb-false}
+use Rattle.bbm_rules.proofs.Common.{◌∙◌, sym, length, arith, eqb-false}
 use Rattle.bbm_oracle_tags.proofs.NumberLemmas.{only-one, several}
 use Rattle.bbm_oracle_tags.proofs.registers.one_number.Goals as goal
 

@@ -1,5 +1,4 @@
-use Rattle.std.proofs.Common.{◌≡◌, take, reverse}
-use Rattle.bbm_rules.specs.RegisterValues.{register_values}
+use Rattle.bbm_rules.proofs.Common.{◌≡◌, take, reverse, register_values}
 use Rattle.bbm_oracle_tags.proofs.registers.register_values.Given as goal
 
 abbrev pub invariant-loop-event : goal.invariant-loop-event

@@ -1,5 +1,4 @@
-use Rattle.std.proofs.Common.{◌≡◌, take, reverse}
-use Rattle.bbm_rules.specs.Roots.{is_root}
+use Rattle.bbm_rules.proofs.Common.{◌≡◌, take, reverse, is_root}
 use Rattle.bbm_oracle_tags.proofs.roots.is_root.Given as goal
 
 abbrev pub invariant-loop-event : goal.invariant-loop-event

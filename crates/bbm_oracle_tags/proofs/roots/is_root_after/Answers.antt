@@ -1,4 +1,4 @@
-use Rattle.std.proofs.Common.{◌∙◌, sym}
+use Rattle.bbm_rules.proofs.Common.{◌∙◌, sym}
 use Rattle.bbm_oracle_tags.proofs.RootLemmas.{root-here, root-elsewhere, retired-here, retired-elsewhere}
 use Rattle.bbm_oracle_tags.proofs.roots.is_root_after.Goals as goal
 

@@ -1,6 +1,4 @@
-use Rattle.std.proofs.Common.{not, rules}
-use Rattle.std.proofs.lemmas.Fn.{filter_same}
-use Rattle.bbm_rules.specs.Roots.{is_at}
+use Rattle.bbm_rules.proofs.Common.{not, rules, filter_same, is_at}
 use Rattle.bbm_oracle_tags.proofs.roots.retire.Goals as goal
 
 pub returns : goal.returns

@@ -1,4 +1,4 @@
-use Rattle.std.proofs.Common.{◌∙◌, sym}
+use Rattle.bbm_rules.proofs.Common.{◌∙◌, sym}
 use Rattle.bbm_oracle_tags.proofs.RootLemmas.{found-elsewhere, none-here, kept-elsewhere}
 use Rattle.bbm_oracle_tags.proofs.roots.root_after.Goals as goal
 

@@ -1,5 +1,4 @@
-use Rattle.std.proofs.Common.{◌≡◌, take, reverse}
-use Rattle.bbm_rules.specs.Roots.{root_at}
+use Rattle.bbm_rules.proofs.Common.{◌≡◌, take, reverse, root_at}
 use Rattle.bbm_oracle_tags.proofs.roots.root_at.Given as goal
 
 abbrev pub invariant-loop-event : goal.invariant-loop-event

@@ -1,4 +1,4 @@
-use Rattle.std.proofs.Common.{◌≡◌, take, reverse}
+use Rattle.bbm_rules.proofs.Common.{◌≡◌, take, reverse}
 use Rattle.std.specs.List.{flat_map}
 use Rattle.bbm_oracle_tags.specs.Conflicts.{holder_pages}
 use Rattle.bbm_oracle_tags.proofs.rules.holders_of_each.Given as goal

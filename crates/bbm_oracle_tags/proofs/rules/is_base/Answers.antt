@@ -1,6 +1,5 @@
-use Rattle.std.proofs.Common.{◌≡◌, sym, ap, ◌∙◌, arith, rules, reverse}
+use Rattle.bbm_rules.proofs.Common.{◌≡◌, sym, ap, ◌∙◌, arith, rules, reverse, is_base_at}
 use Rattle.bbm_events.specs.Heading.{Heading}
-use Rattle.bbm_rules.specs.Rules.{is_base_at}
 use Rattle.bbm_oracle_tags.proofs.TagLemmas.{no-pe, one-pe}
 use Rattle.bbm_oracle_tags.proofs.rules.is_base.Goals as goal
 

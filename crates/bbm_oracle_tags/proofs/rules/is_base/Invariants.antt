@@ -1,5 +1,4 @@
-use Rattle.std.proofs.Common.{◌≡◌, ℕ, ◌<◌, false, reverse}
-use Rattle.bbm_rules.specs.Rules.{is_base_at}
+use Rattle.bbm_rules.proofs.Common.{◌≡◌, ℕ, ◌<◌, false, reverse, is_base_at}
 use Rattle.bbm_oracle_tags.proofs.rules.is_base.Given as goal
 
 abbrev pub invariant-loop-number : goal.invariant-loop-number

@@ -1,7 +1,6 @@
-use Rattle.std.proofs.Common.{◌≡◌, List, ◌∷◌, ◌++◌, [], reverse, ap, ◌∙◌}
+use Rattle.bbm_rules.proofs.Common.{◌≡◌, List, ◌∷◌, ◌++◌, [], reverse, ap, ◌∙◌, Trust}
 use Rattle.bbm_events.specs.declared.event.Event.{Event}
 use Rattle.bbm_events.specs.declared.event.Event.TheVariants.{Msr}
-use Rattle.bbm_rules.specs.Claims.{Trust}
 use Rattle.bbm_oracle_tags.specs.Conflicts.{conflict_pages}
 use Rattle.bbm_oracle_tags.proofs.RuleLemmas.{conflict-at}
 use Rattle.bbm_oracle_tags.proofs.rules.tag_conflict.Goals as goal

@@ -1,4 +1,4 @@
-use Rattle.std.proofs.Common.{◌∷◌, take, reverse, arith}
+use Rattle.bbm_rules.proofs.Common.{◌∷◌, take, reverse, arith}
 use Rattle.bbm_oracle_tags.specs.Moments.{IsMoment}
 use Rattle.bbm_oracle_tags.proofs.ListLemmas.{reverse-more}
 use Rattle.bbm_oracle_tags.proofs.tags.add_read_at.Goals as goal

@@ -1,6 +1,4 @@
-use Rattle.std.proofs.Common.{◌∷◌, sym, ◌∙◌, inl, inr}
-use Rattle.std.proofs.lemmas.Bool.{or_cases}
-use Rattle.bbm_rules.specs.Tags.{reads}
+use Rattle.bbm_rules.proofs.Common.{◌∷◌, sym, ◌∙◌, inl, inr, or_cases, reads}
 use Rattle.bbm_oracle_tags.specs.HeldTagSets.{was_read}
 use Rattle.bbm_oracle_tags.proofs.MomentLemmas.{reads-by}
 use Rattle.bbm_oracle_tags.proofs.TagLemmas.{was-read-before}

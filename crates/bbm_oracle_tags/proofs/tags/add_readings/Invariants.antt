@@ -1,4 +1,4 @@
-use Rattle.std.proofs.Common.{◌≡◌, true, take}
+use Rattle.bbm_rules.proofs.Common.{◌≡◌, true, take}
 use Rattle.bbm_regimes.specs.declared.regime.Tag.{Tag}
 use Rattle.bbm_oracle_tags.specs.Moments.{is_read}
 use Rattle.bbm_oracle_tags.specs.HeldTagSets.{has_tag}

@@ -1,6 +1,5 @@
-use Rattle.std.proofs.Common.{◌≡◌, ◌<◌, ap, reverse, arith}
+use Rattle.bbm_rules.proofs.Common.{◌≡◌, ◌<◌, ap, reverse, arith, holds_at}
 use Rattle.bbm_events.specs.Heading.{Heading}
-use Rattle.bbm_rules.specs.Tags.{holds_at}
 use Rattle.bbm_oracle_tags.proofs.TagLemmas.{found-pe, held-was-read}
 use Rattle.bbm_oracle_tags.proofs.tags.candidates.Goals as goal
 

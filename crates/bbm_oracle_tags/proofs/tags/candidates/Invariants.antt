@@ -1,4 +1,4 @@
-use Rattle.std.proofs.Common.{◌≡◌, ℕ, ◌<◌, true, reverse}
+use Rattle.bbm_rules.proofs.Common.{◌≡◌, ℕ, ◌<◌, true, reverse}
 use Rattle.bbm_regimes.specs.declared.regime.Tag.{Tag}
 use Rattle.bbm_oracle_tags.specs.HeldTagSets.{has_tag, was_read}
 use Rattle.bbm_oracle_tags.proofs.tags.candidates.Given as goal

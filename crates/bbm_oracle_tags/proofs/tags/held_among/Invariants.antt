@@ -1,5 +1,4 @@
-use Rattle.std.proofs.Common.{◌&&◌, take, reverse}
-use Rattle.bbm_rules.specs.Tags.{holds_tag}
+use Rattle.bbm_rules.proofs.Common.{◌&&◌, take, reverse, holds_tag}
 use Rattle.bbm_oracle_tags.specs.HeldTagSets.{HasTags, has_tag}
 use Rattle.bbm_oracle_tags.proofs.tags.held_among.Given as goal
 

@@ -1,4 +1,4 @@
-use Rattle.std.proofs.Common.{take, reverse}
+use Rattle.bbm_rules.proofs.Common.{take, reverse}
 use Rattle.bbm_oracle_tags.specs.Watches.{IsWatch}
 use Rattle.bbm_oracle_tags.proofs.tags.holds_at.Given as goal
 

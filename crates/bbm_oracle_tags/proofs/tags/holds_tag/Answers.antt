@@ -1,7 +1,5 @@
-use Rattle.std.proofs.Common.{◌≡◌, sym, ap, ◌∙◌, arith, rules, reverse}
+use Rattle.bbm_rules.proofs.Common.{◌≡◌, sym, ap, ◌∙◌, arith, rules, reverse, Trust, holds_at}
 use Rattle.bbm_events.specs.Heading.{Heading}
-use Rattle.bbm_rules.specs.Claims.{Trust}
-use Rattle.bbm_rules.specs.Tags.{holds_at}
 use Rattle.bbm_oracle_tags.proofs.TagLemmas.{no-pe, one-pe}
 use Rattle.bbm_oracle_tags.proofs.tags.holds_tag.Goals as goal
 

@@ -1,5 +1,4 @@
-use Rattle.std.proofs.Common.{◌≡◌, ℕ, ◌<◌, false, reverse}
-use Rattle.bbm_rules.specs.Tags.{holds_at}
+use Rattle.bbm_rules.proofs.Common.{◌≡◌, ℕ, ◌<◌, false, reverse, holds_at}
 use Rattle.bbm_oracle_tags.proofs.tags.holds_tag.Given as goal
 
 abbrev pub invariant-loop-number : goal.invariant-loop-number

@@ -1,7 +1,4 @@
-use Rattle.std.proofs.Common.{◌≡◌, ◌&&◌, reverse, refl}
-use Rattle.std.proofs.lemmas.Result.{IfOk-weaker}
-use Rattle.bbm_rules.specs.Claims.{Trust}
-use Rattle.bbm_rules.specs.Tags.{holds_tag, tag_set, tags_of}
+use Rattle.bbm_rules.proofs.Common.{◌≡◌, ◌&&◌, reverse, refl, IfOk-weaker, Trust, holds_tag, tag_set, tags_of}
 use Rattle.bbm_oracle_tags.specs.HeldTagSets.{HasTags, has_tag}
 use Rattle.bbm_oracle_tags.proofs.TagLemmas.{same-set, set-same}
 use Rattle.bbm_oracle_tags.proofs.tags.tag_set_of.Goals as goal

@@ -1,5 +1,4 @@
-use Rattle.std.proofs.Common.{◌&&◌, ◌||◌, refl, sym, ◌∙◌}
-use Rattle.bbm_rules.specs.Claims.{same_tag}
+use Rattle.bbm_rules.proofs.Common.{◌&&◌, ◌||◌, refl, sym, ◌∙◌, same_tag}
 use Rattle.bbm_oracle_tags.proofs.TagLemmas.{hit-held, hit-same, missed, set-same}
 use Rattle.bbm_oracle_tags.proofs.tags.with_held.Goals as goal
 

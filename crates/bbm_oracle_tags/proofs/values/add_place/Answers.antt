@@ -1,8 +1,4 @@
-use Rattle.std.proofs.Common.{eqb, ap, sym, ◌∙◌, List, ℕ}
-use Rattle.std.proofs.lemmas.Result.{on_ok_weaker}
-use Rattle.bbm_rules.specs.Lists.{with_number}
-use Rattle.bbm_rules.specs.Places.{page_of}
-use Rattle.bbm_rules.specs.Values.{written_places}
+use Rattle.bbm_rules.proofs.Common.{eqb, ap, sym, ◌∙◌, List, ℕ, on_ok_weaker, with_number, page_of, written_places}
 use Rattle.bbm_oracle_tags.proofs.PlaceLemmas.{filter-with}
 use Rattle.bbm_oracle_tags.proofs.values.add_place.Goals as goal
 

@@ -1,5 +1,4 @@
-use Rattle.std.proofs.Common.{◌≡◌, take, reverse}
-use Rattle.bbm_rules.specs.Values.{places_in}
+use Rattle.bbm_rules.proofs.Common.{◌≡◌, take, reverse, places_in}
 use Rattle.bbm_oracle_tags.proofs.values.places_in.Given as goal
 
 abbrev pub invariant-loop-event : goal.invariant-loop-event

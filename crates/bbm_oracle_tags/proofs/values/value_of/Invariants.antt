@@ -1,5 +1,4 @@
-use Rattle.std.proofs.Common.{◌≡◌, take, reverse}
-use Rattle.bbm_rules.specs.Values.{value_of}
+use Rattle.bbm_rules.proofs.Common.{◌≡◌, take, reverse, value_of}
 use Rattle.bbm_oracle_tags.proofs.values.value_of.Given as goal
 
 abbrev pub invariant-loop-event : goal.invariant-loop-event

@@ -1,5 +1,4 @@
-use Rattle.std.proofs.Common.{arith}
-use Rattle.std.proofs.lemmas.Grind.{common_steps}
+use Rattle.bbm_rules.proofs.Common.{arith, common_steps}
 use Rattle.bbm_oracle_tags.proofs.watch.takes_tag.Goals as goal
 
 pub returns-in-Ok : goal.returns-in-Ok

@@ -1,8 +1,4 @@
-use Rattle.std.proofs.Common.{◌≡◌, Some, refl, sym, ◌∙◌}
-use Rattle.std.proofs.lemmas.Result.{IfOk-weaker}
-use Rattle.bbm_tlbi_scope.specs.declared.entry.Cover.{Cover}
-use Rattle.bbm_rules.specs.Places.{page_of}
-use Rattle.bbm_rules.specs.Tree.{held_at, node_of}
+use Rattle.bbm_rules.proofs.Common.{◌≡◌, Some, refl, sym, ◌∙◌, IfOk-weaker, Cover, page_of, held_at, node_of}
 use Rattle.bbm_oracle_trees.specs.Past.{notes}
 use Rattle.bbm_oracle_trees.specs.Views.{cover_under}
 use Rattle.bbm_oracle_trees.proofs.Covering.{cover_at_node, cover_under_node}

@@ -1,4 +1,4 @@
-use Rattle.bbm_rules.specs.Notes.{events_of}
+use Rattle.bbm_rules.proofs.Common.{events_of}
 use Rattle.bbm_oracle_trees.specs.Past.{notes}
 use Rattle.bbm_oracle_trees.specs.Views.{AreTags}
 use Rattle.bbm_oracle_trees.proofs.covers.root_tags.Given as goal

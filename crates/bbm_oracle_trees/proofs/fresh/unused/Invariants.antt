@@ -1,6 +1,5 @@
-use Rattle.std.proofs.Common.{◌≡◌, ℕ, ◌==◌, ◌&&◌, not, is_some, take}
+use Rattle.bbm_rules.proofs.Common.{◌≡◌, ℕ, ◌==◌, ◌&&◌, not, is_some, take, among}
 use Rattle.std.specs.List.{find}
-use Rattle.bbm_rules.specs.Lists.{among}
 use Rattle.bbm_oracle_trees.proofs.fresh.unused.Given as goal
 
 abbrev pub invariant-loop-page : goal.invariant-loop-page

@@ -1,5 +1,4 @@
-use Rattle.std.proofs.Common.{◌≡◌, ℕ, ◌==◌, ◌&&◌, not, take}
-use Rattle.bbm_rules.specs.Lists.{among}
+use Rattle.bbm_rules.proofs.Common.{◌≡◌, ℕ, ◌==◌, ◌&&◌, not, take, among}
 use Rattle.bbm_oracle_trees.proofs.fresh.without.Given as goal
 
 abbrev pub invariant-loop-page : goal.invariant-loop-page

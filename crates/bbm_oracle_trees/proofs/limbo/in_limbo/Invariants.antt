@@ -1,9 +1,4 @@
-use Rattle.std.proofs.Common.{◌≡◌, false, not, take}
-use Rattle.bbm_descriptor.specs.Descriptor.{is_valid}
-use Rattle.bbm_rules.specs.Lists.{any}
-use Rattle.bbm_rules.specs.Notes.{events_of}
-use Rattle.bbm_rules.specs.Tree.{Above}
-use Rattle.bbm_rules.specs.Values.{value_of}
+use Rattle.bbm_rules.proofs.Common.{◌≡◌, false, not, take, is_valid, any, events_of, Above, value_of}
 use Rattle.bbm_oracle_trees.specs.Past.{notes}
 use Rattle.bbm_oracle_trees.proofs.limbo.in_limbo.Given as goal
 

@@ -1,5 +1,4 @@
-use Rattle.std.proofs.Common.{◌≡◌, false, take}
-use Rattle.bbm_rules.specs.Lists.{any}
+use Rattle.bbm_rules.proofs.Common.{◌≡◌, false, take, any}
 use Rattle.bbm_oracle_trees.specs.Links.{is_touched}
 use Rattle.bbm_oracle_trees.proofs.links.touches.Given as goal
 

@@ -1,4 +1,4 @@
-use Rattle.std.proofs.Common.{append_assoc, refl}
+use Rattle.bbm_rules.proofs.Common.{append_assoc, refl}
 use Rattle.bbm_oracle_trees.proofs.Pages.{nodes_of_pages_more}
 use Rattle.bbm_oracle_trees.proofs.starts.add_pages.Goals as goal
 

@@ -1,6 +1,4 @@
-use Rattle.std.proofs.Common.{◌≡◌, ◌++◌}
-use Rattle.bbm_rules.specs.Roots.{pages_from}
-use Rattle.bbm_rules.specs.Tree.{nodes_of_pages}
+use Rattle.bbm_rules.proofs.Common.{◌≡◌, ◌++◌, pages_from, nodes_of_pages}
 use Rattle.bbm_oracle_trees.proofs.starts.add_pages.Given as goal
 
 abbrev pub invariant-loop-index : goal.invariant-loop-index

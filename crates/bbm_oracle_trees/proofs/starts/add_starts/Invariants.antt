@@ -1,6 +1,5 @@
-use Rattle.std.proofs.Common.{◌≡◌, ◌++◌, take}
+use Rattle.bbm_rules.proofs.Common.{◌≡◌, ◌++◌, take, starts_at}
 use Rattle.std.specs.List.{flat_map}
-use Rattle.bbm_rules.specs.Tree.{starts_at}
 use Rattle.bbm_oracle_trees.proofs.starts.add_starts.Given as goal
 
 abbrev pub invariant-loop-root : goal.invariant-loop-root

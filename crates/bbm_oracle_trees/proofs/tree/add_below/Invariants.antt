@@ -1,6 +1,5 @@
-use Rattle.std.proofs.Common.{◌≡◌, ◌++◌, take}
+use Rattle.bbm_rules.proofs.Common.{◌≡◌, ◌++◌, take, children}
 use Rattle.std.specs.List.{flat_map}
-use Rattle.bbm_rules.specs.Tree.{children}
 use Rattle.bbm_oracle_trees.specs.Past.{notes}
 use Rattle.bbm_oracle_trees.proofs.tree.add_below.Given as goal
 

@@ -1,6 +1,5 @@
-use Rattle.std.proofs.Common.{List, ◌++◌, ◌∙◌, ap}
+use Rattle.bbm_rules.proofs.Common.{List, ◌++◌, ◌∙◌, ap, Node, child_at}
 use Rattle.std.specs.Option.{option_to_list}
-use Rattle.bbm_rules.specs.Tree.{Node, child_at}
 use Rattle.bbm_oracle_trees.specs.Past.{notes}
 use Rattle.bbm_oracle_trees.proofs.Finds.{filter_map_more}
 use Rattle.bbm_oracle_trees.proofs.tree.add_children.Goals as goal

@@ -1,6 +1,5 @@
-use Rattle.std.proofs.Common.{◌≡◌, ◌++◌, take}
+use Rattle.bbm_rules.proofs.Common.{◌≡◌, ◌++◌, take, child_at}
 use Rattle.std.specs.List.{filter_map}
-use Rattle.bbm_rules.specs.Tree.{child_at}
 use Rattle.bbm_oracle_trees.specs.Past.{notes}
 use Rattle.bbm_oracle_trees.proofs.tree.add_children.Given as goal
 

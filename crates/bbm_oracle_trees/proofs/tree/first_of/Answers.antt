@@ -1,5 +1,4 @@
-use Rattle.std.proofs.Common.{◌≡◌, ◌==◌, true, false, sym, ◌∙◌}
-use Rattle.bbm_rules.specs.Tree.{Node}
+use Rattle.bbm_rules.proofs.Common.{◌≡◌, ◌==◌, true, false, sym, ◌∙◌, Node}
 use Rattle.bbm_oracle_trees.proofs.Finds.{find_found, find_next}
 use Rattle.bbm_oracle_trees.proofs.tree.first_of.Goals as goal
 

@@ -1,4 +1,4 @@
-use Rattle.std.proofs.Common.{◌≡◌, ◌==◌, take, None}
+use Rattle.bbm_rules.proofs.Common.{◌≡◌, ◌==◌, take, None}
 use Rattle.std.specs.List.{find}
 use Rattle.bbm_oracle_trees.proofs.tree.first_of.Given as goal
 

@@ -1,5 +1,4 @@
-use Rattle.std.proofs.Common.{◌≡◌, false, take}
-use Rattle.bbm_rules.specs.Lists.{any}
+use Rattle.bbm_rules.proofs.Common.{◌≡◌, false, take, any}
 use Rattle.bbm_rules.specs.Tree.{holds_some}
 use Rattle.bbm_oracle_trees.specs.Past.{notes}
 use Rattle.bbm_oracle_trees.proofs.tree.holds_some.Given as goal

@@ -1,9 +1,6 @@
-use Rattle.std.proofs.Common.{ap, sym, ◌∙◌, arith, subst}
+use Rattle.bbm_place_map.proofs.Common.{ap, sym, ◌∙◌, arith, subst, Completed, seat, pends_in, no_pends, Entry}
 use Rattle.bbm_entry_state.specs.Answered.{Answered}
-use Rattle.bbm_entry_state.specs.EntryCalls.{Completed}
 use Rattle.bbm_entry_state.specs.declared.state.EntryState.TheVariants as state
-use Rattle.bbm_place_map.specs.Entries.{seat, pends_in, no_pends}
-use Rattle.bbm_place_map.specs.declared.entry.Entry.{Entry}
 use Rattle.bbm_place_map.proofs.Idle.{nothing_waits}
 use Rattle.bbm_place_map.proofs.Leaving.{entry_same}
 use Rattle.bbm_place_map.proofs.Lists.{set_get}

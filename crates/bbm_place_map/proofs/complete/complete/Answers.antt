@@ -1,6 +1,5 @@
-use Rattle.std.proofs.Common.{ℕ, arith, inl, inr, sym, subst, ◌∙◌, set, length, ◌≤◌}
-use Rattle.std.proofs.lemmas.Option.{slice_get_past, none-some}
-use Rattle.bbm_place_map.specs.Works.{HoldsFor}
+use Rattle.bbm_place_map.proofs.Common.{ℕ, arith, inl, inr, sym, subst, ◌∙◌, set, length, ◌≤◌, slice_get_past}
+use Rattle.bbm_place_map.proofs.Common.{none-some, HoldsFor}
 use Rattle.bbm_place_map.proofs.Holding.{set_there, set_others, read_for}
 use Rattle.bbm_place_map.proofs.complete.complete.Goals as goal
 

@@ -1,6 +1,4 @@
-use Rattle.std.proofs.Common.{◌≤◌, ◌-◌, length, arith, ap}
-use Rattle.std.specs.Option.{option_map}
-use Rattle.bbm_place_map.specs.declared.entry.Entry.{Entry}
+use Rattle.bbm_place_map.proofs.Common.{◌≤◌, ◌-◌, length, arith, ap, option_map, Entry}
 use Rattle.bbm_place_map.proofs.Looking.{looked_none, looked_answer, looked_on}
 use Rattle.bbm_place_map.proofs.Restless.{entry_there}
 use Rattle.bbm_place_map.proofs.Seats.{still_same, still_more}

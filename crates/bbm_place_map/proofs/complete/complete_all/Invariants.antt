@@ -1,5 +1,4 @@
-use Rattle.std.proofs.Common.{◌≤◌, length}
-use Rattle.bbm_place_map.specs.Sound.{StillSound}
+use Rattle.bbm_place_map.proofs.Common.{◌≤◌, length, StillSound}
 use Rattle.bbm_place_map.proofs.Looking.{Looked}
 use Rattle.bbm_place_map.proofs.complete.complete_all.Given as goal
 

@@ -1,4 +1,4 @@
-use Rattle.std.proofs.Common.{◌∙◌, arith, refl}
+use Rattle.bbm_place_map.proofs.Common.{◌∙◌, arith, refl}
 use Rattle.bbm_place_map.proofs.Answering as with
 use Rattle.bbm_place_map.proofs.Leaving.{entry_read}
 use Rattle.bbm_place_map.proofs.complete.complete_at.Goals as goal

@@ -1,6 +1,4 @@
-use Rattle.std.proofs.Common.{List, ap, ◌∙◌, slice_get}
-use Rattle.bbm_place_map.specs.Works.{Holds}
-use Rattle.bbm_place_map.specs.declared.entry.Entry.{Entry}
+use Rattle.bbm_place_map.proofs.Common.{List, ap, ◌∙◌, slice_get, Holds, Entry}
 use Rattle.bbm_place_map.proofs.Knowing.{quiet_by_cell}
 use Rattle.bbm_place_map.proofs.complete.complete_by.Goals as goal
 

@@ -1,6 +1,4 @@
-use Rattle.std.proofs.Common.{◌≡◌, ℕ, None, List, arith, ap, sym, ◌∙◌}
-use Rattle.bbm_place_map.specs.Entries.{entry_of, entry_in}
-use Rattle.bbm_place_map.specs.Cells.{slot_in}
+use Rattle.bbm_place_map.proofs.Common.{◌≡◌, ℕ, None, List, arith, ap, sym, ◌∙◌, entry_of, entry_in, slot_in}
 use Rattle.bbm_place_map.proofs.Answering.{completes_at}
 use Rattle.bbm_place_map.proofs.Completing.{completes_none}
 use Rattle.bbm_place_map.proofs.Linking.{cell_within}

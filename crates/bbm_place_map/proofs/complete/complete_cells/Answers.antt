@@ -1,8 +1,4 @@
-use Rattle.std.proofs.Common.{◌∙◌, ℕ, refl, sym, slice_index}
-use Rattle.std.proofs.lemmas.Bool.{false≢true}
-use Rattle.bbm_place_map.specs.Entries.{entry_in}
-use Rattle.bbm_place_map.specs.declared.entry.Entry.{Entry}
-use Rattle.std.proofs.Common.{Option}
+use Rattle.bbm_place_map.proofs.Common.{◌∙◌, ℕ, refl, sym, slice_index, Option, false≢true, entry_in, Entry}
 use Rattle.bbm_place_map.proofs.Rounds.{each_more, here_more, found_more, found_now, none_more}
 use Rattle.bbm_place_map.proofs.Seats.{still_more}
 use Rattle.bbm_place_map.proofs.complete.complete_cells.Goals as goal

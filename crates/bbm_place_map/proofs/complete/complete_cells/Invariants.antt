@@ -1,9 +1,5 @@
-use Rattle.std.proofs.Common.{◌≡◌, ℕ, ◌<◌, true, false, slice_index}
-use Rattle.bbm_place_map.specs.Each.{Completes, loses_table}
-use Rattle.bbm_place_map.specs.Entries.{entry_in}
-use Rattle.bbm_place_map.specs.Parts.{marks_in}
-use Rattle.bbm_place_map.specs.Sound.{StillSound}
-use Rattle.bbm_place_map.specs.Works.{MayComplete}
+use Rattle.bbm_place_map.proofs.Common.{◌≡◌, ℕ, ◌<◌, true, false, slice_index, Completes, loses_table, entry_in}
+use Rattle.bbm_place_map.proofs.Common.{marks_in, StillSound, MayComplete}
 use Rattle.bbm_place_map.proofs.complete.complete_cells.Given as goal
 
 abbrev pub invariant-loop-i : goal.invariant-loop-i

@@ -1,4 +1,4 @@
-use Rattle.bbm_place_map.specs.Entries.{entry_in}
+use Rattle.bbm_place_map.proofs.Common.{entry_in}
 use Rattle.bbm_place_map.proofs.Rounds.{all_answered}
 use Rattle.bbm_place_map.proofs.complete.complete_list.Goals as goal
 

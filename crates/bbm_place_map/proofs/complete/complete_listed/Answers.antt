@@ -1,8 +1,5 @@
-use Rattle.std.proofs.Common.{◌⊎◌, ℕ, Bool, true, false, List, Contains, sym, subst, ◌∙◌, inl, inr}
-use Rattle.std.proofs.lemmas.Bool.{false≢true}
-use Rattle.bbm_place_map.specs.Entries.{entry_in}
-use Rattle.bbm_place_map.specs.Parts.{pends_for}
-use Rattle.bbm_place_map.specs.Works.{Holds, IsQuiet}
+use Rattle.bbm_place_map.proofs.Common.{◌⊎◌, ℕ, Bool, true, false, List, Contains, sym, subst, ◌∙◌, inl, inr}
+use Rattle.bbm_place_map.proofs.Common.{false≢true, entry_in, pends_for, Holds, IsQuiet}
 use Rattle.bbm_place_map.proofs.Resting.{quiet_kept, quiet_answered, quiet_unanswered, unanswered_same, stays_kept}
 use Rattle.bbm_place_map.proofs.Resting.{no_answer, answers_all, answers_own}
 use Rattle.bbm_place_map.proofs.Seats.{still_same}

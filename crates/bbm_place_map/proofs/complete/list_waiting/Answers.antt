@@ -1,4 +1,4 @@
-use Rattle.std.proofs.Common.{inl}
+use Rattle.bbm_place_map.proofs.Common.{inl}
 use Rattle.bbm_place_map.proofs.complete.list_waiting.Goals as goal
 
 pub returns-then-not-is_quiet-clause-there : goal.returns-then-not-is_quiet-clause-there

@@ -1,7 +1,4 @@
-use Rattle.std.proofs.Common.{◌≡◌, ℕ, Bool, ◌<◌, ◌⊎◌, Some, slice_get}
-use Rattle.bbm_place_map.specs.Entries.{pends_in}
-use Rattle.bbm_place_map.specs.Works.{Holds, IsQuiet}
-use Rattle.bbm_place_map.specs.declared.entry.Entry.{Entry}
+use Rattle.bbm_place_map.proofs.Common.{◌≡◌, ℕ, Bool, ◌<◌, ◌⊎◌, Some, slice_get, pends_in, Holds, IsQuiet, Entry}
 use Rattle.bbm_place_map.proofs.complete.relist.Given as goal
 
 abbrev pub invariant-loop-k : goal.invariant-loop-k

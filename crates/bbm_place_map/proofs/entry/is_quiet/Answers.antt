@@ -1,5 +1,4 @@
-use Rattle.std.proofs.Common.{Bool, ◌↔◌, IsTrue, sym, subst}
-use Rattle.bbm_place_map.specs.Works.{IsQuiet}
+use Rattle.bbm_place_map.proofs.Common.{Bool, ◌↔◌, IsTrue, sym, subst, IsQuiet}
 use Rattle.bbm_place_map.proofs.Idling.{quiet_iff, local_iff}
 use Rattle.bbm_place_map.proofs.entry.is_quiet.Goals as goal
 

@@ -1,6 +1,4 @@
-use Rattle.std.proofs.Common.{subst, sym, ◌∙◌, List, length}
-use Rattle.bbm_place_map.specs.Entries.{Lacks}
-use Rattle.bbm_place_map.specs.declared.entry.Pending.{Pending}
+use Rattle.bbm_place_map.proofs.Common.{subst, sym, ◌∙◌, List, length, Lacks, Pending}
 use Rattle.bbm_place_map.proofs.Pendings.{known_by}
 use Rattle.bbm_place_map.proofs.entry.make_room_for_lane.Goals as goal
 

@@ -1,6 +1,4 @@
-use Rattle.std.proofs.Common.{sym, subst}
-use Rattle.bbm_entry_state.specs.declared.pending.Pend.{Pend}
-use Rattle.bbm_place_map.specs.Entries.{Adds, pend_in}
+use Rattle.bbm_place_map.proofs.Common.{sym, subst, Pend, Adds, pend_in}
 use Rattle.bbm_place_map.proofs.Pendings.{first_pend, first_there, first_others}
 use Rattle.bbm_place_map.proofs.entry.note_here.Goals as goal
 

@@ -1,6 +1,5 @@
-use Rattle.std.proofs.Common.{ℕ, List, sym, ◌∙◌, subst, true, false}
-use Rattle.bbm_place_map.specs.Entries.{Adds, HasRoom, WaitsAlike, pend_in, pends_in}
-use Rattle.bbm_place_map.specs.declared.entry.Pending.{Pending}
+use Rattle.bbm_place_map.proofs.Common.{ℕ, List, sym, ◌∙◌, subst, true, false, Adds, HasRoom, WaitsAlike, pend_in}
+use Rattle.bbm_place_map.proofs.Common.{pends_in, Pending}
 use Rattle.bbm_place_map.proofs.Pendings.{issuer_kept, lanes_apart, noted_in, quiet_alike}
 use Rattle.bbm_place_map.proofs.entry.note_pends.Goals as goal
 

@@ -1,6 +1,4 @@
-use Rattle.std.proofs.Common.{◌∙◌, ap, sym, arith, length}
-use Rattle.bbm_entry_state.specs.Points.{waits_in}
-use Rattle.bbm_entry_state.specs.declared.pending.Pend.{Pend}
+use Rattle.bbm_place_map.proofs.Common.{◌∙◌, ap, sym, arith, length, waits_in, Pend}
 use Rattle.bbm_place_map.proofs.Idle.{no_pe_waits}
 use Rattle.bbm_place_map.proofs.Pendings.{first_pend, lacks_all}
 use Rattle.bbm_place_map.proofs.entry.pend_of.Goals as goal

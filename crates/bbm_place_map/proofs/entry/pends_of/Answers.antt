@@ -1,7 +1,4 @@
-use Rattle.std.proofs.Common.{ℕ, ap, ◌∙◌}
-use Rattle.bbm_entry_state.specs.Points.{waits_in}
-use Rattle.bbm_entry_state.specs.declared.pending.Pends.{Pends}
-use Rattle.bbm_place_map.specs.Entries.{pend_in, pends_in}
+use Rattle.bbm_place_map.proofs.Common.{ℕ, ap, ◌∙◌, waits_in, Pends, pend_in, pends_in}
 use Rattle.bbm_place_map.proofs.Pendings.{both_alike}
 use Rattle.bbm_place_map.proofs.entry.pends_of.Goals as goal
 

@@ -1,6 +1,4 @@
-use Rattle.std.proofs.Common.{ap, ◌∙◌, arith}
-use Rattle.std.proofs.lemmas.List.{get_or_default}
-use Rattle.bbm_place_map.specs.declared.entry.Pending.{Pending}
+use Rattle.bbm_place_map.proofs.Common.{ap, ◌∙◌, arith, get_or_default, Pending}
 use Rattle.bbm_place_map.proofs.entry.place_of.Goals as goal
 
 pub returns-then-pendings-i-clause-some : goal.returns-then-pendings-i-clause-some

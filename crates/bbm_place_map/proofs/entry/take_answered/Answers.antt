@@ -1,7 +1,5 @@
-use Rattle.std.proofs.Common.{ℕ, Bool, true, false, subst}
-use Rattle.bbm_barriers.specs.Options.{answers_broadcast, answers_local}
+use Rattle.bbm_place_map.proofs.Common.{ℕ, Bool, true, false, subst, answers_broadcast, answers_local, lane_of}
 use Rattle.bbm_place_map.specs.Dsbs.{Takes}
-use Rattle.bbm_place_map.specs.Entries.{lane_of}
 use Rattle.bbm_place_map.proofs.Pendings.{taken_done, taken_left, taken_others}
 use Rattle.bbm_place_map.proofs.entry.take_answered.Goals as goal
 

@@ -1,6 +1,4 @@
-use Rattle.std.proofs.Common.{ap, sym, ◌∙◌}
-use Rattle.bbm_entry_state.specs.Points.{waits_in}
-use Rattle.bbm_entry_state.specs.declared.pending.Pend.{Pend}
+use Rattle.bbm_place_map.proofs.Common.{ap, sym, ◌∙◌, waits_in, Pend}
 use Rattle.bbm_place_map.proofs.Pendings.{first_pend, first_there, first_others}
 use Rattle.bbm_place_map.proofs.entry.take_here.Goals as goal
 

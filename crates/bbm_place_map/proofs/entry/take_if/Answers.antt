@@ -1,10 +1,5 @@
-use Rattle.std.proofs.Common.{◌≡◌, ◌&&◌, not, ℕ, Bool, false, ap, sym, ◌∙◌, arith, refl, subst, List, length}
-use mathlib.Core.Bool.{and-false}
-use Rattle.bbm_tlbi_scope.specs.declared.entry.Cover.{Cover}
-use Rattle.bbm_entry_state.specs.Points.{waits_in}
-use Rattle.bbm_entry_state.specs.declared.pending.Pend.{Pend}
-use Rattle.bbm_place_map.specs.Entries.{pend_in, no_pend, IsFirst, Lacks}
-use Rattle.bbm_place_map.specs.declared.entry.Pending.{Pending}
+use Rattle.bbm_place_map.proofs.Common.{◌≡◌, ◌&&◌, not, ℕ, Bool, false, ap, sym, ◌∙◌, arith, refl, subst, List, length}
+use Rattle.bbm_place_map.proofs.Common.{and-false, Cover, waits_in, Pend, pend_in, no_pend, IsFirst, Lacks, Pending}
 use Rattle.bbm_place_map.proofs.Idle.{no_pe_waits}
 use Rattle.bbm_place_map.proofs.Pendings.{lacks_all, written}
 use Rattle.bbm_place_map.proofs.entry.take_if.Goals as goal

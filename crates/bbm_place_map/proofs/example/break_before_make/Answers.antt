@@ -1,14 +1,8 @@
-use Rattle.std.proofs.Common.{◌≡◌, zero, suc, false, ◌||◌, [], ◌∷◌, Some, None, refl, ap, subst, ◌∙◌, if◌then◌else◌}
+use Rattle.bbm_place_map.proofs.Common.{◌≡◌, zero, suc, false, ◌||◌, [], ◌∷◌, Some, None, refl, ap, subst, ◌∙◌}
+use Rattle.bbm_place_map.proofs.Common.{if◌then◌else◌, eq-eqb, Dsb, Inner, All, Stores, Full, Written, Published}
+use Rattle.bbm_place_map.proofs.Common.{Completed, FoundAs, state_from, marks_of_state}
 use Rattle.std.proofs.Common.{not-suc-le-zero, le_of_suc-le-suc}
-use Rattle.std.proofs.lemmas.Bool.{eq-eqb}
-use Rattle.bbm_barriers.specs.declared.Dsb.{Dsb}
-use Rattle.bbm_barriers.specs.declared.Domain.TheVariants.{Inner}
-use Rattle.bbm_barriers.specs.declared.Types.TheVariants.{All, Stores}
-use Rattle.bbm_tlbi_scope.specs.declared.entry.Cover.TheVariants.{Full}
-use Rattle.bbm_entry_state.specs.EntryCalls.{Written, Published, Completed}
-use Rattle.bbm_place_map.specs.Finds.{FoundAs}
 use Rattle.bbm_place_map.specs.Map.{marks_at, pends_at}
-use Rattle.bbm_place_map.specs.States.{state_from, marks_of_state}
 use Rattle.bbm_place_map.proofs.Shown.{broken_still, seen_everywhere, cleansed_by}
 use Rattle.bbm_place_map.proofs.example.break_before_make.Goals as goal
 

@@ -1,9 +1,5 @@
-use Rattle.std.proofs.Common.{ap, sym, ◌∙◌, nat_eq, refl, length, arith, get_or}
-use Rattle.std.proofs.lemmas.Option.{slice_get_read}
-use Rattle.std.proofs.lemmas.Bool.{eqb-true}
-use Rattle.indexmap.specs.IndexMap.{get}
-use Rattle.bbm_place_map.specs.Sound.{starts}
-use Rattle.bbm_place_map.specs.declared.entry.Entry.{Entry}
+use Rattle.bbm_place_map.proofs.Common.{ap, sym, ◌∙◌, nat_eq, refl, length, arith, get_or, slice_get_read, eqb-true}
+use Rattle.bbm_place_map.proofs.Common.{get, starts, Entry}
 use Rattle.bbm_place_map.proofs.Visiting.{slot_of_place}
 use Rattle.bbm_place_map.proofs.issue.entry_of.Goals as goal
 

@@ -1,5 +1,4 @@
-use Rattle.std.proofs.Common.{◌≡◌, drop}
-use Rattle.bbm_place_map.specs.Finds.{is_found}
+use Rattle.bbm_place_map.proofs.Common.{◌≡◌, drop, is_found}
 use Rattle.bbm_place_map.proofs.issue.is_among.Given as goal
 
 abbrev pub invariant-loop-item : goal.invariant-loop-item

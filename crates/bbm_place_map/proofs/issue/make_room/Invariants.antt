@@ -1,5 +1,4 @@
-use Rattle.std.proofs.Common.{◌≡◌, ℕ, ◌<◌, ◌≤◌, length, slice_get, vec_capacity}
-use Rattle.bbm_place_map.specs.Each.{Advances}
+use Rattle.bbm_place_map.proofs.Common.{◌≡◌, ℕ, ◌<◌, ◌≤◌, length, slice_get, vec_capacity, Advances}
 use Rattle.bbm_place_map.specs.PlaceNotes.{Readies}
 use Rattle.bbm_place_map.proofs.issue.make_room.Given as goal
 

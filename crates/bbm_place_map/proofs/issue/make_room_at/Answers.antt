@@ -1,6 +1,4 @@
-use Rattle.std.proofs.Common.{ap, ◌∙◌, arith}
-use Rattle.bbm_place_map.specs.Entries.{seat}
-use Rattle.bbm_place_map.specs.declared.entry.Entry.{Entry}
+use Rattle.bbm_place_map.proofs.Common.{ap, ◌∙◌, arith, seat, Entry}
 use Rattle.bbm_place_map.proofs.Leaving.{entry_same}
 use Rattle.bbm_place_map.proofs.Lists.{set_get}
 use Rattle.bbm_place_map.proofs.issue.make_room_at.Goals as goal

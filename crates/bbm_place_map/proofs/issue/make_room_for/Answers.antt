@@ -1,13 +1,6 @@
-use Rattle.std.proofs.Common.{◌≡◌, ℕ, subst, Some, arith, refl, ap, sym, ◌∙◌, inl, inr}
-use Rattle.indexmap.specs.IndexMap.{get}
-use Rattle.bbm_place_map.specs.Sound.{starts}
-use Rattle.indexmap.proofs.MapLemmas.{OnOk-map}
-use Rattle.std.proofs.Common.{nat_eq, length, slice_get}
-use Rattle.std.proofs.lemmas.Bool.{cases_eq}
-use Rattle.std.proofs.lemmas.Option.{same_Some, none-some, slice_get_within}
-use Rattle.bbm_place_map.specs.Entries.{HasRoom}
-use Rattle.bbm_place_map.specs.PlaceNotes.{Keeps}
-use Rattle.bbm_place_map.specs.declared.entry.Entry.{Entry}
+use Rattle.bbm_place_map.proofs.Common.{◌≡◌, ℕ, subst, Some, arith, refl, ap, sym, ◌∙◌, inl, inr, nat_eq, length}
+use Rattle.bbm_place_map.proofs.Common.{slice_get, get, starts, OnOk-map, cases_eq, same_Some, none-some}
+use Rattle.bbm_place_map.proofs.Common.{slice_get_within, HasRoom, Keeps, Entry}
 use Rattle.bbm_place_map.proofs.Visiting.{slot_place, slot_of_place, one_advances, gets_off, gets_here}
 use Rattle.bbm_place_map.proofs.issue.make_room_for.Goals as goal
 

@@ -1,15 +1,9 @@
-use Rattle.std.proofs.Common.{ℕ, nat_eq, ap, sym, ◌∙◌, inl, inr, slice_get, take}
-use Rattle.std.proofs.lemmas.Bool.{cases_Bool, eq-eqb, eqb-true, false≢true}
-use Rattle.indexmap.specs.IndexMap.{get}
-use Rattle.bbm_place_map.specs.Sound.{starts}
-use Rattle.bbm_place_map.specs.Finds.{is_found}
-use Rattle.bbm_place_map.specs.PlaceNotes.{Keeps}
-use Rattle.bbm_place_map.specs.declared.found.Found.{Found}
+use Rattle.bbm_place_map.proofs.Common.{ℕ, nat_eq, ap, sym, ◌∙◌, inl, inr, slice_get, take, List, cases_Bool, eq-eqb}
+use Rattle.bbm_place_map.proofs.Common.{eqb-true, false≢true, get, starts, is_found, Keeps, Found}
 use Rattle.bbm_place_map.proofs.Advancing.{seat_kept}
 use Rattle.bbm_place_map.proofs.Finding.{found_off, take_more}
 use Rattle.bbm_place_map.proofs.Seats.{linked_seated, placed_seated}
 use Rattle.bbm_place_map.proofs.Visiting.{advance_then}
-use Rattle.std.proofs.Common.{List}
 use Rattle.bbm_place_map.proofs.issue.make_room_found.Goals as goal
 
 pub make_room_for-requires : goal.make_room_for-requires

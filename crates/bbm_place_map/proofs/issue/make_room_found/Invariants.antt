@@ -1,9 +1,5 @@
-use Rattle.std.proofs.Common.{◌≡◌, ℕ, true, Some, length, slice_get, take, vec_capacity}
-use Rattle.bbm_place_map.specs.Each.{Advances}
-use Rattle.bbm_place_map.specs.Entries.{HasRoom}
-use Rattle.bbm_place_map.specs.Finds.{is_found}
-use Rattle.bbm_place_map.specs.PlaceNotes.{Keeps}
-use Rattle.bbm_place_map.specs.declared.entry.Entry.{Entry}
+use Rattle.bbm_place_map.proofs.Common.{◌≡◌, ℕ, true, Some, length, slice_get, take, vec_capacity, Advances, HasRoom}
+use Rattle.bbm_place_map.proofs.Common.{is_found, Keeps, Entry}
 use Rattle.bbm_place_map.proofs.issue.make_room_found.Given as goal
 
 abbrev pub invariant-loop-i : goal.invariant-loop-i

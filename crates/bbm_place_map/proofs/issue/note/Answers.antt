@@ -1,6 +1,4 @@
-use Rattle.std.proofs.Common.{ℕ, ◌<◌, arith, ◌∙◌, sym, slice_get, length}
-use Rattle.bbm_place_map.specs.PlaceNotes.{NotesAt}
-use Rattle.bbm_place_map.specs.Works.{Waits}
+use Rattle.bbm_place_map.proofs.Common.{ℕ, ◌<◌, arith, ◌∙◌, sym, slice_get, length, NotesAt, Waits}
 use Rattle.bbm_place_map.proofs.Advancing.{done_more, rest_more, all_done, advance_by}
 use Rattle.bbm_place_map.proofs.Issued.{cover_read}
 use Rattle.bbm_place_map.proofs.Noting.{notes_at, waits_kept}

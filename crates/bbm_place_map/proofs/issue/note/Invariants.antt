@@ -1,7 +1,5 @@
-use Rattle.std.proofs.Common.{◌≡◌, ℕ, Bool, ◌<◌, ◌≤◌, length, slice_get, vec_capacity}
-use Rattle.bbm_place_map.specs.Each.{Advances}
-use Rattle.bbm_place_map.specs.PlaceNotes.{NotesAt}
-use Rattle.bbm_place_map.specs.Works.{HoldsFor, Waits}
+use Rattle.bbm_place_map.proofs.Common.{◌≡◌, ℕ, Bool, ◌<◌, ◌≤◌, length, slice_get, vec_capacity, Advances, NotesAt}
+use Rattle.bbm_place_map.proofs.Common.{HoldsFor, Waits}
 use Rattle.bbm_place_map.proofs.issue.note.Given as goal
 
 abbrev pub invariant-loop-k : goal.invariant-loop-k

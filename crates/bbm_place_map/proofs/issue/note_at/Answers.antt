@@ -1,10 +1,6 @@
-use Rattle.std.proofs.Common.{ap, sym, ◌∙◌, arith, subst, ◌↔◌, IsTrue}
-use Rattle.std.proofs.lemmas.Bool.{false≢true}
-use Rattle.bbm_entry_state.specs.EntryCalls.{Noted}
+use Rattle.bbm_place_map.proofs.Common.{ap, sym, ◌∙◌, arith, subst, ◌↔◌, IsTrue, false≢true, Noted, seat, pends_in}
+use Rattle.bbm_place_map.proofs.Common.{IsQuiet, Entry}
 use Rattle.bbm_entry_state.specs.declared.state.EntryState.TheVariants as state
-use Rattle.bbm_place_map.specs.Entries.{seat, pends_in}
-use Rattle.bbm_place_map.specs.Works.{IsQuiet}
-use Rattle.bbm_place_map.specs.declared.entry.Entry.{Entry}
 use Rattle.bbm_place_map.proofs.Leaving.{entry_same}
 use Rattle.bbm_place_map.proofs.Lists.{set_get}
 use Rattle.bbm_place_map.proofs.Noting.{quiet_noted}

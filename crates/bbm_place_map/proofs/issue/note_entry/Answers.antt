@@ -1,7 +1,5 @@
-use Rattle.std.proofs.lemmas.Bool.{false≢true, cond-true, eq-eqb}
-use Rattle.std.proofs.Common.{◌≡◌, Bool, nat_eq, Some, ap, sym, subst, ◌∙◌, inl, inr, refl, slice_get, arith, ℕ}
-use Rattle.bbm_place_map.specs.Works.{HoldsFor}
-use Rattle.bbm_place_map.specs.declared.entry.Entry.{Entry}
+use Rattle.bbm_place_map.proofs.Common.{false≢true, cond-true, eq-eqb, ◌≡◌, Bool, nat_eq, Some, ap, sym, subst, ◌∙◌}
+use Rattle.bbm_place_map.proofs.Common.{inl, inr, refl, slice_get, arith, ℕ, HoldsFor, Entry}
 use Rattle.bbm_place_map.proofs.Noting.{not_noted, gets_same}
 use Rattle.bbm_place_map.proofs.Leaving.{entry_same}
 use Rattle.bbm_place_map.proofs.issue.note_entry.Goals as goal

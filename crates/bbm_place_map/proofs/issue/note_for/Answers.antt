@@ -1,9 +1,5 @@
-use Rattle.std.proofs.Common.{arith, refl, ap, sym, ◌∙◌, inr, nat_eq, length, slice_get}
-use Rattle.std.proofs.lemmas.Option.{same_Some, none-some, slice_get_within}
-use Rattle.indexmap.specs.IndexMap.{get}
-use Rattle.bbm_place_map.specs.Sound.{starts}
-use Rattle.bbm_place_map.specs.PlaceNotes.{NotesOne}
-use Rattle.bbm_place_map.specs.declared.entry.Entry.{Entry}
+use Rattle.bbm_place_map.proofs.Common.{arith, refl, ap, sym, ◌∙◌, inr, nat_eq, length, slice_get, same_Some, none-some}
+use Rattle.bbm_place_map.proofs.Common.{slice_get_within, get, starts, NotesOne, Entry}
 use Rattle.bbm_place_map.proofs.Visiting.{slot_place, slot_of_place, one_advances, self_advances}
 use Rattle.bbm_place_map.proofs.issue.note_for.Goals as goal
 

@@ -1,12 +1,6 @@
-use Rattle.std.proofs.Common.{◌≡◌, ℕ, Option, nat_eq, arith, ◌∙◌, List, subst, take, slice_get}
+use Rattle.bbm_place_map.proofs.Common.{◌≡◌, ℕ, Option, nat_eq, arith, ◌∙◌, List, subst, take, slice_get, get, starts}
+use Rattle.bbm_place_map.proofs.Common.{Advances, seat_at, NotesFound, Entry, Found}
 use Rattle.std.proofs.lemmas.List.{take_all}
-use Rattle.indexmap.specs.IndexMap.{get}
-use Rattle.bbm_place_map.specs.Sound.{starts}
-use Rattle.bbm_place_map.specs.Each.{Advances}
-use Rattle.bbm_place_map.specs.Entries.{seat_at}
-use Rattle.bbm_place_map.specs.PlaceNotes.{NotesFound}
-use Rattle.bbm_place_map.specs.declared.entry.Entry.{Entry}
-use Rattle.bbm_place_map.specs.declared.found.Found.{Found}
 use Rattle.bbm_place_map.proofs.Advancing.{seat_kept}
 use Rattle.bbm_place_map.proofs.Seats.{linked_seated, placed_seated}
 use Rattle.bbm_place_map.proofs.Visiting.{unfound_kept}

@@ -1,7 +1,5 @@
-use Rattle.std.proofs.Common.{◌≡◌, ℕ, Bool, length, slice_get, take, vec_capacity}
-use Rattle.bbm_place_map.specs.Each.{Advances}
-use Rattle.bbm_place_map.specs.PlaceNotes.{NotesFound}
-use Rattle.bbm_place_map.specs.Works.{HoldsFor}
+use Rattle.bbm_place_map.proofs.Common.{◌≡◌, ℕ, Bool, length, slice_get, take, vec_capacity, Advances, NotesFound}
+use Rattle.bbm_place_map.proofs.Common.{HoldsFor}
 use Rattle.bbm_place_map.proofs.issue.note_found.Given as goal
 
 abbrev pub invariant-loop-i : goal.invariant-loop-i

@@ -1,8 +1,5 @@
-use Rattle.std.proofs.Common.{[], ◌∷◌, ◌++◌, ap, sym, ◌∙◌, List, subst, take, slice_get}
-use Rattle.bbm_place_map.specs.Each.{Advances}
-use Rattle.bbm_place_map.specs.Finds.{is_found}
-use Rattle.bbm_place_map.specs.PlaceNotes.{NotesOne, NotesFound}
-use Rattle.bbm_place_map.specs.declared.found.Found.{Found}
+use Rattle.bbm_place_map.proofs.Common.{[], ◌∷◌, ◌++◌, ap, sym, ◌∙◌, List, subst, take, slice_get, Advances, is_found}
+use Rattle.bbm_place_map.proofs.Common.{NotesOne, NotesFound, Found}
 use Rattle.bbm_place_map.proofs.Advancing.{advance_by}
 use Rattle.bbm_place_map.proofs.Finding.{found_at, take_more}
 use Rattle.bbm_place_map.proofs.Visiting.{advance_then, note_step, skip_step}

@@ -1,6 +1,4 @@
-use Rattle.std.proofs.Common.{arith, ap, ◌∙◌, refl, List}
-use Rattle.bbm_place_map.specs.Parts.{marks_in, pends_for}
-use Rattle.bbm_place_map.specs.declared.entry.Entry.{Entry}
+use Rattle.bbm_place_map.proofs.Common.{arith, ap, ◌∙◌, refl, List, marks_in, pends_for, Entry}
 use Rattle.bbm_place_map.proofs.Edits.{room_for}
 use Rattle.bbm_place_map.proofs.Linking.{linked_more, marks_more, pends_more, placed_more}
 use Rattle.bbm_place_map.proofs.links.link.Goals as goal

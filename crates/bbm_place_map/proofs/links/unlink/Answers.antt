@@ -1,6 +1,5 @@
-use Rattle.std.proofs.Common.{rules, ℕ, arith, ap, sym, ◌∙◌, ◌-◌, None, nat_eq, if◌then◌else◌}
-use Rattle.std.proofs.lemmas.Option.{same_Some}
-use Rattle.bbm_place_map.specs.Entries.{entry_in}
+use Rattle.bbm_place_map.proofs.Common.{ℕ, arith, ap, sym, ◌∙◌, ◌-◌, None, nat_eq, if◌then◌else◌, same_Some, entry_in}
+use Rattle.std.proofs.Common.{rules}
 use Rattle.bbm_place_map.proofs.Edits.{entries_few}
 use Rattle.bbm_place_map.proofs.Leaving.{Left, left, cell_inside, cell_read}
 use Rattle.bbm_place_map.proofs.links.unlink.Goals as goal

@@ -1,5 +1,4 @@
-use Rattle.std.proofs.Common.{ℕ, arith, inl, inr, subst, ◌∙◌, set}
-use Rattle.bbm_place_map.specs.Works.{HoldsFor}
+use Rattle.bbm_place_map.proofs.Common.{ℕ, arith, inl, inr, subst, ◌∙◌, set, HoldsFor}
 use Rattle.bbm_place_map.proofs.Holding.{set_there, set_others, read_for}
 use Rattle.bbm_place_map.proofs.publish.publish.Goals as goal
 

@@ -1,6 +1,4 @@
-use Rattle.std.proofs.Common.{ℕ, arith, ◌∙◌}
-use Rattle.bbm_place_map.specs.Each.{Publishes}
-use Rattle.bbm_place_map.specs.declared.entry.Entry.{Entry}
+use Rattle.bbm_place_map.proofs.Common.{ℕ, arith, ◌∙◌, Publishes, Entry}
 use Rattle.bbm_place_map.proofs.Advancing.{done_more, rest_more, all_done}
 use Rattle.bbm_place_map.proofs.Restless.{entry_there}
 use Rattle.bbm_place_map.proofs.publish.publish_all.Goals as goal

@@ -1,5 +1,4 @@
-use Rattle.std.proofs.Common.{◌≡◌, ℕ, ◌<◌, ◌≤◌, length, slice_get, vec_capacity}
-use Rattle.bbm_place_map.specs.Each.{Advances, Publishes}
+use Rattle.bbm_place_map.proofs.Common.{◌≡◌, ℕ, ◌<◌, ◌≤◌, length, slice_get, vec_capacity, Advances, Publishes}
 use Rattle.bbm_place_map.proofs.publish.publish_all.Given as goal
 
 abbrev pub invariant-loop-k : goal.invariant-loop-k

@@ -1,6 +1,4 @@
-use Rattle.std.proofs.Common.{arith, refl, subst}
-use Rattle.bbm_place_map.specs.Each.{Publishes}
-use Rattle.bbm_place_map.specs.declared.entry.Entry.{Entry}
+use Rattle.bbm_place_map.proofs.Common.{arith, refl, subst, Publishes, Entry}
 use Rattle.bbm_place_map.proofs.Leaving.{entry_same}
 use Rattle.bbm_place_map.proofs.publish.publish_at.Goals as goal
 

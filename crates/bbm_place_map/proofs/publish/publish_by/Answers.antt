@@ -1,5 +1,4 @@
-use Rattle.std.proofs.Common.{List, ap, ◌∙◌, slice_get}
-use Rattle.bbm_place_map.specs.declared.entry.Entry.{Entry}
+use Rattle.bbm_place_map.proofs.Common.{List, ap, ◌∙◌, slice_get, Entry}
 use Rattle.bbm_place_map.proofs.publish.publish_by.Goals as goal
 
 pub returns-then-list-clause-known : goal.returns-then-list-clause-known

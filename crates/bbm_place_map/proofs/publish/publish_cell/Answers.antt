@@ -1,9 +1,5 @@
-use Rattle.std.proofs.Common.{◌≡◌, ℕ, Some, nat_eq, arith, ap, sym, subst, ◌∙◌, refl, slice_get}
-use Rattle.std.proofs.lemmas.Bool.{eq-eqb, ne_eqb, cond-true, cond-false}
-use Rattle.std.proofs.lemmas.Option.{same_Some}
-use Rattle.bbm_place_map.specs.Cells.{slot_in}
-use Rattle.bbm_place_map.specs.Each.{Advances, Publishes}
-use Rattle.bbm_place_map.specs.declared.entry.Entry.{Entry}
+use Rattle.bbm_place_map.proofs.Common.{◌≡◌, ℕ, Some, nat_eq, arith, ap, sym, subst, ◌∙◌, refl, slice_get, eq-eqb}
+use Rattle.bbm_place_map.proofs.Common.{ne_eqb, cond-true, cond-false, same_Some, slot_in, Advances, Publishes, Entry}
 use Rattle.bbm_place_map.proofs.Advancing.{at_both}
 use Rattle.bbm_place_map.proofs.Linking.{cell_within}
 use Rattle.bbm_place_map.proofs.Seats.{linked_seated, seats_changed, found}

@@ -1,4 +1,4 @@
-use Rattle.std.proofs.Common.{◌∙◌}
+use Rattle.bbm_place_map.proofs.Common.{◌∙◌}
 use Rattle.bbm_place_map.proofs.Publishing.{here_more, each_more}
 use Rattle.bbm_place_map.proofs.publish.publish_cells.Goals as goal
 

@@ -1,8 +1,5 @@
-use Rattle.std.proofs.Common.{◌≡◌, ℕ, ◌<◌, Some, length, slice_get, slice_index, vec_capacity}
-use Rattle.bbm_place_map.specs.Cells.{slot_in}
-use Rattle.bbm_place_map.specs.Each.{Advances, Publishes}
-use Rattle.bbm_place_map.specs.Sound.{Linked}
-use Rattle.bbm_place_map.specs.Works.{MayPublish}
+use Rattle.bbm_place_map.proofs.Common.{◌≡◌, ℕ, ◌<◌, Some, length, slice_get, slice_index, vec_capacity, slot_in}
+use Rattle.bbm_place_map.proofs.Common.{Advances, Publishes, Linked, MayPublish}
 use Rattle.bbm_place_map.proofs.publish.publish_cells.Given as goal
 
 abbrev pub invariant-loop-i : goal.invariant-loop-i

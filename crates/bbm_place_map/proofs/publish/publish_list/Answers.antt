@@ -1,6 +1,4 @@
-use Rattle.std.proofs.Common.{ℕ, Bool, not, List, Contains, sym, subst, ◌∙◌, inl, inr}
-use Rattle.std.proofs.lemmas.Bool.{false≢true}
-use Rattle.bbm_place_map.specs.Works.{IsTold}
+use Rattle.bbm_place_map.proofs.Common.{ℕ, Bool, not, List, Contains, sym, subst, ◌∙◌, inl, inr, false≢true, IsTold}
 use Rattle.bbm_place_map.proofs.Publishing.{all_published}
 use Rattle.bbm_place_map.proofs.Telling.{heard_told}
 use Rattle.bbm_place_map.proofs.publish.publish_list.Goals as goal

@@ -1,9 +1,6 @@
-use Rattle.std.proofs.Common.{◌≡◌, ◌⊎◌, ℕ, Bool, true, false, Some, slice_get, refl, sym, ◌∙◌, inl, inr}
-use Rattle.std.proofs.lemmas.Bool.{false≢true, lt-ltb}
-use Rattle.bbm_barriers.specs.Options.{publishes}
+use Rattle.bbm_place_map.proofs.Common.{◌≡◌, ◌⊎◌, ℕ, Bool, true, false, Some, slice_get, refl, sym, ◌∙◌, inl, inr}
+use Rattle.bbm_place_map.proofs.Common.{false≢true, lt-ltb, publishes, Holds, IsTold, Entry}
 use Rattle.bbm_regimes.specs.PeMask.{pe_in}
-use Rattle.bbm_place_map.specs.Works.{Holds, IsTold}
-use Rattle.bbm_place_map.specs.declared.entry.Entry.{Entry}
 use Rattle.bbm_place_map.proofs.Holding.{still_in}
 use Rattle.bbm_place_map.proofs.Publishing.{all_heard, known_kept}
 use Rattle.bbm_place_map.proofs.Telling.{heard_advances, publishes_own, told_all, told_alone}

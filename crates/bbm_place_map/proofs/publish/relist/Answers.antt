@@ -1,8 +1,5 @@
-use Rattle.std.proofs.Common.{◌≡◌, ◌⊎◌, ◌<◌, arith, inl, inr, subst, sym, ap, ◌∙◌, slice_get, length}
-use Rattle.std.proofs.lemmas.Bool.{cases_eq}
-use Rattle.std.proofs.lemmas.Option.{slice_get_within}
-use Rattle.bbm_place_map.specs.Works.{Holds, IsTold}
-use Rattle.bbm_place_map.specs.declared.entry.Entry.{Entry}
+use Rattle.bbm_place_map.proofs.Common.{◌≡◌, ◌⊎◌, ◌<◌, arith, inl, inr, subst, sym, ap, ◌∙◌, slice_get, length}
+use Rattle.bbm_place_map.proofs.Common.{cases_eq, slice_get_within, Holds, IsTold, Entry}
 use Rattle.bbm_place_map.proofs.Leaving.{entry_same}
 use Rattle.bbm_place_map.proofs.publish.relist.Goals as goal
 

@@ -1,6 +1,4 @@
-use Rattle.std.proofs.Common.{◌≡◌, ℕ, Bool, ◌<◌, ◌⊎◌, Some, slice_get}
-use Rattle.bbm_place_map.specs.Works.{Holds, IsTold}
-use Rattle.bbm_place_map.specs.declared.entry.Entry.{Entry}
+use Rattle.bbm_place_map.proofs.Common.{◌≡◌, ℕ, Bool, ◌<◌, ◌⊎◌, Some, slice_get, Holds, IsTold, Entry}
 use Rattle.bbm_place_map.proofs.publish.relist.Given as goal
 
 abbrev pub invariant-loop-k : goal.invariant-loop-k

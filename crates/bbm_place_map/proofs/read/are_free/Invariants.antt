@@ -1,5 +1,4 @@
-use Rattle.std.proofs.Common.{◌≡◌, ℕ, ◌<◌, ◌+◌}
-use Rattle.bbm_place_map.specs.Cells.{value_in}
+use Rattle.bbm_place_map.proofs.Common.{◌≡◌, ℕ, ◌<◌, ◌+◌, value_in}
 use Rattle.bbm_place_map.proofs.read.are_free.Given as goal
 
 abbrev pub invariant-loop-i : goal.invariant-loop-i

@@ -1,6 +1,4 @@
-use Rattle.std.proofs.Common.{ap, sym, ◌∙◌, refl, Option, ℕ, length}
-use Rattle.std.proofs.lemmas.Option.{slice_get_read}
-use Rattle.bbm_place_map.specs.Entries.{entry_of}
+use Rattle.bbm_place_map.proofs.Common.{ap, sym, ◌∙◌, refl, Option, ℕ, length, slice_get_read, entry_of}
 use Rattle.bbm_place_map.proofs.Linking.{cell_within}
 use Rattle.bbm_place_map.proofs.read.entry_of.Goals as goal
 

@@ -1,8 +1,5 @@
-use Rattle.std.proofs.Common.{ap, sym, ◌∙◌, Option}
+use Rattle.bbm_place_map.proofs.Common.{ap, sym, ◌∙◌, Option, waits, pends_of, Entry}
 use Rattle.std.specs.Option.{option_copied}
-use Rattle.bbm_entry_state.specs.Points.{waits}
-use Rattle.bbm_place_map.specs.Entries.{pends_of}
-use Rattle.bbm_place_map.specs.declared.entry.Entry.{Entry}
 use Rattle.bbm_place_map.proofs.Idle.{nothing_waits}
 use Rattle.bbm_place_map.proofs.read.pends.Goals as goal
 

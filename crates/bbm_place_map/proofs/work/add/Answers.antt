@@ -1,4 +1,4 @@
-use Rattle.std.proofs.Common.{arith}
+use Rattle.bbm_place_map.proofs.Common.{arith}
 use Rattle.bbm_place_map.proofs.Holding.{more_there, more_kept}
 use Rattle.bbm_place_map.proofs.work.add.Goals as goal
 

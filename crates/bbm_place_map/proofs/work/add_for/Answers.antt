@@ -1,6 +1,5 @@
-use Rattle.std.proofs.Common.{◌≤◌, ℕ, arith, inl, subst, sym, ◌∙◌, set, length}
-use Rattle.std.proofs.lemmas.Option.{slice_get_past, none-some}
-use Rattle.bbm_place_map.specs.Works.{HoldsFor}
+use Rattle.bbm_place_map.proofs.Common.{◌≤◌, ℕ, arith, inl, subst, sym, ◌∙◌, set, length, slice_get_past, none-some}
+use Rattle.bbm_place_map.proofs.Common.{HoldsFor}
 use Rattle.bbm_place_map.proofs.Holding.{set_there, set_kept}
 use Rattle.bbm_place_map.proofs.work.add_for.Goals as goal
 

@@ -1,5 +1,4 @@
-use Rattle.std.proofs.Common.{sym, ◌∙◌}
-use Rattle.std.proofs.lemmas.Bool.{false≢true}
+use Rattle.bbm_place_map.proofs.Common.{sym, ◌∙◌, false≢true}
 use Rattle.bbm_place_map.proofs.work.add_fresh.Goals as goal
 
 pub returns-else-not-is_empty : goal.returns-else-not-is_empty

@@ -1,7 +1,6 @@
-use Rattle.std.proofs.Common.{ℕ, Bool, not, ◌&&◌, nat_eq, inl, inr, ap, subst, sym, ◌∙◌}
-use Rattle.std.proofs.lemmas.Bool.{cases_Bool, eqb-true}
+use Rattle.bbm_place_map.proofs.Common.{ℕ, Bool, not, ◌&&◌, nat_eq, inl, inr, ap, subst, sym, ◌∙◌, cases_Bool, eqb-true}
+use Rattle.bbm_place_map.proofs.Common.{HoldsFor}
 use Rattle.bbm_regimes.specs.PeMask.{pe_in}
-use Rattle.bbm_place_map.specs.Works.{HoldsFor}
 use Rattle.bbm_place_map.proofs.Holding.{still_in}
 use Rattle.bbm_place_map.proofs.work.add_mostly.Goals as goal
 

@@ -1,5 +1,4 @@
-use Rattle.std.proofs.Common.{ℕ, subst}
-use Rattle.bbm_place_map.specs.Works.{HoldsFor}
+use Rattle.bbm_place_map.proofs.Common.{ℕ, subst, HoldsFor}
 use Rattle.bbm_place_map.proofs.work.add_writer.Goals as goal
 
 pub returns-then-has-clause-there : goal.returns-then-has-clause-there

@@ -1,7 +1,5 @@
-use Rattle.std.proofs.Common.{◌≡◌, ℕ, true, arith, inl, inr, subst, sym}
-use Rattle.std.proofs.lemmas.Bool.{cases_eq}
+use Rattle.bbm_place_map.proofs.Common.{◌≡◌, ℕ, true, arith, inl, inr, subst, sym, cases_eq, HoldsFor}
 use Rattle.bbm_regimes.specs.PeMask.{pe_in}
-use Rattle.bbm_place_map.specs.Works.{HoldsFor}
 use Rattle.bbm_place_map.proofs.work.add_writers.Goals as goal
 
 pub loop-i-preserved : goal.loop-i-preserved

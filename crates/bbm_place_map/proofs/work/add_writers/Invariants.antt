@@ -1,6 +1,5 @@
-use Rattle.std.proofs.Common.{◌≡◌, ◌<◌, ℕ, Bool, true}
+use Rattle.bbm_place_map.proofs.Common.{◌≡◌, ◌<◌, ℕ, Bool, true, HoldsFor}
 use Rattle.bbm_regimes.specs.PeMask.{pe_in}
-use Rattle.bbm_place_map.specs.Works.{HoldsFor}
 use Rattle.bbm_place_map.proofs.work.add_writers.Given as goal
 
 abbrev pub invariant-loop-i : goal.invariant-loop-i

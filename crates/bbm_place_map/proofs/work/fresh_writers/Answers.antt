@@ -1,4 +1,4 @@
-use Rattle.std.proofs.Common.{inl, inr}
+use Rattle.bbm_place_map.proofs.Common.{inl, inr}
 use Rattle.bbm_place_map.proofs.Holding.{told_before}
 use Rattle.bbm_place_map.proofs.work.fresh_writers.Goals as goal
 

@@ -1,6 +1,4 @@
-use Rattle.std.proofs.Common.{true, List, refl, sym, subst}
-use Rattle.bbm_place_map.specs.Works.{HoldsFor}
-use Rattle.bbm_place_map.specs.declared.work.WorkList.{WorkList}
+use Rattle.bbm_place_map.proofs.Common.{true, List, refl, sym, subst, HoldsFor, WorkList}
 use Rattle.bbm_place_map.proofs.Holding.{push_kept}
 use Rattle.bbm_place_map.proofs.work.make_lists.Goals as goal
 

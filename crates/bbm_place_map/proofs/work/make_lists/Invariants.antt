@@ -1,5 +1,4 @@
-use Rattle.std.proofs.Common.{ℕ, Bool}
-use Rattle.bbm_place_map.specs.Works.{HoldsFor}
+use Rattle.bbm_place_map.proofs.Common.{ℕ, Bool, HoldsFor}
 use Rattle.bbm_place_map.proofs.work.make_lists.Given as goal
 
 abbrev pub invariant-loop-pe : goal.invariant-loop-pe

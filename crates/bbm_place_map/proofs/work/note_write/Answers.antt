@@ -1,5 +1,4 @@
-use Rattle.std.proofs.Common.{◌≡◌, ◌⊎◌, Bool, true, false, inl, inr}
-use Rattle.std.proofs.lemmas.Bool.{cases_Bool}
+use Rattle.bbm_place_map.proofs.Common.{◌≡◌, ◌⊎◌, Bool, true, false, inl, inr, cases_Bool}
 use Rattle.bbm_regimes.specs.PeMask.{pe_in}
 use Rattle.bbm_place_map.proofs.work.note_write.Goals as goal
 

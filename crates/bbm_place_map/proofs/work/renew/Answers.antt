@@ -1,5 +1,4 @@
-use Rattle.std.proofs.Common.{not, ap, sym, ◌∙◌}
-use Rattle.std.proofs.lemmas.Bool.{false≢true}
+use Rattle.bbm_place_map.proofs.Common.{not, ap, sym, ◌∙◌, false≢true}
 use Rattle.bbm_place_map.proofs.work.renew.Goals as goal
 
 pub returns-clause-given_up : goal.returns-clause-given_up

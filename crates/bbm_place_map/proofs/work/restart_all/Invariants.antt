@@ -1,5 +1,4 @@
-use Rattle.std.proofs.Common.{◌≡◌, ◌<◌, ℕ, Some, slice_get, vec_len}
-use Rattle.bbm_place_map.specs.declared.work.WorkList.{WorkList}
+use Rattle.bbm_place_map.proofs.Common.{◌≡◌, ◌<◌, ℕ, Some, slice_get, vec_len, WorkList}
 use Rattle.bbm_place_map.proofs.work.restart_all.Given as goal
 
 abbrev pub invariant-loop-k : goal.invariant-loop-k

@@ -1,5 +1,4 @@
-use Rattle.std.proofs.Common.{◌≡◌, ◌+◌, ℕ, vec_len, vec_capacity, count_by}
-use Rattle.bbm_place_map.specs.Cells.{slot_in, is_listed}
+use Rattle.bbm_place_map.proofs.Common.{◌≡◌, ◌+◌, ℕ, vec_len, vec_capacity, count_by, slot_in, is_listed}
 use Rattle.bbm_place_map.proofs.write.add_cells.Given as goal
 
 abbrev pub invariant-loop-i : goal.invariant-loop-i

@@ -1,5 +1,4 @@
-use Rattle.std.proofs.Common.{◌≡◌, ◌+◌, ℕ, vec_len, vec_capacity}
-use Rattle.bbm_place_map.specs.Cells.{value_in}
+use Rattle.bbm_place_map.proofs.Common.{◌≡◌, ◌+◌, ℕ, vec_len, vec_capacity, value_in}
 use Rattle.bbm_place_map.proofs.write.add_values.Given as goal
 
 abbrev pub invariant-loop-i : goal.invariant-loop-i

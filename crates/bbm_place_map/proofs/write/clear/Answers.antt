@@ -1,5 +1,4 @@
-use Rattle.std.proofs.Common.{List, ℕ, arith, ap, sym, ◌∙◌}
-use Rattle.bbm_place_map.specs.Cells.{slot_in}
+use Rattle.bbm_place_map.proofs.Common.{List, ℕ, arith, ap, sym, ◌∙◌, slot_in}
 use Rattle.bbm_place_map.proofs.Linking.{cell_within}
 use Rattle.bbm_place_map.proofs.write.clear.Goals as goal
 

@@ -1,5 +1,4 @@
-use Rattle.std.proofs.Common.{None, arith}
-use Rattle.bbm_place_map.specs.Entries.{entry_in}
+use Rattle.bbm_place_map.proofs.Common.{None, arith, entry_in}
 use Rattle.bbm_place_map.proofs.Pages.{one_more}
 use Rattle.bbm_place_map.proofs.Seats.{still_more}
 use Rattle.bbm_place_map.proofs.write.clear_page.Goals as goal

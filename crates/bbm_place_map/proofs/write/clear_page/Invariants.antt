@@ -1,7 +1,4 @@
-use Rattle.std.proofs.Common.{◌≡◌, ℕ, None, if◌then◌else◌}
-use Rattle.bbm_place_map.specs.Cells.{in_page}
-use Rattle.bbm_place_map.specs.Entries.{entry_in}
-use Rattle.bbm_place_map.specs.Sound.{StillSound}
+use Rattle.bbm_place_map.proofs.Common.{◌≡◌, ℕ, None, if◌then◌else◌, in_page, entry_in, StillSound}
 use Rattle.bbm_place_map.proofs.write.clear_page.Given as goal
 
 abbrev pub invariant-loop-i : goal.invariant-loop-i

@@ -1,7 +1,5 @@
-use Rattle.std.proofs.Common.{◌≡◌, ℕ, List, Some, ap, sym, ◌∙◌, arith, refl, slice_get}
-use Rattle.bbm_place_map.specs.Cells.{slot_in}
-use Rattle.bbm_place_map.specs.Entries.{seat_at}
-use Rattle.bbm_place_map.specs.declared.entry.Entry.{Entry}
+use Rattle.bbm_place_map.proofs.Common.{◌≡◌, ℕ, List, Some, ap, sym, ◌∙◌, arith, refl, slice_get, slot_in, seat_at}
+use Rattle.bbm_place_map.proofs.Common.{Entry}
 use Rattle.bbm_place_map.proofs.Linking.{cell_within}
 use Rattle.bbm_place_map.proofs.Seats.{linked_seated, placed_seated, seats_changed, marks_changed, pends_changed, found}
 use Rattle.bbm_place_map.proofs.write.mark.Goals as goal

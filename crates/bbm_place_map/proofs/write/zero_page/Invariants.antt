@@ -1,5 +1,4 @@
-use Rattle.std.proofs.Common.{◌≡◌, ℕ, vec_len, if◌then◌else◌}
-use Rattle.bbm_place_map.specs.Cells.{value_in, in_page}
+use Rattle.bbm_place_map.proofs.Common.{◌≡◌, ℕ, vec_len, if◌then◌else◌, value_in, in_page}
 use Rattle.bbm_place_map.proofs.write.zero_page.Given as goal
 
 abbrev pub invariant-loop-i : goal.invariant-loop-i

@@ -1,8 +1,7 @@
-use Rattle.std.proofs.Common.{◌≡◌, ℕ, ◌+◌, ◌*◌, ◌/◌, ◌%◌, ◌<◌, ◌==◌, true, ap, ◌∙◌, arith}
-use Rattle.std.proofs.lemmas.Bool.{and_from, and_parts, eq-eqb, eqb-true}
+use Rattle.bbm_rules.proofs.Common.{◌≡◌, ℕ, ◌+◌, ◌*◌, ◌/◌, ◌%◌, ◌<◌, ◌==◌, true, ap, ◌∙◌, arith, and_from, and_parts}
+use Rattle.bbm_rules.proofs.Common.{eq-eqb, eqb-true, page_of}
 use Rattle.bbm_place_map.specs.Map.{value_at}
 use Rattle.bbm_replay_trees.specs.Told.{is_at}
-use Rattle.bbm_rules.specs.Places.{page_of}
 use Rattle.bbm_replay.proofs.pages.is_zero.Goals as goal
 
 at_index : (a page : ℕ) → a / 4096 * 4096 ≡ page → a % 8 ≡ 0 → (a ≡ page + 8 * (a % 4096 / 8)) × (a % 4096 / 8 < 512)

@@ -1,4 +1,4 @@
-use Rattle.std.proofs.Common.{◌≡◌, ℕ, ◌+◌, ◌*◌, ◌<◌, true}
+use Rattle.bbm_rules.proofs.Common.{◌≡◌, ℕ, ◌+◌, ◌*◌, ◌<◌, true}
 use Rattle.bbm_tree_index.specs.Index.{fresh_in}
 use Rattle.bbm_replay.proofs.trees.first_unfresh.Given as goal
 

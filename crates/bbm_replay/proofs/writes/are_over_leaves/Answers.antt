@@ -1,11 +1,7 @@
-use Rattle.std.proofs.Common.{◌≡◌, ℕ, ◌<◌, ◌≤◌, ◌+◌, None, Some, inl, inr, is_some, sym, ap, ◌∙◌, subst, arith}
-use Rattle.std.proofs.lemmas.Bool.{cases_lt}
-use Rattle.std.proofs.lemmas.Option.{same_Some}
-use Rattle.bbm_descriptor.specs.declared.desc.Core.{Core}
-use Rattle.bbm_entry_state.specs.declared.marks.Marks.{Marks}
+use Rattle.bbm_replay.proofs.Common.{Marks, PlaceMap, next_in}
+use Rattle.bbm_rules.proofs.Common.{◌≡◌, ℕ, ◌<◌, ◌≤◌, ◌+◌, None, Some, inl, inr, is_some, sym, ap, ◌∙◌, subst, arith}
+use Rattle.bbm_rules.proofs.Common.{cases_lt, same_Some, Core}
 use Rattle.bbm_place_map.specs.Map.{marks_at, restless_place}
-use Rattle.bbm_place_map.specs.declared.map.PlaceMap.{PlaceMap}
-use Rattle.bbm_tree_index.specs.HeldCores.{next_in}
 use Rattle.bbm_replay.proofs.Quick.{none_of}
 use Rattle.bbm_replay.proofs.writes.are_over_leaves.Goals as goal
 

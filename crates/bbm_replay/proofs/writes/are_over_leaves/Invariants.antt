@@ -1,7 +1,6 @@
-use Rattle.std.proofs.Common.{◌≡◌, ℕ, ◌<◌, None, Some}
-use Rattle.bbm_entry_state.specs.declared.marks.Marks.{Marks}
+use Rattle.bbm_replay.proofs.Common.{Marks, next_in}
+use Rattle.bbm_rules.proofs.Common.{◌≡◌, ℕ, ◌<◌, None, Some}
 use Rattle.bbm_place_map.specs.Map.{marks_at, restless_place}
-use Rattle.bbm_tree_index.specs.HeldCores.{next_in}
 use Rattle.bbm_replay.proofs.writes.are_over_leaves.Given as goal
 
 abbrev pub invariant-loop-i : goal.invariant-loop-i

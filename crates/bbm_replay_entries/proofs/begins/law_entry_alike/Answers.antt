@@ -1,4 +1,4 @@
-use Rattle.std.proofs.Common.{ap, ◌∙◌, ◌&&◌, Bool}
+use Rattle.bbm_rules.proofs.Common.{ap, ◌∙◌, ◌&&◌, Bool}
 use Rattle.bbm_entry_state.specs.Points.{waits}
 use Rattle.bbm_replay_entries.proofs.begins.law_entry_alike.Goals as goal
 

@@ -1,7 +1,5 @@
-use Rattle.std.proofs.Common.{◌∙◌, ap, cond, List, ◌∷◌, Some, None}
-use Rattle.bbm_descriptor.specs.Descriptor.{is_valid}
+use Rattle.bbm_rules.proofs.Common.{◌∙◌, ap, cond, List, ◌∷◌, Some, None, is_valid, value_of}
 use Rattle.bbm_events.specs.declared.event.Event.{Event}
-use Rattle.bbm_rules.specs.Values.{value_of}
 use Rattle.bbm_replay_entries.proofs.Places.{fresh_holds, value_stands}
 use Rattle.bbm_replay_entries.proofs.begins.law_entry_begins.Goals as goal
 

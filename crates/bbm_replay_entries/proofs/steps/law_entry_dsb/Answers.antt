@@ -1,4 +1,4 @@
-use Rattle.std.proofs.Common.{refl}
+use Rattle.bbm_rules.proofs.Common.{refl}
 use Rattle.bbm_replay_entries.proofs.Places.{dsb_stands, whole_stands}
 use Rattle.bbm_replay_entries.proofs.steps.law_entry_dsb.Goals as goal
 

@@ -1,11 +1,6 @@
-use Rattle.std.proofs.Common.{ℕ, List, refl, sym, ◌∙◌, subst, inl, inr, true≢false}
-use Rattle.bbm_tlbi_scope.specs.Operations.{operation}
-use Rattle.bbm_tlbi_scope.specs.declared.entry.Cover.{Cover}
+use Rattle.bbm_rules.proofs.Common.{ℕ, List, refl, sym, ◌∙◌, subst, inl, inr, true≢false, operation, Cover, Patterns}
+use Rattle.bbm_rules.proofs.Common.{note, noted, Noted, Event, Tlbi, TlbiOp}
 use Rattle.bbm_entry_state.specs.EntryCalls.{Noted as Issues}
-use Rattle.bbm_rules.specs.Claims.Trust.{Patterns}
-use Rattle.bbm_rules.specs.Covers.{note, noted}
-use Rattle.bbm_rules.specs.Notes.{Noted}
-use Rattle.bbm_rules.specs.Prelude.{Event, Tlbi, TlbiOp}
 use Rattle.bbm_replay_entries.proofs.Marks.{issued_idle, marked_tlbi, marked_uncovered, marked_unreached}
 use Rattle.bbm_replay_entries.proofs.Places.{tlbi_stands}
 use Rattle.bbm_replay_entries.proofs.steps.law_entry_tlbi.Goals as goal

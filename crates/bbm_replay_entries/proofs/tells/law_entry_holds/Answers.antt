@@ -1,11 +1,7 @@
-use Rattle.std.proofs.Common.{◌≡◌, ℕ, refl, ap, ◌∙◌, sym, option_and_then, Option, Some, None}
-use Rattle.bbm_descriptor.specs.Descriptor.{core_in as core_of_desc, core_of, desc_of, desc_with}
-use Rattle.bbm_descriptor.specs.declared.desc.Core.{Core}
+use Rattle.bbm_rules.proofs.Common.{◌≡◌, ℕ, refl, ap, ◌∙◌, sym, option_and_then, Option, Some, None, core_of, desc_of}
+use Rattle.bbm_rules.proofs.Common.{desc_with, Core, Desc, Invalid, Table, Leaf, Kind, next_in, next_of}
+use Rattle.bbm_descriptor.specs.Descriptor.{core_in as core_of_desc}
 use Rattle.bbm_descriptor.specs.declared.desc.Core.TheVariants.{Table as CoreTable, Leaf as CoreLeaf}
-use Rattle.bbm_descriptor.specs.declared.desc.Desc.{Desc}
-use Rattle.bbm_descriptor.specs.declared.desc.Desc.TheVariants.{Invalid, Table, Leaf}
-use Rattle.bbm_regimes.specs.declared.regime.Kind.{Kind}
-use Rattle.bbm_rules.specs.Tree.{next_in, next_of}
 use Rattle.bbm_replay_entries.specs.EntryStands.{held_now, next_of_core}
 use Rattle.bbm_replay_entries.proofs.Places.{holds_core, present_core}
 use Rattle.bbm_replay_entries.proofs.tells.law_entry_holds.Goals as goal

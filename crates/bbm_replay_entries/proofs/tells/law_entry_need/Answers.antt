@@ -1,12 +1,7 @@
-use Rattle.std.proofs.Common.{◌≡◌, ℕ, false, List, Option, Some, None, option_and_then, refl, ap, sym, ◌∙◌}
-use Rattle.std.specs.Option.{option_map_or}
-use Rattle.bbm_descriptor.specs.Descriptor.{core_of, differ, needs}
-use Rattle.bbm_descriptor.specs.declared.desc.Core.{Core}
-use Rattle.bbm_rules.specs.Claims.Trust.{Patterns}
-use Rattle.bbm_rules.specs.Covers.{noted}
-use Rattle.bbm_rules.specs.Lists.{if_so}
-use Rattle.bbm_rules.specs.Prelude.{Heading, Event, Kind}
-use Rattle.bbm_rules.specs.Tree.{Node, held_at}
+use Rattle.bbm_rules.proofs.Common.{◌≡◌, ℕ, false, List, Option, Some, None, option_and_then, refl, ap, sym, ◌∙◌}
+use Rattle.bbm_rules.proofs.Common.{option_map_or, core_of, differ, needs, Core, Patterns, noted, if_so, Heading, Event}
+use Rattle.bbm_rules.proofs.Common.{Node, held_at}
+use Rattle.bbm_rules.specs.Prelude.{Kind}
 use Rattle.bbm_replay_entries.specs.EntryStands.{held_now}
 use Rattle.bbm_replay_entries.proofs.tells.law_entry_need.Goals as goal
 

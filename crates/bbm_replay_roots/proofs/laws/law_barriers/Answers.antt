@@ -1,4 +1,4 @@
-use Rattle.std.proofs.Common.{refl}
+use Rattle.bbm_rules.proofs.Common.{refl}
 use Rattle.bbm_replay_roots.proofs.Judge.{broken_dmb, broken_dsb, broken_isb}
 use Rattle.bbm_replay_roots.proofs.laws.law_barriers.Goals as goal
 

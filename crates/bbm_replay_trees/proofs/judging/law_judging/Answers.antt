@@ -1,5 +1,4 @@
-use Rattle.std.proofs.Common.{◌∙◌, sym}
-use Rattle.bbm_rules.specs.Places.{page_of}
+use Rattle.bbm_rules.proofs.Common.{◌∙◌, sym, page_of}
 use Rattle.bbm_replay_trees.proofs.AttachLemmas.{core_none, root_judging, table_level, write_judging}
 use Rattle.bbm_replay_trees.proofs.judging.law_judging.Goals as goal
 

@@ -1,5 +1,4 @@
-use Rattle.std.proofs.Common.{inl, inr, is_some, ap, ◌∙◌, sym}
-use Rattle.bbm_rules.specs.Places.{page_of}
+use Rattle.bbm_rules.proofs.Common.{inl, inr, is_some, ap, ◌∙◌, sym, page_of}
 use Rattle.bbm_tree_index.specs.Attaching.{is_bad, is_user_global}
 use Rattle.bbm_replay_trees.proofs.AttachLemmas.{attaches_none, core_some, made_is, not_fresh_none, outside_fresh}
 use Rattle.bbm_replay_trees.proofs.AttachLemmas.{outside_made, outside_none}

@@ -1,7 +1,5 @@
-use Rattle.std.proofs.Common.{◌≡◌, [], ◌∷◌, None, sym, ◌∙◌}
-use Rattle.bbm_rules.specs.Prelude.{Dsb, Root, Unroot, Write}
-use Rattle.bbm_rules.specs.Places.{page_of}
-use Rattle.bbm_rules.specs.Tree.{node_below, nodes_of_root}
+use Rattle.bbm_rules.proofs.Common.{◌≡◌, [], ◌∷◌, None, sym, ◌∙◌, Dsb, Root, Unroot, Write, page_of, node_below}
+use Rattle.bbm_rules.proofs.Common.{nodes_of_root}
 use Rattle.bbm_tree_index.specs.Paths.{Attached}
 use Rattle.bbm_replay_trees.proofs.AttachLemmas.{core_none}
 use Rattle.bbm_replay_trees.proofs.NodeLemmas.{after_attach, after_dsb, after_nothing, after_quiet, after_unroot}

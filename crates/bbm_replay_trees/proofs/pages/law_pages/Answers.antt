@@ -1,6 +1,4 @@
-use Rattle.std.proofs.Common.{length, ◌||◌, ◌==◌, List, ℕ, ap, sym, ◌∙◌}
-use Rattle.bbm_rules.specs.Lists.{among}
-use Rattle.bbm_rules.specs.Pages.{initialised}
+use Rattle.bbm_rules.proofs.Common.{length, ◌||◌, ◌==◌, List, ℕ, ap, sym, ◌∙◌, among, initialised}
 use Rattle.bbm_replay_trees.proofs.PageLemmas.{count_more, eq_swap, inits_stay, known_more, null_stays}
 use Rattle.bbm_replay_trees.proofs.pages.law_pages.Goals as goal
 

@@ -1,5 +1,4 @@
-use Rattle.std.proofs.Common.{cond, ◌==◌, ap, sym, ◌∙◌}
-use Rattle.bbm_rules.specs.Places.{page_of}
+use Rattle.bbm_rules.proofs.Common.{cond, ◌==◌, ap, sym, ◌∙◌, page_of}
 use Rattle.bbm_replay_trees.proofs.PageLemmas.{eq_swap, value_stays}
 use Rattle.bbm_replay_trees.proofs.pages.law_values.Goals as goal
 

@@ -1,6 +1,6 @@
+use Rattle.bbm_rules.proofs.Common.{from_contains, to_contains}
 use Rattle.bbm_replay_trees.proofs.CountLemmas.{counted, numbered}
 use Rattle.bbm_lemmas.proofs.Words.{apart}
-use Rattle.bbm_lemmas.proofs.Elements.{from_contains, to_contains}
 use Rattle.bbm_replay_trees.proofs.places.law_restless_places.Goals as goal
 
 pub returns : goal.returns

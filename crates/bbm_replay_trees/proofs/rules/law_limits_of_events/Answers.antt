@@ -1,7 +1,5 @@
-use Rattle.std.proofs.Common.{Bool, ℕ, not, ◌&&◌, nat_le, ap, sym, ◌∙◌}
-use Rattle.bbm_regimes.specs.declared.regime.Which.TheVariants.{Pages, Roots, Values}
-use Rattle.bbm_rules.specs.Lists.{among, if_so}
-use Rattle.bbm_rules.specs.Pages.{initialised}
+use Rattle.bbm_rules.proofs.Common.{Bool, ℕ, not, ◌&&◌, nat_le, ap, sym, ◌∙◌, Pages, Roots, among, if_so, initialised}
+use Rattle.bbm_regimes.specs.declared.regime.Which.TheVariants.{Values}
 use Rattle.bbm_replay_trees.proofs.RuleLemmas.{no_limit}
 use Rattle.bbm_replay_trees.proofs.rules.law_limits_of_events.Goals as goal
 

@@ -1,6 +1,4 @@
-use Rattle.std.proofs.Common.{None}
-use Rattle.bbm_rules.specs.Roots.{root_pages}
-use Rattle.bbm_lemmas.proofs.Elements.{from_contains}
+use Rattle.bbm_rules.proofs.Common.{None, root_pages, from_contains}
 use Rattle.bbm_replay_trees.proofs.RuleLemmas.{init_free, init_rule, null_unfresh, null_unused, null_used, root_fresh}
 use Rattle.bbm_replay_trees.proofs.RuleLemmas.{root_rule}
 use Rattle.bbm_replay_trees.proofs.rules.law_page_rules.Goals as goal

@@ -1,8 +1,5 @@
-use Rattle.std.proofs.Common.{◌≡◌, ◌*◌, ◌%◌, true, sym, subst, true≢false}
-use Rattle.bbm_regimes.specs.declared.regime.Kind.{Kind}
+use Rattle.bbm_rules.proofs.Common.{◌≡◌, ◌*◌, ◌%◌, true, sym, subst, true≢false, Kind, page_count, is_root}
 use Rattle.bbm_regimes.specs.declared.regime.Kind.TheVariants.{S2}
-use Rattle.bbm_regimes.specs.World.{page_count}
-use Rattle.bbm_rules.specs.Roots.{is_root}
 use Rattle.bbm_report.proofs.Roots.{found_joined, found_single, root_fits}
 use Rattle.bbm_report.proofs.finding.find.Goals as goal
 

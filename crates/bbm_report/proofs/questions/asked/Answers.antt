@@ -1,6 +1,5 @@
-use Rattle.std.proofs.Common.{◌≡◌, map, [], ◌∷◌, sym, arith, true}
-use Rattle.std.proofs.lemmas.Bool.Decides.{nat_tests}
-use Rattle.std.specs.Prelude.{bytes_eq, codes}
+use Rattle.bbm_rules.proofs.Common.{◌≡◌, map, [], ◌∷◌, sym, arith, true, nat_tests, codes}
+use Rattle.std.specs.Prelude.{bytes_eq}
 use Rattle.std.specs.String.{string_bytes}
 use Rattle.bbm_report.specs.Questions.{question_of}
 use Rattle.bbm_report.proofs.Words.{where_it_is, four_words, fewer_words, more_words}

@@ -1,9 +1,5 @@
-use Rattle.std.proofs.Common.{◌≡◌, ℕ, List, [], ◌∷◌, None, false, refl, subst, rules}
-use Rattle.bbm_regimes.specs.declared.regime.Kind.TheVariants.{El2}
-use Rattle.bbm_regimes.specs.declared.regime.Reg.TheVariants.{Ttbr0El2}
+use Rattle.bbm_roots.proofs.Common.{◌≡◌, ℕ, List, [], ◌∷◌, None, false, refl, subst, rules, El2, Ttbr0El2, Call, Stands}
 use Rattle.bbm_roots.specs.RootCalls as call
-use Rattle.bbm_roots.specs.RootCalls.{Call}
-use Rattle.bbm_roots.specs.RootsStand.{Stands}
 use Rattle.bbm_roots.proofs.Callers.{undeclared}
 use Rattle.bbm_roots.proofs.example.first_root.Goals as goal
 

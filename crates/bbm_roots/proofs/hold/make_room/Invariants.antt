@@ -1,7 +1,4 @@
-use Rattle.std.proofs.Common.{◌≡◌, ℕ, true, take}
-use Rattle.bbm_regimes.specs.declared.regime.Tag.{Tag}
-use Rattle.bbm_roots.specs.Holds.{hold_in, has_entry}
-use Rattle.bbm_roots.specs.Readings.{has_tag}
+use Rattle.bbm_roots.proofs.Common.{◌≡◌, ℕ, true, take, Tag, hold_in, has_entry, has_tag}
 use Rattle.bbm_roots.proofs.hold.make_room.Given as goal
 
 abbrev pub invariant-loop-reading : goal.invariant-loop-reading

@@ -1,15 +1,10 @@
-use Rattle.std.proofs.Common.{◌≡◌, ◌+◌, ◌∙◌, ◌&&◌, ◌||◌, nat_eq, not, take, arith, ap, sym, cond, ℕ, List, Bool, true}
-use Rattle.std.proofs.Common.{false}
-use Rattle.std.specs.List.{list_any}
-use Rattle.bbm_regimes.specs.declared.regime.Tag.{Tag}
-use Rattle.bbm_roots.specs.Holds.{hold_in}
-use Rattle.bbm_roots.specs.Readings.{has_reading, is_reading, is_other, is_of_tag, same_tag}
-use Rattle.bbm_roots.specs.declared.reading.Reading.{Reading}
+use Rattle.bbm_roots.proofs.Common.{◌≡◌, ◌+◌, ◌∙◌, ◌&&◌, ◌||◌, nat_eq, not, take, arith, ap, sym, cond, ℕ, List, Bool}
+use Rattle.bbm_roots.proofs.Common.{true, false, list_any, Tag, hold_in, has_reading, is_reading, is_other, is_of_tag}
+use Rattle.bbm_roots.proofs.Common.{same_tag, Reading, or_right}
 use Rattle.bbm_roots.proofs.Bits.{same_tag-self}
 use Rattle.bbm_roots.proofs.Entries.{marked-step}
 use Rattle.bbm_roots.proofs.Lists.{any-next, any-front, none-front}
 use Rattle.bbm_roots.proofs.hold.mark.Goals as goal
-use Rattle.std.proofs.lemmas.Bool.{or_right}
 
 -- what an element of the list passes
 there : (test : Reading → Bool) (xs : List Reading) (i : ℕ) (x : Reading) → list_any test (take (i + 1) xs) ≡ (list_any test (take i xs) || test x) →

@@ -1,7 +1,4 @@
-use Rattle.std.proofs.Common.{◌≡◌, ℕ, ◌&&◌, ◌||◌, nat_eq, take}
-use Rattle.bbm_regimes.specs.declared.regime.Tag.{Tag}
-use Rattle.bbm_roots.specs.Holds.{hold_in, has_entry, IsCalm}
-use Rattle.bbm_roots.specs.Readings.{has_reading}
+use Rattle.bbm_roots.proofs.Common.{◌≡◌, ℕ, ◌&&◌, ◌||◌, nat_eq, take, Tag, hold_in, has_entry, IsCalm, has_reading}
 use Rattle.bbm_roots.proofs.hold.mark.Given as goal
 
 abbrev pub invariant-loop-reading : goal.invariant-loop-reading

@@ -1,11 +1,6 @@
-use Rattle.std.proofs.Common.{◌≡◌, ◌∙◌, ◌&&◌, ◌||◌, not, ap, refl, Bool, true, false, cond, Option, None, nat_eq}
-use Rattle.bbm_lemmas.proofs.Tautologies.{proved}
-use Rattle.bbm_lemmas.proofs.Tautologies.Claim.{Is}
-use Rattle.bbm_barriers.specs.Options.{answers}
-use Rattle.bbm_barriers.specs.declared.Dsb.{Dsb}
-use Rattle.bbm_roots.specs.Holds.{hold_in, tag_key}
-use Rattle.bbm_roots.specs.RootPendings.{same_flag, slot_of, wait_at, wait_bit}
-use Rattle.bbm_roots.specs.declared.pending.Waiting.{Waiting}
+use Rattle.bbm_roots.proofs.Common.{◌≡◌, ◌∙◌, ◌&&◌, ◌||◌, not, ap, refl, Bool, true, false, cond, Option, None, nat_eq}
+use Rattle.bbm_roots.proofs.Common.{proved, Is, answers, Dsb, hold_in, tag_key, slot_of, wait_at, wait_bit, same_flag}
+use Rattle.bbm_roots.proofs.Common.{Waiting}
 use Rattle.bbm_roots.proofs.hold.release.Goals as goal
 
 cleared : (h a b : Bool) → ((h && not a) && not b) ≡ (h && not (a || b))

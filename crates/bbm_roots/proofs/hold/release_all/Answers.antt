@@ -1,14 +1,9 @@
-use Rattle.std.proofs.Common.{◌∙◌, ◌&&◌, not, arith, ap, sym, Bool, Option, ℕ, HashMap}
-use Rattle.std.proofs.Common.{BuildHasherDefault, FoldHasher}
-use Rattle.std.proofs.lemmas.Bool.{false≢true}
-use Rattle.bbm_roots.specs.Holds.{hold_in, tag_key}
-use Rattle.bbm_roots.specs.RootPendings.{wait_in, wait_bit}
-use Rattle.bbm_roots.specs.declared.hold.Held.{Held}
-use Rattle.bbm_roots.specs.declared.pending.Waiting.{Waiting}
+use Rattle.bbm_roots.proofs.Common.{◌∙◌, ◌&&◌, not, arith, ap, sym, Bool, Option, ℕ, HashMap, BuildHasherDefault}
+use Rattle.bbm_roots.proofs.Common.{FoldHasher, false≢true, hold_in, tag_key, wait_in, wait_bit, Held, Waiting}
+use Rattle.bbm_roots.proofs.Common.{and-true}
 use Rattle.bbm_roots.proofs.Places.{none-in, popped-step}
 use Rattle.bbm_roots.proofs.hold.release_all.Goals.{in-Some, in_default}
 use Rattle.bbm_roots.proofs.hold.release_all.Goals as goal
-use mathlib.Core.Bool.{and-true}
 
 pub loop-count-preserved : goal.loop-count-preserved
 loop-count-preserved c =

@@ -1,8 +1,4 @@
-use Rattle.std.proofs.Common.{◌≡◌, ◌+◌, ℕ, ◌&&◌, not}
-use Rattle.indexmap.specs.IndexMap.{index_map_len}
-use Rattle.bbm_regimes.specs.declared.regime.Tag.{Tag}
-use Rattle.bbm_roots.specs.Holds.{hold_in}
-use Rattle.bbm_roots.specs.RootPendings.{wait_in}
+use Rattle.bbm_roots.proofs.Common.{◌≡◌, ◌+◌, ℕ, ◌&&◌, not, index_map_len, Tag, hold_in, wait_in}
 use Rattle.bbm_roots.proofs.hold.release_all.Given as goal
 
 abbrev pub invariant-loop-count : goal.invariant-loop-count

@@ -1,10 +1,7 @@
-use Rattle.std.proofs.Common.{◌<◌, ◌≤◌, ◌∙◌, ◌&&◌, not, arith, ap, sym, length, Option}
-use Rattle.bbm_roots.specs.Holds.{hold_in, tag_key}
-use Rattle.bbm_roots.specs.RootPendings.{wait_bit}
-use Rattle.bbm_roots.specs.declared.pending.Waiting.{Waiting}
+use Rattle.bbm_roots.proofs.Common.{◌<◌, ◌≤◌, ◌∙◌, ◌&&◌, not, arith, ap, sym, length, Option, hold_in, tag_key}
+use Rattle.bbm_roots.proofs.Common.{wait_bit, Waiting, and-true}
 use Rattle.bbm_roots.proofs.Places.{at-place, at-past, at-emptied, at-outside}
 use Rattle.bbm_roots.proofs.hold.release_place.Goals as goal
-use mathlib.Core.Bool.{and-true}
 
 pub returns-then-place-len-clause-holds : goal.returns-then-place-len-clause-holds
 returns-then-place-len-clause-holds c = λ g r p.

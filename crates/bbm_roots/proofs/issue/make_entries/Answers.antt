@@ -1,11 +1,5 @@
-use Rattle.std.proofs.Common.{◌≡◌, take, arith, ap, sym, ◌∙◌, ◌&&◌, ◌||◌, Bool, true}
-use Rattle.std.specs.List.{list_any}
-use Rattle.std.proofs.lemmas.Bool.{or_left, or_right}
-use Rattle.std.proofs.lemmas.List.{take_all}
-use Rattle.bbm_regimes.specs.declared.regime.Tag.{Tag}
-use Rattle.bbm_tlbi_scope.specs.ScopeTags.{takes_whole_tag}
-use Rattle.bbm_roots.specs.RootPendings.{has_wait}
-use Rattle.bbm_roots.specs.Readings.{same_tag}
+use Rattle.bbm_roots.proofs.Common.{◌≡◌, take, arith, ap, sym, ◌∙◌, ◌&&◌, ◌||◌, Bool, true, list_any, or_left, or_right}
+use Rattle.bbm_roots.proofs.Common.{take_all, Tag, takes_whole_tag, has_wait, same_tag}
 use Rattle.bbm_roots.proofs.Lists.{any-next}
 use Rattle.bbm_roots.proofs.Bits.{same_tag-true}
 use Rattle.bbm_roots.proofs.Entries.{held-among, is_held_as}

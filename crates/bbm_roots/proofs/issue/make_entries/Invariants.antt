@@ -1,8 +1,4 @@
-use Rattle.std.proofs.Common.{◌≡◌, ℕ, true, take}
-use Rattle.std.specs.List.{list_any}
-use Rattle.bbm_regimes.specs.declared.regime.Tag.{Tag}
-use Rattle.bbm_tlbi_scope.specs.ScopeTags.{takes_whole_tag}
-use Rattle.bbm_roots.specs.RootPendings.{has_wait, wait_in}
+use Rattle.bbm_roots.proofs.Common.{◌≡◌, ℕ, true, take, list_any, Tag, takes_whole_tag, has_wait, wait_in}
 use Rattle.bbm_roots.proofs.Entries.{is_held_as}
 use Rattle.bbm_roots.proofs.issue.make_entries.Given as goal
 

@@ -1,7 +1,5 @@
-use Rattle.std.proofs.Common.{◌∙◌, ap, Option, is_some}
+use Rattle.bbm_roots.proofs.Common.{◌∙◌, ap, Option, is_some, tag_key, Waiting}
 use Rattle.std.proofs.lemmas.Result.{on_ok_weaker}
-use Rattle.bbm_roots.specs.Holds.{tag_key}
-use Rattle.bbm_roots.specs.declared.pending.Waiting.{Waiting}
 use Rattle.bbm_roots.proofs.Places.{at-kept, at-here}
 use Rattle.bbm_roots.proofs.issue.make_place.Goals as goal
 

@@ -1,11 +1,7 @@
-use Rattle.std.proofs.Common.{◌≡◌, ◌∙◌, ◌&&◌, ◌||◌, ap, sym, Bool, true, false, nat_eq, is_some, refl, ℕ}
-use Rattle.std.proofs.lemmas.Bool.{eqb-true}
-use Rattle.bbm_lemmas.proofs.Tautologies.{proved}
-use Rattle.bbm_lemmas.proofs.Tautologies.Claim.{If, Is}
+use Rattle.bbm_roots.proofs.Common.{◌≡◌, ◌∙◌, ◌&&◌, ◌||◌, ap, sym, Bool, true, false, nat_eq, is_some, refl, ℕ}
+use Rattle.bbm_roots.proofs.Common.{eqb-true, proved, If, Is, takes_whole_tag, tag_key, slot_of, wait_at, wait_bit}
+use Rattle.bbm_roots.proofs.Common.{unread_at, same_flag}
 use Rattle.bbm_regimes.specs.PeMask.{pe_in}
-use Rattle.bbm_tlbi_scope.specs.ScopeTags.{takes_whole_tag}
-use Rattle.bbm_roots.specs.Holds.{tag_key}
-use Rattle.bbm_roots.specs.RootPendings.{same_flag, slot_of, wait_at, wait_bit, unread_at}
 use Rattle.bbm_roots.proofs.Places.{slots}
 use Rattle.bbm_roots.proofs.issue.note.Goals as goal
 

@@ -1,11 +1,5 @@
-use Rattle.std.proofs.Common.{◌≡◌, take, arith, ap, sym, ◌∙◌, ◌&&◌, ◌||◌, Bool, refl}
-use Rattle.std.specs.List.{list_any}
-use Rattle.std.proofs.lemmas.List.{take_all}
-use Rattle.bbm_lemmas.proofs.Tautologies.{proved}
-use Rattle.bbm_lemmas.proofs.Tautologies.Claim.{Is}
-use Rattle.bbm_tlbi_scope.specs.ScopeTags.{takes_whole_tag}
-use Rattle.bbm_roots.specs.RootPendings.{has_wait, wait_in, unread_at}
-use Rattle.bbm_roots.specs.Readings.{same_tag}
+use Rattle.bbm_roots.proofs.Common.{◌≡◌, take, arith, ap, sym, ◌∙◌, ◌&&◌, ◌||◌, Bool, refl, list_any, take_all, proved}
+use Rattle.bbm_roots.proofs.Common.{Is, takes_whole_tag, has_wait, wait_in, unread_at, same_tag}
 use Rattle.bbm_roots.proofs.Lists.{any-next}
 use Rattle.bbm_roots.proofs.Entries.{held-among, is_held_as}
 use Rattle.bbm_roots.proofs.issue.note_entries.Goals as goal

@@ -1,8 +1,5 @@
-use Rattle.std.proofs.Common.{◌≡◌, ℕ, ◌&&◌, ◌||◌, take}
-use Rattle.std.specs.List.{list_any}
-use Rattle.bbm_regimes.specs.declared.regime.Tag.{Tag}
-use Rattle.bbm_tlbi_scope.specs.ScopeTags.{takes_whole_tag}
-use Rattle.bbm_roots.specs.RootPendings.{has_wait, wait_in, unread_at}
+use Rattle.bbm_roots.proofs.Common.{◌≡◌, ℕ, ◌&&◌, ◌||◌, take, list_any, Tag, takes_whole_tag, has_wait, wait_in}
+use Rattle.bbm_roots.proofs.Common.{unread_at}
 use Rattle.bbm_roots.proofs.Entries.{is_held_as}
 use Rattle.bbm_roots.proofs.issue.note_entries.Given as goal
 

@@ -1,7 +1,5 @@
-use Rattle.std.proofs.Common.{◌<◌, ◌≤◌, ◌∙◌, ◌&&◌, ◌||◌, ap, arith, length, ℕ, nat_eq, is_some}
-use Rattle.bbm_tlbi_scope.specs.ScopeTags.{takes_whole_tag}
-use Rattle.bbm_roots.specs.Holds.{tag_key}
-use Rattle.bbm_roots.specs.RootPendings.{wait_at, wait_bit, unread_at}
+use Rattle.bbm_roots.proofs.Common.{◌<◌, ◌≤◌, ◌∙◌, ◌&&◌, ◌||◌, ap, arith, length, ℕ, nat_eq, is_some, takes_whole_tag}
+use Rattle.bbm_roots.proofs.Common.{tag_key, wait_at, wait_bit, unread_at}
 use Rattle.bbm_roots.proofs.Places.{at-noted, at-unnoted}
 use Rattle.bbm_roots.proofs.issue.note_place.Goals as goal
 

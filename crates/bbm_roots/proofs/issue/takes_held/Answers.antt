@@ -1,8 +1,5 @@
-use Rattle.std.proofs.Common.{◌∙◌, ap}
-use Rattle.indexmap.specs.IndexMap.{values}
-use Rattle.bbm_tlbi_scope.specs.ScopeTags.{takes_whole_tag}
+use Rattle.bbm_roots.proofs.Common.{◌∙◌, ap, values, takes_whole_tag, Held}
 use Rattle.bbm_roots.specs.RootPendings.{takes_entry}
-use Rattle.bbm_roots.specs.declared.hold.Held.{Held}
 use Rattle.bbm_roots.proofs.Bits.{same_tag-true}
 use Rattle.bbm_roots.proofs.Entries.{held-among, is_held_as}
 use Rattle.bbm_roots.proofs.Lists.{any-weaker}

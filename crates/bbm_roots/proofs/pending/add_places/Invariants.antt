@@ -1,5 +1,5 @@
-use Rattle.std.proofs.Common.{◌≡◌, ◌-◌, ℕ, length}
-use Rattle.bbm_roots.specs.RootPendings.{wait_at}
+use Rattle.bbm_roots.proofs.Common.{◌≡◌, ℕ, length, wait_at}
+use Rattle.std.proofs.Common.{◌-◌}
 use Rattle.bbm_roots.proofs.pending.add_places.Given as goal
 
 abbrev pub invariant-loop-alloc : goal.invariant-loop-alloc

@@ -1,8 +1,5 @@
-use Rattle.std.proofs.Common.{◌≡◌, ◌∙◌, ◌&&◌, ◌||◌, not, take, arith, ap, sym, refl, Bool, nat_eq}
-use Rattle.bbm_lemmas.proofs.Tautologies.{proved}
-use Rattle.bbm_lemmas.proofs.Tautologies.Claim.{Is}
-use Rattle.bbm_roots.specs.RootPendings.{wait_in}
-use Rattle.bbm_roots.specs.Readings.{has_tag, is_of_tag, same_tag}
+use Rattle.bbm_roots.proofs.Common.{◌≡◌, ◌∙◌, ◌&&◌, ◌||◌, not, take, arith, ap, sym, refl, Bool, nat_eq, proved, Is}
+use Rattle.bbm_roots.proofs.Common.{wait_in, has_tag, is_of_tag, same_tag}
 use Rattle.bbm_roots.proofs.Lists.{any-next}
 use Rattle.bbm_roots.proofs.pending.clear_place.Goals as goal
 

@@ -1,7 +1,4 @@
-use Rattle.std.proofs.Common.{◌≡◌, ℕ, ◌&&◌, not, nat_eq, take}
-use Rattle.bbm_regimes.specs.declared.regime.Tag.{Tag}
-use Rattle.bbm_roots.specs.RootPendings.{wait_in}
-use Rattle.bbm_roots.specs.Readings.{has_tag}
+use Rattle.bbm_roots.proofs.Common.{◌≡◌, ℕ, ◌&&◌, not, nat_eq, take, Tag, wait_in, has_tag}
 use Rattle.bbm_roots.proofs.pending.clear_place.Given as goal
 
 abbrev pub invariant-loop-reading : goal.invariant-loop-reading

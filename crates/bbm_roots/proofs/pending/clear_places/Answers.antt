@@ -1,9 +1,5 @@
-use Rattle.std.proofs.Common.{◌<◌, ◌≤◌, ◌∙◌, ◌&&◌, not, nat_eq, arith, ap, sym}
-use Rattle.std.proofs.Common.{⊎_elim}
-use Rattle.std.proofs.lemmas.Bool.{cases_lt}
-use Rattle.bbm_roots.specs.Holds.{tag_key}
-use Rattle.bbm_roots.specs.RootPendings.{wait_bit}
-use Rattle.bbm_roots.specs.Readings.{has_tag}
+use Rattle.bbm_roots.proofs.Common.{◌<◌, ◌≤◌, ◌∙◌, ◌&&◌, not, nat_eq, arith, ap, sym, ⊎_elim, cases_lt, tag_key}
+use Rattle.bbm_roots.proofs.Common.{wait_bit, has_tag}
 use Rattle.bbm_roots.proofs.Places.{at-past, at-next, at-behind}
 use Rattle.bbm_roots.proofs.pending.clear_places.Goals as goal
 

@@ -1,8 +1,4 @@
-use Rattle.std.proofs.Common.{◌≡◌, ℕ, ◌<◌, ◌≤◌, ◌&&◌, not, nat_eq}
-use Rattle.bbm_regimes.specs.declared.regime.Tag.{Tag}
-use Rattle.bbm_roots.specs.Holds.{tag_key}
-use Rattle.bbm_roots.specs.RootPendings.{wait_at, wait_bit}
-use Rattle.bbm_roots.specs.Readings.{has_tag}
+use Rattle.bbm_roots.proofs.Common.{◌≡◌, ℕ, ◌<◌, ◌≤◌, ◌&&◌, not, nat_eq, Tag, tag_key, wait_at, wait_bit, has_tag}
 use Rattle.bbm_roots.proofs.pending.clear_places.Given as goal
 
 abbrev pub invariant-loop-map : goal.invariant-loop-map

@@ -1,4 +1,4 @@
-use Rattle.std.proofs.Common.{◌∙◌, arith}
+use Rattle.bbm_roots.proofs.Common.{◌∙◌, arith}
 use Rattle.bbm_roots.proofs.Places.{at-place, at-past, none-in}
 use Rattle.bbm_roots.proofs.pending.is_quiet.Goals as goal
 

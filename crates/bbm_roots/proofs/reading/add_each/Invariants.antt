@@ -1,6 +1,4 @@
-use Rattle.std.proofs.Common.{◌≡◌, ◌++◌, take}
-use Rattle.std.specs.List.{flat_map}
-use Rattle.bbm_roots.specs.Readings.{readings_with}
+use Rattle.bbm_roots.proofs.Common.{◌≡◌, ◌++◌, take, flat_map, readings_with}
 use Rattle.bbm_roots.proofs.reading.add_each.Given as goal
 
 abbrev pub invariant-loop-load : goal.invariant-loop-load

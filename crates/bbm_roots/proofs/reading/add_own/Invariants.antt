@@ -1,6 +1,4 @@
-use Rattle.std.proofs.Common.{◌≡◌, ◌++◌, take}
-use Rattle.std.specs.List.{flat_map}
-use Rattle.bbm_roots.specs.Readings.{own_reading}
+use Rattle.bbm_roots.proofs.Common.{◌≡◌, ◌++◌, take, flat_map, own_reading}
 use Rattle.bbm_roots.proofs.reading.add_own.Given as goal
 
 abbrev pub invariant-loop-load : goal.invariant-loop-load

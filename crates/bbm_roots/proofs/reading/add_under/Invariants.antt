@@ -1,6 +1,4 @@
-use Rattle.std.proofs.Common.{◌≡◌, ◌++◌, take}
-use Rattle.std.specs.List.{flat_map}
-use Rattle.bbm_roots.specs.Readings.{reading_under}
+use Rattle.bbm_roots.proofs.Common.{◌≡◌, ◌++◌, take, flat_map, reading_under}
 use Rattle.bbm_roots.proofs.reading.add_under.Given as goal
 
 abbrev pub invariant-loop-load : goal.invariant-loop-load

@@ -1,5 +1,4 @@
-use Rattle.std.proofs.Common.{◌∙◌, sym, ap, length, nat_le, List}
-use Rattle.bbm_roots.specs.declared.load.Load.{Load}
+use Rattle.bbm_roots.proofs.Common.{◌∙◌, sym, ap, length, nat_le, List, Load}
 use Rattle.bbm_roots.proofs.Columns.{read, full}
 use Rattle.bbm_roots.proofs.registers.is_full.Goals as goal
 

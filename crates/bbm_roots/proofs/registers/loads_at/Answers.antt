@@ -1,4 +1,4 @@
-use Rattle.std.proofs.Common.{◌∙◌, sym}
+use Rattle.bbm_roots.proofs.Common.{◌∙◌, sym}
 use Rattle.bbm_roots.proofs.Columns.{read}
 use Rattle.bbm_roots.proofs.registers.loads_at.Goals as goal
 

@@ -1,6 +1,4 @@
-use Rattle.std.proofs.Common.{◌≡◌, ℕ, ◌<◌, ◌∷◌, [], length}
-use Rattle.bbm_roots.specs.Columns.{loads_in}
-use Rattle.bbm_roots.specs.RootRegisters.{at_start}
+use Rattle.bbm_roots.proofs.Common.{◌≡◌, ℕ, ◌<◌, ◌∷◌, [], length, loads_in, at_start}
 use Rattle.bbm_roots.proofs.registers.new_column.Given as goal
 
 abbrev pub invariant-loop-pe : goal.invariant-loop-pe

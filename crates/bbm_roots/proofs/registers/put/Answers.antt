@@ -1,6 +1,4 @@
-use Rattle.std.proofs.Common.{List, ◌∷◌, ◌≡◌, rules}
-use Rattle.bbm_roots.specs.declared.load.Load.{Load}
-use Rattle.bbm_roots.specs.Columns.{loads_in}
+use Rattle.bbm_roots.proofs.Common.{List, ◌∷◌, ◌≡◌, rules, Load, loads_in}
 use Rattle.bbm_roots.proofs.Columns.{changed, read}
 use Rattle.bbm_roots.proofs.registers.put.Goals as goal
 

@@ -1,5 +1,4 @@
-use Rattle.std.proofs.Common.{◌∙◌, rules}
-use Rattle.bbm_roots.specs.RootRegisters.{newest}
+use Rattle.bbm_roots.proofs.Common.{◌∙◌, rules, newest}
 use Rattle.bbm_roots.proofs.Columns.{changed, take-one}
 use Rattle.bbm_roots.proofs.registers.sync.Goals as goal
 

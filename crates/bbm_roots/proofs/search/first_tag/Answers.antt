@@ -1,9 +1,5 @@
-use Rattle.std.proofs.Common.{◌+◌, ℕ, Option, arith, subst, sym, ◌||◌}
-use Rattle.std.proofs.lemmas.Bool.{false≢true}
-use Rattle.bbm_regimes.specs.declared.regime.Tag.{Tag}
-use Rattle.bbm_roots.specs.Holds.{tag_in}
-use Rattle.bbm_roots.specs.LeastOf.{IsLeast, TagUpTo}
-use Rattle.bbm_roots.specs.declared.hold.Held.{Held}
+use Rattle.bbm_roots.proofs.Common.{◌+◌, ℕ, Option, arith, subst, sym, ◌||◌, false≢true, Tag, tag_in, IsLeast, TagUpTo}
+use Rattle.bbm_roots.proofs.Common.{Held}
 use Rattle.bbm_roots.proofs.Entries.{shows, shows_before, shown, shown-next}
 use Rattle.bbm_roots.proofs.Leasts.{least-same}
 use Rattle.bbm_roots.proofs.search.first_tag.Goals as goal

@@ -1,6 +1,4 @@
-use Rattle.std.proofs.Common.{take}
-use Rattle.std.specs.List.{list_any}
-use Rattle.bbm_roots.specs.LeastOf.{IsLeast, TagUpTo}
+use Rattle.bbm_roots.proofs.Common.{take, list_any, IsLeast, TagUpTo}
 use Rattle.bbm_roots.proofs.Entries.{shows}
 use Rattle.bbm_roots.proofs.search.first_tag.Given as goal
 

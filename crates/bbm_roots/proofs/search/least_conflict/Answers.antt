@@ -1,8 +1,5 @@
-use Rattle.std.proofs.Common.{◌≡◌, ◌+◌, ◌∙◌, take, arith, ap, sym, ◌||◌}
-use Rattle.std.specs.List.{list_any}
-use Rattle.std.proofs.lemmas.List.{take_all}
-use Rattle.bbm_roots.specs.Holds.{is_clash, conflict_in}
-use Rattle.bbm_roots.specs.LeastOf.{ReadingUpTo}
+use Rattle.bbm_roots.proofs.Common.{◌≡◌, ◌+◌, ◌∙◌, take, arith, ap, sym, ◌||◌, list_any, take_all, is_clash}
+use Rattle.bbm_roots.proofs.Common.{conflict_in, ReadingUpTo}
 use Rattle.bbm_roots.proofs.Conflicts.{clash-split}
 use Rattle.bbm_roots.proofs.Leasts.{least-same}
 use Rattle.bbm_roots.proofs.Lists.{any-next}

@@ -1,7 +1,4 @@
-use Rattle.std.proofs.Common.{take}
-use Rattle.std.specs.List.{list_any}
-use Rattle.bbm_roots.specs.Holds.{is_clash}
-use Rattle.bbm_roots.specs.LeastOf.{IsLeast, ReadingUpTo}
+use Rattle.bbm_roots.proofs.Common.{take, list_any, is_clash, IsLeast, ReadingUpTo}
 use Rattle.bbm_roots.proofs.search.least_conflict.Given as goal
 
 abbrev pub invariant-loop-reading : goal.invariant-loop-reading

@@ -1,11 +1,5 @@
-use Rattle.std.proofs.Common.{◌+◌, ℕ, Bool, refl, arith, subst, sym, ap, ◌∙◌, ◌||◌}
-use Rattle.std.proofs.lemmas.Bool.{false≢true}
-use mathlib.Core.Bool.{or-false}
-use Rattle.bbm_tlbi_scope.specs.declared.entry.TagSet.{TagSet}
-use Rattle.bbm_tlbi_scope.specs.declared.entry.TagSet.TheVariants.{Many}
-use Rattle.bbm_tlbi_scope.specs.TagSets.{HasTags}
-use Rattle.bbm_roots.specs.Holds.{tag_in}
-use Rattle.bbm_roots.specs.declared.hold.Held.{Held}
+use Rattle.bbm_roots.proofs.Common.{◌+◌, ℕ, Bool, refl, arith, subst, sym, ap, ◌∙◌, ◌||◌, false≢true, or-false, TagSet}
+use Rattle.bbm_roots.proofs.Common.{Many, HasTags, tag_in, Held}
 use Rattle.bbm_roots.proofs.Entries.{shows, shows_before, shown, shown-front, shown-next}
 use Rattle.bbm_roots.proofs.Leasts.{tags-same, tags-more}
 use Rattle.bbm_roots.proofs.search.tags_in.Goals as goal

@@ -1,6 +1,4 @@
-use Rattle.std.proofs.Common.{take}
-use Rattle.std.specs.List.{list_any}
-use Rattle.bbm_tlbi_scope.specs.TagSets.{HasTags}
+use Rattle.bbm_roots.proofs.Common.{take, list_any, HasTags}
 use Rattle.bbm_roots.proofs.Entries.{shows}
 use Rattle.bbm_roots.proofs.search.tags_in.Given as goal
 

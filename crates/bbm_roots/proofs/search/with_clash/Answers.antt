@@ -1,7 +1,4 @@
-use Rattle.std.proofs.Common.{◌||◌, ◌&&◌}
-use Rattle.bbm_roots.specs.Holds.{tag_in, is_clash}
-use Rattle.bbm_roots.specs.LeastOf.{ReadingUpTo}
-use Rattle.bbm_roots.specs.Readings.{is_reading, is_other, has_other}
+use Rattle.bbm_roots.proofs.Common.{◌||◌, ◌&&◌, tag_in, is_clash, ReadingUpTo, is_reading, is_other, has_other}
 use Rattle.bbm_roots.proofs.Leasts.{least-same}
 use Rattle.bbm_roots.proofs.search.with_clash.Goals as goal
 use Rattle.bbm_lemmas.proofs.Bools.{or_regroup}

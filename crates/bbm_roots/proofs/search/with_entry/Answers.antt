@@ -1,9 +1,6 @@
-use Rattle.std.proofs.Common.{◌≡◌, ℕ, ◌&&◌, ap, ◌∙◌, sym, Bool}
-use Rattle.bbm_regimes.specs.declared.regime.Tag.{Tag}
-use Rattle.bbm_roots.specs.Holds.{is_hold, is_held_under}
+use Rattle.bbm_roots.proofs.Common.{◌≡◌, ℕ, ◌&&◌, ap, ◌∙◌, sym, Bool, Tag, is_hold, is_held_under, and-true}
 use Rattle.bbm_roots.proofs.Bits.{hold-tag, hold-self}
 use Rattle.bbm_roots.proofs.search.with_entry.Goals as goal
-use mathlib.Core.Bool.{and-true}
 
 pub returns-then-is_held_under-clause-added : goal.returns-then-is_held_under-clause-added
 returns-then-is_held_under-clause-added c = λ test h.

@@ -1,7 +1,4 @@
-use Rattle.std.proofs.Common.{◌||◌, ◌&&◌, ◌∙◌, ap, sym, nat_eq, Bool}
-use Rattle.bbm_roots.specs.Holds.{tag_in}
-use Rattle.bbm_roots.specs.LeastOf.{ReadingUpTo}
-use Rattle.bbm_roots.specs.Readings.{is_other, same_tag}
+use Rattle.bbm_roots.proofs.Common.{◌||◌, ◌&&◌, ◌∙◌, ap, sym, nat_eq, Bool, tag_in, ReadingUpTo, is_other, same_tag}
 use Rattle.bbm_roots.proofs.Entries.{holder-clash}
 use Rattle.bbm_roots.proofs.Leasts.{least-same}
 use Rattle.bbm_roots.proofs.search.with_holder.Goals as goal

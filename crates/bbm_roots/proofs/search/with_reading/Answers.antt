@@ -1,6 +1,5 @@
-use Rattle.std.proofs.Common.{◌||◌, ◌&&◌, ap, sym, ◌∙◌, nat_eq, Bool}
-use Rattle.bbm_roots.specs.LeastOf.{ReadingUpTo}
-use Rattle.bbm_roots.specs.Readings.{is_reading, has_other, same_tag}
+use Rattle.bbm_roots.proofs.Common.{◌||◌, ◌&&◌, ap, sym, ◌∙◌, nat_eq, Bool, ReadingUpTo, is_reading, has_other}
+use Rattle.bbm_roots.proofs.Common.{same_tag}
 use Rattle.bbm_roots.proofs.Entries.{reading-clash}
 use Rattle.bbm_roots.proofs.Leasts.{least-same}
 use Rattle.bbm_roots.proofs.search.with_reading.Goals as goal

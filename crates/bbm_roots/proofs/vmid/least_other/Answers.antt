@@ -1,8 +1,5 @@
-use Rattle.std.proofs.Common.{◌≡◌, ◌+◌, take, arith, ap, sym, ◌||◌, List}
-use Rattle.std.proofs.lemmas.List.{take_all}
-use Rattle.bbm_roots.specs.LeastOf.{UpTo}
-use Rattle.bbm_roots.specs.Refusals.{is_other_number, other_number}
-use Rattle.bbm_roots.specs.declared.load.Load.{Load}
+use Rattle.bbm_roots.proofs.Common.{◌≡◌, ◌+◌, take, arith, ap, sym, ◌||◌, List, take_all, UpTo, is_other_number}
+use Rattle.bbm_roots.proofs.Common.{other_number, Load}
 use Rattle.bbm_roots.proofs.Leasts.{least-same}
 use Rattle.bbm_roots.proofs.Lists.{any-next}
 use Rattle.bbm_roots.proofs.vmid.least_other.Goals as goal

@@ -1,6 +1,4 @@
-use Rattle.std.proofs.Common.{take}
-use Rattle.bbm_roots.specs.LeastOf.{IsLeast, UpTo}
-use Rattle.bbm_roots.specs.Refusals.{other_number}
+use Rattle.bbm_roots.proofs.Common.{take, IsLeast, UpTo, other_number}
 use Rattle.bbm_roots.proofs.vmid.least_other.Given as goal
 
 abbrev pub invariant-loop-load : goal.invariant-loop-load

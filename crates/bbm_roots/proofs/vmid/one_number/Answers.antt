@@ -1,7 +1,4 @@
-use Rattle.std.proofs.Common.{◌∙◌, List, ap, sym, None}
-use Rattle.std.proofs.lemmas.Bool.{false≢true}
-use Rattle.bbm_roots.specs.Refusals.{other_number}
-use Rattle.bbm_roots.specs.declared.load.Load.{Load}
+use Rattle.bbm_roots.proofs.Common.{◌∙◌, List, ap, sym, None, false≢true, other_number, Load}
 use Rattle.bbm_roots.proofs.Numbers.{numbers-one, numbers-several, some-number}
 use Rattle.bbm_roots.proofs.vmid.one_number.Goals as goal
 

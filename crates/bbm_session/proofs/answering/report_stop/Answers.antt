@@ -1,9 +1,6 @@
-use Rattle.std.proofs.Common.{sym, subst}
+use Rattle.bbm_session.proofs.Common.{SaysFor, Stop, IsBrief, Reports}
+use Rattle.bbm_rules.proofs.Common.{sym, subst}
 use Rattle.bbm_rules.specs.Texts.{verdict_text}
-use Rattle.bbm_texts.specs.Says.{SaysFor}
-use Rattle.bbm_session.specs.declared.stop.Stop.{Stop}
-use Rattle.bbm_session.specs.Stages.{IsBrief}
-use Rattle.bbm_session.specs.Serving.{Reports}
 use Rattle.bbm_session.proofs.answering.report_stop.Goals as goal
 
 pub returns-in-Decided-clause-brief : goal.returns-in-Decided-clause-brief

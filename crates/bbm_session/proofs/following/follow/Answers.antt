@@ -1,4 +1,4 @@
-use Rattle.std.proofs.Common.{[], ◌*◌, lit≤}
+use Rattle.bbm_rules.proofs.Common.{[], ◌*◌, lit≤}
 use Rattle.bbm_follow.specs.Following as run
 use Rattle.bbm_session.specs.Folds.{following as following_of}
 use Rattle.bbm_session.proofs.RunLines.{following-start, following-inside, follows-none}

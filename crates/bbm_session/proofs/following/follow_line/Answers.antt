@@ -1,4 +1,4 @@
-use Rattle.std.proofs.Common.{ok_or}
+use Rattle.bbm_rules.proofs.Common.{ok_or}
 use Rattle.bbm_session.proofs.RunLines.{followed-takes, followed-few}
 use Rattle.bbm_session.proofs.following.follow_line.Goals as goal
 

@@ -1,6 +1,6 @@
-use Rattle.std.proofs.Common.{[], refl}
-use Rattle.bbm_rules.specs.Outcome.{AtEvents}
-use Rattle.bbm_session.specs.Folds.{Judges, judging as judging_of}
+use Rattle.bbm_session.proofs.Common.{Judges}
+use Rattle.bbm_rules.proofs.Common.{[], refl, AtEvents}
+use Rattle.bbm_session.specs.Folds.{judging as judging_of}
 use Rattle.bbm_session.proofs.Judgements.{judging-inside, judged-ends}
 use Rattle.bbm_session.proofs.judgement.judge_lines.Goals as goal
 

@@ -1,5 +1,5 @@
-use Rattle.std.proofs.Common.{[], ◌*◌, ap, is_ok, lit≤}
-use Rattle.bbm_rules.specs.Outcome.{AtHeader, AtEvents}
+use Rattle.bbm_rules.proofs.Common.{[], ◌*◌, ap, lit≤, AtHeader, AtEvents}
+use Rattle.std.proofs.Common.{is_ok}
 use Rattle.bbm_session.specs.Folds.{judging as judging_of}
 use Rattle.bbm_session.proofs.Judgements.{judging-start}
 use Rattle.bbm_session.proofs.RefusedLines.{stops-in}

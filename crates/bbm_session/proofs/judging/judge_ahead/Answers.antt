@@ -1,4 +1,4 @@
-use Rattle.std.proofs.Common.{Ok, ok_or, take, sym, ◌∙◌}
+use Rattle.bbm_rules.proofs.Common.{Ok, ok_or, take, sym, ◌∙◌}
 use Rattle.bbm_events.specs.declared.event.Item.TheVariants as item
 use Rattle.bbm_session.proofs.GeneratedLogs.{plain_is}
 use Rattle.bbm_session.proofs.Judgements.{may-judge, judged-takes}

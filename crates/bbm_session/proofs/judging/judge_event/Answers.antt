@@ -1,8 +1,5 @@
-use Rattle.std.proofs.Common.{◌≡◌, ◌∷◌, suc, length, None, Err, true, ap, sym, arith}
-use Rattle.bbm_rules.specs.Outcome.{limit_after}
-use Rattle.bbm_session.specs.declared.stop.Stop.TheVariants.{NoMemory}
-use Rattle.bbm_session.specs.Folds.{event_needs}
-use Rattle.bbm_texts.specs.Known.{Keeps}
+use Rattle.bbm_session.proofs.Common.{limit_after, NoMemory, event_needs, Keeps}
+use Rattle.bbm_rules.proofs.Common.{◌≡◌, ◌∷◌, suc, length, None, Err, true, ap, sym, arith}
 use Rattle.bbm_session.proofs.Judgements.{needed, event-refused, event-kept, keeps-more}
 use Rattle.bbm_session.proofs.judging.judge_event.Goals as goal
 

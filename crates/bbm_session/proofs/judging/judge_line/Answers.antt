@@ -1,4 +1,4 @@
-use Rattle.std.proofs.Common.{ok_or}
+use Rattle.bbm_rules.proofs.Common.{ok_or}
 use Rattle.bbm_log_grammar.specs.InLine.{read_in}
 use Rattle.bbm_session.proofs.Judgements.{may-judge, judged-takes}
 use Rattle.bbm_session.proofs.judging.judge_line.Goals as goal

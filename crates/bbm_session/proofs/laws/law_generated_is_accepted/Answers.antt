@@ -1,8 +1,5 @@
-use Rattle.std.proofs.Common.{◌++◌, length, refl, sym, ap}
-use Rattle.bbm_gen.specs.Generated.{heading}
-use Rattle.bbm_rules.specs.Claims.{Patterns}
-use Rattle.bbm_rules.specs.Outcome.{Outcome}
-use Rattle.bbm_rules.specs.Pages.{initialised}
+use Rattle.bbm_session.proofs.Common.{heading, Patterns}
+use Rattle.bbm_rules.proofs.Common.{◌++◌, length, refl, sym, ap, Outcome, initialised}
 use Rattle.bbm_rules.specs.Phases.{restless_of}
 use Rattle.bbm_rules.specs.Texts.{verdict_text}
 use Rattle.bbm_texts.specs.Generating.{counts_text, selftest_text}

@@ -1,8 +1,5 @@
-use Rattle.std.proofs.Common.{[], Some, subst}
-use Rattle.bbm_rules.specs.declared.limits.Limits.{Limits}
-use Rattle.bbm_rules.specs.Outcome.{AtHeader, events_in}
-use Rattle.bbm_session.specs.Folds.{is_frugal}
-use Rattle.bbm_session.specs.JudgedLog.{Unjudged}
+use Rattle.bbm_session.proofs.Common.{Limits, is_frugal, Unjudged}
+use Rattle.bbm_rules.proofs.Common.{[], Some, subst, AtHeader, events_in}
 use Rattle.bbm_session.proofs.Served.{answered-judged, judged-for}
 use Rattle.bbm_session.proofs.Stages.{some-heads}
 use Rattle.bbm_session.proofs.obeying.obey.Goals as goal

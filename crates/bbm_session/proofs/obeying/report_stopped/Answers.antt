@@ -1,8 +1,5 @@
-use Rattle.std.proofs.Common.{Some, sym, subst}
-use Rattle.bbm_texts.specs.Says.{SaysFor}
-use Rattle.bbm_session.specs.declared.stop.Stop.{Stop}
-use Rattle.bbm_session.specs.Stages.{KnowsAt}
-use Rattle.bbm_session.specs.Serving.{Reports}
+use Rattle.bbm_session.proofs.Common.{SaysFor, Stop, KnowsAt, Reports}
+use Rattle.bbm_rules.proofs.Common.{Some, sym, subst}
 use Rattle.bbm_session.proofs.obeying.report_stopped.Goals as goal
 
 pub report-requires-clause-known : goal.report-requires-clause-known

@@ -1,7 +1,7 @@
-use Rattle.std.proofs.Common.{◌∙◌, subst, ℕ, List, Ok, Err}
+use Rattle.bbm_session.proofs.Common.{TakesLine}
+use Rattle.bbm_rules.proofs.Common.{◌∙◌, subst, ℕ, List, Ok, Err}
 use Rattle.bbm_io.specs.Reading.{shown}
 use Rattle.bbm_session.specs.declared.line.Piece.TheVariants as piece
-use Rattle.bbm_session.specs.Stages.{TakesLine}
 use Rattle.bbm_session.proofs.Stages.{found-takes, takes-shrinks, line-advances, rest-advances, long-advances}
 use Rattle.bbm_session.proofs.Stages.{fault-advances}
 use Rattle.bbm_session.proofs.reading.any_line.Goals as goal

@@ -1,7 +1,7 @@
-use Rattle.std.proofs.Common.{◌≡◌, ap, ◌∙◌, subst}
+use Rattle.bbm_session.proofs.Common.{ReadsHeader}
+use Rattle.bbm_rules.proofs.Common.{◌≡◌, ap, ◌∙◌, subst}
 use Rattle.bbm_events.specs.Lines.{header_of}
 use Rattle.bbm_session.specs.declared.line.Piece.TheVariants as piece
-use Rattle.bbm_session.specs.Stages.{ReadsHeader}
 use Rattle.bbm_session.proofs.Stages.{header-starts, header-rest, header-long, header-fault, takes-shrinks}
 use Rattle.bbm_session.proofs.reading.header_line.Goals as goal
 

@@ -1,8 +1,8 @@
 -- A line that was taken from the bytes ahead, or by the function for any line.
-use Rattle.std.proofs.Common.{◌≤◌, ℕ, List, length, take}
-use Rattle.std.proofs.Common.{refl, arith, ok_or, subst, length-take}
+use Rattle.bbm_session.proofs.Common.{TakesLine}
+use Rattle.bbm_rules.proofs.Common.{◌≤◌, ℕ, List, length, take, refl, arith, ok_or, subst}
+use Rattle.std.proofs.Common.{length-take}
 use Rattle.bbm_io.specs.Reading.{LiesWhole}
-use Rattle.bbm_session.specs.Stages.{TakesLine}
 use Rattle.bbm_session.specs.declared.line.Piece.TheVariants as piece
 use Rattle.bbm_session.proofs.Stages.{takes-shrinks, line-advances}
 use Rattle.bbm_session.proofs.reading.log_line.Goals as goal

@@ -1,4 +1,4 @@
-use Rattle.std.proofs.Common.{arith, ◌∙◌, ◌*◌, ◌+◌}
+use Rattle.bbm_rules.proofs.Common.{arith, ◌∙◌, ◌*◌, ◌+◌}
 use Rattle.bbm_session.proofs.Stages.{shrinks-trans, going-on, going-end, going-stops}
 use Rattle.bbm_session.proofs.reading.log_lines.Goals as goal
 

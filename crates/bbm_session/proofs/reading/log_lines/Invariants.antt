@@ -1,6 +1,6 @@
-use Rattle.std.proofs.Common.{◌≡◌, ◌*◌, ◌≤◌, ◌-◌}
-use Rattle.bbm_session.specs.Fold.{Fold, IsInside}
-use Rattle.bbm_session.specs.Stages.{Shrinks, Going, Ready}
+use Rattle.bbm_session.proofs.Common.{Fold, IsInside, Shrinks, Going}
+use Rattle.bbm_rules.proofs.Common.{◌≡◌, ◌*◌, ◌≤◌, ◌-◌}
+use Rattle.bbm_session.specs.Stages.{Ready}
 use Rattle.bbm_session.proofs.reading.log_lines.Given as goal
 
 abbrev pub invariant-lines : goal.invariant-lines

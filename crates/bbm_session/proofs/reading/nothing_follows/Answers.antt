@@ -1,4 +1,4 @@
-use Rattle.std.proofs.Common.{◌≡◌, length, nat_eq, true, false, sym, ap, ◌∙◌}
+use Rattle.bbm_rules.proofs.Common.{◌≡◌, length, nat_eq, true, false, sym, ap, ◌∙◌}
 use Rattle.bbm_session.specs.declared.line.Piece.TheVariants as piece
 use Rattle.bbm_session.proofs.Stages.{takes-shrinks, line-closes, nothing-closes, more-closes, long-closes}
 use Rattle.bbm_session.proofs.Stages.{fault-closes}

@@ -1,4 +1,4 @@
-use Rattle.std.proofs.Common.{◌*◌, lit≤}
+use Rattle.bbm_rules.proofs.Common.{◌*◌, lit≤}
 use Rattle.bbm_session.proofs.Stages.{shrinks-trans, closes-ends}
 use Rattle.bbm_session.proofs.reading.read_log.Goals as goal
 

@@ -1,8 +1,6 @@
-use Rattle.std.proofs.Common.{Some, sym, subst}
+use Rattle.bbm_session.proofs.Common.{Stop, KnowsAt, ReportsShown}
+use Rattle.bbm_rules.proofs.Common.{Some, sym, subst}
 use Rattle.bbm_texts.specs.declared.commands.Command.TheVariants as command_of
-use Rattle.bbm_session.specs.declared.stop.Stop.{Stop}
-use Rattle.bbm_session.specs.Stages.{KnowsAt}
-use Rattle.bbm_session.specs.Serving.{ReportsShown}
 use Rattle.bbm_session.proofs.showing.report_shown.Goals as goal
 
 pub returns-in-Decided : goal.returns-in-Decided

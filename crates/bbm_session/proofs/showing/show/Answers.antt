@@ -1,9 +1,6 @@
-use Rattle.std.proofs.Common.{[], Some, subst}
-use Rattle.bbm_rules.specs.declared.limits.Limits.{Limits}
-use Rattle.bbm_rules.specs.Outcome.{AtHeader, events_in}
+use Rattle.bbm_session.proofs.Common.{Limits, is_frugal, Unjudged}
+use Rattle.bbm_rules.proofs.Common.{[], Some, subst, AtHeader, events_in}
 use Rattle.bbm_texts.specs.declared.commands.Command.TheVariants as command_of
-use Rattle.bbm_session.specs.Folds.{is_frugal}
-use Rattle.bbm_session.specs.JudgedLog.{Unjudged}
 use Rattle.bbm_session.proofs.Served.{answered-judged, answered-shown, judged-for}
 use Rattle.bbm_session.proofs.Stages.{some-heads}
 use Rattle.bbm_session.proofs.showing.show.Goals as goal

@@ -1,8 +1,6 @@
-use Rattle.std.proofs.Common.{◌≡◌, Option, ap, map, option_map}
-use Rattle.bbm_rules.specs.Claims.{Patterns}
+use Rattle.bbm_session.proofs.Common.{Patterns, Command, Judge, Verify, Generate, Selftest}
+use Rattle.bbm_rules.proofs.Common.{◌≡◌, Option, ap, map, option_map}
 use Rattle.std.specs.String.{string_bytes}
-use Rattle.bbm_texts.specs.declared.commands.Command.{Command}
-use Rattle.bbm_session.specs.declared.command.Request.TheVariants.{Judge, Verify, Generate, Selftest}
 use Rattle.bbm_session.specs.Requests as requests
 use Rattle.bbm_session.specs.Run.{or_else}
 use Rattle.bbm_session.proofs.Served.{served-accepted, served-accepts, served-as, served-fault, served-generated}

@@ -1,8 +1,7 @@
-use Rattle.std.proofs.Common.{[], ◌*◌, lit≤, refl, sym}
-use Rattle.std.proofs.lemmas.List.{length-reverse}
+use Rattle.bbm_session.proofs.Common.{certifying}
+use Rattle.bbm_rules.proofs.Common.{[], ◌*◌, lit≤, refl, sym, length-reverse}
 use Rattle.bbm_certificate.specs.declared.kept.Part.TheVariants as part
 use Rattle.bbm_certificate.specs.CertificateReading as read
-use Rattle.bbm_session.specs.Folds.{certifying}
 use Rattle.bbm_session.proofs.CertificateLines.{certified-read, certifies-none, certifying-inside, certifying-start}
 use Rattle.bbm_session.proofs.Served.{verified-whole, verified-stopped, verified-unread}
 use Rattle.bbm_session.proofs.Stages.{shrinks-trans}

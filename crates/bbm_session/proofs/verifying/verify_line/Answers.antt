@@ -1,4 +1,4 @@
-use Rattle.std.proofs.Common.{ok_or}
+use Rattle.bbm_rules.proofs.Common.{ok_or}
 use Rattle.bbm_session.proofs.CertificateLines.{certified-takes, certified-few}
 use Rattle.bbm_session.proofs.verifying.verify_line.Goals as goal
 

@@ -1,4 +1,4 @@
-use Rattle.bbm_texts.specs.Generating.{ended}
+use Rattle.bbm_texts.proofs.Common.{ended}
 use Rattle.bbm_texts.proofs.Pouring.{buffered-more, pours-longer}
 use Rattle.bbm_texts.proofs.buffering.add_line.Goals as goal
 

@@ -1,5 +1,5 @@
-use Rattle.std.proofs.Common.{◌≡◌, ℕ, List, subst}
-use Rattle.bbm_texts.specs.Writing.{Puts}
+use Rattle.bbm_texts.proofs.Common.{Puts}
+use Rattle.bbm_rules.proofs.Common.{◌≡◌, ℕ, List, subst}
 use Rattle.bbm_texts.proofs.Pouring.{poured}
 use Rattle.bbm_texts.proofs.buffering.finish.Goals as goal
 

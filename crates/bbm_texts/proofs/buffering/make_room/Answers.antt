@@ -1,5 +1,5 @@
-use Rattle.std.proofs.Common.{◌≡◌, ℕ, List, Ok, Err, subst}
-use Rattle.bbm_texts.specs.Writing.{Puts}
+use Rattle.bbm_texts.proofs.Common.{Puts}
+use Rattle.bbm_rules.proofs.Common.{◌≡◌, ℕ, List, Ok, Err, subst}
 use Rattle.bbm_texts.proofs.Pouring.{poured, emptied}
 use Rattle.bbm_texts.proofs.buffering.make_room.Goals as goal
 

@@ -1,6 +1,5 @@
-use Rattle.std.proofs.Common.{◌++◌, List, ℕ, subst}
-use Rattle.bbm_texts.specs.Generating.{ended}
-use Rattle.bbm_texts.specs.Writing.{Pours}
+use Rattle.bbm_texts.proofs.Common.{ended, Pours}
+use Rattle.bbm_rules.proofs.Common.{◌++◌, List, ℕ, subst}
 use Rattle.bbm_texts.proofs.certifying.add_claim.Goals as goal
 
 pub returns : goal.returns

@@ -1,10 +1,7 @@
-use Rattle.std.proofs.Common.{◌≡◌, ◌+◌, ◌<◌, ◌++◌, ℕ, List, Err, get_or, length, take, arith, subst, sym, ap, ◌∙◌}
-use Rattle.std.proofs.Common.{append_assoc, append-nil}
-use Rattle.std.proofs.lemmas.List.{take_all}
-use Rattle.bbm_events.specs.declared.claim.Claim.{Claim}
-use Rattle.bbm_texts.specs.CertTexts.{claim_lines, line_of_claim}
-use Rattle.bbm_texts.specs.Generating.{ended}
-use Rattle.bbm_texts.specs.Writing.{Buffered, Pours}
+use Rattle.bbm_texts.proofs.Common.{claim_lines, ended, Buffered, Pours}
+use Rattle.bbm_rules.proofs.Common.{◌≡◌, ◌+◌, ◌<◌, ◌++◌, ℕ, List, Err, get_or, length, take, arith, subst, sym, ap, ◌∙◌}
+use Rattle.bbm_rules.proofs.Common.{append_assoc, append-nil, take_all, Claim}
+use Rattle.bbm_texts.specs.CertTexts.{line_of_claim}
 use Rattle.bbm_texts.proofs.ManyLines.{many-cut, many-more}
 use Rattle.bbm_texts.proofs.certifying.add_claims.Goals as goal
 

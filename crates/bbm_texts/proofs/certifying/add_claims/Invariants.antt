@@ -1,6 +1,5 @@
-use Rattle.std.proofs.Common.{◌≤◌, ◌-◌, ◌++◌, ℕ, List, Option, length, take}
-use Rattle.bbm_texts.specs.CertTexts.{claim_lines}
-use Rattle.bbm_texts.specs.Writing.{Buffered}
+use Rattle.bbm_texts.proofs.Common.{claim_lines, Buffered}
+use Rattle.bbm_rules.proofs.Common.{◌≤◌, ◌-◌, ◌++◌, ℕ, List, Option, length, take}
 use Rattle.bbm_texts.proofs.certifying.add_claims.Given as goal
 
 abbrev pub invariant-claims : goal.invariant-claims

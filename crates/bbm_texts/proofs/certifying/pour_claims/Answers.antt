@@ -1,11 +1,8 @@
-use Rattle.std.proofs.Common.{◌≡◌, ◌++◌, Result, Err, length, ap, subst, sym, ◌∙◌}
-use Rattle.std.proofs.lemmas.Result.{err_from_is_err_and}
+use Rattle.bbm_texts.proofs.Common.{Failed, claim_lines, ended, Pours}
+use Rattle.bbm_rules.proofs.Common.{◌≡◌, ◌++◌, Result, Err, length, ap, subst, sym, ◌∙◌, err_from_is_err_and}
 use Rattle.bbm_events.specs.Certificate.{certificate_line, claim_line}
 use Rattle.bbm_events.specs.declared.certificate.ClaimItem.TheVariants.{End}
-use Rattle.bbm_io.specs.declared.source.Failed.{Failed}
-use Rattle.bbm_texts.specs.CertTexts.{certificate_text, claim_lines}
-use Rattle.bbm_texts.specs.Generating.{ended}
-use Rattle.bbm_texts.specs.Writing.{Pours}
+use Rattle.bbm_texts.specs.CertTexts.{certificate_text}
 use Rattle.bbm_texts.proofs.Pouring.{pours-longer}
 use Rattle.bbm_texts.proofs.certifying.pour_claims.Goals as goal
 

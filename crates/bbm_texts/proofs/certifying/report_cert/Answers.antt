@@ -1,17 +1,7 @@
-use Rattle.std.proofs.Common.{◌≡◌, ℕ, List, Option, Some, inl, inr, sym, subst}
-use Rattle.bbm_events.specs.declared.event.Event.{Event}
-use Rattle.bbm_events.specs.Heading.{Heading}
-use Rattle.bbm_rules.specs.declared.verdict.Verdict.{Verdict}
-use Rattle.bbm_rules.specs.declared.verdict.Verdict.TheVariants.{Accepted}
+use Rattle.bbm_texts.proofs.Common.{Event, Heading, Verdict, Accepted, Show, Cert, Status, Decision, ShowsMore}
+use Rattle.bbm_texts.proofs.Common.{status_of, Keeps, KnowsThat, ReportsDecided, ReportsText}
+use Rattle.bbm_rules.proofs.Common.{◌≡◌, ℕ, List, Option, Some, inl, inr, sym, subst}
 use Rattle.bbm_texts.specs.CertTexts.{CertOf, CertifiedBy}
-use Rattle.bbm_texts.specs.declared.commands.Command.TheVariants.{Show}
-use Rattle.bbm_texts.specs.declared.commands.Evidence.TheVariants.{Cert}
-use Rattle.bbm_texts.specs.declared.status.Status.{Status}
-use Rattle.bbm_texts.specs.declared.decision.Decision.{Decision}
-use Rattle.bbm_texts.specs.Says.{ShowsMore}
-use Rattle.bbm_texts.specs.Statuses.{status_of}
-use Rattle.bbm_texts.specs.Known.{Keeps, KnowsThat}
-use Rattle.bbm_texts.specs.Writing.{ReportsDecided, ReportsText}
 use Rattle.bbm_texts.proofs.certifying.report_cert.Goals as goal
 
 -- an accepted log is told by its certificate

@@ -1,12 +1,8 @@
-use Rattle.std.proofs.Common.{◌≡◌, ◌+◌, ◌<◌, ◌++◌, ℕ, List, Err, get_or, length, take, arith, subst, sym, ap, ◌∙◌}
-use Rattle.std.proofs.Common.{append_assoc}
-use Rattle.std.proofs.lemmas.List.{take_all}
-use Rattle.bbm_texts.specs.Counterruns.{step_line, step_lines}
-use Rattle.bbm_texts.specs.Generating.{ended}
-use Rattle.bbm_texts.specs.Writing.{Buffered, Pours}
+use Rattle.bbm_texts.proofs.Common.{step_line, step_lines, ended, Buffered, Pours, Step}
+use Rattle.bbm_rules.proofs.Common.{◌≡◌, ◌+◌, ◌<◌, ◌++◌, ℕ, List, Err, get_or, length, take, arith, subst, sym, ap, ◌∙◌}
+use Rattle.bbm_rules.proofs.Common.{append_assoc, take_all}
 use Rattle.bbm_texts.proofs.ConflictRuns.{lines-cut, lines-more}
 use Rattle.bbm_texts.proofs.counterrun.add_steps.Goals as goal
-use Rattle.bbm_tlb_machine.specs.declared.step.Step.{Step}
 
 -- the text with one step more
 longer : (text : List ℕ) (steps : List Step) (i : ℕ) (s : Step) → i < length steps → s ≡ get_or steps i s

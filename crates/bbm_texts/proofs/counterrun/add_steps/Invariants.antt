@@ -1,6 +1,5 @@
-use Rattle.std.proofs.Common.{◌≤◌, ◌-◌, ◌++◌, ℕ, List, Option, length, take}
-use Rattle.bbm_texts.specs.Counterruns.{step_lines}
-use Rattle.bbm_texts.specs.Writing.{Buffered}
+use Rattle.bbm_texts.proofs.Common.{step_lines, Buffered}
+use Rattle.bbm_rules.proofs.Common.{◌≤◌, ◌-◌, ◌++◌, ℕ, List, Option, length, take}
 use Rattle.bbm_texts.proofs.counterrun.add_steps.Given as goal
 
 abbrev pub invariant-steps : goal.invariant-steps

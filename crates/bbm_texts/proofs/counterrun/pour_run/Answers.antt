@@ -1,11 +1,7 @@
-use Rattle.std.proofs.Common.{◌≡◌, ◌++◌, Result, Err, ap, subst, sym, ◌∙◌}
-use Rattle.std.proofs.lemmas.Result.{err_from_is_err_and}
-use Rattle.bbm_io.specs.declared.source.Failed.{Failed}
-use Rattle.bbm_events.specs.declared.event.Item.TheVariants.{End}
+use Rattle.bbm_texts.proofs.Common.{Failed, End, step_lines, ended, Pours}
+use Rattle.bbm_rules.proofs.Common.{◌≡◌, ◌++◌, Result, Err, ap, subst, sym, ◌∙◌, err_from_is_err_and}
 use Rattle.bbm_events.specs.Lines.{header_line, item_line}
-use Rattle.bbm_texts.specs.Counterruns.{step_lines, steps_text}
-use Rattle.bbm_texts.specs.Generating.{ended}
-use Rattle.bbm_texts.specs.Writing.{Pours}
+use Rattle.bbm_texts.specs.Counterruns.{steps_text}
 use Rattle.bbm_texts.proofs.Pouring.{pours-longer}
 use Rattle.bbm_texts.proofs.counterrun.pour_run.Goals as goal
 

@@ -1,5 +1,5 @@
-use Rattle.std.proofs.Common.{◌≡◌, Some}
-use Rattle.bbm_texts.specs.Counterruns.{refused_write}
+use Rattle.bbm_texts.proofs.Common.{refused_write}
+use Rattle.bbm_rules.proofs.Common.{◌≡◌, Some}
 use Rattle.bbm_texts.proofs.ConflictRuns.{ends-refused, knows-refused, reports-run}
 use Rattle.bbm_texts.proofs.counterrun.report_counterrun.Goals as goal
 

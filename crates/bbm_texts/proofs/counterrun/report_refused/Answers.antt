@@ -1,7 +1,7 @@
-use Rattle.std.proofs.Common.{Option, Vec, Global, ap, is_some, true, sym, ◌∙◌}
+use Rattle.bbm_texts.proofs.Common.{Step}
+use Rattle.bbm_rules.proofs.Common.{Option, Vec, Global, ap, is_some, true, sym, ◌∙◌}
 use Rattle.bbm_texts.proofs.ConflictRuns.{by-leaf, ends-fit}
 use Rattle.bbm_texts.proofs.counterrun.report_refused.Goals as goal
-use Rattle.bbm_tlb_machine.specs.declared.step.Step.{Step}
 
 pub find_over_leaf-requires : goal.find_over_leaf-requires
 find_over_leaf-requires g c = record {

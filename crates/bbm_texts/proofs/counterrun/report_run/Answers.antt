@@ -1,7 +1,7 @@
-use Rattle.std.proofs.Common.{Vec, Global}
+use Rattle.bbm_texts.proofs.Common.{Step}
+use Rattle.bbm_rules.proofs.Common.{Vec, Global}
 use Rattle.bbm_texts.proofs.ConflictRuns.{found-fit, reports-found}
 use Rattle.bbm_texts.proofs.counterrun.report_run.Goals as goal
-use Rattle.bbm_tlb_machine.specs.declared.step.Step.{Step}
 
 pub tell_found-requires : goal.tell_found-requires
 tell_found-requires g c = record {

@@ -1,10 +1,9 @@
-use Rattle.std.proofs.Common.{◌≡◌, ◌+◌, ◌++◌, ℕ, suc, List, None, arith, subst, sym, ap, ◌∙◌}
+use Rattle.bbm_texts.proofs.Common.{event_at, ended, Buffered}
+use Rattle.bbm_rules.proofs.Common.{◌≡◌, ◌+◌, ◌++◌, ℕ, suc, List, None, arith, subst, sym, ap, ◌∙◌}
 use Rattle.bbm_events.specs.declared.event.Event.{Event as EventOf}
 use Rattle.bbm_events.specs.declared.event.Item.TheVariants.{Event}
 use Rattle.bbm_events.specs.Lines.{item_line}
-use Rattle.bbm_gen.specs.Generated.{event_at}
-use Rattle.bbm_texts.specs.Generating.{ended, gen_begin}
-use Rattle.bbm_texts.specs.Writing.{Buffered}
+use Rattle.bbm_texts.specs.Generating.{gen_begin}
 use Rattle.bbm_texts.proofs.Pouring.{begin-none, begin-more, buffered-more, cut-short}
 use Rattle.bbm_texts.proofs.generating.add_events.Goals as goal
 

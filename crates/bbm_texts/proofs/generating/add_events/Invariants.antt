@@ -1,6 +1,6 @@
-use Rattle.std.proofs.Common.{◌≤◌, ◌-◌, ℕ, List, Option}
-use Rattle.bbm_texts.specs.Generating.{gen_begin, gen_first}
-use Rattle.bbm_texts.specs.Writing.{Buffered}
+use Rattle.bbm_texts.proofs.Common.{gen_first, Buffered}
+use Rattle.bbm_rules.proofs.Common.{◌≤◌, ◌-◌, ℕ, List, Option}
+use Rattle.bbm_texts.specs.Generating.{gen_begin}
 use Rattle.bbm_texts.proofs.generating.add_events.Given as goal
 
 abbrev pub invariant-events : goal.invariant-events

@@ -1,11 +1,8 @@
-use Rattle.std.proofs.Common.{◌≡◌, ◌++◌, ℕ, List, Result, Ok, Err, ap, subst, sym, ◌∙◌, arith}
-use Rattle.std.proofs.lemmas.Result.{err_from_is_err_and}
-use Rattle.bbm_io.specs.declared.source.Failed.{Failed}
-use Rattle.bbm_events.specs.declared.event.Item.TheVariants.{End}
-use Rattle.bbm_events.specs.Heading.{Heading}
+use Rattle.bbm_texts.proofs.Common.{Failed, End, Heading, ended, Pours}
+use Rattle.bbm_rules.proofs.Common.{◌≡◌, ◌++◌, ℕ, List, Result, Ok, Err, ap, subst, sym, ◌∙◌, arith}
+use Rattle.bbm_rules.proofs.Common.{err_from_is_err_and}
 use Rattle.bbm_events.specs.Lines.{header_line, item_line}
-use Rattle.bbm_texts.specs.Generating.{ended, gen_begin}
-use Rattle.bbm_texts.specs.Writing.{Pours}
+use Rattle.bbm_texts.specs.Generating.{gen_begin}
 use Rattle.bbm_texts.proofs.Pouring.{begin-none, cut-short, pours-longer}
 use Rattle.bbm_texts.proofs.generating.pour_log.Goals as goal
 

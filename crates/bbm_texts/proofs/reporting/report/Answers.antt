@@ -1,6 +1,5 @@
-use Rattle.std.proofs.Common.{subst}
-use Rattle.bbm_texts.specs.declared.status.Status.{Status}
-use Rattle.bbm_texts.specs.Writing.{Wrote}
+use Rattle.bbm_texts.proofs.Common.{Status, Wrote}
+use Rattle.bbm_rules.proofs.Common.{subst}
 use Rattle.bbm_texts.proofs.Refusals.{names-it}
 use Rattle.bbm_texts.proofs.reporting.report.Goals as goal
 

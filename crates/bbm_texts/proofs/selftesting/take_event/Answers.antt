@@ -1,6 +1,5 @@
-use Rattle.std.proofs.Common.{List, arith, subst}
-use Rattle.bbm_events.specs.declared.event.Event.{Event}
-use Rattle.bbm_gen.specs.Generated.{heading, log_of}
+use Rattle.bbm_texts.proofs.Common.{Event, heading, log_of}
+use Rattle.bbm_rules.proofs.Common.{List, arith, subst}
 use Rattle.bbm_texts.proofs.Selftests.{log-length, log-longer, unbroken-answer}
 use Rattle.bbm_texts.proofs.selftesting.take_event.Goals as goal
 

@@ -1,5 +1,5 @@
-use Rattle.std.proofs.Common.{◌≤◌, ◌-◌}
-use Rattle.bbm_gen.specs.Generated.{heading, log_of}
+use Rattle.bbm_texts.proofs.Common.{heading, log_of}
+use Rattle.bbm_rules.proofs.Common.{◌≤◌, ◌-◌}
 use Rattle.bbm_texts.proofs.selftesting.take_log.Given as goal
 
 abbrev pub invariant-events : goal.invariant-events

@@ -1,9 +1,6 @@
-use Rattle.std.proofs.Common.{◌≡◌, ℕ, List, subst}
-use Rattle.bbm_rules.specs.declared.verdict.Verdict.TheVariants.{Accepted}
+use Rattle.bbm_texts.proofs.Common.{Accepted, heading, log_of, counts_text, Puts}
+use Rattle.bbm_rules.proofs.Common.{◌≡◌, ℕ, List, subst}
 use Rattle.bbm_rules.specs.Texts.{verdict_text}
-use Rattle.bbm_gen.specs.Generated.{heading, log_of}
-use Rattle.bbm_texts.specs.Generating.{counts_text}
-use Rattle.bbm_texts.specs.Writing.{Puts}
 use Rattle.bbm_texts.proofs.Puts.{puts-then}
 use Rattle.bbm_texts.proofs.Selftests.{selftest-told, selftest-cut}
 use Rattle.bbm_texts.proofs.selftesting.tell_counts.Goals as goal

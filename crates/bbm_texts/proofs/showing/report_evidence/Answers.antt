@@ -1,7 +1,7 @@
-use Rattle.std.proofs.Common.{Some, sym, subst}
+use Rattle.bbm_texts.proofs.Common.{ReportsDecided}
+use Rattle.bbm_rules.proofs.Common.{Some, sym, subst}
 use Rattle.bbm_texts.specs.declared.commands.Command.TheVariants as command_of
 use Rattle.bbm_texts.specs.declared.commands.Evidence.{Evidence}
-use Rattle.bbm_texts.specs.Writing.{ReportsDecided}
 use Rattle.bbm_texts.proofs.showing.report_evidence.Goals as goal
 
 pub returns-in-Idle : goal.returns-in-Idle

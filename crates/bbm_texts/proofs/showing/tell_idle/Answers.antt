@@ -1,6 +1,6 @@
-use Rattle.std.proofs.Common.{reverse}
+use Rattle.bbm_texts.proofs.Common.{marked_lines}
+use Rattle.bbm_rules.proofs.Common.{reverse}
 use Rattle.bbm_rules.specs.Texts.{verdict_text as text_of_verdict}
-use Rattle.bbm_texts.specs.Shown.{marked_lines}
 use Rattle.bbm_texts.proofs.Puts.{puts-then}
 use Rattle.bbm_texts.proofs.showing.tell_idle.Goals as goal
 

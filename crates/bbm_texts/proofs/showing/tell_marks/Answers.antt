@@ -1,4 +1,4 @@
-use Rattle.std.proofs.Common.{arith}
+use Rattle.bbm_rules.proofs.Common.{arith}
 use Rattle.bbm_texts.proofs.MarkedLines.{marks-failed}
 use Rattle.bbm_texts.proofs.showing.tell_marks.Goals as goal
 

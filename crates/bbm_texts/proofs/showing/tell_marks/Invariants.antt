@@ -1,6 +1,5 @@
-use Rattle.std.proofs.Common.{◌-◌, ◌≤◌, length, take, reverse, Ok}
-use Rattle.bbm_texts.specs.Shown.{marked_lines}
-use Rattle.bbm_texts.specs.Writing.{Puts}
+use Rattle.bbm_texts.proofs.Common.{marked_lines, Puts}
+use Rattle.bbm_rules.proofs.Common.{◌-◌, ◌≤◌, length, take, reverse, Ok}
 use Rattle.bbm_texts.proofs.showing.tell_marks.Given as goal
 
 abbrev pub invariant-events : goal.invariant-events

@@ -1,8 +1,6 @@
-use Rattle.std.proofs.Common.{Some, ◌++◌, refl, sym, subst}
+use Rattle.bbm_texts.proofs.Common.{explained, Command, SaysIn, Says}
+use Rattle.bbm_rules.proofs.Common.{Some, ◌++◌, refl, sym, subst}
 use Rattle.bbm_rules.specs.Texts.{verdict_text as text_of_verdict}
-use Rattle.bbm_report.specs.Further.{explained}
-use Rattle.bbm_texts.specs.declared.commands.Command.{Command}
-use Rattle.bbm_texts.specs.Says.{SaysIn, Says}
 use Rattle.bbm_texts.proofs.telling.tell_all.Goals as goal
 
 pub returns-in-Explain : goal.returns-in-Explain

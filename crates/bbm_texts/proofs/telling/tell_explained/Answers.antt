@@ -1,8 +1,7 @@
-use Rattle.std.proofs.Common.{◌≡◌, ℕ, List, ◌++◌, Some, sym, subst}
+use Rattle.bbm_texts.proofs.Common.{place_named, Puts}
+use Rattle.bbm_rules.proofs.Common.{◌≡◌, ℕ, List, ◌++◌, Some, sym, subst}
 use Rattle.bbm_rules.specs.Texts.{verdict_text as text_of_verdict}
 use Rattle.bbm_report.specs.Further.{phase_lines as lines_of_phases}
-use Rattle.bbm_texts.specs.Telling.{place_named}
-use Rattle.bbm_texts.specs.Writing.{Puts}
 use Rattle.bbm_texts.proofs.Puts.{puts-then, explained-at, knows-keeps}
 use Rattle.bbm_texts.proofs.telling.tell_explained.Goals as goal
 

@@ -1,7 +1,7 @@
-use Rattle.std.proofs.Common.{◌≡◌, ℕ, List, subst}
+use Rattle.bbm_texts.proofs.Common.{Puts}
+use Rattle.bbm_rules.proofs.Common.{◌≡◌, ℕ, List, subst}
 use Rattle.bbm_rules.specs.Texts.{verdict_text as text_of_verdict}
 use Rattle.bbm_report.specs.ReportLines.{found_text as text_of_found}
-use Rattle.bbm_texts.specs.Writing.{Puts}
 use Rattle.bbm_texts.proofs.Puts.{puts-then}
 use Rattle.bbm_texts.proofs.telling.tell_found.Goals as goal
 

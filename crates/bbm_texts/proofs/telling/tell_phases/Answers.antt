@@ -1,5 +1,5 @@
-use Rattle.std.proofs.Common.{◌<◌, arith, subst}
-use Rattle.bbm_events.specs.Heading.{Heading}
+use Rattle.bbm_texts.proofs.Common.{Heading}
+use Rattle.bbm_rules.proofs.Common.{◌<◌, arith, subst}
 use Rattle.bbm_texts.proofs.Puts.{lines-failed}
 use Rattle.bbm_texts.proofs.telling.tell_phases.Goals as goal
 

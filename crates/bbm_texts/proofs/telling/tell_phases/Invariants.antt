@@ -1,8 +1,6 @@
-use Rattle.std.proofs.Common.{◌-◌, ◌≤◌, List, Ok}
-use Rattle.bbm_events.specs.declared.event.Event.{Event}
+use Rattle.bbm_texts.proofs.Common.{Event, Keeps, Puts}
+use Rattle.bbm_rules.proofs.Common.{◌-◌, ◌≤◌, List, Ok}
 use Rattle.bbm_report.specs.Further.{phase_lines as lines_of_phases}
-use Rattle.bbm_texts.specs.Known.{Keeps}
-use Rattle.bbm_texts.specs.Writing.{Puts}
 use Rattle.bbm_texts.proofs.telling.tell_phases.Given as goal
 
 abbrev pub invariant-pes : goal.invariant-pes

@@ -1,4 +1,4 @@
-use Rattle.std.proofs.Common.{◌≡◌, ◌++◌, take}
+use Rattle.bbm_rules.proofs.Common.{◌≡◌, ◌++◌, take}
 use Rattle.bbm_tlb_machine.proofs.entry.add_all.Given as goal
 
 abbrev pub invariant-loop-part : goal.invariant-loop-part

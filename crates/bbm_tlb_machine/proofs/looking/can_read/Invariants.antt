@@ -1,6 +1,4 @@
-use Rattle.std.proofs.Common.{◌≡◌, ◌≤◌, length, take, drop, reverse}
-use Rattle.bbm_rules.specs.Lists.{among}
-use Rattle.bbm_rules.specs.Values.{is_readable, readable_before}
+use Rattle.bbm_rules.proofs.Common.{◌≡◌, ◌≤◌, length, take, drop, reverse, among, is_readable, readable_before}
 use Rattle.bbm_tlb_machine.specs.Looking.{Marks}
 use Rattle.bbm_tlb_machine.proofs.looking.can_read.Given as goal
 

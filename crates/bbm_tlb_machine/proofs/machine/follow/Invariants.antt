@@ -1,4 +1,4 @@
-use Rattle.std.proofs.Common.{◌≡◌, ◌≤◌, take, reverse}
+use Rattle.bbm_rules.proofs.Common.{◌≡◌, ◌≤◌, take, reverse}
 use Rattle.bbm_tlb_machine.specs.Followed.{Follows}
 use Rattle.bbm_tlb_machine.proofs.machine.follow.Given as goal
 

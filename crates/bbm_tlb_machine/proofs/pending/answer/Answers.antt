@@ -1,5 +1,4 @@
-use Rattle.std.proofs.Common.{not, rules}
-use Rattle.std.proofs.lemmas.Fn.{filter_same}
+use Rattle.bbm_rules.proofs.Common.{not, rules, filter_same}
 use Rattle.bbm_tlb_machine.specs.MachinePendings.{Pending, is_answered}
 use Rattle.bbm_tlb_machine.proofs.pending.answer.Goals as goal
 

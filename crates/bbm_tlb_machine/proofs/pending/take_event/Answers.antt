@@ -1,5 +1,4 @@
-use Rattle.std.proofs.Common.{◌∷◌, List, reverse, subst, sym}
-use Rattle.bbm_rules.specs.Prelude.{Event, Dsb}
+use Rattle.bbm_rules.proofs.Common.{◌∷◌, List, reverse, subst, sym, Event, Dsb}
 use Rattle.bbm_tlb_machine.specs.MachinePendings.{IsPending, Pending}
 use Rattle.bbm_tlb_machine.proofs.PendingSteps.{dsb_step}
 use Rattle.bbm_tlb_machine.proofs.pending.take_event.Goals as goal

@@ -1,4 +1,4 @@
-use Rattle.std.proofs.Common.{reverse}
+use Rattle.bbm_rules.proofs.Common.{reverse}
 use Rattle.bbm_tlb_machine.proofs.ListWords.{among_numbers}
 use Rattle.bbm_tlb_machine.proofs.starting.is_current.Goals as goal
 

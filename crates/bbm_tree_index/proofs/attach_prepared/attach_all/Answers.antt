@@ -1,6 +1,6 @@
-use Rattle.std.proofs.Common.{◌≡◌, ◌∙◌, ℕ, ◌<◌, List, length, get_or, refl, nat_eq, Some, slice_get}
-use Rattle.std.proofs.lemmas.Option.{slice_get_read}
-use Rattle.indexmap.specs.IndexMap.{get}
+use Rattle.bbm_tree_index.proofs.Common.{get}
+use Rattle.bbm_rules.proofs.Common.{◌≡◌, ◌∙◌, ℕ, ◌<◌, List, length, get_or, refl, nat_eq, Some, slice_get}
+use Rattle.bbm_rules.proofs.Common.{slice_get_read}
 use Rattle.bbm_tree_index.proofs.Growing.{same_keys}
 use Rattle.bbm_tree_index.proofs.Hanging.{hung_more}
 use Rattle.bbm_tree_index.proofs.attach_prepared.attach_all.Goals as goal

@@ -1,7 +1,5 @@
-use Rattle.std.proofs.Common.{ℕ, nat_eq}
-use Rattle.indexmap.specs.IndexMap.{get}
-use Rattle.bbm_tree_index.specs.Hanging.{Hung}
-use Rattle.bbm_tree_index.specs.PageTables.{SameKeys}
+use Rattle.bbm_tree_index.proofs.Common.{get, Hung, SameKeys}
+use Rattle.bbm_rules.proofs.Common.{ℕ, nat_eq}
 use Rattle.bbm_tree_index.proofs.attach_prepared.attach_all.Given as goal
 
 abbrev pub invariant-loop-index : goal.invariant-loop-index

@@ -1,6 +1,5 @@
-use Rattle.std.proofs.Common.{◌∙◌, ap, sym, nat_eq, is_some, arith, if◌then◌else◌}
-use Rattle.indexmap.specs.IndexMap.{get, keys}
-use Rattle.bbm_tree_index.specs.Hanging.{hung}
+use Rattle.bbm_tree_index.proofs.Common.{get, keys, hung}
+use Rattle.bbm_rules.proofs.Common.{◌∙◌, ap, sym, nat_eq, is_some, arith, if◌then◌else◌}
 use Rattle.bbm_tree_index.proofs.Growing.{all_keys, first_more_keys, same_keys}
 use Rattle.bbm_tree_index.proofs.Hanging.{at_end, one_more}
 use Rattle.bbm_tree_index.proofs.attach_prepared.attach_prepared.Goals as goal

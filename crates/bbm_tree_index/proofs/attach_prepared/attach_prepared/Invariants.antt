@@ -1,8 +1,5 @@
-use Rattle.std.proofs.Common.{◌≡◌, ℕ, nat_eq, take, if◌then◌else◌}
-use Rattle.std.specs.List.{list_any}
-use Rattle.indexmap.specs.IndexMap.{get, keys}
-use Rattle.bbm_tree_index.specs.Hanging.{hung}
-use Rattle.bbm_tree_index.specs.PageTables.{SameKeys}
+use Rattle.bbm_tree_index.proofs.Common.{get, keys, hung, SameKeys}
+use Rattle.bbm_rules.proofs.Common.{◌≡◌, ℕ, nat_eq, take, if◌then◌else◌, list_any}
 use Rattle.bbm_tree_index.proofs.attach_prepared.attach_prepared.Given as goal
 
 abbrev pub invariant-loop-index : goal.invariant-loop-index

@@ -1,13 +1,6 @@
-use Rattle.std.proofs.Common.{◌≡◌, ◌≤◌, ◌<◌, ◌+◌, ◌-◌, ◌*◌, ℕ, suc, true, Option, Some, None, refl, sym, ap, ◌∙◌, arith}
-use Rattle.bbm_rules.specs.Places.{index_of}
-use Rattle.bbm_rules.specs.Roots.{input_pages}
-use Rattle.bbm_rules.specs.Tree.{Node, node_below}
-use Rattle.bbm_tree_index.specs.Descent.{Translates}
-use Rattle.bbm_tree_index.specs.HeldCores.{is_at}
-use Rattle.bbm_tree_index.specs.Nodes.{path_at}
-use Rattle.bbm_tree_index.specs.Spots.{StandsAt}
-use Rattle.bbm_tree_index.specs.declared.role.Path.{Path}
-use Rattle.bbm_tree_index.specs.declared.spot.Spot.{Spot}
+use Rattle.bbm_tree_index.proofs.Common.{Translates, is_at, path_at, StandsAt, Path, Spot}
+use Rattle.bbm_rules.proofs.Common.{◌≡◌, ◌≤◌, ◌<◌, ◌+◌, ◌-◌, ◌*◌, ℕ, suc, true, Option, Some, None, refl, sym, ap, ◌∙◌}
+use Rattle.bbm_rules.proofs.Common.{arith, index_of, input_pages, Node, node_below}
 use Rattle.bbm_tree_index.proofs.Descending.{met_place, path_is}
 use Rattle.bbm_tree_index.proofs.below.place_below.Goals as goal
 

@@ -1,5 +1,4 @@
-use Rattle.std.proofs.Common.{◌||◌, refl, ap, ◌∙◌}
-use Rattle.std.proofs.lemmas.Bool.{eq-eqb}
+use Rattle.bbm_rules.proofs.Common.{◌||◌, refl, ap, ◌∙◌, eq-eqb}
 use Rattle.bbm_tree_index.specs.Index.{fresh_in, null_in}
 use Rattle.bbm_tree_index.proofs.example.null_page.Goals as goal
 

@@ -1,7 +1,6 @@
-use Rattle.std.proofs.Common.{◌≡◌, ℕ, ◌<◌, ◌≤◌, ◌+◌, ◌*◌, true, inl, inr, sym, ap, ◌∙◌, subst, arith}
-use Rattle.std.proofs.lemmas.Bool.{cases_lt}
+use Rattle.bbm_tree_index.proofs.Common.{spares}
+use Rattle.bbm_rules.proofs.Common.{◌≡◌, ℕ, ◌<◌, ◌≤◌, ◌+◌, ◌*◌, true, inl, inr, sym, ap, ◌∙◌, subst, arith, cases_lt}
 use Rattle.bbm_place_map.specs.Map.{value_at}
-use Rattle.bbm_tree_index.specs.LeastPages.{spares}
 use Rattle.bbm_tree_index.proofs.Joined.{spare_zero}
 use Rattle.bbm_tree_index.proofs.harmless.are_eight_harmless.Goals as goal
 

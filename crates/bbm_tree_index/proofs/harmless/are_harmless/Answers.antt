@@ -1,7 +1,6 @@
-use Rattle.std.proofs.Common.{◌≡◌, None, Some, length, refl, slice_get}
-use Rattle.std.proofs.lemmas.Option.{slice_get_read}
+use Rattle.bbm_tree_index.proofs.Common.{asks}
+use Rattle.bbm_rules.proofs.Common.{◌≡◌, None, Some, length, refl, slice_get, slice_get_read}
 use Rattle.bbm_place_map.specs.Map.{value_at}
-use Rattle.bbm_tree_index.specs.LeastPages.{asks}
 use Rattle.bbm_tree_index.proofs.Leasts.{least_step}
 use Rattle.bbm_tree_index.proofs.Wrongs.{LeafTable, all_leaves, leaf_table}
 use Rattle.bbm_tree_index.proofs.harmless.are_harmless.Goals as goal

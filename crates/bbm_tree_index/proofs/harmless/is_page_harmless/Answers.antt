@@ -1,7 +1,6 @@
-use Rattle.std.proofs.Common.{ℕ, ◌<◌, ◌≤◌, ◌+◌, ◌*◌, inl, inr, sym, ◌∙◌, subst, arith}
-use Rattle.std.proofs.lemmas.Bool.{cases_lt}
+use Rattle.bbm_tree_index.proofs.Common.{asks, spares}
+use Rattle.bbm_rules.proofs.Common.{ℕ, ◌<◌, ◌≤◌, ◌+◌, ◌*◌, inl, inr, sym, ◌∙◌, subst, arith, cases_lt}
 use Rattle.bbm_place_map.specs.Map.{value_at}
-use Rattle.bbm_tree_index.specs.LeastPages.{asks, spares}
 use Rattle.bbm_tree_index.proofs.Joined.{bits_some}
 use Rattle.bbm_tree_index.proofs.LeafBits.{harmless}
 use Rattle.bbm_tree_index.proofs.Wrongs.{no_leaves}

@@ -1,6 +1,6 @@
-use Rattle.std.proofs.Common.{None, is_some, ap, arith, refl}
+use Rattle.bbm_tree_index.proofs.Common.{asks}
+use Rattle.bbm_rules.proofs.Common.{None, is_some, ap, arith, refl}
 use Rattle.bbm_place_map.specs.Map.{value_at}
-use Rattle.bbm_tree_index.specs.LeastPages.{asks}
 use Rattle.bbm_tree_index.proofs.Leasts.{least_step}
 use Rattle.bbm_tree_index.proofs.Wrongs.{LeafKey, all_keyed, leaf_key}
 use Rattle.bbm_tree_index.proofs.harmless.is_table_harmless.Goals as goal

@@ -1,7 +1,6 @@
-use Rattle.std.proofs.Common.{None}
+use Rattle.bbm_tree_index.proofs.Common.{Before, LeastOf, asks, Leaf}
+use Rattle.bbm_rules.proofs.Common.{None}
 use Rattle.bbm_place_map.specs.Map.{value_at}
-use Rattle.bbm_tree_index.specs.LeastPages.{Before, LeastOf, asks}
-use Rattle.bbm_tree_index.specs.declared.judge.Leaf.{Leaf}
 use Rattle.bbm_tree_index.proofs.Wrongs.{LeafKey}
 use Rattle.bbm_tree_index.proofs.harmless.is_table_harmless.Given as goal
 

@@ -1,5 +1,5 @@
-use Rattle.std.proofs.Common.{◌≡◌, ℕ, ◌<◌, ◌+◌, bit_or, inl, inr, arith}
-use Rattle.std.proofs.lemmas.Bool.{cases_lt, eqb-true}
+use Rattle.bbm_tree_index.proofs.Common.{bit_or}
+use Rattle.bbm_rules.proofs.Common.{◌≡◌, ℕ, ◌<◌, ◌+◌, inl, inr, arith, cases_lt, eqb-true}
 use Rattle.bbm_tree_index.proofs.Joined.{zero_left, zero_right}
 use Rattle.bbm_tree_index.proofs.held.are_eight_zero.Goals as goal
 

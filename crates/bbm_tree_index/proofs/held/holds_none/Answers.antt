@@ -1,12 +1,7 @@
-use Rattle.std.proofs.Common.{◌≡◌, ℕ, ◌+◌, ◌*◌, ◌%◌, false, Option, is_some, arith, refl, ap, sym, subst, ◌∙◌, inl, inr}
-use Rattle.std.proofs.lemmas.Bool.{cases_eq, false≢true}
-use Rattle.bbm_descriptor.specs.Descriptor.{core_of}
-use Rattle.bbm_descriptor.specs.declared.desc.Core.{Core}
-use Rattle.bbm_entry_state.specs.Points.{core_in}
+use Rattle.bbm_tree_index.proofs.Common.{core_in, PlaceMap, core_at, holds_at}
+use Rattle.bbm_rules.proofs.Common.{◌≡◌, ℕ, ◌+◌, ◌*◌, ◌%◌, false, Option, is_some, arith, refl, ap, sym, subst, ◌∙◌}
+use Rattle.bbm_rules.proofs.Common.{inl, inr, cases_eq, false≢true, core_of, Core, Kind}
 use Rattle.bbm_place_map.specs.Map.{marks_at, state_at, value_at}
-use Rattle.bbm_place_map.specs.declared.map.PlaceMap.{PlaceMap}
-use Rattle.bbm_regimes.specs.declared.regime.Kind.{Kind}
-use Rattle.bbm_tree_index.specs.HeldCores.{core_at, holds_at}
 use Rattle.bbm_tree_index.proofs.Blank.{holds_nothing, core_read}
 use Rattle.bbm_tree_index.proofs.Places.{at_page, each_place, number_at}
 use Rattle.bbm_tree_index.proofs.held.holds_none.Goals as goal

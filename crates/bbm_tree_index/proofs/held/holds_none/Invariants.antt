@@ -1,5 +1,5 @@
-use Rattle.std.proofs.Common.{◌≡◌, ℕ, ◌<◌, ◌+◌, ◌*◌, false}
-use Rattle.bbm_tree_index.specs.HeldCores.{holds_at}
+use Rattle.bbm_tree_index.proofs.Common.{holds_at}
+use Rattle.bbm_rules.proofs.Common.{◌≡◌, ℕ, ◌<◌, ◌+◌, ◌*◌, false}
 use Rattle.bbm_tree_index.proofs.held.holds_none.Given as goal
 
 abbrev pub invariant-loop-index : goal.invariant-loop-index

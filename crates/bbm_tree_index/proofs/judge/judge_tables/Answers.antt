@@ -1,14 +1,8 @@
-use Rattle.std.proofs.Common.{◌≡◌, ℕ, None, Some, List, Bool, refl, subst, Option}
-use Rattle.indexmap.specs.IndexMap.{IndexMap}
-use Rattle.bbm_descriptor.specs.declared.desc.Desc.{Desc}
+use Rattle.bbm_tree_index.proofs.Common.{IndexMap, HasPlace, IsUnfresh, LeafPlace, LeastOf, Told, WrongPage, fresh_of}
+use Rattle.bbm_tree_index.proofs.Common.{Contiguous, UserGlobal, Mark}
+use Rattle.bbm_rules.proofs.Common.{◌≡◌, ℕ, None, Some, List, Bool, refl, subst, Option, Desc, Kind, Node}
 use Rattle.bbm_place_map.specs.Map.{value_at}
-use Rattle.bbm_regimes.specs.declared.regime.Kind.{Kind}
-use Rattle.bbm_rules.specs.Tree.{Node}
-use Rattle.bbm_tree_index.specs.Attaching.{HasPlace, IsUnfresh, is_bad, is_user_global}
-use Rattle.bbm_tree_index.specs.LeastPages.{LeafPlace, LeastOf, Told, WrongPage}
-use Rattle.bbm_tree_index.specs.Survey.{fresh_of}
-use Rattle.bbm_tree_index.specs.declared.judge.Leaf.TheVariants.{Contiguous, UserGlobal}
-use Rattle.bbm_tree_index.specs.declared.mark.Mark.{Mark}
+use Rattle.bbm_tree_index.specs.Attaching.{is_bad, is_user_global}
 use Rattle.bbm_tree_index.proofs.Judging.{leaf_of, of_leaf, of_wrong, wrong_of}
 use Rattle.bbm_tree_index.proofs.Leasts.{least_same}
 use Rattle.bbm_tree_index.proofs.judge.judge_tables.Goals as goal

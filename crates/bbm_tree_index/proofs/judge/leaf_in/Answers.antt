@@ -1,6 +1,6 @@
-use Rattle.std.proofs.Common.{is_some, ap, arith}
+use Rattle.bbm_tree_index.proofs.Common.{asks}
+use Rattle.bbm_rules.proofs.Common.{is_some, ap, arith}
 use Rattle.bbm_place_map.specs.Map.{value_at}
-use Rattle.bbm_tree_index.specs.LeastPages.{asks}
 use Rattle.bbm_tree_index.proofs.Leasts.{least_step}
 use Rattle.bbm_tree_index.proofs.Wrongs.{LeafKey, all_keyed, leaf_key}
 use Rattle.bbm_tree_index.proofs.judge.leaf_in.Goals as goal

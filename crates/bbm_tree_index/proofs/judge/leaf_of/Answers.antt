@@ -1,7 +1,6 @@
-use Rattle.std.proofs.Common.{◌≡◌, ◌+◌, ◌*◌, ap, sym, ◌∙◌}
-use Rattle.bbm_descriptor.specs.Descriptor.{desc_of}
+use Rattle.bbm_tree_index.proofs.Common.{asks}
+use Rattle.bbm_rules.proofs.Common.{◌≡◌, ◌+◌, ◌*◌, ap, sym, ◌∙◌, desc_of}
 use Rattle.bbm_place_map.specs.Map.{value_at}
-use Rattle.bbm_tree_index.specs.LeastPages.{asks}
 use Rattle.bbm_tree_index.proofs.Blank.{no_leaf}
 use Rattle.bbm_tree_index.proofs.Wrongs.{first_leaf, no_leaves, no_more}
 use Rattle.bbm_tree_index.proofs.judge.leaf_of.Goals as goal

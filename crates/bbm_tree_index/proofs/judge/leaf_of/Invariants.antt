@@ -1,7 +1,6 @@
-use Rattle.std.proofs.Common.{◌≡◌, ℕ, ◌<◌, ◌+◌, ◌*◌, false}
-use Rattle.bbm_descriptor.specs.Descriptor.{desc_of}
+use Rattle.bbm_tree_index.proofs.Common.{asks}
+use Rattle.bbm_rules.proofs.Common.{◌≡◌, ℕ, ◌<◌, ◌+◌, ◌*◌, false, desc_of}
 use Rattle.bbm_place_map.specs.Map.{value_at}
-use Rattle.bbm_tree_index.specs.LeastPages.{asks}
 use Rattle.bbm_tree_index.proofs.judge.leaf_of.Given as goal
 
 abbrev pub invariant-loop-index : goal.invariant-loop-index

@@ -1,7 +1,5 @@
-use Rattle.std.proofs.Common.{sym, ◌∙◌, true≢false}
-use Rattle.std.proofs.lemmas.Bool.{and_parts}
-use Rattle.bbm_regimes.specs.SameRegister.{same_kind}
-use Rattle.bbm_regimes.specs.declared.regime.Kind.TheVariants.{Ttbr0}
+use Rattle.bbm_tree_index.proofs.Common.{same_kind, Ttbr0}
+use Rattle.bbm_rules.proofs.Common.{sym, ◌∙◌, true≢false, and_parts}
 use Rattle.bbm_tree_index.proofs.judge.least_global.Goals as goal
 
 pub returns-else-is_lower : goal.returns-else-is_lower

@@ -1,5 +1,5 @@
+use Rattle.bbm_tree_index.proofs.Common.{Before, LeastOf, asks}
 use Rattle.bbm_place_map.specs.Map.{value_at}
-use Rattle.bbm_tree_index.specs.LeastPages.{Before, LeastOf, asks}
 use Rattle.bbm_tree_index.proofs.Wrongs.{LeafTable}
 use Rattle.bbm_tree_index.proofs.judge.least_leaf.Given as goal
 

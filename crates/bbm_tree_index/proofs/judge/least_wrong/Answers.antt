@@ -1,6 +1,5 @@
-use Rattle.std.proofs.Common.{◌≡◌, Some, length, refl, slice_get}
-use Rattle.std.proofs.lemmas.Option.{slice_get_read}
-use Rattle.bbm_tree_index.specs.Survey.{fresh_of}
+use Rattle.bbm_tree_index.proofs.Common.{fresh_of}
+use Rattle.bbm_rules.proofs.Common.{◌≡◌, Some, length, refl, slice_get, slice_get_read}
 use Rattle.bbm_tree_index.proofs.Leasts.{least_step}
 use Rattle.bbm_tree_index.proofs.Wrongs.{WrongTable, all_tables, wrong_table}
 use Rattle.bbm_tree_index.proofs.judge.least_wrong.Goals as goal

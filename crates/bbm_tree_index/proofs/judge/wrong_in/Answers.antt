@@ -1,5 +1,5 @@
-use Rattle.std.proofs.Common.{arith}
-use Rattle.bbm_tree_index.specs.Survey.{fresh_of}
+use Rattle.bbm_tree_index.proofs.Common.{fresh_of}
+use Rattle.bbm_rules.proofs.Common.{arith}
 use Rattle.bbm_tree_index.proofs.Leasts.{least_step}
 use Rattle.bbm_tree_index.proofs.Wrongs.{WrongKey, all_wrong}
 use Rattle.bbm_tree_index.proofs.judge.wrong_in.Goals as goal

@@ -1,5 +1,4 @@
-use Rattle.bbm_tree_index.specs.LeastPages.{Before, LeastOf}
-use Rattle.bbm_tree_index.specs.Survey.{fresh_of}
+use Rattle.bbm_tree_index.proofs.Common.{Before, LeastOf, fresh_of}
 use Rattle.bbm_tree_index.proofs.Wrongs.{WrongKey}
 use Rattle.bbm_tree_index.proofs.judge.wrong_in.Given as goal
 

@@ -1,8 +1,6 @@
-use Rattle.std.proofs.Common.{◌<◌, sym, ap, ◌∙◌, subst, arith, if◌then◌else◌, None}
+use Rattle.bbm_tree_index.proofs.Common.{roles_of, Gone}
+use Rattle.bbm_rules.proofs.Common.{◌<◌, sym, ap, ◌∙◌, subst, arith, if◌then◌else◌, None, page_of}
 use Rattle.bbm_place_map.specs.Map.{marks_at}
-use Rattle.bbm_rules.specs.Places.{page_of}
-use Rattle.bbm_tree_index.specs.Leaving.{roles_of}
-use Rattle.bbm_tree_index.specs.declared.role.Role.TheVariants.{Gone}
 use Rattle.bbm_tree_index.proofs.Swept.{all_hidden, more, start, swept_low}
 use Rattle.bbm_tree_index.proofs.leaving.sweep.Goals as goal
 

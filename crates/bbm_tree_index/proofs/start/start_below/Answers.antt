@@ -1,12 +1,6 @@
-use Rattle.std.proofs.Common.{◌≡◌, ℕ, ◌<◌, ◌%◌, ◌/◌, ◌==◌, Some, None, refl, ap, ◌∙◌, nat_eq, if◌then◌else◌, ◌+◌, ◌*◌}
-use Rattle.std.proofs.Common.{suc, add-one, arith, false}
-use Rattle.std.specs.Map.{lookup}
-use Rattle.indexmap.specs.IndexMap.{get}
-use Rattle.bbm_rules.specs.Places.{index_of}
-use Rattle.bbm_rules.specs.Roots.{input_pages}
-use Rattle.bbm_tree_index.specs.Survey.{joined}
-use Rattle.bbm_tree_index.specs.declared.mark.Mark.{Mark}
-use Rattle.bbm_tree_index.specs.declared.role.Role.TheVariants.{Hangs}
+use Rattle.bbm_tree_index.proofs.Common.{get, joined, Mark, Hangs}
+use Rattle.bbm_rules.proofs.Common.{◌≡◌, ℕ, ◌<◌, ◌%◌, ◌/◌, ◌==◌, Some, None, refl, ap, ◌∙◌, nat_eq, if◌then◌else◌, ◌+◌}
+use Rattle.bbm_rules.proofs.Common.{◌*◌, suc, add-one, arith, false, lookup, index_of, input_pages}
 use Rattle.bbm_tree_index.proofs.Begun.{one_start, one_well}
 use Rattle.bbm_tree_index.proofs.start.start_below.Goals as goal
 

@@ -1,6 +1,5 @@
-use Rattle.std.proofs.Common.{◌==◌, ◌∙◌, Some, false, if◌then◌else◌}
-use Rattle.bbm_tree_index.specs.Survey.{joined}
-use Rattle.bbm_tree_index.specs.declared.role.Role.TheVariants.{RootPage}
+use Rattle.bbm_tree_index.proofs.Common.{joined, RootPage}
+use Rattle.bbm_rules.proofs.Common.{◌==◌, ◌∙◌, Some, false, if◌then◌else◌}
 use Rattle.bbm_tree_index.proofs.Rooted.{marks_more}
 use Rattle.bbm_tree_index.proofs.start.start_root.Goals as goal
 

@@ -1,6 +1,5 @@
-use Rattle.std.proofs.Common.{◌≡◌, ℕ, nat_eq}
-use Rattle.indexmap.specs.IndexMap.{get}
-use Rattle.bbm_tree_index.specs.Survey.{root_marks}
+use Rattle.bbm_tree_index.proofs.Common.{get, root_marks}
+use Rattle.bbm_rules.proofs.Common.{◌≡◌, ℕ, nat_eq}
 use Rattle.bbm_tree_index.proofs.start.start_root.Given as goal
 
 abbrev pub invariant-loop-part : goal.invariant-loop-part

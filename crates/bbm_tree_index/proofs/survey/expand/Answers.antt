@@ -1,10 +1,7 @@
-use Rattle.std.proofs.Common.{ℕ, Bool, false, ◌||◌, ◌==◌, ◌+◌, nat_eq, take, sym, ap, ◌∙◌, subst, arith}
-use Rattle.std.specs.List.{list_any}
-use Rattle.std.specs.Map.{lookup}
-use Rattle.indexmap.specs.IndexMap.{get, keys}
+use Rattle.bbm_tree_index.proofs.Common.{get, keys, Counts, Partly, Reached, fresh_of}
+use Rattle.bbm_rules.proofs.Common.{ℕ, Bool, false, ◌||◌, ◌==◌, ◌+◌, nat_eq, take, sym, ap, ◌∙◌, subst, arith, list_any}
+use Rattle.bbm_rules.proofs.Common.{lookup, page_of}
 use Rattle.bbm_place_map.specs.Map.{value_at}
-use Rattle.bbm_rules.specs.Places.{page_of}
-use Rattle.bbm_tree_index.specs.Survey.{Counts, Partly, Reached, fresh_of}
 use Rattle.bbm_tree_index.proofs.Counting.{counts_same}
 use Rattle.bbm_tree_index.proofs.Growing.{all_keys, first_more_keys, not_before, well_none}
 use Rattle.bbm_tree_index.proofs.Levels.{all_done, more_done, none_done}

@@ -1,10 +1,6 @@
-use Rattle.std.proofs.Common.{ℕ, List, nat_eq, take}
-use Rattle.std.specs.List.{list_any}
-use Rattle.indexmap.specs.IndexMap.{get, keys}
+use Rattle.bbm_tree_index.proofs.Common.{get, keys, Counts, Partly, Plain, Reached, Uniform, Well, fresh_of}
+use Rattle.bbm_rules.proofs.Common.{ℕ, List, nat_eq, take, list_any, page_of, Node}
 use Rattle.bbm_place_map.specs.Map.{value_at}
-use Rattle.bbm_rules.specs.Places.{page_of}
-use Rattle.bbm_rules.specs.Tree.{Node}
-use Rattle.bbm_tree_index.specs.Survey.{Counts, Partly, Plain, Reached, Uniform, Well, fresh_of}
 use Rattle.bbm_tree_index.proofs.survey.expand.Given as goal
 
 abbrev pub invariant-loop-index : goal.invariant-loop-index

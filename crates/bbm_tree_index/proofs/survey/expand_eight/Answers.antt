@@ -1,14 +1,7 @@
-use Rattle.std.proofs.Common.{◌≡◌, ℕ, Bool, true, ◌||◌, ◌==◌, ◌+◌, ◌*◌, ◌%◌, ◌/◌, ◌≤◌, sym, ap, ◌∙◌, nat_eq}
-use Rattle.std.proofs.Common.{subst}
-use Rattle.std.proofs.Common.{arith, suc, refl}
-use Rattle.indexmap.specs.IndexMap.{get}
+use Rattle.bbm_tree_index.proofs.Common.{get, is_at, Counts, Partly, grown, Hangs}
+use Rattle.bbm_rules.proofs.Common.{◌≡◌, ℕ, Bool, true, ◌||◌, ◌==◌, ◌+◌, ◌*◌, ◌%◌, ◌/◌, ◌≤◌, sym, ap, ◌∙◌, nat_eq}
+use Rattle.bbm_rules.proofs.Common.{subst, arith, suc, refl, index_of, input_pages, next_of}
 use Rattle.bbm_place_map.specs.Map.{value_at}
-use Rattle.bbm_rules.specs.Places.{index_of}
-use Rattle.bbm_rules.specs.Roots.{input_pages}
-use Rattle.bbm_rules.specs.Tree.{next_of}
-use Rattle.bbm_tree_index.specs.HeldCores.{is_at}
-use Rattle.bbm_tree_index.specs.Survey.{Counts, Partly, grown}
-use Rattle.bbm_tree_index.specs.declared.role.Role.TheVariants.{Hangs}
 use Rattle.bbm_tree_index.proofs.Counting.{counts_same, grow}
 use Rattle.bbm_tree_index.proofs.Levels.{more_done}
 use Rattle.bbm_tree_index.proofs.Places.{at_page}

@@ -1,13 +1,6 @@
-use Rattle.std.proofs.Common.{◌≡◌, refl, sym, ap, ◌∙◌, nat_eq, ◌||◌, ◌==◌}
-use Rattle.std.proofs.lemmas.Result.{on_ok_weaker}
-use Rattle.std.proofs.lemmas.Option.{same_Some}
-use Rattle.indexmap.specs.IndexMap.{get}
+use Rattle.bbm_tree_index.proofs.Common.{get, StandsAt, spot_with, Partly, fresh_of, spot_as, Spot}
+use Rattle.bbm_rules.proofs.Common.{◌≡◌, refl, sym, ap, ◌∙◌, nat_eq, ◌||◌, ◌==◌, on_ok_weaker, same_Some, page_of, Node}
 use Rattle.bbm_place_map.specs.Map.{value_at}
-use Rattle.bbm_rules.specs.Places.{page_of}
-use Rattle.bbm_rules.specs.Tree.{Node}
-use Rattle.bbm_tree_index.specs.Spots.{StandsAt, spot_with}
-use Rattle.bbm_tree_index.specs.Survey.{Partly, fresh_of, spot_as}
-use Rattle.bbm_tree_index.specs.declared.spot.Spot.{Spot}
 use Rattle.bbm_tree_index.proofs.Counting.{counts_same}
 use Rattle.bbm_tree_index.proofs.Levels.{more_done, unfresh_more}
 use Rattle.bbm_tree_index.proofs.survey.expand_entry.Goals as goal

@@ -1,9 +1,6 @@
-use Rattle.std.proofs.Common.{◌≡◌, ℕ, Bool, ◌||◌, ◌==◌, ◌+◌, ◌*◌, ap, nat_eq, subst, arith, true, false}
-use Rattle.indexmap.specs.IndexMap.{get}
+use Rattle.bbm_tree_index.proofs.Common.{get, StandsAt, Counts, Found, Partly, Reached}
+use Rattle.bbm_rules.proofs.Common.{◌≡◌, ℕ, Bool, ◌||◌, ◌==◌, ◌+◌, ◌*◌, ap, nat_eq, subst, arith, true, false, page_of}
 use Rattle.bbm_place_map.specs.Map.{value_at}
-use Rattle.bbm_rules.specs.Places.{page_of}
-use Rattle.bbm_tree_index.specs.Spots.{StandsAt}
-use Rattle.bbm_tree_index.specs.Survey.{Counts, Found, Partly, Reached}
 use Rattle.bbm_tree_index.proofs.Blank.{nowhere}
 use Rattle.bbm_tree_index.proofs.Counting.{counts_same}
 use Rattle.bbm_tree_index.proofs.Levels.{more_done}

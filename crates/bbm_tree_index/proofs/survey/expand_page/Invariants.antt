@@ -1,12 +1,7 @@
-use Rattle.std.proofs.Common.{◌≡◌, ℕ, Bool, true, false, List, ◌*◌, ◌&&◌, ◌||◌, ◌==◌, nat_eq, nat_lt}
-use Rattle.indexmap.specs.IndexMap.{get}
+use Rattle.bbm_tree_index.proofs.Common.{get, StandsAt, Counts, Found, Partly, Reached, Uniform, Well, Heading, Mark}
+use Rattle.bbm_rules.proofs.Common.{◌≡◌, ℕ, Bool, true, false, List, ◌*◌, ◌&&◌, ◌||◌, ◌==◌, nat_eq, nat_lt, index_of}
+use Rattle.bbm_rules.proofs.Common.{page_of, Node}
 use Rattle.bbm_place_map.specs.Map.{value_at}
-use Rattle.bbm_rules.specs.Places.{index_of, page_of}
-use Rattle.bbm_rules.specs.Tree.{Node}
-use Rattle.bbm_tree_index.specs.Spots.{StandsAt}
-use Rattle.bbm_tree_index.specs.Survey.{Counts, Found, Partly, Reached, Uniform, Well}
-use Rattle.bbm_events.specs.Heading.{Heading}
-use Rattle.bbm_tree_index.specs.declared.mark.Mark.{Mark}
 use Rattle.bbm_tree_index.proofs.survey.expand_page.Given as goal
 
 abbrev pub invariant-loop-part : goal.invariant-loop-part

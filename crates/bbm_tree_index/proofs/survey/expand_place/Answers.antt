@@ -1,10 +1,6 @@
-use Rattle.std.proofs.Common.{◌≡◌, ℕ, ◌<◌, ◌%◌, ◌^◌, Some, sym, subst, nat_eq, ◌/◌, suc, add-one, arith}
-use Rattle.std.proofs.lemmas.Result.{on_ok_weaker}
-use Rattle.std.proofs.lemmas.Option.{same_Some}
-use Rattle.indexmap.specs.IndexMap.{get}
-use Rattle.bbm_rules.specs.Places.{index_of}
-use Rattle.bbm_tree_index.specs.Spots.{RoleFits}
-use Rattle.bbm_tree_index.specs.declared.role.Role.TheVariants.{Hangs}
+use Rattle.bbm_tree_index.proofs.Common.{get, RoleFits, Hangs}
+use Rattle.bbm_rules.proofs.Common.{◌≡◌, ℕ, ◌<◌, ◌%◌, ◌^◌, Some, sym, subst, nat_eq, ◌/◌, suc, add-one, arith}
+use Rattle.bbm_rules.proofs.Common.{on_ok_weaker, same_Some, index_of}
 use Rattle.bbm_tree_index.proofs.Growing.{hang_fits, well_grown}
 use Rattle.bbm_tree_index.proofs.survey.expand_place.Goals as goal
 

@@ -1,9 +1,7 @@
-use Rattle.std.proofs.Common.{◌≡◌, ℕ, suc, length, Some, slice_get, List, refl, sym, subst, arith}
-use Rattle.std.proofs.lemmas.Result.{on_ok_weaker}
-use Rattle.std.proofs.Common.{get_or}
-use Rattle.std.proofs.lemmas.Option.{slice_get_read}
+use Rattle.bbm_tree_index.proofs.Common.{Surveyed, fresh_of}
+use Rattle.bbm_rules.proofs.Common.{◌≡◌, ℕ, suc, length, Some, slice_get, List, refl, sym, subst, arith, get_or}
+use Rattle.bbm_rules.proofs.Common.{on_ok_weaker, slice_get_read}
 use Rattle.bbm_place_map.specs.Map.{value_at}
-use Rattle.bbm_tree_index.specs.Survey.{Surveyed, fresh_of}
 use Rattle.bbm_tree_index.proofs.Starts.{more_tables}
 use Rattle.bbm_tree_index.proofs.survey.push_level.Goals as goal
 

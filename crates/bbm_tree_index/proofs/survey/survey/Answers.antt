@@ -1,7 +1,6 @@
-use Rattle.std.proofs.Common.{length, nat_eq, [], ◌∷◌, ◌++◌, refl, sym, ap, ◌∙◌, subst, arith}
-use Rattle.indexmap.specs.IndexMap.{get}
+use Rattle.bbm_tree_index.proofs.Common.{get, Surveyed, fresh_of}
+use Rattle.bbm_rules.proofs.Common.{length, nat_eq, [], ◌∷◌, ◌++◌, refl, sym, ap, ◌∙◌, subst, arith}
 use Rattle.bbm_place_map.specs.Map.{value_at}
-use Rattle.bbm_tree_index.specs.Survey.{Surveyed, fresh_of}
 use Rattle.bbm_tree_index.proofs.Starts.{one_table}
 use Rattle.bbm_tree_index.proofs.survey.survey.Goals as goal
 

@@ -1,9 +1,5 @@
-use Rattle.std.proofs.Common.{List, Bool, ◌||◌, length, reverse, ◌∙◌, ap, arith}
-use Rattle.std.specs.List.{list_any}
-use Rattle.std.proofs.lemmas.List.{length-reverse}
-use Rattle.bbm_oracle_patterns.specs.Kept.{note_of, notes_of}
-use Rattle.bbm_cert.specs.Cleansings.{ends_now, tells}
-use Rattle.bbm_cert.specs.declared.cleansings.Cleansing.{Cleansing}
+use Rattle.bbm_cert.proofs.Common.{note_of, notes_of, ends_now, tells, Cleansing}
+use Rattle.bbm_rules.proofs.Common.{List, Bool, ◌||◌, length, reverse, ◌∙◌, ap, arith, list_any, length-reverse}
 use Rattle.bbm_cert.proofs.Cleansed.{tell_next}
 use Rattle.bbm_cert.proofs.Kepts.{length_events}
 use Rattle.bbm_cert.proofs.by_claims.ByClaimsEvidence.after.Goals as goal

@@ -1,6 +1,5 @@
-use Rattle.std.proofs.Common.{List, ◌∙◌, ap}
-use Rattle.bbm_cert.specs.Cleansings.{tells}
-use Rattle.bbm_cert.specs.declared.cleansings.Cleansing.{Cleansing}
+use Rattle.bbm_cert.proofs.Common.{tells, Cleansing}
+use Rattle.bbm_rules.proofs.Common.{List, ◌∙◌, ap}
 use Rattle.bbm_cert.proofs.Cleansed.{kept_cleansed}
 use Rattle.bbm_cert.proofs.by_claims.ByClaimsEvidence.cleansed.Goals as goal
 

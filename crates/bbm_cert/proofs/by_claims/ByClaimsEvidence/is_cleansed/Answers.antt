@@ -1,13 +1,7 @@
-use Rattle.std.proofs.Common.{◌≡◌, ℕ, List, reverse, drop, ◌∙◌, ap}
+use Rattle.bbm_cert.proofs.Common.{notes_behind, tells, Cleansing}
+use Rattle.bbm_rules.proofs.Common.{◌≡◌, ℕ, List, reverse, drop, ◌∙◌, ap, every_pe, Listed, cleansed, every_same}
 use Rattle.bbm_events.specs.Heading.{Heading}
-use Rattle.bbm_lemmas.specs.EveryPe.{every_pe}
 use Rattle.bbm_regimes.specs.PeMask.{pe_in}
-use Rattle.bbm_rules.specs.Claims.Trust.{Listed}
-use Rattle.bbm_rules.specs.Cleansing.{cleansed}
-use Rattle.bbm_oracle_patterns.specs.Kept.{notes_behind}
-use Rattle.bbm_lemmas.proofs.Every.{every_same}
-use Rattle.bbm_cert.specs.Cleansings.{tells}
-use Rattle.bbm_cert.specs.declared.cleansings.Cleansing.{Cleansing}
 use Rattle.bbm_cert.proofs.Cleansed.{kept_cleansed}
 use Rattle.bbm_cert.proofs.by_claims.ByClaimsEvidence.is_cleansed.Goals as goal
 

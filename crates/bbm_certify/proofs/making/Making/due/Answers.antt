@@ -1,6 +1,5 @@
-use Rattle.std.proofs.Common.{List, subst, sym}
-use Rattle.bbm_events.specs.declared.claim.Claim.{Claim}
-use Rattle.bbm_certify.specs.Made.{AreDue}
+use Rattle.bbm_certify.proofs.Common.{AreDue}
+use Rattle.bbm_rules.proofs.Common.{List, subst, sym, Claim}
 use Rattle.bbm_certify.proofs.Whole.{none_at}
 use Rattle.bbm_certify.proofs.making.Making.due.Goals as goal
 

@@ -1,15 +1,7 @@
-use Rattle.std.proofs.Common.{ℕ, ◌-◌, ◌<◌, List, length, reverse, take, ap, subst, sym, ◌∙◌, arith}
-use Rattle.std.proofs.lemmas.List.{length-reverse}
-use Rattle.bbm_oracle_tags.specs.declared.holding.Holding.{Holding}
-use Rattle.bbm_oracle_patterns.specs.Kept.{notes_of}
-use Rattle.bbm_oracle_trees.specs.Past.{notes}
-use Rattle.bbm_rules.specs.Claims.Trust.{Patterns}
-use Rattle.bbm_rules.specs.Covers.{note, noted}
-use Rattle.bbm_rules.specs.Prelude.{Event, Dsb}
-use Rattle.bbm_certify.specs.DueAt.{AreDue as ArePlaces, IsNewest}
-use Rattle.bbm_certify.specs.Made.{AreDue, HasTaken}
-use Rattle.bbm_certify.specs.Orders.{Adds}
-use Rattle.bbm_certify.specs.Taken.{AreTaken}
+use Rattle.bbm_certify.proofs.Common.{Holding, notes_of, notes, IsNewest, AreDue, HasTaken, Adds, AreTaken}
+use Rattle.bbm_rules.proofs.Common.{ℕ, ◌-◌, ◌<◌, List, length, reverse, take, ap, subst, sym, ◌∙◌, arith}
+use Rattle.bbm_rules.proofs.Common.{length-reverse, Patterns, note, noted, Event, Dsb}
+use Rattle.bbm_certify.specs.DueAt.{AreDue as ArePlaces}
 use Rattle.bbm_certify.proofs.Finished.{due_here, length_events, newest_is}
 use Rattle.bbm_certify.proofs.making.Making.due_at_dsb.Goals as goal
 

@@ -1,4 +1,4 @@
-use Rattle.std.proofs.Common.{◌<◌, suc, length, ap, ◌∙◌, arith}
+use Rattle.bbm_rules.proofs.Common.{◌<◌, suc, length, ap, ◌∙◌, arith}
 use Rattle.bbm_certify.proofs.Finished.{length_notes, making_next}
 use Rattle.bbm_certify.proofs.making.Making.take.Goals as goal
 

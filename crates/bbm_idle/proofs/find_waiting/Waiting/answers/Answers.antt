@@ -1,4 +1,4 @@
-use Rattle.std.proofs.Common.{Bool, ◌&&◌, ◌||◌, sym, ap, ◌∙◌}
+use Rattle.bbm_rules.proofs.Common.{Bool, ◌&&◌, ◌||◌, sym, ap, ◌∙◌}
 use Rattle.bbm_regimes.specs.PeMask.{pe_in}
 use Rattle.bbm_idle.proofs.FindWaiting.{answered_by}
 use Rattle.bbm_idle.proofs.find_waiting.Waiting.answers.Goals as goal

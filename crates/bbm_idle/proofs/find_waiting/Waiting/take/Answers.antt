@@ -1,4 +1,4 @@
-use Rattle.std.proofs.Common.{true, false}
+use Rattle.bbm_rules.proofs.Common.{true, false}
 use Rattle.bbm_idle.proofs.FindWaiting.{waits_kept}
 use Rattle.bbm_idle.proofs.find_waiting.Waiting.take.Goals as goal
 

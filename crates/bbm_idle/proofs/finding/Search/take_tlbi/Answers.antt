@@ -1,15 +1,7 @@
-use Rattle.std.proofs.Common.{◌≡◌, ℕ, Bool, List, reverse, sym, ap, ◌∙◌}
-use Rattle.std.proofs.lemmas.Result.{IfOk-weaker}
+use Rattle.bbm_idle.proofs.Common.{notes_of, notes, needed_by, place_adds, is_needed, Seat}
+use Rattle.bbm_rules.proofs.Common.{◌≡◌, ℕ, Bool, List, reverse, sym, ap, ◌∙◌, IfOk-weaker, Cover, cover_at, note, any}
+use Rattle.bbm_rules.proofs.Common.{some_pe, Heading}
 use Rattle.bbm_regimes.specs.PeMask.{pe_in}
-use Rattle.bbm_tlbi_scope.specs.declared.entry.Cover.{Cover}
-use Rattle.bbm_rules.specs.Covers.{cover_at, note}
-use Rattle.bbm_rules.specs.Lists.{any, some_pe}
-use Rattle.bbm_rules.specs.Prelude.{Heading}
-use Rattle.bbm_oracle_patterns.specs.Kept.{notes_of}
-use Rattle.bbm_oracle_trees.specs.Past.{notes}
-use Rattle.bbm_idle.specs.Finding.{needed_by, place_adds}
-use Rattle.bbm_idle.specs.Idle.{is_needed}
-use Rattle.bbm_idle.specs.declared.find_places.Seat.{Seat}
 use Rattle.bbm_idle.proofs.FindPlaces.{adds_stand, needed_is}
 use Rattle.bbm_idle.proofs.finding.Search.take_tlbi.Goals as goal
 

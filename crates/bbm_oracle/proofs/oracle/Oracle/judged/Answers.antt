@@ -1,8 +1,5 @@
-use Rattle.std.proofs.Common.{subst}
-use Rattle.bbm_rules.specs.Answers.{Answers}
+use Rattle.bbm_rules.proofs.Common.{subst, Answers, Trust, limit_of}
 use Rattle.bbm_rules.specs.Broken.{broken}
-use Rattle.bbm_rules.specs.Claims.{Trust}
-use Rattle.bbm_rules.specs.Limits.{limit_of}
 use Rattle.bbm_oracle.proofs.oracle.Oracle.judged.Goals as goal
 
 pub returns : goal.returns

@@ -1,5 +1,4 @@
-use Rattle.std.proofs.Common.{◌∙◌, ap}
-use Rattle.bbm_rules.specs.Claims.{Trust}
+use Rattle.bbm_rules.proofs.Common.{◌∙◌, ap, Trust}
 use Rattle.bbm_rules.specs.Phases.{restless_of}
 use Rattle.bbm_oracle.proofs.oracle.OracleChecker.restless.Goals as goal
 

@@ -1,4 +1,4 @@
-use Rattle.std.proofs.Common.{◌≡◌, drop}
+use Rattle.bbm_rules.proofs.Common.{◌≡◌, drop}
 use Rattle.bbm_oracle_patterns.specs.Kept.{cover_in}
 use Rattle.bbm_oracle_patterns.proofs.kept.Kept.cover.Given as goal
 

@@ -1,4 +1,4 @@
-use Rattle.std.proofs.Common.{ℕ, ap, ◌∙◌, ◌&&◌, ◌||◌, nat_eq, arith}
+use Rattle.bbm_rules.proofs.Common.{ℕ, ap, ◌∙◌, ◌&&◌, ◌||◌, nat_eq, arith}
 use Rattle.bbm_regimes.specs.PeMask.{pe_in}
 use Rattle.bbm_oracle_patterns.specs.Relation.{related, row_has}
 use Rattle.bbm_oracle_patterns.proofs.Rows.{rows_add}

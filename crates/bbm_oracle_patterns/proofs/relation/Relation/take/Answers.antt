@@ -1,4 +1,4 @@
-use Rattle.std.proofs.Common.{ℕ, ap, ◌∙◌, ◌&&◌, not, nat_eq, arith}
+use Rattle.bbm_rules.proofs.Common.{ℕ, ap, ◌∙◌, ◌&&◌, not, nat_eq, arith}
 use Rattle.bbm_oracle_patterns.specs.Relation.{related, row_has}
 use Rattle.bbm_oracle_patterns.proofs.Rows.{row_is, rows_empty}
 use Rattle.bbm_oracle_patterns.proofs.relation.Relation.take.Goals as goal

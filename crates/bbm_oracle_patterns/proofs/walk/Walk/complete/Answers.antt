@@ -1,5 +1,4 @@
-use Rattle.std.proofs.Common.{Bool, ap, ◌∙◌, ◌&&◌, ◌||◌, true, false}
-use Rattle.bbm_barriers.specs.Options.{answers}
+use Rattle.bbm_rules.proofs.Common.{Bool, ap, ◌∙◌, ◌&&◌, ◌||◌, true, false, answers}
 use Rattle.bbm_regimes.specs.PeMask.{pe_in}
 use Rattle.bbm_oracle_patterns.specs.Relation.{is_open}
 use Rattle.bbm_oracle_patterns.proofs.Walks.{walk_dsb}

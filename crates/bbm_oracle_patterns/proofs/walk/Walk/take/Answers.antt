@@ -1,6 +1,4 @@
-use Rattle.std.proofs.Common.{◌≡◌, suc, sym, ◌∙◌}
-use Rattle.std.proofs.lemmas.Bool.{eqb-true}
-use Rattle.bbm_rules.specs.Prelude.{Write, Dsb, Tlbi}
+use Rattle.bbm_rules.proofs.Common.{◌≡◌, suc, sym, ◌∙◌, eqb-true, Write, Dsb, Tlbi}
 use Rattle.bbm_oracle_patterns.specs.Kept.{cover_in}
 use Rattle.bbm_oracle_patterns.proofs.Walks.{event_is, walk_early}
 use Rattle.bbm_oracle_patterns.proofs.walk.Walk.take.Goals as goal

@@ -1,4 +1,4 @@
-use Rattle.std.proofs.Common.{◌∷◌, sym, ◌∙◌}
+use Rattle.bbm_rules.proofs.Common.{◌∷◌, sym, ◌∙◌}
 use Rattle.bbm_oracle_tags.specs.Moments.{IsMoment}
 use Rattle.bbm_oracle_tags.proofs.MomentLemmas.{reads-by, reads-some-by, same-reads, same-reads-some}
 use Rattle.bbm_oracle_tags.proofs.watch.Watch.look.Goals as goal

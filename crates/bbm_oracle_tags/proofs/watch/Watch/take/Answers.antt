@@ -1,6 +1,5 @@
-use Rattle.std.proofs.Common.{Bool, false, true, not, ◌&&◌, ◌||◌, reverse, ap, ◌∙◌}
+use Rattle.bbm_rules.proofs.Common.{Bool, false, true, not, ◌&&◌, ◌||◌, reverse, ap, ◌∙◌, PeMask}
 use Rattle.bbm_regimes.specs.PeMask.{pe_in}
-use Rattle.bbm_regimes.specs.declared.pe.PeMask.{PeMask}
 use Rattle.bbm_oracle_tags.specs.Watches.{awaits_after}
 use Rattle.bbm_oracle_tags.proofs.WatchLemmas.{watch-next}
 use Rattle.bbm_oracle_tags.proofs.watch.Watch.take.Goals as goal

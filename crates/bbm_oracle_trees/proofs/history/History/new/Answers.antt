@@ -1,4 +1,4 @@
-use Rattle.std.proofs.Common.{refl}
+use Rattle.bbm_rules.proofs.Common.{refl}
 use Rattle.bbm_rules.specs.Tree.{tree}
 use Rattle.bbm_oracle_trees.proofs.history.History.new.Goals as goal
 

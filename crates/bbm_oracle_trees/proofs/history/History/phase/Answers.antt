@@ -1,9 +1,5 @@
-use Rattle.std.proofs.Common.{◌≡◌, Some, None, ap, sym, ◌∙◌}
+use Rattle.bbm_rules.proofs.Common.{◌≡◌, Some, None, ap, sym, ◌∙◌, events_of, page_of, node_of, value_of}
 use Rattle.std.specs.Option.{option_copied}
-use Rattle.bbm_rules.specs.Notes.{events_of}
-use Rattle.bbm_rules.specs.Places.{page_of}
-use Rattle.bbm_rules.specs.Tree.{node_of}
-use Rattle.bbm_rules.specs.Values.{value_of}
 use Rattle.bbm_oracle_patterns.specs.PlacePhases.{phase_at}
 use Rattle.bbm_oracle_trees.specs.Past.{notes}
 use Rattle.bbm_oracle_trees.proofs.Phasing.{phase_at_node, phase_nowhere, phase_stands}

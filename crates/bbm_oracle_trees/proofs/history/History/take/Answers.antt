@@ -1,4 +1,4 @@
-use Rattle.std.proofs.Common.{◌∙◌, ap, length, sym}
+use Rattle.bbm_rules.proofs.Common.{◌∙◌, ap, length, sym}
 use Rattle.bbm_oracle_patterns.specs.Kept.{note_of, notes_of}
 use Rattle.bbm_oracle_trees.specs.Past.{Past}
 use Rattle.bbm_oracle_trees.proofs.Linking.{trees_stay}

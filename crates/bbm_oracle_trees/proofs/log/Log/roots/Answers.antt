@@ -1,4 +1,4 @@
-use Rattle.std.proofs.Common.{reverse}
+use Rattle.bbm_rules.proofs.Common.{reverse}
 use Rattle.bbm_oracle_trees.proofs.Fitting.{found_fit}
 use Rattle.bbm_oracle_trees.proofs.log.Log.roots.Goals as goal
 

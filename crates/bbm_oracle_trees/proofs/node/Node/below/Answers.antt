@@ -1,5 +1,4 @@
-use Rattle.std.proofs.Common.{◌≡◌, ◌<◌, ◌+◌, ◌*◌, arith}
-use Rattle.bbm_rules.specs.Places.{index_of}
+use Rattle.bbm_rules.proofs.Common.{◌≡◌, ◌<◌, ◌+◌, ◌*◌, arith, index_of}
 use Rattle.bbm_regimes.specs.World.{input_pages}
 use Rattle.bbm_oracle_trees.proofs.Pages.{below_fits}
 use Rattle.bbm_oracle_trees.proofs.node.Node.below.Goals as goal

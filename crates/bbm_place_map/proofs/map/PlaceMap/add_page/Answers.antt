@@ -1,8 +1,8 @@
-use Rattle.std.proofs.Common.{refl, inr, nat_eq, arith, vec_len}
-use Rattle.indexmap.specs.IndexMap.{get}
+use Rattle.bbm_place_map.proofs.Common.{refl, inr, nat_eq, arith, vec_len, get}
 use Rattle.bbm_place_map.specs.Map.{is_tracked, marks_at, pends_at, value_at}
 use Rattle.bbm_place_map.proofs.Listing.{listed_fewer}
-use Rattle.bbm_place_map.proofs.Tracking.{marks_then, numbered_then, parted_then, pends_then, placed_then, tracked_then, values_then}
+use Rattle.bbm_place_map.proofs.Tracking.{marks_then, numbered_then, parted_then, pends_then, placed_then, tracked_then}
+use Rattle.bbm_place_map.proofs.Tracking.{values_then}
 use Rattle.bbm_place_map.proofs.map.PlaceMap.add_page.Goals as goal
 
 pub invariant_of-self : goal.invariant_of-self

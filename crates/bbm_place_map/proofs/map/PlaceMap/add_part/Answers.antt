@@ -1,7 +1,8 @@
-use Rattle.std.proofs.Common.{refl, arith, inr, vec_len}
+use Rattle.bbm_place_map.proofs.Common.{refl, arith, inr, vec_len}
 use Rattle.bbm_place_map.specs.Map.{IsSeat, is_tracked, marks_at, pends_at, restless_in, restless_place, value_at}
 use Rattle.bbm_place_map.proofs.Listing.{by_slots, listed_fewer}
-use Rattle.bbm_place_map.proofs.Parts.{cell_new, cells_room, marks_new, number_within, parted_fewer, parted_new, pends_new, placed_new}
+use Rattle.bbm_place_map.proofs.Parts.{cell_new, cells_room, marks_new, number_within, parted_fewer, parted_new}
+use Rattle.bbm_place_map.proofs.Parts.{pends_new, placed_new}
 use Rattle.bbm_place_map.proofs.map.PlaceMap.add_part.Goals as goal
 
 pub add_cells-requires : goal.add_cells-requires

@@ -1,5 +1,4 @@
-use Rattle.std.proofs.Common.{ℕ, List, ap, sym, ◌∙◌}
-use Rattle.bbm_place_map.specs.Cells.{cell_by}
+use Rattle.bbm_place_map.proofs.Common.{ℕ, List, ap, sym, ◌∙◌, cell_by}
 use Rattle.bbm_place_map.specs.Map.{IsSeat}
 use Rattle.bbm_place_map.proofs.Parts.{cell_here}
 use Rattle.bbm_place_map.proofs.map.PlaceMap.cell.Goals as goal

@@ -1,9 +1,6 @@
-use Rattle.std.proofs.Common.{◌≡◌, Option, None, ap, sym, subst, ◌∙◌}
-use Rattle.bbm_entry_state.specs.EntryCalls.{Written}
-use Rattle.bbm_entry_state.specs.declared.marks.Marks.{Marks}
-use Rattle.bbm_entry_state.specs.declared.state.EntryState.{EntryState}
-use Rattle.bbm_place_map.specs.Map.{IsSeat, marks_at, pends_at, state_at}
-use Rattle.bbm_place_map.specs.States.{state_from}
+use Rattle.bbm_place_map.proofs.Common.{◌≡◌, Option, None, ap, sym, subst, ◌∙◌, Written, Marks, EntryState, state_at}
+use Rattle.bbm_place_map.proofs.Common.{state_from}
+use Rattle.bbm_place_map.specs.Map.{IsSeat, marks_at, pends_at}
 use Rattle.bbm_place_map.proofs.Parts.{has_value, read_marks}
 use Rattle.bbm_place_map.proofs.map.PlaceMap.clear_at.Goals as goal
 

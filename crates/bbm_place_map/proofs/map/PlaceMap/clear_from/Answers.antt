@@ -1,7 +1,4 @@
-use Rattle.std.proofs.Common.{ap}
-use Rattle.bbm_entry_state.specs.Points.{is_broken}
-use Rattle.bbm_entry_state.specs.declared.state.EntryState.{EntryState}
-use Rattle.bbm_place_map.specs.States.{marks_of_state}
+use Rattle.bbm_place_map.proofs.Common.{ap, is_broken, EntryState, marks_of_state}
 use Rattle.bbm_place_map.proofs.Wholes.{leaves_whole}
 use Rattle.bbm_place_map.proofs.map.PlaceMap.clear_from.Goals as goal
 

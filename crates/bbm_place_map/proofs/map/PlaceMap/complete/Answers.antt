@@ -1,12 +1,8 @@
-use Rattle.std.proofs.Common.{◌≡◌, true, false, Some, refl, ℕ, nat_eq, sym, ◌∙◌, arith, vec_len, subst}
-use Rattle.std.proofs.lemmas.Bool.{eqb-false, eqb-true}
+use Rattle.bbm_place_map.proofs.Common.{◌≡◌, true, false, Some, refl, ℕ, nat_eq, sym, ◌∙◌, arith, vec_len, subst}
+use Rattle.bbm_place_map.proofs.Common.{eqb-true, get, Marks, marks_in, is_clean, Parted, index_of, starts}
+use Rattle.std.proofs.lemmas.Bool.{eqb-false}
 use Rattle.std.proofs.lemmas.List.{nil_from_length}
-use Rattle.indexmap.specs.IndexMap.{get}
 use Rattle.bbm_place_map.specs.Map.{marks_at, pends_at}
-use Rattle.bbm_entry_state.specs.declared.marks.Marks.{Marks}
-use Rattle.bbm_place_map.specs.Parts.{marks_in}
-use Rattle.bbm_place_map.specs.Works.{is_clean}
-use Rattle.bbm_place_map.specs.Sound.{Parted, index_of, starts}
 use Rattle.bbm_place_map.proofs.Answering.{completes_whole}
 use Rattle.bbm_place_map.proofs.Completed.{completed_at, others_at, kept_at, lost_at}
 use Rattle.bbm_place_map.proofs.Listing.{listed_begun, listed_completed, quiet_of}

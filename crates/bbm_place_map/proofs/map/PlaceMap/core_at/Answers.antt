@@ -1,8 +1,5 @@
-use Rattle.std.proofs.Common.{Option, ap, ◌∙◌}
-use Rattle.bbm_entry_state.specs.Points.{core_in}
-use Rattle.bbm_entry_state.specs.declared.marks.Marks.{Marks}
+use Rattle.bbm_place_map.proofs.Common.{Option, ap, ◌∙◌, core_in, Marks, state_from}
 use Rattle.bbm_place_map.specs.Map.{IsSeat}
-use Rattle.bbm_place_map.specs.States.{state_from}
 use Rattle.bbm_place_map.proofs.Parts.{has_value, read_marks}
 use Rattle.bbm_place_map.proofs.map.PlaceMap.core_at.Goals as goal
 

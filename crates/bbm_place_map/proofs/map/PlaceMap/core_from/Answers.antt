@@ -1,11 +1,6 @@
-use Rattle.std.proofs.Common.{◌≡◌, ℕ, ◌+◌, ◌*◌, Option, nat_eq, ap, ◌∙◌, vec_len}
-use Rattle.indexmap.specs.IndexMap.{get}
-use Rattle.bbm_descriptor.specs.Descriptor.{core_of}
-use Rattle.bbm_descriptor.specs.declared.desc.Core.{Core}
-use Rattle.bbm_entry_state.specs.Points.{core_in}
-use Rattle.bbm_entry_state.specs.declared.marks.Marks.{Marks}
+use Rattle.bbm_place_map.proofs.Common.{◌≡◌, ℕ, ◌+◌, ◌*◌, Option, nat_eq, ap, ◌∙◌, vec_len, get, core_of, Core, core_in}
+use Rattle.bbm_place_map.proofs.Common.{Marks, state_from}
 use Rattle.bbm_place_map.specs.Map.{IsSeat, marks_at, value_at}
-use Rattle.bbm_place_map.specs.States.{state_from}
 use Rattle.bbm_place_map.proofs.Parts.{has_value, read_marks}
 use Rattle.bbm_place_map.proofs.Places.{index_behind}
 use Rattle.bbm_place_map.proofs.map.PlaceMap.core_from.Goals as goal

@@ -1,5 +1,4 @@
-use Rattle.std.proofs.Common.{Option, ap, is_some, ◌∙◌}
-use Rattle.bbm_entry_state.specs.declared.marks.Marks.{Marks}
+use Rattle.bbm_place_map.proofs.Common.{Option, ap, is_some, ◌∙◌, Marks}
 use Rattle.bbm_place_map.specs.Map.{IsSeat}
 use Rattle.bbm_place_map.proofs.Parts.{has_value, read_marks}
 use Rattle.bbm_place_map.proofs.map.PlaceMap.is_broken_at.Goals as goal

@@ -1,8 +1,5 @@
-use Rattle.std.proofs.Common.{ℕ, refl, nat_eq, arith, ◌∙◌, slice_get}
-use Rattle.indexmap.specs.IndexMap.{get}
-use Rattle.bbm_place_map.specs.Sound.{starts}
+use Rattle.bbm_place_map.proofs.Common.{ℕ, refl, nat_eq, arith, ◌∙◌, slice_get, get, starts, Keeps, NotesAt}
 use Rattle.bbm_place_map.specs.Map.{marks_at, pends_at, restless_in, restless_place}
-use Rattle.bbm_place_map.specs.PlaceNotes.{Keeps, NotesAt}
 use Rattle.bbm_place_map.proofs.Advancing.{seat_kept}
 use Rattle.bbm_place_map.proofs.Issued.{noted_by_number}
 use Rattle.bbm_place_map.proofs.Seats.{linked_seated, placed_seated}

@@ -1,11 +1,6 @@
-use Rattle.std.proofs.Common.{ℕ, ◌≡◌, List, refl, nat_eq, arith, ◌∙◌, vec_len, slice_get}
-use Rattle.indexmap.specs.IndexMap.{get}
-use Rattle.bbm_place_map.specs.Each.{Advances}
-use Rattle.bbm_place_map.specs.Sound.{starts}
-use Rattle.bbm_place_map.specs.declared.entry.Entry.{Entry}
+use Rattle.bbm_place_map.proofs.Common.{ℕ, ◌≡◌, List, refl, nat_eq, arith, ◌∙◌, vec_len, slice_get, get, Advances}
+use Rattle.bbm_place_map.proofs.Common.{starts, Entry, Keeps, NotesFound, seat_at}
 use Rattle.bbm_place_map.specs.Map.{marks_at, pends_at}
-use Rattle.bbm_place_map.specs.PlaceNotes.{Keeps, NotesFound}
-use Rattle.bbm_place_map.specs.Entries.{seat_at}
 use Rattle.bbm_place_map.proofs.Advancing.{seat_kept}
 use Rattle.bbm_place_map.proofs.Issued.{noted_found, unnoted_found}
 use Rattle.bbm_place_map.proofs.Seats.{linked_seated, placed_seated}

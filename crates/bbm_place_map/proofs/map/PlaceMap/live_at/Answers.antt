@@ -1,9 +1,5 @@
-use Rattle.std.proofs.Common.{ℕ, nat_eq, ap, sym, ◌∙◌, arith}
-use Rattle.indexmap.specs.IndexMap.{get}
-use Rattle.bbm_descriptor.specs.Descriptor.{core_of}
-use Rattle.bbm_place_map.specs.Cells.{value_in}
+use Rattle.bbm_place_map.proofs.Common.{ℕ, nat_eq, ap, sym, ◌∙◌, arith, get, core_of, value_in, at_index}
 use Rattle.bbm_place_map.specs.Map.{value_at, IsSeat}
-use Rattle.bbm_place_map.specs.Sound.{at_index}
 use Rattle.bbm_place_map.proofs.Edits.{value_read}
 use Rattle.bbm_place_map.proofs.Places.{index_inside}
 use Rattle.bbm_place_map.proofs.map.PlaceMap.live_at.Goals as goal

@@ -1,9 +1,6 @@
-use Rattle.std.proofs.Common.{ℕ, None, Some, nat_eq, ap, sym, subst, ◌∙◌, arith, vec_len}
-use Rattle.indexmap.specs.IndexMap.{get}
-use Rattle.bbm_place_map.specs.Entries.{no_pends}
-use Rattle.bbm_place_map.specs.Map.{marks_at, pends_at, place_cell}
-use Rattle.bbm_place_map.specs.Parts.{marks_in, pends_for}
-use Rattle.bbm_place_map.specs.Sound.{Parted, at_index, starts}
+use Rattle.bbm_place_map.proofs.Common.{ℕ, None, Some, nat_eq, ap, sym, subst, ◌∙◌, arith, vec_len, get, no_pends}
+use Rattle.bbm_place_map.proofs.Common.{place_cell, marks_in, pends_for, Parted, at_index, starts}
+use Rattle.bbm_place_map.specs.Map.{marks_at, pends_at}
 use Rattle.bbm_place_map.proofs.Listing.{listed_broken}
 use Rattle.bbm_place_map.proofs.Places.{at_place, at_same, index_inside}
 use Rattle.bbm_place_map.proofs.map.PlaceMap.mark.Goals as goal

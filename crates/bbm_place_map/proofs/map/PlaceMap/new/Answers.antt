@@ -1,7 +1,5 @@
-use Rattle.std.proofs.Common.{nat_eq, arith}
-use Rattle.indexmap.specs.IndexMap.{get}
+use Rattle.bbm_place_map.proofs.Common.{nat_eq, arith, get, index_of, starts}
 use Rattle.bbm_place_map.specs.Map.{pends_at}
-use Rattle.bbm_place_map.specs.Sound.{index_of, starts}
 use Rattle.bbm_place_map.proofs.Idle.{none_kept}
 use Rattle.bbm_place_map.proofs.Listing.{listed_none}
 use Rattle.bbm_place_map.proofs.map.PlaceMap.new.Goals as goal

@@ -1,9 +1,5 @@
-use Rattle.std.proofs.Common.{nat_eq, ap, sym, ◌∙◌}
-use Rattle.indexmap.specs.IndexMap.{get}
-use Rattle.bbm_entry_state.specs.Points.{waits}
-use Rattle.bbm_entry_state.specs.declared.pending.Pends.{Pends}
+use Rattle.bbm_place_map.proofs.Common.{nat_eq, ap, sym, ◌∙◌, get, waits, Pends, starts}
 use Rattle.bbm_place_map.specs.Map.{marks_at, pends_at}
-use Rattle.bbm_place_map.specs.Sound.{starts}
 use Rattle.bbm_place_map.proofs.Idle.{idle_from, nothing_waits}
 use Rattle.bbm_place_map.proofs.Parts.{has_value, none_pends, read_pends}
 use Rattle.bbm_place_map.proofs.Restless.{none_waits}

@@ -1,18 +1,11 @@
-use Rattle.std.proofs.Common.{ℕ, nat_eq, arith, slice_get, ◌≡◌, ◌⊎◌, ◌<◌, List, Some, refl, subst}
-use Rattle.indexmap.specs.IndexMap.{get}
-use Rattle.bbm_place_map.specs.declared.orders.Barrier.{Barrier}
-use Rattle.bbm_place_map.specs.Each.{Advances, Publishes}
+use Rattle.bbm_place_map.proofs.Common.{ℕ, nat_eq, arith, slice_get, ◌≡◌, ◌⊎◌, ◌<◌, List, Some, refl, subst, get}
+use Rattle.bbm_place_map.proofs.Common.{Barrier, Advances, Publishes, Marks, Entry, marks_in, index_of, starts}
+use Rattle.bbm_place_map.proofs.Common.{HoldsFor, IsTold, seat_at}
 use Rattle.bbm_place_map.specs.Map.{marks_at, pends_at, restless_in, restless_place}
-use Rattle.bbm_entry_state.specs.declared.marks.Marks.{Marks}
-use Rattle.bbm_place_map.specs.declared.entry.Entry.{Entry}
-use Rattle.bbm_place_map.specs.Parts.{marks_in}
-use Rattle.bbm_place_map.specs.Sound.{index_of, starts}
-use Rattle.bbm_place_map.specs.Works.{HoldsFor, IsTold}
 use Rattle.bbm_place_map.proofs.Knowing.{told_entry}
 use Rattle.bbm_place_map.proofs.Advancing.{seat_kept, place_kept}
 use Rattle.bbm_place_map.proofs.Published.{published_at, pends_at_same}
 use Rattle.bbm_place_map.proofs.Seats.{linked_seated, placed_seated}
-use Rattle.bbm_place_map.specs.Entries.{seat_at}
 use Rattle.bbm_place_map.proofs.Listing.{listed_begun, listed_published, told_of}
 use Rattle.bbm_place_map.proofs.Made.{barrier}
 use Rattle.bbm_place_map.proofs.map.PlaceMap.publish.Goals as goal

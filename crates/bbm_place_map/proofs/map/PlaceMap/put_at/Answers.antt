@@ -1,8 +1,5 @@
-use Rattle.std.proofs.Common.{ℕ, nat_eq, refl, arith, sym, subst, vec_len}
-use Rattle.indexmap.specs.IndexMap.{get}
-use Rattle.bbm_place_map.specs.Cells.{value_in}
+use Rattle.bbm_place_map.proofs.Common.{ℕ, nat_eq, refl, arith, sym, subst, vec_len, get, value_in, Numbered, Parted}
 use Rattle.bbm_place_map.specs.Map.{IsSeat, is_tracked, value_at}
-use Rattle.bbm_place_map.specs.Sound.{Numbered, Parted}
 use Rattle.bbm_place_map.proofs.Places.{at_place}
 use Rattle.bbm_place_map.proofs.map.PlaceMap.put_at.Goals as goal
 

@@ -1,9 +1,6 @@
-use Rattle.std.proofs.Common.{List, ℕ, None, Some, Option, nat_eq, ap, sym, ◌∙◌, if◌then◌else◌}
-use Rattle.bbm_entry_state.specs.declared.marks.Marks.{Marks}
+use Rattle.bbm_place_map.proofs.Common.{List, ℕ, None, Some, Option, nat_eq, ap, sym, ◌∙◌, if◌then◌else◌, Marks}
+use Rattle.bbm_place_map.proofs.Common.{marks_in, at_index, Entry}
 use Rattle.bbm_place_map.specs.Map.{is_tracked, marks_at, pends_at, value_at}
-use Rattle.bbm_place_map.specs.Parts.{marks_in}
-use Rattle.bbm_place_map.specs.Sound.{at_index}
-use Rattle.bbm_place_map.specs.declared.entry.Entry.{Entry}
 use Rattle.bbm_place_map.proofs.map.PlaceMap.put_broken.Goals as goal
 
 pub mark-requires-clause-before : goal.mark-requires-clause-before

@@ -1,5 +1,4 @@
-use Rattle.std.proofs.Common.{ℕ, Some, Option, nat_eq, ap, sym, ◌∙◌, if◌then◌else◌}
-use Rattle.bbm_entry_state.specs.declared.marks.Marks.{Marks}
+use Rattle.bbm_place_map.proofs.Common.{ℕ, Some, Option, nat_eq, ap, sym, ◌∙◌, if◌then◌else◌, Marks}
 use Rattle.bbm_place_map.proofs.map.PlaceMap.put_fresh.Goals as goal
 
 pub mark-requires-clause-before : goal.mark-requires-clause-before

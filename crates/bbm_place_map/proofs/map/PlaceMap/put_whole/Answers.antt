@@ -1,10 +1,6 @@
-use Rattle.std.proofs.Common.{ℕ, nat_eq, refl, sym, arith, subst, ◌∙◌, vec_len}
-use Rattle.std.proofs.lemmas.Bool.{cond-false, cond-true, eq-eqb}
-use Rattle.indexmap.specs.IndexMap.{get}
-use Rattle.bbm_place_map.specs.Cells.{cell_by, is_at, value_in}
-use Rattle.bbm_place_map.specs.Entries.{entry_in, no_pends}
+use Rattle.bbm_place_map.proofs.Common.{ℕ, nat_eq, refl, sym, arith, subst, ◌∙◌, vec_len, cond-false, cond-true, eq-eqb}
+use Rattle.bbm_place_map.proofs.Common.{get, cell_by, is_at, value_in, entry_in, no_pends, Numbered, Parted, starts}
 use Rattle.bbm_place_map.specs.Map.{IsSeat, is_tracked, marks_at, pends_at, value_at}
-use Rattle.bbm_place_map.specs.Sound.{Numbered, Parted, starts}
 use Rattle.bbm_place_map.proofs.Idle.{idle_from}
 use Rattle.bbm_place_map.proofs.Listing.{gone_or_same, listed_fewer}
 use Rattle.bbm_place_map.proofs.Clearing.{place_clears, place_marks, place_pends}

@@ -1,11 +1,7 @@
-use Rattle.std.proofs.Common.{ℕ, ◌/◌, None, refl, nat_eq, ap, sym, arith, subst, ◌∙◌}
-use Rattle.std.proofs.Common.{inl, inr, vec_len}
-use Rattle.std.proofs.lemmas.Bool.{cases_Bool, cond-false, cond-true, eqb-true}
-use Rattle.indexmap.specs.IndexMap.{get}
-use Rattle.bbm_place_map.specs.Cells.{in_part, slot_in}
-use Rattle.bbm_place_map.specs.Entries.{entry_in, no_pends}
-use Rattle.bbm_place_map.specs.Map.{marks_at, page_of, pends_at}
-use Rattle.bbm_place_map.specs.Sound.{Parted, starts}
+use Rattle.bbm_place_map.proofs.Common.{ℕ, ◌/◌, None, refl, nat_eq, ap, sym, arith, subst, ◌∙◌, inl, inr, vec_len}
+use Rattle.bbm_place_map.proofs.Common.{cases_Bool, cond-false, cond-true, eqb-true, get, in_part, slot_in, entry_in}
+use Rattle.bbm_place_map.proofs.Common.{no_pends, page_of, Parted, starts}
+use Rattle.bbm_place_map.specs.Map.{marks_at, pends_at}
 use Rattle.bbm_place_map.proofs.Idle.{idle_from}
 use Rattle.bbm_place_map.proofs.Listing.{gone_or_same, listed_fewer}
 use Rattle.bbm_place_map.proofs.Clearing.{page_clears, page_marks, page_pends}

@@ -1,6 +1,4 @@
-use Rattle.std.proofs.Common.{nat_eq, vec_len}
-use Rattle.indexmap.specs.IndexMap.{get}
-use Rattle.bbm_place_map.specs.Sound.{starts}
+use Rattle.bbm_place_map.proofs.Common.{nat_eq, vec_len, get, starts}
 use Rattle.bbm_place_map.specs.Map.{marks_at, pends_at, restless_in, restless_place}
 use Rattle.bbm_place_map.proofs.Idle.{idle_from}
 use Rattle.bbm_place_map.proofs.Restless.{place_broken, place_each, place_once, none_waits}

@@ -1,7 +1,4 @@
-use Rattle.std.proofs.Common.{nat_eq, ap, is_some, Option}
-use Rattle.indexmap.specs.IndexMap.{get}
-use Rattle.bbm_place_map.specs.Sound.{starts}
-use Rattle.bbm_entry_state.specs.declared.marks.Marks.{Marks}
+use Rattle.bbm_place_map.proofs.Common.{nat_eq, ap, is_some, Option, get, starts, Marks}
 use Rattle.bbm_place_map.specs.Map.{marks_at, restless_in}
 use Rattle.bbm_place_map.proofs.Leaving.{entry_read}
 use Rattle.bbm_place_map.proofs.Restless.{marks_are}

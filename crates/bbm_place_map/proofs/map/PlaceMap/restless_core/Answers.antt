@@ -1,8 +1,5 @@
-use Rattle.std.proofs.Common.{nat_eq, refl, ap, ◌∙◌}
-use Rattle.indexmap.specs.IndexMap.{get}
-use Rattle.bbm_place_map.specs.Sound.{starts}
+use Rattle.bbm_place_map.proofs.Common.{nat_eq, refl, ap, ◌∙◌, get, starts, Entry}
 use Rattle.bbm_place_map.specs.Map.{marks_at, restless_in, restless_place}
-use Rattle.bbm_place_map.specs.declared.entry.Entry.{Entry}
 use Rattle.bbm_place_map.proofs.Leaving.{entry_read}
 use Rattle.bbm_place_map.proofs.Restless.{marks_are, marks_here, place_is}
 use Rattle.bbm_place_map.proofs.map.PlaceMap.restless_core.Goals as goal

@@ -1,7 +1,5 @@
-use Rattle.std.proofs.Common.{◌≡◌, ℕ, Option, Some, IfSome, subst}
-use Rattle.bbm_entry_state.specs.EntryStanding.{IsIdle}
+use Rattle.bbm_place_map.proofs.Common.{◌≡◌, ℕ, Option, Some, IfSome, subst, IsIdle, PlaceMap}
 use Rattle.bbm_place_map.specs.Map.{pends_at}
-use Rattle.bbm_place_map.specs.declared.map.PlaceMap.{PlaceMap}
 use Rattle.bbm_place_map.specs.declared.seat.Seat.{Seat}
 use Rattle.bbm_place_map.proofs.map.PlaceMap.set.Goals as goal
 

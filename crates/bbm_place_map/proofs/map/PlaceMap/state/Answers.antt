@@ -1,6 +1,4 @@
-use Rattle.std.proofs.Common.{Option, ap, sym, ◌∙◌}
-use Rattle.bbm_entry_state.specs.declared.marks.Marks.{Marks}
-use Rattle.bbm_place_map.specs.States.{state_from}
+use Rattle.bbm_place_map.proofs.Common.{Option, ap, sym, ◌∙◌, Marks, state_from}
 use Rattle.bbm_place_map.proofs.Parts.{has_value, none_marks, read_marks}
 use Rattle.bbm_place_map.proofs.map.PlaceMap.state.Goals as goal
 

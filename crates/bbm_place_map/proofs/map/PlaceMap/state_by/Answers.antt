@@ -1,11 +1,6 @@
-use Rattle.std.proofs.Common.{ℕ, Option, ap, sym, ◌∙◌, arith}
-use Rattle.bbm_descriptor.specs.Descriptor.{core_of}
-use Rattle.bbm_descriptor.specs.declared.desc.Core.{Core}
-use Rattle.bbm_entry_state.specs.declared.marks.Marks.{Marks}
-use Rattle.bbm_place_map.specs.Cells.{value_in}
+use Rattle.bbm_place_map.proofs.Common.{ℕ, Option, ap, sym, ◌∙◌, arith, core_of, Core, Marks, value_in, at_index}
+use Rattle.bbm_place_map.proofs.Common.{state_from}
 use Rattle.bbm_place_map.specs.Map.{marks_at, value_at}
-use Rattle.bbm_place_map.specs.Sound.{at_index}
-use Rattle.bbm_place_map.specs.States.{state_from}
 use Rattle.bbm_place_map.proofs.Edits.{value_read}
 use Rattle.bbm_place_map.proofs.Parts.{has_value, read_marks}
 use Rattle.bbm_place_map.proofs.map.PlaceMap.state_by.Goals as goal

@@ -1,13 +1,8 @@
-use Rattle.std.proofs.Common.{◌≡◌, ℕ, ◌/◌, true, Option, None, refl, nat_eq, ap, sym, arith, subst, ◌∙◌}
-use Rattle.std.proofs.Common.{inl, inr, vec_len, if◌then◌else◌}
-use Rattle.std.proofs.lemmas.Bool.{cases_Bool, cond-false, cond-true, eqb-true}
-use Rattle.indexmap.specs.IndexMap.{get}
-use Rattle.indexmap.proofs.MapLemmas.{OnOk-map}
-use Rattle.bbm_place_map.specs.Cells.{in_part, slot_in, value_in}
-use Rattle.bbm_place_map.specs.Entries.{entry_in, no_pends}
-use Rattle.bbm_place_map.specs.Map.{marks_at, page_of, pends_at, value_at}
-use Rattle.bbm_place_map.specs.Sound.{Numbered, Parted, at_index, index_of, starts}
-use Rattle.bbm_place_map.specs.declared.map.PlaceMap.{PlaceMap}
+use Rattle.bbm_place_map.proofs.Common.{◌≡◌, ℕ, ◌/◌, true, Option, None, refl, nat_eq, ap, sym, arith, subst, ◌∙◌, inl}
+use Rattle.bbm_place_map.proofs.Common.{inr, vec_len, if◌then◌else◌, cases_Bool, cond-false, cond-true, eqb-true, get}
+use Rattle.bbm_place_map.proofs.Common.{OnOk-map, in_part, slot_in, value_in, entry_in, no_pends, page_of, Numbered}
+use Rattle.bbm_place_map.proofs.Common.{Parted, at_index, index_of, starts, PlaceMap}
+use Rattle.bbm_place_map.specs.Map.{marks_at, pends_at, value_at}
 use Rattle.bbm_place_map.proofs.Listing.{gone_or_same, listed_fewer}
 use Rattle.bbm_place_map.proofs.Clearing.{page_clears, page_marks, page_pends}
 use Rattle.bbm_place_map.proofs.Parts.{none_marks, part_within}

@@ -1,8 +1,5 @@
-use Rattle.std.proofs.Common.{◌+◌, nat_eq, ap, sym, ◌∙◌, arith, vec_len}
-use Rattle.indexmap.specs.IndexMap.{get}
-use Rattle.bbm_place_map.specs.Cells.{value_in}
+use Rattle.bbm_place_map.proofs.Common.{◌+◌, nat_eq, ap, sym, ◌∙◌, arith, vec_len, get, value_in, at_index}
 use Rattle.bbm_place_map.specs.Map.{value_at, IsSeat}
-use Rattle.bbm_place_map.specs.Sound.{at_index}
 use Rattle.bbm_place_map.proofs.Edits.{value_read}
 use Rattle.bbm_place_map.proofs.Places.{index_behind, page_inside}
 use Rattle.bbm_place_map.proofs.map.PlaceMap.value_from.Goals as goal

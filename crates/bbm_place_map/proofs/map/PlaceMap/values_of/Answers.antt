@@ -1,8 +1,6 @@
-use Rattle.std.proofs.Common.{ℕ, List, ◌+◌, nat_eq, ap, sym, ◌∙◌, arith, length, vec_len}
-use Rattle.indexmap.specs.IndexMap.{get}
-use Rattle.bbm_place_map.specs.Cells.{value_in}
+use Rattle.bbm_place_map.proofs.Common.{ℕ, List, ◌+◌, nat_eq, ap, sym, ◌∙◌, arith, length, vec_len, get, value_in}
+use Rattle.bbm_place_map.proofs.Common.{at_index}
 use Rattle.bbm_place_map.specs.Map.{IsSeat, value_at}
-use Rattle.bbm_place_map.specs.Sound.{at_index}
 use Rattle.bbm_place_map.proofs.Places.{index_behind, page_whole}
 use Rattle.bbm_place_map.proofs.map.PlaceMap.values_of.Goals as goal
 

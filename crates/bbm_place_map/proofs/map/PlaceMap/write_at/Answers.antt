@@ -1,8 +1,4 @@
-use Rattle.std.proofs.Common.{Option, refl, sym, subst}
-use Rattle.bbm_descriptor.specs.declared.desc.Core.{Core}
-use Rattle.bbm_entry_state.specs.EntryCalls.{Written}
-use Rattle.bbm_entry_state.specs.declared.state.EntryState.TheVariants.{Live}
-use Rattle.bbm_place_map.specs.Map.{state_at}
+use Rattle.bbm_place_map.proofs.Common.{Option, refl, sym, subst, Core, Written, Live, state_at}
 use Rattle.bbm_place_map.proofs.Wholes.{leaves_whole, made}
 use Rattle.bbm_place_map.proofs.map.PlaceMap.write_at.Goals as goal
 

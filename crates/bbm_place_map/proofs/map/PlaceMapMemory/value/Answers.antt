@@ -1,7 +1,5 @@
-use Rattle.std.proofs.Common.{ap, sym, ◌∙◌, arith}
-use Rattle.bbm_place_map.specs.Cells.{value_in}
+use Rattle.bbm_place_map.proofs.Common.{ap, sym, ◌∙◌, arith, value_in, at_index}
 use Rattle.bbm_place_map.specs.Map.{value_at}
-use Rattle.bbm_place_map.specs.Sound.{at_index}
 use Rattle.bbm_place_map.proofs.Edits.{value_read}
 use Rattle.bbm_place_map.proofs.map.PlaceMapMemory.value.Goals as goal
 

@@ -1,20 +1,10 @@
-use Rattle.std.proofs.Common.{◌≡◌, ◌≤◌, ◌<◌, ◌+◌, ◌-◌, ℕ, true, false, Some, refl, sym, ◌∙◌, ap, subst, arith}
-use Rattle.bbm_descriptor.specs.Descriptor.{core_of, desc_of}
-use Rattle.bbm_descriptor.specs.declared.desc.Core.{Core}
+use Rattle.bbm_replay.proofs.Common.{input_pages, Path, notes, asks_childless, asks_tags, view_of}
+use Rattle.bbm_rules.proofs.Common.{◌≡◌, ◌≤◌, ◌<◌, ◌+◌, ◌-◌, ℕ, true, false, Some, refl, sym, ◌∙◌, ap, subst, arith}
+use Rattle.bbm_rules.proofs.Common.{core_of, desc_of, Core, Extent, names_some, has_page, Patterns, page_of, tag_set}
+use Rattle.bbm_rules.proofs.Common.{tags_of, held_at, is_childless, region_of, region_start}
 use Rattle.bbm_place_map.specs.Map.{marks_at, value_at}
 use Rattle.bbm_tlbi_scope.specs.ScopeCovers as scopes
-use Rattle.bbm_regimes.specs.Extent.{Extent}
-use Rattle.bbm_regimes.specs.World.{input_pages}
-use Rattle.bbm_tlbi_scope.specs.Numbers.{names_some}
-use Rattle.bbm_tlbi_scope.specs.Operations.{has_page}
-use Rattle.bbm_rules.specs.Claims.Trust.{Patterns}
-use Rattle.bbm_rules.specs.Places.{page_of}
-use Rattle.bbm_rules.specs.Tags.{tag_set, tags_of}
-use Rattle.bbm_rules.specs.Tree.{held_at, is_childless, region_of, region_start}
-use Rattle.bbm_tree_index.specs.declared.role.Path.{Path}
-use Rattle.bbm_replay_trees.specs.Told.{notes}
-use Rattle.bbm_replay.specs.Covering.{Mismatches, asks_childless, asks_tags}
-use Rattle.bbm_replay.specs.ReplayStanding.{view_of}
+use Rattle.bbm_replay.specs.Covering.{Mismatches}
 use Rattle.bbm_replay.proofs.Asking.{alike, mismatched}
 use Rattle.bbm_replay.proofs.Covered.{core_of_marks, covered, global_is, held_of, same_by_truth, table_is}
 use Rattle.bbm_replay.proofs.Descents.{unnamed}

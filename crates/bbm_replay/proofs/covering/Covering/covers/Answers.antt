@@ -1,18 +1,9 @@
-use Rattle.std.proofs.Common.{◌≡◌, ◌<◌, ◌++◌, ◌∷◌, [], ℕ, false, List, Some, is_some, Option, sym, ◌∙◌, ap, arith}
-use Rattle.std.proofs.Common.{slice_get}
-use Rattle.std.proofs.Common.{true≢false, length, inl, inr}
-use Rattle.std.proofs.lemmas.Bool.{cases_lt}
-use Rattle.bbm_entry_state.specs.declared.marks.Marks.{Marks}
+use Rattle.bbm_replay.proofs.Common.{Marks, notes, MayBeIssued}
+use Rattle.bbm_rules.proofs.Common.{◌≡◌, ◌<◌, ◌++◌, ◌∷◌, [], ℕ, false, List, Some, is_some, Option, sym, ◌∙◌, ap, arith}
+use Rattle.bbm_rules.proofs.Common.{slice_get, true≢false, length, inl, inr, cases_lt, has_page, Cover, Patterns}
+use Rattle.bbm_rules.proofs.Common.{cover_at, page_of, Heading, Event, Tlbi, TlbiOp}
 use Rattle.bbm_place_map.specs.Map.{marks_at, restless_place}
-use Rattle.bbm_tlbi_scope.specs.Operations.{has_page}
-use Rattle.bbm_tlbi_scope.specs.declared.entry.Cover.{Cover}
-use Rattle.bbm_rules.specs.Claims.Trust.{Patterns}
-use Rattle.bbm_rules.specs.Covers.{cover_at}
-use Rattle.bbm_rules.specs.Places.{page_of}
-use Rattle.bbm_rules.specs.Prelude.{Heading, Event, Tlbi, TlbiOp}
 use Rattle.bbm_tree_index.specs.Index.{node_in}
-use Rattle.bbm_replay_trees.specs.Told.{notes}
-use Rattle.bbm_replay.specs.Covering.{MayBeIssued}
 use Rattle.bbm_replay.proofs.Findings.{at_end, before_end}
 use Rattle.bbm_replay.proofs.Found.{none_at}
 use Rattle.bbm_replay.proofs.SamePage.{page_alike}

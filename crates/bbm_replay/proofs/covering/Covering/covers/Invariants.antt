@@ -1,12 +1,7 @@
-use Rattle.std.proofs.Common.{◌≡◌, ℕ, ◌<◌, true, false, List, Some, is_some, length, slice_get}
+use Rattle.bbm_replay.proofs.Common.{notes, MayBeIssued}
+use Rattle.bbm_rules.proofs.Common.{◌≡◌, ℕ, ◌<◌, true, false, List, Some, is_some, length, slice_get, Patterns}
+use Rattle.bbm_rules.proofs.Common.{cover_at, page_of, has_page, Heading, Event, Tlbi, TlbiOp}
 use Rattle.bbm_place_map.specs.Map.{marks_at, restless_place}
-use Rattle.bbm_rules.specs.Claims.Trust.{Patterns}
-use Rattle.bbm_rules.specs.Covers.{cover_at}
-use Rattle.bbm_rules.specs.Places.{page_of}
-use Rattle.bbm_tlbi_scope.specs.Operations.{has_page}
-use Rattle.bbm_rules.specs.Prelude.{Heading, Event, Tlbi, TlbiOp}
-use Rattle.bbm_replay_trees.specs.Told.{notes}
-use Rattle.bbm_replay.specs.Covering.{MayBeIssued}
 use Rattle.bbm_replay.proofs.covering.Covering.covers.Given as goal
 
 abbrev pub invariant-loop-i : goal.invariant-loop-i

@@ -1,12 +1,7 @@
-use Rattle.std.proofs.Common.{◌≡◌, ◌≤◌, ℕ, suc, true, None, Some, inl, inr, sym, ◌∙◌, subst, arith}
-use Rattle.bbm_rules.specs.Places.{page_of}
-use Rattle.bbm_rules.specs.Tree.{Node, node_below}
-use Rattle.bbm_tree_index.specs.Descent.{IsWay}
-use Rattle.bbm_tree_index.specs.HeldCores.{core_at, is_at}
+use Rattle.bbm_replay.proofs.Common.{IsWay, core_at, is_at, path_at, Path, IsFoundIn}
+use Rattle.bbm_rules.proofs.Common.{◌≡◌, ◌≤◌, ℕ, suc, true, None, Some, inl, inr, sym, ◌∙◌, subst, arith, page_of, Node}
+use Rattle.bbm_rules.proofs.Common.{node_below}
 use Rattle.bbm_tree_index.specs.Index.{node_in}
-use Rattle.bbm_tree_index.specs.Nodes.{path_at}
-use Rattle.bbm_tree_index.specs.declared.role.Path.{Path}
-use Rattle.bbm_replay.specs.OnePage.{IsFoundIn}
 use Rattle.bbm_replay.proofs.Findings.{if_some}
 use Rattle.bbm_replay.proofs.Ways.{ahead, goes_on, low_below, on_way, on_way_below, way_ends, within_below}
 use Rattle.bbm_replay.proofs.covering.Covering.descend.Goals as goal

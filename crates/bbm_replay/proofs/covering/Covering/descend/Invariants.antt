@@ -1,10 +1,6 @@
-use Rattle.std.proofs.Common.{◌≡◌, ◌≤◌, ◌⊎◌, ℕ, List, Some}
-use Rattle.bbm_tree_index.specs.Descent.{IsWay}
-use Rattle.bbm_tree_index.specs.HeldCores.{core_at}
+use Rattle.bbm_replay.proofs.Common.{IsWay, core_at, Path, Grows, IsFoundIn, IsOnWay}
+use Rattle.bbm_rules.proofs.Common.{◌≡◌, ◌≤◌, ◌⊎◌, ℕ, List, Some}
 use Rattle.bbm_tree_index.specs.Index.{node_in}
-use Rattle.bbm_tree_index.specs.declared.role.Path.{Path}
-use Rattle.bbm_replay.specs.Covering.{Grows}
-use Rattle.bbm_replay.specs.OnePage.{IsFoundIn, IsOnWay}
 use Rattle.bbm_replay.proofs.Ways.{IsAhead}
 use Rattle.bbm_replay.proofs.covering.Covering.descend.Given as goal
 

@@ -1,11 +1,7 @@
-use Rattle.std.proofs.Common.{◌≡◌, ℕ, true, Some, arith}
-use borrow.Author.Count.{below_more}
-use Rattle.bbm_regimes.specs.World.{page_count}
-use Rattle.bbm_regimes.specs.declared.regime.Kind.{Kind}
-use Rattle.bbm_tree_index.specs.HeldCores.{core_at}
+use Rattle.bbm_replay.proofs.Common.{below_more, core_at, IsFoundIn, MetFromAll, covers_kind}
+use Rattle.bbm_rules.proofs.Common.{◌≡◌, ℕ, true, Some, arith, page_count, Kind}
 use Rattle.bbm_tree_index.specs.Index.{node_in}
 use Rattle.bbm_replay_roots.specs.RootsByNumber.{nth_in}
-use Rattle.bbm_replay.specs.OnePage.{IsFoundIn, MetFromAll, covers_kind}
 use Rattle.bbm_replay.proofs.covering.Covering.descend_all.Goals as goal
 
 pub loop-number-preserved : goal.loop-number-preserved

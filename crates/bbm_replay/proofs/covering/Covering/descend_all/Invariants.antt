@@ -1,11 +1,7 @@
-use Rattle.std.proofs.Common.{◌≡◌, ℕ, ◌<◌, true, Some}
-use Rattle.bbm_regimes.specs.World.{page_count}
-use Rattle.bbm_regimes.specs.declared.regime.Kind.{Kind}
-use Rattle.bbm_tree_index.specs.HeldCores.{core_at}
+use Rattle.bbm_replay.proofs.Common.{core_at, Grows, IsFoundIn, MetFromAll, covers_kind}
+use Rattle.bbm_rules.proofs.Common.{◌≡◌, ℕ, ◌<◌, true, Some, page_count, Kind}
 use Rattle.bbm_tree_index.specs.Index.{node_in}
 use Rattle.bbm_replay_roots.specs.RootsByNumber.{nth_in}
-use Rattle.bbm_replay.specs.Covering.{Grows}
-use Rattle.bbm_replay.specs.OnePage.{IsFoundIn, MetFromAll, covers_kind}
 use Rattle.bbm_replay.proofs.covering.Covering.descend_all.Given as goal
 
 abbrev pub invariant-loop-number : goal.invariant-loop-number

@@ -1,8 +1,7 @@
-use Rattle.std.proofs.Common.{◌+◌, ◌*◌, ℕ, subst}
-use borrow.Author.Count.{below_more}
-use Rattle.bbm_tree_index.specs.HeldCores.{core_at}
+use Rattle.bbm_replay.proofs.Common.{below_more, core_at, IsFoundIn}
+use Rattle.bbm_rules.proofs.Common.{◌+◌, ◌*◌, ℕ, subst}
 use Rattle.bbm_tree_index.specs.Index.{node_in}
-use Rattle.bbm_replay.specs.OnePage.{IsFoundIn, MetFrom}
+use Rattle.bbm_replay.specs.OnePage.{MetFrom}
 use Rattle.bbm_replay.proofs.covering.Covering.descend_pages.Goals as goal
 
 pub loop-part-preserved : goal.loop-part-preserved

@@ -1,7 +1,5 @@
-use Rattle.bbm_tree_index.specs.HeldCores.{core_at}
+use Rattle.bbm_replay.proofs.Common.{core_at, Grows, IsFoundIn, MetFromAll}
 use Rattle.bbm_tree_index.specs.Index.{node_in}
-use Rattle.bbm_replay.specs.Covering.{Grows}
-use Rattle.bbm_replay.specs.OnePage.{IsFoundIn, MetFromAll}
 use Rattle.bbm_replay.proofs.covering.Covering.descend_pages.Given as goal
 
 abbrev pub invariant-loop-part : goal.invariant-loop-part

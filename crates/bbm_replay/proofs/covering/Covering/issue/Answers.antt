@@ -1,23 +1,11 @@
-use Rattle.std.proofs.Common.{◌≡◌, ℕ, Bool, true, false, List, None, refl, sym, ◌∙◌, ap, subst, slice_get}
-use Rattle.std.proofs.Common.{true≢false, not-suc-le-zero}
-use Rattle.bbm_entry_state.specs.EntryCalls.{Noted}
-use Rattle.bbm_entry_state.specs.declared.pending.Pends.{Pends}
-use Rattle.bbm_events.specs.Heading.{Heading}
-use Rattle.bbm_place_map.specs.Finds.{FoundAs, is_found}
+use Rattle.bbm_replay.proofs.Common.{Noted, Pends, Heading, FoundAs, is_found, state_from, Found, core_at, notes}
+use Rattle.bbm_replay.proofs.Common.{IsFoundIn, MetFromAll, NamesOne}
+use Rattle.bbm_rules.proofs.Common.{◌≡◌, ℕ, Bool, true, false, List, None, refl, sym, ◌∙◌, ap, subst, slice_get}
+use Rattle.bbm_rules.proofs.Common.{true≢false, not-suc-le-zero, page_count, Cover, Patterns, cover_at, Tlbi}
 use Rattle.bbm_place_map.specs.Map.{marks_at, pends_at}
-use Rattle.bbm_place_map.specs.States.{state_from}
-use Rattle.bbm_place_map.specs.declared.found.Found.{Found}
-use Rattle.bbm_regimes.specs.World.{page_count}
-use Rattle.bbm_tlbi_scope.specs.declared.entry.Cover.{Cover}
 use Rattle.bbm_tlbi_scope.specs.declared.entry.Cover.TheVariants as cover
-use Rattle.bbm_rules.specs.Claims.Trust.{Patterns}
-use Rattle.bbm_rules.specs.Covers.{cover_at}
-use Rattle.bbm_rules.specs.Prelude.{Tlbi}
-use Rattle.bbm_tree_index.specs.HeldCores.{core_at}
 use Rattle.bbm_tree_index.specs.Index.{node_in}
-use Rattle.bbm_replay_trees.specs.Told.{notes}
 use Rattle.bbm_replay.specs.Covering.{AreCovered}
-use Rattle.bbm_replay.specs.OnePage.{IsFoundIn, MetFromAll, NamesOne}
 use Rattle.bbm_replay.proofs.Findings.{if_some, on_ok}
 use Rattle.bbm_replay.proofs.Unmet.{noted_none, uncovered}
 use Rattle.bbm_replay.proofs.covering.Covering.issue.Goals as goal

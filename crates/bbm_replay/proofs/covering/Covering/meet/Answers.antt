@@ -1,11 +1,6 @@
-use Rattle.std.proofs.Common.{◌≡◌, true, List, sym, ◌∙◌, ap, subst}
-use Rattle.bbm_place_map.specs.Finds.{FoundAs, is_found}
+use Rattle.bbm_replay.proofs.Common.{FoundAs, is_found, Found, notes}
+use Rattle.bbm_rules.proofs.Common.{◌≡◌, true, List, sym, ◌∙◌, ap, subst, Patterns, cover_at, Tlbi}
 use Rattle.bbm_place_map.specs.Map.{marks_at}
-use Rattle.bbm_place_map.specs.declared.found.Found.{Found}
-use Rattle.bbm_rules.specs.Claims.Trust.{Patterns}
-use Rattle.bbm_rules.specs.Covers.{cover_at}
-use Rattle.bbm_rules.specs.Prelude.{Tlbi}
-use Rattle.bbm_replay_trees.specs.Told.{notes}
 use Rattle.bbm_replay.specs.Covering.{IsBrokenOver}
 use Rattle.bbm_replay.proofs.Findings.{as_end, found_before, found_end}
 use Rattle.bbm_replay.proofs.Ways.{broken_over}

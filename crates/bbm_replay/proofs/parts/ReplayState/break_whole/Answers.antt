@@ -1,5 +1,5 @@
-use Rattle.std.proofs.Common.{None, Some, refl}
-use Rattle.bbm_replay.specs.declared.parts.ReplayState.{ReplayState}
+use Rattle.bbm_replay.proofs.Common.{ReplayState}
+use Rattle.bbm_rules.proofs.Common.{None, Some, refl}
 use Rattle.bbm_replay.proofs.Quick.{break_ok}
 use Rattle.bbm_replay.proofs.parts.ReplayState.break_whole.Goals as goal
 

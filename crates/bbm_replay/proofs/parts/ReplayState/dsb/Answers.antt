@@ -1,6 +1,6 @@
-use Rattle.std.proofs.Common.{refl, ◌∙◌}
+use Rattle.bbm_replay.proofs.Common.{ReplayState}
+use Rattle.bbm_rules.proofs.Common.{refl, ◌∙◌}
 use Rattle.bbm_tree_index.specs.HeldCores.{holds_at, is_held_by}
-use Rattle.bbm_replay.specs.declared.parts.ReplayState.{ReplayState}
 use Rattle.bbm_replay.proofs.Gone.{leaves_of}
 use Rattle.bbm_replay.proofs.Settling.{completes_of, dsb_meets, hears_of, nothing_leaves, still_outside}
 use Rattle.bbm_replay.proofs.parts.ReplayState.dsb.Goals as goal

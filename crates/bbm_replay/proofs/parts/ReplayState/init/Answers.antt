@@ -1,8 +1,6 @@
-use Rattle.std.proofs.Common.{refl, sym, ◌∙◌, ap, Err}
-use Rattle.bbm_entry_state.specs.Points.{waits}
+use Rattle.bbm_replay.proofs.Common.{waits, TreeFault, ReplayState}
+use Rattle.bbm_rules.proofs.Common.{refl, sym, ◌∙◌, ap, Err}
 use Rattle.bbm_tree_index.specs.Index.{node_in, null_in}
-use Rattle.bbm_tree_index.specs.declared.fault.TreeFault.{TreeFault}
-use Rattle.bbm_replay.specs.declared.parts.ReplayState.{ReplayState}
 use Rattle.bbm_replay.proofs.Framing.{same_of}
 use Rattle.bbm_replay.proofs.Starting.{else_by, free_parts, full_by, init_err, init_ok, init_refused}
 use Rattle.bbm_replay.proofs.parts.ReplayState.init.Goals as goal

@@ -1,7 +1,4 @@
-use Rattle.std.proofs.Common.{ℕ, option_and_then, sym, ap, ◌∙◌}
-use Rattle.bbm_rules.specs.Lists.{if_so}
-use Rattle.bbm_rules.specs.Roots.{lock_of}
-use Rattle.bbm_rules.specs.Rules.{lacks}
+use Rattle.bbm_rules.proofs.Common.{ℕ, option_and_then, sym, ap, ◌∙◌, if_so, lock_of, lacks}
 use Rattle.bbm_replay.proofs.parts.ReplayState.is_open.Goals as goal
 
 pub returns-in-None : goal.returns-in-None

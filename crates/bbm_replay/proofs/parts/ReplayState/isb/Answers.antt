@@ -1,5 +1,4 @@
-use Rattle.std.proofs.Common.{refl, Ok}
-use Rattle.bbm_rules.specs.Prelude.{Isb}
+use Rattle.bbm_rules.proofs.Common.{refl, Ok, Isb}
 use Rattle.bbm_replay.proofs.Meeting.{meets_judged}
 use Rattle.bbm_replay.proofs.parts.ReplayState.isb.Goals as goal
 

@@ -1,12 +1,8 @@
-use Rattle.std.specs.Option.{option_map_or}
+use Rattle.bbm_replay.proofs.Common.{limbo_by}
+use Rattle.bbm_rules.proofs.Common.{option_map_or, page_of, ◌≡◌, ℕ, false, ◌&&◌, Some, None, Option, option_and_then}
+use Rattle.bbm_rules.proofs.Common.{refl, sym, ◌∙◌, ap, if_so, lock_of, lacks}
 use Rattle.bbm_place_map.specs.Map.{value_at}
-use Rattle.bbm_rules.specs.Places.{page_of}
-use Rattle.bbm_tree_index.specs.HeldCores.{limbo_by}
 use Rattle.bbm_tree_index.specs.Index.{node_in}
-use Rattle.std.proofs.Common.{◌≡◌, ℕ, false, ◌&&◌, Some, None, Option, option_and_then, refl, sym, ◌∙◌, ap}
-use Rattle.bbm_rules.specs.Lists.{if_so}
-use Rattle.bbm_rules.specs.Roots.{lock_of}
-use Rattle.bbm_rules.specs.Rules.{lacks}
 use Rattle.bbm_replay.proofs.Inside.{entry_clear, entry_differs, entry_limbo, entry_locked}
 use Rattle.bbm_replay.proofs.parts.ReplayState.judge_tree_write.Goals as goal
 

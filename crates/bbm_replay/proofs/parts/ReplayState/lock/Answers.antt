@@ -1,5 +1,4 @@
-use Rattle.std.proofs.Common.{refl}
-use Rattle.bbm_rules.specs.Prelude.{Lock}
+use Rattle.bbm_rules.proofs.Common.{refl, Lock}
 use Rattle.bbm_replay.proofs.Meeting.{meets_judged}
 use Rattle.bbm_replay.proofs.parts.ReplayState.lock.Goals as goal
 

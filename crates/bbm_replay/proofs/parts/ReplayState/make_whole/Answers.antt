@@ -1,5 +1,5 @@
-use Rattle.std.proofs.Common.{None, refl, sym, ◌∙◌}
-use Rattle.bbm_replay.specs.declared.parts.ReplayState.{ReplayState}
+use Rattle.bbm_replay.proofs.Common.{ReplayState}
+use Rattle.bbm_rules.proofs.Common.{None, refl, sym, ◌∙◌}
 use Rattle.bbm_replay.proofs.Found.{shallow}
 use Rattle.bbm_replay.proofs.Quick.{put_ok}
 use Rattle.bbm_replay.proofs.parts.ReplayState.make_whole.Goals as goal

@@ -1,7 +1,6 @@
-use Rattle.std.proofs.Common.{◌&&◌, sym, ◌∙◌, ap}
+use Rattle.bbm_rules.proofs.Common.{◌&&◌, sym, ◌∙◌, ap, and-false}
 use Rattle.bbm_replay.proofs.Whole.{no_limbo}
 use Rattle.bbm_replay.proofs.parts.ReplayState.makes_in_limbo.Goals as goal
-use mathlib.Core.Bool.{and-false}
 
 pub returns-then-is_calm : goal.returns-then-is_calm
 returns-then-is_calm c =

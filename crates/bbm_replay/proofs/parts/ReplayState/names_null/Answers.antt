@@ -1,9 +1,6 @@
-use Rattle.std.proofs.Common.{◌≡◌, ℕ, ◌<◌, ◌%◌, ◌==◌, ◌^◌, true, false, nat_lt, Option, Some, None, IsSome, sym, ◌∙◌}
-use Rattle.std.proofs.Common.{ap, true≢false}
-use Rattle.std.proofs.lemmas.Bool.{and_parts, eqb-true, ltb-true}
-use Rattle.std.specs.Option.{option_map_or}
-use Rattle.bbm_events.specs.Fits.{is_page}
-use Rattle.bbm_rules.specs.Pages.{is_null}
+use Rattle.bbm_rules.proofs.Common.{◌≡◌, ℕ, ◌<◌, ◌%◌, ◌==◌, ◌^◌, true, false, nat_lt, Option, Some, None, sym, ◌∙◌, ap}
+use Rattle.bbm_rules.proofs.Common.{true≢false, and_parts, eqb-true, ltb-true, option_map_or, is_page, is_null}
+use Rattle.std.proofs.Common.{IsSome}
 use Rattle.bbm_replay.proofs.Meeting.{never_null}
 use Rattle.bbm_replay.proofs.parts.ReplayState.names_null.Goals as goal
 

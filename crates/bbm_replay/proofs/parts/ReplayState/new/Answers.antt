@@ -1,5 +1,5 @@
-use Rattle.std.proofs.Common.{refl}
-use Rattle.bbm_replay.specs.ReplayStanding.{view_of}
+use Rattle.bbm_replay.proofs.Common.{view_of}
+use Rattle.bbm_rules.proofs.Common.{refl}
 use Rattle.bbm_replay.proofs.Empty.{told_empty}
 use Rattle.bbm_replay.proofs.parts.ReplayState.new.Goals as goal
 

@@ -1,6 +1,5 @@
-use Rattle.std.proofs.Common.{refl, sym, ◌∙◌, ap}
-use Rattle.bbm_rules.specs.Prelude.{S2, kind_in_world, Heading}
-use Rattle.bbm_replay.specs.declared.parts.ReplayState.{ReplayState}
+use Rattle.bbm_replay.proofs.Common.{kind_in_world, ReplayState}
+use Rattle.bbm_rules.proofs.Common.{refl, sym, ◌∙◌, ap, S2, Heading}
 use Rattle.bbm_replay.proofs.Starting.{null_nonzero, null_ok, null_unfresh, null_world}
 use Rattle.bbm_replay.proofs.parts.ReplayState.null.Goals as goal
 

@@ -1,11 +1,6 @@
-use Rattle.std.proofs.Common.{◌<◌, sym, ◌∙◌, ap, subst}
-use Rattle.bbm_entry_state.specs.declared.state.EntryState.{EntryState}
-use Rattle.bbm_rules.specs.Places.{page_of}
-use Rattle.bbm_rules.specs.Prelude.{Heading}
+use Rattle.bbm_replay.proofs.Common.{EntryState, view_of, Path, state_of, waiting}
+use Rattle.bbm_rules.proofs.Common.{◌<◌, sym, ◌∙◌, ap, subst, page_of, Heading}
 use Rattle.bbm_replay_entries.specs.EntryPhases.{phase_in}
-use Rattle.bbm_replay.specs.ReplayStanding.{view_of}
-use Rattle.bbm_tree_index.specs.declared.role.Path.{Path}
-use Rattle.bbm_replay.specs.ReplayTold.{state_of, waiting}
 use Rattle.bbm_replay.proofs.Found.{at_path, no_path, shallow}
 use Rattle.bbm_replay.proofs.parts.ReplayState.phase.Goals as goal
 

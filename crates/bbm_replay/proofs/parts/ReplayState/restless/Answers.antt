@@ -1,16 +1,8 @@
-use Rattle.std.proofs.Common.{◌≡◌, ℕ, Option, Some, None, is_some, refl, sym, ◌∙◌, ap}
-use Rattle.bbm_descriptor.specs.Descriptor.{core_of}
-use Rattle.bbm_entry_state.specs.declared.marks.Marks.{Marks}
+use Rattle.bbm_replay.proofs.Common.{Marks, notes, view_of, state_of, waiting, ReplayState}
+use Rattle.bbm_rules.proofs.Common.{◌≡◌, ℕ, Option, Some, None, is_some, refl, sym, ◌∙◌, ap, core_of, Patterns}
+use Rattle.bbm_rules.proofs.Common.{is_restless, page_of, Node}
 use Rattle.bbm_place_map.specs.Map.{marks_at, restless_place, value_at}
-use Rattle.bbm_rules.specs.Claims.Trust.{Patterns}
-use Rattle.bbm_rules.specs.Phases.{is_restless}
-use Rattle.bbm_rules.specs.Places.{page_of}
-use Rattle.bbm_rules.specs.Tree.{Node}
 use Rattle.bbm_tree_index.specs.Index.{node_in}
-use Rattle.bbm_replay_trees.specs.Told.{notes}
-use Rattle.bbm_replay.specs.ReplayStanding.{view_of}
-use Rattle.bbm_replay.specs.ReplayTold.{state_of, waiting}
-use Rattle.bbm_replay.specs.declared.parts.ReplayState.{ReplayState}
 use Rattle.bbm_replay.proofs.DsbMoves.{broken_marks}
 use Rattle.bbm_replay.proofs.parts.ReplayState.restless.Goals as goal
 

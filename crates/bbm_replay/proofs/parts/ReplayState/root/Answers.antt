@@ -1,15 +1,9 @@
-use Rattle.std.proofs.Common.{◌≡◌, ℕ, not, filter, None, ◌+◌, ◌*◌, ◌≤◌, ◌^◌, refl, sym, ◌∙◌, ap, subst, Err, Contains}
-use Rattle.bbm_regimes.specs.World.{page_count}
-use Rattle.bbm_rules.specs.Prelude.{Heading, kind_in_world}
-use Rattle.bbm_rules.specs.declared.step_fault.StepFault.{StepFault}
-use Rattle.bbm_rules.specs.Roots.{root_pages}
+use Rattle.bbm_replay.proofs.Common.{kind_in_world, StepFault, TreeIndex, ReplayState}
+use Rattle.bbm_rules.proofs.Common.{◌≡◌, ℕ, not, filter, None, ◌+◌, ◌*◌, ◌≤◌, ◌^◌, refl, sym, ◌∙◌, ap, subst, Err}
+use Rattle.bbm_rules.proofs.Common.{Contains, page_count, Heading, root_pages, Kind, least}
 use Rattle.bbm_tree_index.specs.Index.{fresh_in, heading_of}
 use Rattle.bbm_tree_index.specs.Prepared.{AreNamedFresh}
-use Rattle.bbm_tree_index.specs.declared.index.TreeIndex.{TreeIndex}
-use Rattle.bbm_regimes.specs.declared.regime.Kind.{Kind}
-use Rattle.bbm_rules.specs.Lists.{least}
 use Rattle.bbm_tree_index.specs.declared.role.Attach.TheVariants as attach
-use Rattle.bbm_replay.specs.declared.parts.ReplayState.{ReplayState}
 use Rattle.bbm_replay.proofs.RootPages.{named_fresh, room_for}
 use Rattle.bbm_replay.proofs.Rooting.{attaches_of, root_fault, root_full, root_ok, root_page, root_used, root_world}
 use Rattle.bbm_replay.proofs.Rooting.{starts, unbroken, unfresh_is}

@@ -1,15 +1,7 @@
-use Rattle.std.proofs.Common.{◌≡◌, ℕ, ◌<◌, None, not, ◌&&◌, ◌||◌, nat_eq, refl, subst}
-use Rattle.bbm_entry_state.specs.EntryCalls.{Noted}
+use Rattle.bbm_replay.proofs.Common.{Noted, state_from, notes, MayBeIssued, view_of, ReplayState}
+use Rattle.bbm_rules.proofs.Common.{◌≡◌, ℕ, ◌<◌, None, not, ◌&&◌, ◌||◌, nat_eq, refl, subst, Patterns, cover_at, Tlbi}
 use Rattle.bbm_place_map.specs.Map.{marks_at, pends_at}
-use Rattle.bbm_place_map.specs.States.{state_from}
 use Rattle.bbm_regimes.specs.PeMask.{pe_in}
-use Rattle.bbm_rules.specs.Claims.Trust.{Patterns}
-use Rattle.bbm_rules.specs.Covers.{cover_at}
-use Rattle.bbm_rules.specs.Prelude.{Tlbi}
-use Rattle.bbm_replay_trees.specs.Told.{notes}
-use Rattle.bbm_replay.specs.Covering.{MayBeIssued}
-use Rattle.bbm_replay.specs.ReplayStanding.{view_of}
-use Rattle.bbm_replay.specs.declared.parts.ReplayState.{ReplayState}
 use Rattle.bbm_replay.proofs.Framing.{same_of, stands_still}
 use Rattle.bbm_replay.proofs.Issuing.{tlbi_meets}
 use Rattle.bbm_replay.proofs.Writing.{cores}

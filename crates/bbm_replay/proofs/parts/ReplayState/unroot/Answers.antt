@@ -1,6 +1,5 @@
-use Rattle.std.proofs.Common.{not, ◌==◌, refl}
-use Rattle.bbm_rules.specs.Tree.{Node}
-use Rattle.bbm_replay.specs.declared.parts.ReplayState.{ReplayState}
+use Rattle.bbm_replay.proofs.Common.{ReplayState}
+use Rattle.bbm_rules.proofs.Common.{not, ◌==◌, refl, Node}
 use Rattle.bbm_replay.proofs.Gone.{leaves_of, unroot_err, unroot_ok}
 use Rattle.bbm_replay.proofs.parts.ReplayState.unroot.Goals as goal
 

@@ -1,7 +1,5 @@
-use Rattle.std.proofs.Common.{Ok, sym, subst, ◌∙◌}
-use Rattle.bbm_rules.specs.Prelude.{Write}
-use Rattle.bbm_replay.specs.ReplayStanding.{MayMeet, Meets}
-use Rattle.bbm_replay.specs.declared.parts.ReplayState.{ReplayState}
+use Rattle.bbm_replay.proofs.Common.{MayMeet, Meets, ReplayState}
+use Rattle.bbm_rules.proofs.Common.{Ok, sym, subst, ◌∙◌, Write}
 use Rattle.bbm_replay.proofs.parts.ReplayState.write.Goals as goal
 
 pub returns-then-write_quick : goal.returns-then-write_quick

@@ -1,8 +1,7 @@
-use Rattle.std.proofs.Common.{◌≡◌, sym, subst}
+use Rattle.bbm_replay.proofs.Common.{IsAt, MayMeet, Meets}
+use Rattle.bbm_rules.proofs.Common.{◌≡◌, sym, subst, Write}
 use Rattle.bbm_place_map.specs.Map.{IsSeat}
 use Rattle.bbm_place_map.specs.declared.seat.Seat.{Seat}
-use Rattle.bbm_rules.specs.Prelude.{Write}
-use Rattle.bbm_replay.specs.ReplayStanding.{IsAt, MayMeet, Meets}
 use Rattle.bbm_replay.proofs.Findings.{if_some}
 use Rattle.bbm_replay.proofs.Found.{at_path, no_path}
 use Rattle.bbm_replay.proofs.parts.ReplayState.write_any.Goals as goal

@@ -1,15 +1,7 @@
-use Rattle.std.proofs.Common.{ℕ, Option, refl, ap, subst}
-use Rattle.bbm_descriptor.specs.declared.desc.Core.{Core}
-use Rattle.bbm_entry_state.specs.EntryCalls.{Written}
-use Rattle.bbm_entry_state.specs.Points.{core_in, waits}
-use Rattle.bbm_entry_state.specs.declared.pending.Pends.{Pends}
-use Rattle.bbm_entry_state.specs.declared.state.EntryState.{EntryState}
-use Rattle.bbm_place_map.specs.Map.{state_at}
-use Rattle.bbm_tree_index.specs.declared.role.Path.{Path}
+use Rattle.bbm_replay.proofs.Common.{Written, core_in, waits, Pends, EntryState, state_at, Path, view_of, state_of}
+use Rattle.bbm_replay.proofs.Common.{ReplayState}
+use Rattle.bbm_rules.proofs.Common.{ℕ, Option, refl, ap, subst, Core}
 use Rattle.bbm_tree_index.specs.declared.role.Attach.TheVariants as attach
-use Rattle.bbm_replay.specs.ReplayStanding.{view_of}
-use Rattle.bbm_replay.specs.ReplayTold.{state_of}
-use Rattle.bbm_replay.specs.declared.parts.ReplayState.{ReplayState}
 use Rattle.bbm_replay.proofs.Framing.{stands_still}
 use Rattle.bbm_replay.proofs.Inside.{attach_fault, attach_ok, below_three}
 use Rattle.bbm_replay.proofs.Rooting.{attaches_of}

@@ -1,10 +1,7 @@
-use Rattle.std.proofs.Common.{◌≡◌, None, true, refl, sym, ap, ◌∙◌, subst, is_some}
-use Rattle.bbm_descriptor.specs.Descriptor.{core_of}
+use Rattle.bbm_replay.proofs.Common.{Puts, ReplayState}
+use Rattle.bbm_rules.proofs.Common.{◌≡◌, None, true, refl, sym, ap, ◌∙◌, subst, is_some, core_of, El2}
 use Rattle.bbm_place_map.specs.Map.{value_at}
-use Rattle.bbm_place_map.specs.MapCalls.{Puts}
-use Rattle.bbm_rules.specs.Prelude.{El2}
 use Rattle.bbm_tree_index.specs.Index.{fresh_in}
-use Rattle.bbm_replay.specs.declared.parts.ReplayState.{ReplayState}
 use Rattle.bbm_replay.proofs.Fresh.{fresh_ok}
 use Rattle.bbm_replay.proofs.Quick.{none_of}
 use Rattle.bbm_replay.proofs.parts.ReplayState.write_fresh.Goals as goal

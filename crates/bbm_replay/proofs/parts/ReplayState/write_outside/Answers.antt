@@ -1,12 +1,7 @@
-use Rattle.std.proofs.Common.{ℕ, ◌%◌, ◌==◌, ◌&&◌, not, refl, sym, ◌∙◌, ap, subst}
-use Rattle.bbm_entry_state.specs.declared.pending.Pends.{Pends}
-use Rattle.bbm_entry_state.specs.declared.state.EntryState.{EntryState}
+use Rattle.bbm_replay.proofs.Common.{Pends, EntryState, view_of, waits, ReplayState}
+use Rattle.bbm_rules.proofs.Common.{ℕ, ◌%◌, ◌==◌, ◌&&◌, not, refl, sym, ◌∙◌, ap, subst, page_of}
 use Rattle.bbm_replay.proofs.Moves.{Writes}
-use Rattle.bbm_replay.specs.ReplayStanding.{view_of}
 use Rattle.bbm_tree_index.specs.Index.{fresh_in, null_in}
-use Rattle.bbm_entry_state.specs.Points.{waits}
-use Rattle.bbm_rules.specs.Places.{page_of}
-use Rattle.bbm_replay.specs.declared.parts.ReplayState.{ReplayState}
 use Rattle.bbm_replay.proofs.Outside.{outside_null, outside_ok, outside_rewritten, outside_unfresh}
 use Rattle.bbm_replay.proofs.parts.ReplayState.write_outside.Goals as goal
 

@@ -1,12 +1,5 @@
-use Rattle.std.proofs.Common.{Option, refl, sym, ap, subst, ◌∙◌}
-use Rattle.bbm_descriptor.specs.declared.desc.Core.{Core}
-use Rattle.bbm_entry_state.specs.EntryCalls.{Written}
-use Rattle.bbm_entry_state.specs.Points.{core_in, waits}
-use Rattle.bbm_entry_state.specs.declared.pending.Pends.{Pends}
-use Rattle.bbm_place_map.specs.Map.{state_at}
-use Rattle.bbm_replay.specs.ReplayStanding.{view_of}
-use Rattle.bbm_replay.specs.ReplayTold.{state_of}
-use Rattle.bbm_replay.specs.declared.parts.ReplayState.{ReplayState}
+use Rattle.bbm_replay.proofs.Common.{Written, core_in, waits, Pends, state_at, view_of, state_of, ReplayState}
+use Rattle.bbm_rules.proofs.Common.{Option, refl, sym, ap, subst, ◌∙◌, Core}
 use Rattle.bbm_replay.proofs.Inside.{plain_bad, plain_global, plain_ok}
 use Rattle.bbm_replay.proofs.parts.ReplayState.write_plain.Goals as goal
 

@@ -1,4 +1,4 @@
-use Rattle.std.proofs.Common.{sym, ◌∙◌}
+use Rattle.bbm_rules.proofs.Common.{sym, ◌∙◌}
 use Rattle.bbm_replay.proofs.Found.{shallow}
 use Rattle.bbm_replay.proofs.Quick.{none_of}
 use Rattle.bbm_replay.proofs.parts.ReplayState.write_whole.Goals as goal

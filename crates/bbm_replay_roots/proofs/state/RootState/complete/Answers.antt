@@ -1,6 +1,5 @@
-use Rattle.std.proofs.Common.{refl}
-use Rattle.bbm_rules.specs.Prelude.{Dsb}
-use Rattle.bbm_replay_roots.specs.Bridge.{calls_of}
+use Rattle.bbm_replay_roots.proofs.Common.{calls_of}
+use Rattle.bbm_rules.proofs.Common.{refl, Dsb}
 use Rattle.bbm_replay_roots.proofs.Judge.{broken_dsb, of_state, stood}
 use Rattle.bbm_replay_roots.proofs.state.RootState.complete.Goals as goal
 

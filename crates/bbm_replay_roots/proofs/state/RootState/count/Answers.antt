@@ -1,8 +1,6 @@
-use Rattle.std.proofs.Common.{ap, ◌∙◌}
-use Rattle.std.specs.Option.{option_map}
-use Rattle.bbm_roots.specs.declared.root.Declared.{Declared}
+use Rattle.bbm_replay_roots.proofs.Common.{option_map, Declared, calls_of}
+use Rattle.bbm_rules.proofs.Common.{ap, ◌∙◌}
 use Rattle.bbm_replay_roots.proofs.RootMaps.{as_root, root_same}
-use Rattle.bbm_replay_roots.specs.Bridge.{calls_of}
 use Rattle.bbm_replay_roots.proofs.state.RootState.count.Goals as goal
 
 pub returns : goal.returns

@@ -1,6 +1,5 @@
-use Rattle.std.proofs.Common.{refl}
-use Rattle.bbm_rules.specs.Prelude.{Root}
-use Rattle.bbm_replay_roots.specs.Bridge.{calls_of}
+use Rattle.bbm_replay_roots.proofs.Common.{calls_of}
+use Rattle.bbm_rules.proofs.Common.{refl, Root}
 use Rattle.bbm_replay_roots.proofs.Judge.{free_page, kept, stood, undeclared}
 use Rattle.bbm_replay_roots.proofs.state.RootState.declare.Goals as goal
 

@@ -1,6 +1,6 @@
-use Rattle.std.proofs.Common.{◌∙◌}
+use Rattle.bbm_replay_roots.proofs.Common.{calls_of}
+use Rattle.bbm_rules.proofs.Common.{◌∙◌}
 use Rattle.bbm_replay_roots.proofs.RootMaps.{declared_same}
-use Rattle.bbm_replay_roots.specs.Bridge.{calls_of}
 use Rattle.bbm_replay_roots.proofs.state.RootState.is_declared.Goals as goal
 
 pub returns : goal.returns

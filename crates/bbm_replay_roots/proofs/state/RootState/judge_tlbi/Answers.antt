@@ -1,8 +1,6 @@
-use Rattle.std.proofs.Common.{ℕ, Bool, true, false, Option, Some, Ok, Err, ◌&&◌, refl, sym, ap, ◌∙◌}
-use Rattle.std.specs.Option.{is_none}
-use Rattle.bbm_tlbi_scope.specs.Operations.{scoped_by_vmid}
-use Rattle.bbm_rules.specs.declared.rule.Rule.TheVariants.{UnsyncedVmid}
-use Rattle.bbm_replay_roots.specs.declared.state.RootState.{RootState}
+use Rattle.bbm_replay_roots.proofs.Common.{is_none, UnsyncedVmid, RootState}
+use Rattle.bbm_rules.proofs.Common.{ℕ, Bool, true, false, Option, Some, Ok, Err, ◌&&◌, refl, sym, ap, ◌∙◌}
+use Rattle.bbm_rules.proofs.Common.{scoped_by_vmid}
 use Rattle.bbm_replay_roots.proofs.Judge.{named_by, tlbi_elsewhere, tlbi_is, world_by}
 use Rattle.bbm_replay_roots.proofs.state.RootState.judge_tlbi.Goals as goal
 

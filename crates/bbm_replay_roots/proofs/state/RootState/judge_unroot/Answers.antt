@@ -1,10 +1,5 @@
-use Rattle.std.proofs.Common.{ℕ, Some, Ok, Err, sym, ap, ◌∙◌}
-use Rattle.std.specs.Option.{option_and_then}
-use Rattle.bbm_rules.specs.Lists.{if_so}
-use Rattle.bbm_rules.specs.Roots.{lock_of}
-use Rattle.bbm_rules.specs.Rules.{lacks}
-use Rattle.bbm_rules.specs.declared.rule.Rule.{Rule}
-use Rattle.bbm_replay_roots.specs.Bridge.{calls_of}
+use Rattle.bbm_replay_roots.proofs.Common.{option_and_then, Rule, calls_of}
+use Rattle.bbm_rules.proofs.Common.{ℕ, Some, Ok, Err, sym, ap, ◌∙◌, if_so, lock_of, lacks}
 use Rattle.bbm_replay_roots.proofs.Judge.{agrees_by}
 use Rattle.bbm_replay_roots.proofs.Unroots.{judged_by, locked, outside_by, unlocked}
 use Rattle.bbm_replay_roots.proofs.state.RootState.judge_unroot.Goals as goal

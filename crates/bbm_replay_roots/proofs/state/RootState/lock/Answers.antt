@@ -1,6 +1,5 @@
-use Rattle.std.proofs.Common.{ℕ, ◌==◌, cond, Option, Some, refl, sym, ap, ◌∙◌}
-use Rattle.bbm_rules.specs.Prelude.{Lock}
-use Rattle.bbm_rules.specs.declared.rule.Rule.TheVariants.{LockBusy}
+use Rattle.bbm_replay_roots.proofs.Common.{LockBusy}
+use Rattle.bbm_rules.proofs.Common.{ℕ, ◌==◌, cond, Option, Some, refl, sym, ap, ◌∙◌, Lock}
 use Rattle.bbm_replay_roots.proofs.Judge.{lock_free, lock_held, stays, stood}
 use Rattle.bbm_replay_roots.proofs.state.RootState.lock.Goals as goal
 

@@ -1,4 +1,4 @@
-use Rattle.std.proofs.Common.{refl}
+use Rattle.bbm_rules.proofs.Common.{refl}
 use Rattle.bbm_replay_roots.proofs.state.RootState.new.Goals as goal
 
 pub returns : goal.returns

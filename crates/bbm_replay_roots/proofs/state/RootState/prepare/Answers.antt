@@ -1,11 +1,6 @@
-use Rattle.std.proofs.Common.{◌≡◌, Err, refl, sym, ap, ◌∙◌}
-use Rattle.bbm_replay_roots.specs.Bridge.{calls_of}
-use Rattle.bbm_rules.specs.declared.step_fault.StepFault.{StepFault}
-use Rattle.bbm_regimes.specs.declared.regime.Which.TheVariants.{Roots}
-use Rattle.bbm_rules.specs.declared.step_fault.StepFault.TheVariants.{Limit}
-use Rattle.bbm_roots.specs.declared.fault.RootFault.{RootFault}
+use Rattle.bbm_replay_roots.proofs.Common.{calls_of, StepFault, Limit, RootFault, room_fault}
+use Rattle.bbm_rules.proofs.Common.{◌≡◌, Err, refl, sym, ap, ◌∙◌, Roots}
 use Rattle.bbm_roots.specs.declared.fault.RootFault.TheVariants as faults
-use Rattle.bbm_replay_roots.specs.RootFaults.{room_fault}
 use Rattle.bbm_replay_roots.proofs.Judge.{full, kept, room_up}
 use Rattle.bbm_replay_roots.proofs.RootMaps.{count_same}
 use Rattle.bbm_replay_roots.proofs.state.RootState.prepare.Goals as goal

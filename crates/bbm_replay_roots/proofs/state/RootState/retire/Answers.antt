@@ -1,6 +1,5 @@
-use Rattle.std.proofs.Common.{refl, Err}
-use Rattle.bbm_rules.specs.Prelude.{Unroot}
-use Rattle.bbm_replay_roots.specs.Bridge.{calls_of}
+use Rattle.bbm_replay_roots.proofs.Common.{calls_of}
+use Rattle.bbm_rules.proofs.Common.{refl, Err, Unroot}
 use Rattle.bbm_replay_roots.proofs.Judge.{agrees_by, stood}
 use Rattle.bbm_replay_roots.proofs.Unroots.{judged_by, outside_by, unroot_taken}
 use Rattle.bbm_replay_roots.proofs.state.RootState.retire.Goals as goal

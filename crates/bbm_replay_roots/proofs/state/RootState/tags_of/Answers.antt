@@ -1,4 +1,4 @@
-use Rattle.bbm_replay_roots.specs.Bridge.{calls_of}
+use Rattle.bbm_replay_roots.proofs.Common.{calls_of}
 use Rattle.bbm_replay_roots.proofs.Unroots.{set_by}
 use Rattle.bbm_replay_roots.proofs.state.RootState.tags_of.Goals as goal
 

@@ -1,5 +1,4 @@
-use Rattle.std.proofs.Common.{refl, sym, ◌∙◌, rules, true≢false}
-use Rattle.bbm_rules.specs.Prelude.{Unlock}
+use Rattle.bbm_rules.proofs.Common.{refl, sym, ◌∙◌, rules, true≢false, Unlock}
 use Rattle.bbm_replay_roots.proofs.Judge.{given_back, stays, stood, unlock_mine, unlock_other}
 use Rattle.bbm_replay_roots.proofs.state.RootState.unlock.Goals as goal
 

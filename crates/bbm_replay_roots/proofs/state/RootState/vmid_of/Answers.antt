@@ -1,7 +1,6 @@
-use Rattle.std.proofs.Common.{sym, ap, ◌∙◌}
-use Rattle.bbm_rules.specs.Prelude.{World}
+use Rattle.bbm_replay_roots.proofs.Common.{calls_of}
+use Rattle.bbm_rules.proofs.Common.{sym, ap, ◌∙◌, World}
 use Rattle.bbm_roots.specs.RootTags as held
-use Rattle.bbm_replay_roots.specs.Bridge.{calls_of}
 use Rattle.bbm_replay_roots.proofs.Judge.{agrees_by, in_range, of_state}
 use Rattle.bbm_replay_roots.proofs.ValueMaps.{vmid_same}
 use Rattle.bbm_replay_roots.proofs.state.RootState.vmid_of.Goals as goal

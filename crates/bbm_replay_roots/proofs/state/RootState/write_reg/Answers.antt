@@ -1,15 +1,8 @@
-use Rattle.std.proofs.Common.{Bool, [], ◌∷◌, Ok, Err, refl, sym, ap, ◌∙◌, subst}
-use Rattle.bbm_rules.specs.Prelude.{Msr, World}
-use Rattle.bbm_rules.specs.Answers.{Answers}
+use Rattle.bbm_replay_roots.proofs.Common.{Patterns, StepFault, WriteReg, is_of_world, calls_of}
+use Rattle.bbm_rules.proofs.Common.{Bool, [], ◌∷◌, Ok, Err, refl, sym, ap, ◌∙◌, subst, Msr, World, Answers, noted}
+use Rattle.bbm_rules.proofs.Common.{limit_of}
 use Rattle.bbm_rules.specs.Broken.{broken}
-use Rattle.bbm_rules.specs.Claims.{Patterns}
-use Rattle.bbm_rules.specs.Covers.{noted}
-use Rattle.bbm_rules.specs.Limits.{limit_of}
-use Rattle.bbm_rules.specs.declared.step_fault.StepFault.{StepFault}
-use Rattle.bbm_roots.specs.RootCalls.{WriteReg}
-use Rattle.bbm_roots.specs.RootRegisters.{is_of_world}
 use Rattle.bbm_roots.specs.RootsStand as lower
-use Rattle.bbm_replay_roots.specs.Bridge.{calls_of}
 use Rattle.bbm_replay_roots.proofs.Judge.{agrees_by, in_range, kept, stood}
 use Rattle.bbm_replay_roots.proofs.Writes.{msr_elsewhere, reg_of_world, right_world, world_here, write_by, write_err}
 use Rattle.bbm_replay_roots.proofs.Writes.{write_ok}

@@ -1,6 +1,4 @@
-use Rattle.std.proofs.Common.{◌≡◌, ℕ, ◌<◌, ◌||◌, false}
-use Rattle.bbm_roots.specs.Columns.{loads_in}
-use Rattle.bbm_roots.specs.RootRegisters.{names_in}
+use Rattle.bbm_roots.proofs.Common.{◌≡◌, ℕ, ◌<◌, ◌||◌, false, loads_in, names_in}
 use Rattle.bbm_roots.proofs.registers.Registers.first_user.Given as goal
 
 abbrev pub invariant-loop-number : goal.invariant-loop-number

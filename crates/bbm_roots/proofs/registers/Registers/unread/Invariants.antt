@@ -1,7 +1,5 @@
-use Rattle.std.proofs.Common.{◌≡◌, ℕ, ◌&&◌, not, nat_lt}
+use Rattle.bbm_roots.proofs.Common.{◌≡◌, ℕ, ◌&&◌, not, nat_lt, loads_in, reads_tag}
 use Rattle.bbm_regimes.specs.PeMask.{pe_in}
-use Rattle.bbm_roots.specs.Columns.{loads_in}
-use Rattle.bbm_roots.specs.Readings.{reads_tag}
 use Rattle.bbm_roots.proofs.registers.Registers.unread.Given as goal
 
 abbrev pub invariant-loop-number : goal.invariant-loop-number

@@ -1,13 +1,8 @@
-use Rattle.std.proofs.Common.{◌≡◌, ◌&&◌, ◌||◌, ◌∙◌, ap, sym, not, Bool, true, false, refl, cond, Option, None, nat_eq}
-use Rattle.std.proofs.Common.{ℕ}
-use Rattle.bbm_barriers.specs.Options.{answers}
+use Rattle.bbm_roots.proofs.Common.{◌≡◌, ◌&&◌, ◌||◌, ◌∙◌, ap, sym, not, Bool, true, false, refl, cond, Option, None}
+use Rattle.bbm_roots.proofs.Common.{nat_eq, ℕ, answers, Tag, hold_in, tag_key, slot_of, wait_at, wait_bit, Waiting}
+use Rattle.bbm_roots.proofs.Common.{and-true, and-false}
 use Rattle.bbm_regimes.specs.PeMask.{pe_in}
-use Rattle.bbm_regimes.specs.declared.regime.Tag.{Tag}
-use Rattle.bbm_roots.specs.Holds.{hold_in, tag_key}
-use Rattle.bbm_roots.specs.RootPendings.{slot_of, wait_at, wait_bit}
-use Rattle.bbm_roots.specs.declared.pending.Waiting.{Waiting}
 use Rattle.bbm_roots.proofs.roots.Roots.answer.Goals as goal
-use mathlib.Core.Bool.{and-true, and-false}
 
 without : (g : Tag) (p : ℕ) (k t : Bool) (o : Option Waiting) →
     (k && wait_bit g p (cond t None o)) ≡ ((k && wait_bit g p o) && not t)

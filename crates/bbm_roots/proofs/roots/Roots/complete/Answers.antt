@@ -1,25 +1,14 @@
-use Rattle.std.proofs.Common.{◌≡◌, ◌∙◌, ap, sym, ℕ, Bool, ◌&&◌, ◌||◌, List, ◌∷◌, not, nat_eq, true, false, refl}
-use Rattle.std.proofs.lemmas.Bool.{eqb-true}
-use Rattle.bbm_lemmas.proofs.Tautologies.{proved}
-use Rattle.bbm_lemmas.proofs.Tautologies.Claim.{Is}
-use Rattle.bbm_barriers.specs.Options.{answers}
-use Rattle.bbm_barriers.specs.declared.Dsb.{Dsb}
+use Rattle.bbm_roots.proofs.Common.{◌≡◌, ◌∙◌, ap, sym, ℕ, Bool, ◌&&◌, ◌||◌, List, ◌∷◌, not, nat_eq, true, false, refl}
+use Rattle.bbm_roots.proofs.Common.{eqb-true, proved, Is, answers, Dsb, Tag, loads_in, hold_in, tag_key, pending_in}
+use Rattle.bbm_roots.proofs.Common.{slot_of, wait_at, wait_bit, Stands, world_of, pes_of, Pendings, Registers, Roots}
+use Rattle.bbm_roots.proofs.Common.{Call, Complete, and-true}
 use Rattle.bbm_regimes.specs.PeMask.{pe_in}
-use Rattle.bbm_regimes.specs.declared.regime.Tag.{Tag}
-use Rattle.bbm_roots.specs.Columns.{loads_in}
-use Rattle.bbm_roots.specs.Holds.{hold_in, tag_key}
-use Rattle.bbm_roots.specs.RootPendings.{pending_in, answered_in, slot_of, wait_at, wait_bit}
+use Rattle.bbm_roots.specs.RootPendings.{answered_in}
 use Rattle.bbm_roots.specs.RootChanges.{Answers, Takes}
-use Rattle.bbm_roots.specs.RootsStand.{Stands, world_of, pes_of}
-use Rattle.bbm_roots.specs.declared.pending.Pendings.{Pendings}
-use Rattle.bbm_roots.specs.declared.registers.Registers.{Registers}
-use Rattle.bbm_roots.specs.declared.roots.Roots.{Roots}
 use Rattle.bbm_roots.proofs.Changes.{log-same, room-same}
 use Rattle.bbm_roots.proofs.Made.{stands-made}
 use Rattle.bbm_roots.proofs.Steps.{holds-completed, held-before, not-before, awaited-complete}
-use Rattle.bbm_roots.specs.RootCalls.{Call, Complete}
 use Rattle.bbm_roots.proofs.roots.Roots.complete.Goals as goal
-use mathlib.Core.Bool.{and-true}
 
 -- roots from which what a DSB answers was taken away
 completed : (old new : Roots) (calls : List Call) (issuer : ℕ) (dsb : Dsb) → Stands old calls →

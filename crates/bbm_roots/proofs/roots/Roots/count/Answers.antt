@@ -1,4 +1,4 @@
-use Rattle.std.proofs.Common.{nat_eq, ◌∙◌, arith, rules}
+use Rattle.bbm_roots.proofs.Common.{nat_eq, ◌∙◌, arith, rules}
 use Rattle.bbm_roots.proofs.Listing.{numbered}
 use Rattle.bbm_roots.specs.Listed.{count_in, nth_in}
 use Rattle.bbm_roots.proofs.roots.Roots.count.Goals as goal

@@ -1,13 +1,7 @@
-use Rattle.std.proofs.Common.{◌≡◌, ◌∙◌, ap, sym, refl, nat_eq, ◌+◌, true, cond, ℕ, Option, Some, None, is_some, IsSome}
-use Rattle.std.proofs.Common.{length, subst, arith, rules}
-use Rattle.indexmap.specs.IndexMap.{get, index_map_len}
-use Rattle.bbm_regimes.specs.declared.regime.Tag.{Tag}
-use Rattle.bbm_roots.specs.RootCalls.{Declare}
-use Rattle.bbm_roots.specs.RootRegisters.{kind_of_reg}
-use Rattle.bbm_roots.specs.DeclaredRoots.{roots_of, root_at, is_root, is_of_kind, retired}
-use Rattle.bbm_roots.specs.RootsStand.{world_of}
-use Rattle.bbm_roots.specs.RootTags.{reads, reads_for_some}
-use Rattle.bbm_roots.specs.declared.root.Declared.{Declared}
+use Rattle.bbm_roots.proofs.Common.{◌≡◌, ◌∙◌, ap, sym, refl, nat_eq, ◌+◌, true, cond, ℕ, Option, Some, None, is_some}
+use Rattle.bbm_roots.proofs.Common.{IsSome, length, subst, arith, rules, get, index_map_len, Tag, Declare, kind_of_reg}
+use Rattle.bbm_roots.proofs.Common.{roots_of, root_at, is_root, is_of_kind, retired, world_of, reads, reads_for_some}
+use Rattle.bbm_roots.proofs.Common.{Declared}
 use Rattle.bbm_roots.proofs.RootLists.{found-declared, absent-retired, apart-declared, kept-declared, unlocked-declared}
 use Rattle.bbm_roots.proofs.Rooted.{root-there}
 use Rattle.bbm_roots.proofs.Steps.{holds-stay, awaited-stay}

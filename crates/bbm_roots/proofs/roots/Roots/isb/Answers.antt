@@ -1,11 +1,6 @@
-use Rattle.std.proofs.Common.{◌≡◌, ◌∙◌, ap, sym, refl, nat_eq, List, ◌∷◌, true, cond, ℕ}
-use Rattle.bbm_regimes.specs.declared.regime.Tag.{Tag}
-use Rattle.bbm_roots.specs.RootCalls.{Isb}
-use Rattle.bbm_roots.specs.Readings.{is_reading, is_of_tag}
-use Rattle.bbm_roots.specs.RootRegisters.{newest, at_start, register_values, first_reg, second_reg}
-use Rattle.bbm_roots.specs.RootsStand.{world_of}
-use Rattle.bbm_roots.specs.RootTags.{reads, reads_for_some}
-use Rattle.bbm_roots.specs.declared.load.Load.{Load}
+use Rattle.bbm_roots.proofs.Common.{◌≡◌, ◌∙◌, ap, sym, refl, nat_eq, List, ◌∷◌, true, cond, ℕ, Tag, Isb, is_reading}
+use Rattle.bbm_roots.proofs.Common.{is_of_tag, newest, at_start, register_values, first_reg, second_reg, world_of}
+use Rattle.bbm_roots.proofs.Common.{reads, reads_for_some, Load}
 use Rattle.bbm_roots.proofs.Flat.{readings-isb, newest-same}
 use Rattle.bbm_roots.proofs.Rooted.{names-isb}
 use Rattle.bbm_roots.proofs.Steps.{holds-stay, awaited-stay}

@@ -1,25 +1,14 @@
-use Rattle.std.proofs.Common.{◌≡◌, ◌<◌, ◌≤◌, ◌∙◌, ap, sym, refl, Bool, ◌&&◌, nat_eq, nat_lt, List, true, false, ℕ}
-use Rattle.std.proofs.Common.{⊎_elim}
-use Rattle.std.proofs.lemmas.Bool.{false≢true, cases_lt, lt-ltb}
-use Rattle.bbm_lemmas.proofs.Bools.{first_true}
-use Rattle.bbm_lemmas.proofs.Tautologies.{proved}
-use Rattle.bbm_lemmas.proofs.Tautologies.Claim.{If, Is}
-use Rattle.bbm_regimes.specs.declared.regime.Tag.{Tag}
-use Rattle.bbm_tlbi_scope.specs.ScopeTags.{takes_whole_tag}
-use Rattle.bbm_roots.specs.RootCalls.{Call, Issue}
-use Rattle.bbm_roots.specs.Columns.{loads_in}
-use Rattle.bbm_roots.specs.RootPendings.{pending_in, has_pending, same_flag}
-use Rattle.bbm_roots.specs.Readings.{reads_tag}
-use Rattle.bbm_roots.specs.RootRegisters.{register_values, first_reg, second_reg}
-use Rattle.bbm_roots.specs.RootsStand.{world_of, pes_of}
-use Rattle.bbm_roots.specs.RootTags.{reads, reads_for_some, reaches, holds_at}
-use Rattle.bbm_roots.specs.declared.load.Load.{Load}
+use Rattle.bbm_roots.proofs.Common.{◌≡◌, ◌<◌, ◌≤◌, ◌∙◌, ap, sym, refl, Bool, ◌&&◌, nat_eq, nat_lt, List, true, false, ℕ}
+use Rattle.bbm_roots.proofs.Common.{⊎_elim, false≢true, cases_lt, lt-ltb, first_true, proved, If, Is, Tag}
+use Rattle.bbm_roots.proofs.Common.{takes_whole_tag, Call, Issue, loads_in, pending_in, has_pending, same_flag}
+use Rattle.bbm_roots.proofs.Common.{reads_tag, register_values, first_reg, second_reg, world_of, pes_of, reads}
+use Rattle.bbm_roots.proofs.Common.{reads_for_some, holds_at, Load, and-false}
+use Rattle.bbm_roots.specs.RootTags.{reaches}
 use Rattle.bbm_roots.proofs.Flat.{reads_tag-is}
 use Rattle.bbm_roots.proofs.Steps.{holds-stay, awaited-stay, noted}
 use Rattle.bbm_roots.proofs.Bits.{and_right}
 use Rattle.bbm_roots.proofs.PendingBits.{entry-there}
 use Rattle.bbm_roots.proofs.roots.Roots.issue_ready.Goals as goal
-use mathlib.Core.Bool.{and-false}
 
 pub returns : goal.returns
 returns c = record {

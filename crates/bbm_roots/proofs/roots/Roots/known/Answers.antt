@@ -1,7 +1,5 @@
 -- What is known of the one tag that a value makes readable.
-use Rattle.std.proofs.Common.{Bool, ◌&&◌, ap}
-use Rattle.bbm_roots.specs.Holds.{tag_key}
-use Rattle.bbm_roots.specs.RootPendings.{slot_of, wait_at, wait_bit}
+use Rattle.bbm_roots.proofs.Common.{Bool, ◌&&◌, ap, tag_key, slot_of, wait_at, wait_bit}
 use Rattle.bbm_roots.proofs.Shared.{below-nine, own-held}
 use Rattle.bbm_roots.proofs.roots.Roots.known.Goals as goal
 

@@ -1,13 +1,5 @@
-use Rattle.std.proofs.Common.{◌≡◌, ◌∙◌, sym, ◌&&◌, ◌||◌, nat_lt, ℕ, List, Option, Some, None}
-use Rattle.bbm_regimes.specs.declared.regime.Tag.{Tag}
-use Rattle.bbm_roots.specs.RootCalls.{Call}
-use Rattle.bbm_roots.specs.Columns.{loads_in}
-use Rattle.bbm_roots.specs.Holds.{tag_in}
-use Rattle.bbm_roots.specs.LeastOf.{UpTo, TagUpTo}
-use Rattle.bbm_roots.specs.RootRegisters.{uses, names_in}
-use Rattle.bbm_roots.specs.RootsStand.{Stands, world_of, pes_of}
-use Rattle.bbm_roots.specs.RootTags.{holds_tag}
-use Rattle.bbm_roots.specs.declared.roots.Roots.{Roots}
+use Rattle.bbm_roots.proofs.Common.{◌≡◌, ◌∙◌, sym, ◌&&◌, ◌||◌, nat_lt, ℕ, List, Option, Some, None, Tag, Call, loads_in}
+use Rattle.bbm_roots.proofs.Common.{tag_in, UpTo, TagUpTo, uses, names_in, Stands, world_of, pes_of, holds_tag, Roots}
 use Rattle.bbm_roots.proofs.Conflicts.{tag-held}
 use Rattle.bbm_roots.proofs.Leasts.{least-same}
 use Rattle.bbm_roots.proofs.Users.{user-is}

@@ -1,4 +1,4 @@
-use Rattle.std.proofs.Common.{rules}
+use Rattle.bbm_roots.proofs.Common.{rules}
 use Rattle.bbm_roots.specs.Listed.{nth_in}
 use Rattle.bbm_roots.proofs.roots.Roots.nth.Goals as goal
 

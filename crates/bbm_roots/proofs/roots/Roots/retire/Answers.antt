@@ -1,13 +1,6 @@
-use Rattle.std.proofs.Common.{◌≡◌, ◌∙◌, ap, sym, refl, Bool, nat_eq, ◌+◌, true, cond, ℕ, Option, None, is_some, IsSome}
-use Rattle.std.proofs.Common.{subst, arith, rules}
-use Rattle.indexmap.specs.IndexMap.{get, index_map_len}
-use Rattle.bbm_regimes.specs.declared.regime.Tag.{Tag}
-use Rattle.bbm_roots.specs.RootCalls.{Call, Retire}
-use Rattle.bbm_roots.specs.RootRegisters.{kind_of_reg}
-use Rattle.bbm_roots.specs.DeclaredRoots.{roots_of, root_at, is_of_kind}
-use Rattle.bbm_roots.specs.RootsStand.{world_of, pes_of}
-use Rattle.bbm_roots.specs.RootTags.{reads, reads_for_some}
-use Rattle.bbm_roots.specs.declared.root.Declared.{Declared}
+use Rattle.bbm_roots.proofs.Common.{◌≡◌, ◌∙◌, ap, sym, refl, Bool, nat_eq, ◌+◌, true, cond, ℕ, Option, None, is_some}
+use Rattle.bbm_roots.proofs.Common.{IsSome, subst, arith, rules, get, index_map_len, Tag, Call, Retire, kind_of_reg}
+use Rattle.bbm_roots.proofs.Common.{roots_of, root_at, is_of_kind, world_of, pes_of, reads, reads_for_some, Declared}
 use Rattle.bbm_roots.proofs.RootLists.{found-retired, kept-retired, apart-retired, retired-length, unlocked-retired}
 use Rattle.bbm_roots.proofs.Rooted.{retired-named, retired-holder}
 use Rattle.bbm_roots.proofs.Steps.{holds-stay, awaited-stay}

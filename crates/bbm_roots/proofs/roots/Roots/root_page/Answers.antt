@@ -1,5 +1,4 @@
-use Rattle.std.proofs.Common.{◌≡◌, Some, sym, ◌∙◌, ap, rules}
-use Rattle.bbm_roots.specs.DeclaredRoots.{root_at, roots_of, is_of_kind}
+use Rattle.bbm_roots.proofs.Common.{◌≡◌, Some, sym, ◌∙◌, ap, rules, root_at, roots_of, is_of_kind}
 use Rattle.bbm_roots.proofs.RootLists.{found-page}
 use Rattle.bbm_roots.proofs.roots.Roots.root_page.Goals as goal
 

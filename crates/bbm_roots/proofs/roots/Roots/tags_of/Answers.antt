@@ -1,7 +1,4 @@
-use Rattle.std.proofs.Common.{sym}
-use Rattle.bbm_roots.specs.Holds.{tag_in}
-use Rattle.bbm_roots.specs.RootsStand.{world_of, pes_of}
-use Rattle.bbm_roots.specs.RootTags.{holds_tag}
+use Rattle.bbm_roots.proofs.Common.{sym, tag_in, world_of, pes_of, holds_tag}
 use Rattle.bbm_roots.proofs.Conflicts.{tag-held}
 use Rattle.bbm_roots.proofs.Leasts.{tags-same}
 use Rattle.bbm_roots.proofs.roots.Roots.tags_of.Goals as goal

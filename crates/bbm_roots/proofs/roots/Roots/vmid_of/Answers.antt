@@ -1,10 +1,7 @@
-use Rattle.std.proofs.Common.{◌≡◌, ◌∙◌, sym, ap, subst, List, ◌<◌, length}
-use Rattle.bbm_regimes.specs.declared.regime.World.{World}
-use Rattle.bbm_regimes.specs.declared.regime.Reg.TheVariants.{VttbrEl2}
+use Rattle.bbm_roots.proofs.Common.{◌≡◌, ◌∙◌, sym, ap, subst, List, ◌<◌, length, World, VttbrEl2, register_values}
+use Rattle.bbm_roots.proofs.Common.{second_reg, one_number, Load}
 use Rattle.bbm_roots.specs.Refusals.{JudgesVmid}
-use Rattle.bbm_roots.specs.RootRegisters.{register_values, second_reg}
-use Rattle.bbm_roots.specs.RootTags.{vmid_of, one_number}
-use Rattle.bbm_roots.specs.declared.load.Load.{Load}
+use Rattle.bbm_roots.specs.RootTags.{vmid_of}
 use Rattle.bbm_roots.proofs.Numbers.{some-value}
 use Rattle.bbm_roots.proofs.roots.Roots.vmid_of.Goals as goal
 

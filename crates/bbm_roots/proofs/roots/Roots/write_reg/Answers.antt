@@ -1,17 +1,8 @@
-use Rattle.std.proofs.Common.{◌≡◌, ◌∙◌, ap, sym, refl, Bool, ◌&&◌, ◌||◌, not, nat_eq, List, [], ◌∷◌, false}
+use Rattle.bbm_roots.proofs.Common.{◌≡◌, ◌∙◌, ap, sym, refl, Bool, ◌&&◌, ◌||◌, not, nat_eq, List, [], ◌∷◌, false}
+use Rattle.bbm_roots.proofs.Common.{loads_in, conflict_in, IsCalm, readings_after, has_reading, has_tag, Call, Writes}
+use Rattle.bbm_roots.proofs.Common.{load_of, Stands, world_of, pes_of, Load, Reading, Roots}
 use Rattle.std.proofs.Common.{Ok, Err}
 use Rattle.std.proofs.lemmas.Result.{err_from_is_err_and}
-use Rattle.bbm_roots.specs.Columns.{loads_in}
-use Rattle.bbm_roots.specs.Holds.{conflict_in, IsCalm}
-use Rattle.bbm_roots.specs.LoadsOf.{readings_after}
-use Rattle.bbm_roots.specs.Readings.{has_reading, has_tag}
-use Rattle.bbm_roots.specs.RootCalls.{Call}
-use Rattle.bbm_roots.specs.RootChanges.{Writes}
-use Rattle.bbm_roots.specs.RootRegisters.{load_of}
-use Rattle.bbm_roots.specs.RootsStand.{Stands, world_of, pes_of}
-use Rattle.bbm_roots.specs.declared.load.Load.{Load}
-use Rattle.bbm_roots.specs.declared.reading.Reading.{Reading}
-use Rattle.bbm_roots.specs.declared.roots.Roots.{Roots}
 use Rattle.bbm_roots.proofs.Changes.{room-same}
 use Rattle.bbm_roots.proofs.Conflicts.{calm-from}
 use Rattle.bbm_roots.proofs.Judged.{write-judged}

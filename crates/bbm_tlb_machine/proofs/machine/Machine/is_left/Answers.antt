@@ -1,5 +1,4 @@
-use Rattle.std.proofs.Common.{◌∙◌, ap, sym}
-use Rattle.bbm_rules.specs.Prelude.{Event}
+use Rattle.bbm_rules.proofs.Common.{◌∙◌, ap, sym, Event}
 use Rattle.bbm_tlb_machine.specs.MachineRun.{leaves_some}
 use Rattle.bbm_tlb_machine.proofs.PendingSteps.{left}
 use Rattle.bbm_tlb_machine.proofs.machine.Machine.is_left.Goals as goal

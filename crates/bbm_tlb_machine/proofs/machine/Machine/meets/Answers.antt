@@ -1,5 +1,4 @@
-use Rattle.std.proofs.Common.{◌≡◌, List, reverse, ◌∙◌, ap, rules}
-use Rattle.bbm_rules.specs.Lists.{any}
+use Rattle.bbm_rules.proofs.Common.{◌≡◌, List, reverse, ◌∙◌, ap, rules, any}
 use Rattle.bbm_tlb_machine.specs.MachineRun.{Living}
 use Rattle.bbm_tlb_machine.specs.Safe.{conflicts_with}
 use Rattle.bbm_tlb_machine.proofs.FollowSteps.{if_ok}

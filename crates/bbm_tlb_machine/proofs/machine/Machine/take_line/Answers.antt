@@ -1,5 +1,4 @@
-use Rattle.std.proofs.Common.{Some, ◌∙◌, ap, sym}
-use Rattle.bbm_events.specs.declared.machine.MachineLine.{MachineLine}
+use Rattle.bbm_rules.proofs.Common.{Some, ◌∙◌, ap, sym, MachineLine}
 use Rattle.bbm_tlb_machine.specs.declared.step.Step.TheVariants.{Machine}
 use Rattle.bbm_tlb_machine.specs.MachineRun.{State, step_to}
 use Rattle.bbm_tlb_machine.proofs.FollowSteps.{made_step}

@@ -1,7 +1,6 @@
-use Rattle.std.proofs.Common.{◌≡◌, ℕ, refl, sym, subst}
-use Rattle.bbm_tree_index.specs.LeastPages.{IsSurvey}
+use Rattle.bbm_tree_index.proofs.Common.{IsSurvey, TreeIndex}
+use Rattle.bbm_rules.proofs.Common.{◌≡◌, ℕ, refl, sym, subst}
 use Rattle.bbm_tree_index.specs.Index.{heading_of, known_in, pages_in}
-use Rattle.bbm_tree_index.specs.declared.index.TreeIndex.{TreeIndex}
 use Rattle.bbm_tree_index.proofs.Attaching.{fresh_after, node_from, node_to, null_after, sound_after, tables_known}
 use Rattle.bbm_tree_index.proofs.index.TreeIndex.attach_prepared.Goals as goal
 

@@ -1,4 +1,4 @@
-use Rattle.std.proofs.Common.{ap, sym, ◌∙◌}
+use Rattle.bbm_rules.proofs.Common.{ap, sym, ◌∙◌}
 use Rattle.bbm_tree_index.specs.Index.{heading_of, node_in}
 use Rattle.bbm_tree_index.proofs.Begins.{same_root, some_below, some_root}
 use Rattle.bbm_tree_index.proofs.index.TreeIndex.begin.Goals as goal

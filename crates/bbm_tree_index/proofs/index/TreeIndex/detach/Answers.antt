@@ -1,4 +1,4 @@
-use Rattle.std.proofs.Common.{sym, subst}
+use Rattle.bbm_rules.proofs.Common.{sym, subst}
 use Rattle.bbm_tree_index.specs.HeldCores.{stays_without}
 use Rattle.bbm_tree_index.specs.IndexChanges.{TakesOut}
 use Rattle.bbm_tree_index.specs.declared.role.Detach.{Detach}

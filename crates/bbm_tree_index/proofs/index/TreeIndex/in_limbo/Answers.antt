@@ -1,13 +1,11 @@
-use Rattle.std.proofs.Common.{false, sym, ap, ◌∙◌}
-use Rattle.std.specs.Option.{option_map_or}
+use Rattle.bbm_tree_index.proofs.Common.{cut_by, passes_at, Hangs}
+use Rattle.bbm_rules.proofs.Common.{false, sym, ap, ◌∙◌, option_map_or}
 use Rattle.bbm_place_map.specs.Map.{value_at}
 use Rattle.bbm_tree_index.proofs.Indexes.{cut_in}
 use Rattle.bbm_tree_index.proofs.Limbo.{hanging, level_low}
-use Rattle.bbm_tree_index.specs.Climbs.{cut_by, passes_at}
 use Rattle.bbm_tree_index.specs.HeldCores.{limbo_by}
 use Rattle.bbm_tree_index.specs.Index.{node_in, role_in}
 use Rattle.bbm_tree_index.specs.declared.climb.Asked.TheVariants.{Invalid}
-use Rattle.bbm_tree_index.specs.declared.role.Role.TheVariants.{Hangs}
 use Rattle.bbm_tree_index.proofs.index.TreeIndex.in_limbo.Goals as goal
 
 pub is_cut-requires : goal.is_cut-requires

@@ -1,8 +1,8 @@
-use Rattle.std.proofs.Common.{◌≡◌, ℕ, subst, arith, length, ◌≤◌, ◌+◌}
+use Rattle.bbm_tree_index.proofs.Common.{starts_of}
+use Rattle.bbm_rules.proofs.Common.{◌≡◌, ℕ, subst, arith, length, ◌≤◌, ◌+◌}
 use Rattle.bbm_place_map.specs.Map.{value_at}
 use Rattle.bbm_tree_index.specs.Index.{fresh_in, role_in}
 use Rattle.bbm_tree_index.specs.Attaching.{Judges}
-use Rattle.bbm_tree_index.specs.Paths.{starts_of}
 use Rattle.bbm_tree_index.proofs.Begins.{have_pages, survey_count, survey_told}
 use Rattle.bbm_tree_index.proofs.index.TreeIndex.judge_survey.Goals as goal
 

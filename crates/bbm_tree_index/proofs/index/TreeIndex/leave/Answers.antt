@@ -1,11 +1,7 @@
-use Rattle.std.proofs.Common.{◌≡◌, ℕ, Bool, refl, ap, ◌∙◌, if◌then◌else◌, None}
+use Rattle.bbm_tree_index.proofs.Common.{Releases, leaves_role, TreeIndex, Gone}
+use Rattle.bbm_rules.proofs.Common.{◌≡◌, ℕ, Bool, refl, ap, ◌∙◌, if◌then◌else◌, None, page_of}
 use Rattle.bbm_place_map.specs.Map.{marks_at}
-use Rattle.bbm_rules.specs.Places.{page_of}
 use Rattle.bbm_tree_index.specs.Index.{SameTracked, heading_of, known_in, pages_in, role_in}
-use Rattle.bbm_tree_index.specs.IndexChanges.{Releases}
-use Rattle.bbm_tree_index.specs.Leaving.{leaves_role}
-use Rattle.bbm_tree_index.specs.declared.index.TreeIndex.{TreeIndex}
-use Rattle.bbm_tree_index.specs.declared.role.Role.TheVariants.{Gone}
 use Rattle.bbm_tree_index.proofs.Left.{fresh_left, left_at, node_left, null_left, sound_left}
 use Rattle.bbm_tree_index.proofs.index.TreeIndex.leave.Goals as goal
 

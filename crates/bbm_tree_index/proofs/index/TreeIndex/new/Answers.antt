@@ -1,4 +1,4 @@
-use Rattle.std.proofs.Common.{rules}
+use Rattle.bbm_rules.proofs.Common.{rules}
 use Rattle.bbm_tree_index.specs.Index.{fresh_in, heading_of, known_in, node_in, null_in, pages_in, role_in}
 use Rattle.bbm_tree_index.proofs.index.TreeIndex.new.Goals as goal
 

@@ -1,13 +1,10 @@
-use Rattle.std.proofs.Common.{◌≡◌, ℕ, ◌==◌, if◌then◌else◌, refl, sym, ◌∙◌, nat_eq}
-use Rattle.indexmap.specs.IndexMap.{get}
+use Rattle.bbm_tree_index.proofs.Common.{get, IsSound, TreeIndex, Null}
+use Rattle.bbm_rules.proofs.Common.{◌≡◌, ℕ, ◌==◌, if◌then◌else◌, refl, sym, ◌∙◌, nat_eq}
 use Rattle.bbm_tree_index.proofs.Climbing.{SameTrees, put_trees}
 use Rattle.bbm_tree_index.proofs.Indexes.{false_there, fresh_out, fresh_put, node_kept, null_put, put_role, sound_kept}
 use Rattle.bbm_tree_index.proofs.Indexes.{true_there}
 use Rattle.bbm_tree_index.proofs.Agreeing.{agrees_same}
-use Rattle.bbm_tree_index.specs.IndexAgreement.{IsSound}
 use Rattle.bbm_tree_index.specs.Index.{fresh_in, heading_of, known_in, node_in, null_in, pages_in, role_in}
-use Rattle.bbm_tree_index.specs.declared.index.TreeIndex.{TreeIndex}
-use Rattle.bbm_tree_index.specs.declared.role.Role.TheVariants.{Null}
 use Rattle.bbm_tree_index.proofs.index.TreeIndex.nullify.Goals as goal
 
 abbrev new_of : goal.After-put → TreeIndex

@@ -1,4 +1,4 @@
-use Rattle.std.proofs.Common.{◌≡◌, Some, None, refl, sym, ◌∙◌}
+use Rattle.bbm_rules.proofs.Common.{◌≡◌, Some, None, refl, sym, ◌∙◌}
 use Rattle.bbm_tree_index.proofs.Descending.{met_place, path_is}
 use Rattle.bbm_tree_index.specs.Index.{node_in}
 use Rattle.bbm_tree_index.proofs.index.TreeIndex.place_translating.Goals as goal

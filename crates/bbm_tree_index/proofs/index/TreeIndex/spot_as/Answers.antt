@@ -1,15 +1,10 @@
-use Rattle.std.proofs.Common.{◌≡◌, ℕ, Some, None, Option, IfSome, nat_eq, unwrap_or, refl, ap, sym, ◌∙◌, subst}
-use Rattle.indexmap.specs.IndexMap.{get}
-use Rattle.bbm_rules.specs.Tree.{Node}
+use Rattle.bbm_tree_index.proofs.Common.{get, node_with, Fits, RoleFits, StandsAt, spot_with, TreeIndex, Role}
+use Rattle.bbm_tree_index.proofs.Common.{Untracked, Fresh, RootPage, Hangs, Gone, Null, Spot}
+use Rattle.bbm_rules.proofs.Common.{◌≡◌, ℕ, Some, None, Option, IfSome, nat_eq, unwrap_or, refl, ap, sym, ◌∙◌, subst}
+use Rattle.bbm_rules.proofs.Common.{Node}
 use Rattle.bbm_tree_index.proofs.Cutting.{spot_node}
 use Rattle.bbm_tree_index.proofs.Sounds.{role_fits}
 use Rattle.bbm_tree_index.specs.Index.{heading_of, node_in, role_in}
-use Rattle.bbm_tree_index.specs.Nodes.{node_with}
-use Rattle.bbm_tree_index.specs.Spots.{Fits, RoleFits, StandsAt, spot_with}
-use Rattle.bbm_tree_index.specs.declared.index.TreeIndex.{TreeIndex}
-use Rattle.bbm_tree_index.specs.declared.role.Role.{Role}
-use Rattle.bbm_tree_index.specs.declared.role.Role.TheVariants.{Untracked, Fresh, RootPage, Hangs, Gone, Null}
-use Rattle.bbm_tree_index.specs.declared.spot.Spot.{Spot}
 use Rattle.bbm_tree_index.proofs.index.TreeIndex.spot_as.Goals as goal
 
 role_is : (index : TreeIndex) (page : ℕ) (r : Role) → get nat_eq index.roles page ≡ Some r → role_in index page ≡ r

@@ -1,8 +1,6 @@
-use Rattle.std.proofs.Common.{subst, sym, ap, ◌∙◌, nat_eq}
-use Rattle.std.proofs.lemmas.Result.{IfOk-weaker}
-use Rattle.indexmap.specs.IndexMap.{get}
+use Rattle.bbm_tree_index.proofs.Common.{get, Starting}
+use Rattle.bbm_rules.proofs.Common.{subst, sym, ap, ◌∙◌, nat_eq, IfOk-weaker}
 use Rattle.bbm_tree_index.specs.Index.{heading_of, node_in}
-use Rattle.bbm_tree_index.specs.Survey.{Starting}
 use Rattle.bbm_tree_index.proofs.Begins.{end_root, start_root, starts_below, well_root}
 use Rattle.bbm_tree_index.proofs.index.TreeIndex.start.Goals as goal
 

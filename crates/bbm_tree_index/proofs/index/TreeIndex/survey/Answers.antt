@@ -1,5 +1,5 @@
-use Rattle.std.proofs.Common.{nat_eq, arith}
-use Rattle.indexmap.specs.IndexMap.{get}
+use Rattle.bbm_tree_index.proofs.Common.{get}
+use Rattle.bbm_rules.proofs.Common.{nat_eq, arith}
 use Rattle.bbm_tree_index.specs.Index.{fresh_in, heading_of, role_in}
 use Rattle.bbm_tree_index.proofs.index.TreeIndex.survey.Goals as goal
 

@@ -1,22 +1,14 @@
-use Rattle.std.proofs.Common.{rules, ◌≡◌, ℕ, refl, sym, ap, ◌∙◌, nat_eq, Some, None, is_some, Bool, true, false, ◌==◌, ◌||◌}
-use Rattle.std.proofs.Common.{if◌then◌else◌, ◌<◌, ◌%◌, ◌^◌, subst, arith}
-use Rattle.std.proofs.lemmas.Bool.{eqb-true}
-use Rattle.std.proofs.lemmas.Grind.{common_steps}
-use Rattle.indexmap.specs.IndexMap.{get}
+use Rattle.bbm_tree_index.proofs.Common.{get, IsSound, TreeIndex, Fresh}
+use Rattle.bbm_rules.proofs.Common.{rules, ◌≡◌, ℕ, refl, sym, ap, ◌∙◌, nat_eq, Some, None, is_some, Bool, true, false}
+use Rattle.bbm_rules.proofs.Common.{◌==◌, ◌||◌, if◌then◌else◌, ◌<◌, ◌%◌, ◌^◌, subst, arith, eqb-true, common_steps}
+use Rattle.bbm_rules.proofs.Common.{page_of, Node, lookup, none-some}
 use Rattle.bbm_place_map.specs.Map.{marks_at, value_at}
-use Rattle.bbm_rules.specs.Places.{page_of}
-use Rattle.bbm_rules.specs.Tree.{Node}
 use Rattle.bbm_tree_index.proofs.Agreeing.{SamePlace, agrees_same}
 use Rattle.bbm_tree_index.proofs.Climbing.{SameTrees, put_trees}
 use Rattle.bbm_tree_index.proofs.Indexes.{agrees_alike, fresh_put, node_kept, node_out, null_put, put_role, sound_alike}
 use Rattle.bbm_tree_index.proofs.Indexes.{sound_kept, true_there}
-use Rattle.bbm_tree_index.specs.IndexAgreement.{IsSound}
 use Rattle.bbm_tree_index.specs.Index.{fresh_in, heading_of, known_in, node_in, null_in, pages_in, role_in}
-use Rattle.bbm_tree_index.specs.declared.index.TreeIndex.{TreeIndex}
-use Rattle.bbm_tree_index.specs.declared.role.Role.TheVariants.{Fresh}
 use Rattle.bbm_tree_index.proofs.index.TreeIndex.track.Goals as goal
-use Rattle.std.specs.Map.{lookup}
-use Rattle.std.proofs.lemmas.Option.{none-some}
 
 pub returns-in-Err-clause-sound : goal.returns-in-Err-clause-sound
 unfolding heading_of

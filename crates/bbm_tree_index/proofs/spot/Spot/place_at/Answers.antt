@@ -1,6 +1,5 @@
-use Rattle.std.proofs.Common.{◌+◌, ◌*◌, Some, sym, ap, ◌∙◌}
+use Rattle.bbm_rules.proofs.Common.{◌+◌, ◌*◌, Some, sym, ap, ◌∙◌, index_of}
 use Rattle.bbm_regimes.specs.World.{input_pages as input_pages_of}
-use Rattle.bbm_rules.specs.Places.{index_of}
 use Rattle.bbm_tree_index.proofs.Descending.{part_is}
 use Rattle.bbm_tree_index.proofs.Places.{place_is}
 use Rattle.bbm_tree_index.proofs.spot.Spot.place_at.Goals as goal

@@ -1,0 +1,63 @@
+-- The names that most proofs of this crate cite, passed on from one place. Declares nothing.
+pub use Rattle.indexmap.specs.IndexMap.{IndexMap, get, index_map_len, values}
+pub use Rattle.std.proofs.Common.{Bool, BuildHasherDefault, FoldHasher, HashMap, IsSome, List, None, Option, Some, []}
+pub use Rattle.std.proofs.Common.{ap, arith, cond, false, get_or, is_some, length, nat_eq, nat_le, nat_lt, not, refl}
+pub use Rattle.std.proofs.Common.{rules, set, subst, suc, sym, take, true, zero, ℕ, ⊎_elim, ◌&&◌, ◌++◌, ◌+◌, ◌<◌, ◌==◌}
+pub use Rattle.std.proofs.Common.{◌||◌, ◌∙◌, ◌∷◌, ◌≡◌, ◌≤◌}
+pub use Rattle.std.proofs.Math.Dec.{eqb-suc-suc, eqb-suc-zero, eqb-zero-suc}
+pub use Rattle.std.proofs.Math.Path.{fun_ext}
+pub use Rattle.std.proofs.lemmas.Bool.{cases_lt, eq-eqb, eqb-true, false≢true, lt-ltb, ltb-true, not-true, or_left}
+pub use Rattle.std.proofs.lemmas.Bool.{or_right, true_from_ne_false}
+pub use Rattle.std.proofs.lemmas.Bool.Decides.{nat_tests}
+pub use Rattle.std.proofs.lemmas.List.{take_all}
+pub use Rattle.std.proofs.lemmas.List.Folds.{list_any-append}
+pub use Rattle.std.specs.List.{flat_map, list_any}
+pub use Rattle.std.specs.Map.{lookup}
+pub use mathlib.Core.Bool.{and-false, and-true, or-false}
+pub use Rattle.bbm_barriers.specs.Options.{answers}
+pub use Rattle.bbm_barriers.specs.declared.Dsb.{Dsb}
+pub use Rattle.bbm_lemmas.proofs.Bools.{first_none, first_true, second_none}
+pub use Rattle.bbm_lemmas.proofs.Tautologies.{proved}
+pub use Rattle.bbm_lemmas.proofs.Tautologies.Claim.{If, Is}
+pub use Rattle.bbm_lemmas.specs.ListWords.{same_flag}
+pub use Rattle.bbm_regimes.specs.declared.regime.AsidFrom.{AsidFrom}
+pub use Rattle.bbm_regimes.specs.declared.regime.Kind.{Kind}
+pub use Rattle.bbm_regimes.specs.declared.regime.Kind.TheVariants.{El2, S2, Ttbr0, Ttbr1}
+pub use Rattle.bbm_regimes.specs.declared.regime.Reg.{Reg}
+pub use Rattle.bbm_regimes.specs.declared.regime.Reg.TheVariants.{Ttbr0El1, Ttbr0El2, Ttbr1El1, VttbrEl2}
+pub use Rattle.bbm_regimes.specs.declared.regime.Tag.{Tag}
+pub use Rattle.bbm_regimes.specs.declared.regime.Tag.TheVariants.{Asid, Vmid}
+pub use Rattle.bbm_regimes.specs.declared.regime.World.{World}
+pub use Rattle.bbm_regimes.specs.declared.regime.World.TheVariants.{Hyp, Kernel}
+pub use Rattle.bbm_roots.specs.Columns.{loads_in}
+pub use Rattle.bbm_roots.specs.DeclaredRoots.{are_apart, is_of_kind, is_root, retired, root_at, roots_of}
+pub use Rattle.bbm_roots.specs.Holds.{IsCalm, Marks, conflict_in, entry_bit, entry_held, has_entry, hold_in, is_clash}
+pub use Rattle.bbm_roots.specs.Holds.{is_held_under, is_hold, some_pe, tag_in, tag_key}
+pub use Rattle.bbm_roots.specs.HoldsNew.{holds_asids, holds_new, holds_root, holds_under}
+pub use Rattle.bbm_roots.specs.LeastOf.{IsLeast, ReadingUpTo, TagUpTo, UpTo}
+pub use Rattle.bbm_roots.specs.LoadsOf.{readings_after}
+pub use Rattle.bbm_roots.specs.Readings.{asid_readings, has_other, has_reading, has_tag, is_of_tag, is_other}
+pub use Rattle.bbm_roots.specs.Readings.{is_reading, own_reading, reading_at, reading_under, readings_of, readings_with}
+pub use Rattle.bbm_roots.specs.Readings.{reads_tag, same_tag, tag_of}
+pub use Rattle.bbm_roots.specs.Refusals.{conflicts, is_other_number, missing_root, other_number}
+pub use Rattle.bbm_roots.specs.RootCalls.{Call, Complete, Declare, Isb, Issue, Retire, WriteReg}
+pub use Rattle.bbm_roots.specs.RootChanges.{Writes}
+pub use Rattle.bbm_roots.specs.RootPendings.{has_pending, has_wait, pending_in, slot_of, unread_at, wait_at, wait_bit}
+pub use Rattle.bbm_roots.specs.RootPendings.{wait_in}
+pub use Rattle.bbm_roots.specs.RootRegisters.{at_start, first_reg, is_first, is_of_world, is_that, kind_of_reg, load_of}
+pub use Rattle.bbm_roots.specs.RootRegisters.{names_in, newest, register_values, root_of, same_reg, second_reg, uses}
+pub use Rattle.bbm_roots.specs.RootTags.{awaited, holds_at, holds_tag, loses, one_number, readings, reads}
+pub use Rattle.bbm_roots.specs.RootTags.{reads_for_some}
+pub use Rattle.bbm_roots.specs.RootsStand.{Stands, pes_of, world_of}
+pub use Rattle.bbm_roots.specs.declared.hold.Held.{Held}
+pub use Rattle.bbm_roots.specs.declared.load.Load.{Load}
+pub use Rattle.bbm_roots.specs.declared.pending.Pendings.{Pendings}
+pub use Rattle.bbm_roots.specs.declared.pending.Waiting.{Waiting}
+pub use Rattle.bbm_roots.specs.declared.reading.Reading.{Reading}
+pub use Rattle.bbm_roots.specs.declared.registers.Registers.{Registers}
+pub use Rattle.bbm_roots.specs.declared.root.Declared.{Declared}
+pub use Rattle.bbm_roots.specs.declared.roots.Roots.{Roots}
+pub use Rattle.bbm_tlbi_scope.specs.ScopeTags.{takes_whole_tag}
+pub use Rattle.bbm_tlbi_scope.specs.TagSets.{HasTags}
+pub use Rattle.bbm_tlbi_scope.specs.declared.entry.TagSet.{TagSet}
+pub use Rattle.bbm_tlbi_scope.specs.declared.entry.TagSet.TheVariants.{Many}
