@@ -1,6 +1,6 @@
 -- A list with each tag once, by what the list has.
 use Rattle.bbm_rules.proofs.Common.{◌≡◌, ◌↔◌, Bool, true, false, cond, ◌||◌, List, [], ◌∷◌, ◌++◌, refl, sym, ◌∙◌, ap}
-use Rattle.bbm_rules.proofs.Common.{subst, inl, inr, In, any_finds, any_found, in_right, same_tag, any, Tag, distinct}
+use Rattle.bbm_rules.proofs.Common.{subst, inl, inr, In, any_finds, in_right, same_tag, any, Tag, distinct}
 
 module _ (equal : (g k : Tag) → (same_tag g k ≡ true) ↔ (g ≡ k)) where
   -- the list with each tag once has the same tags
@@ -35,17 +35,3 @@ module _ (equal : (g k : Tag) → (same_tag g k ≡ true) ↔ (g ≡ k)) where
   distinct_again (x ∷ xs) ys there =
       rw (any_finds (same_tag x) (xs ++ ys) x (in_right xs ys x (there x (inl refl))) ((equal x x).1 refl))
       (distinct_again xs ys (λ y i. there y (inr i)))
-
-  -- what was there is there once
-  pub distinct_keeps : (gs : List Tag) (tag : Tag) → In gs tag → In (distinct gs) tag
-  distinct_keeps [] tag i = i
-  distinct_keeps (g ∷ gs) tag i = by (any (same_tag g) gs) refl i (distinct_keeps gs)
-    where
-      by : (b : Bool) → any (same_tag g) gs ≡ b → In (g ∷ gs) tag → ((x : Tag) → In gs x → In (distinct gs) x)
-          → In (cond b (distinct gs) (g ∷ distinct gs)) tag
-      by true e (inl same) rest =
-          let r = any_found (same_tag g) gs e in
-          rest tag (subst (λ (x : Tag). In gs x) (sym ((equal g r.0).0 r.2) ∙ same) r.1)
-      by true e (inr i) rest = rest tag i
-      by false e (inl same) rest = inl same
-      by false e (inr i) rest = inr (rest tag i)

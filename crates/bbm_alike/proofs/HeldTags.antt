@@ -11,8 +11,8 @@ use Rattle.std.proofs.lemmas.List.{length-append}
 use Rattle.bbm_lemmas.proofs.Words.{in_below}
 use Rattle.bbm_lemmas.proofs.Elements.{to_filter_map}
 use Rattle.bbm_histories.specs.HistorySteps.{takes}
-use Rattle.bbm_alike.proofs.Distinct.{distinct_keeps}
 use Rattle.bbm_alike.proofs.TagSteps.{held_before}
+use Rattle.bbm_rules.proofs.TagSetLaw.{distinct_keeps}
 
 -- ---- what is readable
 
@@ -58,7 +58,7 @@ module _ (heading : Heading) (trust : Trust) (p root : ℕ) (tag : Tag) where
     pub held_is_listed : (h : List Event) → p < heading.pes → holds_at heading trust p root tag h ≡ true
         → In (distinct (ever_read heading root h)) tag
     held_is_listed h less held =
-        distinct_keeps equal (ever_read heading root h) tag (was_read h (in_below heading.pes p less) held)
+        distinct_keeps (ever_read heading root h) tag (was_read h (in_below heading.pes p less) held)
 
   -- ---- what waits
 

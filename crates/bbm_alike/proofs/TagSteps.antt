@@ -1,10 +1,10 @@
 -- One event more, the same in two histories: the same roots hold the same tags, of which the same wait to be taken away.
 use Rattle.bbm_rules.proofs.Common.{◌≡◌, ◌↔◌, ℕ, ◌<◌, Bool, true, false, cond, not, ◌&&◌, ◌||◌, ◌==◌, List, ◌∷◌, ◌++◌}
 use Rattle.bbm_rules.proofs.Common.{Option, Some, None, filter_map, flat_map, refl, sym, ◌∙◌, ap, true≢false, inl, inr}
-use Rattle.bbm_rules.proofs.Common.{and_parts, or_cases, proved, If, Is, any_finds, any_found, answers, Trust, same_tag}
-use Rattle.bbm_rules.proofs.Common.{below, Heading, Event, Dsb, Tlbi, Reg, Scope, Tag, takes_whole_tag, reaches}
-use Rattle.bbm_rules.proofs.Common.{named_scope, register_values, vmid_of, roots_of, Reading, distinct, ever_read}
-use Rattle.bbm_rules.proofs.Common.{holds_at, loses, readings, reads, reads_for_some, tag_for, takes_tag}
+use Rattle.bbm_rules.proofs.Common.{and_parts, or_cases, proved, If, Is, answers, Trust, same_tag, below, Heading}
+use Rattle.bbm_rules.proofs.Common.{Event, Dsb, Tlbi, Reg, Scope, Tag, takes_whole_tag, reaches, named_scope}
+use Rattle.bbm_rules.proofs.Common.{register_values, vmid_of, roots_of, Reading, distinct, ever_read, holds_at, loses}
+use Rattle.bbm_rules.proofs.Common.{readings, reads, reads_for_some, tag_for, takes_tag}
 use Rattle.std.proofs.Math.Bool.{and-false}
 use Rattle.bbm_histories.specs.HistorySteps.{is_tlbi, tag_waits, tag_waits_after}
 use Rattle.bbm_alike.specs.SameTags.{SameTags}
@@ -12,14 +12,7 @@ use Rattle.bbm_alike.proofs.Distinct.{distinct_append}
 use Rattle.bbm_alike.proofs.PlainSteps.{registers_step, roots_step}
 use Rattle.bbm_alike.proofs.ReadingsAlike.{readings_alike, reads_alike, reads_some_alike, scope_alike, vmid_alike}
 use Rattle.bbm_alike.proofs.ListsAlike.{same_flat}
-
--- a tag that is readable for a root is readable for some root
-pub read_for_some : (heading : Heading) (h : List Event) (p : ℕ) (tag : Tag) (root : ℕ) → reads heading h p tag root ≡ true
-    → reads_for_some heading h p tag ≡ true
-read_for_some heading h p tag root e =
-    let r = any_found (λ (r : Reading). same_tag r.tag tag && r.root == root) (readings heading h p) e in
-    any_finds (λ (r : Reading). same_tag r.tag tag) (readings heading h p) r.0 r.1
-    (and_parts (same_tag r.0.tag tag) (r.0.root == root) r.2).0
+use Rattle.bbm_rules.proofs.TagLaw.{some_reading}
 
 -- a root that holds a tag after an event at which the tag isn't readable held it before
 pub held_before : (heading : Heading) (trust : Trust) (p root : ℕ) (tag : Tag) (e : Event) (h : List Event)
@@ -28,7 +21,7 @@ pub held_before : (heading : Heading) (trust : Trust) (p root : ℕ) (tag : Tag)
 held_before heading trust p root tag e h held unread =
     elim (or_cases (reads heading (e ∷ h) p tag root)
     (holds_at heading trust p root tag h && not (loses heading trust p tag e h)) held) [
-      | inl read ↦ absurd (true≢false (sym (read_for_some heading (e ∷ h) p tag root read) ∙ unread))
+      | inl read ↦ absurd (true≢false (sym (some_reading heading (e ∷ h) p tag root read) ∙ unread))
       | inr kept ↦ (and_parts (holds_at heading trust p root tag h) (not (loses heading trust p tag e h)) kept).0
     ]
 

@@ -4,12 +4,13 @@ use Rattle.bbm_cert.proofs.Common.{is_of, is_true_of, mark_at, seen_mark}
 use Rattle.bbm_rules.proofs.Common.{◌≡◌, ℕ, suc, ◌≤◌, Bool, true, false, cond, ◌&&◌, ◌||◌, nat_lt, ◌==◌, List, [], ◌∷◌}
 use Rattle.bbm_rules.proofs.Common.{◌++◌, length, refl, sym, ◌∙◌, ap, arith, zero-le, and_right, eqb-true, le-ltb}
 use Rattle.bbm_rules.proofs.Common.{proved, If, Is, Cover, Second, Full, Claim, Place, Two, Taken, Listed, cleansed}
-use Rattle.bbm_rules.proofs.Common.{any, Noted, Heading, Event, Dsb}
+use Rattle.bbm_rules.proofs.Common.{any, Noted, Heading, Event, Dsb, is_none_of}
 use Rattle.bbm_rules.specs.Notes.{event_of}
 use Rattle.bbm_histories.specs.ClaimSteps.{cleansed_listed, completes_claim}
-use Rattle.bbm_cert.proofs.Tests.{any_both, any_never, lt_at, none_below}
+use Rattle.bbm_cert.proofs.Tests.{any_both, lt_at, none_below}
 use Rattle.bbm_cert.proofs.Marked.{Marks, Numbered, flush_at, flush_is, flush_within, half_marks, mark_none}
 use Rattle.bbm_cert.proofs.Marked.{mark_within, seen_marks}
+use Rattle.bbm_lemmas.proofs.Tests.{any_never}
 
 -- tests of a claim, in two orders
 combined : (x y here f f' g : Bool) → (x ≡ true → y ≡ true → f' ≡ f)
@@ -41,7 +42,7 @@ module _ (heading : Heading) (known : Known heading) where
     listed_is cs d (Dsb q dsb) since = refl
     listed_is cs d e since =
         ap (λ (b : Bool). b || cleansed heading (Listed cs) place p since)
-        (sym (any_never (λ (c : Claim). false) cs (λ c. refl)))
+        (sym (any_never cs))
 
     -- a flush at the end of a claim of a at r, after what its first positions say
     module _ (r a d : ℕ) (cover : Cover) (t : ℕ) (mark : List Noted → ℕ) (test : ℕ → ℕ → List Noted → Bool)
@@ -118,8 +119,8 @@ module _ (heading : Heading) (known : Known heading) where
         → cleansed heading (Listed cs) place p newer
         ≡ any (is_true_of heading place p (length older) (newer ++ older)) cs
     cleansed_is cs [] older numbered =
-        sym (any_never (is_true_of heading place p (length older) older) cs
-        (λ c. and_right (is_of place p c) (nat_lt (length older) (claim_mark heading c older))
+        sym (is_none_of (is_true_of heading place p (length older) older) cs
+        (λ c i. and_right (is_of place p c) (nat_lt (length older) (claim_mark heading c older))
         (le-ltb (length older) (claim_mark heading c older) (claim_within c older))))
     cleansed_is cs (n ∷ newer) older numbered =
         known.claim_steps.listed cs place p n newer

@@ -1,36 +1,22 @@
 -- What is kept of the claims that are true, after one more claim and after one more event, and what it says.
-use Rattle.bbm_cert.proofs.Common.{slice_set, and-false, or-false, length-append, set_split, note_of, notes_behind}
-use Rattle.bbm_cert.proofs.Common.{notes_of, Kept, ends_now, tells, Known, claim_mark, is_of, is_true_of, Cleansing}
+use Rattle.bbm_cert.proofs.Common.{slice_set, and-false, or-false, set_split, notes_behind, notes_of, Kept, ends_now}
+use Rattle.bbm_cert.proofs.Common.{tells, Known, claim_mark, is_of, is_true_of, Cleansing}
 use Rattle.bbm_rules.proofs.Common.{◌≡◌, ℕ, suc, ◌+◌, ◌≤◌, ◌<◌, Bool, true, false, cond, ◌&&◌, ◌||◌, nat_eq, nat_lt}
 use Rattle.bbm_rules.proofs.Common.{◌==◌, inl, inr, true≢false, List, [], ◌∷◌, ◌++◌, length, take, drop, get_or}
 use Rattle.bbm_rules.proofs.Common.{reverse, refl, sym, ◌∙◌, ap, subst, arith, drop-cons, cases_eq, eq-eqb, eqb-true}
 use Rattle.bbm_rules.proofs.Common.{ne_eqb, length-reverse, reverse-append, take-append-drop, list_any-append, proved}
 use Rattle.bbm_rules.proofs.Common.{Is, Claim, Place, Two, Taken, PeMask, Listed, cleansed, any, Noted, Heading, Event}
-use Rattle.bbm_rules.proofs.Common.{Dsb}
+use Rattle.bbm_rules.proofs.Common.{Dsb, is_none_of}
 use Rattle.bbm_regimes.specs.PeMask.{pe_in}
 use Rattle.bbm_cert.specs.Cleansings.{Tell, counts, is_barrier}
 use Rattle.bbm_cert.specs.Marks.{completed_mark, end_of}
 use Rattle.bbm_cert.proofs.Claimed.{cleansed_is}
-use Rattle.bbm_cert.proofs.Kepts.{length_before, length_notes, numbered}
+use Rattle.bbm_cert.proofs.Kepts.{length_before, numbered}
 use Rattle.bbm_cert.proofs.Marked.{Numbered, mark_none}
-use Rattle.bbm_cert.proofs.Tests.{any_both, any_never, none_below}
+use Rattle.bbm_cert.proofs.Tests.{any_both, none_below}
+use Rattle.bbm_oracle_patterns.proofs.KeptNotes.{length_notes, notes_append, notes_whole}
 
 -- ---- the newer events of a log
-
-notes_append : (before : ℕ) (xs ys : List Kept)
-    → notes_behind before (xs ++ ys) ≡ notes_behind (before + length ys) xs ++ notes_behind before ys
-notes_append before [] ys = refl
-notes_append before (x ∷ xs) ys =
-    let at : before + length (xs ++ ys) ≡ before + length ys + length xs = omega (arith, length-append xs ys) in
-    ap (λ (n : ℕ). note_of n x ∷ notes_behind before (xs ++ ys)) at
-    ∙ ap (λ (ns : List Noted). note_of (before + length ys + length xs) x ∷ ns) (notes_append before xs ys)
-
-notes_whole : (ks : List Kept) → notes_of ks ≡ notes_behind 0 ks
-notes_whole [] = refl
-notes_whole (k ∷ ks) =
-    let at : length ks ≡ 0 + length ks = omega arith in
-    ap (λ (n : ℕ). note_of n k ∷ notes_of ks) at
-    ∙ ap (λ (ns : List Noted). note_of (0 + length ks) k ∷ ns) (notes_whole ks)
 
 whole : (log : List Kept) (i : ℕ) → i ≤ length log
     → notes_of (reverse log) ≡ notes_behind i (reverse (drop i log)) ++ notes_of (reverse (take i log))
@@ -113,7 +99,7 @@ module _ (heading : Heading) (place p n : ℕ) where
   pub none_ends : (claims : List Claim) (e : Event) (h : List Noted) (before : Bool) → is_barrier e ≡ false
       → before ≡ (before || any (ends_now heading e h place p n) claims)
   none_ends claims e h before none =
-      sym (ap (λ (b : Bool). before || b) (any_never (ends_now heading e h place p n) claims (unended e h none))
+      sym (ap (λ (b : Bool). before || b) (is_none_of (ends_now heading e h place p n) claims (λ c i. unended e h none c))
       ∙ or-false before)
 
   -- a claim that ends elsewhere, or here
@@ -144,8 +130,8 @@ module _ (heading : Heading) (place p n : ℕ) where
 pub tell_nothing : (heading : Heading) (claims : List Claim) (place p n : ℕ)
     → false ≡ any (is_true_of heading place p n []) claims
 tell_nothing heading claims place p n =
-    sym (any_never (is_true_of heading place p n []) claims
-    (λ c. ap (λ (b : Bool). is_of place p c && b) (none_below n) ∙ and-false (is_of place p c)))
+    sym (is_none_of (is_true_of heading place p n []) claims
+    (λ c i. ap (λ (b : Bool). is_of place p c && b) (none_below n) ∙ and-false (is_of place p c)))
 
 -- ---- one more claim
 

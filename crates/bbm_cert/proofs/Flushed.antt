@@ -1,32 +1,20 @@
 -- The TLBI at a position of a log that is kept, and the barrier behind the log that answers it.
-use Rattle.bbm_cert.proofs.Common.{or_comm, or-false, answered_by, is_tlbi, note_of, notes_of, Kept, completed_by}
-use Rattle.bbm_cert.proofs.Common.{answers_for, flush_mark, mark_at, waits_at}
+use Rattle.bbm_cert.proofs.Common.{answered_by, is_tlbi, note_of, notes_of, Kept, completed_by, answers_for, flush_mark}
+use Rattle.bbm_cert.proofs.Common.{mark_at, waits_at}
 use Rattle.bbm_rules.proofs.Common.{◌≡◌, ℕ, suc, ◌+◌, ◌-◌, ◌<◌, ◌⊎◌, Bool, true, false, cond, ◌&&◌, ◌||◌, not, ◌==◌}
 use Rattle.bbm_rules.proofs.Common.{List, [], ◌∷◌, ◌++◌, length, take, drop, get_or, reverse, refl, sym, ◌∙◌, ap, arith}
-use Rattle.bbm_rules.proofs.Common.{length-append, and_right, eq-eqb, ne_eqb, get_or_default, length-drop}
-use Rattle.bbm_rules.proofs.Common.{reverse-append, take_all, list_any-append, list_any, proved, Is, answers, Cover}
-use Rattle.bbm_rules.proofs.Common.{operation, same_cover, Noted, same_bool, Barrier, Heading, Event, Dsb, Tlbi, TlbiOp}
-use Rattle.bbm_rules.proofs.Common.{completes, reaches, completes_for, issues}
+use Rattle.bbm_rules.proofs.Common.{length-append, and_right, eq-eqb, ne_eqb, get_or_default, length-drop, take_all}
+use Rattle.bbm_rules.proofs.Common.{list_any, proved, Is, answers, Cover, operation, same_cover, Noted, same_bool}
+use Rattle.bbm_rules.proofs.Common.{Barrier, Heading, Event, Dsb, Tlbi, TlbiOp, completes, reaches, completes_for}
+use Rattle.bbm_rules.proofs.Common.{issues}
 use Rattle.bbm_oracle_patterns.specs.Kept.{cover_in}
 use Rattle.bbm_cert.specs.Flushes.{is_flush_of}
 use Rattle.bbm_cert.specs.Marks.{flushes_for}
-use Rattle.bbm_cert.proofs.Kepts.{length_before, length_notes, mark_found, mark_lost, split}
+use Rattle.bbm_cert.proofs.Kepts.{length_before, mark_found, mark_lost, split}
+use Rattle.bbm_lemmas.proofs.Tests.{any_reverse, any_same}
+use Rattle.bbm_oracle_patterns.proofs.KeptNotes.{length_notes}
 
 -- ---- tests
-
-pub any_reverse : {X : Type 0} (f : X → Bool) (xs : List X) → list_any f (reverse xs) ≡ list_any f xs
-any_reverse f [] = refl
-any_reverse f (x ∷ xs) =
-    ap (list_any f) (reverse-append (x ∷ []) xs)
-    ∙ list_any-append f (reverse xs) (x ∷ [])
-    ∙ or_comm (list_any f (reverse xs)) (f x || false)
-    ∙ ap (λ (b : Bool). b || list_any f (reverse xs)) (or-false (f x))
-    ∙ ap (λ (b : Bool). f x || b) (any_reverse f xs)
-
-any_same : {X : Type 0} (f g : X → Bool) (xs : List X) → ((x : X) → f x ≡ g x) → list_any f xs ≡ list_any g xs
-any_same f g [] each = refl
-any_same f g (x ∷ xs) each =
-    ap (λ (b : Bool). b || list_any f xs) (each x) ∙ ap (λ (b : Bool). g x || b) (any_same f g xs each)
 
 pick_true : (a b n m i r : Bool)
     → ((a && (n && ((i && true) && r))) || (b && (m && ((i && false) && r)))) ≡ ((i && (a && r)) && n)

@@ -1,13 +1,12 @@
 -- What is kept of the tags that roots hold: one more of them, and one more event.
 use Rattle.bbm_cert.proofs.Common.{and-false, ends_some, has, is_lost, stays_held, Known, Holding}
-use Rattle.bbm_rules.proofs.Common.{◌≡◌, ℕ, ◌<◌, ◌+◌, Bool, true, false, not, ◌&&◌, ◌||◌, ◌==◌, List, [], ◌∷◌, ◌++◌}
-use Rattle.bbm_rules.proofs.Common.{length, take, get_or, refl, sym, ◌∙◌, ap, true≢false, or_left, list_any_more}
-use Rattle.bbm_rules.proofs.Common.{list_any, proved, If, Is, Claim, changes, same_tag, Listed, AsidFrom, FromTtbr0}
-use Rattle.bbm_rules.proofs.Common.{FromTtbr1, World, Hyp, Kernel, Tag, Heading, Event, Dsb, Root, Unroot, Isb, Msr}
-use Rattle.bbm_rules.proofs.Common.{Ttbr1El1, Ttbr1Tag, Reading, asid_readings, holds_at, loses, reads, reads_for_some}
-use Rattle.bbm_rules.proofs.Common.{readings_in, readings_of}
+use Rattle.bbm_rules.proofs.Common.{◌≡◌, ℕ, ◌<◌, ◌+◌, Bool, true, false, not, ◌&&◌, ◌||◌, ◌==◌, List, [], ◌∷◌, length}
+use Rattle.bbm_rules.proofs.Common.{take, get_or, refl, sym, ◌∙◌, ap, true≢false, or_left, list_any_more, list_any}
+use Rattle.bbm_rules.proofs.Common.{proved, If, Is, Claim, changes, same_tag, Listed, Tag, Heading, Event, Dsb, Reading}
+use Rattle.bbm_rules.proofs.Common.{holds_at, loses, reads, reads_for_some, readings_in}
 use Rattle.bbm_cert.specs.Holdings.{is_holding, next_has}
 use Rattle.bbm_cert.specs.declared.holdings.Loss.{Loss}
+use Rattle.bbm_oracle_tags.proofs.MomentLemmas.{none-at-start, same-readings}
 
 -- ---- one more of the tags that were held
 
@@ -29,49 +28,6 @@ keep_more heading h losses held i x p root tag before after below is is_before i
 
 -- ---- what is readable where nothing changes it
 
-unchanged_from : (from : AsidFrom) (e : Event) (h : List Event) (p : ℕ) → ((changes e).roots || (changes e).registers)
-    ≡ false
-    → asid_readings from (e ∷ h) p ≡ asid_readings from h p
-unchanged_from FromTtbr0 (Root pe kind lock page) h p k = absurd (true≢false k)
-unchanged_from FromTtbr0 (Unroot pe page) h p k = absurd (true≢false k)
-unchanged_from FromTtbr0 (Isb pe) h p k = absurd (true≢false k)
-unchanged_from FromTtbr0 (Msr pe r value) h p k = absurd (true≢false k)
-unchanged_from FromTtbr0 e h p k = refl
-unchanged_from FromTtbr1 (Root pe kind lock page) h p k = absurd (true≢false k)
-unchanged_from FromTtbr1 (Unroot pe page) h p k = absurd (true≢false k)
-unchanged_from FromTtbr1 (Isb pe) h p k = absurd (true≢false k)
-unchanged_from FromTtbr1 (Msr pe r value) h p k = absurd (true≢false k)
-unchanged_from FromTtbr1 e h p k = refl
-
-unchanged_second : (e : Event) (h : List Event) (p : ℕ) → ((changes e).roots || (changes e).registers) ≡ false
-    → readings_of (e ∷ h) p Ttbr1El1 (λ value. Ttbr1Tag) ≡ readings_of h p Ttbr1El1 (λ value. Ttbr1Tag)
-unchanged_second (Root pe kind lock page) h p k = absurd (true≢false k)
-unchanged_second (Unroot pe page) h p k = absurd (true≢false k)
-unchanged_second (Isb pe) h p k = absurd (true≢false k)
-unchanged_second (Msr pe r value) h p k = absurd (true≢false k)
-unchanged_second e h p k = refl
-
-pub unchanged : (world : World) (e : Event) (h : List Event) (p : ℕ) → ((changes e).roots || (changes e).registers)
-    ≡ false
-    → readings_in world (e ∷ h) p ≡ readings_in world h p
-unchanged (Hyp w) (Root pe kind lock page) h p k = absurd (true≢false k)
-unchanged (Hyp w) (Unroot pe page) h p k = absurd (true≢false k)
-unchanged (Hyp w) (Isb pe) h p k = absurd (true≢false k)
-unchanged (Hyp w) (Msr pe r value) h p k = absurd (true≢false k)
-unchanged (Hyp w) e h p k = refl
-unchanged (Kernel w) e h p k =
-    ap (λ (rs : List Reading). rs ++ readings_of (e ∷ h) p Ttbr1El1 (λ value. Ttbr1Tag))
-    (unchanged_from w.asid_from e h p k)
-    ∙ ap (λ (rs : List Reading). asid_readings w.asid_from h p ++ rs) (unchanged_second e h p k)
-
-nothing_from : (from : AsidFrom) (p : ℕ) → asid_readings from [] p ++ readings_of [] p Ttbr1El1 (λ value. Ttbr1Tag) ≡ []
-nothing_from FromTtbr0 p = refl
-nothing_from FromTtbr1 p = refl
-
-pub nothing_yet : (world : World) (p : ℕ) → readings_in world [] p ≡ []
-nothing_yet (Hyp w) p = refl
-nothing_yet (Kernel w) p = nothing_from w.asid_from p
-
 module _ (heading : Heading) (known : Known heading) (claims : List Claim) (p root : ℕ) (tag : Tag) where
   -- what is readable is held
   read_held : (h : List Event) → reads heading h p tag root ≡ true → holds_at heading (Listed claims) p root tag h
@@ -79,7 +35,7 @@ module _ (heading : Heading) (known : Known heading) (claims : List Claim) (p ro
   read_held [] k =
       absurd (true≢false (sym k
       ∙ ap (λ (rs : List Reading). list_any (λ r. same_tag r.tag tag && r.root == root) rs)
-      (nothing_yet heading.world p)))
+      (none-at-start heading.world p)))
   read_held (e ∷ h) k =
       or_left (reads heading (e ∷ h) p tag root) (holds_at heading (Listed claims) p root tag h
       && not (loses heading (Listed claims) p tag e h)) k
@@ -118,7 +74,7 @@ module _ (heading : Heading) (known : Known heading) (claims : List Claim) (p ro
       && not l) || (c && r)) (r || (b && not l))))) refl change read before (loses heading (Listed claims)
       p tag e h)
       (λ c r. read_held h (sym (ap (λ (rs : List Reading). list_any (λ r. same_tag r.tag tag && r.root == root) rs)
-      (unchanged heading.world e h p c)) ∙ r))
+      (same-readings heading.world e h p c)) ∙ r))
       (λ r. lost_is e h ∙ ap (λ (b : Bool). ends_some heading claims p tag e h && not b)
       (read_some (readings_in heading.world (e ∷ h) p) r)
       ∙ and-false (ends_some heading claims p tag e h))

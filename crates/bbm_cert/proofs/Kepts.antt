@@ -3,16 +3,9 @@ use Rattle.bbm_cert.proofs.Common.{length-append, note_of, notes_of, Kept, mark_
 use Rattle.bbm_rules.proofs.Common.{◌≡◌, ℕ, suc, ◌+◌, ◌≤◌, ◌<◌, ◌⊎◌, Bool, true, false, cond, ◌==◌, List, [], ◌∷◌, ◌++◌}
 use Rattle.bbm_rules.proofs.Common.{length, take, drop, get_or, reverse, refl, sym, ◌∙◌, ap, arith, inl, inr, eq-eqb}
 use Rattle.bbm_rules.proofs.Common.{ne_eqb, get_or_default, length-reverse, length-take-le, reverse-append}
-use Rattle.bbm_rules.proofs.Common.{take-append-drop, take_more, writes, Noted, events_of}
+use Rattle.bbm_rules.proofs.Common.{take-append-drop, take_more, writes, Noted}
 use Rattle.bbm_cert.proofs.Marked.{Numbered, mark_none}
-
-pub length_notes : (ks : List Kept) → length (notes_of ks) ≡ length ks
-length_notes [] = refl
-length_notes (k ∷ ks) = ap suc (length_notes ks)
-
-pub length_events : (ks : List Kept) → length (events_of (notes_of ks)) ≡ length ks
-length_events [] = refl
-length_events (k ∷ ks) = ap suc (length_events ks)
+use Rattle.bbm_oracle_patterns.proofs.KeptNotes.{length_notes}
 
 pub numbered : (ks : List Kept) → Numbered (notes_of ks)
 numbered [] = tt

@@ -4,11 +4,11 @@ use Rattle.bbm_rules.proofs.Common.{◌≡◌, ℕ, suc, ◌+◌, ◌-◌, ◌<�
 use Rattle.bbm_rules.proofs.Common.{nat_le, List, [], ◌∷◌, ◌++◌, length, take, drop, get_or, None, refl, sym, ◌∙◌, ap}
 use Rattle.bbm_rules.proofs.Common.{subst, arith, drop-cons, and_right, le-ltb, leb-false, leb-true, lt-ltb}
 use Rattle.bbm_rules.proofs.Common.{take-append-drop, list_any-append, list_any_more, list_any, proved, Is, changes}
-use Rattle.bbm_rules.proofs.Common.{same_tag, Tag, Heading, Event, Reading, read_since, reads_for_some}
+use Rattle.bbm_rules.proofs.Common.{same_tag, Tag, Heading, Event, Reading, read_since, reads_for_some, and-true}
 use Rattle.bbm_cert.specs.Spans.{goes_past, is_span, read_after}
-use Rattle.bbm_cert.proofs.HeldTags.{nothing_yet, unchanged}
 use Rattle.bbm_cert.proofs.Takers.{unread_yet}
-use Rattle.bbm_cert.proofs.Tests.{and_true, none_below}
+use Rattle.bbm_cert.proofs.Tests.{none_below}
+use Rattle.bbm_oracle_tags.proofs.MomentLemmas.{none-at-start, same-readings}
 
 -- ---- one more of those that were kept
 
@@ -87,7 +87,7 @@ module _ (heading : Heading) (p : ℕ) (tag : Tag) where
       ≡ read_after heading p tag n h
   within_read n h less =
       sym (capped n h) ∙ ap (λ (b : Bool). read_after heading p tag n h && b) (lt-ltb n (length h) less)
-      ∙ and_true (read_after heading p tag n h)
+      ∙ and-true (read_after heading p tag n h)
 
   pub spans_next : (e : Event) (h : List Event) (spans : List Span) (n : ℕ)
       → lasts spans p tag n ≡ read_after heading p tag n h
@@ -113,10 +113,10 @@ module _ (heading : Heading) (p : ℕ) (tag : Tag) where
           or-false (lasts spans p tag n)
           ∙ so_far
           ∙ ap (λ (b : Bool). b || read_since heading n p tag h)
-          (sym (ap (λ (rs : List Reading). list_any (λ r. same_tag r.tag tag) rs) (unchanged heading.world e h p k)))
+          (sym (ap (λ (rs : List Reading). list_any (λ r. same_tag r.tag tag) rs) (same-readings heading.world e h p k)))
           ∙ sym (same_twice (nat_le n (length h)) read (read_since heading n p tag h))
 
   -- at the start
   pub nothing_lasts : (n : ℕ) → false ≡ read_after heading p tag n []
   nothing_lasts n =
-      sym (ap (λ (rs : List Reading). list_any (λ r. same_tag r.tag tag) rs || false) (nothing_yet heading.world p))
+      sym (ap (λ (rs : List Reading). list_any (λ r. same_tag r.tag tag) rs || false) (none-at-start heading.world p))

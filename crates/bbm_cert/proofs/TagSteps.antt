@@ -3,11 +3,10 @@ use Rattle.bbm_cert.proofs.Common.{or_comm}
 use Rattle.bbm_rules.proofs.Common.{◌≡◌, ℕ, zero, suc, ◌+◌, ◌-◌, ◌<◌, ◌≤◌, Bool, false, not, ◌&&◌, ◌||◌, List, [], ◌∷◌}
 use Rattle.bbm_rules.proofs.Common.{◌++◌, length, take, get_or, reverse, refl, sym, ◌∙◌, ap, arith, length-append}
 use Rattle.bbm_rules.proofs.Common.{length-reverse, reverse-append, reverse-reverse, take_more, Trust, Tag, Heading}
-use Rattle.bbm_rules.proofs.Common.{Event, Msr, holds_at, loses, reads}
+use Rattle.bbm_rules.proofs.Common.{Event, Msr, holds_at, loses, reads, and-true}
 use Rattle.std.proofs.lemmas.List.{get_or-reverse, get_or_append_left}
 use Rattle.std.proofs.Math.Seq.{take-append_seam}
 use Rattle.bbm_cert.specs.Takings.{AreWrites}
-use Rattle.bbm_cert.proofs.Tests.{and_true}
 
 -- one more event of a list that is read from its end
 pub next : {X : Type 0} (xs : List X) (i : ℕ) (x : X) → i < length xs
@@ -55,7 +54,7 @@ module _ (heading : Heading) (trust : Trust) (p root : ℕ) (tag : Tag) (events 
       ∙ ap (λ (b : Bool). b || reads heading (reverse (take (i + 1) events)) p tag root) is_before
       ∙ ap (λ (xs : List Event). holds_at heading trust p root tag h || reads heading xs p tag root) now
       ∙ or_comm (holds_at heading trust p root tag h) (reads heading (e ∷ h) p tag root)
-      ∙ ap (λ (b : Bool). reads heading (e ∷ h) p tag root || b) (sym (and_true (holds_at heading trust p root tag h)))
+      ∙ ap (λ (b : Bool). reads heading (e ∷ h) p tag root || b) (sym (and-true (holds_at heading trust p root tag h)))
       ∙ ap (λ (b : Bool). reads heading (e ∷ h) p tag root || (holds_at heading trust p root tag h && not b))
       (sym (kept_behind h))
       ∙ ap (λ (xs : List Event). holds_at heading trust p root tag xs) (sym now)

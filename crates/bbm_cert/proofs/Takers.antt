@@ -7,13 +7,13 @@ use Rattle.bbm_rules.proofs.Common.{◌∙◌, ap, inl, inr, arith, length-appen
 use Rattle.bbm_rules.proofs.Common.{leb-true, ne_eqb, or_from, or_left, or_right, get_or_default, length-drop}
 use Rattle.bbm_rules.proofs.Common.{length-reverse, take_all, list_any, proved, Is, answers, Barrier, Tag, Heading}
 use Rattle.bbm_rules.proofs.Common.{Event, Dsb, Tlbi, completes, reaches, completes_for, issues, itself, read_since}
-use Rattle.bbm_rules.proofs.Common.{reads_for_some, takes_tag}
+use Rattle.bbm_rules.proofs.Common.{reads_for_some, takes_tag, and-true}
 use Rattle.bbm_histories.specs.ClaimSteps.{tag_waits_at, tag_waits_at_after}
 use Rattle.bbm_cert.specs.Takings.{is_open_for}
-use Rattle.bbm_cert.proofs.Flushed.{answered, answered_is, any_reverse}
+use Rattle.bbm_cert.proofs.Flushed.{answered, answered_is}
 use Rattle.bbm_cert.proofs.Kepts.{length_before, split}
 use Rattle.bbm_cert.proofs.TagSteps.{next}
-use Rattle.bbm_cert.proofs.Tests.{and_true}
+use Rattle.bbm_lemmas.proofs.Tests.{any_reverse}
 
 stops : (c w : Bool) → cond c false w ≡ (w && not c)
 stops = proved 2 (λ c w. Is (cond c false w) (w && not c)) refl
@@ -103,7 +103,7 @@ module _ (heading : Heading) (p : ℕ) (tag : Tag) where
         apart
         ∙ at_none (pe == q) (is_tlbi k (Tlbi pe op xt)) does (tag_waits_at heading p tag t q k h)
     after_later t k (Dsb pe dsb) h apart = stops (pe == q && answers dsb k) (tag_waits_at heading p tag t q k h)
-    after_later t k x h apart = sym (and_true (tag_waits_at heading p tag t q k h))
+    after_later t k x h apart = sym (and-true (tag_waits_at heading p tag t q k h))
 
     pub none_waits : (t : ℕ) (k : Bool) (h : List Event) → ((n : ℕ) → n < length h → (t == suc n) ≡ false)
         → tag_waits_at heading p tag t q k h ≡ false

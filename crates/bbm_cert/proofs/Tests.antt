@@ -1,10 +1,8 @@
 -- Tests that are combined, and numbers that are compared. None of them speaks of events.
 use Rattle.bbm_cert.proofs.Common.{and-false, or-false}
-use Rattle.bbm_rules.proofs.Common.{◌≡◌, ℕ, Bool, true, false, cond, ◌&&◌, ◌||◌, not, nat_lt, List, [], ◌∷◌, refl, sym}
-use Rattle.bbm_rules.proofs.Common.{◌∙◌, ap, zero-le, le-ltb, or_from, list_any, proved, Is}
-
-pub and_true : (a : Bool) → (a && true) ≡ a
-and_true = proved 1 (λ a. Is (a && true) a) refl
+use Rattle.bbm_rules.proofs.Common.{◌≡◌, ℕ, Bool, true, false, cond, ◌&&◌, ◌||◌, not, nat_lt, List, refl, sym, ◌∙◌, ap}
+use Rattle.bbm_rules.proofs.Common.{zero-le, le-ltb, list_any, proved, Is, and-true}
+use Rattle.bbm_lemmas.proofs.Tests.{any_or, any_same}
 
 -- no number is below 0
 pub none_below : (n : ℕ) → nat_lt n 0 ≡ false
@@ -19,7 +17,7 @@ pub lt_at : (k : Bool) (n x y : ℕ) (f g : Bool) → nat_lt n x ≡ f → nat_l
     → nat_lt n (cond k x y) ≡ ((f && k) || g)
 lt_at true n x y f g is_f is_g none =
     is_f
-    ∙ sym (and_true f)
+    ∙ sym (and-true f)
     ∙ sym (or-false (f && true))
     ∙ ap (λ (b : Bool). (f && true) || b) (sym (sym is_g ∙ ap (nat_lt n) (none refl) ∙ none_below n))
 lt_at false n x y f g is_f is_g none = is_g ∙ ap (λ (b : Bool). b || g) (sym (and-false f))
@@ -30,16 +28,7 @@ and_or = proved 5 (λ a x c y m. Is (((a && x) || (c && y)) && m) ((a && (x && m
 -- two searches of one list
 pub any_both : {X : Type 0} (f g h : X → Bool) (xs : List X) → ((x : X) → (f x || g x) ≡ h x)
     → (list_any f xs || list_any g xs) ≡ list_any h xs
-any_both f g h [] each = refl
-any_both f g h (x ∷ xs) each =
-    proved 4 (λ a b c d. Is ((a || b) || (c || d)) ((a || c) || (b || d))) refl (f x) (list_any f xs) (g x)
-    (list_any g xs)
-    ∙ ap (λ (b : Bool). b || (list_any f xs || list_any g xs)) (each x)
-    ∙ ap (λ (b : Bool). h x || b) (any_both f g h xs each)
-
-pub any_never : {X : Type 0} (f : X → Bool) (xs : List X) → ((x : X) → f x ≡ false) → list_any f xs ≡ false
-any_never f [] each = refl
-any_never f (x ∷ xs) each = or_from (f x) (list_any f xs) (each x) (any_never f xs each)
+any_both f g h xs each = sym (any_or f g xs) ∙ any_same (λ x. f x || g x) h xs each
 
 -- A TLBI that waits at a position, and what it is marked by, with one more event: whether the event stands at the
 -- position, what it is there, whether some TLBI waited before, and the two marks.

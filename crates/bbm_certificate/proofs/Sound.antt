@@ -15,7 +15,7 @@ use Rattle.bbm_events.specs.declared.malformed.Malformed.{Malformed as Cause}
 use Rattle.bbm_rules.specs.declared.verdict.Verdict.TheVariants.{Malformed, Limit}
 use Rattle.bbm_events.specs.Certificate.{certificate_of, claim_of}
 use Rattle.bbm_events.specs.Heading.{Heading}
-use Rattle.bbm_events.specs.LineLaws.{HeadersAreInRange, ItemsFit}
+use Rattle.bbm_events.specs.LineLaws.{LineLaws}
 use Rattle.bbm_events.specs.Lines.{header_of, item_of}
 use Rattle.bbm_certificate.specs.CertificateReading.{AreRead, AtClaims, AtEnd, AtEvents, AtHeader, BehindLog, GoesOn}
 use Rattle.bbm_certificate.specs.CertificateReading.{IsSound, Reached, Said, Stopped, Stops, Turned, Whole, after_claim}
@@ -23,11 +23,6 @@ use Rattle.bbm_certificate.specs.CertificateReading.{after_claim_item, after_cla
 use Rattle.bbm_certificate.specs.CertificateReading.{after_header, after_item, after_line, after_log, claim_limit}
 use Rattle.bbm_certificate.specs.CertificateReading.{cut_at, end_of, event_limit, next_number, read_after, read_from}
 use Rattle.bbm_certificate.specs.CertificateReading.{read_of, too_long_at, turned_by}
-
--- the laws of the lines of a log
-pub record LineLaws : Type 0 where
-  pub header : HeadersAreInRange
-  pub item : ItemsFit
 
 -- what is kept after a line is sound, and one line longer
 abbrev pub Turns : Reached → Turned → Type 0

@@ -8,14 +8,12 @@ use Rattle.bbm_rules.proofs.Common.{keeps, Trust, Patterns, Listed, answered_whe
 use Rattle.bbm_rules.proofs.Common.{second_step, cover_at, note, noted, ValidWrite, last_valid, later, Noted, page_of}
 use Rattle.bbm_rules.proofs.Common.{Barrier, Heading, Event, Dsb, Tag, holds_at, loses, Node, held_at, from_contains}
 use Rattle.bbm_rules.proofs.Common.{in_left, in_right, to_contains, In, same_truth}
+use Rattle.bbm_rules.proofs.Common.{same_Some}
 use Rattle.bbm_rules.specs.Broken.{broken}
 use Rattle.bbm_rules.specs.Tree.{tree}
 use Rattle.bbm_alike.specs.Alike.{Alike, TakesAlike}
 use Rattle.bbm_certify.proofs.PlaceClaims.{LeastClaim, forgotten, least_claim, listed_one, listed_two}
 use Rattle.bbm_certify.proofs.TagClaims as tags
-
-same_some : {A : Type 0} (x y : A) → Some x ≡ Some y → x ≡ y
-same_some x y e = cc
 
 -- what is cleansed stays so
 grows : (heading : Heading) (trust : Trust) (place p : ℕ) (n : Noted) (since : List Noted)
@@ -82,14 +80,14 @@ module _ (heading : Heading) (known : Known heading) (cs : List Claim) where
         newest = note heading Patterns (noted heading Patterns h) (Dsb q dsb)
 
         same_write : w ≡ w'
-        same_write = same_some w w' (sym is ∙ (ap (last_valid n.kind n.level place) so_far.notes ∙ is'))
+        same_write = same_Some w w' (sym is ∙ (ap (last_valid n.kind n.level place) so_far.notes ∙ is'))
 
         not_before : cleansed heading Patterns place p w.since ≡ false → (v : ValidWrite)
             → IsCleansed heading (noted heading Patterns h) place p v → ⊥
         not_before unclean v k =
             let same_node : k.node ≡ n = known.one_node.at_most_one h kept k.node n k.in_tree in_tree
             (sym k.inside ∙ inside) in
-            let same : v ≡ w = same_some v w (sym k.is_last
+            let same : v ≡ w = same_Some v w (sym k.is_last
             ∙ (ap (λ (m : Node). last_valid m.kind m.level place (noted heading Patterns h)) same_node ∙ is)) in
             true≢false (sym k.is_clean ∙ (ap (λ (x : ValidWrite). cleansed heading Patterns place p x.since) same ∙ unclean))
 

@@ -8,6 +8,7 @@ use Rattle.bbm_rules.proofs.Common.{inr, true≢false, arith, length-append, cas
 use Rattle.bbm_rules.proofs.Common.{Claim, Place, Two, Taken, PeMask, Trust, Patterns, cleansed, seen, ValidWrite}
 use Rattle.bbm_rules.proofs.Common.{last_valid, Noted, Cleansed, page_of, Heading, Event, Node, node_of, in_append}
 use Rattle.bbm_rules.proofs.Common.{in_left, in_right, In}
+use Rattle.bbm_rules.proofs.Common.{none-some, same_Some}
 use Rattle.bbm_regimes.specs.PeMask.{pe_in}
 use Rattle.bbm_oracle_patterns.specs.Kept.{write_in}
 use Rattle.bbm_oracle_patterns.specs.declared.search.ValidWrite.{ValidWrite as Found}
@@ -191,9 +192,6 @@ newest_part newest e log part i below at k =
     (k.0, k.1, k.2, k.3, k.4 ∙ ap suc count)
 
 module _ (heading : Heading) (n : Node) (place : ℕ) (newest : Noted) (log : List Kept) where
-  same_write : (w v : ValidWrite) → Some w ≡ Some v → w ≡ v
-  same_write w v e = cc
-
   pub in_found : (f : Found) (part : List Kept) (old new : List Claim)
       → last_valid n.kind n.level place (notes_of (reverse log)) ≡ write_in log (Some f)
       → part ≡ drop (f.index + 1) log
@@ -217,45 +215,28 @@ module _ (heading : Heading) (n : Node) (place : ℕ) (newest : Noted) (log : Li
           → IsDueSince heading place newest w.since heading.pes c
           → IsDueSince heading place newest (notes_behind (f.index + 1) (reverse part)) heading.pes c
       back c w other k =
-          let same : w ≡ the_write = same_write w the_write (sym other ∙ is) in
+          let same : w ≡ the_write = same_Some w the_write (sym other ∙ is) in
           subst (λ (ks : List Kept). IsDueSince heading place newest (notes_behind (f.index + 1) (reverse ks)) heading.pes c) (sym at)
           (subst (λ (x : ValidWrite). IsDueSince heading place newest x.since heading.pes c) same k)
 
   pub in_none : (due : List Claim) → last_valid n.kind n.level place (notes_of (reverse log)) ≡ None
       → Adds (IsDueIn heading n place newest (notes_of (reverse log))) due due
   in_none due none =
-      adds_none (IsDueIn heading n place newest (notes_of (reverse log))) due (λ c k. none_some k.0 (sym none ∙ k.1))
-    where
-      is_there : Option ValidWrite → Bool
-      is_there None = false
-      is_there (Some v) = true
-
-      none_some : (w : ValidWrite) → None ≡ Some w → ⊥
-      none_some w e = true≢false (sym (ap is_there e))
+      adds_none (IsDueIn heading n place newest (notes_of (reverse log))) due (λ c k. none-some k.0 (sym none ∙ k.1))
 
 -- ---- the place as one of a tree
 
 module _ (heading : Heading) (trust : Trust) (after : List Noted) (newest : Noted) (h : List Noted) (place : ℕ) where
-  same_node : (n m : Node) → Some n ≡ Some m → n ≡ m
-  same_node n m e = cc
-
   pub at_found : (n : Node) (old new : List Claim) → node_of heading trust after (page_of place) ≡ Some n
       → Adds (IsDueIn heading n place newest h) old new → Adds (IsDueAt heading trust after newest h place) old new
   at_found n old new is adds =
       adds_same (IsDueIn heading n place newest h) (IsDueAt heading trust after newest h place) old new adds
       (λ c k. (n, is, k))
-      (λ c k. subst (λ (m : Node). IsDueIn heading m place newest h c) (same_node k.0 n (sym k.1 ∙ is)) k.2)
+      (λ c k. subst (λ (m : Node). IsDueIn heading m place newest h c) (same_Some k.0 n (sym k.1 ∙ is)) k.2)
 
   pub at_none : (due : List Claim) → node_of heading trust after (page_of place) ≡ None
       → Adds (IsDueAt heading trust after newest h place) due due
-  at_none due none = adds_none (IsDueAt heading trust after newest h place) due (λ c k. none_some k.0 (sym none ∙ k.1))
-    where
-      is_there : Option Node → Bool
-      is_there None = false
-      is_there (Some v) = true
-
-      none_some : (n : Node) → None ≡ Some n → ⊥
-      none_some n e = true≢false (sym (ap is_there e))
+  at_none due none = adds_none (IsDueAt heading trust after newest h place) due (λ c k. none-some k.0 (sym none ∙ k.1))
 
 -- what is due for the items of a list, item by item
 abbrev pub Each : {A : Type 0} → (A → Claim → Type 0) → List A → Claim → Type 0

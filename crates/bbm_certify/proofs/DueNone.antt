@@ -1,56 +1,18 @@
 -- No claim is due at an event that is no DSB.
-use Rattle.bbm_certify.proofs.Common.{Seen, Kind, IsCleansed, IsDue}
-use Rattle.bbm_rules.proofs.Common.{◌≡◌, ◌⊎◌, ℕ, Bool, true, false, not, ◌&&◌, ◌==◌, cond, List, [], ◌∷◌, ◌++◌, Option}
-use Rattle.bbm_rules.proofs.Common.{Some, None, Contains, refl, sym, ◌∙◌, ap, subst, inl, inr, true≢false, append_assoc}
-use Rattle.bbm_rules.proofs.Common.{and_from, not_from_false, or_right, is_valid, Claim, Place, Two, Taken, Patterns}
-use Rattle.bbm_rules.proofs.Common.{cleansed, seen, note, noted, ValidWrite, last_valid, last_valid_after, later, Noted}
-use Rattle.bbm_rules.proofs.Common.{Answer, Cleansed, Publication, page_of, Barrier, Heading, Event, Init, Write, Dsb}
-use Rattle.bbm_rules.proofs.Common.{Tag, Issued, holds_at, loses, reads, Node}
+use Rattle.bbm_certify.proofs.Common.{Kind, IsCleansed, IsDue}
+use Rattle.bbm_rules.proofs.Common.{◌≡◌, ◌⊎◌, ℕ, Bool, true, false, not, ◌&&◌, ◌==◌, cond, List, [], ◌∷◌, Option, Some}
+use Rattle.bbm_rules.proofs.Common.{None, Contains, refl, sym, ◌∙◌, ap, inl, inr, true≢false, and_from, not_from_false}
+use Rattle.bbm_rules.proofs.Common.{or_right, is_valid, Claim, Place, Two, Taken, Patterns, cleansed, note, noted}
+use Rattle.bbm_rules.proofs.Common.{ValidWrite, last_valid, last_valid_after, later, Noted, page_of, Barrier, Heading}
+use Rattle.bbm_rules.proofs.Common.{Event, Init, Write, Dsb, Tag, holds_at, loses, reads, Node}
+use Rattle.bbm_rules.proofs.Common.{none-some}
 use Rattle.bbm_rules.specs.Tree.{tree}
 use Rattle.bbm_histories.specs.HistorySteps.{cleansed_after}
 use Rattle.bbm_histories.specs.TreeChanges.{Attaches}
 use Rattle.bbm_histories.specs.ValueChanges.{HoldsPresent}
 use Rattle.bbm_certify.proofs.DuePlaces.{Was, was}
-
--- ---- what is cleansed was seen
-
-published_on : (heading : Heading) (place p : ℕ) (newer since : List Noted) (b : Noted) → Publication heading place p since b
-    → Publication heading place p (newer ++ since) b
-published_on heading place p newer since b k = record {
-  q = k.q;
-  dsb = k.dsb;
-  value = k.value;
-  write = k.write;
-  newer = newer ++ k.newer;
-  between = k.between;
-  older = k.older;
-  split = ap (λ (ns : List Noted). newer ++ ns) k.split
-      ∙ sym (append_assoc newer k.newer (b ∷ (k.between ++ k.write ∷ k.older)));
-  wrote = k.wrote;
-  barrier = k.barrier;
-  publishes = k.publishes;
-}
-
--- a TLBI that is answered stands among the events
-published_before : (heading : Heading) (place p : ℕ) (since : List Noted) (t : Issued Noted) (d b : Noted) → Answer since t d
-    → Publication heading place p t.before b → Publication heading place p since b
-published_before heading place p since t d b a k =
-    let whole : (a.newer ++ d ∷ (a.is_open.newer ++ t.tlbi ∷ [])) ++ t.before ≡ since
-    = append_assoc a.newer (d ∷ (a.is_open.newer ++ t.tlbi ∷ [])) t.before
-    ∙ (ap (λ (ns : List Noted). a.newer ++ d ∷ ns) (append_assoc a.is_open.newer (t.tlbi ∷ []) t.before)
-    ∙ (ap (λ (ns : List Noted). a.newer ++ d ∷ ns) (sym a.is_open.split) ∙ sym a.split)) in
-    subst (λ (ns : List Noted). Publication heading place p ns b) whole
-    (published_on heading place p (a.newer ++ d ∷ (a.is_open.newer ++ t.tlbi ∷ [])) t.before b k)
-
-seen_of : (heading : Heading) (place p : ℕ) (since : List Noted) → Cleansed heading Patterns place p since
-    → Seen heading place p since
-seen_of heading place p since (inl k) =
-    (k.b, published_before heading place p since k.t k.d k.b k.flush.answer k.published)
-seen_of heading place p since (inr k) = (
-  k.b,
-  published_before heading place p since k.t2 k.d2 k.b k.second.answer
-      (published_before heading place p k.t2.before k.t1 k.d1 k.b k.first.flush.answer k.first.published),
-)
+use Rattle.bbm_histories.proofs.SeenFirst.{cleansed_seen}
+use Rattle.bbm_histories.specs.PatternLaws.{PatternsAfter}
 
 -- ---- one more event
 
@@ -75,24 +37,13 @@ write_after kind level a (Write pe at value) n found w k = by (at == a && is_val
     by false e = inr (was n found w e)
 write_after kind level a (Init pe page) n found w k = by (page == page_of a) k
   where
-    is_there : Option ValidWrite → Bool
-    is_there None = false
-    is_there (Some v) = true
-
-    none_some : None ≡ Some w → ⊥
-    none_some e = true≢false (sym (ap is_there e))
-
     by : (b : Bool) → cond b None (later n found) ≡ Some w → (w.since ≡ []) ⊎ Was n found w
-    by true e = absurd (none_some e)
+    by true e = absurd (none-some w e)
     by false e = inr (was n found w e)
 write_after kind level a e n found w k = inr (was n found w k)
 
 module _ (heading : Heading) (h : List Event) (e : Event) (other : (q : ℕ) (dsb : Barrier) → e ≡ Dsb q dsb → ⊥)
-    (sound : (place p : ℕ) (since : List Noted) → cleansed heading Patterns place p since ≡ true
-    → Cleansed heading Patterns place p since)
-    (step : (place p : ℕ) (n : Noted) (since : List Noted) → cleansed heading Patterns place p (n ∷ since)
-    ≡ cleansed_after heading place p n.event since)
-    (seen_there : (place p : ℕ) (since : List Noted) → Seen heading place p since → seen heading place p since ≡ true)
+    (steps : PatternsAfter heading)
     (gained : (n : Node) → Contains (tree heading Patterns (noted heading Patterns (e ∷ h))) n
     → Contains (tree heading Patterns (noted heading Patterns h)) n ⊎ Attaches heading Patterns (noted heading Patterns h) e n)
     (attached : (n : Node) (place : ℕ) → Attaches heading Patterns (noted heading Patterns h) e n → page_of place ≡ n.page
@@ -125,7 +76,7 @@ module _ (heading : Heading) (h : List Event) (e : Event) (other : (q : ℕ) (ds
     where
       in_tree : Contains (tree heading Patterns before) k.node ⊎ Attaches heading Patterns before e k.node → ⊥
       in_tree (inr a_new) =
-          true≢false (sym (seen_there a p w.since (seen_of heading a p w.since (sound a p w.since k.is_clean)))
+          true≢false (sym (cleansed_seen heading steps a p w.since k.is_clean)
           ∙ (attached k.node a a_new k.inside).unseen w p k.is_last)
       in_tree (inl there) =
           by (write_after k.node.kind k.node.level a e newest (last_valid k.node.kind k.node.level a before) w k.is_last)
@@ -140,7 +91,7 @@ module _ (heading : Heading) (h : List Event) (e : Event) (other : (q : ℕ) (ds
                 inside = k.inside;
                 is_last = x.is;
                 is_clean = sym (same_cleansed heading a p x.before.since e other)
-                    ∙ (sym (step a p newest x.before.since)
+                    ∙ (sym (steps.cleansed a p newest x.before.since)
                     ∙ (ap (λ (ns : List Noted). cleansed heading Patterns a p ns) x.since_is ∙ k.is_clean));
               })
 

@@ -4,6 +4,7 @@ use Rattle.bbm_rules.proofs.Common.{◌≡◌, ℕ, ◌<◌, Bool, true, false, 
 use Rattle.bbm_rules.proofs.Common.{◌∙◌, ap, subst, inl, inr, true≢false, Claim, Place, Two, Taken, Patterns, cleansed}
 use Rattle.bbm_rules.proofs.Common.{note, noted, ValidWrite, last_valid, later, Noted, Cleansed, page_of, Barrier}
 use Rattle.bbm_rules.proofs.Common.{Heading, Event, Dsb, Node, node_of}
+use Rattle.bbm_rules.proofs.Common.{none-some, same_Some}
 use Rattle.bbm_rules.specs.Tree.{tree}
 use Rattle.bbm_certify.specs.DueAt.{IsLeastClaim}
 
@@ -14,21 +15,11 @@ pub record Was (n : Noted) (found : Option ValidWrite) (w : ValidWrite) : Type 0
   pub since_is : n ∷ before.since ≡ w.since
 
 pub was : (n : Noted) (found : Option ValidWrite) (w : ValidWrite) → later n found ≡ Some w → Was n found w
-was n None w e = absurd (none_some w e)
-  where
-    is_there : Option ValidWrite → Bool
-    is_there None = false
-    is_there (Some v) = true
-
-    none_some : (v : ValidWrite) → None ≡ Some v → ⊥
-    none_some v k = true≢false (sym (ap is_there k))
+was n None w e = absurd (none-some w e)
 was n (Some v) w e = record { before = v; is = refl; since_is = same (record { value = v.value; since = n ∷ v.since }) w e }
   where
     same : (x y : ValidWrite) → Some x ≡ Some y → x.since ≡ y.since
     same x y k = let z : x ≡ y = cc in ap (λ (u : ValidWrite). u.since) z
-
-same_write : (w v : ValidWrite) → Some w ≡ Some v → w ≡ v
-same_write w v e = cc
 
 module _ (heading : Heading) (h : List Event) (q : ℕ) (dsb : Barrier)
     (sound : (place p : ℕ) (since : List Noted) → cleansed heading Patterns place p since ≡ true
@@ -63,7 +54,7 @@ module _ (heading : Heading) (h : List Event) (q : ℕ) (dsb : Barrier)
     not_before : (v : ValidWrite) → IsCleansed heading before a p v → ⊥
     not_before v k =
         let same_node : k.node ≡ n = one_node k.node n k.in_tree (was_node n in_after) (sym k.inside ∙ inside) in
-        let same : v ≡ w = same_write v w (sym k.is_last
+        let same : v ≡ w = same_Some v w (sym k.is_last
         ∙ (ap (λ (m : Node). last_valid m.kind m.level a before) same_node ∙ is)) in
         true≢false (sym k.is_clean ∙ (ap (λ (x : ValidWrite). cleansed heading Patterns a p x.since) same ∙ unclean))
 

@@ -2,17 +2,18 @@
 use Rattle.bbm_certify.proofs.Common.{note_of, notes_of, Kept, notes, IsNewest, writes_at, Known, IsCertificate, AreDue}
 use Rattle.bbm_certify.proofs.Common.{HasTaken, IsMaking, Adds, AreTaken, IsKnown, ReadsAreWritten}
 use Rattle.bbm_rules.proofs.Common.{◌≡◌, ℕ, suc, ◌-◌, ◌≤◌, Bool, true, ◌||◌, List, [], ◌∷◌, ◌++◌, length, take, drop}
-use Rattle.bbm_rules.proofs.Common.{reverse, is_none, refl, sym, ◌∙◌, ap, subst, arith, inl, inr, length-append}
-use Rattle.bbm_rules.proofs.Common.{and_parts, length-reverse, length-take-le, reverse-append, reverse-reverse}
-use Rattle.bbm_rules.proofs.Common.{take-append-drop, take_at, list_all, Claim, keeps, Trust, Patterns, note, noted}
-use Rattle.bbm_rules.proofs.Common.{among, Noted, events_of, Barrier, Heading, Event, Dsb, In}
-use Rattle.bbm_rules.specs.Broken.{broken}
+use Rattle.bbm_rules.proofs.Common.{reverse, refl, sym, ◌∙◌, ap, subst, arith, inl, inr, length-append, and_parts}
+use Rattle.bbm_rules.proofs.Common.{length-reverse, length-take-le, reverse-append, reverse-reverse, take-append-drop}
+use Rattle.bbm_rules.proofs.Common.{take_at, list_all, Claim, keeps, Trust, Patterns, note, noted, among, Noted}
+use Rattle.bbm_rules.proofs.Common.{Barrier, Heading, Event, Dsb, In}
 use Rattle.bbm_oracle_trees.specs.Past.{Past}
 use Rattle.bbm_certify.specs.DueAt.{AreDue as ArePlaces}
-use Rattle.bbm_certify.specs.Made.{Stands}
+use Rattle.bbm_oracle_trees.specs.ByPatterns.{StandsByPatterns}
 use Rattle.bbm_certify.specs.declared.making.Making.{Making}
 use Rattle.bbm_certify.proofs.Knowing.{held_now, reads_written}
 use Rattle.bbm_certify.proofs.Whole.{due_at_dsb, written_next}
+use Rattle.bbm_histories.proofs.Induction.{kept_before}
+use Rattle.bbm_oracle_patterns.proofs.KeptNotes.{length_events, length_notes}
 
 -- ---- lists
 
@@ -27,31 +28,17 @@ without_last {A} xs x rest split =
     ap (λ (ys : List A). reverse (take (length xs - 1) ys)) whole
     ∙ (ap (λ (ys : List A). reverse ys) (take_at (reverse rest) (x ∷ []) (length xs - 1) count) ∙ reverse-reverse rest)
 
-pub length_notes : (ks : List Kept) → length (notes_of ks) ≡ length ks
-length_notes [] = refl
-length_notes (k ∷ ks) = ap suc (length_notes ks)
-
-pub length_events : (ks : List Kept) → length (events_of (notes_of ks)) ≡ length ks
-length_events [] = refl
-length_events (k ∷ ks) = ap suc (length_events ks)
-
 -- ---- what is kept
-
-keeps_older : (heading : Heading) (newer h : List Event) → keeps heading Patterns (newer ++ h) ≡ true → keeps heading Patterns h ≡ true
-keeps_older heading [] h kept = kept
-keeps_older heading (e ∷ newer) h kept =
-    keeps_older heading newer h
-    (and_parts (keeps heading Patterns (newer ++ h)) (is_none (broken heading Patterns (newer ++ h) e)) kept).0
 
 pub keeps_first : (heading : Heading) (log : List Event) (i : ℕ) → keeps heading Patterns (reverse log) ≡ true
     → keeps heading Patterns (reverse (take i log)) ≡ true
 keeps_first heading log i kept =
-    keeps_older heading (reverse (drop i log)) (reverse (take i log))
+    kept_before heading Patterns (reverse (drop i log)) (reverse (take i log))
     (ap (λ (h : List Event). keeps heading Patterns h)
     (sym (ap (λ (xs : List Event). reverse xs) (sym (take-append-drop i log)) ∙ reverse-append (take i log) (drop i log))) ∙ kept)
 
 -- how many events a history has
-pub count_is : (past : Past) (heading : Heading) (h : List Event) → Stands past heading h → length past.kept ≡ length h
+pub count_is : (past : Past) (heading : Heading) (h : List Event) → StandsByPatterns past heading h → length past.kept ≡ length h
 count_is past heading h s = sym (length_events past.kept) ∙ ap length s.kept.events_are
 
 -- ---- one event
@@ -110,7 +97,7 @@ module _ (heading : Heading) (known : Known heading) (m : Making) (h : List Even
 
   -- what is kept for the next event
   pub making_next : (e : Event) (new : Making) → IsMaking m heading h → keeps heading Patterns (e ∷ h) ≡ true
-      → Stands new.history heading (e ∷ h)
+      → StandsByPatterns new.history heading (e ∷ h)
       → ((a : ℕ) → among a new.places.items ≡ (writes_at a e || among a m.places.items))
       → (ReadsAreWritten heading h e → IsKnown heading h m.known.items → IsKnown heading (e ∷ h) new.known.items)
       → IsMaking new heading (e ∷ h)
@@ -138,6 +125,6 @@ all_in test (y ∷ ys) x e (inr i) = all_in test ys x (and_parts (test y) (list_
 
 -- how many events a history of the first of a log has
 pub first_count : (past : Past) (heading : Heading) (log : List Event) (i : ℕ) → i ≤ length log
-    → Stands past heading (reverse (take i log)) → length past.kept ≡ i
+    → StandsByPatterns past heading (reverse (take i log)) → length past.kept ≡ i
 first_count past heading log i within s =
     count_is past heading (reverse (take i log)) s ∙ (length-reverse (take i log) ∙ length-take-le i log within)

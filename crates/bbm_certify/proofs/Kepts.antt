@@ -1,51 +1,14 @@
 -- Publications and answers, by the events of a log that is kept. Everywhere `from` events came before the log.
 use Rattle.bbm_certify.proofs.Common.{cover_in, note_of, notes_behind, Kept, completed_by, is_flush_of, split_in}
 use Rattle.bbm_certify.proofs.Common.{answers, publishes}
-use Rattle.bbm_rules.proofs.Common.{◌≡◌, ℕ, suc, ◌+◌, true, false, not, ◌&&◌, ◌==◌, List, ◌∷◌, ◌++◌, length, reverse}
-use Rattle.bbm_rules.proofs.Common.{refl, sym, ◌∙◌, ap, subst, true≢false, and_from, and_parts, eq-eqb, eqb-true}
-use Rattle.bbm_rules.proofs.Common.{not-true, not_from_false, Cover, Half, Second, Full, same_cover, writes, any, Noted}
-use Rattle.bbm_rules.proofs.Common.{Publication, Barrier, Heading, Event, Dsb, Write, Issued, completes, reaches, Open}
-use Rattle.bbm_rules.proofs.Common.{completes_for, issues, publishes_to, any_finds, any_found, in_split, is_none_of}
-use Rattle.bbm_rules.proofs.Common.{none_of, In}
-use Rattle.bbm_tlbi_scope.specs.declared.entry.Cover.TheVariants.{None as NoCover}
+use Rattle.bbm_rules.proofs.Common.{◌≡◌, ℕ, suc, ◌+◌, true, false, not, ◌&&◌, List, ◌∷◌, ◌++◌, length, reverse, refl}
+use Rattle.bbm_rules.proofs.Common.{sym, ◌∙◌, ap, subst, true≢false, and_from, and_parts, not-true, not_from_false}
+use Rattle.bbm_rules.proofs.Common.{Cover, same_cover, writes, any, Noted, Publication, Barrier, Heading, Event, Dsb}
+use Rattle.bbm_rules.proofs.Common.{Write, Issued, completes, reaches, Open, completes_for, issues, publishes_to}
+use Rattle.bbm_rules.proofs.Common.{any_finds, any_found, in_split, is_none_of, none_of, In}
 use Rattle.bbm_rules.specs.Notes.{event_of}
 use Rattle.bbm_certify.proofs.Spots.{Seat, notes_split, seat}
-
-pub same_covers : (c d : Cover) → same_cover c d ≡ true → c ≡ d
-same_covers NoCover NoCover e = refl
-same_covers NoCover Half e = absurd (true≢false (sym e))
-same_covers NoCover Second e = absurd (true≢false (sym e))
-same_covers NoCover Full e = absurd (true≢false (sym e))
-same_covers Half NoCover e = absurd (true≢false (sym e))
-same_covers Half Half e = refl
-same_covers Half Second e = absurd (true≢false (sym e))
-same_covers Half Full e = absurd (true≢false (sym e))
-same_covers Second NoCover e = absurd (true≢false (sym e))
-same_covers Second Half e = absurd (true≢false (sym e))
-same_covers Second Second e = refl
-same_covers Second Full e = absurd (true≢false (sym e))
-same_covers Full NoCover e = absurd (true≢false (sym e))
-same_covers Full Half e = absurd (true≢false (sym e))
-same_covers Full Second e = absurd (true≢false (sym e))
-same_covers Full Full e = refl
-
-cover_itself : (c : Cover) → same_cover c c ≡ true
-cover_itself NoCover = refl
-cover_itself Half = refl
-cover_itself Second = refl
-cover_itself Full = refl
-
-writes_it : (q place value : ℕ) → writes q place (Write q place value) ≡ true
-writes_it q place value = and_from (q == q) (place == place) (eq-eqb q q refl) (eq-eqb place place refl)
-
--- a write of the place by q
-written_by : (q place : ℕ) (e : Event) → writes q place e ≡ true → (value : ℕ) × (e ≡ Write q place value)
-written_by q place (Write pe at value) k =
-    let parts = and_parts (pe == q) (at == place) k in (
-      value,
-      ap (λ (x : ℕ). Write x at value) (eqb-true pe q parts.0) ∙ ap (λ (x : ℕ). Write q x value) (eqb-true at place parts.1),
-    )
-written_by q place e k = absurd (true≢false (sym k))
+use Rattle.bbm_rules.proofs.PatternLaw.{same_by, same_self, write_by, writes_it}
 
 module _ (heading : Heading) (place p from : ℕ) where
   -- ---- publications
@@ -100,7 +63,7 @@ module _ (heading : Heading) (place p from : ℕ) where
               → Publication heading place p (notes_behind from (reverse log)) (note_of (from + length before) k)
           two reach found =
               let w = split_in before found.0 found.1 in
-              let wrote = written_by q place found.0.event found.2 in
+              let wrote = write_by q place found.0.event found.2 in
               record {
                 q = q;
                 dsb = dsb;
@@ -162,7 +125,7 @@ module _ (heading : Heading) (place p from : ℕ) where
                   (ap (λ (e : Event). completes dsb e) (sym same) ∙ a.completed)
                   (and_from (reaches heading s.k.event p) (same_cover (cover_in s.k.covers.items place) cover)
                   (ap (λ (e : Event). reaches heading e p) (sym same) ∙ a.reached)
-                  (ap (λ (c : Cover). same_cover c cover) (sym covers ∙ a.covered) ∙ cover_itself cover))))
+                  (ap (λ (c : Cover). same_cover c cover) (sym covers ∙ a.covered) ∙ same_self cover))))
                   (not_from_false (any (completed_by q s.k.event) s.after)
                   (is_none_of (completed_by q s.k.event) s.after (λ x i. uncompleted x i same)));
             }
@@ -195,7 +158,7 @@ module _ (heading : Heading) (place p from : ℕ) where
           };
           completed = b.0;
           reached = c.0;
-          covered = same_covers (cover_in k.covers.items place) cover c.1;
+          covered = same_by (cover_in k.covers.items place) cover c.1;
         }
       where
         uncompleted : any (completed_by q k.event) after ≡ false → (x : Noted) (newer older : List Noted)

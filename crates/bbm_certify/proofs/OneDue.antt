@@ -1,9 +1,10 @@
 -- What is due at an event: one claim at most for a place or a tag at a PE.
 use Rattle.bbm_certify.proofs.Common.{IsCleansed, IsDue, IsLeast, OneAt, TakenAt, TwoAt, claim_key, less}
 use Rattle.bbm_rules.proofs.Common.{◌≡◌, ℕ, zero, suc, ◌≤◌, Bool, false, ◌&&◌, ◌==◌, nat_lt, List, [], ◌∷◌, ◌++◌}
-use Rattle.bbm_rules.proofs.Common.{length, Some, Contains, refl, sym, ◌∙◌, ap, subst, arith, eq-eqb, ltb-false}
+use Rattle.bbm_rules.proofs.Common.{length, Contains, refl, sym, ◌∙◌, ap, subst, arith, eq-eqb, ltb-false}
 use Rattle.bbm_rules.proofs.Common.{or_parts, Claim, Place, Two, Taken, Patterns, noted, ValidWrite, last_valid, Noted}
 use Rattle.bbm_rules.proofs.Common.{OneStep, Heading, Event, Tag, El2Tag, Vmid, Asid, Ttbr1Tag, Node}
+use Rattle.bbm_rules.proofs.Common.{same_Some}
 use Rattle.bbm_rules.specs.Tree.{tree}
 use Rattle.bbm_certify.specs.LeastClaims.{tag_key}
 
@@ -97,9 +98,6 @@ key_size (Taken p Ttbr1Tag t d) = refl
 
 -- ---- claims of one event
 
-same_write : (w v : ValidWrite) → Some w ≡ Some v → w ≡ v
-same_write w v e = cc
-
 module _ (heading : Heading) (h : List Event) (e : Event)
     (one_node : (n m : Node) → Contains (tree heading Patterns (noted heading Patterns (e ∷ h))) n
     → Contains (tree heading Patterns (noted heading Patterns (e ∷ h))) m → n.page ≡ m.page → n ≡ m) where
@@ -110,7 +108,7 @@ module _ (heading : Heading) (h : List Event) (e : Event)
   one_write : (a p : ℕ) (w v : ValidWrite) → IsCleansed heading after a p w → IsCleansed heading after a p v → w ≡ v
   one_write a p w v k l =
       let same : k.node ≡ l.node = one_node k.node l.node k.in_tree l.in_tree (sym k.inside ∙ l.inside) in
-      same_write w v (sym k.is_last ∙ (ap (λ (n : Node). last_valid n.kind n.level a after) same ∙ l.is_last))
+      same_Some w v (sym k.is_last ∙ (ap (λ (n : Node). last_valid n.kind n.level a after) same ∙ l.is_last))
 
   -- the same place and PE
   module _ (p a p' a' : ℕ) (same_place : a ≡ a') (same_pe : p ≡ p') where

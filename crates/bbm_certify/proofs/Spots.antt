@@ -2,14 +2,7 @@
 use Rattle.bbm_certify.proofs.Common.{note_of, notes_behind, Kept}
 use Rattle.bbm_rules.proofs.Common.{◌≡◌, ℕ, suc, ◌+◌, List, [], ◌∷◌, ◌++◌, length, reverse, refl, sym, ◌∙◌, ap, arith}
 use Rattle.bbm_rules.proofs.Common.{append_assoc, length-append, length-reverse, reverse-append, reverse-reverse, Noted}
-
-pub notes_append : (from : ℕ) (xs ys : List Kept)
-    → notes_behind from (xs ++ ys) ≡ notes_behind (from + length ys) xs ++ notes_behind from ys
-notes_append from [] ys = refl
-notes_append from (x ∷ xs) ys =
-    let count : from + length (xs ++ ys) ≡ from + length ys + length xs = omega (arith, length-append xs ys) in
-    ap (λ (n : ℕ). note_of n x ∷ notes_behind from (xs ++ ys)) count
-    ∙ ap (λ (ns : List Noted). note_of (from + length ys + length xs) x ∷ ns) (notes_append from xs ys)
+use Rattle.bbm_oracle_patterns.proofs.KeptNotes.{notes_append}
 
 -- ---- a list with the newest first
 
@@ -22,10 +15,10 @@ record Parted (from : ℕ) (ks : List Kept) (newer older : List Noted) (n : Note
   pub newer_is : newer ≡ notes_behind (from + suc (length earlier)) later
   pub older_is : older ≡ notes_behind from earlier
 
-head_is : (x y : Noted) (xs ys : List Noted) → x ∷ xs ≡ y ∷ ys → y ≡ x
+pub head_is : (x y : Noted) (xs ys : List Noted) → x ∷ xs ≡ y ∷ ys → y ≡ x
 head_is x y xs ys e = cc
 
-tail_is : (x y : Noted) (xs ys : List Noted) → x ∷ xs ≡ y ∷ ys → ys ≡ xs
+pub tail_is : (x y : Noted) (xs ys : List Noted) → x ∷ xs ≡ y ∷ ys → ys ≡ xs
 tail_is x y xs ys e = cc
 
 parted : (from : ℕ) (ks : List Kept) (newer older : List Noted) (n : Noted) → notes_behind from ks ≡ newer ++ n ∷ older

@@ -1,33 +1,25 @@
 -- Which tags a DSB takes away, claim by claim: each has a least claim of it, and a list of claims that has this claim
 -- takes the tag away, too.
 use Rattle.bbm_certify.proofs.Common.{allows, Known, IsLeast, TakenAt, less}
-use Rattle.bbm_rules.proofs.Common.{◌≡◌, ℕ, suc, ◌<◌, ◌≤◌, Bool, true, false, not, ◌&&◌, nat_le, ◌==◌, List, [], ◌∷◌}
-use Rattle.bbm_rules.proofs.Common.{◌++◌, length, map, Contains, refl, sym, ◌∙◌, ap, subst, inl, inr, true≢false, arith}
-use Rattle.bbm_rules.proofs.Common.{and_from, and_left, and_parts, and_right, le-leb, leb-true, not-true}
-use Rattle.bbm_rules.proofs.Common.{not_from_false, or_cases, or_from, or_parts, Claim, Taken, Trust, same_tag}
-use Rattle.bbm_rules.proofs.Common.{Patterns, Listed, Barrier, Heading, Event, Dsb, Tag, Issued, completes, reaches}
-use Rattle.bbm_rules.proofs.Common.{unanswered, Open, TakenAway, Reading, holds_at, itself, loses, read_since, reads}
-use Rattle.bbm_rules.proofs.Common.{reads_for_some, readings, takes_tag, any_finds, any_found, from_contains, in_map}
-use Rattle.bbm_rules.proofs.Common.{to_contains, In}
+use Rattle.bbm_rules.proofs.Common.{◌≡◌, ℕ, suc, ◌<◌, Bool, true, false, not, ◌&&◌, nat_le, List, [], ◌∷◌, ◌++◌, length}
+use Rattle.bbm_rules.proofs.Common.{map, Contains, refl, sym, ◌∙◌, ap, subst, inl, inr, true≢false, arith, and_from}
+use Rattle.bbm_rules.proofs.Common.{and_parts, le-leb, not-true, not_from_false, or_cases, or_parts, Claim, Taken}
+use Rattle.bbm_rules.proofs.Common.{Trust, Patterns, Listed, Barrier, Heading, Event, Dsb, Tag, Issued, completes}
+use Rattle.bbm_rules.proofs.Common.{reaches, unanswered, Open, TakenAway, holds_at, itself, loses, read_since, reads}
+use Rattle.bbm_rules.proofs.Common.{reads_for_some, takes_tag, any_finds, any_found, from_contains, in_map, to_contains}
+use Rattle.bbm_rules.proofs.Common.{In}
 use Rattle.std.proofs.lemmas.Bool.{and_cases}
 use Rattle.bbm_histories.specs.HistorySteps.{answered_by, tag_waits}
 use Rattle.bbm_rules.specs.Tags.{is_taken_by}
 use Rattle.bbm_certify.specs.LeastClaims.{Holding}
 use Rattle.bbm_certify.proofs.OneClaim.{listed, named, only_this, this}
 use Rattle.bbm_certify.proofs.LeastFound.{LeastList, Over, Sized, finds_list, least_list}
+use Rattle.bbm_rules.proofs.TagLaw.{unread_all, some_reading}
 
 one : (ns : List ℕ) → Sized 1 ns → (t : ℕ) × (ns ≡ t ∷ [])
 one [] s = absurd s
 one (t ∷ []) s = (t, refl)
 one (t ∷ x ∷ ns) s = absurd s
-
--- a tag that is readable for one root is so for some
-reads_some : (heading : Heading) (h : List Event) (p root : ℕ) (tag : Tag) → reads heading h p tag root ≡ true
-    → reads_for_some heading h p tag ≡ true
-reads_some heading h p root tag e =
-    let r = any_found (λ (r : Reading). same_tag r.tag tag && r.root == root) (readings heading h p) e in
-    let parts = and_parts (same_tag r.0.tag tag) (r.0.root == root) r.2 in
-    any_finds (λ (r : Reading). same_tag r.tag tag) (readings heading h p) r.0 r.1 parts.0
 
 same_dsb : (q q' : ℕ) (dsb dsb' : Barrier) (h h' : List Event) → Dsb q dsb ∷ h ≡ Dsb q' dsb' ∷ h'
     → (q' ≡ q) × (dsb' ≡ dsb) × (h' ≡ h)
@@ -48,21 +40,6 @@ module _ (heading : Heading) (p : ℕ) (tag : Tag) where
   unread_at n (e ∷ after) moment none long =
       unread_at n after moment (or_parts (nat_le n (length (after ++ moment)) && reads_for_some heading (e ∷ (after ++ moment)) p tag)
       (read_since heading n p tag (after ++ moment)) none).1 long
-
-  never_read : (n : ℕ) (h : List Event)
-      → ((after moment : List Event) → h ≡ after ++ moment → n < length moment → reads_for_some heading moment p tag ≡ false)
-      → read_since heading n p tag h ≡ false
-  never_read n [] none = refl
-  never_read n (e ∷ h) none =
-      or_from (nat_le n (length h) && reads_for_some heading (e ∷ h) p tag) (read_since heading n p tag h)
-      (now (nat_le n (length h)) refl)
-      (never_read n h (λ after moment split. none (e ∷ after) moment (ap (λ (xs : List Event). e ∷ xs) split)))
-    where
-      now : (c : Bool) → nat_le n (length h) ≡ c → (nat_le n (length h) && reads_for_some heading (e ∷ h) p tag) ≡ false
-      now false short = and_left (nat_le n (length h)) (reads_for_some heading (e ∷ h) p tag) short
-      now true long =
-          and_right (nat_le n (length h)) (reads_for_some heading (e ∷ h) p tag)
-          (let le : n ≤ length h = leb-true n (length h) long in none [] (e ∷ h) refl (omega (arith, le)))
 
 module _ (heading : Heading) (known : Known heading) (p : ℕ) (tag : Tag) (q : ℕ) (dsb : Barrier) (h : List Event) where
   abbrev claim_of : Issued Event → Claim
@@ -136,7 +113,7 @@ module _ (heading : Heading) (known : Known heading) (p : ℕ) (tag : Tag) (q : 
         (and_from (completes dsb t.tlbi) (reaches heading t.tlbi p)
         (ap (λ (d : Barrier). completes d t.tlbi) (sym same.1) ∙ k.answered) k.reached) k.whole)
         (not_from_false (read_since heading (length t.before) p tag (Dsb q dsb ∷ h))
-        (never_read heading p tag (length t.before) (Dsb q dsb ∷ h)
+        (unread_all heading Patterns p tag (length t.before) (Dsb q dsb ∷ h)
         (λ after moment s. k.unread after moment (sym newest_is ∙ s))))) allowed)
 
   pub forgotten : (cs : List Claim) → loses heading (Listed cs) p tag (Dsb q dsb) h ≡ true
@@ -151,7 +128,7 @@ module _ (heading : Heading) (known : Known heading) (p : ℕ) (tag : Tag) (q : 
         | inl reading ↦
             let parts = and_parts (answered_by dsb (λ b. tag_waits heading p tag q b h))
             (not (reads_for_some heading (Dsb q dsb ∷ h) p tag)) (sym (known.tag_steps.lost p tag q dsb h) ∙ lost) in
-            true≢false (sym (reads_some heading (Dsb q dsb ∷ h) p k.0 tag reading)
+            true≢false (sym (some_reading heading (Dsb q dsb ∷ h) p tag k.0 reading)
             ∙ not-true (reads_for_some heading (Dsb q dsb ∷ h) p tag) parts.1)
         | inr stays ↦
             let parts = and_parts (holds_at heading Patterns p k.0 tag h)

@@ -7,16 +7,10 @@ use Rattle.bbm_rules.proofs.Common.{Heading, Event, Dsb, Issued, completes, Open
 use Rattle.bbm_rules.specs.Notes.{event_of}
 use Rattle.bbm_certify.proofs.Kepts.{Answered, Published, Waiting, answered_of, publication_of, published_in}
 use Rattle.bbm_certify.proofs.Kepts.{waiting_in}
-use Rattle.bbm_certify.proofs.Spots.{Seat, notes_split, seat}
+use Rattle.bbm_certify.proofs.Spots.{Seat, head_is, notes_split, seat, tail_is}
 
 same_barrier : (q q' : ℕ) (dsb dsb' : Barrier) → Dsb q dsb ≡ Dsb q' dsb' → (q ≡ q') × (dsb ≡ dsb')
 same_barrier q q' dsb dsb' e = ((cc), (cc))
-
-head_is : (x y : Noted) (xs ys : List Noted) → x ∷ xs ≡ y ∷ ys → y ≡ x
-head_is x y xs ys e = cc
-
-tail_is : (x y : Noted) (xs ys : List Noted) → x ∷ xs ≡ y ∷ ys → ys ≡ xs
-tail_is x y xs ys e = cc
 
 joined : (xs ys zs : List Kept) (k : Kept) → (xs ++ k ∷ ys) ++ zs ≡ xs ++ k ∷ (ys ++ zs)
 joined xs ys zs k = append_assoc xs (k ∷ ys) zs

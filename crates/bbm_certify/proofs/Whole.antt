@@ -2,11 +2,14 @@
 use Rattle.bbm_certify.proofs.Common.{Kind, Holding, writes_at, Known, IsCleansed, IsDue, AreDue, Adds, AreTaken}
 use Rattle.bbm_certify.proofs.Common.{IsKnown}
 use Rattle.bbm_rules.proofs.Common.{◌≡◌, ◌⊎◌, ℕ, ◌<◌, Bool, true, false, cond, ◌&&◌, ◌||◌, ◌==◌, List, [], ◌∷◌, Option}
-use Rattle.bbm_rules.proofs.Common.{Some, None, is_none, refl, sym, ◌∙◌, ap, subst, inl, inr, true≢false, and_parts}
-use Rattle.bbm_rules.proofs.Common.{eqb-true, or_parts, is_valid, Claim, Place, Two, Taken, keeps, Patterns, note}
+use Rattle.bbm_rules.proofs.Common.{Some, None, is_none, refl, sym, ◌∙◌, ap, inl, inr, and_parts}
+use Rattle.bbm_rules.proofs.Common.{or_parts, is_valid, Claim, Place, Two, Taken, keeps, Patterns, note}
 use Rattle.bbm_rules.proofs.Common.{noted, ValidWrite, last_valid, last_valid_after, later, among, Noted, page_of}
-use Rattle.bbm_rules.proofs.Common.{Barrier, Heading, Event, Init, Write, Dsb, any_found, In}
+use Rattle.bbm_rules.proofs.Common.{Barrier, Heading, Event, Init, Write, Dsb, In, Node, Contains}
+use Rattle.bbm_rules.proofs.Common.{none-some}
+use Rattle.bbm_lemmas.proofs.Words.{in_among}
 use Rattle.bbm_rules.specs.Broken.{broken}
+use Rattle.bbm_rules.specs.Tree.{tree}
 use Rattle.bbm_certify.specs.DueAt.{AreDue as ArePlaces}
 use Rattle.bbm_certify.specs.Made.{AreWritten}
 use Rattle.bbm_certify.proofs.Adding.{all_due, none_are_due}
@@ -14,13 +17,6 @@ use Rattle.bbm_certify.proofs.DueNone.{none_due}
 use Rattle.bbm_certify.proofs.DuePlaces.{due_found, found_due, had_write}
 use Rattle.bbm_certify.proofs.DueTags.{due_taken, taken_due}
 use Rattle.bbm_certify.proofs.OneDue.{one_due}
-
-abbrev is_there : Option ValidWrite → Bool
-is_there None = false
-is_there (Some v) = true
-
-none_some : (w : ValidWrite) → None ≡ Some w → ⊥
-none_some w e = true≢false (sym (ap is_there e))
 
 -- ---- the places that were written
 
@@ -43,11 +39,6 @@ written_next heading h e old new all is kind level place none =
     after_none kind level place e (note heading Patterns (noted heading Patterns h) e)
     (last_valid kind level place (noted heading Patterns h)) parts.0 (all kind level place parts.1)
 
-is_among : (a : ℕ) (places : List ℕ) → among a places ≡ true → In places a
-is_among a places e =
-    let r = any_found (λ (m : ℕ). m == a) places e in
-    subst (λ (m : ℕ). In places m) (eqb-true r.0 a r.2) r.1
-
 -- ---- what is due
 
 module _ (heading : Heading) (known : Known heading) (h : List Event) where
@@ -55,9 +46,7 @@ module _ (heading : Heading) (known : Known heading) (h : List Event) where
   pub none_at : (e : Event) → keeps heading Patterns (e ∷ h) ≡ true → ((q : ℕ) (dsb : Barrier) → e ≡ Dsb q dsb → ⊥)
       → AreDue heading h e []
   none_at e kept other =
-      none_are_due heading h e (none_due heading h e other ((known.cleansed Patterns).sound)
-      known.pattern_steps.cleansed
-      known.seen.complete (λ n k. elim (known.one_position.gained h e kept n k)
+      none_are_due heading h e (none_due heading h e other known.pattern_steps (λ n k. elim (known.one_position.gained h e kept n k)
       [ inl old ↦ inl old | inr new ↦ inr new.0 ]) (known.fresh_content.attached h e known.proper.some_pe kept))
 
   module _ (q : ℕ) (dsb : Barrier) (kept : keeps heading Patterns (Dsb q dsb ∷ h) ≡ true) (written : List ℕ)
@@ -77,18 +66,21 @@ module _ (heading : Heading) (known : Known heading) (h : List Event) where
     kept_before : keeps heading Patterns h ≡ true
     kept_before = (and_parts (keeps heading Patterns h) (is_none (broken heading Patterns h (Dsb q dsb))) kept).0
 
+    was_node : (n : Node) → Contains (tree heading Patterns after) n → Contains (tree heading Patterns before) n
+    was_node n k = ((known.tree_step.dsb h q dsb kept n).0 k).0
+
     module _ (a p : ℕ) (w : ValidWrite) (below : p < heading.pes) (k : IsCleansed heading after a p w)
         (not_yet : (v : ValidWrite) → IsCleansed heading before a p v → ⊥) where
       is_written : In written a
-      is_written = is_among a written (by (among a written) refl)
+      is_written = in_among a written (by (among a written) refl)
         where
           by : (b : Bool) → among a written ≡ b → b ≡ true
           by true e = refl
           by false e =
               let x = had_write heading h q dsb ((known.cleansed Patterns).sound) ((known.cleansed Patterns).complete)
-              (known.one_node.at_most_one h kept_before) (known.was_node h q dsb kept) (known.tree.taken after)
+              (known.one_node.at_most_one h kept_before) was_node (known.tree.taken after)
               (known.one_node.the_first (Dsb q dsb ∷ h) kept) a p w below k not_yet in
-              absurd (none_some x.0 (sym (are_written k.node.kind k.node.level a e) ∙ x.1))
+              absurd (none-some x.0 (sym (are_written k.node.kind k.node.level a e) ∙ x.1))
 
     parts : (c : Claim) → IsDue heading h (Dsb q dsb) c → Places c ⊎ AreTaken heading h (Dsb q dsb) held c
     parts (Place p a b t d) k =
@@ -96,7 +88,7 @@ module _ (heading : Heading) (known : Known heading) (h : List Event) where
           a,
           is_written a p k.1.0 k.0 k.1.1 k.2,
           due_found heading h q dsb ((known.cleansed Patterns).sound) ((known.cleansed Patterns).complete)
-              (known.one_node.at_most_one h kept_before) (known.was_node h q dsb kept) (known.tree.taken after)
+              (known.one_node.at_most_one h kept_before) was_node (known.tree.taken after)
               (known.one_node.the_first (Dsb q dsb ∷ h) kept) a p k.1.0 k.0 k.1.1 k.2 (Place p a b t d)
               (refl, refl, k.1.2),
         )
@@ -105,7 +97,7 @@ module _ (heading : Heading) (known : Known heading) (h : List Event) where
           a,
           is_written a p k.1.0 k.0 k.1.1 k.2,
           due_found heading h q dsb ((known.cleansed Patterns).sound) ((known.cleansed Patterns).complete)
-              (known.one_node.at_most_one h kept_before) (known.was_node h q dsb kept) (known.tree.taken after)
+              (known.one_node.at_most_one h kept_before) was_node (known.tree.taken after)
               (known.one_node.the_first (Dsb q dsb ∷ h) kept) a p k.1.0 k.0 k.1.1 k.2 (Two p a b t1 d1 t2 d2)
               (refl, refl, k.1.2, k.1.3),
         )
@@ -119,7 +111,7 @@ module _ (heading : Heading) (known : Known heading) (h : List Event) where
     due_at_dsb xs ys a b =
         all_due heading h (Dsb q dsb) Places (AreTaken heading h (Dsb q dsb) held) xs ys a b
         (λ c k. found_due heading h q dsb ((known.cleansed Patterns).sound) ((known.cleansed Patterns).complete)
-        (known.one_node.at_most_one h kept_before) (known.was_node h q dsb kept) (known.tree.taken after)
+        (known.one_node.at_most_one h kept_before) was_node (known.tree.taken after)
         (known.one_node.the_first (Dsb q dsb ∷ h) kept) k.0 c k.2)
         (λ c k. taken_due heading known h q dsb (λ g x. (known.equality_tests.tags g x).0)
         (λ g. (known.equality_tests.tags g g).1 refl)

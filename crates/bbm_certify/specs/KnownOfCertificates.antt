@@ -1,28 +1,21 @@
 -- What the crates below prove, as one record, so that each proof here takes it as one hypothesis. No public contract
 -- cites these words. Source: project's own choice.
-use Rattle.std.specs.Prelude.{◌≡◌, ℕ, true, List, ◌∷◌, Contains}
-use Rattle.bbm_rules.specs.Prelude.{Barrier, Heading, Event, Dsb}
-use Rattle.bbm_rules.specs.Broken.{keeps}
+use Rattle.bbm_rules.specs.Prelude.{Heading}
 use Rattle.bbm_rules.specs.Claims.{Trust}
 use Rattle.bbm_rules.specs.Claims.Trust.{Patterns}
-use Rattle.bbm_rules.specs.Covers.{noted}
 use Rattle.bbm_rules.specs.EventLaws.{AnsweredBySentence, TestsAreExact}
-use Rattle.bbm_rules.specs.HeldLaws.{CleansedBySentence, SeenBySentence}
+use Rattle.bbm_rules.specs.HeldLaws.{CleansedBySentence}
 use Rattle.bbm_rules.specs.TagLaws.{TagHeldBySentence}
-use Rattle.bbm_rules.specs.Tree.{Node, tree}
 use Rattle.bbm_rules.specs.TreeLaws.{TreeBySentence}
 use Rattle.bbm_histories.specs.ContentLaws.{FreshStays}
 use Rattle.bbm_histories.specs.HolderLaws.{TagClaimsAfter, TagsAfter, TagsOfRoots}
 use Rattle.bbm_histories.specs.PatternLaws.{PatternsAfter}
-use Rattle.bbm_histories.specs.PositionLaws.{OnePosition, SingleNode}
+use Rattle.bbm_histories.specs.PositionLaws.{OnePosition, SingleNode, TreeAfter}
 use Rattle.bbm_histories.specs.TreeChanges.{Proper}
 use Rattle.bbm_alike.specs.AlikeLaws.{AlikeJoins, CoversAlike, JudgedAlike, StepAlike, TakenAlike}
 
 pub record Known (heading : Heading) : Type 0 where
   pub proper : Proper heading
-  pub was_node : (h : List Event) (q : ℕ) (dsb : Barrier) → keeps heading Patterns (Dsb q dsb ∷ h) ≡ true → (n : Node)
-      → Contains (tree heading Patterns (noted heading Patterns (Dsb q dsb ∷ h))) n
-      → Contains (tree heading Patterns (noted heading Patterns h)) n
   pub alike_joins : AlikeJoins heading
   pub alike_judges : (other : Trust) → JudgedAlike heading Patterns other
   pub alike_step : (other : Trust) → StepAlike heading Patterns other
@@ -34,10 +27,10 @@ pub record Known (heading : Heading) : Type 0 where
   pub one_node : SingleNode heading Patterns
   pub one_position : OnePosition heading Patterns
   pub pattern_steps : PatternsAfter heading
-  pub seen : SeenBySentence heading
   pub tag_claim_steps : TagClaimsAfter heading
   pub tag_held : TagHeldBySentence heading Patterns
   pub tag_steps : TagsAfter heading
   pub tags : TagsOfRoots heading Patterns
   pub takes_alike : TakenAlike heading
   pub tree : TreeBySentence heading Patterns
+  pub tree_step : TreeAfter heading Patterns

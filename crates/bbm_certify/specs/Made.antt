@@ -9,15 +9,10 @@ use Rattle.bbm_rules.specs.Held.{last_valid}
 use Rattle.bbm_rules.specs.Lists.{among}
 use Rattle.bbm_rules.specs.Prelude.{Heading, Event, Kind}
 use Rattle.bbm_oracle_trees.specs.Past.{Past}
-use Rattle.bbm_oracle_trees.specs.HistoryStandsFor.{StandsFor}
+use Rattle.bbm_oracle_trees.specs.ByPatterns.{StandsByPatterns}
 use Rattle.bbm_certify.specs.LeastClaims.{Ascending, IsDue}
 use Rattle.bbm_certify.specs.Taken.{IsKnown}
 use Rattle.bbm_certify.specs.declared.making.Making.{Making}
-
--- a history by every pattern of events stands for these events
-pub record Stands (past : Past) (heading : Heading) (h : List Event) : Type 0 where
-  pub trust_is : past.trust ≡ Patterns
-  pub kept : StandsFor past heading h
 
 -- there is an event
 abbrev pub IsSome : Past → Type 0
@@ -36,13 +31,13 @@ AreWritten heading h places = (kind : Kind) (level place : ℕ) → among place 
     → last_valid kind level place (noted heading Patterns h) ≡ None
 
 pub record IsMaking (m : Making) (heading : Heading) (h : List Event) : Type 0 where
-  pub history : Stands m.history heading h
+  pub history : StandsByPatterns m.history heading h
   pub places : AreWritten heading h m.places.items
   pub known : IsKnown heading h m.known.items
 
 -- the same, where the history has one more event already, which keeps the rules
 pub record HasTaken (m : Making) (heading : Heading) (h : List Event) (e : Event) : Type 0 where
-  pub history : Stands m.history heading (e ∷ h)
+  pub history : StandsByPatterns m.history heading (e ∷ h)
   pub places : AreWritten heading h m.places.items
   pub known : IsKnown heading h m.known.items
   pub keeps_rules : keeps heading Patterns (e ∷ h) ≡ true

@@ -11,7 +11,7 @@ use bbm_histories::{
     law_fresh_content, law_one_node, law_one_position, law_pattern_steps, law_proper,
     law_tag_claim_steps, law_tag_steps, law_tags, law_tree_step,
 };
-use bbm_rules::{law_answered, law_cleansed, law_equality_tests, law_seen, law_tag_held, law_tree};
+use bbm_rules::{law_answered, law_cleansed, law_equality_tests, law_tag_held, law_tree};
 
 /// The laws that the proofs here stand on.
 pub(crate) fn known()
@@ -29,7 +29,6 @@ pub(crate) fn known()
     law_one_position();
     law_pattern_steps();
     law_proper();
-    law_seen();
     law_tag_claim_steps();
     law_tag_held();
     law_tag_steps();

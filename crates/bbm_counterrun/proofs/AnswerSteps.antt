@@ -1,35 +1,13 @@
 -- What one event more answers.
 use Rattle.bbm_counterrun.proofs.Common.{Entry, IsPending, is_answered, must_leave, must_go, Answer, IsAnswers}
 use Rattle.bbm_counterrun.proofs.Common.{answer_at, forbids_by, forbids, is_forbidden}
-use Rattle.bbm_rules.proofs.Common.{◌≡◌, ℕ, ◌+◌, ◌<◌, Bool, true, false, ◌&&◌, ◌||◌, ◌==◌, nat_le, nat_lt, cond, List}
-use Rattle.bbm_rules.proofs.Common.{[], ◌∷◌, ◌++◌, length, map, filter, get_or, take, reverse, refl, sym, ◌∙◌, ap}
-use Rattle.bbm_rules.proofs.Common.{subst, list_any-append, proved, Is, any, Barrier, Heading, Event, Dsb, Tlbi, Issued}
+use Rattle.bbm_rules.proofs.Common.{◌≡◌, ℕ, ◌+◌, ◌<◌, Bool, false, ◌&&◌, ◌||◌, ◌==◌, nat_le, nat_lt, List, ◌∷◌, ◌++◌}
+use Rattle.bbm_rules.proofs.Common.{length, map, filter, get_or, take, reverse, refl, sym, ◌∙◌, ap, subst}
+use Rattle.bbm_rules.proofs.Common.{list_any-append, proved, Is, any, Barrier, Heading, Event, Dsb, Tlbi, Issued}
 use Rattle.bbm_rules.proofs.Common.{completes, unanswered, itself, or_comm, and-false}
 use Rattle.bbm_tlb_machine.specs.MachinePendings.{Pending, pending_of}
 use Rattle.bbm_counterrun.proofs.WalkCode.{newest_first}
-
-any_map : {X Y : Type 0} (test : Y → Bool) (f : X → Y) (xs : List X) → any test (map f xs) ≡ any (λ x. test (f x)) xs
-any_map test f [] = refl
-any_map test f (x ∷ xs) = ap (λ b. test (f x) || b) (any_map test f xs)
-
-any_filter : {X : Type 0} (test keep : X → Bool) (xs : List X) → any test (filter keep xs) ≡ any (λ x. keep x && test x) xs
-any_filter {X} test keep [] = refl
-any_filter {X} test keep (x ∷ xs) = by (keep x) ∙ ap (λ b. (keep x && test x) || b) (any_filter test keep xs)
-  where
-    by : (b : Bool) → any test (cond b (x ∷ filter keep xs) (filter keep xs)) ≡ ((b && test x) || any test (filter keep xs))
-    by true = refl
-    by false = refl
-
-any_alike : {X : Type 0} (one other : X → Bool) (xs : List X) → ((x : X) → one x ≡ other x) → any one xs ≡ any other xs
-any_alike one other [] all = refl
-any_alike one other (x ∷ xs) all =
-    ap (λ b. b || any one xs) (all x) ∙ ap (λ b. other x || b) (any_alike one other xs all)
-
--- a test that every item passes or fails alike comes out
-any_and : {X : Type 0} (b : Bool) (test : X → Bool) (xs : List X) → any (λ x. b && test x) xs ≡ (b && any test xs)
-any_and true test xs = refl
-any_and false test [] = refl
-any_and false test (x ∷ xs) = any_and false test xs
+use Rattle.bbm_lemmas.proofs.Tests.{any_and, any_filter, any_map, any_same}
 
 must_is : (heading : Heading) (t : Issued Event) (x : Entry) → must_leave heading (pending_of heading t) x ≡ must_go heading t x
 must_is heading t x = by t.tlbi
@@ -42,14 +20,14 @@ must_is heading t x = by t.tlbi
 forbidden_now : (heading : Heading) (h : List Event) (q : ℕ) (dsb : Barrier) (pending : List Pending) (x : Entry) → IsPending heading h pending
     → any (λ p. is_answered q dsb p && must_leave heading p x) pending ≡ forbids heading x (Dsb q dsb) h
 forbidden_now heading h q dsb pending x is =
-    any_alike _ _ pending (λ (p : Pending). proved 3 (λ a b c. Is (a && b && c) (a && (b && c))) refl (p.issuer == q)
+    any_same _ _ pending (λ (p : Pending). proved 3 (λ a b c. Is (a && b && c) (a && (b && c))) refl (p.issuer == q)
     (completes dsb p.tlbi) (must_leave heading p x))
     ∙ sym (any_filter (λ (p : Pending). completes dsb p.tlbi && must_leave heading p x) (λ (p : Pending). p.issuer == q)
     pending)
     ∙ ap (any (λ (p : Pending). completes dsb p.tlbi && must_leave heading p x)) (is q)
     ∙ any_map (λ (p : Pending). completes dsb p.tlbi && must_leave heading p x) (pending_of heading)
     (unanswered itself q h)
-    ∙ any_alike _ _ (unanswered itself q h) (λ (t : Issued Event). ap (λ b. completes dsb t.tlbi && b)
+    ∙ any_same _ _ (unanswered itself q h) (λ (t : Issued Event). ap (λ b. completes dsb t.tlbi && b)
     (must_is heading t x))
 
 dsb_answers : (heading : Heading) (h : List Event) (q : ℕ) (dsb : Barrier) (pending : List Pending) (old : List Answer)
@@ -61,7 +39,7 @@ dsb_answers heading h q dsb pending old is was from to x =
     ∙ ap (λ b. any (forbids_by heading from to x) old || b)
     (any_map (forbids_by heading from to x) (answer_at (length h)) (filter (is_answered q dsb) pending)
     ∙ any_filter (λ (p : Pending). within && must_leave heading p x) (is_answered q dsb) pending
-    ∙ any_alike _ _ pending (λ (p : Pending). proved 3 (λ a b c. Is (a && (b && c)) (b && (a && c))) refl
+    ∙ any_same _ _ pending (λ (p : Pending). proved 3 (λ a b c. Is (a && (b && c)) (b && (a && c))) refl
     (is_answered q dsb p) within (must_leave heading p x))
     ∙ any_and within (λ (p : Pending). is_answered q dsb p && must_leave heading p x) pending
     ∙ ap (λ b. within && b) (forbidden_now heading h q dsb pending x is))
@@ -69,9 +47,9 @@ dsb_answers heading h q dsb pending old is was from to x =
     ∙ ap (λ b. (within && forbids heading x (Dsb q dsb) h) || b) (was from to x)
 
 -- an event that answers nothing
-other_answers : (heading : Heading) (h : List Event) (e : Event) (old : List Answer) → ((q : ℕ) (dsb : Barrier) → e ≡ Dsb q dsb → ⊥)
+pub other_step : (heading : Heading) (h : List Event) (e : Event) (old : List Answer) → ((q : ℕ) (dsb : Barrier) → e ≡ Dsb q dsb → ⊥)
     → IsAnswers heading h old → IsAnswers heading (e ∷ h) old
-other_answers heading h e old none was from to x = was from to x ∙ sym (by e none)
+other_step heading h e old none was from to x = was from to x ∙ sym (by e none)
   where
     quiet : (e : Event) → ((q : ℕ) (dsb : Barrier) → e ≡ Dsb q dsb → ⊥) → forbids heading x e h ≡ false
     quiet (Dsb q dsb) none = absurd (none q dsb refl)
@@ -88,10 +66,6 @@ pub dsb_step : (heading : Heading) (h : List Event) (q before : ℕ) (dsb : Barr
 dsb_step heading h q before dsb pending old new e count is was from to x =
     ap (any (forbids_by heading from to x)) (e ∙ ap (λ k. old ++ map (answer_at k) (filter (is_answered q dsb) pending)) (sym count))
     ∙ dsb_answers heading h q dsb pending old is was from to x
-
-pub other_step : (heading : Heading) (h : List Event) (e : Event) (old : List Answer) → ((q : ℕ) (dsb : Barrier) → e ≡ Dsb q dsb → ⊥)
-    → IsAnswers heading h old → IsAnswers heading (e ∷ h) old
-other_step = other_answers
 
 pub ruleset steps = (dsb_step, other_step)
 

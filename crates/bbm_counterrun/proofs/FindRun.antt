@@ -6,7 +6,7 @@ use Rattle.bbm_rules.proofs.Common.{◌≡◌, ℕ, ◌+◌, ◌-◌, ◌≤◌,
 use Rattle.bbm_rules.proofs.Common.{◌↔◌, List, [], ◌∷◌, reverse, option_map, IfSome, Option, Some, None, inl, inr, sym}
 use Rattle.bbm_rules.proofs.Common.{◌∙◌, ap, subst, refl, reverse-append, reverse-reverse, take_all, In, from_contains}
 use Rattle.bbm_rules.proofs.Common.{in_append, to_contains, fits_heading, heading_ok, Trust, noted, Noted, page_of}
-use Rattle.bbm_rules.proofs.Common.{Heading, Event, Write, Node, node_of}
+use Rattle.bbm_rules.proofs.Common.{Heading, Event, Write, Node, node_of, same_Some, none-some}
 use Rattle.std.proofs.Common.{All}
 use Rattle.std.proofs.lemmas.List.Elements.{All-contains}
 use Rattle.bbm_oracle_trees.specs.Past.{Past}
@@ -66,24 +66,18 @@ module _ (past : Past) (heading : Heading) (h : List Event) (place : ℕ) (trust
 
 -- ---- what is found
 
-some_is : (x y : Kind) → Some x ≡ Some y → x ≡ y
-some_is x y e = cc
-
-not_some : (x : Kind) → None ≡ Some x → ⊥
-not_some x e = cc
-
 module _ (heading : Heading) (h : List Event) (pe place value : ℕ)
     (tested : (plan : Plan) → IsPlain heading h (Write pe place value) plan ↔ (is_plain heading h (Write pe place value) plan ≡ true))
     (has : (plan : Plan) → is_plain heading h (Write pe place value) plan ≡ true → HasLeastReads heading h (Write pe place value) place plan) where
   kinds : (kind : Kind) → Some kind ≡ kind_by heading Patterns (noted heading Patterns h) place
       → (plan : Plan) (least : HasLeastReads heading h (Write pe place value) place plan) → least.node.kind ≡ kind
-  kinds kind is plan least = sym (some_is kind least.node.kind (is ∙ ap (option_map (λ (n : Node). n.kind)) least.node_is))
+  kinds kind is plan least = sym (same_Some kind least.node.kind (is ∙ ap (option_map (λ (n : Node). n.kind)) least.node_is))
 
   -- where the place is in no tree nothing is plain
   no_tree : None ≡ kind_by heading Patterns (noted heading Patterns h) place → Finds heading h (Write pe place value) None
   no_tree none plan plain =
       let least = has plan ((tested plan).0 plain) in
-      not_some least.node.kind (none ∙ ap (option_map (λ (n : Node). n.kind)) least.node_is)
+      none-some least.node.kind (none ∙ ap (option_map (λ (n : Node). n.kind)) least.node_is)
 
   finds : (kind : Kind) (log : List Event) (steps : Option (List Step)) → log ≡ reverse (Write pe place value ∷ h)
       → Some kind ≡ kind_by heading Patterns (noted heading Patterns h) place

@@ -6,14 +6,11 @@ use Rattle.bbm_counterrun.proofs.Common.{started_by, Goal, least_reads, way_to}
 use Rattle.bbm_rules.proofs.Common.{◌≡◌, ℕ, suc, ◌+◌, ◌<◌, ◌≤◌, arith, Bool, true, ◌↔◌, ◌==◌, List, [], ◌∷◌, length}
 use Rattle.bbm_rules.proofs.Common.{Option, Some, None, inl, inr, refl, sym, ◌∙◌, ap, true≢false, and_parts}
 use Rattle.bbm_rules.proofs.Common.{false_from_ne_true, leb-true, ltb-true, desc_of, Desc, Invalid, Leaf, Table}
-use Rattle.bbm_rules.proofs.Common.{is_that, page_of, Heading, Event, Write, start_of, next_in}
+use Rattle.bbm_rules.proofs.Common.{is_that, page_of, Heading, Event, Write, start_of, next_in, same_Some}
 use Rattle.bbm_tlb_machine.proofs.PartLemmas.{table_above}
 use Rattle.bbm_counterrun.specs.Searching.{Found}
 use Rattle.bbm_counterrun.proofs.FirstOfLeast.{first_of_least, with_least}
 use Rattle.bbm_counterrun.proofs.Order.{number_cases, reads_itself}
-
-some_is : {A : Type 0} (x y : A) → Some x ≡ Some y → x ≡ y
-some_is x y e = cc
 
 -- what is found is plain
 module _ (heading : Heading) (h : List Event) (pe place value : ℕ) (kind : Kind) (way : List Goal) (f : Found)
@@ -123,7 +120,7 @@ module _ (heading : Heading) (h : List Event) (pe place value : ℕ) (kind : Kin
       same_reads : (k p : ℕ) (r : Read) (rs : List Read) → k ≡ f.starts → p ≡ f.pe
           → least_reads heading (first_events k h) p (way_to heading h place) ≡ Some (r ∷ rs) → f.reads ≡ r ∷ rs
       same_reads k p r rs start at e =
-          some_is f.reads (r ∷ rs) (sym (reads_are heading h pe place value kind (way_to heading h place) f finds)
+          same_Some f.reads (r ∷ rs) (sym (reads_are heading h pe place value kind (way_to heading h place) f finds)
           ∙ sym (ap (λ (i : ℕ). least_reads heading (first_events i h) p (way_to heading h place)) start
           ∙ ap (λ (q : ℕ). least_reads heading (first_events f.starts h) q (way_to heading h place)) at) ∙ e)
 

@@ -4,13 +4,11 @@ use Rattle.bbm_counterrun.proofs.Common.{written_at}
 use Rattle.bbm_rules.proofs.Common.{◌≡◌, ℕ, suc, ◌≤◌, arith, min, Bool, true, false, ◌&&◌, not, ◌==◌, nat_lt, cond}
 use Rattle.bbm_rules.proofs.Common.{List, [], ◌∷◌, map, filter, filter_map, Option, Some, unwrap_or, ◌⊎◌, inl, inr}
 use Rattle.bbm_rules.proofs.Common.{refl, sym, ◌∙◌, ap, true≢false, and_from, and_parts, cases_lt, eqb-true, ltb-true}
-use Rattle.bbm_rules.proofs.Common.{not-false, not-true, not_from_false, or_cases, cons_option, In, from_filter}
-use Rattle.bbm_rules.proofs.Common.{to_filter, Kind, Form, core_in, desc_as, desc_of, desc_with, differ, form_of}
-use Rattle.bbm_rules.proofs.Common.{is_valid, needs, same_core, valid_form, Core, Desc, Invalid, Table, Leaf, ◌>>=◌}
-use Rattle.bbm_rules.proofs.Common.{among, least, page_of, Heading, Event, Init, Write, is_readable, published}
-use Rattle.bbm_rules.proofs.Common.{readable_before}
-use Rattle.bbm_descriptor.specs.declared.desc.Core.TheVariants.{Table as CoreTable, Leaf as CoreLeaf}
+use Rattle.bbm_rules.proofs.Common.{not-true, not_from_false, or_cases, cons_option, In, from_filter, to_filter, Kind}
+use Rattle.bbm_rules.proofs.Common.{is_valid, needs, same_core, ◌>>=◌, among, least, page_of, Heading, Event, Init}
+use Rattle.bbm_rules.proofs.Common.{Write, is_readable, published, readable_before}
 use Rattle.bbm_counterrun.proofs.Sights.{IsLikeRead, LikeReads}
+use Rattle.bbm_tlb_machine.proofs.Descs.{CoreLaw, means_same}
 
 -- ---- the least number of a list
 
@@ -105,37 +103,8 @@ module _ (heading : Heading) where
 
 -- ---- values of one core mean the same
 
-not_invalid : (form : Form) (kind : Kind) (level value : ℕ) → valid_form form ≡ true → desc_as form kind level value ≡ Invalid → ⊥
-not_invalid Form.invalid kind level value v e = true≢false (sym v)
-not_invalid Form.table kind level value v e = cc
-not_invalid Form.leaf kind level value v e = cc
-
 zero_is_invalid : (kind : Kind) (level value : ℕ) → is_valid kind level value ≡ true → value ≡ 0 → ⊥
 zero_is_invalid kind level value v e = true≢false (sym v ∙ ap (is_valid kind level) e)
-
--- what the law of the test of two cores says
-abbrev pub CoreLaw : Type 0
-CoreLaw = (one other : Core) → same_core one other ≡ true → one ≡ other
-
-module _ (law : CoreLaw) where
-  cores_same : (c c' : Core) → differ (Some c) (Some c') ≡ false → desc_with c ≡ desc_with c'
-  cores_same c c' e = ap desc_with (law c c' (not-false (same_core c c') e))
-
-  same_in : (d d' : Desc) → (d ≡ Invalid → ⊥) → (d' ≡ Invalid → ⊥) → differ (core_in d) (core_in d') ≡ false → d ≡ d'
-  same_in Invalid d' n m e = absurd (n refl)
-  same_in (Table next ns) Invalid n m e = absurd (m refl)
-  same_in (Leaf out attrs share global contiguous) Invalid n m e = absurd (m refl)
-  same_in (Table next ns) (Table next' ns') n m e = cores_same (CoreTable next ns) (CoreTable next' ns') e
-  same_in (Table next ns) (Leaf out attrs share global contiguous) n m e = absurd (true≢false e)
-  same_in (Leaf out attrs share global contiguous) (Table next ns) n m e = absurd (true≢false e)
-  same_in (Leaf out attrs share global contiguous) (Leaf out' attrs' share' global' contiguous') n m e =
-      cores_same (CoreLeaf out attrs share global contiguous) (CoreLeaf out' attrs' share' global' contiguous') e
-
-  pub means_same : (kind : Kind) (level a c : ℕ) → is_valid kind level a ≡ true → is_valid kind level c ≡ true
-      → needs kind level a c ≡ false → desc_of kind level a ≡ desc_of kind level c
-  means_same kind level a c va vc e =
-      same_in (desc_of kind level a) (desc_of kind level c) (not_invalid (form_of level a) kind level a va)
-      (not_invalid (form_of level c) kind level c vc) e
 
 -- ---- the least reads of a way
 

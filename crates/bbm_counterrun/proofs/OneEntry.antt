@@ -4,12 +4,13 @@ use Rattle.bbm_counterrun.proofs.Common.{is_forbidden}
 use Rattle.bbm_rules.proofs.Common.{◌≡◌, ℕ, ◌+◌, ◌<◌, ◌≤◌, arith, Bool, true, false, ◌&&◌, ◌||◌, not, nat_lt, nat_le}
 use Rattle.bbm_rules.proofs.Common.{List, [], ◌∷◌, ◌++◌, length, map, reverse, Option, Some, refl, sym, ◌∙◌, ap}
 use Rattle.bbm_rules.proofs.Common.{and_left, and_right, le-leb, le-ltb, lt-ltb, or_from, map-append, reverse-append}
-use Rattle.bbm_rules.proofs.Common.{proved, Is, ◌>>=◌, any, if_so, Heading, Event, Dsb, Issued, completes, unanswered}
-use Rattle.bbm_rules.proofs.Common.{itself, or-false}
+use Rattle.bbm_rules.proofs.Common.{proved, Is, ◌>>=◌, if_so, Heading, Event, Dsb, Issued, completes, unanswered}
+use Rattle.bbm_rules.proofs.Common.{itself, or-false, is_none_of}
 use Rattle.std.proofs.lemmas.Bool.{lt-leb}
 use Rattle.bbm_tlb_machine.specs.declared.step.Step.TheVariants.{Event as Taken}
 use Rattle.bbm_tlb_machine.specs.MachineRun.{leaves_some}
 use Rattle.bbm_counterrun.proofs.Following.{run_after, run_append, run_to, then_so}
+use Rattle.bbm_lemmas.proofs.Tests.{any_same}
 
 -- ---- the two states
 
@@ -18,17 +19,6 @@ none_kept h = record { log = h; living = []; made = 0 }
 
 abbrev pub one_kept : List Event → ℕ → Entry → State
 one_kept h n x = record { log = h; living = record { number = n; entry = x } ∷ []; made = n }
-
--- ---- tests of lists
-
-any_false : {X : Type 0} (test : X → Bool) (xs : List X) → ((x : X) → test x ≡ false) → any test xs ≡ false
-any_false test [] all = refl
-any_false test (x ∷ xs) all = or_from (test x) (any test xs) (all x) (any_false test xs all)
-
-any_same : {X : Type 0} (one other : X → Bool) (xs : List X) → ((x : X) → one x ≡ other x) → any one xs ≡ any other xs
-any_same one other [] all = refl
-any_same one other (x ∷ xs) all =
-    ap (λ b. b || any one xs) (all x) ∙ ap (λ b. other x || b) (any_same one other xs all)
 
 so_some : {A : Type 0} (b : Bool) (x : A) → (if_so b x >>= (λ y. Some y)) ≡ if_so b x
 so_some true x = refl
@@ -41,7 +31,7 @@ module _ (heading : Heading) where
   -- ---- events
 
   none_left : (h : List Event) (e : Event) → leaves_some heading (none_kept h) e ≡ false
-  none_left h (Dsb q dsb) = any_false _ (unanswered itself q h) (λ (t : Issued Event). and_right (completes dsb t.tlbi) false refl)
+  none_left h (Dsb q dsb) = is_none_of _ (unanswered itself q h) (λ (t : Issued Event) i. and_right (completes dsb t.tlbi) false refl)
   none_left h _ = refl
 
   one_left : (h : List Event) (n : ℕ) (x : Entry) (e : Event) → leaves_some heading (one_kept h n x) e ≡ forbids heading x e h

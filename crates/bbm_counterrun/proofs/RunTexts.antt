@@ -1,29 +1,17 @@
 -- The words in which the worked cases are written: the events of the lines of a log, and the steps of those of a run.
-use Rattle.bbm_counterrun.proofs.Common.{List, [], ◌∷◌, Option, Some, None, Step, Machine}
+use Rattle.bbm_counterrun.proofs.Common.{List, [], ◌∷◌, Option, Some, None, Step}
 use Rattle.bbm_rules.proofs.Common.{codes, String, Item, Heading, Event}
 use Rattle.std.specs.Prelude.{filter_map, Result, Ok, Err}
 use Rattle.std.specs.Fmt.{digits}
 use Rattle.bbm_events.specs.declared.event.Item.TheVariants as item
 use Rattle.bbm_events.specs.declared.malformed.Malformed.{Malformed}
 use Rattle.bbm_events.specs.Lines.{header_of, item_of}
-use Rattle.bbm_events.specs.Machine.{machine_of}
 use Rattle.bbm_events.specs.Spelling.{decimal_value, hex_value}
-use Rattle.bbm_tlb_machine.specs.declared.step.Step.TheVariants.{Event as Taken}
+use Rattle.bbm_tlb_machine.proofs.RunTexts.{step_of}
 
 abbrev pub event_in : Result Item Malformed → Option Event
 event_in (Ok (item.Event event label)) = Some event
 event_in _ = None
-
-abbrev pub taken : Option Event → Option Step
-taken (Some event) = Some (Taken event)
-taken None = None
-
-unfoldable pub step_of : Heading → String → Option Step
-unfolding machine_of item_of decimal_value hex_value
-step_of heading line = elim (machine_of heading (codes line)) [
-  | Ok step ↦ Some (Machine step)
-  | Err cause ↦ taken (event_in (item_of heading (codes line)))
-]
 
 unfoldable pub event_of : Heading → String → Option Event
 unfolding item_of decimal_value hex_value

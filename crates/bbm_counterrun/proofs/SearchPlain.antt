@@ -10,6 +10,7 @@ use Rattle.bbm_rules.proofs.Common.{◌⊎◌, inl, inr, and_left, and_right, le
 use Rattle.bbm_rules.proofs.Common.{length-reverse, reverse-append, take-append-drop, proved, Is, ◌>>=◌, any, if_so}
 use Rattle.bbm_rules.proofs.Common.{Heading, Event, Write}
 use Rattle.bbm_counterrun.specs.Tested.{walk_by}
+use Rattle.bbm_lemmas.proofs.Words.{if_so_some}
 
 -- the events that were taken at a moment
 pub first_is : (es : List Event) (k : ℕ) → k ≤ length es → reverse (take k es) ≡ first_events k (reverse es)
@@ -22,10 +23,6 @@ first_is es k le =
 
 first_count : (h : List Event) (k : ℕ) → k ≤ length h → length (first_events k h) ≡ k
 first_count h k le = length-drop (length h - k) h ∙ omega (arith, le)
-
-made : {A : Type 0} (b : Bool) (x y : A) → if_so b x ≡ Some y → (b ≡ true) × (x ≡ y)
-made true x y k = (refl, cc)
-made false x y k = cc
 
 none_made : {A B : Type 0} (b : Bool) (x : A) (f : A → Option B) → (if_so b x >>= f) ≡ None → (b ≡ false) ⊎ ((b ≡ true) × (f x ≡ None))
 none_made true x f k = inr (refl, k)
@@ -75,8 +72,8 @@ module _ (heading : Heading) (h : List Event) (place value k p : ℕ) (kind : Ki
       → (may_walk heading (first_events k h) (plan_of k p kind number (r ∷ rs) o) ≡ true) × (walked_by heading (plan_of k p kind number (r ∷ rs) o) ≡ x)
   entry_is r rs x o e =
       let s = some_made _ _ (λ x. if_so (may_extend_by heading (first_events k h) x rs) (extended_by x rs)) x (sym (walk_is r rs o) ∙ e) in
-      let m = made _ _ x s.1 in
-      (and_from _ _ s.0 m.0, m.1)
+      let m = if_so_some _ _ x s.1 in
+      (and_from _ _ s.0 m.0, sym m.1)
 
   -- the combine changes no part
   stale_is : (x : Entry) (o : Option ℕ) → conflicts_with heading h (Write 0 place value) (combined_by o x) ≡ any (is_stale place value) (parts_of x)

@@ -6,12 +6,13 @@ use Rattle.bbm_counterrun.proofs.Common.{started_by, walked_by}
 use Rattle.bbm_rules.proofs.Common.{◌≡◌, ℕ, suc, ◌+◌, ◌-◌, ◌*◌, Bool, true, ◌&&◌, ◌||◌, not, nat_le, nat_lt, List, []}
 use Rattle.bbm_rules.proofs.Common.{◌∷◌, length, Option, Some, None, refl, sym, ◌∙◌, ap, and_from, and_parts, Kind}
 use Rattle.bbm_rules.proofs.Common.{desc_of, is_valid, Desc, EntryHead, EntryKind, Combined, tag_of, taken, is_global}
-use Rattle.bbm_rules.proofs.Common.{any, is_that, some, index_of, page_of, Heading, Event, Dsb, Scope, Tlbi, Issued}
+use Rattle.bbm_rules.proofs.Common.{is_that, some, index_of, page_of, Heading, Event, Dsb, Scope, Tlbi, Issued}
 use Rattle.bbm_rules.proofs.Common.{completes, reaches, unanswered, named_scope, vmid_of, itself, reads, next_in}
 use Rattle.bbm_rules.proofs.Common.{is_readable}
 use Rattle.bbm_tlbi_scope.specs.Operations.{family_of}
 use Rattle.bbm_rules.specs.Prelude.{input_pages}
 use Rattle.bbm_tlb_machine.specs.Step.{is_older, takes}
+use Rattle.bbm_lemmas.proofs.Tests.{any_same}
 
 -- all of an entry but the value of its last part, which it has by its meaning alone, and the parts above
 pub record Sight : Type 0 where
@@ -82,10 +83,6 @@ LikeReads heading h p kind level (r ∷ rs) (l ∷ ls) = IsLikeRead heading h p 
 
 -- ---- tests that agree
 
-any_same : {X : Type 0} (f g : X → Bool) → ((x : X) → f x ≡ g x) → (xs : List X) → any f xs ≡ any g xs
-any_same f g e [] = refl
-any_same f g e (x ∷ xs) = ap (λ b. b || any f xs) (e x) ∙ ap (λ b. g x || b) (any_same f g e xs)
-
 some_same : {X : Type 0} (f g : X → List X → Bool) → ((x : X) (older : List X) → f x older ≡ g x older) → (xs : List X) → some f xs ≡ some g xs
 some_same f g e [] = refl
 some_same f g e (x ∷ xs) = ap (λ b. b || some f xs) (e x xs) ∙ ap (λ b. g x xs || b) (some_same f g e xs)
@@ -112,7 +109,7 @@ module _ (heading : Heading) where
   forbids_same : (x y : Entry) → sight_of x ≡ sight_of y → (e : Event) (h : List Event) → forbids heading x e h ≡ forbids heading y e h
   forbids_same x y k (Dsb q dsb) h =
       any_same (λ t. completes dsb t.tlbi && must_go heading t x) (λ t. completes dsb t.tlbi && must_go heading t y)
-      (λ t. ap (λ b. completes dsb t.tlbi && b) (must_go_same t x y k)) (unanswered itself q h)
+      (unanswered itself q h) (λ t. ap (λ b. completes dsb t.tlbi && b) (must_go_same t x y k))
   forbids_same x y k _ h = refl
 
   forbidden_same : (from to : ℕ) (x y : Entry) → sight_of x ≡ sight_of y → (h : List Event) → is_forbidden heading from to x h ≡ is_forbidden heading from to y h

@@ -7,7 +7,7 @@ use Rattle.bbm_rules.proofs.Common.{length, map, reverse, Option, Some, None, un
 use Rattle.bbm_rules.proofs.Common.{◌∙◌, ap, true≢false, and_parts, eqb-true, or_cases, reverse-append, In, to_contains}
 use Rattle.bbm_rules.proofs.Common.{Kind, desc_of, is_valid, needs, Desc, Invalid, Table, Leaf, keeps, noted, held}
 use Rattle.bbm_rules.proofs.Common.{◌>>=◌, any, is_that, Noted, page_of, Heading, Event, Declared, Above, Node, held_at}
-use Rattle.bbm_rules.proofs.Common.{next_in, next_of, node_below, node_of, Down, IsNode, is_readable}
+use Rattle.bbm_rules.proofs.Common.{next_in, next_of, node_below, node_of, Down, IsNode, is_readable, same_Some}
 use Rattle.bbm_rules.specs.HeldLaws.{HeldBySentence}
 use Rattle.bbm_rules.specs.Tree.{tree}
 use Rattle.bbm_rules.specs.TreeLaws.{PagesOfRoots, TreeBySentence}
@@ -15,7 +15,8 @@ use Rattle.bbm_histories.specs.PositionLaws.{SingleNode}
 use Rattle.bbm_tlb_machine.specs.Invariant.{Holding, Placed}
 use Rattle.bbm_tlb_machine.specs.MachineLaws.{EntriesAreFine}
 use Rattle.bbm_counterrun.specs.RefusedWrite.{leaf_among, leaf_in}
-use Rattle.bbm_counterrun.proofs.LeastGoals.{CoreLaw, HaveGoals, means_same}
+use Rattle.bbm_counterrun.proofs.LeastGoals.{HaveGoals}
+use Rattle.bbm_tlb_machine.proofs.Descs.{CoreLaw, means_same}
 
 -- the laws of the machine, of trees, of what is held and of cores
 pub record WayLaws (heading : Heading) : Type 0 where
@@ -41,9 +42,6 @@ pub record IsOnWay (heading : Heading) (h : List Event) (part : Part) : Type 0 w
   pub means : desc_of part.kind part.level value ≡ desc_in part
 
 -- ---- words on lists
-
-same_some : {X : Type 0} (x y : X) → Some x ≡ Some y → x ≡ y
-same_some x y e = cc
 
 abbrev part_places : List Part → List ℕ
 part_places parts = map (λ (q : Part). q.place) parts
@@ -204,7 +202,7 @@ module _ (heading : Heading) (laws : WayLaws heading) (h : List Event) (kept : k
       let lower : Node = node_below upper.node a.place (page_of part.place) in
       let there : Contains (tree heading Patterns notes) lower
       = laws.tree.below notes upper.node a.place upper.value (page_of part.place) upper.in_tree upper.page upper.holds table in
-      let same : one.node ≡ lower = same_some one.node lower (sym (node_at part one) ∙ laws.one_node.the_first h kept lower there) in
+      let same : one.node ≡ lower = same_Some one.node lower (sym (node_at part one) ∙ laws.one_node.the_first h kept lower there) in
       ap (λ (n : Node). map (λ (b : Above). b.place) n.above) same
       ∙ ap (λ (ps : List ℕ). a.place ∷ ps) (places_above root a above begins c.1 (λ q i. on q (inr i)) upper)
 

@@ -5,6 +5,7 @@ use Rattle.bbm_events.proofs.Common.{Result, Ok, Err, arith, IfErr, codes, decim
 use Rattle.bbm_events.proofs.Common.{eqb-true, bytes_eq-Decides, Malformed, NoMagic, BadNumber, MissingField}
 use Rattle.bbm_events.proofs.Common.{IsFieldCause, Heading, heading_ok, fields, hex, with_word, is_pe, is_place, ◌>>=◌}
 use Rattle.bbm_events.proofs.Common.{Fields, passing, pe_field, place_field, count_field}
+use Rattle.std.proofs.lemmas.Bool.{and_from}
 use Rattle.bbm_regimes.specs.declared.regime.Tag.{Tag}
 use Rattle.bbm_regimes.specs.declared.regime.Tag.TheVariants as tag
 use Rattle.bbm_events.specs.declared.claim.Claim.{Claim}
@@ -27,7 +28,7 @@ use Rattle.bbm_events.specs.Certificate.{any_claim, certificate_after, claim_of,
 use Rattle.bbm_events.specs.Certificate.{claim_line}
 use Rattle.bbm_events.proofs.Causes.{Ends, then_ends, field_ends, whole_ends, pe_ends, place_ends, count_ends}
 use Rattle.bbm_events.proofs.Causes.{count_line_ends, word_ends}
-use Rattle.bbm_events.proofs.Readings.{bind_ok, passing_field_ok, both, pe_kept, count_kept, place_kept}
+use Rattle.bbm_events.proofs.Readings.{bind_ok, passing_field_ok, pe_kept, count_kept, place_kept}
 use Rattle.bbm_events.proofs.Joining.{visible, all_visible, joined_fields, fields_joined}
 use Rattle.bbm_events.proofs.OneLine.{IsRead, as_read, count_line_read_as, whole_end, decimal_field_once}
 use Rattle.bbm_events.proofs.OneLine.{word_field_once, count_once, pe_once, place_once}
@@ -129,7 +130,7 @@ flush_read_as rest {x = x} e =
     let d = bind_ok (count_field t.0.1) _ t.2 in
     let same : ((t.0.0, d.0.0), d.0.1) ≡ x = cc in (
       ap (λ (y : (ℕ × ℕ) × Fields). is_position y.0.0 && is_position y.0.1) (sym same)
-          ∙ both (count_kept rest t.0 t.1) (count_kept t.0.1 d.0 d.1),
+          ∙ and_from _ _ (count_kept rest t.0 t.1) (count_kept t.0.1 d.0 d.1),
       count_once rest t.0 t.1
           ∙ ap (λ (left : Fields). decimal t.0.0 ∷ left) (count_once t.0.1 d.0 d.1)
           ∙ ap (λ (y : (ℕ × ℕ) × Fields). decimal y.0.0 ∷ decimal y.0.1 ∷ y.1) same,
@@ -148,7 +149,7 @@ place_line_ok h rest e =
     let end = whole_end _ flush.0.1 flush.2 in
     let flushed = flush_read_as b.0.1 flush.1 in
     as_read (claim_fits h) claim_item_fields (codes "c" ∷ codes "place" ∷ rest) (item.Claim (Place pe.0.0 place.0.0 b.0.0 flush.0.0.0 flush.0.0.1))
-    (both (both (both (pe_kept h rest pe.1) (place_kept pe.0.1 place.0 place.1)) (count_kept place.0.1 b.0 b.1)) flushed.0)
+    (and_from _ _ (and_from _ _ (and_from _ _ (pe_kept h rest pe.1) (place_kept pe.0.1 place.0 place.1)) (count_kept place.0.1 b.0 b.1)) flushed.0)
     (ap (λ (left : Fields). codes "c" ∷ codes "place" ∷ left) (pe_once h rest pe.1
     ∙ ap (λ (left : Fields). decimal pe.0.0 ∷ left) (place_once pe.0.1 place.0 place.1
     ∙ ap (λ (left : Fields). hex place.0.0 ∷ left) (count_once place.0.1 b.0 b.1
@@ -167,7 +168,7 @@ two_line_ok h rest e =
     let halved = flush_read_as b.0.1 half.1 in
     let flushed = flush_read_as half.0.1 other.1 in
     as_read (claim_fits h) claim_item_fields (codes "c" ∷ codes "two" ∷ rest) (item.Claim (Two pe.0.0 place.0.0 b.0.0 half.0.0.0 half.0.0.1 other.0.0.0 other.0.0.1))
-    (both (both (both (both (pe_kept h rest pe.1) (place_kept pe.0.1 place.0 place.1)) (count_kept place.0.1 b.0 b.1)) halved.0) flushed.0)
+    (and_from _ _ (and_from _ _ (and_from _ _ (and_from _ _ (pe_kept h rest pe.1) (place_kept pe.0.1 place.0 place.1)) (count_kept place.0.1 b.0 b.1)) halved.0) flushed.0)
     (ap (λ (left : Fields). codes "c" ∷ codes "two" ∷ left) (pe_once h rest pe.1
     ∙ ap (λ (left : Fields). decimal pe.0.0 ∷ left) (place_once pe.0.1 place.0 place.1
     ∙ ap (λ (left : Fields). hex place.0.0 ∷ left) (count_once place.0.1 b.0 b.1
@@ -185,7 +186,7 @@ tag_line_ok h rest e =
     let taken = tag_read_as pe.0.1 tag.1 in
     let flushed = flush_read_as tag.0.1 flush.1 in
     as_read (claim_fits h) claim_item_fields (codes "c" ∷ codes "tag" ∷ rest) (item.Claim (Taken pe.0.0 tag.0.0 flush.0.0.0 flush.0.0.1))
-    (both (both (pe_kept h rest pe.1) taken.0) flushed.0)
+    (and_from _ _ (and_from _ _ (pe_kept h rest pe.1) taken.0) flushed.0)
     (ap (λ (left : Fields). codes "c" ∷ codes "tag" ∷ left) (pe_once h rest pe.1
     ∙ ap (λ (left : Fields). decimal pe.0.0 ∷ left) (taken.1
     ∙ ap (λ (left : Fields). tag_word (word_of_tag tag.0.0) ∷ decimal (number_of_tag tag.0.0) ∷ left) (flushed.1

@@ -6,6 +6,7 @@ use Rattle.bbm_events.proofs.Common.{Malformed, UnknownWord, BadNumber, MissingF
 use Rattle.bbm_events.proofs.Common.{Heading, heading_ok, may_share, fields, hex, with_word, kind_word, kinds, is_pe}
 use Rattle.bbm_events.proofs.Common.{is_place, is_value, ◌>>=◌, Fields, passing, exactly, pe_field, kind_field}
 use Rattle.bbm_events.proofs.Common.{place_field, value_field}
+use Rattle.std.proofs.lemmas.Bool.{and_from}
 use Rattle.bbm_events.specs.declared.machine.MachineLine.{MachineLine}
 use Rattle.bbm_events.specs.declared.machine.MachineLine.TheVariants.{Start, Extend, Combine, Share, Drop}
 use Rattle.bbm_events.specs.declared.machine.MachineWord.{MachineWord}
@@ -16,7 +17,7 @@ use Rattle.bbm_events.specs.Machine.{mark_field, machine_word_field, tag_field, 
 use Rattle.bbm_events.specs.Machine.{share_line, machine_after, machine_of, machine_fields, machine_line}
 use Rattle.bbm_events.proofs.Causes.{Ends, then_ends, field_ends, whole_ends, pe_ends, place_ends, value_ends}
 use Rattle.bbm_events.proofs.Causes.{count_ends, count_line_ends, word_ends, of_fields}
-use Rattle.bbm_events.proofs.Readings.{bind_ok, field_ok, passing_field_ok, both, pe_kept, count_kept, place_kept}
+use Rattle.bbm_events.proofs.Readings.{bind_ok, field_ok, passing_field_ok, pe_kept, count_kept, place_kept}
 use Rattle.bbm_events.proofs.Readings.{value_kept}
 use Rattle.bbm_events.proofs.Joining.{joined_fields, fields_joined, all_visible}
 use Rattle.bbm_events.proofs.OneSpelling.{word_once}
@@ -80,7 +81,7 @@ start_line_ok h rest e =
     let value = bind_ok (value_field place.0.1) _ place.2 in
     let end = whole_end _ value.0.1 value.2 in
     as_read (machine_fits h) machine_fields (codes "start" ∷ rest) (Start pe.0.0 kind.0.0 tag.0.0 place.0.0 value.0.0)
-    (both (both (both (pe_kept h rest pe.1)
+    (and_from _ _ (and_from _ _ (and_from _ _ (pe_kept h rest pe.1)
     (passing_field_ok MissingField BadNumber (is_tag kind.0.0) decimal_value kind.0.1 tag.1)) (place_kept tag.0.1 place.0 place.1)) (value_kept place.0.1 value.0 value.1))
     (ap (λ (left : Fields). codes "start" ∷ left) (pe_once h rest pe.1
     ∙ ap (λ (left : Fields). decimal pe.0.0 ∷ left) (kind_once pe.0.1 kind.0 kind.1
@@ -97,7 +98,7 @@ extend_line_ok h rest e =
     let value = bind_ok (value_field place.0.1) _ place.2 in
     let end = whole_end _ value.0.1 value.2 in
     as_read (machine_fits h) machine_fields (codes "extend" ∷ rest) (Extend entry.0.0 place.0.0 value.0.0)
-    (both (both (count_kept rest entry.0 entry.1) (place_kept entry.0.1 place.0 place.1)) (value_kept place.0.1 value.0 value.1))
+    (and_from _ _ (and_from _ _ (count_kept rest entry.0 entry.1) (place_kept entry.0.1 place.0 place.1)) (value_kept place.0.1 value.0 value.1))
     (ap (λ (left : Fields). codes "extend" ∷ left) (count_once rest entry.0 entry.1
     ∙ ap (λ (left : Fields). decimal entry.0.0 ∷ left) (place_once entry.0.1 place.0 place.1
     ∙ ap (λ (left : Fields). hex place.0.0 ∷ left) (value_once place.0.1 value.0 value.1
@@ -110,7 +111,7 @@ share_line_ok h rest shares e =
     let pe = bind_ok (pe_field h entry.0.1) _ entry.2 in
     let end = whole_end _ pe.0.1 pe.2 in
     as_read (machine_fits h) machine_fields (codes "share" ∷ rest) (Share entry.0.0 pe.0.0)
-    (both (both shares (count_kept rest entry.0 entry.1)) (pe_kept h entry.0.1 pe.1))
+    (and_from _ _ (and_from _ _ shares (count_kept rest entry.0 entry.1)) (pe_kept h entry.0.1 pe.1))
     (ap (λ (left : Fields). codes "share" ∷ left) (count_once rest entry.0 entry.1
     ∙ ap (λ (left : Fields). decimal entry.0.0 ∷ left) (pe_once h entry.0.1 pe.1
     ∙ ap (λ (left : Fields). decimal pe.0.0 ∷ left) end.0)))

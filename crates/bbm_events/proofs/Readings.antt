@@ -13,6 +13,7 @@ use Rattle.bbm_events.proofs.Common.{value_field, operand_field, lock_field, loc
 use Rattle.bbm_events.proofs.Common.{count_field, kind_field, dsb_field, op_field, reg_field, whole, is_marked}
 use Rattle.bbm_events.proofs.Common.{label_field, event_item, pe_alone, pe_and, pe_and_two, root_line, tlbi_line}
 use Rattle.bbm_events.proofs.Common.{count_line}
+use Rattle.std.proofs.lemmas.Bool.{and_from}
 use Rattle.bbm_events.specs.declared.event.Event.TheVariants as event
 use Rattle.bbm_events.specs.declared.event.Item.TheVariants as item
 use Rattle.std.specs.Prelude.{drop, ◌==◌}
@@ -68,16 +69,13 @@ pub whole_ok : {A : Type 0} (value : A) (rest : Fields) {y : A} → whole value 
 whole_ok value [] e = cc
 whole_ok value (text ∷ rest) e = cc
 
-pub both : {a b : Bool} → a ≡ true → b ≡ true → (a && b) ≡ true
-both p q = rw (p, q) refl
-
 label_kept : (version : ℕ) (rest : Fields) {x : Option (List ℕ) × Fields} → label_field version rest ≡ Ok x → label_fits version x.0 ≡ true
 label_kept version [] {x = x} e = let none : None ≡ x.0 = cc in rw (← none) refl
 label_kept version (text ∷ rest) {x = x} e = by_mark (may_label version) (is_marked text) (is_label (drop 1 text)) refl refl e
   where
     by_mark : (may marked label : Bool) → may_label version ≡ may → is_label (drop 1 text) ≡ label
         → cond (may && marked) (found BadLabel (option_map Some (cond label (Some (drop 1 text)) None)) rest) (Ok (None, text ∷ rest)) ≡ Ok x → label_fits version x.0 ≡ true
-    by_mark true true true may label f = let some : Some (drop 1 text) ≡ x.0 = cc in rw (← some) (both may label)
+    by_mark true true true may label f = let some : Some (drop 1 text) ≡ x.0 = cc in rw (← some) (and_from _ _ may label)
     by_mark true true false may label f = cc
     by_mark true false b may label f = let none : None ≡ x.0 = cc in rw (← none) refl
     by_mark false marked b may label f = let none : None ≡ x.0 = cc in rw (← none) refl
@@ -102,7 +100,7 @@ pub pe_alone_fits : (h : Heading) (event : ℕ → Event) → ((pe : ℕ) → is
 pe_alone_fits h event fit rest e =
     let pe = bind_ok (pe_field h rest) _ e in
     let is = item_ok h _ _ pe.2 in
-    rw (← is.2) (both (fit pe.0.0 (pe_kept h rest pe.1)) is.1)
+    rw (← is.2) (and_from _ _ (fit pe.0.0 (pe_kept h rest pe.1)) is.1)
 
 pub pe_and_fits : {A : Type 0} (h : Heading) (second : Fields → FieldRead A) (event : ℕ → A → Event) (Good : A → Type 0)
     → ((rest : Fields) (x : A × Fields) → second rest ≡ Ok x → Good x.0)
@@ -112,7 +110,7 @@ pe_and_fits h second event Good good fit rest e =
     let pe = bind_ok (pe_field h rest) _ e in
     let a = bind_ok (second pe.0.1) _ pe.2 in
     let is = item_ok h _ _ a.2 in
-    rw (← is.2) (both (fit pe.0.0 a.0.0 (pe_kept h rest pe.1) (good pe.0.1 a.0 a.1)) is.1)
+    rw (← is.2) (and_from _ _ (fit pe.0.0 a.0.0 (pe_kept h rest pe.1) (good pe.0.1 a.0 a.1)) is.1)
 
 pub pe_and_two_fits : {A B : Type 0} (h : Heading) (second : Fields → FieldRead A) (third : Fields → FieldRead B) (event : ℕ → A → B → Event) (Good : A → Type 0) (Fine : B → Type 0)
     → ((rest : Fields) (x : A × Fields) → second rest ≡ Ok x → Good x.0)
@@ -124,7 +122,7 @@ pe_and_two_fits h second third event Good Fine good fine fit rest e =
     let a = bind_ok (second pe.0.1) _ pe.2 in
     let b = bind_ok (third a.0.1) _ a.2 in
     let is = item_ok h _ _ b.2 in
-    rw (← is.2) (both (fit pe.0.0 a.0.0 b.0.0 (pe_kept h rest pe.1) (good pe.0.1 a.0 a.1) (fine a.0.1 b.0 b.1)) is.1)
+    rw (← is.2) (and_from _ _ (fit pe.0.0 a.0.0 b.0.0 (pe_kept h rest pe.1) (good pe.0.1 a.0 a.1) (fine a.0.1 b.0 b.1)) is.1)
 
 root_lock_kept : (text : List ℕ) {o : Option ℕ} → root_lock text ≡ Some o → is_root_lock o ≡ true
 root_lock_kept text {o = o} e = by_dash (bytes_eq text (codes "-")) (lock_value text) refl e
@@ -142,14 +140,14 @@ root_line_fits h rest e =
     let page = bind_ok (root_page_field h kind.0.0 lock.0.1) _ lock.2 in
     let is = item_ok h _ _ page.2 in
     let lock_read = field_ok MissingField BadNumber root_lock kind.0.1 lock.1 in
-    rw (← is.2) (both (both (both (pe_kept h rest pe.1) (root_lock_kept lock_read.0 lock_read.2))
+    rw (← is.2) (and_from _ _ (and_from _ _ (and_from _ _ (pe_kept h rest pe.1) (root_lock_kept lock_read.0 lock_read.2))
     (passing_field_ok MissingField BadAddress (is_root_page h.world kind.0.0) hex_value lock.0.1 page.1)) is.1)
 
 operand_kept : (op : TlbiOp) (rest : Fields) {x : ℕ × Fields} → operand_field op rest ≡ Ok x → is_operand op x.0 ≡ true
 operand_kept op rest {x = x} e = by_operand (has_operand op) e
   where
     by_operand : (has : Bool) → cond has (value_field rest) (Ok (0, rest)) ≡ Ok x → (is_value x.0 && (has || x.0 == 0)) ≡ true
-    by_operand true f = both (value_field_ok rest f) refl
+    by_operand true f = and_from _ _ (value_field_ok rest f) refl
     by_operand false f = let none : 0 ≡ x.0 = cc in rw (← none) refl
 
 tlbi_line_fits : (h : Heading) (rest : Fields) {x : Item} → tlbi_line h rest ≡ Ok x → item_fits h x ≡ true
@@ -158,7 +156,7 @@ tlbi_line_fits h rest e =
     let op = bind_ok (op_field h.version pe.0.1) _ pe.2 in
     let xt = bind_ok (operand_field op.0.0 op.0.1) _ op.2 in
     let is = item_ok h _ _ xt.2 in
-    rw (← is.2) (both (both (both (pe_kept h rest pe.1)
+    rw (← is.2) (and_from _ _ (and_from _ _ (and_from _ _ (pe_kept h rest pe.1)
     (passing_field_ok MissingField UnknownWord (has_op h.version) (with_word op_word ops) pe.0.1 op.1)) (operand_kept op.0.0 op.0.1 xt.1)) is.1)
 
 end_line_fits : (h : Heading) (rest : Fields) {x : Item} → count_line item.End rest ≡ Ok x → item_fits h x ≡ true
@@ -180,18 +178,18 @@ pub value_kept : (rest : Fields) (x : ℕ × Fields) → value_field rest ≡ Ok
 value_kept rest x e = value_field_ok rest e
 
 line_fits : (h : Heading) (word : Keyword) (rest : Fields) {x : Item} → line_after h word rest ≡ Ok x → item_fits h x ≡ true
-line_fits h first.Init rest e = pe_and_fits h page_field event.Init (λ n. is_page n ≡ true) page_kept (λ pe page p q. both p q) rest e
-line_fits h first.Null rest e = pe_and_fits h page_field event.Null (λ n. is_page n ≡ true) page_kept (λ pe page p q. both p q) rest e
+line_fits h first.Init rest e = pe_and_fits h page_field event.Init (λ n. is_page n ≡ true) page_kept (λ pe page p q. and_from _ _ p q) rest e
+line_fits h first.Null rest e = pe_and_fits h page_field event.Null (λ n. is_page n ≡ true) page_kept (λ pe page p q. and_from _ _ p q) rest e
 line_fits h first.Root rest e = root_line_fits h rest e
-line_fits h first.Unroot rest e = pe_and_fits h page_field event.Unroot (λ n. is_page n ≡ true) page_kept (λ pe page p q. both p q) rest e
-line_fits h first.Write rest e = pe_and_two_fits h place_field value_field event.Write (λ n. is_place n ≡ true) (λ n. is_value n ≡ true) place_kept value_kept (λ pe place value p q r. both (both p q) r) rest e
+line_fits h first.Unroot rest e = pe_and_fits h page_field event.Unroot (λ n. is_page n ≡ true) page_kept (λ pe page p q. and_from _ _ p q) rest e
+line_fits h first.Write rest e = pe_and_two_fits h place_field value_field event.Write (λ n. is_place n ≡ true) (λ n. is_value n ≡ true) place_kept value_kept (λ pe place value p q r. and_from _ _ (and_from _ _ p q) r) rest e
 line_fits h first.Dsb rest e = pe_and_fits h dsb_field event.Dsb (λ _. Unit {0}) (λ _ _ _. tt) (λ pe dsb p q. p) rest e
 line_fits h first.Dmb rest e = pe_and_fits h dsb_field event.Dmb (λ _. Unit {0}) (λ _ _ _. tt) (λ pe dsb p q. p) rest e
 line_fits h first.Isb rest e = pe_alone_fits h event.Isb (λ pe p. p) rest e
 line_fits h first.Tlbi rest e = tlbi_line_fits h rest e
-line_fits h first.Msr rest e = pe_and_two_fits h reg_field value_field event.Msr (λ _. Unit {0}) (λ n. is_value n ≡ true) (λ _ _ _. tt) value_kept (λ pe reg value p q r. both p r) rest e
-line_fits h first.Lock rest e = pe_and_fits h lock_field event.Lock (λ n. is_lock n ≡ true) lock_kept (λ pe lock p q. both p q) rest e
-line_fits h first.Unlock rest e = pe_and_fits h lock_field event.Unlock (λ n. is_lock n ≡ true) lock_kept (λ pe lock p q. both p q) rest e
+line_fits h first.Msr rest e = pe_and_two_fits h reg_field value_field event.Msr (λ _. Unit {0}) (λ n. is_value n ≡ true) (λ _ _ _. tt) value_kept (λ pe reg value p q r. and_from _ _ p r) rest e
+line_fits h first.Lock rest e = pe_and_fits h lock_field event.Lock (λ n. is_lock n ≡ true) lock_kept (λ pe lock p q. and_from _ _ p q) rest e
+line_fits h first.Unlock rest e = pe_and_fits h lock_field event.Unlock (λ n. is_lock n ≡ true) lock_kept (λ pe lock p q. and_from _ _ p q) rest e
 line_fits h first.End rest e = end_line_fits h rest e
 
 -- what is read of a line fits

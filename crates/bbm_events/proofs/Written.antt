@@ -18,7 +18,7 @@ use Rattle.bbm_events.proofs.Common.{op_field, reg_field, label_value, label_fie
 use Rattle.bbm_events.proofs.Common.{pe_and, pe_and_two, root_line, tlbi_line, count_line, header_fields, lock_text}
 use Rattle.bbm_events.proofs.Common.{operand_fields, event_fields, item_fields, magic_field}
 use Rattle.std.specs.Fmt.{digits}
-use Rattle.bbm_events.proofs.Readings.{both}
+use Rattle.std.proofs.lemmas.Bool.{and_from}
 use Rattle.bbm_regimes.specs.declared.regime.KernelWorld.{KernelWorld}
 use Rattle.bbm_events.specs.declared.event.Event.TheVariants as event
 use Rattle.bbm_events.specs.declared.event.Item.TheVariants as item
@@ -248,7 +248,7 @@ event_read h (event.Unlock pe lock) label ok fits labelled = let parts = and_par
 -- Each byte of a field shows.
 
 pub one_more : (piece : List ℕ) (pieces : List (List ℕ)) → visible piece ≡ true → all_visible pieces ≡ true → all_visible (piece ∷ pieces) ≡ true
-one_more piece pieces p q = both p q
+one_more piece pieces p q = and_from _ _ p q
 
 pub dec : (n : ℕ) (pieces : List (List ℕ)) → all_visible pieces ≡ true → all_visible (decimal n ∷ pieces) ≡ true
 dec n pieces h = one_more (decimal n) pieces (digits_visible 10 n) h

@@ -16,6 +16,11 @@ abbrev pub ItemsFit : Type 0
 ItemsFit = (heading : Heading) (line : List ℕ) (item : Item) → item_of heading line ≡ Ok item
     → item_fits heading item ≡ true
 
+-- both
+pub record LineLaws : Type 0 where
+  pub header : HeadersAreInRange
+  pub item : ItemsFit
+
 -- a written header is read as the same header, and a written item that fits is read as the same item
 pub record WrittenIsRead : Type 0 where
   pub header : (heading : Heading) → heading_ok heading ≡ true → header_of (header_line heading) ≡ Ok heading

@@ -73,66 +73,32 @@ const UNBROKEN: Judged = Judged::No {
     at: 0x4000_0008,
 };
 
+// Claims of PE 0 and of PE 1 that are true of the first.
+const ZERO: &[u8] = b"c place 0 0x40000008 6 7 8";
+
+const ONE: &[u8] = b"c place 1 0x40000008 6 7 8";
+
 // A log, claims, and what these make of it.
 const EL2: [(&[&[u8]], &[&[u8]], Judged); 11] = [
-    (
-        &MOVED,
-        &[b"c place 0 0x40000008 6 7 8", b"c place 1 0x40000008 6 7 8"],
-        Judged::Yes,
-    ),
+    (&MOVED, &[ZERO, ONE], Judged::Yes),
     // In another order.
-    (
-        &MOVED,
-        &[b"c place 1 0x40000008 6 7 8", b"c place 0 0x40000008 6 7 8"],
-        Judged::Yes,
-    ),
+    (&MOVED, &[ONE, ZERO], Judged::Yes),
     // No claim of PE 1.
-    (&MOVED, &[b"c place 0 0x40000008 6 7 8"], UNBROKEN),
+    (&MOVED, &[ZERO], UNBROKEN),
     // The publication before the clear, and no barrier that publishes.
-    (
-        &MOVED,
-        &[b"c place 0 0x40000008 6 7 8", b"c place 1 0x40000008 4 7 8"],
-        UNBROKEN,
-    ),
-    (
-        &MOVED,
-        &[b"c place 0 0x40000008 6 7 8", b"c place 1 0x40000008 5 7 8"],
-        UNBROKEN,
-    ),
+    (&MOVED, &[ZERO, b"c place 1 0x40000008 4 7 8"], UNBROKEN),
+    (&MOVED, &[ZERO, b"c place 1 0x40000008 5 7 8"], UNBROKEN),
     // No TLBI, no answer, position 0, and one behind the log.
-    (
-        &MOVED,
-        &[b"c place 0 0x40000008 6 7 8", b"c place 1 0x40000008 6 6 8"],
-        UNBROKEN,
-    ),
-    (
-        &MOVED,
-        &[b"c place 0 0x40000008 6 7 8", b"c place 1 0x40000008 6 7 9"],
-        UNBROKEN,
-    ),
-    (
-        &MOVED,
-        &[b"c place 0 0x40000008 6 7 8", b"c place 1 0x40000008 0 7 8"],
-        UNBROKEN,
-    ),
-    (
-        &MOVED,
-        &[
-            b"c place 0 0x40000008 6 7 8",
-            b"c place 1 0x40000008 6 7 10",
-        ],
-        UNBROKEN,
-    ),
+    (&MOVED, &[ZERO, b"c place 1 0x40000008 6 6 8"], UNBROKEN),
+    (&MOVED, &[ZERO, b"c place 1 0x40000008 6 7 9"], UNBROKEN),
+    (&MOVED, &[ZERO, b"c place 1 0x40000008 0 7 8"], UNBROKEN),
+    (&MOVED, &[ZERO, b"c place 1 0x40000008 6 7 10"], UNBROKEN),
     (
         &EARLY,
         &[b"c place 0 0x40000008 7 6 8", b"c place 1 0x40000008 7 6 8"],
         UNBROKEN,
     ),
-    (
-        &OTHER_PE,
-        &[b"c place 0 0x40000008 6 7 8", b"c place 1 0x40000008 6 7 8"],
-        UNBROKEN,
-    ),
+    (&OTHER_PE, &[ZERO, ONE], UNBROKEN),
 ];
 
 #[test]

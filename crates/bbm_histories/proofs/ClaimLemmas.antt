@@ -10,7 +10,8 @@ use Rattle.bbm_histories.specs.ClaimSteps.{cleansed_listed, completes_claim, ful
 use Rattle.bbm_histories.specs.ClaimSteps.{second_at, seen_by, seen_by_after}
 use Rattle.bbm_histories.proofs.Searches.{Search, apart_from, each_test, search_any, search_at, search_by, search_never}
 use Rattle.bbm_histories.proofs.Searches.{search_some, search_where}
-use Rattle.bbm_histories.proofs.StepLemmas.{answered_kinds, any_and, any_or, cleansed_under_step, same_test}
+use Rattle.bbm_histories.proofs.StepLemmas.{answered_kinds, cleansed_under_step}
+use Rattle.bbm_lemmas.proofs.Tests.{any_and, any_or, any_same}
 
 -- the tests of a claim, those that don't depend on what is searched first
 place_order : (r a b t e : Bool) → ((((r && a) && b) && t) && e) ≡ ((r && (a && e)) && (t && b))
@@ -60,7 +61,7 @@ module _ (heading : Heading) (place p : ℕ) where
       → answers_one (λ i. find_half now i (λ x. d == x.2 && (t == x.1 && b == x.0))) (Dsb q dsb) since
       ≡ (d == now && answered_by dsb (λ k. waits event_of q k (half_at heading place p b t) since))
   half_now b t d now q dsb since =
-      same_test (λ (i : Issued Noted). completes dsb i.tlbi.event && find_half now i (λ x. d == x.2 && (t == x.1 && b == x.0)))
+      any_same (λ (i : Issued Noted). completes dsb i.tlbi.event && find_half now i (λ x. d == x.2 && (t == x.1 && b == x.0)))
       (λ (i : Issued Noted). d == now && (completes dsb i.tlbi.event && half_at heading place p b t i)) (unanswered event_of q since)
       (λ i. one i (d == now) (t == i.tlbi.position))
       ∙ (any_and (d == now) (λ (i : Issued Noted). completes dsb i.tlbi.event && half_at heading place p b t i) (unanswered event_of q since)
@@ -123,7 +124,7 @@ module _ (heading : Heading) (place p : ℕ) where
       → answers_one (λ i. find_full i (λ x. t == x.1 && b == x.0)) (Dsb q dsb) since
       ≡ answered_by dsb (λ k. waits event_of q k (full_at heading place p b t) since)
   full_now b t q dsb since =
-      same_test (λ (i : Issued Noted). completes dsb i.tlbi.event && find_full i (λ x. t == x.1 && b == x.0))
+      any_same (λ (i : Issued Noted). completes dsb i.tlbi.event && find_full i (λ x. t == x.1 && b == x.0))
       (λ (i : Issued Noted). completes dsb i.tlbi.event && full_at heading place p b t i) (unanswered event_of q since)
       (λ i. ap (λ (x : Bool). completes dsb i.tlbi.event
       && ((reaches heading i.tlbi.event p && same_cover (i.tlbi.covers place) Full) && x))
@@ -134,7 +135,7 @@ module _ (heading : Heading) (place p : ℕ) where
       → answers_one (λ i. find_second i (λ x. t2 == x.3 && (d1 == x.2 && (t1 == x.1 && b == x.0)))) (Dsb q dsb) since
       ≡ answered_by dsb (λ k. waits event_of q k (second_at heading place p b t1 d1 t2) since)
   second_now b t1 d1 t2 q dsb since =
-      same_test (λ (i : Issued Noted). completes dsb i.tlbi.event
+      any_same (λ (i : Issued Noted). completes dsb i.tlbi.event
       && find_second i (λ x. t2 == x.3 && (d1 == x.2 && (t1 == x.1 && b == x.0))))
       (λ (i : Issued Noted). completes dsb i.tlbi.event && second_at heading place p b t1 d1 t2 i) (unanswered event_of q since)
       (λ i. ap (λ (x : Bool). completes dsb i.tlbi.event
@@ -202,14 +203,14 @@ module _ (heading : Heading) (place p : ℕ) where
     full_claims cs =
         sym (answered_kinds Noted event_of q dsb (full_step heading (Listed cs) place p d) since)
         ∙ (each_test Two_positions find_any_full search_any_full (λ c x. same_claim c (Place p place x.0 x.1 d)) cs
-        ∙ same_test (λ (c : Claim). find_any_full (λ x. same_claim c (Place p place x.0 x.1 d))) full_part cs full_claim)
+        ∙ any_same (λ (c : Claim). find_any_full (λ x. same_claim c (Place p place x.0 x.1 d))) full_part cs full_claim)
 
     second_claims : (cs : List Claim)
         → answered_by dsb (λ k. waits event_of q k (second_step heading (Listed cs) place p d) since) ≡ any second_part cs
     second_claims cs =
         sym (answered_kinds Noted event_of q dsb (second_step heading (Listed cs) place p d) since)
         ∙ (each_test Four find_any_second search_any_second (λ c x. same_claim c (Two p place x.0 x.1 x.2 x.3 d)) cs
-        ∙ same_test (λ (c : Claim). find_any_second (λ x. same_claim c (Two p place x.0 x.1 x.2 x.3 d))) second_part cs second_claim)
+        ∙ any_same (λ (c : Claim). find_any_second (λ x. same_claim c (Two p place x.0 x.1 x.2 x.3 d))) second_part cs second_claim)
 
     both_steps : (cs : List Claim)
         → (answered_by dsb (λ k. waits event_of q k (full_step heading (Listed cs) place p d) since)
@@ -218,7 +219,7 @@ module _ (heading : Heading) (place p : ℕ) where
     both_steps cs =
         ap (λ (c : Bool). c || answered_by dsb (λ k. waits event_of q k (second_step heading (Listed cs) place p d) since)) (full_claims cs)
         ∙ (ap (λ (c : Bool). any full_part cs || c) (second_claims cs)
-        ∙ sym (same_test (completes_claim heading place p q dsb d since) (λ c. full_part c || second_part c) cs parts
+        ∙ sym (any_same (completes_claim heading place p q dsb d since) (λ c. full_part c || second_part c) cs parts
         ∙ any_or full_part second_part cs))
 
   listed_then : (cs : List Claim) (d : ℕ) (e : Event) (since : List Noted)

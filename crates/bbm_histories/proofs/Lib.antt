@@ -23,6 +23,7 @@ pub mod ChildlessSteps
 pub mod LimboSteps
 pub mod NodeSteps
 pub mod Searches
+pub mod SeenFirst
 pub mod ClaimLemmas
 pub mod TagClaims
 pub mod ValueSteps

@@ -1,7 +1,7 @@
 -- Searches: a search for what passes any of several tests is a search for each of them.
 use Rattle.bbm_rules.proofs.Common.{◌≡◌, ◌&&◌, ◌||◌, Bool, true, false, List, [], ◌∷◌, refl, ◌∙◌, ap, any, some}
 use Rattle.bbm_rules.proofs.Common.{or_middle}
-use Rattle.bbm_histories.proofs.StepLemmas.{any_never, any_or, same_test}
+use Rattle.bbm_lemmas.proofs.Tests.{any_never, any_or, any_same}
 
 -- A search asks whether something passes a test.
 pub record Search (T : Type 0) (find : (T → Bool) → Bool) : Type 0 where
@@ -29,11 +29,11 @@ search_by i find k = record {
 pub search_any : {T A : Type 0} (find : A → (T → Bool) → Bool) → ((x : A) → Search T (find x)) → (xs : List A)
     → Search T (λ f. any (λ x. find x f) xs)
 search_any {T} {A} find k xs = record {
-  none = same_test (λ (x : A). find x (λ y. false)) (λ (x : A). false) xs (λ x. let s : Search T (find x) = k x in s.none) ∙ any_never xs;
-  either = λ f g. same_test (λ (x : A). find x (λ y. f y || g y)) (λ (x : A). find x f || find x g) xs
+  none = any_same (λ (x : A). find x (λ y. false)) (λ (x : A). false) xs (λ x. let s : Search T (find x) = k x in s.none) ∙ any_never xs;
+  either = λ f g. any_same (λ (x : A). find x (λ y. f y || g y)) (λ (x : A). find x f || find x g) xs
       (λ x. let s : Search T (find x) = k x in s.either f g)
       ∙ any_or (λ (x : A). find x f) (λ (x : A). find x g) xs;
-  same = λ f g e. same_test (λ (x : A). find x f) (λ (x : A). find x g) xs (λ x. let s : Search T (find x) = k x in s.same f g e);
+  same = λ f g e. any_same (λ (x : A). find x f) (λ (x : A). find x g) xs (λ x. let s : Search T (find x) = k x in s.same f g e);
 }
 
 module _ (T A : Type 0) (find : A → List A → (T → Bool) → Bool) (k : (x : A) (older : List A) → Search T (find x older)) where

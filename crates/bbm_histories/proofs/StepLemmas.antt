@@ -2,7 +2,7 @@
 use Rattle.bbm_histories.proofs.Common.{and-false, and-true, or-false, Heading, Below, cleansed_under, answered_by}
 use Rattle.bbm_histories.proofs.Common.{held_after, seen_after, waits}
 use Rattle.bbm_rules.proofs.Common.{◌≡◌, ℕ, ◌<◌, ◌≤◌, ◌&&◌, ◌||◌, not, Bool, true, false, cond, ◌==◌, nat_le, List, []}
-use Rattle.bbm_rules.proofs.Common.{◌∷◌, length, Option, Some, None, filter, option_and_then, refl, sym, ◌∙◌, ap, subst}
+use Rattle.bbm_rules.proofs.Common.{◌∷◌, length, Option, Some, None, option_and_then, refl, sym, ◌∙◌, ap, subst}
 use Rattle.bbm_rules.proofs.Common.{true≢false, arith, eq-eqb, le-leb, leb-true, proved, Is, answers, Kind, is_valid}
 use Rattle.bbm_rules.proofs.Common.{same_bool, operation, Half, Barrier, Event, Init, Write, Dsb, Tlbi, Trust, Patterns}
 use Rattle.bbm_rules.proofs.Common.{answered_where, answers_one, cleansed, flushes, full_step, half, publishes_write}
@@ -16,38 +16,7 @@ use Rattle.bbm_rules.specs.Reach.{still_open}
 use Rattle.bbm_histories.specs.HistorySteps.{cleansed_after, half_after, is_tlbi, tag_waits, tag_waits_after, takes}
 use Rattle.bbm_histories.specs.HistorySteps.{waits_after, wrote}
 use Rattle.bbm_histories.proofs.HeldSteps.{held_same}
-
--- ---- tests
-
-pub same_test : {A : Type 0} (f g : A → Bool) (xs : List A) → ((x : A) → f x ≡ g x) → any f xs ≡ any g xs
-same_test f g [] same = refl
-same_test f g (x ∷ xs) same =
-    ap (λ (b : Bool). b || any f xs) (same x) ∙ ap (λ (b : Bool). g x || b) (same_test f g xs same)
-
-pub any_filter : {A : Type 0} (f r : A → Bool) (xs : List A) → any f (filter r xs) ≡ any (λ x. r x && f x) xs
-any_filter f r [] = refl
-any_filter f r (x ∷ xs) = by (r x) (any_filter f r xs)
-  where
-    by : (c : Bool) → any f (filter r xs) ≡ any (λ x. r x && f x) xs
-        → any f (cond c (x ∷ filter r xs) (filter r xs)) ≡ ((c && f x) || any (λ x. r x && f x) xs)
-    by true e = ap (λ (b : Bool). f x || b) e
-    by false e = e
-
-pub any_never : {A : Type 0} (xs : List A) → any (λ (x : A). false) xs ≡ false
-any_never [] = refl
-any_never (x ∷ xs) = any_never xs
-
-pub any_both : {A : Type 0} (f : A → Bool) (c : Bool) (xs : List A) → any (λ x. f x && c) xs ≡ (any f xs && c)
-any_both f true xs = same_test (λ x. f x && true) f xs (λ x. and-true (f x)) ∙ sym (and-true (any f xs))
-any_both f false xs = same_test (λ x. f x && false) (λ x. false) xs (λ x. and-false (f x)) ∙ (any_never xs ∙ sym (and-false (any f xs)))
-
-pub any_or : {A : Type 0} (f g : A → Bool) (xs : List A) → any (λ x. f x || g x) xs ≡ (any f xs || any g xs)
-any_or f g [] = refl
-any_or f g (x ∷ xs) = ap (λ (b : Bool). (f x || g x) || b) (any_or f g xs) ∙ or_middle (f x) (g x) (any f xs) (any g xs)
-
-pub any_and : {A : Type 0} (c : Bool) (f : A → Bool) (xs : List A) → any (λ x. c && f x) xs ≡ (c && any f xs)
-any_and true f xs = refl
-any_and false f xs = any_never xs
+use Rattle.bbm_lemmas.proofs.Tests.{any_and, any_both, any_filter, any_never, any_or, any_same}
 
 -- ---- what waits
 
@@ -88,7 +57,7 @@ module _ (A : Type 0) (event : A → Event) (q : ℕ) where
       → any (λ t. completes dsb (event t.tlbi) && test t) (unanswered event q h)
       ≡ answered_by dsb (λ b. waits event q b test h)
   answered_kinds dsb test h =
-      same_test (λ t. completes dsb (event t.tlbi) && test t)
+      any_same (λ t. completes dsb (event t.tlbi) && test t)
       (λ t. (answers dsb true && (is_tlbi true (event t.tlbi) && test t)) || (answers dsb false && (is_tlbi false (event t.tlbi) && test t)))
       (unanswered event q h) (λ t. completed_kind dsb (event t.tlbi) (test t))
       ∙ (any_or (λ t. answers dsb true && (is_tlbi true (event t.tlbi) && test t)) (λ t. answers dsb false && (is_tlbi false (event t.tlbi) && test t)) (unanswered event q h)
@@ -102,7 +71,7 @@ module _ (A : Type 0) (event : A → Event) (q : ℕ) where
       ≡ cond (answers dsb b) false (any (λ t. is_tlbi b (event t.tlbi) && test t) ts)
   left_waits b test dsb ts =
       any_filter (λ t. is_tlbi b (event t.tlbi) && test t) (λ t. not (completes dsb (event t.tlbi))) ts
-      ∙ (same_test (λ t. not (completes dsb (event t.tlbi)) && (is_tlbi b (event t.tlbi) && test t))
+      ∙ (any_same (λ t. not (completes dsb (event t.tlbi)) && (is_tlbi b (event t.tlbi) && test t))
       (λ t. cond (answers dsb b) false (is_tlbi b (event t.tlbi) && test t)) ts (λ t. left_kind dsb b (event t.tlbi) (test t))
       ∙ by (answers dsb b))
     where

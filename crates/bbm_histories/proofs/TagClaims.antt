@@ -6,7 +6,8 @@ use Rattle.bbm_rules.proofs.Common.{Listed, any, Issued, unanswered, itself, los
 use Rattle.std.proofs.Math.Bool.{and_assoc}
 use Rattle.bbm_histories.specs.ClaimSteps.{completes_taken, tag_waits_at, tag_waits_at_after}
 use Rattle.bbm_histories.proofs.Searches.{Search, apart_from, each_test, search_any, search_at, search_where}
-use Rattle.bbm_histories.proofs.StepLemmas.{any_both, is_taken, lost_of, same_test, waits_of_after, waits_of_step}
+use Rattle.bbm_histories.proofs.StepLemmas.{is_taken, lost_of, waits_of_after, waits_of_step}
+use Rattle.bbm_lemmas.proofs.Tests.{any_both, any_same}
 
 taken_order : (r g t e : Bool) → (((r && g) && t) && e) ≡ ((r && (g && e)) && t)
 taken_order = proved 4 (λ r g t e. Is (((r && g) && t) && e) ((r && (g && e)) && t)) refl
@@ -56,6 +57,6 @@ module _ (heading : Heading) (p : ℕ) (tag : Tag) where
         ≡ (any (completes_taken heading p tag q dsb h) cs && free)
     listed_lost cs =
         each_test ℕ find_taken search_taken (λ c n. same_claim c (Taken p tag (suc n) (suc (length h)))) cs
-        ∙ (same_test (λ (c : Claim). find_taken (λ n. same_claim c (Taken p tag (suc n) (suc (length h)))))
+        ∙ (any_same (λ (c : Claim). find_taken (λ n. same_claim c (Taken p tag (suc n) (suc (length h)))))
         (λ c. completes_taken heading p tag q dsb h c && free) cs taken_claim
         ∙ any_both (completes_taken heading p tag q dsb h) free cs)

@@ -7,7 +7,7 @@ use Rattle.bbm_rules.proofs.Common.{is_at, is_root, retired, root_at, roots_of, 
 use Rattle.bbm_rules.proofs.Common.{readable_before}
 use Rattle.bbm_histories.specs.ValueSteps.{Written, first_zero, is_by, is_root_after, readable_writes, root_after}
 use Rattle.bbm_histories.specs.ValueSteps.{up_to}
-use Rattle.bbm_histories.proofs.StepLemmas.{any_filter, any_never, same_test}
+use Rattle.bbm_lemmas.proofs.Tests.{any_filter, any_never, any_same}
 
 -- ---- roots
 
@@ -57,7 +57,7 @@ module _ (kind : Kind) (page : ℕ) where
       any_filter is_one (λ (r : Declared). not (is_at at r)) rs ∙ by (at == page) refl
     where
       by : (c : Bool) → (at == page) ≡ c → any (λ (r : Declared). not (is_at at r) && is_one r) rs ≡ cond c false (any is_one rs)
-      by true k = same_test (λ (r : Declared). not (is_at at r) && is_one r) (λ r. false) rs
+      by true k = any_same (λ (r : Declared). not (is_at at r) && is_one r) (λ r. false) rs
           (λ r. go r (r.page == at) (r.page == page) refl refl) ∙ any_never rs
         where
           go : (r : Declared) (a b : Bool) → (r.page == at) ≡ a → (r.page == page) ≡ b → (not a && (b && same_kind r.kind kind)) ≡ false
@@ -65,7 +65,7 @@ module _ (kind : Kind) (page : ℕ) where
           go r false false l m = refl
           go r false true l m =
               absurd (true≢false (sym (eq-eqb r.page at (eqb-true r.page page m ∙ sym (eqb-true at page k))) ∙ l))
-      by false k = same_test (λ (r : Declared). not (is_at at r) && is_one r) is_one rs
+      by false k = any_same (λ (r : Declared). not (is_at at r) && is_one r) is_one rs
           (λ r. go r (r.page == at) (r.page == page) refl refl)
         where
           go : (r : Declared) (a b : Bool) → (r.page == at) ≡ a → (r.page == page) ≡ b

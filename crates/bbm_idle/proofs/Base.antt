@@ -16,7 +16,7 @@ use Rattle.bbm_idle.proofs.DsbBase.{same_held, same_patterns, same_tree}
 use Rattle.bbm_idle.proofs.Needed.{adds_needed}
 use Rattle.bbm_idle.proofs.Registers.{idle_isb}
 use Rattle.bbm_idle.proofs.Waits.{changeless, of_dmb, of_isb, of_tlbi}
-use Rattle.bbm_idle.proofs.Written.{was_some}
+use Rattle.bbm_rules.proofs.HeldLemmas.{older}
 
 -- ---- tags
 
@@ -85,11 +85,11 @@ module _ (heading : Heading) where
         → page_of place ≡ n.page → held_at heading Patterns before n place ≡ Some value → last_valid n.kind n.level place after ≡ Some w
         → last_valid n.kind n.level place before ≡ Some w' → SamePatterns heading place Patterns Patterns w.since w'.since
     patterns_on quiet stay n place value w w' t inside holds last last' =
-        let v = was_some item (last_valid n.kind n.level place before) w
+        let v = older item (last_valid n.kind n.level place before) w
         (sym (k.changes.valid item before n.kind n.level place quiet.values) ∙ last) in
-        let same : Some v.0 ≡ Some w' = sym v.1 ∙ last' in
-        let one : v.0 ≡ w' = cc in
-        let since : item ∷ w'.since ≡ w.since = ap (λ (x : ValidWrite). item ∷ x.since) (sym one) ∙ v.3 in
+        let same : Some v.before ≡ Some w' = sym v.is ∙ last' in
+        let one : v.before ≡ w' = cc in
+        let since : item ∷ w'.since ≡ w.since = ap (λ (x : ValidWrite). item ∷ x.since) (sym one) ∙ v.longer in
         subst (λ (s : List Noted). SamePatterns heading place Patterns Patterns s w'.since) since (stay n place value w' t inside holds last')
 
     alike_by : Quiet e → ((p : ℕ) (reg : Reg) → register_values (e ∷ h) p reg ≡ register_values h p reg)

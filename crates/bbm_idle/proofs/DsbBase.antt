@@ -19,7 +19,7 @@ use Rattle.bbm_idle.proofs.Needed.{half_stays}
 use Rattle.bbm_idle.proofs.Phases.{SameMarks, never_clean, same_marks}
 use Rattle.bbm_idle.proofs.Since.{Untouched, Unwritten, untouched, unwritten_on}
 use Rattle.bbm_idle.proofs.Waits.{changeless, of_dsb}
-use Rattle.bbm_idle.proofs.Written.{written}
+use Rattle.bbm_rules.proofs.HeldLemmas.{last_is_written}
 
 every_in : {A : Type 0} (test : A → Bool) (xs : List A) (x : A) → every test xs ≡ true → In xs x → test x ≡ true
 every_in test [] x e i = absurd i
@@ -72,7 +72,7 @@ module _ (heading : Heading) where
     in_written : (kind : Kind) (level place : ℕ) (w : ValidWrite) → last_valid kind level place before ≡ Some w → In (written_places h) place
     in_written kind level place w last =
         subst (λ (es : List Event). In (written_places es) place) (k.notes_keep_the_events h)
-        (written kind level place before w last)
+        (last_is_written kind level place before w last)
 
     -- the node of a place of a tree
     node_before : (n : Node) (place : ℕ) → Contains (tree heading Patterns before) n → page_of place ≡ n.page

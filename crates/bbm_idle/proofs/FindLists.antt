@@ -1,24 +1,15 @@
 -- Tests over lists and over PEs.
-use Rattle.bbm_rules.proofs.Common.{◌≡◌, Bool, false, ◌&&◌, ◌||◌, List, [], ◌∷◌, refl, ap, ◌∙◌, flat_map, list_any}
-use Rattle.bbm_rules.proofs.Common.{list_all, list_any-append}
+use Rattle.bbm_rules.proofs.Common.{◌≡◌, Bool, ◌&&◌, ◌||◌, List, [], ◌∷◌, refl, ap, ◌∙◌, flat_map, list_any, list_all}
+use Rattle.bbm_rules.proofs.Common.{list_any-append}
 
 -- ---- tests
 
 -- ---- lists
 
-pub any_alike : {A : Type 0} (f g : A → Bool) (xs : List A) → ((x : A) → f x ≡ g x) → list_any f xs ≡ list_any g xs
-any_alike f g [] same = refl
-any_alike f g (x ∷ xs) same =
-    ap (λ (b : Bool). b || list_any f xs) (same x) ∙ ap (λ (b : Bool). g x || b) (any_alike f g xs same)
-
 pub every_alike : {A : Type 0} (f g : A → Bool) (xs : List A) → ((x : A) → f x ≡ g x) → list_all f xs ≡ list_all g xs
 every_alike f g [] same = refl
 every_alike f g (x ∷ xs) same =
     ap (λ (b : Bool). b && list_all f xs) (same x) ∙ ap (λ (b : Bool). g x && b) (every_alike f g xs same)
-
-pub any_never : {A : Type 0} (xs : List A) → list_any (λ x. false) xs ≡ false
-any_never [] = refl
-any_never (x ∷ xs) = any_never xs
 
 pub any_flat : {A B : Type 0} (f : A → List B) (test : B → Bool) (xs : List A)
     → list_any test (flat_map f xs) ≡ list_any (λ x. list_any test (f x)) xs

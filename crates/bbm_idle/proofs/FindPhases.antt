@@ -1,5 +1,5 @@
 -- The phases of places at all PEs.
-use Rattle.bbm_idle.proofs.Common.{Clean, Live, Patterns, phase_at, Past, notes, Stands, same_phase}
+use Rattle.bbm_idle.proofs.Common.{Clean, Live, Patterns, phase_at, Past, notes, StandsByPatterns, same_phase}
 use Rattle.bbm_rules.proofs.Common.{◌≡◌, ℕ, ◌<◌, Bool, true, false, not, cond, ◌&&◌, ◌||◌, nat_lt, List, Option, Some}
 use Rattle.bbm_rules.proofs.Common.{None, refl, sym, ap, ◌∙◌, lt-ltb, is_valid, Trust, cleansed, half, seen, noted}
 use Rattle.bbm_rules.proofs.Common.{cleansed_everywhere, last_valid, ◌>>=◌, Noted, events_of, broken_phase, page_of}
@@ -38,7 +38,7 @@ unfolding phase_of
 noted_phase heading h place p e = rw e refl
 
 -- that of the events that the history stands for
-pub phase_stands : (past : Past) (heading : Heading) (h : List Event) → Stands past heading h → (place p : ℕ)
+pub phase_stands : (past : Past) (heading : Heading) (h : List Event) → StandsByPatterns past heading h → (place p : ℕ)
     → phase_among past.heading past.trust (notes past) place p ≡ phase_of heading Patterns h place p
 phase_stands past heading h s place p =
     let are : notes past ≡ noted heading Patterns h = s.kept.notes_are ∙ ap (λ (t : Trust). noted heading t h) s.trust_is in

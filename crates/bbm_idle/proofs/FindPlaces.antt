@@ -1,13 +1,13 @@
 -- What a TLBI adds at a place, by the sets of PEs at which it is seen, half and cleansed.
-use Rattle.bbm_idle.proofs.Common.{Patterns, cover_in, notes_of, Kept, Past, notes, Stands, adds_with, needed_by}
-use Rattle.bbm_idle.proofs.Common.{place_adds, adds_at, is_needed, is_needed_at, takes_of, Seat}
+use Rattle.bbm_idle.proofs.Common.{Patterns, cover_in, notes_of, Kept, Past, notes, StandsByPatterns, adds_with}
+use Rattle.bbm_idle.proofs.Common.{needed_by, place_adds, adds_at, is_needed, is_needed_at, takes_of, TreePlace}
 use Rattle.bbm_rules.proofs.Common.{◌≡◌, ℕ, ◌+◌, ◌-◌, ◌<◌, ◌≤◌, Bool, false, ◌&&◌, ◌||◌, List, [], ◌∷◌, Option, Some}
 use Rattle.bbm_rules.proofs.Common.{None, length, get_or, take, reverse, refl, ap, ◌∙◌, arith, take_all, reverse_more}
 use Rattle.bbm_rules.proofs.Common.{Cover, Trust, cover_at, noted, ValidWrite, any, below, some_pe, Noted, Heading}
 use Rattle.bbm_rules.proofs.Common.{Event, reaches, roots_of, written_places}
 use Rattle.bbm_tlbi_scope.specs.declared.entry.Cover.TheVariants.{None as NoCover}
 use Rattle.bbm_idle.specs.Finding.{adds_since}
-use Rattle.bbm_idle.proofs.FindLists.{any_alike}
+use Rattle.bbm_lemmas.proofs.Tests.{any_same}
 
 -- a TLBI that doesn't cover the place adds nothing
 pub adds_nothing : (heading : Heading) (p place : ℕ) (found : Option ValidWrite) → adds_since heading NoCover p place found ≡ false
@@ -24,7 +24,7 @@ abbrev covers_of : List Noted → ℕ → Cover
 covers_of [] = λ place. NoCover
 covers_of (n ∷ older) = n.covers
 
-pub newest_added : (heading : Heading) (log : List Kept) (k : Kept) (seats : List Seat) (p : ℕ) (n : Noted) (older : List Noted)
+pub newest_added : (heading : Heading) (log : List Kept) (k : Kept) (seats : List TreePlace) (p : ℕ) (n : Noted) (older : List Noted)
     → 0 < length log → k ≡ get_or log (length log - 1) k → notes_of (reverse log) ≡ n ∷ older
     → any (place_adds heading (notes_of (reverse (take (length log - 1) log))) (cover_in k.covers.items) p) seats
     ≡ any (place_adds heading older n.covers p) seats
@@ -41,7 +41,7 @@ newest_added heading log k seats p n older some is noted_is =
 
 -- what it adds, by a history that stands for the events
 pub adds_stand : (past : Past) (heading : Heading) (h : List Event) (e : Event) (p : ℕ) (written : List ℕ)
-    → Stands past heading h → written ≡ written_places h
+    → StandsByPatterns past heading h → written ≡ written_places h
     → any (λ place. adds_with past.heading (notes past) (cover_at past.heading past.trust (notes past) e place) p place) written
     ≡ any (adds_at heading (noted heading Patterns h) e p) (written_places h)
 adds_stand past heading h e p written s are =
@@ -54,5 +54,5 @@ adds_stand past heading h e p written s are =
 pub needed_is : (heading : Heading) (h : List Event) (e : Event) (added : ℕ → Bool)
     → ((p : ℕ) → added p ≡ any (adds_at heading (noted heading Patterns h) e p) (written_places h))
     → some_pe heading.pes (needed_by heading h e added) ≡ is_needed heading h e
-needed_is heading h e added told = any_alike (needed_by heading h e added) (is_needed_at heading h e) (below heading.pes)
+needed_is heading h e added told = any_same (needed_by heading h e added) (is_needed_at heading h e) (below heading.pes)
     (λ p. ap (λ (b : Bool). reaches heading e p && (b || any (takes_of heading h e p) (roots_of h))) (told p))

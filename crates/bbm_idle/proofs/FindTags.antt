@@ -1,16 +1,16 @@
 -- The tags that were ever readable, and those of them that a TLBI takes whole.
 use Rattle.bbm_idle.proofs.Common.{Patterns, AreTaken, is_taken, takes_of}
-use Rattle.bbm_rules.proofs.Common.{◌≡◌, ℕ, ◌+◌, add-one, Bool, true, false, cond, ◌&&◌, ◌||◌, eqb, List, [], ◌∷◌, ◌++◌}
-use Rattle.bbm_rules.proofs.Common.{Option, Some, None, refl, sym, ap, ◌∙◌, flat_map, filter_map, true≢false}
-use Rattle.bbm_rules.proofs.Common.{cons_option, and_parts, eqb-true, or_left, list_any-append, any_finds, any_found}
-use Rattle.bbm_rules.proofs.Common.{AsidFrom, FromTtbr0, FromTtbr1, Ttbr1El1, Ttbr1Tag, World, Hyp, Kernel, Heading}
-use Rattle.bbm_rules.proofs.Common.{Event, Root, Unroot, Isb, Msr, Tag, Tlbi, TlbiOp, Scope, takes_whole_tag, changes}
-use Rattle.bbm_rules.proofs.Common.{same_tag, any, below, if_so, named_scope, vmid_of, Declared, roots_of, Reading}
-use Rattle.bbm_rules.proofs.Common.{asid_readings, distinct, ever_read, holds_at, readings, readings_in, readings_of}
-use Rattle.bbm_rules.proofs.Common.{tag_for, takes_tag, or-false, or_comm}
+use Rattle.bbm_rules.proofs.Common.{◌≡◌, ℕ, ◌+◌, add-one, Bool, true, false, cond, ◌&&◌, ◌||◌, eqb, List, [], ◌∷◌}
+use Rattle.bbm_rules.proofs.Common.{Option, Some, None, refl, sym, ap, ◌∙◌, flat_map, filter_map, cons_option}
+use Rattle.bbm_rules.proofs.Common.{and_parts, eqb-true, or_left, list_any-append, any_finds, any_found, Heading, Event}
+use Rattle.bbm_rules.proofs.Common.{Tag, Tlbi, TlbiOp, Scope, takes_whole_tag, changes, same_tag, any, below, if_so}
+use Rattle.bbm_rules.proofs.Common.{named_scope, vmid_of, Declared, roots_of, Reading, distinct, ever_read, holds_at}
+use Rattle.bbm_rules.proofs.Common.{readings, tag_for, takes_tag, or-false, or_comm}
 use Rattle.bbm_idle.specs.Finding.{IsKnown, passes, taken_passes}
-use Rattle.bbm_idle.proofs.FindLists.{any_alike, any_flat, any_never}
+use Rattle.bbm_idle.proofs.FindLists.{any_flat}
 use mathlib.Core.Bool.{or_assoc, or_self_left}
+use Rattle.bbm_lemmas.proofs.Tests.{any_never, any_same}
+use Rattle.bbm_oracle_tags.proofs.MomentLemmas.{none-at-start, same-readings}
 
 -- ---- one more reading
 
@@ -81,7 +81,7 @@ ever_more heading e h root test =
     list_any-append test (flat_map (λ p. filter_map (tag_for root) (readings heading (e ∷ h) p)) (below heading.pes)) (ever_read heading root h)
     ∙ ap (λ (b : Bool). b || any test (ever_read heading root h))
     (any_flat (λ p. filter_map (tag_for root) (readings heading (e ∷ h) p)) test (below heading.pes)
-    ∙ any_alike (λ p. any test (filter_map (tag_for root) (readings heading (e ∷ h) p))) (λ p. any (passes root test) (readings heading (e ∷ h) p))
+    ∙ any_same (λ p. any test (filter_map (tag_for root) (readings heading (e ∷ h) p))) (λ p. any (passes root test) (readings heading (e ∷ h) p))
     (below heading.pes) (λ p. any_for root test (readings heading (e ∷ h) p)))
 
 -- where what is readable at each PE is added
@@ -96,40 +96,12 @@ known_more heading e h events old new are known added = λ root test.
     ∙ or_comm (any test (ever_read heading root h)) (read_now heading (e ∷ h) (passes root test))
     ∙ sym (ever_more heading e h root test)
 
--- where the event changes nothing of it
-same_asids : (from : AsidFrom) (e : Event) (h : List Event) (p : ℕ) → ((changes e).roots || (changes e).registers) ≡ false
-    → asid_readings from (e ∷ h) p ≡ asid_readings from h p
-same_asids from (Root pe kind lock page) h p k = absurd (true≢false k)
-same_asids from (Unroot pe page) h p k = absurd (true≢false k)
-same_asids from (Isb pe) h p k = absurd (true≢false k)
-same_asids from (Msr pe r value) h p k = absurd (true≢false k)
-same_asids FromTtbr0 e h p k = refl
-same_asids FromTtbr1 e h p k = refl
-
-same_readings : (world : World) (e : Event) (h : List Event) (p : ℕ) → ((changes e).roots || (changes e).registers) ≡ false
-    → readings_in world (e ∷ h) p ≡ readings_in world h p
-same_readings world (Root pe kind lock page) h p k = absurd (true≢false k)
-same_readings world (Unroot pe page) h p k = absurd (true≢false k)
-same_readings world (Isb pe) h p k = absurd (true≢false k)
-same_readings world (Msr pe r value) h p k = absurd (true≢false k)
-same_readings (Hyp world) e h p k = refl
-same_readings (Kernel world) e h p k =
-    ap (λ (rs : List Reading). rs ++ readings_of h p Ttbr1El1 (λ value. Ttbr1Tag)) (same_asids world.asid_from e h p k)
-
-nothing_read : (world : World) (p : ℕ) → readings_in world [] p ≡ []
-nothing_read (Hyp world) p = refl
-nothing_read (Kernel world) p = by_register world.asid_from
-  where
-    by_register : (from : AsidFrom) → asid_readings from [] p ++ readings_of [] p Ttbr1El1 (λ value. Ttbr1Tag) ≡ []
-    by_register FromTtbr0 = refl
-    by_register FromTtbr1 = refl
-
 read_before : (heading : Heading) (h : List Event) (root : ℕ) (test : Tag → Bool)
     → (read_now heading h (passes root test) || any test (ever_read heading root h)) ≡ any test (ever_read heading root h)
 read_before heading [] root test =
     ap (λ (b : Bool). b || false)
-    (any_alike (λ p. any (passes root test) (readings heading [] p)) (λ p. false) (below heading.pes)
-    (λ p. ap (λ (rs : List Reading). any (passes root test) rs) (nothing_read heading.world p)) ∙ any_never (below heading.pes))
+    (any_same (λ p. any (passes root test) (readings heading [] p)) (λ p. false) (below heading.pes)
+    (λ p. ap (λ (rs : List Reading). any (passes root test) rs) (none-at-start heading.world p)) ∙ any_never (below heading.pes))
 read_before heading (e ∷ h) root test =
     ap (λ (b : Bool). read_now heading (e ∷ h) (passes root test) || b) (ever_more heading e h root test)
     ∙ or_self_left (read_now heading (e ∷ h) (passes root test)) (any test (ever_read heading root h))
@@ -140,8 +112,8 @@ pub known_still : (heading : Heading) (e : Event) (h : List Event) (known : List
 known_still heading e h known k is = λ root test.
     is root test ∙ sym (read_before heading h root test)
     ∙ ap (λ (b : Bool). b || any test (ever_read heading root h))
-    (any_alike (λ p. any (passes root test) (readings heading h p)) (λ p. any (passes root test) (readings heading (e ∷ h) p)) (below heading.pes)
-    (λ p. ap (λ (rs : List Reading). any (passes root test) rs) (sym (same_readings heading.world e h p k))))
+    (any_same (λ p. any (passes root test) (readings heading h p)) (λ p. any (passes root test) (readings heading (e ∷ h) p)) (below heading.pes)
+    (λ p. ap (λ (rs : List Reading). any (passes root test) rs) (sym (same-readings heading.world e h p k))))
     ∙ sym (ever_more heading e h root test)
 
 -- ---- what a TLBI takes
@@ -163,11 +135,11 @@ pub taken_of : (heading : Heading) (h : List Event) (pe : ℕ) (op : TlbiOp) (xt
     → AreTaken heading h (Tlbi pe op xt) taken
 taken_of heading h pe op xt scope vmid roots known taken is named under are told = λ test.
     told (λ r. test r.root r.tag)
-    ∙ any_alike (λ r. any (is_taken scope vmid r.page (λ s. test s.root s.tag)) known) (taken_passes heading h (Tlbi pe op xt) test) roots
-    (λ r. any_alike (is_taken scope vmid r.page (λ s. test s.root s.tag)) (passes r.page (λ tag. takes_whole_tag scope vmid tag && test r.page tag)) known
+    ∙ any_same (λ r. any (is_taken scope vmid r.page (λ s. test s.root s.tag)) known) (taken_passes heading h (Tlbi pe op xt) test) roots
+    (λ r. any_same (is_taken scope vmid r.page (λ s. test s.root s.tag)) (passes r.page (λ tag. takes_whole_tag scope vmid tag && test r.page tag)) known
     (of_root scope vmid r.page test)
     ∙ is r.page (λ tag. takes_whole_tag scope vmid tag && test r.page tag)
-    ∙ any_alike (λ tag. takes_whole_tag scope vmid tag && test r.page tag) (λ tag. takes_tag heading (Tlbi pe op xt) h tag && test r.page tag)
+    ∙ any_same (λ tag. takes_whole_tag scope vmid tag && test r.page tag) (λ tag. takes_tag heading (Tlbi pe op xt) h tag && test r.page tag)
     (ever_read heading r.page h) (λ tag. ap (λ (b : Bool). b && test r.page tag) (whole tag)))
     ∙ ap (λ (rs : List Declared). any (taken_passes heading h (Tlbi pe op xt) test) rs) are
   where
@@ -180,8 +152,8 @@ taken_of heading h pe op xt scope vmid roots known taken is named under are told
 untaken : (heading : Heading) (h : List Event) (e : Event) (test : ℕ → Tag → Bool) (rs : List Declared)
     → ((tag : Tag) → takes_tag heading e h tag ≡ false) → false ≡ any (taken_passes heading h e test) rs
 untaken heading h e test rs none =
-    sym (any_alike (taken_passes heading h e test) (λ r. false) rs
-    (λ r. any_alike (λ tag. takes_tag heading e h tag && test r.page tag) (λ tag. false) (ever_read heading r.page h)
+    sym (any_same (taken_passes heading h e test) (λ r. false) rs
+    (λ r. any_same (λ tag. takes_tag heading e h tag && test r.page tag) (λ tag. false) (ever_read heading r.page h)
     (λ tag. ap (λ (b : Bool). b && test r.page tag) (none tag)) ∙ any_never (ever_read heading r.page h)) ∙ any_never rs)
 
 pub taken_unnamed : (heading : Heading) (h : List Event) (pe : ℕ) (op : TlbiOp) (xt : ℕ) → named_scope heading h pe op xt ≡ None
@@ -200,5 +172,5 @@ pub takes_held : ((g k : Tag) → same_tag g k ≡ true → g ≡ k) → (headin
     → any (λ r. holds_at heading Patterns p r.root r.tag h) taken ≡ any (takes_of heading h e p) (roots_of h)
 takes_held decides heading h e p taken are =
     are (λ root tag. holds_at heading Patterns p root tag h)
-    ∙ any_alike (taken_passes heading h e (λ root tag. holds_at heading Patterns p root tag h)) (takes_of heading h e p) (roots_of h)
+    ∙ any_same (taken_passes heading h e (λ root tag. holds_at heading Patterns p root tag h)) (takes_of heading h e p) (roots_of h)
     (λ r. sym (any_distinct decides (λ tag. takes_tag heading e h tag && holds_at heading Patterns p r.page tag h) (ever_read heading r.page h)))

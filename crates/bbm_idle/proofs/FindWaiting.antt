@@ -1,25 +1,15 @@
 -- Needed TLBIs that aren't answered, after one more event.
 use Rattle.bbm_idle.proofs.Common.{is_cast, waits, waits_after, answers_needed, is_needed}
 use Rattle.bbm_rules.proofs.Common.{◌≡◌, ℕ, Bool, true, false, not, cond, ◌&&◌, ◌||◌, ◌==◌, List, [], ◌∷◌, refl, sym}
-use Rattle.bbm_rules.proofs.Common.{ap, ◌∙◌, true≢false, and_parts, any-filter_same, proved, Is, answers, operation}
-use Rattle.bbm_rules.proofs.Common.{any, Barrier, Heading, Event, Dsb, Tlbi, Issued, completes, left_open, unanswered}
-use Rattle.bbm_rules.proofs.Common.{itself, and-true, and_comm}
+use Rattle.bbm_rules.proofs.Common.{ap, ◌∙◌, and_parts, any-filter_same, proved, Is, answers, operation, any, Barrier}
+use Rattle.bbm_rules.proofs.Common.{Heading, Event, Dsb, Tlbi, Issued, completes, left_open, unanswered, itself}
+use Rattle.bbm_rules.proofs.Common.{and-true, and_comm}
 use Rattle.bbm_regimes.specs.PeMask.{pe_in}
 use Rattle.bbm_idle.specs.Finding.{IsWaiting, waits_for}
 use Rattle.bbm_idle.specs.Idle.{is_idle}
 use Rattle.bbm_idle.specs.declared.find_waiting.Waiting.{Waiting}
 use Rattle.bbm_lemmas.proofs.Bools.{never_of_two, both_of_two}
-
--- a DSB completes all TLBIs of a sort, or none
-sorted : (cast : Bool) (dsb : Barrier) (e : Event) → is_cast cast e ≡ true → not (completes dsb e) ≡ not (answers dsb cast)
-sorted true dsb (Tlbi pe op xt) k = ap (λ (b : Bool). not (answers dsb b)) k
-sorted false dsb (Tlbi pe op xt) k = by_case (operation op).broadcast k
-  where
-    by_case : (b : Bool) → not b ≡ true → not (answers dsb b) ≡ not (answers dsb false)
-    by_case true k = absurd (true≢false (sym k))
-    by_case false k = refl
-sorted true dsb e k = absurd (true≢false (sym k))
-sorted false dsb e k = absurd (true≢false (sym k))
+use Rattle.bbm_oracle_tags.proofs.WatchLemmas.{sorted}
 
 not_twice : (b : Bool) → b ≡ not (not b)
 not_twice = proved 1 (λ b. Is b (not (not b))) refl

@@ -1,15 +1,15 @@
 -- Histories that are alike judge alike which TLBIs are needed, and which phases an event keeps.
 use Rattle.bbm_idle.proofs.Common.{Phase, Patterns, Alike, SamePatterns, adds, adds_at, is_needed, is_needed_at}
 use Rattle.bbm_idle.proofs.Common.{keeps_phases, takes_of, Known, same_phase}
-use Rattle.bbm_rules.proofs.Common.{◌≡◌, ℕ, zero, suc, ◌<◌, Bool, false, cond, ◌&&◌, ◌||◌, ◌==◌, List, [], ◌∷◌, Option}
-use Rattle.bbm_rules.proofs.Common.{Some, None, option_and_then, Contains, find, is_none, is_some, map, unwrap_or, refl}
-use Rattle.bbm_rules.proofs.Common.{sym, ◌∙◌, ap, inl, inr, arith, result_ok, In, every_same, scoped_by_vmid, Cover}
-use Rattle.bbm_rules.proofs.Common.{PlaceView, cover_of, takes_whole_tag, desc_of, every_pe, cleansed, half, seen}
-use Rattle.bbm_rules.proofs.Common.{cover_at, is_global, noted, view_at, ValidWrite, last_valid, any, below, every}
-use Rattle.bbm_rules.proofs.Common.{one_number, Noted, events_of, page_of, Heading, Event, Tlbi, Tag, World, Hyp}
-use Rattle.bbm_rules.proofs.Common.{Kernel, VttbrEl2, Scope, reaches, named_scope, tag_number, vmid_of, Declared}
-use Rattle.bbm_rules.proofs.Common.{roots_of, distinct, ever_read, holds_at, tag_set, tags_of, takes_tag, Node, held_at}
-use Rattle.bbm_rules.proofs.Common.{is_childless, next_of, node_of, region_of, written_places}
+use Rattle.bbm_rules.proofs.Common.{◌≡◌, ℕ, ◌<◌, Bool, false, cond, ◌&&◌, ◌||◌, ◌==◌, List, ◌∷◌, Option, Some, None}
+use Rattle.bbm_rules.proofs.Common.{option_and_then, Contains, find, is_none, is_some, map, unwrap_or, refl, sym, ◌∙◌}
+use Rattle.bbm_rules.proofs.Common.{ap, result_ok, every_same, scoped_by_vmid, Cover, PlaceView, cover_of}
+use Rattle.bbm_rules.proofs.Common.{takes_whole_tag, desc_of, every_pe, cleansed, half, seen, cover_at, is_global}
+use Rattle.bbm_rules.proofs.Common.{noted, view_at, ValidWrite, last_valid, any, below, every, one_number, Noted}
+use Rattle.bbm_rules.proofs.Common.{events_of, page_of, Heading, Event, Tlbi, Tag, World, Hyp, Kernel, VttbrEl2, Scope}
+use Rattle.bbm_rules.proofs.Common.{reaches, named_scope, tag_number, vmid_of, Declared, roots_of, distinct, ever_read}
+use Rattle.bbm_rules.proofs.Common.{holds_at, tag_set, tags_of, takes_tag, Node, held_at, is_childless, next_of}
+use Rattle.bbm_rules.proofs.Common.{node_of, region_of, written_places}
 use Rattle.bbm_tlbi_scope.specs.declared.entry.Cover.TheVariants.{None as NoCover}
 use Rattle.bbm_rules.specs.Phases.{phase_of}
 use Rattle.bbm_rules.specs.Prelude.{scope_of}
@@ -17,19 +17,10 @@ use Rattle.bbm_rules.specs.RegisterValues.{vmid_in}
 use Rattle.bbm_rules.specs.Tree.{tree}
 use Rattle.bbm_idle.proofs.DsbBase.{held_last}
 use Rattle.bbm_idle.proofs.FindLists.{every_alike}
+use Rattle.bbm_lemmas.proofs.Tests.{any_alike}
+use Rattle.bbm_lemmas.proofs.Words.{below_less}
 
 -- ---- tests that say the same
-
-pub any_same : {A : Type 0} (f g : A → Bool) (xs : List A) → ((x : A) → In xs x → f x ≡ g x) → any f xs ≡ any g xs
-any_same f g [] same = refl
-any_same f g (x ∷ xs) same =
-    ap (λ (b : Bool). b || any f xs) (same x (inl refl))
-    ∙ ap (λ (b : Bool). g x || b) (any_same f g xs (λ y there. same y (inr there)))
-
-below_in : (n p : ℕ) → In (below n) p → p < n
-below_in zero p i = absurd i
-below_in (suc n) p (inl same) = omega (arith, same)
-below_in (suc n) p (inr there) = let less : p < n = below_in n p there in omega arith
 
 -- a TLBI covers no place that holds nothing
 uncovered : (heading : Heading) (ns : List Noted) (e : Event) (place : ℕ) (n : Node) → node_of heading Patterns ns (page_of place) ≡ Some n
@@ -87,7 +78,7 @@ module _ (heading : Heading) (h h' : List Event) (a : Alike heading Patterns Pat
   same_takes_of : (e : Event) (p : ℕ) → p < heading.pes → (r : Declared) → takes_of heading h e p r ≡ takes_of heading h' e p r
   same_takes_of e p less r =
       ap (λ (gs : List Tag). any (λ tag. takes_tag heading e h tag && holds_at heading Patterns p r.page tag h) gs) (a.tags r.page)
-      ∙ any_same (λ tag. takes_tag heading e h tag && holds_at heading Patterns p r.page tag h)
+      ∙ any_alike (λ tag. takes_tag heading e h tag && holds_at heading Patterns p r.page tag h)
       (λ tag. takes_tag heading e h' tag && holds_at heading Patterns p r.page tag h') (distinct (ever_read heading r.page h'))
       (λ tag i. ap (λ (b : Bool). b && holds_at heading Patterns p r.page tag h) (same_takes e tag)
       ∙ ap (λ (b : Bool). takes_tag heading e h' tag && b) (a.holds p r.page tag less))
@@ -161,14 +152,14 @@ module _ (heading : Heading) (h h' : List Event) (a : Alike heading Patterns Pat
   same_needed_at k e p less =
       ap (λ (b : Bool). reaches heading e p && (b || any (takes_of heading h e p) (roots_of h)))
       (ap (any (adds_at heading here e p)) a.places
-      ∙ any_same (adds_at heading here e p) (adds_at heading there e p) (written_places h') (λ place i. same_adds k e p less place))
+      ∙ any_alike (adds_at heading here e p) (adds_at heading there e p) (written_places h') (λ place i. same_adds k e p less place))
       ∙ ap (λ (b : Bool). reaches heading e p && (any (adds_at heading there e p) (written_places h') || b))
       (ap (any (takes_of heading h e p)) a.roots
-      ∙ any_same (takes_of heading h e p) (takes_of heading h' e p) (roots_of h') (λ r i. same_takes_of e p less r))
+      ∙ any_alike (takes_of heading h e p) (takes_of heading h' e p) (roots_of h') (λ r i. same_takes_of e p less r))
 
   pub same_needed : Known heading → (e : Event) → is_needed heading h e ≡ is_needed heading h' e
-  same_needed k e = any_same (is_needed_at heading h e) (is_needed_at heading h' e) (below heading.pes)
-      (λ p i. same_needed_at k e p (below_in heading.pes p i))
+  same_needed k e = any_alike (is_needed_at heading h e) (is_needed_at heading h' e) (below heading.pes)
+      (λ p i. same_needed_at k e p (below_less heading.pes p i))
 
   -- ---- which phases an event keeps
 

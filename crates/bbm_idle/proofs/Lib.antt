@@ -9,7 +9,6 @@ pub mod FindPlaces
 pub mod FindPhases
 pub mod FindMarks
 pub mod Since
-pub mod Written
 pub mod Waits
 pub mod Phases
 pub mod Needed

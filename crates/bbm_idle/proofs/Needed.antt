@@ -5,38 +5,22 @@ use Rattle.bbm_rules.proofs.Common.{◌≡◌, ℕ, ◌<◌, Bool, true, false, 
 use Rattle.bbm_rules.proofs.Common.{option_and_then, Contains, is_none, unwrap_or, refl, sym, ◌∙◌, ap, subst}
 use Rattle.bbm_rules.proofs.Common.{true≢false, and_from, and_parts, false_from_ne_true, or_left, or_right, pe_finds}
 use Rattle.bbm_rules.proofs.Common.{In, any_finds, any_found, from_contains, none_of, to_contains, answers, same_bool}
-use Rattle.bbm_rules.proofs.Common.{operation, Cover, Half, Second, Full, keeps, cleansed, flushes, half, same_cover}
-use Rattle.bbm_rules.proofs.Common.{seen, cover_at, noted, ValidWrite, last_valid, any, Noted, events_of, page_of}
-use Rattle.bbm_rules.proofs.Common.{Barrier, Heading, Event, Dsb, Tlbi, Issued, completes, reaches, unanswered}
-use Rattle.bbm_rules.proofs.Common.{Declared, roots_of, Open, completes_for, itself, Node, node_of, written_places}
+use Rattle.bbm_rules.proofs.Common.{operation, Cover, Half, keeps, cleansed, flushes, half, same_cover, seen, cover_at}
+use Rattle.bbm_rules.proofs.Common.{noted, ValidWrite, last_valid, any, Noted, events_of, page_of, Barrier, Heading}
+use Rattle.bbm_rules.proofs.Common.{Event, Dsb, Tlbi, Issued, completes, reaches, unanswered, Declared, roots_of, Open}
+use Rattle.bbm_rules.proofs.Common.{completes_for, itself, Node, node_of, written_places}
 use Rattle.std.proofs.lemmas.List.{append_assoc}
-use Rattle.bbm_tlbi_scope.specs.declared.entry.Cover.TheVariants.{None as NoCover}
 use Rattle.bbm_rules.specs.Broken.{broken}
 use Rattle.bbm_rules.specs.Notes.{event_of}
 use Rattle.bbm_rules.specs.Tree.{tree}
 use Rattle.bbm_histories.specs.TreeChanges.{HeldBy, View}
-use Rattle.bbm_idle.proofs.Since.{answered_waits, half_later}
-use Rattle.bbm_idle.proofs.Written.{written}
+use Rattle.bbm_idle.proofs.Since.{half_later}
+use Rattle.bbm_rules.proofs.PatternLaw.{same_by}
+use Rattle.bbm_rules.proofs.HeldLemmas.{last_is_written}
+use Rattle.bbm_histories.proofs.Induction.{event_at, events_append}
+use Rattle.bbm_histories.proofs.SeenFirst.{answered_waits}
 
 -- ---- words
-
-pub cover_equal : (c d : Cover) → same_cover c d ≡ true → c ≡ d
-cover_equal NoCover NoCover e = refl
-cover_equal Half Half e = refl
-cover_equal Second Second e = refl
-cover_equal Full Full e = refl
-cover_equal NoCover Half e = absurd (true≢false (sym e))
-cover_equal NoCover Second e = absurd (true≢false (sym e))
-cover_equal NoCover Full e = absurd (true≢false (sym e))
-cover_equal Half NoCover e = absurd (true≢false (sym e))
-cover_equal Half Second e = absurd (true≢false (sym e))
-cover_equal Half Full e = absurd (true≢false (sym e))
-cover_equal Second NoCover e = absurd (true≢false (sym e))
-cover_equal Second Half e = absurd (true≢false (sym e))
-cover_equal Second Full e = absurd (true≢false (sym e))
-cover_equal Full NoCover e = absurd (true≢false (sym e))
-cover_equal Full Half e = absurd (true≢false (sym e))
-cover_equal Full Second e = absurd (true≢false (sym e))
 
 -- a DSB that answers such TLBIs completes each of them
 pub kind_completed : (dsb : Barrier) (b : Bool) (e : Event) → is_tlbi b e ≡ true → answers dsb b ≡ true → completes dsb e ≡ true
@@ -48,24 +32,6 @@ kind_completed dsb b (Tlbi pe op xt) is a = by (operation op).broadcast b is a
     by true false is a = absurd (true≢false (sym is))
     by false true is a = absurd (true≢false (sym is))
 kind_completed dsb b e is a = absurd (true≢false (sym is))
-
-events_append : (newer older : List Noted) → events_of (newer ++ older) ≡ events_of newer ++ events_of older
-events_append [] older = refl
-events_append (n ∷ newer) older = ap (λ (es : List Event). n.event ∷ es) (events_append newer older)
-
--- an event of an annotated history, with its notes
-abbrev NotedAt : List Noted → Event → Type 0
-NotedAt ns e = (newer : List Noted) × (m : Noted) × (older : List Noted) × (ns ≡ newer ++ m ∷ older) × (m.event ≡ e)
-
-one_more : (n : Noted) (ns : List Noted) (e : Event) → NotedAt ns e → NotedAt (n ∷ ns) e
-one_more n ns e a = (n ∷ a.0, a.1, a.2, ap (λ (xs : List Noted). n ∷ xs) a.3, a.4)
-
-noted_at : (ns : List Noted) (after before : List Event) (e : Event) → events_of ns ≡ after ++ e ∷ before → NotedAt ns e
-noted_at [] [] before e split = cc
-noted_at [] (x ∷ after) before e split = cc
-noted_at (n ∷ ns) [] before e split = ([], n, ns, refl, cc)
-noted_at (n ∷ ns) (x ∷ after) before e split =
-    let rest : events_of ns ≡ after ++ e ∷ before = cc in one_more n ns e (noted_at ns after before e rest)
 
 module _ (heading : Heading) where
   -- what a TLBI adds at a place of a tree
@@ -96,7 +62,7 @@ module _ (heading : Heading) where
       (or_left (any (adds_at heading (noted heading Patterns h) e p) (written_places h)) (any (takes_of heading h e p) (roots_of h))
       (any_finds (adds_at heading (noted heading Patterns h) e p) (written_places h) place
       (subst (λ (es : List Event). In (written_places es) place) (k.notes_keep_the_events h)
-      (written n.kind n.level place (noted heading Patterns h) w last))
+      (last_is_written n.kind n.level place (noted heading Patterns h) w last))
       (adds_there (noted heading Patterns h) e p place n w node last ∙ adding))))
 
   -- and so is one that takes a tag which a root holds
@@ -131,8 +97,8 @@ module _ (heading : Heading) (k : Known heading) (h : List Event) (kept : keeps 
           newer = events_of o.newer;
           split = parts;
           issued = o.issued;
-          uncompleted = λ x after before i. let m = noted_at o.newer after before x i in
-              subst (λ (y : Event). completes_for q t.tlbi.event y ≡ false) m.4 (o.uncompleted m.1 m.0 m.2 m.3);
+          uncompleted = λ x after before i. let m = event_at o.newer after before x i in
+              subst (λ (y : Event). completes_for q t.tlbi.event y ≡ false) m.is (o.uncompleted m.item m.newer m.older m.split);
         }));
     node = ap (node_of heading Patterns (noted heading Patterns (events_of older))) was.inside
         ∙ k.one_node.the_first (events_of older) kept_then n
@@ -183,7 +149,7 @@ module _ (heading : Heading) (k : Known heading) (h : List Event) (kept : keeps 
         adds_needed heading k a.before t.tlbi.event p place n (record { value = value; since = t.before }) less inner.0
             a.node a.last (adding (cover_at heading Patterns (noted heading Patterns a.before) t.tlbi.event place) (seen heading place p t.before)
             (half heading place p t.before) (cleansed heading Patterns place p t.before)
-            (sym a.covered ∙ cover_equal (t.tlbi.covers place) Half inner.1) outer.1 (unhalf_before unhalf q t waiting)),
+            (sym a.covered ∙ same_by (t.tlbi.covers place) Half inner.1) outer.1 (unhalf_before unhalf q t waiting)),
       )
     where
       adding : (c : Cover) (s h d : Bool) → c ≡ Half → s ≡ true → h ≡ false → adds c s h d ≡ true

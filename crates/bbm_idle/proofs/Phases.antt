@@ -3,7 +3,7 @@ use Rattle.bbm_idle.proofs.Common.{Phase, Clean, Live, Patterns, Known, same_pha
 use Rattle.bbm_rules.proofs.Common.{◌≡◌, ℕ, Bool, true, false, cond, List, refl, sym, true≢false, Heading, cleansed}
 use Rattle.bbm_rules.proofs.Common.{half, seen, Noted, broken_phase}
 use Rattle.bbm_rules.specs.declared.phase.Phase.TheVariants.{Broken, Seen, Half, Cleansed}
-use Rattle.bbm_idle.proofs.Since.{cleansed_seen, half_seen}
+use Rattle.bbm_histories.proofs.SeenFirst.{cleansed_seen, half_seen}
 
 -- the phase of a broken place that is cleansed, half and seen as told
 abbrev pub marked : Bool → Bool → Bool → Phase
@@ -64,8 +64,8 @@ module _ (heading : Heading) (k : Known heading) (place p : ℕ) where
   same_marks since since' e where_cleansed = record {
     seen_same = same_seen (cleansed heading Patterns place p since) (half heading place p since) (seen heading place p since)
         (cleansed heading Patterns place p since') (half heading place p since') (seen heading place p since')
-        (cleansed_seen heading k place p since) (half_seen heading k place p since)
-        (cleansed_seen heading k place p since') (half_seen heading k place p since') e;
+        (cleansed_seen heading k.pattern_steps place p since) (half_seen heading k.pattern_steps place p since)
+        (cleansed_seen heading k.pattern_steps place p since') (half_seen heading k.pattern_steps place p since') e;
     half_same = by (cleansed heading Patterns place p since) (cleansed heading Patterns place p since') e where_cleansed;
     cleansed_same = same_cleansed (cleansed heading Patterns place p since) (half heading place p since) (seen heading place p since)
         (cleansed heading Patterns place p since') (half heading place p since') (seen heading place p since') e;

@@ -25,21 +25,15 @@ use Rattle.bbm_rules.specs.Values.{written_places}
 use Rattle.bbm_oracle_tags.specs.Watches.{is_cast}
 use Rattle.bbm_oracle_patterns.specs.PlacePhases.{furthest}
 use Rattle.bbm_oracle_patterns.specs.declared.trace.Trace.{Trace}
-use Rattle.bbm_oracle_trees.specs.Past.{Past}
-use Rattle.bbm_oracle_trees.specs.HistoryStandsFor.{StandsFor}
+use Rattle.bbm_oracle_trees.specs.ByPatterns.{StandsByPatterns}
 use Rattle.bbm_idle.specs.Idle.{adds, is_needed, takes_of}
 use Rattle.bbm_idle.specs.SamePhase.{same_phase}
-use Rattle.bbm_idle.specs.declared.find_places.Seat.{Seat}
+use Rattle.bbm_oracle_patterns.specs.declared.search.TreePlace.{TreePlace}
 use Rattle.bbm_idle.specs.declared.find_phases.Phases.{Phases}
 use Rattle.bbm_idle.specs.declared.find_phases.Phases.TheVariants.{Clean as AllClean, Live as AllLive, Broken as Marked}
 use Rattle.bbm_idle.specs.declared.find_phases.PlacePhases.{PlacePhases}
 use Rattle.bbm_idle.specs.declared.find_waiting.Waiting.{Waiting}
 use Rattle.bbm_idle.specs.declared.finding.Search.{Search}
-
--- a history by every pattern of events stands for these events
-pub record Stands (past : Past) (heading : Heading) (h : List Event) : Type 0 where
-  pub trust_is : past.trust ≡ Patterns
-  pub kept : StandsFor past heading h
 
 -- ---- places
 
@@ -63,10 +57,10 @@ trace_adds cover p None = false
 trace_adds cover p (Some t) = adds cover (pe_in t.seen p) (pe_in t.half p) (pe_in t.cleansed p)
 
 -- the same of a seat, a place with the kind and the level that it has in its tree
-abbrev pub place_adds : Heading → List Noted → (ℕ → Cover) → ℕ → Seat → Bool
+abbrev pub place_adds : Heading → List Noted → (ℕ → Cover) → ℕ → TreePlace → Bool
 place_adds heading h cover p s = adds_since heading (cover s.place) p s.place (last_valid s.kind s.level s.place h)
 
-abbrev pub seat_adds : Heading → List Noted → (ℕ → Cover) → ℕ → Option Seat → Bool
+abbrev pub seat_adds : Heading → List Noted → (ℕ → Cover) → ℕ → Option TreePlace → Bool
 seat_adds heading h cover p None = false
 seat_adds heading h cover p (Some s) = place_adds heading h cover p s
 
@@ -147,7 +141,7 @@ pub record IsWaiting (w : Waiting) (heading : Heading) (h : List Event) : Type 0
 
 -- the search stands after these events
 pub record IsSearch (s : Search) (heading : Heading) (h : List Event) : Type 0 where
-  pub history : Stands s.history heading h
+  pub history : StandsByPatterns s.history heading h
   pub written : s.written.items ≡ written_places h
   pub known : IsKnown heading h s.known.items
   pub waiting : IsWaiting s.waiting heading h

@@ -8,10 +8,10 @@ ghost use Rattle.bbm_rules.specs.Notes.{Noted};
 ghost use Rattle.bbm_oracle_patterns.specs.Kept.{notes_of};
 ghost use Rattle.bbm_idle.specs.Finding as spec;
 
-use crate::find_places::{Seat, added_by};
+use crate::find_places::added_by;
 use crate::find_tags::holds_some;
 use bbm_events::{Event, Header};
-use bbm_oracle_patterns::Kept;
+use bbm_oracle_patterns::{Kept, TreePlace};
 use bbm_oracle_tags::{Reading, reaches};
 use bbm_regimes::{NoMemory, Pe, PeMask};
 use bbm_rules::law_equality_tests;
@@ -27,7 +27,7 @@ pub struct Effect<'a> {
 }
 
 /// The PEs at which the newest event, a TLBI, adds something at one of the places, by what came before it.
-pub fn newest_adds(header: &Header, log: &[Kept], seats: &[Seat]) -> PeMask
+pub fn newest_adds(header: &Header, log: &[Kept], seats: &[TreePlace]) -> PeMask
     ensures { (n : Noted) (older : List Noted) → notes_of (reverse log.now) ≡ n ∷ older
         → (p : ℕ) → pe_in result p ≡ any (spec.place_adds header.now older n.covers p) seats.now }
 {

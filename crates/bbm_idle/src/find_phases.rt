@@ -14,6 +14,7 @@ ghost use Rattle.bbm_rules.specs.Phases.{phase_of};
 ghost use Rattle.bbm_rules.specs.Values.{written_places};
 ghost use Rattle.bbm_oracle_patterns.specs.Kept.{notes_behind, notes_of};
 ghost use Rattle.bbm_oracle_patterns.specs.PlacePhases.{phase_at};
+ghost use Rattle.bbm_oracle_trees.specs.ByPatterns.{StandsByPatterns};
 ghost use Rattle.bbm_idle.specs.Finding as spec;
 ghost use Rattle.bbm_idle.specs.Idle as idle;
 ghost use Rattle.bbm_idle.specs.SamePhase.{same_phase};
@@ -91,7 +92,7 @@ fn phases_in(
 
 /// The phases of a place.
 fn phases_at(history: &History<AllPatterns>, place: Place) -> Phases
-    ensures { (heading : Heading) (h : List TheEvent) → spec.Stands history.now heading h
+    ensures { (heading : Heading) (h : List TheEvent) → StandsByPatterns history.now heading h
         → (p : ℕ) → spec.phase_from result p ≡ phase_of heading Patterns h place p }
 {
     match history.node_of(place.page()) {
@@ -116,7 +117,7 @@ fn phases_of(
     history: &History<AllPatterns>,
     places: &[Place],
 ) -> Result<Vec<PlacePhases>, NoMemory>
-    ensures { IfOk result (λ old. (heading : Heading) (h : List TheEvent) → spec.Stands history.now heading h
+    ensures { IfOk result (λ old. (heading : Heading) (h : List TheEvent) → StandsByPatterns history.now heading h
         → (pes : ℕ) (new : ℕ → ℕ → Phase) → every (spec.is_kept_by pes new) old.items
         ≡ every (spec.is_kept pes new (phase_of heading Patterns h)) places.now) }
 {
@@ -167,7 +168,7 @@ fn alike(header: &Header, new: &Phases, old: &Phases) -> PeMask
 
 /// Whether the place has the phases still.
 fn has_still(history: &History<AllPatterns>, header: &Header, old: &PlacePhases) -> bool
-    ensures { (h : List TheEvent) → spec.Stands history.now header.now h
+    ensures { (h : List TheEvent) → StandsByPatterns history.now header.now h
         → result ≡ spec.is_kept_by header.now.pes (phase_of header.now Patterns h) old.now }
 {
     let new = phases_at(history, old.place);
@@ -176,7 +177,7 @@ fn has_still(history: &History<AllPatterns>, header: &Header, old: &PlacePhases)
 
 /// Whether each of the places has its phases still.
 fn have_still(history: &History<AllPatterns>, header: &Header, old: &[PlacePhases]) -> bool
-    ensures { (h : List TheEvent) → spec.Stands history.now header.now h
+    ensures { (h : List TheEvent) → StandsByPatterns history.now header.now h
         → result ≡ every (spec.is_kept_by header.now.pes (phase_of header.now Patterns h)) old.now }
 {
     for place in old {
@@ -198,10 +199,10 @@ pub fn take_keeping(
 ) -> Result<bool, NoMemory>
     requires heading { history.old.heading ≡ header.now }
     requires fits { fits_heading header.now event.now ≡ true }
-    ensures keeps { IfOk result (λ keeps. (h : List TheEvent) → spec.Stands history.old header.now h
+    ensures keeps { IfOk result (λ keeps. (h : List TheEvent) → StandsByPatterns history.old header.now h
         → written.now ≡ written_places h → keeps ≡ idle.keeps_phases header.now h event.now) }
-    ensures stands { OnOk result ((h : List TheEvent) → spec.Stands history.old header.now h
-        → spec.Stands history.new header.now (event.now ∷ h)) }
+    ensures stands { OnOk result ((h : List TheEvent) → StandsByPatterns history.old header.now h
+        → StandsByPatterns history.new header.now (event.now ∷ h)) }
 {
     let old = phases_of(alloc, history, written)?;
     history.take(alloc, *event)?;

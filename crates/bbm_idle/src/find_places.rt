@@ -16,23 +16,12 @@ ghost use Rattle.bbm_oracle_trees.specs.Past.{notes};
 ghost use Rattle.bbm_idle.specs.Finding as spec;
 
 use bbm_events::{Event, Header};
-use bbm_oracle_patterns::{Kept, Trace, last_valid, trace_of};
+use bbm_oracle_patterns::{Kept, Trace, TreePlace, last_valid, trace_of};
 use bbm_oracle_tags::AllPatterns;
 use bbm_oracle_trees::History;
 use bbm_regimes::{Kind, NoMemory, PeMask, Place};
 use bbm_tlbi_scope::Cover;
 use std::alloc::Global;
-
-/// A place of a tree.
-#[derive(Clone, Copy, Debug)]
-pub struct Seat {
-    /// The place.
-    pub place: Place,
-    /// The kind of its tree.
-    pub kind: Kind,
-    /// The level of its page.
-    pub level: u8,
-}
 
 /// Whether the place is in the list.
 fn has_place(places: &[Place], place: Place) -> bool
@@ -80,13 +69,13 @@ fn trace_in(header: &Header, log: &[Kept], kind: Kind, level: u8, place: Place) 
 }
 
 /// The place with its kind and level; None where it is in no tree.
-fn seat_at(history: &History<AllPatterns>, place: Place) -> Option<Seat>
+fn seat_at(history: &History<AllPatterns>, place: Place) -> Option<TreePlace>
     requires { history.now.trust ≡ Patterns }
     ensures { (p : ℕ) (cover : ℕ → Grade) → spec.seat_adds history.now.heading (notes history.now) cover p result
         ≡ spec.adds_with history.now.heading (notes history.now) (cover place) p place }
 {
     match history.node_of(place.page()) {
-        Some(node) => Some(Seat {
+        Some(node) => Some(TreePlace {
             place,
             kind: node.kind,
             level: node.level,
@@ -96,7 +85,7 @@ fn seat_at(history: &History<AllPatterns>, place: Place) -> Option<Seat>
 }
 
 /// Adds the seat, where there is one.
-fn add_seat(seats: &mut Vec<Seat>, found: Option<Seat>) -> Result<(), NoMemory>
+fn add_seat(seats: &mut Vec<TreePlace>, found: Option<TreePlace>) -> Result<(), NoMemory>
     ensures { OnOk result ((heading : Heading) (h : List Noted) (p : ℕ) (cover : ℕ → Grade)
         → any (spec.place_adds heading h cover p) seats.new.items
         ≡ (any (spec.place_adds heading h cover p) seats.old.items || spec.seat_adds heading h cover p found)) }
@@ -113,7 +102,7 @@ pub fn seats_of(
     alloc: Global,
     history: &History<AllPatterns>,
     places: &[Place],
-) -> Result<Vec<Seat>, NoMemory>
+) -> Result<Vec<TreePlace>, NoMemory>
     requires { history.now.trust ≡ Patterns }
     ensures { IfOk result (λ seats. (p : ℕ) (cover : ℕ → Grade)
         → any (spec.place_adds history.now.heading (notes history.now) cover p) seats.items
@@ -141,7 +130,7 @@ fn added(cover: Cover, trace: &Trace) -> PeMask
 /// The PEs at which a TLBI that comes after the log and covers the place so far adds something. Where it doesn't cover
 /// the place nothing is searched.
 #[tactic(auto, using(crate::proofs::FindPlaces::adds_nothing))]
-fn added_at(header: &Header, log: &[Kept], cover: Cover, seat: &Seat) -> PeMask
+fn added_at(header: &Header, log: &[Kept], cover: Cover, seat: &TreePlace) -> PeMask
     ensures { (p : ℕ) → pe_in result p ≡ spec.adds_since header.now cover p seat.now.place
         (holding.last_valid seat.now.kind seat.now.level seat.now.place (notes_of (reverse log.now))) }
 {
@@ -157,7 +146,7 @@ fn added_at(header: &Header, log: &[Kept], cover: Cover, seat: &Seat) -> PeMask
 }
 
 /// The PEs at which the newest event, a TLBI that comes after the log, adds something at one of the places.
-pub fn added_by(header: &Header, log: &[Kept], newest: &Kept, seats: &[Seat]) -> PeMask
+pub fn added_by(header: &Header, log: &[Kept], newest: &Kept, seats: &[TreePlace]) -> PeMask
     ensures { (p : ℕ) → pe_in result p
         ≡ any (spec.place_adds header.now (notes_of (reverse log.now)) (cover_in newest.now.covers.items) p) seats.now }
 {

@@ -4,6 +4,7 @@
 ghost use Rattle.std.specs.Prelude.{◌≡◌, ◌++◌, true, [], ◌∷◌, reverse, IfOk, OnOk};
 ghost use Rattle.bbm_events.specs.Fits.{fits_heading};
 ghost use Rattle.bbm_rules.specs.Lists.{every};
+ghost use Rattle.bbm_oracle_trees.specs.ByPatterns.{StandsByPatterns};
 ghost use Rattle.bbm_idle.specs.Finding as spec;
 ghost use Rattle.bbm_idle.specs.Idle as idle;
 
@@ -60,7 +61,7 @@ impl Search {
         requires stands { spec.IsSearch self.old header.now (reverse before.now) }
         requires fits { fits_heading header.now event.now ≡ true }
         ensures needed { IfOk result (λ needed. needed ≡ idle.is_needed header.now (reverse before.now) event.now) }
-        ensures stands { OnOk result (spec.Stands self.new.history header.now (event.now ∷ reverse before.now)) }
+        ensures stands { OnOk result (StandsByPatterns self.new.history header.now (event.now ∷ reverse before.now)) }
         ensures rest { spec.KeepsRest self.old self.new }
     {
         let seats = seats_of(alloc, &self.history, &self.written)?;
@@ -86,7 +87,7 @@ impl Search {
         requires stands { spec.IsSearch self.old header.now (reverse before.now) }
         requires fits { fits_heading header.now (TheDsb pe dsb) ≡ true }
         ensures idle { IfOk result (λ is_idle. is_idle ≡ idle.is_idle header.now (reverse before.now) (TheDsb pe dsb)) }
-        ensures stands { OnOk result (spec.Stands self.new.history header.now (TheDsb pe dsb ∷ reverse before.now)) }
+        ensures stands { OnOk result (StandsByPatterns self.new.history header.now (TheDsb pe dsb ∷ reverse before.now)) }
         ensures rest { spec.KeepsRest self.old self.new }
     {
         let event = Event::Dsb { pe, dsb };
@@ -109,7 +110,7 @@ impl Search {
         requires stands { spec.IsSearch self.old header.now (reverse before.now) }
         requires fits { fits_heading header.now event.now ≡ true }
         ensures idle { IfOk result (λ is_idle. is_idle ≡ idle.is_idle header.now (reverse before.now) event.now) }
-        ensures stands { OnOk result (spec.Stands self.new.history header.now (event.now ∷ reverse before.now)) }
+        ensures stands { OnOk result (StandsByPatterns self.new.history header.now (event.now ∷ reverse before.now)) }
         ensures rest { spec.KeepsRest self.old self.new }
     {
         match *event {

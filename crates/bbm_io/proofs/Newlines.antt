@@ -3,16 +3,11 @@ use Rattle.std.proofs.Common.{◌≡◌, ℕ, zero, suc, ◌+◌, ◌-◌, ◌<�
 use Rattle.std.proofs.Common.{None, Some, IfSome, Bool, true, false, cond, nat_eq, slice_index, get_or, refl, sym, ap}
 use Rattle.std.proofs.Common.{subst}
 use Rattle.std.proofs.Common.{◌∙◌, inl, inr, arith}
-use Rattle.std.proofs.lemmas.Bool.{cases_eq, eqb-true, false≢true}
+use Rattle.std.proofs.lemmas.Bool.{cases_eq, eqb-true, false_from_ne_true, false≢true}
 use Rattle.std.proofs.lemmas.List.{get_or-take, length-take, take-take, take_more}
-use Rattle.bbm_lemmas.proofs.Tautologies.{proved}
-use Rattle.bbm_lemmas.proofs.Tautologies.Claim.{If, Is, Never}
 use Rattle.memchr.specs.Find.{IsFirstByte, NoneBefore, Nowhere, Passes, TakesFirst, is_byte, places, places_from}
 use Rattle.bbm_io.specs.Flow.{plain}
 use Rattle.bbm_io.specs.Reading.{LiesWhole}
-
-other : (b : Bool) → ¬ (b ≡ true) → b ≡ false
-other = proved 1 (λ b. If (If (Is b true) Never) (Is b false)) refl
 
 -- bytes of which none is a newline
 plain-front : (bytes : List ℕ) (at : ℕ) → at ≤ length bytes → ((k : ℕ) → k < at → nat_eq (slice_index bytes k) 10 ≡ false) → plain (take at bytes) ≡ true
@@ -26,7 +21,7 @@ pub plain-line : (r : Option ℕ) (bytes : List ℕ) (m : ℕ) → IsFirstByte (
 plain-line None bytes m first = tt
 plain-line (Some at) bytes m (none, here) =
     let within : at < min m (length bytes) = omega (arith, none.high, length-take m bytes) in
-    let front = plain-front (take m bytes) at (omega (arith, none.high)) (λ k below. other _ (none.before k (omega arith) below)) in
+    let front = plain-front (take m bytes) at (omega (arith, none.high)) (λ k below. false_from_ne_true _ (none.before k (omega arith) below)) in
     rw (← take-take at m bytes (omega (arith, within))) front
 
 -- the first newline of a front part of at most 201 bytes ends a line that lies whole

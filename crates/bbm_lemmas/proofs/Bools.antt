@@ -67,9 +67,6 @@ not_twice = proved 2 (λ x y. Is ((x && not y) && not y) (x && not y)) refl
 pub and_exchange : (x y z : Bool) → (x && y && z) ≡ (y && (x && z))
 and_exchange = proved 3 (λ x y z. Is (x && y && z) (y && (x && z))) refl
 
-pub or_regroup : (x y z : Bool) → (x || (y || z)) ≡ ((x || y) || z)
-or_regroup = proved 3 (λ x y z. Is (x || (y || z)) ((x || y) || z)) refl
-
 pub or_middle : (x y z w : Bool) → ((x || y) || (z || w)) ≡ ((x || z) || (y || w))
 or_middle = proved 4 (λ x y z w. Is ((x || y) || (z || w)) ((x || z) || (y || w))) refl
 

@@ -4,3 +4,5 @@ pub mod Tautologies
 pub mod Every
 pub mod Words
 pub mod Reversed
+pub mod Tests
+pub mod Numbers

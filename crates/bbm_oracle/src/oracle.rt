@@ -12,7 +12,7 @@ ghost use Rattle.bbm_rules.specs.Limits.{limit_of};
 ghost use Rattle.bbm_rules.specs.Notes.{events_of};
 ghost use Rattle.bbm_rules.specs.Values as values;
 ghost use Rattle.bbm_oracle_trees.specs.Past.{notes};
-ghost use Rattle.bbm_oracle.specs.OracleStandsFor.{StandsFor};
+ghost use Rattle.bbm_oracle_trees.specs.ByPatterns.{StandsByPatterns};
 
 use bbm_descriptor::Memory;
 use bbm_events::{Event, Header};
@@ -36,7 +36,7 @@ impl Oracle {
     /// it never answers `NoMemory`.
     pub fn new(alloc: Global, header: &Header) -> Result<Oracle, NoMemory>
         ensures made { IsOk result }
-        ensures empty { IfOk result (λ oracle. StandsFor oracle.history header.now []) }
+        ensures empty { IfOk result (λ oracle. StandsByPatterns oracle.history header.now []) }
     {
         Ok(Oracle {
             history: History::new(alloc, header, AllPatterns),
@@ -47,7 +47,7 @@ impl Oracle {
     /// first.
     fn judged(&self, alloc: Global, event: &Event) -> Result<(), StepFault>
         requires { fits_heading self.now.history.heading event.now ≡ true }
-        ensures { (heading : Heading) (h : List Event) → StandsFor self.now.history heading h
+        ensures { (heading : Heading) (h : List Event) → StandsByPatterns self.now.history heading h
             → Answers result (broken heading Patterns h event.now) (limit_of h event.now) }
     {
         admit(alloc, &self.history, event)
@@ -63,7 +63,7 @@ impl Memory for Oracle {
 }
 
 impl Checker for Oracle {
-    ghost stands = { λ oracle heading h. StandsFor oracle.history heading h };
+    ghost stands = { λ oracle heading h. StandsByPatterns oracle.history heading h };
 
     ghost frugal = { λ oracle. false };
 

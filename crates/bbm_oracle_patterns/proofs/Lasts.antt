@@ -3,30 +3,16 @@ use Rattle.bbm_rules.proofs.Common.{◌≡◌, ℕ, zero, suc, ◌+◌, ◌-◌,
 use Rattle.bbm_rules.proofs.Common.{reverse, get_or, Option, Some, None, refl, sym, ◌∙◌, ap, subst, arith}
 use Rattle.bbm_rules.proofs.Common.{reverse-append, length-reverse, length-take-le, take-append-drop, take_more}
 use Rattle.bbm_rules.proofs.Common.{ValidWrite, last_valid, later, Noted}
-use Rattle.std.proofs.lemmas.List.{append-nil, append_assoc, length-append, drop_more}
+use Rattle.std.proofs.lemmas.List.{append-nil, append_assoc, drop_more}
 use Rattle.bbm_rules.specs.Prelude.{Kind}
 use Rattle.bbm_oracle_patterns.specs.Kept.{note_of, notes_behind, notes_of, write_in}
 use Rattle.bbm_oracle_patterns.specs.Lasts.{said, TellsOf}
 use Rattle.bbm_oracle_patterns.specs.declared.kept.Kept.{Kept}
 use Rattle.bbm_oracle_patterns.specs.declared.search.Says.{Says}
 use Rattle.bbm_oracle_patterns.specs.declared.search.Says.TheVariants.{ItIs, NoWrite, Older}
+use Rattle.bbm_oracle_patterns.proofs.KeptNotes.{notes_append, notes_whole}
 
 -- ---- notes
-
-pub notes_append : (before : ℕ) (xs ys : List Kept)
-    → notes_behind before (xs ++ ys) ≡ notes_behind (before + length ys) xs ++ notes_behind before ys
-notes_append before [] ys = refl
-notes_append before (x ∷ xs) ys =
-    let at : before + length (xs ++ ys) ≡ before + length ys + length xs = omega (arith, length-append xs ys) in
-    ap (λ (n : ℕ). note_of n x ∷ notes_behind before (xs ++ ys)) at
-    ∙ ap (λ (ns : List Noted). note_of (before + length ys + length xs) x ∷ ns) (notes_append before xs ys)
-
-pub notes_whole : (ks : List Kept) → notes_of ks ≡ notes_behind 0 ks
-notes_whole [] = refl
-notes_whole (k ∷ ks) =
-    let at : length ks ≡ 0 + length ks = omega arith in
-    ap (λ (n : ℕ). note_of n k ∷ notes_of ks) at
-    ∙ ap (λ (ns : List Noted). note_of (0 + length ks) k ∷ ns) (notes_whole ks)
 
 -- the oldest of some events, apart
 pub notes_snoc : (before : ℕ) (k : Kept) (ks : List Kept) →

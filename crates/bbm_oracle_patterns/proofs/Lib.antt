@@ -1,5 +1,6 @@
 pub mod Bits
 pub mod Rows
+pub mod KeptNotes
 pub mod Lasts
 pub mod Opens
 pub mod Walks

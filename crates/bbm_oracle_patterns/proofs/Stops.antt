@@ -10,8 +10,9 @@ use Rattle.bbm_oracle_patterns.specs.Walk.{IsWalk, Steps, Traces, full_test, sec
 use Rattle.bbm_oracle_patterns.specs.declared.kept.Kept.{Kept}
 use Rattle.bbm_oracle_patterns.specs.declared.walk.Walk.{Walk}
 use Rattle.bbm_lemmas.proofs.Every.{every_at, every_from}
-use Rattle.bbm_oracle_patterns.proofs.Lasts.{notes_append, notes_more}
+use Rattle.bbm_oracle_patterns.proofs.Lasts.{notes_more}
 use Rattle.bbm_oracle_patterns.proofs.Walks.{trace_unwritten}
+use Rattle.bbm_oracle_patterns.proofs.KeptNotes.{notes_append}
 
 some_more : (test : Noted → List Noted → Bool) (newer older : List Noted) → some test older ≡ true
     → some test (newer ++ older) ≡ true

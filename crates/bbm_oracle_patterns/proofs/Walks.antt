@@ -1,10 +1,10 @@
 -- A walk after one more event.
 use Rattle.bbm_rules.proofs.Common.{◌≡◌, ℕ, suc, subst, reverse, ◌+◌, length, Bool, true, false, ◌&&◌, ◌||◌, not}
 use Rattle.bbm_rules.proofs.Common.{nat_eq, ◌==◌, List, [], ◌∷◌, refl, sym, ◌∙◌, ap, false≢true, or_parts, and_right}
-use Rattle.bbm_rules.proofs.Common.{not-true, reverse-append, list_any-append, proved, If, Is, answers, PeMask, Cover}
-use Rattle.bbm_rules.proofs.Common.{Half, Second, Full, operation, answers_one, publishes_write, same_cover, writes}
-use Rattle.bbm_rules.proofs.Common.{some, Noted, Barrier, Event, Heading, Dsb, Tlbi, Write, Issued, unanswered}
-use Rattle.bbm_rules.proofs.Common.{publishes_to, same_flag, or_comm, or-false, and-true, and-false, or_middle}
+use Rattle.bbm_rules.proofs.Common.{not-true, proved, If, Is, answers, PeMask, Cover, Half, Second, Full, operation}
+use Rattle.bbm_rules.proofs.Common.{answers_one, publishes_write, same_cover, writes, some, Noted, Barrier, Event}
+use Rattle.bbm_rules.proofs.Common.{Heading, Dsb, Tlbi, Write, Issued, unanswered, publishes_to, same_flag, and-true}
+use Rattle.bbm_rules.proofs.Common.{and-false, or_middle}
 use Rattle.bbm_regimes.specs.PeMask.{pe_in}
 use Rattle.bbm_tlbi_scope.specs.declared.op.TlbiOp.{TlbiOp}
 use Rattle.bbm_rules.specs.Cleansing as spec
@@ -21,6 +21,7 @@ use Rattle.bbm_oracle_patterns.specs.declared.trace.Trace.{Trace}
 use Rattle.bbm_oracle_patterns.specs.declared.walk.Walk.{Walk}
 use Rattle.bbm_oracle_patterns.proofs.Opens.{answered_by, after_dsb, after_tlbi}
 use Rattle.bbm_lemmas.proofs.Bools.{is_none_of_two}
+use Rattle.bbm_lemmas.proofs.Tests.{any_reverse}
 
 -- ---- tests
 
@@ -237,15 +238,6 @@ event_is w heading place before k since e is x =
 
 -- ---- a place that isn't written
 
-any_reverse : (place : ℕ) (ks : List Kept) → some_writes place (reverse ks) ≡ some_writes place ks
-any_reverse place [] = refl
-any_reverse place (k ∷ ks) =
-    ap (some_writes place) (reverse-append (k ∷ []) ks)
-    ∙ list_any-append (writes_place place) (reverse ks) (k ∷ [])
-    ∙ or_comm (some_writes place (reverse ks)) (some_writes place (k ∷ []))
-    ∙ ap (λ (b : Bool). b || some_writes place (reverse ks)) (or-false (is_write_of place k.event))
-    ∙ ap (λ (b : Bool). is_write_of place k.event || b) (any_reverse place ks)
-
 -- a walk that has found nothing, its sets this one
 abbrev pub found_nothing : PeMask → Walk
 found_nothing m = record {
@@ -321,5 +313,5 @@ module _ (heading : Heading) (place : ℕ) (m : PeMask) (none : (p : ℕ) → pe
       Traces (record { seen = m; half = m; cleansed = m }) heading place (notes_behind before (reverse ks))
   trace_unwritten before ks k =
       let x : IsWalk (found_nothing m) heading place (notes_behind before (reverse ks)) =
-      walk_unwritten before (reverse ks) (any_reverse place ks ∙ k) in
+      walk_unwritten before (reverse ks) (any_reverse (writes_place place) ks ∙ k) in
       record { seen_at = x.seen_at; half_at = x.half_at; cleansed_at = x.cleansed_at }

@@ -19,5 +19,5 @@ mod walk;
 
 pub use evidence::Evidence;
 pub use kept::{Covered, Kept};
-pub use search::{Seat, ValidWrite, held, last_valid, phase_in};
+pub use search::{TreePlace, ValidWrite, held, last_valid, phase_in};
 pub use trace::{Trace, cleansed_everywhere, trace_of};

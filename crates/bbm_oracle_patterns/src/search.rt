@@ -18,7 +18,7 @@ use bbm_rules::Phase;
 
 /// A place of a tree. Source: project's own choice.
 #[derive(Clone, Copy, Debug)]
-pub struct Seat {
+pub struct TreePlace {
     /// The place.
     pub place: Place,
     /// The kind of its tree.
@@ -147,7 +147,7 @@ pub fn phase_in<E: Evidence>(
     evidence: &E,
     header: &Header,
     log: &[Kept],
-    seat: &Seat,
+    seat: &TreePlace,
     value: u64,
     pe: Pe,
 ) -> Phase

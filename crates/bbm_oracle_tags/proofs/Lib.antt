@@ -1,5 +1,4 @@
 mod BoolLemmas
-pub mod ListLemmas
 pub mod MomentLemmas
 pub mod NumberLemmas
 pub mod PlaceLemmas

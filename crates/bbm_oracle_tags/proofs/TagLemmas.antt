@@ -1,41 +1,12 @@
 -- Which tags a root may hold, those that it holds, and the set of them.
-use Rattle.bbm_rules.proofs.Common.{◌≡◌, ℕ, zero, suc, ◌+◌, ◌<◌, take, get_or, Bool, true, false, not, ◌&&◌, ◌||◌, eqb}
-use Rattle.bbm_rules.proofs.Common.{List, [], ◌∷◌, length, refl, sym, ap, ◌∙◌, arith, true≢false, eqb-true, eqb-false}
-use Rattle.bbm_rules.proofs.Common.{and_from, list_any_more, proved, Is, TagSet, One, Many, Heading, Event, Tag}
-use Rattle.bbm_rules.proofs.Common.{changes, Trust, same_tag, some_pe, holds_at, loses, reads, first_true}
+use Rattle.bbm_rules.proofs.Common.{◌≡◌, ℕ, ◌+◌, ◌<◌, take, get_or, Bool, true, false, not, ◌&&◌, ◌||◌, List, [], ◌∷◌}
+use Rattle.bbm_rules.proofs.Common.{length, refl, sym, ap, ◌∙◌, true≢false, and_from, list_any_more, TagSet, One, Many}
+use Rattle.bbm_rules.proofs.Common.{Heading, Event, Tag, changes, Trust, same_tag, holds_at, loses, reads, first_true}
+use Rattle.bbm_rules.proofs.Common.{or-false}
 use Rattle.bbm_tlbi_scope.specs.declared.entry.TagSet.TheVariants.{None as NoTag}
 use Rattle.bbm_oracle_tags.specs.HeldTagSets.{HasTags, has_tag, was_read}
 use Rattle.bbm_oracle_tags.proofs.MomentLemmas.{same-reads, reads-nothing}
 use Rattle.bbm_lemmas.proofs.Bools.{ands_of_last}
-
--- ---- tests of some PE
-
-pub no-pe : (n : ℕ) (test : ℕ → Bool) → ((p : ℕ) → p < n → test p ≡ false) → some_pe n test ≡ false
-no-pe zero test all = refl
-no-pe (suc n) test all =
-    ap (λ (b : Bool). b || some_pe n test) (all n (omega arith)) ∙ no-pe n test (λ p lt. all p (omega arith))
-
-pub one-pe : (n : ℕ) (test : ℕ → Bool) (p : ℕ) → p < n → test p ≡ true → some_pe n test ≡ true
-one-pe zero test p lt k = absurd (omega arith)
-one-pe (suc n) test p lt k = by_case (eqb p n) refl (λ below. one-pe n test p below k)
-  where
-    or-true : (a : Bool) → (a || true) ≡ true
-    or-true = proved 1 (λ a. Is (a || true) true) refl
-
-    by_case : (b : Bool) → eqb p n ≡ b → (p < n → some_pe n test ≡ true) → (test n || some_pe n test) ≡ true
-    by_case true e rest = ap (λ (b : Bool). b || some_pe n test) (ap test (sym (eqb-true p n e)) ∙ k)
-    by_case false e rest =
-        ap (λ (b : Bool). test n || b) (rest (let apart : p ≡ n → ⊥ = eqb-false p n e in omega arith))
-        ∙ or-true (test n)
-
-pub found-pe : (n : ℕ) (test : ℕ → Bool) → some_pe n test ≡ true → (p : ℕ) × (p < n) × (test p ≡ true)
-found-pe zero test k = absurd (true≢false (sym k))
-found-pe (suc n) test k = by_case (test n) refl k (λ l. found-pe n test l)
-  where
-    by_case : (b : Bool) → test n ≡ b → (b || some_pe n test) ≡ true
-        → (some_pe n test ≡ true → (p : ℕ) × (p < n) × (test p ≡ true)) → (p : ℕ) × (p < suc n) × (test p ≡ true)
-    by_case true e k rest = (n, omega arith, e)
-    by_case false e k rest = let f = rest k in (f.0, (let lt : f.0 < n = f.1 in omega arith), f.2)
 
 -- ---- tags that were read
 
@@ -123,13 +94,10 @@ module _ (decides : (g k : Tag) → same_tag g k ≡ true → g ≡ k) where
       → test g ≡ (test g || (same_tag tag g && holds g))
   missed test holds tag none g = by_case (same_tag tag g) refl
     where
-      or-nothing : (b : Bool) → b ≡ (b || false)
-      or-nothing = proved 1 (λ b. Is b (b || false)) refl
-
       by_case : (b : Bool) → same_tag tag g ≡ b → test g ≡ (test g || (b && holds g))
-      by_case true e = or-nothing (test g) ∙ ap (λ (b : Bool). test g || b)
+      by_case true e = sym (or-false (test g)) ∙ ap (λ (b : Bool). test g || b)
           (sym (ap holds (sym (decides tag g e)) ∙ none))
-      by_case false e = or-nothing (test g)
+      by_case false e = sym (or-false (test g))
 
 -- one more tag of the list
 pub one-more : (holds : Tag → Bool) (tags : List Tag) (i : ℕ) (tag g : Tag) → i < length tags → tag ≡ get_or tags i tag

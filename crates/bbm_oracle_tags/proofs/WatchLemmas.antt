@@ -52,6 +52,18 @@ open-older q (Dsb pe dsb ∷ h) =
     by_case false rest = rest
 open-older q (e ∷ h) = older-more (length h) (suc (length h)) (unanswered itself q h) (omega arith) (open-older q h)
 
+-- a DSB completes all TLBIs of a sort, or none
+pub sorted : (cast : Bool) (dsb : Barrier) (e : Event) → is_cast cast e ≡ true
+    → not (completes dsb e) ≡ not (answers dsb cast)
+sorted true dsb (Tlbi pe op xt) k = ap (λ (b : Bool). not (answers dsb b)) k
+sorted false dsb (Tlbi pe op xt) k = by_case (operation op).broadcast k
+  where
+    by_case : (b : Bool) → not b ≡ true → not (answers dsb b) ≡ not (answers dsb false)
+    by_case true k = absurd (true≢false (sym k))
+    by_case false k = refl
+sorted true dsb e k = absurd (true≢false (sym k))
+sorted false dsb e k = absurd (true≢false (sym k))
+
 module _ (heading : Heading) (p : ℕ) (tag : Tag) where
   -- nothing is read after as many events as came
   unread : (n : ℕ) (h : List Event) → length h ≤ n → read_since heading n p tag h ≡ false
@@ -113,18 +125,6 @@ module _ (heading : Heading) (p : ℕ) (tag : Tag) where
       (unread (length h) h (omega arith)))
       ∙ read-now (is_cast cast e) (reaches heading e p) (takes_tag heading e h tag)
       (reads_for_some heading (e ∷ h) p tag)
-
-  -- a DSB completes all TLBIs of a sort, or none
-  sorted : (cast : Bool) (dsb : Barrier) (e : Event) → is_cast cast e ≡ true
-      → not (completes dsb e) ≡ not (answers dsb cast)
-  sorted true dsb (Tlbi pe op xt) k = ap (λ (b : Bool). not (answers dsb b)) k
-  sorted false dsb (Tlbi pe op xt) k = by_case (operation op).broadcast k
-    where
-      by_case : (b : Bool) → not b ≡ true → not (answers dsb b) ≡ not (answers dsb false)
-      by_case true k = absurd (true≢false (sym k))
-      by_case false k = refl
-  sorted true dsb e k = absurd (true≢false (sym k))
-  sorted false dsb e k = absurd (true≢false (sym k))
 
   left-taking : (dsb : Barrier) (h : List Event) (cast : Bool) (ts : List (Issued Event))
       → any (would_take heading p tag h cast) (left_open itself dsb ts)

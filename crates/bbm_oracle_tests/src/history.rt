@@ -3,7 +3,9 @@
 use crate::events::{BELOW, BLOCK, HEADER, MOVED, PLACE, ROOT, TABLE, TABLE_PLACE, events, write};
 use bbm_events::{Event, fits};
 use bbm_judge::{admit, check_limit, count_restless, judge};
-use bbm_oracle_patterns::{Kept, Seat, cleansed_everywhere, held, last_valid, phase_in, trace_of};
+use bbm_oracle_patterns::{
+    Kept, TreePlace, cleansed_everywhere, held, last_valid, phase_in, trace_of,
+};
 use bbm_oracle_tags::AllPatterns;
 use bbm_regimes::{Kind, Page, Pe, Place, Tag};
 use bbm_rules::{Phase, Rule, StepFault};
@@ -73,7 +75,7 @@ fn said(history: &History) -> Option<Said> {
     let place = Place::new(PLACE)?;
     let pe = Pe::new(1)?;
     let log = history.log();
-    let seat = Seat {
+    let seat = TreePlace {
         place,
         kind: Kind::El2,
         level: 1,

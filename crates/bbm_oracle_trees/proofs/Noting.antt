@@ -1,14 +1,11 @@
 -- One more event in the notes.
-use Rattle.bbm_rules.proofs.Common.{◌≡◌, ℕ, suc, List, [], ◌∷◌, length, refl, sym, ◌∙◌, ap, fun_ext, Cover, Heading}
-use Rattle.bbm_rules.proofs.Common.{Event, Trust, cover_at, note, noted, Noted, events_of}
+use Rattle.bbm_rules.proofs.Common.{◌≡◌, ℕ, suc, List, ◌∷◌, length, sym, ◌∙◌, ap, fun_ext, Cover, Heading, Event, Trust}
+use Rattle.bbm_rules.proofs.Common.{cover_at, note, noted, Noted, events_of}
 use Rattle.bbm_oracle_patterns.specs.Kept.{cover_in, notes_of}
 use Rattle.bbm_oracle_patterns.specs.declared.kept.Kept.{Kept}
 use Rattle.bbm_oracle_trees.specs.Past.{Past, notes}
 use Rattle.bbm_oracle_trees.specs.HistoryStandsFor.{StandsFor}
-
-length-notes_of : (kept : List Kept) → length (notes_of kept) ≡ length kept
-length-notes_of [] = refl
-length-notes_of (k ∷ kept) = ap suc (length-notes_of kept)
+use Rattle.bbm_oracle_patterns.proofs.KeptNotes.{length_notes}
 
 -- the note of a kept event whose covers are those of the definition
 pub noted_more : (heading : Heading) (trust : Trust) (kept : List Kept) (k : Kept) →
@@ -21,7 +18,7 @@ noted_more heading trust kept k covers =
       event = k.event;
       covers = cover_at heading trust (notes_of kept) k.event;
       position = suc n;
-    } ∷ notes_of kept) (sym (length-notes_of kept))
+    } ∷ notes_of kept) (sym (length_notes kept))
 
 -- what stands for a history stands with this note for the history with the event
 pub stands_more : (old new : Past) (event : Event) → new.heading ≡ old.heading → new.trust ≡ old.trust →

@@ -1,3 +1,4 @@
+pub mod ByPatterns
 pub mod HistoryFits
 pub mod Links
 pub mod Past

@@ -13,7 +13,7 @@ ghost use Rattle.bbm_oracle_patterns.specs.PlacePhases.{phase_at};
 ghost use Rattle.bbm_oracle_trees.specs.HistoryFits.{fits_root};
 
 use bbm_events::{Event, Header};
-use bbm_oracle_patterns::{Covered, Evidence, Kept, Seat, held, phase_in};
+use bbm_oracle_patterns::{Covered, Evidence, Kept, TreePlace, held, phase_in};
 use bbm_oracle_tags::{Declared, named_scope, places_in, roots_of, tag_set_of, value_of, vmid_of};
 use bbm_regimes::{Kind, NoMemory, Page, Pe, Place};
 use bbm_rules::Phase;
@@ -130,7 +130,7 @@ impl<E: Evidence> Log<E> {
     pub fn phase_in(&self, kind: Kind, level: u8, place: Place, value: u64, pe: Pe) -> Phase
         ensures { result ≡ phase_at self.now.heading self.now.trust kind level place value pe (notes self.now) }
     {
-        let seat = Seat { place, kind, level };
+        let seat = TreePlace { place, kind, level };
         phase_in(&self.evidence, &self.header, &self.kept, &seat, value, pe)
     }
 

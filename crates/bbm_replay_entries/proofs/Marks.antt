@@ -28,8 +28,9 @@ use Rattle.bbm_histories.specs.HistorySteps.{second_waits, seen_after, waits_aft
 use Rattle.bbm_replay_entries.specs.EntryEvents.{Heard, OthersStay, OthersWait}
 use Rattle.bbm_replay_entries.specs.KnownOfEntries.{Known}
 use Rattle.bbm_replay_entries.specs.Marked.{Marked, cover_waits}
-use Rattle.bbm_replay_entries.proofs.Since.{Untouched, answered_seen, counted, counts, cover_counted, seen_on}
-use Rattle.bbm_replay_entries.proofs.Since.{untouched}
+use Rattle.bbm_replay_entries.proofs.Since.{Untouched, answered_seen, counted, counts, cover_counted, untouched}
+use Rattle.bbm_histories.proofs.SeenFirst.{seen_on}
+use Rattle.bbm_lemmas.proofs.Numbers.{same_swapped}
 
 -- ---- the points of a state that isn't broken
 
@@ -111,18 +112,9 @@ add_seen = proved 3 (λ x s a. If (If (Is a true) (Is s true)) (Is (x || (s && a
 left_bits : (ends w : Bool) → (true && (not ends && w)) ≡ cond (true && ends) false w
 left_bits = proved 2 (λ ends w. Is (true && (not ends && w)) (cond (true && ends) false w)) refl
 
--- numbers as PEs
-same_number : (i q : ℕ) → nat_eq i q ≡ nat_eq q i
-same_number i q = by (nat_eq i q) (nat_eq q i) refl refl
-  where
-    by : (a b : Bool) → nat_eq i q ≡ a → nat_eq q i ≡ b → nat_eq i q ≡ nat_eq q i
-    by true b e f = e ∙ sym (eq-eqb q i (sym (eqb-true i q e)))
-    by false true e f = eq-eqb i q (sym (eqb-true q i f)) ∙ sym f
-    by false false e f = e ∙ sym f
-
 pub both_written : (p pe place : ℕ) (w : Bool) → (nat_eq p pe || w) ≡ ((pe == p && place == place) || w)
 both_written p pe place w =
-    ap (λ (b : Bool). b || w) (same_number p pe ∙ sym (ap (λ (b : Bool). (pe == p) && b) (eq-eqb place place refl) ∙ and-true (pe == p)))
+    ap (λ (b : Bool). b || w) (same_swapped p pe ∙ sym (ap (λ (b : Bool). (pe == p) && b) (eq-eqb place place refl) ∙ and-true (pe == p)))
 
 -- nothing waits where the place isn't broken
 counts_nowhere : (state : EntryState) (c : Cover) (p : ℕ) → is_broken state ≡ false → counts_at state c p ≡ false
@@ -270,9 +262,9 @@ module _ (heading : Heading) (k : Known heading) (place : ℕ) where
         by p below b c i false t =
             others i t b c p ∙ ap (λ (x : Bool). (x && (same_bool (operation op).broadcast b
             && (reaches heading (Tlbi q op xt) p && (same_cover (n.covers place) c && counts heading place p c since)))) || waits_at (pends i) b c p)
-            (sym (same_number q i ∙ t))
+            (sym (same_swapped q i ∙ t))
         by p below b c i true t =
-            let here : (q == i) ≡ true = same_number q i ∙ t in
+            let here : (q == i) ≡ true = same_swapped q i ∙ t in
             let same : q ≡ i = eqb-true q i here in
             ap (λ (j : ℕ). waits_at (pends' j) b c p) (sym same)
             ∙ (issues b c p
@@ -333,7 +325,7 @@ module _ (heading : Heading) (k : Known heading) (place : ℕ) where
         ∙ (ap (λ (x : Bool). half heading place p since || (x && answered_at (pends q) dsb Half p)) (seen_now p)
         ∙ (ap (λ (x : Bool). half heading place p since || (seen heading place p (n ∷ since) && x)) (answered_now p below Half)
         ∙ (add_seen (half heading place p since) (seen heading place p (n ∷ since)) (answered_by dsb (λ b. half_waits heading place p q b since))
-        (λ a. seen_on heading k place p n since (answered_seen heading k place p q dsb Half since a))
+        (λ a. seen_on heading k.pattern_steps place p n since (answered_seen heading k place p q dsb Half since a))
         ∙ sym (k.pattern_steps.half place p n since ∙ ap (λ (e : Event). half_after heading place p e since) is))))
 
     pub clean_now : (p : ℕ) → p < heading.pes → clean_after mid (pends q) dsb p ≡ cleansed heading Patterns place p (n ∷ since)
@@ -346,7 +338,7 @@ module _ (heading : Heading) (k : Known heading) (place : ℕ) where
         || (seen heading place p (n ∷ since) && (answered_by dsb (λ b. full_waits heading place p q b since) || x))) (answered_now p below Second)
         ∙ (add_seen (cleansed heading Patterns place p since) (seen heading place p (n ∷ since))
         (answered_by dsb (λ b. full_waits heading place p q b since) || answered_by dsb (λ b. second_waits heading place p q b since))
-        (λ a. seen_on heading k place p n since (either p a))
+        (λ a. seen_on heading k.pattern_steps place p n since (either p a))
         ∙ sym (k.pattern_steps.cleansed place p n since ∙ ap (λ (e : Event). cleansed_after heading place p e since)
         is)))))
       where
@@ -385,9 +377,9 @@ module _ (heading : Heading) (k : Known heading) (place : ℕ) where
             others i t b c p
             ∙ (ap (λ (x : Bool). x && waits_at (pends i) b c p) broken
             ∙ (m.waiting p below i b c
-            ∙ ap (λ (x : Bool). cond (x && answers dsb b) false (cover_waits heading place p i b c since)) (sym (same_number q i ∙ t))))
+            ∙ ap (λ (x : Bool). cond (x && answers dsb b) false (cover_waits heading place p i b c since)) (sym (same_swapped q i ∙ t))))
         by some p below b c i true t =
-            let here : (q == i) ≡ true = same_number q i ∙ t in
+            let here : (q == i) ≡ true = same_swapped q i ∙ t in
             let same : q ≡ i = eqb-true q i here in
             ap (λ (j : ℕ). waits_at (pends' j) b c p) (sym same)
             ∙ (d.waiting b c p

@@ -1,32 +1,20 @@
 -- What is known of the events since the last valid write of a place.
-use Rattle.bbm_rules.proofs.Common.{◌≡◌, ℕ, Bool, true, false, cond, ◌&&◌, ◌||◌, ◌==◌, List, [], ◌∷◌, ◌++◌, refl, sym}
-use Rattle.bbm_rules.proofs.Common.{◌∙◌, ap, inl, inr, true≢false, and_parts, eqb-true, false_from_ne_true, or_cases}
-use Rattle.bbm_rules.proofs.Common.{or_right, proved, If, Is, answers, Cover, Half, Second, Full, Patterns, cleansed}
-use Rattle.bbm_rules.proofs.Common.{flushes, half, same_cover, seen, writes, any, Noted, Issued, reaches, unanswered}
-use Rattle.bbm_rules.proofs.Common.{publishes_to}
+use Rattle.bbm_rules.proofs.Common.{◌≡◌, ℕ, Bool, true, false, ◌&&◌, ◌||◌, ◌==◌, List, [], ◌∷◌, ◌++◌, refl, sym, ◌∙◌}
+use Rattle.bbm_rules.proofs.Common.{ap, true≢false, and_parts, eqb-true, false_from_ne_true, or_right, Cover, Half}
+use Rattle.bbm_rules.proofs.Common.{Second, Full, Patterns, cleansed, flushes, half, same_cover, seen, writes, Noted}
+use Rattle.bbm_rules.proofs.Common.{Issued, reaches, unanswered, publishes_to, is_none_of}
 use Rattle.std.proofs.Math.Bool.{and-false}
 use Rattle.bbm_barriers.specs.declared.Dsb.{Dsb as Barrier}
 use Rattle.bbm_tlbi_scope.specs.declared.entry.Cover.TheVariants.{None as NoCover}
 use Rattle.bbm_events.specs.Heading.{Heading}
 use Rattle.bbm_events.specs.declared.event.Event.{Event}
-use Rattle.bbm_events.specs.declared.event.Event.TheVariants.{Write, Dsb, Tlbi}
+use Rattle.bbm_events.specs.declared.event.Event.TheVariants.{Write, Dsb}
 use Rattle.bbm_rules.specs.Notes.{event_of}
-use Rattle.bbm_histories.specs.HistorySteps.{answered_by, cleansed_after, full_waits, half_after, half_waits, is_tlbi}
-use Rattle.bbm_histories.specs.HistorySteps.{second_waits, seen_after, waits, waits_after, wrote}
+use Rattle.bbm_histories.specs.HistorySteps.{answered_by, cleansed_after, full_waits, is_tlbi, second_waits, seen_after}
+use Rattle.bbm_histories.specs.HistorySteps.{waits, wrote}
 use Rattle.bbm_replay_entries.specs.KnownOfEntries.{Known}
 use Rattle.bbm_replay_entries.specs.Marked.{cover_waits}
-
--- what a DSB answers waited
-waited : (dsb : Barrier) (waiting : Bool → Bool) → answered_by dsb waiting ≡ true → (b : Bool) × (waiting b ≡ true)
-waited dsb waiting a =
-    elim (or_cases (answers dsb true && waiting true) (answers dsb false && waiting false) a) [
-      | inl x ↦ (true, (and_parts (answers dsb true) (waiting true) x).1)
-      | inr y ↦ (false, (and_parts (answers dsb false) (waiting false) y).1)
-    ]
-
-any_false : {A : Type 0} (f : A → Bool) (xs : List A) → ((x : A) → f x ≡ false) → any f xs ≡ false
-any_false f [] none = refl
-any_false f (x ∷ xs) none = ap (λ (b : Bool). b || any f xs) (none x) ∙ any_false f xs none
+use Rattle.bbm_histories.proofs.SeenFirst.{answered_waits, cleansed_seen, half_seen, waits_seen}
 
 module _ (heading : Heading) (place p : ℕ) where
   -- what a TLBI that covers the place so far has to find before it
@@ -41,94 +29,29 @@ module _ (heading : Heading) (place p : ℕ) where
 
   pub cover_counted : (q : ℕ) (b : Bool) (c : Cover) (since : List Noted) → cover_waits heading place p q b c since ≡ counted q b c since
   cover_counted q b NoCover since =
-      sym (any_false (λ (t : Issued Noted). is_tlbi b (event_of t.tlbi) && flushes heading place p NoCover (counts NoCover) t) (unanswered event_of q since)
-      (λ t. ap (λ (x : Bool). is_tlbi b (event_of t.tlbi) && x) (and-false (reaches heading t.tlbi.event p && same_cover (t.tlbi.covers place) NoCover))
+      sym (is_none_of (λ (t : Issued Noted). is_tlbi b (event_of t.tlbi) && flushes heading place p NoCover (counts NoCover) t) (unanswered event_of q since)
+      (λ t i. ap (λ (x : Bool). is_tlbi b (event_of t.tlbi) && x) (and-false (reaches heading t.tlbi.event p && same_cover (t.tlbi.covers place) NoCover))
       ∙ and-false (is_tlbi b (event_of t.tlbi))))
   cover_counted q b Half since = refl
   cover_counted q b Second since = refl
   cover_counted q b Full since = refl
 
 module _ (heading : Heading) (k : Known heading) (place p : ℕ) where
-  -- ---- whatever is half, cleansed or waits was seen, and seen stays
-
-  pub seen_on : (n : Noted) (since : List Noted) → seen heading place p since ≡ true → seen heading place p (n ∷ since) ≡ true
-  seen_on n since s = k.pattern_steps.seen place p n since ∙ by n.event
-    where
-      by : (e : Event) → seen_after heading place p e since ≡ true
-      by (Dsb q dsb) = or_right (publishes_to heading dsb q p && wrote heading place p q since) (seen heading place p since) s
-      by e = s
-
-  waits_seen : (c : Cover) (test : List Noted → Bool) (q : ℕ) (b : Bool)
-      → ((before : List Noted) → test before ≡ true → seen heading place p before ≡ true) → (since : List Noted)
-      → waits event_of q b (flushes heading place p c test) since ≡ true → seen heading place p since ≡ true
-  waits_seen c test q b needs [] w = absurd (true≢false (sym w))
-  waits_seen c test q b needs (n ∷ since) w =
-      seen_on n since (by (waits_seen c test q b needs since) n.event
-      (sym (k.pattern_steps.waits q b (flushes heading place p c test) n since) ∙ w))
-    where
-      left : (t x : Bool) → cond t false x ≡ true → x ≡ true
-      left = proved 2 (λ t x. If (Is (cond t false x) true) (Is x true)) refl
-
-      by : (waits event_of q b (flushes heading place p c test) since ≡ true → seen heading place p since ≡ true)
-          → (e : Event) → waits_after event_of q b (flushes heading place p c test) e n since ≡ true → seen heading place p since ≡ true
-      by on (Tlbi pe op xt) w =
-          elim (or_cases (pe == q && (is_tlbi b (Tlbi pe op xt) && flushes heading place p c test (record { tlbi = n; before = since })))
-          (waits event_of q b (flushes heading place p c test) since) w) [
-            | inl here ↦ needs since (and_parts (reaches heading n.event p && same_cover (n.covers place) c) (test since)
-                (and_parts (is_tlbi b (Tlbi pe op xt)) (flushes heading place p c test (record { tlbi = n; before = since }))
-                (and_parts (pe == q) (is_tlbi b (Tlbi pe op xt) && flushes heading place p c test (record { tlbi = n; before = since })) here).1).1).1
-            | inr there ↦ on there
-          ]
-      by on (Dsb pe dsb) w = on (left (pe == q && answers dsb b) (waits event_of q b (flushes heading place p c test) since) w)
-      by on e w = on w
-
-  half_seen : (since : List Noted) → half heading place p since ≡ true → seen heading place p since ≡ true
-  half_seen [] t = absurd (true≢false (sym t))
-  half_seen (n ∷ since) t = seen_on n since
-      (by (half_seen since) n.event (sym (k.pattern_steps.half place p n since) ∙ t))
-    where
-      by : (half heading place p since ≡ true → seen heading place p since ≡ true)
-          → (e : Event) → half_after heading place p e since ≡ true → seen heading place p since ≡ true
-      by on (Dsb q dsb) t =
-          elim (or_cases (answered_by dsb (λ b. half_waits heading place p q b since)) (half heading place p since) t) [
-            | inl a ↦ let w : (b : Bool) × (half_waits heading place p q b since ≡ true) = waited dsb (λ b. half_waits heading place p q b since) a in
-                waits_seen Half (seen heading place p) q w.0 (λ before s. s) since w.1
-            | inr older ↦ on older
-          ]
-      by on e t = on t
+  -- ---- what is answered was seen, and what is cleansed stays so
 
   pub counts_seen : (c : Cover) (since : List Noted) → counts heading place p c since ≡ true → seen heading place p since ≡ true
   counts_seen NoCover since t = absurd (true≢false (sym t))
   counts_seen Half since t = t
-  counts_seen Second since t = half_seen since t
+  counts_seen Second since t = half_seen heading k.pattern_steps place p since t
   counts_seen Full since t = t
 
   counted_seen : (q : ℕ) (b : Bool) (c : Cover) (since : List Noted) → counted heading place p q b c since ≡ true → seen heading place p since ≡ true
-  counted_seen q b c since w = waits_seen c (counts heading place p c) q b (counts_seen c) since w
+  counted_seen q b c since w = waits_seen heading k.pattern_steps place p c (counts heading place p c) q b (counts_seen c) since w
 
   pub answered_seen : (q : ℕ) (dsb : Barrier) (c : Cover) (since : List Noted)
       → answered_by dsb (λ b. counted heading place p q b c since) ≡ true → seen heading place p since ≡ true
   answered_seen q dsb c since a =
-      let w : (b : Bool) × (counted heading place p q b c since ≡ true) = waited dsb (λ b. counted heading place p q b c since) a in
-      counted_seen q w.0 c since w.1
-
-  cleansed_seen : (since : List Noted) → cleansed heading Patterns place p since ≡ true → seen heading place p since ≡ true
-  cleansed_seen [] t = absurd (true≢false (sym t))
-  cleansed_seen (n ∷ since) t = seen_on n since
-      (by (cleansed_seen since) n.event (sym (k.pattern_steps.cleansed place p n since) ∙ t))
-    where
-      by : (cleansed heading Patterns place p since ≡ true → seen heading place p since ≡ true)
-          → (e : Event) → cleansed_after heading place p e since ≡ true → seen heading place p since ≡ true
-      by on (Dsb q dsb) t =
-          elim (or_cases (answered_by dsb (λ b. full_waits heading place p q b since) || answered_by dsb (λ b. second_waits heading place p q b since))
-          (cleansed heading Patterns place p since) t) [
-            | inl a ↦ elim (or_cases (answered_by dsb (λ b. full_waits heading place p q b since)) (answered_by dsb (λ b. second_waits heading place p q b since)) a) [
-              | inl full ↦ answered_seen q dsb Full since full
-              | inr second ↦ answered_seen q dsb Second since second
-            ]
-            | inr older ↦ on older
-          ]
-      by on e t = on t
+      let w = answered_waits dsb (λ b. counted heading place p q b c since) a in counted_seen q w.0 c since w.2
 
   pub cleansed_on : (n : Noted) (since : List Noted) → cleansed heading Patterns place p since ≡ true → cleansed heading Patterns place p (n ∷ since) ≡ true
   cleansed_on n since t = k.pattern_steps.cleansed place p n since ∙ by n.event
@@ -166,8 +89,8 @@ module _ (heading : Heading) (k : Known heading) (place p : ℕ) where
       let not_seen : seen heading place p since ≡ false = unseen since none in
       record {
         unseen = not_seen;
-        unhalf = false_from_ne_true (half heading place p since) (λ t. true≢false (sym (half_seen since t) ∙ not_seen));
-        uncleansed = false_from_ne_true (cleansed heading Patterns place p since) (λ t. true≢false (sym (cleansed_seen since t) ∙ not_seen));
+        unhalf = false_from_ne_true (half heading place p since) (λ t. true≢false (sym (half_seen heading k.pattern_steps place p since t) ∙ not_seen));
+        uncleansed = false_from_ne_true (cleansed heading Patterns place p since) (λ t. true≢false (sym (cleansed_seen heading k.pattern_steps place p since t) ∙ not_seen));
         idle = λ q b c. cover_counted heading place p q b c since
             ∙ false_from_ne_true (counted heading place p q b c since) (λ t. true≢false (sym (counted_seen q b c since t) ∙ not_seen));
       }

@@ -17,19 +17,19 @@ use Rattle.bbm_histories.specs.TreeChanges.{Attaches}
 use Rattle.bbm_rules.specs.Broken.{keeps}
 use Rattle.bbm_rules.specs.Claims.Trust.{Patterns}
 use Rattle.bbm_rules.specs.Covers.{cover_at, noted}
-use Rattle.bbm_rules.specs.Lists.{if_so}
+use Rattle.bbm_rules.specs.Lists.{if_so, ◌>>=◌}
 use Rattle.bbm_rules.specs.Pages.{is_fresh}
 use Rattle.bbm_rules.specs.Phases.{is_restless, phase_of}
 use Rattle.bbm_rules.specs.Places.{page_of}
 use Rattle.bbm_rules.specs.Prelude.{Barrier, Kind, Heading, Event, Write, Dsb, Tlbi, TlbiOp}
 use Rattle.bbm_rules.specs.Reach.{reaches}
 use Rattle.bbm_rules.specs.Rules.{break_before_make}
-use Rattle.bbm_rules.specs.Tree.{Node, node_of}
+use Rattle.bbm_rules.specs.Tree.{Node, node_of, next_in}
 use Rattle.bbm_rules.specs.Values.{value_of}
 use Rattle.bbm_rules.specs.declared.phase.Phase.TheVariants.{Clean}
 use Rattle.bbm_replay_entries.specs.EntryEvents.{Heard, OthersStay, OthersWait, touches}
 use Rattle.bbm_replay_entries.specs.EntryPhases.{phase_in}
-use Rattle.bbm_replay_entries.specs.EntryStands.{ByValue, EntryStands, held_now, next_now, next_of_core}
+use Rattle.bbm_replay_entries.specs.EntryStands.{ByValue, EntryStands, held_now, next_now}
 
 -- A place of a fresh page, at whatever kind and level it is read, stands by its value alone: it is live where the value
 -- is valid, and else clean, and nothing waits. So does a place of a page that the event attaches.
@@ -125,7 +125,7 @@ pub record EntryHolds (heading : Heading) : Type 0 where
       → desc_of kind level value ≡ desc_with core
   pub next : (h : List Event) (kind : Kind) (level place : ℕ) (state : EntryState) (pends : ℕ → Pends)
       → EntryStands heading h kind level place state pends
-      → next_now heading h kind level place ≡ next_of_core (core_in state)
+      → next_now heading h kind level place ≡ (core_in state >>= (λ core. next_in (desc_with core)))
   pub present : (h : List Event) (kind : Kind) (level place : ℕ) (state : EntryState) (pends : ℕ → Pends)
       → 0 < heading.pes → EntryStands heading h kind level place state pends → is_broken state ≡ false
       → core_in state ≡ core_of kind level (value_of h place)

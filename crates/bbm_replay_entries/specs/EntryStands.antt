@@ -1,9 +1,8 @@
 -- What the state of a place and its pendings are to a history. Trust is in all patterns.
 -- Source: project's own choice.
-use Rattle.std.specs.Prelude.{◌≡◌, ℕ, true, false, not, ◌&&◌, List, Option, Some, None, is_some}
+use Rattle.std.specs.Prelude.{◌≡◌, ℕ, true, false, not, ◌&&◌, List, Option, Some, is_some}
 use Rattle.bbm_descriptor.specs.Descriptor.{core_of, is_valid}
 use Rattle.bbm_descriptor.specs.declared.desc.Core.{Core}
-use Rattle.bbm_descriptor.specs.declared.desc.Core.TheVariants.{Table}
 use Rattle.bbm_entry_state.specs.Points.{core_in, is_broken}
 use Rattle.bbm_entry_state.specs.EntryStanding.{IsIdle}
 use Rattle.bbm_entry_state.specs.declared.pending.Pends.{Pends}
@@ -16,11 +15,6 @@ use Rattle.bbm_rules.specs.Lists.{◌>>=◌}
 use Rattle.bbm_rules.specs.Tree.{next_of}
 use Rattle.bbm_rules.specs.Values.{value_of}
 use Rattle.bbm_replay_entries.specs.Marked.{Marked}
-
--- the next page of a core that is a table
-abbrev pub next_of_core : Option Core → Option ℕ
-next_of_core (Some (Table next ns)) = Some next
-next_of_core _ = None
 
 module _ (heading : Heading) where
   -- what a place holds that is read at this kind and level

@@ -1,10 +1,10 @@
 -- The last valid write of a place, and what it leaves held.
 use Rattle.bbm_rules.proofs.Common.{◌≡◌, ℕ, ◌%◌, ◌&&◌, Bool, true, false, cond, ◌⊎◌, ◌==◌, List, [], ◌∷◌, Option, Some}
 use Rattle.bbm_rules.proofs.Common.{None, option_and_then, if◌then◌else◌, refl, sym, ◌∙◌, ap, subst, inl, inr, arith}
-use Rattle.bbm_rules.proofs.Common.{true≢false, and_parts, eq-eqb, eqb-true, or_cases, Kind, Form, form_01, form_11}
-use Rattle.bbm_rules.proofs.Common.{is_valid, valid_form, type_bits, with_keeps, In, Trust, ValidWrite}
-use Rattle.bbm_rules.proofs.Common.{cleansed_everywhere, held, last_valid, last_valid_after, later, Noted, events_of}
-use Rattle.bbm_rules.proofs.Common.{among, page_of, written_places}
+use Rattle.bbm_rules.proofs.Common.{true≢false, and_parts, eq-eqb, eqb-true, Kind, Form, form_01, form_11, is_valid}
+use Rattle.bbm_rules.proofs.Common.{valid_form, type_bits, with_keeps, In, Trust, ValidWrite, cleansed_everywhere, held}
+use Rattle.bbm_rules.proofs.Common.{last_valid, last_valid_after, later, Noted, events_of, page_of, written_places}
+use Rattle.bbm_rules.proofs.Common.{with_has}
 use Rattle.bbm_events.specs.Heading.{Heading}
 use Rattle.bbm_events.specs.declared.event.Event.{Event}
 use Rattle.bbm_events.specs.declared.event.Event.TheVariants.{Init, Write}
@@ -59,17 +59,8 @@ last_cases kind level place (Init pe page) n found w e = inl (by_init (later n f
 last_cases kind level place e n found w k = inl k
 
 -- its place was written
-pub among_from : (n : ℕ) (ms : List ℕ) → among n ms ≡ true → In ms n
-among_from n [] e = absurd (true≢false (sym e))
-among_from n (m ∷ ms) e =
-    elim (or_cases (m == n) (among n ms) e) [ inl same ↦ inl (eqb-true m n same) | inr there ↦ inr (among_from n ms there) ]
-
-with_it : (n : ℕ) (ms : List ℕ) (b : Bool) → among n ms ≡ b → In (cond b ms (n ∷ ms)) n
-with_it n ms true e = among_from n ms e
-with_it n ms false e = inl refl
-
 pub written_here : (pe place value : ℕ) (es : List Event) → In (written_places (Write pe place value ∷ es)) place
-written_here pe place value es = with_it place (written_places es) (among place (written_places es)) refl
+written_here pe place value es = with_has place (written_places es)
 
 pub written_stays : (e : Event) (es : List Event) (place : ℕ) → In (written_places es) place → In (written_places (e ∷ es)) place
 written_stays (Write pe at value) es place i = with_keeps at (written_places es) place i

@@ -38,7 +38,7 @@ same_by Full NoCover e = absurd (true≢false (sym e))
 same_by Full Half e = absurd (true≢false (sym e))
 same_by Full Second e = absurd (true≢false (sym e))
 
-same_self : (c : Cover) → same_cover c c ≡ true
+pub same_self : (c : Cover) → same_cover c c ≡ true
 same_self NoCover = refl
 same_self Half = refl
 same_self Second = refl
@@ -89,13 +89,13 @@ answer_finds test since t d a k =
 
 -- ---- a publication
 
-write_by : (q place : ℕ) (e : Event) → writes q place e ≡ true → (value : ℕ) × (e ≡ Write q place value)
+pub write_by : (q place : ℕ) (e : Event) → writes q place e ≡ true → (value : ℕ) × (e ≡ Write q place value)
 write_by q place (Write pe at value) k =
     let parts = and_parts (pe == q) (at == place) k in
     (value, ap (λ (x : ℕ). Write x at value) (eqb-true pe q parts.0) ∙ ap (λ (x : ℕ). Write q x value) (eqb-true at place parts.1))
 write_by q place e k = absurd (true≢false (sym k))
 
-writes_it : (q place value : ℕ) → writes q place (Write q place value) ≡ true
+pub writes_it : (q place value : ℕ) → writes q place (Write q place value) ≡ true
 writes_it q place value = and_from (q == q) (place == place) (eq-eqb q q refl) (eq-eqb place place refl)
 
 module _ (heading : Heading) (place p : ℕ) where

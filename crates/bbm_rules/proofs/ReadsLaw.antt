@@ -15,8 +15,7 @@ use Rattle.bbm_regimes.specs.declared.regime.Reg.TheVariants as reg
 use Rattle.bbm_events.specs.Heading.{Heading}
 use Rattle.bbm_events.specs.declared.event.Event.TheVariants.{Msr, Unroot}
 use Rattle.bbm_rules.proofs.SameRegister.{tag_equal, tag_self}
-use Rattle.bbm_rules.proofs.HeldLemmas.{among_from}
-use Rattle.bbm_lemmas.proofs.Words.{among_in, in_below, same_number}
+use Rattle.bbm_lemmas.proofs.Words.{among_in, in_below, same_number, in_among}
 use Rattle.bbm_lemmas.proofs.Elements.{from_filter_map, from_flat, none_in, to_filter_map}
 use Rattle.bbm_rules.proofs.ListLemmas.{least_none}
 use Rattle.bbm_rules.proofs.TagSetLaw.{no_tag}
@@ -65,7 +64,7 @@ module _ (h : List Event) (p : ℕ) where
       → In (readings_of h p reg tag) (record { tag = tag value; root = root })
   gives reg tag root value k =
       to_filter_map (reading_of h reg tag) (register_values h p reg) value (record { tag = tag value; root = root })
-      (among_from value (register_values h p reg) k.readable)
+      (in_among value (register_values h p reg) k.readable)
       (ap (option_and_then (λ base. if_so (is_root h (kind_of_reg reg) base) (record { tag = tag value; root = base }))) k.base
       ∙ ap (λ (c : Bool). if_so c (record { tag = tag value; root = root })) k.declared)
 
@@ -99,7 +98,7 @@ module _ (h : List Event) (p : ℕ) where
       (gives Ttbr0El1 (λ value. Asid (tag_number value)) root value k)
   asid_gives FromTtbr1 root value number k e =
       to_flat (λ from. readings_of h p Ttbr0El1 (λ value. Asid (tag_number from))) (register_values h p Ttbr1El1) number
-      (record { tag = Asid (tag_number number); root = root }) (among_from number (register_values h p Ttbr1El1) e)
+      (record { tag = Asid (tag_number number); root = root }) (in_among number (register_values h p Ttbr1El1) e)
       (gives Ttbr0El1 (λ value. Asid (tag_number number)) root value k)
 
   sound_in : (world : World) (tag : Tag) (root : ℕ) (r : Reading) → In (readings_in world h p) r → r.tag ≡ tag → r.root ≡ root
@@ -228,7 +227,7 @@ module _ (heading : Heading) (trust : Trust) (h : List Noted) where
       true≢false (sym is_base ∙ none_of (λ value. is_that (base_of value) page)
       (flat_map (register_values (events_of h) p) (Ttbr0El2 ∷ VttbrEl2 ∷ Ttbr0El1 ∷ Ttbr1El1 ∷ [])) here value
       (to_flat (register_values (events_of h) p) (Ttbr0El2 ∷ VttbrEl2 ∷ Ttbr0El1 ∷ Ttbr1El1 ∷ []) reg value (in_registers reg)
-      (among_from value (register_values (events_of h) p reg) readable)))
+      (in_among value (register_values (events_of h) p reg) readable)))
 
   -- nor a root that holds a tag
   pub no_tag_held : (pe page : ℕ) (tag : Tag) → root_in_use heading trust h (Unroot pe page) ≡ None

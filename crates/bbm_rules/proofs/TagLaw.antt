@@ -61,7 +61,7 @@ module _ (heading : Heading) (trust : Trust) (p : ℕ) (tag : Tag) where
   unread_one n e m all false early = refl
   unread_one n e m all true late = let l : n ≤ length m = leb-true n (length m) late in all (omega arith)
 
-  unread_all : (n : ℕ) (h : List Event)
+  pub unread_all : (n : ℕ) (h : List Event)
       → ((after moment : List Event) → h ≡ after ++ moment → n < length moment → reads_for_some heading moment p tag ≡ false)
       → read_since heading n p tag h ≡ false
   unread_all n h all =

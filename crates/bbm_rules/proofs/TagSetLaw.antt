@@ -24,7 +24,7 @@ keeps_by g tag gs true e (inr i) rest = rest tag i
 keeps_by g tag gs false e (inl same) rest = inl same
 keeps_by g tag gs false e (inr i) rest = inr (rest tag i)
 
-distinct_keeps : (gs : List Tag) (tag : Tag) → In gs tag → In (distinct gs) tag
+pub distinct_keeps : (gs : List Tag) (tag : Tag) → In gs tag → In (distinct gs) tag
 distinct_keeps [] tag i = i
 distinct_keeps (g ∷ gs) tag i = keeps_by g tag gs (any (same_tag g) gs) refl i (distinct_keeps gs)
 

@@ -35,6 +35,18 @@ limbo_complete h n k =
     any_finds (λ (a : Above). not (is_valid n.kind a.level (value_of (events_of h) a.place))) n.above k.above (from_contains n.above k.above k.is_above)
     (not_from_false (is_valid n.kind k.above.level (value_of (events_of h) k.above.place)) k.invalid)
 
+-- a table stands above level 3
+pub table_level : (kind : Kind) (level value next : ℕ) → next_of kind level value ≡ Some next → level < 3
+table_level kind zero value next e = omega arith
+table_level kind (suc zero) value next e = omega arith
+table_level kind (suc (suc zero)) value next e = omega arith
+table_level kind (suc (suc (suc level))) value next e = absurd (by (type_bits value == 3) (type_bits value == 1) e)
+  where
+    by : (b c : Bool) → next_in (desc_as (cond b Form.leaf (cond c Form.invalid Form.invalid)) kind (suc (suc (suc level))) value) ≡ Some next → ⊥
+    by true c e = cc
+    by false true e = cc
+    by false false e = cc
+
 module _ (heading : Heading) (trust : Trust) (h : List Noted) where
   -- ---- trees
 
@@ -120,18 +132,6 @@ module _ (heading : Heading) (trust : Trust) (h : List Noted) where
       }))
 
   -- ---- the page below a place, and the node that is taken for a page
-
-  -- a table stands above level 3
-  table_level : (kind : Kind) (level value next : ℕ) → next_of kind level value ≡ Some next → level < 3
-  table_level kind zero value next e = omega arith
-  table_level kind (suc zero) value next e = omega arith
-  table_level kind (suc (suc zero)) value next e = omega arith
-  table_level kind (suc (suc (suc level))) value next e = absurd (by (type_bits value == 3) (type_bits value == 1) e)
-    where
-      by : (b c : Bool) → next_in (desc_as (cond b Form.leaf (cond c Form.invalid Form.invalid)) kind (suc (suc (suc level))) value) ≡ Some next → ⊥
-      by true c e = cc
-      by false true e = cc
-      by false false e = cc
 
   pub tree_below : (n : Node) (place value next : ℕ) → Contains (tree heading trust h) n → page_of place ≡ n.page
       → held_at heading trust h n place ≡ Some value → next_of n.kind n.level value ≡ Some next

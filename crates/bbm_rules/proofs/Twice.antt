@@ -1,9 +1,9 @@
 -- Pages in which two ends of a list lie.
 use Rattle.bbm_rules.proofs.Common.{◌≡◌, ℕ, ◌⊎◌, Bool, true, false, cond, ◌==◌, List, [], ◌∷◌, ◌++◌, Option, Some, None}
-use Rattle.bbm_rules.proofs.Common.{filter, flat_map, filter_map, refl, sym, ◌∙◌, ap, subst, inl, inr, true≢false, In}
-use Rattle.bbm_rules.proofs.Common.{from_filter, in_append, in_left, in_right, Event, Write, End, pages_of, among}
-use Rattle.bbm_rules.proofs.Common.{repeated, page_of, places_in, written_places}
-use Rattle.bbm_lemmas.proofs.Words.{Apart, among_in, in_among}
+use Rattle.bbm_rules.proofs.Common.{flat_map, filter_map, refl, sym, ◌∙◌, ap, subst, inl, inr, true≢false, In}
+use Rattle.bbm_rules.proofs.Common.{in_append, in_left, in_right, Event, Write, End, pages_of, among, repeated, page_of}
+use Rattle.bbm_rules.proofs.Common.{places_in, written_places}
+use Rattle.bbm_lemmas.proofs.Words.{Apart, among_in, in_among, filter_apart, with_apart}
 use Rattle.bbm_lemmas.proofs.Elements.{from_flat}
 use Rattle.bbm_rules.proofs.ListLemmas.{in_pages, from_pages}
 
@@ -200,23 +200,10 @@ flat_via f g (p ∷ ps) = by (f p) refl (flat_via f g ps)
 
 -- ---- different numbers
 
-pub apart_filter : (test : ℕ → Bool) (ns : List ℕ) → Apart ns → Apart (filter test ns)
-apart_filter test [] a = tt
-apart_filter test (n ∷ ns) a = by (test n) (apart_filter test ns a.1)
-  where
-    by : (c : Bool) → Apart (filter test ns) → Apart (cond c (n ∷ filter test ns) (filter test ns))
-    by true rest = (λ i. a.0 (from_filter test ns n i).0, rest)
-    by false rest = rest
-
 apart_written : (h : List Event) → Apart (written_places h)
 apart_written [] = tt
-apart_written (Write pe at value ∷ h) = by (among at (written_places h)) refl (apart_written h)
-  where
-    by : (c : Bool) → among at (written_places h) ≡ c → Apart (written_places h)
-        → Apart (cond c (written_places h) (at ∷ written_places h))
-    by true k a = a
-    by false k a = (λ i. true≢false (sym (among_in at (written_places h) i) ∙ k), a)
+apart_written (Write pe at value ∷ h) = with_apart at (written_places h) (apart_written h)
 apart_written (e ∷ h) = apart_written h
 
 pub apart_places : (h : List Event) (page : ℕ) → Apart (places_in h page)
-apart_places h page = apart_filter (λ place. page_of place == page) (written_places h) (apart_written h)
+apart_places h page = filter_apart (λ place. page_of place == page) (written_places h) (apart_written h)

@@ -6,11 +6,11 @@ use Rattle.bbm_texts.proofs.Common.{PageInUse, NoRoot, TagConflict, RootInUse, U
 use Rattle.bbm_texts.proofs.Common.{LockNotMine, Verdict, Accepted, Refused, Malformed, Limit, refused_write, step_line}
 use Rattle.bbm_texts.proofs.Common.{step_lines, Show, Counterrun, ended, ShowsMore, status_of, Keeps, KnowsThat}
 use Rattle.bbm_texts.proofs.Common.{TellsEvent, Pours, Puts, ReportsDecided, ReportsText, Wrote, Step}
-use Rattle.bbm_rules.proofs.Common.{◌≡◌, ℕ, zero, suc, ◌+◌, ◌<◌, true, Bool, List, [], ◌∷◌, ◌++◌, ◌&&◌, length, map}
+use Rattle.bbm_rules.proofs.Common.{◌≡◌, ℕ, zero, suc, ◌+◌, ◌<◌, true, Bool, List, [], ◌∷◌, ◌++◌, length, map}
 use Rattle.bbm_rules.proofs.Common.{take, drop, get_or, reverse, Option, Some, None, Result, Err, refl, ap, sym, ◌∙◌}
 use Rattle.bbm_rules.proofs.Common.{subst, append_assoc, append-nil, IfSome, option_map, inl, inr, false≢true}
 use Rattle.bbm_rules.proofs.Common.{length-reverse, reverse-append, reverse-reverse, take-append-drop, take_more}
-use Rattle.bbm_rules.proofs.Common.{AllPass-from_list_all, proved, If, Is, fits_heading, Combine, Drop}
+use Rattle.bbm_rules.proofs.Common.{AllPass-from_list_all, and_from, fits_heading, Combine, Drop}
 use Rattle.std.proofs.Common.{All}
 use Rattle.std.proofs.lemmas.List.Elements.{All-append, All-cons, All-drop, All-head, All-map, All-nil, All-push}
 use Rattle.std.proofs.lemmas.List.Elements.{All-tail, All-take}
@@ -210,15 +210,12 @@ shows-run (Refused line rule at label) e refused is = shows-by line rule at labe
 shows-run (Malformed line cause) e refused is = cc
 shows-run (Limit line which) e refused is = cc
 
-both-true : (a b : Bool) → a ≡ true → b ≡ true → (a && b) ≡ true
-both-true = proved 2 (λ a b. If (Is a true) (If (Is b true) (Is (a && b) true))) refl
-
 -- the log with the event that is refused after it
 pub ends-refused : (stands : Heading → List Event → Type 0) (heading : Heading) (h : List Event) (e : Event) (log all : List Event)
     → KnowsRefused stands heading h e → reverse log ≡ h → all ≡ log ++ e ∷ [] → EndsRefused heading h e all
 ends-refused stands heading h e log all knows was is = record {
   is = ap (reverse {A = Event}) is ∙ reverse-append log (e ∷ []) ∙ ap (λ (es : List Event). e ∷ es) was;
-  fit = both-true (fits_heading heading e) (all_fit heading h) knows.1 knows.0.fit;
+  fit = and_from (fits_heading heading e) (all_fit heading h) knows.1 knows.0.fit;
   kept = knows.0.rules;
   at = knows.2.0;
   refused = knows.2.1;

@@ -17,9 +17,9 @@ use Rattle.bbm_tlb_machine.specs.Entry.{Entry, Part, desc_in, head_of, is_leaf, 
 use Rattle.bbm_tlb_machine.specs.Invariant.{Fine, Holding, IsAt, IsBelow, IsNear}
 use Rattle.bbm_tlb_machine.specs.KnownOfMachine.{Known}
 use Rattle.bbm_tlb_machine.proofs.Descs.{leaf_if_no_table, no_leaf_if_table, some_pages}
-use Rattle.bbm_histories.proofs.Induction.{events_append}
+use Rattle.bbm_histories.proofs.Induction.{events_append, kept_before}
 use Rattle.bbm_tlb_machine.proofs.Elements.{events_length}
-use Rattle.bbm_tlb_machine.proofs.Facts.{has_tag, held_there, keeps_older, means, no_global, tag_then}
+use Rattle.bbm_tlb_machine.proofs.Facts.{has_tag, held_there, means, no_global, tag_then}
 use Rattle.bbm_tlb_machine.proofs.Regions.{chain_kind, inside_of, last_or_above, region_holds}
 use Rattle.bbm_tlb_machine.proofs.Scopes.{CoversBy, covers_by}
 
@@ -181,7 +181,7 @@ module _ (heading : Heading) (trust : Trust) (k : Known heading trust) (h : List
 
       kept_then : keeps heading trust (events_of view.older) ≡ true
       kept_then =
-          keeps_older heading trust (events_of o.newer ++ t.tlbi.event ∷ []) (events_of view.older)
+          kept_before heading trust (events_of o.newer ++ t.tlbi.event ∷ []) (events_of view.older)
           (subst (λ (es : List Event). keeps heading trust es ≡ true)
           (is_split ∙ sym (append_assoc (events_of o.newer) (t.tlbi.event ∷ []) (events_of view.older))) kept)
 

@@ -52,29 +52,35 @@ no_leaf_if_table Invalid e = refl
 no_leaf_if_table (Table next ns) e = refl
 no_leaf_if_table (Leaf out attrs share global contiguous) e = absurd (true≢false (sym e))
 
-module _ (heading : Heading) (trust : Trust) (k : Known heading trust) where
+-- what the law of the test of two cores says
+abbrev pub CoreLaw : Type 0
+CoreLaw = (one other : Core) → same_core one other ≡ true → one ≡ other
+
+module _ (law : CoreLaw) where
+  cores_same : (c c' : Core) → differ (Some c) (Some c') ≡ false → desc_with c ≡ desc_with c'
+  cores_same c c' e = ap desc_with (law c c' (not-false (same_core c c') e))
+
   same_in : (d d' : Desc) → (d ≡ Invalid → ⊥) → (d' ≡ Invalid → ⊥) → differ (core_in d) (core_in d') ≡ false → d ≡ d'
   same_in Invalid d' n m e = absurd (n refl)
   same_in (Table next ns) Invalid n m e = absurd (m refl)
   same_in (Leaf out attrs share global contiguous) Invalid n m e = absurd (m refl)
-  same_in (Table next ns) (Table next' ns') n m e = same (CoreTable next ns) (CoreTable next' ns') e
-    where
-      same : (c c' : Core) → differ (Some c) (Some c') ≡ false → desc_with c ≡ desc_with c'
-      same c c' e = ap desc_with (k.same_cores c c' (not-false (same_core c c') e))
+  same_in (Table next ns) (Table next' ns') n m e = cores_same (CoreTable next ns) (CoreTable next' ns') e
   same_in (Table next ns) (Leaf out attrs share global contiguous) n m e = absurd (true≢false e)
   same_in (Leaf out attrs share global contiguous) (Table next ns) n m e = absurd (true≢false e)
   same_in (Leaf out attrs share global contiguous) (Leaf out' attrs' share' global' contiguous') n m e =
-      same (CoreLeaf out attrs share global contiguous) (CoreLeaf out' attrs' share' global' contiguous') e
-    where
-      same : (c c' : Core) → differ (Some c) (Some c') ≡ false → desc_with c ≡ desc_with c'
-      same c c' e = ap desc_with (k.same_cores c c' (not-false (same_core c c') e))
+      cores_same (CoreLeaf out attrs share global contiguous) (CoreLeaf out' attrs' share' global' contiguous') e
 
   -- valid values that don't need break-before-make mean the same, but for what is in no core
-  pub same_desc : (kind : Kind) (level a c : ℕ) → is_valid kind level a ≡ true → is_valid kind level c ≡ true
+  pub means_same : (kind : Kind) (level a c : ℕ) → is_valid kind level a ≡ true → is_valid kind level c ≡ true
       → needs kind level a c ≡ false → desc_of kind level a ≡ desc_of kind level c
-  same_desc kind level a c va vc e =
+  means_same kind level a c va vc e =
       same_in (desc_of kind level a) (desc_of kind level c) (not_invalid (form_of level a) kind level a va)
       (not_invalid (form_of level c) kind level c vc) e
+
+module _ (heading : Heading) (trust : Trust) (k : Known heading trust) where
+  pub same_desc : (kind : Kind) (level a c : ℕ) → is_valid kind level a ≡ true → is_valid kind level c ≡ true
+      → needs kind level a c ≡ false → desc_of kind level a ≡ desc_of kind level c
+  same_desc = means_same k.same_cores
 
   -- two values that have the core of a third one
   pub no_need : (kind : Kind) (level c u v : ℕ) → is_valid kind level c ≡ true → needs kind level c u ≡ false

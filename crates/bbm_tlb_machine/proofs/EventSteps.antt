@@ -10,10 +10,11 @@ use Rattle.bbm_tlb_machine.specs.Entry.{Entry, Part, head_of, parts_of, tag_of_e
 use Rattle.bbm_tlb_machine.specs.Invariant.{Fine, Holding, IsAt}
 use Rattle.bbm_tlb_machine.specs.KnownOfMachine.{Known}
 use Rattle.bbm_tlb_machine.proofs.Descs.{no_need}
-use Rattle.bbm_tlb_machine.proofs.Facts.{held_there, held_valid, keeps_older, tag_now}
+use Rattle.bbm_tlb_machine.proofs.Facts.{held_there, held_valid, tag_now}
 use Rattle.bbm_tlb_machine.proofs.InTrees.{all_placed}
 use Rattle.bbm_tlb_machine.proofs.Patterns.{LeavesIt, joined_before_after, made_before_after, tagged_after}
 use Rattle.bbm_tlb_machine.proofs.Patterns.{uncleansed_after}
+use Rattle.bbm_histories.proofs.Induction.{kept_before}
 
 pub tag_kind : (kind : Kind) (e : EntryHead) → kind_of_tag (tag_of kind e) ≡ kind
 tag_kind El2 e = refl
@@ -23,8 +24,8 @@ tag_kind Ttbr1 e = refl
 
 module _ (heading : Heading) (trust : Trust) (k : Known heading trust) (h : List Event) (e : Event)
     (kept : keeps heading trust (e ∷ h) ≡ true) (x : Entry) (f : Fine heading trust h x) (none : LeavesIt heading h e x) where
-  kept_before : keeps heading trust h ≡ true
-  kept_before = keeps_older heading trust (e ∷ []) h kept
+  kept_then : keeps heading trust h ≡ true
+  kept_then = kept_before heading trust (e ∷ []) h kept
 
   module _ (part : Part) (i : Contains (parts_of x) part) where
     -- after a DSB the place still holds something, since it isn't cleansed at the entry's PE
@@ -50,7 +51,7 @@ module _ (heading : Heading) (trust : Trust) (k : Known heading trust) (h : List
           last_write = l;
           p = x.pe;
           is_pe = f.shape.is_pe;
-          uncleansed = uncleansed_after heading trust k h e kept_before x f none part i w last x.pe (inl refl);
+          uncleansed = uncleansed_after heading trust k h e kept_then x f none part i w last x.pe (inl refl);
         }) in
         let apart : None ≡ Some b.0.value = sym gone ∙ holds in
         cc
@@ -69,7 +70,7 @@ module _ (heading : Heading) (trust : Trust) (k : Known heading trust) (h : List
         q = f.holding part i
 
         was : held_at heading trust (noted heading trust h) (f.placed part i).node part.place ≡ Some (f.holding part i).value
-        was = held_there heading trust k h kept_before x part (f.placed part i).node at (f.holding part i).value (f.holding part i).holds
+        was = held_there heading trust k h kept_then x part (f.placed part i).node at (f.holding part i).value (f.holding part i).holds
 
         there : held heading trust part.kind part.level part.place (noted heading trust (e ∷ h))
             ≡ held_at heading trust (noted heading trust (e ∷ h)) (f.placed part i).node part.place
@@ -90,7 +91,7 @@ module _ (heading : Heading) (trust : Trust) (k : Known heading trust) (h : List
               value = w.1;
               holds = there ∙ w.4;
               same_core = no_need heading trust k part.kind part.level (f.holding part i).value w.1 part.value
-                  (held_valid heading trust k h kept_before x part (f.holding part i))
+                  (held_valid heading trust k h kept_then x part (f.holding part i))
                   (subst (λ (c : Kind). needs c part.level (f.holding part i).value w.1 ≡ false) at.kind
                   (subst (λ (l : ℕ). needs (f.placed part i).node.kind l (f.holding part i).value w.1 ≡ false) at.level no))
                   (f.holding part i).same_core;
@@ -99,7 +100,7 @@ module _ (heading : Heading) (trust : Trust) (k : Known heading trust) (h : List
 
   pub fine_after : Fine heading trust (e ∷ h) x
   fine_after =
-      let tagged = tagged_after heading trust k h e kept_before x f none in
+      let tagged = tagged_after heading trust k h e kept_then x f none in
       let made : x.since ≤ suc (length h) = omega (arith, f.shape.made) in
       let joined : x.joined ≤ suc (length h) = omega (arith, f.shape.joined) in
       let declared : is_root (e ∷ h) x.last.kind x.root ≡ true
@@ -119,8 +120,8 @@ module _ (heading : Heading) (trust : Trust) (k : Known heading trust) (h : List
         placed = all_placed heading trust k (e ∷ h) kept x x.last.kind declared x.last x.above refl f.shape.begins f.shape.chained
             holding_after f.shape.valid;
         holding = holding_after;
-        uncleansed = uncleansed_after heading trust k h e kept_before x f none;
+        uncleansed = uncleansed_after heading trust k h e kept_then x f none;
         tagged = tagged;
-        made_before = made_before_after heading trust k h e kept_before x f none;
-        joined_before = joined_before_after heading trust k h e kept_before x f none;
+        made_before = made_before_after heading trust k h e kept_then x f none;
+        joined_before = joined_before_after heading trust k h e kept_then x f none;
       }

@@ -1,23 +1,16 @@
 -- What a fine entry gives at once: the node, the value and the tag of its parts, in one place.
-use Rattle.bbm_rules.proofs.Common.{◌≡◌, ℕ, ◌≤◌, true, false, List, [], ◌∷◌, ◌++◌, length, Some, is_none, refl, sym}
-use Rattle.bbm_rules.proofs.Common.{◌∙◌, ap, arith, true≢false, and_parts, and_right, Kind, desc_of, is_valid, TagSet}
-use Rattle.bbm_rules.proofs.Common.{One, Many, keeps, Trust, is_global, noted, held, Noted, Heading, Ttbr0, Event}
-use Rattle.bbm_rules.proofs.Common.{holds_at, holds_tag, tag_set, tags_of, Node, held_at, pe_finds, contains_head}
+use Rattle.bbm_rules.proofs.Common.{◌≡◌, ℕ, ◌≤◌, true, false, List, [], ◌++◌, length, Some, refl, sym, ◌∙◌, ap, arith}
+use Rattle.bbm_rules.proofs.Common.{true≢false, and_right, Kind, desc_of, is_valid, TagSet, One, Many, keeps, Trust}
+use Rattle.bbm_rules.proofs.Common.{is_global, noted, held, Noted, Heading, Ttbr0, Event, holds_at, holds_tag, tag_set}
+use Rattle.bbm_rules.proofs.Common.{tags_of, Node, held_at, pe_finds, contains_head}
 use Rattle.bbm_tlbi_scope.specs.Agreement.{HasTag}
 use Rattle.bbm_tlbi_scope.specs.declared.entry.TagSet.TheVariants.{None as NoTag}
 use Rattle.bbm_tlbi_scope.specs.Takes.{is_global_leaf}
-use Rattle.bbm_rules.specs.Broken.{broken}
 use Rattle.bbm_tlb_machine.specs.Entry.{Entry, Part, desc_in, head_of, is_leaf, tag_of_entry}
 use Rattle.bbm_tlb_machine.specs.Invariant.{Fine, Holding, IsAt, Placed, Tagged}
 use Rattle.bbm_tlb_machine.specs.KnownOfMachine.{Known}
 use Rattle.bbm_tlb_machine.proofs.Descs.{same_desc}
 use Rattle.bbm_tlb_machine.proofs.Elements.{Between, between_splits}
-
-module _ (heading : Heading) (trust : Trust) where
-  pub keeps_older : (newer older : List Event) → keeps heading trust (newer ++ older) ≡ true → keeps heading trust older ≡ true
-  keeps_older [] older e = e
-  keeps_older (n ∷ newer) older e =
-      keeps_older newer older (and_parts (keeps heading trust (newer ++ older)) (is_none (broken heading trust (newer ++ older) n)) e).0
 
 module _ (heading : Heading) (trust : Trust) (k : Known heading trust) (h : List Event) (kept : keeps heading trust h ≡ true) (x : Entry) where
   abbrev notes : List Noted

@@ -11,7 +11,7 @@ mod CasesReads
 mod CasesShare
 mod CasesVmids
 mod Covered
-mod Descs
+pub mod Descs
 mod Elements
 mod EventSteps
 mod Facts
@@ -29,7 +29,7 @@ mod Regions
 mod RootSizes
 mod Roots
 mod RunLaw
-mod RunTexts
+pub mod RunTexts
 mod Runs
 mod SafeLaw
 mod Scopes

@@ -1,12 +1,12 @@
 -- One look back at an event, by the event.
 use Rattle.bbm_rules.proofs.Common.{◌≡◌, ℕ, suc, ◌+◌, ◌<◌, Bool, true, false, cond, ◌&&◌, ◌||◌, ◌==◌, List, [], ◌∷◌}
-use Rattle.bbm_rules.proofs.Common.{length, take, drop, get_or, reverse, refl, sym, ◌∙◌, ap, true≢false, add-one}
-use Rattle.bbm_rules.proofs.Common.{eq-eqb, eqb-true, false_from_ne_true, or_left, reverse-append, take_more, proved}
-use Rattle.bbm_rules.proofs.Common.{If, Is, among, page_of, Barrier, Heading, Event, Init, Write, Dsb, published}
-use Rattle.bbm_rules.proofs.Common.{publishes_to, readable_before, or-false}
+use Rattle.bbm_rules.proofs.Common.{length, take, drop, get_or, reverse, refl, sym, ◌∙◌, ap, add-one, eq-eqb, or_left}
+use Rattle.bbm_rules.proofs.Common.{reverse-append, take_more, proved, If, Is, among, page_of, Barrier, Heading, Event}
+use Rattle.bbm_rules.proofs.Common.{Init, Write, Dsb, published, publishes_to, readable_before, or-false}
 use Rattle.std.proofs.Common.{drop-cons}
 use Rattle.std.proofs.Math.Bool.{or_comm}
 use Rattle.bbm_rules.specs.Values.{publishes_for}
+use Rattle.bbm_lemmas.proofs.Numbers.{same_swapped}
 
 -- a write at the place
 at_write : (v value : ℕ) (rest : List ℕ) (gone : Bool) → (v == value) ≡ false
@@ -61,14 +61,6 @@ init_here heading p place value later older q page e =
     ap (λ b. among value (cond b (0 ∷ []) (readable_before heading (Init q page ∷ later) older place p))) e
     ∙ or-false (0 == value)
 
--- the marks after a DSB
-same_test : (a b : ℕ) → (a == b) ≡ (b == a)
-same_test a b = by (a == b) refl
-  where
-    by : (t : Bool) → (a == b) ≡ t → (a == b) ≡ (b == a)
-    by true e = e ∙ sym (eq-eqb b a (sym (eqb-true a b e)))
-    by false e = e ∙ sym (false_from_ne_true (b == a) (λ k. true≢false (sym (eq-eqb a b (sym (eqb-true b a k))) ∙ e)))
-
 and_one : (a b : Bool) → b ≡ true → (a && b) ≡ a
 and_one = proved 2 (λ a b. If (Is b true) (Is (a && b) a)) refl
 
@@ -85,7 +77,7 @@ marks_more heading p by dsb later q old now e g k =
     g ∙ (ap (λ b. b || q == by) e
     ∙ (or_comm (published heading q p later) (q == by)
     ∙ ap (λ b. b || published heading q p later)
-    (same_test q by ∙ sym (and_one (by == q) (publishes_to heading dsb by p) (self_and by (publishes_to heading dsb by p) true k)))))
+    (same_swapped q by ∙ sym (and_one (by == q) (publishes_to heading dsb by p) (self_and by (publishes_to heading dsb by p) true k)))))
 
 pub marks_same : (heading : Heading) (p by : ℕ) (dsb : Barrier) (later : List Event) (q : ℕ) (old : Bool)
     → old ≡ published heading q p later

@@ -8,6 +8,7 @@ use Rattle.bbm_tlb_machine.specs.MachinePendings.{IsPending, Pending, is_answere
 use Rattle.bbm_tlb_machine.specs.MachinePendings.{pending_of}
 use Rattle.bbm_tlb_machine.specs.MachineRun.{Living, State, leaves_some}
 use Rattle.bbm_tlb_machine.specs.Step.{must_go, takes_by}
+use Rattle.bbm_lemmas.proofs.Tests.{any_map, any_same}
 
 -- a TLBI without a scope takes nothing
 pub never : (heading : Heading) (p : Pending) (x : Entry) → p.scope ≡ None → false ≡ must_leave heading p x
@@ -33,14 +34,6 @@ any_filter : {X : Type 0} (i c m : X → Bool) (xs : List X)
 any_filter i c m [] = refl
 any_filter i c m (x ∷ xs) = any_step i c m x xs (filter i xs) (i x) refl (any_filter i c m xs)
 
-pub any_map : {X Y : Type 0} (f : X → Y) (p : Y → Bool) (xs : List X) → any p (map f xs) ≡ any (λ x. p (f x)) xs
-any_map f p [] = refl
-any_map f p (x ∷ xs) = ap (λ b. p (f x) || b) (any_map f p xs)
-
-any_same : {X : Type 0} (p q : X → Bool) → ((x : X) → p x ≡ q x) → (xs : List X) → any p xs ≡ any q xs
-any_same p q same [] = refl
-any_same p q same (x ∷ xs) = ap (λ b. b || any p xs) (same x) ∙ ap (λ b. q x || b) (any_same p q same xs)
-
 module _ (heading : Heading) where
   leave_is : (e : Event) (before : List Event) (x : Entry)
       → must_leave heading (pending_of heading (record { tlbi = e; before = before })) x
@@ -54,12 +47,11 @@ module _ (heading : Heading) where
   left s q dsb pending stands =
       any_filter (λ (p : Pending). p.issuer == q) (λ (p : Pending). completes dsb p.tlbi) (leaves_by heading s.living) pending
       ∙ (ap (any (λ (p : Pending). completes dsb p.tlbi && leaves_by heading s.living p)) (stands q)
-      ∙ (any_map (pending_of heading) (λ (p : Pending). completes dsb p.tlbi && leaves_by heading s.living p) (unanswered itself q s.log)
+      ∙ (any_map (λ (p : Pending). completes dsb p.tlbi && leaves_by heading s.living p) (pending_of heading) (unanswered itself q s.log)
       ∙ any_same _ (λ (t : Issued Event). completes dsb t.tlbi && any (λ (l : Living). must_go heading t l.entry) s.living)
-      (λ t. ap (λ b. completes dsb t.tlbi && b)
+      (unanswered itself q s.log) (λ t. ap (λ b. completes dsb t.tlbi && b)
       (any_same (λ (l : Living). must_leave heading (pending_of heading t) l.entry) (λ (l : Living). must_go heading t l.entry)
-      (λ l. leave_is t.tlbi t.before l.entry) s.living))
-      (unanswered itself q s.log)))
+      s.living (λ l. leave_is t.tlbi t.before l.entry)))))
 
   -- a TLBI more
   add : (q pe : ℕ) (b : Bool) (new : Issued Event) (ps : List Pending) (ts : List (Issued Event))

@@ -6,7 +6,7 @@ use Rattle.bbm_rules.proofs.Common.{limit_of, AtEnd, AtEvents, AtHeader, Decides
 use Rattle.bbm_rules.proofs.Common.{after_item, after_judged, after_kept, after_line, cut_at, events_in, is_too_long}
 use Rattle.bbm_rules.proofs.Common.{limit_at, text_of, too_long_at, verdict_of_bytes, Heading, Event, contains_cases}
 use Rattle.bbm_rules.proofs.Common.{contains_none}
-use Rattle.bbm_events.specs.LineLaws.{HeadersAreInRange, ItemsFit}
+use Rattle.bbm_events.specs.LineLaws.{LineLaws}
 use Rattle.bbm_events.specs.Lines.{header_of, item_of}
 use Rattle.bbm_events.specs.declared.event.Item.TheVariants as item
 use Rattle.bbm_events.specs.declared.malformed.Malformed.{Malformed as Cause}
@@ -17,11 +17,6 @@ use Rattle.bbm_rules.specs.declared.verdict.Verdict.{Verdict}
 use Rattle.bbm_rules.specs.declared.verdict.Verdict.TheVariants.{Accepted, Malformed}
 use Rattle.bbm_tlb_machine.specs.Accepted.{SafeBytes}
 use Rattle.bbm_tlb_machine.specs.Safe.{IsLog, Safe}
-
--- the laws of the lines of a log
-pub record LineLaws : Type 0 where
-  pub header : HeadersAreInRange
-  pub item : ItemsFit
 
 module _ (laws : LineLaws) (trust : Trust) (limits : Limits) (heading : Heading) where
   -- the events are a log of the header that keeps the rules

@@ -17,11 +17,12 @@ use Rattle.bbm_tlb_machine.specs.MachineRun.{IsRun, Leads, LeavesNone, Living, S
 use Rattle.bbm_tlb_machine.specs.Safe.{ComesTo, IsLog, Safe}
 use Rattle.bbm_tlb_machine.proofs.Descs.{no_need}
 use Rattle.bbm_tlb_machine.proofs.EventSteps.{fine_after}
-use Rattle.bbm_tlb_machine.proofs.Facts.{held_there, held_valid, keeps_older, tag_now}
+use Rattle.bbm_tlb_machine.proofs.Facts.{held_there, held_valid, tag_now}
 use Rattle.bbm_tlb_machine.proofs.Made.{fine_combined, fine_extended, fine_shared, fine_start}
 use Rattle.bbm_tlb_machine.proofs.Patterns.{LeavesIt, tagged_after}
 use Rattle.bbm_tlb_machine.proofs.Taken.{taken}
 use Rattle.bbm_lemmas.proofs.Elements.{contains_after}
+use Rattle.bbm_histories.proofs.Induction.{kept_before}
 
 -- ---- entries by number
 
@@ -120,7 +121,7 @@ module _ (heading : Heading) (trust : Trust) (k : Known heading trust) where
       let older : IsLog heading s.log
       = record { header = log'.header; events = λ y i. log'.events y (contains_more s.log e y i) } in
       λ l i. fine_after heading trust k s.log e kept' l.entry
-      (before older (keeps_older heading trust (e ∷ []) s.log kept') l i) (leaves_it s e leads.0 l i))
+      (before older (kept_before heading trust (e ∷ []) s.log kept') l i) (leaves_it s e leads.0 l i))
 
   pub run_fine : (steps : List Step) (s : State) → IsLog heading s.log → keeps heading trust s.log ≡ true
       → IsRun heading steps s → AllFine s
@@ -140,7 +141,7 @@ module _ (heading : Heading) (trust : Trust) (k : Known heading trust) where
     no_stale : (pe place value : ℕ) → keeps heading trust (Write pe place value ∷ s.log) ≡ true → (part : Part)
         → Contains (parts_of x) part → part.place ≡ place → needs part.kind part.level part.value value ≡ false
     no_stale pe place value kept part i e =
-        let older : keeps heading trust s.log ≡ true = keeps_older heading trust (Write pe place value ∷ []) s.log kept in
+        let older : keeps heading trust s.log ≡ true = kept_before heading trust (Write pe place value ∷ []) s.log kept in
         let p : Placed heading trust s.log x.root part = f.placed part i in
         let q : Holding heading trust s.log part = f.holding part i in
         let node : node_of heading trust (noted heading trust s.log) (page_of place) ≡ Some p.node
@@ -178,7 +179,7 @@ module _ (heading : Heading) (trust : Trust) (k : Known heading trust) where
     no_other : (pe value : ℕ) (reg : Reg) → pe < heading.pes → keeps heading trust (Msr pe reg value ∷ s.log) ≡ true → (r : Reading)
         → Contains (readings heading (Msr pe reg value ∷ s.log) pe) r → r.tag ≡ tag_of_entry x → r.root ≡ x.root
     no_other pe value reg is_pe kept r i e =
-        let older : keeps heading trust s.log ≡ true = keeps_older heading trust (Msr pe reg value ∷ []) s.log kept in
+        let older : keeps heading trust s.log ≡ true = kept_before heading trust (Msr pe reg value ∷ []) s.log kept in
         let none : LeavesIt heading s.log (Msr pe reg value) x = λ q dsb is. absurd (apart q dsb is) in
         let tagged = tagged_after heading trust k s.log (Msr pe reg value) older x f none in
         let made : x.since ≤ length (Msr pe reg value ∷ s.log) = omega (arith, f.shape.made) in
@@ -212,7 +213,7 @@ module _ (heading : Heading) (trust : Trust) (k : Known heading trust) where
   module _ (log : List Event) (is_log : IsLog heading log) (kept : keeps heading trust log ≡ true) (s : State) (e : Event)
       (c : ComesTo heading log s e) where
     kept_to : keeps heading trust (e ∷ s.log) ≡ true
-    kept_to = keeps_older heading trust c.later (e ∷ s.log) (subst (λ (es : List Event). keeps heading trust es ≡ true) c.split kept)
+    kept_to = kept_before heading trust c.later (e ∷ s.log) (subst (λ (es : List Event). keeps heading trust es ≡ true) c.split kept)
 
     log_to : (y : Event) → Contains (e ∷ s.log) y → fits_heading heading y ≡ true
     log_to y i = is_log.events y (subst (λ (es : List Event). Contains es y) (sym c.split) (contains_after c.later (e ∷ s.log) y i))
@@ -220,7 +221,7 @@ module _ (heading : Heading) (trust : Trust) (k : Known heading trust) where
     fine_to : AllFine s
     fine_to =
         run_fine c.steps s (record { header = is_log.header; events = λ y i. log_to y (contains_more s.log e y i) })
-        (keeps_older heading trust (e ∷ []) s.log kept_to) c.run
+        (kept_before heading trust (e ∷ []) s.log kept_to) c.run
 
   pub safe_log : (log : List Event) → IsLog heading log → keeps heading trust log ≡ true → Safe heading log
   safe_log log is_log kept = record {

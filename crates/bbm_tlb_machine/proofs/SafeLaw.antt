@@ -15,6 +15,7 @@ use Rattle.bbm_tlb_machine.specs.First.{IsFirstConflict}
 use Rattle.bbm_tlb_machine.proofs.ListWords.{any_none, is_none, none_in}
 use Rattle.bbm_tlb_machine.proofs.RunLaw.{run_complete, run_sound}
 use Rattle.bbm_lemmas.proofs.Bools.{second_false, and_apart}
+use Rattle.bbm_histories.proofs.Induction.{if_none}
 
 module _ (heading : Heading) (tests : TestsAreExact) where
   -- one entry
@@ -97,10 +98,6 @@ module _ (heading : Heading) where
   earlier_none None p k = (refl, k)
   earlier_none (Some i) p k = cc
 
-  if_so_none : (b : Bool) (i : ℕ) → if_so b i ≡ None → b ≡ false
-  if_so_none true i k = cc
-  if_so_none false i k = refl
-
   none_sound : (steps : List Step) → first_conflict heading steps ≡ None → (newer : List Step) (e : Event) (older : List Step)
       (s : State) → steps ≡ newer ++ Taken e ∷ older → IsRun heading older s → in_conflict heading s e ≡ false
   none_sound steps k newer e older s split run =
@@ -109,7 +106,7 @@ module _ (heading : Heading) where
     where
       at : (newer : List Step) → first_conflict heading (newer ++ Taken e ∷ older) ≡ None
           → fails_at heading (follow_steps heading older) (Taken e) ≡ false
-      at [] k = if_so_none _ (length older) (earlier_none _ _ k).1
+      at [] k = if_none _ (length older) (earlier_none _ _ k).1
       at (x ∷ newer) k = at newer (earlier_none _ _ k).0
 
   -- what failed at a step

@@ -4,7 +4,6 @@ use Rattle.bbm_certify.proofs.known.known.Goals as goal
 pub returns : goal.returns
 returns c heading ok = record {
   proper = c.law_proper.ensures heading ok;
-  was_node = λ h q dsb kept n k. (((c.law_tree_step.ensures heading Patterns).dsb h q dsb kept n).0 k).0;
   alike_joins = c.law_alike_joins.ensures heading;
   alike_judges = c.law_alike_judges.ensures heading Patterns;
   alike_step = c.law_alike_step.ensures heading Patterns;
@@ -16,11 +15,11 @@ returns c heading ok = record {
   one_node = c.law_one_node.ensures heading Patterns;
   one_position = c.law_one_position.ensures heading Patterns;
   pattern_steps = c.law_pattern_steps.ensures heading;
-  seen = c.law_seen.ensures heading;
   tag_claim_steps = c.law_tag_claim_steps.ensures heading;
   tag_held = c.law_tag_held.ensures heading Patterns;
   tag_steps = c.law_tag_steps.ensures heading;
   tags = c.law_tags.ensures heading Patterns;
   takes_alike = c.law_takes_alike.ensures heading;
   tree = c.law_tree.ensures heading Patterns;
+  tree_step = c.law_tree_step.ensures heading Patterns;
 }

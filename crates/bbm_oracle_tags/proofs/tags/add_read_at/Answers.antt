@@ -1,6 +1,6 @@
 use Rattle.bbm_rules.proofs.Common.{◌∷◌, take, reverse, arith}
 use Rattle.bbm_oracle_tags.specs.Moments.{IsMoment}
-use Rattle.bbm_oracle_tags.proofs.ListLemmas.{reverse-more}
+use Rattle.bbm_lemmas.proofs.Reversed.{reverse_more}
 use Rattle.bbm_oracle_tags.proofs.tags.add_read_at.Goals as goal
 
 pub loop-event-preserved : goal.loop-event-preserved
@@ -12,7 +12,7 @@ loop-event-preserved c =
       first = c.in_ok-take.ensures.first h old.moment.first;
       second = c.in_ok-take.ensures.second h old.moment.second;
     } in
-    let more = reverse-more c.args.events.now c.loop-event.event-index c.event-item.result
+    let more = reverse_more c.args.events.now c.loop-event.event-index c.event-item.result
     (omega arith) c.event-item.is in
     rw (← more) (record {
       moment = moment;

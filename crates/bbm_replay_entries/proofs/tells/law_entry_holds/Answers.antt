@@ -2,7 +2,7 @@ use Rattle.bbm_rules.proofs.Common.{◌≡◌, ℕ, refl, ap, ◌∙◌, sym, op
 use Rattle.bbm_rules.proofs.Common.{desc_with, Core, Desc, Invalid, Table, Leaf, Kind, next_in, next_of}
 use Rattle.bbm_descriptor.specs.Descriptor.{core_in as core_of_desc}
 use Rattle.bbm_descriptor.specs.declared.desc.Core.TheVariants.{Table as CoreTable, Leaf as CoreLeaf}
-use Rattle.bbm_replay_entries.specs.EntryStands.{held_now, next_of_core}
+use Rattle.bbm_replay_entries.specs.EntryStands.{held_now}
 use Rattle.bbm_replay_entries.proofs.Places.{holds_core, present_core}
 use Rattle.bbm_replay_entries.proofs.tells.law_entry_holds.Goals as goal
 
@@ -12,12 +12,16 @@ fields (Table next ns) core e = let same : CoreTable next ns ≡ core = cc in ap
 fields (Leaf out attrs share global contiguous) core e =
     let same : CoreLeaf out attrs share global contiguous ≡ core = cc in ap desc_with same
 
-next_fields : (desc : Desc) → next_in desc ≡ next_of_core (core_of_desc desc)
+-- the next page by the core of a descriptor
+abbrev by_core : Option Core → Option ℕ
+by_core o = option_and_then (λ core. next_in (desc_with core)) o
+
+next_fields : (desc : Desc) → next_in desc ≡ by_core (core_of_desc desc)
 next_fields Invalid = refl
 next_fields (Table next ns) = refl
 next_fields (Leaf out attrs share global contiguous) = refl
 
-next_held : (kind : Kind) (level : ℕ) (o : Option ℕ) → option_and_then (next_of kind level) o ≡ next_of_core (option_and_then (core_of kind level) o)
+next_held : (kind : Kind) (level : ℕ) (o : Option ℕ) → option_and_then (next_of kind level) o ≡ by_core (option_and_then (core_of kind level) o)
 next_held kind level None = refl
 next_held kind level (Some value) = next_fields (desc_of kind level value)
 
@@ -28,7 +32,7 @@ returns c heading = let k = c.known.ensures heading in record {
       fields (desc_of kind level value) core
       (sym (ap (option_and_then (core_of kind level)) holds) ∙ (sym s.core ∙ is));
   next = λ h kind level place state pends s.
-      next_held kind level (held_now heading h kind level place) ∙ sym (ap next_of_core s.core);
+      next_held kind level (held_now heading h kind level place) ∙ sym (ap by_core s.core);
   present = λ h kind level place state pends pes s unbroken.
       present_core heading k kind level place h state pends pes s unbroken;
 }

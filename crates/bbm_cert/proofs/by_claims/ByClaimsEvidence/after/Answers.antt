@@ -1,7 +1,7 @@
 use Rattle.bbm_cert.proofs.Common.{note_of, notes_of, ends_now, tells, Cleansing}
 use Rattle.bbm_rules.proofs.Common.{List, Bool, ◌||◌, length, reverse, ◌∙◌, ap, arith, list_any, length-reverse}
 use Rattle.bbm_cert.proofs.Cleansed.{tell_next}
-use Rattle.bbm_cert.proofs.Kepts.{length_events}
+use Rattle.bbm_oracle_patterns.proofs.KeptNotes.{length_events}
 use Rattle.bbm_cert.proofs.by_claims.ByClaimsEvidence.after.Goals as goal
 
 pub returns-clause-taken : goal.returns-clause-taken

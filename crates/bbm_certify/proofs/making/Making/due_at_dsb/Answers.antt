@@ -2,8 +2,9 @@ use Rattle.bbm_certify.proofs.Common.{Holding, notes_of, notes, IsNewest, AreDue
 use Rattle.bbm_rules.proofs.Common.{ℕ, ◌-◌, ◌<◌, List, length, reverse, take, ap, subst, sym, ◌∙◌, arith}
 use Rattle.bbm_rules.proofs.Common.{length-reverse, Patterns, note, noted, Event, Dsb}
 use Rattle.bbm_certify.specs.DueAt.{AreDue as ArePlaces}
-use Rattle.bbm_certify.proofs.Finished.{due_here, length_events, newest_is}
+use Rattle.bbm_certify.proofs.Finished.{due_here, newest_is}
 use Rattle.bbm_certify.proofs.making.Making.due_at_dsb.Goals as goal
+use Rattle.bbm_oracle_patterns.proofs.KeptNotes.{length_events}
 
 pub add_tags-requires-clause-some : goal.add_tags-requires-clause-some
 add_tags-requires-clause-some c =

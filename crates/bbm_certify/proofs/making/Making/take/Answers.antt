@@ -1,6 +1,7 @@
 use Rattle.bbm_rules.proofs.Common.{◌<◌, suc, length, ap, ◌∙◌, arith}
-use Rattle.bbm_certify.proofs.Finished.{length_notes, making_next}
+use Rattle.bbm_certify.proofs.Finished.{making_next}
 use Rattle.bbm_certify.proofs.making.Making.take.Goals as goal
+use Rattle.bbm_oracle_patterns.proofs.KeptNotes.{length_notes}
 
 pub due-requires-clause-few : goal.due-requires-clause-few
 due-requires-clause-few c =

@@ -1,4 +1,4 @@
-use Rattle.bbm_idle.proofs.Common.{notes_of, notes, needed_by, place_adds, is_needed, Seat}
+use Rattle.bbm_idle.proofs.Common.{notes_of, notes, needed_by, place_adds, is_needed, TreePlace}
 use Rattle.bbm_rules.proofs.Common.{◌≡◌, ℕ, Bool, List, reverse, sym, ap, ◌∙◌, IfOk-weaker, Cover, cover_at, note, any}
 use Rattle.bbm_rules.proofs.Common.{some_pe, Heading}
 use Rattle.bbm_regimes.specs.PeMask.{pe_in}
@@ -19,7 +19,7 @@ returns-clause-needed c =
     (ap notes_of c.log.ensures ∙ c.in_ok-take.ensures.taken) p
     ∙ ap (λ (g : Heading). any (place_adds g (notes past) covers p) c.deref-3.result.now)
     (sym c.requires.stands.history.kept.heading_is)
-    ∙ ap (λ (ss : List Seat). any (place_adds past.heading (notes past) covers p) ss) c.deref-3.ensures.value
+    ∙ ap (λ (ss : List TreePlace). any (place_adds past.heading (notes past) covers p) ss) c.deref-3.ensures.value
     ∙ c.in_ok-seats.ensures p covers
     ∙ adds_stand past c.args.header.now h c.args.event.now p c.deref.result.now c.requires.stands.history
     (c.deref.ensures.value ∙ c.requires.stands.written)))
