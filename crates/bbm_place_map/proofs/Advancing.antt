@@ -2,7 +2,7 @@
 use Rattle.bbm_place_map.proofs.Common.{◌≡◌, ◌≢◌, ℕ, ◌+◌, ◌<◌, ◌≤◌, nat_eq, List, length, Option, Some, None, refl, ap}
 use Rattle.bbm_place_map.proofs.Common.{sym, subst, ◌∙◌, arith, inl, inr, if◌then◌else◌, slice_get, unwrap_or}
 use Rattle.bbm_place_map.proofs.Common.{option_map, cases_eq, cases_lt, eq-eqb, ne_eqb, cond-true, cond-false}
-use Rattle.bbm_place_map.proofs.Common.{slice_get_past, seat, entry_of, Advances, Entry}
+use Rattle.bbm_place_map.proofs.Common.{slice_get_past, position, entry_of, Advances, Entry}
 
 pub at_both : (R : Entry → Entry → Type 0) (a a' b b' : Option Entry) → a ≡ a' → b ≡ b' → Advances R a' b' → Advances R a b
 at_both R a a' b b' is is' h =
@@ -13,7 +13,7 @@ at_both R a a' b b' is is' h =
 module _ (R : ℕ → Entry → Entry → Type 0) (start mid new : List Entry) (k : ℕ) (e f : Entry)
     (done : (m : ℕ) → m < k → Advances (R m) (slice_get start m) (slice_get mid m))
     (rest : (m : ℕ) → k ≤ m → slice_get mid m ≡ slice_get start m)
-    (was : slice_get mid k ≡ Some e) (seated : seat f ≡ seat e) (related : R k e f)
+    (was : slice_get mid k ≡ Some e) (seated : position f ≡ position e) (related : R k e f)
     (gets : (i : ℕ) → slice_get new i ≡ (if nat_eq i k then Some f else slice_get mid i)) where
   here : slice_get new k ≡ Some f
   here = gets k ∙ cond-true (nat_eq k k) (Some f) (slice_get mid k) (eq-eqb k k refl)
@@ -46,20 +46,20 @@ all_done R start new k whole done rest m =
           at_both (R m) (slice_get start m) None (slice_get new m) None past (rest m above ∙ past) tt
     ]
 
-pub seat_kept : (R : Entry → Entry → Type 0) (o p : Option Entry) → Advances R o p → option_map seat p ≡ option_map seat o
-seat_kept R None None h = refl
-seat_kept R None (Some f) h = absurd h
-seat_kept R (Some e) None h = absurd h
-seat_kept R (Some e) (Some f) h = ap (λ (s : ℕ × ℕ). Some s) h.0
+pub position_kept : (R : Entry → Entry → Type 0) (o p : Option Entry) → Advances R o p → option_map position p ≡ option_map position o
+position_kept R None None h = refl
+position_kept R None (Some f) h = absurd h
+position_kept R (Some e) None h = absurd h
+position_kept R (Some e) (Some f) h = ap (λ (s : ℕ × ℕ). Some s) h.0
 
-place_seat : (o : Option Entry) → unwrap_or (option_map (λ (e : Entry). e.place) o) 0 ≡ unwrap_or (option_map (λ (s : ℕ × ℕ). s.0) (option_map seat o)) 0
-place_seat None = refl
-place_seat (Some e) = refl
+place_position : (o : Option Entry) → unwrap_or (option_map (λ (e : Entry). e.place) o) 0 ≡ unwrap_or (option_map (λ (s : ℕ × ℕ). s.0) (option_map position o)) 0
+place_position None = refl
+place_position (Some e) = refl
 
-pub place_kept : (o p : Option Entry) → option_map seat p ≡ option_map seat o
+pub place_kept : (o p : Option Entry) → option_map position p ≡ option_map position o
     → unwrap_or (option_map (λ (e : Entry). e.place) p) 0 ≡ unwrap_or (option_map (λ (e : Entry). e.place) o) 0
 place_kept o p same =
-    place_seat p ∙ ap (λ (s : Option (ℕ × ℕ)). unwrap_or (option_map (λ (t : ℕ × ℕ). t.0) s) 0) same ∙ sym (place_seat o)
+    place_position p ∙ ap (λ (s : Option (ℕ × ℕ)). unwrap_or (option_map (λ (t : ℕ × ℕ). t.0) s) 0) same ∙ sym (place_position o)
 
 -- of a cell, and of a place
 pub of_cell : (R : Entry → Entry → Type 0) (old new : List Entry) → ((k : ℕ) → Advances R (slice_get old k) (slice_get new k))

@@ -2,12 +2,13 @@
 use Rattle.bbm_place_map.proofs.Common.{◌≡◌, ◌≢◌, ℕ, Bool, true, false, nat_eq, List, [], length, Option, Some, None}
 use Rattle.bbm_place_map.proofs.Common.{refl, ap, sym, subst, ◌∙◌, if◌then◌else◌, slice_get, option_map, eq-eqb, ne_eqb}
 use Rattle.bbm_place_map.proofs.Common.{cond-true, cond-false, Completed, waits, Pends, Clean, Broken, slot_in}
-use Rattle.bbm_place_map.proofs.Common.{Completes, loses_table, is_table, pends_in, no_pends, seat, seat_at, cell_at}
+use Rattle.bbm_place_map.proofs.Common.{Completes, loses_table, is_table, pends_in, no_pends, position, position_at}
+use Rattle.bbm_place_map.proofs.Common.{cell_at}
 use Rattle.bbm_place_map.proofs.Common.{entry_of, entry_in, marks_of, marks_in, Linked, Placed, Entry, Barrier}
 use Rattle.bbm_place_map.proofs.Common.{with_true}
 use Rattle.bbm_place_map.proofs.Completing.{completes_none}
 use Rattle.bbm_place_map.proofs.Idle.{nothing_waits}
-use Rattle.bbm_place_map.proofs.Seats.{cells_same, linked_seated, placed_seated, seats_changed, entries_changed}
+use Rattle.bbm_place_map.proofs.Positions.{cells_same, linked_seated, placed_seated, positions_changed, entries_changed}
 
 pub completes_at : (by : Barrier) (o o' p p' : Option Entry) → o ≡ o' → p ≡ p'
     → Completes by o' p' → Completes by o p
@@ -37,19 +38,19 @@ module _ (by : Barrier) (cells : List ℕ) (entries : List Entry) (k : ℕ) (e :
   old_entry j at = ap (entry_of entries) (linked.back j k at) ∙ was
 
   -- it changed
-  module _ (mid : List Entry) (f : Entry) (seated : seat f ≡ seat e)
+  module _ (mid : List Entry) (f : Entry) (seated : position f ≡ position e)
       (gets : (i : ℕ) → slice_get mid i ≡ (if nat_eq i k then Some f else slice_get entries i)) where
     cell_was : cell_at entries k ≡ Some e.cell
     cell_was = ap (option_map (λ (x : Entry). x.cell)) was
 
-    seats : (m : ℕ) → seat_at mid m ≡ seat_at entries m
-    seats = seats_changed cells entries mid e f e.cell k linked (linked.back e.cell k cell_was) was seated gets
+    positions : (m : ℕ) → position_at mid m ≡ position_at entries m
+    positions = positions_changed cells entries mid e f e.cell k linked (linked.back e.cell k cell_was) was seated gets
 
     pub mid_linked : length mid ≡ length entries → Linked cells mid
-    mid_linked len = linked_seated entries mid seats cells len linked
+    mid_linked len = linked_seated entries mid positions cells len linked
 
     pub mid_placed : (base : ℕ → Option ℕ) → Placed base entries → Placed base mid
-    mid_placed base placed = placed_seated entries mid seats base placed
+    mid_placed base placed = placed_seated entries mid positions base placed
 
     pub mid_front : (m : ℕ) → m ≢ k → slice_get mid m ≡ slice_get entries m
     mid_front m other = gets m ∙ cond-false (nat_eq m k) (Some f) (slice_get entries m) (ne_eqb m k other)
@@ -75,7 +76,7 @@ module _ (by : Barrier) (cells : List ℕ) (entries : List Entry) (k : ℕ) (e :
           (gone : (j : ℕ) → cell_at mid k ≡ Some j → (i : ℕ) → entry_in cells' entries' i ≡ (if nat_eq i j then None else entry_in cells mid i)) where
         gone_is : (i : ℕ) → entry_in cells' entries' i ≡ (if nat_eq i j then None else entry_in cells entries i)
         gone_is i =
-            gone j (cells_same entries mid seats k ∙ at) i ∙ ap (λ (o : Option Entry). if nat_eq i j then None else o) (mid_is i)
+            gone j (cells_same entries mid positions k ∙ at) i ∙ ap (λ (o : Option Entry). if nat_eq i j then None else o) (mid_is i)
             ∙ none_twice (nat_eq i j) (Some f) (entry_in cells entries i)
 
         none_here : entry_in cells' entries' j ≡ None

@@ -5,7 +5,7 @@ use Rattle.bbm_place_map.proofs.Common.{marks_in, Linked, at_index, index_of, st
 use Rattle.bbm_place_map.specs.Map.{marks_at, value_at}
 use Rattle.bbm_place_map.proofs.Parts.{number_zero, start_is}
 use Rattle.bbm_place_map.proofs.Places.{cell_of, eighth_at, index_from, index_none, number_at, number_below, page_at}
-use Rattle.bbm_place_map.proofs.Seats.{found}
+use Rattle.bbm_place_map.proofs.Positions.{found}
 
 -- a cell has no entry where its place isn't broken
 module _ (cells : List ℕ) (entries : List Entry) (linked : Linked cells entries) where
@@ -15,7 +15,7 @@ module _ (cells : List ℕ) (entries : List Entry) (linked : Linked cells entrie
       let e = found entries k j (linked.forth j k is) in
       absurd (none-some e.0.marks (sym h ∙ ap marks_of e.1))
 
-  free_cell : (j : ℕ) → marks_in cells entries j ≡ None → slot_in cells j ≡ None
+  pub free_cell : (j : ℕ) → marks_in cells entries j ≡ None → slot_in cells j ≡ None
   free_cell j none = unlisted j (slot_in cells j) refl none
 
 -- what is kept of each place of a page, by its number

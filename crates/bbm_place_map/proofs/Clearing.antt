@@ -1,21 +1,87 @@
 -- A place, or all places of a page, that aren't broken any more.
-use Rattle.bbm_place_map.proofs.Common.{◌≡◌, ℕ, ◌*◌, ◌/◌, List, Some, None, nat_eq, ap, subst, ◌∙◌, vec_len}
-use Rattle.bbm_place_map.proofs.Common.{if◌then◌else◌, Vec, Global, get, cell_by, in_part, is_at, slot_in, entry_in}
-use Rattle.bbm_place_map.proofs.Common.{marks_of, no_pends, pends_of, place_cell, marks_in, pends_for, at_index}
-use Rattle.bbm_place_map.proofs.Common.{index_of, starts, Entry, PlaceMap}
+use Rattle.bbm_place_map.proofs.Common.{◌≡◌, ℕ, ◌/◌, ◌≤◌, ◌<◌, Bool, true, false, List, Some, None, nat_eq, ap}
+use Rattle.bbm_place_map.proofs.Common.{refl, sym, subst, arith, inl, inr, cases_Bool, eqb-true, ◌∙◌, vec_len}
+use Rattle.bbm_place_map.proofs.Common.{vec_capacity, if◌then◌else◌, cond-false}
+use Rattle.bbm_place_map.proofs.Common.{cond-true, Vec, Global, get, cell_by, in_part, is_at, slot_in, entry_in}
+use Rattle.bbm_place_map.proofs.Common.{marks_of, no_pends, page_of, pends_of, place_cell, marks_in, pends_for, IsIdle}
+use Rattle.bbm_place_map.proofs.Common.{Linked, Numbered, Parted, Placed, at_index, index_of, starts, Entry, PlaceMap}
+use Rattle.std.proofs.Common.{◌^◌}
 use Rattle.bbm_place_map.specs.Map.{marks_at, pends_at}
+use Rattle.bbm_place_map.specs.MapCalls.{Frees}
 use Rattle.bbm_place_map.specs.Puts.{Clears}
+use Rattle.bbm_place_map.specs.Sound.{FewLinked}
+use Rattle.bbm_place_map.specs.Works.{Listed}
+use Rattle.bbm_place_map.proofs.Idle.{idle_from}
+use Rattle.bbm_place_map.proofs.Listing.{gone_or_same, listed_fewer}
 use Rattle.bbm_place_map.proofs.Pages.{lose_marks, lose_pends}
-use Rattle.bbm_place_map.proofs.Parts.{at_maybe, at_part, cell_here}
+use Rattle.bbm_place_map.proofs.Parts.{at_maybe, at_part, cell_here, none_marks, none_pends}
+use Rattle.bbm_place_map.proofs.Places.{index_none}
+
+-- cells and entries of a map can be edited
+pub able : (map : PlaceMap) → FewLinked map.cells map.broken
+able map = record { linked = map.linked; few = omega (arith, map.fewer, map.few) }
+
+-- A map hangs together with these values, cells and entries.
+pub record Fits (map : PlaceMap) (values cells : Vec ℕ Global) (broken : Vec Entry Global) : Type 0 where
+  pub numbered : Numbered (get nat_eq map.pages) (vec_len values)
+  pub parted : Parted (get nat_eq map.pages) map.parts.items (vec_len values) (vec_len cells)
+  pub linked : Linked cells.items broken.items
+  pub placed : Placed (starts (get nat_eq map.pages) map.parts.items) broken.items
+  pub space : vec_len values ≤ vec_capacity cells
+  pub room : vec_len values ≤ vec_capacity broken
+  pub fewer : vec_len cells ≤ vec_len values
+  pub few : vec_len values < 2 ^ 32
+  pub listed : Listed map.work cells.items broken.items
+
+-- so it does with as many values, and with cells of which some were cleared
+pub fits_cleared : (map : PlaceMap) (values cells : Vec ℕ Global) (broken : Vec Entry Global) (these : ℕ → Bool)
+    → vec_len values ≡ vec_len map.values → Clears these map.cells cells map.broken broken → Fits map values cells broken
+fits_cleared map values cells broken these len e =
+    let N : ℕ → Type 0 = Numbered (get nat_eq map.pages) in
+    let P : ℕ → Type 0 = λ n. Parted (get nat_eq map.pages) map.parts.items n (vec_len map.cells) in
+    let Q : ℕ → Type 0 = Parted (get nat_eq map.pages) map.parts.items (vec_len values) in
+    record {
+      numbered = subst N (sym len) map.numbered;
+      parted = subst Q (sym e.sound.len) (subst P (sym len) map.parted);
+      linked = e.sound.linked;
+      placed = e.sound.placed (starts (get nat_eq map.pages) map.parts.items) map.placed;
+      space = omega (arith, len, e.sound.space, map.space);
+      room = omega (arith, len, e.sound.room, map.room);
+      fewer = omega (arith, len, e.sound.len, map.fewer);
+      few = omega (arith, len, map.few);
+      listed =
+          listed_fewer map.work map.work map.cells.items cells.items map.broken.items broken.items refl refl
+          (λ wide q j holds. holds) (λ wide q j holds. holds)
+          (λ j. gone_or_same (these j) (entry_in map.cells.items map.broken.items j) (entry_in cells.items broken.items j) (e.entries j))
+          map.listed;
+    }
+
+-- What is then at each place: nothing at those that a test holds of, and what was there elsewhere.
+pub record AtPlaces (gone : ℕ → Bool) (map : PlaceMap) (cells : List ℕ) (broken : List Entry) : Type 0 where
+  pub marks : (a : ℕ) → at_index None (marks_in cells broken) (place_cell map a) ≡ (if gone a then None else marks_at map a)
+  pub pends : (q a : ℕ) → gone a ≡ false → at_index no_pends (pends_for cells broken q) (place_cell map a) ≡ pends_at map q a
+  pub dropped : (q a : ℕ) → gone a ≡ true → IsIdle (at_index no_pends (pends_for cells broken q) (place_cell map a))
+
+at_places : (gone : ℕ → Bool) (map : PlaceMap) (cells : List ℕ) (broken : List Entry)
+    → ((a : ℕ) → at_index None (marks_in cells broken) (place_cell map a) ≡ (if gone a then None else marks_at map a))
+    → ((q a : ℕ) → at_index no_pends (pends_for cells broken q) (place_cell map a) ≡ (if gone a then no_pends else pends_at map q a))
+    → AtPlaces gone map cells broken
+at_places gone map cells broken marks pends = record {
+  marks = marks;
+  pends = λ q a off. pends q a ∙ cond-false (gone a) no_pends (pends_at map q a) off;
+  dropped = λ q a on.
+      idle_from (at_index no_pends (pends_for cells broken q) (place_cell map a))
+      (pends q a ∙ cond-true (gone a) no_pends (pends_at map q a) on);
+}
 
 module _ (map : PlaceMap) (parts : List ℕ) (ps : parts ≡ map.parts.items) (cells : Vec ℕ Global) (broken : Vec Entry Global) where
   -- the cell of a place is cleared, if there is one
   module _ (place j : ℕ) (at : index_of (get nat_eq map.pages) place ≡ Some j)
       (clears : Clears (is_at (cell_by parts j)) map.cells cells map.broken broken) where
-    pub place_clears : Clears (is_at (cell_by map.parts.items j)) map.cells cells map.broken broken
+    place_clears : Clears (is_at (cell_by map.parts.items j)) map.cells cells map.broken broken
     place_clears = let P : List ℕ → Type 0 = λ xs. Clears (is_at (cell_by xs j)) map.cells cells map.broken broken in subst P ps clears
 
-    pub place_marks : (a : ℕ) → at_index None (marks_in cells.items broken.items) (place_cell map a) ≡ (if nat_eq a place then None else marks_at map a)
+    place_marks : (a : ℕ) → at_index None (marks_in cells.items broken.items) (place_cell map a) ≡ (if nat_eq a place then None else marks_at map a)
     unfolding marks_at
     place_marks =
         at_maybe (starts (get nat_eq map.pages) map.parts.items) (vec_len map.cells) map.parted.numbered None
@@ -23,7 +89,7 @@ module _ (map : PlaceMap) (parts : List ℕ) (ps : parts ≡ map.parts.items) (c
         (cell_here map place j at)
         (λ i. ap marks_of (place_clears.entries i) ∙ lose_marks (is_at (cell_by map.parts.items j) i) (entry_in map.cells.items map.broken.items i))
 
-    pub place_pends : (q a : ℕ) → at_index no_pends (pends_for cells.items broken.items q) (place_cell map a)
+    place_pends : (q a : ℕ) → at_index no_pends (pends_for cells.items broken.items q) (place_cell map a)
         ≡ (if nat_eq a place then no_pends else pends_at map q a)
     unfolding pends_at
     place_pends q =
@@ -32,24 +98,47 @@ module _ (map : PlaceMap) (parts : List ℕ) (ps : parts ≡ map.parts.items) (c
         (cell_here map place j at)
         (λ i. ap (pends_of q) (place_clears.entries i) ∙ lose_pends q (is_at (cell_by map.parts.items j) i) (entry_in map.cells.items map.broken.items i))
 
+    pub place_cleared : AtPlaces (λ a. nat_eq a place) map cells.items broken.items
+    place_cleared = at_places (λ a. nat_eq a place) map cells.items broken.items place_marks place_pends
+
   -- the cells of a page are cleared, if there are any
   module _ (page b : ℕ) (is : get nat_eq map.pages page ≡ Some b)
       (clears : Clears (in_part (slot_in parts (b / 512))) map.cells cells map.broken broken) where
-    pub page_clears : Clears (in_part (slot_in map.parts.items (b / 512))) map.cells cells map.broken broken
+    page_clears : Clears (in_part (slot_in map.parts.items (b / 512))) map.cells cells map.broken broken
     page_clears = let P : List ℕ → Type 0 = λ xs. Clears (in_part (slot_in xs (b / 512))) map.cells cells map.broken broken in subst P ps clears
 
-    pub page_marks : (a : ℕ) → at_index None (marks_in cells.items broken.items) (place_cell map a)
-        ≡ (if nat_eq (a / 4096 * 4096) page then None else marks_at map a)
+    page_marks : (a : ℕ) → at_index None (marks_in cells.items broken.items) (place_cell map a)
+        ≡ (if nat_eq (page_of a) page then None else marks_at map a)
     unfolding marks_at
     page_marks =
         at_part (get nat_eq map.pages) map.parts.items None (marks_in map.cells.items map.broken.items) (marks_in cells.items broken.items)
         (vec_len map.cells) map.parted.numbered page b is
         (λ i. ap marks_of (page_clears.entries i) ∙ lose_marks (in_part (slot_in map.parts.items (b / 512)) i) (entry_in map.cells.items map.broken.items i))
 
-    pub page_pends : (q a : ℕ) → at_index no_pends (pends_for cells.items broken.items q) (place_cell map a)
-        ≡ (if nat_eq (a / 4096 * 4096) page then no_pends else pends_at map q a)
+    page_pends : (q a : ℕ) → at_index no_pends (pends_for cells.items broken.items q) (place_cell map a)
+        ≡ (if nat_eq (page_of a) page then no_pends else pends_at map q a)
     unfolding pends_at
     page_pends q =
         at_part (get nat_eq map.pages) map.parts.items no_pends (pends_for map.cells.items map.broken.items q)
         (pends_for cells.items broken.items q) (vec_len map.cells) map.parted.numbered page b is
         (λ i. ap (pends_of q) (page_clears.entries i) ∙ lose_pends q (in_part (slot_in map.parts.items (b / 512)) i) (entry_in map.cells.items map.broken.items i))
+
+    pub page_cleared : AtPlaces (λ a. nat_eq (page_of a) page) map cells.items broken.items
+    page_cleared = at_places (λ a. nat_eq (page_of a) page) map cells.items broken.items page_marks page_pends
+
+-- a page that isn't tracked has no broken place
+pub frees_untracked : (map new : PlaceMap) (page : ℕ) → get nat_eq map.pages page ≡ None
+    → ((a : ℕ) → marks_at new a ≡ marks_at map a) → ((q a : ℕ) → pends_at new q a ≡ pends_at map q a) → Frees page map new
+frees_untracked map new page none marks pends = record {
+  marks = λ a.
+      elim (cases_Bool (nat_eq (page_of a) page)) [
+        | inl same ↦
+            marks a ∙ none_marks map a (no_value a same) ∙ sym (cond-true (nat_eq (page_of a) page) None (marks_at map a) same)
+        | inr off ↦ marks a ∙ sym (cond-false (nat_eq (page_of a) page) None (marks_at map a) off)
+      ];
+  pends = λ q a off. pends q a;
+  dropped = λ q a same. idle_from (pends_at new q a) (pends q a ∙ none_pends map a (no_value a same) q);
+}
+  where
+    no_value : (a : ℕ) → nat_eq (page_of a) page ≡ true → index_of (get nat_eq map.pages) a ≡ None
+    no_value a same = index_none (get nat_eq map.pages) a (ap (get nat_eq map.pages) (eqb-true (page_of a) page same) ∙ none)

@@ -43,8 +43,8 @@ pub use Rattle.bbm_place_map.specs.Cells.{cell_by, in_page, in_part, is_at, is_l
 pub use Rattle.bbm_place_map.specs.Dsbs.{IsHeard, IsUnanswered}
 pub use Rattle.bbm_place_map.specs.Each.{Advances, Completes, Publishes, is_table, loses_table}
 pub use Rattle.bbm_place_map.specs.Entries.{Adds, HasRoom, IsFirst, Lacks, WaitsAlike, cell_at, entry_in, entry_of}
-pub use Rattle.bbm_place_map.specs.Entries.{lane_of, marks_of, no_pend, no_pends, pend_in, pends_in, pends_of, seat}
-pub use Rattle.bbm_place_map.specs.Entries.{seat_at}
+pub use Rattle.bbm_place_map.specs.Entries.{lane_of, marks_of, no_pend, no_pends, pend_in, pends_in, pends_of, position}
+pub use Rattle.bbm_place_map.specs.Entries.{position_at}
 pub use Rattle.bbm_place_map.specs.Finds.{FoundAs, cover_in, is_found}
 pub use Rattle.bbm_place_map.specs.Map.{page_of, place_cell, state_at}
 pub use Rattle.bbm_place_map.specs.MapCalls.{IsSame, KeepsItems}

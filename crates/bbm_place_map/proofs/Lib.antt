@@ -4,10 +4,11 @@ pub mod Lists
 pub mod Edits
 pub mod Linking
 pub mod Leaving
-pub mod Seats
+pub mod Positions
 pub mod Pages
 pub mod Places
 pub mod Growing
+pub mod Filling
 pub mod Parts
 pub mod Clearing
 pub mod Tracking
@@ -32,6 +33,7 @@ pub mod Completed
 pub mod Noting
 pub mod Finding
 pub mod Visiting
+pub mod Numbers
 pub mod Wholes
 pub mod Issued
 pub mod Shown

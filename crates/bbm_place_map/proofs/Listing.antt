@@ -1,6 +1,7 @@
 -- The lists of work after each call.
 use Rattle.bbm_place_map.proofs.Common.{◌≡◌, ◌≢◌, ℕ, ◌≤◌, ◌<◌, ◌⊎◌, Bool, true, false, not, ◌&&◌, nat_eq, List, [], ◌∷◌}
-use Rattle.bbm_place_map.proofs.Common.{length, Option, Some, None, refl, ap, sym, subst, ◌∙◌, arith, inl, inr}
+use Rattle.bbm_place_map.proofs.Common.{zero, suc, length, Option, Some, None, refl, ap, sym, subst, ◌∙◌, arith, inl}
+use Rattle.bbm_place_map.proofs.Common.{inr}
 use Rattle.bbm_place_map.proofs.Common.{slice_get, if◌then◌else◌, option_map, cases_Bool, cases_eq, cond-true}
 use Rattle.bbm_place_map.proofs.Common.{cond-false, eq-eqb, ne_eqb, false≢true, same_Some, none-some, SmallVec, fun_ext}
 use Rattle.bbm_place_map.proofs.Common.{every_pe, Cover, is_broken, Marks, Pends, EntryState, Clean, Broken, slot_in}
@@ -226,6 +227,29 @@ listed_broken w w' cells cells' entries entries' j marks before pes was told kep
     stays : (b : Bool) (p : Pends) → p ≡ (if b && false then no_pends else p)
     stays true p = refl
     stays false p = refl
+
+-- a place breaks by a write of one PE
+pub listed_fresh : (w w' : Work) (cells cells' : List ℕ) (entries entries' : List Entry) (j pe : ℕ) (marks : Marks)
+    → w'.pes ≡ w.pes → marks_in cells entries j ≡ None
+    → ((p : ℕ) → pe_in marks.writers p ≡ nat_eq p pe) → ((p : ℕ) → pe_in marks.clean p ≡ false)
+    → ((wide : Bool) → HoldsFor w'.unpublished.items pe wide j)
+    → ((wide : Bool) (q i : ℕ) → HoldsFor w.unpublished.items q wide i → HoldsFor w'.unpublished.items q wide i)
+    → w'.waiting.items ≡ w.waiting.items → w'.settled ≡ w.settled
+    → ((i : ℕ) → marks_in cells' entries' i ≡ (if nat_eq i j then Some marks else marks_in cells entries i))
+    → ((q i : ℕ) → pends_for cells' entries' q i ≡ pends_for cells entries q i)
+    → Listed w cells entries → Listed w' cells' entries'
+listed_fresh w w' cells cells' entries entries' j pe marks pes none writers clean there kept waiting settled marks_are pends_are listed =
+    listed_broken w w' cells cells' entries entries' j marks None pes (sym none)
+    (λ wide q below.
+    elim (cases_eq q pe) [
+      | inl same ↦ let P : ℕ → Type 0 = λ x. HoldsFor w'.unpublished.items x wide j in inl (subst P (sym same) (there wide))
+      | inr other ↦ inr (inl (writers q ∙ ne_eqb q pe other))
+    ])
+    kept waiting (λ is. sym settled ∙ is) (λ is. unclean w.pes listed.some) marks_are pends_are listed
+  where
+    unclean : (n : ℕ) → 1 ≤ n → is_clean n marks ≡ false
+    unclean zero some = absurd (omega arith)
+    unclean (suc n) some = ap (λ (b : Bool). b && every_pe n (λ p. pe_in marks.clean p)) (clean n)
 
 -- a DSB publishes
 pends_same : (by : Barrier) (q : ℕ) (o p : Option Entry) → Advances (Publishes by) o p → pends_of q p ≡ pends_of q o

@@ -6,7 +6,7 @@ use Rattle.bbm_place_map.proofs.Common.{cond-false, eq-eqb, ne_eqb, false≢true
 use Rattle.bbm_place_map.proofs.Common.{answers_broadcast, answers_local, PeMask, Cover, Noted, waits_in, Marks, Pends}
 use Rattle.bbm_place_map.proofs.Common.{Broken, Adds, WaitsAlike, lane_of, no_pend, pend_in, pends_in, IsFirst, Lacks}
 use Rattle.bbm_place_map.proofs.Common.{IsQuiet, Pending, SmallVec}
-use Rattle.bbm_place_map.specs.Dsbs.{AreAnswered, WaitsOn}
+use Rattle.bbm_place_map.specs.Dsbs.{Takes, TakesAnswered, WaitsOn}
 use Rattle.smallvec.specs.SmallVec.{with_items}
 use Rattle.smallvec.proofs.SmallVecLemmas.{items-with_items}
 
@@ -132,29 +132,24 @@ noted_in old new q marks reach false cover there others false c p = there c p
 
 -- the answered ones are taken out of both lanes of an issuer
 module _ (old mid new : List Pending) (q : ℕ) (dsb : Dsb) (all own both : Pend)
-    (all_done : (c : Cover) (p : ℕ) → waits_in all c p ≡ (answers_broadcast dsb && waits_in (pend_in old (lane_of q true)) c p))
-    (all_left : (c : Cover) (p : ℕ) → waits_in (pend_in mid (lane_of q true)) c p
-    ≡ (not (answers_broadcast dsb) && waits_in (pend_in old (lane_of q true)) c p))
-    (all_others : (m : ℕ) → m ≢ lane_of q true → pend_in mid m ≡ pend_in old m)
-    (own_done : (c : Cover) (p : ℕ) → waits_in own c p ≡ (answers_local dsb && waits_in (pend_in mid (lane_of q false)) c p))
-    (own_left : (c : Cover) (p : ℕ) → waits_in (pend_in new (lane_of q false)) c p
-    ≡ (not (answers_local dsb) && waits_in (pend_in mid (lane_of q false)) c p))
-    (own_others : (m : ℕ) → m ≢ lane_of q false → pend_in new m ≡ pend_in mid m)
+    (first : Takes (lane_of q true) (answers_broadcast dsb) old mid all)
+    (second : Takes (lane_of q false) (answers_local dsb) mid new own)
     (both_are : (c : Cover) (p : ℕ) → waits_in both c p ≡ (waits_in all c p || waits_in own c p)) where
   own_was : pend_in mid (lane_of q false) ≡ pend_in old (lane_of q false)
-  own_was = all_others (lane_of q false) (λ same. sides_apart q (sym same))
+  own_was = first.others (lane_of q false) (λ same. sides_apart q (sym same))
 
-  pub taken_done : AreAnswered dsb (pends_in old q) both
-  taken_done c p =
-      both_are c p ∙ ap (λ (w : Bool). w || waits_in own c p) (all_done c p)
-      ∙ ap (λ (w : Bool). (answers_broadcast dsb && waits_in (pend_in old (lane_of q true)) c p) || w)
-      (own_done c p ∙ ap (λ (x : Pend). answers_local dsb && waits_in x c p) own_was)
+  left : WaitsOn dsb (pends_in old q) (pends_in new q)
+  left true c p = ap (λ (x : Pend). waits_in x c p) (second.others (lane_of q true) (sides_apart q)) ∙ first.left c p
+  left false c p = second.left c p ∙ ap (λ (x : Pend). not (answers_local dsb) && waits_in x c p) own_was
 
-  pub taken_left : WaitsOn dsb (pends_in old q) (pends_in new q)
-  taken_left true c p = ap (λ (x : Pend). waits_in x c p) (own_others (lane_of q true) (sides_apart q)) ∙ all_left c p
-  taken_left false c p = own_left c p ∙ ap (λ (x : Pend). not (answers_local dsb) && waits_in x c p) own_was
-
-  pub taken_others : (r : ℕ) → r ≢ q → pends_in new r ≡ pends_in old r
-  taken_others r other =
-      issuer_kept mid new (lane_of q false) own_others r (lanes_apart r q true false other) (lanes_apart r q false false other)
-      ∙ issuer_kept old mid (lane_of q true) all_others r (lanes_apart r q true true other) (lanes_apart r q false true other)
+  pub takes_answered : TakesAnswered dsb q old new both
+  takes_answered = record {
+    done = λ c p.
+        both_are c p ∙ ap (λ (w : Bool). w || waits_in own c p) (first.done c p)
+        ∙ ap (λ (w : Bool). (answers_broadcast dsb && waits_in (pend_in old (lane_of q true)) c p) || w)
+        (second.done c p ∙ ap (λ (x : Pend). answers_local dsb && waits_in x c p) own_was);
+    left = left;
+    others = λ r other.
+        issuer_kept mid new (lane_of q false) second.others r (lanes_apart r q true false other) (lanes_apart r q false false other)
+        ∙ issuer_kept old mid (lane_of q true) first.others r (lanes_apart r q true true other) (lanes_apart r q false true other);
+  }

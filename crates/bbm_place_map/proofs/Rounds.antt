@@ -22,20 +22,19 @@ module _ (by : Barrier) (start mid new : ℕ → Option Entry) (m : ℕ)
             ]
       ]
 
-  pub here_more : (list : List ℕ) (k : ℕ) → slice_index list k ≡ m
-      → ((i : ℕ) → i < k → Completes by (start (slice_index list i)) (mid (slice_index list i)))
-      → (i : ℕ) → i < k + 1 → Completes by (start (slice_index list i)) (new (slice_index list i))
-  here_more list k at done i below =
-      elim (cases_eq (slice_index list i) m) [
+  pub here_more : (cell : ℕ → ℕ) (k : ℕ) → cell k ≡ m → ((i : ℕ) → i < k → Completes by (start (cell i)) (mid (cell i)))
+      → (i : ℕ) → i < k + 1 → Completes by (start (cell i)) (new (cell i))
+  here_more cell k at done i below =
+      elim (cases_eq (cell i) m) [
         | inl same ↦
             let P : ℕ → Type 0 = λ x. Completes by (start x) (new x) in
             subst P (sym same) (answers_again by (start m) (mid m) (new m) (each m) here)
         | inr other ↦
             elim (cases_eq i k) [
-              | inl last ↦ absurd (other (ap (slice_index list) last ∙ at))
+              | inl last ↦ absurd (other (ap cell last ∙ at))
               | inr apart ↦
-                  completes_at by (start (slice_index list i)) (start (slice_index list i)) (new (slice_index list i)) (mid (slice_index list i)) refl
-                  (others (slice_index list i) other) (done i (omega arith))
+                  completes_at by (start (cell i)) (start (cell i)) (new (cell i)) (mid (cell i)) refl (others (cell i) other)
+                  (done i (omega arith))
             ]
       ]
 

@@ -79,7 +79,7 @@ module _ (by : Barrier) where
         | inr did ↦ again_both o p r did h
       ]
 
-  same_published : (e : Entry) → IsHeard by e.marks → Publishes by e e
+  pub same_published : (e : Entry) → IsHeard by e.marks → Publishes by e e
   same_published e heard = (
     refl,
     record {

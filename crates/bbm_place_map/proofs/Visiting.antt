@@ -2,7 +2,7 @@
 use Rattle.bbm_place_map.proofs.Common.{◌≡◌, ◌≢◌, ℕ, Bool, true, false, nat_eq, List, [], ◌∷◌, ◌++◌, Option, Some, None}
 use Rattle.bbm_place_map.proofs.Common.{refl, ap, sym, subst, ◌∙◌, inl, inr, if◌then◌else◌, slice_get, option_map}
 use Rattle.bbm_place_map.proofs.Common.{cases_eq, cases_Bool, eq-eqb, ne_eqb, eqb-true, false≢true, cond-true}
-use Rattle.bbm_place_map.proofs.Common.{cond-false, same_Some, none-some, Cover, slot_in, Advances, seat, cover_in}
+use Rattle.bbm_place_map.proofs.Common.{cond-false, same_Some, none-some, Cover, slot_in, Advances, position, cover_in}
 use Rattle.bbm_place_map.proofs.Common.{is_found, Keeps, NotesAs, NotesAt, NotesOne, NotesFound, Linked, Numbered}
 use Rattle.bbm_place_map.proofs.Common.{Placed, index_of, at_index, HoldsFor, Waits, Entry, Found, Issuing, WorkList}
 use Rattle.std.proofs.Common.{map}
@@ -12,7 +12,7 @@ use Rattle.bbm_place_map.proofs.Advancing.{advance_by, at_both}
 use Rattle.bbm_place_map.proofs.Finding.{cover_here, cover_off, cover_old, found_here, found_off}
 use Rattle.bbm_place_map.proofs.Noting.{notes_at, waits_kept}
 use Rattle.bbm_place_map.proofs.Places.{index_once}
-use Rattle.bbm_place_map.proofs.Seats.{found}
+use Rattle.bbm_place_map.proofs.Positions.{found}
 
 module _ (base : ℕ → Option ℕ) (cells : List ℕ) (entries : List Entry) (linked : Linked cells entries) (placed : Placed base entries) where
   -- the entry of a place is the only one of that place
@@ -40,7 +40,7 @@ self_advances S (Some x) same = (refl, same x refl)
 
 -- one entry changes
 module _ (S : Entry → Entry → Type 0) (entries new : List Entry) (k : ℕ) (e f : Entry) (was : slice_get entries k ≡ Some e)
-    (seated : seat f ≡ seat e) (related : S e f) (gets : (i : ℕ) → slice_get new i ≡ (if nat_eq i k then Some f else slice_get entries i)) where
+    (seated : position f ≡ position e) (related : S e f) (gets : (i : ℕ) → slice_get new i ≡ (if nat_eq i k then Some f else slice_get entries i)) where
   pub gets_off : (m : ℕ) → m ≢ k → slice_get new m ≡ slice_get entries m
   gets_off m other = gets m ∙ cond-false (nat_eq m k) (Some f) (slice_get entries m) (ne_eqb m k other)
 
@@ -58,7 +58,7 @@ module _ (S : Entry → Entry → Type 0) (entries new : List Entry) (k : ℕ) (
             (self_advances S (slice_get entries m) (λ x. same m x other))
       ]
 
-pub advance_then : (A B C : Entry → Entry → Type 0) → ((e f g : Entry) → seat f ≡ seat e → A e f → B f g → C e g) → (o p r : Option Entry)
+pub advance_then : (A B C : Entry → Entry → Type 0) → ((e f g : Entry) → position f ≡ position e → A e f → B f g → C e g) → (o p r : Option Entry)
     → Advances A o p → Advances B p r → Advances C o r
 advance_then A B C by None None None h h' = tt
 advance_then A B C by None None (Some g) h h' = absurd h'
@@ -74,7 +74,7 @@ module _ (xs : List Found) (x : Found) (by : Issuing) (lists lists' : List WorkL
   by_cover c c' e f is notes = let P : Cover → Type 0 = λ y. NotesAs y by e f in subst P (sym is) notes
 
   -- one that counts
-  pub note_step : is_found xs x.place ≡ false → (e f g : Entry) → seat f ≡ seat e → NotesFound xs by lists e f
+  pub note_step : is_found xs x.place ≡ false → (e f g : Entry) → position f ≡ position e → NotesFound xs by lists e f
       → NotesOne x.place x.cover by lists' f g → NotesFound (xs ++ x ∷ []) by lists' e g
   note_step fresh e f g seated before now =
       let place : f.place ≡ e.place = ap (λ (s : ℕ × ℕ). s.0) seated in

@@ -1,10 +1,9 @@
--- What a write leaves at a place that isn't broken after.
-use Rattle.bbm_place_map.proofs.Common.{◌≡◌, ℕ, false, nat_eq, Option, Some, None, refl, ap, sym, ◌∙◌, if◌then◌else◌}
-use Rattle.bbm_place_map.proofs.Common.{Core, Written, is_broken, IsIdle, Marks, EntryState, Live, marks_of_state}
-use Rattle.bbm_place_map.proofs.Common.{PlaceMap}
-use Rattle.bbm_place_map.specs.MapCalls.{Leaves}
-use Rattle.bbm_place_map.specs.Map.{marks_at, pends_at}
-use Rattle.bbm_lemmas.proofs.Bools.{none_unless}
+-- What a write leaves, by the calls that it makes.
+use Rattle.bbm_place_map.proofs.Common.{◌≡◌, ℕ, nat_eq, Option, Some, refl, ap, sym, ◌∙◌, subst, if◌then◌else◌}
+use Rattle.bbm_place_map.proofs.Common.{Core, Written, IsIdle, IsSame, Marks, Pends, EntryState, Live}
+use Rattle.bbm_place_map.proofs.Common.{marks_of_state, PlaceMap}
+use Rattle.bbm_place_map.specs.Map.{is_tracked, marks_at, pends_at, value_at}
+use Rattle.bbm_place_map.specs.MapCalls.{Leaves, WritesAs}
 
 -- a valid value makes it live
 pub made : (old : EntryState) (pe : ℕ) (core : Core) → Written old pe (Some core) (Live core)
@@ -17,12 +16,38 @@ made old pe core = record {
   clean = λ p. refl;
 }
 
-pub leaves_whole : (state : EntryState) (place : ℕ) (old new : PlaceMap) → marks_of_state state ≡ None → is_broken state ≡ false
-    → ((a : ℕ) → marks_at new a ≡ (if nat_eq a place then None else marks_at old a))
-    → ((q a : ℕ) → nat_eq a place ≡ false → pends_at new q a ≡ pends_at old q a)
-    → ((q : ℕ) → IsIdle (pends_at new q place)) → Leaves state place old new
-leaves_whole state place old new none whole marks pends dropped = record {
-  marks = λ a. marks a ∙ ap (λ (m : Option Marks). if nat_eq a place then m else marks_at old a) (sym none);
-  pends = λ q a k. pends q a (none_unless (nat_eq a place) (is_broken state) whole k);
-  dropped = λ q is. dropped q;
+-- what a call leaves that comes between two that change neither marks nor what waits
+pub left_between : (state : EntryState) (place : ℕ) (old mid mid' new : PlaceMap) → IsSame old mid → Leaves state place mid mid'
+    → ((a : ℕ) → marks_at new a ≡ marks_at mid' a) → ((q a : ℕ) → pends_at new q a ≡ pends_at mid' q a)
+    → Leaves state place old new
+left_between state place old mid mid' new same left marks pends = record {
+  marks = λ a.
+      marks a ∙ left.marks a ∙ ap (λ (m : Option Marks). if nat_eq a place then marks_of_state state else m) (same.marks a);
+  pends = λ q a stays. pends q a ∙ left.pends q a stays ∙ same.pends q a;
+  dropped = λ q whole. subst (λ (x : Pends). IsIdle x) (sym (pends q place)) (left.dropped q whole);
 }
+
+-- it is the same over another map that tells the same, at a place in an equal state
+pub writes_over : {before : EntryState} {pe : ℕ} {core : Option Core} {value place : ℕ} {old new : PlaceMap}
+    → WritesAs before pe core value place old new → (was : EntryState) (map : PlaceMap) → before ≡ was
+    → ((a : ℕ) → value_at old a ≡ value_at map a) → ((page : ℕ) → is_tracked old page ≡ is_tracked map page)
+    → ((a : ℕ) → marks_at old a ≡ marks_at map a) → ((q a : ℕ) → pends_at old q a ≡ pends_at map q a)
+    → WritesAs was pe core value place map new
+writes_over {before} {pe} {core} {value} {place} w was map is values pages marks pends =
+    let after = w.written.0 in
+    let left = w.written.2 in
+    record {
+      written = (
+        after,
+        subst (λ (x : EntryState). Written x pe core after) is w.written.1,
+        record {
+          marks = λ a. left.marks a ∙ ap (λ (m : Option Marks). if nat_eq a place then marks_of_state after else m) (marks a);
+          pends = λ q a stays. left.pends q a stays ∙ pends q a;
+          dropped = left.dropped;
+        },
+      );
+      put = record {
+        values = λ a. w.put.values a ∙ ap (λ (v : ℕ). if nat_eq a place then value else v) (values a);
+        pages = λ p. w.put.pages p ∙ pages p;
+      };
+    }

@@ -6,6 +6,7 @@ use Rattle.std.specs.declared.alloc.Global.{Global}
 use Rattle.bbm_barriers.specs.declared.Dsb.{Dsb}
 use Rattle.bbm_barriers.specs.Options.{answers, publishes}
 use Rattle.bbm_regimes.specs.PeMask.{pe_in}
+use Rattle.bbm_regimes.specs.declared.pe.PeMask.{PeMask}
 use Rattle.bbm_tlbi_scope.specs.declared.entry.Cover.{Cover}
 use Rattle.bbm_entry_state.specs.Answered.{answered_at}
 use Rattle.bbm_entry_state.specs.Points.{waits, waits_in}
@@ -13,13 +14,17 @@ use Rattle.bbm_entry_state.specs.declared.marks.Marks.{Marks}
 use Rattle.bbm_entry_state.specs.declared.pending.Pend.{Pend}
 use Rattle.bbm_entry_state.specs.declared.pending.Pends.{Pends}
 use Rattle.bbm_place_map.specs.Each.{Advances, Completes, Publishes, loses_table}
-use Rattle.bbm_place_map.specs.Entries.{entry_in, pend_in}
+use Rattle.bbm_place_map.specs.Entries.{entry_in, pend_in, pends_in}
 use Rattle.bbm_place_map.specs.Parts.{marks_in, pends_for}
 use Rattle.bbm_place_map.specs.Sound.{Linked, SameSize, StillSound}
 use Rattle.bbm_place_map.specs.Works.{IsQuiet, IsTold, is_clean}
 use Rattle.bbm_place_map.specs.declared.entry.Entry.{Entry}
 use Rattle.bbm_place_map.specs.declared.entry.Pending.{Pending}
 use Rattle.bbm_place_map.specs.declared.orders.Barrier.{Barrier}
+
+-- these are the PEs to which a DSB publishes
+abbrev pub IsAudience : Barrier → PeMask → Type 0
+IsAudience by heard = (p : ℕ) → pe_in heard p ≡ publishes by.dsb by.issuer by.n p
 
 -- the PEs whose answer a DSB of the issuer is
 abbrev pub AreAnswered : Dsb → Pends → Pend → Type 0
@@ -34,6 +39,12 @@ pub record Takes (lane : ℕ) (flag : Bool) (old new : List Pending) (taken : Pe
   pub done : (c : Cover) (p : ℕ) → waits_in taken c p ≡ (flag && waits_in (pend_in old lane) c p)
   pub left : (c : Cover) (p : ℕ) → waits_in (pend_in new lane) c p ≡ (not flag && waits_in (pend_in old lane) c p)
   pub others : (m : ℕ) → m ≢ lane → pend_in new m ≡ pend_in old m
+
+-- Those whose answer a DSB of the issuer is are taken out of what waits for the answers of its TLBIs.
+pub record TakesAnswered (dsb : Dsb) (issuer : ℕ) (old new : List Pending) (taken : Pend) : Type 0 where
+  pub done : AreAnswered dsb (pends_in old issuer) taken
+  pub left : WaitsOn dsb (pends_in old issuer) (pends_in new issuer)
+  pub others : (q : ℕ) → q ≢ issuer → pends_in new q ≡ pends_in old q
 
 -- The issuer is one of the PEs of the log.
 pub record InLog (by : Barrier) : Type 0 where

@@ -8,7 +8,7 @@ use Rattle.bbm_descriptor.specs.declared.desc.Core.TheVariants.{Table, Leaf}
 use Rattle.bbm_tlbi_scope.specs.declared.entry.Cover.{Cover}
 use Rattle.bbm_entry_state.specs.declared.marks.Marks.{Marks}
 use Rattle.bbm_entry_state.specs.declared.state.EntryState.TheVariants.{Broken}
-use Rattle.bbm_place_map.specs.Entries.{seat, marks_of, pends_of}
+use Rattle.bbm_place_map.specs.Entries.{position, marks_of, pends_of}
 use Rattle.bbm_place_map.specs.States.{state_from}
 use Rattle.bbm_place_map.specs.declared.entry.Entry.{Entry}
 use Rattle.bbm_place_map.specs.declared.orders.Barrier.{Barrier}
@@ -18,7 +18,7 @@ abbrev pub Advances : (Entry → Entry → Type 0) → Option Entry → Option E
 Advances R None None = Unit {0}
 Advances R None (Some f) = ⊥
 Advances R (Some e) None = ⊥
-Advances R (Some e) (Some f) = (seat f ≡ seat e) × R e f
+Advances R (Some e) (Some f) = (position f ≡ position e) × R e f
 
 abbrev pub Publishes : Barrier → Entry → Entry → Type 0
 Publishes by e f = (f.pends ≡ e.pends) × Published (Broken e.marks) by.issuer by.dsb by.n (Broken f.marks)

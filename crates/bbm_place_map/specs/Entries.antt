@@ -63,11 +63,11 @@ pends_of q None = no_pends
 pends_of q (Some e) = pends_in e.pends.items q
 
 -- the place and the cell of the entry with this number
-abbrev pub seat : Entry → ℕ × ℕ
-seat e = (e.place, e.cell)
+abbrev pub position : Entry → ℕ × ℕ
+position e = (e.place, e.cell)
 
-abbrev pub seat_at : List Entry → ℕ → Option (ℕ × ℕ)
-seat_at entries k = option_map seat (slice_get entries k)
+abbrev pub position_at : List Entry → ℕ → Option (ℕ × ℕ)
+position_at entries k = option_map position (slice_get entries k)
 
 -- the PEs wait too that a TLBI reaches and for which it counts, as far as it covers a place with these marks
 abbrev pub Adds : Marks → PeMask → Cover → Pend → Pend → Type 0

@@ -15,7 +15,7 @@ use Rattle.bbm_place_map.specs.Sound.{index_of, at_index, starts}
 use Rattle.bbm_place_map.specs.States.{state_from}
 use Rattle.bbm_place_map.specs.declared.entry.Entry.{Entry}
 use Rattle.bbm_place_map.specs.declared.map.PlaceMap.{PlaceMap}
-use Rattle.bbm_place_map.specs.declared.seat.Seat.{Seat}
+use Rattle.bbm_place_map.specs.declared.position.Position.{Position}
 
 -- the page of an address
 abbrev pub page_of : ℕ → ℕ
@@ -41,9 +41,9 @@ pends_at map q a = at_index no_pends (pends_for map.cells.items map.broken.items
 unfoldable pub is_tracked : PlaceMap → ℕ → Bool
 is_tracked map page = is_some (get nat_eq map.pages page)
 
--- the seat is where its place is kept
-unfoldable pub IsSeat : PlaceMap → Seat → Type 0
-IsSeat map seat = index_of (get nat_eq map.pages) seat.place ≡ Some seat.index
+-- the position is where its place is kept
+unfoldable pub IsPosition : PlaceMap → Position → Type 0
+IsPosition map position = index_of (get nat_eq map.pages) position.place ≡ Some position.index
 
 -- how many places are broken, and one of them by its number
 unfoldable pub restless_in : PlaceMap → ℕ

@@ -1,11 +1,13 @@
--- What the calls that concern all broken places say of each.
+-- What calls change of a map, and what stays.
 -- Source: project's own choice.
-use Rattle.std.specs.Prelude.{◌≡◌, ℕ, Bool, false, nat_eq, not, ◌&&◌, if◌then◌else◌, vec_len}
+use Rattle.std.specs.Prelude.{◌≡◌, ℕ, Bool, true, false, Option, None, nat_eq, not, ◌&&◌, if◌then◌else◌, vec_len}
+use Rattle.bbm_descriptor.specs.declared.desc.Core.{Core}
+use Rattle.bbm_entry_state.specs.EntryCalls.{Written}
 use Rattle.bbm_entry_state.specs.Points.{is_broken}
 use Rattle.bbm_entry_state.specs.EntryStanding.{IsIdle}
 use Rattle.bbm_entry_state.specs.declared.state.EntryState.{EntryState}
 use Rattle.bbm_place_map.specs.Each.{loses_table}
-use Rattle.bbm_place_map.specs.Map.{value_at, marks_at, pends_at, is_tracked, restless_in, restless_place}
+use Rattle.bbm_place_map.specs.Map.{value_at, marks_at, page_of, pends_at, is_tracked, restless_in, restless_place}
 use Rattle.bbm_place_map.specs.States.{marks_of_state}
 use Rattle.bbm_place_map.specs.declared.map.PlaceMap.{PlaceMap}
 
@@ -23,6 +25,41 @@ pub record Leaves (state : EntryState) (place : ℕ) (old new : PlaceMap) : Type
   pub marks : (a : ℕ) → marks_at new a ≡ (if nat_eq a place then marks_of_state state else marks_at old a)
   pub pends : (q a : ℕ) → (nat_eq a place && not (is_broken state)) ≡ false → pends_at new q a ≡ pends_at old q a
   pub dropped : (q : ℕ) → is_broken state ≡ false → IsIdle (pends_at new q place)
+
+-- A PE writes a value with this core, None where it is invalid, at a place in the state before. The state is after what
+-- the write leaves, and nothing else changes.
+pub record WritesAs (before : EntryState) (pe : ℕ) (core : Option Core) (value place : ℕ) (old new : PlaceMap) : Type 0 where
+  pub written : (state : EntryState) × Written before pe core state × Leaves state place old new
+  pub put : Puts value place old new
+
+-- No value changes, and the same pages are tracked.
+pub record KeepsValues (old new : PlaceMap) : Type 0 where
+  pub values : (a : ℕ) → value_at new a ≡ value_at old a
+  pub pages : (page : ℕ) → is_tracked new page ≡ is_tracked old page
+
+-- The same places are broken, and the same waits there.
+pub record KeepsBroken (old new : PlaceMap) : Type 0 where
+  pub marks : (a : ℕ) → marks_at new a ≡ marks_at old a
+  pub pends : (q a : ℕ) → pends_at new q a ≡ pends_at old q a
+
+-- No value changes, the same pages are tracked, and the same places are broken, by the same numbers.
+pub record KeepsPlaces (old new : PlaceMap) : Type 0 where
+  pub values : (a : ℕ) → value_at new a ≡ value_at old a
+  pub pages : (page : ℕ) → is_tracked new page ≡ is_tracked old page
+  pub restless : restless_in new ≡ restless_in old
+  pub places : (i : ℕ) → restless_place new i ≡ restless_place old i
+
+-- Only what waits for the answers of the issuer's TLBIs changes.
+pub record NotesOnly (issuer : ℕ) (old new : PlaceMap) : Type 0 where
+  pub others : (q a : ℕ) → nat_eq q issuer ≡ false → pends_at new q a ≡ pends_at old q a
+  pub marks : (a : ℕ) → marks_at new a ≡ marks_at old a
+  pub same : KeepsPlaces old new
+
+-- No place of the page is broken any more, and nothing waits there. What is elsewhere stays.
+pub record Frees (page : ℕ) (old new : PlaceMap) : Type 0 where
+  pub marks : (a : ℕ) → marks_at new a ≡ (if nat_eq (page_of a) page then None else marks_at old a)
+  pub pends : (q a : ℕ) → nat_eq (page_of a) page ≡ false → pends_at new q a ≡ pends_at old q a
+  pub dropped : (q a : ℕ) → nat_eq (page_of a) page ≡ true → IsIdle (pends_at new q a)
 
 -- no word tells the two maps apart
 pub record IsSame (old new : PlaceMap) : Type 0 where

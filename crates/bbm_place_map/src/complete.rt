@@ -7,13 +7,13 @@ ghost use Rattle.bbm_entry_state.specs.declared.state.EntryState.TheVariants as 
 ghost use Rattle.bbm_place_map.specs.Cells.{slot_in};
 ghost use Rattle.bbm_place_map.specs.Dsbs.{CanAnswer, CompletesAll, HasWaiting, HoldWaiting, IsSettled};
 ghost use Rattle.bbm_place_map.specs.Each.{Completes, loses_table, is_table as spec_is_table};
-ghost use Rattle.bbm_place_map.specs.Entries.{cell_at, entry_in, no_pends, pends_in, seat};
+ghost use Rattle.bbm_place_map.specs.Entries.{cell_at, entry_in, no_pends, pends_in, position};
 ghost use Rattle.bbm_place_map.specs.Parts.{marks_in};
 ghost use Rattle.bbm_place_map.specs.Sound.{FrontStays, SameSize, StillSound};
 ghost use Rattle.bbm_place_map.specs.Works.{Holds, HoldsFor, IsQuiet, MayComplete};
 ghost use Rattle.bbm_place_map.specs.declared.entry.Entry.{Entry as TheEntry};
 
-use crate::entry::{Entry, is_quiet, pends_of, take_answered};
+use crate::entry::{Entry, is_quiet_for, take_answered};
 use crate::links::unlink;
 use crate::orders::Barrier;
 use crate::read::slot_of;
@@ -37,7 +37,7 @@ fn answer_at(broken: &mut Vec<Entry>, k: usize, barrier: &Barrier) -> bool
     requires some { 1 ≤ barrier.now.n }
     requires most { barrier.now.n ≤ 128 }
     requires within { k < vec_len broken.old }
-    ensures entry { (e : TheEntry) → slice_get broken.old.items k ≡ Some e → (f : TheEntry) × (seat f ≡ seat e)
+    ensures entry { (e : TheEntry) → slice_get broken.old.items k ≡ Some e → (f : TheEntry) × (position f ≡ position e)
         × (result ≡ true → Completed (state.Broken e.marks) (pends_in e.pends.items barrier.now.issuer)
         barrier.now.dsb barrier.now.n state.Clean no_pends)
         × (result ≡ false → Completed (state.Broken e.marks) (pends_in e.pends.items barrier.now.issuer)
@@ -138,7 +138,7 @@ fn complete_cells(
 {
     let mut lost = false;
     for i in 0..list.len() {
-        if complete_cell(cells, broken, list[i], barrier) {
+        if complete_cell(cells, broken, list[list.len() - 1 - i], barrier) {
             lost = true;
         }
     }
@@ -151,7 +151,7 @@ fn list_waiting(list: &mut WorkList, entry: &Entry, issuer: Pe, broken: usize)
         ⊎ IsQuiet wide (pends_in entry.now.pends.items issuer) }
     ensures kept { (wide : Bool) (j : ℕ) → Holds list.old wide j → Holds list.new wide j }
 {
-    if !is_quiet(&pends_of(&entry.pends, issuer), true) {
+    if !is_quiet_for(&entry.pends, issuer, true) {
         add(list, entry.cell, broken);
     }
 }

@@ -2,7 +2,7 @@
 //! Source: project's own choice, where no other is named.
 
 ghost use Rattle.std.specs.Prelude.{◌≡◌, ◌≢◌, ◌↔◌, ◌<◌, ℕ, IsTrue, OnOk, IfSome, None, length, true, false};
-ghost use Rattle.bbm_place_map.specs.Dsbs.{AreAnswered, Takes, WaitsOn};
+ghost use Rattle.bbm_place_map.specs.Dsbs.{Takes, TakesAnswered};
 ghost use Rattle.bbm_place_map.specs.Entries.{Adds, lane_of as spec_lane_of, pend_in, pends_in, WaitsAlike};
 ghost use Rattle.bbm_place_map.specs.Entries.{HasRoom, IsFirst, Lacks};
 ghost use Rattle.smallvec.specs.SmallVec.{HasRoomFor};
@@ -58,7 +58,7 @@ fn is_none(pend: &Pend) -> bool
 }
 
 /// Whether nothing waits; or nothing for the answer of a TLBI that isn't broadcast.
-pub fn is_quiet(pends: &Pends, wide: bool) -> bool
+fn is_quiet(pends: &Pends, wide: bool) -> bool
     ensures { IsTrue result ↔ IsQuiet wide pends.now }
 {
     if wide {
@@ -107,6 +107,16 @@ pub fn pends_of(pendings: &[Pending], issuer: Pe) -> Pends
     let broadcast = pend_of(pendings, lane_of(issuer, true));
     let local = pend_of(pendings, lane_of(issuer, false));
     Pends { broadcast, local }
+}
+
+/// Whether nothing waits for the answers of the issuer's TLBIs; or nothing for that of one that isn't broadcast.
+pub fn is_quiet_for(pendings: &[Pending], issuer: Pe, wide: bool) -> bool
+    ensures { IsTrue result ↔ IsQuiet wide (pends_in pendings.now issuer) }
+{
+    if pendings.is_empty() {
+        return true;
+    }
+    is_quiet(&pends_of(pendings, issuer), wide)
 }
 
 /// Notes a TLBI over a place with these marks in what waits for the answers of its lane, which is kept here.
@@ -200,7 +210,7 @@ pub fn note_pends(
     ensures quiet { IsTrue result ↔ IsQuiet broadcast (pends_in pendings.old.items issuer) }
     ensures others { (q : ℕ) → q ≢ issuer → pends_in pendings.new.items q ≡ pends_in pendings.old.items q }
 {
-    let quiet = is_quiet(&pends_of(pendings.as_slice(), issuer), broadcast);
+    let quiet = is_quiet_for(pendings.as_slice(), issuer, broadcast);
     note_lane(pendings, lane_of(issuer, broadcast), marks, reach, cover);
     quiet
 }
@@ -220,9 +230,7 @@ fn take_if(pendings: &mut SmallVec<Pending, 1>, lane: u8, flag: bool) -> Pend
 
 /// Takes those whose answer a DSB is out of those that wait for the answers of its issuer's TLBIs.
 pub fn take_answered(pendings: &mut SmallVec<Pending, 1>, issuer: Pe, dsb: Dsb) -> Pend
-    ensures done { AreAnswered dsb (pends_in pendings.old.items issuer) result }
-    ensures left { WaitsOn dsb (pends_in pendings.old.items issuer) (pends_in pendings.new.items issuer) }
-    ensures others { (q : ℕ) → q ≢ issuer → pends_in pendings.new.items q ≡ pends_in pendings.old.items q }
+    ensures { TakesAnswered dsb issuer pendings.old.items pendings.new.items result }
 {
     let all = take_if(pendings, lane_of(issuer, true), completes_broadcast(dsb));
     let own = take_if(pendings, lane_of(issuer, false), completes_local(dsb));

@@ -48,6 +48,7 @@ pub fn break_before_make(
     let full = Found {
         place,
         cover: Cover::Full,
+        near: 0,
     };
     map.issue_at(alloc, issuer, PeMask::all(n), true, &[full])?;
     map.publish(issuer, ISH, n);

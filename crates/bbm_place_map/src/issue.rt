@@ -6,7 +6,7 @@ ghost use Rattle.bbm_entry_state.specs.EntryCalls.{Noted};
 ghost use Rattle.bbm_entry_state.specs.declared.state.EntryState.TheVariants as state;
 ghost use Rattle.bbm_tlbi_scope.specs.declared.entry.Cover.{Cover as TheCover};
 ghost use Rattle.bbm_place_map.specs.Each.{Advances};
-ghost use Rattle.bbm_place_map.specs.Entries.{seat, lane_of, pends_in, HasRoom};
+ghost use Rattle.bbm_place_map.specs.Entries.{position, lane_of, pends_in, HasRoom};
 ghost use Rattle.bbm_place_map.specs.Finds.{is_found};
 ghost use Rattle.indexmap.specs.IndexMap.{get};
 ghost use Rattle.bbm_place_map.specs.Sound.{IsSound, SameSize, slot_at, starts};
@@ -33,19 +33,19 @@ pub struct Kept<'a> {
     pub parts: &'a [u32],
     /// The cells.
     pub cells: &'a [u32],
-    /// The number of an entry that is tried before a place is looked up.
-    pub near: u32,
 }
 
-/// The number of a place's entry; None where the place isn't broken.
-fn entry_of(kept: &Kept, broken: &[Entry], place: Place) -> Option<u32>
+/// The number of a place's entry; None where the place isn't broken. No answer depends on the number `near`, at which
+/// it is looked for first.
+#[inline(always)]
+fn entry_of(kept: &Kept, broken: &[Entry], place: Place, near: u32) -> Option<u32>
     requires { IsSound (starts (get nat_eq kept.now.pages.now) kept.now.parts.now) kept.now.cells.now broken.now }
     ensures { result ≡ slot_at (starts (get nat_eq kept.now.pages.now) kept.now.parts.now) kept.now.cells.now place }
 {
-    let near = kept.near as usize;
-    if near < broken.len() {
-        if broken[near].place == place {
-            return Some(kept.near);
+    let number = near as usize;
+    if number < broken.len() {
+        if broken[number].place == place {
+            return Some(near);
         }
     }
     entry_at(kept.pages, kept.parts, kept.cells, place)
@@ -66,7 +66,7 @@ fn is_cover(cover: Cover) -> bool
 /// Makes room at an entry for what waits for the answers of a lane. `NoMemory` where there is none.
 fn make_room_at(broken: &mut Vec<Entry>, k: usize, lane: u8) -> Result<(), NoMemory>
     requires { k < vec_len broken.old }
-    ensures entry { (e : TheEntry) → slice_get broken.old.items k ≡ Some e → (f : TheEntry) × (seat f ≡ seat e)
+    ensures entry { (e : TheEntry) → slice_get broken.old.items k ≡ Some e → (f : TheEntry) × (position f ≡ position e)
         × Keeps e f × OnOk result (HasRoom f.pends lane)
         × ((i : ℕ) → slice_get broken.new.items i ≡ (if nat_eq i k then Some f else slice_get broken.old.items i)) }
     ensures size { SameSize broken.old broken.new }
@@ -82,7 +82,7 @@ fn note_at(broken: &mut Vec<Entry>, k: usize, tlbi: &Issuing, cover: Cover) -> b
     requires within { k < vec_len broken.old }
     requires ready { (e : TheEntry) → slice_get broken.old.items k ≡ Some e
         → HasRoom e.pends (lane_of tlbi.now.issuer tlbi.now.broadcast) }
-    ensures entry { (e : TheEntry) → slice_get broken.old.items k ≡ Some e → (f : TheEntry) × (seat f ≡ seat e)
+    ensures entry { (e : TheEntry) → slice_get broken.old.items k ≡ Some e → (f : TheEntry) × (position f ≡ position e)
         × (f.marks ≡ e.marks) × ((q : ℕ) → q ≢ tlbi.now.issuer → pends_in f.pends.items q ≡ pends_in e.pends.items q)
         × Noted (state.Broken e.marks) (pends_in e.pends.items tlbi.now.issuer) tlbi.now.reach tlbi.now.broadcast cover
         (pends_in f.pends.items tlbi.now.issuer)
@@ -115,7 +115,7 @@ fn note_entry(
     requires within { k < vec_len broken.old }
     requires ready { (e : TheEntry) → slice_get broken.old.items k ≡ Some e → spec_is_cover cover ≡ true
         → HasRoom e.pends (lane_of tlbi.now.issuer tlbi.now.broadcast) }
-    ensures entry { (e : TheEntry) → slice_get broken.old.items k ≡ Some e → (f : TheEntry) × (seat f ≡ seat e)
+    ensures entry { (e : TheEntry) → slice_get broken.old.items k ≡ Some e → (f : TheEntry) × (position f ≡ position e)
         × NotesAs cover tlbi.now e f × Waits lists.new.items tlbi.now.issuer e f
         × ((i : ℕ) → slice_get broken.new.items i ≡ (if nat_eq i k then Some f else slice_get broken.old.items i)) }
     ensures rest { OnlyNotes broken.old broken.new lists.old.items lists.new.items }
@@ -176,22 +176,22 @@ fn is_among(found: &[Found], place: Place) -> bool
     false
 }
 
-/// Makes room for the lane at a place, if it is broken. `NoMemory` where there is none.
+/// Makes room for the lane at the place of an item, if it is broken. `NoMemory` where there is none.
 fn make_room_for(
     kept: &Kept,
     broken: &mut Vec<Entry>,
-    place: Place,
+    item: Found,
     lane: u8,
 ) -> Result<(), NoMemory>
     requires { IsSound (starts (get nat_eq kept.now.pages.now) kept.now.parts.now) kept.now.cells.now broken.old.items }
     ensures each { (m : ℕ) → Advances Keeps (slice_get broken.old.items m) (slice_get broken.new.items m) }
-    ensures ready { OnOk result ((m : ℕ) (e : TheEntry) → slice_get broken.new.items m ≡ Some e → e.place ≡ place
+    ensures ready { OnOk result ((m : ℕ) (e : TheEntry) → slice_get broken.new.items m ≡ Some e → e.place ≡ item.place
         → HasRoom e.pends lane) }
-    ensures others { (m : ℕ) (e : TheEntry) → slice_get broken.new.items m ≡ Some e → e.place ≢ place
+    ensures others { (m : ℕ) (e : TheEntry) → slice_get broken.new.items m ≡ Some e → e.place ≢ item.place
         → slice_get broken.new.items m ≡ slice_get broken.old.items m }
     ensures size { SameSize broken.old broken.new }
 {
-    match entry_of(kept, broken, place) {
+    match entry_of(kept, broken, item.place, item.near) {
         Some(k) => make_room_at(broken, k as usize, lane),
         None => Ok(()),
     }
@@ -211,7 +211,7 @@ pub fn make_room_found(
     ensures size { SameSize broken.old broken.new }
 {
     for i in 0..found.len() {
-        make_room_for(kept, broken, found[i].place, lane)?;
+        make_room_for(kept, broken, found[i], lane)?;
     }
     Ok(())
 }
@@ -233,7 +233,7 @@ fn note_for(
         (slice_get broken.old.items m) (slice_get broken.new.items m) }
     ensures rest { OnlyNotes broken.old broken.new lists.old.items lists.new.items }
 {
-    if let Some(k) = entry_of(kept, broken, item.place) {
+    if let Some(k) = entry_of(kept, broken, item.place, item.near) {
         note_entry(broken, k as usize, tlbi, item.cover, lists);
     }
 }

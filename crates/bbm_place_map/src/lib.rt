@@ -8,20 +8,21 @@
 //!   then.
 //! - At a write call `state`, with the core of the value that the place has, or with None where that is invalid or the
 //!   page is in no tree. Call `write` of that state, with the core of the new value, and `set` with its result. Both
-//!   look the page up. Where it is tracked, `seat` does so once for `live_at`, `core_at` and `write_at`, which makes
-//!   the new state by itself. `seat_near` looks for the page first at a number, as `recent_page` tells it, and
-//!   `seat_at` there alone. At a place that isn't broken (`is_broken_at`) `put_at` and `break_at` do what `write_at`
+//!   look the page up. Where it is tracked, `position` does so once for `live_at`, `core_at` and `write_at`, which makes
+//!   the new state by itself. `position_near` looks for the page first at a number, as `recent_page` tells it, and
+//!   `position_at` there alone. At a place that isn't broken (`is_broken_at`) `put_at` and `break_at` do what `write_at`
 //!   does.
 //! - At a TLBI call `issue_all`, with how far it covers each of the broken places. Where the few places that it can
 //!   cover are known call `issue_at` with these.
 //! - At a DSB call `publish`, then `complete`. They visit the places where the DSB may change something, seldom all.
 //! - Where a page leaves its tree call `release`.
-//! - Where all places of a page are asked, `is_blank` tells whether there is anything. From the seat of the page's
-//!   first place, `first_seat`, `values_of` gives the values, `value_from` reads one of them, and `core_from` a core,
+//! - Where all places of a page are asked, `is_blank` tells whether there is anything. From the position of the page's
+//!   first place, `first_position`, `values_of` gives the values, `value_from` reads one of them, and `core_from` a core,
 //!   without a look-up.
 //!
-//! `restless` and `restless_at` list the broken places, `restless_core` tells what each is broken over. Each contract
-//! says of every place what it is after the call. `break_before_make` is an example of the calls, with its proof.
+//! `restless` and `restless_at` list the broken places, `restless_core` tells what each is broken over, `restless_page`
+//! where to look first for its page, and `restless_number` the number of a position's place. Each contract says of every
+//! place what it is after the call. `break_before_make` is an example of the calls, with its proof.
 #![tactic(auto)]
 
 mod complete;
@@ -32,13 +33,13 @@ mod issue;
 mod links;
 mod map;
 mod orders;
+mod position;
 mod publish;
 mod read;
-mod seat;
 mod work;
 mod write;
 
 pub use example::break_before_make;
 pub use found::{Answer, Found};
 pub use map::PlaceMap;
-pub use seat::Seat;
+pub use position::Position;

@@ -10,9 +10,9 @@ ghost use Rattle.bbm_place_map.specs.Works.{Listed};
 use crate::entry::{Entry, lane_of};
 use crate::found::{Answer, Found};
 use crate::issue::Kept;
-use crate::links::put_slot;
+use crate::links::{link, put_slot};
 use crate::orders::{Barrier, Issuing};
-use crate::seat::Seat;
+use crate::position::Position;
 use crate::work::{self, Work};
 use crate::{complete, issue, publish, read, write};
 use bbm_barriers::Dsb;
@@ -42,6 +42,7 @@ pub struct PlaceMap {
     broken: Vec<Entry>,
     work: Work,
     recent: usize,
+    owners: Vec<u32>,
     ghost numbered: { Numbered (get nat_eq pages) (vec_len values) },
     ghost parted: { Parted (get nat_eq pages) parts.items (vec_len values) (vec_len cells) },
     ghost linked: { Linked cells.items broken.items },
@@ -56,8 +57,8 @@ pub struct PlaceMap {
 #[tactic(auto, unfolding(
 // values, marks and pendings
 crate::specs::Map::value_at, crate::specs::Map::marks_at, crate::specs::Map::pends_at,
-// pages and seats
-crate::specs::Map::is_tracked, crate::specs::Map::IsSeat,
+// pages and positions
+crate::specs::Map::is_tracked, crate::specs::Map::IsPosition,
 // the broken places by their numbers
 crate::specs::Map::restless_in, crate::specs::Map::restless_place))]
 impl PlaceMap {
@@ -69,18 +70,18 @@ impl PlaceMap {
     ghost use Rattle.bbm_entry_state.specs.declared.state.EntryState.{EntryState as TheState};
     ghost use Rattle.bbm_tlbi_scope.specs.declared.entry.Cover.{Cover as TheCover};
     ghost use Rattle.bbm_place_map.specs.Finds.{is_found, FoundAs};
-    ghost use Rattle.bbm_place_map.specs.MapCalls.{lost_table, IsSame, KeepsItems, Leaves, Puts};
+    ghost use Rattle.bbm_place_map.specs.MapCalls.{lost_table, Frees, IsSame, KeepsItems, KeepsPlaces};
+    ghost use Rattle.bbm_place_map.specs.MapCalls.{KeepsBroken, KeepsValues, Leaves, NotesOnly, Puts, WritesAs};
     ghost use Rattle.bbm_place_map.specs.Cells.{cell_by};
     ghost use Rattle.bbm_place_map.specs.declared.entry.Entry.{Entry as TheEntry};
     ghost use Rattle.bbm_entry_state.specs.EntryCalls.{Written, Published, Noted, Completed};
     ghost use Rattle.bbm_descriptor.specs.Descriptor.{core_of};
     ghost use Rattle.bbm_descriptor.specs.declared.desc.Core.{Core as TheCore};
     ghost use Rattle.bbm_entry_state.specs.EntryStanding.{IsIdle};
-    ghost use Rattle.bbm_place_map.specs.Map.{value_at, marks_at, pends_at, is_tracked, IsSeat, page_of, restless_in};
-    ghost use Rattle.bbm_place_map.specs.Map.{place_cell, restless_place, state_at};
+    ghost use Rattle.bbm_place_map.specs.Map.{value_at, marks_at, pends_at, is_tracked, IsPosition, page_of};
+    ghost use Rattle.bbm_place_map.specs.Map.{place_cell, restless_in, restless_place, state_at};
     ghost use Rattle.bbm_place_map.specs.Entries.{WaitsAlike};
     ghost use Rattle.bbm_place_map.specs.Sound.{index_of};
-    ghost use Rattle.bbm_place_map.specs.States.{marks_of_state};
 
     /// A map that tracks no page. It takes no memory yet.
     pub fn new(alloc: Global) -> PlaceMap
@@ -99,6 +100,7 @@ impl PlaceMap {
             broken: Vec::new(alloc),
             work: work::no_work(alloc),
             recent: 0,
+            owners: Vec::new(alloc),
         }
     }
 
@@ -141,36 +143,36 @@ impl PlaceMap {
         }
     }
 
-    /// Where the place is kept; None where its page isn't tracked. A call that needs a place's seat looks nothing up.
-    pub fn seat(&self, place: Place) -> Option<Seat>
-        ensures place { IfSome result (λ seat. seat.place ≡ place) }
-        ensures seat { IfSome result (λ seat. IsSeat self.now seat) }
+    /// Where the place is kept; None where its page isn't tracked. A call that needs a place's position looks nothing up.
+    pub fn position(&self, place: Place) -> Option<Position>
+        ensures place { IfSome result (λ position. position.place ≡ place) }
+        ensures position { IfSome result (λ position. IsPosition self.now position) }
         ensures tracked { is_tracked self.now (page_of place) ≡ true → IsSome result }
     {
         let index = self.index(place)?;
-        Some(Seat { place, index })
+        Some(Position { place, index })
     }
 
     /// The same. No answer depends on the number `near`: the page is looked for first where it has this number in the
     /// order in which pages were tracked.
     #[inline(always)]
-    pub fn seat_near(&self, place: Place, near: usize) -> Option<Seat>
-        ensures place { IfSome result (λ seat. seat.place ≡ place) }
-        ensures seat { IfSome result (λ seat. IsSeat self.now seat) }
+    pub fn position_near(&self, place: Place, near: usize) -> Option<Position>
+        ensures place { IfSome result (λ position. position.place ≡ place) }
+        ensures position { IfSome result (λ position. IsPosition self.now position) }
         ensures tracked { is_tracked self.now (page_of place) ≡ true → IsSome result }
     {
         let index = self.index_near(place, near)?;
-        Some(Seat { place, index })
+        Some(Position { place, index })
     }
 
-    /// The seat of a place, where its page has this number in the order in which pages were tracked; None says nothing.
+    /// The position of a place, where its page has this number in the order in which pages were tracked; None says nothing.
     #[inline(always)]
-    pub fn seat_at(&self, place: Place, number: usize) -> Option<Seat>
-        ensures place { IfSome result (λ seat. seat.place ≡ place) }
-        ensures seat { IfSome result (λ seat. IsSeat self.now seat) }
+    pub fn position_at(&self, place: Place, number: usize) -> Option<Position>
+        ensures place { IfSome result (λ position. position.place ≡ place) }
+        ensures position { IfSome result (λ position. IsPosition self.now position) }
     {
         let index = read::index_here(&self.pages, &self.values, number, place)?;
-        Some(Seat { place, index })
+        Some(Position { place, index })
     }
 
     /// The number of the page of the last write in the order in which pages were tracked: where to look first for that
@@ -180,30 +182,30 @@ impl PlaceMap {
         self.recent
     }
 
-    /// The core of the value of a seat's place, read at this kind and level, 0 to 3; None where the value is invalid.
-    pub fn live_at(&self, seat: &Seat, kind: Kind, level: u8) -> Option<Core>
-        requires seat { IsSeat self.now seat.now }
+    /// The core of the value of a position's place, read at this kind and level, 0 to 3; None where the value is invalid.
+    pub fn live_at(&self, position: &Position, kind: Kind, level: u8) -> Option<Core>
+        requires position { IsPosition self.now position.now }
         requires level { level ≤ 3 }
-        ensures { result ≡ core_of kind level (value_at self.now seat.now.place) }
+        ensures { result ≡ core_of kind level (value_at self.now position.now.place) }
     {
-        core(kind, level, self.values[seat.index])
+        core(kind, level, self.values[position.index])
     }
 
-    /// Whether a seat's place is broken.
+    /// Whether a position's place is broken.
     #[inline(always)]
-    pub fn is_broken_at(&self, seat: &Seat) -> bool
-        requires { IsSeat self.now seat.now }
-        ensures { result ≡ is_some (marks_at self.now seat.now.place) }
+    pub fn is_broken_at(&self, position: &Position) -> bool
+        requires { IsPosition self.now position.now }
+        ensures { result ≡ is_some (marks_at self.now position.now.place) }
     {
-        read::is_broken(&self.parts, &self.cells, &self.broken, seat.index)
+        read::is_broken(&self.parts, &self.cells, &self.broken, position.index)
     }
 
-    /// The core that a seat's place is broken over; where it isn't broken, this one.
-    pub fn core_at(&self, seat: &Seat, live: Option<Core>) -> Option<Core>
-        requires { IsSeat self.now seat.now }
-        ensures { result ≡ core_in (state_at self.now live seat.now.place) }
+    /// The core that a position's place is broken over; where it isn't broken, this one.
+    pub fn core_at(&self, position: &Position, live: Option<Core>) -> Option<Core>
+        requires { IsPosition self.now position.now }
+        ensures { result ≡ core_in (state_at self.now live position.now.place) }
     {
-        read::core(&self.parts, &self.cells, &self.broken, seat.index, live)
+        read::core(&self.parts, &self.cells, &self.broken, position.index, live)
     }
 
     /// The state of the place, read at this kind and level, 0 to 3: one that isn't broken is live with the core of its
@@ -250,57 +252,58 @@ impl PlaceMap {
         }
     }
 
-    /// The seat of the first place of a tracked page, from which the places of the page are read.
-    pub fn first_seat(&self, page: Page) -> Seat
+    /// The position of the first place of a tracked page, from which the places of the page are read.
+    pub fn first_position(&self, page: Page) -> Position
         requires { is_tracked self.now page ≡ true }
         ensures place { result.place ≡ page }
-        ensures seat { IsSeat self.now result }
+        ensures position { IsPosition self.now result }
         ensures first { result.place % 4096 ≡ 0 }
     {
         let place = Place::new(page.get()).unwrap();
         let index = self.base(page).unwrap();
-        Seat { place, index }
+        Position { place, index }
     }
 
-    /// The value of the place with this number, 0 to 511, of the page whose first place the seat has.
-    pub fn value_from(&self, seat: &Seat, number: u64) -> u64
-        requires seat { IsSeat self.now seat.now }
-        requires first { seat.now.place % 4096 ≡ 0 }
+    /// The value of the place with this number, 0 to 511, of the page whose first place the position has.
+    pub fn value_from(&self, position: &Position, number: u64) -> u64
+        requires position { IsPosition self.now position.now }
+        requires first { position.now.place % 4096 ≡ 0 }
         requires within { number < 512 }
-        ensures { result ≡ value_at self.now (seat.now.place + 8 * number) }
+        ensures { result ≡ value_at self.now (position.now.place + 8 * number) }
     {
-        self.values[seat.index + number as usize]
+        self.values[position.index + number as usize]
     }
 
-    /// The values of the 512 places, in their order, of the page whose first place the seat has.
+    /// The values of the 512 places, in their order, of the page whose first place the position has.
     #[inline(always)]
-    pub fn values_of(&self, seat: &Seat) -> &[u64]
-        requires seat { IsSeat self.now seat.now }
-        requires first { seat.now.place % 4096 ≡ 0 }
+    pub fn values_of(&self, position: &Position) -> &[u64]
+        requires position { IsPosition self.now position.now }
+        requires first { position.now.place % 4096 ≡ 0 }
         ensures len { length result.now ≡ 512 }
         ensures each { (i : ℕ) → i < 512 → slice_index_or result.now i 0
-            ≡ value_at self.now (seat.now.place + 8 * i) }
+            ≡ value_at self.now (position.now.place + 8 * i) }
     {
-        read::values_of(&self.values, seat.index)
+        read::values_of(&self.values, position.index)
     }
 
-    /// The core that the place with this number, 0 to 511, has, of the page whose first place the seat has: the one
+    /// The core that the place with this number, 0 to 511, has, of the page whose first place the position has: the one
     /// that it is broken over; where it isn't broken that of its value, read at this kind and level, 0 to 3, and None
     /// where that is invalid.
-    pub fn core_from(&self, seat: &Seat, number: u64, kind: Kind, level: u8) -> Option<Core>
-        requires seat { IsSeat self.now seat.now }
-        requires first { seat.now.place % 4096 ≡ 0 }
+    pub fn core_from(&self, position: &Position, number: u64, kind: Kind, level: u8) -> Option<Core>
+        requires position { IsPosition self.now position.now }
+        requires first { position.now.place % 4096 ≡ 0 }
         requires within { number < 512 }
         requires level { level ≤ 3 }
         ensures { result ≡ core_in (state_at self.now
-            (core_of kind level (value_at self.now (seat.now.place + 8 * number))) (seat.now.place + 8 * number)) }
+            (core_of kind level (value_at self.now (position.now.place + 8 * number)))
+            (position.now.place + 8 * number)) }
     {
-        let live = core(kind, level, self.value_from(seat, number));
-        let j = seat.index + number as usize;
+        let live = core(kind, level, self.value_from(position, number));
+        let j = position.index + number as usize;
         read::core(&self.parts, &self.cells, &self.broken, j, live)
     }
 
-    /// How many places are broken.
+    /// How many places are broken. Each is a place of a descriptor: its address is a multiple of 8.
     pub fn restless(&self) -> u64
         ensures count { result ≡ restless_in self.now }
         ensures broken { (i : ℕ) → i < restless_in self.now → is_some (marks_at self.now (restless_place self.now i))
@@ -310,6 +313,7 @@ impl PlaceMap {
         ensures once { (i j : ℕ) → i < restless_in self.now → j < restless_in self.now
             → restless_place self.now i ≡ restless_place self.now j → i ≡ j }
         ensures idle { (q a : ℕ) → marks_at self.now a ≡ None → IsIdle (pends_at self.now q a) }
+        ensures aligned { (a : ℕ) → is_some (marks_at self.now a) ≡ true → a % 8 ≡ 0 }
     {
         self.broken.len() as u64
     }
@@ -332,184 +336,220 @@ impl PlaceMap {
         self.broken[i as usize].marks.core
     }
 
-    /// The PE writes a value at a seat's place, the core of which is `new`, None where it is invalid; `live` is the
+    /// The number at which the page of one of the broken places, by its number below `restless`, is best looked for
+    /// first: most often its own, in the order in which pages were tracked. No answer depends on it.
+    #[inline(always)]
+    pub fn restless_page(&self, i: u64) -> usize
+        requires { i < restless_in self.now }
+    {
+        match self.owners.get(self.broken[i as usize].cell as usize / 512) {
+            Some(page) => *page as usize,
+            None => self.recent,
+        }
+    }
+
+    /// The number of a position's place among the broken ones, below `restless`; None where it isn't broken.
+    #[inline(always)]
+    pub fn restless_number(&self, position: &Position) -> Option<u32>
+        requires { IsPosition self.now position.now }
+        ensures some { (i : ℕ) → result ≡ Some i
+            → (i < restless_in self.now) × (restless_place self.now i ≡ position.now.place) }
+        ensures none { result ≡ None → marks_at self.now position.now.place ≡ None }
+    {
+        read::entry_number(&self.parts, &self.cells, position.index)
+    }
+
+    /// The PE writes a value at a position's place, the core of which is `new`, None where it is invalid; `live` is the
     /// core of the value before. The state is after what the write leaves of the one before. What waits there stays
     /// where the place is broken, and else is dropped. Nothing else changes.
     #[inline(always)]
     pub fn write_at(
         &mut self,
-        seat: &Seat,
+        position: &Position,
         pe: Pe,
         value: u64,
         live: &Option<Core>,
         new: &Option<Core>,
     )
-        requires { IsSeat self.old seat.now }
-        ensures written { (state : TheState) × Written (state_at self.old live.now seat.now.place) pe new.now state
-            × Leaves state seat.now.place self.old self.new }
-        ensures values { (a : ℕ) → value_at self.new a
-            ≡ (if nat_eq a seat.now.place then value else value_at self.old a) }
-        ensures pages { (page : ℕ) → is_tracked self.new page ≡ is_tracked self.old page }
+        requires { IsPosition self.old position.now }
+        ensures { WritesAs (state_at self.old live.now position.now.place) pe new.now value position.now.place
+            self.old self.new }
     {
         match new {
-            Some(_core) => self.put_whole(seat, value),
-            None => self.clear_at(seat, pe, value, live),
+            Some(_core) => self.put_unbroken(position, value),
+            None => self.clear_at(position, pe, value, live),
         }
     }
 
-    /// Writes a value at a seat's place, and changes nothing else: whether the place is broken, and what waits there,
+    /// Writes a value at a position's place, and changes nothing else: whether the place is broken, and what waits there,
     /// stays. So does `write_at`, of a valid value at a place that isn't broken.
     #[inline(always)]
-    pub fn put_at(&mut self, seat: &Seat, value: u64)
-        requires { IsSeat self.old seat.now }
-        ensures put { Puts value seat.now.place self.old self.new }
+    pub fn put_at(&mut self, position: &Position, value: u64)
+        requires { IsPosition self.old position.now }
+        ensures put { Puts value position.now.place self.old self.new }
         ensures marks { (a : ℕ) → marks_at self.new a ≡ marks_at self.old a }
         ensures pends { (q a : ℕ) → pends_at self.new q a ≡ pends_at self.old q a }
     {
-        let j = seat.index;
+        let j = position.index;
         write::put_value(&mut self.values, j, value);
         self.recent = j / VALUES;
     }
 
-    /// The PE writes an invalid value at a seat's place, which is live with this core and isn't broken. The state is
+    /// The PE writes an invalid value at a position's place, which is live with this core and isn't broken. The state is
     /// after what `write_at` leaves. What waits there stays, and nothing else changes.
     #[inline(always)]
-    pub fn break_at(&mut self, seat: &Seat, pe: Pe, value: u64, core: Core)
-        requires seat { IsSeat self.old seat.now }
-        requires whole { marks_at self.old seat.now.place ≡ None }
-        ensures written { (state : TheState) × Written (TheState.Live core) pe None state
-            × Leaves state seat.now.place self.old self.new }
-        ensures put { Puts value seat.now.place self.old self.new }
+    pub fn break_at(&mut self, position: &Position, pe: Pe, value: u64, core: Core)
+        requires position { IsPosition self.old position.now }
+        requires whole { marks_at self.old position.now.place ≡ None }
+        ensures { WritesAs (TheState.Live core) pe None value position.now.place self.old self.new }
     {
-        match (EntryState::Live { core }).write(pe, None) {
-            EntryState::Broken { marks } => self.put_fresh(seat, pe, value, marks),
-            EntryState::Clean => unreachable!(),
-            EntryState::Live { .. } => unreachable!(),
-        }
+        let i = self.cell(position);
+        self.break_cell(position, i, pe, core);
+        self.put_at(position, value);
+    }
+
+    /// The place of a position, which has this cell and isn't broken, is broken over a core by a write of this PE. What
+    /// waits there stays, and nothing else changes.
+    #[inline(always)]
+    fn break_cell(&mut self, position: &Position, i: usize, pe: Pe, core: Core)
+        requires cell { place_cell self.old position.now.place ≡ Some i }
+        requires whole { marks_at self.old position.now.place ≡ None }
+        ensures position { IsPosition self.old position.now → IsPosition self.new position.now }
+        ensures same { KeepsValues self.old self.new }
+        ensures written { (marks : TheMarks) × Written (TheState.Live core) pe None (TheState.Broken marks)
+            × Leaves (TheState.Broken marks) position.now.place self.old self.new }
+    {
+        let broken = self.broken.len();
+        work::note_break(&mut self.work, pe, i as u32, broken);
+        let marks = Marks::broken_by(core, pe);
+        link(
+            &mut self.cells,
+            &mut self.broken,
+            i,
+            position.place,
+            marks,
+            self.alloc,
+        );
     }
 
     /// The same for an invalid value. Each state has an arm of its own, so that the code of a live place carries no
     /// marks about.
-    fn clear_at(&mut self, seat: &Seat, pe: Pe, value: u64, live: &Option<Core>)
-        requires { IsSeat self.old seat.now }
-        ensures written { (state : TheState) × Written (state_at self.old live.now seat.now.place) pe None state
-            × Leaves state seat.now.place self.old self.new }
-        ensures put { Puts value seat.now.place self.old self.new }
+    fn clear_at(&mut self, position: &Position, pe: Pe, value: u64, live: &Option<Core>)
+        requires { IsPosition self.old position.now }
+        ensures { WritesAs (state_at self.old live.now position.now.place) pe None value position.now.place
+            self.old self.new }
     {
-        match read::state(&self.parts, &self.cells, &self.broken, seat.index, *live) {
+        match read::state(
+            &self.parts,
+            &self.cells,
+            &self.broken,
+            position.index,
+            *live,
+        ) {
             EntryState::Live { core } => {
-                self.clear_from(seat, pe, value, EntryState::Live { core })
+                self.clear_from(position, pe, value, EntryState::Live { core })
             }
             EntryState::Broken { marks } => {
-                self.clear_from(seat, pe, value, EntryState::Broken { marks })
+                self.clear_from(position, pe, value, EntryState::Broken { marks })
             }
-            EntryState::Clean => self.clear_from(seat, pe, value, EntryState::Clean),
+            EntryState::Clean => self.clear_from(position, pe, value, EntryState::Clean),
         }
     }
 
     /// The same at a place in this state.
     #[inline(always)]
-    fn clear_from(&mut self, seat: &Seat, pe: Pe, value: u64, state: EntryState)
-        requires { IsSeat self.old seat.now }
-        ensures written { (after : TheState) × Written state pe None after
-            × Leaves after seat.now.place self.old self.new }
-        ensures put { Puts value seat.now.place self.old self.new }
+    fn clear_from(&mut self, position: &Position, pe: Pe, value: u64, state: EntryState)
+        requires { IsPosition self.old position.now }
+        ensures { WritesAs state pe None value position.now.place self.old self.new }
     {
         match state.write(pe, None) {
-            EntryState::Broken { marks } => self.put_broken(seat, pe, value, marks),
-            EntryState::Clean => self.put_whole(seat, value),
-            EntryState::Live { .. } => self.put_whole(seat, value),
+            EntryState::Broken { marks } => self.put_broken(position, pe, value, marks),
+            EntryState::Clean => self.put_unbroken(position, value),
+            EntryState::Live { .. } => self.put_unbroken(position, value),
         }
     }
 
-    /// Writes a value at a seat's place, which isn't broken after. What waits there is dropped. Nothing else changes.
-    fn put_whole(&mut self, seat: &Seat, value: u64)
-        requires { IsSeat self.old seat.now }
-        ensures put { Puts value seat.now.place self.old self.new }
-        ensures marks { (a : ℕ) → marks_at self.new a
-            ≡ (if nat_eq a seat.now.place then None else marks_at self.old a) }
-        ensures pends { (q a : ℕ) → nat_eq a seat.now.place ≡ false → pends_at self.new q a ≡ pends_at self.old q a }
-        ensures dropped { (q : ℕ) → IsIdle (pends_at self.new q seat.now.place) }
+    /// Writes a value at a position's place, which isn't broken after. What waits there is dropped. Nothing else changes.
+    fn put_unbroken(&mut self, position: &Position, value: u64)
+        requires { IsPosition self.old position.now }
+        ensures put { Puts value position.now.place self.old self.new }
+        ensures left { Leaves TheState.Clean position.now.place self.old self.new }
     {
-        write::put_value(&mut self.values, seat.index, value);
-        write::clear_by(&self.parts, &mut self.cells, &mut self.broken, seat.index);
-        self.recent = seat.index / VALUES;
+        write::put_value(&mut self.values, position.index, value);
+        write::clear_by(
+            &self.parts,
+            &mut self.cells,
+            &mut self.broken,
+            position.index,
+        );
+        self.recent = position.index / VALUES;
     }
 
-    /// The number of the cell of a seat's place. Where its page has no cells it gets them, which changes nothing else.
+    /// The number of the cell of a position's place. Where its page has no cells it gets them, which changes nothing else.
     #[inline(always)]
-    fn cell(&mut self, seat: &Seat) -> usize
-        requires { IsSeat self.old seat.now }
-        ensures cell { place_cell self.new seat.now.place ≡ Some result }
-        ensures seat { IsSeat self.new seat.now }
+    fn cell(&mut self, position: &Position) -> usize
+        requires { IsPosition self.old position.now }
+        ensures cell { place_cell self.new position.now.place ≡ Some result }
+        ensures position { IsPosition self.new position.now }
         ensures same { IsSame self.old self.new }
     {
-        match read::cell(&self.parts, seat.index) {
+        match read::cell(&self.parts, position.index) {
             Some(i) => i,
-            None => self.add_part(seat),
+            None => self.add_part(position),
         }
     }
 
-    /// Makes the cells of the page of a seat's place, which has none. The number of that of the place.
+    /// Makes the cells of the page of a position's place, which has none. The number of that of the place.
     #[cold]
     #[inline(never)]
-    fn add_part(&mut self, seat: &Seat) -> usize
-        requires seat { IsSeat self.old seat.now }
-        requires none { cell_by self.old.parts.items seat.now.index ≡ None }
-        ensures cell { place_cell self.new seat.now.place ≡ Some result }
-        ensures seat { IsSeat self.new seat.now }
+    fn add_part(&mut self, position: &Position) -> usize
+        requires position { IsPosition self.old position.now }
+        requires none { cell_by self.old.parts.items position.now.index ≡ None }
+        ensures cell { place_cell self.new position.now.place ≡ Some result }
+        ensures position { IsPosition self.new position.now }
         ensures same { IsSame self.old self.new }
     {
         let start = self.cells.len();
         write::add_cells(&mut self.cells, 512);
-        put_slot(&mut self.parts, seat.index / 512, Some(start as u32));
-        start + seat.index % 512
+        match self.owners.push((position.index / 512) as u32) {
+            Ok(()) => {}
+            Err(_) => {}
+        }
+        put_slot(&mut self.parts, position.index / 512, Some(start as u32));
+        start + position.index % 512
     }
 
-    /// Writes a value at a seat's place, which is broken with these marks after. What waits there stays. Nothing else
+    /// Writes a value at a position's place, which is broken with these marks after. What waits there stays. Nothing else
     /// changes. Whoever wrote is best named, and the result is the same by any PE.
     #[inline(always)]
-    fn put_broken(&mut self, seat: &Seat, mostly: Pe, value: u64, marks: Marks)
-        requires { IsSeat self.old seat.now }
-        ensures put { Puts value seat.now.place self.old self.new }
-        ensures marks { (a : ℕ) → marks_at self.new a
-            ≡ (if nat_eq a seat.now.place then Some marks else marks_at self.old a) }
-        ensures pends { (q a : ℕ) → pends_at self.new q a ≡ pends_at self.old q a }
+    fn put_broken(&mut self, position: &Position, mostly: Pe, value: u64, marks: Marks)
+        requires { IsPosition self.old position.now }
+        ensures put { Puts value position.now.place self.old self.new }
+        ensures left { Leaves (TheState.Broken marks) position.now.place self.old self.new }
     {
-        let i = self.cell(seat);
+        let i = self.cell(position);
         let before = read::marks(&self.cells, &self.broken, i);
-        self.mark(seat, i, mostly, &before, marks);
-        self.put_at(seat, value);
+        self.mark(position, i, mostly, &before, marks);
+        self.put_at(position, value);
     }
 
-    /// The same at a place that isn't broken before.
-    #[inline(always)]
-    fn put_fresh(&mut self, seat: &Seat, pe: Pe, value: u64, marks: Marks)
-        requires seat { IsSeat self.old seat.now }
-        requires whole { marks_at self.old seat.now.place ≡ None }
-        ensures put { Puts value seat.now.place self.old self.new }
-        ensures marks { (a : ℕ) → marks_at self.new a
-            ≡ (if nat_eq a seat.now.place then Some marks else marks_at self.old a) }
-        ensures pends { (q a : ℕ) → pends_at self.new q a ≡ pends_at self.old q a }
-    {
-        let i = self.cell(seat);
-        self.mark(seat, i, pe, &None, marks);
-        self.put_at(seat, value);
-    }
-
-    /// The place of a seat, which has this cell and had these marks, is broken with other marks after. What waits there
+    /// The place of a position, which has this cell and had these marks, is broken with other marks after. What waits there
     /// stays. Nothing else changes.
     #[inline(always)]
-    fn mark(&mut self, seat: &Seat, i: usize, mostly: Pe, before: &Option<Marks>, marks: Marks)
-        requires seat { IsSeat self.old seat.now }
-        requires cell { place_cell self.old seat.now.place ≡ Some i }
-        requires before { before.now ≡ marks_at self.old seat.now.place }
-        ensures seat { IsSeat self.new seat.now }
-        ensures values { (a : ℕ) → value_at self.new a ≡ value_at self.old a }
-        ensures pages { (page : ℕ) → is_tracked self.new page ≡ is_tracked self.old page }
-        ensures marks { (a : ℕ) → marks_at self.new a
-            ≡ (if nat_eq a seat.now.place then Some marks else marks_at self.old a) }
-        ensures pends { (q a : ℕ) → pends_at self.new q a ≡ pends_at self.old q a }
+    fn mark(
+        &mut self,
+        position: &Position,
+        i: usize,
+        mostly: Pe,
+        before: &Option<Marks>,
+        marks: Marks,
+    )
+        requires position { IsPosition self.old position.now }
+        requires cell { place_cell self.old position.now.place ≡ Some i }
+        requires before { before.now ≡ marks_at self.old position.now.place }
+        ensures position { IsPosition self.new position.now }
+        ensures same { KeepsValues self.old self.new }
+        ensures left { Leaves (TheState.Broken marks) position.now.place self.old self.new }
     {
         let broken = self.broken.len();
         work::note_write(&mut self.work, mostly, i as u32, before, &marks, broken);
@@ -517,7 +557,7 @@ impl PlaceMap {
             &mut self.cells,
             &mut self.broken,
             i,
-            seat.place,
+            position.place,
             marks,
             self.alloc,
         );
@@ -527,32 +567,23 @@ impl PlaceMap {
     /// the place is broken, and else is dropped. Nothing else changes.
     pub fn set(&mut self, place: Place, value: u64, state: EntryState)
         requires { is_tracked self.old (page_of place) ≡ true }
-        ensures values { (a : ℕ) → value_at self.new a ≡ (if nat_eq a place then value else value_at self.old a) }
-        ensures marks { (a : ℕ) → marks_at self.new a
-            ≡ (if nat_eq a place then marks_of_state state else marks_at self.old a) }
-        ensures pends { (q a : ℕ) → (nat_eq a place && not (is_broken state)) ≡ false
-            → pends_at self.new q a ≡ pends_at self.old q a }
-        ensures dropped { (q : ℕ) → is_broken state ≡ false → IsIdle (pends_at self.new q place) }
-        ensures pages { (page : ℕ) → is_tracked self.new page ≡ is_tracked self.old page }
+        ensures put { Puts value place self.old self.new }
+        ensures left { Leaves state place self.old self.new }
     {
-        let seat = self.seat(place).unwrap();
+        let position = self.position(place).unwrap();
         match state {
             EntryState::Broken { marks } => {
-                self.put_broken(&seat, Pe::new(0).unwrap(), value, marks)
+                self.put_broken(&position, Pe::new(0).unwrap(), value, marks)
             }
-            EntryState::Clean => self.put_whole(&seat, value),
-            EntryState::Live { .. } => self.put_whole(&seat, value),
+            EntryState::Clean => self.put_unbroken(&position, value),
+            EntryState::Live { .. } => self.put_unbroken(&position, value),
         }
     }
 
     /// No place of the page is broken any more, and nothing waits there. Nothing else changes.
     pub fn release(&mut self, page: Page)
-        ensures values { (a : ℕ) → value_at self.new a ≡ value_at self.old a }
-        ensures marks { (a : ℕ) → marks_at self.new a
-            ≡ (if nat_eq (page_of a) page then None else marks_at self.old a) }
-        ensures pends { (q a : ℕ) → nat_eq (page_of a) page ≡ false → pends_at self.new q a ≡ pends_at self.old q a }
-        ensures dropped { (q a : ℕ) → nat_eq (page_of a) page ≡ true → IsIdle (pends_at self.new q a) }
-        ensures pages { (p : ℕ) → is_tracked self.new p ≡ is_tracked self.old p }
+        ensures freed { Frees page self.old self.new }
+        ensures same { KeepsValues self.old self.new }
     {
         match self.base(page) {
             Some(base) => {
@@ -569,11 +600,8 @@ impl PlaceMap {
         requires issuer_below { issuer < n }
         ensures published { (live : Option TheCore) (a : ℕ)
             → Published (state_at self.old live a) issuer dsb n (state_at self.new live a) }
-        ensures values { (a : ℕ) → value_at self.new a ≡ value_at self.old a }
         ensures pends { (q a : ℕ) → pends_at self.new q a ≡ pends_at self.old q a }
-        ensures pages { (page : ℕ) → is_tracked self.new page ≡ is_tracked self.old page }
-        ensures restless { restless_in self.new ≡ restless_in self.old }
-        ensures places { (i : ℕ) → restless_place self.new i ≡ restless_place self.old i }
+        ensures same { KeepsPlaces self.old self.new }
     {
         if self.broken.is_empty() {
             return;
@@ -599,8 +627,7 @@ impl PlaceMap {
             ≡ (is_some (marks_at self.new a) && waits (pends_at self.old q a) b c p) }
         ensures lost { result ≡ true → (a : ℕ) × (lost_table self.old self.new a ≡ true) }
         ensures kept { result ≡ false → (a : ℕ) → lost_table self.old self.new a ≡ false }
-        ensures values { (a : ℕ) → value_at self.new a ≡ value_at self.old a }
-        ensures pages { (page : ℕ) → is_tracked self.new page ≡ is_tracked self.old page }
+        ensures same { KeepsValues self.old self.new }
     {
         if self.broken.is_empty() {
             return false;
@@ -623,10 +650,7 @@ impl PlaceMap {
         ensures pages { OnOk result ((p : ℕ) → is_tracked self.new p ≡ (nat_eq p page || is_tracked self.old p)) }
         ensures values { OnOk result ((a : ℕ) → value_at self.new a
             ≡ (if nat_eq (page_of a) page then 0 else value_at self.old a)) }
-        ensures marks { OnOk result ((a : ℕ) → marks_at self.new a
-            ≡ (if nat_eq (page_of a) page then None else marks_at self.old a)) }
-        ensures pends { OnOk result ((q a : ℕ) → nat_eq (page_of a) page ≡ false
-            → pends_at self.new q a ≡ pends_at self.old q a) }
+        ensures freed { OnOk result (Frees page self.old self.new) }
         ensures kept { OnErr result (IsSame self.old self.new) }
     {
         match self.base(page) {
@@ -644,8 +668,7 @@ impl PlaceMap {
         requires { is_tracked self.old page ≡ false }
         ensures pages { OnOk result ((p : ℕ) → is_tracked self.new p ≡ (nat_eq p page || is_tracked self.old p)) }
         ensures values { OnOk result ((a : ℕ) → value_at self.new a ≡ value_at self.old a) }
-        ensures marks { OnOk result ((a : ℕ) → marks_at self.new a ≡ marks_at self.old a) }
-        ensures pends { OnOk result ((q a : ℕ) → pends_at self.new q a ≡ pends_at self.old q a) }
+        ensures same { OnOk result (KeepsBroken self.old self.new) }
         ensures kept { OnErr result (IsSame self.old self.new) }
     {
         let base = self.values.len();
@@ -696,13 +719,8 @@ impl PlaceMap {
             → Noted (state_at self.old None (restless_place self.old i))
             (pends_at self.old issuer (restless_place self.old i)) reach broadcast c
             (pends_at self.new issuer (restless_place self.old i))) }
-        ensures others { (q a : ℕ) → nat_eq q issuer ≡ false → pends_at self.new q a ≡ pends_at self.old q a }
+        ensures only { NotesOnly issuer self.old self.new }
         ensures kept { OnErr result (IsSame self.old self.new) }
-        ensures values { (a : ℕ) → value_at self.new a ≡ value_at self.old a }
-        ensures marks { (a : ℕ) → marks_at self.new a ≡ marks_at self.old a }
-        ensures pages { (page : ℕ) → is_tracked self.new page ≡ is_tracked self.old page }
-        ensures restless { restless_in self.new ≡ restless_in self.old }
-        ensures places { (i : ℕ) → restless_place self.new i ≡ restless_place self.old i }
     {
         issue::make_room(&mut self.broken, covers, lane_of(issuer, broadcast))?;
         issue::note(
@@ -736,23 +754,16 @@ impl PlaceMap {
             (pends_at self.new issuer a)) }
         ensures unnoted { (a : ℕ) → is_found found.now a ≡ false → pends_at self.new issuer a
             ≡ pends_at self.old issuer a }
-        ensures others { (q a : ℕ) → nat_eq q issuer ≡ false → pends_at self.new q a ≡ pends_at self.old q a }
+        ensures only { NotesOnly issuer self.old self.new }
         ensures kept { OnErr result (IsSame self.old self.new) }
-        ensures values { (a : ℕ) → value_at self.new a ≡ value_at self.old a }
-        ensures marks { (a : ℕ) → marks_at self.new a ≡ marks_at self.old a }
-        ensures pages { (page : ℕ) → is_tracked self.new page ≡ is_tracked self.old page }
-        ensures restless { restless_in self.new ≡ restless_in self.old }
-        ensures places { (i : ℕ) → restless_place self.new i ≡ restless_place self.old i }
     {
         if found.is_empty() {
             return Ok(());
         }
-        let first = read::entry_at(&self.pages, &self.parts, &self.cells, found[0].place);
         let kept = Kept {
             pages: &self.pages,
             parts: &self.parts,
             cells: &self.cells,
-            near: first.unwrap_or(0),
         };
         issue::make_room_found(&kept, &mut self.broken, found, lane_of(issuer, broadcast))?;
         issue::note_found(

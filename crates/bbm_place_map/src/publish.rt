@@ -2,59 +2,41 @@
 
 ghost use Rattle.std.specs.Prelude.{◌≡◌, ◌≢◌, ◌≤◌, ◌<◌, ◌⊎◌, ℕ, Bool, Some, true, false, vec_len, vec_capacity};
 ghost use Rattle.std.specs.Prelude.{length, slice_get, slice_index, nat_eq, if◌then◌else◌};
-ghost use Rattle.bbm_entry_state.specs.EntryCalls.{Published};
 ghost use Rattle.bbm_place_map.specs.Cells.{slot_in};
-ghost use Rattle.bbm_place_map.specs.Dsbs.{CanPublish, HoldUntold, InLog, PublishesAll};
+ghost use Rattle.bbm_place_map.specs.Dsbs.{CanPublish, HoldUntold, InLog, IsAudience, PublishesAll};
 ghost use Rattle.bbm_place_map.specs.Each.{Advances, Publishes};
-ghost use Rattle.bbm_place_map.specs.Entries.{seat};
+ghost use Rattle.bbm_place_map.specs.Entries.{position};
 ghost use Rattle.bbm_place_map.specs.Sound.{Linked, SameSize};
 ghost use Rattle.bbm_place_map.specs.Works.{Holds, HoldsFor, IsTold, MayPublish};
 ghost use Rattle.bbm_place_map.specs.declared.entry.Entry.{Entry as TheEntry};
 
 use crate::entry::Entry;
 use crate::orders::Barrier;
-use crate::read::{broken_marks, slot_of};
+use crate::read::slot_of;
 use crate::work::{WorkList, add, part, pass_local, restart};
-use crate::write::remark;
 use bbm_barriers::{is_non, publishes_to};
-use bbm_entry_state::{EntryState, Marks};
+use bbm_entry_state::Marks;
 use bbm_regimes::PeMask;
 
-/// The marks after a DSB of the issuer published its writes.
-fn published(marks: Marks, barrier: &Barrier) -> Marks
-    requires { InLog barrier.now }
-    ensures { Published (EntryState.Broken marks) barrier.now.issuer barrier.now.dsb barrier.now.n
-        (EntryState.Broken result) }
-{
-    broken_marks((EntryState::Broken { marks }).dsb(barrier.issuer, barrier.dsb, barrier.n))
-}
-
-/// A DSB of the issuer published its writes at one entry.
-fn publish_at(broken: &mut Vec<Entry>, k: usize, barrier: &Barrier)
-    requires log { InLog barrier.now }
+/// A DSB of the issuer, which publishes to these PEs, published its writes at one entry.
+fn publish_at(broken: &mut Vec<Entry>, k: usize, barrier: &Barrier, heard: PeMask)
+    requires heard { IsAudience barrier.now heard }
     requires entry_within { k < vec_len broken.old }
-    ensures entry { (e : TheEntry) → slice_get broken.old.items k ≡ Some e → (f : TheEntry) × (seat f ≡ seat e)
+    ensures entry { (e : TheEntry) → slice_get broken.old.items k ≡ Some e → (f : TheEntry) × (position f ≡ position e)
         × Publishes barrier.now e f
         × ((i : ℕ) → slice_get broken.new.items i ≡ (if nat_eq i k then Some f else slice_get broken.old.items i)) }
     ensures size { SameSize broken.old broken.new }
 {
-    let marks = published(broken[k].marks, barrier);
-    remark(broken, k, marks);
-}
-
-/// A DSB of the issuer published its writes at each entry.
-fn publish_all(broken: &mut Vec<Entry>, barrier: &Barrier)
-    requires { InLog barrier.now }
-    ensures { PublishesAll barrier.now broken.old broken.new }
-{
-    for k in 0..broken.len() {
-        publish_at(broken, k, barrier);
+    let entry = &mut broken[k];
+    if entry.marks.writers.has(barrier.issuer) {
+        entry.marks = entry.marks.published_to(heard);
     }
 }
 
-/// A DSB of the issuer published its writes at the entry of a cell, if it has one.
-fn publish_cell(cells: &[u32], broken: &mut Vec<Entry>, cell: u32, barrier: &Barrier)
-    requires { CanPublish barrier.now cells.now broken.old.items }
+/// The same at the entry of a cell, if it has one.
+fn publish_cell(cells: &[u32], broken: &mut Vec<Entry>, cell: u32, barrier: &Barrier, heard: PeMask)
+    requires linked { Linked cells.now broken.old.items }
+    requires heard { IsAudience barrier.now heard }
     ensures linked { Linked cells.now broken.new.items }
     ensures here { (k : ℕ) → slot_in cells.now cell ≡ Some k
         → Advances (Publishes barrier.now) (slice_get broken.old.items k) (slice_get broken.new.items k) }
@@ -63,20 +45,38 @@ fn publish_cell(cells: &[u32], broken: &mut Vec<Entry>, cell: u32, barrier: &Bar
     ensures size { SameSize broken.old broken.new }
 {
     if let Some(k) = slot_of(cells, cell as usize) {
-        publish_at(broken, k as usize, barrier);
+        publish_at(broken, k as usize, barrier, heard);
     }
 }
 
-/// A DSB of the issuer published its writes at the entries of these cells.
-fn publish_cells(cells: &[u32], broken: &mut Vec<Entry>, list: &[u32], barrier: &Barrier)
-    requires { CanPublish barrier.now cells.now broken.old.items }
+/// The same at the entries of these cells.
+fn publish_cells(
+    cells: &[u32],
+    broken: &mut Vec<Entry>,
+    list: &[u32],
+    barrier: &Barrier,
+    heard: PeMask,
+)
+    requires linked { Linked cells.now broken.old.items }
+    requires heard { IsAudience barrier.now heard }
     ensures here { (i k : ℕ) → i < length list.now → slot_in cells.now (slice_index list.now i) ≡ Some k
         → Advances (Publishes barrier.now) (slice_get broken.old.items k) (slice_get broken.new.items k) }
     ensures each { (k : ℕ) → MayPublish barrier.now (slice_get broken.old.items k) (slice_get broken.new.items k) }
     ensures size { SameSize broken.old broken.new }
 {
     for i in 0..list.len() {
-        publish_cell(cells, broken, list[i], barrier);
+        publish_cell(cells, broken, list[i], barrier, heard);
+    }
+}
+
+/// A DSB of the issuer published its writes at each entry.
+fn publish_all(broken: &mut Vec<Entry>, barrier: &Barrier)
+    requires { InLog barrier.now }
+    ensures { PublishesAll barrier.now broken.old broken.new }
+{
+    let to = publishes_to(barrier.dsb, barrier.issuer, barrier.n);
+    for k in 0..broken.len() {
+        publish_at(broken, k, barrier, to);
     }
 }
 
@@ -111,15 +111,23 @@ fn relist(broken: &[Entry], list: &mut WorkList, barrier: &Barrier)
     }
 }
 
-/// A DSB of the issuer published its writes. Its list has all entries of which it can publish more, and stays.
-fn publish_list(cells: &[u32], broken: &mut Vec<Entry>, list: &WorkList, barrier: &Barrier)
+/// A DSB of the issuer, which publishes to these PEs, published its writes. Its list has all entries of which it can
+/// publish more, and stays.
+fn publish_list(
+    cells: &[u32],
+    broken: &mut Vec<Entry>,
+    list: &WorkList,
+    barrier: &Barrier,
+    heard: PeMask,
+)
+    requires heard { IsAudience barrier.now heard }
     requires able { CanPublish barrier.now cells.now broken.old.items }
     requires open { list.now.given_up ≡ false }
     requires known { HoldUntold (Holds list.now) barrier.now broken.old.items }
     ensures { PublishesAll barrier.now broken.old broken.new }
 {
     let wide = !is_non(barrier.dsb.domain);
-    publish_cells(cells, broken, part(list, wide), barrier);
+    publish_cells(cells, broken, part(list, wide), barrier, heard);
 }
 
 /// The same. The list loses its cells where nothing is left, or passes them for the next DSB that reaches its PE alone.
@@ -135,7 +143,7 @@ fn publish_listed(cells: &[u32], broken: &mut Vec<Entry>, list: &mut WorkList, b
     if heard.is_empty() {
         return;
     }
-    publish_list(cells, broken, list, barrier);
+    publish_list(cells, broken, list, barrier, heard);
     if !list.cells.is_empty() {
         if PeMask::all(barrier.n).minus(heard).is_empty() {
             restart(list, false);

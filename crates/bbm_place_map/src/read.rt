@@ -1,7 +1,7 @@
 //! What is kept of a place: its value, its cell, and the entry that the cell names.
 
 ghost use Rattle.std.specs.Prelude.{◌≡◌, ◌<◌, IfSome, length, None, Some, nat_eq, true, ◌≤◌, ◌+◌, ◌^◌, ◌↔◌, ℕ};
-ghost use Rattle.std.specs.Prelude.{is_some, ◌/◌};
+ghost use Rattle.std.specs.Prelude.{is_some, option_and_then, ◌/◌};
 ghost use Rattle.bbm_entry_state.specs.Points.{core_in, is_broken};
 ghost use Rattle.bbm_place_map.specs.Cells.{cell_by, number_of, slot_in, value_in};
 ghost use Rattle.bbm_place_map.specs.Entries.{WaitsAlike, entry_by, entry_in, marks_of, pends_of as spec_pends_of};
@@ -23,18 +23,6 @@ pub fn whole(live: Option<Core>) -> EntryState
     match live {
         Some(core) => EntryState::Live { core },
         None => EntryState::Clean,
-    }
-}
-
-/// The marks of a state that is broken.
-pub fn broken_marks(state: EntryState) -> Marks
-    requires { is_broken state ≡ true }
-    ensures { state ≡ EntryState.Broken result }
-{
-    match state {
-        EntryState::Broken { marks } => marks,
-        EntryState::Clean => unreachable!(),
-        EntryState::Live { .. } => unreachable!(),
     }
 }
 
@@ -159,6 +147,18 @@ pub fn entry_at(
             Some(start) => slot_of(cells, start as usize + place.index() as usize),
             None => None,
         },
+        None => None,
+    }
+}
+
+/// The number of the entry of the place of a value; None where the place isn't broken.
+#[inline(always)]
+pub fn entry_number(parts: &[u32], cells: &[u32], j: usize) -> Option<u32>
+    requires { j / 512 < length parts.now }
+    ensures { result ≡ option_and_then (slot_in cells.now) (cell_by parts.now j) }
+{
+    match cell(parts, j) {
+        Some(i) => slot_of(cells, i),
         None => None,
     }
 }

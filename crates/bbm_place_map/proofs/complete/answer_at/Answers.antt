@@ -1,4 +1,4 @@
-use Rattle.bbm_place_map.proofs.Common.{ap, sym, ◌∙◌, arith, subst, Completed, seat, pends_in, no_pends, Entry}
+use Rattle.bbm_place_map.proofs.Common.{ap, sym, ◌∙◌, arith, subst, Completed, position, pends_in, no_pends, Entry}
 use Rattle.bbm_entry_state.specs.Answered.{Answered}
 use Rattle.bbm_entry_state.specs.declared.state.EntryState.TheVariants as state
 use Rattle.bbm_place_map.proofs.Idle.{nothing_waits}
@@ -25,7 +25,7 @@ returns-clause-entry c = λ e is.
     let P : Entry → Type 0 = λ y. Completed (state.Broken y.marks) (pends_in y.pends.items c.args.barrier.now.issuer) c.args.barrier.now.dsb c.args.barrier.now.n state.Clean no_pends in
     let Q : Entry → Type 0 = λ y. Completed (state.Broken y.marks) (pends_in y.pends.items c.args.barrier.now.issuer) c.args.barrier.now.dsb c.args.barrier.now.n (state.Broken now) left in (
       f,
-      ap seat same,
+      ap position same,
       λ all. subst P same
           (c.law_completes.ensures.clean x.marks now pends no_pends c.args.barrier.now.dsb c.take_answered-done.result c.args.barrier.now.n masks (sym c.is_clean.ensures ∙ all) nothing_waits),
       λ some. subst Q same

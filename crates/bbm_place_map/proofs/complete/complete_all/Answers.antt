@@ -1,7 +1,7 @@
 use Rattle.bbm_place_map.proofs.Common.{◌≤◌, ◌-◌, length, arith, ap, option_map, Entry}
 use Rattle.bbm_place_map.proofs.Looking.{looked_none, looked_answer, looked_on}
 use Rattle.bbm_place_map.proofs.Restless.{entry_there}
-use Rattle.bbm_place_map.proofs.Seats.{still_same, still_more}
+use Rattle.bbm_place_map.proofs.Positions.{still_same, still_more}
 use Rattle.bbm_place_map.proofs.complete.complete_all.Goals as goal
 
 pub loop-k-init : goal.loop-k-init

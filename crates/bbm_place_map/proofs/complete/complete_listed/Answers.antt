@@ -2,7 +2,7 @@ use Rattle.bbm_place_map.proofs.Common.{◌⊎◌, ℕ, Bool, true, false, List,
 use Rattle.bbm_place_map.proofs.Common.{false≢true, entry_in, pends_for, Holds, IsQuiet}
 use Rattle.bbm_place_map.proofs.Resting.{quiet_kept, quiet_answered, quiet_unanswered, unanswered_same, stays_kept}
 use Rattle.bbm_place_map.proofs.Resting.{no_answer, answers_all, answers_own}
-use Rattle.bbm_place_map.proofs.Seats.{still_same}
+use Rattle.bbm_place_map.proofs.Positions.{still_same}
 use Rattle.bbm_place_map.proofs.complete.complete_listed.Goals as goal
 
 pub complete_list-lost-requires-clause-waiting : goal.complete_list-lost-requires-clause-waiting

@@ -1,6 +1,7 @@
-use Rattle.bbm_place_map.proofs.Common.{ℕ, List, sym, ◌∙◌, subst, true, false, Adds, HasRoom, WaitsAlike, pend_in}
+use Rattle.bbm_place_map.proofs.Common.{ℕ, List, sym, ◌∙◌, ◌↔◌, IsTrue, subst, true, false, Adds, HasRoom, IsQuiet}
+use Rattle.bbm_place_map.proofs.Common.{pend_in}
 use Rattle.bbm_place_map.proofs.Common.{pends_in, Pending}
-use Rattle.bbm_place_map.proofs.Pendings.{issuer_kept, lanes_apart, noted_in, quiet_alike}
+use Rattle.bbm_place_map.proofs.Pendings.{issuer_kept, lanes_apart, noted_in}
 use Rattle.bbm_place_map.proofs.entry.note_pends.Goals as goal
 
 pub note_lane-requires : goal.note_lane-requires
@@ -18,9 +19,8 @@ returns-clause-there c =
 
 pub returns-clause-quiet : goal.returns-clause-quiet
 returns-clause-quiet c =
-    let P : List Pending → Type 0 = λ ps. WaitsAlike (pends_in ps c.args.issuer) c.pends_of.result in
-    quiet_alike (pends_in c.args.pendings.now.items c.args.issuer) c.pends_of.result (subst P c.as_slice.ensures c.pends_of.ensures)
-    c.args.broadcast c.is_quiet-quiet.result c.is_quiet-quiet.ensures
+    let P : List Pending → Type 0 = λ ps. IsTrue c.is_quiet_for-quiet.result ↔ IsQuiet c.args.broadcast (pends_in ps c.args.issuer) in
+    subst P c.as_slice.ensures c.is_quiet_for-quiet.ensures
 
 pub returns-clause-others : goal.returns-clause-others
 returns-clause-others c = λ q other.

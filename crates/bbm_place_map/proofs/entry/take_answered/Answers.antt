@@ -1,6 +1,6 @@
 use Rattle.bbm_place_map.proofs.Common.{ℕ, Bool, true, false, subst, answers_broadcast, answers_local, lane_of}
 use Rattle.bbm_place_map.specs.Dsbs.{Takes}
-use Rattle.bbm_place_map.proofs.Pendings.{taken_done, taken_left, taken_others}
+use Rattle.bbm_place_map.proofs.Pendings.{takes_answered}
 use Rattle.bbm_place_map.proofs.entry.take_answered.Goals as goal
 
 -- of the TLBIs that are broadcast, and of the others
@@ -19,23 +19,7 @@ own c =
     let Q : Bool → Type 0 = λ b. Takes (lane_of c.args.issuer false) b old c.take_if-own.new.pendings.items c.take_if-own.result in
     subst Q c.completes_local.ensures (subst P c.lane_of-2.ensures c.take_if-own.ensures)
 
-pub returns-clause-done : goal.returns-clause-done
-returns-clause-done c =
-    let a = all c in
-    let o = own c in
-    taken_done c.args.pendings.now.items c.take_if-all.new.pendings.items c.take_if-own.new.pendings.items c.args.issuer c.args.dsb
-    c.take_if-all.result c.take_if-own.result c.or.result a.done a.left a.others o.done o.left o.others c.or.ensures
-
-pub returns-clause-left : goal.returns-clause-left
-returns-clause-left c =
-    let a = all c in
-    let o = own c in
-    taken_left c.args.pendings.now.items c.take_if-all.new.pendings.items c.take_if-own.new.pendings.items c.args.issuer c.args.dsb
-    c.take_if-all.result c.take_if-own.result c.or.result a.done a.left a.others o.done o.left o.others c.or.ensures
-
-pub returns-clause-others : goal.returns-clause-others
-returns-clause-others c =
-    let a = all c in
-    let o = own c in
-    taken_others c.args.pendings.now.items c.take_if-all.new.pendings.items c.take_if-own.new.pendings.items c.args.issuer c.args.dsb
-    c.take_if-all.result c.take_if-own.result c.or.result a.done a.left a.others o.done o.left o.others c.or.ensures
+pub returns : goal.returns
+returns c =
+    takes_answered c.args.pendings.now.items c.take_if-all.new.pendings.items c.take_if-own.new.pendings.items c.args.issuer c.args.dsb
+    c.take_if-all.result c.take_if-own.result c.or.result (all c) (own c) c.or.ensures

@@ -22,7 +22,7 @@ returns-clause-clean c =
     let shown = marks_at c.publish.new.self a in
     let broken = c.write-broken.result in
     let kept : made ≡ marks_of_state broken
-    = c.set.ensures.marks a ∙ ap (λ b. if b then marks_of_state broken else old) (eq-eqb a a refl) in
+    = c.set.ensures.left.marks a ∙ ap (λ b. if b then marks_of_state broken else old) (eq-eqb a a refl) in
     let broke : Written (state_from (Some c.args.core) old) q None broken
     = subst (λ s. Written s q None broken) c.state.ensures c.write-broken.ensures in
     let published : Published (state_from None made) q stores n (state_from None shown) = c.publish.ensures.published None a in
@@ -32,11 +32,11 @@ returns-clause-clean c =
     (pends_at c.publish.new.self q a) (pends_at c.issue_at.new.self q a) (pends_at c.complete.new.self q a) c.all.result q n all refl c.all.ensures
     (seen_everywhere c.args.core old made shown broken q n stores broke kept published (λ p. refl))
     noted
-    (subst (λ m. Published (state_from None m) q all n (state_from None (marks_at c.publish-2.new.self a))) (c.in_ok-issue_at.ensures.marks a)
+    (subst (λ m. Published (state_from None m) q all n (state_from None (marks_at c.publish-2.new.self a))) (c.in_ok-issue_at.ensures.only.marks a)
     (c.publish-2.ensures.published None a))
     (subst (λ pends. Completed (state_from None (marks_at c.publish-2.new.self a)) pends all n (state_from None (marks_at c.complete.new.self a))
     (pends_at c.complete.new.self q a)) (c.publish-2.ensures.pends q a) (c.complete.ensures.completed a))
   where
-    one : FoundAs (record { place = c.args.place; cover = Full } ∷ []) (λ x. Full)
+    one : FoundAs (record { place = c.args.place; cover = Full; near = 0 } ∷ []) (λ x. Full)
     one zero d below = refl
     one (suc k) d below = absurd (not-suc-le-zero (le_of_suc-le-suc below))

@@ -1,4 +1,4 @@
-use Rattle.bbm_place_map.proofs.Common.{ap, ◌∙◌, arith, seat, Entry}
+use Rattle.bbm_place_map.proofs.Common.{ap, ◌∙◌, arith, position, Entry}
 use Rattle.bbm_place_map.proofs.Leaving.{entry_same}
 use Rattle.bbm_place_map.proofs.Lists.{set_get}
 use Rattle.bbm_place_map.proofs.issue.make_room_at.Goals as goal
@@ -8,7 +8,7 @@ returns-clause-entry c = λ e is.
     let same = entry_same c.args.broken.now.items c.args.k c.index_mut-entry.result.now e (omega arith) c.index_mut-entry.ensures.value is in
     let f : Entry = record c.index_mut-entry.result.now { pends = c.make_room_for_lane.new.pendings } in (
       f,
-      ap seat same,
+      ap position same,
       (ap (λ (x : Entry). x.marks) same, c.make_room_for_lane.ensures.items ∙ ap (λ (x : Entry). x.pends.items) same),
       c.make_room_for_lane.ensures.room,
       λ i. set_get c.args.broken.now.items c.args.k f i (omega arith),

@@ -4,15 +4,15 @@ use Rattle.bbm_place_map.proofs.Common.{slice_get_within, HasRoom, Keeps, Entry}
 use Rattle.bbm_place_map.proofs.Visiting.{slot_place, slot_of_place, one_advances, gets_off, gets_here}
 use Rattle.bbm_place_map.proofs.issue.make_room_for.Goals as goal
 
-was : (c : goal.After-make_room_at) → (e : Entry) × (slice_get c.args.broken.now.items c.in-Some.k ≡ Some e) × (e.place ≡ c.args.place)
+was : (c : goal.After-make_room_at) → (e : Entry) × (slice_get c.args.broken.now.items c.in-Some.k ≡ Some e) × (e.place ≡ c.args.item.place)
 was c =
     slot_place (starts (get nat_eq c.args.kept.now.pages.now) c.args.kept.now.parts.now) c.args.kept.now.cells.now c.args.broken.now.items c.requires.linked c.requires.placed (length c.args.kept.now.cells.now) c.requires.numbered
-    c.args.place c.in-Some.k (sym c.entry_of.ensures ∙ c.in-Some.is)
+    c.args.item.place c.in-Some.k (sym c.entry_of.ensures ∙ c.in-Some.is)
 
 pub make_room_at-requires : goal.make_room_at-requires
 make_room_at-requires c =
     let e = slot_place (starts (get nat_eq c.args.kept.now.pages.now) c.args.kept.now.parts.now) c.args.kept.now.cells.now c.args.broken.now.items c.requires.linked c.requires.placed (length c.args.kept.now.cells.now) c.requires.numbered
-    c.args.place c.in-Some.k (sym c.entry_of.ensures ∙ c.in-Some.is) in
+    c.args.item.place c.in-Some.k (sym c.entry_of.ensures ∙ c.in-Some.is) in
     omega (arith, slice_get_within c.args.broken.now.items c.in-Some.k e.0 e.1)
 
 pub returns-in-Some-clause-each : goal.returns-in-Some-clause-each
@@ -26,7 +26,7 @@ returns-in-Some-clause-ready c =
     let e = was c in
     let f = c.make_room_at.ensures.entry e.0 e.1 in
     OnOk-map c.make_room_at.result (HasRoom f.0.pends c.args.lane)
-    ((m : ℕ) (x : Entry) → slice_get c.make_room_at.new.broken.items m ≡ Some x → x.place ≡ c.args.place → HasRoom x.pends c.args.lane)
+    ((m : ℕ) (x : Entry) → slice_get c.make_room_at.new.broken.items m ≡ Some x → x.place ≡ c.args.item.place → HasRoom x.pends c.args.lane)
     (λ room m x is same.
     let P : Entry → Type 0 = λ y. HasRoom y.pends c.args.lane in
     elim (cases_eq m c.in-Some.k) [
@@ -35,7 +35,7 @@ returns-in-Some-clause-ready c =
           ∙ gets_here Keeps c.args.broken.now.items c.make_room_at.new.broken.items c.in-Some.k e.0 f.0 e.1 f.1 f.2 f.4))) room
       | inr away ↦
           absurd (away (same_Some m c.in-Some.k
-          (sym (slot_of_place (starts (get nat_eq c.args.kept.now.pages.now) c.args.kept.now.parts.now) c.args.kept.now.cells.now c.args.broken.now.items c.requires.linked c.requires.placed c.args.place m x
+          (sym (slot_of_place (starts (get nat_eq c.args.kept.now.pages.now) c.args.kept.now.parts.now) c.args.kept.now.cells.now c.args.broken.now.items c.requires.linked c.requires.placed c.args.item.place m x
           (sym (gets_off Keeps c.args.broken.now.items c.make_room_at.new.broken.items c.in-Some.k e.0 f.0 e.1 f.1 f.2 f.4 m away) ∙ is) same)
           ∙ sym c.entry_of.ensures ∙ c.in-Some.is)))
     ])
@@ -57,4 +57,4 @@ returns-in-Some-clause-others c = λ m x is other.
 pub returns-in-None-clause-ready : goal.returns-in-None-clause-ready
 returns-in-None-clause-ready c = λ m e is same.
     absurd (none-some m (sym (sym c.entry_of.ensures ∙ c.in-None.is)
-    ∙ slot_of_place (starts (get nat_eq c.args.kept.now.pages.now) c.args.kept.now.parts.now) c.args.kept.now.cells.now c.args.broken.now.items c.requires.linked c.requires.placed c.args.place m e is same))
+    ∙ slot_of_place (starts (get nat_eq c.args.kept.now.pages.now) c.args.kept.now.parts.now) c.args.kept.now.cells.now c.args.broken.now.items c.requires.linked c.requires.placed c.args.item.place m e is same))

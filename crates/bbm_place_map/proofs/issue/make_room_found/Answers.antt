@@ -1,8 +1,8 @@
 use Rattle.bbm_place_map.proofs.Common.{ℕ, nat_eq, ap, sym, ◌∙◌, inl, inr, slice_get, take, List, cases_Bool, eq-eqb}
 use Rattle.bbm_place_map.proofs.Common.{eqb-true, false≢true, get, starts, is_found, Keeps, Found}
-use Rattle.bbm_place_map.proofs.Advancing.{seat_kept}
+use Rattle.bbm_place_map.proofs.Advancing.{position_kept}
 use Rattle.bbm_place_map.proofs.Finding.{found_off, take_more}
-use Rattle.bbm_place_map.proofs.Seats.{linked_seated, placed_seated}
+use Rattle.bbm_place_map.proofs.Positions.{linked_seated, placed_seated}
 use Rattle.bbm_place_map.proofs.Visiting.{advance_then}
 use Rattle.bbm_place_map.proofs.issue.make_room_found.Goals as goal
 
@@ -10,12 +10,12 @@ pub make_room_for-requires : goal.make_room_for-requires
 make_room_for-requires c =
     let old = c.args.broken.now.items in
     let mid = c.loop-i.broken.items in
-    let seats = λ (m : ℕ). seat_kept Keeps (slice_get old m) (slice_get mid m) (c.loop-i.invariant.each m) in
+    let positions = λ (m : ℕ). position_kept Keeps (slice_get old m) (slice_get mid m) (c.loop-i.invariant.each m) in
     record {
       numbered = c.requires.numbered;
       few = c.requires.few;
-      linked = linked_seated old mid seats c.args.kept.now.cells.now c.loop-i.invariant.len c.requires.linked;
-      placed = placed_seated old mid seats (starts (get nat_eq c.args.kept.now.pages.now) c.args.kept.now.parts.now) c.requires.placed;
+      linked = linked_seated old mid positions c.args.kept.now.cells.now c.loop-i.invariant.len c.requires.linked;
+      placed = placed_seated old mid positions (starts (get nat_eq c.args.kept.now.pages.now) c.args.kept.now.parts.now) c.requires.placed;
     }
 
 pub loop-i-preserved : goal.loop-i-preserved
@@ -27,10 +27,10 @@ loop-i-preserved c = record {
       let x = c.index-found-i.result in
       let xs = take c.loop-i.i c.args.found.now in
       elim (cases_Bool (nat_eq x.place e.place)) [
-        | inl here ↦ c.in_ok-make_room_for.ensures.ready m e is (sym (eqb-true x.place e.place here) ∙ ap (λ (y : Found). y.place) c.index-found-i.is)
+        | inl here ↦ c.in_ok-make_room_for.ensures.ready m e is (sym (eqb-true x.place e.place here))
         | inr off ↦
             c.loop-i.invariant.ready m e
-            (sym (c.in_ok-make_room_for.ensures.others m e is (λ same. false≢true (sym off ∙ eq-eqb x.place e.place (ap (λ (y : Found). y.place) c.index-found-i.is ∙ sym same)))) ∙ is)
+            (sym (c.in_ok-make_room_for.ensures.others m e is (λ same. false≢true (sym off ∙ eq-eqb x.place e.place (sym same)))) ∙ is)
             (sym (found_off xs x e.place off)
             ∙ sym (ap (λ (ys : List Found). is_found ys e.place) (take_more c.args.found.now c.loop-i.i x c.loop-i-test.true c.index-found-i.is)) ∙ among)
       ];

@@ -1,4 +1,4 @@
-use Rattle.bbm_place_map.proofs.Common.{ap, sym, ◌∙◌, arith, subst, ◌↔◌, IsTrue, false≢true, Noted, seat, pends_in}
+use Rattle.bbm_place_map.proofs.Common.{ap, sym, ◌∙◌, arith, subst, ◌↔◌, IsTrue, false≢true, Noted, position, pends_in}
 use Rattle.bbm_place_map.proofs.Common.{IsQuiet, Entry}
 use Rattle.bbm_entry_state.specs.declared.state.EntryState.TheVariants as state
 use Rattle.bbm_place_map.proofs.Leaving.{entry_same}
@@ -15,7 +15,7 @@ returns-clause-entry c = λ e is.
     (pends_in c.note_pends.new.pendings.items c.args.tlbi.now.issuer) in
     let Q : Entry → Type 0 = λ x. IsTrue c.note_pends.result ↔ IsQuiet c.args.tlbi.now.broadcast (pends_in x.pends.items c.args.tlbi.now.issuer) in (
       f,
-      ap seat same,
+      ap position same,
       ap (λ (x : Entry). x.marks) same,
       λ q other. c.note_pends.ensures.others q other ∙ ap (λ (x : Entry). pends_in x.pends.items q) same,
       subst P same c.note_pends.ensures.there,

@@ -1,22 +1,22 @@
 use Rattle.bbm_place_map.proofs.Common.{◌≡◌, ℕ, Option, nat_eq, arith, ◌∙◌, List, subst, take, slice_get, get, starts}
-use Rattle.bbm_place_map.proofs.Common.{Advances, seat_at, NotesFound, Entry, Found}
+use Rattle.bbm_place_map.proofs.Common.{Advances, position_at, NotesFound, Entry, Found}
 use Rattle.std.proofs.lemmas.List.{take_all}
-use Rattle.bbm_place_map.proofs.Advancing.{seat_kept}
-use Rattle.bbm_place_map.proofs.Seats.{linked_seated, placed_seated}
+use Rattle.bbm_place_map.proofs.Advancing.{position_kept}
+use Rattle.bbm_place_map.proofs.Positions.{linked_seated, placed_seated}
 use Rattle.bbm_place_map.proofs.Visiting.{unfound_kept}
 use Rattle.bbm_place_map.proofs.issue.note_found.Goals as goal
 
-seats : (c : goal.After-note_next-arg-in-loop-i-1) → (m : ℕ) → seat_at c.loop-i.broken.items m ≡ seat_at c.args.broken.now.items m
-seats c m =
-    seat_kept (NotesFound (take c.loop-i.i c.args.found.now) c.args.tlbi.now c.loop-i.lists.items)
+positions : (c : goal.After-note_next-arg-in-loop-i-1) → (m : ℕ) → position_at c.loop-i.broken.items m ≡ position_at c.args.broken.now.items m
+positions c m =
+    position_kept (NotesFound (take c.loop-i.i c.args.found.now) c.args.tlbi.now c.loop-i.lists.items)
     (slice_get c.args.broken.now.items m) (slice_get c.loop-i.broken.items m) (c.loop-i.invariant.each m)
 
 pub note_next-requires-clause-sound : goal.note_next-requires-clause-sound
 note_next-requires-clause-sound c = record {
   numbered = c.requires.sound.numbered;
   few = c.requires.sound.few;
-  linked = linked_seated c.args.broken.now.items c.loop-i.broken.items (seats c) c.args.kept.now.cells.now c.loop-i.invariant.len c.requires.sound.linked;
-  placed = placed_seated c.args.broken.now.items c.loop-i.broken.items (seats c) (starts (get nat_eq c.args.kept.now.pages.now) c.args.kept.now.parts.now) c.requires.sound.placed;
+  linked = linked_seated c.args.broken.now.items c.loop-i.broken.items (positions c) c.args.kept.now.cells.now c.loop-i.invariant.len c.requires.sound.linked;
+  placed = placed_seated c.args.broken.now.items c.loop-i.broken.items (positions c) (starts (get nat_eq c.args.kept.now.pages.now) c.args.kept.now.parts.now) c.requires.sound.placed;
 }
 
 pub note_next-requires-clause-ready : goal.note_next-requires-clause-ready

@@ -1,10 +1,48 @@
-use Rattle.bbm_place_map.proofs.Common.{arith, refl, subst, Publishes, Entry}
+use Rattle.bbm_place_map.proofs.Common.{◌≡◌, ◌&&◌, ◌||◌, Bool, true, Some, ap, sym, ◌∙◌, arith, refl, subst}
+use Rattle.bbm_place_map.proofs.Common.{false≢true, with_true, publishes, Core, Publishes, position, Entry}
+use Rattle.bbm_regimes.specs.PeMask.{pe_in}
 use Rattle.bbm_place_map.proofs.Leaving.{entry_same}
+use Rattle.bbm_place_map.proofs.Lists.{set_get}
+use Rattle.bbm_place_map.proofs.Telling.{same_published}
 use Rattle.bbm_place_map.proofs.publish.publish_at.Goals as goal
 
-pub returns-clause-entry : goal.returns-clause-entry
-returns-clause-entry c = λ e is.
-    let same = entry_same c.args.broken.now.items c.args.k c.index.result.now e (omega arith) c.index.ensures is in
-    let f : Entry = record e { marks = c.published-marks.result } in
-    let P : Entry → Type 0 = λ x. Publishes c.args.barrier.now x f in
-    (f, refl, (refl, let Q : Entry → Type 0 = λ x. Publishes c.args.barrier.now x (record x { marks = c.published-marks.result }) in (subst Q same (refl, c.published-marks.ensures)).1), c.remark.ensures.entry e is)
+pub returns-then-has-clause-entry : goal.returns-then-has-clause-entry
+returns-then-has-clause-entry c = λ e is.
+    let x = c.index_mut-entry.result.now in
+    let by = c.args.barrier.now in
+    let same = entry_same c.args.broken.now.items c.args.k x e (omega arith) c.index_mut-entry.ensures.value is in
+    let made = c.published_to-entry.ensures in
+    let f : Entry = record x { marks = c.published_to-entry.result } in
+    let wrote : pe_in x.marks.writers by.issuer ≡ true = sym c.has.ensures ∙ c.if-has.true in
+    let P : Entry → Type 0 = λ y. Publishes by y f in (
+      f,
+      ap position same,
+      subst P same (
+        refl,
+        record {
+          core = ap (λ (y : Core). Some y) made.core;
+          broken = refl;
+          writers = made.writers;
+          seen = λ p.
+              made.seen p
+              ∙ ap (λ (b : Bool). b || pe_in x.marks.seen p)
+              (c.requires.heard p ∙ with_true (publishes by.dsb by.issuer by.n p)
+              ∙ ap (λ (b : Bool). publishes by.dsb by.issuer by.n p && b) (sym wrote));
+          half = made.half;
+          clean = made.clean;
+        },
+      ),
+      λ i. set_get c.args.broken.now.items c.args.k f i (omega arith),
+    )
+
+pub returns-else-has-clause-entry : goal.returns-else-has-clause-entry
+returns-else-has-clause-entry c = λ e is.
+    let x = c.index_mut-entry.result.now in
+    let same = entry_same c.args.broken.now.items c.args.k x e (omega arith) c.index_mut-entry.ensures.value is in
+    let none = sym c.has.ensures ∙ c.if-has.false in
+    let P : Entry → Type 0 = λ y. Publishes c.args.barrier.now y x in (
+      x,
+      ap position same,
+      subst P same (same_published c.args.barrier.now x (λ p reached wrote. absurd (false≢true (sym none ∙ wrote)))),
+      λ i. set_get c.args.broken.now.items c.args.k x i (omega arith),
+    )

@@ -2,7 +2,7 @@ use Rattle.bbm_place_map.proofs.Common.{◌≡◌, ℕ, Some, nat_eq, arith, ap,
 use Rattle.bbm_place_map.proofs.Common.{ne_eqb, cond-true, cond-false, same_Some, slot_in, Advances, Publishes, Entry}
 use Rattle.bbm_place_map.proofs.Advancing.{at_both}
 use Rattle.bbm_place_map.proofs.Linking.{cell_within}
-use Rattle.bbm_place_map.proofs.Seats.{linked_seated, seats_changed, found}
+use Rattle.bbm_place_map.proofs.Positions.{linked_seated, positions_changed, found}
 use Rattle.bbm_place_map.proofs.publish.publish_cell.Goals as goal
 
 pub publish_at-requires-clause-entry_within : goal.publish_at-requires-clause-entry_within
@@ -23,7 +23,7 @@ returns-in-Some-clause-linked c =
     let e = was c in
     let f = c.publish_at.ensures.entry e.0 e.1 in
     linked_seated c.args.broken.now.items c.publish_at.new.broken.items
-    (seats_changed c.args.cells.now c.args.broken.now.items c.publish_at.new.broken.items e.0 f.0 c.args.cell c.in-Some.k c.requires.linked (at c) e.1 f.1 f.3)
+    (positions_changed c.args.cells.now c.args.broken.now.items c.publish_at.new.broken.items e.0 f.0 c.args.cell c.in-Some.k c.requires.linked (at c) e.1 f.1 f.3)
     c.args.cells.now c.publish_at.ensures.size.len c.requires.linked
 
 pub returns-in-Some-clause-here : goal.returns-in-Some-clause-here

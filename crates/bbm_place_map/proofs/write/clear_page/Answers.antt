@@ -1,6 +1,6 @@
 use Rattle.bbm_place_map.proofs.Common.{None, arith, entry_in}
 use Rattle.bbm_place_map.proofs.Pages.{one_more}
-use Rattle.bbm_place_map.proofs.Seats.{still_more}
+use Rattle.bbm_place_map.proofs.Positions.{still_more}
 use Rattle.bbm_place_map.proofs.write.clear_page.Goals as goal
 
 pub clear-requires : goal.clear-requires

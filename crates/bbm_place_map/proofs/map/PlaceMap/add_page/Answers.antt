@@ -43,12 +43,11 @@ unfolding value_at
 returns-in-Ok-clause-values c = values_then c.args.self.now c.has_room.new.self c.has_room.ensures.same (get nat_eq c.insert.new.self) c.get.result c.args.page
     c.len-base.result c.get.ensures.value c.in-Ok.ensures.updates.0 c.requires c.len-base.ensures c.add_values.new.values.items c.add_values.ensures.values
 
-pub returns-in-Ok-clause-marks : goal.returns-in-Ok-clause-marks
-unfolding marks_at
-returns-in-Ok-clause-marks c = marks_then c.args.self.now c.has_room.new.self c.has_room.ensures.same (get nat_eq c.insert.new.self) c.get.result c.args.page
-    c.len-base.result c.get.ensures.value c.in-Ok.ensures.updates.0 c.requires c.len-base.ensures c.add_cells.new.cells.items c.add_cells.ensures.kept.slots
-
-pub returns-in-Ok-clause-pends : goal.returns-in-Ok-clause-pends
-unfolding pends_at
-returns-in-Ok-clause-pends c = pends_then c.args.self.now c.has_room.new.self c.has_room.ensures.same (get nat_eq c.insert.new.self) c.get.result c.args.page
-    c.len-base.result c.get.ensures.value c.in-Ok.ensures.updates.0 c.requires c.len-base.ensures c.add_cells.new.cells.items c.add_cells.ensures.kept.slots
+pub returns-in-Ok-clause-same : goal.returns-in-Ok-clause-same
+unfolding marks_at pends_at
+returns-in-Ok-clause-same c = record {
+  marks = marks_then c.args.self.now c.has_room.new.self c.has_room.ensures.same (get nat_eq c.insert.new.self) c.get.result c.args.page
+      c.len-base.result c.get.ensures.value c.in-Ok.ensures.updates.0 c.requires c.len-base.ensures c.add_cells.new.cells.items c.add_cells.ensures.kept.slots;
+  pends = pends_then c.args.self.now c.has_room.new.self c.has_room.ensures.same (get nat_eq c.insert.new.self) c.get.result c.args.page
+      c.len-base.result c.get.ensures.value c.in-Ok.ensures.updates.0 c.requires c.len-base.ensures c.add_cells.new.cells.items c.add_cells.ensures.kept.slots;
+}

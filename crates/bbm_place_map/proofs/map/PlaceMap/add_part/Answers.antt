@@ -1,41 +1,41 @@
 use Rattle.bbm_place_map.proofs.Common.{refl, arith, inr, vec_len}
-use Rattle.bbm_place_map.specs.Map.{IsSeat, is_tracked, marks_at, pends_at, restless_in, restless_place, value_at}
+use Rattle.bbm_place_map.specs.Map.{IsPosition, is_tracked, marks_at, pends_at, restless_in, restless_place, value_at}
 use Rattle.bbm_place_map.proofs.Listing.{by_slots, listed_fewer}
 use Rattle.bbm_place_map.proofs.Parts.{cell_new, cells_room, marks_new, number_within, parted_fewer, parted_new}
 use Rattle.bbm_place_map.proofs.Parts.{pends_new, placed_new}
 use Rattle.bbm_place_map.proofs.map.PlaceMap.add_part.Goals as goal
 
 pub add_cells-requires : goal.add_cells-requires
-unfolding IsSeat
+unfolding IsPosition
 add_cells-requires c =
     let self = c.args.self.now in
-    omega (arith, cells_room self c.args.seat.now.place c.args.seat.now.index c.requires.seat c.requires.none, self.space)
+    omega (arith, cells_room self c.args.position.now.place c.args.position.now.index c.requires.position c.requires.none, self.space)
 
 pub put_slot-requires-clause-within : goal.put_slot-requires-clause-within
-unfolding IsSeat
+unfolding IsPosition
 put_slot-requires-clause-within c =
-    omega (arith, number_within c.args.self.now c.args.seat.now.place c.args.seat.now.index c.requires.seat c.requires.none)
+    omega (arith, number_within c.args.self.now c.args.position.now.place c.args.position.now.index c.requires.position c.requires.none)
 
 pub put_slot-requires-clause-few : goal.put_slot-requires-clause-few
-unfolding IsSeat
+unfolding IsPosition
 put_slot-requires-clause-few c =
     let self = c.args.self.now in
     omega (
       arith,
-      cells_room self c.args.seat.now.place c.args.seat.now.index c.requires.seat c.requires.none,
+      cells_room self c.args.position.now.place c.args.position.now.index c.requires.position c.requires.none,
       self.few,
       c.len-start.ensures,
     )
 
 pub invariant_of-self : goal.invariant_of-self
-unfolding IsSeat
+unfolding IsPosition
 invariant_of-self c =
     let self = c.args.self.now in
-    let place = c.args.seat.now.place in
-    let j = c.args.seat.now.index in
+    let place = c.args.position.now.place in
+    let j = c.args.position.now.index in
     let s = c.put_slot.ensures in
     let kept = c.add_cells.ensures.kept in
-    let parted = parted_new self place j c.requires.seat c.requires.none c.len-start.result c.put_slot.new.cells.items
+    let parted = parted_new self place j c.requires.position c.requires.none c.len-start.result c.put_slot.new.cells.items
     c.add_cells.new.cells.items c.len-start.ensures s.slots (omega (arith, s.len)) s.count kept.slots
     (vec_len c.add_cells.new.cells)
     (omega (arith, c.add_cells.ensures.len, c.len-start.ensures)) in
@@ -44,7 +44,7 @@ invariant_of-self c =
       parted = parted;
       linked = kept.linked self.broken.items self.linked;
       placed =
-          placed_new self place j c.requires.seat c.requires.none c.len-start.result c.put_slot.new.cells.items
+          placed_new self place j c.requires.position c.requires.none c.len-start.result c.put_slot.new.cells.items
           c.add_cells.new.cells.items c.len-start.ensures s.slots (omega (arith, s.len)) s.count kept.slots;
       space = omega (arith, c.add_cells.ensures.room, self.space);
       room = self.room;
@@ -57,28 +57,28 @@ invariant_of-self c =
     }
 
 pub returns-clause-cell : goal.returns-clause-cell
-unfolding IsSeat
+unfolding IsPosition
 returns-clause-cell c =
     let s = c.put_slot.ensures in
-    cell_new c.args.self.now c.args.seat.now.place c.args.seat.now.index c.requires.seat c.requires.none c.len-start.result
+    cell_new c.args.self.now c.args.position.now.place c.args.position.now.index c.requires.position c.requires.none c.len-start.result
     c.put_slot.new.cells.items c.add_cells.new.cells.items c.len-start.ensures s.slots (omega (arith, s.len)) s.count
     c.add_cells.ensures.kept.slots
 
 pub returns-clause-same : goal.returns-clause-same
-unfolding IsSeat is_tracked marks_at pends_at restless_in restless_place value_at
+unfolding IsPosition is_tracked marks_at pends_at restless_in restless_place value_at
 returns-clause-same c =
     let self = c.args.self.now in
-    let place = c.args.seat.now.place in
-    let j = c.args.seat.now.index in
+    let place = c.args.position.now.place in
+    let j = c.args.position.now.index in
     let s = c.put_slot.ensures in
     let kept = c.add_cells.ensures.kept in
     record {
       values = λ a. refl;
       marks =
-          marks_new self place j c.requires.seat c.requires.none c.len-start.result c.put_slot.new.cells.items
+          marks_new self place j c.requires.position c.requires.none c.len-start.result c.put_slot.new.cells.items
           c.add_cells.new.cells.items c.len-start.ensures s.slots (omega (arith, s.len)) s.count kept.slots;
       pends =
-          pends_new self place j c.requires.seat c.requires.none c.len-start.result c.put_slot.new.cells.items
+          pends_new self place j c.requires.position c.requires.none c.len-start.result c.put_slot.new.cells.items
           c.add_cells.new.cells.items c.len-start.ensures s.slots (omega (arith, s.len)) s.count kept.slots;
       pages = λ p. refl;
       restless = refl;

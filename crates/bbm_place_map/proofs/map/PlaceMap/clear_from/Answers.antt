@@ -1,12 +1,32 @@
-use Rattle.bbm_place_map.proofs.Common.{ap, is_broken, EntryState, marks_of_state}
-use Rattle.bbm_place_map.proofs.Wholes.{leaves_whole}
+use Rattle.bbm_place_map.proofs.Common.{sym, subst, EntryState}
+use Rattle.bbm_place_map.specs.MapCalls.{Leaves}
 use Rattle.bbm_place_map.proofs.map.PlaceMap.clear_from.Goals as goal
 
-pub returns-in-Clean-clause-written : goal.returns-in-Clean-clause-written
-returns-in-Clean-clause-written c = (
-  c.write.result,
-  c.write.ensures,
-  leaves_whole c.write.result c.args.seat.now.place c.args.self.now c.put_whole.new.self
-      (ap (λ (s : EntryState). marks_of_state s) c.in-Clean.is) (ap (λ (s : EntryState). is_broken s) c.in-Clean.is)
-      c.put_whole.ensures.marks c.put_whole.ensures.pends c.put_whole.ensures.dropped,
-)
+pub returns-in-Broken : goal.returns-in-Broken
+returns-in-Broken c =
+    let P : EntryState → Type 0 = λ s. Leaves s c.args.position.now.place c.args.self.now c.put_broken.new.self in
+    record {
+      written = (c.write.result, c.write.ensures, subst P (sym c.in-Broken.is) c.put_broken.ensures.left);
+      put = c.put_broken.ensures.put;
+    }
+
+pub returns-in-Clean : goal.returns-in-Clean
+returns-in-Clean c =
+    let P : EntryState → Type 0 = λ s. Leaves s c.args.position.now.place c.args.self.now c.put_unbroken.new.self in
+    record {
+      written = (c.write.result, c.write.ensures, subst P (sym c.in-Clean.is) c.put_unbroken.ensures.left);
+      put = c.put_unbroken.ensures.put;
+    }
+
+pub returns-in-Live : goal.returns-in-Live
+returns-in-Live c =
+    let P : EntryState → Type 0 = λ s. Leaves s c.args.position.now.place c.args.self.now c.put_unbroken-in-Live.new.self in
+    let left = c.put_unbroken-in-Live.ensures.left in
+    record {
+      written = (
+        c.write.result,
+        c.write.ensures,
+        subst P (sym c.in-Live.is) (record { marks = left.marks; pends = left.pends; dropped = left.dropped }),
+      );
+      put = c.put_unbroken-in-Live.ensures.put;
+    }

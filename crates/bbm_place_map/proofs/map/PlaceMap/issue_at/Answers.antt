@@ -1,17 +1,17 @@
 use Rattle.bbm_place_map.proofs.Common.{ℕ, ◌≡◌, List, refl, nat_eq, arith, ◌∙◌, vec_len, slice_get, get, Advances}
-use Rattle.bbm_place_map.proofs.Common.{starts, Entry, Keeps, NotesFound, seat_at}
+use Rattle.bbm_place_map.proofs.Common.{starts, Entry, Keeps, NotesFound, position_at}
 use Rattle.bbm_place_map.specs.Map.{marks_at, pends_at}
-use Rattle.bbm_place_map.proofs.Advancing.{seat_kept}
+use Rattle.bbm_place_map.proofs.Advancing.{position_kept}
 use Rattle.bbm_place_map.proofs.Issued.{noted_found, unnoted_found}
-use Rattle.bbm_place_map.proofs.Seats.{linked_seated, placed_seated}
+use Rattle.bbm_place_map.proofs.Positions.{linked_seated, placed_seated}
 use Rattle.bbm_place_map.proofs.Listing.{listed_roomed, listed_noted}
 use Rattle.bbm_place_map.proofs.Parts.{sound_by}
 use Rattle.bbm_place_map.proofs.Visiting.{covers_of, notes_each, waits_each}
 use Rattle.bbm_place_map.proofs.Made.{issuing}
 use Rattle.bbm_place_map.proofs.map.PlaceMap.issue_at.Goals as goal
 
-seats : (old mid : List Entry) → ((m : ℕ) → Advances Keeps (slice_get old m) (slice_get mid m)) → (m : ℕ) → seat_at mid m ≡ seat_at old m
-seats old mid each m = seat_kept Keeps (slice_get old m) (slice_get mid m) (each m)
+positions : (old mid : List Entry) → ((m : ℕ) → Advances Keeps (slice_get old m) (slice_get mid m)) → (m : ℕ) → position_at mid m ≡ position_at old m
+positions old mid each m = position_kept Keeps (slice_get old m) (slice_get mid m) (each m)
 
 pub invariant_of-self : goal.invariant_of-self
 invariant_of-self c =
@@ -20,8 +20,8 @@ invariant_of-self c =
     record {
       numbered = c.args.self.now.numbered;
       parted = c.args.self.now.parted;
-      linked = linked_seated old mid (seats old mid c.make_room_found.ensures.each) c.args.self.now.cells.items c.make_room_found.ensures.size.len c.args.self.now.linked;
-      placed = placed_seated old mid (seats old mid c.make_room_found.ensures.each) (starts (get nat_eq c.args.self.now.pages) c.args.self.now.parts.items) c.args.self.now.placed;
+      linked = linked_seated old mid (positions old mid c.make_room_found.ensures.each) c.args.self.now.cells.items c.make_room_found.ensures.size.len c.args.self.now.linked;
+      placed = placed_seated old mid (positions old mid c.make_room_found.ensures.each) (starts (get nat_eq c.args.self.now.pages) c.args.self.now.parts.items) c.args.self.now.placed;
       room = omega (arith, c.make_room_found.ensures.size.room);
       space = c.args.self.now.space;
       fewer = c.args.self.now.fewer;
@@ -32,14 +32,14 @@ invariant_of-self c =
 pub make_room_found-requires : goal.make_room_found-requires
 make_room_found-requires c =
     let self = c.args.self.now in
-    sound_by self c.deref-3.result.now c.deref-4.result.now self.broken.items c.deref-3.ensures.value c.deref-4.ensures.value self.linked self.placed
+    sound_by self c.deref.result.now c.deref-2.result.now self.broken.items c.deref.ensures.value c.deref-2.ensures.value self.linked self.placed
 
 pub note_found-requires-clause-sound : goal.note_found-requires-clause-sound
 note_found-requires-clause-sound c =
     let self = c.args.self.now in
     let mid = c.make_room_found.new.broken.items in
-    let all = seats self.broken.items mid c.make_room_found.ensures.each in
-    sound_by self c.deref-3.result.now c.deref-4.result.now mid c.deref-3.ensures.value c.deref-4.ensures.value
+    let all = positions self.broken.items mid c.make_room_found.ensures.each in
+    sound_by self c.deref.result.now c.deref-2.result.now mid c.deref.ensures.value c.deref-2.ensures.value
     (linked_seated self.broken.items mid all self.cells.items c.make_room_found.ensures.size.len self.linked)
     (placed_seated self.broken.items mid all (starts (get nat_eq self.pages) self.parts.items) self.placed)
 
@@ -51,7 +51,7 @@ invariant_of-self-2 c =
     let found = c.args.found.now in
     let each = c.note_found.ensures.each in
     let all = λ (m : ℕ).
-    seat_kept (NotesFound found (issuing c.args.issuer c.args.reach c.args.broadcast) c.note_found.new.lists.items) (slice_get mid m) (slice_get new m) (each m) ∙ seats old mid c.make_room_found.ensures.each m in
+    position_kept (NotesFound found (issuing c.args.issuer c.args.reach c.args.broadcast) c.note_found.new.lists.items) (slice_get mid m) (slice_get new m) (each m) ∙ positions old mid c.make_room_found.ensures.each m in
     record {
       numbered = c.args.self.now.numbered;
       parted = c.args.self.now.parted;
@@ -64,7 +64,7 @@ invariant_of-self-2 c =
       listed =
           listed_noted c.args.self.now.cells.items old mid c.make_room_found.ensures.each new (covers_of found mid) (issuing c.args.issuer c.args.reach c.args.broadcast)
           c.args.self.now.work (record c.args.self.now.work { waiting = c.note_found.new.lists })
-          (linked_seated old mid (seats old mid c.make_room_found.ensures.each) c.args.self.now.cells.items c.make_room_found.ensures.size.len c.args.self.now.linked)
+          (linked_seated old mid (positions old mid c.make_room_found.ensures.each) c.args.self.now.cells.items c.make_room_found.ensures.size.len c.args.self.now.linked)
           refl refl refl (notes_each found mid (issuing c.args.issuer c.args.reach c.args.broadcast) c.note_found.new.lists.items new each)
           (waits_each found mid (issuing c.args.issuer c.args.reach c.args.broadcast) c.note_found.new.lists.items new each)
           c.note_found.ensures.rest.kept c.args.self.now.listed;

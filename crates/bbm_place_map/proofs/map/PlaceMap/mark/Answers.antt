@@ -1,4 +1,5 @@
-use Rattle.bbm_place_map.proofs.Common.{ℕ, None, Some, nat_eq, ap, sym, subst, ◌∙◌, arith, vec_len, get, no_pends}
+use Rattle.bbm_place_map.proofs.Common.{ℕ, None, Some, false≢true, nat_eq, ap, sym, subst, ◌∙◌, arith, vec_len, get}
+use Rattle.bbm_place_map.proofs.Common.{no_pends}
 use Rattle.bbm_place_map.proofs.Common.{place_cell, marks_in, pends_for, Parted, at_index, starts}
 use Rattle.bbm_place_map.specs.Map.{marks_at, pends_at}
 use Rattle.bbm_place_map.proofs.Listing.{listed_broken}
@@ -11,7 +12,7 @@ mark-requires c =
     let base = starts (get nat_eq self.pages) self.parts.items in
     record {
       linked = self.linked;
-      within = index_inside base (vec_len self.cells) self.parted.numbered c.args.seat.now.place c.args.i c.requires.cell;
+      within = index_inside base (vec_len self.cells) self.parted.numbered c.args.position.now.place c.args.i c.requires.cell;
       few = omega (arith, self.fewer, self.few);
       room = omega (arith, self.fewer, self.room);
     }
@@ -39,17 +40,17 @@ invariant_of-self c =
           n.told n.kept n.waiting n.settled n.unclean e.marks e.pends self.listed;
     }
 
-pub returns-clause-marks : goal.returns-clause-marks
-unfolding marks_at
-returns-clause-marks c =
+pub returns-clause-left : goal.returns-clause-left
+unfolding marks_at pends_at
+returns-clause-left c =
     let self = c.args.self.now in
-    at_place (starts (get nat_eq self.pages) self.parts.items) (vec_len self.cells) self.parted.numbered None (Some c.args.marks)
-    (marks_in self.cells.items self.broken.items) (marks_in c.mark.new.cells.items c.mark.new.broken.items)
-    c.args.seat.now.place c.args.i c.requires.cell c.mark.ensures.marks
-
-pub returns-clause-pends : goal.returns-clause-pends
-unfolding pends_at
-returns-clause-pends c = λ q a.
-    let self = c.args.self.now in
-    at_same no_pends (pends_for self.cells.items self.broken.items q) (pends_for c.mark.new.cells.items c.mark.new.broken.items q)
-    (c.mark.ensures.pends q) (place_cell self a)
+    record {
+      marks =
+          at_place (starts (get nat_eq self.pages) self.parts.items) (vec_len self.cells) self.parted.numbered None (Some c.args.marks)
+          (marks_in self.cells.items self.broken.items) (marks_in c.mark.new.cells.items c.mark.new.broken.items)
+          c.args.position.now.place c.args.i c.requires.cell c.mark.ensures.marks;
+      pends = λ q a _.
+          at_same no_pends (pends_for self.cells.items self.broken.items q) (pends_for c.mark.new.cells.items c.mark.new.broken.items q)
+          (c.mark.ensures.pends q) (place_cell self a);
+      dropped = λ q is. absurd (false≢true (sym is));
+    }

@@ -1,5 +1,5 @@
 use Rattle.bbm_place_map.proofs.Common.{ℕ, nat_eq, refl, arith, sym, subst, vec_len, get, value_in, Numbered, Parted}
-use Rattle.bbm_place_map.specs.Map.{IsSeat, is_tracked, value_at}
+use Rattle.bbm_place_map.specs.Map.{IsPosition, is_tracked, value_at}
 use Rattle.bbm_place_map.proofs.Places.{at_place}
 use Rattle.bbm_place_map.proofs.map.PlaceMap.put_at.Goals as goal
 
@@ -22,12 +22,12 @@ invariant_of-self c =
     }
 
 pub returns-clause-put : goal.returns-clause-put
-unfolding IsSeat is_tracked value_at
+unfolding IsPosition is_tracked value_at
 returns-clause-put c =
     let self = c.args.self.now in
     record {
       values =
           at_place (get nat_eq self.pages) (vec_len self.values) self.numbered 0 c.args.value (value_in self.values.items)
-          (value_in c.put_value.new.values.items) c.args.seat.now.place c.args.seat.now.index c.requires c.put_value.ensures.values;
+          (value_in c.put_value.new.values.items) c.args.position.now.place c.args.position.now.index c.requires c.put_value.ensures.values;
       pages = λ page. refl;
     }

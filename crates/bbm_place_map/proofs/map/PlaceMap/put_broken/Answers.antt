@@ -1,5 +1,5 @@
 use Rattle.bbm_place_map.proofs.Common.{List, ℕ, None, Some, Option, nat_eq, ap, sym, ◌∙◌, if◌then◌else◌, Marks}
-use Rattle.bbm_place_map.proofs.Common.{marks_in, at_index, Entry}
+use Rattle.bbm_place_map.proofs.Common.{false≢true, marks_in, at_index, Entry}
 use Rattle.bbm_place_map.specs.Map.{is_tracked, marks_at, pends_at, value_at}
 use Rattle.bbm_place_map.proofs.map.PlaceMap.put_broken.Goals as goal
 
@@ -17,16 +17,17 @@ unfolding value_at is_tracked
 returns-clause-put c = record {
   values = λ a.
       c.put_at.ensures.put.values a
-      ∙ ap (λ (v : ℕ). if nat_eq a c.args.seat.now.place then c.args.value else v) (c.mark.ensures.values a ∙ c.cell-i.ensures.same.values a);
-  pages = λ p. c.put_at.ensures.put.pages p ∙ c.mark.ensures.pages p ∙ c.cell-i.ensures.same.pages p;
+      ∙ ap (λ (v : ℕ). if nat_eq a c.args.position.now.place then c.args.value else v)
+      (c.mark.ensures.same.values a ∙ c.cell-i.ensures.same.values a);
+  pages = λ p. c.put_at.ensures.put.pages p ∙ c.mark.ensures.same.pages p ∙ c.cell-i.ensures.same.pages p;
 }
 
-pub returns-clause-marks : goal.returns-clause-marks
-unfolding marks_at
-returns-clause-marks c = λ a.
-    c.put_at.ensures.marks a ∙ c.mark.ensures.marks a
-    ∙ ap (λ (m : Option Marks). if nat_eq a c.args.seat.now.place then Some c.args.marks else m) (c.cell-i.ensures.same.marks a)
-
-pub returns-clause-pends : goal.returns-clause-pends
-unfolding pends_at
-returns-clause-pends c = λ q a. c.put_at.ensures.pends q a ∙ c.mark.ensures.pends q a ∙ c.cell-i.ensures.same.pends q a
+pub returns-clause-left : goal.returns-clause-left
+unfolding marks_at pends_at
+returns-clause-left c = record {
+  marks = λ a.
+      c.put_at.ensures.marks a ∙ c.mark.ensures.left.marks a
+      ∙ ap (λ (m : Option Marks). if nat_eq a c.args.position.now.place then Some c.args.marks else m) (c.cell-i.ensures.same.marks a);
+  pends = λ q a stays. c.put_at.ensures.pends q a ∙ c.mark.ensures.left.pends q a stays ∙ c.cell-i.ensures.same.pends q a;
+  dropped = λ q is. absurd (false≢true (sym is));
+}

@@ -1,20 +1,20 @@
-use Rattle.bbm_place_map.proofs.Common.{◌≡◌, ℕ, Option, Some, IfSome, subst, IsIdle, PlaceMap}
-use Rattle.bbm_place_map.specs.Map.{pends_at}
-use Rattle.bbm_place_map.specs.declared.seat.Seat.{Seat}
+use Rattle.bbm_place_map.proofs.Common.{◌≡◌, ℕ, Option, Some, IfSome, sym, subst, EntryState, Live}
+use Rattle.bbm_place_map.specs.MapCalls.{Leaves}
+use Rattle.bbm_place_map.specs.declared.position.Position.{Position}
 use Rattle.bbm_place_map.proofs.map.PlaceMap.set.Goals as goal
 
--- the seat is that of the place
-moved : (place : ℕ) (found : Option Seat) (seat : Seat) → found ≡ Some seat → IfSome found (λ s. s.place ≡ place)
-    → (map : PlaceMap) (q : ℕ) → IsIdle (pends_at map q seat.place) → IsIdle (pends_at map q place)
-moved place found seat is here map q idle =
-    let P : Option Seat → Type 0 = λ o. IfSome o (λ s. s.place ≡ place) in
-    let Q : ℕ → Type 0 = λ a. IsIdle (pends_at map q a) in
-    subst Q (subst P is here) idle
+-- the position is that of the place
+there : (place : ℕ) (found : Option Position) (position : Position) → found ≡ Some position → IfSome found (λ s. s.place ≡ place) → position.place ≡ place
+there place found position is here = let P : Option Position → Type 0 = λ o. IfSome o (λ s. s.place ≡ place) in subst P is here
 
-pub returns-in-Clean-clause-dropped : goal.returns-in-Clean-clause-dropped
-returns-in-Clean-clause-dropped c = λ q whole.
-    moved c.args.place c.seat.result c.unwrap-seat.result c.unwrap-seat.ensures c.seat.ensures.place c.put_whole.new.self q (c.put_whole.ensures.dropped q)
-
-pub returns-in-Live-clause-dropped : goal.returns-in-Live-clause-dropped
-returns-in-Live-clause-dropped c = λ q whole.
-    moved c.args.place c.seat.result c.unwrap-seat.result c.unwrap-seat.ensures c.seat.ensures.place c.put_whole-in-Live.new.self q (c.put_whole-in-Live.ensures.dropped q)
+pub returns-in-Live-clause-left : goal.returns-in-Live-clause-left
+returns-in-Live-clause-left c =
+    let self = c.args.self.now in
+    let new = c.put_unbroken-in-Live.new.self in
+    let left = c.put_unbroken-in-Live.ensures.left in
+    let position = c.unwrap-position.result in
+    let P : EntryState → Type 0 = λ s. Leaves s c.args.place self new in
+    let Q : ℕ → Type 0 = λ a. Leaves (Live c.in-Live.core) a self new in
+    let live : Leaves (Live c.in-Live.core) position.place self new
+    = record { marks = left.marks; pends = left.pends; dropped = left.dropped } in
+    subst P (sym c.in-Live.is) (subst Q (there c.args.place c.position.result position c.unwrap-position.ensures c.position.ensures.place) live)

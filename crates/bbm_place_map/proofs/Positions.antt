@@ -1,26 +1,28 @@
 -- Entries that change, each in its place.
 use Rattle.bbm_place_map.proofs.Common.{◌≡◌, ◌≢◌, ℕ, nat_eq, List, length, Option, Some, None, refl, ap, sym, ◌∙◌, inl}
 use Rattle.bbm_place_map.proofs.Common.{inr, if◌then◌else◌, slice_get, Vec, Global, option_map, cases_eq, eq-eqb}
-use Rattle.bbm_place_map.proofs.Common.{ne_eqb, cond-true, cond-false, same_Some, none-some, SmallVec, slot_in, seat}
-use Rattle.bbm_place_map.proofs.Common.{seat_at, cell_at, entry_of, entry_in, marks_of, pends_of, pends_in, marks_in}
+use Rattle.bbm_place_map.proofs.Common.{ne_eqb, cond-true, cond-false, same_Some, none-some, SmallVec, slot_in}
+use Rattle.bbm_place_map.proofs.Common.{position}
+use Rattle.bbm_place_map.proofs.Common.{position_at, cell_at, entry_of, entry_in, marks_of, pends_of, pends_in}
+use Rattle.bbm_place_map.proofs.Common.{marks_in}
 use Rattle.bbm_place_map.proofs.Common.{pends_for, Linked, Placed, StillSound, index_of, Entry, Pending}
 use Rattle.bbm_place_map.proofs.Linking.{choose_marks}
 
-seat_cell : (o : Option Entry) → option_map (λ (e : Entry). e.cell) o ≡ option_map (λ (p : ℕ × ℕ). p.1) (option_map seat o)
-seat_cell None = refl
-seat_cell (Some e) = refl
+position_cell : (o : Option Entry) → option_map (λ (e : Entry). e.cell) o ≡ option_map (λ (p : ℕ × ℕ). p.1) (option_map position o)
+position_cell None = refl
+position_cell (Some e) = refl
 
-seat_of : (o : Option Entry) (e : Entry) → option_map seat o ≡ Some (seat e)
+position_of : (o : Option Entry) (e : Entry) → option_map position o ≡ Some (position e)
     → (f : Entry) × (o ≡ Some f) × (f.place ≡ e.place) × (f.cell ≡ e.cell)
-seat_of None e h = cc
-seat_of (Some f) e h =
-    let same : seat f ≡ seat e = same_Some (seat f) (seat e) h in
+position_of None e h = cc
+position_of (Some f) e h =
+    let same : position f ≡ position e = same_Some (position f) (position e) h in
     (f, refl, ap (λ (p : ℕ × ℕ). p.0) same, ap (λ (p : ℕ × ℕ). p.1) same)
 
-module _ (entries entries' : List Entry) (seats : (m : ℕ) → seat_at entries' m ≡ seat_at entries m) where
+module _ (entries entries' : List Entry) (positions : (m : ℕ) → position_at entries' m ≡ position_at entries m) where
   pub cells_same : (m : ℕ) → cell_at entries' m ≡ cell_at entries m
   cells_same m =
-      seat_cell (slice_get entries' m) ∙ ap (option_map (λ (p : ℕ × ℕ). p.1)) (seats m) ∙ sym (seat_cell (slice_get entries m))
+      position_cell (slice_get entries' m) ∙ ap (option_map (λ (p : ℕ × ℕ). p.1)) (positions m) ∙ sym (position_cell (slice_get entries m))
 
   pub linked_seated : (cells : List ℕ) → length entries' ≡ length entries → Linked cells entries → Linked cells entries'
   linked_seated cells len linked = record {
@@ -31,12 +33,12 @@ module _ (entries entries' : List Entry) (seats : (m : ℕ) → seat_at entries'
 
   pub placed_seated : (base : ℕ → Option ℕ) → Placed base entries → Placed base entries'
   placed_seated base placed k e h =
-      let old = seat_of (slice_get entries k) e (sym (seats k) ∙ ap (option_map seat) h) in
+      let old = position_of (slice_get entries k) e (sym (positions k) ∙ ap (option_map position) h) in
       ap (index_of base) (sym old.2) ∙ placed k old.0 old.1 ∙ ap (λ (n : ℕ). Some n) old.3
 
 -- one entry changes
 module _ (cells : List ℕ) (entries entries' : List Entry) (e e' : Entry) (j k : ℕ) (linked : Linked cells entries)
-    (here : slot_in cells j ≡ Some k) (was : slice_get entries k ≡ Some e) (seated : seat e' ≡ seat e)
+    (here : slot_in cells j ≡ Some k) (was : slice_get entries k ≡ Some e) (seated : position e' ≡ position e)
     (gets : (i : ℕ) → slice_get entries' i ≡ (if nat_eq i k then Some e' else slice_get entries i)) where
   at_k : (i : ℕ) → i ≡ k → slice_get entries' i ≡ Some e'
   at_k i same = gets i ∙ cond-true (nat_eq i k) (Some e') (slice_get entries i) (eq-eqb i k same)
@@ -44,13 +46,13 @@ module _ (cells : List ℕ) (entries entries' : List Entry) (e e' : Entry) (j k 
   off_k : (i : ℕ) → i ≢ k → slice_get entries' i ≡ slice_get entries i
   off_k i other = gets i ∙ cond-false (nat_eq i k) (Some e') (slice_get entries i) (ne_eqb i k other)
 
-  pub seats_changed : (m : ℕ) → seat_at entries' m ≡ seat_at entries m
-  seats_changed m =
+  pub positions_changed : (m : ℕ) → position_at entries' m ≡ position_at entries m
+  positions_changed m =
       elim (cases_eq m k) [
         | inl same ↦
-            ap (option_map seat) (at_k m same) ∙ ap (λ (p : ℕ × ℕ). Some p) seated
-            ∙ sym (ap (option_map seat) (ap (slice_get entries) same ∙ was))
-        | inr other ↦ ap (option_map seat) (off_k m other)
+            ap (option_map position) (at_k m same) ∙ ap (λ (p : ℕ × ℕ). Some p) seated
+            ∙ sym (ap (option_map position) (ap (slice_get entries) same ∙ was))
+        | inr other ↦ ap (option_map position) (off_k m other)
       ]
 
   kept : (i : ℕ) → i ≢ j → (o : Option ℕ) → slot_in cells i ≡ o → entry_of entries' o ≡ entry_of entries o

@@ -4,7 +4,7 @@ use bbm_regimes::Place;
 
 /// Where a place of a tracked page is kept, for calls before the map changes. Source: project's own choice.
 #[derive(Clone, Copy, Debug)]
-pub struct Seat {
+pub struct Position {
     /// The place.
     pub place: Place,
     /// The number of its value.

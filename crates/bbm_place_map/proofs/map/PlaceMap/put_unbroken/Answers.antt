@@ -1,0 +1,49 @@
+use Rattle.bbm_place_map.proofs.Common.{refl, nat_eq, vec_len, eq-eqb, false, get, cell_by, is_at, value_in}
+use Rattle.bbm_place_map.specs.Map.{IsPosition, is_tracked, marks_at, pends_at, value_at}
+use Rattle.bbm_place_map.proofs.Clearing.{able, fits_cleared, place_cleared}
+use Rattle.bbm_place_map.proofs.Places.{at_place}
+use Rattle.bbm_place_map.proofs.map.PlaceMap.put_unbroken.Goals as goal
+use Rattle.bbm_lemmas.proofs.Bools.{none_unless}
+
+pub clear_by-requires-clause-able : goal.clear_by-requires-clause-able
+clear_by-requires-clause-able c = able c.args.self.now
+
+pub invariant_of-self : goal.invariant_of-self
+invariant_of-self c =
+    let self = c.args.self.now in
+    let fits = fits_cleared self c.put_value.new.values c.clear_by.new.cells c.clear_by.new.broken
+    (is_at (cell_by c.deref.result.now c.args.position.now.index)) c.put_value.ensures.len c.clear_by.ensures in
+    record {
+      numbered = fits.numbered;
+      parted = fits.parted;
+      linked = fits.linked;
+      placed = fits.placed;
+      space = fits.space;
+      room = fits.room;
+      fewer = fits.fewer;
+      few = fits.few;
+      listed = fits.listed;
+    }
+
+pub returns-clause-put : goal.returns-clause-put
+unfolding IsPosition is_tracked value_at
+returns-clause-put c =
+    let self = c.args.self.now in
+    record {
+      values =
+          at_place (get nat_eq self.pages) (vec_len self.values) self.numbered 0 c.args.value (value_in self.values.items)
+          (value_in c.put_value.new.values.items) c.args.position.now.place c.args.position.now.index c.requires c.put_value.ensures.values;
+      pages = λ page. refl;
+    }
+
+pub returns-clause-left : goal.returns-clause-left
+unfolding IsPosition marks_at pends_at
+returns-clause-left c =
+    let place = c.args.position.now.place in
+    let all = place_cleared c.args.self.now c.deref.result.now c.deref.ensures.value c.clear_by.new.cells c.clear_by.new.broken place
+    c.args.position.now.index c.requires c.clear_by.ensures in
+    record {
+      marks = all.marks;
+      pends = λ q a off. all.pends q a (none_unless (nat_eq a place) false refl off);
+      dropped = λ q _. all.dropped q place (eq-eqb place place refl);
+    }
