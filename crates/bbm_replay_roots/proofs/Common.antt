@@ -12,7 +12,7 @@ pub use Rattle.bbm_roots.specs.RootCalls.{Call, Issue, WriteReg}
 pub use Rattle.bbm_roots.specs.RootRegisters.{at_start, first_reg, is_of_world, names_null, register_values, second_reg}
 pub use Rattle.bbm_roots.specs.RootsStand.{pes_of, world_of}
 pub use Rattle.bbm_roots.specs.declared.fault.RootFault.{RootFault}
-pub use Rattle.bbm_roots.specs.declared.load.Load.{Load}
+pub use Rattle.bbm_roots.specs.declared.load.RootValue.{RootValue}
 pub use Rattle.bbm_roots.specs.declared.reading.Reading.{Reading}
 pub use Rattle.bbm_roots.specs.declared.root.Declared.{Declared}
 pub use Rattle.bbm_rules.specs.Claims.{Patterns}

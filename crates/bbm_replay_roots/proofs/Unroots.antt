@@ -1,7 +1,8 @@
 -- Whether a root may be retired, by the history and by its calls.
 use Rattle.bbm_replay_roots.proofs.Common.{is_none, option_and_then, option_map, Kind, Patterns, NoLock, NoRoot}
 use Rattle.bbm_replay_roots.proofs.Common.{RootInUse, WrongWorld, at_start, first_reg, register_values, second_reg}
-use Rattle.bbm_replay_roots.proofs.Common.{pes_of, world_of, RootFault, Load, Proper, calls_of, Laws, Stands, RootState}
+use Rattle.bbm_replay_roots.proofs.Common.{pes_of, world_of, RootFault, RootValue, Proper, calls_of, Laws, Stands}
+use Rattle.bbm_replay_roots.proofs.Common.{RootState}
 use Rattle.bbm_rules.proofs.Common.{◌≡◌, ℕ, ◌<◌, ◌≤◌, Bool, true, false, not, ◌&&◌, ◌||◌, ◌==◌, nat_lt, List, [], ◌∷◌}
 use Rattle.bbm_rules.proofs.Common.{map, length, Option, Some, None, Result, Ok, Err, refl, sym, ap, ◌∙◌, subst}
 use Rattle.bbm_rules.proofs.Common.{true≢false, inl, inr, arith, list_any, cases_lt, lt-ltb, eqb-true, eq-eqb}
@@ -166,7 +167,7 @@ module _ (heading : Heading) (laws : Laws heading) (proper : Proper heading) (h 
 
     reg_same : (p : ℕ) → p < heading.pes → (reg : Reg) → names_in (register_values (calls_of heading h) p reg) page ≡ in_reg h page p reg
     reg_same p less reg =
-        ap (λ (xs : List Load). names_in xs page) (agree.values p reg less)
+        ap (λ (xs : List RootValue). names_in xs page) (agree.values p reg less)
         ∙ both_ways _ _ (base_used h reg page (rules.register_values h p reg))
         (λ e. used_base h reg page (rules.register_values h p reg) (base_root p less reg e) e)
 
@@ -229,8 +230,8 @@ module _ (heading : Heading) (laws : Laws heading) (proper : Proper heading) (h 
           elim (cases_lt p heading.pes) [
             | inl less ↦ less
             | inr past ↦ absurd (true≢false (sym e
-                ∙ (ap (λ (xs : List Load). names_in xs page || names_in (register_values (calls_of heading h) p (second_reg heading.world)) page) (outside p (first_reg heading.world) past)
-                ∙ ap (λ (xs : List Load). false || names_in xs page) (outside p (second_reg heading.world) past))))
+                ∙ (ap (λ (xs : List RootValue). names_in xs page || names_in (register_values (calls_of heading h) p (second_reg heading.world)) page) (outside p (first_reg heading.world) past)
+                ∙ ap (λ (xs : List RootValue). false || names_in xs page) (outside p (second_reg heading.world) past))))
           ]
 
       unused : (r : Declared) → root_at h page ≡ Some r → ((p : ℕ) → uses heading.world (calls_of heading h) page p ≡ false)

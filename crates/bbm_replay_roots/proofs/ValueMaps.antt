@@ -1,6 +1,6 @@
 -- The readable register values of a history, and what its calls know of them.
 use Rattle.bbm_replay_roots.proofs.Common.{flat_map, option_and_then, Kind, Patterns, Call, has_other, has_reading}
-use Rattle.bbm_replay_roots.proofs.Common.{own_reading, first_reg, names_null, register_values, second_reg, Load}
+use Rattle.bbm_replay_roots.proofs.Common.{own_reading, first_reg, names_null, register_values, second_reg, RootValue}
 use Rattle.bbm_replay_roots.proofs.Common.{Reading, calls_of, has_null_base, Laws}
 use Rattle.bbm_rules.proofs.Common.{◌≡◌, ℕ, ◌<◌, Bool, true, false, not, ◌&&◌, ◌||◌, ◌==◌, cond, List, [], ◌∷◌, ◌++◌}
 use Rattle.bbm_rules.proofs.Common.{map, take, Option, Some, None, refl, sym, ap, ◌∙◌, true≢false, cons_option}
@@ -27,7 +27,7 @@ use Rattle.bbm_histories.specs.TagSteps.{BasesStay}
 abbrev pub root_in : List Event → Kind → Option ℕ → Option ℕ
 root_in h kind base = option_and_then (λ b. if_so (is_root h kind b) b) base
 
-abbrev pub load_in : List Event → Reg → ℕ → Load
+abbrev pub load_in : List Event → Reg → ℕ → RootValue
 load_in h reg value = record { number = tag_number value; root = root_in h (kind_of_reg reg) (base_of value) }
 
 pub null_test : (reg : Reg) (b : Bool) → names_null reg b ≡ (same_reg reg Ttbr0El1 && b)
@@ -69,15 +69,15 @@ swap a b = by (a == b) (b == a) refl refl
     by true false e f = sym (sym f ∙ eq-eqb b a (sym (eqb-true a b e)))
     by false true e f = sym e ∙ eq-eqb a b (sym (eqb-true b a f))
 
-newest_map : (f : ℕ → Load) (vs : List ℕ) → newest (map f vs) ≡ map f (take 1 vs)
+newest_map : (f : ℕ → RootValue) (vs : List ℕ) → newest (map f vs) ≡ map f (take 1 vs)
 newest_map f [] = refl
 newest_map f (v ∷ vs) = refl
 
-map_same : (f g : ℕ → Load) (vs : List ℕ) → ((v : ℕ) → among v vs ≡ true → f v ≡ g v) → map f vs ≡ map g vs
+map_same : (f g : ℕ → RootValue) (vs : List ℕ) → ((v : ℕ) → among v vs ≡ true → f v ≡ g v) → map f vs ≡ map g vs
 map_same f g [] k = refl
 map_same f g (v ∷ vs) k =
-    ap (λ (x : Load). x ∷ map f vs) (k v (ap (λ (b : Bool). b || among v vs) (eq-eqb v v refl)))
-    ∙ ap (λ (xs : List Load). g v ∷ xs) (map_same f g vs (λ w e. k w (proved 2 (λ a b. If (Is b true) (Is (a || b)
+    ap (λ (x : RootValue). x ∷ map f vs) (k v (ap (λ (b : Bool). b || among v vs) (eq-eqb v v refl)))
+    ∙ ap (λ (xs : List RootValue). g v ∷ xs) (map_same f g vs (λ w e. k w (proved 2 (λ a b. If (Is b true) (Is (a || b)
     true)) refl (v == w) (among w vs) e)))
 
 -- the calls know what the values name
@@ -88,15 +88,15 @@ Values heading h = (p : ℕ) (reg : Reg) → p < heading.pes
 pub values_start : (heading : Heading) → Values heading []
 values_start heading p reg less = refl
 
-load_root : (n : ℕ) (r s : Option ℕ) → r ≡ s → let a : Load = record { number = n; root = r } in let b : Load = record { number = n; root = s } in a ≡ b
-load_root n r s e = ap (λ (o : Option ℕ). let l : Load = record { number = n; root = o } in l) e
+load_root : (n : ℕ) (r s : Option ℕ) → r ≡ s → let a : RootValue = record { number = n; root = r } in let b : RootValue = record { number = n; root = s } in a ≡ b
+load_root n r s e = ap (λ (o : Option ℕ). let l : RootValue = record { number = n; root = o } in l) e
 
 pub values_written : (heading : Heading) (h : List Event) (pe : ℕ) (r : Reg) (v : ℕ) → Laws heading
     → ((kind : Kind) (page : ℕ) → is_null h page ≡ true → is_root h kind page ≡ false)
     → no_root heading Patterns (noted heading Patterns h) (Msr pe r v) ≡ None
     → Values heading h → Values heading (Msr pe r v ∷ h)
 values_written heading h pe r v laws apart rule before p reg less =
-    ap (λ (xs : List Load). cond (p == pe && same_reg r reg) (load_of r v (has_null_base h v) ∷ xs) xs) (before p reg less)
+    ap (λ (xs : List RootValue). cond (p == pe && same_reg r reg) (load_of r v (has_null_base h v) ∷ xs) xs) (before p reg less)
     ∙ (ap (λ (b : Bool). cond (b && same_reg r reg) (load_of r v (has_null_base h v) ∷ map (load_in h reg) values) (map (load_in h reg) values)) (swap p pe)
     ∙ by (pe == p && same_reg r reg) refl)
   where
@@ -117,7 +117,7 @@ values_written heading h pe r v laws apart rule before p reg less =
     by false c = refl
     by true c =
         let same : r ≡ reg = (laws.equality_tests.registers r reg).0 (and_parts (pe == p) (same_reg r reg) c).1 in
-        ap (λ (x : Load). x ∷ map (load_in h reg) (rules.register_values h p reg)) (here ∙ ap (λ (x : Reg). load_in h x v) same)
+        ap (λ (x : RootValue). x ∷ map (load_in h reg) (rules.register_values h p reg)) (here ∙ ap (λ (x : Reg). load_in h x v) same)
 
 -- what the base of a readable value is stays
 values_stay : (heading : Heading) (h : List Event) (e : Event) → BasesStay heading h e → (p : ℕ) (reg : Reg) → p < heading.pes
@@ -140,7 +140,7 @@ pub values_next : (heading : Heading) (h : List Event) (e : Event) → writes_no
     → Values heading (e ∷ h)
 values_next heading h (Msr pe r value) none stay before p reg less = absurd (true≢false (sym none))
 values_next heading h (Isb pe) none stay before p reg less =
-    ap (λ (xs : List Load). cond (p == pe) (newest xs) xs) (before p reg less)
+    ap (λ (xs : List RootValue). cond (p == pe) (newest xs) xs) (before p reg less)
     ∙ (ap (λ (b : Bool). cond b (newest (map (load_in h reg) values)) (map (load_in h reg) values)) (swap p pe) ∙ by (pe == p))
   where
     values : List ℕ
@@ -176,7 +176,7 @@ one_reading tag h kind (Some b) rest = by (is_root h kind b)
     by true = refl
     by false = refl
 
-own_same : (h : List Event) (reg : Reg) (tag : ℕ → Tag) (f : Load → List Reading)
+own_same : (h : List Event) (reg : Reg) (tag : ℕ → Tag) (f : RootValue → List Reading)
     → ((v : ℕ) → f (load_in h reg v) ≡ reading_at (tag v) (root_in h (kind_of_reg reg) (base_of v))) → (vs : List ℕ)
     → flat_map f (map (load_in h reg) vs) ≡ map as_reading (filter_map (tags.reading_of h reg tag) vs)
 own_same h reg tag f k [] = refl
@@ -223,9 +223,9 @@ readings_in_same (Kernel world) h p =
 pub readings_same : (heading : Heading) (h : List Event) → Values heading h → (p : ℕ) → p < heading.pes
     → held.readings heading.world (calls_of heading h) p ≡ map as_reading (tags.readings heading h p)
 readings_same heading h values p less =
-    ap (λ (xs : List Load). calls.readings_of heading.world xs (register_values (calls_of heading h) p (second_reg heading.world)))
+    ap (λ (xs : List RootValue). calls.readings_of heading.world xs (register_values (calls_of heading h) p (second_reg heading.world)))
     (values p (first_reg heading.world) less)
-    ∙ (ap (λ (xs : List Load). calls.readings_of heading.world (map (load_in h (first_reg heading.world)) (rules.register_values h p (first_reg heading.world))) xs)
+    ∙ (ap (λ (xs : List RootValue). calls.readings_of heading.world (map (load_in h (first_reg heading.world)) (rules.register_values h p (first_reg heading.world))) xs)
     (values p (second_reg heading.world) less)
     ∙ readings_in_same heading.world h p)
 
@@ -261,5 +261,5 @@ vmid_same heading h values p less = by heading.world (λ reg. values p reg less)
   where
     by : (world : World) → ((reg : Reg) → register_values (calls_of heading h) p reg ≡ map (load_in h reg) (rules.register_values h p reg))
         → held.vmid_of world (calls_of heading h) p ≡ rules.vmid_in world h p
-    by (Hyp world) k = ap (λ (xs : List Load). held.one_number xs) (k VttbrEl2) ∙ one_same h VttbrEl2 (rules.register_values h p VttbrEl2)
+    by (Hyp world) k = ap (λ (xs : List RootValue). held.one_number xs) (k VttbrEl2) ∙ one_same h VttbrEl2 (rules.register_values h p VttbrEl2)
     by (Kernel world) k = refl

@@ -1,7 +1,7 @@
 -- Whether a register write may be taken, by the history and by its calls.
 use Rattle.bbm_replay_roots.proofs.Common.{flat_map, option_and_then, Kind, Patterns, NoRoot, TagConflict, WrongWorld}
 use Rattle.bbm_replay_roots.proofs.Common.{WriteReg, has_other, is_of_world, names_null, register_values, pes_of}
-use Rattle.bbm_replay_roots.proofs.Common.{world_of, Stands, RootState, RootFault, Load, Proper, calls_of}
+use Rattle.bbm_replay_roots.proofs.Common.{world_of, Stands, RootState, RootFault, RootValue, Proper, calls_of}
 use Rattle.bbm_replay_roots.proofs.Common.{has_null_base, Laws}
 use Rattle.bbm_rules.proofs.Common.{◌≡◌, ℕ, suc, ◌<◌, ◌≤◌, Bool, true, false, not, ◌&&◌, ◌||◌, ◌==◌, cond, nat_le, List}
 use Rattle.bbm_rules.proofs.Common.{[], ◌∷◌, map, length, min, Option, Some, None, Result, Ok, Err, refl, sym, ap, ◌∙◌}
@@ -291,7 +291,7 @@ module _ (heading : Heading) (laws : Laws heading) (proper : Proper heading) (h 
         (λ m e. let f = found m e in (k.1 (record { tag = f.0; root = m }) f.1).0)
 
   count : length (register_values (calls_of heading h) pe reg) ≡ length (rules.register_values h pe reg)
-  count = ap (λ (xs : List Load). length xs) (agree.values pe reg known) ∙ length_map (rules.register_values h pe reg)
+  count = ap (λ (xs : List RootValue). length xs) (agree.values pe reg known) ∙ length_map (rules.register_values h pe reg)
     where
       length_map : (vs : List ℕ) → length (map (load_in h reg) vs) ≡ length vs
       length_map [] = refl

@@ -336,8 +336,8 @@ impl RootState {
     }
 
     /// Makes room for a TLBI of the PE that names this. `NoMemory` where there is none. It stands for what it stood
-    /// for. After Ok, which tells whether the TLBI may take a tag that is held, `issue_ready` takes that TLBI without
-    /// memory.
+    /// for. After Ok, which tells whether the TLBI may take a tag from a PE that holds it, `issue_ready` takes that
+    /// TLBI without memory.
     pub fn prepare_issue(
         &mut self,
         alloc: Global,
@@ -351,8 +351,8 @@ impl RootState {
             .prepare_issue(alloc, pe, &named.scope, named.vmid)
     }
 
-    /// A TLBI of the PE that breaks no rule, names this, for which there is room, and which may take a tag that is held
-    /// or doesn't. It takes no memory.
+    /// A TLBI of the PE that breaks no rule, names this, for which there is room, and which may take a tag from a PE
+    /// that holds it or doesn't. It takes no memory.
     pub fn issue_ready(&mut self, pe: Pe, named: &NamedTlbi, takes: bool)
         requires pe { MayAsk (Stands self.old) pe }
         requires ready { IsReady self.old pe named.now takes }

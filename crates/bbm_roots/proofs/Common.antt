@@ -50,7 +50,7 @@ pub use Rattle.bbm_roots.specs.RootTags.{awaited, holds_at, holds_tag, loses, on
 pub use Rattle.bbm_roots.specs.RootTags.{reads_for_some}
 pub use Rattle.bbm_roots.specs.RootsStand.{Stands, pes_of, world_of}
 pub use Rattle.bbm_roots.specs.declared.hold.Held.{Held}
-pub use Rattle.bbm_roots.specs.declared.load.Load.{Load}
+pub use Rattle.bbm_roots.specs.declared.load.RootValue.{RootValue}
 pub use Rattle.bbm_roots.specs.declared.pending.Pendings.{Pendings}
 pub use Rattle.bbm_roots.specs.declared.pending.Waiting.{Waiting}
 pub use Rattle.bbm_roots.specs.declared.reading.Reading.{Reading}

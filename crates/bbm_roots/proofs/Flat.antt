@@ -3,7 +3,8 @@ use Rattle.bbm_roots.proofs.Common.{◌≡◌, ℕ, Bool, true, false, ◌&&◌,
 use Rattle.bbm_roots.proofs.Common.{ap, cond, Option, Some, None, is_some, list_any, flat_map, list_any-append, proved}
 use Rattle.bbm_roots.proofs.Common.{If, Is, AsidFrom, Kind, El2, S2, Ttbr0, Ttbr1, Tag, Vmid, Asid, World, Hyp, Kernel}
 use Rattle.bbm_roots.proofs.Common.{asid_readings, readings_of, readings_with, own_reading, reading_under, reading_at}
-use Rattle.bbm_roots.proofs.Common.{tag_of, has_tag, is_of_tag, same_tag, reads_tag, newest, Load, Reading, and-false}
+use Rattle.bbm_roots.proofs.Common.{tag_of, has_tag, is_of_tag, same_tag, reads_tag, newest, RootValue, Reading}
+use Rattle.bbm_roots.proofs.Common.{and-false}
 use Rattle.bbm_roots.proofs.Common.{and-true, or-false}
 use Rattle.bbm_regimes.specs.declared.regime.AsidFrom.TheVariants.{Ttbr0 as FromTtbr0, Ttbr1 as FromTtbr1}
 use Rattle.bbm_regimes.specs.declared.regime.Tag.TheVariants.{El2 as El2Tag, Ttbr1 as Ttbr1Tag}
@@ -17,7 +18,7 @@ any-flat_map t f [] = refl
 any-flat_map t f (x ∷ xs) =
     list_any-append t (f x) (flat_map f xs) ∙ ap (λ (b : Bool). list_any t (f x) || b) (any-flat_map t f xs)
 
-any-newest : (p : Load → Bool) (xs : List Load) → list_any p (newest xs) ≡ true → list_any p xs ≡ true
+any-newest : (p : RootValue → Bool) (xs : List RootValue) → list_any p (newest xs) ≡ true → list_any p xs ≡ true
 any-newest p [] e = e
 any-newest p (x ∷ xs) e = by_case (p x) e
   where
@@ -27,13 +28,13 @@ any-newest p (x ∷ xs) e = by_case (p x) e
 
 -- what a test finds among what some values give it finds among what more values give
 module _ (t : Reading → Bool) where
-  grows : (f : Load → List Reading) (xs : List Load) →
+  grows : (f : RootValue → List Reading) (xs : List RootValue) →
       list_any t (flat_map f (newest xs)) ≡ true → list_any t (flat_map f xs) ≡ true
   grows f xs e =
       any-flat_map t f xs
       ∙ any-newest (λ x. list_any t (f x)) xs (sym (any-flat_map t f (newest xs)) ∙ e)
 
-  crossed : (xs ys : List Load) → list_any t (flat_map (readings_with (newest xs)) (newest ys)) ≡ true →
+  crossed : (xs ys : List RootValue) → list_any t (flat_map (readings_with (newest xs)) (newest ys)) ≡ true →
       list_any t (flat_map (readings_with xs) ys) ≡ true
   crossed xs ys e =
       any-flat_map t (readings_with xs) ys
@@ -49,7 +50,7 @@ module _ (t : Reading → Bool) where
       (If (Is (a || b) true) (Is (c || d) true)))) refl (list_any t ls) (list_any t bs) (list_any t cs)
       (list_any t ds) f g (sym (list_any-append t ls bs) ∙ e)
 
-  asids-newest : (from : AsidFrom) (xs ys : List Load) →
+  asids-newest : (from : AsidFrom) (xs ys : List RootValue) →
       list_any t (asid_readings from (newest xs) (newest ys) ++ flat_map (own_reading Ttbr1) (newest ys)) ≡ true →
       list_any t (asid_readings from xs ys ++ flat_map (own_reading Ttbr1) ys) ≡ true
   asids-newest FromTtbr0 xs ys e =
@@ -61,7 +62,7 @@ module _ (t : Reading → Bool) where
       (flat_map (readings_with xs) ys) (flat_map (own_reading Ttbr1) ys)
       (crossed xs ys) (grows (own_reading Ttbr1) ys) e
 
-  pub readings-newest : (world : World) (xs ys : List Load) →
+  pub readings-newest : (world : World) (xs ys : List RootValue) →
       list_any t (readings_of world (newest xs) (newest ys)) ≡ true → list_any t (readings_of world xs ys) ≡ true
   readings-newest (Hyp w) xs ys e =
       both (flat_map (own_reading El2) (newest xs)) (flat_map (own_reading S2) (newest ys))
@@ -70,13 +71,13 @@ module _ (t : Reading → Bool) where
   readings-newest (Kernel w) xs ys e = asids-newest w.asid_from xs ys e
 
 -- the same where one PE alone had an ISB
-pub readings-isb : (t : Reading → Bool) (world : World) (b : Bool) (xs ys : List Load) →
+pub readings-isb : (t : Reading → Bool) (world : World) (b : Bool) (xs ys : List RootValue) →
     list_any t (readings_of world (cond b (newest xs) xs) (cond b (newest ys) ys)) ≡ true →
     list_any t (readings_of world xs ys) ≡ true
 readings-isb t world true xs ys e = readings-newest t world xs ys e
 readings-isb t world false xs ys e = e
 
-pub newest-same : (b : Bool) (x : Load) → cond b (newest (x ∷ [])) (x ∷ []) ≡ x ∷ []
+pub newest-same : (b : Bool) (x : RootValue) → cond b (newest (x ∷ [])) (x ∷ []) ≡ x ∷ []
 newest-same true x = refl
 newest-same false x = refl
 
@@ -96,20 +97,20 @@ any-none (x ∷ xs) = any-none xs
 -- the readings of a kind have a tag that isn't of the kind nowhere, one that always is where a root is named, and one
 -- with a number where a root is named with it
 module _ (g : Tag) (kind : Kind) where
-  own : (xs : List Load) → has_tag g (flat_map (own_reading kind) xs) ≡ list_any (λ x. is_some x.root && same_tag (tag_of kind x.number) g) xs
+  own : (xs : List RootValue) → has_tag g (flat_map (own_reading kind) xs) ≡ list_any (λ x. is_some x.root && same_tag (tag_of kind x.number) g) xs
   own xs =
       any-flat_map (is_of_tag g) (own_reading kind) xs
       ∙ any-same (λ x. list_any (is_of_tag g) (own_reading kind x)) (λ x. is_some x.root && same_tag (tag_of kind x.number) g)
       (λ x. some-name x.root (tag_of kind x.number) g) xs
 
-  own-none : ((n : ℕ) → same_tag (tag_of kind n) g ≡ false) → (xs : List Load) → has_tag g (flat_map (own_reading kind) xs) ≡ false
+  own-none : ((n : ℕ) → same_tag (tag_of kind n) g ≡ false) → (xs : List RootValue) → has_tag g (flat_map (own_reading kind) xs) ≡ false
   own-none h xs =
       own xs
       ∙ any-same (λ x. is_some x.root && same_tag (tag_of kind x.number) g) (λ x. false)
       (λ x. ap (λ (b : Bool). is_some x.root && b) (h x.number) ∙ and-false (is_some x.root)) xs
       ∙ any-none xs
 
-  own-all : ((n : ℕ) → same_tag (tag_of kind n) g ≡ true) → (xs : List Load) → has_tag g (flat_map (own_reading kind) xs) ≡ list_any names_root xs
+  own-all : ((n : ℕ) → same_tag (tag_of kind n) g ≡ true) → (xs : List RootValue) → has_tag g (flat_map (own_reading kind) xs) ≡ list_any names_root xs
   own-all h xs =
       own xs
       ∙ any-same (λ x. is_some x.root && same_tag (tag_of kind x.number) g) names_root
@@ -119,7 +120,7 @@ join : (g : Tag) (xs ys : List Reading) (a b : Bool) → has_tag g xs ≡ a → 
 join g xs ys a b e f = list_any-append (is_of_tag g) xs ys ∙ ap (λ (x : Bool). x || has_tag g ys) e ∙ ap (λ (y : Bool). a || y) f
 
 -- the readings under each ASID of the second list
-crossed-one : (a n : ℕ) (xs : List Load) → has_tag (Asid a) (flat_map (reading_under (Asid n)) xs) ≡ (list_any names_root xs && (n == a))
+crossed-one : (a n : ℕ) (xs : List RootValue) → has_tag (Asid a) (flat_map (reading_under (Asid n)) xs) ≡ (list_any names_root xs && (n == a))
 crossed-one a n [] = refl
 crossed-one a n (x ∷ xs) =
     list_any-append (is_of_tag (Asid a)) (reading_at (Asid n) x.root) (flat_map (reading_under (Asid n)) xs)
@@ -129,7 +130,7 @@ crossed-one a n (x ∷ xs) =
     ∙ proved 3 (λ p q c. Is ((p && c) || (q && c)) ((p || q) && c)) refl (is_some x.root) (list_any names_root xs)
     (n == a)
 
-crossed-asid : (a : ℕ) (xs ys : List Load) → has_tag (Asid a) (flat_map (readings_with xs) ys) ≡ (list_any names_root xs && list_any (numbered a) ys)
+crossed-asid : (a : ℕ) (xs ys : List RootValue) → has_tag (Asid a) (flat_map (readings_with xs) ys) ≡ (list_any names_root xs && list_any (numbered a) ys)
 crossed-asid a xs [] = sym (and-false (list_any names_root xs))
 crossed-asid a xs (y ∷ ys) =
     list_any-append (is_of_tag (Asid a)) (readings_with xs y) (flat_map (readings_with xs) ys)
@@ -138,7 +139,7 @@ crossed-asid a xs (y ∷ ys) =
     ∙ proved 3 (λ p c d. Is ((p && c) || (p && d)) (p && (c || d))) refl (list_any names_root xs) (y.number == a)
     (list_any (numbered a) ys)
 
-crossed-none : (g : Tag) → ((n : ℕ) → same_tag (Asid n) g ≡ false) → (xs ys : List Load) → has_tag g (flat_map (readings_with xs) ys) ≡ false
+crossed-none : (g : Tag) → ((n : ℕ) → same_tag (Asid n) g ≡ false) → (xs ys : List RootValue) → has_tag g (flat_map (readings_with xs) ys) ≡ false
 crossed-none g h xs ys =
     any-flat_map (is_of_tag g) (readings_with xs) ys
     ∙ any-same (λ y. list_any (is_of_tag g) (readings_with xs y)) (λ y. false)
@@ -149,12 +150,12 @@ crossed-none g h xs ys =
     ∙ any-none ys
 
 -- in the Kernel world, by the register that names the ASID
-abbrev reads_of_kernel : AsidFrom → List Load → List Load → Tag → Bool
+abbrev reads_of_kernel : AsidFrom → List RootValue → List RootValue → Tag → Bool
 reads_of_kernel from xs ys Ttbr1Tag = names_some ys
 reads_of_kernel from xs ys (Asid a) = reads_asid from xs ys a
 reads_of_kernel from xs ys _ = false
 
-reads_asids-is : (from : AsidFrom) (xs ys : List Load) (g : Tag) →
+reads_asids-is : (from : AsidFrom) (xs ys : List RootValue) (g : Tag) →
     has_tag g (asid_readings from xs ys ++ flat_map (own_reading Ttbr1) ys) ≡ reads_of_kernel from xs ys g
 reads_asids-is FromTtbr0 xs ys El2Tag =
     join El2Tag (flat_map (own_reading Ttbr0) xs) (flat_map (own_reading Ttbr1) ys) false false
@@ -183,7 +184,7 @@ reads_asids-is FromTtbr1 xs ys Ttbr1Tag =
     join Ttbr1Tag (flat_map (readings_with xs) ys) (flat_map (own_reading Ttbr1) ys) false (list_any names_root ys)
     (crossed-none Ttbr1Tag (λ n. refl) xs ys) (own-all Ttbr1Tag Ttbr1 (λ n. refl) ys)
 
-pub reads_tag-is : (world : World) (xs ys : List Load) (g : Tag) → has_tag g (readings_of world xs ys) ≡ reads_tag world xs ys g
+pub reads_tag-is : (world : World) (xs ys : List RootValue) (g : Tag) → has_tag g (readings_of world xs ys) ≡ reads_tag world xs ys g
 reads_tag-is (Hyp w) xs ys El2Tag =
     join El2Tag (flat_map (own_reading El2) xs) (flat_map (own_reading S2) ys) (list_any names_root xs) false
     (own-all El2Tag El2 (λ n. refl) xs) (own-none El2Tag S2 (λ n. refl) ys)

@@ -2,7 +2,7 @@
 use Rattle.bbm_roots.proofs.Common.{◌≡◌, ℕ, ◌<◌, Bool, true, List, ◌∷◌, Option, None, length, refl, sym, ◌∙◌, ap, cond}
 use Rattle.bbm_roots.proofs.Common.{subst, fun_ext, IndexMap, Reg, Tag, World, Hyp, Kernel, Call, WriteReg, hold_in}
 use Rattle.bbm_roots.proofs.Common.{conflict_in, readings_of, missing_root, conflicts, register_values, first_reg}
-use Rattle.bbm_roots.proofs.Common.{second_reg, is_first, is_of_world, load_of, holds_at, Held, Load, Reading}
+use Rattle.bbm_roots.proofs.Common.{second_reg, is_first, is_of_world, load_of, holds_at, Held, RootValue, Reading}
 use Rattle.std.proofs.Common.{Result}
 use Rattle.bbm_roots.specs.Refusals.{JudgesWrite}
 use Rattle.bbm_roots.specs.declared.fault.RootFault.{RootFault}
@@ -25,8 +25,8 @@ values-there world cs pe reg =
     at_second (Hyp w) = refl
     at_second (Kernel w) = refl
 
-pub write-judged : (world : World) (pes pe : ℕ) (reg : Reg) (value : ℕ) (null : Bool) (cs : List Call) (load : Load)
-    {S : Type 0} (first second : List Load) (seen : List Reading) (hs : IndexMap ℕ Held S) → pe < pes → is_of_world world reg ≡ true →
+pub write-judged : (world : World) (pes pe : ℕ) (reg : Reg) (value : ℕ) (null : Bool) (cs : List Call) (load : RootValue)
+    {S : Type 0} (first second : List RootValue) (seen : List Reading) (hs : IndexMap ℕ Held S) → pe < pes → is_of_world world reg ≡ true →
     load ≡ load_of reg value null →
     first ≡ register_values cs pe (first_reg world) → second ≡ register_values cs pe (second_reg world) →
     seen ≡ readings_of world (cond (is_first reg) (load ∷ first) first) (cond (is_first reg) second (load ∷ second)) →
@@ -51,6 +51,6 @@ write-judged world pes pe reg value null cs load first second seen hs known of_w
 
     count : length (cond (is_first reg) first second) ≡ length (register_values cs pe reg)
     count =
-        ap (λ (xs : List Load). length (cond (is_first reg) xs second)) is_left
-        ∙ ap (λ (ys : List Load). length (cond (is_first reg) (register_values cs pe (first_reg world)) ys)) is_right
-        ∙ ap (length {A = Load}) (values-there world cs pe reg of_world)
+        ap (λ (xs : List RootValue). length (cond (is_first reg) xs second)) is_left
+        ∙ ap (λ (ys : List RootValue). length (cond (is_first reg) (register_values cs pe (first_reg world)) ys)) is_right
+        ∙ ap (length {A = RootValue}) (values-there world cs pe reg of_world)

@@ -12,6 +12,7 @@ pub mod RootLists
 pub mod Leasts
 pub mod Conflicts
 pub mod Entries
+pub mod TagLists
 pub mod Rooted
 pub mod Judged
 pub mod Taken

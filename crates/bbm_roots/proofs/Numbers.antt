@@ -3,7 +3,7 @@ use Rattle.bbm_roots.proofs.Common.{◌≡◌, ℕ, ◌<◌, Bool, true, false, 
 use Rattle.bbm_roots.proofs.Common.{Some, None, length, refl, sym, ◌∙◌, ap, cond, arith, false≢true, eqb-true, eq-eqb}
 use Rattle.bbm_roots.proofs.Common.{ltb-true, or_left, Reg, Call, Declare, Retire, WriteReg, Isb, Issue, Complete}
 use Rattle.bbm_roots.proofs.Common.{IsLeast, UpTo, is_other_number, other_number, register_values, newest, is_that}
-use Rattle.bbm_roots.proofs.Common.{same_reg, load_of, one_number, Load, first_none, second_none, first_true}
+use Rattle.bbm_roots.proofs.Common.{same_reg, load_of, one_number, RootValue, first_none, second_none, first_true}
 use Rattle.bbm_roots.specs.RootTags.{all_are}
 use Rattle.bbm_roots.proofs.Bits.{and_right}
 use Rattle.bbm_roots.proofs.Leasts.{or-split}
@@ -23,14 +23,14 @@ not-same a b e = by_case (nat_eq a b) refl (sym (ap (λ (x : Bool). x && not (na
     by_case false at k = absurd (false≢true (sym k))
 
 module _ (a : ℕ) where
-  all-same : (loads : List Load) → ((n : ℕ) → other_number loads (Some a) n ≡ false) → all_are a loads ≡ true
+  all-same : (loads : List RootValue) → ((n : ℕ) → other_number loads (Some a) n ≡ false) → all_are a loads ≡ true
   all-same [] none = refl
   all-same (l ∷ ls) none =
       ap (λ (b : Bool). b && all_are a ls)
       (eq-eqb l.number a (sym (not-same a l.number (first_none (is_other_number (Some a) l.number l) (other_number ls (Some a) l.number) (none l.number)))))
       ∙ all-same ls (λ n. second_none (is_other_number (Some a) n l) (other_number ls (Some a) n) (none n))
 
-  pub numbers-one : (loads : List Load) → 0 < length loads → ((n : ℕ) → other_number loads (Some a) n ≡ false) → one_number loads ≡ Some a
+  pub numbers-one : (loads : List RootValue) → 0 < length loads → ((n : ℕ) → other_number loads (Some a) n ≡ false) → one_number loads ≡ Some a
   numbers-one [] some none = absurd (omega arith)
   numbers-one (l ∷ ls) some none =
       let same : l.number ≡ a =
@@ -39,7 +39,7 @@ module _ (a : ℕ) where
       ∙ ap (λ (b : Bool). cond b (Some a) None)
       (all-same ls (λ n. second_none (is_other_number (Some a) n l) (other_number ls (Some a) n) (none n)))
 
-the-number : (m : ℕ) (than : Option ℕ) (n : ℕ) (loads : List Load) → all_are m loads ≡ true → other_number loads than n ≡ true → n ≡ m
+the-number : (m : ℕ) (than : Option ℕ) (n : ℕ) (loads : List RootValue) → all_are m loads ≡ true → other_number loads than n ≡ true → n ≡ m
 the-number m than n [] all e = absurd (false≢true e)
 the-number m than n (l ∷ ls) all e =
     or-split (is_other_number than n l) (other_number ls than n) (n ≡ m)
@@ -47,13 +47,13 @@ the-number m than n (l ∷ ls) all e =
     ∙ eqb-true l.number m (first_true (nat_eq l.number m) (all_are m ls) all))
     (the-number m than n ls (and_right (nat_eq l.number m) (all_are m ls) all)) e
 
-left-out : (than : Option ℕ) (n : ℕ) (loads : List Load) → other_number loads than n ≡ true → not (is_that than n) ≡ true
+left-out : (than : Option ℕ) (n : ℕ) (loads : List RootValue) → other_number loads than n ≡ true → not (is_that than n) ≡ true
 left-out than n [] e = absurd (false≢true e)
 left-out than n (l ∷ ls) e =
     or-split (is_other_number than n l) (other_number ls than n) (not (is_that than n) ≡ true)
     (and_right (nat_eq l.number n) (not (is_that than n))) (left-out than n ls) e
 
-pub numbers-several : (a b : ℕ) (loads : List Load) → other_number loads None a ≡ true → other_number loads (Some a) b ≡ true →
+pub numbers-several : (a b : ℕ) (loads : List RootValue) → other_number loads None a ≡ true → other_number loads (Some a) b ≡ true →
     one_number loads ≡ None
 numbers-several a b [] e f = refl
 numbers-several a b (l ∷ ls) e f = by_case (all_are l.number ls) refl
@@ -67,7 +67,7 @@ numbers-several a b (l ∷ ls) e f = by_case (all_are l.number ls) refl
     by_case false all = refl
 
 -- a value has its own number
-pub some-number : (loads : List Load) → 0 < length loads → IsLeast UpTo (other_number loads None) None → ⊥
+pub some-number : (loads : List RootValue) → 0 < length loads → IsLeast UpTo (other_number loads None) None → ⊥
 some-number [] some none = absurd (omega arith)
 some-number (l ∷ ls) some none =
     false≢true (sym (none l.number)
@@ -89,7 +89,7 @@ some-value (WriteReg pe r value null ∷ cs) p reg = by_case (nat_eq p pe && sam
     by_case false h = h
 some-value (Isb pe ∷ cs) p reg = by_case (nat_eq p pe) (register_values cs p reg) (some-value cs p reg)
   where
-    by_case : (b : Bool) (xs : List Load) → 0 < length xs → 0 < length (cond b (newest xs) xs)
+    by_case : (b : Bool) (xs : List RootValue) → 0 < length xs → 0 < length (cond b (newest xs) xs)
     by_case true [] h = h
     by_case true (x ∷ xs) h = omega arith
     by_case false xs h = h

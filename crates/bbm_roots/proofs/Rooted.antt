@@ -7,7 +7,7 @@ use Rattle.bbm_roots.proofs.Common.{Tag, Asid, World, Hyp, Kernel, Call, WriteRe
 use Rattle.bbm_roots.proofs.Common.{readings_with, own_reading, reading_under, reading_at, tag_of, has_reading}
 use Rattle.bbm_roots.proofs.Common.{is_reading, same_tag, missing_root, register_values, first_reg, second_reg}
 use Rattle.bbm_roots.proofs.Common.{is_of_world, same_reg, names_in, is_that, newest, root_of, load_of, kind_of_reg}
-use Rattle.bbm_roots.proofs.Common.{uses, is_root, is_of_kind, root_at, reads, holds_at, holds_tag, loses, Load}
+use Rattle.bbm_roots.proofs.Common.{uses, is_root, is_of_kind, root_at, reads, holds_at, holds_tag, loses, RootValue}
 use Rattle.bbm_roots.proofs.Common.{Reading, Declared, first_true, first_none, second_none}
 use Rattle.bbm_regimes.specs.declared.regime.AsidFrom.TheVariants.{Ttbr0 as FromTtbr0, Ttbr1 as FromTtbr1}
 use Rattle.bbm_roots.specs.Refusals.{unless_root}
@@ -38,7 +38,7 @@ second-of_world (Hyp w) = refl
 second-of_world (Kernel w) = refl
 
 -- an ISB leaves no other value
-pub names-isb : (b : Bool) (xs : List Load) (page : ℕ) → names_in (cond b (newest xs) xs) page ≡ true → names_in xs page ≡ true
+pub names-isb : (b : Bool) (xs : List RootValue) (page : ℕ) → names_in (cond b (newest xs) xs) page ≡ true → names_in xs page ≡ true
 names-isb true [] page e = e
 names-isb true (x ∷ xs) page e =
     or_left (names_page page x) (names_in xs page)
@@ -51,33 +51,33 @@ at-named tag g None r e = absurd (false≢true e)
 at-named tag g (Some root) r e =
     or-split (same_tag tag g && nat_eq root r) false (nat_eq root r ≡ true) (and_right (same_tag tag g) (nat_eq root r)) (λ k. absurd (false≢true k)) e
 
-own-named : (kind : Kind) (g : Tag) (r : ℕ) (xs : List Load) → has_reading g r (flat_map (own_reading kind) xs) ≡ true → names_in xs r ≡ true
+own-named : (kind : Kind) (g : Tag) (r : ℕ) (xs : List RootValue) → has_reading g r (flat_map (own_reading kind) xs) ≡ true → names_in xs r ≡ true
 own-named kind g r xs e =
     any-weaker (λ x. list_any (is_reading g r) (own_reading kind x)) (names_page r)
     (λ x k. at-named (tag_of kind x.number) g x.root r k) xs
     (sym (any-flat_map (is_reading g r) (own_reading kind) xs) ∙ e)
 
-under-named : (g : Tag) (r : ℕ) (xs : List Load) (y : Load) → list_any (is_reading g r) (readings_with xs y) ≡ true → names_in xs r ≡ true
+under-named : (g : Tag) (r : ℕ) (xs : List RootValue) (y : RootValue) → list_any (is_reading g r) (readings_with xs y) ≡ true → names_in xs r ≡ true
 under-named g r xs y e =
     any-weaker (λ x. list_any (is_reading g r) (reading_under (Asid y.number) x)) (names_page r)
     (λ x k. at-named (Asid y.number) g x.root r k) xs
     (sym (any-flat_map (is_reading g r) (reading_under (Asid y.number)) xs) ∙ e)
 
-each-named : (g : Tag) (r : ℕ) (xs ys : List Load) → has_reading g r (flat_map (readings_with xs) ys) ≡ true → names_in xs r ≡ true
+each-named : (g : Tag) (r : ℕ) (xs ys : List RootValue) → has_reading g r (flat_map (readings_with xs) ys) ≡ true → names_in xs r ≡ true
 each-named g r xs [] e = absurd (false≢true e)
 each-named g r xs (y ∷ ys) e =
     or-split (list_any (is_reading g r) (readings_with xs y)) (has_reading g r (flat_map (readings_with xs) ys)) (names_in xs r ≡ true)
     (under-named g r xs y) (each-named g r xs ys)
     (sym (list_any-append (is_reading g r) (readings_with xs y) (flat_map (readings_with xs) ys)) ∙ e)
 
-both-named : (g : Tag) (r : ℕ) (ls bs : List Reading) (xs ys : List Load) → (has_reading g r ls ≡ true → names_in xs r ≡ true) →
+both-named : (g : Tag) (r : ℕ) (ls bs : List Reading) (xs ys : List RootValue) → (has_reading g r ls ≡ true → names_in xs r ≡ true) →
     (has_reading g r bs ≡ true → names_in ys r ≡ true) → has_reading g r (ls ++ bs) ≡ true → (names_in xs r || names_in ys r) ≡ true
 both-named g r ls bs xs ys f h e =
     or-split (has_reading g r ls) (has_reading g r bs) ((names_in xs r || names_in ys r) ≡ true)
     (λ k. or_left (names_in xs r) (names_in ys r) (f k)) (λ k. or_right (names_in xs r) (names_in ys r) (h k))
     (sym (list_any-append (is_reading g r) ls bs) ∙ e)
 
-pub reading-named : (world : World) (g : Tag) (r : ℕ) (xs ys : List Load) → has_reading g r (readings_of world xs ys) ≡ true →
+pub reading-named : (world : World) (g : Tag) (r : ℕ) (xs ys : List RootValue) → has_reading g r (readings_of world xs ys) ≡ true →
     (names_in xs r || names_in ys r) ≡ true
 reading-named (Hyp w) g r xs ys e =
     both-named g r (flat_map (own_reading El2) xs) (flat_map (own_reading S2) ys) xs ys (own-named El2 g r xs) (own-named S2 g r ys) e

@@ -7,7 +7,8 @@ use Rattle.bbm_roots.proofs.Common.{loads_in, some_pe, is_hold, hold_in, tag_in,
 use Rattle.bbm_roots.proofs.Common.{conflict_in, holds_root, holds_asids, holds_under, holds_new, readings_after}
 use Rattle.bbm_roots.proofs.Common.{asid_readings, readings_of, readings_with, own_reading, reading_at, has_reading}
 use Rattle.bbm_roots.proofs.Common.{has_other, is_reading, is_other, same_tag, Call, register_values, first_reg}
-use Rattle.bbm_roots.proofs.Common.{is_first, Stands, world_of, pes_of, Held, Load, Reading, Roots, or-false, and-false}
+use Rattle.bbm_roots.proofs.Common.{is_first, Stands, world_of, pes_of, Held, RootValue, Reading, Roots, or-false}
+use Rattle.bbm_roots.proofs.Common.{and-false}
 use Rattle.std.specs.List.{list_all}
 use Rattle.bbm_regimes.specs.PeMask.{pe_in}
 use Rattle.bbm_regimes.specs.declared.regime.AsidFrom.TheVariants.{Ttbr0 as FromTtbr0, Ttbr1 as FromTtbr1}
@@ -45,13 +46,13 @@ module _ (t : Reading → Bool) where
       ∙ ap (λ (b : Bool). (list_any t ls || list_any t ms) || b) (sym (list_any-append t xs ys))
 
   -- one more value of TTBR0_EL1, under each ASID of the values of TTBR1_EL1
-  each : (x : Load) (xs ys : List Load) →
+  each : (x : RootValue) (xs ys : List RootValue) →
       list_any t (flat_map (readings_with (x ∷ xs)) ys)
-      ≡ (list_any t (flat_map (λ (y : Load). reading_at (Asid y.number) x.root) ys)
+      ≡ (list_any t (flat_map (λ (y : RootValue). reading_at (Asid y.number) x.root) ys)
       || list_any t (flat_map (readings_with xs) ys))
   each x xs [] = refl
   each x xs (y ∷ ys) =
-      let rest = flat_map (λ (z : Load). reading_at (Asid z.number) x.root) ys in
+      let rest = flat_map (λ (z : RootValue). reading_at (Asid z.number) x.root) ys in
       list_any-append t (readings_with (x ∷ xs) y) (flat_map (readings_with (x ∷ xs)) ys)
       ∙ ap (λ (b : Bool). b || list_any t (flat_map (readings_with (x ∷ xs)) ys))
       (list_any-append t (reading_at (Asid y.number) x.root) (readings_with xs y))
@@ -75,14 +76,14 @@ module _ {S : Type 0} (hs : IndexMap ℕ Held S) (pe : ℕ) (g : Tag) (r : ℕ) 
       ∙ held
 
   -- each of some values, with its tag and root
-  all-held : (tag : Load → Tag) (root : Load → Option ℕ) (xs : List Load) →
-      list_all (λ (x : Load). holds_root hs pe (tag x) (root x)) xs ≡ true →
-      list_any (is_reading g r) (flat_map (λ (x : Load). reading_at (tag x) (root x)) xs) ≡ true →
+  all-held : (tag : RootValue → Tag) (root : RootValue → Option ℕ) (xs : List RootValue) →
+      list_all (λ (x : RootValue). holds_root hs pe (tag x) (root x)) xs ≡ true →
+      list_any (is_reading g r) (flat_map (λ (x : RootValue). reading_at (tag x) (root x)) xs) ≡ true →
       hold_in hs g r pe ≡ true
   all-held tag root [] all e = absurd (false≢true e)
   all-held tag root (x ∷ xs) all e =
-      let rest = flat_map (λ (y : Load). reading_at (tag y) (root y)) xs in
-      let others = list_all (λ (y : Load). holds_root hs pe (tag y) (root y)) xs in
+      let rest = flat_map (λ (y : RootValue). reading_at (tag y) (root y)) xs in
+      let others = list_all (λ (y : RootValue). holds_root hs pe (tag y) (root y)) xs in
       or-split (list_any (is_reading g r) (reading_at (tag x) (root x))) (list_any (is_reading g r) rest)
       (hold_in hs g r pe ≡ true)
       (root-held (tag x) (root x) (first_true (holds_root hs pe (tag x) (root x)) others all))
@@ -90,7 +91,7 @@ module _ {S : Type 0} (hs : IndexMap ℕ Held S) (pe : ℕ) (g : Tag) (r : ℕ) 
       (sym (list_any-append (is_reading g r) (reading_at (tag x) (root x)) rest) ∙ e)
 
   -- a write of a value, where what it makes readable anew is held, and what was readable too
-  pub new-held : (world : World) (b : Bool) (load : Load) (first second : List Load) →
+  pub new-held : (world : World) (b : Bool) (load : RootValue) (first second : List RootValue) →
       holds_new hs pe world b load (cond b second first) ≡ true →
       (has_reading g r (readings_of world first second) ≡ true → hold_in hs g r pe ≡ true) →
       has_reading g r (readings_of world (cond b (load ∷ first) first) (cond b second (load ∷ second))) ≡ true →
@@ -119,10 +120,10 @@ module _ {S : Type 0} (hs : IndexMap ℕ Held S) (pe : ℕ) (g : Tag) (r : ℕ) 
           (root-held (Asid load.number) load.root new) old
           (sym (ahead (is_reading g r) (own_reading Ttbr0 load) (flat_map (own_reading Ttbr0) first) upper) ∙ e)
       of_first FromTtbr1 new old e =
-          let anew = flat_map (λ (y : Load). reading_at (Asid y.number) load.root) second in
+          let anew = flat_map (λ (y : RootValue). reading_at (Asid y.number) load.root) second in
           let others = flat_map (readings_with first) second in
           or-split (has_reading g r anew) (has_reading g r (others ++ upper)) (hold_in hs g r pe ≡ true)
-          (all-held (λ (y : Load). Asid y.number) (λ (y : Load). load.root) second new) old
+          (all-held (λ (y : RootValue). Asid y.number) (λ (y : RootValue). load.root) second new) old
           (sym (list_any-append (is_reading g r) (flat_map (readings_with (load ∷ first)) second) upper
           ∙ ap (λ (b : Bool). b || has_reading g r upper) (each (is_reading g r) load first second)
           ∙ proved 3 (λ a b c. Is ((a || b) || c) (a || (b || c))) refl (has_reading g r anew) (has_reading g r others)
@@ -143,12 +144,12 @@ module _ {S : Type 0} (hs : IndexMap ℕ Held S) (pe : ℕ) (g : Tag) (r : ℕ) 
           (root-held Ttbr1Tag load.root (first_true (holds_root hs pe Ttbr1Tag load.root) true new)) old
           (sym (behind (is_reading g r) (flat_map (own_reading Ttbr0) first) (own_reading Ttbr1 load) upper) ∙ e)
       of_second FromTtbr1 new old e =
-          let under = list_all (λ (y : Load). holds_root hs pe (Asid load.number) y.root) first in
+          let under = list_all (λ (y : RootValue). holds_root hs pe (Asid load.number) y.root) first in
           or-split (has_reading g r (readings_with first load) || has_reading g r (own_reading Ttbr1 load))
           (has_reading g r (flat_map (readings_with first) second ++ upper)) (hold_in hs g r pe ≡ true)
           (or-split (has_reading g r (readings_with first load)) (has_reading g r (own_reading Ttbr1 load))
           (hold_in hs g r pe ≡ true)
-          (all-held (λ (y : Load). Asid load.number) (λ (y : Load). y.root) first
+          (all-held (λ (y : RootValue). Asid load.number) (λ (y : RootValue). y.root) first
           (and_right (holds_root hs pe Ttbr1Tag load.root) under new))
           (root-held Ttbr1Tag load.root (first_true (holds_root hs pe Ttbr1Tag load.root) under new)))
           old
@@ -219,14 +220,14 @@ pub read-held : (roots : Roots) (pe : ℕ) (cs : List Call) → Stands roots cs 
 read-held roots pe cs stands known g r e =
     stands.holds g r pe
     ∙ reads-holds (world_of roots) cs g r pe
-    (ap (λ (ys : List Load). has_reading g r (readings_of (world_of roots)
+    (ap (λ (ys : List RootValue). has_reading g r (readings_of (world_of roots)
     (register_values cs pe (first_reg (world_of roots))) ys)) (sym (stands.second pe known))
-    ∙ ap (λ (xs : List Load). has_reading g r (readings_of (world_of roots) xs
+    ∙ ap (λ (xs : List RootValue). has_reading g r (readings_of (world_of roots) xs
     (loads_in roots.registers.second.items pe))) (sym (stands.first pe known))
     ∙ e)
 
 -- where what a value makes readable anew is held, all that is readable after its write is
-pub held-after : (roots : Roots) (pe : ℕ) (reg : Reg) (load : Load) (cs : List Call) → Stands roots cs →
+pub held-after : (roots : Roots) (pe : ℕ) (reg : Reg) (load : RootValue) (cs : List Call) → Stands roots cs →
     pe < pes_of roots →
     holds_new roots.holds pe (world_of roots) (is_first reg) load (other_loads roots.registers pe reg) ≡ true →
     (g : Tag) (r : ℕ) → has_reading g r (readings_after roots.registers pe reg load) ≡ true →

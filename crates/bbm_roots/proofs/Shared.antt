@@ -6,13 +6,15 @@ use Rattle.bbm_roots.proofs.Common.{El2, S2, Ttbr0, Ttbr1, Reg, Tag, Vmid, Asid,
 use Rattle.bbm_roots.proofs.Common.{loads_in, hold_in, tag_in, tag_key, entry_held, has_entry, IsCalm, Marks}
 use Rattle.bbm_roots.proofs.Common.{holds_root, holds_asids, holds_under, holds_new, readings_after, readings_of}
 use Rattle.bbm_roots.proofs.Common.{own_reading, reading_at, has_reading, has_other, has_tag, same_tag, is_reading}
-use Rattle.bbm_roots.proofs.Common.{asid_readings, Call, is_first, Stands, world_of, pes_of, Held, Load, Reading, Roots}
+use Rattle.bbm_roots.proofs.Common.{asid_readings, Call, is_first, Stands, world_of, pes_of, Held, RootValue, Reading}
+use Rattle.bbm_roots.proofs.Common.{Roots}
 use Rattle.bbm_roots.proofs.Common.{or-false, and-false}
 use Rattle.std.proofs.lemmas.Bool.{le-leb}
 use Rattle.bbm_regimes.specs.declared.regime.AsidFrom.TheVariants.{Ttbr0 as FromTtbr0, Ttbr1 as FromTtbr1}
 use Rattle.bbm_regimes.specs.declared.regime.Tag.TheVariants.{El2 as El2Tag, Ttbr1 as Ttbr1Tag}
 use Rattle.bbm_roots.specs.HoldsNew.{kernel_tag, own_tag}
 use Rattle.bbm_roots.specs.RootJudgements.{IsShared}
+use Rattle.bbm_roots.specs.TagsByRoot.{is_listed}
 use Rattle.bbm_roots.proofs.Bits.{and_right, same_tag-true, some-found}
 use Rattle.bbm_roots.proofs.Conflicts.{tag_in-is}
 use Rattle.bbm_roots.proofs.Leasts.{or-split}
@@ -25,7 +27,7 @@ below-nine n full same less_than =
     (λ (le : 9 ≤ n). absurd (false≢true (sym less_than ∙ same ∙ le-leb 9 n le))) (cases_lt n 9)
 
 -- where the one tag that a value makes readable is held, so is all that it makes readable anew
-pub own-held : {S : Type 0} (hs : IndexMap ℕ Held S) (pe : ℕ) (world : World) (b : Bool) (load : Load) (other : List Load)
+pub own-held : {S : Type 0} (hs : IndexMap ℕ Held S) (pe : ℕ) (world : World) (b : Bool) (load : RootValue) (other : List RootValue)
     (tag : Tag) → own_tag world b load.number ≡ Some tag → holds_root hs pe tag load.root ≡ true →
     holds_new hs pe world b load other ≡ true
 own-held hs pe (Hyp w) true load other tag is held =
@@ -56,7 +58,7 @@ module _ (g : Tag) (r : ℕ) (root : ℕ) where
       ∙ ap (λ (t : Tag). same_tag t g && nat_eq root r) same
 
   -- what is readable after the write of such a value
-  pub own-anew : (world : World) (b : Bool) (load : Load) (first second : List Load) (tag : Tag) →
+  pub own-anew : (world : World) (b : Bool) (load : RootValue) (first second : List RootValue) (tag : Tag) →
       own_tag world b load.number ≡ Some tag → load.root ≡ Some root →
       has_reading g r (readings_of world (cond b (load ∷ first) first) (cond b second (load ∷ second)))
       ≡ ((same_tag tag g && nat_eq root r) || has_reading g r (readings_of world first second))
@@ -104,7 +106,7 @@ marks-step : (old pe own others : Bool) → (pe ≡ true → others ≡ true →
 marks-step = proved 4 (λ old pe own others. If (If (Is pe true) (If (Is others true) (Is old true)))
     (Is (old || (pe && (own || false))) (old || (pe && (own || others))))) refl
 
-module _ (roots : Roots) (pe : ℕ) (reg : Reg) (load : Load) (reading : Reading) (shared : IsShared pe reg load reading roots) where
+module _ (roots : Roots) (pe : ℕ) (reg : Reg) (load : RootValue) (reading : Reading) (shared : IsShared pe reg load reading roots) where
   -- a PE at which the root holds the tag
   holder : (q : ℕ) × (hold_in roots.holds reading.tag reading.root q ≡ true)
   holder =
@@ -121,6 +123,18 @@ module _ (roots : Roots) (pe : ℕ) (reg : Reg) (load : Load) (reading : Reading
       by_entry : (o : Option Held) → entry_held (pes_of roots) reading.tag reading.root o ≡ true → is_some o ≡ true
       by_entry None e = absurd (false≢true e)
       by_entry (Some x) e = refl
+
+  -- the root may hold it
+  pub tag-listed : (g : Tag) (r : ℕ) → has_reading g r (reading ∷ []) ≡ true →
+      is_listed roots.by_root r (tag_key g) ≡ true
+  tag-listed g r e =
+      let k : (same_tag reading.tag g && nat_eq reading.root r) ≡ true =
+      sym (or-false (same_tag reading.tag g && nat_eq reading.root r)) ∙ e in
+      ap (λ (t : Tag). is_listed roots.by_root r (tag_key t))
+      (sym (same_tag-true reading.tag g (first_true (same_tag reading.tag g) (nat_eq reading.root r) k)))
+      ∙ ap (λ (m : ℕ). is_listed roots.by_root m (tag_key reading.tag))
+      (sym (eqb-true reading.root r (and_right (same_tag reading.tag g) (nat_eq reading.root r) k)))
+      ∙ roots.listed reading.tag reading.root holder.0 holder.1
 
   -- no other root holds it
   pub calm-one : IsCalm roots.holds (reading ∷ [])

@@ -128,8 +128,8 @@ awaited-issued world pe scope vmid cs q b g p =
 -- what a list of entries notes is what is awaited
 pub noted : (world : World) (pe : ℕ) (scope : Scope) (vmid : Option ℕ) (cs : List Call) (q : ℕ) (b : Bool) (g : Tag) (p : ℕ)
     (old has below rin rt : Bool) → old ≡ awaited world cs q b g p →
-    ((nat_eq q pe && same_flag scope.broadcast b && takes_whole_tag scope vmid g) ≡ true → has ≡ true) →
-    below ≡ true → rin ≡ (scope.broadcast || nat_eq p pe) → rt ≡ reads_for_some world cs p g →
+    ((nat_eq q pe && same_flag scope.broadcast b && takes_whole_tag scope vmid g) ≡ true →
+    (below && (rin && not rt)) ≡ true → has ≡ true) → below ≡ true → rin ≡ (scope.broadcast || nat_eq p pe) → rt ≡ reads_for_some world cs p g →
     (old || (has && ((nat_eq q pe && same_flag scope.broadcast b && takes_whole_tag scope vmid g) && (below && (rin && not rt)))))
     ≡ awaited world (Issue pe scope vmid ∷ cs) q b g p
 noted world pe scope vmid cs q b g p old has below rin rt is_old is_there is_below is_reach is_read =
@@ -139,13 +139,12 @@ noted world pe scope vmid cs q b g p old has below rin rt is_old is_there is_bel
     ∙ ap (λ (x : Bool). awaited world cs q b g p || (issues (Issue pe scope vmid) q b g p && not x)) is_read
     ∙ sym (awaited-issued world pe scope vmid cs q b g p)
   where
-    by_key : (k has below : Bool) → (k ≡ true → has ≡ true) → below ≡ true →
+    by_key : (k has below : Bool) → (k ≡ true → (below && (rin && not rt)) ≡ true → has ≡ true) → below ≡ true →
         (old || (has && (k && (below && (rin && not rt))))) ≡ (old || (k && rin && not rt))
-    by_key true true true h e = refl
-    by_key true false below h e = absurd (false≢true (h refl))
-    by_key true true false h e = absurd (false≢true e)
-    by_key false true below h e = refl
-    by_key false false below h e = refl
+    by_key k has below =
+        proved 6 (λ old k has below rin rt. If (If (Is k true) (If (Is (below && (rin && not rt)) true) (Is has true)))
+        (If (Is below true) (Is (old || (has && (k && (below && (rin && not rt))))) (old || (k && rin && not rt))))) refl
+        old k has below rin rt
 
 -- A register write of one PE, at which the tags and roots seen are then readable.
 module _ (world : World) (c : Call) (cs : List Call) (pe : ℕ) (seen : List Reading)

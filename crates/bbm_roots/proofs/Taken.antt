@@ -3,7 +3,7 @@ use Rattle.bbm_roots.proofs.Common.{◌≡◌, ◌<◌, ◌≤◌, ◌∙◌, ap
 use Rattle.bbm_roots.proofs.Common.{false, cond, ℕ, None, arith, Reg, Tag, Call, WriteReg, loads_in, Marks, pending_in}
 use Rattle.bbm_roots.proofs.Common.{has_reading, readings_of, missing_root, register_values, first_reg, second_reg}
 use Rattle.bbm_roots.proofs.Common.{is_first, same_reg, load_of, is_of_world, kind_of_reg, names_in, root_at, is_root}
-use Rattle.bbm_roots.proofs.Common.{Writes, Stands, world_of, pes_of, readings, holds_at, Load, Reading, Roots}
+use Rattle.bbm_roots.proofs.Common.{Writes, Stands, world_of, pes_of, readings, holds_at, RootValue, Reading, Roots}
 use Rattle.std.proofs.Common.{◌≢◌}
 use Rattle.std.proofs.lemmas.Bool.{ne_eqb}
 use Rattle.bbm_roots.proofs.Made.{stands-made}
@@ -11,7 +11,7 @@ use Rattle.bbm_roots.proofs.Rooted.{holders-next, root-there, written-named}
 use Rattle.bbm_roots.proofs.Steps.{holds-written, awaited-written}
 use Rattle.bbm_roots.proofs.Written.{elsewhere, right-here, is_the_first, is_the_second}
 
-pub stands-taken : (old new : Roots) (pe : ℕ) (reg : Reg) (value : ℕ) (null : Bool) (calls : List Call) (load : Load)
+pub stands-taken : (old new : Roots) (pe : ℕ) (reg : Reg) (value : ℕ) (null : Bool) (calls : List Call) (load : RootValue)
     (seen : List Reading) → Stands old calls → pe < pes_of old → is_of_world (world_of old) reg ≡ true →
     load ≡ load_of reg value null → missing_root calls reg value null ≡ None →
     seen ≡ readings_of (world_of old)
@@ -36,20 +36,20 @@ stands-taken old new pe reg value null calls load seen stands known of_world is_
     λ p other q in_world. written-named calls p pe reg other value null q found (stands.named p other q in_world) in
     let ne : (p : ℕ) → pes_of old ≤ p → nat_eq p pe ≡ false = λ p past.
     let other : p ≢ pe = omega (arith, known) in ne_eqb p pe other in
-    let first_values : (p : ℕ) → List Load = λ p. register_values calls p (first_reg world) in
-    let second_values : (p : ℕ) → List Load = λ p. register_values calls p (second_reg world) in
+    let first_values : (p : ℕ) → List RootValue = λ p. register_values calls p (first_reg world) in
+    let second_values : (p : ℕ) → List RootValue = λ p. register_values calls p (second_reg world) in
     stands-made new (call ∷ calls) world (pes_of old) taken.loads.world taken.loads.pes
     (record {
       first = λ p lt.
           taken.loads.first p
-          ∙ ap (λ (xs : List Load). cond (nat_eq p pe && is_first reg) (load ∷ xs) xs) (stands.first p lt)
-          ∙ ap (λ (l : Load). cond (nat_eq p pe && is_first reg) (l ∷ first_values p) (first_values p)) is_load
+          ∙ ap (λ (xs : List RootValue). cond (nat_eq p pe && is_first reg) (load ∷ xs) xs) (stands.first p lt)
+          ∙ ap (λ (l : RootValue). cond (nat_eq p pe && is_first reg) (l ∷ first_values p) (first_values p)) is_load
           ∙ ap (λ (b : Bool). cond (nat_eq p pe && b) (load_of reg value null ∷ first_values p) (first_values p))
           (sym (is_the_first world reg of_world));
       second = λ p lt.
           taken.loads.second p
-          ∙ ap (λ (xs : List Load). cond (nat_eq p pe && not (is_first reg)) (load ∷ xs) xs) (stands.second p lt)
-          ∙ ap (λ (l : Load). cond (nat_eq p pe && not (is_first reg)) (l ∷ second_values p) (second_values p)) is_load
+          ∙ ap (λ (xs : List RootValue). cond (nat_eq p pe && not (is_first reg)) (load ∷ xs) xs) (stands.second p lt)
+          ∙ ap (λ (l : RootValue). cond (nat_eq p pe && not (is_first reg)) (l ∷ second_values p) (second_values p)) is_load
           ∙ ap (λ (b : Bool). cond (nat_eq p pe && b) (load_of reg value null ∷ second_values p) (second_values p))
           (sym (is_the_second world reg of_world));
       outside = λ p other past.

@@ -2,16 +2,16 @@
 use Rattle.bbm_roots.proofs.Common.{◌≡◌, ℕ, Bool, true, false, ◌&&◌, not, nat_eq, List, ◌∷◌, refl, sym, ◌∙◌, ap, cond}
 use Rattle.bbm_roots.proofs.Common.{Option, false≢true, eqb-true, Reg, Ttbr0El2, VttbrEl2, Ttbr0El1, Ttbr1El1, World}
 use Rattle.bbm_roots.proofs.Common.{Hyp, Kernel, Call, WriteReg, readings_of, register_values, first_reg, second_reg}
-use Rattle.bbm_roots.proofs.Common.{is_first, is_of_world, same_reg, load_of, root_of, readings, Load}
+use Rattle.bbm_roots.proofs.Common.{is_first, is_of_world, same_reg, load_of, root_of, readings, RootValue}
 use Rattle.bbm_regimes.specs.Registers.{tag_number}
 
 -- what a value names, by its parts
 pub load-is : (number : ℕ) (root : Option ℕ) (reg : Reg) (value : ℕ) (null : Bool) → number ≡ tag_number value →
     root ≡ root_of reg value null →
-    let load : Load = record { number = number; root = root } in load ≡ load_of reg value null
+    let load : RootValue = record { number = number; root = root } in load ≡ load_of reg value null
 load-is number root reg value null same_number same_root =
-    ap (λ (n : ℕ). let l : Load = record { number = n; root = root } in l) same_number
-    ∙ ap (λ (o : Option ℕ). let l : Load = record { number = tag_number value; root = o } in l) same_root
+    ap (λ (n : ℕ). let l : RootValue = record { number = n; root = root } in l) same_number
+    ∙ ap (λ (o : Option ℕ). let l : RootValue = record { number = tag_number value; root = o } in l) same_root
 
 -- a register of the world is its first or its second
 pub is_the_first : (world : World) (reg : Reg) → is_of_world world reg ≡ true → same_reg reg (first_reg world) ≡ is_first reg
@@ -43,7 +43,7 @@ elsewhere world pe reg value null cs p e =
     (cond (b && same_reg reg (second_reg world)) (load_of reg value null ∷ register_values cs p (second_reg world)) (register_values cs p (second_reg world)))) e
 
 -- at the PE the new value stands in front in its register
-pub right-here : (world : World) (pe : ℕ) (reg : Reg) (value : ℕ) (null : Bool) (cs : List Call) (p : ℕ) (load : Load) (first second : List Load) →
+pub right-here : (world : World) (pe : ℕ) (reg : Reg) (value : ℕ) (null : Bool) (cs : List Call) (p : ℕ) (load : RootValue) (first second : List RootValue) →
     is_of_world world reg ≡ true → load ≡ load_of reg value null →
     first ≡ register_values cs pe (first_reg world) → second ≡ register_values cs pe (second_reg world) → nat_eq p pe ≡ true →
     readings world (WriteReg pe reg value null ∷ cs) p
@@ -61,14 +61,14 @@ right-here world pe reg value null cs p load first second of_world is_load is_le
     ∙ ap (λ (n : ℕ). readings_of world
     (cond (is_first reg) (load_of reg value null ∷ register_values cs n (first_reg world)) (register_values cs n (first_reg world)))
     (cond (not (is_first reg)) (load_of reg value null ∷ register_values cs n (second_reg world)) (register_values cs n (second_reg world)))) (eqb-true p pe at)
-    ∙ ap (λ (l : Load). readings_of world
+    ∙ ap (λ (l : RootValue). readings_of world
     (cond (is_first reg) (l ∷ register_values cs pe (first_reg world)) (register_values cs pe (first_reg world)))
     (cond (not (is_first reg)) (l ∷ register_values cs pe (second_reg world)) (register_values cs pe (second_reg world)))) (sym is_load)
-    ∙ ap (λ (xs : List Load). readings_of world (cond (is_first reg) (load ∷ xs) xs)
+    ∙ ap (λ (xs : List RootValue). readings_of world (cond (is_first reg) (load ∷ xs) xs)
     (cond (not (is_first reg)) (load ∷ register_values cs pe (second_reg world)) (register_values cs pe (second_reg world)))) (sym is_left)
-    ∙ ap (λ (ys : List Load). readings_of world (cond (is_first reg) (load ∷ first) first) (cond (not (is_first reg)) (load ∷ ys) ys)) (sym is_right)
-    ∙ ap (λ (ys : List Load). readings_of world (cond (is_first reg) (load ∷ first) first) ys) (turned (is_first reg) (load ∷ second) second)
+    ∙ ap (λ (ys : List RootValue). readings_of world (cond (is_first reg) (load ∷ first) first) (cond (not (is_first reg)) (load ∷ ys) ys)) (sym is_right)
+    ∙ ap (λ (ys : List RootValue). readings_of world (cond (is_first reg) (load ∷ first) first) ys) (turned (is_first reg) (load ∷ second) second)
   where
-    turned : (b : Bool) (xs ys : List Load) → cond (not b) xs ys ≡ cond b ys xs
+    turned : (b : Bool) (xs ys : List RootValue) → cond (not b) xs ys ≡ cond b ys xs
     turned true xs ys = refl
     turned false xs ys = refl

@@ -10,7 +10,7 @@ use Rattle.bbm_regimes.specs.declared.regime.World.{World}
 use Rattle.bbm_regimes.specs.declared.regime.World.TheVariants.{Hyp, Kernel}
 use Rattle.bbm_roots.specs.Holds.{hold_in}
 use Rattle.bbm_roots.specs.declared.hold.Held.{Held}
-use Rattle.bbm_roots.specs.declared.load.Load.{Load}
+use Rattle.bbm_roots.specs.declared.load.RootValue.{RootValue}
 
 -- The one tag that a new value makes readable, of the first register of the world or the second, where that depends on
 -- the value alone; None where it depends on the other register too.
@@ -31,26 +31,26 @@ module _ {S : Type 0} (holds : IndexMap ℕ Held S) (p : ℕ) where
   holds_root tag (Some root) = hold_in holds tag root p
 
   -- the root of a value of TTBR0_EL1 under the ASID of one of TTBR1_EL1
-  abbrev pub holds_asid : Load → Load → Bool
+  abbrev pub holds_asid : RootValue → RootValue → Bool
   holds_asid first second = holds_root (Asid second.number) first.root
 
   -- the same, by the value of TTBR1_EL1 first
-  abbrev pub holds_given : Load → Load → Bool
+  abbrev pub holds_given : RootValue → RootValue → Bool
   holds_given second first = holds_asid first second
 
   -- the ASIDs of a new value of TTBR0_EL1, by the values of TTBR1_EL1
-  abbrev pub holds_asids : AsidFrom → Load → List Load → Bool
+  abbrev pub holds_asids : AsidFrom → RootValue → List RootValue → Bool
   holds_asids FromTtbr0 load second = holds_root (Asid load.number) load.root
   holds_asids FromTtbr1 load second = list_all (holds_asid load) second
 
   -- the ASID of a new value of TTBR1_EL1, for the roots of the values of TTBR0_EL1
-  abbrev pub holds_under : AsidFrom → Load → List Load → Bool
+  abbrev pub holds_under : AsidFrom → RootValue → List RootValue → Bool
   holds_under FromTtbr0 load first = true
   holds_under FromTtbr1 load first = list_all (holds_given load) first
 
   -- The tags that a new value makes readable anew, of the first register of the world or the second, by the values of
   -- the other register.
-  abbrev pub holds_new : World → Bool → Load → List Load → Bool
+  abbrev pub holds_new : World → Bool → RootValue → List RootValue → Bool
   holds_new (Hyp world) true load other = holds_root El2 load.root
   holds_new (Hyp world) false load other = holds_root (Vmid load.number) load.root
   holds_new (Kernel world) true load other = holds_asids world.asid_from load other

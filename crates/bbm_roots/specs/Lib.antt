@@ -15,3 +15,4 @@ pub mod RootChanges
 pub mod RootJudgements
 pub mod Listed
 pub mod RootTags
+pub mod TagsByRoot

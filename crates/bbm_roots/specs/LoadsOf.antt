@@ -5,21 +5,21 @@ use Rattle.bbm_regimes.specs.declared.regime.Tag.{Tag}
 use Rattle.bbm_roots.specs.Columns.{loads_in}
 use Rattle.bbm_roots.specs.Readings.{readings_of, reads_tag}
 use Rattle.bbm_roots.specs.RootRegisters.{is_first, names_in}
-use Rattle.bbm_roots.specs.declared.load.Load.{Load}
+use Rattle.bbm_roots.specs.declared.load.RootValue.{RootValue}
 use Rattle.bbm_roots.specs.declared.reading.Reading.{Reading}
 use Rattle.bbm_roots.specs.declared.registers.Registers.{Registers}
 
 module _ (registers : Registers) (p : ℕ) where
   -- the values of a register that may still be in use
-  abbrev pub loads_of : Reg → List Load
+  abbrev pub loads_of : Reg → List RootValue
   loads_of reg = if is_first reg then loads_in registers.first.items p else loads_in registers.second.items p
 
   -- those of the other register
-  abbrev pub other_loads : Reg → List Load
+  abbrev pub other_loads : Reg → List RootValue
   other_loads reg = if is_first reg then loads_in registers.second.items p else loads_in registers.first.items p
 
   -- what is readable after a write of the value
-  abbrev pub readings_after : Reg → Load → List Reading
+  abbrev pub readings_after : Reg → RootValue → List Reading
   readings_after reg load = readings_of registers.world
       (if is_first reg then load ∷ loads_in registers.first.items p else loads_in registers.first.items p)
       (if is_first reg then loads_in registers.second.items p else load ∷ loads_in registers.second.items p)

@@ -11,7 +11,7 @@ use Rattle.bbm_regimes.specs.declared.regime.Tag.{Tag}
 use Rattle.bbm_regimes.specs.declared.regime.Tag.TheVariants.{El2 as El2Tag, Vmid, Asid, Ttbr1 as Ttbr1Tag}
 use Rattle.bbm_regimes.specs.declared.regime.World.{World}
 use Rattle.bbm_regimes.specs.declared.regime.World.TheVariants.{Hyp, Kernel}
-use Rattle.bbm_roots.specs.declared.load.Load.{Load}
+use Rattle.bbm_roots.specs.declared.load.RootValue.{RootValue}
 use Rattle.bbm_roots.specs.declared.reading.Reading.{Reading}
 
 -- The place of a tag in the order `El2`, VMIDs, ASIDs, `Ttbr1`. Source: project's own choice.
@@ -33,17 +33,17 @@ abbrev pub reading_at : Tag → Option ℕ → List Reading
 reading_at tag None = []
 reading_at tag (Some root) = record { tag = tag; root = root } ∷ []
 
-abbrev pub own_reading : Kind → Load → List Reading
+abbrev pub own_reading : Kind → RootValue → List Reading
 own_reading kind load = reading_at (tag_of kind load.number) load.root
 
-abbrev pub reading_under : Tag → Load → List Reading
+abbrev pub reading_under : Tag → RootValue → List Reading
 reading_under tag load = reading_at tag load.root
 
-abbrev pub readings_with : List Load → Load → List Reading
+abbrev pub readings_with : List RootValue → RootValue → List Reading
 readings_with loads asid_load = flat_map (reading_under (Asid asid_load.number)) loads
 
 -- the ASID is that of the same value of TTBR0_EL1, or that of a value of TTBR1_EL1
-abbrev pub asid_readings : AsidFrom → List Load → List Load → List Reading
+abbrev pub asid_readings : AsidFrom → List RootValue → List RootValue → List Reading
 asid_readings FromTtbr0 first second = flat_map (own_reading Ttbr0) first
 asid_readings FromTtbr1 first second = flat_map (readings_with first) second
 
@@ -53,7 +53,7 @@ asid_readings FromTtbr1 first second = flat_map (readings_with first) second
 -- or of a readable value of TTBR1_EL1, as the header says. Tags of the other world are never readable.
 -- Source: Arm ARM (DDI 0487), "Translation Lookaside Buffers", and TCR_EL1.A1 of "AArch64 System register
 -- descriptions".
-abbrev pub readings_of : World → List Load → List Load → List Reading
+abbrev pub readings_of : World → List RootValue → List RootValue → List Reading
 readings_of (Hyp world) first second =
     flat_map (own_reading El2) first ++ flat_map (own_reading S2) second
 readings_of (Kernel world) first second =
@@ -79,30 +79,30 @@ abbrev pub has_other : Tag → ℕ → List Reading → Bool
 has_other tag root rs = list_any (is_other tag root) rs
 
 -- whether a value names a root, and with which VMID or ASID
-abbrev pub names_root : Load → Bool
+abbrev pub names_root : RootValue → Bool
 names_root load = is_some load.root
 
-abbrev pub names_root_with : ℕ → Load → Bool
+abbrev pub names_root_with : ℕ → RootValue → Bool
 names_root_with number load = is_some load.root && load.number == number
 
-abbrev pub numbered : ℕ → Load → Bool
+abbrev pub numbered : ℕ → RootValue → Bool
 numbered number load = load.number == number
 
-abbrev pub names_some : List Load → Bool
+abbrev pub names_some : List RootValue → Bool
 names_some loads = list_any names_root loads
 
-abbrev pub names_with : ℕ → List Load → Bool
+abbrev pub names_with : ℕ → List RootValue → Bool
 names_with number loads = list_any (names_root_with number) loads
 
-abbrev pub has_number : ℕ → List Load → Bool
+abbrev pub has_number : ℕ → List RootValue → Bool
 has_number number loads = list_any (numbered number) loads
 
 -- the same as `has_tag` of the readings, without a list of them
-abbrev pub reads_asid : AsidFrom → List Load → List Load → ℕ → Bool
+abbrev pub reads_asid : AsidFrom → List RootValue → List RootValue → ℕ → Bool
 reads_asid FromTtbr0 first second a = names_with a first
 reads_asid FromTtbr1 first second a = names_some first && has_number a second
 
-abbrev pub reads_tag : World → List Load → List Load → Tag → Bool
+abbrev pub reads_tag : World → List RootValue → List RootValue → Tag → Bool
 reads_tag (Hyp world) first second El2Tag = names_some first
 reads_tag (Hyp world) first second (Vmid v) = names_with v second
 reads_tag (Kernel world) first second Ttbr1Tag = names_some second

@@ -18,7 +18,7 @@ use Rattle.bbm_roots.specs.declared.fault.InUse.TheVariants.{Pe as ByPe, Tag as 
 use Rattle.bbm_roots.specs.declared.fault.RootFault.{RootFault}
 use Rattle.bbm_roots.specs.declared.fault.RootFault.TheVariants.{NoMemory, Limit, NoRoot, TagConflict, RootInUse}
 use Rattle.bbm_roots.specs.declared.fault.Unsynced.{Unsynced}
-use Rattle.bbm_roots.specs.declared.load.Load.{Load}
+use Rattle.bbm_roots.specs.declared.load.RootValue.{RootValue}
 use Rattle.bbm_roots.specs.declared.reading.Reading.{Reading}
 use Rattle.bbm_roots.specs.declared.root.Declared.{Declared}
 
@@ -61,14 +61,14 @@ module _ (page : ℕ) (root : Option Declared) (uses_it : ℕ → Bool) (holds_i
   JudgesRetire (Err _) = ⊥
 
 -- whether one of the values has this VMID, which isn't that one
-abbrev pub is_other_number : Option ℕ → ℕ → Load → Bool
+abbrev pub is_other_number : Option ℕ → ℕ → RootValue → Bool
 is_other_number than n load = load.number == n && not (is_that than n)
 
-abbrev pub other_number : List Load → Option ℕ → ℕ → Bool
+abbrev pub other_number : List RootValue → Option ℕ → ℕ → Bool
 other_number loads than n = list_any (is_other_number than n) loads
 
 -- A PE's TLBIs have the one VMID of its readable values, or these two are the least of several.
-module _ (vmid : Option ℕ) (loads : List Load) where
+module _ (vmid : Option ℕ) (loads : List RootValue) where
   abbrev pub JudgesVmid : Result ℕ Unsynced → Type 0
   JudgesVmid (Ok n) = vmid ≡ Some n
   JudgesVmid (Err e) =

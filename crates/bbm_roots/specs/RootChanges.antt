@@ -11,7 +11,7 @@ use Rattle.bbm_roots.specs.RootCalls.{Call}
 use Rattle.bbm_roots.specs.RootPendings.{answered_in, pending_in, Clears}
 use Rattle.bbm_roots.specs.RootRegisters.{is_first}
 use Rattle.bbm_roots.specs.RootsStand.{Stands, IsPrepared, pes_of, world_of}
-use Rattle.bbm_roots.specs.declared.load.Load.{Load}
+use Rattle.bbm_roots.specs.declared.load.RootValue.{RootValue}
 use Rattle.bbm_roots.specs.declared.reading.Reading.{Reading}
 use Rattle.bbm_roots.specs.declared.registers.Registers.{Registers}
 use Rattle.bbm_roots.specs.declared.roots.Roots.{Roots}
@@ -39,7 +39,7 @@ pub record Tries {A E : Type 0} (call : Call) (old new : Roots) (result : Result
   pub kept : OnErr result (Keeps old new)
 
 -- the value is put in front of those that a register of the PE had, and no other value changes
-pub record PutsLoad (pe : ℕ) (reg : Reg) (load : Load) (old new : Registers) : Type 0 where
+pub record PutsLoad (pe : ℕ) (reg : Reg) (load : RootValue) (old new : Registers) : Type 0 where
   pub first : (p : ℕ) → loads_in new.first.items p ≡ (if nat_eq p pe && is_first reg
       then load ∷ loads_in old.first.items p else loads_in old.first.items p)
   pub second : (p : ℕ) → loads_in new.second.items p ≡ (if nat_eq p pe && not (is_first reg)
@@ -54,7 +54,7 @@ pub record SameDeclared (old new : Roots) : Type 0 where
 
 -- A register of the PE is written: the value is put in front, and no TLBI that waits takes one of the tags seen away
 -- from the PE any more.
-pub record Writes (pe : ℕ) (reg : Reg) (load : Load) (seen : List Reading) (old new : Roots) : Type 0 where
+pub record Writes (pe : ℕ) (reg : Reg) (load : RootValue) (seen : List Reading) (old new : Roots) : Type 0 where
   pub loads : PutsLoad pe reg load old.registers new.registers
   pub pendings : Clears pe seen old.pendings new.pendings
   pub roots : SameDeclared old new

@@ -15,7 +15,7 @@ use Rattle.bbm_roots.specs.RootsStand.{Stands, pes_of, world_of}
 use Rattle.bbm_roots.specs.RootTags.{holds_tag}
 use Rattle.bbm_roots.specs.declared.fault.RootFault.{RootFault}
 use Rattle.bbm_roots.specs.declared.fault.RootFault.TheVariants.{Limit, NoMemory}
-use Rattle.bbm_roots.specs.declared.load.Load.{Load}
+use Rattle.bbm_roots.specs.declared.load.RootValue.{RootValue}
 use Rattle.bbm_roots.specs.declared.reading.Reading.{Reading}
 use Rattle.bbm_roots.specs.declared.roots.Roots.{Roots}
 
@@ -33,14 +33,14 @@ JudgesRetirement roots page result = (calls : List Call) → Stands roots calls
 
 -- A write of the value changes the register alone: the register isn't full, no TLBI waits, and the PE holds, for its
 -- root, each tag that the value makes readable anew.
-pub record IsSettled (pe : ℕ) (reg : Reg) (load : Load) (roots : Roots) : Type 0 where
+pub record IsSettled (pe : ℕ) (reg : Reg) (load : RootValue) (roots : Roots) : Type 0 where
   pub room : length (loads_of roots.registers pe reg) < 9
   pub quiet : IsQuiet roots.pendings
   pub held : holds_new roots.holds pe (world_of roots) (is_first reg) load (other_loads roots.registers pe reg) ≡ true
 
 -- A write of the value makes one tag readable anew, which its root holds at some PE: the register isn't full, and no
 -- TLBI waits.
-pub record IsShared (pe : ℕ) (reg : Reg) (load : Load) (reading : Reading) (roots : Roots) : Type 0 where
+pub record IsShared (pe : ℕ) (reg : Reg) (load : RootValue) (reading : Reading) (roots : Roots) : Type 0 where
   pub room : length (loads_of roots.registers pe reg) < 9
   pub quiet : IsQuiet roots.pendings
   pub tag : own_tag (world_of roots) (is_first reg) load.number ≡ Some reading.tag

@@ -103,3 +103,9 @@ module _ (scope : Scope) (vmid : Option ℕ) {S : Type 0} (holds : IndexMap ℕ 
   NotesTaken registers q old new = (tag : Tag) (root h p : ℕ) → hold_in holds tag root h ≡ true → wait_in new tag p
       ≡ (wait_in old tag p || (has_wait old tag && (takes_whole_tag scope vmid tag
       && unread_at registers q scope.broadcast tag p)))
+
+  -- each tag that it takes and that is held at a PE which a TLBI of q reaches while the tag is readable there for no
+  -- root passes the test
+  abbrev pub EachLost : Registers → ℕ → (Tag → Bool) → Type 0
+  EachLost registers q test = (tag : Tag) (root p : ℕ) → hold_in holds tag root p ≡ true
+      → takes_whole_tag scope vmid tag ≡ true → unread_at registers q scope.broadcast tag p ≡ true → test tag ≡ true

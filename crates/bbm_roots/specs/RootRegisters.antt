@@ -10,7 +10,7 @@ use Rattle.bbm_regimes.specs.declared.regime.Reg.TheVariants.{Ttbr0El2, VttbrEl2
 use Rattle.bbm_regimes.specs.declared.regime.World.{World}
 use Rattle.bbm_regimes.specs.declared.regime.World.TheVariants.{Hyp, Kernel}
 use Rattle.bbm_roots.specs.RootCalls.{Call, Isb, WriteReg}
-use Rattle.bbm_roots.specs.declared.load.Load.{Load}
+use Rattle.bbm_roots.specs.declared.load.RootValue.{RootValue}
 
 -- The two registers of a world.
 abbrev pub first_reg : World → Reg
@@ -39,22 +39,22 @@ names_null _ null = false
 abbrev pub root_of : Reg → ℕ → Bool → Option ℕ
 root_of reg value null = if names_null reg null then None else base_of value
 
-abbrev pub load_of : Reg → ℕ → Bool → Load
+abbrev pub load_of : Reg → ℕ → Bool → RootValue
 load_of reg value null = record { number = tag_number value; root = root_of reg value null }
 
 -- what the value 0 names, with which each register starts
-abbrev pub at_start : Load
+abbrev pub at_start : RootValue
 at_start = record { number = 0; root = None }
 
 -- the list with its first value alone
-abbrev pub newest : List Load → List Load
+abbrev pub newest : List RootValue → List RootValue
 newest [] = []
 newest (x ∷ xs) = x ∷ []
 
 -- What the readable values of a register of p name, newest first: those that it had, the first 0 among them, and
 -- that no later write of the register by p replaced before an ISB of p. An ISB of p leaves the newest alone.
 -- Source: Arm ARM (DDI 0487), "Context synchronization event".
-abbrev pub register_values : List Call → ℕ → Reg → List Load
+abbrev pub register_values : List Call → ℕ → Reg → List RootValue
 register_values [] p reg = at_start ∷ []
 register_values (WriteReg pe r value null ∷ cs) p reg =
     if p == pe && same_reg r reg then load_of r value null ∷ register_values cs p reg else register_values cs p reg
@@ -67,11 +67,11 @@ is_that None page = false
 is_that (Some root) page = root == page
 
 -- whether a value names the root with this first page
-abbrev pub names_page : ℕ → Load → Bool
+abbrev pub names_page : ℕ → RootValue → Bool
 names_page page load = is_that load.root page
 
 -- whether one of the values does
-abbrev pub names_in : List Load → ℕ → Bool
+abbrev pub names_in : List RootValue → ℕ → Bool
 names_in loads page = list_any (names_page page) loads
 
 -- Whether a readable value of p has this base.

@@ -13,7 +13,7 @@ use Rattle.bbm_roots.specs.Holds.{some_pe}
 use Rattle.bbm_lemmas.specs.ListWords.{same_flag}
 use Rattle.bbm_roots.specs.Readings.{readings_of, has_reading, has_tag}
 use Rattle.bbm_roots.specs.RootRegisters.{first_reg, second_reg, register_values}
-use Rattle.bbm_roots.specs.declared.load.Load.{Load}
+use Rattle.bbm_roots.specs.declared.load.RootValue.{RootValue}
 use Rattle.bbm_roots.specs.declared.reading.Reading.{Reading}
 
 -- Reach: a broadcast TLBI reaches every PE, any other its issuer alone.
@@ -70,12 +70,12 @@ module _ (world : World) where
   holds_tag pes cs tag root = some_pe pes (holds_at cs tag root)
 
 -- whether all values of a list have this number
-abbrev pub all_are : ℕ → List Load → Bool
+abbrev pub all_are : ℕ → List RootValue → Bool
 all_are n [] = true
 all_are n (load ∷ loads) = load.number == n && all_are n loads
 
 -- the one number of a list, None where it has several
-abbrev pub one_number : List Load → Option ℕ
+abbrev pub one_number : List RootValue → Option ℕ
 one_number [] = None
 one_number (load ∷ loads) = if all_are load.number loads then Some load.number else None
 

@@ -9,7 +9,7 @@ use Rattle.bbm_tlbi_scope.specs.declared.scope.Scope.{Scope}
 use Rattle.bbm_roots.specs.RootCalls.{Call}
 use Rattle.bbm_roots.specs.Columns.{loads_in}
 use Rattle.bbm_roots.specs.Holds.{hold_in}
-use Rattle.bbm_roots.specs.RootPendings.{has_pending, pending_in, EachTaken}
+use Rattle.bbm_roots.specs.RootPendings.{has_pending, pending_in, EachLost}
 use Rattle.bbm_roots.specs.RootRegisters.{at_start, first_reg, second_reg, register_values, is_of_world, kind_of_reg}
 use Rattle.bbm_roots.specs.RootRegisters.{names_in}
 use Rattle.bbm_roots.specs.DeclaredRoots.{root_at, roots_of, is_root, are_apart, lock_of}
@@ -51,6 +51,8 @@ abbrev pub IsPrepared : Roots → Type 0
 IsPrepared roots = (0 < spare roots.declared) × (index_map_len roots.declared < 1024)
 
 -- there is an entry for each tag that a TLBI of the issuer, of this scope and under this VMID, takes and that is held
+-- at a PE which it reaches and at which the tag is readable for no root
 abbrev pub IsReady : Roots → ℕ → Scope → Option ℕ → Bool → Type 0
 IsReady roots issuer scope vmid takes =
-    EachTaken scope vmid roots.holds (λ tag. takes && has_pending roots.pendings issuer scope.broadcast tag)
+    EachLost scope vmid roots.holds roots.registers issuer
+    (λ tag. takes && has_pending roots.pendings issuer scope.broadcast tag)

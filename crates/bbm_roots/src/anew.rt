@@ -9,13 +9,13 @@ ghost use Rattle.bbm_roots.specs.declared.reading.Reading.{Reading as TheReading
 
 use crate::count::PeCount;
 use crate::hold::{Holds, is_held_at, is_hold, some_pe, tag_key};
-use crate::load::Load;
+use crate::load::RootValue;
 use crate::reading::Reading;
 use bbm_regimes::{AsidFrom, Page, Pe, Tag, World};
 
 /// What is known of the tags that a new value makes readable.
 #[derive(Clone, Copy, Debug)]
-pub enum Known {
+pub enum Shortcut {
     /// The PE holds each of them, for its root.
     Held,
     /// There is this one, which its root holds at some PE.
@@ -58,36 +58,36 @@ fn kernel_tag(asid_from: AsidFrom, first: bool, number: u16) -> Option<Tag>
 }
 
 /// What is known of the tag for the root, at the PE and the first n.
-fn known_for(holds: &Holds, n: PeCount, tag: Tag, root: Page, pe: Pe) -> Known
-    ensures held { result ≡ Known.Held → hold_in holds.now tag root pe ≡ true }
-    ensures shared { (x : TheReading) → result ≡ Known.Shared x
+fn known_for(holds: &Holds, n: PeCount, tag: Tag, root: Page, pe: Pe) -> Shortcut
+    ensures held { result ≡ Shortcut.Held → hold_in holds.now tag root pe ≡ true }
+    ensures shared { (x : TheReading) → result ≡ Shortcut.Shared x
         → (x.tag ≡ tag) × (x.root ≡ root) × (tag_in holds.now n tag root ≡ true) }
 {
     match holds.get(&tag_key(tag)) {
         Some(held) => {
             if !is_hold(held, tag, root) {
-                Known::Open
+                Shortcut::Open
             } else if held.pes.has(pe) {
-                Known::Held
+                Shortcut::Held
             } else if some_pe(held.pes, n) {
-                Known::Shared(Reading { tag, root })
+                Shortcut::Shared(Reading { tag, root })
             } else {
-                Known::Open
+                Shortcut::Open
             }
         }
-        None => Known::Open,
+        None => Shortcut::Open,
     }
 }
 
 /// The same for the root, where there is one.
-pub fn known_tag(holds: &Holds, n: PeCount, tag: Tag, root: Option<Page>, pe: Pe) -> Known
-    ensures held { result ≡ Known.Held → spec.holds_root holds.now pe tag root ≡ true }
-    ensures shared { (x : TheReading) → result ≡ Known.Shared x
+pub fn known_tag(holds: &Holds, n: PeCount, tag: Tag, root: Option<Page>, pe: Pe) -> Shortcut
+    ensures held { result ≡ Shortcut.Held → spec.holds_root holds.now pe tag root ≡ true }
+    ensures shared { (x : TheReading) → result ≡ Shortcut.Shared x
         → (x.tag ≡ tag) × (root ≡ Some x.root) × (tag_in holds.now n x.tag x.root ≡ true) }
 {
     match root {
         Some(root) => known_for(holds, n, tag, root, pe),
-        None => Known::Held,
+        None => Shortcut::Held,
     }
 }
 
@@ -102,14 +102,14 @@ fn holds_root(holds: &Holds, tag: Tag, root: Option<Page>, pe: Pe) -> bool
 }
 
 /// The same of the root of a value of TTBR0_EL1 under the ASID of one of TTBR1_EL1.
-fn holds_asid(holds: &Holds, first: &Load, second: &Load, pe: Pe) -> bool
+fn holds_asid(holds: &Holds, first: &RootValue, second: &RootValue, pe: Pe) -> bool
     ensures { result ≡ spec.holds_asid holds.now pe first.now second.now }
 {
     holds_root(holds, Tag::Asid(second.number), first.root, pe)
 }
 
 /// The same under the ASID of each of these values of TTBR1_EL1.
-fn holds_each(holds: &Holds, load: &Load, second: &[Load], pe: Pe) -> bool
+fn holds_each(holds: &Holds, load: &RootValue, second: &[RootValue], pe: Pe) -> bool
     ensures { result ≡ list_all (spec.holds_asid holds.now pe load.now) second.now }
 {
     second
@@ -118,14 +118,20 @@ fn holds_each(holds: &Holds, load: &Load, second: &[Load], pe: Pe) -> bool
 }
 
 /// The same of the root of each of these values of TTBR0_EL1.
-fn holds_all(holds: &Holds, load: &Load, first: &[Load], pe: Pe) -> bool
+fn holds_all(holds: &Holds, load: &RootValue, first: &[RootValue], pe: Pe) -> bool
     ensures { result ≡ list_all (spec.holds_given holds.now pe load.now) first.now }
 {
     first.iter().all(|other| holds_asid(holds, other, load, pe))
 }
 
 /// The same of the root of a new value of TTBR0_EL1, under each ASID that it has by the values of TTBR1_EL1.
-fn holds_asids(holds: &Holds, asid_from: AsidFrom, load: &Load, second: &[Load], pe: Pe) -> bool
+fn holds_asids(
+    holds: &Holds,
+    asid_from: AsidFrom,
+    load: &RootValue,
+    second: &[RootValue],
+    pe: Pe,
+) -> bool
     ensures { result ≡ spec.holds_asids holds.now pe asid_from load.now second.now }
 {
     match asid_from {
@@ -135,7 +141,13 @@ fn holds_asids(holds: &Holds, asid_from: AsidFrom, load: &Load, second: &[Load],
 }
 
 /// The same of the roots of the values of TTBR0_EL1, under the ASID that a new value of TTBR1_EL1 gives them.
-fn holds_under(holds: &Holds, asid_from: AsidFrom, load: &Load, first: &[Load], pe: Pe) -> bool
+fn holds_under(
+    holds: &Holds,
+    asid_from: AsidFrom,
+    load: &RootValue,
+    first: &[RootValue],
+    pe: Pe,
+) -> bool
     ensures { result ≡ spec.holds_under holds.now pe asid_from load.now first.now }
 {
     match asid_from {
@@ -150,8 +162,8 @@ pub fn holds_new(
     holds: &Holds,
     world: World,
     first: bool,
-    load: &Load,
-    other: &[Load],
+    load: &RootValue,
+    other: &[RootValue],
     pe: Pe,
 ) -> bool
     ensures { result ≡ spec.holds_new holds.now pe world first load.now other.now }

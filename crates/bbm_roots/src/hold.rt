@@ -2,7 +2,7 @@
 //! Source: project's own choice, where no other is named.
 
 ghost use Rattle.std.specs.Prelude.{◌≡◌, ℕ, Bool, ◌&&◌, ◌||◌, not, nat_eq, true, false, Option, Some, None};
-ghost use Rattle.std.specs.Prelude.{is_some, OnOk, if◌then◌else◌};
+ghost use Rattle.std.specs.Prelude.{is_some, IfSome, OnOk, if◌then◌else◌};
 ghost use Rattle.indexmap.specs.IndexMap.{get, values};
 ghost use Rattle.bbm_regimes.specs.PeMask.{pe_in};
 ghost use Rattle.bbm_regimes.specs.declared.regime.Tag.{Tag as TheTag};
@@ -13,13 +13,16 @@ ghost use Rattle.bbm_roots.specs.RootPendings.{slot_of, wait_at, wait_bit, wait_
 ghost use Rattle.bbm_lemmas.specs.ListWords.{same_flag};
 ghost use Rattle.bbm_roots.specs.Readings.{same_tag as spec_same_tag, has_reading as spec_has_reading};
 ghost use Rattle.bbm_roots.specs.Readings.{has_tag as spec_has_tag};
+ghost use Rattle.bbm_roots.specs.TagsByRoot.{is_listed, AreListed};
 
+use crate::by_root::{ByRoot, list, unlist};
 use crate::count::PeCount;
 use crate::pending::{Waiting, Waits, answers, slot};
 use crate::reading::Reading;
 use bbm_barriers::Dsb;
 use bbm_regimes::{NoMemory, Page, Pe, PeMask, Tag, same_tag};
 use indexmap::IndexMap;
+use std::alloc::Global;
 
 /// The tags that are held, each with its root and the PEs, by the key of the tag.
 pub type Holds = IndexMap<u32, Held>;
@@ -95,13 +98,23 @@ fn make_entry(holds: &mut Holds, tag: Tag, root: Page) -> Result<(), NoMemory>
     }
 }
 
-/// Makes an entry for each readable tag that has none. `NoMemory` where there is none. Nobody holds more or less.
-pub fn make_room(holds: &mut Holds, readings: &[Reading]) -> Result<(), NoMemory>
+/// Makes an entry for each readable tag that has none, and lists it for its root. `NoMemory` where there is none.
+/// Nobody holds more or less.
+pub fn make_room(
+    holds: &mut Holds,
+    by_root: &mut ByRoot,
+    alloc: Global,
+    readings: &[Reading],
+) -> Result<(), NoMemory>
     ensures same { spec.SameHolds holds.old holds.new }
     ensures made { OnOk result ((g : TheTag) → spec_has_tag g readings.now ≡ true → spec.has_entry holds.new g ≡ true) }
+    ensures kept { AreListed holds.old by_root.old → AreListed holds.new by_root.new }
+    ensures listed { OnOk result ((g : TheTag) (r : ℕ) → spec_has_reading g r readings.now ≡ true
+        → is_listed by_root.new r (spec.tag_key g) ≡ true) }
 {
     for reading in readings {
         make_entry(holds, reading.tag, reading.root)?;
+        list(by_root, alloc, reading.tag, reading.root)?;
     }
     Ok(())
 }
@@ -147,26 +160,33 @@ fn enter(holds: &mut Holds, key: u32, tag: Tag, root: Page, pe: Pe)
 /// Puts the PE into the entries of the readable tags, where no other root holds one of them.
 pub fn mark(holds: &mut Holds, readings: &[Reading], pe: Pe)
     requires { (g : TheTag) → spec_has_tag g readings.now ≡ true → spec.has_entry holds.old g ≡ true }
-    ensures { spec.IsCalm holds.old readings.now → spec.Marks holds.old holds.new pe readings.now }
+    ensures marked { spec.IsCalm holds.old readings.now → spec.Marks holds.old holds.new pe readings.now }
+    ensures only { (g : TheTag) (r p : ℕ) → spec.hold_in holds.new g r p ≡ true
+        → (spec.hold_in holds.old g r p || spec_has_reading g r readings.now) ≡ true }
 {
     for reading in readings {
         mark_one(holds, reading.tag, reading.root, pe);
     }
 }
 
-/// Takes the PEs out of the entry under the key. Whether none is left in it.
-fn narrow(holds: &mut Holds, key: u32, pes: PeMask) -> bool
+/// Takes the PEs out of the entry under the key. Its root, where none is left in it.
+fn narrow(holds: &mut Holds, key: u32, pes: PeMask) -> Option<Page>
     ensures others { OthersStay key holds.old holds.new }
     ensures here { (g : TheTag) (r p : ℕ) → spec.entry_bit g r p (get nat_eq holds.new key)
         ≡ (spec.entry_bit g r p (get nat_eq holds.old key) && not (pe_in pes p)) }
-    ensures none { result ≡ true → (g : TheTag) (r p : ℕ) → spec.entry_bit g r p (get nat_eq holds.new key) ≡ false }
+    ensures none { IfSome result (λ root. (g : TheTag) (r p : ℕ) → spec.entry_bit g r p (get nat_eq holds.new key)
+        ≡ false) }
 {
     match holds.get_mut(&key) {
         Some(held) => {
             held.pes = held.pes.minus(pes);
-            held.pes.is_empty()
+            if held.pes.is_empty() {
+                Some(held.root)
+            } else {
+                None
+            }
         }
-        None => false,
+        None => None,
     }
 }
 
@@ -179,73 +199,93 @@ fn forget(holds: &mut Holds, key: u32)
 }
 
 /// Takes the PEs out of the entry of the tag, and forgets it where none is left.
-fn take_from(holds: &mut Holds, tag: Tag, pes: PeMask)
-    ensures { (g : TheTag) (r p : ℕ) → spec.hold_in holds.new g r p
+fn take_from(holds: &mut Holds, by_root: &mut ByRoot, tag: Tag, pes: PeMask)
+    ensures holds { (g : TheTag) (r p : ℕ) → spec.hold_in holds.new g r p
         ≡ (spec.hold_in holds.old g r p && not (spec_same_tag tag g && pe_in pes p)) }
+    ensures listed { AreListed holds.old by_root.old → AreListed holds.new by_root.new }
 {
     let key = tag_key(tag);
-    if narrow(holds, key, pes) {
+    if let Some(root) = narrow(holds, key, pes) {
         forget(holds, key);
+        unlist(by_root, tag, root);
     }
 }
 
 /// Takes away at these PEs the tag that waits under the key. Under the key of another tag nothing waits.
-fn release_under(holds: &mut Holds, key: u32, waiting: Waiting)
-    ensures { (g : TheTag) (r p : ℕ) → spec.hold_in holds.new g r p ≡ (spec.hold_in holds.old g r p
+fn release_under(holds: &mut Holds, by_root: &mut ByRoot, key: u32, waiting: Waiting)
+    ensures holds { (g : TheTag) (r p : ℕ) → spec.hold_in holds.new g r p ≡ (spec.hold_in holds.old g r p
         && not (nat_eq (spec.tag_key g) key && wait_bit g p (Some waiting))) }
+    ensures listed { AreListed holds.old by_root.old → AreListed holds.new by_root.new }
 {
     if tag_key(waiting.tag) == key {
-        take_from(holds, waiting.tag, waiting.pes);
+        take_from(holds, by_root, waiting.tag, waiting.pes);
     }
 }
 
 /// Takes the tags away that wait in this place, and empties it.
-fn release_all(holds: &mut Holds, waits: &mut Waits)
+fn release_all(holds: &mut Holds, by_root: &mut ByRoot, waits: &mut Waits)
     ensures holds { (g : TheTag) (r p : ℕ) → spec.hold_in holds.new g r p
         ≡ (spec.hold_in holds.old g r p && not (wait_in waits.old g p)) }
     ensures waits { (key : ℕ) → get nat_eq waits.new key ≡ None }
+    ensures listed { AreListed holds.old by_root.old → AreListed holds.new by_root.new }
 {
     for _count in 0..waits.len() {
         if let Some((key, waiting)) = waits.pop() {
-            release_under(holds, key, waiting);
+            release_under(holds, by_root, key, waiting);
         }
     }
 }
 
 /// The same of the place of this number, where it is there.
-fn release_place(holds: &mut Holds, waits: &mut Vec<Waits>, place: usize)
+fn release_place(holds: &mut Holds, by_root: &mut ByRoot, waits: &mut Vec<Waits>, place: usize)
     ensures holds { (g : TheTag) (r p : ℕ) → spec.hold_in holds.new g r p
         ≡ (spec.hold_in holds.old g r p && not (wait_bit g p (wait_at waits.old.items place (spec.tag_key g)))) }
     ensures waits { EmptiesPlace place waits.old.items waits.new.items }
+    ensures listed { AreListed holds.old by_root.old → AreListed holds.new by_root.new }
 {
     if place < waits.len() {
-        release_all(holds, &mut waits[place]);
+        release_all(holds, by_root, &mut waits[place]);
     }
 }
 
 /// Takes the tags away that a DSB takes away by its issuer's TLBIs, broadcast ones or others, and forgets what it
 /// answers.
-fn release_one(holds: &mut Holds, waits: &mut Vec<Waits>, issuer: Pe, dsb: Dsb, broadcast: bool)
+fn release_one(
+    holds: &mut Holds,
+    by_root: &mut ByRoot,
+    waits: &mut Vec<Waits>,
+    issuer: Pe,
+    dsb: Dsb,
+    broadcast: bool,
+)
     ensures holds { (g : TheTag) (r p : ℕ) → spec.hold_in holds.new g r p ≡ (spec.hold_in holds.old g r p
         && not (dsb_answers dsb broadcast
         && wait_bit g p (wait_at waits.old.items (slot_of issuer broadcast) (spec.tag_key g)))) }
     ensures waits { (q : ℕ) (b : Bool) (key : ℕ) → wait_at waits.new.items (slot_of q b) key
         ≡ (if (nat_eq q issuer && same_flag broadcast b) && dsb_answers dsb broadcast then None
         else wait_at waits.old.items (slot_of q b) key) }
+    ensures listed { AreListed holds.old by_root.old → AreListed holds.new by_root.new }
 {
     if answers(dsb, broadcast) {
-        release_place(holds, waits, slot(issuer, broadcast));
+        release_place(holds, by_root, waits, slot(issuer, broadcast));
     }
 }
 
 /// Takes the tags away that a DSB of the issuer takes away, and forgets what it answers.
-pub fn release(holds: &mut Holds, waits: &mut Vec<Waits>, issuer: Pe, dsb: Dsb)
+pub fn release(
+    holds: &mut Holds,
+    by_root: &mut ByRoot,
+    waits: &mut Vec<Waits>,
+    issuer: Pe,
+    dsb: Dsb,
+)
     ensures holds { (g : TheTag) (r p : ℕ) → spec.hold_in holds.new g r p ≡ (spec.hold_in holds.old g r p
         && not ((dsb_answers dsb true && wait_bit g p (wait_at waits.old.items (slot_of issuer true) (spec.tag_key g)))
         || (dsb_answers dsb false && wait_bit g p (wait_at waits.old.items (slot_of issuer false) (spec.tag_key g))))) }
     ensures waits { (q : ℕ) (b : Bool) (key : ℕ) → wait_at waits.new.items (slot_of q b) key
         ≡ (if nat_eq q issuer && dsb_answers dsb b then None else wait_at waits.old.items (slot_of q b) key) }
+    ensures listed { AreListed holds.old by_root.old → AreListed holds.new by_root.new }
 {
-    release_one(holds, waits, issuer, dsb, true);
-    release_one(holds, waits, issuer, dsb, false);
+    release_one(holds, by_root, waits, issuer, dsb, true);
+    release_one(holds, by_root, waits, issuer, dsb, false);
 }

@@ -1,7 +1,7 @@
 //! What the issue of a whole-tag TLBI leaves to its answer.
 
 ghost use Rattle.std.specs.Prelude.{◌≡◌, ℕ, ◌<◌, Bool, ◌&&◌, ◌||◌, not, nat_eq, true, false, Option, Some, OnOk};
-ghost use Rattle.std.specs.Prelude.{IfOk, IfSome, is_some, length};
+ghost use Rattle.std.specs.Prelude.{IfSome, is_some, length, nat_lt};
 ghost use Rattle.std.specs.List.{list_any};
 ghost use Rattle.indexmap.specs.IndexMap.{get, values};
 ghost use Rattle.bbm_regimes.specs.PeMask.{pe_in};
@@ -84,12 +84,45 @@ fn takes_some(holds: &Holds, scope: &Scope, vmid: Option<u16>) -> bool
         .any(|held| takes(scope, vmid, held.tag))
 }
 
-/// Whether the TLBI may take a tag that is held. One that takes one tag alone looks that tag up alone.
-fn takes_held(holds: &Holds, scope: &Scope, vmid: Option<u16>) -> bool
-    ensures { spec.EachTaken scope.now vmid holds.now (λ tag. result) }
+/// The PEs that a TLBI of the issuer reaches.
+fn reached(registers: &Registers, issuer: Pe, broadcast: bool) -> PeMask
+    ensures { (p : ℕ) → nat_lt p registers.now.pes ≡ true → pe_in result p ≡ (broadcast || nat_eq p issuer) }
+{
+    if broadcast {
+        registers.pes.all()
+    } else {
+        PeMask::one(issuer)
+    }
+}
+
+/// Whether a TLBI of the issuer for the tag takes it from a PE that holds it: one that it reaches and at which the tag
+/// is readable for no root.
+fn takes_from(holds: &Holds, registers: &Registers, issuer: Pe, broadcast: bool, tag: Tag) -> bool
+    ensures { (r p : ℕ) → hold_in holds.now tag r p ≡ true
+        → spec.unread_at registers.now issuer broadcast tag p ≡ true → result ≡ true }
+{
+    match holds.get(&tag_key(tag)) {
+        Some(held) => {
+            let pes = reached(registers, issuer, broadcast).and(held.pes);
+            registers.first_unread(pes, tag).is_some()
+        }
+        None => false,
+    }
+}
+
+/// Whether the TLBI of the issuer may take a tag from a PE that holds it. One that takes one tag alone looks that tag
+/// up alone.
+pub fn takes_held(
+    holds: &Holds,
+    registers: &Registers,
+    issuer: Pe,
+    scope: &Scope,
+    vmid: Option<u16>,
+) -> bool
+    ensures { spec.EachLost scope.now vmid holds.now registers.now issuer (λ tag. result) }
 {
     match one_tag(scope, vmid) {
-        Some(tag) => holds.contains_key(&tag_key(tag)),
+        Some(tag) => takes_from(holds, registers, issuer, scope.broadcast, tag),
         None => takes_some(holds, scope, vmid),
     }
 }
@@ -143,9 +176,8 @@ fn make_place(
     make_entries(&mut waits[place], holds, scope, vmid)
 }
 
-/// Makes an entry of the issuer for each tag that is held and that its TLBI takes, and tells whether there may be one.
-/// `NoMemory` where there is none. No DSB takes more or less away. Where the TLBI takes no tag that is held, nothing is
-/// made.
+/// Makes an entry of the issuer for each tag that is held and that its TLBI takes. `NoMemory` where there is none. No
+/// DSB takes more or less away.
 pub fn make_room(
     alloc: Global,
     pendings: &mut Pendings,
@@ -153,30 +185,21 @@ pub fn make_room(
     issuer: Pe,
     scope: &Scope,
     vmid: Option<u16>,
-) -> Result<bool, NoMemory>
+) -> Result<(), NoMemory>
     ensures same { spec.SamePendings pendings.old pendings.new }
-    ensures made { IfOk result (λ takes. spec.EachTaken scope.now vmid holds.now
-        (λ tag. takes && spec.has_pending pendings.new issuer scope.now.broadcast tag)) }
+    ensures made { OnOk result (spec.EachTaken scope.now vmid holds.now
+        (spec.has_pending pendings.new issuer scope.now.broadcast)) }
 {
-    if !takes_held(holds, scope, vmid) {
-        return Ok(false);
-    }
     open(pendings, alloc, issuer)?;
     let place = slot(issuer, scope.broadcast);
-    make_place(&mut pendings.waits, place, holds, scope, vmid)?;
-    Ok(true)
+    make_place(&mut pendings.waits, place, holds, scope, vmid)
 }
 
 /// The PEs that a TLBI of the issuer reaches and at which the tag is readable for no root.
 fn unread(registers: &Registers, issuer: Pe, broadcast: bool, tag: Tag) -> PeMask
     ensures { (p : ℕ) → pe_in result p ≡ spec.unread_at registers.now issuer broadcast tag p }
 {
-    let reach = if broadcast {
-        registers.pes.all()
-    } else {
-        PeMask::one(issuer)
-    };
-    registers.unread(reach, tag)
+    registers.unread(reached(registers, issuer, broadcast), tag)
 }
 
 /// The entry with these PEs in it, as one of the tag.

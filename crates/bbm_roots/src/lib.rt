@@ -18,6 +18,7 @@
 #![tactic(auto)]
 
 mod anew;
+mod by_root;
 mod count;
 pub mod example;
 mod fault;

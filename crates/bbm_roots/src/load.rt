@@ -9,7 +9,7 @@ use bbm_regimes::{Page, Reg, World};
 /// What the value of a root register names. Source: Arm ARM (DDI 0487), "AArch64 System register
 /// descriptions", TTBR0_EL2, VTTBR_EL2, TTBR0_EL1 and TTBR1_EL1.
 #[derive(Clone, Copy, Debug, Default, PartialEq, Eq)]
-pub struct Load {
+pub struct RootValue {
     /// Its VMID or ASID, 0 to 65535: bits [63:48].
     pub number: u16,
     /// The first page of the root that it names; None where it names none.
@@ -52,7 +52,7 @@ fn is_that(root: Option<Page>, page: Page) -> bool
 }
 
 /// Whether one of the values names the root with this first page.
-pub fn names_in(loads: &[Load], page: Page) -> bool
+pub fn names_in(loads: &[RootValue], page: Page) -> bool
     ensures { result ≡ spec.names_in loads.now page }
 {
     loads.iter().any(|load| is_that(load.root, page))

@@ -4,7 +4,7 @@
 ghost use Rattle.std.specs.Prelude.{◌≡◌, ℕ, ◌++◌, flat_map, OnOk, IfOk};
 ghost use Rattle.bbm_roots.specs.Readings as spec;
 
-use crate::load::Load;
+use crate::load::RootValue;
 use bbm_regimes::{AsidFrom, Kind, NoMemory, Page, Tag, World, same_tag};
 use smallvec::SmallVec;
 use std::alloc::Global;
@@ -65,7 +65,7 @@ fn add(readings: &mut Readings, tag: Tag, root: Option<Page>) -> Result<(), NoMe
 }
 
 /// Adds what the values of the register of a kind name, each with its own VMID or ASID.
-fn add_own(readings: &mut Readings, kind: Kind, loads: &[Load]) -> Result<(), NoMemory>
+fn add_own(readings: &mut Readings, kind: Kind, loads: &[RootValue]) -> Result<(), NoMemory>
     ensures { OnOk result (readings.new.items ≡ readings.old.items ++ flat_map (spec.own_reading kind) loads.now) }
 {
     for load in loads {
@@ -78,8 +78,8 @@ fn add_own(readings: &mut Readings, kind: Kind, loads: &[Load]) -> Result<(), No
 fn add_all(
     readings: &mut Readings,
     kind: Kind,
-    newest: &[Load],
-    others: &[Load],
+    newest: &[RootValue],
+    others: &[RootValue],
 ) -> Result<(), NoMemory>
     ensures { OnOk result (readings.new.items
         ≡ readings.old.items ++ flat_map (spec.own_reading kind) (newest.now ++ others.now)) }
@@ -89,7 +89,7 @@ fn add_all(
 }
 
 /// Adds what the values of TTBR0_EL1 name, under this ASID.
-fn add_under(readings: &mut Readings, tag: Tag, loads: &[Load]) -> Result<(), NoMemory>
+fn add_under(readings: &mut Readings, tag: Tag, loads: &[RootValue]) -> Result<(), NoMemory>
     ensures { OnOk result (readings.new.items ≡ readings.old.items ++ flat_map (spec.reading_under tag) loads.now) }
 {
     for load in loads {
@@ -102,8 +102,8 @@ fn add_under(readings: &mut Readings, tag: Tag, loads: &[Load]) -> Result<(), No
 fn add_all_under(
     readings: &mut Readings,
     tag: Tag,
-    newest: &[Load],
-    others: &[Load],
+    newest: &[RootValue],
+    others: &[RootValue],
 ) -> Result<(), NoMemory>
     ensures { OnOk result (readings.new.items
         ≡ readings.old.items ++ flat_map (spec.reading_under tag) (newest.now ++ others.now)) }
@@ -115,9 +115,9 @@ fn add_all_under(
 /// Adds what the values of TTBR0_EL1 name, under each ASID of values of TTBR1_EL1.
 fn add_each(
     readings: &mut Readings,
-    newest: &[Load],
-    others: &[Load],
-    second: &[Load],
+    newest: &[RootValue],
+    others: &[RootValue],
+    second: &[RootValue],
 ) -> Result<(), NoMemory>
     ensures { OnOk result (readings.new.items ≡ readings.old.items
         ++ flat_map (spec.readings_with (newest.now ++ others.now)) second.now) }
@@ -133,10 +133,10 @@ fn add_each(
 fn add_asids(
     readings: &mut Readings,
     asid_from: AsidFrom,
-    new_first: &[Load],
-    first: &[Load],
-    new_second: &[Load],
-    second: &[Load],
+    new_first: &[RootValue],
+    first: &[RootValue],
+    new_second: &[RootValue],
+    second: &[RootValue],
 ) -> Result<(), NoMemory>
     ensures { OnOk result (readings.new.items ≡ readings.old.items
         ++ spec.asid_readings asid_from (new_first.now ++ first.now) (new_second.now ++ second.now)) }
@@ -156,10 +156,10 @@ fn add_asids(
 pub fn readings(
     alloc: Global,
     world: World,
-    new_first: &[Load],
-    first: &[Load],
-    new_second: &[Load],
-    second: &[Load],
+    new_first: &[RootValue],
+    first: &[RootValue],
+    new_second: &[RootValue],
+    second: &[RootValue],
 ) -> Result<Readings, NoMemory>
     ensures { IfOk result (λ readings. readings.items
         ≡ spec.readings_of world (new_first.now ++ first.now) (new_second.now ++ second.now)) }
@@ -207,14 +207,14 @@ pub fn has_other(readings: &[Reading], tag: Tag, root: Page) -> bool
 }
 
 /// Whether one of the values names a root.
-fn names_some(loads: &[Load]) -> bool
+fn names_some(loads: &[RootValue]) -> bool
     ensures { result ≡ spec.names_some loads.now }
 {
     loads.iter().any(|load| load.root.is_some())
 }
 
 /// Whether one of the values names a root with this VMID or ASID.
-fn names_with(loads: &[Load], number: u16) -> bool
+fn names_with(loads: &[RootValue], number: u16) -> bool
     ensures { result ≡ spec.names_with number loads.now }
 {
     loads
@@ -223,14 +223,14 @@ fn names_with(loads: &[Load], number: u16) -> bool
 }
 
 /// Whether one of the values has this ASID.
-fn has_number(loads: &[Load], number: u16) -> bool
+fn has_number(loads: &[RootValue], number: u16) -> bool
     ensures { result ≡ spec.has_number number loads.now }
 {
     loads.iter().any(|load| load.number == number)
 }
 
 /// Whether an ASID is readable for some root.
-fn reads_asid(asid_from: AsidFrom, first: &[Load], second: &[Load], number: u16) -> bool
+fn reads_asid(asid_from: AsidFrom, first: &[RootValue], second: &[RootValue], number: u16) -> bool
     ensures { result ≡ spec.reads_asid asid_from first.now second.now number }
 {
     match asid_from {
@@ -241,7 +241,7 @@ fn reads_asid(asid_from: AsidFrom, first: &[Load], second: &[Load], number: u16)
 
 /// Whether the tag is readable for some root, by the readable values of the two registers of the world. Source:
 /// Arm ARM (DDI 0487), "Translation Lookaside Buffers".
-pub fn reads_tag(world: World, first: &[Load], second: &[Load], tag: Tag) -> bool
+pub fn reads_tag(world: World, first: &[RootValue], second: &[RootValue], tag: Tag) -> bool
     ensures { result ≡ spec.reads_tag world first.now second.now tag }
 {
     match (world, tag) {

@@ -9,7 +9,7 @@ ghost use Rattle.bbm_roots.specs.Columns.{ChangesLoads, loads_in};
 ghost use Rattle.bbm_roots.specs.RootRegisters.{at_start, newest};
 
 use crate::count::PeCount;
-use crate::load::{self, Load, is_first};
+use crate::load::{self, RootValue, is_first};
 use crate::reading::{Readings, readings, reads_tag};
 use arrayvec::ArrayVec;
 use bbm_events::Header;
@@ -18,10 +18,10 @@ use std::alloc::Global;
 
 /// The values of one register that may still be in use, the newest first: one that every PE starts with or
 /// made its own by an ISB, and eight written since.
-pub type Loads = ArrayVec<Load, 9>;
+pub type Loads = ArrayVec<RootValue, 9>;
 
 /// The values of one register of a PE that may still be in use, the newest first.
-pub fn loads_at(column: &Vec<Loads>, pe: Pe) -> &[Load]
+pub fn loads_at(column: &Vec<Loads>, pe: Pe) -> &[RootValue]
     requires { pe < length column.now.items }
     ensures { result.now ≡ loads_in column.now.items pe }
 {
@@ -41,11 +41,11 @@ fn put_front(loads: &mut Loads, number: u16, root: Option<Page>)
     requires { length loads.old.items < 9 }
     ensures { loads.new.items ≡ record { number = number; root = root } ∷ loads.old.items }
 {
-    loads.insert(0, Load { number, root });
+    loads.insert(0, RootValue { number, root });
 }
 
 /// Puts a value in front.
-pub fn put(column: &mut Vec<Loads>, pe: Pe, load: Load)
+pub fn put(column: &mut Vec<Loads>, pe: Pe, load: RootValue)
     requires known { pe < length column.old.items }
     requires room { length (loads_in column.old.items pe) < 9 }
     ensures { ChangesLoads (λ loads. load ∷ loads) pe column.old.items column.new.items }
@@ -66,7 +66,7 @@ fn start_loads(number: u16, root: Option<Page>) -> Loads
     ensures { result.items ≡ record { number = number; root = root } ∷ [] }
 {
     let mut loads = ArrayVec::new();
-    loads.push(Load { number, root });
+    loads.push(RootValue { number, root });
     loads
 }
 
@@ -166,7 +166,21 @@ impl Registers {
         unread
     }
 
+    /// The first PE of the set at which the tag is readable for no root. None where there is none.
+    pub fn first_unread(&self, pes: PeMask, tag: Tag) -> Option<Pe>
+        ensures { IsLeast UpTo (λ p. nat_lt p self.now.pes && (pe_in pes p && not (reads_at self.now p tag))) result }
+    {
+        for number in 0..self.pes.get() {
+            let pe = Pe::new(number).unwrap();
+            if pes.has(pe) && !self.reads(pe, tag) {
+                return Some(pe);
+            }
+        }
+        None
+    }
+
     /// Whether the tag is readable at the PE for some root.
+    #[inline(always)]
     fn reads(&self, pe: Pe, tag: Tag) -> bool
         requires { pe < self.now.pes }
         ensures { result ≡ reads_at self.now pe tag }
@@ -185,7 +199,7 @@ impl Registers {
         alloc: Global,
         pe: Pe,
         reg: Reg,
-        load: &Load,
+        load: &RootValue,
     ) -> Result<Readings, NoMemory>
         requires known { pe < self.now.pes }
         ensures { IfOk result (λ readings. readings.items ≡ readings_after self.now pe reg load.now) }
@@ -200,7 +214,7 @@ impl Registers {
     }
 
     /// The values of the other register of the PE.
-    pub fn others(&self, pe: Pe, reg: Reg) -> &[Load]
+    pub fn others(&self, pe: Pe, reg: Reg) -> &[RootValue]
         requires { pe < self.now.pes }
         ensures { result.now ≡ other_loads self.now pe reg }
     {
@@ -234,7 +248,7 @@ impl Registers {
     }
 
     /// Puts the value in front of those of the register, which isn't full.
-    pub fn put(&mut self, pe: Pe, reg: Reg, load: Load)
+    pub fn put(&mut self, pe: Pe, reg: Reg, load: RootValue)
         requires known { pe < self.old.pes }
         requires room { length (loads_of self.old pe reg) < 9 }
         ensures { PutsLoad pe reg load self.old self.new }

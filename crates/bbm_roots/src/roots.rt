@@ -1,10 +1,13 @@
 //! The roots, their tags and the registers that name them.
 //! Source: project's own choice, where no other is named.
 
-use crate::anew::{self, Known};
+ghost use Rattle.bbm_roots.specs.TagsByRoot.{is_listed, AreListed};
+
+use crate::anew::{self, Shortcut};
+use crate::by_root::ByRoot;
 use crate::fault::{InUse, RootFault, Unsynced};
 use crate::hold::Holds;
-use crate::load::{Load, is_first, names_null};
+use crate::load::{RootValue, is_first, names_null};
 use crate::pending::Pendings;
 use crate::reading::{Reading, Readings};
 use crate::registers::Registers;
@@ -27,9 +30,11 @@ pub struct Roots {
     registers: Registers,
     declared: IndexMap<u64, Declared>,
     holds: Holds,
+    by_root: ByRoot,
     pendings: Pendings,
     /// Whether any root was declared with a lock, also one that is retired. Where not, no declared root has one.
     names_locks: bool,
+    ghost listed: { AreListed holds by_root },
 }
 
 impl Roots {
@@ -41,10 +46,10 @@ impl Roots {
     ghost use Rattle.bbm_regimes.specs.declared.regime.Tag.{Tag as TheTag};
     ghost use Rattle.bbm_tlbi_scope.specs.TagSets.{HasTags};
     ghost use Rattle.bbm_roots.specs.DeclaredRoots as spec;
-    ghost use Rattle.bbm_roots.specs.Holds.{has_entry, conflict_in, IsCalm, Marks};
+    ghost use Rattle.bbm_roots.specs.Holds.{has_entry, conflict_in, tag_key, IsCalm, Marks};
     ghost use Rattle.bbm_roots.specs.Listed.{count_in, nth_in};
     ghost use Rattle.bbm_roots.specs.LoadsOf.{loads_of};
-    ghost use Rattle.bbm_roots.specs.Readings.{has_tag};
+    ghost use Rattle.bbm_roots.specs.Readings.{has_reading, has_tag};
     ghost use Rattle.bbm_roots.specs.Refusals.{missing_root, conflicts, JudgesWrite, JudgesVmid};
     ghost use Rattle.bbm_roots.specs.RootCalls as call;
     ghost use Rattle.bbm_roots.specs.RootCalls.{Call};
@@ -66,6 +71,7 @@ impl Roots {
             registers: Registers::new(alloc, header)?,
             declared: IndexMap::new(alloc),
             holds: IndexMap::new(alloc),
+            by_root: IndexMap::new(alloc),
             pendings: pending::no_pendings(alloc),
             names_locks: false,
         })
@@ -231,7 +237,7 @@ impl Roots {
         ensures { (calls : List Call) → Stands self.now calls
             → HasTags (λ tag. holds_tag (world_of self.now) (pes_of self.now) calls tag page) result }
     {
-        search::tags_in(&self.holds, self.registers.pes, page)
+        search::tags_of(&self.holds, &self.by_root, self.registers.pes, page)
     }
 
     /// An ISB of the PE: its newest register values alone stay in use.
@@ -260,7 +266,8 @@ impl Roots {
         requires { pe_in self.old.pendings.issuers issuer ≡ true }
         ensures { Answers issuer dsb self.old self.new }
     {
-        hold::release(&mut self.holds, &mut self.pendings.waits, issuer, dsb);
+        let waits = &mut self.pendings.waits;
+        hold::release(&mut self.holds, &mut self.by_root, waits, issuer, dsb);
         pending::close(&mut self.pendings, issuer);
     }
 
@@ -282,8 +289,8 @@ impl Roots {
     }
 
     /// Makes room for a TLBI of the PE, of this scope and under this VMID, 0 to 65535. `NoMemory` where there is none.
-    /// They stand for what they stood for. After Ok, which tells whether the TLBI may take a tag that is held,
-    /// `issue_ready` takes that TLBI without memory.
+    /// They stand for what they stood for. After Ok, which tells whether the TLBI may take a tag from a PE that holds
+    /// it, `issue_ready` takes that TLBI without memory.
     pub fn prepare_issue(
         &mut self,
         alloc: Global,
@@ -294,14 +301,17 @@ impl Roots {
         ensures ready { IfOk result (λ takes. IsReady self.new issuer scope.now vmid takes) }
         ensures kept { Keeps self.old self.new }
     {
-        if !issue::takes_tags(scope) {
+        if !issue::takes_tags(scope)
+            || !issue::takes_held(&self.holds, &self.registers, issuer, scope, vmid)
+        {
             return Ok(false);
         }
-        issue::make_room(alloc, &mut self.pendings, &self.holds, issuer, scope, vmid)
+        issue::make_room(alloc, &mut self.pendings, &self.holds, issuer, scope, vmid)?;
+        Ok(true)
     }
 
     /// A TLBI of the PE, of this scope and under this VMID, 0 to 65535, for which there is room, and which may take a
-    /// tag that is held or doesn't. It takes no memory.
+    /// tag from a PE that holds it or doesn't. It takes no memory.
     pub fn issue_ready(&mut self, issuer: Pe, scope: &Scope, vmid: Option<u16>, takes: bool)
         requires pe { issuer < pes_of self.old }
         requires ready { IsReady self.old issuer scope.now vmid takes }
@@ -361,10 +371,12 @@ impl Roots {
     }
 
     /// Takes the value of a register that names what was judged, under the readable tags that it gives.
-    fn take(&mut self, pe: Pe, reg: Reg, load: &Load, seen: &[Reading])
+    fn take(&mut self, pe: Pe, reg: Reg, load: &RootValue, seen: &[Reading])
         requires known { pe < pes_of self.old }
         requires room { length (loads_of self.old.registers pe reg) < 9 }
         requires entries { (g : TheTag) → has_tag g seen.now ≡ true → has_entry self.old.holds g ≡ true }
+        requires listed { (g : TheTag) (r : ℕ) → has_reading g r seen.now ≡ true
+            → is_listed self.old.by_root r (tag_key g) ≡ true }
         ensures written { Writes pe reg load.now seen.now self.old self.new }
         ensures marked { IsCalm self.old.holds seen.now → Marks self.old.holds self.new.holds pe seen.now }
     {
@@ -376,13 +388,13 @@ impl Roots {
     /// What is known of a write of this value, where the register isn't full and no TLBI waits: that it changes the
     /// register alone, since the PE holds each tag, for its root, that the value makes readable anew; or that this one
     /// tag is all that it makes readable anew, and held by its root.
-    fn known(&self, pe: Pe, reg: Reg, load: &Load) -> Known
+    fn shortcut(&self, pe: Pe, reg: Reg, load: &RootValue) -> Shortcut
         requires { pe < pes_of self.now }
-        ensures held { result ≡ Known.Held → IsSettled pe reg load.now self.now }
-        ensures shared { (x : TheReading) → result ≡ Known.Shared x → IsShared pe reg load.now x self.now }
+        ensures held { result ≡ Shortcut.Held → IsSettled pe reg load.now self.now }
+        ensures shared { (x : TheReading) → result ≡ Shortcut.Shared x → IsShared pe reg load.now x self.now }
     {
         if !self.pendings.issuers.is_empty() || self.registers.is_full(pe, reg) {
-            return Known::Open;
+            return Shortcut::Open;
         }
         let world = self.registers.world;
         match anew::own_tag(world, is_first(reg), load.number) {
@@ -390,9 +402,9 @@ impl Roots {
             None => {
                 let other = self.registers.others(pe, reg);
                 if anew::holds_new(&self.holds, world, is_first(reg), load, other, pe) {
-                    Known::Held
+                    Shortcut::Held
                 } else {
-                    Known::Open
+                    Shortcut::Open
                 }
             }
         }
@@ -423,24 +435,24 @@ impl Roots {
     {
         let root = self.named_root(reg, value, null)?;
         let number = tag_number(value);
-        let load = Load { number, root };
-        match self.known(pe, reg, &load) {
-            Known::Held => {
+        let load = RootValue { number, root };
+        match self.shortcut(pe, reg, &load) {
+            Shortcut::Held => {
                 self.registers.put(pe, reg, load);
                 return Ok(());
             }
-            Known::Shared(reading) => {
+            Shortcut::Shared(reading) => {
                 self.take(pe, reg, &load, &[reading]);
                 return Ok(());
             }
-            Known::Open => {}
+            Shortcut::Open => {}
         }
         let seen = match self.registers.readings_with(alloc, pe, reg, &load) {
             Ok(seen) => seen,
             Err(_) => return Err(RootFault::NoMemory),
         };
         self.judge(pe, reg, &seen)?;
-        match hold::make_room(&mut self.holds, &seen) {
+        match hold::make_room(&mut self.holds, &mut self.by_root, alloc, &seen) {
             Ok(()) => {}
             Err(_) => return Err(RootFault::NoMemory),
         }

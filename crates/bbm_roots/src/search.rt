@@ -1,6 +1,8 @@
 //! Searches among the entries of the roots that hold tags.
 
 ghost use Rattle.std.specs.Prelude.{◌≡◌, ℕ, Bool, ◌&&◌, ◌||◌, nat_eq, true, false, Option, Some, None, IfSome};
+ghost use Rattle.std.specs.Prelude.{is_some};
+ghost use Rattle.indexmap.specs.IndexMap.{get};
 ghost use Rattle.bbm_regimes.specs.declared.regime.Tag.{Tag as TheTag};
 ghost use Rattle.bbm_tlbi_scope.specs.TagSets.{HasTags};
 ghost use Rattle.bbm_roots.specs.declared.reading.Reading.{Reading as TheReading};
@@ -9,7 +11,9 @@ ghost use Rattle.bbm_roots.specs.Readings.{is_other, is_reading, has_other as sp
 ghost use Rattle.bbm_roots.specs.Readings.{same_tag as spec_same_tag};
 ghost use Rattle.bbm_roots.specs.RootRegisters.{is_that};
 ghost use Rattle.bbm_roots.specs.LeastOf.{IsLeast, IsLeastWith, ReadingUpTo, TagUpTo};
+ghost use Rattle.bbm_roots.specs.TagsByRoot.{AreListed};
 
+use crate::by_root::{ByRoot, Tags};
 use crate::count::PeCount;
 use crate::hold::{Held, Holds, some_pe, tag_key};
 use crate::reading::{Reading, has_other, tag_rank};
@@ -120,6 +124,10 @@ pub fn least_conflict(holds: &Holds, n: PeCount, seen: &[Reading]) -> Option<Rea
     least
 }
 
+/// How many tags may be held for all of them to be looked at, and not those of a root alone. Source: project's own
+/// choice.
+const FEW: usize = 8;
+
 /// Whether the root holds the tag of the entry under this key at one of the first n PEs. Under the key of another tag
 /// it says nothing.
 fn is_held_under(key: u32, held: &Held, n: PeCount, root: Page) -> bool
@@ -184,7 +192,7 @@ fn is_many(set: TagSet) -> bool
 }
 
 /// The tags that the root holds at one of the first n PEs. It stops where it has found two.
-pub fn tags_in(holds: &Holds, n: PeCount, root: Page) -> TagSet
+fn tags_in(holds: &Holds, n: PeCount, root: Page) -> TagSet
     ensures { HasTags (λ g. spec.tag_in holds.now n g root) result }
 {
     let mut tags = TagSet::None;
@@ -199,4 +207,53 @@ pub fn tags_in(holds: &Holds, n: PeCount, root: Page) -> TagSet
         }
     }
     tags
+}
+
+/// The set with the tag with this key, where the root holds it at one of the first n PEs; None where it doesn't.
+fn with_key(set: TagSet, holds: &Holds, key: u32, n: PeCount, root: Page) -> Option<TagSet>
+    ensures added { IfSome result (λ more. (test : TheTag → Bool) → HasTags test set
+        → HasTags (λ g. test g || (nat_eq (spec.tag_key g) key && spec.tag_in holds.now n g root)) more) }
+    ensures none { result ≡ None → (g : TheTag) → (nat_eq (spec.tag_key g) key && spec.tag_in holds.now n g root)
+        ≡ false }
+{
+    match holds.get(&key) {
+        Some(held) => with_entry(set, key, held, n, root),
+        None => None,
+    }
+}
+
+/// The tags that the root holds at one of the first n PEs, each of which is one of these. It stops where it has found
+/// two.
+fn tags_among(tags: &Tags, holds: &Holds, n: PeCount, root: Page) -> TagSet
+    requires { (g : TheTag) → spec.tag_in holds.now n g root ≡ true → is_some (get nat_eq tags.now (spec.tag_key g))
+        ≡ true }
+    ensures { HasTags (λ g. spec.tag_in holds.now n g root) result }
+{
+    let mut found = TagSet::None;
+    for index in 0..tags.len() {
+        if let Some((key, _tag)) = tags.get_index(index) {
+            if let Some(more) = with_key(found, holds, *key, n, root) {
+                if is_many(more) {
+                    return TagSet::Many;
+                }
+                found = more;
+            }
+        }
+    }
+    found
+}
+
+/// The tags that the root holds at one of the first n PEs. Where more than a few are held, those that the root may hold
+/// are looked at alone.
+pub fn tags_of(holds: &Holds, by_root: &ByRoot, n: PeCount, root: Page) -> TagSet
+    requires { AreListed holds.now by_root.now }
+    ensures { HasTags (λ g. spec.tag_in holds.now n g root) result }
+{
+    if holds.len() <= FEW {
+        return tags_in(holds, n, root);
+    }
+    match by_root.get(&root.get()) {
+        Some(tags) => tags_among(tags, holds, n, root),
+        None => TagSet::None,
+    }
 }

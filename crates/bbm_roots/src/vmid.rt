@@ -7,7 +7,7 @@ ghost use Rattle.bbm_roots.specs.RootRegisters.{is_that};
 ghost use Rattle.bbm_roots.specs.RootTags as spec;
 
 use crate::fault::Unsynced;
-use crate::load::Load;
+use crate::load::RootValue;
 
 /// Whether the number is there and is this one.
 fn is_number(number: Option<u16>, other: u16) -> bool
@@ -39,7 +39,7 @@ fn lesser(least: Option<u16>, number: u16, than: Option<u16>) -> Option<u16>
 }
 
 /// The least VMID of the values other than this one.
-fn least_other(loads: &[Load], than: Option<u16>) -> Option<u16>
+fn least_other(loads: &[RootValue], than: Option<u16>) -> Option<u16>
     ensures { IsLeast UpTo (other_number loads.now than) result }
 {
     let mut least = None;
@@ -50,7 +50,7 @@ fn least_other(loads: &[Load], than: Option<u16>) -> Option<u16>
 }
 
 /// The one VMID of the values, 0 where there is no value; `Unsynced` with the two least where there are several.
-pub fn one_number(loads: &[Load]) -> Result<u16, Unsynced>
+pub fn one_number(loads: &[RootValue]) -> Result<u16, Unsynced>
     ensures judged { 0 < length loads.now → JudgesVmid (spec.one_number loads.now) loads.now result }
     ensures none { loads.now ≡ [] → result ≡ Ok 0 }
 {

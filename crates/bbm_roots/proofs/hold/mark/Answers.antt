@@ -1,6 +1,6 @@
 use Rattle.bbm_roots.proofs.Common.{◌≡◌, ◌+◌, ◌∙◌, ◌&&◌, ◌||◌, nat_eq, not, take, arith, ap, sym, cond, ℕ, List, Bool}
 use Rattle.bbm_roots.proofs.Common.{true, false, list_any, Tag, hold_in, has_reading, is_reading, is_other, is_of_tag}
-use Rattle.bbm_roots.proofs.Common.{same_tag, Reading, or_right}
+use Rattle.bbm_roots.proofs.Common.{same_tag, Reading, or_right, refl, proved, If, Is}
 use Rattle.bbm_roots.proofs.Bits.{same_tag-self}
 use Rattle.bbm_roots.proofs.Entries.{marked-step}
 use Rattle.bbm_roots.proofs.Lists.{any-next, any-front, none-front}
@@ -13,6 +13,12 @@ there test xs i x next e = any-front test (i + 1) xs (next ∙ or_right (list_an
 
 other-there : (y : Reading) (g : Tag) (r : ℕ) → same_tag y.tag g ≡ true → nat_eq y.root r ≡ false → is_other g r y ≡ true
 other-there y g r same here = ap (λ (b : Bool). b && not (nat_eq y.root r)) same ∙ ap not here
+
+-- one more reading: what is held was held before, or is one of the readings
+only-step : (same here now at old seen : Bool) → (now ≡ true → (old || seen) ≡ true) →
+    cond same (here && (now || at)) now ≡ true → (old || (seen || (same && here))) ≡ true
+only-step = proved 6 (λ same here now at old seen. If (If (Is now true) (Is (old || seen) true)) (If (Is (cond same
+    (here && (now || at)) now) true) (Is (old || (seen || (same && here))) true))) refl
 
 pub mark_one-requires : goal.mark_one-requires
 mark_one-requires c =
@@ -40,5 +46,10 @@ loop-reading-preserved c =
           (λ same here. (other same here).1 p) (λ same here. none-front (is_reading g r) i readings (other same here).0)
           ∙ ap (λ (b : Bool). hold_in old g r p || (nat_eq p c.args.pe && b))
           (sym (any-next (is_reading g r) readings i y (omega arith) c.reading-item.is));
+      only = λ g r p e.
+          ap (λ (b : Bool). hold_in old g r p || b) (any-next (is_reading g r) readings i y (omega arith) c.reading-item.is)
+          ∙ only-step (same_tag y.tag g) (nat_eq y.root r) (hold_in c.loop-reading.holds g r p) (nat_eq p c.args.pe)
+          (hold_in old g r p) (has_reading g r (take i readings)) (c.loop-reading.invariant.only g r p)
+          (sym (c.mark_one.ensures.bits g r p) ∙ e);
       entries = λ g. c.mark_one.ensures.entries g ∙ c.loop-reading.invariant.entries g;
     }

@@ -1,10 +1,10 @@
-use Rattle.bbm_roots.proofs.Common.{List, ◌∷◌, ◌≡◌, rules, Load, loads_in}
+use Rattle.bbm_roots.proofs.Common.{List, ◌∷◌, ◌≡◌, rules, RootValue, loads_in}
 use Rattle.bbm_roots.proofs.Columns.{changed, read}
 use Rattle.bbm_roots.proofs.registers.put.Goals as goal
 
 pub returns : goal.returns
 returns c = record {
-  loads = changed (λ (xs : List Load). c.args.load ∷ xs) _ _ _ c.index_mut.result.now c.put_front.new.loads c.get.ensures.value
+  loads = changed (λ (xs : List RootValue). c.args.load ∷ xs) _ _ _ c.index_mut.result.now c.put_front.new.loads c.get.ensures.value
       c.requires.known c.index_mut.ensures.value c.put_front.ensures;
   pes = search rules;
 }

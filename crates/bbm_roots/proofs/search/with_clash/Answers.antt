@@ -1,7 +1,8 @@
 use Rattle.bbm_roots.proofs.Common.{◌||◌, ◌&&◌, tag_in, is_clash, ReadingUpTo, is_reading, is_other, has_other}
 use Rattle.bbm_roots.proofs.Leasts.{least-same}
 use Rattle.bbm_roots.proofs.search.with_clash.Goals as goal
-use Rattle.bbm_lemmas.proofs.Bools.{or_regroup}
+use Rattle.std.proofs.Common.{sym}
+use Rattle.std.proofs.Math.Bool.{or_assoc}
 
 pub returns : goal.returns
 returns c = λ test h.
@@ -12,6 +13,7 @@ returns c = λ test h.
     least-same ReadingUpTo
     (λ x. (test x || (is_reading x.tag x.root y && has_other x.tag x.root seen)) || (is_other x.tag x.root y && tag_in holds n x.tag x.root))
     (λ x. test x || is_clash holds n seen x y)
-    (λ x. or_regroup (test x) (is_reading x.tag x.root y && has_other x.tag x.root seen) (is_other x.tag x.root y && tag_in holds n x.tag x.root))
+    (λ x. sym (or_assoc (test x) (is_reading x.tag x.root y && has_other x.tag x.root seen)
+    (is_other x.tag x.root y && tag_in holds n x.tag x.root)))
     c.with_holder.result
     (c.with_holder.ensures (λ x. test x || (is_reading x.tag x.root y && has_other x.tag x.root seen)) (c.with_reading.ensures test h))

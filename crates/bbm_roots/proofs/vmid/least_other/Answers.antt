@@ -1,5 +1,5 @@
 use Rattle.bbm_roots.proofs.Common.{◌≡◌, ◌+◌, take, arith, ap, sym, ◌||◌, List, take_all, UpTo, is_other_number}
-use Rattle.bbm_roots.proofs.Common.{other_number, Load}
+use Rattle.bbm_roots.proofs.Common.{other_number, RootValue}
 use Rattle.bbm_roots.proofs.Leasts.{least-same}
 use Rattle.bbm_roots.proofs.Lists.{any-next}
 use Rattle.bbm_roots.proofs.vmid.least_other.Goals as goal
@@ -20,4 +20,4 @@ returns c =
     let whole : take c.loop-load.load-index c.args.loads.now ≡ c.args.loads.now = take_all c.loop-load.load-index c.args.loads.now (omega arith) in
     least-same UpTo (other_number (take c.loop-load.load-index c.args.loads.now) c.args.than)
     (other_number c.args.loads.now c.args.than)
-    (λ n. ap (λ (ls : List Load). other_number ls c.args.than n) (sym whole)) c.loop-load.least c.loop-load.invariant
+    (λ n. ap (λ (ls : List RootValue). other_number ls c.args.than n) (sym whole)) c.loop-load.least c.loop-load.invariant

@@ -1,6 +1,6 @@
 use Rattle.bbm_roots.proofs.Common.{◌≡◌, ◌∙◌, ap, sym, refl, nat_eq, List, ◌∷◌, true, cond, ℕ, Tag, Isb, is_reading}
 use Rattle.bbm_roots.proofs.Common.{is_of_tag, newest, at_start, register_values, first_reg, second_reg, world_of}
-use Rattle.bbm_roots.proofs.Common.{reads, reads_for_some, Load}
+use Rattle.bbm_roots.proofs.Common.{reads, reads_for_some, RootValue}
 use Rattle.bbm_roots.proofs.Flat.{readings-isb, newest-same}
 use Rattle.bbm_roots.proofs.Rooted.{names-isb}
 use Rattle.bbm_roots.proofs.Steps.{holds-stay, awaited-stay}
@@ -18,11 +18,11 @@ returns c = record {
       (register_values calls p (second_reg world)) e in
       record {
         first = λ p lt.
-            c.sync.ensures.loads p ∙ ap (λ (xs : List Load). cond (nat_eq p c.args.pe) (newest xs) xs) (stands.first p lt);
+            c.sync.ensures.loads p ∙ ap (λ (xs : List RootValue). cond (nat_eq p c.args.pe) (newest xs) xs) (stands.first p lt);
         second = λ p lt.
-            c.sync-2.ensures.loads p ∙ ap (λ (xs : List Load). cond (nat_eq p c.args.pe) (newest xs) xs) (stands.second p lt);
+            c.sync-2.ensures.loads p ∙ ap (λ (xs : List RootValue). cond (nat_eq p c.args.pe) (newest xs) xs) (stands.second p lt);
         outside = λ p reg past.
-            ap (λ (xs : List Load). cond (nat_eq p c.args.pe) (newest xs) xs) (stands.outside p reg past)
+            ap (λ (xs : List RootValue). cond (nat_eq p c.args.pe) (newest xs) xs) (stands.outside p reg past)
             ∙ newest-same (nat_eq p c.args.pe) at_start;
         declared = stands.declared;
         count = stands.count;

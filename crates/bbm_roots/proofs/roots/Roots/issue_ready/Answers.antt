@@ -1,91 +1,92 @@
-use Rattle.bbm_roots.proofs.Common.{◌≡◌, ◌<◌, ◌≤◌, ◌∙◌, ap, sym, refl, Bool, ◌&&◌, nat_eq, nat_lt, List, true, false, ℕ}
-use Rattle.bbm_roots.proofs.Common.{⊎_elim, false≢true, cases_lt, lt-ltb, first_true, proved, If, Is, Tag}
-use Rattle.bbm_roots.proofs.Common.{takes_whole_tag, Call, Issue, loads_in, pending_in, has_pending, same_flag}
-use Rattle.bbm_roots.proofs.Common.{reads_tag, register_values, first_reg, second_reg, world_of, pes_of, reads}
-use Rattle.bbm_roots.proofs.Common.{reads_for_some, holds_at, Load, and-false}
+use Rattle.bbm_roots.proofs.Common.{◌≡◌, ◌<◌, ◌≤◌, ◌∙◌, ap, sym, refl, Bool, ◌&&◌, ◌||◌, nat_eq, nat_lt, List, true}
+use Rattle.bbm_roots.proofs.Common.{false}
+use Rattle.bbm_roots.proofs.Common.{ℕ, Option, ⊎_elim, false≢true, cases_lt, lt-ltb, first_true, Tag, takes_whole_tag}
+use Rattle.bbm_roots.proofs.Common.{Issue, loads_in, hold_in, pending_in, has_pending, same_flag, unread_at, reads_tag}
+use Rattle.bbm_roots.proofs.Common.{register_values, first_reg, second_reg, world_of, pes_of, reads, holds_at}
+use Rattle.bbm_roots.proofs.Common.{RootValue}
+use Rattle.bbm_roots.proofs.Common.{or-false}
+use Rattle.bbm_roots.proofs.Common.{Registers, Roots, ◌∷◌}
+use Rattle.bbm_tlbi_scope.specs.declared.scope.Scope.{Scope}
+use Rattle.bbm_roots.specs.RootChanges.{SameDeclared, Takes}
 use Rattle.bbm_roots.specs.RootTags.{reaches}
 use Rattle.bbm_roots.proofs.Flat.{reads_tag-is}
-use Rattle.bbm_roots.proofs.Steps.{holds-stay, awaited-stay, noted}
+use Rattle.bbm_roots.proofs.Changes.{log-same, room-same}
+use Rattle.bbm_roots.proofs.Made.{stands-made}
+use Rattle.bbm_roots.proofs.Steps.{holds-stay, noted}
 use Rattle.bbm_roots.proofs.Bits.{and_right}
 use Rattle.bbm_roots.proofs.PendingBits.{entry-there}
 use Rattle.bbm_roots.proofs.roots.Roots.issue_ready.Goals as goal
 
-pub returns : goal.returns
-returns c = record {
+-- a TLBI changes nothing but what waits: it is noted where there is an entry, which is where it takes a tag from a PE
+issued : (old new : Roots) (issuer : ℕ) (scope : Scope) (vmid : Option ℕ) (has : ℕ → Bool → Tag → Bool) →
+    new.registers ≡ old.registers → new.holds ≡ old.holds → SameDeclared old new →
+    ((q : ℕ) (b : Bool) (g : Tag) (r p : ℕ) → hold_in old.holds g r p ≡ true →
+    (nat_eq q issuer && same_flag scope.broadcast b && takes_whole_tag scope vmid g) ≡ true →
+    unread_at old.registers issuer scope.broadcast g p ≡ true → has q b g ≡ true) →
+    ((q : ℕ) (b : Bool) (g : Tag) (r p : ℕ) → hold_in old.holds g r p ≡ true → pending_in new.pendings q b g p
+    ≡ (pending_in old.pendings q b g p || (has q b g && ((nat_eq q issuer && same_flag scope.broadcast b
+    && takes_whole_tag scope vmid g) && unread_at old.registers issuer scope.broadcast g p)))) →
+    Takes (Issue issuer scope vmid) old new
+issued old new issuer scope vmid has registers holds roots there notes = record {
   taken = λ calls stands.
-      let world = world_of c.args.self.now in
+      let world = world_of old in
+      let log = log-same old new registers in
       let same = λ (g : Tag) (r p : ℕ) (e : reads world calls p g r ≡ true). e in
-      let stay = λ (g : Tag) (r p : ℕ). holds-stay world (Issue c.args.issuer c.args.scope.now c.args.vmid) calls g r p (same g r p) refl in
-      record {
-        first = stands.first;
-        second = stands.second;
+      let stay = λ (g : Tag) (r p : ℕ). holds-stay world (Issue issuer scope vmid) calls g r p (same g r p) refl in
+      stands-made new (Issue issuer scope vmid ∷ calls) world (pes_of old) log.world log.pes (record {
+        first = λ p lt. ap (λ (r : Registers). loads_in r.first.items p) registers ∙ stands.first p lt;
+        second = λ p lt. ap (λ (r : Registers). loads_in r.second.items p) registers ∙ stands.second p lt;
         outside = stands.outside;
-        declared = stands.declared;
-        count = stands.count;
-        locks = stands.locks;
+        declared = λ q. let d = roots.declared in let s = stands.declared q in cc;
+        count = let d = roots.declared in let s = stands.count in cc;
+        locks = λ none. stands.locks (sym roots.locks ∙ none);
         apart = stands.apart;
         named = stands.named;
         holders = λ g r p held. stands.holders g r p (sym (stay g r p) ∙ held);
-        holds = λ g r p. stands.holds g r p ∙ sym (stay g r p);
+        holds = λ g r p. let h = holds in let s = stands.holds g r p ∙ sym (stay g r p) in cc;
         inside = λ g r p past. stay g r p ∙ stands.inside g r p past;
         pendings = λ q b g r p after.
             let held : holds_at world calls g r p ≡ true = sym (stay g r p) ∙ after in
-            let below : p < pes_of c.args.self.now =
-            ⊎_elim (λ (lt : p < pes_of c.args.self.now). lt)
-            (λ (past : pes_of c.args.self.now ≤ p). absurd (false≢true (sym (stands.inside g r p past) ∙ held)))
-            (cases_lt p (pes_of c.args.self.now)) in
-            c.note.ensures q b g r p p (stands.holds g r p ∙ held)
-            ∙ noted world c.args.issuer c.args.scope.now c.args.vmid calls q b g p
-            (pending_in c.args.self.now.pendings q b g p) (has_pending c.args.self.now.pendings q b g)
-            (nat_lt p (pes_of c.args.self.now)) (reaches c.args.scope.now c.args.issuer p)
-            (reads_tag world (loads_in c.args.self.now.registers.first.items p) (loads_in c.args.self.now.registers.second.items p) g)
-            (stands.pendings q b g r p held)
-            (λ key. entry-there q c.args.issuer c.args.scope.now.broadcast b (takes_whole_tag c.args.scope.now c.args.vmid g) g
-            c.args.self.now.pendings key
-            (λ k. and_right c.args.takes (has_pending c.args.self.now.pendings c.args.issuer c.args.scope.now.broadcast g)
-            (c.requires.ready g r p (stands.holds g r p ∙ held) k)))
-            (lt-ltb p (pes_of c.args.self.now) below)
-            refl
-            (ap (λ (xs : List Load). reads_tag world xs (loads_in c.args.self.now.registers.second.items p) g) (stands.first p below)
-            ∙ ap (λ (ys : List Load). reads_tag world (register_values calls p (first_reg world)) ys g) (stands.second p below)
-            ∙ sym (reads_tag-is world (register_values calls p (first_reg world)) (register_values calls p (second_reg world)) g));
-      };
-  prepared = λ room. room;
-  log = record { pes = refl; world = refl };
+            let here : hold_in old.holds g r p ≡ true = stands.holds g r p ∙ held in
+            let below : p < pes_of old =
+            ⊎_elim (λ (lt : p < pes_of old). lt)
+            (λ (past : pes_of old ≤ p). absurd (false≢true (sym (stands.inside g r p past) ∙ held)))
+            (cases_lt p (pes_of old)) in
+            notes q b g r p here
+            ∙ noted world issuer scope vmid calls q b g p (pending_in old.pendings q b g p) (has q b g)
+            (nat_lt p (pes_of old)) (reaches scope issuer p)
+            (reads_tag world (loads_in old.registers.first.items p) (loads_in old.registers.second.items p) g)
+            (stands.pendings q b g r p held) (there q b g r p here) (lt-ltb p (pes_of old) below) refl
+            (ap (λ (xs : List RootValue). reads_tag world xs (loads_in old.registers.second.items p) g) (stands.first p below)
+            ∙ ap (λ (ys : List RootValue). reads_tag world (register_values calls p (first_reg world)) ys g)
+            (stands.second p below)
+            ∙ sym (reads_tag-is world (register_values calls p (first_reg world))
+            (register_values calls p (second_reg world)) g));
+      });
+  prepared = room-same old new roots.declared;
+  log = log-same old new registers;
 }
 
+pub returns : goal.returns
+returns c =
+    let old = c.args.self.now in
+    let scope = c.args.scope.now in
+    issued old _ c.args.issuer scope c.args.vmid (has_pending old.pendings) refl refl
+    (record { declared = refl; locks = refl })
+    (λ q b g r p held key lost. entry-there q c.args.issuer scope.broadcast b (takes_whole_tag scope c.args.vmid g) g
+    old.pendings key
+    (λ k. and_right c.args.takes (has_pending old.pendings c.args.issuer scope.broadcast g)
+    (c.requires.ready g r p held k lost)))
+    (λ q b g r p held. c.note.ensures q b g r p p held)
+
 pub returns-then-not-takes : goal.returns-then-not-takes
-returns-then-not-takes c = record {
-  taken = λ calls stands.
-      let world = world_of c.args.self.now in
-      let call : Call = Issue c.args.issuer c.args.scope.now c.args.vmid in
-      let stay = λ (g : Tag) (r p : ℕ). holds-stay world call calls g r p (λ (e : reads world calls p g r ≡ true). e) refl in
-      record {
-        first = stands.first;
-        second = stands.second;
-        outside = stands.outside;
-        declared = stands.declared;
-        count = stands.count;
-        locks = stands.locks;
-        apart = stands.apart;
-        named = stands.named;
-        holders = λ g r p held. stands.holders g r p (sym (stay g r p) ∙ held);
-        holds = λ g r p. stands.holds g r p ∙ sym (stay g r p);
-        inside = λ g r p past. stay g r p ∙ stands.inside g r p past;
-        pendings = λ q b g r p held.
-            let before : holds_at world calls g r p ≡ true = sym (stay g r p) ∙ held in
-            let waits = has_pending c.args.self.now.pendings c.args.issuer c.args.scope.now.broadcast g in
-            let untaken : takes_whole_tag c.args.scope.now c.args.vmid g ≡ false
-            = proved 1 (λ t. If (If (Is t true) (Is false true)) (Is t false)) refl
-            (takes_whole_tag c.args.scope.now c.args.vmid g) (λ k. sym c.if-not-takes.true
-            ∙ first_true c.args.takes waits (c.requires.ready g r p (stands.holds g r p ∙ before) k)) in
-            stands.pendings q b g r p before
-            ∙ sym (awaited-stay world call calls q b g p (λ (e : reads_for_some world calls p g ≡ true). e)
-            (ap (λ (t : Bool). (nat_eq q c.args.issuer && same_flag c.args.scope.now.broadcast b && t) && reaches c.args.scope.now c.args.issuer p)
-            untaken
-            ∙ ap (λ (t : Bool). t && reaches c.args.scope.now c.args.issuer p) (and-false (nat_eq q c.args.issuer && same_flag c.args.scope.now.broadcast b)))
-            refl);
-      };
-  prepared = λ room. room;
-  log = record { pes = refl; world = refl };
-}
+returns-then-not-takes c =
+    let old = c.args.self.now in
+    let scope = c.args.scope.now in
+    issued old old c.args.issuer scope c.args.vmid (λ q b g. false) refl refl
+    (record { declared = refl; locks = refl })
+    (λ q b g r p held key lost. sym c.if-not-takes.true
+    ∙ first_true c.args.takes (has_pending old.pendings c.args.issuer scope.broadcast g)
+    (c.requires.ready g r p held
+    (and_right (nat_eq q c.args.issuer && same_flag scope.broadcast b) (takes_whole_tag scope c.args.vmid g) key) lost))
+    (λ q b g r p held. sym (or-false (pending_in old.pendings q b g p)))

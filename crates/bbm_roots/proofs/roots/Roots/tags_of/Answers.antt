@@ -9,4 +9,4 @@ returns c = λ calls stands.
     tags-same (λ g. tag_in roots.holds (pes_of roots) g c.args.page)
     (λ g. holds_tag (world_of roots) (pes_of roots) calls g c.args.page)
     (λ g. sym (tag-held roots.holds (world_of roots) (pes_of roots) calls stands.holds g c.args.page))
-    c.tags_in.result c.tags_in.ensures
+    c.tags_of.result c.tags_of.ensures

@@ -1,13 +1,13 @@
 use Rattle.bbm_roots.proofs.Common.{◌≡◌, ◌∙◌, ap, sym, refl, Bool, ◌&&◌, ◌||◌, not, nat_eq, List, [], ◌∷◌, false}
 use Rattle.bbm_roots.proofs.Common.{loads_in, conflict_in, IsCalm, readings_after, has_reading, has_tag, Call, Writes}
-use Rattle.bbm_roots.proofs.Common.{load_of, Stands, world_of, pes_of, Load, Reading, Roots}
+use Rattle.bbm_roots.proofs.Common.{load_of, Stands, world_of, pes_of, RootValue, Reading}
 use Rattle.std.proofs.Common.{Ok, Err}
 use Rattle.std.proofs.lemmas.Result.{err_from_is_err_and}
 use Rattle.bbm_roots.proofs.Changes.{room-same}
 use Rattle.bbm_roots.proofs.Conflicts.{calm-from}
 use Rattle.bbm_roots.proofs.Judged.{write-judged}
 use Rattle.bbm_roots.proofs.Settled.{held-after, no-clash, held-stays}
-use Rattle.bbm_roots.proofs.Shared.{calm-one, held-somewhere, marks-all}
+use Rattle.bbm_roots.proofs.Shared.{calm-one, held-somewhere, marks-all, tag-listed}
 use Rattle.bbm_roots.proofs.Taken.{stands-taken}
 use Rattle.bbm_roots.proofs.Written.{load-is}
 use Rattle.bbm_roots.proofs.roots.Roots.write_reg.Goals as goal
@@ -15,27 +15,26 @@ use Rattle.bbm_roots.proofs.roots.Roots.write_reg.Goals as goal
 pub returns-in-Held-clause-tried : goal.returns-in-Held-clause-tried
 returns-in-Held-clause-tried c =
     let old = c.args.self.now in
-    let new : Roots = record old { registers = c.put.new.self } in
     let pe = c.args.pe in
     let reg = c.args.reg in
-    let load : Load = record { number = c.tag_number-number.result; root = c.in_ok-root.root } in
-    let settled = c.known.ensures.held c.in-Held.is in
+    let load : RootValue = record { number = c.tag_number-number.result; root = c.in_ok-root.root } in
+    let settled = c.shortcut.ensures.held c.in-Held.is in
     let seen = readings_after old.registers pe reg load in
-    let written : Writes pe reg load seen old new = record {
-      loads = c.put.ensures;
-      pendings = λ q b g p.
-          settled.quiet q b g p
-          ∙ sym (ap (λ (w : Bool). w && not (nat_eq p pe && has_tag g seen)) (settled.quiet q b g p));
-      roots = record { declared = refl; locks = refl };
-    } in
     record {
       taken = record {
         taken = λ calls stands.
             let is_load : load ≡ load_of reg c.args.value c.args.null =
             load-is c.tag_number-number.result c.in_ok-root.root reg c.args.value c.args.null c.tag_number-number.ensures
             (c.in_ok-root.ensures.named calls stands) in
-            stands-taken old new pe reg c.args.value c.args.null calls load seen stands c.requires.known
-            c.requires.of_world is_load (c.in_ok-root.ensures.found calls stands) refl written
+            stands-taken old _ pe reg c.args.value c.args.null calls load seen stands c.requires.known
+            c.requires.of_world is_load (c.in_ok-root.ensures.found calls stands) refl
+            (record {
+              loads = c.put.ensures;
+              pendings = λ q b g p.
+                  settled.quiet q b g p
+                  ∙ sym (ap (λ (w : Bool). w && not (nat_eq p pe && has_tag g seen)) (settled.quiet q b g p));
+              roots = record { declared = refl; locks = refl };
+            })
             (held-stays old.holds pe seen (held-after old pe reg load calls stands c.requires.known settled.held));
         prepared = λ room. room;
         log = record { pes = c.put.ensures.pes; world = c.put.ensures.world };
@@ -48,14 +47,14 @@ returns-in-Held-clause-judged c = λ calls stands.
     let old = c.args.self.now in
     let pe = c.args.pe in
     let reg = c.args.reg in
-    let load : Load = record { number = c.tag_number-number.result; root = c.in_ok-root.root } in
+    let load : RootValue = record { number = c.tag_number-number.result; root = c.in_ok-root.root } in
     let is_load : load ≡ load_of reg c.args.value c.args.null =
     load-is c.tag_number-number.result c.in_ok-root.root reg c.args.value c.args.null c.tag_number-number.ensures
     (c.in_ok-root.ensures.named calls stands) in
     let first = loads_in old.registers.first.items pe in
     let second = loads_in old.registers.second.items pe in
     let seen = readings_after old.registers pe reg load in
-    let settled = c.known.ensures.held c.in-Held.is in
+    let settled = c.shortcut.ensures.held c.in-Held.is in
     let held = held-after old pe reg load calls stands c.requires.known settled.held in
     write-judged (world_of old) (pes_of old) pe reg c.args.value c.args.null calls load first second seen old.holds
     c.requires.known c.requires.of_world is_load (stands.first pe c.requires.known) (stands.second pe c.requires.known)
@@ -63,7 +62,13 @@ returns-in-Held-clause-judged c = λ calls stands.
     (refl, no-clash old.holds pe seen (λ g r k. (pe, held g r k)) (pes_of old), settled.room)
 
 pub take-requires-clause-room : goal.take-requires-clause-room
-take-requires-clause-room c = (c.known.ensures.shared c.in-Shared.reading c.in-Shared.is).room
+take-requires-clause-room c = (c.shortcut.ensures.shared c.in-Shared.reading c.in-Shared.is).room
+
+pub take-requires-clause-listed : goal.take-requires-clause-listed
+take-requires-clause-listed c =
+    let reading = c.in-Shared.reading in
+    let load : RootValue = record { number = c.tag_number-number.result; root = c.in_ok-root.root } in
+    tag-listed c.args.self.now c.args.pe c.args.reg load reading (c.shortcut.ensures.shared reading c.in-Shared.is)
 
 pub returns-in-Shared-clause-tried : goal.returns-in-Shared-clause-tried
 returns-in-Shared-clause-tried c =
@@ -71,9 +76,9 @@ returns-in-Shared-clause-tried c =
     let new = c.take.new.self in
     let pe = c.args.pe in
     let reg = c.args.reg in
-    let load : Load = record { number = c.tag_number-number.result; root = c.in_ok-root.root } in
+    let load : RootValue = record { number = c.tag_number-number.result; root = c.in_ok-root.root } in
     let reading = c.in-Shared.reading in
-    let shared = c.known.ensures.shared reading c.in-Shared.is in
+    let shared = c.shortcut.ensures.shared reading c.in-Shared.is in
     let seen = readings_after old.registers pe reg load in
     let written : Writes pe reg load seen old new = record {
       loads = c.take.ensures.written.loads;
@@ -107,7 +112,7 @@ returns-in-Shared-clause-judged c = λ calls stands.
     let old = c.args.self.now in
     let pe = c.args.pe in
     let reg = c.args.reg in
-    let load : Load = record { number = c.tag_number-number.result; root = c.in_ok-root.root } in
+    let load : RootValue = record { number = c.tag_number-number.result; root = c.in_ok-root.root } in
     let is_load : load ≡ load_of reg c.args.value c.args.null =
     load-is c.tag_number-number.result c.in_ok-root.root reg c.args.value c.args.null c.tag_number-number.ensures
     (c.in_ok-root.ensures.named calls stands) in
@@ -115,7 +120,7 @@ returns-in-Shared-clause-judged c = λ calls stands.
     let second = loads_in old.registers.second.items pe in
     let seen = readings_after old.registers pe reg load in
     let reading = c.in-Shared.reading in
-    let shared = c.known.ensures.shared reading c.in-Shared.is in
+    let shared = c.shortcut.ensures.shared reading c.in-Shared.is in
     write-judged (world_of old) (pes_of old) pe reg c.args.value c.args.null calls load first second seen old.holds
     c.requires.known c.requires.of_world is_load (stands.first pe c.requires.known) (stands.second pe c.requires.known)
     refl stands.holds (c.in_ok-root.ensures.found calls stands) {A = Unit {0}} (Ok tt) (
@@ -132,7 +137,7 @@ returns-clause-tried c =
     let pe = c.args.pe in
     let reg = c.args.reg in
     let seen = c.deref-3.result.now in
-    let load : Load = record { number = c.tag_number-number.result; root = c.in_ok-root.root } in
+    let load : RootValue = record { number = c.tag_number-number.result; root = c.in_ok-root.root } in
     let clear : (x : Reading) → conflict_in old.holds (pes_of old) seen x ≡ false = λ x.
     ap (λ (xs : List Reading). conflict_in old.holds (pes_of old) xs x) (c.deref-3.ensures ∙ sym c.deref.ensures)
     ∙ c.in_ok-judge.ensures.1 x in
@@ -171,7 +176,7 @@ pub returns-clause-judged : goal.returns-clause-judged
 returns-clause-judged c = λ calls stands.
     let old = c.args.self.now in
     let pe = c.args.pe in
-    let load : Load = record { number = c.tag_number-number.result; root = c.in_ok-root.root } in
+    let load : RootValue = record { number = c.tag_number-number.result; root = c.in_ok-root.root } in
     let is_load : load ≡ load_of c.args.reg c.args.value c.args.null =
     load-is c.tag_number-number.result c.in_ok-root.root c.args.reg c.args.value c.args.null c.tag_number-number.ensures
     (c.in_ok-root.ensures.named calls stands) in
@@ -187,7 +192,7 @@ pub returns-in_err-judge-clause-judged : goal.returns-in_err-judge-clause-judged
 returns-in_err-judge-clause-judged c = λ calls stands.
     let old = c.args.self.now in
     let pe = c.args.pe in
-    let load : Load = record { number = c.tag_number-number.result; root = c.in_ok-root.root } in
+    let load : RootValue = record { number = c.tag_number-number.result; root = c.in_ok-root.root } in
     let is_load : load ≡ load_of c.args.reg c.args.value c.args.null =
     load-is c.tag_number-number.result c.in_ok-root.root c.args.reg c.args.value c.args.null c.tag_number-number.ensures
     (c.in_ok-root.ensures.named calls stands) in

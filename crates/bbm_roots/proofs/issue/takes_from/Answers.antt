@@ -1,0 +1,32 @@
+use Rattle.bbm_roots.proofs.Common.{◌≡◌, ◌∙◌, Bool, true, false, ◌&&◌, ◌||◌, not, nat_eq, nat_lt, refl, sym, ap}
+use Rattle.bbm_roots.proofs.Common.{ℕ, false≢true, proved, If, Is, Option, Some, None, is_some, rules, get, tag_key}
+use Rattle.bbm_roots.proofs.Common.{entry_bit, is_hold, Held, IsLeast, UpTo}
+use Rattle.bbm_regimes.specs.PeMask.{pe_in}
+use Rattle.bbm_roots.specs.LoadsOf.{reads_at}
+use Rattle.bbm_roots.proofs.Bits.{and_right}
+use Rattle.bbm_roots.proofs.issue.takes_from.Goals as goal
+
+-- where one passes there is a least
+some-least : (test : ℕ → Bool) (o : Option ℕ) → IsLeast UpTo test o → (p : ℕ) → test p ≡ true → is_some o ≡ true
+some-least test None none p e = absurd (false≢true (sym (none p) ∙ e))
+some-least test (Some x) least p e = refl
+
+among : (below reached held unread of_pe : Bool) → (below ≡ true → reached ≡ of_pe) → held ≡ true →
+    (below && (of_pe && unread)) ≡ true → (below && ((reached && held) && unread)) ≡ true
+among = proved 5 (λ b r h n s. If (If (Is b true) (Is r s)) (If (Is h true) (If (Is (b && (s && n)) true) (Is (b && ((r
+    && h) && n)) true)))) refl
+
+pub returns-in-Some : goal.returns-in-Some
+returns-in-Some c = λ r p held lost.
+    let registers = c.args.registers.now in
+    let tag = c.args.tag in
+    let x : Held = c.in-Some.held.now in
+    let found : get nat_eq c.args.holds.now (tag_key tag) ≡ Some x = search rules in
+    let there : pe_in x.pes p ≡ true =
+    and_right (is_hold tag r x) (pe_in x.pes p) (sym (ap (entry_bit tag r p) found) ∙ held) in
+    c.is_some.ensures
+    ∙ some-least (λ q. nat_lt q registers.pes && (pe_in c.and-pes.result q && not (reads_at registers q tag)))
+    c.first_unread.result c.first_unread.ensures p
+    (ap (λ (b : Bool). nat_lt p registers.pes && (b && not (reads_at registers p tag))) (c.and-pes.ensures p)
+    ∙ among (nat_lt p registers.pes) (pe_in c.reached.result p) (pe_in x.pes p) (not (reads_at registers p tag))
+    (c.args.broadcast || nat_eq p c.args.issuer) (c.reached.ensures p) there lost)
