@@ -1,12 +1,11 @@
 -- The events that attach pages, and the writes that attach none.
-use Rattle.bbm_rules.proofs.Common.{◌≡◌, ℕ, zero, suc, ◌<◌, ◌⊎◌, not, Bool, true, false, cond, ◌||◌, ◌==◌, List, []}
-use Rattle.bbm_rules.proofs.Common.{◌∷◌, ◌++◌, Option, Some, None, is_some, is_none, Contains, flat_map}
-use Rattle.bbm_rules.proofs.Common.{option_and_then, option_to_list, refl, sym, ◌∙◌, ap, inl, inr, true≢false, arith}
-use Rattle.bbm_rules.proofs.Common.{Kind, core_of, desc_of, form_of, form_11, form_01, desc_as, type_bits, Desc, Event}
-use Rattle.bbm_rules.proofs.Common.{Root, Write, Attached, attached_by, attached_from, Patterns, if_so, least, Noted}
-use Rattle.bbm_rules.proofs.Common.{events_of, is_fresh, is_null, page_of, root_pages, start_of, attached_with}
-use Rattle.bbm_rules.proofs.Common.{bad_ends, made_with, not_fresh, untracked_page, written_with, Node, held_at}
-use Rattle.bbm_rules.proofs.Common.{in_tree, next_in, next_of, node_below, node_of, nodes_of_root, In, from_contains}
+use Rattle.bbm_rules.proofs.Common.{◌≡◌, ℕ, suc, ◌<◌, ◌⊎◌, not, Bool, true, false, cond, ◌||◌, List, [], ◌∷◌, ◌++◌}
+use Rattle.bbm_rules.proofs.Common.{Option, Some, None, is_some, is_none, Contains, flat_map, option_and_then}
+use Rattle.bbm_rules.proofs.Common.{option_to_list, refl, sym, ◌∙◌, ap, inl, inr, true≢false, arith, Kind, core_of}
+use Rattle.bbm_rules.proofs.Common.{desc_of, Desc, Event, Root, Write, Attached, attached_by, attached_from, Patterns}
+use Rattle.bbm_rules.proofs.Common.{if_so, least, Noted, events_of, is_fresh, is_null, page_of, root_pages, start_of}
+use Rattle.bbm_rules.proofs.Common.{attached_with, bad_ends, made_with, not_fresh, untracked_page, written_with, Node}
+use Rattle.bbm_rules.proofs.Common.{held_at, in_tree, next_of, node_below, node_of, nodes_of_root, In, from_contains}
 use Rattle.bbm_rules.proofs.Common.{to_contains}
 use Rattle.bbm_events.specs.Heading.{Heading}
 use Rattle.bbm_histories.specs.TreeChanges.{Proper}
@@ -15,21 +14,7 @@ use Rattle.bbm_replay_trees.specs.Judging.{Judging}
 use Rattle.bbm_replay_trees.specs.Told.{AllFit, SameFresh, SameNull, SameValues, notes}
 use Rattle.bbm_replay_trees.proofs.JudgeLemmas.{judging, no_leaf}
 use Rattle.bbm_replay_trees.proofs.PathLemmas.{Starts}
-
--- a table stands above level 3
-pub table_level : (kind : Kind) (level value next : ℕ) → next_of kind level value ≡ Some next → level < 3
-table_level kind zero value next e = omega arith
-table_level kind (suc zero) value next e = omega arith
-table_level kind (suc (suc zero)) value next e = omega arith
-table_level kind (suc (suc (suc level))) value next e = absurd (by (type_bits value == 3) (type_bits value == 1) e)
-  where
-    deep : ℕ
-    deep = suc (suc (suc level))
-
-    by : (c d : Bool) → next_in (desc_as (cond c (form_11 (suc (suc (suc level)))) (cond d (form_01 (suc (suc (suc level)))) Rattle.bbm_descriptor.specs.Descriptor.invalid)) kind (suc (suc (suc level))) value) ≡ Some next → ⊥
-    by true d k = let none : None ≡ Some next = k in cc
-    by false true k = let none : None ≡ Some next = k in cc
-    by false false k = let none : None ≡ Some next = k in cc
+use Rattle.bbm_rules.proofs.TreeLaw.{table_level}
 
 module _ (heading : Heading) (b : Below heading) (h : List Event) where
   abbrev marks : List Noted

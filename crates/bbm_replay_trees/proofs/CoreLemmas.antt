@@ -11,7 +11,7 @@ use Rattle.bbm_rules.specs.Tree.{tree}
 use Rattle.bbm_replay_trees.specs.BelowTrees.{Below}
 use Rattle.bbm_replay_trees.specs.Told.{SameCores, SameNodes, SameValues, core_after, notes}
 use Rattle.bbm_replay_trees.proofs.NodeLemmas.{fresh_outside}
-use Rattle.bbm_replay_trees.proofs.PageLemmas.{eq_swap}
+use Rattle.bbm_lemmas.proofs.Numbers.{same_swapped}
 
 module _ (heading : Heading) (b : Below heading) (h : List Event) where
   abbrev marks : List Noted
@@ -38,7 +38,7 @@ module _ (heading : Heading) (b : Below heading) (h : List Event) where
       ≡ option_and_then (core_of n.kind n.level)
       (held_after heading Patterns n.kind n.level a e (note heading Patterns marks e) marks)
   stays (Write pe place v) kept no_dsb n a at =
-      ap (λ (c : Bool). cond (c && is_valid n.kind n.level v) (core_of n.kind n.level v) before) (eq_swap a place)
+      ap (λ (c : Bool). cond (c && is_valid n.kind n.level v) (core_of n.kind n.level v) before) (same_swapped a place)
       ∙ by (place == a && is_valid n.kind n.level v)
     where
       before : Option Core

@@ -1,8 +1,8 @@
 -- The number of restless places.
-use Rattle.bbm_rules.proofs.Common.{◌≡◌, ℕ, zero, suc, ◌<◌, ◌≤◌, ◌⊎◌, not, Bool, true, false, ◌&&◌, List, [], ◌∷◌}
-use Rattle.bbm_rules.proofs.Common.{length, Option, Some, None, is_some, filter, map, refl, sym, ◌∙◌, ap, subst, inl}
-use Rattle.bbm_rules.proofs.Common.{inr, true≢false, arith, and_parts, cases_eq, option_map_or, is_valid, Event, Write}
-use Rattle.bbm_rules.proofs.Common.{Patterns, below, events_of, is_restless, page_of, Node, held_at, node_of, value_of}
+use Rattle.bbm_rules.proofs.Common.{◌≡◌, ℕ, zero, suc, ◌<◌, ◌≤◌, not, Bool, true, false, ◌&&◌, List, [], ◌∷◌, length}
+use Rattle.bbm_rules.proofs.Common.{Option, Some, None, is_some, filter, map, refl, sym, ◌∙◌, ap, subst, inl, inr}
+use Rattle.bbm_rules.proofs.Common.{true≢false, arith, and_parts, option_map_or, is_valid, Event, Write, Patterns}
+use Rattle.bbm_rules.proofs.Common.{below, events_of, is_restless, page_of, Node, held_at, node_of, value_of}
 use Rattle.bbm_rules.proofs.Common.{written_places, In, from_filter, from_map, in_map, to_filter}
 use Rattle.std.proofs.lemmas.List.Sums.{length-filter}
 use Rattle.bbm_events.specs.Heading.{Heading}
@@ -10,7 +10,7 @@ use Rattle.bbm_rules.specs.Phases.{restless_of}
 use Rattle.bbm_replay_trees.specs.BelowTrees.{Below}
 use Rattle.bbm_replay_trees.specs.Restless.{Numbers}
 use Rattle.bbm_replay_trees.specs.Told.{notes}
-use Rattle.bbm_lemmas.proofs.Words.{Apart, below_less, filter_apart, with_apart}
+use Rattle.bbm_lemmas.proofs.Words.{Apart, below_less, filter_apart, with_apart, in_below}
 use Rattle.bbm_replay_trees.proofs.HangLemmas.{held_written}
 
 -- ---- lists without repeats
@@ -55,16 +55,6 @@ same_length xs ys a b to from =
     let one : length xs ≤ length ys = part_length xs ys a to in
     let two : length ys ≤ length xs = part_length ys xs b from in
     omega (arith, one, two)
-
--- ---- the numbers below a count
-
-to_below : (n i : ℕ) → i < n → In (below n) i
-to_below zero i l = absurd (omega (arith, l))
-to_below (suc n) i l = by (cases_eq n i) (to_below n i)
-  where
-    by : (n ≡ i) ⊎ (n ≡ i → ⊥) → (i < n → In (below n) i) → (n ≡ i) ⊎ In (below n) i
-    by (inl e) older = inl e
-    by (inr other) older = inr (older (omega (arith, l, other)))
 
 -- ---- restless places
 
@@ -115,5 +105,5 @@ module _ (heading : Heading) (b : Below heading) (h : List Event) where
       counted (map place (below count)) (numbers_apart place count count (omega arith) k.once)
       (λ a i. let f = from_map place (below count) a i in
       subst (λ (x : ℕ). is_one x ≡ true) f.2 (k.restless f.0 (below_less count f.0 f.1)))
-      (λ a r. let f = k.each a r in subst (In (map place (below count))) f.2 (in_map place (below count) f.0 (to_below count f.0 f.1)))
+      (λ a r. let f = k.each a r in subst (In (map place (below count))) f.2 (in_map place (below count) f.0 (in_below count f.0 f.1)))
       ∙ numbers_length place count

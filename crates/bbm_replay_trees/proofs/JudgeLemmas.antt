@@ -11,7 +11,7 @@ use Rattle.bbm_events.specs.Heading.{Heading}
 use Rattle.bbm_rules.specs.PathSentences.{TwoPaths}
 use Rattle.bbm_replay_trees.specs.BelowTrees.{Below}
 use Rattle.bbm_tree_index.specs.Attaching.{EndsTwice, HasPlace, IsPath, IsUnfresh, UnfreshEnd, is_bad, is_user_global}
-use Rattle.bbm_replay_trees.specs.Judging.{Finds, Judging}
+use Rattle.bbm_replay_trees.specs.Judging.{Judging}
 use Rattle.bbm_replay_trees.specs.Told.{AllFit, SameFresh, SameValues, notes}
 use Rattle.bbm_lemmas.proofs.Words.{among_in, in_among}
 use Rattle.bbm_lemmas.proofs.Elements.{from_flat}
@@ -19,6 +19,7 @@ use Rattle.bbm_replay_trees.proofs.FitLemmas.{at_page, in_page, is_at_page, to_p
 use Rattle.bbm_replay_trees.proofs.LeastLemmas.{least_is}
 use Rattle.bbm_replay_trees.proofs.PathLemmas.{Longer, AnyPath, Starts, from_all, from_deeper, in_all, in_deeper}
 use Rattle.bbm_replay_trees.proofs.PathLemmas.{leads_at, path_from, to_mine, to_theirs, value_is, within_at}
+use Rattle.bbm_tree_index.specs.LeastPages.{LeastOf}
 
 -- a test that passes leaves alone
 pub record OfLeaves (test : Kind → Desc → Bool) : Type 0 where
@@ -159,7 +160,7 @@ module _ (heading : Heading) (b : Below heading) (h : List Event) (fit : AllFit 
         (b.repeated.complete marks kind level pages page (twice_to page t)))
 
     pub pages_judged : (named : Bool) → judged_ends e whole ≡ ends_of named → untracked_page heading Patterns marks e ≡ []
-        → (o : Option ℕ) → Finds (IsUnfresh fresh value starts named) o → not_fresh heading Patterns marks e ≡ o
+        → (o : Option ℕ) → LeastOf (IsUnfresh fresh value starts named) o → not_fresh heading Patterns marks e ≡ o
     pages_judged named judged tracked o f =
         ap least list_is ∙ least_is (IsUnfresh fresh value starts named) (page_list named) (listed named) (in_list named) o f
       where
@@ -210,7 +211,7 @@ module _ (heading : Heading) (b : Below heading) (h : List Event) (fit : AllFit 
               ∙ (ap (λ (k : Kind). test k (desc_of k p.end.level (value place))) (sym (st.of_start p.start p.path.is_start).0) ∙ p.passes)
 
       pub places_judged : written_with heading Patterns marks test e ≡ None
-          → (o : Option ℕ) → Finds (HasPlace fresh value starts test) o → made_with heading Patterns marks test e ≡ o
+          → (o : Option ℕ) → LeastOf (HasPlace fresh value starts test) o → made_with heading Patterns marks test e ≡ o
       places_judged none o f =
           ap least list_is ∙ least_is (HasPlace fresh value starts test) (attached_with test (events_of marks) whole) place_from place_to o f
         where

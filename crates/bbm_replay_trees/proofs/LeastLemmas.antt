@@ -1,7 +1,7 @@
 -- The least number of a list, by what is in it.
 use Rattle.bbm_rules.proofs.Common.{◌≡◌, ℕ, ◌<◌, ◌≤◌, min, ◌⊎◌, List, [], ◌∷◌, Option, Some, None, unwrap_or, refl, ap}
 use Rattle.bbm_rules.proofs.Common.{subst, inl, inr, arith, cases_lt, least, In}
-use Rattle.bbm_replay_trees.specs.Judging.{Finds}
+use Rattle.bbm_tree_index.specs.LeastPages.{LeastOf}
 
 -- what the answer is among the list
 record IsMin (ms : List ℕ) (k : ℕ) : Type 0 where
@@ -34,10 +34,10 @@ says (n ∷ ms) = says_more n ms (least ms) (says ms)
 
 -- the least of a list whose elements are the numbers that pass
 pub least_is : (passes : ℕ → Type 0) (ms : List ℕ) → ((m : ℕ) → In ms m → passes m) → ((m : ℕ) → passes m → In ms m)
-    → (o : Option ℕ) → Finds passes o → least ms ≡ o
+    → (o : Option ℕ) → LeastOf passes o → least ms ≡ o
 least_is passes ms from to o f = by (least ms) (says ms) o f
   where
-    by : (k : Option ℕ) → Says ms k → (o : Option ℕ) → Finds passes o → k ≡ o
+    by : (k : Option ℕ) → Says ms k → (o : Option ℕ) → LeastOf passes o → k ≡ o
     by None s None f = refl
     by None s (Some n) f =
         let none : In {X = ℕ} [] n = subst (λ (xs : List ℕ). In xs n) s (to n f.that) in absurd none

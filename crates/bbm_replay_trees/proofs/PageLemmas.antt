@@ -1,54 +1,13 @@
 -- The fresh pages after an event, and what else is known of pages and values.
 use Rattle.bbm_rules.proofs.Common.{◌≡◌, ℕ, suc, ◌+◌, not, Bool, true, false, cond, ◌&&◌, ◌||◌, ◌==◌, List, ◌∷◌, length}
-use Rattle.bbm_rules.proofs.Common.{Option, None, is_none, refl, sym, ◌∙◌, ap, true≢false, arith, eq-eqb, eqb-true}
-use Rattle.bbm_rules.proofs.Common.{Event, Init, Null, Root, Unroot, Write, Dsb, Dmb, Isb, Tlbi, Msr, Lock, Unlock}
-use Rattle.bbm_rules.proofs.Common.{attached_by, keeps, changes, Patterns, among, with_number, initialised, is_fresh}
-use Rattle.bbm_rules.proofs.Common.{is_null, may_be_fresh, Node, in_tree, value_of, and_comm}
+use Rattle.bbm_rules.proofs.Common.{Option, None, is_none, refl, sym, ◌∙◌, ap, true≢false, arith, eqb-true, Event, Init}
+use Rattle.bbm_rules.proofs.Common.{Null, attached_by, keeps, changes, Patterns, among, with_number, is_fresh}
+use Rattle.bbm_rules.proofs.Common.{may_be_fresh, Node, in_tree, and_comm}
 use Rattle.bbm_events.specs.Heading.{Heading}
 use Rattle.bbm_replay_trees.specs.BelowTrees.{Below}
 use Rattle.bbm_replay_trees.specs.Told.{SameFresh, SameNodes, notes}
-
--- numbers by either side
-pub eq_swap : (a b : ℕ) → (a == b) ≡ (b == a)
-eq_swap a b = by (a == b) (b == a) refl refl
-  where
-    by : (c d : Bool) → (a == b) ≡ c → (b == a) ≡ d → c ≡ d
-    by true true k l = refl
-    by false false k l = refl
-    by true false k l = sym (eq-eqb b a (sym (eqb-true a b k))) ∙ l
-    by false true k l = sym k ∙ eq-eqb a b (sym (eqb-true b a l))
-
--- of an event that is no init and no null
-pub before_stays : (e : Event) (page : ℕ) (before : Bool) → (changes e).inits ≡ false → (changes e).nulls ≡ false
-    → may_be_fresh e page before ≡ before
-before_stays (Init pe at) page before i n = absurd (true≢false i)
-before_stays (Null pe at) page before i n = absurd (true≢false n)
-before_stays (Root pe kind lock at) page before i n = refl
-before_stays (Unroot pe at) page before i n = refl
-before_stays (Write pe at value) page before i n = refl
-before_stays (Dsb pe dsb) page before i n = refl
-before_stays (Dmb pe dsb) page before i n = refl
-before_stays (Isb pe) page before i n = refl
-before_stays (Tlbi pe op xt) page before i n = refl
-before_stays (Msr pe reg value) page before i n = refl
-before_stays (Lock pe lock) page before i n = refl
-before_stays (Unlock pe lock) page before i n = refl
-
--- ---- what an event leaves that doesn't change it
-
-pub null_stays : (e : Event) (h : List Event) (page : ℕ) → (changes e).nulls ≡ false
-    → is_null (e ∷ h) page ≡ is_null h page
-null_stays (Null pe at) h page k = absurd (true≢false k)
-null_stays e h page k = refl
-
-pub inits_stay : (e : Event) (h : List Event) → (changes e).inits ≡ false → initialised (e ∷ h) ≡ initialised h
-inits_stay (Init pe at) h k = absurd (true≢false k)
-inits_stay e h k = refl
-
-pub value_stays : (e : Event) (h : List Event) (a : ℕ) → (changes e).values ≡ false → value_of (e ∷ h) a ≡ value_of h a
-value_stays (Init pe at) h a k = absurd (true≢false k)
-value_stays (Write pe at value) h a k = absurd (true≢false k)
-value_stays e h a k = refl
+use Rattle.bbm_lemmas.proofs.Numbers.{same_swapped}
+use Rattle.bbm_rules.proofs.ChangesLaw.{fresh_kept}
 
 -- ---- the initialised pages with one more
 
@@ -62,7 +21,7 @@ known_more ms page p known same = by (among page ms) refl
 
     by : (c : Bool) → among page ms ≡ c → (p == page || known) ≡ among p (cond c ms (page ∷ ms))
     by true k = there (p == page) refl k
-    by false k = ap (λ c. c || known) (eq_swap p page) ∙ ap (λ c. page == p || c) same
+    by false k = ap (λ c. c || known) (same_swapped p page) ∙ ap (λ c. page == p || c) same
 
 pub count_more : (ms : List ℕ) (page pages : ℕ) (known : Bool) → known ≡ among page ms → pages ≡ length ms
     → length (with_number page ms) ≡ pages + cond known 0 1
@@ -84,17 +43,17 @@ module _ (heading : Heading) (b : Below heading) (h : List Event) (fresh : ℕ �
 
   pub others : (e : Event) → keeps heading Patterns (e ∷ h) ≡ true → (changes e).inits ≡ false → (changes e).nulls ≡ false
       → attached_by heading Patterns (notes heading h) e ≡ None → SameFresh heading (e ∷ h) fresh
-  others e kept inits nulls none p = sym (before_stays e p (fresh p) inits nulls) ∙ fresh_by e kept none p
+  others e kept inits nulls none p = sym (fresh_kept e p (fresh p) inits nulls) ∙ fresh_by e kept none p
 
   pub after_init : (next_fresh : ℕ → Bool) (pe page : ℕ) → keeps heading Patterns (Init pe page ∷ h) ≡ true
       → ((p : ℕ) → next_fresh p ≡ (p == page || fresh p)) → SameFresh heading (Init pe page ∷ h) next_fresh
   after_init next_fresh pe page kept is p =
-      is p ∙ (ap (λ c. c || fresh p) (eq_swap p page) ∙ fresh_by (Init pe page) kept refl p)
+      is p ∙ (ap (λ c. c || fresh p) (same_swapped p page) ∙ fresh_by (Init pe page) kept refl p)
 
   pub after_null : (next_fresh : ℕ → Bool) (pe page : ℕ) → keeps heading Patterns (Null pe page ∷ h) ≡ true
       → ((p : ℕ) → next_fresh p ≡ (fresh p && not (p == page))) → SameFresh heading (Null pe page ∷ h) next_fresh
   after_null next_fresh pe page kept is p =
-      is p ∙ (ap (λ c. fresh p && not c) (eq_swap p page)
+      is p ∙ (ap (λ c. fresh p && not c) (same_swapped p page)
       ∙ (and_comm (fresh p) (not (page == p)) ∙ fresh_by (Null pe page) kept refl p))
 
   pub after_attached : (next_fresh : ℕ → Bool) (next_node : ℕ → Option Node) (e : Event) → (changes e).inits ≡ false
@@ -103,5 +62,5 @@ module _ (heading : Heading) (b : Below heading) (h : List Event) (fresh : ℕ �
   after_attached next_fresh next_node e inits nulls nodes is p =
       is p ∙ (ap (λ (o : Option Node). fresh p && is_none o) (nodes p)
       ∙ (ap (λ c. c && not (in_tree heading Patterns (notes heading (e ∷ h)) p))
-      (sym (before_stays e p (fresh p) inits nulls))
+      (sym (fresh_kept e p (fresh p) inits nulls))
       ∙ ap (λ c. may_be_fresh e p c && not (in_tree heading Patterns (notes heading (e ∷ h)) p)) (same p)))

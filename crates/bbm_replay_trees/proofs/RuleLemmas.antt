@@ -14,6 +14,7 @@ use Rattle.bbm_replay_trees.specs.TreeEvents.{may_reach_limit, rules_of}
 use Rattle.bbm_replay_trees.specs.Told.{AllFit, SameCores, SameFresh, SameNodes, SameNull, SameValues, is_at, limbo_by}
 use Rattle.bbm_replay_trees.specs.Told.{notes}
 use Rattle.bbm_replay_trees.proofs.FitLemmas.{at_page, in_page, is_at_page, to_page, written}
+use Rattle.bbm_lemmas.proofs.Tests.{any_same}
 
 pub few : (heading : Heading) (trust : Trust) (h : List Event) (e : Event)
     → broken heading trust h e ≡ first_broken heading trust (noted heading trust h) e (rules_of e)
@@ -44,11 +45,6 @@ no_limit h (Isb pe) k = refl
 no_limit h (Tlbi pe op xt) k = refl
 no_limit h (Lock pe lock) k = refl
 no_limit h (Unlock pe lock) k = refl
-
--- two tests that agree at each element
-pub any_same : {X : Type 0} (f g : X → Bool) (xs : List X) → ((x : X) → f x ≡ g x) → any f xs ≡ any g xs
-any_same f g [] same = refl
-any_same f g (x ∷ xs) same = ap (λ b. b || any f xs) (same x) ∙ ap (λ b. g x || b) (any_same f g xs same)
 
 -- where there is no least number there is none
 nothing : (ms : List ℕ) → least ms ≡ None → ms ≡ []

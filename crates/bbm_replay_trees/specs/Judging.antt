@@ -10,24 +10,20 @@ use Rattle.bbm_rules.specs.Places.{page_of}
 use Rattle.bbm_rules.specs.Prelude.{Kind, Heading, Event, Root, Write}
 use Rattle.bbm_rules.specs.Rules.{bad_kind, global_user, not_fresh}
 use Rattle.bbm_rules.specs.Tree.{Node, next_of, node_below, nodes_of_root}
-use Rattle.bbm_tree_index.specs.Attaching.{HasPlace, IsLeast, IsUnfresh, Never, is_bad, is_user_global}
+use Rattle.bbm_tree_index.specs.Attaching.{HasPlace, IsUnfresh, is_bad, is_user_global}
 use Rattle.bbm_replay_trees.specs.Told.{AllFit, SameCores, SameFresh, SameNodes, SameNull, SameValues, View, core_at}
 use Rattle.bbm_replay_trees.specs.Told.{notes}
-
--- the least number that passes, or none where none does
-abbrev pub Finds : (ℕ → Type 0) → Option ℕ → Type 0
-Finds passes None = Never passes
-Finds passes (Some n) = IsLeast passes n
+use Rattle.bbm_tree_index.specs.LeastPages.{LeastOf}
 
 -- The least page that a judge of these starts finds, or none, is what the rule on fresh pages reports; and the least
 -- places that it finds, or none, are what the two rules on leaves report.
 pub record Judging (fresh : ℕ → Bool) (value : ℕ → ℕ) (starts : List Node) (heading : Heading) (h : List Event)
     (named : Bool) (e : Event) : Type 0 where
-  pub pages : (o : Option ℕ) → Finds (IsUnfresh fresh value starts named) o
+  pub pages : (o : Option ℕ) → LeastOf (IsUnfresh fresh value starts named) o
       → not_fresh heading Patterns (notes heading h) e ≡ o
-  pub contiguous : (o : Option ℕ) → Finds (HasPlace fresh value starts is_bad) o
+  pub contiguous : (o : Option ℕ) → LeastOf (HasPlace fresh value starts is_bad) o
       → bad_kind heading Patterns (notes heading h) e ≡ o
-  pub global : (o : Option ℕ) → Finds (HasPlace fresh value starts is_user_global) o
+  pub global : (o : Option ℕ) → LeastOf (HasPlace fresh value starts is_user_global) o
       → global_user heading Patterns (notes heading h) e ≡ o
 
 -- What a judge of the paths from the pages of a root, or from the page below the place of a write that attaches, finds

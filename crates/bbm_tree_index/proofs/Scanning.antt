@@ -4,6 +4,7 @@ use Rattle.bbm_rules.proofs.Common.{◌≡◌, ℕ, ◌<◌, ◌≤◌, ◌+◌,
 use Rattle.bbm_rules.proofs.Common.{List, Option, refl, sym, ap, ◌∙◌, true≢false, arith, eqb-true, eqb-false, ltb-true}
 use Rattle.bbm_rules.proofs.Common.{ltb-false, lt-ltb, none-some, proved, Is, index_of, page_of, Node, next_of}
 use Rattle.bbm_rules.proofs.Common.{and-false}
+use Rattle.bbm_tree_index.specs.Survey.{scanned}
 use Rattle.bbm_tree_index.proofs.Counting.{counts_same}
 use Rattle.bbm_tree_index.proofs.Places.{at_page, place_is}
 
@@ -21,10 +22,6 @@ partly_same fresh value starts k done done' same m r = record {
 
 number_at : (p j : ℕ) → (p + 8 * j) / 4096 * 4096 ≡ p → (p + 8 * j) % 4096 / 8 ≡ j
 number_at p j e = omega (arith, e)
-
--- which places come first in the page
-abbrev pub scanned : ℕ → ℕ → ℕ → Bool
-scanned p j a = page_of a == p && nat_lt (index_of a) j
 
 module _ (p j : ℕ) (inside : is_at p (p + 8 * j) ≡ true) where
   number : index_of (p + 8 * j) ≡ j

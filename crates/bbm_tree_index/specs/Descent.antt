@@ -1,10 +1,11 @@
 -- Going down a tree along an input page. Source: Arm ARM (DDI 0487), "VMSAv8-64 translation table walks".
-use Rattle.std.specs.Prelude.{◌≡◌, ℕ, ◌+◌, ◌<◌, ◌≤◌, true, List, [], ◌∷◌, Option, Some}
+use Rattle.std.specs.Prelude.{◌≡◌, ℕ, suc, ◌+◌, ◌*◌, ◌^◌, ◌<◌, ◌≤◌, true, List, [], ◌∷◌, Option, Some}
 use Rattle.bbm_descriptor.specs.declared.desc.Core.{Core}
 use Rattle.bbm_regimes.specs.declared.regime.Kind.{Kind}
 use Rattle.bbm_rules.specs.Roots.{input_pages}
 use Rattle.bbm_rules.specs.Tree.{Node, region_start}
 use Rattle.bbm_tree_index.specs.HeldCores.{child, is_at}
+use Rattle.bbm_tree_index.specs.declared.role.Path.{Path}
 
 -- the place is one of the page, where the node stands, and translates the input page
 pub record Translates (page : ℕ) (n : Node) (at place : ℕ) : Type 0 where
@@ -19,3 +20,8 @@ module _ (node : ℕ → Option Node) (core : Kind → ℕ → ℕ → Option Co
   IsWay page [] a = (n : Node) × (node page ≡ Some n) × Translates page n at a
   IsWay page (b ∷ way) a = (n : Node) × (node page ≡ Some n) × Translates page n at b
       × (next : ℕ) × (child core n b ≡ Some next) × IsWay next way a
+
+-- a page can hang at a place with this path: it has a level, and its region lies below the end of the input pages
+pub record MayHang (path : Path) : Type 0 where
+  pub low : path.level ≤ 2
+  pub within : path.region.lo + 512 * input_pages (suc path.level) ≤ 2 ^ 45

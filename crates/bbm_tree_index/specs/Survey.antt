@@ -1,15 +1,16 @@
 -- Which nodes the paths through fresh pages reach, and how a table of marks tells it. Source: project's own choice.
-use Rattle.std.specs.Prelude.{◌≡◌, ℕ, ◌-◌, ◌/◌, Bool, true, false, ◌==◌, List, [], ◌∷◌, length}
+use Rattle.std.specs.Prelude.{◌≡◌, ℕ, ◌-◌, ◌/◌, Bool, true, false, ◌&&◌, ◌||◌, ◌==◌, nat_lt, List, [], ◌∷◌, length}
 use Rattle.std.specs.Prelude.{Option, Some, None, Contains}
 use Rattle.std.specs.Prelude.{if◌then◌else◌}
 use Rattle.std.specs.Prelude.{zero, suc, ◌+◌, ◌*◌, ◌<◌, ◌%◌, ◌^◌, is_some, nat_eq, slice_get}
 use Rattle.bbm_regimes.specs.declared.regime.Kind.{Kind}
 use Rattle.indexmap.specs.IndexMap.{IndexMap, get}
 use Rattle.bbm_events.specs.Heading.{Heading}
+use Rattle.bbm_rules.specs.Places.{index_of, page_of}
 use Rattle.bbm_rules.specs.Tree.{Above, Node, next_of, node_below}
 use Rattle.bbm_tree_index.specs.Leaving.{roles_of}
 use Rattle.bbm_tree_index.specs.Nodes.{is_fresh_role}
-use Rattle.bbm_tree_index.specs.Spots.{RoleFits, spot_with}
+use Rattle.bbm_tree_index.specs.Spots.{RoleFits, StandsAt, spot_with}
 use Rattle.bbm_tree_index.specs.declared.spot.Spot.{Spot}
 use Rattle.bbm_tree_index.specs.HeldCores.{is_at}
 use Rattle.bbm_tree_index.specs.declared.mark.Mark.{Mark}
@@ -67,6 +68,27 @@ pub record Found (Has : Node → Type 0) (page : ℕ) (mark : Mark) : Type 0 whe
 abbrev pub Counts : (Node → Type 0) → ℕ → Option Mark → Type 0
 Counts Has page None = (m : Node) → Has m → m.page ≡ page → ⊥
 Counts Has page (Some mark) = Found Has page mark
+
+-- which places come first in the page
+abbrev pub scanned : ℕ → ℕ → ℕ → Bool
+scanned page n a = page_of a == page && nat_lt (index_of a) n
+
+-- the places that are done, and the first ones of the page, or all of it
+abbrev pub with_first : ℕ → ℕ → (ℕ → Bool) → ℕ → Bool
+with_first page n done a = done a || scanned page n a
+
+abbrev pub with_page : ℕ → (ℕ → Bool) → ℕ → Bool
+with_page page done a = done a || page_of a == page
+
+-- Paths that go on through places of a fresh page, which stands there, are noted: where a table of marks told the nodes
+-- below the places that are done as `before` says, it tells those below the places that are done as `after` says.
+abbrev pub Expands : (ℕ → ℕ) → Spot → Bool → ℕ → ((ℕ → Bool) → ℕ → Bool) → ((ℕ → Bool) → ℕ → Bool)
+    → (ℕ → Option Mark) → (ℕ → Option Mark) → Type 0
+Expands value spot many page before after old new = (fresh : ℕ → Bool) (starts : List Node) (k : ℕ) (done : ℕ → Bool)
+    (mark : Mark) → Uniform fresh value starts k → fresh page ≡ true → ((a : ℕ) → page_of a ≡ page → done a ≡ false)
+    → mark.many ≡ many → (found : Found (Reached fresh value starts k) page mark) → StandsAt spot found.node
+    → ((q : ℕ) → Counts (Partly fresh value starts k (before done)) q (old q))
+    → (q : ℕ) → Counts (Partly fresh value starts k (after done)) q (new q)
 
 -- one more path to a page
 abbrev pub joined : Option Mark → Mark → Mark

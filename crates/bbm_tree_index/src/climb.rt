@@ -34,8 +34,8 @@ fn is_invalid(map: &PlaceMap, kind: Kind, level: u8, place: Place, near: usize) 
     ensures { result ≡ not (is_valid kind level (value_at map.now place)) }
 {
     law_core_where_valid();
-    match map.seat_near(place, near) {
-        Some(seat) => map.live_at(&seat, kind, level).is_none(),
+    match map.position_near(place, near) {
+        Some(position) => map.live_at(&position, kind, level).is_none(),
         None => core(kind, level, map.value(place)).is_none(),
     }
 }
@@ -45,10 +45,10 @@ fn is_unheld(map: &PlaceMap, kind: Kind, level: u8, place: Place, near: usize) -
     requires { level ≤ 3 }
     ensures { result ≡ not (holds_at map.now kind level place) }
 {
-    match map.seat_near(place, near) {
-        Some(seat) => {
-            let live = map.live_at(&seat, kind, level);
-            map.core_at(&seat, live).is_none()
+    match map.position_near(place, near) {
+        Some(position) => {
+            let live = map.live_at(&position, kind, level);
+            map.core_at(&position, live).is_none()
         }
         None => core_at(map, kind, level, place).is_none(),
     }

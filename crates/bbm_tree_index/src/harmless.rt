@@ -1,7 +1,7 @@
 //! Pages with no leaf that keeps them from being attached.
 
 ghost use Rattle.std.specs.Prelude.{◌≡◌, ◌≤◌, ◌<◌, ◌+◌, ◌*◌, ◌%◌, ℕ, true, length};
-ghost use Rattle.bbm_place_map.specs.Map.{IsSeat, value_at};
+ghost use Rattle.bbm_place_map.specs.Map.{IsPosition, value_at};
 ghost use Rattle.bbm_regimes.specs.SameRegister.{same_kind};
 ghost use Rattle.bbm_tree_index.specs.Attaching.{Never};
 ghost use Rattle.bbm_tree_index.specs.LeastPages.{HavePages, LeafIn, LeafOf, LeafPlace, asks};
@@ -9,10 +9,10 @@ ghost use Rattle.bbm_tree_index.specs.LeastPages.{leaf_bits as spec_leaf_bits, s
 ghost use Rattle.bbm_tree_index.specs.PageTables.{HasPages};
 ghost use Rattle.bbm_tree_index.specs.declared.judge.Leaf.{Leaf};
 
-use crate::held::{are_eight_zero, first_seat};
+use crate::held::{are_eight_zero, first_position};
 use crate::mark::Mark;
 use crate::survey::entry_at;
-use bbm_place_map::{PlaceMap, Seat};
+use bbm_place_map::{PlaceMap, Position};
 use bbm_regimes::{Kind, Page};
 use indexmap::IndexMap;
 
@@ -54,19 +54,25 @@ fn is_harmless(lower: bool, bits: u64, value: u64) -> bool
 
 /// Whether the values of the eight places that have this number and the next ones are harmless. Most are 0.
 #[inline(always)]
-fn are_eight_harmless(map: &PlaceMap, seat: &Seat, lower: bool, bits: u64, from: u64) -> bool
-    requires seat { IsSeat map.now seat.now }
-    requires first { seat.now.place % 4096 ≡ 0 }
+fn are_eight_harmless(
+    map: &PlaceMap,
+    position: &Position,
+    lower: bool,
+    bits: u64,
+    from: u64,
+) -> bool
+    requires position { IsPosition map.now position.now }
+    requires first { position.now.place % 4096 ≡ 0 }
     requires within { from + 8 ≤ 512 }
     requires some { 1 ≤ bits }
     ensures { result ≡ true → (j : ℕ) → from ≤ j → j < from + 8
-        → spares lower bits (value_at map.now (seat.now.place + 8 * j)) ≡ true }
+        → spares lower bits (value_at map.now (position.now.place + 8 * j)) ≡ true }
 {
-    if are_eight_zero(map, seat, from) {
+    if are_eight_zero(map, position, from) {
         return true;
     }
     for index in from..from + 8 {
-        if !is_harmless(lower, bits, map.value_from(seat, index)) {
+        if !is_harmless(lower, bits, map.value_from(position, index)) {
             return false;
         }
     }
@@ -78,13 +84,13 @@ fn is_page_harmless(map: &PlaceMap, kind: Kind, level: u8, page: Page) -> bool
     requires { level ≤ 3 }
     ensures { result ≡ true → (leaf : Leaf) → Never (LeafOf (value_at map.now) (asks leaf) kind level page) }
 {
-    let Some(seat) = first_seat(map, page) else {
+    let Some(position) = first_position(map, page) else {
         return true;
     };
     let lower = is_lower(kind);
     let bits = leaf_bits(level);
     for part in 0..64 {
-        if !are_eight_harmless(map, &seat, lower, bits, 8 * part) {
+        if !are_eight_harmless(map, &position, lower, bits, 8 * part) {
             return false;
         }
     }

@@ -1,13 +1,13 @@
 //! What the places of a page hold.
 
 ghost use Rattle.std.specs.Prelude.{◌≡◌, ◌≤◌, ◌<◌, ◌+◌, ◌*◌, ◌%◌, ◌↔◌, ℕ, true, false, IfSome, None, Some};
-ghost use Rattle.bbm_place_map.specs.Map.{IsSeat, value_at};
+ghost use Rattle.bbm_place_map.specs.Map.{IsPosition, value_at};
 ghost use Rattle.bbm_rules.specs.Places.{page_of};
 ghost use Rattle.bbm_tree_index.specs.HeldCores.{core_at, holds_at, is_at, next_in};
 
 use bbm_descriptor::Core;
 use bbm_entry_state::EntryState;
-use bbm_place_map::{PlaceMap, Seat};
+use bbm_place_map::{PlaceMap, Position};
 use bbm_regimes::{Kind, Page, Place};
 
 /// The number of places of a page.
@@ -55,20 +55,20 @@ pub fn place_of(page: Page, index: u64) -> Place
     Place::new(page.get() + 8 * index).unwrap()
 }
 
-/// The seat of the first place of the page, from which its places are read; None where each of them has the value 0.
-pub fn first_seat(map: &PlaceMap, page: Page) -> Option<Seat>
-    ensures place { IfSome result (λ seat. seat.place ≡ page) }
-    ensures seat { IfSome result (λ seat. IsSeat map.now seat) }
-    ensures first { IfSome result (λ seat. seat.place % 4096 ≡ 0) }
+/// The position of the first place of the page, from which its places are read; None where each of them has the value 0.
+pub fn first_position(map: &PlaceMap, page: Page) -> Option<Position>
+    ensures place { IfSome result (λ position. position.place ≡ page) }
+    ensures position { IfSome result (λ position. IsPosition map.now position) }
+    ensures first { IfSome result (λ position. position.place % 4096 ≡ 0) }
     ensures zero { result ≡ None → (a : ℕ) → page_of a ≡ page → value_at map.now a ≡ 0 }
 {
-    match map.seat(place_of(page, 0)) {
-        Some(seat) => Some(seat),
+    match map.position(place_of(page, 0)) {
+        Some(position) => Some(position),
         None => {
             if map.is_blank(page) {
                 None
             } else {
-                Some(map.first_seat(page))
+                Some(map.first_position(page))
             }
         }
     }
@@ -77,27 +77,27 @@ pub fn first_seat(map: &PlaceMap, page: Page) -> Option<Seat>
 /// The values of the four places of the page that have this number and the next ones, at most 511, joined bit by bit: 0
 /// only where each is 0.
 #[inline(always)]
-fn four_joined(map: &PlaceMap, seat: &Seat, from: u64) -> u64
-    requires seat { IsSeat map.now seat.now }
-    requires first { seat.now.place % 4096 ≡ 0 }
+fn four_joined(map: &PlaceMap, position: &Position, from: u64) -> u64
+    requires position { IsPosition map.now position.now }
+    requires first { position.now.place % 4096 ≡ 0 }
     requires within { from + 4 ≤ 512 }
-    ensures { result ≡ 0 → (j : ℕ) → from ≤ j → j < from + 4 → value_at map.now (seat.now.place + 8 * j) ≡ 0 }
+    ensures { result ≡ 0 → (j : ℕ) → from ≤ j → j < from + 4 → value_at map.now (position.now.place + 8 * j) ≡ 0 }
 {
-    map.value_from(seat, from)
-        | map.value_from(seat, from + 1)
-        | map.value_from(seat, from + 2)
-        | map.value_from(seat, from + 3)
+    map.value_from(position, from)
+        | map.value_from(position, from + 1)
+        | map.value_from(position, from + 2)
+        | map.value_from(position, from + 3)
 }
 
 /// Whether the eight places of the page that have this number and the next ones have the value 0.
 #[inline(always)]
-pub fn are_eight_zero(map: &PlaceMap, seat: &Seat, from: u64) -> bool
-    requires seat { IsSeat map.now seat.now }
-    requires first { seat.now.place % 4096 ≡ 0 }
+pub fn are_eight_zero(map: &PlaceMap, position: &Position, from: u64) -> bool
+    requires position { IsPosition map.now position.now }
+    requires first { position.now.place % 4096 ≡ 0 }
     requires within { from + 8 ≤ 512 }
-    ensures { result ≡ true → (j : ℕ) → from ≤ j → j < from + 8 → value_at map.now (seat.now.place + 8 * j) ≡ 0 }
+    ensures { result ≡ true → (j : ℕ) → from ≤ j → j < from + 8 → value_at map.now (position.now.place + 8 * j) ≡ 0 }
 {
-    four_joined(map, seat, from) | four_joined(map, seat, from + 4) == 0
+    four_joined(map, position, from) | four_joined(map, position, from + 4) == 0
 }
 
 /// Whether no place of the page, read at this kind and level, 0 to 3, holds anything.
@@ -108,9 +108,9 @@ pub fn holds_none(map: &PlaceMap, kind: Kind, level: u8, page: Page) -> bool
     if map.is_blank(page) {
         return true;
     }
-    let seat = map.first_seat(page);
+    let position = map.first_position(page);
     for index in 0..PLACES {
-        if map.core_from(&seat, index, kind, level).is_some() {
+        if map.core_from(&position, index, kind, level).is_some() {
             return false;
         }
     }

@@ -224,17 +224,17 @@ impl TreeIndex {
     /// page. No answer depends on the number `near`: the page is looked for first where it has this number in the order
     /// in which pages were tracked.
     #[inline(always)]
-    pub fn place_translating(&self, page: Page, at: u64, near: usize) -> Option<(Place, Path)>
+    pub fn place_translating(&self, page: Page, input: u64, near: usize) -> Option<(Place, Path)>
         requires { IsSound self.now }
         ensures inside { IfSome result (λ met. is_at page met.0 ≡ true) }
         ensures path { IfSome result (λ met. (n : Node) × (node_in self.now page ≡ Some n)
             × (met.1 ≡ path_at n met.0)) }
         ensures low { IfSome result (λ met. met.1.level ≤ 3) }
-        ensures met { (n : Node) (a : ℕ) → node_in self.now page ≡ Some n → Translates page n at a
+        ensures met { (n : Node) (a : ℕ) → node_in self.now page ≡ Some n → Translates page n input a
             → option_map (λ met. met.0) result ≡ Some a }
     {
         match self.spot_near(page, near) {
-            Some(spot) => match spot.place_at(page, at) {
+            Some(spot) => match spot.place_at(page, input) {
                 Some(place) => Some((place, spot.path(place))),
                 None => None,
             },

@@ -193,9 +193,9 @@ fn leaf_of(map: &PlaceMap, leaf: &Leaf, kind: Kind, level: u8, page: Page) -> Op
     if map.is_blank(page) {
         return None;
     }
-    let seat = map.first_seat(page);
+    let position = map.first_position(page);
     for index in 0..512 {
-        if is_leaf(leaf, kind, level, map.value_from(&seat, index)) {
+        if is_leaf(leaf, kind, level, map.value_from(&position, index)) {
             return Some(place_of(page, index));
         }
     }

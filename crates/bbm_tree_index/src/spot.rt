@@ -84,17 +84,17 @@ impl Spot {
     }
 
     /// The place of the page that translates the input page, None where there is none.
-    pub fn place_at(&self, page: Page, at: u64) -> Option<Place>
+    pub fn place_at(&self, page: Page, input: u64) -> Option<Place>
         requires { Fits self.now }
-        ensures place { (a : ℕ) → is_at page a ≡ true → self.now.base + index_of a * input_pages_of self.now.level ≤ at
-            → at < self.now.base + index_of a * input_pages_of self.now.level + input_pages_of self.now.level
+        ensures place { (a : ℕ) → is_at page a ≡ true → self.now.base + index_of a * input_pages_of self.now.level ≤ input
+            → input < self.now.base + index_of a * input_pages_of self.now.level + input_pages_of self.now.level
             → result ≡ Some a }
         ensures inside { IfSome result (λ a. is_at page a ≡ true) }
     {
-        if at < self.base {
+        if input < self.base {
             return None;
         }
-        let index = regions_in(self.level, at - self.base);
+        let index = regions_in(self.level, input - self.base);
         if index < 512 {
             Some(place_of(page, index))
         } else {

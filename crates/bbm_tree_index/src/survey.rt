@@ -1,26 +1,26 @@
 //! The pages that paths through fresh pages reach, level by level.
 
-ghost use Rattle.std.specs.Prelude.{◌≡◌, ◌≤◌, ◌<◌, ◌+◌, ◌*◌, ◌%◌, ◌&&◌, ◌||◌, ◌==◌, nat_lt, ℕ, suc, Bool, true, false};
+ghost use Rattle.std.specs.Prelude.{◌≡◌, ◌≤◌, ◌<◌, ◌+◌, ◌*◌, ◌%◌, ◌||◌, ◌==◌, ℕ, suc, Bool, false};
 ghost use Rattle.std.specs.Prelude.{List, [], ◌∷◌, ◌++◌, Option, Some, nat_eq, slice_get, length, OnOk, IfOk, IfSome};
 ghost use Rattle.indexmap.specs.IndexMap.{get, keys, index_map_len, IsUnique};
-ghost use Rattle.bbm_place_map.specs.Map.{IsSeat, value_at};
+ghost use Rattle.bbm_place_map.specs.Map.{IsPosition, value_at};
 ghost use Rattle.bbm_rules.specs.Places.{index_of, page_of};
 ghost use Rattle.bbm_rules.specs.Tree.{Node, next_of};
 ghost use Rattle.bbm_regimes.specs.World.{input_pages};
 ghost use Rattle.bbm_tree_index.specs.PageTables.{HasPages};
-ghost use Rattle.bbm_tree_index.specs.Spots.{Fits, RoleFits, StandsAt};
-ghost use Rattle.bbm_tree_index.specs.Survey.{Counts, Found, Partly, Plain, Reached, StaysWell, Surveyed, Uniform};
-ghost use Rattle.bbm_tree_index.specs.Survey.{Well, fresh_of, grown};
+ghost use Rattle.bbm_tree_index.specs.Spots.{Fits, RoleFits};
+ghost use Rattle.bbm_tree_index.specs.Survey.{Counts, Expands, Found, Partly, Plain, Reached, StaysWell, Surveyed};
+ghost use Rattle.bbm_tree_index.specs.Survey.{Uniform, Well, fresh_of, grown, with_first, with_page};
 ghost use Rattle.bbm_tree_index.specs.declared.mark.Mark.{Mark as TheMark};
 
-use crate::held::{are_eight_zero, first_seat, place_of};
+use crate::held::{are_eight_zero, first_position, place_of};
 use crate::mark::{Mark, add};
 use crate::role::Role;
 use crate::spot::{Spot, spot_of};
 use crate::table::is_fresh;
 use bbm_descriptor::{Desc, read};
 use bbm_events::Header;
-use bbm_place_map::{PlaceMap, Seat};
+use bbm_place_map::{PlaceMap, Position};
 use bbm_regimes::{Kind, NoMemory, Page, Place};
 use indexmap::IndexMap;
 use std::alloc::Global;
@@ -76,36 +76,31 @@ fn expand_place(
 }
 
 /// Notes the paths that go on through the eight places of a fresh page that have this number and the next ones, by the
-/// seat of its first place. Most have the value 0.
+/// position of its first place. Most have the value 0.
 #[inline(always)]
 fn expand_eight(
     map: &PlaceMap,
     spot: &Spot,
     many: bool,
-    seat: &Seat,
+    position: &Position,
     from: u64,
     below: &mut IndexMap<u64, Mark>,
 ) -> Result<(), NoMemory>
     requires fits { Fits spot.now }
-    requires seat { IsSeat map.now seat.now }
-    requires first { seat.now.place % 4096 ≡ 0 }
+    requires position { IsPosition map.now position.now }
+    requires first { position.now.place % 4096 ≡ 0 }
     requires within { from + 8 ≤ 512 }
     ensures well { OnOk result (StaysWell below.old below.new) }
-    ensures level { OnOk result ((fresh : ℕ → Bool) (starts : List Node) (k : ℕ) (done : ℕ → Bool) (mark : TheMark) →
-        Uniform fresh (value_at map.now) starts k → fresh seat.now.place ≡ true →
-        ((a : ℕ) → page_of a ≡ seat.now.place → done a ≡ false) → mark.many ≡ many →
-        (found : Found (Reached fresh (value_at map.now) starts k) seat.now.place mark) → StandsAt spot.now found.node →
-        ((q : ℕ) → Counts (Partly fresh (value_at map.now) starts k (λ a. done a
-        || (page_of a == seat.now.place && nat_lt (index_of a) from))) q (get nat_eq below.old q)) →
-        (q : ℕ) → Counts (Partly fresh (value_at map.now) starts k (λ a. done a
-        || (page_of a == seat.now.place && nat_lt (index_of a) (from + 8)))) q (get nat_eq below.new q)) }
+    ensures level { OnOk result (Expands (value_at map.now) spot.now many position.now.place
+        (with_first position.now.place from) (with_first position.now.place (from + 8))
+        (get nat_eq below.old) (get nat_eq below.new)) }
 {
-    if are_eight_zero(map, seat, from) {
+    if are_eight_zero(map, position, from) {
         return Ok(());
     }
-    let page = seat.place.page();
+    let page = position.place.page();
     for index in from..from + 8 {
-        let value = map.value_from(seat, index);
+        let value = map.value_from(position, index);
         expand_place(spot, many, place_of(page, index), value, below)?;
     }
     Ok(())
@@ -121,19 +116,14 @@ fn expand_page(
 ) -> Result<(), NoMemory>
     requires { Fits spot.now }
     ensures well { OnOk result (StaysWell below.old below.new) }
-    ensures level { OnOk result ((fresh : ℕ → Bool) (starts : List Node) (k : ℕ) (done : ℕ → Bool) (mark : TheMark) →
-        Uniform fresh (value_at map.now) starts k → fresh page ≡ true → ((a : ℕ) → page_of a ≡ page → done a ≡ false)
-        → mark.many ≡ many →
-        (found : Found (Reached fresh (value_at map.now) starts k) page mark) → StandsAt spot.now found.node →
-        ((q : ℕ) → Counts (Partly fresh (value_at map.now) starts k done) q (get nat_eq below.old q)) →
-        (q : ℕ) → Counts (Partly fresh (value_at map.now) starts k (λ a. done a
-        || page_of a == page)) q (get nat_eq below.new q)) }
+    ensures level { OnOk result (Expands (value_at map.now) spot.now many page (λ done. done) (with_page page)
+        (get nat_eq below.old) (get nat_eq below.new)) }
 {
-    let Some(seat) = first_seat(map, page) else {
+    let Some(position) = first_position(map, page) else {
         return Ok(());
     };
     for part in 0..64 {
-        expand_eight(map, spot, many, &seat, 8 * part, below)?;
+        expand_eight(map, spot, many, &position, 8 * part, below)?;
     }
     Ok(())
 }

@@ -43,10 +43,10 @@ returns-in-Some-clause-path c n a e =
 pub returns-in-Some-clause-met : goal.returns-in-Some-clause-met
 returns-in-Some-clause-met c n a b e t =
     sym c.in-Some.is
-    ∙ met_below _ n a c.args.page (c.above.view_is ∙ e) c.args.at c.place_at.result c.place_at.ensures.place b t
+    ∙ met_below _ n a c.args.page (c.above.view_is ∙ e) c.args.input c.place_at.result c.place_at.ensures.place b t
 
 pub returns-in-None-clause-met : goal.returns-in-None-clause-met
 returns-in-None-clause-met c n a b e t =
     let bad : None ≡ Some b = sym c.in-None.is
-    ∙ met_below _ n a c.args.page (c.above.view_is ∙ e) c.args.at c.place_at.result c.place_at.ensures.place b t in
+    ∙ met_below _ n a c.args.page (c.above.view_is ∙ e) c.args.input c.place_at.result c.place_at.ensures.place b t in
     cc

@@ -12,7 +12,7 @@ loop-index-preserved c = λ j low high.
     elim (cases_lt j c.loop-index.index) [
       | inl less ↦ c.loop-index.invariant j low less
       | inr more ↦
-          subst (λ x. spares c.args.lower c.args.bits (value_at c.args.map.now (c.args.seat.now.place + 8 * x)) ≡ true)
+          subst (λ x. spares c.args.lower c.args.bits (value_at c.args.map.now (c.args.position.now.place + 8 * x)) ≡ true)
           (same c.loop-index.index j high more)
           (ap (spares c.args.lower c.args.bits) (sym c.value_from.ensures) ∙ sym c.is_harmless.ensures
           ∙ c.if-not-is_harmless.false)

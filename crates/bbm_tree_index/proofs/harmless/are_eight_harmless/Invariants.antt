@@ -5,4 +5,4 @@ use Rattle.bbm_tree_index.proofs.harmless.are_eight_harmless.Given as goal
 
 abbrev pub invariant-loop-index : goal.invariant-loop-index
 invariant-loop-index l = (j : ℕ) → l.fn.from ≤ j → j < l.index
-    → spares l.lower l.bits (value_at l.map (l.seat.place + 8 * j)) ≡ true
+    → spares l.lower l.bits (value_at l.map (l.position.place + 8 * j)) ≡ true

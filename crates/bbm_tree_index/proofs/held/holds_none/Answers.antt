@@ -19,8 +19,8 @@ loop-index-preserved c = λ j below.
     elim (cases_eq j c.loop-index.index) [
       | inl same ↦
           let P : ℕ → Type 0 = λ x. holds_at c.args.map.now c.args.kind c.args.level (c.args.page + 8 * x) ≡ false in
-          subst P (sym same) (ap (λ (o : Option Core). is_some o) (read c.args.map.now c.args.kind c.args.level c.args.page c.first_seat-seat.result.place c.loop-index.index c.core_from.result
-          c.core_from.ensures c.first_seat-seat.ensures.place) ∙ sym c.is_some.ensures ∙ c.if-is_some.false)
+          subst P (sym same) (ap (λ (o : Option Core). is_some o) (read c.args.map.now c.args.kind c.args.level c.args.page c.first_position-position.result.place c.loop-index.index c.core_from.result
+          c.core_from.ensures c.first_position-position.ensures.place) ∙ sym c.is_some.ensures ∙ c.if-is_some.false)
       | inr other ↦ c.loop-index.invariant j (omega arith)
     ]
 
@@ -29,10 +29,10 @@ returns-then-is_some c = (
   λ none. absurd (false≢true none),
   λ none.
       let aligned : c.args.page % 4096 ≡ 0
-      = ap (λ (s : ℕ). s % 4096) (sym c.first_seat-seat.ensures.place) ∙ c.first_seat-seat.ensures.first in
+      = ap (λ (s : ℕ). s % 4096) (sym c.first_position-position.ensures.place) ∙ c.first_position-position.ensures.first in
       let here = none (c.args.page + 8 * c.loop-index.index) (number_at c.args.page c.loop-index.index aligned (omega arith)) in
-      absurd (false≢true (sym here ∙ ap (λ (o : Option Core). is_some o) (read c.args.map.now c.args.kind c.args.level c.args.page c.first_seat-seat.result.place c.loop-index.index c.core_from.result
-      c.core_from.ensures c.first_seat-seat.ensures.place) ∙ sym c.is_some.ensures ∙ c.if-is_some.true)),
+      absurd (false≢true (sym here ∙ ap (λ (o : Option Core). is_some o) (read c.args.map.now c.args.kind c.args.level c.args.page c.first_position-position.result.place c.loop-index.index c.core_from.result
+      c.core_from.ensures c.first_position-position.ensures.place) ∙ sym c.is_some.ensures ∙ c.if-is_some.true)),
 )
 
 pub returns : goal.returns

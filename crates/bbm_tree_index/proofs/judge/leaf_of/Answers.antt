@@ -18,7 +18,7 @@ loop-index-preserved c =
     let level = c.args.level in
     let i = c.loop-index.index in
     let read : c.value_from.result ≡ value (c.args.page + 8 * i)
-    = c.value_from.ensures ∙ ap (λ s. value (s + 8 * i)) c.first_seat-seat.ensures.place in
+    = c.value_from.ensures ∙ ap (λ s. value (s + 8 * i)) c.first_position-position.ensures.place in
     no_more value test kind level c.args.page i c.loop-index.invariant
     (ap (λ v. test kind (desc_of kind level v)) (sym read) ∙ sym c.is_leaf.ensures ∙ c.if-is_leaf.false)
 
@@ -31,7 +31,7 @@ returns-then-is_leaf c =
     let i = c.loop-index.index in
     let at = c.place_of.ensures.place in
     let read : c.value_from.result ≡ value c.place_of.result
-    = c.value_from.ensures ∙ ap (λ s. value (s + 8 * i)) c.first_seat-seat.ensures.place ∙ ap value (sym at) in
+    = c.value_from.ensures ∙ ap (λ s. value (s + 8 * i)) c.first_position-position.ensures.place ∙ ap value (sym at) in
     first_leaf value test kind level c.args.page i c.loop-index.invariant c.place_of.result at c.place_of.ensures.inside
     (ap (λ v. test kind (desc_of kind level v)) (sym read) ∙ sym c.is_leaf.ensures ∙ c.if-is_leaf.true)
 

@@ -2,10 +2,11 @@ use Rattle.bbm_tree_index.proofs.Common.{get, is_at, Counts, Partly, grown, Hang
 use Rattle.bbm_rules.proofs.Common.{◌≡◌, ℕ, Bool, true, ◌||◌, ◌==◌, ◌+◌, ◌*◌, ◌%◌, ◌/◌, ◌≤◌, sym, ap, ◌∙◌, nat_eq}
 use Rattle.bbm_rules.proofs.Common.{subst, arith, suc, refl, index_of, input_pages, next_of}
 use Rattle.bbm_place_map.specs.Map.{value_at}
+use Rattle.bbm_tree_index.specs.Survey.{scanned}
 use Rattle.bbm_tree_index.proofs.Counting.{counts_same, grow}
 use Rattle.bbm_tree_index.proofs.Levels.{more_done}
 use Rattle.bbm_tree_index.proofs.Places.{at_page}
-use Rattle.bbm_tree_index.proofs.Scanning.{alike, not_scanned, scan_more, scanned, skipped, wider}
+use Rattle.bbm_tree_index.proofs.Scanning.{alike, not_scanned, scan_more, skipped, wider}
 use Rattle.bbm_tree_index.proofs.survey.expand_eight.Goals as goal
 
 first_page : (p : ℕ) → p % 4096 ≡ 0 → p / 4096 * 4096 ≡ p
@@ -21,7 +22,7 @@ pub loop-index-preserved : goal.loop-index-preserved
 loop-index-preserved c = record {
   well = λ heading w. c.in_ok-expand_place.ensures.well heading (c.loop-index.invariant.well heading w);
   level = λ fresh starts k done mark uniform is_fresh undone few found stands h.
-      let p = c.args.seat.now.place in let j = c.loop-index.index in let value = value_at c.args.map.now in
+      let p = c.args.position.now.place in let j = c.loop-index.index in let value = value_at c.args.map.now in
       let same : c.page-page.result ≡ p = c.page-page.ensures ∙ first_page p c.requires.first in
       let here : c.place_of.result ≡ p + 8 * j = c.place_of.ensures.place ∙ ap (λ s. s + 8 * j) same in
       let inside : is_at p (p + 8 * j) ≡ true
@@ -51,7 +52,7 @@ returns c = record {
   well = c.loop-index.invariant.well;
   level = λ fresh starts k done mark uniform is_fresh undone few found stands h.
       subst (λ n. (q : ℕ) → Counts
-      (Partly fresh (value_at c.args.map.now) starts k (λ a. done a || scanned c.args.seat.now.place n a)) q
+      (Partly fresh (value_at c.args.map.now) starts k (λ a. done a || scanned c.args.position.now.place n a)) q
       (get nat_eq c.loop-index.below q))
       (last c.loop-index.index (c.args.from + 8) c.loop-index-test.false
       (c.loop-index.auto.index-end (up c.args.from)))
@@ -67,7 +68,7 @@ returns c = record {
 pub returns-then-are_eight_zero-clause-level : goal.returns-then-are_eight_zero-clause-level
 returns-then-are_eight_zero-clause-level c = λ fresh starts k done mark uniform is_fresh undone few found stands h q.
     let value = value_at c.args.map.now in
-    let p = c.args.seat.now.place in
+    let p = c.args.position.now.place in
     let from = c.args.from in
     counts_same (Partly fresh value starts k (λ a. done a || scanned p from a))
     (Partly fresh value starts k (λ a. done a || scanned p (from + 8) a))

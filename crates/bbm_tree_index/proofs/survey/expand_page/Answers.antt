@@ -1,10 +1,11 @@
-use Rattle.bbm_tree_index.proofs.Common.{get, StandsAt, Counts, Found, Partly, Reached}
-use Rattle.bbm_rules.proofs.Common.{◌≡◌, ℕ, Bool, ◌||◌, ◌==◌, ◌+◌, ◌*◌, ap, nat_eq, subst, arith, true, false, page_of}
+use Rattle.bbm_tree_index.proofs.Common.{get, Partly}
+use Rattle.bbm_rules.proofs.Common.{◌≡◌, ℕ, Bool, ◌||◌, ◌==◌, ◌+◌, ◌*◌, ap, nat_eq, subst, arith, page_of}
 use Rattle.bbm_place_map.specs.Map.{value_at}
+use Rattle.bbm_tree_index.specs.Survey.{Expands, scanned, with_first}
 use Rattle.bbm_tree_index.proofs.Blank.{nowhere}
 use Rattle.bbm_tree_index.proofs.Counting.{counts_same}
 use Rattle.bbm_tree_index.proofs.Levels.{more_done}
-use Rattle.bbm_tree_index.proofs.Scanning.{alike, scan_all, scan_none, scanned}
+use Rattle.bbm_tree_index.proofs.Scanning.{alike, scan_all, scan_none}
 use Rattle.bbm_tree_index.proofs.survey.expand_page.Goals as goal
 
 pub loop-part-init : goal.loop-part-init
@@ -20,22 +21,15 @@ pub loop-part-preserved : goal.loop-part-preserved
 loop-part-preserved c = record {
   well = λ heading w. c.in_ok-expand_eight.ensures.well heading (c.loop-part.invariant.well heading w);
   level = λ fresh starts k done mark uniform is_fresh undone few found stands h.
-      let value = value_at c.args.map.now in
-      let from = 8 * c.loop-part.part in
-      let P : ℕ → Type 0 = λ p. fresh p ≡ true → ((a : ℕ) → page_of a ≡ p → done a ≡ false) →
-      (found : Found (Reached fresh value starts k) p mark) → StandsAt c.args.spot.now found.node →
-      ((q : ℕ) → Counts (Partly fresh value starts k (λ a. done a || scanned p from a)) q
-      (get nat_eq c.loop-part.below q)) →
-      (q : ℕ)
-      → Counts (Partly fresh value starts k (λ a. done a || scanned p (from + 8) a)) q
-      (get nat_eq c.expand_eight.new.below q) in
-      subst (λ n. (q : ℕ) → Counts (Partly fresh value starts k (λ a. done a || scanned c.args.page n a)) q
-      (get nat_eq c.expand_eight.new.below q))
-      (next c.loop-part.part)
-      (subst P c.in-Some.ensures.place
-      (λ fr un fo st. c.in_ok-expand_eight.ensures.level fresh starts k done mark uniform fr un few fo st) is_fresh
-      undone found stands
-      (c.loop-part.invariant.level fresh starts k done mark uniform is_fresh undone few found stands h));
+      let part = c.loop-part.part in
+      let page = c.args.page in
+      let By : ℕ → ℕ → Type 0 = λ p n. Expands (value_at c.args.map.now) c.args.spot.now c.args.many p
+      (with_first p (8 * part)) (with_first p n) (get nat_eq c.loop-part.below) (get nat_eq c.expand_eight.new.below) in
+      let eight : By page (8 * part + 8) = subst (λ p. By p (8 * part + 8)) c.in-Some.ensures.place
+      c.in_ok-expand_eight.ensures.level in
+      let more : By page (8 * (part + 1)) = subst (By page) (next part) eight in
+      more fresh starts k done mark uniform is_fresh undone few found stands
+      (c.loop-part.invariant.level fresh starts k done mark uniform is_fresh undone few found stands h);
 }
   where
     next : (part : ℕ) → 8 * part + 8 ≡ 8 * (part + 1)
@@ -59,5 +53,5 @@ returns-in_default-clause-level c = λ fresh starts k done mark uniform is_fresh
     let more : ℕ → Bool = λ a. done a || page_of a == p in
     counts_same (Partly fresh value starts k done) (Partly fresh value starts k more) q (get nat_eq c.args.below.now q)
     (λ m at. more_done fresh value starts k done more (λ a e. ap (λ b. b || page_of a == p) e) m)
-    (λ m at. nowhere value p (c.first_seat.ensures.zero c.in_default.is) fresh starts k done m)
+    (λ m at. nowhere value p (c.first_position.ensures.zero c.in_default.is) fresh starts k done m)
     (old q)

@@ -1,18 +1,12 @@
-use Rattle.bbm_tree_index.proofs.Common.{get, StandsAt, Counts, Found, Partly, Reached, Uniform, Well, Heading, Mark}
-use Rattle.bbm_rules.proofs.Common.{◌≡◌, ℕ, Bool, true, false, List, ◌*◌, ◌&&◌, ◌||◌, ◌==◌, nat_eq, nat_lt, index_of}
-use Rattle.bbm_rules.proofs.Common.{page_of, Node}
+use Rattle.bbm_tree_index.proofs.Common.{get}
+use Rattle.bbm_rules.proofs.Common.{◌*◌, nat_eq}
 use Rattle.bbm_place_map.specs.Map.{value_at}
+use Rattle.bbm_tree_index.specs.Survey.{Expands, StaysWell, with_first}
 use Rattle.bbm_tree_index.proofs.survey.expand_page.Given as goal
 
 abbrev pub invariant-loop-part : goal.invariant-loop-part
 invariant-loop-part l = record {
-  well : (heading : Heading) → Well heading (get nat_eq l.initial.below) → Well heading (get nat_eq l.below);
-  level : (fresh : ℕ → Bool) (starts : List Node) (k : ℕ) (done : ℕ → Bool) (mark : Mark) →
-      Uniform fresh (value_at l.map) starts k → fresh l.fn.page ≡ true
-      → ((a : ℕ) → page_of a ≡ l.fn.page → done a ≡ false) → mark.many ≡ l.many →
-      (found : Found (Reached fresh (value_at l.map) starts k) l.fn.page mark) → StandsAt l.spot found.node →
-      ((q : ℕ) → Counts (Partly fresh (value_at l.map) starts k done) q (get nat_eq l.initial.below q)) →
-      (q : ℕ)
-      → Counts (Partly fresh (value_at l.map) starts k
-      (λ a. done a || (page_of a == l.fn.page && nat_lt (index_of a) (8 * l.part)))) q (get nat_eq l.below q);
+  well : StaysWell l.initial.below l.below;
+  level : Expands (value_at l.map) l.spot l.many l.fn.page (λ done. done) (with_first l.fn.page (8 * l.part))
+      (get nat_eq l.initial.below) (get nat_eq l.below);
 }

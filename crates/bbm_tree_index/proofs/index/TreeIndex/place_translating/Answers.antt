@@ -13,14 +13,14 @@ pub returns-in-Some-place_at-clause-met : goal.returns-in-Some-place_at-clause-m
 returns-in-Some-place_at-clause-met c n a is t =
     let found = c.in-Some.ensures.node in
     sym c.in-Some-place_at.is
-    ∙ met_place (node_in c.args.self.now) c.args.at c.args.page c.in-Some.spot found.0 found.1 found.2
+    ∙ met_place (node_in c.args.self.now) c.args.input c.args.page c.in-Some.spot found.0 found.1 found.2
     c.place_at.result c.place_at.ensures.place n is a t
 
 pub returns-in-None-place_at-clause-met : goal.returns-in-None-place_at-clause-met
 returns-in-None-place_at-clause-met c n a is t =
     let found = c.in-Some.ensures.node in
     let bad : None ≡ Some a = sym c.in-None-place_at.is
-    ∙ met_place (node_in c.args.self.now) c.args.at c.args.page c.in-Some.spot found.0 found.1 found.2
+    ∙ met_place (node_in c.args.self.now) c.args.input c.args.page c.in-Some.spot found.0 found.1 found.2
     c.place_at.result c.place_at.ensures.place n is a t in
     cc
 

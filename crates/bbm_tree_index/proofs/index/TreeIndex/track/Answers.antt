@@ -76,12 +76,12 @@ places c a n e = by (page_of a == c.args.page) refl
     by : (b : Bool) → (page_of a == c.args.page) ≡ b → SamePlace c.args.map.now c.track.new.self a
     by true t = absurd (none-some n (sym c.requires.no_tree ∙ ap (node_in c.args.self.now) (sym (eqb-true (page_of a) c.args.page t)) ∙ e))
     by false t = record {
-      marks = (c.in-Ok-track.ensures).marks a ∙ ap (λ b. if b then None else marks_at c.args.map.now a) t;
+      marks = (c.in-Ok-track.ensures).freed.marks a ∙ ap (λ b. if b then None else marks_at c.args.map.now a) t;
       value = (c.in-Ok-track.ensures).values a ∙ ap (λ b. if b then 0 else value_at c.args.map.now a) t;
     }
 
 clean : (c : goal.In-Ok-insert) (a : ℕ) → marks_at c.args.map.now a ≡ None → marks_at c.track.new.self a ≡ None
-clean c a e = (c.in-Ok-track.ensures).marks a ∙ by (page_of a == c.args.page)
+clean c a e = (c.in-Ok-track.ensures).freed.marks a ∙ by (page_of a == c.args.page)
   where
     by : (b : Bool) → (if b then None else marks_at c.args.map.now a) ≡ None
     by true = refl

@@ -8,5 +8,5 @@ pub returns-then-index-lt512-clause-place : goal.returns-then-index-lt512-clause
 returns-then-index-lt512-clause-place c a inside from to =
     let s = c.args.self.now in
     let page = c.args.page in
-    let part = part_is s.base c.args.at (index_of a) (input_pages_of s.level) from to in
+    let part = part_is s.base c.args.input (index_of a) (input_pages_of s.level) from to in
     ap Some (c.place_of.ensures.place ∙ (ap (λ i. page + 8 * i) (c.regions_in-index.ensures ∙ part.1) ∙ sym (place_is page a inside)))
