@@ -1,5 +1,5 @@
 -- How far a TLBI covers a broken place.
-use Rattle.bbm_replay.proofs.Common.{unwrap_or, core_in, Marks, is_table, state_from, notes, is_global_core}
+use Rattle.bbm_replay.proofs.Common.{unwrap_or, core_in, Marks, state_from, notes, is_global_core}
 use Rattle.bbm_rules.proofs.Common.{◌≡◌, ℕ, Bool, true, List, Option, Some, None, is_some, option_and_then, refl, sym}
 use Rattle.bbm_rules.proofs.Common.{◌∙◌, ap, proved, If, Is, desc_of, Core, Desc, Invalid, Table, Leaf, PlaceView}
 use Rattle.bbm_rules.proofs.Common.{TagSet, Patterns, cover_at, is_global, view_at, events_of, page_of, Heading, Event}
@@ -8,14 +8,17 @@ use Rattle.bbm_rules.proofs.Common.{is_childless, next_in, next_of, node_of, reg
 use Rattle.bbm_descriptor.specs.Descriptor as descriptor
 use Rattle.bbm_descriptor.specs.declared.desc.Core.TheVariants as core
 use Rattle.bbm_tlbi_scope.specs.ScopeCovers as scopes
+use Rattle.bbm_tree_index.specs.HeldCores as held
 use Rattle.bbm_tlbi_scope.specs.declared.entry.Cover.TheVariants.{None as NoCover}
 
-pub table_is : (d : Desc) (c : Core) → descriptor.core_in d ≡ Some c → is_table c ≡ is_some (next_in d)
+pub table_is : (d : Desc) (c : Core) → descriptor.core_in d ≡ Some c
+    → is_some (held.next_in (Some c)) ≡ is_some (next_in d)
 table_is Invalid c k = let bad : None ≡ Some c = k in absurd cc
 table_is (Table next ns) c k =
-    let same : core.Table next ns ≡ c = cc in ap (λ (x : Core). is_table x) (sym same)
+    let same : core.Table next ns ≡ c = cc in ap (λ (x : Core). is_some (held.next_in (Some x))) (sym same)
 table_is (Leaf out attrs share global contiguous) c k =
-    let same : core.Leaf out attrs share global contiguous ≡ c = cc in ap (λ (x : Core). is_table x) (sym same)
+    let same : core.Leaf out attrs share global contiguous ≡ c = cc in
+    ap (λ (x : Core). is_some (held.next_in (Some x))) (sym same)
 
 pub global_is : (d : Desc) (c : Core) → descriptor.core_in d ≡ Some c → is_global_core (Some c) ≡ is_global d
 global_is Invalid c k = let bad : None ≡ Some c = k in absurd cc

@@ -7,7 +7,7 @@ use Rattle.bbm_replay.proofs.Common.{Stands, view_of, Told, state_of, ReplayStat
 use Rattle.bbm_rules.proofs.Common.{◌≡◌, ℕ, zero, suc, ◌<◌, arith, ◌%◌, Bool, true, false, cond, not, ◌&&◌, ◌⊎◌, ◌==◌}
 use Rattle.bbm_rules.proofs.Common.{List, [], ◌∷◌, Option, Some, None, is_none, is_some, option_and_then, Result, Ok}
 use Rattle.bbm_rules.proofs.Common.{Err, refl, sym, ◌∙◌, ap, subst, true≢false, inl, inr, option_map_or, type_bits}
-use Rattle.bbm_rules.proofs.Common.{core_of, desc_as, desc_of, differ, invalid, is_valid, leaf, Core, Desc, Invalid}
+use Rattle.bbm_rules.proofs.Common.{core_of, desc_as, desc_of, differ, invalid, leaf, Core, Desc, Invalid}
 use Rattle.bbm_rules.proofs.Common.{Table, Leaf, rewrites, attached_by, Patterns, is_global, if_so, page_of, Ttbr0}
 use Rattle.bbm_rules.proofs.Common.{Heading, Event, Write, lock_of, bad_kind, break_before_make, global_user}
 use Rattle.bbm_rules.proofs.Common.{is_contiguous, lacks, limbo_make, no_lock, not_fresh, null_written, rewritten_fresh}

@@ -1,11 +1,12 @@
 -- A write at a place of a tree that isn't broken, where it attaches nothing.
-use Rattle.bbm_replay.proofs.Common.{Written, core_in, waits, IsIdle, Marks, Pends, EntryState, Live, Puts, state_from}
+use Rattle.bbm_replay.proofs.Common.{Written, core_in, waits, IsIdle, Marks, Pends, EntryState, Clean, Live, Puts}
+use Rattle.bbm_replay.proofs.Common.{state_from}
 use Rattle.bbm_replay.proofs.Common.{same_kind, limbo_by, Path, attached_next, is_contiguous_core, is_global_core, Laws}
 use Rattle.bbm_replay.proofs.Common.{Rules, Clears, Holds, IsAt, MayMeet, Meets, SameFrame, view_of, state_of}
 use Rattle.bbm_replay.proofs.Common.{ReplayState}
 use Rattle.bbm_rules.proofs.Common.{◌≡◌, ℕ, Bool, true, false, ◌&&◌, ◌==◌, List, Option, Some, None, is_some}
 use Rattle.bbm_rules.proofs.Common.{option_and_then, Ok, refl, sym, ◌∙◌, ap, subst, if◌then◌else◌, option_map_or}
-use Rattle.bbm_rules.proofs.Common.{eqb-true, false≢true, core_of, differ, Core, if_so, page_of, Ttbr0, Heading, Event}
+use Rattle.bbm_rules.proofs.Common.{eqb-true, core_of, differ, Core, if_so, page_of, Ttbr0, Heading, Event}
 use Rattle.bbm_rules.proofs.Common.{Write, lock_of, lacks, and-false}
 use Rattle.std.proofs.lemmas.Bool.{true≢false}
 use Rattle.bbm_place_map.specs.Map.{marks_at, pends_at, value_at}
@@ -26,6 +27,17 @@ made old pe core = record {
   clean = λ p. refl;
 }
 
+-- an invalid value leaves a clean place clean
+rested : (pe : ℕ) → Written Clean pe None Clean
+rested pe = record {
+  core = refl;
+  broken = refl;
+  writers = λ p. refl;
+  seen = λ p. refl;
+  half = λ p. refl;
+  clean = λ p. refl;
+}
+
 -- what the marks of each place are where one that has none is written, and has none after
 pub marks_stay : (old new : ℕ → Option Marks) (place : ℕ) → old place ≡ None → ((a : ℕ) → new a ≡ old a)
     → (a : ℕ) → new a ≡ (if a == place then None else old a)
@@ -38,10 +50,6 @@ marks_stay old new place none same a = by (a == place) refl
 pub none_of : {A : Type 0} (o : Option A) → is_some o ≡ false → o ≡ None
 none_of None k = refl
 none_of (Some x) k = absurd (true≢false k)
-
-some_core : (o : Option Core) → is_some o ≡ true → (core : Core) × (o ≡ Some core)
-some_core None k = absurd (false≢true k)
-some_core (Some core) k = (core, refl)
 
 differ_none : (o : Option Core) → differ o None ≡ false
 differ_none None = refl
@@ -91,19 +99,30 @@ module _ (laws : (heading : Heading) → Laws heading) (rules : (heading : Headi
           dropped = left.dropped;
         }) put.pages idle
 
-    -- a valid value, where nothing but the value changes
-    pub put_ok : is_some new ≡ true → ((a : ℕ) → marks_at next.map a ≡ marks_at old.map a)
+    -- a value that leaves the place unbroken, where nothing but the value changes
+    pub put_ok : (new ≡ None → live ≡ None) → ((a : ℕ) → marks_at next.map a ≡ marks_at old.map a)
         → ((q a : ℕ) → pends_at next.map q a ≡ pends_at old.map q a) → Meets old next (Write pe place v) (Ok tt)
-    put_ok valid marks pends =
-        let core = some_core new valid in
-        left_ok (Live core.0)
-        (subst (λ (x : Option Core). Written (state_from live None) pe x (Live core.0)) (sym core.1)
-        (made (state_from live None) pe core.0))
-        (record {
-          marks = marks_stay (marks_at old.map) (marks_at next.map) place whole marks;
-          pends = λ q a k. pends q a;
-          dropped = λ q k. idle q place (marks place ∙ whole);
-        })
+    put_ok stays marks pends = by new refl
+      where
+        by : (o : Option Core) → new ≡ o → Meets old next (Write pe place v) (Ok tt)
+        by (Some core) k =
+            left_ok (Live core)
+            (subst (λ (x : Option Core). Written (state_from live None) pe x (Live core)) (sym k)
+            (made (state_from live None) pe core))
+            (record {
+              marks = marks_stay (marks_at old.map) (marks_at next.map) place whole marks;
+              pends = λ q a k. pends q a;
+              dropped = λ q k. idle q place (marks place ∙ whole);
+            })
+        by None k =
+            left_ok Clean
+            (subst (λ (x : Option Core). Written (state_from live None) pe x Clean) (sym k)
+            (subst (λ (x : Option Core). Written (state_from x None) pe None Clean) (sym (stays k)) (rested pe)))
+            (record {
+              marks = marks_stay (marks_at old.map) (marks_at next.map) place whole marks;
+              pends = λ q a k. pends q a;
+              dropped = λ q k. idle q place (marks place ∙ whole);
+            })
 
   -- an invalid value, over a core
   pub break_ok : (core : Core) → live ≡ Some core → new ≡ None → (state : EntryState)

@@ -2,7 +2,8 @@
 use Rattle.bbm_replay.proofs.Common.{unwrap_or, Noted, waits, Marks, Pends, EntryState, Clean, Live, Heading, PlaceMap}
 use Rattle.bbm_replay.proofs.Common.{input_pages, IsSound, IsWay, core_at, TreeIndex, RootState, SameCores, notes}
 use Rattle.bbm_replay.proofs.Common.{MayBeIssued, NamedTlbi, Laws, MetFromAll, NamesOne, covers_kind, view_of}
-use Rattle.bbm_rules.proofs.Common.{◌≡◌, ℕ, zero, suc, ◌+◌, ◌-◌, ◌*◌, ◌<◌, ◌≤◌, ◌&&◌, ◌||◌, nat_le, Bool, true, false}
+use Rattle.bbm_rules.proofs.Common.{◌≡◌, ℕ, zero, suc, ◌+◌, ◌-◌, ◌*◌, ◌%◌, ◌<◌, ◌≤◌, ◌&&◌, ◌||◌, nat_le, Bool, true}
+use Rattle.bbm_rules.proofs.Common.{false}
 use Rattle.bbm_rules.proofs.Common.{cond, List, [], length, Option, Some, None, Contains, slice_index_or, is_some}
 use Rattle.bbm_rules.proofs.Common.{option_and_then, refl, sym, ◌∙◌, ap, subst, arith, true≢false, not-suc-le-zero}
 use Rattle.bbm_rules.proofs.Common.{le_of_suc-le-suc, and_parts, leb-true, desc_of, same_bool, page_count, PeMask, Kind}
@@ -13,7 +14,6 @@ use Rattle.bbm_rules.proofs.Common.{is_childless, next_of, node_of, region_of, r
 use Rattle.bbm_entry_state.specs.EntryCalls.{counts_at}
 use Rattle.bbm_entry_state.specs.declared.state.EntryState.TheVariants.{Broken}
 use Rattle.bbm_place_map.specs.Map.{marks_at}
-use Rattle.bbm_place_map.proofs.Parts.{broken_eighth}
 use Rattle.bbm_regimes.specs.PeMask.{pe_in}
 use Rattle.bbm_tlbi_scope.specs.ScopeCovers as scopes
 use Rattle.bbm_tlbi_scope.specs.SameCover.{same_cover}
@@ -110,7 +110,8 @@ module _ (heading : Heading) (laws : Laws heading) (h : List Event)
     (starts : Starts heading)
     (ev : events_of (notes heading h) ≡ h) (map : PlaceMap) (index : TreeIndex) (state : RootState) (pe : ℕ) (op : TlbiOp)
     (xt : ℕ) (named : NamedTlbi) (m : MayBeIssued heading h map index state pe op xt named) where
-  module _ (sound : IsSound index) (at : ℕ) (one : NamesOne named.scope at) (Has : ℕ → Type 0)
+  module _ (aligned : (a : ℕ) → is_some (marks_at map a) ≡ true → a % 8 ≡ 0) (sound : IsSound index) (at : ℕ)
+      (one : NamesOne named.scope at) (Has : ℕ → Type 0)
       (met : (r : Declared) → root_at h r.page ≡ Some r → covers_kind named.scope.family r.kind ≡ true
       → MetFromAll (node_in index) (core_at map) at r.page (page_count heading.world r.kind) Has) where
     same_cores : SameCores heading h (core_at map)
@@ -165,7 +166,7 @@ module _ (heading : Heading) (laws : Laws heading) (h : List Event)
                 let from = leb-true (region_start n a) at both.0 in
                 let to = before (region_start n a) (input_pages n.level) width (leb-true at (region_start n a + input_pages n.level - 1) both.1) in
                 absurd (missed (found_top n a f (top heading laws h (view_of map index) m.told.kept m.told.fit m.told.nodes same_cores at a
-                n is (broken_eighth map a broken) from to)))
+                n is (aligned a broken) from to)))
               where
                 before : (start w : ℕ) → 1 ≤ w → at ≤ start + w - 1 → at < start + w
                 before start w k l = omega arith

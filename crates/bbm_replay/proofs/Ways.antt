@@ -4,6 +4,7 @@ use Rattle.bbm_replay.proofs.Common.{core_with, is_at, next_in, IsSound, path_at
 use Rattle.bbm_rules.proofs.Common.{◌≡◌, ℕ, suc, ◌+◌, ◌*◌, ◌^◌, ◌%◌, ◌<◌, ◌≤◌, ◌==◌, true, List, [], ◌∷◌, Option, Some}
 use Rattle.bbm_rules.proofs.Common.{None, ◌⊎◌, inl, inr, refl, sym, ap, ◌∙◌, subst, arith, and_parts, eqb-true, core_of}
 use Rattle.bbm_rules.proofs.Common.{Core, Kind, page_of, input_pages, Node, node_below, region_start}
+use Rattle.bbm_tree_index.specs.Descent.{MayHang}
 use Rattle.bbm_tree_index.specs.Index.{node_in}
 use Rattle.bbm_replay.specs.OnePage.{FitTogether}
 use Rattle.bbm_replay.proofs.Growing.{core_whole}
@@ -98,15 +99,14 @@ module _ (map : PlaceMap) (index : TreeIndex) (sound : IsSound index) (fits : Fi
     sound.roles.within x (node_below on.stands place x) hangs,
   )
 
-  pub low_below : path.level ≤ 2
-  low_below =
-      let same : path.level ≡ on.stands.level = ap (λ (y : Path). y.level) on.has_path in
-      let low : suc on.stands.level < 4 = in_range.0 in
-      omega arith
-
-  pub within_below : path.region.lo + 512 * input_pages (suc path.level) ≤ 2 ^ 45
-  within_below = subst (λ (y : Path). y.region.lo + 512 * input_pages (suc y.level) ≤ 2 ^ 45) (sym on.has_path)
-      in_range.1
+  pub may_hang : MayHang path
+  may_hang = record {
+    low =
+        let same : path.level ≡ on.stands.level = ap (λ (y : Path). y.level) on.has_path in
+        let low : suc on.stands.level < 4 = in_range.0 in
+        omega arith;
+    within = subst (λ (y : Path). y.region.lo + 512 * input_pages (suc y.level) ≤ 2 ^ 45) (sym on.has_path) in_range.1;
+  }
 
   -- what is met on the way down through the place has the property, or is met below it
   pub goes_on : (below : Option (ℕ × Path)) → ((m : ℕ × Path) → below ≡ Some m → is_at x m.0 ≡ true)
@@ -140,9 +140,3 @@ state_core kind level value (Some x) = by (core_of kind level value)
     by None = refl
     by (Some c) = refl
 state_core kind level value None = core_whole (core_of kind level value)
-
--- a place without a core of its value has one only where it is broken, that of its marks
-pub broken_over : (m : Option Marks) (core : Core) → Some core ≡ core_in (state_from None m)
-    → (x : Marks) × (m ≡ Some x) × (x.core ≡ core)
-broken_over None core k = let bad : Some core ≡ None = k in absurd cc
-broken_over (Some x) core k = let both : Some core ≡ Some x.core = k in (x, refl, cc)

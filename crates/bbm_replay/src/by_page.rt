@@ -4,7 +4,7 @@ ghost use Rattle.std.specs.Prelude.{◌≡◌, ◌≤◌, ℕ, true, List, Some,
 ghost use Rattle.std.specs.Prelude.{IfOk, IfSome};
 ghost use Rattle.bbm_events.specs.Heading.{Heading};
 ghost use Rattle.bbm_events.specs.declared.event.Event.{Event};
-ghost use Rattle.bbm_place_map.specs.Map.{IsSeat, is_tracked};
+ghost use Rattle.bbm_place_map.specs.Map.{IsPosition, is_tracked};
 ghost use Rattle.bbm_regimes.specs.World as spec;
 ghost use Rattle.bbm_regimes.specs.declared.regime.Kind.{Kind as TheKind};
 ghost use Rattle.bbm_rules.specs.Places.{page_of};
@@ -23,7 +23,7 @@ ghost use Rattle.bbm_replay.specs.OnePage.{covers_kind as spec_covers_kind};
 
 use crate::covering::Covering;
 use crate::writes::next_of;
-use bbm_place_map::{Found, PlaceMap, Seat};
+use bbm_place_map::{Found, PlaceMap, Position};
 use bbm_regimes::{Kind, NoMemory, Page, Place};
 use bbm_tlbi_scope::Family;
 use bbm_tree_index::{Path, place_below};
@@ -58,14 +58,14 @@ struct RootPages {
 /// Where a place of a tracked page is kept. No answer depends on the number `near`: the page is looked for first where
 /// it has this number in the order in which pages were tracked, and then where that of the last write is.
 #[inline(always)]
-fn seat_of(map: &PlaceMap, place: Place, near: usize) -> Seat
+fn position_of(map: &PlaceMap, place: Place, near: usize) -> Position
     requires { is_tracked map.now (page_of place) ≡ true }
     ensures place { result.place ≡ place }
-    ensures seat { IsSeat map.now result }
+    ensures position { IsPosition map.now result }
 {
-    match map.seat_at(place, near) {
-        Some(seat) => seat,
-        None => map.seat_near(place, map.recent_page()).unwrap(),
+    match map.position_at(place, near) {
+        Some(position) => position,
+        None => map.position_near(place, map.recent_page()).unwrap(),
     }
 }
 
@@ -94,7 +94,7 @@ impl Covering<'_> {
     /// Adds the place, which has this path, with its cover, where it is broken. The next page of the table that it
     /// holds; None where it holds none. No answer depends on `near`, at which its page is looked for first.
     #[inline(always)]
-    fn meet(
+    fn add_place(
         &self,
         map: &PlaceMap,
         place: Place,
@@ -112,16 +112,17 @@ impl Covering<'_> {
             found.old.items found.new.items) }
         ensures added { OnOk result (IsFoundIn map.now found.new.items place) }
     {
-        let seat = seat_of(map, place, near);
-        match map.core_at(&seat, None) {
-            Some(core) => {
+        let position = position_of(map, place, near);
+        match map.restless_number(&position) {
+            Some(near) => {
                 // A copy, so that the path of a place that isn't broken needs no memory.
                 let own = *path;
+                let core = map.restless_core(near as u64);
                 let cover = self.cover_met(map, place, &own, &core);
-                found.push(Found { place, cover })?;
+                found.push(Found { place, cover, near })?;
                 Ok(next_of(&core))
             }
-            None => match map.live_at(&seat, path.kind, path.level) {
+            None => match map.live_at(&position, path.kind, path.level) {
                 Some(core) => Ok(next_of(&core)),
                 None => Ok(None),
             },
@@ -134,7 +135,7 @@ impl Covering<'_> {
     fn descend(
         &self,
         map: &PlaceMap,
-        at: u64,
+        input: u64,
         addr: u64,
         near: usize,
         found: &mut SmallVec<Found, 4>,
@@ -144,21 +145,21 @@ impl Covering<'_> {
         ensures grows { OnOk result (Grows map.now self.now.index.now self.now.roots.now self.now.named.now
             found.old.items found.new.items) }
         ensures met { OnOk result
-            (MetFrom (node_in self.now.index.now) (core_at map.now) at addr (IsFoundIn map.now found.new.items)) }
+            (MetFrom (node_in self.now.index.now) (core_at map.now) input addr (IsFoundIn map.now found.new.items)) }
     {
         let Some(page) = Page::new(addr) else {
             return Ok(());
         };
-        let mut here = self.index.place_translating(page, at, near);
+        let mut here = self.index.place_translating(page, input, near);
         for depth in 0..4 {
             let Some(met) = here else {
                 return Ok(());
             };
             let near = near.wrapping_add(depth);
-            let Some(next) = self.meet(map, met.0, &met.1, near, found)? else {
+            let Some(next) = self.add_place(map, met.0, &met.1, near, found)? else {
                 return Ok(());
             };
-            here = place_below(&met.1, next, at);
+            here = place_below(&met.1, next, input);
         }
         Ok(())
     }
@@ -167,7 +168,7 @@ impl Covering<'_> {
     fn descend_pages(
         &self,
         map: &PlaceMap,
-        at: u64,
+        input: u64,
         pages: &RootPages,
         found: &mut SmallVec<Found, 4>,
     ) -> Result<(), NoMemory>
@@ -175,13 +176,13 @@ impl Covering<'_> {
         requires fits { FitTogether map.now self.now.index.now }
         ensures grows { OnOk result (Grows map.now self.now.index.now self.now.roots.now self.now.named.now
             found.old.items found.new.items) }
-        ensures met { OnOk result (MetFromAll (node_in self.now.index.now) (core_at map.now) at pages.now.first
+        ensures met { OnOk result (MetFromAll (node_in self.now.index.now) (core_at map.now) input pages.now.first
             pages.now.count (IsFoundIn map.now found.new.items)) }
     {
         for part in 0..pages.count {
             let addr = pages.first.get() + 4096 * part as u64;
             let near = pages.near.wrapping_add(part as usize);
-            self.descend(map, at, addr, near, found)?;
+            self.descend(map, input, addr, near, found)?;
         }
         Ok(())
     }
@@ -192,7 +193,7 @@ impl Covering<'_> {
     fn descend_root(
         &self,
         map: &PlaceMap,
-        at: u64,
+        input: u64,
         number: usize,
         found: &mut SmallVec<Found, 4>,
     ) -> Result<(), NoMemory>
@@ -202,7 +203,7 @@ impl Covering<'_> {
             found.old.items found.new.items) }
         ensures met { OnOk result ((kind : TheKind) (first : ℕ) → nth_in self.now.roots.now number ≡ Some (kind, first)
             → spec_covers_kind self.now.named.now.scope.family kind ≡ true
-            → MetFromAll (node_in self.now.index.now) (core_at map.now) at first
+            → MetFromAll (node_in self.now.index.now) (core_at map.now) input first
             (spec.page_count self.now.header.now.world kind) (IsFoundIn map.now found.new.items)) }
     {
         match self.roots.nth(number) {
@@ -210,7 +211,7 @@ impl Covering<'_> {
                 if covers_kind(self.named.scope.family, kind) {
                     let count = self.header.page_count(kind);
                     let near = number;
-                    self.descend_pages(map, at, &RootPages { first, count, near }, found)
+                    self.descend_pages(map, input, &RootPages { first, count, near }, found)
                 } else {
                     Ok(())
                 }
@@ -224,7 +225,7 @@ impl Covering<'_> {
     pub(crate) fn descend_all(
         &self,
         map: &PlaceMap,
-        at: u64,
+        input: u64,
         found: &mut SmallVec<Found, 4>,
     ) -> Result<(), NoMemory>
         requires sound { IsSound self.now.index.now }
@@ -234,11 +235,11 @@ impl Covering<'_> {
         ensures met { OnOk result ((heading : Heading) (h : List Event) (root : Declared)
             → Stands self.now.roots.now heading h
             → root_at h root.page ≡ Some root → spec_covers_kind self.now.named.now.scope.family root.kind ≡ true
-            → MetFromAll (node_in self.now.index.now) (core_at map.now) at root.page
+            → MetFromAll (node_in self.now.index.now) (core_at map.now) input root.page
             (spec.page_count self.now.header.now.world root.kind) (IsFoundIn map.now found.new.items)) }
     {
         for number in 0..self.roots.count() {
-            self.descend_root(map, at, number, found)?;
+            self.descend_root(map, input, number, found)?;
         }
         Ok(())
     }

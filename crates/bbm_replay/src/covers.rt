@@ -18,13 +18,13 @@ ghost use Rattle.bbm_rules.specs.Tree.{Node};
 ghost use Rattle.bbm_tree_index.specs.HeldCores.{Childless, core_at};
 ghost use Rattle.bbm_tree_index.specs.Index.{node_in};
 ghost use Rattle.bbm_tree_index.specs.Nodes.{path_at};
-ghost use Rattle.bbm_place_map.specs.Each.{is_table as is_table_core};
 ghost use Rattle.bbm_place_map.specs.Map.{restless_in};
 ghost use Rattle.bbm_replay.specs.Leaves.{is_global_core};
 ghost use Rattle.bbm_tree_index.specs.IndexAgreement.{IsSound};
 
 use crate::covering::Covering;
 use crate::laws::laws;
+use crate::writes::next_of;
 use bbm_descriptor::Core;
 use bbm_place_map::{Answer, PlaceMap};
 use bbm_regimes::{Kind, NoMemory, Place, Tag};
@@ -36,16 +36,6 @@ use bbm_tlbi_scope::scope::is_number;
 use bbm_tlbi_scope::{Cover, Family, PlaceView, TagSet, cover};
 use bbm_tree_index::Path;
 use smallvec::SmallVec;
-
-/// Whether the core is that of a table.
-fn is_table(core: &Core) -> bool
-    ensures { result ≡ is_table_core core.now }
-{
-    match core {
-        Core::Table { .. } => true,
-        Core::Leaf { .. } => false,
-    }
-}
 
 /// Whether the core is that of a leaf for every ASID.
 fn is_global(core: &Core) -> bool
@@ -135,7 +125,7 @@ impl Covering<'_> {
         let Some(tags) = self.tags(path) else {
             return Cover::None;
         };
-        let table = is_table(core);
+        let table = next_of(core).is_some();
         cover(
             *scope,
             self.named.vmid,
@@ -175,7 +165,7 @@ impl Covering<'_> {
             let at = place.page().get();
             if paged || at != page {
                 page = at;
-                cover = match self.index.path_near(place, map.recent_page()) {
+                cover = match self.index.path_near(place, map.restless_page(i)) {
                     Some(path) => self.cover_met(map, place, &path, &map.restless_core(i)),
                     None => Cover::None,
                 };

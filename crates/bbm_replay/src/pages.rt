@@ -24,9 +24,9 @@ fn is_zero(map: &PlaceMap, page: Page) -> bool
     if map.is_blank(page) {
         return true;
     }
-    let seat = map.first_seat(page);
+    let position = map.first_position(page);
     for index in 0..512 {
-        if map.value_from(&seat, index) != 0 {
+        if map.value_from(&position, index) != 0 {
             return false;
         }
     }

@@ -5,7 +5,7 @@ ghost use Rattle.std.specs.Option.{option_and_then, option_map, option_map_or};
 ghost use Rattle.bbm_tree_index.specs.HeldCores.{limbo_by, next_in};
 ghost use Rattle.bbm_descriptor.specs.Descriptor as spec;
 ghost use Rattle.bbm_entry_state.specs.Points as points;
-ghost use Rattle.bbm_place_map.specs.Map.{IsSeat, marks_at, value_at};
+ghost use Rattle.bbm_place_map.specs.Map.{IsPosition, marks_at, value_at};
 ghost use Rattle.bbm_replay.specs.Leaves as leaves;
 ghost use Rattle.bbm_replay.specs.ReplayStanding.{Stands, view_of};
 ghost use Rattle.bbm_events.specs.Heading.{Heading};
@@ -30,7 +30,7 @@ use crate::laws::{laws, rules};
 use crate::parts::ReplayState;
 use bbm_descriptor::{Core, Memory, core};
 use bbm_entry_state::EntryState;
-use bbm_place_map::{PlaceMap, Seat};
+use bbm_place_map::{PlaceMap, Position};
 use bbm_regimes::{Kind, Page, Pe, Place};
 use bbm_replay_roots::law_others;
 use bbm_rules::{Rule, StepFault};
@@ -148,7 +148,7 @@ struct TreeWrite<'a> {
     /// The PE that writes.
     pe: Pe,
     /// Where the place is kept.
-    seat: &'a Seat,
+    position: &'a Position,
     /// The value that is written.
     value: u64,
     /// Where the place stands in its tree.
@@ -192,13 +192,13 @@ impl ReplayState {
         if !self.index.is_fresh_at(place.page(), number) {
             return false;
         }
-        let Some(seat) = self.map.seat_at(place, number) else {
+        let Some(position) = self.map.position_at(place, number) else {
             return false;
         };
-        if self.map.live_at(&seat, Kind::El2, 1).is_some() {
+        if self.map.live_at(&position, Kind::El2, 1).is_some() {
             return false;
         }
-        self.map.put_at(&seat, value);
+        self.map.put_at(&position, value);
         self.map.law_idle();
         true
     }
@@ -227,16 +227,16 @@ impl ReplayState {
         old: &Option<Core>,
         new: &Option<Core>,
     ) -> Result<(), StepFault>
-        requires may { MayMeet self.now (Write write.now.pe write.now.seat.now.place write.now.value) }
-        requires at { IsAt self.now write.now.seat.now.place write.now.path.now }
-        requires old { Holds self.now write.now.seat.now.place write.now.path.now old.now }
+        requires may { MayMeet self.now (Write write.now.pe write.now.position.now.place write.now.value) }
+        requires at { IsAt self.now write.now.position.now.place write.now.path.now }
+        requires old { Holds self.now write.now.position.now.place write.now.path.now old.now }
         requires new { new.now
             ≡ spec.core_of write.now.path.now.kind write.now.path.now.level write.now.value }
-        ensures { Clears self.now (Write write.now.pe write.now.seat.now.place write.now.value) result }
+        ensures { Clears self.now (Write write.now.pe write.now.position.now.place write.now.value) result }
     {
         laws();
         rules();
-        let place = write.seat.place;
+        let place = write.position.place;
         if let Some(at) = self
             .roots
             .without_lock(write.pe, write.path.first, place.get())
@@ -259,23 +259,23 @@ impl ReplayState {
         live: &Option<Core>,
         new: &Option<Core>,
     ) -> Result<(), StepFault>
-        requires may { MayMeet self.old (Write write.now.pe write.now.seat.now.place write.now.value) }
-        requires seat { IsSeat self.old.map write.now.seat.now }
-        requires at { IsAt self.old write.now.seat.now.place write.now.path.now }
+        requires may { MayMeet self.old (Write write.now.pe write.now.position.now.place write.now.value) }
+        requires position { IsPosition self.old.map write.now.position.now }
+        requires at { IsAt self.old write.now.position.now.place write.now.path.now }
         requires live { live.now ≡ spec.core_of write.now.path.now.kind write.now.path.now.level
-            (value_at self.old.map write.now.seat.now.place) }
+            (value_at self.old.map write.now.position.now.place) }
         requires new { new.now
             ≡ spec.core_of write.now.path.now.kind write.now.path.now.level write.now.value }
-        requires clear { Clears self.old (Write write.now.pe write.now.seat.now.place write.now.value) (Ok tt) }
+        requires clear { Clears self.old (Write write.now.pe write.now.position.now.place write.now.value) (Ok tt) }
         requires plain { leaves.attached_next
             (points.core_in (state_of (view_of self.old.map self.old.index) write.now.path.now.kind
-            write.now.path.now.level write.now.seat.now.place)) new.now ≡ None }
-        ensures { Meets self.old self.new (Write write.now.pe write.now.seat.now.place write.now.value) result }
+            write.now.path.now.level write.now.position.now.place)) new.now ≡ None }
+        ensures { Meets self.old self.new (Write write.now.pe write.now.position.now.place write.now.value) result }
     {
         laws();
         rules();
         law_others();
-        let place = write.seat.place.get();
+        let place = write.position.place.get();
         if is_contiguous(new) {
             return Err(StepFault::Broken(Rule::BadKind, place));
         }
@@ -283,7 +283,7 @@ impl ReplayState {
             return Err(StepFault::Broken(Rule::GlobalUser, place));
         }
         let (pe, value) = (write.pe, write.value);
-        self.map.write_at(write.seat, pe, value, live, new);
+        self.map.write_at(write.position, pe, value, live, new);
         self.map.law_idle();
         Ok(())
     }
@@ -297,30 +297,30 @@ impl ReplayState {
         new: &Option<Core>,
         next: Page,
     ) -> Result<(), StepFault>
-        requires may { MayMeet self.old (Write write.now.pe write.now.seat.now.place write.now.value) }
-        requires seat { IsSeat self.old.map write.now.seat.now }
-        requires at { IsAt self.old write.now.seat.now.place write.now.path.now }
+        requires may { MayMeet self.old (Write write.now.pe write.now.position.now.place write.now.value) }
+        requires position { IsPosition self.old.map write.now.position.now }
+        requires at { IsAt self.old write.now.position.now.place write.now.path.now }
         requires live { live.now ≡ spec.core_of write.now.path.now.kind write.now.path.now.level
-            (value_at self.old.map write.now.seat.now.place) }
+            (value_at self.old.map write.now.position.now.place) }
         requires new { new.now
             ≡ spec.core_of write.now.path.now.kind write.now.path.now.level write.now.value }
-        requires clear { Clears self.old (Write write.now.pe write.now.seat.now.place write.now.value) (Ok tt) }
+        requires clear { Clears self.old (Write write.now.pe write.now.position.now.place write.now.value) (Ok tt) }
         requires attaches { leaves.attached_next
             (points.core_in (state_of (view_of self.old.map self.old.index) write.now.path.now.kind
-            write.now.path.now.level write.now.seat.now.place)) new.now ≡ Some next }
-        ensures { Meets self.old self.new (Write write.now.pe write.now.seat.now.place write.now.value) result }
+            write.now.path.now.level write.now.position.now.place)) new.now ≡ Some next }
+        ensures { Meets self.old self.new (Write write.now.pe write.now.position.now.place write.now.value) result }
     {
         laws();
         rules();
         law_others();
-        let place = write.seat.place;
+        let place = write.position.place;
         match self
             .index
             .attach(alloc, &self.map, Attach::Below { place, next })
         {
             Ok(()) => {
                 self.map
-                    .write_at(write.seat, write.pe, write.value, live, new);
+                    .write_at(write.position, write.pe, write.value, live, new);
                 self.map.law_idle();
                 Ok(())
             }
@@ -328,27 +328,27 @@ impl ReplayState {
         }
     }
 
-    /// A write at a place of a tree, which is kept at this seat.
+    /// A write at a place of a tree, which is kept at this position.
     fn write_inside<'a>(
         &mut self,
         alloc: Global,
         pe: Pe,
-        seat: &'a Seat,
+        position: &'a Position,
         value: u64,
         path: &'a Path,
     ) -> Result<(), StepFault>
-        requires may { MayMeet self.old (Write pe seat.now.place value) }
-        requires seat { IsSeat self.old.map seat.now }
-        requires at { IsAt self.old seat.now.place path.now }
-        ensures { Meets self.old self.new (Write pe seat.now.place value) result }
+        requires may { MayMeet self.old (Write pe position.now.place value) }
+        requires position { IsPosition self.old.map position.now }
+        requires at { IsAt self.old position.now.place path.now }
+        ensures { Meets self.old self.new (Write pe position.now.place value) result }
     {
         laws();
-        let live = self.map.live_at(seat, path.kind, path.level);
-        let old = self.map.core_at(seat, live);
+        let live = self.map.live_at(position, path.kind, path.level);
+        let old = self.map.core_at(position, live);
         let new = core(path.kind, path.level, value);
         let write = TreeWrite {
             pe,
-            seat,
+            position,
             value,
             path,
         };
@@ -372,7 +372,7 @@ impl ReplayState {
         ensures own { result ≡ true
             → (same_kind write.now.path.now.kind Kind.Ttbr0 && leaves.is_global_core new.now) ≡ false }
         ensures limbo { result ≡ true → (is_some new.now && option_map_or (limbo_by (value_at self.now.map))
-            (node_in self.now.index (page_of write.now.seat.now.place)) false) ≡ false }
+            (node_in self.now.index (page_of write.now.position.now.place)) false) ≡ false }
     {
         if differ(live, new) {
             return false;
@@ -383,35 +383,37 @@ impl ReplayState {
         if is_contiguous(new) || is_user_global(write.path.kind, new) {
             return false;
         }
-        !self.makes_in_limbo(write.seat.place, new.is_some())
+        !self.makes_in_limbo(write.position.place, new.is_some())
     }
 
     /// Whether the root of the tree names no lock that the PE doesn't hold.
     #[inline(always)]
     fn is_open(&self, write: &TreeWrite) -> bool
         ensures { result ≡ true → (heading : Heading) (h : List Event) → roots.Stands self.now.roots heading h
-            → None ≡ option_and_then (λ lock. if_so (lacks h write.now.pe lock) write.now.seat.now.place)
+            → None ≡ option_and_then (λ lock. if_so (lacks h write.now.pe lock) write.now.position.now.place)
             (lock_of h write.now.path.now.first) }
     {
-        let at = write.seat.place.get();
+        let at = write.position.place.get();
         match self.roots.without_lock(write.pe, write.path.first, at) {
             Some(_at) => false,
             None => true,
         }
     }
 
-    /// Takes a write of a valid value at a place of a tree that isn't broken and has this core, where it attaches
-    /// nothing and breaks no rule; false says nothing, and nothing changed then.
+    /// Takes a write at a place of a tree that isn't broken and has this core, where the value leaves it unbroken,
+    /// attaches nothing and breaks no rule; false says nothing, and nothing changed then.
     #[inline(always)]
-    fn make_whole(&mut self, write: &TreeWrite, live: &Option<Core>) -> bool
-        requires may { MayMeet self.old (Write write.now.pe write.now.seat.now.place write.now.value) }
-        requires seat { IsSeat self.old.map write.now.seat.now }
-        requires at { IsAt self.old write.now.seat.now.place write.now.path.now }
-        requires whole { marks_at self.old.map write.now.seat.now.place ≡ None }
+    fn put_whole(&mut self, write: &TreeWrite, live: &Option<Core>) -> bool
+        requires may { MayMeet self.old (Write write.now.pe write.now.position.now.place write.now.value) }
+        requires position { IsPosition self.old.map write.now.position.now }
+        requires at { IsAt self.old write.now.position.now.place write.now.path.now }
+        requires whole { marks_at self.old.map write.now.position.now.place ≡ None }
         requires live { live.now ≡ spec.core_of write.now.path.now.kind write.now.path.now.level
-            (value_at self.old.map write.now.seat.now.place) }
+            (value_at self.old.map write.now.position.now.place) }
+        requires stays { None ≡ spec.core_of write.now.path.now.kind write.now.path.now.level write.now.value
+            → live.now ≡ None }
         ensures taken { result ≡ true
-            → Meets self.old self.new (Write write.now.pe write.now.seat.now.place write.now.value) (Ok tt) }
+            → Meets self.old self.new (Write write.now.pe write.now.position.now.place write.now.value) (Ok tt) }
         ensures kept { result ≡ false → self.new ≡ self.old }
     {
         laws();
@@ -422,13 +424,10 @@ impl ReplayState {
         }
         let path = write.path;
         let new = core(path.kind, path.level, write.value);
-        if !new.is_some() {
-            return false;
-        }
         if !self.may_put(write, live, &new) {
             return false;
         }
-        self.map.put_at(write.seat, write.value);
+        self.map.put_at(write.position, write.value);
         self.map.law_idle();
         true
     }
@@ -437,15 +436,15 @@ impl ReplayState {
     /// rule; false says nothing, and nothing changed then.
     #[inline(always)]
     fn break_whole(&mut self, write: &TreeWrite, live: Core) -> bool
-        requires may { MayMeet self.old (Write write.now.pe write.now.seat.now.place write.now.value) }
-        requires seat { IsSeat self.old.map write.now.seat.now }
-        requires at { IsAt self.old write.now.seat.now.place write.now.path.now }
-        requires whole { marks_at self.old.map write.now.seat.now.place ≡ None }
+        requires may { MayMeet self.old (Write write.now.pe write.now.position.now.place write.now.value) }
+        requires position { IsPosition self.old.map write.now.position.now }
+        requires at { IsAt self.old write.now.position.now.place write.now.path.now }
+        requires whole { marks_at self.old.map write.now.position.now.place ≡ None }
         requires live { Some live ≡ spec.core_of write.now.path.now.kind write.now.path.now.level
-            (value_at self.old.map write.now.seat.now.place) }
+            (value_at self.old.map write.now.position.now.place) }
         requires dead { None ≡ spec.core_of write.now.path.now.kind write.now.path.now.level write.now.value }
         ensures taken { result ≡ true
-            → Meets self.old self.new (Write write.now.pe write.now.seat.now.place write.now.value) (Ok tt) }
+            → Meets self.old self.new (Write write.now.pe write.now.position.now.place write.now.value) (Ok tt) }
         ensures kept { result ≡ false → self.new ≡ self.old }
     {
         laws();
@@ -454,7 +453,8 @@ impl ReplayState {
         if !self.is_open(write) {
             return false;
         }
-        self.map.break_at(write.seat, write.pe, write.value, live);
+        self.map
+            .break_at(write.position, write.pe, write.value, live);
         self.map.law_idle();
         true
     }
@@ -463,22 +463,22 @@ impl ReplayState {
     /// nothing, and nothing changed then. A value over none has a way of its own, so that it carries no core about.
     #[inline(always)]
     fn write_whole(&mut self, write: &TreeWrite) -> bool
-        requires may { MayMeet self.old (Write write.now.pe write.now.seat.now.place write.now.value) }
-        requires seat { IsSeat self.old.map write.now.seat.now }
-        requires at { IsAt self.old write.now.seat.now.place write.now.path.now }
-        requires whole { marks_at self.old.map write.now.seat.now.place ≡ None }
+        requires may { MayMeet self.old (Write write.now.pe write.now.position.now.place write.now.value) }
+        requires position { IsPosition self.old.map write.now.position.now }
+        requires at { IsAt self.old write.now.position.now.place write.now.path.now }
+        requires whole { marks_at self.old.map write.now.position.now.place ≡ None }
         ensures taken { result ≡ true
-            → Meets self.old self.new (Write write.now.pe write.now.seat.now.place write.now.value) (Ok tt) }
+            → Meets self.old self.new (Write write.now.pe write.now.position.now.place write.now.value) (Ok tt) }
         ensures kept { result ≡ false → self.new ≡ self.old }
     {
         laws();
         let path = write.path;
-        match self.map.live_at(write.seat, path.kind, path.level) {
-            None => self.make_whole(write, &None),
+        match self.map.live_at(write.position, path.kind, path.level) {
+            None => self.put_whole(write, &None),
             Some(live) => {
                 let new = core(path.kind, path.level, write.value);
                 if new.is_some() {
-                    return self.make_whole(write, &Some(live));
+                    return self.put_whole(write, &Some(live));
                 }
                 self.break_whole(write, live)
             }
@@ -495,23 +495,39 @@ impl ReplayState {
         let Some(path) = self.index.path_at(place, number) else {
             return false;
         };
-        let Some(seat) = self.map.seat_at(place, number) else {
+        let Some(position) = self.map.position_at(place, number) else {
             return false;
         };
-        if self.map.is_broken_at(&seat) {
+        if self.map.is_broken_at(&position) {
             return false;
         }
         self.write_whole(&TreeWrite {
             pe,
-            seat: &seat,
+            position: &position,
             value,
             path: &path,
         })
     }
 
+    /// Takes a write in the page that was written last, or in another that is tracked, at a place of a tree that isn't
+    /// broken or in a fresh page, where it attaches nothing and breaks no rule; false says nothing, and nothing changed
+    /// then. It answers in a register, where a `Result` takes memory.
+    #[inline(never)]
+    pub(crate) fn write_near(&mut self, pe: Pe, place: Place, value: u64) -> bool
+        requires { MayMeet self.old (Write pe place value) }
+        ensures taken { result ≡ true → Meets self.old self.new (Write pe place value) (Ok tt) }
+        ensures kept { result ≡ false → self.new ≡ self.old }
+    {
+        let number = self.index.number(place.page(), self.map.recent_page());
+        if self.write_quick(pe, place, value, number) {
+            return true;
+        }
+        self.write_fresh(pe, place, value, number)
+    }
+
     /// A write.
     #[inline(never)]
-    pub(crate) fn write(
+    pub(crate) fn write_any(
         &mut self,
         alloc: Global,
         pe: Pe,
@@ -522,34 +538,30 @@ impl ReplayState {
         ensures { Meets self.old self.new (Write pe place value) result }
     {
         let near = self.index.number(place.page(), self.map.recent_page());
-        if self.write_quick(pe, place, value, near) {
-            return Ok(());
+        match self.index.path_near(place, near) {
+            Some(path) => {
+                let position = self.map.position_near(place, near).unwrap();
+                self.write_inside(alloc, pe, &position, value, &path)
+            }
+            None => self.write_outside(pe, place, value),
         }
-        if self.write_fresh(pe, place, value, near) {
-            return Ok(());
-        }
-        self.write_any(alloc, pe, place, value, near)
     }
 
-    /// A write. No answer depends on the number `near`, at which its page is looked for first.
-    #[inline(never)]
-    fn write_any(
+    /// A write. Most are taken by `write_near`, and else it is judged from the start.
+    #[inline(always)]
+    pub(crate) fn write(
         &mut self,
         alloc: Global,
         pe: Pe,
         place: Place,
         value: u64,
-        near: usize,
     ) -> Result<(), StepFault>
         requires { MayMeet self.old (Write pe place value) }
         ensures { Meets self.old self.new (Write pe place value) result }
     {
-        match self.index.path_near(place, near) {
-            Some(path) => {
-                let seat = self.map.seat_near(place, near).unwrap();
-                self.write_inside(alloc, pe, &seat, value, &path)
-            }
-            None => self.write_outside(pe, place, value),
+        if self.write_near(pe, place, value) {
+            return Ok(());
         }
+        self.write_any(alloc, pe, place, value)
     }
 }

@@ -1,5 +1,6 @@
 use Rattle.bbm_replay.proofs.Common.{input_pages, Path, notes, asks_childless, asks_tags, view_of}
-use Rattle.bbm_rules.proofs.Common.{◌≡◌, ◌≤◌, ◌<◌, ◌+◌, ◌-◌, ℕ, true, false, Some, refl, sym, ◌∙◌, ap, subst, arith}
+use Rattle.bbm_rules.proofs.Common.{◌≡◌, ◌≤◌, ◌<◌, ◌+◌, ◌-◌, ℕ, true, false, Option, Some, is_some, refl, sym, ◌∙◌, ap}
+use Rattle.bbm_rules.proofs.Common.{subst, arith}
 use Rattle.bbm_rules.proofs.Common.{core_of, desc_of, Core, Extent, names_some, has_page, Patterns, page_of, tag_set}
 use Rattle.bbm_rules.proofs.Common.{tags_of, held_at, is_childless, region_of, region_start}
 use Rattle.bbm_place_map.specs.Map.{marks_at, value_at}
@@ -76,7 +77,7 @@ returns c over heading h pe op xt m =
     m.told.nodes (cores heading h view m.told) is value.1 in
     let childless = is_childless heading Patterns (notes heading h) n value.0 in
     let tags = tag_set (tags_of heading Patterns n.root h) in
-    let table = c.is_table-table.result in
+    let table = c.is_some-table.result in
     let same_childless : asks_childless scope table ≡ true → c.is_childless.result ≡ childless
     = λ asked. let inside = c.is_childless.ensures asked n is in
     same_by_truth c.is_childless.result childless
@@ -99,5 +100,6 @@ returns c over heading h pe op xt m =
     ∙ covered heading h pe op xt scope vmid place n value.0 table c.is_global.result
     childless tags (c.law_notes_keep_the_events.ensures heading Patterns h)
     m.names m.vmid_is (sym (m.told.nodes (page_of place)) ∙ is) value.1
-    (c.is_table-table.ensures ∙ table_is (desc_of n.kind n.level value.0) core value.2)
+    (c.is_some-table.ensures ∙ ap (λ (o : Option ℕ). is_some o) c.next_of.ensures.held
+    ∙ table_is (desc_of n.kind n.level value.0) core value.2)
     (c.is_global.ensures ∙ global_is (desc_of n.kind n.level value.0) core value.2) refl refl

@@ -3,7 +3,7 @@ use Rattle.bbm_rules.proofs.Common.{◌≡◌, ◌≤◌, ℕ, suc, true, None, 
 use Rattle.bbm_rules.proofs.Common.{node_below}
 use Rattle.bbm_tree_index.specs.Index.{node_in}
 use Rattle.bbm_replay.proofs.Findings.{if_some}
-use Rattle.bbm_replay.proofs.Ways.{ahead, goes_on, low_below, on_way, on_way_below, way_ends, within_below}
+use Rattle.bbm_replay.proofs.Ways.{ahead, goes_on, may_hang, on_way, on_way_below, way_ends}
 use Rattle.bbm_replay.proofs.covering.Covering.descend.Goals as goal
 
 one : {A : Type 0} (x y : A) → Some x ≡ Some y → x ≡ y
@@ -22,13 +22,13 @@ loop-depth-init c =
       on_way = λ m is.
           let n = if_some (λ (y : ℕ × Path). (n : Node) × (node_in index page ≡ Some n) × (y.1 ≡ path_at n y.0)) met
           m is e.path in (
-            on_way (node_in index) c.args.at page n.0 n.1 met m is (inside m is) n.2 (λ a. e.met n.0 a n.1),
+            on_way (node_in index) c.args.input page n.0 n.1 met m is (inside m is) n.2 (λ a. e.met n.0 a n.1),
             if_some (λ (y : ℕ × Path). y.1.level ≤ 3) met m is e.low,
             omega arith,
           );
       met = λ way a w.
-          inr (ahead (node_in index) (core_at c.args.map.now) c.args.at page met inside e.met way a
-          (subst (λ p. IsWay (node_in index) (core_at c.args.map.now) c.args.at p way a) (sym c.in-Some.ensures.value)
+          inr (ahead (node_in index) (core_at c.args.map.now) c.args.input page met inside e.met way a
+          (subst (λ p. IsWay (node_in index) (core_at c.args.map.now) c.args.input p way a) (sym c.in-Some.ensures.value)
           w));
     }
 
@@ -42,17 +42,17 @@ returns-in_default-here-clause-met c page way a w broken =
       | inr more ↦ (let bad : None ≡ Some more.0 = sym c.in_default-here.is ∙ more.1 in absurd cc)
     ]
 
-pub meet-requires-clause-tracked : goal.meet-requires-clause-tracked
-meet-requires-clause-tracked c =
+pub add_place-requires-clause-tracked : goal.add_place-requires-clause-tracked
+add_place-requires-clause-tracked c =
     let m = c.in-Some-here.met in
     let on = (c.loop-depth.invariant.on_way m c.in-Some-here.is).0 in
     c.requires.fits.tracked (page_of m.0) on.stands on.is_node
 
-pub meet-requires-clause-low : goal.meet-requires-clause-low
-meet-requires-clause-low c = (c.loop-depth.invariant.on_way c.in-Some-here.met c.in-Some-here.is).1
+pub add_place-requires-clause-low : goal.add_place-requires-clause-low
+add_place-requires-clause-low c = (c.loop-depth.invariant.on_way c.in-Some-here.met c.in-Some-here.is).1
 
-pub meet-requires-clause-path : goal.meet-requires-clause-path
-meet-requires-clause-path c =
+pub add_place-requires-clause-path : goal.add_place-requires-clause-path
+add_place-requires-clause-path c =
     let on = (c.loop-depth.invariant.on_way c.in-Some-here.met c.in-Some-here.is).0 in
     (on.stands, on.is_node, on.has_path)
 
@@ -71,25 +71,18 @@ returns-in_default-2-clause-met c page way a w broken =
     elim (c.loop-depth.invariant.met way a w) [
       | inl has ↦ c.in_ok-next.ensures.grows.1 a (has broken)
       | inr more ↦ (let same : m ≡ more.0 = one m more.0 (sym c.in-Some-here.is ∙ more.1) in
-          let here : m.0 ≡ a = way_ends (node_in index) (core_at map) c.args.at m.0 m.1 on c.in_ok-next.field-0
+          let here : m.0 ≡ a = way_ends (node_in index) (core_at map) c.args.input m.0 m.1 on c.in_ok-next.field-0
           c.in_ok-next.ensures.next c.in_default-2.is more.2 a
-          (subst (λ (y : ℕ × Path). IsWay (node_in index) (core_at map) c.args.at (page_of y.0) more.2 a) (sym same)
+          (subst (λ (y : ℕ × Path). IsWay (node_in index) (core_at map) c.args.input (page_of y.0) more.2 a) (sym same)
           more.3) in
-          subst (IsFoundIn map c.meet.new.found.items) here c.in_ok-next.ensures.added broken)
+          subst (IsFoundIn map c.add_place.new.found.items) here c.in_ok-next.ensures.added broken)
     ]
 
-pub place_below-here-requires-clause-low : goal.place_below-here-requires-clause-low
-place_below-here-requires-clause-low c =
+pub place_below-here-requires : goal.place_below-here-requires
+place_below-here-requires c =
     let m = c.in-Some-here.met in
     let on = (c.loop-depth.invariant.on_way m c.in-Some-here.is).0 in
-    low_below c.args.map.now c.args.self.now.index.now c.requires.sound c.requires.fits c.args.at m.0 m.1 on
-    c.in_ok-next.field-0 c.in_ok-next.ensures.next c.in-Some-2.next c.in-Some-2.is
-
-pub place_below-here-requires-clause-within : goal.place_below-here-requires-clause-within
-place_below-here-requires-clause-within c =
-    let m = c.in-Some-here.met in
-    let on = (c.loop-depth.invariant.on_way m c.in-Some-here.is).0 in
-    within_below c.args.map.now c.args.self.now.index.now c.requires.sound c.requires.fits c.args.at m.0 m.1 on
+    may_hang c.args.map.now c.args.self.now.index.now c.requires.sound c.requires.fits c.args.input m.0 m.1 on
     c.in_ok-next.field-0 c.in_ok-next.ensures.next c.in-Some-2.next c.in-Some-2.is
 
 pub loop-depth-preserved : goal.loop-depth-preserved
@@ -108,13 +101,13 @@ loop-depth-preserved c =
     let inside = λ (y : ℕ × Path) (is : below ≡ Some y).
     if_some (λ (z : ℕ × Path). is_at x z.0 ≡ true) below y is e.inside in
     let low : m.1.level ≤ 2
-    = low_below map index c.requires.sound c.requires.fits c.args.at m.0 m.1 at.0 next goes x c.in-Some-2.is in
+    = (may_hang map index c.requires.sound c.requires.fits c.args.input m.0 m.1 at.0 next goes x c.in-Some-2.is).low in
     record {
       grows = (λ all. added.0 (v.grows.0 all), λ a has. added.1 a (v.grows.1 a has));
       on_way = λ y is.
           let level : y.1.level ≡ suc m.1.level
           = if_some (λ (z : ℕ × Path). z.1.level ≡ suc m.1.level) below y is e.level in (
-            on_way_below map index c.requires.sound c.requires.fits c.args.at m.0 m.1 at.0 next goes x c.in-Some-2.is
+            on_way_below map index c.requires.sound c.requires.fits c.args.input m.0 m.1 at.0 next goes x c.in-Some-2.is
                 below y is (inside y is)
                 (if_some (λ (z : ℕ × Path). (n : Node) (a : ℕ) → m.1 ≡ path_at n a
                 → z.1 ≡ path_at (node_below n a x) z.0) below y is e.path) e.met,
@@ -125,9 +118,9 @@ loop-depth-preserved c =
           elim (v.met way a w) [
             | inl has ↦ inl (λ broken. added.1 a (has broken))
             | inr more ↦ (let same : m ≡ more.0 = one m more.0 (sym c.in-Some-here.is ∙ more.1) in
-                goes_on map index c.requires.sound c.requires.fits c.args.at m.0 m.1 at.0 next goes x c.in-Some-2.is
-                below inside e.met (IsFoundIn map c.meet.new.found.items) c.in_ok-next.ensures.added more.2 a
-                (subst (λ (y : ℕ × Path). IsWay (node_in index) (core_at map) c.args.at (page_of y.0) more.2 a)
+                goes_on map index c.requires.sound c.requires.fits c.args.input m.0 m.1 at.0 next goes x c.in-Some-2.is
+                below inside e.met (IsFoundIn map c.add_place.new.found.items) c.in_ok-next.ensures.added more.2 a
+                (subst (λ (y : ℕ × Path). IsWay (node_in index) (core_at map) c.args.input (page_of y.0) more.2 a)
                 (sym same) more.3))
           ];
     }

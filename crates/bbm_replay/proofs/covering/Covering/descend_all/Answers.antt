@@ -15,7 +15,7 @@ loop-number-preserved c =
       grows = (λ all. e.grows.0 (v.grows.0 all), λ a has. e.grows.1 a (v.grows.1 a has));
       met = λ j below. below_more (λ (i : ℕ). (kind : Kind) (first : ℕ) → nth_in by.roots.now i ≡ Some (kind, first)
           → covers_kind by.named.now.scope.family kind ≡ true
-          → MetFromAll (node_in by.index.now) (core_at map) c.args.at first (page_count by.header.now.world kind)
+          → MetFromAll (node_in by.index.now) (core_at map) c.args.input first (page_count by.header.now.world kind)
           (IsFoundIn map new)) c.loop-number.number
           (λ i less kind first is covers part within page way a w broken.
           e.grows.1 a (v.met i less kind first is covers part within page way a w broken)) e.met j below;

@@ -9,6 +9,6 @@ invariant-loop-number l = record {
   grows : Grows l.map l.self.index.now l.self.roots.now l.self.named.now l.fn.found.items l.found.items;
   met : (i : ℕ) → i < l.number → (kind : Kind) (first : ℕ) → nth_in l.self.roots.now i ≡ Some (kind, first)
       → covers_kind l.self.named.now.scope.family kind ≡ true
-      → MetFromAll (node_in l.self.index.now) (core_at l.map) l.at first (page_count l.self.header.now.world kind)
+      → MetFromAll (node_in l.self.index.now) (core_at l.map) l.input first (page_count l.self.header.now.world kind)
       (IsFoundIn l.map l.found.items);
 }

@@ -11,14 +11,14 @@ loop-part-preserved c =
     let new = c.descend.new.found.items in
     let v = c.loop-part.invariant in
     let e = c.in_ok-descend.ensures in
-    let here : MetFrom (node_in c.args.self.now.index.now) (core_at map) c.args.at
+    let here : MetFrom (node_in c.args.self.now.index.now) (core_at map) c.args.input
     (c.args.pages.now.first + 4096 * part) (IsFoundIn map new)
-    = subst (λ x. MetFrom (node_in c.args.self.now.index.now) (core_at map) c.args.at (x + 4096 * part)
+    = subst (λ x. MetFrom (node_in c.args.self.now.index.now) (core_at map) c.args.input (x + 4096 * part)
     (IsFoundIn map new))
     c.get.ensures.value e.met in
     record {
       grows = (λ all. e.grows.0 (v.grows.0 all), λ a has. e.grows.1 a (v.grows.1 a has));
-      met = λ j below. below_more (λ (i : ℕ). MetFrom (node_in c.args.self.now.index.now) (core_at map) c.args.at
+      met = λ j below. below_more (λ (i : ℕ). MetFrom (node_in c.args.self.now.index.now) (core_at map) c.args.input
           (c.args.pages.now.first + 4096 * i) (IsFoundIn map new)) part
           (λ i less page way a w broken. e.grows.1 a (v.met i less page way a w broken)) here j below;
     }

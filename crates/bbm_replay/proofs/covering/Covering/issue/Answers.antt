@@ -52,7 +52,7 @@ returns-in_ok-descend_all-in-Some-clause-noted c =
     let away : is_found found a ≡ false → f a ≡ cover.None
     = λ e. uncovered heading (c.laws.ensures heading) h (c.law_starts.ensures heading)
     (c.law_notes_keep_the_events.ensures heading Patterns h) map index by.roots.now pe op xt by.named.now m
-    c.requires.sound c.in-Some.at one (IsFoundIn map items)
+    c.restless.ensures.aligned c.requires.sound c.in-Some.at one (IsFoundIn map items)
     (λ r at covers. subst (λ (x : Heading). MetFromAll (node_in index) (core_at map) c.in-Some.at r.page
     (page_count x.world r.kind)
     (IsFoundIn map items)) same (all.met heading h r m.stands at covers))

@@ -7,7 +7,7 @@ pub returns-clause-taken : goal.returns-clause-taken
 returns-clause-taken c = λ taken.
     let old = c.args.self.now in
     let w = c.args.write.now in
-    let place = w.seat.now.place in
+    let place = w.position.now.place in
     let path = w.path.now in
     let e = c.break_at.ensures in
     let next : ReplayState = record old { map = c.break_at.new.self } in

@@ -16,14 +16,14 @@ returns-then-complete c =
     let new : ReplayState = record old { map = c.prune.new.map; index = c.prune.new.self; roots = c.complete-then-complete.new.self } in
     let hears = hears_of old m1 c.args.pe c.args.dsb c.is_silent-silent.result c.pe_count-n.result c.is_silent-silent.ensures
     c.pe_count-n.ensures.count p.published p.unheard p.values p.pends in
-    let completes = completes_of old m1 m2 c.args.pe c.args.dsb c.pe_count-n.result c.pe_count-n.ensures.count e.completed e.others e.values in
-    dsb_meets c.laws.ensures old new m1 m2 c.args.pe c.args.dsb c.requires hears completes (λ x. e.pages x ∙ p.pages x)
+    let completes = completes_of old m1 m2 c.args.pe c.args.dsb c.pe_count-n.result c.pe_count-n.ensures.count e.completed e.others e.same.values in
+    dsb_meets c.laws.ensures old new m1 m2 c.args.pe c.args.dsb c.requires hears completes (λ x. e.same.pages x ∙ p.pages x)
     (record { header = refl; index_header = r.tracked.heading; sound = λ s. r.sound })
     (λ heading h. c.law_barriers.ensures.dsb heading h c.args.pe c.args.dsb)
     (λ h. c.law_barriers.ensures.dsb_limit h c.args.pe c.args.dsb)
     c.complete-then-complete.ensures.taken
     (λ heading h s. leaves_of old.index new.index m2 new.map (is_held_by (holds_at m2))
-    (still_outside c.laws.ensures old new m1 m2 c.args.pe c.args.dsb c.requires hears completes (λ x. e.pages x ∙ p.pages x)
+    (still_outside c.laws.ensures old new m1 m2 c.args.pe c.args.dsb c.requires hears completes (λ x. e.same.pages x ∙ p.pages x)
     (record { header = refl; index_header = r.tracked.heading; sound = λ s. r.sound })
     (λ heading h. c.law_barriers.ensures.dsb heading h c.args.pe c.args.dsb)
     (λ h. c.law_barriers.ensures.dsb_limit h c.args.pe c.args.dsb)
@@ -40,13 +40,13 @@ returns c =
     let new : ReplayState = record old { map = m2; roots = c.complete-2.new.self } in
     let hears = hears_of old m1 c.args.pe c.args.dsb c.is_silent-silent.result c.pe_count-n.result c.is_silent-silent.ensures
     c.pe_count-n.ensures.count p.published p.unheard p.values p.pends in
-    let completes = completes_of old m1 m2 c.args.pe c.args.dsb c.pe_count-n.result c.pe_count-n.ensures.count e.completed e.others e.values in
-    dsb_meets c.laws.ensures old new m1 m2 c.args.pe c.args.dsb c.requires hears completes (λ x. e.pages x ∙ p.pages x)
+    let completes = completes_of old m1 m2 c.args.pe c.args.dsb c.pe_count-n.result c.pe_count-n.ensures.count e.completed e.others e.same.values in
+    dsb_meets c.laws.ensures old new m1 m2 c.args.pe c.args.dsb c.requires hears completes (λ x. e.same.pages x ∙ p.pages x)
     (record { header = refl; index_header = refl; sound = λ s. s })
     (λ heading h. c.law_barriers.ensures.dsb heading h c.args.pe c.args.dsb)
     (λ h. c.law_barriers.ensures.dsb_limit h c.args.pe c.args.dsb)
     c.complete-2.ensures.taken
-    (λ heading h s. nothing_leaves c.laws.ensures old new m1 m2 c.args.pe c.args.dsb c.requires hears completes (λ x. e.pages x ∙ p.pages x)
+    (λ heading h s. nothing_leaves c.laws.ensures old new m1 m2 c.args.pe c.args.dsb c.requires hears completes (λ x. e.same.pages x ∙ p.pages x)
     (record { header = refl; index_header = refl; sound = λ s. s })
     (λ heading h. c.law_barriers.ensures.dsb heading h c.args.pe c.args.dsb)
     (λ h. c.law_barriers.ensures.dsb_limit h c.args.pe c.args.dsb)

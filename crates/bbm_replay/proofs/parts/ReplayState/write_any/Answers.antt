@@ -1,40 +1,40 @@
 use Rattle.bbm_replay.proofs.Common.{IsAt, MayMeet, Meets}
 use Rattle.bbm_rules.proofs.Common.{◌≡◌, sym, subst, Write}
-use Rattle.bbm_place_map.specs.Map.{IsSeat}
-use Rattle.bbm_place_map.specs.declared.seat.Seat.{Seat}
+use Rattle.bbm_place_map.specs.Map.{IsPosition}
+use Rattle.bbm_place_map.specs.declared.position.Position.{Position}
 use Rattle.bbm_replay.proofs.Findings.{if_some}
 use Rattle.bbm_replay.proofs.Found.{at_path, no_path}
 use Rattle.bbm_replay.proofs.parts.ReplayState.write_any.Goals as goal
 
-pub unwrap-seat-requires : goal.unwrap-seat-requires
-unwrap-seat-requires c =
+pub unwrap-position-requires : goal.unwrap-position-requires
+unwrap-position-requires c =
     let n = at_path c.args.self.now c.args.place c.path_near.result c.in-Some.path c.in-Some.is c.path_near.ensures in
-    c.seat_near.ensures.tracked (c.requires.2.told.apart.node_tracked _ n.0 n.1)
+    c.position_near.ensures.tracked (c.requires.2.told.apart.node_tracked _ n.0 n.1)
 
 pub write_inside-requires-clause-at : goal.write_inside-requires-clause-at
 write_inside-requires-clause-at c =
     subst (λ a. IsAt c.args.self.now a c.in-Some.path)
-    (sym (if_some (λ (s : Seat). s.place ≡ c.args.place) c.seat_near.result c.unwrap-seat.result c.unwrap-seat.ensures
-    c.seat_near.ensures.place))
+    (sym (if_some (λ (s : Position). s.place ≡ c.args.place) c.position_near.result c.unwrap-position.result c.unwrap-position.ensures
+    c.position_near.ensures.place))
     (at_path c.args.self.now c.args.place c.path_near.result c.in-Some.path c.in-Some.is c.path_near.ensures)
 
 pub write_inside-requires-clause-may : goal.write_inside-requires-clause-may
 write_inside-requires-clause-may c =
     subst (λ a. MayMeet c.args.self.now (Write c.args.pe a c.args.value))
-    (sym (if_some (λ (s : Seat). s.place ≡ c.args.place) c.seat_near.result c.unwrap-seat.result c.unwrap-seat.ensures
-    c.seat_near.ensures.place))
+    (sym (if_some (λ (s : Position). s.place ≡ c.args.place) c.position_near.result c.unwrap-position.result c.unwrap-position.ensures
+    c.position_near.ensures.place))
     c.requires
 
-pub write_inside-requires-clause-seat : goal.write_inside-requires-clause-seat
-write_inside-requires-clause-seat c =
-    if_some (λ (s : Seat). IsSeat c.args.self.now.map s) c.seat_near.result c.unwrap-seat.result c.unwrap-seat.ensures
-    c.seat_near.ensures.seat
+pub write_inside-requires-clause-position : goal.write_inside-requires-clause-position
+write_inside-requires-clause-position c =
+    if_some (λ (s : Position). IsPosition c.args.self.now.map s) c.position_near.result c.unwrap-position.result c.unwrap-position.ensures
+    c.position_near.ensures.position
 
 pub returns-in-Some : goal.returns-in-Some
 returns-in-Some c =
     subst (λ a. Meets c.args.self.now c.write_inside.new.self (Write c.args.pe a c.args.value) c.write_inside.result)
-    (if_some (λ (s : Seat). s.place ≡ c.args.place) c.seat_near.result c.unwrap-seat.result c.unwrap-seat.ensures
-    c.seat_near.ensures.place)
+    (if_some (λ (s : Position). s.place ≡ c.args.place) c.position_near.result c.unwrap-position.result c.unwrap-position.ensures
+    c.position_near.ensures.place)
     c.write_inside.ensures
 
 pub write_outside-requires-clause-outside : goal.write_outside-requires-clause-outside

@@ -19,19 +19,19 @@ returns-in-Ok c =
     let left = e.written.2 in
     let a = c.in-Ok.ensures in
     let last : ReplayState = record old { map = c.write_at.new.self; index = c.attach.new.self } in
-    attach_ok c.laws.ensures c.rules.ensures old c.args.write.now.pe c.args.write.now.seat.now.place c.args.write.now.value c.requires.may
-    c.args.write.now.path.now c.requires.at (core_in (was c.args.self.now c.args.write.now.path.now c.args.write.now.seat.now.place)) c.args.new.now refl c.requires.new
+    attach_ok c.laws.ensures c.rules.ensures old c.args.write.now.pe c.args.write.now.position.now.place c.args.write.now.value c.requires.may
+    c.args.write.now.path.now c.requires.at (core_in (was c.args.self.now c.args.write.now.path.now c.args.write.now.position.now.place)) c.args.new.now refl c.requires.new
     c.requires.clear c.args.next c.requires.attaches a.judged c.law_others.ensures last
     (record { header = refl; index_header = c.attach.ensures.tracked.heading; sound = λ s. c.attach.ensures.sound }) refl state
-    (subst (λ (live : Option Core). Written (state_at old.map live c.args.write.now.seat.now.place) c.args.write.now.pe c.args.new.now state) c.requires.live e.written.1)
+    (subst (λ (live : Option Core). Written (state_at old.map live c.args.write.now.position.now.place) c.args.write.now.pe c.args.new.now state) c.requires.live e.written.1)
     (record {
-      value = e.values;
+      value = e.put.values;
       marks = left.marks;
       pends = λ q a k b i p. ap (λ (x : Pends). waits x b i p) (left.pends q a k);
       dropped = left.dropped;
     })
-    (attaches_of old.index last.index old.map last.map (attach.Below c.args.write.now.seat.now.place c.args.next) a.attached
-    (record { tracked = e.pages; known = c.attach.ensures.tracked.known; pages = c.attach.ensures.tracked.pages }))
+    (attaches_of old.index last.index old.map last.map (attach.Below c.args.write.now.position.now.place c.args.next) a.attached
+    (record { tracked = e.put.pages; known = c.attach.ensures.tracked.known; pages = c.attach.ensures.tracked.pages }))
     c.law_idle.ensures
 
 pub returns-in-Err : goal.returns-in-Err
@@ -40,8 +40,8 @@ returns-in-Err c =
     let a = c.in-Err.ensures in
     let last : ReplayState = record old { index = c.attach.new.self } in
     rw c.step_fault.ensures
-    (attach_fault c.laws.ensures c.rules.ensures old c.args.write.now.pe c.args.write.now.seat.now.place c.args.write.now.value c.requires.may
-    c.args.write.now.path.now c.requires.at (core_in (was c.args.self.now c.args.write.now.path.now c.args.write.now.seat.now.place)) c.args.new.now refl c.requires.new
+    (attach_fault c.laws.ensures c.rules.ensures old c.args.write.now.pe c.args.write.now.position.now.place c.args.write.now.value c.requires.may
+    c.args.write.now.path.now c.requires.at (core_in (was c.args.self.now c.args.write.now.path.now c.args.write.now.position.now.place)) c.args.new.now refl c.requires.new
     c.requires.clear c.args.next c.requires.attaches last
     (λ heading h s. stands_still c.laws.ensures old last
     (record { header = refl; index_header = c.attach.ensures.tracked.heading; sound = λ s. c.attach.ensures.sound })
@@ -57,7 +57,7 @@ pub attach-requires-clause-may : goal.attach-requires-clause-may
 attach-requires-clause-may c = (
   c.requires.at.0,
   c.requires.at.1,
-  below_three c.laws.ensures c.rules.ensures c.args.self.now c.args.write.now.pe c.args.write.now.seat.now.place c.args.write.now.value c.requires.may
-      c.args.write.now.path.now c.requires.at (core_in (was c.args.self.now c.args.write.now.path.now c.args.write.now.seat.now.place)) c.args.new.now refl c.requires.new
+  below_three c.laws.ensures c.rules.ensures c.args.self.now c.args.write.now.pe c.args.write.now.position.now.place c.args.write.now.value c.requires.may
+      c.args.write.now.path.now c.requires.at (core_in (was c.args.self.now c.args.write.now.path.now c.args.write.now.position.now.place)) c.args.new.now refl c.requires.new
       c.requires.clear c.args.next c.requires.attaches,
 )

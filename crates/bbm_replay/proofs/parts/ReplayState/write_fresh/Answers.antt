@@ -14,7 +14,7 @@ returns-clause-taken c = λ taken.
     fresh_ok c.laws.ensures c.rules.ensures c.law_others.ensures old c.args.pe c.args.place c.args.value c.requires
     (subst (λ x. fresh_in old.index x ≡ true) c.page.ensures (c.is_fresh_at.ensures c.if-not-is_fresh_at.false))
     (subst (λ a. core_of El2 1 (value_at old.map a) ≡ None) at
-    (none_of (core_of El2 1 (value_at old.map c.in-Some.seat.place))
+    (none_of (core_of El2 1 (value_at old.map c.in-Some.position.place))
     (ap (λ o. is_some o) (sym c.live_at.ensures) ∙ sym c.is_some.ensures ∙ c.if-is_some.false)))
     next (record { header = refl; index_header = refl; sound = λ s. s }) refl refl
     (subst (λ a. Puts c.args.value a old.map next.map) at c.put_at.ensures.put)

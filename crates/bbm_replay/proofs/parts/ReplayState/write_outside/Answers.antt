@@ -40,12 +40,12 @@ returns c =
     new (record { header = refl; index_header = refl; sound = λ s. s }) refl refl
     (subst (λ (x : EntryState). Writes (view_of old.map old.index) (view_of new.map old.index) c.args.place c.args.value x) clean
     (record {
-      value = e.values;
-      marks = e.marks;
-      pends = λ q a k b i p. ap (λ (x : Pends). waits x b i p) (e.pends q a k);
-      dropped = e.dropped;
+      value = e.put.values;
+      marks = e.left.marks;
+      pends = λ q a k b i p. ap (λ (x : Pends). waits x b i p) (e.left.pends q a k);
+      dropped = e.left.dropped;
     }))
-    e.pages
+    e.put.pages
 
 pub set-requires : goal.set-requires
 set-requires c = let m = c.requires.may in

@@ -7,9 +7,9 @@ pub returns-then-is_contiguous : goal.returns-then-is_contiguous
 returns-then-is_contiguous c =
     let self = c.args.self.now in
     let path = c.args.write.now.path.now in
-    let was = state_of (view_of self.map self.index) path.kind path.level c.args.write.now.seat.now.place in
+    let was = state_of (view_of self.map self.index) path.kind path.level c.args.write.now.position.now.place in
     rw c.get-place.ensures.value
-    (plain_bad c.laws.ensures c.rules.ensures self c.args.write.now.pe c.args.write.now.seat.now.place c.args.write.now.value c.requires.may
+    (plain_bad c.laws.ensures c.rules.ensures self c.args.write.now.pe c.args.write.now.position.now.place c.args.write.now.value c.requires.may
     path c.requires.at (core_in was) c.args.new.now refl c.requires.new
     c.requires.clear c.requires.plain (sym c.is_contiguous.ensures ∙ c.if-is_contiguous.true))
 
@@ -17,9 +17,9 @@ pub returns-then-is_user_global : goal.returns-then-is_user_global
 returns-then-is_user_global c =
     let self = c.args.self.now in
     let path = c.args.write.now.path.now in
-    let was = state_of (view_of self.map self.index) path.kind path.level c.args.write.now.seat.now.place in
+    let was = state_of (view_of self.map self.index) path.kind path.level c.args.write.now.position.now.place in
     rw c.get-place.ensures.value
-    (plain_global c.laws.ensures c.rules.ensures self c.args.write.now.pe c.args.write.now.seat.now.place c.args.write.now.value c.requires.may
+    (plain_global c.laws.ensures c.rules.ensures self c.args.write.now.pe c.args.write.now.position.now.place c.args.write.now.value c.requires.may
     path c.requires.at (core_in was) c.args.new.now refl c.requires.new
     c.requires.clear c.requires.plain (sym c.is_contiguous.ensures ∙ c.if-is_contiguous.false)
     (sym c.is_user_global.ensures ∙ c.if-is_user_global.true))
@@ -28,7 +28,7 @@ pub returns : goal.returns
 returns c =
     let old = c.args.self.now in
     let path = c.args.write.now.path.now in
-    let place = c.args.write.now.seat.now.place in
+    let place = c.args.write.now.position.now.place in
     let was = state_of (view_of old.map old.index) path.kind path.level place in
     let e = c.write_at.ensures in
     let state = e.written.0 in
@@ -41,9 +41,9 @@ returns c =
     c.law_others.ensures next (record { header = refl; index_header = refl; sound = λ s. s }) refl refl state
     (subst (λ (live : Option Core). Written (state_at old.map live place) c.args.write.now.pe c.args.new.now state) c.requires.live e.written.1)
     (record {
-      value = e.values;
+      value = e.put.values;
       marks = left.marks;
       pends = λ q a k b i p. ap (λ (x : Pends). waits x b i p) (left.pends q a k);
       dropped = left.dropped;
     })
-    e.pages c.law_idle.ensures
+    e.put.pages c.law_idle.ensures

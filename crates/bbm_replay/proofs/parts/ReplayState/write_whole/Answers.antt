@@ -7,13 +7,13 @@ pub live_at-requires-clause-level : goal.live_at-requires-clause-level
 live_at-requires-clause-level c =
     let m = c.requires.may in
     let w = c.args.write.now in
-    shallow m.0 (c.laws.ensures m.0) m.1 c.args.self.now m.2 w.seat.now.place w.path.now c.requires.at
+    shallow m.0 (c.laws.ensures m.0) m.1 c.args.self.now m.2 w.position.now.place w.path.now c.requires.at
 
 pub core-new-requires : goal.core-new-requires
 core-new-requires c =
     let m = c.requires.may in
     let w = c.args.write.now in
-    shallow m.0 (c.laws.ensures m.0) m.1 c.args.self.now m.2 w.seat.now.place w.path.now c.requires.at
+    shallow m.0 (c.laws.ensures m.0) m.1 c.args.self.now m.2 w.position.now.place w.path.now c.requires.at
 
 pub break_whole-requires-clause-dead : goal.break_whole-requires-clause-dead
 break_whole-requires-clause-dead c =

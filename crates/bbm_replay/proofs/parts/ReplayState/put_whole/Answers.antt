@@ -2,19 +2,19 @@ use Rattle.bbm_replay.proofs.Common.{ReplayState}
 use Rattle.bbm_rules.proofs.Common.{None, refl, sym, ◌∙◌}
 use Rattle.bbm_replay.proofs.Found.{shallow}
 use Rattle.bbm_replay.proofs.Quick.{put_ok}
-use Rattle.bbm_replay.proofs.parts.ReplayState.make_whole.Goals as goal
+use Rattle.bbm_replay.proofs.parts.ReplayState.put_whole.Goals as goal
 
 pub core-new-requires : goal.core-new-requires
 core-new-requires c =
     let m = c.requires.may in
     let w = c.args.write.now in
-    shallow m.0 (c.laws.ensures m.0) m.1 c.args.self.now m.2 w.seat.now.place w.path.now c.requires.at
+    shallow m.0 (c.laws.ensures m.0) m.1 c.args.self.now m.2 w.position.now.place w.path.now c.requires.at
 
 pub returns-clause-taken : goal.returns-clause-taken
 returns-clause-taken c = λ taken.
     let old = c.args.self.now in
     let w = c.args.write.now in
-    let place = w.seat.now.place in
+    let place = w.position.now.place in
     let path = w.path.now in
     let yes = c.may_put.ensures in
     let may = c.if-not-may_put.false in
@@ -25,4 +25,4 @@ returns-clause-taken c = λ taken.
     (record { header = refl; index_header = refl; sound = λ s. s }) refl refl
     c.put_at.ensures.put c.law_idle.ensures
     (yes.alike may) (yes.plain may) (yes.good may) (yes.own may) (yes.limbo may)
-    (sym c.is_some.ensures ∙ c.if-not-is_some.false) c.put_at.ensures.marks c.put_at.ensures.pends
+    (λ none. c.requires.stays (sym none ∙ c.core-new.ensures.value)) c.put_at.ensures.marks c.put_at.ensures.pends
