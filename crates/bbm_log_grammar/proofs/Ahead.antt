@@ -33,9 +33,14 @@ use Rattle.bbm_events.specs.Lines.{item_line, item_of}
 use Rattle.bbm_events.specs.Spelling.{hex, is_plain}
 use Rattle.bbm_tlbi_scope.specs.Operations.{has_operand}
 use Rattle.bbm_log_grammar.specs.Ahead.{StandsFirst, label_part}
-use Rattle.bbm_log_grammar.proofs.Begun.{begins}
+use Rattle.bbm_log_grammar.proofs.Begun.{begins, Has}
 use Rattle.bbm_log_grammar.proofs.Numerals.{is_base_10, text_value, lower_below}
 use Rattle.bbm_log_grammar.proofs.Parts.{one_label}
+
+-- the word that the text begins with, and the slice behind it
+front_word : (word s : List ℕ) → length word ≤ length s → Has s 0 word
+    → s ≡ word ++ take (length s - length word) (drop (length word) s)
+front_word word s some has = begins word s some has ∙ ap (λ l. word ++ l) (sym (take_rest s (length word)))
 
 -- a number of one digit
 pub one_digit : (s : List ℕ) (n : ℕ) → 1 ≤ length s → is_lower_digit 10 (get_or s 0 0) ≡ true
@@ -134,20 +139,19 @@ isb_fields pe s a first = ap (λ l. 105 ∷ 115 ∷ 98 ∷ 32 ∷ l) first
 pub word_w : (s front a : List ℕ) → 2 ≤ length s → get_or s 0 0 ≡ 119 → get_or s 1 0 ≡ 32
     → 119 ∷ 32 ∷ take (length s - 2) (drop 2 s) ≡ front ++ a → s ≡ front ++ a
 word_w s front a some h0 h1 e =
-    begins (codes "w ") s some (h0, (h1, tt)) ∙ ap (λ l. 119 ∷ 32 ∷ l) (sym (take_rest s 2)) ∙ e
+    front_word (codes "w ") s some (h0, (h1, tt)) ∙ e
 
 pub word_isb : (s front a : List ℕ) → 4 ≤ length s → get_or s 0 0 ≡ 105 → get_or s 1 0 ≡ 115 → get_or s 2 0 ≡ 98
     → get_or s 3 0 ≡ 32 → 105 ∷ 115 ∷ 98 ∷ 32 ∷ take (length s - 4) (drop 4 s) ≡ front ++ a → s ≡ front ++ a
 word_isb s front a some h0 h1 h2 h3 e =
-    begins (codes "isb ") s some (h0, (h1, (h2, (h3, tt))))
-    ∙ ap (λ l. 105 ∷ 115 ∷ 98 ∷ 32 ∷ l) (sym (take_rest s 4)) ∙ e
+    front_word (codes "isb ") s some (h0, (h1, (h2, (h3, tt)))) ∙ e
 
 -- a hex spelling behind a space, in that form
 pub hex_begun : (s : List ℕ) (n : ℕ) (a : List ℕ) → 3 ≤ length s → get_or s 0 0 ≡ 32 → get_or s 1 0 ≡ 48
     → get_or s 2 0 ≡ 120
     → take (length s - 3) (drop 3 s) ≡ digits 16 false n ++ a → s ≡ 32 ∷ (hex n ++ a)
 hex_begun s n a some h0 h1 h2 e =
-    begins (codes " 0x") s some (h0, (h1, (h2, tt))) ∙ ap (λ l. 32 ∷ 48 ∷ 120 ∷ l) (sym (take_rest s 3) ∙ e)
+    front_word (codes " 0x") s some (h0, (h1, (h2, tt))) ∙ ap (λ l. 32 ∷ 48 ∷ 120 ∷ l) e
 
 -- the end of a line without a label, and with one, in that form
 
@@ -157,7 +161,7 @@ plain_end s some h0 = begins (10 ∷ []) s some (h0, tt) ∙ ap (λ l. 10 ∷ l)
 pub labelled_end : (s label a : List ℕ) → 2 ≤ length s → get_or s 0 0 ≡ 32 → get_or s 1 0 ≡ 64
     → take (length s - 2) (drop 2 s) ≡ label ++ 10 ∷ a → s ≡ 32 ∷ 64 ∷ (label ++ 10 ∷ a)
 labelled_end s label a some h0 h1 e =
-    begins (codes " @") s some (h0, (h1, tt)) ∙ ap (λ l. 32 ∷ 64 ∷ l) (sym (take_rest s 2) ∙ e)
+    front_word (codes " @") s some (h0, (h1, tt)) ∙ ap (λ l. 32 ∷ 64 ∷ l) e
 
 -- a label of so many bytes up to a newline
 pub label_end : (s : List ℕ) (count : ℕ) → count ≤ length s → 1 ≤ length (take (length s - count) (drop count s))
@@ -177,8 +181,7 @@ dsb_fields pe dsb s a b first second =
 pub word_dsb : (s front a : List ℕ) → 4 ≤ length s → get_or s 0 0 ≡ 100 → get_or s 1 0 ≡ 115 → get_or s 2 0 ≡ 98
     → get_or s 3 0 ≡ 32 → 100 ∷ 115 ∷ 98 ∷ 32 ∷ take (length s - 4) (drop 4 s) ≡ front ++ a → s ≡ front ++ a
 word_dsb s front a some h0 h1 h2 h3 e =
-    begins (codes "dsb ") s some (h0, (h1, (h2, (h3, tt))))
-    ∙ ap (λ l. 100 ∷ 115 ∷ 98 ∷ 32 ∷ l) (sym (take_rest s 4)) ∙ e
+    front_word (codes "dsb ") s some (h0, (h1, (h2, (h3, tt)))) ∙ e
 
 -- the options of most barriers
 
@@ -186,35 +189,31 @@ pub option_ish : (s : List ℕ) → 4 ≤ length s → get_or s 0 0 ≡ 32 → g
     → get_or s 3 0 ≡ 104
     → s ≡ 32 ∷ (dsb_word (record { domain = Inner; types = All }) ++ take (length s - 4) (drop 4 s))
 option_ish s some h0 h1 h2 h3 =
-    begins (codes " ish") s some (h0, (h1, (h2, (h3, tt)))) ∙ ap (λ l. codes " ish" ++ l) (sym (take_rest s 4))
+    front_word (codes " ish") s some (h0, (h1, (h2, (h3, tt))))
 
 pub option_ishst : (s : List ℕ) → 6 ≤ length s → get_or s 0 0 ≡ 32 → get_or s 1 0 ≡ 105 → get_or s 2 0 ≡ 115
     → get_or s 3 0 ≡ 104
     → get_or s 4 0 ≡ 115 → get_or s 5 0 ≡ 116
     → s ≡ 32 ∷ (dsb_word (record { domain = Inner; types = Stores }) ++ take (length s - 6) (drop 6 s))
 option_ishst s some h0 h1 h2 h3 h4 h5 =
-    begins (codes " ishst") s some (h0, (h1, (h2, (h3, (h4, (h5, tt))))))
-    ∙ ap (λ l. codes " ishst" ++ l) (sym (take_rest s 6))
+    front_word (codes " ishst") s some (h0, (h1, (h2, (h3, (h4, (h5, tt))))))
 
 -- further options
 pub option_nsh : (s : List ℕ) → 4 ≤ length s → get_or s 0 0 ≡ 32 → get_or s 1 0 ≡ 110 → get_or s 2 0 ≡ 115
     → get_or s 3 0 ≡ 104
     → s ≡ 32 ∷ (dsb_word (record { domain = Non; types = All }) ++ take (length s - 4) (drop 4 s))
 option_nsh s some h0 h1 h2 h3 =
-    begins (codes " nsh") s some (h0, (h1, (h2, (h3, tt))))
-    ∙ ap (λ l. codes " nsh" ++ l) (sym (take_rest s 4))
+    front_word (codes " nsh") s some (h0, (h1, (h2, (h3, tt))))
 
 pub option_sy : (s : List ℕ) → 3 ≤ length s → get_or s 0 0 ≡ 32 → get_or s 1 0 ≡ 115 → get_or s 2 0 ≡ 121
     → s ≡ 32 ∷ (dsb_word (record { domain = Full; types = All }) ++ take (length s - 3) (drop 3 s))
 option_sy s some h0 h1 h2 =
-    begins (codes " sy") s some (h0, (h1, (h2, tt)))
-    ∙ ap (λ l. codes " sy" ++ l) (sym (take_rest s 3))
+    front_word (codes " sy") s some (h0, (h1, (h2, tt)))
 
 pub option_ld : (s : List ℕ) → 3 ≤ length s → get_or s 0 0 ≡ 32 → get_or s 1 0 ≡ 108 → get_or s 2 0 ≡ 100
     → s ≡ 32 ∷ (dsb_word (record { domain = Full; types = Loads }) ++ take (length s - 3) (drop 3 s))
 option_ld s some h0 h1 h2 =
-    begins (codes " ld") s some (h0, (h1, (h2, tt)))
-    ∙ ap (λ l. codes " ld" ++ l) (sym (take_rest s 3))
+    front_word (codes " ld") s some (h0, (h1, (h2, tt)))
 
 pub ruleset further_options = (option_nsh, option_sy, option_ld)
 
@@ -238,10 +237,9 @@ pub word_tlbi : (s front a : List ℕ) → 5 ≤ length s → get_or s 0 0 ≡ 1
     → get_or s 3 0 ≡ 105 → get_or s 4 0 ≡ 32
     → 116 ∷ 108 ∷ 98 ∷ 105 ∷ 32 ∷ take (length s - 5) (drop 5 s) ≡ front ++ a → s ≡ front ++ a
 word_tlbi s front a some h0 h1 h2 h3 h4 e =
-    begins (codes "tlbi ") s some (h0, (h1, (h2, (h3, (h4, tt)))))
-    ∙ ap (λ l. 116 ∷ 108 ∷ 98 ∷ 105 ∷ 32 ∷ l) (sym (take_rest s 5)) ∙ e
+    front_word (codes "tlbi ") s some (h0, (h1, (h2, (h3, (h4, tt))))) ∙ e
 
-pub ruleset words = (word_isb, word_dsb, word_tlbi)
+pub ruleset words = (word_isb, word_tlbi)
 
 -- the operations of most TLBIs
 
@@ -249,37 +247,32 @@ pub op_vae2is : (s : List ℕ) → 7 ≤ length s → get_or s 0 0 ≡ 32 → ge
     → get_or s 3 0 ≡ 101 → get_or s 4 0 ≡ 50 → get_or s 5 0 ≡ 105 → get_or s 6 0 ≡ 115
     → s ≡ 32 ∷ (op_word Vae2is ++ take (length s - 7) (drop 7 s))
 op_vae2is s some h0 h1 h2 h3 h4 h5 h6 =
-    begins (codes " vae2is") s some (h0, (h1, (h2, (h3, (h4, (h5, (h6, tt)))))))
-    ∙ ap (λ l. codes " vae2is" ++ l) (sym (take_rest s 7))
+    front_word (codes " vae2is") s some (h0, (h1, (h2, (h3, (h4, (h5, (h6, tt)))))))
 
 pub op_vale2is : (s : List ℕ) → 8 ≤ length s → get_or s 0 0 ≡ 32 → get_or s 1 0 ≡ 118 → get_or s 2 0 ≡ 97
     → get_or s 3 0 ≡ 108 → get_or s 4 0 ≡ 101 → get_or s 5 0 ≡ 50 → get_or s 6 0 ≡ 105 → get_or s 7 0 ≡ 115
     → s ≡ 32 ∷ (op_word Vale2is ++ take (length s - 8) (drop 8 s))
 op_vale2is s some h0 h1 h2 h3 h4 h5 h6 h7 =
-    begins (codes " vale2is") s some (h0, (h1, (h2, (h3, (h4, (h5, (h6, (h7, tt))))))))
-    ∙ ap (λ l. codes " vale2is" ++ l) (sym (take_rest s 8))
+    front_word (codes " vale2is") s some (h0, (h1, (h2, (h3, (h4, (h5, (h6, (h7, tt))))))))
 
 pub op_vae1is : (s : List ℕ) → 7 ≤ length s → get_or s 0 0 ≡ 32 → get_or s 1 0 ≡ 118 → get_or s 2 0 ≡ 97
     → get_or s 3 0 ≡ 101 → get_or s 4 0 ≡ 49 → get_or s 5 0 ≡ 105 → get_or s 6 0 ≡ 115
     → s ≡ 32 ∷ (op_word Vae1is ++ take (length s - 7) (drop 7 s))
 op_vae1is s some h0 h1 h2 h3 h4 h5 h6 =
-    begins (codes " vae1is") s some (h0, (h1, (h2, (h3, (h4, (h5, (h6, tt)))))))
-    ∙ ap (λ l. codes " vae1is" ++ l) (sym (take_rest s 7))
+    front_word (codes " vae1is") s some (h0, (h1, (h2, (h3, (h4, (h5, (h6, tt)))))))
 
 pub op_vale1is : (s : List ℕ) → 8 ≤ length s → get_or s 0 0 ≡ 32 → get_or s 1 0 ≡ 118 → get_or s 2 0 ≡ 97
     → get_or s 3 0 ≡ 108 → get_or s 4 0 ≡ 101 → get_or s 5 0 ≡ 49 → get_or s 6 0 ≡ 105 → get_or s 7 0 ≡ 115
     → s ≡ 32 ∷ (op_word Vale1is ++ take (length s - 8) (drop 8 s))
 op_vale1is s some h0 h1 h2 h3 h4 h5 h6 h7 =
-    begins (codes " vale1is") s some (h0, (h1, (h2, (h3, (h4, (h5, (h6, (h7, tt))))))))
-    ∙ ap (λ l. codes " vale1is" ++ l) (sym (take_rest s 8))
+    front_word (codes " vale1is") s some (h0, (h1, (h2, (h3, (h4, (h5, (h6, (h7, tt))))))))
 
 pub op_ipas2e1is : (s : List ℕ) → 10 ≤ length s → get_or s 0 0 ≡ 32 → get_or s 1 0 ≡ 105 → get_or s 2 0 ≡ 112
     → get_or s 3 0 ≡ 97 → get_or s 4 0 ≡ 115 → get_or s 5 0 ≡ 50 → get_or s 6 0 ≡ 101 → get_or s 7 0 ≡ 49
     → get_or s 8 0 ≡ 105 → get_or s 9 0 ≡ 115
     → s ≡ 32 ∷ (op_word Ipas2e1is ++ take (length s - 10) (drop 10 s))
 op_ipas2e1is s some h0 h1 h2 h3 h4 h5 h6 h7 h8 h9 =
-    begins (codes " ipas2e1is") s some (h0, (h1, (h2, (h3, (h4, (h5, (h6, (h7, (h8, (h9, tt))))))))))
-    ∙ ap (λ l. codes " ipas2e1is" ++ l) (sym (take_rest s 10))
+    front_word (codes " ipas2e1is") s some (h0, (h1, (h2, (h3, (h4, (h5, (h6, (h7, (h8, (h9, tt))))))))))
 
 pub ruleset operations = (op_vae2is, op_vale2is, op_vae1is, op_vale1is, op_ipas2e1is)
 
@@ -290,40 +283,34 @@ pub op_vmalle1is : (s : List ℕ) → 10 ≤ length s → get_or s 0 0 ≡ 32 �
     → get_or s 8 0 ≡ 105 → get_or s 9 0 ≡ 115
     → s ≡ 32 ∷ (op_word Vmalle1is ++ take (length s - 10) (drop 10 s))
 op_vmalle1is s some h0 h1 h2 h3 h4 h5 h6 h7 h8 h9 =
-    begins (codes " vmalle1is") s some (h0, (h1, (h2, (h3, (h4, (h5, (h6, (h7, (h8, (h9, tt))))))))))
-    ∙ ap (λ l. codes " vmalle1is" ++ l) (sym (take_rest s 10))
+    front_word (codes " vmalle1is") s some (h0, (h1, (h2, (h3, (h4, (h5, (h6, (h7, (h8, (h9, tt))))))))))
 
 pub op_vmalls12e1is : (s : List ℕ) → 13 ≤ length s → get_or s 0 0 ≡ 32 → get_or s 1 0 ≡ 118 → get_or s 2 0 ≡ 109
     → get_or s 3 0 ≡ 97 → get_or s 4 0 ≡ 108 → get_or s 5 0 ≡ 108 → get_or s 6 0 ≡ 115 → get_or s 7 0 ≡ 49
     → get_or s 8 0 ≡ 50 → get_or s 9 0 ≡ 101 → get_or s 10 0 ≡ 49 → get_or s 11 0 ≡ 105 → get_or s 12 0 ≡ 115
     → s ≡ 32 ∷ (op_word Vmalls12e1is ++ take (length s - 13) (drop 13 s))
 op_vmalls12e1is s some h0 h1 h2 h3 h4 h5 h6 h7 h8 h9 h10 h11 h12 =
-    begins (codes " vmalls12e1is") s some
-    (h0, (h1, (h2, (h3, (h4, (h5, (h6, (h7, (h8, (h9, (h10, (h11, (h12, tt)))))))))))))
-    ∙ ap (λ l. codes " vmalls12e1is" ++ l) (sym (take_rest s 13))
+    front_word (codes " vmalls12e1is") s some (h0, (h1, (h2, (h3, (h4, (h5, (h6, (h7, (h8, (h9, (h10, (h11, (h12, tt)))))))))))))
 
 pub op_vaale1is : (s : List ℕ) → 9 ≤ length s → get_or s 0 0 ≡ 32 → get_or s 1 0 ≡ 118 → get_or s 2 0 ≡ 97
     → get_or s 3 0 ≡ 97 → get_or s 4 0 ≡ 108 → get_or s 5 0 ≡ 101 → get_or s 6 0 ≡ 49 → get_or s 7 0 ≡ 105
     → get_or s 8 0 ≡ 115
     → s ≡ 32 ∷ (op_word Vaale1is ++ take (length s - 9) (drop 9 s))
 op_vaale1is s some h0 h1 h2 h3 h4 h5 h6 h7 h8 =
-    begins (codes " vaale1is") s some (h0, (h1, (h2, (h3, (h4, (h5, (h6, (h7, (h8, tt)))))))))
-    ∙ ap (λ l. codes " vaale1is" ++ l) (sym (take_rest s 9))
+    front_word (codes " vaale1is") s some (h0, (h1, (h2, (h3, (h4, (h5, (h6, (h7, (h8, tt)))))))))
 
 pub op_alle2is : (s : List ℕ) → 8 ≤ length s → get_or s 0 0 ≡ 32 → get_or s 1 0 ≡ 97 → get_or s 2 0 ≡ 108
     → get_or s 3 0 ≡ 108 → get_or s 4 0 ≡ 101 → get_or s 5 0 ≡ 50 → get_or s 6 0 ≡ 105 → get_or s 7 0 ≡ 115
     → s ≡ 32 ∷ (op_word Alle2is ++ take (length s - 8) (drop 8 s))
 op_alle2is s some h0 h1 h2 h3 h4 h5 h6 h7 =
-    begins (codes " alle2is") s some (h0, (h1, (h2, (h3, (h4, (h5, (h6, (h7, tt))))))))
-    ∙ ap (λ l. codes " alle2is" ++ l) (sym (take_rest s 8))
+    front_word (codes " alle2is") s some (h0, (h1, (h2, (h3, (h4, (h5, (h6, (h7, tt))))))))
 
 pub op_aside1is : (s : List ℕ) → 9 ≤ length s → get_or s 0 0 ≡ 32 → get_or s 1 0 ≡ 97 → get_or s 2 0 ≡ 115
     → get_or s 3 0 ≡ 105 → get_or s 4 0 ≡ 100 → get_or s 5 0 ≡ 101 → get_or s 6 0 ≡ 49 → get_or s 7 0 ≡ 105
     → get_or s 8 0 ≡ 115
     → s ≡ 32 ∷ (op_word Aside1is ++ take (length s - 9) (drop 9 s))
 op_aside1is s some h0 h1 h2 h3 h4 h5 h6 h7 h8 =
-    begins (codes " aside1is") s some (h0, (h1, (h2, (h3, (h4, (h5, (h6, (h7, (h8, tt)))))))))
-    ∙ ap (λ l. codes " aside1is" ++ l) (sym (take_rest s 9))
+    front_word (codes " aside1is") s some (h0, (h1, (h2, (h3, (h4, (h5, (h6, (h7, (h8, tt)))))))))
 
 pub ruleset further_operations = (op_vmalle1is, op_alle2is)
 
@@ -336,32 +323,28 @@ pub reg_ttbr0_el1 : (s : List ℕ) → 10 ≤ length s → get_or s 0 0 ≡ 32 �
     → get_or s 8 0 ≡ 108 → get_or s 9 0 ≡ 49
     → s ≡ 32 ∷ (reg_word Ttbr0El1 ++ take (length s - 10) (drop 10 s))
 reg_ttbr0_el1 s some h0 h1 h2 h3 h4 h5 h6 h7 h8 h9 =
-    begins (codes " ttbr0_el1") s some (h0, (h1, (h2, (h3, (h4, (h5, (h6, (h7, (h8, (h9, tt))))))))))
-    ∙ ap (λ l. codes " ttbr0_el1" ++ l) (sym (take_rest s 10))
+    front_word (codes " ttbr0_el1") s some (h0, (h1, (h2, (h3, (h4, (h5, (h6, (h7, (h8, (h9, tt))))))))))
 
 pub reg_ttbr1_el1 : (s : List ℕ) → 10 ≤ length s → get_or s 0 0 ≡ 32 → get_or s 1 0 ≡ 116 → get_or s 2 0 ≡ 116
     → get_or s 3 0 ≡ 98 → get_or s 4 0 ≡ 114 → get_or s 5 0 ≡ 49 → get_or s 6 0 ≡ 95 → get_or s 7 0 ≡ 101
     → get_or s 8 0 ≡ 108 → get_or s 9 0 ≡ 49
     → s ≡ 32 ∷ (reg_word Ttbr1El1 ++ take (length s - 10) (drop 10 s))
 reg_ttbr1_el1 s some h0 h1 h2 h3 h4 h5 h6 h7 h8 h9 =
-    begins (codes " ttbr1_el1") s some (h0, (h1, (h2, (h3, (h4, (h5, (h6, (h7, (h8, (h9, tt))))))))))
-    ∙ ap (λ l. codes " ttbr1_el1" ++ l) (sym (take_rest s 10))
+    front_word (codes " ttbr1_el1") s some (h0, (h1, (h2, (h3, (h4, (h5, (h6, (h7, (h8, (h9, tt))))))))))
 
 pub reg_vttbr_el2 : (s : List ℕ) → 10 ≤ length s → get_or s 0 0 ≡ 32 → get_or s 1 0 ≡ 118 → get_or s 2 0 ≡ 116
     → get_or s 3 0 ≡ 116 → get_or s 4 0 ≡ 98 → get_or s 5 0 ≡ 114 → get_or s 6 0 ≡ 95 → get_or s 7 0 ≡ 101
     → get_or s 8 0 ≡ 108 → get_or s 9 0 ≡ 50
     → s ≡ 32 ∷ (reg_word VttbrEl2 ++ take (length s - 10) (drop 10 s))
 reg_vttbr_el2 s some h0 h1 h2 h3 h4 h5 h6 h7 h8 h9 =
-    begins (codes " vttbr_el2") s some (h0, (h1, (h2, (h3, (h4, (h5, (h6, (h7, (h8, (h9, tt))))))))))
-    ∙ ap (λ l. codes " vttbr_el2" ++ l) (sym (take_rest s 10))
+    front_word (codes " vttbr_el2") s some (h0, (h1, (h2, (h3, (h4, (h5, (h6, (h7, (h8, (h9, tt))))))))))
 
 pub reg_ttbr0_el2 : (s : List ℕ) → 10 ≤ length s → get_or s 0 0 ≡ 32 → get_or s 1 0 ≡ 116 → get_or s 2 0 ≡ 116
     → get_or s 3 0 ≡ 98 → get_or s 4 0 ≡ 114 → get_or s 5 0 ≡ 48 → get_or s 6 0 ≡ 95 → get_or s 7 0 ≡ 101
     → get_or s 8 0 ≡ 108 → get_or s 9 0 ≡ 50
     → s ≡ 32 ∷ (reg_word Ttbr0El2 ++ take (length s - 10) (drop 10 s))
 reg_ttbr0_el2 s some h0 h1 h2 h3 h4 h5 h6 h7 h8 h9 =
-    begins (codes " ttbr0_el2") s some (h0, (h1, (h2, (h3, (h4, (h5, (h6, (h7, (h8, (h9, tt))))))))))
-    ∙ ap (λ l. codes " ttbr0_el2" ++ l) (sym (take_rest s 10))
+    front_word (codes " ttbr0_el2") s some (h0, (h1, (h2, (h3, (h4, (h5, (h6, (h7, (h8, (h9, tt))))))))))
 
 pub ruleset el1_registers = (reg_ttbr0_el1, reg_ttbr1_el1)
 
@@ -401,22 +384,19 @@ pub word_dmb : (s front a : List ℕ) → 4 ≤ length s → get_or s 0 0 ≡ 10
     → get_or s 3 0 ≡ 32
     → 100 ∷ 109 ∷ 98 ∷ 32 ∷ take (length s - 4) (drop 4 s) ≡ front ++ a → s ≡ front ++ a
 word_dmb s front a some h0 h1 h2 h3 e =
-    begins (codes "dmb ") s some (h0, (h1, (h2, (h3, tt))))
-    ∙ ap (λ l. 100 ∷ 109 ∷ 98 ∷ 32 ∷ l) (sym (take_rest s 4)) ∙ e
+    front_word (codes "dmb ") s some (h0, (h1, (h2, (h3, tt)))) ∙ e
 
 pub word_msr : (s front a : List ℕ) → 4 ≤ length s → get_or s 0 0 ≡ 109 → get_or s 1 0 ≡ 115 → get_or s 2 0 ≡ 114
     → get_or s 3 0 ≡ 32
     → 109 ∷ 115 ∷ 114 ∷ 32 ∷ take (length s - 4) (drop 4 s) ≡ front ++ a → s ≡ front ++ a
 word_msr s front a some h0 h1 h2 h3 e =
-    begins (codes "msr ") s some (h0, (h1, (h2, (h3, tt))))
-    ∙ ap (λ l. 109 ∷ 115 ∷ 114 ∷ 32 ∷ l) (sym (take_rest s 4)) ∙ e
+    front_word (codes "msr ") s some (h0, (h1, (h2, (h3, tt)))) ∙ e
 
 pub word_lock : (s front a : List ℕ) → 5 ≤ length s → get_or s 0 0 ≡ 108 → get_or s 1 0 ≡ 111 → get_or s 2 0 ≡ 99
     → get_or s 3 0 ≡ 107 → get_or s 4 0 ≡ 32
     → 108 ∷ 111 ∷ 99 ∷ 107 ∷ 32 ∷ take (length s - 5) (drop 5 s) ≡ front ++ a → s ≡ front ++ a
 word_lock s front a some h0 h1 h2 h3 h4 e =
-    begins (codes "lock ") s some (h0, (h1, (h2, (h3, (h4, tt)))))
-    ∙ ap (λ l. 108 ∷ 111 ∷ 99 ∷ 107 ∷ 32 ∷ l) (sym (take_rest s 5)) ∙ e
+    front_word (codes "lock ") s some (h0, (h1, (h2, (h3, (h4, tt))))) ∙ e
 
 -- the fields of a page that is initialised
 pub init_fields : (pe page : ℕ) (s a b : List ℕ) → s ≡ decimal pe ++ a → a ≡ 32 ∷ (hex page ++ b)
@@ -428,15 +408,13 @@ pub word_init : (s front a : List ℕ) → 5 ≤ length s → get_or s 0 0 ≡ 1
     → get_or s 3 0 ≡ 116 → get_or s 4 0 ≡ 32
     → 105 ∷ 110 ∷ 105 ∷ 116 ∷ 32 ∷ take (length s - 5) (drop 5 s) ≡ front ++ a → s ≡ front ++ a
 word_init s front a some h0 h1 h2 h3 h4 e =
-    begins (codes "init ") s some (h0, (h1, (h2, (h3, (h4, tt)))))
-    ∙ ap (λ l. 105 ∷ 110 ∷ 105 ∷ 116 ∷ 32 ∷ l) (sym (take_rest s 5)) ∙ e
+    front_word (codes "init ") s some (h0, (h1, (h2, (h3, (h4, tt))))) ∙ e
 
 pub word_unlock : (s front a : List ℕ) → 7 ≤ length s → get_or s 0 0 ≡ 117 → get_or s 1 0 ≡ 110 → get_or s 2 0 ≡ 108
     → get_or s 3 0 ≡ 111 → get_or s 4 0 ≡ 99 → get_or s 5 0 ≡ 107 → get_or s 6 0 ≡ 32
     → 117 ∷ 110 ∷ 108 ∷ 111 ∷ 99 ∷ 107 ∷ 32 ∷ take (length s - 7) (drop 7 s) ≡ front ++ a → s ≡ front ++ a
 word_unlock s front a some h0 h1 h2 h3 h4 h5 h6 e =
-    begins (codes "unlock ") s some (h0, (h1, (h2, (h3, (h4, (h5, (h6, tt)))))))
-    ∙ ap (λ l. 117 ∷ 110 ∷ 108 ∷ 111 ∷ 99 ∷ 107 ∷ 32 ∷ l) (sym (take_rest s 7)) ∙ e
+    front_word (codes "unlock ") s some (h0, (h1, (h2, (h3, (h4, (h5, (h6, tt))))))) ∙ e
 
 pub ruleset further_words = (word_dmb, word_msr, word_dsb, word_tlbi)
 

@@ -4,14 +4,13 @@ use Rattle.bbm_log_grammar.proofs.Common.{◌^◌, ◌<◌, ◌≤◌, List, [],
 use Rattle.bbm_log_grammar.proofs.Common.{◌==◌, inl, inr, refl, ap, sym, ◌∙◌, subst, Option, Some, None, arith}
 use Rattle.bbm_log_grammar.proofs.Common.{digit_glyph, digit_value, digits_value, digits_value_after, ltb-true}
 use Rattle.bbm_log_grammar.proofs.Common.{ltb-false, lt-ltb, nat_tests, append_assoc, append-nil, take_all, pow-suc}
-use Rattle.bbm_log_grammar.proofs.Common.{option_and_then, bytes_eq-Decides, proved, Is, is_lower_digit, next_number}
-use Rattle.bbm_log_grammar.proofs.Common.{number_after, number_of}
+use Rattle.bbm_log_grammar.proofs.Common.{option_and_then, bytes_eq-Decides, is_lower_digit, next_number, number_after}
+use Rattle.bbm_log_grammar.proofs.Common.{number_of}
 use Rattle.std.specs.Fmt.{digits_onto, digits}
 use Rattle.std.proofs.lemmas.Str.{digit_value-digit_char}
-use Rattle.std.proofs.lemmas.Bool.{cases_lt}
+use Rattle.std.proofs.lemmas.Bool.{and_parts, cases_lt}
 use Rattle.std.proofs.lemmas.Bool.Decides.{eqb_tells}
 use Rattle.std.specs.Prelude.{bytes_eq}
-use Rattle.bbm_lemmas.proofs.Tautologies.Claim.{Both, If}
 use Rattle.bbm_events.specs.Spelling.{where_spelled, decimal_value, hex_value}
 
 -- what division by the base does
@@ -69,9 +68,6 @@ glyph_value d h = digit_value-digit_char d (omega arith)
 
 glyph_nonzero : (d : ℕ) → 0 < d → d < 16 → glyph d ≢ 48
 glyph_nonzero d some h = λ e. grind (arith, nat_tests)
-
-both_true : (a b : Bool) → (a && b) ≡ true → (a ≡ true) × (b ≡ true)
-both_true = proved 2 (λ a b. If (Is (a && b) true) (Both (Is a true) (Is b true))) refl
 
 module _ (base : ℕ) (is : IsBase base) where
   abbrev spell : ℕ → ℕ → List ℕ → List ℕ
@@ -196,7 +192,7 @@ module _ (base : ℕ) (is : IsBase base) where
   text_after : (p : ℕ) (ds : List ℕ) → 0 < p → all_lower ds ≡ true → digits_value_after base p ds < 2 ^ 64 → text (digits_value_after base p ds) ≡ text p ++ ds
   text_after p [] some lower bound = sym (append-nil (text p))
   text_after p (c ∷ cs) some lower bound =
-      let here = both_true (is_lower_digit base c) (all_lower cs) lower in
+      let here = and_parts (is_lower_digit base c) (all_lower cs) lower in
       let more : digits_value_after base (p * base + digit_value c) cs < 2 ^ 64 = bound in
       let below : p * base + digit_value c < 2 ^ 64 = omega (arith, value_grows (p * base + digit_value c) cs) in
       text_after (p * base + digit_value c) cs (omega (arith, is.grows p (digit_value c))) here.1 bound
@@ -218,7 +214,7 @@ module _ (base : ℕ) (is : IsBase base) where
   ]
     where
       here : (is_lower_digit base c ≡ true) × (all_lower cs ≡ true)
-      here = both_true (is_lower_digit base c) (all_lower cs) lower
+      here = and_parts (is_lower_digit base c) (all_lower cs) lower
 
       one : (d : ℕ) → digit_value c ≡ d → text d ≡ c ∷ []
       one d e = ap text (sym e) ∙ text_small (digit_value c) (lower_below c here.0) ∙ ap (λ (x : ℕ). x ∷ []) (sym (lower_glyph c here.0))
@@ -263,7 +259,7 @@ module _ (base : ℕ) (is : IsBase base) where
   number_after_none n (c ∷ cs) e lower = by (next_number base n c) refl (λ m. number_after_none m cs) e
     where
       here : (is_lower_digit base c ≡ true) × (all_lower cs ≡ true)
-      here = both_true (is_lower_digit base c) (all_lower cs) lower
+      here = and_parts (is_lower_digit base c) (all_lower cs) lower
 
       by : (o : Option ℕ) → next_number base n c ≡ o → ((m : ℕ) → number_after base m cs ≡ None → all_lower cs ≡ true → 2 ^ 64 ≤ digits_value_after base m cs)
           → option_and_then (λ m. number_after base m cs) o ≡ None → 2 ^ 64 ≤ digits_value_after base n (c ∷ cs)

@@ -46,13 +46,8 @@ fn any_option<'a>(bytes: &'a [u8]) -> Option<(Dsb, &'a [u8])>
     ensures { IfSome result (λ x. bytes.now ≡ 32 ∷ dsb_word x.0 ++ x.1.now) }
 {
     match option_ahead(bytes) {
-        Some((dsb, rest)) => Some((dsb, rest)),
-        None => {
-            let Some((dsb, rest)) = other_option(bytes) else {
-                return None;
-            };
-            Some((dsb, rest))
-        }
+        Some(found) => Some(found),
+        None => other_option(bytes),
     }
 }
 
@@ -147,12 +142,7 @@ fn both_stages_op<'a>(bytes: &'a [u8]) -> Option<(TlbiOp, &'a [u8])>
             b's',
             rest @ ..,
         ] => Some((TlbiOp::Vmalls12e1is, rest)),
-        _ => {
-            let Some((op, rest)) = other_operand_op(bytes) else {
-                return None;
-            };
-            Some((op, rest))
-        }
+        _ => other_operand_op(bytes),
     }
 }
 
@@ -180,12 +170,7 @@ fn other_op<'a>(bytes: &'a [u8]) -> Option<(TlbiOp, &'a [u8])>
             TlbiOp::Alle2is,
             rest,
         )),
-        _ => {
-            let Some((op, rest)) = both_stages_op(bytes) else {
-                return None;
-            };
-            Some((op, rest))
-        }
+        _ => both_stages_op(bytes),
     }
 }
 
@@ -283,12 +268,7 @@ fn reg_ahead<'a>(bytes: &'a [u8]) -> Option<(Reg, &'a [u8])>
             b'1',
             rest @ ..,
         ] => Some((Reg::Ttbr1El1, rest)),
-        _ => {
-            let Some((reg, rest)) = el2_reg_ahead(bytes) else {
-                return None;
-            };
-            Some((reg, rest))
-        }
+        _ => el2_reg_ahead(bytes),
     }
 }
 
@@ -438,12 +418,7 @@ fn further_event<'a>(header: &Header, bytes: &'a [u8]) -> Option<(Event, &'a [u8
             };
             Some((event, rest))
         }
-        _ => {
-            let Some((event, rest)) = rarer_event(header, bytes) else {
-                return None;
-            };
-            Some((event, rest))
-        }
+        _ => rarer_event(header, bytes),
     }
 }
 

@@ -329,6 +329,26 @@ fn write_begun<'a>(header: &Header, bytes: &'a [u8]) -> Option<(Event, &'a [u8])
     }
 }
 
+/// The DSB at the front, and the bytes behind it.
+#[inline(always)]
+#[tactic(auto, using(crate::proofs::Ahead::word_dsb))]
+fn dsb_begun<'a>(header: &Header, bytes: &'a [u8]) -> Option<(Event, &'a [u8])>
+    ensures { IfSome result (λ x. (bytes.now ≡ joined (event_fields x.0) ++ x.1.now)
+        × (fits_heading header.now x.0 ≡ true)) }
+{
+    let (first, second) = first_pairs(bytes);
+    let word = first as u32 + second as u32 * 65536;
+    match bytes {
+        [_, _, _, _, rest @ ..] if word == DSB => {
+            let Some((event, rest)) = dsb_ahead(header, rest) else {
+                return None;
+            };
+            Some((event, rest))
+        }
+        _ => None,
+    }
+}
+
 /// Another event at the front, and the bytes behind it.
 #[inline(always)]
 #[tactic(auto, using(crate::proofs::Ahead::words))]
@@ -341,12 +361,6 @@ fn event_ahead<'a>(header: &Header, bytes: &'a [u8]) -> Option<(Event, &'a [u8])
     match bytes {
         [_, _, _, _, rest @ ..] if word == ISB => {
             let Some((event, rest)) = isb_ahead(header, rest) else {
-                return None;
-            };
-            Some((event, rest))
-        }
-        [_, _, _, _, rest @ ..] if word == DSB => {
-            let Some((event, rest)) = dsb_ahead(header, rest) else {
                 return None;
             };
             Some((event, rest))
@@ -382,17 +396,13 @@ pub(crate) fn whole_line<'a>(
     Some((event, label, bytes.len() - rest.len() - 1))
 }
 
-/// What `quick_line` answers of the lines that most logs have. One test of the length stands for those of the parts. A
-/// write goes its own way to its end.
+/// What `quick_line` answers of the lines that most logs have.
 #[inline(always)]
 fn near_line<'a>(header: &Header, bytes: &'a [u8]) -> Option<(Event, Option<LabelText<'a>>, usize)>
     ensures { IfSome result (λ x. StandsFirst header.now (item.Event x.0 x.1) x.2 bytes.now) }
 {
     if bytes.len() < LEAST {
         return None;
-    }
-    if let Some((event, rest)) = write_begun(header, bytes) {
-        return whole_line(header, bytes, event, rest);
     }
     let Some((event, rest)) = event_ahead(header, bytes) else {
         return None;
@@ -411,10 +421,45 @@ fn far_line<'a>(header: &Header, bytes: &'a [u8]) -> Option<(Event, Option<Label
     }
 }
 
-/// The event of a line that lies whole at the front of these bytes, with its label, and the number of bytes before its
-/// newline. None says nothing: it comes for lines that few logs have, for a PE of three digits, and where fewer than 64
-/// bytes are given, 16 follow the mark of a number, or 32 that of a label. Each reader `R` has code of its own, so that
-/// it can be made part of the reader's loop; the answer doesn't depend on it.
+/// The write of a line that lies whole at the front of these bytes, with its label, and the number of bytes before its
+/// newline. None says nothing: it comes for every other line, and for a write of a PE of three digits, and where fewer
+/// than 64 bytes are given, 16 follow the mark of a number, or 32 that of a label. Most lines of a log are writes, so a
+/// reader that asks this first has a way of its own for them, on which the event is known. Each reader `R` has code of
+/// its own, so that it can be made part of the reader's loop; the answer doesn't depend on it.
+#[inline(always)]
+pub fn quick_write<'a, R>(
+    header: &Header,
+    bytes: &'a [u8],
+) -> Option<(Event, Option<LabelText<'a>>, usize)>
+    ensures { IfSome result (λ x. StandsFirst header.now (item.Event x.0 x.1) x.2 bytes.now) }
+{
+    if bytes.len() < LEAST {
+        return None;
+    }
+    let Some((event, rest)) = write_begun(header, bytes) else {
+        return None;
+    };
+    whole_line(header, bytes, event, rest)
+}
+
+/// The same of a DSB with `ish` or `ishst`.
+#[inline(always)]
+pub fn quick_dsb<'a, R>(
+    header: &Header,
+    bytes: &'a [u8],
+) -> Option<(Event, Option<LabelText<'a>>, usize)>
+    ensures { IfSome result (λ x. StandsFirst header.now (item.Event x.0 x.1) x.2 bytes.now) }
+{
+    if bytes.len() < LEAST {
+        return None;
+    }
+    let Some((event, rest)) = dsb_begun(header, bytes) else {
+        return None;
+    };
+    whole_line(header, bytes, event, rest)
+}
+
+/// The same of any other event of the kinds that logs have often.
 #[inline(always)]
 pub fn quick_line<'a, R>(
     header: &Header,

@@ -3,7 +3,7 @@ use Rattle.bbm_session.proofs.Common.{Event, Heading, Verdict, Accepted, Refused
 use Rattle.bbm_session.proofs.Common.{CertifiedReadFor, certified_lines, Fold, Halts, Ending, ending_after, ending_from}
 use Rattle.bbm_session.proofs.Common.{ending_at, passes_to, lines_from, header_by, IsStart, IsInside, IsEnd, Certifies}
 use Rattle.bbm_session.proofs.Common.{certifying, ReadAs, MayTakeLine, TakesLine, KnowsThat}
-use Rattle.bbm_rules.proofs.Common.{◌≡◌, ℕ, suc, ◌<◌, ◌≤◌, ◌+◌, Bool, true, false, if◌then◌else◌, List, [], ◌∷◌, length}
+use Rattle.bbm_rules.proofs.Common.{◌≡◌, ℕ, suc, ◌<◌, Bool, true, false, if◌then◌else◌, List, [], ◌∷◌, length}
 use Rattle.bbm_rules.proofs.Common.{reverse, Option, Some, None, option_and_then, refl, ap, sym, ◌∙◌, arith, subst}
 use Rattle.bbm_rules.proofs.Common.{nat_le, Result, Ok, Err, ◌==◌, ◌⊎◌, inl, inr, Contains, not-suc-le-zero, Claim}
 use Rattle.bbm_rules.proofs.Common.{Item, heading_ok, Text, is_too_long, text_of}

@@ -2,15 +2,14 @@
 use Rattle.bbm_session.proofs.Common.{plain, heading, item_fits, Patterns, Accepted, Ending, Fold, Passes, alone}
 use Rattle.bbm_session.proofs.Common.{ending_at, Judged, judged_at, judging, gen_text}
 use Rattle.bbm_rules.proofs.Common.{◌≡◌, ℕ, zero, suc, ◌+◌, ◌<◌, ◌≤◌, ◌==◌, nat_le, true, false, List, [], ◌∷◌, ◌++◌}
-use Rattle.bbm_rules.proofs.Common.{length, None, Ok, refl, ap, sym, ◌∙◌, subst, arith, append_assoc, nat_tests}
-use Rattle.bbm_rules.proofs.Common.{fits_heading, Item, limit_of, AtHeader, AtEvents, AtEnd, Outcome, Progress}
+use Rattle.bbm_rules.proofs.Common.{length, None, refl, ap, sym, ◌∙◌, subst, arith, append_assoc, nat_tests}
+use Rattle.bbm_rules.proofs.Common.{Item, AtHeader, AtEvents, AtEnd, Progress}
 use Rattle.bbm_rules.proofs.Common.{outcome_of}
 use Rattle.bbm_gen.specs.Generated.{GeneratedKeepsRules, event_at, log_of}
 use Rattle.bbm_events.specs.LineLaws.{WrittenIsALine, WrittenIsRead}
-use Rattle.bbm_events.specs.Lines.{header_line, header_of, item_line, item_of}
+use Rattle.bbm_events.specs.Lines.{header_line, item_line}
 use Rattle.bbm_events.specs.Spelling.{is_plain}
 use Rattle.bbm_events.specs.declared.event.Item.TheVariants.{Event, End}
-use Rattle.bbm_rules.specs.Broken.{broken}
 use Rattle.bbm_rules.specs.Outcome.{check_limits}
 use Rattle.bbm_session.specs.Fold.{end_by}
 use Rattle.bbm_texts.specs.Generating.{gen_begin}

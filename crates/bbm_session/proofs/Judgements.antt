@@ -9,14 +9,13 @@ use Rattle.bbm_session.proofs.Common.{NeedsMemory, ReadFor, command_lines, limit
 use Rattle.bbm_session.proofs.Common.{KnowsThat, MayTakeLine, KnowsAt, KnowsWhy, RefusedOn, TakesLine, Ends}
 use Rattle.bbm_rules.proofs.Common.{◌≡◌, ◌≢◌, not, ℕ, suc, ◌<◌, ◌+◌, Bool, true, false, if◌then◌else◌, List, [], ◌∷◌}
 use Rattle.bbm_rules.proofs.Common.{length, Option, Some, None, refl, ap, sym, ◌∙◌, arith, subst, ◌^◌, Result, Ok, Err}
-use Rattle.bbm_rules.proofs.Common.{IfOk, ◌==◌, ◌⊎◌, inl, inr, and_parts, not-true, proved, If, Is, Which, Item}
+use Rattle.bbm_rules.proofs.Common.{IfOk, ◌==◌, ◌⊎◌, inl, inr, and_parts, not-true, Which, Item}
 use Rattle.bbm_rules.proofs.Common.{fits_heading, label_fits, WrongCount, rewrites, Breach, limit_of, Text, is_too_long}
 use Rattle.bbm_rules.proofs.Common.{limit_at, AtHeader, AtEvents, AtEnd, after_header, after_item, after_judged}
 use Rattle.bbm_rules.proofs.Common.{after_kept, after_line, too_long_at, cut_at, Progress, Step, Decides, GoesOn}
 use Rattle.bbm_rules.proofs.Common.{Outcome, outcome_of, verdict_of_bytes, events_in, text_of}
 use Rattle.std.proofs.Common.{OnOk}
 use Rattle.bbm_lemmas.proofs.Bools.{not_from}
-use Rattle.bbm_lemmas.proofs.Tautologies.Claim.{Never}
 use Rattle.bbm_events.specs.declared.event.Event.{Event as EventOf}
 use Rattle.bbm_events.specs.declared.event.Item.TheVariants as item
 use Rattle.bbm_events.specs.declared.malformed.Malformed.{Malformed as Cause}
@@ -51,6 +50,11 @@ keeps-more stands stands' heading h e kept fits unbroken known = record {
   fit = rw (fits, kept.fit) refl;
   rules = rw (kept.rules, unbroken) refl;
 }
+
+-- a checker that stands for the same events still
+pub keeps-on : (stands stands' : Heading → List EventOf → Type 0) (heading : Heading) (h : List EventOf)
+    → Keeps stands heading h → stands' heading h → Keeps stands' heading h
+keeps-on stands stands' heading h kept known = record { known = known; fit = kept.fit; rules = kept.rules }
 
 module _ (stands : Heading → List EventOf → Type 0) (limits : Limits) (heading : Heading) where
   refused-at : (wants : Type 0) (s : Stop) (n : ℕ) (h : List EventOf) (e : EventOf) (label : Option (List ℕ)) (breach : Option Breach) (which : Option Which) → which ≡ limit_of h e → Keeps stands heading h → (s ≡ NoMemory → wants) → StopsAt s n e label breach which → JudgesLine stands heading h (Some e) wants (Err s) (after_judged limits n heading h e label breach)

@@ -2,7 +2,7 @@
 use Rattle.bbm_session.proofs.Common.{Event, Heading, heading_in, Limits, Rule, Verdict, Accepted, Refused, Malformed}
 use Rattle.bbm_session.proofs.Common.{Limit, Command, Check, Slow, Explain, Walk, Show, ending_at, Judged, is_frugal}
 use Rattle.bbm_session.proofs.Common.{judging_for, RefusedIn, event_in, refused_in, limits_of, Says}
-use Rattle.bbm_rules.proofs.Common.{◌≡◌, ℕ, suc, ◌-◌, List, [], ◌∷◌, ◌++◌, length, get_or, Option, Some, None, refl, ap}
+use Rattle.bbm_rules.proofs.Common.{◌≡◌, ℕ, ◌-◌, List, [], length, get_or, Option, Some, None, refl, ap}
 use Rattle.bbm_rules.proofs.Common.{sym, ◌∙◌, subst, arith, get_or_at, AtHeader, text_of}
 use Rattle.bbm_events.specs.Lines.{item_of}
 use Rattle.bbm_texts.specs.declared.commands.Evidence.TheVariants.{Idle, Counterrun, Cert}

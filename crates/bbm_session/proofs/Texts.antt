@@ -1,7 +1,7 @@
 -- The lines of a text, read from its front.
 use Rattle.bbm_session.proofs.Common.{plain, before_text}
 use Rattle.bbm_rules.proofs.Common.{◌≡◌, ℕ, Bool, true, false, if◌then◌else◌, arith, ◌&&◌, not, nat_eq, List, [], ◌∷◌}
-use Rattle.bbm_rules.proofs.Common.{◌++◌, refl, ap, sym, ◌∙◌, false≢true, nat_tests, proved, If, Is, Text, text_of}
+use Rattle.bbm_rules.proofs.Common.{◌++◌, refl, ap, sym, ◌∙◌, nat_tests, proved, If, Is, Text, text_of}
 use Rattle.bbm_rules.proofs.Common.{bytes_of}
 use Rattle.bbm_lemmas.proofs.Tautologies.Claim.{Both}
 

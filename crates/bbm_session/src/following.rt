@@ -74,13 +74,7 @@ impl Taker for Following {
         follow_line(number, &mut self.steps, header, line, stop)
     }
 
-    fn take_ahead(
-        &mut self,
-        _number: u64,
-        _header: &Header,
-        _bytes: &[u8],
-        _stop: &mut Stop,
-    ) -> Option<(usize, Option<Turn>)> {
+    fn take_ahead(&mut self, _number: u64, _header: &Header, _bytes: &[u8]) -> Option<usize> {
         None
     }
 }

@@ -1,7 +1,7 @@
 //! The events of a log, judged one after another.
 
-ghost use Rattle.std.specs.Prelude.{◌≡◌, ◌<◌, ℕ, suc, List, take, Option, Some, None, Err, ok_or, true};
-ghost use Rattle.std.specs.Prelude.{IfSome, IfOk};
+ghost use Rattle.std.specs.Prelude.{◌≡◌, ◌<◌, ◌∷◌, ℕ, suc, List, take, Option, Some, None, Ok, Err, ok_or, true, false};
+ghost use Rattle.std.specs.Prelude.{IfSome, OnSome, IfOk};
 ghost use Rattle.bbm_io.specs.Reading.{LiesWhole};
 ghost use Rattle.bbm_regimes.specs.declared.regime.Which.{Which as WhichOf};
 ghost use Rattle.bbm_events.specs.declared.event.Event.{Event};
@@ -10,7 +10,8 @@ ghost use Rattle.bbm_events.specs.Heading.{Heading};
 ghost use Rattle.bbm_rules.specs.Answers.{Answers, MayTake};
 ghost use Rattle.bbm_rules.specs.Broken.{Breach};
 ghost use Rattle.bbm_rules.specs.Claims.{Patterns};
-ghost use Rattle.bbm_rules.specs.Outcome.{Progress, is_reached, limit_after, after_event, after_item};
+ghost use Rattle.bbm_rules.specs.Outcome.{Progress, AtEvents, GoesOn, is_reached, limit_after, after_event};
+ghost use Rattle.bbm_rules.specs.Outcome.{after_item};
 ghost use Rattle.bbm_log_grammar.specs.InLine.{read_in};
 ghost use Rattle.bbm_session.specs.Fold.{Fold};
 ghost use Rattle.bbm_session.specs.Folds.{Judged, Judges, event_needs, item_needs};
@@ -22,7 +23,9 @@ use crate::reading::{limit, stop_limit, stop_malformed};
 use crate::stop::{Stop, Turn};
 use crate::taker::Taker;
 use bbm_events::{Event, Header, Malformed};
-use bbm_log_grammar::{LabelText, LineItem, kept_label, quick_line, read_line};
+use bbm_log_grammar::{
+    LabelText, LineItem, kept_label, quick_dsb, quick_line, quick_write, read_line,
+};
 use bbm_regimes::Which;
 use bbm_rules::{Checker, Limits, StepFault, Verdict};
 use bbm_texts::Decision;
@@ -60,22 +63,16 @@ fn refuse(number: u64, event: &Event, label: Option<LabelText>, fault: StepFault
     *stop = refusal(number, event, &label, fault);
 }
 
-/// Whether the last of so many events is one too many.
-fn passes(most: Option<u64>, taken: u64) -> bool
-    ensures { (before : ℕ) → taken ≡ suc before → result ≡ is_reached most before }
-{
-    match most {
-        Some(most) => taken > most,
-        None => false,
-    }
-}
-
 /// The limit that the last of so many events, on this line, reaches.
 fn limit_reached(limits: &Limits, number: u64, taken: u64) -> Option<Which>
     ensures reached { (before : ℕ) → taken ≡ suc before → result ≡ limit_after limits.now number before }
     ensures few { result ≡ None → number < 4294967295 }
 {
-    if passes(limits.events, taken) {
+    let is_one_too_many = match limits.events {
+        Some(most) => taken > most,
+        None => false,
+    };
+    if is_one_too_many {
         Some(Which::Events)
     } else if number >= u64::from(limits.lines) {
         Some(Which::Lines)
@@ -185,31 +182,71 @@ fn judge_line<C: Checker>(
     judge_item(judging, number, read_line::<C>(header, line), stop)
 }
 
-/// What a line decides that lies whole at the front of these bytes, if it is one of those that most logs have, with the
-/// number of bytes before its newline.
-fn judge_ahead<C: Checker>(
+/// Whether an event on this line may reach a limit. Where there is a limit of events, any line may.
+#[inline(always)]
+fn may_reach(limits: &Limits, number: u64) -> bool
+    ensures none { result ≡ false → (taken : ℕ) → limit_after limits.now number taken ≡ None }
+    ensures few { result ≡ false → number < 4294967295 }
+{
+    limits.events.is_some() || number >= u64::from(limits.lines)
+}
+
+/// Takes an event on this line that decides nothing. False: the checker is as before, since the event may decide
+/// something, or there is no memory for it.
+#[inline(always)]
+fn take_event<C: Checker>(judging: &mut Judging<C>, number: u64, event: Event) -> bool
+    requires { MayTake (C.stands judging.old.checker) event }
+    ensures taken { result ≡ true → (heading : Heading) (h : List Event) (label : Option (List ℕ))
+        → Keeps (C.stands judging.old.checker) heading h → fits_heading heading event ≡ true
+        → (after_event Patterns judging.old.limits number heading h event label ≡ GoesOn (AtEvents heading (event ∷ h)))
+        × Keeps (C.stands judging.new.checker) heading (event ∷ h) }
+    ensures few { result ≡ true → number < 4294967295 }
+    ensures untaken { result ≡ false → (heading : Heading) (h : List Event)
+        → Keeps (C.stands judging.old.checker) heading h → Keeps (C.stands judging.new.checker) heading h }
+    ensures frugal { C.frugal judging.new.checker ≡ C.frugal judging.old.checker }
+    ensures limits { judging.new.limits ≡ judging.old.limits }
+{
+    if may_reach(&judging.limits, number) {
+        return false;
+    }
+    match judging.checker.step(judging.alloc, event) {
+        Ok(()) => true,
+        Err(_) => false,
+    }
+}
+
+/// Takes a line that lies whole at the front of these bytes, if it is one of those that most logs have and decides
+/// nothing: the number of bytes before its newline. None: nothing was taken. A write and a DSB have a way of their own,
+/// on which it is known which event it is.
+fn take_front<C: Checker>(
     judging: &mut Judging<C>,
     number: u64,
     header: &Header,
     bytes: &[u8],
-    stop: &mut Stop,
-) -> Option<(usize, Option<Turn>)>
+) -> Option<usize>
     requires { MayTakeLine (Judges (C.frugal judging.old.checker) (C.stands judging.old.checker) judging.old.limits)
         header.now number }
-    ensures line { IfSome result (λ x. LiesWhole x.0 bytes.now) }
-    ensures takes { IfSome result (λ x. (fold : Fold Progress Judged) (p : Progress)
+    ensures line { IfSome result (λ count. LiesWhole count bytes.now) }
+    ensures takes { IfSome result (λ count. (fold : Fold Progress Judged) (p : Progress)
         → Judges (C.frugal judging.old.checker) (C.stands judging.old.checker) judging.old.limits fold header.now p
         number
         → TakesLine fold (Judges (C.frugal judging.new.checker) (C.stands judging.new.checker) judging.new.limits fold
-        header.now) number p (take x.0 bytes.now) (ok_or x.1 stop.new)) }
-    ensures few { IfSome result (λ x. x.1 ≡ Some Turn.Taken → number < 4294967295) }
-    ensures untaken { result ≡ None → judging.new ≡ judging.old }
+        header.now) number p (take count bytes.now) (Ok Turn.Taken)) }
+    ensures few { OnSome result (number < 4294967295) }
+    ensures untaken { result ≡ None → (fold : Fold Progress Judged) (p : Progress)
+        → Judges (C.frugal judging.old.checker) (C.stands judging.old.checker) judging.old.limits fold header.now p
+        number
+        → Judges (C.frugal judging.new.checker) (C.stands judging.new.checker) judging.new.limits fold header.now p
+        number }
 {
+    if let Some((event, _label, count)) = quick_write::<C>(header, bytes) {
+        return take_event(judging, number, event).then_some(count);
+    }
+    if let Some((event, _label, count)) = quick_dsb::<C>(header, bytes) {
+        return take_event(judging, number, event).then_some(count);
+    }
     match quick_line::<C>(header, bytes) {
-        Some((event, label, count)) => {
-            let read = Ok(LineItem::Event(event, label));
-            Some((count, judge_item(judging, number, read, stop)))
-        }
+        Some((event, _label, count)) => take_event(judging, number, event).then_some(count),
         None => None,
     }
 }
@@ -229,13 +266,7 @@ impl<C: Checker> Taker for Judging<C> {
     }
 
     #[inline(always)]
-    fn take_ahead(
-        &mut self,
-        number: u64,
-        header: &Header,
-        bytes: &[u8],
-        stop: &mut Stop,
-    ) -> Option<(usize, Option<Turn>)> {
-        judge_ahead(self, number, header, bytes, stop)
+    fn take_ahead(&mut self, number: u64, header: &Header, bytes: &[u8]) -> Option<usize> {
+        take_front(self, number, header, bytes)
     }
 }

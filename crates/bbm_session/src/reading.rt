@@ -126,7 +126,8 @@ fn any_line<T: Taker, S: Source>(
 }
 
 /// Reads line number `number`, after the header. None: reading stops, and `stop` says why: so no verdict is moved about
-/// for a line that decides nothing. A line that most logs have is read at once, and any other by a function of its own.
+/// for a line that decides nothing. A line that most logs have, and that stops nothing, is taken at once, and any other by
+/// a function of its own.
 fn log_line<T: Taker, S: Source>(
     number: u64,
     header: &Header,
@@ -146,9 +147,9 @@ fn log_line<T: Taker, S: Source>(
     ensures shrinks { Shrinks 201 (S.left log.old) (S.left log.new) }
     ensures few { result ≡ Some Turn.Taken → number < 4294967295 }
 {
-    if let Some((count, turn)) = taker.take_ahead(number, header, log.ahead(), stop) {
+    if let Some(count) = taker.take_ahead(number, header, log.ahead()) {
         lines.take(count, log);
-        return turn;
+        return Some(Turn::Taken);
     }
     any_line(number, header, taker, lines, log, stop)
 }

@@ -1,6 +1,6 @@
 //! What takes the lines of a log.
 
-ghost use Rattle.std.specs.Prelude.{◌≡◌, ◌<◌, ℕ, Some, None, IfSome, ok_or, take};
+ghost use Rattle.std.specs.Prelude.{◌≡◌, ◌<◌, ℕ, Some, None, Ok, IfSome, OnSome, ok_or, take};
 ghost use Rattle.bbm_io.specs.Reading.{LiesWhole};
 ghost use Rattle.bbm_events.specs.Heading.{Heading};
 ghost use Rattle.bbm_session.specs.Fold.{Fold};
@@ -30,21 +30,15 @@ pub trait Taker {
             → TakesLine fold (stands self.new fold header.now) number p line.now (ok_or result stop.new) }
         ensures few { result ≡ Some Turn.Taken → number < 4294967295 };
 
-    /// Takes line `number` where it is one of those that most logs have, and lies whole at the front of these bytes:
-    /// the number of bytes before its newline, and what `take` answers for it. None: nothing was taken.
-    fn take_ahead(
-        &mut self,
-        number: u64,
-        header: &Header,
-        bytes: &[u8],
-        stop: &mut Stop,
-    ) -> Option<(usize, Option<Turn>)>
+    /// Takes line `number` where it is one of those that most logs have, lies whole at the front of these bytes and stops
+    /// nothing: the number of bytes before its newline. None says nothing, and nothing was taken then.
+    fn take_ahead(&mut self, number: u64, header: &Header, bytes: &[u8]) -> Option<usize>
         requires { MayTakeLine (stands self.old) header.now number }
-        ensures line { IfSome result (λ x. LiesWhole x.0 bytes.now) }
-        ensures takes { IfSome result (λ x. (fold : Fold Reached Said) (p : Reached)
+        ensures line { IfSome result (λ count. LiesWhole count bytes.now) }
+        ensures takes { IfSome result (λ count. (fold : Fold Reached Said) (p : Reached)
             → stands self.old fold header.now p number
-            → TakesLine fold (stands self.new fold header.now) number p (take x.0 bytes.now) (ok_or x.1 stop.new)) }
-        ensures few { IfSome result (λ x. x.1 ≡ Some Turn.Taken → number < 4294967295) }
+            → TakesLine fold (stands self.new fold header.now) number p (take count bytes.now) (Ok Turn.Taken)) }
+        ensures few { OnSome result (number < 4294967295) }
         ensures untaken { result ≡ None → (fold : Fold Reached Said) (p : Reached)
             → stands self.old fold header.now p number → stands self.new fold header.now p number };
 }

@@ -73,13 +73,7 @@ impl Taker for Verifying {
         verify_line(number, &mut self.kept, header, line, stop)
     }
 
-    fn take_ahead(
-        &mut self,
-        _number: u64,
-        _header: &Header,
-        _bytes: &[u8],
-        _stop: &mut Stop,
-    ) -> Option<(usize, Option<Turn>)> {
+    fn take_ahead(&mut self, _number: u64, _header: &Header, _bytes: &[u8]) -> Option<usize> {
         None
     }
 }

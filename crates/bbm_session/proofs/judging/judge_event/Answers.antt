@@ -1,11 +1,12 @@
-use Rattle.bbm_session.proofs.Common.{limit_after, NoMemory, event_needs, Keeps}
+use Rattle.bbm_session.proofs.Common.{limit_after, NoMemory, event_needs}
 use Rattle.bbm_rules.proofs.Common.{◌≡◌, ◌∷◌, suc, length, None, Err, true, ap, sym, arith}
-use Rattle.bbm_session.proofs.Judgements.{needed, event-refused, event-kept, keeps-more}
+use Rattle.bbm_session.proofs.Judgements.{needed, event-refused, event-kept, keeps-more, keeps-on}
 use Rattle.bbm_session.proofs.judging.judge_event.Goals as goal
 
 pub returns-in-Err-clause-judges : goal.returns-in-Err-clause-judges
 returns-in-Err-clause-judges g c = λ heading h keeps fits.
-    let kept : Keeps (g.C.Checker.stands c.step.new.self) heading h = record { known = c.in-Err.ensures.unchanged heading h keeps.known; fit = keeps.fit; rules = keeps.rules } in
+    let before = g.C.Checker.stands c.args.judging.now.checker in
+    let kept = keeps-on before (g.C.Checker.stands c.step.new.self) heading h keeps (c.in-Err.ensures.unchanged heading h keeps.known) in
     let frugal = g.C.Checker.frugal c.args.judging.now.checker in
     let needs = λ (stops : c.refuse.new.stop ≡ NoMemory). needed frugal heading h c.args.event (Err c.in-Err.fault) c.in-Err.ensures.frugal_barriers (λ is writes. c.in-Err.ensures.frugal_writes heading h keeps.known is writes) (ap Err (c.refuse.ensures.want stops)) in
     event-refused (g.C.Checker.stands c.step.new.self) c.args.judging.now.limits heading (event_needs frugal heading h c.args.event ≡ true) c.refuse.new.stop c.args.number h c.args.event c.args.label kept needs (c.refuse.ensures.stops _ _ (c.in-Err.ensures.judged heading h keeps.known))

@@ -1,9 +1,9 @@
 use Rattle.bbm_session.proofs.Common.{heading, Patterns}
-use Rattle.bbm_rules.proofs.Common.{◌++◌, length, refl, sym, ap, Outcome, initialised}
+use Rattle.bbm_rules.proofs.Common.{◌++◌, length, sym, ap, Outcome, initialised}
 use Rattle.bbm_rules.specs.Phases.{restless_of}
 use Rattle.bbm_rules.specs.Texts.{verdict_text}
 use Rattle.bbm_texts.specs.Generating.{counts_text, selftest_text}
-use Rattle.bbm_session.proofs.GeneratedLogs.{Facts, accepted}
+use Rattle.bbm_session.proofs.GeneratedLogs.{accepted}
 use Rattle.bbm_session.proofs.laws.law_generated_is_accepted.Goals as goal
 
 pub returns-clause-accepted : goal.returns-clause-accepted

@@ -1,6 +1,6 @@
 -- A line that was taken from the bytes ahead, or by the function for any line.
-use Rattle.bbm_session.proofs.Common.{TakesLine}
-use Rattle.bbm_rules.proofs.Common.{◌≤◌, ℕ, List, length, take, refl, arith, ok_or, subst}
+use Rattle.bbm_session.proofs.Common.{TakesLine, Taken}
+use Rattle.bbm_rules.proofs.Common.{◌≤◌, ℕ, List, Ok, length, take, refl, arith, subst}
 use Rattle.std.proofs.Common.{length-take}
 use Rattle.bbm_io.specs.Reading.{LiesWhole}
 use Rattle.bbm_session.specs.declared.line.Piece.TheVariants as piece
@@ -21,12 +21,11 @@ returns-in-Some-clause-advances g c = λ fold p inside stands.
     let n = c.args.number in
     let hand = g.S.Source.at_hand c.args.log.now in
     let count = c.in-Some.count in
-    let said = ok_or c.in-Some.turn c.take_ahead.new.stop in
     let after = g.T.Taker.stands c.take_ahead.new.self fold c.args.header.now in
     let whole = subst (LiesWhole count) c.ahead.ensures c.in-Some.ensures.line in
-    let says = λ (l : List ℕ). TakesLine fold after n p (take count l) said in
+    let says = λ (l : List ℕ). TakesLine fold after n p (take count l) (Ok Taken) in
     let taken = subst says c.ahead.ensures (c.in-Some.ensures.takes fold p stands) in
-    line-advances fold after n p said (take count hand) _ _ _ _ whole.no_newline (short count hand whole)
+    line-advances fold after n p (Ok Taken) (take count hand) _ _ _ _ whole.no_newline (short count hand whole)
     c.take.ensures.took taken c.take.ensures.sound
 
 pub returns-in-Some-clause-shrinks : goal.returns-in-Some-clause-shrinks
