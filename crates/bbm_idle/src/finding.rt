@@ -87,7 +87,8 @@ impl Search {
         requires stands { spec.IsSearch self.old header.now (reverse before.now) }
         requires fits { fits_heading header.now (TheDsb pe dsb) ≡ true }
         ensures idle { IfOk result (λ is_idle. is_idle ≡ idle.is_idle header.now (reverse before.now) (TheDsb pe dsb)) }
-        ensures stands { OnOk result (StandsByPatterns self.new.history header.now (TheDsb pe dsb ∷ reverse before.now)) }
+        ensures stands { OnOk result
+            (StandsByPatterns self.new.history header.now (TheDsb pe dsb ∷ reverse before.now)) }
         ensures rest { spec.KeepsRest self.old self.new }
     {
         let event = Event::Dsb { pe, dsb };
