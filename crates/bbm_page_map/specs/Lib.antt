@@ -1,0 +1,2 @@
+pub mod SlotNodes
+pub mod PageLists

@@ -1,0 +1,158 @@
+//! The nodes, of 64 slots each, which lead from the number of a page to that of its entry.
+
+ghost use Rattle.std.specs.Prelude.{◌≡◌, ℕ, ◌+◌, ◌*◌, ◌/◌, ◌%◌, ◌^◌, ◌<◌, ◌≤◌, length, if◌then◌else◌};
+ghost use Rattle.std.specs.Prelude.{nat_eq, vec_len, vec_capacity, IsOk, OnOk};
+ghost use Rattle.bbm_page_map.specs.SlotNodes.{Fits, HasSlots, IsTree, LeadsAlike, reached, slot};
+
+use bbm_regimes::NoMemory;
+
+/// The number of slots of the first nodes, and of node 0 before them, which leads nowhere.
+const FIRST_SLOTS: usize = 65 * 64;
+
+/// The number of slots that a further page may take.
+const MORE_SLOTS: usize = 4 * 64;
+
+/// The number of slots that there may be.
+const MAX_SLOTS: usize = 1 << 32;
+
+/// What stands in a node's slot for the last digit of a prefix of a page's number.
+#[inline(always)]
+fn step(slots: &[u32], node: u32, prefix: u64) -> u32
+    requires { 64 * node + 64 ≤ length slots.now }
+    ensures { result ≡ slot slots.now (64 * node + prefix % 64) }
+{
+    slots[64 * node as usize + (prefix % 64) as usize]
+}
+
+/// What the six digits of a page's number lead to, the first of 64 nodes by the first of them; 0 where the number isn't
+/// there.
+#[inline(always)]
+pub fn find(slots: &[u32], number: u64) -> u32
+    requires tree { IsTree slots.now }
+    requires fits { Fits 5 number }
+    ensures { result ≡ reached slots.now 5 number }
+{
+    if slots.is_empty() {
+        return 0;
+    }
+    let four = number / 64;
+    let three = four / 64;
+    let two = three / 64;
+    let one = two / 64;
+    let node = step(slots, 1 + (one / 64) as u32, one);
+    let node = step(slots, node, two);
+    let node = step(slots, node, three);
+    let node = step(slots, node, four);
+    step(slots, node, number)
+}
+
+/// Adds slots that are empty, so many, where there is room for them.
+fn add_slots(slots: &mut Vec<u32>, count: usize)
+    requires { vec_len slots.old + count ≤ vec_capacity slots.old }
+    ensures len { vec_len slots.new ≡ vec_len slots.old + count }
+    ensures room { vec_capacity slots.new ≡ vec_capacity slots.old }
+    ensures slots { (i : ℕ) → slot slots.new.items i ≡ slot slots.old.items i }
+{
+    for i in 0..count {
+        let _ = i;
+        slots.push_reserved(0);
+    }
+}
+
+/// Makes the first nodes, where there are none yet. `NoMemory` where there is none.
+fn begin(slots: &mut Vec<u32>) -> Result<(), NoMemory>
+    requires { IsTree slots.old.items }
+    ensures some { OnOk result (0 < vec_len slots.new) }
+    ensures tree { IsTree slots.new.items }
+    ensures alike { LeadsAlike slots.old.items slots.new.items }
+    ensures begun { 0 < vec_len slots.old → IsOk result × (slots.new ≡ slots.old) }
+{
+    if slots.len() > 0 {
+        return Ok(());
+    }
+    match slots.reserve(FIRST_SLOTS) {
+        Ok(()) => {
+            add_slots(slots, FIRST_SLOTS);
+            Ok(())
+        }
+        Err(_) => Err(NoMemory),
+    }
+}
+
+/// Makes room for the nodes that a further page may take. `NoMemory` where there is none, and where there would be more
+/// than 2^32 slots.
+pub fn reserve_slots(slots: &mut Vec<u32>) -> Result<(), NoMemory>
+    requires { IsTree slots.old.items }
+    ensures room { OnOk result (HasSlots slots.new) }
+    ensures tree { IsTree slots.new.items }
+    ensures alike { LeadsAlike slots.old.items slots.new.items }
+    ensures succeeds { HasSlots slots.old → IsOk result }
+{
+    match begin(slots) {
+        Ok(()) => {}
+        Err(_) => return Err(NoMemory),
+    }
+    if slots.len() > MAX_SLOTS - MORE_SLOTS {
+        return Err(NoMemory);
+    }
+    match slots.reserve(MORE_SLOTS) {
+        Ok(()) => Ok(()),
+        Err(_) => Err(NoMemory),
+    }
+}
+
+/// Adds a node, to which this slot then leads, where there is room for it; tells its number.
+fn add_node(slots: &mut Vec<u32>, at: usize) -> u32
+    requires within { at < vec_len slots.old }
+    requires whole { vec_len slots.old % 64 ≡ 0 }
+    requires few { vec_len slots.old < 2 ^ 32 }
+    requires room { vec_len slots.old + 64 ≤ vec_capacity slots.old }
+    ensures number { 64 * result ≡ vec_len slots.old }
+    ensures len { vec_len slots.new ≡ vec_len slots.old + 64 }
+    ensures room { vec_capacity slots.new ≡ vec_capacity slots.old }
+    ensures slots { (i : ℕ) → slot slots.new.items i ≡ (if nat_eq i at then result else slot slots.old.items i) }
+{
+    let number = (slots.len() / 64) as u32;
+    add_slots(slots, 64);
+    slots[at] = number;
+    number
+}
+
+/// The node that the first digits of a page's number lead to, one and `depth` more, 0 to 4, where there is room for the
+/// nodes on the way that aren't there yet.
+pub fn node_for(slots: &mut Vec<u32>, depth: usize, prefix: u64) -> u32
+    requires tree { IsTree slots.old.items }
+    requires some { 0 < vec_len slots.old }
+    requires depth { depth < 5 }
+    requires fits { Fits depth prefix }
+    requires few { vec_len slots.old + 64 * depth ≤ 2 ^ 32 }
+    requires room { vec_len slots.old + 64 * depth ≤ vec_capacity slots.old }
+    ensures node { reached slots.new.items depth prefix ≡ result }
+    ensures some { 0 < result }
+    ensures tree { IsTree slots.new.items }
+    ensures alike { LeadsAlike slots.old.items slots.new.items }
+    ensures longer { vec_len slots.old ≤ vec_len slots.new }
+    ensures len { vec_len slots.new ≤ vec_len slots.old + 64 * depth }
+    ensures room { vec_capacity slots.new ≡ vec_capacity slots.old }
+{
+    if depth == 0 {
+        return 1 + prefix as u32;
+    }
+    let above = node_for(slots, depth - 1, prefix / 64);
+    let at = 64 * above as usize + (prefix % 64) as usize;
+    let node = slots[at];
+    if node != 0 {
+        return node;
+    }
+    add_node(slots, at)
+}
+
+/// An empty slot of a last node leads to an entry then, by its number and one.
+pub fn put_number(slots: &mut Vec<u32>, at: usize, number: u32)
+    requires { at < vec_len slots.old }
+    ensures len { vec_len slots.new ≡ vec_len slots.old }
+    ensures room { vec_capacity slots.new ≡ vec_capacity slots.old }
+    ensures slots { (i : ℕ) → slot slots.new.items i ≡ (if nat_eq i at then number else slot slots.old.items i) }
+{
+    slots[at] = number;
+}
