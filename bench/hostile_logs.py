@@ -296,7 +296,7 @@ def deep_links(n):
 
 @hostile(4000)
 def flood(n):
-    """n pages whose hashes collide in the map of pages, each written eight times."""
+    """n pages whose hashes collide in a hash table of pages, each written eight times."""
     pages = [int(word, 16) for word in colliding(n)]
     written = (write(page, 0) for _ in range(8) for page in pages)
     return Log(HYP, chain(map(new_page, pages), written))

@@ -20,15 +20,15 @@ use crate::found::{Answer, Found};
 use crate::orders::Issuing;
 use crate::read::entry_at;
 use crate::work::{WorkList, add_for};
+use bbm_page_map::PageMap;
 use bbm_regimes::{NoMemory, Place};
 use bbm_tlbi_scope::Cover;
-use indexmap::IndexMap;
 
 /// Where each place is kept.
 #[derive(Clone, Copy)]
 pub struct Kept<'a> {
     /// The number of the first value of each page.
-    pub pages: &'a IndexMap<u64, usize>,
+    pub pages: &'a PageMap<usize>,
     /// Where the cells of each page start.
     pub parts: &'a [u32],
     /// The cells.

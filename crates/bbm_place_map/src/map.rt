@@ -18,9 +18,9 @@ use crate::{complete, issue, publish, read, write};
 use bbm_barriers::Dsb;
 use bbm_descriptor::{Core, Memory, core};
 use bbm_entry_state::{EntryState, Marks, Pends};
+use bbm_page_map::PageMap;
 use bbm_regimes::{Kind, NoMemory, Page, Pe, PeMask, Place};
 use bbm_tlbi_scope::Cover;
-use indexmap::IndexMap;
 use smallvec::SmallVec;
 use std::alloc::Global;
 
@@ -35,7 +35,7 @@ const VALUES: usize = 512;
 #[derive(Drop)]
 pub struct PlaceMap {
     alloc: Global,
-    pages: IndexMap<u64, usize>,
+    pages: PageMap<usize>,
     values: Vec<u64>,
     parts: Vec<u32>,
     cells: Vec<u32>,
@@ -93,7 +93,7 @@ impl PlaceMap {
     {
         PlaceMap {
             alloc,
-            pages: IndexMap::new(alloc),
+            pages: PageMap::new(alloc),
             values: Vec::new(alloc),
             parts: Vec::new(alloc),
             cells: Vec::new(alloc),
@@ -108,7 +108,7 @@ impl PlaceMap {
     pub fn is_tracked(&self, page: Page) -> bool
         ensures { result ≡ is_tracked self.now page }
     {
-        self.pages.contains_key(&page.get())
+        self.pages.contains_key(page)
     }
 
     /// The number of the place's value; None where its page isn't tracked. No answer depends on the number `near`, at
@@ -675,7 +675,7 @@ impl PlaceMap {
         if base >= MAX_VALUES || !self.has_room() {
             return Err(NoMemory);
         }
-        match self.pages.insert(page.get(), base) {
+        match self.pages.insert(page, base) {
             Ok(_) => {
                 write::add_values(&mut self.values);
                 write::add_cells(&mut self.parts, 1);
@@ -790,7 +790,7 @@ impl PlaceMap {
         ensures base { result ≡ get nat_eq self.now.pages page }
         ensures within { IfSome result (λ b. b + 512 ≤ vec_len self.now.values) }
     {
-        self.pages.get(&page.get()).copied()
+        self.pages.get(page).copied()
     }
 }
 

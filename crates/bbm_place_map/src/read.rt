@@ -13,8 +13,8 @@ ghost use Rattle.bbm_place_map.specs.States.{state_from};
 use crate::entry::{Entry, pends_of};
 use bbm_descriptor::Core;
 use bbm_entry_state::{EntryState, Marks, Pends};
-use bbm_regimes::{Pe, Place};
-use indexmap::IndexMap;
+use bbm_page_map::PageMap;
+use bbm_regimes::{Page, Pe, Place};
 
 /// The state of a place that isn't broken: live with this core, or clean without one.
 pub fn whole(live: Option<Core>) -> EntryState
@@ -58,13 +58,13 @@ pub fn cell(parts: &[u32], j: usize) -> Option<usize>
 }
 
 /// The number of a place's value; None where its page isn't tracked.
-pub fn index_at(pages: &IndexMap<u64, usize>, values: &[u64], place: Place) -> Option<usize>
+pub fn index_at(pages: &PageMap<usize>, values: &[u64], place: Place) -> Option<usize>
     requires { FewNumbered (get nat_eq pages.now) (length values.now) }
     ensures index { result ≡ index_of (get nat_eq pages.now) place }
     ensures within { IfSome result (λ j. j < length values.now) }
 {
     let _ = place.get();
-    match pages.get(&place.page().get()).copied() {
+    match pages.get(place.page()).copied() {
         Some(base) => Some(base + place.index() as usize),
         None => None,
     }
@@ -73,11 +73,11 @@ pub fn index_at(pages: &IndexMap<u64, usize>, values: &[u64], place: Place) -> O
 /// The number of the first value of the page that has this number in the order of the pages, where it is this page;
 /// None says nothing.
 #[inline(always)]
-fn base_here(pages: &IndexMap<u64, usize>, number: usize, page: u64) -> Option<usize>
+fn base_here(pages: &PageMap<usize>, number: usize, page: Page) -> Option<usize>
     ensures { IfSome result (λ base. get nat_eq pages.now page ≡ Some base) }
 {
     match pages.get_index(number) {
-        Some((key, base)) => { if *key == page { Some(*base) } else { None } }
+        Some((key, base)) => { if key == page { Some(*base) } else { None } }
         None => None,
     }
 }
@@ -85,19 +85,19 @@ fn base_here(pages: &IndexMap<u64, usize>, number: usize, page: u64) -> Option<u
 /// The number of the first value of a page; None where it isn't tracked. No answer depends on the number `near`, at
 /// which the page is looked for first.
 #[inline(always)]
-fn base_near(pages: &IndexMap<u64, usize>, near: usize, page: u64) -> Option<usize>
+fn base_near(pages: &PageMap<usize>, near: usize, page: Page) -> Option<usize>
     ensures { result ≡ get nat_eq pages.now page }
 {
     match base_here(pages, near, page) {
         Some(base) => Some(base),
-        None => pages.get(&page).copied(),
+        None => pages.get(page).copied(),
     }
 }
 
 /// The number of a place's value, where its page has this number in the order of the pages; None says nothing.
 #[inline(always)]
 pub fn index_here(
-    pages: &IndexMap<u64, usize>,
+    pages: &PageMap<usize>,
     values: &[u64],
     number: usize,
     place: Place,
@@ -106,7 +106,7 @@ pub fn index_here(
     ensures { IfSome result (λ j. index_of (get nat_eq pages.now) place ≡ Some j) }
 {
     let _ = place.get();
-    match base_here(pages, number, place.page().get()) {
+    match base_here(pages, number, place.page()) {
         Some(base) => Some(base + place.index() as usize),
         None => None,
     }
@@ -116,7 +116,7 @@ pub fn index_here(
 /// the page is looked for first.
 #[inline(always)]
 pub fn index_near(
-    pages: &IndexMap<u64, usize>,
+    pages: &PageMap<usize>,
     values: &[u64],
     near: usize,
     place: Place,
@@ -126,23 +126,18 @@ pub fn index_near(
     ensures within { IfSome result (λ j. j < length values.now) }
 {
     let _ = place.get();
-    match base_near(pages, near, place.page().get()) {
+    match base_near(pages, near, place.page()) {
         Some(base) => Some(base + place.index() as usize),
         None => None,
     }
 }
 
 /// The number of a place's entry; None where the place isn't broken.
-pub fn entry_at(
-    pages: &IndexMap<u64, usize>,
-    parts: &[u32],
-    cells: &[u32],
-    place: Place,
-) -> Option<u32>
+pub fn entry_at(pages: &PageMap<usize>, parts: &[u32], cells: &[u32], place: Place) -> Option<u32>
     ensures { result ≡ slot_at (starts (get nat_eq pages.now) parts.now) cells.now place }
 {
     let _ = place.get();
-    match pages.get(&place.page().get()).copied() {
+    match pages.get(place.page()).copied() {
         Some(base) => match slot_of(parts, base / 512) {
             Some(start) => slot_of(cells, start as usize + place.index() as usize),
             None => None,

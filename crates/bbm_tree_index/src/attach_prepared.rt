@@ -10,10 +10,11 @@ use crate::mark::Mark;
 use crate::role::Role;
 use crate::survey::entry_at;
 use crate::table::put;
+use bbm_page_map::PageMap;
 use indexmap::IndexMap;
 
 /// The pages of a level get the roles that their marks tell.
-fn attach_prepared(roles: &mut IndexMap<u64, Role>, level: &IndexMap<u64, Mark>)
+fn attach_prepared(roles: &mut PageMap<Role>, level: &IndexMap<u64, Mark>)
     requires pages { HasPages level.now }
     requires known { (p : ℕ) → is_some (get nat_eq level.now p) ≡ true → is_some (get nat_eq roles.old p) ≡ true }
     ensures roles { (p : ℕ) → get nat_eq roles.new p ≡ hung (get nat_eq level.now p) (get nat_eq roles.old p) }
@@ -26,7 +27,7 @@ fn attach_prepared(roles: &mut IndexMap<u64, Role>, level: &IndexMap<u64, Mark>)
 }
 
 /// The pages of all levels get the roles that their marks tell.
-pub fn attach_all(roles: &mut IndexMap<u64, Role>, tables: &[IndexMap<u64, Mark>])
+pub fn attach_all(roles: &mut PageMap<Role>, tables: &[IndexMap<u64, Mark>])
     requires pages { HavePages tables.now }
     requires known { (k p : ℕ) → (table : _) → slice_get tables.now k ≡ Some table
         → is_some (get nat_eq table p) ≡ true → is_some (get nat_eq roles.old p) ≡ true }

@@ -12,9 +12,9 @@ use crate::role::Role;
 use crate::table::{number_near, role_by};
 use bbm_descriptor::laws::law_core_where_valid;
 use bbm_descriptor::{Memory, core};
+use bbm_page_map::PageMap;
 use bbm_place_map::PlaceMap;
 use bbm_regimes::{Kind, Place};
-use indexmap::IndexMap;
 
 /// What is asked of a place above a page. Source: project's own choice.
 #[derive(Clone, Copy, Debug)]
@@ -70,7 +70,7 @@ fn passes(map: &PlaceMap, asked: &Asked, kind: Kind, level: u8, place: Place, ne
 /// above it is in no tree. No answer depends on the numbers `near`, at which the pages above are looked for first, by
 /// their level: there pages have been found before.
 pub fn is_cut(
-    roles: &IndexMap<u64, Role>,
+    roles: &PageMap<Role>,
     map: &PlaceMap,
     asked: &Asked,
     left: u8,

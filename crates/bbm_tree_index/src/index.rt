@@ -13,6 +13,7 @@ use crate::start::{start_below, start_root};
 use crate::survey::survey;
 use crate::table::{number_near, put, role_here, role_near};
 use bbm_events::Header;
+use bbm_page_map::PageMap;
 use bbm_place_map::PlaceMap;
 use bbm_regimes::{Kind, NoMemory, Page, Place, Which};
 use indexmap::IndexMap;
@@ -26,7 +27,7 @@ const MAX_PAGES: usize = 16384;
 #[derive(Drop)]
 pub struct TreeIndex {
     header: Header,
-    roles: IndexMap<u64, Role>,
+    roles: PageMap<Role>,
 }
 
 /// Pages that can be attached, as a survey found them: a table for each level.
@@ -70,7 +71,7 @@ impl TreeIndex {
     {
         TreeIndex {
             header: *header,
-            roles: IndexMap::new(alloc),
+            roles: PageMap::new(alloc),
         }
     }
 
@@ -79,7 +80,7 @@ impl TreeIndex {
     pub fn role(&self, page: Page) -> Role
         ensures { result ≡ role_in self.now page }
     {
-        match self.roles.get(&page.get()) {
+        match self.roles.get(page) {
             Some(role) => *role,
             None => Role::Untracked,
         }
@@ -333,11 +334,11 @@ impl TreeIndex {
         ensures sound { IsSound self.old → IsSound self.new }
         ensures agrees { Agrees self.old map.old → Agrees self.new map.new }
     {
-        let key = page.get();
-        if !self.roles.contains_key(&key) && self.roles.len() >= MAX_PAGES {
+        let _ = page.get();
+        if !self.roles.contains_key(page) && self.roles.len() >= MAX_PAGES {
             return Err(TreeFault::Limit(Which::Pages));
         }
-        match self.roles.reserve(1) {
+        match self.roles.reserve() {
             Ok(()) => {}
             Err(_) => return Err(TreeFault::NoMemory),
         }
@@ -345,7 +346,7 @@ impl TreeIndex {
             Ok(()) => {}
             Err(_) => return Err(TreeFault::NoMemory),
         }
-        match self.roles.insert(key, Role::Fresh) {
+        match self.roles.insert(page, Role::Fresh) {
             Ok(_) => Ok(()),
             Err(_) => Err(TreeFault::NoMemory),
         }

@@ -19,6 +19,7 @@ use crate::role::{Attach, Role};
 use crate::survey::entry_at;
 use crate::table::is_fresh;
 use bbm_descriptor::{Desc, read};
+use bbm_page_map::PageMap;
 use bbm_place_map::PlaceMap;
 use bbm_regimes::{Kind, Page, Place};
 use indexmap::IndexMap;
@@ -54,7 +55,7 @@ fn is_elsewhere(tables: &[IndexMap<u64, Mark>], level: usize, page: Page) -> boo
 /// Whether a path to the page of a level breaks not-fresh. Of the named pages of a root it isn't asked whether they are
 /// fresh.
 fn is_wrong(
-    roles: &IndexMap<u64, Role>,
+    roles: &PageMap<Role>,
     tables: &[IndexMap<u64, Mark>],
     named: bool,
     level: usize,
@@ -91,7 +92,7 @@ fn lesser_page(page: Option<Page>, other: Option<Page>) -> Option<Page>
 
 /// The page at an index of a table where it breaks not-fresh.
 fn wrong_at(
-    roles: &IndexMap<u64, Role>,
+    roles: &PageMap<Role>,
     tables: &[IndexMap<u64, Mark>],
     named: bool,
     level: usize,
@@ -113,7 +114,7 @@ fn wrong_at(
 
 /// The least page of a table that breaks not-fresh.
 fn wrong_in(
-    roles: &IndexMap<u64, Role>,
+    roles: &PageMap<Role>,
     tables: &[IndexMap<u64, Mark>],
     named: bool,
     level: usize,
@@ -131,11 +132,7 @@ fn wrong_in(
 }
 
 /// The least page that breaks not-fresh.
-fn least_wrong(
-    roles: &IndexMap<u64, Role>,
-    tables: &[IndexMap<u64, Mark>],
-    named: bool,
-) -> Option<Page>
+fn least_wrong(roles: &PageMap<Role>, tables: &[IndexMap<u64, Mark>], named: bool) -> Option<Page>
     requires { HavePages tables.now }
     ensures { LeastOf (WrongPage tables.now (fresh_of roles.now) named) result }
 {
@@ -263,7 +260,7 @@ fn least_global(
 
 /// Judges the pages of a survey that begins at this kind and level.
 pub fn judge_tables(
-    roles: &IndexMap<u64, Role>,
+    roles: &PageMap<Role>,
     map: &PlaceMap,
     tables: &[IndexMap<u64, Mark>],
     named: bool,

@@ -13,9 +13,9 @@ ghost use Rattle.bbm_tree_index.specs.PageTables.{HasPages};
 use crate::climb::{Asked, is_cut};
 use crate::role::Role;
 use crate::table::{put, role_by};
+use bbm_page_map::PageMap;
 use bbm_place_map::PlaceMap;
 use bbm_regimes::{Page, Place};
-use indexmap::IndexMap;
 
 /// Which pages leave the trees. Source: project's own choice.
 #[derive(Clone, Copy, Debug)]
@@ -31,7 +31,7 @@ pub enum Leaving {
 /// Whether a page with this role, of a level of at most 4, leaves. No answer depends on the numbers `near`, at which
 /// the pages above are looked for first, by their level.
 pub fn leaves(
-    roles: &IndexMap<u64, Role>,
+    roles: &PageMap<Role>,
     map: &PlaceMap,
     leaving: &Leaving,
     role: &Role,
@@ -65,7 +65,7 @@ fn leaves_root(leaving: &Leaving, first: Page) -> bool
 /// The page leaves if it is one that does: it is gone, and no place of it is broken. No answer depends on the numbers,
 /// at which it and the pages above it are looked for first.
 pub fn step(
-    roles: &mut IndexMap<u64, Role>,
+    roles: &mut PageMap<Role>,
     map: &mut PlaceMap,
     leaving: &Leaving,
     page: Page,
@@ -86,18 +86,20 @@ pub fn step(
 }
 
 /// The page at an index of the table.
-pub fn page_at(roles: &IndexMap<u64, Role>, index: usize) -> Page
+pub fn page_at(roles: &PageMap<Role>, index: usize) -> Page
     requires within { index < index_map_len roles.now }
     requires pages { HasPages roles.now }
     ensures at { slice_get (keys roles.now) index ≡ Some result }
     ensures known { is_some (get nat_eq roles.now result) ≡ true }
 {
-    let (key, _) = roles.get_index(index).unwrap();
-    Page::new(*key).unwrap()
+    match roles.get_index(index) {
+        Some((page, _)) => page,
+        None => unreachable!(),
+    }
 }
 
 /// The pages that leave are gone, and no place of them is broken.
-pub fn sweep(roles: &mut IndexMap<u64, Role>, map: &mut PlaceMap, leaving: &Leaving)
+pub fn sweep(roles: &mut PageMap<Role>, map: &mut PlaceMap, leaving: &Leaving)
     requires sound { (heading : Heading) × Sound (roles_of roles.old) heading }
     requires pages { HasPages roles.old }
     ensures roles { LetsGo (leaves_in map.old roles.old leaving.now) roles.old roles.new }

@@ -86,7 +86,8 @@ impl Spot {
     /// The place of the page that translates the input page, None where there is none.
     pub fn place_at(&self, page: Page, input: u64) -> Option<Place>
         requires { Fits self.now }
-        ensures place { (a : ℕ) → is_at page a ≡ true → self.now.base + index_of a * input_pages_of self.now.level ≤ input
+        ensures place { (a : ℕ) → is_at page a ≡ true
+            → self.now.base + index_of a * input_pages_of self.now.level ≤ input
             → input < self.now.base + index_of a * input_pages_of self.now.level + input_pages_of self.now.level
             → result ≡ Some a }
         ensures inside { IfSome result (λ a. is_at page a ≡ true) }

@@ -20,6 +20,7 @@ use crate::spot::{Spot, spot_of};
 use crate::table::is_fresh;
 use bbm_descriptor::{Desc, read};
 use bbm_events::Header;
+use bbm_page_map::PageMap;
 use bbm_place_map::{PlaceMap, Position};
 use bbm_regimes::{Kind, NoMemory, Page, Place};
 use indexmap::IndexMap;
@@ -144,7 +145,7 @@ pub fn entry_at(table: &IndexMap<u64, Mark>, index: usize) -> (Page, Mark)
 /// Notes the paths that go on through a page of a level, where it is fresh.
 fn expand_entry(
     header: &Header,
-    roles: &IndexMap<u64, Role>,
+    roles: &PageMap<Role>,
     map: &PlaceMap,
     page: Page,
     mark: &Mark,
@@ -174,7 +175,7 @@ fn expand_entry(
 pub fn expand(
     alloc: Global,
     header: &Header,
-    roles: &IndexMap<u64, Role>,
+    roles: &PageMap<Role>,
     map: &PlaceMap,
     level: &IndexMap<u64, Mark>,
 ) -> Result<IndexMap<u64, Mark>, NoMemory>
@@ -211,7 +212,7 @@ fn push_table(
 fn push_level(
     alloc: Global,
     header: &Header,
-    roles: &IndexMap<u64, Role>,
+    roles: &PageMap<Role>,
     map: &PlaceMap,
     tables: &mut Vec<IndexMap<u64, Mark>>,
     last: usize,
@@ -233,7 +234,7 @@ fn push_level(
 pub fn survey(
     alloc: Global,
     header: &Header,
-    roles: &IndexMap<u64, Role>,
+    roles: &PageMap<Role>,
     map: &PlaceMap,
     first: IndexMap<u64, Mark>,
     behind: u8,

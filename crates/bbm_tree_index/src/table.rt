@@ -7,46 +7,43 @@ ghost use Rattle.bbm_tree_index.specs.PageTables.{SameKeys};
 ghost use Rattle.bbm_tree_index.specs.Survey.{fresh_of};
 
 use crate::role::Role;
+use bbm_page_map::PageMap;
 use bbm_regimes::Page;
-use indexmap::IndexMap;
 
 /// Gives a page that has a role another one.
-pub fn put(roles: &mut IndexMap<u64, Role>, page: Page, role: Role)
+pub fn put(roles: &mut PageMap<Role>, page: Page, role: Role)
     requires { is_some (get nat_eq roles.old page) ≡ true }
     ensures roles { (p : ℕ) → get nat_eq roles.new p ≡ (if p == page then Some role else get nat_eq roles.old p) }
     ensures same { SameKeys roles.old roles.new }
 {
-    match roles.get_mut(&page.get()) {
-        Some(old) => *old = role,
-        None => {}
-    }
+    roles.put(page, role);
 }
 
 /// The role of the page, where it has this number in the order in which pages got roles; None says nothing.
 #[inline(always)]
-pub fn role_here<'a>(roles: &'a IndexMap<u64, Role>, number: usize, page: Page) -> Option<&'a Role>
+pub fn role_here<'a>(roles: &'a PageMap<Role>, number: usize, page: Page) -> Option<&'a Role>
     ensures { IfSome result (λ role. get nat_eq roles.now page ≡ Some role.now) }
 {
     match roles.get_index(number) {
-        Some((key, role)) => { if *key == page.get() { Some(role) } else { None } }
+        Some((key, role)) => { if key == page { Some(role) } else { None } }
         None => None,
     }
 }
 
 /// The role of the page, if it has one. No answer depends on the number `near`, at which the page is looked for first.
 #[inline(always)]
-pub fn role_near<'a>(roles: &'a IndexMap<u64, Role>, near: usize, page: Page) -> Option<&'a Role>
+pub fn role_near<'a>(roles: &'a PageMap<Role>, near: usize, page: Page) -> Option<&'a Role>
     ensures { option_copied result ≡ get nat_eq roles.now page }
 {
     match role_here(roles, near, page) {
         Some(role) => Some(role),
-        None => roles.get(&page.get()),
+        None => roles.get(page),
     }
 }
 
 /// The role of the page. No answer depends on the number `near`, at which the page is looked for first.
 #[inline(always)]
-pub fn role_by(roles: &IndexMap<u64, Role>, near: usize, page: Page) -> Role
+pub fn role_by(roles: &PageMap<Role>, near: usize, page: Page) -> Role
     ensures { result ≡ unwrap_or (get nat_eq roles.now page) Role.Untracked }
 {
     match role_near(roles, near, page) {
@@ -56,10 +53,10 @@ pub fn role_by(roles: &IndexMap<u64, Role>, near: usize, page: Page) -> Role
 }
 
 /// The role of the page.
-pub fn role_of(roles: &IndexMap<u64, Role>, page: Page) -> Role
+pub fn role_of(roles: &PageMap<Role>, page: Page) -> Role
     ensures { result ≡ unwrap_or (get nat_eq roles.now page) Role.Untracked }
 {
-    match roles.get(&page.get()) {
+    match roles.get(page) {
         Some(role) => *role,
         None => Role::Untracked,
     }
@@ -68,7 +65,7 @@ pub fn role_of(roles: &IndexMap<u64, Role>, page: Page) -> Role
 /// Where to look first for the page: its number in the order in which pages got roles. That is `near` where the page is
 /// there, and else it is looked up. No answer depends on it.
 #[inline(always)]
-pub fn number_near(roles: &IndexMap<u64, Role>, near: usize, page: Page) -> usize {
+pub fn number_near(roles: &PageMap<Role>, near: usize, page: Page) -> usize {
     match role_here(roles, near, page) {
         Some(_) => near,
         None => number_far(roles, page),
@@ -77,15 +74,15 @@ pub fn number_near(roles: &IndexMap<u64, Role>, near: usize, page: Page) -> usiz
 
 /// The same, looked up.
 #[inline(never)]
-fn number_far(roles: &IndexMap<u64, Role>, page: Page) -> usize {
-    match roles.get_index_of(&page.get()) {
+fn number_far(roles: &PageMap<Role>, page: Page) -> usize {
+    match roles.get_index_of(page) {
         Some(number) => number,
         None => 0,
     }
 }
 
 /// Whether the page is fresh.
-pub fn is_fresh(roles: &IndexMap<u64, Role>, page: Page) -> bool
+pub fn is_fresh(roles: &PageMap<Role>, page: Page) -> bool
     ensures { result ≡ fresh_of roles.now page }
 {
     matches!(role_of(roles, page), Role::Fresh)

@@ -13,16 +13,16 @@ invariant_of-self c =
     let slots = c.add_cells.ensures.kept.slots in
     record {
       numbered =
-          numbered_then c.args.self.now c.has_room.new.self c.has_room.ensures.same (get nat_eq c.insert.new.self) c.get.result c.args.page
-          c.len-base.result c.get.ensures.value c.in-Ok.ensures.updates.0 c.requires c.len-base.ensures (vec_len c.add_values.new.values) (omega (arith, len, same, c.len-base.ensures));
+          numbered_then c.args.self.now c.has_room.new.self c.has_room.ensures.same (get nat_eq c.insert.new.self) c.args.page c.args.page
+          c.len-base.result refl c.in-Ok.ensures.updates c.requires c.len-base.ensures (vec_len c.add_values.new.values) (omega (arith, len, same, c.len-base.ensures));
       parted =
-          parted_then c.args.self.now c.has_room.new.self c.has_room.ensures.same (get nat_eq c.insert.new.self) c.get.result c.args.page
-          c.len-base.result c.get.ensures.value c.in-Ok.ensures.updates.0 c.requires c.len-base.ensures c.add_cells.new.cells.items slots
+          parted_then c.args.self.now c.has_room.new.self c.has_room.ensures.same (get nat_eq c.insert.new.self) c.args.page c.args.page
+          c.len-base.result refl c.in-Ok.ensures.updates c.requires c.len-base.ensures c.add_cells.new.cells.items slots
           (vec_len c.add_values.new.values) (omega (arith, len, same, c.len-base.ensures)) (omega (arith, c.add_cells.ensures.len))
           c.add_cells.ensures.count;
       linked = mid.linked;
-      placed = placed_then c.args.self.now c.has_room.new.self c.has_room.ensures.same (get nat_eq c.insert.new.self) c.get.result c.args.page
-          c.len-base.result c.get.ensures.value c.in-Ok.ensures.updates.0 c.requires c.len-base.ensures c.add_cells.new.cells.items slots;
+      placed = placed_then c.args.self.now c.has_room.new.self c.has_room.ensures.same (get nat_eq c.insert.new.self) c.args.page c.args.page
+          c.len-base.result refl c.in-Ok.ensures.updates c.requires c.len-base.ensures c.add_cells.new.cells.items slots;
       space = let more = c.has_room.ensures.cells c.if-not-has_room.false in omega (arith, more, len);
       room = let more = c.has_room.ensures.broken c.if-not-has_room.false in omega (arith, more, len);
       fewer = omega (arith, mid.fewer, len);
@@ -35,19 +35,19 @@ invariant_of-self c =
 
 pub returns-in-Ok-clause-pages : goal.returns-in-Ok-clause-pages
 unfolding is_tracked
-returns-in-Ok-clause-pages c = tracked_then c.args.self.now c.has_room.new.self c.has_room.ensures.same (get nat_eq c.insert.new.self) c.get.result c.args.page
-    c.len-base.result c.get.ensures.value c.in-Ok.ensures.updates.0 c.requires c.len-base.ensures
+returns-in-Ok-clause-pages c = tracked_then c.args.self.now c.has_room.new.self c.has_room.ensures.same (get nat_eq c.insert.new.self) c.args.page c.args.page
+    c.len-base.result refl c.in-Ok.ensures.updates c.requires c.len-base.ensures
 
 pub returns-in-Ok-clause-values : goal.returns-in-Ok-clause-values
 unfolding value_at
-returns-in-Ok-clause-values c = values_then c.args.self.now c.has_room.new.self c.has_room.ensures.same (get nat_eq c.insert.new.self) c.get.result c.args.page
-    c.len-base.result c.get.ensures.value c.in-Ok.ensures.updates.0 c.requires c.len-base.ensures c.add_values.new.values.items c.add_values.ensures.values
+returns-in-Ok-clause-values c = values_then c.args.self.now c.has_room.new.self c.has_room.ensures.same (get nat_eq c.insert.new.self) c.args.page c.args.page
+    c.len-base.result refl c.in-Ok.ensures.updates c.requires c.len-base.ensures c.add_values.new.values.items c.add_values.ensures.values
 
 pub returns-in-Ok-clause-same : goal.returns-in-Ok-clause-same
 unfolding marks_at pends_at
 returns-in-Ok-clause-same c = record {
-  marks = marks_then c.args.self.now c.has_room.new.self c.has_room.ensures.same (get nat_eq c.insert.new.self) c.get.result c.args.page
-      c.len-base.result c.get.ensures.value c.in-Ok.ensures.updates.0 c.requires c.len-base.ensures c.add_cells.new.cells.items c.add_cells.ensures.kept.slots;
-  pends = pends_then c.args.self.now c.has_room.new.self c.has_room.ensures.same (get nat_eq c.insert.new.self) c.get.result c.args.page
-      c.len-base.result c.get.ensures.value c.in-Ok.ensures.updates.0 c.requires c.len-base.ensures c.add_cells.new.cells.items c.add_cells.ensures.kept.slots;
+  marks = marks_then c.args.self.now c.has_room.new.self c.has_room.ensures.same (get nat_eq c.insert.new.self) c.args.page c.args.page
+      c.len-base.result refl c.in-Ok.ensures.updates c.requires c.len-base.ensures c.add_cells.new.cells.items c.add_cells.ensures.kept.slots;
+  pends = pends_then c.args.self.now c.has_room.new.self c.has_room.ensures.same (get nat_eq c.insert.new.self) c.args.page c.args.page
+      c.len-base.result refl c.in-Ok.ensures.updates c.requires c.len-base.ensures c.add_cells.new.cells.items c.add_cells.ensures.kept.slots;
 }

@@ -37,7 +37,7 @@ new_of c = record { header = c.args.self.now.header; roles = c.insert.new.self }
 
 put : (c : goal.In-Ok-insert) (p : ℕ) → get nat_eq c.insert.new.self p
     ≡ (if p == c.args.page then Some Fresh else get nat_eq c.args.self.now.roles p)
-put c p = grind (arith, common_steps, c.in-Ok-insert.ensures.updates.0 p, ap (λ es. lookup (nat_eq p) es) c.reserve.ensures.entries, c.get-key.ensures.value)
+put c p = grind (arith, common_steps, c.in-Ok-insert.ensures.updates p, ap (λ es. lookup (nat_eq p) es) c.reserve.ensures.entries)
 
 role : (c : goal.In-Ok-insert) (p : ℕ) → role_in (new_of c) p ≡ (if p == c.args.page then Fresh else role_in c.args.self.now p)
 unfolding role_in
@@ -67,7 +67,7 @@ sound c s = sound_kept c.args.self.now (new_of c) (same_heading c) (trees c)
     (λ p k. by p (p == c.args.page) refl (sym (known c p) ∙ k)) s
   where
     by : (p : ℕ) (b : Bool) → (p == c.args.page) ≡ b → (b || known_in c.args.self.now p) ≡ true → (p < 2 ^ 48) × (p % 4096 ≡ 0)
-    by p true e k = subst (λ q. (q < 2 ^ 48) × (q % 4096 ≡ 0)) (sym (eqb-true p c.args.page e)) (c.get-key.ensures.below, c.get-key.ensures.aligned)
+    by p true e k = subst (λ q. (q < 2 ^ 48) × (q % 4096 ≡ 0)) (sym (eqb-true p c.args.page e)) (c.get.ensures.below, c.get.ensures.aligned)
     by p false e k = s.pages p k
 
 places : (c : goal.In-Ok-insert) (a : ℕ) (n : Node) → node_in c.args.self.now (page_of a) ≡ Some n → SamePlace c.args.map.now c.track.new.self a
