@@ -1,5 +1,5 @@
 -- One entry that a DSB answered, among the others.
-use Rattle.bbm_place_map.proofs.Common.{◌≡◌, ◌≢◌, ℕ, Bool, true, false, nat_eq, List, [], length, Option, Some, None}
+use Rattle.bbm_place_map.proofs.Common.{◌≡◌, ◌≢◌, ℕ, nat_eq, List, [], length, Option, Some, None}
 use Rattle.bbm_place_map.proofs.Common.{refl, ap, sym, subst, ◌∙◌, if◌then◌else◌, slice_get, option_map, eq-eqb, ne_eqb}
 use Rattle.bbm_place_map.proofs.Common.{cond-true, cond-false, Completed, waits, Pends, Clean, Broken, slot_in}
 use Rattle.bbm_place_map.proofs.Common.{Completes, loses_table, is_table, pends_in, no_pends, position, position_at}
@@ -27,10 +27,6 @@ pub completes_whole : (by : Barrier) (cells : List ℕ) (entries : List Entry) �
 completes_whole by cells entries none j =
     let is = none_broken entries none (slot_in cells j) in
     completes_at by (entry_in cells entries j) None (entry_in cells entries j) None is is (completes_none by)
-
-none_twice : (b : Bool) (x y : Option Entry) → (if b then None else if b then x else y) ≡ (if b then None else y)
-none_twice true x y = refl
-none_twice false x y = refl
 
 module _ (by : Barrier) (cells : List ℕ) (entries : List Entry) (k : ℕ) (e : Entry)
     (linked : Linked cells entries) (was : slice_get entries k ≡ Some e) where
@@ -74,13 +70,10 @@ module _ (by : Barrier) (cells : List ℕ) (entries : List Entry) (k : ℕ) (e :
       -- and left
       module _ (cells' : List ℕ) (entries' : List Entry)
           (gone : (j : ℕ) → cell_at mid k ≡ Some j → (i : ℕ) → entry_in cells' entries' i ≡ (if nat_eq i j then None else entry_in cells mid i)) where
-        gone_is : (i : ℕ) → entry_in cells' entries' i ≡ (if nat_eq i j then None else entry_in cells entries i)
-        gone_is i =
-            gone j (cells_same entries mid positions k ∙ at) i ∙ ap (λ (o : Option Entry). if nat_eq i j then None else o) (mid_is i)
-            ∙ none_twice (nat_eq i j) (Some f) (entry_in cells entries i)
-
         none_here : entry_in cells' entries' j ≡ None
-        none_here = gone_is j ∙ cond-true (nat_eq j j) None (entry_in cells entries j) (eq-eqb j j refl)
+        none_here =
+            gone j (cells_same entries mid positions k ∙ at) j
+            ∙ cond-true (nat_eq j j) None (entry_in cells mid j) (eq-eqb j j refl)
 
         pub here_gone : Completed (Broken e.marks) (pends_in e.pends.items by.issuer) by.dsb by.n Clean no_pends
             → Completes by (entry_in cells entries j) (entry_in cells' entries' j)
@@ -97,4 +90,7 @@ module _ (by : Barrier) (cells : List ℕ) (entries : List Entry) (k : ℕ) (e :
             ∙ ap (λ (o : Option Entry). loses_table (Some e.marks) (marks_of o)) none_here)
 
         pub others_gone : (i : ℕ) → i ≢ j → entry_in cells' entries' i ≡ entry_in cells entries i
-        others_gone i other = gone_is i ∙ cond-false (nat_eq i j) None (entry_in cells entries i) (ne_eqb i j other)
+        others_gone i other =
+            gone j (cells_same entries mid positions k ∙ at) i
+            ∙ cond-false (nat_eq i j) None (entry_in cells mid i) (ne_eqb i j other)
+            ∙ mid_is i ∙ cond-false (nat_eq i j) (Some f) (entry_in cells entries i) (ne_eqb i j other)

@@ -9,17 +9,26 @@ use Rattle.std.proofs.Common.{◌^◌}
 use Rattle.bbm_place_map.specs.Map.{marks_at, pends_at}
 use Rattle.bbm_place_map.specs.MapCalls.{Frees}
 use Rattle.bbm_place_map.specs.Puts.{Clears}
-use Rattle.bbm_place_map.specs.Sound.{FewLinked}
+use Rattle.bbm_place_map.specs.Sound.{CanBreak, FewLinked}
 use Rattle.bbm_place_map.specs.Works.{Listed}
 use Rattle.bbm_place_map.proofs.Idle.{idle_from}
 use Rattle.bbm_place_map.proofs.Listing.{gone_or_same, listed_fewer}
 use Rattle.bbm_place_map.proofs.Pages.{lose_marks, lose_pends}
 use Rattle.bbm_place_map.proofs.Parts.{at_maybe, at_part, cell_here, none_marks, none_pends}
-use Rattle.bbm_place_map.proofs.Places.{index_none}
+use Rattle.bbm_place_map.proofs.Places.{index_inside, index_none}
 
 -- cells and entries of a map can be edited
 pub able : (map : PlaceMap) → FewLinked map.cells map.broken
 able map = record { linked = map.linked; few = omega (arith, map.fewer, map.few) }
+
+-- and the place of a cell can be broken
+pub breakable : (map : PlaceMap) (a i : ℕ) → place_cell map a ≡ Some i → CanBreak i map.cells map.broken
+breakable map a i at = record {
+  linked = map.linked;
+  within = index_inside (starts (get nat_eq map.pages) map.parts.items) (vec_len map.cells) map.parted.numbered a i at;
+  few = omega (arith, map.fewer, map.few);
+  room = omega (arith, map.fewer, map.room);
+}
 
 -- A map hangs together with these values, cells and entries.
 pub record Fits (map : PlaceMap) (values cells : Vec ℕ Global) (broken : Vec Entry Global) : Type 0 where

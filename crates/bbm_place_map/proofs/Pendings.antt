@@ -5,7 +5,10 @@ use Rattle.bbm_place_map.proofs.Common.{if◌then◌else◌, Option, Some, None,
 use Rattle.bbm_place_map.proofs.Common.{cond-false, eq-eqb, ne_eqb, false≢true, get_or_default, Pend, Dsb}
 use Rattle.bbm_place_map.proofs.Common.{answers_broadcast, answers_local, PeMask, Cover, Noted, waits_in, Marks, Pends}
 use Rattle.bbm_place_map.proofs.Common.{Broken, Adds, WaitsAlike, lane_of, no_pend, pend_in, pends_in, IsFirst, Lacks}
-use Rattle.bbm_place_map.proofs.Common.{IsQuiet, Pending, SmallVec}
+use Rattle.bbm_place_map.proofs.Common.{IsQuiet, Pending, SmallVec, same_cover, proved, If, Is, Half, Second, Full}
+use Rattle.bbm_entry_state.specs.Marking.{counts_for}
+use Rattle.bbm_regimes.specs.PeMask.{pe_in}
+use Rattle.bbm_tlbi_scope.specs.declared.entry.Cover.TheVariants.{None as NoCover}
 use Rattle.bbm_place_map.specs.Dsbs.{Takes, TakesAnswered, WaitsOn}
 use Rattle.smallvec.specs.SmallVec.{with_items}
 use Rattle.smallvec.proofs.SmallVecLemmas.{items-with_items}
@@ -153,3 +156,31 @@ module _ (old mid new : List Pending) (q : ℕ) (dsb : Dsb) (all own both : Pend
         issuer_kept mid new (lane_of q false) second.others r (lanes_apart r q true false other) (lanes_apart r q false false other)
         ∙ issuer_kept old mid (lane_of q true) first.others r (lanes_apart r q true true other) (lanes_apart r q false true other);
   }
+
+kept_by : (r k w : Bool) → ((r && k) && not w) ≡ false → w ≡ ((r && (true && k)) || w)
+kept_by = proved 3 (λ r k w. If (Is ((r && k) && not w) false) (Is w ((r && (true && k)) || w))) refl
+
+passed_by : (r k w : Bool) → w ≡ ((r && (false && k)) || w)
+passed_by = proved 3 (λ r k w. Is w ((r && (false && k)) || w)) refl
+
+none_by : (r k : Bool) → false ≡ ((r && (k && false)) || false)
+none_by = proved 2 (λ r k. Is false ((r && (k && false)) || false)) refl
+
+-- nothing is added where each PE waits that a TLBI reaches and for which it counts
+pub adds_none : (marks : Marks) (reach : PeMask) (cover : Cover) (pend : Pend)
+    → ((p : ℕ) → ((pe_in reach p && counts_for marks cover p) && not (waits_in pend cover p)) ≡ false)
+    → Adds marks reach cover pend pend
+adds_none marks reach cover pend none NoCover p = none_by (pe_in reach p) (same_cover NoCover cover)
+adds_none marks reach NoCover pend none Half p = passed_by (pe_in reach p) (pe_in marks.seen p) (pe_in pend.half p)
+adds_none marks reach Half pend none Half p = kept_by (pe_in reach p) (pe_in marks.seen p) (pe_in pend.half p) (none p)
+adds_none marks reach Second pend none Half p = passed_by (pe_in reach p) (pe_in marks.seen p) (pe_in pend.half p)
+adds_none marks reach Full pend none Half p = passed_by (pe_in reach p) (pe_in marks.seen p) (pe_in pend.half p)
+adds_none marks reach NoCover pend none Second p = passed_by (pe_in reach p) (pe_in marks.half p) (pe_in pend.second p)
+adds_none marks reach Half pend none Second p = passed_by (pe_in reach p) (pe_in marks.half p) (pe_in pend.second p)
+adds_none marks reach Second pend none Second p =
+    kept_by (pe_in reach p) (pe_in marks.half p) (pe_in pend.second p) (none p)
+adds_none marks reach Full pend none Second p = passed_by (pe_in reach p) (pe_in marks.half p) (pe_in pend.second p)
+adds_none marks reach NoCover pend none Full p = passed_by (pe_in reach p) (pe_in marks.seen p) (pe_in pend.full p)
+adds_none marks reach Half pend none Full p = passed_by (pe_in reach p) (pe_in marks.seen p) (pe_in pend.full p)
+adds_none marks reach Second pend none Full p = passed_by (pe_in reach p) (pe_in marks.seen p) (pe_in pend.full p)
+adds_none marks reach Full pend none Full p = kept_by (pe_in reach p) (pe_in marks.seen p) (pe_in pend.full p) (none p)

@@ -1,6 +1,6 @@
 -- What the issue of a TLBI makes of each entry.
 -- Source: project's own choice.
-use Rattle.std.specs.Prelude.{◌≡◌, ◌≢◌, ℕ, Bool, true, false, List, Some, slice_get}
+use Rattle.std.specs.Prelude.{◌≡◌, ◌≢◌, ◌≤◌, ℕ, Bool, true, false, List, Some, slice_get}
 use Rattle.std.specs.Prelude.{Vec, length, vec_capacity}
 use Rattle.std.specs.declared.alloc.Global.{Global}
 use Rattle.bbm_tlbi_scope.specs.declared.entry.Cover.{Cover}
@@ -25,11 +25,16 @@ is_cover Full = true
 abbrev pub Keeps : Entry → Entry → Type 0
 Keeps e f = (f.marks ≡ e.marks) × (f.pends.items ≡ e.pends.items)
 
--- and there is room for the lane, where the place is covered
-abbrev pub Readies : ℕ → List Cover → ℕ → Entry → Entry → Type 0
-Readies lane covers m e f =
+-- and there is room for the lane, where the place is covered and the number of the entry isn't below this one
+abbrev pub Readies : ℕ → ℕ → List Cover → ℕ → Entry → Entry → Type 0
+Readies start lane covers m e f =
     (f.marks ≡ e.marks) × (f.pends.items ≡ e.pends.items)
-    × ((c : Cover) → slice_get covers m ≡ Some c → is_cover c ≡ true → HasRoom f.pends lane)
+    × ((c : Cover) → start ≤ m → slice_get covers m ≡ Some c → is_cover c ≡ true → HasRoom f.pends lane)
+
+-- the TLBI, which covers the place so far, is noted there already: to note it changes nothing
+abbrev pub IsNoted : Cover → Issuing → Entry → Type 0
+IsNoted cover by e = Noted (Broken e.marks) (pends_in e.pends.items by.issuer) by.reach by.broadcast cover
+    (pends_in e.pends.items by.issuer)
 
 -- the TLBI is noted, which covers the place so far
 abbrev pub NotesAs : Cover → Issuing → Entry → Entry → Type 0

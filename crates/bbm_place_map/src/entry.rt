@@ -158,14 +158,46 @@ fn grow(pendings: &mut SmallVec<Pending, 1>) -> Result<(), NoMemory>
     }
 }
 
+/// Whether what waits for the answers of a lane is kept first.
+#[inline(always)]
+fn is_first(pendings: &[Pending], lane: u8) -> bool
+    ensures { result ≡ true → IsFirst pendings.now 0 lane }
+{
+    if pendings.is_empty() {
+        return false;
+    }
+    pendings[0].lane == lane
+}
+
+/// Whether there is room for what waits for the answers of a lane; false says nothing.
+#[inline(always)]
+fn has_room(pendings: &SmallVec<Pending, 1>, lane: u8) -> bool
+    ensures { result ≡ true → HasRoom pendings.now lane }
+{
+    if pendings.len() < pendings.capacity() {
+        return true;
+    }
+    is_first(pendings.as_slice(), lane)
+}
+
 /// Makes room for what waits for the answers of a lane. `NoMemory` where there is none.
+#[inline(always)]
 pub fn make_room_for_lane(pendings: &mut SmallVec<Pending, 1>, lane: u8) -> Result<(), NoMemory>
     ensures items { pendings.new.items ≡ pendings.old.items }
     ensures room { OnOk result (HasRoom pendings.new lane) }
 {
-    if pendings.len() < pendings.capacity() {
+    if has_room(pendings, lane) {
         return Ok(());
     }
+    make_more_room(pendings, lane)
+}
+
+/// The same, where the first that is kept isn't of that lane.
+#[inline(never)]
+fn make_more_room(pendings: &mut SmallVec<Pending, 1>, lane: u8) -> Result<(), NoMemory>
+    ensures items { pendings.new.items ≡ pendings.old.items }
+    ensures room { OnOk result (HasRoom pendings.new lane) }
+{
     if place_of(pendings.as_slice(), lane).is_some() {
         return Ok(());
     }
@@ -192,6 +224,38 @@ fn note_lane(
             pendings.push_reserved(Pending { lane, pend });
         }
     }
+}
+
+/// Whether each PE waits that a TLBI reaches and for which it counts, as far as it covers a place with these marks.
+#[inline(always)]
+fn has_all(pend: &Pend, marks: &Marks, reach: PeMask, cover: Cover) -> bool
+    ensures { result ≡ true → Adds marks.now reach cover pend.now pend.now }
+{
+    match cover {
+        Cover::None => true,
+        Cover::Half => reach.and(marks.seen).minus(pend.half).is_empty(),
+        Cover::Second => reach.and(marks.half).minus(pend.second).is_empty(),
+        Cover::Full => reach.and(marks.seen).minus(pend.full).is_empty(),
+    }
+}
+
+/// Whether a TLBI of the issuer over a place with these marks is noted already; false says nothing.
+#[inline(always)]
+pub fn is_noted(
+    pendings: &[Pending],
+    issuer: Pe,
+    marks: &Marks,
+    reach: PeMask,
+    broadcast: bool,
+    cover: Cover,
+) -> bool
+    ensures { result ≡ true → Noted (state.Broken marks.now) (pends_in pendings.now issuer) reach broadcast cover
+        (pends_in pendings.now issuer) }
+{
+    if !is_first(pendings, lane_of(issuer, broadcast)) {
+        return false;
+    }
+    has_all(&pendings[0].pend, marks, reach, cover)
 }
 
 /// Notes a TLBI of the issuer over a place with these marks, where there is room for what waits for its answer. Whether

@@ -1,6 +1,7 @@
 //! What the issue of a TLBI leaves to its answer.
 
-ghost use Rattle.std.specs.Prelude.{◌≡◌, ◌≢◌, ◌<◌, ◌+◌, ◌^◌, ℕ, Bool, take, vec_len, vec_capacity, length, slice_get};
+ghost use Rattle.std.specs.Prelude.{◌≡◌, ◌≢◌, ◌<◌, ◌≤◌, ◌+◌, ◌^◌, ℕ, Bool, take, vec_len, vec_capacity, length};
+ghost use Rattle.std.specs.Prelude.{slice_get};
 ghost use Rattle.std.specs.Prelude.{OnOk, List, Some, nat_eq, true, false, if◌then◌else◌};
 ghost use Rattle.bbm_entry_state.specs.EntryCalls.{Noted};
 ghost use Rattle.bbm_entry_state.specs.declared.state.EntryState.TheVariants as state;
@@ -10,12 +11,12 @@ ghost use Rattle.bbm_place_map.specs.Entries.{position, lane_of, pends_in, HasRo
 ghost use Rattle.bbm_place_map.specs.Finds.{is_found};
 ghost use Rattle.indexmap.specs.IndexMap.{get};
 ghost use Rattle.bbm_place_map.specs.Sound.{IsSound, SameSize, slot_at, starts};
-ghost use Rattle.bbm_place_map.specs.PlaceNotes.{Keeps, Readies, NotesAs, NotesAt, NotesFound, NotesOne};
+ghost use Rattle.bbm_place_map.specs.PlaceNotes.{IsNoted, Keeps, Readies, NotesAs, NotesAt, NotesFound, NotesOne};
 ghost use Rattle.bbm_place_map.specs.PlaceNotes.{OnlyNotes, is_cover as spec_is_cover};
 ghost use Rattle.bbm_place_map.specs.Works.{IsQuiet, Waits};
 ghost use Rattle.bbm_place_map.specs.declared.entry.Entry.{Entry as TheEntry};
 
-use crate::entry::{Entry, make_room_for_lane, note_pends};
+use crate::entry::{Entry, is_noted, make_room_for_lane, note_pends};
 use crate::found::{Answer, Found};
 use crate::orders::Issuing;
 use crate::read::entry_at;
@@ -64,6 +65,7 @@ fn is_cover(cover: Cover) -> bool
 }
 
 /// Makes room at an entry for what waits for the answers of a lane. `NoMemory` where there is none.
+#[inline(always)]
 fn make_room_at(broken: &mut Vec<Entry>, k: usize, lane: u8) -> Result<(), NoMemory>
     requires { k < vec_len broken.old }
     ensures entry { (e : TheEntry) → slice_get broken.old.items k ≡ Some e → (f : TheEntry) × (position f ≡ position e)
@@ -103,7 +105,25 @@ fn note_at(broken: &mut Vec<Entry>, k: usize, tlbi: &Issuing, cover: Cover) -> b
     )
 }
 
-/// The same at an entry that is covered so far. The cell of one at which nothing so waited is listed for the issuer.
+/// Whether the TLBI, which covers the place of an entry so far, is noted there already; false says nothing.
+#[inline(always)]
+fn is_noted_at(broken: &Vec<Entry>, k: usize, tlbi: &Issuing, cover: Cover) -> bool
+    requires { k < vec_len broken.now }
+    ensures { result ≡ true → (e : TheEntry) → slice_get broken.now.items k ≡ Some e → IsNoted cover tlbi.now e }
+{
+    let entry = &broken[k];
+    is_noted(
+        entry.pends.as_slice(),
+        tlbi.issuer,
+        &entry.marks,
+        tlbi.reach,
+        tlbi.broadcast,
+        cover,
+    )
+}
+
+/// Notes the TLBI at an entry that is covered so far, if it isn't noted there already. The cell of one at which nothing
+/// so waited is listed for the issuer.
 #[inline(always)]
 fn note_entry(
     broken: &mut Vec<Entry>,
@@ -121,21 +141,44 @@ fn note_entry(
     ensures rest { OnlyNotes broken.old broken.new lists.old.items lists.new.items }
 {
     if is_cover(cover) {
-        if note_at(broken, k, tlbi, cover) {
-            add_for(lists, tlbi.issuer, broken[k].cell, broken.len());
+        if !is_noted_at(broken, k, tlbi, cover) {
+            if note_at(broken, k, tlbi, cover) {
+                add_for(lists, tlbi.issuer, broken[k].cell, broken.len());
+            }
         }
     }
 }
 
-/// Makes room for the lane at each place that is covered. `NoMemory` where there is none.
-pub fn make_room(broken: &mut Vec<Entry>, covers: &[Answer], lane: u8) -> Result<(), NoMemory>
-    requires { length covers.now ≡ length broken.old.items }
-    ensures each { (m : ℕ) → Advances Keeps (slice_get broken.old.items m) (slice_get broken.new.items m) }
-    ensures ready { OnOk result ((m : ℕ)
-        → Advances (Readies lane covers.now m) (slice_get broken.old.items m) (slice_get broken.new.items m)) }
-    ensures size { SameSize broken.old broken.new }
+/// A number below which the TLBI is noted already at each place that is covered.
+pub fn first_open(broken: &Vec<Entry>, covers: &[Answer], tlbi: &Issuing) -> usize
+    requires { length covers.now ≡ length broken.now.items }
+    ensures { (m : ℕ) (e : TheEntry) (c : TheCover) → m < result → slice_get broken.now.items m ≡ Some e
+        → slice_get covers.now m ≡ Some c → IsNoted c tlbi.now e }
 {
     for k in 0..broken.len() {
+        let cover = covers[k].get();
+        if is_cover(cover) && !is_noted_at(broken, k, tlbi, cover) {
+            return k;
+        }
+    }
+    broken.len()
+}
+
+/// Makes room for the lane at each place that is covered, from a number on. `NoMemory` where there is none.
+pub fn make_room(
+    broken: &mut Vec<Entry>,
+    covers: &[Answer],
+    start: usize,
+    lane: u8,
+) -> Result<(), NoMemory>
+    requires { length covers.now ≡ length broken.old.items }
+    ensures each { (m : ℕ) → Advances Keeps (slice_get broken.old.items m) (slice_get broken.new.items m) }
+    ensures ready { OnOk result ((m : ℕ) → Advances (Readies start lane covers.now m) (slice_get broken.old.items m)
+        (slice_get broken.new.items m)) }
+    ensures before { (m : ℕ) → m < start → slice_get broken.new.items m ≡ slice_get broken.old.items m }
+    ensures size { SameSize broken.old broken.new }
+{
+    for k in start..broken.len() {
         if is_cover(covers[k].get()) {
             make_room_at(broken, k, lane)?;
         }
@@ -143,11 +186,19 @@ pub fn make_room(broken: &mut Vec<Entry>, covers: &[Answer], lane: u8) -> Result
     Ok(())
 }
 
-/// Notes the TLBI at each place that is covered, where there is room for its lane. The cells of those at which
-/// something waits now are listed for the issuer.
-pub fn note(broken: &mut Vec<Entry>, covers: &[Answer], tlbi: &Issuing, lists: &mut Vec<WorkList>)
+/// Notes the TLBI at each place that is covered, where it is noted below a number, and from there on there is room for
+/// its lane. The cells of those at which something waits now are listed for the issuer.
+pub fn note(
+    broken: &mut Vec<Entry>,
+    covers: &[Answer],
+    start: usize,
+    tlbi: &Issuing,
+    lists: &mut Vec<WorkList>,
+)
     requires len { length covers.now ≡ length broken.old.items }
-    requires ready { (m : ℕ) (e : TheEntry) → slice_get broken.old.items m ≡ Some e → (c : TheCover)
+    requires noted { (m : ℕ) (e : TheEntry) (c : TheCover) → m < start → slice_get broken.old.items m ≡ Some e
+        → slice_get covers.now m ≡ Some c → IsNoted c tlbi.now e }
+    requires ready { (m : ℕ) (e : TheEntry) → start ≤ m → slice_get broken.old.items m ≡ Some e → (c : TheCover)
         → slice_get covers.now m ≡ Some c → spec_is_cover c ≡ true
         → HasRoom e.pends (lane_of tlbi.now.issuer tlbi.now.broadcast) }
     ensures each { (m : ℕ)
@@ -158,7 +209,7 @@ pub fn note(broken: &mut Vec<Entry>, covers: &[Answer], tlbi: &Issuing, lists: &
         (slice_get broken.new.items m) }
     ensures rest { OnlyNotes broken.old broken.new lists.old.items lists.new.items }
 {
-    for k in 0..broken.len() {
+    for k in start..broken.len() {
         let cover = covers[k].get();
         note_entry(broken, k, tlbi, cover, lists);
     }

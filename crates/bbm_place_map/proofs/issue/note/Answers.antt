@@ -1,14 +1,30 @@
-use Rattle.bbm_place_map.proofs.Common.{ℕ, ◌<◌, arith, ◌∙◌, sym, slice_get, length, NotesAt, Waits}
+use Rattle.bbm_place_map.proofs.Common.{ℕ, ◌<◌, arith, refl, inr, ◌∙◌, sym, slice_get, length, NotesAt, Waits}
 use Rattle.bbm_place_map.proofs.Advancing.{done_more, rest_more, all_done, advance_by}
 use Rattle.bbm_place_map.proofs.Issued.{cover_read}
 use Rattle.bbm_place_map.proofs.Noting.{notes_at, waits_kept}
 use Rattle.bbm_place_map.proofs.Restless.{entry_there}
+use Rattle.bbm_place_map.proofs.Visiting.{self_advances}
 use Rattle.bbm_place_map.proofs.issue.note.Goals as goal
 
 pub note_entry-requires-clause-ready : goal.note_entry-requires-clause-ready
 note_entry-requires-clause-ready c = λ e is cover.
-    c.requires.ready c.loop-k.k e (sym (c.loop-k.invariant.rest c.loop-k.k (omega arith)) ∙ is) c.get-cover.result
+    c.requires.ready c.loop-k.k e (omega arith)
+    (sym (c.loop-k.invariant.rest c.loop-k.k (omega arith)) ∙ is) c.get-cover.result
     (cover_read c.args.covers.now c.loop-k.k c.index-covers-k.result c.get-cover.result (omega arith) c.index-covers-k.is c.get-cover.ensures) cover
+
+pub loop-k-init : goal.loop-k-init
+loop-k-init c = record {
+  done = λ m below.
+      self_advances (NotesAt c.args.covers.now c.args.tlbi.now m) (slice_get c.args.broken.now.items m)
+      (λ e is. (refl, λ q other. refl, λ x at. c.requires.noted m e x below is at, λ x at none. refl));
+  waits = λ m below.
+      self_advances (Waits c.args.lists.now.items c.args.tlbi.now.issuer) (slice_get c.args.broken.now.items m)
+      (λ e is wide. inr (λ quiet. quiet));
+  kept = λ wide q j holds. holds;
+  rest = λ m above. refl;
+  len = refl;
+  room = refl;
+}
 
 pub loop-k-preserved : goal.loop-k-preserved
 loop-k-preserved c =

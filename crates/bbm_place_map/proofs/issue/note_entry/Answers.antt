@@ -36,3 +36,12 @@ returns-else-is_cover-clause-entry c = λ e is. (
   λ wide. inr (λ quiet. quiet),
   gets_same c.args.broken.now.items c.args.k e is,
 )
+
+pub returns-else-not-is_noted_at-clause-entry : goal.returns-else-not-is_noted_at-clause-entry
+returns-else-not-is_noted_at-clause-entry c = λ e is. (
+  e,
+  refl,
+  (refl, λ q other. refl, c.is_noted_at.ensures c.if-not-is_noted_at.false e is, λ none. refl),
+  λ wide. inr (λ quiet. quiet),
+  gets_same c.args.broken.now.items c.args.k e is,
+)

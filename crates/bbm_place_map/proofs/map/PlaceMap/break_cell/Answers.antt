@@ -4,21 +4,14 @@ use Rattle.bbm_place_map.proofs.Common.{at_index}
 use Rattle.bbm_place_map.proofs.Common.{starts, PlaceMap}
 use Rattle.bbm_place_map.specs.Map.{marks_at, pends_at}
 use Rattle.bbm_place_map.proofs.Blank.{free_cell}
+use Rattle.bbm_place_map.proofs.Clearing.{breakable}
 use Rattle.bbm_place_map.proofs.Listing.{listed_fresh}
-use Rattle.bbm_place_map.proofs.Places.{at_place, at_same, index_inside}
+use Rattle.bbm_place_map.proofs.Places.{at_place, at_same}
 use Rattle.bbm_place_map.proofs.map.PlaceMap.break_cell.Goals as goal
 use mathlib.Core.Bool.{or-false}
 
 pub link-requires-clause-able : goal.link-requires-clause-able
-link-requires-clause-able c =
-    let self = c.args.self.now in
-    let base = starts (get nat_eq self.pages) self.parts.items in
-    record {
-      linked = self.linked;
-      within = index_inside base (vec_len self.cells) self.parted.numbered c.args.position.now.place c.args.i c.requires.cell;
-      few = omega (arith, self.fewer, self.few);
-      room = omega (arith, self.fewer, self.room);
-    }
+link-requires-clause-able c = breakable c.args.self.now c.args.position.now.place c.args.i c.requires.cell
 
 -- the cell has no entry
 none : (map : PlaceMap) (a i : ℕ) → place_cell map a ≡ Some i → marks_at map a ≡ None

@@ -1,4 +1,4 @@
-use Rattle.bbm_place_map.proofs.Common.{ℕ, refl, nat_eq, arith, ◌∙◌, slice_get, get, starts, Keeps, NotesAt}
+use Rattle.bbm_place_map.proofs.Common.{ℕ, refl, sym, nat_eq, arith, ◌∙◌, slice_get, get, starts, Keeps, NotesAt}
 use Rattle.bbm_place_map.specs.Map.{marks_at, pends_at, restless_in, restless_place}
 use Rattle.bbm_place_map.proofs.Advancing.{position_kept}
 use Rattle.bbm_place_map.proofs.Issued.{noted_by_number}
@@ -54,3 +54,7 @@ returns-clause-noted c =
     noted_by_number (starts (get nat_eq c.args.self.now.pages) c.args.self.now.parts.items) c.args.self.now.cells.items c.args.self.now.broken.items c.make_room.new.broken.items c.note.new.broken.items
     c.args.covers.now (issuing c.args.issuer c.args.reach c.args.broadcast) c.args.self.now.linked c.args.self.now.placed c.make_room.ensures.each c.note.ensures.each
     c.requires
+
+pub note-requires-clause-noted : goal.note-requires-clause-noted
+note-requires-clause-noted c = λ m e x below is at.
+    c.first_open-start.ensures m e x below (sym (c.make_room.ensures.before m below) ∙ is) at

@@ -2,20 +2,13 @@ use Rattle.bbm_place_map.proofs.Common.{ℕ, None, Some, false≢true, nat_eq, a
 use Rattle.bbm_place_map.proofs.Common.{no_pends}
 use Rattle.bbm_place_map.proofs.Common.{place_cell, marks_in, pends_for, Parted, at_index, starts}
 use Rattle.bbm_place_map.specs.Map.{marks_at, pends_at}
+use Rattle.bbm_place_map.proofs.Clearing.{breakable}
 use Rattle.bbm_place_map.proofs.Listing.{listed_broken}
-use Rattle.bbm_place_map.proofs.Places.{at_place, at_same, index_inside}
+use Rattle.bbm_place_map.proofs.Places.{at_place, at_same}
 use Rattle.bbm_place_map.proofs.map.PlaceMap.mark.Goals as goal
 
 pub mark-requires : goal.mark-requires
-mark-requires c =
-    let self = c.args.self.now in
-    let base = starts (get nat_eq self.pages) self.parts.items in
-    record {
-      linked = self.linked;
-      within = index_inside base (vec_len self.cells) self.parted.numbered c.args.position.now.place c.args.i c.requires.cell;
-      few = omega (arith, self.fewer, self.few);
-      room = omega (arith, self.fewer, self.room);
-    }
+mark-requires c = breakable c.args.self.now c.args.position.now.place c.args.i c.requires.cell
 
 pub invariant_of-self : goal.invariant_of-self
 unfolding marks_at

@@ -1,6 +1,6 @@
 use Rattle.bbm_place_map.proofs.Common.{subst, sym, ◌∙◌, List, length, Lacks, Pending}
 use Rattle.bbm_place_map.proofs.Pendings.{known_by}
-use Rattle.bbm_place_map.proofs.entry.make_room_for_lane.Goals as goal
+use Rattle.bbm_place_map.proofs.entry.make_more_room.Goals as goal
 
 pub returns-then-is_some-clause-room : goal.returns-then-is_some-clause-room
 returns-then-is_some-clause-room c = λ lacks.

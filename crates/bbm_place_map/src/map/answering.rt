@@ -1,0 +1,153 @@
+//! What TLBIs leave to their answers, and what DSBs publish and answer.
+
+ghost use Rattle.std.specs.Prelude.{ℕ, Bool, Some, None, true, false, Option, length, slice_get, is_some, OnOk, OnErr};
+ghost use Rattle.std.specs.Prelude.{◌&&◌, ◌≡◌, ◌≤◌, ◌<◌, nat_eq};
+ghost use Rattle.bbm_entry_state.specs.Points.{waits};
+ghost use Rattle.bbm_tlbi_scope.specs.declared.entry.Cover.{Cover as TheCover};
+ghost use Rattle.bbm_place_map.specs.Finds.{is_found, FoundAs};
+ghost use Rattle.bbm_place_map.specs.MapCalls.{lost_table, IsSame, KeepsPlaces, KeepsValues, NotesOnly};
+ghost use Rattle.bbm_entry_state.specs.EntryCalls.{Published, Noted, Completed};
+ghost use Rattle.bbm_descriptor.specs.declared.desc.Core.{Core as TheCore};
+ghost use Rattle.bbm_place_map.specs.Map.{marks_at, pends_at, restless_in, restless_place, state_at};
+
+use crate::entry::lane_of;
+use crate::found::{Answer, Found};
+use crate::issue::Kept;
+use crate::map::PlaceMap;
+use crate::orders::{Barrier, Issuing};
+use crate::{complete, issue, publish, work};
+use bbm_barriers::Dsb;
+use bbm_regimes::{NoMemory, Pe, PeMask};
+use std::alloc::Global;
+
+impl PlaceMap {
+    /// A DSB of the issuer, in a log with `n` PEs, 1 to 128, published its writes. Only the marks change.
+    pub fn publish(&mut self, issuer: Pe, dsb: Dsb, n: u8)
+        requires some { 1 ≤ n }
+        requires within { n ≤ 128 }
+        requires issuer_below { issuer < n }
+        ensures published { (live : Option TheCore) (a : ℕ)
+            → Published (state_at self.old live a) issuer dsb n (state_at self.new live a) }
+        ensures pends { (q a : ℕ) → pends_at self.new q a ≡ pends_at self.old q a }
+        ensures same { KeepsPlaces self.old self.new }
+    {
+        if self.broken.is_empty() {
+            return;
+        }
+        work::begin(&mut self.work, n, self.broken.len());
+        publish::publish(
+            &self.cells,
+            &mut self.broken,
+            &mut self.work.unpublished,
+            &Barrier { issuer, dsb, n },
+        );
+    }
+
+    /// A DSB of the issuer, in a log with `n` PEs, 1 to 128, answered its TLBIs. A place that is cleansed at every PE
+    /// isn't broken any more, and nothing waits there. Whether such a place was broken over a table.
+    pub fn complete(&mut self, issuer: Pe, dsb: Dsb, n: u8) -> bool
+        requires some { 1 ≤ n }
+        requires within { n ≤ 128 }
+        ensures completed { (a : ℕ) → Completed (state_at self.old None a) (pends_at self.old issuer a) dsb n
+            (state_at self.new None a) (pends_at self.new issuer a) }
+        ensures others { (q a : ℕ) (b : Bool) (c : TheCover) (p : ℕ) → nat_eq q issuer ≡ false
+            → waits (pends_at self.new q a) b c p
+            ≡ (is_some (marks_at self.new a) && waits (pends_at self.old q a) b c p) }
+        ensures lost { result ≡ true → (a : ℕ) × (lost_table self.old self.new a ≡ true) }
+        ensures kept { result ≡ false → (a : ℕ) → lost_table self.old self.new a ≡ false }
+        ensures same { KeepsValues self.old self.new }
+    {
+        if self.broken.is_empty() {
+            return false;
+        }
+        work::begin(&mut self.work, n, self.broken.len());
+        let lost = complete::complete(
+            &mut self.cells,
+            &mut self.broken,
+            &mut self.work.waiting,
+            self.work.settled,
+            &Barrier { issuer, dsb, n },
+        );
+        self.work.settled = true;
+        lost
+    }
+
+    /// The issuer issued a TLBI that reaches these PEs, is broadcast or not, and covers the broken places as far as
+    /// these covers say, which stand in the order of the numbers of `restless_at`. `NoMemory` where there is none, and
+    /// nothing changes then. Only the pendings of the issuer change.
+    pub fn issue_all(
+        &mut self,
+        issuer: Pe,
+        reach: PeMask,
+        broadcast: bool,
+        covers: &[Answer],
+    ) -> Result<(), NoMemory>
+        requires { length covers.now ≡ restless_in self.old }
+        ensures noted { OnOk result ((i : ℕ) (c : TheCover) → slice_get covers.now i ≡ Some c
+            → Noted (state_at self.old None (restless_place self.old i))
+            (pends_at self.old issuer (restless_place self.old i)) reach broadcast c
+            (pends_at self.new issuer (restless_place self.old i))) }
+        ensures only { NotesOnly issuer self.old self.new }
+        ensures kept { OnErr result (IsSame self.old self.new) }
+    {
+        let tlbi = Issuing {
+            issuer,
+            reach,
+            broadcast,
+        };
+        let start = issue::first_open(&self.broken, covers, &tlbi);
+        issue::make_room(&mut self.broken, covers, start, lane_of(issuer, broadcast))?;
+        issue::note(
+            &mut self.broken,
+            covers,
+            start,
+            &tlbi,
+            &mut self.work.waiting,
+        );
+        Ok(())
+    }
+
+    /// The issuer issued a TLBI that reaches these PEs, is broadcast or not, and covers no broken place but these, each
+    /// as far as stands beside it. A place may stand there more than once, always with one cover, and one that isn't
+    /// broken counts for nothing. `NoMemory` where there is none, and nothing changes then. Only the pendings of the
+    /// issuer change.
+    pub fn issue_at(
+        &mut self,
+        _alloc: Global,
+        issuer: Pe,
+        reach: PeMask,
+        broadcast: bool,
+        found: &[Found],
+    ) -> Result<(), NoMemory>
+        ensures noted { OnOk result ((f : ℕ → TheCover) → FoundAs found.now f → (a : ℕ) → is_found found.now a ≡ true
+            → is_some (marks_at self.old a) ≡ true
+            → Noted (state_at self.old None a) (pends_at self.old issuer a) reach broadcast (f a)
+            (pends_at self.new issuer a)) }
+        ensures unnoted { (a : ℕ) → is_found found.now a ≡ false → pends_at self.new issuer a
+            ≡ pends_at self.old issuer a }
+        ensures only { NotesOnly issuer self.old self.new }
+        ensures kept { OnErr result (IsSame self.old self.new) }
+    {
+        if found.is_empty() {
+            return Ok(());
+        }
+        let kept = Kept {
+            pages: &self.pages,
+            parts: &self.parts,
+            cells: &self.cells,
+        };
+        issue::make_room_found(&kept, &mut self.broken, found, lane_of(issuer, broadcast))?;
+        issue::note_found(
+            &kept,
+            &mut self.broken,
+            found,
+            &Issuing {
+                issuer,
+                reach,
+                broadcast,
+            },
+            &mut self.work.waiting,
+        );
+        Ok(())
+    }
+}

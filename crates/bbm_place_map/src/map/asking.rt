@@ -1,0 +1,258 @@
+//! What the map is asked: its values and states, where a place is kept, and which places are broken.
+
+ghost use Rattle.std.specs.Prelude.{ℕ, Some, None, true, false, IsSome, IfSome, length, is_some, ◌+◌, ◌*◌, ◌%◌, ◌↔◌};
+ghost use Rattle.std.specs.Prelude.{slice_index_or, ◌≡◌, ◌≤◌, ◌<◌};
+ghost use Rattle.bbm_entry_state.specs.Points.{core_in};
+ghost use Rattle.bbm_entry_state.specs.declared.marks.Marks.{Marks as TheMarks};
+ghost use Rattle.bbm_descriptor.specs.Descriptor.{core_of};
+ghost use Rattle.bbm_entry_state.specs.EntryStanding.{IsIdle};
+ghost use Rattle.bbm_place_map.specs.Map.{value_at, marks_at, pends_at, is_tracked, IsPosition, page_of, restless_in};
+ghost use Rattle.bbm_place_map.specs.Map.{restless_place, state_at};
+ghost use Rattle.bbm_place_map.specs.Entries.{WaitsAlike};
+
+use crate::map::PlaceMap;
+use crate::position::Position;
+use crate::read;
+use bbm_descriptor::{Core, core};
+use bbm_entry_state::{EntryState, Pends};
+use bbm_regimes::{Kind, Page, Pe, Place};
+
+impl PlaceMap {
+    /// Whether the page is tracked.
+    pub fn is_tracked(&self, page: Page) -> bool
+        ensures { result ≡ is_tracked self.now page }
+    {
+        self.pages.contains_key(page)
+    }
+
+    /// The state of a place, where a place that isn't broken is live with this core, or clean without one.
+    pub fn state(&self, place: Place, live: Option<Core>) -> EntryState
+        ensures { result ≡ state_at self.now live place }
+    {
+        match self.index(place) {
+            Some(j) => read::state(&self.parts, &self.cells, &self.broken, j, live),
+            None => read::whole(live),
+        }
+    }
+
+    /// Where the place is kept; None where its page isn't tracked. A call that needs a place's position looks nothing up.
+    pub fn position(&self, place: Place) -> Option<Position>
+        ensures place { IfSome result (λ position. position.place ≡ place) }
+        ensures position { IfSome result (λ position. IsPosition self.now position) }
+        ensures tracked { is_tracked self.now (page_of place) ≡ true → IsSome result }
+    {
+        let index = self.index(place)?;
+        Some(Position { place, index })
+    }
+
+    /// The same. No answer depends on the number `near`: the page is looked for first where it has this number in the
+    /// order in which pages were tracked.
+    #[inline(always)]
+    pub fn position_near(&self, place: Place, near: usize) -> Option<Position>
+        ensures place { IfSome result (λ position. position.place ≡ place) }
+        ensures position { IfSome result (λ position. IsPosition self.now position) }
+        ensures tracked { is_tracked self.now (page_of place) ≡ true → IsSome result }
+    {
+        let index = self.index_near(place, near)?;
+        Some(Position { place, index })
+    }
+
+    /// The position of a place, where its page has this number in the order in which pages were tracked; None says nothing.
+    #[inline(always)]
+    pub fn position_at(&self, place: Place, number: usize) -> Option<Position>
+        ensures place { IfSome result (λ position. position.place ≡ place) }
+        ensures position { IfSome result (λ position. IsPosition self.now position) }
+    {
+        let index = read::index_here(&self.pages, &self.values, number, place)?;
+        Some(Position { place, index })
+    }
+
+    /// The number of the page of the last write in the order in which pages were tracked: where to look first for that
+    /// of the next one. No answer depends on it.
+    #[inline(always)]
+    pub fn recent_page(&self) -> usize {
+        self.recent
+    }
+
+    /// The core of the value of a position's place, read at this kind and level, 0 to 3; None where the value is invalid.
+    pub fn live_at(&self, position: &Position, kind: Kind, level: u8) -> Option<Core>
+        requires position { IsPosition self.now position.now }
+        requires level { level ≤ 3 }
+        ensures { result ≡ core_of kind level (value_at self.now position.now.place) }
+    {
+        core(kind, level, self.values[position.index])
+    }
+
+    /// Whether a position's place is broken.
+    #[inline(always)]
+    pub fn is_broken_at(&self, position: &Position) -> bool
+        requires { IsPosition self.now position.now }
+        ensures { result ≡ is_some (marks_at self.now position.now.place) }
+    {
+        read::is_broken(&self.parts, &self.cells, &self.broken, position.index)
+    }
+
+    /// The core that a position's place is broken over; where it isn't broken, this one.
+    pub fn core_at(&self, position: &Position, live: Option<Core>) -> Option<Core>
+        requires { IsPosition self.now position.now }
+        ensures { result ≡ core_in (state_at self.now live position.now.place) }
+    {
+        read::core(&self.parts, &self.cells, &self.broken, position.index, live)
+    }
+
+    /// The state of the place, read at this kind and level, 0 to 3: one that isn't broken is live with the core of its
+    /// value, or clean where the value is invalid.
+    pub fn state_by(&self, place: Place, kind: Kind, level: u8) -> EntryState
+        requires { level ≤ 3 }
+        ensures { result ≡ state_at self.now (core_of kind level (value_at self.now place)) place }
+    {
+        match self.index(place) {
+            Some(j) => {
+                let live = core(kind, level, self.values[j]);
+                read::state(&self.parts, &self.cells, &self.broken, j, live)
+            }
+            None => read::whole(core(kind, level, 0)),
+        }
+    }
+
+    /// What waits at a place for the answers of the issuer's TLBIs. Nothing waits at a place that isn't broken.
+    pub fn pends(&self, issuer: Pe, place: Place) -> Pends
+        ensures pends { WaitsAlike (pends_at self.now issuer place) result }
+        ensures idle { marks_at self.now place ≡ None → IsIdle (pends_at self.now issuer place) }
+    {
+        match self.index(place) {
+            Some(j) => read::pends(&self.parts, &self.cells, &self.broken, j, issuer),
+            None => Pends::none(),
+        }
+    }
+
+    /// Whether each place of the page has the value 0 and isn't broken. A page that isn't tracked is blank.
+    pub fn is_blank(&self, page: Page) -> bool
+        ensures blank { (result ≡ true) ↔ ((a : ℕ) → page_of a ≡ page
+            → (value_at self.now a ≡ 0) × (marks_at self.now a ≡ None)) }
+        ensures tracked { result ≡ false → is_tracked self.now page ≡ true }
+    {
+        let _ = page.get();
+        match self.base(page) {
+            Some(base) => {
+                if !read::is_zero(&self.values, base) {
+                    return false;
+                }
+                read::is_free(&self.parts, &self.cells, base)
+            }
+            None => true,
+        }
+    }
+
+    /// The position of the first place of a tracked page, from which the places of the page are read.
+    pub fn first_position(&self, page: Page) -> Position
+        requires { is_tracked self.now page ≡ true }
+        ensures place { result.place ≡ page }
+        ensures position { IsPosition self.now result }
+        ensures first { result.place % 4096 ≡ 0 }
+    {
+        let place = Place::new(page.get()).unwrap();
+        let index = self.base(page).unwrap();
+        Position { place, index }
+    }
+
+    /// The value of the place with this number, 0 to 511, of the page whose first place the position has.
+    pub fn value_from(&self, position: &Position, number: u64) -> u64
+        requires position { IsPosition self.now position.now }
+        requires first { position.now.place % 4096 ≡ 0 }
+        requires within { number < 512 }
+        ensures { result ≡ value_at self.now (position.now.place + 8 * number) }
+    {
+        self.values[position.index + number as usize]
+    }
+
+    /// The values of the 512 places, in their order, of the page whose first place the position has.
+    #[inline(always)]
+    pub fn values_of(&self, position: &Position) -> &[u64]
+        requires position { IsPosition self.now position.now }
+        requires first { position.now.place % 4096 ≡ 0 }
+        ensures len { length result.now ≡ 512 }
+        ensures each { (i : ℕ) → i < 512 → slice_index_or result.now i 0
+            ≡ value_at self.now (position.now.place + 8 * i) }
+    {
+        read::values_of(&self.values, position.index)
+    }
+
+    /// The core that the place with this number, 0 to 511, has, of the page whose first place the position has: the one
+    /// that it is broken over; where it isn't broken that of its value, read at this kind and level, 0 to 3, and None
+    /// where that is invalid.
+    pub fn core_from(&self, position: &Position, number: u64, kind: Kind, level: u8) -> Option<Core>
+        requires position { IsPosition self.now position.now }
+        requires first { position.now.place % 4096 ≡ 0 }
+        requires within { number < 512 }
+        requires level { level ≤ 3 }
+        ensures { result ≡ core_in (state_at self.now
+            (core_of kind level (value_at self.now (position.now.place + 8 * number)))
+            (position.now.place + 8 * number)) }
+    {
+        let live = core(kind, level, self.value_from(position, number));
+        let j = position.index + number as usize;
+        read::core(&self.parts, &self.cells, &self.broken, j, live)
+    }
+
+    /// How many places are broken. Each is a place of a descriptor: its address is a multiple of 8.
+    pub fn restless(&self) -> u64
+        ensures count { result ≡ restless_in self.now }
+        ensures broken { (i : ℕ) → i < restless_in self.now → is_some (marks_at self.now (restless_place self.now i))
+            ≡ true }
+        ensures each { (a : ℕ) → is_some (marks_at self.now a) ≡ true
+            → (i : ℕ) × (i < restless_in self.now) × (restless_place self.now i ≡ a) }
+        ensures once { (i j : ℕ) → i < restless_in self.now → j < restless_in self.now
+            → restless_place self.now i ≡ restless_place self.now j → i ≡ j }
+        ensures idle { (q a : ℕ) → marks_at self.now a ≡ None → IsIdle (pends_at self.now q a) }
+        ensures aligned { (a : ℕ) → is_some (marks_at self.now a) ≡ true → a % 8 ≡ 0 }
+    {
+        self.broken.len() as u64
+    }
+
+    /// One of the broken places, by a number below `restless`. A call that changes the map may number them anew.
+    pub fn restless_at(&self, i: u64) -> Place
+        requires { i < restless_in self.now }
+        ensures place { result ≡ restless_place self.now i }
+        ensures broken { is_some (marks_at self.now result) ≡ true }
+    {
+        self.broken[i as usize].place
+    }
+
+    /// The core that one of the broken places is broken over, by its number below `restless`.
+    pub fn restless_core(&self, i: u64) -> Core
+        requires { i < restless_in self.now }
+        ensures { (marks : TheMarks) × (marks_at self.now (restless_place self.now i) ≡ Some marks)
+            × (marks.core ≡ result) }
+    {
+        self.broken[i as usize].marks.core
+    }
+
+    /// The number at which the page of one of the broken places, by its number below `restless`, is best looked for
+    /// first: most often its own, in the order in which pages were tracked. No answer depends on it.
+    #[inline(always)]
+    pub fn restless_page(&self, i: u64) -> usize
+        requires { i < restless_in self.now }
+    {
+        match self.owners.get(self.broken[i as usize].cell as usize / 512) {
+            Some(page) => *page as usize,
+            None => self.recent,
+        }
+    }
+
+    /// The number of a position's place among the broken ones, below `restless`; None where it isn't broken.
+    #[inline(always)]
+    pub fn restless_number(&self, position: &Position) -> Option<u32>
+        requires { IsPosition self.now position.now }
+        ensures some { (i : ℕ) → result ≡ Some i
+            → (i < restless_in self.now) × (restless_place self.now i ≡ position.now.place) }
+        ensures none { result ≡ None → marks_at self.now position.now.place ≡ None }
+    {
+        read::entry_number(&self.parts, &self.cells, position.index)
+    }
+
+    /// Nothing waits at a place that isn't broken. The call does nothing; the law is its contract.
+    pub fn law_idle(&self)
+        ensures { (q a : ℕ) → marks_at self.now a ≡ None → IsIdle (pends_at self.now q a) }
+    {}
+}

@@ -1,0 +1,317 @@
+//! Writes of places, and pages that are tracked or released.
+
+ghost use Rattle.std.specs.Prelude.{ℕ, Some, None, true, false, OnOk, OnErr, ◌||◌, ◌+◌, if◌then◌else◌, ◌≡◌, ◌≤◌};
+ghost use Rattle.std.specs.Prelude.{vec_len, vec_capacity, nat_eq};
+ghost use Rattle.bbm_entry_state.specs.declared.marks.Marks.{Marks as TheMarks};
+ghost use Rattle.bbm_entry_state.specs.declared.state.EntryState.{EntryState as TheState};
+ghost use Rattle.bbm_place_map.specs.MapCalls.{Frees, IsSame, KeepsItems, KeepsBroken, KeepsValues, Leaves, Puts};
+ghost use Rattle.bbm_place_map.specs.MapCalls.{WritesAs};
+ghost use Rattle.bbm_place_map.specs.Cells.{cell_by};
+ghost use Rattle.bbm_entry_state.specs.EntryCalls.{Written};
+ghost use Rattle.bbm_place_map.specs.Map.{value_at, marks_at, pends_at, is_tracked, IsPosition, page_of, place_cell};
+ghost use Rattle.bbm_place_map.specs.Map.{state_at};
+
+use crate::links::{link, put_slot};
+use crate::map::{MAX_VALUES, PlaceMap, VALUES};
+use crate::position::Position;
+use crate::{read, work, write};
+use bbm_descriptor::Core;
+use bbm_entry_state::{EntryState, Marks};
+use bbm_regimes::{NoMemory, Page, Pe, Place};
+use std::alloc::Global;
+
+impl PlaceMap {
+    /// The PE writes a value at a position's place, the core of which is `new`, None where it is invalid; `live` is the
+    /// core of the value before. The state is after what the write leaves of the one before. What waits there stays
+    /// where the place is broken, and else is dropped. Nothing else changes.
+    #[inline(always)]
+    pub fn write_at(
+        &mut self,
+        position: &Position,
+        pe: Pe,
+        value: u64,
+        live: &Option<Core>,
+        new: &Option<Core>,
+    )
+        requires { IsPosition self.old position.now }
+        ensures { WritesAs (state_at self.old live.now position.now.place) pe new.now value position.now.place
+            self.old self.new }
+    {
+        match new {
+            Some(_core) => self.put_unbroken(position, value),
+            None => self.clear_at(position, pe, value, live),
+        }
+    }
+
+    /// Writes a value at a position's place, and changes nothing else: whether the place is broken, and what waits there,
+    /// stays. So does `write_at`, of a valid value at a place that isn't broken.
+    #[inline(always)]
+    pub fn put_at(&mut self, position: &Position, value: u64)
+        requires { IsPosition self.old position.now }
+        ensures put { Puts value position.now.place self.old self.new }
+        ensures marks { (a : ℕ) → marks_at self.new a ≡ marks_at self.old a }
+        ensures pends { (q a : ℕ) → pends_at self.new q a ≡ pends_at self.old q a }
+    {
+        let j = position.index;
+        write::put_value(&mut self.values, j, value);
+        self.recent = j / VALUES;
+    }
+
+    /// The PE writes an invalid value at a position's place, which is live with this core and isn't broken. The state is
+    /// after what `write_at` leaves. What waits there stays, and nothing else changes.
+    #[inline(always)]
+    pub fn break_at(&mut self, position: &Position, pe: Pe, value: u64, core: Core)
+        requires position { IsPosition self.old position.now }
+        requires whole { marks_at self.old position.now.place ≡ None }
+        ensures { WritesAs (TheState.Live core) pe None value position.now.place self.old self.new }
+    {
+        let i = self.cell(position);
+        self.break_cell(position, i, pe, core);
+        self.put_at(position, value);
+    }
+
+    /// The place of a position, which has this cell and isn't broken, is broken over a core by a write of this PE. What
+    /// waits there stays, and nothing else changes.
+    #[inline(always)]
+    fn break_cell(&mut self, position: &Position, i: usize, pe: Pe, core: Core)
+        requires cell { place_cell self.old position.now.place ≡ Some i }
+        requires whole { marks_at self.old position.now.place ≡ None }
+        ensures position { IsPosition self.old position.now → IsPosition self.new position.now }
+        ensures same { KeepsValues self.old self.new }
+        ensures written { (marks : TheMarks) × Written (TheState.Live core) pe None (TheState.Broken marks)
+            × Leaves (TheState.Broken marks) position.now.place self.old self.new }
+    {
+        let broken = self.broken.len();
+        work::note_break(&mut self.work, pe, i as u32, broken);
+        let marks = Marks::broken_by(core, pe);
+        link(
+            &mut self.cells,
+            &mut self.broken,
+            i,
+            position.place,
+            marks,
+            self.alloc,
+        );
+    }
+
+    /// The same for an invalid value. Each state has an arm of its own, so that the code of a live place carries no
+    /// marks about.
+    fn clear_at(&mut self, position: &Position, pe: Pe, value: u64, live: &Option<Core>)
+        requires { IsPosition self.old position.now }
+        ensures { WritesAs (state_at self.old live.now position.now.place) pe None value position.now.place
+            self.old self.new }
+    {
+        match read::state(
+            &self.parts,
+            &self.cells,
+            &self.broken,
+            position.index,
+            *live,
+        ) {
+            EntryState::Live { core } => {
+                self.clear_from(position, pe, value, EntryState::Live { core })
+            }
+            EntryState::Broken { marks } => {
+                self.clear_from(position, pe, value, EntryState::Broken { marks })
+            }
+            EntryState::Clean => self.clear_from(position, pe, value, EntryState::Clean),
+        }
+    }
+
+    /// The same at a place in this state.
+    #[inline(always)]
+    fn clear_from(&mut self, position: &Position, pe: Pe, value: u64, state: EntryState)
+        requires { IsPosition self.old position.now }
+        ensures { WritesAs state pe None value position.now.place self.old self.new }
+    {
+        match state.write(pe, None) {
+            EntryState::Broken { marks } => self.put_broken(position, pe, value, marks),
+            EntryState::Clean => self.put_unbroken(position, value),
+            EntryState::Live { .. } => self.put_unbroken(position, value),
+        }
+    }
+
+    /// Writes a value at a position's place, which isn't broken after. What waits there is dropped. Nothing else changes.
+    fn put_unbroken(&mut self, position: &Position, value: u64)
+        requires { IsPosition self.old position.now }
+        ensures put { Puts value position.now.place self.old self.new }
+        ensures left { Leaves TheState.Clean position.now.place self.old self.new }
+    {
+        write::put_value(&mut self.values, position.index, value);
+        write::clear_by(
+            &self.parts,
+            &mut self.cells,
+            &mut self.broken,
+            position.index,
+        );
+        self.recent = position.index / VALUES;
+    }
+
+    /// The number of the cell of a position's place. Where its page has no cells it gets them, which changes nothing else.
+    #[inline(always)]
+    fn cell(&mut self, position: &Position) -> usize
+        requires { IsPosition self.old position.now }
+        ensures cell { place_cell self.new position.now.place ≡ Some result }
+        ensures position { IsPosition self.new position.now }
+        ensures same { IsSame self.old self.new }
+    {
+        match read::cell(&self.parts, position.index) {
+            Some(i) => i,
+            None => self.add_part(position),
+        }
+    }
+
+    /// Makes the cells of the page of a position's place, which has none. The number of that of the place.
+    #[cold]
+    #[inline(never)]
+    fn add_part(&mut self, position: &Position) -> usize
+        requires position { IsPosition self.old position.now }
+        requires none { cell_by self.old.parts.items position.now.index ≡ None }
+        ensures cell { place_cell self.new position.now.place ≡ Some result }
+        ensures position { IsPosition self.new position.now }
+        ensures same { IsSame self.old self.new }
+    {
+        let start = self.cells.len();
+        write::add_cells(&mut self.cells, 512);
+        match self.owners.push((position.index / 512) as u32) {
+            Ok(()) => {}
+            Err(_) => {}
+        }
+        put_slot(&mut self.parts, position.index / 512, Some(start as u32));
+        start + position.index % 512
+    }
+
+    /// Writes a value at a position's place, which is broken with these marks after. What waits there stays. Nothing else
+    /// changes. Whoever wrote is best named, and the result is the same by any PE.
+    #[inline(always)]
+    fn put_broken(&mut self, position: &Position, mostly: Pe, value: u64, marks: Marks)
+        requires { IsPosition self.old position.now }
+        ensures put { Puts value position.now.place self.old self.new }
+        ensures left { Leaves (TheState.Broken marks) position.now.place self.old self.new }
+    {
+        let i = self.cell(position);
+        let before = read::marks(&self.cells, &self.broken, i);
+        self.mark(position, i, mostly, &before, marks);
+        self.put_at(position, value);
+    }
+
+    /// The place of a position, which has this cell and had these marks, is broken with other marks after. What waits there
+    /// stays. Nothing else changes.
+    #[inline(always)]
+    fn mark(
+        &mut self,
+        position: &Position,
+        i: usize,
+        mostly: Pe,
+        before: &Option<Marks>,
+        marks: Marks,
+    )
+        requires position { IsPosition self.old position.now }
+        requires cell { place_cell self.old position.now.place ≡ Some i }
+        requires before { before.now ≡ marks_at self.old position.now.place }
+        ensures position { IsPosition self.new position.now }
+        ensures same { KeepsValues self.old self.new }
+        ensures left { Leaves (TheState.Broken marks) position.now.place self.old self.new }
+    {
+        let broken = self.broken.len();
+        work::note_write(&mut self.work, mostly, i as u32, before, &marks, broken);
+        write::mark(
+            &mut self.cells,
+            &mut self.broken,
+            i,
+            position.place,
+            marks,
+            self.alloc,
+        );
+    }
+
+    /// Writes a value at a place of a tracked page, and the state that the write leaves. What waits there stays where
+    /// the place is broken, and else is dropped. Nothing else changes.
+    pub fn set(&mut self, place: Place, value: u64, state: EntryState)
+        requires { is_tracked self.old (page_of place) ≡ true }
+        ensures put { Puts value place self.old self.new }
+        ensures left { Leaves state place self.old self.new }
+    {
+        let position = self.position(place).unwrap();
+        match state {
+            EntryState::Broken { marks } => {
+                self.put_broken(&position, Pe::new(0).unwrap(), value, marks)
+            }
+            EntryState::Clean => self.put_unbroken(&position, value),
+            EntryState::Live { .. } => self.put_unbroken(&position, value),
+        }
+    }
+
+    /// No place of the page is broken any more, and nothing waits there. Nothing else changes.
+    pub fn release(&mut self, page: Page)
+        ensures freed { Frees page self.old self.new }
+        ensures same { KeepsValues self.old self.new }
+    {
+        match self.base(page) {
+            Some(base) => {
+                write::clear_part(&self.parts, &mut self.cells, &mut self.broken, base)
+            }
+            None => {}
+        }
+    }
+
+    /// Tracks the page: its values are 0, none of its places is broken, and nothing waits there. `NoMemory` where there
+    /// is none, and nothing changes then. It takes all the room that `set` needs later.
+    pub fn track(&mut self, _alloc: Global, page: Page) -> Result<(), NoMemory>
+        ensures pages { OnOk result ((p : ℕ) → is_tracked self.new p ≡ (nat_eq p page || is_tracked self.old p)) }
+        ensures values { OnOk result ((a : ℕ) → value_at self.new a
+            ≡ (if nat_eq (page_of a) page then 0 else value_at self.old a)) }
+        ensures freed { OnOk result (Frees page self.old self.new) }
+        ensures kept { OnErr result (IsSame self.old self.new) }
+    {
+        match self.base(page) {
+            Some(base) => {
+                write::clear_part(&self.parts, &mut self.cells, &mut self.broken, base);
+                write::zero_page(&mut self.values, base);
+                Ok(())
+            }
+            None => self.add_page(page),
+        }
+    }
+
+    /// Tracks a page that isn't tracked. `NoMemory` where there is none, and nothing changes then.
+    fn add_page(&mut self, page: Page) -> Result<(), NoMemory>
+        requires { is_tracked self.old page ≡ false }
+        ensures pages { OnOk result ((p : ℕ) → is_tracked self.new p ≡ (nat_eq p page || is_tracked self.old p)) }
+        ensures values { OnOk result ((a : ℕ) → value_at self.new a ≡ value_at self.old a) }
+        ensures same { OnOk result (KeepsBroken self.old self.new) }
+        ensures kept { OnErr result (IsSame self.old self.new) }
+    {
+        let base = self.values.len();
+        if base >= MAX_VALUES || !self.has_room() {
+            return Err(NoMemory);
+        }
+        match self.pages.insert(page, base) {
+            Ok(_) => {
+                write::add_values(&mut self.values);
+                write::add_cells(&mut self.parts, 1);
+                work::make_lists(&mut self.work.unpublished, self.alloc);
+                work::make_lists(&mut self.work.waiting, self.alloc);
+                Ok(())
+            }
+            Err(_) => Err(NoMemory),
+        }
+    }
+
+    /// Makes room for one more page: for its values and cells, and for an entry of each. Whether there is.
+    fn has_room(&mut self) -> bool
+        ensures values { result ≡ true → vec_len self.new.values + 512 ≤ vec_capacity self.new.values }
+        ensures parts { result ≡ true → vec_len self.new.parts + 1 ≤ vec_capacity self.new.parts }
+        ensures cells { result ≡ true → vec_len self.new.values + 512 ≤ vec_capacity self.new.cells }
+        ensures broken { result ≡ true → vec_len self.new.values + 512 ≤ vec_capacity self.new.broken }
+        ensures same { KeepsItems self.old self.new }
+    {
+        let all = self.values.len() + 512;
+        let cells = all - self.cells.len();
+        let entries = all - self.broken.len();
+        self.broken.reserve(entries).is_ok()
+            && self.cells.reserve(cells).is_ok()
+            && self.parts.reserve(1).is_ok()
+            && self.values.reserve(512).is_ok()
+    }
+}
