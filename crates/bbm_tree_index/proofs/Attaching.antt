@@ -6,7 +6,7 @@ use Rattle.bbm_tree_index.proofs.Common.{Attach, Root, Below, Role, Untracked}
 use Rattle.bbm_rules.proofs.Common.{◌≡◌, ℕ, ◌<◌, ◌⊎◌, ◌&&◌, Bool, true, false, List, [], Option, Some, None, Contains}
 use Rattle.bbm_rules.proofs.Common.{is_none, is_some, length, nat_eq, slice_get, unwrap_or, inl, inr, refl, sym, ap}
 use Rattle.bbm_rules.proofs.Common.{◌∙◌, subst, arith, if◌then◌else◌, page_count, Kind, page_of, pages_from, Node}
-use Rattle.bbm_rules.proofs.Common.{node_below, nodes_of_pages}
+use Rattle.bbm_rules.proofs.Common.{contains_none, node_below, nodes_of_pages}
 use Rattle.bbm_place_map.specs.Map.{value_at}
 use Rattle.bbm_regimes.specs.World.{kind_in_world}
 use Rattle.bbm_tree_index.specs.Index.{fresh_in, heading_of, known_in, node_in, null_in, role_in}
@@ -20,12 +20,6 @@ use Rattle.bbm_tree_index.proofs.Rooted.{in_nodes}
 use Rattle.bbm_tree_index.proofs.Surveying.{all_hung, reach_fits, reach_plain, table_page}
 
 -- ---- the pages at which the paths begin
-
-none_in : {X : Type 0} (x : X) → Contains [] x → ⊥
-none_in x (k, below, at) = low k below
-  where
-    low : (n : ℕ) → n < 0 → ⊥
-    low n l = omega (arith, l)
 
 node_is : (index : TreeIndex) (p : ℕ) → node_in index p ≡ node_by (role_in index) (heading_of index) p
 unfolding node_in
@@ -42,12 +36,12 @@ starts_begin index (Root kind first) s = by (kind_in_world (heading_of index).wo
     by : (b : Bool) → Contains (root_nodes index kind first b) s → Begins (role_in index) (heading_of index) s
     by true c = inl (ap (λ (x : Node). x.above) (in_nodes kind first (start_of (heading_of index).world kind) first
         (first_input_page (heading_of index).world kind) (page_count (heading_of index).world kind) s c).2)
-    by false c = absurd (none_in s c)
+    by false c = absurd (contains_none s c)
 starts_begin index (Below place next) s = by (node_in index (page_of place)) refl
   where
     by : (o : Option Node) → node_in index (page_of place) ≡ o → Contains (below_all o place next) s
         → Begins (role_in index) (heading_of index) s
-    by None e c = absurd (none_in s c)
+    by None e c = absurd (contains_none s c)
     by (Some n) e c = let same = only (node_below n place next) s c in
         inr (n, place, sym (node_is index (page_of place)) ∙ e, same ∙ ap (node_below n place) (sym (ap (λ (x : Node). x.page) same)))
 

@@ -81,11 +81,9 @@ module _ (old new : TreeIndex) (heading : heading_of new ≡ heading_of old)
   pub sound_alike : IsSound old → IsSound new
   sound_alike s = sound_kept old new heading same_trees (λ p k. s.pages p (sym (same_known p) ∙ k)) s
 
-  pub node_alike : (p : ℕ) → node_in new p ≡ node_in old p
-  node_alike = node_kept old new heading same_trees
-
   pub agrees_alike : (map map' : PlaceMap) → ((a : ℕ) → SamePlace map map' a) → Agrees old map → Agrees new map'
-  agrees_alike map map' places g = agrees_same old new map map' (sound_alike g.sound) node_alike (λ a n e. places a)
+  agrees_alike map map' places g = agrees_same old new map map' (sound_alike g.sound)
+      (node_kept old new heading same_trees) (λ a n e. places a)
       (λ a e. (places a).marks ∙ e) g
 
 -- what is asked of the places above a page, by its role and by its node

@@ -5,6 +5,7 @@ use Rattle.bbm_rules.proofs.Common.{◌≡◌, ℕ, zero, suc, ◌<◌, ◌+◌,
 use Rattle.bbm_rules.proofs.Common.{None, is_some, length, nat_eq, slice_get, inl, inr, refl, sym, ap, ◌∙◌, subst}
 use Rattle.bbm_rules.proofs.Common.{arith, true≢false, eqb-true, eq-eqb, slice_get_within, desc_of, Desc, Kind, End}
 use Rattle.bbm_rules.proofs.Common.{end_at, Node}
+use Rattle.std.proofs.lemmas.List.{nil_from_length}
 use Rattle.bbm_tree_index.specs.Attaching.{EndsTwice, IsPath, UnfreshEnd}
 use Rattle.bbm_tree_index.specs.LeastPages.{Wrong, elsewhere, many, unfresh}
 use Rattle.bbm_tree_index.proofs.Starts.{goes_kind}
@@ -17,13 +18,6 @@ table_at [] k l = absurd (none k l)
     none k l = omega (arith, l)
 table_at (x ∷ xs) zero l = (x, refl)
 table_at (x ∷ xs) (suc k) l = table_at xs k (omega (arith, l))
-
-no_places : (places : List ℕ) → length places ≡ 0 → places ≡ []
-no_places [] e = refl
-no_places (x ∷ xs) e = absurd (none (length xs) e)
-  where
-    none : (n : ℕ) → suc n ≡ 0 → ⊥
-    none n e = omega (arith, e)
 
 marked : (R : Node → Type 0) (q : ℕ) (o : Option Mark) → Counts R q o → (m : Node) → R m → m.page ≡ q
     → (mark : Mark) × (o ≡ Some mark) × Found R q mark
@@ -93,7 +87,7 @@ module _ {S : Type 0} (tables : List (IndexMap ℕ Mark S)) (fresh : ℕ → Boo
         level = length u.places;
         table = l.table;
         at = l.at;
-        wrong = record { mark = l.mark; has = l.has; wrong = unfresh u.unfresh (λ n z. u.judged n (no_places u.places z)) };
+        wrong = record { mark = l.mark; has = l.has; wrong = unfresh u.unfresh (λ n z. u.judged n (nil_from_length u.places z)) };
       }
 
   twice_many : (q : ℕ) (u : EndsTwice fresh value starts q) (m : Met u.start u.places u.end) (m' : Met u.other_start u.other_places u.other_end)

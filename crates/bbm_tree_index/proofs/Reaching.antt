@@ -1,33 +1,13 @@
 -- Paths through fresh pages, by steps, and what it means that pages can be attached.
 use Rattle.bbm_tree_index.proofs.Common.{IsUnfresh, Never, Attached, Goes}
-use Rattle.bbm_rules.proofs.Common.{◌≡◌, ℕ, zero, suc, ◌<◌, ◌+◌, ◌==◌, Bool, true, false, List, [], ◌∷◌, Some, None}
-use Rattle.bbm_rules.proofs.Common.{Contains, length, inl, inr, refl, sym, ap, ◌∙◌, subst, true≢false, arith}
-use Rattle.bbm_rules.proofs.Common.{if◌then◌else◌, eqb-true, eq-eqb, none-some, desc_as, invalid, leaf, type_bits, Kind}
-use Rattle.bbm_rules.proofs.Common.{end_at, Node, next_in, next_of, node_below}
+use Rattle.bbm_rules.proofs.Common.{◌≡◌, ℕ, suc, ◌<◌, ◌+◌, ◌==◌, Bool, true, false, List, [], ◌∷◌, Contains, length}
+use Rattle.bbm_rules.proofs.Common.{inl, inr, refl, sym, ap, ◌∙◌, subst, true≢false, arith, eqb-true, eq-eqb}
+use Rattle.bbm_rules.proofs.Common.{end_at, Node, node_below}
+use Rattle.bbm_rules.proofs.TreeLaw.{table_level}
 use Rattle.bbm_tree_index.specs.Paths.{Through}
 use Rattle.bbm_tree_index.proofs.Hung.{Reach}
 use Rattle.bbm_tree_index.proofs.Starts.{goes_kind}
 use Rattle.bbm_tree_index.proofs.Ways.{goes_leads, goes_same}
-
--- there are no tables at level 3
-no_table : (kind : Kind) (value : ℕ) (a b : Bool)
-    → next_in (desc_as (if a then leaf else (if b then invalid else invalid)) kind 3 value) ≡ None
-no_table kind value true b = refl
-no_table kind value false true = refl
-no_table kind value false false = refl
-
-none_at_3 : (kind : Kind) (value : ℕ) → next_of kind 3 value ≡ None
-none_at_3 kind value = no_table kind value (type_bits value == 3) (type_bits value == 1)
-
-next_low : (kind : Kind) (level value next : ℕ) → level < 4 → next_of kind level value ≡ Some next → level < 3
-next_low kind zero value next l e = omega arith
-next_low kind (suc zero) value next l e = omega arith
-next_low kind (suc (suc zero)) value next l e = omega arith
-next_low kind (suc (suc (suc zero))) value next l e = absurd (none-some next (sym (none_at_3 kind value) ∙ e))
-next_low kind (suc (suc (suc (suc level)))) value next l e = absurd (high l)
-  where
-    high : suc (suc (suc (suc level))) < 4 → ⊥
-    high l = omega (arith, l)
 
 -- two lists of numbers are equal or not
 tail_of : List ℕ → List ℕ
@@ -79,7 +59,7 @@ module _ (fresh : ℕ → Bool) (value : ℕ → ℕ) where
   pub goes_shallow : (s m : Node) (places : List ℕ) → s.level < 4 → Goes fresh value s places m → m.level < 4
   goes_shallow s m [] l g = subst (λ (x : Node). x.level < 4) g l
   goes_shallow s m (place ∷ places) l g = goes_shallow g.0 m places
-      (deeper g.0.level s.level (ap (λ (x : Node). x.level) g.1.below) (next_low s.kind s.level (value place) g.0.page l g.1.table)) g.2
+      (deeper g.0.level s.level (ap (λ (x : Node). x.level) g.1.below) (table_level s.kind s.level (value place) g.0.page g.1.table)) g.2
     where
       deeper : (n k : ℕ) → n ≡ suc k → k < 3 → n < 4
       deeper n k e l = omega (arith, e, l)

@@ -4,6 +4,7 @@ use Rattle.bbm_tree_index.proofs.Common.{Surveyed, Uniform, Well, role_as, spot_
 use Rattle.bbm_rules.proofs.Common.{◌≡◌, ℕ, zero, suc, ◌+◌, Bool, List, [], ◌∷◌, ◌++◌, Option, Some, Contains, length}
 use Rattle.bbm_rules.proofs.Common.{nat_eq, slice_get, is_some, refl, sym, ap, ◌∙◌, subst, arith, none-some, same_Some}
 use Rattle.bbm_rules.proofs.Common.{Node}
+use Rattle.std.proofs.lemmas.List.{nil_from_length}
 use Rattle.bbm_tree_index.proofs.Counting.{counts_same}
 
 module _ (fresh : ℕ → Bool) (value : ℕ → ℕ) where
@@ -27,17 +28,10 @@ module _ (fresh : ℕ → Bool) (value : ℕ → ℕ) where
     pub plain : (k : ℕ) → Plain heading (Reached fresh value starts k)
     plain k m r = goes_plain heading r.start m r.places r.goes (s.plain r.start r.is_start)
 
-    no_places : (places : List ℕ) → length places ≡ 0 → places ≡ []
-    no_places [] e = refl
-    no_places (x ∷ xs) e = absurd (none (length xs) e)
-      where
-        none : (n : ℕ) → suc n ≡ 0 → ⊥
-        none n e = omega (arith, e)
-
     pub at_start : (q : ℕ) → Counts (Reached fresh value starts 0) q (first q)
     at_start q = counts_same (Contains starts) (Reached fresh value starts 0) q (first q)
         (λ m at c. record { start = m; is_start = c; places = []; count = refl; goes = refl })
-        (λ m at r. subst (Contains starts) (ended r.start m r.places (no_places r.places r.count) r.goes) r.is_start) (s.told q)
+        (λ m at r. subst (Contains starts) (ended r.start m r.places (nil_from_length r.places r.count) r.goes) r.is_start) (s.told q)
       where
         ended : (a m : Node) (places : List ℕ) → places ≡ [] → Goes fresh value a places m → a ≡ m
         ended a m [] e g = g
