@@ -125,11 +125,11 @@ wide (suc zero) k = refl
 wide (suc (suc zero)) k = refl
 wide (suc (suc (suc l))) k = absurd (omega arith)
 
-index_small : (a : ℕ) → index_of a < 512
+pub index_small : (a : ℕ) → index_of a < 512
 index_small a = omega arith
 
 -- a part of a page lies in the page
-part_inside : (base i width at : ℕ) → i < 512 → base + i * width ≤ at → at < base + i * width + width
+pub part_inside : (base i width at : ℕ) → i < 512 → base + i * width ≤ at → at < base + i * width + width
     → (base ≤ at) × (at < base + 512 * width)
 part_inside base i width at small from to =
     let most : (i + 1) * width ≤ 512 * width = mul-le-mul_right width (omega arith) in

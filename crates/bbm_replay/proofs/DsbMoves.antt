@@ -11,7 +11,7 @@ use Rattle.bbm_replay_entries.specs.EntryEvents.{Heard}
 use Rattle.bbm_replay_trees.specs.Told.{core_at, next_in}
 use Rattle.bbm_replay.proofs.Moves.{Completes, Hears, Leaves}
 use Rattle.bbm_replay.proofs.Aparts.{apart_leaves, apart_same}
-use Rattle.bbm_replay.proofs.Entries.{entry_same, fit_more, keeps_more, some_pe, state_same}
+use Rattle.bbm_replay.proofs.Entries.{entry_same, fit_more, keeps_more, none_of, some_next, some_pe, state_same}
 use Rattle.bbm_replay.proofs.Leaving.{was_there}
 use Rattle.bbm_replay.proofs.Quiet.{tracked_stay}
 use Rattle.bbm_replay.proofs.Writing.{cores}
@@ -23,17 +23,9 @@ broken_marks (Some core) None = refl
 broken_marks None (Some m) = refl
 broken_marks (Some core) (Some m) = refl
 
-no_marks : (m : Option Marks) → is_some m ≡ false → m ≡ None
-no_marks None k = refl
-no_marks (Some m) k = absurd (true≢false k)
-
 pub core_some : (m : Option Marks) → is_some (core_in (state_from None m)) ≡ is_some m
 core_some None = refl
 core_some (Some m) = refl
-
-no_core : (o : Option Core) → is_some o ≡ false → o ≡ None
-no_core None k = refl
-no_core (Some core) k = absurd (true≢false k)
 
 -- of a broken place the state is one whatever its live core
 pub same_state : (live live' : Option Core) (m : Option Marks) → is_some m ≡ true → state_from live m ≡ state_from live' m
@@ -64,7 +56,7 @@ module _ (heading : Heading) (laws : Laws heading) (h : List Event) (old mid new
       ∙ ap (λ b. is_some (core_in (state_from None (new.marks a))) && b) (broken_marks None (mid.marks a))
 
   pub whole_stays : (a : ℕ) → old.marks a ≡ None → new.marks a ≡ None
-  whole_stays a k = no_marks (new.marks a) (completed_marks a
+  whole_stays a k = none_of (new.marks a) (completed_marks a
       ∙ and_right (is_some (core_in (state_from None (new.marks a)))) (is_some (mid.marks a))
       (heard_marks a ∙ ap (λ (m : Option Marks). is_some m) k))
 
@@ -105,7 +97,7 @@ module _ (heading : Heading) (laws : Laws heading) (h : List Event) (old mid new
     broken_entry k =
         let s = t.entries n a is in
         let now_broken : is_broken (state_of old n.kind n.level a) ≡ true = broken_marks live (old.marks a) ∙ k in
-        let dead : live ≡ None = no_core live (laws.core_where_valid n.kind n.level (old.value a)
+        let dead : live ≡ None = none_of live (laws.core_where_valid n.kind n.level (old.value a)
         ∙ ap (λ (x : ℕ). is_valid n.kind n.level x) (t.values a)
         ∙ not-true _ (and_parts _ _ (sym s.broken ∙ now_broken)).1) in
         let mid_broken : is_some (mid.marks a) ≡ true = heard_marks a ∙ k in
@@ -160,10 +152,6 @@ module _ (heading : Heading) (laws : Laws heading) (h : List Event) (old mid new
             → core_in (state_from None (mid.marks a)) ≡ core_in (state_from None (old.marks a))
         by true k = ap (λ (m : Option Marks). core_in (state_from None m)) (hears.unheard k a)
         by false k = (hears.published k None a).core
-
-    some_next : (o : Option Core) (next : ℕ) → next_in o ≡ Some next → is_some o ≡ true
-    some_next None next k = let bad : None ≡ Some next = k in absurd cc
-    some_next (Some core) next k = refl
 
     broken_core : (kind : Kind) (level v : ℕ) (m : Option Marks) → is_some m ≡ true
         → core_with m kind level v ≡ core_in (state_from None m)

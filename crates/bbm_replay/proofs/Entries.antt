@@ -1,11 +1,20 @@
 -- One place after an event that leaves it.
 use Rattle.bbm_replay.proofs.Common.{is_broken, waits, Marks, Pends, EntryState, state_from, Kind, touches, EntryStands}
-use Rattle.bbm_replay.proofs.Common.{AllFit, View, Laws, Told, state_of, waiting}
+use Rattle.bbm_replay.proofs.Common.{AllFit, View, Laws, Told, next_in, state_of, waiting}
 use Rattle.bbm_rules.proofs.Common.{◌≡◌, ℕ, ◌<◌, Bool, true, false, ◌&&◌, List, ◌∷◌, Option, Some, None, refl, sym, ◌∙◌}
 use Rattle.bbm_rules.proofs.Common.{ap, subst, proved, If, Is, core_of, fits_heading, keeps, Patterns, page_of, Heading}
-use Rattle.bbm_rules.proofs.Common.{Event, Node}
+use Rattle.bbm_rules.proofs.Common.{Event, Node, Core, is_some, true≢false}
 use Rattle.bbm_rules.specs.Broken.{broken}
 use Rattle.bbm_replay.proofs.Moves.{Alike}
+
+pub none_of : {A : Type 0} (o : Option A) → is_some o ≡ false → o ≡ None
+none_of None k = refl
+none_of (Some x) k = absurd (true≢false k)
+
+-- what holds a table isn't empty
+pub some_next : (o : Option Core) (next : ℕ) → next_in o ≡ Some next → is_some o ≡ true
+some_next None next k = let bad : None ≡ Some next = k in absurd cc
+some_next (Some core) next k = refl
 
 pub keeps_more : (heading : Heading) (h : List Event) (e : Event) → keeps heading Patterns h ≡ true
     → broken heading Patterns h e ≡ None → keeps heading Patterns (e ∷ h) ≡ true

@@ -4,15 +4,16 @@ use Rattle.bbm_replay.proofs.Common.{LimboMake, NotFresh, RewrittenFresh, BadKin
 use Rattle.bbm_replay.proofs.Common.{RootState, View, notes, Laws, attached_next, is_contiguous_core, is_global_core}
 use Rattle.bbm_replay.proofs.Common.{step_fault, TreeFault, Rules, Clears, Holds, IsAt, MayMeet, Meets, SameFrame}
 use Rattle.bbm_replay.proofs.Common.{Stands, view_of, Told, state_of, ReplayState}
-use Rattle.bbm_rules.proofs.Common.{◌≡◌, ℕ, zero, suc, ◌<◌, arith, ◌%◌, Bool, true, false, cond, not, ◌&&◌, ◌⊎◌, ◌==◌}
+use Rattle.bbm_rules.proofs.Common.{◌≡◌, ℕ, ◌<◌, ◌%◌, Bool, true, false, not, ◌&&◌, ◌⊎◌, ◌==◌}
 use Rattle.bbm_rules.proofs.Common.{List, [], ◌∷◌, Option, Some, None, is_none, is_some, option_and_then, Result, Ok}
-use Rattle.bbm_rules.proofs.Common.{Err, refl, sym, ◌∙◌, ap, subst, true≢false, inl, inr, option_map_or, type_bits}
-use Rattle.bbm_rules.proofs.Common.{core_of, desc_as, desc_of, differ, invalid, leaf, Core, Desc, Invalid}
+use Rattle.bbm_rules.proofs.Common.{Err, refl, sym, ◌∙◌, ap, subst, inl, inr, option_map_or}
+use Rattle.bbm_rules.proofs.Common.{core_of, desc_of, differ, Core, Desc, Invalid}
 use Rattle.bbm_rules.proofs.Common.{Table, Leaf, rewrites, attached_by, Patterns, is_global, if_so, page_of, Ttbr0}
 use Rattle.bbm_rules.proofs.Common.{Heading, Event, Write, lock_of, bad_kind, break_before_make, global_user}
 use Rattle.bbm_rules.proofs.Common.{is_contiguous, lacks, limbo_make, no_lock, not_fresh, null_written, rewritten_fresh}
 use Rattle.bbm_rules.proofs.Common.{Node, held_at, next_in, next_of, node_below, node_of, and_right}
 use Rattle.bbm_descriptor.specs.Descriptor as descriptor
+use Rattle.bbm_rules.proofs.TreeLaw.{table_level}
 use Rattle.bbm_rules.specs.Answers.{is_written}
 use Rattle.bbm_rules.specs.Broken.{broken}
 use Rattle.bbm_place_map.specs.Map.{marks_at, pends_at, value_at}
@@ -29,6 +30,7 @@ use Rattle.bbm_replay.proofs.Judging.{Verdict, passes, stops, verdict, where_fal
 use Rattle.bbm_replay.proofs.Meeting.{fits_all}
 use Rattle.bbm_replay.proofs.Starting.{meets_broken}
 use Rattle.bbm_replay.proofs.Writing.{after_attaching_write, after_plain_write, cores}
+use Rattle.bbm_replay.proofs.Entries.{none_of}
 use Rattle.bbm_replay.proofs.Ways.{state_core}
 
 -- ---- what the core of a descriptor says
@@ -56,25 +58,6 @@ attached_is (Some core) d next k = let bad : None ≡ Some next = k in absurd cc
 attached_is None Invalid next k = let bad : None ≡ Some next = k in absurd cc
 attached_is None (Table at ns) next k = (refl, k)
 attached_is None (Leaf out attrs share global contiguous) next k = let bad : None ≡ Some next = k in absurd cc
-
--- tables stand above level 3
-table_level : (kind : Kind) (level v next : ℕ) → level < 4 → next_of kind level v ≡ Some next → level < 3
-table_level kind zero v next below k = omega arith
-table_level kind (suc zero) v next below k = omega arith
-table_level kind (suc (suc zero)) v next below k = omega arith
-table_level kind (suc (suc (suc zero))) v next below k = by (type_bits v == 3) (type_bits v == 1) refl refl
-  where
-    at3 : Bool → Bool → Option ℕ
-    at3 a b = next_in (desc_as (cond a leaf (cond b invalid invalid)) kind 3 v)
-
-    none : (a b : Bool) → at3 a b ≡ None
-    none true b = refl
-    none false true = refl
-    none false false = refl
-
-    by : (a b : Bool) → (type_bits v == 3) ≡ a → (type_bits v == 1) ≡ b → 3 < 3
-    by a b e f = let bad : Some next ≡ None = sym k ∙ none (type_bits v == 3) (type_bits v == 1) in absurd cc
-table_level kind (suc (suc (suc (suc level)))) v next below k = absurd (omega arith)
 
 module _ (laws : (heading : Heading) → Laws heading) (rules : (heading : Heading) → Rules heading)
     (old : ReplayState) (pe place v : ℕ) (m : MayMeet old (Write pe place v)) (path : Path) (at : IsAt old place path)
@@ -257,8 +240,7 @@ module _ (laws : (heading : Heading) → Laws heading) (rules : (heading : Headi
     both = attached_is held (desc_of n.kind n.level v) next (ap (λ (x : Option Core). attached_next held x) (sym new_n) ∙ attached)
 
     pub below_three : n.level < 3
-    below_three = table_level n.kind n.level v next
-        ((laws m.0).neighbours.own m.1 v_old (page_of place) n m.2.told.nodes at.1).1 both.1
+    below_three = table_level n.kind n.level v next both.1
 
     abbrev from : List Node
     from = node_below n place next ∷ []
@@ -279,10 +261,6 @@ module _ (laws : (heading : Heading) → Laws heading) (rules : (heading : Headi
       where
         node_is : node_of heading Patterns (notes heading h) (page_of place) ≡ Some n
         node_is = sym (s.told.nodes (page_of place)) ∙ at.1
-
-        none_of : (o : Option ℕ) → is_some o ≡ false → o ≡ None
-        none_of None k = refl
-        none_of (Some x) k = absurd (true≢false k)
 
         held_none : held_at heading Patterns (notes heading h) n place ≡ None
         held_none = none_of (held_at heading Patterns (notes heading h) n place)

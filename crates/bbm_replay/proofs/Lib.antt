@@ -33,4 +33,6 @@ pub mod SamePage
 pub mod Ways
 pub mod Whole
 pub mod Unmet
+pub mod Noting
+pub mod Skips
 pub mod Issuing

@@ -8,7 +8,6 @@ use Rattle.bbm_rules.proofs.Common.{◌≡◌, ℕ, Bool, true, false, ◌&&◌,
 use Rattle.bbm_rules.proofs.Common.{option_and_then, Ok, refl, sym, ◌∙◌, ap, subst, if◌then◌else◌, option_map_or}
 use Rattle.bbm_rules.proofs.Common.{eqb-true, core_of, differ, Core, if_so, page_of, Ttbr0, Heading, Event}
 use Rattle.bbm_rules.proofs.Common.{Write, lock_of, lacks, and-false}
-use Rattle.std.proofs.lemmas.Bool.{true≢false}
 use Rattle.bbm_place_map.specs.Map.{marks_at, pends_at, value_at}
 use Rattle.bbm_place_map.specs.MapCalls.{Leaves}
 use Rattle.bbm_tree_index.specs.Index.{node_in}
@@ -46,10 +45,6 @@ marks_stay old new place none same a = by (a == place) refl
     by : (b : Bool) → (a == place) ≡ b → new a ≡ (if b then None else old a)
     by true k = same a ∙ ap old (eqb-true a place k) ∙ none
     by false k = same a
-
-pub none_of : {A : Type 0} (o : Option A) → is_some o ≡ false → o ≡ None
-none_of None k = refl
-none_of (Some x) k = absurd (true≢false k)
 
 differ_none : (o : Option Core) → differ o None ≡ false
 differ_none None = refl

@@ -1,17 +1,14 @@
 -- Where no place is broken over a table, no place is in limbo.
 use Rattle.bbm_replay.proofs.Common.{Marks, PlaceMap, Kind, core_with, limbo_by, next_in, TreeIndex, Laws, view_of}
 use Rattle.bbm_replay.proofs.Common.{Told}
-use Rattle.bbm_rules.proofs.Common.{◌≡◌, ℕ, true, false, not, List, [], ◌∷◌, Option, Some, None, is_some, refl, sym}
-use Rattle.bbm_rules.proofs.Common.{◌∙◌, ap, option_map_or, core_of, is_valid, Core, any, page_of, Heading, Event}
+use Rattle.bbm_rules.proofs.Common.{◌≡◌, ℕ, true, false, not, List, [], ◌∷◌, Option, Some, None, refl, sym}
+use Rattle.bbm_rules.proofs.Common.{◌∙◌, ap, option_map_or, core_of, is_valid, any, page_of, Heading, Event}
 use Rattle.bbm_rules.proofs.Common.{Above, Node, or_from}
 use Rattle.bbm_place_map.specs.Map.{marks_at, value_at}
 use Rattle.bbm_tree_index.specs.Index.{node_in}
 use Rattle.bbm_replay.specs.ReplayStanding.{OverLeaves}
+use Rattle.bbm_replay.proofs.Entries.{some_next}
 use Rattle.bbm_replay.proofs.Writing.{cores}
-
-some_next : (o : Option Core) (p : ℕ) → next_in o ≡ Some p → is_some o ≡ true
-some_next None p k = let bad : None ≡ Some p = k in absurd cc
-some_next (Some c) p k = refl
 
 -- a place that isn't broken over a table, and holds one, has the value of one
 bare_table : (kind : Kind) (level value p : ℕ) (o : Option Marks)

@@ -48,6 +48,12 @@ AreCovered map index state named found = (heading : Heading) (h : List Event) (p
     → MayBeIssued heading h map index state pe op xt named
     → FoundAs found (cover_at heading Patterns (notes heading h) (Tlbi pe op xt))
 
+-- a place is covered so far
+abbrev pub IsCovered : PlaceMap → TreeIndex → RootState → NamedTlbi → Cover → ℕ → Type 0
+IsCovered map index state named cover a = (heading : Heading) (h : List Event) (pe : ℕ) (op : TlbiOp) (xt : ℕ)
+    → MayBeIssued heading h map index state pe op xt named
+    → cover ≡ cover_at heading Patterns (notes heading h) (Tlbi pe op xt) a
+
 -- each broken place has a number, by which stands how far it is covered
 abbrev pub CoverEach : PlaceMap → TreeIndex → RootState → NamedTlbi → List Cover → Type 0
 CoverEach map index state named covers = (heading : Heading) (h : List Event) (pe : ℕ) (op : TlbiOp) (xt : ℕ)

@@ -11,26 +11,23 @@ ghost use Rattle.bbm_rules.specs.Places.{page_of};
 ghost use Rattle.bbm_rules.specs.Roots.{Declared, root_at};
 ghost use Rattle.bbm_rules.specs.Tree.{Node};
 ghost use Rattle.bbm_tree_index.specs.IndexAgreement.{IsSound};
-ghost use Rattle.bbm_tree_index.specs.Descent.{IsWay};
 ghost use Rattle.bbm_tree_index.specs.HeldCores.{core_at, next_in};
 ghost use Rattle.bbm_tree_index.specs.Index.{node_in};
 ghost use Rattle.bbm_tree_index.specs.Nodes.{path_at};
 ghost use Rattle.bbm_replay_roots.specs.RootsByNumber.{nth_in};
 ghost use Rattle.bbm_replay_roots.specs.RootStateStands.{Stands};
-ghost use Rattle.bbm_replay.specs.Covering.{AreCovered, Grows};
-ghost use Rattle.bbm_replay.specs.OnePage.{FitTogether, IsFoundIn, IsOnWay, MetFrom, MetFromAll, NamesOne};
+ghost use Rattle.bbm_replay.specs.Covering.{Grows};
+ghost use Rattle.bbm_replay.specs.OnePage.{FitTogether, IsFoundIn, MetFrom, MetFromAll, NamesOne};
 ghost use Rattle.bbm_replay.specs.OnePage.{covers_kind as spec_covers_kind};
 
 use crate::covering::Covering;
+use crate::few::FEW;
 use crate::writes::next_of;
 use bbm_place_map::{Found, PlaceMap, Position};
 use bbm_regimes::{Kind, NoMemory, Page, Place};
 use bbm_tlbi_scope::Family;
 use bbm_tree_index::{Path, place_below};
 use smallvec::SmallVec;
-
-/// How many places may be broken for a TLBI of one page to look at each of them. Source: project's own choice.
-const FEW: u64 = 8;
 
 /// Whether an operation by address of this family can cover places of a root of this kind.
 fn covers_kind(family: Family, kind: Kind) -> bool
@@ -70,12 +67,11 @@ fn position_of(map: &PlaceMap, place: Place, near: usize) -> Position
 }
 
 impl Covering<'_> {
-    /// The one input page that the TLBI names by its address, where more places are broken than are looked at one by
-    /// one.
-    pub(crate) fn page_looked_at(&self, map: &PlaceMap) -> Option<u64>
+    /// The one input page that the TLBI names by its address, where so many places are broken that they aren't looked
+    /// at one by one.
+    pub(crate) fn page_looked_at(&self, broken: u64) -> Option<u64>
         ensures { IfSome result (λ at. NamesOne self.now.named.now.scope at) }
     {
-        let broken = map.restless();
         if broken <= FEW || broken <= self.roots.count() as u64 {
             return None;
         }
@@ -115,10 +111,8 @@ impl Covering<'_> {
         let position = position_of(map, place, near);
         match map.restless_number(&position) {
             Some(near) => {
-                // A copy, so that the path of a place that isn't broken needs no memory.
-                let own = *path;
                 let core = map.restless_core(near as u64);
-                let cover = self.cover_met(map, place, &own, &core);
+                let cover = self.cover_near(map, place, path, &core);
                 found.push(Found { place, cover, near })?;
                 Ok(next_of(&core))
             }

@@ -1,6 +1,6 @@
 //! How far a TLBI covers a broken place.
 
-ghost use Rattle.std.specs.Prelude.{◌≡◌, ◌↔◌, ◌&&◌, not, is_none, length, ℕ, true, false, List, []};
+ghost use Rattle.std.specs.Prelude.{◌≡◌, ◌↔◌, ◌<◌, ◌&&◌, is_none, is_some, length, ℕ, true, false, List, []};
 ghost use Rattle.std.specs.Prelude.{Some, None, IfSome, OnOk};
 ghost use Rattle.bbm_events.specs.Heading.{Heading};
 ghost use Rattle.bbm_events.specs.declared.event.Event.{Event};
@@ -9,7 +9,7 @@ ghost use Rattle.bbm_tlbi_scope.specs.declared.op.TlbiOp.{TlbiOp};
 ghost use Rattle.bbm_rules.specs.Claims.Trust.{Patterns};
 ghost use Rattle.bbm_rules.specs.Covers.{cover_at};
 ghost use Rattle.bbm_replay_trees.specs.Told.{notes};
-ghost use Rattle.bbm_replay.specs.Covering.{CoverEach, IsBrokenOver, MayBeIssued, Mismatches};
+ghost use Rattle.bbm_replay.specs.Covering.{CoverEach, IsBrokenOver, IsCovered, MayBeIssued, Mismatches};
 ghost use Rattle.bbm_replay.specs.Covering.{asks_childless, asks_tags as spec_asks_tags};
 ghost use Rattle.bbm_replay_roots.specs.RootStateStands.{Stands};
 ghost use Rattle.bbm_rules.specs.Places.{page_of};
@@ -18,7 +18,8 @@ ghost use Rattle.bbm_rules.specs.Tree.{Node};
 ghost use Rattle.bbm_tree_index.specs.HeldCores.{Childless, core_at};
 ghost use Rattle.bbm_tree_index.specs.Index.{node_in};
 ghost use Rattle.bbm_tree_index.specs.Nodes.{path_at};
-ghost use Rattle.bbm_place_map.specs.Map.{restless_in};
+ghost use Rattle.bbm_place_map.specs.Map.{marks_at, restless_in, restless_place};
+ghost use Rattle.bbm_tlbi_scope.specs.Numbers.{names_some as spec_names_some};
 ghost use Rattle.bbm_replay.specs.Leaves.{is_global_core};
 ghost use Rattle.bbm_tree_index.specs.IndexAgreement.{IsSound};
 
@@ -33,9 +34,20 @@ use bbm_replay_roots::NamedTlbi;
 use bbm_replay_trees::law_childless_by_cores;
 use bbm_rules::law_notes_keep_the_events;
 use bbm_tlbi_scope::scope::is_number;
-use bbm_tlbi_scope::{Cover, Family, PlaceView, TagSet, cover};
+use bbm_tlbi_scope::{Cover, Family, PlaceView, Scope, TagSet, cover};
 use bbm_tree_index::Path;
 use smallvec::SmallVec;
+
+/// How far a TLBI covers a broken place. Source: project's own choice.
+#[derive(Clone, Copy)]
+struct PageCover {
+    /// The address of its page; 1 where there is no place.
+    page: u64,
+    /// How far it is covered.
+    cover: Cover,
+    /// True only where each broken place of its page is covered so far.
+    alike: bool,
+}
 
 /// Whether the core is that of a leaf for every ASID.
 fn is_global(core: &Core) -> bool
@@ -67,6 +79,38 @@ fn fits_tags(named: &NamedTlbi, tags: TagSet) -> bool
         TagSet::One(Tag::Vmid(held)) => is_number(named.vmid, held),
         TagSet::One(Tag::Asid(held)) => is_number(named.scope.asid, held),
         TagSet::One(_) | TagSet::Many => false,
+    }
+}
+
+/// Whether the scope names none of the input pages that places of a page translate, one of which is this place, with
+/// this path; false says nothing.
+fn names_none(scope: &Scope, place: Place, path: &Path) -> bool
+    requires { (n : Node) × (path.now ≡ path_at n place) }
+    ensures { result ≡ true → (n : Node) → path.now ≡ path_at n place → (a : ℕ)
+        → spec_names_some scope.now.interval (path_at n a).region ≡ false }
+{
+    let Some(named) = scope.interval else {
+        return true;
+    };
+    let region = path.region;
+    let width = region.hi - region.lo + 1;
+    let start = region.lo - place.index() as u64 * width;
+    if named.lo < start {
+        named.hi < start
+    } else {
+        (named.lo - start) / 512 >= width
+    }
+}
+
+/// The same, asked only where the place isn't covered.
+fn skips_page(scope: &Scope, cover: Cover, place: Place, path: &Path) -> bool
+    requires { (n : Node) × (path.now ≡ path_at n place) }
+    ensures { result ≡ true → (n : Node) → path.now ≡ path_at n place → (a : ℕ)
+        → spec_names_some scope.now.interval (path_at n a).region ≡ false }
+{
+    match cover {
+        Cover::None => names_none(scope, place, path),
+        _ => false,
     }
 }
 
@@ -141,9 +185,56 @@ impl Covering<'_> {
         )
     }
 
-    /// Adds how far the TLBI covers each of the broken places, in the order of their numbers. One that names no pages
-    /// covers the broken places of a page alike, and is asked once of those that follow one another. `NoMemory` where
-    /// there is none.
+    /// How far the TLBI covers the broken place with this number; and true only where it covers each broken place of
+    /// its page so far.
+    fn cover_next(&self, map: &PlaceMap, i: u64) -> (Cover, bool)
+        requires sound { IsSound self.now.index.now }
+        requires within { i < restless_in map.now }
+        ensures here { IsCovered map.now self.now.index.now self.now.roots.now self.now.named.now result.0
+            (restless_place map.now i) }
+        ensures page { result.1 ≡ true → (a : ℕ) → page_of a ≡ page_of (restless_place map.now i)
+            → is_some (marks_at map.now a) ≡ true
+            → IsCovered map.now self.now.index.now self.now.roots.now self.now.named.now result.0 a }
+    {
+        law_notes_keep_the_events();
+        laws();
+        let place = map.restless_at(i);
+        let Some(path) = self.index.path_near(place, map.restless_page(i)) else {
+            return (Cover::None, false);
+        };
+        let cover = self.cover_met(map, place, &path, &map.restless_core(i));
+        if !self.named.scope.family.has_page() {
+            return (cover, true);
+        }
+        (cover, skips_page(&self.named.scope, cover, place, &path))
+    }
+
+    /// The same of the broken place with this number, where that of the one before it is known.
+    #[inline(always)]
+    fn cover_after(&self, map: &PlaceMap, i: u64, before: PageCover) -> PageCover
+        requires sound { IsSound self.now.index.now }
+        requires within { i < restless_in map.now }
+        requires known { before.alike ≡ true → (a : ℕ) → page_of a ≡ before.page → is_some (marks_at map.now a) ≡ true
+            → IsCovered map.now self.now.index.now self.now.roots.now self.now.named.now before.cover a }
+        ensures here { IsCovered map.now self.now.index.now self.now.roots.now self.now.named.now result.cover
+            (restless_place map.now i) }
+        ensures page { result.alike ≡ true → (a : ℕ) → page_of a ≡ result.page → is_some (marks_at map.now a) ≡ true
+            → IsCovered map.now self.now.index.now self.now.roots.now self.now.named.now result.cover a }
+    {
+        let page = map.restless_at(i).page().get();
+        if before.alike && before.page == page {
+            return before;
+        }
+        let next = self.cover_next(map, i);
+        PageCover {
+            page,
+            cover: next.0,
+            alike: next.1,
+        }
+    }
+
+    /// Adds how far the TLBI covers each of the broken places, in the order of their numbers. Those of a page that it
+    /// covers alike are asked once where they follow one another. `NoMemory` where there is none.
     pub(crate) fn covers(
         &self,
         map: &PlaceMap,
@@ -155,22 +246,14 @@ impl Covering<'_> {
         ensures each { OnOk result (CoverEach map.now self.now.index.now self.now.roots.now self.now.named.now
             covers.new.items) }
     {
-        law_notes_keep_the_events();
-        let paged = self.named.scope.family.has_page();
-        // The page of the place before, at first that of none, and the cover there.
-        let mut page = 1;
-        let mut cover = Cover::None;
+        let mut last = PageCover {
+            page: 1,
+            cover: Cover::None,
+            alike: false,
+        };
         for i in 0..map.restless() {
-            let place = map.restless_at(i);
-            let at = place.page().get();
-            if paged || at != page {
-                page = at;
-                cover = match self.index.path_near(place, map.restless_page(i)) {
-                    Some(path) => self.cover_met(map, place, &path, &map.restless_core(i)),
-                    None => Cover::None,
-                };
-            }
-            covers.push(Answer::new(cover))?;
+            last = self.cover_after(map, i, last);
+            covers.push(Answer::new(last.cover))?;
         }
         Ok(())
     }

@@ -7,6 +7,7 @@ mod by_page;
 mod covering;
 mod covers;
 mod faults;
+mod few;
 mod issues;
 mod laws;
 mod pages;

@@ -14,7 +14,7 @@ returns-in_ok-push-in-Some-clause-grows c =
     let place = c.args.place in
     let old = c.args.found.now.items in
     let number = c.in-Some.near in
-    let item : Found = record { place = place; cover = c.cover_met-cover.result; near = number } in
+    let item : Found = record { place = place; cover = c.cover_near-cover.result; near = number } in
     let position = c.position_of-position.result in
     let at = c.restless_number.ensures.some number c.in-Some.is in
     let here : restless_place map number ≡ place = at.1 ∙ c.position_of-position.ensures.place in
@@ -26,12 +26,12 @@ returns-in_ok-push-in-Some-clause-grows c =
           subst (λ (xs : List Found). FoundAs xs (cover_at heading Patterns (notes heading h) (Tlbi pe op xt)))
           (sym more)
           (as_end old item (cover_at heading Patterns (notes heading h) (Tlbi pe op xt)) (all heading h pe op xt m)
-          (c.cover_met-cover.ensures over heading h pe op xt m)),
+          (c.cover_near-cover.ensures over heading h pe op xt m)),
       λ a has. subst (λ (xs : List Found). is_found xs a ≡ true) (sym more) (found_before old item a has),
     )
 
 pub returns-in_ok-push-in-Some-clause-added : goal.returns-in_ok-push-in-Some-clause-added
 returns-in_ok-push-in-Some-clause-added c =
-    let item : Found = record { place = c.args.place; cover = c.cover_met-cover.result; near = c.in-Some.near } in
+    let item : Found = record { place = c.args.place; cover = c.cover_near-cover.result; near = c.in-Some.near } in
     λ broken. subst (λ (xs : List Found). is_found xs c.args.place ≡ true) (sym c.in_ok-push-in-Some.ensures.ok)
     (found_end c.args.found.now.items item)

@@ -1,16 +1,15 @@
-use Rattle.bbm_replay.proofs.Common.{input_pages, Path, notes, asks_childless, asks_tags, view_of}
-use Rattle.bbm_rules.proofs.Common.{◌≡◌, ◌≤◌, ◌<◌, ◌+◌, ◌-◌, ℕ, true, false, Option, Some, is_some, refl, sym, ◌∙◌, ap}
-use Rattle.bbm_rules.proofs.Common.{subst, arith}
-use Rattle.bbm_rules.proofs.Common.{core_of, desc_of, Core, Extent, names_some, has_page, Patterns, page_of, tag_set}
-use Rattle.bbm_rules.proofs.Common.{tags_of, held_at, is_childless, region_of, region_start}
+use Rattle.bbm_replay.proofs.Common.{Path, notes, asks_childless, asks_tags, view_of}
+use Rattle.bbm_rules.proofs.Common.{◌≡◌, ◌<◌, ℕ, true, false, Option, Some, is_some, refl, sym, ◌∙◌, ap}
+use Rattle.bbm_rules.proofs.Common.{subst}
+use Rattle.bbm_rules.proofs.Common.{core_of, desc_of, Core, names_some, has_page, Patterns, page_of, tag_set}
+use Rattle.bbm_rules.proofs.Common.{tags_of, held_at, is_childless, region_of}
 use Rattle.bbm_place_map.specs.Map.{marks_at, value_at}
 use Rattle.bbm_tlbi_scope.specs.ScopeCovers as scopes
 use Rattle.bbm_replay.specs.Covering.{Mismatches}
 use Rattle.bbm_replay.proofs.Asking.{alike, mismatched}
 use Rattle.bbm_replay.proofs.Covered.{core_of_marks, covered, global_is, held_of, same_by_truth, table_is}
-use Rattle.bbm_replay.proofs.Descents.{unnamed}
 use Rattle.bbm_replay.proofs.SamePage.{by_view, held, view_covers}
-use Rattle.bbm_replay.proofs.Unmet.{cover_none, some_width}
+use Rattle.bbm_replay.proofs.Skips.{place_unnamed}
 use Rattle.bbm_replay.proofs.Writing.{cores}
 use Rattle.bbm_replay.proofs.covering.Covering.cover_met.Goals as goal
 
@@ -25,17 +24,9 @@ returns-then-not-names_some c over heading h pe op xt m =
     let low : n.level < 4
     = ((c.laws.ensures heading).neighbours.own h (view_of c.args.map.now by.index.now) (page_of place) n
     m.told.nodes c.requires.path.1).1 in
-    sym (cover_none heading h (c.law_notes_keep_the_events.ensures heading Patterns h) c.args.map.now by.index.now
-    by.roots.now
-    pe op xt by.named.now m n place (sym (m.told.nodes (page_of place)) ∙ c.requires.path.1)
-    (λ v own kind region. unnamed by.named.now.scope paged own v
-    (subst (λ (x : Extent). x.lo ≤ x.hi) (sym region) (ends (region_start n place) (input_pages n.level)
-    (some_width n.level low)))
-    (ap (λ (x : Extent). names_some by.named.now.scope.interval x) (region ∙ sym
-    (ap (λ (y : Path). y.region) c.requires.path.2)) ∙ none)))
-  where
-    ends : (start w : ℕ) → 1 ≤ w → start ≤ start + w - 1
-    ends start w k = omega arith
+    sym (place_unnamed heading h (c.law_notes_keep_the_events.ensures heading Patterns h) c.args.map.now by.index.now
+    by.roots.now pe op xt by.named.now m paged n place low c.requires.path.1
+    (sym (ap (λ (y : Path). names_some by.named.now.scope.interval y.region) c.requires.path.2) ∙ none))
 
 pub returns-in_default : goal.returns-in_default
 returns-in_default c over heading h pe op xt m =

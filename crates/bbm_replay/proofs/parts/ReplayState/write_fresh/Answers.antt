@@ -3,7 +3,7 @@ use Rattle.bbm_rules.proofs.Common.{◌≡◌, None, true, refl, sym, ap, ◌∙
 use Rattle.bbm_place_map.specs.Map.{value_at}
 use Rattle.bbm_tree_index.specs.Index.{fresh_in}
 use Rattle.bbm_replay.proofs.Fresh.{fresh_ok}
-use Rattle.bbm_replay.proofs.Quick.{none_of}
+use Rattle.bbm_replay.proofs.Entries.{none_of}
 use Rattle.bbm_replay.proofs.parts.ReplayState.write_fresh.Goals as goal
 
 pub returns-clause-taken : goal.returns-clause-taken

@@ -2,7 +2,7 @@ use Rattle.bbm_replay.proofs.Common.{IsAt, MayMeet, Meets}
 use Rattle.bbm_rules.proofs.Common.{Ok, Some, refl, sym, subst, ◌∙◌, Write}
 use Rattle.bbm_place_map.specs.Map.{marks_at}
 use Rattle.bbm_replay.proofs.Found.{at_path}
-use Rattle.bbm_replay.proofs.Quick.{none_of}
+use Rattle.bbm_replay.proofs.Entries.{none_of}
 use Rattle.bbm_replay.proofs.parts.ReplayState.write_quick.Goals as goal
 
 pub write_whole-requires-clause-may : goal.write_whole-requires-clause-may

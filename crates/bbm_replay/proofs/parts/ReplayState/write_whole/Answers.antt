@@ -1,6 +1,6 @@
 use Rattle.bbm_rules.proofs.Common.{sym, ◌∙◌}
 use Rattle.bbm_replay.proofs.Found.{shallow}
-use Rattle.bbm_replay.proofs.Quick.{none_of}
+use Rattle.bbm_replay.proofs.Entries.{none_of}
 use Rattle.bbm_replay.proofs.parts.ReplayState.write_whole.Goals as goal
 
 pub live_at-requires-clause-level : goal.live_at-requires-clause-level

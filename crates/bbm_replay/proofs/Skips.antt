@@ -1,0 +1,91 @@
+-- A TLBI of pages that names none of those that the places of a page translate covers none of these.
+use Rattle.bbm_replay.proofs.Common.{input_pages, PlaceMap, TreeIndex, RootState, NamedTlbi, MayBeIssued, notes}
+use Rattle.bbm_rules.proofs.Common.{◌≡◌, ℕ, zero, suc, ◌+◌, ◌-◌, ◌*◌, ◌/◌, ◌<◌, ◌≤◌, ◌^◌, nat_le, true, false, List}
+use Rattle.bbm_rules.proofs.Common.{Some, sym}
+use Rattle.bbm_rules.proofs.Common.{◌∙◌, ap, subst, arith, and_left, and_right, Extent, names_some, has_page, Patterns}
+use Rattle.bbm_rules.proofs.Common.{cover_at, events_of, index_of, page_of, Heading, Event, Tlbi, TlbiOp, Node}
+use Rattle.bbm_rules.proofs.Common.{region_of}
+use Rattle.bbm_rules.proofs.Common.{region_start}
+use Rattle.std.proofs.lemmas.Bool.{lt-leb}
+use Rattle.bbm_tlbi_scope.specs.declared.entry.Cover.TheVariants.{None as NoCover}
+use Rattle.bbm_tree_index.specs.Index.{node_in}
+use Rattle.bbm_replay.proofs.Descents.{index_small, part_inside, unnamed}
+use Rattle.bbm_replay.proofs.Unmet.{cover_none, some_width}
+
+-- how many pages a place of a level translates
+pub width_within : (l : ℕ) → (1 ≤ input_pages l) × (input_pages l ≤ 2 ^ 27)
+width_within zero = (omega arith, omega arith)
+width_within (suc zero) = (omega arith, omega arith)
+width_within (suc (suc zero)) = (omega arith, omega arith)
+width_within (suc (suc (suc l))) = (omega (arith, deep), omega (arith, deep))
+  where
+    none : 3 - suc (suc (suc l)) ≡ 0
+    none = omega arith
+
+    deep : input_pages (suc (suc (suc l))) ≡ 1
+    deep = ap (λ (x : ℕ). 2 ^ (12 + 9 * x) / 4096) none
+
+module _ (named : Extent) (n : Node) (a : ℕ) where
+  -- what a place translates lies in what its page does
+  inside : (n.base ≤ (region_of n a).lo) × ((region_of n a).hi < n.base + 512 * input_pages n.level)
+  inside =
+      let w = (width_within n.level).0 in
+      let part = part_inside n.base (index_of a) (input_pages n.level) (region_of n a).hi (index_small a)
+      (omega (arith, w)) (omega (arith, w)) in
+      (omega arith, part.1)
+
+  pub names_below : named.hi < n.base → names_some (Some named) (region_of n a) ≡ false
+  names_below under =
+      let low : n.base ≤ (region_of n a).lo = inside.0 in
+      and_right (nat_le named.lo (region_of n a).hi) (nat_le (region_of n a).lo named.hi)
+      (lt-leb (region_of n a).lo named.hi (omega (arith, under, low)))
+
+  pub names_above : n.base + 512 * input_pages n.level ≤ named.lo → names_some (Some named) (region_of n a) ≡ false
+  names_above over =
+      let high : (region_of n a).hi < n.base + 512 * input_pages n.level = inside.1 in
+      and_left (nat_le named.lo (region_of n a).hi) (nat_le (region_of n a).lo named.hi)
+      (lt-leb named.lo (region_of n a).hi (omega (arith, over, high)))
+
+-- the first input page of a page's places and how many each translates, worked out from the path of one of them
+module _ (n : Node) (a lo hi i : ℕ) (from : lo ≡ (region_of n a).lo)
+    (to : hi ≡ (region_of n a).hi) (number : i ≡ index_of a)
+  where
+    pub width_is : hi - lo + 1 ≡ input_pages n.level
+    width_is =
+        let w = (width_within n.level).0 in
+        let first : lo ≡ n.base + index_of a * input_pages n.level = from in
+        let last : hi ≡ n.base + index_of a * input_pages n.level + input_pages n.level - 1 = to in
+        omega (arith, w, first, last)
+
+    pub product_is : i * (hi - lo + 1) ≡ index_of a * input_pages n.level
+    product_is = ap (λ (x : ℕ). x * (hi - lo + 1)) number ∙ ap (λ (x : ℕ). index_of a * x) width_is
+
+    pub product_within : i * (hi - lo + 1) ≤ lo
+    product_within =
+        let first : lo ≡ n.base + index_of a * input_pages n.level = from in
+        omega (arith, first, product_is)
+
+    pub start_is : lo - i * (hi - lo + 1) ≡ n.base
+    start_is =
+        let first : lo ≡ n.base + index_of a * input_pages n.level = from in
+        omega (arith, first, product_is)
+
+    pub far : (at : ℕ) → lo - i * (hi - lo + 1) ≤ at → hi - lo + 1 ≤ (at - (lo - i * (hi - lo + 1))) / 512
+        → n.base + 512 * input_pages n.level ≤ at
+    far at above wide = omega (arith, start_is, width_is, above, wide)
+
+module _ (heading : Heading) (h : List Event) (ev : events_of (notes heading h) ≡ h) (map : PlaceMap)
+    (index : TreeIndex) (state : RootState) (pe : ℕ) (op : TlbiOp) (xt : ℕ) (named : NamedTlbi)
+    (m : MayBeIssued heading h map index state pe op xt named) where
+  pub place_unnamed : has_page named.scope.family ≡ true → (n : Node) (a : ℕ) → n.level < 4
+      → node_in index (page_of a) ≡ Some n → names_some named.scope.interval (region_of n a) ≡ false
+      → cover_at heading Patterns (notes heading h) (Tlbi pe op xt) a ≡ NoCover
+  place_unnamed paged n a low is none =
+      cover_none heading h ev map index state pe op xt named m n a (sym (m.told.nodes (page_of a)) ∙ is)
+      (λ v own kind region. unnamed named.scope paged own v
+      (subst (λ (x : Extent). x.lo ≤ x.hi) (sym region)
+      (ends (region_start n a) (input_pages n.level) (some_width n.level low)))
+      (ap (λ (x : Extent). names_some named.scope.interval x) region ∙ none))
+    where
+      ends : (start w : ℕ) → 1 ≤ w → start ≤ start + w - 1
+      ends start w k = omega arith
