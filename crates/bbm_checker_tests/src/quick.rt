@@ -1,11 +1,11 @@
 //! Lines that are read at once from the bytes ahead.
 
 use bbm_events::{Event, Header, Item};
-use bbm_log_grammar::{quick_dsb, quick_line, quick_write, read_event, read_header};
+use bbm_log_grammar::{quick_dsb, quick_line, quick_tlbi, quick_write, read_event, read_header};
 use std::test::Fail;
 
 /// A line of each event that is read at once.
-const LINES: [&[u8]; 14] = [
+const LINES: [&[u8]; 15] = [
     b"w 1 0x40000008 0x3\n",
     b"isb 12\n",
     b"dsb 0 ishst\n",
@@ -15,6 +15,7 @@ const LINES: [&[u8]; 14] = [
     b"tlbi 0 vae2is 0x40\n",
     b"tlbi 0 aside1is 0x1000000000000\n",
     b"tlbi 0 vmalle1is\n",
+    b"tlbi 0 alle2is\n",
     b"tlbi 0 vmalls12e1is\n",
     b"msr 1 ttbr0_el1 0x40001000\n",
     b"lock 1 12 @mm:lock\n",
@@ -47,9 +48,12 @@ fn a_line_of_each_event_is_read_at_once(rt: HostRuntime) -> Result<(), Fail> {
             Some((event, _, count)) => is_read_alike(&header, &bytes, event, count),
             None => match quick_dsb::<u8>(&header, &bytes) {
                 Some((event, _, count)) => is_read_alike(&header, &bytes, event, count),
-                None => match quick_line::<u8>(&header, &bytes) {
+                None => match quick_tlbi::<u8>(&header, &bytes) {
                     Some((event, _, count)) => is_read_alike(&header, &bytes, event, count),
-                    None => false,
+                    None => match quick_line::<u8>(&header, &bytes) {
+                        Some((event, _, count)) => is_read_alike(&header, &bytes, event, count),
+                        None => false,
+                    },
                 },
             },
         };

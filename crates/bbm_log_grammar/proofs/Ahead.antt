@@ -239,8 +239,6 @@ pub word_tlbi : (s front a : List ℕ) → 5 ≤ length s → get_or s 0 0 ≡ 1
 word_tlbi s front a some h0 h1 h2 h3 h4 e =
     front_word (codes "tlbi ") s some (h0, (h1, (h2, (h3, (h4, tt))))) ∙ e
 
-pub ruleset words = (word_isb, word_tlbi)
-
 -- the operations of most TLBIs
 
 pub op_vae2is : (s : List ℕ) → 7 ≤ length s → get_or s 0 0 ≡ 32 → get_or s 1 0 ≡ 118 → get_or s 2 0 ≡ 97

@@ -11,7 +11,7 @@ ghost use Rattle.bbm_events.specs.declared.event.Item.TheVariants as item;
 ghost use Rattle.bbm_log_grammar.specs.Ahead.{StandsFirst};
 
 use crate::line::LabelText;
-use crate::quick::{decimal_ahead, hex_ahead, option_ahead, pe_ahead, whole_line};
+use crate::quick::{LEAST, decimal_ahead, hex_ahead, option_ahead, pe_ahead, whole_line};
 use crate::values::lock_of;
 use bbm_barriers::{Domain, Dsb, Types};
 use bbm_events::{Event, Header, has_op};
@@ -146,34 +146,6 @@ fn both_stages_op<'a>(bytes: &'a [u8]) -> Option<(TlbiOp, &'a [u8])>
     }
 }
 
-/// One of five further operations behind a space at the front, and the bytes behind it.
-#[inline(always)]
-#[tactic(auto, using(crate::proofs::Ahead::further_operations))]
-fn other_op<'a>(bytes: &'a [u8]) -> Option<(TlbiOp, &'a [u8])>
-    ensures { IfSome result (λ x. bytes.now ≡ 32 ∷ op_word x.0 ++ x.1.now) }
-{
-    match bytes {
-        [
-            b' ',
-            b'v',
-            b'm',
-            b'a',
-            b'l',
-            b'l',
-            b'e',
-            b'1',
-            b'i',
-            b's',
-            rest @ ..,
-        ] => Some((TlbiOp::Vmalle1is, rest)),
-        [b' ', b'a', b'l', b'l', b'e', b'2', b'i', b's', rest @ ..] => Some((
-            TlbiOp::Alle2is,
-            rest,
-        )),
-        _ => both_stages_op(bytes),
-    }
-}
-
 /// The TLBI with a further operation behind its word, and the bytes behind it.
 #[inline(always)]
 #[tactic(auto, using(crate::proofs::Ahead::tlbi_fields, crate::proofs::Ahead::tlbi_alone))]
@@ -184,7 +156,7 @@ fn other_tlbi<'a>(header: &Header, bytes: &'a [u8]) -> Option<(Event, &'a [u8])>
     let Some((pe, rest)) = pe_ahead(header, bytes) else {
         return None;
     };
-    let Some((op, rest)) = other_op(rest) else {
+    let Some((op, rest)) = both_stages_op(rest) else {
         return None;
     };
     if !has_op(header, op) {
@@ -386,7 +358,7 @@ fn rarer_event<'a>(header: &Header, bytes: &'a [u8]) -> Option<(Event, &'a [u8])
     }
 }
 
-/// An event that `event_ahead` has no answer for at the front, and the bytes behind it.
+/// An event of a line with a less usual word at the front, and the bytes behind it.
 #[inline(always)]
 #[tactic(auto, using(crate::proofs::Ahead::further_words))]
 fn further_event<'a>(header: &Header, bytes: &'a [u8]) -> Option<(Event, &'a [u8])>
@@ -431,6 +403,9 @@ pub(crate) fn further_line<'a>(
 ) -> Option<(Event, Option<LabelText<'a>>, usize)>
     ensures { IfSome result (λ x. StandsFirst header.now (item.Event x.0 x.1) x.2 bytes.now) }
 {
+    if bytes.len() < LEAST {
+        return None;
+    }
     let Some((event, rest)) = further_event(header, bytes) else {
         return None;
     };

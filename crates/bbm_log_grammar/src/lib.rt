@@ -32,7 +32,7 @@ pub use line::{LabelText, LineItem, kept_label};
 pub use machine::read_machine;
 pub use machine_writing::write_machine;
 pub use numbers::{read_decimal, read_hex};
-pub use quick::{quick_dsb, quick_line, quick_write};
+pub use quick::{quick_dsb, quick_line, quick_tlbi, quick_write};
 pub use spell::{add, add_decimal, add_hex};
 pub use values::page_of;
 pub use words::kind_named;

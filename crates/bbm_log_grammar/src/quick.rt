@@ -26,7 +26,7 @@ use bbm_tlbi_scope::TlbiOp;
 use std::simd::prelude::*;
 
 /// So many bytes have the longest event of these in them, and more: a write takes at most 42.
-const LEAST: usize = 64;
+pub(crate) const LEAST: usize = 64;
 
 /// The number of the lowest bit of the mask that is set, or of its lanes where none is.
 #[inline(always)]
@@ -289,9 +289,37 @@ fn op_ahead<'a>(bytes: &'a [u8]) -> Option<(TlbiOp, &'a [u8])>
     }
 }
 
+/// One of two operations without an operand behind a space at the front, and the bytes behind it.
+#[inline(always)]
+#[tactic(auto, using(crate::proofs::Ahead::further_operations))]
+fn op_alone_ahead<'a>(bytes: &'a [u8]) -> Option<(TlbiOp, &'a [u8])>
+    ensures { IfSome result (λ x. (bytes.now ≡ 32 ∷ op_word x.0 ++ x.1.now) × (has_operand x.0 ≡ false)) }
+{
+    match bytes {
+        [
+            b' ',
+            b'v',
+            b'm',
+            b'a',
+            b'l',
+            b'l',
+            b'e',
+            b'1',
+            b'i',
+            b's',
+            rest @ ..,
+        ] => Some((TlbiOp::Vmalle1is, rest)),
+        [b' ', b'a', b'l', b'l', b'e', b'2', b'i', b's', rest @ ..] => Some((
+            TlbiOp::Alle2is,
+            rest,
+        )),
+        _ => None,
+    }
+}
+
 /// The TLBI behind its word, and the bytes behind it.
 #[inline(always)]
-#[tactic(auto, using(crate::proofs::Ahead::tlbi_fields))]
+#[tactic(auto, using(crate::proofs::Ahead::tlbi_fields, crate::proofs::Ahead::tlbi_alone))]
 fn tlbi_ahead<'a>(header: &Header, bytes: &'a [u8]) -> Option<(Event, &'a [u8])>
     ensures { IfSome result (λ x. (116 ∷ 108 ∷ 98 ∷ 105 ∷ 32 ∷ bytes.now ≡ joined (event_fields x.0) ++ x.1.now)
         × (fits_heading header.now x.0 ≡ true)) }
@@ -299,12 +327,19 @@ fn tlbi_ahead<'a>(header: &Header, bytes: &'a [u8]) -> Option<(Event, &'a [u8])>
     let Some((pe, rest)) = pe_ahead(header, bytes) else {
         return None;
     };
-    let Some((op, rest)) = op_ahead(rest) else {
+    if let Some((op, rest)) = op_ahead(rest) {
+        let (xt, rest) = hex_ahead(rest)?;
+        return if has_op(header, op) {
+            Some((Event::Tlbi { pe, op, xt }, rest))
+        } else {
+            None
+        };
+    }
+    let Some((op, rest)) = op_alone_ahead(rest) else {
         return None;
     };
-    let (xt, rest) = hex_ahead(rest)?;
     if has_op(header, op) {
-        Some((Event::Tlbi { pe, op, xt }, rest))
+        Some((Event::Tlbi { pe, op, xt: 0 }, rest))
     } else {
         None
     }
@@ -349,10 +384,30 @@ fn dsb_begun<'a>(header: &Header, bytes: &'a [u8]) -> Option<(Event, &'a [u8])>
     }
 }
 
-/// Another event at the front, and the bytes behind it.
+/// The TLBI at the front, and the bytes behind it.
 #[inline(always)]
-#[tactic(auto, using(crate::proofs::Ahead::words))]
-fn event_ahead<'a>(header: &Header, bytes: &'a [u8]) -> Option<(Event, &'a [u8])>
+#[tactic(auto, using(crate::proofs::Ahead::word_tlbi))]
+fn tlbi_begun<'a>(header: &Header, bytes: &'a [u8]) -> Option<(Event, &'a [u8])>
+    ensures { IfSome result (λ x. (bytes.now ≡ joined (event_fields x.0) ++ x.1.now)
+        × (fits_heading header.now x.0 ≡ true)) }
+{
+    let (first, second) = first_pairs(bytes);
+    let word = first as u32 + second as u32 * 65536;
+    match bytes {
+        [_, _, _, _, b' ', rest @ ..] if word == TLBI => {
+            let Some((event, rest)) = tlbi_ahead(header, rest) else {
+                return None;
+            };
+            Some((event, rest))
+        }
+        _ => None,
+    }
+}
+
+/// The ISB at the front, and the bytes behind it.
+#[inline(always)]
+#[tactic(auto, using(crate::proofs::Ahead::word_isb))]
+fn isb_begun<'a>(header: &Header, bytes: &'a [u8]) -> Option<(Event, &'a [u8])>
     ensures { IfSome result (λ x. (bytes.now ≡ joined (event_fields x.0) ++ x.1.now)
         × (fits_heading header.now x.0 ≡ true)) }
 {
@@ -361,12 +416,6 @@ fn event_ahead<'a>(header: &Header, bytes: &'a [u8]) -> Option<(Event, &'a [u8])
     match bytes {
         [_, _, _, _, rest @ ..] if word == ISB => {
             let Some((event, rest)) = isb_ahead(header, rest) else {
-                return None;
-            };
-            Some((event, rest))
-        }
-        [_, _, _, _, b' ', rest @ ..] if word == TLBI => {
-            let Some((event, rest)) = tlbi_ahead(header, rest) else {
                 return None;
             };
             Some((event, rest))
@@ -404,7 +453,7 @@ fn near_line<'a>(header: &Header, bytes: &'a [u8]) -> Option<(Event, Option<Labe
     if bytes.len() < LEAST {
         return None;
     }
-    let Some((event, rest)) = event_ahead(header, bytes) else {
+    let Some((event, rest)) = isb_begun(header, bytes) else {
         return None;
     };
     whole_line(header, bytes, event, rest)
@@ -454,6 +503,23 @@ pub fn quick_dsb<'a, R>(
         return None;
     }
     let Some((event, rest)) = dsb_begun(header, bytes) else {
+        return None;
+    };
+    whole_line(header, bytes, event, rest)
+}
+
+/// The same of a TLBI: of one of five operations with an operand, or of two without.
+#[inline(always)]
+pub fn quick_tlbi<'a, R>(
+    header: &Header,
+    bytes: &'a [u8],
+) -> Option<(Event, Option<LabelText<'a>>, usize)>
+    ensures { IfSome result (λ x. StandsFirst header.now (item.Event x.0 x.1) x.2 bytes.now) }
+{
+    if bytes.len() < LEAST {
+        return None;
+    }
+    let Some((event, rest)) = tlbi_begun(header, bytes) else {
         return None;
     };
     whole_line(header, bytes, event, rest)

@@ -2,10 +2,10 @@
 use Rattle.bbm_session.proofs.Common.{Event, Heading, Verdict, Accepted, Refused, Malformed, Limit, Kept, Stop, Turn}
 use Rattle.bbm_session.proofs.Common.{CertifiedReadFor, certified_lines, Fold, Halts, Ending, ending_after, ending_from}
 use Rattle.bbm_session.proofs.Common.{ending_at, passes_to, lines_from, header_by, IsStart, IsInside, IsEnd, Certifies}
-use Rattle.bbm_session.proofs.Common.{certifying, ReadAs, MayTakeLine, TakesLine, KnowsThat}
+use Rattle.bbm_session.proofs.Common.{certifying, ReadAs, MayTakeLine, TakesLine}
 use Rattle.bbm_rules.proofs.Common.{◌≡◌, ℕ, suc, ◌<◌, Bool, true, false, if◌then◌else◌, List, [], ◌∷◌, length}
 use Rattle.bbm_rules.proofs.Common.{reverse, Option, Some, None, option_and_then, refl, ap, sym, ◌∙◌, arith, subst}
-use Rattle.bbm_rules.proofs.Common.{nat_le, Result, Ok, Err, ◌==◌, ◌⊎◌, inl, inr, Contains, not-suc-le-zero, Claim}
+use Rattle.bbm_rules.proofs.Common.{nat_le, Result, Ok, Err, ◌==◌, ◌⊎◌, inl, inr, contains_none, Claim}
 use Rattle.bbm_rules.proofs.Common.{Item, heading_ok, Text, is_too_long, text_of}
 use Rattle.bbm_events.specs.declared.certificate.ClaimItem.{ClaimItem}
 use Rattle.bbm_events.specs.declared.certificate.ClaimItem.TheVariants as claim_item
@@ -31,11 +31,8 @@ use Rattle.bbm_certificate.specs.CertificateReading as read
 use Rattle.bbm_session.specs.Certificates.{certified_leads}
 use Rattle.bbm_session.specs.Fold.{turned_by, end_by}
 use Rattle.bbm_session.specs.Folds.{TurnsRead, certified_by, whole_read}
-use Rattle.bbm_session.proofs.Judgements.{named_line, read_for}
+use Rattle.bbm_session.proofs.Judgements.{StopsAtLine, named_line, read_for, stops-knows, stops-named}
 use Rattle.bbm_session.proofs.ReadBytes.{ByName, Named, if-by, reaches, read-by}
-
-contains-none : (e : Event) → Contains [] e → ⊥
-contains-none e there = not-suc-le-zero there.1
 
 -- ---- the parts of a text
 
@@ -57,10 +54,7 @@ certifying-end heading h claims = record { line = λ n l. refl; long = λ n. ref
 -- ---- a line stops reading only where it is malformed or reaches a limit, and it is named then
 
 abbrev Brief : ℕ → LineTurned → Type 0
-Brief n (LineStops (Malformed line cause)) = line ≡ n
-Brief n (LineStops (Limit line which)) = line ≡ n
-Brief n (LineStops (Accepted events)) = ⊥
-Brief n (LineStops (Refused line rule at label)) = ⊥
+Brief n (LineStops verdict) = StopsAtLine n verdict
 Brief n (GoesOn next) = Unit {0}
 
 brief_if : (b : Bool) (n : ℕ) (s t : LineTurned) → Brief n s → Brief n t → Brief n (if b then s else t)
@@ -91,12 +85,6 @@ brief_line n (AtEvents heading h) line = brief_item n heading h (item_of heading
 brief_line n (BehindLog heading h) line = brief_first n heading h (certificate_of line)
 brief_line n (AtClaims heading h claims) line = brief_claim n heading h claims (claim_of heading line)
 brief_line n (AtEnd heading h claims) line = refl
-
-brief-knows : (known : Type 0) (n : ℕ) (v : Verdict) → Brief n (LineStops v) → KnowsThat known v
-brief-knows known n (Accepted events) brief = absurd brief
-brief-knows known n (Refused line rule at label) brief = absurd brief
-brief-knows known n (Malformed line cause) brief = tt
-brief-knows known n (Limit line which) brief = tt
 
 -- ---- a line
 
@@ -146,7 +134,7 @@ module _ (heading : Heading) (kept kept' : Kept) (n : ℕ) (line : List ℕ) whe
   certified-at (Err (line_fault.Decided v)) r turns sound number sounds counts listed says =
       let brief = subst (λ (t : LineTurned). Brief n t) says (brief_line n Old line) in
       subst At (sym turns)
-      (ap certified_by says, brief-knows (Certifies kept' certifying heading Old n) n v brief)
+      (ap certified_by says, stops-knows (Certifies kept' certifying heading Old n) n v brief)
   certified-at (Err line_fault.NoMemory) r turns sound number sounds counts listed says = subst At (sym turns) says
 
 pub certified-takes : (heading : Heading) (kept kept' : Kept) (fold : Fold Reached Said) (p : Reached) (n : ℕ) (line : List ℕ) (t : Result ReadTurn LineFault) (r : Result Turn Stop)
@@ -176,7 +164,7 @@ certifies-none heading kept ok begun none no_claims =
     let at = empty-at heading kept.part kept.events.items kept.claims.items begun none in
     let empty : AreRead heading [] [] = record {
       header = ok;
-      events = λ e there. absurd (contains-none e there);
+      events = λ e there. absurd (contains_none e there);
       few_events = omega arith;
       few_claims = omega arith;
     } in
@@ -264,16 +252,10 @@ abbrev named_said : Said → Option ℕ
 named_said (Stopped verdict) = named_line verdict
 named_said (Whole heading h claims) = None
 
-brief-named : (n : ℕ) (v : Verdict) → Brief n (LineStops v) → named_line v ≡ Some n
-brief-named n (Accepted events) brief = absurd brief
-brief-named n (Refused line rule at label) brief = absurd brief
-brief-named n (Malformed line cause) brief = ap Some brief
-brief-named n (Limit line which) brief = ap Some brief
-
 names_said : (n : ℕ) (t : LineTurned) (v : Said) → Brief n t → certified_by t ≡ Halts v → named_said v ≡ Some n
 names_said n (LineStops verdict) v brief is =
     let same : Stopped verdict ≡ v = cc in
-    subst (λ (w : Said). named_said w ≡ Some n) same (brief-named n verdict brief)
+    subst (λ (w : Said). named_said w ≡ Some n) same (stops-named n verdict brief)
 names_said n (GoesOn next) v brief is = cc
 
 names_long : (n : ℕ) (p : Reached) → named_line (too_long_at n p) ≡ Some n
@@ -317,7 +299,7 @@ abbrev pub NotAccepted : Said → Type 0
 NotAccepted (Stopped (Accepted events)) = ⊥
 NotAccepted _ = Unit {0}
 
-stops-none : (n : ℕ) (v : Verdict) → Brief n (LineStops v) → NotAccepted (Stopped v)
+stops-none : (n : ℕ) (v : Verdict) → StopsAtLine n v → NotAccepted (Stopped v)
 stops-none n (Accepted events) brief = brief
 stops-none n (Refused line rule at label) brief = tt
 stops-none n (Malformed line cause) brief = tt

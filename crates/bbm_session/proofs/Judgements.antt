@@ -281,6 +281,25 @@ named_line (Refused line rule at label) = Some line
 named_line (Malformed line cause) = Some line
 named_line (Limit line which) = Some line
 
+-- line n decides so, before any event is judged
+abbrev pub StopsAtLine : ℕ → Verdict → Type 0
+StopsAtLine n (Malformed line cause) = line ≡ n
+StopsAtLine n (Limit line which) = line ≡ n
+StopsAtLine n (Accepted events) = ⊥
+StopsAtLine n (Refused line rule at label) = ⊥
+
+pub stops-knows : (known : Type 0) (n : ℕ) (v : Verdict) → StopsAtLine n v → KnowsThat known v
+stops-knows known n (Accepted events) stops = absurd stops
+stops-knows known n (Refused line rule at label) stops = absurd stops
+stops-knows known n (Malformed line cause) stops = tt
+stops-knows known n (Limit line which) stops = tt
+
+pub stops-named : (n : ℕ) (v : Verdict) → StopsAtLine n v → named_line v ≡ Some n
+stops-named n (Accepted events) stops = absurd stops
+stops-named n (Refused line rule at label) stops = absurd stops
+stops-named n (Malformed line cause) stops = ap Some stops
+stops-named n (Limit line which) stops = ap Some stops
+
 up_to : (line : ℕ) (read : Text) (unread : List ℕ) → ByName 1 (Some line) read unread → UpTo line read unread
 up_to line read unread (inl (count, none)) = inl (omega (arith, count), none)
 up_to line read unread (inr (count, end)) = inr (omega (arith, count), end)

@@ -1,8 +1,8 @@
 -- The fold that keeps the steps of a run: its parts, its lines, and that what it says is what comes of the run.
-use Rattle.bbm_session.proofs.Common.{Heading, Verdict, Accepted, Refused, Malformed, Limit, Step, Stop, Turn, Fold}
+use Rattle.bbm_session.proofs.Common.{Heading, Step, Stop, Turn, Fold}
 use Rattle.bbm_session.proofs.Common.{Halts, Ending, ending_after, ending_from, ending_at, passes_to, lines_from}
 use Rattle.bbm_session.proofs.Common.{header_by, IsStart, IsInside, IsEnd, Follows, following, ReadAs, RunReadFor}
-use Rattle.bbm_session.proofs.Common.{run_lines, MayTakeLine, TakesLine, KnowsThat}
+use Rattle.bbm_session.proofs.Common.{run_lines, MayTakeLine, TakesLine}
 use Rattle.bbm_rules.proofs.Common.{◌≡◌, ℕ, suc, ◌<◌, ◌≤◌, ◌+◌, Bool, true, false, if◌then◌else◌, List, [], ◌∷◌, length}
 use Rattle.bbm_rules.proofs.Common.{reverse, Option, Some, None, option_and_then, refl, ap, sym, ◌∙◌, arith, subst}
 use Rattle.bbm_rules.proofs.Common.{nat_le, Result, Ok, Err, ◌==◌, ◌⊎◌, inl, inr, length-reverse, Item, MachineLine}
@@ -24,7 +24,7 @@ use Rattle.bbm_follow.specs.Following as run
 use Rattle.bbm_session.specs.Fold.{turned_by, end_by}
 use Rattle.bbm_session.specs.Folds.{Turns, kept_by}
 use Rattle.bbm_session.specs.Runs.{run_leads}
-use Rattle.bbm_session.proofs.Judgements.{named_line, read_for}
+use Rattle.bbm_session.proofs.Judgements.{StopsAtLine, named_line, read_for, stops-knows, stops-named}
 use Rattle.bbm_session.proofs.ReadBytes.{ByName, Named, if-by, reaches, read-by}
 
 -- ---- the parts of a run
@@ -45,10 +45,7 @@ following-end heading steps = record { line = λ n l. refl; long = λ n. refl; n
 -- ---- a line stops reading only where it is malformed or reaches a limit, and it is named then
 
 abbrev Brief : ℕ → RunTurned → Type 0
-Brief n (RunStops (Malformed line cause)) = line ≡ n
-Brief n (RunStops (Limit line which)) = line ≡ n
-Brief n (RunStops (Accepted events)) = ⊥
-Brief n (RunStops (Refused line rule at label)) = ⊥
+Brief n (RunStops verdict) = StopsAtLine n verdict
 Brief n (GoesOn next) = Unit {0}
 
 brief_if : (b : Bool) (n : ℕ) (s t : RunTurned) → Brief n s → Brief n t → Brief n (if b then s else t)
@@ -77,12 +74,6 @@ brief_line n (AtSteps heading steps) line =
     brief_if (is_machine line) n _ _ (brief_machine n heading steps (machine_of heading line)) (brief_item n heading steps (item_of heading line))
 brief_line n (AtEnd heading steps) line = refl
 
-brief-knows : (known : Type 0) (n : ℕ) (v : Verdict) → Brief n (RunStops v) → KnowsThat known v
-brief-knows known n (Accepted events) brief = absurd brief
-brief-knows known n (Refused line rule at label) brief = absurd brief
-brief-knows known n (Malformed line cause) brief = tt
-brief-knows known n (Limit line which) brief = tt
-
 -- ---- a line
 
 module _ (heading : Heading) (kept kept' : List Step) (n : ℕ) (line : List ℕ) where
@@ -110,7 +101,7 @@ module _ (heading : Heading) (kept kept' : List Step) (n : ℕ) (line : List ℕ
   followed-at (Err (line_fault.Decided v)) r turns number few few' more says =
       let brief = subst (λ (t : RunTurned). Brief n t) says (brief_line n (AtSteps heading (reverse kept)) line) in
       subst At (sym turns)
-      (ap kept_by says, brief-knows (Follows kept' following heading (AtSteps heading (reverse kept)) n) n v brief)
+      (ap kept_by says, stops-knows (Follows kept' following heading (AtSteps heading (reverse kept)) n) n v brief)
   followed-at (Err line_fault.NoMemory) r turns number few few' more says = subst At (sym turns) says
 
 pub followed-takes : (heading : Heading) (kept kept' : List Step) (fold : Fold Reached RunSays) (p : Reached) (n : ℕ) (line : List ℕ) (t : Result RunTurn LineFault) (r : Result Turn Stop)
@@ -171,16 +162,10 @@ abbrev named_run : RunSays → Option ℕ
 named_run (Stopped verdict) = named_line verdict
 named_run (Whole heading steps) = None
 
-brief-named : (n : ℕ) (v : Verdict) → Brief n (RunStops v) → named_line v ≡ Some n
-brief-named n (Accepted events) brief = absurd brief
-brief-named n (Refused line rule at label) brief = absurd brief
-brief-named n (Malformed line cause) brief = ap Some brief
-brief-named n (Limit line which) brief = ap Some brief
-
 names_said : (n : ℕ) (t : RunTurned) (v : RunSays) → Brief n t → kept_by t ≡ Halts v → named_run v ≡ Some n
 names_said n (RunStops verdict) v brief is =
     let same : Stopped verdict ≡ v = cc in
-    subst (λ (w : RunSays). named_run w ≡ Some n) same (brief-named n verdict brief)
+    subst (λ (w : RunSays). named_run w ≡ Some n) same (stops-named n verdict brief)
 names_said n (GoesOn next) v brief is = cc
 
 names_long : (n : ℕ) (p : Reached) → named_line (too_long_at n p) ≡ Some n

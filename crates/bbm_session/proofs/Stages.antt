@@ -20,7 +20,7 @@ use Rattle.bbm_events.specs.Lines.{header_of}
 use Rattle.bbm_session.specs.declared.line.Piece.{Piece}
 use Rattle.bbm_session.specs.declared.line.Piece.TheVariants as piece
 use Rattle.bbm_session.specs.Fold.{turned_by, end_by}
-use Rattle.bbm_session.specs.Pieces.{Takes, Finds, TakesFound}
+use Rattle.bbm_session.specs.Pieces.{Takes}
 use Rattle.bbm_session.specs.Stages.{Passed, Continues, Advances, Reaches, Closes}
 use Rattle.bbm_texts.specs.Known.{EndsThere}
 use Rattle.bbm_session.proofs.Texts.{plain-head, text_of-line, text_of-plain, text_of-prefix, bytes_of-text_of}
@@ -57,11 +57,6 @@ plain-more [] b h other = grind (arith, nat_tests)
 plain-more (x ∷ xs) b h other =
     let parts = plain-head x xs h in
     rw (parts.0, plain-more xs b parts.1 other) refl
-
--- a line that was found and then taken
-pub found-takes : (whole : Option ℕ) (line : List ℕ) (old mid new : Option (List ℕ)) → Finds piece.Line whole line old mid → TakesFound whole line mid new → Takes piece.Line line old new
-found-takes None line old mid new found taken = found ∙ ap (preceded (line ++ 10 ∷ [])) (sym taken)
-found-takes (Some count) line old mid new found taken = sym found ∙ taken
 
 preceded-twice : (a b : List ℕ) (rest : Option (List ℕ)) → preceded a (preceded b rest) ≡ preceded (a ++ b) rest
 preceded-twice a b None = refl

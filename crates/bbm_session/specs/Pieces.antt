@@ -1,5 +1,5 @@
 -- What one call takes from the source. No public contract cites these words.
-use Rattle.std.specs.Prelude.{◌≡◌, ◌≢◌, ℕ, ◌+◌, ◌≤◌, List, [], ◌∷◌, ◌++◌, length, Option, Some, None, false}
+use Rattle.std.specs.Prelude.{◌≡◌, ◌≢◌, ℕ, ◌+◌, ◌≤◌, List, [], ◌∷◌, ◌++◌, length, Option, false}
 use Rattle.bbm_io.specs.Faults.{Rose}
 use Rattle.bbm_io.specs.Flow.{preceded, AtEnd}
 use Rattle.bbm_io.specs.Reading.{Reading}
@@ -33,21 +33,3 @@ Counted Line faults faults' = faults' ≡ faults
 Counted Rest faults faults' = faults' ≡ faults
 Counted TooLong faults faults' = faults' ≡ faults
 Counted ReadFault faults faults' = Rose faults faults'
-
--- what was taken when a piece was found: nothing yet of a line that lies whole at hand
-abbrev pub Finds : Piece → Option ℕ → List ℕ → Option (List ℕ) → Option (List ℕ) → Type 0
-Finds Line None line old new = Takes Line line old new
-Finds Line (Some count) line old new = new ≡ old
-Finds Rest whole line old new = Takes Rest line old new
-Finds TooLong whole line old new = Takes TooLong line old new
-Finds ReadFault whole line old new = Takes ReadFault line old new
-
--- the line that was found is taken, where it was still at hand
-abbrev pub TakesFound : Option ℕ → List ℕ → Option (List ℕ) → Option (List ℕ) → Type 0
-TakesFound None line old new = new ≡ old
-TakesFound (Some count) line old new = old ≡ preceded (line ++ 10 ∷ []) new
-
--- how many bytes of a found line are still to be taken, with its newline
-abbrev pub awaited : Option ℕ → ℕ
-awaited None = 0
-awaited (Some count) = count + 1

@@ -1,8 +1,6 @@
 //! The events of a log, judged one after another.
 
-ghost use Rattle.std.specs.Prelude.{◌≡◌, ◌<◌, ◌∷◌, ℕ, suc, List, take, Option, Some, None, Ok, Err, ok_or, true, false};
-ghost use Rattle.std.specs.Prelude.{IfSome, OnSome, IfOk};
-ghost use Rattle.bbm_io.specs.Reading.{LiesWhole};
+ghost use Rattle.std.specs.Prelude.{◌≡◌, ◌<◌, ◌∷◌, ℕ, suc, List, Option, Some, None, Err, ok_or, true, false, IfOk};
 ghost use Rattle.bbm_regimes.specs.declared.regime.Which.{Which as WhichOf};
 ghost use Rattle.bbm_events.specs.declared.event.Event.{Event};
 ghost use Rattle.bbm_events.specs.Fits.{fits_heading, item_fits};
@@ -10,47 +8,24 @@ ghost use Rattle.bbm_events.specs.Heading.{Heading};
 ghost use Rattle.bbm_rules.specs.Answers.{Answers, MayTake};
 ghost use Rattle.bbm_rules.specs.Broken.{Breach};
 ghost use Rattle.bbm_rules.specs.Claims.{Patterns};
-ghost use Rattle.bbm_rules.specs.Outcome.{Progress, AtEvents, GoesOn, is_reached, limit_after, after_event};
-ghost use Rattle.bbm_rules.specs.Outcome.{after_item};
+ghost use Rattle.bbm_rules.specs.Outcome.{AtEvents, GoesOn, limit_after, after_event, after_item};
 ghost use Rattle.bbm_log_grammar.specs.InLine.{read_in};
-ghost use Rattle.bbm_session.specs.Fold.{Fold};
-ghost use Rattle.bbm_session.specs.Folds.{Judged, Judges, event_needs, item_needs};
-ghost use Rattle.bbm_session.specs.Stages.{StopsAt, MayJudge, JudgesLine, MayTakeLine, TakesLine};
+ghost use Rattle.bbm_session.specs.Folds.{event_needs, item_needs};
+ghost use Rattle.bbm_session.specs.Stages.{StopsAt, MayJudge, JudgesLine};
 ghost use Rattle.bbm_texts.specs.Known.{Keeps};
 ghost use Rattle.bbm_session.specs.Refused.{event_in};
 
-use crate::reading::{limit, stop_limit, stop_malformed};
+use crate::reading::{stop_limit, stop_malformed};
 use crate::stop::{Stop, Turn};
 use crate::taker::Taker;
 use bbm_events::{Event, Header, Malformed};
 use bbm_log_grammar::{
-    LabelText, LineItem, kept_label, quick_dsb, quick_line, quick_write, read_line,
+    LabelText, LineItem, kept_label, quick_dsb, quick_line, quick_tlbi, quick_write, read_line,
 };
 use bbm_regimes::Which;
 use bbm_rules::{Checker, Limits, StepFault, Verdict};
 use bbm_texts::Decision;
 use std::alloc::Global;
-
-/// Why reading stops at an event with this label that the checker didn't take.
-fn refusal(number: u64, event: &Event, label: &Option<LabelText>, fault: StepFault) -> Stop
-    ensures stops { (breach : Option Breach) (which : Option WhichOf) → Answers (Err fault) breach which
-        → StopsAt result number event.now label.now breach which }
-    ensures want { result ≡ Stop.NoMemory → fault ≡ StepFault.NoMemory }
-{
-    match fault {
-        StepFault::Broken(rule, at) => Stop::Decided(Decision {
-            verdict: Verdict::Refused {
-                line: number,
-                rule,
-                at,
-                label: kept_label(label),
-            },
-            refused: Some(*event),
-        }),
-        StepFault::Limit(which) => limit(number, which),
-        StepFault::NoMemory => Stop::NoMemory,
-    }
-}
 
 /// Stops reading at an event with this label that the checker didn't take.
 #[cold]
@@ -60,7 +35,21 @@ fn refuse(number: u64, event: &Event, label: Option<LabelText>, fault: StepFault
         → StopsAt stop.new number event.now label.entry breach which }
     ensures want { stop.new ≡ Stop.NoMemory → fault ≡ StepFault.NoMemory }
 {
-    *stop = refusal(number, event, &label, fault);
+    match fault {
+        StepFault::Broken(rule, at) => {
+            *stop = Stop::Decided(Decision {
+                verdict: Verdict::Refused {
+                    line: number,
+                    rule,
+                    at,
+                    label: kept_label(&label),
+                },
+                refused: Some(*event),
+            });
+        }
+        StepFault::Limit(which) => stop_limit(number, which, stop),
+        StepFault::NoMemory => *stop = Stop::NoMemory,
+    }
 }
 
 /// The limit that the last of so many events, on this line, reaches.
@@ -162,26 +151,6 @@ fn judge_item<C: Checker>(
     }
 }
 
-/// What a line after the header decides.
-fn judge_line<C: Checker>(
-    judging: &mut Judging<C>,
-    number: u64,
-    header: &Header,
-    line: &[u8],
-    stop: &mut Stop,
-) -> Option<Turn>
-    requires { MayTakeLine (Judges (C.frugal judging.old.checker) (C.stands judging.old.checker) judging.old.limits)
-        header.now number }
-    ensures takes { (fold : Fold Progress Judged) (p : Progress)
-        → Judges (C.frugal judging.old.checker) (C.stands judging.old.checker) judging.old.limits fold header.now p
-        number
-        → TakesLine fold (Judges (C.frugal judging.new.checker) (C.stands judging.new.checker) judging.new.limits fold
-        header.now) number p line.now (ok_or result stop.new) }
-    ensures few { result ≡ Some Turn.Taken → number < 4294967295 }
-{
-    judge_item(judging, number, read_line::<C>(header, line), stop)
-}
-
 /// Whether an event on this line may reach a limit. Where there is a limit of events, any line may.
 #[inline(always)]
 fn may_reach(limits: &Limits, number: u64) -> bool
@@ -215,42 +184,6 @@ fn take_event<C: Checker>(judging: &mut Judging<C>, number: u64, event: Event) -
     }
 }
 
-/// Takes a line that lies whole at the front of these bytes, if it is one of those that most logs have and decides
-/// nothing: the number of bytes before its newline. None: nothing was taken. A write and a DSB have a way of their own,
-/// on which it is known which event it is.
-fn take_front<C: Checker>(
-    judging: &mut Judging<C>,
-    number: u64,
-    header: &Header,
-    bytes: &[u8],
-) -> Option<usize>
-    requires { MayTakeLine (Judges (C.frugal judging.old.checker) (C.stands judging.old.checker) judging.old.limits)
-        header.now number }
-    ensures line { IfSome result (λ count. LiesWhole count bytes.now) }
-    ensures takes { IfSome result (λ count. (fold : Fold Progress Judged) (p : Progress)
-        → Judges (C.frugal judging.old.checker) (C.stands judging.old.checker) judging.old.limits fold header.now p
-        number
-        → TakesLine fold (Judges (C.frugal judging.new.checker) (C.stands judging.new.checker) judging.new.limits fold
-        header.now) number p (take count bytes.now) (Ok Turn.Taken)) }
-    ensures few { OnSome result (number < 4294967295) }
-    ensures untaken { result ≡ None → (fold : Fold Progress Judged) (p : Progress)
-        → Judges (C.frugal judging.old.checker) (C.stands judging.old.checker) judging.old.limits fold header.now p
-        number
-        → Judges (C.frugal judging.new.checker) (C.stands judging.new.checker) judging.new.limits fold header.now p
-        number }
-{
-    if let Some((event, _label, count)) = quick_write::<C>(header, bytes) {
-        return take_event(judging, number, event).then_some(count);
-    }
-    if let Some((event, _label, count)) = quick_dsb::<C>(header, bytes) {
-        return take_event(judging, number, event).then_some(count);
-    }
-    match quick_line::<C>(header, bytes) {
-        Some((event, _label, count)) => take_event(judging, number, event).then_some(count),
-        None => None,
-    }
-}
-
 impl<C: Checker> Taker for Judging<C> {
     ghost use Rattle.bbm_rules.specs.Outcome.{Progress};
     ghost use Rattle.bbm_session.specs.Folds.{Judged, Judges};
@@ -262,11 +195,24 @@ impl<C: Checker> Taker for Judging<C> {
     ghost stands = { λ judging. Judges (C.frugal judging.checker) (C.stands judging.checker) judging.limits };
 
     fn take(&mut self, number: u64, header: &Header, line: &[u8], stop: &mut Stop) -> Option<Turn> {
-        judge_line(self, number, header, line, stop)
+        judge_item(self, number, read_line::<C>(header, line), stop)
     }
 
+    // A write, a DSB and a TLBI have a way of their own, on which it is known which event it is.
     #[inline(always)]
     fn take_ahead(&mut self, number: u64, header: &Header, bytes: &[u8]) -> Option<usize> {
-        take_front(self, number, header, bytes)
+        if let Some((event, _label, count)) = quick_write::<C>(header, bytes) {
+            return take_event(self, number, event).then_some(count);
+        }
+        if let Some((event, _label, count)) = quick_dsb::<C>(header, bytes) {
+            return take_event(self, number, event).then_some(count);
+        }
+        if let Some((event, _label, count)) = quick_tlbi::<C>(header, bytes) {
+            return take_event(self, number, event).then_some(count);
+        }
+        match quick_line::<C>(header, bytes) {
+            Some((event, _label, count)) => take_event(self, number, event).then_some(count),
+            None => None,
+        }
     }
 }

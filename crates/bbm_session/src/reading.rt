@@ -6,7 +6,7 @@ ghost use Rattle.bbm_session.specs.Fold.{Fold, IsStart, IsInside, IsEnd, alone};
 ghost use Rattle.bbm_session.specs.Stages.{Shrinks, Ready, IsBrief, ReadsHeader, Starts, MayGoOn, Advances, Reaches};
 ghost use Rattle.bbm_session.specs.Stages.{Closes, Ends};
 
-use crate::line::{Piece, find_piece, next_piece, take_found};
+use crate::line::{Piece, next_piece};
 use crate::stop::{Stop, Turn, decided};
 use crate::taker::Taker;
 use bbm_events::{Header, Malformed};
@@ -20,13 +20,6 @@ pub fn malformed(line: u64, cause: Malformed) -> Stop
     ensures { result ≡ Stop.Decided (alone (Verdict.Malformed line cause)) }
 {
     decided(Verdict::Malformed { line, cause })
-}
-
-/// Why reading stops at a line that reaches a limit.
-pub fn limit(line: u64, which: Which) -> Stop
-    ensures { result ≡ Stop.Decided (alone (Verdict.Limit line which)) }
-{
-    decided(Verdict::Limit { line, which })
 }
 
 /// Stops reading at a malformed line.
@@ -44,7 +37,7 @@ pub fn stop_malformed(line: u64, cause: Malformed, stop: &mut Stop)
 pub fn stop_limit(line: u64, which: Which, stop: &mut Stop)
     ensures { stop.new ≡ Stop.Decided (alone (Verdict.Limit line which)) }
 {
-    *stop = limit(line, which);
+    *stop = decided(Verdict::Limit { line, which });
 }
 
 /// What line 1 decides, by what was read of it.
@@ -71,13 +64,15 @@ pub fn header_line<T: Taker, S: Source>(lines: &mut Lines, log: &mut S) -> Resul
     match next_piece(lines, log) {
         Piece::Line => judge_header(read_header(lines.bytes())),
         Piece::Rest => Err(malformed(1, Malformed::NoEnd)),
-        Piece::TooLong => Err(limit(1, Which::LineBytes)),
+        Piece::TooLong => Err(decided(Verdict::Limit {
+            line: 1,
+            which: Which::LineBytes,
+        })),
         Piece::ReadFault => Err(Stop::ReadFault),
     }
 }
 
-/// Reads line number `number`, after the header, whatever line it is. The line is taken in both arms, which leaves one test
-/// for each line.
+/// Reads line number `number`, after the header, whatever line it is. None: reading stops, and `stop` says why.
 #[inline(never)]
 fn any_line<T: Taker, S: Source>(
     number: u64,
@@ -98,18 +93,8 @@ fn any_line<T: Taker, S: Source>(
     ensures shrinks { Shrinks 201 (S.left log.old) (S.left log.new) }
     ensures few { result ≡ Some Turn.Taken → number < 4294967295 }
 {
-    let whole = lines.at_hand(log);
-    match find_piece(whole, lines, log) {
-        Piece::Line => match taker.take(number, header, lines.shown(whole, log), stop) {
-            Some(turn) => {
-                take_found(whole, lines, log);
-                Some(turn)
-            }
-            None => {
-                take_found(whole, lines, log);
-                None
-            }
-        },
+    match next_piece(lines, log) {
+        Piece::Line => taker.take(number, header, lines.bytes(), stop),
         Piece::Rest => {
             stop_malformed(number, Malformed::NoEnd, stop);
             None
@@ -125,36 +110,9 @@ fn any_line<T: Taker, S: Source>(
     }
 }
 
-/// Reads line number `number`, after the header. None: reading stops, and `stop` says why: so no verdict is moved about
-/// for a line that decides nothing. A line that most logs have, and that stops nothing, is taken at once, and any other by
-/// a function of its own.
-fn log_line<T: Taker, S: Source>(
-    number: u64,
-    header: &Header,
-    taker: &mut T,
-    lines: &mut Lines,
-    log: &mut S,
-    stop: &mut Stop,
-) -> Option<Turn>
-    requires stands { MayGoOn (T.stands taker.old) header.now number }
-    requires number { number ≤ 4294967295 }
-    requires ready { Ready lines.old number }
-    ensures ready { OnSome result (Ready lines.new (number + 1)) }
-    ensures advances { (fold : Fold T.Reached T.Said) (p : T.Reached) → IsInside fold p
-        → T.stands taker.old fold header.now p number
-        → Advances fold (T.stands taker.new fold header.now) number p (ok_or result stop.new)
-        (S.left log.old) (S.left log.new) (S.faults log.old) (S.faults log.new) }
-    ensures shrinks { Shrinks 201 (S.left log.old) (S.left log.new) }
-    ensures few { result ≡ Some Turn.Taken → number < 4294967295 }
-{
-    if let Some(count) = taker.take_ahead(number, header, log.ahead()) {
-        lines.take(count, log);
-        return Some(Turn::Taken);
-    }
-    any_line(number, header, taker, lines, log, stop)
-}
-
-/// Reads the lines from line 2 to the `end` line; answers the number of the line behind it.
+/// Reads the lines from line 2 to the `end` line; answers the number of the line behind it. A line that most logs have,
+/// and that stops nothing, is taken at once, and any other by a function of its own, which writes why reading stops to
+/// `stop`: so no verdict is moved about for a line that decides nothing.
 fn log_lines<T: Taker, S: Source>(
     header: &Header,
     taker: &mut T,
@@ -174,10 +132,15 @@ fn log_lines<T: Taker, S: Source>(
     let mut number = 2;
     let mut stop = Stop::ReadFault;
     'lines: loop {
-        match log_line(number, header, taker, lines, log, &mut stop) {
-            Some(Turn::Taken) => number += 1,
-            Some(Turn::End) => return Ok(number + 1),
-            None => return Err(stop),
+        if let Some(count) = taker.take_ahead(number, header, log.ahead()) {
+            lines.take(count, log);
+            number += 1;
+        } else {
+            match any_line(number, header, taker, lines, log, &mut stop) {
+                Some(Turn::Taken) => number += 1,
+                Some(Turn::End) => return Ok(number + 1),
+                None => return Err(stop),
+            }
         }
     }
 }

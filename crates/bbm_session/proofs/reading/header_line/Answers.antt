@@ -1,8 +1,7 @@
 use Rattle.bbm_session.proofs.Common.{ReadsHeader}
 use Rattle.bbm_rules.proofs.Common.{◌≡◌, ap, ◌∙◌, subst}
 use Rattle.bbm_events.specs.Lines.{header_of}
-use Rattle.bbm_session.specs.declared.line.Piece.TheVariants as piece
-use Rattle.bbm_session.proofs.Stages.{header-starts, header-rest, header-long, header-fault, takes-shrinks}
+use Rattle.bbm_session.proofs.Stages.{header-starts, header-rest, header-long, header-fault}
 use Rattle.bbm_session.proofs.reading.header_line.Goals as goal
 
 pub returns-in-Line-clause-starts : goal.returns-in-Line-clause-starts
@@ -18,20 +17,8 @@ returns-in-Rest-clause-starts g c = λ fold start begun is.
 
 pub returns-in-TooLong-clause-starts : goal.returns-in-TooLong-clause-starts
 returns-in-TooLong-clause-starts g c = λ fold start begun is.
-    rw c.limit.ensures (header-long fold start begun is c.next_piece.new.lines.bytes _ _ _ _ c.in-TooLong.ensures.plain c.in-TooLong.ensures.takes c.in-TooLong.ensures.counted)
+    rw c.decided.ensures (header-long fold start begun is c.next_piece.new.lines.bytes _ _ _ _ c.in-TooLong.ensures.plain c.in-TooLong.ensures.takes c.in-TooLong.ensures.counted)
 
 pub returns-in-ReadFault-clause-starts : goal.returns-in-ReadFault-clause-starts
 returns-in-ReadFault-clause-starts g c = λ fold start begun is.
     header-fault fold start c.next_piece.new.lines.bytes _ _ _ _ c.in-ReadFault.ensures.plain c.in-ReadFault.ensures.within c.in-ReadFault.ensures.takes c.in-ReadFault.ensures.counted
-
-pub returns-in-Line-clause-shrinks : goal.returns-in-Line-clause-shrinks
-returns-in-Line-clause-shrinks g c = takes-shrinks piece.Line c.next_piece.new.lines.bytes _ _ c.in-Line.ensures.within c.in-Line.ensures.takes
-
-pub returns-in-Rest-clause-shrinks : goal.returns-in-Rest-clause-shrinks
-returns-in-Rest-clause-shrinks g c = takes-shrinks piece.Rest c.next_piece.new.lines.bytes _ _ c.in-Rest.ensures.within c.in-Rest.ensures.takes
-
-pub returns-in-TooLong-clause-shrinks : goal.returns-in-TooLong-clause-shrinks
-returns-in-TooLong-clause-shrinks g c = takes-shrinks piece.TooLong c.next_piece.new.lines.bytes _ _ c.in-TooLong.ensures.within c.in-TooLong.ensures.takes
-
-pub returns-in-ReadFault-clause-shrinks : goal.returns-in-ReadFault-clause-shrinks
-returns-in-ReadFault-clause-shrinks g c = takes-shrinks piece.ReadFault c.next_piece.new.lines.bytes _ _ c.in-ReadFault.ensures.within c.in-ReadFault.ensures.takes

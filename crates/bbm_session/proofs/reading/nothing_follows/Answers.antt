@@ -1,6 +1,5 @@
 use Rattle.bbm_rules.proofs.Common.{◌≡◌, length, nat_eq, true, false, sym, ap, ◌∙◌}
-use Rattle.bbm_session.specs.declared.line.Piece.TheVariants as piece
-use Rattle.bbm_session.proofs.Stages.{takes-shrinks, line-closes, nothing-closes, more-closes, long-closes}
+use Rattle.bbm_session.proofs.Stages.{line-closes, nothing-closes, more-closes, long-closes}
 use Rattle.bbm_session.proofs.Stages.{fault-closes}
 use Rattle.bbm_session.proofs.reading.nothing_follows.Goals as goal
 
@@ -27,18 +26,3 @@ returns-in-TooLong-clause-closes g c = λ fold p end is.
 pub returns-in-ReadFault-clause-closes : goal.returns-in-ReadFault-clause-closes
 returns-in-ReadFault-clause-closes g c = λ fold p end is.
     fault-closes fold p end is c.args.number c.next_piece.new.lines.bytes _ _ _ _ c.in-ReadFault.ensures.plain c.in-ReadFault.ensures.within c.in-ReadFault.ensures.takes c.in-ReadFault.ensures.counted
-
-pub returns-in-Line-clause-shrinks : goal.returns-in-Line-clause-shrinks
-returns-in-Line-clause-shrinks g c = takes-shrinks piece.Line c.next_piece.new.lines.bytes _ _ c.in-Line.ensures.within c.in-Line.ensures.takes
-
-pub returns-then-is_empty-clause-shrinks : goal.returns-then-is_empty-clause-shrinks
-returns-then-is_empty-clause-shrinks g c = takes-shrinks piece.Rest c.next_piece.new.lines.bytes _ _ c.in-Rest.ensures.within c.in-Rest.ensures.takes
-
-pub returns-else-is_empty-clause-shrinks : goal.returns-else-is_empty-clause-shrinks
-returns-else-is_empty-clause-shrinks g c = takes-shrinks piece.Rest c.next_piece.new.lines.bytes _ _ c.in-Rest.ensures.within c.in-Rest.ensures.takes
-
-pub returns-in-TooLong-clause-shrinks : goal.returns-in-TooLong-clause-shrinks
-returns-in-TooLong-clause-shrinks g c = takes-shrinks piece.TooLong c.next_piece.new.lines.bytes _ _ c.in-TooLong.ensures.within c.in-TooLong.ensures.takes
-
-pub returns-in-ReadFault-clause-shrinks : goal.returns-in-ReadFault-clause-shrinks
-returns-in-ReadFault-clause-shrinks g c = takes-shrinks piece.ReadFault c.next_piece.new.lines.bytes _ _ c.in-ReadFault.ensures.within c.in-ReadFault.ensures.takes

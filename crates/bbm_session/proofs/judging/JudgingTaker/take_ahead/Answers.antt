@@ -12,7 +12,7 @@ use Rattle.bbm_log_grammar.specs.Ahead.{StandsFirst}
 use Rattle.bbm_rules.specs.Outcome.{after_event}
 use Rattle.bbm_session.proofs.GeneratedLogs.{plain_is}
 use Rattle.bbm_session.proofs.Judgements.{judged-takes}
-use Rattle.bbm_session.proofs.judging.take_front.Goals as goal
+use Rattle.bbm_session.proofs.judging.JudgingTaker.take_ahead.Goals as goal
 
 module _ (heading : Heading) (e : Event) (label : Option (List ℕ)) (count : ℕ) (bytes : List ℕ) where
   whole : StandsFirst heading (item.Event e label) count bytes → LiesWhole count bytes
@@ -45,7 +45,7 @@ told r false count P is holds = subst (λ (o : Option ℕ). IfSome o P) (sym is)
 
 pub returns-in-Some-clause-takes : goal.returns-in-Some-clause-takes
 returns-in-Some-clause-takes g c =
-    let before = c.args.judging.now in
+    let before = c.args.self.now in
     let after = c.take_event.new.judging in
     let header = c.args.header.now in
     let count = c.in-Some.count in
@@ -63,7 +63,7 @@ returns-in-Some-quick_line-clause-line g c =
 
 pub returns-in-Some-quick_dsb-clause-takes : goal.returns-in-Some-quick_dsb-clause-takes
 returns-in-Some-quick_dsb-clause-takes g c =
-    let before = c.args.judging.now in
+    let before = c.args.self.now in
     let call = c.take_event-in-Some-quick_dsb in
     let after = call.new.judging in
     let header = c.args.header.now in
@@ -74,9 +74,22 @@ returns-in-Some-quick_dsb-clause-takes g c =
     before.limits after.limits fold p c.args.number call.ensures.frugal call.ensures.limits
     found.ensures (λ h. call.ensures.taken is header h found._label) judges)
 
+pub returns-in-Some-quick_tlbi-clause-takes : goal.returns-in-Some-quick_tlbi-clause-takes
+returns-in-Some-quick_tlbi-clause-takes g c =
+    let before = c.args.self.now in
+    let call = c.take_event-in-Some-quick_tlbi in
+    let after = call.new.judging in
+    let header = c.args.header.now in
+    let found = c.in-Some-quick_tlbi in
+    told _ call.result found.count _ c.then_some-in-Some-quick_tlbi.ensures (λ is fold p judges.
+    takes header found.event found._label found.count c.args.bytes.now (g.C.Checker.frugal before.checker)
+    (g.C.Checker.frugal after.checker) (g.C.Checker.stands before.checker) (g.C.Checker.stands after.checker)
+    before.limits after.limits fold p c.args.number call.ensures.frugal call.ensures.limits
+    found.ensures (λ h. call.ensures.taken is header h found._label) judges)
+
 pub returns-in-Some-quick_line-clause-takes : goal.returns-in-Some-quick_line-clause-takes
 returns-in-Some-quick_line-clause-takes g c =
-    let before = c.args.judging.now in
+    let before = c.args.self.now in
     let call = c.take_event-in-Some-quick_line in
     let after = call.new.judging in
     let header = c.args.header.now in

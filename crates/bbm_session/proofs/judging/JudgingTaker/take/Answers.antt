@@ -1,15 +1,15 @@
 use Rattle.bbm_rules.proofs.Common.{ok_or}
 use Rattle.bbm_log_grammar.specs.InLine.{read_in}
 use Rattle.bbm_session.proofs.Judgements.{may-judge, judged-takes}
-use Rattle.bbm_session.proofs.judging.judge_line.Goals as goal
+use Rattle.bbm_session.proofs.judging.JudgingTaker.take.Goals as goal
 
 pub judge_item-requires : goal.judge_item-requires
-judge_item-requires g c = may-judge _ _ c.args.judging.now.limits c.args.header.now c.args.number (read_in c.read_line.result) c.requires (search) c.read_line.ensures.fits
+judge_item-requires g c = may-judge _ _ c.args.self.now.limits c.args.header.now c.args.number (read_in c.read_line.result) c.requires (search) c.read_line.ensures.fits
 
 pub returns-clause-takes : goal.returns-clause-takes
 returns-clause-takes g c = λ fold p judges.
     let header = c.args.header.now in
-    let before = c.args.judging.now in
+    let before = c.args.self.now in
     let after = c.judge_item.new.judging in
     judged-takes (g.C.Checker.frugal before.checker) (g.C.Checker.frugal after.checker)
     (g.C.Checker.stands before.checker) (g.C.Checker.stands after.checker) before.limits after.limits header fold p
