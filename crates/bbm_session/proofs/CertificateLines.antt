@@ -2,7 +2,7 @@
 use Rattle.bbm_session.proofs.Common.{Event, Heading, Verdict, Accepted, Refused, Malformed, Limit, Kept, Stop, Turn}
 use Rattle.bbm_session.proofs.Common.{CertifiedReadFor, certified_lines, Fold, Halts, Ending, ending_after, ending_from}
 use Rattle.bbm_session.proofs.Common.{ending_at, passes_to, lines_from, header_by, IsStart, IsInside, IsEnd, Certifies}
-use Rattle.bbm_session.proofs.Common.{certifying, ReadAs, MayTakeLine, TakesLine}
+use Rattle.bbm_session.proofs.Common.{certifying, ReadAs, MayTakeLine, FoldsLine}
 use Rattle.bbm_rules.proofs.Common.{◌≡◌, ℕ, suc, ◌<◌, Bool, true, false, if◌then◌else◌, List, [], ◌∷◌, length}
 use Rattle.bbm_rules.proofs.Common.{reverse, Option, Some, None, option_and_then, refl, ap, sym, ◌∙◌, arith, subst}
 use Rattle.bbm_rules.proofs.Common.{nat_le, Result, Ok, Err, ◌==◌, ◌⊎◌, inl, inr, contains_none, Claim}
@@ -103,7 +103,7 @@ module _ (heading : Heading) (kept kept' : Kept) (n : ℕ) (line : List ℕ) whe
   New = kept_at heading kept'
 
   abbrev At : Result Turn Stop → Type 0
-  At r = TakesLine certifying (Certifies kept' certifying heading) n Old line r
+  At r = FoldsLine certifying (Certifies kept' certifying heading) n Old line r
 
   certified-at : (t : Result ReadTurn LineFault) (r : Result Turn Stop) → TurnsRead t r → IsSound Old → n ≡ next_number Old
       → (t ≡ Ok turn.Taken → IsSound Old → IsSound New) → (t ≡ Ok turn.Taken → IsSound Old → next_number New ≡ suc (next_number Old))
@@ -143,11 +143,11 @@ pub certified-takes : (heading : Heading) (kept kept' : Kept) (fold : Fold Reach
     → (t ≡ Ok turn.Taken → IsSound (kept_at heading kept) → next_number (kept_at heading kept') ≡ suc (next_number (kept_at heading kept)))
     → (claims_by kept.part kept.claims.items ≡ kept.claims.items → claims_by kept'.part kept'.claims.items ≡ kept'.claims.items)
     → read.TakesLine (kept_at heading kept) (kept_at heading kept') t (after_line n (kept_at heading kept) line)
-    → TakesLine fold (Certifies kept' fold heading) n p line r
+    → FoldsLine fold (Certifies kept' fold heading) n p line r
 certified-takes heading kept kept' fold p n line t r turns certifies sounds counts lists says =
     let at = certified-at heading kept kept' n line t r turns certifies.sound certifies.number sounds counts (lists certifies.listed) says in
-    subst (λ (f : Fold Reached Said). TakesLine f (Certifies kept' f heading) n p line r) (sym certifies.fold_is)
-    (subst (λ (q : Reached). TakesLine certifying (Certifies kept' certifying heading) n q line r) (sym certifies.is) at)
+    subst (λ (f : Fold Reached Said). FoldsLine f (Certifies kept' f heading) n p line r) (sym certifies.fold_is)
+    (subst (λ (q : Reached). FoldsLine certifying (Certifies kept' certifying heading) n q line r) (sym certifies.is) at)
 
 -- no line was taken yet
 empty-at : (heading : Heading) (p : Part) (events : List Event) (claims : List Claim) → p ≡ part.Events → events ≡ []

@@ -26,7 +26,7 @@ pub use Rattle.bbm_session.specs.Runs.{RunReadFor, run_lines}
 pub use Rattle.bbm_session.specs.Serving.{Heads, Reports, ReportsShown}
 pub use Rattle.bbm_session.specs.Stages.{Breaks, Concludes, Ends, Going, HeaderLine, IsBrief, KnowsAt, KnowsWhy}
 pub use Rattle.bbm_session.specs.Stages.{MayTakeLine, ReadsHeader, RefusedOn, Shrinks, Starts, Starves, Stops}
-pub use Rattle.bbm_session.specs.Stages.{TakesLine, plain_lines}
+pub use Rattle.bbm_session.specs.Stages.{FoldsLine, plain_lines}
 pub use Rattle.bbm_session.specs.declared.command.Request.TheVariants.{Generate, Judge, Selftest, Verify}
 pub use Rattle.bbm_session.specs.declared.stop.Stop.{Stop}
 pub use Rattle.bbm_session.specs.declared.stop.Stop.TheVariants.{Decided, NoMemory, ReadFault}

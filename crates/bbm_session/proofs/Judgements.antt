@@ -6,7 +6,7 @@ use Rattle.bbm_session.proofs.Common.{End, Fold, Turned, Halts, alone, refusing,
 use Rattle.bbm_session.proofs.Common.{ending_at, passes_to, lines_from, header_by, IsStart, IsInside, IsEnd, Judged}
 use Rattle.bbm_session.proofs.Common.{Judges, judged_at, event_on, event_needs, is_frugal, judging, judging_for}
 use Rattle.bbm_session.proofs.Common.{NeedsMemory, ReadFor, command_lines, limits_of, event_in, IsRefused, Keeps}
-use Rattle.bbm_session.proofs.Common.{KnowsThat, MayTakeLine, KnowsAt, KnowsWhy, RefusedOn, TakesLine, Ends}
+use Rattle.bbm_session.proofs.Common.{KnowsThat, MayTakeLine, KnowsAt, KnowsWhy, RefusedOn, FoldsLine, Ends}
 use Rattle.bbm_rules.proofs.Common.{◌≡◌, ◌≢◌, not, ℕ, suc, ◌<◌, ◌+◌, Bool, true, false, if◌then◌else◌, List, [], ◌∷◌}
 use Rattle.bbm_rules.proofs.Common.{length, Option, Some, None, refl, ap, sym, ◌∙◌, arith, subst, ◌^◌, Result, Ok, Err}
 use Rattle.bbm_rules.proofs.Common.{IfOk, ◌==◌, ◌⊎◌, inl, inr, and_parts, not-true, Which, Item}
@@ -111,7 +111,7 @@ knows-more a b (Refused line rule at label) more known = more known
 knows-more a b (Malformed line cause) more known = tt
 knows-more a b (Limit line which) more known = tt
 
-judged-at : (frugal : Bool) (stands : Heading → List EventOf → Type 0) (limits : Limits) (heading : Heading) (h : List EventOf) (n : ℕ) (line : List ℕ) (r : Result Turn Stop) → n ≡ length h + 2 → JudgesLine stands heading h (event_in (item_of heading line)) (item_needs frugal heading h (item_of heading line) ≡ true) r (after_item Patterns limits n heading h (item_of heading line)) → TakesLine (judging frugal limits) (Judges frugal stands limits (judging frugal limits) heading) n (AtEvents heading h) line r
+judged-at : (frugal : Bool) (stands : Heading → List EventOf → Type 0) (limits : Limits) (heading : Heading) (h : List EventOf) (n : ℕ) (line : List ℕ) (r : Result Turn Stop) → n ≡ length h + 2 → JudgesLine stands heading h (event_in (item_of heading line)) (item_needs frugal heading h (item_of heading line) ≡ true) r (after_item Patterns limits n heading h (item_of heading line)) → FoldsLine (judging frugal limits) (Judges frugal stands limits (judging frugal limits) heading) n (AtEvents heading h) line r
 judged-at frugal stands limits heading h n line (Ok Taken) number judged = (
   AtEvents heading judged.0,
   ap (judged_by (AtEvents heading h) (event_in (item_of heading line))) judged.1,
@@ -138,17 +138,17 @@ pub judged-takes : (frugal frugal' : Bool) (stands stands' : Heading → List Ev
     → read ≡ item_of heading line
     → ((h : List EventOf) → Keeps stands heading h → JudgesLine stands' heading h (event_in read)
     (item_needs frugal heading h read ≡ true) r (after_item Patterns limits n heading h read))
-    → TakesLine fold (Judges frugal' stands' limits' fold heading) n p line r
+    → FoldsLine fold (Judges frugal' stands' limits' fold heading) n p line r
 judged-takes frugal frugal' stands stands' limits limits' heading fold p n line read r same within judges is says =
     let judged = subst (λ (x : Result Item Cause). JudgesLine stands' heading judges.h (event_in x)
     (item_needs frugal heading judges.h x ≡ true) r (after_item Patterns limits n heading judges.h x)) is
     (says judges.h judges.keeps) in
     let at = judged-at frugal stands' limits heading judges.h n line r judges.number judged in
-    subst (λ (l : Limits). TakesLine fold (Judges frugal' stands' l fold heading) n p line r) (sym within)
-    (subst (λ (b : Bool). TakesLine fold (Judges b stands' limits fold heading) n p line r) (sym same)
-    (subst (λ (f : Fold Progress Judged). TakesLine f (Judges frugal stands' limits f heading) n p line r)
+    subst (λ (l : Limits). FoldsLine fold (Judges frugal' stands' l fold heading) n p line r) (sym within)
+    (subst (λ (b : Bool). FoldsLine fold (Judges b stands' limits fold heading) n p line r) (sym same)
+    (subst (λ (f : Fold Progress Judged). FoldsLine f (Judges frugal stands' limits f heading) n p line r)
     (sym judges.fold_is)
-    (subst (λ (q : Progress). TakesLine (judging frugal limits) (Judges frugal stands' limits (judging frugal limits)
+    (subst (λ (q : Progress). FoldsLine (judging frugal limits) (Judges frugal stands' limits (judging frugal limits)
     heading) n q line r) (sym judges.is) at)))
 
 -- ---- the whole log

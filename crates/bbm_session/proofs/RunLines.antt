@@ -2,7 +2,7 @@
 use Rattle.bbm_session.proofs.Common.{Heading, Step, Stop, Turn, Fold}
 use Rattle.bbm_session.proofs.Common.{Halts, Ending, ending_after, ending_from, ending_at, passes_to, lines_from}
 use Rattle.bbm_session.proofs.Common.{header_by, IsStart, IsInside, IsEnd, Follows, following, ReadAs, RunReadFor}
-use Rattle.bbm_session.proofs.Common.{run_lines, MayTakeLine, TakesLine}
+use Rattle.bbm_session.proofs.Common.{run_lines, MayTakeLine, FoldsLine}
 use Rattle.bbm_rules.proofs.Common.{◌≡◌, ℕ, suc, ◌<◌, ◌≤◌, ◌+◌, Bool, true, false, if◌then◌else◌, List, [], ◌∷◌, length}
 use Rattle.bbm_rules.proofs.Common.{reverse, Option, Some, None, option_and_then, refl, ap, sym, ◌∙◌, arith, subst}
 use Rattle.bbm_rules.proofs.Common.{nat_le, Result, Ok, Err, ◌==◌, ◌⊎◌, inl, inr, length-reverse, Item, MachineLine}
@@ -78,7 +78,7 @@ brief_line n (AtEnd heading steps) line = refl
 
 module _ (heading : Heading) (kept kept' : List Step) (n : ℕ) (line : List ℕ) where
   abbrev At : Result Turn Stop → Type 0
-  At r = TakesLine following (Follows kept' following heading) n (AtSteps heading (reverse kept)) line r
+  At r = FoldsLine following (Follows kept' following heading) n (AtSteps heading (reverse kept)) line r
 
   followed-at : (t : Result RunTurn LineFault) (r : Result Turn Stop) → Turns t r → n ≡ length kept + 2 → length kept ≤ 2000
       → length kept' ≤ 2000 → (t ≡ Ok turn.Step → length kept' ≡ length kept + 1)
@@ -107,11 +107,11 @@ module _ (heading : Heading) (kept kept' : List Step) (n : ℕ) (line : List ℕ
 pub followed-takes : (heading : Heading) (kept kept' : List Step) (fold : Fold Reached RunSays) (p : Reached) (n : ℕ) (line : List ℕ) (t : Result RunTurn LineFault) (r : Result Turn Stop)
     → Turns t r → Follows kept fold heading p n → (length kept ≤ 2000 → length kept' ≤ 2000) → (t ≡ Ok turn.Step → length kept' ≡ length kept + 1)
     → run.TakesLine heading (reverse kept) (reverse kept') t (after_line n (AtSteps heading (reverse kept)) line)
-    → TakesLine fold (Follows kept' fold heading) n p line r
+    → FoldsLine fold (Follows kept' fold heading) n p line r
 followed-takes heading kept kept' fold p n line t r turns follows short more says =
     let at = followed-at heading kept kept' n line t r turns follows.number follows.few (short follows.few) more says in
-    subst (λ (f : Fold Reached RunSays). TakesLine f (Follows kept' f heading) n p line r) (sym follows.fold_is)
-    (subst (λ (q : Reached). TakesLine following (Follows kept' following heading) n q line r) (sym follows.is) at)
+    subst (λ (f : Fold Reached RunSays). FoldsLine f (Follows kept' f heading) n p line r) (sym follows.fold_is)
+    (subst (λ (q : Reached). FoldsLine following (Follows kept' following heading) n q line r) (sym follows.is) at)
 
 -- no line was taken yet
 pub follows-none : (heading : Heading) (kept : List Step) → kept ≡ [] → Follows kept following heading (AtSteps heading []) 2

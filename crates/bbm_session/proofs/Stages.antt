@@ -5,7 +5,7 @@ use Rattle.bbm_session.proofs.Common.{Limit, heading_in, Decision, Stop, Decided
 use Rattle.bbm_session.proofs.Common.{Fold, alone, Turned, Halts, Passes, Ending, ending_after, ending_from, ending_at}
 use Rattle.bbm_session.proofs.Common.{passes_to, lines_from, header_by, IsStart, IsInside, IsEnd, plain_lines, Breaks}
 use Rattle.bbm_session.proofs.Common.{Starves, Shrinks, Concludes, Stops, IsBrief, KnowsWhy, RefusedOn, ReadsHeader}
-use Rattle.bbm_session.proofs.Common.{HeaderLine, Starts, TakesLine, Going, Ends, KnowsThat, Heads}
+use Rattle.bbm_session.proofs.Common.{HeaderLine, Starts, FoldsLine, Going, Ends, KnowsThat, Heads}
 use Rattle.bbm_rules.proofs.Common.{◌≡◌, ◌≢◌, ℕ, suc, ◌<◌, ◌≤◌, ◌+◌, true, false, nat_eq, List, [], ◌++◌, length, drop}
 use Rattle.bbm_rules.proofs.Common.{Option, Some, None, refl, ap, sym, ◌∙◌, arith, append_assoc, append-nil}
 use Rattle.bbm_rules.proofs.Common.{length-append, add-one, subst, ◌∷◌, Result, Ok, Err, result_ok, and_parts}
@@ -294,7 +294,7 @@ module _ {P V : Type 0} (fold : Fold P V) where
   -- A line between the header and the end.
 
   module _ (stands : P → ℕ → Type 0) where
-    pub line-advances : (n : ℕ) (p : P) (r : Result Turn Stop) (line : List ℕ) (old new : Option (List ℕ)) (f f' : ℕ) → plain line ≡ true → length line ≤ 200 → Takes piece.Line line old new → TakesLine fold stands n p line r → f' ≡ f → Advances fold stands n p r old new f f'
+    pub line-advances : (n : ℕ) (p : P) (r : Result Turn Stop) (line : List ℕ) (old new : Option (List ℕ)) (f f' : ℕ) → plain line ≡ true → length line ≤ 200 → Takes piece.Line line old new → FoldsLine fold stands n p line r → f' ≡ f → Advances fold stands n p r old new f f'
     line-advances n p (Ok Taken) line old new f f' is_plain is_short takes taken sound =
         let passes = line-passes n p taken.0 line old new is_plain is_short takes taken.1 in
         (taken.0, subst (λ (m : ℕ). Continues fold n p old m taken.0 new) (sym (add-one n)) passes, taken.2, taken.3, sound)

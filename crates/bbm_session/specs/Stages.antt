@@ -149,13 +149,13 @@ MayGoOn {P} {V} stands heading n = (fold : Fold P V) × (p : P) × IsInside fold
 module _ {P V : Type 0} (fold : Fold P V) (stands : P → ℕ → Type 0) where
   -- What line n says, where the lines before it were taken up to p, and what was taken then: the line too, or the end
   -- came, or reading stops. There can be no memory only for a line that needs it.
-  abbrev pub TakesLine : ℕ → P → List ℕ → Result Turn Stop → Type 0
-  TakesLine n p line (Ok Taken) = (q : P) × (fold.line n p line ≡ Passes q) × IsInside fold q × stands q (n + 1)
-  TakesLine n p line (Ok End) = (q : P) × (fold.line n p line ≡ Passes q) × IsEnd fold p q × stands p n
-  TakesLine n p line (Err (Decided decision)) =
+  abbrev pub FoldsLine : ℕ → P → List ℕ → Result Turn Stop → Type 0
+  FoldsLine n p line (Ok Taken) = (q : P) × (fold.line n p line ≡ Passes q) × IsInside fold q × stands q (n + 1)
+  FoldsLine n p line (Ok End) = (q : P) × (fold.line n p line ≡ Passes q) × IsEnd fold p q × stands p n
+  FoldsLine n p line (Err (Decided decision)) =
       (fold.line n p line ≡ Halts (fold.stopped p decision)) × KnowsThat (stands p n) decision.verdict
-  TakesLine n p line (Err ReadFault) = ⊥
-  TakesLine n p line (Err NoMemory) = fold.needs n p line ≡ true
+  FoldsLine n p line (Err ReadFault) = ⊥
+  FoldsLine n p line (Err NoMemory) = fold.needs n p line ≡ true
 
   -- the same of the next line of what is left
   abbrev pub Advances : ℕ → P → Result Turn Stop → Option (List ℕ) → Option (List ℕ) → ℕ → ℕ → Type 0

@@ -116,7 +116,7 @@ fn read_log(n: &[u8], count: &[u8]) -> Option<(u64, u32)>
     Some((number, events))
 }
 
-/// The same by the words behind this one.
+/// The number of a generated log and how many events it has, by the words behind this one.
 fn said_log(first: &[u8], words: &[String]) -> Option<(u64, u32)>
     ensures { result ≡ log_after first.now (map string_bytes words.now) }
 {
@@ -179,8 +179,8 @@ pub fn said(words: &[String]) -> Option<Request>
     }
 }
 
-/// The limits under which a command judges a log: one that keeps all events and searches them at each event takes at most
-/// 2,000, and the others a log of any number; the line numbers of all stay below 2^32 - 1.
+/// The limits under which a command judges a log: one that keeps all events and searches them at each event takes at
+/// most 2,000, and the others a log of any number; the line numbers of all stay below 2^32 - 1.
 pub fn limits(command: &Command) -> Limits
     ensures { result ≡ limits_of command.now }
 {

@@ -4,7 +4,7 @@ ghost use Rattle.std.specs.Prelude.{◌≡◌, ◌*◌, ◌<◌, Some, ok_or};
 ghost use Rattle.bbm_follow.specs.Following.{Reached, RunSays};
 ghost use Rattle.bbm_session.specs.Fold.{Fold};
 ghost use Rattle.bbm_session.specs.Folds.{Follows, Turns};
-ghost use Rattle.bbm_session.specs.Stages.{MayTakeLine, Shrinks, TakesLine};
+ghost use Rattle.bbm_session.specs.Stages.{MayTakeLine, Shrinks, FoldsLine};
 ghost use Rattle.bbm_session.specs.Serving.{FollowsRun, streams_of};
 
 use crate::answering::report_stop;
@@ -46,7 +46,7 @@ fn follow_line(
 ) -> Option<Turn>
     requires { MayTakeLine (Follows steps.old.items) header.now number }
     ensures takes { (fold : Fold Reached RunSays) (p : Reached) → Follows steps.old.items fold header.now p number
-        → TakesLine fold (Follows steps.new.items fold header.now) number p line.now
+        → FoldsLine fold (Follows steps.new.items fold header.now) number p line.now
         (ok_or result stop.new) }
     ensures few { result ≡ Some Turn.Taken → number < 4294967295 }
 {

@@ -22,7 +22,8 @@ use std::alloc::Global;
 pub struct Judgement<C> {
     /// The header, which stands on line 1.
     pub header: Header,
-    /// The checker. Where the log is accepted, or an event refused, it has taken the events before the line that decides.
+    /// The checker. Where the log is accepted, or an event refused, it has taken the events before the line that
+    /// decides.
     pub checker: C,
     /// The verdict with the event that it refuses, or why there is none.
     pub stop: Stop,

@@ -12,7 +12,9 @@ use std::alloc::Global;
 /// A checker that judges as another does, and keeps the events that it took. Source: project's own choice.
 #[derive(Drop)]
 pub struct Keeping<C> {
+    /// The checker that judges.
     checker: C,
+    /// The events that were taken, the oldest first.
     log: Vec<Event>,
 }
 

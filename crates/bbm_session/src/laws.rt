@@ -29,8 +29,8 @@ use bbm_gen::law_gen;
 use bbm_tlb_machine::law_safe;
 
 /// What `check` says of the text that `gen` writes for the number n and `count` events, at most 4,294,967,293: it is
-/// accepted, and read whole, and its events are those of the generated log. So what `selftest` writes is the line of that
-/// verdict, and the counts of that log. The call does nothing; the law is its contract.
+/// accepted, and read whole, and its events are those of the generated log. So what `selftest` writes is the line of
+/// that verdict, and the counts of that log. The call does nothing; the law is its contract.
 pub fn law_generated_is_accepted(n: u64, count: u32)
     requires lines { count ≤ 4294967293 }
     ensures accepted { outcome_of Patterns check_limits (gen_text n count)

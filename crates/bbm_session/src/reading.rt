@@ -1,6 +1,6 @@
 //! The lines of a log, read one after another.
 
-ghost use Rattle.std.specs.Prelude.{◌≡◌, ◌+◌, ◌*◌, ◌≤◌, ◌<◌, ℕ, OnOk, IfOk, IfErr, Some, OnSome, ok_or};
+ghost use Rattle.std.specs.Prelude.{◌≡◌, ◌+◌, ◌*◌, ◌≤◌, ◌<◌, OnOk, IfOk, IfErr, Some, OnSome, ok_or};
 ghost use Rattle.bbm_events.specs.Heading.{Heading};
 ghost use Rattle.bbm_session.specs.Fold.{Fold, IsStart, IsInside, IsEnd, alone};
 ghost use Rattle.bbm_session.specs.Stages.{Shrinks, Ready, IsBrief, ReadsHeader, Starts, MayGoOn, Advances, Reaches};

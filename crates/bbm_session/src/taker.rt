@@ -4,7 +4,7 @@ ghost use Rattle.std.specs.Prelude.{◌≡◌, ◌<◌, ℕ, Some, None, Ok, IfS
 ghost use Rattle.bbm_io.specs.Reading.{LiesWhole};
 ghost use Rattle.bbm_events.specs.Heading.{Heading};
 ghost use Rattle.bbm_session.specs.Fold.{Fold};
-ghost use Rattle.bbm_session.specs.Stages.{MayTakeLine, TakesLine};
+ghost use Rattle.bbm_session.specs.Stages.{MayTakeLine, FoldsLine};
 
 use crate::stop::{Stop, Turn};
 use bbm_events::Header;
@@ -22,22 +22,22 @@ pub trait Taker {
     ghost stands: { Self → Fold Reached Said → Heading → Reached → ℕ → Type 0 };
 
     /// Takes line `number`, of at most 200 bytes and without its newline. `Taken`: the line was taken. `End`: the line
-    /// is the end. None: the line stops reading, and `stop` is why: a verdict, or `NoMemory`, where there was none for a
-    /// line that needs it. There is no other answer.
+    /// is the end. None: the line stops reading, and `stop` is why: a verdict, or `NoMemory`, where there was none for
+    /// a line that needs it. There is no other answer.
     fn take(&mut self, number: u64, header: &Header, line: &[u8], stop: &mut Stop) -> Option<Turn>
         requires { MayTakeLine (stands self.old) header.now number }
         ensures takes { (fold : Fold Reached Said) (p : Reached) → stands self.old fold header.now p number
-            → TakesLine fold (stands self.new fold header.now) number p line.now (ok_or result stop.new) }
+            → FoldsLine fold (stands self.new fold header.now) number p line.now (ok_or result stop.new) }
         ensures few { result ≡ Some Turn.Taken → number < 4294967295 };
 
-    /// Takes line `number` where it is one of those that most logs have, lies whole at the front of these bytes and stops
-    /// nothing: the number of bytes before its newline. None says nothing, and nothing was taken then.
+    /// Takes line `number` where it is one of those that most logs have, lies whole at the front of these bytes and
+    /// stops nothing: the number of bytes before its newline. None says nothing, and nothing was taken then.
     fn take_ahead(&mut self, number: u64, header: &Header, bytes: &[u8]) -> Option<usize>
         requires { MayTakeLine (stands self.old) header.now number }
         ensures line { IfSome result (λ count. LiesWhole count bytes.now) }
         ensures takes { IfSome result (λ count. (fold : Fold Reached Said) (p : Reached)
             → stands self.old fold header.now p number
-            → TakesLine fold (stands self.new fold header.now) number p (take count bytes.now) (Ok Turn.Taken)) }
+            → FoldsLine fold (stands self.new fold header.now) number p (take count bytes.now) (Ok Turn.Taken)) }
         ensures few { OnSome result (number < 4294967295) }
         ensures untaken { result ≡ None → (fold : Fold Reached Said) (p : Reached)
             → stands self.old fold header.now p number → stands self.new fold header.now p number };

@@ -1,6 +1,6 @@
 //! The top call.
 
-ghost use Rattle.std.specs.Prelude.{◌≡◌, ◌*◌, ◌<◌, ◌^◌, ◌⊎◌, ℕ, List, [], Option, Some, None, IsSome, true, false};
+ghost use Rattle.std.specs.Prelude.{◌≡◌, ◌*◌, ◌<◌, ◌^◌, ◌⊎◌, ℕ, List, [], Some, None, IsSome, true, false};
 ghost use Rattle.std.specs.Prelude.{length, map};
 ghost use Rattle.std.specs.String.{string_bytes};
 ghost use Rattle.bbm_io.specs.Faults.{Rose};
@@ -66,20 +66,23 @@ fn serve<S: Source, K: Sink>(alloc: Global, request: &Request, log: &mut S, out:
     }
 }
 
-/// Does what the words after the program's name ask for. With `check`, `slow`, `explain` or `walk KIND ROOT ADDR` it
-/// judges the log under the limits of that command and writes the line of its verdict. `slow` keeps all events, at most
-/// 2,000, and searches them; the others keep none, and take any number. Behind the line of the verdict `explain` writes
-/// a line for each PE where break-before-make is broken, how far the place has come there; and `walk` writes where an
-/// accepted log maps the address ADDR at its end, by the tables of the root of KIND whose first page is ROOT. With
-/// `follow` it reads a log with lines of machine steps between its events, judges no event, and writes the line of what
-/// comes of that run. With `verify` it reads a log of at most 2,000 events and right behind it its certificate of at
-/// most 300,000 claims, then judges the events by the claims alone, and writes the line of that. With `gen N COUNT` it
-/// writes the generated log of the number N with COUNT events, at most 4,294,967,293, and reads nothing. With
-/// `selftest N COUNT` it judges that log event by event, stores and reads nothing, and writes that its events are
-/// accepted, and how many pages and restless places there are at its end. Any other words are answered with the usage
-/// line. Nothing else is written. `log` is read up to the line that decides, and an accepted log, a run and a log with
-/// its certificate without such a line to their end. Where the source tells what it has left and the sink what it
-/// holds, the clauses say which bytes are read and written. Source: project's own choice.
+/// Does what the words after the program's name ask for. With `check`, `slow`, `explain`, `walk KIND ROOT ADDR`,
+/// `idle`, `counterrun` or `cert` it judges the log under the limits of that command and writes the line of its
+/// verdict. `check`, `explain` and `walk` keep no events, and take any number; the others keep all, at most 2,000, and
+/// search them. Behind the line of the verdict `explain` writes a line for each PE where break-before-make is broken,
+/// how far the place has come there; `walk` where an accepted log maps the address ADDR at its end, by the tables of
+/// the root of KIND whose first page is ROOT; and `idle` a line for each event that an accepted log can do without. In
+/// place of that line `counterrun` writes, where break-before-make refuses a write at a place that holds a leaf, a run
+/// that ends in a conflict there, or that there is none; and `cert` the certificate of an accepted log. With `follow`
+/// it reads a log with lines of machine steps between its events, judges no event, and writes the line of what comes of
+/// that run. With `verify` it reads a log of at most 2,000 events and right behind it its certificate of at most
+/// 300,000 claims, then judges the events by the claims alone, and writes the line of that. With `gen N COUNT` it
+/// writes the generated log of the number N with COUNT events, at most 4,294,967,293, and reads nothing. With `selftest
+/// N COUNT` it judges that log event by event, stores and reads nothing, and writes that its events are accepted, and
+/// how many pages and restless places there are at its end. Any other words are answered with the usage line. Nothing
+/// else is written. `log` is read up to the line that decides, and an accepted log, a run and a log with its
+/// certificate without such a line to their end. Where the source tells what it has left and the sink what it holds,
+/// the clauses say which bytes are read and written. Source: project's own choice.
 pub fn run<S: Source, K: Sink>(
     alloc: Global,
     words: &Vec<String>,

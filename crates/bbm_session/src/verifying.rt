@@ -4,7 +4,7 @@ ghost use Rattle.std.specs.Prelude.{◌≡◌, ◌*◌, ◌<◌, Some, ok_or};
 ghost use Rattle.bbm_certificate.specs.CertificateReading.{Reached, Said};
 ghost use Rattle.bbm_session.specs.Fold.{Fold};
 ghost use Rattle.bbm_session.specs.Folds.{Certifies, TurnsRead};
-ghost use Rattle.bbm_session.specs.Stages.{MayTakeLine, Shrinks, TakesLine};
+ghost use Rattle.bbm_session.specs.Stages.{MayTakeLine, Shrinks, FoldsLine};
 ghost use Rattle.bbm_session.specs.Serving.{Verifies, streams_of};
 
 use crate::answering::report_stop;
@@ -45,7 +45,7 @@ fn verify_line(
 ) -> Option<Turn>
     requires { MayTakeLine (Certifies kept.old) header.now number }
     ensures takes { (fold : Fold Reached Said) (p : Reached) → Certifies kept.old fold header.now p number
-        → TakesLine fold (Certifies kept.new fold header.now) number p line.now
+        → FoldsLine fold (Certifies kept.new fold header.now) number p line.now
         (ok_or result stop.new) }
     ensures few { result ≡ Some Turn.Taken → number < 4294967295 }
 {

@@ -8,14 +8,14 @@ use bbm_report::Question;
 pub enum Command {
     /// Judges the log and writes the line of its verdict.
     Check,
-    /// The same by a search of the whole history, to 2,000 events.
+    /// Judges the log by a search of the whole history, to 2,000 events, and writes the line of its verdict.
     Slow,
-    /// The same as `Check`; where break-before-make is broken, behind it a line for each PE, how far the place has come
-    /// there.
+    /// As `Check`; where break-before-make is broken, behind the line of the verdict a line for each PE, how far the
+    /// place has come there.
     Explain,
-    /// The same as `Check`; where the log is accepted, behind it the line of a walk over the values at its end.
+    /// As `Check`; where the log is accepted, behind the line of the verdict that of a walk over the values at its end.
     Walk(Question),
-    /// The same as `Slow`, with what the events of the log show.
+    /// As `Slow`, with what the events of the log show.
     Show(Evidence),
 }
 
@@ -24,8 +24,8 @@ pub enum Command {
 pub enum Evidence {
     /// The events of an accepted log that it can do without.
     Idle,
-    /// Where break-before-make refuses a write at a place that holds a leaf, in place of the line of the verdict a run of
-    /// the machine of TLBs that ends in a conflict at it.
+    /// Where break-before-make refuses a write at a place that holds a leaf, in place of the line of the verdict a run
+    /// of the machine of TLBs that ends in a conflict at it.
     Counterrun,
     /// In place of the line of an accepted log its certificate: the claims by which alone it keeps the rules.
     Cert,

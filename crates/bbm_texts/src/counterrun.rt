@@ -208,7 +208,8 @@ fn log_with(alloc: Global, log: &[Event], event: Event) -> Result<Vec<Event>, No
     Ok(all)
 }
 
-/// Says what was decided; where break-before-make refuses an event, by a run if it is a write at a place that holds a leaf.
+/// Says what was decided; where break-before-make refuses an event, by a run if it is a write at a place that holds a
+/// leaf.
 pub fn report_counterrun<C: Logged, K: Sink>(
     alloc: Global,
     header: &Header,

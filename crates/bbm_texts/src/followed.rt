@@ -34,8 +34,9 @@ fn tell_run<K: Sink>(told: Followed, out: &mut K) -> Status
     settled(tell(&text, out), run_status(&told))
 }
 
-/// Says what comes of a run that was read whole, if there was memory to follow it: else nothing is written, and the status
-/// is `NoMemory`. `Accepted` where every step is made, `Refused` where one is none; `WriteFault` where the write failed.
+/// Says what comes of a run that was read whole, if there was memory to follow it: else nothing is written, and the
+/// status is `NoMemory`. `Accepted` where every step is made, `Refused` where one is none; `WriteFault` where the write
+/// failed.
 pub fn report_run<K: Sink>(told: Result<Followed, NoMemory>, out: &mut K) -> Status
     ensures reports { ReportsRun told result (K.held out.old) (K.held out.new) (K.faults out.old) (K.faults out.new) }
 {

@@ -1,6 +1,6 @@
-//! The texts of the program: what a command says of what was decided on a log, and what it shows of the events; the lines on
-//! a run and on a log with its certificate; generated logs and self-tests; the usage line. Each call writes one text, whole
-//! or up to a write that failed, and answers the status with which the program ends.
+//! The texts of the program: what a command says of what was decided on a log, and what it shows of the events; the
+//! lines on a run and on a log with its certificate; generated logs and self-tests; the usage line. Each call writes
+//! one text, whole or up to a write that failed, and answers the status with which the program ends.
 #![tactic(auto)]
 
 mod answering;

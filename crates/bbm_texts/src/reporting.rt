@@ -31,8 +31,8 @@ pub fn report_verdict<K: Sink>(verdict: &Verdict, out: &mut K) -> Status
     settled(tell_verdict(verdict, out), status(verdict))
 }
 
-/// Says what was decided by the text of a command that shows no more of the events. The status is that of the verdict, or
-/// `WriteFault`.
+/// Says what was decided by the text of a command that shows no more of the events. The status is that of the verdict,
+/// or `WriteFault`.
 pub fn report<C: Checker, K: Sink>(
     command: &Command,
     header: &Header,

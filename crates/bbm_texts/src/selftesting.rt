@@ -1,6 +1,6 @@
 //! A generated log, judged event by event and never stored.
 
-ghost use Rattle.std.specs.Prelude.{◌≡◌, ◌≤◌, ◌+◌, ℕ, [], None, OnOk, IfOk, Err};
+ghost use Rattle.std.specs.Prelude.{◌≡◌, ◌+◌, ℕ, [], None, OnOk, IfOk, Err};
 ghost use Rattle.bbm_rules.specs.Answers.{Answers};
 ghost use Rattle.bbm_rules.specs.Broken.{broken};
 ghost use Rattle.bbm_rules.specs.Claims.{Patterns};

@@ -4,7 +4,6 @@
 ghost use Rattle.std.specs.Prelude.{◌<◌, ◌^◌, ◌++◌, List, Some, reverse};
 ghost use Rattle.bbm_events.specs.declared.event.Event.{Event};
 ghost use Rattle.bbm_rules.specs.Texts.{verdict_text as text_of_verdict};
-ghost use Rattle.bbm_report.specs.ReportLines.{idle_text as text_of_idle};
 ghost use Rattle.bbm_texts.specs.declared.commands.Command.TheVariants as command_of;
 ghost use Rattle.bbm_texts.specs.declared.commands.Evidence.TheVariants.{Idle};
 ghost use Rattle.bbm_texts.specs.Shown.{marked_line, marked_lines};
@@ -107,8 +106,8 @@ fn report_idles<C: Logged, K: Sink>(
     }
 }
 
-/// Says what was decided, and shows what there is to show of the events of a log, which the checker keeps. There may be no
-/// memory for that: then nothing is written, and the status is `NoMemory`. Else it is that of the verdict, or
+/// Says what was decided, and shows what there is to show of the events of a log, which the checker keeps. There may be
+/// no memory for that: then nothing is written, and the status is `NoMemory`. Else it is that of the verdict, or
 /// `WriteFault`.
 pub fn report_evidence<C: Logged, K: Sink>(
     alloc: Global,

@@ -56,8 +56,8 @@ fn claim_count(kept: &Kept) -> u64
 }
 
 /// Says what was judged of a log by its certificate, which both are kept, if there was memory for it: else nothing is
-/// written, and the status is `NoMemory`. `Accepted` where the log keeps the rules by the certificate, `Refused` where it
-/// doesn't; `WriteFault` where the write failed.
+/// written, and the status is `NoMemory`. `Accepted` where the log keeps the rules by the certificate, `Refused` where
+/// it doesn't; `WriteFault` where the write failed.
 pub fn report_judged<K: Sink>(told: Result<Judged, NoMemory>, kept: &Kept, out: &mut K) -> Status
     ensures reports { ReportsJudged (length kept.now.events.items) (length kept.now.claims.items) told result
         (K.held out.old) (K.held out.new) (K.faults out.old) (K.faults out.new) }

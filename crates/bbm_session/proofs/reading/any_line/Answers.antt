@@ -1,4 +1,4 @@
-use Rattle.bbm_session.proofs.Common.{TakesLine}
+use Rattle.bbm_session.proofs.Common.{FoldsLine}
 use Rattle.bbm_rules.proofs.Common.{subst, ℕ, List, ok_or}
 use Rattle.bbm_session.proofs.Stages.{line-advances, rest-advances, long-advances, fault-advances}
 use Rattle.bbm_session.proofs.reading.any_line.Goals as goal
@@ -12,7 +12,7 @@ returns-in-Line-clause-advances g c = λ fold p inside stands.
     let line = c.next_piece.new.lines.bytes in
     let after = g.T.Taker.stands c.take.new.self fold c.args.header.now in
     let turn = ok_or c.take.result c.take.new.stop in
-    let taken = subst (λ (l : List ℕ). TakesLine fold after n p l turn) c.bytes.ensures.bytes (c.take.ensures.takes fold p stands) in
+    let taken = subst (λ (l : List ℕ). FoldsLine fold after n p l turn) c.bytes.ensures.bytes (c.take.ensures.takes fold p stands) in
     line-advances fold after n p turn line _ _ _ _ c.in-Line.ensures.plain c.in-Line.ensures.within c.in-Line.ensures.takes taken c.in-Line.ensures.counted
 
 pub returns-in-Rest-clause-advances : goal.returns-in-Rest-clause-advances

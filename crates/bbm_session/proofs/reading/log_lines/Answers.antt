@@ -1,5 +1,5 @@
 -- A line that was taken from the bytes ahead, or by the function for any line.
-use Rattle.bbm_session.proofs.Common.{TakesLine, Taken}
+use Rattle.bbm_session.proofs.Common.{FoldsLine, Taken}
 use Rattle.bbm_rules.proofs.Common.{arith, ◌∙◌, ◌*◌, ◌+◌, ◌≤◌, ℕ, List, Ok, length, take, refl, subst}
 use Rattle.std.proofs.Common.{length-take}
 use Rattle.bbm_io.specs.Reading.{LiesWhole}
@@ -37,7 +37,7 @@ lines-preserved-in-Some g c =
       going = λ fold p inside stands.
           let going = kept.going fold p inside stands in
           let after = g.T.Taker.stands c.take_ahead.new.self fold header in
-          let says = λ (l : List ℕ). TakesLine fold after n going.0 (take count l) (Ok Taken) in
+          let says = λ (l : List ℕ). FoldsLine fold after n going.0 (take count l) (Ok Taken) in
           let taken = subst says c.ahead.ensures (c.in-Some.ensures.takes fold going.0 going.3) in
           going-on fold (g.T.Taker.stands c.lines.taker fold header) after p n _ _ _ _ _ going
           (line-advances fold after n going.0 (Ok Taken) (take count hand) _ _ _ _ whole.no_newline within c.take.ensures.took taken c.take.ensures.sound);

@@ -1,5 +1,5 @@
 -- The line of an event that was read at the front of some bytes, and taken.
-use Rattle.bbm_session.proofs.Common.{Fold, Heading, Judged, Judges, Keeps, Limits, Patterns, TakesLine, Taken}
+use Rattle.bbm_session.proofs.Common.{Fold, Heading, Judged, Judges, Keeps, Limits, Patterns, FoldsLine, Taken}
 use Rattle.std.proofs.Common.{IfSome, refl, subst}
 use Rattle.std.specs.Bool.{then_some}
 use Rattle.bbm_rules.proofs.Common.{◌≡◌, ℕ, Bool, List, ◌∷◌, Option, Ok, take, true, false, sym, ◌∙◌, arith}
@@ -30,7 +30,7 @@ module _ (heading : Heading) (e : Event) (label : Option (List ℕ)) (count : �
       → (after_event Patterns limits n heading h e label ≡ GoesOn (AtEvents heading (e ∷ h)))
       × Keeps stands' heading (e ∷ h))
       → Judges frugal stands limits fold heading p n
-      → TakesLine fold (Judges frugal' stands' limits' fold heading) n p (take count bytes) (Ok Taken)
+      → FoldsLine fold (Judges frugal' stands' limits' fold heading) n p (take count bytes) (Ok Taken)
   takes frugal frugal' stands stands' limits limits' fold p n same within first taken judges =
       let fits = (and_parts (fits_heading heading e) (label_fits heading.version label) first.fits).0 in
       judged-takes frugal frugal' stands stands' limits limits' heading fold p n (take count bytes)
