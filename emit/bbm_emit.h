@@ -33,7 +33,7 @@ enum {
 	BBM_LINE_BYTES = 128,    /* room for any line of a dump */
 };
 
-/* What a slot tells. The numbers of this and of the other lists are those of a dump of the memory. */
+/* What a slot tells. A dump of the memory has the numbers of this list and of the next ones. */
 enum bbm_word {
 	BBM_NOTHING = 0,
 	BBM_INIT = 1,
@@ -150,7 +150,7 @@ struct bbm_buffer {
 	uint32_t pe;            /* the number of the PE, 0 to 127 */
 };
 
-/* Makes the buffer of a PE, with these slots, which it makes zero. */
+/* Makes the buffer of a PE, with these slots, which it makes empty. */
 void bbm_open(struct bbm_buffer *buffer, struct bbm_tickets *tickets, struct bbm_slot *slots, size_t room, unsigned pe);
 
 /* The page is about to be made zero, to become a table. */

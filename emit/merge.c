@@ -14,8 +14,8 @@
  *     --follow         reads files that still grow, and writes each line as soon as no dump can have an earlier one
  *
  * There is no log, and standard error says why, where a ticket is lost or stands twice, a PE has no closing line, or one
- * that tells of lost events, or a line is none of a log. With --follow what was written then has no `end` line. A second
- * form writes the header that the registers give.
+ * that tells of lost events, or a line is none of a log. With --follow what was written then has no `end` line. The
+ * other two forms write the header that the registers give.
  */
 #define _POSIX_C_SOURCE 200809L
 #include "bbm_emit.h"
