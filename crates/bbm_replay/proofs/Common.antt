@@ -27,7 +27,7 @@ pub use Rattle.bbm_replay.specs.OnePage.{IsFoundIn, IsOnWay, MetFromAll, NamesOn
 pub use Rattle.bbm_replay.specs.ReplayFaults.{step_fault}
 pub use Rattle.bbm_replay.specs.ReplayLaws.{Laws}
 pub use Rattle.bbm_replay.specs.ReplayRules.{Rules}
-pub use Rattle.bbm_replay.specs.ReplayStanding.{Clears, Holds, IsAt, MayMeet, Meets, SameFrame, Stands, view_of}
+pub use Rattle.bbm_replay.specs.ReplayStanding.{Clears, Holds, IsAt, MayMeet, Meets, SameFrame, PartsStand, view_of}
 pub use Rattle.bbm_replay.specs.ReplayTold.{Apart, Told, state_of, waiting}
 pub use Rattle.bbm_replay.specs.declared.parts.ReplayState.{ReplayState}
 pub use Rattle.bbm_replay_entries.specs.EntryEvents.{touches}

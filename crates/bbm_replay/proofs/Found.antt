@@ -1,5 +1,5 @@
 -- The path of a place, by the node of its page.
-use Rattle.bbm_replay.proofs.Common.{option_map, path_at, Path, Laws, IsAt, Stands, view_of, ReplayState}
+use Rattle.bbm_replay.proofs.Common.{option_map, path_at, Path, Laws, IsAt, PartsStand, view_of, ReplayState}
 use Rattle.bbm_rules.proofs.Common.{◌≡◌, ℕ, ◌≤◌, ◌<◌, List, Option, Some, None, refl, sym, ◌∙◌, ap, arith, page_of}
 use Rattle.bbm_rules.proofs.Common.{Heading, Event, Node}
 use Rattle.bbm_tree_index.specs.Index.{node_in}
@@ -25,7 +25,7 @@ no_path p place r e k = by (node_in p.index (page_of place)) refl
     by (Some n) is =
         let bad : None ≡ Some (path_at n place) = sym e ∙ k ∙ ap (λ (o : Option Node). option_map (λ n. path_at n place) o) is in absurd cc
 
-pub shallow : (heading : Heading) → Laws heading → (h : List Event) (p : ReplayState) → Stands p heading h → (place : ℕ) (path : Path)
+pub shallow : (heading : Heading) → Laws heading → (h : List Event) (p : ReplayState) → PartsStand p heading h → (place : ℕ) (path : Path)
     → IsAt p place path → path.level ≤ 3
 shallow heading laws h p s place path at =
     let own = laws.neighbours.own h (view_of p.map p.index) (page_of place) at.0 s.told.nodes at.1 in

@@ -1,5 +1,5 @@
 -- The parts after an event, by what their objects say.
-use Rattle.bbm_replay.proofs.Common.{waits, Pends, PlaceMap, TreeIndex, Laws, SameFrame, Stands, view_of, Told}
+use Rattle.bbm_replay.proofs.Common.{waits, Pends, PlaceMap, TreeIndex, Laws, SameFrame, PartsStand, view_of, Told}
 use Rattle.bbm_replay.proofs.Common.{ReplayState}
 use Rattle.bbm_rules.proofs.Common.{List, ◌∙◌, ap, Heading, Event}
 use Rattle.bbm_place_map.specs.MapCalls.{IsSame}
@@ -8,8 +8,8 @@ use Rattle.bbm_replay_roots.specs.RootStateStands as roots
 use Rattle.bbm_replay.proofs.Moves.{Same}
 use Rattle.bbm_replay.proofs.Quiet.{told_same}
 
-pub stands_next : (old new : ReplayState) → SameFrame old new → (heading : Heading) (h next : List Event) → Stands old heading h
-    → Told heading next (view_of new.map new.index) → roots.Stands new.roots heading next → Stands new heading next
+pub stands_next : (old new : ReplayState) → SameFrame old new → (heading : Heading) (h next : List Event) → PartsStand old heading h
+    → Told heading next (view_of new.map new.index) → roots.StateStands new.roots heading next → PartsStand new heading next
 stands_next old new f heading h next s told roots = record {
   header = f.header ∙ s.header;
   index_header = f.index_header ∙ s.index_header;
@@ -20,7 +20,7 @@ stands_next old new f heading h next s told roots = record {
 
 pub stands_still : ((heading : Heading) → Laws heading) → (old new : ReplayState) → SameFrame old new
     → Same (view_of old.map old.index) (view_of new.map new.index)
-    → (heading : Heading) (h : List Event) → Stands old heading h → roots.Stands new.roots heading h → Stands new heading h
+    → (heading : Heading) (h : List Event) → PartsStand old heading h → roots.StateStands new.roots heading h → PartsStand new heading h
 stands_still laws old new f same heading h s roots = stands_next old new f heading h h s
     (told_same heading (laws heading) h (view_of old.map old.index) (view_of new.map new.index) s.told same) roots
 

@@ -1,6 +1,6 @@
 -- Pages that leave, as the index tells it; and a retired root at the parts.
 use Rattle.bbm_replay.proofs.Common.{waits, Marks, Pends, PlaceMap, StepFault, TreeIndex, kept, Laws, Rules, MayMeet}
-use Rattle.bbm_replay.proofs.Common.{Meets, SameFrame, Stands, view_of, ReplayState}
+use Rattle.bbm_replay.proofs.Common.{Meets, SameFrame, PartsStand, view_of, ReplayState}
 use Rattle.bbm_rules.proofs.Common.{◌≡◌, ℕ, Bool, true, false, cond, not, ◌==◌, List, ◌∷◌, Option, Some, None, Ok, Err}
 use Rattle.bbm_rules.proofs.Common.{refl, sym, ◌∙◌, ap, Patterns, page_of, Heading, Event, Unroot, Node}
 use Rattle.bbm_place_map.specs.Map.{marks_at}
@@ -54,7 +54,7 @@ leaves_of old new before after keeps outside out =
 module _ (laws : (heading : Heading) → Laws heading) (rules : (heading : Heading) → Rules heading) (old : ReplayState)
     (pe page : ℕ) (m : MayMeet old (Unroot pe page)) where
   pub unroot_err : (fault : StepFault)
-      → ((heading : Heading) (h : List Event) → roots.Stands old.roots heading h
+      → ((heading : Heading) (h : List Event) → roots.StateStands old.roots heading h
       → roots.Judges (Err fault) (broken heading Patterns h (Unroot pe page))) → Meets old old (Unroot pe page) (Err fault)
   unroot_err fault judged = record {
     judged = λ heading h s. answers (Err fault) _ _ (judged heading h s.roots) ((rules heading).limits.others h (Unroot pe page) refl);
@@ -64,13 +64,13 @@ module _ (laws : (heading : Heading) → Laws heading) (rules : (heading : Headi
   }
 
   pub unroot_ok : (new : ReplayState)
-      → ((heading : Heading) (h : List Event) → roots.Stands old.roots heading h
+      → ((heading : Heading) (h : List Event) → roots.StateStands old.roots heading h
       → broken heading Patterns h (Unroot pe page) ≡ None)
       → SameFrame old new
-      → ((heading : Heading) (h : List Event) → Stands old heading h
+      → ((heading : Heading) (h : List Event) → PartsStand old heading h
       → Leaves (view_of old.map old.index) (view_of new.map new.index) (λ n. not (n.root == page)))
-      → ((heading : Heading) (h : List Event) → roots.Stands old.roots heading h
-      → broken heading Patterns h (Unroot pe page) ≡ None → roots.Stands new.roots heading (Unroot pe page ∷ h))
+      → ((heading : Heading) (h : List Event) → roots.StateStands old.roots heading h
+      → broken heading Patterns h (Unroot pe page) ≡ None → roots.StateStands new.roots heading (Unroot pe page ∷ h))
       → Meets old new (Unroot pe page) (Ok tt)
   unroot_ok new unbroken frame move taken = record {
     judged = λ heading h s. (unbroken heading h s.roots, (rules heading).limits.others h (Unroot pe page) refl);

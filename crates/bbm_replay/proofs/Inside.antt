@@ -3,7 +3,7 @@ use Rattle.bbm_replay.proofs.Common.{Written, IsIdle, EntryState, same_kind, Kin
 use Rattle.bbm_replay.proofs.Common.{LimboMake, NotFresh, RewrittenFresh, BadKind, GlobalUser, Broken, limbo_by, Path}
 use Rattle.bbm_replay.proofs.Common.{RootState, View, notes, Laws, attached_next, is_contiguous_core, is_global_core}
 use Rattle.bbm_replay.proofs.Common.{step_fault, TreeFault, Rules, Clears, Holds, IsAt, MayMeet, Meets, SameFrame}
-use Rattle.bbm_replay.proofs.Common.{Stands, view_of, Told, state_of, ReplayState}
+use Rattle.bbm_replay.proofs.Common.{PartsStand, view_of, Told, state_of, ReplayState}
 use Rattle.bbm_rules.proofs.Common.{◌≡◌, ℕ, ◌<◌, ◌%◌, Bool, true, false, not, ◌&&◌, ◌⊎◌, ◌==◌}
 use Rattle.bbm_rules.proofs.Common.{List, [], ◌∷◌, Option, Some, None, is_none, is_some, option_and_then, Result, Ok}
 use Rattle.bbm_rules.proofs.Common.{Err, refl, sym, ◌∙◌, ap, subst, inl, inr, option_map_or}
@@ -78,7 +78,7 @@ module _ (laws : (heading : Heading) → Laws heading) (rules : (heading : Headi
   new_n : new ≡ core_of n.kind n.level v
   new_n = new_is ∙ ap (λ (x : Path). core_of x.kind x.level v) at.2
 
-  module _ (heading : Heading) (h : List Event) (s : Stands old heading h) where
+  module _ (heading : Heading) (h : List Event) (s : PartsStand old heading h) where
     null_none : null_written heading Patterns (notes heading h) e ≡ None
     null_none = (rules heading).writes.null h v_old pe place v s.told.null
         ∙ where_false (null_in old.index (page_of place)) place (s.told.apart.node_not_null (page_of place) n at.1)
@@ -107,9 +107,9 @@ module _ (laws : (heading : Heading) → Laws heading) (rules : (heading : Headi
 
   -- ---- the rules that come first
 
-  module _ (lock : Option ℕ) (lock_is : (heading : Heading) (h : List Event) → roots.Stands old.roots heading h
+  module _ (lock : Option ℕ) (lock_is : (heading : Heading) (h : List Event) → roots.StateStands old.roots heading h
       → lock ≡ option_and_then (λ l. if_so (lacks h pe l) place) (lock_of h path.first)) where
-    no_lock_is : (heading : Heading) (h : List Event) → Stands old heading h
+    no_lock_is : (heading : Heading) (h : List Event) → PartsStand old heading h
         → no_lock heading Patterns (notes heading h) e ≡ lock
     no_lock_is heading h s = (rules heading).writes.lock h v_old n pe place v s.told.nodes at.1
         ∙ ap (λ (x : Path). option_and_then (λ l. if_so (lacks h pe l) place) (lock_of h x.first)) (sym at.2)
@@ -163,7 +163,7 @@ module _ (laws : (heading : Heading) → Laws heading) (rules : (heading : Headi
     attaches = subst (λ (x : Option Core). (is_some x ≡ true) ⊎ (next_of n.kind n.level v ≡ None)) held_n
         (plain_is held (desc_of n.kind n.level v) (ap (λ (x : Option Core). attached_next held x) (sym new_n) ∙ plain))
 
-    module _ (heading : Heading) (h : List Event) (s : Stands old heading h) where
+    module _ (heading : Heading) (h : List Event) (s : PartsStand old heading h) where
       leaves : (not_fresh heading Patterns (notes heading h) e ≡ None)
           × (bad_kind heading Patterns (notes heading h) e ≡ if_so (is_contiguous n.kind (desc_of n.kind n.level v)) place)
           × (global_user heading Patterns (notes heading h) e
@@ -201,7 +201,7 @@ module _ (laws : (heading : Heading) → Laws heading) (rules : (heading : Headi
           ∙ stops GlobalUser _ _ place (user_is heading h s ∙ where_true (same_kind path.kind Ttbr0 && is_global_core new) place k))
 
       module _ (own : (same_kind path.kind Ttbr0 && is_global_core new) ≡ false) where
-        plain_free : (heading : Heading) (h : List Event) → Stands old heading h → broken heading Patterns h e ≡ None
+        plain_free : (heading : Heading) (h : List Event) → PartsStand old heading h → broken heading Patterns h e ≡ None
         plain_free heading h s =
             let first = clear.passed heading h s in
             write_is heading (rules heading) h v_old s.told pe place v ∙ passes NoLock _ _ first.0 ∙ passes NullWritten _ _ first.1
@@ -223,7 +223,7 @@ module _ (laws : (heading : Heading) → Laws heading) (rules : (heading : Headi
               (after_plain_write heading (laws heading) h v_old (view_of next.map old.index) s.told pe place v state move
               (fits_all old e m heading h s) (plain_free heading h s) (λ p. refl)
               (record { tracked = tracked; known = λ p. refl; pages = refl }) n at.1 written_n attaches (λ p. refl) (λ p. refl) idle))
-              (subst (λ (r : RootState). roots.Stands r heading (e ∷ h)) (sym same_roots)
+              (subst (λ (r : RootState). roots.StateStands r heading (e ∷ h)) (sym same_roots)
               (others old.roots heading h e s.roots refl (plain_free heading h s)));
           unchanged = tt;
           frugal = tt;
@@ -245,7 +245,7 @@ module _ (laws : (heading : Heading) → Laws heading) (rules : (heading : Headi
     abbrev from : List Node
     from = node_below n place next ∷ []
 
-    module _ (heading : Heading) (h : List Event) (s : Stands old heading h) where
+    module _ (heading : Heading) (h : List Event) (s : PartsStand old heading h) where
       judged_here : (r : Result (Unit {0}) TreeFault)
           → index.Judges (fresh_in old.index) (value_at old.map) (index_paths.starts_of old.index (attach.Below place next)) {A = Unit {0}} false r
           → Verdict r (not_fresh heading Patterns (notes heading h) e) (bad_kind heading Patterns (notes heading h) e)
@@ -256,7 +256,7 @@ module _ (laws : (heading : Heading) → Laws heading) (rules : (heading : Headi
           (subst (λ (o : Option Node). index.Judges (fresh_in old.index) (value_at old.map) (index_paths.below_all o place next) {A = Unit {0}} false r) at.1 k)
 
     -- so it may take memory
-    attaching : (heading : Heading) (h : List Event) → Stands old heading h → rewrites heading h e ≡ false
+    attaching : (heading : Heading) (h : List Event) → PartsStand old heading h → rewrites heading h e ≡ false
     attaching heading h s = and_right (is_written h place) _ (some_attached held_none)
       where
         node_is : node_of heading Patterns (notes heading h) (page_of place) ≡ Some n
@@ -272,7 +272,7 @@ module _ (laws : (heading : Heading) → Laws heading) (rules : (heading : Headi
             → is_none (attached_by heading Patterns (notes heading h) e) ≡ false
         some_attached empty = rw (node_is, empty, both.1) refl
 
-    pub attach_fault : (last : ReplayState) → ((heading : Heading) (h : List Event) → Stands old heading h → Stands last heading h)
+    pub attach_fault : (last : ReplayState) → ((heading : Heading) (h : List Event) → PartsStand old heading h → PartsStand last heading h)
         → (fault : TreeFault)
         → index.Judges (fresh_in old.index) (value_at old.map) (index_paths.starts_of old.index (attach.Below place next)) {A = Unit {0}} false (Err fault)
         → Meets old last e (Err (step_fault fault))
@@ -312,7 +312,7 @@ module _ (laws : (heading : Heading) → Laws heading) (rules : (heading : Headi
     }
 
     module _ (fine : index.Judges (fresh_in old.index) (value_at old.map) (index_paths.starts_of old.index (attach.Below place next)) {A = Unit {0}} false (Ok tt)) where
-      attach_free : (heading : Heading) (h : List Event) → Stands old heading h → broken heading Patterns h e ≡ None
+      attach_free : (heading : Heading) (h : List Event) → PartsStand old heading h → broken heading Patterns h e ≡ None
       attach_free heading h s =
           let first = clear.passed heading h s in
           let w = judged_here heading h s (Ok tt) fine in
@@ -333,7 +333,7 @@ module _ (laws : (heading : Heading) → Laws heading) (rules : (heading : Headi
             (fits_all old e m heading h s) (attach_free heading h s) attached.null attached.tracking n next at.1 written_n
             (sym held_n ∙ both.0) both.1
             (subst (λ (o : Option Node). Attaches v_old (view_of last.map last.index) (index_paths.below_all o place next)) at.1 attached) idle)
-            (subst (λ (r : RootState). roots.Stands r heading (e ∷ h)) (sym same_roots)
+            (subst (λ (r : RootState). roots.StateStands r heading (e ∷ h)) (sym same_roots)
             (others old.roots heading h e s.roots refl (attach_free heading h s)));
         unchanged = tt;
         frugal = tt;

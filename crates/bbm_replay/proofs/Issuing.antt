@@ -1,6 +1,6 @@
 -- A TLBI at the parts.
 use Rattle.bbm_replay.proofs.Common.{Noted, waits, IsIdle, Marks, Pends, state_from, PlaceMap, RootState, notes, Laws}
-use Rattle.bbm_replay.proofs.Common.{Rules, MayMeet, Meets, Stands, view_of, ReplayState}
+use Rattle.bbm_replay.proofs.Common.{Rules, MayMeet, Meets, PartsStand, view_of, ReplayState}
 use Rattle.bbm_rules.proofs.Common.{◌≡◌, ℕ, ◌<◌, Bool, true, false, not, ◌&&◌, ◌||◌, nat_eq, List, ◌∷◌, Option, Some}
 use Rattle.bbm_rules.proofs.Common.{None, is_some, Ok, refl, sym, ◌∙◌, ap, subst, PeMask, operation, Patterns, cover_at}
 use Rattle.bbm_rules.proofs.Common.{Heading, Event, Tlbi, TlbiOp}
@@ -15,10 +15,10 @@ use Rattle.bbm_replay.proofs.TlbiMoves.{after_tlbi}
 
 pub tlbi_meets : ((heading : Heading) → Laws heading) → ((heading : Heading) → Rules heading) → (old : ReplayState) (map : PlaceMap)
     (r : RootState) (pe : ℕ) (op : TlbiOp) (xt : ℕ) → MayMeet old (Tlbi pe op xt)
-    → ((heading : Heading) (h : List Event) → roots.Stands old.roots heading h → broken heading Patterns h (Tlbi pe op xt) ≡ None)
+    → ((heading : Heading) (h : List Event) → roots.StateStands old.roots heading h → broken heading Patterns h (Tlbi pe op xt) ≡ None)
     → (reach : PeMask) → ((p : ℕ) → p < old.header.pes
     → pe_in reach p ≡ ((operation op).broadcast || (not old.header.cnp && nat_eq pe p)))
-    → ((heading : Heading) (h : List Event) → Stands old heading h → (a : ℕ) → is_some (marks_at old.map a) ≡ true
+    → ((heading : Heading) (h : List Event) → PartsStand old heading h → (a : ℕ) → is_some (marks_at old.map a) ≡ true
     → Noted (state_from None (marks_at old.map a)) (pends_at old.map pe a) reach (operation op).broadcast
     (cover_at heading Patterns (notes heading h) (Tlbi pe op xt) a) (pends_at map pe a))
     → ((q a : ℕ) → nat_eq q pe ≡ false → pends_at map q a ≡ pends_at old.map q a)
@@ -26,7 +26,7 @@ pub tlbi_meets : ((heading : Heading) → Laws heading) → ((heading : Heading)
     → ((q a : ℕ) → marks_at map a ≡ None → IsIdle (pends_at map q a))
     → ((a : ℕ) → value_at map a ≡ value_at old.map a) → ((a : ℕ) → marks_at map a ≡ marks_at old.map a)
     → ((p : ℕ) → is_tracked map p ≡ is_tracked old.map p)
-    → ((heading : Heading) (h : List Event) → Stands old heading h → roots.Stands r heading (Tlbi pe op xt ∷ h))
+    → ((heading : Heading) (h : List Event) → PartsStand old heading h → roots.StateStands r heading (Tlbi pe op xt ∷ h))
     → Meets old (record old { map = map; roots = r }) (Tlbi pe op xt) (Ok tt)
 tlbi_meets laws rules old map r pe op xt m unbroken reach reached noted others idle idle' values marks pages taken = record {
   judged = λ heading h s. (unbroken heading h s.roots, (rules heading).limits.others h (Tlbi pe op xt) refl);

@@ -1,6 +1,6 @@
 -- Events that concern the roots, registers and locks alone.
 use Rattle.bbm_replay.proofs.Common.{StepFault, Broken, Limit, NoMemory, RootState, AllFit, Laws, MayMeet, Meets}
-use Rattle.bbm_replay.proofs.Common.{Stands, view_of, ReplayState}
+use Rattle.bbm_replay.proofs.Common.{PartsStand, view_of, ReplayState}
 use Rattle.bbm_rules.proofs.Common.{◌≡◌, ℕ, Bool, true, false, ◌||◌, ◌==◌, nat_lt, List, [], ◌∷◌, Option, None, Result}
 use Rattle.bbm_rules.proofs.Common.{Ok, Err, refl, sym, ◌∙◌, ap, subst, and_parts, eqb-true, Which, fits_heading}
 use Rattle.bbm_rules.proofs.Common.{is_page, Answers, rewrites, Breach, Patterns, limit_of, is_null, Heading, Event}
@@ -16,7 +16,7 @@ use Rattle.bbm_replay.specs.ReplayStanding.{IsFrugal}
 use Rattle.bbm_replay.proofs.Quiet.{after_quiet}
 
 -- the event fits the header of every history that the parts stand for
-pub fits_all : (p : ReplayState) (e : Event) → MayMeet p e → (heading : Heading) (h : List Event) → Stands p heading h
+pub fits_all : (p : ReplayState) (e : Event) → MayMeet p e → (heading : Heading) (h : List Event) → PartsStand p heading h
     → fits_heading heading e ≡ true
 fits_all p e m heading h s =
     subst (λ (x : Heading). fits_heading x e ≡ true) (sym m.2.header ∙ s.header) m.3
@@ -26,8 +26,8 @@ abbrev pub with_roots : ReplayState → RootState → ReplayState
 with_roots p r = record p { roots = r }
 
 pub stands_quiet : ((heading : Heading) → Laws heading) → (p : ReplayState) (r : RootState) (e : Event) → is_quiet e ≡ true
-    → (heading : Heading) (h : List Event) → Stands p heading h → fits_heading heading e ≡ true
-    → broken heading Patterns h e ≡ None → roots.Stands r heading (e ∷ h) → Stands (with_roots p r) heading (e ∷ h)
+    → (heading : Heading) (h : List Event) → PartsStand p heading h → fits_heading heading e ≡ true
+    → broken heading Patterns h e ≡ None → roots.StateStands r heading (e ∷ h) → PartsStand (with_roots p r) heading (e ∷ h)
 stands_quiet laws p r e quiet heading h s fits unbroken taken = record {
   header = s.header;
   index_header = s.index_header;
@@ -41,8 +41,8 @@ stands_quiet laws p r e quiet heading h s fits unbroken taken = record {
   roots = taken;
 }
 
-pub stands_same : (p : ReplayState) (r : RootState) (heading : Heading) (h : List Event) → Stands p heading h
-    → roots.Stands r heading h → Stands (with_roots p r) heading h
+pub stands_same : (p : ReplayState) (r : RootState) (heading : Heading) (h : List Event) → PartsStand p heading h
+    → roots.StateStands r heading h → PartsStand (with_roots p r) heading h
 stands_same p r heading h s same = record {
   header = s.header;
   index_header = s.index_header;
@@ -60,7 +60,7 @@ answers (Err NoMemory) breach limit j k = absurd j
 
 -- an event that may take memory
 pub frugal_else : (p : ReplayState) (e : Event) (r : Result (Unit {0}) StepFault)
-    → ((heading : Heading) (h : List Event) → Stands p heading h
+    → ((heading : Heading) (h : List Event) → PartsStand p heading h
     → (takes_no_memory e ≡ false) × (rewrites heading h e ≡ false)) → IsFrugal p e r
 frugal_else p e (Ok u) k = tt
 frugal_else p e (Err (Broken rule at)) k = tt
@@ -69,7 +69,7 @@ frugal_else p e (Err NoMemory) k = k
 
 -- an answer that is never want of memory
 frugal_judged : (p : ReplayState) (e : Event) (fault : StepFault)
-    → ((heading : Heading) (h : List Event) → Stands p heading h → roots.Judges (Err fault) (broken heading Patterns h e))
+    → ((heading : Heading) (h : List Event) → PartsStand p heading h → roots.Judges (Err fault) (broken heading Patterns h e))
     → IsFrugal p e (Err fault)
 frugal_judged p e (Broken rule at) k = tt
 frugal_judged p e (Limit which) k = tt
@@ -78,10 +78,10 @@ frugal_judged p e NoMemory k = λ heading h s. absurd (k heading h s)
 -- a call of the roots that judges the event and takes it
 pub meets_judged : ((heading : Heading) → Laws heading) → (p : ReplayState) (r : RootState) (e : Event) → MayMeet p e
     → is_quiet e ≡ true → (result : Result (Unit {0}) StepFault)
-    → ((heading : Heading) (h : List Event) → roots.Stands p.roots heading h → roots.Judges result (broken heading Patterns h e))
+    → ((heading : Heading) (h : List Event) → roots.StateStands p.roots heading h → roots.Judges result (broken heading Patterns h e))
     → ((h : List Event) → limit_of h e ≡ None)
-    → OnOk result (roots.Takes e p.roots r)
-    → OnErr result (roots.Keeps p.roots r)
+    → OnOk result (roots.TakesEvent e p.roots r)
+    → OnErr result (roots.KeepsState p.roots r)
     → Meets p (with_roots p r) e result
 meets_judged laws p r e m quiet (Ok u) judged limit taken same = record {
   judged = λ heading h s. (judged heading h s.roots, limit h);
@@ -100,10 +100,10 @@ meets_judged laws p r e m quiet (Err fault) judged limit taken same = record {
 -- the same of a register write
 pub meets_answered : ((heading : Heading) → Laws heading) → (p : ReplayState) (r : RootState) (e : Event) → MayMeet p e
     → is_quiet e ≡ true → (result : Result (Unit {0}) StepFault)
-    → ((heading : Heading) (h : List Event) → Stands p heading h → Answers result (broken heading Patterns h e) (limit_of h e))
-    → OnOk result ((heading : Heading) (h : List Event) → Stands p heading h → roots.Stands r heading (e ∷ h))
-    → OnErr result ((heading : Heading) (h : List Event) → roots.Stands p.roots heading h → roots.Stands r heading h)
-    → ((heading : Heading) (h : List Event) → Stands p heading h
+    → ((heading : Heading) (h : List Event) → PartsStand p heading h → Answers result (broken heading Patterns h e) (limit_of h e))
+    → OnOk result ((heading : Heading) (h : List Event) → PartsStand p heading h → roots.StateStands r heading (e ∷ h))
+    → OnErr result ((heading : Heading) (h : List Event) → roots.StateStands p.roots heading h → roots.StateStands r heading h)
+    → ((heading : Heading) (h : List Event) → PartsStand p heading h
     → (takes_no_memory e ≡ false) × (rewrites heading h e ≡ false))
     → Meets p (with_roots p r) e result
 meets_answered laws p r e m quiet (Ok u) judged taken same spends = record {
@@ -145,11 +145,11 @@ null_page heading (Unlock pe lock ∷ h) page fit k = null_page heading h page (
 
 pub meets_msr : ((heading : Heading) → Laws heading) → (p : ReplayState) (r : RootState) (pe : ℕ) (reg : Reg) (value : ℕ)
     → MayMeet p (Msr pe reg value) → (result : Result (Unit {0}) StepFault) (null : Bool)
-    → ((heading : Heading) (h : List Event) → Stands p heading h → null ≡ has_null_base h value)
-    → ((heading : Heading) (h : List Event) → roots.Stands p.roots heading h → null ≡ has_null_base h value
+    → ((heading : Heading) (h : List Event) → PartsStand p heading h → null ≡ has_null_base h value)
+    → ((heading : Heading) (h : List Event) → roots.StateStands p.roots heading h → null ≡ has_null_base h value
     → Answers result (broken heading Patterns h (Msr pe reg value)) (limit_of h (Msr pe reg value)))
-    → OnOk result (roots.TakesWhere (λ _ h. null ≡ has_null_base h value) (Msr pe reg value) p.roots r)
-    → OnErr result (roots.Keeps p.roots r)
+    → OnOk result (roots.TakesEventWhere (λ _ h. null ≡ has_null_base h value) (Msr pe reg value) p.roots r)
+    → OnErr result (roots.KeepsState p.roots r)
     → Meets p (with_roots p r) (Msr pe reg value) result
 meets_msr laws p r pe reg value m (Ok u) null names judged taken same =
     meets_answered laws p r (Msr pe reg value) m refl (Ok u) (λ heading h s. judged heading h s.roots (names heading h s))

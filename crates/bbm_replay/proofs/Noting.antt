@@ -5,7 +5,7 @@ use Rattle.bbm_rules.proofs.Common.{◌≡◌, ℕ, Bool, true, false, List, [],
 use Rattle.bbm_rules.proofs.Common.{not-suc-le-zero, Cover, Patterns, PeMask, cover_at, Heading, Event, Tlbi, TlbiOp}
 use Rattle.bbm_place_map.specs.Map.{marks_at, pends_at}
 use Rattle.bbm_tlbi_scope.specs.declared.entry.Cover.TheVariants.{None as NoCover}
-use Rattle.bbm_replay.specs.Covering.{AreCovered, IsNoted}
+use Rattle.bbm_replay.specs.Covering.{AreCovered, NotesEach}
 use Rattle.bbm_replay.proofs.Unmet.{noted_none}
 
 either : (b : Bool) {P : Type 0} → (b ≡ true → P) → (b ≡ false → P) → P
@@ -28,7 +28,7 @@ module _ (old : PlaceMap) (index : TreeIndex) (state : RootState) (named : Named
         → ((a : ℕ) → is_found found a ≡ false → pends_at new pe a ≡ pends_at old pe a)
         → ((f : ℕ → Cover) → FoundAs found f → (a : ℕ) → is_found found a ≡ true → is_some (marks_at old a) ≡ true
         → Notes a (f a) (pends_at new pe a))
-        → IsNoted its index state named pe reach old new
+        → NotesEach its index state named pe reach old new
     noted_found items found same covers rest unnoted noted heading h op xt is m a broken =
         either (is_found found a) hit quiet
       where

@@ -1,7 +1,7 @@
 -- A write at a place of no tree, at the parts.
 use Rattle.bbm_replay.proofs.Common.{NoLock, NullWritten, BreakBeforeMake, LimboMake, NotFresh, RewrittenFresh, BadKind}
 use Rattle.bbm_replay.proofs.Common.{GlobalUser, Broken, RootState, notes, Laws, Rules, MayMeet, Meets, SameFrame}
-use Rattle.bbm_replay.proofs.Common.{Stands, view_of, Told, ReplayState}
+use Rattle.bbm_replay.proofs.Common.{PartsStand, view_of, Told, ReplayState}
 use Rattle.bbm_rules.proofs.Common.{◌≡◌, ℕ, ◌%◌, true, false, not, ◌&&◌, ◌||◌, ◌==◌, List, ◌∷◌, Some, None, Ok, Err}
 use Rattle.bbm_rules.proofs.Common.{refl, sym, ◌∙◌, subst, proved, If, Is, Patterns, if_so, page_of, Heading, Event}
 use Rattle.bbm_rules.proofs.Common.{Write, null_written, rewritten_fresh}
@@ -19,7 +19,7 @@ use Rattle.bbm_replay.proofs.Writing.{after_write_outside}
 
 module _ (laws : (heading : Heading) → Laws heading) (rules : (heading : Heading) → Rules heading) (others : roots.OthersStand)
     (old : ReplayState) (pe place v : ℕ) (m : MayMeet old (Write pe place v)) (away : node_in old.index (page_of place) ≡ None) where
-  module _ (heading : Heading) (h : List Event) (s : Stands old heading h) where
+  module _ (heading : Heading) (h : List Event) (s : PartsStand old heading h) where
     null_is : null_written heading Patterns (notes heading h) (Write pe place v) ≡ if_so (null_in old.index (page_of place)) place
     null_is = (rules heading).writes.null h (view_of old.map old.index) pe place v s.told.null
 
@@ -115,7 +115,7 @@ module _ (laws : (heading : Heading) → Laws heading) (rules : (heading : Headi
         (after_write_outside heading (laws heading) h (view_of old.map old.index) (view_of new.map old.index) s.told pe place v
         state.Clean move (fits_all old (Write pe place v) m heading h s) free (λ p. refl)
         (record { tracked = tracked; known = λ p. refl; pages = refl }) away refl ((rules heading).unattached.outside h (view_of old.map old.index) pe place v s.told.nodes s.told.fresh s.told.null away).0 (λ p. refl) (λ p. refl)))
-        (subst (λ (r : RootState). roots.Stands r heading (Write pe place v ∷ h)) (sym same_roots)
+        (subst (λ (r : RootState). roots.StateStands r heading (Write pe place v ∷ h)) (sym same_roots)
         (others old.roots heading h (Write pe place v) s.roots refl free));
     unchanged = tt;
     frugal = tt;

@@ -59,7 +59,7 @@ module _ (laws : (heading : Heading) → Laws heading) (rules : (heading : Headi
     (whole : marks_at old.map place ≡ None) (live new : Option Core)
     (live_is : live ≡ core_of path.kind path.level (value_at old.map place))
     (new_is : new ≡ core_of path.kind path.level v)
-    (lock : Option ℕ) (lock_is : (heading : Heading) (h : List Event) → roots.Stands old.roots heading h
+    (lock : Option ℕ) (lock_is : (heading : Heading) (h : List Event) → roots.StateStands old.roots heading h
     → lock ≡ option_and_then (λ l. if_so (lacks h pe l) place) (lock_of h path.first)) (open_lock : lock ≡ None)
     (others : roots.OthersStand) (next : ReplayState) (frame : SameFrame old next) (same_roots : next.roots ≡ old.roots)
     (same_index : next.index ≡ old.index) (put : Puts v place old.map next.map)

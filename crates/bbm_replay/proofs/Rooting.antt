@@ -1,7 +1,7 @@
 -- A root that is declared, at the parts.
 use Rattle.bbm_replay.proofs.Common.{IsIdle, Kind, kind_in_world, WrongWorld, NotFresh, BadKind, GlobalUser, PageInUse}
 use Rattle.bbm_replay.proofs.Common.{StepFault, Broken, Limit, NoMemory, PlaceMap, TreeIndex, TreeFault, RootState}
-use Rattle.bbm_replay.proofs.Common.{notes, step_fault, Laws, Rules, MayMeet, Meets, SameFrame, Stands, view_of}
+use Rattle.bbm_replay.proofs.Common.{notes, step_fault, Laws, Rules, MayMeet, Meets, SameFrame, PartsStand, view_of}
 use Rattle.bbm_replay.proofs.Common.{ReplayState, third_true}
 use Rattle.bbm_rules.proofs.Common.{◌≡◌, ℕ, Bool, true, false, cond, not, List, [], ◌∷◌, length, Option, Some, None}
 use Rattle.bbm_rules.proofs.Common.{filter, Result, Ok, Err, refl, sym, ◌∙◌, ap, subst, nat_le, Roots, Answers}
@@ -41,7 +41,7 @@ module _ (laws : (heading : Heading) → Laws heading) (rules : (heading : Headi
       ∙ stops WrongWorld _ _ 0 (where_true (not (kind_in_world heading.world kind)) 0 (ap not (wrong heading s.header))))
 
   module _ (right : (heading : Heading) → old.header ≡ heading → kind_in_world heading.world kind ≡ true) where
-    module _ (heading : Heading) (h : List Event) (s : Stands old heading h) where
+    module _ (heading : Heading) (h : List Event) (s : PartsStand old heading h) where
       world_is : if_so {A = ℕ} (not (kind_in_world heading.world kind)) 0 ≡ None
       world_is = where_false (not (kind_in_world heading.world kind)) 0 (ap not (right heading s.header))
 
@@ -72,7 +72,7 @@ module _ (laws : (heading : Heading) → Laws heading) (rules : (heading : Headi
         ∙ passes WrongWorld _ _ (world_is heading h s) ∙ passes NotFresh _ _ v.0 ∙ passes BadKind _ _ v.1 ∙ stops GlobalUser _ _ at v.2)
 
     module _ (fine : index.Judges (fresh_in old.index) (value_at old.map) (starts (heading_of old.index) kind page) {A = Unit {0}} true (Ok tt)) where
-      used : (heading : Heading) (h : List Event) → Stands old heading h → (at : ℕ)
+      used : (heading : Heading) (h : List Event) → PartsStand old heading h → (at : ℕ)
           → least (filter (λ p. not (fresh_in old.index p)) (root_pages heading.world kind page)) ≡ Some at
           → broken heading Patterns h e ≡ Some (record { rule = PageInUse; at = at })
       used heading h s at k =
@@ -83,7 +83,7 @@ module _ (laws : (heading : Heading) → Laws heading) (rules : (heading : Headi
 
       pub unbroken : ((heading : Heading) → old.header ≡ heading
           → least (filter (λ p. not (fresh_in old.index p)) (root_pages heading.world kind page)) ≡ None)
-          → (heading : Heading) (h : List Event) → Stands old heading h → broken heading Patterns h e ≡ None
+          → (heading : Heading) (h : List Event) → PartsStand old heading h → broken heading Patterns h e ≡ None
       unbroken k heading h s =
           let v = verdict_here heading h s (Ok tt) fine in
           root_is heading (rules heading) h (view_of old.map old.index) s.told pe page kind lock
@@ -95,12 +95,12 @@ module _ (laws : (heading : Heading) → Laws heading) (rules : (heading : Headi
           → Meets old old e (Err (Broken PageInUse at))
       root_used at k = meets_broken old e PageInUse at (λ heading h s. used heading h s at (k heading s.header))
 
-      module _ (free : (heading : Heading) (h : List Event) → Stands old heading h → broken heading Patterns h e ≡ None)
-          (ready : RootState) (same : (heading : Heading) (h : List Event) → roots.Stands old.roots heading h
-          → roots.Stands ready heading h) where
+      module _ (free : (heading : Heading) (h : List Event) → PartsStand old heading h → broken heading Patterns h e ≡ None)
+          (ready : RootState) (same : (heading : Heading) (h : List Event) → roots.StateStands old.roots heading h
+          → roots.StateStands ready heading h) where
         -- there is no room for the root
         pub root_full : (fault : StepFault)
-            → ((heading : Heading) (h : List Event) → roots.Stands old.roots heading h
+            → ((heading : Heading) (h : List Event) → roots.StateStands old.roots heading h
             → (fault ≡ Limit Roots) → limit_of h e ≡ Some Roots)
             → ((fault ≡ Limit Roots → ⊥) → fault ≡ NoMemory) → Meets old (with_roots old ready) e (Err fault)
         root_full fault full none = record {
@@ -111,7 +111,7 @@ module _ (laws : (heading : Heading) → Laws heading) (rules : (heading : Headi
         }
           where
             by : (f : StepFault) → (heading : Heading) (h : List Event) → ((f ≡ Limit Roots) → limit_of h e ≡ Some Roots)
-                → ((f ≡ Limit Roots → ⊥) → f ≡ NoMemory) → Stands old heading h
+                → ((f ≡ Limit Roots → ⊥) → f ≡ NoMemory) → PartsStand old heading h
                 → Answers (Err f) (broken heading Patterns h e) (limit_of h e)
             by NoMemory heading h full none s = tt
             by (Broken rule at) heading h full none s =
@@ -122,12 +122,12 @@ module _ (laws : (heading : Heading) → Laws heading) (rules : (heading : Headi
 
         -- there is, and the pages are attached
         pub root_ok : (new : ReplayState) → SameFrame old new
-            → ((heading : Heading) (h : List Event) → roots.Stands old.roots heading h → limit_of h e ≡ Some Roots → ⊥)
+            → ((heading : Heading) (h : List Event) → roots.StateStands old.roots heading h → limit_of h e ≡ Some Roots → ⊥)
             → SameMap (view_of old.map old.index) (view_of new.map new.index)
             → Attaches (view_of old.map old.index) (view_of new.map new.index) (starts (heading_of old.index) kind page)
             → ((q a : ℕ) → marks_at new.map a ≡ None → IsIdle (pends_at new.map q a))
-            → ((heading : Heading) (h : List Event) → roots.Stands ready heading h → broken heading Patterns h e ≡ None
-            → roots.Stands new.roots heading (e ∷ h))
+            → ((heading : Heading) (h : List Event) → roots.StateStands ready heading h → broken heading Patterns h e ≡ None
+            → roots.StateStands new.roots heading (e ∷ h))
             → Meets old new e (Ok tt)
         root_ok new frame room map attached idle taken = record {
           judged = λ heading h s. (free heading h s, no_limit heading h s);
@@ -141,7 +141,7 @@ module _ (laws : (heading : Heading) → Laws heading) (rules : (heading : Headi
           frugal = tt;
         }
           where
-            no_limit : (heading : Heading) (h : List Event) → Stands old heading h → limit_of h e ≡ None
+            no_limit : (heading : Heading) (h : List Event) → PartsStand old heading h → limit_of h e ≡ None
             no_limit heading h s = by (nat_le 1024 (length (roots_of h))) refl
               where
                 by : (b : Bool) → nat_le 1024 (length (roots_of h)) ≡ b → limit_of h e ≡ None

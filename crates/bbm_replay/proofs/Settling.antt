@@ -1,6 +1,6 @@
 -- A DSB at the parts.
 use Rattle.bbm_replay.proofs.Common.{Completed, Published, core_in, waits, Pends, Marks, is_table, state_from, PlaceMap}
-use Rattle.bbm_replay.proofs.Common.{Kind, View, is_held_by, Laws, MayMeet, Meets, SameFrame, Stands, view_of}
+use Rattle.bbm_replay.proofs.Common.{Kind, View, is_held_by, Laws, MayMeet, Meets, SameFrame, PartsStand, view_of}
 use Rattle.bbm_replay.proofs.Common.{ReplayState}
 use Rattle.bbm_rules.proofs.Common.{◌≡◌, ℕ, Bool, true, false, ◌&&◌, List, ◌∷◌, Option, Some, None, is_some, nat_eq, Ok}
 use Rattle.bbm_rules.proofs.Common.{refl, sym, ◌∙◌, ap, subst, is_non, Core, Cover, Patterns, limit_of, page_of}
@@ -40,9 +40,9 @@ module _ (laws : (heading : Heading) → Laws heading) (old new : ReplayState) (
     (tracked : (p : ℕ) → is_tracked m2 p ≡ is_tracked old.map p) (frame : SameFrame old new)
     (unbroken : (heading : Heading) (h : List Event) → broken heading Patterns h (Dsb pe dsb) ≡ None)
     (no_limit : (h : List Event) → limit_of h (Dsb pe dsb) ≡ None)
-    (taken : (heading : Heading) (h : List Event) → roots.Stands old.roots heading h
-    → roots.Stands new.roots heading (Dsb pe dsb ∷ h)) where
-  module _ (heading : Heading) (h : List Event) (s : Stands old heading h) where
+    (taken : (heading : Heading) (h : List Event) → roots.StateStands old.roots heading h
+    → roots.StateStands new.roots heading (Dsb pe dsb ∷ h)) where
+  module _ (heading : Heading) (h : List Event) (s : PartsStand old heading h) where
     hears_here : Hears (view_of old.map old.index) (view_of m1 old.index) (heading.cnp && is_non dsb.domain) pe dsb heading.pes
     hears_here = subst (λ (x : Heading). Hears (view_of old.map old.index) (view_of m1 old.index) (x.cnp && is_non dsb.domain) pe dsb x.pes) s.header hears
 
@@ -67,7 +67,7 @@ module _ (laws : (heading : Heading) → Laws heading) (old new : ReplayState) (
       tracking = record { tracked = λ p. refl; known = λ p. refl; pages = refl };
     }
 
-  pub dsb_meets : ((heading : Heading) (h : List Event) → Stands old heading h
+  pub dsb_meets : ((heading : Heading) (h : List Event) → PartsStand old heading h
       → Leaves (view_of m2 old.index) (view_of new.map new.index) (is_held_by (holding (view_of m2 old.index))))
       → Meets old new (Dsb pe dsb) (Ok tt)
   dsb_meets move = record {

@@ -1,7 +1,7 @@
 -- A page that is made zero, or declared null, at the parts.
 use Rattle.bbm_replay.proofs.Common.{kind_in_world, Rule, BadKind, GlobalUser, NotFresh, PageInUse, WrongWorld}
 use Rattle.bbm_replay.proofs.Common.{StepFault, Broken, Limit, NoMemory, RootState, TreeFault, step_fault, Laws, Rules}
-use Rattle.bbm_replay.proofs.Common.{MayMeet, Meets, SameFrame, Stands, view_of, ReplayState}
+use Rattle.bbm_replay.proofs.Common.{MayMeet, Meets, SameFrame, PartsStand, view_of, ReplayState}
 use Rattle.bbm_rules.proofs.Common.{◌≡◌, ℕ, ◌≤◌, Bool, true, false, ◌||◌, List, ◌∷◌, Option, Some, None, Ok, Err}
 use Rattle.bbm_rules.proofs.Common.{is_some, refl, sym, ◌∙◌, ap, subst, true≢false, Which, Pages, Answers, Patterns}
 use Rattle.bbm_rules.proofs.Common.{limit_of, S2, Heading, Event, Init, Null, Node}
@@ -19,7 +19,7 @@ use Rattle.bbm_replay.proofs.PageMoves.{after_init, after_null}
 
 -- an event that breaks a rule
 pub meets_broken : (p : ReplayState) (e : Event) (rule : Rule) (at : ℕ)
-    → ((heading : Heading) (h : List Event) → Stands p heading h
+    → ((heading : Heading) (h : List Event) → PartsStand p heading h
     → broken heading Patterns h e ≡ Some (record { rule = rule; at = at })) → Meets p p e (Err (Broken rule at))
 meets_broken p e rule at k = record { judged = k; taken = tt; unchanged = λ heading h s. s; frugal = tt }
 
@@ -45,7 +45,7 @@ module _ (laws : (heading : Heading) → Laws heading) (rules : (heading : Headi
             stands_next old new frame heading h (Init pe page ∷ h) s
             (after_init heading (laws heading) h (view_of old.map old.index) (view_of new.map new.index) s.told pe page
             (fits_all old (Init pe page) m heading h s) unbroken begins)
-            (subst (λ (r : RootState). roots.Stands r heading (Init pe page ∷ h)) (sym same_roots)
+            (subst (λ (r : RootState). roots.StateStands r heading (Init pe page ∷ h)) (sym same_roots)
             (others old.roots heading h (Init pe page) s.roots refl unbroken));
         unchanged = tt;
         frugal = tt;
@@ -58,7 +58,7 @@ module _ (laws : (heading : Heading) → Laws heading) (rules : (heading : Headi
         judged = λ heading h s. by fault full else_none heading h s;
         taken = tt;
         unchanged = λ heading h s. stands_still laws old new frame same heading h s
-            (subst (λ (r : RootState). roots.Stands r heading h) (sym same_roots) s.roots);
+            (subst (λ (r : RootState). roots.StateStands r heading h) (sym same_roots) s.roots);
         frugal = frugal_else old (Init pe page) (Err fault) (λ heading h s. (refl, refl));
       }
         where
@@ -67,7 +67,7 @@ module _ (laws : (heading : Heading) → Laws heading) (rules : (heading : Headi
           other _ = false
 
           by : (f : StepFault) → ((f ≡ Limit Pages) → (known_in old.index page ≡ false) × (16384 ≤ pages_in old.index))
-              → ((f ≡ Limit Pages → ⊥) → f ≡ NoMemory) → (heading : Heading) (h : List Event) → Stands old heading h
+              → ((f ≡ Limit Pages → ⊥) → f ≡ NoMemory) → (heading : Heading) (h : List Event) → PartsStand old heading h
               → Answers (Err f) (broken heading Patterns h (Init pe page)) (limit_of h (Init pe page))
           by NoMemory full none heading h s = tt
           by (Broken rule at) full none heading h s =
@@ -105,13 +105,13 @@ module _ (laws : (heading : Heading) → Laws heading) (rules : (heading : Headi
         taken = λ heading h s. stands_next old new frame heading h (Null pe page ∷ h) s
             (after_null heading (laws heading) h (view_of old.map old.index) (view_of new.map new.index) s.told pe page
             (fits_all old (Null pe page) m heading h s) (unbroken heading h s) move)
-            (subst (λ (r : RootState). roots.Stands r heading (Null pe page ∷ h)) (sym same_roots)
+            (subst (λ (r : RootState). roots.StateStands r heading (Null pe page ∷ h)) (sym same_roots)
             (others old.roots heading h (Null pe page) s.roots refl (unbroken heading h s)));
         unchanged = tt;
         frugal = tt;
       }
         where
-          unbroken : (heading : Heading) (h : List Event) → Stands old heading h → broken heading Patterns h (Null pe page) ≡ None
+          unbroken : (heading : Heading) (h : List Event) → PartsStand old heading h → broken heading Patterns h (Null pe page) ≡ None
           unbroken heading h s = null_free heading (rules heading) h (view_of old.map old.index) s.told pe page
               (right heading s.header)
               ((rules heading).on_pages.null_unused h (view_of old.map old.index) pe page s.told.fit s.told.fresh s.told.values fresh zero)

@@ -38,7 +38,7 @@ IsBrokenOver map place core = (marks : Marks) × (marks_at map place ≡ Some ma
 pub record MayBeIssued (heading : Heading) (h : List Event) (map : PlaceMap) (index : TreeIndex) (state : RootState)
     (pe : ℕ) (op : TlbiOp) (xt : ℕ) (named : NamedTlbi) : Type 0 where
   pub told : Told heading h (view_of map index)
-  pub stands : roots.Stands state heading h
+  pub stands : roots.StateStands state heading h
   pub names : named_scope heading h pe op xt ≡ Some named.scope
   pub vmid_is : named.vmid ≡ vmid_of heading h pe
 
@@ -68,8 +68,8 @@ Grows map index state named old new = (AreCovered map index state named old → 
 
 -- What the issue of a TLBI by a PE, which reaches these PEs, leaves of a map: it is noted at each broken place, as far
 -- as it covers it.
-abbrev pub IsNoted : Heading → TreeIndex → RootState → NamedTlbi → ℕ → PeMask → PlaceMap → PlaceMap → Type 0
-IsNoted its index state named pe reach old new = (heading : Heading) (h : List Event) (op : TlbiOp) (xt : ℕ)
+abbrev pub NotesEach : Heading → TreeIndex → RootState → NamedTlbi → ℕ → PeMask → PlaceMap → PlaceMap → Type 0
+NotesEach its index state named pe reach old new = (heading : Heading) (h : List Event) (op : TlbiOp) (xt : ℕ)
     → its ≡ heading → MayBeIssued heading h old index state pe op xt named → (a : ℕ) → is_some (marks_at old a) ≡ true
     → Noted (state_from None (marks_at old a)) (pends_at old pe a) reach named.scope.broadcast
     (cover_at heading Patterns (notes heading h) (Tlbi pe op xt) a) (pends_at new pe a)

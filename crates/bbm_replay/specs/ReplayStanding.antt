@@ -43,35 +43,37 @@ view_of map index = record {
 }
 
 -- The parts stand for a history that keeps the rules over all patterns of events.
-pub record Stands (parts : ReplayState) (heading : Heading) (h : List Event) : Type 0 where
+pub record PartsStand (parts : ReplayState) (heading : Heading) (h : List Event) : Type 0 where
   pub header : parts.header ≡ heading
   pub index_header : heading_of parts.index ≡ heading
   pub sound : IsSound parts.index
   pub told : Told heading h (view_of parts.map parts.index)
-  pub roots : roots.Stands parts.roots heading h
+  pub roots : roots.StateStands parts.roots heading h
 
 -- they stand for a history of the event's header
 abbrev pub MayMeet : ReplayState → Event → Type 0
-MayMeet parts e = (heading : Heading) × (h : List Event) × Stands parts heading h × (fits_heading heading e ≡ true)
+MayMeet parts e = (heading : Heading) × (h : List Event) × PartsStand parts heading h × (fits_heading heading e ≡ true)
 
 -- want of memory comes only of an event that may take memory
 abbrev pub IsFrugal : ReplayState → Event → Result (Unit {0}) StepFault → Type 0
-IsFrugal parts e (Err NoMemory) = (heading : Heading) (h : List Event) → Stands parts heading h
+IsFrugal parts e (Err NoMemory) = (heading : Heading) (h : List Event) → PartsStand parts heading h
     → (takes_no_memory e ≡ false) × (rewrites heading h e ≡ false)
 IsFrugal parts e _ = Unit {0}
 
 -- The answer to an event, and what the parts stand for then: for the history with the event after Ok, and else for what
 -- they stood for.
 pub record Meets (old new : ReplayState) (e : Event) (result : Result (Unit {0}) StepFault) : Type 0 where
-  pub judged : (heading : Heading) (h : List Event) → Stands old heading h
+  pub judged : (heading : Heading) (h : List Event) → PartsStand old heading h
       → Answers result (broken heading Patterns h e) (limit_of h e)
-  pub taken : OnOk result ((heading : Heading) (h : List Event) → Stands old heading h → Stands new heading (e ∷ h))
-  pub unchanged : OnErr result ((heading : Heading) (h : List Event) → Stands old heading h → Stands new heading h)
+  pub taken : OnOk result ((heading : Heading) (h : List Event) → PartsStand old heading h
+      → PartsStand new heading (e ∷ h))
+  pub unchanged : OnErr result ((heading : Heading) (h : List Event) → PartsStand old heading h
+      → PartsStand new heading h)
   pub frugal : IsFrugal old e result
 
 -- the checker stands for a history, as its parts do and with as many events as it counted
 pub record StandsFor (replay : Replay) (heading : Heading) (h : List Event) : Type 0 where
-  pub parts : Stands replay.parts heading h
+  pub parts : PartsStand replay.parts heading h
   pub counted : replay.events ≡ length h
 
 -- what no event changes: the header, also that of the index; and the index stays sound
@@ -81,10 +83,9 @@ pub record SameFrame (old new : ReplayState) : Type 0 where
   pub sound : IsSound old.index → IsSound new.index
 
 -- Of a write in a tree: the rules on locks, on null pages, on break-before-make and on limbo, which come first, are
--- kept;
--- or the event breaks one of them, and this is the answer.
+-- kept; or the event breaks one of them, and this is the answer.
 pub record Clears (parts : ReplayState) (e : Event) (result : Result (Unit {0}) StepFault) : Type 0 where
-  pub passed : OnOk result ((heading : Heading) (h : List Event) → Stands parts heading h
+  pub passed : OnOk result ((heading : Heading) (h : List Event) → PartsStand parts heading h
       → (no_lock heading Patterns (notes heading h) e ≡ None)
       × (null_written heading Patterns (notes heading h) e ≡ None)
       × (break_before_make heading Patterns (notes heading h) e ≡ None)

@@ -14,8 +14,8 @@ ghost use Rattle.bbm_tree_index.specs.IndexAgreement.{IsSound};
 ghost use Rattle.bbm_tree_index.specs.HeldCores.{core_at, next_in};
 ghost use Rattle.bbm_tree_index.specs.Index.{node_in};
 ghost use Rattle.bbm_tree_index.specs.Nodes.{path_at};
-ghost use Rattle.bbm_replay_roots.specs.RootsByNumber.{nth_in};
-ghost use Rattle.bbm_replay_roots.specs.RootStateStands.{Stands};
+ghost use Rattle.bbm_replay_roots.specs.RootsByNumber.{nth_root_in};
+ghost use Rattle.bbm_replay_roots.specs.RootStateStands.{StateStands};
 ghost use Rattle.bbm_replay.specs.Covering.{Grows};
 ghost use Rattle.bbm_replay.specs.OnePage.{FitTogether, IsFoundIn, MetFrom, MetFromAll, NamesOne};
 ghost use Rattle.bbm_replay.specs.OnePage.{covers_kind as spec_covers_kind};
@@ -68,7 +68,7 @@ fn position_of(map: &PlaceMap, place: Place, near: usize) -> Position
 
 impl Covering<'_> {
     /// The one input page that the TLBI names by its address, where so many places are broken that they aren't looked
-    /// at one by one.
+    /// at one by one; None where it names none so, or fewer are broken.
     pub(crate) fn page_looked_at(&self, broken: u64) -> Option<u64>
         ensures { IfSome result (λ at. NamesOne self.now.named.now.scope at) }
     {
@@ -88,7 +88,8 @@ impl Covering<'_> {
     }
 
     /// Adds the place, which has this path, with its cover, where it is broken. The next page of the table that it
-    /// holds; None where it holds none. No answer depends on `near`, at which its page is looked for first.
+    /// holds; None where it holds none. No answer depends on `near`, at which its page is looked for first. `NoMemory`
+    /// where there is none.
     #[inline(always)]
     fn add_place(
         &self,
@@ -125,7 +126,7 @@ impl Covering<'_> {
 
     /// Adds the broken places that are met on the way down along the input page from the page at this address, in
     /// bytes, each with its cover. No answer depends on `near`, at which the page is looked for first; that of the next
-    /// level, often made behind it, is looked for behind it.
+    /// level, often made behind it, is looked for behind it. `NoMemory` where there is none.
     fn descend(
         &self,
         map: &PlaceMap,
@@ -158,7 +159,8 @@ impl Covering<'_> {
         Ok(())
     }
 
-    /// Adds those that are met on the way down from the pages of a root.
+    /// Adds the broken places that are met on the way down along the input page from the pages of a root, each with its
+    /// cover. `NoMemory` where there is none.
     fn descend_pages(
         &self,
         map: &PlaceMap,
@@ -181,9 +183,9 @@ impl Covering<'_> {
         Ok(())
     }
 
-    /// Adds those that are met on the way down from the pages of the root with this number, if there is one and the
-    /// operation can cover places of its kind. They are looked for first at its own number, as where the roots were
-    /// made first.
+    /// Adds the broken places that are met on the way down along the input page from the pages of the root with this
+    /// number, if there is one and the operation can cover places of its kind, each with its cover. The pages are
+    /// looked for first at the number of the root, as where the roots were made first. `NoMemory` where there is none.
     fn descend_root(
         &self,
         map: &PlaceMap,
@@ -195,7 +197,8 @@ impl Covering<'_> {
         requires fits { FitTogether map.now self.now.index.now }
         ensures grows { OnOk result (Grows map.now self.now.index.now self.now.roots.now self.now.named.now
             found.old.items found.new.items) }
-        ensures met { OnOk result ((kind : TheKind) (first : ℕ) → nth_in self.now.roots.now number ≡ Some (kind, first)
+        ensures met { OnOk result ((kind : TheKind) (first : ℕ)
+            → nth_root_in self.now.roots.now number ≡ Some (kind, first)
             → spec_covers_kind self.now.named.now.scope.family kind ≡ true
             → MetFromAll (node_in self.now.index.now) (core_at map.now) input first
             (spec.page_count self.now.header.now.world kind) (IsFoundIn map.now found.new.items)) }
@@ -214,8 +217,8 @@ impl Covering<'_> {
         }
     }
 
-    /// Adds those that are met on the way down to an input page from the pages of each declared root of which the
-    /// operation can cover places. `NoMemory` where there is none.
+    /// Adds the broken places that are met on the way down along the input page from the pages of each declared root of
+    /// which the operation can cover places, each with its cover. `NoMemory` where there is none.
     pub(crate) fn descend_all(
         &self,
         map: &PlaceMap,
@@ -227,7 +230,7 @@ impl Covering<'_> {
         ensures grows { OnOk result (Grows map.now self.now.index.now self.now.roots.now self.now.named.now
             found.old.items found.new.items) }
         ensures met { OnOk result ((heading : Heading) (h : List Event) (root : Declared)
-            → Stands self.now.roots.now heading h
+            → StateStands self.now.roots.now heading h
             → root_at h root.page ≡ Some root → spec_covers_kind self.now.named.now.scope.family root.kind ≡ true
             → MetFromAll (node_in self.now.index.now) (core_at map.now) input root.page
             (spec.page_count self.now.header.now.world root.kind) (IsFoundIn map.now found.new.items)) }

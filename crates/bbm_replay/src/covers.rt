@@ -11,7 +11,7 @@ ghost use Rattle.bbm_rules.specs.Covers.{cover_at};
 ghost use Rattle.bbm_replay_trees.specs.Told.{notes};
 ghost use Rattle.bbm_replay.specs.Covering.{CoverEach, IsBrokenOver, IsCovered, MayBeIssued, Mismatches};
 ghost use Rattle.bbm_replay.specs.Covering.{asks_childless, asks_tags as spec_asks_tags};
-ghost use Rattle.bbm_replay_roots.specs.RootStateStands.{Stands};
+ghost use Rattle.bbm_replay_roots.specs.RootStateStands.{StateStands};
 ghost use Rattle.bbm_rules.specs.Places.{page_of};
 ghost use Rattle.bbm_rules.specs.Tags.{tag_set, tags_of};
 ghost use Rattle.bbm_rules.specs.Tree.{Node};
@@ -41,7 +41,7 @@ use smallvec::SmallVec;
 /// How far a TLBI covers a broken place. Source: project's own choice.
 #[derive(Clone, Copy)]
 struct PageCover {
-    /// The address of its page; 1 where there is no place.
+    /// The address of its page, in bytes; 1, which no page has, where there is no place.
     page: u64,
     /// How far it is covered.
     cover: Cover,
@@ -102,7 +102,8 @@ fn names_none(scope: &Scope, place: Place, path: &Path) -> bool
     }
 }
 
-/// The same, asked only where the place isn't covered.
+/// Whether the scope names none of the input pages that places of a page translate, one of which is this place, with
+/// this path. It is asked only where the place isn't covered; false says nothing.
 fn skips_page(scope: &Scope, cover: Cover, place: Place, path: &Path) -> bool
     requires { (n : Node) × (path.now ≡ path_at n place) }
     ensures { result ≡ true → (n : Node) → path.now ≡ path_at n place → (a : ℕ)
@@ -132,10 +133,10 @@ impl Covering<'_> {
     /// the place by them.
     fn tags(&self, path: &Path) -> Option<TagSet>
         ensures told { IfSome result (λ tags. spec_asks_tags self.now.named.now.scope.family path.now.kind ≡ true
-            → (heading : Heading) (h : List Event) → Stands self.now.roots.now heading h
+            → (heading : Heading) (h : List Event) → StateStands self.now.roots.now heading h
             → tags ≡ tag_set (tags_of heading Patterns path.now.first h)) }
         ensures none { result ≡ None → (spec_asks_tags self.now.named.now.scope.family path.now.kind ≡ true)
-            × ((heading : Heading) (h : List Event) → Stands self.now.roots.now heading h
+            × ((heading : Heading) (h : List Event) → StateStands self.now.roots.now heading h
             → Mismatches self.now.named.now (tag_set (tags_of heading Patterns path.now.first h))) }
     {
         if !asks_tags(self.named.scope.family, path.kind) {
@@ -209,7 +210,8 @@ impl Covering<'_> {
         (cover, skips_page(&self.named.scope, cover, place, &path))
     }
 
-    /// The same of the broken place with this number, where that of the one before it is known.
+    /// How far the TLBI covers the broken place with this number, and whether it covers each broken place of its page
+    /// so far, where the answer for the one before it is known.
     #[inline(always)]
     fn cover_after(&self, map: &PlaceMap, i: u64, before: PageCover) -> PageCover
         requires sound { IsSound self.now.index.now }

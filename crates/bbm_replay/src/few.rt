@@ -18,7 +18,7 @@ ghost use Rattle.bbm_tlbi_scope.specs.declared.op.TlbiOp.{TlbiOp};
 ghost use Rattle.bbm_tree_index.specs.Index.{node_in};
 ghost use Rattle.bbm_tree_index.specs.IndexAgreement.{IsSound};
 ghost use Rattle.bbm_tree_index.specs.Nodes.{path_at};
-ghost use Rattle.bbm_replay_roots.specs.RootStateStands.{Stands};
+ghost use Rattle.bbm_replay_roots.specs.RootStateStands.{StateStands};
 ghost use Rattle.bbm_replay_trees.specs.Told.{notes};
 ghost use Rattle.bbm_replay.specs.Covering.{Grows, IsBrokenOver, MayBeIssued};
 
@@ -38,7 +38,7 @@ pub(crate) const FEW: u64 = 8;
 
 /// Whether the VMID is the only one of the tags; told where that is one VMID.
 #[inline(always)]
-fn is_only(vmid: Option<u16>, tags: TagSet) -> Option<bool>
+fn is_only_vmid(vmid: Option<u16>, tags: TagSet) -> Option<bool>
     ensures { IfSome result (λ yes. yes ≡ vmid_matches vmid tags) }
 {
     match tags {
@@ -47,7 +47,7 @@ fn is_only(vmid: Option<u16>, tags: TagSet) -> Option<bool>
     }
 }
 
-/// The same of the ASID.
+/// Whether the ASID is the only one of the tags; told where that is one ASID.
 #[inline(always)]
 fn is_only_asid(asid: Option<u16>, tags: TagSet) -> Option<bool>
     ensures { IfSome result (λ yes. yes ≡ asid_matches asid tags) }
@@ -75,12 +75,13 @@ fn is_none(cover: Cover) -> bool
 }
 
 impl Covering<'_> {
-    /// How far the TLBI covers a leaf with this path, where it is of one of four operations that most TLBIs are of.
-    /// None says nothing.
+    /// How far the TLBI covers a leaf with this path, where it is of one of the four families that most TLBIs are of,
+    /// and where the cover depends on the tags of the root this holds one. None says nothing.
     #[inline(always)]
     fn leaf_cover(&self, path: &Path) -> Option<Cover>
-        ensures { IfSome result (λ cover. (heading : Heading) (h : List Event) → Stands self.now.roots.now heading h
-            → (global childless : Bool) → cover ≡ cover_of self.now.named.now.scope self.now.named.now.vmid (record {
+        ensures { IfSome result (λ cover. (heading : Heading) (h : List Event)
+            → StateStands self.now.roots.now heading h → (global childless : Bool)
+            → cover ≡ cover_of self.now.named.now.scope self.now.named.now.vmid (record {
               kind = path.now.kind;
               region = path.now.region;
               level = path.now.level;
@@ -105,12 +106,12 @@ impl Covering<'_> {
             },
             Kind::S2 => match scope.family {
                 Family::Ipa => {
-                    let only = is_only(vmid, self.roots.tags_of(path.first))?;
+                    let only = is_only_vmid(vmid, self.roots.tags_of(path.first))?;
                     let fits = scope.names_some(path.region) && scope.hint_allows(path.level);
                     Some(where_so(Cover::Half, fits && only))
                 }
                 Family::VmAll1 => {
-                    let only = is_only(vmid, self.roots.tags_of(path.first))?;
+                    let only = is_only_vmid(vmid, self.roots.tags_of(path.first))?;
                     Some(where_so(Cover::Second, only))
                 }
                 _ => None,

@@ -1,4 +1,4 @@
-//! What the issue of a TLBI leaves to its answer.
+//! The issue of a TLBI: it is noted at the broken places that it covers.
 
 ghost use Rattle.std.specs.Prelude.{◌≡◌, ℕ, true, false, is_some, List, IfOk, OnOk, OnErr, nat_eq};
 ghost use Rattle.bbm_place_map.specs.MapCalls.{IsSame};
@@ -13,7 +13,7 @@ ghost use Rattle.bbm_rules.specs.Covers.{cover_at};
 ghost use Rattle.bbm_tlbi_scope.specs.declared.entry.Cover.TheVariants.{None as NoCover};
 ghost use Rattle.bbm_tlbi_scope.specs.declared.op.TlbiOp.{TlbiOp};
 ghost use Rattle.bbm_replay_trees.specs.Told.{notes};
-ghost use Rattle.bbm_replay.specs.Covering.{Grows, IsNoted, MayBeIssued};
+ghost use Rattle.bbm_replay.specs.Covering.{Grows, NotesEach, MayBeIssued};
 ghost use Rattle.bbm_replay.specs.OnePage.{FitTogether};
 
 use crate::covering::Covering;
@@ -27,9 +27,9 @@ use smallvec::SmallVec;
 use std::alloc::Global;
 
 impl Covering<'_> {
-    /// Adds broken places, each with its cover, so that the TLBI covers no other; false where it adds none, and says
-    /// nothing. Where few are broken it looks at each, and where many are, for a TLBI of one input page at those on the
-    /// way down to it. `NoMemory` where there is none.
+    /// Adds broken places, each with its cover, so that after true the TLBI covers no other; false says nothing. Where
+    /// few are broken it looks at each, and where many are, for a TLBI of one input page at those on the way down to
+    /// it. `NoMemory` where there is none.
     fn find(&self, map: &PlaceMap, found: &mut SmallVec<Found, 4>) -> Result<bool, NoMemory>
         requires sound { IsSound self.now.index.now }
         requires fits { FitTogether map.now self.now.index.now }
@@ -58,7 +58,8 @@ impl Covering<'_> {
         }
     }
 
-    /// The issue of a TLBI as `issue` says it; each broken place is looked at.
+    /// The issue of a TLBI, which reaches these PEs: it is noted at each broken place that it covers, as far as it
+    /// does. Each broken place is looked at. `NoMemory` where there is none, and nothing changes then.
     #[inline(never)]
     fn issue_each(
         &self,
@@ -68,7 +69,7 @@ impl Covering<'_> {
         reach: PeMask,
     ) -> Result<(), NoMemory>
         requires sound { IsSound self.now.index.now }
-        ensures noted { OnOk result (IsNoted self.now.header.now self.now.index.now self.now.roots.now
+        ensures noted { OnOk result (NotesEach self.now.header.now self.now.index.now self.now.roots.now
             self.now.named.now pe reach map.old map.new) }
         ensures others { (q a : ℕ) → nat_eq q pe ≡ false → pends_at map.new q a ≡ pends_at map.old q a }
         ensures kept { OnErr result (IsSame map.old map.new) }
@@ -93,7 +94,7 @@ impl Covering<'_> {
     ) -> Result<(), NoMemory>
         requires sound { IsSound self.now.index.now }
         requires fits { FitTogether map.old self.now.index.now }
-        ensures noted { OnOk result (IsNoted self.now.header.now self.now.index.now self.now.roots.now
+        ensures noted { OnOk result (NotesEach self.now.header.now self.now.index.now self.now.roots.now
             self.now.named.now pe reach map.old map.new) }
         ensures others { (q a : ℕ) → nat_eq q pe ≡ false → pends_at map.new q a ≡ pends_at map.old q a }
         ensures kept { OnErr result (IsSame map.old map.new) }

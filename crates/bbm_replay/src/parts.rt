@@ -1,7 +1,7 @@
 //! The parts of the checker.
 
 ghost use Rattle.std.specs.Prelude.{IfOk, []};
-ghost use Rattle.bbm_replay.specs.ReplayStanding.{MayMeet, Meets, Stands};
+ghost use Rattle.bbm_replay.specs.ReplayStanding.{MayMeet, Meets, PartsStand};
 
 use bbm_events::{Event, Header};
 use bbm_place_map::PlaceMap;
@@ -28,7 +28,7 @@ pub struct ReplayState {
 impl ReplayState {
     /// What stands for the empty history of the header.
     pub(crate) fn new(alloc: Global, header: &Header) -> Result<ReplayState, NoMemory>
-        ensures { IfOk result (λ parts. Stands parts header.now []) }
+        ensures { IfOk result (λ parts. PartsStand parts header.now []) }
     {
         header.in_ranges();
         let index = TreeIndex::new(alloc, header);

@@ -1,17 +1,15 @@
-//! Register writes, ISBs, DMBs and locks.
+//! Register writes, ISBs and locks.
 
-ghost use Rattle.std.specs.Prelude.{◌≡◌, ℕ, List, true};
+ghost use Rattle.std.specs.Prelude.{◌≡◌, List};
 ghost use Rattle.bbm_events.specs.Heading.{Heading};
 ghost use Rattle.bbm_events.specs.declared.event.Event.{Event};
-ghost use Rattle.bbm_events.specs.declared.event.Event.TheVariants.{Dmb, Isb, Lock, Msr, Unlock};
+ghost use Rattle.bbm_events.specs.declared.event.Event.TheVariants.{Isb, Lock, Msr, Unlock};
 ghost use Rattle.std.specs.Prelude.{Ok};
 ghost use Rattle.bbm_replay_roots.specs.Bridge.{has_null_base};
-ghost use Rattle.bbm_replay.specs.ReplayStanding.{MayMeet, Meets, Stands};
-ghost use Rattle.bbm_barriers.specs.declared.Dsb.{Dsb as Barrier};
+ghost use Rattle.bbm_replay.specs.ReplayStanding.{MayMeet, Meets, PartsStand};
 
 use crate::laws::laws;
 use crate::parts::ReplayState;
-use bbm_barriers::Dsb;
 use bbm_regimes::{Page, Pe, Reg, base_of};
 use bbm_replay_roots::law_barriers;
 use bbm_rules::StepFault;
@@ -20,7 +18,8 @@ use std::alloc::Global;
 impl ReplayState {
     /// Whether the base of a register value is a null page.
     fn names_null(&self, value: u64) -> bool
-        ensures { (heading : Heading) (h : List Event) → Stands self.now heading h → result ≡ has_null_base h value }
+        ensures { (heading : Heading) (h : List Event) → PartsStand self.now heading h
+            → result ≡ has_null_base h value }
     {
         match base_of(value) {
             Some(base) => match Page::new(base) {

@@ -1,8 +1,6 @@
 //! The checker.
 
-ghost use Rattle.std.specs.Prelude.{◌≡◌, ℕ, List, [], true, IfOk};
-ghost use Rattle.bbm_events.specs.declared.event.Event.{Event as TheEvent};
-ghost use Rattle.bbm_events.specs.Heading.{Heading};
+ghost use Rattle.std.specs.Prelude.{[], true, IfOk};
 ghost use Rattle.bbm_place_map.specs.Map as map;
 ghost use Rattle.bbm_rules.specs.Values as values;
 ghost use Rattle.bbm_replay.specs.ReplayStanding.{StandsFor};
@@ -18,7 +16,9 @@ use std::alloc::Global;
 /// and how many events it took. Source: project's own choice.
 #[derive(Drop)]
 pub struct Replay {
+    /// What stands for the history.
     parts: ReplayState,
+    /// How many events were taken.
     events: u64,
 }
 

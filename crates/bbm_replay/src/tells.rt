@@ -1,13 +1,13 @@
 //! What the parts tell of places.
 
-ghost use Rattle.std.specs.Prelude.{◌≡◌, ◌≤◌, ◌<◌, ℕ, List};
+ghost use Rattle.std.specs.Prelude.{◌≡◌, ◌≤◌, List};
 ghost use Rattle.bbm_events.specs.Heading.{Heading};
 ghost use Rattle.bbm_events.specs.declared.event.Event.{Event};
 ghost use Rattle.bbm_replay_entries.specs.EntryPhases.{phase_in};
 ghost use Rattle.bbm_rules.specs.Answers.{MayAsk};
 ghost use Rattle.bbm_rules.specs.Claims.{Patterns};
 ghost use Rattle.bbm_rules.specs.Phases as rules;
-ghost use Rattle.bbm_replay.specs.ReplayStanding.{Stands, view_of};
+ghost use Rattle.bbm_replay.specs.ReplayStanding.{PartsStand, view_of};
 ghost use Rattle.bbm_replay.specs.ReplayTold.{state_of};
 ghost use Rattle.bbm_entry_state.specs.declared.state.EntryState.{EntryState as TheState};
 
@@ -57,8 +57,8 @@ impl ReplayState {
 
     /// How far the place has been taken through break-before-make at the PE.
     pub(crate) fn phase(&self, place: Place, pe: Pe) -> Phase
-        requires { MayAsk (Stands self.now) pe }
-        ensures { (heading : Heading) (h : List Event) → Stands self.now heading h
+        requires { MayAsk (PartsStand self.now) pe }
+        ensures { (heading : Heading) (h : List Event) → PartsStand self.now heading h
             → result ≡ rules.phase_of heading Patterns h place pe }
     {
         laws();
@@ -71,7 +71,7 @@ impl ReplayState {
 
     /// The number of places of trees that hold a value and whose value is invalid.
     pub(crate) fn restless(&self) -> u64
-        ensures { (heading : Heading) (h : List Event) → Stands self.now heading h
+        ensures { (heading : Heading) (h : List Event) → PartsStand self.now heading h
             → result ≡ rules.restless_of heading Patterns h }
     {
         law_entry_phase();

@@ -1,6 +1,6 @@
 //! Roots that are declared and retired.
 
-ghost use Rattle.std.specs.Prelude.{◌≡◌, ◌+◌, ◌*◌, ◌≤◌, ◌<◌, ◌%◌, ◌^◌, ℕ, not, filter};
+ghost use Rattle.std.specs.Prelude.{◌≡◌, ◌+◌, ◌*◌, ◌≤◌, ◌<◌, ◌%◌, ◌^◌, not, filter};
 ghost use Rattle.bbm_events.specs.declared.event.Event.TheVariants.{Root, Unroot};
 ghost use Rattle.bbm_rules.specs.Lists.{least};
 ghost use Rattle.bbm_rules.specs.Roots.{pages_from};
@@ -16,7 +16,7 @@ use bbm_tree_index::{Attach, Detach, TreeIndex};
 use std::alloc::Global;
 
 /// Whether the page at the address, in bytes, is fresh.
-fn is_fresh_at(index: &TreeIndex, at: u64) -> bool
+fn is_fresh_address(index: &TreeIndex, at: u64) -> bool
     requires below { at < 2 ^ 48 }
     requires aligned { at % 4096 ≡ 0 }
     ensures { result ≡ fresh_in index.now at }
@@ -34,7 +34,7 @@ fn first_unfresh(index: &TreeIndex, page: Page, count: u8) -> Option<u64>
 {
     for i in 0..count {
         let at = page.get() + 4096 * u64::from(i);
-        if !is_fresh_at(index, at) {
+        if !is_fresh_address(index, at) {
             return Some(at);
         }
     }

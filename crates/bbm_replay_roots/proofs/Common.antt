@@ -5,7 +5,7 @@ pub use Rattle.bbm_histories.specs.TreeChanges.{Proper}
 pub use Rattle.bbm_replay_roots.specs.Bridge.{calls_of, has_null_base, issue_of, with_call}
 pub use Rattle.bbm_replay_roots.specs.RootFaults.{room_fault}
 pub use Rattle.bbm_replay_roots.specs.RootLaws.{Laws}
-pub use Rattle.bbm_replay_roots.specs.RootStateStands.{Stands}
+pub use Rattle.bbm_replay_roots.specs.RootStateStands.{StateStands}
 pub use Rattle.bbm_replay_roots.specs.declared.state.RootState.{RootState}
 pub use Rattle.bbm_roots.specs.Readings.{has_other, has_reading, own_reading}
 pub use Rattle.bbm_roots.specs.RootCalls.{Call, Issue, WriteReg}

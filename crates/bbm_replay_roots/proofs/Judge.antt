@@ -1,7 +1,7 @@
 -- The least rule that an event breaks, and what stands after one that breaks none.
 use Rattle.bbm_replay_roots.proofs.Common.{is_none, option_map, Limit, RootFault, room_fault, Kind, Patterns, Rule}
 use Rattle.bbm_replay_roots.proofs.Common.{WrongWorld, NoLock, NoRoot, TagConflict, RootInUse, UnsyncedVmid, LockBusy}
-use Rattle.bbm_replay_roots.proofs.Common.{pes_of, world_of, Call, calls_of, Laws, Stands, RootState}
+use Rattle.bbm_replay_roots.proofs.Common.{pes_of, world_of, Call, calls_of, Laws, StateStands, RootState}
 use Rattle.bbm_rules.proofs.Common.{◌≡◌, ℕ, ◌<◌, Bool, true, false, not, ◌&&◌, ◌==◌, cond, nat_le, length, ◌≤◌, ◌↔◌}
 use Rattle.bbm_rules.proofs.Common.{Result, Ok, List, ◌∷◌, Option, Some, None, refl, sym, ap, ◌∙◌, arith, true≢false}
 use Rattle.bbm_rules.proofs.Common.{option_map_or, and_from, eq-eqb, eqb-true, le-leb, leb-true, ne_eqb, result_ok}
@@ -21,7 +21,7 @@ use Rattle.bbm_roots.specs.RootChanges as changes
 use Rattle.bbm_roots.specs.RootsStand as lower
 use Rattle.bbm_roots.specs.DeclaredRoots as called
 use Rattle.bbm_replay_roots.proofs.RootMaps.{as_root, root_same}
-use Rattle.bbm_replay_roots.specs.RootStateStands.{Keeps, concerns_roots}
+use Rattle.bbm_replay_roots.specs.RootStateStands.{KeepsState, concerns_roots}
 use Rattle.bbm_replay_roots.proofs.TagMaps.{Agrees, agrees}
 
 -- the breach of the rule, or else the other
@@ -79,10 +79,10 @@ pub kept_next : (heading : Heading) (h : List Event) (e : Event) → keeps headi
 kept_next heading h e kept none =
     and_from (keeps heading Patterns h) (is_none (broken heading Patterns h e)) kept (ap (λ (o : Option Breach). is_none o) none)
 
-pub stood : {old : RootState} {heading : Heading} {h : List Event} (new : RootState) (e : Event) → Stands old heading h
+pub stood : {old : RootState} {heading : Heading} {h : List Event} (new : RootState) (e : Event) → StateStands old heading h
     → broken heading Patterns h e ≡ None → new.header ≡ old.header → pes_of new.roots ≡ pes_of old.roots
     → world_of new.roots ≡ world_of old.roots → lower.Stands new.roots (calls_of heading (e ∷ h))
-    → ((lock : ℕ) → holder_at new.locks lock ≡ holder_of (e ∷ h) lock) → Stands new heading (e ∷ h)
+    → ((lock : ℕ) → holder_at new.locks lock ≡ holder_of (e ∷ h) lock) → StateStands new heading (e ∷ h)
 stood {heading = heading} {h = h} new e s none header pes world roots locks = record {
   heading_is = header ∙ s.heading_is;
   proper = s.proper;
@@ -94,9 +94,9 @@ stood {heading = heading} {h = h} new e s none header pes world roots locks = re
 }
 
 -- the same history after a change of room alone
-pub stays : {old : RootState} {heading : Heading} {h : List Event} (new : RootState) → Stands old heading h
+pub stays : {old : RootState} {heading : Heading} {h : List Event} (new : RootState) → StateStands old heading h
     → new.header ≡ old.header → pes_of new.roots ≡ pes_of old.roots → world_of new.roots ≡ world_of old.roots
-    → lower.Stands new.roots (calls_of heading h) → ((lock : ℕ) → holder_at new.locks lock ≡ holder_at old.locks lock) → Stands new heading h
+    → lower.Stands new.roots (calls_of heading h) → ((lock : ℕ) → holder_at new.locks lock ≡ holder_at old.locks lock) → StateStands new heading h
 stays new s header pes world roots locks = record {
   heading_is = header ∙ s.heading_is;
   proper = s.proper;
@@ -108,26 +108,26 @@ stays new s header pes world roots locks = record {
 }
 
 pub kept : {old : RootState} (new : RootState) → new.header ≡ old.header
-    → ((lock : ℕ) → holder_at new.locks lock ≡ holder_at old.locks lock) → changes.Keeps old.roots new.roots → Keeps old new
+    → ((lock : ℕ) → holder_at new.locks lock ≡ holder_at old.locks lock) → changes.Keeps old.roots new.roots → KeepsState old new
 kept new header locks same = record {
   same = λ heading h s. stays new s header same.log.pes same.log.world (same.same (calls_of heading h) s.roots) locks;
   room = same.prepared;
 }
 
-pub agrees_by : {state : RootState} {heading : Heading} {h : List Event} → Laws heading → Stands state heading h → Agrees heading h
+pub agrees_by : {state : RootState} {heading : Heading} {h : List Event} → Laws heading → StateStands state heading h → Agrees heading h
 agrees_by {heading = heading} {h = h} laws s = agrees heading laws (laws.proper s.proper) h s.kept
 
 -- a PE of one history's header is one of each header's
-pub in_range : {state : RootState} {heading other : Heading} {h g : List Event} {p : ℕ} → Stands state other g → Stands state heading h
+pub in_range : {state : RootState} {heading other : Heading} {h g : List Event} {p : ℕ} → StateStands state other g → StateStands state heading h
     → p < other.pes → p < heading.pes
 in_range s t less = let a = s.pes in let b = t.pes in omega arith
 
-pub of_state : {state : RootState} {heading : Heading} {h : List Event} {p : ℕ} → Stands state heading h → p < heading.pes → p < pes_of state.roots
+pub of_state : {state : RootState} {heading : Heading} {h : List Event} {p : ℕ} → StateStands state heading h → p < heading.pes → p < pes_of state.roots
 of_state s less = let a = s.pes in omega arith
 
 -- the events of other kinds
-pub others : (state : RootState) (heading : Heading) (h : List Event) (e : Event) → Stands state heading h → concerns_roots e ≡ false
-    → broken heading Patterns h e ≡ None → Stands state heading (e ∷ h)
+pub others : (state : RootState) (heading : Heading) (h : List Event) (e : Event) → StateStands state heading h → concerns_roots e ≡ false
+    → broken heading Patterns h e ≡ None → StateStands state heading (e ∷ h)
 others state heading h (Init pe page) s none kept = stood state (Init pe page) s kept refl refl refl s.roots s.locks
 others state heading h (Null pe page) s none kept = stood state (Null pe page) s kept refl refl refl s.roots s.locks
 others state heading h (Write pe place value) s none kept = stood state (Write pe place value) s kept refl refl refl s.roots s.locks
@@ -191,7 +191,7 @@ given_back h pe lock l o mine is = ap (λ (x : Option ℕ). cond (lock == l) Non
 -- ---- a new root
 
 pub free_page : {state : RootState} {heading : Heading} {h : List Event} (pe page : ℕ) (kind : Kind) (lock : Option ℕ) → Laws heading
-    → Stands state heading h → broken heading Patterns h (Root pe kind lock page) ≡ None → root_at h page ≡ None
+    → StateStands state heading h → broken heading Patterns h (Root pe kind lock page) ≡ None → root_at h page ≡ None
 free_page {heading = heading} {h = h} pe page kind lock laws s none = by (root_at h page) refl
   where
     by : (o : Option Declared) → root_at h page ≡ o → o ≡ None
@@ -204,7 +204,7 @@ free_page {heading = heading} {h = h} pe page kind lock laws s none = by (root_a
         (kept_next heading h (Root pe kind lock page) s.kept none) in
         absurd (true≢false (sym there ∙ apart))
 
-pub undeclared : {state : RootState} {heading : Heading} {h : List Event} (page : ℕ) → Stands state heading h → root_at h page ≡ None
+pub undeclared : {state : RootState} {heading : Heading} {h : List Event} (page : ℕ) → StateStands state heading h → root_at h page ≡ None
     → (calls : List Call) → lower.Stands state.roots calls → called.root_at calls page ≡ None
 undeclared {heading = heading} {h = h} page s none calls stands =
     sym (stands.declared page) ∙ (s.roots.declared page ∙ (root_same heading h page
@@ -260,6 +260,6 @@ room_up (roots.RootInUse use_of) e = cc
 
 -- ---- the world of a state's header
 
-pub world_by : {state : RootState} {heading : Heading} {h : List Event} (s : Stands state heading h) (world : World) (op : TlbiOp) (b : Bool)
+pub world_by : {state : RootState} {heading : Heading} {h : List Event} (s : StateStands state heading h) (world : World) (op : TlbiOp) (b : Bool)
     → state.header.world ≡ world → of_world world op ≡ b → of_world heading.world op ≡ b
 world_by s world op b e k = ap (λ (g : Heading). of_world g.world op) (sym s.heading_is) ∙ (ap (λ (w : World). of_world w op) e ∙ k)

@@ -1,7 +1,7 @@
 -- Whether a root may be retired, by the history and by its calls.
 use Rattle.bbm_replay_roots.proofs.Common.{is_none, option_and_then, option_map, Kind, Patterns, NoLock, NoRoot}
 use Rattle.bbm_replay_roots.proofs.Common.{RootInUse, WrongWorld, at_start, first_reg, register_values, second_reg}
-use Rattle.bbm_replay_roots.proofs.Common.{pes_of, world_of, RootFault, RootValue, Proper, calls_of, Laws, Stands}
+use Rattle.bbm_replay_roots.proofs.Common.{pes_of, world_of, RootFault, RootValue, Proper, calls_of, Laws, StateStands}
 use Rattle.bbm_replay_roots.proofs.Common.{RootState}
 use Rattle.bbm_rules.proofs.Common.{◌≡◌, ℕ, ◌<◌, ◌≤◌, Bool, true, false, not, ◌&&◌, ◌||◌, ◌==◌, nat_lt, List, [], ◌∷◌}
 use Rattle.bbm_rules.proofs.Common.{map, length, Option, Some, None, Result, Ok, Err, refl, sym, ap, ◌∙◌, subst}
@@ -355,7 +355,7 @@ set_is heading laws h page test same set has = by set (tag_set (tags_of heading 
 
 -- ---- what a state that stands for a history tells
 
-module _ {state : RootState} {heading : Heading} {h : List Event} (s : Stands state heading h) where
+module _ {state : RootState} {heading : Heading} {h : List Event} (s : StateStands state heading h) where
   pub outside_by : (p : ℕ) (reg : Reg) → heading.pes ≤ p → register_values (calls_of heading h) p reg ≡ at_start ∷ []
   outside_by p reg past = s.roots.outside p reg (let k = s.pes in omega arith)
 

@@ -1,7 +1,7 @@
 -- Whether a register write may be taken, by the history and by its calls.
 use Rattle.bbm_replay_roots.proofs.Common.{flat_map, option_and_then, Kind, Patterns, NoRoot, TagConflict, WrongWorld}
 use Rattle.bbm_replay_roots.proofs.Common.{WriteReg, has_other, is_of_world, names_null, register_values, pes_of}
-use Rattle.bbm_replay_roots.proofs.Common.{world_of, Stands, RootState, RootFault, RootValue, Proper, calls_of}
+use Rattle.bbm_replay_roots.proofs.Common.{world_of, StateStands, RootState, RootFault, RootValue, Proper, calls_of}
 use Rattle.bbm_replay_roots.proofs.Common.{has_null_base, Laws}
 use Rattle.bbm_rules.proofs.Common.{◌≡◌, ℕ, suc, ◌<◌, ◌≤◌, Bool, true, false, not, ◌&&◌, ◌||◌, ◌==◌, cond, nat_le, List}
 use Rattle.bbm_rules.proofs.Common.{[], ◌∷◌, map, length, min, Option, Some, None, Result, Ok, Err, refl, sym, ap, ◌∙◌}
@@ -336,7 +336,7 @@ module _ (heading : Heading) (laws : Laws heading) (proper : Proper heading) (h 
 
 -- ---- by a state that stands for the history
 
-pub write_by : {state : RootState} {heading : Heading} {h : List Event} → Stands state heading h → (pe : ℕ) (reg : Reg) (value : ℕ) (null : Bool)
+pub write_by : {state : RootState} {heading : Heading} {h : List Event} → StateStands state heading h → (pe : ℕ) (reg : Reg) (value : ℕ) (null : Bool)
     → null ≡ has_null_base h value → (result : Result (Unit {0}) RootFault)
     → JudgesWrite (missing_root (calls_of heading h) reg value null)
     (conflicts (world_of state.roots) (pes_of state.roots) (WriteReg pe reg value null ∷ calls_of heading h) pe)
@@ -353,7 +353,7 @@ write_by {state = state} {heading = heading} {h = h} s pe reg value null e resul
     (conflicts w (pes_of state.roots) (WriteReg pe reg value null ∷ calls_of heading h) pe)
     (length (register_values (calls_of heading h) pe reg)) result) s.world judged))
 
-pub msr_elsewhere : {state : RootState} {heading : Heading} {h : List Event} → Stands state heading h → (pe : ℕ) (reg : Reg) (value at : ℕ)
+pub msr_elsewhere : {state : RootState} {heading : Heading} {h : List Event} → StateStands state heading h → (pe : ℕ) (reg : Reg) (value at : ℕ)
     → Some at ≡ wrong_world state.header Patterns (noted heading Patterns h) (Msr pe reg value)
     → broken heading Patterns h (Msr pe reg value) ≡ Some (record { rule = WrongWorld; at = at })
 msr_elsewhere {heading = heading} {h = h} s pe reg value at e =
@@ -362,6 +362,6 @@ msr_elsewhere {heading = heading} {h = h} s pe reg value at e =
     (or_rule TagConflict (tag_conflict heading Patterns (noted heading Patterns h) (Msr pe reg value)) None)))
     (ap (λ (g : Heading). wrong_world g Patterns (noted heading Patterns h) (Msr pe reg value)) (sym s.heading_is) ∙ sym e)
 
-pub world_here : {state : RootState} {heading : Heading} {h : List Event} → Stands state heading h → (n : List Noted) (pe : ℕ) (reg : Reg) (value : ℕ)
+pub world_here : {state : RootState} {heading : Heading} {h : List Event} → StateStands state heading h → (n : List Noted) (pe : ℕ) (reg : Reg) (value : ℕ)
     → None ≡ wrong_world state.header Patterns n (Msr pe reg value) → wrong_world heading Patterns n (Msr pe reg value) ≡ None
 world_here s n pe reg value e = ap (λ (g : Heading). wrong_world g Patterns n (Msr pe reg value)) (sym s.heading_is) ∙ sym e

@@ -21,7 +21,7 @@ use Rattle.bbm_replay_roots.specs.declared.state.RootState.{RootState}
 
 -- It stands for a history that keeps the rules over all patterns of events: its roots, registers and tags are those of
 -- the history's calls, and its locks are held as the history says.
-pub record Stands (state : RootState) (heading : Heading) (h : List Event) : Type 0 where
+pub record StateStands (state : RootState) (heading : Heading) (h : List Event) : Type 0 where
   pub heading_is : state.header ≡ heading
   pub proper : heading_ok heading ≡ true
   pub kept : keeps heading Patterns h ≡ true
@@ -33,7 +33,7 @@ pub record Stands (state : RootState) (heading : Heading) (h : List Event) : Typ
 -- it stands for a history of the event's header after which the event breaks no rule
 abbrev pub MayFollow : RootState → Event → Type 0
 MayFollow state e =
-    (heading : Heading) × (h : List Event) × Stands state heading h × (fits_heading heading e ≡ true)
+    (heading : Heading) × (h : List Event) × StateStands state heading h × (fits_heading heading e ≡ true)
     × (broken heading Patterns h e ≡ None)
 
 -- it has room for one more root
@@ -41,25 +41,25 @@ abbrev pub HasRoom : RootState → Type 0
 HasRoom state = IsPrepared state.roots
 
 -- It stands for what it stood for and, in front, this event. Where there was room for one more root, there is.
-pub record Takes (e : Event) (old new : RootState) : Type 0 where
-  pub taken : (heading : Heading) (h : List Event) → Stands old heading h → Stands new heading (e ∷ h)
+pub record TakesEvent (e : Event) (old new : RootState) : Type 0 where
+  pub taken : (heading : Heading) (h : List Event) → StateStands old heading h → StateStands new heading (e ∷ h)
   pub room : HasRoom old → HasRoom new
 
 -- the same, of histories of which a condition holds
-pub record TakesWhere (holds : Heading → List Event → Type 0) (e : Event) (old new : RootState) : Type 0 where
-  pub taken : (heading : Heading) (h : List Event) → Stands old heading h → holds heading h
-      → Stands new heading (e ∷ h)
+pub record TakesEventWhere (holds : Heading → List Event → Type 0) (e : Event) (old new : RootState) : Type 0 where
+  pub taken : (heading : Heading) (h : List Event) → StateStands old heading h → holds heading h
+      → StateStands new heading (e ∷ h)
   pub room : HasRoom old → HasRoom new
 
 -- It stands for what it stood for. Where there was room for one more root, there is.
-pub record Keeps (old new : RootState) : Type 0 where
-  pub same : (heading : Heading) (h : List Event) → Stands old heading h → Stands new heading h
+pub record KeepsState (old new : RootState) : Type 0 where
+  pub same : (heading : Heading) (h : List Event) → StateStands old heading h → StateStands new heading h
   pub room : HasRoom old → HasRoom new
 
 -- a call that may be refused: after Ok the event is taken, after a refusal nothing changes
-pub record Tries {A E : Type 0} (e : Event) (old new : RootState) (result : Result A E) : Type 0 where
-  pub taken : OnOk result (Takes e old new)
-  pub kept : OnErr result (Keeps old new)
+pub record TriesEvent {A E : Type 0} (e : Event) (old new : RootState) (result : Result A E) : Type 0 where
+  pub taken : OnOk result (TakesEvent e old new)
+  pub kept : OnErr result (KeepsState old new)
 
 -- whether an event concerns roots, registers, tags or locks
 abbrev pub concerns_roots : Event → Bool
@@ -75,8 +75,8 @@ concerns_roots _ = false
 
 -- What stands for a history stands for it with an `init`, a `null`, a write or a DMB more that breaks no rule.
 abbrev pub OthersStand : Type 0
-OthersStand = (state : RootState) (heading : Heading) (h : List Event) (e : Event) → Stands state heading h
-    → concerns_roots e ≡ false → broken heading Patterns h e ≡ None → Stands state heading (e ∷ h)
+OthersStand = (state : RootState) (heading : Heading) (h : List Event) (e : Event) → StateStands state heading h
+    → concerns_roots e ≡ false → broken heading Patterns h e ≡ None → StateStands state heading (e ∷ h)
 
 -- A DSB, a DMB and an ISB break no rule and reach no limit.
 pub record BarriersPass : Type 0 where
@@ -108,5 +108,5 @@ JudgesTlbi heading h pe op xt (Ok named) =
 JudgesTlbi heading h pe op xt (Err fault) = Judges (Err fault) (broken heading Patterns h (Tlbi pe op xt))
 
 -- there is room for what a TLBI of the PE that names this leaves to its answer
-abbrev pub IsReady : RootState → ℕ → NamedTlbi → Bool → Type 0
-IsReady state pe named takes = lower.IsReady state.roots pe named.scope named.vmid takes
+abbrev pub IsReadyFor : RootState → ℕ → NamedTlbi → Bool → Type 0
+IsReadyFor state pe named takes = lower.IsReady state.roots pe named.scope named.vmid takes

@@ -81,13 +81,14 @@ impl RootState {
     ghost use Rattle.bbm_tlbi_scope.specs.Operations.{operation};
     ghost use Rattle.bbm_tlbi_scope.specs.declared.op.TlbiOp.{TlbiOp as TheOp};
     ghost use Rattle.bbm_replay_roots.specs.Bridge.{has_null_base};
-    ghost use Rattle.bbm_replay_roots.specs.RootsByNumber.{nth_in};
-    ghost use Rattle.bbm_replay_roots.specs.RootStateStands.{Stands, MayFollow, HasRoom, IsNamed, IsReady, Judges};
-    ghost use Rattle.bbm_replay_roots.specs.RootStateStands.{JudgesTlbi, Takes, TakesWhere, Keeps, Tries};
+    ghost use Rattle.bbm_replay_roots.specs.RootsByNumber.{nth_root_in};
+    ghost use Rattle.bbm_replay_roots.specs.RootStateStands.{HasRoom, IsNamed, IsReadyFor, Judges, JudgesTlbi};
+    ghost use Rattle.bbm_replay_roots.specs.RootStateStands.{KeepsState, MayFollow, StateStands, TakesEvent};
+    ghost use Rattle.bbm_replay_roots.specs.RootStateStands.{TakesEventWhere, TriesEvent};
 
     /// What stands for the empty history of the header. `NoMemory` where there is none.
     pub fn new(alloc: Global, header: &Header) -> Result<RootState, NoMemory>
-        ensures empty { IfOk result (λ state. Stands state header.now []) }
+        ensures empty { IfOk result (λ state. StateStands state header.now []) }
     {
         header.in_ranges();
         let roots = Roots::new(alloc, header)?;
@@ -102,7 +103,7 @@ impl RootState {
 
     /// Whether the page is the first page of a declared root of the kind.
     pub fn is_root(&self, kind: Kind, page: Page) -> bool
-        ensures { (heading : Heading) (h : List TheEvent) → Stands self.now heading h → result
+        ensures { (heading : Heading) (h : List TheEvent) → StateStands self.now heading h → result
             ≡ spec.is_root h kind page }
     {
         laws_below();
@@ -111,7 +112,7 @@ impl RootState {
 
     /// Whether the page is the first page of a declared root.
     pub fn is_declared(&self, page: Page) -> bool
-        ensures { (heading : Heading) (h : List TheEvent) → Stands self.now heading h
+        ensures { (heading : Heading) (h : List TheEvent) → StateStands self.now heading h
             → result ≡ is_some (spec.root_at h page) }
     {
         laws_below();
@@ -121,7 +122,8 @@ impl RootState {
     /// The lock that the root with this first page names, 0 to 65535; None where it names none or isn't declared.
     #[inline]
     pub fn lock_of(&self, page: Page) -> Option<u16>
-        ensures { (heading : Heading) (h : List TheEvent) → Stands self.now heading h → result ≡ spec.lock_of h page }
+        ensures { (heading : Heading) (h : List TheEvent) → StateStands self.now heading h
+            → result ≡ spec.lock_of h page }
     {
         laws_below();
         self.roots.lock_of(page)
@@ -129,7 +131,7 @@ impl RootState {
 
     /// The PE that took the lock, 0 to 65535, last and hasn't given it back; None where it is free.
     pub fn holder_of(&self, lock: u16) -> Option<Pe>
-        ensures { (heading : Heading) (h : List TheEvent) → Stands self.now heading h → result
+        ensures { (heading : Heading) (h : List TheEvent) → StateStands self.now heading h → result
             ≡ locks.holder_of h lock }
     {
         self.locks.holder(lock)
@@ -137,7 +139,8 @@ impl RootState {
 
     /// Whether the PE doesn't hold the lock.
     pub fn lacks(&self, pe: Pe, lock: u16) -> bool
-        ensures { (heading : Heading) (h : List TheEvent) → Stands self.now heading h → result ≡ rules.lacks h pe lock }
+        ensures { (heading : Heading) (h : List TheEvent) → StateStands self.now heading h
+            → result ≡ rules.lacks h pe lock }
     {
         match self.holder_of(lock) {
             Some(holder) => holder != pe,
@@ -149,7 +152,7 @@ impl RootState {
     /// `at`. Rule 2, no-lock, asks it of an `unroot` of the page, and of a write of a place in the root's tree.
     #[inline]
     pub fn without_lock(&self, pe: Pe, root: Page, at: u64) -> Option<u64>
-        ensures { (heading : Heading) (h : List TheEvent) → Stands self.now heading h
+        ensures { (heading : Heading) (h : List TheEvent) → StateStands self.now heading h
             → result ≡ option_and_then (λ lock. if_so (rules.lacks h pe lock) at) (spec.lock_of h root) }
     {
         match self.lock_of(root) {
@@ -160,7 +163,7 @@ impl RootState {
 
     /// The tags that the root with this first page holds at any PE: none, one, or more than one.
     pub fn tags_of(&self, page: Page) -> TagSet
-        ensures { (heading : Heading) (h : List TheEvent) → Stands self.now heading h
+        ensures { (heading : Heading) (h : List TheEvent) → StateStands self.now heading h
             → result ≡ tags.tag_set (tags.tags_of heading Patterns page h) }
     {
         laws_below();
@@ -169,16 +172,16 @@ impl RootState {
 
     /// The number of declared roots, 0 to 1,024. Each has a number below it.
     pub fn count(&self) -> usize
-        ensures { (heading : Heading) (h : List TheEvent) (page : ℕ) (root : spec.Declared) → Stands self.now heading h
-            → spec.root_at h page ≡ Some root
-            → (i : ℕ) × (i < result) × (nth_in self.now i ≡ Some (root.kind, root.page)) }
+        ensures { (heading : Heading) (h : List TheEvent) (page : ℕ) (root : spec.Declared)
+            → StateStands self.now heading h → spec.root_at h page ≡ Some root
+            → (i : ℕ) × (i < result) × (nth_root_in self.now i ≡ Some (root.kind, root.page)) }
     {
         self.roots.count()
     }
 
     /// The kind and the first page of the declared root with this number, from 0 on; None where there is none.
     pub fn nth(&self, index: usize) -> Option<(Kind, Page)>
-        ensures { result ≡ nth_in self.now index }
+        ensures { result ≡ nth_root_in self.now index }
     {
         match self.roots.nth(index) {
             Some(root) => Some((root.kind, root.page)),
@@ -191,7 +194,7 @@ impl RootState {
     /// Judges an `unroot` of the page by the PE: Ok exactly where it breaks no rule, else the least rule that it
     /// breaks. Nothing changes.
     pub fn judge_unroot(&self, pe: Pe, page: Page) -> Result<(), StepFault>
-        ensures { (heading : Heading) (h : List TheEvent) → Stands self.now heading h
+        ensures { (heading : Heading) (h : List TheEvent) → StateStands self.now heading h
             → Judges result (broken heading Patterns h (TheEvent.Unroot pe page)) }
     {
         laws_below();
@@ -207,8 +210,8 @@ impl RootState {
     /// The VMID under which the PE issues its TLBIs, 0 to 65535: None where two of its readable values of VTTBR_EL2
     /// have different ones; 0 in the Kernel world.
     fn vmid_of(&self, pe: Pe) -> Option<u16>
-        requires { MayAsk (Stands self.now) pe }
-        ensures { (heading : Heading) (h : List TheEvent) → Stands self.now heading h
+        requires { MayAsk (StateStands self.now) pe }
+        ensures { (heading : Heading) (h : List TheEvent) → StateStands self.now heading h
             → result ≡ registers.vmid_of heading h pe }
     {
         laws_below();
@@ -221,8 +224,8 @@ impl RootState {
     /// Judges a TLBI of the PE: Ok with what it names exactly where it breaks no rule, else the least rule that it
     /// breaks. Nothing changes.
     pub fn judge_tlbi(&self, pe: Pe, op: TlbiOp, xt: u64) -> Result<NamedTlbi, StepFault>
-        requires { MayAsk (Stands self.now) pe }
-        ensures judged { (heading : Heading) (h : List TheEvent) → Stands self.now heading h
+        requires { MayAsk (StateStands self.now) pe }
+        ensures judged { (heading : Heading) (h : List TheEvent) → StateStands self.now heading h
             → JudgesTlbi heading h pe op xt result }
         ensures broadcast { IfOk result (λ named. named.scope.broadcast ≡ (operation op).broadcast) }
     {
@@ -247,11 +250,11 @@ impl RootState {
     pub fn prepare(&mut self, alloc: Global) -> Result<(), StepFault>
         ensures room { OnOk result (HasRoom self.new) }
         ensures limit { (heading : Heading) (h : List TheEvent) (pe : ℕ) (kind : Kind) (lock : Option ℕ) (page : ℕ)
-            → Stands self.old heading h
+            → StateStands self.old heading h
             → (result ≡ Err (StepFault.Limit Which.Roots))
             ↔ (limit_of h (TheEvent.Root pe kind lock page) ≡ Some Which.Roots) }
         ensures fault { IfErr result (λ fault. fault ≢ StepFault.Limit Which.Roots → fault ≡ StepFault.NoMemory) }
-        ensures kept { Keeps self.old self.new }
+        ensures kept { KeepsState self.old self.new }
     {
         match self.roots.prepare(alloc) {
             Ok(()) => Ok(()),
@@ -269,11 +272,11 @@ impl RootState {
         lock: Option<u16>,
     ) -> Result<(), NoMemory>
         requires { (pe : ℕ) × MayFollow self.old (TheEvent.Root pe kind lock page) }
-        ensures taken { OnOk result ((heading : Heading) (h : List TheEvent) (pe : ℕ) → Stands self.old heading h
+        ensures taken { OnOk result ((heading : Heading) (h : List TheEvent) (pe : ℕ) → StateStands self.old heading h
             → broken heading Patterns h (TheEvent.Root pe kind lock page) ≡ None
-            → Stands self.new heading (TheEvent.Root pe kind lock page ∷ h)) }
+            → StateStands self.new heading (TheEvent.Root pe kind lock page ∷ h)) }
         ensures room { HasRoom self.old → IsOk result }
-        ensures kept { OnErr result (Keeps self.old self.new) }
+        ensures kept { OnErr result (KeepsState self.old self.new) }
     {
         laws_below();
         match self.roots.declare(alloc, kind, page, lock) {
@@ -285,7 +288,7 @@ impl RootState {
     /// An `unroot` that breaks no rule. It takes no memory.
     pub fn retire(&mut self, page: Page)
         requires { (pe : ℕ) × MayFollow self.old (TheEvent.Unroot pe page) }
-        ensures { (pe : ℕ) → TakesWhere (λ heading h. broken heading Patterns h (TheEvent.Unroot pe page) ≡ None)
+        ensures { (pe : ℕ) → TakesEventWhere (λ heading h. broken heading Patterns h (TheEvent.Unroot pe page) ≡ None)
             (TheEvent.Unroot pe page) self.old self.new }
     {
         laws_below();
@@ -307,14 +310,14 @@ impl RootState {
         value: u64,
         null: bool,
     ) -> Result<(), StepFault>
-        requires { MayAsk (Stands self.old) pe }
-        ensures judged { (heading : Heading) (h : List TheEvent) → Stands self.old heading h → null
+        requires { MayAsk (StateStands self.old) pe }
+        ensures judged { (heading : Heading) (h : List TheEvent) → StateStands self.old heading h → null
             ≡ has_null_base h value
             → Answers result (broken heading Patterns h (TheEvent.Msr pe reg value))
             (limit_of h (TheEvent.Msr pe reg value)) }
-        ensures taken { OnOk result (TakesWhere (λ _ h. null ≡ has_null_base h value)
+        ensures taken { OnOk result (TakesEventWhere (λ _ h. null ≡ has_null_base h value)
             (TheEvent.Msr pe reg value) self.old self.new) }
-        ensures kept { OnErr result (Keeps self.old self.new) }
+        ensures kept { OnErr result (KeepsState self.old self.new) }
     {
         laws_below();
         if let Some(at) = wrong_world(&self.header, &Event::Msr { pe, reg, value }) {
@@ -328,8 +331,8 @@ impl RootState {
 
     /// An ISB of the PE. It takes no memory.
     pub fn isb(&mut self, pe: Pe)
-        requires { MayAsk (Stands self.old) pe }
-        ensures { Takes (TheEvent.Isb pe) self.old self.new }
+        requires { MayAsk (StateStands self.old) pe }
+        ensures { TakesEvent (TheEvent.Isb pe) self.old self.new }
     {
         laws_below();
         self.roots.isb(pe);
@@ -344,8 +347,8 @@ impl RootState {
         pe: Pe,
         named: &NamedTlbi,
     ) -> Result<bool, NoMemory>
-        ensures ready { IfOk result (λ takes. IsReady self.new pe named.now takes) }
-        ensures kept { Keeps self.old self.new }
+        ensures ready { IfOk result (λ takes. IsReadyFor self.new pe named.now takes) }
+        ensures kept { KeepsState self.old self.new }
     {
         self.roots
             .prepare_issue(alloc, pe, &named.scope, named.vmid)
@@ -354,9 +357,9 @@ impl RootState {
     /// A TLBI of the PE that breaks no rule, names this, for which there is room, and which may take a tag from a PE
     /// that holds it or doesn't. It takes no memory.
     pub fn issue_ready(&mut self, pe: Pe, named: &NamedTlbi, takes: bool)
-        requires pe { MayAsk (Stands self.old) pe }
-        requires ready { IsReady self.old pe named.now takes }
-        ensures { (op : TheOp) (xt : ℕ) → TakesWhere (λ heading h. IsNamed heading h pe op xt named.now
+        requires pe { MayAsk (StateStands self.old) pe }
+        requires ready { IsReadyFor self.old pe named.now takes }
+        ensures { (op : TheOp) (xt : ℕ) → TakesEventWhere (λ heading h. IsNamed heading h pe op xt named.now
             × (broken heading Patterns h (TheEvent.Tlbi pe op xt) ≡ None)) (TheEvent.Tlbi pe op xt) self.old self.new }
     {
         if named.scope.broadcast || !self.header.cnp {
@@ -367,8 +370,8 @@ impl RootState {
     /// A DSB of the PE. It takes no memory.
     #[inline]
     pub fn complete(&mut self, pe: Pe, dsb: Dsb)
-        requires { MayAsk (Stands self.old) pe }
-        ensures { Takes (TheEvent.Dsb pe dsb) self.old self.new }
+        requires { MayAsk (StateStands self.old) pe }
+        ensures { TakesEvent (TheEvent.Dsb pe dsb) self.old self.new }
     {
         laws_below();
         self.roots.complete(pe, dsb);
@@ -378,10 +381,10 @@ impl RootState {
     /// that it breaks, and it stands for what it stood for. It takes no memory.
     pub fn lock(&mut self, pe: Pe, lock: u16) -> Result<(), StepFault>
         requires { lock < 1024 }
-        ensures judged { (heading : Heading) (h : List TheEvent) → Stands self.old heading h
+        ensures judged { (heading : Heading) (h : List TheEvent) → StateStands self.old heading h
             → Judges result (broken heading Patterns h (TheEvent.Lock pe lock)) }
         ensures limit { (h : List TheEvent) → limit_of h (TheEvent.Lock pe lock) ≡ None }
-        ensures tried { Tries (TheEvent.Lock pe lock) self.old self.new result }
+        ensures tried { TriesEvent (TheEvent.Lock pe lock) self.old self.new result }
     {
         laws_below();
         match self.locks.take(pe, lock) {
@@ -394,10 +397,10 @@ impl RootState {
     /// rule that it breaks, and it stands for what it stood for. It takes no memory.
     pub fn unlock(&mut self, pe: Pe, lock: u16) -> Result<(), StepFault>
         requires { lock < 1024 }
-        ensures judged { (heading : Heading) (h : List TheEvent) → Stands self.old heading h
+        ensures judged { (heading : Heading) (h : List TheEvent) → StateStands self.old heading h
             → Judges result (broken heading Patterns h (TheEvent.Unlock pe lock)) }
         ensures limit { (h : List TheEvent) → limit_of h (TheEvent.Unlock pe lock) ≡ None }
-        ensures tried { Tries (TheEvent.Unlock pe lock) self.old self.new result }
+        ensures tried { TriesEvent (TheEvent.Unlock pe lock) self.old self.new result }
     {
         laws_below();
         match self.locks.give(pe, lock) {

@@ -1,6 +1,6 @@
 //! The places above a page.
 
-ghost use Rattle.std.specs.Prelude.{◌≡◌, ◌≤◌, ℕ, nat_eq, not, unwrap_or};
+ghost use Rattle.std.specs.Prelude.{◌≡◌, ◌≤◌, nat_eq, not, unwrap_or};
 ghost use Rattle.indexmap.specs.IndexMap.{get};
 ghost use Rattle.bbm_descriptor.specs.Descriptor.{is_valid};
 ghost use Rattle.bbm_place_map.specs.Map.{value_at};
@@ -40,7 +40,8 @@ fn is_invalid(map: &PlaceMap, kind: Kind, level: u8, place: Place, near: usize) 
     }
 }
 
-/// Whether the place holds nothing, in the same way.
+/// Whether the place holds nothing at this kind and level, 0 to 3. No answer depends on the number `near`, at which its
+/// page is looked for first.
 fn is_unheld(map: &PlaceMap, kind: Kind, level: u8, place: Place, near: usize) -> bool
     requires { level ≤ 3 }
     ensures { result ≡ not (holds_at map.now kind level place) }
@@ -54,7 +55,8 @@ fn is_unheld(map: &PlaceMap, kind: Kind, level: u8, place: Place, near: usize) -
     }
 }
 
-/// Whether what is asked holds of the place, at this kind and level, 0 to 3, in the same way.
+/// Whether what is asked holds of the place, at this kind and level, 0 to 3. No answer depends on the number `near`, at
+/// which its page is looked for first.
 fn passes(map: &PlaceMap, asked: &Asked, kind: Kind, level: u8, place: Place, near: usize) -> bool
     requires { level ≤ 3 }
     ensures { result ≡ passes_at map.now asked.now kind level place }

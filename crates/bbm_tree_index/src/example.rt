@@ -1,8 +1,6 @@
 //! An example of the calls.
 
 ghost use Rattle.std.specs.Prelude.{◌≡◌, ℕ, None, true, false, IfOk};
-ghost use Rattle.bbm_place_map.specs.Map.{value_at};
-ghost use Rattle.bbm_rules.specs.Places.{page_of};
 ghost use Rattle.bbm_tree_index.specs.Index.{fresh_in, node_in, null_in};
 
 use crate::fault::TreeFault;

@@ -55,7 +55,8 @@ pub fn place_of(page: Page, index: u64) -> Place
     Place::new(page.get() + 8 * index).unwrap()
 }
 
-/// The position of the first place of the page, from which its places are read; None where each of them has the value 0.
+/// The position of the first place of the page, from which its places are read; None where each of them has the value
+/// 0.
 pub fn first_position(map: &PlaceMap, page: Page) -> Option<Position>
     ensures place { IfSome result (λ position. position.place ≡ page) }
     ensures position { IfSome result (λ position. IsPosition map.now position) }

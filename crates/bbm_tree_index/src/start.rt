@@ -1,13 +1,12 @@
 //! Where the paths of attached pages begin.
 
-ghost use Rattle.std.specs.Prelude.{◌≡◌, ◌≤◌, ◌<◌, ◌+◌, ◌*◌, ◌==◌, ◌^◌, ℕ, Some, None, suc, nat_eq, OnOk, IfOk};
-ghost use Rattle.std.specs.Prelude.{if◌then◌else◌};
+ghost use Rattle.std.specs.Prelude.{◌≡◌, ◌≤◌, ◌<◌, ◌+◌, ◌*◌, ◌^◌, ℕ, nat_eq, IfOk};
 ghost use Rattle.indexmap.specs.IndexMap.{get};
 ghost use Rattle.bbm_events.specs.Heading.{Heading};
 ghost use Rattle.bbm_rules.specs.Tree.{Node, node_below};
 ghost use Rattle.bbm_tree_index.specs.Spots.{Fits, StandsAt};
 ghost use Rattle.bbm_tree_index.specs.Survey.{Starting, Well, root_marks};
-ghost use Rattle.std.specs.Prelude.{List, [], ◌∷◌};
+ghost use Rattle.std.specs.Prelude.{[], ◌∷◌};
 
 use crate::mark::{Mark, add};
 use crate::role::Role;

@@ -2,7 +2,7 @@
 
 ghost use Rattle.std.specs.Prelude.{◌≡◌, ◌==◌, ℕ, IfSome, Some, is_some, nat_eq, unwrap_or, true, if◌then◌else◌};
 ghost use Rattle.std.specs.Option.{option_copied};
-ghost use Rattle.indexmap.specs.IndexMap.{get, index_map_len, keys};
+ghost use Rattle.indexmap.specs.IndexMap.{get};
 ghost use Rattle.bbm_tree_index.specs.PageTables.{SameKeys};
 ghost use Rattle.bbm_tree_index.specs.Survey.{fresh_of};
 
@@ -72,7 +72,8 @@ pub fn number_near(roles: &PageMap<Role>, near: usize, page: Page) -> usize {
     }
 }
 
-/// The same, looked up.
+/// Where to look first for the page: its number in the order in which pages got roles, which is looked up; 0 where it
+/// has none. No answer depends on it.
 #[inline(never)]
 fn number_far(roles: &PageMap<Role>, page: Page) -> usize {
     match roles.get_index_of(page) {

@@ -1,7 +1,7 @@
 use Rattle.bbm_replay.proofs.Common.{below_more, core_at, IsFoundIn, MetFromAll, covers_kind}
 use Rattle.bbm_rules.proofs.Common.{◌≡◌, ℕ, true, Some, arith, page_count, Kind}
 use Rattle.bbm_tree_index.specs.Index.{node_in}
-use Rattle.bbm_replay_roots.specs.RootsByNumber.{nth_in}
+use Rattle.bbm_replay_roots.specs.RootsByNumber.{nth_root_in}
 use Rattle.bbm_replay.proofs.covering.Covering.descend_all.Goals as goal
 
 pub loop-number-preserved : goal.loop-number-preserved
@@ -13,7 +13,7 @@ loop-number-preserved c =
     let new = c.descend_root.new.found.items in
     record {
       grows = (λ all. e.grows.0 (v.grows.0 all), λ a has. e.grows.1 a (v.grows.1 a has));
-      met = λ j below. below_more (λ (i : ℕ). (kind : Kind) (first : ℕ) → nth_in by.roots.now i ≡ Some (kind, first)
+      met = λ j below. below_more (λ (i : ℕ). (kind : Kind) (first : ℕ) → nth_root_in by.roots.now i ≡ Some (kind, first)
           → covers_kind by.named.now.scope.family kind ≡ true
           → MetFromAll (node_in by.index.now) (core_at map) c.args.input first (page_count by.header.now.world kind)
           (IsFoundIn map new)) c.loop-number.number

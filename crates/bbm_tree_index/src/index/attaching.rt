@@ -1,0 +1,160 @@
+//! What can be attached to the trees, by a survey of it, and its attachment.
+
+ghost use Rattle.std.specs.Prelude.{◌≡◌, ◌≤◌, Contains, nat_eq, IfOk, IfErr, OnOk, OnErr};
+ghost use Rattle.indexmap.specs.IndexMap.{get};
+ghost use Rattle.bbm_rules.specs.Tree.{Node};
+ghost use Rattle.bbm_place_map.specs.Map.{value_at};
+ghost use Rattle.bbm_place_map.specs.declared.map.PlaceMap.{PlaceMap as TheMap};
+ghost use Rattle.bbm_tree_index.specs.Attaching.{Judges, MayJudge, names_pages};
+ghost use Rattle.bbm_tree_index.specs.Index.{SamePages, SameTracked, heading_of, fresh_in};
+ghost use Rattle.bbm_tree_index.specs.IndexAgreement.{IsSound};
+ghost use Rattle.bbm_tree_index.specs.IndexChanges.{Attaches};
+ghost use Rattle.bbm_tree_index.specs.LeastPages.{IsSurvey};
+ghost use Rattle.bbm_tree_index.specs.Paths.{starts_of};
+ghost use Rattle.bbm_tree_index.specs.Prepared.{AreNamedFresh, IsPrepared};
+ghost use Rattle.bbm_tree_index.specs.Survey.{Starting, Well};
+ghost use Rattle.bbm_tree_index.specs.declared.role.Attach.{Attach as TheAttach};
+
+use crate::attach_prepared::attach_all;
+use crate::fault::TreeFault;
+use crate::index::{Prepared, TreeIndex};
+use crate::judge::{is_named, judge_tables};
+use crate::mark::Mark;
+use crate::role::Attach;
+use crate::start::{start_below, start_root};
+use crate::survey::survey;
+use bbm_place_map::PlaceMap;
+use bbm_regimes::{Kind, NoMemory};
+use indexmap::IndexMap;
+use std::alloc::Global;
+
+impl TreeIndex {
+    /// The kind and the level at which the paths of what is attached begin.
+    fn begin(&self, at: &Attach) -> (Kind, u8)
+        requires sound { IsSound self.now }
+        requires may { MayJudge self.now at.now }
+        ensures low { result.1 ≤ 3 }
+        ensures same { (s : Node) → Contains (starts_of self.now at.now) s → (s.kind ≡ result.0)
+            × (s.level ≡ result.1) }
+        ensures some { (s : Node) × Contains (starts_of self.now at.now) s }
+    {
+        self.header.in_ranges();
+        match *at {
+            Attach::Root { kind, first: _ } => (kind, self.header.start_level(kind)),
+            Attach::Below { place, next: _ } => match self.spot(place.page()) {
+                Some(spot) => (spot.kind, spot.level + 1),
+                None => (Kind::El2, 3),
+            },
+        }
+    }
+
+    /// The table of the pages at which the paths of what is attached begin.
+    fn start(&self, alloc: Global, at: &Attach) -> Result<IndexMap<u64, Mark>, NoMemory>
+        requires sound { IsSound self.now }
+        requires may { MayJudge self.now at.now }
+        ensures well { IfOk result (λ table. Well (heading_of self.now) (get nat_eq table)) }
+        ensures start { IfOk result
+            (λ table. Starting (heading_of self.now) (get nat_eq table) (starts_of self.now at.now)) }
+    {
+        self.header.in_ranges();
+        match *at {
+            Attach::Root { kind, first } => {
+                start_root(alloc, kind, first, self.header.page_count(kind))
+            }
+            Attach::Below { place, next } => match self.spot(place.page()) {
+                Some(spot) => start_below(alloc, &spot, place, next),
+                None => Ok(IndexMap::new(alloc)),
+            },
+        }
+    }
+
+    /// The pages that would be attached, a table for each level from the one at which the paths begin.
+    #[tactic(auto, unfolding(crate::specs::Index::heading_of))]
+    fn survey(
+        &self,
+        alloc: Global,
+        map: &PlaceMap,
+        at: &Attach,
+    ) -> Result<Vec<IndexMap<u64, Mark>>, TreeFault>
+        requires sound { IsSound self.now }
+        requires may { MayJudge self.now at.now }
+        ensures tables { IfOk result (λ tables. IsSurvey tables.items self.now map.now at.now) }
+        ensures fault { IfErr result (λ fault. fault ≡ TreeFault.NoMemory) }
+    {
+        let (_, level) = self.begin(at);
+        let first = self.start(alloc, at)?;
+        let tables = survey(alloc, &self.header, &self.roles, map, first, 3 - level)?;
+        Ok(tables)
+    }
+
+    /// Judges what is attached by its survey.
+    fn judge_survey(
+        &self,
+        map: &PlaceMap,
+        at: &Attach,
+        tables: &[IndexMap<u64, Mark>],
+    ) -> Result<(), TreeFault>
+        requires sound { IsSound self.now }
+        requires may { MayJudge self.now at.now }
+        requires survey { IsSurvey tables.now self.now map.now at.now }
+        ensures { Judges (fresh_in self.now) (value_at map.now) (starts_of self.now at.now)
+            (names_pages at.now) result }
+    {
+        let (kind, level) = self.begin(at);
+        judge_tables(&self.roles, map, tables, is_named(at), kind, level)
+    }
+
+    /// Whether these pages can be attached: `NotFresh` with the least page exactly where a path of the attached pages
+    /// ends in a page that isn't fresh, where the named pages of a root don't count, or two different paths end in one
+    /// page; else `BadKind` with the least place exactly where an attached page has a leaf with the Contiguous hint;
+    /// else `GlobalUser` with the least place exactly where, in a tree of the lower range, it has a leaf for every
+    /// ASID. Or `NoMemory` where there is none. It takes time by the number of pages, not of paths. After Ok, what
+    /// `attach_prepared` attaches.
+    pub fn prepare(&self, alloc: Global, map: &PlaceMap, at: Attach) -> Result<Prepared, TreeFault>
+        requires sound { IsSound self.now }
+        requires may { MayJudge self.now at }
+        ensures judged { Judges (fresh_in self.now) (value_at map.now) (starts_of self.now at) (names_pages at) result }
+        ensures prepared { IfOk result (λ prepared. IsPrepared prepared self.now map.now at) }
+    {
+        let tables = self.survey(alloc, map, &at)?;
+        match self.judge_survey(map, &at, &tables) {
+            Ok(()) => Ok(Prepared { tables }),
+            Err(fault) => Err(fault),
+        }
+    }
+
+    /// Attaches pages that can be, as `prepare` found them in this index: those named, and all that paths through fresh
+    /// pages reach from them. Named pages of a root are fresh.
+    pub fn attach_prepared(&mut self, prepared: &Prepared)
+        requires sound { IsSound self.old }
+        requires prepared { (map : TheMap) × (at : TheAttach) × IsPrepared prepared.now self.old map at
+            × AreNamedFresh self.old at }
+        ensures attached { (map : TheMap) (at : TheAttach) → IsPrepared prepared.now self.old map at
+            → AreNamedFresh self.old at → Attaches (value_at map) at self.old self.new }
+        ensures tracked { SameTracked self.old self.new }
+        ensures sound { IsSound self.new }
+    {
+        attach_all(&mut self.roles, &prepared.tables);
+    }
+
+    /// Attaches pages that can be: those named, and all that paths through fresh pages reach from them. It answers as
+    /// `prepare` does, and a refusal changes nothing. Named pages of a root are fresh.
+    pub fn attach(&mut self, alloc: Global, map: &PlaceMap, at: Attach) -> Result<(), TreeFault>
+        requires sound { IsSound self.old }
+        requires may { MayJudge self.old at }
+        requires named { AreNamedFresh self.old at }
+        ensures judged { Judges (fresh_in self.old) (value_at map.now) (starts_of self.old at) (names_pages at) result }
+        ensures attached { OnOk result (Attaches (value_at map.now) at self.old self.new) }
+        ensures tracked { SameTracked self.old self.new }
+        ensures same { OnErr result (SamePages self.old self.new) }
+        ensures sound { IsSound self.new }
+    {
+        match self.prepare(alloc, map, at) {
+            Ok(prepared) => {
+                self.attach_prepared(&prepared);
+                Ok(())
+            }
+            Err(fault) => Err(fault),
+        }
+    }
+}
