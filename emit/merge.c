@@ -736,6 +736,17 @@ static int read_options(int argc, char **argv)
 	return n;
 }
 
+/* With --tickets nothing tells whether there were more. */
+static void warn_of_tail(void)
+{
+	if (option.tickets)
+		fprintf(stderr, "merge: warning: the tail isn't known: whether an event came behind ticket %llu, no line says\n",
+			(unsigned long long)option.tickets - 1);
+	else
+		fputs("merge: warning: the tail isn't known: no ticket is taken, and whether an event came, no line says\n",
+		      stderr);
+}
+
 static void open_dump(struct dump *dump, const char *name)
 {
 	*dump = (struct dump){.name = name, .pe = NO_PE};
@@ -761,8 +772,7 @@ int main(int argc, char **argv)
 	for (i = 0; i < count; i++)
 		open_dump(&dumps[i], argv[first + 1 + i]);
 	if (option.has_tickets)
-		fprintf(stderr, "merge: warning: the tail isn't known: whether an event came behind ticket %lld, no line says\n",
-			(long long)option.tickets - 1);
+		warn_of_tail();
 	if (option.follow)
 		merge_growing(dumps, count);
 	else
