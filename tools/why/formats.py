@@ -6,12 +6,10 @@ from __future__ import annotations
 
 import json
 import re
-import subprocess
-import sys
 from dataclasses import dataclass
 from enum import Enum
 
-from program import Answer, Program, Unable
+from program import Answer, Program, emit
 
 LOG = "<stdin>"
 SOURCE = re.compile(r"(.+):([1-9][0-9]*)")
@@ -100,14 +98,10 @@ def check(program: Program, arguments: list[str]) -> int:
     """`check --format FORMAT`, or `check --format=FORMAT`."""
     asked = arguments[1:] if arguments[:1] == ["--format"] else [word.removeprefix("--format=") for word in arguments]
     if len(asked) != 1 or asked[0] not in [form.value for form in Format]:
-        sys.stdout.write(USAGE)
+        emit(USAGE)
         return 3
-    try:
-        done = subprocess.run([program.path, "check"], stdout=subprocess.PIPE, check=False)
-    except OSError as fault:
-        raise Unable(70, f"the program can't be run: {fault}") from fault
-    answer = Answer(done.returncode, done.stdout.decode("latin-1"))
+    answer = program.run(("check",), None)
     finding = finding_of(answer)
     text = FORMS[Format(asked[0])](finding) + "\n" if finding else answer.text
-    sys.stdout.write(text)
+    emit(text)
     return answer.status

@@ -14,6 +14,7 @@ from __future__ import annotations
 
 import argparse
 import sys
+import traceback
 
 import formats
 import partial
@@ -22,7 +23,7 @@ import picture
 import rename
 import why
 from log import Log, read, written
-from program import Program, Unable, built
+from program import Program, Status, Unable, built, emit
 from shrink import Shrinker
 from study import study
 
@@ -31,7 +32,7 @@ class Words(argparse.ArgumentParser):
     """Words that are no command end with the program's status for them, and the usage line on standard output."""
 
     def error(self, message: str):
-        sys.stdout.write("usage: bbm" + self.format_usage().removeprefix("usage: bbm").replace("\n", " ").rstrip() + "\n")
+        emit("usage: bbm" + self.format_usage().removeprefix("usage: bbm").replace("\n", " ").rstrip() + "\n")
         sys.stderr.write(f"bbm: {message}\n")
         sys.exit(3)
 
@@ -57,22 +58,29 @@ def say_why(program: Program, data: bytes, asked: argparse.Namespace) -> int:
     log = Log(data)
     if not answer.refusal:
         line = log.bytes_of(answer.line) if answer.line and answer.line <= len(log.parts) else None
-        why.emit(why.other_answer(answer, line))
+        emit(why.other_answer(answer, line))
         return answer.status
     found = study(program, log, answer.refusal)
     views = why.views_of(found, asked.whole)
-    why.emit(why.text_of(answer, why.parts_of(found, views, why.style_of(sys.stdout))))
+    emit(why.text_of(answer, why.parts_of(found, views, why.style_of(sys.stdout))))
     for path, make in ((asked.svg, picture.svg), (asked.html, picture.html)):
         if path:
-            with open(path, "w", encoding="utf-8") as file:
-                file.write(make(found, views, answer))
+            write_file(path, make(found, views, answer))
     return answer.status
+
+
+def write_file(path: str, text: str) -> None:
+    try:
+        with open(path, "w", encoding="utf-8") as file:
+            file.write(text)
+    except OSError as fault:
+        raise Unable(Status.UNWRITTEN, f"{path}: {fault.strerror}") from fault
 
 
 def shrink(program: Program, data: bytes, asked: argparse.Namespace) -> int:
     answer = program.run(("check",), data)
     if not answer.refusal:
-        why.emit(answer.text)
+        emit(answer.text)
         return answer.status
     log = Log(data)
     found = study(program, log, answer.refusal)
@@ -81,7 +89,7 @@ def shrink(program: Program, data: bytes, asked: argparse.Namespace) -> int:
         lines = log.lines(Shrinker(program, log, answer.refusal).barest([line.at for line in lines]))
     if asked.rename:
         header, lines = rename.if_alike(program, header, lines)
-    why.emit(written(header, lines).decode("latin-1"))
+    emit(written(header, lines).decode("latin-1"))
     return answer.status
 
 
@@ -92,13 +100,13 @@ def say_pending(program: Program, data: bytes, asked: argparse.Namespace) -> int
     if log is None:
         raise Unable(3, f"no line number {asked.nth} has the label {asked.at}")
     status, text = pending.command(program, log)
-    why.emit(text)
+    emit(text)
     return status
 
 
 def say_partial(program: Program, data: bytes, _asked: argparse.Namespace) -> int:
     status, text = partial.partial(program, data)
-    why.emit(text)
+    emit(text)
     return status
 
 
@@ -115,7 +123,7 @@ def run(word: str, arguments: list[str]) -> int:
     try:
         data = read(asked.log)
     except OSError as fault:
-        raise Unable(4, f"{asked.log}: {fault.strerror}") from fault
+        raise Unable(Status.UNREADABLE, f"{asked.log or 'standard input'}: {fault.strerror}") from fault
     return COMMANDS[word](program, data, asked)
 
 
@@ -131,7 +139,11 @@ def main() -> int:
         return fault.status
     except BrokenPipeError:
         sys.stderr.close()
-        return 5
+        return Status.UNWRITTEN
+    except Exception:
+        # Python would end with status 1, which says that a rule refuses the log.
+        traceback.print_exc()
+        return 70
 
 
 if __name__ == "__main__":

@@ -8,7 +8,9 @@ and `explain` tells the phases; then the asking goes on behind it. So there are 
 of trees with candidates, and some more.
 
 A made write links a page of its own that was just made zero: so it is valid at every level, of another core than what the place
-held, and breaks no rule where the place holds nothing.
+held, and breaks no rule where the place holds nothing. Where the log left too few pages that can be made zero, it links
+one that isn't. Rule 6 refuses that where the place holds nothing and isn't at level 3. It comes behind break-before-make,
+so this says the same, at the cost of a run.
 """
 from __future__ import annotations
 
@@ -18,10 +20,12 @@ from dataclasses import dataclass, field
 
 from log import ADDRESS_BITS, Log, event_of
 from probe import Locks
-from program import Answer, Program
+from program import Answer, Program, Unable
 
 BREAK_BEFORE_MAKE, NO_LOCK, PAGE_IN_USE = 4, 2, 10
 LIMIT_OF_PAGES = 16384
+# So many candidates are asked about in one run.
+AT_ONCE = 8192
 JOBS = 2
 PHASES = ("broken", "seen", "half", "cleansed")
 LINK = 0x803
@@ -106,31 +110,45 @@ class Asker:
         self.body = log.parts[:log.last_event]
         self.body += [b"lock 0 %s" % lock.encode() for lock in tables.locks.free()]
         self.writers = tables.locks.writers()
-        room = max(1, (LIMIT_OF_PAGES - len(tables.zeroed)) // JOBS)
+        self.zeroed = tables.zeroed
+        room = min(AT_ONCE, LIMIT_OF_PAGES - len(tables.zeroed))
         source = tables.unused()
         self.fresh = [next(source) for _ in range(room)]
+        self.never_zeroed = next(source)
+
+    def answer_to(self, tail: list[bytes], command: str) -> tuple[Answer, int]:
+        """The answer to the log with these lines behind it, and which of them it refuses: their number where none is. An
+        answer that neither accepts nor refuses says nothing about a place."""
+        lines = [*self.body, *tail]
+        answer = self.program.run((command,), b"\n".join([*lines, b"end %d\n" % (len(lines) - 1)]))
+        if answer.accepted:
+            return answer, len(tail)
+        if not answer.refusal:
+            raise Unable(answer.status, f"what was asked behind the log's end has no answer: {answer.first}")
+        return answer, answer.refusal.line - len(self.body) - 1
 
     def in_trees(self, pages: list[int]) -> set[int]:
-        """Those of the pages that an `init` behind the log may not make zero: pages of trees, and null pages."""
-        found, left = set(), pages
+        """Those of the pages that an `init` behind the log may not make zero: pages of trees, and null pages. A page that
+        the log never made zero is neither, and to ask about it would take one of the pages that are left."""
+        found, left = set(), [page for page in pages if page in self.zeroed]
         while left:
-            lines = [*self.body, *(b"init 0 0x%x" % (page << PAGE) for page in left)]
-            answer = self.program.run(("check",), b"\n".join([*lines, b"end %d\n" % (len(lines) - 1)]))
-            position = len(left) if answer.line is None else answer.line - len(self.body) - 1
+            answer, position = self.answer_to([b"init 0 0x%x" % (page << PAGE) for page in left], "check")
             if answer.refusal and answer.refusal.rule == PAGE_IN_USE:
                 found.add(left[position])
             left = left[position + 1:]
         return found
 
     def asked(self, candidates: list[Candidate], pe: int) -> tuple[Answer, int]:
-        """The answer to a log with a made write for each, and which of them it refuses: their number where none is."""
-        tail = []
+        """The answer to a log with a made write for each, and which of them it refuses: their number where none is. The
+        first ones link pages that are made zero, as many as there are, and the others one that isn't."""
+        write = lambda candidate, page: b"w %d 0x%x 0x%x" % (pe, candidate.place, page | LINK)
+        tail: list[bytes] = []
         for candidate, page in zip(candidates, self.fresh):
-            tail += [b"init 0 0x%x" % page, b"w %d 0x%x 0x%x" % (pe, candidate.place, page | LINK)]
-        lines = [*self.body, *tail]
-        answer = self.program.run(("explain",), b"\n".join([*lines, b"end %d\n" % (len(lines) - 1)]))
-        position = len(candidates) if answer.line is None else (answer.line - len(self.body) - 1) // 2
-        return answer, position
+            tail += [b"init 0 0x%x" % page, write(candidate, page)]
+        pairs = len(tail) // 2
+        tail += [write(candidate, self.never_zeroed) for candidate in candidates[pairs:]]
+        answer, row = self.answer_to(tail, "explain")
+        return answer, row // 2 if row < 2 * pairs else row - pairs
 
     def next_writer(self, position: int, writer: int) -> int:
         """Who writes next, where this one had no lock at the candidate of this position: the first one anew, unless the
@@ -142,7 +160,7 @@ class Asker:
         """Those of the candidates that hold an old value."""
         found, left, writer = [], candidates, 0
         while left:
-            now = left[:len(self.fresh)]
+            now = left[:AT_ONCE]
             answer, position = self.asked(now, self.writers[writer])
             refusal = answer.refusal
             if refusal and refusal.rule == NO_LOCK and not (position == 0 and writer + 1 == len(self.writers)):

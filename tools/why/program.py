@@ -5,6 +5,7 @@ import os
 import pathlib
 import re
 import subprocess
+import sys
 from dataclasses import dataclass, field
 from enum import IntEnum
 
@@ -19,6 +20,15 @@ class Status(IntEnum):
     MALFORMED = 2
     USAGE = 3
     UNREADABLE = 4
+    UNWRITTEN = 5
+    NO_MEMORY = 6
+    LIMIT = 7
+
+
+# The statuses with which the program says something of what it was given.
+ANSWERS = (Status.ACCEPTED, Status.REFUSED, Status.MALFORMED, Status.USAGE, Status.LIMIT)
+FAULTS = {Status.UNREADABLE: "a read of the log failed", Status.UNWRITTEN: "a write of the answer failed",
+          Status.NO_MEMORY: "there was no memory"}
 
 
 @dataclass(frozen=True)
@@ -82,6 +92,17 @@ class Unable(Exception):
         self.status = status
 
 
+def emit(text: str) -> None:
+    """Writes to standard output."""
+    try:
+        sys.stdout.write(text)
+        sys.stdout.flush()
+    except BrokenPipeError:
+        raise
+    except OSError as fault:
+        raise Unable(Status.UNWRITTEN, f"a write of the answer failed: {fault.strerror}") from fault
+
+
 @dataclass
 class Program:
     """The built program. Answers to small logs are remembered."""
@@ -99,14 +120,20 @@ class Program:
             self.known[key] = answer
         return answer
 
-    def run(self, words: tuple[str, ...], log: bytes) -> Answer:
+    def run(self, words: tuple[str, ...], log: bytes | None) -> Answer:
+        """The answer to a log, or to standard input where that is None. A status that says nothing of it is a fault, and
+        so never taken for a yes or a no."""
         self.runs += 1
+        given = {} if log is None else {"input": log}
         try:
-            done = subprocess.run([self.path, *words], input=log, stdout=subprocess.PIPE, check=False)
+            done = subprocess.run([self.path, *words], stdout=subprocess.PIPE, check=False, **given)
         except OSError as fault:
             raise Unable(70, f"the program can't be run: {fault}") from fault
         if done.returncode < 0:
             raise Unable(70, f"the program ended by signal {-done.returncode}")
+        if done.returncode not in ANSWERS:
+            why = FAULTS.get(done.returncode, f"the program ended with status {done.returncode}")
+            raise Unable(done.returncode, f"{why}, so there is no answer")
         return Answer(done.returncode, done.stdout.decode("latin-1"))
 
     def check(self, log: bytes) -> Answer:

@@ -6,7 +6,7 @@ from dataclasses import dataclass
 
 import words
 from log import Line, Lines
-from program import Program
+from program import Answer, Program, Status
 
 COMMAND = "counterrun"
 CONFLICT = re.compile(r"run \d+ steps conflict line (\d+)")
@@ -31,16 +31,27 @@ class Run:
     conflict: int
 
 
+class Beyond(Exception):
+    """A log or a run reaches a limit of the program, so it says nothing of a conflict."""
+
+
+def answer_within(program: Program, command: str, log: bytes) -> Answer:
+    answer = program.ask((command,), log)
+    if answer.status == Status.LIMIT:
+        raise Beyond(answer.first)
+    return answer
+
+
 def run_of(program: Program, log: bytes) -> Run | None:
     """The run of a log, where the program has one."""
-    return run_in(program, program.ask((COMMAND,), log).text)
+    return run_in(program, answer_within(program, COMMAND, log).text)
 
 
 def run_in(program: Program, told: str) -> Run | None:
     """The run that a text is; it has to end in a conflict by `follow`."""
     if not told.startswith("bbmlog "):
         return None
-    found = CONFLICT.match(program.ask(("follow",), told.encode("latin-1")).first)
+    found = CONFLICT.match(answer_within(program, "follow", told.encode("latin-1")).first)
     if not found:
         return None
     steps = tuple(told.split("\n")[1:-2])

@@ -1,6 +1,8 @@
 """Repairs in words, by the lines and labels of the log that was given."""
 from __future__ import annotations
 
+import re
+
 import words
 from changes import Change, Edit, Head, Kind, Move, Put, Swap
 from log import Event, Header, Line, Log, event_of, header_of
@@ -134,13 +136,17 @@ class Teller:
         """What the program says of the whole log with the change."""
         if repair.whole.accepted:
             return f"with {what} the whole log is accepted"
-        if not repair.holds_in_whole(self.refused.at):
+        gets_to = f"with {what} the whole log gets to {self.log.line(repair.next_line).name}: {told_answer(repair)}"
+        if repair.holds_in_whole(self.refused.at):
+            return gets_to
+        if repair.whole.refusal:
             return f"in the small log alone: the whole log is refused at or before this line with {what} too"
-        return f"with {what} the whole log gets to {self.log.line(repair.next_line).name}: " + told_answer(repair)
+        return f"in the small log alone: {gets_to}"
 
 
 def told_answer(repair: Repair) -> str:
+    """The answer without its line, which has another number in the log that was given."""
     refusal = repair.whole.refusal
-    return f"{refusal.titled} at {hex(refusal.at)}" if refusal else repair.whole.first
+    return f"{refusal.titled} at {hex(refusal.at)}" if refusal else re.sub(r" line \d+", "", repair.whole.first)
 
 

@@ -2,7 +2,6 @@
 from __future__ import annotations
 
 import os
-import sys
 import textwrap
 from collections.abc import Iterator
 from dataclasses import dataclass
@@ -65,10 +64,9 @@ class Pages:
             told += [wrapped(text, self.style, "     ", "     ") for text in rest]
         return told
 
-    def run(self, told: run.Told | None, has_command: bool) -> list[str]:
+    def run(self, told: run.Told | None, no_run: str) -> list[str]:
         if told is None:
-            why = "the program has none for this log" if has_command else f"this program has no command `{run.COMMAND}`"
-            return [self.head(f"A run that goes wrong: {why}")]
+            return [self.head(f"A run that goes wrong: {no_run}")]
         small = {line.at for line in self.study.small}
         more = [str(line.at) for line in told.lines if line.at not in small]
         also = wrapped(f"over the small log and lines {', '.join(more)} besides", self.style, "  ", "    ")
@@ -114,13 +112,19 @@ def lines_for_run(study: Study) -> Iterator[Lines]:
     yield study.scene.lines
 
 
-def told_run(study: Study) -> run.Told | None:
-    """The run of the first of these logs that has one."""
+def told_run(study: Study) -> tuple[run.Told | None, str]:
+    """The run of the first of these logs that has one; or None, and what is said of that."""
+    if not study.program.has(run.COMMAND):
+        return None, f"this program has no command `{run.COMMAND}`"
+    no_run = "the program has none for this log"
     for lines in lines_for_run(study):
-        found = run.run_of(study.program, written(study.header, lines))
+        try:
+            found = run.run_of(study.program, written(study.header, lines))
+        except run.Beyond as limit:
+            found, no_run = None, f"unknown, the program says `{limit}`"
         if found:
-            return run.Told(lines, found)
-    return None
+            return run.Told(lines, found), ""
+    return None, no_run
 
 
 @dataclass
@@ -128,23 +132,22 @@ class Views:
     """The run and the lanes of a study, made once for all forms."""
 
     told: run.Told | None
-    has_command: bool
+    no_run: str
     chart: lanes.Chart
 
 
 def views_of(study: Study, whole: bool) -> Views:
-    has_command = study.program.has(run.COMMAND)
-    told = told_run(study) if has_command else None
+    told, no_run = told_run(study)
     lines = lines_shown(study, whole) if whole or told is None else told.lines
     chart = lanes.chart_of(study.program, study.header, lines, study.refusal, watched(study))
     if told and lines is told.lines:
         chart.entries = run.lives(told)
-    return Views(told, has_command, chart)
+    return Views(told, no_run, chart)
 
 
 def parts_of(study: Study, views: Views, style: Style) -> list[list[str]]:
     pages = Pages(study, style)
-    return [pages.small(), pages.repairs(), pages.run(views.told, views.has_command), pages.lanes(views.chart), pages.rule()]
+    return [pages.small(), pages.repairs(), pages.run(views.told, views.no_run), pages.lanes(views.chart), pages.rule()]
 
 
 def text_of(answer: Answer, parts: list[list[str]]) -> str:
@@ -160,7 +163,3 @@ def other_answer(answer: Answer, line: bytes | None) -> str:
     shown = line[:200].decode("latin-1").encode("unicode_escape").decode("ascii")
     return answer.text + f"  the line: {shown}\n" + (f"  {cause}: {why}\n" if why else "")
 
-
-def emit(text: str) -> None:
-    sys.stdout.write(text)
-    sys.stdout.flush()
