@@ -4,6 +4,7 @@ from __future__ import annotations
 from collections.abc import Iterable
 from dataclasses import dataclass
 from enum import Enum
+from typing import Union
 
 from log import Line, Lines, Log
 
@@ -95,7 +96,7 @@ class Head:
         return ("head",)
 
 
-Edit = Put | Swap | Move | Drop | Head
+Edit = Union[Put, Swap, Move, Drop, Head]
 
 
 def position_of(edit: Edit) -> int:
