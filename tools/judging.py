@@ -11,6 +11,8 @@ TOP = os.path.dirname(os.path.dirname(os.path.realpath(__file__)))
 BUILT = os.path.join(TOP, "crates/bbm_cli/out/bbm_cli")
 SECONDS = 10
 PROMISED = os.path.join(TOP, "docs/OUTPUT.md")
+# With this status a part of a text comes, cut anywhere.
+UNWRITTEN, PART = 5, "(?s:.*)"
 
 
 # ---- the forms of docs/OUTPUT.md
@@ -35,11 +37,13 @@ def line_form(form, fields):
 
 
 def answer_forms(texts, lines):
-    """The regular expression of a whole text for each status."""
+    """The regular expression of a whole text for each status, or of a part of one."""
     forms = {}
     for text in texts.split(", "):
         status, *names = text.split(" ")
         forms[int(status)] = "".join(f"(?:{lines[name.rstrip('*')]})" + ("*" if name.endswith("*") else "") for name in names)
+    if UNWRITTEN in forms:
+        forms[UNWRITTEN] = PART
     return forms
 
 
