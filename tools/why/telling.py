@@ -68,7 +68,7 @@ def told_swap(old: Event, new: Event, kind: Kind, shares: bool) -> str:
 def fault_of_value(old: Event, new: Event) -> str:
     differs = old.value ^ new.value
     if differs == CONTIGUOUS:
-        return "has the Contiguous hint, bit 52"
+        return "has the Contiguous bit, bit 52, set"
     if differs == 1 << 11:
         return "is for every ASID: bit 11 (nG) is clear"
     if differs == 1 and old.word == "msr":
