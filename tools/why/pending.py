@@ -195,7 +195,7 @@ def until_label(program: Program, log: Log, label: str, which: int) -> Log | Non
     """The log up to the line of a label, and with it unless it is that line that is refused; None where no line has it."""
     ending = b"@" + label.removeprefix("@").encode("latin-1")
     lines = [at for at in range(2, log.last_event + 1) if log.bytes_of(at).endswith(b" " + ending)]
-    if len(lines) < which:
+    if not 1 <= which <= len(lines):
         return None
     at = lines[which - 1]
     refusal = program.run(("check",), log.until(at)).refusal
