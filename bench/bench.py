@@ -4,15 +4,18 @@
 The logs are those of `logs.py`, by name, each with the verdict that it must have. It prints for each program the user and
 system seconds, events and MB a second, the ratio to `wc -l`, and the peak memory: the best of so many runs. The programs
 take turns, so that each meets the machine as the others do. Peak memory is never told below that of this script, some
-15 MB. No test asserts a time.
+15 MB. No test asserts a time. With --instructions it prints the instructions that an event takes in place of that, by
+valgrind's callgrind: on a log of 100,000 events they are the same on each machine, within 1 in 100.
 
     bench/bench.py                             bbm check, on a log within the limits of this version
     bench/bench.py --log all --events 1900 --rounds 1 --slow
     bench/bench.py --log broken_at_once --events 3006000
+    bench/bench.py --log all --events 100000 --instructions
     bench/bench.py --events 1000000 --program 'stage=PATH' --answer 'lines 1000002'
 """
 import argparse
 import os
+import re
 import shlex
 import shutil
 import subprocess
@@ -38,6 +41,18 @@ def run(words, log, seconds):
         late.cancel()
         process.returncode = os.waitstatus_to_exitcode(status)
     return (spent.ru_utime, spent.ru_stime, spent.ru_maxrss / 1024), wrote.strip() if in_time else None
+
+
+def instructions(asked, name, log, programs):
+    """Prints the instructions of an event, of each program but wc."""
+    for program, command, answer in programs[1:]:
+        counted = ["valgrind", "--tool=callgrind", "--callgrind-out-file=/dev/null", *command]
+        with open(log, "rb") as bytes_in:
+            ran = subprocess.run(counted, stdin=bytes_in, capture_output=True, text=True)
+        if ran.stdout.strip() != answer:
+            sys.exit(f"bench: {program} wrote {ran.stdout.strip()!r}, and not {answer!r}")
+        count = int(re.search(r"Collected : (\d+)", ran.stderr)[1])
+        print(f"{name:<24}{program:<16}{count / asked.events:>9.0f}", flush=True)
 
 
 def programs_of(asked, expected):
@@ -89,7 +104,11 @@ def bench(asked, name, folder):
         expected = asked.answer or verdict(log, asked.events)
         with open(path, "wb") as out:
             out.writelines(lines(log, asked.events))
-    table(asked, asked.file or name, os.path.getsize(path) / 1e6, best_of(asked, path, programs_of(asked, expected)))
+    programs = programs_of(asked, expected)
+    if asked.instructions:
+        instructions(asked, asked.file or name, path, programs)
+        return
+    table(asked, asked.file or name, os.path.getsize(path) / 1e6, best_of(asked, path, programs))
 
 
 def main():
@@ -102,6 +121,7 @@ def main():
     words.add_argument("--seconds", type=float, default=600, help="how long a run may take")
     words.add_argument("--answer", help="what the programs write; else the verdict of the log")
     words.add_argument("--slow", action="store_true", help="bbm slow too")
+    words.add_argument("--instructions", action="store_true", help="instructions of an event in place of times, by valgrind")
     words.add_argument("--no-bbm", action="store_true", help="without bbm check")
     asked = words.parse_args()
     if not asked.no_bbm:
