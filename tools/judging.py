@@ -37,11 +37,12 @@ def line_form(form, fields):
 
 
 def answer_forms(texts, lines):
-    """The regular expression of a whole text for each status, or of a part of one."""
+    """The regular expression of a whole text for each status, or of a part of one; a status that stands twice has either."""
     forms = {}
     for text in texts.split(", "):
         status, *names = text.split(" ")
-        forms[int(status)] = "".join(f"(?:{lines[name.rstrip('*')]})" + ("*" if name.endswith("*") else "") for name in names)
+        form = "".join(f"(?:{lines[name.rstrip('*')]})" + ("*" if name.endswith("*") else "") for name in names)
+        forms[int(status)] = f"{forms[int(status)]}|{form}" if int(status) in forms else form
     if UNWRITTEN in forms:
         forms[UNWRITTEN] = PART
     return forms
