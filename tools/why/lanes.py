@@ -4,7 +4,6 @@ What a row shows of the place after it is the answer of the program to a made wr
 """
 from __future__ import annotations
 
-import shutil
 from dataclasses import dataclass, field
 from enum import Enum
 
@@ -12,6 +11,7 @@ import words
 from log import Event, Header, Line, Lines, header_of, written
 from probe import Locks, made, other_value
 from program import Program, Refusal
+from style import BOLD, DIM, RED, Style
 
 ALL_SHOWN = 16
 BREAK_BEFORE_MAKE = 4
@@ -140,7 +140,6 @@ BARS = {"live": "┃", "broken": "╏", "seen": "│", "half": "┊", "cleansed"
 PLAIN_BARS = {"live": "#", "broken": "!", "seen": "|", "half": ":", "cleansed": "."}
 LETTERS = {"init": "I", "null": "N", "root": "R", "unroot": "U", "dsb": "D", "dmb": "B", "isb": "S", "tlbi": "T", "msr": "M",
            "lock": "L", "unlock": "K"}
-RED, BOLD, DIM, PLAIN = "\x1b[31m", "\x1b[1m", "\x1b[2m", "\x1b[0m"
 LEGEND = {"live": "the value is there", "broken": "it is cleared, and that isn't published", "seen": "the clear is published; an old entry may live on",
           "half": "stage 2 entries are gone, combined ones may live on", "cleansed": "no old entry is left"}
 ALIKE = "behind this row the refused line would be refused too"
@@ -160,13 +159,10 @@ def letter_of(row: Row) -> str:
 class Text:
     """Writes a chart for a terminal."""
 
-    def __init__(self, chart: Chart, width: int, colour: bool, unicode: bool):
-        self.chart, self.width, self.colour = chart, width, colour
-        self.bars = BARS if unicode else PLAIN_BARS
+    def __init__(self, chart: Chart, style: Style):
+        self.chart, self.width, self.painted = chart, style.width, style.painted
+        self.bars = BARS if style.unicode else PLAIN_BARS
         self.digits = max(4, *(len(str(row.line.at)) for row in chart.rows))
-
-    def painted(self, text: str, *codes: str) -> str:
-        return "".join(codes) + text + PLAIN if self.colour and text.strip() else text
 
     def cell(self, number: int, row: Row, pe: int) -> str:
         """Two columns: the event or what holds at the PE, and beside its own event what that did here."""
@@ -213,7 +209,3 @@ class Text:
 
     def lines(self) -> list[str]:
         return [*self.heads(), *(self.row(number, row) for number, row in enumerate(self.chart.rows)), *self.legend()]
-
-
-def width_of_terminal() -> int:
-    return max(60, min(120, shutil.get_terminal_size((80, 24)).columns))

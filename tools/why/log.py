@@ -5,7 +5,6 @@ The forms are those of docs/FORMAT.md. Nothing is judged here: a line that isn't
 from __future__ import annotations
 
 import re
-import sys
 from dataclasses import dataclass, replace
 from functools import lru_cache
 
@@ -197,14 +196,6 @@ class Log:
     def until(self, last: int) -> bytes:
         """The log up to the line of this number, and with it."""
         return b"\n".join([*self.parts[:last], b"end %d\n" % (last - 1)])
-
-
-def read(path: str | None) -> bytes:
-    """The bytes of a file, or of standard input where none is named or its name is `-`."""
-    if path in (None, "-"):
-        return sys.stdin.buffer.read()
-    with open(path, "rb") as file:
-        return file.read()
 
 
 LABEL = re.compile(r"[A-Za-z0-9./:_-]{1,32}")

@@ -3,7 +3,7 @@
 
     ./bbm why [LOG] [--svg FILE] [--html FILE] [--whole]
     ./bbm shrink [LOG] [--least] [--rename]
-    ./bbm pending [LOG] [--at LABEL] [--nth N]
+    ./bbm pending [LOG] [--pages] [--at LABEL] [--nth N] [--format json]
     ./bbm partial [LOG]
     ./bbm check --format gcc|github|json < LOG
 
@@ -15,17 +15,20 @@ from __future__ import annotations
 import argparse
 import sys
 import traceback
+from itertools import islice
 
 import formats
 import partial
-import pending
+import pending_told
 import picture
 import rename
 import why
-from log import Log, read, written
+from log import Log, written
 from program import Program, Status, Unable, built, emit
 from shrink import Shrinker
+from source import Source
 from study import study
+from style import style_of
 
 
 class Words(argparse.ArgumentParser):
@@ -47,22 +50,21 @@ def words_of(word: str, arguments: list[str]) -> argparse.Namespace:
 
 USAGES = {
     "why": "bbm why [LOG] [--svg FILE] [--html FILE] [--whole]", "shrink": "bbm shrink [LOG] [--least] [--rename]",
-    "pending": "bbm pending [LOG] [--at LABEL] [--nth N]", "partial": "bbm partial [LOG]",
+    "pending": "bbm pending [LOG] [--pages] [--at LABEL] [--nth N] [--format json]", "partial": "bbm partial [LOG]",
 }
-OPTIONS = {"why": ["svg", "html", "whole"], "shrink": ["least", "rename"], "pending": ["at", "nth"], "partial": []}
-KINDS_OF_OPTIONS = {"svg": {}, "html": {}, "at": {}, "nth": {"type": int, "default": 1}}
+OPTIONS = {"why": ["svg", "html", "whole"], "shrink": ["least", "rename"], "pending": ["pages", "at", "nth", "format"], "partial": []}
+KINDS_OF_OPTIONS = {"svg": {}, "html": {}, "at": {}, "nth": {"type": int, "default": 1},
+                    "format": {"choices": ["json"]}}
 
 
-def say_why(program: Program, data: bytes, asked: argparse.Namespace) -> int:
-    answer = program.run(("check",), data)
-    log = Log(data)
+def say_why(program: Program, source: Source, asked: argparse.Namespace) -> int:
+    answer = program.feed(("check",), source.parts())
     if not answer.refusal:
-        line = log.bytes_of(answer.line) if answer.line and answer.line <= len(log.parts) else None
-        emit(why.other_answer(answer, line))
+        emit(why.other_answer(answer, next(islice(source.lines(), (answer.line or 1) - 1, None), None)))
         return answer.status
-    found = study(program, log, answer.refusal)
+    found = study(program, Log(source.read()), answer.refusal)
     views = why.views_of(found, asked.whole)
-    emit(why.text_of(answer, why.parts_of(found, views, why.style_of(sys.stdout))))
+    emit(why.text_of(answer, why.parts_of(found, views, style_of(sys.stdout))))
     for path, make in ((asked.svg, picture.svg), (asked.html, picture.html)):
         if path:
             write_file(path, make(found, views, answer))
@@ -77,12 +79,12 @@ def write_file(path: str, text: str) -> None:
         raise Unable(Status.UNWRITTEN, f"{path}: {fault.strerror}") from fault
 
 
-def shrink(program: Program, data: bytes, asked: argparse.Namespace) -> int:
-    answer = program.run(("check",), data)
+def shrink(program: Program, source: Source, asked: argparse.Namespace) -> int:
+    answer = program.feed(("check",), source.parts())
     if not answer.refusal:
         emit(answer.text)
         return answer.status
-    log = Log(data)
+    log = Log(source.read())
     found = study(program, log, answer.refusal)
     header, lines = found.header, found.small
     if asked.least:
@@ -93,19 +95,14 @@ def shrink(program: Program, data: bytes, asked: argparse.Namespace) -> int:
     return answer.status
 
 
-def say_pending(program: Program, data: bytes, asked: argparse.Namespace) -> int:
-    log: Log | None = Log(data)
-    if asked.at:
-        log = pending.until_label(program, log, asked.at, asked.nth)
-    if log is None:
-        raise Unable(3, f"no line number {asked.nth} has the label {asked.at}")
-    status, text = pending.command(program, log)
+def say_pending(program: Program, source: Source, asked: argparse.Namespace) -> int:
+    status, text = pending_told.command(program, source, asked, style_of(sys.stdout))
     emit(text)
     return status
 
 
-def say_partial(program: Program, data: bytes, _asked: argparse.Namespace) -> int:
-    status, text = partial.partial(program, data)
+def say_partial(program: Program, source: Source, _asked: argparse.Namespace) -> int:
+    status, text = partial.partial(program, source.parts())
     emit(text)
     return status
 
@@ -120,11 +117,7 @@ def run(word: str, arguments: list[str]) -> int:
     if word not in COMMANDS:
         raise Unable(3, f"no such word: {word}")
     asked = words_of(word, arguments)
-    try:
-        data = read(asked.log)
-    except OSError as fault:
-        raise Unable(Status.UNREADABLE, f"{asked.log or 'standard input'}: {fault.strerror}") from fault
-    return COMMANDS[word](program, data, asked)
+    return COMMANDS[word](program, Source(asked.log), asked)
 
 
 def main() -> int:
@@ -140,6 +133,9 @@ def main() -> int:
     except BrokenPipeError:
         sys.stderr.close()
         return Status.UNWRITTEN
+    except MemoryError:
+        sys.stderr.write("bbm: there was no memory, so there is no answer\n")
+        return Status.NO_MEMORY
     except Exception:
         # Python would end with status 1, which says that a rule refuses the log.
         traceback.print_exc()

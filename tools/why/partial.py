@@ -1,31 +1,43 @@
-"""`partial`: judges a log without its last lines, as a crash leaves it."""
+"""`partial`: judges a log without its last lines, as a crash leaves it. It is read as a stream."""
 from __future__ import annotations
 
-from dataclasses import dataclass
+from collections.abc import Iterable, Iterator
 
 from program import Answer, Program
+from source import PART
 
 
-@dataclass(frozen=True)
 class Cut:
     """A log with a right `end` line, how many events it has, and how many bytes of a line without its newline were cut."""
 
-    log: bytes
-    events: int
-    half: int
+    def __init__(self, parts: Iterable[bytes]):
+        self.parts, self.lines, self.half = parts, 0, 0
 
+    @property
+    def events(self) -> int:
+        return max(0, self.lines - 1)
 
-def cut_of(data: bytes) -> Cut:
-    """The whole lines, without an `end` line at their end. A header that is cut stays as it is."""
-    whole, newline, half = data.rpartition(b"\n")
-    if not newline:
-        return Cut(data, 0, 0)
-    last = whole.rpartition(b"\n")[2]
-    body = whole + newline
-    if last.startswith(b"end ") and last != whole:
-        body = body[:len(body) - len(last) - 1]
-    events = body.count(b"\n") - 1
-    return Cut(body + b"end %d\n" % events, events, len(half))
+    def log(self) -> Iterator[bytes]:
+        """The whole lines, without an `end` line at their end. A header that is cut stays as it is, and so does what has no
+        newline for so long that it is no log."""
+        kept = b""
+        for part in self.parts:
+            kept += part
+            last = kept.rfind(b"\n", 0, max(0, kept.rfind(b"\n"))) + 1
+            yield kept[:last]
+            self.lines += kept.count(b"\n", 0, last)
+            kept = kept[last:]
+            if len(kept) >= PART:
+                break
+        last, newline, half = kept.rpartition(b"\n")
+        if newline and (self.lines == 0 or not last.startswith(b"end ")):
+            self.lines += 1
+            yield last + newline
+        if self.lines == 0:
+            yield kept
+            return
+        self.half = len(half)
+        yield b"end %d\n" % self.events
 
 
 def told(cut: Cut, answer: Answer) -> str:
@@ -35,7 +47,10 @@ def told(cut: Cut, answer: Answer) -> str:
     return f"judged {judged} of {cut.events} events{half}\n"
 
 
-def partial(program: Program, data: bytes) -> tuple[int, str]:
-    cut = cut_of(data)
-    answer = program.run(("check",), cut.log)
+def partial(program: Program, parts: Iterable[bytes]) -> tuple[int, str]:
+    cut = Cut(parts)
+    log = cut.log()
+    answer = program.feed(("check",), log)
+    for _ in log:
+        pass
     return answer.status, answer.text + (told(cut, answer) if answer.text else "")

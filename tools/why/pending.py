@@ -1,11 +1,11 @@
 """`pending`: the places whose old descriptor a TLB may still hold at the end of an accepted log.
 
 The log's writes give the candidates: places that had a valid value since the `init` of their page and have none now. First their
-pages are made zero behind the log, all in one log: where that is accepted the page is in no tree, and none of its places holds
-anything. Then each place of the others is asked of the program by a made write behind the log, again all in one log: one that is
-accepted says that its place holds nothing, and changes no other candidate; one that break-before-make refuses says that it does,
-and `explain` tells the phases; then the asking goes on behind it. So there are as many runs as places that are found and pages
-of trees with candidates, and some more.
+pages are made zero behind the log, all in one log, but for those to which the values that are there lead from a root: where that is
+accepted the page is in no tree, and none of its places holds anything. Then each place of the others is asked of the program by a made write behind the log, again
+all in one log: one that is accepted says that its place holds nothing, and changes no other candidate; one that break-before-make
+refuses says that it does, and `explain` tells the phases; then the asking goes on behind it. So there are as many runs as places
+that are found, and some more.
 
 A made write links a page of its own that was just made zero: so it is valid at every level, of another core than what the place
 held, and breaks no rule where the place holds nothing. Where the log left too few pages that can be made zero, it links
@@ -14,11 +14,13 @@ so this says the same, at the cost of a run.
 """
 from __future__ import annotations
 
+from array import array
 from collections.abc import Iterator
 from concurrent.futures import ThreadPoolExecutor
 from dataclasses import dataclass, field
+from functools import cached_property
 
-from log import ADDRESS_BITS, Log, event_of
+from log import ADDRESS_BITS, Event, Header, event_of, header_of
 from probe import Locks
 from program import Answer, Program, Unable
 
@@ -27,15 +29,18 @@ LIMIT_OF_PAGES = 16384
 # So many candidates are asked about in one run.
 AT_ONCE = 8192
 JOBS = 2
-PHASES = ("broken", "seen", "half", "cleansed")
 LINK = 0x803
-PAGE = 12
-VALID, BLOCK = 0, -1
+PAGE, INSIDE, PLACES = 12, 4095, 512
+LAST_LEVEL = 3
+# With what the lines begin that are looked at: `w`, and `init`, `lock`, `root`, `unlock` and `unroot`.
+WRITE, OF_A_TREE = b"w"[0], frozenset(b"ilru")
+# At these levels bits 01 are those of a block.
+WITH_BLOCKS = (1, 2)
 
 
 @dataclass(frozen=True)
 class Candidate:
-    """A place without a valid value, and the line that cleared its last valid one."""
+    """A place that may hold a value, and the line that cleared its last valid one; 0 where none did."""
 
     place: int
     cleared: int
@@ -43,75 +48,119 @@ class Candidate:
 
 @dataclass(frozen=True)
 class Pending:
-    """A place that holds an old value, by the program, and its phase at each PE."""
+    """A place that holds a value, by the program, and its phase at each PE."""
 
     place: int
     cleared: int
     phases: tuple[str, ...]
 
 
+class Table:
+    """For each place of a page its last valid value since the `init` of the page, with bit 0 clear where it was cleared, and the
+    line that cleared it last. Bits 01 are taken for valid, unless they come upon bits 11: those are cleared by them."""
+
+    __slots__ = ("values", "cleared")
+
+    def __init__(self):
+        self.values, self.cleared = array("Q", bytes(8 * PLACES)), array("I", bytes(4 * PLACES))
+
+    def write(self, at: int, inside: int, value: int) -> None:
+        old = self.values[inside]
+        if value & 3 == 3:
+            self.values[inside], self.cleared[inside] = value, 0
+        elif value & 1 and old & 3 != 3:
+            self.values[inside] = value
+        elif old & 1:
+            self.values[inside], self.cleared[inside] = old & ~1, at
+
+    def without_value(self, level: int | None) -> Iterator[tuple[int, int]]:
+        """The places whose present value isn't valid at this level, or may not be where the level isn't known, and the lines."""
+        is_block = level in WITH_BLOCKS
+        return ((inside, at) for inside, at in enumerate(self.cleared) if at and not (is_block and self.values[inside] & 1))
+
+
 @dataclass
 class Tables:
-    """What the log wrote: for each page since its `init` the places that had a valid value, with the line that cleared it, or
-    VALID or BLOCK while none did, by bits 11 or 01 of the value."""
+    """What a log wrote: each page that was made zero, with what its places had since; None where they had no valid value. And
+    the roots that are declared, with the levels at which walks start."""
 
-    pages: dict[int, dict[int, int]] = field(default_factory=dict)
-    zeroed: set[int] = field(default_factory=set)
-    named: set[int] = field(default_factory=set)
+    header_text: str
+    pages: dict[int, Table | None] = field(default_factory=dict)
     locks: Locks = field(default_factory=Locks)
+    roots: dict[int, int] = field(default_factory=dict)
+
+    @cached_property
+    def header(self) -> Header:
+        return header_of(self.header_text)
 
     def take(self, at: int, line: bytes) -> None:
-        if line.startswith(b"w "):
-            fields = line.split(b" ", 4)
-            self.write(at, int(fields[2], 16), int(fields[3], 16))
-        elif line.startswith(b"init "):
-            page = int(line.split(b" ", 3)[2], 16) >> PAGE
-            self.zeroed.add(page)
-            self.pages.pop(page, None)
-        elif line.startswith((b"lock ", b"unlock ", b"root ")):
-            self.locks.take(event_of(line.decode("latin-1")))
+        if line[0] == WRITE:
+            _, _, place, value = line.split(b" ", 4)[:4]
+            self.write(at, int(place, 16), int(value, 16))
+        elif line[0] in OF_A_TREE and line.startswith(b"init "):
+            self.pages[int(line.split(b" ", 3)[2], 16) >> PAGE] = None
+        elif line[0] in OF_A_TREE and not line.startswith(b"isb "):
+            self.declare(event_of(line.decode("latin-1")))
 
     def write(self, at: int, place: int, value: int) -> None:
-        places = self.pages.setdefault(place >> PAGE, {})
-        now = places.get(place)
-        if value & 3 == 3:
-            places[place] = VALID
-        elif value & 1:
-            # Bits 01 are valid at some levels alone. Where they come upon bits 11, those are cleared by them, or nothing was held.
-            places[place] = at if now == VALID else BLOCK if now is None else now
-        elif now in (VALID, BLOCK):
-            places[place] = at
-        if value & 1:
-            self.named.add((value & ADDRESS_BITS) >> PAGE)
+        table = self.pages.get(place >> PAGE)
+        if table is None and value & 1:
+            table = self.pages[place >> PAGE] = Table()
+        if table is not None:
+            table.write(at, (place & INSIDE) >> 3, value)
 
-    def candidates(self) -> list[Candidate]:
-        """In the order of their addresses."""
-        found = [Candidate(place, cleared) for places in self.pages.values() for place, cleared in places.items() if cleared > 0]
-        return sorted(found, key=lambda candidate: candidate.place)
+    def declare(self, event: Event) -> None:
+        self.locks.take(event)
+        if event.word == "root":
+            self.roots.update(dict.fromkeys(self.pages_of_root(event.rest[0], event.page), self.header.start_of(event.rest[0])))
+        elif event.word == "unroot":
+            self.roots.pop(event.page >> PAGE, None)
+
+    def pages_of_root(self, kind: str, address: int) -> range:
+        first = address >> PAGE
+        return range(first, first + self.header.pages_of(kind))
+
+    def cleared_at(self, place: int) -> int:
+        """The line that cleared the last valid value of a place; 0 where none did."""
+        table = self.pages.get(place >> PAGE)
+        inside = (place & INSIDE) >> 3
+        return 0 if table is None or table.values[inside] & 1 else table.cleared[inside]
+
+    def reached(self) -> dict[int, int]:
+        """The pages to which the values that are there lead from the roots, each with its level."""
+        found, waiting = {}, list(self.roots.items())
+        while waiting:
+            page, level = waiting.pop()
+            if page in found or level > LAST_LEVEL:
+                continue
+            found[page] = level
+            table = self.pages.get(page)
+            waiting += [((value & ADDRESS_BITS) >> PAGE, level + 1) for value in table.values if value & 3 == 3] if table else []
+        return found
 
     def unused(self) -> Iterator[int]:
-        """Pages that the log never names."""
-        taken = self.zeroed | self.named | set(self.pages)
-        return (page << PAGE for page in range(1, 1 << 36) if page not in taken)
+        """Pages that the log never made zero."""
+        return (page << PAGE for page in range(1, 1 << 36) if page not in self.pages)
 
 
-def tables_of(log: Log) -> Tables:
-    tables = Tables()
-    for at in range(2, log.last_event + 1):
-        tables.take(at, log.bytes_of(at))
+def tables_of(front) -> Tables:
+    tables = Tables(front.header)
+    take, counted = tables.take, frozenset((WRITE, *OF_A_TREE))
+    for at, line in front.lines():
+        if line[0] in counted:
+            take(at, line)
     return tables
 
 
 class Asker:
-    """Asks about candidates behind one log."""
+    """Asks about candidates behind the front part of a log."""
 
-    def __init__(self, program: Program, log: Log, tables: Tables):
-        self.program = program
-        self.body = log.parts[:log.last_event]
-        self.body += [b"lock 0 %s" % lock.encode() for lock in tables.locks.free()]
+    def __init__(self, program: Program, front, tables: Tables):
+        self.program, self.front = program, front
+        self.taken = [b"lock 0 %s" % lock.encode() for lock in tables.locks.free()]
         self.writers = tables.locks.writers()
-        self.zeroed = tables.zeroed
-        room = min(AT_ONCE, LIMIT_OF_PAGES - len(tables.zeroed))
+        self.zeroed = tables.pages.keys()
+        room = min(AT_ONCE, LIMIT_OF_PAGES - len(self.zeroed))
         source = tables.unused()
         self.fresh = [next(source) for _ in range(room)]
         self.never_zeroed = next(source)
@@ -119,13 +168,12 @@ class Asker:
     def answer_to(self, tail: list[bytes], command: str) -> tuple[Answer, int]:
         """The answer to the log with these lines behind it, and which of them it refuses: their number where none is. An
         answer that neither accepts nor refuses says nothing about a place."""
-        lines = [*self.body, *tail]
-        answer = self.program.run((command,), b"\n".join([*lines, b"end %d\n" % (len(lines) - 1)]))
+        answer = self.program.feed((command,), self.front.with_tail([*self.taken, *tail]))
         if answer.accepted:
             return answer, len(tail)
         if not answer.refusal:
             raise Unable(answer.status, f"what was asked behind the log's end has no answer: {answer.first}")
-        return answer, answer.refusal.line - len(self.body) - 1
+        return answer, answer.refusal.line - self.front.events - len(self.taken) - 2
 
     def in_trees(self, pages: list[int]) -> set[int]:
         """Those of the pages that an `init` behind the log may not make zero: pages of trees, and null pages. A page that
@@ -157,7 +205,7 @@ class Asker:
         return (writer + 1) % len(self.writers) if tried else 0
 
     def found(self, candidates: list[Candidate]) -> list[Pending]:
-        """Those of the candidates that hold an old value."""
+        """Those of the candidates that hold a value."""
         found, left, writer = [], candidates, 0
         while left:
             now = left[:AT_ONCE]
@@ -166,64 +214,26 @@ class Asker:
             if refusal and refusal.rule == NO_LOCK and not (position == 0 and writer + 1 == len(self.writers)):
                 left, writer = left[position:], self.next_writer(position, writer)
                 continue
-            if refusal and refusal.rule == BREAK_BEFORE_MAKE and "live" not in answer.phases:
+            if refusal and refusal.rule == BREAK_BEFORE_MAKE:
                 found.append(Pending(now[position].place, now[position].cleared, answer.phases))
             left, writer = left[position + 1 if position < len(now) else len(now):], 0
         return found
 
 
-def pending(program: Program, log: Log) -> list[Pending]:
-    """The places that hold an old value at the end of an accepted log, in order."""
-    tables = tables_of(log)
-    candidates = tables.candidates()
-    asker = Asker(program, log, tables)
+def pending(program: Program, front) -> list[Pending]:
+    """The places that hold an old value behind the front part of an accepted log, in order."""
+    tables = tables_of(front)
+    asker = Asker(program, front, tables)
+    levels = tables.reached()
+    cleared = {page: found for page, table in sorted(tables.pages.items()) if table and (found := list(table.without_value(levels.get(page))))}
     with ThreadPoolExecutor(JOBS) as pool:
-        pages = list(dict.fromkeys(candidate.place >> PAGE for candidate in candidates))
-        used = set().union(*pool.map(asker.in_trees, shares(pages)))
-        candidates = [candidate for candidate in candidates if candidate.place >> PAGE in used]
-        return [place for found in pool.map(asker.found, shares(candidates)) for place in found]
+        alone = [page for page in cleared if page not in levels]
+        out = set(alone).difference(*pool.map(asker.in_trees, shares(alone)))
+        candidates = [Candidate(page << PAGE | inside << 3, at) for page in cleared if page not in out for inside, at in cleared[page]]
+        places = [place for found in pool.map(asker.found, shares(candidates)) for place in found]
+    return [place for place in places if "live" not in place.phases]
 
 
 def shares(items: list) -> list[list]:
     """The items in order, for each job a part of them."""
     return [items[i * len(items) // JOBS:(i + 1) * len(items) // JOBS] for i in range(JOBS)]
-
-
-# ---- the command
-
-def until_label(program: Program, log: Log, label: str, which: int) -> Log | None:
-    """The log up to the line of a label, and with it unless it is that line that is refused; None where no line has it."""
-    ending = b"@" + label.removeprefix("@").encode("latin-1")
-    lines = [at for at in range(2, log.last_event + 1) if log.bytes_of(at).endswith(b" " + ending)]
-    if not 1 <= which <= len(lines):
-        return None
-    at = lines[which - 1]
-    refusal = program.run(("check",), log.until(at)).refusal
-    return Log(log.until(at - 1 if refusal and refusal.line == at else at))
-
-
-def ranges(pes: list[int]) -> str:
-    """Numbers in order, those next to each other as FIRST-LAST."""
-    parts: list[list[int]] = []
-    for pe in pes:
-        if parts and parts[-1][1] == pe - 1:
-            parts[-1][1] = pe
-        else:
-            parts.append([pe, pe])
-    return ",".join(str(first) if first == last else f"{first}-{last}" for first, last in parts)
-
-
-def told(log: Log, place: Pending) -> str:
-    by_phase = [f"{phase} {ranges([pe for pe, is_now in enumerate(place.phases) if is_now == phase])}"
-                for phase in PHASES if phase in place.phases]
-    return f"pending {hex(place.place)} cleared {log.line(place.cleared).name} {' '.join(by_phase)}\n"
-
-
-def command(program: Program, log: Log) -> tuple[int, str]:
-    answer = program.run(("check",), log.data)
-    if not answer.accepted:
-        return answer.status, answer.text
-    found = pending(program, log)
-    return answer.status, answer.text + f"pending {len(found)} places\n" + "".join(told(log, place) for place in found)
-
-

@@ -1,11 +1,14 @@
 """The program, and what it answers. It alone judges: every statement about a log comes from one of its answers."""
 from __future__ import annotations
 
+import contextlib
+import errno
 import os
 import pathlib
 import re
 import subprocess
 import sys
+from collections.abc import Iterable
 from dataclasses import dataclass, field
 from enum import IntEnum
 
@@ -121,20 +124,29 @@ class Program:
         return answer
 
     def run(self, words: tuple[str, ...], log: bytes | None) -> Answer:
-        """The answer to a log, or to standard input where that is None. A status that says nothing of it is a fault, and
-        so never taken for a yes or a no."""
+        """The answer to a log, or to standard input where that is None."""
+        return self.feed(words, None if log is None else [log])
+
+    def feed(self, words: tuple[str, ...], parts: Iterable[bytes] | None) -> Answer:
+        """The answer to a log that comes in parts, of which those behind the line that decides may be left; or to standard
+        input where that is None. A status that says nothing of it is a fault, and so never taken for a yes or a no."""
         self.runs += 1
-        given = {} if log is None else {"input": log}
+        given = {} if parts is None else {"stdin": subprocess.PIPE}
         try:
-            done = subprocess.run([self.path, *words], stdout=subprocess.PIPE, check=False, **given)
+            with subprocess.Popen([self.path, *words], stdout=subprocess.PIPE, **given) as running:
+                with contextlib.suppress(BrokenPipeError):
+                    for part in parts or ():
+                        running.stdin.write(part)
+                text, _ = running.communicate()
         except OSError as fault:
-            raise Unable(70, f"the program can't be run: {fault}") from fault
-        if done.returncode < 0:
-            raise Unable(70, f"the program ended by signal {-done.returncode}")
-        if done.returncode not in ANSWERS:
-            why = FAULTS.get(done.returncode, f"the program ended with status {done.returncode}")
-            raise Unable(done.returncode, f"{why}, so there is no answer")
-        return Answer(done.returncode, done.stdout.decode("latin-1"))
+            status = Status.NO_MEMORY if fault.errno == errno.ENOMEM else 70
+            raise Unable(status, f"the program can't be run: {fault}") from fault
+        if running.returncode < 0:
+            raise Unable(70, f"the program ended by signal {-running.returncode}")
+        if running.returncode not in ANSWERS:
+            why = FAULTS.get(running.returncode, f"the program ended with status {running.returncode}")
+            raise Unable(running.returncode, f"{why}, so there is no answer")
+        return Answer(running.returncode, text.decode("latin-1"))
 
     def check(self, log: bytes) -> Answer:
         return self.ask(("check",), log)

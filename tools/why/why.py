@@ -1,7 +1,6 @@
 """`why`: a refusal with its small log, what would do, a run, its lanes and its rule, as one text."""
 from __future__ import annotations
 
-import os
 import textwrap
 from collections.abc import Iterator
 from dataclasses import dataclass
@@ -12,22 +11,10 @@ from log import Lines, written
 from program import Answer
 from rules import cause_of, rule_of
 from study import Study
+from style import BOLD, Style
 from telling import Teller
 
 TOO_MANY = 400
-
-
-@dataclass
-class Style:
-    width: int
-    colour: bool
-    unicode: bool
-
-
-def style_of(stream) -> Style:
-    colour = stream.isatty() and "NO_COLOR" not in os.environ
-    unicode = (stream.encoding or "").lower().replace("-", "") == "utf8"
-    return Style(lanes.width_of_terminal() if stream.isatty() else 80, colour, unicode)
 
 
 def wrapped(text: str, style: Style, first: str = "", later: str = "  ") -> str:
@@ -43,7 +30,7 @@ class Pages:
     style: Style
 
     def head(self, text: str) -> str:
-        return f"{lanes.BOLD}{text}{lanes.PLAIN}" if self.style.colour else text
+        return self.style.painted(text, BOLD)
 
     def small(self) -> list[str]:
         study = self.study
@@ -76,7 +63,7 @@ class Pages:
     def lanes(self, chart: lanes.Chart) -> list[str]:
         shown = any(row.phases for row in chart.rows)
         title = f"Lanes: a column a PE{f'; how long an old entry of {hex(chart.place)} may live there' if shown else ''}"
-        text = lanes.Text(chart, self.style.width, self.style.colour, self.style.unicode)
+        text = lanes.Text(chart, self.style)
         return [self.head(title), *(f"{line}" for line in text.lines())]
 
     def rule(self) -> list[str]:

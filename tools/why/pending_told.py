@@ -1,0 +1,113 @@
+"""What `pending` answers, as text and as JSON (docs/OUTPUT.md)."""
+from __future__ import annotations
+
+import json
+from dataclasses import dataclass
+
+from formats import as_json, finding_of
+from log import event_of
+from pages import pages
+from pending import pending
+from program import Answer, Program, Status, Unable
+from source import Front, Source, whole
+from style import BOLD, DIM, RED, Style
+
+PHASES = {"live": RED, "broken": RED, "seen": RED, "half": RED, "cleansed": DIM}
+
+
+@dataclass(frozen=True)
+class Asked:
+    """The options of the word."""
+
+    at: str | None
+    nth: int
+    pages: bool
+    format: str | None
+
+
+@dataclass(frozen=True)
+class Found:
+    """What is named: the addresses and the lines that its line tells, by their words, and the phases."""
+
+    addresses: dict[str, int]
+    lines: dict[str, int]
+    phases: tuple[str, ...]
+
+    def by_phase(self) -> dict[str, list[int]]:
+        return {phase: [pe for pe, is_now in enumerate(self.phases) if is_now == phase] for phase in PHASES if phase in self.phases}
+
+
+def places_found(program: Program, front: Front) -> list[Found]:
+    return [Found({"place": one.place}, {"cleared": one.cleared}, one.phases) for one in pending(program, front)]
+
+
+def pages_found(program: Program, front: Front) -> list[Found]:
+    return [Found({"page": one.page << 12, "leaf": one.leaf.place},
+                  {"mapped": one.leaf.line, **({"cleared": one.cleared} if one.cleared else {}), "reused": one.line}, one.phases)
+            for one in pages(program, front)]
+
+
+def front_of(program: Program, source: Source, asked: Asked, answer: Answer) -> Front | None:
+    """The log; or with a label up to its line, and with it unless it is that line that is refused. None where another line
+    decides before."""
+    if not asked.at:
+        return whole(source, int(answer.first.split(" ")[1])) if answer.accepted else None
+    ending, size, count = b" @" + asked.at.removeprefix("@").encode("latin-1"), 0, 0
+    for at, line in enumerate(source.lines(), 1):
+        decides = at == answer.line
+        if decides and not answer.refusal:
+            return None
+        count += at > 1 and line.endswith(ending)
+        if count == asked.nth > 0:
+            return Front(source, size, at - 2) if decides else Front(source, size + len(line) + 1, at - 1)
+        if decides:
+            return None
+        size += len(line) + 1
+    raise Unable(Status.USAGE, f"no line number {asked.nth} has the label {asked.at}")
+
+
+def labels_of(front: Front, found: list[Found]) -> dict[int, str]:
+    """The labels of the lines that are named."""
+    wanted = {at for one in found for at in one.lines.values()}
+    return {at: event_of(line.decode("latin-1")).label for at, line in front.lines() if at in wanted} if wanted else {}
+
+
+def ranges(pes: list[int]) -> str:
+    """Numbers in order, those next to each other as FIRST-LAST."""
+    parts: list[list[int]] = []
+    for pe in pes:
+        if parts and parts[-1][1] == pe - 1:
+            parts[-1][1] = pe
+        else:
+            parts.append([pe, pe])
+    return ",".join(str(first) if first == last else f"{first}-{last}" for first, last in parts)
+
+
+def told(one: Found, labels: dict[int, str], style: Style) -> str:
+    """A line: `pending` and a place, or `page` and a page with the leaf that maps it; then the lines and the phases."""
+    names = [f"{'pending' if word == 'place' else word} {style.painted(hex(address), BOLD)}" for word, address in one.addresses.items()]
+    lines = [f"{word} line {at}" + (f" @{labels[at]}" if labels[at] else "") for word, at in one.lines.items()]
+    phases = [style.painted(f"{phase} {ranges(pes)}", PHASES[phase]) for phase, pes in one.by_phase().items()]
+    return " ".join([*names, *lines, *phases]) + "\n"
+
+
+def fields(one: Found, labels: dict[int, str]) -> dict:
+    lines = {word: {"line": at, **({"label": labels[at]} if labels[at] else {})} for word, at in one.lines.items()}
+    return {**{word: hex(address) for word, address in one.addresses.items()}, **lines, "phases": one.by_phase()}
+
+
+def command(program: Program, source: Source, asked: Asked, style: Style) -> tuple[int, str]:
+    """The status, 1 where something is named, and the text."""
+    answer = program.feed(("check",), source.parts())
+    front = front_of(program, source, asked, answer)
+    if front is None:
+        finding = finding_of(answer) if asked.format else None
+        return answer.status, as_json(finding) + "\n" if finding else answer.text
+    found = (pages_found if asked.pages else places_found)(program, front)
+    labels = labels_of(front, found)
+    what = "pages" if asked.pages else "places"
+    if asked.format:
+        named = {"verdict": "accepted", "events": front.events, what: [fields(one, labels) for one in found]}
+        return int(bool(found)), json.dumps(named) + "\n"
+    first = f"accepted {front.events} events\npending {len(found)} {what}\n"
+    return int(bool(found)), first + "".join(told(one, labels, style) for one in found)
