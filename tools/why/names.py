@@ -16,6 +16,7 @@ BARRIERS = {b"dsb", b"tlbi", b"isb"}
 LOCKS_KEPT = 64
 PAGE, TAG = 12, 48
 TAGS_TRIED = 8
+LOADED = 200
 
 
 @dataclass
@@ -162,6 +163,13 @@ def tags_near(index: Index, refusal: Refusal, header: Header) -> list[int]:
     way = climb(index, header, pages_named(index, refusal), True)
     values = [number(index.fields(at)[3]) for at in registers_near(index, way)]
     return list(dict.fromkeys(value >> TAG for value in values[::-1] if value))[:TAGS_TRIED]
+
+
+def loading(index: Index, refusal: Refusal, header: Header) -> list[int]:
+    """The last register writes that give the roots of the way their tags, each with the lines that make its root, and the next
+    `isb` of its PE."""
+    way = climb(index, header, pages_named(index, refusal), True)
+    return sorted({line for at in registers_near(index, way)[-LOADED:] for line in with_its_root(index, at)})
 
 
 def locks(index: Index, refusal: Refusal, way: Way) -> set[int]:

@@ -9,6 +9,8 @@ from log import Line, Lines
 from program import Answer, Program, Status
 
 COMMAND = "counterrun"
+# So many events the command takes.
+MOST_EVENTS = 2000
 CONFLICT = re.compile(r"run \d+ steps conflict line (\d+)")
 
 
@@ -45,6 +47,12 @@ def answer_within(program: Program, command: str, log: bytes) -> Answer:
 def run_of(program: Program, log: bytes) -> Run | None:
     """The run of a log, where the program has one."""
     return run_in(program, answer_within(program, COMMAND, log).text)
+
+
+def steps_of(program: Program, log: bytes) -> list[str]:
+    """The steps of TLBs in the run of a log, in order; none where the program has no run."""
+    found = run_of(program, log)
+    return [step for step in found.steps if step.startswith("m ")] if found else []
 
 
 def run_in(program: Program, told: str) -> Run | None:
@@ -118,12 +126,8 @@ class Told:
         line: Line = self.lines[self.run.conflict]
         event = line.event
         pes = " and ".join(f"PE {pe}" for pe in sorted({entry.pe for entry in self.left()}))
-        if event.word == "w":
-            what = "a table or page" if event.value & 2 else "a block"
-            return f"{line.name} writes {hex(event.value)}, {what}, at {event.rest[0]}: {pes} has the old entry and may have both"
-        if event.word == "msr":
-            return f"{line.name} makes the tag readable for another root: {pes} still has an entry under it"
-        return f"{line.name} takes the page while {pes} has an entry that was read in it"
+        what = "a table or page" if event.value & 2 else "a block"
+        return f"{line.name} writes {hex(event.value)}, {what}, at {event.rest[0]}: {pes} has the old entry and may have both"
 
     def told(self) -> list[str]:
         kept = self.left()

@@ -4,7 +4,7 @@ from __future__ import annotations
 from dataclasses import dataclass
 
 from log import Line, Lines, Log, written
-from names import tags_near
+from names import loading, tags_near
 from program import Program, Refusal
 from repair import Repair, Repairer, anchors
 from scene import Scene
@@ -23,6 +23,7 @@ class Study:
     scene: Scene
     small: Lines
     repairs: list[Repair]
+    loading: Numbers
 
     @property
     def header(self) -> str:
@@ -63,4 +64,4 @@ def study(program: Program, log: Log, refusal: Refusal) -> Study:
     repairer = Repairer(program, log, scene)
     repairs = repairer.search()
     small = with_repairs(shrinker, repairer, repairs, tried)
-    return Study(program, log, refusal, scene, log.lines(small), repairs)
+    return Study(program, log, refusal, scene, log.lines(small), repairs, loading(shrinker.index, refusal, shrinker.header))

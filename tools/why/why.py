@@ -2,7 +2,6 @@
 from __future__ import annotations
 
 import textwrap
-from collections.abc import Iterator
 from dataclasses import dataclass
 
 import lanes
@@ -10,6 +9,7 @@ import run
 from log import Lines, written
 from program import Answer
 from rules import cause_of, rule_of
+from shrink import reduced
 from study import Study
 from style import BOLD, Style
 from telling import Teller
@@ -56,7 +56,8 @@ class Pages:
             return [self.head(f"A run that goes wrong: {no_run}")]
         small = {line.at for line in self.study.small}
         more = [str(line.at) for line in told.lines if line.at not in small]
-        also = wrapped(f"over the small log and lines {', '.join(more)} besides", self.style, "  ", "    ")
+        lines = f"line{'s' if len(more) > 1 else ''} {', '.join(more)}"
+        also = wrapped(f"over the small log and {lines} besides", self.style, "  ", "    ")
         steps = [wrapped(text, self.style, "  ", "    ") for text in told.told()]
         return [self.head("A run that goes wrong"), *([also] if more else []), *steps]
 
@@ -87,31 +88,35 @@ def lines_shown(study: Study, whole: bool) -> Lines:
     return study.small
 
 
-LOADING = {"msr", "isb", "root", "init", "null"}
+def asked_for_run(study: Study) -> list[int]:
+    """The lines to ask for a run of: all where the program takes so many; else the small log and the lines that load its roots,
+    without which no TLB walks."""
+    if study.refusal.line - 1 <= run.MOST_EVENTS:
+        return list(range(2, study.refusal.line + 1))
+    return sorted({*(line.at for line in study.small), *study.loading})
 
 
-def lines_for_run(study: Study) -> Iterator[Lines]:
-    """Logs to ask for a run of: the small log; with the lines that load its roots, without which no TLB walks; and with all that
-    was tried about it."""
+def with_run(study: Study, asked: list[int], steps: list[str]) -> Lines:
+    """The small log and, of the lines that were asked of, those without which the run has other steps."""
     small = {line.at for line in study.small}
-    yield study.small
-    yield tuple(line for line in study.scene.lines if line.at in small or line.event.word in LOADING)
-    yield study.scene.lines
+    numbers = lambda kept: sorted({*small, *kept})
+    holds = lambda kept: run.steps_of(study.program, study.log.cut(numbers(kept))) == steps
+    more = [*(at for at in asked if at not in small), study.refusal.line]
+    return study.log.lines(numbers(reduced(study.log, more, holds) if holds(asked) else asked))
 
 
 def told_run(study: Study) -> tuple[run.Told | None, str]:
-    """The run of the first of these logs that has one; or None, and what is said of that."""
+    """The run that the program has, over the lines that it needs; or None, and what is said of that."""
     if not study.program.has(run.COMMAND):
         return None, f"this program has no command `{run.COMMAND}`"
-    no_run = "the program has none for this log"
-    for lines in lines_for_run(study):
-        try:
-            found = run.run_of(study.program, written(study.header, lines))
-        except run.Beyond as limit:
-            found, no_run = None, f"unknown, the program says `{limit}`"
-        if found:
-            return run.Told(lines, found), ""
-    return None, no_run
+    asked = asked_for_run(study)
+    try:
+        steps = run.steps_of(study.program, study.log.cut(asked))
+        lines = with_run(study, asked, steps) if steps else ()
+        found = run.run_of(study.program, written(study.header, lines)) if steps else None
+    except run.Beyond as limit:
+        return None, f"unknown, the program says `{limit}`"
+    return (run.Told(lines, found), "") if found else (None, "the program has none for this log")
 
 
 @dataclass
