@@ -127,6 +127,15 @@ class Change:
         """The lines that the edits speak of; a put event speaks of none."""
         return {edit.at for edit in self.edits if not isinstance(edit, (Put, Head))}
 
+    @property
+    def synchronises(self) -> bool:
+        """Whether it is an ISB that is put in, and nothing else."""
+        return bool(self.edits) and all(isinstance(edit, Put) and edit.text.startswith("isb ") for edit in self.edits)
+
+    @property
+    def moves(self) -> bool:
+        return any(isinstance(edit, Move) for edit in self.edits)
+
     def __add__(self, other: Change) -> Change:
         return Change(self.edits + other.edits)
 

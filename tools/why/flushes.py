@@ -64,6 +64,8 @@ def operands(scene: Scene, event: Event) -> Iterator[tuple[int, Kind]]:
     for spot in scene.spots:
         yield operand.at(spot.address), Kind.ADDRESS
         yield words.Operand(event.operation, operand.without_hint()).at(spot.address), Kind.ADDRESS
+        if words.base_of(event.operation) in words.BY_ASID:
+            yield from ((words.Operand(event.operation, operand.at(spot.address)).of_asid(tag), Kind.ADDRESS) for tag in scene.tags)
     if words.base_of(event.operation) in words.BY_ASID:
         yield from ((operand.of_asid(tag), Kind.TAG) for tag in scene.tags)
 

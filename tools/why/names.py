@@ -16,6 +16,7 @@ BARRIERS = {b"dsb", b"tlbi", b"isb"}
 LOCKS_KEPT = 64
 PAGE, TAG = 12, 48
 TAGS_TRIED = 8
+NOT_FRESH = 6
 LOADED = 200
 
 
@@ -82,9 +83,11 @@ class Way:
 
 
 def pages_named(index: Index, refusal: Refusal) -> list[int]:
-    """The pages that the refused line names, that which it reports, and that of the root that a register write names."""
+    """The pages that the refused line names, that which it reports, and that of the root that a register write names. The page
+    to which a written value leads matters where the rules before that of pages don't refuse the line."""
     line = index.log.line(refusal.line).event
-    named = [line.page, line.next_page, line.base, refusal.at if refusal.at >> PAGE else None]
+    linked = line.next_page if refusal.rule >= NOT_FRESH else None
+    named = [line.page, linked, line.base, refusal.at if refusal.at >> PAGE else None]
     return [page >> PAGE for page in named if page is not None and page >> PAGE < 1 << 36]
 
 
@@ -205,21 +208,32 @@ def slices(index: Index, refusal: Refusal, header: Header) -> Iterator[list[int]
 BEFORE, BEHIND, FLUSHES, FOCUSED, TRIED_LOCKS, WAY = 6, 6, 3, 4, 8, 24
 
 
-def attempts(index: Index, refusal: Refusal, header: Header) -> list[int]:
-    """The lines near by that may have been meant to help: those of the way, writes of the same places, the barriers and TLBIs around them and
-    around the refused line, the register writes that give the root its tags, and the last lines of the locks."""
+def attempts(index: Index, refusal: Refusal, header: Header, held: list[int]) -> list[int]:
+    """The lines near by that may have been meant to help: those of the way, writes of the same places, the barriers and TLBIs around them,
+    around the refused line and around those of what is held, the register writes that give the root its tags, and the last lines of the
+    locks."""
     way = climb(index, header, pages_named(index, refusal), True)
     way.lines.update(of_refused(index, refusal, True))
+    way.lines.update(line for at in held for line in of_held(index, at))
     changed = sorted(at for at in way.lines if index.fields(at)[0] in (b"w", b"unroot") and at < refusal.line)
     registers = registers_near(index, way)
     is_write = index.fields(refusal.line)[0] in (b"w", b"init")
-    focus = [*changed[-FOCUSED:], *([] if is_write else registers[-FOCUSED:]), refusal.line]
+    focus = [*changed[-FOCUSED:], *held, *([] if is_write else registers[-FOCUSED:]), refusal.line]
     words = (b"dsb", b"tlbi") if is_write else BARRIERS
     barriers = sorted(at for word in words for at in index.others[word])
     chosen = {at for centre in focus for at in around(index, barriers, centre)}
-    held = sorted(locks(index, refusal, way))[-TRIED_LOCKS:]
+    taken = sorted(locks(index, refusal, way))[-TRIED_LOCKS:]
     given = {at for at in registers[-FOCUSED:] for at in with_its_root(index, at)}
-    return sorted(at for at in {*chosen, *focus, *held, *given, *sorted(way.lines)[-WAY:]} if at < refusal.line)
+    return sorted(at for at in {*chosen, *focus, *taken, *given, *sorted(way.lines)[-WAY:]} if at < refusal.line)
+
+
+def of_held(index: Index, at: int) -> list[int]:
+    """A line that wrote at a place which holds a value, and the writes there from the last valid one before it on."""
+    line = index.log.line(at).event
+    if line.word != "w":
+        return with_its_root(index, at) if line.word == "msr" else [at]
+    made = [before for before, place, value in index.writes[line.page >> PAGE] if place == line.place and value & 1 and before < at]
+    return [before for before in written_at(index, line.place, made[-1] if made else at) if before <= at]
 
 
 def registers_near(index: Index, way: Way) -> list[int]:

@@ -204,10 +204,10 @@ class Asker:
         tried = position == 0 or writer == 0
         return (writer + 1) % len(self.writers) if tried else 0
 
-    def found(self, candidates: list[Candidate]) -> list[Pending]:
-        """Those of the candidates that hold a value."""
+    def found(self, candidates: list[Candidate], most: int = LIMIT_OF_PAGES * PLACES) -> list[Pending]:
+        """Those of the candidates that hold a value, at most so many."""
         found, left, writer = [], candidates, 0
-        while left:
+        while left and len(found) < most:
             now = left[:AT_ONCE]
             answer, position = self.asked(now, self.writers[writer])
             refusal = answer.refusal

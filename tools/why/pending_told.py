@@ -10,7 +10,7 @@ from pages import pages
 from pending import pending
 from program import Answer, Program, Status, Unable
 from source import Front, Source, whole
-from style import BOLD, DIM, RED, Style
+from style import BOLD, DIM, RED, Style, ranges
 
 PHASES = {"live": RED, "broken": RED, "seen": RED, "half": RED, "cleansed": DIM}
 
@@ -70,17 +70,6 @@ def labels_of(front: Front, found: list[Found]) -> dict[int, str]:
     """The labels of the lines that are named."""
     wanted = {at for one in found for at in one.lines.values()}
     return {at: event_of(line.decode("latin-1")).label for at, line in front.lines() if at in wanted} if wanted else {}
-
-
-def ranges(pes: list[int]) -> str:
-    """Numbers in order, those next to each other as FIRST-LAST."""
-    parts: list[list[int]] = []
-    for pe in pes:
-        if parts and parts[-1][1] == pe - 1:
-            parts[-1][1] = pe
-        else:
-            parts.append([pe, pe])
-    return ",".join(str(first) if first == last else f"{first}-{last}" for first, last in parts)
 
 
 def told(one: Found, labels: dict[int, str], style: Style) -> str:

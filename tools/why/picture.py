@@ -177,9 +177,9 @@ def section(part: list[str]) -> str:
 
 def html(study: Study, views, answer: Answer) -> str:
     """The whole answer: the text's parts, with the picture in the place of the lanes."""
-    small, repairs, told, _lanes, rule = why.parts_of(study, views, why.Style(100, False, True))
+    small, held, repairs, told, _lanes, rule = why.parts_of(study, views, why.Style(100, False, True))
     picture = f'<h2>Lanes</h2>\n<div class="picture">\n{Drawing(views.chart, answer.first).svg()}</div>\n'
-    parts = [section(part) for part in (repairs, small, told) if part]
+    parts = [section(part) for part in (repairs, held, small, told) if part]
     return "<!DOCTYPE html>\n<html lang=\"en\">\n<head>\n<meta charset=\"utf-8\">\n" \
            "<meta name=\"viewport\" content=\"width=device-width, initial-scale=1\">\n" \
            f"<title>{escape(answer.first)}</title>\n<style>{PAGE_STYLE}</style>\n</head>\n<body>\n<h1>{escape(answer.first)}</h1>\n" \

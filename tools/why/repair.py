@@ -3,24 +3,30 @@ from __future__ import annotations
 
 from collections.abc import Iterable
 from dataclasses import dataclass, replace
+from functools import cached_property
 from itertools import islice
 
-from changes import Change, Move, applied, changed, changed_header, position_of
-from flushes import Family
+import words
+from changes import Change, Edit, Head, Move, Put, Swap, applied, changed, changed_header, position_of
+from flushes import Family, is_about_tags
 from log import Lines, Log, written
 from program import Answer, Program
 from scene import Scene
+from sections import sections
 from tries import LARGEST, families, last_resort
 
 WANTED, ALIKE = 3, 2
 RANKED = 8
 CHOICES = 4
+# So many changes are tried with which the small log alone gets past its last line.
+MOST_FAILED = 24
+FLUSHING = ("dsb", "tlbi")
 ACCEPTED_ALL = 1 << 40
 
 
 @dataclass(frozen=True)
 class Repair:
-    """A change that the small log passes with, and what the whole log says with it: where its next refusal is, if any."""
+    """A change with which the small log passes, and the whole log gets past the refused line: where its next refusal is, if any."""
 
     change: Change
     whole: Answer
@@ -30,16 +36,15 @@ class Repair:
     def reach(self) -> int:
         return ACCEPTED_ALL if self.whole.accepted else self.next_line or 0
 
-    def holds_in_whole(self, line: int) -> bool:
-        """Whether the whole log gets past a line too."""
-        return self.reach > line
-
 
 class Repairer:
     """Tries changes of a scene, and of the log that it was taken from."""
 
     def __init__(self, program: Program, log: Log, scene: Scene):
         self.program, self.log, self.scene = program, log, scene
+        self.front = Log(log.until(scene.later[-1].at if scene.later else scene.refused.at))
+        self.failed: list[Change] = []
+        self.borrowing: list[Repair] = []
 
     # ---- what passes
 
@@ -56,16 +61,25 @@ class Repairer:
         left = changed(self.lines_for(change, lines), change)
         return self.program.check(written(changed_header(self.scene.header_text, change), left)).accepted
 
+    def refuses(self, change: Change, lines: Lines) -> bool:
+        """Whether the same rule refuses the lines at the same place with the change too."""
+        left = changed(self.lines_for(change, lines), change)
+        found = self.program.check(written(changed_header(self.scene.header_text, change), left)).refusal
+        return found is not None and (found.rule, found.at) == (self.scene.refusal.rule, self.scene.refusal.at)
+
     def repair_of(self, family: Family) -> Repair | None:
-        """The first change of a family that passes, in the whole log too where one does; or that which gets furthest there."""
+        """The first change of a family that passes, in the whole log too; of those that have to be compared the one with which
+        it gets furthest."""
         if family.probe is not None and not self.passes(family.probe):
             return None
         passing = (change for change in family.choices if self.passes(change) and self.is_needed(change))
-        enough = ACCEPTED_ALL if family.furthest else self.scene.refused.at + 1
         repairs = []
         for change in islice(passing, CHOICES):
+            if not self.gets_past(change):
+                self.failed.append(change)
+                continue
             repairs.append(self.in_whole(change))
-            if repairs[-1].reach >= enough:
+            if not family.furthest or repairs[-1].whole.accepted:
                 break
         return max(repairs, key=lambda repair: repair.reach, default=None)
 
@@ -76,48 +90,92 @@ class Repairer:
     # ---- search
 
     def found_with(self, tries: Iterable[Family], before: list[Repair]) -> list[Repair]:
-        """Changes that pass, of which none shares an edit's site with one before: those with which the whole log gets furthest
-        first, and of these those next to the break."""
+        """Changes that pass, of which none shares an edit's site with one before: an ISB alone first, then those with which the
+        whole log gets furthest, of these those next to the break, and moves last where it isn't about tags. Those that borrow
+        another place's flush are kept apart."""
         found: list[Repair] = []
         for family in tries:
             known = [repair.change for repair in (*before, *found)]
-            new = tuple(change for change in family.choices if not any(old.shares(change) for old in known))
+            new = tuple(change for change in family.choices if not any(old.shares(change) for old in known)
+                        and (len(self.borrowing) < WANTED or self.is_at_home(change)))
             repair = self.repair_of(replace(family, choices=new)) if new else None
             if repair is not None:
-                found.append(repair)
-            if len(found) == RANKED:
+                (found if self.is_at_home(repair.change) and not self.only_moves_it(repair) else self.borrowing).append(repair)
+            if len(found) == RANKED or len(self.failed) >= MOST_FAILED:
                 break
-        return sorted(found, key=lambda repair: (-repair.reach, self.farness(repair.change)))
+        return sorted(found, key=lambda repair: (not repair.change.synchronises, -repair.reach, self.farness(repair.change),
+                                                 repair.change.moves and not is_about_tags(self.scene)))
 
     def search(self) -> list[Repair]:
         """At most three repairs, the smallest first, and of one size those with which the whole log gets furthest."""
         repairs: list[Repair] = []
         for size in range(1, LARGEST + 1):
-            good = self.good(repairs)
-            if len(good) >= WANTED or good and size == LARGEST:
+            near = self.near(repairs)
+            if len(near) >= WANTED or near and size == LARGEST or len(self.failed) >= MOST_FAILED:
                 break
             repairs += self.found_with(families(self.scene, size), repairs)
-        return varied(self.good(repairs) or repairs or self.found_with(last_resort(self.scene), []))
+        return varied(self.near(repairs) or self.borrowing or self.found_with(last_resort(self.scene), []))
 
-    def good(self, repairs: list[Repair]) -> list[Repair]:
-        """Those that don't only move the refusal, and aren't further from the break than the first."""
-        left = [repair for repair in repairs if not self.only_moves_it(repair)]
-        return [repair for repair in left if self.farness(repair.change) <= self.farness(left[0].change)]
+    def near(self, repairs: list[Repair]) -> list[Repair]:
+        """Those that aren't further from the break than the first."""
+        return [repair for repair in repairs if self.farness(repair.change) <= self.farness(repairs[0].change)]
 
     def farness(self, change: Change) -> int:
-        """How far from the break a change is: 0 among its next lines, and then by the number of digits of the distance."""
-        broken = self.scene.last_write or self.scene.refused
-        return max(abs(position_of(edit) - broken.at).bit_length() for edit in change.edits) // 4
+        """How far from a break a change is: 0 among its next lines, and then by the number of digits of the distance; 0 for an
+        ISB, which belongs to a register write."""
+        if change.synchronises:
+            return 0
+        return min(max(abs(position_of(edit) - broken).bit_length() for edit in change.edits) // 4 for broken in self.broken)
+
+    @cached_property
+    def broken(self) -> list[int]:
+        """The lines of the breaks: the last write at each place that holds a value; else the refused line."""
+        found = [scene.last_write.at for scene in (self.scene, *self.scene.narrowed) if scene.last_write]
+        return found or [self.scene.refused.at]
+
+    # ---- where a change belongs
+
+    @cached_property
+    def home(self) -> list[range]:
+        return [part for at in (*self.broken, self.scene.refused.at) for part in sections(self.log, at)]
+
+    def in_home(self, at: int) -> bool:
+        return self.scene.last_write is None or any(at in part for part in self.home)
+
+    def is_at_home(self, change: Change) -> bool:
+        """Whether the change stays within the sections of the breaks and of the refused line. One that doesn't takes another
+        place's flush."""
+        return all(self.edit_at_home(edit) for edit in change.edits)
+
+    def edit_at_home(self, edit: Edit) -> bool:
+        refused = self.scene.refused
+        if isinstance(edit, Head):
+            return True
+        if isinstance(edit, Move) and edit.at == refused.at:
+            crossed = [line for line in self.scene.later if line.at <= edit.after and line.event.word in FLUSHING]
+            return all(self.in_home(line.at) and line.event.pe == refused.event.pe for line in crossed)
+        event = self.log.line(edit.at).event if isinstance(edit, Swap) else refused.event
+        if event.word == "tlbi" and is_about_tags(self.scene) and not words.is_of_tag(event.operation):
+            return False
+        if isinstance(edit, Put):
+            return edit.text.split(" ")[0] not in FLUSHING or self.in_home(edit.after) or self.in_home(edit.after + 1)
+        return self.log.line(edit.at).event.word not in FLUSHING or self.in_home(edit.at)
 
     def only_moves_it(self, repair: Repair) -> bool:
         """Whether the same rule refuses a later line of the whole log at the same place, or the same line still."""
         refusal, old = repair.whole.refusal, self.scene.refusal
         return refusal is not None and (refusal.rule, refusal.at) == (old.rule, old.at)
 
+    def gets_past(self, change: Change) -> bool:
+        """Whether the front part of the whole log gets past the refused line with the change."""
+        log, numbers = applied(self.front, change)
+        answer = self.program.check(log)
+        return answer.accepted or answer.line is not None and numbers[min(answer.line, len(numbers)) - 1] > self.scene.refused.at
+
     def in_whole(self, change: Change) -> Repair:
         """The repair, and what the program says of the whole log with it."""
         log, numbers = applied(self.log, change)
-        answer = self.program.run(("check",), log)
+        answer = self.program.check(log)
         line = answer.line
         return Repair(change, answer, numbers[min(line, len(numbers)) - 1] if line else None)
 

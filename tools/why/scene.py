@@ -4,7 +4,7 @@ It goes by the writes that stand in the small log. It chooses what is tried; the
 """
 from __future__ import annotations
 
-from dataclasses import dataclass, field
+from dataclasses import dataclass, field, replace
 from functools import cached_property
 
 from log import ADDRESS_BITS, PAGE_BYTES, Event, Header, Line, Lines, header_of
@@ -34,13 +34,16 @@ class Spot:
 
 @dataclass
 class Scene:
-    """The lines at hand, the refused one last, and those that come behind it in the log that was given."""
+    """The lines at hand, the refused one last, and those that come behind it in the log that was given; the places that hold a
+    value there, and that of them to which the scene is narrowed."""
 
     header_text: str
     lines: Lines
     later: Lines
     refusal: Refusal
     near_tags: list[int] = field(default_factory=list)
+    held: tuple[int, ...] = ()
+    focus: int | None = None
     links: dict[int, int] = field(default_factory=dict)
 
     def __post_init__(self):
@@ -106,13 +109,21 @@ class Scene:
 
     @cached_property
     def places(self) -> list[int]:
-        """The places that the refusal is about: the refused one, those that link the pages it names, and those above."""
+        """The places that the refusal is about: the refused one, those that link the pages it names, and those above; or the one
+        to which the scene is narrowed."""
+        if self.focus is not None:
+            return [self.focus]
         event, at = self.event, self.refusal.at
         first = [event.place] if event.word == "w" else []
         pages = [event.page, event.next_page, at & ~(PAGE_BYTES - 1) if at >= PAGE_BYTES else None]
         linking = [self.links[page] for page in pages if page in self.links]
         above = [place for place in first if self.refusal.name == "limbo-make" for place in self.way_up(place)[1:]]
         return list(dict.fromkeys([*first, *linking, *above]))
+
+    @cached_property
+    def narrowed(self) -> list[Scene]:
+        """A scene for each further place that holds a value."""
+        return [replace(self, focus=place) for place in self.held if place not in self.places]
 
     @cached_property
     def spots(self) -> list[Spot]:

@@ -5,7 +5,7 @@ lock and tags (`names`); where these alone aren't refused alike, more lines are.
 """
 from __future__ import annotations
 
-from collections.abc import Callable, Sequence
+from collections.abc import Callable, Iterator, Sequence
 from dataclasses import dataclass
 from functools import cached_property
 
@@ -107,24 +107,26 @@ class Shrinker:
     def holds(self, numbers: Numbers) -> bool:
         return has_bug(self.program, self.log.cut(numbers), len(numbers), self.bug)
 
+    def fronts(self) -> Iterator[Numbers]:
+        """Lines to try, from few to all up to the refused one."""
+        yield from slices(self.index, self.refusal, self.header)
+        yield range(2, self.refusal.line + 1)
+
     def start(self) -> Numbers:
-        """The first of the slices that is refused alike; at the worst all lines up to the refused one."""
-        for numbers in slices(self.index, self.refusal, self.header):
-            if self.holds(numbers):
-                return numbers
-        return range(2, self.refusal.line + 1)
+        """The first of these that is refused alike."""
+        return next(filter(self.holds, self.fronts()))
 
     @cached_property
     def least(self) -> Numbers:
         """Lines of which none can be left out: the same rule refuses the last at the same place, which has come as far."""
         return reduced(self.log, self.start(), self.holds)
 
-    def with_attempts(self) -> Numbers:
-        """The least log and what the log did about it beside: where a repair is looked for."""
+    def with_attempts(self, held: list[int]) -> Numbers:
+        """The least log and what the log did about it beside, and about what is held by these lines: where a repair is looked for."""
         whole = range(2, self.refusal.line + 1)
         if len(whole) <= FEW:
             return whole
-        return self.joined(attempts(self.index, self.refusal, self.header))
+        return self.joined(attempts(self.index, self.refusal, self.header, held))
 
     def joined(self, more: Numbers) -> Numbers:
         """The least log with those of these lines that leave the refusal as it is."""

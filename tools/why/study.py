@@ -3,6 +3,8 @@ from __future__ import annotations
 
 from dataclasses import dataclass
 
+from changes import Change
+from held import HeldPlace, HeldRoot, HeldTag, held
 from log import Line, Lines, Log, written
 from names import loading, tags_near
 from program import Program, Refusal
@@ -10,7 +12,7 @@ from repair import Repair, Repairer, anchors
 from scene import Scene
 from shrink import Numbers, Shrinker, reduced
 
-LATER = 12
+LATER, ROUNDS = 12, 3
 
 
 @dataclass
@@ -24,6 +26,7 @@ class Study:
     small: Lines
     repairs: list[Repair]
     loading: Numbers
+    held: list[HeldPlace | HeldRoot | HeldTag]
 
     @property
     def header(self) -> str:
@@ -42,9 +45,23 @@ def later_lines(log: Log, refusal: Refusal) -> Lines:
     return log.lines(range(refusal.line + 1, last + 1))
 
 
-def with_repairs(shrinker: Shrinker, repairer: Repairer, repairs: list[Repair], tried: Numbers) -> Numbers:
-    """The least lines that are refused as the whole log is, and get past their last one by each of the repairs."""
-    needed = {at for at in anchors(repairs) if at <= shrinker.refusal.line}
+def with_lacking(shrinker: Shrinker, repairer: Repairer, change: Change, tried: Numbers) -> Numbers:
+    """The lines that were tried and, of the others, those without which they get past the refused line by a change that doesn't
+    get the whole log past it."""
+    def holds(more: Numbers) -> bool:
+        numbers = sorted({*tried, *more})
+        return shrinker.holds(numbers) and repairer.refuses(change, shrinker.log.lines(numbers))
+
+    for more in shrinker.fronts():
+        if holds(more):
+            return sorted({*tried, *reduced(shrinker.log, [at for at in more if at not in tried[:-1]], holds)})
+    return tried
+
+
+def with_repairs(shrinker: Shrinker, repairer: Repairer, repairs: list[Repair], kept: list, tried: Numbers) -> Numbers:
+    """The least lines that are refused as the whole log is, have what is held, and get past their last one by each of the
+    repairs."""
+    needed = {at for at in (*anchors(repairs), *(one.line.at for one in kept)) if at <= shrinker.refusal.line}
 
     def holds(numbers: Numbers) -> bool:
         if not needed <= set(numbers) or not shrinker.holds(numbers):
@@ -53,15 +70,21 @@ def with_repairs(shrinker: Shrinker, repairer: Repairer, repairs: list[Repair], 
         return all(repairer.passes(repair.change, lines) for repair in repairs)
 
     start = sorted({*shrinker.least, *needed})
-    return reduced(shrinker.log, start if holds(start) else tried, holds)
+    return reduced(shrinker.log, start if holds(start) else sorted({*tried, *needed}), holds)
 
 
 def study(program: Program, log: Log, refusal: Refusal) -> Study:
     shrinker = Shrinker(program, log, refusal)
-    tried = shrinker.with_attempts()
+    kept = held(program, log, refusal)
     near_tags = tags_near(shrinker.index, refusal, shrinker.header)
-    scene = Scene(log.header, log.lines(tried), later_lines(log, refusal), refusal, near_tags)
-    repairer = Repairer(program, log, scene)
-    repairs = repairer.search()
-    small = with_repairs(shrinker, repairer, repairs, tried)
-    return Study(program, log, refusal, scene, log.lines(small), repairs, loading(shrinker.index, refusal, shrinker.header))
+    places = tuple(one.place for one in kept if isinstance(one, HeldPlace))
+    tried = shrinker.with_attempts([one.line.at for one in kept])
+    for _ in range(ROUNDS):
+        scene = Scene(log.header, log.lines(tried), later_lines(log, refusal), refusal, near_tags, places)
+        repairer = Repairer(program, log, scene)
+        repairs = repairer.search()
+        if repairs or not repairer.failed:
+            break
+        tried = with_lacking(shrinker, repairer, repairer.failed[0], tried)
+    small = with_repairs(shrinker, repairer, repairs, kept, tried)
+    return Study(program, log, refusal, scene, log.lines(small), repairs, loading(shrinker.index, refusal, shrinker.header), kept)

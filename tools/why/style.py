@@ -25,3 +25,14 @@ def style_of(stream) -> Style:
     unicode = (stream.encoding or "").lower().replace("-", "") == "utf8"
     width = max(60, min(120, shutil.get_terminal_size((80, 24)).columns)) if stream.isatty() else 80
     return Style(width, colour, unicode)
+
+
+def ranges(pes: list[int]) -> str:
+    """Numbers in order, those next to each other as FIRST-LAST."""
+    parts: list[list[int]] = []
+    for pe in pes:
+        if parts and parts[-1][1] == pe - 1:
+            parts[-1][1] = pe
+        else:
+            parts.append([pe, pe])
+    return ",".join(str(first) if first == last else f"{first}-{last}" for first, last in parts)

@@ -5,7 +5,7 @@ import re
 
 import words
 from changes import Change, Edit, Head, Kind, Move, Put, Swap
-from log import Event, Header, Line, Log, event_of, header_of
+from log import Event, Header, Log, event_of, header_of
 from repair import Repair
 
 CONTIGUOUS = 1 << 52
@@ -90,8 +90,8 @@ def between(after: int, log: Log) -> str:
 class Teller:
     """Tells the changes of one log."""
 
-    def __init__(self, log: Log, refused: Line):
-        self.log, self.refused, self.header = log, refused, header_of(log.header)
+    def __init__(self, log: Log):
+        self.log, self.header = log, header_of(log.header)
 
     def edit(self, edit: Edit) -> str:
         if isinstance(edit, Head):
@@ -136,12 +136,7 @@ class Teller:
         """What the program says of the whole log with the change."""
         if repair.whole.accepted:
             return f"with {what} the whole log is accepted"
-        gets_to = f"with {what} the whole log gets to {self.log.line(repair.next_line).name}: {told_answer(repair)}"
-        if repair.holds_in_whole(self.refused.at):
-            return gets_to
-        if repair.whole.refusal:
-            return f"in the small log alone: the whole log is refused at or before this line with {what} too"
-        return f"in the small log alone: {gets_to}"
+        return f"with {what} the whole log gets to {self.log.line(repair.next_line).name}: {told_answer(repair)}"
 
 
 def told_answer(repair: Repair) -> str:

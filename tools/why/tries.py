@@ -289,6 +289,11 @@ def worlds(scene: Scene) -> Iterator[Change]:
         yield from (with_words(scene.refused, (kind, *event.rest[1:]), Kind.ROOT_KIND) for kind in words.KINDS[header.world])
 
 
+def synchronised(scene: Scene) -> Iterator[Family]:
+    """An ISB behind a register write, so that its PE doesn't use a root under two tags."""
+    yield from each(puts(line.at, f"isb {line.event.pe}") for line in scene.of_word("msr")[-NEAR:] if line is not scene.refused)
+
+
 def by_sequences(scene: Scene, size: int) -> Iterator[Family]:
     yield from sequences(scene, size)
 
@@ -309,9 +314,12 @@ def families(scene: Scene, size: int) -> Iterator[Family]:
     tries = TRIES.get(scene.refusal.name)
     if size == 1:
         yield from moves(scene)
+        yield from synchronised(scene)
     if size == LARGEST:
         yield from largest(scene)
     elif tries:
+        for other in scene.narrowed:
+            yield from sequences(other, size)
         yield from tries(scene, size)
 
 

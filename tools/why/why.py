@@ -40,8 +40,14 @@ class Pages:
         lines = [f"  {1:>{digits}}  {study.header}", *(f"  {line.at:>{digits}}  {line.text}" for line in study.small)]
         return [self.head(title), *lines]
 
+    def held(self) -> list[str]:
+        """What still holds at the refused line."""
+        title = f"What is still held before line {self.study.refusal.line}, by bbm"
+        told = [wrapped(one.told(), self.style, "  ", "    ") for one in self.study.held]
+        return [self.head(title), *told] if told else []
+
     def repairs(self) -> list[str]:
-        teller = Teller(self.study.log, self.study.refused)
+        teller = Teller(self.study.log)
         if not self.study.repairs:
             return [self.head("What would do: nothing of what is tried (docs/WHY.md)")]
         told = [self.head("What would do, tried and judged by bbm")]
@@ -97,12 +103,12 @@ def asked_for_run(study: Study) -> list[int]:
 
 
 def with_run(study: Study, asked: list[int], steps: list[str]) -> Lines:
-    """The small log and, of the lines that were asked of, those without which the run has other steps."""
+    """The small log and, of the lines that were asked, those without which the run has other steps."""
     small = {line.at for line in study.small}
     numbers = lambda kept: sorted({*small, *kept})
     holds = lambda kept: run.steps_of(study.program, study.log.cut(numbers(kept))) == steps
     more = [*(at for at in asked if at not in small), study.refusal.line]
-    return study.log.lines(numbers(reduced(study.log, more, holds) if holds(asked) else asked))
+    return study.log.lines(numbers(reduced(study.log, more, holds)))
 
 
 def told_run(study: Study) -> tuple[run.Told | None, str]:
@@ -139,7 +145,7 @@ def views_of(study: Study, whole: bool) -> Views:
 
 def parts_of(study: Study, views: Views, style: Style) -> list[list[str]]:
     pages = Pages(study, style)
-    return [pages.small(), pages.repairs(), pages.run(views.told, views.no_run), pages.lanes(views.chart), pages.rule()]
+    return [pages.small(), pages.held(), pages.repairs(), pages.run(views.told, views.no_run), pages.lanes(views.chart), pages.rule()]
 
 
 def text_of(answer: Answer, parts: list[list[str]]) -> str:

@@ -57,6 +57,11 @@ def is_of_el2(operation: str) -> bool:
     return base_of(operation).endswith("e2")
 
 
+def is_of_tag(operation: str) -> bool:
+    """Whether the operation takes all under a tag."""
+    return base_of(operation) not in WITH_OPERAND or base_of(operation) == "aside1"
+
+
 def is_range(operation: str) -> bool:
     return operation.startswith("r")
 

@@ -1,0 +1,229 @@
+"""What is still held where a log is refused, asked of the program right before the refused line of the whole log.
+
+For a place the question is that of `pending`: a made write there. For a tag it is what has to stand before the refused line so that
+this passes: another value and an ISB at each PE that loaded the root, and a flush. What of that can't be left out still holds.
+"""
+from __future__ import annotations
+
+from collections.abc import Iterator
+from dataclasses import dataclass
+from functools import cached_property
+
+import words
+from log import ADDRESS_BITS, Line, Log, header_of
+from pending import INSIDE, LAST_LEVEL, PAGE, Asker, Candidate, tables_of
+from program import Program, Refusal
+from style import ranges
+
+# So many places are told, and of one page so many asked about; and so many PEs that loaded a root.
+TOLD, ASKED, PES = 4, 64, 8
+OF_PLACES = ("break-before-make", "limbo-make", "not-fresh", "page-in-use")
+OF_TAGS = ("tag-conflict", "root-in-use")
+MISSING = {
+    "live": "its value is there at {}",
+    "broken": "its clear isn't published to {}",
+    "seen": "its clear is published, and no TLBI that covers it is complete at {}",
+    "half": "its stage 2 entries are gone, and no TLBI of the combined ones is complete at {}",
+    "cleansed": "its flush is complete at {}",
+}
+
+
+class Before:
+    """The front part of a log up to a line, for questions behind it."""
+
+    def __init__(self, log: Log, last: int):
+        self.log, self.last, self.events, self.header = log, last, last - 1, log.header
+
+    def lines(self) -> Iterator[tuple[int, bytes]]:
+        return enumerate(self.log.parts[1:self.last], 2)
+
+    def with_tail(self, tail: list[bytes]) -> list[bytes]:
+        return [b"\n".join([*self.log.parts[:self.last], *tail, b"end %d\n" % (self.events + len(tail))])]
+
+
+@dataclass(frozen=True)
+class HeldPlace:
+    """A place that holds a value: what it is to the refused line, the line that cleared it, or that wrote the value which is
+    there, and how far it has come at each PE."""
+
+    place: int
+    role: str
+    line: Line
+    phases: tuple[str, ...]
+
+    def told(self) -> str:
+        by_phase = {phase: [pe for pe, now in enumerate(self.phases) if now == phase] for phase in MISSING}
+        missing = [text.format(f"PE {ranges(by_phase[phase])}") for phase, text in MISSING.items() if by_phase[phase]]
+        return f"{hex(self.place)}{self.role}: {'written' if self.line.event.value & 1 else 'cleared'} by {self.line.name}; {'; '.join(missing)}"
+
+
+@dataclass(frozen=True)
+class HeldTag:
+    """A register write that loaded a root, and what of it still holds at its PE."""
+
+    line: Line
+    tag: str
+    why: str
+
+    def told(self) -> str:
+        event = self.line.event
+        return f"{event.rest[0]} of PE {event.pe}: {self.line.name} loaded the root {hex(event.base)} under {self.tag}; {self.why}"
+
+
+@dataclass(frozen=True)
+class HeldRoot:
+    """The line that declared a page a root."""
+
+    line: Line
+
+    def told(self) -> str:
+        return f"{self.line.name} declared the page {hex(self.line.event.page)} a root, and no `unroot` gave it up"
+
+
+class Places:
+    """The places that hold a value and that a refusal is about: the refused one, those that link the page which is reported, and
+    those inside of what these lead to."""
+
+    def __init__(self, program: Program, log: Log, refusal: Refusal):
+        self.log, self.refusal = log, refusal
+        self.before = Before(log, refusal.line - 1)
+        self.tables = tables_of(self.before)
+        self.levels = self.tables.reached()
+        self.asker = Asker(program, self.before, self.tables)
+        self.found: list = []
+
+    def first(self) -> list[tuple[int, str]]:
+        """The refused place; or those whose last table is the page that is reported."""
+        event, at = self.log.line(self.refusal.line).event, self.refusal.at
+        if event.place == at and self.refusal.name == "break-before-make":
+            return [(at, "")]
+        page = at >> PAGE
+        return [(place, f", which links the page {hex(page << PAGE)}") for place, value in self.valued(self.tables.pages.items())
+                if self.next_page(place, value) == page]
+
+    def next_page(self, place: int, value: int) -> int | None:
+        """The page of the table that a value is; None where it is none."""
+        is_table = value & 2 and self.levels.get(place >> PAGE) != LAST_LEVEL
+        return (value & ADDRESS_BITS) >> PAGE if is_table else None
+
+    def valued(self, tables) -> Iterator[tuple[int, int]]:
+        """The places of these pages that had a valid value, and the last."""
+        return ((page << PAGE | inside << 3, value | 1) for page, table in tables if table
+                for inside, value in enumerate(table.values) if value)
+
+    def inside(self, place: int) -> list[tuple[int, str]]:
+        """The places of the page to which the last table of a place leads."""
+        table = self.tables.pages[place >> PAGE]
+        page = self.next_page(place, table.values[(place & INSIDE) >> 3])
+        return [(there, f", in the page {hex(page << PAGE)}") for there, _ in self.valued([(page, self.tables.pages.get(page))])]
+
+    def line_of(self, place: int) -> Line:
+        """The line that cleared a place, or that wrote its value."""
+        cleared = self.tables.cleared_at(place)
+        if cleared:
+            return self.log.line(cleared)
+        ends = b" %s " % hex(place).encode()
+        return next(self.log.line(at) for at in range(self.refusal.line - 1, 1, -1)
+                    if self.log.bytes_of(at).startswith(b"w ") and ends in self.log.bytes_of(at))
+
+    def root(self) -> list[HeldRoot]:
+        """The last `root` of the page that is reported, where it is one."""
+        if self.refusal.at >> PAGE not in self.tables.roots or self.refusal.name != "page-in-use":
+            return []
+        ends = b" %s " % hex(self.refusal.at).encode()
+        return [HeldRoot(self.log.line(at)) for at, line in self.before.lines() if line.startswith(b"root ") and ends in line + b" "][-1:]
+
+    def search(self) -> list:
+        if self.root():
+            return self.root()
+        waiting = self.first()
+        while waiting and len(self.found) < TOLD:
+            roles = dict(sorted(waiting, key=lambda item: not self.tables.cleared_at(item[0]))[:ASKED])
+            held = self.asker.found([Candidate(place, 0) for place in roles], TOLD - len(self.found))
+            self.found += [HeldPlace(one.place, roles[one.place], self.line_of(one.place), one.phases) for one in held]
+            known = {one.place for one in self.found}
+            waiting = [item for one in held for item in self.inside(one.place) if item[0] not in known]
+        return self.found
+
+
+class Tags:
+    """The register writes that still stand against a refused register write or `unroot`."""
+
+    def __init__(self, program: Program, log: Log, refusal: Refusal):
+        self.program, self.log, self.refusal = program, log, refusal
+        self.header = header_of(log.header)
+        self.refused = log.line(refusal.line)
+        self.before = Before(log, refusal.line - 1)
+
+    @cached_property
+    def registers(self) -> list[Line]:
+        return [self.log.line(at) for at, line in self.before.lines() if line.startswith(b"msr ")]
+
+    @cached_property
+    def loads(self) -> list[Line]:
+        """For each PE the last register write of the root that is reported."""
+        last = {line.event.pe: line for line in self.registers if line.event.base == self.refusal.at}
+        return sorted(last.values(), key=lambda line: -line.at)[:PES]
+
+    def passes(self, switched: list[Line], flush: list[str]) -> bool:
+        """Whether the refused line gets by, behind other values in these registers and a flush."""
+        away = [text for line in switched for text in (f"msr {line.event.pe} {line.event.rest[0]} 0x0", f"isb {line.event.pe}")]
+        tail = [text.encode("latin-1") for text in (*away, *flush, self.refused.text)]
+        refusal = self.program.feed(("check",), self.before.with_tail(tail)).refusal
+        return refusal is None or refusal.rule != self.refusal.rule or refusal.at != self.refusal.at
+
+    def flush(self, pes: list[int]) -> list[str]:
+        """A flush of all at these PEs, or at every PE where TLBs may be shared."""
+        widest = words.WIDEST[words.KIND_OF_REGISTER[self.loads[0].event.rest[0]]]
+        if self.header.shares:
+            return [f"tlbi {pes[0]} {widest}{words.BROADCAST}", f"dsb {pes[0]} {words.COMPLETING}"]
+        return [text for pe in pes for text in (f"tlbi {pe} {widest}", f"dsb {pe} nsh")]
+
+    def search(self) -> list[HeldTag]:
+        pes = [line.event.pe for line in self.loads]
+        if not pes or not self.passes(self.loads, self.flush(pes)):
+            return []
+        found = []
+        for load in self.loads:
+            pe = load.event.pe
+            others = [line for line in self.loads if line is not load]
+            if not self.passes(others, self.flush(pes)):
+                found.append(HeldTag(load, self.tag_of(load), self.still_there(load)))
+            elif not self.passes(self.loads, self.flush([one for one in pes if one != pe]) if not self.header.shares and others else []):
+                found.append(HeldTag(load, self.tag_of(load), self.not_flushed(load)))
+        return found[:TOLD] or [HeldTag(self.loads[0], self.tag_of(self.loads[0]), self.not_flushed(self.loads[0]))]
+
+    # ---- what the log says of it
+
+    def behind(self, load: Line, word: str, register: str = "") -> Line | None:
+        """The first line of this word behind another, by the same PE."""
+        front = f"{word} {load.event.pe}{' ' + register if register else ''}".encode()
+        return next((self.log.line(at) for at in range(load.at + 1, self.refusal.line)
+                     if (self.log.bytes_of(at) + b" ").startswith(front + b" ")), None)
+
+    def still_there(self, load: Line) -> str:
+        other = self.behind(load, "msr", load.event.rest[0])
+        if other is None:
+            return "nothing else was written there"
+        return f"{other.name} wrote another value, and no ISB of PE {load.event.pe} came behind"
+
+    def not_flushed(self, load: Line) -> str:
+        other = self.behind(load, "msr", load.event.rest[0])
+        synced = self.behind(other, "isb") if other else None
+        return "no TLBI that takes all under it is complete there" + (f" since {synced.name}" if synced else "")
+
+    def tag_of(self, load: Line) -> str:
+        """The tag of a load, by the register that names the ASID."""
+        kind = words.KIND_OF_REGISTER[load.event.rest[0]]
+        if kind != "ttbr0":
+            return {"el2": "the EL2 regime", "ttbr1": "the upper range", "s2": f"VMID {load.event.value >> words.ASID_SHIFT}"}[kind]
+        named = [line for line in self.registers if line.event.pe == load.event.pe and line.at <= load.at
+                 and line.event.rest[0] == f"{self.header.starts[2]}_el1"]
+        return f"ASID {named[-1].event.value >> words.ASID_SHIFT if named else 0}"
+
+
+def held(program: Program, log: Log, refusal: Refusal) -> list:
+    """What still holds at a refused line, of the rules that ask for it."""
+    if refusal.name in OF_PLACES:
+        return Places(program, log, refusal).search()
+    return Tags(program, log, refusal).search() if refusal.name in OF_TAGS else []
