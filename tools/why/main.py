@@ -1,7 +1,7 @@
 #!/usr/bin/env python3
 """From a refusal to the fix: the words `why`, `shrink`, `pending`, `partial` and `check --format` of the script ./bbm.
 
-    ./bbm why [LOG] [--svg FILE] [--html FILE] [--whole]
+    ./bbm why [LOG] [--svg FILE] [--html FILE] [--whole] [--format json]
     ./bbm shrink [LOG] [--least] [--rename]
     ./bbm pending [LOG] [--pages] [--at LABEL] [--nth N] [--format json]
     ./bbm partial [LOG]
@@ -23,6 +23,8 @@ import pending_told
 import picture
 import rename
 import why
+import why_json
+from formats import as_json, finding_of
 from log import Log, written
 from program import Program, Status, Unable, built, emit
 from shrink import Shrinker
@@ -49,10 +51,10 @@ def words_of(word: str, arguments: list[str]) -> argparse.Namespace:
 
 
 USAGES = {
-    "why": "bbm why [LOG] [--svg FILE] [--html FILE] [--whole]", "shrink": "bbm shrink [LOG] [--least] [--rename]",
+    "why": "bbm why [LOG] [--svg FILE] [--html FILE] [--whole] [--format json]", "shrink": "bbm shrink [LOG] [--least] [--rename]",
     "pending": "bbm pending [LOG] [--pages] [--at LABEL] [--nth N] [--format json]", "partial": "bbm partial [LOG]",
 }
-OPTIONS = {"why": ["svg", "html", "whole"], "shrink": ["least", "rename"], "pending": ["pages", "at", "nth", "format"], "partial": []}
+OPTIONS = {"why": ["svg", "html", "whole", "format"], "shrink": ["least", "rename"], "pending": ["pages", "at", "nth", "format"], "partial": []}
 KINDS_OF_OPTIONS = {"svg": {}, "html": {}, "at": {}, "nth": {"type": int, "default": 1},
                     "format": {"choices": ["json"]}}
 
@@ -60,11 +62,14 @@ KINDS_OF_OPTIONS = {"svg": {}, "html": {}, "at": {}, "nth": {"type": int, "defau
 def say_why(program: Program, source: Source, asked: argparse.Namespace) -> int:
     answer = program.feed(("check",), source.parts())
     if not answer.refusal:
-        emit(why.other_answer(answer, next(islice(source.lines(), (answer.line or 1) - 1, None), None)))
+        finding = finding_of(answer) if asked.format else None
+        line = next(islice(source.lines(), (answer.line or 1) - 1, None), None)
+        emit(as_json(finding) + "\n" if finding else why.other_answer(answer, line))
         return answer.status
     found = study(program, Log(source.read()), answer.refusal)
     views = why.views_of(found, asked.whole)
-    emit(why.text_of(answer, why.parts_of(found, views, style_of(sys.stdout))))
+    emit(why_json.text_of(found, views.told, answer) if asked.format else
+         why.text_of(answer, why.parts_of(found, views, style_of(sys.stdout))))
     for path, make in ((asked.svg, picture.svg), (asked.html, picture.html)):
         if path:
             write_file(path, make(found, views, answer))
