@@ -4,7 +4,6 @@ The forms are those of docs/FORMAT.md. Nothing is judged here: a line that isn't
 """
 from __future__ import annotations
 
-import re
 from dataclasses import dataclass, replace
 from functools import lru_cache
 
@@ -196,6 +195,3 @@ class Log:
     def until(self, last: int) -> bytes:
         """The log up to the line of this number, and with it."""
         return b"\n".join([*self.parts[:last], b"end %d\n" % (last - 1)])
-
-
-LABEL = re.compile(r"[A-Za-z0-9./:_-]{1,32}")

@@ -10,7 +10,7 @@ from __future__ import annotations
 
 from collections import defaultdict
 from collections.abc import Iterator
-from dataclasses import dataclass, field
+from dataclasses import dataclass
 
 from log import ADDRESS_BITS
 from pending import BREAK_BEFORE_MAKE, LAST_LEVEL, PAGE, WITH_BLOCKS, Tables

@@ -27,10 +27,6 @@ class Spot:
     address: int
     root: int
 
-    @property
-    def span(self) -> int:
-        return 1 << 39 - 9 * self.level
-
 
 @dataclass
 class Scene:

@@ -5,7 +5,7 @@ from dataclasses import dataclass
 
 from changes import Change
 from held import HeldPlace, HeldRoot, HeldTag, held
-from log import Line, Lines, Log, written
+from log import Line, Lines, Log
 from names import loading, tags_near
 from program import Program, Refusal
 from repair import Repair, Repairer, anchors
@@ -35,9 +35,6 @@ class Study:
     @property
     def refused(self) -> Line:
         return self.small[-1]
-
-    def text(self) -> bytes:
-        return written(self.header, self.small)
 
 
 def later_lines(log: Log, refusal: Refusal) -> Lines:

@@ -24,8 +24,6 @@ WITH_OPERAND = {"vae2", "ipas2e1", "vae1", "vaae1", "aside1", *LAST_LEVEL, *LAST
 BY_ASID = {"vae1", "vale1", "aside1", "rvae1", "rvale1"}
 KIND_OF_REGISTER = {"ttbr0_el2": "el2", "vttbr_el2": "s2", "ttbr0_el1": "ttbr0", "ttbr1_el1": "ttbr1"}
 KINDS = {"hyp": ["el2", "s2"], "kernel": ["ttbr0", "ttbr1"]}
-WORDS_OF_KERNEL = {"ttbr0", "ttbr1", "ttbr0_el1", "ttbr1_el1", "null", "vae1", "vale1", "vaae1", "vaale1", "aside1",
-                   "rvae1", "rvale1", "rvaae1", "rvaale1"}
 
 # The barrier that publishes and the one that completes, as they are put in; then what an option is changed to.
 PUBLISHING, COMPLETING = "ishst", "ish"
