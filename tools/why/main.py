@@ -60,7 +60,7 @@ KINDS_OF_OPTIONS = {"svg": {}, "html": {}, "at": {}, "nth": {"type": int, "defau
 
 
 def say_why(program: Program, source: Source, asked: argparse.Namespace) -> int:
-    answer = program.feed(("check",), source.parts())
+    answer = program.feed(("check",), source.kept())
     if not answer.refusal:
         finding = finding_of(answer) if asked.format else None
         line = next(islice(source.lines(), (answer.line or 1) - 1, None), None)
@@ -85,7 +85,7 @@ def write_file(path: str, text: str) -> None:
 
 
 def shrink(program: Program, source: Source, asked: argparse.Namespace) -> int:
-    answer = program.feed(("check",), source.parts())
+    answer = program.feed(("check",), source.kept())
     if not answer.refusal:
         emit(answer.text)
         return answer.status

@@ -87,7 +87,7 @@ def fields(one: Found, labels: dict[int, str]) -> dict:
 
 def command(program: Program, source: Source, asked: Asked, style: Style) -> tuple[int, str]:
     """The status, 1 where something is named, and the text."""
-    answer = program.feed(("check",), source.parts())
+    answer = program.feed(("check",), source.kept())
     front = front_of(program, source, asked, answer)
     if front is None:
         finding = finding_of(answer) if asked.format else None

@@ -3,16 +3,14 @@ from __future__ import annotations
 
 from collections.abc import Iterable
 from dataclasses import dataclass, replace
-from functools import cached_property
 from itertools import islice
 
-import words
-from changes import Change, Edit, Head, Move, Put, Swap, applied, changed, changed_header, position_of
+from changes import Change, Move, applied, changed, changed_header, position_of
 from flushes import Family, is_about_tags
 from log import Lines, Log, written
 from program import Answer, Program
 from scene import Scene
-from sections import sections
+from sections import Home
 from tries import LARGEST, families, last_resort
 
 WANTED, ALIKE = 3, 2
@@ -20,7 +18,6 @@ RANKED = 8
 CHOICES = 4
 # So many changes are tried with which the small log alone gets past its last line.
 MOST_FAILED = 24
-FLUSHING = ("dsb", "tlbi")
 ACCEPTED_ALL = 1 << 40
 
 
@@ -43,6 +40,7 @@ class Repairer:
     def __init__(self, program: Program, log: Log, scene: Scene):
         self.program, self.log, self.scene = program, log, scene
         self.front = Log(log.until(scene.later[-1].at if scene.later else scene.refused.at))
+        self.home = Home(log, scene)
         self.failed: list[Change] = []
         self.borrowing: list[Repair] = []
 
@@ -56,15 +54,17 @@ class Repairer:
                 needed.update({line.at: line for line in self.scene.later if line.at == edit.at or edit.at == last and line.at <= edit.after})
         return (*lines, *needed.values())
 
-    def passes(self, change: Change, lines: Lines | None = None) -> bool:
-        lines = self.scene.lines if lines is None else lines
+    def answer_to(self, change: Change, lines: Lines) -> Answer:
+        """What the program says of the lines with the change."""
         left = changed(self.lines_for(change, lines), change)
-        return self.program.check(written(changed_header(self.scene.header_text, change), left)).accepted
+        return self.program.check(written(changed_header(self.scene.header_text, change), left))
+
+    def passes(self, change: Change, lines: Lines | None = None) -> bool:
+        return self.answer_to(change, self.scene.lines if lines is None else lines).accepted
 
     def refuses(self, change: Change, lines: Lines) -> bool:
         """Whether the same rule refuses the lines at the same place with the change too."""
-        left = changed(self.lines_for(change, lines), change)
-        found = self.program.check(written(changed_header(self.scene.header_text, change), left)).refusal
+        found = self.answer_to(change, lines).refusal
         return found is not None and (found.rule, found.at) == (self.scene.refusal.rule, self.scene.refusal.at)
 
     def repair_of(self, family: Family) -> Repair | None:
@@ -97,10 +97,10 @@ class Repairer:
         for family in tries:
             known = [repair.change for repair in (*before, *found)]
             new = tuple(change for change in family.choices if not any(old.shares(change) for old in known)
-                        and (len(self.borrowing) < WANTED or self.is_at_home(change)))
+                        and (len(self.borrowing) < WANTED or self.home.has(change)))
             repair = self.repair_of(replace(family, choices=new)) if new else None
             if repair is not None:
-                (found if self.is_at_home(repair.change) and not self.only_moves_it(repair) else self.borrowing).append(repair)
+                (found if self.home.has(repair.change) and not self.only_moves_it(repair) else self.borrowing).append(repair)
             if len(found) == RANKED or len(self.failed) >= MOST_FAILED:
                 break
         return sorted(found, key=lambda repair: (not repair.change.synchronises, -repair.reach, self.farness(repair.change),
@@ -125,41 +125,7 @@ class Repairer:
         ISB, which belongs to a register write."""
         if change.synchronises:
             return 0
-        return min(max(abs(position_of(edit) - broken).bit_length() for edit in change.edits) // 4 for broken in self.broken)
-
-    @cached_property
-    def broken(self) -> list[int]:
-        """The lines of the breaks: the last write at each place that holds a value; else the refused line."""
-        found = [scene.last_write.at for scene in (self.scene, *self.scene.narrowed) if scene.last_write]
-        return found or [self.scene.refused.at]
-
-    # ---- where a change belongs
-
-    @cached_property
-    def home(self) -> list[range]:
-        return [part for at in (*self.broken, self.scene.refused.at) for part in sections(self.log, at)]
-
-    def in_home(self, at: int) -> bool:
-        return self.scene.last_write is None or any(at in part for part in self.home)
-
-    def is_at_home(self, change: Change) -> bool:
-        """Whether the change stays within the sections of the breaks and of the refused line. One that doesn't takes another
-        place's flush."""
-        return all(self.edit_at_home(edit) for edit in change.edits)
-
-    def edit_at_home(self, edit: Edit) -> bool:
-        refused = self.scene.refused
-        if isinstance(edit, Head):
-            return True
-        if isinstance(edit, Move) and edit.at == refused.at:
-            crossed = [line for line in self.scene.later if line.at <= edit.after and line.event.word in FLUSHING]
-            return all(self.in_home(line.at) and line.event.pe == refused.event.pe for line in crossed)
-        event = self.log.line(edit.at).event if isinstance(edit, Swap) else refused.event
-        if event.word == "tlbi" and is_about_tags(self.scene) and not words.is_of_tag(event.operation):
-            return False
-        if isinstance(edit, Put):
-            return edit.text.split(" ")[0] not in FLUSHING or self.in_home(edit.after) or self.in_home(edit.after + 1)
-        return self.log.line(edit.at).event.word not in FLUSHING or self.in_home(edit.at)
+        return min(max(abs(position_of(edit) - broken).bit_length() for edit in change.edits) // 4 for broken in self.home.breaks)
 
     def only_moves_it(self, repair: Repair) -> bool:
         """Whether the same rule refuses a later line of the whole log at the same place, or the same line still."""

@@ -1,10 +1,18 @@
-"""To which section of a log a line belongs: what its PE does about one change of the tables, by locks, labels and barriers."""
+"""Whether a change stays in the sections of what is broken and refused, or takes the flush of another place.
+
+A section is what a PE does about one change of the tables, by locks, by labels, or by barriers.
+"""
 from __future__ import annotations
 
 from collections.abc import Iterator
 
+import words
+from changes import Change, Edit, Head, Move, Put, Swap
+from flushes import is_about_tags
 from log import Event, Log, event_of
+from scene import Scene
 
+FLUSHING = ("dsb", "tlbi")
 # So far a section goes, in lines.
 LONGEST = 4096
 
@@ -55,7 +63,33 @@ def flushed(log: Log, at: int, last: int) -> range:
     return range(at, last + 1)
 
 
-def sections(log: Log, at: int) -> list[range]:
-    """The sections that a line belongs to."""
-    last = log.last_event
-    return [part(log, at, last) for part in (critical, labelled, flushed)]
+class Home:
+    """The sections of the breaks and of the refused line. The breaks are the last writes at the places that hold a value; where
+    there is none the refused line stands for them, and every line is at home."""
+
+    def __init__(self, log: Log, scene: Scene):
+        self.log, self.scene = log, scene
+        written = [one.last_write.at for one in (scene, *scene.narrowed) if one.last_write]
+        self.breaks = written or [scene.refused.at]
+        self.parts = [part(log, at, log.last_event) for at in (*written, scene.refused.at) for part in (critical, labelled, flushed)]
+        self.is_everywhere = not written
+
+    def __contains__(self, at: int) -> bool:
+        return self.is_everywhere or any(at in part for part in self.parts)
+
+    def has(self, change: Change) -> bool:
+        """Whether the change stays at home. One that doesn't takes another place's flush."""
+        return all(self.has_edit(edit) for edit in change.edits)
+
+    def has_edit(self, edit: Edit) -> bool:
+        if isinstance(edit, Head):
+            return True
+        if isinstance(edit, Put):
+            return edit.text.split(" ")[0] not in FLUSHING or edit.after in self or edit.after + 1 in self
+        refused, event = self.scene.refused, self.log.line(edit.at).event
+        if isinstance(edit, Move) and edit.at == refused.at:
+            crossed = [line for line in self.scene.later if line.at <= edit.after and line.event.word in FLUSHING]
+            return all(line.at in self and line.event.pe == refused.event.pe for line in crossed)
+        if isinstance(edit, Swap) and event.word == "tlbi" and is_about_tags(self.scene):
+            return words.is_of_tag(event.operation)
+        return event.word not in FLUSHING or edit.at in self

@@ -1,6 +1,6 @@
 """What is judged, read as a stream: a file, or standard input, and again as often as it has to be.
 
-What comes through a pipe is kept in a temporary file while it is read first. The memory is that of one part.
+What comes through a pipe and is read again is kept in a temporary file. The memory is that of one part.
 """
 from __future__ import annotations
 
@@ -26,7 +26,7 @@ class Source:
             number = self.input.fileno()
             is_file = stat.S_ISREG(os.fstat(number).st_mode)
             self.begin = os.lseek(number, 0, os.SEEK_CUR) if is_file else 0
-            self.copy = None if is_file else tempfile.TemporaryFile()
+        self.held = self.input if is_file else None
 
     @contextlib.contextmanager
     def faults(self):
@@ -40,17 +40,24 @@ class Source:
         """The bytes that weren't read yet, part by part."""
         with self.faults():
             while part := self.input.read(PART):
-                if self.copy:
-                    self.copy.write(part)
-                    self.copy.flush()
+                yield part
+
+    def kept(self) -> Iterator[bytes]:
+        """The same, where they are read again: those of a pipe are kept."""
+        with self.faults():
+            self.held = self.held or tempfile.TemporaryFile()
+            for part in self.parts():
+                if self.held is not self.input:
+                    self.held.write(part)
+                    self.held.flush()
                 yield part
 
     def size(self) -> int:
-        return os.fstat((self.copy or self.input).fileno()).st_size - self.begin
+        return os.fstat(self.held.fileno()).st_size - self.begin
 
     def again(self, size: int | None = None, since: int = 0) -> Iterator[bytes]:
-        """The first bytes, so many and from one on: those of a file, or of a pipe those that were read."""
-        number, at = (self.copy or self.input).fileno(), self.begin + since
+        """The first bytes, so many and from one on: those of a file, or of a pipe those that were kept."""
+        number, at = self.held.fileno(), self.begin + since
         end = self.begin + self.size() if size is None else self.begin + size
         with self.faults():
             while at < end and (part := os.pread(number, min(PART, end - at), at)):
@@ -72,7 +79,7 @@ class Source:
 
     def read(self) -> bytes:
         """All bytes."""
-        for _ in self.parts():
+        for _ in self.kept():
             pass
         return b"".join(self.again())
 
