@@ -15,8 +15,8 @@ from pending import INSIDE, LAST_LEVEL, PAGE, Asker, Candidate, tables_of
 from program import Program, Refusal
 from style import ranges
 
-# So many places are told, and of one page so many asked about; and so many PEs that loaded a root.
-TOLD, ASKED, PES = 4, 64, 8
+# So many places or register writes are told; of one page so many places are asked about, and of one root the loads of so many PEs.
+TOLD, ASKED, PES = 4, 64, 16
 OF_PLACES = ("break-before-make", "limbo-make", "not-fresh", "page-in-use")
 OF_TAGS = ("tag-conflict", "root-in-use")
 MISSING = {
@@ -54,7 +54,8 @@ class HeldPlace:
     def told(self) -> str:
         by_phase = {phase: [pe for pe, now in enumerate(self.phases) if now == phase] for phase in MISSING}
         missing = [text.format(f"PE {ranges(by_phase[phase])}") for phase, text in MISSING.items() if by_phase[phase]]
-        return f"{hex(self.place)}{self.role}: {'written' if self.line.event.value & 1 else 'cleared'} by {self.line.name}; {'; '.join(missing)}"
+        done = "written" if self.line.event.value & 1 else "cleared"
+        return f"{hex(self.place)}{self.role}: {done} by {self.line.name}; {'; '.join(missing)}"
 
 
 @dataclass(frozen=True)
@@ -163,7 +164,7 @@ class Tags:
     def loads(self) -> list[Line]:
         """For each PE the last register write of the root that is reported."""
         last = {line.event.pe: line for line in self.registers if line.event.base == self.refusal.at}
-        return sorted(last.values(), key=lambda line: -line.at)[:PES]
+        return sorted(last.values(), key=lambda line: -line.at)
 
     def passes(self, switched: list[Line], flush: list[str]) -> bool:
         """Whether the refused line gets by, behind other values in these registers and a flush."""
@@ -183,15 +184,17 @@ class Tags:
         pes = [line.event.pe for line in self.loads]
         if not pes or not self.passes(self.loads, self.flush(pes)):
             return []
-        found = []
-        for load in self.loads:
-            pe = load.event.pe
-            others = [line for line in self.loads if line is not load]
-            if not self.passes(others, self.flush(pes)):
-                found.append(HeldTag(load, self.tag_of(load), self.still_there(load)))
-            elif not self.passes(self.loads, self.flush([one for one in pes if one != pe]) if not self.header.shares and others else []):
-                found.append(HeldTag(load, self.tag_of(load), self.not_flushed(load)))
+        found = [HeldTag(load, self.tag_of(load), why) for load in self.loads[:PES] if (why := self.needed(load))]
         return found[:TOLD] or [HeldTag(self.loads[0], self.tag_of(self.loads[0]), self.not_flushed(self.loads[0]))]
+
+    def needed(self, load: Line) -> str:
+        """What of the load can't be left out where all else is there: nothing, its other value and ISB, or its flush."""
+        others = [line for line in self.loads if line is not load]
+        pes = [line.event.pe for line in others]
+        if not self.passes(others, self.flush([load.event.pe, *pes])):
+            return self.still_there(load)
+        left = self.flush(pes) if others and not self.header.shares else []
+        return "" if self.passes(self.loads, left) else self.not_flushed(load)
 
     # ---- what the log says of it
 

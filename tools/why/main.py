@@ -54,7 +54,8 @@ USAGES = {
     "why": "bbm why [LOG] [--svg FILE] [--html FILE] [--whole] [--format json]", "shrink": "bbm shrink [LOG] [--least] [--rename]",
     "pending": "bbm pending [LOG] [--pages] [--at LABEL] [--nth N] [--format json]", "partial": "bbm partial [LOG]",
 }
-OPTIONS = {"why": ["svg", "html", "whole", "format"], "shrink": ["least", "rename"], "pending": ["pages", "at", "nth", "format"], "partial": []}
+OPTIONS = {"why": ["svg", "html", "whole", "format"], "shrink": ["least", "rename"],
+           "pending": ["pages", "at", "nth", "format"], "partial": []}
 KINDS_OF_OPTIONS = {"svg": {}, "html": {}, "at": {}, "nth": {"type": int, "default": 1},
                     "format": {"choices": ["json"]}}
 

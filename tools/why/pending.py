@@ -2,10 +2,10 @@
 
 The log's writes give the candidates: places that had a valid value since the `init` of their page and have none now. First their
 pages are made zero behind the log, all in one log, but for those to which the values that are there lead from a root: where that is
-accepted the page is in no tree, and none of its places holds anything. Then each place of the others is asked of the program by a made write behind the log, again
-all in one log: one that is accepted says that its place holds nothing, and changes no other candidate; one that break-before-make
-refuses says that it does, and `explain` tells the phases; then the asking goes on behind it. So there are as many runs as places
-that are found, and some more.
+accepted the page is in no tree, and none of its places holds anything. Then each place of the others is asked of the program by a
+made write behind the log, again all in one log: one that is accepted says that its place holds nothing, and changes no other
+candidate; one that break-before-make refuses says that it does, and `explain` tells the phases; then the asking goes on behind it.
+So there are as many runs as places that are found, and some more.
 
 A made write links a page of its own that was just made zero: so it is valid at every level, of another core than what the place
 held, and breaks no rule where the place holds nothing. Where the log left too few pages that can be made zero, it links
@@ -225,9 +225,9 @@ def pending(program: Program, front) -> list[Pending]:
     tables = tables_of(front)
     asker = Asker(program, front, tables)
     levels = tables.reached()
-    cleared = {page: found for page, table in sorted(tables.pages.items()) if table and (found := list(table.without_value(levels.get(page))))}
+    cleared = {page: list(table.without_value(levels.get(page))) for page, table in sorted(tables.pages.items()) if table}
     with ThreadPoolExecutor(JOBS) as pool:
-        alone = [page for page in cleared if page not in levels]
+        alone = [page for page, places in cleared.items() if places and page not in levels]
         out = set(alone).difference(*pool.map(asker.in_trees, shares(alone)))
         candidates = [Candidate(page << PAGE | inside << 3, at) for page in cleared if page not in out for inside, at in cleared[page]]
         places = [place for found in pool.map(asker.found, shares(candidates)) for place in found]
