@@ -54,12 +54,12 @@ def labelled(log: Log, at: int, last: int) -> range:
 
 
 def flushed(log: Log, at: int, last: int) -> range:
-    """From a write to its flush: until the next write of its PE behind a barrier or TLBI."""
-    has_flush = False
+    """From a write to its flush: until the next write of its PE behind a barrier or TLBI, and of a valid value until the next."""
+    ends = log.line(at).event.word != "w" or bool(log.line(at).event.value & 1)
     for number, event in own(log, at, 1, last):
-        has_flush |= event.word in ("dsb", "tlbi")
-        if event.word in ("w", "init") and has_flush:
+        if event.word in ("w", "init") and ends:
             return range(at, number)
+        ends |= event.word in FLUSHING
     return range(at, last + 1)
 
 

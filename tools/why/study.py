@@ -56,9 +56,9 @@ def with_lacking(shrinker: Shrinker, repairer: Repairer, change: Change, tried: 
 
 
 def with_repairs(shrinker: Shrinker, repairer: Repairer, repairs: list[Repair], kept: list, tried: Numbers) -> Numbers:
-    """The least lines that are refused as the whole log is, have what is held, and get past their last one by each of the
-    repairs."""
-    needed = {at for at in (*anchors(repairs), *(one.line.at for one in kept)) if at <= shrinker.refusal.line}
+    """The least of the lines that were tried which are refused as the whole log is, have the lines of what is held, and get past
+    their last one by each of the repairs."""
+    needed = {*anchors(repairs), *(one.line.at for one in kept)} & set(tried)
 
     def holds(numbers: Numbers) -> bool:
         if not needed <= set(numbers) or not shrinker.holds(numbers):
@@ -67,7 +67,7 @@ def with_repairs(shrinker: Shrinker, repairer: Repairer, repairs: list[Repair], 
         return all(repairer.passes(repair.change, lines) for repair in repairs)
 
     start = sorted({*shrinker.least, *needed})
-    return reduced(shrinker.log, start if holds(start) else sorted({*tried, *needed}), holds)
+    return reduced(shrinker.log, start if holds(start) else tried, holds)
 
 
 def study(program: Program, log: Log, refusal: Refusal) -> Study:
