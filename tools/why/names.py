@@ -154,10 +154,10 @@ def window_of(index: Index, refusal: Refusal, way: Way) -> int:
     return min(written, default=2)
 
 
-def tags(index: Index, way: Way) -> set[int]:
-    """The register writes that give the roots of the way their tags, each with the lines that make its root, and the next `isb`
-    of its PE."""
-    return {line for at in registers_near(index, way) for line in with_its_root(index, at)}
+def tags(index: Index, way: Way, most: int | None = None) -> set[int]:
+    """The register writes that give the roots of the way their tags, all or so many of the last, each with the lines that make its
+    root, and the next `isb` of its PE."""
+    return {line for at in registers_near(index, way)[-most if most else None:] for line in with_its_root(index, at)}
 
 
 def tags_near(index: Index, refusal: Refusal, header: Header) -> list[int]:
@@ -169,10 +169,8 @@ def tags_near(index: Index, refusal: Refusal, header: Header) -> list[int]:
 
 
 def loading(index: Index, refusal: Refusal, header: Header) -> list[int]:
-    """The last register writes that give the roots of the way their tags, each with the lines that make its root, and the next
-    `isb` of its PE."""
-    way = climb(index, header, pages_named(index, refusal), True)
-    return sorted({line for at in registers_near(index, way)[-LOADED:] for line in with_its_root(index, at)})
+    """The last lines that load the roots of the way."""
+    return sorted(tags(index, climb(index, header, pages_named(index, refusal), True), LOADED))
 
 
 def locks(index: Index, refusal: Refusal, way: Way) -> set[int]:

@@ -15,7 +15,7 @@ so this says the same, at the cost of a run.
 from __future__ import annotations
 
 from array import array
-from collections.abc import Iterator
+from collections.abc import Callable, Iterator
 from concurrent.futures import ThreadPoolExecutor
 from dataclasses import dataclass, field
 from functools import cached_property
@@ -226,14 +226,18 @@ def pending(program: Program, front) -> list[Pending]:
     asker = Asker(program, front, tables)
     levels = tables.reached()
     cleared = {page: list(table.without_value(levels.get(page))) for page, table in sorted(tables.pages.items()) if table}
-    with ThreadPoolExecutor(JOBS) as pool:
-        alone = [page for page, places in cleared.items() if places and page not in levels]
-        out = set(alone).difference(*pool.map(asker.in_trees, shares(alone)))
-        candidates = [Candidate(page << PAGE | inside << 3, at) for page in cleared if page not in out for inside, at in cleared[page]]
-        places = [place for found in pool.map(asker.found, shares(candidates)) for place in found]
-    return [place for place in places if "live" not in place.phases]
+    alone = [page for page, places in cleared.items() if places and page not in levels]
+    out = set(alone).difference(*in_jobs(asker.in_trees, alone))
+    candidates = [Candidate(page << PAGE | inside << 3, at) for page in cleared if page not in out for inside, at in cleared[page]]
+    return [place for found in in_jobs(asker.found, candidates) for place in found if "live" not in place.phases]
 
 
-def shares(items: list) -> list[list]:
-    """The items in order, for each job a part of them."""
-    return [items[i * len(items) // JOBS:(i + 1) * len(items) // JOBS] for i in range(JOBS)]
+def in_jobs(ask: Callable, items: list) -> list:
+    """What is answered of the items, each job a part of them, in order."""
+    shares = [items[i * len(items) // JOBS:(i + 1) * len(items) // JOBS] for i in range(JOBS)]
+    try:
+        with ThreadPoolExecutor(JOBS) as pool:
+            return list(pool.map(ask, shares))
+    except RuntimeError as fault:
+        # Python says so where there is no memory for a thread.
+        raise MemoryError from fault
