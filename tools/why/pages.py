@@ -110,7 +110,7 @@ class Leaves:
             self.attach(at, (value & ADDRESS_BITS) >> PAGE, Where(where.kind, where.level + 1, where.lock))
         elif where.kind == "s2" and (value & 2 or where.level in WITH_BLOCKS):
             self.unmap(place)
-            leaf = self.leaf_at[place] = Leaf(place, value, self.lines[place >> PAGE][place], where.lock)
+            leaf = self.leaf_at[place] = Leaf(place, value, self.lines[place >> PAGE].get(place, at), where.lock)
             self.mapping[self.key(leaf, where.level)][place] = leaf
 
     def key(self, leaf: Leaf, level: int) -> tuple[int, int]:
@@ -129,6 +129,8 @@ class Leaves:
         for inside, value in enumerate(table.values if table else ()):
             if value & 1:
                 self.make(at, page << PAGE | inside << 3, value, where)
+        if where.kind != "s2":
+            self.lines.pop(page, None)
 
     def reuse(self, at: int, page: int) -> None:
         for level, bits in SPANS.items():
