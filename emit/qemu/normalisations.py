@@ -13,11 +13,9 @@ ALL = {
         (*KERNEL, *HYP), "the log begins when the first process, or guest, is loaded, with the tables as they stand then",
         "what was done before isn't judged, and no TLB is taken to hold anything from before"),
     "contiguous": Normalisation(
-        (*KERNEL, *HYP), "the Contiguous bit of leaves is told as 0",
+        (*KERNEL, *HYP), "the Contiguous bit of a leaf of stage 1 is told as its NS bit, which counts for break-before-make "
+        "and has no meaning in Non-secure state; at stage 2 it is told as 0",
         "an entry that stands for sixteen places is judged as sixteen entries"),
-    "dead-roots": Normalisation(
-        (*KERNEL, *HYP), "a root that isn't loaded, and whose pages have another use, is given up by an unroot line",
-        "when the root was given up isn't known: an earlier reuse that the trace doesn't show isn't judged"),
     "isb-between-ttbrs": Normalisation(
         KERNEL, "an ISB is told behind a write of TTBR0_EL1 that names the reserved table, and behind one of TTBR1_EL1",
         "an old value of one of the two registers could be in use for longer than is judged"),
@@ -33,9 +31,6 @@ ALL = {
     "kpti": Normalisation(
         KERNEL, "a second root in TTBR1_EL1 is told as the first; of each pair of ASIDs the even one alone is told",
         "entries under the odd ASID of a process, and those of the second upper root, aren't judged"),
-    "attr-index": Normalisation(
-        KERNEL, "AttrIndx 1 of a leaf is told as 0",
-        "a change of the memory type between these two without a break isn't judged"),
     "mmu-off": Normalisation(
         HYP, "while the MMU of EL2 is off its root register is told as 0",
         "that a PE makes no walk of EL2 then is taken from SCTLR_EL2.M"),

@@ -93,21 +93,26 @@ class Symbols:
         # Code of a hypervisor of KVM has this prefix in the kernel's symbols.
         return "hyp:" + name[11:] if name.startswith("__kvm_nvhe_") else name
 
+    def learn(self, line):
+        """Takes from a line of a trace how far what was linked stands from where it is in memory, if that isn't known yet."""
+        if self.shift is not None or not self.known or line[:1] in ("", "#", "c"):
+            return
+        pc, physical = (int(field, 16) for field in line.split(" ", 5)[3:5])
+        if physical and self.holds(pc):
+            self.shift = pc - physical
+
     def label(self, pc, physical, el):
         """The label of an instruction, or None. What runs elsewhere than it was linked for is found by where it stands in
-        memory, once one instruction was seen at both."""
+        memory, once one instruction was learned at both."""
         key = pc, physical, el
         if key in self.labels:
             return self.labels[key]
         if el == 0:
             return "user"
         address = pc
-        if self.holds(pc):
-            if physical and self.shift is None:
-                self.shift = pc - physical
-        elif physical and self.shift is not None and self.holds(physical + self.shift):
+        if not self.holds(pc) and physical and self.shift is not None:
             address = physical + self.shift
-        else:
+        if not self.holds(address):
             return None
         text = (self.lines and self.lines.at(address)) or self.name(address)
         self.labels[key] = label_of(text)
