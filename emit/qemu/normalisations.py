@@ -13,9 +13,9 @@ ALL = {
         (*KERNEL, *HYP), "the log begins when the first process, or guest, is loaded, with the tables as they stand then",
         "what was done before isn't judged, and no TLB is taken to hold anything from before"),
     "contiguous": Normalisation(
-        (*KERNEL, *HYP), "the Contiguous bit of a leaf of stage 1 is told as its NS bit, which counts for break-before-make "
+        (*KERNEL, *HYP), "the Contiguous bit of a leaf of stage 1 is told in the place of NS, which counts for break-before-make "
         "and has no meaning in Non-secure state; at stage 2 it is told as 0",
-        "an entry that stands for sixteen places is judged as sixteen entries"),
+        "an entry that stands for sixteen places is judged as sixteen entries, and a change of NS isn't judged"),
     "isb-between-ttbrs": Normalisation(
         KERNEL, "an ISB is told behind a write of TTBR0_EL1 that names the reserved table, and behind one of TTBR1_EL1",
         "an old value of one of the two registers could be in use for longer than is judged"),
