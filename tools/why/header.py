@@ -7,6 +7,8 @@ from __future__ import annotations
 import sys
 
 FORMS = {"hyp": "PES EL2START S2START S2PAGES", "kernel": "PES START0 START1 ASIDFROM"}
+# The bytes that are looked at: more than the longest line has.
+MOST = 300
 VERSIONS = ("1", "2", "3", "4")
 LEVELS = ("0", "1", "2")
 CNP = ("cnp", "-")
@@ -81,4 +83,4 @@ def say(begin: bytes) -> None:
 
 
 if __name__ == "__main__":
-    say(sys.stdin.buffer.read(300))
+    say(sys.stdin.buffer.read(MOST))

@@ -1,29 +1,34 @@
 #!/usr/bin/env python3
 """From a refusal to the fix: the words `why`, `shrink`, `pending`, `partial` and `check --format` of the script ./bbm.
 
-    ./bbm why [LOG] [--svg FILE] [--html FILE] [--whole]
-    ./bbm shrink [LOG] [--least] [--rename]
-    ./bbm pending [LOG] [--at LABEL] [--nth N]
-    ./bbm partial [LOG]
-    ./bbm check --format gcc|github|json < LOG
+    ./bbm why [LOG..] [--svg FILE] [--html FILE] [--whole]
+    ./bbm shrink [LOG..] [--least] [--rename]
+    ./bbm pending [LOG..] [--at LABEL] [--nth N]
+    ./bbm partial [LOG..]
+    ./bbm check --format gcc|github|json [LOG..]
 
-LOG is a file, or standard input where none is named. The exit status is that of `bbm check` on the log. docs/WHY.md says
-what each prints, and docs/OUTPUT.md the exact forms. The program is that of the environment variable BBM.
+LOG is a file, or standard input where none is named or its name is `-`. The exit status is that of `bbm check` on the log, of
+several the greatest. docs/WHY.md says what each prints, and docs/OUTPUT.md the exact forms. The program is that of the
+environment variable BBM.
 """
 from __future__ import annotations
 
 import argparse
+import os
+import signal
 import sys
 import traceback
 
+import files
 import formats
+import header
 import partial
 import pending
 import picture
 import rename
 import why
-from log import Log, read, written
-from program import Program, Status, Unable, built, emit
+from log import Log, written
+from program import Program, Status, Unable, built, complain, emit
 from shrink import Shrinker
 from study import study
 
@@ -33,21 +38,23 @@ class Words(argparse.ArgumentParser):
 
     def error(self, message: str):
         emit("usage: bbm" + self.format_usage().removeprefix("usage: bbm").replace("\n", " ").rstrip() + "\n")
-        sys.stderr.write(f"bbm: {message}\n")
-        sys.exit(3)
+        raise Unable(Status.USAGE, message)
 
 
 def words_of(word: str, arguments: list[str]) -> argparse.Namespace:
     words = Words(prog=f"bbm {word}", usage=USAGES[word], add_help=False)
-    words.add_argument("log", nargs="?")
+    words.add_argument("logs", nargs="*", default=["-"])
     for option in OPTIONS[word]:
         words.add_argument(f"--{option}", **KINDS_OF_OPTIONS.get(option, {"action": "store_true"}))
-    return words.parse_args(arguments)
+    asked = words.parse_intermixed_args(arguments)
+    if word == "why" and (asked.svg or asked.html) and len(asked.logs) > 1:
+        words.error("--svg and --html take one log")
+    return asked
 
 
 USAGES = {
-    "why": "bbm why [LOG] [--svg FILE] [--html FILE] [--whole]", "shrink": "bbm shrink [LOG] [--least] [--rename]",
-    "pending": "bbm pending [LOG] [--at LABEL] [--nth N]", "partial": "bbm partial [LOG]",
+    "why": "bbm why [LOG..] [--svg FILE] [--html FILE] [--whole]", "shrink": "bbm shrink [LOG..] [--least] [--rename]",
+    "pending": "bbm pending [LOG..] [--at LABEL] [--nth N]", "partial": "bbm partial [LOG..]",
 }
 OPTIONS = {"why": ["svg", "html", "whole"], "shrink": ["least", "rename"], "pending": ["at", "nth"], "partial": []}
 KINDS_OF_OPTIONS = {"svg": {}, "html": {}, "at": {}, "nth": {"type": int, "default": 1}}
@@ -113,6 +120,18 @@ def say_partial(program: Program, data: bytes, _asked: argparse.Namespace) -> in
 COMMANDS = {"why": say_why, "shrink": shrink, "pending": say_pending, "partial": say_partial}
 
 
+def judge(program: Program, word: str, path: str, asked: argparse.Namespace) -> int:
+    """The status of a word on one log."""
+    try:
+        data = files.file_of(path).read()
+    except OSError as fault:
+        raise Unable(Status.UNREADABLE, f"{path}: {fault.strerror}") from fault
+    status = COMMANDS[word](program, data, asked)
+    if status == Status.MALFORMED:
+        header.say(data[:header.MOST])
+    return status
+
+
 def run(word: str, arguments: list[str]) -> int:
     program = built()
     if word == "check":
@@ -120,25 +139,26 @@ def run(word: str, arguments: list[str]) -> int:
     if word not in COMMANDS:
         raise Unable(3, f"no such word: {word}")
     asked = words_of(word, arguments)
-    try:
-        data = read(asked.log)
-    except OSError as fault:
-        raise Unable(Status.UNREADABLE, f"{asked.log or 'standard input'}: {fault.strerror}") from fault
-    return COMMANDS[word](program, data, asked)
+    return files.greatest(asked.logs, lambda path: judge(program, word, path, asked))
 
 
-def main() -> int:
-    if len(sys.argv) < 2:
-        sys.stderr.write(__doc__)
-        return 3
+def status_of(words: list[str]) -> int:
+    """The status of the word, where a fault ends it too: what it is was said then."""
     try:
-        return run(sys.argv[1], sys.argv[2:])
+        if not sys.stdout:
+            raise Unable(Status.UNWRITTEN, "a write of the answer failed: standard output is closed")
+        sys.stdout.reconfigure(errors="surrogateescape")
+        return run(words[0], words[1:])
     except Unable as fault:
-        if str(fault):
-            sys.stderr.write(f"bbm: {fault}\n")
+        complain(fault)
         return fault.status
+    except MemoryError:
+        complain(Unable(Status.NO_MEMORY, "there was no memory, so there is no answer"))
+        return Status.NO_MEMORY
     except BrokenPipeError:
-        sys.stderr.close()
+        # as other tools end where nobody reads any more
+        signal.signal(signal.SIGPIPE, signal.SIG_DFL)
+        os.kill(os.getpid(), signal.SIGPIPE)
         return Status.UNWRITTEN
     except Exception:
         # Python would end with status 1, which says that a rule refuses the log.
@@ -146,5 +166,14 @@ def main() -> int:
         return 70
 
 
+def main() -> None:
+    if len(sys.argv) < 2:
+        sys.stderr.write(__doc__)
+        sys.exit(3)
+    signal.signal(signal.SIGINT, signal.SIG_DFL)
+    # Python's own end would write again what couldn't be written, and end with a status of its own.
+    os._exit(status_of(sys.argv[1:]))
+
+
 if __name__ == "__main__":
-    sys.exit(main())
+    main()
