@@ -1,8 +1,8 @@
-"""Shows each second on standard error, a terminal, how much a process has read of a log.
+"""Shows each second on standard error, a terminal, how much what the script runs has read of a log.
 
-    python3 tools/why/progress.py PID [PREFIX]     until the process ends, or a TERM signal comes
+    python3 tools/why/progress.py PID [PREFIX]     until nothing runs below the script, or a TERM signal comes
 
-The process is asked nothing: the bytes are those that /proc counts for it, or for a child of it that read more. Events are
+Nothing is asked: the bytes are those that /proc counts, for the process below the script that read most. Events are
 reckoned from the newlines in what it is about to read. The text is shorter than that of each verdict, which covers it where
 standard output is the same terminal, and stands behind PREFIX, which is on that line already.
 """
@@ -22,7 +22,13 @@ CLEAR = "\r\033[K"
 
 def children(pid: int) -> list[int]:
     with open(f"/proc/{pid}/task/{pid}/children", encoding="ascii") as file:
-        return [int(word) for word in file.read().split()]
+        return [int(word) for word in file.read().split() if int(word) != os.getpid()]
+
+
+def below(pid: int) -> list[int]:
+    """The children of a process, and theirs."""
+    found = children(pid)
+    return found + [grandchild for child in found for grandchild in children(child)]
 
 
 def bytes_read(pid: int) -> int:
@@ -59,13 +65,14 @@ def sample(pid: int) -> bytes:
 
 
 class Reader:
-    """What is known of a process that reads a log."""
+    """What is known of the process below the script that reads a log."""
 
-    def __init__(self, pid: int):
-        self.pid, self.read, self.events = pid, 0, 0.0
+    def __init__(self, script: int):
+        self.script, self.read, self.events = script, 0, 0.0
 
     def look(self) -> None:
-        pid = max([self.pid, *children(self.pid)], key=bytes_read)
+        """Looks at it once more. Fails where nothing runs any more."""
+        pid = max(below(self.script), key=bytes_read)
         now, seen = bytes_read(pid), sample(pid)
         if seen:
             self.events += max(0, now - self.read) * seen.count(b"\n") / len(seen)
@@ -82,16 +89,18 @@ def end(*_) -> None:
     os._exit(0)
 
 
-def main(pid: int, prefix: str = "") -> None:
+def main(script: int, prefix: str = "") -> None:
     signal.signal(signal.SIGTERM, end)
-    reader = Reader(pid)
+    # the interrupt key is for the script, which ends this
+    signal.signal(signal.SIGINT, signal.SIG_IGN)
+    reader = Reader(script)
     try:
         while True:
             reader.look()
             sys.stderr.write(f"{CLEAR}{prefix}{reader}\r{prefix}")
             sys.stderr.flush()
             time.sleep(1)
-    except OSError:
+    except (OSError, ValueError):
         end()
 
 
