@@ -5,13 +5,13 @@
 from __future__ import annotations
 
 import json
-import os
 import re
 from dataclasses import dataclass
 from enum import Enum
 
 import files
-from program import Answer, Program, emit
+import header
+from program import Answer, Program, Status, emit
 
 LOG = "<stdin>"
 SOURCE = re.compile(r"(.+):([1-9][0-9]*)")
@@ -106,6 +106,8 @@ def judge(program: Program, form: Format, path: str) -> int:
         answer = program.run(("check",), None)
     finding = finding_of(answer, log)
     emit(FORMS[form](finding, log) + "\n" if finding else answer.text)
+    if answer.status == Status.MALFORMED and path != files.STDIN:
+        header.say(files.file_of(path).read(header.MOST))
     return answer.status
 
 

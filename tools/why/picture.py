@@ -4,7 +4,7 @@ from __future__ import annotations
 from html import escape
 
 import why
-from lanes import ALIKE, EFFECTS, LEGEND, Chart, Effect, Row, letter_of
+from lanes import ALIKE, EFFECTS, LEGEND, LETTERS, Chart, Effect, Row, letter_of
 from program import Answer
 from study import Study
 
@@ -31,6 +31,8 @@ LOOKS = {
     "tile": {"fill": "paper", "stroke": "mark"}, "tile x": {"fill": "paper", "stroke": "gone"},
     "entry": {"fill": "none", "stroke": "bad", "stroke-width": "2"},
 }
+# What the letter of an event stands for.
+SIGNS = {"W": "a valid value", "C": "an invalid one", **{letter: word for word, letter in LETTERS.items()}, "X": "refused"}
 FONT = 'font-family="ui-monospace,DejaVu Sans Mono,Menlo,Consolas,monospace" font-size="12"'
 
 
@@ -150,7 +152,8 @@ class Drawing:
         done = dict.fromkeys(effect for row in self.chart.rows for effect in row.effects.values())
         rows = [(phase, f"{phase}: {LEGEND[phase]}") for phase in LEGEND if phase in phases]
         rows += [(effect.value, EFFECTS[effect]) for effect in Effect if effect in done]
-        rows.append(("W", "in a circle the event: W a valid value, C an invalid one, D dsb, T tlbi, S isb, M msr, L lock, K unlock, X refused"))
+        letters = dict.fromkeys(letter_of(row) for row in self.chart.rows)
+        rows.append(("W", "in a circle the event: " + ", ".join(f"{letter} {SIGNS[letter]}" for letter in SIGNS if letter in letters)))
         if self.chart.has_alike:
             rows.append(("alike", f"column !: {ALIKE}"))
         return rows + ([("E", "an outline is the entry of the run")] if self.chart.entries else [])
