@@ -32,46 +32,49 @@ VERDICT = re.compile(r"(?P<verdict>accepted) (?P<events>\d+) events"
 
 @dataclass(frozen=True)
 class Finding:
-    """What a verdict says, and where: in a source where the label is FILE:LINE, else in the log."""
+    """What a verdict on a log says, and where: in the file and line of the label where it is FILE:LINE, else in the log."""
 
+    log: str
     message: str
     tag: str
-    file: str
     line: int
     fields: dict
 
+    @property
+    def file(self) -> str:
+        return self.fields.get("file", self.log)
 
-def source_of(label: str) -> tuple[str, int] | None:
+
+def source_of(label: str) -> dict:
+    """The file and line that a label names, or nothing."""
     found = SOURCE.fullmatch(label)
-    return (found.group(1), int(found.group(2))) if found else None
+    return {"file": found.group(1), "file_line": int(found.group(2))} if found else {}
 
 
-def finding_of(answer: Answer, log: str) -> Finding | None:
+def finding_of(answer: Answer, log: str = LOG) -> Finding | None:
     """None where the answer has no line of a verdict."""
     found = VERDICT.fullmatch(answer.first)
     if not found:
         return None
     part = found.groupdict()
     if part["verdict"]:
-        return Finding(f"accepted {part['events']} events", "bbm", log, 0, {"verdict": "accepted", "events": int(part["events"])})
+        return Finding(log, f"accepted {part['events']} events", "bbm", 0, {"verdict": "accepted", "events": int(part["events"])})
     if part["refused"]:
         line, label = int(part["line"]), part["label"] or ""
         source = source_of(label)
-        file, at = source or (log, line)
         told = f" ({label})" if label and not source else ""
         fields = {"verdict": "refused", "line": line, "rule": int(part["rule"]), "name": part["name"], "at": part["at"]}
         fields |= {"label": label} if label else {}
-        fields |= {"file": file, "file_line": at} if source else {}
-        return Finding(f"{part['name']} at {part['at']}{told}", f"bbm rule {part['rule']}", file, at, fields)
+        return Finding(log, f"{part['name']} at {part['at']}{told}", f"bbm rule {part['rule']}", source.get("file_line", line), fields | source)
     if part["malformed"]:
         line = int(part["bad"])
         fields = {"verdict": "malformed", "line": line, "cause": int(part["cause"]), "name": part["why"]}
-        return Finding(f"malformed line, {part['why']}", f"bbm cause {part['cause']}", log, line, fields)
+        return Finding(log, f"malformed line, {part['why']}", f"bbm cause {part['cause']}", line, fields)
     fields = {"verdict": "limit", "line": int(part["last"]), "name": part["which"]}
-    return Finding(f"limit {part['which']}", "bbm limit", log, int(part["last"]), fields)
+    return Finding(log, f"limit {part['which']}", "bbm limit", int(part["last"]), fields)
 
 
-def gcc(finding: Finding, _log: str) -> str:
+def gcc(finding: Finding) -> str:
     if finding.fields["verdict"] == "accepted":
         return f"{finding.file}: note: {finding.message} [bbm]"
     return f"{finding.file}:{finding.line}: error: {finding.message} [{finding.tag}]"
@@ -84,7 +87,7 @@ def escaped(text: str) -> str:
     return text
 
 
-def github(finding: Finding, _log: str) -> str:
+def github(finding: Finding) -> str:
     file = f"file={escaped(finding.file)}," if finding.file != LOG else ""
     if finding.fields["verdict"] == "accepted":
         return f"::notice {file}title=bbm::{finding.message}"
@@ -92,8 +95,8 @@ def github(finding: Finding, _log: str) -> str:
     return f"::error {place}title={escaped(finding.tag)}::{finding.message}, line {finding.fields['line']} of the log"
 
 
-def as_json(finding: Finding, log: str) -> str:
-    return json.dumps({**finding.fields, **({"log": log} if log != LOG else {})})
+def as_json(finding: Finding) -> str:
+    return json.dumps({**finding.fields, **({"log": finding.log} if finding.log != LOG else {})})
 
 
 FORMS = {Format.GCC: gcc, Format.GITHUB: github, Format.JSON: as_json}
@@ -101,11 +104,10 @@ FORMS = {Format.GCC: gcc, Format.GITHUB: github, Format.JSON: as_json}
 
 def judge(program: Program, form: Format, path: str) -> int:
     """Writes the verdict on one log, and returns its status."""
-    log = LOG if path == files.STDIN else path
     with files.as_input(path):
         answer = program.run(("check",), None)
-    finding = finding_of(answer, log)
-    emit(FORMS[form](finding, log) + "\n" if finding else answer.text)
+    finding = finding_of(answer, LOG if path == files.STDIN else path)
+    emit(FORMS[form](finding) + "\n" if finding else answer.text)
     if answer.status == Status.MALFORMED and path != files.STDIN:
         header.say(files.file_of(path).read(header.MOST))
     return answer.status
