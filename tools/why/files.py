@@ -3,6 +3,7 @@ from __future__ import annotations
 
 import os
 import shutil
+import stat
 import subprocess
 from collections.abc import Callable, Iterator
 from contextlib import contextmanager
@@ -46,6 +47,13 @@ def file_of(path: str) -> BinaryIO:
     begin = os.pread(file.fileno(), 6, 0)
     packer = next((name for magic, name in PACKERS.items() if begin.startswith(magic)), None)
     return unpacked(path, file, packer) if packer else file
+
+
+def begin_of(path: str, most: int) -> bytes:
+    """The first bytes of a log, where they can be read once more."""
+    if path != STDIN:
+        return file_of(path).read(most)
+    return os.pread(0, most, 0) if stat.S_ISREG(os.fstat(0).st_mode) else b""
 
 
 @contextmanager

@@ -108,8 +108,8 @@ def judge(program: Program, form: Format, path: str) -> int:
         answer = program.run(("check",), None)
     finding = finding_of(answer, LOG if path == files.STDIN else path)
     emit(FORMS[form](finding) + "\n" if finding else answer.text)
-    if answer.status == Status.MALFORMED and path != files.STDIN:
-        header.say(files.file_of(path).read(header.MOST))
+    if answer.status == Status.MALFORMED:
+        header.say(files.begin_of(path, header.MOST))
     return answer.status
 
 

@@ -13,7 +13,7 @@ VERSIONS = ("1", "2", "3", "4")
 LEVELS = ("0", "1", "2")
 CNP = ("cnp", "-")
 # How a file begins that is no text of one byte a letter.
-OTHERS = {b"\x1f\x8b": "gzip packed", b"\xfd7zXZ\0": "xz packed", b"\x28\xb5\x2f\xfd": "zstd packed",
+OTHERS = {b"\x1f\x8b": "gzip packed", b"\xfd7zXZ": "xz packed", b"\x28\xb5\x2f\xfd": "zstd packed",
           b"\xef\xbb\xbf": "begins with a byte order mark", b"\xff\xfe": "has UTF-16", b"\xfe\xff": "has UTF-16"}
 
 
