@@ -47,8 +47,9 @@ def words_of(word: str, arguments: list[str]) -> argparse.Namespace:
     for option in OPTIONS[word]:
         words.add_argument(f"--{option}", **KINDS_OF_OPTIONS.get(option, {"action": "store_true"}))
     asked = words.parse_intermixed_args(arguments)
-    if word == "why" and (asked.svg or asked.html) and len(asked.logs) > 1:
-        words.error("--svg and --html take one log")
+    for option in FOR_ONE_LOG:
+        if getattr(asked, option, None) and len(asked.logs) > 1:
+            words.error(f"--{option} is for one log")
     return asked
 
 
@@ -57,6 +58,7 @@ USAGES = {
     "pending": "bbm pending [LOG..] [--at LABEL] [--nth N]", "partial": "bbm partial [LOG..]",
 }
 OPTIONS = {"why": ["svg", "html", "whole"], "shrink": ["least", "rename"], "pending": ["at", "nth"], "partial": []}
+FOR_ONE_LOG = ("svg", "html")
 KINDS_OF_OPTIONS = {"svg": {}, "html": {}, "at": {}, "nth": {"type": int, "default": 1}}
 
 
