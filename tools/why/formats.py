@@ -65,7 +65,8 @@ def finding_of(answer: Answer, log: str = LOG) -> Finding | None:
         told = f" ({label})" if label and not source else ""
         fields = {"verdict": "refused", "line": line, "rule": int(part["rule"]), "name": part["name"], "at": part["at"]}
         fields |= {"label": label} if label else {}
-        return Finding(log, f"{part['name']} at {part['at']}{told}", f"bbm rule {part['rule']}", source.get("file_line", line), fields | source)
+        message = f"{part['name']} at {part['at']}{told}"
+        return Finding(log, message, f"bbm rule {part['rule']}", source.get("file_line", line), fields | source)
     if part["malformed"]:
         line = int(part["bad"])
         fields = {"verdict": "malformed", "line": line, "cause": int(part["cause"]), "name": part["why"]}
@@ -115,9 +116,11 @@ def judge(program: Program, form: Format, path: str) -> int:
 
 def check(program: Program, arguments: list[str]) -> int:
     """`check --format FORMAT [LOG..]`, or `check --format=FORMAT [LOG..]`."""
-    words = arguments[1:] if arguments[:1] == ["--format"] else [*(word.removeprefix("--format=") for word in arguments[:1]), *arguments[1:]]
-    form, logs = words[:1], words[1:] or [files.STDIN]
+    if arguments[:1] == ["--format"]:
+        form, logs = arguments[1:2], arguments[2:]
+    else:
+        form, logs = [word.removeprefix("--format=") for word in arguments[:1]], arguments[1:]
     if form not in [[form.value] for form in Format] or any(log[:1] == "-" and log != files.STDIN for log in logs):
         emit(USAGE)
         return 3
-    return files.greatest(logs, lambda path: judge(program, Format(form[0]), path), has_heads=False)
+    return files.greatest(logs or [files.STDIN], lambda path: judge(program, Format(form[0]), path), has_heads=False)

@@ -12,9 +12,12 @@ MOST = 300
 VERSIONS = ("1", "2", "3", "4")
 LEVELS = ("0", "1", "2")
 CNP = ("cnp", "-")
-# How a file begins that is no text of one byte a letter.
-OTHERS = {b"\x1f\x8b": "gzip packed", b"\xfd7zXZ": "xz packed", b"\x28\xb5\x2f\xfd": "zstd packed",
-          b"\xef\xbb\xbf": "begins with a byte order mark", b"\xff\xfe": "has UTF-16", b"\xfe\xff": "has UTF-16"}
+PACKED = "the log is {} packed: name it as a file, bbm check LOG"
+# How a file begins that is no text of one byte a letter, and what is said of it.
+OTHERS = {b"\x1f\x8b": PACKED.format("gzip"), b"\xfd7zXZ": PACKED.format("xz"), b"\x28\xb5\x2f\xfd": PACKED.format("zstd"),
+          b"\xef\xbb\xbf": "the log begins with a byte order mark, which has no place in it",
+          b"\xff\xfe": "the log is in UTF-16, and has to be in ASCII", b"\xfe\xff": "the log is in UTF-16, and has to be in ASCII"}
+CRLF = "the lines end with a carriage return and a newline (CRLF), and those of a log with a newline alone: tr -d '\\r' mends it"
 
 
 def listed(values: tuple[str, ...]) -> str:
@@ -62,14 +65,14 @@ def field_fault(words: list[str]) -> str | None:
 
 def fault_of(begin: bytes) -> str | None:
     """What is wrong with how a log begins, its first 300 bytes or all; None where its header is whole and right."""
-    for magic, what in OTHERS.items():
+    for magic, fault in OTHERS.items():
         if begin.startswith(magic):
-            return f"the log is {what}: name it as a file, bbm check LOG" if what.endswith("packed") else f"the log {what}, and a log has plain bytes"
+            return fault
     line, newline, _ = begin.partition(b"\n")
     if not newline:
         return None
     if line.endswith(b"\r"):
-        return "the lines end with a carriage return and a newline (CRLF), and those of a log with a newline alone: tr -d '\\r' takes them out"
+        return CRLF
     words = line.decode("latin-1").split(" ")
     if words[0] != "bbmlog":
         return f"line 1 is no header: it begins with `{words[0][:40]}`, and may only with `bbmlog` and one space"

@@ -21,15 +21,16 @@ COLOURS = {
     "stripe": ("#f5f7f9", "#1b1f24"),
 }
 # What shapes and texts of a class look like: a colour by its name above.
+BOLD = {"font-weight": "bold"}
 LOOKS = {
-    "": {"fill": "ink"}, "title": {"fill": "ink", "font-weight": "bold", "font-size": "13"}, "soft": {"fill": "soft"},
-    "mark": {"fill": "paper", "font-weight": "bold", "font-size": "10.5"}, "effect": {"fill": "ink", "font-weight": "bold", "font-size": "10.5"},
-    "own": {"fill": "ink", "font-weight": "bold", "font-size": "9"}, "refusal": {"fill": "bad", "font-weight": "bold"},
+    "": {"fill": "ink"}, "soft": {"fill": "soft"}, "title": {"fill": "ink", "font-size": "13", **BOLD},
+    "mark": {"fill": "paper", "font-size": "10.5", **BOLD}, "effect": {"fill": "ink", "font-size": "10.5", **BOLD},
+    "own": {"fill": "ink", "font-size": "9", **BOLD}, "refusal": {"fill": "bad", **BOLD},
     "paper": {"fill": "paper"}, "stripe": {"fill": "stripe"}, "band": {"fill": "band"}, "lane": {"stroke": "line"},
-    "live": {"fill": "live"}, "broken": {"fill": "broken"}, "seen": {"fill": "seen"}, "half": {"fill": "half"}, "cleansed": {"fill": "gone"},
-    "alike": {"fill": "bad"}, "dot": {"fill": "mark"}, "dot refused": {"fill": "bad"}, "reach": {"stroke": "mark", "stroke-width": "1.3"},
-    "tile": {"fill": "paper", "stroke": "mark"}, "tile x": {"fill": "paper", "stroke": "gone"},
-    "entry": {"fill": "none", "stroke": "bad", "stroke-width": "2"},
+    "live": {"fill": "live"}, "broken": {"fill": "broken"}, "seen": {"fill": "seen"}, "half": {"fill": "half"},
+    "cleansed": {"fill": "gone"}, "alike": {"fill": "bad"}, "dot": {"fill": "mark"}, "dot refused": {"fill": "bad"},
+    "reach": {"stroke": "mark", "stroke-width": "1.3"}, "tile": {"fill": "paper", "stroke": "mark"},
+    "tile x": {"fill": "paper", "stroke": "gone"}, "entry": {"fill": "none", "stroke": "bad", "stroke-width": "2"},
 }
 # What the letter of an event stands for.
 SIGNS = {"W": "a valid value", "C": "an invalid one", **{letter: word for word, letter in LETTERS.items()}, "X": "refused"}
@@ -100,7 +101,8 @@ class Drawing:
     def ground(self) -> list[str]:
         rows = [box(8, self.y(i), self.width - 16, ROW, "band" if row.refused else "stripe")
                 for i, row in enumerate(self.chart.rows) if row.refused or i % 2]
-        lanes = [f'<line x1="{self.x(pe):.1f}" x2="{self.x(pe):.1f}" y1="{TOP}" y2="{self.bottom}" {look("lane")}/>' for pe in self.chart.pes]
+        lanes = [f'<line x1="{self.x(pe):.1f}" x2="{self.x(pe):.1f}" y1="{TOP}" y2="{self.bottom}" {look("lane")}/>'
+                 for pe in self.chart.pes]
         return rows + lanes
 
     def bars(self) -> list[str]:
