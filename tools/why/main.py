@@ -1,23 +1,28 @@
 #!/usr/bin/env python3
 """From a refusal to the fix: the words `why`, `shrink`, `pending`, `partial` and `check --format` of the script ./bbm.
 
-    ./bbm why [LOG] [--svg FILE] [--html FILE] [--whole] [--format json]
-    ./bbm shrink [LOG] [--least] [--rename]
-    ./bbm pending [LOG] [--pages] [--at LABEL] [--nth N] [--format json]
-    ./bbm partial [LOG]
-    ./bbm check --format gcc|github|json < LOG
+    ./bbm why [LOG..] [--svg FILE] [--html FILE] [--whole] [--format json]
+    ./bbm shrink [LOG..] [--least] [--rename]
+    ./bbm pending [LOG..] [--pages] [--at LABEL] [--nth N] [--format json]
+    ./bbm partial [LOG..]
+    ./bbm check --format gcc|github|json [LOG..]
 
-LOG is a file, or standard input where none is named. The exit status is that of `bbm check` on the log. docs/WHY.md says
-what each prints, and docs/OUTPUT.md the exact forms. The program is that of the environment variable BBM.
+LOG is a file, or standard input where none is named or its name is `-`. The exit status is that of `bbm check` on the log, of
+several the greatest. docs/WHY.md says what each prints, and docs/OUTPUT.md the exact forms. The program is that of the
+environment variable BBM.
 """
 from __future__ import annotations
 
 import argparse
+import os
+import signal
 import sys
 import traceback
 from itertools import islice
 
+import files
 import formats
+import header
 import partial
 import pending_told
 import picture
@@ -26,7 +31,7 @@ import why
 import why_json
 from formats import as_json, finding_of
 from log import Log, written
-from program import Program, Status, Unable, built, emit
+from program import Program, Status, Unable, built, complain, emit
 from shrink import Shrinker
 from source import Source
 from study import study
@@ -38,24 +43,28 @@ class Words(argparse.ArgumentParser):
 
     def error(self, message: str):
         emit("usage: bbm" + self.format_usage().removeprefix("usage: bbm").replace("\n", " ").rstrip() + "\n")
-        sys.stderr.write(f"bbm: {message}\n")
-        sys.exit(3)
+        raise Unable(Status.USAGE, message)
 
 
 def words_of(word: str, arguments: list[str]) -> argparse.Namespace:
     words = Words(prog=f"bbm {word}", usage=USAGES[word], add_help=False)
-    words.add_argument("log", nargs="?")
+    words.add_argument("logs", nargs="*", default=["-"])
     for option in OPTIONS[word]:
         words.add_argument(f"--{option}", **KINDS_OF_OPTIONS.get(option, {"action": "store_true"}))
-    return words.parse_args(arguments)
+    asked = words.parse_intermixed_args(arguments)
+    for option in FOR_ONE_LOG:
+        if getattr(asked, option, None) and len(asked.logs) > 1:
+            words.error(f"--{option} is for one log")
+    return asked
 
 
 USAGES = {
-    "why": "bbm why [LOG] [--svg FILE] [--html FILE] [--whole] [--format json]", "shrink": "bbm shrink [LOG] [--least] [--rename]",
-    "pending": "bbm pending [LOG] [--pages] [--at LABEL] [--nth N] [--format json]", "partial": "bbm partial [LOG]",
+    "why": "bbm why [LOG..] [--svg FILE] [--html FILE] [--whole] [--format json]", "shrink": "bbm shrink [LOG..] [--least] [--rename]",
+    "pending": "bbm pending [LOG..] [--pages] [--at LABEL] [--nth N] [--format json]", "partial": "bbm partial [LOG..]",
 }
 OPTIONS = {"why": ["svg", "html", "whole", "format"], "shrink": ["least", "rename"],
            "pending": ["pages", "at", "nth", "format"], "partial": []}
+FOR_ONE_LOG = ("svg", "html", "format")
 KINDS_OF_OPTIONS = {"svg": {}, "html": {}, "at": {}, "nth": {"type": int, "default": 1},
                     "format": {"choices": ["json"]}}
 
@@ -116,6 +125,15 @@ def say_partial(program: Program, source: Source, _asked: argparse.Namespace) ->
 COMMANDS = {"why": say_why, "shrink": shrink, "pending": say_pending, "partial": say_partial}
 
 
+def judge(program: Program, word: str, path: str, asked: argparse.Namespace) -> int:
+    """The status of a word on one log."""
+    source = Source(path)
+    status = COMMANDS[word](program, source, asked)
+    if status == Status.MALFORMED and source.held:
+        header.say(next(source.again(header.MOST), b""))
+    return status
+
+
 def run(word: str, arguments: list[str]) -> int:
     program = built()
     if word == "check":
@@ -123,30 +141,41 @@ def run(word: str, arguments: list[str]) -> int:
     if word not in COMMANDS:
         raise Unable(3, f"no such word: {word}")
     asked = words_of(word, arguments)
-    return COMMANDS[word](program, Source(asked.log), asked)
+    return files.greatest(asked.logs, lambda path: judge(program, word, path, asked))
 
 
-def main() -> int:
-    if len(sys.argv) < 2:
-        sys.stderr.write(__doc__)
-        return 3
+def status_of(words: list[str]) -> int:
+    """The status of the word, where a fault ends it too: what it is was said then."""
     try:
-        return run(sys.argv[1], sys.argv[2:])
+        if not sys.stdout:
+            raise Unable(Status.UNWRITTEN, "a write of the answer failed: standard output is closed")
+        sys.stdout.reconfigure(errors="surrogateescape")
+        return run(words[0], words[1:])
     except Unable as fault:
-        if str(fault):
-            sys.stderr.write(f"bbm: {fault}\n")
+        complain(fault)
         return fault.status
-    except BrokenPipeError:
-        sys.stderr.close()
-        return Status.UNWRITTEN
     except MemoryError:
-        sys.stderr.write("bbm: there was no memory, so there is no answer\n")
+        complain(Unable(Status.NO_MEMORY, "there was no memory, so there is no answer"))
         return Status.NO_MEMORY
+    except BrokenPipeError:
+        # as other tools end where nobody reads any more
+        signal.signal(signal.SIGPIPE, signal.SIG_DFL)
+        os.kill(os.getpid(), signal.SIGPIPE)
+        return Status.UNWRITTEN
     except Exception:
         # Python would end with status 1, which says that a rule refuses the log.
         traceback.print_exc()
         return 70
 
 
+def main() -> None:
+    if len(sys.argv) < 2:
+        sys.stderr.write(__doc__)
+        sys.exit(3)
+    signal.signal(signal.SIGINT, signal.SIG_DFL)
+    # Python's own end would write again what couldn't be written, and end with a status of its own.
+    os._exit(status_of(sys.argv[1:]))
+
+
 if __name__ == "__main__":
-    sys.exit(main())
+    main()

@@ -4,7 +4,7 @@ from __future__ import annotations
 from html import escape
 
 import why
-from lanes import ALIKE, EFFECTS, LEGEND, Chart, Effect, Row, letter_of
+from lanes import ALIKE, EFFECTS, LEGEND, LETTERS, Chart, Effect, Row, letter_of
 from program import Answer
 from study import Study
 
@@ -13,29 +13,52 @@ LONGEST = 84
 HEADS_EACH = 30
 WIDTHS = {"live": 6, "broken": 10, "seen": 12, "half": 8, "cleansed": 3}
 
-STYLE = """
-.bbm{--paper:#ffffff;--ink:#1c2024;--soft:#68707a;--line:#d9dde2;--live:#9aa7b6;--broken:#ef8d2f;--seen:#cf2f2f;--half:#b98a00;
---gone:#4a8f5a;--bad:#c62828;--mark:#2f5fb3;--band:#fde3e1;--stripe:#f5f7f9}
-@media (prefers-color-scheme:dark){.bbm{--paper:#15181c;--ink:#e6e9ed;--soft:#98a1ab;--line:#333a42;--live:#66727f;--broken:#f0a04b;
---seen:#ef5350;--half:#d9b441;--gone:#6cbf7f;--bad:#ef5350;--mark:#7fa8f0;--band:#46201f;--stripe:#1b1f24}}
-.bbm{background:var(--paper);color:var(--ink)}
-.bbm text{font:12px ui-monospace,"DejaVu Sans Mono",Menlo,Consolas,monospace;fill:var(--ink)}
-.bbm .title{font-weight:bold;font-size:13px}.bbm .soft{fill:var(--soft)}.bbm .mark{font-weight:bold;font-size:10.5px;fill:var(--paper)}
-.bbm .paper{fill:var(--paper)}.bbm .stripe{fill:var(--stripe)}.bbm .band{fill:var(--band)}.bbm .lane{stroke:var(--line)}
-.bbm .live{fill:var(--live)}.bbm .broken{fill:var(--broken)}.bbm .seen{fill:var(--seen)}.bbm .half{fill:var(--half)}
-.bbm .cleansed{fill:var(--gone)}.bbm .alike{fill:var(--bad)}.bbm .dot{fill:var(--mark)}.bbm .dot.refused{fill:var(--bad)}.bbm .reach{stroke:var(--mark);stroke-width:1.3}
-.bbm .effect{font-weight:bold;font-size:10.5px;fill:var(--ink)}.bbm .tile{fill:var(--paper);stroke:var(--mark)}.bbm .tile.x{stroke:var(--gone)}
-.bbm .own{font-weight:bold;font-size:9px;fill:var(--ink)}.bbm .refusal{font-weight:bold;fill:var(--bad)}
-.bbm .entry{fill:none;stroke:var(--bad);stroke-width:2}
-"""
+# Each colour in the light, and in the dark.
+COLOURS = {
+    "paper": ("#ffffff", "#15181c"), "ink": ("#1c2024", "#e6e9ed"), "soft": ("#68707a", "#98a1ab"), "line": ("#d9dde2", "#333a42"),
+    "live": ("#9aa7b6", "#66727f"), "broken": ("#ef8d2f", "#f0a04b"), "seen": ("#cf2f2f", "#ef5350"), "half": ("#b98a00", "#d9b441"),
+    "gone": ("#4a8f5a", "#6cbf7f"), "bad": ("#c62828", "#ef5350"), "mark": ("#2f5fb3", "#7fa8f0"), "band": ("#fde3e1", "#46201f"),
+    "stripe": ("#f5f7f9", "#1b1f24"),
+}
+# What shapes and texts of a class look like: a colour by its name above.
+BOLD = {"font-weight": "bold"}
+LOOKS = {
+    "": {"fill": "ink"}, "soft": {"fill": "soft"}, "title": {"fill": "ink", "font-size": "13", **BOLD},
+    "mark": {"fill": "paper", "font-size": "10.5", **BOLD}, "effect": {"fill": "ink", "font-size": "10.5", **BOLD},
+    "own": {"fill": "ink", "font-size": "9", **BOLD}, "refusal": {"fill": "bad", **BOLD},
+    "paper": {"fill": "paper"}, "stripe": {"fill": "stripe"}, "band": {"fill": "band"}, "lane": {"stroke": "line"},
+    "live": {"fill": "live"}, "broken": {"fill": "broken"}, "seen": {"fill": "seen"}, "half": {"fill": "half"},
+    "cleansed": {"fill": "gone"}, "alike": {"fill": "bad"}, "dot": {"fill": "mark"}, "dot refused": {"fill": "bad"},
+    "reach": {"stroke": "mark", "stroke-width": "1.3"}, "tile": {"fill": "paper", "stroke": "mark"},
+    "tile x": {"fill": "paper", "stroke": "gone"}, "entry": {"fill": "none", "stroke": "bad", "stroke-width": "2"},
+}
+# What the letter of an event stands for.
+SIGNS = {"W": "a valid value", "C": "an invalid one", **{letter: word for word, letter in LETTERS.items()}, "X": "refused"}
+FONT = 'font-family="ui-monospace,DejaVu Sans Mono,Menlo,Consolas,monospace" font-size="12"'
+
+
+def look(name: str) -> str:
+    """The attributes of a class: its colours in the light stand in them, so that a viewer without styles shows them."""
+    values = LOOKS.get(name) or LOOKS[name.split(" ", 1)[0]]
+    parts = [f'{key}="{COLOURS.get(value, (value,))[0]}"' for key, value in values.items()]
+    return " ".join([*([f'class="{name}"'] if name else []), *parts])
+
+
+def dark(name: str, values: dict[str, str]) -> str:
+    """The rule of a class for the dark."""
+    colours = ";".join(f"{key}:{COLOURS[value][1]}" for key, value in values.items() if value in COLOURS)
+    return f".bbm {'.' + name.replace(' ', '.') if name else 'text'}{{{colours}}}"
+
+
+STYLE = "@media (prefers-color-scheme:dark){\n" + "\n".join(dark(name, values) for name, values in LOOKS.items()) + "\n}"
 
 
 def box(x: float, y: float, width: float, height: float, name: str, more: str = "") -> str:
-    return f'<rect x="{x:.1f}" y="{y:.1f}" width="{width:.1f}" height="{height:.1f}" class="{name}"{more}/>'
+    return f'<rect x="{x:.1f}" y="{y:.1f}" width="{width:.1f}" height="{height:.1f}" {look(name)}{more}/>'
 
 
 def text(x: float, y: float, name: str, words: str, anchor: str = "start") -> str:
-    return f'<text x="{x:.1f}" y="{y:.1f}" class="{name}" text-anchor="{anchor}" xml:space="preserve">{escape(words)}</text>'
+    return f'<text x="{x:.1f}" y="{y:.1f}" {look(name)} text-anchor="{anchor}" xml:space="preserve">{escape(words)}</text>'
 
 
 class Drawing:
@@ -78,7 +101,8 @@ class Drawing:
     def ground(self) -> list[str]:
         rows = [box(8, self.y(i), self.width - 16, ROW, "band" if row.refused else "stripe")
                 for i, row in enumerate(self.chart.rows) if row.refused or i % 2]
-        lanes = [f'<line x1="{self.x(pe):.1f}" x2="{self.x(pe):.1f}" y1="{TOP}" y2="{self.bottom}" class="lane"/>' for pe in self.chart.pes]
+        lanes = [f'<line x1="{self.x(pe):.1f}" x2="{self.x(pe):.1f}" y1="{TOP}" y2="{self.bottom}" {look("lane")}/>'
+                 for pe in self.chart.pes]
         return rows + lanes
 
     def bars(self) -> list[str]:
@@ -101,7 +125,7 @@ class Drawing:
         there = [pe for pe in self.chart.pes if pe in row.effects and pe != row.event.pe]
         middle = self.y(number) + ROW / 2
         ends = [self.x(pe) for pe in there] + ([self.x(row.event.pe)] if row.event.pe in self.chart.pes else [])
-        parts = [f'<line x1="{min(ends):.1f}" x2="{max(ends):.1f}" y1="{middle}" y2="{middle}" class="reach"/>'] if there else []
+        parts = [f'<line x1="{min(ends):.1f}" x2="{max(ends):.1f}" y1="{middle}" y2="{middle}" {look("reach")}/>'] if there else []
         for pe in there:
             effect = row.effects[pe].value
             parts.append(box(self.x(pe) - 7, middle - 7, 14, 14, f"tile {effect}", ' rx="3"'))
@@ -113,13 +137,13 @@ class Drawing:
         words = str(row.event)
         shown = words if len(words) <= LONGEST else words[:LONGEST - 2] + ".."
         plain, label = (shown.split(" @", 1) + [""])[:2]
-        tail = f'<tspan class="soft"> @{escape(label)}</tspan>' if label else ""
-        tail += '<tspan class="refusal">   refused</tspan>' if row.refused else ""
+        tail = f'<tspan {look("soft")}> @{escape(label)}</tspan>' if label else ""
+        tail += f'<tspan {look("refusal")}>   refused</tspan>' if row.refused else ""
         name = "dot refused" if row.refused else "dot"
         parts = [text(LEFT - 12, y + 4, "soft", str(row.line.at), "end"),
-                 f'<text x="{self.words_at}" y="{y + 4}" xml:space="preserve">{escape(plain)}{tail}</text>']
+                 f'<text x="{self.words_at}" y="{y + 4}" {look("")} xml:space="preserve">{escape(plain)}{tail}</text>']
         if row.event.pe in self.chart.pes:
-            parts.append(f'<circle cx="{self.x(row.event.pe):.1f}" cy="{y}" r="7.5" class="{name}"/>')
+            parts.append(f'<circle cx="{self.x(row.event.pe):.1f}" cy="{y}" r="7.5" {look(name)}/>')
             parts.append(text(self.x(row.event.pe), y + 3.7, "mark", letter_of(row), "middle"))
             own = row.effects.get(row.event.pe)
             parts += [text(self.x(row.event.pe) + 8, y + 9, "own", own.value)] if own else []
@@ -130,7 +154,8 @@ class Drawing:
         done = dict.fromkeys(effect for row in self.chart.rows for effect in row.effects.values())
         rows = [(phase, f"{phase}: {LEGEND[phase]}") for phase in LEGEND if phase in phases]
         rows += [(effect.value, EFFECTS[effect]) for effect in Effect if effect in done]
-        rows.append(("W", "in a circle the event: W a valid value, C an invalid one, D dsb, T tlbi, S isb, M msr, L lock, K unlock, X refused"))
+        letters = dict.fromkeys(letter_of(row) for row in self.chart.rows)
+        rows.append(("W", "in a circle the event: " + ", ".join(f"{letter} {SIGNS[letter]}" for letter in SIGNS if letter in letters)))
         if self.chart.has_alike:
             rows.append(("alike", f"column !: {ALIKE}"))
         return rows + ([("E", "an outline is the entry of the run")] if self.chart.entries else [])
@@ -152,8 +177,8 @@ class Drawing:
         if len(chart.rows) > HEADS_EACH:
             parts += self.heads(self.bottom + 16)
         size = f'width="{self.width:.0f}" height="{self.height:.0f}" viewBox="0 0 {self.width:.0f} {self.height:.0f}"'
-        return f'<svg xmlns="http://www.w3.org/2000/svg" class="bbm" {size} role="img">\n<title>{escape(self.title)}</title>\n' \
-               f"<style>{STYLE}</style>\n" + "\n".join([*parts, *self.legend_parts()]) + "\n</svg>\n"
+        return f'<svg xmlns="http://www.w3.org/2000/svg" class="bbm" {size} {FONT} role="img">\n<title>{escape(self.title)}</title>\n' \
+               f"<style>\n{STYLE}\n</style>\n" + "\n".join([*parts, *self.legend_parts()]) + "\n</svg>\n"
 
 
 def svg(_study: Study, views, answer: Answer) -> str:

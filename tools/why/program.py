@@ -95,15 +95,26 @@ class Unable(Exception):
         self.status = status
 
 
+# What the next text begins with, of several logs the name of each.
+HEADS: list[str] = []
+
+
 def emit(text: str) -> None:
     """Writes to standard output."""
     try:
-        sys.stdout.write(text)
+        sys.stdout.write((HEADS.pop() if HEADS else "") + text)
         sys.stdout.flush()
     except BrokenPipeError:
         raise
     except OSError as fault:
         raise Unable(Status.UNWRITTEN, f"a write of the answer failed: {fault.strerror}") from fault
+
+
+def complain(fault: Unable) -> None:
+    """Says on standard error what the fault is, where it is said anywhere."""
+    if str(fault) and sys.stderr:
+        with contextlib.suppress(OSError):
+            sys.stderr.write(f"bbm: {fault}\n")
 
 
 @dataclass

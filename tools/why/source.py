@@ -11,18 +11,19 @@ import tempfile
 from collections.abc import Iterator
 from itertools import islice
 
+from files import STDIN, file_of
 from program import Status, Unable
 
 PART = 1 << 20
 
 
 class Source:
-    """The bytes of a file, or of standard input where none is named or its name is `-`."""
+    """The bytes of a file, or of standard input where its name is `-`."""
 
-    def __init__(self, path: str | None):
-        self.name = "standard input" if path in (None, "-") else path
+    def __init__(self, path: str):
+        self.name = "standard input" if path == STDIN else path
+        self.input = file_of(path)
         with self.faults():
-            self.input = open(0 if path in (None, "-") else path, "rb", buffering=0)
             number = self.input.fileno()
             is_file = stat.S_ISREG(os.fstat(number).st_mode)
             self.begin = os.lseek(number, 0, os.SEEK_CUR) if is_file else 0
