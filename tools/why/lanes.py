@@ -4,8 +4,9 @@ What a row shows of the place after it is the answer of the program to a made wr
 """
 from __future__ import annotations
 
-from dataclasses import dataclass, field
+from dataclasses import dataclass, field, replace
 from enum import Enum
+from itertools import groupby
 
 import words
 from log import Event, Header, Line, Lines, header_of, written
@@ -15,6 +16,7 @@ from style import BOLD, DIM, RED, Style
 
 ALL_SHOWN = 16
 BREAK_BEFORE_MAKE = 4
+SET_UP = ("init", "root", "msr", "isb", "dsb", "lock")
 
 
 class Effect(Enum):
@@ -28,15 +30,30 @@ class Effect(Enum):
 
 @dataclass
 class Row:
+    """A line, or the lines of set-up for which the row stands, of which `line` is the first."""
+
     line: Line
     phases: tuple[str, ...] = ()
     effects: dict[int, Effect] = field(default_factory=dict)
     refused: bool = False
     alike: bool = False
+    set_up: Lines = ()
 
     @property
     def event(self) -> Event:
         return self.line.event
+
+    @property
+    def pe(self) -> int | None:
+        """The PE of the row's event; None where it stands for several."""
+        return None if self.set_up else self.event.pe
+
+    def words(self, labelled: bool = True) -> str:
+        """What the row says."""
+        if self.set_up:
+            kinds = ", ".join(dict.fromkeys(line.event.word for line in self.set_up))
+            return f"{len(self.set_up)} lines of set-up up to line {self.set_up[-1].at}: {kinds}"
+        return str(self.event) if labelled else self.event.plain
 
 
 @dataclass
@@ -58,6 +75,26 @@ class Chart:
     def living(self, row: int, pe: int) -> bool:
         """Whether a told run has a stale entry at a PE behind this row."""
         return any(of == pe and first <= row < last for of, first, last in self.entries)
+
+    def is_set_up(self, row: Row) -> bool:
+        """Whether a row is of set-up: it clears nothing, invalidates nothing, and isn't a write of the place."""
+        event = row.event
+        return event.word in SET_UP or event.word == "w" and event.place != self.place and event.value & 1 == 1
+
+    def first_that_counts(self) -> int:
+        """The first row behind which something is shown, or that is refused."""
+        shown = [number for number, row in enumerate(self.rows) if row.phases or row.effects or row.alike or row.refused]
+        return min([shown[0], *(first for _, first, _ in self.entries)])
+
+    def folded(self, named: set[int]) -> Chart:
+        """The chart in which each run of set-up before the first row that counts is one row; the named lines keep theirs."""
+        count, rows = self.first_that_counts(), []
+        for is_set_up, group in groupby(self.rows[:count], lambda row: self.is_set_up(row) and row.line.at not in named):
+            run = list(group)
+            rows += [replace(run[0], set_up=tuple(row.line for row in run))] if is_set_up and len(run) > 1 else run
+        gone = count - len(rows)
+        entries = [(pe, first - gone, last - gone) for pe, first, last in self.entries]
+        return replace(self, rows=rows + self.rows[count:], entries=entries)
 
 
 # ---- what the program says
@@ -151,6 +188,8 @@ def letter_of(row: Row) -> str:
     """The mark of an event in its PE's column: W for a valid value, C for an invalid one, and for the refused line a cross."""
     if row.refused:
         return "X"
+    if row.set_up:
+        return ""
     if row.event.word == "w":
         return "W" if row.event.value & 1 else "C"
     return LETTERS.get(row.event.word, "?")
@@ -167,7 +206,7 @@ class Text:
     def cell(self, number: int, row: Row, pe: int) -> str:
         """Two columns: the event or what holds at the PE, and beside its own event what that did here."""
         effect = row.effects[pe].value if pe in row.effects else ""
-        if row.event.pe == pe:
+        if row.pe == pe:
             mark = self.painted(letter_of(row), BOLD, *([RED] if row.refused else []))
             return mark + (self.painted(effect, BOLD) or " ")
         if effect:
@@ -190,9 +229,9 @@ class Text:
         cells = "".join(self.cell(number, row, pe) for pe in self.chart.pes)
         cells += (self.painted("!", RED) + " " if row.alike else "  ") if self.chart.has_alike else ""
         room = self.width - self.digits - 4 - 2 * (len(self.chart.pes) + self.chart.has_alike)
-        text = str(row.event) + ("  <- refused" if row.refused else "")
-        if len(text) > room and row.event.label:
-            text = row.event.plain + ("  <- refused" if row.refused else "")
+        end = "  <- refused" if row.refused else ""
+        text = row.words() + end
+        text = text if len(text) <= room else row.words(labelled=False) + end
         text = text if len(text) <= room else text[:max(0, room - 2)] + ".."
         return f"{row.line.at:>{self.digits}}  {cells} {self.painted(text, *([BOLD, RED] if row.refused else []))}".rstrip()
 

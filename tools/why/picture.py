@@ -75,7 +75,7 @@ class Drawing:
         self.height = self.bottom + 34 + 18 * len(self.legend) + 8
 
     def words(self, row: Row) -> str:
-        return str(row.event) + ("   refused" if row.refused else "")
+        return row.words() + ("   refused" if row.refused else "")
 
     def x(self, pe: int) -> float:
         return LEFT + LANE * self.chart.pes.index(pe) + LANE / 2
@@ -122,9 +122,9 @@ class Drawing:
 
     def reach(self, number: int, row: Row) -> list[str]:
         """A line from the PE of a barrier or TLBI to those at which it does something, each with its letter."""
-        there = [pe for pe in self.chart.pes if pe in row.effects and pe != row.event.pe]
+        there = [pe for pe in self.chart.pes if pe in row.effects and pe != row.pe]
         middle = self.y(number) + ROW / 2
-        ends = [self.x(pe) for pe in there] + ([self.x(row.event.pe)] if row.event.pe in self.chart.pes else [])
+        ends = [self.x(pe) for pe in there] + ([self.x(row.pe)] if row.pe in self.chart.pes else [])
         parts = [f'<line x1="{min(ends):.1f}" x2="{max(ends):.1f}" y1="{middle}" y2="{middle}" {look("reach")}/>'] if there else []
         for pe in there:
             effect = row.effects[pe].value
@@ -134,7 +134,7 @@ class Drawing:
 
     def event(self, number: int, row: Row) -> list[str]:
         y = self.y(number) + ROW / 2
-        words = str(row.event)
+        words = row.words()
         shown = words if len(words) <= LONGEST else words[:LONGEST - 2] + ".."
         plain, label = (shown.split(" @", 1) + [""])[:2]
         tail = f'<tspan {look("soft")}> @{escape(label)}</tspan>' if label else ""
@@ -142,11 +142,11 @@ class Drawing:
         name = "dot refused" if row.refused else "dot"
         parts = [text(LEFT - 12, y + 4, "soft", str(row.line.at), "end"),
                  f'<text x="{self.words_at}" y="{y + 4}" {look("")} xml:space="preserve">{escape(plain)}{tail}</text>']
-        if row.event.pe in self.chart.pes:
-            parts.append(f'<circle cx="{self.x(row.event.pe):.1f}" cy="{y}" r="7.5" {look(name)}/>')
-            parts.append(text(self.x(row.event.pe), y + 3.7, "mark", letter_of(row), "middle"))
-            own = row.effects.get(row.event.pe)
-            parts += [text(self.x(row.event.pe) + 8, y + 9, "own", own.value)] if own else []
+        if row.pe in self.chart.pes:
+            parts.append(f'<circle cx="{self.x(row.pe):.1f}" cy="{y}" r="7.5" {look(name)}/>')
+            parts.append(text(self.x(row.pe), y + 3.7, "mark", letter_of(row), "middle"))
+            own = row.effects.get(row.pe)
+            parts += [text(self.x(row.pe) + 8, y + 9, "own", own.value)] if own else []
         return parts
 
     def legend_rows(self) -> list[tuple[str, str]]:

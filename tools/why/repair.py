@@ -161,3 +161,8 @@ def anchors(repairs: list[Repair]) -> set[int]:
     return {at for repair in repairs for at in repair.change.touched}
 
 
+def positions(repairs: list[Repair]) -> set[int]:
+    """The lines at which the repairs change something, those too behind which they put something in."""
+    return {position_of(edit) for repair in repairs for edit in repair.change.edits}
+
+

@@ -8,6 +8,7 @@ import lanes
 import run
 from log import Lines, written
 from program import Answer
+from repair import positions
 from rules import cause_of, rule_of
 from shrink import reduced
 from study import Study
@@ -140,7 +141,7 @@ def views_of(study: Study, whole: bool) -> Views:
     chart = lanes.chart_of(study.program, study.header, lines, study.refusal, watched(study))
     if told and lines is told.lines:
         chart.entries = run.lives(told)
-    return Views(told, no_run, chart)
+    return Views(told, no_run, chart if whole else chart.folded(positions(study.repairs)))
 
 
 def parts_of(study: Study, views: Views, style: Style) -> list[list[str]]:
