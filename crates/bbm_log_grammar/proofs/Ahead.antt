@@ -1,12 +1,12 @@
 -- The parts of a line at the front of some bytes, put together.
-use Rattle.bbm_log_grammar.proofs.Common.{◌≡◌, ◌≢◌, ℕ, zero, suc, ◌+◌, ◌-◌, ◌*◌, ◌<◌, ◌≤◌, Bool, true, false, cond}
-use Rattle.bbm_log_grammar.proofs.Common.{List, [], arith, take-append-drop, length-take, le-leb, take_all, take_rest}
+use Rattle.bbm_log_grammar.proofs.Common.{◌≡◌, ◌≢◌, ℕ, zero, suc, ◌+◌, ◌-◌, ◌*◌, ◌/◌, ◌%◌, ◌<◌, ◌≤◌, Bool, true, false, cond}
+use Rattle.bbm_log_grammar.proofs.Common.{List, [], ⊤, arith, take-append-drop, length-take, le-leb, take_all, take_rest}
 use Rattle.bbm_log_grammar.proofs.Common.{digit_value, list_all, Full, Inner, Non, Dsb, All, Loads, Stores, Event}
 use Rattle.bbm_log_grammar.proofs.Common.{item_fits, Heading, is_label, is_label_byte, event_fields, joined, dsb_word}
 use Rattle.bbm_log_grammar.proofs.Common.{op_word, reg_word, Reg, Ttbr0El2, VttbrEl2, Ttbr0El1, Ttbr1El1, TlbiOp}
 use Rattle.bbm_log_grammar.proofs.Common.{Vae2is, Vale2is, Vae1is, Vale1is, Ipas2e1is, Vmalle1is, Vmalls12e1is}
 use Rattle.bbm_log_grammar.proofs.Common.{Vaale1is, Alle2is, Aside1is, is_lower_digit}
-use Rattle.std.proofs.Common.{append_assoc, append-nil, length-append}
+use Rattle.std.proofs.Common.{Fits, w8, append_assoc, append-nil, length-append}
 use Rattle.std.proofs.Common.{
   ◌∷◌,
   ◌++◌,
@@ -26,16 +26,36 @@ use Rattle.std.proofs.Common.{
   ◌∙◌,
 }
 use Rattle.std.proofs.Math.Seq.{take-append_seam, take-append-add}
+use Rattle.std.specs.Cmp.Lexicographic.{pointwise, same_text}
+use Rattle.std.specs.Prelude.{nat_eq}
 use Rattle.std.specs.Fmt.{digits}
 use Rattle.bbm_events.specs.declared.event.Event.TheVariants as event
 use Rattle.bbm_events.specs.declared.event.Item.TheVariants as item
 use Rattle.bbm_events.specs.Lines.{item_line, item_of}
 use Rattle.bbm_events.specs.Spelling.{hex, is_plain}
 use Rattle.bbm_tlbi_scope.specs.Operations.{has_operand}
-use Rattle.bbm_log_grammar.specs.Ahead.{StandsFirst, label_part}
-use Rattle.bbm_log_grammar.proofs.Begun.{begins, Has}
+use Rattle.bbm_log_grammar.specs.Ahead.{StandsFirst, label_part, four_bytes}
 use Rattle.bbm_log_grammar.proofs.Numerals.{is_base_10, text_value, lower_below}
 use Rattle.bbm_log_grammar.proofs.Parts.{one_label}
+
+-- these codes stand in the text, from the position on
+abbrev Has : List ℕ → ℕ → List ℕ → Type 0
+Has text i [] = ⊤
+Has text i (code ∷ more) = (get_or text i 0 ≡ code) × Has text (suc i) more
+
+-- the same of the text behind its first byte
+behind : (byte : ℕ) (bytes : List ℕ) (i : ℕ) (word : List ℕ) → Has (byte ∷ bytes) (suc i) word → Has bytes i word
+behind byte bytes i [] has = tt
+behind byte bytes i (code ∷ more) has = (has.0, behind byte bytes (suc i) more has.1)
+
+-- the text is the word and what stands behind it
+begins : (word text : List ℕ) → length word ≤ length text → Has text 0 word → text ≡ word ++ drop (length word) text
+begins [] text some has = refl
+begins (code ∷ more) [] some has = absurd (omega arith)
+begins (code ∷ more) (byte ∷ bytes) some has =
+    let is : byte ≡ code = has.0 in
+    let rest : bytes ≡ more ++ drop (length more) bytes = begins more bytes (omega arith) (behind byte bytes 0 more has.1) in
+    ap (λ (b : ℕ). b ∷ bytes) is ∙ ap (λ (l : List ℕ). code ∷ l) rest
 
 -- the word that the text begins with, and the slice behind it
 front_word : (word s : List ℕ) → length word ≤ length s → Has s 0 word
@@ -70,6 +90,26 @@ two_digits (x ∷ y ∷ ys) tens ones some led first second e f =
     let all : take (length (x ∷ y ∷ ys) - 2) ys ≡ ys = take_all (length (x ∷ y ∷ ys) - 2) ys (omega arith) in
     rw (all, value, spelled) refl
 
+-- a number of three digits
+pub three_digits : (s : List ℕ) (one two three : ℕ) → 3 ≤ length s → one ≢ 0 → is_lower_digit 10 (get_or s 0 0) ≡ true
+    → is_lower_digit 10 (get_or s 1 0) ≡ true → is_lower_digit 10 (get_or s 2 0) ≡ true
+    → one ≡ digit_value (get_or s 0 0) → two ≡ digit_value (get_or s 1 0) → three ≡ digit_value (get_or s 2 0)
+    → s ≡ decimal ((one * 10 + two) * 10 + three) ++ take (length s - 3) (drop 3 s)
+three_digits [] one two three some led is1 is2 is3 e f g = absurd (omega arith)
+three_digits (x ∷ []) one two three some led is1 is2 is3 e f g = absurd (omega arith)
+three_digits (x ∷ y ∷ []) one two three some led is1 is2 is3 e f g = absurd (omega arith)
+three_digits (x ∷ y ∷ z ∷ zs) one two three some led is1 is2 is3 e f g =
+    let a : digit_value x < 10 = lower_below 10 is_base_10 x is1 in
+    let b : digit_value y < 10 = lower_below 10 is_base_10 y is2 in
+    let c : digit_value z < 10 = lower_below 10 is_base_10 z is3 in
+    let value : (one * 10 + two) * 10 + three ≡ ((0 * 10 + digit_value x) * 10 + digit_value y) * 10 + digit_value z =
+    omega (arith, e, f, g) in
+    let lead : x ≡ 48 → (y ∷ z ∷ []) ≡ [] = λ is. absurd (led (e ∙ ap digit_value is)) in
+    let spelled : decimal (((0 * 10 + digit_value x) * 10 + digit_value y) * 10 + digit_value z) ≡ x ∷ y ∷ z ∷ [] =
+    text_value 10 is_base_10 x (y ∷ z ∷ []) lead (rw (is1, is2, is3) refl) (omega (arith, a, b, c)) in
+    let all : take (length (x ∷ y ∷ z ∷ zs) - 3) zs ≡ zs = take_all (length (x ∷ y ∷ z ∷ zs) - 3) zs (omega arith) in
+    rw (all, value, spelled) refl
+
 -- two fields, and three, and what stands behind them
 
 two_fields : (one two s a b : List ℕ) → s ≡ one ++ a → a ≡ 32 ∷ (two ++ b) → s ≡ (one ++ 32 ∷ two) ++ b
@@ -79,13 +119,6 @@ three_fields : (one two three s a b c : List ℕ) → s ≡ one ++ a → a ≡ 3
     → s ≡ (one ++ 32 ∷ (two ++ 32 ∷ three)) ++ c
 three_fields one two three s a b c e f g =
     two_fields one (two ++ 32 ∷ three) s a c e (f ∙ ap (λ l. 32 ∷ l) (two_fields two three (two ++ b) b c refl g))
-
--- the fields of a write
-pub write_fields : (pe place value : ℕ) (s a b c : List ℕ) → s ≡ decimal pe ++ a → a ≡ 32 ∷ (hex place ++ b)
-    → b ≡ 32 ∷ (hex value ++ c)
-    → 119 ∷ 32 ∷ s ≡ joined (event_fields (event.Write pe place value)) ++ c
-write_fields pe place value s a b c first second third =
-    ap (λ l. 119 ∷ 32 ∷ l) (three_fields (decimal pe) (hex place) (hex value) s a b c first second third)
 
 -- an event and its label
 line_is : (e : Event) (label : Option (List ℕ)) (rest : List ℕ)
@@ -129,24 +162,7 @@ label_is s (suc k) some few within each =
     let long : length (take (suc k) s) ≡ suc k = omega (arith, length-take (suc k) s) in
     rw (long, le-leb 1 (suc k) (omega arith), le-leb (suc k) 32 few, each) refl
 
--- the fields of an ISB
-pub isb_fields : (pe : ℕ) (s a : List ℕ) → s ≡ decimal pe ++ a
-    → 105 ∷ 115 ∷ 98 ∷ 32 ∷ s ≡ joined (event_fields (event.Isb pe)) ++ a
-isb_fields pe s a first = ap (λ l. 105 ∷ 115 ∷ 98 ∷ 32 ∷ l) first
-
--- the word of an event line, in the form of a slice of what follows
-
-pub word_w : (s front a : List ℕ) → 2 ≤ length s → get_or s 0 0 ≡ 119 → get_or s 1 0 ≡ 32
-    → 119 ∷ 32 ∷ take (length s - 2) (drop 2 s) ≡ front ++ a → s ≡ front ++ a
-word_w s front a some h0 h1 e =
-    front_word (codes "w ") s some (h0, (h1, tt)) ∙ e
-
-pub word_isb : (s front a : List ℕ) → 4 ≤ length s → get_or s 0 0 ≡ 105 → get_or s 1 0 ≡ 115 → get_or s 2 0 ≡ 98
-    → get_or s 3 0 ≡ 32 → 105 ∷ 115 ∷ 98 ∷ 32 ∷ take (length s - 4) (drop 4 s) ≡ front ++ a → s ≡ front ++ a
-word_isb s front a some h0 h1 h2 h3 e =
-    front_word (codes "isb ") s some (h0, (h1, (h2, (h3, tt)))) ∙ e
-
--- a hex spelling behind a space, in that form
+-- a hex spelling behind a space, in the form of a slice of what follows
 pub hex_begun : (s : List ℕ) (n : ℕ) (a : List ℕ) → 3 ≤ length s → get_or s 0 0 ≡ 32 → get_or s 1 0 ≡ 48
     → get_or s 2 0 ≡ 120
     → take (length s - 3) (drop 3 s) ≡ digits 16 false n ++ a → s ≡ 32 ∷ (hex n ++ a)
@@ -172,17 +188,6 @@ label_end s count within some h0 =
     sym (take-append-drop count s) ∙ ap (λ l. take count s ++ l) (sym (take_rest s count)
     ∙ plain_end (take (length s - count) (drop count s)) some h0)
 
--- the fields of a DSB
-pub dsb_fields : (pe : ℕ) (dsb : Dsb) (s a b : List ℕ) → s ≡ decimal pe ++ a → a ≡ 32 ∷ (dsb_word dsb ++ b)
-    → 100 ∷ 115 ∷ 98 ∷ 32 ∷ s ≡ joined (event_fields (event.Dsb pe dsb)) ++ b
-dsb_fields pe dsb s a b first second =
-    ap (λ l. 100 ∷ 115 ∷ 98 ∷ 32 ∷ l) (two_fields (decimal pe) (dsb_word dsb) s a b first second)
-
-pub word_dsb : (s front a : List ℕ) → 4 ≤ length s → get_or s 0 0 ≡ 100 → get_or s 1 0 ≡ 115 → get_or s 2 0 ≡ 98
-    → get_or s 3 0 ≡ 32 → 100 ∷ 115 ∷ 98 ∷ 32 ∷ take (length s - 4) (drop 4 s) ≡ front ++ a → s ≡ front ++ a
-word_dsb s front a some h0 h1 h2 h3 e =
-    front_word (codes "dsb ") s some (h0, (h1, (h2, (h3, tt)))) ∙ e
-
 -- the options of most barriers
 
 pub option_ish : (s : List ℕ) → 4 ≤ length s → get_or s 0 0 ≡ 32 → get_or s 1 0 ≡ 105 → get_or s 2 0 ≡ 115
@@ -197,47 +202,6 @@ pub option_ishst : (s : List ℕ) → 6 ≤ length s → get_or s 0 0 ≡ 32 →
     → s ≡ 32 ∷ (dsb_word (record { domain = Inner; types = Stores }) ++ take (length s - 6) (drop 6 s))
 option_ishst s some h0 h1 h2 h3 h4 h5 =
     front_word (codes " ishst") s some (h0, (h1, (h2, (h3, (h4, (h5, tt))))))
-
--- further options
-pub option_nsh : (s : List ℕ) → 4 ≤ length s → get_or s 0 0 ≡ 32 → get_or s 1 0 ≡ 110 → get_or s 2 0 ≡ 115
-    → get_or s 3 0 ≡ 104
-    → s ≡ 32 ∷ (dsb_word (record { domain = Non; types = All }) ++ take (length s - 4) (drop 4 s))
-option_nsh s some h0 h1 h2 h3 =
-    front_word (codes " nsh") s some (h0, (h1, (h2, (h3, tt))))
-
-pub option_sy : (s : List ℕ) → 3 ≤ length s → get_or s 0 0 ≡ 32 → get_or s 1 0 ≡ 115 → get_or s 2 0 ≡ 121
-    → s ≡ 32 ∷ (dsb_word (record { domain = Full; types = All }) ++ take (length s - 3) (drop 3 s))
-option_sy s some h0 h1 h2 =
-    front_word (codes " sy") s some (h0, (h1, (h2, tt)))
-
-pub option_ld : (s : List ℕ) → 3 ≤ length s → get_or s 0 0 ≡ 32 → get_or s 1 0 ≡ 108 → get_or s 2 0 ≡ 100
-    → s ≡ 32 ∷ (dsb_word (record { domain = Full; types = Loads }) ++ take (length s - 3) (drop 3 s))
-option_ld s some h0 h1 h2 =
-    front_word (codes " ld") s some (h0, (h1, (h2, tt)))
-
-pub ruleset further_options = (option_nsh, option_sy, option_ld)
-
--- the fields of a TLBI with an operand, and without one
-
-pub tlbi_fields : (pe : ℕ) (op : TlbiOp) (xt : ℕ) (s a b d : List ℕ) → s ≡ decimal pe ++ a
-    → a ≡ 32 ∷ (op_word op ++ b) → has_operand op ≡ true
-    → b ≡ 32 ∷ (hex xt ++ d) → 116 ∷ 108 ∷ 98 ∷ 105 ∷ 32 ∷ s ≡ joined (event_fields (event.Tlbi pe op xt)) ++ d
-tlbi_fields pe op xt s a b d first second has third =
-    ap (λ l. 116 ∷ 108 ∷ 98 ∷ 105 ∷ 32 ∷ l) (three_fields (decimal pe) (op_word op) (hex xt) s a b d first second third)
-    ∙ ap (λ (t : Bool). joined (codes "tlbi" ∷ decimal pe ∷ op_word op ∷ cond t (hex xt ∷ []) []) ++ d) (sym has)
-
-pub tlbi_alone : (pe : ℕ) (op : TlbiOp) (xt : ℕ) (s a b : List ℕ) → s ≡ decimal pe ++ a
-    → a ≡ 32 ∷ (op_word op ++ b) → has_operand op ≡ false
-    → 116 ∷ 108 ∷ 98 ∷ 105 ∷ 32 ∷ s ≡ joined (event_fields (event.Tlbi pe op xt)) ++ b
-tlbi_alone pe op xt s a b first second has =
-    ap (λ l. 116 ∷ 108 ∷ 98 ∷ 105 ∷ 32 ∷ l) (two_fields (decimal pe) (op_word op) s a b first second)
-    ∙ ap (λ (t : Bool). joined (codes "tlbi" ∷ decimal pe ∷ op_word op ∷ cond t (hex xt ∷ []) []) ++ b) (sym has)
-
-pub word_tlbi : (s front a : List ℕ) → 5 ≤ length s → get_or s 0 0 ≡ 116 → get_or s 1 0 ≡ 108 → get_or s 2 0 ≡ 98
-    → get_or s 3 0 ≡ 105 → get_or s 4 0 ≡ 32
-    → 116 ∷ 108 ∷ 98 ∷ 105 ∷ 32 ∷ take (length s - 5) (drop 5 s) ≡ front ++ a → s ≡ front ++ a
-word_tlbi s front a some h0 h1 h2 h3 h4 e =
-    front_word (codes "tlbi ") s some (h0, (h1, (h2, (h3, (h4, tt))))) ∙ e
 
 -- the operations of most TLBIs
 
@@ -283,137 +247,106 @@ pub op_vmalle1is : (s : List ℕ) → 10 ≤ length s → get_or s 0 0 ≡ 32 �
 op_vmalle1is s some h0 h1 h2 h3 h4 h5 h6 h7 h8 h9 =
     front_word (codes " vmalle1is") s some (h0, (h1, (h2, (h3, (h4, (h5, (h6, (h7, (h8, (h9, tt))))))))))
 
-pub op_vmalls12e1is : (s : List ℕ) → 13 ≤ length s → get_or s 0 0 ≡ 32 → get_or s 1 0 ≡ 118 → get_or s 2 0 ≡ 109
-    → get_or s 3 0 ≡ 97 → get_or s 4 0 ≡ 108 → get_or s 5 0 ≡ 108 → get_or s 6 0 ≡ 115 → get_or s 7 0 ≡ 49
-    → get_or s 8 0 ≡ 50 → get_or s 9 0 ≡ 101 → get_or s 10 0 ≡ 49 → get_or s 11 0 ≡ 105 → get_or s 12 0 ≡ 115
-    → s ≡ 32 ∷ (op_word Vmalls12e1is ++ take (length s - 13) (drop 13 s))
-op_vmalls12e1is s some h0 h1 h2 h3 h4 h5 h6 h7 h8 h9 h10 h11 h12 =
-    front_word (codes " vmalls12e1is") s some (h0, (h1, (h2, (h3, (h4, (h5, (h6, (h7, (h8, (h9, (h10, (h11, (h12, tt)))))))))))))
-
-pub op_vaale1is : (s : List ℕ) → 9 ≤ length s → get_or s 0 0 ≡ 32 → get_or s 1 0 ≡ 118 → get_or s 2 0 ≡ 97
-    → get_or s 3 0 ≡ 97 → get_or s 4 0 ≡ 108 → get_or s 5 0 ≡ 101 → get_or s 6 0 ≡ 49 → get_or s 7 0 ≡ 105
-    → get_or s 8 0 ≡ 115
-    → s ≡ 32 ∷ (op_word Vaale1is ++ take (length s - 9) (drop 9 s))
-op_vaale1is s some h0 h1 h2 h3 h4 h5 h6 h7 h8 =
-    front_word (codes " vaale1is") s some (h0, (h1, (h2, (h3, (h4, (h5, (h6, (h7, (h8, tt)))))))))
-
 pub op_alle2is : (s : List ℕ) → 8 ≤ length s → get_or s 0 0 ≡ 32 → get_or s 1 0 ≡ 97 → get_or s 2 0 ≡ 108
     → get_or s 3 0 ≡ 108 → get_or s 4 0 ≡ 101 → get_or s 5 0 ≡ 50 → get_or s 6 0 ≡ 105 → get_or s 7 0 ≡ 115
     → s ≡ 32 ∷ (op_word Alle2is ++ take (length s - 8) (drop 8 s))
 op_alle2is s some h0 h1 h2 h3 h4 h5 h6 h7 =
     front_word (codes " alle2is") s some (h0, (h1, (h2, (h3, (h4, (h5, (h6, (h7, tt))))))))
 
-pub op_aside1is : (s : List ℕ) → 9 ≤ length s → get_or s 0 0 ≡ 32 → get_or s 1 0 ≡ 97 → get_or s 2 0 ≡ 115
-    → get_or s 3 0 ≡ 105 → get_or s 4 0 ≡ 100 → get_or s 5 0 ≡ 101 → get_or s 6 0 ≡ 49 → get_or s 7 0 ≡ 105
-    → get_or s 8 0 ≡ 115
-    → s ≡ 32 ∷ (op_word Aside1is ++ take (length s - 9) (drop 9 s))
-op_aside1is s some h0 h1 h2 h3 h4 h5 h6 h7 h8 =
-    front_word (codes " aside1is") s some (h0, (h1, (h2, (h3, (h4, (h5, (h6, (h7, (h8, tt)))))))))
-
 pub ruleset further_operations = (op_vmalle1is, op_alle2is)
-
-pub ruleset operand_operations = (op_vaale1is, op_aside1is)
-
--- the registers
-
-pub reg_ttbr0_el1 : (s : List ℕ) → 10 ≤ length s → get_or s 0 0 ≡ 32 → get_or s 1 0 ≡ 116 → get_or s 2 0 ≡ 116
-    → get_or s 3 0 ≡ 98 → get_or s 4 0 ≡ 114 → get_or s 5 0 ≡ 48 → get_or s 6 0 ≡ 95 → get_or s 7 0 ≡ 101
-    → get_or s 8 0 ≡ 108 → get_or s 9 0 ≡ 49
-    → s ≡ 32 ∷ (reg_word Ttbr0El1 ++ take (length s - 10) (drop 10 s))
-reg_ttbr0_el1 s some h0 h1 h2 h3 h4 h5 h6 h7 h8 h9 =
-    front_word (codes " ttbr0_el1") s some (h0, (h1, (h2, (h3, (h4, (h5, (h6, (h7, (h8, (h9, tt))))))))))
-
-pub reg_ttbr1_el1 : (s : List ℕ) → 10 ≤ length s → get_or s 0 0 ≡ 32 → get_or s 1 0 ≡ 116 → get_or s 2 0 ≡ 116
-    → get_or s 3 0 ≡ 98 → get_or s 4 0 ≡ 114 → get_or s 5 0 ≡ 49 → get_or s 6 0 ≡ 95 → get_or s 7 0 ≡ 101
-    → get_or s 8 0 ≡ 108 → get_or s 9 0 ≡ 49
-    → s ≡ 32 ∷ (reg_word Ttbr1El1 ++ take (length s - 10) (drop 10 s))
-reg_ttbr1_el1 s some h0 h1 h2 h3 h4 h5 h6 h7 h8 h9 =
-    front_word (codes " ttbr1_el1") s some (h0, (h1, (h2, (h3, (h4, (h5, (h6, (h7, (h8, (h9, tt))))))))))
-
-pub reg_vttbr_el2 : (s : List ℕ) → 10 ≤ length s → get_or s 0 0 ≡ 32 → get_or s 1 0 ≡ 118 → get_or s 2 0 ≡ 116
-    → get_or s 3 0 ≡ 116 → get_or s 4 0 ≡ 98 → get_or s 5 0 ≡ 114 → get_or s 6 0 ≡ 95 → get_or s 7 0 ≡ 101
-    → get_or s 8 0 ≡ 108 → get_or s 9 0 ≡ 50
-    → s ≡ 32 ∷ (reg_word VttbrEl2 ++ take (length s - 10) (drop 10 s))
-reg_vttbr_el2 s some h0 h1 h2 h3 h4 h5 h6 h7 h8 h9 =
-    front_word (codes " vttbr_el2") s some (h0, (h1, (h2, (h3, (h4, (h5, (h6, (h7, (h8, (h9, tt))))))))))
-
-pub reg_ttbr0_el2 : (s : List ℕ) → 10 ≤ length s → get_or s 0 0 ≡ 32 → get_or s 1 0 ≡ 116 → get_or s 2 0 ≡ 116
-    → get_or s 3 0 ≡ 98 → get_or s 4 0 ≡ 114 → get_or s 5 0 ≡ 48 → get_or s 6 0 ≡ 95 → get_or s 7 0 ≡ 101
-    → get_or s 8 0 ≡ 108 → get_or s 9 0 ≡ 50
-    → s ≡ 32 ∷ (reg_word Ttbr0El2 ++ take (length s - 10) (drop 10 s))
-reg_ttbr0_el2 s some h0 h1 h2 h3 h4 h5 h6 h7 h8 h9 =
-    front_word (codes " ttbr0_el2") s some (h0, (h1, (h2, (h3, (h4, (h5, (h6, (h7, (h8, (h9, tt))))))))))
-
-pub ruleset el1_registers = (reg_ttbr0_el1, reg_ttbr1_el1)
-
-pub ruleset el2_registers = (reg_vttbr_el2, reg_ttbr0_el2)
 
 -- what stands behind a space, in the form of a slice
 pub spaced : (s front a : List ℕ) → 1 ≤ length s → get_or s 0 0 ≡ 32
     → take (length s - 1) (drop 1 s) ≡ front ++ a → s ≡ 32 ∷ (front ++ a)
 spaced s front a some h0 e = begins (32 ∷ []) s some (h0, tt) ∙ ap (λ l. 32 ∷ l) (sym (take_rest s 1) ∙ e)
 
--- the fields of further events
+-- a word at the front, and what stands behind it
+pub word_taken : (s word named rest : List ℕ) → pointwise nat_eq (take (length word) s) word ≡ true
+    → rest ≡ drop (length word) s → word ≡ named → s ≡ named ++ rest
+word_taken s word named rest same behind is =
+    sym (take-append-drop (length word) s) ∙ ap (λ l. l ++ drop (length word) s) (same_text _ _ (sym same) ∙ is)
+    ∙ ap (λ l. named ++ l) (sym behind)
 
-pub dmb_fields : (pe : ℕ) (dsb : Dsb) (s a b : List ℕ) → s ≡ decimal pe ++ a → a ≡ 32 ∷ (dsb_word dsb ++ b)
-    → 100 ∷ 109 ∷ 98 ∷ 32 ∷ s ≡ joined (event_fields (event.Dmb pe dsb)) ++ b
-dmb_fields pe dsb s a b first second =
-    ap (λ l. 100 ∷ 109 ∷ 98 ∷ 32 ∷ l) (two_fields (decimal pe) (dsb_word dsb) s a b first second)
+-- four bytes, by the number that they make, and a space behind them, in the form of a slice of what follows
 
-pub lock_fields : (pe : ℕ) (lock : ℕ) (s a b : List ℕ) → s ≡ decimal pe ++ a → a ≡ 32 ∷ (decimal lock ++ b)
-    → 108 ∷ 111 ∷ 99 ∷ 107 ∷ 32 ∷ s ≡ joined (event_fields (event.Lock pe lock)) ++ b
-lock_fields pe lock s a b first second =
-    ap (λ l. 108 ∷ 111 ∷ 99 ∷ 107 ∷ 32 ∷ l) (two_fields (decimal pe) (decimal lock) s a b first second)
+pub four_begun : (s : List ℕ) (first second word : ℕ) → 4 ≤ length s → ((i : ℕ) → Fits w8 (get_or s i 0))
+    → first ≡ get_or s 0 0 + get_or s 1 0 * 256 → second ≡ get_or s 2 0 + get_or s 3 0 * 256
+    → first + second * 65536 ≡ word → s ≡ four_bytes word ++ take (length s - 4) (drop 4 s)
+four_begun s first second word some fits low high is =
+    let b0 : get_or s 0 0 < 256 = (fits 0).fits in
+    let b1 : get_or s 1 0 < 256 = (fits 1).fits in
+    let b2 : get_or s 2 0 < 256 = (fits 2).fits in
+    let b3 : get_or s 3 0 < 256 = (fits 3).fits in
+    let h0 : get_or s 0 0 ≡ word % 256 = omega (arith, low, high, is, b0, b1, b2, b3) in
+    let h1 : get_or s 1 0 ≡ word / 256 % 256 = omega (arith, low, high, is, b0, b1, b2, b3) in
+    let h2 : get_or s 2 0 ≡ word / 65536 % 256 = omega (arith, low, high, is, b0, b1, b2, b3) in
+    let h3 : get_or s 3 0 ≡ word / 16777216 % 256 = omega (arith, low, high, is, b0, b1, b2, b3) in
+    front_word (four_bytes word) s some (h0, (h1, (h2, (h3, tt))))
 
-pub unlock_fields : (pe : ℕ) (lock : ℕ) (s a b : List ℕ) → s ≡ decimal pe ++ a → a ≡ 32 ∷ (decimal lock ++ b)
-    → 117 ∷ 110 ∷ 108 ∷ 111 ∷ 99 ∷ 107 ∷ 32 ∷ s ≡ joined (event_fields (event.Unlock pe lock)) ++ b
-unlock_fields pe lock s a b first second =
-    ap (λ l. 117 ∷ 110 ∷ 108 ∷ 111 ∷ 99 ∷ 107 ∷ 32 ∷ l) (two_fields (decimal pe) (decimal lock) s a b first second)
+pub five_begun : (word : ℕ) (s rest : List ℕ) → s ≡ four_bytes word ++ rest → 1 ≤ length rest → get_or rest 0 0 ≡ 32
+    → s ≡ four_bytes word ++ 32 ∷ take (length rest - 1) (drop 1 rest)
+five_begun word s rest e some h0 = e ∙ ap (λ l. four_bytes word ++ l) (begins (32 ∷ []) rest some (h0, tt) ∙ ap (λ l. 32 ∷ l) (sym (take_rest rest 1)))
 
-pub msr_fields : (pe : ℕ) (reg : Reg) (value : ℕ) (s a b c : List ℕ) → s ≡ decimal pe ++ a
-    → a ≡ 32 ∷ (reg_word reg ++ b) → b ≡ 32 ∷ (hex value ++ c)
-    → 109 ∷ 115 ∷ 114 ∷ 32 ∷ s ≡ joined (event_fields (event.Msr pe reg value)) ++ c
-msr_fields pe reg value s a b c first second third =
-    ap (λ l. 109 ∷ 115 ∷ 114 ∷ 32 ∷ l) (three_fields (decimal pe) (reg_word reg) (hex value) s a b c first second third)
-
--- the further words of event lines
-
-pub word_dmb : (s front a : List ℕ) → 4 ≤ length s → get_or s 0 0 ≡ 100 → get_or s 1 0 ≡ 109 → get_or s 2 0 ≡ 98
-    → get_or s 3 0 ≡ 32
-    → 100 ∷ 109 ∷ 98 ∷ 32 ∷ take (length s - 4) (drop 4 s) ≡ front ++ a → s ≡ front ++ a
-word_dmb s front a some h0 h1 h2 h3 e =
-    front_word (codes "dmb ") s some (h0, (h1, (h2, (h3, tt)))) ∙ e
-
-pub word_msr : (s front a : List ℕ) → 4 ≤ length s → get_or s 0 0 ≡ 109 → get_or s 1 0 ≡ 115 → get_or s 2 0 ≡ 114
-    → get_or s 3 0 ≡ 32
-    → 109 ∷ 115 ∷ 114 ∷ 32 ∷ take (length s - 4) (drop 4 s) ≡ front ++ a → s ≡ front ++ a
-word_msr s front a some h0 h1 h2 h3 e =
-    front_word (codes "msr ") s some (h0, (h1, (h2, (h3, tt)))) ∙ e
-
-pub word_lock : (s front a : List ℕ) → 5 ≤ length s → get_or s 0 0 ≡ 108 → get_or s 1 0 ≡ 111 → get_or s 2 0 ≡ 99
-    → get_or s 3 0 ≡ 107 → get_or s 4 0 ≡ 32
-    → 108 ∷ 111 ∷ 99 ∷ 107 ∷ 32 ∷ take (length s - 5) (drop 5 s) ≡ front ++ a → s ≡ front ++ a
-word_lock s front a some h0 h1 h2 h3 h4 e =
-    front_word (codes "lock ") s some (h0, (h1, (h2, (h3, (h4, tt))))) ∙ e
-
--- the fields of a page that is initialised
-pub init_fields : (pe page : ℕ) (s a b : List ℕ) → s ≡ decimal pe ++ a → a ≡ 32 ∷ (hex page ++ b)
-    → 105 ∷ 110 ∷ 105 ∷ 116 ∷ 32 ∷ s ≡ joined (event_fields (event.Init pe page)) ++ b
-init_fields pe page s a b first second =
-    ap (λ l. 105 ∷ 110 ∷ 105 ∷ 116 ∷ 32 ∷ l) (two_fields (decimal pe) (hex page) s a b first second)
-
-pub word_init : (s front a : List ℕ) → 5 ≤ length s → get_or s 0 0 ≡ 105 → get_or s 1 0 ≡ 110 → get_or s 2 0 ≡ 105
-    → get_or s 3 0 ≡ 116 → get_or s 4 0 ≡ 32
-    → 105 ∷ 110 ∷ 105 ∷ 116 ∷ 32 ∷ take (length s - 5) (drop 5 s) ≡ front ++ a → s ≡ front ++ a
-word_init s front a some h0 h1 h2 h3 h4 e =
-    front_word (codes "init ") s some (h0, (h1, (h2, (h3, (h4, tt))))) ∙ e
-
-pub word_unlock : (s front a : List ℕ) → 7 ≤ length s → get_or s 0 0 ≡ 117 → get_or s 1 0 ≡ 110 → get_or s 2 0 ≡ 108
+pub word_unlock : (s : List ℕ) → 7 ≤ length s → get_or s 0 0 ≡ 117 → get_or s 1 0 ≡ 110 → get_or s 2 0 ≡ 108
     → get_or s 3 0 ≡ 111 → get_or s 4 0 ≡ 99 → get_or s 5 0 ≡ 107 → get_or s 6 0 ≡ 32
-    → 117 ∷ 110 ∷ 108 ∷ 111 ∷ 99 ∷ 107 ∷ 32 ∷ take (length s - 7) (drop 7 s) ≡ front ++ a → s ≡ front ++ a
-word_unlock s front a some h0 h1 h2 h3 h4 h5 h6 e =
-    front_word (codes "unlock ") s some (h0, (h1, (h2, (h3, (h4, (h5, (h6, tt))))))) ∙ e
+    → s ≡ codes "unlock" ++ 32 ∷ take (length s - 7) (drop 7 s)
+word_unlock s some h0 h1 h2 h3 h4 h5 h6 =
+    front_word (codes "unlock ") s some (h0, (h1, (h2, (h3, (h4, (h5, (h6, tt)))))))
 
-pub ruleset further_words = (word_dmb, word_msr, word_dsb, word_tlbi)
+-- the events, of their fields
 
-pub ruleset rarer_words = (word_lock, word_unlock, word_init)
+pub write_line : (pe place value : ℕ) (s a b c : List ℕ) → 2 ≤ length s → get_or s 0 0 ≡ 119 → get_or s 1 0 ≡ 32
+    → take (length s - 2) (drop 2 s) ≡ decimal pe ++ a → a ≡ 32 ∷ (hex place ++ b) → b ≡ 32 ∷ (hex value ++ c)
+    → s ≡ joined (event_fields (event.Write pe place value)) ++ c
+write_line pe place value s a b c some h0 h1 first second third =
+    front_word (codes "w ") s some (h0, (h1, tt)) ∙ ap (λ l. 119 ∷ 32 ∷ l)
+    (three_fields (decimal pe) (hex place) (hex value) (take (length s - 2) (drop 2 s)) a b c first second third)
+
+pub isb_line : (pe : ℕ) (s l a : List ℕ) → s ≡ codes "isb " ++ l → l ≡ decimal pe ++ a
+    → s ≡ joined (event_fields (event.Isb pe)) ++ a
+isb_line pe s l a word first = word ∙ ap (λ l. codes "isb " ++ l) first
+
+pub dsb_line : (pe : ℕ) (dsb : Dsb) (s l a b : List ℕ) → s ≡ codes "dsb " ++ l → l ≡ decimal pe ++ a
+    → a ≡ 32 ∷ (dsb_word dsb ++ b) → s ≡ joined (event_fields (event.Dsb pe dsb)) ++ b
+dsb_line pe dsb s l a b word first second =
+    word ∙ ap (λ l. codes "dsb " ++ l) (two_fields (decimal pe) (dsb_word dsb) l a b first second)
+
+pub dmb_line : (pe : ℕ) (dsb : Dsb) (s l a b : List ℕ) → s ≡ codes "dmb " ++ l → l ≡ decimal pe ++ a
+    → a ≡ 32 ∷ (dsb_word dsb ++ b) → s ≡ joined (event_fields (event.Dmb pe dsb)) ++ b
+dmb_line pe dsb s l a b word first second =
+    word ∙ ap (λ l. codes "dmb " ++ l) (two_fields (decimal pe) (dsb_word dsb) l a b first second)
+
+pub tlbi_line : (pe : ℕ) (op : TlbiOp) (xt : ℕ) (s l a b d : List ℕ) → s ≡ codes "tlbi " ++ l → l ≡ decimal pe ++ a
+    → a ≡ 32 ∷ (op_word op ++ b) → has_operand op ≡ true → b ≡ 32 ∷ (hex xt ++ d)
+    → s ≡ joined (event_fields (event.Tlbi pe op xt)) ++ d
+tlbi_line pe op xt s l a b d word first second has third =
+    word ∙ ap (λ l. codes "tlbi " ++ l) (three_fields (decimal pe) (op_word op) (hex xt) l a b d first second third)
+    ∙ ap (λ (t : Bool). joined (codes "tlbi" ∷ decimal pe ∷ op_word op ∷ cond t (hex xt ∷ []) []) ++ d) (sym has)
+
+pub tlbi_alone_line : (pe : ℕ) (op : TlbiOp) (xt : ℕ) (s l a b : List ℕ) → s ≡ codes "tlbi " ++ l → l ≡ decimal pe ++ a
+    → a ≡ 32 ∷ (op_word op ++ b) → has_operand op ≡ false → s ≡ joined (event_fields (event.Tlbi pe op xt)) ++ b
+tlbi_alone_line pe op xt s l a b word first second has =
+    word ∙ ap (λ l. codes "tlbi " ++ l) (two_fields (decimal pe) (op_word op) l a b first second)
+    ∙ ap (λ (t : Bool). joined (codes "tlbi" ∷ decimal pe ∷ op_word op ∷ cond t (hex xt ∷ []) []) ++ b) (sym has)
+
+pub msr_line : (pe : ℕ) (reg : Reg) (value : ℕ) (s l a b c : List ℕ) → s ≡ codes "msr " ++ l → l ≡ decimal pe ++ a
+    → a ≡ 32 ∷ (reg_word reg ++ b) → b ≡ 32 ∷ (hex value ++ c) → s ≡ joined (event_fields (event.Msr pe reg value)) ++ c
+msr_line pe reg value s l a b c word first second third =
+    word ∙ ap (λ l. codes "msr " ++ l) (three_fields (decimal pe) (reg_word reg) (hex value) l a b c first second third)
+
+pub lock_line : (pe lock : ℕ) (s l a b : List ℕ) → s ≡ codes "lock " ++ l → l ≡ decimal pe ++ a
+    → a ≡ 32 ∷ (decimal lock ++ b) → s ≡ joined (event_fields (event.Lock pe lock)) ++ b
+lock_line pe lock s l a b word first second =
+    word ∙ ap (λ l. codes "lock " ++ l) (two_fields (decimal pe) (decimal lock) l a b first second)
+
+pub unlock_line : (pe lock : ℕ) (s l a b : List ℕ) → s ≡ codes "unlock " ++ l → l ≡ decimal pe ++ a
+    → a ≡ 32 ∷ (decimal lock ++ b) → s ≡ joined (event_fields (event.Unlock pe lock)) ++ b
+unlock_line pe lock s l a b word first second =
+    word ∙ ap (λ l. codes "unlock " ++ l) (two_fields (decimal pe) (decimal lock) l a b first second)
+
+pub init_line : (pe page : ℕ) (s l a b : List ℕ) → s ≡ codes "init " ++ l → l ≡ decimal pe ++ a
+    → a ≡ 32 ∷ (hex page ++ b) → s ≡ joined (event_fields (event.Init pe page)) ++ b
+init_line pe page s l a b word first second =
+    word ∙ ap (λ l. codes "init " ++ l) (two_fields (decimal pe) (hex page) l a b first second)
+
+pub ruleset other_lines = (msr_line, lock_line, unlock_line, dmb_line, dsb_line, init_line)

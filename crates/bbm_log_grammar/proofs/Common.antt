@@ -30,7 +30,6 @@ pub use Rattle.bbm_events.specs.declared.malformed.Malformed.{Malformed}
 pub use Rattle.bbm_lemmas.proofs.Tautologies.{proved}
 pub use Rattle.bbm_lemmas.proofs.Tautologies.Claim.{Is}
 pub use Rattle.bbm_log_grammar.specs.Digits.{is_lower_digit, next_number, number_after, number_of}
-pub use Rattle.bbm_log_grammar.specs.Front.{named_op, run}
 pub use Rattle.bbm_regimes.specs.declared.regime.Reg.{Reg}
 pub use Rattle.bbm_regimes.specs.declared.regime.Reg.TheVariants.{Ttbr0El1, Ttbr0El2, Ttbr1El1, VttbrEl2}
 pub use Rattle.bbm_tlbi_scope.specs.declared.op.TlbiOp.{TlbiOp}

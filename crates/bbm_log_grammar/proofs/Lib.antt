@@ -4,9 +4,6 @@ pub mod Marks
 pub mod Numerals
 pub mod Splitting
 pub mod Passing
-pub mod Fronts
-pub mod Fitting
-pub mod Begun
 pub mod Named
 pub mod Parts
 pub mod Short

@@ -1,10 +1,8 @@
 -- A field whose value has to pass a test is read, and then tested.
 use Rattle.bbm_log_grammar.proofs.Common.{◌≡◌, ℕ, List, [], ◌∷◌, Bool, Option, Some, None, Result, Ok, Err, ap}
-use Rattle.bbm_log_grammar.proofs.Common.{Malformed, Fields, next_field, found, with_word, op_word, ops, TlbiOp}
-use Rattle.bbm_log_grammar.proofs.Common.{named_op}
+use Rattle.bbm_log_grammar.proofs.Common.{Malformed, Fields, next_field, found}
 use Rattle.bbm_events.specs.Spelling.{decimal_value, hex_value}
-use Rattle.bbm_events.specs.declared.malformed.Malformed.TheVariants.{MissingField, UnknownWord}
-use Rattle.bbm_events.specs.Lines.{line_field, passing}
+use Rattle.bbm_events.specs.Lines.{passing}
 
 passed : {A : Type 0} (absent unreadable : Malformed) (read : List ℕ → Option A) (test : A → Bool) (fields : Fields) {n : A} {rest : Fields}
     → next_field absent unreadable read fields ≡ Ok (n, rest)
@@ -41,11 +39,5 @@ hex_passed absent unreadable test fields e = passed absent unreadable hex_value 
 
 pub hex_unread : (absent unreadable : Malformed) (test : ℕ → Bool) (fields : Fields) {cause : Malformed} → next_field absent unreadable hex_value fields ≡ Err cause → next_field absent unreadable (λ text. passing test (hex_value text)) fields ≡ Err cause
 hex_unread absent unreadable test fields e = unread absent unreadable hex_value test fields e
-
-pub op_passed : (test : TlbiOp → Bool) (fields : Fields) {op : TlbiOp} {rest : Fields} → named_op fields ≡ Ok (op, rest) → line_field UnknownWord (λ text. passing test (with_word op_word ops text)) fields ≡ found UnknownWord (passing test (Some op)) rest
-op_passed test fields e = passed MissingField UnknownWord (with_word op_word ops) test fields e
-
-pub op_unread : (test : TlbiOp → Bool) (fields : Fields) {cause : Malformed} → named_op fields ≡ Err cause → line_field UnknownWord (λ text. passing test (with_word op_word ops text)) fields ≡ Err cause
-op_unread test fields e = unread MissingField UnknownWord (with_word op_word ops) test fields e
 
 pub ruleset passing_fields = (decimal_passed, decimal_unread, hex_passed, hex_unread)

@@ -10,10 +10,6 @@ use Rattle.std.specs.Option.{option_and_then}
 abbrev pub is_lower_digit : ℕ → ℕ → Bool
 is_lower_digit base byte = nat_lt (digit_value byte) base && byte == digit_glyph false (digit_value byte)
 
--- the value of a lower-case hex digit, and 2 ^ 16, which four digits don't reach, for a byte that is none
-abbrev pub hex_worth : ℕ → ℕ
-hex_worth byte = if is_lower_digit 16 byte then digit_value byte else 65536
-
 -- the number with one digit more, where the byte is one and the number is below 2 ^ 64
 abbrev pub next_number : ℕ → ℕ → ℕ → Option ℕ
 next_number base n byte =

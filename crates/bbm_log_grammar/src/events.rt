@@ -10,12 +10,12 @@ ghost use Rattle.bbm_events.specs.Lines as lines;
 ghost use Rattle.bbm_events.specs.declared.keyword.Keyword.TheVariants as first;
 
 use crate::fields::Fields;
-use crate::firsts::first_keyword;
 use crate::line::LineItem;
 use crate::readers::*;
+use crate::words::KEYWORDS;
 use bbm_events::{Event, Header, Item, Keyword, Malformed, law_item_causes, law_item_fits};
 
-fn init_line<'a, R>(header: &Header, fields: Fields<'a>) -> Result<LineItem<'a>, Malformed>
+fn init_line<'a>(header: &Header, fields: Fields<'a>) -> Result<LineItem<'a>, Malformed>
     ensures { read_in result ≡ lines.line_after header.now first.Init fields.entry }
 {
     let (pe, fields) = pe_field(header, fields)?;
@@ -23,7 +23,7 @@ fn init_line<'a, R>(header: &Header, fields: Fields<'a>) -> Result<LineItem<'a>,
     event_item(header, Event::Init { pe, page }, fields)
 }
 
-fn null_line<'a, R>(header: &Header, fields: Fields<'a>) -> Result<LineItem<'a>, Malformed>
+fn null_line<'a>(header: &Header, fields: Fields<'a>) -> Result<LineItem<'a>, Malformed>
     ensures { read_in result ≡ lines.line_after header.now first.Null fields.entry }
 {
     let (pe, fields) = pe_field(header, fields)?;
@@ -31,7 +31,7 @@ fn null_line<'a, R>(header: &Header, fields: Fields<'a>) -> Result<LineItem<'a>,
     event_item(header, Event::Null { pe, page }, fields)
 }
 
-fn root_line<'a, R>(header: &Header, fields: Fields<'a>) -> Result<LineItem<'a>, Malformed>
+fn root_line<'a>(header: &Header, fields: Fields<'a>) -> Result<LineItem<'a>, Malformed>
     ensures { read_in result ≡ lines.line_after header.now first.Root fields.entry }
 {
     let (pe, fields) = pe_field(header, fields)?;
@@ -50,7 +50,7 @@ fn root_line<'a, R>(header: &Header, fields: Fields<'a>) -> Result<LineItem<'a>,
     )
 }
 
-fn unroot_line<'a, R>(header: &Header, fields: Fields<'a>) -> Result<LineItem<'a>, Malformed>
+fn unroot_line<'a>(header: &Header, fields: Fields<'a>) -> Result<LineItem<'a>, Malformed>
     ensures { read_in result ≡ lines.line_after header.now first.Unroot fields.entry }
 {
     let (pe, fields) = pe_field(header, fields)?;
@@ -58,7 +58,7 @@ fn unroot_line<'a, R>(header: &Header, fields: Fields<'a>) -> Result<LineItem<'a
     event_item(header, Event::Unroot { pe, page }, fields)
 }
 
-fn write_line<'a, R>(header: &Header, fields: Fields<'a>) -> Result<LineItem<'a>, Malformed>
+fn write_line<'a>(header: &Header, fields: Fields<'a>) -> Result<LineItem<'a>, Malformed>
     ensures { read_in result ≡ lines.line_after header.now first.Write fields.entry }
 {
     let (pe, fields) = pe_field(header, fields)?;
@@ -67,7 +67,7 @@ fn write_line<'a, R>(header: &Header, fields: Fields<'a>) -> Result<LineItem<'a>
     event_item(header, Event::Write { pe, place, value }, fields)
 }
 
-fn dsb_line<'a, R>(header: &Header, fields: Fields<'a>) -> Result<LineItem<'a>, Malformed>
+fn dsb_line<'a>(header: &Header, fields: Fields<'a>) -> Result<LineItem<'a>, Malformed>
     ensures { read_in result ≡ lines.line_after header.now first.Dsb fields.entry }
 {
     let (pe, fields) = pe_field(header, fields)?;
@@ -75,7 +75,7 @@ fn dsb_line<'a, R>(header: &Header, fields: Fields<'a>) -> Result<LineItem<'a>, 
     event_item(header, Event::Dsb { pe, dsb }, fields)
 }
 
-fn dmb_line<'a, R>(header: &Header, fields: Fields<'a>) -> Result<LineItem<'a>, Malformed>
+fn dmb_line<'a>(header: &Header, fields: Fields<'a>) -> Result<LineItem<'a>, Malformed>
     ensures { read_in result ≡ lines.line_after header.now first.Dmb fields.entry }
 {
     let (pe, fields) = pe_field(header, fields)?;
@@ -83,14 +83,14 @@ fn dmb_line<'a, R>(header: &Header, fields: Fields<'a>) -> Result<LineItem<'a>, 
     event_item(header, Event::Dmb { pe, dsb }, fields)
 }
 
-fn isb_line<'a, R>(header: &Header, fields: Fields<'a>) -> Result<LineItem<'a>, Malformed>
+fn isb_line<'a>(header: &Header, fields: Fields<'a>) -> Result<LineItem<'a>, Malformed>
     ensures { read_in result ≡ lines.line_after header.now first.Isb fields.entry }
 {
     let (pe, fields) = pe_field(header, fields)?;
     event_item(header, Event::Isb { pe }, fields)
 }
 
-fn tlbi_line<'a, R>(header: &Header, fields: Fields<'a>) -> Result<LineItem<'a>, Malformed>
+fn tlbi_line<'a>(header: &Header, fields: Fields<'a>) -> Result<LineItem<'a>, Malformed>
     ensures { read_in result ≡ lines.line_after header.now first.Tlbi fields.entry }
 {
     let (pe, fields) = pe_field(header, fields)?;
@@ -99,7 +99,7 @@ fn tlbi_line<'a, R>(header: &Header, fields: Fields<'a>) -> Result<LineItem<'a>,
     event_item(header, Event::Tlbi { pe, op, xt }, fields)
 }
 
-fn msr_line<'a, R>(header: &Header, fields: Fields<'a>) -> Result<LineItem<'a>, Malformed>
+fn msr_line<'a>(header: &Header, fields: Fields<'a>) -> Result<LineItem<'a>, Malformed>
     ensures { read_in result ≡ lines.line_after header.now first.Msr fields.entry }
 {
     let (pe, fields) = pe_field(header, fields)?;
@@ -108,7 +108,7 @@ fn msr_line<'a, R>(header: &Header, fields: Fields<'a>) -> Result<LineItem<'a>, 
     event_item(header, Event::Msr { pe, reg, value }, fields)
 }
 
-fn lock_line<'a, R>(header: &Header, fields: Fields<'a>) -> Result<LineItem<'a>, Malformed>
+fn lock_line<'a>(header: &Header, fields: Fields<'a>) -> Result<LineItem<'a>, Malformed>
     ensures { read_in result ≡ lines.line_after header.now first.Lock fields.entry }
 {
     let (pe, fields) = pe_field(header, fields)?;
@@ -116,7 +116,7 @@ fn lock_line<'a, R>(header: &Header, fields: Fields<'a>) -> Result<LineItem<'a>,
     event_item(header, Event::Lock { pe, lock }, fields)
 }
 
-fn unlock_line<'a, R>(header: &Header, fields: Fields<'a>) -> Result<LineItem<'a>, Malformed>
+fn unlock_line<'a>(header: &Header, fields: Fields<'a>) -> Result<LineItem<'a>, Malformed>
     ensures { read_in result ≡ lines.line_after header.now first.Unlock fields.entry }
 {
     let (pe, fields) = pe_field(header, fields)?;
@@ -124,7 +124,7 @@ fn unlock_line<'a, R>(header: &Header, fields: Fields<'a>) -> Result<LineItem<'a
     event_item(header, Event::Unlock { pe, lock }, fields)
 }
 
-fn end_line<'a, R>(header: &Header, fields: Fields<'a>) -> Result<LineItem<'a>, Malformed>
+fn end_line<'a>(header: &Header, fields: Fields<'a>) -> Result<LineItem<'a>, Malformed>
     ensures { read_in result ≡ lines.line_after header.now first.End fields.entry }
 {
     let (count, fields) = count_field(fields)?;
@@ -132,7 +132,7 @@ fn end_line<'a, R>(header: &Header, fields: Fields<'a>) -> Result<LineItem<'a>, 
 }
 
 /// The item of a line that begins with this word.
-fn line_after<'a, R>(
+fn line_after<'a>(
     header: &Header,
     keyword: Keyword,
     fields: Fields<'a>,
@@ -140,41 +140,44 @@ fn line_after<'a, R>(
     ensures { read_in result ≡ lines.line_after header.now keyword fields.entry }
 {
     match keyword {
-        Keyword::Init => init_line::<R>(header, fields),
-        Keyword::Null => null_line::<R>(header, fields),
-        Keyword::Root => root_line::<R>(header, fields),
-        Keyword::Unroot => unroot_line::<R>(header, fields),
-        Keyword::Write => write_line::<R>(header, fields),
-        Keyword::Dsb => dsb_line::<R>(header, fields),
-        Keyword::Dmb => dmb_line::<R>(header, fields),
-        Keyword::Isb => isb_line::<R>(header, fields),
-        Keyword::Tlbi => tlbi_line::<R>(header, fields),
-        Keyword::Msr => msr_line::<R>(header, fields),
-        Keyword::Lock => lock_line::<R>(header, fields),
-        Keyword::Unlock => unlock_line::<R>(header, fields),
-        Keyword::End => end_line::<R>(header, fields),
+        Keyword::Init => init_line(header, fields),
+        Keyword::Null => null_line(header, fields),
+        Keyword::Root => root_line(header, fields),
+        Keyword::Unroot => unroot_line(header, fields),
+        Keyword::Write => write_line(header, fields),
+        Keyword::Dsb => dsb_line(header, fields),
+        Keyword::Dmb => dmb_line(header, fields),
+        Keyword::Isb => isb_line(header, fields),
+        Keyword::Tlbi => tlbi_line(header, fields),
+        Keyword::Msr => msr_line(header, fields),
+        Keyword::Lock => lock_line(header, fields),
+        Keyword::Unlock => unlock_line(header, fields),
+        Keyword::End => end_line(header, fields),
     }
 }
 
 /// The item that a line spells, or the first cause for which it spells none.
 #[tactic(auto, unfolding(bbm_events::specs::Lines::item_of))]
-fn item_on<'a, R>(header: &Header, line: &'a [u8]) -> Result<LineItem<'a>, Malformed>
+fn item_on<'a>(header: &Header, line: &'a [u8]) -> Result<LineItem<'a>, Malformed>
     ensures { read_in result ≡ item_of header.now line.now }
 {
-    let (keyword, fields) = first_keyword(line)?;
-    line_after::<R>(header, keyword, fields)
+    let (keyword, fields) = Fields::of(line).word_or(
+        &KEYWORDS,
+        Malformed::MissingField,
+        Malformed::UnknownWord,
+    )?;
+    line_after(header, keyword, fields)
 }
 
-/// What `read_event` answers, with the bytes of a label where they stand in the line. Each reader `R` has code of its
-/// own, so that it can be made part of the reader's loop; the answer doesn't depend on it.
-pub fn read_line<'a, R>(header: &Header, line: &'a [u8]) -> Result<LineItem<'a>, Malformed>
+/// What `read_event` answers, with the bytes of a label where they stand in the line.
+pub fn read_line<'a>(header: &Header, line: &'a [u8]) -> Result<LineItem<'a>, Malformed>
     ensures item { read_in result ≡ item_of header.now line.now }
     ensures fits { IfOk (read_in result) (λ item. item_fits header.now item ≡ true) }
     ensures causes { IfErr result IsLineCause }
 {
     law_item_fits();
     law_item_causes();
-    item_on::<R>(header, line)
+    item_on(header, line)
 }
 
 /// The event or the end that a line after the header says; the bytes are the line's without its
@@ -188,7 +191,7 @@ pub fn read_event(header: &Header, line: &[u8]) -> Result<Item, Malformed>
     ensures fits { IfOk result (λ item. item_fits header.now item ≡ true) }
     ensures causes { IfErr result IsLineCause }
 {
-    match read_line::<Item>(header, line) {
+    match read_line(header, line) {
         Ok(said) => Ok(said.kept()),
         Err(cause) => Err(cause),
     }

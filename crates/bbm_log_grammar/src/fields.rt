@@ -1,20 +1,14 @@
 //! The fields of a line.
 
-ghost use Rattle.std.specs.Prelude.{◌≡◌, ℕ, [], ◌∷◌, ◌==◌, true, IfSome, MatchOption, MatchResult, Ok, Err, slice_get};
+ghost use Rattle.std.specs.Prelude.{◌≡◌, ℕ, [], ◌∷◌, ◌==◌, MatchOption, MatchResult, Ok, Err};
 ghost use Rattle.std.specs.List.{position};
-ghost use Rattle.std.specs.Option.{option_copied};
-ghost use Rattle.bbm_events.specs.Label.{is_label};
 ghost use Rattle.bbm_events.specs.Spelling.{decimal_value, fields, hex_value};
 ghost use Rattle.bbm_events.specs.Lines as lines;
 ghost use Rattle.bbm_events.specs.Words.{with_word};
-ghost use Rattle.bbm_log_grammar.specs.Front.{named_op};
 
-use crate::firsts::{first_decimal, first_dsb, first_hex, first_op};
-use crate::line::LabelText;
+use crate::numbers::{read_decimal, read_hex};
 use crate::words::{Worded, named};
-use bbm_barriers::Dsb;
 use bbm_events::Malformed;
-use bbm_tlbi_scope::TlbiOp;
 use std::marker::Model;
 
 /// The fields of a line that aren't read yet. A clause sees the list of them.
@@ -40,20 +34,7 @@ fn first_space(line: &[u8]) -> Option<usize>
     line.iter().position(|byte| *byte == b' ')
 }
 
-/// The label behind its mark that all of the bytes are; None where they are something else. A label has no space, so
-/// none is sought.
-#[inline(never)]
-#[tactic(auto, using(crate::proofs::Marks::last_label))]
-fn marked_label<'a>(line: &'a [u8]) -> Option<LabelText<'a>>
-    ensures { IfSome result (λ text. (fields line.now ≡ (64 ∷ text) ∷ []) × (is_label text ≡ true)) }
-{
-    match line {
-        [b'@', bytes @ ..] => LabelText::of(bytes),
-        _ => None,
-    }
-}
-
-#[tactic(auto, using(crate::proofs::Splitting::splitting, crate::proofs::Fronts::next_of))]
+#[tactic(auto, using(crate::proofs::Splitting::splitting))]
 impl<'a> Fields<'a> {
     /// All fields of a line.
     pub(crate) fn of(line: &'a [u8]) -> Fields<'a>
@@ -62,38 +43,8 @@ impl<'a> Fields<'a> {
         Fields { rest: Some(line) }
     }
 
-    /// No field.
-    pub(crate) fn none() -> Fields<'a>
-        ensures { result ≡ [] }
-    {
-        Fields { rest: None }
-    }
-
-    /// The option of a barrier that the next field is, and the fields after it.
-    #[inline(always)]
-    pub(crate) fn dsb(self) -> Result<(Dsb, Fields<'a>), Malformed>
-        ensures { result ≡ lines.dsb_field self.entry }
-    {
-        match self.rest {
-            Some(line) => first_dsb(line),
-            None => Err(Malformed::MissingField),
-        }
-    }
-
-    /// The operation of a TLBI that the next field is, and the fields after it.
-    #[inline(always)]
-    pub(crate) fn op(self) -> Result<(TlbiOp, Fields<'a>), Malformed>
-        ensures { result ≡ named_op self.entry }
-    {
-        match self.rest {
-            Some(line) => first_op(line),
-            None => Err(Malformed::MissingField),
-        }
-    }
-
     /// The number in decimal that the next field spells, and the fields after it; the first cause where no field is
     /// left, and the other where it spells none.
-    #[inline]
     pub(crate) fn decimal_or(
         self,
         absent: Malformed,
@@ -101,12 +52,14 @@ impl<'a> Fields<'a> {
     ) -> Result<(u64, Fields<'a>), Malformed>
         ensures { result ≡ lines.next_field absent unreadable decimal_value self.entry }
     {
-        first_decimal(self.rest.ok_or(absent)?).ok_or(unreadable)
+        match self.next() {
+            Some((text, rest)) => found(read_decimal(text), unreadable, rest),
+            None => Err(absent),
+        }
     }
 
     /// The number in hex that the next field spells, and the fields after it; the first cause where no field is
     /// left, and the other where it spells none.
-    #[inline(always)]
     pub(crate) fn hex_or(
         self,
         absent: Malformed,
@@ -114,7 +67,10 @@ impl<'a> Fields<'a> {
     ) -> Result<(u64, Fields<'a>), Malformed>
         ensures { result ≡ lines.next_field absent unreadable hex_value self.entry }
     {
-        first_hex(self.rest.ok_or(absent)?).ok_or(unreadable)
+        match self.next() {
+            Some((text, rest)) => found(read_hex(text), unreadable, rest),
+            None => Err(absent),
+        }
     }
 
     /// The value, among these, whose word the next field is, and the fields after it; the first cause where no field is
@@ -151,14 +107,6 @@ impl<'a> Fields<'a> {
         }
     }
 
-    /// The label behind its mark that is all that is left of the line; None where something else is left.
-    #[inline]
-    pub(crate) fn label(&self) -> Option<LabelText<'a>>
-        ensures { IfSome result (λ text. (self.now ≡ (64 ∷ text) ∷ []) × (is_label text ≡ true)) }
-    {
-        marked_label(self.rest?)
-    }
-
     /// The next field, and those after it; None where no field is left.
     pub(crate) fn next(self) -> Option<(&'a [u8], Fields<'a>)>
         ensures { MatchOption result (self.entry ≡ []) (λ x. self.entry ≡ x.0.now ∷ x.1) }
@@ -184,7 +132,6 @@ impl<'a> Fields<'a> {
 }
 
 /// The value with the fields after it; the cause where there is none.
-#[inline(always)]
 pub(crate) fn found<'a, T: Copy>(
     value: Option<T>,
     cause: Malformed,
@@ -196,14 +143,4 @@ pub(crate) fn found<'a, T: Copy>(
         Some(value) => Ok((value, rest)),
         None => Err(cause),
     }
-}
-
-/// The field of a line with this number, counted from 0: the pieces of the line between its single
-/// spaces. None exactly where the line has no field of that number. Two spaces in a row, or a space at
-/// an end, make an empty field, and a line of no bytes is one empty field. Source: project's own
-/// choice.
-pub fn field(line: &[u8], i: u8) -> Option<&[u8]>
-    ensures { option_copied result ≡ slice_get (fields line.now) i }
-{
-    line.split(|byte| *byte == b' ').nth(i as usize)
 }

@@ -25,7 +25,7 @@ pub(crate) fn decimal_worth(byte: u8) -> u64
 
 /// The value of a decimal digit, 0 to 9.
 #[inline]
-pub(crate) fn decimal_digit(byte: u8) -> Option<u64>
+fn decimal_digit(byte: u8) -> Option<u64>
     ensures { result ≡ (if digits.is_lower_digit 10 byte then Some (digit_value byte) else None) }
 {
     if is_decimal(byte) {
@@ -35,82 +35,34 @@ pub(crate) fn decimal_digit(byte: u8) -> Option<u64>
     }
 }
 
-/// The value of each byte as a lower-case hex digit, and 65536 for a byte that is none.
-const HEX_VALUES: [u32; 256] = [
-    65536, 65536, 65536, 65536, 65536, 65536, 65536, 65536, 65536, 65536, 65536, 65536, 65536,
-    65536, 65536, 65536, 65536, 65536, 65536, 65536, 65536, 65536, 65536, 65536, 65536, 65536,
-    65536, 65536, 65536, 65536, 65536, 65536, 65536, 65536, 65536, 65536, 65536, 65536, 65536,
-    65536, 65536, 65536, 65536, 65536, 65536, 65536, 65536, 65536, 0, 1, 2, 3, 4, 5, 6, 7, 8, 9,
-    65536, 65536, 65536, 65536, 65536, 65536, 65536, 65536, 65536, 65536, 65536, 65536, 65536,
-    65536, 65536, 65536, 65536, 65536, 65536, 65536, 65536, 65536, 65536, 65536, 65536, 65536,
-    65536, 65536, 65536, 65536, 65536, 65536, 65536, 65536, 65536, 65536, 65536, 65536, 65536, 10,
-    11, 12, 13, 14, 15, 65536, 65536, 65536, 65536, 65536, 65536, 65536, 65536, 65536, 65536,
-    65536, 65536, 65536, 65536, 65536, 65536, 65536, 65536, 65536, 65536, 65536, 65536, 65536,
-    65536, 65536, 65536, 65536, 65536, 65536, 65536, 65536, 65536, 65536, 65536, 65536, 65536,
-    65536, 65536, 65536, 65536, 65536, 65536, 65536, 65536, 65536, 65536, 65536, 65536, 65536,
-    65536, 65536, 65536, 65536, 65536, 65536, 65536, 65536, 65536, 65536, 65536, 65536, 65536,
-    65536, 65536, 65536, 65536, 65536, 65536, 65536, 65536, 65536, 65536, 65536, 65536, 65536,
-    65536, 65536, 65536, 65536, 65536, 65536, 65536, 65536, 65536, 65536, 65536, 65536, 65536,
-    65536, 65536, 65536, 65536, 65536, 65536, 65536, 65536, 65536, 65536, 65536, 65536, 65536,
-    65536, 65536, 65536, 65536, 65536, 65536, 65536, 65536, 65536, 65536, 65536, 65536, 65536,
-    65536, 65536, 65536, 65536, 65536, 65536, 65536, 65536, 65536, 65536, 65536, 65536, 65536,
-    65536, 65536, 65536, 65536, 65536, 65536, 65536, 65536, 65536, 65536, 65536, 65536, 65536,
-    65536, 65536, 65536, 65536, 65536, 65536, 65536, 65536, 65536, 65536, 65536, 65536, 65536,
-];
-
-/// The value of a lower-case hex digit, 0 to 15; 65536 where the byte is none.
-#[inline]
-fn hex_worth(byte: u8) -> u32
-    ensures worth { result ≡ digits.hex_worth byte }
-    ensures bound { result ≤ 65536 }
-{
-    HEX_VALUES[byte as usize]
-}
-
-/// The number that four lower-case hex digits write; 65536 or more where a byte is none.
-#[inline]
-pub(crate) fn four_hex(a: u8, b: u8, c: u8, d: u8) -> u32
-    ensures { result
-        ≡ digits.hex_worth a * 4096 + digits.hex_worth b * 256 + digits.hex_worth c * 16 + digits.hex_worth d }
-{
-    hex_worth(a) * 4096 + hex_worth(b) * 256 + hex_worth(c) * 16 + hex_worth(d)
-}
-
 /// The value of a lower-case hex digit, 0 to 15.
 #[inline]
 fn hex_digit(byte: u8) -> Option<u64>
     ensures { result ≡ (if digits.is_lower_digit 16 byte then Some (digit_value byte) else None) }
 {
-    let value = hex_worth(byte);
-    if value < 16 { Some(value as u64) } else { None }
+    match byte {
+        b'0'..=b'9' => Some((byte - b'0') as u64),
+        b'a'..=b'f' => Some((byte - b'a') as u64 + 10),
+        _ => None,
+    }
 }
 
 /// The number with one decimal digit more.
 #[inline]
-pub(crate) fn next_decimal(n: u64, byte: u8) -> Option<u64>
+fn next_decimal(n: u64, byte: u8) -> Option<u64>
     ensures { result ≡ digits.next_number 10 n byte }
 {
     let value = decimal_digit(byte)?;
     n.checked_mul(10)?.checked_add(value)
 }
 
-/// The number, which is below 2^60, with one hex digit more.
-#[inline]
-pub(crate) fn low_hex(n: u64, byte: u8) -> Option<u64>
-    requires { n < 2 ^ 60 }
-    ensures number { result ≡ digits.next_number 16 n byte }
-    ensures grows { IfSome result (λ more. more < n * 16 + 16) }
-{
-    let value = hex_digit(byte)?;
-    Some(n * 16 + value)
-}
-
 /// The number with one hex digit more.
 #[inline]
-pub(crate) fn next_hex(n: u64, byte: u8) -> Option<u64>
+fn next_hex(n: u64, byte: u8) -> Option<u64>
     ensures { result ≡ digits.next_number 16 n byte }
 {
-    if n < 1 << 60 { low_hex(n, byte) } else { None }
+    let value = hex_digit(byte)?;
+    n.checked_mul(16)?.checked_add(value)
 }
 
 /// The number that the bytes write as decimal digits, from the left.

@@ -1,13 +1,15 @@
 //! The fields of event lines, each with the cause where it can't be read.
 
 ghost use Rattle.std.specs.Prelude.{◌≡◌, ◌∷◌};
+ghost use Rattle.bbm_events.specs.Heading.{has_op};
 ghost use Rattle.bbm_events.specs.Lines as lines;
+ghost use Rattle.bbm_events.specs.Words.{op_word, ops, with_word};
 ghost use Rattle.bbm_log_grammar.specs.InLine.{item_in, read_in};
 
 use crate::fields::{Fields, found};
 use crate::line::LineItem;
 use crate::values::{count_of, is_marked, label_of, lock_of, pe_of, root_lock_of, root_page_of};
-use crate::words::{KINDS, REGS};
+use crate::words::{DSBS, KINDS, REGS, op_of};
 use bbm_barriers::Dsb;
 use bbm_events::{Event, Header, Malformed, has_op};
 use bbm_regimes::{Kind, Page, Pe, Place, Reg};
@@ -39,7 +41,6 @@ pub(crate) fn page_field<'a>(fields: Fields<'a>) -> Result<(Page, Fields<'a>), M
 }
 
 /// A place.
-#[inline(always)]
 #[tactic(auto, using(crate::proofs::Passing::passing_fields))]
 pub(crate) fn place_field<'a>(fields: Fields<'a>) -> Result<(Place, Fields<'a>), Malformed>
     ensures { result ≡ lines.place_field fields.entry }
@@ -70,7 +71,6 @@ pub(crate) fn root_page_field<'a>(
 }
 
 /// A value.
-#[inline(always)]
 pub(crate) fn value_field<'a>(fields: Fields<'a>) -> Result<(u64, Fields<'a>), Malformed>
     ensures { result ≡ lines.value_field fields.entry }
 {
@@ -119,26 +119,34 @@ pub(crate) fn kind_field<'a>(fields: Fields<'a>) -> Result<(Kind, Fields<'a>), M
 }
 
 /// The option of a barrier.
-#[inline(always)]
 pub(crate) fn dsb_field<'a>(fields: Fields<'a>) -> Result<(Dsb, Fields<'a>), Malformed>
     ensures { result ≡ lines.dsb_field fields.entry }
 {
-    fields.dsb()
+    fields.word_or(&DSBS, Malformed::MissingField, Malformed::UnknownWord)
+}
+
+/// The operation of a TLBI that a log with this header has.
+fn op_in(header: &Header, text: &[u8]) -> Option<TlbiOp>
+    ensures { result ≡ lines.passing (has_op header.now.version) (with_word op_word ops text.now) }
+{
+    let op = op_of(text)?;
+    if has_op(header, op) {
+        Some(op)
+    } else {
+        None
+    }
 }
 
 /// The operation of a TLBI.
-#[inline(always)]
 pub(crate) fn op_field<'a>(
     header: &Header,
     fields: Fields<'a>,
 ) -> Result<(TlbiOp, Fields<'a>), Malformed>
     ensures { result ≡ lines.op_field header.now.version fields.entry }
 {
-    let (value, rest) = fields.op()?;
-    if has_op(header, value) {
-        Ok((value, rest))
-    } else {
-        Err(Malformed::UnknownWord)
+    match fields.next() {
+        Some((text, rest)) => found(op_in(header, text), Malformed::UnknownWord, rest),
+        None => Err(Malformed::MissingField),
     }
 }
 
@@ -150,7 +158,6 @@ pub(crate) fn reg_field<'a>(fields: Fields<'a>) -> Result<(Reg, Fields<'a>), Mal
 }
 
 /// The operand of a TLBI, where the operation has one.
-#[inline(always)]
 pub(crate) fn operand_field<'a>(
     op: TlbiOp,
     fields: Fields<'a>,
@@ -165,7 +172,6 @@ pub(crate) fn operand_field<'a>(
 }
 
 /// The event with the label that its line's last field is, where no field is left.
-#[inline(always)]
 fn labelled<'a>(
     header: &Header,
     event: Event,
@@ -182,8 +188,6 @@ fn labelled<'a>(
 }
 
 /// The event, and the label where a field is left.
-#[inline(always)]
-#[tactic(auto, using(crate::proofs::Marks::labelled))]
 pub(crate) fn event_item<'a>(
     header: &Header,
     event: Event,
@@ -191,11 +195,6 @@ pub(crate) fn event_item<'a>(
 ) -> Result<LineItem<'a>, Malformed>
     ensures { read_in result ≡ lines.event_item header.now event fields.entry }
 {
-    if let Some(label) = fields.label()
-        && header.version >= 3
-    {
-        return Ok(LineItem::Event(event, Some(label)));
-    }
     match fields.next() {
         None => Ok(LineItem::Event(event, None)),
         Some((text, rest)) => labelled(header, event, text, rest),

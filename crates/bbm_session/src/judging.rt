@@ -1,6 +1,7 @@
 //! The events of a log, judged one after another.
 
-ghost use Rattle.std.specs.Prelude.{◌≡◌, ◌<◌, ◌∷◌, ℕ, suc, List, Option, Some, None, Err, ok_or, true, false, IfOk};
+ghost use Rattle.std.specs.Prelude.{◌≡◌, ◌<◌, ◌∷◌, ℕ, suc, List, Option, Some, None, Ok, Err, ok_or, true, false, IfOk};
+ghost use Rattle.std.specs.Prelude.{IfSome, OnSome, take};
 ghost use Rattle.bbm_regimes.specs.declared.regime.Which.{Which as WhichOf};
 ghost use Rattle.bbm_events.specs.declared.event.Event.{Event};
 ghost use Rattle.bbm_events.specs.Fits.{fits_heading, item_fits};
@@ -10,8 +11,11 @@ ghost use Rattle.bbm_rules.specs.Broken.{Breach};
 ghost use Rattle.bbm_rules.specs.Claims.{Patterns};
 ghost use Rattle.bbm_rules.specs.Outcome.{AtEvents, GoesOn, limit_after, after_event, after_item};
 ghost use Rattle.bbm_log_grammar.specs.InLine.{read_in};
-ghost use Rattle.bbm_session.specs.Folds.{event_needs, item_needs};
-ghost use Rattle.bbm_session.specs.Stages.{StopsAt, MayJudge, JudgesLine};
+ghost use Rattle.bbm_io.specs.Reading.{LiesWhole};
+ghost use Rattle.bbm_rules.specs.Outcome.{Progress};
+ghost use Rattle.bbm_session.specs.Fold.{Fold};
+ghost use Rattle.bbm_session.specs.Folds.{Judged, Judges, event_needs, item_needs};
+ghost use Rattle.bbm_session.specs.Stages.{FoldsLine, StopsAt, MayJudge, MayTakeLine, JudgesLine};
 ghost use Rattle.bbm_texts.specs.Known.{Keeps};
 ghost use Rattle.bbm_session.specs.Refused.{event_in};
 
@@ -20,7 +24,8 @@ use crate::stop::{Stop, Turn};
 use crate::taker::Taker;
 use bbm_events::{Event, Header, Malformed};
 use bbm_log_grammar::{
-    LabelText, LineItem, kept_label, quick_dsb, quick_line, quick_tlbi, quick_write, read_line,
+    Dsbs, Front, Isbs, LabelText, LineItem, Others, Tlbis, Writes, kept_label, line_ahead,
+    read_line,
 };
 use bbm_regimes::Which;
 use bbm_rules::{Checker, Limits, StepFault, Verdict};
@@ -184,10 +189,35 @@ fn take_event<C: Checker>(judging: &mut Judging<C>, number: u64, event: Event) -
     }
 }
 
-impl<C: Checker> Taker for Judging<C> {
-    ghost use Rattle.bbm_rules.specs.Outcome.{Progress};
-    ghost use Rattle.bbm_session.specs.Folds.{Judged, Judges};
+/// Takes an event line of this kind that lies whole at the front of these bytes and decides nothing: the number of bytes
+/// before its newline, and None where nothing was taken of it. None where the bytes begin with no such line.
+#[inline(always)]
+fn take_kind<C: Checker, F: Front>(
+    judging: &mut Judging<C>,
+    number: u64,
+    header: &Header,
+    bytes: &[u8],
+) -> Option<Option<usize>>
+    requires { MayTakeLine (Judges (C.frugal judging.old.checker) (C.stands judging.old.checker) judging.old.limits)
+        header.now number }
+    ensures line { IfSome result (λ taken. IfSome taken (λ count. LiesWhole count bytes.now)) }
+    ensures takes { IfSome result (λ taken. IfSome taken (λ count. (fold : Fold Progress Judged) (p : Progress)
+        → Judges (C.frugal judging.old.checker) (C.stands judging.old.checker) judging.old.limits fold header.now p number
+        → FoldsLine fold (Judges (C.frugal judging.new.checker) (C.stands judging.new.checker) judging.new.limits fold
+        header.now) number p (take count bytes.now) (Ok Turn.Taken))) }
+    ensures few { IfSome result (λ taken. OnSome taken (number < 4294967295)) }
+    ensures untaken { result ≡ Some None → (fold : Fold Progress Judged) (p : Progress)
+        → Judges (C.frugal judging.old.checker) (C.stands judging.old.checker) judging.old.limits fold header.now p number
+        → Judges (C.frugal judging.new.checker) (C.stands judging.new.checker) judging.new.limits fold header.now p number }
+    ensures other { result ≡ None → judging.new ≡ judging.old }
+{
+    match line_ahead::<F, C>(header, bytes) {
+        Some((event, _label, count)) => Some(take_event(judging, number, event).then_some(count)),
+        None => None,
+    }
+}
 
+impl<C: Checker> Taker for Judging<C> {
     ghost Reached = { Progress };
 
     ghost Said = { Judged };
@@ -195,24 +225,24 @@ impl<C: Checker> Taker for Judging<C> {
     ghost stands = { λ judging. Judges (C.frugal judging.checker) (C.stands judging.checker) judging.limits };
 
     fn take(&mut self, number: u64, header: &Header, line: &[u8], stop: &mut Stop) -> Option<Turn> {
-        judge_item(self, number, read_line::<C>(header, line), stop)
+        judge_item(self, number, read_line(header, line), stop)
     }
 
-    // A write, a DSB and a TLBI have a way of their own, on which it is known which event it is.
+    // Each kind has a way of its own, on which it is known which event it is.
     #[inline(always)]
     fn take_ahead(&mut self, number: u64, header: &Header, bytes: &[u8]) -> Option<usize> {
-        if let Some((event, _label, count)) = quick_write::<C>(header, bytes) {
-            return take_event(self, number, event).then_some(count);
+        if let Some(taken) = take_kind::<C, Writes>(self, number, header, bytes) {
+            return taken;
         }
-        if let Some((event, _label, count)) = quick_dsb::<C>(header, bytes) {
-            return take_event(self, number, event).then_some(count);
+        if let Some(taken) = take_kind::<C, Dsbs>(self, number, header, bytes) {
+            return taken;
         }
-        if let Some((event, _label, count)) = quick_tlbi::<C>(header, bytes) {
-            return take_event(self, number, event).then_some(count);
+        if let Some(taken) = take_kind::<C, Tlbis>(self, number, header, bytes) {
+            return taken;
         }
-        match quick_line::<C>(header, bytes) {
-            Some((event, _label, count)) => take_event(self, number, event).then_some(count),
-            None => None,
+        if let Some(taken) = take_kind::<C, Isbs>(self, number, header, bytes) {
+            return taken;
         }
+        take_kind::<C, Others>(self, number, header, bytes).flatten()
     }
 }
