@@ -110,6 +110,8 @@ three_digits (x ∷ y ∷ z ∷ zs) one two three some led is1 is2 is3 e f g =
     let all : take (length (x ∷ y ∷ z ∷ zs) - 3) zs ≡ zs = take_all (length (x ∷ y ∷ z ∷ zs) - 3) zs (omega arith) in
     rw (all, value, spelled) refl
 
+pub ruleset few_digits = (one_digit, two_digits)
+
 -- two fields, and three, and what stands behind them
 
 two_fields : (one two s a b : List ℕ) → s ≡ one ++ a → a ≡ 32 ∷ (two ++ b) → s ≡ (one ++ 32 ∷ two) ++ b
@@ -285,7 +287,8 @@ four_begun s first second word some fits low high is =
 
 pub five_begun : (word : ℕ) (s rest : List ℕ) → s ≡ four_bytes word ++ rest → 1 ≤ length rest → get_or rest 0 0 ≡ 32
     → s ≡ four_bytes word ++ 32 ∷ take (length rest - 1) (drop 1 rest)
-five_begun word s rest e some h0 = e ∙ ap (λ l. four_bytes word ++ l) (begins (32 ∷ []) rest some (h0, tt) ∙ ap (λ l. 32 ∷ l) (sym (take_rest rest 1)))
+five_begun word s rest e some h0 = e ∙ ap (λ l. four_bytes word ++ l)
+    (begins (32 ∷ []) rest some (h0, tt) ∙ ap (λ l. 32 ∷ l) (sym (take_rest rest 1)))
 
 pub word_unlock : (s : List ℕ) → 7 ≤ length s → get_or s 0 0 ≡ 117 → get_or s 1 0 ≡ 110 → get_or s 2 0 ≡ 108
     → get_or s 3 0 ≡ 111 → get_or s 4 0 ≡ 99 → get_or s 5 0 ≡ 107 → get_or s 6 0 ≡ 32

@@ -130,11 +130,7 @@ fn op_in(header: &Header, text: &[u8]) -> Option<TlbiOp>
     ensures { result ≡ lines.passing (has_op header.now.version) (with_word op_word ops text.now) }
 {
     let op = op_of(text)?;
-    if has_op(header, op) {
-        Some(op)
-    } else {
-        None
-    }
+    if has_op(header, op) { Some(op) } else { None }
 }
 
 /// The operation of a TLBI.

@@ -189,8 +189,8 @@ fn take_event<C: Checker>(judging: &mut Judging<C>, number: u64, event: Event) -
     }
 }
 
-/// Takes an event line of this kind that lies whole at the front of these bytes and decides nothing: the number of bytes
-/// before its newline, and None where nothing was taken of it. None where the bytes begin with no such line.
+/// Takes an event line of this kind that lies whole at the front of these bytes and decides nothing: the number of
+/// bytes before its newline, and None where nothing was taken of it. None where the bytes begin with no such line.
 #[inline(always)]
 fn take_kind<C: Checker, F: Front>(
     judging: &mut Judging<C>,
@@ -202,13 +202,16 @@ fn take_kind<C: Checker, F: Front>(
         header.now number }
     ensures line { IfSome result (λ taken. IfSome taken (λ count. LiesWhole count bytes.now)) }
     ensures takes { IfSome result (λ taken. IfSome taken (λ count. (fold : Fold Progress Judged) (p : Progress)
-        → Judges (C.frugal judging.old.checker) (C.stands judging.old.checker) judging.old.limits fold header.now p number
+        → Judges (C.frugal judging.old.checker) (C.stands judging.old.checker) judging.old.limits fold header.now p
+        number
         → FoldsLine fold (Judges (C.frugal judging.new.checker) (C.stands judging.new.checker) judging.new.limits fold
         header.now) number p (take count bytes.now) (Ok Turn.Taken))) }
     ensures few { IfSome result (λ taken. OnSome taken (number < 4294967295)) }
     ensures untaken { result ≡ Some None → (fold : Fold Progress Judged) (p : Progress)
-        → Judges (C.frugal judging.old.checker) (C.stands judging.old.checker) judging.old.limits fold header.now p number
-        → Judges (C.frugal judging.new.checker) (C.stands judging.new.checker) judging.new.limits fold header.now p number }
+        → Judges (C.frugal judging.old.checker) (C.stands judging.old.checker) judging.old.limits fold header.now p
+        number
+        → Judges (C.frugal judging.new.checker) (C.stands judging.new.checker) judging.new.limits fold header.now p
+        number }
     ensures other { result ≡ None → judging.new ≡ judging.old }
 {
     match line_ahead::<F, C>(header, bytes) {

@@ -63,7 +63,7 @@ pub(crate) fn hex_ahead<'a>(bytes: &'a [u8]) -> Option<(u64, &'a [u8])>
 
 /// The number of one to three decimal digits at the front, and the bytes behind it.
 #[inline(always)]
-#[tactic(auto, using(crate::proofs::Ahead::one_digit, crate::proofs::Ahead::two_digits, crate::proofs::Ahead::three_digits))]
+#[tactic(auto, using(crate::proofs::Ahead::few_digits))]
 pub(crate) fn decimal_ahead<'a>(bytes: &'a [u8]) -> Option<(u64, &'a [u8])>
     ensures { IfSome result (λ x. bytes.now ≡ decimal x.0 ++ x.1.now) }
 {
@@ -123,7 +123,10 @@ fn label_ahead<'a>(bytes: &'a [u8]) -> Option<(LabelText<'a>, &'a [u8])>
 /// The label that may follow the last field of an event line, up to a newline, and the bytes behind that.
 #[inline(always)]
 #[tactic(auto, using(crate::proofs::Ahead::plain_end, crate::proofs::Ahead::labelled_end))]
-pub(crate) fn end_ahead<'a>(header: &Header, bytes: &'a [u8]) -> Option<(Option<LabelText<'a>>, &'a [u8])>
+pub(crate) fn end_ahead<'a>(
+    header: &Header,
+    bytes: &'a [u8],
+) -> Option<(Option<LabelText<'a>>, &'a [u8])>
     ensures { IfSome result (λ x. (bytes.now ≡ label_part x.0 ++ 10 ∷ x.1.now)
         × (label_fits header.now.version x.0 ≡ true)) }
 {
@@ -142,8 +145,8 @@ pub(crate) fn end_ahead<'a>(header: &Header, bytes: &'a [u8]) -> Option<(Option<
     }
 }
 
-/// The first of these values whose word stands behind a space at the front, with a space or a newline behind it, and the
-/// bytes from there on.
+/// The first of these values whose word stands behind a space at the front, with a space or a newline behind it, and
+/// the bytes from there on.
 #[inline(always)]
 #[tactic(auto, using(crate::proofs::Ahead::spaced))]
 pub(crate) fn word_ahead<'a, T: Worded>(values: &[T], bytes: &'a [u8]) -> Option<(T, &'a [u8])>

@@ -1,7 +1,8 @@
 //! The event lines that are read from the bytes ahead, by kind.
 //! Source: project's own choice.
 
-ghost use Rattle.std.specs.Prelude.{codes, Bool, ◌≡◌, ◌+◌, ◌*◌, ◌<◌, ◌≤◌, ◌∷◌, ◌++◌, IfSome, false, get_or, length, true};
+ghost use Rattle.std.specs.Prelude.{codes, Bool, ◌≡◌, ◌+◌, ◌*◌, ◌<◌, ◌≤◌, ◌∷◌, ◌++◌, IfSome, false, get_or, length};
+ghost use Rattle.std.specs.Prelude.{true};
 ghost use Rattle.std.specs.Fmt.{decimal};
 ghost use Rattle.bbm_barriers.specs.declared.Domain.TheVariants.{Inner};
 ghost use Rattle.bbm_events.specs.Fits.{fits_heading, is_lock, is_pe};
@@ -341,7 +342,8 @@ fn keyword_ahead<'a>(bytes: &'a [u8]) -> Option<(Keyword, &'a [u8])>
 #[tactic(auto, using(crate::proofs::Ahead::tlbi_line, crate::proofs::Ahead::tlbi_alone_line))]
 fn tlbi_of<'a>(header: &Header, pe: Pe, bytes: &'a [u8]) -> Option<(Event, &'a [u8])>
     requires { is_pe header.now pe ≡ true }
-    ensures { IfSome result (λ x. Begins header.now ahead.is_any (codes "tlbi " ++ decimal pe ++ bytes.now) x.0 x.1.now) }
+    ensures { IfSome result (λ x.
+        Begins header.now ahead.is_any (codes "tlbi " ++ decimal pe ++ bytes.now) x.0 x.1.now) }
 {
     let (op, rest) = word_ahead(&OPS, bytes)?;
     if !has_op(header, op) {
@@ -446,11 +448,11 @@ fn whole_line<'a>(
     Some((event, label, bytes.len() - rest.len() - 1))
 }
 
-/// The event of a line of this kind that lies whole at the front of these bytes, with its label, and the number of bytes
-/// before its newline. None says nothing: it comes for every other line, and where fewer than 64 bytes are given, 16 follow
-/// the mark of a number, or 32 that of a label. A reader that asks for the kind that most lines are first has a way of its
-/// own for it, on which the event is known. Each reader `R` has code of its own, so that it can be made part of the
-/// reader's loop; the answer doesn't depend on it.
+/// The event of a line of this kind that lies whole at the front of these bytes, with its label, and the number of
+/// bytes before its newline. None says nothing: it comes for every other line, and where fewer than 64 bytes are given,
+/// 16 follow the mark of a number, or 32 that of a label. A reader that asks for the kind that most lines are first has
+/// a way of its own for it, on which the event is known. Each reader `R` has code of its own, so that it can be made
+/// part of the reader's loop; the answer doesn't depend on it.
 #[inline(always)]
 pub fn line_ahead<'a, F: Front, R>(
     header: &Header,
