@@ -7,7 +7,7 @@ mod checkers;
 #[cfg(test)]
 mod generator;
 #[cfg(test)]
-mod quick;
+mod read_ahead;
 #[cfg(test)]
 mod runs;
 #[cfg(test)]

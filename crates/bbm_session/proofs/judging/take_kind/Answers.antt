@@ -53,9 +53,9 @@ returns-in-Some-clause-takes g c =
     takes header c.in-Some.event c.in-Some._label count c.args.bytes.now (g.C.Checker.frugal before.checker)
     (g.C.Checker.frugal after.checker) (g.C.Checker.stands before.checker) (g.C.Checker.stands after.checker)
     before.limits after.limits fold p c.args.number c.take_event.ensures.frugal c.take_event.ensures.limits
-    c.in-Some.ensures (λ h. c.take_event.ensures.taken is header h c.in-Some._label) judges)
+    c.in-Some.ensures.line (λ h. c.take_event.ensures.taken is header h c.in-Some._label) judges)
 
 pub returns-in-Some-clause-line : goal.returns-in-Some-clause-line
 returns-in-Some-clause-line g c =
     told _ c.take_event.result c.in-Some.count _ c.then_some.ensures
-    (λ is. whole c.args.header.now c.in-Some.event c.in-Some._label c.in-Some.count c.args.bytes.now c.in-Some.ensures)
+    (λ is. whole c.args.header.now c.in-Some.event c.in-Some._label c.in-Some.count c.args.bytes.now c.in-Some.ensures.line)
