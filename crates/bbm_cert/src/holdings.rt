@@ -326,7 +326,8 @@ fn next(
     Ok(next)
 }
 
-/// The same after one more event, by the claims alone, where this is so before it. `NoMemory` where there is none.
+/// The tags that are held and those that were readable after one more event, by the claims alone, from those before it.
+/// `NoMemory` where there is none.
 pub fn tags_after(
     alloc: Global,
     header: &Header,

@@ -80,7 +80,8 @@ fn last_write(log: &[Kept], pe: Pe, place: Place) -> usize
     count
 }
 
-/// The same of the write that the event, which comes behind these, publishes to the PE; 0 where it publishes none.
+/// How many events of the log there are up to the write of the place that the event, which comes behind these, publishes
+/// to the PE; 0 where it publishes none.
 fn published(header: &Header, event: &Event, before: &[Kept], place: Place, pe: Pe) -> usize
     ensures { result ≡ spec.publication_mark header.now place pe event.now (notes_of (reverse before.now)) }
 {
@@ -96,7 +97,8 @@ fn published(header: &Header, event: &Event, before: &[Kept], place: Place, pe: 
     }
 }
 
-/// The same by the event at the position.
+/// How many events of the log there are up to the write of the place that the event at the position publishes to the PE;
+/// 0 where it publishes none.
 fn published_at(header: &Header, log: &[Kept], place: Place, pe: Pe, b: u32) -> usize
     ensures { result ≡ spec.seen_mark header.now place pe b (notes_of (reverse log.now)) }
 {

@@ -46,7 +46,7 @@ pub fn lasts(spans: &[Span], pe: Pe, tag: Tag, count: usize) -> bool
     })
 }
 
-/// The same where nothing is readable any more since there were so many events.
+/// The span, ended where nothing is readable any more since there were so many events.
 fn ended(span: &Span, count: usize) -> Span
     ensures { (p n : ℕ) (tag : TheTag) → spec.is_span p tag n result
         ≡ (spec.is_span p tag n span.now && nat_lt n count) }

@@ -199,7 +199,8 @@ pub fn takes_away(
     }
 }
 
-/// The same by what is kept of the tags that were readable in these events. `NoMemory` where there is none.
+/// Whether the DSB, which comes behind these events, answers the TLBI, which reaches the PE and takes the whole tag, and
+/// the tag wasn't readable there since, by what is kept of the tags that were readable. `NoMemory` where there is none.
 pub fn takes_unread(
     alloc: Global,
     header: &Header,

@@ -49,7 +49,8 @@ fn add_spot(
     }
 }
 
-/// The same with all that is told of the place before the event. None is due at a PE to which no write of it is published.
+/// Adds the claim of the place at the PE that is due at the event, by all that is told of the place before the event.
+/// None is due at a PE to which no write of the place is published.
 fn add_where_seen(
     header: &Header,
     log: &[Kept],

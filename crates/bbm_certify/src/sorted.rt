@@ -22,7 +22,7 @@ pub struct Key {
     pub pe: u64,
 }
 
-/// The same of a tag.
+/// What the claim of a tag is ordered by.
 #[derive(Clone, Copy, Debug)]
 pub struct TagKey {
     /// Its sort.

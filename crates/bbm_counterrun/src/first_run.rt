@@ -123,7 +123,8 @@ fn find_at(
     }
 }
 
-/// The same, None where the place holds no leaf after the events. `NoMemory` where there is no memory.
+/// The first plain conflict run of a write. The inner None where no conflict run is plain, the outer one where the place
+/// holds no leaf after the events. `NoMemory` where there is no memory.
 fn find_leaf(
     alloc: Global,
     header: &Header,
@@ -185,7 +186,8 @@ pub fn find_over_leaf(
     }
 }
 
-/// The same, None also where there is no write at a place that holds a leaf. `NoMemory` where there is none.
+/// The first plain conflict run of the last event of a log; None where there is none, or where that is no write at a
+/// place that holds a leaf. `NoMemory` where there is no memory.
 pub fn find(alloc: Global, header: &Header, log: &Vec<Event>) -> Result<Option<Vec<Step>>, NoMemory>
     requires fits { All (λ event. fits_heading header.now event ≡ true) log.now.items }
     ensures { IfOk result (λ found. (h : List TheEvent) (pe place value : ℕ)

@@ -118,7 +118,7 @@ impl Marks {
         marks
     }
 
-    /// The same in place.
+    /// TLBIs were answered for which these PEs waited: the masks change as far as the PEs have seen the break.
     pub fn answer(&mut self, done: Pend)
         ensures core { self.new.core ≡ self.old.core }
         ensures writers { (p : ℕ) → pe_in self.new.writers p ≡ pe_in self.old.writers p }

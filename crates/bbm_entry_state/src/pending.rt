@@ -133,7 +133,7 @@ impl Pends {
         left
     }
 
-    /// The same in place: the PEs whose answer this DSB of the issuer is wait no more.
+    /// The PEs whose answer this DSB of the issuer is wait no more.
     pub fn drop_answered(&mut self, dsb: Dsb)
         ensures { (b : Bool) (c : TheCover) (p : ℕ) →
             waits self.new b c p ≡ (not (answers dsb b) && waits self.old b c p) }

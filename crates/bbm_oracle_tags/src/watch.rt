@@ -38,7 +38,7 @@ pub struct Watch {
     pub holds: bool,
     /// The PEs with an unanswered TLBI that isn't broadcast and takes the tag, which wasn't readable since.
     pub local: PeMask,
-    /// The same of broadcast TLBIs.
+    /// The PEs with an unanswered broadcast TLBI that takes the tag, which wasn't readable since.
     pub broadcast: PeMask,
 }
 

@@ -30,7 +30,8 @@ pub fn walk_text(walk: Walk, out: &mut ArrayVec<u8, 200>)
     add(out, b"\n");
 }
 
-/// The same of what `walk` found: the answer, or None where there is no such root.
+/// Puts the line of what `walk` found, the answer, or None where there is no such root, with its newline, into `out`,
+/// which is empty.
 #[tactic(auto, unfolding(crate::specs::ReportLines::found_text))]
 pub fn found_text(found: Option<Walk>, out: &mut ArrayVec<u8, 200>)
     requires { out.old.items ≡ [] }
