@@ -7,12 +7,10 @@
 //! page is already known by its number, `get_index` gives it without a look-up.
 //!
 //! Contracts see a map as they see an `IndexMap` of the kit: as the list of its entries, in the order in which their
-//! pages came, with the words of that crate. `note_visit` is an example of the calls, with its proof.
+//! pages came, with the words of that crate.
 #![tactic(auto)]
 
-pub mod example;
 mod map;
 mod nodes;
 
-pub use example::note_visit;
 pub use map::PageMap;

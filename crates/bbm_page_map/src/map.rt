@@ -92,6 +92,42 @@ impl<V> PageMap<V> {
         }
     }
 
+    /// `get_index_of` for a page that isn't where it was looked for first.
+    #[inline(never)]
+    fn search(&self, page: Page) -> Option<usize>
+        ensures found { is_some result ≡ is_some (get nat_eq self.now page) }
+        ensures at { IfSome result (λ i. slice_get (keys self.now) i ≡ Some page) }
+        ensures within { IfSome result (λ i. i < index_map_len self.now) }
+    {
+        self.get_index_of(page)
+    }
+
+    /// The number of a page in the order in which pages came; None where it isn't in the map. No answer depends on the
+    /// number `hint`, at which the page is looked for first.
+    #[inline(always)]
+    pub fn get_index_near(&self, page: Page, hint: usize) -> Option<usize>
+        ensures found { is_some result ≡ is_some (get nat_eq self.now page) }
+        ensures at { IfSome result (λ i. slice_get (keys self.now) i ≡ Some page) }
+        ensures within { IfSome result (λ i. i < index_map_len self.now) }
+    {
+        match self.get_index(hint) {
+            Some((key, _)) if key == page => Some(hint),
+            _ => self.search(page),
+        }
+    }
+
+    /// The value of a page; None where it isn't in the map. No answer depends on the number `hint`, at which the page
+    /// is looked for first.
+    #[inline(always)]
+    pub fn get_near(&self, page: Page, hint: usize) -> Option<&V>
+        ensures value { option_copied result ≡ get nat_eq self.now page }
+    {
+        match self.get_index_near(page, hint) {
+            Some(index) => Some(&self.entries[index].1),
+            None => None,
+        }
+    }
+
     /// The page with this number, in the order in which pages came, and its value.
     #[inline(always)]
     pub fn get_index(&self, index: usize) -> Option<(Page, &V)>
