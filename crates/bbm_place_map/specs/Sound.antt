@@ -79,11 +79,6 @@ pub record StillSound (cells cells' : Vec ℕ Global) (old new : Vec Entry Globa
   pub room : vec_capacity new ≡ vec_capacity old
   pub placed : (base : ℕ → Option ℕ) → Placed base old.items → Placed base new.items
 
--- And there are fewer than 2^32 of them.
-pub record FewNumbered (base : ℕ → Option ℕ) (count : ℕ) : Type 0 where
-  pub numbered : Numbered base count
-  pub few : count < 2 ^ 32
-
 -- Pages, cells, fewer than 2^32, and entries hang together.
 pub record IsSound (base : ℕ → Option ℕ) (cells : List ℕ) (entries : List Entry) : Type 0 where
   pub numbered : Numbered base (length cells)

@@ -8,10 +8,9 @@
 //!   then.
 //! - At a write call `state`, with the core of the value that the place has, or with None where that is invalid or the
 //!   page is in no tree. Call `write` of that state, with the core of the new value, and `set` with its result. Both
-//!   look the page up. Where it is tracked, `position` does so once for `live_at`, `core_at` and `write_at`, which makes
-//!   the new state by itself. `position_near` looks for the page first at a number, as `recent_page` tells it, and
-//!   `position_at` there alone. At a place that isn't broken (`is_broken_at`) `put_at` and `break_at` do what `write_at`
-//!   does.
+//!   look the page up. Where it is tracked, `position` does so once for `value_of`, `live_at`, `core_at` and `write_at`,
+//!   which makes the new state by itself. `position_near` looks for the page first at a number, as `recent_page` tells
+//!   it. At a place that isn't broken (`is_broken_at`) `put_at` and `break_at` do what `write_at` does.
 //! - At a TLBI call `issue_all`, with how far it covers each of the broken places. Where the few places that it can
 //!   cover are known call `issue_at` with these.
 //! - At a DSB call `publish`, then `complete`. They visit the places where the DSB may change something, seldom all.

@@ -83,26 +83,33 @@ impl PlaceMap {
         }
     }
 
-    /// The number of the place's value; None where its page isn't tracked. No answer depends on the number `near`, at
+    /// The number of the place's value; None where its page isn't tracked. No answer depends on the number `hint`, at
     /// which the page is looked for first.
     #[inline(always)]
-    fn index_near(&self, place: Place, near: usize) -> Option<usize>
+    fn index_near(&self, place: Place, hint: usize) -> Option<usize>
         ensures index { result ≡ index_of (get nat_eq self.now.pages) place }
         ensures within { IfSome result (λ j. j < vec_len self.now.values) }
         ensures tracked { is_tracked self.now (page_of place) ≡ true → IsSome result }
     {
         let _ = place.get();
-        read::index_near(&self.pages, &self.values, near, place)
+        match self.pages.get_near(place.page(), hint) {
+            Some(base) => Some(*base + place.index() as usize),
+            None => None,
+        }
     }
 
-    /// The same, looked up at once: most places that are asked for are in another page than that of the last write.
+    /// The number of the place's value, looked up at once, as most places that are asked for are in another page than
+    /// that of the last write; None where its page isn't tracked.
     fn index(&self, place: Place) -> Option<usize>
         ensures index { result ≡ index_of (get nat_eq self.now.pages) place }
         ensures within { IfSome result (λ j. j < vec_len self.now.values) }
         ensures tracked { is_tracked self.now (page_of place) ≡ true → IsSome result }
     {
         let _ = place.get();
-        read::index_at(&self.pages, &self.values, place)
+        match self.pages.get(place.page()) {
+            Some(base) => Some(*base + place.index() as usize),
+            None => None,
+        }
     }
 
     /// The number of the first value of a page; None where the page isn't tracked.

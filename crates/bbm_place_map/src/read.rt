@@ -6,7 +6,7 @@ ghost use Rattle.bbm_entry_state.specs.Points.{core_in, is_broken};
 ghost use Rattle.bbm_place_map.specs.Cells.{cell_by, number_of, slot_in, value_in};
 ghost use Rattle.bbm_place_map.specs.Entries.{WaitsAlike, entry_by, entry_in, marks_of, pends_of as spec_pends_of};
 ghost use Rattle.std.specs.Option.{option_copied};
-ghost use Rattle.bbm_place_map.specs.Sound.{FewNumbered, HasValue, Linked, index_of, slot_at, starts};
+ghost use Rattle.bbm_place_map.specs.Sound.{HasValue, Linked, slot_at, starts};
 ghost use Rattle.indexmap.specs.IndexMap.{get};
 ghost use Rattle.bbm_place_map.specs.States.{state_from};
 
@@ -14,7 +14,7 @@ use crate::entry::{Entry, pends_of};
 use bbm_descriptor::Core;
 use bbm_entry_state::{EntryState, Marks, Pends};
 use bbm_page_map::PageMap;
-use bbm_regimes::{Page, Pe, Place};
+use bbm_regimes::{Pe, Place};
 
 /// The state of a place that isn't broken: live with this core, or clean without one.
 pub fn whole(live: Option<Core>) -> EntryState
@@ -53,81 +53,6 @@ pub fn cell(parts: &[u32], j: usize) -> Option<usize>
 {
     match number(parts[j / 512]) {
         Some(start) => Some(start as usize + j % 512),
-        None => None,
-    }
-}
-
-/// The number of a place's value; None where its page isn't tracked.
-pub fn index_at(pages: &PageMap<usize>, values: &[u64], place: Place) -> Option<usize>
-    requires { FewNumbered (get nat_eq pages.now) (length values.now) }
-    ensures index { result ≡ index_of (get nat_eq pages.now) place }
-    ensures within { IfSome result (λ j. j < length values.now) }
-{
-    let _ = place.get();
-    match pages.get(place.page()).copied() {
-        Some(base) => Some(base + place.index() as usize),
-        None => None,
-    }
-}
-
-/// The number of the first value of the page that has this number in the order of the pages, where it is this page;
-/// None says nothing.
-#[inline(always)]
-fn base_here(pages: &PageMap<usize>, number: usize, page: Page) -> Option<usize>
-    ensures { IfSome result (λ base. get nat_eq pages.now page ≡ Some base) }
-{
-    match pages.get_index(number) {
-        Some((key, base)) => { if key == page { Some(*base) } else { None } }
-        None => None,
-    }
-}
-
-/// The number of the first value of a page; None where it isn't tracked. No answer depends on the number `near`, at
-/// which the page is looked for first.
-#[inline(always)]
-fn base_near(pages: &PageMap<usize>, near: usize, page: Page) -> Option<usize>
-    ensures { result ≡ get nat_eq pages.now page }
-{
-    match base_here(pages, near, page) {
-        Some(base) => Some(base),
-        None => pages.get(page).copied(),
-    }
-}
-
-/// The number of a place's value, where its page has this number in the order of the pages; None says nothing.
-#[inline(always)]
-pub fn index_here(
-    pages: &PageMap<usize>,
-    values: &[u64],
-    number: usize,
-    place: Place,
-) -> Option<usize>
-    requires { FewNumbered (get nat_eq pages.now) (length values.now) }
-    ensures { IfSome result (λ j. index_of (get nat_eq pages.now) place ≡ Some j) }
-{
-    let _ = place.get();
-    match base_here(pages, number, place.page()) {
-        Some(base) => Some(base + place.index() as usize),
-        None => None,
-    }
-}
-
-/// The number of a place's value; None where its page isn't tracked. No answer depends on the number `near`, at which
-/// the page is looked for first.
-#[inline(always)]
-pub fn index_near(
-    pages: &PageMap<usize>,
-    values: &[u64],
-    near: usize,
-    place: Place,
-) -> Option<usize>
-    requires { FewNumbered (get nat_eq pages.now) (length values.now) }
-    ensures index { result ≡ index_of (get nat_eq pages.now) place }
-    ensures within { IfSome result (λ j. j < length values.now) }
-{
-    let _ = place.get();
-    match base_near(pages, near, place.page()) {
-        Some(base) => Some(base + place.index() as usize),
         None => None,
     }
 }

@@ -45,25 +45,15 @@ impl PlaceMap {
         Some(Position { place, index })
     }
 
-    /// The same. No answer depends on the number `near`: the page is looked for first where it has this number in the
-    /// order in which pages were tracked.
+    /// Where the place is kept; None where its page isn't tracked. No answer depends on the number `hint`: the page is
+    /// looked for first where it has this number in the order in which pages were tracked.
     #[inline(always)]
-    pub fn position_near(&self, place: Place, near: usize) -> Option<Position>
+    pub fn position_near(&self, place: Place, hint: usize) -> Option<Position>
         ensures place { IfSome result (λ position. position.place ≡ place) }
         ensures position { IfSome result (λ position. IsPosition self.now position) }
         ensures tracked { is_tracked self.now (page_of place) ≡ true → IsSome result }
     {
-        let index = self.index_near(place, near)?;
-        Some(Position { place, index })
-    }
-
-    /// The position of a place, where its page has this number in the order in which pages were tracked; None says nothing.
-    #[inline(always)]
-    pub fn position_at(&self, place: Place, number: usize) -> Option<Position>
-        ensures place { IfSome result (λ position. position.place ≡ place) }
-        ensures position { IfSome result (λ position. IsPosition self.now position) }
-    {
-        let index = read::index_here(&self.pages, &self.values, number, place)?;
+        let index = self.index_near(place, hint)?;
         Some(Position { place, index })
     }
 
@@ -80,7 +70,16 @@ impl PlaceMap {
         requires level { level ≤ 3 }
         ensures { result ≡ core_of kind level (value_at self.now position.now.place) }
     {
-        core(kind, level, self.values[position.index])
+        core(kind, level, self.value_of(position))
+    }
+
+    /// The value of a position's place, 64 bits.
+    #[inline(always)]
+    pub fn value_of(&self, position: &Position) -> u64
+        requires { IsPosition self.now position.now }
+        ensures { result ≡ value_at self.now position.now.place }
+    {
+        self.values[position.index]
     }
 
     /// Whether a position's place is broken.
