@@ -126,8 +126,3 @@ put_missing {V} (e ∷ es) p v none =
 pub nothing : {X : Type 0} (o : Option X) → false ≡ is_some o → o ≡ None
 nothing None is = refl
 nothing (Some x) is = absurd (false≢true is)
-
--- where something is found there is something
-pub something : {X : Type 0} (found : Option ℕ) (i : ℕ) (o : Option X) → is_some found ≡ is_some o → found ≡ Some i
-    → is_some o ≡ true
-something found i o same is = sym same ∙ ap is_some is

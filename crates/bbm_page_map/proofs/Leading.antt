@@ -72,10 +72,6 @@ pub entry_some : (n : ℕ) → (n ≡ 0 → ⊥) → entry_of n ≡ Some (n - 1)
 entry_some zero some = absurd (some refl)
 entry_some (suc n) some = ap (λ (k : ℕ). Some k) (omega arith)
 
-entry_none : (n : ℕ) → entry_of n ≡ None → n ≡ 0
-entry_none zero none = refl
-entry_none (suc n) none = absurd (none-some n (sym none))
-
 -- the number of a page has six digits
 pub page_fits : (p : ℕ) → p < 2 ^ 48 → Fits 5 (p / 4096)
 unfolding Fits

@@ -36,4 +36,3 @@ pub mod Visiting
 pub mod Numbers
 pub mod Wholes
 pub mod Issued
-pub mod Shown

@@ -4,11 +4,11 @@ use Rattle.bbm_place_map.proofs.Common.{zero, suc, length, Option, Some, None, r
 use Rattle.bbm_place_map.proofs.Common.{inr}
 use Rattle.bbm_place_map.proofs.Common.{slice_get, if◌then◌else◌, option_map, cases_Bool, cases_eq, cond-true}
 use Rattle.bbm_place_map.proofs.Common.{cond-false, eq-eqb, ne_eqb, false≢true, same_Some, none-some, SmallVec, fun_ext}
-use Rattle.bbm_place_map.proofs.Common.{every_pe, Cover, is_broken, Marks, Pends, EntryState, Clean, Broken, slot_in}
+use Rattle.bbm_place_map.proofs.Common.{every_pe, Cover, is_broken, Marks, Pends, EntryState, Broken, slot_in}
 use Rattle.bbm_place_map.proofs.Common.{Advances, Publishes, Completes, entry_of, entry_in, marks_of, pends_of}
 use Rattle.bbm_place_map.proofs.Common.{pends_in, no_pends, Keeps, NotesAt, marks_in, pends_for, Linked, marks_of_state}
 use Rattle.bbm_place_map.proofs.Common.{HoldsFor, IsQuiet, IsTold, Waits, is_clean, Entry, Barrier, Issuing, Pending}
-use Rattle.bbm_place_map.proofs.Common.{WorkList, with_true}
+use Rattle.bbm_place_map.proofs.Common.{WorkList}
 use Rattle.bbm_regimes.specs.PeMask.{pe_in}
 use Rattle.bbm_place_map.specs.Dsbs.{HoldUntold, HoldWaiting}
 use Rattle.bbm_place_map.specs.Works.{IsToldAsBefore, GivesUp, Listed}
@@ -190,18 +190,6 @@ module _ (w w' : Work) (cells cells' : List ℕ) (entries entries' : List Entry)
       → HoldsFor w'.unpublished.items q wide i ⊎ IsTold wide x q marks) (sym pes) told_now)
       quiet_now
       (subst (λ (x : ℕ). w'.settled ≡ true → (i : ℕ) (marks : Marks) → marks_in cells' entries' i ≡ Some marks → is_clean x marks ≡ false) (sym pes) settled_now)
-
--- a place is written that isn't broken after
-pub listed_whole : (w : Work) (cells cells' : List ℕ) (entries entries' : List Entry) (j : ℕ)
-    → ((i : ℕ) → marks_in cells' entries' i ≡ (if nat_eq i j then None else marks_in cells entries i))
-    → ((q i : ℕ) → pends_for cells' entries' q i ≡ (if nat_eq i j then no_pends else pends_for cells entries q i))
-    → Listed w cells entries → Listed w cells' entries'
-listed_whole w cells cells' entries entries' j marks_are pends_are listed =
-    listed_set w w cells cells' entries entries' j Clean (marks_in cells entries j) refl refl
-    (λ marks is. absurd (none-some marks is)) (λ wide q i holds. holds) refl (λ settled. settled) (λ marks is. absurd (none-some marks is))
-    marks_are
-    (λ q i. pends_are q i ∙ ap (λ (b : Bool). if b then no_pends else pends_for cells entries q i) (with_true (nat_eq i j)))
-    listed
 
 -- a place is written that is broken after
 pub listed_broken : (w w' : Work) (cells cells' : List ℕ) (entries entries' : List Entry) (j : ℕ) (marks : Marks) (before : Option Marks)

@@ -1,16 +1,15 @@
 -- Pages and where their cells start.
 use Rattle.bbm_place_map.proofs.Common.{◌≡◌, ◌≢◌, ℕ, zero, suc, ◌+◌, ◌*◌, ◌/◌, ◌%◌, ◌<◌, ◌≤◌, Bool, true, false, nat_eq}
 use Rattle.bbm_place_map.proofs.Common.{◌==◌, List, length, Option, Some, None, refl, ap, sym, subst, ◌∙◌, arith, inl}
-use Rattle.bbm_place_map.proofs.Common.{inr, is_some, if◌then◌else◌, count_by, slice_get, drop, take, vec_len}
+use Rattle.bbm_place_map.proofs.Common.{inr, is_some, if◌then◌else◌, count_by, slice_get, vec_len}
 use Rattle.bbm_place_map.proofs.Common.{option_map, cases_eq, cases_Bool, eq-eqb, ne_eqb, eqb-true, cond-true}
 use Rattle.bbm_place_map.proofs.Common.{cond-false, false≢true, get_or_past, count_by-le-length, same_Some, none-some}
 use Rattle.bbm_place_map.proofs.Common.{fun_ext, get, cell_by, in_part, is_at, is_listed, number_of, slot_in, value_in}
 use Rattle.bbm_place_map.proofs.Common.{entry_in, entry_of, marks_of, no_pends, pends_of, place_cell, IsSame}
 use Rattle.bbm_place_map.proofs.Common.{KeepsItems, marks_in, pends_for, Linked, Numbered, Parted, Placed, at_index}
 use Rattle.bbm_place_map.proofs.Common.{index_of, starts, Entry, PlaceMap}
-use Rattle.std.proofs.Common.{option_and_then, slice_index_or}
+use Rattle.std.proofs.Common.{option_and_then}
 use Rattle.std.specs.Prelude.{unwrap_or}
-use Rattle.std.proofs.lemmas.List.{get_or-take, get_or-drop}
 use Rattle.bbm_place_map.specs.Entries.{entry_by}
 use Rattle.bbm_place_map.specs.Map.{is_tracked, marks_at, pends_at, restless_in, restless_place, value_at}
 use Rattle.bbm_place_map.specs.Sound.{HasValue, IsSound}
@@ -188,10 +187,6 @@ number_zero (suc k) h = absurd (none-some k (sym h))
 -- there is no cell past the cells
 pub slot_past : (cells : List ℕ) (j : ℕ) → length cells ≤ j → slot_in cells j ≡ None
 slot_past cells j past = ap number_of (get_or_past cells j 0 past)
-
--- the 512 values from a base on
-pub window : (values : List ℕ) (base n i : ℕ) → i < n → slice_index_or (take n (drop base values)) i 0 ≡ slice_index_or values (base + i) 0
-window values base n i below = get_or-take n (drop base values) i 0 below ∙ get_or-drop base values i 0
 
 -- no page has more cells than values
 pub parted_fewer : {base : ℕ → Option ℕ} {parts : List ℕ} {values cells : ℕ} → Parted base parts values cells → cells ≤ values

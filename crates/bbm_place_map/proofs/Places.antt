@@ -83,9 +83,6 @@ module _ (base : ℕ → Option ℕ) (count : ℕ) (numbered : Numbered base cou
       let start : f.start ≡ j = omega (arith, sum, none_before page first) in
       sym (ap base (whole page first)) ∙ f.is ∙ ap (λ (n : ℕ). Some n) start
 
-  pub page_whole : (page j : ℕ) → index_of base page ≡ Some j → page % 4096 ≡ 0 → j + 512 ≤ count
-  page_whole page j h first = numbered.within page j (page_start page j h first)
-
   pub page_inside : (page j i : ℕ) → index_of base page ≡ Some j → page % 4096 ≡ 0 → i < 512 → j + i < count
   page_inside page j i h first below =
       let in' : j + 512 ≤ count = numbered.within page j (page_start page j h first) in

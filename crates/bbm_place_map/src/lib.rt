@@ -16,17 +16,15 @@
 //! - At a DSB call `publish`, then `complete`. They visit the places where the DSB may change something, seldom all.
 //! - Where a page leaves its tree call `release`.
 //! - Where all places of a page are asked, `is_blank` tells whether there is anything. From the position of the page's
-//!   first place, `first_position`, `values_of` gives the values, `value_from` reads one of them, and `core_from` a core,
-//!   without a look-up.
+//!   first place, `first_position`, `value_from` reads the value of each, and `core_from` a core, without a look-up.
 //!
 //! `restless` and `restless_at` list the broken places, `restless_core` tells what each is broken over, `restless_page`
 //! where to look first for its page, and `restless_number` the number of a position's place. Each contract says of every
-//! place what it is after the call. `break_before_make` is an example of the calls, with its proof.
+//! place what it is after the call.
 #![tactic(auto)]
 
 mod complete;
 mod entry;
-pub mod example;
 mod found;
 mod issue;
 mod links;
@@ -38,7 +36,6 @@ mod read;
 mod work;
 mod write;
 
-pub use example::break_before_make;
 pub use found::{Answer, Found};
 pub use map::PlaceMap;
 pub use position::Position;

@@ -175,16 +175,6 @@ pub fn pends(parts: &[u32], cells: &[u32], broken: &[Entry], j: usize, issuer: P
     }
 }
 
-/// The values of a page, 512 from the base on.
-#[inline(always)]
-pub fn values_of(values: &[u64], base: usize) -> &[u64]
-    requires { base + 512 ≤ length values.now }
-    ensures len { length result.now ≡ 512 }
-    ensures each { (i : ℕ) → i < 512 → value_in result.now i ≡ value_in values.now (base + i) }
-{
-    &values[base..base + 512]
-}
-
 /// Whether these values are all 0.
 fn are_zero(values: &[u64]) -> bool
     ensures { (result ≡ true) ↔ ((i : ℕ) → i < length values.now → value_in values.now i ≡ 0) }
@@ -202,7 +192,7 @@ pub fn is_zero(values: &[u64], base: usize) -> bool
     requires { base + 512 ≤ length values.now }
     ensures { (result ≡ true) ↔ ((i : ℕ) → i < 512 → value_in values.now (base + i) ≡ 0) }
 {
-    are_zero(values_of(values, base))
+    are_zero(&values[base..base + 512])
 }
 
 /// Whether each of the 512 cells from the start on is 0.

@@ -18,7 +18,6 @@ use crate::orders::{Barrier, Issuing};
 use crate::{complete, issue, publish, work};
 use bbm_barriers::Dsb;
 use bbm_regimes::{NoMemory, Pe, PeMask};
-use std::alloc::Global;
 
 impl PlaceMap {
     /// A DSB of the issuer, in a log with `n` PEs, 1 to 128, published its writes. Only the marks change.
@@ -113,7 +112,6 @@ impl PlaceMap {
     /// issuer change.
     pub fn issue_at(
         &mut self,
-        _alloc: Global,
         issuer: Pe,
         reach: PeMask,
         broadcast: bool,

@@ -18,14 +18,8 @@ use bbm_entry_state::{EntryState, Pends};
 use bbm_regimes::{Kind, Page, Pe, Place};
 
 impl PlaceMap {
-    /// Whether the page is tracked.
-    pub fn is_tracked(&self, page: Page) -> bool
-        ensures { result ≡ is_tracked self.now page }
-    {
-        self.pages.contains_key(page)
-    }
-
-    /// The state of a place, where a place that isn't broken is live with this core, or clean without one.
+    /// The state of a place, where a place that isn't broken is live with this core, or clean without one. It is for
+    /// those who use the map by itself; the checker asks by position.
     pub fn state(&self, place: Place, live: Option<Core>) -> EntryState
         ensures { result ≡ state_at self.now live place }
     {
@@ -114,7 +108,8 @@ impl PlaceMap {
         }
     }
 
-    /// What waits at a place for the answers of the issuer's TLBIs. Nothing waits at a place that isn't broken.
+    /// What waits at a place for the answers of the issuer's TLBIs. Nothing waits at a place that isn't broken. It is for
+    /// those who use the map by itself; the checker issues and completes alone.
     pub fn pends(&self, issuer: Pe, place: Place) -> Pends
         ensures pends { WaitsAlike (pends_at self.now issuer place) result }
         ensures idle { marks_at self.now place ≡ None → IsIdle (pends_at self.now issuer place) }
@@ -163,18 +158,6 @@ impl PlaceMap {
         ensures { result ≡ value_at self.now (position.now.place + 8 * number) }
     {
         self.values[position.index + number as usize]
-    }
-
-    /// The values of the 512 places, in their order, of the page whose first place the position has.
-    #[inline(always)]
-    pub fn values_of(&self, position: &Position) -> &[u64]
-        requires position { IsPosition self.now position.now }
-        requires first { position.now.place % 4096 ≡ 0 }
-        ensures len { length result.now ≡ 512 }
-        ensures each { (i : ℕ) → i < 512 → slice_index_or result.now i 0
-            ≡ value_at self.now (position.now.place + 8 * i) }
-    {
-        read::values_of(&self.values, position.index)
     }
 
     /// The core that the place with this number, 0 to 511, has, of the page whose first place the position has: the one

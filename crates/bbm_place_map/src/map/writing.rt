@@ -18,7 +18,6 @@ use crate::{read, work, write};
 use bbm_descriptor::Core;
 use bbm_entry_state::{EntryState, Marks};
 use bbm_regimes::{NoMemory, Page, Pe, Place};
-use std::alloc::Global;
 
 impl PlaceMap {
     /// The PE writes a value at a position's place, the core of which is `new`, None where it is invalid; `live` is the
@@ -257,7 +256,7 @@ impl PlaceMap {
 
     /// Tracks the page: its values are 0, none of its places is broken, and nothing waits there. `NoMemory` where there
     /// is none, and nothing changes then. It takes all the room that `set` needs later.
-    pub fn track(&mut self, _alloc: Global, page: Page) -> Result<(), NoMemory>
+    pub fn track(&mut self, page: Page) -> Result<(), NoMemory>
         ensures pages { OnOk result ((p : ℕ) → is_tracked self.new p ≡ (nat_eq p page || is_tracked self.old p)) }
         ensures values { OnOk result ((a : ℕ) → value_at self.new a
             ≡ (if nat_eq (page_of a) page then 0 else value_at self.old a)) }
