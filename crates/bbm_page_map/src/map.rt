@@ -8,10 +8,13 @@ ghost use Rattle.std.specs.Map.{set_value};
 ghost use Rattle.indexmap.specs.IndexMap.{get, index_map_len, insert_entry, keys, spare};
 ghost use Rattle.indexmap.specs.IndexMap.{IsEmpty, IsUnchanged, IsUnique};
 
-use crate::nodes::{find, node_for, put_number, reserve_slots};
+use crate::nodes::{BASE, DEPTH, NODE_SLOTS, find, node_for, put_number, reserve_slots};
 use bbm_regimes::{NoMemory, Page};
 use std::alloc::Global;
 use std::marker::Model;
+
+/// The number of bytes of a page.
+const PAGE_BYTES: u64 = 4096;
 
 /// The number of pages that a map may have.
 const MAX_PAGES: usize = 1 << 24;
@@ -66,7 +69,7 @@ impl<V> PageMap<V> {
         ensures at { IfSome result (λ i. slice_get (keys self.now) i ≡ Some page) }
         ensures within { IfSome result (λ i. i < index_map_len self.now) }
     {
-        let number = find(&self.slots, page.get() / 4096);
+        let number = find(&self.slots, page.get() / PAGE_BYTES);
         if number == 0 {
             return None;
         }
@@ -164,9 +167,9 @@ impl<V> PageMap<V> {
         requires room { 0 < spare self.old }
         ensures { self.new.entries ≡ self.old.entries ++ (page, value) ∷ [] }
     {
-        let number = page.get() / 4096;
-        let node = node_for(&mut self.slots, 4, number / 64);
-        let at = 64 * node as usize + (number % 64) as usize;
+        let number = page.get() / PAGE_BYTES;
+        let node = node_for(&mut self.slots, DEPTH, number / BASE);
+        let at = NODE_SLOTS * node as usize + (number % BASE) as usize;
         put_number(&mut self.slots, at, self.entries.len() as u32 + 1);
         self.entries.push_reserved((page, value));
     }

@@ -2,15 +2,25 @@
 
 ghost use Rattle.std.specs.Prelude.{◌≡◌, ℕ, ◌+◌, ◌*◌, ◌/◌, ◌%◌, ◌^◌, ◌<◌, ◌≤◌, length, if◌then◌else◌};
 ghost use Rattle.std.specs.Prelude.{nat_eq, vec_len, vec_capacity, IsOk, OnOk};
+ghost use Rattle.bbm_page_map.specs.declared.nodes.TheConstants.{BASE, NODE_SLOTS};
 ghost use Rattle.bbm_page_map.specs.SlotNodes.{Fits, HasSlots, IsTree, LeadsAlike, reached, slot};
 
 use bbm_regimes::NoMemory;
 
+/// The base of the digits of a page's number, each of which chooses a slot of a node.
+pub const BASE: u64 = 64;
+
+/// The number of slots of a node: one for each digit.
+pub const NODE_SLOTS: usize = 64;
+
+/// How many digits of a page's number, those between the first and the last, lead from a node to a further one.
+pub const DEPTH: usize = 4;
+
 /// The number of slots of the first nodes, and of node 0 before them, which leads nowhere.
-const FIRST_SLOTS: usize = 65 * 64;
+const FIRST_SLOTS: usize = 65 * NODE_SLOTS;
 
 /// The number of slots that a further page may take.
-const MORE_SLOTS: usize = 4 * 64;
+const MORE_SLOTS: usize = DEPTH * NODE_SLOTS;
 
 /// The number of slots that there may be.
 const MAX_SLOTS: usize = 1 << 32;
@@ -18,10 +28,10 @@ const MAX_SLOTS: usize = 1 << 32;
 /// What stands in a node's slot for the last digit of a prefix of a page's number.
 #[inline(always)]
 fn step(slots: &[u32], node: u32, prefix: u64) -> u32
-    requires { 64 * node + 64 ≤ length slots.now }
-    ensures { result ≡ slot slots.now (64 * node + prefix % 64) }
+    requires { NODE_SLOTS * node + NODE_SLOTS ≤ length slots.now }
+    ensures { result ≡ slot slots.now (NODE_SLOTS * node + prefix % BASE) }
 {
-    slots[64 * node as usize + (prefix % 64) as usize]
+    slots[NODE_SLOTS * node as usize + (prefix % BASE) as usize]
 }
 
 /// What the six digits of a page's number lead to, the first of 64 nodes by the first of them; 0 where the number isn't
@@ -35,11 +45,11 @@ pub fn find(slots: &[u32], number: u64) -> u32
     if slots.is_empty() {
         return 0;
     }
-    let four = number / 64;
-    let three = four / 64;
-    let two = three / 64;
-    let one = two / 64;
-    let node = step(slots, 1 + (one / 64) as u32, one);
+    let four = number / BASE;
+    let three = four / BASE;
+    let two = three / BASE;
+    let one = two / BASE;
+    let node = step(slots, 1 + (one / BASE) as u32, one);
     let node = step(slots, node, two);
     let node = step(slots, node, three);
     let node = step(slots, node, four);
@@ -104,16 +114,16 @@ pub fn reserve_slots(slots: &mut Vec<u32>) -> Result<(), NoMemory>
 /// Adds a node, to which this slot then leads, where there is room for it; tells its number.
 fn add_node(slots: &mut Vec<u32>, at: usize) -> u32
     requires within { at < vec_len slots.old }
-    requires whole { vec_len slots.old % 64 ≡ 0 }
+    requires whole { vec_len slots.old % NODE_SLOTS ≡ 0 }
     requires few { vec_len slots.old < 2 ^ 32 }
-    requires room { vec_len slots.old + 64 ≤ vec_capacity slots.old }
-    ensures number { 64 * result ≡ vec_len slots.old }
-    ensures len { vec_len slots.new ≡ vec_len slots.old + 64 }
+    requires room { vec_len slots.old + NODE_SLOTS ≤ vec_capacity slots.old }
+    ensures number { NODE_SLOTS * result ≡ vec_len slots.old }
+    ensures len { vec_len slots.new ≡ vec_len slots.old + NODE_SLOTS }
     ensures room { vec_capacity slots.new ≡ vec_capacity slots.old }
     ensures slots { (i : ℕ) → slot slots.new.items i ≡ (if nat_eq i at then result else slot slots.old.items i) }
 {
-    let number = (slots.len() / 64) as u32;
-    add_slots(slots, 64);
+    let number = (slots.len() / NODE_SLOTS) as u32;
+    add_slots(slots, NODE_SLOTS);
     slots[at] = number;
     number
 }
@@ -125,21 +135,21 @@ pub fn node_for(slots: &mut Vec<u32>, depth: usize, prefix: u64) -> u32
     requires some { 0 < vec_len slots.old }
     requires depth { depth < 5 }
     requires fits { Fits depth prefix }
-    requires few { vec_len slots.old + 64 * depth ≤ 2 ^ 32 }
-    requires room { vec_len slots.old + 64 * depth ≤ vec_capacity slots.old }
+    requires few { vec_len slots.old + NODE_SLOTS * depth ≤ 2 ^ 32 }
+    requires room { vec_len slots.old + NODE_SLOTS * depth ≤ vec_capacity slots.old }
     ensures node { reached slots.new.items depth prefix ≡ result }
     ensures some { 0 < result }
     ensures tree { IsTree slots.new.items }
     ensures alike { LeadsAlike slots.old.items slots.new.items }
     ensures longer { vec_len slots.old ≤ vec_len slots.new }
-    ensures len { vec_len slots.new ≤ vec_len slots.old + 64 * depth }
+    ensures len { vec_len slots.new ≤ vec_len slots.old + NODE_SLOTS * depth }
     ensures room { vec_capacity slots.new ≡ vec_capacity slots.old }
 {
     if depth == 0 {
         return 1 + prefix as u32;
     }
-    let above = node_for(slots, depth - 1, prefix / 64);
-    let at = 64 * above as usize + (prefix % 64) as usize;
+    let above = node_for(slots, depth - 1, prefix / BASE);
+    let at = NODE_SLOTS * above as usize + (prefix % BASE) as usize;
     let node = slots[at];
     if node != 0 {
         return node;
