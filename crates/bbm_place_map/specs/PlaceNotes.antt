@@ -1,6 +1,6 @@
 -- What the issue of a TLBI makes of each entry.
 -- Source: project's own choice.
-use Rattle.std.specs.Prelude.{◌≡◌, ◌≢◌, ◌≤◌, ℕ, Bool, true, false, List, Some, slice_get}
+use Rattle.std.specs.Prelude.{◌≡◌, ◌≢◌, ◌≤◌, ℕ, Bool, true, false, List, Option, Some, nat_eq, slice_get}
 use Rattle.std.specs.Prelude.{Vec, length, vec_capacity}
 use Rattle.std.specs.declared.alloc.Global.{Global}
 use Rattle.bbm_tlbi_scope.specs.declared.entry.Cover.{Cover}
@@ -9,11 +9,22 @@ use Rattle.bbm_entry_state.specs.EntryCalls.{Noted}
 use Rattle.bbm_entry_state.specs.declared.state.EntryState.TheVariants.{Broken}
 use Rattle.bbm_place_map.specs.Entries.{pends_in, HasRoom}
 use Rattle.bbm_place_map.specs.Finds.{cover_in, is_found}
+use Rattle.bbm_place_map.specs.Sound.{IsSound, slot_at, starts}
 use Rattle.bbm_place_map.specs.Works.{HoldsFor, Waits}
+use Rattle.bbm_place_map.specs.declared.issue.Kept.{Kept}
+use Rattle.indexmap.specs.IndexMap.{get}
 use Rattle.bbm_place_map.specs.declared.entry.Entry.{Entry}
 use Rattle.bbm_place_map.specs.declared.found.Found.{Found}
 use Rattle.bbm_place_map.specs.declared.orders.Issuing.{Issuing}
 use Rattle.bbm_place_map.specs.declared.work.WorkList.{WorkList}
+
+-- the entries are those of the cells, where the pages and parts say
+abbrev pub IsKept : Kept → List Entry → Type 0
+IsKept kept entries = IsSound (starts (get nat_eq kept.pages.now) kept.parts.now) kept.cells.now entries
+
+-- the number of the entry of a place; None where the place isn't broken
+abbrev pub entry_number : Kept → ℕ → Option ℕ
+entry_number kept place = slot_at (starts (get nat_eq kept.pages.now) kept.parts.now) kept.cells.now place
 
 abbrev pub is_cover : Cover → Bool
 is_cover NoCover = false

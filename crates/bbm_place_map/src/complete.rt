@@ -23,6 +23,7 @@ use bbm_descriptor::Core;
 use bbm_entry_state::law_completes;
 use bbm_regimes::Pe;
 
+/// Whether the core is that of a table.
 fn is_table(core: Core) -> bool
     ensures { result ≡ spec_is_table core }
 {
@@ -95,7 +96,8 @@ fn complete_all(cells: &mut Vec<u32>, broken: &mut Vec<Entry>, barrier: &Barrier
     lost
 }
 
-/// A DSB of the issuer answered its TLBIs at the entry of a cell, if it has one.
+/// A DSB of the issuer answered its TLBIs at the entry of a cell, if it has one. Whether it left, and its core is a
+/// table.
 fn complete_cell(
     cells: &mut Vec<u32>,
     broken: &mut Vec<Entry>,
@@ -117,7 +119,7 @@ fn complete_cell(
     }
 }
 
-/// A DSB of the issuer answered its TLBIs at the entries of these cells.
+/// A DSB of the issuer answered its TLBIs at the entries of these cells. Whether one over a table left.
 fn complete_cells(
     cells: &mut Vec<u32>,
     broken: &mut Vec<Entry>,
@@ -167,7 +169,8 @@ fn relist(broken: &[Entry], list: &mut WorkList, issuer: Pe)
     }
 }
 
-/// A DSB of the issuer answered its TLBIs. The list has all cells at which something waits for that.
+/// A DSB of the issuer answered its TLBIs. The list has all cells at which something waits for that. Whether an entry
+/// over a table left.
 fn complete_list(
     cells: &mut Vec<u32>,
     broken: &mut Vec<Entry>,
@@ -181,7 +184,8 @@ fn complete_list(
     complete_cells(cells, broken, list, barrier)
 }
 
-/// The same of the issuer's list, which loses the cells where nothing is left, or passes them for the next such DSB.
+/// A DSB of the issuer answered its TLBIs. Its list, which has all cells at which something waits for that, loses the
+/// cells where nothing is left, or passes them for the next such DSB. Whether an entry over a table left.
 fn complete_listed(
     cells: &mut Vec<u32>,
     broken: &mut Vec<Entry>,
@@ -208,7 +212,8 @@ fn complete_listed(
     lost
 }
 
-/// The same for any list.
+/// A DSB of the issuer answered its TLBIs. Its list has given up, or has all cells at which something waits for that.
+/// Whether an entry over a table left.
 fn complete_by(
     cells: &mut Vec<u32>,
     broken: &mut Vec<Entry>,

@@ -3,7 +3,7 @@
 
 ghost use Rattle.std.specs.Prelude.{◌≡◌, ◌≢◌, ◌↔◌, ◌<◌, ℕ, IsTrue, OnOk, IfSome, None, length, true, false};
 ghost use Rattle.bbm_place_map.specs.Dsbs.{Takes, TakesAnswered};
-ghost use Rattle.bbm_place_map.specs.Entries.{Adds, lane_of as spec_lane_of, pend_in, pends_in, WaitsAlike};
+ghost use Rattle.bbm_place_map.specs.Entries.{Adds, lane_of, pend_in, pends_in, WaitsAlike};
 ghost use Rattle.bbm_place_map.specs.Entries.{HasRoom, IsFirst, Lacks};
 ghost use Rattle.smallvec.specs.SmallVec.{HasRoomFor};
 ghost use Rattle.bbm_entry_state.specs.EntryCalls.{Noted};
@@ -12,17 +12,18 @@ ghost use Rattle.bbm_place_map.specs.Works.{IsQuiet};
 ghost use Rattle.bbm_entry_state.specs.declared.state.EntryState.TheVariants as state;
 ghost use Rattle.bbm_tlbi_scope.specs.declared.entry.Cover.{Cover as TheCover};
 
+use crate::lane::Lane;
 use bbm_barriers::{Dsb, completes_broadcast, completes_local};
 use bbm_entry_state::{Marks, Pend, Pends};
 use bbm_regimes::{NoMemory, Pe, PeMask, Place};
 use bbm_tlbi_scope::Cover;
 use smallvec::SmallVec;
 
-/// What waits at a place for the answers of one lane: the TLBIs of one issuer that are broadcast, or its others.
+/// What waits at a place for the answers of one lane.
 #[derive(Clone, Copy, Debug)]
 pub struct Pending {
-    /// The lane: twice the number of the PE that issued them, and one more where they are broadcast.
-    pub lane: u8,
+    /// The lane.
+    pub lane: Lane,
     /// The PEs that wait.
     pub pend: Pend,
 }
@@ -31,7 +32,7 @@ pub struct Pending {
 impl Default for Pending {
     fn default() -> Pending {
         Pending {
-            lane: 0,
+            lane: Lane::default(),
             pend: Pend::none(),
         }
     }
@@ -68,17 +69,8 @@ fn is_quiet(pends: &Pends, wide: bool) -> bool
     }
 }
 
-/// The lane of an issuer's TLBIs that are broadcast, or of its others.
-#[inline(always)]
-pub fn lane_of(issuer: Pe, broadcast: bool) -> u8
-    ensures { result ≡ spec_lane_of issuer broadcast }
-{
-    let twice = issuer.get() + issuer.get();
-    if broadcast { twice + 1 } else { twice }
-}
-
 /// Where what waits for the answers of a lane is kept; None where nothing is.
-fn place_of(pendings: &[Pending], lane: u8) -> Option<usize>
+fn place_of(pendings: &[Pending], lane: Lane) -> Option<usize>
     ensures some { IfSome result (λ i. IsFirst pendings.now i lane) }
     ensures none { result ≡ None → Lacks pendings.now (length pendings.now) lane }
 {
@@ -91,7 +83,7 @@ fn place_of(pendings: &[Pending], lane: u8) -> Option<usize>
 }
 
 /// What waits for the answers of a lane.
-fn pend_of(pendings: &[Pending], lane: u8) -> Pend
+fn pend_of(pendings: &[Pending], lane: Lane) -> Pend
     ensures { (c : TheCover) (p : ℕ) → waits_in result c p ≡ waits_in (pend_in pendings.now lane) c p }
 {
     match place_of(pendings, lane) {
@@ -104,8 +96,8 @@ fn pend_of(pendings: &[Pending], lane: u8) -> Pend
 pub fn pends_of(pendings: &[Pending], issuer: Pe) -> Pends
     ensures { WaitsAlike (pends_in pendings.now issuer) result }
 {
-    let broadcast = pend_of(pendings, lane_of(issuer, true));
-    let local = pend_of(pendings, lane_of(issuer, false));
+    let broadcast = pend_of(pendings, Lane::new(issuer, true));
+    let local = pend_of(pendings, Lane::new(issuer, false));
     Pends { broadcast, local }
 }
 
@@ -160,7 +152,7 @@ fn grow(pendings: &mut SmallVec<Pending, 1>) -> Result<(), NoMemory>
 
 /// Whether what waits for the answers of a lane is kept first.
 #[inline(always)]
-fn is_first(pendings: &[Pending], lane: u8) -> bool
+fn is_first(pendings: &[Pending], lane: Lane) -> bool
     ensures { result ≡ true → IsFirst pendings.now 0 lane }
 {
     if pendings.is_empty() {
@@ -171,7 +163,7 @@ fn is_first(pendings: &[Pending], lane: u8) -> bool
 
 /// Whether there is room for what waits for the answers of a lane; false says nothing.
 #[inline(always)]
-fn has_room(pendings: &SmallVec<Pending, 1>, lane: u8) -> bool
+fn has_room(pendings: &SmallVec<Pending, 1>, lane: Lane) -> bool
     ensures { result ≡ true → HasRoom pendings.now lane }
 {
     if pendings.len() < pendings.capacity() {
@@ -182,7 +174,7 @@ fn has_room(pendings: &SmallVec<Pending, 1>, lane: u8) -> bool
 
 /// Makes room for what waits for the answers of a lane. `NoMemory` where there is none.
 #[inline(always)]
-pub fn make_room_for_lane(pendings: &mut SmallVec<Pending, 1>, lane: u8) -> Result<(), NoMemory>
+pub fn make_room_for_lane(pendings: &mut SmallVec<Pending, 1>, lane: Lane) -> Result<(), NoMemory>
     ensures items { pendings.new.items ≡ pendings.old.items }
     ensures room { OnOk result (HasRoom pendings.new lane) }
 {
@@ -192,9 +184,9 @@ pub fn make_room_for_lane(pendings: &mut SmallVec<Pending, 1>, lane: u8) -> Resu
     make_more_room(pendings, lane)
 }
 
-/// The same, where the first that is kept isn't of that lane.
+/// Makes room for what waits for the answers of a lane that isn't kept first. `NoMemory` where there is none.
 #[inline(never)]
-fn make_more_room(pendings: &mut SmallVec<Pending, 1>, lane: u8) -> Result<(), NoMemory>
+fn make_more_room(pendings: &mut SmallVec<Pending, 1>, lane: Lane) -> Result<(), NoMemory>
     ensures items { pendings.new.items ≡ pendings.old.items }
     ensures room { OnOk result (HasRoom pendings.new lane) }
 {
@@ -207,7 +199,7 @@ fn make_more_room(pendings: &mut SmallVec<Pending, 1>, lane: u8) -> Result<(), N
 /// Notes a TLBI over a place with these marks, where there is room for what waits for the answers of its lane.
 fn note_lane(
     pendings: &mut SmallVec<Pending, 1>,
-    lane: u8,
+    lane: Lane,
     marks: &Marks,
     reach: PeMask,
     cover: Cover,
@@ -252,7 +244,7 @@ pub fn is_noted(
     ensures { result ≡ true → Noted (state.Broken marks.now) (pends_in pendings.now issuer) reach broadcast cover
         (pends_in pendings.now issuer) }
 {
-    if !is_first(pendings, lane_of(issuer, broadcast)) {
+    if !is_first(pendings, Lane::new(issuer, broadcast)) {
         return false;
     }
     has_all(&pendings[0].pend, marks, reach, cover)
@@ -268,19 +260,19 @@ pub fn note_pends(
     broadcast: bool,
     cover: Cover,
 ) -> bool
-    requires { HasRoom pendings.old (spec_lane_of issuer broadcast) }
+    requires { HasRoom pendings.old (lane_of issuer broadcast) }
     ensures there { Noted (state.Broken marks.now) (pends_in pendings.old.items issuer) reach broadcast cover
         (pends_in pendings.new.items issuer) }
     ensures quiet { IsTrue result ↔ IsQuiet broadcast (pends_in pendings.old.items issuer) }
     ensures others { (q : ℕ) → q ≢ issuer → pends_in pendings.new.items q ≡ pends_in pendings.old.items q }
 {
     let quiet = is_quiet_for(pendings.as_slice(), issuer, broadcast);
-    note_lane(pendings, lane_of(issuer, broadcast), marks, reach, cover);
+    note_lane(pendings, Lane::new(issuer, broadcast), marks, reach, cover);
     quiet
 }
 
 /// Takes those out that wait for the answers of a lane, where the flag is true, and else none.
-fn take_if(pendings: &mut SmallVec<Pending, 1>, lane: u8, flag: bool) -> Pend
+fn take_if(pendings: &mut SmallVec<Pending, 1>, lane: Lane, flag: bool) -> Pend
     ensures { Takes lane flag pendings.old.items pendings.new.items result }
 {
     if !flag {
@@ -296,7 +288,7 @@ fn take_if(pendings: &mut SmallVec<Pending, 1>, lane: u8, flag: bool) -> Pend
 pub fn take_answered(pendings: &mut SmallVec<Pending, 1>, issuer: Pe, dsb: Dsb) -> Pend
     ensures { TakesAnswered dsb issuer pendings.old.items pendings.new.items result }
 {
-    let all = take_if(pendings, lane_of(issuer, true), completes_broadcast(dsb));
-    let own = take_if(pendings, lane_of(issuer, false), completes_local(dsb));
+    let all = take_if(pendings, Lane::new(issuer, true), completes_broadcast(dsb));
+    let own = take_if(pendings, Lane::new(issuer, false), completes_local(dsb));
     all.or(own)
 }

@@ -13,7 +13,7 @@ pub struct Found {
     /// How far it is covered.
     pub cover: Cover,
     /// The number among the broken places at which it is looked for first. No answer depends on it.
-    pub near: u32,
+    pub hint: u32,
 }
 
 /// What fills an unused place of a list: the first place, with no cover.
@@ -22,7 +22,7 @@ impl Default for Found {
         Found {
             place: Place::new(0).unwrap(),
             cover: Cover::None,
-            near: 0,
+            hint: 0,
         }
     }
 }

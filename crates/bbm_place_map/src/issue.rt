@@ -9,15 +9,15 @@ ghost use Rattle.bbm_tlbi_scope.specs.declared.entry.Cover.{Cover as TheCover};
 ghost use Rattle.bbm_place_map.specs.Each.{Advances};
 ghost use Rattle.bbm_place_map.specs.Entries.{position, lane_of, pends_in, HasRoom};
 ghost use Rattle.bbm_place_map.specs.Finds.{is_found};
-ghost use Rattle.indexmap.specs.IndexMap.{get};
-ghost use Rattle.bbm_place_map.specs.Sound.{IsSound, SameSize, slot_at, starts};
-ghost use Rattle.bbm_place_map.specs.PlaceNotes.{IsNoted, Keeps, Readies, NotesAs, NotesAt, NotesFound, NotesOne};
-ghost use Rattle.bbm_place_map.specs.PlaceNotes.{OnlyNotes, is_cover as spec_is_cover};
+ghost use Rattle.bbm_place_map.specs.Sound.{SameSize};
+ghost use Rattle.bbm_place_map.specs.PlaceNotes.{IsKept, IsNoted, Keeps, Readies, NotesAs, NotesAt, NotesFound, NotesOne};
+ghost use Rattle.bbm_place_map.specs.PlaceNotes.{OnlyNotes, entry_number, is_cover as spec_is_cover};
 ghost use Rattle.bbm_place_map.specs.Works.{IsQuiet, Waits};
 ghost use Rattle.bbm_place_map.specs.declared.entry.Entry.{Entry as TheEntry};
 
 use crate::entry::{Entry, is_noted, make_room_for_lane, note_pends};
 use crate::found::{Answer, Found};
+use crate::lane::Lane;
 use crate::orders::Issuing;
 use crate::read::entry_at;
 use crate::work::{WorkList, add_for};
@@ -36,17 +36,17 @@ pub struct Kept<'a> {
     pub cells: &'a [u32],
 }
 
-/// The number of a place's entry; None where the place isn't broken. No answer depends on the number `near`, at which
+/// The number of a place's entry; None where the place isn't broken. No answer depends on the number `hint`, at which
 /// it is looked for first.
 #[inline(always)]
-fn entry_of(kept: &Kept, broken: &[Entry], place: Place, near: u32) -> Option<u32>
-    requires { IsSound (starts (get nat_eq kept.now.pages.now) kept.now.parts.now) kept.now.cells.now broken.now }
-    ensures { result ≡ slot_at (starts (get nat_eq kept.now.pages.now) kept.now.parts.now) kept.now.cells.now place }
+fn entry_of(kept: &Kept, broken: &[Entry], place: Place, hint: u32) -> Option<u32>
+    requires { IsKept kept.now broken.now }
+    ensures { result ≡ entry_number kept.now place }
 {
-    let number = near as usize;
+    let number = hint as usize;
     if number < broken.len() {
         if broken[number].place == place {
-            return Some(near);
+            return Some(hint);
         }
     }
     entry_at(kept.pages, kept.parts, kept.cells, place)
@@ -66,7 +66,7 @@ fn is_cover(cover: Cover) -> bool
 
 /// Makes room at an entry for what waits for the answers of a lane. `NoMemory` where there is none.
 #[inline(always)]
-fn make_room_at(broken: &mut Vec<Entry>, k: usize, lane: u8) -> Result<(), NoMemory>
+fn make_room_at(broken: &mut Vec<Entry>, k: usize, lane: Lane) -> Result<(), NoMemory>
     requires { k < vec_len broken.old }
     ensures entry { (e : TheEntry) → slice_get broken.old.items k ≡ Some e → (f : TheEntry) × (position f ≡ position e)
         × Keeps e f × OnOk result (HasRoom f.pends lane)
@@ -169,7 +169,7 @@ pub fn make_room(
     broken: &mut Vec<Entry>,
     covers: &[Answer],
     start: usize,
-    lane: u8,
+    lane: Lane,
 ) -> Result<(), NoMemory>
     requires { length covers.now ≡ length broken.old.items }
     ensures each { (m : ℕ) → Advances Keeps (slice_get broken.old.items m) (slice_get broken.new.items m) }
@@ -232,9 +232,9 @@ fn make_room_for(
     kept: &Kept,
     broken: &mut Vec<Entry>,
     item: Found,
-    lane: u8,
+    lane: Lane,
 ) -> Result<(), NoMemory>
-    requires { IsSound (starts (get nat_eq kept.now.pages.now) kept.now.parts.now) kept.now.cells.now broken.old.items }
+    requires { IsKept kept.now broken.old.items }
     ensures each { (m : ℕ) → Advances Keeps (slice_get broken.old.items m) (slice_get broken.new.items m) }
     ensures ready { OnOk result ((m : ℕ) (e : TheEntry) → slice_get broken.new.items m ≡ Some e → e.place ≡ item.place
         → HasRoom e.pends lane) }
@@ -242,7 +242,7 @@ fn make_room_for(
         → slice_get broken.new.items m ≡ slice_get broken.old.items m }
     ensures size { SameSize broken.old broken.new }
 {
-    match entry_of(kept, broken, item.place, item.near) {
+    match entry_of(kept, broken, item.place, item.hint) {
         Some(k) => make_room_at(broken, k as usize, lane),
         None => Ok(()),
     }
@@ -253,9 +253,9 @@ pub fn make_room_found(
     kept: &Kept,
     broken: &mut Vec<Entry>,
     found: &[Found],
-    lane: u8,
+    lane: Lane,
 ) -> Result<(), NoMemory>
-    requires { IsSound (starts (get nat_eq kept.now.pages.now) kept.now.parts.now) kept.now.cells.now broken.old.items }
+    requires { IsKept kept.now broken.old.items }
     ensures each { (m : ℕ) → Advances Keeps (slice_get broken.old.items m) (slice_get broken.new.items m) }
     ensures ready { OnOk result ((m : ℕ) (e : TheEntry) → slice_get broken.new.items m ≡ Some e
         → is_found found.now e.place ≡ true → HasRoom e.pends lane) }
@@ -276,15 +276,14 @@ fn note_for(
     tlbi: &Issuing,
     lists: &mut Vec<WorkList>,
 )
-    requires sound { IsSound (starts (get nat_eq kept.now.pages.now) kept.now.parts.now) kept.now.cells.now
-        broken.old.items }
+    requires sound { IsKept kept.now broken.old.items }
     requires ready { (m : ℕ) (e : TheEntry) → slice_get broken.old.items m ≡ Some e → e.place ≡ item.place
         → HasRoom e.pends (lane_of tlbi.now.issuer tlbi.now.broadcast) }
     ensures each { (m : ℕ) → Advances (NotesOne item.place item.cover tlbi.now lists.new.items)
         (slice_get broken.old.items m) (slice_get broken.new.items m) }
     ensures rest { OnlyNotes broken.old broken.new lists.old.items lists.new.items }
 {
-    if let Some(k) = entry_of(kept, broken, item.place, item.near) {
+    if let Some(k) = entry_of(kept, broken, item.place, item.hint) {
         note_entry(broken, k as usize, tlbi, item.cover, lists);
     }
 }
@@ -298,8 +297,7 @@ fn note_next(
     tlbi: &Issuing,
     lists: &mut Vec<WorkList>,
 )
-    requires sound { IsSound (starts (get nat_eq kept.now.pages.now) kept.now.parts.now) kept.now.cells.now
-        broken.old.items }
+    requires sound { IsKept kept.now broken.old.items }
     requires within { i < length found.now }
     requires ready { (m : ℕ) (e : TheEntry) → slice_get broken.old.items m ≡ Some e
         → is_found found.now e.place ≡ true → is_found (take i found.now) e.place ≡ false
@@ -326,8 +324,7 @@ pub fn note_found(
     tlbi: &Issuing,
     lists: &mut Vec<WorkList>,
 )
-    requires sound { IsSound (starts (get nat_eq kept.now.pages.now) kept.now.parts.now) kept.now.cells.now
-        broken.old.items }
+    requires sound { IsKept kept.now broken.old.items }
     requires ready { (m : ℕ) (e : TheEntry) → slice_get broken.old.items m ≡ Some e
         → is_found found.now e.place ≡ true → HasRoom e.pends (lane_of tlbi.now.issuer tlbi.now.broadcast) }
     ensures each { (m : ℕ) → Advances (NotesFound found.now tlbi.now lists.new.items)

@@ -27,6 +27,7 @@ mod complete;
 mod entry;
 mod found;
 mod issue;
+mod lane;
 mod links;
 mod map;
 mod orders;

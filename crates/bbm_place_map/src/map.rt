@@ -29,10 +29,6 @@ use std::alloc::Global;
 /// The number of values that may be kept.
 const MAX_VALUES: usize = 1 << 31;
 
-/// The number of values of a page. Pages have theirs one after another, in the order in which they were tracked. A page
-/// has as many cells from its first broken place on.
-const VALUES: usize = 512;
-
 /// The values of the places of the tracked pages, and of the broken ones among them the marks and the pendings.
 #[derive(Drop)]
 pub struct PlaceMap {
@@ -61,6 +57,7 @@ impl PlaceMap {
     ghost use Rattle.bbm_entry_state.specs.EntryStanding.{IsIdle};
     ghost use Rattle.bbm_place_map.specs.Map.{value_at, marks_at, pends_at, is_tracked, page_of, restless_in};
     ghost use Rattle.bbm_place_map.specs.Sound.{index_of};
+    ghost use Rattle.bbm_place_map.specs.declared.read.TheConstants.{VALUES};
 
     /// A map that tracks no page. It takes no memory yet.
     pub fn new(alloc: Global) -> PlaceMap
@@ -115,7 +112,7 @@ impl PlaceMap {
     /// The number of the first value of a page; None where the page isn't tracked.
     fn base(&self, page: Page) -> Option<usize>
         ensures base { result ≡ get nat_eq self.now.pages page }
-        ensures within { IfSome result (λ b. b + 512 ≤ vec_len self.now.values) }
+        ensures within { IfSome result (λ b. b + VALUES ≤ vec_len self.now.values) }
     {
         self.pages.get(page).copied()
     }

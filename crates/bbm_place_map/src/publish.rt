@@ -33,7 +33,7 @@ fn publish_at(broken: &mut Vec<Entry>, k: usize, barrier: &Barrier, heard: PeMas
     }
 }
 
-/// The same at the entry of a cell, if it has one.
+/// A DSB of the issuer, which publishes to these PEs, published its writes at the entry of a cell, if it has one.
 fn publish_cell(cells: &[u32], broken: &mut Vec<Entry>, cell: u32, barrier: &Barrier, heard: PeMask)
     requires linked { Linked cells.now broken.old.items }
     requires heard { IsAudience barrier.now heard }
@@ -49,7 +49,7 @@ fn publish_cell(cells: &[u32], broken: &mut Vec<Entry>, cell: u32, barrier: &Bar
     }
 }
 
-/// The same at the entries of these cells.
+/// A DSB of the issuer, which publishes to these PEs, published its writes at the entries of these cells.
 fn publish_cells(
     cells: &[u32],
     broken: &mut Vec<Entry>,
@@ -130,8 +130,9 @@ fn publish_list(
     publish_cells(cells, broken, part(list, wide), barrier, heard);
 }
 
-/// The same. The list loses its cells where nothing is left, or passes them for the next DSB that reaches its PE alone.
-/// A DSB that publishes nothing visits none.
+/// A DSB of the issuer published its writes. Its list, which has all entries of which it can publish more, loses its
+/// cells where nothing is left, or passes them for the next DSB that reaches its PE alone. A DSB that publishes nothing
+/// visits none.
 fn publish_listed(cells: &[u32], broken: &mut Vec<Entry>, list: &mut WorkList, barrier: &Barrier)
     requires able { CanPublish barrier.now cells.now broken.old.items }
     requires open { list.old.given_up ≡ false }

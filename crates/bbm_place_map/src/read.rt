@@ -9,6 +9,7 @@ ghost use Rattle.std.specs.Option.{option_copied};
 ghost use Rattle.bbm_place_map.specs.Sound.{HasValue, Linked, slot_at, starts};
 ghost use Rattle.indexmap.specs.IndexMap.{get};
 ghost use Rattle.bbm_place_map.specs.States.{state_from};
+ghost use Rattle.bbm_place_map.specs.declared.read.TheConstants.{VALUES};
 
 use crate::entry::{Entry, pends_of};
 use bbm_descriptor::Core;
@@ -16,8 +17,12 @@ use bbm_entry_state::{EntryState, Marks, Pends};
 use bbm_page_map::PageMap;
 use bbm_regimes::{Pe, Place};
 
+/// The number of values of a page. Pages have theirs one after another, in the order in which they were tracked. A page
+/// has as many cells from its first broken place on.
+pub const VALUES: usize = 512;
+
 /// The state of a place that isn't broken: live with this core, or clean without one.
-pub fn whole(live: Option<Core>) -> EntryState
+pub fn unbroken(live: Option<Core>) -> EntryState
     ensures { result ≡ state_from live None }
 {
     match live {
@@ -48,11 +53,11 @@ pub fn slot_of(cells: &[u32], j: usize) -> Option<u32>
 /// The number of the cell of the value with this number; None where no place of its page was broken yet.
 #[inline(always)]
 pub fn cell(parts: &[u32], j: usize) -> Option<usize>
-    requires { j / 512 < length parts.now }
+    requires { j / VALUES < length parts.now }
     ensures { result ≡ cell_by parts.now j }
 {
-    match number(parts[j / 512]) {
-        Some(start) => Some(start as usize + j % 512),
+    match number(parts[j / VALUES]) {
+        Some(start) => Some(start as usize + j % VALUES),
         None => None,
     }
 }
@@ -63,7 +68,7 @@ pub fn entry_at(pages: &PageMap<usize>, parts: &[u32], cells: &[u32], place: Pla
 {
     let _ = place.get();
     match pages.get(place.page()).copied() {
-        Some(base) => match slot_of(parts, base / 512) {
+        Some(base) => match slot_of(parts, base / VALUES) {
             Some(start) => slot_of(cells, start as usize + place.index() as usize),
             None => None,
         },
@@ -74,7 +79,7 @@ pub fn entry_at(pages: &PageMap<usize>, parts: &[u32], cells: &[u32], place: Pla
 /// The number of the entry of the place of a value; None where the place isn't broken.
 #[inline(always)]
 pub fn entry_number(parts: &[u32], cells: &[u32], j: usize) -> Option<u32>
-    requires { j / 512 < length parts.now }
+    requires { j / VALUES < length parts.now }
     ensures { result ≡ option_and_then (slot_in cells.now) (cell_by parts.now j) }
 {
     match cell(parts, j) {
@@ -120,7 +125,7 @@ pub fn state(
 {
     match entry(parts, cells, broken, j) {
         Some(entry) => EntryState::Broken { marks: entry.marks },
-        None => whole(live),
+        None => unbroken(live),
     }
 }
 
@@ -189,18 +194,18 @@ fn are_zero(values: &[u64]) -> bool
 
 /// Whether each of the 512 values from the base on is 0.
 pub fn is_zero(values: &[u64], base: usize) -> bool
-    requires { base + 512 ≤ length values.now }
-    ensures { (result ≡ true) ↔ ((i : ℕ) → i < 512 → value_in values.now (base + i) ≡ 0) }
+    requires { base + VALUES ≤ length values.now }
+    ensures { (result ≡ true) ↔ ((i : ℕ) → i < VALUES → value_in values.now (base + i) ≡ 0) }
 {
-    are_zero(&values[base..base + 512])
+    are_zero(&values[base..base + VALUES])
 }
 
 /// Whether each of the 512 cells from the start on is 0.
 fn are_free(cells: &[u32], start: usize) -> bool
-    requires { start + 512 ≤ length cells.now }
-    ensures { (result ≡ true) ↔ ((i : ℕ) → i < 512 → value_in cells.now (start + i) ≡ 0) }
+    requires { start + VALUES ≤ length cells.now }
+    ensures { (result ≡ true) ↔ ((i : ℕ) → i < VALUES → value_in cells.now (start + i) ≡ 0) }
 {
-    for i in 0..512 {
+    for i in 0..VALUES {
         if cells[start + i] != 0 {
             return false;
         }
@@ -210,11 +215,11 @@ fn are_free(cells: &[u32], start: usize) -> bool
 
 /// Whether no cell of the page whose values start there has an entry.
 pub fn is_free(parts: &[u32], cells: &[u32], base: usize) -> bool
-    requires { (start : ℕ) → slot_in parts.now (base / 512) ≡ Some start → start + 512 ≤ length cells.now }
-    ensures { (result ≡ true) ↔ ((start : ℕ) → slot_in parts.now (base / 512) ≡ Some start
-        → (i : ℕ) → i < 512 → value_in cells.now (start + i) ≡ 0) }
+    requires { (start : ℕ) → slot_in parts.now (base / VALUES) ≡ Some start → start + VALUES ≤ length cells.now }
+    ensures { (result ≡ true) ↔ ((start : ℕ) → slot_in parts.now (base / VALUES) ≡ Some start
+        → (i : ℕ) → i < VALUES → value_in cells.now (start + i) ≡ 0) }
 {
-    match slot_of(parts, base / 512) {
+    match slot_of(parts, base / VALUES) {
         Some(start) => are_free(cells, start as usize),
         None => true,
     }

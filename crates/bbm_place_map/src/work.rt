@@ -88,9 +88,15 @@ pub fn pass_local(list: &mut WorkList)
     list.local_done = list.cells.len();
 }
 
+/// How many cells a list has at least that is long beside the number of broken places.
+const LONG: usize = 64;
+
+/// The number of PEs that a log may have.
+const PES: usize = 128;
+
 /// Whether a list is long beside the number of broken places.
 fn is_long(count: usize, broken: usize) -> bool {
-    count >= 64 && count / 2 >= broken
+    count >= LONG && count / 2 >= broken
 }
 
 /// Adds a cell, or gives up where the list is long beside the number of broken places, or there is no room for it.
@@ -163,7 +169,7 @@ fn add_writers(lists: &mut Vec<WorkList>, writers: PeMask, pes: u8, cell: u32, b
     }
 }
 
-/// The same, where most often this PE is the only one.
+/// Adds a cell to the lists of these PEs, of the first `pes`, of which most often this one is the only one.
 #[inline(always)]
 fn add_mostly(
     lists: &mut Vec<WorkList>,
@@ -183,7 +189,7 @@ fn add_mostly(
     }
 }
 
-/// The same, where there may be none of them.
+/// Adds a cell to the lists of these PEs, of the first `pes`, if there are any: most often this one alone.
 #[inline(always)]
 fn add_fresh(
     lists: &mut Vec<WorkList>,
@@ -286,7 +292,7 @@ pub fn begin(work: &mut Work, n: u8, broken: usize)
 pub fn make_lists(lists: &mut Vec<WorkList>, alloc: Global)
     ensures { (wide : Bool) (q j : ℕ) → HoldsFor lists.old.items q wide j → HoldsFor lists.new.items q wide j }
 {
-    for _pe in lists.len()..128 {
+    for _pe in lists.len()..PES {
         let list = WorkList {
             given_up: true,
             local_done: 0,

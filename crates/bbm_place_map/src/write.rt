@@ -6,10 +6,11 @@ ghost use Rattle.bbm_place_map.specs.Cells.{value_in, slot_in, cell_by, in_page,
 ghost use Rattle.bbm_place_map.specs.Puts.{Breaks, Clears};
 ghost use Rattle.bbm_place_map.specs.Sound.{CanBreak, FewLinked, KeepsSlots, SameSize};
 ghost use Rattle.bbm_place_map.specs.declared.entry.Entry.{Entry as TheEntry};
+ghost use Rattle.bbm_place_map.specs.declared.read.TheConstants.{VALUES};
 
 use crate::entry::Entry;
 use crate::links::{link, unlink};
-use crate::read::{cell, slot_of};
+use crate::read::{VALUES, cell, slot_of};
 use bbm_entry_state::Marks;
 use bbm_regimes::Place;
 use std::alloc::Global;
@@ -57,7 +58,7 @@ fn clear(cells: &mut Vec<u32>, broken: &mut Vec<Entry>, j: usize)
 #[inline(always)]
 pub fn clear_by(parts: &[u32], cells: &mut Vec<u32>, broken: &mut Vec<Entry>, j: usize)
     requires able { FewLinked cells.old broken.old }
-    requires part { j / 512 < length parts.now }
+    requires part { j / VALUES < length parts.now }
     ensures { Clears (is_at (cell_by parts.now j)) cells.old cells.new broken.old broken.new }
 {
     if let Some(i) = cell(parts, j) {
@@ -68,10 +69,10 @@ pub fn clear_by(parts: &[u32], cells: &mut Vec<u32>, broken: &mut Vec<Entry>, j:
 /// No place of the 512 cells from the start on is broken, and nothing waits there.
 fn clear_page(cells: &mut Vec<u32>, broken: &mut Vec<Entry>, start: usize)
     requires able { FewLinked cells.old broken.old }
-    requires within { start + 512 ≤ vec_len cells.old }
-    ensures { Clears (in_page start 512) cells.old cells.new broken.old broken.new }
+    requires within { start + VALUES ≤ vec_len cells.old }
+    ensures { Clears (in_page start VALUES) cells.old cells.new broken.old broken.new }
 {
-    for i in 0..512 {
+    for i in 0..VALUES {
         clear(cells, broken, start + i);
     }
 }
@@ -79,10 +80,10 @@ fn clear_page(cells: &mut Vec<u32>, broken: &mut Vec<Entry>, start: usize)
 /// No place of the page whose values start there is broken, and nothing waits there.
 pub fn clear_part(parts: &[u32], cells: &mut Vec<u32>, broken: &mut Vec<Entry>, base: usize)
     requires able { FewLinked cells.old broken.old }
-    requires within { (start : ℕ) → slot_in parts.now (base / 512) ≡ Some start → start + 512 ≤ vec_len cells.old }
-    ensures { Clears (in_part (slot_in parts.now (base / 512))) cells.old cells.new broken.old broken.new }
+    requires within { (start : ℕ) → slot_in parts.now (base / VALUES) ≡ Some start → start + VALUES ≤ vec_len cells.old }
+    ensures { Clears (in_part (slot_in parts.now (base / VALUES))) cells.old cells.new broken.old broken.new }
 {
-    if let Some(start) = slot_of(parts, base / 512) {
+    if let Some(start) = slot_of(parts, base / VALUES) {
         clear_page(cells, broken, start as usize);
     }
 }
@@ -100,25 +101,25 @@ pub fn put_value(values: &mut Vec<u64>, j: usize, value: u64)
 
 /// The 512 values from the base on are 0.
 pub fn zero_page(values: &mut Vec<u64>, base: usize)
-    requires { base + 512 ≤ vec_len values.old }
+    requires { base + VALUES ≤ vec_len values.old }
     ensures len { vec_len values.new ≡ vec_len values.old }
     ensures values { (i : ℕ) → value_in values.new.items i
-        ≡ (if in_page base 512 i then 0 else value_in values.old.items i) }
+        ≡ (if in_page base VALUES i then 0 else value_in values.old.items i) }
 {
-    for i in 0..512 {
+    for i in 0..VALUES {
         put_value(values, base + i, 0);
     }
 }
 
 /// Adds 512 values that are 0, where there is room for them: half at a time, which are written by wide stores.
 pub fn add_values(values: &mut Vec<u64>)
-    requires { vec_len values.old + 512 ≤ vec_capacity values.old }
-    ensures len { vec_len values.new ≡ vec_len values.old + 512 }
+    requires { vec_len values.old + VALUES ≤ vec_capacity values.old }
+    ensures len { vec_len values.new ≡ vec_len values.old + VALUES }
     ensures room { vec_capacity values.old ≤ vec_capacity values.new }
     ensures values { (i : ℕ) → value_in values.new.items i ≡ value_in values.old.items i }
 {
     for _half in 0..2usize {
-        let all = values.len() + 256;
+        let all = values.len() + VALUES / 2;
         let _ = values.resize(all, 0);
     }
 }

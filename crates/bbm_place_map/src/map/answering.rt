@@ -10,9 +10,9 @@ ghost use Rattle.bbm_entry_state.specs.EntryCalls.{Published, Noted, Completed};
 ghost use Rattle.bbm_descriptor.specs.declared.desc.Core.{Core as TheCore};
 ghost use Rattle.bbm_place_map.specs.Map.{marks_at, pends_at, restless_in, restless_place, state_at};
 
-use crate::entry::lane_of;
 use crate::found::{Answer, Found};
 use crate::issue::Kept;
+use crate::lane::Lane;
 use crate::map::PlaceMap;
 use crate::orders::{Barrier, Issuing};
 use crate::{complete, issue, publish, work};
@@ -95,7 +95,12 @@ impl PlaceMap {
             broadcast,
         };
         let start = issue::first_open(&self.broken, covers, &tlbi);
-        issue::make_room(&mut self.broken, covers, start, lane_of(issuer, broadcast))?;
+        issue::make_room(
+            &mut self.broken,
+            covers,
+            start,
+            Lane::new(issuer, broadcast),
+        )?;
         issue::note(
             &mut self.broken,
             covers,
@@ -134,7 +139,7 @@ impl PlaceMap {
             parts: &self.parts,
             cells: &self.cells,
         };
-        issue::make_room_found(&kept, &mut self.broken, found, lane_of(issuer, broadcast))?;
+        issue::make_room_found(&kept, &mut self.broken, found, Lane::new(issuer, broadcast))?;
         issue::note_found(
             &kept,
             &mut self.broken,

@@ -9,10 +9,11 @@ ghost use Rattle.bbm_entry_state.specs.EntryStanding.{IsIdle};
 ghost use Rattle.bbm_place_map.specs.Map.{value_at, marks_at, pends_at, is_tracked, IsPosition, page_of, restless_in};
 ghost use Rattle.bbm_place_map.specs.Map.{restless_place, state_at};
 ghost use Rattle.bbm_place_map.specs.Entries.{WaitsAlike};
+ghost use Rattle.bbm_place_map.specs.declared.read.TheConstants.{VALUES};
 
 use crate::map::PlaceMap;
 use crate::position::Position;
-use crate::read;
+use crate::read::{self, VALUES};
 use bbm_descriptor::{Core, core};
 use bbm_entry_state::{EntryState, Pends};
 use bbm_regimes::{Kind, Page, Pe, Place};
@@ -25,7 +26,7 @@ impl PlaceMap {
     {
         match self.index(place) {
             Some(j) => read::state(&self.parts, &self.cells, &self.broken, j, live),
-            None => read::whole(live),
+            None => read::unbroken(live),
         }
     }
 
@@ -104,7 +105,7 @@ impl PlaceMap {
                 let live = core(kind, level, self.values[j]);
                 read::state(&self.parts, &self.cells, &self.broken, j, live)
             }
-            None => read::whole(core(kind, level, 0)),
+            None => read::unbroken(core(kind, level, 0)),
         }
     }
 
@@ -154,7 +155,7 @@ impl PlaceMap {
     pub fn value_from(&self, position: &Position, number: u64) -> u64
         requires position { IsPosition self.now position.now }
         requires first { position.now.place % 4096 ≡ 0 }
-        requires within { number < 512 }
+        requires within { number < VALUES }
         ensures { result ≡ value_at self.now (position.now.place + 8 * number) }
     {
         self.values[position.index + number as usize]
@@ -166,7 +167,7 @@ impl PlaceMap {
     pub fn core_from(&self, position: &Position, number: u64, kind: Kind, level: u8) -> Option<Core>
         requires position { IsPosition self.now position.now }
         requires first { position.now.place % 4096 ≡ 0 }
-        requires within { number < 512 }
+        requires within { number < VALUES }
         requires level { level ≤ 3 }
         ensures { result ≡ core_in (state_at self.now
             (core_of kind level (value_at self.now (position.now.place + 8 * number)))
@@ -216,7 +217,10 @@ impl PlaceMap {
     pub fn restless_page(&self, i: u64) -> usize
         requires { i < restless_in self.now }
     {
-        match self.owners.get(self.broken[i as usize].cell as usize / 512) {
+        match self
+            .owners
+            .get(self.broken[i as usize].cell as usize / VALUES)
+        {
             Some(page) => *page as usize,
             None => self.recent,
         }

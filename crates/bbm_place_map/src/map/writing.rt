@@ -10,10 +10,12 @@ ghost use Rattle.bbm_place_map.specs.Cells.{cell_by};
 ghost use Rattle.bbm_entry_state.specs.EntryCalls.{Written};
 ghost use Rattle.bbm_place_map.specs.Map.{value_at, marks_at, pends_at, is_tracked, IsPosition, page_of, place_cell};
 ghost use Rattle.bbm_place_map.specs.Map.{state_at};
+ghost use Rattle.bbm_place_map.specs.declared.read.TheConstants.{VALUES};
 
 use crate::links::{link, put_slot};
-use crate::map::{MAX_VALUES, PlaceMap, VALUES};
+use crate::map::{MAX_VALUES, PlaceMap};
 use crate::position::Position;
+use crate::read::VALUES;
 use crate::{read, work, write};
 use bbm_descriptor::Core;
 use bbm_entry_state::{EntryState, Marks};
@@ -93,7 +95,7 @@ impl PlaceMap {
         );
     }
 
-    /// The same for an invalid value. Each state has an arm of its own, so that the code of a live place carries no
+    /// `write_at` of an invalid value. Each state has an arm of its own, so that the code of a live place carries no
     /// marks about.
     fn clear_at(&mut self, position: &Position, pe: Pe, value: u64, live: &Option<Core>)
         requires { IsPosition self.old position.now }
@@ -117,7 +119,7 @@ impl PlaceMap {
         }
     }
 
-    /// The same at a place in this state.
+    /// `write_at` of an invalid value at a place in this state.
     #[inline(always)]
     fn clear_from(&mut self, position: &Position, pe: Pe, value: u64, state: EntryState)
         requires { IsPosition self.old position.now }
@@ -171,13 +173,13 @@ impl PlaceMap {
         ensures same { IsSame self.old self.new }
     {
         let start = self.cells.len();
-        write::add_cells(&mut self.cells, 512);
-        match self.owners.push((position.index / 512) as u32) {
+        write::add_cells(&mut self.cells, VALUES);
+        match self.owners.push((position.index / VALUES) as u32) {
             Ok(()) => {}
             Err(_) => {}
         }
-        put_slot(&mut self.parts, position.index / 512, Some(start as u32));
-        start + position.index % 512
+        put_slot(&mut self.parts, position.index / VALUES, Some(start as u32));
+        start + position.index % VALUES
     }
 
     /// Writes a value at a position's place, which is broken with these marks after. What waits there stays. Nothing else
@@ -299,18 +301,18 @@ impl PlaceMap {
 
     /// Makes room for one more page: for its values and cells, and for an entry of each. Whether there is.
     fn has_room(&mut self) -> bool
-        ensures values { result ≡ true → vec_len self.new.values + 512 ≤ vec_capacity self.new.values }
+        ensures values { result ≡ true → vec_len self.new.values + VALUES ≤ vec_capacity self.new.values }
         ensures parts { result ≡ true → vec_len self.new.parts + 1 ≤ vec_capacity self.new.parts }
-        ensures cells { result ≡ true → vec_len self.new.values + 512 ≤ vec_capacity self.new.cells }
-        ensures broken { result ≡ true → vec_len self.new.values + 512 ≤ vec_capacity self.new.broken }
+        ensures cells { result ≡ true → vec_len self.new.values + VALUES ≤ vec_capacity self.new.cells }
+        ensures broken { result ≡ true → vec_len self.new.values + VALUES ≤ vec_capacity self.new.broken }
         ensures same { KeepsItems self.old self.new }
     {
-        let all = self.values.len() + 512;
+        let all = self.values.len() + VALUES;
         let cells = all - self.cells.len();
         let entries = all - self.broken.len();
         self.broken.reserve(entries).is_ok()
             && self.cells.reserve(cells).is_ok()
             && self.parts.reserve(1).is_ok()
-            && self.values.reserve(512).is_ok()
+            && self.values.reserve(VALUES).is_ok()
     }
 }

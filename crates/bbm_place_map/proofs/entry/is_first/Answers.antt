@@ -11,6 +11,6 @@ pub returns : goal.returns
 returns c = λ same.
     let within = some c.args.pendings.now (sym c.is_empty.ensures ∙ c.if-is_empty.false) in (
       within,
-      λ d. ap (λ (p : Pending). p.lane) (get_or_default c.args.pendings.now 0 d _ within) ∙ eqb-true _ _ same,
+      λ d. ap (λ (p : Pending). p.lane) (get_or_default c.args.pendings.now 0 d _ within) ∙ eqb-true _ _ (sym c.eq.ensures ∙ same),
       λ k d below. absurd (omega (arith, below)),
     )

@@ -7,15 +7,15 @@ use Rattle.bbm_place_map.proofs.entry.note_pends.Goals as goal
 pub note_lane-requires : goal.note_lane-requires
 note_lane-requires c =
     let P : ℕ → Type 0 = HasRoom c.args.pendings.now in
-    subst P (sym c.lane_of.ensures) c.requires
+    subst P (sym c.new.ensures) c.requires
 
 pub returns-clause-there : goal.returns-clause-there
 returns-clause-there c =
     let old = c.args.pendings.now.items in
     let new = c.note_lane.new.pendings.items in
     let P : ℕ → Type 0 = λ k. Adds c.args.marks.now c.args.reach c.args.cover (pend_in old k) (pend_in new k) in
-    noted_in old new c.args.issuer c.args.marks.now c.args.reach c.args.broadcast c.args.cover (subst P c.lane_of.ensures c.note_lane.ensures.there)
-    (λ m other. c.note_lane.ensures.others m (λ same. other (same ∙ c.lane_of.ensures)))
+    noted_in old new c.args.issuer c.args.marks.now c.args.reach c.args.broadcast c.args.cover (subst P c.new.ensures c.note_lane.ensures.there)
+    (λ m other. c.note_lane.ensures.others m (λ same. other (same ∙ c.new.ensures)))
 
 pub returns-clause-quiet : goal.returns-clause-quiet
 returns-clause-quiet c =
@@ -24,6 +24,6 @@ returns-clause-quiet c =
 
 pub returns-clause-others : goal.returns-clause-others
 returns-clause-others c = λ q other.
-    issuer_kept c.args.pendings.now.items c.note_lane.new.pendings.items c.lane_of.result c.note_lane.ensures.others q
-    (λ same. lanes_apart q c.args.issuer true c.args.broadcast other (same ∙ c.lane_of.ensures))
-    (λ same. lanes_apart q c.args.issuer false c.args.broadcast other (same ∙ c.lane_of.ensures))
+    issuer_kept c.args.pendings.now.items c.note_lane.new.pendings.items c.new.result c.note_lane.ensures.others q
+    (λ same. lanes_apart q c.args.issuer true c.args.broadcast other (same ∙ c.new.ensures))
+    (λ same. lanes_apart q c.args.issuer false c.args.broadcast other (same ∙ c.new.ensures))

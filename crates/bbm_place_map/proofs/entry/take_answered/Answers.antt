@@ -9,7 +9,7 @@ all : (c : goal.After-or) → Takes (lane_of c.args.issuer true) (answers_broadc
 all c =
     let P : ℕ → Type 0 = λ k. Takes k c.completes_broadcast.result c.args.pendings.now.items c.take_if-all.new.pendings.items c.take_if-all.result in
     let Q : Bool → Type 0 = λ b. Takes (lane_of c.args.issuer true) b c.args.pendings.now.items c.take_if-all.new.pendings.items c.take_if-all.result in
-    subst Q c.completes_broadcast.ensures (subst P c.lane_of.ensures c.take_if-all.ensures)
+    subst Q c.completes_broadcast.ensures (subst P c.new.ensures c.take_if-all.ensures)
 
 own : (c : goal.After-or) → Takes (lane_of c.args.issuer false) (answers_local c.args.dsb) c.take_if-all.new.pendings.items
     c.take_if-own.new.pendings.items c.take_if-own.result
@@ -17,7 +17,7 @@ own c =
     let old = c.take_if-all.new.pendings.items in
     let P : ℕ → Type 0 = λ k. Takes k c.completes_local.result old c.take_if-own.new.pendings.items c.take_if-own.result in
     let Q : Bool → Type 0 = λ b. Takes (lane_of c.args.issuer false) b old c.take_if-own.new.pendings.items c.take_if-own.result in
-    subst Q c.completes_local.ensures (subst P c.lane_of-2.ensures c.take_if-own.ensures)
+    subst Q c.completes_local.ensures (subst P c.new-2.ensures c.take_if-own.ensures)
 
 pub returns : goal.returns
 returns c =

@@ -16,6 +16,6 @@ returns-in-Some c =
 
 pub returns-in-None : goal.returns-in-None
 returns-in-None c =
-    c.whole.ensures
+    c.unbroken.ensures
     ∙ ap (λ (m : Option Marks). state_from c.args.live m)
     (sym (none_marks c.args.self.now c.args.place (sym c.index.ensures.index ∙ c.in-None.is)))
