@@ -100,27 +100,24 @@ pends_out : (cells : List ℕ) (entries : List Entry) (q : ℕ) (o : Option ℕ)
 pends_out cells entries q None = refl
 pends_out cells entries q (Some i) = refl
 
+-- the value with this number has a part, which tells where the cells of its page start
+module _ (map : PlaceMap) (j : ℕ) (within : j < vec_len map.values) (parts : List ℕ) (ps : parts ≡ map.parts.items) where
+  pub has_part : j / 512 < length parts
+  has_part = omega (arith, within, map.parted.each, ap (λ (xs : List ℕ). length xs) ps)
+
+  pub has_value : (cells : List ℕ) (entries : List Entry) → cells ≡ map.cells.items → entries ≡ map.broken.items
+      → HasValue j parts cells entries
+  has_value cells entries cs es =
+      let L : List ℕ → Type 0 = λ xs. Linked xs entries in
+      let M : List Entry → Type 0 = λ xs. Linked map.cells.items xs in
+      record { linked = subst L (sym cs) (subst M (sym es) map.linked); part = has_part }
+
 module _ (map : PlaceMap) (a j : ℕ) (at : index_of (get nat_eq map.pages) a ≡ Some j) where
   pub cell_here : place_cell map a ≡ cell_by map.parts.items j
   cell_here = cell_is (get nat_eq map.pages) map.parts.items map.parted.whole a j at
 
   module _ (parts cells : List ℕ) (entries : List Entry) (ps : parts ≡ map.parts.items) (cs : cells ≡ map.cells.items)
       (es : entries ≡ map.broken.items) where
-    pub has_value : HasValue j parts cells entries
-    has_value =
-        let L : List ℕ → Type 0 = λ xs. Linked xs entries in
-        let M : List Entry → Type 0 = λ xs. Linked map.cells.items xs in
-        record {
-          linked = subst L (sym cs) (subst M (sym es) map.linked);
-          part =
-              omega (
-                arith,
-                index_inside (get nat_eq map.pages) (vec_len map.values) map.numbered a j at,
-                map.parted.each,
-                ap (λ (xs : List ℕ). length xs) ps,
-              );
-        }
-
     read_entry : entry_by parts cells entries j ≡ option_and_then (entry_in map.cells.items map.broken.items) (place_cell map a)
     read_entry =
         ap (λ (xs : List ℕ). entry_by xs cells entries j) ps

@@ -21,7 +21,8 @@ ghost use Rattle.bbm_place_map.specs.Works.{Listed};
 use crate::entry::Entry;
 use crate::read;
 use crate::work::{self, Work};
-use bbm_descriptor::Memory;
+use bbm_descriptor::{Core, Memory};
+use bbm_entry_state::EntryState;
 use bbm_page_map::PageMap;
 use bbm_regimes::{Page, Place};
 use std::alloc::Global;
@@ -53,9 +54,12 @@ pub struct PlaceMap {
 }
 
 impl PlaceMap {
-    ghost use Rattle.std.specs.Prelude.{ℕ, None, true, false, IsSome, IfSome, ◌+◌};
+    ghost use Rattle.std.specs.Prelude.{ℕ, None, Some, true, false, IsSome, IfSome, ◌+◌};
+    ghost use Rattle.std.specs.Option.{option_copied};
+    ghost use Rattle.bbm_entry_state.specs.Points.{core_in};
+    ghost use Rattle.bbm_place_map.specs.Entries.{marks_of, pends_of};
     ghost use Rattle.bbm_entry_state.specs.EntryStanding.{IsIdle};
-    ghost use Rattle.bbm_place_map.specs.Map.{value_at, marks_at, pends_at, is_tracked, page_of, restless_in};
+    ghost use Rattle.bbm_place_map.specs.Map.{value_at, marks_at, pends_at, is_tracked, page_of, restless_in, state_at};
     ghost use Rattle.bbm_place_map.specs.Sound.{index_of};
     ghost use Rattle.bbm_place_map.specs.declared.read.TheConstants.{VALUES};
 
@@ -106,6 +110,42 @@ impl PlaceMap {
         match self.pages.get(place.page()) {
             Some(base) => Some(*base + place.index() as usize),
             None => None,
+        }
+    }
+
+    /// The entry of the place of the value with this number; None where the place isn't broken.
+    #[inline(always)]
+    fn entry(&self, j: usize) -> Option<&Entry>
+        requires { j < vec_len self.now.values }
+        ensures marks { (a : ℕ) → index_of (get nat_eq self.now.pages) a ≡ Some j
+            → marks_of (option_copied result) ≡ marks_at self.now a }
+        ensures pends { (q a : ℕ) → index_of (get nat_eq self.now.pages) a ≡ Some j
+            → pends_of q (option_copied result) ≡ pends_at self.now q a }
+    {
+        read::entry(&self.parts, &self.cells, &self.broken, j)
+    }
+
+    /// The state of the place of the value with this number, where one that isn't broken is live with this core, or
+    /// clean without one.
+    fn state_of(&self, j: usize, live: Option<Core>) -> EntryState
+        requires { j < vec_len self.now.values }
+        ensures { (a : ℕ) → index_of (get nat_eq self.now.pages) a ≡ Some j → result ≡ state_at self.now live a }
+    {
+        match self.entry(j) {
+            Some(entry) => EntryState::Broken { marks: entry.marks },
+            None => read::unbroken(live),
+        }
+    }
+
+    /// The core that the place of the value with this number is broken over; where it isn't broken, this one.
+    fn core_or(&self, j: usize, live: Option<Core>) -> Option<Core>
+        requires { j < vec_len self.now.values }
+        ensures { (a : ℕ) → index_of (get nat_eq self.now.pages) a ≡ Some j
+            → result ≡ core_in (state_at self.now live a) }
+    {
+        match self.entry(j) {
+            Some(entry) => Some(entry.marks.core),
+            None => live,
         }
     }
 

@@ -1,21 +1,20 @@
 //! What is kept of a place: its value, its cell, and the entry that the cell names.
 
 ghost use Rattle.std.specs.Prelude.{◌≡◌, ◌<◌, IfSome, length, None, Some, nat_eq, true, ◌≤◌, ◌+◌, ◌^◌, ◌↔◌, ℕ};
-ghost use Rattle.std.specs.Prelude.{is_some, option_and_then, ◌/◌};
-ghost use Rattle.bbm_entry_state.specs.Points.{core_in, is_broken};
+ghost use Rattle.std.specs.Prelude.{option_and_then, ◌/◌};
 ghost use Rattle.bbm_place_map.specs.Cells.{cell_by, number_of, slot_in, value_in};
-ghost use Rattle.bbm_place_map.specs.Entries.{WaitsAlike, entry_by, entry_in, marks_of, pends_of as spec_pends_of};
+ghost use Rattle.bbm_place_map.specs.Entries.{entry_by, entry_in, marks_of};
 ghost use Rattle.std.specs.Option.{option_copied};
 ghost use Rattle.bbm_place_map.specs.Sound.{HasValue, Linked, slot_at, starts};
 ghost use Rattle.indexmap.specs.IndexMap.{get};
 ghost use Rattle.bbm_place_map.specs.States.{state_from};
 ghost use Rattle.bbm_place_map.specs.declared.read.TheConstants.{VALUES};
 
-use crate::entry::{Entry, pends_of};
+use crate::entry::Entry;
 use bbm_descriptor::Core;
-use bbm_entry_state::{EntryState, Marks, Pends};
+use bbm_entry_state::{EntryState, Marks};
 use bbm_page_map::PageMap;
-use bbm_regimes::{Pe, Place};
+use bbm_regimes::Place;
 
 /// The number of values of a page. Pages have theirs one after another, in the order in which they were tracked. A page
 /// has as many cells from its first broken place on.
@@ -102,59 +101,13 @@ fn entry_of<'a>(cells: &[u32], broken: &'a [Entry], i: usize) -> Option<&'a Entr
 
 /// The entry of the place of a value; None where the place isn't broken.
 #[inline(always)]
-fn entry<'a>(parts: &[u32], cells: &[u32], broken: &'a [Entry], j: usize) -> Option<&'a Entry>
+pub fn entry<'a>(parts: &[u32], cells: &[u32], broken: &'a [Entry], j: usize) -> Option<&'a Entry>
     requires { HasValue j parts.now cells.now broken.now }
     ensures { option_copied result ≡ entry_by parts.now cells.now broken.now j }
 {
     match cell(parts, j) {
         Some(i) => entry_of(cells, broken, i),
         None => None,
-    }
-}
-
-/// The state of the place of a value.
-pub fn state(
-    parts: &[u32],
-    cells: &[u32],
-    broken: &[Entry],
-    j: usize,
-    live: Option<Core>,
-) -> EntryState
-    requires { HasValue j parts.now cells.now broken.now }
-    ensures { result ≡ state_from live (marks_of (entry_by parts.now cells.now broken.now j)) }
-{
-    match entry(parts, cells, broken, j) {
-        Some(entry) => EntryState::Broken { marks: entry.marks },
-        None => unbroken(live),
-    }
-}
-
-/// Whether the place of a value is broken.
-#[inline(always)]
-pub fn is_broken(parts: &[u32], cells: &[u32], broken: &[Entry], j: usize) -> bool
-    requires { HasValue j parts.now cells.now broken.now }
-    ensures { result ≡ is_some (marks_of (entry_by parts.now cells.now broken.now j)) }
-{
-    match entry(parts, cells, broken, j) {
-        Some(_entry) => true,
-        None => false,
-    }
-}
-
-/// The core that the place of a value is broken over; where it isn't broken, this one.
-pub fn core(
-    parts: &[u32],
-    cells: &[u32],
-    broken: &[Entry],
-    j: usize,
-    live: Option<Core>,
-) -> Option<Core>
-    requires { HasValue j parts.now cells.now broken.now }
-    ensures { result ≡ core_in (state_from live (marks_of (entry_by parts.now cells.now broken.now j))) }
-{
-    match entry(parts, cells, broken, j) {
-        Some(entry) => Some(entry.marks.core),
-        None => live,
     }
 }
 
@@ -166,17 +119,6 @@ pub fn marks(cells: &[u32], broken: &[Entry], i: usize) -> Option<Marks>
     match entry_of(cells, broken, i) {
         Some(entry) => Some(entry.marks),
         None => None,
-    }
-}
-
-/// What waits at the place of a value for the answers of the issuer's TLBIs.
-pub fn pends(parts: &[u32], cells: &[u32], broken: &[Entry], j: usize, issuer: Pe) -> Pends
-    requires { HasValue j parts.now cells.now broken.now }
-    ensures { WaitsAlike (spec_pends_of issuer (entry_by parts.now cells.now broken.now j)) result }
-{
-    match entry(parts, cells, broken, j) {
-        Some(entry) => pends_of(&entry.pends, issuer),
-        None => Pends::none(),
     }
 }
 

@@ -11,6 +11,7 @@ ghost use Rattle.bbm_place_map.specs.Map.{restless_place, state_at};
 ghost use Rattle.bbm_place_map.specs.Entries.{WaitsAlike};
 ghost use Rattle.bbm_place_map.specs.declared.read.TheConstants.{VALUES};
 
+use crate::entry::pends_of;
 use crate::map::PlaceMap;
 use crate::position::Position;
 use crate::read::{self, VALUES};
@@ -25,7 +26,7 @@ impl PlaceMap {
         ensures { result ≡ state_at self.now live place }
     {
         match self.index(place) {
-            Some(j) => read::state(&self.parts, &self.cells, &self.broken, j, live),
+            Some(j) => self.state_of(j, live),
             None => read::unbroken(live),
         }
     }
@@ -83,7 +84,10 @@ impl PlaceMap {
         requires { IsPosition self.now position.now }
         ensures { result ≡ is_some (marks_at self.now position.now.place) }
     {
-        read::is_broken(&self.parts, &self.cells, &self.broken, position.index)
+        match self.entry(position.index) {
+            Some(_entry) => true,
+            None => false,
+        }
     }
 
     /// The core that a position's place is broken over; where it isn't broken, this one.
@@ -91,7 +95,7 @@ impl PlaceMap {
         requires { IsPosition self.now position.now }
         ensures { result ≡ core_in (state_at self.now live position.now.place) }
     {
-        read::core(&self.parts, &self.cells, &self.broken, position.index, live)
+        self.core_or(position.index, live)
     }
 
     /// The state of the place, read at this kind and level, 0 to 3: one that isn't broken is live with the core of its
@@ -101,10 +105,7 @@ impl PlaceMap {
         ensures { result ≡ state_at self.now (core_of kind level (value_at self.now place)) place }
     {
         match self.index(place) {
-            Some(j) => {
-                let live = core(kind, level, self.values[j]);
-                read::state(&self.parts, &self.cells, &self.broken, j, live)
-            }
+            Some(j) => self.state_of(j, core(kind, level, self.values[j])),
             None => read::unbroken(core(kind, level, 0)),
         }
     }
@@ -115,8 +116,12 @@ impl PlaceMap {
         ensures pends { WaitsAlike (pends_at self.now issuer place) result }
         ensures idle { marks_at self.now place ≡ None → IsIdle (pends_at self.now issuer place) }
     {
+        self.law_idle();
         match self.index(place) {
-            Some(j) => read::pends(&self.parts, &self.cells, &self.broken, j, issuer),
+            Some(j) => match self.entry(j) {
+                Some(entry) => pends_of(&entry.pends, issuer),
+                None => Pends::none(),
+            },
             None => Pends::none(),
         }
     }
@@ -175,7 +180,7 @@ impl PlaceMap {
     {
         let live = core(kind, level, self.value_from(position, number));
         let j = position.index + number as usize;
-        read::core(&self.parts, &self.cells, &self.broken, j, live)
+        self.core_or(j, live)
     }
 
     /// How many places are broken. Each is a place of a descriptor: its address is a multiple of 8.

@@ -102,13 +102,7 @@ impl PlaceMap {
         ensures { WritesAs (state_at self.old live.now position.now.place) pe None value position.now.place
             self.old self.new }
     {
-        match read::state(
-            &self.parts,
-            &self.cells,
-            &self.broken,
-            position.index,
-            *live,
-        ) {
+        match self.state_of(position.index, *live) {
             EntryState::Live { core } => {
                 self.clear_from(position, pe, value, EntryState::Live { core })
             }
