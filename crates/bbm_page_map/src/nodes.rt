@@ -2,7 +2,6 @@
 
 ghost use Rattle.std.specs.Prelude.{◌≡◌, ℕ, ◌+◌, ◌*◌, ◌/◌, ◌%◌, ◌^◌, ◌<◌, ◌≤◌, length, if◌then◌else◌};
 ghost use Rattle.std.specs.Prelude.{nat_eq, vec_len, vec_capacity, IsOk, OnOk};
-ghost use Rattle.bbm_page_map.specs.declared.nodes.TheConstants.{BASE, NODE_SLOTS};
 ghost use Rattle.bbm_page_map.specs.SlotNodes.{Fits, HasSlots, IsTree, LeadsAlike, reached, slot};
 
 use bbm_regimes::NoMemory;

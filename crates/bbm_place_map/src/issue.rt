@@ -10,8 +10,8 @@ ghost use Rattle.bbm_place_map.specs.Each.{Advances};
 ghost use Rattle.bbm_place_map.specs.Entries.{position, lane_of, pends_in, HasRoom};
 ghost use Rattle.bbm_place_map.specs.Finds.{is_found};
 ghost use Rattle.bbm_place_map.specs.Sound.{SameSize};
-ghost use Rattle.bbm_place_map.specs.PlaceNotes.{IsKept, IsNoted, Keeps, Readies, NotesAs, NotesAt, NotesFound, NotesOne};
-ghost use Rattle.bbm_place_map.specs.PlaceNotes.{OnlyNotes, entry_number, is_cover as spec_is_cover};
+ghost use Rattle.bbm_place_map.specs.PlaceNotes.{IsKept, IsNoted, Keeps, NotesAs, NotesAt, NotesFound, NotesOne};
+ghost use Rattle.bbm_place_map.specs.PlaceNotes.{OnlyNotes, Readies, entry_number, is_cover as spec_is_cover};
 ghost use Rattle.bbm_place_map.specs.Works.{IsQuiet, Waits};
 ghost use Rattle.bbm_place_map.specs.declared.entry.Entry.{Entry as TheEntry};
 

@@ -19,7 +19,7 @@ ghost use Rattle.bbm_place_map.specs.Sound.{Linked, Numbered, Parted, Placed, st
 ghost use Rattle.bbm_place_map.specs.Works.{Listed};
 
 use crate::entry::Entry;
-use crate::read;
+use crate::read::{self, VALUES};
 use crate::work::{self, Work};
 use bbm_descriptor::{Core, Memory};
 use bbm_entry_state::EntryState;
@@ -61,7 +61,6 @@ impl PlaceMap {
     ghost use Rattle.bbm_entry_state.specs.EntryStanding.{IsIdle};
     ghost use Rattle.bbm_place_map.specs.Map.{value_at, marks_at, pends_at, is_tracked, page_of, restless_in, state_at};
     ghost use Rattle.bbm_place_map.specs.Sound.{index_of};
-    ghost use Rattle.bbm_place_map.specs.declared.read.TheConstants.{VALUES};
 
     /// A map that tracks no page. It takes no memory yet.
     pub fn new(alloc: Global) -> PlaceMap

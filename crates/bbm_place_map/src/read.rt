@@ -8,7 +8,6 @@ ghost use Rattle.std.specs.Option.{option_copied};
 ghost use Rattle.bbm_place_map.specs.Sound.{HasValue, Linked, slot_at, starts};
 ghost use Rattle.indexmap.specs.IndexMap.{get};
 ghost use Rattle.bbm_place_map.specs.States.{state_from};
-ghost use Rattle.bbm_place_map.specs.declared.read.TheConstants.{VALUES};
 
 use crate::entry::Entry;
 use bbm_descriptor::Core;

@@ -6,7 +6,6 @@ ghost use Rattle.bbm_place_map.specs.Cells.{value_in, slot_in, cell_by, in_page,
 ghost use Rattle.bbm_place_map.specs.Puts.{Breaks, Clears};
 ghost use Rattle.bbm_place_map.specs.Sound.{CanBreak, FewLinked, KeepsSlots, SameSize};
 ghost use Rattle.bbm_place_map.specs.declared.entry.Entry.{Entry as TheEntry};
-ghost use Rattle.bbm_place_map.specs.declared.read.TheConstants.{VALUES};
 
 use crate::entry::Entry;
 use crate::links::{link, unlink};
@@ -80,7 +79,8 @@ fn clear_page(cells: &mut Vec<u32>, broken: &mut Vec<Entry>, start: usize)
 /// No place of the page whose values start there is broken, and nothing waits there.
 pub fn clear_part(parts: &[u32], cells: &mut Vec<u32>, broken: &mut Vec<Entry>, base: usize)
     requires able { FewLinked cells.old broken.old }
-    requires within { (start : ℕ) → slot_in parts.now (base / VALUES) ≡ Some start → start + VALUES ≤ vec_len cells.old }
+    requires within { (start : ℕ) → slot_in parts.now (base / VALUES) ≡ Some start
+        → start + VALUES ≤ vec_len cells.old }
     ensures { Clears (in_part (slot_in parts.now (base / VALUES))) cells.old cells.new broken.old broken.new }
 {
     if let Some(start) = slot_of(parts, base / VALUES) {

@@ -9,7 +9,6 @@ ghost use Rattle.bbm_entry_state.specs.EntryStanding.{IsIdle};
 ghost use Rattle.bbm_place_map.specs.Map.{value_at, marks_at, pends_at, is_tracked, IsPosition, page_of, restless_in};
 ghost use Rattle.bbm_place_map.specs.Map.{restless_place, state_at};
 ghost use Rattle.bbm_place_map.specs.Entries.{WaitsAlike};
-ghost use Rattle.bbm_place_map.specs.declared.read.TheConstants.{VALUES};
 
 use crate::entry::pends_of;
 use crate::map::PlaceMap;

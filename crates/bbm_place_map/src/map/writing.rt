@@ -10,7 +10,6 @@ ghost use Rattle.bbm_place_map.specs.Cells.{cell_by};
 ghost use Rattle.bbm_entry_state.specs.EntryCalls.{Written};
 ghost use Rattle.bbm_place_map.specs.Map.{value_at, marks_at, pends_at, is_tracked, IsPosition, page_of, place_cell};
 ghost use Rattle.bbm_place_map.specs.Map.{state_at};
-ghost use Rattle.bbm_place_map.specs.declared.read.TheConstants.{VALUES};
 
 use crate::links::{link, put_slot};
 use crate::map::{MAX_VALUES, PlaceMap};
