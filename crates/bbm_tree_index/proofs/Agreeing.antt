@@ -1,5 +1,5 @@
 -- Which changes keep an index and a map in agreement.
-use Rattle.bbm_tree_index.proofs.Common.{PlaceMap, Agrees, IsSound, core_at, core_with, TreeIndex}
+use Rattle.bbm_tree_index.proofs.Common.{PlaceMap, Agrees, core_at, core_with, TreeIndex}
 use Rattle.bbm_rules.proofs.Common.{◌≡◌, ℕ, Some, None, sym, ap, ◌∙◌, page_of, Node}
 use Rattle.bbm_place_map.specs.Map.{marks_at, value_at}
 use Rattle.bbm_tree_index.specs.HeldCores.{child, next_in}
@@ -15,12 +15,11 @@ pub next_same : (map map' : PlaceMap) (n : Node) (a : ℕ) → SamePlace map map
 next_same map map' n a s = ap (λ m. next_in (core_with m n.kind n.level (value_at map' a))) s.marks
     ∙ ap (λ v. next_in (core_with (marks_at map a) n.kind n.level v)) s.value
 
-pub agrees_same : (old new : TreeIndex) (map map' : PlaceMap) → IsSound new → ((p : ℕ) → node_in new p ≡ node_in old p)
+pub agrees_same : (old new : TreeIndex) (map map' : PlaceMap) → ((p : ℕ) → node_in new p ≡ node_in old p)
     → ((a : ℕ) (n : Node) → node_in old (page_of a) ≡ Some n → SamePlace map map' a)
     → ((a : ℕ) → marks_at map a ≡ None → marks_at map' a ≡ None)
     → Agrees old map → Agrees new map'
-agrees_same old new map map' sound same places clean g = record {
-  sound = sound;
+agrees_same old new map map' same places clean g = record {
   below = λ n place next at inside table.
       let was = sym (same (page_of place)) ∙ at in
       same next ∙ g.below n place next was inside (sym (next_same map map' n place (places place n was)) ∙ table);

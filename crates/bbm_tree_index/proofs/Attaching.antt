@@ -1,5 +1,5 @@
 -- The words of an index after pages were attached.
-use Rattle.bbm_tree_index.proofs.Common.{IndexMap, get, PlaceMap, first_input_page, start_of, IsSound, Sound, Hung}
+use Rattle.bbm_tree_index.proofs.Common.{IndexMap, get, PlaceMap, first_input_page, start_of, Sound, is_sound, Hung}
 use Rattle.bbm_tree_index.proofs.Common.{IsUnfresh, MayJudge, Never, IsSurvey, is_fresh_role, node_by, Attached}
 use Rattle.bbm_tree_index.proofs.Common.{below_all, starts_of, Fits, spot_with, role_as, spot_as, TreeIndex, Mark}
 use Rattle.bbm_tree_index.proofs.Common.{Attach, Root, Below, Role, Untracked}
@@ -9,12 +9,12 @@ use Rattle.bbm_rules.proofs.Common.{◌∙◌, subst, arith, if◌then◌else◌
 use Rattle.bbm_rules.proofs.Common.{contains_none, node_below, nodes_of_pages}
 use Rattle.bbm_place_map.specs.Map.{value_at}
 use Rattle.bbm_regimes.specs.World.{kind_in_world}
-use Rattle.bbm_tree_index.specs.Index.{fresh_in, heading_of, known_in, node_in, null_in, role_in}
+use Rattle.bbm_tree_index.specs.Index.{fresh_in, heading_of, node_in, null_in, role_in}
 use Rattle.bbm_tree_index.specs.Attaching.{names_pages}
+use Rattle.bbm_tree_index.specs.IndexChanges.{Attaches}
 use Rattle.bbm_tree_index.proofs.Begins.{apart_of}
 use Rattle.bbm_tree_index.proofs.Begun.{only}
-use Rattle.bbm_tree_index.proofs.Hung.{Begins, Reach, fresh_hung, node_back, node_kept, node_reached, null_hung}
-use Rattle.bbm_tree_index.proofs.Hung.{sound_hung}
+use Rattle.bbm_tree_index.proofs.Hung.{Begins, Reach, fresh_hung, node_back, node_kept, node_reached, null_hung, sound_hung}
 use Rattle.bbm_tree_index.proofs.Reaching.{attached_reach, reach_attached, reach_fresh, reach_unique}
 use Rattle.bbm_tree_index.proofs.Rooted.{in_nodes}
 use Rattle.bbm_tree_index.proofs.Surveying.{all_hung, reach_fits, reach_plain, table_page}
@@ -51,7 +51,7 @@ fresh_known : (o : Option Role) → is_fresh_role (unwrap_or o Untracked) ≡ tr
 fresh_known None e = e
 fresh_known (Some role) e = refl
 
-module _ {S : Type 0} (old : TreeIndex) (map : PlaceMap) (at : Attach) (tables : List (IndexMap ℕ Mark S)) (sound : IsSound old) (may : MayJudge old at)
+module _ {S : Type 0} (old : TreeIndex) (map : PlaceMap) (at : Attach) (tables : List (IndexMap ℕ Mark S)) (may : MayJudge old at)
     (named : names_pages at ≡ true → (s : Node) → Contains (starts_of old at) s → fresh_in old s.page ≡ true)
     (never : Never (IsUnfresh (fresh_in old) (value_at map) (starts_of old at) (names_pages at)))
     (survey : IsSurvey tables old map at) where
@@ -91,20 +91,31 @@ module _ {S : Type 0} (old : TreeIndex) (map : PlaceMap) (at : Attach) (tables :
       survey.surveyed survey.count shallow k p table is has in
       page_known p (ap (fresh_in old) (sym t.2) ∙ all_fresh t.0 t.1)
 
-  module _ (new : TreeIndex) (heading : heading_of new ≡ heading_of old) (known : (p : ℕ) → known_in new p ≡ known_in old p)
+  module _ (table : ℕ → Option Role)
+      (hung : (p : ℕ) → Hung tables (length tables) p (get nat_eq old.roles p) (table p)) where
+    table_hung : (p : ℕ) → ((m : Node) × Reached m × (m.page ≡ p) × (unwrap_or (table p) Untracked ≡ role_as m m.above))
+        ⊎ ((unwrap_or (table p) Untracked ≡ role_in old p) × ((m : Node) → Reached m → m.page ≡ p → ⊥))
+    unfolding role_in
+    table_hung p = all_hung (heading_of old) (fresh_in old) (value_at map) survey.first (starts_of old at) tables survey.starting
+        survey.surveyed survey.count shallow (get nat_eq old.roles) table hung p
+
+    pub sound_after : Sound (λ p. unwrap_or (table p) Untracked) (heading_of old)
+    sound_after = sound_hung (role_in old) (λ p. unwrap_or (table p) Untracked) (heading_of old) (is_sound old).roles
+        (fresh_in old) fresh_is (value_at map) (starts_of old at) all_fresh unique (starts_begin old at) plain fits table_hung
+
+  module _ (new : TreeIndex) (heading : heading_of new ≡ heading_of old)
       (hung : (p : ℕ) → Hung tables (length tables) p (get nat_eq old.roles p) (get nat_eq new.roles p)) where
     roles_hung : (p : ℕ) → ((m : Node) × Reached m × (m.page ≡ p) × (role_in new p ≡ role_as m m.above))
         ⊎ ((role_in new p ≡ role_in old p) × ((m : Node) → Reached m → m.page ≡ p → ⊥))
     unfolding role_in
-    roles_hung p = all_hung (heading_of old) (fresh_in old) (value_at map) survey.first (starts_of old at) tables survey.starting
-        survey.surveyed survey.count shallow (get nat_eq old.roles) (get nat_eq new.roles) hung p
+    roles_hung = table_hung (get nat_eq new.roles) hung
 
     node_new : (p : ℕ) → node_in new p ≡ node_by (role_in new) (heading_of old) p
     node_new p = node_is new p ∙ ap (λ h. node_by (role_in new) h p) heading
 
-    pub node_from : (p : ℕ) (m : Node) → node_in new p ≡ Some m
+    node_from : (p : ℕ) (m : Node) → node_in new p ≡ Some m
         → (node_in old p ≡ Some m) ⊎ ((m.page ≡ p) × Attached (fresh_in old) (value_at map) (starts_of old at) m)
-    node_from p m e = by (node_back (role_in old) (role_in new) (heading_of old) sound.roles (fresh_in old) fresh_is (value_at map)
+    node_from p m e = by (node_back (role_in old) (role_in new) (heading_of old) (is_sound old).roles (fresh_in old) fresh_is (value_at map)
         (starts_of old at) all_fresh unique (starts_begin old at) plain fits roles_hung p m (sym (node_new p) ∙ e))
       where
         by : (node_by (role_in old) (heading_of old) p ≡ Some m) ⊎ ((m.page ≡ p) × Reached m)
@@ -116,31 +127,26 @@ module _ {S : Type 0} (old : TreeIndex) (map : PlaceMap) (at : Attach) (tables :
               (apart_of old at may) named m h.1,
         )
 
-    pub node_to : (p : ℕ) (m : Node)
+    node_to : (p : ℕ) (m : Node)
         → (node_in old p ≡ Some m) ⊎ ((m.page ≡ p) × Attached (fresh_in old) (value_at map) (starts_of old at) m)
         → node_in new p ≡ Some m
-    node_to p m (inl e) = node_new p ∙ node_kept (role_in old) (role_in new) (heading_of old) sound.roles (fresh_in old) fresh_is
+    node_to p m (inl e) = node_new p ∙ node_kept (role_in old) (role_in new) (heading_of old) (is_sound old).roles (fresh_in old) fresh_is
         (value_at map) (starts_of old at) all_fresh unique (starts_begin old at) plain fits roles_hung p m (sym (node_is old p) ∙ e)
     node_to p m (inr (page, a)) = node_new p ∙ subst (λ q. node_by (role_in new) (heading_of old) q ≡ Some m) page
-        (node_reached (role_in old) (role_in new) (heading_of old) sound.roles (fresh_in old) fresh_is (value_at map)
+        (node_reached (role_in old) (role_in new) (heading_of old) (is_sound old).roles (fresh_in old) fresh_is (value_at map)
         (starts_of old at) all_fresh unique (starts_begin old at) plain fits roles_hung m
         (attached_reach (fresh_in old) (value_at map) (starts_of old at) m a))
 
-    pub fresh_after : (p : ℕ) → fresh_in new p ≡ (fresh_in old p && is_none (node_in new p))
+    fresh_after : (p : ℕ) → fresh_in new p ≡ (fresh_in old p && is_none (node_in new p))
     unfolding fresh_in
-    fresh_after p = fresh_hung (role_in old) (role_in new) (heading_of old) sound.roles (fresh_in old) fresh_is (value_at map)
+    fresh_after p = fresh_hung (role_in old) (role_in new) (heading_of old) (is_sound old).roles (fresh_in old) fresh_is (value_at map)
         (starts_of old at) all_fresh unique (starts_begin old at) plain fits roles_hung p
         ∙ ap (λ o. is_fresh_role (role_in old p) && is_none o) (sym (node_new p))
 
-    pub null_after : (p : ℕ) → null_in new p ≡ null_in old p
+    null_after : (p : ℕ) → null_in new p ≡ null_in old p
     unfolding null_in
-    null_after p = null_hung (role_in old) (role_in new) (heading_of old) sound.roles (fresh_in old) fresh_is (value_at map)
+    null_after p = null_hung (role_in old) (role_in new) (heading_of old) (is_sound old).roles (fresh_in old) fresh_is (value_at map)
         (starts_of old at) all_fresh unique (starts_begin old at) plain fits roles_hung p
 
-    pub sound_after : IsSound new
-    sound_after = record {
-      roles = (let e : heading_of old ≡ heading_of new = sym heading in subst (Sound (role_in new)) e
-          (sound_hung (role_in old) (role_in new) (heading_of old) sound.roles (fresh_in old) fresh_is (value_at map)
-          (starts_of old at) all_fresh unique (starts_begin old at) plain fits roles_hung));
-      pages = λ p k. sound.pages p (sym (known p) ∙ k);
-    }
+    pub attaches : Attaches (value_at map) at old new
+    attaches = record { node = λ p m. (node_from p m, node_to p m); fresh = fresh_after; null = null_after }

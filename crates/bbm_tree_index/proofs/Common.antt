@@ -16,14 +16,15 @@ pub use Rattle.bbm_tree_index.specs.Climbs.{cut_by, passes_at}
 pub use Rattle.bbm_tree_index.specs.Descent.{Translates}
 pub use Rattle.bbm_tree_index.specs.Hanging.{Hung, hung}
 pub use Rattle.bbm_tree_index.specs.HeldCores.{core_at, core_with, holds_at, is_at}
-pub use Rattle.bbm_tree_index.specs.IndexAgreement.{Agrees, IsSound, Sound}
+pub use Rattle.bbm_tree_index.specs.IndexAgreement.{Agrees, IsSound, is_sound}
 pub use Rattle.bbm_tree_index.specs.IndexChanges.{Releases}
 pub use Rattle.bbm_tree_index.specs.LeastPages.{Before, IsSurvey, LeafOf, LeafPlace, LeastOf, Told, WrongPage, asks}
 pub use Rattle.bbm_tree_index.specs.LeastPages.{leaf_bits, spares}
-pub use Rattle.bbm_tree_index.specs.Leaving.{leaves_role, roles_of, stays}
+pub use Rattle.bbm_tree_index.specs.Leaving.{leaves_role, stays}
 pub use Rattle.bbm_tree_index.specs.Nodes.{above_by, is_fresh_role, is_null_role, node_by, node_with, path_at}
-pub use Rattle.bbm_tree_index.specs.PageTables.{SameKeys}
+pub use Rattle.bbm_tree_index.specs.PageTables.{SameKeys, roles_of}
 pub use Rattle.bbm_tree_index.specs.Paths.{Attached, below_all, starts_of}
+pub use Rattle.bbm_tree_index.specs.SoundRoles.{Sound, hangs_at}
 pub use Rattle.bbm_tree_index.specs.Spots.{Fits, RoleFits, StandsAt, spot_with}
 pub use Rattle.bbm_tree_index.specs.Survey.{Counts, Found, Goes, Partly, Plain, Reached, Starting, Step, Surveyed}
 pub use Rattle.bbm_tree_index.specs.Survey.{Uniform, Well, fresh_of, grown, joined, role_as, root_marks, spot_as}

@@ -1,5 +1,5 @@
 -- What is asked of the places above a page, by its role and by its node.
-use Rattle.bbm_tree_index.proofs.Common.{Heading, Sound, cut_by, above_by, node_by, node_with, StandsAt, spot_with}
+use Rattle.bbm_tree_index.proofs.Common.{Heading, Sound, hangs_at, cut_by, above_by, node_by, node_with, StandsAt, spot_with}
 use Rattle.bbm_tree_index.proofs.Common.{Role, Untracked, Fresh, RootPage, Hangs, Gone, Null, Spot}
 use Rattle.bbm_rules.proofs.Common.{◌≡◌, ℕ, zero, suc, Bool, ◌||◌, [], Some, None, refl, sym, ap, ◌∙◌, subst, none-some}
 use Rattle.bbm_rules.proofs.Common.{same_Some, Kind, any, page_of, Node}
@@ -59,7 +59,7 @@ module _ (test : Kind → ℕ → ℕ → Bool) (roles : ℕ → Role) (heading 
   cut_suc left page Fresh n r e ih = absurd (none-some n e)
   cut_suc left page (RootPage kind first part) n r e ih = refl
   cut_suc left page (Hangs parent kind level base first) n r e ih =
-      let found = sound.hangs page parent level base first kind r in
+      let found = hangs_at roles heading sound page parent level base first kind r in
       let above : Cut left kind (roles (page_of parent)) = subst (λ k. Cut left k (roles (page_of parent)))
       (sym found.2.same_kind) (ih (page_of parent) found.0 found.1) in
       subst (λ k. Cut (suc left) k (Hangs parent kind level base first)) (ap (λ m. m.kind) (same_Some _ n e))

@@ -7,6 +7,7 @@ use Rattle.bbm_rules.proofs.Common.{refl, sym, ap, ◌∙◌, subst, true≢fals
 use Rattle.bbm_rules.proofs.Common.{eq-eqb, none-some, same_Some, slice_get_within, take_all, take_more}
 use Rattle.bbm_rules.proofs.Common.{list_any-append, input_pages, Kind, or-false}
 use Rattle.std.specs.List.{IsDistinct}
+use Rattle.bbm_tree_index.specs.PageTables.{HasPages}
 use Rattle.std.proofs.lemmas.Option.{get_or_from_slice_get}
 use Rattle.std.proofs.lemmas.Map.Keys.{apart_from_distinct}
 use Rattle.std.proofs.lemmas.Map.Made.{is_some-lookup}
@@ -87,6 +88,9 @@ same_keys later first = record {
   keys = later.keys ∙ first.keys;
   len = later.len ∙ first.len;
 }
+
+pub pages_same : {V S : Type 0} {one two : IndexMap ℕ V S} → SameKeys one two → HasPages one → HasPages two
+pages_same same pages p k = pages p (sym (same.known p) ∙ k)
 
 -- one more key is among the first
 pub first_more_keys : (ks : List ℕ) (index page p : ℕ) → slice_get ks index ≡ Some page

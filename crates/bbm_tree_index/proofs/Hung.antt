@@ -1,11 +1,12 @@
 -- Nodes and soundness after pages were hung: each page that is reached got the role of its node, the others kept theirs.
-use Rattle.bbm_tree_index.proofs.Common.{Heading, Sound, above_by, is_fresh_role, is_null_role, node_by, node_with}
+use Rattle.bbm_tree_index.proofs.Common.{Heading, Sound, hangs_at, above_by, is_fresh_role, is_null_role, node_by, node_with}
 use Rattle.bbm_tree_index.proofs.Common.{Fits, spot_with, Goes, role_as, spot_as, Role, Untracked, Fresh, RootPage}
 use Rattle.bbm_tree_index.proofs.Common.{Hangs, Gone, Null}
 use Rattle.bbm_rules.proofs.Common.{◌≡◌, ℕ, zero, suc, ◌⊎◌, ◌&&◌, Bool, true, false, List, [], ◌∷◌, ◌++◌, Option, Some}
 use Rattle.bbm_rules.proofs.Common.{None, is_none, Contains, inl, inr, refl, sym, ap, ◌∙◌, subst, none-some, same_Some}
 use Rattle.bbm_rules.proofs.Common.{Kind, page_of, Above, Node, node_below, region_start, and-false}
-use Rattle.bbm_tree_index.specs.IndexAgreement.{Below}
+use Rattle.std.specs.Option.{IsSomeAnd}
+use Rattle.bbm_tree_index.specs.SoundRoles.{Below}
 use Rattle.bbm_tree_index.proofs.Climbing.{fresh_part, out_part, tree_part}
 use Rattle.bbm_tree_index.proofs.Levels.{goes_on}
 use Rattle.bbm_tree_index.proofs.Places.{at_page}
@@ -100,7 +101,7 @@ module _ (roles roles' : ℕ → Role) (heading : Heading) (sound : Sound roles 
   above_role level p Fresh r ih = refl
   above_role level p (RootPage kind first part) r ih = refl
   above_role level p (Hangs parent kind deep base first) r ih =
-      let found = sound.hangs p parent deep base first kind r in
+      let found = hangs_at roles heading sound p parent deep base first kind r in
       ap (λ (rest : List Above). record { place = parent; level = level } ∷ rest)
       (ap (above_by roles' level) (stays (page_of parent) found.0 found.1) ∙ ih (page_of parent) found.0 found.1)
   above_role level p Gone r ih = refl
@@ -181,23 +182,24 @@ module _ (roles roles' : ℕ → Role) (heading : Heading) (sound : Sound roles 
   -- what is kept of a hanging page agrees with the page above
   HangGood : Role → Type 0
   HangGood (Hangs parent kind level base first) =
-      (n : Node) × (node_by roles' heading (page_of parent) ≡ Some n) × Below parent kind level base first n
+      IsSomeAnd (node_by roles' heading (page_of parent)) (Below parent kind level base first)
   HangGood _ = Unit {0}
 
   good_at : (m : Node) → Begins roles' heading m → HangGood (role_as m m.above)
   unfolding HangGood
   good_at m (inl none) = subst (λ a. HangGood (role_as m a)) (sym none) tt
   good_at m (inr (n, place, at, below)) = subst (λ x. HangGood (role_as x x.above)) (sym below)
-      (n, at, record { same_kind = refl; deeper = refl; start = refl; same_root = refl })
+      (subst (λ o. IsSomeAnd o (Below place n.kind (suc n.level) (region_start n place) n.root)) (sym at)
+      (record { same_kind = refl; deeper = refl; start = refl; same_root = refl }))
 
   hangs : (p parent level base first : ℕ) (kind : Kind) → roles' p ≡ Hangs parent kind level base first
-      → (n : Node) × (node_by roles' heading (page_of parent) ≡ Some n) × Below parent kind level base first n
+      → IsSomeAnd (node_by roles' heading (page_of parent)) (Below parent kind level base first)
   unfolding HangGood
   hangs p parent level base first kind e = by_hung p
-      ((n : Node) × (node_by roles' heading (page_of parent) ≡ Some n) × Below parent kind level base first n)
+      (IsSomeAnd (node_by roles' heading (page_of parent)) (Below parent kind level base first))
       (λ h. subst HangGood (sym h.3 ∙ e) (good_at h.0 (begins_at h.0 h.1)))
-      (λ h. let found = sound.hangs p parent level base first kind (sym h.0 ∙ e) in
-      (found.0, node_kept (page_of parent) found.0 found.1, found.2))
+      (λ h. let found = hangs_at roles heading sound p parent level base first kind (sym h.0 ∙ e) in
+      subst (λ o. IsSomeAnd o (Below parent kind level base first)) (sym (node_kept (page_of parent) found.0 found.1)) found.2)
 
   by_node : (p : ℕ) (n : Node) (P : Type 0) → node_by roles' heading p ≡ Some n → (node_by roles heading p ≡ Some n → P)
       → (Reached n → P) → P

@@ -1,5 +1,5 @@
 -- Whether a page leaves, by its role and by its node, and while other pages leave.
-use Rattle.bbm_tree_index.proofs.Common.{Marks, Heading, PlaceMap, Sound, cut_by, passes_at, core_with, holds_at}
+use Rattle.bbm_tree_index.proofs.Common.{Marks, Heading, PlaceMap, Sound, hangs_at, cut_by, passes_at, core_with, holds_at}
 use Rattle.bbm_tree_index.proofs.Common.{leaves_role, stays, node_by, node_with, Leaving, Unheld, Role, Untracked}
 use Rattle.bbm_tree_index.proofs.Common.{Fresh, RootPage, Hangs, Gone, Null}
 use Rattle.bbm_rules.proofs.Common.{◌≡◌, ℕ, zero, suc, Bool, true, false, not, ◌&&◌, ◌||◌, ◌==◌, List, [], ◌∷◌, Option}
@@ -83,7 +83,7 @@ module _ (map : PlaceMap) (roles : ℕ → Role) (heading : Heading) (sound : So
   pub closed : (leaving : Leaving) (p parent level base first : ℕ) (kind : Kind) → roles p ≡ Hangs parent kind level base first
       → leaves_role map roles leaving (roles (page_of parent)) ≡ true → leaves_role map roles leaving (roles p) ≡ true
   closed leaving p parent level base first kind r e =
-      let found = sound.hangs p parent level base first kind r in
+      let found = hangs_at roles heading sound p parent level base first kind r in
       leaves_at leaving p
       ∙ ap (leaves_node (stays map leaving)) (node_hang roles heading p parent level base first kind found.0 r found.1 found.2)
       ∙ below_leaves leaving found.0 parent p
@@ -129,7 +129,7 @@ module _ (map : PlaceMap) (roles : ℕ → Role) (heading : Heading) (sound : So
       role_same level p Fresh n r e deep ih = refl
       role_same level p (RootPage kind first part) n r e deep ih = refl
       role_same level p (Hangs parent kind l base first) n r e deep ih =
-          let found = sound.hangs p parent l base first kind r in
+          let found = hangs_at roles heading sound p parent l base first kind r in
           hang_same level parent kind found.0 found.1
           (suc_inj (sym found.2.deeper ∙ ap (λ m. m.level) (same_Some _ n e) ∙ deep))
           ih (hid (page_of parent)) refl

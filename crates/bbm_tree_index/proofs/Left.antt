@@ -1,13 +1,14 @@
 -- The words of an index after pages left.
-use Rattle.bbm_tree_index.proofs.Common.{PlaceMap, IsSound, Sound, leaves_role, stays, is_fresh_role, is_null_role}
+use Rattle.bbm_tree_index.proofs.Common.{PlaceMap, is_sound, leaves_role, stays, is_fresh_role, is_null_role}
 use Rattle.bbm_tree_index.proofs.Common.{node_by, TreeIndex, Leaving, Role, Untracked, Fresh, RootPage, Hangs, Gone}
 use Rattle.bbm_tree_index.proofs.Common.{Null}
-use Rattle.bbm_rules.proofs.Common.{◌≡◌, ℕ, Bool, true, false, not, Option, Some, None, refl, sym, ap, ◌∙◌, subst}
+use Rattle.bbm_rules.proofs.Common.{◌≡◌, ℕ, Bool, true, false, not, Option, Some, None, refl, sym, ap, ◌∙◌}
 use Rattle.bbm_rules.proofs.Common.{if◌then◌else◌, Node}
 use Rattle.bbm_tree_index.specs.HeldCores.{kept, leaves as leaves_node}
-use Rattle.bbm_tree_index.specs.Index.{fresh_in, heading_of, known_in, node_in, null_in, role_in}
+use Rattle.bbm_tree_index.specs.Index.{fresh_in, heading_of, node_in, null_in, role_in}
+use Rattle.bbm_tree_index.specs.IndexChanges.{KeepsOnly}
 use Rattle.bbm_tree_index.proofs.Keeping.{closed, leaves_at}
-use Rattle.bbm_tree_index.proofs.Sweeping.{node_swept, sound_swept}
+use Rattle.bbm_tree_index.proofs.Sweeping.{node_swept}
 
 kept_is : (keeps : Node → Bool) (o : Option Node) → (if leaves_node keeps o then None else o) ≡ kept keeps o
 kept_is keeps None = refl
@@ -26,42 +27,37 @@ leaver_out map roles leaving (Hangs parent kind level base first) e = (refl, ref
 leaver_out map roles leaving Gone e = (refl, refl)
 leaver_out map roles leaving Null e = cc
 
-module _ (old new : TreeIndex) (map : PlaceMap) (leaving : Leaving) (heading : heading_of new ≡ heading_of old) (sound : IsSound old)
-    (roles : (p : ℕ) → role_in new p
-    ≡ (if leaves_role map (role_in old) leaving (role_in old p) then Gone else role_in old p)) where
+module _ (old : TreeIndex) (map : PlaceMap) (leaving : Leaving) where
   pub left_at : (p : ℕ) → leaves_role map (role_in old) leaving (role_in old p) ≡ leaves_node (stays map leaving) (node_in old p)
   unfolding node_in
-  left_at p = leaves_at map (role_in old) (heading_of old) sound.roles leaving p
+  left_at p = leaves_at map (role_in old) (heading_of old) (is_sound old).roles leaving p
 
-  pub node_left : (p : ℕ) → node_in new p ≡ kept (stays map leaving) (node_in old p)
-  unfolding node_in
-  node_left p = ap (λ h. node_by (role_in new) h p) heading
-      ∙ node_swept (role_in old) (role_in new) (heading_of old) sound.roles (λ q. leaves_role map (role_in old) leaving (role_in old q))
-      roles (closed map (role_in old) (heading_of old) sound.roles leaving) p
-      ∙ ap (λ b. if b then None else node_in old p) (left_at p) ∙ kept_is (stays map leaving) (node_in old p)
+  module _ (new : TreeIndex) (heading : heading_of new ≡ heading_of old) (roles : (p : ℕ) → role_in new p
+      ≡ (if leaves_role map (role_in old) leaving (role_in old p) then Gone else role_in old p)) where
+    node_left : (p : ℕ) → node_in new p ≡ kept (stays map leaving) (node_in old p)
+    unfolding node_in
+    node_left p = ap (λ h. node_by (role_in new) h p) heading
+        ∙ node_swept (role_in old) (role_in new) (heading_of old) (is_sound old).roles (λ q. leaves_role map (role_in old) leaving (role_in old q))
+        roles (closed map (role_in old) (heading_of old) (is_sound old).roles leaving) p
+        ∙ ap (λ b. if b then None else node_in old p) (left_at p) ∙ kept_is (stays map leaving) (node_in old p)
 
-  pub fresh_left : (p : ℕ) → fresh_in new p ≡ fresh_in old p
-  unfolding fresh_in
-  fresh_left p = ap is_fresh_role (roles p) ∙ by (leaves_role map (role_in old) leaving (role_in old p)) refl
-    where
-      by : (b : Bool) → leaves_role map (role_in old) leaving (role_in old p) ≡ b
-          → is_fresh_role (if b then Gone else role_in old p) ≡ is_fresh_role (role_in old p)
-      by true e = sym (leaver_out map (role_in old) leaving (role_in old p) e).0
-      by false e = refl
+    fresh_left : (p : ℕ) → fresh_in new p ≡ fresh_in old p
+    unfolding fresh_in
+    fresh_left p = ap is_fresh_role (roles p) ∙ by (leaves_role map (role_in old) leaving (role_in old p)) refl
+      where
+        by : (b : Bool) → leaves_role map (role_in old) leaving (role_in old p) ≡ b
+            → is_fresh_role (if b then Gone else role_in old p) ≡ is_fresh_role (role_in old p)
+        by true e = sym (leaver_out map (role_in old) leaving (role_in old p) e).0
+        by false e = refl
 
-  pub null_left : (p : ℕ) → null_in new p ≡ null_in old p
-  unfolding null_in
-  null_left p = ap is_null_role (roles p) ∙ by (leaves_role map (role_in old) leaving (role_in old p)) refl
-    where
-      by : (b : Bool) → leaves_role map (role_in old) leaving (role_in old p) ≡ b
-          → is_null_role (if b then Gone else role_in old p) ≡ is_null_role (role_in old p)
-      by true e = sym (leaver_out map (role_in old) leaving (role_in old p) e).1
-      by false e = refl
+    null_left : (p : ℕ) → null_in new p ≡ null_in old p
+    unfolding null_in
+    null_left p = ap is_null_role (roles p) ∙ by (leaves_role map (role_in old) leaving (role_in old p)) refl
+      where
+        by : (b : Bool) → leaves_role map (role_in old) leaving (role_in old p) ≡ b
+            → is_null_role (if b then Gone else role_in old p) ≡ is_null_role (role_in old p)
+        by true e = sym (leaver_out map (role_in old) leaving (role_in old p) e).1
+        by false e = refl
 
-  pub sound_left : ((p : ℕ) → known_in new p ≡ known_in old p) → IsSound new
-  sound_left known = record {
-    roles = (let e : heading_of old ≡ heading_of new = sym heading in subst (Sound (role_in new)) e
-        (sound_swept (role_in old) (role_in new) (heading_of old) sound.roles (λ q. leaves_role map (role_in old) leaving (role_in old q))
-        roles (closed map (role_in old) (heading_of old) sound.roles leaving)));
-    pages = λ p k. sound.pages p (sym (known p) ∙ k);
-  }
+    pub trees_left : KeepsOnly (stays map leaving) old new
+    trees_left = record { node = node_left; fresh = fresh_left; null = null_left }

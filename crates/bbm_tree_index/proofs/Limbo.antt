@@ -1,5 +1,5 @@
 -- Whether a place is in limbo, by the role of its page.
-use Rattle.bbm_tree_index.proofs.Common.{IsSound, above_by, node_with, TreeIndex, Role, Hangs}
+use Rattle.bbm_tree_index.proofs.Common.{is_sound, above_by, node_with, TreeIndex, Role, Hangs}
 use Rattle.bbm_rules.proofs.Common.{◌≡◌, ℕ, ◌<◌, ◌≤◌, Some, refl, ap, arith, Kind, Node}
 use Rattle.bbm_tree_index.specs.Index.{heading_of, node_in, role_in}
 
@@ -21,12 +21,12 @@ hanging index page parent level base first kind e = (
   refl,
 )
 
-pub level_low : (index : TreeIndex) → IsSound index → (page parent level base first : ℕ) (kind : Kind)
+pub level_low : (index : TreeIndex) → (page parent level base first : ℕ) (kind : Kind)
     → role_in index page ≡ Hangs parent kind level base first → level ≤ 4
 unfolding node_in
-level_low index sound page parent level base first kind e =
+level_low index page parent level base first kind e =
     let n = hanging index page parent level base first kind e in
-    low n.0.level level n.2 (sound.roles.shallow page n.0 n.1)
+    low n.0.level level n.2 ((is_sound index).roles.shallow page n.0 n.1)
   where
     low : (m l : ℕ) → m ≡ l → m < 4 → l ≤ 4
     low m l e k = omega arith

@@ -3,15 +3,18 @@ use Rattle.bbm_tree_index.proofs.Common.{Heading, Sound, node_with, Fits, RoleFi
 use Rattle.bbm_tree_index.proofs.Common.{RootPage, Hangs, Gone, Null, Spot}
 use Rattle.bbm_rules.proofs.Common.{◌≡◌, ℕ, ◌<◌, ◌≤◌, ◌+◌, ◌*◌, ◌^◌, Some, refl, sym, ap, ◌∙◌, subst, none-some}
 use Rattle.bbm_rules.proofs.Common.{same_Some, page_of, input_pages, Node}
+use Rattle.std.specs.Option.{IsSomeAnd}
+use Rattle.bbm_tree_index.specs.SoundRoles.{Below}
 use Rattle.bbm_tree_index.proofs.Climbing.{SameTrees, hangs_part, node_same, tree_part}
 
 pub sound_same : (roles roles' : ℕ → Role) (heading : Heading) → SameTrees roles roles' → Sound roles heading
     → Sound roles' heading
 sound_same roles roles' heading same s = record {
   hangs = λ page parent level base first kind e.
-      let found = s.hangs page parent level base first kind
-      (hangs_part (roles page) parent level base first kind (sym (same page) ∙ ap tree_part e)) in
-      (found.0, node_same roles roles' same heading (page_of parent) ∙ found.1, found.2);
+      subst (λ o. IsSomeAnd o (Below parent kind level base first))
+      (sym (node_same roles roles' same heading (page_of parent)))
+      (s.hangs page parent level base first kind
+      (hangs_part (roles page) parent level base first kind (sym (same page) ∙ ap tree_part e)));
   shallow = λ page n e. s.shallow page n (sym (node_same roles roles' same heading page) ∙ e);
   within = λ page n e. s.within page n (sym (node_same roles roles' same heading page) ∙ e);
 }

@@ -4,7 +4,8 @@ use Rattle.bbm_tree_index.proofs.Common.{Hangs, Gone, Null}
 use Rattle.bbm_rules.proofs.Common.{◌≡◌, ℕ, zero, suc, Bool, true, false, List, [], ◌∷◌, Option, Some, None, refl, sym}
 use Rattle.bbm_rules.proofs.Common.{ap, ◌∙◌, subst, true≢false, if◌then◌else◌, none-some, Kind, page_of, Above, Node}
 use Rattle.bbm_rules.proofs.Common.{node_below}
-use Rattle.bbm_tree_index.specs.IndexAgreement.{Below}
+use Rattle.std.specs.Option.{IsSomeAnd}
+use Rattle.bbm_tree_index.specs.SoundRoles.{Below}
 use Rattle.bbm_tree_index.proofs.Cutting.{above_node}
 
 -- the node of a page that hangs at a place is the one below the node of that place
@@ -110,9 +111,10 @@ module _ (roles roles' : ℕ → Role) (heading : Heading) (sound : Sound roles 
   sound_swept = record {
     hangs = λ p parent level base first kind e.
         let was = role_stays p parent level base first kind e in
-        let found = sound.hangs p parent level base first kind was.1 in
         let out = parent_stays p parent level base first kind was.1 was.0 in
-        (found.0, node_swept (page_of parent) ∙ ap (λ b. if b then None else node_by roles heading (page_of parent)) out ∙ found.1, found.2);
+        subst (λ o. IsSomeAnd o (Below parent kind level base first))
+        (sym (node_swept (page_of parent) ∙ ap (λ b. if b then None else node_by roles heading (page_of parent)) out))
+        (sound.hangs p parent level base first kind was.1);
     shallow = λ p n e. sound.shallow p n (node_stays p n e).1;
     within = λ p n e. sound.within p n (node_stays p n e).1;
   }

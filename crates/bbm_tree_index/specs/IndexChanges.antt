@@ -10,7 +10,6 @@ use Rattle.bbm_rules.specs.Places.{page_of}
 use Rattle.bbm_rules.specs.Tree.{Node}
 use Rattle.bbm_tree_index.specs.HeldCores.{kept, leaves}
 use Rattle.bbm_tree_index.specs.Index.{SameTracked, fresh_in, heading_of, known_in, node_in, null_in, pages_in}
-use Rattle.bbm_tree_index.specs.IndexAgreement.{IsSound}
 use Rattle.bbm_tree_index.specs.Paths.{Attached, starts_of}
 use Rattle.bbm_tree_index.specs.declared.index.TreeIndex.{TreeIndex}
 use Rattle.bbm_tree_index.specs.declared.role.Attach.{Attach}
@@ -78,7 +77,6 @@ module _ (keeps : Node → Bool) where
   pub record TakesOut (old new : TreeIndex) (before after : PlaceMap) : Type 0 where
     pub trees : KeepsOnly old new
     pub tracked : SameTracked old new
-    pub sound : IsSound new
     pub map : Releases (page_leaves old) before after
 
 -- ---- pages that come into the trees

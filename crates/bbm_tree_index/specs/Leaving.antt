@@ -1,21 +1,17 @@
 -- Which pages leave the trees. Source: project's own choice.
-use Rattle.std.specs.Prelude.{◌≡◌, ℕ, Bool, false, not, ◌==◌, if◌then◌else◌, unwrap_or, nat_eq}
-use Rattle.indexmap.specs.IndexMap.{IndexMap, get}
+use Rattle.std.specs.Prelude.{◌≡◌, ℕ, Bool, false, not, ◌==◌, if◌then◌else◌}
+use Rattle.indexmap.specs.IndexMap.{IndexMap}
 use Rattle.bbm_place_map.specs.declared.map.PlaceMap.{PlaceMap}
 use Rattle.bbm_rules.specs.Lists.{any}
 use Rattle.bbm_rules.specs.Tree.{Node}
 use Rattle.bbm_tree_index.specs.Climbs.{cut_by, passes_at}
 use Rattle.bbm_tree_index.specs.HeldCores.{holds_at, is_held_by}
-use Rattle.bbm_tree_index.specs.PageTables.{SameKeys}
+use Rattle.bbm_tree_index.specs.PageTables.{SameKeys, roles_of}
 use Rattle.bbm_tree_index.specs.declared.climb.Asked.TheVariants as asked
 use Rattle.bbm_tree_index.specs.declared.leaving.Leaving.{Leaving}
 use Rattle.bbm_tree_index.specs.declared.leaving.Leaving.TheVariants.{Unheld, Root, Below}
 use Rattle.bbm_tree_index.specs.declared.role.Role.{Role}
-use Rattle.bbm_tree_index.specs.declared.role.Role.TheVariants.{Untracked, RootPage, Hangs, Gone}
-
--- a table of roles as a function
-abbrev pub roles_of : {S : Type 0} → IndexMap ℕ Role S → ℕ → Role
-roles_of table page = unwrap_or (get nat_eq table page) Untracked
+use Rattle.bbm_tree_index.specs.declared.role.Role.TheVariants.{RootPage, Hangs, Gone}
 
 -- whether a node stays
 abbrev pub stays : PlaceMap → Leaving → Node → Bool

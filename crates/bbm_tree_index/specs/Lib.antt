@@ -1,9 +1,10 @@
+pub mod PageTables
 pub mod Nodes
+pub mod SoundRoles
 pub mod Spots
 pub mod Index
 pub mod HeldCores
 pub mod Climbs
-pub mod PageTables
 pub mod Leaving
 pub mod Paths
 pub mod Attaching

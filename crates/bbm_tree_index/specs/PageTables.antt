@@ -1,6 +1,12 @@
 -- Tables from pages to their roles or marks. Source: project's own choice.
-use Rattle.std.specs.Prelude.{◌≡◌, ℕ, ◌<◌, ◌%◌, ◌^◌, true, is_some, nat_eq}
+use Rattle.std.specs.Prelude.{◌≡◌, ℕ, ◌<◌, ◌%◌, ◌^◌, true, is_some, nat_eq, unwrap_or}
 use Rattle.indexmap.specs.IndexMap.{IndexMap, get, index_map_len, keys}
+use Rattle.bbm_tree_index.specs.declared.role.Role.{Role}
+use Rattle.bbm_tree_index.specs.declared.role.Role.TheVariants.{Untracked}
+
+-- a table of roles as a function
+abbrev pub roles_of : {S : Type 0} → IndexMap ℕ Role S → ℕ → Role
+roles_of table page = unwrap_or (get nat_eq table page) Untracked
 
 module _ {V S : Type 0} where
   -- its keys are pages

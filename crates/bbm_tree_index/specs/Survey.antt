@@ -8,7 +8,7 @@ use Rattle.indexmap.specs.IndexMap.{IndexMap, get}
 use Rattle.bbm_events.specs.Heading.{Heading}
 use Rattle.bbm_rules.specs.Places.{index_of, page_of}
 use Rattle.bbm_rules.specs.Tree.{Above, Node, next_of, node_below}
-use Rattle.bbm_tree_index.specs.Leaving.{roles_of}
+use Rattle.bbm_tree_index.specs.PageTables.{roles_of}
 use Rattle.bbm_tree_index.specs.Nodes.{is_fresh_role}
 use Rattle.bbm_tree_index.specs.Spots.{RoleFits, StandsAt, spot_with}
 use Rattle.bbm_tree_index.specs.declared.spot.Spot.{Spot}

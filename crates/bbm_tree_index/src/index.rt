@@ -3,6 +3,12 @@
 
 mod attaching;
 
+ghost use Rattle.std.specs.Prelude.{◌≤◌};
+ghost use Rattle.std.proofs.Props.{props};
+ghost use Rattle.indexmap.specs.IndexMap.{index_map_len};
+ghost use Rattle.bbm_tree_index.specs.PageTables.{HasPages, roles_of};
+ghost use Rattle.bbm_tree_index.specs.SoundRoles.{Sound};
+
 use crate::climb::{Asked, is_cut};
 use crate::fault::TreeFault;
 use crate::leaving::{Leaving, sweep};
@@ -28,6 +34,9 @@ pub struct TreeIndex {
     header: Header,
     /// What each page that was ever tracked is used for.
     roles: PageMap<Role>,
+    ghost sound: { Sound (roles_of roles) header } by { Prim.hlevel props },
+    ghost paged: { HasPages roles },
+    ghost limited: { index_map_len roles ≤ 16384 },
 }
 
 /// Pages that can be attached, as a survey found them: a table for each level.
@@ -52,7 +61,7 @@ impl TreeIndex {
     ghost use Rattle.bbm_tree_index.specs.HeldCores.{stays_without};
     ghost use Rattle.bbm_tree_index.specs.Index.{SamePages, SameTracked, heading_of, role_in, node_in, fresh_in};
     ghost use Rattle.bbm_tree_index.specs.Index.{null_in, known_in, pages_in};
-    ghost use Rattle.bbm_tree_index.specs.IndexAgreement.{Agrees, IsSound};
+    ghost use Rattle.bbm_tree_index.specs.IndexAgreement.{Agrees};
     ghost use Rattle.bbm_tree_index.specs.IndexChanges.{BecomesFresh, BecomesNull, BecomesZero, CountsTracked, IsNew};
     ghost use Rattle.bbm_tree_index.specs.IndexChanges.{TakesOut};
     ghost use Rattle.bbm_tree_index.specs.Leaving.{stays};
@@ -120,7 +129,8 @@ impl TreeIndex {
     /// The number of pages that were ever tracked, 0 to 16,384.
     #[tactic(auto, unfolding(crate::specs::Index::pages_in))]
     pub fn pages(&self) -> u64
-        ensures { result ≡ pages_in self.now }
+        ensures count { result ≡ pages_in self.now }
+        ensures bound { result ≤ 16384 }
     {
         self.roles.len() as u64
     }
@@ -128,7 +138,6 @@ impl TreeIndex {
     /// What is known of the place, None where its page is in no tree.
     #[inline(always)]
     pub fn path(&self, place: Place) -> Option<Path>
-        requires { IsSound self.now }
         ensures { result ≡ option_map (λ n. path_at n place) (node_in self.now (page_of place)) }
     {
         match self.spot(place.page()) {
@@ -141,7 +150,6 @@ impl TreeIndex {
     /// is looked for first where it has this number in the order in which pages were tracked.
     #[inline(always)]
     pub fn path_near(&self, place: Place, near: usize) -> Option<Path>
-        requires { IsSound self.now }
         ensures { result ≡ option_map (λ n. path_at n place) (node_in self.now (page_of place)) }
     {
         match self.spot_near(place.page(), near) {
@@ -154,7 +162,6 @@ impl TreeIndex {
     /// nothing.
     #[inline(always)]
     pub fn path_at(&self, place: Place, number: usize) -> Option<Path>
-        requires { IsSound self.now }
         ensures { IfSome result (λ path. Some path
             ≡ option_map (λ n. path_at n place) (node_in self.now (page_of place))) }
     {
@@ -177,7 +184,6 @@ impl TreeIndex {
     /// Where the page stands, None where it is in no tree.
     #[inline(always)]
     fn spot(&self, page: Page) -> Option<Spot>
-        requires { IsSound self.now }
         ensures spot { result ≡ spot_with (heading_of self.now) (role_in self.now page) }
         ensures fits { IfSome result Fits }
         ensures node { IfSome result (λ s. (n : Node) × (node_in self.now page ≡ Some n) × StandsAt s n) }
@@ -191,7 +197,6 @@ impl TreeIndex {
     #[inline(always)]
     #[tactic(auto, unfolding(crate::specs::Index::node_in, crate::specs::Index::role_in))]
     fn spot_near(&self, page: Page, near: usize) -> Option<Spot>
-        requires { IsSound self.now }
         ensures spot { result ≡ spot_with (heading_of self.now) (role_in self.now page) }
         ensures fits { IfSome result Fits }
         ensures node { IfSome result (λ s. (n : Node) × (node_in self.now page ≡ Some n) × StandsAt s n) }
@@ -206,8 +211,7 @@ impl TreeIndex {
     /// Where the page, which has this role, stands; None where it is in no tree.
     #[inline(always)]
     fn spot_as(&self, page: Page, role: &Role) -> Option<Spot>
-        requires sound { IsSound self.now }
-        requires role { get nat_eq self.now.roles page ≡ Some role.now }
+        requires { get nat_eq self.now.roles page ≡ Some role.now }
         ensures spot { result ≡ spot_with (heading_of self.now) (role_in self.now page) }
         ensures fits { IfSome result Fits }
         ensures node { IfSome result (λ s. (n : Node) × (node_in self.now page ≡ Some n) × StandsAt s n) }
@@ -222,7 +226,6 @@ impl TreeIndex {
     /// in which pages were tracked.
     #[inline(always)]
     pub fn place_translating(&self, page: Page, input: u64, near: usize) -> Option<(Place, Path)>
-        requires { IsSound self.now }
         ensures inside { IfSome result (λ met. is_at page met.0 ≡ true) }
         ensures path { IfSome result (λ met. (n : Node) × (node_in self.now page ≡ Some n)
             × (met.1 ≡ path_at n met.0)) }
@@ -242,7 +245,6 @@ impl TreeIndex {
     /// Whether the present value of a place above the place is invalid; false where its page is in no tree.
     #[tactic(auto, unfolding(crate::specs::Index::node_in))]
     pub fn in_limbo(&self, map: &PlaceMap, place: Place) -> bool
-        requires { IsSound self.now }
         ensures { result ≡ option_map_or (limbo_by (value_at map.now)) (node_in self.now (page_of place)) false }
     {
         let role = self.role(place.page());
@@ -260,7 +262,6 @@ impl TreeIndex {
 
     /// Whether the place holds a table no place of which holds anything; false where its page is in no tree.
     pub fn childless(&self, map: &PlaceMap, place: Place) -> bool
-        requires { IsSound self.now }
         ensures inside { (n : Node) → node_in self.now (page_of place) ≡ Some n
             → (result ≡ true) ↔ Childless (core_at map.now) n place }
         ensures outside { node_in self.now (page_of place) ≡ None → result ≡ false }
@@ -277,7 +278,6 @@ impl TreeIndex {
         requires { fresh_in self.old page ≡ true }
         ensures null { BecomesNull page self.old self.new }
         ensures tracked { SameTracked self.old self.new }
-        ensures sound { IsSound self.old → IsSound self.new }
         ensures agrees { (map : TheMap) → Agrees self.old map → Agrees self.new map }
     {
         put(&mut self.roles, page, Role::Null);
@@ -285,7 +285,6 @@ impl TreeIndex {
 
     /// The pages that leave are in no tree any more, and no place of them is broken.
     fn leave(&mut self, map: &mut PlaceMap, leaving: &Leaving)
-        requires { IsSound self.old }
         ensures { TakesOut (stays map.old leaving.now) self.old self.new map.old map.new }
     {
         sweep(&mut self.roles, map, leaving);
@@ -294,7 +293,6 @@ impl TreeIndex {
     /// Takes out of the trees each page with a place above it that holds nothing any more, as a DSB may leave it. No
     /// place of it is broken any more, and nothing waits there. All else stays.
     pub fn prune(&mut self, map: &mut PlaceMap)
-        requires { IsSound self.old }
         ensures { TakesOut (is_held_by (holds_at map.old)) self.old self.new map.old map.new }
     {
         self.leave(map, &Leaving::Unheld);
@@ -303,7 +301,6 @@ impl TreeIndex {
     /// Takes the pages of the root with this first page out of the trees, or those below this place. No place of them
     /// is broken any more, and nothing waits there. All else stays.
     pub fn detach(&mut self, map: &mut PlaceMap, at: Detach)
-        requires { IsSound self.old }
         ensures { TakesOut (stays_without at) self.old self.new map.old map.new }
     {
         match at {
@@ -327,7 +324,6 @@ impl TreeIndex {
         ensures same_pages { OnErr result (SamePages self.old self.new) }
         ensures same_tracked { OnErr result (SameTracked self.old self.new) }
         ensures same_map { OnErr result (IsSame map.old map.new) }
-        ensures sound { IsSound self.old → IsSound self.new }
         ensures agrees { Agrees self.old map.old → Agrees self.new map.new }
     {
         let _ = page.get();

@@ -4,11 +4,10 @@ ghost use Rattle.std.specs.Prelude.{◌≡◌, ◌==◌, ◌&&◌, ◌≤◌, �
 ghost use Rattle.indexmap.specs.IndexMap.{get, index_map_len, keys};
 ghost use Rattle.bbm_events.specs.Heading.{Heading};
 ghost use Rattle.bbm_regimes.specs.declared.regime.Kind.{Kind};
-ghost use Rattle.bbm_tree_index.specs.IndexAgreement.{Sound};
+ghost use Rattle.bbm_tree_index.specs.SoundRoles.{Sound};
 ghost use Rattle.bbm_tree_index.specs.IndexChanges.{Releases};
 ghost use Rattle.bbm_tree_index.specs.Leaving.{LetsGo, leaves_in, leaves_role, leaves_root as spec_leaves_root};
-ghost use Rattle.bbm_tree_index.specs.Leaving.{roles_of};
-ghost use Rattle.bbm_tree_index.specs.PageTables.{HasPages};
+ghost use Rattle.bbm_tree_index.specs.PageTables.{roles_of};
 
 use crate::climb::{Asked, is_cut};
 use crate::role::Role;
@@ -87,8 +86,7 @@ pub fn step(
 
 /// The page at an index of the table.
 pub fn page_at(roles: &PageMap<Role>, index: usize) -> Page
-    requires within { index < index_map_len roles.now }
-    requires pages { HasPages roles.now }
+    requires { index < index_map_len roles.now }
     ensures at { slice_get (keys roles.now) index ≡ Some result }
     ensures known { is_some (get nat_eq roles.now result) ≡ true }
 {
@@ -100,8 +98,7 @@ pub fn page_at(roles: &PageMap<Role>, index: usize) -> Page
 
 /// The pages that leave are gone, and no place of them is broken.
 pub fn sweep(roles: &mut PageMap<Role>, map: &mut PlaceMap, leaving: &Leaving)
-    requires sound { (heading : Heading) × Sound (roles_of roles.old) heading }
-    requires pages { HasPages roles.old }
+    requires { (heading : Heading) × Sound (roles_of roles.old) heading }
     ensures roles { LetsGo (leaves_in map.old roles.old leaving.now) roles.old roles.new }
     ensures map { Releases (leaves_in map.old roles.old leaving.now) map.old map.new }
 {

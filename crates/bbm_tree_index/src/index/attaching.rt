@@ -7,7 +7,6 @@ ghost use Rattle.bbm_place_map.specs.Map.{value_at};
 ghost use Rattle.bbm_place_map.specs.declared.map.PlaceMap.{PlaceMap as TheMap};
 ghost use Rattle.bbm_tree_index.specs.Attaching.{Judges, MayJudge, names_pages};
 ghost use Rattle.bbm_tree_index.specs.Index.{SamePages, SameTracked, heading_of, fresh_in};
-ghost use Rattle.bbm_tree_index.specs.IndexAgreement.{IsSound};
 ghost use Rattle.bbm_tree_index.specs.IndexChanges.{Attaches};
 ghost use Rattle.bbm_tree_index.specs.LeastPages.{IsSurvey};
 ghost use Rattle.bbm_tree_index.specs.Paths.{starts_of};
@@ -31,8 +30,7 @@ use std::alloc::Global;
 impl TreeIndex {
     /// The kind and the level at which the paths of what is attached begin.
     fn begin(&self, at: &Attach) -> (Kind, u8)
-        requires sound { IsSound self.now }
-        requires may { MayJudge self.now at.now }
+        requires { MayJudge self.now at.now }
         ensures low { result.1 ≤ 3 }
         ensures same { (s : Node) → Contains (starts_of self.now at.now) s → (s.kind ≡ result.0)
             × (s.level ≡ result.1) }
@@ -50,8 +48,7 @@ impl TreeIndex {
 
     /// The table of the pages at which the paths of what is attached begin.
     fn start(&self, alloc: Global, at: &Attach) -> Result<IndexMap<u64, Mark>, NoMemory>
-        requires sound { IsSound self.now }
-        requires may { MayJudge self.now at.now }
+        requires { MayJudge self.now at.now }
         ensures well { IfOk result (λ table. Well (heading_of self.now) (get nat_eq table)) }
         ensures start { IfOk result
             (λ table. Starting (heading_of self.now) (get nat_eq table) (starts_of self.now at.now)) }
@@ -76,8 +73,7 @@ impl TreeIndex {
         map: &PlaceMap,
         at: &Attach,
     ) -> Result<Vec<IndexMap<u64, Mark>>, TreeFault>
-        requires sound { IsSound self.now }
-        requires may { MayJudge self.now at.now }
+        requires { MayJudge self.now at.now }
         ensures tables { IfOk result (λ tables. IsSurvey tables.items self.now map.now at.now) }
         ensures fault { IfErr result (λ fault. fault ≡ TreeFault.NoMemory) }
     {
@@ -94,7 +90,6 @@ impl TreeIndex {
         at: &Attach,
         tables: &[IndexMap<u64, Mark>],
     ) -> Result<(), TreeFault>
-        requires sound { IsSound self.now }
         requires may { MayJudge self.now at.now }
         requires survey { IsSurvey tables.now self.now map.now at.now }
         ensures { Judges (fresh_in self.now) (value_at map.now) (starts_of self.now at.now)
@@ -111,7 +106,6 @@ impl TreeIndex {
     /// ASID. Or `NoMemory` where there is none. It takes time by the number of pages, not of paths. After Ok, what
     /// `attach_prepared` attaches.
     pub fn prepare(&self, alloc: Global, map: &PlaceMap, at: Attach) -> Result<Prepared, TreeFault>
-        requires sound { IsSound self.now }
         requires may { MayJudge self.now at }
         ensures judged { Judges (fresh_in self.now) (value_at map.now) (starts_of self.now at) (names_pages at) result }
         ensures prepared { IfOk result (λ prepared. IsPrepared prepared self.now map.now at) }
@@ -126,13 +120,11 @@ impl TreeIndex {
     /// Attaches pages that can be, as `prepare` found them in this index: those named, and all that paths through fresh
     /// pages reach from them. Named pages of a root are fresh.
     pub fn attach_prepared(&mut self, prepared: &Prepared)
-        requires sound { IsSound self.old }
         requires prepared { (map : TheMap) × (at : TheAttach) × IsPrepared prepared.now self.old map at
             × AreNamedFresh self.old at }
         ensures attached { (map : TheMap) (at : TheAttach) → IsPrepared prepared.now self.old map at
             → AreNamedFresh self.old at → Attaches (value_at map) at self.old self.new }
         ensures tracked { SameTracked self.old self.new }
-        ensures sound { IsSound self.new }
     {
         attach_all(&mut self.roles, &prepared.tables);
     }
@@ -140,14 +132,12 @@ impl TreeIndex {
     /// Attaches pages that can be: those named, and all that paths through fresh pages reach from them. It answers as
     /// `prepare` does, and a refusal changes nothing. Named pages of a root are fresh.
     pub fn attach(&mut self, alloc: Global, map: &PlaceMap, at: Attach) -> Result<(), TreeFault>
-        requires sound { IsSound self.old }
         requires may { MayJudge self.old at }
         requires named { AreNamedFresh self.old at }
         ensures judged { Judges (fresh_in self.old) (value_at map.now) (starts_of self.old at) (names_pages at) result }
         ensures attached { OnOk result (Attaches (value_at map.now) at self.old self.new) }
         ensures tracked { SameTracked self.old self.new }
         ensures same { OnErr result (SamePages self.old self.new) }
-        ensures sound { IsSound self.new }
     {
         match self.prepare(alloc, map, at) {
             Ok(prepared) => {

@@ -9,19 +9,16 @@ loop-index-init c = start c.args.roles.now c.args.map.now c.args.leaving.now
 
 pub page_at-page-requires : goal.page_at-page-requires
 page_at-page-requires c =
-    let same = c.loop-index.invariant.roles.same in
-    record {
-      within = subst (λ n. c.loop-index.index < n) (sym same.len) (omega (arith, c.loop-index-test.true, c.len-index-end.ensures.len));
-      pages = λ p k. c.requires.pages p (sym (same.known p) ∙ k);
-    }
+    subst (λ n. c.loop-index.index < n) (sym c.loop-index.invariant.roles.same.len)
+    (omega (arith, c.loop-index-test.true, c.len-index-end.ensures.len))
 
 pub step-requires-clause-shallow : goal.step-requires-clause-shallow
 step-requires-clause-shallow c = λ parent level base first kind e. swept_low c.args.roles.now c.loop-index.roles c.args.map.now c.loop-index.map
-    c.args.leaving.now c.loop-index.index c.requires.sound.0 c.requires.sound.1 c.loop-index.invariant c.page_at-page.result parent level base first kind e
+    c.args.leaving.now c.loop-index.index c.requires.0 c.requires.1 c.loop-index.invariant c.page_at-page.result parent level base first kind e
 
 pub loop-index-preserved : goal.loop-index-preserved
-loop-index-preserved c = more c.args.roles.now c.args.map.now c.args.leaving.now c.loop-index.roles c.loop-index.map c.requires.sound.0
-    c.requires.sound.1 c.loop-index.index c.loop-index.invariant c.step.new.roles c.step.new.map c.page_at-page.result c.page_at-page.ensures.at
+loop-index-preserved c = more c.args.roles.now c.args.map.now c.args.leaving.now c.loop-index.roles c.loop-index.map c.requires.0
+    c.requires.1 c.loop-index.index c.loop-index.invariant c.step.new.roles c.step.new.map c.page_at-page.result c.page_at-page.ensures.at
     c.step.ensures.roles c.step.ensures.map
 
 pub returns : goal.returns

@@ -11,7 +11,7 @@ use Rattle.bbm_tree_index.proofs.index.TreeIndex.in_limbo.Goals as goal
 pub is_cut-requires : goal.is_cut-requires
 is_cut-requires c =
     let h = c.in-Hangs in
-    level_low c.args.self.now c.requires c.page.result h.parent h.level h.base h.first h.kind (sym c.role-role.ensures ∙ h.is)
+    level_low c.args.self.now c.page.result h.parent h.level h.base h.first h.kind (sym c.role-role.ensures ∙ h.is)
 
 pub returns-in-Hangs : goal.returns-in-Hangs
 unfolding role_in
@@ -21,6 +21,6 @@ returns-in-Hangs c =
     c.is_cut.ensures
     ∙ ap (λ level. cut_by (passes_at c.args.map.now Invalid) (role_in c.args.self.now) level (Hangs h.parent h.kind h.level h.base h.first)) (sym n.2)
     ∙ ap (cut_by (passes_at c.args.map.now Invalid) (role_in c.args.self.now) n.0.level) (sym h.is ∙ c.role-role.ensures)
-    ∙ cut_in c.args.self.now (passes_at c.args.map.now Invalid) c.requires c.page.result n.0 n.1
+    ∙ cut_in c.args.self.now (passes_at c.args.map.now Invalid) c.page.result n.0 n.1
     ∙ ap (λ o. option_map_or (limbo_by (value_at c.args.map.now)) o false)
     (sym n.1 ∙ ap (node_in c.args.self.now) c.page.ensures)

@@ -1,51 +1,39 @@
-use Rattle.bbm_tree_index.proofs.Common.{Releases, leaves_role, TreeIndex, Gone}
+use Rattle.bbm_tree_index.proofs.Common.{Releases, is_sound, leaves_role, roles_of, Gone}
 use Rattle.bbm_rules.proofs.Common.{◌≡◌, ℕ, Bool, refl, ap, ◌∙◌, if◌then◌else◌, None, page_of}
 use Rattle.bbm_place_map.specs.Map.{marks_at}
-use Rattle.bbm_tree_index.specs.Index.{SameTracked, heading_of, known_in, pages_in, role_in}
-use Rattle.bbm_tree_index.proofs.Left.{fresh_left, left_at, node_left, null_left, sound_left}
+use Rattle.bbm_tree_index.specs.Index.{heading_of, known_in, pages_in, role_in}
+use Rattle.bbm_tree_index.proofs.Growing.{pages_same}
+use Rattle.bbm_tree_index.proofs.Keeping.{closed}
+use Rattle.bbm_tree_index.proofs.Left.{left_at, trees_left}
+use Rattle.bbm_tree_index.proofs.Sweeping.{sound_swept}
 use Rattle.bbm_tree_index.proofs.index.TreeIndex.leave.Goals as goal
 
 pub sweep-requires : goal.sweep-requires
-unfolding heading_of role_in known_in
-sweep-requires c = record { sound = (heading_of c.args.self.now, c.requires.roles); pages = c.requires.pages }
-
-abbrev new_of : goal.After-sweep → TreeIndex
-new_of c = record { header = c.args.self.now.header; roles = c.sweep.new.roles }
-
-same_heading : (c : goal.After-sweep) → heading_of (new_of c) ≡ heading_of c.args.self.now
-unfolding heading_of
-same_heading c = refl
+sweep-requires c = (c.args.self.now.header, c.args.self.now.sound)
 
 abbrev leaver : goal.After-sweep → ℕ → Bool
-leaver c p = leaves_role c.args.map.now (role_in c.args.self.now) c.args.leaving.now (role_in c.args.self.now p)
+leaver c p = leaves_role c.args.map.now (roles_of c.args.self.now.roles) c.args.leaving.now (roles_of c.args.self.now.roles p)
 
-roles : (c : goal.After-sweep) (p : ℕ) → role_in (new_of c) p ≡ (if leaver c p then Gone else role_in c.args.self.now p)
-unfolding role_in
-roles c p = c.sweep.ensures.roles.roles p
+pub invariant_of-self-clause-sound : goal.invariant_of-self-clause-sound
+invariant_of-self-clause-sound c =
+    let self = c.args.self.now in
+    sound_swept (roles_of self.roles) (roles_of c.sweep.new.roles) self.header self.sound (leaver c)
+    c.sweep.ensures.roles.roles (closed c.args.map.now (roles_of self.roles) self.header self.sound c.args.leaving.now)
 
-tracked : (c : goal.After-sweep) → SameTracked c.args.self.now (new_of c)
-unfolding known_in pages_in
-tracked c =
-    let same = c.sweep.ensures.roles.same in
-    record { known = same.known; pages = same.len; heading = same_heading c }
-
-released : (c : goal.After-sweep) → Releases (leaver c) c.args.map.now c.sweep.new.map
-unfolding role_in
-released c = c.sweep.ensures.map
+pub invariant_of-self-clause-paged : goal.invariant_of-self-clause-paged
+invariant_of-self-clause-paged c = pages_same c.sweep.ensures.roles.same c.args.self.now.paged
 
 pub returns : goal.returns
-returns c = let h = same_heading c in let s = c.requires in let r = roles c in
+unfolding heading_of known_in pages_in role_in
+returns c =
     let old = c.args.self.now in let map = c.args.map.now in let leaving = c.args.leaving.now in
-    let all = left_at old (new_of c) map leaving h s r in
-    let m = released c in
+    let r = c.sweep.ensures.roles.roles in
+    let same = c.sweep.ensures.roles.same in
+    let m = c.sweep.ensures.map in
+    let all = left_at old map leaving in
     record {
-      trees = record {
-        node = node_left old (new_of c) map leaving h s r;
-        fresh = fresh_left old (new_of c) map leaving h s r;
-        null = null_left old (new_of c) map leaving h s r;
-      };
-      tracked = tracked c;
-      sound = sound_left old (new_of c) map leaving h s r (tracked c).known;
+      trees = trees_left old map leaving _ refl r;
+      tracked = record { known = same.known; pages = same.len; heading = refl };
       map = record {
         values = m.values;
         marks = λ a. m.marks a ∙ ap (λ b. if b then None else marks_at map a) (all (page_of a));

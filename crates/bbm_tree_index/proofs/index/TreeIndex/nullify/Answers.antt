@@ -1,54 +1,48 @@
-use Rattle.bbm_tree_index.proofs.Common.{get, IsSound, TreeIndex, Null}
-use Rattle.bbm_rules.proofs.Common.{◌≡◌, ℕ, ◌==◌, if◌then◌else◌, refl, sym, ◌∙◌, nat_eq}
-use Rattle.bbm_tree_index.proofs.Climbing.{SameTrees, put_trees}
-use Rattle.bbm_tree_index.proofs.Indexes.{false_there, fresh_out, fresh_put, node_kept, null_put, put_role, sound_kept}
-use Rattle.bbm_tree_index.proofs.Indexes.{true_there}
+use Rattle.bbm_tree_index.proofs.Common.{get, roles_of, TreeIndex, Role, Null, Untracked}
+use Rattle.bbm_rules.proofs.Common.{◌≡◌, ℕ, ◌==◌, if◌then◌else◌, refl, ◌∙◌, nat_eq, Option, Some, true, unwrap_or}
+use Rattle.bbm_tree_index.proofs.Climbing.{SameTrees}
+use Rattle.bbm_tree_index.proofs.Growing.{pages_same}
+use Rattle.bbm_tree_index.proofs.Indexes.{false_there, fresh_out, fresh_put, node_kept, null_put, trees_put, true_there}
 use Rattle.bbm_tree_index.proofs.Agreeing.{agrees_same}
-use Rattle.bbm_tree_index.specs.Index.{fresh_in, heading_of, known_in, node_in, null_in, pages_in, role_in}
+use Rattle.bbm_tree_index.proofs.Sounds.{sound_same}
+use Rattle.bbm_tree_index.specs.Index.{fresh_in, heading_of, known_in, null_in, pages_in, role_in}
 use Rattle.bbm_tree_index.proofs.index.TreeIndex.nullify.Goals as goal
 
-abbrev new_of : goal.After-put → TreeIndex
-new_of c = record { header = c.args.self.now.header; roles = c.put.new.roles }
-
-put : (c : goal.After-put) (p : ℕ) → role_in (new_of c) p ≡ (if p == c.args.page then Null else role_in c.args.self.now p)
+trees : (old : TreeIndex) (g : ℕ → Option Role) (page : ℕ) → fresh_in old page ≡ true
+    → ((p : ℕ) → g p ≡ (if p == page then Some Null else get nat_eq old.roles p))
+    → SameTrees (roles_of old.roles) (λ p. unwrap_or (g p) Untracked)
 unfolding role_in
-put c = put_role (get nat_eq c.args.self.now.roles) (get nat_eq c.put.new.roles) c.args.page Null c.put.ensures.roles
+trees old g page fresh put = trees_put (get nat_eq old.roles) g page Null put (fresh_out old page fresh) refl
 
-trees : (c : goal.After-put) → SameTrees (role_in c.args.self.now) (role_in (new_of c))
-trees c = put_trees (role_in c.args.self.now) (role_in (new_of c)) c.args.page Null (put c)
-    (fresh_out c.args.self.now c.args.page c.requires) refl
+pub invariant_of-self-clause-sound : goal.invariant_of-self-clause-sound
+invariant_of-self-clause-sound c =
+    let self = c.args.self.now in
+    sound_same (roles_of self.roles) (roles_of c.put.new.roles) self.header
+    (trees self (get nat_eq c.put.new.roles) c.args.page c.requires c.put.ensures.roles) self.sound
 
-same_heading : (c : goal.After-put) → heading_of (new_of c) ≡ heading_of c.args.self.now
-unfolding heading_of
-same_heading c = refl
-
-node : (c : goal.After-put) (p : ℕ) → node_in (new_of c) p ≡ node_in c.args.self.now p
-node c = node_kept c.args.self.now (new_of c) (same_heading c) (trees c)
-
-known : (c : goal.After-put) (p : ℕ) → known_in (new_of c) p ≡ known_in c.args.self.now p
-unfolding known_in
-known c p = c.put.ensures.same.known p
-
-sound : (c : goal.After-put) → IsSound c.args.self.now → IsSound (new_of c)
-sound c s = sound_kept c.args.self.now (new_of c) (same_heading c) (trees c) (λ p k. s.pages p (sym (known c p) ∙ k)) s
+pub invariant_of-self-clause-paged : goal.invariant_of-self-clause-paged
+invariant_of-self-clause-paged c = pages_same c.put.ensures.same c.args.self.now.paged
 
 pub returns-clause-null : goal.returns-clause-null
+unfolding heading_of role_in
 returns-clause-null c =
     let old = c.args.self.now in
     let page = c.args.page in
+    let put = c.put.ensures.roles in
     record {
-      node = node c;
-      fresh = λ p. fresh_put old (new_of c) page Null (put c) p ∙ false_there (p == page) (fresh_in old p);
-      null = λ p. null_put old (new_of c) page Null (put c) p ∙ true_there (p == page) (null_in old p);
+      node = node_kept old _ refl (trees old (get nat_eq c.put.new.roles) page c.requires put);
+      fresh = λ p. fresh_put old _ page Null put p ∙ false_there (p == page) (fresh_in old p);
+      null = λ p. null_put old _ page Null put p ∙ true_there (p == page) (null_in old p);
     }
 
-pub returns-clause-sound : goal.returns-clause-sound
-returns-clause-sound c = sound c
-
 pub returns-clause-agrees : goal.returns-clause-agrees
-returns-clause-agrees c = λ map g. agrees_same c.args.self.now (new_of c) map map (sound c g.sound) (node c)
+unfolding heading_of role_in
+returns-clause-agrees c = λ map g. agrees_same c.args.self.now _ map map
+    (node_kept c.args.self.now _ refl
+    (trees c.args.self.now (get nat_eq c.put.new.roles) c.args.page c.requires c.put.ensures.roles))
     (λ a n e. record { marks = refl; value = refl }) (λ a e. e) g
 
 pub returns-clause-tracked : goal.returns-clause-tracked
-unfolding pages_in
-returns-clause-tracked c = record { known = known c; pages = c.put.ensures.same.len; heading = same_heading c }
+unfolding heading_of known_in pages_in
+returns-clause-tracked c =
+    record { known = c.put.ensures.same.known; pages = c.put.ensures.same.len; heading = refl }

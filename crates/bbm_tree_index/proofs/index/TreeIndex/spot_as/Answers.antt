@@ -1,4 +1,4 @@
-use Rattle.bbm_tree_index.proofs.Common.{get, node_with, Fits, RoleFits, StandsAt, spot_with, TreeIndex, Role}
+use Rattle.bbm_tree_index.proofs.Common.{get, node_with, Fits, RoleFits, is_sound, StandsAt, spot_with, TreeIndex, Role}
 use Rattle.bbm_tree_index.proofs.Common.{Untracked, Fresh, RootPage, Hangs, Gone, Null, Spot}
 use Rattle.bbm_rules.proofs.Common.{◌≡◌, ℕ, Some, None, Option, IfSome, nat_eq, unwrap_or, refl, ap, sym, ◌∙◌, subst}
 use Rattle.bbm_rules.proofs.Common.{Node}
@@ -12,13 +12,13 @@ unfolding role_in
 role_is index page r e = ap (λ (o : Option Role). unwrap_or o Untracked) e
 
 is_role : (c : goal.After-spot_of) → role_in c.args.self.now c.args.page ≡ c.args.role.now
-is_role c = role_is c.args.self.now c.args.page c.args.role.now c.requires.role
+is_role c = role_is c.args.self.now c.args.page c.args.role.now c.requires
 
 pub spot_of-requires : goal.spot_of-requires
 unfolding heading_of
 spot_of-requires c = subst (RoleFits c.args.self.now.header)
-    (role_is c.args.self.now c.args.page c.args.role.now c.requires.role)
-    (role_fits (role_in c.args.self.now) (heading_of c.args.self.now) c.requires.sound.roles c.args.page)
+    (role_is c.args.self.now c.args.page c.args.role.now c.requires)
+    (role_fits (role_in c.args.self.now) (heading_of c.args.self.now) (is_sound c.args.self.now).roles c.args.page)
 
 is_spot : (c : goal.After-spot_of)
     → c.spot_of.result ≡ spot_with (heading_of c.args.self.now) (role_in c.args.self.now c.args.page)
@@ -37,7 +37,7 @@ node_some old page (Some s) e = spot_node (role_in old) (heading_of old) page (r
 
 pub returns-clause-fits : goal.returns-clause-fits
 returns-clause-fits c = fits_some c.spot_of.result (λ s e. role_fits (role_in c.args.self.now)
-    (heading_of c.args.self.now) c.requires.sound.roles c.args.page s (sym (is_spot c) ∙ e))
+    (heading_of c.args.self.now) (is_sound c.args.self.now).roles c.args.page s (sym (is_spot c) ∙ e))
 
 pub returns-clause-node : goal.returns-clause-node
 returns-clause-node c = node_some c.args.self.now c.args.page c.spot_of.result (is_spot c)
