@@ -1,15 +1,15 @@
 //! The places above a page.
 
-ghost use Rattle.std.specs.Prelude.{◌≡◌, ◌≤◌, nat_eq, not, unwrap_or};
-ghost use Rattle.indexmap.specs.IndexMap.{get};
+ghost use Rattle.std.specs.Prelude.{◌≡◌, ◌≤◌, not};
 ghost use Rattle.bbm_descriptor.specs.Descriptor.{is_valid};
 ghost use Rattle.bbm_place_map.specs.Map.{value_at};
 ghost use Rattle.bbm_tree_index.specs.Climbs.{cut_by, passes_at};
 ghost use Rattle.bbm_tree_index.specs.HeldCores.{holds_at};
+ghost use Rattle.bbm_tree_index.specs.PageTables.{roles_of};
 
 use crate::held::core_at;
 use crate::role::Role;
-use crate::table::{number_near, role_by};
+use crate::table::{number_of, role_of};
 use bbm_descriptor::laws::law_core_where_valid;
 use bbm_descriptor::{Memory, core};
 use bbm_page_map::PageMap;
@@ -28,25 +28,25 @@ pub enum Asked {
 }
 
 /// Whether the present value of the place is invalid at this kind and level, 0 to 3. No answer depends on the number
-/// `near`, at which its page is looked for first.
-fn is_invalid(map: &PlaceMap, kind: Kind, level: u8, place: Place, near: usize) -> bool
+/// `hint`, at which its page is looked for first.
+fn is_invalid(map: &PlaceMap, kind: Kind, level: u8, place: Place, hint: usize) -> bool
     requires { level ≤ 3 }
     ensures { result ≡ not (is_valid kind level (value_at map.now place)) }
 {
     law_core_where_valid();
-    match map.position_near(place, near) {
+    match map.position_near(place, hint) {
         Some(position) => map.live_at(&position, kind, level).is_none(),
         None => core(kind, level, map.value(place)).is_none(),
     }
 }
 
-/// Whether the place holds nothing at this kind and level, 0 to 3. No answer depends on the number `near`, at which its
+/// Whether the place holds nothing at this kind and level, 0 to 3. No answer depends on the number `hint`, at which its
 /// page is looked for first.
-fn is_unheld(map: &PlaceMap, kind: Kind, level: u8, place: Place, near: usize) -> bool
+fn is_unheld(map: &PlaceMap, kind: Kind, level: u8, place: Place, hint: usize) -> bool
     requires { level ≤ 3 }
     ensures { result ≡ not (holds_at map.now kind level place) }
 {
-    match map.position_near(place, near) {
+    match map.position_near(place, hint) {
         Some(position) => {
             let live = map.live_at(&position, kind, level);
             map.core_at(&position, live).is_none()
@@ -55,21 +55,21 @@ fn is_unheld(map: &PlaceMap, kind: Kind, level: u8, place: Place, near: usize) -
     }
 }
 
-/// Whether what is asked holds of the place, at this kind and level, 0 to 3. No answer depends on the number `near`, at
+/// Whether what is asked holds of the place, at this kind and level, 0 to 3. No answer depends on the number `hint`, at
 /// which its page is looked for first.
-fn passes(map: &PlaceMap, asked: &Asked, kind: Kind, level: u8, place: Place, near: usize) -> bool
+fn passes(map: &PlaceMap, asked: &Asked, kind: Kind, level: u8, place: Place, hint: usize) -> bool
     requires { level ≤ 3 }
     ensures { result ≡ passes_at map.now asked.now kind level place }
 {
     match *asked {
-        Asked::Invalid => is_invalid(map, kind, level, place, near),
-        Asked::Unheld => is_unheld(map, kind, level, place, near),
+        Asked::Invalid => is_invalid(map, kind, level, place, hint),
+        Asked::Unheld => is_unheld(map, kind, level, place, hint),
         Asked::This(at) => place == at,
     }
 }
 
 /// Whether what is asked holds of a place above a page with this role, whose level is `left`, 0 to 4; true where a page
-/// above it is in no tree. No answer depends on the numbers `near`, at which the pages above are looked for first, by
+/// above it is in no tree. No answer depends on the numbers `hints`, at which the pages above are looked for first, by
 /// their level: there pages have been found before.
 pub fn is_cut(
     roles: &PageMap<Role>,
@@ -77,11 +77,10 @@ pub fn is_cut(
     asked: &Asked,
     left: u8,
     role: &Role,
-    near: &mut [usize; 4],
+    hints: &mut [usize; 4],
 ) -> bool
     requires { left ≤ 4 }
-    ensures { result
-        ≡ cut_by (passes_at map.now asked.now) (λ p. unwrap_or (get nat_eq roles.now p) Role.Untracked) left role.now }
+    ensures { result ≡ cut_by (passes_at map.now asked.now) (roles_of roles.now) left role.now }
 {
     match *role {
         Role::RootPage { .. } => false,
@@ -91,11 +90,11 @@ pub fn is_cut(
             }
             let level = left - 1;
             let page = parent.page();
-            let number = number_near(roles, near[level as usize], page);
-            near[level as usize] = number;
-            let above = role_by(roles, number, page);
+            let number = number_of(roles, page, hints[level as usize]);
+            hints[level as usize] = number;
+            let above = role_of(roles, page, number);
             passes(map, asked, kind, level, parent, number)
-                || is_cut(roles, map, asked, level, &above, near)
+                || is_cut(roles, map, asked, level, &above, hints)
         }
         _ => true,
     }

@@ -15,7 +15,7 @@ use crate::leaving::{Leaving, sweep};
 use crate::mark::Mark;
 use crate::role::{Detach, Path, Role};
 use crate::spot::{Spot, spot_of};
-use crate::table::{number_near, put, role_here, role_near};
+use crate::table::{number_of, put};
 use bbm_events::Header;
 use bbm_page_map::PageMap;
 use bbm_place_map::PlaceMap;
@@ -47,10 +47,9 @@ pub struct Prepared {
 }
 
 impl TreeIndex {
-    ghost use Rattle.std.specs.Prelude.{◌≡◌, ◌≢◌, ◌≤◌, ◌↔◌, ℕ, true, false, nat_eq, None, Some, is_some, Err};
+    ghost use Rattle.std.specs.Prelude.{◌≡◌, ◌≢◌, ◌≤◌, ◌↔◌, ℕ, true, false, None, Some, is_some, Err};
     ghost use Rattle.std.specs.Prelude.{IfErr, IfSome, OnOk, OnErr};
     ghost use Rattle.std.specs.Option.{option_map, option_map_or};
-    ghost use Rattle.indexmap.specs.IndexMap.{get};
     ghost use Rattle.bbm_rules.specs.Places.{page_of};
     ghost use Rattle.bbm_rules.specs.Tree.{Node};
     ghost use Rattle.bbm_place_map.specs.Map.{value_at, marks_at};
@@ -98,18 +97,6 @@ impl TreeIndex {
         matches!(self.role(page), Role::Fresh)
     }
 
-    /// Whether the page is fresh and has this number in the order in which pages were tracked; false says nothing.
-    #[inline(always)]
-    #[tactic(auto, unfolding(crate::specs::Index::fresh_in, crate::specs::Index::role_in))]
-    pub fn is_fresh_at(&self, page: Page, number: usize) -> bool
-        ensures { result ≡ true → fresh_in self.now page ≡ true }
-    {
-        match role_here(&self.roles, number, page) {
-            Some(role) => matches!(*role, Role::Fresh),
-            None => false,
-        }
-    }
-
     /// Whether the page is a null page.
     #[tactic(auto, unfolding(crate::specs::Index::null_in))]
     pub fn is_null(&self, page: Page) -> bool
@@ -135,97 +122,54 @@ impl TreeIndex {
         self.roles.len() as u64
     }
 
-    /// What is known of the place, None where its page is in no tree.
+    /// What is known of the place: the kind of its tree, its level 0 to 3, the input pages that it translates, and the
+    /// first page of the root. None where its page is in no tree.
     #[inline(always)]
     pub fn path(&self, place: Place) -> Option<Path>
         ensures { result ≡ option_map (λ n. path_at n place) (node_in self.now (page_of place)) }
     {
-        match self.spot(place.page()) {
-            Some(spot) => Some(spot.path(place)),
-            None => None,
-        }
+        self.path_near(place, 0)
     }
 
-    /// What is known of the place, None where its page is in no tree. No answer depends on the number `near`: the page
-    /// is looked for first where it has this number in the order in which pages were tracked.
+    /// `path`, where the page is looked for first at the number `hint`, as `number` gives one. No answer depends on it.
     #[inline(always)]
-    pub fn path_near(&self, place: Place, near: usize) -> Option<Path>
+    pub fn path_near(&self, place: Place, hint: usize) -> Option<Path>
         ensures { result ≡ option_map (λ n. path_at n place) (node_in self.now (page_of place)) }
     {
-        match self.spot_near(place.page(), near) {
+        match self.spot(place.page(), hint) {
             Some(spot) => Some(spot.path(place)),
             None => None,
         }
     }
 
-    /// What is known of the place, where its page has this number in the order in which pages were tracked; None says
-    /// nothing.
+    /// Where to look first for the page in further calls: its number in the order in which pages were tracked, 0 where
+    /// it never was. It is looked for first at the number `hint`. No answer of a call depends on either.
     #[inline(always)]
-    pub fn path_at(&self, place: Place, number: usize) -> Option<Path>
-        ensures { IfSome result (λ path. Some path
-            ≡ option_map (λ n. path_at n place) (node_in self.now (page_of place))) }
-    {
-        match role_here(&self.roles, number, place.page()) {
-            Some(role) => match self.spot_as(place.page(), role) {
-                Some(spot) => Some(spot.path(place)),
-                None => None,
-            },
-            None => None,
-        }
+    pub fn number(&self, page: Page, hint: usize) -> usize {
+        number_of(&self.roles, page, hint)
     }
 
-    /// Where to look first for the page: its number in the order in which pages were tracked. That is `near` where the
-    /// page is there, and else it is looked up. No answer depends on it.
-    #[inline(always)]
-    pub fn number(&self, page: Page, near: usize) -> usize {
-        number_near(&self.roles, near, page)
-    }
-
-    /// Where the page stands, None where it is in no tree.
-    #[inline(always)]
-    fn spot(&self, page: Page) -> Option<Spot>
-        ensures spot { result ≡ spot_with (heading_of self.now) (role_in self.now page) }
-        ensures fits { IfSome result Fits }
-        ensures node { IfSome result (λ s. (n : Node) × (node_in self.now page ≡ Some n) × StandsAt s n) }
-        ensures none { result ≡ None → node_in self.now page ≡ None }
-    {
-        self.spot_near(page, usize::MAX)
-    }
-
-    /// Where the page stands, None where it is in no tree. No answer depends on the number `near`, at which the page is
+    /// Where the page stands, None where it is in no tree. No answer depends on the number `hint`, at which the page is
     /// looked for first.
     #[inline(always)]
     #[tactic(auto, unfolding(crate::specs::Index::node_in, crate::specs::Index::role_in))]
-    fn spot_near(&self, page: Page, near: usize) -> Option<Spot>
+    fn spot(&self, page: Page, hint: usize) -> Option<Spot>
         ensures spot { result ≡ spot_with (heading_of self.now) (role_in self.now page) }
         ensures fits { IfSome result Fits }
         ensures node { IfSome result (λ s. (n : Node) × (node_in self.now page ≡ Some n) × StandsAt s n) }
         ensures none { result ≡ None → node_in self.now page ≡ None }
     {
-        match role_near(&self.roles, near, page) {
-            Some(role) => self.spot_as(page, role),
+        match self.roles.get_near(page, hint) {
+            Some(role) => spot_of(&self.header, role),
             None => None,
         }
-    }
-
-    /// Where the page, which has this role, stands; None where it is in no tree.
-    #[inline(always)]
-    fn spot_as(&self, page: Page, role: &Role) -> Option<Spot>
-        requires { get nat_eq self.now.roles page ≡ Some role.now }
-        ensures spot { result ≡ spot_with (heading_of self.now) (role_in self.now page) }
-        ensures fits { IfSome result Fits }
-        ensures node { IfSome result (λ s. (n : Node) × (node_in self.now page ≡ Some n) × StandsAt s n) }
-        ensures none { result ≡ None → node_in self.now page ≡ None }
-    {
-        spot_of(&self.header, role)
     }
 
     /// The place of a page that translates the input page, with what is known of it: where one goes on the way down
     /// from the page along the input page. None where the page is in no tree, or no place of it translates the input
-    /// page. No answer depends on the number `near`: the page is looked for first where it has this number in the order
-    /// in which pages were tracked.
+    /// page. No answer depends on the number `hint`, at which the page is looked for first.
     #[inline(always)]
-    pub fn place_translating(&self, page: Page, input: u64, near: usize) -> Option<(Place, Path)>
+    pub fn place_translating(&self, page: Page, input: u64, hint: usize) -> Option<(Place, Path)>
         ensures inside { IfSome result (λ met. is_at page met.0 ≡ true) }
         ensures path { IfSome result (λ met. (n : Node) × (node_in self.now page ≡ Some n)
             × (met.1 ≡ path_at n met.0)) }
@@ -233,7 +177,7 @@ impl TreeIndex {
         ensures met { (n : Node) (a : ℕ) → node_in self.now page ≡ Some n → Translates page n input a
             → option_map (λ met. met.0) result ≡ Some a }
     {
-        match self.spot_near(page, near) {
+        match self.spot(page, hint) {
             Some(spot) => match spot.place_at(page, input) {
                 Some(place) => Some((place, spot.path(place))),
                 None => None,
@@ -266,7 +210,7 @@ impl TreeIndex {
             → (result ≡ true) ↔ Childless (core_at map.now) n place }
         ensures outside { node_in self.now (page_of place) ≡ None → result ≡ false }
     {
-        match self.spot(place.page()) {
+        match self.spot(place.page(), 0) {
             Some(spot) => spot.childless(map, place),
             None => false,
         }

@@ -11,7 +11,7 @@ ghost use Rattle.bbm_tree_index.specs.PageTables.{roles_of};
 
 use crate::climb::{Asked, is_cut};
 use crate::role::Role;
-use crate::table::{put, role_by};
+use crate::table::{put, role_of};
 use bbm_page_map::PageMap;
 use bbm_place_map::PlaceMap;
 use bbm_regimes::{Page, Place};
@@ -27,14 +27,14 @@ pub enum Leaving {
     Below(Place),
 }
 
-/// Whether a page with this role, of a level of at most 4, leaves. No answer depends on the numbers `near`, at which
+/// Whether a page with this role, of a level of at most 4, leaves. No answer depends on the numbers `hints`, at which
 /// the pages above are looked for first, by their level.
 pub fn leaves(
     roles: &PageMap<Role>,
     map: &PlaceMap,
     leaving: &Leaving,
     role: &Role,
-    near: &mut [usize; 4],
+    hints: &mut [usize; 4],
 ) -> bool
     requires { (parent level base first : ℕ) (kind : Kind) → role.now ≡ Role.Hangs parent kind level base first
         → level ≤ 4 }
@@ -43,9 +43,9 @@ pub fn leaves(
     match *role {
         Role::RootPage { first, .. } => leaves_root(leaving, first),
         Role::Hangs { level, first, .. } => match *leaving {
-            Leaving::Unheld => is_cut(roles, map, &Asked::Unheld, level, role, near),
+            Leaving::Unheld => is_cut(roles, map, &Asked::Unheld, level, role, hints),
             Leaving::Root(page) => first == page,
-            Leaving::Below(place) => is_cut(roles, map, &Asked::This(place), level, role, near),
+            Leaving::Below(place) => is_cut(roles, map, &Asked::This(place), level, role, hints),
         },
         _ => false,
     }
@@ -69,7 +69,7 @@ pub fn step(
     leaving: &Leaving,
     page: Page,
     number: usize,
-    near: &mut [usize; 4],
+    hints: &mut [usize; 4],
 )
     requires known { is_some (get nat_eq roles.old page) ≡ true }
     requires shallow { (parent level base first : ℕ) (kind : Kind) →
@@ -77,8 +77,8 @@ pub fn step(
     ensures roles { LetsGo (λ p. p == page && leaves_in map.old roles.old leaving.now page) roles.old roles.new }
     ensures map { Releases (λ p. p == page && leaves_in map.old roles.old leaving.now page) map.old map.new }
 {
-    let role = role_by(roles, number, page);
-    if leaves(roles, map, leaving, &role, near) {
+    let role = role_of(roles, page, number);
+    if leaves(roles, map, leaving, &role, hints) {
         put(roles, page, Role::Gone);
         map.release(page);
     }
@@ -102,9 +102,9 @@ pub fn sweep(roles: &mut PageMap<Role>, map: &mut PlaceMap, leaving: &Leaving)
     ensures roles { LetsGo (leaves_in map.old roles.old leaving.now) roles.old roles.new }
     ensures map { Releases (leaves_in map.old roles.old leaving.now) map.old map.new }
 {
-    let mut near = [0; 4];
+    let mut hints = [0; 4];
     for index in 0..roles.len() {
         let page = page_at(roles, index);
-        step(roles, map, leaving, page, index, &mut near);
+        step(roles, map, leaving, page, index, &mut hints);
     }
 }

@@ -1,9 +1,8 @@
 //! The table of the roles.
 
-ghost use Rattle.std.specs.Prelude.{◌≡◌, ◌==◌, ℕ, IfSome, Some, is_some, nat_eq, unwrap_or, true, if◌then◌else◌};
-ghost use Rattle.std.specs.Option.{option_copied};
+ghost use Rattle.std.specs.Prelude.{◌≡◌, ◌==◌, ℕ, Some, is_some, nat_eq, true, if◌then◌else◌};
 ghost use Rattle.indexmap.specs.IndexMap.{get};
-ghost use Rattle.bbm_tree_index.specs.PageTables.{SameKeys};
+ghost use Rattle.bbm_tree_index.specs.PageTables.{SameKeys, roles_of};
 ghost use Rattle.bbm_tree_index.specs.Survey.{fresh_of};
 
 use crate::role::Role;
@@ -19,66 +18,21 @@ pub fn put(roles: &mut PageMap<Role>, page: Page, role: Role)
     roles.put(page, role);
 }
 
-/// The role of the page, where it has this number in the order in which pages got roles; None says nothing.
+/// Where to look first for the page in further calls: its number in the order in which pages got roles, 0 where it has
+/// none. It is looked for first at the number `hint`. No answer of a call depends on either.
 #[inline(always)]
-pub fn role_here<'a>(roles: &'a PageMap<Role>, number: usize, page: Page) -> Option<&'a Role>
-    ensures { IfSome result (λ role. get nat_eq roles.now page ≡ Some role.now) }
-{
-    match roles.get_index(number) {
-        Some((key, role)) => { if key == page { Some(role) } else { None } }
-        None => None,
-    }
+pub fn number_of(roles: &PageMap<Role>, page: Page, hint: usize) -> usize {
+    roles.get_index_near(page, hint).unwrap_or(0)
 }
 
-/// The role of the page, if it has one. No answer depends on the number `near`, at which the page is looked for first.
+/// The role of the page. No answer depends on the number `hint`, at which the page is looked for first.
 #[inline(always)]
-pub fn role_near<'a>(roles: &'a PageMap<Role>, near: usize, page: Page) -> Option<&'a Role>
-    ensures { option_copied result ≡ get nat_eq roles.now page }
+pub fn role_of(roles: &PageMap<Role>, page: Page, hint: usize) -> Role
+    ensures { result ≡ roles_of roles.now page }
 {
-    match role_here(roles, near, page) {
-        Some(role) => Some(role),
-        None => roles.get(page),
-    }
-}
-
-/// The role of the page. No answer depends on the number `near`, at which the page is looked for first.
-#[inline(always)]
-pub fn role_by(roles: &PageMap<Role>, near: usize, page: Page) -> Role
-    ensures { result ≡ unwrap_or (get nat_eq roles.now page) Role.Untracked }
-{
-    match role_near(roles, near, page) {
+    match roles.get_near(page, hint) {
         Some(role) => *role,
         None => Role::Untracked,
-    }
-}
-
-/// The role of the page.
-pub fn role_of(roles: &PageMap<Role>, page: Page) -> Role
-    ensures { result ≡ unwrap_or (get nat_eq roles.now page) Role.Untracked }
-{
-    match roles.get(page) {
-        Some(role) => *role,
-        None => Role::Untracked,
-    }
-}
-
-/// Where to look first for the page: its number in the order in which pages got roles. That is `near` where the page is
-/// there, and else it is looked up. No answer depends on it.
-#[inline(always)]
-pub fn number_near(roles: &PageMap<Role>, near: usize, page: Page) -> usize {
-    match role_here(roles, near, page) {
-        Some(_) => near,
-        None => number_far(roles, page),
-    }
-}
-
-/// Where to look first for the page: its number in the order in which pages got roles, which is looked up; 0 where it
-/// has none. No answer depends on it.
-#[inline(never)]
-fn number_far(roles: &PageMap<Role>, page: Page) -> usize {
-    match roles.get_index_of(page) {
-        Some(number) => number,
-        None => 0,
     }
 }
 
@@ -86,5 +40,5 @@ fn number_far(roles: &PageMap<Role>, page: Page) -> usize {
 pub fn is_fresh(roles: &PageMap<Role>, page: Page) -> bool
     ensures { result ≡ fresh_of roles.now page }
 {
-    matches!(role_of(roles, page), Role::Fresh)
+    matches!(roles.get(page), Some(Role::Fresh))
 }

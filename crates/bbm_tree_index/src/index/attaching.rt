@@ -39,7 +39,7 @@ impl TreeIndex {
         self.header.in_ranges();
         match *at {
             Attach::Root { kind, first: _ } => (kind, self.header.start_level(kind)),
-            Attach::Below { place, next: _ } => match self.spot(place.page()) {
+            Attach::Below { place, next: _ } => match self.spot(place.page(), 0) {
                 Some(spot) => (spot.kind, spot.level + 1),
                 None => (Kind::El2, 3),
             },
@@ -58,7 +58,7 @@ impl TreeIndex {
             Attach::Root { kind, first } => {
                 start_root(alloc, kind, first, self.header.page_count(kind))
             }
-            Attach::Below { place, next } => match self.spot(place.page()) {
+            Attach::Below { place, next } => match self.spot(place.page(), 0) {
                 Some(spot) => start_below(alloc, &spot, place, next),
                 None => Ok(IndexMap::new(alloc)),
             },
