@@ -1,9 +1,9 @@
-//! The example of bbm_tree_index, with ample memory.
+//! The calls of bbm_tree_index that a null page takes, with ample memory.
 
 use bbm_events::Header;
 use bbm_place_map::PlaceMap;
 use bbm_regimes::{HypWorld, Page, World};
-use bbm_tree_index::{TreeFault, null_page};
+use bbm_tree_index::{TreeFault, TreeIndex};
 
 const HYP: Header = Header {
     version: 1,
@@ -20,7 +20,11 @@ const HYP: Header = Header {
 fn a_null_page(rt: HostRuntime) -> Result<(), TreeFault> {
     let mut map = PlaceMap::new(rt.alloc());
     let page = Page::new(0x4000_0000).unwrap();
-    let index = null_page(rt.alloc(), &HYP, &mut map, page)?;
+    let mut index = TreeIndex::new(rt.alloc(), &HYP);
+    index.track(&mut map, page)?;
+    if index.is_fresh(page) {
+        index.nullify(page);
+    }
     assert!(rt; index.is_null(page) && !index.is_fresh(page) && !index.is_in_tree(page));
     assert!(rt; index.pages() == 1);
     Ok(())

@@ -14,7 +14,8 @@ use Rattle.bbm_tree_index.specs.Attaching.{names_pages}
 use Rattle.bbm_tree_index.specs.IndexChanges.{Attaches}
 use Rattle.bbm_tree_index.proofs.Begins.{apart_of}
 use Rattle.bbm_tree_index.proofs.Begun.{only}
-use Rattle.bbm_tree_index.proofs.Hung.{Begins, Reach, fresh_hung, node_back, node_kept, node_reached, null_hung, sound_hung}
+use Rattle.bbm_tree_index.proofs.Hung.{Begins, Reach, fresh_hung, node_back, node_kept, node_reached, null_hung}
+use Rattle.bbm_tree_index.proofs.Hung.{sound_hung}
 use Rattle.bbm_tree_index.proofs.Reaching.{attached_reach, reach_attached, reach_fresh, reach_unique}
 use Rattle.bbm_tree_index.proofs.Rooted.{in_nodes}
 use Rattle.bbm_tree_index.proofs.Surveying.{all_hung, reach_fits, reach_plain, table_page}

@@ -1,5 +1,6 @@
 -- What is asked of the places above a page, by its role and by its node.
-use Rattle.bbm_tree_index.proofs.Common.{Heading, Sound, hangs_at, cut_by, above_by, node_by, node_with, StandsAt, spot_with}
+use Rattle.bbm_tree_index.proofs.Common.{Heading, Sound, hangs_at, cut_by, above_by, node_by, node_with, StandsAt}
+use Rattle.bbm_tree_index.proofs.Common.{spot_with}
 use Rattle.bbm_tree_index.proofs.Common.{Role, Untracked, Fresh, RootPage, Hangs, Gone, Null, Spot}
 use Rattle.bbm_rules.proofs.Common.{◌≡◌, ℕ, zero, suc, Bool, ◌||◌, [], Some, None, refl, sym, ap, ◌∙◌, subst, none-some}
 use Rattle.bbm_rules.proofs.Common.{same_Some, Kind, any, page_of, Node}

@@ -1,5 +1,6 @@
 -- Nodes and soundness after pages were hung: each page that is reached got the role of its node, the others kept theirs.
-use Rattle.bbm_tree_index.proofs.Common.{Heading, Sound, hangs_at, above_by, is_fresh_role, is_null_role, node_by, node_with}
+use Rattle.bbm_tree_index.proofs.Common.{Heading, Sound, hangs_at, above_by, is_fresh_role, is_null_role, node_by}
+use Rattle.bbm_tree_index.proofs.Common.{node_with}
 use Rattle.bbm_tree_index.proofs.Common.{Fits, spot_with, Goes, role_as, spot_as, Role, Untracked, Fresh, RootPage}
 use Rattle.bbm_tree_index.proofs.Common.{Hangs, Gone, Null}
 use Rattle.bbm_rules.proofs.Common.{◌≡◌, ℕ, zero, suc, ◌⊎◌, ◌&&◌, Bool, true, false, List, [], ◌∷◌, ◌++◌, Option, Some}

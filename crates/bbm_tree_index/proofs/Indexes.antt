@@ -1,8 +1,8 @@
 -- What keeps nodes, soundness and agreement, said of indexes.
-use Rattle.bbm_tree_index.proofs.Common.{get, PlaceMap, cut_by, Agrees, is_sound, is_fresh_role, is_null_role}
+use Rattle.bbm_tree_index.proofs.Common.{get, cut_by, is_sound, is_fresh_role, is_null_role}
 use Rattle.bbm_tree_index.proofs.Common.{node_by, TreeIndex, Role, Untracked, Gone}
-use Rattle.bbm_rules.proofs.Common.{◌≡◌, ℕ, ◌<◌, ◌%◌, ◌^◌, Bool, true, false, Option, Some, None, refl, sym, ap, subst}
-use Rattle.bbm_rules.proofs.Common.{◌∙◌, unwrap_or, ◌==◌, ◌||◌, ◌&&◌, not, if◌then◌else◌, nat_eq, is_some, proved, Is}
+use Rattle.bbm_rules.proofs.Common.{◌≡◌, ℕ, Bool, true, false, Option, Some, None, refl, ap}
+use Rattle.bbm_rules.proofs.Common.{◌∙◌, unwrap_or, ◌==◌, ◌||◌, ◌&&◌, not, if◌then◌else◌, nat_eq, proved, Is}
 use Rattle.bbm_rules.proofs.Common.{any, Node, Kind}
 use Rattle.bbm_tree_index.proofs.Cutting.{cut_node}
 use Rattle.bbm_tree_index.specs.Index.{fresh_in, heading_of, node_in, null_in, role_in}

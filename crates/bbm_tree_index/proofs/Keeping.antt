@@ -1,5 +1,6 @@
 -- Whether a page leaves, by its role and by its node, and while other pages leave.
-use Rattle.bbm_tree_index.proofs.Common.{Marks, Heading, PlaceMap, Sound, hangs_at, cut_by, passes_at, core_with, holds_at}
+use Rattle.bbm_tree_index.proofs.Common.{Marks, Heading, PlaceMap, Sound, hangs_at, cut_by, passes_at, core_with}
+use Rattle.bbm_tree_index.proofs.Common.{holds_at}
 use Rattle.bbm_tree_index.proofs.Common.{leaves_role, stays, node_by, node_with, Leaving, Unheld, Role, Untracked}
 use Rattle.bbm_tree_index.proofs.Common.{Fresh, RootPage, Hangs, Gone, Null}
 use Rattle.bbm_rules.proofs.Common.{◌≡◌, ℕ, zero, suc, Bool, true, false, not, ◌&&◌, ◌||◌, ◌==◌, List, [], ◌∷◌, Option}

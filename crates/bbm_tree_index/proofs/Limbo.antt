@@ -1,6 +1,6 @@
 -- Whether a place is in limbo, by the role of its page.
-use Rattle.bbm_tree_index.proofs.Common.{is_sound, above_by, node_with, TreeIndex, Role, Hangs}
-use Rattle.bbm_rules.proofs.Common.{◌≡◌, ℕ, ◌<◌, ◌≤◌, Some, refl, ap, arith, Kind, Node}
+use Rattle.bbm_tree_index.proofs.Common.{above_by, node_with, TreeIndex, Role, Hangs}
+use Rattle.bbm_rules.proofs.Common.{◌≡◌, ℕ, Some, refl, ap, Kind, Node}
 use Rattle.bbm_tree_index.specs.Index.{heading_of, node_in, role_in}
 
 -- the node of a page that hangs at a place
@@ -20,13 +20,3 @@ hanging index page parent level base first kind e = (
   ap (λ (r : Role). node_with (role_in index) (heading_of index) page r) e,
   refl,
 )
-
-pub level_low : (index : TreeIndex) → (page parent level base first : ℕ) (kind : Kind)
-    → role_in index page ≡ Hangs parent kind level base first → level ≤ 4
-unfolding node_in
-level_low index page parent level base first kind e =
-    let n = hanging index page parent level base first kind e in
-    low n.0.level level n.2 ((is_sound index).roles.shallow page n.0 n.1)
-  where
-    low : (m l : ℕ) → m ≡ l → m < 4 → l ≤ 4
-    low m l e k = omega arith

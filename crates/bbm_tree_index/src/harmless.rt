@@ -9,7 +9,7 @@ ghost use Rattle.bbm_tree_index.specs.LeastPages.{leaf_bits as spec_leaf_bits, s
 ghost use Rattle.bbm_tree_index.specs.PageTables.{HasPages};
 ghost use Rattle.bbm_tree_index.specs.declared.judge.Leaf.{Leaf};
 
-use crate::held::{are_eight_zero, first_position};
+use crate::held::{PLACES, are_eight_zero, first_position};
 use crate::mark::Mark;
 use crate::survey::entry_at;
 use bbm_place_map::{PlaceMap, Position};
@@ -63,7 +63,7 @@ fn are_eight_harmless(
 ) -> bool
     requires position { IsPosition map.now position.now }
     requires first { position.now.place % 4096 ≡ 0 }
-    requires within { from + 8 ≤ 512 }
+    requires within { from + 8 ≤ PLACES }
     requires some { 1 ≤ bits }
     ensures { result ≡ true → (j : ℕ) → from ≤ j → j < from + 8
         → spares lower bits (value_at map.now (position.now.place + 8 * j)) ≡ true }

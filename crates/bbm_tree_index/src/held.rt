@@ -11,7 +11,7 @@ use bbm_place_map::{PlaceMap, Position};
 use bbm_regimes::{Kind, Page, Place};
 
 /// The number of places of a page.
-const PLACES: u64 = 512;
+pub const PLACES: u64 = 512;
 
 /// What the place holds at this kind and level, 0 to 3.
 pub fn core_at(map: &PlaceMap, kind: Kind, level: u8, place: Place) -> Option<Core>
@@ -48,7 +48,7 @@ pub fn next_at(map: &PlaceMap, kind: Kind, level: u8, place: Place) -> Option<Pa
 
 /// The place of the page with this number, 0 to 511.
 pub fn place_of(page: Page, index: u64) -> Place
-    requires { index < 512 }
+    requires { index < PLACES }
     ensures place { result ≡ page + 8 * index }
     ensures inside { is_at page result ≡ true }
 {
@@ -81,7 +81,7 @@ pub fn first_position(map: &PlaceMap, page: Page) -> Option<Position>
 fn four_joined(map: &PlaceMap, position: &Position, from: u64) -> u64
     requires position { IsPosition map.now position.now }
     requires first { position.now.place % 4096 ≡ 0 }
-    requires within { from + 4 ≤ 512 }
+    requires within { from + 4 ≤ PLACES }
     ensures { result ≡ 0 → (j : ℕ) → from ≤ j → j < from + 4 → value_at map.now (position.now.place + 8 * j) ≡ 0 }
 {
     map.value_from(position, from)
@@ -95,7 +95,7 @@ fn four_joined(map: &PlaceMap, position: &Position, from: u64) -> u64
 pub fn are_eight_zero(map: &PlaceMap, position: &Position, from: u64) -> bool
     requires position { IsPosition map.now position.now }
     requires first { position.now.place % 4096 ≡ 0 }
-    requires within { from + 8 ≤ 512 }
+    requires within { from + 8 ≤ PLACES }
     ensures { result ≡ true → (j : ℕ) → from ≤ j → j < from + 8 → value_at map.now (position.now.place + 8 * j) ≡ 0 }
 {
     four_joined(map, position, from) | four_joined(map, position, from + 4) == 0

@@ -1,5 +1,12 @@
 //! The index of the trees.
 //! Source: project's own choice, where no other is named.
+#![tactic(auto, unfolding(
+// the header and the roles
+crate::specs::Index::heading_of, crate::specs::Index::role_in,
+// nodes, fresh pages and null pages
+crate::specs::Index::node_in, crate::specs::Index::fresh_in, crate::specs::Index::null_in,
+// the pages that were ever tracked
+crate::specs::Index::known_in, crate::specs::Index::pages_in))]
 
 mod attaching;
 
@@ -79,7 +86,6 @@ impl TreeIndex {
     }
 
     /// What the page is used for.
-    #[tactic(auto, unfolding(crate::specs::Index::role_in))]
     pub fn role(&self, page: Page) -> Role
         ensures { result ≡ role_in self.now page }
     {
@@ -90,7 +96,6 @@ impl TreeIndex {
     }
 
     /// Whether the page is fresh.
-    #[tactic(auto, unfolding(crate::specs::Index::fresh_in))]
     pub fn is_fresh(&self, page: Page) -> bool
         ensures { result ≡ fresh_in self.now page }
     {
@@ -98,7 +103,6 @@ impl TreeIndex {
     }
 
     /// Whether the page is a null page.
-    #[tactic(auto, unfolding(crate::specs::Index::null_in))]
     pub fn is_null(&self, page: Page) -> bool
         ensures { result ≡ null_in self.now page }
     {
@@ -106,7 +110,6 @@ impl TreeIndex {
     }
 
     /// Whether the page is in a tree.
-    #[tactic(auto, unfolding(crate::specs::Index::node_in))]
     pub fn is_in_tree(&self, page: Page) -> bool
         ensures { result ≡ is_some (node_in self.now page) }
     {
@@ -114,7 +117,6 @@ impl TreeIndex {
     }
 
     /// The number of pages that were ever tracked, 0 to 16,384.
-    #[tactic(auto, unfolding(crate::specs::Index::pages_in))]
     pub fn pages(&self) -> u64
         ensures count { result ≡ pages_in self.now }
         ensures bound { result ≤ 16384 }
@@ -131,7 +133,9 @@ impl TreeIndex {
         self.path_near(place, 0)
     }
 
-    /// `path`, where the page is looked for first at the number `hint`, as `number` gives one. No answer depends on it.
+    /// What is known of the place: the kind of its tree, its level 0 to 3, the input pages that it translates, and the
+    /// first page of the root. None where its page is in no tree. No answer depends on the number `hint`, at which the
+    /// page is looked for first.
     #[inline(always)]
     pub fn path_near(&self, place: Place, hint: usize) -> Option<Path>
         ensures { result ≡ option_map (λ n. path_at n place) (node_in self.now (page_of place)) }
@@ -152,7 +156,6 @@ impl TreeIndex {
     /// Where the page stands, None where it is in no tree. No answer depends on the number `hint`, at which the page is
     /// looked for first.
     #[inline(always)]
-    #[tactic(auto, unfolding(crate::specs::Index::node_in, crate::specs::Index::role_in))]
     fn spot(&self, page: Page, hint: usize) -> Option<Spot>
         ensures spot { result ≡ spot_with (heading_of self.now) (role_in self.now page) }
         ensures fits { IfSome result Fits }
@@ -187,7 +190,6 @@ impl TreeIndex {
     }
 
     /// Whether the present value of a place above the place is invalid; false where its page is in no tree.
-    #[tactic(auto, unfolding(crate::specs::Index::node_in))]
     pub fn in_limbo(&self, map: &PlaceMap, place: Place) -> bool
         ensures { result ≡ option_map_or (limbo_by (value_at map.now)) (node_in self.now (page_of place)) false }
     {
@@ -217,7 +219,6 @@ impl TreeIndex {
     }
 
     /// The page is declared null. It is fresh.
-    #[tactic(auto, unfolding(crate::specs::Index::fresh_in, crate::specs::Index::role_in))]
     pub fn nullify(&mut self, page: Page)
         requires { fresh_in self.old page ≡ true }
         ensures null { BecomesNull page self.old self.new }
@@ -256,7 +257,7 @@ impl TreeIndex {
     /// The page is tracked, anew where it was before; it is in no tree and isn't a null page. It becomes fresh, and the
     /// values of its places 0. `Limit(Pages)` exactly where it was never tracked and 16,384 pages were; else `NoMemory`
     /// where there is none. A refusal changes nothing.
-    pub fn track(&mut self, alloc: Global, map: &mut PlaceMap, page: Page) -> Result<(), TreeFault>
+    pub fn track(&mut self, map: &mut PlaceMap, page: Page) -> Result<(), TreeFault>
         requires no_tree { node_in self.old page ≡ None }
         requires not_null { null_in self.old page ≡ false }
         ensures fresh { OnOk result (BecomesFresh page self.old self.new) }
@@ -278,7 +279,7 @@ impl TreeIndex {
             Ok(()) => {}
             Err(_) => return Err(TreeFault::NoMemory),
         }
-        match map.track(alloc, page) {
+        match map.track(page) {
             Ok(()) => {}
             Err(_) => return Err(TreeFault::NoMemory),
         }

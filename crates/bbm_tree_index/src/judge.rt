@@ -13,7 +13,7 @@ ghost use Rattle.bbm_tree_index.specs.Survey.{fresh_of};
 
 use crate::fault::TreeFault;
 use crate::harmless::{are_harmless, is_lower};
-use crate::held::place_of;
+use crate::held::{PLACES, place_of};
 use crate::mark::Mark;
 use crate::role::{Attach, Role};
 use crate::survey::entry_at;
@@ -191,7 +191,7 @@ fn leaf_of(map: &PlaceMap, leaf: &Leaf, kind: Kind, level: u8, page: Page) -> Op
         return None;
     }
     let position = map.first_position(page);
-    for index in 0..512 {
+    for index in 0..PLACES {
         if is_leaf(leaf, kind, level, map.value_from(&position, index)) {
             return Some(place_of(page, index));
         }

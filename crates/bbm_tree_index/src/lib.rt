@@ -9,18 +9,16 @@
 //! - `prepare` tells whether pages can be attached, and which page or place is in the way; `attach_prepared` attaches
 //!   them. `attach` does both.
 //! - `role`, `is_fresh`, `is_null`, `is_in_tree`, `pages`, `path`, `in_limbo` and `childless` tell what the calls come
-//!   to. `number` and `path_near` look for a page first at a number, as `PlaceMap::recent_page` tells it, `path_at` and
-//!   `is_fresh_at` there alone. `place_translating` tells where one goes on the way down along an input page; from there
-//!   `place_below` does so level by level, and looks nothing up.
+//!   to. `path_near` looks for a page first at a number, as `number` or `PlaceMap::recent_page` tells it.
+//!   `place_translating` tells where one goes on the way down along an input page; from there `place_below` does so
+//!   level by level, and looks nothing up.
 //!
-//! Each contract speaks of the node of each page, by the words of `specs/Index.antt`. `null_page` is an example of the
-//! calls, with its proof.
+//! Each contract speaks of the node of each page, by the words of `specs/Index.antt`.
 #![tactic(auto)]
 
 mod attach_prepared;
 mod below;
 mod climb;
-pub mod example;
 mod fault;
 mod harmless;
 mod held;
@@ -35,7 +33,6 @@ mod survey;
 mod table;
 
 pub use below::place_below;
-pub use example::null_page;
 pub use fault::TreeFault;
 pub use index::{Prepared, TreeIndex};
 pub use role::{Attach, Detach, Path, Role};

@@ -7,7 +7,7 @@ ghost use Rattle.bbm_tree_index.specs.HeldCores.{holds_at};
 ghost use Rattle.bbm_regimes.specs.World.{input_pages as input_pages_of};
 ghost use Rattle.bbm_tree_index.specs.Spots.{spot_with, Fits, RoleFits};
 
-use crate::held::{holds_none, next_at, place_of};
+use crate::held::{PLACES, holds_none, next_at, place_of};
 use crate::role::{Path, Role};
 use bbm_events::{Header, input_pages, regions_in};
 use bbm_place_map::PlaceMap;
@@ -38,7 +38,7 @@ pub fn spot_of(header: &Header, role: &Role) -> Option<Spot>
             Some(Spot {
                 kind,
                 level,
-                base: header.first_input_page(kind) + part as u64 * (512 * input_pages(level)),
+                base: header.first_input_page(kind) + part as u64 * (PLACES * input_pages(level)),
                 first,
             })
         }
@@ -96,7 +96,7 @@ impl Spot {
             return None;
         }
         let index = regions_in(self.level, input - self.base);
-        if index < 512 {
+        if index < PLACES {
             Some(place_of(page, index))
         } else {
             None

@@ -13,7 +13,7 @@ ghost use Rattle.bbm_tree_index.specs.Survey.{Counts, Expands, Found, Partly, Pl
 ghost use Rattle.bbm_tree_index.specs.Survey.{Uniform, Well, fresh_of, grown, with_first, with_page};
 ghost use Rattle.bbm_tree_index.specs.declared.mark.Mark.{Mark as TheMark};
 
-use crate::held::{are_eight_zero, first_position, place_of};
+use crate::held::{PLACES, are_eight_zero, first_position, place_of};
 use crate::mark::{Mark, add};
 use crate::role::Role;
 use crate::spot::{Spot, spot_of};
@@ -90,7 +90,7 @@ fn expand_eight(
     requires fits { Fits spot.now }
     requires position { IsPosition map.now position.now }
     requires first { position.now.place % 4096 ≡ 0 }
-    requires within { from + 8 ≤ 512 }
+    requires within { from + 8 ≤ PLACES }
     ensures well { OnOk result (StaysWell below.old below.new) }
     ensures level { OnOk result (Expands (value_at map.now) spot.now many position.now.place
         (with_first position.now.place from) (with_first position.now.place (from + 8))

@@ -66,7 +66,6 @@ impl TreeIndex {
     }
 
     /// The pages that would be attached, a table for each level from the one at which the paths begin.
-    #[tactic(auto, unfolding(crate::specs::Index::heading_of))]
     fn survey(
         &self,
         alloc: Global,
@@ -129,8 +128,12 @@ impl TreeIndex {
         attach_all(&mut self.roles, &prepared.tables);
     }
 
-    /// Attaches pages that can be: those named, and all that paths through fresh pages reach from them. It answers as
-    /// `prepare` does, and a refusal changes nothing. Named pages of a root are fresh.
+    /// Attaches the named pages, and all that paths through fresh pages reach from them. Named pages of a root are
+    /// fresh. `NotFresh` with the least page exactly where such a path ends in a page that isn't fresh, where the named
+    /// pages of a root don't count, or two different paths end in one page; else `BadKind` with the least place exactly
+    /// where an attached page has a leaf with the Contiguous hint; else `GlobalUser` with the least place exactly where,
+    /// in a tree of the lower range, it has a leaf for every ASID. Or `NoMemory` where there is none. It takes time by
+    /// the number of pages, not of paths. A refusal changes nothing.
     pub fn attach(&mut self, alloc: Global, map: &PlaceMap, at: Attach) -> Result<(), TreeFault>
         requires may { MayJudge self.old at }
         requires named { AreNamedFresh self.old at }

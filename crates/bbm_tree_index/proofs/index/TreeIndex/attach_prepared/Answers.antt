@@ -1,6 +1,6 @@
 use Rattle.bbm_tree_index.proofs.Common.{IsSurvey, get}
 use Rattle.bbm_rules.proofs.Common.{nat_eq, refl, sym, subst}
-use Rattle.bbm_tree_index.specs.Index.{heading_of, known_in, pages_in}
+use Rattle.bbm_tree_index.specs.Index.{heading_of}
 use Rattle.bbm_tree_index.proofs.Attaching.{attaches, sound_after, tables_known}
 use Rattle.bbm_tree_index.proofs.Growing.{pages_same}
 use Rattle.bbm_tree_index.proofs.index.TreeIndex.attach_prepared.Goals as goal
@@ -34,8 +34,3 @@ returns-clause-attached c = λ map at prepared named.
     attaches c.args.self.now map at c.deref.result.now prepared.may named prepared.passes
     (subst (λ ts. IsSurvey ts c.args.self.now map at) (sym c.deref.ensures.value) prepared.tells) _ refl
     c.attach_all.ensures.roles
-
-pub returns-clause-tracked : goal.returns-clause-tracked
-unfolding heading_of known_in pages_in
-returns-clause-tracked c =
-    record { known = c.attach_all.ensures.same.known; pages = c.attach_all.ensures.same.len; heading = refl }

@@ -1,17 +1,19 @@
-use Rattle.bbm_tree_index.proofs.Common.{cut_by, passes_at, Hangs}
+use Rattle.bbm_tree_index.proofs.Common.{cut_by, is_sound, passes_at, Hangs}
 use Rattle.bbm_rules.proofs.Common.{false, sym, ap, ◌∙◌, option_map_or}
 use Rattle.bbm_place_map.specs.Map.{value_at}
 use Rattle.bbm_tree_index.proofs.Indexes.{cut_in}
-use Rattle.bbm_tree_index.proofs.Limbo.{hanging, level_low}
+use Rattle.bbm_tree_index.proofs.Limbo.{hanging}
+use Rattle.bbm_tree_index.proofs.Swept.{level_low}
 use Rattle.bbm_tree_index.specs.HeldCores.{limbo_by}
-use Rattle.bbm_tree_index.specs.Index.{node_in, role_in}
+use Rattle.bbm_tree_index.specs.Index.{heading_of, node_in, role_in}
 use Rattle.bbm_tree_index.specs.declared.climb.Asked.TheVariants.{Invalid}
 use Rattle.bbm_tree_index.proofs.index.TreeIndex.in_limbo.Goals as goal
 
 pub is_cut-requires : goal.is_cut-requires
 is_cut-requires c =
     let h = c.in-Hangs in
-    level_low c.args.self.now c.page.result h.parent h.level h.base h.first h.kind (sym c.role-role.ensures ∙ h.is)
+    level_low (role_in c.args.self.now) (heading_of c.args.self.now) (is_sound c.args.self.now).roles c.page.result h.parent
+    h.level h.base h.first h.kind (sym c.role-role.ensures ∙ h.is)
 
 pub returns-in-Hangs : goal.returns-in-Hangs
 unfolding role_in

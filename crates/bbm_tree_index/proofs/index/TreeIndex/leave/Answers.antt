@@ -1,5 +1,5 @@
-use Rattle.bbm_tree_index.proofs.Common.{Releases, is_sound, leaves_role, roles_of, Gone}
-use Rattle.bbm_rules.proofs.Common.{◌≡◌, ℕ, Bool, refl, ap, ◌∙◌, if◌then◌else◌, None, page_of}
+use Rattle.bbm_tree_index.proofs.Common.{leaves_role, roles_of}
+use Rattle.bbm_rules.proofs.Common.{ℕ, Bool, refl, ap, ◌∙◌, if◌then◌else◌, None, page_of}
 use Rattle.bbm_place_map.specs.Map.{marks_at}
 use Rattle.bbm_tree_index.specs.Index.{heading_of, known_in, pages_in, role_in}
 use Rattle.bbm_tree_index.proofs.Growing.{pages_same}

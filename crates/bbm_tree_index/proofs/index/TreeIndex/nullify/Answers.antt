@@ -5,7 +5,7 @@ use Rattle.bbm_tree_index.proofs.Growing.{pages_same}
 use Rattle.bbm_tree_index.proofs.Indexes.{false_there, fresh_out, fresh_put, node_kept, null_put, trees_put, true_there}
 use Rattle.bbm_tree_index.proofs.Agreeing.{agrees_same}
 use Rattle.bbm_tree_index.proofs.Sounds.{sound_same}
-use Rattle.bbm_tree_index.specs.Index.{fresh_in, heading_of, known_in, null_in, pages_in, role_in}
+use Rattle.bbm_tree_index.specs.Index.{fresh_in, heading_of, null_in, role_in}
 use Rattle.bbm_tree_index.proofs.index.TreeIndex.nullify.Goals as goal
 
 trees : (old : TreeIndex) (g : ℕ → Option Role) (page : ℕ) → fresh_in old page ≡ true
@@ -41,8 +41,3 @@ returns-clause-agrees c = λ map g. agrees_same c.args.self.now _ map map
     (node_kept c.args.self.now _ refl
     (trees c.args.self.now (get nat_eq c.put.new.roles) c.args.page c.requires c.put.ensures.roles))
     (λ a n e. record { marks = refl; value = refl }) (λ a e. e) g
-
-pub returns-clause-tracked : goal.returns-clause-tracked
-unfolding heading_of known_in pages_in
-returns-clause-tracked c =
-    record { known = c.put.ensures.same.known; pages = c.put.ensures.same.len; heading = refl }

@@ -1,8 +1,10 @@
-use Rattle.bbm_tree_index.proofs.Common.{IndexMap, get, Agrees, Heading, PlaceMap, Sound, roles_of, Role, Fresh, TreeIndex}
+use Rattle.bbm_tree_index.proofs.Common.{IndexMap, get, Agrees, Heading, PlaceMap, Sound, roles_of, Role, Fresh}
+use Rattle.bbm_tree_index.proofs.Common.{TreeIndex}
 use Rattle.bbm_tree_index.proofs.Common.{Untracked}
-use Rattle.bbm_rules.proofs.Common.{rules, ◌≡◌, ℕ, refl, sym, ap, ◌∙◌, nat_eq, List, Option, Some, None, is_some, Bool}
+use Rattle.bbm_rules.proofs.Common.{◌≡◌, ℕ, refl, sym, ap, ◌∙◌, nat_eq, List, Some, None, is_some, Bool}
 use Rattle.bbm_rules.proofs.Common.{true, false, ◌==◌, ◌||◌, if◌then◌else◌, ◌<◌, ◌%◌, ◌^◌, subst, arith, eqb-true}
-use Rattle.bbm_rules.proofs.Common.{Result, Ok, Err, true≢false, common_steps, page_of, Node, lookup, none-some, unwrap_or}
+use Rattle.bbm_rules.proofs.Common.{Result, Ok, Err, true≢false, common_steps, page_of, Node, lookup, none-some}
+use Rattle.bbm_rules.proofs.Common.{unwrap_or}
 use Rattle.std.specs.Result.{OnOk, is_ok}
 use Rattle.bbm_place_map.specs.Map.{marks_at, value_at}
 use Rattle.bbm_tree_index.specs.PageTables.{HasPages}
@@ -10,7 +12,7 @@ use Rattle.bbm_tree_index.proofs.Agreeing.{SamePlace, agrees_same}
 use Rattle.bbm_tree_index.proofs.Climbing.{SameTrees, tree_part}
 use Rattle.bbm_tree_index.proofs.Indexes.{fresh_put, node_kept, node_out, null_put, trees_put, true_there}
 use Rattle.bbm_tree_index.proofs.Sounds.{sound_same}
-use Rattle.bbm_tree_index.specs.Index.{fresh_in, heading_of, known_in, node_in, null_in, pages_in, role_in}
+use Rattle.bbm_tree_index.specs.Index.{fresh_in, heading_of, known_in, node_in, null_in, role_in}
 use Rattle.bbm_tree_index.proofs.index.TreeIndex.track.Goals as goal
 
 -- ---- where nothing is tracked
@@ -155,39 +157,3 @@ returns-in-Ok-insert-clause-agrees c =
     c.in-Ok-insert.ensures.updates c.requires.no_tree))
     (places old c.args.map.now c.track.new.self page c.requires.no_tree e.freed.marks e.values)
     (clean old c.args.map.now c.track.new.self page c.requires.no_tree e.freed.marks e.values)
-
-pub returns-then-len-ge-MAX_PAGES-clause-limit : goal.returns-then-len-ge-MAX_PAGES-clause-limit
-unfolding known_in pages_in
-returns-then-len-ge-MAX_PAGES-clause-limit c = search rules
-
-pub returns-in-Err-clause-limit : goal.returns-in-Err-clause-limit
-unfolding known_in pages_in
-returns-in-Err-clause-limit c = search rules
-
-pub returns-in-Err-clause-same_pages : goal.returns-in-Err-clause-same_pages
-unfolding fresh_in heading_of node_in null_in role_in
-returns-in-Err-clause-same_pages c = search rules
-
-pub returns-in-Err-clause-same_tracked : goal.returns-in-Err-clause-same_tracked
-unfolding heading_of known_in pages_in
-returns-in-Err-clause-same_tracked c = search rules
-
-pub returns-in-Err-track-clause-limit : goal.returns-in-Err-track-clause-limit
-unfolding known_in pages_in
-returns-in-Err-track-clause-limit c = search rules
-
-pub returns-in-Err-track-clause-same_pages : goal.returns-in-Err-track-clause-same_pages
-unfolding fresh_in heading_of node_in null_in role_in
-returns-in-Err-track-clause-same_pages c = search rules
-
-pub returns-in-Err-track-clause-same_tracked : goal.returns-in-Err-track-clause-same_tracked
-unfolding heading_of known_in pages_in
-returns-in-Err-track-clause-same_tracked c = search rules
-
-pub returns-in-Ok-insert-clause-counted : goal.returns-in-Ok-insert-clause-counted
-unfolding heading_of known_in pages_in
-returns-in-Ok-insert-clause-counted c = search rules
-
-pub returns-in-Ok-insert-clause-limit : goal.returns-in-Ok-insert-clause-limit
-unfolding known_in pages_in
-returns-in-Ok-insert-clause-limit c = search rules

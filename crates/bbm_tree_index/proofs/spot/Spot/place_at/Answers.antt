@@ -4,8 +4,8 @@ use Rattle.bbm_tree_index.proofs.Descending.{part_is}
 use Rattle.bbm_tree_index.proofs.Places.{place_is}
 use Rattle.bbm_tree_index.proofs.spot.Spot.place_at.Goals as goal
 
-pub returns-then-index-lt512-clause-place : goal.returns-then-index-lt512-clause-place
-returns-then-index-lt512-clause-place c a inside from to =
+pub returns-then-index-lt-PLACES-clause-place : goal.returns-then-index-lt-PLACES-clause-place
+returns-then-index-lt-PLACES-clause-place c a inside from to =
     let s = c.args.self.now in
     let page = c.args.page in
     let part = part_is s.base c.args.input (index_of a) (input_pages_of s.level) from to in
