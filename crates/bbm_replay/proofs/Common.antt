@@ -14,7 +14,7 @@ pub use Rattle.bbm_lemmas.proofs.Bools.{third_true}
 pub use Rattle.bbm_place_map.specs.Each.{is_table}
 pub use Rattle.bbm_place_map.specs.Finds.{FoundAs, is_found}
 pub use Rattle.bbm_place_map.specs.Map.{state_at}
-pub use Rattle.bbm_place_map.specs.MapCalls.{Puts}
+pub use Rattle.bbm_place_map.specs.MapCalls.{Puts, WritesAs}
 pub use Rattle.bbm_place_map.specs.States.{marks_of_state, state_from}
 pub use Rattle.bbm_place_map.specs.declared.found.Found.{Found}
 pub use Rattle.bbm_place_map.specs.declared.map.PlaceMap.{PlaceMap}
@@ -27,7 +27,8 @@ pub use Rattle.bbm_replay.specs.OnePage.{IsFoundIn, IsOnWay, MetFromAll, NamesOn
 pub use Rattle.bbm_replay.specs.ReplayFaults.{step_fault}
 pub use Rattle.bbm_replay.specs.ReplayLaws.{Laws}
 pub use Rattle.bbm_replay.specs.ReplayRules.{Rules}
-pub use Rattle.bbm_replay.specs.ReplayStanding.{Clears, Holds, IsAt, MayMeet, Meets, SameFrame, PartsStand, view_of}
+pub use Rattle.bbm_replay.specs.ReplayStanding.{Admitted, Holds, IsAt, IsUnlocked, Links, MayAdmit, MayMeet, Meets, SameFrame}
+pub use Rattle.bbm_replay.specs.ReplayStanding.{PartsStand, WritesTree, view_of}
 pub use Rattle.bbm_replay.specs.ReplayTold.{Apart, Told, state_of, waiting}
 pub use Rattle.bbm_replay.specs.declared.parts.ReplayState.{ReplayState}
 pub use Rattle.bbm_replay_entries.specs.EntryEvents.{touches}

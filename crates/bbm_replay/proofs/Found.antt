@@ -16,6 +16,11 @@ at_path p place r path e k = by (node_in p.index (page_of place)) refl
         let same : path ≡ path_at n place = cc in
         (n, is, same)
 
+pub path_found : (p : ReplayState) (place : ℕ) (path : Path) → IsAt p place path → (r : Option Path)
+    → r ≡ option_map (λ n. path_at n place) (node_in p.index (page_of place)) → r ≡ Some path
+path_found p place path at r k = k ∙ ap (λ (o : Option Node). option_map (λ n. path_at n place) o) at.1
+    ∙ ap (λ (x : Path). Some x) (sym at.2)
+
 pub no_path : (p : ReplayState) (place : ℕ) (r : Option Path) → r ≡ None
     → r ≡ option_map (λ n. path_at n place) (node_in p.index (page_of place)) → node_in p.index (page_of place) ≡ None
 no_path p place r e k = by (node_in p.index (page_of place)) refl

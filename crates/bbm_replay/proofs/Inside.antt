@@ -1,9 +1,10 @@
 -- A write at a place of a tree, at the parts.
-use Rattle.bbm_replay.proofs.Common.{Written, IsIdle, EntryState, same_kind, Kind, NoLock, NullWritten, BreakBeforeMake}
-use Rattle.bbm_replay.proofs.Common.{LimboMake, NotFresh, RewrittenFresh, BadKind, GlobalUser, Broken, limbo_by, Path}
+use Rattle.bbm_replay.proofs.Common.{Written, WritesAs, waits, IsIdle, Pends, EntryState, same_kind, NoLock}
+use Rattle.bbm_replay.proofs.Common.{BreakBeforeMake, LimboMake, NotFresh, BadKind, GlobalUser, Broken, limbo_by, Path}
+use Rattle.bbm_replay.proofs.Common.{NullWritten, PlaceMap, TreeIndex, state_at}
 use Rattle.bbm_replay.proofs.Common.{RootState, View, notes, Laws, attached_next, is_contiguous_core, is_global_core}
-use Rattle.bbm_replay.proofs.Common.{step_fault, TreeFault, Rules, Clears, Holds, IsAt, MayMeet, Meets, SameFrame}
-use Rattle.bbm_replay.proofs.Common.{PartsStand, view_of, Told, state_of, ReplayState}
+use Rattle.bbm_replay.proofs.Common.{step_fault, TreeFault, Rules, Admitted, core_in, Kind, WritesTree, IsAt, IsUnlocked, Links, MayAdmit, Meets}
+use Rattle.bbm_replay.proofs.Common.{IsSound, PartsStand, SameFrame, view_of, Told, state_of, ReplayState}
 use Rattle.bbm_rules.proofs.Common.{◌≡◌, ℕ, ◌<◌, ◌%◌, Bool, true, false, not, ◌&&◌, ◌⊎◌, ◌==◌}
 use Rattle.bbm_rules.proofs.Common.{List, [], ◌∷◌, Option, Some, None, is_none, is_some, option_and_then, Result, Ok}
 use Rattle.bbm_rules.proofs.Common.{Err, refl, sym, ◌∙◌, ap, subst, inl, inr, option_map_or}
@@ -11,23 +12,25 @@ use Rattle.bbm_rules.proofs.Common.{core_of, desc_of, differ, Core, Desc, Invali
 use Rattle.bbm_rules.proofs.Common.{Table, Leaf, rewrites, attached_by, Patterns, is_global, if_so, page_of, Ttbr0}
 use Rattle.bbm_rules.proofs.Common.{Heading, Event, Write, lock_of, bad_kind, break_before_make, global_user}
 use Rattle.bbm_rules.proofs.Common.{is_contiguous, lacks, limbo_make, no_lock, not_fresh, null_written, rewritten_fresh}
-use Rattle.bbm_rules.proofs.Common.{Node, held_at, next_in, next_of, node_below, node_of, and_right}
+use Rattle.bbm_rules.proofs.Common.{Node, held_at, next_in, next_of, node_below, node_of, and-false, and_right, Breach}
 use Rattle.bbm_descriptor.specs.Descriptor as descriptor
 use Rattle.bbm_rules.proofs.TreeLaw.{table_level}
 use Rattle.bbm_rules.specs.Answers.{is_written}
 use Rattle.bbm_rules.specs.Broken.{broken}
 use Rattle.bbm_place_map.specs.Map.{marks_at, pends_at, value_at}
-use Rattle.bbm_tree_index.specs.Index.{fresh_in, node_in, null_in}
+use Rattle.bbm_tree_index.specs.Index.{SamePages, SameTracked, fresh_in, node_in, null_in}
 use Rattle.bbm_replay_roots.specs.RootStateStands as roots
 use Rattle.bbm_replay_trees.specs.Told.{core_at}
 use Rattle.bbm_replay.proofs.Moves.{Attaches, Writes}
 use Rattle.bbm_tree_index.specs.Attaching as index
+use Rattle.bbm_tree_index.specs.IndexChanges as changes
 use Rattle.bbm_tree_index.specs.Paths as index_paths
 use Rattle.bbm_tree_index.specs.declared.role.Attach.TheVariants as attach
 use Rattle.bbm_tree_index.specs.declared.fault.TreeFault.TheVariants as tree
-use Rattle.bbm_replay.proofs.Framing.{stands_next}
-use Rattle.bbm_replay.proofs.Judging.{Verdict, passes, stops, verdict, where_false, where_true, write_is}
+use Rattle.bbm_replay.proofs.Framing.{stands_next, stands_still}
+use Rattle.bbm_replay.proofs.Judging.{Verdict, found, passes, stops, verdict, where_false, where_true, write_is}
 use Rattle.bbm_replay.proofs.Meeting.{fits_all}
+use Rattle.bbm_replay.proofs.Rooting.{attaches_of}
 use Rattle.bbm_replay.proofs.Starting.{meets_broken}
 use Rattle.bbm_replay.proofs.Writing.{after_attaching_write, after_plain_write, cores}
 use Rattle.bbm_replay.proofs.Entries.{none_of}
@@ -45,25 +48,64 @@ global_is Invalid = refl
 global_is (Table next ns) = refl
 global_is (Leaf out attrs share global contiguous) = refl
 
-plain_is : (held : Option Core) (d : Desc) → attached_next held (descriptor.core_in d) ≡ None
+attaches_none : (held : Option Core) (d : Desc) → attached_next held (descriptor.core_in d) ≡ None
     → (is_some held ≡ true) ⊎ (next_in d ≡ None)
-plain_is (Some core) d k = inl refl
-plain_is None Invalid k = inr refl
-plain_is None (Table next ns) k = let bad : Some next ≡ None = k in absurd cc
-plain_is None (Leaf out attrs share global contiguous) k = inr refl
+attaches_none (Some core) d k = inl refl
+attaches_none None Invalid k = inr refl
+attaches_none None (Table next ns) k = let bad : Some next ≡ None = k in absurd cc
+attaches_none None (Leaf out attrs share global contiguous) k = inr refl
 
-pub attached_is : (held : Option Core) (d : Desc) (next : ℕ) → attached_next held (descriptor.core_in d) ≡ Some next
+attaches_next : (held : Option Core) (d : Desc) (next : ℕ) → attached_next held (descriptor.core_in d) ≡ Some next
     → (held ≡ None) × (next_in d ≡ Some next)
-attached_is (Some core) d next k = let bad : None ≡ Some next = k in absurd cc
-attached_is None Invalid next k = let bad : None ≡ Some next = k in absurd cc
-attached_is None (Table at ns) next k = (refl, k)
-attached_is None (Leaf out attrs share global contiguous) next k = let bad : None ≡ Some next = k in absurd cc
+attaches_next (Some core) d next k = let bad : None ≡ Some next = k in absurd cc
+attaches_next None Invalid next k = let bad : None ≡ Some next = k in absurd cc
+attaches_next None (Table at ns) next k = (refl, k)
+attaches_next None (Leaf out attrs share global contiguous) next k = let bad : None ≡ Some next = k in absurd cc
+
+-- ---- the rule on locks
+
+module _ (rules : (heading : Heading) → Rules heading) {old : ReplayState} {pe place v : ℕ} {path : Path}
+    (tree : WritesTree old pe place v path) {x : ℕ} (same : x ≡ place) {lock : Option ℕ}
+    (lock_is : (heading : Heading) (h : List Event) → roots.StateStands old.roots heading h
+    → lock ≡ option_and_then (λ l. if_so (lacks h pe l) x) (lock_of h path.first)) where
+  no_lock_is : (heading : Heading) (h : List Event) → PartsStand old heading h
+      → no_lock heading Patterns (notes heading h) (Write pe place v) ≡ lock
+  no_lock_is heading h s =
+      (rules heading).writes.lock h (view_of old.map old.index) tree.at.0 pe place v s.told.nodes tree.at.1
+      ∙ ap (λ (p : Path). option_and_then (λ l. if_so (lacks h pe l) place) (lock_of h p.first)) (sym tree.at.2)
+      ∙ ap (λ (a : ℕ). option_and_then (λ l. if_so (lacks h pe l) a) (lock_of h path.first)) (sym same)
+      ∙ sym (lock_is heading h s.roots)
+
+  pub locked : (a : ℕ) → lock ≡ Some a → Meets old old (Write pe place v) (Err (Broken NoLock a))
+  locked a k = meets_broken old (Write pe place v) NoLock a (λ heading h s.
+      write_is heading (rules heading) h (view_of old.map old.index) s.told pe place v
+      ∙ stops NoLock _ _ a (no_lock_is heading h s ∙ k))
+
+  pub unlocked : lock ≡ None → IsUnlocked old (Write pe place v)
+  unlocked k heading h s = no_lock_is heading h s ∙ k
+
+-- ---- the other rules, and what is taken
+
+-- what is asked of a write, by the core of the value before
+pub may_admit : {old : ReplayState} {pe place v : ℕ} {path : Path} → WritesTree old pe place v path
+    → IsUnlocked old (Write pe place v) → (live held new : Option Core)
+    → live ≡ core_of path.kind path.level (value_at old.map place) → held ≡ core_in (state_at old.map live place)
+    → new ≡ core_of path.kind path.level v → MayAdmit old pe place v path held new
+may_admit {old = old} {place = place} tree unlocked live held new live_is held_is core_is = record {
+  tree = tree;
+  unlocked = unlocked;
+  holds = held_is ∙ ap (λ (x : Option Core). core_in (state_at old.map x place)) live_is;
+  core_is = core_is;
+}
 
 module _ (laws : (heading : Heading) → Laws heading) (rules : (heading : Heading) → Rules heading)
-    (old : ReplayState) (pe place v : ℕ) (m : MayMeet old (Write pe place v)) (path : Path) (at : IsAt old place path)
-    (held new : Option Core) (holds : Holds old place path held) (new_is : new ≡ core_of path.kind path.level v) where
+    {old : ReplayState} {pe place v : ℕ} {path : Path} {held new : Option Core}
+    (m : MayAdmit old pe place v path held new) where
   abbrev e : Event
   e = Write pe place v
+
+  abbrev at : IsAt old place path
+  at = m.tree.at
 
   abbrev n : Node
   n = at.0
@@ -72,273 +114,311 @@ module _ (laws : (heading : Heading) → Laws heading) (rules : (heading : Headi
   v_old = view_of old.map old.index
 
   held_n : held ≡ core_at v_old n.kind n.level place
-  held_n = holds ∙ state_core path.kind path.level (value_at old.map place) (marks_at old.map place)
+  held_n = m.holds ∙ state_core path.kind path.level (value_at old.map place) (marks_at old.map place)
       ∙ ap (λ (x : Path). core_at v_old x.kind x.level place) at.2
 
   new_n : new ≡ core_of n.kind n.level v
-  new_n = new_is ∙ ap (λ (x : Path). core_of x.kind x.level v) at.2
+  new_n = m.core_is ∙ ap (λ (x : Path). core_of x.kind x.level v) at.2
+
+  -- what it attaches, in the words of the rules
+  none_attached : attached_next held new ≡ None
+      → (is_some (core_at v_old n.kind n.level place) ≡ true) ⊎ (next_of n.kind n.level v ≡ None)
+  none_attached k = subst (λ (x : Option Core). (is_some x ≡ true) ⊎ (next_of n.kind n.level v ≡ None)) held_n
+      (attaches_none held (desc_of n.kind n.level v) (ap (λ (x : Option Core). attached_next held x) (sym new_n) ∙ k))
+
+  one_attached : (next : ℕ) → attached_next held new ≡ Some next
+      → (core_at v_old n.kind n.level place ≡ None) × (next_of n.kind n.level v ≡ Some next)
+  one_attached next k =
+      let both = attaches_next held (desc_of n.kind n.level v) next
+      (ap (λ (x : Option Core). attached_next held x) (sym new_n) ∙ k) in
+      (sym held_n ∙ both.0, both.1)
+
+  pub below_three : (next : ℕ) → attached_next held new ≡ Some next → n.level < 3
+  below_three next k = table_level n.kind n.level v next (one_attached next k).1
+
+  abbrev in_limbo : Bool
+  in_limbo = is_some new && option_map_or (limbo_by (value_at old.map)) (node_in old.index (page_of place)) false
 
   module _ (heading : Heading) (h : List Event) (s : PartsStand old heading h) where
     null_none : null_written heading Patterns (notes heading h) e ≡ None
     null_none = (rules heading).writes.null h v_old pe place v s.told.null
         ∙ where_false (null_in old.index (page_of place)) place (s.told.apart.node_not_null (page_of place) n at.1)
 
+    rewritten_none : rewritten_fresh heading Patterns (notes heading h) e ≡ None
+    rewritten_none = (rules heading).writes.rewritten h v_old pe place v s.told.fresh s.told.values
+        ∙ by (fresh_in old.index (page_of place)) refl
+      where
+        by : (b : Bool) → fresh_in old.index (page_of place) ≡ b → if_so (fresh_in old.index (page_of place)
+            && value_at old.map place % 2 == 1 && not (value_at old.map place == v)) place ≡ None
+        by false k = ap (λ b. if_so (b && value_at old.map place % 2 == 1 && not (value_at old.map place == v)) place) k
+        by true k =
+            let both : Some n ≡ None = sym at.1 ∙ s.told.apart.fresh_outside (page_of place) k in absurd cc
+
+    -- the rules on the page that is attached, or on the leaf
+    abbrev last : Option Breach
+    last = found NotFresh (not_fresh heading Patterns (notes heading h) e)
+        (found BadKind (bad_kind heading Patterns (notes heading h) e)
+        (found GlobalUser (global_user heading Patterns (notes heading h) e) None))
+
     bbm_is : break_before_make heading Patterns (notes heading h) e ≡ if_so (differ held new) place
     bbm_is = (rules heading).writes.held h v_old n pe place v s.told.nodes (cores heading h v_old s.told) at.1
         ∙ ap (λ (x : Option Core). if_so (differ x (core_of n.kind n.level v)) place) (sym held_n)
         ∙ ap (λ (x : Option Core). if_so (differ held x) place) (sym new_n)
 
-    limbo_is : limbo_make heading Patterns (notes heading h) e
-        ≡ if_so (is_some new && option_map_or (limbo_by (value_at old.map)) (node_in old.index (page_of place)) false) place
+    limbo_is : limbo_make heading Patterns (notes heading h) e ≡ if_so in_limbo place
     limbo_is = (rules heading).writes.limbo h v_old n pe place v s.told.nodes s.told.values at.1
         ∙ ap (λ b. if_so (b && limbo_by (value_at old.map) n) place)
         (sym ((laws heading).core_where_valid n.kind n.level v) ∙ ap (λ (x : Option Core). is_some x) (sym new_n))
-        ∙ ap (λ (o : Option Node). if_so (is_some new && option_map_or (limbo_by (value_at old.map)) o false) place) (sym at.1)
+        ∙ ap (λ (o : Option Node). if_so (is_some new && option_map_or (limbo_by (value_at old.map)) o false) place)
+        (sym at.1)
 
-    rewritten_none : rewritten_fresh heading Patterns (notes heading h) e ≡ None
-    rewritten_none = (rules heading).writes.rewritten h v_old pe place v s.told.fresh s.told.values
-        ∙ by (fresh_in old.index (page_of place)) refl
-      where
-        by : (b : Bool) → fresh_in old.index (page_of place) ≡ b
-            → if_so (fresh_in old.index (page_of place) && value_at old.map place % 2 == 1 && not (value_at old.map place == v)) place ≡ None
-        by false k = ap (λ b. if_so (b && value_at old.map place % 2 == 1 && not (value_at old.map place == v)) place) k
-        by true k =
-            let both : Some n ≡ None = sym at.1 ∙ s.told.apart.fresh_outside (page_of place) k in absurd cc
+    -- the least broken rule is the first of these
+    write_breaks : broken heading Patterns h e
+        ≡ found BreakBeforeMake (if_so (differ held new) place) (found LimboMake (if_so in_limbo place) last)
+    write_breaks = write_is heading (rules heading) h v_old s.told pe place v
+        ∙ passes NoLock _ _ (m.unlocked heading h s) ∙ passes NullWritten _ _ null_none
+        ∙ rw (bbm_is, limbo_is, rewritten_none) refl
 
-  -- ---- the rules that come first
+  -- so it is broken where the value differs from what the place holds
+  pub differs : differ held new ≡ true → Meets old old e (Err (Broken BreakBeforeMake place))
+  differs k = meets_broken old e BreakBeforeMake place
+      (λ heading h s. write_breaks heading h s ∙ stops BreakBeforeMake _ _ place (where_true (differ held new) place k))
 
-  module _ (lock : Option ℕ) (lock_is : (heading : Heading) (h : List Event) → roots.StateStands old.roots heading h
-      → lock ≡ option_and_then (λ l. if_so (lacks h pe l) place) (lock_of h path.first)) where
-    no_lock_is : (heading : Heading) (h : List Event) → PartsStand old heading h
-        → no_lock heading Patterns (notes heading h) e ≡ lock
-    no_lock_is heading h s = (rules heading).writes.lock h v_old n pe place v s.told.nodes at.1
-        ∙ ap (λ (x : Path). option_and_then (λ l. if_so (lacks h pe l) place) (lock_of h x.first)) (sym at.2)
-        ∙ sym (lock_is heading h s.roots)
+  module _ (alike : differ held new ≡ false) where
+    pub makes_limbo : in_limbo ≡ true → Meets old old e (Err (Broken LimboMake place))
+    makes_limbo k = meets_broken old e LimboMake place (λ heading h s. write_breaks heading h s
+        ∙ passes BreakBeforeMake _ _ (where_false (differ held new) place alike)
+        ∙ stops LimboMake _ _ place (where_true in_limbo place k))
 
-    pub entry_locked : (x : ℕ) → lock ≡ Some x → Clears old e (Err (Broken NoLock x))
-    entry_locked x k = record {
-      passed = tt;
-      refused = meets_broken old e NoLock x (λ heading h s.
-          write_is heading (rules heading) h v_old s.told pe place v ∙ stops NoLock _ _ x (no_lock_is heading h s ∙ k));
-    }
+    module _ (above : in_limbo ≡ false) where
+      left : (heading : Heading) (h : List Event) (s : PartsStand old heading h)
+          → broken heading Patterns h e ≡ last heading h s
+      left heading h s = write_breaks heading h s
+          ∙ passes BreakBeforeMake _ _ (where_false (differ held new) place alike)
+          ∙ passes LimboMake _ _ (where_false in_limbo place above)
 
-    module _ (open_lock : lock ≡ None) where
-      pub entry_differs : differ held new ≡ true → Clears old e (Err (Broken BreakBeforeMake place))
-      entry_differs k = record {
-        passed = tt;
-        refused = meets_broken old e BreakBeforeMake place (λ heading h s.
-            write_is heading (rules heading) h v_old s.told pe place v ∙ passes NoLock _ _ (no_lock_is heading h s ∙ open_lock)
-            ∙ passes NullWritten _ _ (null_none heading h s)
-            ∙ stops BreakBeforeMake _ _ place (bbm_is heading h s ∙ where_true (differ held new) place k));
-      }
+      -- ---- it attaches nothing
 
-      module _ (alike : differ held new ≡ false) where
-        pub entry_limbo : (is_some new && option_map_or (limbo_by (value_at old.map)) (node_in old.index (page_of place)) false) ≡ true
-            → Clears old e (Err (Broken LimboMake place))
-        entry_limbo k = record {
-          passed = tt;
-          refused = meets_broken old e LimboMake place (λ heading h s.
-              write_is heading (rules heading) h v_old s.told pe place v ∙ passes NoLock _ _ (no_lock_is heading h s ∙ open_lock)
-              ∙ passes NullWritten _ _ (null_none heading h s)
-              ∙ passes BreakBeforeMake _ _ (bbm_is heading h s ∙ where_false (differ held new) place alike)
-              ∙ stops LimboMake _ _ place (limbo_is heading h s ∙ where_true _ place k));
-        }
+      module _ (none : attached_next held new ≡ None) where
+        module _ (heading : Heading) (h : List Event) (s : PartsStand old heading h) where
+          leaves : (not_fresh heading Patterns (notes heading h) e ≡ None)
+              × (bad_kind heading Patterns (notes heading h) e ≡ if_so (is_contiguous n.kind (desc_of n.kind n.level v)) place)
+              × (global_user heading Patterns (notes heading h) e
+              ≡ if_so (same_kind n.kind Ttbr0 && is_global (desc_of n.kind n.level v)) place)
+          leaves = (rules heading).unattached.inside h v_old n pe place v s.told.nodes at.1
+              ((laws heading).unattached.attaches_none h v_old n pe place v s.told.nodes
+              (cores heading h v_old s.told) at.1 (none_attached none))
 
-        pub entry_clear : (is_some new && option_map_or (limbo_by (value_at old.map)) (node_in old.index (page_of place)) false) ≡ false
-            → Clears old e (Ok tt)
-        entry_clear k = record {
-          passed = λ heading h s. (
-            no_lock_is heading h s ∙ open_lock,
-            null_none heading h s,
-            bbm_is heading h s ∙ where_false (differ held new) place alike,
-            limbo_is heading h s ∙ where_false _ place k,
-          );
-          refused = tt;
-        }
+          bad_is : bad_kind heading Patterns (notes heading h) e ≡ if_so (is_contiguous_core new) place
+          bad_is = leaves.1 ∙ ap (λ b. if_so b place) (contiguous_is n.kind (desc_of n.kind n.level v))
+              ∙ ap (λ (x : Option Core). if_so (is_contiguous_core x) place) (sym new_n)
 
-  -- ---- a write that attaches nothing
+          user_is : global_user heading Patterns (notes heading h) e
+              ≡ if_so (same_kind path.kind Ttbr0 && is_global_core new) place
+          user_is = leaves.2
+              ∙ ap (λ b. if_so (same_kind n.kind Ttbr0 && b) place) (global_is (desc_of n.kind n.level v))
+              ∙ ap (λ (x : Option Core). if_so (same_kind n.kind Ttbr0 && is_global_core x) place) (sym new_n)
+              ∙ ap (λ (x : Path). if_so (same_kind x.kind Ttbr0 && is_global_core new) place) (sym at.2)
 
-  module _ (clear : Clears old e (Ok tt)) (plain : attached_next held new ≡ None) where
-    attaches : (is_some (core_at v_old n.kind n.level place) ≡ true) ⊎ (next_of n.kind n.level v ≡ None)
-    attaches = subst (λ (x : Option Core). (is_some x ≡ true) ⊎ (next_of n.kind n.level v ≡ None)) held_n
-        (plain_is held (desc_of n.kind n.level v) (ap (λ (x : Option Core). attached_next held x) (sym new_n) ∙ plain))
+          -- the rules on the leaf
+          leaf : broken heading Patterns h e ≡ found BadKind (if_so (is_contiguous_core new) place)
+              (found GlobalUser (if_so (same_kind path.kind Ttbr0 && is_global_core new) place) None)
+          leaf = left heading h s ∙ passes NotFresh _ _ leaves.0 ∙ rw (bad_is, user_is) refl
 
-    module _ (heading : Heading) (h : List Event) (s : PartsStand old heading h) where
-      leaves : (not_fresh heading Patterns (notes heading h) e ≡ None)
-          × (bad_kind heading Patterns (notes heading h) e ≡ if_so (is_contiguous n.kind (desc_of n.kind n.level v)) place)
-          × (global_user heading Patterns (notes heading h) e
-          ≡ if_so (same_kind n.kind Ttbr0 && is_global (desc_of n.kind n.level v)) place)
-      leaves = (rules heading).unattached.inside h v_old n pe place v s.told.nodes at.1
-          ((laws heading).unattached.attaches_none h v_old n pe place v s.told.nodes
-          (cores heading h v_old s.told) at.1 attaches)
+        pub contiguous : is_contiguous_core new ≡ true → Meets old old e (Err (Broken BadKind place))
+        contiguous k = meets_broken old e BadKind place (λ heading h s. leaf heading h s
+            ∙ stops BadKind _ _ place (where_true (is_contiguous_core new) place k))
 
-      bad_is : bad_kind heading Patterns (notes heading h) e ≡ if_so (is_contiguous_core new) place
-      bad_is = leaves.1 ∙ ap (λ b. if_so b place) (contiguous_is n.kind (desc_of n.kind n.level v))
-          ∙ ap (λ (x : Option Core). if_so (is_contiguous_core x) place) (sym new_n)
+        module _ (good : is_contiguous_core new ≡ false) where
+          pub user_global : (same_kind path.kind Ttbr0 && is_global_core new) ≡ true
+              → Meets old old e (Err (Broken GlobalUser place))
+          user_global k = meets_broken old e GlobalUser place (λ heading h s. leaf heading h s
+              ∙ passes BadKind _ _ (where_false (is_contiguous_core new) place good)
+              ∙ stops GlobalUser _ _ place (where_true (same_kind path.kind Ttbr0 && is_global_core new) place k))
 
-      user_is : global_user heading Patterns (notes heading h) e ≡ if_so (same_kind path.kind Ttbr0 && is_global_core new) place
-      user_is = leaves.2 ∙ ap (λ b. if_so (same_kind n.kind Ttbr0 && b) place) (global_is (desc_of n.kind n.level v))
-          ∙ ap (λ (x : Option Core). if_so (same_kind n.kind Ttbr0 && is_global_core x) place) (sym new_n)
-          ∙ ap (λ (x : Path). if_so (same_kind x.kind Ttbr0 && is_global_core new) place) (sym at.2)
+          pub admitted : (same_kind path.kind Ttbr0 && is_global_core new) ≡ false
+              → Admitted old old pe place v (attached_next held new)
+          admitted k = record {
+            kept = λ heading h s. leaf heading h s ∙ passes BadKind _ _ (where_false (is_contiguous_core new) place good)
+                ∙ passes GlobalUser _ _ (where_false (same_kind path.kind Ttbr0 && is_global_core new) place k);
+            frame = record { header = refl; index_header = refl; sound = λ s. s };
+            same_map = refl;
+            same_roots = refl;
+            links = subst (λ (o : Option ℕ). Links old.map place o old.index old.index) (sym none) refl;
+          }
 
-    pub plain_bad : is_contiguous_core new ≡ true → Meets old old e (Err (Broken BadKind place))
-    plain_bad k = meets_broken old e BadKind place (λ heading h s.
-        let first = clear.passed heading h s in
-        write_is heading (rules heading) h v_old s.told pe place v ∙ passes NoLock _ _ first.0 ∙ passes NullWritten _ _ first.1
-        ∙ passes BreakBeforeMake _ _ first.2 ∙ passes LimboMake _ _ first.3 ∙ passes NotFresh _ _ (leaves heading h s).0
-        ∙ passes RewrittenFresh _ _ (rewritten_none heading h s)
-        ∙ stops BadKind _ _ place (bad_is heading h s ∙ where_true (is_contiguous_core new) place k))
+      -- ---- it attaches the next page
 
-    module _ (good : is_contiguous_core new ≡ false) where
-      pub plain_global : (same_kind path.kind Ttbr0 && is_global_core new) ≡ true
-          → Meets old old e (Err (Broken GlobalUser place))
-      plain_global k = meets_broken old e GlobalUser place (λ heading h s.
-          let first = clear.passed heading h s in
-          write_is heading (rules heading) h v_old s.told pe place v ∙ passes NoLock _ _ first.0 ∙ passes NullWritten _ _ first.1
-          ∙ passes BreakBeforeMake _ _ first.2 ∙ passes LimboMake _ _ first.3 ∙ passes NotFresh _ _ (leaves heading h s).0
-          ∙ passes RewrittenFresh _ _ (rewritten_none heading h s)
-          ∙ passes BadKind _ _ (bad_is heading h s ∙ where_false (is_contiguous_core new) place good)
-          ∙ stops GlobalUser _ _ place (user_is heading h s ∙ where_true (same_kind path.kind Ttbr0 && is_global_core new) place k))
+      module _ (next : ℕ) (one : attached_next held new ≡ Some next) where
+        abbrev JudgesHere : Result (Unit {0}) TreeFault → Type 0
+        JudgesHere r = index.Judges (fresh_in old.index) (value_at old.map)
+            (index_paths.starts_of old.index (attach.Below place next)) {A = Unit {0}} false r
 
-      module _ (own : (same_kind path.kind Ttbr0 && is_global_core new) ≡ false) where
-        plain_free : (heading : Heading) (h : List Event) → PartsStand old heading h → broken heading Patterns h e ≡ None
-        plain_free heading h s =
-            let first = clear.passed heading h s in
-            write_is heading (rules heading) h v_old s.told pe place v ∙ passes NoLock _ _ first.0 ∙ passes NullWritten _ _ first.1
-            ∙ passes BreakBeforeMake _ _ first.2 ∙ passes LimboMake _ _ first.3 ∙ passes NotFresh _ _ (leaves heading h s).0
-            ∙ passes RewrittenFresh _ _ (rewritten_none heading h s)
-            ∙ passes BadKind _ _ (bad_is heading h s ∙ where_false (is_contiguous_core new) place good)
-            ∙ passes GlobalUser _ _ (user_is heading h s ∙ where_false (same_kind path.kind Ttbr0 && is_global_core new) place own)
+        judged_here : (heading : Heading) (h : List Event) → PartsStand old heading h → (r : Result (Unit {0}) TreeFault)
+            → JudgesHere r
+            → Verdict r (not_fresh heading Patterns (notes heading h) e) (bad_kind heading Patterns (notes heading h) e)
+            (global_user heading Patterns (notes heading h) e)
+        judged_here heading h s r k =
+            verdict (fresh_in old.index) (value_at old.map) (node_below n place next ∷ []) heading h false e
+            ((rules heading).judging.write h v_old n pe place v next
+            s.told.fit s.told.nodes s.told.fresh s.told.values (cores heading h v_old s.told) at.1
+            (one_attached next one).0 (one_attached next one).1) r
+            (subst (λ (o : Option Node). index.Judges (fresh_in old.index) (value_at old.map)
+            (index_paths.below_all o place next) {A = Unit {0}} false r) at.1 k)
 
-        pub plain_ok : roots.OthersStand → (next : ReplayState) → SameFrame old next → next.roots ≡ old.roots → next.index ≡ old.index
-            → (state : EntryState) → Written (state_of v_old path.kind path.level place) pe new state
-            → Writes v_old (view_of next.map old.index) place v state
-            → ((p : ℕ) → (view_of next.map old.index).tracked p ≡ v_old.tracked p)
-            → ((q a : ℕ) → marks_at next.map a ≡ None → IsIdle (pends_at next.map q a))
-            → Meets old next e (Ok tt)
-        plain_ok others next frame same_roots same_index state written move tracked idle = record {
-          judged = λ heading h s. (plain_free heading h s, (rules heading).limits.others h e refl);
-          taken = λ heading h s. stands_next old next frame heading h (e ∷ h) s
-              (subst (λ i. Told heading (e ∷ h) (view_of next.map i)) (sym same_index)
-              (after_plain_write heading (laws heading) h v_old (view_of next.map old.index) s.told pe place v state move
-              (fits_all old e m heading h s) (plain_free heading h s) (λ p. refl)
-              (record { tracked = tracked; known = λ p. refl; pages = refl }) n at.1 written_n attaches (λ p. refl) (λ p. refl) idle))
-              (subst (λ (r : RootState). roots.StateStands r heading (e ∷ h)) (sym same_roots)
-              (others old.roots heading h e s.roots refl (plain_free heading h s)));
-          unchanged = tt;
-          frugal = tt;
-        }
+        -- so it may take memory
+        attaching : (heading : Heading) (h : List Event) → PartsStand old heading h → rewrites heading h e ≡ false
+        attaching heading h s = and_right (is_written h place) _ (some_attached held_none)
           where
-            written_n : Written (state_of v_old n.kind n.level place) pe (core_of n.kind n.level v) state
-            written_n = subst (λ (x : Option Core). Written (state_of v_old n.kind n.level place) pe x state) new_n
-                (subst (λ (x : Path). Written (state_of v_old x.kind x.level place) pe new state) at.2 written)
+            node_is : node_of heading Patterns (notes heading h) (page_of place) ≡ Some n
+            node_is = sym (s.told.nodes (page_of place)) ∙ at.1
 
-  -- ---- a write that attaches the next page
+            held_none : held_at heading Patterns (notes heading h) n place ≡ None
+            held_none = none_of (held_at heading Patterns (notes heading h) n place)
+                ((laws heading).holds.holds h n.kind n.level place _ _ (s.told.entries n place at.1)
+                ∙ ap (λ (x : Option Core). is_some x)
+                (state_core n.kind n.level (value_at old.map place) (marks_at old.map place) ∙ (one_attached next one).0))
 
-  module _ (clear : Clears old e (Ok tt)) (next : ℕ) (attached : attached_next held new ≡ Some next) where
-    both : (held ≡ None) × (next_of n.kind n.level v ≡ Some next)
-    both = attached_is held (desc_of n.kind n.level v) next (ap (λ (x : Option Core). attached_next held x) (sym new_n) ∙ attached)
+            some_attached : held_at heading Patterns (notes heading h) n place ≡ None
+                → is_none (attached_by heading Patterns (notes heading h) e) ≡ false
+            some_attached empty = rw (node_is, empty, (one_attached next one).1) refl
 
-    pub below_three : n.level < 3
-    below_three = table_level n.kind n.level v next both.1
+        module _ (index' : TreeIndex) (tracked : SameTracked old.index index') (sound : IsSound index') where
+          frame : SameFrame old (record old { index = index' })
+          frame = record { header = refl; index_header = tracked.heading; sound = λ s. sound }
 
-    abbrev from : List Node
-    from = node_below n place next ∷ []
+          module _ (pages : SamePages old.index index') where
+            same : (heading : Heading) (h : List Event) → PartsStand old heading h
+                → PartsStand (record old { index = index' }) heading h
+            same heading h s = stands_still laws old (record old { index = index' }) frame (record {
+              map = record { value = λ a. refl; marks = λ a. refl; pends = λ q a b c p. refl };
+              nodes = pages.node;
+              roles = record { fresh = pages.fresh; null = pages.null };
+              tracking = record { tracked = λ p. refl; known = tracked.known; pages = tracked.pages };
+            }) heading h s s.roots
+
+            pub attach_fault : (fault : TreeFault) → JudgesHere (Err fault)
+                → Meets old (record old { index = index' }) e (Err (step_fault fault))
+            attach_fault tree.NoMemory k = record {
+              judged = λ heading h s. tt;
+              taken = tt;
+              unchanged = same;
+              frugal = λ heading h s. (refl, attaching heading h s);
+            }
+            attach_fault (tree.Limit which) k = absurd k
+            attach_fault (tree.NotFresh x) k = record {
+              judged = λ heading h s. left heading h s
+                  ∙ stops NotFresh _ _ x (judged_here heading h s (Err (tree.NotFresh x)) k);
+              taken = tt;
+              unchanged = same;
+              frugal = tt;
+            }
+            attach_fault (tree.BadKind x) k = record {
+              judged = λ heading h s.
+                  let w = judged_here heading h s (Err (tree.BadKind x)) k in
+                  left heading h s ∙ passes NotFresh _ _ w.0 ∙ stops BadKind _ _ x w.1;
+              taken = tt;
+              unchanged = same;
+              frugal = tt;
+            }
+            attach_fault (tree.GlobalUser x) k = record {
+              judged = λ heading h s.
+                  let w = judged_here heading h s (Err (tree.GlobalUser x)) k in
+                  left heading h s ∙ passes NotFresh _ _ w.0 ∙ passes BadKind _ _ w.1 ∙ stops GlobalUser _ _ x w.2;
+              taken = tt;
+              unchanged = same;
+              frugal = tt;
+            }
+
+          pub attach_ok : JudgesHere (Ok tt) → changes.Attaches (value_at old.map) (attach.Below place next) old.index index'
+              → Admitted old (record old { index = index' }) pe place v (attached_next held new)
+          attach_ok fine attached = record {
+            kept = λ heading h s.
+                let w = judged_here heading h s (Ok tt) fine in
+                left heading h s ∙ passes NotFresh _ _ w.0 ∙ passes BadKind _ _ w.1 ∙ passes GlobalUser _ _ w.2;
+            frame = frame;
+            same_map = refl;
+            same_roots = refl;
+            links = subst (λ (o : Option ℕ). Links old.map place o old.index index') (sym one) (attached, tracked);
+          }
+
+  -- ---- an invalid value
+
+  -- it attaches nothing and breaks no rule behind the one on locks
+  pub admitted_invalid : new ≡ None → Admitted old old pe place v (attached_next held new)
+  admitted_invalid k =
+      admitted (ap (λ (x : Option Core). differ held x) k ∙ differ_none held) (ap limbo k)
+      (ap (λ (x : Option Core). attached_next held x) k ∙ attached_none held)
+      (ap (λ (x : Option Core). is_contiguous_core x) k)
+      (ap (λ (x : Option Core). same_kind path.kind Ttbr0 && is_global_core x) k ∙ and-false (same_kind path.kind Ttbr0))
+    where
+      limbo : Option Core → Bool
+      limbo x = is_some x && option_map_or (limbo_by (value_at old.map)) (node_in old.index (page_of place)) false
+
+      differ_none : (o : Option Core) → differ o None ≡ false
+      differ_none None = refl
+      differ_none (Some core) = refl
+
+      attached_none : (o : Option Core) → attached_next o None ≡ None
+      attached_none None = refl
+      attached_none (Some core) = refl
+
+  -- ---- the value is written
+
+  module _ (others : roots.OthersStand) (mid : ReplayState) (done : Admitted old mid pe place v (attached_next held new))
+      (map : PlaceMap) (live : Option Core) (live_is : live ≡ core_of path.kind path.level (value_at old.map place))
+      (writes : WritesAs (state_at mid.map live place) pe new v place mid.map map)
+      (idle : (q a : ℕ) → marks_at map a ≡ None → IsIdle (pends_at map q a)) where
+    here : WritesAs (state_at old.map live place) pe new v place old.map map
+    here = subst (λ (x : PlaceMap). WritesAs (state_at x live place) pe new v place x map) done.same_map writes
+
+    abbrev state : EntryState
+    state = here.written.0
+
+    written_n : Written (state_of v_old n.kind n.level place) pe (core_of n.kind n.level v) state
+    written_n = subst (λ (x : Option Core). Written (state_of v_old n.kind n.level place) pe x state) new_n
+        (subst (λ (x : Path). Written (state_of v_old x.kind x.level place) pe new state) at.2
+        (subst (λ (x : Option Core). Written (state_at old.map x place) pe new state) live_is here.written.1))
+
+    move : (i : TreeIndex) → Writes v_old (view_of map i) place v state
+    move i = record {
+      value = here.put.values;
+      marks = here.written.2.marks;
+      pends = λ q a k b c p. ap (λ (x : Pends). waits x b c p) (here.written.2.pends q a k);
+      dropped = here.written.2.dropped;
+    }
 
     module _ (heading : Heading) (h : List Event) (s : PartsStand old heading h) where
-      judged_here : (r : Result (Unit {0}) TreeFault)
-          → index.Judges (fresh_in old.index) (value_at old.map) (index_paths.starts_of old.index (attach.Below place next)) {A = Unit {0}} false r
-          → Verdict r (not_fresh heading Patterns (notes heading h) e) (bad_kind heading Patterns (notes heading h) e)
-          (global_user heading Patterns (notes heading h) e)
-      judged_here r k = verdict (fresh_in old.index) (value_at old.map) from heading h false e
-          ((rules heading).judging.write h v_old n pe place v next
-          s.told.fit s.told.nodes s.told.fresh s.told.values (cores heading h v_old s.told) at.1 (sym held_n ∙ both.0) both.1) r
-          (subst (λ (o : Option Node). index.Judges (fresh_in old.index) (value_at old.map) (index_paths.below_all o place next) {A = Unit {0}} false r) at.1 k)
+      told : (o : Option ℕ) → attached_next held new ≡ o → Links old.map place o old.index mid.index
+          → Told heading (e ∷ h) (view_of map mid.index)
+      told None k same = subst (λ (i : TreeIndex). Told heading (e ∷ h) (view_of map i)) (sym same)
+          (after_plain_write heading (laws heading) h v_old (view_of map old.index) s.told pe place v state
+          (move old.index) (fits_all old e m.tree.may heading h s) (done.kept heading h s) (λ p. refl)
+          (record { tracked = here.put.pages; known = λ p. refl; pages = refl }) n at.1 written_n
+          (none_attached k) (λ p. refl) (λ p. refl) idle)
+      told (Some next) k links =
+          let attached = attaches_of old.index mid.index old.map map (attach.Below place next) links.0
+          (record { tracked = here.put.pages; known = links.1.known; pages = links.1.pages }) in
+          after_attaching_write heading (laws heading) h v_old (view_of map mid.index) s.told pe place v state
+          (move mid.index) (fits_all old e m.tree.may heading h s) (done.kept heading h s) attached.null attached.tracking
+          n next at.1 written_n (one_attached next k).0 (one_attached next k).1
+          (subst (λ (o : Option Node). Attaches v_old (view_of map mid.index) (index_paths.below_all o place next)) at.1
+          attached) idle
 
-    -- so it may take memory
-    attaching : (heading : Heading) (h : List Event) → PartsStand old heading h → rewrites heading h e ≡ false
-    attaching heading h s = and_right (is_written h place) _ (some_attached held_none)
+    pub taken : Meets old (record mid { map = map }) e (Ok tt)
+    taken = record {
+      judged = λ heading h s. (done.kept heading h s, (rules heading).limits.others h e refl);
+      taken = λ heading h s. stands_next old (record mid { map = map }) frame heading h (e ∷ h) s
+          (told heading h s (attached_next held new) refl done.links)
+          (subst (λ (r : RootState). roots.StateStands r heading (e ∷ h)) (sym done.same_roots)
+          (others old.roots heading h e s.roots refl (done.kept heading h s)));
+      unchanged = tt;
+      frugal = tt;
+    }
       where
-        node_is : node_of heading Patterns (notes heading h) (page_of place) ≡ Some n
-        node_is = sym (s.told.nodes (page_of place)) ∙ at.1
-
-        held_none : held_at heading Patterns (notes heading h) n place ≡ None
-        held_none = none_of (held_at heading Patterns (notes heading h) n place)
-            ((laws heading).holds.holds h n.kind n.level place _ _ (s.told.entries n place at.1)
-            ∙ ap (λ (x : Option Core). is_some x)
-            (state_core n.kind n.level (value_at old.map place) (marks_at old.map place) ∙ sym held_n ∙ both.0))
-
-        some_attached : held_at heading Patterns (notes heading h) n place ≡ None
-            → is_none (attached_by heading Patterns (notes heading h) e) ≡ false
-        some_attached empty = rw (node_is, empty, both.1) refl
-
-    pub attach_fault : (last : ReplayState) → ((heading : Heading) (h : List Event) → PartsStand old heading h → PartsStand last heading h)
-        → (fault : TreeFault)
-        → index.Judges (fresh_in old.index) (value_at old.map) (index_paths.starts_of old.index (attach.Below place next)) {A = Unit {0}} false (Err fault)
-        → Meets old last e (Err (step_fault fault))
-    attach_fault last same tree.NoMemory k = record { judged = λ heading h s. tt; taken = tt; unchanged = same; frugal = λ heading h s. (refl, attaching heading h s) }
-    attach_fault last same (tree.Limit which) k = absurd k
-    attach_fault last same (tree.NotFresh x) k = record {
-      judged = λ heading h s.
-          let first = clear.passed heading h s in
-          write_is heading (rules heading) h v_old s.told pe place v ∙ passes NoLock _ _ first.0 ∙ passes NullWritten _ _ first.1
-          ∙ passes BreakBeforeMake _ _ first.2 ∙ passes LimboMake _ _ first.3
-          ∙ stops NotFresh _ _ x (judged_here heading h s (Err (tree.NotFresh x)) k);
-      taken = tt;
-      unchanged = same;
-      frugal = tt;
-    }
-    attach_fault last same (tree.BadKind x) k = record {
-      judged = λ heading h s.
-          let first = clear.passed heading h s in
-          let w = judged_here heading h s (Err (tree.BadKind x)) k in
-          write_is heading (rules heading) h v_old s.told pe place v ∙ passes NoLock _ _ first.0 ∙ passes NullWritten _ _ first.1
-          ∙ passes BreakBeforeMake _ _ first.2 ∙ passes LimboMake _ _ first.3 ∙ passes NotFresh _ _ w.0
-          ∙ passes RewrittenFresh _ _ (rewritten_none heading h s) ∙ stops BadKind _ _ x w.1;
-      taken = tt;
-      unchanged = same;
-      frugal = tt;
-    }
-    attach_fault last same (tree.GlobalUser x) k = record {
-      judged = λ heading h s.
-          let first = clear.passed heading h s in
-          let w = judged_here heading h s (Err (tree.GlobalUser x)) k in
-          write_is heading (rules heading) h v_old s.told pe place v ∙ passes NoLock _ _ first.0 ∙ passes NullWritten _ _ first.1
-          ∙ passes BreakBeforeMake _ _ first.2 ∙ passes LimboMake _ _ first.3 ∙ passes NotFresh _ _ w.0
-          ∙ passes RewrittenFresh _ _ (rewritten_none heading h s) ∙ passes BadKind _ _ w.1 ∙ stops GlobalUser _ _ x w.2;
-      taken = tt;
-      unchanged = same;
-      frugal = tt;
-    }
-
-    module _ (fine : index.Judges (fresh_in old.index) (value_at old.map) (index_paths.starts_of old.index (attach.Below place next)) {A = Unit {0}} false (Ok tt)) where
-      attach_free : (heading : Heading) (h : List Event) → PartsStand old heading h → broken heading Patterns h e ≡ None
-      attach_free heading h s =
-          let first = clear.passed heading h s in
-          let w = judged_here heading h s (Ok tt) fine in
-          write_is heading (rules heading) h v_old s.told pe place v ∙ passes NoLock _ _ first.0 ∙ passes NullWritten _ _ first.1
-          ∙ passes BreakBeforeMake _ _ first.2 ∙ passes LimboMake _ _ first.3 ∙ passes NotFresh _ _ w.0
-          ∙ passes RewrittenFresh _ _ (rewritten_none heading h s) ∙ passes BadKind _ _ w.1 ∙ passes GlobalUser _ _ w.2
-
-      pub attach_ok : roots.OthersStand → (last : ReplayState) → SameFrame old last → last.roots ≡ old.roots
-          → (state : EntryState) → Written (state_of v_old path.kind path.level place) pe new state
-          → Writes v_old (view_of last.map last.index) place v state
-          → Attaches v_old (view_of last.map last.index) (index_paths.starts_of old.index (attach.Below place next))
-          → ((q a : ℕ) → marks_at last.map a ≡ None → IsIdle (pends_at last.map q a))
-          → Meets old last e (Ok tt)
-      attach_ok others last frame same_roots state written move attached idle = record {
-        judged = λ heading h s. (attach_free heading h s, (rules heading).limits.others h e refl);
-        taken = λ heading h s. stands_next old last frame heading h (e ∷ h) s
-            (after_attaching_write heading (laws heading) h v_old (view_of last.map last.index) s.told pe place v state move
-            (fits_all old e m heading h s) (attach_free heading h s) attached.null attached.tracking n next at.1 written_n
-            (sym held_n ∙ both.0) both.1
-            (subst (λ (o : Option Node). Attaches v_old (view_of last.map last.index) (index_paths.below_all o place next)) at.1 attached) idle)
-            (subst (λ (r : RootState). roots.StateStands r heading (e ∷ h)) (sym same_roots)
-            (others old.roots heading h e s.roots refl (attach_free heading h s)));
-        unchanged = tt;
-        frugal = tt;
-      }
-        where
-          written_n : Written (state_of v_old n.kind n.level place) pe (core_of n.kind n.level v) state
-          written_n = subst (λ (x : Option Core). Written (state_of v_old n.kind n.level place) pe x state) new_n
-              (subst (λ (x : Path). Written (state_of v_old x.kind x.level place) pe new state) at.2 written)
+        frame : SameFrame old (record mid { map = map })
+        frame = record {
+          header = done.frame.header;
+          index_header = done.frame.index_header;
+          sound = done.frame.sound;
+        }

@@ -15,13 +15,12 @@ pub mod Framing
 pub mod Starting
 pub mod Gone
 pub mod Counting
-pub mod Outside
 pub mod Settling
 pub mod Rooting
 pub mod RootPages
 pub mod Inside
-pub mod Quick
-pub mod Fresh
+pub mod Unbroken
+pub mod Outside
 pub mod Found
 pub mod Empty
 pub mod Covered
@@ -31,7 +30,7 @@ pub mod Findings
 pub mod Asking
 pub mod SamePage
 pub mod Ways
-pub mod Whole
+pub mod NoLimbo
 pub mod Unmet
 pub mod Noting
 pub mod Skips

@@ -1,27 +1,31 @@
 -- What a checker without a history stands for. A history is newest first. Source: project's own choice.
-use Rattle.std.specs.Prelude.{◌≡◌, ℕ, true, false, List, ◌∷◌, length, Option, Some, None, Result, Err, OnErr, OnOk}
+use Rattle.std.specs.Prelude.{◌≡◌, ℕ, ◌≤◌, true, false, List, ◌∷◌, length, Option, Some, None, Result, Ok, Err}
+use Rattle.std.specs.Prelude.{OnErr, OnOk}
 use Rattle.bbm_entry_state.specs.Points.{core_in}
 use Rattle.bbm_entry_state.specs.declared.marks.Marks.{Marks}
 use Rattle.bbm_place_map.specs.Map.{is_tracked, marks_at, pends_at, value_at}
 use Rattle.bbm_place_map.specs.declared.map.PlaceMap.{PlaceMap}
 use Rattle.bbm_tree_index.specs.HeldCores.{next_in}
 use Rattle.bbm_tree_index.specs.IndexAgreement.{IsSound}
-use Rattle.bbm_tree_index.specs.Index.{fresh_in, heading_of, known_in, node_in, null_in, pages_in}
+use Rattle.bbm_tree_index.specs.Index.{SameTracked, fresh_in, heading_of, known_in, node_in, null_in, pages_in}
+use Rattle.bbm_tree_index.specs.IndexChanges.{Attaches}
 use Rattle.bbm_tree_index.specs.declared.index.TreeIndex.{TreeIndex}
 use Rattle.bbm_replay_roots.specs.RootStateStands as roots
 use Rattle.bbm_events.specs.Fits.{fits_heading}
 use Rattle.bbm_rules.specs.Answers.{Answers, rewrites, takes_no_memory}
 use Rattle.bbm_rules.specs.Broken.{broken}
 use Rattle.bbm_rules.specs.Claims.Trust.{Patterns}
+use Rattle.bbm_descriptor.specs.Descriptor.{core_of}
 use Rattle.bbm_descriptor.specs.declared.desc.Core.{Core}
 use Rattle.bbm_rules.specs.Limits.{limit_of}
 use Rattle.bbm_rules.specs.Places.{page_of}
-use Rattle.bbm_rules.specs.Rules.{break_before_make, limbo_make, no_lock, null_written}
+use Rattle.bbm_rules.specs.Rules.{no_lock}
 use Rattle.bbm_rules.specs.Tree.{Node}
 use Rattle.bbm_tree_index.specs.Nodes.{path_at}
+use Rattle.bbm_tree_index.specs.declared.role.Attach.TheVariants.{Below}
 use Rattle.bbm_tree_index.specs.declared.role.Path.{Path}
 use Rattle.bbm_replay_trees.specs.Told.{View, notes}
-use Rattle.bbm_rules.specs.Prelude.{Heading, Event}
+use Rattle.bbm_rules.specs.Prelude.{Heading, Event, Write}
 use Rattle.bbm_rules.specs.declared.step_fault.StepFault.{StepFault}
 use Rattle.bbm_rules.specs.declared.step_fault.StepFault.TheVariants.{NoMemory}
 use Rattle.bbm_replay.specs.ReplayTold.{Told, state_of}
@@ -82,16 +86,6 @@ pub record SameFrame (old new : ReplayState) : Type 0 where
   pub index_header : heading_of new.index ≡ heading_of old.index
   pub sound : IsSound old.index → IsSound new.index
 
--- Of a write in a tree: the rules on locks, on null pages, on break-before-make and on limbo, which come first, are
--- kept; or the event breaks one of them, and this is the answer.
-pub record Clears (parts : ReplayState) (e : Event) (result : Result (Unit {0}) StepFault) : Type 0 where
-  pub passed : OnOk result ((heading : Heading) (h : List Event) → PartsStand parts heading h
-      → (no_lock heading Patterns (notes heading h) e ≡ None)
-      × (null_written heading Patterns (notes heading h) e ≡ None)
-      × (break_before_make heading Patterns (notes heading h) e ≡ None)
-      × (limbo_make heading Patterns (notes heading h) e ≡ None))
-  pub refused : OnErr result (Meets parts parts e result)
-
 -- no place is broken over a table
 abbrev pub OverLeaves : PlaceMap → Type 0
 OverLeaves map = (a : ℕ) (marks : Marks) → marks_at map a ≡ Some marks → next_in (Some marks.core) ≡ None
@@ -103,3 +97,40 @@ IsAt parts place path = (n : Node) × (node_in parts.index (page_of place) ≡ S
 -- the core of the state of a place of a tree
 abbrev pub Holds : ReplayState → ℕ → Path → Option Core → Type 0
 Holds parts place path held = held ≡ core_in (state_of (view_of parts.map parts.index) path.kind path.level place)
+
+-- the rule on locks is kept
+abbrev pub IsUnlocked : ReplayState → Event → Type 0
+IsUnlocked parts e = (heading : Heading) (h : List Event) → PartsStand parts heading h
+    → no_lock heading Patterns (notes heading h) e ≡ None
+
+-- A write at a place of a tree, at this path: the parts stand for a history of its header.
+pub record WritesTree (parts : ReplayState) (pe place value : ℕ) (path : Path) : Type 0 where
+  pub may : MayMeet parts (Write pe place value)
+  pub at : IsAt parts place path
+  pub low : path.level ≤ 3
+
+-- Such a write, under its lock: the first core is what the place holds, and the second that of the value.
+pub record MayAdmit (parts : ReplayState) (pe place value : ℕ) (path : Path) (held new : Option Core) : Type 0 where
+  pub tree : WritesTree parts pe place value path
+  pub unlocked : IsUnlocked parts (Write pe place value)
+  pub holds : Holds parts place path held
+  pub core_is : new ≡ core_of path.kind path.level value
+
+-- a write at the place attached this page, if any, and what hangs below it
+abbrev pub Links : PlaceMap → ℕ → Option ℕ → TreeIndex → TreeIndex → Type 0
+Links map place None old new = new ≡ old
+Links map place (Some next) old new = Attaches (value_at map) (Below place next) old new × SameTracked old new
+
+-- The write keeps the rules, and the trees are those after it, where it attaches this page, if any. Nothing else changed.
+pub record Admitted (old new : ReplayState) (pe place value : ℕ) (next : Option ℕ) : Type 0 where
+  pub kept : (heading : Heading) (h : List Event) → PartsStand old heading h
+      → broken heading Patterns h (Write pe place value) ≡ None
+  pub frame : SameFrame old new
+  pub same_map : new.map ≡ old.map
+  pub same_roots : new.roots ≡ old.roots
+  pub links : Links old.map place next old.index new.index
+
+-- The judgement of a write: it is admitted, or this is the answer.
+abbrev pub Admits : ReplayState → ReplayState → ℕ → ℕ → ℕ → Option ℕ → Result (Unit {0}) StepFault → Type 0
+Admits old new pe place value next (Ok done) = Admitted old new pe place value next
+Admits old new pe place value next (Err fault) = Meets old new (Write pe place value) (Err fault)

@@ -1,28 +1,25 @@
-//! Writes of places.
+//! Writes of places: each is found, judged by the rules in their order, and taken.
 
-mod near;
-
-ghost use Rattle.std.specs.Prelude.{◌≡◌, ◌%◌, ◌==◌, ◌&&◌, not, List, true, false, Some, None, Ok};
+ghost use Rattle.std.specs.Prelude.{◌≡◌, ◌%◌, ◌==◌, ◌&&◌, not, List, true, false, Some, None, is_some};
 ghost use Rattle.std.specs.Option.{option_map_or};
 ghost use Rattle.bbm_tree_index.specs.HeldCores.{limbo_by, next_in};
 ghost use Rattle.bbm_descriptor.specs.Descriptor as spec;
-ghost use Rattle.bbm_entry_state.specs.Points as points;
-ghost use Rattle.bbm_place_map.specs.Map.{IsPosition, value_at};
+ghost use Rattle.bbm_place_map.specs.Map.{IsPosition, marks_at, value_at};
 ghost use Rattle.bbm_events.specs.Heading.{Heading};
 ghost use Rattle.bbm_events.specs.declared.event.Event.{Event};
 ghost use Rattle.bbm_events.specs.declared.event.Event.TheVariants.{Write};
 ghost use Rattle.bbm_regimes.specs.SameRegister.{same_kind};
 ghost use Rattle.bbm_rules.specs.Places.{page_of};
-ghost use Rattle.bbm_tree_index.specs.Index.{node_in};
+ghost use Rattle.bbm_tree_index.specs.Index.{fresh_in, node_in};
+ghost use Rattle.bbm_tree_index.specs.declared.role.Path.{Path as ThePath};
 ghost use Rattle.bbm_replay.specs.Leaves as leaves;
-ghost use Rattle.bbm_replay.specs.ReplayStanding.{Clears, Holds, IsAt, MayMeet, Meets, OverLeaves, PartsStand, view_of};
-ghost use Rattle.bbm_replay.specs.ReplayTold.{state_of};
+ghost use Rattle.bbm_replay.specs.ReplayStanding.{Admits, IsUnlocked, MayAdmit, MayMeet, Meets, OverLeaves, PartsStand};
+ghost use Rattle.bbm_replay.specs.ReplayStanding.{WritesTree};
 
 use crate::faults::step_fault;
 use crate::laws::{laws, rules};
 use crate::parts::ReplayState;
 use bbm_descriptor::{Core, Memory, core};
-use bbm_entry_state::EntryState;
 use bbm_place_map::{PlaceMap, Position};
 use bbm_regimes::{Kind, Page, Pe, Place};
 use bbm_replay_roots::law_others;
@@ -31,7 +28,7 @@ use bbm_tree_index::{Attach, Path};
 use std::alloc::Global;
 
 /// To look through so many broken places takes less than to go up a tree. Source: project's own choice.
-const MANY: u64 = 32;
+const MAX_SCANNED: u64 = 32;
 
 /// Whether both are cores, and they differ.
 #[inline(always)]
@@ -81,13 +78,13 @@ fn is_user_global(kind: Kind, new: &Option<Core>) -> bool
     kind == Kind::Ttbr0 && is_global(new)
 }
 
-/// Whether no place is broken over a table. False says nothing: it is the answer too where many places are broken.
+/// Whether no place is broken over a table, and at most `MAX_SCANNED` places are broken. False says no more than that.
 #[inline(never)]
-fn are_over_leaves(map: &PlaceMap) -> bool
+fn is_broken_over_leaves(map: &PlaceMap) -> bool
     ensures { result ≡ true → OverLeaves map.now }
 {
     let count = map.restless();
-    if count > MANY {
+    if count > MAX_SCANNED {
         return false;
     }
     for i in 0..count {
@@ -98,15 +95,15 @@ fn are_over_leaves(map: &PlaceMap) -> bool
     true
 }
 
-/// Whether no place is broken over a table, told at once where no place is broken. False says nothing.
+/// Whether no place is in limbo since none is broken over a table, told at once where none is broken. False says nothing.
 #[inline(always)]
-fn is_calm(map: &PlaceMap) -> bool
+fn rules_out_limbo(map: &PlaceMap) -> bool
     ensures { result ≡ true → OverLeaves map.now }
 {
     if map.restless() == 0 {
         return true;
     }
-    are_over_leaves(map)
+    is_broken_over_leaves(map)
 }
 
 /// The next page of a core that is a table.
@@ -149,8 +146,23 @@ struct TreeWrite<'a> {
 }
 
 impl ReplayState {
-    /// A write at a place of no tree.
-    fn write_outside(&mut self, pe: Pe, place: Place, value: u64) -> Result<(), StepFault>
+    /// Whether the page is fresh. No answer depends on the number `hint`, at which the page is looked for first.
+    #[inline(always)]
+    fn is_fresh(&self, page: Page, hint: usize) -> bool
+        ensures { result ≡ fresh_in self.now.index page }
+    {
+        self.index.is_fresh_at(page, hint) || self.index.is_fresh(page)
+    }
+
+    /// A write at a place of no tree. No answer depends on the number `hint`, at which the page is looked for first.
+    #[inline(never)]
+    fn write_outside(
+        &mut self,
+        pe: Pe,
+        place: Place,
+        value: u64,
+        hint: usize,
+    ) -> Result<(), StepFault>
         requires may { MayMeet self.old (Write pe place value) }
         requires outside { node_in self.old.index (page_of place) ≡ None }
         ensures { Meets self.old self.new (Write pe place value) result }
@@ -158,201 +170,193 @@ impl ReplayState {
         laws();
         rules();
         law_others();
-        if self.index.is_null(place.page()) {
-            return Err(StepFault::Broken(Rule::NullWritten, place.get()));
+        let page = place.page();
+        if !self.is_fresh(page, hint) {
+            if self.index.is_null(page) {
+                return Err(StepFault::Broken(Rule::NullWritten, place.get()));
+            }
+            return Err(StepFault::Broken(Rule::NotFresh, page.get()));
         }
-        if !self.index.is_fresh(place.page()) {
-            return Err(StepFault::Broken(Rule::NotFresh, place.page().get()));
-        }
+        let position = self.map.position_near(place, hint).unwrap();
         if rewrites(self.map.value(place), value) {
             return Err(StepFault::Broken(Rule::RewrittenFresh, place.get()));
         }
-        self.map.set(place, value, EntryState::new());
+        self.map.put_at(&position, value);
+        self.map.law_idle();
         Ok(())
     }
 
-    /// Whether the write makes a valid value at a place in limbo. None is where no place is broken over a table.
+    /// Whether a write of a value with this core makes a valid value at a place in limbo. None is where no place is
+    /// broken over a table.
     #[inline(always)]
-    fn makes_in_limbo(&self, place: Place, valid: bool) -> bool
+    fn makes_in_limbo(&self, place: Place, new: &Option<Core>) -> bool
         requires { (heading : Heading) × (h : List Event) × PartsStand self.now heading h }
-        ensures { result ≡ (valid
+        ensures { result ≡ (is_some new.now
             && option_map_or (limbo_by (value_at self.now.map)) (node_in self.now.index (page_of place)) false) }
     {
         laws();
-        if !valid {
+        if !new.is_some() {
             return false;
         }
-        if is_calm(&self.map) {
+        if rules_out_limbo(&self.map) {
             return false;
         }
         self.index.in_limbo(&self.map, place)
     }
 
-    /// The rules that come first of a write in a tree.
-    fn judge_tree_write(
-        &self,
+    /// Judges a write of a value with the core `new` at a place of a tree that holds `old`, by the rules behind the one
+    /// on locks, and attaches the next page, if it attaches one. After Ok all that is left is to write the value.
+    #[inline(always)]
+    fn admit(
+        &mut self,
+        alloc: Global,
         write: &TreeWrite,
         old: &Option<Core>,
         new: &Option<Core>,
     ) -> Result<(), StepFault>
-        requires may { MayMeet self.now (Write write.now.pe write.now.position.now.place write.now.value) }
-        requires at { IsAt self.now write.now.position.now.place write.now.path.now }
-        requires old { Holds self.now write.now.position.now.place write.now.path.now old.now }
-        requires new { new.now
-            ≡ spec.core_of write.now.path.now.kind write.now.path.now.level write.now.value }
-        ensures { Clears self.now (Write write.now.pe write.now.position.now.place write.now.value) result }
+        requires { MayAdmit self.old write.now.pe write.now.position.now.place write.now.value write.now.path.now
+            old.now new.now }
+        ensures { Admits self.old self.new write.now.pe write.now.position.now.place write.now.value
+            (leaves.attached_next old.now new.now) result }
     {
         laws();
         rules();
         let place = write.position.place;
-        if let Some(at) = self
-            .roots
-            .without_lock(write.pe, write.path.first, place.get())
-        {
-            return Err(StepFault::Broken(Rule::NoLock, at));
-        }
         if differ(old, new) {
             return Err(StepFault::Broken(Rule::BreakBeforeMake, place.get()));
         }
-        if self.makes_in_limbo(place, new.is_some()) {
+        if self.makes_in_limbo(place, new) {
             return Err(StepFault::Broken(Rule::LimboMake, place.get()));
         }
-        Ok(())
-    }
-
-    /// A write in a tree that attaches nothing, after the rules that come first.
-    fn write_plain(
-        &mut self,
-        write: &TreeWrite,
-        live: &Option<Core>,
-        new: &Option<Core>,
-    ) -> Result<(), StepFault>
-        requires may { MayMeet self.old (Write write.now.pe write.now.position.now.place write.now.value) }
-        requires position { IsPosition self.old.map write.now.position.now }
-        requires at { IsAt self.old write.now.position.now.place write.now.path.now }
-        requires live { live.now ≡ spec.core_of write.now.path.now.kind write.now.path.now.level
-            (value_at self.old.map write.now.position.now.place) }
-        requires new { new.now
-            ≡ spec.core_of write.now.path.now.kind write.now.path.now.level write.now.value }
-        requires clear { Clears self.old (Write write.now.pe write.now.position.now.place write.now.value) (Ok tt) }
-        requires plain { leaves.attached_next
-            (points.core_in (state_of (view_of self.old.map self.old.index) write.now.path.now.kind
-            write.now.path.now.level write.now.position.now.place)) new.now ≡ None }
-        ensures { Meets self.old self.new (Write write.now.pe write.now.position.now.place write.now.value) result }
-    {
-        laws();
-        rules();
-        law_others();
-        let place = write.position.place.get();
+        if let Some(next) = attached_next(old, new) {
+            return match self
+                .index
+                .attach(alloc, &self.map, Attach::Below { place, next })
+            {
+                Ok(()) => Ok(()),
+                Err(fault) => Err(step_fault(fault)),
+            };
+        }
         if is_contiguous(new) {
-            return Err(StepFault::Broken(Rule::BadKind, place));
+            return Err(StepFault::Broken(Rule::BadKind, place.get()));
         }
         if is_user_global(write.path.kind, new) {
-            return Err(StepFault::Broken(Rule::GlobalUser, place));
+            return Err(StepFault::Broken(Rule::GlobalUser, place.get()));
         }
-        let (pe, value) = (write.pe, write.value);
-        self.map.write_at(write.position, pe, value, live, new);
-        self.map.law_idle();
         Ok(())
     }
 
-    /// A write in a tree that attaches the next page, after the rules that come first.
-    fn write_attaching(
+    /// A write, under its lock, at a place of a tree that isn't broken and has the core `live`. It leaves the place
+    /// unbroken: the value is valid, or the one before was invalid too.
+    #[inline(always)]
+    fn write_unbroken(
         &mut self,
         alloc: Global,
         write: &TreeWrite,
         live: &Option<Core>,
-        new: &Option<Core>,
-        next: Page,
     ) -> Result<(), StepFault>
-        requires may { MayMeet self.old (Write write.now.pe write.now.position.now.place write.now.value) }
+        requires at { WritesTree self.old write.now.pe write.now.position.now.place write.now.value write.now.path.now }
+        requires unlocked { IsUnlocked self.old (Write write.now.pe write.now.position.now.place write.now.value) }
         requires position { IsPosition self.old.map write.now.position.now }
-        requires at { IsAt self.old write.now.position.now.place write.now.path.now }
+        requires unbroken { marks_at self.old.map write.now.position.now.place ≡ None }
         requires live { live.now ≡ spec.core_of write.now.path.now.kind write.now.path.now.level
             (value_at self.old.map write.now.position.now.place) }
-        requires new { new.now
-            ≡ spec.core_of write.now.path.now.kind write.now.path.now.level write.now.value }
-        requires clear { Clears self.old (Write write.now.pe write.now.position.now.place write.now.value) (Ok tt) }
-        requires attaches { leaves.attached_next
-            (points.core_in (state_of (view_of self.old.map self.old.index) write.now.path.now.kind
-            write.now.path.now.level write.now.position.now.place)) new.now ≡ Some next }
+        requires stays { None ≡ spec.core_of write.now.path.now.kind write.now.path.now.level write.now.value
+            → live.now ≡ None }
         ensures { Meets self.old self.new (Write write.now.pe write.now.position.now.place write.now.value) result }
     {
         laws();
         rules();
         law_others();
-        let place = write.position.place;
-        match self
-            .index
-            .attach(alloc, &self.map, Attach::Below { place, next })
-        {
+        let new = core(write.path.kind, write.path.level, write.value);
+        match self.admit(alloc, write, live, &new) {
             Ok(()) => {
-                self.map
-                    .write_at(write.position, write.pe, write.value, live, new);
+                self.map.put_at(write.position, write.value);
                 self.map.law_idle();
                 Ok(())
             }
-            Err(fault) => Err(step_fault(fault)),
-        }
-    }
-
-    /// A write at a place of a tree, which is kept at this position.
-    fn write_inside<'a>(
-        &mut self,
-        alloc: Global,
-        pe: Pe,
-        position: &'a Position,
-        value: u64,
-        path: &'a Path,
-    ) -> Result<(), StepFault>
-        requires may { MayMeet self.old (Write pe position.now.place value) }
-        requires position { IsPosition self.old.map position.now }
-        requires at { IsAt self.old position.now.place path.now }
-        ensures { Meets self.old self.new (Write pe position.now.place value) result }
-    {
-        laws();
-        let live = self.map.live_at(position, path.kind, path.level);
-        let old = self.map.core_at(position, live);
-        let new = core(path.kind, path.level, value);
-        let write = TreeWrite {
-            pe,
-            position,
-            value,
-            path,
-        };
-        match self.judge_tree_write(&write, &old, &new) {
-            Ok(()) => match attached_next(&old, &new) {
-                Some(next) => self.write_attaching(alloc, &write, &live, &new, next),
-                None => self.write_plain(&write, &live, &new),
-            },
             Err(fault) => Err(fault),
         }
     }
 
-    /// A write.
+    /// A write, under its lock, at a broken place of a tree. It takes plain values and finds the place anew, so that the
+    /// other writes keep theirs in registers.
     #[inline(never)]
-    pub(crate) fn write_any(
+    fn write_broken(
         &mut self,
         alloc: Global,
         pe: Pe,
         place: Place,
         value: u64,
+        hint: usize,
     ) -> Result<(), StepFault>
-        requires { MayMeet self.old (Write pe place value) }
+        requires at { (path : ThePath) × WritesTree self.old pe place value path }
+        requires unlocked { IsUnlocked self.old (Write pe place value) }
         ensures { Meets self.old self.new (Write pe place value) result }
     {
-        let near = self.index.number(place.page(), self.map.recent_page());
-        match self.index.path_near(place, near) {
-            Some(path) => {
-                let position = self.map.position_near(place, near).unwrap();
-                self.write_inside(alloc, pe, &position, value, &path)
+        laws();
+        rules();
+        law_others();
+        let path = self.index.path_near(place, hint).unwrap();
+        let position = self.map.position_near(place, hint).unwrap();
+        let live = self.map.live_at(&position, path.kind, path.level);
+        let old = self.map.core_at(&position, live);
+        let new = core(path.kind, path.level, value);
+        let write = TreeWrite {
+            pe,
+            position: &position,
+            value,
+            path: &path,
+        };
+        match self.admit(alloc, &write, &old, &new) {
+            Ok(()) => {
+                self.map.write_at(&position, pe, value, &live, &new);
+                self.map.law_idle();
+                Ok(())
             }
-            None => self.write_outside(pe, place, value),
+            Err(fault) => Err(fault),
         }
     }
 
-    /// A write. Most are taken by `write_near`, and else it is judged from the start.
+    /// A write at a place of a tree. A value over none has a way of its own, so that it carries no core about.
     #[inline(always)]
+    fn write_inside(
+        &mut self,
+        alloc: Global,
+        write: &TreeWrite,
+        hint: usize,
+    ) -> Result<(), StepFault>
+        requires at { WritesTree self.old write.now.pe write.now.position.now.place write.now.value write.now.path.now }
+        requires position { IsPosition self.old.map write.now.position.now }
+        ensures { Meets self.old self.new (Write write.now.pe write.now.position.now.place write.now.value) result }
+    {
+        laws();
+        rules();
+        law_others();
+        let (place, path) = (write.position.place, write.path);
+        if let Some(at) = self.roots.without_lock(write.pe, path.first, place.get()) {
+            return Err(StepFault::Broken(Rule::NoLock, at));
+        }
+        if self.map.is_broken_at(write.position) {
+            return self.write_broken(alloc, write.pe, place, write.value, hint);
+        }
+        match self.map.live_at(write.position, path.kind, path.level) {
+            None => self.write_unbroken(alloc, write, &None),
+            Some(live) => {
+                let new = core(path.kind, path.level, write.value);
+                if new.is_some() {
+                    return self.write_unbroken(alloc, write, &Some(live));
+                }
+                self.map
+                    .break_at(write.position, write.pe, write.value, live);
+                self.map.law_idle();
+                Ok(())
+            }
+        }
+    }
+
+    /// A write.
+    #[inline(never)]
     pub(crate) fn write(
         &mut self,
         alloc: Global,
@@ -363,9 +367,20 @@ impl ReplayState {
         requires { MayMeet self.old (Write pe place value) }
         ensures { Meets self.old self.new (Write pe place value) result }
     {
-        if self.write_near(pe, place, value) {
-            return Ok(());
+        laws();
+        let hint = self.index.number(place.page(), self.map.recent_page());
+        match self.index.path_near(place, hint) {
+            Some(path) => {
+                let position = self.map.position_near(place, hint).unwrap();
+                let write = TreeWrite {
+                    pe,
+                    position: &position,
+                    value,
+                    path: &path,
+                };
+                self.write_inside(alloc, &write, hint)
+            }
+            None => self.write_outside(pe, place, value, hint),
         }
-        self.write_any(alloc, pe, place, value)
     }
 }

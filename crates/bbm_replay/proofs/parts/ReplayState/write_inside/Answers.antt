@@ -1,12 +1,47 @@
-use Rattle.bbm_replay.proofs.Found.{shallow}
+use Rattle.bbm_replay.proofs.Common.{MayAdmit}
+use Rattle.bbm_rules.proofs.Common.{◌≡◌, None, Some, sym, ◌∙◌, core_of}
+use Rattle.bbm_place_map.specs.Map.{marks_at, value_at}
+use Rattle.bbm_replay.proofs.Entries.{none_of}
+use Rattle.bbm_replay.proofs.Inside.{admitted_invalid, locked, taken, unlocked}
+use Rattle.bbm_replay.proofs.Unbroken.{breaks_unbroken, may_admit_unbroken}
 use Rattle.bbm_replay.proofs.parts.ReplayState.write_inside.Goals as goal
 
-pub live_at-live-requires-clause-level : goal.live_at-live-requires-clause-level
-live_at-live-requires-clause-level c =
-    let m = c.requires.may in
-    shallow m.0 (c.laws.ensures m.0) m.1 c.args.self.now m.2 c.args.position.now.place c.args.path.now c.requires.at
+pub returns-in-Some : goal.returns-in-Some
+returns-in-Some c =
+    locked c.rules.ensures c.requires.at c.get.ensures.value c.without_lock.ensures c.in-Some.at c.in-Some.is
 
-pub core-new-requires : goal.core-new-requires
-core-new-requires c =
-    let m = c.requires.may in
-    shallow m.0 (c.laws.ensures m.0) m.1 c.args.self.now m.2 c.args.position.now.place c.args.path.now c.requires.at
+pub write_broken-requires-clause-at : goal.write_broken-requires-clause-at
+write_broken-requires-clause-at c = (c.args.write.now.path.now, c.requires.at)
+
+pub write_broken-requires-clause-unlocked : goal.write_broken-requires-clause-unlocked
+write_broken-requires-clause-unlocked c =
+    unlocked c.rules.ensures c.requires.at c.get.ensures.value c.without_lock.ensures c.in_default.is
+
+pub write_unbroken-requires-clause-unlocked : goal.write_unbroken-requires-clause-unlocked
+write_unbroken-requires-clause-unlocked c =
+    unlocked c.rules.ensures c.requires.at c.get.ensures.value c.without_lock.ensures c.in_default.is
+
+pub write_unbroken-requires-then-is_some-clause-unlocked :
+    goal.write_unbroken-requires-then-is_some-clause-unlocked
+write_unbroken-requires-then-is_some-clause-unlocked c =
+    unlocked c.rules.ensures c.requires.at c.get.ensures.value c.without_lock.ensures c.in_default.is
+
+pub returns-else-is_some : goal.returns-else-is_some
+returns-else-is_some c =
+    let self = c.args.self.now in
+    let w = c.args.write.now in
+    let place = w.position.now.place in
+    let live = c.in-Some-live_at.live in
+    let new = c.core-new.result in
+    let unbroken : marks_at self.map place ≡ None = none_of (marks_at self.map place)
+    (sym c.is_broken_at.ensures ∙ c.if-is_broken_at.false) in
+    let invalid : new ≡ None = none_of new (sym c.is_some.ensures ∙ c.if-is_some.false) in
+    let live_is : Some live ≡ core_of w.path.now.kind w.path.now.level (value_at self.map place)
+    = sym c.in-Some-live_at.is ∙ c.live_at.ensures in
+    let m : MayAdmit self w.pe place w.value w.path.now (Some live) new = may_admit_unbroken c.requires.at
+    (unlocked c.rules.ensures c.requires.at c.get.ensures.value c.without_lock.ensures c.in_default.is) unbroken
+    (Some live) new live_is c.core-new.ensures.value in
+    taken c.laws.ensures c.rules.ensures m c.law_others.ensures self
+    (admitted_invalid c.laws.ensures c.rules.ensures m invalid) c.break_at.new.self (Some live) live_is
+    (breaks_unbroken self.map c.break_at.new.self w.pe place w.value live new unbroken invalid c.break_at.ensures)
+    c.law_idle.ensures

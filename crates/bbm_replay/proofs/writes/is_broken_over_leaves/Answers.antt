@@ -3,7 +3,7 @@ use Rattle.bbm_rules.proofs.Common.{◌≡◌, ℕ, ◌<◌, ◌≤◌, ◌+◌,
 use Rattle.bbm_rules.proofs.Common.{cases_lt, same_Some, Core}
 use Rattle.bbm_place_map.specs.Map.{marks_at, restless_place}
 use Rattle.bbm_replay.proofs.Entries.{none_of}
-use Rattle.bbm_replay.proofs.writes.are_over_leaves.Goals as goal
+use Rattle.bbm_replay.proofs.writes.is_broken_over_leaves.Goals as goal
 
 -- a place that is broken over one core isn't broken over another
 one_core : (map : PlaceMap) (a : ℕ) (core : Core)

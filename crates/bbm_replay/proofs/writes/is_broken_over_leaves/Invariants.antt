@@ -1,7 +1,7 @@
 use Rattle.bbm_replay.proofs.Common.{Marks, next_in}
 use Rattle.bbm_rules.proofs.Common.{◌≡◌, ℕ, ◌<◌, None, Some}
 use Rattle.bbm_place_map.specs.Map.{marks_at, restless_place}
-use Rattle.bbm_replay.proofs.writes.are_over_leaves.Given as goal
+use Rattle.bbm_replay.proofs.writes.is_broken_over_leaves.Given as goal
 
 abbrev pub invariant-loop-i : goal.invariant-loop-i
 invariant-loop-i l = (j : ℕ) → j < l.i → (marks : Marks) → marks_at l.map (restless_place l.map j) ≡ Some marks
