@@ -1,7 +1,10 @@
 -- The path of a place, by the node of its page.
-use Rattle.bbm_replay.proofs.Common.{option_map, path_at, Path, Laws, IsAt, PartsStand, view_of, ReplayState}
+use Rattle.bbm_replay.proofs.Common.{option_map, path_at, Path, Laws, IsAt, MayMeet, PartsStand, WritesTree, view_of}
+use Rattle.bbm_replay.proofs.Common.{ReplayState}
 use Rattle.bbm_rules.proofs.Common.{◌≡◌, ℕ, ◌≤◌, ◌<◌, List, Option, Some, None, refl, sym, ◌∙◌, ap, arith, page_of}
-use Rattle.bbm_rules.proofs.Common.{Heading, Event, Node}
+use Rattle.bbm_rules.proofs.Common.{Heading, Event, Node, Write, true, subst}
+use Rattle.bbm_place_map.specs.Map.{is_tracked}
+use Rattle.bbm_place_map.specs.declared.position.Position.{Position}
 use Rattle.bbm_tree_index.specs.Index.{node_in}
 
 pub at_path : (p : ReplayState) (place : ℕ) (r : Option Path) (path : Path) → r ≡ Some path
@@ -15,11 +18,6 @@ at_path p place r path e k = by (node_in p.index (page_of place)) refl
         let both : Some path ≡ Some (path_at n place) = sym e ∙ k ∙ ap (λ (o : Option Node). option_map (λ n. path_at n place) o) is in
         let same : path ≡ path_at n place = cc in
         (n, is, same)
-
-pub path_found : (p : ReplayState) (place : ℕ) (path : Path) → IsAt p place path → (r : Option Path)
-    → r ≡ option_map (λ n. path_at n place) (node_in p.index (page_of place)) → r ≡ Some path
-path_found p place path at r k = k ∙ ap (λ (o : Option Node). option_map (λ n. path_at n place) o) at.1
-    ∙ ap (λ (x : Path). Some x) (sym at.2)
 
 pub no_path : (p : ReplayState) (place : ℕ) (r : Option Path) → r ≡ None
     → r ≡ option_map (λ n. path_at n place) (node_in p.index (page_of place)) → node_in p.index (page_of place) ≡ None
@@ -37,6 +35,24 @@ shallow heading laws h p s place path at =
     let deep : at.0.level < 4 = own.1 in
     let same : path.level ≡ at.0.level = ap (λ (x : Path). x.level) at.2 in
     omega arith
+
+-- what is asked of a write, at the place that was found
+pub found_tree : ((heading : Heading) → Laws heading) → (p : ReplayState) (pe place v : ℕ) → MayMeet p (Write pe place v)
+    → (found : Position × Path) → IsAt p place found.1 → found.0.place ≡ place → WritesTree p pe found.0.place v found.1
+found_tree laws p pe place v m found at same = subst (λ a. WritesTree p pe a v found.1) (sym same) (record {
+  may = m;
+  at = at;
+  low = shallow m.0 (laws m.0) m.1 p m.2 place found.1 at;
+})
+
+-- a page that isn't tracked is in no tree
+pub untracked : (heading : Heading) (h : List Event) (p : ReplayState) → PartsStand p heading h → (page : ℕ)
+    → (is_tracked p.map page ≡ true → ⊥) → node_in p.index page ≡ None
+untracked heading h p s page k = by (node_in p.index page) refl
+  where
+    by : (o : Option Node) → node_in p.index page ≡ o → node_in p.index page ≡ None
+    by None e = e
+    by (Some n) e = absurd (k (s.told.apart.node_tracked page n e))
 
 -- the same of any node
 pub found_at : (o : Option Node) (place : ℕ) (r : Option Path) (path : Path) → r ≡ Some path

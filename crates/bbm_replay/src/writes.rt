@@ -1,6 +1,6 @@
 //! Writes of places: each is found, judged by the rules in their order, and taken.
 
-ghost use Rattle.std.specs.Prelude.{◌≡◌, ◌%◌, ◌==◌, ◌&&◌, not, List, true, false, Some, None, is_some};
+ghost use Rattle.std.specs.Prelude.{◌≡◌, ◌%◌, ◌==◌, ◌&&◌, not, List, true, false, Some, None, IfSome, is_some};
 ghost use Rattle.std.specs.Option.{option_map_or};
 ghost use Rattle.bbm_tree_index.specs.HeldCores.{limbo_by, next_in};
 ghost use Rattle.bbm_descriptor.specs.Descriptor as spec;
@@ -13,7 +13,7 @@ ghost use Rattle.bbm_rules.specs.Places.{page_of};
 ghost use Rattle.bbm_tree_index.specs.Index.{fresh_in, node_in};
 ghost use Rattle.bbm_tree_index.specs.declared.role.Path.{Path as ThePath};
 ghost use Rattle.bbm_replay.specs.Leaves as leaves;
-ghost use Rattle.bbm_replay.specs.ReplayStanding.{Admits, IsUnlocked, MayAdmit, MayMeet, Meets, OverLeaves, PartsStand};
+ghost use Rattle.bbm_replay.specs.ReplayStanding.{Admits, IsAt, IsUnlocked, MayAdmit, MayMeet, Meets, OverLeaves, PartsStand};
 ghost use Rattle.bbm_replay.specs.ReplayStanding.{WritesTree};
 
 use crate::faults::step_fault;
@@ -146,6 +146,25 @@ struct TreeWrite<'a> {
 }
 
 impl ReplayState {
+    /// Where a place of a tree is kept, and where it stands in its tree; None where its page is in no tree. No answer
+    /// depends on the number `hint`, at which the page is looked for first.
+    #[inline(always)]
+    fn find(&self, place: Place, hint: usize) -> Option<(Position, Path)>
+        requires { (heading : Heading) × (h : List Event) × PartsStand self.now heading h }
+        ensures place { IfSome result (λ found. found.0.place ≡ place) }
+        ensures position { IfSome result (λ found. IsPosition self.now.map found.0) }
+        ensures at { IfSome result (λ found. IsAt self.now place found.1) }
+        ensures none { result ≡ None → node_in self.now.index (page_of place) ≡ None }
+    {
+        let Some(position) = self.map.position_near(place, hint) else {
+            return None;
+        };
+        let Some(path) = self.index.path_near(place, hint) else {
+            return None;
+        };
+        Some((position, path))
+    }
+
     /// Whether the page is fresh. No answer depends on the number `hint`, at which the page is looked for first.
     #[inline(always)]
     fn is_fresh(&self, page: Page, hint: usize) -> bool
@@ -297,8 +316,7 @@ impl ReplayState {
         laws();
         rules();
         law_others();
-        let path = self.index.path_near(place, hint).unwrap();
-        let position = self.map.position_near(place, hint).unwrap();
+        let (position, path) = self.find(place, hint).unwrap();
         let live = self.map.live_at(&position, path.kind, path.level);
         let old = self.map.core_at(&position, live);
         let new = core(path.kind, path.level, value);
@@ -369,9 +387,9 @@ impl ReplayState {
     {
         laws();
         let hint = self.index.number(place.page(), self.map.recent_page());
-        match self.index.path_near(place, hint) {
-            Some(path) => {
-                let position = self.map.position_near(place, hint).unwrap();
+        match self.find(place, hint) {
+            Some(found) => {
+                let (position, path) = found;
                 let write = TreeWrite {
                     pe,
                     position: &position,

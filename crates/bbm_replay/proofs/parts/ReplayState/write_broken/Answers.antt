@@ -1,38 +1,29 @@
-use Rattle.bbm_replay.proofs.Common.{IsUnlocked, MayAdmit, Meets, Path, WritesTree}
-use Rattle.bbm_rules.proofs.Common.{◌≡◌, ℕ, Err, Ok, Option, Some, refl, sym, ◌∙◌, subst, Write, same_Some}
+use Rattle.bbm_replay.proofs.Common.{IsAt, IsUnlocked, MayAdmit, Meets, Path, ReplayState}
+use Rattle.bbm_rules.proofs.Common.{◌≡◌, Err, None, Ok, Option, Some, refl, sym, ◌∙◌, subst, Write}
+use Rattle.std.proofs.Common.{IsSome}
 use Rattle.bbm_place_map.specs.declared.position.Position.{Position}
-use Rattle.bbm_replay.specs.declared.parts.ReplayState.{ReplayState}
 use Rattle.bbm_replay.proofs.Findings.{if_some}
-use Rattle.bbm_replay.proofs.Found.{path_found}
+use Rattle.bbm_replay.proofs.Found.{found_tree}
 use Rattle.bbm_replay.proofs.Inside.{may_admit, taken}
 use Rattle.bbm_replay.proofs.parts.ReplayState.write_broken.Goals as goal
 
--- the same write, by the path and the place that were found
-moved : (p : ReplayState) (pe place v : ℕ) (path path' : Path) (r : Option Path) → r ≡ Some path → r ≡ Some path'
-    → (place' : ℕ) → place' ≡ place → WritesTree p pe place v path → WritesTree p pe place' v path'
-moved p pe place v path path' r is is' place' same tree = subst (λ a. WritesTree p pe a v path') (sym same)
-    (subst (λ (x : Path). WritesTree p pe place v x) (same_Some path path' (sym is ∙ is')) tree)
+not_none : {A : Type 0} (o : Option A) → (o ≡ None → ⊥) → IsSome o
+not_none None k = absurd (k refl)
+not_none (Some x) k = refl
 
-pub unwrap-path-requires : goal.unwrap-path-requires
-unwrap-path-requires c =
-    let found = path_found c.args.self.now c.args.place c.requires.at.0 c.requires.at.1.at c.path_near.result c.path_near.ensures in
-    rw found refl
-
-pub unwrap-position-requires : goal.unwrap-position-requires
-unwrap-position-requires c =
-    let at = c.requires.at.1 in
-    c.position_near.ensures.tracked (at.may.2.told.apart.node_tracked _ at.at.0 at.at.1)
+pub unwrap-requires : goal.unwrap-requires
+unwrap-requires c = not_none c.find.result (λ none.
+    let both : Some c.requires.at.1.at.0 ≡ None = sym c.requires.at.1.at.1 ∙ c.find.ensures.none none in absurd cc)
 
 pub admit-requires : goal.admit-requires
 admit-requires c =
     let self = c.args.self.now in
-    let place = c.unwrap-position.result.place in
-    let same : place ≡ c.args.place = if_some (λ (s : Position). s.place ≡ c.args.place) c.position_near.result
-    c.unwrap-position.result c.unwrap-position.ensures c.position_near.ensures.place in
-    let found = path_found self c.args.place c.requires.at.0 c.requires.at.1.at c.path_near.result c.path_near.ensures in
-    may_admit
-    (moved self c.args.pe c.args.place c.args.value c.requires.at.0 c.unwrap-path.result c.path_near.result found
-    c.unwrap-path.ensures place same c.requires.at.1)
+    let found = c.unwrap.result in
+    let same : found.0.place ≡ c.args.place = if_some (λ (f : Position × Path). f.0.place ≡ c.args.place) c.find.result
+    found c.unwrap.ensures c.find.ensures.place in
+    let at : IsAt self c.args.place found.1 = if_some (λ (f : Position × Path). IsAt self c.args.place f.1) c.find.result
+    found c.unwrap.ensures c.find.ensures.at in
+    may_admit (found_tree c.laws.ensures self c.args.pe c.args.place c.args.value c.requires.at.1.may found at same)
     (subst (λ a. IsUnlocked self (Write c.args.pe a c.args.value)) (sym same) c.requires.unlocked)
     c.live_at-live.result c.core_at-old.result c.core-new.result c.live_at-live.ensures c.core_at-old.ensures
     c.core-new.ensures.value
@@ -41,14 +32,13 @@ pub returns-in-Ok : goal.returns-in-Ok
 returns-in-Ok c =
     let self = c.args.self.now in
     let mid = c.admit.new.self in
-    let place = c.unwrap-position.result.place in
-    let same : place ≡ c.args.place = if_some (λ (s : Position). s.place ≡ c.args.place) c.position_near.result
-    c.unwrap-position.result c.unwrap-position.ensures c.position_near.ensures.place in
-    let found = path_found self c.args.place c.requires.at.0 c.requires.at.1.at c.path_near.result c.path_near.ensures in
-    let m : MayAdmit self c.args.pe place c.args.value c.unwrap-path.result c.core_at-old.result c.core-new.result
-    = may_admit
-    (moved self c.args.pe c.args.place c.args.value c.requires.at.0 c.unwrap-path.result c.path_near.result found
-    c.unwrap-path.ensures place same c.requires.at.1)
+    let found = c.unwrap.result in
+    let same : found.0.place ≡ c.args.place = if_some (λ (f : Position × Path). f.0.place ≡ c.args.place) c.find.result
+    found c.unwrap.ensures c.find.ensures.place in
+    let at : IsAt self c.args.place found.1 = if_some (λ (f : Position × Path). IsAt self c.args.place f.1) c.find.result
+    found c.unwrap.ensures c.find.ensures.at in
+    let m : MayAdmit self c.args.pe found.0.place c.args.value found.1 c.core_at-old.result c.core-new.result
+    = may_admit (found_tree c.laws.ensures self c.args.pe c.args.place c.args.value c.requires.at.1.may found at same)
     (subst (λ a. IsUnlocked self (Write c.args.pe a c.args.value)) (sym same) c.requires.unlocked)
     c.live_at-live.result c.core_at-old.result c.core-new.result c.live_at-live.ensures c.core_at-old.ensures
     c.core-new.ensures.value in
@@ -59,7 +49,7 @@ returns-in-Ok c =
 
 pub returns-in-Err : goal.returns-in-Err
 returns-in-Err c =
-    let same = if_some (λ (s : Position). s.place ≡ c.args.place) c.position_near.result
-    c.unwrap-position.result c.unwrap-position.ensures c.position_near.ensures.place in
+    let same : c.unwrap.result.0.place ≡ c.args.place = if_some (λ (f : Position × Path). f.0.place ≡ c.args.place)
+    c.find.result c.unwrap.result c.unwrap.ensures c.find.ensures.place in
     subst (λ a. Meets c.args.self.now c.admit.new.self (Write c.args.pe a c.args.value) (Err c.in-Err.fault)) same
     c.in-Err.ensures
