@@ -62,8 +62,3 @@ pub record LiesWhole (count : ℕ) (hand : List ℕ) : Type 0 where
   pub no_newline : plain (take count hand) ≡ true
   pub short : count ≤ 200
   pub within : count + 1 ≤ length hand
-
--- a line: the first so many bytes at hand, or where none are counted the bytes kept
-abbrev pub shown : Option ℕ → List ℕ → List ℕ → List ℕ
-shown None hand kept = kept
-shown (Some count) hand kept = take count hand

@@ -5,7 +5,7 @@ ghost use Rattle.std.specs.Prelude.{◌≡◌, ◌+◌, ◌-◌, ◌<◌, ◌≤
 ghost use Rattle.std.specs.Prelude.{false, is_err, Ok, Err};
 ghost use Rattle.bbm_io.specs.Faults.{CountsFaultsIf, Rose};
 ghost use Rattle.bbm_io.specs.Flow.{preceded, plain};
-ghost use Rattle.bbm_io.specs.Reading.{LiesWhole, Reads, Took, reading, shown};
+ghost use Rattle.bbm_io.specs.Reading.{LiesWhole, Reads, Took, reading};
 ghost use Rattle.bbm_io.specs.Byte.{Gave};
 ghost use Rattle.memchr.specs.Find.{IsFirstByte, is_byte};
 
@@ -93,35 +93,6 @@ impl Lines {
         answer
     }
 
-    /// How many bytes the next line has before its newline, where the source has the line whole at hand and
-    /// this reader can take it: at most 200. None says nothing; `next` then reads what there is. Nothing is
-    /// taken.
-    #[inline]
-    pub fn at_hand<S: Source>(&self, src: &S) -> Option<usize>
-        ensures line { IfSome result (λ count. LiesWhole count (S.at_hand src.now)) }
-        ensures room { IfSome result (λ count. self.now.taken + count + 1 ≤ 2 ^ 40) }
-    {
-        let count = line_at_hand(src.ahead())?;
-        if count as u64 + 1 <= LOG_BYTES - self.taken {
-            Some(count)
-        } else {
-            None
-        }
-    }
-
-    /// The bytes of a line, without its newline: the first so many of those that the source has at hand, or,
-    /// where none are counted, those of the last line that was read.
-    #[inline]
-    pub fn shown<'a, S: Source>(&'a self, at_hand: Option<usize>, src: &'a S) -> &'a [u8]
-        requires { IfSome at_hand (λ count. count ≤ length (S.at_hand src.now)) }
-        ensures { result.now ≡ shown at_hand (S.at_hand src.now) self.now.bytes }
-    {
-        match at_hand {
-            Some(count) => &src.ahead()[..count],
-            None => &self.line,
-        }
-    }
-
     /// Takes the next line, which lies whole at hand with so many bytes before its newline, and keeps nothing
     /// of it.
     #[inline]
@@ -151,7 +122,7 @@ impl Lines {
         &self.line
     }
 
-    /// Whether the last line was a fault.
+    /// Whether the last line was a fault; `next` isn't called then.
     pub fn failed(&self) -> bool
         ensures failed { result ≡ self.now.failed }
         ensures taken { self.now.taken ≤ 2 ^ 40 }

@@ -16,13 +16,11 @@ fn letters(alloc: Global, count: usize, text: &str) -> Result<Vec<u8>, AllocErro
 }
 
 #[test]
-fn shows_lines_where_they_lie(rt: HostRuntime) -> Result<(), Fail> {
+fn takes_lines_where_they_lie(rt: HostRuntime) -> Result<(), Fail> {
     let mut source = CleanSource::new(letters(rt.alloc(), 2, "\nb")?);
     let mut lines = Lines::new();
-    let at_hand = lines.at_hand(&source);
-    assert!(rt; lines.shown(at_hand, &source) == b"aa".as_slice());
-    lines.take(at_hand.ok_or("no line at hand")?, &mut source);
-    assert!(rt; lines.at_hand(&source).is_none());
+    lines.take(2, &mut source);
+    assert!(rt; source.ahead() == b"b".as_slice());
     assert!(rt; put(&mut CleanSink::new(), b"abc").is_ok());
     Ok(())
 }
