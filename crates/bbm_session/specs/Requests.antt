@@ -63,6 +63,11 @@ abbrev pub request_of : List (List ℕ) → Option Request
 request_of words = or_else (option_map Judge (command_of words))
     (or_else (request_alone words) (or_else (gen_of words) (selftest_of words)))
 
+-- The words ask for this request, and the source has these bytes left.
+pub record Asked (words : List (List ℕ)) (left : Option (List ℕ)) (request : Request) (bytes : List ℕ) : Type 0 where
+  pub asks : request_of words ≡ Some request
+  pub has : left ≡ Some bytes
+
 -- whether a request reads its input
 abbrev pub reads_input : Request → Bool
 reads_input (Generate n count) = false

@@ -7,14 +7,15 @@ ghost use Rattle.bbm_io.specs.Faults.{Rose};
 ghost use Rattle.bbm_io.specs.Flow.{preceded, extended};
 ghost use Rattle.bbm_rules.specs.Claims.{Patterns};
 ghost use Rattle.bbm_session.specs.Verified.{IsVerified};
-ghost use Rattle.bbm_tlb_machine.specs.Accepted.{SafeBytes};
+ghost use Rattle.bbm_tlb_machine.specs.Accepted.{HoldsOfLog};
+ghost use Rattle.bbm_tlb_machine.specs.Safe.{OneRootATag, Safe};
 ghost use Rattle.bbm_texts.specs.declared.commands.Command.{Command as CommandOf};
 ghost use Rattle.bbm_session.specs.declared.command.Request.{Request as RequestOf};
-ghost use Rattle.bbm_session.specs.declared.command.Request.TheVariants.{Generate, Selftest, Verify};
+ghost use Rattle.bbm_session.specs.declared.command.Request.TheVariants.{Generate, Judge, Selftest, Verify};
 ghost use Rattle.bbm_texts.specs.declared.status.Status.{Status as StatusOf};
-ghost use Rattle.bbm_session.specs.Requests.{FaultAt, IsSomeTextFor, IsTextFor, ReadForAll, WantAt, reads_input};
+ghost use Rattle.bbm_session.specs.Requests.{Asked, FaultAt, IsSomeTextFor, IsTextFor, ReadForAll, WantAt, reads_input};
 ghost use Rattle.bbm_session.specs.Requests.{request_of, status_for, unread_for};
-ghost use Rattle.bbm_session.specs.Run.{command_of, limits_of, tells_verdict};
+ghost use Rattle.bbm_session.specs.Run.{limits_of, tells_verdict};
 ghost use Rattle.bbm_texts.specs.Says.{usage_text};
 ghost use Rattle.bbm_session.specs.Stages.{Shrinks};
 ghost use Rattle.bbm_session.specs.Serving.{Obeys, Serves, streams_of};
@@ -100,24 +101,25 @@ pub fn run<S: Source, K: Sink>(
     // A verdict, or what comes of a run or of a certificate: the status is that of the bytes that were left, the whole
     // text of the request and nothing else is written, and the bytes that it doesn't need stay unread, also where the
     // write fails.
-    ensures status { (request : RequestOf) → request_of (map string_bytes words.now.items) ≡ Some request
-        → (bytes : List ℕ) → S.left log.old ≡ Some bytes → tells_verdict result ≡ true
-        → result ≡ status_for request bytes }
-    ensures text { (request : RequestOf) → request_of (map string_bytes words.now.items) ≡ Some request
-        → (bytes : List ℕ) → S.left log.old ≡ Some bytes → tells_verdict result ≡ true
+    ensures status { (request : RequestOf) (bytes : List ℕ)
+        → Asked (map string_bytes words.now.items) (S.left log.old) request bytes
+        → tells_verdict result ≡ true → result ≡ status_for request bytes }
+    ensures text { (request : RequestOf) (bytes : List ℕ)
+        → Asked (map string_bytes words.now.items) (S.left log.old) request bytes
+        → tells_verdict result ≡ true
         → (text : List ℕ) × IsTextFor request bytes text × (K.held out.new ≡ extended (K.held out.old) text) }
     ensures some_verdict { (request : RequestOf) → request_of (map string_bytes words.now.items) ≡ Some request
         → tells_verdict result ≡ true
         → (text : List ℕ) × IsSomeTextFor request result text × (K.held out.new ≡ extended (K.held out.old) text) }
-    ensures unread { (request : RequestOf) → request_of (map string_bytes words.now.items) ≡ Some request
-        → (bytes : List ℕ) → S.left log.old ≡ Some bytes → tells_verdict result ≡ true
-        → S.left log.new ≡ Some (unread_for request bytes) }
-    ensures read_to_the_line { (request : RequestOf) → request_of (map string_bytes words.now.items) ≡ Some request
-        → (bytes : List ℕ) → S.left log.old ≡ Some bytes → tells_verdict result ≡ true
-        → ReadForAll request bytes (S.left log.new) }
-    ensures accepted_reads_all { (request : RequestOf) → request_of (map string_bytes words.now.items) ≡ Some request
-        → reads_input request ≡ true → (bytes : List ℕ) → S.left log.old ≡ Some bytes → result ≡ Status.Accepted
-        → S.left log.new ≡ Some [] }
+    ensures unread { (request : RequestOf) (bytes : List ℕ)
+        → Asked (map string_bytes words.now.items) (S.left log.old) request bytes
+        → tells_verdict result ≡ true → S.left log.new ≡ Some (unread_for request bytes) }
+    ensures read_to_the_line { (request : RequestOf) (bytes : List ℕ)
+        → Asked (map string_bytes words.now.items) (S.left log.old) request bytes
+        → tells_verdict result ≡ true → ReadForAll request bytes (S.left log.new) }
+    ensures accepted_reads_all { (request : RequestOf) (bytes : List ℕ)
+        → Asked (map string_bytes words.now.items) (S.left log.old) request bytes
+        → reads_input request ≡ true → result ≡ Status.Accepted → S.left log.new ≡ Some [] }
     // A generated log: nothing is read. Where it is written there is no want of memory; where it is judged its events
     // are accepted, with the whole text, or the text was cut by a write that failed, or there was no memory.
     ensures generated_reads_nothing { (request : RequestOf)
@@ -128,17 +130,22 @@ pub fn run<S: Source, K: Sink>(
     ensures selftested { (n : ℕ) (count : ℕ) → request_of (map string_bytes words.now.items) ≡ Some (Selftest n count)
         → (result ≡ Status.Accepted) ⊎ ((result ≡ Status.WriteFault) ⊎ (result ≡ Status.NoMemory)) }
     // The headline: where a log is accepted, no TLB keeps what a write, an init or a register write needs gone, in any
-    // run of the machine of TLBs over the log of its events.
-    ensures no_stale_entry { (command : CommandOf) → command_of (map string_bytes words.now.items) ≡ Some command
-        → (bytes : List ℕ) → S.left log.old ≡ Some bytes → result ≡ Status.Accepted
-        → SafeBytes Patterns (limits_of command) bytes }
+    // run of the machine of TLBs over the log of its events. And at no moment of such a run does a TLB keep an entry
+    // under a tag under which a PE may read through another root.
+    ensures no_stale_entry { (command : CommandOf) (bytes : List ℕ)
+        → Asked (map string_bytes words.now.items) (S.left log.old) (Judge command) bytes
+        → result ≡ Status.Accepted → HoldsOfLog Safe Patterns (limits_of command) bytes }
+    ensures one_root_a_tag { (command : CommandOf) (bytes : List ℕ)
+        → Asked (map string_bytes words.now.items) (S.left log.old) (Judge command) bytes
+        → result ≡ Status.Accepted → HoldsOfLog OneRootATag Patterns (limits_of command) bytes }
     // Where a log is judged by its certificate and accepted, it keeps the rules by the claims of that alone, and no TLB
     // keeps what a write, an init or a register write needs gone, in any run of the machine over it.
-    ensures verified_is_safe { request_of (map string_bytes words.now.items) ≡ Some Verify
-        → (bytes : List ℕ) → S.left log.old ≡ Some bytes → result ≡ Status.Accepted → IsVerified bytes }
-    ensures unread_untold { (request : RequestOf) → request_of (map string_bytes words.now.items) ≡ Some request
-        → (bytes : List ℕ) → S.left log.old ≡ Some bytes → result ≡ Status.WriteFault
-        → S.left log.new ≡ Some (unread_for request bytes) }
+    ensures verified_is_safe { (bytes : List ℕ)
+        → Asked (map string_bytes words.now.items) (S.left log.old) Verify bytes
+        → result ≡ Status.Accepted → IsVerified bytes }
+    ensures unread_untold { (request : RequestOf) (bytes : List ℕ)
+        → Asked (map string_bytes words.now.items) (S.left log.old) request bytes
+        → result ≡ Status.WriteFault → S.left log.new ≡ Some (unread_for request bytes) }
 
     // The faults, by their causes: a fault that happened is told, and so never both.
     ensures read_rose { S.faults log.old < S.faults log.new → result ≡ Status.ReadFault }
@@ -147,8 +154,9 @@ pub fn run<S: Source, K: Sink>(
     ensures write_fault { result ≡ Status.WriteFault → Rose (K.faults out.old) (K.faults out.new) }
     ensures part_of_usage { result ≡ Status.WriteFault → request_of (map string_bytes words.now.items) ≡ None
         → Part usage_text (K.held out.old) (K.held out.new) }
-    ensures part_of_text { (request : RequestOf) → request_of (map string_bytes words.now.items) ≡ Some request
-        → (bytes : List ℕ) → S.left log.old ≡ Some bytes → result ≡ Status.WriteFault
+    ensures part_of_text { (request : RequestOf) (bytes : List ℕ)
+        → Asked (map string_bytes words.now.items) (S.left log.old) request bytes
+        → result ≡ Status.WriteFault
         → (text : List ℕ) × IsTextFor request bytes text × Part text (K.held out.old) (K.held out.new) }
     ensures part_of_some { (request : RequestOf) → request_of (map string_bytes words.now.items) ≡ Some request
         → result ≡ Status.WriteFault → (wanted : StatusOf) × (text : List ℕ)
@@ -160,12 +168,12 @@ pub fn run<S: Source, K: Sink>(
     // next one at most 200 bytes. There is want of memory only at a line that needs memory, or for a run, or a log with
     // its certificate, that was read whole. With `check`, `explain` and `walk` neither a barrier nor a line on a lock
     // needs memory.
-    ensures read_to_fault { (request : RequestOf) → request_of (map string_bytes words.now.items) ≡ Some request
-        → (bytes : List ℕ) → S.left log.old ≡ Some bytes → result ≡ Status.ReadFault
-        → FaultAt request bytes (S.left log.new) }
-    ensures read_to_want { (request : RequestOf) → request_of (map string_bytes words.now.items) ≡ Some request
-        → (bytes : List ℕ) → S.left log.old ≡ Some bytes → result ≡ Status.NoMemory
-        → WantAt request bytes (S.left log.new) }
+    ensures read_to_fault { (request : RequestOf) (bytes : List ℕ)
+        → Asked (map string_bytes words.now.items) (S.left log.old) request bytes
+        → result ≡ Status.ReadFault → FaultAt request bytes (S.left log.new) }
+    ensures read_to_want { (request : RequestOf) (bytes : List ℕ)
+        → Asked (map string_bytes words.now.items) (S.left log.old) request bytes
+        → result ≡ Status.NoMemory → WantAt request bytes (S.left log.new) }
 
     // What is read begins what was left, and is fewer than 2^40 bytes, in every case.
     ensures read { (taken : List ℕ) × (S.left log.old ≡ preceded taken (S.left log.new)) × (length taken < 2 ^ 40) }

@@ -15,8 +15,8 @@ use Rattle.bbm_rules.specs.Outcome.{end_of, outcome_after, outcome_from, step_of
 use Rattle.bbm_rules.specs.declared.limits.Limits.{Limits}
 use Rattle.bbm_rules.specs.declared.verdict.Verdict.{Verdict}
 use Rattle.bbm_rules.specs.declared.verdict.Verdict.TheVariants.{Accepted, Malformed}
-use Rattle.bbm_tlb_machine.specs.Accepted.{SafeBytes}
-use Rattle.bbm_tlb_machine.specs.Safe.{IsLog, Safe}
+use Rattle.bbm_tlb_machine.specs.Accepted.{HoldsOfLog}
+use Rattle.bbm_tlb_machine.specs.Safe.{IsLog}
 
 module _ (laws : LineLaws) (trust : Trust) (limits : Limits) (heading : Heading) where
   -- the events are a log of the header that keeps the rules
@@ -102,7 +102,8 @@ module _ (laws : LineLaws) (trust : Trust) (limits : Limits) (heading : Heading)
       by (GoesOn next) e later = later next (step_good n p line next g e)
 
 module _ (laws : LineLaws) (trust : Trust) (limits : Limits)
-    (safe : (heading : Heading) (log : List Event) → IsLog heading log → keeps heading trust log ≡ true → Safe heading log) where
+    (Says : Heading → List Event → Type 0)
+    (said : (heading : Heading) (log : List Event) → IsLog heading log → keeps heading trust log ≡ true → Says heading log) where
   none_accepted : (rest : List ℕ) (n count : ℕ) → end_of n AtHeader rest ≡ Accepted count → ⊥
   unfolding end_of
   none_accepted rest n count e = by (is_too_long rest) e
@@ -114,7 +115,7 @@ module _ (laws : LineLaws) (trust : Trust) (limits : Limits)
   -- the header is read before anything else
   header_read : (n count : ℕ) (line : List ℕ) (lines : List (List ℕ)) (rest : List ℕ)
       → (outcome_from trust limits n AtHeader (line ∷ lines) rest).verdict ≡ Accepted count
-      → (heading : Heading) × (header_of line ≡ Ok heading) × Safe heading (outcome_from trust limits n AtHeader (line ∷ lines) rest).log
+      → (heading : Heading) × (header_of line ≡ Ok heading) × Says heading (outcome_from trust limits n AtHeader (line ∷ lines) rest).log
   unfolding step_of
   header_read n count line lines rest e = by (is_too_long line) (header_of line) refl e
     where
@@ -122,7 +123,7 @@ module _ (laws : LineLaws) (trust : Trust) (limits : Limits)
           → (outcome_after AtHeader line lines rest (λ next. outcome_from trust limits (suc n) next lines rest)
           (cond b (Decides (too_long_at n AtHeader)) (after_header n r))).verdict ≡ Accepted count
           → (heading : Heading) × (header_of line ≡ Ok heading)
-          × Safe heading (outcome_after AtHeader line lines rest (λ next. outcome_from trust limits (suc n) next lines rest)
+          × Says heading (outcome_after AtHeader line lines rest (λ next. outcome_from trust limits (suc n) next lines rest)
           (cond b (Decides (too_long_at n AtHeader)) (after_header n r))).log
       by true r h e = cc
       by false (Err cause) h e = cc
@@ -133,12 +134,12 @@ module _ (laws : LineLaws) (trust : Trust) (limits : Limits)
           } in
           let all : IsKept laws trust limits heading (outcome_from trust limits (suc n) (AtEvents heading []) lines rest).log
           = log_good laws trust limits heading lines (suc n) (AtEvents heading []) rest (refl, start) in
-          (heading, h, safe heading (outcome_from trust limits (suc n) (AtEvents heading []) lines rest).log all.log all.kept)
+          (heading, h, said heading (outcome_from trust limits (suc n) (AtEvents heading []) lines rest).log all.log all.kept)
 
-  pub accepted_safe : (bytes : List ℕ) (count : ℕ) → verdict_of_bytes trust limits bytes ≡ Accepted count → SafeBytes trust limits bytes
-  accepted_safe bytes count e = by (text_of bytes).lines refl
+  pub accepted_says : (bytes : List ℕ) (count : ℕ) → verdict_of_bytes trust limits bytes ≡ Accepted count → HoldsOfLog Says trust limits bytes
+  accepted_says bytes count e = by (text_of bytes).lines refl
     where
-      by : (lines : List (List ℕ)) → (text_of bytes).lines ≡ lines → SafeBytes trust limits bytes
+      by : (lines : List (List ℕ)) → (text_of bytes).lines ≡ lines → HoldsOfLog Says trust limits bytes
       by [] first =
           absurd (none_accepted (text_of bytes).rest 1 count
           (sym (ap (λ (ls : List (List ℕ)). (outcome_from trust limits 1 AtHeader ls (text_of bytes).rest).verdict) first) ∙ e))
@@ -151,5 +152,5 @@ module _ (laws : LineLaws) (trust : Trust) (limits : Limits)
             lines = lines;
             first = first;
             header = k.1;
-            safe = subst (λ (ls : List (List ℕ)). Safe k.0 (outcome_from trust limits 1 AtHeader ls (text_of bytes).rest).log) (sym first) k.2;
+            says = subst (λ (ls : List (List ℕ)). Says k.0 (outcome_from trust limits 1 AtHeader ls (text_of bytes).rest).log) (sym first) k.2;
           }

@@ -1,20 +1,22 @@
 -- In each run over a log that keeps the rules each entry that is kept is fine; so the log is safe.
 use Rattle.bbm_rules.proofs.Common.{◌≡◌, ℕ, suc, ◌<◌, ◌≤◌, arith, not, ◌&&◌, ◌==◌, nat_lt, Bool, true, false, cond}
-use Rattle.bbm_rules.proofs.Common.{List, [], ◌∷◌, length, Option, Some, None, option_map, find, filter, Contains, refl}
+use Rattle.bbm_rules.proofs.Common.{List, [], ◌∷◌, ◌++◌, length, Option, Some, None, option_map, find, filter, Contains, refl}
 use Rattle.bbm_rules.proofs.Common.{sym, ◌∙◌, ap, subst, inl, inr, true≢false, and_from, and_parts, eq-eqb, ltb-true}
 use Rattle.bbm_rules.proofs.Common.{or_left, or_right, Kind, needs, fits_heading, is_value, Start, Extend, Combine}
 use Rattle.bbm_rules.proofs.Common.{Share, Drop, keeps, Trust, same_tag, noted, ◌>>=◌, any, if_so, page_of, Barrier}
 use Rattle.bbm_rules.proofs.Common.{Reg, Tag, Heading, Event, Init, Write, Dsb, Msr, completes, unanswered, Reading}
 use Rattle.bbm_rules.proofs.Common.{holds_at, holds_tag, itself, reads, readings, Node, held_at, in_tree, node_of}
 use Rattle.bbm_rules.proofs.Common.{pe_finds, contains_cases, contains_head, contains_more, contains_none}
+use Rattle.bbm_rules.specs.Prelude.{World, Hyp, Kernel, AsidFrom, FromTtbr0, FromTtbr1, Ttbr1El1, Ttbr1Tag}
+use Rattle.bbm_rules.specs.Tags.{asid_readings, readings_in, readings_of}
 use Rattle.bbm_rules.specs.declared.rule.Rule.TheVariants.{BreakBeforeMake}
 use Rattle.bbm_tlb_machine.specs.declared.step.Step.{Step}
 use Rattle.bbm_tlb_machine.specs.declared.step.Step.TheVariants.{Machine, Event as Taken}
 use Rattle.bbm_tlb_machine.specs.Entry.{Entry, Part, parts_of, tag_of_entry}
-use Rattle.bbm_tlb_machine.specs.Invariant.{Fine, Holding, Placed, Taken as TakenBy}
+use Rattle.bbm_tlb_machine.specs.Invariant.{Fine, Holding, Placed, Tagged, Taken as TakenBy}
 use Rattle.bbm_tlb_machine.specs.KnownOfMachine.{Known}
 use Rattle.bbm_tlb_machine.specs.MachineRun.{IsRun, Leads, LeavesNone, Living, State, entry_at, with_entry}
-use Rattle.bbm_tlb_machine.specs.Safe.{ComesTo, IsLog, Safe}
+use Rattle.bbm_tlb_machine.specs.Safe.{ComesTo, IsLog, OneRootATag, Safe}
 use Rattle.bbm_tlb_machine.proofs.Descs.{no_need}
 use Rattle.bbm_tlb_machine.proofs.EventSteps.{fine_after}
 use Rattle.bbm_tlb_machine.proofs.Facts.{held_there, held_valid, tag_now}
@@ -135,6 +137,47 @@ module _ (heading : Heading) (trust : Trust) (k : Known heading trust) where
   run_taken steps s log kept run l i =
       taken heading trust k s.log kept l.entry (run_fine steps s log kept run l i)
 
+  -- ---- one root a tag
+
+  -- before any event nothing is readable
+  none_read : (world : World) (pe : ℕ) (r : Reading) → Contains (readings_in world [] pe) r → ⊥
+  none_read (Hyp world) pe r i = contains_none r i
+  none_read (Kernel world) pe r i = by world.asid_from i
+    where
+      by : (from : AsidFrom) → Contains (asid_readings from [] pe ++ readings_of [] pe Ttbr1El1 (λ value. Ttbr1Tag)) r → ⊥
+      by FromTtbr0 i = contains_none r i
+      by FromTtbr1 i = contains_none r i
+
+  read_by : (rs : List Reading) (tag : Tag) (r : Reading) → Contains rs r → r.tag ≡ tag
+      → any (λ (y : Reading). same_tag y.tag tag && y.root == r.root) rs ≡ true
+  read_by [] tag r i e = absurd (contains_none r i)
+  read_by (y ∷ rs) tag r i e =
+      let rest : Contains rs r → any (λ (y : Reading). same_tag y.tag tag && y.root == r.root) rs ≡ true
+      = λ j. read_by rs tag r j e in
+      elim (contains_cases rs y r i) [
+        | inl same ↦ or_left (same_tag y.tag tag && y.root == r.root) (any (λ (y : Reading). same_tag y.tag tag && y.root == r.root) rs)
+            (and_from (same_tag y.tag tag) (y.root == r.root)
+            ((k.equality_tests.tags y.tag tag).1 (ap (λ (z : Reading). z.tag) same ∙ e))
+            (eq-eqb y.root r.root (ap (λ (z : Reading). z.root) same)))
+        | inr j ↦ or_right (same_tag y.tag tag && y.root == r.root) (any (λ (y : Reading). same_tag y.tag tag && y.root == r.root) rs) (rest j)
+      ]
+
+  read_at : (h : List Event) (pe : ℕ) (tag : Tag) (r : Reading) → Contains (readings heading h pe) r → r.tag ≡ tag
+      → holds_at heading trust pe r.root tag h ≡ true
+  read_at [] pe tag r i e = absurd (none_read heading.world pe r i)
+  read_at (y ∷ h) pe tag r i e =
+      or_left (reads heading (y ∷ h) pe tag r.root) _ (read_by (readings heading (y ∷ h) pe) tag r i e)
+
+  -- where a PE reads under the tag of an entry, it reads through the entry's root
+  one_root : (h : List Event) → keeps heading trust h ≡ true → (x : Entry) → Tagged heading trust h x → x.since ≤ length h
+      → (pe : ℕ) → pe < heading.pes → (r : Reading) → Contains (readings heading h pe) r → r.tag ≡ tag_of_entry x
+      → r.root ≡ x.root
+  one_root h kept x tagged made pe is_pe r i e =
+      k.tags.one_root h k.proper kept r.root x.root (tag_of_entry x)
+      (pe_finds heading.pes (λ (p : ℕ). holds_at heading trust p r.root (tag_of_entry x) h) pe is_pe
+      (read_at h pe (tag_of_entry x) r i e))
+      (tag_now heading trust k h kept x tagged made)
+
   -- ---- the clauses of a safe log
 
   module _ (s : State) (x : Entry) (f : Fine heading trust s.log x) where
@@ -178,36 +221,14 @@ module _ (heading : Heading) (trust : Trust) (k : Known heading trust) where
 
     no_other : (pe value : ℕ) (reg : Reg) → pe < heading.pes → keeps heading trust (Msr pe reg value ∷ s.log) ≡ true → (r : Reading)
         → Contains (readings heading (Msr pe reg value ∷ s.log) pe) r → r.tag ≡ tag_of_entry x → r.root ≡ x.root
-    no_other pe value reg is_pe kept r i e =
+    no_other pe value reg is_pe kept =
         let older : keeps heading trust s.log ≡ true = kept_before heading trust (Msr pe reg value ∷ []) s.log kept in
         let none : LeavesIt heading s.log (Msr pe reg value) x = λ q dsb is. absurd (apart q dsb is) in
-        let tagged = tagged_after heading trust k s.log (Msr pe reg value) older x f none in
-        let made : x.since ≤ length (Msr pe reg value ∷ s.log) = omega (arith, f.shape.made) in
-        let mine : holds_tag heading trust x.root (tag_of_entry x) (Msr pe reg value ∷ s.log) ≡ true
-        = tag_now heading trust k (Msr pe reg value ∷ s.log) kept x tagged made in
-        let read : reads heading (Msr pe reg value ∷ s.log) pe (tag_of_entry x) r.root ≡ true
-        = read_by (readings heading (Msr pe reg value ∷ s.log) pe) (tag_of_entry x) r i e in
-        let its : holds_tag heading trust r.root (tag_of_entry x) (Msr pe reg value ∷ s.log) ≡ true
-        = pe_finds heading.pes (λ (p : ℕ). holds_at heading trust p r.root (tag_of_entry x) (Msr pe reg value ∷ s.log)) pe is_pe
-        (or_left (reads heading (Msr pe reg value ∷ s.log) pe (tag_of_entry x) r.root) _ read) in
-        k.tags.one_root (Msr pe reg value ∷ s.log) k.proper kept r.root x.root (tag_of_entry x) its mine
+        one_root (Msr pe reg value ∷ s.log) kept x (tagged_after heading trust k s.log (Msr pe reg value) older x f none)
+        (omega (arith, f.shape.made)) pe is_pe
       where
         apart : (q : ℕ) (dsb : Barrier) → Msr pe reg value ≡ Dsb q dsb → ⊥
         apart q dsb is = cc
-
-        read_by : (rs : List Reading) (tag : Tag) (r : Reading) → Contains rs r → r.tag ≡ tag
-            → any (λ (y : Reading). same_tag y.tag tag && y.root == r.root) rs ≡ true
-        read_by [] tag r i e = absurd (contains_none r i)
-        read_by (y ∷ rs) tag r i e =
-            let rest : Contains rs r → any (λ (y : Reading). same_tag y.tag tag && y.root == r.root) rs ≡ true
-            = λ j. read_by rs tag r j e in
-            elim (contains_cases rs y r i) [
-              | inl same ↦ or_left (same_tag y.tag tag && y.root == r.root) (any (λ (y : Reading). same_tag y.tag tag && y.root == r.root) rs)
-                  (and_from (same_tag y.tag tag) (y.root == r.root)
-                  ((k.equality_tests.tags y.tag tag).1 (ap (λ (z : Reading). z.tag) same ∙ e))
-                  (eq-eqb y.root r.root (ap (λ (z : Reading). z.root) same)))
-              | inr j ↦ or_right (same_tag y.tag tag && y.root == r.root) (any (λ (y : Reading). same_tag y.tag tag && y.root == r.root) rs) (rest j)
-            ]
 
   -- the log up to an event of a run is a log that keeps the rules
   module _ (log : List Event) (is_log : IsLog heading log) (kept : keeps heading trust log ≡ true) (s : State) (e : Event)
@@ -235,4 +256,17 @@ module _ (heading : Heading) (trust : Trust) (k : Known heading trust) where
         (ltb-true pe heading.pes (and_parts (nat_lt pe heading.pes) (is_value value)
         (log_to log is_log kept s (Msr pe reg value) c (Msr pe reg value) (contains_head s.log (Msr pe reg value)))).0)
         (kept_to log is_log kept s (Msr pe reg value) c) r j e;
+  }
+
+  pub one_root_log : (log : List Event) → IsLog heading log → keeps heading trust log ≡ true → OneRootATag heading log
+  one_root_log log is_log kept = record {
+    one_root = λ steps s later run split l i pe is_pe r j e.
+        let kept' : keeps heading trust s.log ≡ true
+        = kept_before heading trust later s.log (subst (λ (es : List Event). keeps heading trust es ≡ true) split kept) in
+        let log' : IsLog heading s.log = record {
+          header = is_log.header;
+          events = λ y m. is_log.events y (subst (λ (es : List Event). Contains es y) (sym split) (contains_after later s.log y m));
+        } in
+        let f = run_fine steps s log' kept' run l i in
+        one_root s.log kept' l.entry f.tagged f.shape.made pe is_pe r j e;
   }

@@ -7,7 +7,7 @@ use Rattle.bbm_rules.specs.Prelude.{Heading, Event}
 use Rattle.bbm_tlb_machine.specs.First.{IsFirstBad, IsFirstConflict}
 use Rattle.bbm_tlb_machine.specs.Invariant.{Fine, Taken}
 use Rattle.bbm_tlb_machine.specs.MachineRun.{IsRun, Leads, Living, State, follow_steps, step_to}
-use Rattle.bbm_tlb_machine.specs.Safe.{ComesTo, IsLog, Safe, first_conflict, in_conflict}
+use Rattle.bbm_tlb_machine.specs.Safe.{ComesTo, IsLog, OneRootATag, Safe, first_conflict, in_conflict}
 use Rattle.bbm_tlb_machine.specs.declared.step.Step.{Step}
 use Rattle.bbm_tlb_machine.specs.declared.step.Step.TheVariants.{Event as EventStep}
 
@@ -44,3 +44,7 @@ module _ (heading : Heading) (trust : Trust) where
   -- every log that keeps the rules is safe
   abbrev pub KeptIsSafe : Type 0
   KeptIsSafe = (log : List Event) → IsLog heading log → keeps heading trust log ≡ true → Safe heading log
+
+  -- in every log that keeps the rules there is one root a tag
+  abbrev pub KeptHasOneRoot : Type 0
+  KeptHasOneRoot = (log : List Event) → IsLog heading log → keeps heading trust log ≡ true → OneRootATag heading log

@@ -1,7 +1,7 @@
 -- Safe logs: no TLB keeps what a write, an init or a new root needs gone. Lists are newest first.
 -- Source: Arm ARM (DDI 0487), "Using break-before-make when updating translation table entries" and "Translation
 -- Lookaside Buffers"; what counts as a conflict is the project's own choice.
-use Rattle.std.specs.Prelude.{◌≡◌, ℕ, Bool, true, false, ◌&&◌, not, ◌==◌, List, [], ◌∷◌, ◌++◌, length, Option, Some}
+use Rattle.std.specs.Prelude.{◌≡◌, ◌<◌, ℕ, Bool, true, false, ◌&&◌, not, ◌==◌, List, [], ◌∷◌, ◌++◌, length, Option, Some}
 use Rattle.std.specs.Prelude.{None, Result, Ok, Contains}
 use Rattle.bbm_descriptor.specs.Descriptor.{needs}
 use Rattle.bbm_events.specs.Fits.{fits_heading}
@@ -43,7 +43,14 @@ pub record Safe (heading : Heading) (log : List Event) : Type 0 where
       → (l : Living) → Contains s.living l → (r : Reading) → Contains (readings heading (Msr pe reg value ∷ s.log) pe) r
       → r.tag ≡ tag_of_entry l.entry → r.root ≡ l.entry.root
 
--- The same, computed. `law_conflict` says so.
+-- One root a tag: at every moment of each run over the first events of the log, where a PE may read under the tag of an
+-- entry that some TLB keeps, it reads through the entry's root.
+pub record OneRootATag (heading : Heading) (log : List Event) : Type 0 where
+  pub one_root : (steps : List Step) (s : State) (later : List Event) → IsRun heading steps s → log ≡ later ++ s.log
+      → (l : Living) → Contains s.living l → (pe : ℕ) → pe < heading.pes
+      → (r : Reading) → Contains (readings heading s.log pe) r → r.tag ≡ tag_of_entry l.entry → r.root ≡ l.entry.root
+
+-- Safe, computed. `law_conflict` says so.
 
 abbrev pub is_stale : ℕ → ℕ → Part → Bool
 is_stale place value part = part.place == place && needs part.kind part.level part.value value

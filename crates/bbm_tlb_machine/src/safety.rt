@@ -6,9 +6,10 @@ ghost use Rattle.bbm_rules.specs.Claims.{Trust};
 ghost use Rattle.bbm_rules.specs.Outcome.{verdict_of_bytes};
 ghost use Rattle.bbm_rules.specs.declared.limits.Limits.{Limits};
 ghost use Rattle.bbm_rules.specs.declared.verdict.Verdict.TheVariants.{Accepted};
-ghost use Rattle.bbm_tlb_machine.specs.Accepted.{SafeBytes};
+ghost use Rattle.bbm_tlb_machine.specs.Accepted.{HoldsOfLog};
 ghost use Rattle.bbm_tlb_machine.specs.KnownOfMachine.{Known};
-ghost use Rattle.bbm_tlb_machine.specs.MachineLaws.{EntriesAreFine, KeptIsSafe};
+ghost use Rattle.bbm_tlb_machine.specs.MachineLaws.{EntriesAreFine, KeptHasOneRoot, KeptIsSafe};
+ghost use Rattle.bbm_tlb_machine.specs.Safe.{OneRootATag, Safe};
 
 use bbm_descriptor::laws::{law_need, law_same_core_is_equal};
 use bbm_events::{law_header_in_range, law_item_fits};
@@ -76,13 +77,26 @@ pub fn law_safe()
     known();
 }
 
+/// In each run over the first events of a log that keeps the rules, at every moment, where a PE may read under the tag
+/// of an entry that some TLB keeps, it reads through the entry's root. So no TLB of a PE keeps an entry under a tag that
+/// is readable at that PE for another root. A log has a header that can be said, and each event fits it. The law is
+/// `KeptHasOneRoot`.
+pub fn law_one_root_a_tag()
+    ensures { (heading : Heading) (trust : Trust) → KeptHasOneRoot heading trust }
+{
+    known();
+}
+
 /// Where the verdict on bytes is that they are accepted, their first line is a header, and the log of all their events
-/// is safe under it. The law is the contract.
+/// is safe under it and has one root a tag. The law is the contract.
 pub fn law_accepted_is_safe()
-    ensures { (trust : Trust) (limits : Limits) (bytes : List ℕ) (count : ℕ) →
-        verdict_of_bytes trust limits bytes ≡ Accepted count → SafeBytes trust limits bytes }
+    ensures safe { (trust : Trust) (limits : Limits) (bytes : List ℕ) (count : ℕ) →
+        verdict_of_bytes trust limits bytes ≡ Accepted count → HoldsOfLog Safe trust limits bytes }
+    ensures one_root { (trust : Trust) (limits : Limits) (bytes : List ℕ) (count : ℕ) →
+        verdict_of_bytes trust limits bytes ≡ Accepted count → HoldsOfLog OneRootATag trust limits bytes }
 {
     law_header_in_range();
     law_item_fits();
+    law_one_root_a_tag();
     law_safe();
 }

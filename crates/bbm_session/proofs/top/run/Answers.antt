@@ -10,16 +10,16 @@ use Rattle.bbm_session.proofs.Served.{served-verified, served-want}
 use Rattle.bbm_session.proofs.top.run.Goals as goal
 
 pub returns-in-Some-clause-status : goal.returns-in-Some-clause-status
-returns-in-Some-clause-status g c = λ request says bytes left tells.
+returns-in-Some-clause-status g c = λ request bytes asked tells.
     let same : c.in-Some.request ≡ request = cc in
     let serves = served-as _ _ _ _ same c.serve.ensures.serves in
-    served-status _ _ bytes left request serves tells
+    served-status _ _ bytes asked.has request serves tells
 
 pub returns-in-Some-clause-text : goal.returns-in-Some-clause-text
-returns-in-Some-clause-text g c = λ request says bytes left tells.
+returns-in-Some-clause-text g c = λ request bytes asked tells.
     let same : c.in-Some.request ≡ request = cc in
     let serves = served-as _ _ _ _ same c.serve.ensures.serves in
-    served-text _ _ bytes left c.law_item_fits.ensures request serves tells
+    served-text _ _ bytes asked.has c.law_item_fits.ensures request serves tells
 
 pub returns-in-Some-clause-some_verdict : goal.returns-in-Some-clause-some_verdict
 returns-in-Some-clause-some_verdict g c = λ request says tells.
@@ -28,22 +28,22 @@ returns-in-Some-clause-some_verdict g c = λ request says tells.
     served-some _ _ request serves tells
 
 pub returns-in-Some-clause-unread : goal.returns-in-Some-clause-unread
-returns-in-Some-clause-unread g c = λ request says bytes left tells.
+returns-in-Some-clause-unread g c = λ request bytes asked tells.
     let same : c.in-Some.request ≡ request = cc in
     let serves = served-as _ _ _ _ same c.serve.ensures.serves in
-    served-unread _ _ bytes left request serves tells
+    served-unread _ _ bytes asked.has request serves tells
 
 pub returns-in-Some-clause-read_to_the_line : goal.returns-in-Some-clause-read_to_the_line
-returns-in-Some-clause-read_to_the_line g c = λ request says bytes left tells.
+returns-in-Some-clause-read_to_the_line g c = λ request bytes asked tells.
     let same : c.in-Some.request ≡ request = cc in
     let serves = served-as _ _ _ _ same c.serve.ensures.serves in
-    served-read _ _ bytes left request serves tells
+    served-read _ _ bytes asked.has request serves tells
 
 pub returns-in-Some-clause-accepted_reads_all : goal.returns-in-Some-clause-accepted_reads_all
-returns-in-Some-clause-accepted_reads_all g c = λ request says reads bytes left accepted.
+returns-in-Some-clause-accepted_reads_all g c = λ request bytes asked reads accepted.
     let same : c.in-Some.request ≡ request = cc in
     let serves = served-as _ _ _ _ same c.serve.ensures.serves in
-    served-accepted _ _ bytes left request serves reads accepted
+    served-accepted _ _ bytes asked.has request serves reads accepted
 
 pub returns-in-Some-clause-generated_reads_nothing : goal.returns-in-Some-clause-generated_reads_nothing
 returns-in-Some-clause-generated_reads_nothing g c = λ request says reads.
@@ -64,33 +64,37 @@ returns-in-Some-clause-selftested g c = λ n count says.
     served-selftested _ _ n count serves
 
 pub returns-in-Some-clause-no_stale_entry : goal.returns-in-Some-clause-no_stale_entry
-returns-in-Some-clause-no_stale_entry g c = λ command says bytes left accepted.
-    let words = map string_bytes c.args.words.now.items in
-    let asked = ap (λ (o : Option Command). or_else (option_map Judge o) (or_else (requests.request_alone words)
-    (or_else (requests.gen_of words) (requests.selftest_of words)))) says in
+returns-in-Some-clause-no_stale_entry g c = λ command bytes asked accepted.
     let same : c.in-Some.request ≡ Judge command = cc in
     let serves = served-as _ _ _ _ same c.serve.ensures.serves in
-    let accepts = served-accepts _ _ bytes left command serves accepted in
-    c.law_accepted_is_safe.ensures Patterns _ bytes accepts.0 accepts.1
+    let accepts = served-accepts _ _ bytes asked.has command serves accepted in
+    c.law_accepted_is_safe.ensures.safe Patterns _ bytes accepts.0 accepts.1
+
+pub returns-in-Some-clause-one_root_a_tag : goal.returns-in-Some-clause-one_root_a_tag
+returns-in-Some-clause-one_root_a_tag g c = λ command bytes asked accepted.
+    let same : c.in-Some.request ≡ Judge command = cc in
+    let serves = served-as _ _ _ _ same c.serve.ensures.serves in
+    let accepts = served-accepts _ _ bytes asked.has command serves accepted in
+    c.law_accepted_is_safe.ensures.one_root Patterns _ bytes accepts.0 accepts.1
 
 pub returns-in-Some-clause-verified_is_safe : goal.returns-in-Some-clause-verified_is_safe
-returns-in-Some-clause-verified_is_safe g c = λ says bytes left accepted.
+returns-in-Some-clause-verified_is_safe g c = λ bytes asked accepted.
     let same : c.in-Some.request ≡ Verify = cc in
     let serves = served-as _ _ _ _ same c.serve.ensures.serves in
-    let k = served-verified _ _ bytes left serves accepted in
+    let k = served-verified _ _ bytes asked.has serves accepted in
     c.law_verified_is_safe.ensures bytes k.0 k.2 k.1 k.3 k.4
 
 pub returns-in-Some-clause-unread_untold : goal.returns-in-Some-clause-unread_untold
-returns-in-Some-clause-unread_untold g c = λ request says bytes left cuts.
+returns-in-Some-clause-unread_untold g c = λ request bytes asked cuts.
     let same : c.in-Some.request ≡ request = cc in
     let serves = served-as _ _ _ _ same c.serve.ensures.serves in
-    served-untold _ _ bytes left request serves cuts
+    served-untold _ _ bytes asked.has request serves cuts
 
 pub returns-in-Some-clause-part_of_text : goal.returns-in-Some-clause-part_of_text
-returns-in-Some-clause-part_of_text g c = λ request says bytes left cuts.
+returns-in-Some-clause-part_of_text g c = λ request bytes asked cuts.
     let same : c.in-Some.request ≡ request = cc in
     let serves = served-as _ _ _ _ same c.serve.ensures.serves in
-    served-part _ _ bytes left c.law_item_fits.ensures request serves cuts
+    served-part _ _ bytes asked.has c.law_item_fits.ensures request serves cuts
 
 pub returns-in-Some-clause-part_of_some : goal.returns-in-Some-clause-part_of_some
 returns-in-Some-clause-part_of_some g c = λ request says cuts.
@@ -99,13 +103,13 @@ returns-in-Some-clause-part_of_some g c = λ request says cuts.
     served-part_of_some _ _ request serves cuts
 
 pub returns-in-Some-clause-read_to_fault : goal.returns-in-Some-clause-read_to_fault
-returns-in-Some-clause-read_to_fault g c = λ request says bytes left fault.
+returns-in-Some-clause-read_to_fault g c = λ request bytes asked fault.
     let same : c.in-Some.request ≡ request = cc in
     let serves = served-as _ _ _ _ same c.serve.ensures.serves in
-    served-fault _ _ bytes left request serves fault
+    served-fault _ _ bytes asked.has request serves fault
 
 pub returns-in-Some-clause-read_to_want : goal.returns-in-Some-clause-read_to_want
-returns-in-Some-clause-read_to_want g c = λ request says bytes left want.
+returns-in-Some-clause-read_to_want g c = λ request bytes asked want.
     let same : c.in-Some.request ≡ request = cc in
     let serves = served-as _ _ _ _ same c.serve.ensures.serves in
-    served-want _ _ bytes left request serves want
+    served-want _ _ bytes asked.has request serves want
