@@ -24,10 +24,10 @@ use Rattle.bbm_rules.specs.Outcome.{text_of, is_too_long, unread_after}
 use Rattle.bbm_certificate.specs.declared.kept.Kept.{Kept}
 use Rattle.bbm_certificate.specs.declared.kept.Part.{Part}
 use Rattle.bbm_certificate.specs.declared.kept.Part.TheVariants as part
-use Rattle.bbm_certificate.specs.declared.turn.LineFault.{LineFault}
-use Rattle.bbm_certificate.specs.declared.turn.LineFault.TheVariants.{Decided, NoMemory}
-use Rattle.bbm_certificate.specs.declared.turn.Turn.{Turn}
-use Rattle.bbm_certificate.specs.declared.turn.Turn.TheVariants as turn
+use Rattle.bbm_log_grammar.specs.declared.turn.LineFault.{LineFault}
+use Rattle.bbm_log_grammar.specs.declared.turn.LineFault.TheVariants as fault
+use Rattle.bbm_log_grammar.specs.declared.turn.Turn.{Turn}
+use Rattle.bbm_log_grammar.specs.declared.turn.Turn.TheVariants as turn
 
 -- the most events of a log that has a certificate
 abbrev pub event_limit : ℕ
@@ -193,10 +193,11 @@ is_kept (AtEvents heading h) (GoesOn (AtEvents heading' h')) = true
 is_kept (AtClaims heading h cs) (GoesOn (AtClaims heading' h' cs')) = true
 is_kept _ _ = false
 
--- What a line behind the header says, by how far the lines before it are read, and with it: it was taken; or it is the
+-- What line number n, behind the header, says, by how far the lines before it are read, and with it: it was taken; or it is the
 -- end of the certificate; or reading stops. There may be no memory for an event or a claim alone.
-abbrev pub TakesLine : Reached → Reached → Result Turn LineFault → Turned → Type 0
-TakesLine old new (Ok turn.Taken) turned = turned ≡ GoesOn new
-TakesLine old new (Ok turn.End) turned = EndsAt old turned × (new ≡ old)
-TakesLine old new (Err (Decided verdict)) turned = turned ≡ Stops verdict
-TakesLine old new (Err NoMemory) turned = is_kept old turned ≡ true
+abbrev pub TakesLine : ℕ → Reached → Reached → Result Turn LineFault → Turned → Type 0
+TakesLine number old new (Ok turn.Taken) turned = turned ≡ GoesOn new
+TakesLine number old new (Ok turn.End) turned = EndsAt old turned × (new ≡ old)
+TakesLine number old new (Err (fault.Malformed cause)) turned = turned ≡ Stops (Malformed number cause)
+TakesLine number old new (Err (fault.Limit which)) turned = turned ≡ Stops (Limit number which)
+TakesLine number old new (Err fault.NoMemory) turned = is_kept old turned ≡ true

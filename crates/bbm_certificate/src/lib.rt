@@ -6,10 +6,8 @@ pub mod judging;
 pub mod kept;
 pub mod laws;
 mod taking;
-pub mod turn;
 
 pub use judging::judge_kept;
 pub use kept::{Kept, Part};
 pub use laws::law_read_whole;
 pub use taking::take_line;
-pub use turn::{LineFault, Turn};

@@ -1,6 +1,6 @@
 //! A line of a log or of its certificate, taken.
 
-ghost use Rattle.std.specs.Prelude.{◌≡◌, suc, List, [], Ok, reverse};
+ghost use Rattle.std.specs.Prelude.{◌≡◌, ℕ, suc, List, [], Ok, reverse};
 ghost use Rattle.bbm_events.specs.Heading.{Heading};
 ghost use Rattle.bbm_events.specs.declared.event.Event.{Event as TheEvent};
 ghost use Rattle.bbm_certificate.specs.CertificateReading.{AtClaims, AtEvents, TakesLine, after_claim};
@@ -11,13 +11,11 @@ ghost use Rattle.bbm_certificate.specs.CertificateReading.{kept_at};
 ghost use Rattle.bbm_certificate.specs.CertificateReading.{next_number};
 
 use crate::kept::{Kept, Part};
-use crate::turn::{LineFault, Turn};
 use bbm_events::{
     Claim, ClaimItem, Event, Header, Item, Malformed, law_header_in_range, law_item_fits,
 };
-use bbm_log_grammar::{read_certificate_line, read_claim, read_event};
+use bbm_log_grammar::{LineFault, Turn, read_certificate_line, read_claim, read_event};
 use bbm_regimes::Which;
-use bbm_rules::Verdict;
 
 /// The most events of a log that has a certificate.
 const EVENTS: usize = 2000;
@@ -25,28 +23,14 @@ const EVENTS: usize = 2000;
 /// The most claims of a certificate.
 const CLAIMS: usize = 300_000;
 
-/// That a line is malformed.
-fn malformed(line: u64, cause: Malformed) -> LineFault
-    ensures { result ≡ LineFault.Decided (Verdict.Malformed line cause) }
-{
-    LineFault::Decided(Verdict::Malformed { line, cause })
-}
-
-/// That a line reaches a limit.
-fn too_many(line: u64, which: Which) -> LineFault
-    ensures { result ≡ LineFault.Decided (Verdict.Limit line which) }
-{
-    LineFault::Decided(Verdict::Limit { line, which })
-}
-
 /// One more event.
-fn take_event(number: u64, events: &mut Vec<Event>, event: Event) -> Result<Turn, LineFault>
-    ensures says { (heading : Heading) → TakesLine (AtEvents heading (reverse events.old.items))
+fn take_event(events: &mut Vec<Event>, event: Event) -> Result<Turn, LineFault>
+    ensures says { (number : ℕ) (heading : Heading) → TakesLine number (AtEvents heading (reverse events.old.items))
         (AtEvents heading (reverse events.new.items)) result
         (after_event number heading (reverse events.old.items) event) }
 {
     if events.len() >= EVENTS {
-        return Err(too_many(number, Which::Events));
+        return Err(LineFault::Limit(Which::Events));
     }
     match events.push(event) {
         Ok(()) => Ok(Turn::Taken),
@@ -55,32 +39,32 @@ fn take_event(number: u64, events: &mut Vec<Event>, event: Event) -> Result<Turn
 }
 
 /// What a line of the log decides, by what was read of it. A label says nothing here.
-fn take_item(number: u64, kept: &mut Kept, read: Result<Item, Malformed>) -> Result<Turn, LineFault>
+fn take_item(kept: &mut Kept, read: Result<Item, Malformed>) -> Result<Turn, LineFault>
     requires { kept.old.part ≡ Part.Events }
-    ensures says { (heading : Heading) → TakesLine (kept_at heading kept.old) (kept_at heading kept.new) result
-        (after_item number heading (reverse kept.old.events.items) read) }
+    ensures says { (number : ℕ) (heading : Heading) → TakesLine number (kept_at heading kept.old)
+        (kept_at heading kept.new) result (after_item number heading (reverse kept.old.events.items) read) }
     ensures listed { claims_by kept.new.part kept.new.claims.items ≡ [] }
     ensures claims { kept.new.claims.items ≡ kept.old.claims.items }
 {
     match read {
-        Ok(Item::Event(event, _)) => take_event(number, &mut kept.events, event),
+        Ok(Item::Event(event, _)) => take_event(&mut kept.events, event),
         Ok(Item::End(count)) => {
             if count as usize == kept.events.len() {
                 kept.part = Part::BehindLog;
                 Ok(Turn::Taken)
             } else {
-                Err(malformed(number, Malformed::WrongCount))
+                Err(LineFault::Malformed(Malformed::WrongCount))
             }
         }
-        Err(cause) => Err(malformed(number, cause)),
+        Err(cause) => Err(LineFault::Malformed(cause)),
     }
 }
 
 /// What the line right behind the log decides, by what was read of it.
-fn take_first(number: u64, kept: &mut Kept, read: Result<(), Malformed>) -> Result<Turn, LineFault>
+fn take_first(kept: &mut Kept, read: Result<(), Malformed>) -> Result<Turn, LineFault>
     requires { kept.old.part ≡ Part.BehindLog }
-    ensures says { (heading : Heading) → TakesLine (kept_at heading kept.old) (kept_at heading kept.new) result
-        (after_first number heading (reverse kept.old.events.items) read) }
+    ensures says { (number : ℕ) (heading : Heading) → TakesLine number (kept_at heading kept.old)
+        (kept_at heading kept.new) result (after_first number heading (reverse kept.old.events.items) read) }
     ensures listed { claims_by kept.old.part kept.old.claims.items ≡ kept.old.claims.items
         → claims_by kept.new.part kept.new.claims.items ≡ kept.new.claims.items }
 {
@@ -90,17 +74,18 @@ fn take_first(number: u64, kept: &mut Kept, read: Result<(), Malformed>) -> Resu
             kept.claims.clear();
             Ok(Turn::Taken)
         }
-        Err(cause) => Err(malformed(number, cause)),
+        Err(cause) => Err(LineFault::Malformed(cause)),
     }
 }
 
 /// One more claim.
-fn take_claim(number: u64, claims: &mut Vec<Claim>, claim: Claim) -> Result<Turn, LineFault>
-    ensures says { (heading : Heading) (h : List TheEvent) → TakesLine (AtClaims heading h claims.old.items)
-        (AtClaims heading h claims.new.items) result (after_claim number heading h claims.old.items claim) }
+fn take_claim(claims: &mut Vec<Claim>, claim: Claim) -> Result<Turn, LineFault>
+    ensures says { (number : ℕ) (heading : Heading) (h : List TheEvent)
+        → TakesLine number (AtClaims heading h claims.old.items) (AtClaims heading h claims.new.items) result
+        (after_claim number heading h claims.old.items claim) }
 {
     if claims.len() >= CLAIMS {
-        return Err(too_many(number, Which::Claims));
+        return Err(LineFault::Limit(Which::Claims));
     }
     match claims.push(claim) {
         Ok(()) => Ok(Turn::Taken),
@@ -109,57 +94,49 @@ fn take_claim(number: u64, claims: &mut Vec<Claim>, claim: Claim) -> Result<Turn
 }
 
 /// What a line of the certificate behind its first decides, by what was read of it.
-fn take_claim_item(
-    number: u64,
-    kept: &mut Kept,
-    read: Result<ClaimItem, Malformed>,
-) -> Result<Turn, LineFault>
+fn take_claim_item(kept: &mut Kept, read: Result<ClaimItem, Malformed>) -> Result<Turn, LineFault>
     requires { kept.old.part ≡ Part.Claims }
-    ensures says { (heading : Heading) → TakesLine (kept_at heading kept.old) (kept_at heading kept.new) result
+    ensures says { (number : ℕ) (heading : Heading) → TakesLine number (kept_at heading kept.old)
+        (kept_at heading kept.new) result
         (after_claim_item number heading (reverse kept.old.events.items) kept.old.claims.items read) }
     ensures listed { claims_by kept.new.part kept.new.claims.items ≡ kept.new.claims.items }
 {
     match read {
-        Ok(ClaimItem::Claim(claim)) => take_claim(number, &mut kept.claims, claim),
+        Ok(ClaimItem::Claim(claim)) => take_claim(&mut kept.claims, claim),
         Ok(ClaimItem::End(count)) => {
             if count as usize == kept.claims.len() {
                 Ok(Turn::End)
             } else {
-                Err(malformed(number, Malformed::WrongCount))
+                Err(LineFault::Malformed(Malformed::WrongCount))
             }
         }
-        Err(cause) => Err(malformed(number, cause)),
+        Err(cause) => Err(LineFault::Malformed(cause)),
     }
 }
 
 /// Takes a line by the part of the text that it belongs to.
-fn take_part(number: u64, header: &Header, kept: &mut Kept, line: &[u8]) -> Result<Turn, LineFault>
-    ensures says { TakesLine (kept_at header.now kept.old) (kept_at header.now kept.new) result
+fn take_part(header: &Header, kept: &mut Kept, line: &[u8]) -> Result<Turn, LineFault>
+    ensures says { (number : ℕ) → TakesLine number (kept_at header.now kept.old) (kept_at header.now kept.new) result
         (after_line number (kept_at header.now kept.old) line.now) }
     ensures listed { claims_by kept.old.part kept.old.claims.items ≡ kept.old.claims.items
         → claims_by kept.new.part kept.new.claims.items ≡ kept.new.claims.items }
 {
     match kept.part {
-        Part::Events => take_item(number, kept, read_event(header, line)),
-        Part::BehindLog => take_first(number, kept, read_certificate_line(line)),
-        Part::Claims => take_claim_item(number, kept, read_claim(header, line)),
+        Part::Events => take_item(kept, read_event(header, line)),
+        Part::BehindLog => take_first(kept, read_certificate_line(line)),
+        Part::Claims => take_claim_item(kept, read_claim(header, line)),
     }
 }
 
-/// Takes line `number`, of at most 200 bytes and without its newline, that stands behind the header of a log and before
+/// Takes a line of at most 200 bytes and without its newline, that stands behind the header of a log and before
 /// the end of its certificate. `kept` is what is kept of the lines before it. `Taken`: the line is an event or the end
 /// of the log, with the right count of its events, or the first line or a claim of the certificate, and `kept` goes on
 /// behind it. `End`: the line is the end of the certificate, with the right count of its claims, and `kept` is as
-/// before. `Decided`: the line is malformed, by the first cause, or is an event behind 2,000 others or a claim behind
-/// 300,000 others. `NoMemory`: the line is an event or a claim, for which there was none. Labels say nothing here, and
+/// before. `Malformed`: by the first cause. `Limit`: the line is an event behind 2,000 others or a claim behind 300,000
+/// others. `NoMemory`: the line is an event or a claim, for which there was none. Labels say nothing here, and
 /// no event is judged.
-pub fn take_line(
-    number: u64,
-    header: &Header,
-    kept: &mut Kept,
-    line: &[u8],
-) -> Result<Turn, LineFault>
-    ensures says { TakesLine (kept_at header.now kept.old) (kept_at header.now kept.new) result
+pub fn take_line(header: &Header, kept: &mut Kept, line: &[u8]) -> Result<Turn, LineFault>
+    ensures says { (number : ℕ) → TakesLine number (kept_at header.now kept.old) (kept_at header.now kept.new) result
         (after_line number (kept_at header.now kept.old) line.now) }
     ensures sound { result ≡ Ok Turn.Taken → IsSound (kept_at header.now kept.old)
         → IsSound (kept_at header.now kept.new) }
@@ -170,5 +147,5 @@ pub fn take_line(
 {
     law_header_in_range();
     law_item_fits();
-    take_part(number, header, kept, line)
+    take_part(header, kept, line)
 }

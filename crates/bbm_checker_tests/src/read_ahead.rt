@@ -2,7 +2,7 @@
 
 use bbm_events::{Event, Header, Item};
 use bbm_log_grammar::{
-    Dsbs, Front, Isbs, Others, Tlbis, Writes, line_ahead, read_event, read_header,
+    ByWord, Dsbs, Front, Isbs, Tlbis, Writes, line_ahead, read_event, read_header,
 };
 use std::test::Fail;
 
@@ -59,7 +59,7 @@ fn a_line_of_each_event_is_read_at_once(rt: HostRuntime) -> Result<(), Fail> {
             || is_read_ahead::<Dsbs>(&header, &bytes)
             || is_read_ahead::<Tlbis>(&header, &bytes)
             || is_read_ahead::<Isbs>(&header, &bytes);
-        assert!(rt; usual || is_read_ahead::<Others>(&header, &bytes));
+        assert!(rt; usual || is_read_ahead::<ByWord>(&header, &bytes));
     }
     Ok(())
 }

@@ -2,9 +2,8 @@
 
 use arrayvec::ArrayVec;
 use bbm_events::{Header, Malformed};
-use bbm_follow::{Followed, LineFault, Turn, follow_run, followed_text, take_line};
-use bbm_log_grammar::read_header;
-use bbm_rules::Verdict;
+use bbm_follow::{Followed, follow_run, followed_text, take_line};
+use bbm_log_grammar::{LineFault, Turn, read_header};
 use bbm_tlb_machine::{Step, follow};
 use std::alloc::Global;
 
@@ -22,8 +21,8 @@ const RUN: [&[u8]; 6] = [
 fn steps_of(alloc: Global, header: &Header, lines: &[&[u8]]) -> Option<Vec<Step>> {
     let mut steps = Vec::new(alloc);
     for line in lines {
-        match take_line(7, header, &mut steps, line) {
-            Ok(Turn::Step) => {}
+        match take_line(header, &mut steps, line) {
+            Ok(Turn::Taken) => {}
             _ => return None,
         }
     }
@@ -64,16 +63,15 @@ fn a_run_ends_in_a_conflict(rt: HostRuntime) {
 fn other_turns(alloc: Global) -> Option<[Result<Turn, LineFault>; 2]> {
     let header = read_header(b"bbmlog 1 hyp 2 1 1 1").ok()?;
     let mut steps = Vec::new(alloc);
-    let end = take_line(7, &header, &mut steps, b"end 0");
-    Some([end, take_line(7, &header, &mut steps, b"m nop 1")])
+    let end = take_line(&header, &mut steps, b"end 0");
+    Some([end, take_line(&header, &mut steps, b"m nop 1")])
 }
 
 #[test]
 fn a_line_may_end_the_run_or_be_none(rt: HostRuntime) {
-    let malformed = Verdict::Malformed {
-        line: 7,
-        cause: Malformed::UnknownWord,
-    };
-    let turns = [Ok(Turn::End), Err(LineFault::Decided(malformed))];
+    let turns = [
+        Ok(Turn::End),
+        Err(LineFault::Malformed(Malformed::UnknownWord)),
+    ];
     assert!(rt; other_turns(rt.alloc()) == Some(turns));
 }

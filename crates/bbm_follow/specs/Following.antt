@@ -23,10 +23,10 @@ use Rattle.bbm_tlb_machine.specs.MachineRun.{State, follow_steps}
 use Rattle.bbm_tlb_machine.specs.Safe.{first_conflict}
 use Rattle.bbm_follow.specs.declared.followed.Followed.{Followed}
 use Rattle.bbm_follow.specs.declared.followed.Followed.TheVariants.{Run, BadStep}
-use Rattle.bbm_follow.specs.declared.turn.LineFault.{LineFault}
-use Rattle.bbm_follow.specs.declared.turn.LineFault.TheVariants.{Decided, NoMemory}
-use Rattle.bbm_follow.specs.declared.turn.Turn.{Turn}
-use Rattle.bbm_follow.specs.declared.turn.Turn.TheVariants as turn
+use Rattle.bbm_log_grammar.specs.declared.turn.LineFault.{LineFault}
+use Rattle.bbm_log_grammar.specs.declared.turn.LineFault.TheVariants as fault
+use Rattle.bbm_log_grammar.specs.declared.turn.Turn.{Turn}
+use Rattle.bbm_log_grammar.specs.declared.turn.Turn.TheVariants as turn
 
 -- the most events and machine steps of a run
 abbrev pub step_limit : ℕ
@@ -166,10 +166,11 @@ abbrev pub is_step : Turned → Bool
 is_step (GoesOn (AtSteps heading steps)) = true
 is_step _ = false
 
--- What a line of a run says, by the steps before it and after it: it was taken as a step, or is the end, or reading
+-- What line number n of a run says, by the steps before it and after it: it was taken as a step, or is the end, or reading
 -- stops. There may be no memory for a step alone.
-abbrev pub TakesLine : Heading → List Step → List Step → Result Turn LineFault → Turned → Type 0
-TakesLine heading old new (Ok turn.Step) turned = turned ≡ GoesOn (AtSteps heading new)
-TakesLine heading old new (Ok turn.End) turned = (turned ≡ GoesOn (AtEnd heading old)) × (new ≡ old)
-TakesLine heading old new (Err (Decided verdict)) turned = turned ≡ Stops verdict
-TakesLine heading old new (Err NoMemory) turned = is_step turned ≡ true
+abbrev pub TakesLine : ℕ → Heading → List Step → List Step → Result Turn LineFault → Turned → Type 0
+TakesLine number heading old new (Ok turn.Taken) turned = turned ≡ GoesOn (AtSteps heading new)
+TakesLine number heading old new (Ok turn.End) turned = (turned ≡ GoesOn (AtEnd heading old)) × (new ≡ old)
+TakesLine number heading old new (Err (fault.Malformed cause)) turned = turned ≡ Stops (Malformed number cause)
+TakesLine number heading old new (Err (fault.Limit which)) turned = turned ≡ Stops (Limit number which)
+TakesLine number heading old new (Err fault.NoMemory) turned = is_step turned ≡ true

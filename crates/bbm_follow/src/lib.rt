@@ -4,8 +4,6 @@
 
 pub mod followed;
 mod taking;
-pub mod turn;
 
 pub use followed::{Followed, follow_run, followed_text};
 pub use taking::take_line;
-pub use turn::{LineFault, Turn};

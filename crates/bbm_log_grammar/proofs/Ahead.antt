@@ -110,7 +110,7 @@ three_digits (x ∷ y ∷ z ∷ zs) one two three some led is1 is2 is3 e f g =
     let all : take (length (x ∷ y ∷ z ∷ zs) - 3) zs ≡ zs = take_all (length (x ∷ y ∷ z ∷ zs) - 3) zs (omega arith) in
     rw (all, value, spelled) refl
 
-pub ruleset few_digits = (one_digit, two_digits)
+pub ruleset short_numbers = (one_digit, two_digits)
 
 -- two fields, and three, and what stands behind them
 
@@ -255,7 +255,7 @@ pub op_alle2is : (s : List ℕ) → 8 ≤ length s → get_or s 0 0 ≡ 32 → g
 op_alle2is s some h0 h1 h2 h3 h4 h5 h6 h7 =
     front_word (codes " alle2is") s some (h0, (h1, (h2, (h3, (h4, (h5, (h6, (h7, tt))))))))
 
-pub ruleset further_operations = (op_vmalle1is, op_alle2is)
+pub ruleset operations_alone = (op_vmalle1is, op_alle2is)
 
 -- what stands behind a space, in the form of a slice
 pub spaced : (s front a : List ℕ) → 1 ≤ length s → get_or s 0 0 ≡ 32
@@ -352,4 +352,4 @@ pub init_line : (pe page : ℕ) (s l a b : List ℕ) → s ≡ codes "init " ++ 
 init_line pe page s l a b word first second =
     word ∙ ap (λ l. codes "init " ++ l) (two_fields (decimal pe) (hex page) l a b first second)
 
-pub ruleset other_lines = (msr_line, lock_line, unlock_line, dmb_line, dsb_line, init_line)
+pub ruleset lines_by_word = (msr_line, lock_line, unlock_line, dmb_line, dsb_line, init_line)

@@ -4,4 +4,4 @@ mod front;
 mod kinds;
 mod lanes;
 
-pub use kinds::{Dsbs, Front, Isbs, Others, Tlbis, Writes, line_ahead};
+pub use kinds::{ByWord, Dsbs, Front, Isbs, Tlbis, Writes, line_ahead};

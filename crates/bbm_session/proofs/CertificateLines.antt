@@ -15,10 +15,9 @@ use Rattle.bbm_events.specs.Certificate.{certificate_of, claim_of}
 use Rattle.bbm_events.specs.Lines.{header_of, item_of}
 use Rattle.bbm_certificate.specs.declared.kept.Part.{Part}
 use Rattle.bbm_certificate.specs.declared.kept.Part.TheVariants as part
-use Rattle.bbm_certificate.specs.declared.turn.LineFault.{LineFault}
-use Rattle.bbm_certificate.specs.declared.turn.LineFault.TheVariants as line_fault
-use Rattle.bbm_certificate.specs.declared.turn.Turn.{Turn as ReadTurn}
-use Rattle.bbm_certificate.specs.declared.turn.Turn.TheVariants as turn
+use Rattle.bbm_log_grammar.specs.declared.turn.LineFault.{LineFault}
+use Rattle.bbm_log_grammar.specs.declared.turn.LineFault.TheVariants as fault
+use Rattle.bbm_log_grammar.specs.declared.turn.Turn.TheVariants as turn
 use Rattle.bbm_certificate.specs.CertificateReading.{AreRead, Reached, AtHeader, AtEvents, BehindLog, AtClaims, AtEnd}
 use Rattle.bbm_certificate.specs.CertificateReading.{EndsAt, IsSound, Turned as LineTurned, Stops as LineStops, GoesOn}
 use Rattle.bbm_certificate.specs.CertificateReading.{after_event, after_log, after_item, after_first, after_claim}
@@ -30,7 +29,7 @@ use Rattle.bbm_certificate.specs.CertificateReading.{read_of}
 use Rattle.bbm_certificate.specs.CertificateReading as read
 use Rattle.bbm_session.specs.Certificates.{certified_leads}
 use Rattle.bbm_session.specs.Fold.{turned_by, end_by}
-use Rattle.bbm_session.specs.Folds.{TurnsRead, certified_by, whole_read}
+use Rattle.bbm_session.specs.Folds.{Turns, certified_by, whole_read}
 use Rattle.bbm_session.proofs.Judgements.{StopsAtLine, named_line, read_for, stops-knows, stops-named}
 use Rattle.bbm_session.proofs.ReadBytes.{ByName, Named, if-by, reaches, read-by}
 
@@ -105,10 +104,10 @@ module _ (heading : Heading) (kept kept' : Kept) (n : ℕ) (line : List ℕ) whe
   abbrev At : Result Turn Stop → Type 0
   At r = FoldsLine certifying (Certifies kept' certifying heading) n Old line r
 
-  certified-at : (t : Result ReadTurn LineFault) (r : Result Turn Stop) → TurnsRead t r → IsSound Old → n ≡ next_number Old
+  certified-at : (t : Result Turn LineFault) (r : Result Turn Stop) → Turns n t r → IsSound Old → n ≡ next_number Old
       → (t ≡ Ok turn.Taken → IsSound Old → IsSound New) → (t ≡ Ok turn.Taken → IsSound Old → next_number New ≡ suc (next_number Old))
       → claims_by kept'.part kept'.claims.items ≡ kept'.claims.items
-      → read.TakesLine Old New t (after_line n Old line) → At r
+      → read.TakesLine n Old New t (after_line n Old line) → At r
   certified-at (Ok turn.Taken) r turns sound number sounds counts listed says =
       let counted = counts refl sound in
       subst At (sym turns) (
@@ -131,18 +130,16 @@ module _ (heading : Heading) (kept kept' : Kept) (n : ℕ) (line : List ℕ) whe
           listed = listed;
         },
       )
-  certified-at (Err (line_fault.Decided v)) r turns sound number sounds counts listed says =
-      let brief = subst (λ (t : LineTurned). Brief n t) says (brief_line n Old line) in
-      subst At (sym turns)
-      (ap certified_by says, stops-knows (Certifies kept' certifying heading Old n) n v brief)
-  certified-at (Err line_fault.NoMemory) r turns sound number sounds counts listed says = subst At (sym turns) says
+  certified-at (Err (fault.Malformed cause)) r turns sound number sounds counts listed says = subst At (sym turns) (ap certified_by says, tt)
+  certified-at (Err (fault.Limit which)) r turns sound number sounds counts listed says = subst At (sym turns) (ap certified_by says, tt)
+  certified-at (Err fault.NoMemory) r turns sound number sounds counts listed says = subst At (sym turns) says
 
-pub certified-takes : (heading : Heading) (kept kept' : Kept) (fold : Fold Reached Said) (p : Reached) (n : ℕ) (line : List ℕ) (t : Result ReadTurn LineFault) (r : Result Turn Stop)
-    → TurnsRead t r → Certifies kept fold heading p n
+pub certified-takes : (heading : Heading) (kept kept' : Kept) (fold : Fold Reached Said) (p : Reached) (n : ℕ) (line : List ℕ) (t : Result Turn LineFault) (r : Result Turn Stop)
+    → Turns n t r → Certifies kept fold heading p n
     → (t ≡ Ok turn.Taken → IsSound (kept_at heading kept) → IsSound (kept_at heading kept'))
     → (t ≡ Ok turn.Taken → IsSound (kept_at heading kept) → next_number (kept_at heading kept') ≡ suc (next_number (kept_at heading kept)))
     → (claims_by kept.part kept.claims.items ≡ kept.claims.items → claims_by kept'.part kept'.claims.items ≡ kept'.claims.items)
-    → read.TakesLine (kept_at heading kept) (kept_at heading kept') t (after_line n (kept_at heading kept) line)
+    → read.TakesLine n (kept_at heading kept) (kept_at heading kept') t (after_line n (kept_at heading kept) line)
     → FoldsLine fold (Certifies kept' fold heading) n p line r
 certified-takes heading kept kept' fold p n line t r turns certifies sounds counts lists says =
     let at = certified-at heading kept kept' n line t r turns certifies.sound certifies.number sounds counts (lists certifies.listed) says in

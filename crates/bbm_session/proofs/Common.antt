@@ -30,8 +30,8 @@ pub use Rattle.bbm_session.specs.Stages.{FoldsLine, plain_lines}
 pub use Rattle.bbm_session.specs.declared.command.Request.TheVariants.{Generate, Judge, Selftest, Verify}
 pub use Rattle.bbm_session.specs.declared.stop.Stop.{Stop}
 pub use Rattle.bbm_session.specs.declared.stop.Stop.TheVariants.{Decided, NoMemory, ReadFault}
-pub use Rattle.bbm_session.specs.declared.stop.Turn.{Turn}
-pub use Rattle.bbm_session.specs.declared.stop.Turn.TheVariants.{End, Taken}
+pub use Rattle.bbm_log_grammar.specs.declared.turn.Turn.{Turn}
+pub use Rattle.bbm_log_grammar.specs.declared.turn.Turn.TheVariants.{End, Taken}
 pub use Rattle.bbm_texts.specs.Generating.{gen_text}
 pub use Rattle.bbm_texts.specs.Known.{IsRefused, Keeps, KnowsThat}
 pub use Rattle.bbm_texts.specs.Says.{Says, SaysFor}

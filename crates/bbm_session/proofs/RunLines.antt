@@ -11,10 +11,9 @@ use Rattle.bbm_events.specs.declared.event.Item.TheVariants as item
 use Rattle.bbm_events.specs.declared.malformed.Malformed.{Malformed as Cause}
 use Rattle.bbm_events.specs.Lines.{header_of, item_of}
 use Rattle.bbm_events.specs.Machine.{machine_of}
-use Rattle.bbm_follow.specs.declared.turn.LineFault.{LineFault}
-use Rattle.bbm_follow.specs.declared.turn.LineFault.TheVariants as line_fault
-use Rattle.bbm_follow.specs.declared.turn.Turn.{Turn as RunTurn}
-use Rattle.bbm_follow.specs.declared.turn.Turn.TheVariants as turn
+use Rattle.bbm_log_grammar.specs.declared.turn.LineFault.{LineFault}
+use Rattle.bbm_log_grammar.specs.declared.turn.LineFault.TheVariants as fault
+use Rattle.bbm_log_grammar.specs.declared.turn.Turn.TheVariants as turn
 use Rattle.bbm_follow.specs.Following.{Reached, AtHeader, AtSteps, AtEnd, Turned as RunTurned, Stops as RunStops}
 use Rattle.bbm_follow.specs.Following.{GoesOn, after_step, after_end, after_item, after_machine, is_machine}
 use Rattle.bbm_follow.specs.Following.{after_header, after_line, too_long_at, turned_by as run_turned_by, RunSays}
@@ -80,10 +79,10 @@ module _ (heading : Heading) (kept kept' : List Step) (n : ℕ) (line : List ℕ
   abbrev At : Result Turn Stop → Type 0
   At r = FoldsLine following (Follows kept' following heading) n (AtSteps heading (reverse kept)) line r
 
-  followed-at : (t : Result RunTurn LineFault) (r : Result Turn Stop) → Turns t r → n ≡ length kept + 2 → length kept ≤ 2000
-      → length kept' ≤ 2000 → (t ≡ Ok turn.Step → length kept' ≡ length kept + 1)
-      → run.TakesLine heading (reverse kept) (reverse kept') t (after_line n (AtSteps heading (reverse kept)) line) → At r
-  followed-at (Ok turn.Step) r turns number few few' more says =
+  followed-at : (t : Result Turn LineFault) (r : Result Turn Stop) → Turns n t r → n ≡ length kept + 2 → length kept ≤ 2000
+      → length kept' ≤ 2000 → (t ≡ Ok turn.Taken → length kept' ≡ length kept + 1)
+      → run.TakesLine n heading (reverse kept) (reverse kept') t (after_line n (AtSteps heading (reverse kept)) line) → At r
+  followed-at (Ok turn.Taken) r turns number few few' more says =
       subst At (sym turns) (
         AtSteps heading (reverse kept'),
         ap kept_by says,
@@ -98,15 +97,13 @@ module _ (heading : Heading) (kept kept' : List Step) (n : ℕ) (line : List ℕ
         following-end heading (reverse kept),
         record { fold_is = refl; is = ap (AtSteps heading) (sym says.1); number = omega (arith, same, number); few = few' },
       )
-  followed-at (Err (line_fault.Decided v)) r turns number few few' more says =
-      let brief = subst (λ (t : RunTurned). Brief n t) says (brief_line n (AtSteps heading (reverse kept)) line) in
-      subst At (sym turns)
-      (ap kept_by says, stops-knows (Follows kept' following heading (AtSteps heading (reverse kept)) n) n v brief)
-  followed-at (Err line_fault.NoMemory) r turns number few few' more says = subst At (sym turns) says
+  followed-at (Err (fault.Malformed cause)) r turns number few few' more says = subst At (sym turns) (ap kept_by says, tt)
+  followed-at (Err (fault.Limit which)) r turns number few few' more says = subst At (sym turns) (ap kept_by says, tt)
+  followed-at (Err fault.NoMemory) r turns number few few' more says = subst At (sym turns) says
 
-pub followed-takes : (heading : Heading) (kept kept' : List Step) (fold : Fold Reached RunSays) (p : Reached) (n : ℕ) (line : List ℕ) (t : Result RunTurn LineFault) (r : Result Turn Stop)
-    → Turns t r → Follows kept fold heading p n → (length kept ≤ 2000 → length kept' ≤ 2000) → (t ≡ Ok turn.Step → length kept' ≡ length kept + 1)
-    → run.TakesLine heading (reverse kept) (reverse kept') t (after_line n (AtSteps heading (reverse kept)) line)
+pub followed-takes : (heading : Heading) (kept kept' : List Step) (fold : Fold Reached RunSays) (p : Reached) (n : ℕ) (line : List ℕ) (t : Result Turn LineFault) (r : Result Turn Stop)
+    → Turns n t r → Follows kept fold heading p n → (length kept ≤ 2000 → length kept' ≤ 2000) → (t ≡ Ok turn.Taken → length kept' ≡ length kept + 1)
+    → run.TakesLine n heading (reverse kept) (reverse kept') t (after_line n (AtSteps heading (reverse kept)) line)
     → FoldsLine fold (Follows kept' fold heading) n p line r
 followed-takes heading kept kept' fold p n line t r turns follows short more says =
     let at = followed-at heading kept kept' n line t r turns follows.number follows.few (short follows.few) more says in

@@ -13,20 +13,14 @@ use Rattle.bbm_rules.specs.Answers.{rewrites, takes_no_memory}
 use Rattle.bbm_rules.specs.Claims.{Patterns}
 use Rattle.bbm_rules.specs.declared.limits.Limits.{Limits}
 use Rattle.bbm_rules.specs.declared.verdict.Verdict.{Verdict}
-use Rattle.bbm_rules.specs.declared.verdict.Verdict.TheVariants.{Accepted}
+use Rattle.bbm_rules.specs.declared.verdict.Verdict.TheVariants.{Accepted, Malformed, Limit}
 use Rattle.bbm_rules.specs.Outcome.{Progress, AtHeader, AtEvents, AtEnd, Step, Decides, GoesOn, after_line}
 use Rattle.bbm_rules.specs.Outcome.{cut_at, events_in, too_long_at}
 use Rattle.bbm_tlb_machine.specs.declared.step.Step.{Step as MachineStep}
-use Rattle.bbm_follow.specs.declared.turn.LineFault.{LineFault}
-use Rattle.bbm_follow.specs.declared.turn.LineFault.TheVariants as line_fault
-use Rattle.bbm_follow.specs.declared.turn.Turn.{Turn as RunTurn}
-use Rattle.bbm_follow.specs.declared.turn.Turn.TheVariants as turn
+use Rattle.bbm_log_grammar.specs.declared.turn.LineFault.{LineFault}
+use Rattle.bbm_log_grammar.specs.declared.turn.LineFault.TheVariants as fault
 use Rattle.bbm_follow.specs.Following as run
 use Rattle.bbm_certificate.specs.declared.kept.Kept.{Kept}
-use Rattle.bbm_certificate.specs.declared.turn.LineFault.{LineFault as ReadFaultOf}
-use Rattle.bbm_certificate.specs.declared.turn.LineFault.TheVariants as read_fault
-use Rattle.bbm_certificate.specs.declared.turn.Turn.{Turn as ReadTurn}
-use Rattle.bbm_certificate.specs.declared.turn.Turn.TheVariants as read_turn
 use Rattle.bbm_certificate.specs.CertificateReading as read
 use Rattle.bbm_session.specs.Certificates.{certified_needs}
 use Rattle.bbm_texts.specs.declared.commands.Command.{Command}
@@ -40,8 +34,7 @@ use Rattle.bbm_texts.specs.Known.{Keeps}
 use Rattle.bbm_texts.specs.declared.decision.Decision.{Decision}
 use Rattle.bbm_session.specs.declared.stop.Stop.{Stop}
 use Rattle.bbm_session.specs.declared.stop.Stop.TheVariants.{Decided, NoMemory}
-use Rattle.bbm_session.specs.declared.stop.Turn.{Turn}
-use Rattle.bbm_session.specs.declared.stop.Turn.TheVariants.{Taken, End}
+use Rattle.bbm_log_grammar.specs.declared.turn.Turn.{Turn}
 
 -- a verdict, the event that it refuses if there is one, and the events before the line that decides, the newest first
 pub record Judged : Type 0 where
@@ -142,12 +135,12 @@ pub record Follows (kept : List MachineStep) (fold : Fold run.Reached run.RunSay
   pub number : n ≡ length kept + 2
   pub few : length kept ≤ 2000
 
--- what the session makes of a line of a run that was taken or not
-abbrev pub Turns : Result RunTurn LineFault → Result Turn Stop → Type 0
-Turns (Ok turn.Step) result = result ≡ Ok Taken
-Turns (Ok turn.End) result = result ≡ Ok End
-Turns (Err (line_fault.Decided verdict)) result = result ≡ Err (Decided (alone verdict))
-Turns (Err line_fault.NoMemory) result = result ≡ Err NoMemory
+-- what the session makes of line number n that was taken or not
+abbrev pub Turns : ℕ → Result Turn LineFault → Result Turn Stop → Type 0
+Turns n (Ok turn) result = result ≡ Ok turn
+Turns n (Err (fault.Malformed cause)) result = result ≡ Err (Decided (alone (Malformed n cause)))
+Turns n (Err (fault.Limit which)) result = result ≡ Err (Decided (alone (Limit n which)))
+Turns n (Err fault.NoMemory) result = result ≡ Err NoMemory
 
 abbrev pub certified_by : read.Turned → Turned read.Reached read.Said
 certified_by (read.Stops verdict) = Halts (read.Stopped verdict)
@@ -179,10 +172,3 @@ pub record Certifies (kept : Kept) (fold : Fold read.Reached read.Said) (heading
   pub sound : read.IsSound (read.kept_at heading kept)
   pub number : n ≡ read.next_number (read.kept_at heading kept)
   pub listed : read.claims_by kept.part kept.claims.items ≡ kept.claims.items
-
--- what the session makes of a line of those that was taken or not
-abbrev pub TurnsRead : Result ReadTurn ReadFaultOf → Result Turn Stop → Type 0
-TurnsRead (Ok read_turn.Taken) result = result ≡ Ok Taken
-TurnsRead (Ok read_turn.End) result = result ≡ Ok End
-TurnsRead (Err (read_fault.Decided verdict)) result = result ≡ Err (Decided (alone verdict))
-TurnsRead (Err read_fault.NoMemory) result = result ≡ Err NoMemory

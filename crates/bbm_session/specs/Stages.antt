@@ -21,8 +21,8 @@ use Rattle.bbm_session.specs.Fold.{Fold, Halts, Passes, alone, refusing, ending_
 use Rattle.bbm_texts.specs.declared.decision.Decision.{Decision}
 use Rattle.bbm_session.specs.declared.stop.Stop.{Stop}
 use Rattle.bbm_session.specs.declared.stop.Stop.TheVariants.{Decided, ReadFault, NoMemory}
-use Rattle.bbm_session.specs.declared.stop.Turn.{Turn}
-use Rattle.bbm_session.specs.declared.stop.Turn.TheVariants.{Taken, End}
+use Rattle.bbm_log_grammar.specs.declared.turn.Turn.{Turn}
+use Rattle.bbm_log_grammar.specs.declared.turn.Turn.TheVariants.{Taken, End}
 use Rattle.bbm_texts.specs.Known.{EndsThere, Keeps, KnowsDecided, KnowsThat}
 
 -- What a source had left begins with what was taken of it, at most so many bytes, and the rest is left now.

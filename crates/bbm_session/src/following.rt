@@ -3,38 +3,21 @@
 ghost use Rattle.std.specs.Prelude.{◌≡◌, ◌*◌, ◌<◌, Some, ok_or};
 ghost use Rattle.bbm_follow.specs.Following.{Reached, RunSays};
 ghost use Rattle.bbm_session.specs.Fold.{Fold};
-ghost use Rattle.bbm_session.specs.Folds.{Follows, Turns};
+ghost use Rattle.bbm_session.specs.Folds.{Follows};
 ghost use Rattle.bbm_session.specs.Stages.{MayTakeLine, Shrinks, FoldsLine};
 ghost use Rattle.bbm_session.specs.Serving.{FollowsRun, streams_of};
 
 use crate::answering::report_stop;
-use crate::reading::{header_line, read_log};
-use crate::stop::{Stop, Turn, decided};
+use crate::reading::{header_line, read_log, turned};
+use crate::stop::Stop;
 use crate::taker::Taker;
 use bbm_events::Header;
-use bbm_follow::{LineFault, Turn as RunTurn, follow_run, take_line};
+use bbm_follow::{follow_run, take_line};
 use bbm_io::{Lines, Sink, Source};
+use bbm_log_grammar::Turn;
 use bbm_texts::{Status, report_run};
 use bbm_tlb_machine::Step;
 use std::alloc::Global;
-
-/// What a line decides that was taken or not.
-fn turned(taken: Result<RunTurn, LineFault>, stop: &mut Stop) -> Option<Turn>
-    ensures { Turns taken (ok_or result stop.new) }
-{
-    match taken {
-        Ok(RunTurn::Step) => Some(Turn::Taken),
-        Ok(RunTurn::End) => Some(Turn::End),
-        Err(LineFault::Decided(verdict)) => {
-            *stop = decided(verdict);
-            None
-        }
-        Err(LineFault::NoMemory) => {
-            *stop = Stop::NoMemory;
-            None
-        }
-    }
-}
 
 /// What a line after the header decides.
 fn follow_line(
@@ -50,7 +33,7 @@ fn follow_line(
         (ok_or result stop.new) }
     ensures few { result ≡ Some Turn.Taken → number < 4294967295 }
 {
-    turned(take_line(number, header, steps, line), stop)
+    turned(number, take_line(header, steps, line), stop)
 }
 
 /// The steps of a run that are kept.

@@ -20,11 +20,11 @@ ghost use Rattle.bbm_texts.specs.Known.{Keeps};
 ghost use Rattle.bbm_session.specs.Refused.{event_in};
 
 use crate::reading::{stop_limit, stop_malformed};
-use crate::stop::{Stop, Turn};
+use crate::stop::Stop;
 use crate::taker::Taker;
 use bbm_events::{Event, Header, Malformed};
 use bbm_log_grammar::{
-    Dsbs, Front, Isbs, LabelText, LineItem, Others, Tlbis, Writes, kept_label, line_ahead,
+    ByWord, Dsbs, Front, Isbs, LabelText, LineItem, Tlbis, Turn, Writes, kept_label, line_ahead,
     read_line,
 };
 use bbm_regimes::Which;
@@ -246,6 +246,6 @@ impl<C: Checker> Taker for Judging<C> {
         if let Some(taken) = take_kind::<C, Isbs>(self, number, header, bytes) {
             return taken;
         }
-        take_kind::<C, Others>(self, number, header, bytes).flatten()
+        take_kind::<C, ByWord>(self, number, header, bytes).flatten()
     }
 }

@@ -3,15 +3,16 @@
 ghost use Rattle.std.specs.Prelude.{◌≡◌, ◌+◌, ◌*◌, ◌≤◌, ◌<◌, OnOk, IfOk, IfErr, Some, OnSome, ok_or};
 ghost use Rattle.bbm_events.specs.Heading.{Heading};
 ghost use Rattle.bbm_session.specs.Fold.{Fold, IsStart, IsInside, IsEnd, alone};
+ghost use Rattle.bbm_session.specs.Folds.{Turns};
 ghost use Rattle.bbm_session.specs.Stages.{Shrinks, Ready, IsBrief, ReadsHeader, Starts, MayGoOn, Advances, Reaches};
 ghost use Rattle.bbm_session.specs.Stages.{Closes, Ends};
 
 use crate::line::{Piece, next_piece};
-use crate::stop::{Stop, Turn, decided};
+use crate::stop::{Stop, decided};
 use crate::taker::Taker;
 use bbm_events::{Header, Malformed};
 use bbm_io::{Lines, Source};
-use bbm_log_grammar::read_header;
+use bbm_log_grammar::{LineFault, Turn, read_header};
 use bbm_regimes::Which;
 use bbm_rules::Verdict;
 
@@ -38,6 +39,19 @@ pub fn stop_limit(line: u64, which: Which, stop: &mut Stop)
     ensures { stop.new ≡ Stop.Decided (alone (Verdict.Limit line which)) }
 {
     *stop = decided(Verdict::Limit { line, which });
+}
+
+/// What line `number` decides that was taken or not. None: reading stops, and `stop` says why.
+pub fn turned(number: u64, taken: Result<Turn, LineFault>, stop: &mut Stop) -> Option<Turn>
+    ensures { Turns number taken (ok_or result stop.new) }
+{
+    match taken {
+        Ok(turn) => return Some(turn),
+        Err(LineFault::Malformed(cause)) => stop_malformed(number, cause, stop),
+        Err(LineFault::Limit(which)) => stop_limit(number, which, stop),
+        Err(LineFault::NoMemory) => *stop = Stop::NoMemory,
+    }
+    None
 }
 
 /// What line 1 decides, by what was read of it.

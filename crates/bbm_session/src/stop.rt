@@ -26,12 +26,3 @@ pub fn decided(verdict: Verdict) -> Stop
         refused: None,
     })
 }
-
-/// What a line was that decides nothing.
-#[derive(Clone, Copy, Debug)]
-pub enum Turn {
-    /// A line between the header and the end, which was taken.
-    Taken,
-    /// The end.
-    End,
-}

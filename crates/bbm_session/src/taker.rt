@@ -6,8 +6,9 @@ ghost use Rattle.bbm_events.specs.Heading.{Heading};
 ghost use Rattle.bbm_session.specs.Fold.{Fold};
 ghost use Rattle.bbm_session.specs.Stages.{MayTakeLine, FoldsLine};
 
-use crate::stop::{Stop, Turn};
+use crate::stop::Stop;
 use bbm_events::Header;
+use bbm_log_grammar::Turn;
 
 /// It takes the lines between the header of a log and its end one by one, as a fold over the lines says. Source:
 /// project's own choice.

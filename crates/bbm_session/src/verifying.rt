@@ -3,37 +3,20 @@
 ghost use Rattle.std.specs.Prelude.{◌≡◌, ◌*◌, ◌<◌, Some, ok_or};
 ghost use Rattle.bbm_certificate.specs.CertificateReading.{Reached, Said};
 ghost use Rattle.bbm_session.specs.Fold.{Fold};
-ghost use Rattle.bbm_session.specs.Folds.{Certifies, TurnsRead};
+ghost use Rattle.bbm_session.specs.Folds.{Certifies};
 ghost use Rattle.bbm_session.specs.Stages.{MayTakeLine, Shrinks, FoldsLine};
 ghost use Rattle.bbm_session.specs.Serving.{Verifies, streams_of};
 
 use crate::answering::report_stop;
-use crate::reading::{header_line, read_log};
-use crate::stop::{Stop, Turn, decided};
+use crate::reading::{header_line, read_log, turned};
+use crate::stop::Stop;
 use crate::taker::Taker;
-use bbm_certificate::{Kept, LineFault, Turn as ReadTurn, judge_kept, take_line};
+use bbm_certificate::{Kept, judge_kept, take_line};
 use bbm_events::{Header, law_header_in_range};
 use bbm_io::{Lines, Sink, Source};
+use bbm_log_grammar::Turn;
 use bbm_texts::{Status, report_judged};
 use std::alloc::Global;
-
-/// What a line decides that was taken or not.
-fn turned(taken: Result<ReadTurn, LineFault>, stop: &mut Stop) -> Option<Turn>
-    ensures { TurnsRead taken (ok_or result stop.new) }
-{
-    match taken {
-        Ok(ReadTurn::Taken) => Some(Turn::Taken),
-        Ok(ReadTurn::End) => Some(Turn::End),
-        Err(LineFault::Decided(verdict)) => {
-            *stop = decided(verdict);
-            None
-        }
-        Err(LineFault::NoMemory) => {
-            *stop = Stop::NoMemory;
-            None
-        }
-    }
-}
 
 /// What a line after the header decides.
 fn verify_line(
@@ -49,7 +32,7 @@ fn verify_line(
         (ok_or result stop.new) }
     ensures few { result ≡ Some Turn.Taken → number < 4294967295 }
 {
-    turned(take_line(number, header, kept, line), stop)
+    turned(number, take_line(header, kept, line), stop)
 }
 
 /// A log and its certificate that are kept.

@@ -63,7 +63,7 @@ pub(crate) fn hex_ahead<'a>(bytes: &'a [u8]) -> Option<(u64, &'a [u8])>
 
 /// The number of one to three decimal digits at the front, and the bytes behind it.
 #[inline(always)]
-#[tactic(auto, using(crate::proofs::Ahead::few_digits))]
+#[tactic(auto, using(crate::proofs::Ahead::short_numbers))]
 pub(crate) fn decimal_ahead<'a>(bytes: &'a [u8]) -> Option<(u64, &'a [u8])>
     ensures { IfSome result (λ x. bytes.now ≡ decimal x.0 ++ x.1.now) }
 {

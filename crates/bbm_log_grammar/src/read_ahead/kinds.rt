@@ -202,7 +202,7 @@ fn op_ahead<'a>(bytes: &'a [u8]) -> Option<(TlbiOp, &'a [u8])>
 
 /// One of two operations without an operand behind a space at the front, and the bytes behind it.
 #[inline(always)]
-#[tactic(auto, using(crate::proofs::Ahead::further_operations))]
+#[tactic(auto, using(crate::proofs::Ahead::operations_alone))]
 fn op_alone_ahead<'a>(bytes: &'a [u8]) -> Option<(TlbiOp, &'a [u8])>
     ensures { IfSome result (λ x. (bytes.now ≡ 32 ∷ op_word x.0 ++ x.1.now) × (has_operand x.0 ≡ false)) }
 {
@@ -275,7 +275,7 @@ impl Front for Isbs {
 
 /// Register writes, locks, pages that are initialised, DMBs, and DSBs and TLBIs of a few options and operations more.
 #[derive(Drop)]
-pub struct Others;
+pub struct ByWord;
 
 /// The registers, the usual ones first.
 const REGS: [Reg; 4] = [Reg::Ttbr0El1, Reg::VttbrEl2, Reg::Ttbr1El1, Reg::Ttbr0El2];
@@ -376,7 +376,7 @@ fn lock_ahead<'a>(bytes: &'a [u8]) -> Option<(u16, &'a [u8])>
 
 /// The event of this word whose further fields stand at the front, and the bytes behind it.
 #[inline(always)]
-#[tactic(auto, using(crate::proofs::Ahead::other_lines))]
+#[tactic(auto, using(crate::proofs::Ahead::lines_by_word))]
 fn event_of<'a>(header: &Header, keyword: Keyword, bytes: &'a [u8]) -> Option<(Event, &'a [u8])>
     ensures { IfSome result (λ x. Begins header.now ahead.is_any (keyword_word keyword ++ 32 ∷ bytes.now) x.0 x.1.now) }
 {
@@ -415,7 +415,7 @@ fn event_of<'a>(header: &Header, keyword: Keyword, bytes: &'a [u8]) -> Option<(E
     }
 }
 
-impl Front for Others {
+impl Front for ByWord {
     ghost has = { ahead.is_any };
 
     // It is no part of the reader's loop, so that the usual lines keep their values in registers there.
