@@ -21,9 +21,9 @@ pub use Rattle.bbm_place_map.specs.declared.map.PlaceMap.{PlaceMap}
 pub use Rattle.bbm_regimes.specs.SameRegister.{same_kind}
 pub use Rattle.bbm_regimes.specs.World.{input_pages}
 pub use Rattle.bbm_regimes.specs.declared.regime.Kind.TheVariants.{El2, S2, Ttbr0, Ttbr1}
-pub use Rattle.bbm_replay.specs.Covering.{Grows, MayBeIssued, asks_childless, asks_tags}
+pub use Rattle.bbm_replay.specs.Covering.{Grows, IsPathOf, IsSettled, IssuesAt, MayBeIssued, asks_childless, asks_tags}
 pub use Rattle.bbm_replay.specs.Leaves.{attached_next, is_contiguous_core, is_global_core}
-pub use Rattle.bbm_replay.specs.OnePage.{IsFoundIn, IsOnWay, MetFromAll, NamesOne, covers_kind}
+pub use Rattle.bbm_replay.specs.OnePage.{IsOnWay, MetFromAll, NamesOne, covers_kind}
 pub use Rattle.bbm_replay.specs.ReplayFaults.{step_fault}
 pub use Rattle.bbm_replay.specs.ReplayLaws.{Laws}
 pub use Rattle.bbm_replay.specs.ReplayRules.{Rules}
@@ -31,6 +31,7 @@ pub use Rattle.bbm_replay.specs.ReplayStanding.{Admitted, Holds, IsAt, IsUnlocke
 pub use Rattle.bbm_replay.specs.ReplayStanding.{PartsStand, WritesTree, view_of}
 pub use Rattle.bbm_replay.specs.ReplayTold.{Apart, Told, state_of, waiting}
 pub use Rattle.bbm_replay.specs.declared.parts.ReplayState.{ReplayState}
+pub use Rattle.bbm_replay.specs.declared.tlbi_cover.Covering.{Covering}
 pub use Rattle.bbm_replay_entries.specs.EntryEvents.{touches}
 pub use Rattle.bbm_replay_entries.specs.EntryStands.{EntryStands}
 pub use Rattle.bbm_replay_roots.specs.declared.named.NamedTlbi.{NamedTlbi}

@@ -1,8 +1,11 @@
 -- Places that are found, each with its cover.
-use Rattle.bbm_replay.proofs.Common.{FoundAs, is_found, Found}
+use Rattle.bbm_replay.proofs.Common.{Covering, FoundAs, is_found, Found, Grows, IsSettled, PlaceMap, notes}
 use Rattle.bbm_rules.proofs.Common.{◌≡◌, ℕ, zero, suc, Bool, true, false, ◌||◌, List, [], ◌∷◌, ◌++◌, Option, Some}
 use Rattle.bbm_rules.proofs.Common.{nat_eq, Result, Ok, Err, refl, ap, subst, not-suc-le-zero, le_of_suc-le-suc}
-use Rattle.bbm_rules.proofs.Common.{slice_get, length, ◌<◌, eq-eqb, or_right, Cover}
+use Rattle.bbm_rules.proofs.Common.{slice_get, length, ◌<◌, eq-eqb, or_right, proved, If, Is, Cover, Patterns}
+use Rattle.bbm_rules.proofs.Common.{cover_at, Core, Tlbi, sym, ◌∙◌, true≢false}
+use Rattle.bbm_replay.specs.Covering.{IsBrokenOver, IsCovered}
+use Rattle.bbm_place_map.specs.Map.{restless_place}
 use Rattle.std.specs.Prelude.{IfSome, OnOk}
 use Rattle.std.proofs.lemmas.List.Elements.{All-append}
 
@@ -50,3 +53,36 @@ found_before (y ∷ ys) x a e = by (nat_eq y.place a) e (found_before ys x a)
         → (b || is_found (ys ++ x ∷ []) a) ≡ true
     by true k rest = refl
     by false k rest = rest k
+
+missing : (old new : Bool) → (old ≡ true → new ≡ true) → new ≡ false → old ≡ false
+missing = proved 2 (λ o n. If (If (Is o true) (Is n true)) (If (Is n false) (Is o false))) refl
+
+-- a place that is settled stays so
+pub settled_more : (map : PlaceMap) (by : Covering) (old new : List Found) → Grows map by old new → (a : ℕ)
+    → IsSettled map by old a → IsSettled map by new a
+settled_more map by old new grows a settled broken none =
+    settled broken (missing (is_found old a) (is_found new a) (grows.1 a) none)
+
+-- one place more that was found
+module _ (map : PlaceMap) (by : Covering) (old new : List Found) (item : Found) (more : new ≡ old ++ item ∷ []) where
+  pub grows_by : IsCovered map by item.cover item.place → Grows map by old new
+  grows_by covered = (
+    λ all heading h pe op xt m.
+        subst (λ (xs : List Found). FoundAs xs (cover_at heading Patterns (notes heading h) (Tlbi pe op xt))) (sym more)
+        (as_end old item (cover_at heading Patterns (notes heading h) (Tlbi pe op xt)) (all heading h pe op xt m)
+        (covered heading h pe op xt m)),
+    λ a has. subst (λ (xs : List Found). is_found xs a ≡ true) (sym more) (found_before old item a has),
+  )
+
+  pub settled_by : IsSettled map by new item.place
+  settled_by broken none =
+      absurd (true≢false (sym (subst (λ (xs : List Found). is_found xs item.place ≡ true) (sym more)
+      (found_end old item)) ∙ none))
+
+-- how far a broken place is covered, by its number
+pub covered_at : (map : PlaceMap) (by : Covering) (cover : Cover) (number place : ℕ) (core : Core)
+    → place ≡ restless_place map number → IsBrokenOver map (restless_place map number) core
+    → (IsBrokenOver map place core → IsCovered map by cover place)
+    → IsCovered map by cover (restless_place map number)
+covered_at map by cover number place core here over covered =
+    subst (IsCovered map by cover) here (covered (subst (λ a. IsBrokenOver map a core) (sym here) over))

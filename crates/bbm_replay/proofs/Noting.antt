@@ -1,35 +1,61 @@
 -- A TLBI that is noted at the places that were found, where it covers no other broken place.
-use Rattle.bbm_replay.proofs.Common.{FoundAs, is_found, Found, MayBeIssued, NamedTlbi, Noted, Pends, PlaceMap}
-use Rattle.bbm_replay.proofs.Common.{RootState, TreeIndex, notes, state_from}
+use Rattle.bbm_replay.proofs.Common.{Covering, FoundAs, is_found, Found, IsSettled, Noted, Pends, PlaceMap, notes}
+use Rattle.bbm_replay.proofs.Common.{state_from}
 use Rattle.bbm_rules.proofs.Common.{◌≡◌, ℕ, Bool, true, false, List, [], None, is_some, refl, sym, ◌∙◌, ap, subst}
-use Rattle.bbm_rules.proofs.Common.{not-suc-le-zero, Cover, Patterns, PeMask, cover_at, Heading, Event, Tlbi, TlbiOp}
+use Rattle.bbm_rules.proofs.Common.{not-suc-le-zero, Cover, Patterns, PeMask, cover_at, Tlbi}
+use Rattle.bbm_rules.proofs.Common.{Result, Err}
 use Rattle.bbm_place_map.specs.Map.{marks_at, pends_at}
 use Rattle.bbm_tlbi_scope.specs.declared.entry.Cover.TheVariants.{None as NoCover}
-use Rattle.bbm_replay.specs.Covering.{AreCovered, NotesEach}
+use Rattle.bbm_place_map.specs.MapCalls.{IsSame, NotesOnly}
+use Rattle.bbm_replay.specs.Covering.{AreCovered, IsNoted, NotesEach}
+use Rattle.bbm_regimes.specs.declared.regime.NoMemory.{NoMemory}
 use Rattle.bbm_replay.proofs.Unmet.{noted_none}
 
 either : (b : Bool) {P : Type 0} → (b ≡ true → P) → (b ≡ false → P) → P
 either true p q = p refl
 either false p q = q refl
 
-module _ (old : PlaceMap) (index : TreeIndex) (state : RootState) (named : NamedTlbi) where
-  pub none_covered : (xs : List Found) → xs ≡ [] → AreCovered old index state named xs
-  none_covered xs e = subst (λ (ys : List Found). AreCovered old index state named ys) (sym e)
+-- nothing changes
+module _ (map : PlaceMap) where
+  same : IsSame map map
+  same = record {
+    values = λ a. refl;
+    marks = λ a. refl;
+    pends = λ q a. refl;
+    pages = λ p. refl;
+    restless = refl;
+    places = λ i. refl;
+  }
+
+  stays : (pe : ℕ) → NotesOnly pe map map
+  stays pe = record {
+    others = λ q a k. refl;
+    marks = λ a. refl;
+    same = record { values = λ a. refl; pages = λ p. refl; restless = refl; places = λ i. refl };
+  }
+
+pub not_noted : (map : PlaceMap) (by : Covering) (pe : ℕ) (reach : PeMask) (r : Result (Unit {0}) NoMemory) (e : NoMemory)
+    → r ≡ Err e → IsNoted by pe reach map map r
+not_noted map by pe reach r e is =
+    subst (λ x. IsNoted by pe reach map map x) (sym is)
+    (record { noted = tt; only = stays map pe; kept = same map })
+
+module _ (old : PlaceMap) (by : Covering) where
+  pub none_covered : (xs : List Found) → xs ≡ [] → AreCovered old by xs
+  none_covered xs e = subst (λ (ys : List Found). AreCovered old by ys) (sym e)
       (λ heading h pe op xt m i d below. absurd (not-suc-le-zero below))
 
-  module _ (its : Heading) (pe : ℕ) (reach : PeMask) (new : PlaceMap) where
+  module _ (pe : ℕ) (reach : PeMask) (new : PlaceMap) where
     abbrev Notes : ℕ → Cover → Pends → Type 0
-    Notes a cover p = Noted (state_from None (marks_at old a)) (pends_at old pe a) reach named.scope.broadcast cover p
+    Notes a cover p = Noted (state_from None (marks_at old a)) (pends_at old pe a) reach by.named.now.scope.broadcast cover p
 
-    pub noted_found : (items found : List Found) → found ≡ items → AreCovered old index state named items
-        → ((heading : Heading) (h : List Event) (op : TlbiOp) (xt : ℕ) → its ≡ heading
-        → MayBeIssued heading h old index state pe op xt named → (a : ℕ) → is_some (marks_at old a) ≡ true
-        → is_found items a ≡ false → cover_at heading Patterns (notes heading h) (Tlbi pe op xt) a ≡ NoCover)
+    pub noted_found : (items found : List Found) → found ≡ items → AreCovered old by items
+        → ((a : ℕ) → IsSettled old by items a)
         → ((a : ℕ) → is_found found a ≡ false → pends_at new pe a ≡ pends_at old pe a)
         → ((f : ℕ → Cover) → FoundAs found f → (a : ℕ) → is_found found a ≡ true → is_some (marks_at old a) ≡ true
         → Notes a (f a) (pends_at new pe a))
-        → NotesEach its index state named pe reach old new
-    noted_found items found same covers rest unnoted noted heading h op xt is m a broken =
+        → NotesEach by pe reach old new
+    noted_found items found same covers rest unnoted noted heading h op xt m a broken =
         either (is_found found a) hit quiet
       where
         f : ℕ → Cover
@@ -41,7 +67,7 @@ module _ (old : PlaceMap) (index : TreeIndex) (state : RootState) (named : Named
         quiet : is_found found a ≡ false → Notes a (f a) (pends_at new pe a)
         quiet e =
             let away : f a ≡ NoCover
-            = rest heading h op xt is m a broken (ap (λ (xs : List Found). is_found xs a) (sym same) ∙ e) in
+            = sym (rest a broken (ap (λ (xs : List Found). is_found xs a) (sym same) ∙ e) heading h pe op xt m) in
             subst (λ (k : Cover). Notes a k (pends_at new pe a)) (sym away)
             (subst (λ (p : Pends). Notes a NoCover p) (sym (unnoted a e))
-            (noted_none (state_from None (marks_at old a)) (pends_at old pe a) reach named.scope.broadcast))
+            (noted_none (state_from None (marks_at old a)) (pends_at old pe a) reach by.named.now.scope.broadcast))

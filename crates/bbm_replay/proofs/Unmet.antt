@@ -134,7 +134,8 @@ module _ (heading : Heading) (laws : Laws heading) (h : List Event)
         met r st.1 right part.0 part.1 (subst IsPage here (is_page t.page t.start t.is_start)) t.way a
         (subst (λ p. IsWay (node_in index) (core_at map) at p t.way a) here t.leads)
 
-    pub uncovered : (a : ℕ) → is_some (marks_at map a) ≡ true → (Has a → ⊥)
+    pub uncovered : (a : ℕ) → is_some (marks_at map a) ≡ true
+        → (Has a → cover_at heading Patterns (notes heading h) (Tlbi pe op xt) a ≡ NoCover)
         → cover_at heading Patterns (notes heading h) (Tlbi pe op xt) a ≡ NoCover
     uncovered a broken missed = by (node_in index (page_of a)) refl
       where
@@ -165,8 +166,8 @@ module _ (heading : Heading) (laws : Laws heading) (h : List Event)
                 let both = and_parts (nat_le (region_start n a) at) (nat_le at (region_start n a + input_pages n.level - 1)) e in
                 let from = leb-true (region_start n a) at both.0 in
                 let to = before (region_start n a) (input_pages n.level) width (leb-true at (region_start n a + input_pages n.level - 1) both.1) in
-                absurd (missed (found_top n a f (top heading laws h (view_of map index) m.told.kept m.told.fit m.told.nodes same_cores at a
-                n is (aligned a broken) from to)))
+                missed (found_top n a f (top heading laws h (view_of map index) m.told.kept m.told.fit m.told.nodes same_cores at a
+                n is (aligned a broken) from to))
               where
                 before : (start w : ℕ) → 1 ≤ w → at ≤ start + w - 1 → at < start + w
                 before start w k l = omega arith

@@ -1,10 +1,8 @@
 -- A TLBI that names one input page, and the places that it can cover. Source: project's own choice; which kinds an
 -- operation by address covers is that of the table of covers.
-use Rattle.std.specs.Prelude.{◌≡◌, ℕ, ◌+◌, ◌*◌, ◌<◌, ◌%◌, ◌^◌, Bool, true, false, List, Option, Some, is_some}
+use Rattle.std.specs.Prelude.{◌≡◌, ℕ, ◌+◌, ◌*◌, ◌<◌, ◌≤◌, ◌%◌, ◌^◌, Bool, true, false, List, Option, Some}
 use Rattle.bbm_descriptor.specs.declared.desc.Core.{Core}
-use Rattle.bbm_place_map.specs.Finds.{is_found}
-use Rattle.bbm_place_map.specs.Map.{is_tracked, marks_at}
-use Rattle.bbm_place_map.specs.declared.found.Found.{Found}
+use Rattle.bbm_place_map.specs.Map.{is_tracked}
 use Rattle.bbm_place_map.specs.declared.map.PlaceMap.{PlaceMap}
 use Rattle.bbm_regimes.specs.declared.regime.Kind.{Kind}
 use Rattle.bbm_regimes.specs.declared.regime.Kind.TheVariants.{El2, S2, Ttbr0, Ttbr1}
@@ -20,6 +18,9 @@ use Rattle.bbm_tree_index.specs.Index.{node_in}
 use Rattle.bbm_tree_index.specs.Nodes.{path_at}
 use Rattle.bbm_tree_index.specs.declared.role.Path.{Path}
 use Rattle.bbm_tree_index.specs.declared.index.TreeIndex.{TreeIndex}
+use Rattle.bbm_replay.specs.declared.tlbi_cover.Search.{Search}
+use Rattle.bbm_replay.specs.declared.tlbi_cover.Search.TheVariants.{Each, Pages, WayTo}
+use Rattle.bbm_replay.specs.declared.tlbi_cover.TheConstants.{ONE_BY_ONE}
 
 -- whether an operation by address of this family can cover places of a root of this kind
 abbrev pub covers_kind : Family → Kind → Bool
@@ -35,6 +36,12 @@ covers_kind _ _ = false
 pub record NamesOne (scope : Scope) (at : ℕ) : Type 0 where
   pub page : scope.interval ≡ Some (record { lo = at; hi = at })
   pub family : has_page scope.family ≡ true
+
+-- where a TLBI looks for the broken places that it covers, of which there are so many
+abbrev pub FitsSearch : Scope → ℕ → Search → Type 0
+FitsSearch scope broken Each = broken ≤ ONE_BY_ONE
+FitsSearch scope broken (WayTo at) = NamesOne scope at
+FitsSearch scope broken Pages = Unit {0}
 
 -- The map and the index fit together: each page of a tree is tracked, and where a place of a tree holds a table, the
 -- next page hangs there.
@@ -62,7 +69,3 @@ module _ (node : ℕ → Option Node) (core : Kind → ℕ → ℕ → Option Co
   -- the same of so many consecutive pages
   abbrev pub MetFromAll : ℕ → ℕ → (ℕ → Type 0) → Type 0
   MetFromAll first count Has = (part : ℕ) → part < count → MetFrom (first + 4096 * part) Has
-
--- the place is among what was found, where it is broken
-abbrev pub IsFoundIn : PlaceMap → List Found → ℕ → Type 0
-IsFoundIn map found a = is_some (marks_at map a) ≡ true → is_found found a ≡ true

@@ -3,18 +3,14 @@
 #![tactic(auto)]
 
 mod barriers;
-mod by_page;
-mod covering;
-mod covers;
 mod faults;
-mod few;
-mod issues;
 mod laws;
 mod pages;
 mod parts;
 mod registers;
 pub mod replay;
 mod tells;
+mod tlbi_cover;
 mod tlbis;
 mod trees;
 mod writes;

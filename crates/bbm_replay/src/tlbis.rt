@@ -3,9 +3,9 @@
 ghost use Rattle.bbm_events.specs.declared.event.Event.TheVariants.{Tlbi};
 ghost use Rattle.bbm_replay.specs.ReplayStanding.{MayMeet, Meets};
 
-use crate::covering::Covering;
 use crate::laws::{laws, rules};
 use crate::parts::ReplayState;
+use crate::tlbi_cover::Covering;
 use bbm_regimes::Pe;
 use bbm_rules::StepFault;
 use bbm_tlbi_scope::TlbiOp;

@@ -59,8 +59,8 @@ returns-in-Ok-issue c =
     } in
     subst (λ b. Noted (state_from None (marks_at old.map a)) (pends_at old.map pe a) reach b
     (cover_at heading Patterns (notes heading h) (Tlbi pe op c.args.xt) a) (pends_at new pe a))
-    broadcast (e.noted heading h op c.args.xt s.header m a broken))
-    e.others c.law_idle.ensures c.law_idle-in-Ok-issue.ensures e.values e.marks e.pages
+    broadcast (e.noted heading h op c.args.xt (s.header, m) a broken))
+    e.only.others c.law_idle.ensures c.law_idle-in-Ok-issue.ensures e.only.same.values e.only.marks e.only.same.pages
     (λ heading h s.
     let judged = c.in-Ok.ensures.judged heading h s.roots in
     (c.issue_ready.ensures op c.args.xt).taken heading h (c.prepare_issue.ensures.kept.same heading h s.roots)
