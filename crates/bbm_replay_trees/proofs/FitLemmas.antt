@@ -58,7 +58,3 @@ module _ (heading : Heading) where
       → page_of place ≡ page → is_at page place ≡ true
   is_at_page h fit page place i e =
       and_from (page_of place == page) (place % 8 == 0) (eq-eqb (page_of place) page e) (aligned h fit place i)
-
--- the page of a place of it
-pub at_page : (page place : ℕ) → is_at page place ≡ true → page_of place ≡ page
-at_page page place k = eqb-true (page_of place) page (and_parts (page_of place == page) (place % 8 == 0) k).0

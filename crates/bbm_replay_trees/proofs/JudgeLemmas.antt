@@ -15,7 +15,8 @@ use Rattle.bbm_replay_trees.specs.Judging.{Judging}
 use Rattle.bbm_replay_trees.specs.Told.{AllFit, SameFresh, SameValues, notes}
 use Rattle.bbm_lemmas.proofs.Words.{among_in, in_among}
 use Rattle.bbm_lemmas.proofs.Elements.{from_flat}
-use Rattle.bbm_replay_trees.proofs.FitLemmas.{at_page, in_page, is_at_page, to_page, written}
+use Rattle.bbm_tree_index.proofs.Places.{at_page}
+use Rattle.bbm_replay_trees.proofs.FitLemmas.{in_page, is_at_page, to_page, written}
 use Rattle.bbm_replay_trees.proofs.LeastLemmas.{least_is}
 use Rattle.bbm_replay_trees.proofs.PathLemmas.{Longer, AnyPath, Starts, from_all, from_deeper, in_all, in_deeper}
 use Rattle.bbm_replay_trees.proofs.PathLemmas.{leads_at, path_from, to_mine, to_theirs, value_is, within_at}

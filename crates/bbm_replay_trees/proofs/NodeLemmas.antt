@@ -12,7 +12,7 @@ use Rattle.bbm_replay_trees.specs.BelowTrees.{Below}
 use Rattle.bbm_replay_trees.specs.TreeEvents.{leaves_trees}
 use Rattle.bbm_tree_index.specs.Paths.{Attached, Through}
 use Rattle.bbm_replay_trees.specs.Told.{AllFit, SameFresh, SameNodes, SameValues, is_held_by, kept, notes}
-use Rattle.bbm_replay_trees.proofs.FitLemmas.{at_page}
+use Rattle.bbm_tree_index.proofs.Places.{at_page}
 use Rattle.bbm_replay_trees.proofs.PathLemmas.{table_at, value_is}
 
 -- a fresh page is in no tree

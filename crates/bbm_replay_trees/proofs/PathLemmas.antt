@@ -12,7 +12,8 @@ use Rattle.bbm_tree_index.specs.Attaching.{IsPath}
 use Rattle.bbm_tree_index.specs.Paths.{Leads}
 use Rattle.bbm_replay_trees.specs.Told.{AllFit, SameFresh, SameValues, is_at, notes}
 use Rattle.bbm_lemmas.proofs.Elements.{from_flat}
-use Rattle.bbm_replay_trees.proofs.FitLemmas.{at_page, is_at_page, written}
+use Rattle.bbm_tree_index.proofs.Places.{at_page}
+use Rattle.bbm_replay_trees.proofs.FitLemmas.{is_at_page, written}
 
 -- the nodes at which paths begin are those of these pages, of the kind and at the level
 pub record Starts (kind : Kind) (level : ℕ) (pages : List ℕ) (starts : List Node) : Type 0 where

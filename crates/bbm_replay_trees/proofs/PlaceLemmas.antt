@@ -7,7 +7,8 @@ use Rattle.bbm_events.specs.Heading.{Heading}
 use Rattle.bbm_replay_trees.specs.BelowTrees.{Below}
 use Rattle.bbm_replay_trees.specs.Told.{AllFit, Childless, SameCores, SameNodes, is_at, next_in, notes}
 use Rattle.bbm_replay_trees.proofs.AttachLemmas.{core_some}
-use Rattle.bbm_replay_trees.proofs.FitLemmas.{at_page, is_at_page}
+use Rattle.bbm_tree_index.proofs.Places.{at_page}
+use Rattle.bbm_replay_trees.proofs.FitLemmas.{is_at_page}
 use Rattle.bbm_replay_trees.proofs.HangLemmas.{down, held_written, table_core}
 
 -- ---- childless

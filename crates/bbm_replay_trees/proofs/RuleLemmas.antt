@@ -1,5 +1,5 @@
 -- What the rules say of an event by its kind.
-use Rattle.bbm_rules.proofs.Common.{◌≡◌, ℕ, ◌%◌, not, Bool, true, false, ◌&&◌, ◌||◌, ◌==◌, List, [], ◌∷◌, Option, Some}
+use Rattle.bbm_rules.proofs.Common.{◌≡◌, ℕ, ◌%◌, not, Bool, true, false, ◌&&◌, ◌||◌, ◌==◌, List, [], Option, Some}
 use Rattle.bbm_rules.proofs.Common.{None, is_some, filter, option_and_then, refl, sym, ◌∙◌, ap, subst, true≢false}
 use Rattle.bbm_rules.proofs.Common.{eqb-true, or_right, Kind, core_of, differ, is_valid, Core, Event, Init, Null, Root}
 use Rattle.bbm_rules.proofs.Common.{Unroot, Write, Dsb, Dmb, Isb, Tlbi, Msr, Lock, Unlock, first_broken, Trust}
@@ -13,7 +13,9 @@ use Rattle.bbm_rules.specs.Broken.{broken}
 use Rattle.bbm_replay_trees.specs.TreeEvents.{may_reach_limit, rules_of}
 use Rattle.bbm_replay_trees.specs.Told.{AllFit, SameCores, SameFresh, SameNodes, SameNull, SameValues, is_at, limbo_by}
 use Rattle.bbm_replay_trees.specs.Told.{notes}
-use Rattle.bbm_replay_trees.proofs.FitLemmas.{at_page, in_page, is_at_page, to_page, written}
+use Rattle.bbm_rules.proofs.ListLemmas.{least_none}
+use Rattle.bbm_tree_index.proofs.Places.{at_page}
+use Rattle.bbm_replay_trees.proofs.FitLemmas.{in_page, is_at_page, to_page, written}
 use Rattle.bbm_lemmas.proofs.Tests.{any_same}
 
 pub few : (heading : Heading) (trust : Trust) (h : List Event) (e : Event)
@@ -45,11 +47,6 @@ no_limit h (Isb pe) k = refl
 no_limit h (Tlbi pe op xt) k = refl
 no_limit h (Lock pe lock) k = refl
 no_limit h (Unlock pe lock) k = refl
-
--- where there is no least number there is none
-nothing : (ms : List ℕ) → least ms ≡ None → ms ≡ []
-nothing [] e = refl
-nothing (m ∷ ms) e = cc
 
 module _ (heading : Heading) (h : List Event) (events : events_of (notes heading h) ≡ h) where
   -- ---- the values and null pages of the annotated history
@@ -169,7 +166,7 @@ module _ (heading : Heading) (h : List Event) (events : events_of (notes heading
   root_fresh fresh pe page kind lock p same none i = by (fresh p) refl
     where
       unfresh_none : filter (λ q. not (fresh q)) (root_pages heading.world kind page) ≡ []
-      unfresh_none = nothing (filter (λ q. not (fresh q)) (root_pages heading.world kind page))
+      unfresh_none = least_none (filter (λ q. not (fresh q)) (root_pages heading.world kind page))
           (sym (root_rule fresh pe page kind lock same) ∙ none)
 
       by : (c : Bool) → fresh p ≡ c → c ≡ true
