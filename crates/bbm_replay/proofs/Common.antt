@@ -49,7 +49,7 @@ pub use Rattle.bbm_tlbi_scope.specs.declared.scope.Family.TheVariants.{Asid}
 pub use Rattle.bbm_tlbi_scope.specs.declared.scope.Scope.{Scope}
 pub use Rattle.bbm_tree_index.specs.Descent.{IsWay, Translates}
 pub use Rattle.bbm_tree_index.specs.HeldCores.{core_at, core_with, is_at, limbo_by, next_in}
-pub use Rattle.bbm_tree_index.specs.IndexAgreement.{IsSound}
+pub use Rattle.bbm_tree_index.specs.IndexAgreement.{is_sound}
 pub use Rattle.bbm_tree_index.specs.Nodes.{path_at}
 pub use Rattle.bbm_tree_index.specs.Paths.{Attached}
 pub use Rattle.bbm_tree_index.specs.declared.fault.TreeFault.{TreeFault}

@@ -13,7 +13,6 @@ pub stands_next : (old new : ReplayState) → SameFrame old new → (heading : H
 stands_next old new f heading h next s told roots = record {
   header = f.header ∙ s.header;
   index_header = f.index_header ∙ s.index_header;
-  sound = f.sound s.sound;
   told = told;
   roots = roots;
 }

@@ -4,7 +4,7 @@ use Rattle.bbm_replay.proofs.Common.{BreakBeforeMake, LimboMake, NotFresh, BadKi
 use Rattle.bbm_replay.proofs.Common.{NullWritten, PlaceMap, TreeIndex, state_at}
 use Rattle.bbm_replay.proofs.Common.{RootState, View, notes, Laws, attached_next, is_contiguous_core, is_global_core}
 use Rattle.bbm_replay.proofs.Common.{step_fault, TreeFault, Rules, Admitted, core_in, Kind, WritesTree, IsAt, IsUnlocked, Links, MayAdmit, Meets}
-use Rattle.bbm_replay.proofs.Common.{IsSound, PartsStand, SameFrame, view_of, Told, state_of, ReplayState}
+use Rattle.bbm_replay.proofs.Common.{PartsStand, SameFrame, view_of, Told, state_of, ReplayState}
 use Rattle.bbm_rules.proofs.Common.{◌≡◌, ℕ, ◌<◌, ◌%◌, Bool, true, false, not, ◌&&◌, ◌⊎◌, ◌==◌}
 use Rattle.bbm_rules.proofs.Common.{List, [], ◌∷◌, Option, Some, None, is_none, is_some, option_and_then, Result, Ok}
 use Rattle.bbm_rules.proofs.Common.{Err, refl, sym, ◌∙◌, ap, subst, inl, inr, option_map_or}
@@ -241,7 +241,7 @@ module _ (laws : (heading : Heading) → Laws heading) (rules : (heading : Headi
           admitted k = record {
             kept = λ heading h s. leaf heading h s ∙ passes BadKind _ _ (where_false (is_contiguous_core new) place good)
                 ∙ passes GlobalUser _ _ (where_false (same_kind path.kind Ttbr0 && is_global_core new) place k);
-            frame = record { header = refl; index_header = refl; sound = λ s. s };
+            frame = record { header = refl; index_header = refl };
             same_map = refl;
             same_roots = refl;
             links = subst (λ (o : Option ℕ). Links old.map place o old.index old.index) (sym none) refl;
@@ -283,9 +283,9 @@ module _ (laws : (heading : Heading) → Laws heading) (rules : (heading : Headi
                 → is_none (attached_by heading Patterns (notes heading h) e) ≡ false
             some_attached empty = rw (node_is, empty, (one_attached next one).1) refl
 
-        module _ (index' : TreeIndex) (tracked : SameTracked old.index index') (sound : IsSound index') where
+        module _ (index' : TreeIndex) (tracked : SameTracked old.index index') where
           frame : SameFrame old (record old { index = index' })
-          frame = record { header = refl; index_header = tracked.heading; sound = λ s. sound }
+          frame = record { header = refl; index_header = tracked.heading }
 
           module _ (pages : SamePages old.index index') where
             same : (heading : Heading) (h : List Event) → PartsStand old heading h
@@ -420,5 +420,4 @@ module _ (laws : (heading : Heading) → Laws heading) (rules : (heading : Headi
         frame = record {
           header = done.frame.header;
           index_header = done.frame.index_header;
-          sound = done.frame.sound;
         }

@@ -31,7 +31,7 @@ pub tlbi_meets : ((heading : Heading) → Laws heading) → ((heading : Heading)
 tlbi_meets laws rules old map r pe op xt m unbroken reach reached noted others idle idle' values marks pages taken = record {
   judged = λ heading h s. (unbroken heading h s.roots, (rules heading).limits.others h (Tlbi pe op xt) refl);
   taken = λ heading h s. stands_next old (record old { map = map; roots = r })
-      (record { header = refl; index_header = refl; sound = λ k. k }) heading h (Tlbi pe op xt ∷ h) s
+      (record { header = refl; index_header = refl }) heading h (Tlbi pe op xt ∷ h) s
       (after_tlbi heading (laws heading) h (view_of old.map old.index) (view_of map old.index) s.told pe op xt reach
       (subst (λ (x : Heading). (p : ℕ) → p < x.pes → pe_in reach p ≡ ((operation op).broadcast || (not x.cnp && nat_eq pe p))) s.header reached)
       (record {

@@ -31,7 +31,6 @@ pub stands_quiet : ((heading : Heading) → Laws heading) → (p : ReplayState) 
 stands_quiet laws p r e quiet heading h s fits unbroken taken = record {
   header = s.header;
   index_header = s.index_header;
-  sound = s.sound;
   told = after_quiet heading (laws heading) h (view_of p.map p.index) (view_of p.map p.index) s.told e quiet fits unbroken (record {
     map = record { value = λ a. refl; marks = λ a. refl; pends = λ q a b c i. refl };
     nodes = λ x. refl;
@@ -46,7 +45,6 @@ pub stands_same : (p : ReplayState) (r : RootState) (heading : Heading) (h : Lis
 stands_same p r heading h s same = record {
   header = s.header;
   index_header = s.index_header;
-  sound = s.sound;
   told = s.told;
   roots = same;
 }

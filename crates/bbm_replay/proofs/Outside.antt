@@ -95,7 +95,7 @@ module _ (laws : (heading : Heading) → Laws heading) (rules : (heading : Headi
         judged = λ heading h s. (kept heading h s, (rules heading).limits.others h (Write pe place v) refl);
         taken = λ heading h s.
             let left = leaves_unbroken old.map map pe place v (m.2.told.outside place away) marks pends idle state.Clean refl in
-            stands_next old (record old { map = map }) (record { header = refl; index_header = refl; sound = λ s. s })
+            stands_next old (record old { map = map }) (record { header = refl; index_header = refl })
             heading h (Write pe place v ∷ h) s
             (after_write_outside heading (laws heading) h (view_of old.map old.index) (view_of map old.index) s.told pe place v
             state.Clean

@@ -1,6 +1,6 @@
 -- A broken place that isn't met on the way down to an input page isn't covered by a TLBI of that page.
 use Rattle.bbm_replay.proofs.Common.{unwrap_or, Noted, waits, Marks, Pends, EntryState, Clean, Live, Heading, PlaceMap}
-use Rattle.bbm_replay.proofs.Common.{input_pages, IsSound, IsWay, core_at, TreeIndex, RootState, SameCores, notes}
+use Rattle.bbm_replay.proofs.Common.{input_pages, is_sound, IsWay, core_at, TreeIndex, RootState, SameCores, notes}
 use Rattle.bbm_replay.proofs.Common.{MayBeIssued, NamedTlbi, Laws, MetFromAll, NamesOne, covers_kind, view_of}
 use Rattle.bbm_rules.proofs.Common.{◌≡◌, ℕ, zero, suc, ◌+◌, ◌-◌, ◌*◌, ◌%◌, ◌<◌, ◌≤◌, ◌&&◌, ◌||◌, nat_le, Bool, true}
 use Rattle.bbm_rules.proofs.Common.{false}
@@ -110,7 +110,7 @@ module _ (heading : Heading) (laws : Laws heading) (h : List Event)
     (starts : Starts heading)
     (ev : events_of (notes heading h) ≡ h) (map : PlaceMap) (index : TreeIndex) (state : RootState) (pe : ℕ) (op : TlbiOp)
     (xt : ℕ) (named : NamedTlbi) (m : MayBeIssued heading h map index state pe op xt named) where
-  module _ (aligned : (a : ℕ) → is_some (marks_at map a) ≡ true → a % 8 ≡ 0) (sound : IsSound index) (at : ℕ)
+  module _ (aligned : (a : ℕ) → is_some (marks_at map a) ≡ true → a % 8 ≡ 0) (at : ℕ)
       (one : NamesOne named.scope at) (Has : ℕ → Type 0)
       (met : (r : Declared) → root_at h r.page ≡ Some r → covers_kind named.scope.family r.kind ≡ true
       → MetFromAll (node_in index) (core_at map) at r.page (page_count heading.world r.kind) Has) where
@@ -118,7 +118,7 @@ module _ (heading : Heading) (laws : Laws heading) (h : List Event)
     same_cores = cores heading h (view_of map index) m.told
 
     is_page : (p : ℕ) (n : Node) → node_in index p ≡ Some n → IsPage p
-    is_page p n is = sound.pages p (sym (m.told.tracked p) ∙ m.told.apart.node_tracked p n is)
+    is_page p n is = (is_sound index).pages p (sym (m.told.tracked p) ∙ m.told.apart.node_tracked p n is)
 
     found_top : (n : Node) (a : ℕ) → covers_kind named.scope.family n.kind ≡ true
         → (t : Top heading laws h (view_of map index) m.told.kept m.told.fit m.told.nodes same_cores at a n)

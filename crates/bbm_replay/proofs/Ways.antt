@@ -1,6 +1,6 @@
 -- Going down a tree along an input page.
 use Rattle.bbm_replay.proofs.Common.{option_map, core_in, Marks, state_from, PlaceMap, IsWay, Translates, core_at}
-use Rattle.bbm_replay.proofs.Common.{core_with, is_at, next_in, IsSound, path_at, TreeIndex, Path, IsOnWay}
+use Rattle.bbm_replay.proofs.Common.{core_with, is_at, next_in, is_sound, path_at, TreeIndex, Path, IsOnWay}
 use Rattle.bbm_rules.proofs.Common.{◌≡◌, ℕ, suc, ◌+◌, ◌*◌, ◌^◌, ◌%◌, ◌<◌, ◌≤◌, ◌==◌, true, List, [], ◌∷◌, Option, Some}
 use Rattle.bbm_rules.proofs.Common.{None, ◌⊎◌, inl, inr, refl, sym, ap, ◌∙◌, subst, arith, and_parts, eqb-true, core_of}
 use Rattle.bbm_rules.proofs.Common.{Core, Kind, page_of, input_pages, Node, node_below, region_start}
@@ -84,7 +84,7 @@ ahead node core at page (Some m) inside meets way a w =
     (m, refl, way, subst (λ p. IsWay node core at p way a) (sym (own_page page m.0 (inside m refl))) w)
 
 -- below a place on the way, which holds a table
-module _ (map : PlaceMap) (index : TreeIndex) (sound : IsSound index) (fits : FitTogether map index) (at place : ℕ)
+module _ (map : PlaceMap) (index : TreeIndex) (fits : FitTogether map index) (at place : ℕ)
     (path : Path) (on : IsOnWay (node_in index) at place path) (next : Option ℕ)
     (goes : next ≡ next_in (core_at map path.kind path.level place)) (x : ℕ) (table : next ≡ Some x) where
   pub hangs : node_in index x ≡ Some (node_below on.stands place x)
@@ -95,8 +95,8 @@ module _ (map : PlaceMap) (index : TreeIndex) (sound : IsSound index) (fits : Fi
       × (region_start on.stands place + 512 * input_pages (suc on.stands.level) ≤ 2 ^ 45)
   unfolding node_in
   in_range = (
-    sound.roles.shallow x (node_below on.stands place x) hangs,
-    sound.roles.within x (node_below on.stands place x) hangs,
+    (is_sound index).roles.shallow x (node_below on.stands place x) hangs,
+    (is_sound index).roles.within x (node_below on.stands place x) hangs,
   )
 
   pub may_hang : MayHang path

@@ -6,7 +6,6 @@ use Rattle.bbm_entry_state.specs.declared.marks.Marks.{Marks}
 use Rattle.bbm_place_map.specs.Map.{is_tracked, marks_at, pends_at, value_at}
 use Rattle.bbm_place_map.specs.declared.map.PlaceMap.{PlaceMap}
 use Rattle.bbm_tree_index.specs.HeldCores.{next_in}
-use Rattle.bbm_tree_index.specs.IndexAgreement.{IsSound}
 use Rattle.bbm_tree_index.specs.Index.{SameTracked, fresh_in, heading_of, known_in, node_in, null_in, pages_in}
 use Rattle.bbm_tree_index.specs.IndexChanges.{Attaches}
 use Rattle.bbm_tree_index.specs.declared.index.TreeIndex.{TreeIndex}
@@ -50,7 +49,6 @@ view_of map index = record {
 pub record PartsStand (parts : ReplayState) (heading : Heading) (h : List Event) : Type 0 where
   pub header : parts.header ≡ heading
   pub index_header : heading_of parts.index ≡ heading
-  pub sound : IsSound parts.index
   pub told : Told heading h (view_of parts.map parts.index)
   pub roots : roots.StateStands parts.roots heading h
 
@@ -80,11 +78,10 @@ pub record StandsFor (replay : Replay) (heading : Heading) (h : List Event) : Ty
   pub parts : PartsStand replay.parts heading h
   pub counted : replay.events ≡ length h
 
--- what no event changes: the header, also that of the index; and the index stays sound
+-- what no event changes: the header, also that of the index
 pub record SameFrame (old new : ReplayState) : Type 0 where
   pub header : new.header ≡ old.header
   pub index_header : heading_of new.index ≡ heading_of old.index
-  pub sound : IsSound old.index → IsSound new.index
 
 -- no place is broken over a table
 abbrev pub OverLeaves : PlaceMap → Type 0

@@ -52,7 +52,7 @@ impl ReplayState {
         if self.is_used(page) {
             return Err(StepFault::Broken(Rule::PageInUse, page.get()));
         }
-        match self.index.track(alloc, &mut self.map, page) {
+        match self.index.track(&mut self.map, page) {
             Ok(()) => Ok(()),
             Err(fault) => Err(step_fault(fault)),
         }
@@ -69,7 +69,7 @@ impl ReplayState {
         if self.header.has_kind(Kind::S2) {
             return Err(StepFault::Broken(Rule::WrongWorld, 0));
         }
-        if !self.index.is_fresh(page) {
+        if !self.index.is_fresh(page, self.map.recent_page()) {
             return Err(StepFault::Broken(Rule::PageInUse, page.get()));
         }
         if !is_zero(&self.map, page) {

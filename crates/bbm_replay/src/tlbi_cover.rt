@@ -10,7 +10,6 @@ ghost use Rattle.bbm_place_map.specs.Map.{restless_in};
 ghost use Rattle.bbm_regimes.specs.PeMask.{pe_in};
 ghost use Rattle.bbm_replay.specs.Covering.{Grows, IsNoted, IsSettled};
 ghost use Rattle.bbm_replay.specs.OnePage.{FitTogether, FitsSearch};
-ghost use Rattle.bbm_tree_index.specs.IndexAgreement.{IsSound};
 
 use crate::laws::laws;
 use bbm_events::Header;
@@ -92,7 +91,6 @@ impl Covering<'_> {
     /// Adds broken places that the TLBI covers, each with its cover. After true it covers no other; after false it is
     /// to be asked of one page after another. `NoMemory` where there is none.
     fn find(&self, map: &PlaceMap, found: &mut SmallVec<Found, 4>) -> Result<bool, NoMemory>
-        requires sound { IsSound self.now.index.now }
         requires fits { FitTogether map.now self.now.index.now }
         ensures grows { OnOk result (Grows map.now self.now found.old.items found.new.items) }
         ensures settled { IfOk result (λ all. all ≡ true → (a : ℕ) → IsSettled map.now self.now found.new.items a) }
@@ -123,7 +121,6 @@ impl Covering<'_> {
         pe: Pe,
         reach: PeMask,
     ) -> Result<(), NoMemory>
-        requires sound { IsSound self.now.index.now }
         requires fits { FitTogether map.old self.now.index.now }
         ensures { IsNoted self.now pe reach map.old map.new result }
     {
@@ -135,6 +132,6 @@ impl Covering<'_> {
         if !all {
             return self.issue_by_pages(alloc, map, pe, reach);
         }
-        map.issue_at(alloc, pe, reach, self.named.scope.broadcast, &found)
+        map.issue_at(pe, reach, self.named.scope.broadcast, &found)
     }
 }

@@ -22,7 +22,7 @@ fn is_fresh_address(index: &TreeIndex, at: u64) -> bool
     ensures { result ≡ fresh_in index.now at }
 {
     match Page::new(at) {
-        Some(page) => index.is_fresh(page),
+        Some(page) => index.is_fresh(page, 0),
         None => false,
     }
 }

@@ -165,14 +165,6 @@ impl ReplayState {
         Some((position, path))
     }
 
-    /// Whether the page is fresh. No answer depends on the number `hint`, at which the page is looked for first.
-    #[inline(always)]
-    fn is_fresh(&self, page: Page, hint: usize) -> bool
-        ensures { result ≡ fresh_in self.now.index page }
-    {
-        self.index.is_fresh_at(page, hint) || self.index.is_fresh(page)
-    }
-
     /// A write at a place of no tree. No answer depends on the number `hint`, at which the page is looked for first.
     #[inline(never)]
     fn write_outside(
@@ -190,14 +182,14 @@ impl ReplayState {
         rules();
         law_others();
         let page = place.page();
-        if !self.is_fresh(page, hint) {
+        if !self.index.is_fresh(page, hint) {
             if self.index.is_null(page) {
                 return Err(StepFault::Broken(Rule::NullWritten, place.get()));
             }
             return Err(StepFault::Broken(Rule::NotFresh, page.get()));
         }
         let position = self.map.position_near(place, hint).unwrap();
-        if rewrites(self.map.value(place), value) {
+        if rewrites(self.map.value_of(&position), value) {
             return Err(StepFault::Broken(Rule::RewrittenFresh, place.get()));
         }
         self.map.put_at(&position, value);

@@ -22,10 +22,10 @@ fn a_null_page(rt: HostRuntime) -> Result<(), TreeFault> {
     let page = Page::new(0x4000_0000).unwrap();
     let mut index = TreeIndex::new(rt.alloc(), &HYP);
     index.track(&mut map, page)?;
-    if index.is_fresh(page) {
+    if index.is_fresh(page, 0) {
         index.nullify(page);
     }
-    assert!(rt; index.is_null(page) && !index.is_fresh(page) && !index.is_in_tree(page));
+    assert!(rt; index.is_null(page) && !index.is_fresh(page, 0) && !index.is_in_tree(page));
     assert!(rt; index.pages() == 1);
     Ok(())
 }

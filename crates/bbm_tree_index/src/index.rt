@@ -22,7 +22,7 @@ use crate::leaving::{Leaving, sweep};
 use crate::mark::Mark;
 use crate::role::{Detach, Path, Role};
 use crate::spot::{Spot, spot_of};
-use crate::table::{number_of, put};
+use crate::table::{number_of, put, role_of};
 use bbm_events::Header;
 use bbm_page_map::PageMap;
 use bbm_place_map::PlaceMap;
@@ -95,11 +95,12 @@ impl TreeIndex {
         }
     }
 
-    /// Whether the page is fresh.
-    pub fn is_fresh(&self, page: Page) -> bool
+    /// Whether the page is fresh. No answer depends on the number `hint`, at which the page is looked for first.
+    #[inline(always)]
+    pub fn is_fresh(&self, page: Page, hint: usize) -> bool
         ensures { result ≡ fresh_in self.now page }
     {
-        matches!(self.role(page), Role::Fresh)
+        matches!(role_of(&self.roles, page, hint), Role::Fresh)
     }
 
     /// Whether the page is a null page.

@@ -4,7 +4,6 @@ ghost use Rattle.std.specs.Prelude.{◌<◌, ◌≤◌, ℕ, IfOk, OnOk};
 ghost use Rattle.bbm_place_map.specs.Map.{restless_in, restless_place};
 ghost use Rattle.bbm_replay.specs.Covering.{Grows, IsBrokenOver, IsPathOf, IsSettled};
 ghost use Rattle.bbm_replay.specs.declared.tlbi_cover.TheConstants.{ONE_BY_ONE};
-ghost use Rattle.bbm_tree_index.specs.IndexAgreement.{IsSound};
 
 use crate::tlbi_cover::Covering;
 use bbm_descriptor::Core;
@@ -25,7 +24,6 @@ impl Covering<'_> {
         path: &Path,
         found: &mut SmallVec<Found, 4>,
     ) -> Result<Core, NoMemory>
-        requires sound { IsSound self.now.index.now }
         requires within { number < restless_in map.now }
         requires path { IsPathOf self.now.index.now (restless_place map.now number) path.now }
         ensures core { IfOk result (λ core. IsBrokenOver map.now (restless_place map.now number) core) }
@@ -58,7 +56,6 @@ impl Covering<'_> {
         number: u32,
         found: &mut SmallVec<Found, 4>,
     ) -> Result<(), NoMemory>
-        requires sound { IsSound self.now.index.now }
         requires within { number < restless_in map.now }
         ensures grows { OnOk result (Grows map.now self.now found.old.items found.new.items) }
         ensures settled { OnOk result
@@ -83,7 +80,6 @@ impl Covering<'_> {
         map: &PlaceMap,
         found: &mut SmallVec<Found, 4>,
     ) -> Result<(), NoMemory>
-        requires sound { IsSound self.now.index.now }
         requires count { restless_in map.now ≤ ONE_BY_ONE }
         ensures grows { OnOk result (Grows map.now self.now found.old.items found.new.items) }
         ensures settled { OnOk result ((a : ℕ) → IsSettled map.now self.now found.new.items a) }

@@ -5,7 +5,6 @@ ghost use Rattle.bbm_place_map.specs.Map.{restless_in, restless_place};
 ghost use Rattle.bbm_replay.specs.Covering.{CoverEach, CoversAlike, IsCovered, IsNoted};
 ghost use Rattle.bbm_rules.specs.Tree.{Node};
 ghost use Rattle.bbm_tlbi_scope.specs.Numbers.{names_some as spec_names_some};
-ghost use Rattle.bbm_tree_index.specs.IndexAgreement.{IsSound};
 ghost use Rattle.bbm_tree_index.specs.Nodes.{path_at};
 
 use crate::laws::laws;
@@ -57,7 +56,6 @@ impl Covering<'_> {
         i: u64,
         alike: &Option<PageCover>,
     ) -> (Cover, Option<PageCover>)
-        requires sound { IsSound self.now.index.now }
         requires within { i < restless_in map.now }
         requires alike { CoversAlike map.now self.now alike.now }
         ensures here { IsCovered map.now self.now result.0 (restless_place map.now i) }
@@ -94,7 +92,6 @@ impl Covering<'_> {
     /// Adds how far the TLBI covers each of the broken places, in the order of their numbers. Those of a page that it
     /// covers alike are asked once where they follow one another. `NoMemory` where there is none.
     fn covers(&self, map: &PlaceMap, covers: &mut SmallVec<Answer, 8>) -> Result<(), NoMemory>
-        requires sound { IsSound self.now.index.now }
         requires empty { covers.old.items ≡ [] }
         ensures len { OnOk result (length covers.new.items ≡ restless_in map.now) }
         ensures each { OnOk result (CoverEach map.now self.now covers.new.items) }
@@ -118,7 +115,6 @@ impl Covering<'_> {
         pe: Pe,
         reach: PeMask,
     ) -> Result<(), NoMemory>
-        requires { IsSound self.now.index.now }
         ensures { IsNoted self.now pe reach map.old map.new result }
     {
         let mut covers = SmallVec::new(alloc);

@@ -14,7 +14,6 @@ ghost use Rattle.bbm_rules.specs.Tree.{Node};
 ghost use Rattle.bbm_tlbi_scope.specs.ScopeCovers.{asid_matches, cover_of, vmid_matches, where_fits as spec_where_fits};
 ghost use Rattle.bbm_tree_index.specs.HeldCores.{Childless, core_at};
 ghost use Rattle.bbm_tree_index.specs.Index.{node_in};
-ghost use Rattle.bbm_tree_index.specs.IndexAgreement.{IsSound};
 
 use crate::laws::laws;
 use crate::tlbi_cover::Covering;
@@ -97,7 +96,6 @@ impl Covering<'_> {
     /// Whether the place, which holds a table or not, holds one no place of which holds anything; told where the TLBI
     /// names pages of any level, on which alone it depends.
     fn is_childless(&self, map: &PlaceMap, place: Place, table: bool) -> bool
-        requires { IsSound self.now.index.now }
         ensures { asks_childless self.now.named.now.scope table ≡ true → (n : Node)
             → node_in self.now.index.now (page_of place) ≡ Some n
             → (result ≡ true) ↔ Childless (core_at map.now) n place }
@@ -184,7 +182,6 @@ impl Covering<'_> {
     /// How far the TLBI covers the place, which has this path, where it is broken over this core, by the table of
     /// covers.
     fn cover_by_table(&self, map: &PlaceMap, place: Place, path: &Path, core: &Core) -> Cover
-        requires sound { IsSound self.now.index.now }
         requires path { IsPathOf self.now.index.now place path.now }
         ensures { IsBrokenOver map.now place core.now → IsCovered map.now self.now result place }
     {
@@ -219,7 +216,6 @@ impl Covering<'_> {
     /// answered at once.
     #[inline(always)]
     pub(crate) fn cover_of(&self, map: &PlaceMap, place: Place, path: &Path, core: &Core) -> Cover
-        requires sound { IsSound self.now.index.now }
         requires path { IsPathOf self.now.index.now place path.now }
         ensures { IsBrokenOver map.now place core.now → IsCovered map.now self.now result place }
     {

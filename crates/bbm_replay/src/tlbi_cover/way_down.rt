@@ -9,7 +9,6 @@ ghost use Rattle.bbm_regimes.specs.World as spec;
 ghost use Rattle.bbm_regimes.specs.declared.regime.Kind.{Kind as TheKind};
 ghost use Rattle.bbm_rules.specs.Places.{page_of};
 ghost use Rattle.bbm_rules.specs.Roots.{Declared, root_at};
-ghost use Rattle.bbm_tree_index.specs.IndexAgreement.{IsSound};
 ghost use Rattle.bbm_tree_index.specs.HeldCores.{core_at, next_in};
 ghost use Rattle.bbm_tree_index.specs.Index.{node_in};
 ghost use Rattle.bbm_replay_roots.specs.RootsByNumber.{nth_root_in};
@@ -61,7 +60,6 @@ impl Covering<'_> {
         hint: usize,
         found: &mut SmallVec<Found, 4>,
     ) -> Result<Option<Page>, NoMemory>
-        requires sound { IsSound self.now.index.now }
         requires tracked { is_tracked map.now (page_of place) ≡ true }
         requires low { path.now.level ≤ 3 }
         requires path { IsPathOf self.now.index.now place path.now }
@@ -93,7 +91,6 @@ impl Covering<'_> {
         hint: usize,
         found: &mut SmallVec<Found, 4>,
     ) -> Result<(), NoMemory>
-        requires sound { IsSound self.now.index.now }
         requires fits { FitTogether map.now self.now.index.now }
         ensures grows { OnOk result (Grows map.now self.now found.old.items found.new.items) }
         ensures met { OnOk result (MetFrom (node_in self.now.index.now) (core_at map.now) input addr
@@ -125,7 +122,6 @@ impl Covering<'_> {
         pages: &RootPages,
         found: &mut SmallVec<Found, 4>,
     ) -> Result<(), NoMemory>
-        requires sound { IsSound self.now.index.now }
         requires fits { FitTogether map.now self.now.index.now }
         ensures grows { OnOk result (Grows map.now self.now found.old.items found.new.items) }
         ensures met { OnOk result (MetFromAll (node_in self.now.index.now) (core_at map.now) input pages.now.first
@@ -150,7 +146,6 @@ impl Covering<'_> {
         number: usize,
         found: &mut SmallVec<Found, 4>,
     ) -> Result<(), NoMemory>
-        requires sound { IsSound self.now.index.now }
         requires fits { FitTogether map.now self.now.index.now }
         ensures grows { OnOk result (Grows map.now self.now found.old.items found.new.items) }
         ensures met { OnOk result ((kind : TheKind) (first : ℕ)
@@ -183,7 +178,6 @@ impl Covering<'_> {
         input: u64,
         found: &mut SmallVec<Found, 4>,
     ) -> Result<(), NoMemory>
-        requires sound { IsSound self.now.index.now }
         requires fits { FitTogether map.now self.now.index.now }
         ensures grows { OnOk result (Grows map.now self.now found.old.items found.new.items) }
         ensures met { OnOk result ((heading : Heading) (h : List Event) (root : Declared)

@@ -25,7 +25,7 @@ returns-in-Ok c =
     let e = c.attach.ensures in
     attach_ok c.laws.ensures c.rules.ensures c.requires (sym c.differ.ensures ∙ c.if-differ.false)
     (sym c.makes_in_limbo.ensures ∙ c.if-makes_in_limbo.false)
-    c.in-Some.next (sym c.attached_next.ensures ∙ c.in-Some.is) c.attach.new.self e.tracked e.sound a.judged a.attached
+    c.in-Some.next (sym c.attached_next.ensures ∙ c.in-Some.is) c.attach.new.self e.tracked a.judged a.attached
 
 pub returns-in-Err : goal.returns-in-Err
 returns-in-Err c =
@@ -34,7 +34,7 @@ returns-in-Err c =
     rw c.step_fault.ensures
     (attach_fault c.laws.ensures c.rules.ensures c.requires (sym c.differ.ensures ∙ c.if-differ.false)
     (sym c.makes_in_limbo.ensures ∙ c.if-makes_in_limbo.false)
-    c.in-Some.next (sym c.attached_next.ensures ∙ c.in-Some.is) c.attach.new.self e.tracked e.sound a.same
+    c.in-Some.next (sym c.attached_next.ensures ∙ c.in-Some.is) c.attach.new.self e.tracked a.same
     c.in-Err.fault a.judged)
 
 pub returns-then-is_contiguous : goal.returns-then-is_contiguous

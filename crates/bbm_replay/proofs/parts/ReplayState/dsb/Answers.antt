@@ -18,13 +18,13 @@ returns-then-complete c =
     c.pe_count-n.ensures.count p.published p.unheard p.values p.pends in
     let completes = completes_of old m1 m2 c.args.pe c.args.dsb c.pe_count-n.result c.pe_count-n.ensures.count e.completed e.others e.same.values in
     dsb_meets c.laws.ensures old new m1 m2 c.args.pe c.args.dsb c.requires hears completes (λ x. e.same.pages x ∙ p.pages x)
-    (record { header = refl; index_header = r.tracked.heading; sound = λ s. r.sound })
+    (record { header = refl; index_header = r.tracked.heading })
     (λ heading h. c.law_barriers.ensures.dsb heading h c.args.pe c.args.dsb)
     (λ h. c.law_barriers.ensures.dsb_limit h c.args.pe c.args.dsb)
     c.complete-then-complete.ensures.taken
     (λ heading h s. leaves_of old.index new.index m2 new.map (is_held_by (holds_at m2))
     (still_outside c.laws.ensures old new m1 m2 c.args.pe c.args.dsb c.requires hears completes (λ x. e.same.pages x ∙ p.pages x)
-    (record { header = refl; index_header = r.tracked.heading; sound = λ s. r.sound })
+    (record { header = refl; index_header = r.tracked.heading })
     (λ heading h. c.law_barriers.ensures.dsb heading h c.args.pe c.args.dsb)
     (λ h. c.law_barriers.ensures.dsb_limit h c.args.pe c.args.dsb)
     c.complete-then-complete.ensures.taken heading h s)
@@ -42,12 +42,12 @@ returns c =
     c.pe_count-n.ensures.count p.published p.unheard p.values p.pends in
     let completes = completes_of old m1 m2 c.args.pe c.args.dsb c.pe_count-n.result c.pe_count-n.ensures.count e.completed e.others e.same.values in
     dsb_meets c.laws.ensures old new m1 m2 c.args.pe c.args.dsb c.requires hears completes (λ x. e.same.pages x ∙ p.pages x)
-    (record { header = refl; index_header = refl; sound = λ s. s })
+    (record { header = refl; index_header = refl })
     (λ heading h. c.law_barriers.ensures.dsb heading h c.args.pe c.args.dsb)
     (λ h. c.law_barriers.ensures.dsb_limit h c.args.pe c.args.dsb)
     c.complete-2.ensures.taken
     (λ heading h s. nothing_leaves c.laws.ensures old new m1 m2 c.args.pe c.args.dsb c.requires hears completes (λ x. e.same.pages x ∙ p.pages x)
-    (record { header = refl; index_header = refl; sound = λ s. s })
+    (record { header = refl; index_header = refl })
     (λ heading h. c.law_barriers.ensures.dsb heading h c.args.pe c.args.dsb)
     (λ h. c.law_barriers.ensures.dsb_limit h c.args.pe c.args.dsb)
     c.complete-2.ensures.taken heading h s (e.kept c.if-complete.false))

@@ -17,7 +17,7 @@ returns-in-Ok c =
     let new : ReplayState = record old { map = c.track.new.map; index = c.track.new.self } in
     let free = sym c.is_used.ensures ∙ c.if-is_used.false in
     init_ok c.laws.ensures c.rules.ensures c.law_others.ensures old new c.args.pe c.args.page c.requires free
-    (record { header = refl; index_header = e.counted.heading; sound = c.track.ensures.sound }) refl
+    (record { header = refl; index_header = e.counted.heading }) refl
     (λ full. let bad = e.limit.1 full in absurd cc)
     (record {
       outside = (free_parts (node_in old.index c.args.page) (null_in old.index c.args.page) free).0;
@@ -40,7 +40,7 @@ returns-in-Err c =
     let new : ReplayState = record old { map = c.track.new.map; index = c.track.new.self } in
     init_err c.laws.ensures c.rules.ensures c.law_others.ensures old new c.args.pe c.args.page c.requires
     (sym c.is_used.ensures ∙ c.if-is_used.false)
-    (record { header = refl; index_header = e.same_tracked.heading; sound = c.track.ensures.sound }) refl
+    (record { header = refl; index_header = e.same_tracked.heading }) refl
     c.step_fault.result
     (full_by c.in-Err.fault c.step_fault.result _ c.step_fault.ensures (λ k. e.limit.0 (ap (λ (x : TreeFault). Err x) k)))
     (else_by c.in-Err.fault c.step_fault.result c.step_fault.ensures e.fault)

@@ -10,7 +10,6 @@ returns c =
     record {
       header = refl;
       index_header = i.heading;
-      sound = (c.new-index.ensures.agrees c.new-2.result m.marks).sound;
       told =
           told_empty c.args.header.now (view_of c.new-2.result c.new-index.result) c.in_ranges.ensures m.values m.marks
           i.node i.fresh i.null i.known m.pages i.pages;

@@ -28,7 +28,7 @@ returns c =
     null_ok c.laws.ensures c.rules.ensures c.law_others.ensures old new c.args.pe c.args.page c.requires
     (λ heading e. ap (λ (x : Heading). kind_in_world x.world S2) (sym e) ∙ sym c.has_kind.ensures ∙ c.if-has_kind.false)
     (sym c.is_fresh.ensures ∙ c.if-not-is_fresh.false) (c.is_zero.ensures.zero c.if-not-is_zero.false)
-    (record { header = refl; index_header = e.tracked.heading; sound = e.sound }) refl
+    (record { header = refl; index_header = e.tracked.heading }) refl
     (record {
       was_fresh = sym c.is_fresh.ensures ∙ c.if-not-is_fresh.false;
       map = record { value = λ a. refl; marks = λ a. refl; pends = λ q a b i p. refl };

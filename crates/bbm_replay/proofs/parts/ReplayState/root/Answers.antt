@@ -95,7 +95,7 @@ returns-in-Ok-declare c =
     (λ heading k. unfresh_is old c.args.kind c.args.page c.page_count.result heading k
     (sym c.has_kind.ensures ∙ c.if-not-has_kind.false) c.page_count.ensures.value ∙ sym c.in-None.ensures))
     c.prepare-2.new.self c.prepare-2.ensures.kept.same new
-    (record { header = refl; index_header = c.attach_prepared.ensures.tracked.heading; sound = λ k. c.attach_prepared.ensures.sound })
+    (record { header = refl; index_header = c.attach_prepared.ensures.tracked.heading })
     (λ heading h s k. let bad = (r.limit heading h c.args.pe c.args.kind c.args.lock c.args.page s).1 k in absurd cc)
     (record { value = λ a. refl; marks = λ a. refl; pends = λ q a b i p. refl })
     (attaches_of old.index new.index old.map new.map (attach.Root c.args.kind c.args.page)

@@ -27,7 +27,7 @@ returns-in-Err-issue c =
       judged = λ heading h s. tt;
       taken = tt;
       unchanged = λ heading h s. stands_still c.laws.ensures old new (record
-          { header = refl; index_header = refl; sound = λ k. k })
+          { header = refl; index_header = refl })
           (same_of old.map new.map old.index old.index c.in-Err-issue.ensures.kept
           (record { node = λ p. refl; fresh = λ p. refl; null = λ p. refl })
           (record { known = λ p. refl; pages = refl; heading = refl })) heading h s

@@ -1,5 +1,6 @@
 use Rattle.bbm_replay.proofs.Common.{Puts}
 use Rattle.bbm_rules.proofs.Common.{◌≡◌, ℕ, ◌%◌, ◌==◌, ◌&&◌, not, sym, ◌∙◌, ap, subst}
+use Rattle.bbm_place_map.specs.Map.{value_at}
 use Rattle.bbm_place_map.specs.declared.position.Position.{Position}
 use Rattle.bbm_tree_index.specs.Index.{fresh_in, null_in}
 use Rattle.bbm_replay.proofs.Findings.{if_some}
@@ -25,13 +26,17 @@ returns-then-not-is_fresh c = rw (c.get-then-not-is_fresh.ensures.value, c.page-
     ∙ c.if-is_null.false))
 
 pub returns-then-rewrites : goal.returns-then-rewrites
-returns-then-rewrites c = rw c.get-then-rewrites.ensures.value
+returns-then-rewrites c =
+    let map = c.args.self.now.map in
+    let same : c.unwrap-position.result.place ≡ c.args.place = if_some (λ (s : Position). s.place ≡ c.args.place)
+    c.position_near.result c.unwrap-position.result c.unwrap-position.ensures c.position_near.ensures.place in
+    rw c.get-then-rewrites.ensures.value
     (outside_rewritten c.laws.ensures c.rules.ensures c.args.self.now c.args.pe c.args.place c.args.value c.requires.may
     c.requires.outside
     (ap (λ (x : ℕ). fresh_in c.args.self.now.index x) (sym c.page-page.ensures) ∙ sym c.is_fresh.ensures
     ∙ c.if-not-is_fresh.false)
-    (ap (λ (x : ℕ). x % 2 == 1 && not (x == c.args.value)) (sym c.value.ensures) ∙ sym c.rewrites.ensures
-    ∙ c.if-rewrites.true))
+    (ap (λ (x : ℕ). x % 2 == 1 && not (x == c.args.value)) (ap (value_at map) (sym same) ∙ sym c.value_of.ensures)
+    ∙ sym c.rewrites.ensures ∙ c.if-rewrites.true))
 
 pub returns : goal.returns
 returns c =
@@ -42,7 +47,7 @@ returns c =
     c.requires.outside
     (ap (λ (x : ℕ). fresh_in c.args.self.now.index x) (sym c.page-page.ensures) ∙ sym c.is_fresh.ensures
     ∙ c.if-not-is_fresh.false)
-    (ap (λ (x : ℕ). x % 2 == 1 && not (x == c.args.value)) (sym c.value.ensures) ∙ sym c.rewrites.ensures
-    ∙ c.if-rewrites.false)
+    (ap (λ (x : ℕ). x % 2 == 1 && not (x == c.args.value)) (ap (value_at map) (sym same) ∙ sym c.value_of.ensures)
+    ∙ sym c.rewrites.ensures ∙ c.if-rewrites.false)
     c.law_others.ensures c.put_at.new.self (subst (λ a. Puts c.args.value a map c.put_at.new.self) same c.put_at.ensures.put)
     c.put_at.ensures.marks c.put_at.ensures.pends c.law_idle.ensures

@@ -83,7 +83,7 @@ pub place_below-here-requires : goal.place_below-here-requires
 place_below-here-requires c =
     let m = c.in-Some-here.met in
     let on = (c.loop-depth.invariant.on_way m c.in-Some-here.is).0 in
-    may_hang c.args.map.now c.args.self.now.index.now c.requires.sound c.requires.fits c.args.input m.0 m.1 on
+    may_hang c.args.map.now c.args.self.now.index.now c.requires.fits c.args.input m.0 m.1 on
     c.in_ok-next.field-0 c.in_ok-next.ensures.next c.in-Some-2.next c.in-Some-2.is
 
 pub loop-depth-preserved : goal.loop-depth-preserved
@@ -102,13 +102,13 @@ loop-depth-preserved c =
     let inside = λ (y : ℕ × Path) (is : below ≡ Some y).
     if_some (λ (z : ℕ × Path). is_at x z.0 ≡ true) below y is e.inside in
     let low : m.1.level ≤ 2
-    = (may_hang map index c.requires.sound c.requires.fits c.args.input m.0 m.1 at.0 next goes x c.in-Some-2.is).low in
+    = (may_hang map index c.requires.fits c.args.input m.0 m.1 at.0 next goes x c.in-Some-2.is).low in
     record {
       grows = (λ all. added.0 (v.grows.0 all), λ a has. added.1 a (v.grows.1 a has));
       on_way = λ y is.
           let level : y.1.level ≡ suc m.1.level
           = if_some (λ (z : ℕ × Path). z.1.level ≡ suc m.1.level) below y is e.level in (
-            on_way_below map index c.requires.sound c.requires.fits c.args.input m.0 m.1 at.0 next goes x c.in-Some-2.is
+            on_way_below map index c.requires.fits c.args.input m.0 m.1 at.0 next goes x c.in-Some-2.is
                 below y is (inside y is)
                 (if_some (λ (z : ℕ × Path). (n : Node) (a : ℕ) → m.1 ≡ path_at n a
                 → z.1 ≡ path_at (node_below n a x) z.0) below y is e.path) e.met,
@@ -120,7 +120,7 @@ loop-depth-preserved c =
             | inl has ↦ inl (settled_more map c.args.self.now c.loop-depth.found.items c.add_met.new.found.items added a
                 has)
             | inr more ↦ (let same : m ≡ more.0 = one m more.0 (sym c.in-Some-here.is ∙ more.1) in
-                goes_on map index c.requires.sound c.requires.fits c.args.input m.0 m.1 at.0 next goes x c.in-Some-2.is
+                goes_on map index c.requires.fits c.args.input m.0 m.1 at.0 next goes x c.in-Some-2.is
                 below inside e.met (IsSettled map c.args.self.now c.add_met.new.found.items) c.in_ok-next.ensures.settled more.2 a
                 (subst (λ (y : ℕ × Path). IsWay (node_in index) (core_at map) c.args.input (page_of y.0) more.2 a)
                 (sym same) more.3))

@@ -27,7 +27,7 @@ returns-in_ok-descend_all-in-WayTo-clause-settled c =
     let m = issued.1 in
     sym (uncovered heading (c.laws.ensures heading) h (c.law_starts.ensures heading)
     (c.law_notes_keep_the_events.ensures heading Patterns h) map index by.roots.now pe op xt by.named.now m
-    c.restless.ensures.aligned c.requires.sound c.in-WayTo.page one (IsSettled map by items)
+    c.restless.ensures.aligned c.in-WayTo.page one (IsSettled map by items)
     (λ r at covers. subst (λ (x : Heading). MetFromAll (node_in index) (core_at map) c.in-WayTo.page r.page
     (page_count x.world r.kind) (IsSettled map by items)) issued.0 (met heading h r m.stands at covers))
     a broken (λ has. sym (has broken missed heading h pe op xt issued)))
