@@ -27,8 +27,8 @@ pub use Rattle.bbm_replay.specs.OnePage.{IsOnWay, MetFromAll, NamesOne, covers_k
 pub use Rattle.bbm_replay.specs.ReplayFaults.{step_fault}
 pub use Rattle.bbm_replay.specs.ReplayLaws.{Laws}
 pub use Rattle.bbm_replay.specs.ReplayRules.{Rules}
-pub use Rattle.bbm_replay.specs.ReplayStanding.{Admitted, Holds, IsAt, IsUnlocked, Links, MayAdmit, MayMeet, Meets, SameFrame}
-pub use Rattle.bbm_replay.specs.ReplayStanding.{PartsStand, WritesTree, view_of}
+pub use Rattle.bbm_replay.specs.ReplayStanding.{Admitted, IsAt, IsUnlocked, Links, MayAdmit, MayMeet, Meets}
+pub use Rattle.bbm_replay.specs.ReplayStanding.{PartsStand, SameFrame, WritesTree, view_of}
 pub use Rattle.bbm_replay.specs.ReplayTold.{Apart, Told, state_of, waiting}
 pub use Rattle.bbm_replay.specs.declared.parts.ReplayState.{ReplayState}
 pub use Rattle.bbm_replay.specs.declared.tlbi_cover.Covering.{Covering}

@@ -3,8 +3,9 @@ use Rattle.bbm_replay.proofs.Common.{Written, WritesAs, waits, IsIdle, Pends, En
 use Rattle.bbm_replay.proofs.Common.{BreakBeforeMake, LimboMake, NotFresh, BadKind, GlobalUser, Broken, limbo_by, Path}
 use Rattle.bbm_replay.proofs.Common.{NullWritten, PlaceMap, TreeIndex, state_at}
 use Rattle.bbm_replay.proofs.Common.{RootState, View, notes, Laws, attached_next, is_contiguous_core, is_global_core}
-use Rattle.bbm_replay.proofs.Common.{step_fault, TreeFault, Rules, Admitted, core_in, Kind, WritesTree, IsAt, IsUnlocked, Links, MayAdmit, Meets}
-use Rattle.bbm_replay.proofs.Common.{PartsStand, SameFrame, view_of, Told, state_of, ReplayState}
+use Rattle.bbm_replay.proofs.Common.{step_fault, TreeFault, Rules, Admitted, core_in, Kind, WritesTree, IsAt, Links}
+use Rattle.bbm_replay.proofs.Common.{IsUnlocked, MayAdmit, Meets, PartsStand, SameFrame, view_of, Told}
+use Rattle.bbm_replay.proofs.Common.{state_of, ReplayState}
 use Rattle.bbm_rules.proofs.Common.{◌≡◌, ℕ, ◌<◌, ◌%◌, Bool, true, false, not, ◌&&◌, ◌⊎◌, ◌==◌}
 use Rattle.bbm_rules.proofs.Common.{List, [], ◌∷◌, Option, Some, None, is_none, is_some, option_and_then, Result, Ok}
 use Rattle.bbm_rules.proofs.Common.{Err, refl, sym, ◌∙◌, ap, subst, inl, inr, option_map_or}
@@ -202,7 +203,8 @@ module _ (laws : (heading : Heading) → Laws heading) (rules : (heading : Headi
       module _ (none : attached_next held new ≡ None) where
         module _ (heading : Heading) (h : List Event) (s : PartsStand old heading h) where
           leaves : (not_fresh heading Patterns (notes heading h) e ≡ None)
-              × (bad_kind heading Patterns (notes heading h) e ≡ if_so (is_contiguous n.kind (desc_of n.kind n.level v)) place)
+              × (bad_kind heading Patterns (notes heading h) e
+              ≡ if_so (is_contiguous n.kind (desc_of n.kind n.level v)) place)
               × (global_user heading Patterns (notes heading h) e
               ≡ if_so (same_kind n.kind Ttbr0 && is_global (desc_of n.kind n.level v)) place)
           leaves = (rules heading).unattached.inside h v_old n pe place v s.told.nodes at.1
@@ -239,7 +241,8 @@ module _ (laws : (heading : Heading) → Laws heading) (rules : (heading : Headi
           pub admitted : (same_kind path.kind Ttbr0 && is_global_core new) ≡ false
               → Admitted old old pe place v (attached_next held new)
           admitted k = record {
-            kept = λ heading h s. leaf heading h s ∙ passes BadKind _ _ (where_false (is_contiguous_core new) place good)
+            kept = λ heading h s. leaf heading h s
+                ∙ passes BadKind _ _ (where_false (is_contiguous_core new) place good)
                 ∙ passes GlobalUser _ _ (where_false (same_kind path.kind Ttbr0 && is_global_core new) place k);
             frame = record { header = refl; index_header = refl };
             same_map = refl;
@@ -254,7 +257,8 @@ module _ (laws : (heading : Heading) → Laws heading) (rules : (heading : Headi
         JudgesHere r = index.Judges (fresh_in old.index) (value_at old.map)
             (index_paths.starts_of old.index (attach.Below place next)) {A = Unit {0}} false r
 
-        judged_here : (heading : Heading) (h : List Event) → PartsStand old heading h → (r : Result (Unit {0}) TreeFault)
+        judged_here : (heading : Heading) (h : List Event) → PartsStand old heading h
+            → (r : Result (Unit {0}) TreeFault)
             → JudgesHere r
             → Verdict r (not_fresh heading Patterns (notes heading h) e) (bad_kind heading Patterns (notes heading h) e)
             (global_user heading Patterns (notes heading h) e)
@@ -277,7 +281,8 @@ module _ (laws : (heading : Heading) → Laws heading) (rules : (heading : Headi
             held_none = none_of (held_at heading Patterns (notes heading h) n place)
                 ((laws heading).holds.holds h n.kind n.level place _ _ (s.told.entries n place at.1)
                 ∙ ap (λ (x : Option Core). is_some x)
-                (state_core n.kind n.level (value_at old.map place) (marks_at old.map place) ∙ (one_attached next one).0))
+                (state_core n.kind n.level (value_at old.map place) (marks_at old.map place)
+                ∙ (one_attached next one).0))
 
             some_attached : held_at heading Patterns (notes heading h) n place ≡ None
                 → is_none (attached_by heading Patterns (notes heading h) e) ≡ false
@@ -330,7 +335,8 @@ module _ (laws : (heading : Heading) → Laws heading) (rules : (heading : Headi
               frugal = tt;
             }
 
-          pub attach_ok : JudgesHere (Ok tt) → changes.Attaches (value_at old.map) (attach.Below place next) old.index index'
+          pub attach_ok : JudgesHere (Ok tt)
+              → changes.Attaches (value_at old.map) (attach.Below place next) old.index index'
               → Admitted old (record old { index = index' }) pe place v (attached_next held new)
           attach_ok fine attached = record {
             kept = λ heading h s.
@@ -350,7 +356,8 @@ module _ (laws : (heading : Heading) → Laws heading) (rules : (heading : Headi
       admitted (ap (λ (x : Option Core). differ held x) k ∙ differ_none held) (ap limbo k)
       (ap (λ (x : Option Core). attached_next held x) k ∙ attached_none held)
       (ap (λ (x : Option Core). is_contiguous_core x) k)
-      (ap (λ (x : Option Core). same_kind path.kind Ttbr0 && is_global_core x) k ∙ and-false (same_kind path.kind Ttbr0))
+      (ap (λ (x : Option Core). same_kind path.kind Ttbr0 && is_global_core x) k
+      ∙ and-false (same_kind path.kind Ttbr0))
     where
       limbo : Option Core → Bool
       limbo x = is_some x && option_map_or (limbo_by (value_at old.map)) (node_in old.index (page_of place)) false
@@ -365,7 +372,8 @@ module _ (laws : (heading : Heading) → Laws heading) (rules : (heading : Headi
 
   -- ---- the value is written
 
-  module _ (others : roots.OthersStand) (mid : ReplayState) (done : Admitted old mid pe place v (attached_next held new))
+  module _ (others : roots.OthersStand) (mid : ReplayState)
+      (done : Admitted old mid pe place v (attached_next held new))
       (map : PlaceMap) (live : Option Core) (live_is : live ≡ core_of path.kind path.level (value_at old.map place))
       (writes : WritesAs (state_at mid.map live place) pe new v place mid.map map)
       (idle : (q a : ℕ) → marks_at map a ≡ None → IsIdle (pends_at map q a)) where
@@ -400,7 +408,8 @@ module _ (laws : (heading : Heading) → Laws heading) (rules : (heading : Headi
           let attached = attaches_of old.index mid.index old.map map (attach.Below place next) links.0
           (record { tracked = here.put.pages; known = links.1.known; pages = links.1.pages }) in
           after_attaching_write heading (laws heading) h v_old (view_of map mid.index) s.told pe place v state
-          (move mid.index) (fits_all old e m.tree.may heading h s) (done.kept heading h s) attached.null attached.tracking
+          (move mid.index) (fits_all old e m.tree.may heading h s) (done.kept heading h s)
+          attached.null attached.tracking
           n next at.1 written_n (one_attached next k).0 (one_attached next k).1
           (subst (λ (o : Option Node). Attaches v_old (view_of map mid.index) (index_paths.below_all o place next)) at.1
           attached) idle

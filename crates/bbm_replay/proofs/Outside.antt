@@ -1,11 +1,12 @@
 -- A write at a place of no tree, at the parts.
+use Rattle.std.proofs.Math.Bool.{and_assoc}
 use Rattle.bbm_replay.proofs.Common.{NoLock, NullWritten, BreakBeforeMake, LimboMake, NotFresh, RewrittenFresh, BadKind}
 use Rattle.bbm_replay.proofs.Common.{GlobalUser, Broken, IsIdle, Pends, PlaceMap, Puts, notes, waits, Laws, Rules}
 use Rattle.bbm_replay.proofs.Common.{MayMeet, Meets, PartsStand, view_of, ReplayState}
 use Rattle.bbm_rules.proofs.Common.{◌≡◌, ℕ, ◌%◌, Bool, true, false, not, ◌&&◌, ◌||◌, ◌==◌, List, ◌∷◌, None, Ok}
 use Rattle.bbm_rules.proofs.Common.{Err, refl, ◌∙◌, ap, Patterns, if_so, page_of, Heading, Event, Breach}
 use Rattle.bbm_rules.proofs.Common.{Write, not_fresh, rewritten_fresh, null_written, bad_kind, global_user}
-use Rattle.bbm_rules.proofs.Common.{proved, Is, break_before_make, limbo_make, no_lock, Option}
+use Rattle.bbm_rules.proofs.Common.{break_before_make, limbo_make, no_lock, Option}
 use Rattle.bbm_entry_state.specs.declared.state.EntryState.TheVariants as state
 use Rattle.bbm_rules.specs.Broken.{broken}
 use Rattle.bbm_place_map.specs.Map.{marks_at, pends_at, value_at}
@@ -17,9 +18,6 @@ use Rattle.bbm_replay.proofs.Meeting.{fits_all}
 use Rattle.bbm_replay.proofs.Starting.{meets_broken}
 use Rattle.bbm_replay.proofs.Unbroken.{leaves_unbroken}
 use Rattle.bbm_replay.proofs.Writing.{after_write_outside}
-
-assoc : (x y z : Bool) → (x && y && z) ≡ (x && (y && z))
-assoc = proved 3 (λ x y z. Is (x && y && z) (x && (y && z))) refl
 
 -- what the rules on pages and values come to: whether the page is null, whether it is fresh, and whether the value of
 -- the place has bit 0 set and changes
@@ -45,7 +43,7 @@ module _ (laws : (heading : Heading) → Laws heading) (rules : (heading : Headi
         let bare = (rules heading).unattached.outside h view pe place v s.told.nodes s.told.fresh s.told.null away in
         let null = (rules heading).writes.null h view pe place v s.told.null in
         let again = (rules heading).writes.rewritten h view pe place v s.told.fresh s.told.values
-        ∙ ap (λ b. if_so b place) (assoc (fresh_in old.index page) (value_at old.map place % 2 == 1)
+        ∙ ap (λ b. if_so b place) (and_assoc (fresh_in old.index page) (value_at old.map place % 2 == 1)
         (not (value_at old.map place == v))) in
         rw (rules_are, out.0, null, out.1, out.2, bare.1, again, bare.2, bare.3) refl
       where
@@ -94,10 +92,12 @@ module _ (laws : (heading : Heading) → Laws heading) (rules : (heading : Headi
       outside_ok = record {
         judged = λ heading h s. (kept heading h s, (rules heading).limits.others h (Write pe place v) refl);
         taken = λ heading h s.
-            let left = leaves_unbroken old.map map pe place v (m.2.told.outside place away) marks pends idle state.Clean refl in
+            let left = leaves_unbroken old.map map pe place v (m.2.told.outside place away)
+            marks pends idle state.Clean refl in
             stands_next old (record old { map = map }) (record { header = refl; index_header = refl })
             heading h (Write pe place v ∷ h) s
-            (after_write_outside heading (laws heading) h (view_of old.map old.index) (view_of map old.index) s.told pe place v
+            (after_write_outside heading (laws heading) h (view_of old.map old.index)
+            (view_of map old.index) s.told pe place v
             state.Clean
             (record {
               value = put.values;

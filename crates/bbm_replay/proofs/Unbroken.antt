@@ -1,7 +1,7 @@
 -- A write that leaves a place unbroken, which wasn't broken: its value alone changes.
-use Rattle.bbm_replay.proofs.Common.{Written, WritesAs, IsIdle, Marks, EntryState, Clean, Live, Puts, PlaceMap, state_at}
+use Rattle.bbm_replay.proofs.Common.{Written, WritesAs, IsIdle, Marks, EntryState, Clean, Live, Puts, PlaceMap}
 use Rattle.bbm_replay.proofs.Common.{core_in, marks_of_state, state_from, IsUnlocked, MayAdmit, Path, ReplayState}
-use Rattle.bbm_replay.proofs.Common.{WritesTree}
+use Rattle.bbm_replay.proofs.Common.{WritesTree, state_at}
 use Rattle.bbm_rules.proofs.Common.{◌≡◌, ℕ, Bool, true, false, ◌==◌, Option, Some, None, refl, sym, ◌∙◌, ap, subst}
 use Rattle.bbm_rules.proofs.Common.{if◌then◌else◌, eqb-true, core_of, Core, Write}
 use Rattle.bbm_place_map.specs.Map.{marks_at, pends_at, value_at}
@@ -76,4 +76,5 @@ module _ (old new : PlaceMap) (pe place v : ℕ) (unbroken : marks_at old place 
   }
     where
       was : state_at old live place ≡ Clean
-      was = ap (λ (o : Option Marks). state_from live o) unbroken ∙ ap (λ (o : Option Core). state_from o None) (stays refl)
+      was = ap (λ (o : Option Marks). state_from live o) unbroken
+          ∙ ap (λ (o : Option Core). state_from o None) (stays refl)

@@ -118,7 +118,8 @@ abbrev pub Links : PlaceMap → ℕ → Option ℕ → TreeIndex → TreeIndex �
 Links map place None old new = new ≡ old
 Links map place (Some next) old new = Attaches (value_at map) (Below place next) old new × SameTracked old new
 
--- The write keeps the rules, and the trees are those after it, where it attaches this page, if any. Nothing else changed.
+-- The write keeps the rules, and the trees are those after it, where it attaches this page, if any. Nothing else
+-- changed.
 pub record Admitted (old new : ReplayState) (pe place value : ℕ) (next : Option ℕ) : Type 0 where
   pub kept : (heading : Heading) (h : List Event) → PartsStand old heading h
       → broken heading Patterns h (Write pe place value) ≡ None

@@ -13,8 +13,8 @@ ghost use Rattle.bbm_rules.specs.Places.{page_of};
 ghost use Rattle.bbm_tree_index.specs.Index.{fresh_in, node_in};
 ghost use Rattle.bbm_tree_index.specs.declared.role.Path.{Path as ThePath};
 ghost use Rattle.bbm_replay.specs.Leaves as leaves;
-ghost use Rattle.bbm_replay.specs.ReplayStanding.{Admits, IsAt, IsUnlocked, MayAdmit, MayMeet, Meets, OverLeaves, PartsStand};
-ghost use Rattle.bbm_replay.specs.ReplayStanding.{WritesTree};
+ghost use Rattle.bbm_replay.specs.ReplayStanding.{Admits, IsAt, IsUnlocked, MayAdmit, MayMeet, Meets, OverLeaves};
+ghost use Rattle.bbm_replay.specs.ReplayStanding.{PartsStand, WritesTree};
 
 use crate::faults::step_fault;
 use crate::laws::{laws, rules};
@@ -95,7 +95,8 @@ fn is_broken_over_leaves(map: &PlaceMap) -> bool
     true
 }
 
-/// Whether no place is in limbo since none is broken over a table, told at once where none is broken. False says nothing.
+/// Whether no place is broken over a table, so that none is in limbo: told at once where no place is broken. False says
+/// nothing.
 #[inline(always)]
 fn rules_out_limbo(map: &PlaceMap) -> bool
     ensures { result ≡ true → OverLeaves map.now }
@@ -290,8 +291,8 @@ impl ReplayState {
         }
     }
 
-    /// A write, under its lock, at a broken place of a tree. It takes plain values and finds the place anew, so that the
-    /// other writes keep theirs in registers.
+    /// A write, under its lock, at a broken place of a tree. It takes plain values and finds the place anew, so that
+    /// the other writes keep theirs in registers.
     #[inline(never)]
     fn write_broken(
         &mut self,

@@ -4,7 +4,8 @@ use Rattle.bbm_replay.proofs.Found.{found_tree}
 use Rattle.bbm_replay.proofs.parts.ReplayState.write.Goals as goal
 
 pub write_inside-requires-clause-at : goal.write_inside-requires-clause-at
-write_inside-requires-clause-at c = found_tree c.laws.ensures c.args.self.now c.args.pe c.args.place c.args.value c.requires
+write_inside-requires-clause-at c = found_tree c.laws.ensures c.args.self.now c.args.pe c.args.place c.args.value
+    c.requires
     c.in-Some.found c.in-Some.ensures.at c.in-Some.ensures.place
 
 pub returns-in-Some : goal.returns-in-Some

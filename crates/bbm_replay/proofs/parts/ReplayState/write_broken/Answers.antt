@@ -21,7 +21,8 @@ admit-requires c =
     let found = c.unwrap.result in
     let same : found.0.place ≡ c.args.place = if_some (λ (f : Position × Path). f.0.place ≡ c.args.place) c.find.result
     found c.unwrap.ensures c.find.ensures.place in
-    let at : IsAt self c.args.place found.1 = if_some (λ (f : Position × Path). IsAt self c.args.place f.1) c.find.result
+    let at : IsAt self c.args.place found.1
+    = if_some (λ (f : Position × Path). IsAt self c.args.place f.1) c.find.result
     found c.unwrap.ensures c.find.ensures.at in
     may_admit (found_tree c.laws.ensures self c.args.pe c.args.place c.args.value c.requires.at.1.may found at same)
     (subst (λ a. IsUnlocked self (Write c.args.pe a c.args.value)) (sym same) c.requires.unlocked)
@@ -35,7 +36,8 @@ returns-in-Ok c =
     let found = c.unwrap.result in
     let same : found.0.place ≡ c.args.place = if_some (λ (f : Position × Path). f.0.place ≡ c.args.place) c.find.result
     found c.unwrap.ensures c.find.ensures.place in
-    let at : IsAt self c.args.place found.1 = if_some (λ (f : Position × Path). IsAt self c.args.place f.1) c.find.result
+    let at : IsAt self c.args.place found.1
+    = if_some (λ (f : Position × Path). IsAt self c.args.place f.1) c.find.result
     found c.unwrap.ensures c.find.ensures.at in
     let m : MayAdmit self c.args.pe found.0.place c.args.value found.1 c.core_at-old.result c.core-new.result
     = may_admit (found_tree c.laws.ensures self c.args.pe c.args.place c.args.value c.requires.at.1.may found at same)

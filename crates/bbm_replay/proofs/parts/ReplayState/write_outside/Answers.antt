@@ -49,5 +49,6 @@ returns c =
     ∙ c.if-not-is_fresh.false)
     (ap (λ (x : ℕ). x % 2 == 1 && not (x == c.args.value)) (ap (value_at map) (sym same) ∙ sym c.value_of.ensures)
     ∙ sym c.rewrites.ensures ∙ c.if-rewrites.false)
-    c.law_others.ensures c.put_at.new.self (subst (λ a. Puts c.args.value a map c.put_at.new.self) same c.put_at.ensures.put)
+    c.law_others.ensures c.put_at.new.self
+    (subst (λ a. Puts c.args.value a map c.put_at.new.self) same c.put_at.ensures.put)
     c.put_at.ensures.marks c.put_at.ensures.pends c.law_idle.ensures
