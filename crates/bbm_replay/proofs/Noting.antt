@@ -34,8 +34,8 @@ module _ (map : PlaceMap) where
     same = record { values = λ a. refl; pages = λ p. refl; restless = refl; places = λ i. refl };
   }
 
-pub not_noted : (map : PlaceMap) (by : Covering) (pe : ℕ) (reach : PeMask) (r : Result (Unit {0}) NoMemory) (e : NoMemory)
-    → r ≡ Err e → IsNoted by pe reach map map r
+pub not_noted : (map : PlaceMap) (by : Covering) (pe : ℕ) (reach : PeMask) (r : Result (Unit {0}) NoMemory)
+    (e : NoMemory) → r ≡ Err e → IsNoted by pe reach map map r
 not_noted map by pe reach r e is =
     subst (λ x. IsNoted by pe reach map map x) (sym is)
     (record { noted = tt; only = stays map pe; kept = same map })
@@ -47,7 +47,8 @@ module _ (old : PlaceMap) (by : Covering) where
 
   module _ (pe : ℕ) (reach : PeMask) (new : PlaceMap) where
     abbrev Notes : ℕ → Cover → Pends → Type 0
-    Notes a cover p = Noted (state_from None (marks_at old a)) (pends_at old pe a) reach by.named.now.scope.broadcast cover p
+    Notes a cover p =
+        Noted (state_from None (marks_at old a)) (pends_at old pe a) reach by.named.now.scope.broadcast cover p
 
     pub noted_found : (items found : List Found) → found ≡ items → AreCovered old by items
         → ((a : ℕ) → IsSettled old by items a)

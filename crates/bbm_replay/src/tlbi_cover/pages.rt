@@ -47,8 +47,8 @@ fn names_none(scope: &Scope, place: Place, path: &Path) -> bool
 }
 
 impl Covering<'_> {
-    /// How far the TLBI covers the broken place with this number; and a page of which it is known that each broken place
-    /// is covered alike, and how far. A place of the page that was told isn't asked.
+    /// How far the TLBI covers the broken place with this number; and a page each broken place of which is known to be
+    /// covered alike, and how far. A place of the page that was told isn't asked.
     #[inline(always)]
     fn cover_next(
         &self,

@@ -22,4 +22,5 @@ returns-in_ok-core-in-Some-clause-settled c =
     c.unwrap-position.ensures c.position_near.ensures.place in
     let here : restless_place c.args.map.now c.in-Some.number ≡ c.args.place
     = (c.restless_number.ensures.some c.in-Some.number c.in-Some.is).1 ∙ own in
-    subst (IsSettled c.args.map.now c.args.self.now c.add_broken.new.found.items) here c.in_ok-core-in-Some.ensures.settled
+    subst (IsSettled c.args.map.now c.args.self.now c.add_broken.new.found.items) here
+    c.in_ok-core-in-Some.ensures.settled

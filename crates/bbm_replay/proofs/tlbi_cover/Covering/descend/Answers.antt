@@ -121,7 +121,8 @@ loop-depth-preserved c =
                 has)
             | inr more ↦ (let same : m ≡ more.0 = one m more.0 (sym c.in-Some-here.is ∙ more.1) in
                 goes_on map index c.requires.fits c.args.input m.0 m.1 at.0 next goes x c.in-Some-2.is
-                below inside e.met (IsSettled map c.args.self.now c.add_met.new.found.items) c.in_ok-next.ensures.settled more.2 a
+                below inside e.met (IsSettled map c.args.self.now c.add_met.new.found.items)
+                c.in_ok-next.ensures.settled more.2 a
                 (subst (λ (y : ℕ × Path). IsWay (node_in index) (core_at map) c.args.input (page_of y.0) more.2 a)
                 (sym same) more.3))
           ];

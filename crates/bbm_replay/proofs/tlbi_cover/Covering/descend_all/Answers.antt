@@ -18,8 +18,8 @@ loop-number-preserved c =
           → covers_kind by.named.now.scope.family kind ≡ true
           → MetFromAll (node_in by.index.now) (core_at map) c.args.input first (page_count by.header.now.world kind)
           (IsSettled map by new)) c.loop-number.number
-          (λ i less kind first is covers part within page way a w. settled_more map by c.loop-number.found.items new e.grows
-          a (v.met i less kind first is covers part within page way a w)) e.met j below;
+          (λ i less kind first is covers part within page way a w.
+          settled_more map by c.loop-number.found.items new e.grows a (v.met i less kind first is covers part within page way a w)) e.met j below;
     }
 
 pub returns-clause-met : goal.returns-clause-met

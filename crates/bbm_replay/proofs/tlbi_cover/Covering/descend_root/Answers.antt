@@ -13,7 +13,8 @@ returns-clause-met c kind first is covers =
     let core = core_at c.args.map.now in
     let settled = IsSettled c.args.map.now by c.descend_pages.new.found.items in
     let root : ℕ = c.in-Some.root.1 in
-    let same : c.in-Some.root ≡ (kind, first) = one c.in-Some.root (kind, first) (sym c.in-Some.is ∙ c.nth.ensures ∙ is) in
+    let same : c.in-Some.root ≡ (kind, first)
+    = one c.in-Some.root (kind, first) (sym c.in-Some.is ∙ c.nth.ensures ∙ is) in
     let count = c.page_count.ensures.value ∙ ap (λ (r : Kind × ℕ). page_count by.header.now.world r.0) same in
     subst (λ (r : Kind × ℕ). MetFromAll node core c.args.input r.1 (page_count by.header.now.world kind) settled) same
     (subst (λ n. MetFromAll node core c.args.input root n settled) count c.in_ok-descend_pages.ensures.met)
