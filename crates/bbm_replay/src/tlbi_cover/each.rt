@@ -40,7 +40,7 @@ impl Covering<'_> {
                 found.push(Found {
                     place,
                     cover,
-                    near: number,
+                    hint: number,
                 })?;
                 Ok(core)
             }
