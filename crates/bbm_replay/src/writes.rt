@@ -19,7 +19,7 @@ ghost use Rattle.bbm_replay.specs.ReplayStanding.{PartsStand, WritesTree};
 use crate::faults::step_fault;
 use crate::laws::{laws, rules};
 use crate::parts::ReplayState;
-use bbm_descriptor::{Core, Memory, core};
+use bbm_descriptor::{Core, core};
 use bbm_place_map::{PlaceMap, Position};
 use bbm_regimes::{Kind, Page, Pe, Place};
 use bbm_replay_roots::law_others;
@@ -160,7 +160,7 @@ impl ReplayState {
         let Some(position) = self.map.position_near(place, hint) else {
             return None;
         };
-        let Some(path) = self.index.path_near(place, hint) else {
+        let Some(path) = self.index.path_near(place, self.map.page_number(&position)) else {
             return None;
         };
         Some((position, path))
@@ -331,12 +331,7 @@ impl ReplayState {
 
     /// A write at a place of a tree. A value over none has a way of its own, so that it carries no core about.
     #[inline(always)]
-    fn write_inside(
-        &mut self,
-        alloc: Global,
-        write: &TreeWrite,
-        hint: usize,
-    ) -> Result<(), StepFault>
+    fn write_inside(&mut self, alloc: Global, write: &TreeWrite) -> Result<(), StepFault>
         requires at { WritesTree self.old write.now.pe write.now.position.now.place write.now.value write.now.path.now }
         requires position { IsPosition self.old.map write.now.position.now }
         ensures { Meets self.old self.new (Write write.now.pe write.now.position.now.place write.now.value) result }
@@ -349,6 +344,7 @@ impl ReplayState {
             return Err(StepFault::Broken(Rule::NoLock, at));
         }
         if self.map.is_broken_at(write.position) {
+            let hint = self.map.page_number(write.position);
             return self.write_broken(alloc, write.pe, place, write.value, hint);
         }
         match self.map.live_at(write.position, path.kind, path.level) {
@@ -379,7 +375,7 @@ impl ReplayState {
         ensures { Meets self.old self.new (Write pe place value) result }
     {
         laws();
-        let hint = self.index.number(place.page(), self.map.recent_page());
+        let hint = self.map.recent_page();
         match self.find(place, hint) {
             Some(found) => {
                 let (position, path) = found;
@@ -389,7 +385,7 @@ impl ReplayState {
                     value,
                     path: &path,
                 };
-                self.write_inside(alloc, &write, hint)
+                self.write_inside(alloc, &write)
             }
             None => self.write_outside(pe, place, value, hint),
         }

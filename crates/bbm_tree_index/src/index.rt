@@ -22,7 +22,7 @@ use crate::leaving::{Leaving, sweep};
 use crate::mark::Mark;
 use crate::role::{Detach, Path, Role};
 use crate::spot::{Spot, spot_of};
-use crate::table::{number_of, put, role_of};
+use crate::table::{put, role_of};
 use bbm_events::Header;
 use bbm_page_map::PageMap;
 use bbm_place_map::PlaceMap;
@@ -145,13 +145,6 @@ impl TreeIndex {
             Some(spot) => Some(spot.path(place)),
             None => None,
         }
-    }
-
-    /// Where to look first for the page in further calls: its number in the order in which pages were tracked, 0 where
-    /// it never was. It is looked for first at the number `hint`. No answer of a call depends on either.
-    #[inline(always)]
-    pub fn number(&self, page: Page, hint: usize) -> usize {
-        number_of(&self.roles, page, hint)
     }
 
     /// Where the page stands, None where it is in no tree. No answer depends on the number `hint`, at which the page is

@@ -9,7 +9,7 @@
 //! - `prepare` tells whether pages can be attached, and which page or place is in the way; `attach_prepared` attaches
 //!   them. `attach` does both.
 //! - `role`, `is_fresh`, `is_null`, `is_in_tree`, `pages`, `path`, `in_limbo` and `childless` tell what the calls come
-//!   to. `path_near` looks for a page first at a number, as `number` or `PlaceMap::recent_page` tells it.
+//!   to. `path_near` looks for a page first at a number, as `PlaceMap::page_number` tells it.
 //!   `place_translating` tells where one goes on the way down along an input page; from there `place_below` does so
 //!   level by level, and looks nothing up.
 //!

@@ -77,6 +77,13 @@ impl PlaceMap {
         self.values[position.index]
     }
 
+    /// The number of a position's page in the order in which pages were tracked: where to look first for the page in
+    /// an index that got its pages in the same order. No answer depends on it.
+    #[inline(always)]
+    pub fn page_number(&self, position: &Position) -> usize {
+        position.index / VALUES
+    }
+
     /// Whether a position's place is broken.
     #[inline(always)]
     pub fn is_broken_at(&self, position: &Position) -> bool

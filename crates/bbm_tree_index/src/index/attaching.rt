@@ -134,6 +134,7 @@ impl TreeIndex {
     /// where an attached page has a leaf with the Contiguous hint; else `GlobalUser` with the least place exactly where,
     /// in a tree of the lower range, it has a leaf for every ASID. Or `NoMemory` where there is none. It takes time by
     /// the number of pages, not of paths. A refusal changes nothing.
+    #[inline(never)]
     pub fn attach(&mut self, alloc: Global, map: &PlaceMap, at: Attach) -> Result<(), TreeFault>
         requires may { MayJudge self.old at }
         requires named { AreNamedFresh self.old at }

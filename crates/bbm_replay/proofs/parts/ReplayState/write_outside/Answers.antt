@@ -27,7 +27,6 @@ returns-then-not-is_fresh c = rw (c.get-then-not-is_fresh.ensures.value, c.page-
 
 pub returns-then-rewrites : goal.returns-then-rewrites
 returns-then-rewrites c =
-    let map = c.args.self.now.map in
     let same : c.unwrap-position.result.place ≡ c.args.place = if_some (λ (s : Position). s.place ≡ c.args.place)
     c.position_near.result c.unwrap-position.result c.unwrap-position.ensures c.position_near.ensures.place in
     rw c.get-then-rewrites.ensures.value
@@ -35,7 +34,8 @@ returns-then-rewrites c =
     c.requires.outside
     (ap (λ (x : ℕ). fresh_in c.args.self.now.index x) (sym c.page-page.ensures) ∙ sym c.is_fresh.ensures
     ∙ c.if-not-is_fresh.false)
-    (ap (λ (x : ℕ). x % 2 == 1 && not (x == c.args.value)) (ap (value_at map) (sym same) ∙ sym c.value_of.ensures)
+    (ap (λ (a : ℕ). value_at c.args.self.now.map a % 2 == 1 && not (value_at c.args.self.now.map a == c.args.value))
+    (sym same) ∙ ap (λ (x : ℕ). x % 2 == 1 && not (x == c.args.value)) (sym c.value_of.ensures)
     ∙ sym c.rewrites.ensures ∙ c.if-rewrites.true))
 
 pub returns : goal.returns
@@ -47,8 +47,9 @@ returns c =
     c.requires.outside
     (ap (λ (x : ℕ). fresh_in c.args.self.now.index x) (sym c.page-page.ensures) ∙ sym c.is_fresh.ensures
     ∙ c.if-not-is_fresh.false)
-    (ap (λ (x : ℕ). x % 2 == 1 && not (x == c.args.value)) (ap (value_at map) (sym same) ∙ sym c.value_of.ensures)
-    ∙ sym c.rewrites.ensures ∙ c.if-rewrites.false)
+    (ap (λ (a : ℕ). value_at map a % 2 == 1 && not (value_at map a == c.args.value)) (sym same)
+    ∙ ap (λ (x : ℕ). x % 2 == 1 && not (x == c.args.value)) (sym c.value_of.ensures) ∙ sym c.rewrites.ensures
+    ∙ c.if-rewrites.false)
     c.law_others.ensures c.put_at.new.self
     (subst (λ a. Puts c.args.value a map c.put_at.new.self) same c.put_at.ensures.put)
     c.put_at.ensures.marks c.put_at.ensures.pends c.law_idle.ensures
