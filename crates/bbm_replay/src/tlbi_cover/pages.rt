@@ -47,17 +47,10 @@ fn names_none(scope: &Scope, place: Place, path: &Path) -> bool
 }
 
 impl Covering<'_> {
-    /// How far the TLBI covers the broken place with this number; and a page each broken place of which is known to be
-    /// covered alike, and how far. A place of the page that was told isn't asked.
-    #[inline(always)]
-    fn cover_next(
-        &self,
-        map: &PlaceMap,
-        i: u64,
-        alike: &Option<PageCover>,
-    ) -> (Cover, Option<PageCover>)
+    /// How far the TLBI covers the broken place with this number; and its page, where each broken place of that is
+    /// known to be covered so far.
+    fn cover_page(&self, map: &PlaceMap, i: u64) -> (Cover, Option<PageCover>)
         requires within { i < restless_in map.now }
-        requires alike { CoversAlike map.now self.now alike.now }
         ensures here { IsCovered map.now self.now result.0 (restless_place map.now i) }
         ensures alike { CoversAlike map.now self.now result.1 }
     {
@@ -65,11 +58,6 @@ impl Covering<'_> {
         laws();
         let place = map.restless_at(i);
         let page = place.page();
-        if let Some(known) = alike {
-            if known.page.get() == page.get() {
-                return (known.cover, *alike);
-            }
-        }
         let Some(path) = self.index.path_near(place, map.restless_page(i)) else {
             return (Cover::None, None);
         };
@@ -87,6 +75,30 @@ impl Covering<'_> {
             }
             _ => (cover, None),
         }
+    }
+
+    /// How far the TLBI covers the broken place with this number; and a page each broken place of which is known to be
+    /// covered alike, and how far. A place of the page that was told isn't asked.
+    #[inline(always)]
+    fn cover_next(
+        &self,
+        map: &PlaceMap,
+        i: u64,
+        alike: &Option<PageCover>,
+    ) -> (Cover, Option<PageCover>)
+        requires within { i < restless_in map.now }
+        requires alike { CoversAlike map.now self.now alike.now }
+        ensures here { IsCovered map.now self.now result.0 (restless_place map.now i) }
+        ensures alike { CoversAlike map.now self.now result.1 }
+    {
+        let place = map.restless_at(i);
+        let page = place.page();
+        if let Some(known) = alike {
+            if known.page.get() == page.get() {
+                return (known.cover, *alike);
+            }
+        }
+        self.cover_page(map, i)
     }
 
     /// Adds how far the TLBI covers each of the broken places, in the order of their numbers. Those of a page that it
