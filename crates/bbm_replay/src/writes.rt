@@ -2,7 +2,7 @@
 
 ghost use Rattle.std.specs.Prelude.{◌≡◌, ◌%◌, ◌==◌, ◌&&◌, not, List, true, false, Some, None, IfSome, is_some};
 ghost use Rattle.std.specs.Option.{option_map_or};
-ghost use Rattle.bbm_tree_index.specs.HeldCores.{limbo_by, next_in};
+ghost use Rattle.bbm_tree_index.specs.HeldCores.{limbo_by};
 ghost use Rattle.bbm_descriptor.specs.Descriptor as spec;
 ghost use Rattle.bbm_place_map.specs.Map.{IsPosition, marks_at, value_at};
 ghost use Rattle.bbm_events.specs.Heading.{Heading};
@@ -24,7 +24,7 @@ use bbm_place_map::{PlaceMap, Position};
 use bbm_regimes::{Kind, Page, Pe, Place};
 use bbm_replay_roots::law_others;
 use bbm_rules::{Rule, StepFault};
-use bbm_tree_index::{Attach, Path};
+use bbm_tree_index::{Attach, Path, next_of};
 use std::alloc::Global;
 
 /// To look through so many broken places takes less than to go up a tree. Source: project's own choice.
@@ -59,14 +59,14 @@ fn is_contiguous(new: &Option<Core>) -> bool
     }
 }
 
-/// Whether it is a leaf for every ASID.
+/// Whether a core is that of a leaf for every ASID.
 #[inline(always)]
-fn is_global(new: &Option<Core>) -> bool
-    ensures { result ≡ leaves.is_global_core new.now }
+pub(crate) fn is_global(core: &Core) -> bool
+    ensures { result ≡ leaves.is_global_core (Some core.now) }
 {
-    match new {
-        Some(Core::Leaf { global, .. }) => *global,
-        _ => false,
+    match core {
+        Core::Leaf { global, .. } => *global,
+        Core::Table { .. } => false,
     }
 }
 
@@ -75,7 +75,10 @@ fn is_global(new: &Option<Core>) -> bool
 fn is_user_global(kind: Kind, new: &Option<Core>) -> bool
     ensures { result ≡ (same_kind kind Kind.Ttbr0 && leaves.is_global_core new.now) }
 {
-    kind == Kind::Ttbr0 && is_global(new)
+    match new {
+        Some(core) => kind == Kind::Ttbr0 && is_global(core),
+        None => false,
+    }
 }
 
 /// Whether no place is broken over a table, and at most `MAX_SCANNED` places are broken. False says no more than that.
@@ -105,18 +108,6 @@ fn rules_out_limbo(map: &PlaceMap) -> bool
         return true;
     }
     is_broken_over_leaves(map)
-}
-
-/// The next page of a core that is a table.
-#[inline(always)]
-pub(crate) fn next_of(core: &Core) -> Option<Page>
-    ensures attached { result ≡ leaves.attached_next None (Some core.now) }
-    ensures held { result ≡ next_in (Some core.now) }
-{
-    match *core {
-        Core::Table { next, ns: _ } => Some(next),
-        Core::Leaf { .. } => None,
-    }
 }
 
 /// The next page that the write attaches, if any.

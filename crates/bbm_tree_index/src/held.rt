@@ -25,11 +25,12 @@ pub fn core_at(map: &PlaceMap, kind: Kind, level: u8, place: Place) -> Option<Co
     }
 }
 
-/// The next page of a core that is a table.
-fn next_of(core: Core) -> Option<Page>
-    ensures { result ≡ next_in (Some core) }
+/// The next page of a core that is a table; None of a leaf.
+#[inline(always)]
+pub fn next_of(core: &Core) -> Option<Page>
+    ensures { result ≡ next_in (Some core.now) }
 {
-    match core {
+    match *core {
         Core::Table { next, ns: _ } => Some(next),
         Core::Leaf { .. } => None,
     }
@@ -41,7 +42,7 @@ pub fn next_at(map: &PlaceMap, kind: Kind, level: u8, place: Place) -> Option<Pa
     ensures { result ≡ next_in (core_at map.now kind level place) }
 {
     match core_at(map, kind, level, place) {
-        Some(core) => next_of(core),
+        Some(core) => next_of(&core),
         None => None,
     }
 }

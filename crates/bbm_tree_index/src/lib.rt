@@ -34,5 +34,6 @@ mod table;
 
 pub use below::place_below;
 pub use fault::TreeFault;
+pub use held::next_of;
 pub use index::{Prepared, TreeIndex};
 pub use role::{Attach, Detach, Path, Role};

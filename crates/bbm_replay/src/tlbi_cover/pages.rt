@@ -77,28 +77,24 @@ impl Covering<'_> {
         }
     }
 
-    /// How far the TLBI covers the broken place with this number; and a page each broken place of which is known to be
-    /// covered alike, and how far. A place of the page that was told isn't asked.
+    /// How far the TLBI covers the broken place with this number; a place of the page of which it is known isn't asked.
+    /// `alike` tells then of which page it is known.
     #[inline(always)]
-    fn cover_next(
-        &self,
-        map: &PlaceMap,
-        i: u64,
-        alike: &Option<PageCover>,
-    ) -> (Cover, Option<PageCover>)
+    fn cover_next(&self, map: &PlaceMap, i: u64, alike: &mut Option<PageCover>) -> Cover
         requires within { i < restless_in map.now }
-        requires alike { CoversAlike map.now self.now alike.now }
-        ensures here { IsCovered map.now self.now result.0 (restless_place map.now i) }
-        ensures alike { CoversAlike map.now self.now result.1 }
+        requires alike { CoversAlike map.now self.now alike.old }
+        ensures here { IsCovered map.now self.now result (restless_place map.now i) }
+        ensures alike { CoversAlike map.now self.now alike.new }
     {
-        let place = map.restless_at(i);
-        let page = place.page();
+        let page = map.restless_at(i).page();
         if let Some(known) = alike {
             if known.page.get() == page.get() {
-                return (known.cover, *alike);
+                return known.cover;
             }
         }
-        self.cover_page(map, i)
+        let (cover, next) = self.cover_page(map, i);
+        *alike = next;
+        cover
     }
 
     /// Adds how far the TLBI covers each of the broken places, in the order of their numbers. Those of a page that it
@@ -110,9 +106,8 @@ impl Covering<'_> {
     {
         let mut alike = None;
         for i in 0..map.restless() {
-            let next = self.cover_next(map, i, &alike);
-            alike = next.1;
-            covers.push(Answer::new(next.0))?;
+            let cover = self.cover_next(map, i, &mut alike);
+            covers.push(Answer::new(cover))?;
         }
         Ok(())
     }

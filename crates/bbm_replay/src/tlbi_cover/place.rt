@@ -5,7 +5,6 @@ ghost use Rattle.bbm_events.specs.Heading.{Heading};
 ghost use Rattle.bbm_events.specs.declared.event.Event.{Event};
 ghost use Rattle.bbm_replay.specs.Covering.{IsBrokenOver, IsCovered, IsPathOf, Mismatches, asks_childless};
 ghost use Rattle.bbm_replay.specs.Covering.{asks_tags as spec_asks_tags};
-ghost use Rattle.bbm_replay.specs.Leaves.{is_global_core};
 ghost use Rattle.bbm_replay_roots.specs.RootStateStands.{StateStands};
 ghost use Rattle.bbm_rules.specs.Claims.Trust.{Patterns};
 ghost use Rattle.bbm_rules.specs.Places.{page_of};
@@ -17,7 +16,7 @@ ghost use Rattle.bbm_tree_index.specs.Index.{node_in};
 
 use crate::laws::laws;
 use crate::tlbi_cover::Covering;
-use crate::writes::next_of;
+use crate::writes::is_global;
 use bbm_descriptor::Core;
 use bbm_place_map::PlaceMap;
 use bbm_regimes::{Kind, Place, Tag};
@@ -27,17 +26,7 @@ use bbm_replay_trees::law_childless_by_cores;
 use bbm_rules::law_notes_keep_the_events;
 use bbm_tlbi_scope::scope::{is_number, lacks_vmid};
 use bbm_tlbi_scope::{Cover, Family, PlaceView, TagSet, cover};
-use bbm_tree_index::Path;
-
-/// Whether the core is that of a leaf for every ASID.
-fn is_global(core: &Core) -> bool
-    ensures { result ≡ is_global_core (Some core.now) }
-{
-    match core {
-        Core::Table { .. } => false,
-        Core::Leaf { global, .. } => *global,
-    }
-}
+use bbm_tree_index::{Path, next_of};
 
 /// Whether the cover of a place of this kind depends on the tags of its root.
 fn asks_tags(family: Family, kind: Kind) -> bool

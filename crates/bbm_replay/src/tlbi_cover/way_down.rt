@@ -17,11 +17,10 @@ ghost use Rattle.bbm_replay.specs.Covering.{Grows, IsPathOf, IsSettled};
 ghost use Rattle.bbm_replay.specs.OnePage.{FitTogether, MetFrom, MetFromAll, covers_kind as spec_covers_kind};
 
 use crate::tlbi_cover::Covering;
-use crate::writes::next_of;
 use bbm_place_map::{Found, PlaceMap};
 use bbm_regimes::{Kind, NoMemory, Page, Place};
 use bbm_tlbi_scope::Family;
-use bbm_tree_index::{Path, place_below};
+use bbm_tree_index::{Path, next_of, place_below};
 use smallvec::SmallVec;
 
 /// Whether an operation by address of this family can cover places of a root of this kind.

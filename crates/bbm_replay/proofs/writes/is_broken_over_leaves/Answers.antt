@@ -24,7 +24,7 @@ loop-i-preserved c = λ j below.
           subst P (same c.loop-i.i j below more)
           (one_core c.args.map.now (restless_place c.args.map.now c.loop-i.i) c.restless_core.result
           c.restless_core.ensures
-          (sym c.next_of.ensures.held ∙ none_of c.next_of.result (sym c.is_some.ensures ∙ c.if-is_some.false)))
+          (sym c.next_of.ensures ∙ none_of c.next_of.result (sym c.is_some.ensures ∙ c.if-is_some.false)))
     ]
   where
     same : (i j : ℕ) → j < i + 1 → i ≤ j → i ≡ j

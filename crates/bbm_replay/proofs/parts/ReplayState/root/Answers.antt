@@ -54,17 +54,20 @@ named index heading e kind page none k n inside =
     named_fresh (fresh_in index) kind _ page _ (root_pages heading.world kind page) none n
     (subst (λ (x : Heading). Contains (starts x kind page) n) e inside)
 
-pub attach_prepared-requires-clause-prepared : goal.attach_prepared-requires-clause-prepared
-attach_prepared-requires-clause-prepared c =
+pub attach_prepared-requires : goal.attach_prepared-requires
+attach_prepared-requires c =
     let old = c.args.self.now in
-    let m = c.requires in (
-      old.map,
-      attach.Root c.args.kind c.args.page,
-      c.in-Ok.ensures.prepared,
-      named old.index m.0 m.2.index_header c.args.kind c.args.page
-          (unfresh_is old c.args.kind c.args.page c.page_count.result m.0 m.2.header
-          (sym c.has_kind.ensures ∙ c.if-not-has_kind.false) c.page_count.ensures.value ∙ sym c.in-None.ensures),
-    )
+    let m = c.requires in
+    record {
+      prepared = (
+        old.map,
+        attach.Root c.args.kind c.args.page,
+        c.in-Ok.ensures.prepared,
+        named old.index m.0 m.2.index_header c.args.kind c.args.page
+            (unfresh_is old c.args.kind c.args.page c.page_count.result m.0 m.2.header
+            (sym c.has_kind.ensures ∙ c.if-not-has_kind.false) c.page_count.ensures.value ∙ sym c.in-None.ensures),
+      );
+    }
 
 pub declare-requires : goal.declare-requires
 declare-requires c =

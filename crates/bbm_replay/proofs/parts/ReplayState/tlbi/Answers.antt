@@ -7,16 +7,18 @@ use Rattle.bbm_replay.proofs.Issuing.{tlbi_meets}
 use Rattle.bbm_replay.proofs.Writing.{cores}
 use Rattle.bbm_replay.proofs.parts.ReplayState.tlbi.Goals as goal
 
-pub issue-requires-clause-fits : goal.issue-requires-clause-fits
-issue-requires-clause-fits c =
+pub issue-requires : goal.issue-requires
+issue-requires c =
     let heading = c.requires.0 in
     let h = c.requires.1 in
     let told = c.requires.2.told in
     let view = view_of c.args.self.now.map c.args.self.now.index in
     record {
-      tracked = λ p n is. told.apart.node_tracked p n is;
-      below = λ n place next is table. (c.laws.ensures heading).neighbours.down h view n place next told.kept told.nodes
-          (cores heading h view told) is table;
+      fits = record {
+        tracked = λ p n is. told.apart.node_tracked p n is;
+        below = λ n place next is table. (c.laws.ensures heading).neighbours.down h view n place next told.kept told.nodes
+            (cores heading h view told) is table;
+      };
     }
 
 pub returns-in-Err-issue : goal.returns-in-Err-issue

@@ -94,6 +94,6 @@ returns c over heading h pe op xt issued =
     ∙ covered heading h pe op xt scope vmid place n value.0 table c.is_global.result
     childless tags (c.law_notes_keep_the_events.ensures heading Patterns h)
     m.names m.vmid_is (sym (m.told.nodes (page_of place)) ∙ is) value.1
-    (c.is_some-table.ensures ∙ ap (λ (o : Option ℕ). is_some o) c.next_of.ensures.held
+    (c.is_some-table.ensures ∙ ap (λ (o : Option ℕ). is_some o) c.next_of.ensures
     ∙ table_is (desc_of n.kind n.level value.0) core value.2)
     (c.is_global.ensures ∙ global_is (desc_of n.kind n.level value.0) core value.2) refl refl

@@ -28,7 +28,7 @@ returns-in-Some c over heading h pe op xt issued =
     let childless = is_childless heading Patterns (notes heading h) n value.0 in
     let leaf : is_some (next_of n.kind n.level value.0) ≡ false
     = sym (table_is (desc_of n.kind n.level value.0) core value.2)
-    ∙ sym (c.is_some-table.ensures ∙ ap (λ (o : Option ℕ). is_some o) c.next_of.ensures.held) ∙ c.if-not-table.true in
+    ∙ sym (c.is_some-table.ensures ∙ ap (λ (o : Option ℕ). is_some o) c.next_of.ensures) ∙ c.if-not-table.true in
     c.in-Some.ensures heading h m.stands global childless
     ∙ ap (λ (y : Path). scopes.cover_of scope vmid (record {
       kind = y.kind;

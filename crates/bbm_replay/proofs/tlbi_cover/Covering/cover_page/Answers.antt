@@ -1,5 +1,5 @@
 use Rattle.bbm_replay.proofs.Common.{Marks, notes, view_of}
-use Rattle.bbm_rules.proofs.Common.{◌≡◌, ℕ, true, false, is_some, Option, Some, sym, ◌∙◌, ap, arith}
+use Rattle.bbm_rules.proofs.Common.{◌≡◌, true, false, is_some, Option, Some, sym, ◌∙◌, ap, arith}
 use Rattle.bbm_rules.proofs.Common.{true≢false}
 use Rattle.bbm_rules.proofs.Common.{has_page, cover_at, page_of, Patterns, Tlbi}
 use Rattle.bbm_place_map.specs.Map.{marks_at, restless_place}

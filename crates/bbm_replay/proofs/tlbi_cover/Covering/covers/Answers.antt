@@ -21,10 +21,10 @@ loop-i-preserved c =
             | inr ge ↦ (let same : j ≡ length items = omega (arith, ge, below, c.loop-i.invariant.len) in
                 let number : i ≡ j = omega (arith, ge, below) in
                 all ∙ ap (λ n. slice_get (items ++ c.new.result ∷ []) n) same ∙ at_end items c.new.result
-                ∙ ap (λ (x : Cover). Some x) (c.new.ensures ∙ c.cover_next-next.ensures.here heading h pe op xt m
+                ∙ ap (λ (x : Cover). Some x) (c.new.ensures ∙ c.cover_next-cover.ensures.here heading h pe op xt m
                 ∙ ap cover (ap (λ n. restless_place map n) number)))
           ];
-      alike = c.cover_next-next.ensures.alike;
+      alike = c.cover_next-cover.ensures.alike;
     }
 
 pub returns-clause-each : goal.returns-clause-each

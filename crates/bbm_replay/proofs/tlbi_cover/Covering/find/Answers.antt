@@ -7,12 +7,12 @@ use Rattle.bbm_replay.specs.declared.tlbi_cover.TheConstants.{ONE_BY_ONE}
 use Rattle.bbm_replay.proofs.Unmet.{uncovered}
 use Rattle.bbm_replay.proofs.tlbi_cover.Covering.find.Goals as goal
 
-pub add_each-requires-clause-count : goal.add_each-requires-clause-count
-add_each-requires-clause-count c =
+pub add_each-requires : goal.add_each-requires
+add_each-requires c =
     let few : c.restless.result ≤ ONE_BY_ONE
     = subst (λ (x : Search). FitsSearch c.args.self.now.named.now.scope c.restless.result x) c.in-Each.is
     c.search.ensures in
-    subst (λ n. n ≤ ONE_BY_ONE) c.restless.ensures.count few
+    record { count = subst (λ n. n ≤ ONE_BY_ONE) c.restless.ensures.count few }
 
 pub returns-in_ok-descend_all-in-WayTo-clause-settled : goal.returns-in_ok-descend_all-in-WayTo-clause-settled
 returns-in_ok-descend_all-in-WayTo-clause-settled c =
