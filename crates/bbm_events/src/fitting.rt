@@ -1,17 +1,14 @@
-//! Which events and claims fit a header.
+//! Which events fit a header.
 //! Source: project's own choice, where no other is named.
 
 ghost use Rattle.std.specs.Prelude.{◌≡◌};
-ghost use Rattle.bbm_events.specs.Certificate as certificate;
 ghost use Rattle.bbm_events.specs.Heading as heading;
 ghost use Rattle.bbm_events.specs.Fits as spec;
 ghost use Rattle.bbm_events.specs.Fits.{fits_heading, is_pe};
 
-use crate::certificate::ClaimItem;
-use crate::claim::Claim;
 use crate::event::Event;
 use crate::header::Header;
-use bbm_regimes::{Kind, Page, Pe, Place, Tag};
+use bbm_regimes::{Kind, Page, Pe, Place};
 use bbm_tlbi_scope::TlbiOp;
 
 /// Locks have numbers below 1,024.
@@ -99,55 +96,5 @@ pub fn fits(header: &Header, event: Event) -> bool
         } => has_pe(header, pe),
         Event::Lock { pe, lock } => has_pe(header, pe) && lock < LOCKS,
         Event::Unlock { pe, lock } => has_pe(header, pe) && lock < LOCKS,
-    }
-}
-
-/// Whether the tag's number is in its range, as it is by its type.
-fn is_tag(tag: Tag) -> bool
-    ensures { result ≡ certificate.is_tag tag }
-{
-    let _ = tag;
-    true
-}
-
-/// Whether the claim can stand in a certificate beside a log with this header.
-fn is_claim(header: &Header, claim: Claim) -> bool
-    ensures { result ≡ certificate.is_claim header.now claim }
-{
-    match claim {
-        Claim::Place {
-            pe,
-            place,
-            b: _,
-            t: _,
-            d: _,
-        } => has_pe(header, pe) && is_place(place),
-        Claim::Two {
-            pe,
-            place,
-            b: _,
-            t1: _,
-            d1: _,
-            t2: _,
-            d2: _,
-        } => has_pe(header, pe) && is_place(place),
-        Claim::Taken {
-            pe,
-            tag,
-            t: _,
-            d: _,
-        } => has_pe(header, pe) && is_tag(tag),
-    }
-}
-
-/// Whether the claim, or the count of the last line, can stand in a certificate beside a log with this header: the PE
-/// of a claim is below the header's number. The rest is as it has to be by its type; that the header's world has the
-/// tag isn't asked.
-pub fn claim_fits(header: &Header, item: ClaimItem) -> bool
-    ensures { result ≡ certificate.claim_fits header.now item }
-{
-    match item {
-        ClaimItem::Claim(claim) => is_claim(header, claim),
-        ClaimItem::End(_) => true,
     }
 }

@@ -16,7 +16,7 @@ pub mod roots;
 pub use certificate::{CertificateWord, ClaimItem, ClaimWord, TagWord};
 pub use claim::Claim;
 pub use event::{Event, Item};
-pub use fitting::{claim_fits, fits, has_op};
+pub use fitting::{fits, has_op};
 pub use header::Header;
 pub use keyword::Keyword;
 pub use label::Label;

@@ -40,8 +40,8 @@ fn count_events(steps: &[Step]) -> u64
 
 /// One more step.
 fn take_step(steps: &mut Vec<Step>, step: &Step) -> Result<Turn, LineFault>
-    ensures says { (number : ℕ) (heading : Heading) → TakesLine number heading (reverse steps.old.items) (reverse steps.new.items) result
-        (after_step number heading (reverse steps.old.items) step.now) }
+    ensures says { (number : ℕ) (heading : Heading) → TakesLine number heading (reverse steps.old.items)
+        (reverse steps.new.items) result (after_step number heading (reverse steps.old.items) step.now) }
     ensures short { length steps.old.items ≤ 2000 → length steps.new.items ≤ 2000 }
     ensures counted { result ≡ Ok Turn.Taken → length steps.new.items ≡ length steps.old.items + 1 }
 {
@@ -60,8 +60,8 @@ fn take_step(steps: &mut Vec<Step>, step: &Step) -> Result<Turn, LineFault>
 
 /// What a line that is no machine line decides, by what was read of it. A label says nothing here.
 fn take_item(steps: &mut Vec<Step>, read: Result<Item, Malformed>) -> Result<Turn, LineFault>
-    ensures says { (number : ℕ) (heading : Heading) → TakesLine number heading (reverse steps.old.items) (reverse steps.new.items) result
-        (after_item number heading (reverse steps.old.items) read) }
+    ensures says { (number : ℕ) (heading : Heading) → TakesLine number heading (reverse steps.old.items)
+        (reverse steps.new.items) result (after_item number heading (reverse steps.old.items) read) }
     ensures short { length steps.old.items ≤ 2000 → length steps.new.items ≤ 2000 }
     ensures counted { result ≡ Ok Turn.Taken → length steps.new.items ≡ length steps.old.items + 1 }
 {
@@ -83,8 +83,8 @@ fn take_machine(
     steps: &mut Vec<Step>,
     read: Result<MachineLine, Malformed>,
 ) -> Result<Turn, LineFault>
-    ensures says { (number : ℕ) (heading : Heading) → TakesLine number heading (reverse steps.old.items) (reverse steps.new.items) result
-        (after_machine number heading (reverse steps.old.items) read) }
+    ensures says { (number : ℕ) (heading : Heading) → TakesLine number heading (reverse steps.old.items)
+        (reverse steps.new.items) result (after_machine number heading (reverse steps.old.items) read) }
     ensures short { length steps.old.items ≤ 2000 → length steps.new.items ≤ 2000 }
     ensures counted { result ≡ Ok Turn.Taken → length steps.new.items ≡ length steps.old.items + 1 }
 {

@@ -1,6 +1,7 @@
 -- The parts of a line at the front of some bytes, put together.
-use Rattle.bbm_log_grammar.proofs.Common.{◌≡◌, ◌≢◌, ℕ, zero, suc, ◌+◌, ◌-◌, ◌*◌, ◌/◌, ◌%◌, ◌<◌, ◌≤◌, Bool, true, false, cond}
-use Rattle.bbm_log_grammar.proofs.Common.{List, [], ⊤, arith, take-append-drop, length-take, le-leb, take_all, take_rest}
+use Rattle.bbm_log_grammar.proofs.Common.{◌≡◌, ◌≢◌, ℕ, zero, suc, ◌+◌, ◌-◌, ◌*◌, ◌/◌, ◌%◌, ◌<◌, ◌≤◌, Bool, true}
+use Rattle.bbm_log_grammar.proofs.Common.{false, cond, List, [], ⊤, arith, take-append-drop, length-take, le-leb}
+use Rattle.bbm_log_grammar.proofs.Common.{take_all, take_rest}
 use Rattle.bbm_log_grammar.proofs.Common.{digit_value, list_all, Full, Inner, Non, Dsb, All, Loads, Stores, Event}
 use Rattle.bbm_log_grammar.proofs.Common.{item_fits, Heading, is_label, is_label_byte, event_fields, joined, dsb_word}
 use Rattle.bbm_log_grammar.proofs.Common.{op_word, reg_word, Reg, Ttbr0El2, VttbrEl2, Ttbr0El1, Ttbr1El1, TlbiOp}

@@ -26,7 +26,7 @@ pub use holding::Holding;
 pub use limits::limit_of;
 pub use locks::{holder_of, lacks};
 pub use numbers::least;
-pub use pages::{count_initialised, has_values, is_initialised, is_null, may_be_fresh};
+pub use pages::{count_initialised, has_values, is_initialised, is_null};
 pub use reach::{completes, publishes_for, reaches};
 pub use readings::{Reading, readings_at};
 pub use registers::{named_scope, register_values, vmid_of};

@@ -80,18 +80,6 @@ pub fn count_initialised(events: &[Event]) -> usize
     count
 }
 
-/// Whether a page may be fresh after the event, where it was fresh before it or wasn't, as `before` says: an `init` of
-/// it makes it so, and a `null` of it ends it.
-pub fn may_be_fresh(event: &Event, page: Page, before: bool) -> bool
-    ensures { result ≡ spec.may_be_fresh event.now page before }
-{
-    match *event {
-        Event::Init { pe: _, page: at } => at == page || before,
-        Event::Null { pe: _, page: at } => at != page && before,
-        _ => before,
-    }
-}
-
 /// Whether one of the places has another value than 0.
 fn has_other_than_0(events: &[Event], places: &[Place]) -> bool
     ensures { result ≡ any (λ place. not (values.value_of (reverse events.now) place == 0)) places.now }

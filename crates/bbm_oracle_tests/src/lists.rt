@@ -6,9 +6,7 @@ use bbm_events::Event;
 use bbm_oracle_tags::limits::limit_of;
 use bbm_oracle_tags::locks::{holder_of, lacks};
 use bbm_oracle_tags::numbers::least;
-use bbm_oracle_tags::pages::{
-    count_initialised, has_values, is_initialised, is_null, may_be_fresh,
-};
+use bbm_oracle_tags::pages::{count_initialised, has_values, is_initialised, is_null};
 use bbm_oracle_tags::reach::{completes, publishes_for, reaches};
 use bbm_oracle_tags::readings::readings_at;
 use bbm_oracle_tags::registers::{named_scope, register_values, vmid_of};
@@ -28,8 +26,8 @@ fn tells_pages(alloc: Global) -> Option<bool> {
     let place = Place::new(PLACE)?;
     let values = value_of(&all, place) == 0 && value_of(&all[..7], place) == BLOCK;
     let pages = is_initialised(&all, page) && count_initialised(&all) == 2 && !is_null(&all, ROOT);
-    let fresh = may_be_fresh(&all[0], page, false) && has_values(alloc, &all, page).ok()?;
-    Some(values && pages && fresh && places.len() == 2)
+    let written = has_values(alloc, &all, page).ok()?;
+    Some(values && pages && written && places.len() == 2)
 }
 
 /// Locks, and declared roots.

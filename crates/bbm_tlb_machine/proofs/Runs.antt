@@ -1,8 +1,8 @@
 -- In each run over a log that keeps the rules each entry that is kept is fine; so the log is safe.
 use Rattle.bbm_rules.proofs.Common.{◌≡◌, ℕ, suc, ◌<◌, ◌≤◌, arith, not, ◌&&◌, ◌==◌, nat_lt, Bool, true, false, cond}
-use Rattle.bbm_rules.proofs.Common.{List, [], ◌∷◌, ◌++◌, length, Option, Some, None, option_map, find, filter, Contains, refl}
-use Rattle.bbm_rules.proofs.Common.{sym, ◌∙◌, ap, subst, inl, inr, true≢false, and_from, and_parts, eq-eqb, ltb-true}
-use Rattle.bbm_rules.proofs.Common.{or_left, or_right, Kind, needs, fits_heading, is_value, Start, Extend, Combine}
+use Rattle.bbm_rules.proofs.Common.{List, [], ◌∷◌, ◌++◌, length, Option, Some, None, option_map, find, filter, Contains}
+use Rattle.bbm_rules.proofs.Common.{refl, sym, ◌∙◌, ap, subst, inl, inr, true≢false, and_from, and_parts, eq-eqb}
+use Rattle.bbm_rules.proofs.Common.{ltb-true, or_left, or_right, Kind, needs, fits_heading, is_value, Start, Extend, Combine}
 use Rattle.bbm_rules.proofs.Common.{Share, Drop, keeps, Trust, same_tag, noted, ◌>>=◌, any, if_so, page_of, Barrier}
 use Rattle.bbm_rules.proofs.Common.{Reg, Tag, Heading, Event, Init, Write, Dsb, Msr, completes, unanswered, Reading}
 use Rattle.bbm_rules.proofs.Common.{holds_at, holds_tag, itself, reads, readings, Node, held_at, in_tree, node_of}

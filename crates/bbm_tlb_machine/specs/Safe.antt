@@ -1,8 +1,8 @@
 -- Safe logs: no TLB keeps what a write, an init or a new root needs gone. Lists are newest first.
 -- Source: Arm ARM (DDI 0487), "Using break-before-make when updating translation table entries" and "Translation
 -- Lookaside Buffers"; what counts as a conflict is the project's own choice.
-use Rattle.std.specs.Prelude.{◌≡◌, ◌<◌, ℕ, Bool, true, false, ◌&&◌, not, ◌==◌, List, [], ◌∷◌, ◌++◌, length, Option, Some}
-use Rattle.std.specs.Prelude.{None, Result, Ok, Contains}
+use Rattle.std.specs.Prelude.{◌≡◌, ◌<◌, ℕ, Bool, true, false, ◌&&◌, not, ◌==◌, List, [], ◌∷◌, ◌++◌, length, Option}
+use Rattle.std.specs.Prelude.{Some, None, Result, Ok, Contains}
 use Rattle.bbm_descriptor.specs.Descriptor.{needs}
 use Rattle.bbm_events.specs.Fits.{fits_heading}
 use Rattle.bbm_events.specs.Heading.{heading_ok}

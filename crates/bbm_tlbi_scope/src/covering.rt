@@ -45,7 +45,8 @@ fn asid_matches(asid: Option<u16>, tags: TagSet) -> bool
 }
 
 /// This cover where the test holds, and else none.
-fn where_fits(cover: Cover, fits: bool) -> Cover
+#[inline(always)]
+pub fn where_fits(cover: Cover, fits: bool) -> Cover
     ensures { result ≡ covering.where_fits cover fits }
 {
     if fits { cover } else { Cover::None }

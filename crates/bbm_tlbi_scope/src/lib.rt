@@ -11,7 +11,7 @@ pub mod scope;
 pub mod tag_set;
 pub mod taking;
 
-pub use covering::cover;
+pub use covering::{cover, where_fits};
 pub use decoding::decode;
 pub use entry::{Cover, EntryHead, EntryKind, PlaceView, TagSet};
 pub use laws::{law_cover_takes, law_range, law_whole_tag_takes};

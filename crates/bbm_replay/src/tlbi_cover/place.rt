@@ -10,7 +10,7 @@ ghost use Rattle.bbm_rules.specs.Claims.Trust.{Patterns};
 ghost use Rattle.bbm_rules.specs.Places.{page_of};
 ghost use Rattle.bbm_rules.specs.Tags.{tag_set, tags_of};
 ghost use Rattle.bbm_rules.specs.Tree.{Node};
-ghost use Rattle.bbm_tlbi_scope.specs.ScopeCovers.{asid_matches, cover_of, vmid_matches, where_fits as spec_where_fits};
+ghost use Rattle.bbm_tlbi_scope.specs.ScopeCovers.{asid_matches, cover_of, vmid_matches};
 ghost use Rattle.bbm_tree_index.specs.HeldCores.{Childless, core_at};
 ghost use Rattle.bbm_tree_index.specs.Index.{node_in};
 
@@ -25,7 +25,7 @@ use bbm_replay_roots::NamedTlbi;
 use bbm_replay_trees::law_childless_by_cores;
 use bbm_rules::law_notes_keep_the_events;
 use bbm_tlbi_scope::scope::{is_number, lacks_vmid};
-use bbm_tlbi_scope::{Cover, Family, PlaceView, TagSet, cover};
+use bbm_tlbi_scope::{Cover, Family, PlaceView, TagSet, cover, where_fits};
 use bbm_tree_index::{Path, next_of};
 
 /// Whether the cover of a place of this kind depends on the tags of its root.
@@ -71,14 +71,6 @@ fn is_only_asid(asid: Option<u16>, tags: TagSet) -> Option<bool>
         TagSet::One(Tag::Asid(held)) => Some(is_number(asid, held)),
         _ => None,
     }
-}
-
-/// This cover where the test holds, and else none.
-#[inline(always)]
-fn where_fits(cover: Cover, test: bool) -> Cover
-    ensures { result ≡ spec_where_fits cover test }
-{
-    if test { cover } else { Cover::None }
 }
 
 impl Covering<'_> {
