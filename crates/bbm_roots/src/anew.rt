@@ -41,7 +41,8 @@ pub fn own_tag(world: World, first: bool, number: u16) -> Option<Tag>
     }
 }
 
-/// The same in the Kernel world.
+/// The one tag that a new value of TTBR0_EL1, the first, or TTBR1_EL1 makes readable, where that depends on the value
+/// alone.
 fn kernel_tag(asid_from: AsidFrom, first: bool, number: u16) -> Option<Tag>
     ensures { result ≡ spec.kernel_tag asid_from first number }
 {
@@ -79,7 +80,7 @@ fn known_for(holds: &Holds, n: PeCount, tag: Tag, root: Page, pe: Pe) -> Shortcu
     }
 }
 
-/// The same for the root, where there is one.
+/// What is known of the tag for the root at the PE and the first n; `Held` where there is no root.
 pub fn known_tag(holds: &Holds, n: PeCount, tag: Tag, root: Option<Page>, pe: Pe) -> Shortcut
     ensures held { result ≡ Shortcut.Held → spec.holds_root holds.now pe tag root ≡ true }
     ensures shared { (x : TheReading) → result ≡ Shortcut.Shared x
@@ -101,14 +102,14 @@ fn holds_root(holds: &Holds, tag: Tag, root: Option<Page>, pe: Pe) -> bool
     }
 }
 
-/// The same of the root of a value of TTBR0_EL1 under the ASID of one of TTBR1_EL1.
+/// Whether the PE holds the root of a value of TTBR0_EL1 under the ASID of one of TTBR1_EL1. True where it names none.
 fn holds_asid(holds: &Holds, first: &RootValue, second: &RootValue, pe: Pe) -> bool
     ensures { result ≡ spec.holds_asid holds.now pe first.now second.now }
 {
     holds_root(holds, Tag::Asid(second.number), first.root, pe)
 }
 
-/// The same under the ASID of each of these values of TTBR1_EL1.
+/// Whether the PE holds the root of a value of TTBR0_EL1 under the ASID of each of these values of TTBR1_EL1.
 fn holds_each(holds: &Holds, load: &RootValue, second: &[RootValue], pe: Pe) -> bool
     ensures { result ≡ list_all (spec.holds_asid holds.now pe load.now) second.now }
 {
@@ -117,14 +118,14 @@ fn holds_each(holds: &Holds, load: &RootValue, second: &[RootValue], pe: Pe) -> 
         .all(|other| holds_asid(holds, load, other, pe))
 }
 
-/// The same of the root of each of these values of TTBR0_EL1.
+/// Whether the PE holds the root of each of these values of TTBR0_EL1 under the ASID of a value of TTBR1_EL1.
 fn holds_all(holds: &Holds, load: &RootValue, first: &[RootValue], pe: Pe) -> bool
     ensures { result ≡ list_all (spec.holds_given holds.now pe load.now) first.now }
 {
     first.iter().all(|other| holds_asid(holds, other, load, pe))
 }
 
-/// The same of the root of a new value of TTBR0_EL1, under each ASID that it has by the values of TTBR1_EL1.
+/// Whether the PE holds the root of a new value of TTBR0_EL1, under each ASID that it has by the values of TTBR1_EL1.
 fn holds_asids(
     holds: &Holds,
     asid_from: AsidFrom,
@@ -140,7 +141,7 @@ fn holds_asids(
     }
 }
 
-/// The same of the roots of the values of TTBR0_EL1, under the ASID that a new value of TTBR1_EL1 gives them.
+/// Whether the PE holds the roots of the values of TTBR0_EL1, under the ASID that a new value of TTBR1_EL1 gives them.
 fn holds_under(
     holds: &Holds,
     asid_from: AsidFrom,

@@ -143,7 +143,7 @@ fn mark_one(holds: &mut Holds, tag: Tag, root: Page, pe: Pe)
     enter(holds, tag_key(tag), tag, root, pe);
 }
 
-/// The same, by the key of the tag.
+/// Puts the PE into the entry under the key of the tag, for this root alone.
 fn enter(holds: &mut Holds, key: u32, tag: Tag, root: Page, pe: Pe)
     requires { is_some (get nat_eq holds.old key) ≡ true }
     ensures others { OthersStay key holds.old holds.new }
@@ -236,7 +236,7 @@ fn release_all(holds: &mut Holds, by_root: &mut ByRoot, waits: &mut Waits)
     }
 }
 
-/// The same of the place of this number, where it is there.
+/// Takes the tags away that wait in the place of this number, and empties it, where it is there.
 fn release_place(holds: &mut Holds, by_root: &mut ByRoot, waits: &mut Vec<Waits>, place: usize)
     ensures holds { (g : TheTag) (r p : ℕ) → spec.hold_in holds.new g r p
         ≡ (spec.hold_in holds.old g r p && not (wait_bit g p (wait_at waits.old.items place (spec.tag_key g)))) }

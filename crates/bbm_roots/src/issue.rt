@@ -159,7 +159,7 @@ fn make_entries(
     Ok(())
 }
 
-/// The same in the place of this number.
+/// Makes an entry of each tag that is held and that the TLBI takes, in the place of this number.
 fn make_place(
     waits: &mut Vec<Waits>,
     place: usize,
@@ -270,7 +270,7 @@ fn note_entries(
     }
 }
 
-/// The same in the place of the issuer.
+/// Notes a TLBI of the issuer in the entries of the tags that are held and that it takes, in the issuer's place.
 fn note_place(
     waits: &mut Vec<Waits>,
     holds: &Holds,

@@ -35,6 +35,5 @@ mod vmid;
 
 pub use example::first_root;
 pub use fault::{InUse, RootFault, Unsynced};
-pub use load::is_of_world;
 pub use root::Declared;
 pub use roots::Roots;

@@ -4,7 +4,7 @@
 ghost use Rattle.std.specs.Prelude.{◌≡◌};
 ghost use Rattle.bbm_roots.specs.RootRegisters as spec;
 
-use bbm_regimes::{Page, Reg, World};
+use bbm_regimes::{Page, Reg};
 
 /// What the value of a root register names. Source: Arm ARM (DDI 0487), "AArch64 System register
 /// descriptions", TTBR0_EL2, VTTBR_EL2, TTBR0_EL1 and TTBR1_EL1.
@@ -29,16 +29,6 @@ pub fn is_first(reg: Reg) -> bool
     ensures { result ≡ spec.is_first reg }
 {
     matches!(reg, Reg::Ttbr0El2 | Reg::Ttbr0El1)
-}
-
-/// Whether the register is one of the world.
-pub fn is_of_world(world: World, reg: Reg) -> bool
-    ensures { result ≡ spec.is_of_world world reg }
-{
-    match world {
-        World::Hyp(_) => matches!(reg, Reg::Ttbr0El2 | Reg::VttbrEl2),
-        World::Kernel(_) => matches!(reg, Reg::Ttbr0El1 | Reg::Ttbr1El1),
-    }
 }
 
 /// Whether the root is there and is this page.

@@ -178,7 +178,7 @@ fn clear_place(map: &mut Waits, readings: &[Reading], pe: Pe)
     }
 }
 
-/// The same of every place.
+/// Takes the PE out of the entries of the tags that are readable, in every place.
 #[inline(never)]
 fn clear_places(waits: &mut [Waits], readings: &[Reading], pe: Pe)
     ensures { (n : ℕ) (g : TheTag) (p : ℕ) → spec.wait_bit g p (spec.wait_at waits.new n (key_of g))

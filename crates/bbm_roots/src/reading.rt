@@ -74,7 +74,7 @@ fn add_own(readings: &mut Readings, kind: Kind, loads: &[RootValue]) -> Result<(
     Ok(())
 }
 
-/// The same of values in two parts.
+/// Adds what the values of the register of a kind name, which come in two parts, each with its own VMID or ASID.
 fn add_all(
     readings: &mut Readings,
     kind: Kind,
@@ -98,7 +98,7 @@ fn add_under(readings: &mut Readings, tag: Tag, loads: &[RootValue]) -> Result<(
     Ok(())
 }
 
-/// The same of values in two parts.
+/// Adds what the values of TTBR0_EL1 name, which come in two parts, under this ASID.
 fn add_all_under(
     readings: &mut Readings,
     tag: Tag,
@@ -183,20 +183,6 @@ pub fn readings(
         }
     }
     Ok(readings)
-}
-
-/// Whether the tag is readable for the root.
-pub fn has_reading(readings: &[Reading], tag: Tag, root: Page) -> bool
-    ensures { result ≡ spec.has_reading tag root readings.now }
-{
-    readings.iter().any(|reading| same_tag(reading.tag, tag) && reading.root == root)
-}
-
-/// Whether the tag is readable for some root.
-pub fn has_tag(readings: &[Reading], tag: Tag) -> bool
-    ensures { result ≡ spec.has_tag tag readings.now }
-{
-    readings.iter().any(|reading| same_tag(reading.tag, tag))
 }
 
 /// Whether the tag is readable for another root than this.

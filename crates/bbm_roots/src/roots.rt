@@ -106,7 +106,7 @@ impl Roots {
         }
     }
 
-    /// The same, looked up among the declared roots.
+    /// The lock of the root with this first page among the declared roots; None where it has none or isn't declared.
     #[inline(never)]
     fn declared_lock(&self, page: Page) -> Option<u16>
         ensures { result ≡ spec.lock_in (get nat_eq self.now.declared page) }
