@@ -9,7 +9,7 @@ use Rattle.std.proofs.Common.{OnOk, OnErr}
 use Rattle.bbm_regimes.specs.declared.regime.Reg.{Reg}
 use Rattle.bbm_rules.specs.Answers.{takes_no_memory}
 use Rattle.bbm_rules.specs.Broken.{broken}
-use Rattle.bbm_replay_roots.specs.Bridge.{has_null_base}
+use Rattle.bbm_replay_roots.specs.NullBases.{has_null_base}
 use Rattle.bbm_replay_roots.specs.RootStateStands as roots
 use Rattle.bbm_replay.proofs.Moves.{is_quiet}
 use Rattle.bbm_replay.specs.ReplayStanding.{IsFrugal}

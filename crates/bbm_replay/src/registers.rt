@@ -5,7 +5,7 @@ ghost use Rattle.bbm_events.specs.Heading.{Heading};
 ghost use Rattle.bbm_events.specs.declared.event.Event.{Event};
 ghost use Rattle.bbm_events.specs.declared.event.Event.TheVariants.{Isb, Lock, Msr, Unlock};
 ghost use Rattle.std.specs.Prelude.{Ok};
-ghost use Rattle.bbm_replay_roots.specs.Bridge.{has_null_base};
+ghost use Rattle.bbm_replay_roots.specs.NullBases.{has_null_base};
 ghost use Rattle.bbm_replay.specs.ReplayStanding.{MayMeet, Meets, PartsStand};
 
 use crate::laws::laws;

@@ -2,19 +2,14 @@
 pub use Rattle.std.specs.List.{flat_map}
 pub use Rattle.std.specs.Option.{is_none, option_and_then, option_map}
 pub use Rattle.bbm_histories.specs.TreeChanges.{Proper}
-pub use Rattle.bbm_replay_roots.specs.Bridge.{calls_of, has_null_base, issue_of, with_call}
+pub use Rattle.bbm_replay_roots.specs.NullBases.{has_null_base}
 pub use Rattle.bbm_replay_roots.specs.RootFaults.{room_fault}
 pub use Rattle.bbm_replay_roots.specs.RootLaws.{Laws}
 pub use Rattle.bbm_replay_roots.specs.RootStateStands.{StateStands}
 pub use Rattle.bbm_replay_roots.specs.declared.state.RootState.{RootState}
-pub use Rattle.bbm_roots.specs.Readings.{has_other, has_reading, own_reading}
-pub use Rattle.bbm_roots.specs.RootCalls.{Call, Issue, WriteReg}
-pub use Rattle.bbm_roots.specs.RootRegisters.{at_start, first_reg, is_of_world, names_null, register_values, second_reg}
+pub use Rattle.bbm_roots.specs.RootRegisters.{first_reg, load_in, loads_after, names_null, root_in, second_reg}
 pub use Rattle.bbm_roots.specs.RootsStand.{pes_of, world_of}
 pub use Rattle.bbm_roots.specs.declared.fault.RootFault.{RootFault}
-pub use Rattle.bbm_roots.specs.declared.load.RootValue.{RootValue}
-pub use Rattle.bbm_roots.specs.declared.reading.Reading.{Reading}
-pub use Rattle.bbm_roots.specs.declared.root.Declared.{Declared}
 pub use Rattle.bbm_rules.specs.Claims.{Patterns}
 pub use Rattle.bbm_rules.specs.Prelude.{Kind}
 pub use Rattle.bbm_rules.specs.declared.rule.Rule.{Rule}

@@ -1,7 +1,7 @@
 -- The least rule that an event breaks, and what stands after one that breaks none.
-use Rattle.bbm_replay_roots.proofs.Common.{is_none, option_map, Limit, RootFault, room_fault, Kind, Patterns, Rule}
+use Rattle.bbm_replay_roots.proofs.Common.{is_none, Limit, RootFault, room_fault, Kind, Patterns, Rule}
 use Rattle.bbm_replay_roots.proofs.Common.{WrongWorld, NoLock, NoRoot, TagConflict, RootInUse, UnsyncedVmid, LockBusy}
-use Rattle.bbm_replay_roots.proofs.Common.{pes_of, world_of, Call, calls_of, Laws, StateStands, RootState}
+use Rattle.bbm_replay_roots.proofs.Common.{pes_of, Laws, StateStands, RootState}
 use Rattle.bbm_rules.proofs.Common.{◌≡◌, ℕ, ◌<◌, Bool, true, false, not, ◌&&◌, ◌==◌, cond, nat_le, length, ◌≤◌, ◌↔◌}
 use Rattle.bbm_rules.proofs.Common.{Result, Ok, List, ◌∷◌, Option, Some, None, refl, sym, ap, ◌∙◌, arith, true≢false}
 use Rattle.bbm_rules.proofs.Common.{option_map_or, and_from, eq-eqb, eqb-true, le-leb, leb-true, ne_eqb, result_ok}
@@ -19,10 +19,8 @@ use Rattle.bbm_rules.specs.Rules as rules
 use Rattle.bbm_rules.specs.declared.rule.Rule.TheVariants.{BadOperand, LockNotMine}
 use Rattle.bbm_roots.specs.RootChanges as changes
 use Rattle.bbm_roots.specs.RootsStand as lower
-use Rattle.bbm_roots.specs.DeclaredRoots as called
-use Rattle.bbm_replay_roots.proofs.RootMaps.{as_root, root_same}
+use Rattle.bbm_roots.proofs.Others.{others as left}
 use Rattle.bbm_replay_roots.specs.RootStateStands.{KeepsState, concerns_roots}
-use Rattle.bbm_replay_roots.proofs.TagMaps.{Agrees, agrees}
 
 -- the breach of the rule, or else the other
 abbrev pub or_rule : Rule → Option ℕ → Option Breach → Option Breach
@@ -80,29 +78,24 @@ kept_next heading h e kept none =
     and_from (keeps heading Patterns h) (is_none (broken heading Patterns h e)) kept (ap (λ (o : Option Breach). is_none o) none)
 
 pub stood : {old : RootState} {heading : Heading} {h : List Event} (new : RootState) (e : Event) → StateStands old heading h
-    → broken heading Patterns h e ≡ None → new.header ≡ old.header → pes_of new.roots ≡ pes_of old.roots
-    → world_of new.roots ≡ world_of old.roots → lower.Stands new.roots (calls_of heading (e ∷ h))
+    → broken heading Patterns h e ≡ None → new.header ≡ old.header → lower.Stands new.roots heading (e ∷ h)
     → ((lock : ℕ) → holder_at new.locks lock ≡ holder_of (e ∷ h) lock) → StateStands new heading (e ∷ h)
-stood {heading = heading} {h = h} new e s none header pes world roots locks = record {
+stood {heading = heading} {h = h} new e s none header roots locks = record {
   heading_is = header ∙ s.heading_is;
   proper = s.proper;
   kept = kept_next heading h e s.kept none;
-  pes = pes ∙ s.pes;
-  world = world ∙ s.world;
   roots = roots;
   locks = locks;
 }
 
 -- the same history after a change of room alone
 pub stays : {old : RootState} {heading : Heading} {h : List Event} (new : RootState) → StateStands old heading h
-    → new.header ≡ old.header → pes_of new.roots ≡ pes_of old.roots → world_of new.roots ≡ world_of old.roots
-    → lower.Stands new.roots (calls_of heading h) → ((lock : ℕ) → holder_at new.locks lock ≡ holder_at old.locks lock) → StateStands new heading h
-stays new s header pes world roots locks = record {
+    → new.header ≡ old.header → lower.Stands new.roots heading h
+    → ((lock : ℕ) → holder_at new.locks lock ≡ holder_at old.locks lock) → StateStands new heading h
+stays new s header roots locks = record {
   heading_is = header ∙ s.heading_is;
   proper = s.proper;
   kept = s.kept;
-  pes = pes ∙ s.pes;
-  world = world ∙ s.world;
   roots = roots;
   locks = λ lock. locks lock ∙ s.locks lock;
 }
@@ -110,28 +103,25 @@ stays new s header pes world roots locks = record {
 pub kept : {old : RootState} (new : RootState) → new.header ≡ old.header
     → ((lock : ℕ) → holder_at new.locks lock ≡ holder_at old.locks lock) → changes.Keeps old.roots new.roots → KeepsState old new
 kept new header locks same = record {
-  same = λ heading h s. stays new s header same.log.pes same.log.world (same.same (calls_of heading h) s.roots) locks;
+  same = λ heading h s. stays new s header (same.same heading h s.roots) locks;
   room = same.prepared;
 }
-
-pub agrees_by : {state : RootState} {heading : Heading} {h : List Event} → Laws heading → StateStands state heading h → Agrees heading h
-agrees_by {heading = heading} {h = h} laws s = agrees heading laws (laws.proper s.proper) h s.kept
 
 -- a PE of one history's header is one of each header's
 pub in_range : {state : RootState} {heading other : Heading} {h g : List Event} {p : ℕ} → StateStands state other g → StateStands state heading h
     → p < other.pes → p < heading.pes
-in_range s t less = let a = s.pes in let b = t.pes in omega arith
+in_range s t less = let a = s.roots.pes in let b = t.roots.pes in omega arith
 
 pub of_state : {state : RootState} {heading : Heading} {h : List Event} {p : ℕ} → StateStands state heading h → p < heading.pes → p < pes_of state.roots
-of_state s less = let a = s.pes in omega arith
+of_state s less = let a = s.roots.pes in omega arith
 
 -- the events of other kinds
 pub others : (state : RootState) (heading : Heading) (h : List Event) (e : Event) → StateStands state heading h → concerns_roots e ≡ false
     → broken heading Patterns h e ≡ None → StateStands state heading (e ∷ h)
-others state heading h (Init pe page) s none kept = stood state (Init pe page) s kept refl refl refl s.roots s.locks
-others state heading h (Null pe page) s none kept = stood state (Null pe page) s kept refl refl refl s.roots s.locks
-others state heading h (Write pe place value) s none kept = stood state (Write pe place value) s kept refl refl refl s.roots s.locks
-others state heading h (Dmb pe dsb) s none kept = stood state (Dmb pe dsb) s kept refl refl refl s.roots s.locks
+others state heading h (Init pe page) s none kept = stood state (Init pe page) s kept refl (left s.roots (Init pe page) refl) s.locks
+others state heading h (Null pe page) s none kept = stood state (Null pe page) s kept refl (left s.roots (Null pe page) refl) s.locks
+others state heading h (Write pe place value) s none kept = stood state (Write pe place value) s kept refl (left s.roots (Write pe place value) refl) s.locks
+others state heading h (Dmb pe dsb) s none kept = stood state (Dmb pe dsb) s kept refl (left s.roots (Dmb pe dsb) refl) s.locks
 others state heading h e s none kept = absurd (true≢false none)
 
 -- ---- locks
@@ -203,12 +193,6 @@ free_page {heading = heading} {h = h} pe page kind lock laws s none = by (root_a
         (laws.proper s.proper)
         (kept_next heading h (Root pe kind lock page) s.kept none) in
         absurd (true≢false (sym there ∙ apart))
-
-pub undeclared : {state : RootState} {heading : Heading} {h : List Event} (page : ℕ) → StateStands state heading h → root_at h page ≡ None
-    → (calls : List Call) → lower.Stands state.roots calls → called.root_at calls page ≡ None
-undeclared {heading = heading} {h = h} page s none calls stands =
-    sym (stands.declared page) ∙ (s.roots.declared page ∙ (root_same heading h page
-    ∙ ap (λ (o : Option Declared). option_map as_root o) none))
 
 -- ---- TLBIs
 

@@ -1,10 +1,9 @@
--- Whether a root may be retired, by the history and by its calls.
-use Rattle.bbm_replay_roots.proofs.Common.{is_none, option_and_then, option_map, Kind, Patterns, NoLock, NoRoot}
-use Rattle.bbm_replay_roots.proofs.Common.{RootInUse, WrongWorld, at_start, first_reg, register_values, second_reg}
-use Rattle.bbm_replay_roots.proofs.Common.{pes_of, world_of, RootFault, RootValue, Proper, calls_of, Laws, StateStands}
-use Rattle.bbm_replay_roots.proofs.Common.{RootState}
+-- Whether a root may be retired, by the rules and by what the roots tell.
+use Rattle.bbm_replay_roots.proofs.Common.{is_none, option_and_then, Kind, Patterns, NoLock, NoRoot, RootInUse}
+use Rattle.bbm_replay_roots.proofs.Common.{WrongWorld, first_reg, load_in, loads_after, root_in, second_reg, RootFault}
+use Rattle.bbm_replay_roots.proofs.Common.{Proper, Laws}
 use Rattle.bbm_rules.proofs.Common.{◌≡◌, ℕ, ◌<◌, ◌≤◌, Bool, true, false, not, ◌&&◌, ◌||◌, ◌==◌, nat_lt, List, [], ◌∷◌}
-use Rattle.bbm_rules.proofs.Common.{map, length, Option, Some, None, Result, Ok, Err, refl, sym, ap, ◌∙◌, subst}
+use Rattle.bbm_rules.proofs.Common.{map, length, Option, Some, None, Result, Ok, Err, refl, sym, ap, ◌∙◌}
 use Rattle.bbm_rules.proofs.Common.{true≢false, inl, inr, arith, list_any, cases_lt, lt-ltb, eqb-true, eq-eqb}
 use Rattle.bbm_rules.proofs.Common.{not-false, or_cases, or_left, or_right, list_any-append, pe_finds, any_finds}
 use Rattle.bbm_rules.proofs.Common.{any_found, TagSet, One, Many, Reg, Ttbr0El2, VttbrEl2, Ttbr0El1, Ttbr1El1, Tag}
@@ -21,17 +20,10 @@ use Rattle.bbm_rules.specs.Rules.{root_in_use}
 use Rattle.bbm_tlbi_scope.specs.TagSets.{HasTags}
 use Rattle.bbm_roots.specs.Refusals.{JudgesRetire}
 use Rattle.bbm_roots.specs.RootRegisters.{names_in, names_page, uses}
-use Rattle.bbm_roots.specs.RootRegisters as named
-use Rattle.bbm_roots.specs.DeclaredRoots as calls
-use Rattle.bbm_roots.specs.RootTags as held
 use Rattle.bbm_roots.specs.declared.fault.InUse.TheVariants.{Pe as ByPe, Tag as ByTag}
 use Rattle.bbm_roots.specs.declared.fault.RootFault.TheVariants as faults
-use Rattle.bbm_roots.specs.declared.root.Declared.{Declared as CallRoot}
 use Rattle.bbm_replay_roots.specs.RootFaults.{unroot_rule}
-use Rattle.bbm_replay_roots.proofs.Judge.{agrees_by, broken_unroot, or_rule}
-use Rattle.bbm_replay_roots.proofs.RootMaps.{as_root, root_same}
-use Rattle.bbm_replay_roots.proofs.TagMaps.{Agrees, tag_same}
-use Rattle.bbm_replay_roots.proofs.ValueMaps.{load_in, root_in}
+use Rattle.bbm_replay_roots.proofs.Judge.{broken_unroot, or_rule}
 
 abbrev pub err_of : {A : Type 0} → RootFault → Result A RootFault
 err_of fault = Err fault
@@ -55,11 +47,11 @@ base_used h reg page (v ∷ vs) e =
       | inr there ↦ or_right (at_base page v) (list_any (at_base page) vs) (base_used h reg page vs there)
     ]
   where
-    one : (base : Option ℕ) → named.is_that (root_in h (kind_of_reg reg) base) page ≡ true → is_that base page ≡ true
+    one : (base : Option ℕ) → is_that (root_in h (kind_of_reg reg) base) page ≡ true → is_that base page ≡ true
     one None e = e
     one (Some b) e = by (is_root h (kind_of_reg reg) b) e
       where
-        by : (c : Bool) → named.is_that (if_so c b) page ≡ true → (b == page) ≡ true
+        by : (c : Bool) → is_that (if_so c b) page ≡ true → (b == page) ≡ true
         by true e = e
         by false e = absurd (true≢false (sym e))
 
@@ -72,11 +64,11 @@ used_base h reg page (v ∷ vs) root e =
       | inr there ↦ or_right (names_page page (load_in h reg v)) (names_in (map (load_in h reg) vs) page) (used_base h reg page vs root there)
     ]
   where
-    one : (base : Option ℕ) → is_that base page ≡ true → named.is_that (root_in h (kind_of_reg reg) base) page ≡ true
+    one : (base : Option ℕ) → is_that base page ≡ true → is_that (root_in h (kind_of_reg reg) base) page ≡ true
     one None e = e
     one (Some b) e =
         let same : b ≡ page = eqb-true b page e in
-        ap (λ (c : Bool). named.is_that (if_so c b) page) (ap (is_root h (kind_of_reg reg)) same ∙ root) ∙ e
+        ap (λ (c : Bool). is_that (if_so c b) page) (ap (is_root h (kind_of_reg reg)) same ∙ root) ∙ e
 
 base_there : (page : ℕ) (o : Option ℕ) → is_that o page ≡ true → o ≡ Some page
 base_there page None e = absurd (true≢false (sym e))
@@ -136,8 +128,7 @@ four_down world a k e =
       ]
     ]
 
-module _ (heading : Heading) (laws : Laws heading) (proper : Proper heading) (h : List Event) (kept : keeps heading Patterns h ≡ true)
-    (agree : Agrees heading h) where
+module _ (heading : Heading) (laws : Laws heading) (proper : Proper heading) (h : List Event) (kept : keeps heading Patterns h ≡ true) where
   root_in_world : (kind : Kind) (page : ℕ) → is_root h kind page ≡ true → kind_in_world heading.world kind ≡ true
   root_in_world kind page root =
       let r = laws.root.of_kind h kind page root in
@@ -165,15 +156,14 @@ module _ (heading : Heading) (laws : Laws heading) (proper : Proper heading) (h 
           | inr null ↦ absurd (true≢false (sym is_declared ∙ laws.bases.null h proper kept r.kind page null))
         ]
 
-    reg_same : (p : ℕ) → p < heading.pes → (reg : Reg) → names_in (register_values (calls_of heading h) p reg) page ≡ in_reg h page p reg
+    reg_same : (p : ℕ) → p < heading.pes → (reg : Reg) → names_in (loads_after h p reg) page ≡ in_reg h page p reg
     reg_same p less reg =
-        ap (λ (xs : List RootValue). names_in xs page) (agree.values p reg less)
-        ∙ both_ways _ _ (base_used h reg page (rules.register_values h p reg))
+        both_ways _ _ (base_used h reg page (rules.register_values h p reg))
         (λ e. used_base h reg page (rules.register_values h p reg) (base_root p less reg e) e)
 
-    uses_same : (p : ℕ) → p < heading.pes → uses heading.world (calls_of heading h) page p ≡ is_base_at h page p
+    uses_same : (p : ℕ) → p < heading.pes → uses h heading.world page p ≡ is_base_at h page p
     uses_same p less =
-        ap (λ (b : Bool). b || names_in (register_values (calls_of heading h) p (second_reg heading.world)) page) (reg_same p less (first_reg heading.world))
+        ap (λ (b : Bool). b || names_in (loads_after h p (second_reg heading.world)) page) (reg_same p less (first_reg heading.world))
         ∙ (ap (λ (b : Bool). in_reg h page p (first_reg heading.world) || b) (reg_same p less (second_reg heading.world))
         ∙ (both_ways _ _ (four_up heading.world (in_reg h page p))
         (four_down heading.world (in_reg h page p) (λ reg e. root_in_world (kind_of_reg reg) page (base_root p less reg e)))
@@ -215,40 +205,37 @@ module _ (heading : Heading) (laws : Laws heading) (proper : Proper heading) (h 
   told page (Ok done) = None
   told page (Err fault) = Some (record { rule = unroot_rule fault; at = page })
 
-  pub retire_told : {A : Type 0} (page : ℕ) (outside : (p : ℕ) (reg : Reg) → heading.pes ≤ p → register_values (calls_of heading h) p reg ≡ at_start ∷ [])
+  pub retire_told : {A : Type 0} (page : ℕ) (outside : (p : ℕ) (reg : Reg) → heading.pes ≤ p → rules.register_values h p reg ≡ 0 ∷ [])
       (result : Result A RootFault)
-      → JudgesRetire page (calls.root_at (calls_of heading h) page) (uses heading.world (calls_of heading h) page)
-      (λ tag. held.holds_tag heading.world heading.pes (calls_of heading h) tag page) result
+      → JudgesRetire page (root_at h page) (uses h heading.world page)
+      (λ tag. holds_tag heading Patterns page tag h) result
       → verdict page (root_at h page) (base_anywhere page) (tag_anywhere page) ≡ told page result
-  retire_told {A = A} page outside result judged =
-      by (root_at h page) refl result
-      (subst (λ (o : Option CallRoot). JudgesRetire page o (uses heading.world (calls_of heading h) page)
-      (λ tag. held.holds_tag heading.world heading.pes (calls_of heading h) tag page) result) (root_same heading h page) judged)
+  retire_told {A = A} page outside result judged = by (root_at h page) refl result judged
     where
-      in_range : (p : ℕ) → uses heading.world (calls_of heading h) page p ≡ true → p < heading.pes
+      in_range : (p : ℕ) → uses h heading.world page p ≡ true → p < heading.pes
       in_range p e =
           elim (cases_lt p heading.pes) [
             | inl less ↦ less
             | inr past ↦ absurd (true≢false (sym e
-                ∙ (ap (λ (xs : List RootValue). names_in xs page || names_in (register_values (calls_of heading h) p (second_reg heading.world)) page) (outside p (first_reg heading.world) past)
-                ∙ ap (λ (xs : List RootValue). false || names_in xs page) (outside p (second_reg heading.world) past))))
+                ∙ (ap (λ (vs : List ℕ). names_in (map (load_in h (first_reg heading.world)) vs) page || names_in (loads_after h p (second_reg heading.world)) page) (outside p (first_reg heading.world) past)
+                ∙ ap (λ (vs : List ℕ). names_in (map (load_in h (second_reg heading.world)) vs) page) (outside p (second_reg heading.world) past))))
           ]
 
-      unused : (r : Declared) → root_at h page ≡ Some r → ((p : ℕ) → uses heading.world (calls_of heading h) page p ≡ false)
-          → ((tag : Tag) → held.holds_tag heading.world heading.pes (calls_of heading h) tag page ≡ false)
+      unused : (r : Declared) → root_at h page ≡ Some r → ((p : ℕ) → uses h heading.world page p ≡ false)
+          → ((tag : Tag) → holds_tag heading Patterns page tag h ≡ false)
           → verdict page (Some r) (base_anywhere page) (tag_anywhere page) ≡ None
       unused r at no_base no_tag =
           ap (λ (b : Bool). verdict page (Some r) b (tag_anywhere page))
           (pe_none heading.pes (is_base_at h page) (λ p less. sym (uses_same page r at p less) ∙ no_base p))
-          ∙ ap (λ (b : Bool). verdict page (Some r) false b) (no_tags page (λ tag. sym (tag_same heading h agree tag page) ∙ no_tag tag))
+          ∙ ap (λ (b : Bool). verdict page (Some r) false b) (no_tags page no_tag)
 
       in_use : (r : Declared) → (base_anywhere page || tag_anywhere page) ≡ true
           → verdict page (Some r) (base_anywhere page) (tag_anywhere page) ≡ Some (record { rule = RootInUse; at = page })
       in_use r e = ap (λ (b : Bool). or_rule RootInUse (if_so b page) None) e
 
       by : (o : Option Declared) → root_at h page ≡ o → (result : Result A RootFault)
-          → JudgesRetire page (option_map as_root o) (uses heading.world (calls_of heading h) page)
-          (λ tag. held.holds_tag heading.world heading.pes (calls_of heading h) tag page) result
+          → JudgesRetire page o (uses h heading.world page)
+          (λ tag. holds_tag heading Patterns page tag h) result
           → verdict page o (base_anywhere page) (tag_anywhere page) ≡ told page result
       by None at (Ok done) judged = absurd (true≢false (sym judged.0))
       by (Some r) at (Ok done) judged = unused r at judged.1 judged.2
@@ -262,7 +249,7 @@ module _ (heading : Heading) (laws : Laws heading) (proper : Proper heading) (h 
       by None at (Err (faults.RootInUse (ByTag tag))) judged = absurd (true≢false (sym judged.0))
       by (Some r) at (Err (faults.RootInUse (ByTag tag))) judged =
           in_use r (or_right (base_anywhere page) (tag_anywhere page)
-          (some_tag page tag (sym (tag_same heading h agree tag page) ∙ judged.2.0)))
+          (some_tag page tag judged.2.0))
       by o at (Err faults.NoMemory) judged = absurd judged
       by o at (Err (faults.Limit which)) judged = absurd judged
       by o at (Err (faults.TagConflict tag held_by)) judged = absurd judged
@@ -291,10 +278,10 @@ module _ (heading : Heading) (laws : Laws heading) (proper : Proper heading) (h 
       (lock_rule_is pe page ∙ sym e)
 
   -- with it, it breaks what the roots tell
-  pub locked : {A : Type 0} (pe page : ℕ) (outside : (p : ℕ) (reg : Reg) → heading.pes ≤ p → register_values (calls_of heading h) p reg ≡ at_start ∷ [])
+  pub locked : {A : Type 0} (pe page : ℕ) (outside : (p : ℕ) (reg : Reg) → heading.pes ≤ p → rules.register_values h p reg ≡ 0 ∷ [])
       (result : Result A RootFault)
-      → JudgesRetire page (calls.root_at (calls_of heading h) page) (uses heading.world (calls_of heading h) page)
-      (λ tag. held.holds_tag heading.world heading.pes (calls_of heading h) tag page) result
+      → JudgesRetire page (root_at h page) (uses h heading.world page)
+      (λ tag. holds_tag heading Patterns page tag h) result
       → None ≡ option_and_then (λ lock. if_so (lacks h pe lock) page) (lock_of h page)
       → broken heading Patterns h (Unroot pe page) ≡ told page result
   locked pe page outside result judged e =
@@ -305,10 +292,10 @@ module _ (heading : Heading) (laws : Laws heading) (proper : Proper heading) (h 
       ∙ (verdict_is pe page ∙ retire_told page outside result judged))
 
   -- an `unroot` that breaks no rule is taken
-  pub unroot_taken : (pe page : ℕ) (outside : (p : ℕ) (reg : Reg) → heading.pes ≤ p → register_values (calls_of heading h) p reg ≡ at_start ∷ [])
+  pub unroot_taken : (pe page : ℕ) (outside : (p : ℕ) (reg : Reg) → heading.pes ≤ p → rules.register_values h p reg ≡ 0 ∷ [])
       (fault : RootFault)
-      → JudgesRetire page (calls.root_at (calls_of heading h) page) (uses heading.world (calls_of heading h) page)
-      (λ tag. held.holds_tag heading.world heading.pes (calls_of heading h) tag page) (err_of {A = Unit {0}} fault)
+      → JudgesRetire page (root_at h page) (uses h heading.world page)
+      (λ tag. holds_tag heading Patterns page tag h) (err_of {A = Unit {0}} fault)
       → broken heading Patterns h (Unroot pe page) ≡ None → ⊥
   unroot_taken pe page outside fault judged none =
       clash _ _ fault (sym (broken_unroot heading h pe page) ∙ none) (verdict_is pe page ∙ retire_told {A = Unit {0}} page outside (Err fault) judged)
@@ -352,30 +339,3 @@ set_is heading laws h page test same set has = by set (tag_set (tags_of heading 
         (sym (laws.tag_set.one page h u is has.1) ∙ (sym (same has.1) ∙ has.4)) in
         absurd (true≢false (sym (own u) ∙ (ap (λ (g : Tag). same_tag g u) a ∙ (ap (λ (g : Tag). same_tag has.0 g) b ∙ has.2))))
     by Many Many is has = refl
-
--- ---- what a state that stands for a history tells
-
-module _ {state : RootState} {heading : Heading} {h : List Event} (s : StateStands state heading h) where
-  pub outside_by : (p : ℕ) (reg : Reg) → heading.pes ≤ p → register_values (calls_of heading h) p reg ≡ at_start ∷ []
-  outside_by p reg past = s.roots.outside p reg (let k = s.pes in omega arith)
-
-  pub judged_by : (page : ℕ) (result : Result (Unit {0}) RootFault)
-      → JudgesRetire page (calls.root_at (calls_of heading h) page) (uses (world_of state.roots) (calls_of heading h) page)
-      (λ tag. held.holds_tag (world_of state.roots) (pes_of state.roots) (calls_of heading h) tag page) result
-      → JudgesRetire page (calls.root_at (calls_of heading h) page) (uses heading.world (calls_of heading h) page)
-      (λ tag. held.holds_tag heading.world heading.pes (calls_of heading h) tag page) result
-  judged_by page result judged =
-      subst (λ (n : ℕ). JudgesRetire page (calls.root_at (calls_of heading h) page) (uses heading.world (calls_of heading h) page)
-      (λ tag. held.holds_tag heading.world n (calls_of heading h) tag page) result) s.pes
-      (subst (λ (w : World). JudgesRetire page (calls.root_at (calls_of heading h) page) (uses w (calls_of heading h) page)
-      (λ tag. held.holds_tag w (pes_of state.roots) (calls_of heading h) tag page) result) s.world judged)
-
-  pub set_by : Laws heading → (page : ℕ) (set : TagSet)
-      → HasTags (λ tag. held.holds_tag (world_of state.roots) (pes_of state.roots) (calls_of heading h) tag page) set
-      → set ≡ tag_set (tags_of heading Patterns page h)
-  set_by laws page set has =
-      set_is heading laws h page
-      (λ tag. held.holds_tag (world_of state.roots) (pes_of state.roots) (calls_of heading h) tag page)
-      (λ tag. ap (λ (w : World). held.holds_tag w (pes_of state.roots) (calls_of heading h) tag page) s.world
-      ∙ (ap (λ (n : ℕ). held.holds_tag heading.world n (calls_of heading h) tag page) s.pes
-      ∙ tag_same heading h (agrees_by laws s) tag page)) set has

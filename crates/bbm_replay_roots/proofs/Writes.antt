@@ -1,36 +1,32 @@
--- Whether a register write may be taken, by the history and by its calls.
+-- Whether a register write may be taken, by the rules and by what the roots tell.
 use Rattle.bbm_replay_roots.proofs.Common.{flat_map, option_and_then, Kind, Patterns, NoRoot, TagConflict, WrongWorld}
-use Rattle.bbm_replay_roots.proofs.Common.{WriteReg, has_other, is_of_world, names_null, register_values, pes_of}
-use Rattle.bbm_replay_roots.proofs.Common.{world_of, StateStands, RootState, RootFault, RootValue, Proper, calls_of}
-use Rattle.bbm_replay_roots.proofs.Common.{has_null_base, Laws}
-use Rattle.bbm_rules.proofs.Common.{◌≡◌, ℕ, suc, ◌<◌, ◌≤◌, Bool, true, false, not, ◌&&◌, ◌||◌, ◌==◌, cond, nat_le, List}
+use Rattle.bbm_replay_roots.proofs.Common.{names_null, root_in, StateStands, RootState, RootFault, Proper}
+use Rattle.bbm_replay_roots.proofs.Common.{has_null_base}
+use Rattle.bbm_replay_roots.proofs.Common.{Laws}
+use Rattle.bbm_rules.proofs.Common.{◌≡◌, ℕ, ◌≤◌, Bool, true, false, not, ◌&&◌, ◌||◌, ◌==◌, cond, nat_le, List}
 use Rattle.bbm_rules.proofs.Common.{[], ◌∷◌, map, length, min, Option, Some, None, Result, Ok, Err, refl, sym, ap, ◌∙◌}
 use Rattle.bbm_rules.proofs.Common.{subst, true≢false, inl, inr, arith, list_any, option_map_or, and_from, and_parts}
 use Rattle.bbm_rules.proofs.Common.{eqb-true, eq-eqb, le-leb, or_cases, or_left, or_right, list_any-append, pe_finds}
 use Rattle.bbm_rules.proofs.Common.{Which, Reg, Ttbr0El2, VttbrEl2, Ttbr0El1, Ttbr1El1, Tag, El2Tag, Vmid, Asid}
 use Rattle.bbm_rules.proofs.Common.{Ttbr1Tag, World, Hyp, Kernel, Heading, Event, Msr, Answers, keeps, same_tag, noted}
 use Rattle.bbm_rules.proofs.Common.{among, if_so, least, Noted, is_null, base_of, kind_of_reg, same_reg, Declared}
-use Rattle.bbm_rules.proofs.Common.{is_at, is_root, kind_in_world, roots_of, same_kind, no_root, tag_conflict, ReadsTag}
-use Rattle.bbm_rules.proofs.Common.{Reading, holds_at, holds_tag, loses, readings, reads}
+use Rattle.bbm_rules.proofs.Common.{is_at, is_root, kind_in_world, register_values, roots_of, same_kind, no_root}
+use Rattle.bbm_rules.proofs.Common.{tag_conflict, ReadsTag, Reading, holds_at, holds_tag, loses, readings, reads}
 use Rattle.std.specs.List.{filter}
 use Rattle.std.specs.Option.{unwrap_or}
 use Rattle.std.proofs.lemmas.Bool.{lt-leb}
 use Rattle.bbm_lemmas.proofs.Words.{pe_found}
 use Rattle.bbm_regimes.specs.declared.regime.Which.TheVariants.{Values as ValuesLimit}
 use Rattle.bbm_rules.specs.Broken.{broken}
-use Rattle.bbm_rules.specs.RegisterValues as rules
 use Rattle.bbm_rules.specs.Rules.{wrong_world}
 use Rattle.bbm_roots.specs.LeastOf.{IsLeast, ReadingUpTo}
 use Rattle.bbm_roots.specs.Refusals.{JudgesWrite, conflicts, missing_root, unless_root}
-use Rattle.bbm_roots.specs.RootTags as held
+use Rattle.bbm_roots.specs.RootRegisters.{NullNamesNone}
 use Rattle.bbm_roots.specs.declared.fault.RootFault.TheVariants as faults
-use Rattle.bbm_roots.specs.declared.reading.Reading.{Reading as CallReading}
+use Rattle.bbm_roots.proofs.Readable.{swap}
 use Rattle.bbm_histories.specs.TagSteps.{kind_of_tag}
 use Rattle.bbm_replay_roots.specs.RootFaults.{write_fault}
 use Rattle.bbm_replay_roots.proofs.Judge.{broken_msr, or_rule}
-use Rattle.bbm_replay_roots.proofs.RootMaps.{is_root_same}
-use Rattle.bbm_replay_roots.proofs.TagMaps.{Agrees, agrees_next, tag_same}
-use Rattle.bbm_replay_roots.proofs.ValueMaps.{any_map, load_in, null_test, readings_same, swap, values_written}
 
 -- ---- the least number of a list
 
@@ -168,16 +164,6 @@ reads_root world h p root tag k = absurd k
 
 -- ---- the world
 
-pub reg_of_world : (world : World) (reg : Reg) → kind_in_world world (kind_of_reg reg) ≡ true → is_of_world world reg ≡ true
-reg_of_world (Hyp w) Ttbr0El2 k = refl
-reg_of_world (Hyp w) VttbrEl2 k = refl
-reg_of_world (Hyp w) Ttbr0El1 k = absurd (true≢false (sym k))
-reg_of_world (Hyp w) Ttbr1El1 k = absurd (true≢false (sym k))
-reg_of_world (Kernel w) Ttbr0El2 k = absurd (true≢false (sym k))
-reg_of_world (Kernel w) VttbrEl2 k = absurd (true≢false (sym k))
-reg_of_world (Kernel w) Ttbr0El1 k = refl
-reg_of_world (Kernel w) Ttbr1El1 k = refl
-
 pub right_world : (heading : Heading) (n : List Noted) (pe : ℕ) (reg : Reg) (value : ℕ) → wrong_world heading Patterns n (Msr pe reg value) ≡ None
     → kind_in_world heading.world (kind_of_reg reg) ≡ true
 right_world heading n pe reg value e = by (kind_in_world heading.world (kind_of_reg reg)) _ e
@@ -188,46 +174,60 @@ right_world heading n pe reg value e = by (kind_in_world heading.world (kind_of_
 
 -- ---- the write
 
+-- the base of a value is told to be a null page where it is one: then it is no declared root
+null_test : (reg : Reg) (b : Bool) → names_null reg b ≡ (same_reg reg Ttbr0El1 && b)
+null_test Ttbr0El2 b = refl
+null_test VttbrEl2 b = refl
+null_test Ttbr0El1 b = refl
+null_test Ttbr1El1 b = refl
+
+pub null_names_none : (h : List Event) (reg : Reg) (value : ℕ) (null : Bool) → null ≡ has_null_base h value
+    → ((kind : Kind) (page : ℕ) → is_null h page ≡ true → is_root h kind page ≡ false) → NullNamesNone h reg value null
+null_names_none h reg value null told apart k = by (base_of value) (ap (names_null reg) (sym told) ∙ k)
+  where
+    by : (base : Option ℕ) → names_null reg (option_map_or (λ b. is_null h b) base false) ≡ true
+        → root_in h (kind_of_reg reg) base ≡ None
+    by None e = refl
+    by (Some b) e =
+        let null : is_null h b ≡ true = (and_parts (same_reg reg Ttbr0El1) (is_null h b) (sym (null_test reg (is_null h b)) ∙ e)).1 in
+        ap (λ (x : Bool). if_so x b) (apart (kind_of_reg reg) b null)
+
 abbrev pub Judged : (heading : Heading) (h : List Event) (pe : ℕ) (reg : Reg) (value : ℕ) → Result (Unit {0}) RootFault → Type 0
 Judged heading h pe reg value r =
-    JudgesWrite (missing_root (calls_of heading h) reg value (has_null_base h value))
-    (conflicts heading.world heading.pes (calls_of heading (Msr pe reg value ∷ h)) pe)
-    (length (register_values (calls_of heading h) pe reg)) r
+    JudgesWrite (missing_root h reg value (has_null_base h value)) (conflicts heading (Msr pe reg value ∷ h) pe)
+    (length (register_values h pe reg)) r
 
 module _ (heading : Heading) (laws : Laws heading) (proper : Proper heading) (h : List Event) (kept : keeps heading Patterns h ≡ true)
-    (agree : Agrees heading h) (pe : ℕ) (reg : Reg) (value : ℕ) (known : pe < heading.pes) where
+    (pe : ℕ) (reg : Reg) (value : ℕ) where
   abbrev notes : List Noted
   notes = noted heading Patterns h
 
-  missing_same : missing_root (calls_of heading h) reg value (has_null_base h value) ≡ no_root heading Patterns notes (Msr pe reg value)
+  missing_same : missing_root h reg value (has_null_base h value) ≡ no_root heading Patterns notes (Msr pe reg value)
   missing_same = by (base_of value)
       ∙ ap (λ (es : List Event). option_and_then (λ b. if_so (not (is_root es (kind_of_reg reg) b || (same_reg reg Ttbr0El1 && is_null es b))) b) (base_of value))
       (sym (laws.notes_keep_the_events h))
     where
       by : (base : Option ℕ)
-          → unless_root (calls_of heading h) (kind_of_reg reg) (cond (names_null reg (option_map_or (λ b. is_null h b) base false)) None base)
+          → unless_root h (kind_of_reg reg) (cond (names_null reg (option_map_or (λ b. is_null h b) base false)) None base)
           ≡ option_and_then (λ b. if_so (not (is_root h (kind_of_reg reg) b || (same_reg reg Ttbr0El1 && is_null h b))) b) base
       by None = none (names_null reg false)
         where
-          none : (x : Bool) → unless_root (calls_of heading h) (kind_of_reg reg) (cond x None None) ≡ None
+          none : (x : Bool) → unless_root h (kind_of_reg reg) (cond x None None) ≡ None
           none true = refl
           none false = refl
       by (Some b) =
-          ap (λ (x : Bool). unless_root (calls_of heading h) (kind_of_reg reg) (cond x None (Some b))) (null_test reg (is_null h b))
-          ∙ one (same_reg reg Ttbr0El1 && is_null h b)
+          ap (λ (x : Bool). unless_root h (kind_of_reg reg) (cond x None (Some b))) (null_test reg (is_null h b))
+          ∙ one (is_root h (kind_of_reg reg) b) (same_reg reg Ttbr0El1 && is_null h b) refl
         where
-          one : (x : Bool) → unless_root (calls_of heading h) (kind_of_reg reg) (cond x None (Some b))
+          one : (r x : Bool) → is_root h (kind_of_reg reg) b ≡ r → unless_root h (kind_of_reg reg) (cond x None (Some b))
               ≡ if_so (not (is_root h (kind_of_reg reg) b || x)) b
-          one true = two (is_root h (kind_of_reg reg) b)
+          one r false is = ap (λ (c : Bool). cond c None (Some b)) is ∙ (two r ∙ ap (λ (c : Bool). if_so (not (c || false)) b) (sym is))
             where
-              two : (r : Bool) → None ≡ if_so (not (r || true)) b
+              two : (c : Bool) → cond c None (Some b) ≡ if_so (not (c || false)) b
               two true = refl
               two false = refl
-          one false = ap (λ (r : Bool). cond r None (Some b)) (is_root_same heading laws h (kind_of_reg reg) b) ∙ two (is_root h (kind_of_reg reg) b)
-            where
-              two : (r : Bool) → cond r None (Some b) ≡ if_so (not (r || false)) b
-              two true = refl
-              two false = refl
+          one true true is = ap (λ (c : Bool). if_so (not (c || true)) b) (sym is)
+          one false true is = ap (λ (c : Bool). if_so (not (c || true)) b) (sym is)
 
   abbrev after : List Event
   after = Msr pe reg value ∷ h
@@ -236,17 +236,6 @@ module _ (heading : Heading) (laws : Laws heading) (proper : Proper heading) (h 
   holds_after n tag = holds_tag heading Patterns n tag after
 
   module _ (rule : no_root heading Patterns notes (Msr pe reg value) ≡ None) where
-    agree_after : Agrees heading after
-    agree_after = agrees_next heading laws h agree (Msr pe reg value)
-        (values_written heading h pe reg value laws (laws.bases.null h proper kept) rule agree.values)
-
-    conflict_same : (x : CallReading) → conflicts heading.world heading.pes (calls_of heading after) pe x
-        ≡ (clash_in (readings heading after pe) x.root x.tag && holds_after x.root x.tag)
-    conflict_same x =
-        ap (λ (rs : List CallReading). has_other x.tag x.root rs && held.holds_tag heading.world heading.pes (calls_of heading after) x.tag x.root) (readings_same heading after agree_after.values pe known)
-        ∙ (ap (λ (b : Bool). b && held.holds_tag heading.world heading.pes (calls_of heading after) x.tag x.root) (any_map (λ r. same_tag r.tag x.tag && not (r.root == x.root)) (readings heading after pe))
-        ∙ ap (λ (b : Bool). clash_in (readings heading after pe) x.root x.tag && b) (tag_same heading after agree_after x.tag x.root))
-
     held_root : (n : ℕ) (tag : Tag) → holds_after n tag ≡ true → list_any (is_at n) (roots_of after) ≡ true
     held_root n tag e =
         let f = pe_found heading.pes (λ p. holds_at heading Patterns p n tag after) e in
@@ -268,43 +257,29 @@ module _ (heading : Heading) (laws : Laws heading) (proper : Proper heading) (h 
         (laws.notes_keep_the_events h)
 
     found : (m : ℕ) → among m clashing ≡ true
-        → (tag : Tag) × (conflicts heading.world heading.pes (calls_of heading after) pe (record { tag = tag; root = m }) ≡ true)
+        → (tag : Tag) × (conflicts heading after pe (record { tag = tag; root = m }) ≡ true)
     found m e =
         let f = clash_found (λ g. (laws.equality_tests.tags g g).1 refl) holds_after (roots_of after)
         (readings heading after pe) m e in
-        (f.0, conflict_same (record { tag = f.0; root = m }) ∙ and_from (clash_in (readings heading after pe) m f.0) (holds_after m f.0) f.1 f.2)
+        (f.0, and_from (clash_in (readings heading after pe) m f.0) (holds_after m f.0) f.1 f.2)
 
-    no_conflict : IsLeast ReadingUpTo (conflicts heading.world heading.pes (calls_of heading after) pe) None
+    no_conflict : IsLeast ReadingUpTo (conflicts heading after pe) None
         → tag_conflict heading Patterns notes (Msr pe reg value) ≡ None
     no_conflict none = conflict_is ∙ least_none clashing (λ m e. let f = found m e in true≢false (sym f.1 ∙ none (record { tag = f.0; root = m })))
 
     one_conflict : (tag : Tag) (n : ℕ)
-        → IsLeast ReadingUpTo (conflicts heading.world heading.pes (calls_of heading after) pe) (Some (record { tag = tag; root = n }))
+        → IsLeast ReadingUpTo (conflicts heading after pe) (Some (record { tag = tag; root = n }))
         → tag_conflict heading Patterns notes (Msr pe reg value) ≡ Some n
     one_conflict tag n k =
-        let both = and_parts (clash_in (readings heading after pe) n tag) (holds_after n tag)
-        (sym (conflict_same (record { tag = tag; root = n })) ∙ k.0) in
+        let both = and_parts (clash_in (readings heading after pe) n tag) (holds_after n tag) k.0 in
         conflict_is ∙ least_some clashing n
         (clash_finds (λ g l. (laws.equality_tests.tags g l).0) holds_after (roots_of after) (readings heading after pe)
         n tag both.0 both.1
         (held_root n tag both.1))
         (λ m e. let f = found m e in (k.1 (record { tag = f.0; root = m }) f.1).0)
 
-  count : length (register_values (calls_of heading h) pe reg) ≡ length (rules.register_values h pe reg)
-  count = ap (λ (xs : List RootValue). length xs) (agree.values pe reg known) ∙ length_map (rules.register_values h pe reg)
-    where
-      length_map : (vs : List ℕ) → length (map (load_in h reg) vs) ≡ length vs
-      length_map [] = refl
-      length_map (v ∷ vs) = ap (λ (n : ℕ). suc n) (length_map vs)
-
   abbrev at_limit : Option Which
-  at_limit = if_so (nat_le 9 (length (rules.register_values h pe reg))) ValuesLimit
-
-  below_limit : length (register_values (calls_of heading h) pe reg) < 9 → at_limit ≡ None
-  below_limit less = ap (λ (b : Bool). if_so b ValuesLimit) (lt-leb 9 (length (rules.register_values h pe reg)) (let c = count in omega arith))
-
-  reached_limit : 9 ≤ length (register_values (calls_of heading h) pe reg) → at_limit ≡ Some ValuesLimit
-  reached_limit le = ap (λ (b : Bool). if_so b ValuesLimit) (le-leb 9 (length (rules.register_values h pe reg)) (let c = count in omega arith))
+  at_limit = if_so (nat_le 9 (length (register_values h pe reg))) ValuesLimit
 
   broken_is : (o p : Option ℕ) → wrong_world heading Patterns notes (Msr pe reg value) ≡ None → no_root heading Patterns notes (Msr pe reg value) ≡ o
       → tag_conflict heading Patterns notes (Msr pe reg value) ≡ p
@@ -319,8 +294,10 @@ module _ (heading : Heading) (laws : Laws heading) (proper : Proper heading) (h 
   module _ (world : wrong_world heading Patterns notes (Msr pe reg value) ≡ None) where
     pub write_ok : (done : Unit {0}) → Judged heading h pe reg value (Ok done) → (broken heading Patterns h (Msr pe reg value) ≡ None) × (at_limit ≡ None)
     write_ok done k =
-        let rule = sym missing_same ∙ k.0 in
-        (broken_is None None world rule (no_conflict rule k.1), below_limit k.2)
+        let rule = sym missing_same ∙ k.0 in (
+          broken_is None None world rule (no_conflict rule k.1),
+          ap (λ (b : Bool). if_so b ValuesLimit) (lt-leb 9 (length (register_values h pe reg)) k.2),
+        )
 
     pub write_err : (fault : RootFault) → Judged heading h pe reg value (Err fault)
         → Answers (Err (write_fault fault)) (broken heading Patterns h (Msr pe reg value)) at_limit
@@ -328,30 +305,22 @@ module _ (heading : Heading) (laws : Laws heading) (proper : Proper heading) (h 
     write_err (faults.TagConflict tag page) k =
         let rule = sym missing_same ∙ k.0 in broken_is None (Some page) world rule (one_conflict rule tag page k.1)
     write_err (faults.Limit ValuesLimit) k =
-        let rule = sym missing_same ∙ k.0 in
-        (broken_is None None world rule (no_conflict rule k.1), reached_limit k.2)
+        let rule = sym missing_same ∙ k.0 in (
+          broken_is None None world rule (no_conflict rule k.1),
+          ap (λ (b : Bool). if_so b ValuesLimit) (le-leb 9 (length (register_values h pe reg)) k.2),
+        )
     write_err (faults.Limit which) k = absurd k
     write_err faults.NoMemory k = tt
     write_err (faults.RootInUse use_of) k = absurd k
 
 -- ---- by a state that stands for the history
 
-pub write_by : {state : RootState} {heading : Heading} {h : List Event} → StateStands state heading h → (pe : ℕ) (reg : Reg) (value : ℕ) (null : Bool)
-    → null ≡ has_null_base h value → (result : Result (Unit {0}) RootFault)
-    → JudgesWrite (missing_root (calls_of heading h) reg value null)
-    (conflicts (world_of state.roots) (pes_of state.roots) (WriteReg pe reg value null ∷ calls_of heading h) pe)
-    (length (register_values (calls_of heading h) pe reg)) result
-    → Judged heading h pe reg value result
-write_by {state = state} {heading = heading} {h = h} s pe reg value null e result judged =
-    subst (λ (b : Bool). JudgesWrite (missing_root (calls_of heading h) reg value b)
-    (conflicts heading.world heading.pes (WriteReg pe reg value b ∷ calls_of heading h) pe)
-    (length (register_values (calls_of heading h) pe reg)) result) e
-    (subst (λ (n : ℕ). JudgesWrite (missing_root (calls_of heading h) reg value null)
-    (conflicts heading.world n (WriteReg pe reg value null ∷ calls_of heading h) pe)
-    (length (register_values (calls_of heading h) pe reg)) result) s.pes
-    (subst (λ (w : World). JudgesWrite (missing_root (calls_of heading h) reg value null)
-    (conflicts w (pes_of state.roots) (WriteReg pe reg value null ∷ calls_of heading h) pe)
-    (length (register_values (calls_of heading h) pe reg)) result) s.world judged))
+pub write_by : (heading : Heading) (h : List Event) (pe : ℕ) (reg : Reg) (value : ℕ) (null : Bool) → null ≡ has_null_base h value
+    → (result : Result (Unit {0}) RootFault) → JudgesWrite (missing_root h reg value null)
+    (conflicts heading (Msr pe reg value ∷ h) pe) (length (register_values h pe reg)) result → Judged heading h pe reg value result
+write_by heading h pe reg value null e result judged =
+    subst (λ (b : Bool). JudgesWrite (missing_root h reg value b) (conflicts heading (Msr pe reg value ∷ h) pe)
+    (length (register_values h pe reg)) result) e judged
 
 pub msr_elsewhere : {state : RootState} {heading : Heading} {h : List Event} → StateStands state heading h → (pe : ℕ) (reg : Reg) (value at : ℕ)
     → Some at ≡ wrong_world state.header Patterns (noted heading Patterns h) (Msr pe reg value)

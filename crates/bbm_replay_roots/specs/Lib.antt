@@ -1,4 +1,4 @@
-pub mod Bridge
+pub mod NullBases
 pub mod RootFaults
 pub mod RootLaws
 pub mod RootStateStands

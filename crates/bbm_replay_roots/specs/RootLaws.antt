@@ -6,7 +6,7 @@ use Rattle.bbm_rules.specs.BrokenLaws.{EachRule, NotesKeepEvents}
 use Rattle.bbm_rules.specs.Claims.{Patterns}
 use Rattle.bbm_rules.specs.EventLaws.{RootsBySentence, TestsAreExact}
 use Rattle.bbm_rules.specs.TagLaws.{ReadsBySentence, TagSetSays}
-use Rattle.bbm_histories.specs.HolderLaws.{BasesOfRoots, TagsAfter, TagsOfRoots}
+use Rattle.bbm_histories.specs.HolderLaws.{BasesOfRoots, TagsOfRoots}
 use Rattle.bbm_histories.specs.TreeChanges.{Proper}
 
 pub record Laws (heading : Heading) : Type 0 where
@@ -18,5 +18,4 @@ pub record Laws (heading : Heading) : Type 0 where
   pub readable_tag : ReadsBySentence heading
   pub root : RootsBySentence
   pub tag_set : TagSetSays heading Patterns
-  pub tag_steps : TagsAfter heading
   pub tags : TagsOfRoots heading Patterns

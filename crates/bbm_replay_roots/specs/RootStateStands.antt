@@ -2,7 +2,7 @@
 -- Source: project's own choice.
 use Rattle.std.specs.Prelude.{◌≡◌, ℕ, Bool, true, false, List, ◌∷◌, Option, None, Some, Result, Ok, Err, OnOk, OnErr}
 use Rattle.bbm_locks.specs.Holders.{holder_at}
-use Rattle.bbm_roots.specs.RootsStand.{IsPrepared, pes_of, world_of}
+use Rattle.bbm_roots.specs.RootsStand.{IsPrepared}
 use Rattle.bbm_roots.specs.RootsStand as lower
 use Rattle.bbm_events.specs.Fits.{fits_heading}
 use Rattle.bbm_events.specs.Heading.{heading_ok}
@@ -15,19 +15,16 @@ use Rattle.bbm_rules.specs.Prelude.{TlbiOp}
 use Rattle.bbm_rules.specs.RegisterValues.{named_scope, vmid_of}
 use Rattle.bbm_rules.specs.declared.step_fault.StepFault.{StepFault}
 use Rattle.bbm_rules.specs.declared.step_fault.StepFault.TheVariants.{Broken, Limit, NoMemory}
-use Rattle.bbm_replay_roots.specs.Bridge.{calls_of}
 use Rattle.bbm_replay_roots.specs.declared.named.NamedTlbi.{NamedTlbi}
 use Rattle.bbm_replay_roots.specs.declared.state.RootState.{RootState}
 
--- It stands for a history that keeps the rules over all patterns of events: its roots, registers and tags are those of
--- the history's calls, and its locks are held as the history says.
+-- It stands for a history that keeps the rules over all patterns of events: its roots, registers and tags stand for the
+-- history, and its locks are held as the history says.
 pub record StateStands (state : RootState) (heading : Heading) (h : List Event) : Type 0 where
   pub heading_is : state.header ≡ heading
   pub proper : heading_ok heading ≡ true
   pub kept : keeps heading Patterns h ≡ true
-  pub pes : pes_of state.roots ≡ heading.pes
-  pub world : world_of state.roots ≡ heading.world
-  pub roots : lower.Stands state.roots (calls_of heading h)
+  pub roots : lower.Stands state.roots heading h
   pub locks : (lock : ℕ) → holder_at state.locks lock ≡ holder_of h lock
 
 -- it stands for a history of the event's header after which the event breaks no rule

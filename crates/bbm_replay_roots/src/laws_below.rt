@@ -3,7 +3,7 @@
 ghost use Rattle.bbm_events.specs.Heading.{Heading};
 ghost use Rattle.bbm_replay_roots.specs.RootLaws.{Laws};
 
-use bbm_histories::{law_bases, law_proper, law_tag_steps, law_tags};
+use bbm_histories::{law_bases, law_proper, law_tags};
 use bbm_rules::{
     law_each_rule, law_equality_tests, law_notes_keep_the_events, law_readable_tag, law_root,
     law_tag_set,
@@ -21,6 +21,5 @@ pub(crate) fn laws_below()
     law_readable_tag();
     law_root();
     law_tag_set();
-    law_tag_steps();
     law_tags();
 }

@@ -80,7 +80,7 @@ impl RootState {
     ghost use Rattle.bbm_rules.specs.Tags as tags;
     ghost use Rattle.bbm_tlbi_scope.specs.Operations.{operation};
     ghost use Rattle.bbm_tlbi_scope.specs.declared.op.TlbiOp.{TlbiOp as TheOp};
-    ghost use Rattle.bbm_replay_roots.specs.Bridge.{has_null_base};
+    ghost use Rattle.bbm_replay_roots.specs.NullBases.{has_null_base};
     ghost use Rattle.bbm_replay_roots.specs.RootsByNumber.{nth_root_in};
     ghost use Rattle.bbm_replay_roots.specs.RootStateStands.{HasRoom, IsNamed, IsReadyFor, Judges, JudgesTlbi};
     ghost use Rattle.bbm_replay_roots.specs.RootStateStands.{KeepsState, MayFollow, StateStands, TakesEvent};

@@ -1,6 +1,9 @@
--- What a caller who knows one list of calls knows of every other for which the roots stand.
-use Rattle.bbm_roots.proofs.Common.{◌≡◌, ◌∙◌, sym, ℕ, List, None, Call, root_at, Stands, Roots}
+-- What a caller who knows one history knows of every other for which the roots stand.
+use Rattle.bbm_roots.proofs.Common.{◌≡◌, ◌∙◌, sym, ℕ, List, None, Stands, Roots}
+use Rattle.bbm_events.specs.Heading.{Heading}
+use Rattle.bbm_events.specs.declared.event.Event.{Event}
+use Rattle.bbm_rules.specs.Roots.{root_at}
 
-pub undeclared : (roots : Roots) (known calls : List Call) (page : ℕ) → Stands roots known → root_at known page ≡ None →
-    Stands roots calls → root_at calls page ≡ None
-undeclared roots known calls page stands none other = sym (other.declared page) ∙ stands.declared page ∙ none
+pub undeclared : {roots : Roots} {heading other : Heading} {h g : List Event} (page : ℕ) → Stands roots heading h → root_at h page ≡ None →
+    Stands roots other g → root_at g page ≡ None
+undeclared page stands none other = sym (other.declared page) ∙ (stands.declared page ∙ none)

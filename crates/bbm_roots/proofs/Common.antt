@@ -30,7 +30,7 @@ pub use Rattle.bbm_regimes.specs.declared.regime.Tag.TheVariants.{Asid, Vmid}
 pub use Rattle.bbm_regimes.specs.declared.regime.World.{World}
 pub use Rattle.bbm_regimes.specs.declared.regime.World.TheVariants.{Hyp, Kernel}
 pub use Rattle.bbm_roots.specs.Columns.{loads_in}
-pub use Rattle.bbm_roots.specs.DeclaredRoots.{are_apart, is_of_kind, is_root, retired, root_at, roots_of}
+pub use Rattle.bbm_roots.specs.DeclaredRoots.{is_of_kind}
 pub use Rattle.bbm_roots.specs.Holds.{IsCalm, Marks, conflict_in, entry_bit, entry_held, has_entry, hold_in, is_clash}
 pub use Rattle.bbm_roots.specs.Holds.{is_held_under, is_hold, some_pe, tag_in, tag_key}
 pub use Rattle.bbm_roots.specs.HoldsNew.{holds_asids, holds_new, holds_root, holds_under}
@@ -40,14 +40,11 @@ pub use Rattle.bbm_roots.specs.Readings.{asid_readings, has_other, has_reading, 
 pub use Rattle.bbm_roots.specs.Readings.{is_reading, own_reading, reading_at, reading_under, readings_of, readings_with}
 pub use Rattle.bbm_roots.specs.Readings.{reads_tag, same_tag, tag_of}
 pub use Rattle.bbm_roots.specs.Refusals.{conflicts, is_other_number, missing_root, other_number}
-pub use Rattle.bbm_roots.specs.RootCalls.{Call, Complete, Declare, Isb, Issue, Retire, WriteReg}
 pub use Rattle.bbm_roots.specs.RootChanges.{Writes}
 pub use Rattle.bbm_roots.specs.RootPendings.{has_pending, has_wait, pending_in, slot_of, unread_at, wait_at, wait_bit}
 pub use Rattle.bbm_roots.specs.RootPendings.{wait_in}
-pub use Rattle.bbm_roots.specs.RootRegisters.{at_start, first_reg, is_first, is_of_world, is_that, kind_of_reg, load_of}
-pub use Rattle.bbm_roots.specs.RootRegisters.{names_in, newest, register_values, root_of, same_reg, second_reg, uses}
-pub use Rattle.bbm_roots.specs.RootTags.{awaited, holds_at, holds_tag, loses, one_number, readings, reads}
-pub use Rattle.bbm_roots.specs.RootTags.{reads_for_some}
+pub use Rattle.bbm_roots.specs.RootRegisters.{at_start, first_reg, is_first, is_that, kind_of_reg, names_null}
+pub use Rattle.bbm_roots.specs.RootRegisters.{names_in, newest, root_of, same_reg, second_reg, uses}
 pub use Rattle.bbm_roots.specs.RootsStand.{Stands, pes_of, world_of}
 pub use Rattle.bbm_roots.specs.declared.hold.Held.{Held}
 pub use Rattle.bbm_roots.specs.declared.load.RootValue.{RootValue}

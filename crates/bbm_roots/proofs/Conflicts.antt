@@ -1,12 +1,18 @@
--- What the entries say of the roots that hold tags is what the calls say.
+-- What the entries say of the roots that hold tags is what the history says.
 use Rattle.bbm_roots.proofs.Common.{◌≡◌, ℕ, zero, suc, ◌<◌, ◌≤◌, ⊎_elim, Option, Some, None, Bool, true, false, ◌&&◌}
 use Rattle.bbm_roots.proofs.Common.{◌||◌, nat_eq, List, [], ◌∷◌, refl, sym, ◌∙◌, ap, list_any, proved, Is, IndexMap}
-use Rattle.bbm_roots.proofs.Common.{get, fun_ext, cases_lt, false≢true, eq-eqb, true_from_ne_false, Tag, World, Call}
+use Rattle.bbm_roots.proofs.Common.{get, fun_ext, cases_lt, false≢true, eq-eqb, true_from_ne_false, Tag, Reg}
 use Rattle.bbm_roots.proofs.Common.{some_pe, is_hold, hold_in, tag_in, entry_bit, entry_held, tag_key, conflict_in}
-use Rattle.bbm_roots.proofs.Common.{is_clash, IsCalm, has_reading, has_other, is_reading, is_other, conflicts, readings}
-use Rattle.bbm_roots.proofs.Common.{loses, holds_at, holds_tag, Held, Reading, and-false, first_none, second_none}
+use Rattle.bbm_roots.proofs.Common.{is_clash, IsCalm, has_reading, has_other, is_reading, is_other, conflicts}
+use Rattle.bbm_roots.proofs.Common.{Held, Reading, and-false, first_none, second_none}
 use Rattle.bbm_regimes.specs.PeMask.{pe_in}
+use Rattle.bbm_events.specs.Heading.{Heading}
+use Rattle.bbm_events.specs.declared.event.Event.{Event}
+use Rattle.bbm_events.specs.declared.event.Event.TheVariants.{Msr}
+use Rattle.bbm_rules.specs.Claims.{Patterns}
+use Rattle.bbm_rules.specs.Tags.{holds_at, holds_tag}
 use Rattle.bbm_roots.proofs.Bits.{none_below, none_at}
+use Rattle.bbm_roots.proofs.Readable.{others-are, readings_at}
 use Rattle.bbm_roots.proofs.Steps.{holds-written}
 use mathlib.Core.Bool.{or_comm}
 
@@ -39,12 +45,13 @@ module _ {S : Type 0} (hs : IndexMap ℕ Held S) where
   pub tag_in-is : (n : ℕ) (g : Tag) (r : ℕ) → tag_in hs n g r ≡ some_pe n (hold_in hs g r)
   tag_in-is n g r = entry-is n g r (get nat_eq hs (tag_key g))
 
-  -- what the entries say is what the calls say
-  pub tag-held : (world : World) (n : ℕ) (cs : List Call) →
-      ((g : Tag) (r p : ℕ) → hold_in hs g r p ≡ holds_at world cs g r p) → (g : Tag) (r : ℕ) →
-      tag_in hs n g r ≡ holds_tag world n cs g r
-  tag-held world n cs same g r =
-      tag_in-is n g r ∙ some_pe-same n (hold_in hs g r) (holds_at world cs g r) (same g r)
+  -- what the entries say is what the history says
+  pub tag-held : (heading : Heading) (h : List Event) →
+      ((g : Tag) (r p : ℕ) → hold_in hs g r p ≡ holds_at heading Patterns p r g h) → (g : Tag) (r : ℕ) →
+      tag_in hs heading.pes g r ≡ holds_tag heading Patterns r g h
+  tag-held heading h same g r =
+      tag_in-is heading.pes g r
+      ∙ some_pe-same heading.pes (hold_in hs g r) (λ p. holds_at heading Patterns p r g h) (same g r)
 
   -- what the tags that are about to be readable show is what is in conflict
   pub clash-split : (n : ℕ) (seen : List Reading) (x : Reading) →
@@ -69,25 +76,28 @@ module _ {S : Type 0} (hs : IndexMap ℕ Held S) where
       turn = proved 3 (λ a o t. Is ((a && o) || (o && t)) (o && (a || t))) refl
 
 -- A register write of one PE, at which the tags and roots seen are then readable.
-module _ {S : Type 0} (world : World) (c : Call) (cs : List Call) (pe : ℕ) (seen : List Reading)
-    (here : (p : ℕ) → nat_eq p pe ≡ true → readings world (c ∷ cs) p ≡ seen)
-    (there : (p : ℕ) → nat_eq p pe ≡ false → readings world (c ∷ cs) p ≡ readings world cs p)
-    (no_loss : (g : Tag) (p : ℕ) → loses world c cs g p ≡ false)
-    (pes : ℕ) (known : pe < pes) (hs : IndexMap ℕ Held S)
-    (same : (g : Tag) (r p : ℕ) → hold_in hs g r p ≡ holds_at world cs g r p) where
-  pub tag-written : (g : Tag) (r : ℕ) → holds_tag world pes (c ∷ cs) g r ≡ (tag_in hs pes g r || has_reading g r seen)
+module _ {S : Type 0} (heading : Heading) (h : List Event) (pe : ℕ) (reg : Reg) (value : ℕ) (seen : List Reading)
+    (here : (p : ℕ) → nat_eq p pe ≡ true → readings_at heading (Msr pe reg value ∷ h) p ≡ seen)
+    (there : (p : ℕ) → nat_eq p pe ≡ false → readings_at heading (Msr pe reg value ∷ h) p ≡ readings_at heading h p)
+    (known : pe < heading.pes) (hs : IndexMap ℕ Held S)
+    (same : (g : Tag) (r p : ℕ) → hold_in hs g r p ≡ holds_at heading Patterns p r g h) where
+  tag-written : (g : Tag) (r : ℕ) → holds_tag heading Patterns r g (Msr pe reg value ∷ h)
+      ≡ (tag_in hs heading.pes g r || has_reading g r seen)
   tag-written g r =
-      some_pe-same pes (holds_at world (c ∷ cs) g r) (λ p. holds_at world cs g r p || (nat_eq p pe && has_reading g r seen))
-      (λ p. sym (holds-written world c cs pe seen here there no_loss g r p))
-      ∙ some_pe-or pes (holds_at world cs g r) (λ p. nat_eq p pe && has_reading g r seen)
-      ∙ ap (λ (b : Bool). some_pe pes (holds_at world cs g r) || b) (some_pe-one pes pe (has_reading g r seen) known)
-      ∙ ap (λ (b : Bool). b || has_reading g r seen) (sym (tag-held hs world pes cs same g r))
+      some_pe-same heading.pes (λ p. holds_at heading Patterns p r g (Msr pe reg value ∷ h))
+      (λ p. holds_at heading Patterns p r g h || (nat_eq p pe && has_reading g r seen))
+      (λ p. sym (holds-written heading h pe reg value seen here there g r p))
+      ∙ some_pe-or heading.pes (λ p. holds_at heading Patterns p r g h) (λ p. nat_eq p pe && has_reading g r seen)
+      ∙ ap (λ (b : Bool). holds_tag heading Patterns r g h || b) (some_pe-one heading.pes pe (has_reading g r seen) known)
+      ∙ ap (λ (b : Bool). b || has_reading g r seen) (sym (tag-held hs heading h same g r))
 
-  pub conflict-is : (x : Reading) → conflict_in hs pes seen x ≡ conflicts world pes (c ∷ cs) pe x
+  pub conflict-is : (x : Reading) → conflict_in hs heading.pes seen x ≡ conflicts heading (Msr pe reg value ∷ h) pe x
   conflict-is x =
-      ap (λ (b : Bool). has_other x.tag x.root seen && b) (or_comm (has_reading x.tag x.root seen) (tag_in hs pes x.tag x.root))
+      ap (λ (b : Bool). has_other x.tag x.root seen && b) (or_comm (has_reading x.tag x.root seen) (tag_in hs heading.pes x.tag x.root))
       ∙ ap (λ (b : Bool). has_other x.tag x.root seen && b) (sym (tag-written x.tag x.root))
-      ∙ ap (λ (xs : List Reading). has_other x.tag x.root xs && holds_tag world pes (c ∷ cs) x.tag x.root) (sym (here pe (eq-eqb pe pe refl)))
+      ∙ ap (λ (b : Bool). b && holds_tag heading Patterns x.root x.tag (Msr pe reg value ∷ h))
+      (ap (has_other x.tag x.root) (sym (here pe (eq-eqb pe pe refl)))
+      ∙ others-are heading (Msr pe reg value ∷ h) pe x.tag x.root)
 
 -- where nothing is in conflict at the first n PEs, and no other PE holds a tag, no tag is to be taken from another root
 pub calm-from : {S : Type 0} (hs : IndexMap ℕ Held S) (n : ℕ) (seen : List Reading) →

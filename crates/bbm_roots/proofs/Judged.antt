@@ -1,56 +1,75 @@
--- The judgement of a register write by the entries is that by the calls.
-use Rattle.bbm_roots.proofs.Common.{◌≡◌, ℕ, ◌<◌, Bool, true, List, ◌∷◌, Option, None, length, refl, sym, ◌∙◌, ap, cond}
-use Rattle.bbm_roots.proofs.Common.{subst, fun_ext, IndexMap, Reg, Tag, World, Hyp, Kernel, Call, WriteReg, hold_in}
-use Rattle.bbm_roots.proofs.Common.{conflict_in, readings_of, missing_root, conflicts, register_values, first_reg}
-use Rattle.bbm_roots.proofs.Common.{second_reg, is_first, is_of_world, load_of, holds_at, Held, RootValue, Reading}
-use Rattle.std.proofs.Common.{Result}
+-- The judgement of a register write by the entries is that by the history.
+use Rattle.bbm_roots.proofs.Common.{◌≡◌, ℕ, ◌<◌, Bool, true, List, ◌∷◌, Option, None, length, refl, sym, ◌∙◌, ap}
+use Rattle.bbm_roots.proofs.Common.{cond, subst, fun_ext, Reg, World, Hyp, Kernel, Ttbr0El2, VttbrEl2, Ttbr0El1}
+use Rattle.bbm_roots.proofs.Common.{Ttbr1El1, false≢true}
+use Rattle.bbm_roots.proofs.Common.{conflict_in, readings_of}
+use Rattle.bbm_roots.proofs.Common.{missing_root, conflicts, first_reg, second_reg, is_first, kind_of_reg, loads_in}
+use Rattle.bbm_roots.proofs.Common.{Stands, pes_of, world_of, RootValue, Reading, Roots, arith}
+use Rattle.std.proofs.Common.{Err, Result, Some}
+use Rattle.bbm_regimes.specs.World.{kind_in_world}
+use Rattle.bbm_events.specs.Heading.{Heading}
+use Rattle.bbm_events.specs.declared.event.Event.{Event}
+use Rattle.bbm_events.specs.declared.event.Event.TheVariants.{Msr}
+use Rattle.bbm_rules.specs.RegisterValues.{register_values}
 use Rattle.bbm_roots.specs.Refusals.{JudgesWrite}
+use Rattle.bbm_roots.specs.RootRegisters.{load_in, loads_after}
 use Rattle.bbm_roots.specs.declared.fault.RootFault.{RootFault}
+use Rattle.bbm_roots.specs.declared.fault.RootFault.TheVariants.{NoRoot}
 use Rattle.bbm_roots.proofs.Conflicts.{conflict-is}
-use Rattle.bbm_roots.proofs.Rooted.{by_register}
-use Rattle.bbm_roots.proofs.Written.{elsewhere, right-here}
+use Rattle.bbm_roots.proofs.Numbers.{length-loads}
+use Rattle.bbm_roots.proofs.Taken.{seen-here}
+use Rattle.bbm_roots.proofs.Written.{elsewhere}
 
-values-there : (world : World) (cs : List Call) (pe : ℕ) (reg : Reg) → is_of_world world reg ≡ true →
-    cond (is_first reg) (register_values cs pe (first_reg world)) (register_values cs pe (second_reg world)) ≡ register_values cs pe reg
-values-there world cs pe reg =
-    by_register world reg
-    (λ r. cond (is_first r) (register_values cs pe (first_reg world)) (register_values cs pe (second_reg world)) ≡ register_values cs pe r)
-    (at_first world) (at_second world)
+-- a register of the world is its first or its second
+loads-there : (world : World) (h : List Event) (pe : ℕ) (reg : Reg) → kind_in_world world (kind_of_reg reg) ≡ true →
+    cond (is_first reg) (loads_after h pe (first_reg world)) (loads_after h pe (second_reg world)) ≡ loads_after h pe reg
+loads-there (Hyp w) h pe Ttbr0El2 e = refl
+loads-there (Hyp w) h pe VttbrEl2 e = refl
+loads-there (Hyp w) h pe Ttbr0El1 e = absurd (false≢true e)
+loads-there (Hyp w) h pe Ttbr1El1 e = absurd (false≢true e)
+loads-there (Kernel w) h pe Ttbr0El2 e = absurd (false≢true e)
+loads-there (Kernel w) h pe VttbrEl2 e = absurd (false≢true e)
+loads-there (Kernel w) h pe Ttbr0El1 e = refl
+loads-there (Kernel w) h pe Ttbr1El1 e = refl
+
+pub write-judged : (old : Roots) (heading : Heading) (h : List Event) (pe : ℕ) (reg : Reg) (value : ℕ) (null : Bool)
+    (load : RootValue) (seen : List Reading) → Stands old heading h → pe < pes_of old →
+    kind_in_world (world_of old) (kind_of_reg reg) ≡ true → load ≡ load_in h reg value →
+    seen ≡ readings_of (world_of old)
+    (cond (is_first reg) (load ∷ loads_in old.registers.first.items pe) (loads_in old.registers.first.items pe))
+    (cond (is_first reg) (loads_in old.registers.second.items pe) (load ∷ loads_in old.registers.second.items pe)) →
+    missing_root h reg value null ≡ None → {A : Type 0} → (result : Result A RootFault) →
+    JudgesWrite None (conflict_in old.holds (pes_of old) seen)
+    (length (cond (is_first reg) (loads_in old.registers.first.items pe) (loads_in old.registers.second.items pe))) result →
+    JudgesWrite (missing_root h reg value null) (conflicts heading (Msr pe reg value ∷ h) pe)
+    (length (register_values h pe reg)) result
+write-judged old heading h pe reg value null load seen stands known of_world is_load is_seen there result k =
+    subst (λ (m : Option ℕ). JudgesWrite m (conflicts heading (Msr pe reg value ∷ h) pe) (length (register_values h pe reg)) result)
+    (sym there)
+    (subst (λ (f : Reading → Bool). JudgesWrite None f (length (register_values h pe reg)) result) found
+    (subst (λ (n : ℕ). JudgesWrite None (conflict_in old.holds (pes_of old) seen) n result) count k))
   where
-    at_first : (w : World) → cond (is_first (first_reg w)) (register_values cs pe (first_reg w)) (register_values cs pe (second_reg w)) ≡ register_values cs pe (first_reg w)
-    at_first (Hyp w) = refl
-    at_first (Kernel w) = refl
+    less : pe < heading.pes
+    less = let n = stands.pes in omega (arith, known)
 
-    at_second : (w : World) → cond (is_first (second_reg w)) (register_values cs pe (first_reg w)) (register_values cs pe (second_reg w)) ≡ register_values cs pe (second_reg w)
-    at_second (Hyp w) = refl
-    at_second (Kernel w) = refl
-
-pub write-judged : (world : World) (pes pe : ℕ) (reg : Reg) (value : ℕ) (null : Bool) (cs : List Call) (load : RootValue)
-    {S : Type 0} (first second : List RootValue) (seen : List Reading) (hs : IndexMap ℕ Held S) → pe < pes → is_of_world world reg ≡ true →
-    load ≡ load_of reg value null →
-    first ≡ register_values cs pe (first_reg world) → second ≡ register_values cs pe (second_reg world) →
-    seen ≡ readings_of world (cond (is_first reg) (load ∷ first) first) (cond (is_first reg) second (load ∷ second)) →
-    ((g : Tag) (r p : ℕ) → hold_in hs g r p ≡ holds_at world cs g r p) →
-    missing_root cs reg value null ≡ None → {A : Type 0} → (result : Result A RootFault) →
-    JudgesWrite None (conflict_in hs pes seen) (length (cond (is_first reg) first second)) result →
-    JudgesWrite (missing_root cs reg value null) (conflicts world pes (WriteReg pe reg value null ∷ cs) pe)
-    (length (register_values cs pe reg)) result
-write-judged world pes pe reg value null cs load first second seen hs known of_world is_load is_left is_right is_seen same there result h =
-    subst (λ (m : Option ℕ). JudgesWrite m (conflicts world pes (call ∷ cs) pe) (length (register_values cs pe reg)) result) (sym there)
-    (subst (λ (f : Reading → Bool). JudgesWrite None f (length (register_values cs pe reg)) result) found
-    (subst (λ (n : ℕ). JudgesWrite None (conflict_in hs pes seen) n result) count h))
-  where
-    call : Call
-    call = WriteReg pe reg value null
-
-    found : conflict_in hs pes seen ≡ conflicts world pes (call ∷ cs) pe
+    found : conflict_in old.holds (pes_of old) seen ≡ conflicts heading (Msr pe reg value ∷ h) pe
     found =
-        fun_ext (conflict-is world call cs pe seen
-        (λ p at. right-here world pe reg value null cs p load first second of_world is_load is_left is_right at ∙ sym is_seen)
-        (elsewhere world pe reg value null cs) (λ g p. refl) pes known hs same)
+        ap (λ (n : ℕ). conflict_in old.holds n seen) stands.pes
+        ∙ fun_ext (conflict-is heading h pe reg value seen
+        (seen-here old heading h pe reg value load seen stands known of_world is_load is_seen)
+        (elsewhere heading h pe reg value) less old.holds stands.holds)
 
-    count : length (cond (is_first reg) first second) ≡ length (register_values cs pe reg)
+    count : length (cond (is_first reg) (loads_in old.registers.first.items pe) (loads_in old.registers.second.items pe))
+        ≡ length (register_values h pe reg)
     count =
-        ap (λ (xs : List RootValue). length (cond (is_first reg) xs second)) is_left
-        ∙ ap (λ (ys : List RootValue). length (cond (is_first reg) (register_values cs pe (first_reg world)) ys)) is_right
-        ∙ ap (length {A = RootValue}) (values-there world cs pe reg of_world)
+        ap (λ (xs : List RootValue). length (cond (is_first reg) xs (loads_in old.registers.second.items pe))) (stands.first pe less)
+        ∙ ap (λ (ys : List RootValue). length (cond (is_first reg) (loads_after h pe (first_reg heading.world)) ys)) (stands.second pe less)
+        ∙ ap (length {A = RootValue}) (loads-there heading.world h pe reg
+        (ap (λ (w : World). kind_in_world w (kind_of_reg reg)) (sym stands.world) ∙ of_world))
+        ∙ length-loads h reg (register_values h pe reg)
+
+-- a write of a value whose root is missing
+pub missing-judged : (A : Type 0) (missing : Option ℕ) (conflict : Reading → Bool) (values base : ℕ) (fault : RootFault) →
+    fault ≡ NoRoot base → missing ≡ Some base → let result : Result A RootFault = Err fault in JudgesWrite missing conflict values result
+missing-judged A missing conflict values base fault is found =
+    subst (λ (f : RootFault). let result : Result A RootFault = Err f in JudgesWrite missing conflict values result) (sym is) found

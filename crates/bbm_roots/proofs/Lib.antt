@@ -5,9 +5,10 @@ pub mod Lists
 pub mod Places
 pub mod PendingBits
 pub mod Flat
+pub mod Readable
+pub mod Issued
 pub mod Steps
 pub mod Written
-pub mod Made
 pub mod RootLists
 pub mod Leasts
 pub mod Conflicts
@@ -22,4 +23,5 @@ pub mod Numbers
 pub mod Users
 pub mod Callers
 pub mod Listing
+pub mod Others
 pub mod Changes

@@ -1,12 +1,24 @@
 -- The numbers of a list of values: one, or several.
 use Rattle.bbm_roots.proofs.Common.{◌≡◌, ℕ, ◌<◌, Bool, true, false, ◌&&◌, not, nat_eq, nat_lt, List, [], ◌∷◌, Option}
 use Rattle.bbm_roots.proofs.Common.{Some, None, length, refl, sym, ◌∙◌, ap, cond, arith, false≢true, eqb-true, eq-eqb}
-use Rattle.bbm_roots.proofs.Common.{ltb-true, or_left, Reg, Call, Declare, Retire, WriteReg, Isb, Issue, Complete}
-use Rattle.bbm_roots.proofs.Common.{IsLeast, UpTo, is_other_number, other_number, register_values, newest, is_that}
-use Rattle.bbm_roots.proofs.Common.{same_reg, load_of, one_number, RootValue, first_none, second_none, first_true}
-use Rattle.bbm_roots.specs.RootTags.{all_are}
+use Rattle.bbm_roots.proofs.Common.{ltb-true, or_left, ◌==◌, suc, take, Reg}
+use Rattle.bbm_roots.proofs.Common.{IsLeast, UpTo, is_other_number, other_number, is_that}
+use Rattle.bbm_roots.proofs.Common.{same_reg, RootValue, first_none, second_none, first_true}
+use Rattle.std.proofs.Common.{map}
+use Rattle.bbm_regimes.specs.Registers.{tag_number}
+use Rattle.bbm_lemmas.specs.ListWords as words
+use Rattle.bbm_events.specs.declared.event.Event.{Event}
+use Rattle.bbm_events.specs.declared.event.Event.TheVariants.{Isb, Msr}
+use Rattle.bbm_rules.specs.RegisterValues.{register_values}
+use Rattle.bbm_roots.specs.RootRegisters.{load_in}
 use Rattle.bbm_roots.proofs.Bits.{and_right}
 use Rattle.bbm_roots.proofs.Leasts.{or-split}
+
+abbrev all_are : ℕ → List RootValue → Bool
+all_are n loads = words.every (λ m. m == n) (map (λ (l : RootValue). l.number) loads)
+
+abbrev pub one_number : List RootValue → Option ℕ
+one_number loads = words.one_number (map (λ (l : RootValue). l.number) loads)
 
 pub none-found : (pes : ℕ) (f : ℕ → Bool) → ((p : ℕ) → p < pes → f p ≡ false) → IsLeast UpTo (λ p. nat_lt p pes && f p) None
 none-found pes f before p = by_case (nat_lt p pes) refl
@@ -74,22 +86,27 @@ some-number (l ∷ ls) some none =
     ∙ or_left (is_other_number None l.number l) (other_number ls None l.number)
     (ap (λ (b : Bool). b && true) (eq-eqb l.number l.number refl)))
 
--- a register has some readable value
-pub some-value : (cs : List Call) (p : ℕ) (reg : Reg) → 0 < length (register_values cs p reg)
+-- the values of a register: as many as it has, each with its number, and one at least
+pub length-loads : (h : List Event) (reg : Reg) (vs : List ℕ) → length (map (load_in h reg) vs) ≡ length vs
+length-loads h reg [] = refl
+length-loads h reg (v ∷ vs) = ap suc (length-loads h reg vs)
+
+pub numbers-are : (h : List Event) (reg : Reg) (vs : List ℕ) → map (λ (l : RootValue). l.number) (map (load_in h reg) vs) ≡ map tag_number vs
+numbers-are h reg [] = refl
+numbers-are h reg (v ∷ vs) = ap (λ (ns : List ℕ). tag_number v ∷ ns) (numbers-are h reg vs)
+
+pub some-value : (h : List Event) (p : ℕ) (reg : Reg) → 0 < length (register_values h p reg)
 some-value [] p reg = omega arith
-some-value (Declare kind page lock ∷ cs) p reg = some-value cs p reg
-some-value (Retire page ∷ cs) p reg = some-value cs p reg
-some-value (Issue pe scope vmid ∷ cs) p reg = some-value cs p reg
-some-value (Complete pe dsb ∷ cs) p reg = some-value cs p reg
-some-value (WriteReg pe r value null ∷ cs) p reg = by_case (nat_eq p pe && same_reg r reg) (some-value cs p reg)
+some-value (Msr pe r value ∷ h) p reg = by_case (pe == p && same_reg r reg) (some-value h p reg)
   where
-    by_case : (b : Bool) → 0 < length (register_values cs p reg) →
-        0 < length (cond b (load_of r value null ∷ register_values cs p reg) (register_values cs p reg))
-    by_case true h = omega arith
-    by_case false h = h
-some-value (Isb pe ∷ cs) p reg = by_case (nat_eq p pe) (register_values cs p reg) (some-value cs p reg)
+    by_case : (b : Bool) → 0 < length (register_values h p reg) →
+        0 < length (cond b (value ∷ register_values h p reg) (register_values h p reg))
+    by_case true k = omega arith
+    by_case false k = k
+some-value (Isb pe ∷ h) p reg = by_case (pe == p) (register_values h p reg) (some-value h p reg)
   where
-    by_case : (b : Bool) (xs : List RootValue) → 0 < length xs → 0 < length (cond b (newest xs) xs)
-    by_case true [] h = h
-    by_case true (x ∷ xs) h = omega arith
-    by_case false xs h = h
+    by_case : (b : Bool) (vs : List ℕ) → 0 < length vs → 0 < length (cond b (take 1 vs) vs)
+    by_case true [] k = k
+    by_case true (v ∷ vs) k = omega arith
+    by_case false vs k = k
+some-value (e ∷ h) p reg = some-value h p reg

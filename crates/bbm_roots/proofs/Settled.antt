@@ -6,18 +6,22 @@ use Rattle.bbm_roots.proofs.Common.{El2, S2, Ttbr0, Ttbr1, Reg, Tag, Vmid, Asid,
 use Rattle.bbm_roots.proofs.Common.{loads_in, some_pe, is_hold, hold_in, tag_in, entry_bit, entry_held, tag_key}
 use Rattle.bbm_roots.proofs.Common.{conflict_in, holds_root, holds_asids, holds_under, holds_new, readings_after}
 use Rattle.bbm_roots.proofs.Common.{asid_readings, readings_of, readings_with, own_reading, reading_at, has_reading}
-use Rattle.bbm_roots.proofs.Common.{has_other, is_reading, is_other, same_tag, Call, register_values, first_reg}
+use Rattle.bbm_roots.proofs.Common.{has_other, is_reading, is_other, same_tag, first_reg, arith}
 use Rattle.bbm_roots.proofs.Common.{is_first, Stands, world_of, pes_of, Held, RootValue, Reading, Roots, or-false}
 use Rattle.bbm_roots.proofs.Common.{and-false}
 use Rattle.std.specs.List.{list_all}
 use Rattle.bbm_regimes.specs.PeMask.{pe_in}
 use Rattle.bbm_regimes.specs.declared.regime.AsidFrom.TheVariants.{Ttbr0 as FromTtbr0, Ttbr1 as FromTtbr1}
 use Rattle.bbm_regimes.specs.declared.regime.Tag.TheVariants.{El2 as El2Tag, Ttbr1 as Ttbr1Tag}
+use Rattle.bbm_events.specs.Heading.{Heading}
+use Rattle.bbm_events.specs.declared.event.Event.{Event}
 use Rattle.bbm_lemmas.proofs.Bools.{or_middle}
 use Rattle.bbm_lemmas.proofs.Elements.{any_found, any_finds}
 use Rattle.bbm_roots.specs.LoadsOf.{other_loads}
+use Rattle.bbm_roots.specs.RootRegisters.{loads_after}
 use Rattle.bbm_roots.proofs.Bits.{and_right, same_tag-true}
 use Rattle.bbm_roots.proofs.Leasts.{or-split}
+use Rattle.bbm_roots.proofs.Readable.{reads-are}
 use Rattle.bbm_roots.proofs.Steps.{reads-holds}
 
 -- what a test finds among readings, with those of one more value
@@ -214,25 +218,29 @@ module _ {S : Type 0} (hs : IndexMap ℕ Held S) (pe : ℕ) where
             h ∙ sym (ap (λ (b : Bool). b || true) h)
 
 -- what is readable is held
-pub read-held : (roots : Roots) (pe : ℕ) (cs : List Call) → Stands roots cs → pe < pes_of roots → (g : Tag) (r : ℕ) →
-    has_reading g r (readings_of (world_of roots) (loads_in roots.registers.first.items pe)
+pub read-held : (roots : Roots) (pe : ℕ) (heading : Heading) (h : List Event) → Stands roots heading h → pe < pes_of roots →
+    (g : Tag) (r : ℕ) → has_reading g r (readings_of (world_of roots) (loads_in roots.registers.first.items pe)
     (loads_in roots.registers.second.items pe)) ≡ true → hold_in roots.holds g r pe ≡ true
-read-held roots pe cs stands known g r e =
+read-held roots pe heading h stands known g r e =
+    let less : pe < heading.pes = let n = stands.pes in omega (arith, known) in
     stands.holds g r pe
-    ∙ reads-holds (world_of roots) cs g r pe
-    (ap (λ (ys : List RootValue). has_reading g r (readings_of (world_of roots)
-    (register_values cs pe (first_reg (world_of roots))) ys)) (sym (stands.second pe known))
-    ∙ ap (λ (xs : List RootValue). has_reading g r (readings_of (world_of roots) xs
-    (loads_in roots.registers.second.items pe))) (sym (stands.first pe known))
+    ∙ reads-holds heading h g r pe
+    (sym (reads-are heading h pe g r)
+    ∙ ap (λ (ys : List RootValue). has_reading g r (readings_of heading.world (loads_after h pe (first_reg heading.world)) ys))
+    (sym (stands.second pe less))
+    ∙ ap (λ (xs : List RootValue). has_reading g r (readings_of heading.world xs (loads_in roots.registers.second.items pe)))
+    (sym (stands.first pe less))
+    ∙ ap (λ (w : World). has_reading g r (readings_of w (loads_in roots.registers.first.items pe)
+    (loads_in roots.registers.second.items pe))) (sym stands.world)
     ∙ e)
 
 -- where what a value makes readable anew is held, all that is readable after its write is
-pub held-after : (roots : Roots) (pe : ℕ) (reg : Reg) (load : RootValue) (cs : List Call) → Stands roots cs →
-    pe < pes_of roots →
+pub held-after : (roots : Roots) (pe : ℕ) (reg : Reg) (load : RootValue) (heading : Heading) (h : List Event) →
+    Stands roots heading h → pe < pes_of roots →
     holds_new roots.holds pe (world_of roots) (is_first reg) load (other_loads roots.registers pe reg) ≡ true →
     (g : Tag) (r : ℕ) → has_reading g r (readings_after roots.registers pe reg load) ≡ true →
     hold_in roots.holds g r pe ≡ true
-held-after roots pe reg load cs stands known new g r =
+held-after roots pe reg load heading h stands known new g r =
     new-held roots.holds pe g r (world_of roots) (is_first reg) load
     (loads_in roots.registers.first.items pe) (loads_in roots.registers.second.items pe) new
-    (read-held roots pe cs stands known g r)
+    (read-held roots pe heading h stands known g r)

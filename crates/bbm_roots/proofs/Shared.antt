@@ -3,15 +3,17 @@ use Rattle.bbm_roots.proofs.Common.{◌≡◌, ◌<◌, ◌≤◌, ℕ, Bool, tr
 use Rattle.bbm_roots.proofs.Common.{[], ◌∷◌, ◌++◌, Option, Some, None, cond, refl, sym, ◌∙◌, ap, is_some, flat_map}
 use Rattle.bbm_roots.proofs.Common.{false≢true, eqb-true, not-true, cases_lt, proved, If, Is, IndexMap, get, AsidFrom}
 use Rattle.bbm_roots.proofs.Common.{El2, S2, Ttbr0, Ttbr1, Reg, Tag, Vmid, Asid, World, Hyp, Kernel, first_true}
-use Rattle.bbm_roots.proofs.Common.{loads_in, hold_in, tag_in, tag_key, entry_held, has_entry, IsCalm, Marks}
+use Rattle.bbm_roots.proofs.Common.{loads_in, hold_in, tag_key, entry_held, has_entry, IsCalm, Marks}
 use Rattle.bbm_roots.proofs.Common.{holds_root, holds_asids, holds_under, holds_new, readings_after, readings_of}
-use Rattle.bbm_roots.proofs.Common.{own_reading, reading_at, has_reading, has_other, has_tag, same_tag, is_reading}
-use Rattle.bbm_roots.proofs.Common.{asid_readings, Call, is_first, Stands, world_of, pes_of, Held, RootValue, Reading}
+use Rattle.bbm_roots.proofs.Common.{own_reading, reading_at, has_reading, has_tag, same_tag, is_reading}
+use Rattle.bbm_roots.proofs.Common.{asid_readings, is_first, Stands, world_of, pes_of, Held, RootValue, Reading}
 use Rattle.bbm_roots.proofs.Common.{Roots}
 use Rattle.bbm_roots.proofs.Common.{or-false, and-false}
 use Rattle.std.proofs.lemmas.Bool.{le-leb}
 use Rattle.bbm_regimes.specs.declared.regime.AsidFrom.TheVariants.{Ttbr0 as FromTtbr0, Ttbr1 as FromTtbr1}
 use Rattle.bbm_regimes.specs.declared.regime.Tag.TheVariants.{El2 as El2Tag, Ttbr1 as Ttbr1Tag}
+use Rattle.bbm_events.specs.Heading.{Heading}
+use Rattle.bbm_events.specs.declared.event.Event.{Event}
 use Rattle.bbm_roots.specs.HoldsNew.{kernel_tag, own_tag}
 use Rattle.bbm_roots.specs.RootJudgements.{IsShared}
 use Rattle.bbm_roots.specs.TagsByRoot.{is_listed}
@@ -153,7 +155,7 @@ module _ (roots : Roots) (pe : ℕ) (reg : Reg) (load : RootValue) (reading : Re
         λ p. ap (λ (t : Tag). hold_in roots.holds t r p) (sym same) ∙ others.1 p,
       )
 
-  module _ (cs : List Call) (stands : Stands roots cs) (known : pe < pes_of roots) where
+  module _ (heading : Heading) (h : List Event) (stands : Stands roots heading h) (known : pe < pes_of roots) where
     anew : (g : Tag) (r : ℕ) → has_reading g r (readings_after roots.registers pe reg load)
         ≡ ((same_tag reading.tag g && nat_eq reading.root r) || has_reading g r (readings_of (world_of roots)
         (loads_in roots.registers.first.items pe) (loads_in roots.registers.second.items pe)))
@@ -176,7 +178,7 @@ module _ (roots : Roots) (pe : ℕ) (reg : Reg) (load : RootValue) (reading : Re
               (sym (eqb-true reading.root r (and_right (same_tag reading.tag g) (nat_eq reading.root r) k)))
               ∙ holder.1,
         ))
-        (λ k. (pe, read-held roots pe cs stands known g r k))
+        (λ k. (pe, read-held roots pe heading h stands known g r k))
         (sym (anew g r) ∙ e)
 
     -- the mark of the one tag marks all
@@ -187,5 +189,5 @@ module _ (roots : Roots) (pe : ℕ) (reg : Reg) (load : RootValue) (reading : Re
         ∙ marks-step (hold_in roots.holds g r p) (nat_eq p pe) (same_tag reading.tag g && nat_eq reading.root r)
         (has_reading g r (readings_of (world_of roots) (loads_in roots.registers.first.items pe)
         (loads_in roots.registers.second.items pe)))
-        (λ at k. ap (hold_in roots.holds g r) (eqb-true p pe at) ∙ read-held roots pe cs stands known g r k)
+        (λ at k. ap (hold_in roots.holds g r) (eqb-true p pe at) ∙ read-held roots pe heading h stands known g r k)
         ∙ ap (λ (b : Bool). hold_in roots.holds g r p || (nat_eq p pe && b)) (sym (anew g r))

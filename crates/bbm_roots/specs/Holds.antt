@@ -1,6 +1,7 @@
 -- Which PEs hold a tag for a root: a map from the key of a tag to the root and the set of them.
-use Rattle.std.specs.Prelude.{◌≡◌, ℕ, zero, suc, ◌+◌, ◌*◌, Bool, true, false, ◌&&◌, ◌||◌, nat_eq, ◌==◌, List}
+use Rattle.std.specs.Prelude.{◌≡◌, ℕ, ◌+◌, ◌*◌, Bool, true, false, ◌&&◌, ◌||◌, nat_eq, ◌==◌, List}
 use Rattle.std.specs.Prelude.{Option, Some, None, is_some}
+pub use Rattle.bbm_lemmas.specs.ListWords.{some_pe}
 use Rattle.bbm_regimes.specs.PeMask.{pe_in}
 use Rattle.indexmap.specs.IndexMap.{IndexMap, get}
 use Rattle.bbm_regimes.specs.declared.regime.Tag.{Tag}
@@ -26,11 +27,6 @@ tag_key (Asid a) = 2 * a + 3
 abbrev pub entry_bit : Tag → ℕ → ℕ → Option Held → Bool
 entry_bit tag root p None = false
 entry_bit tag root p (Some held) = holds_bit tag root p held
-
--- whether a test holds at some PE below n
-abbrev pub some_pe : ℕ → (ℕ → Bool) → Bool
-some_pe zero test = false
-some_pe (suc n) test = test n || some_pe n test
 
 -- whether the root holds the entry's tag at one of the first n PEs
 abbrev pub is_held_by : ℕ → Tag → ℕ → Held → Bool

@@ -1,4 +1,3 @@
-pub mod RootCalls
 pub mod Columns
 pub mod Keyed
 pub mod Holds
@@ -14,5 +13,4 @@ pub mod RootsStand
 pub mod RootChanges
 pub mod RootJudgements
 pub mod Listed
-pub mod RootTags
 pub mod TagsByRoot

@@ -1,4 +1,4 @@
--- Why a call is refused, and when it is taken. A list of calls is newest first.
+-- Why a call is refused, and when it is taken. A history is newest first.
 -- Source: project's own choice, where no other is named.
 use Rattle.std.specs.Prelude.{◌≡◌, ◌<◌, ◌≤◌, ℕ, Bool, not, ◌==◌, ◌&&◌, Option, Some, None, IsSome, Result, Ok, Err}
 use Rattle.std.specs.Prelude.{List, if◌then◌else◌}
@@ -7,34 +7,38 @@ use Rattle.bbm_regimes.specs.declared.regime.Kind.{Kind}
 use Rattle.bbm_regimes.specs.declared.regime.Reg.{Reg}
 use Rattle.bbm_regimes.specs.declared.regime.Tag.{Tag}
 use Rattle.bbm_regimes.specs.declared.regime.Which.TheVariants.{Values}
-use Rattle.bbm_regimes.specs.declared.regime.World.{World}
-use Rattle.bbm_roots.specs.RootCalls.{Call}
+use Rattle.bbm_events.specs.Heading.{Heading}
+use Rattle.bbm_events.specs.declared.event.Event.{Event}
+use Rattle.bbm_rules.specs.Claims.{Patterns, same_tag}
+use Rattle.bbm_rules.specs.Roots.{Declared, is_root}
+use Rattle.bbm_rules.specs.Tags.{holds_tag, readings}
 use Rattle.bbm_roots.specs.LeastOf.{IsLeast, UpTo, TagUpTo, ReadingUpTo}
-use Rattle.bbm_roots.specs.Readings.{has_other}
 use Rattle.bbm_roots.specs.RootRegisters.{kind_of_reg, root_of, is_that}
-use Rattle.bbm_roots.specs.DeclaredRoots.{is_root}
-use Rattle.bbm_roots.specs.RootTags.{readings, holds_tag}
 use Rattle.bbm_roots.specs.declared.fault.InUse.TheVariants.{Pe as ByPe, Tag as ByTag}
 use Rattle.bbm_roots.specs.declared.fault.RootFault.{RootFault}
 use Rattle.bbm_roots.specs.declared.fault.RootFault.TheVariants.{NoMemory, Limit, NoRoot, TagConflict, RootInUse}
 use Rattle.bbm_roots.specs.declared.fault.Unsynced.{Unsynced}
 use Rattle.bbm_roots.specs.declared.load.RootValue.{RootValue}
 use Rattle.bbm_roots.specs.declared.reading.Reading.{Reading}
-use Rattle.bbm_roots.specs.declared.root.Declared.{Declared}
 
 -- The base of a value, where it is neither that of a declared root of the kind, nor a null page, which counts in
 -- TTBR0_EL1 alone.
-abbrev pub unless_root : List Call → Kind → Option ℕ → Option ℕ
-unless_root cs kind None = None
-unless_root cs kind (Some base) = if is_root cs kind base then None else Some base
+abbrev pub unless_root : List Event → Kind → Option ℕ → Option ℕ
+unless_root h kind None = None
+unless_root h kind (Some base) = if is_root h kind base then None else Some base
 
-abbrev pub missing_root : List Call → Reg → ℕ → Bool → Option ℕ
-missing_root cs reg value null = unless_root cs (kind_of_reg reg) (root_of reg value null)
+abbrev pub missing_root : List Event → Reg → ℕ → Bool → Option ℕ
+missing_root h reg value null = unless_root h (kind_of_reg reg) (root_of reg value null)
 
--- Tag conflict: the root holds the tag, which is readable at p for another root. The list of calls is the one with the
--- register write.
-abbrev pub conflicts : World → ℕ → List Call → ℕ → Reading → Bool
-conflicts world pes cs p x = has_other x.tag x.root (readings world cs p) && holds_tag world pes cs x.tag x.root
+module _ (heading : Heading) (h : List Event) (p : ℕ) where
+  -- whether the tag is readable at p for another root
+  abbrev pub reads_other : Tag → ℕ → Bool
+  reads_other tag root = list_any (λ r. same_tag r.tag tag && not (r.root == root)) (readings heading h p)
+
+  -- Tag conflict: the root holds the tag, which is readable at p for another root. The history is the one with the
+  -- register write.
+  abbrev pub conflicts : Reading → Bool
+  conflicts x = reads_other x.tag x.root && holds_tag heading Patterns x.root x.tag h
 
 -- A register write is taken where its value misses no root, nothing conflicts, and the register has fewer than nine
 -- readable values. The first of these that fails refuses it: the root with the least first page, of those in conflict,

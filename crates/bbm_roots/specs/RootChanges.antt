@@ -1,16 +1,23 @@
--- What calls change, and that all else stays. A list of calls is newest first.
+-- What calls change, and that all else stays. A history is newest first.
 -- Source: project's own choice.
-use Rattle.std.specs.Prelude.{◌≡◌, ℕ, Bool, not, ◌&&◌, nat_eq, List, ◌∷◌, Result, OnOk, OnErr, if◌then◌else◌}
+use Rattle.std.specs.Prelude.{◌≡◌, ℕ, Bool, true, false, None, not, ◌&&◌, ◌||◌, nat_eq, List, ◌∷◌, Option, Some}
+use Rattle.std.specs.Prelude.{Result, OnOk, OnErr, if◌then◌else◌}
 use Rattle.bbm_barriers.specs.Options.{answers}
 use Rattle.bbm_barriers.specs.declared.Dsb.{Dsb}
 use Rattle.bbm_regimes.specs.declared.regime.Reg.{Reg}
 use Rattle.bbm_regimes.specs.declared.regime.Tag.{Tag}
+use Rattle.bbm_events.specs.Heading.{Heading}
+use Rattle.bbm_events.specs.declared.event.Event.{Event}
+use Rattle.bbm_tlbi_scope.specs.declared.op.TlbiOp.{TlbiOp}
+use Rattle.bbm_tlbi_scope.specs.declared.scope.Scope.{Scope}
+use Rattle.bbm_events.specs.declared.event.Event.TheVariants.{Tlbi}
+use Rattle.bbm_rules.specs.Changes.{changes}
+use Rattle.bbm_rules.specs.RegisterValues.{named_scope, vmid_of}
 use Rattle.bbm_roots.specs.Columns.{loads_in}
 use Rattle.bbm_roots.specs.Holds.{hold_in}
-use Rattle.bbm_roots.specs.RootCalls.{Call}
 use Rattle.bbm_roots.specs.RootPendings.{answered_in, pending_in, Clears}
 use Rattle.bbm_roots.specs.RootRegisters.{is_first}
-use Rattle.bbm_roots.specs.RootsStand.{Stands, IsPrepared, pes_of, world_of}
+use Rattle.bbm_roots.specs.RootsStand.{IsPrepared, Stands, pes_of, world_of}
 use Rattle.bbm_roots.specs.declared.load.RootValue.{RootValue}
 use Rattle.bbm_roots.specs.declared.reading.Reading.{Reading}
 use Rattle.bbm_roots.specs.declared.registers.Registers.{Registers}
@@ -21,22 +28,46 @@ pub record SameLog (old new : Roots) : Type 0 where
   pub pes : pes_of new ≡ pes_of old
   pub world : world_of new ≡ world_of old
 
--- The roots stand for what they stood for and, in front, this call. Where there was room for one more root, there is.
-pub record Takes (call : Call) (old new : Roots) : Type 0 where
-  pub taken : (calls : List Call) → Stands old calls → Stands new (call ∷ calls)
+-- The roots stand for what they stood for and, in front, this event, where a condition holds of the history. Where
+-- there was room for one more root, there is.
+pub record TakesWhere (holds : Heading → List Event → Type 0) (e : Event) (old new : Roots) : Type 0 where
+  pub taken : (heading : Heading) (h : List Event) → Stands old heading h → holds heading h → Stands new heading (e ∷ h)
   pub prepared : IsPrepared old → IsPrepared new
   pub log : SameLog old new
+
+abbrev pub Takes : Event → Roots → Roots → Type 0
+Takes e old new = TakesWhere (λ heading h. Unit {0}) e old new
 
 -- The roots stand for what they stood for. Where there was room for one more root, there is.
 pub record Keeps (old new : Roots) : Type 0 where
-  pub same : (calls : List Call) → Stands old calls → Stands new calls
+  pub same : (heading : Heading) (h : List Event) → Stands old heading h → Stands new heading h
   pub prepared : IsPrepared old → IsPrepared new
   pub log : SameLog old new
 
--- a call that may be refused: after Ok it is taken, after a refusal nothing changes
-pub record Tries {A E : Type 0} (call : Call) (old new : Roots) (result : Result A E) : Type 0 where
-  pub taken : OnOk result (Takes call old new)
+-- a call that may be refused: after Ok its event is taken, after a refusal nothing changes
+pub record TriesWhere {A E : Type 0} (holds : Heading → List Event → Type 0) (e : Event) (old new : Roots)
+    (result : Result A E) : Type 0 where
+  pub taken : OnOk result (TakesWhere holds e old new)
   pub kept : OnErr result (Keeps old new)
+
+abbrev pub Tries : {A E : Type 0} → Event → Roots → Roots → Result A E → Type 0
+Tries e old new result = TriesWhere (λ heading h. Unit {0}) e old new result
+
+-- after the history a TLBI of the PE names this scope, under this VMID, and reaches some PE
+abbrev pub Issues : Heading → List Event → ℕ → TlbiOp → ℕ → Scope → Option ℕ → Type 0
+Issues heading h pe op xt scope vmid = (named_scope heading h pe op xt ≡ Some scope) × (vmid ≡ vmid_of heading h pe)
+    × ((scope.broadcast || not heading.cnp) ≡ true)
+
+-- Whether an event concerns roots, register values or tags: a TLBI where it names a scope and reaches some PE.
+abbrev pub concerns : Heading → List Event → Event → Bool
+concerns heading h (Tlbi pe op xt) =
+    elim (named_scope heading h pe op xt) [ None ↦ false | Some scope ↦ scope.broadcast || not heading.cnp ]
+concerns heading h e = (changes e).roots || (changes e).registers || (changes e).flushes
+
+-- What stands for a history stands for it with an event more that concerns none of them.
+abbrev pub OthersStand : Type 0
+OthersStand = (roots : Roots) (heading : Heading) (h : List Event) (e : Event) → Stands roots heading h
+    → concerns heading h e ≡ false → Stands roots heading (e ∷ h)
 
 -- the value is put in front of those that a register of the PE had, and no other value changes
 pub record PutsLoad (pe : ℕ) (reg : Reg) (load : RootValue) (old new : Registers) : Type 0 where

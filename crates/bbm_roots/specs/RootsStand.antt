@@ -1,19 +1,23 @@
--- What the roots stand for: a list of accepted calls, point by point.
-use Rattle.std.specs.Prelude.{◌≡◌, ◌<◌, ◌≤◌, ◌&&◌, ℕ, Bool, true, false, List, [], ◌∷◌, IsSome, nat_eq, length}
-use Rattle.std.specs.Prelude.{Option, None}
+-- What the roots stand for: a history, point by point. A history is newest first.
+use Rattle.std.specs.Prelude.{◌≡◌, ◌<◌, ◌≤◌, ◌&&◌, ℕ, Bool, true, false, List, [], ◌∷◌, nat_eq, length, Option, None}
+use Rattle.std.specs.Option.{option_map}
 use Rattle.indexmap.specs.IndexMap.{get, index_map_len, spare}
 use Rattle.bbm_regimes.specs.declared.regime.Reg.{Reg}
 use Rattle.bbm_regimes.specs.declared.regime.Tag.{Tag}
 use Rattle.bbm_regimes.specs.declared.regime.World.{World}
 use Rattle.bbm_tlbi_scope.specs.declared.scope.Scope.{Scope}
-use Rattle.bbm_roots.specs.RootCalls.{Call}
+use Rattle.bbm_events.specs.Heading.{Heading}
+use Rattle.bbm_events.specs.declared.event.Event.{Event}
+use Rattle.bbm_rules.specs.Claims.{Patterns}
+use Rattle.bbm_rules.specs.RegisterValues.{register_values}
+use Rattle.bbm_rules.specs.Roots.{lock_of, root_at, roots_of}
+use Rattle.bbm_rules.specs.Tags.{holds_at}
+use Rattle.bbm_histories.specs.HistorySteps.{tag_waits}
 use Rattle.bbm_roots.specs.Columns.{loads_in}
+use Rattle.bbm_roots.specs.DeclaredRoots.{as_declared}
 use Rattle.bbm_roots.specs.Holds.{hold_in}
 use Rattle.bbm_roots.specs.RootPendings.{has_pending, pending_in, EachLost}
-use Rattle.bbm_roots.specs.RootRegisters.{at_start, first_reg, second_reg, register_values, is_of_world, kind_of_reg}
-use Rattle.bbm_roots.specs.RootRegisters.{names_in}
-use Rattle.bbm_roots.specs.DeclaredRoots.{root_at, roots_of, is_root, are_apart, lock_of}
-use Rattle.bbm_roots.specs.RootTags.{holds_at, awaited}
+use Rattle.bbm_roots.specs.RootRegisters.{first_reg, loads_after, second_reg}
 use Rattle.bbm_roots.specs.declared.roots.Roots.{Roots}
 
 -- the number of PEs, and the world
@@ -23,28 +27,25 @@ pes_of roots = roots.registers.pes
 abbrev pub world_of : Roots → World
 world_of roots = roots.registers.world
 
--- The roots stand for the calls: they keep what the readable values of each register name, the declared roots, which
--- PEs hold a tag for a root, and, where a tag is held, which unanswered TLBIs are about to take it away. Where they keep
--- that no root was declared with a lock, no declared root has one. Of the calls it says besides that a page is that of
--- one declared root at most, that readable values name declared roots of their register's kind, and that a root which
--- holds a tag is declared.
-pub record Stands (roots : Roots) (cs : List Call) : Type 0 where
-  pub first : (p : ℕ) → p < pes_of roots
-      → loads_in roots.registers.first.items p ≡ register_values cs p (first_reg (world_of roots))
-  pub second : (p : ℕ) → p < pes_of roots
-      → loads_in roots.registers.second.items p ≡ register_values cs p (second_reg (world_of roots))
-  pub outside : (p : ℕ) (reg : Reg) → pes_of roots ≤ p → register_values cs p reg ≡ at_start ∷ []
-  pub declared : (page : ℕ) → get nat_eq roots.declared page ≡ root_at cs page
-  pub count : index_map_len roots.declared ≡ length (roots_of cs)
-  pub locks : roots.names_locks ≡ false → (page : ℕ) → lock_of cs page ≡ None
-  pub holds : (tag : Tag) (root p : ℕ) → hold_in roots.holds tag root p ≡ holds_at (world_of roots) cs tag root p
-  pub inside : (tag : Tag) (root p : ℕ) → pes_of roots ≤ p → holds_at (world_of roots) cs tag root p ≡ false
-  pub pendings : (q : ℕ) (broadcast : Bool) (tag : Tag) (root p : ℕ) → holds_at (world_of roots) cs tag root p ≡ true →
-      pending_in roots.pendings q broadcast tag p ≡ awaited (world_of roots) cs q broadcast tag p
-  pub apart : are_apart (roots_of cs) ≡ true
-  pub named : (p : ℕ) (reg : Reg) (page : ℕ) → is_of_world (world_of roots) reg ≡ true →
-      names_in (register_values cs p reg) page ≡ true → is_root cs (kind_of_reg reg) page ≡ true
-  pub holders : (tag : Tag) (root p : ℕ) → holds_at (world_of roots) cs tag root p ≡ true → IsSome (root_at cs root)
+-- The roots stand for the history of a log with this header: they keep what the readable values of each register name,
+-- the declared roots, which PEs hold a tag for a root, and, where a tag is held, which unanswered TLBIs are about to
+-- take it away. Where they keep that no root was declared with a lock, no declared root has one. Of the history it says
+-- besides that no PE that the log doesn't have wrote a register.
+pub record Stands (roots : Roots) (heading : Heading) (h : List Event) : Type 0 where
+  pub pes : pes_of roots ≡ heading.pes
+  pub world : world_of roots ≡ heading.world
+  pub first : (p : ℕ) → p < heading.pes
+      → loads_in roots.registers.first.items p ≡ loads_after h p (first_reg heading.world)
+  pub second : (p : ℕ) → p < heading.pes
+      → loads_in roots.registers.second.items p ≡ loads_after h p (second_reg heading.world)
+  pub outside : (p : ℕ) (reg : Reg) → heading.pes ≤ p → register_values h p reg ≡ 0 ∷ []
+  pub declared : (page : ℕ) → option_map as_declared (get nat_eq roots.declared page) ≡ root_at h page
+  pub count : index_map_len roots.declared ≡ length (roots_of h)
+  pub locks : roots.names_locks ≡ false → (page : ℕ) → lock_of h page ≡ None
+  pub holds : (tag : Tag) (root p : ℕ) → hold_in roots.holds tag root p ≡ holds_at heading Patterns p root tag h
+  pub inside : (tag : Tag) (root p : ℕ) → heading.pes ≤ p → holds_at heading Patterns p root tag h ≡ false
+  pub pendings : (q : ℕ) (broadcast : Bool) (tag : Tag) (root p : ℕ) → holds_at heading Patterns p root tag h ≡ true →
+      pending_in roots.pendings q broadcast tag p ≡ tag_waits heading p tag q broadcast h
 
 -- room for one more root
 abbrev pub IsPrepared : Roots → Type 0

@@ -10,11 +10,11 @@
 //!   entries are shared, is left out.
 //! - A call that is refused changes nothing. `RootFault` says why it was; of a call that may want memory alone
 //!   `NoMemory` does.
-//! - `vmid_of`, `tags_of`, `lock_of`, `is_root`, `is_declared`, `count` and `nth` tell what the list of accepted calls
-//!   comes to.
+//! - `vmid_of`, `tags_of`, `lock_of`, `is_root`, `is_declared`, `count` and `nth` tell what the events of the accepted
+//!   calls come to.
 //!
-//! Each contract speaks of the list of calls that were accepted, by `Stands`. `first_root` is an example of the calls,
-//! with its proof.
+//! Each contract speaks of the events of a history, by `Stands`, in the words of `bbm_rules`. `first_root` is an example
+//! of the calls, with its proof.
 #![tactic(auto)]
 
 mod anew;
@@ -24,6 +24,7 @@ pub mod example;
 mod fault;
 mod hold;
 mod issue;
+pub mod laws;
 mod load;
 mod pending;
 mod reading;
@@ -35,5 +36,6 @@ mod vmid;
 
 pub use example::first_root;
 pub use fault::{InUse, RootFault, Unsynced};
+pub use laws::law_others;
 pub use root::Declared;
 pub use roots::Roots;

@@ -24,7 +24,7 @@ use std::alloc::Global;
 const MAX_ROOTS: usize = 1024;
 
 /// The declared roots, the register values of each PE that may still be in use, and the tags that each root holds.
-/// Clauses speak of the list of calls that were accepted, which it stands for.
+/// Clauses speak of the history that it stands for.
 #[derive(Drop)]
 pub struct Roots {
     registers: Registers,
@@ -39,31 +39,39 @@ pub struct Roots {
 
 impl Roots {
     ghost use Rattle.std.specs.Prelude.{◌≡◌, ◌<◌, ℕ, List, [], ◌∷◌, Option, None, Some, true, false};
-    ghost use Rattle.std.specs.Prelude.{is_some, length, nat_eq};
+    ghost use Rattle.std.specs.Prelude.{is_some, length, nat_eq, option_and_then};
     ghost use Rattle.std.specs.Prelude.{IfOk, IfErr, IfSome, IsOk, OnOk, OnErr};
     ghost use Rattle.indexmap.specs.IndexMap.{get};
     ghost use Rattle.bbm_regimes.specs.PeMask.{pe_in};
     ghost use Rattle.bbm_regimes.specs.declared.regime.Tag.{Tag as TheTag};
     ghost use Rattle.bbm_tlbi_scope.specs.TagSets.{HasTags};
-    ghost use Rattle.bbm_roots.specs.DeclaredRoots as spec;
+    ghost use Rattle.bbm_events.specs.Heading.{Heading};
+    ghost use Rattle.bbm_events.specs.declared.event.Event.{Event as TheEvent};
+    ghost use Rattle.bbm_histories.specs.TagSteps.{BasesStay};
+    ghost use Rattle.bbm_regimes.specs.World.{kind_in_world};
+    ghost use Rattle.bbm_regimes.specs.SameRegister.{kind_of_reg as kind_of_register};
+    ghost use Rattle.bbm_rules.specs.Claims.{Patterns};
+    ghost use Rattle.bbm_rules.specs.RegisterValues.{register_values, vmid_of};
+    ghost use Rattle.bbm_rules.specs.Roots as spec;
+    ghost use Rattle.bbm_rules.specs.Tags.{holds_tag};
+    ghost use Rattle.bbm_tlbi_scope.specs.declared.op.TlbiOp.{TlbiOp as TheOp};
+    ghost use Rattle.bbm_roots.specs.DeclaredRoots.{as_declared};
     ghost use Rattle.bbm_roots.specs.Holds.{has_entry, conflict_in, tag_key, IsCalm, Marks};
     ghost use Rattle.bbm_roots.specs.Listed.{count_in, nth_in};
     ghost use Rattle.bbm_roots.specs.LoadsOf.{loads_of};
     ghost use Rattle.bbm_roots.specs.Readings.{has_reading, has_tag};
     ghost use Rattle.bbm_roots.specs.Refusals.{missing_root, conflicts, JudgesWrite, JudgesVmid};
-    ghost use Rattle.bbm_roots.specs.RootCalls as call;
-    ghost use Rattle.bbm_roots.specs.RootCalls.{Call};
-    ghost use Rattle.bbm_roots.specs.RootChanges.{Takes, Keeps, Tries, SameLog, Writes, Answers};
+    ghost use Rattle.bbm_roots.specs.RootChanges.{Answers, Issues, Keeps, SameLog, Takes, TakesWhere, Tries};
+    ghost use Rattle.bbm_roots.specs.RootChanges.{TriesWhere, Writes};
     ghost use Rattle.bbm_roots.specs.RootJudgements.{JudgesRoom, JudgesRetirement, IsSettled, IsShared};
     ghost use Rattle.bbm_roots.specs.declared.reading.Reading.{Reading as TheReading};
-    ghost use Rattle.bbm_roots.specs.RootRegisters.{is_of_world, register_values, root_of, second_reg};
-    ghost use Rattle.bbm_roots.specs.RootTags.{holds_tag, vmid_of};
+    ghost use Rattle.bbm_roots.specs.RootRegisters.{NullNamesNone, loads_after, root_of, second_reg};
     ghost use Rattle.bbm_roots.specs.RootsStand.{IsReady, Stands, IsPrepared, pes_of, world_of};
     ghost use Rattle.bbm_roots.specs.declared.root.Declared.{Declared as TheRoot};
 
-    /// The roots of a log with this header before any call. `NoMemory` where there is none.
+    /// The roots of a log with this header before any event. `NoMemory` where there is none.
     pub fn new(alloc: Global, header: &Header) -> Result<Roots, NoMemory>
-        ensures empty { IfOk result (λ roots. Stands roots []) }
+        ensures empty { IfOk result (λ roots. Stands roots header.now []) }
         ensures pes { IfOk result (λ roots. pes_of roots ≡ header.now.pes) }
         ensures world { IfOk result (λ roots. world_of roots ≡ header.now.world) }
     {
@@ -79,7 +87,8 @@ impl Roots {
 
     /// Whether the page is the first page of a declared root of the kind.
     pub fn is_root(&self, kind: Kind, page: Page) -> bool
-        ensures { (calls : List Call) → Stands self.now calls → result ≡ spec.is_root calls kind page }
+        ensures { (heading : Heading) (h : List TheEvent) → Stands self.now heading h
+            → result ≡ spec.is_root h kind page }
     {
         match self.declared.get(&page.get()) {
             Some(root) => same_kind(root.kind, kind),
@@ -89,7 +98,8 @@ impl Roots {
 
     /// Whether the page is the first page of a declared root.
     pub fn is_declared(&self, page: Page) -> bool
-        ensures { (calls : List Call) → Stands self.now calls → result ≡ is_some (spec.root_at calls page) }
+        ensures { (heading : Heading) (h : List TheEvent) → Stands self.now heading h
+            → result ≡ is_some (spec.root_at h page) }
     {
         self.declared.get(&page.get()).is_some()
     }
@@ -97,7 +107,7 @@ impl Roots {
     /// The lock of the declared root with this first page, 0 to 65535; None where it has none or isn't declared.
     #[inline]
     pub fn lock_of(&self, page: Page) -> Option<u16>
-        ensures { (calls : List Call) → Stands self.now calls → result ≡ spec.lock_of calls page }
+        ensures { (heading : Heading) (h : List TheEvent) → Stands self.now heading h → result ≡ spec.lock_of h page }
     {
         if self.names_locks {
             self.declared_lock(page)
@@ -109,7 +119,7 @@ impl Roots {
     /// The lock of the root with this first page among the declared roots; None where it has none or isn't declared.
     #[inline(never)]
     fn declared_lock(&self, page: Page) -> Option<u16>
-        ensures { result ≡ spec.lock_in (get nat_eq self.now.declared page) }
+        ensures { result ≡ option_and_then (λ (r : TheRoot). r.lock) (get nat_eq self.now.declared page) }
     {
         match self.declared.get(&page.get()) {
             Some(root) => root.lock,
@@ -120,8 +130,9 @@ impl Roots {
     /// The number of declared roots, 0 to 1,024.
     pub fn count(&self) -> usize
         ensures count { result ≡ count_in self.now }
-        ensures each { (calls : List Call) (page : ℕ) (root : TheRoot) → Stands self.now calls
-            → spec.root_at calls page ≡ Some root → (i : ℕ) × (i < result) × (nth_in self.now i ≡ Some root) }
+        ensures each { (heading : Heading) (h : List TheEvent) (page : ℕ) (root : TheRoot) → Stands self.now heading h
+            → spec.root_at h page ≡ Some (as_declared root)
+            → (i : ℕ) × (i < result) × (nth_in self.now i ≡ Some root) }
     {
         self.declared.len()
     }
@@ -162,9 +173,10 @@ impl Roots {
         page: Page,
         lock: Option<u16>,
     ) -> Result<(), RootFault>
-        requires { (calls : List Call) → Stands self.old calls → spec.root_at calls page ≡ None }
-        ensures taken { OnOk result ((calls : List Call) → Stands self.old calls
-            → Stands self.new (call.Declare kind page lock ∷ calls)) }
+        requires { (heading : Heading) (h : List TheEvent) → Stands self.old heading h → spec.root_at h page ≡ None }
+        ensures taken { OnOk result ((pe : ℕ) (heading : Heading) (h : List TheEvent) → Stands self.old heading h
+            → BasesStay heading h (TheEvent.Root pe kind lock page)
+            → Stands self.new heading (TheEvent.Root pe kind lock page ∷ h)) }
         ensures prepared { IsPrepared self.old → IsOk result }
         ensures judged { JudgesRoom self.old result }
         ensures kept { OnErr result (Keeps self.old self.new) }
@@ -190,7 +202,7 @@ impl Roots {
     /// such PE, else with the first such tag in the order `El2`, VMIDs, ASIDs, `Ttbr1`. A refusal changes nothing. It
     /// takes no memory.
     pub fn retire(&mut self, page: Page) -> Result<(), RootFault>
-        ensures tried { Tries (call.Retire page) self.old self.new result }
+        ensures tried { (pe : ℕ) → Tries (TheEvent.Unroot pe page) self.old self.new result }
         ensures judged { JudgesRetirement self.old page result }
     {
         match self.may_retire(page) {
@@ -222,9 +234,8 @@ impl Roots {
     /// the Kernel world, where it isn't logged. `Unsynced` with the two least of them exactly where two differ.
     pub fn vmid_of(&self, pe: Pe) -> Result<u16, Unsynced>
         requires { pe < pes_of self.now }
-        ensures { (calls : List Call) → Stands self.now calls
-            → JudgesVmid (vmid_of (world_of self.now) calls pe)
-            (register_values calls pe (second_reg (world_of self.now))) result }
+        ensures { (heading : Heading) (h : List TheEvent) → Stands self.now heading h
+            → JudgesVmid (vmid_of heading h pe) (loads_after h pe (second_reg heading.world)) result }
     {
         match self.registers.world {
             World::Hyp(_) => vmid::one_number(registers::loads_at(&self.registers.second, pe)),
@@ -234,8 +245,8 @@ impl Roots {
 
     /// The tags that the root with this first page holds: none, one, or more than one.
     pub fn tags_of(&self, page: Page) -> TagSet
-        ensures { (calls : List Call) → Stands self.now calls
-            → HasTags (λ tag. holds_tag (world_of self.now) (pes_of self.now) calls tag page) result }
+        ensures { (heading : Heading) (h : List TheEvent) → Stands self.now heading h
+            → HasTags (λ tag. holds_tag heading Patterns page tag h) result }
     {
         search::tags_of(&self.holds, &self.by_root, self.registers.pes, page)
     }
@@ -243,7 +254,7 @@ impl Roots {
     /// An ISB of the PE: its newest register values alone stay in use.
     pub fn isb(&mut self, pe: Pe)
         requires { pe < pes_of self.old }
-        ensures { Takes (call.Isb pe) self.old self.new }
+        ensures { Takes (TheEvent.Isb pe) self.old self.new }
     {
         registers::sync(&mut self.registers.first, pe);
         registers::sync(&mut self.registers.second, pe);
@@ -253,7 +264,7 @@ impl Roots {
     #[inline]
     pub fn complete(&mut self, issuer: Pe, dsb: Dsb)
         requires { issuer < pes_of self.old }
-        ensures { Takes (call.Complete issuer dsb) self.old self.new }
+        ensures { Takes (TheEvent.Dsb issuer dsb) self.old self.new }
     {
         if self.pendings.issuers.has(issuer) {
             self.answer(issuer, dsb);
@@ -281,7 +292,8 @@ impl Roots {
         vmid: Option<u16>,
     ) -> Result<(), NoMemory>
         requires { issuer < pes_of self.old }
-        ensures { Tries (call.Issue issuer scope vmid) self.old self.new result }
+        ensures { (op : TheOp) (xt : ℕ) → TriesWhere (λ heading h. Issues heading h issuer op xt scope vmid)
+            (TheEvent.Tlbi issuer op xt) self.old self.new result }
     {
         let takes = self.prepare_issue(alloc, issuer, &scope, vmid)?;
         self.issue_ready(issuer, &scope, vmid, takes);
@@ -315,7 +327,8 @@ impl Roots {
     pub fn issue_ready(&mut self, issuer: Pe, scope: &Scope, vmid: Option<u16>, takes: bool)
         requires pe { issuer < pes_of self.old }
         requires ready { IsReady self.old issuer scope.now vmid takes }
-        ensures { Takes (call.Issue issuer scope.now vmid) self.old self.new }
+        ensures { (op : TheOp) (xt : ℕ) → TakesWhere (λ heading h. Issues heading h issuer op xt scope.now vmid)
+            (TheEvent.Tlbi issuer op xt) self.old self.new }
     {
         if !takes {
             return;
@@ -332,12 +345,13 @@ impl Roots {
 
     /// The root that a value names, None where it names none; `NoRoot` with its base where that is no declared root.
     fn named_root(&self, reg: Reg, value: u64, null: bool) -> Result<Option<Page>, RootFault>
-        ensures named { IfOk result (λ root. (calls : List Call) → Stands self.now calls
+        ensures named { IfOk result (λ root. (heading : Heading) (h : List TheEvent) → Stands self.now heading h
             → root ≡ root_of reg value null) }
-        ensures found { OnOk result ((calls : List Call) → Stands self.now calls
-            → missing_root calls reg value null ≡ None) }
+        ensures found { OnOk result ((heading : Heading) (h : List TheEvent) → Stands self.now heading h
+            → missing_root h reg value null ≡ None) }
         ensures missing { IfErr result (λ fault. (base : ℕ) × (fault ≡ RootFault.NoRoot base)
-            × ((calls : List Call) → Stands self.now calls → missing_root calls reg value null ≡ Some base)) }
+            × ((heading : Heading) (h : List TheEvent) → Stands self.now heading h
+            → missing_root h reg value null ≡ Some base)) }
     {
         if names_null(reg, null) {
             return Ok(None);
@@ -353,10 +367,10 @@ impl Roots {
 
     /// The page of the declared root of the kind with this base.
     fn root_page(&self, kind: Kind, base: u64) -> Option<Page>
-        ensures found { IfSome result (λ page. (calls : List Call) → Stands self.now calls
-            → (page ≡ base) × (spec.is_root calls kind base ≡ true)) }
-        ensures missing { result ≡ None → (calls : List Call) → Stands self.now calls
-            → spec.is_root calls kind base ≡ false }
+        ensures found { IfSome result (λ page. (heading : Heading) (h : List TheEvent) → Stands self.now heading h
+            → (page ≡ base) × (spec.is_root h kind base ≡ true)) }
+        ensures missing { result ≡ None → (heading : Heading) (h : List TheEvent) → Stands self.now heading h
+            → spec.is_root h kind base ≡ false }
     {
         match self.declared.get(&base) {
             Some(root) => {
@@ -426,12 +440,12 @@ impl Roots {
         null: bool,
     ) -> Result<(), RootFault>
         requires known { pe < pes_of self.old }
-        requires of_world { is_of_world (world_of self.old) reg ≡ true }
-        ensures tried { Tries (call.WriteReg pe reg value null) self.old self.new result }
-        ensures judged { (calls : List Call) → Stands self.old calls
-            → JudgesWrite (missing_root calls reg value null)
-            (conflicts (world_of self.old) (pes_of self.old) (call.WriteReg pe reg value null ∷ calls) pe)
-            (length (register_values calls pe reg)) result }
+        requires of_world { kind_in_world (world_of self.old) (kind_of_register reg) ≡ true }
+        ensures tried { TriesWhere (λ heading h. NullNamesNone h reg value null) (TheEvent.Msr pe reg value)
+            self.old self.new result }
+        ensures judged { (heading : Heading) (h : List TheEvent) → Stands self.old heading h
+            → NullNamesNone h reg value null → JudgesWrite (missing_root h reg value null)
+            (conflicts heading (TheEvent.Msr pe reg value ∷ h) pe) (length (register_values h pe reg)) result }
     {
         let root = self.named_root(reg, value, null)?;
         let number = tag_number(value);

@@ -1,10 +1,11 @@
 //! The VMID that a PE uses.
 
-ghost use Rattle.std.specs.Prelude.{◌≡◌, ℕ, ◌<◌, Bool, ◌&&◌, ◌||◌, not, nat_eq, length, []};
+ghost use Rattle.std.specs.Prelude.{◌≡◌, ℕ, ◌<◌, Bool, ◌&&◌, ◌||◌, not, nat_eq, length, map, []};
 ghost use Rattle.bbm_roots.specs.LeastOf.{IsLeast, IsLeastWith, UpTo};
 ghost use Rattle.bbm_roots.specs.Refusals.{other_number, JudgesVmid};
 ghost use Rattle.bbm_roots.specs.RootRegisters.{is_that};
-ghost use Rattle.bbm_roots.specs.RootTags as spec;
+ghost use Rattle.bbm_lemmas.specs.ListWords.{one_number as spec_one_number};
+ghost use Rattle.bbm_roots.specs.declared.load.RootValue.{RootValue as TheValue};
 
 use crate::fault::Unsynced;
 use crate::load::RootValue;
@@ -51,7 +52,8 @@ fn least_other(loads: &[RootValue], than: Option<u16>) -> Option<u16>
 
 /// The one VMID of the values, 0 where there is no value; `Unsynced` with the two least where there are several.
 pub fn one_number(loads: &[RootValue]) -> Result<u16, Unsynced>
-    ensures judged { 0 < length loads.now → JudgesVmid (spec.one_number loads.now) loads.now result }
+    ensures judged { 0 < length loads.now
+        → JudgesVmid (spec_one_number (map (λ (l : TheValue). l.number) loads.now)) loads.now result }
     ensures none { loads.now ≡ [] → result ≡ Ok 0 }
 {
     if loads.len() == 1 {

@@ -11,6 +11,5 @@ returns c heading = record {
   readable_tag = c.law_readable_tag.ensures heading;
   root = c.law_root.ensures;
   tag_set = c.law_tag_set.ensures heading Patterns;
-  tag_steps = c.law_tag_steps.ensures heading;
   tags = c.law_tags.ensures heading Patterns;
 }

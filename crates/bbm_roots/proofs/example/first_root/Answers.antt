@@ -1,19 +1,33 @@
-use Rattle.bbm_roots.proofs.Common.{◌≡◌, ℕ, List, [], ◌∷◌, None, false, refl, subst, rules, El2, Ttbr0El2, Call, Stands}
-use Rattle.bbm_roots.specs.RootCalls as call
+use Rattle.bbm_roots.proofs.Common.{◌≡◌, ◌∙◌, ◌==◌, ℕ, List, [], ◌∷◌, Some, None, ap, sym, refl, subst, rules, El2}
+use Rattle.bbm_roots.proofs.Common.{Ttbr0El2}
+use Rattle.bbm_roots.proofs.Common.{Stands, eqb-true, false≢true, or-false}
+use Rattle.bbm_regimes.specs.Registers.{base_of}
+use Rattle.bbm_events.specs.Heading.{Heading}
+use Rattle.bbm_events.specs.declared.event.Event.{Event}
+use Rattle.bbm_events.specs.declared.event.Event.TheVariants.{Msr, Root}
+use Rattle.bbm_histories.specs.TagSteps.{BasesStay}
 use Rattle.bbm_roots.proofs.Callers.{undeclared}
 use Rattle.bbm_roots.proofs.example.first_root.Goals as goal
 
 pub declare-requires : goal.declare-requires
-declare-requires c = λ calls stands.
-    let none : List Call = [] in
-    undeclared c.in_ok-roots.roots none calls c.args.page c.in_ok-roots.ensures.empty refl stands
+declare-requires c = λ heading h stands. undeclared c.args.page c.in_ok-roots.ensures.empty refl stands
+
+-- before any event no register has a value with a base
+at-start : (heading : Heading) (e : Event) → let none : List Event = [] in BasesStay heading none e
+at-start heading e p value base reg less readable is =
+    let zero : 0 ≡ value = eqb-true 0 value (sym (or-false (0 == value)) ∙ readable) in
+    let never : None ≡ Some base = ap base_of zero ∙ is in
+    absurd cc
 
 pub returns : goal.returns
 returns c =
-    let none : List Call = [] in
-    let declared : List Call = call.Declare El2 c.args.page None ∷ none in
+    let none : List Event = [] in
+    let heading : Heading = c.args.header.now in
+    let declared : List Event = Root 0 El2 None c.args.page ∷ none in
     let pe : c.unwrap-pe.result ≡ 0 = search rules in
     let base : c.get.result ≡ c.args.page = c.get.ensures.value in
-    subst (λ (q : ℕ). Stands c.write_reg.new.self (call.WriteReg q Ttbr0El2 c.args.page false ∷ declared)) pe
-    (subst (λ (v : ℕ). Stands c.write_reg.new.self (call.WriteReg c.unwrap-pe.result Ttbr0El2 v false ∷ declared)) base
-    (c.in_ok-write_reg.ensures.tried.taken.taken declared (c.in_ok-declare.ensures.taken none c.in_ok-roots.ensures.empty)))
+    subst (λ (q : ℕ). Stands c.write_reg.new.self heading (Msr q Ttbr0El2 c.args.page ∷ declared)) pe
+    (subst (λ (v : ℕ). Stands c.write_reg.new.self heading (Msr c.unwrap-pe.result Ttbr0El2 v ∷ declared)) base
+    (c.in_ok-write_reg.ensures.tried.taken.taken heading declared
+    (c.in_ok-declare.ensures.taken 0 heading none c.in_ok-roots.ensures.empty (at-start heading (Root 0 El2 None c.args.page)))
+    (λ k. absurd (false≢true k))))

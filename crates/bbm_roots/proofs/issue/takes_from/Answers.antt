@@ -1,4 +1,4 @@
-use Rattle.bbm_roots.proofs.Common.{◌≡◌, ◌∙◌, Bool, true, false, ◌&&◌, ◌||◌, not, nat_eq, nat_lt, refl, sym, ap}
+use Rattle.bbm_roots.proofs.Common.{◌≡◌, ◌∙◌, Bool, true, ◌&&◌, ◌||◌, not, nat_eq, nat_lt, refl, sym, ap}
 use Rattle.bbm_roots.proofs.Common.{ℕ, false≢true, proved, If, Is, Option, Some, None, is_some, rules, get, tag_key}
 use Rattle.bbm_roots.proofs.Common.{entry_bit, is_hold, Held, IsLeast, UpTo}
 use Rattle.bbm_regimes.specs.PeMask.{pe_in}

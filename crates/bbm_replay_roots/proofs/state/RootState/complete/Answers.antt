@@ -1,4 +1,3 @@
-use Rattle.bbm_replay_roots.proofs.Common.{calls_of}
 use Rattle.bbm_rules.proofs.Common.{refl, Dsb}
 use Rattle.bbm_replay_roots.proofs.Judge.{broken_dsb, of_state, stood}
 use Rattle.bbm_replay_roots.proofs.state.RootState.complete.Goals as goal
@@ -11,6 +10,6 @@ returns c =
     let taken = c.complete.ensures in
     record {
       taken = λ heading h s.
-          stood _ (Dsb c.args.pe c.args.dsb) s (broken_dsb heading h c.args.pe c.args.dsb) refl taken.log.pes taken.log.world (taken.taken (calls_of heading h) s.roots) s.locks;
+          stood _ (Dsb c.args.pe c.args.dsb) s (broken_dsb heading h c.args.pe c.args.dsb) refl (taken.taken heading h s.roots tt) s.locks;
       room = taken.prepared;
     }

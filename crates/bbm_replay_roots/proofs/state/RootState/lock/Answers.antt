@@ -1,5 +1,6 @@
 use Rattle.bbm_replay_roots.proofs.Common.{LockBusy}
 use Rattle.bbm_rules.proofs.Common.{ℕ, ◌==◌, cond, Option, Some, refl, sym, ap, ◌∙◌, Lock}
+use Rattle.bbm_roots.proofs.Others.{others}
 use Rattle.bbm_replay_roots.proofs.Judge.{lock_free, lock_held, stays, stood}
 use Rattle.bbm_replay_roots.proofs.state.RootState.lock.Goals as goal
 
@@ -12,7 +13,7 @@ pub returns-in-Ok-clause-tried : goal.returns-in-Ok-clause-tried
 returns-in-Ok-clause-tried c = record {
   taken = record {
     taken = λ heading h s.
-        stood _ (Lock c.args.pe c.args.lock) s (returns-in-Ok-clause-judged c heading h s) refl refl refl s.roots
+        stood _ (Lock c.args.pe c.args.lock) s (returns-in-Ok-clause-judged c heading h s) refl (others s.roots (Lock c.args.pe c.args.lock) refl)
         (λ l. c.in-Ok.ensures.taken l ∙ ap (λ (o : Option ℕ). cond (c.args.lock == l) (Some c.args.pe) o) (s.locks l));
     room = λ room. room;
   };
@@ -29,7 +30,7 @@ pub returns-in-Err-clause-tried : goal.returns-in-Err-clause-tried
 returns-in-Err-clause-tried c = record {
   taken = tt;
   kept = record {
-    same = λ heading h s. stays _ s refl refl refl s.roots (c.in-Err.ensures.refused);
+    same = λ heading h s. stays _ s refl s.roots (c.in-Err.ensures.refused);
     room = λ room. room;
   };
 }

@@ -7,8 +7,6 @@ returns c = record {
     heading_is = refl;
     proper = c.in_ranges.ensures;
     kept = refl;
-    pes = c.in_ok-roots.ensures.pes;
-    world = c.in_ok-roots.ensures.world;
     roots = c.in_ok-roots.ensures.empty;
     locks = c.new-2.ensures.free;
   };

@@ -1,4 +1,5 @@
 use Rattle.bbm_rules.proofs.Common.{refl, sym, ◌∙◌, rules, true≢false, Unlock}
+use Rattle.bbm_roots.proofs.Others.{others}
 use Rattle.bbm_replay_roots.proofs.Judge.{given_back, stays, stood, unlock_mine, unlock_other}
 use Rattle.bbm_replay_roots.proofs.state.RootState.unlock.Goals as goal
 
@@ -11,7 +12,7 @@ pub returns-in-Ok-clause-tried : goal.returns-in-Ok-clause-tried
 returns-in-Ok-clause-tried c = record {
   taken = record {
     taken = λ heading h s.
-        stood _ (Unlock c.args.pe c.args.lock) s (returns-in-Ok-clause-judged c heading h s) refl refl refl s.roots
+        stood _ (Unlock c.args.pe c.args.lock) s (returns-in-Ok-clause-judged c heading h s) refl (others s.roots (Unlock c.args.pe c.args.lock) refl)
         (λ l. c.in-Ok.ensures.given l ∙ given_back h c.args.pe c.args.lock l _ (sym (s.locks c.args.lock) ∙ c.in-Ok.ensures.held.0 (search rules)) (s.locks l));
     room = λ room. room;
   };
@@ -27,7 +28,7 @@ pub returns-in-Err-clause-tried : goal.returns-in-Err-clause-tried
 returns-in-Err-clause-tried c = record {
   taken = tt;
   kept = record {
-    same = λ heading h s. stays _ s refl refl refl s.roots (c.in-Err.ensures.refused);
+    same = λ heading h s. stays _ s refl s.roots (c.in-Err.ensures.refused);
     room = λ room. room;
   };
 }

@@ -1,44 +1,40 @@
 use Rattle.bbm_roots.proofs.Common.{◌≡◌, ◌∙◌, ap, sym, ℕ, Bool, ◌&&◌, ◌||◌, List, ◌∷◌, not, nat_eq, true, false, refl}
 use Rattle.bbm_roots.proofs.Common.{eqb-true, proved, Is, answers, Dsb, Tag, loads_in, hold_in, tag_key, pending_in}
-use Rattle.bbm_roots.proofs.Common.{slot_of, wait_at, wait_bit, Stands, world_of, pes_of, Pendings, Registers, Roots}
-use Rattle.bbm_roots.proofs.Common.{Call, Complete, and-true}
+use Rattle.bbm_roots.proofs.Common.{slot_of, wait_at, wait_bit, Stands, Pendings, Registers, Roots, and-true}
 use Rattle.bbm_regimes.specs.PeMask.{pe_in}
+use Rattle.bbm_events.specs.Heading.{Heading}
+use Rattle.bbm_events.specs.declared.event.Event.{Event}
+use Rattle.bbm_events.specs.declared.event.Event.TheVariants.{Dsb as ADsb}
 use Rattle.bbm_roots.specs.RootPendings.{answered_in}
 use Rattle.bbm_roots.specs.RootChanges.{Answers, Takes}
 use Rattle.bbm_roots.proofs.Changes.{log-same, room-same}
-use Rattle.bbm_roots.proofs.Made.{stands-made}
-use Rattle.bbm_roots.proofs.Steps.{holds-completed, held-before, not-before, awaited-complete}
+use Rattle.bbm_roots.proofs.Steps.{holds-completed, held-before, not-before, waits-complete}
 use Rattle.bbm_roots.proofs.roots.Roots.complete.Goals as goal
 
 -- roots from which what a DSB answers was taken away
-completed : (old new : Roots) (calls : List Call) (issuer : ℕ) (dsb : Dsb) → Stands old calls →
-    Answers issuer dsb old new → Stands new (Complete issuer dsb ∷ calls)
-completed old new calls issuer dsb stands answered =
-    let world = world_of old in
-    let log = log-same old new answered.registers in
-    stands-made new (Complete issuer dsb ∷ calls) world (pes_of old) log.world log.pes
-    (record {
-      first = λ p lt. ap (λ (r : Registers). loads_in r.first.items p) answered.registers ∙ stands.first p lt;
-      second = λ p lt. ap (λ (r : Registers). loads_in r.second.items p) answered.registers ∙ stands.second p lt;
-      outside = stands.outside;
-      declared = λ q. let d = answered.roots.declared in let s = stands.declared q in cc;
-      count = let d = answered.roots.declared in let s = stands.count in cc;
-      locks = λ none. stands.locks (sym answered.roots.locks ∙ none);
-      holds = λ g r p.
-          answered.holds g r p
-          ∙ holds-completed world issuer dsb calls g r p (hold_in old.holds g r p)
-          (pending_in old.pendings issuer true g p) (pending_in old.pendings issuer false g p)
-          (stands.holds g r p) (stands.pendings issuer true g r p) (stands.pendings issuer false g r p);
-      inside = λ g r p past. not-before world issuer dsb calls g r p (stands.inside g r p past);
-      pendings = λ q b g r p after.
-          answered.pendings q b g p
-          ∙ ap (λ (x : Bool). x && not (nat_eq q issuer && answers dsb b))
-          (stands.pendings q b g r p (held-before world issuer dsb calls g r p after))
-          ∙ sym (awaited-complete world issuer dsb calls q b g p);
-      apart = stands.apart;
-      named = stands.named;
-      holders = λ g r p after. stands.holders g r p (held-before world issuer dsb calls g r p after);
-    })
+completed : (old new : Roots) (heading : Heading) (h : List Event) (issuer : ℕ) (dsb : Dsb) → Stands old heading h →
+    Answers issuer dsb old new → Stands new heading (ADsb issuer dsb ∷ h)
+completed old new heading h issuer dsb stands answered = record {
+  pes = ap (λ (r : Registers). r.pes) answered.registers ∙ stands.pes;
+  world = ap (λ (r : Registers). r.world) answered.registers ∙ stands.world;
+  first = λ p lt. ap (λ (r : Registers). loads_in r.first.items p) answered.registers ∙ stands.first p lt;
+  second = λ p lt. ap (λ (r : Registers). loads_in r.second.items p) answered.registers ∙ stands.second p lt;
+  outside = stands.outside;
+  declared = λ q. let d = answered.roots.declared in let s = stands.declared q in cc;
+  count = let d = answered.roots.declared in let s = stands.count in cc;
+  locks = λ none. stands.locks (sym answered.roots.locks ∙ none);
+  holds = λ g r p.
+      answered.holds g r p
+      ∙ holds-completed heading h issuer dsb g r p (hold_in old.holds g r p)
+      (pending_in old.pendings issuer true g p) (pending_in old.pendings issuer false g p)
+      (stands.holds g r p) (stands.pendings issuer true g r p) (stands.pendings issuer false g r p);
+  inside = λ g r p past. not-before heading h issuer dsb g r p (stands.inside g r p past);
+  pendings = λ q b g r p after.
+      answered.pendings q b g p
+      ∙ ap (λ (x : Bool). x && not (nat_eq q issuer && answers dsb b))
+      (stands.pendings q b g r p (held-before heading h issuer dsb g r p after))
+      ∙ sym (waits-complete heading h issuer dsb q b g p);
+}
 
 -- an issuer of whom nothing waits
 none-answered : (ps : Pendings) (issuer : ℕ) (dsb : Dsb) (g : Tag) (p : ℕ) → pe_in ps.issuers issuer ≡ false →
@@ -64,9 +60,9 @@ all-open ps issuer dsb q b g p e = by_issuer (nat_eq q issuer) refl
         ∙ ap (λ (k : Bool). k && wait_bit g p (wait_at ps.waits.items (slot_of q b) (tag_key g))) e in
         none ∙ ap (λ (x : Bool). x && not (answers dsb b)) (sym none)
 
-takes : (old new : Roots) (issuer : ℕ) (dsb : Dsb) → Answers issuer dsb old new → Takes (Complete issuer dsb) old new
+takes : (old new : Roots) (issuer : ℕ) (dsb : Dsb) → Answers issuer dsb old new → Takes (ADsb issuer dsb) old new
 takes old new issuer dsb answered = record {
-  taken = λ calls stands. completed old new calls issuer dsb stands answered;
+  taken = λ heading h stands done. completed old new heading h issuer dsb stands answered;
   prepared = room-same old new answered.roots.declared;
   log = log-same old new answered.registers;
 }

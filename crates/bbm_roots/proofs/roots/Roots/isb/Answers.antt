@@ -1,43 +1,77 @@
-use Rattle.bbm_roots.proofs.Common.{◌≡◌, ◌∙◌, ap, sym, refl, nat_eq, List, ◌∷◌, true, cond, ℕ, Tag, Isb, is_reading}
-use Rattle.bbm_roots.proofs.Common.{is_of_tag, newest, at_start, register_values, first_reg, second_reg, world_of}
-use Rattle.bbm_roots.proofs.Common.{reads, reads_for_some, RootValue}
-use Rattle.bbm_roots.proofs.Flat.{readings-isb, newest-same}
-use Rattle.bbm_roots.proofs.Rooted.{names-isb}
-use Rattle.bbm_roots.proofs.Steps.{holds-stay, awaited-stay}
+use Rattle.bbm_roots.proofs.Common.{◌≡◌, ◌∙◌, ap, sym, refl, nat_eq, ◌==◌, Bool, List, [], ◌∷◌, true, false, cond, ℕ}
+use Rattle.bbm_roots.proofs.Common.{Tag, Reg}
+use Rattle.bbm_roots.proofs.Common.{is_reading, is_of_tag, newest, first_reg, second_reg, take, list_any, readings_of}
+use Rattle.bbm_roots.proofs.Common.{RootValue, Reading}
+use Rattle.std.proofs.Common.{map}
+use Rattle.bbm_events.specs.Heading.{Heading}
+use Rattle.bbm_events.specs.declared.event.Event.{Event}
+use Rattle.bbm_events.specs.declared.event.Event.TheVariants.{Isb}
+use Rattle.bbm_rules.specs.RegisterValues.{register_values}
+use Rattle.bbm_rules.specs.Tags.{reads, reads_for_some}
+use Rattle.bbm_roots.specs.RootRegisters.{load_in, loads_after}
+use Rattle.bbm_roots.proofs.Flat.{readings-isb}
+use Rattle.bbm_roots.proofs.Readable.{newest-map, reads-are, readings_at, some-are, swap}
+use Rattle.bbm_roots.proofs.Steps.{holds-stay, waits-stay}
 use Rattle.bbm_roots.proofs.roots.Roots.isb.Goals as goal
+
+module _ (h : List Event) (pe : ℕ) where
+  loads-isb : (p : ℕ) (reg : Reg) → loads_after (Isb pe ∷ h) p reg
+      ≡ cond (nat_eq p pe) (newest (loads_after h p reg)) (loads_after h p reg)
+  loads-isb p reg =
+      ap (λ (b : Bool). map (load_in h reg) (cond b (take 1 (register_values h p reg)) (register_values h p reg))) (swap pe p)
+      ∙ by (p == pe)
+    where
+      by : (b : Bool) → map (load_in h reg) (cond b (take 1 (register_values h p reg)) (register_values h p reg))
+          ≡ cond b (newest (loads_after h p reg)) (loads_after h p reg)
+      by true = sym (newest-map (load_in h reg) (register_values h p reg))
+      by false = refl
+
+  module _ (heading : Heading) (p : ℕ) where
+    less : (t : Reading → Bool) → list_any t (readings_at heading (Isb pe ∷ h) p) ≡ true → list_any t (readings_at heading h p) ≡ true
+    less t e =
+        readings-isb t heading.world (nat_eq p pe) (loads_after h p (first_reg heading.world)) (loads_after h p (second_reg heading.world))
+        (ap (λ (xs : List RootValue). list_any t (readings_of heading.world xs (cond (nat_eq p pe)
+        (newest (loads_after h p (second_reg heading.world))) (loads_after h p (second_reg heading.world)))))
+        (sym (loads-isb p (first_reg heading.world)))
+        ∙ ap (λ (ys : List RootValue). list_any t (readings_of heading.world (loads_after (Isb pe ∷ h) p (first_reg heading.world)) ys))
+        (sym (loads-isb p (second_reg heading.world)))
+        ∙ e)
+
+    less-reads : (g : Tag) (r : ℕ) → reads heading (Isb pe ∷ h) p g r ≡ true → reads heading h p g r ≡ true
+    less-reads g r e = sym (reads-are heading h p g r) ∙ less (is_reading g r) (reads-are heading (Isb pe ∷ h) p g r ∙ e)
+
+    less-some : (g : Tag) → reads_for_some heading (Isb pe ∷ h) p g ≡ true → reads_for_some heading h p g ≡ true
+    less-some g e = sym (some-are heading h p g) ∙ less (is_of_tag g) (some-are heading (Isb pe ∷ h) p g ∙ e)
 
 pub returns : goal.returns
 returns c = record {
-  taken = λ calls stands.
-      let world = world_of c.args.self.now in
-      let less = λ (g : Tag) (r p : ℕ) (e : reads world (Isb c.args.pe ∷ calls) p g r ≡ true).
-      readings-isb (is_reading g r) world (nat_eq p c.args.pe) (register_values calls p (first_reg world))
-      (register_values calls p (second_reg world)) e in
-      let less_some = λ (g : Tag) (p : ℕ) (e : reads_for_some world (Isb c.args.pe ∷ calls) p g ≡ true).
-      readings-isb (is_of_tag g) world (nat_eq p c.args.pe) (register_values calls p (first_reg world))
-      (register_values calls p (second_reg world)) e in
+  taken = λ heading h stands done.
+      let pe = c.args.pe in
+      let stay = λ (g : Tag) (r p : ℕ). holds-stay heading h (Isb pe) g r p (less-reads h pe heading p g r) refl in
       record {
+        pes = stands.pes;
+        world = stands.world;
         first = λ p lt.
-            c.sync.ensures.loads p ∙ ap (λ (xs : List RootValue). cond (nat_eq p c.args.pe) (newest xs) xs) (stands.first p lt);
+            c.sync.ensures.loads p ∙ ap (λ (xs : List RootValue). cond (nat_eq p pe) (newest xs) xs) (stands.first p lt)
+            ∙ sym (loads-isb h pe p (first_reg heading.world));
         second = λ p lt.
-            c.sync-2.ensures.loads p ∙ ap (λ (xs : List RootValue). cond (nat_eq p c.args.pe) (newest xs) xs) (stands.second p lt);
+            c.sync-2.ensures.loads p ∙ ap (λ (xs : List RootValue). cond (nat_eq p pe) (newest xs) xs) (stands.second p lt)
+            ∙ sym (loads-isb h pe p (second_reg heading.world));
         outside = λ p reg past.
-            ap (λ (xs : List RootValue). cond (nat_eq p c.args.pe) (newest xs) xs) (stands.outside p reg past)
-            ∙ newest-same (nat_eq p c.args.pe) at_start;
+            ap (λ (vs : List ℕ). cond (pe == p) (take 1 vs) vs) (stands.outside p reg past) ∙ one (pe == p);
         declared = stands.declared;
         count = stands.count;
         locks = stands.locks;
-        apart = stands.apart;
-        named = λ p reg q of_world e.
-            stands.named p reg q of_world (names-isb (nat_eq p c.args.pe) (register_values calls p reg) q e);
-        holders = λ g r p held.
-            stands.holders g r p (sym (holds-stay world (Isb c.args.pe) calls g r p (less g r p) refl) ∙ held);
-        holds = λ g r p. stands.holds g r p ∙ sym (holds-stay world (Isb c.args.pe) calls g r p (less g r p) refl);
-        inside = λ g r p past. holds-stay world (Isb c.args.pe) calls g r p (less g r p) refl ∙ stands.inside g r p past;
+        holds = λ g r p. stands.holds g r p ∙ sym (stay g r p);
+        inside = λ g r p past. stay g r p ∙ stands.inside g r p past;
         pendings = λ q b g r p held.
-            stands.pendings q b g r p (sym (holds-stay world (Isb c.args.pe) calls g r p (less g r p) refl) ∙ held)
-            ∙ sym (awaited-stay world (Isb c.args.pe) calls q b g p (less_some g p) refl refl);
+            stands.pendings q b g r p (sym (stay g r p) ∙ held)
+            ∙ sym (waits-stay heading h (Isb pe) q b g p (less-some h pe heading p g) refl);
       };
   prepared = λ room. room;
   log = record { pes = refl; world = refl };
 }
+  where
+    one : (b : Bool) → let vs : List ℕ = 0 ∷ [] in cond b (take 1 vs) vs ≡ vs
+    one true = refl
+    one false = refl

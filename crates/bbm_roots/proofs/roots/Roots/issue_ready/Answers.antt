@@ -1,24 +1,25 @@
 use Rattle.bbm_roots.proofs.Common.{◌≡◌, ◌<◌, ◌≤◌, ◌∙◌, ap, sym, refl, Bool, ◌&&◌, ◌||◌, nat_eq, nat_lt, List, true}
-use Rattle.bbm_roots.proofs.Common.{false}
-use Rattle.bbm_roots.proofs.Common.{ℕ, Option, ⊎_elim, false≢true, cases_lt, lt-ltb, first_true, Tag, takes_whole_tag}
-use Rattle.bbm_roots.proofs.Common.{Issue, loads_in, hold_in, pending_in, has_pending, same_flag, unread_at, reads_tag}
-use Rattle.bbm_roots.proofs.Common.{register_values, first_reg, second_reg, world_of, pes_of, reads, holds_at}
-use Rattle.bbm_roots.proofs.Common.{RootValue}
-use Rattle.bbm_roots.proofs.Common.{or-false}
-use Rattle.bbm_roots.proofs.Common.{Registers, Roots, ◌∷◌}
+use Rattle.bbm_roots.proofs.Common.{false, ℕ, Option, ⊎_elim, false≢true, cases_lt, lt-ltb, first_true, Tag, World}
+use Rattle.bbm_roots.proofs.Common.{takes_whole_tag, loads_in, hold_in, pending_in, has_pending, same_flag, unread_at}
+use Rattle.bbm_roots.proofs.Common.{reads_tag, first_reg, second_reg, world_of, pes_of, RootValue, or-false, Registers}
+use Rattle.bbm_roots.proofs.Common.{Roots, arith}
+use Rattle.bbm_tlbi_scope.specs.declared.op.TlbiOp.{TlbiOp}
 use Rattle.bbm_tlbi_scope.specs.declared.scope.Scope.{Scope}
-use Rattle.bbm_roots.specs.RootChanges.{SameDeclared, Takes}
-use Rattle.bbm_roots.specs.RootTags.{reaches}
+use Rattle.bbm_events.specs.declared.event.Event.TheVariants.{Tlbi}
+use Rattle.bbm_rules.specs.Claims.{Patterns}
+use Rattle.bbm_rules.specs.Tags.{holds_at}
+use Rattle.bbm_roots.specs.RootChanges.{Issues, SameDeclared, TakesWhere}
+use Rattle.bbm_roots.specs.RootRegisters.{loads_after}
 use Rattle.bbm_roots.proofs.Flat.{reads_tag-is}
 use Rattle.bbm_roots.proofs.Changes.{log-same, room-same}
-use Rattle.bbm_roots.proofs.Made.{stands-made}
+use Rattle.bbm_roots.proofs.Readable.{reads-stay, some-are}
 use Rattle.bbm_roots.proofs.Steps.{holds-stay, noted}
 use Rattle.bbm_roots.proofs.Bits.{and_right}
 use Rattle.bbm_roots.proofs.PendingBits.{entry-there}
 use Rattle.bbm_roots.proofs.roots.Roots.issue_ready.Goals as goal
 
 -- a TLBI changes nothing but what waits: it is noted where there is an entry, which is where it takes a tag from a PE
-issued : (old new : Roots) (issuer : ℕ) (scope : Scope) (vmid : Option ℕ) (has : ℕ → Bool → Tag → Bool) →
+issued : (old new : Roots) (issuer : ℕ) (op : TlbiOp) (xt : ℕ) (scope : Scope) (vmid : Option ℕ) (has : ℕ → Bool → Tag → Bool) →
     new.registers ≡ old.registers → new.holds ≡ old.holds → SameDeclared old new →
     ((q : ℕ) (b : Bool) (g : Tag) (r p : ℕ) → hold_in old.holds g r p ≡ true →
     (nat_eq q issuer && same_flag scope.broadcast b && takes_whole_tag scope vmid g) ≡ true →
@@ -26,52 +27,52 @@ issued : (old new : Roots) (issuer : ℕ) (scope : Scope) (vmid : Option ℕ) (h
     ((q : ℕ) (b : Bool) (g : Tag) (r p : ℕ) → hold_in old.holds g r p ≡ true → pending_in new.pendings q b g p
     ≡ (pending_in old.pendings q b g p || (has q b g && ((nat_eq q issuer && same_flag scope.broadcast b
     && takes_whole_tag scope vmid g) && unread_at old.registers issuer scope.broadcast g p)))) →
-    Takes (Issue issuer scope vmid) old new
-issued old new issuer scope vmid has registers holds roots there notes = record {
-  taken = λ calls stands.
-      let world = world_of old in
-      let log = log-same old new registers in
-      let same = λ (g : Tag) (r p : ℕ) (e : reads world calls p g r ≡ true). e in
-      let stay = λ (g : Tag) (r p : ℕ). holds-stay world (Issue issuer scope vmid) calls g r p (same g r p) refl in
-      stands-made new (Issue issuer scope vmid ∷ calls) world (pes_of old) log.world log.pes (record {
+    TakesWhere (λ heading h. Issues heading h issuer op xt scope vmid) (Tlbi issuer op xt) old new
+issued old new issuer op xt scope vmid has registers holds roots there notes = record {
+  taken = λ heading h stands named.
+      let stay = λ (g : Tag) (r p : ℕ). holds-stay heading h (Tlbi issuer op xt) g r p (λ k. sym (reads-stay heading h
+      (Tlbi issuer op xt) p refl refl g r) ∙ k) refl in
+      record {
+        pes = ap (λ (r : Registers). r.pes) registers ∙ stands.pes;
+        world = ap (λ (r : Registers). r.world) registers ∙ stands.world;
         first = λ p lt. ap (λ (r : Registers). loads_in r.first.items p) registers ∙ stands.first p lt;
         second = λ p lt. ap (λ (r : Registers). loads_in r.second.items p) registers ∙ stands.second p lt;
         outside = stands.outside;
         declared = λ q. let d = roots.declared in let s = stands.declared q in cc;
         count = let d = roots.declared in let s = stands.count in cc;
         locks = λ none. stands.locks (sym roots.locks ∙ none);
-        apart = stands.apart;
-        named = stands.named;
-        holders = λ g r p held. stands.holders g r p (sym (stay g r p) ∙ held);
-        holds = λ g r p. let h = holds in let s = stands.holds g r p ∙ sym (stay g r p) in cc;
+        holds = λ g r p. let k = holds in let s = stands.holds g r p ∙ sym (stay g r p) in cc;
         inside = λ g r p past. stay g r p ∙ stands.inside g r p past;
         pendings = λ q b g r p after.
-            let held : holds_at world calls g r p ≡ true = sym (stay g r p) ∙ after in
+            let held : holds_at heading Patterns p r g h ≡ true = sym (stay g r p) ∙ after in
             let here : hold_in old.holds g r p ≡ true = stands.holds g r p ∙ held in
-            let below : p < pes_of old =
-            ⊎_elim (λ (lt : p < pes_of old). lt)
-            (λ (past : pes_of old ≤ p). absurd (false≢true (sym (stands.inside g r p past) ∙ held)))
-            (cases_lt p (pes_of old)) in
+            let below : p < heading.pes =
+            ⊎_elim (λ (lt : p < heading.pes). lt)
+            (λ (past : heading.pes ≤ p). absurd (false≢true (sym (stands.inside g r p past) ∙ held)))
+            (cases_lt p heading.pes) in
+            let less : p < pes_of old = let n = stands.pes in omega (arith, below) in
             notes q b g r p here
-            ∙ noted world issuer scope vmid calls q b g p (pending_in old.pendings q b g p) (has q b g)
-            (nat_lt p (pes_of old)) (reaches scope issuer p)
-            (reads_tag world (loads_in old.registers.first.items p) (loads_in old.registers.second.items p) g)
-            (stands.pendings q b g r p held) (there q b g r p here) (lt-ltb p (pes_of old) below) refl
-            (ap (λ (xs : List RootValue). reads_tag world xs (loads_in old.registers.second.items p) g) (stands.first p below)
-            ∙ ap (λ (ys : List RootValue). reads_tag world (register_values calls p (first_reg world)) ys g)
+            ∙ noted heading h issuer op xt scope vmid named q b g p (pending_in old.pendings q b g p) (has q b g)
+            (nat_lt p (pes_of old))
+            (reads_tag (world_of old) (loads_in old.registers.first.items p) (loads_in old.registers.second.items p) g)
+            (stands.pendings q b g r p held) (there q b g r p here) (lt-ltb p (pes_of old) less)
+            (ap (λ (w : World). reads_tag w (loads_in old.registers.first.items p) (loads_in old.registers.second.items p) g) stands.world
+            ∙ ap (λ (xs : List RootValue). reads_tag heading.world xs (loads_in old.registers.second.items p) g) (stands.first p below)
+            ∙ ap (λ (ys : List RootValue). reads_tag heading.world (loads_after h p (first_reg heading.world)) ys g)
             (stands.second p below)
-            ∙ sym (reads_tag-is world (register_values calls p (first_reg world))
-            (register_values calls p (second_reg world)) g));
-      });
+            ∙ sym (reads_tag-is heading.world (loads_after h p (first_reg heading.world))
+            (loads_after h p (second_reg heading.world)) g)
+            ∙ some-are heading h p g);
+      };
   prepared = room-same old new roots.declared;
   log = log-same old new registers;
 }
 
 pub returns : goal.returns
-returns c =
+returns c op xt =
     let old = c.args.self.now in
     let scope = c.args.scope.now in
-    issued old _ c.args.issuer scope c.args.vmid (has_pending old.pendings) refl refl
+    issued old _ c.args.issuer op xt scope c.args.vmid (has_pending old.pendings) refl refl
     (record { declared = refl; locks = refl })
     (λ q b g r p held key lost. entry-there q c.args.issuer scope.broadcast b (takes_whole_tag scope c.args.vmid g) g
     old.pendings key
@@ -80,10 +81,10 @@ returns c =
     (λ q b g r p held. c.note.ensures q b g r p p held)
 
 pub returns-then-not-takes : goal.returns-then-not-takes
-returns-then-not-takes c =
+returns-then-not-takes c op xt =
     let old = c.args.self.now in
     let scope = c.args.scope.now in
-    issued old old c.args.issuer scope c.args.vmid (λ q b g. false) refl refl
+    issued old old c.args.issuer op xt scope c.args.vmid (λ q b g. false) refl refl
     (record { declared = refl; locks = refl })
     (λ q b g r p held key lost. sym c.if-not-takes.true
     ∙ first_true c.args.takes (has_pending old.pendings c.args.issuer scope.broadcast g)

@@ -1,53 +1,61 @@
-use Rattle.bbm_roots.proofs.Common.{◌≡◌, ◌∙◌, ap, sym, refl, Bool, nat_eq, ◌+◌, true, cond, ℕ, Option, None, is_some}
-use Rattle.bbm_roots.proofs.Common.{IsSome, subst, arith, rules, get, index_map_len, Tag, Call, Retire, kind_of_reg}
-use Rattle.bbm_roots.proofs.Common.{roots_of, root_at, is_of_kind, world_of, pes_of, reads, reads_for_some, Declared}
-use Rattle.bbm_roots.proofs.RootLists.{found-retired, kept-retired, apart-retired, retired-length, unlocked-retired}
-use Rattle.bbm_roots.proofs.Rooted.{retired-named, retired-holder}
-use Rattle.bbm_roots.proofs.Steps.{holds-stay, awaited-stay}
+use Rattle.bbm_roots.proofs.Common.{◌≡◌, ◌∙◌, ap, sym, refl, Bool, nat_eq, ◌+◌, ◌∷◌, true, cond, ℕ, Option}
+use Rattle.bbm_roots.proofs.Common.{None, is_some, arith, rules, get, index_map_len, Tag, names_in, first_reg}
+use Rattle.bbm_roots.proofs.Common.{second_reg, Declared, first_none, second_none}
+use Rattle.std.specs.Option.{option_map}
+use Rattle.bbm_events.specs.declared.event.Event.{Event}
+use Rattle.bbm_events.specs.declared.event.Event.TheVariants.{Unroot}
+use Rattle.bbm_rules.specs.RegisterValues.{register_values}
+use Rattle.bbm_rules.specs.Roots as rules-of
+use Rattle.bbm_rules.specs.Roots.{root_at, roots_of}
+use Rattle.bbm_roots.specs.DeclaredRoots.{as_declared}
+use Rattle.bbm_roots.specs.RootRegisters.{loads_after}
+use Rattle.bbm_roots.proofs.Readable.{reads-stay, some-stay}
+use Rattle.bbm_roots.proofs.RootLists.{found-retired, map-cond, retired-length, roots-apart, some-mapped}
+use Rattle.bbm_roots.proofs.RootLists.{unlocked-retired}
+use Rattle.bbm_roots.proofs.Rooted.{unroot-stays}
+use Rattle.bbm_roots.proofs.Steps.{holds-stay, waits-stay}
 use Rattle.bbm_roots.proofs.roots.Roots.retire.Goals as goal
 
 pub returns-in-Ok-clause-tried : goal.returns-in-Ok-clause-tried
-returns-in-Ok-clause-tried c = record {
+returns-in-Ok-clause-tried c = λ pe. record {
   taken = record {
-    taken = λ calls stands.
-        let world = world_of c.args.self.now in
+    taken = λ heading h stands done.
         let page = c.args.page in
-        let call : Call = Retire page in
-        let judged = c.in-Ok.ensures calls stands in
+        let e : Event = Unroot pe page in
+        let judged = c.in-Ok.ensures heading h stands in
         let none : Option Declared = None in
-        let taken : c.swap_remove.result ≡ root_at calls page =
-        c.swap_remove.ensures.value ∙ stands.declared c.get.result ∙ ap (λ (n : ℕ). root_at calls n) c.get.ensures.value in
+        let first : (p : ℕ) → loads_after (e ∷ h) p (first_reg heading.world) ≡ loads_after h p (first_reg heading.world) =
+        λ p. unroot-stays h pe page (first_reg heading.world) (register_values h p (first_reg heading.world))
+        (first_none (names_in (loads_after h p (first_reg heading.world)) page) (names_in (loads_after h p (second_reg heading.world)) page) (judged.1 p)) in
+        let second : (p : ℕ) → loads_after (e ∷ h) p (second_reg heading.world) ≡ loads_after h p (second_reg heading.world) =
+        λ p. unroot-stays h pe page (second_reg heading.world) (register_values h p (second_reg heading.world))
+        (second_none (names_in (loads_after h p (first_reg heading.world)) page) (names_in (loads_after h p (second_reg heading.world)) page) (judged.1 p)) in
+        let taken : is_some c.swap_remove.result ≡ true =
+        ap (is_some {T = Declared}) c.swap_remove.ensures.value ∙ sym (some-mapped (get nat_eq c.args.self.now.declared c.get.result))
+        ∙ ap (is_some {T = rules-of.Declared}) (stands.declared c.get.result ∙ ap (λ (n : ℕ). root_at h n) c.get.ensures.value)
+        ∙ judged.0 in
         let one : index_map_len c.swap_remove.new.self + 1 ≡ index_map_len c.args.self.now.declared =
-        sym (ap (λ (b : Bool). index_map_len c.swap_remove.new.self + cond b 1 0) (ap (is_some {T = Declared}) taken ∙ judged.0))
-        ∙ c.swap_remove.ensures.len in
-        let stay = λ (g : Tag) (r p : ℕ). holds-stay world call calls g r p (λ (e : reads world calls p g r ≡ true). e) refl in
+        sym (ap (λ (b : Bool). index_map_len c.swap_remove.new.self + cond b 1 0) taken) ∙ c.swap_remove.ensures.len in
+        let stay = λ (g : Tag) (r p : ℕ). holds-stay heading h e g r p (λ k. sym (reads-stay heading h e p (first p) (second p) g r) ∙ k) refl in
         record {
-          first = stands.first;
-          second = stands.second;
+          pes = stands.pes;
+          world = stands.world;
+          first = λ p lt. stands.first p lt ∙ sym (first p);
+          second = λ p lt. stands.second p lt ∙ sym (second p);
           outside = stands.outside;
           declared = λ q.
-              c.swap_remove.ensures.updates.0 q
-              ∙ ap (λ (n : ℕ). cond (nat_eq n q) none (get nat_eq c.args.self.now.declared q)) c.get.ensures.value
-              ∙ ap (λ (o : Option Declared). cond (nat_eq page q) none o) (stands.declared q)
-              ∙ sym (found-retired page q (roots_of calls));
-          count = omega (arith, one, stands.count, retired-length page (roots_of calls) stands.apart judged.0);
-          locks = λ none. unlocked-retired page (roots_of calls) (stands.locks none);
+              ap (option_map as_declared) (c.swap_remove.ensures.updates.0 q
+              ∙ ap (λ (n : ℕ). cond (nat_eq n q) none (get nat_eq c.args.self.now.declared q)) c.get.ensures.value)
+              ∙ map-cond (nat_eq page q) none (get nat_eq c.args.self.now.declared q)
+              ∙ ap (λ (o : Option rules-of.Declared). cond (nat_eq page q) None o) (stands.declared q)
+              ∙ sym (found-retired page q (roots_of h));
+          count = omega (arith, one, stands.count, retired-length page (roots_of h) (roots-apart h) judged.0);
+          locks = λ none. unlocked-retired page (roots_of h) (stands.locks none);
           holds = λ g r p. stands.holds g r p ∙ sym (stay g r p);
           inside = λ g r p past. stay g r p ∙ stands.inside g r p past;
           pendings = λ q b g r p held.
               stands.pendings q b g r p (sym (stay g r p) ∙ held)
-              ∙ sym (awaited-stay world call calls q b g p (λ (e : reads_for_some world calls p g ≡ true). e) refl refl);
-          apart = apart-retired page (roots_of calls) stands.apart;
-          named = λ p reg q of_world e.
-              ap (is_of_kind (kind_of_reg reg))
-              (kept-retired page q (roots_of calls) (retired-named world calls page p reg q of_world (judged.1 p) e))
-              ∙ stands.named p reg q of_world e;
-          holders = λ g r p held.
-              let before = sym (stay g r p) ∙ held in
-              subst (λ (o : Option Declared). IsSome o)
-              (sym (kept-retired page r (roots_of calls)
-              (retired-holder world (pes_of c.args.self.now) calls g page r p (judged.2 g) (stands.inside g r p) before)))
-              (stands.holders g r p before);
+              ∙ sym (waits-stay heading h e q b g p (λ k. sym (some-stay heading h e p (first p) (second p) g) ∙ k) refl);
         };
     prepared = search rules;
     log = record { pes = refl; world = refl };

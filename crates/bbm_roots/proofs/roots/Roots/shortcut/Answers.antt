@@ -1,6 +1,6 @@
 -- What is known of the one tag that a value makes readable.
 use Rattle.bbm_roots.proofs.Common.{Bool, ◌&&◌, ap, tag_key, slot_of, wait_at, wait_bit}
-use Rattle.bbm_roots.proofs.Shared.{below-nine, own-held}
+use Rattle.bbm_roots.proofs.Shared.{below-nine}
 use Rattle.bbm_roots.proofs.roots.Roots.shortcut.Goals as goal
 
 pub returns-in-Some-clause-shared : goal.returns-in-Some-clause-shared

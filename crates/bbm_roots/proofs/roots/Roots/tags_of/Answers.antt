@@ -1,12 +1,14 @@
-use Rattle.bbm_roots.proofs.Common.{sym, tag_in, world_of, pes_of, holds_tag}
+use Rattle.bbm_roots.proofs.Common.{ℕ, sym, ap, ◌∙◌, tag_in, pes_of}
+use Rattle.bbm_rules.specs.Claims.{Patterns}
+use Rattle.bbm_rules.specs.Tags.{holds_tag}
 use Rattle.bbm_roots.proofs.Conflicts.{tag-held}
 use Rattle.bbm_roots.proofs.Leasts.{tags-same}
 use Rattle.bbm_roots.proofs.roots.Roots.tags_of.Goals as goal
 
 pub returns : goal.returns
-returns c = λ calls stands.
+returns c = λ heading h stands.
     let roots = c.args.self.now in
-    tags-same (λ g. tag_in roots.holds (pes_of roots) g c.args.page)
-    (λ g. holds_tag (world_of roots) (pes_of roots) calls g c.args.page)
-    (λ g. sym (tag-held roots.holds (world_of roots) (pes_of roots) calls stands.holds g c.args.page))
+    tags-same (λ g. tag_in roots.holds (pes_of roots) g c.args.page) (λ g. holds_tag heading Patterns c.args.page g h)
+    (λ g. sym (ap (λ (n : ℕ). tag_in roots.holds n g c.args.page) stands.pes
+    ∙ tag-held roots.holds heading h stands.holds g c.args.page))
     c.tags_of.result c.tags_of.ensures
