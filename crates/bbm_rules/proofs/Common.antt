@@ -81,16 +81,17 @@ pub use Rattle.bbm_rules.specs.Claims.Trust.{Listed, Patterns}
 pub use Rattle.bbm_rules.specs.Cleansing.{answered_where, answers_one, cleansed, flushes, full_step, half}
 pub use Rattle.bbm_rules.specs.Cleansing.{publishes_write, same_cover, second_step, seen, writes}
 pub use Rattle.bbm_rules.specs.Covers.{cover_at, is_global, note, noted, view_at}
+pub use Rattle.bbm_rules.specs.Fold.{Ending, Fold, Halts, Passes, Text, Turned, bytes_of, ending_after, ending_at}
+pub use Rattle.bbm_rules.specs.Fold.{ending_from, header_by, is_too_long, lines_from, passes_to, text_of}
 pub use Rattle.bbm_rules.specs.Held.{ValidWrite, cleansed_everywhere, held, last_valid, last_valid_after, later}
 pub use Rattle.bbm_rules.specs.Limits.{limit_of}
 pub use Rattle.bbm_rules.specs.Lists.{among, any, below, every, if_so, is_that, least, one_number, repeated, some}
 pub use Rattle.bbm_rules.specs.Lists.{some_pe, with_number, ◌>>=◌}
 pub use Rattle.bbm_rules.specs.Locks.{holder_of}
 pub use Rattle.bbm_rules.specs.Notes.{Noted, events_of}
-pub use Rattle.bbm_rules.specs.Outcome.{AtEnd, AtEvents, AtHeader, Decides, GoesOn, Outcome, Progress, Step, Text}
-pub use Rattle.bbm_rules.specs.Outcome.{after_header, after_item, after_judged, after_kept, after_line, bytes_of}
-pub use Rattle.bbm_rules.specs.Outcome.{cut_at, events_in, is_too_long, limit_at, outcome_of, text_of, too_long_at}
-pub use Rattle.bbm_rules.specs.Outcome.{verdict_of_bytes}
+pub use Rattle.bbm_rules.specs.Outcome.{AtEnd, AtEvents, AtHeader, Judged, Progress, after_item, after_judged}
+pub use Rattle.bbm_rules.specs.Outcome.{after_kept, after_line, cut_at, events_in, limit_at, outcome_of}
+pub use Rattle.bbm_rules.specs.Outcome.{too_long_at, unrefused, verdict_of_bytes}
 pub use Rattle.bbm_rules.specs.Pages.{initialised, is_fresh, is_null, may_be_fresh}
 pub use Rattle.bbm_rules.specs.PatternSentences.{Answer, Cleansed, Flush, HalfBy, IsLastValid, OneStep, Publication}
 pub use Rattle.bbm_rules.specs.PatternSentences.{TwoSteps}

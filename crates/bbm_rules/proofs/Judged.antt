@@ -9,7 +9,8 @@ use Rattle.bbm_events.specs.Lines.{header_of, item_of}
 use Rattle.bbm_events.specs.Spelling.{decimal_value, hex_value}
 use Rattle.bbm_rules.specs.Broken.{broken}
 use Rattle.bbm_rules.specs.Claims.{Listed, Patterns}
-use Rattle.bbm_rules.specs.Outcome.{check_limits, step_of, end_of, read_lines}
+use Rattle.bbm_rules.specs.Fold.{end_by, lines_from, turned_by}
+use Rattle.bbm_rules.specs.Outcome.{AtHeader, check_limits, judging}
 use Rattle.bbm_rules.specs.Texts.{verdict_text}
 use Rattle.bbm_rules.specs.Tree.{tree}
 
@@ -20,7 +21,7 @@ log (line ∷ lines) = codes line ++ 10 ∷ log lines
 
 -- the text of the verdict on these bytes
 unfoldable pub judged_under : Trust → List ℕ → List ℕ
-unfolding digits header_of item_of decimal_value hex_value broken tree step_of end_of verdict_text
+unfolding digits header_of item_of decimal_value hex_value broken tree judging turned_by end_by verdict_text
 judged_under trust bytes = verdict_text (verdict_of_bytes trust check_limits bytes)
 
 unfoldable pub judged_bytes : List ℕ → List ℕ
@@ -48,4 +49,4 @@ at_progress f _ = None
 
 unfoldable pub after : {A : Type 0} → List String → (Heading → List Event → A) → Option A
 unfolding judged_under
-after lines f = at_progress f (read_lines Patterns check_limits (bytes_of_each lines))
+after lines f = at_progress f (lines_from (judging Patterns check_limits) 1 AtHeader (bytes_of_each lines))

@@ -1,6 +1,6 @@
 pub mod Common
 pub mod Judged
-pub mod FirstLineLaw
+pub mod Folds
 pub mod SameLimits
 pub mod CasesCore
 pub mod CasesPublication

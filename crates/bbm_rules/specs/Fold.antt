@@ -1,16 +1,36 @@
 -- The lines of a text, read one after another, whatever is made of them. A fold over the lines, which knows nothing of
 -- a reader. Source: project's own choice.
-use Rattle.std.specs.Prelude.{◌≡◌, ℕ, suc, Bool, List, [], ◌∷◌, drop, Option, Some, None, Result, Ok, Err}
-use Rattle.std.specs.Prelude.{if◌then◌else◌}
-use Rattle.bbm_regimes.specs.declared.regime.Which.TheVariants.{LineBytes}
-use Rattle.bbm_events.specs.declared.event.Event.{Event}
+use Rattle.std.specs.Prelude.{◌≡◌, ℕ, suc, ◌+◌, Bool, ◌==◌, nat_lt, List, [], ◌∷◌, ◌++◌, length, drop, Option, Some}
+use Rattle.std.specs.Prelude.{None, Result, Ok, Err, if◌then◌else◌}
 use Rattle.bbm_events.specs.declared.malformed.Malformed.{Malformed as Cause}
-use Rattle.bbm_events.specs.declared.malformed.Malformed.TheVariants.{NoEnd, AfterEnd}
 use Rattle.bbm_events.specs.Heading.{Heading}
-use Rattle.bbm_events.specs.Lines.{header_of}
 use Rattle.bbm_rules.specs.declared.verdict.Verdict.{Verdict}
-use Rattle.bbm_rules.specs.declared.verdict.Verdict.TheVariants.{Malformed, Limit}
-use Rattle.bbm_rules.specs.Outcome.{text_of, is_too_long, unread_after}
+use Rattle.bbm_rules.specs.declared.verdict.Verdict.TheVariants.{Malformed}
+
+-- The lines of a text: the pieces that end in a newline, byte 10, without it; and what stands after the
+-- last newline.
+pub record Text : Type 0 where
+  pub lines : List (List ℕ)
+  pub rest : List ℕ
+
+-- one more byte before a text
+abbrev pub before_text : ℕ → List (List ℕ) → List ℕ → Text
+before_text byte [] rest = record { lines = []; rest = byte ∷ rest }
+before_text byte (line ∷ lines) rest = record { lines = (byte ∷ line) ∷ lines; rest = rest }
+
+abbrev pub text_of : List ℕ → Text
+text_of [] = record { lines = []; rest = [] }
+text_of (byte ∷ bytes) = if byte == 10 then record { lines = [] ∷ (text_of bytes).lines; rest = (text_of bytes).rest }
+    else before_text byte (text_of bytes).lines (text_of bytes).rest
+
+-- the bytes of a text
+abbrev pub bytes_of : List (List ℕ) → List ℕ → List ℕ
+bytes_of [] rest = rest
+bytes_of (line ∷ lines) rest = line ++ 10 ∷ bytes_of lines rest
+
+-- A line is too long where 201 bytes come without a newline.
+abbrev pub is_too_long : List ℕ → Bool
+is_too_long line = nat_lt 200 (length line)
 
 -- what a line decides: what is said of the whole text, or how far the lines are read with it
 pub data Turned (P V : Type 0) : Type 0 where
@@ -21,23 +41,16 @@ pub data Turned (P V : Type 0) : Type 0 where
 pub record Fold (P V : Type 0) : Type 0 where
   -- what a line of at most 200 bytes decides, by its number and how far the lines before it were read
   pub line : ℕ → P → List ℕ → Turned P V
-  -- what is said at a line that is longer
+  -- what is said at a line that is too long, or where more than 200 bytes stand after the last newline
   pub long : ℕ → P → V
-  -- what is said at the end of the input, after these bytes since the last newline
+  -- what is said at the end of the input, after at most 200 bytes since the last newline
   pub cut : ℕ → P → List ℕ → V
-  -- what is said where a line stops reading, by how far the lines before it were read: the verdict, and the event that
-  -- it refuses
-  pub stopped : P → Verdict → Option Event → V
-  -- what is said where the whole text was read, by how far the lines before its end were read
-  pub whole : P → V
-  -- whether memory is needed for a line
-  pub needs : ℕ → P → List ℕ → Bool
 
 -- what line number n decides
 unfoldable pub turned_by : {P V : Type 0} → Fold P V → ℕ → P → List ℕ → Turned P V
 turned_by fold n p line = if is_too_long line then Halts (fold.long n p) else fold.line n p line
 
--- the end of the input
+-- what is said at the end of the input, after these bytes since the last newline
 unfoldable pub end_by : {P V : Type 0} → Fold P V → ℕ → P → List ℕ → V
 end_by fold n p rest = if is_too_long rest then fold.long n p else fold.cut n p rest
 
@@ -46,6 +59,11 @@ pub record Ending (V : Type 0) : Type 0 where
   pub says : V
   pub unread : List ℕ
 
+-- The bytes that stay unread behind a line that decides: of one that is too long 201 bytes are read.
+abbrev pub unread_after : List ℕ → List (List ℕ) → List ℕ → List ℕ
+unread_after line lines rest = if is_too_long line then drop 201 (bytes_of (line ∷ lines) rest) else bytes_of lines rest
+
+-- what is said where a line decides it, and else at the lines behind it
 abbrev pub ending_after : {P V : Type 0} → List ℕ → List (List ℕ) → List ℕ → (P → Ending V) → Turned P V → Ending V
 ending_after line lines rest goes_on (Halts v) = record { says = v; unread = unread_after line lines rest }
 ending_after line lines rest goes_on (Passes next) = goes_on next
@@ -56,10 +74,11 @@ ending_from fold n p [] rest = record { says = end_by fold n p rest; unread = dr
 ending_from fold n p (line ∷ lines) rest =
     ending_after line lines rest (λ next. ending_from fold (suc n) next lines rest) (turned_by fold n p line)
 
+-- what is said of these bytes, which begin with line number n
 abbrev pub ending_at : {P V : Type 0} → Fold P V → ℕ → P → List ℕ → Ending V
 ending_at fold n p bytes = ending_from fold n p (text_of bytes).lines (text_of bytes).rest
 
--- how far these lines are read, from line number n on, where none of them halts
+-- how far these lines are read, from line number n on, where none of them decides
 abbrev pub passes_to : {P V : Type 0} → (P → Option P) → Turned P V → Option P
 passes_to goes_on (Halts v) = None
 passes_to goes_on (Passes next) = goes_on next
@@ -68,26 +87,28 @@ abbrev pub lines_from : {P V : Type 0} → Fold P V → ℕ → P → List (List
 lines_from fold n p [] = Some p
 lines_from fold n p (line ∷ lines) = passes_to (λ next. lines_from fold (suc n) next lines) (turned_by fold n p line)
 
--- The parts of a log: its header, the lines behind it, and the end.
+-- what the line of a header decides: its heading begins what is read, or why it is none is said
+abbrev pub header_by : {P V : Type 0} → (Heading → P) → (Verdict → V) → ℕ → Result Heading Cause → Turned P V
+header_by begun says n (Ok heading) = Passes (begun heading)
+header_by begun says n (Err cause) = Halts (says (Malformed n cause))
 
-abbrev pub header_by : {P V : Type 0} → Fold P V → P → (Heading → P) → Result Heading Cause → Turned P V
-header_by fold start begun (Ok heading) = Passes (begun heading)
-header_by fold start begun (Err cause) = Halts (fold.stopped start (Malformed 1 cause) None)
+-- The same as a sentence: what is said of lines, from line number n on, is what the first line that decides says, or
+-- else what the end says.
 
--- the start of a log, where a header is read
-pub record IsStart {P V : Type 0} (fold : Fold P V) (start : P) (begun : Heading → P) : Type 0 where
-  pub line : (l : List ℕ) → fold.line 1 start l ≡ header_by fold start begun (header_of l)
-  pub long : fold.long 1 start ≡ fold.stopped start (Limit 1 LineBytes) None
-  pub cut : (rest : List ℕ) → fold.cut 1 start rest ≡ fold.stopped start (Malformed 1 NoEnd) None
+-- a line decides, and none before it
+pub record DecidedByLine {P V : Type 0} (fold : Fold P V) (n : ℕ) (p : P) (lines : List (List ℕ)) (says : V)
+    : Type 0 where
+  pub before : List (List ℕ)
+  pub line : List ℕ
+  pub behind : List (List ℕ)
+  pub progress : P
+  pub split : lines ≡ before ++ line ∷ behind
+  pub read : lines_from fold n p before ≡ Some progress
+  pub decides : turned_by fold (n + length before) progress line ≡ Halts says
 
--- between the header and the end
-pub record IsInside {P V : Type 0} (fold : Fold P V) (p : P) : Type 0 where
-  pub long : (n : ℕ) → fold.long n p ≡ fold.stopped p (Limit n LineBytes) None
-  pub cut : (n : ℕ) (rest : List ℕ) → fold.cut n p rest ≡ fold.stopped p (Malformed n NoEnd) None
-
--- behind the end, where nothing may follow; the lines before the end were read to p
-pub record IsEnd {P V : Type 0} (fold : Fold P V) (p q : P) : Type 0 where
-  pub line : (n : ℕ) (l : List ℕ) → fold.line n q l ≡ Halts (fold.stopped p (Malformed n AfterEnd) None)
-  pub long : (n : ℕ) → fold.long n q ≡ fold.stopped p (Malformed n AfterEnd) None
-  pub nothing : (n : ℕ) → fold.cut n q [] ≡ fold.whole p
-  pub more : (n b : ℕ) (rest : List ℕ) → fold.cut n q (b ∷ rest) ≡ fold.stopped p (Malformed n AfterEnd) None
+-- no line decides, and so the end does
+pub record DecidedByEnd {P V : Type 0} (fold : Fold P V) (n : ℕ) (p : P) (lines : List (List ℕ)) (rest : List ℕ)
+    (says : V) : Type 0 where
+  pub progress : P
+  pub read : lines_from fold n p lines ≡ Some progress
+  pub decides : end_by fold (n + length lines) progress rest ≡ says

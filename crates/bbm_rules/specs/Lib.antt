@@ -5,6 +5,7 @@ pub mod Changes
 pub mod Claims
 pub mod Cleansing
 pub mod Covers
+pub mod Fold
 pub mod Held
 pub mod Limits
 pub mod Lists

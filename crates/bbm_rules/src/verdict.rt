@@ -4,9 +4,9 @@ ghost use Rattle.std.specs.Prelude.{◌≡◌, ◌≢◌, ◌⊎◌, ℕ, List};
 ghost use Rattle.bbm_regimes.specs.declared.regime.Which.TheVariants.{Events};
 ghost use Rattle.bbm_rules.specs.Claims.{Trust};
 ghost use Rattle.bbm_rules.specs.declared.limits.Limits.{Limits as LimitsOf};
-ghost use Rattle.bbm_rules.specs.Outcome.{DecidedByEnd, DecidedByLine, check_limits, outcome_of, slow_limits};
-ghost use Rattle.bbm_rules.specs.Outcome.{verdict_of_bytes, verdict_of_lines};
-ghost use Rattle.bbm_rules.specs.declared.verdict.Verdict.{Verdict as VerdictOf};
+ghost use Rattle.bbm_rules.specs.Fold.{DecidedByEnd, DecidedByLine, ending_from};
+ghost use Rattle.bbm_rules.specs.Outcome.{AtHeader, Judged, check_limits, judging, outcome_of, slow_limits};
+ghost use Rattle.bbm_rules.specs.Outcome.{verdict_of_bytes};
 ghost use Rattle.bbm_rules.specs.declared.verdict.Verdict.TheVariants.{Limit};
 
 use crate::rule::Rule;
@@ -41,19 +41,21 @@ pub enum Verdict {
     },
 }
 
-/// The verdict on the lines of an input, with the bytes after its last newline, is what the first line
-/// that decides says, and where none does, what the end says. The call does nothing; the law is its
-/// contract.
-#[tactic(auto, using(crate::proofs::FirstLineLaw::laws))]
+/// What is said of the lines of an input, with the bytes after its last newline - the verdict, the event that it
+/// refuses, and the events before it - is what the first line that decides says, and where none does, what the end
+/// says. The call does nothing; the law is its contract.
 pub fn law_first_line_decides()
-    ensures by_line { (trust : Trust) (limits : LimitsOf) (lines : List (List ℕ)) (rest : List ℕ)
-        (verdict : VerdictOf) →
-        DecidedByLine trust limits lines verdict → verdict_of_lines trust limits lines rest ≡ verdict }
-    ensures by_end { (trust : Trust) (limits : LimitsOf) (lines : List (List ℕ)) (rest : List ℕ) (verdict : VerdictOf) →
-        DecidedByEnd trust limits lines rest verdict → verdict_of_lines trust limits lines rest ≡ verdict }
+    ensures by_line { (trust : Trust) (limits : LimitsOf) (lines : List (List ℕ)) (rest : List ℕ) (judged : Judged) →
+        DecidedByLine (judging trust limits) 1 AtHeader lines judged
+        → (ending_from (judging trust limits) 1 AtHeader lines rest).says ≡ judged }
+    ensures by_end { (trust : Trust) (limits : LimitsOf) (lines : List (List ℕ)) (rest : List ℕ) (judged : Judged) →
+        DecidedByEnd (judging trust limits) 1 AtHeader lines rest judged
+        → (ending_from (judging trust limits) 1 AtHeader lines rest).says ≡ judged }
     ensures one_decides { (trust : Trust) (limits : LimitsOf) (lines : List (List ℕ)) (rest : List ℕ) →
-        DecidedByLine trust limits lines (verdict_of_lines trust limits lines rest)
-        ⊎ DecidedByEnd trust limits lines rest (verdict_of_lines trust limits lines rest) }
+        DecidedByLine (judging trust limits) 1 AtHeader lines
+        (ending_from (judging trust limits) 1 AtHeader lines rest).says
+        ⊎ DecidedByEnd (judging trust limits) 1 AtHeader lines rest
+        (ending_from (judging trust limits) 1 AtHeader lines rest).says }
 {}
 
 /// Under the limits of `check` and of `slow` comes the same of every input, the verdict, the bytes that stay unread and
