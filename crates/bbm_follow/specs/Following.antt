@@ -1,9 +1,8 @@
--- What a run says: a log in which lines of machine steps stand between the header and the end. A fold over its lines,
--- which knows nothing of a reader. The whole text is read before a step that is none is named. Steps are listed newest
--- first. Source: project's own choice.
+-- What a run says: a log in which lines of machine steps stand between the header and the end. A fold over its lines.
+-- The whole text is read before a step that is none is named. Steps are listed newest first.
+-- Source: project's own choice.
 use Rattle.std.specs.Prelude.{◌≡◌, ℕ, zero, suc, ◌+◌, Bool, true, false, ◌&&◌, ◌==◌, nat_le, List, [], ◌∷◌, ◌++◌}
-use Rattle.std.specs.Prelude.{length}
-use Rattle.std.specs.Prelude.{drop, Option, Some, None, Result, Ok, Err, codes, decimal, if◌then◌else◌, option_map}
+use Rattle.std.specs.Prelude.{length, Option, Some, None, Result, Ok, Err, codes, decimal, if◌then◌else◌, option_map}
 use Rattle.bbm_regimes.specs.declared.regime.Which.TheVariants.{LineBytes, Steps}
 use Rattle.bbm_events.specs.declared.event.Item.{Item}
 use Rattle.bbm_events.specs.declared.event.Item.TheVariants as item
@@ -15,7 +14,7 @@ use Rattle.bbm_events.specs.Lines.{header_of, item_of}
 use Rattle.bbm_events.specs.Machine.{machine_of}
 use Rattle.bbm_rules.specs.declared.verdict.Verdict.{Verdict}
 use Rattle.bbm_rules.specs.declared.verdict.Verdict.TheVariants.{Malformed, Limit}
-use Rattle.bbm_rules.specs.Outcome.{text_of, is_too_long, unread_after}
+use Rattle.bbm_rules.specs.Fold.{Turned, Halts, Passes, Fold, Ending, ending_at, header_by}
 use Rattle.bbm_rules.specs.Texts.{verdict_text}
 use Rattle.bbm_tlb_machine.specs.declared.step.Step.{Step}
 use Rattle.bbm_tlb_machine.specs.declared.step.Step.TheVariants as step
@@ -38,11 +37,11 @@ pub data Reached : Type 0 where
   AtSteps : Heading → List Step → Reached
   AtEnd : Heading → List Step → Reached
 
--- What one line decides: reading stops there, or how far the lines are read with it. A line that stops reading is
--- malformed or reaches a limit.
-pub data Turned : Type 0 where
-  Stops : Verdict → Turned
-  GoesOn : Reached → Turned
+-- What a run says: reading stopped, at a line that is malformed or reaches a limit, or it was read whole: the heading
+-- and the steps.
+pub data RunSays : Type 0 where
+  Stopped : Verdict → RunSays
+  Whole : Heading → List Step → RunSays
 
 -- the number of events among steps
 abbrev pub event_count : List Step → ℕ
@@ -51,24 +50,25 @@ event_count (step.Event e ∷ steps) = suc (event_count steps)
 event_count (step.Machine line ∷ steps) = event_count steps
 
 -- one more step: a malformed line comes before the limit of steps
-abbrev pub after_step : ℕ → Heading → List Step → Step → Turned
+abbrev pub after_step : ℕ → Heading → List Step → Step → Turned Reached RunSays
 after_step number heading steps s =
-    if nat_le step_limit (length steps) then Stops (Limit number Steps) else GoesOn (AtSteps heading (s ∷ steps))
+    if nat_le step_limit (length steps) then Halts (Stopped (Limit number Steps))
+    else Passes (AtSteps heading (s ∷ steps))
 
-abbrev pub after_end : ℕ → Heading → List Step → ℕ → Turned
+abbrev pub after_end : ℕ → Heading → List Step → ℕ → Turned Reached RunSays
 after_end number heading steps count =
-    if count == event_count steps then GoesOn (AtEnd heading steps) else Stops (Malformed number WrongCount)
+    if count == event_count steps then Passes (AtEnd heading steps) else Halts (Stopped (Malformed number WrongCount))
 
 -- a line of the log; a label says nothing here
-abbrev pub after_item : ℕ → Heading → List Step → Result Item Cause → Turned
+abbrev pub after_item : ℕ → Heading → List Step → Result Item Cause → Turned Reached RunSays
 after_item number heading steps (Ok (item.Event event label)) = after_step number heading steps (step.Event event)
 after_item number heading steps (Ok (item.End count)) = after_end number heading steps count
-after_item number heading steps (Err cause) = Stops (Malformed number cause)
+after_item number heading steps (Err cause) = Halts (Stopped (Malformed number cause))
 
 -- a machine line
-abbrev pub after_machine : ℕ → Heading → List Step → Result MachineLine Cause → Turned
+abbrev pub after_machine : ℕ → Heading → List Step → Result MachineLine Cause → Turned Reached RunSays
 after_machine number heading steps (Ok line) = after_step number heading steps (step.Machine line)
-after_machine number heading steps (Err cause) = Stops (Malformed number cause)
+after_machine number heading steps (Err cause) = Halts (Stopped (Malformed number cause))
 
 -- a line is a machine line where its first field is `m`: where it is `m`, or begins with `m` and a space
 abbrev pub is_machine : List ℕ → Bool
@@ -76,31 +76,18 @@ is_machine [] = false
 is_machine (first ∷ []) = first == 109
 is_machine (first ∷ second ∷ rest) = first == 109 && second == 32
 
-abbrev pub after_header : ℕ → Result Heading Cause → Turned
-after_header number (Ok heading) = GoesOn (AtSteps heading [])
-after_header number (Err cause) = Stops (Malformed number cause)
-
 -- a line of at most 200 bytes
-abbrev pub after_line : ℕ → Reached → List ℕ → Turned
-after_line number AtHeader line = after_header number (header_of line)
+abbrev pub after_line : ℕ → Reached → List ℕ → Turned Reached RunSays
+after_line number AtHeader line = header_by (λ heading. AtSteps heading []) Stopped number (header_of line)
 after_line number (AtSteps heading steps) line =
     if is_machine line then after_machine number heading steps (machine_of heading line)
     else after_item number heading steps (item_of heading line)
-after_line number (AtEnd heading steps) line = Stops (Malformed number AfterEnd)
+after_line number (AtEnd heading steps) line = Halts (Stopped (Malformed number AfterEnd))
 
 -- a line that is too long
 abbrev pub too_long_at : ℕ → Reached → Verdict
 too_long_at number (AtEnd heading steps) = Malformed number AfterEnd
 too_long_at number _ = Limit number LineBytes
-
-abbrev pub turned_by : ℕ → Reached → List ℕ → Turned
-turned_by number reached line =
-    if is_too_long line then Stops (too_long_at number reached) else after_line number reached line
-
--- What a run says: reading stopped, or it was read whole: the heading and the steps.
-pub data RunSays : Type 0 where
-  Stopped : Verdict → RunSays
-  Whole : Heading → List Step → RunSays
 
 -- the end of the input, after these bytes since the last newline
 abbrev pub cut_at : ℕ → Reached → List ℕ → RunSays
@@ -109,29 +96,13 @@ cut_at number (AtEnd heading steps) (byte ∷ rest) = Stopped (Malformed number 
 cut_at number AtHeader rest = Stopped (Malformed number NoEnd)
 cut_at number (AtSteps heading steps) rest = Stopped (Malformed number NoEnd)
 
-abbrev pub end_of : ℕ → Reached → List ℕ → RunSays
-end_of number reached rest =
-    if is_too_long rest then Stopped (too_long_at number reached) else cut_at number reached rest
+-- the steps of a run are kept
+unfoldable pub following : Fold Reached RunSays
+following = record { line = after_line; long = λ n p. Stopped (too_long_at n p); cut = cut_at }
 
--- what comes of a run, and the bytes that need not be read for it
-pub record RunOutcome : Type 0 where
-  pub says : RunSays
-  pub unread : List ℕ
-
-abbrev pub outcome_after : List ℕ → List (List ℕ) → List ℕ → (Reached → RunOutcome) → Turned → RunOutcome
-outcome_after line lines rest goes_on (Stops verdict) =
-    record { says = Stopped verdict; unread = unread_after line lines rest }
-outcome_after line lines rest goes_on (GoesOn next) = goes_on next
-
--- from line number n on, where the lines before were read so far
-abbrev pub run_from : ℕ → Reached → List (List ℕ) → List ℕ → RunOutcome
-run_from number reached [] rest = record { says = end_of number reached rest; unread = drop 201 rest }
-run_from number reached (line ∷ lines) rest =
-    outcome_after line lines rest (λ next. run_from (suc number) next lines rest) (turned_by number reached line)
-
--- the outcome of a list of bytes
-abbrev pub run_of : List ℕ → RunOutcome
-run_of bytes = run_from 1 AtHeader (text_of bytes).lines (text_of bytes).rest
+-- what is said of a list of bytes, and which of them need not be read for it
+abbrev pub run_of : List ℕ → Ending RunSays
+run_of bytes = ending_at following 1 AtHeader bytes
 
 -- Step i, counted from 0, stands on line i + 2.
 abbrev pub line_of : ℕ → ℕ
@@ -162,15 +133,16 @@ run_text (Stopped verdict) = verdict_text verdict
 run_text (Whole heading steps) = followed_text (followed heading steps)
 
 -- whether a line between the header and the end is one more step
-abbrev pub is_step : Turned → Bool
-is_step (GoesOn (AtSteps heading steps)) = true
+abbrev pub is_step : Turned Reached RunSays → Bool
+is_step (Passes (AtSteps heading steps)) = true
 is_step _ = false
 
--- What line number n of a run says, by the steps before it and after it: it was taken as a step, or is the end, or reading
--- stops. There may be no memory for a step alone.
-abbrev pub TakesLine : ℕ → Heading → List Step → List Step → Result Turn LineFault → Turned → Type 0
-TakesLine number heading old new (Ok turn.Taken) turned = turned ≡ GoesOn (AtSteps heading new)
-TakesLine number heading old new (Ok turn.End) turned = (turned ≡ GoesOn (AtEnd heading old)) × (new ≡ old)
-TakesLine number heading old new (Err (fault.Malformed cause)) turned = turned ≡ Stops (Malformed number cause)
-TakesLine number heading old new (Err (fault.Limit which)) turned = turned ≡ Stops (Limit number which)
+-- What line number n of a run says, by the steps before it and after it: it was taken as a step, or is the end, or
+-- reading stops. There may be no memory for a step alone.
+abbrev pub TakesLine : ℕ → Heading → List Step → List Step → Result Turn LineFault → Turned Reached RunSays → Type 0
+TakesLine number heading old new (Ok turn.Taken) turned = turned ≡ Passes (AtSteps heading new)
+TakesLine number heading old new (Ok turn.End) turned = (turned ≡ Passes (AtEnd heading old)) × (new ≡ old)
+TakesLine number heading old new (Err (fault.Malformed cause)) turned =
+    turned ≡ Halts (Stopped (Malformed number cause))
+TakesLine number heading old new (Err (fault.Limit which)) turned = turned ≡ Halts (Stopped (Limit number which))
 TakesLine number heading old new (Err fault.NoMemory) turned = is_step turned ≡ true
