@@ -221,7 +221,7 @@ claim_one_line h line x e = joined_fields line (claim_item_fields x) (line_ok h 
 
 -- What is written is read again.
 
-number_below : (word : TagWord) (n : ℕ) → has_number word n ≡ true → n < 2 ^ 64
+pub number_below : (word : TagWord) (n : ℕ) → has_number word n ≡ true → n < 2 ^ 64
 number_below word.El2 n e = let none = eqb-true n 0 e in omega (arith, none)
 number_below word.Vmid n e = let below = ltb-true n (2 ^ 16) e in omega (arith, below)
 number_below word.Asid n e = let below = ltb-true n (2 ^ 16) e in omega (arith, below)
@@ -289,7 +289,7 @@ claim_read h (Taken pe tag t d) ok fits =
     ∙ on (tag_fields spelled) _ (tag_read tag flush front.1)
     ∙ on (flush_fields flush) _ (flush_read t d [] all.1)
 
-claim_all_visible : (claim : Claim) → all_visible (claim_fields claim) ≡ true
+pub claim_all_visible : (claim : Claim) → all_visible (claim_fields claim) ≡ true
 claim_all_visible (Place pe place b t d) =
     dec pe (hex place ∷ decimal b ∷ decimal t ∷ decimal d ∷ []) (hexa place (decimal b ∷ decimal t ∷ decimal d ∷ [])
     (dec b (decimal t ∷ decimal d ∷ []) (dec t (decimal d ∷ []) (dec d [] refl))))

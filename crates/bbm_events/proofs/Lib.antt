@@ -11,3 +11,4 @@ pub mod Readings
 pub mod WordsRead
 pub mod Written
 pub mod PlainLines
+pub mod PlainClaims

@@ -1,7 +1,8 @@
 -- Machine lines: what is read of one fits the header and has a cause of a line where it spells none, a step that
 -- is written is read again, and no other line is read as it.
-use Rattle.bbm_events.proofs.Common.{◌≡◌, ℕ, ◌^◌, ◌<◌, List, [], ◌∷◌, true, ◌&&◌, refl, ap, ◌∙◌, Result, Ok, arith}
-use Rattle.bbm_events.proofs.Common.{IfErr, codes, decimal, and_parts, ltb-true, eqb-true, Kind, El2, S2, Ttbr0, Ttbr1}
+use Rattle.bbm_events.proofs.Common.{◌≡◌, ℕ, ◌^◌, ◌<◌, ◌≤◌, List, [], ◌∷◌, length, true, ◌&&◌, refl, ap, ◌∙◌, Result}
+use Rattle.bbm_events.proofs.Common.{Ok, arith, IfErr, codes, decimal, and_parts, leb-true, ltb-true, eqb-true, Kind}
+use Rattle.bbm_events.proofs.Common.{El2, S2, Ttbr0, Ttbr1}
 use Rattle.bbm_events.proofs.Common.{Malformed, UnknownWord, BadNumber, MissingField, IsFieldCause, IsLineCause}
 use Rattle.bbm_events.proofs.Common.{Heading, heading_ok, may_share, fields, hex, with_word, kind_word, kinds, is_pe}
 use Rattle.bbm_events.proofs.Common.{is_place, is_value, ◌>>=◌, Fields, passing, exactly, pe_field, kind_field}
@@ -11,7 +12,7 @@ use Rattle.bbm_events.specs.declared.machine.MachineLine.{MachineLine}
 use Rattle.bbm_events.specs.declared.machine.MachineLine.TheVariants.{Start, Extend, Combine, Share, Drop}
 use Rattle.bbm_events.specs.declared.machine.MachineWord.{MachineWord}
 use Rattle.bbm_events.specs.declared.machine.MachineWord.TheVariants as second
-use Rattle.bbm_events.specs.Spelling.{decimal_value}
+use Rattle.bbm_events.specs.Spelling.{decimal_value, is_plain}
 use Rattle.bbm_events.specs.Machine.{machine_word, machine_words, has_machine_word, is_tag, is_entry, machine_fits}
 use Rattle.bbm_events.specs.Machine.{mark_field, machine_word_field, tag_field, entry_field, start_line, extend_line}
 use Rattle.bbm_events.specs.Machine.{share_line, machine_after, machine_of, machine_fields, machine_line}
@@ -24,6 +25,8 @@ use Rattle.bbm_events.proofs.OneSpelling.{word_once}
 use Rattle.bbm_events.proofs.OneLine.{IsRead, as_read, count_line_read_as, exactly_once, passing_from, whole_end}
 use Rattle.bbm_events.proofs.OneLine.{field_once, decimal_field_once, count_once, pe_once, kind_once, place_once}
 use Rattle.bbm_events.proofs.OneLine.{value_once}
+use Rattle.bbm_events.proofs.PlainLines.{Short, decimal_length, joined_length, joined_plain, kind_length, pe_length}
+use Rattle.bbm_events.proofs.PlainLines.{place_length, value_length}
 use Rattle.bbm_events.proofs.WordsRead.{kind_word_visible}
 use Rattle.bbm_events.proofs.Written.{on, field_read, passing_read, decimal_field_read, count_read, count_line_read}
 use Rattle.bbm_events.proofs.Written.{pe_read, kind_read, place_read, value_read, one_more, dec, hexa}
@@ -216,3 +219,46 @@ unfolding machine_of machine_line
 machine_written_is_read h step ok fits =
     ap (λ (all : Fields). mark_field all >>= (λ mark. read_step h mark.1)) (fields_joined (codes "m") (machine_fields step) (step_all_visible step))
     ∙ step_read h step ok fits
+
+-- A written step is one line: no byte of it is a newline, and it has at most 200.
+
+pub machine_plain : (step : MachineLine) → is_plain (machine_line step) ≡ true
+unfolding machine_line
+machine_plain step = joined_plain (codes "m" ∷ machine_fields step) (step_all_visible step)
+
+tag_length : (kind : Kind) (tag : ℕ) → is_tag kind tag ≡ true → length (decimal tag) ≤ 20
+tag_length El2 tag fits = let none : tag ≡ 0 = eqb-true tag 0 fits in decimal_length tag (omega (arith, none))
+tag_length S2 tag fits = let below = ltb-true tag (2 ^ 16) fits in decimal_length tag (omega (arith, below))
+tag_length Ttbr0 tag fits = let below = ltb-true tag (2 ^ 16) fits in decimal_length tag (omega (arith, below))
+tag_length Ttbr1 tag fits = let below = ltb-true tag (2 ^ 16) fits in decimal_length tag (omega (arith, below))
+
+entry_length : (entry : ℕ) → is_entry entry ≡ true → length (decimal entry) ≤ 20
+entry_length entry fits = let below = ltb-true entry (2 ^ 32) fits in decimal_length entry (omega (arith, below))
+
+module _ (h : Heading) (ok : heading_ok h ≡ true) where
+  -- the fields behind `m`: at most six, each of at most 20 bytes
+  step_short : (step : MachineLine) → machine_fits h step ≡ true
+      → Short (machine_fields step) × (length (machine_fields step) ≤ 6)
+  step_short (Start pe kind tag place value) fits =
+      let a = and_parts (is_pe h pe && is_tag kind tag && is_place place) (is_value value) fits in
+      let b = and_parts (is_pe h pe && is_tag kind tag) (is_place place) a.0 in
+      let c = and_parts (is_pe h pe) (is_tag kind tag) b.0 in
+      ((leb-true 5 20 refl, (pe_length h ok pe c.0, (kind_length kind, (tag_length kind tag c.1, (place_length h ok place b.1, (value_length h ok value a.1, tt)))))), omega arith)
+  step_short (Extend entry place value) fits =
+      let a = and_parts (is_entry entry && is_place place) (is_value value) fits in
+      let b = and_parts (is_entry entry) (is_place place) a.0 in
+      ((leb-true 6 20 refl, (entry_length entry b.0, (place_length h ok place b.1, (value_length h ok value a.1, tt)))), omega arith)
+  step_short (Combine entry) fits = ((leb-true 7 20 refl, (entry_length entry fits, tt)), omega arith)
+  step_short (Share entry pe) fits =
+      let a = and_parts (may_share h.version && is_entry entry) (is_pe h pe) fits in
+      let b = and_parts (may_share h.version) (is_entry entry) a.0 in
+      ((leb-true 5 20 refl, (entry_length entry b.1, (pe_length h ok pe a.1, tt))), omega arith)
+  step_short (Drop entry) fits = ((leb-true 4 20 refl, (entry_length entry fits, tt)), omega arith)
+
+  pub machine_short : (step : MachineLine) → machine_fits h step ≡ true → length (machine_line step) ≤ 200
+  unfolding machine_line
+  machine_short step fits =
+      let s = step_short step fits in
+      let few = s.1 in
+      let most = joined_length (codes "m" ∷ machine_fields step) (leb-true 1 20 refl, s.0) in
+      omega (arith, most, few)

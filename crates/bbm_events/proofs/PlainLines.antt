@@ -35,7 +35,7 @@ visible_then (byte ∷ bytes) rest shows clean =
     let parts = and_parts (nat_lt 32 byte) (visible bytes) shows in
     rw (no_newline byte parts.0, visible_then bytes rest parts.1 clean) refl
 
-joined_plain : (pieces : List (List ℕ)) → all_visible pieces ≡ true → is_plain (joined pieces) ≡ true
+pub joined_plain : (pieces : List (List ℕ)) → all_visible pieces ≡ true → is_plain (joined pieces) ≡ true
 joined_plain [] shows = refl
 joined_plain (piece ∷ []) shows =
     subst (λ (line : List ℕ). is_plain line ≡ true) (append-nil piece)
@@ -47,11 +47,11 @@ joined_plain (piece ∷ next ∷ pieces) shows =
 -- ---- at most 200 bytes
 
 -- each piece has at most 20 bytes
-abbrev Short : List (List ℕ) → Type 0
+abbrev pub Short : List (List ℕ) → Type 0
 Short [] = Unit {0}
 Short (piece ∷ pieces) = (length piece ≤ 20) × Short pieces
 
-joined_length : (pieces : List (List ℕ)) → Short pieces → length (joined pieces) ≤ 21 * length pieces
+pub joined_length : (pieces : List (List ℕ)) → Short pieces → length (joined pieces) ≤ 21 * length pieces
 joined_length [] short = omega arith
 joined_length (piece ∷ []) short = let one = short.0 in omega (arith, one)
 joined_length (piece ∷ next ∷ pieces) short =
@@ -97,18 +97,18 @@ hex_onto (suc j) (suc k) n acc fits = by (n / 16 == 0) (hex_onto j k (n / 16) (d
     by true more = omega arith
     by false more = omega (arith, more)
 
-hex_length : (n : ℕ) → n < 2 ^ 64 → length (hex n) ≤ 20
+pub hex_length : (n : ℕ) → n < 2 ^ 64 → length (hex n) ≤ 20
 unfolding digits
 hex_length n below = let most = hex_onto 15 64 n [] (omega (arith, below)) in omega (arith, most)
 
-decimal_length : (n : ℕ) → n < 2 ^ 64 → length (decimal n) ≤ 20
+pub decimal_length : (n : ℕ) → n < 2 ^ 64 → length (decimal n) ≤ 20
 decimal_length n below = length-decimal-le 20 n (omega arith) (omega (arith, below)) below
 
 lock_length : (lock : Option ℕ) → is_root_lock lock ≡ true → length (lock_text lock) ≤ 20
 lock_length None fits = omega arith
 lock_length (Some n) fits = decimal_length n (lock_below n fits)
 
-kind_length : (kind : Kind) → length (kind_word kind) ≤ 20
+pub kind_length : (kind : Kind) → length (kind_word kind) ≤ 20
 kind_length kind = word_length kind_word (kind_word kind) kind kinds refl (kind_word_read kind)
 
 reg_length : (reg : Reg) → length (reg_word reg) ≤ 20
@@ -138,16 +138,16 @@ operand_short op xt below = by (has_operand op)
     by false = (tt, omega arith)
 
 module _ (h : Heading) (ok : heading_ok h ≡ true) where
-  pe_length : (pe : ℕ) → is_pe h pe ≡ true → length (decimal pe) ≤ 20
+  pub pe_length : (pe : ℕ) → is_pe h pe ≡ true → length (decimal pe) ≤ 20
   pe_length pe fits = decimal_length pe (pe_below h pe ok fits)
 
   page_length : (page : ℕ) → is_page page ≡ true → length (hex page) ≤ 20
   page_length page fits = hex_length page (aligned_below page (page % 4096 == 0) fits)
 
-  place_length : (place : ℕ) → is_place place ≡ true → length (hex place) ≤ 20
+  pub place_length : (place : ℕ) → is_place place ≡ true → length (hex place) ≤ 20
   place_length place fits = hex_length place (aligned_below place (place % 8 == 0) fits)
 
-  value_length : (value : ℕ) → is_value value ≡ true → length (hex value) ≤ 20
+  pub value_length : (value : ℕ) → is_value value ≡ true → length (hex value) ≤ 20
   value_length value fits = hex_length value (ltb-true value (2 ^ 64) fits)
 
   pe_and_page : (word : List ℕ) (pe page : ℕ) → length word ≤ 20 → (is_pe h pe && is_page page) ≡ true

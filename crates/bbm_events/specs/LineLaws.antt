@@ -1,10 +1,12 @@
 -- What the laws of lines state on which other crates stand: of what a line is read as, and of what is written.
 -- Source: project's own choice.
 use Rattle.std.specs.Prelude.{◌≡◌, ◌≤◌, ℕ, List, length, true, Ok}
+use Rattle.bbm_events.specs.Certificate.{certificate_line, claim_fits, claim_line}
 use Rattle.bbm_events.specs.Fits.{item_fits}
 use Rattle.bbm_events.specs.Heading.{Heading, heading_ok}
 use Rattle.bbm_events.specs.Lines.{header_of, item_of, header_line, item_line}
 use Rattle.bbm_events.specs.Spelling.{is_plain}
+use Rattle.bbm_events.specs.declared.certificate.ClaimItem.{ClaimItem}
 use Rattle.bbm_events.specs.declared.event.Item.{Item}
 
 -- each header that a line spells has its numbers in their ranges
@@ -35,3 +37,11 @@ pub record WrittenIsALine : Type 0 where
   pub item_plain : (heading : Heading) (item : Item) → item_fits heading item ≡ true → is_plain (item_line item) ≡ true
   pub item_short : (heading : Heading) (item : Item) → heading_ok heading ≡ true → item_fits heading item ≡ true
       → length (item_line item) ≤ 200
+
+-- The same of a certificate: of its first line, of a written claim that fits, and of a written count.
+pub record ClaimIsALine : Type 0 where
+  pub first_plain : is_plain certificate_line ≡ true
+  pub first_short : length certificate_line ≤ 200
+  pub item_plain : (item : ClaimItem) → is_plain (claim_line item) ≡ true
+  pub item_short : (heading : Heading) (item : ClaimItem) → heading_ok heading ≡ true → claim_fits heading item ≡ true
+      → length (claim_line item) ≤ 200

@@ -1,6 +1,6 @@
 //! What the grammar promises of each line.
 
-ghost use Rattle.std.specs.Prelude.{◌≡◌, ℕ, List, true, Ok, IfErr};
+ghost use Rattle.std.specs.Prelude.{◌≡◌, ◌≤◌, ℕ, List, length, true, Ok, IfErr};
 ghost use Rattle.bbm_events.specs.declared.event.Item.{Item};
 ghost use Rattle.bbm_events.specs.declared.machine.MachineLine.{MachineLine};
 ghost use Rattle.bbm_events.specs.declared.certificate.ClaimItem.{ClaimItem};
@@ -8,8 +8,9 @@ ghost use Rattle.bbm_events.specs.Certificate.{certificate_line, certificate_of,
 ghost use Rattle.bbm_events.specs.Machine.{machine_of, machine_fits, machine_line};
 ghost use Rattle.bbm_events.specs.Heading.{Heading, heading_ok};
 ghost use Rattle.bbm_events.specs.Causes.{IsHeaderCause, IsFieldCause, IsLineCause};
-ghost use Rattle.bbm_events.specs.LineLaws.{HeadersAreInRange, ItemsFit, WrittenIsALine, WrittenIsRead};
+ghost use Rattle.bbm_events.specs.LineLaws.{ClaimIsALine, HeadersAreInRange, ItemsFit, WrittenIsALine, WrittenIsRead};
 ghost use Rattle.bbm_events.specs.Lines.{header_of, item_of, header_line, item_line};
+ghost use Rattle.bbm_events.specs.Spelling.{is_plain};
 
 /// Each header that a line spells has its numbers in their ranges. The law is `HeadersAreInRange`.
 #[tactic(auto, using(crate::proofs::Readings::header_of_ok))]
@@ -75,6 +76,14 @@ pub fn law_machine_written_is_read()
         → machine_of heading (machine_line step) ≡ Ok step }
 {}
 
+/// A written step that fits is one line: no byte of it is a newline, byte 10, and it has at most 200 bytes.
+#[tactic(auto, using(crate::proofs::MachineLines::machine_plain, crate::proofs::MachineLines::machine_short))]
+pub fn law_machine_written_is_a_line()
+    ensures plain { (step : MachineLine) → is_plain (machine_line step) ≡ true }
+    ensures short { (heading : Heading) (step : MachineLine) → heading_ok heading ≡ true
+        → machine_fits heading step ≡ true → length (machine_line step) ≤ 200 }
+{}
+
 /// Each step has one line: what a machine line is read as is written as that line.
 #[tactic(auto, using(crate::proofs::MachineLines::machine_one_line))]
 pub fn law_machine_one_line()
@@ -102,6 +111,12 @@ pub fn law_claim_written_is_read()
     ensures first { certificate_of certificate_line ≡ Ok tt }
     ensures item { (heading : Heading) (item : ClaimItem) → heading_ok heading ≡ true → claim_fits heading item ≡ true
         → claim_of heading (claim_line item) ≡ Ok item }
+{}
+
+/// The first line of a certificate, and what is written of a claim or a count that fits, is one line: no byte of it is a
+/// newline, byte 10, and it has at most 200 bytes. The law is `ClaimIsALine`.
+pub fn law_claim_written_is_a_line()
+    ensures { ClaimIsALine }
 {}
 
 /// A certificate has one first line, and each claim and each count has one line: what a line is read as is written as

@@ -21,9 +21,10 @@ pub use header::Header;
 pub use keyword::Keyword;
 pub use label::Label;
 pub use laws::{
-    law_claim_causes, law_claim_fits, law_claim_one_line, law_claim_written_is_read,
-    law_header_causes, law_header_in_range, law_item_causes, law_item_fits, law_machine_causes,
-    law_machine_fits, law_machine_one_line, law_machine_written_is_read, law_one_line,
+    law_claim_causes, law_claim_fits, law_claim_one_line, law_claim_written_is_a_line,
+    law_claim_written_is_read, law_header_causes, law_header_in_range, law_item_causes,
+    law_item_fits, law_machine_causes, law_machine_fits, law_machine_one_line,
+    law_machine_written_is_a_line, law_machine_written_is_read, law_one_line,
     law_written_is_a_line, law_written_is_read,
 };
 pub use machine::{MachineLine, MachineWord};
