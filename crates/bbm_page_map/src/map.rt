@@ -95,7 +95,7 @@ impl<V> PageMap<V> {
         }
     }
 
-    /// `get_index_of` for a page that isn't where it was looked for first.
+    /// `get_index_of`, apart from its callers.
     #[inline(never)]
     fn search(&self, page: Page) -> Option<usize>
         ensures found { is_some result ≡ is_some (get nat_eq self.now page) }
@@ -119,15 +119,23 @@ impl<V> PageMap<V> {
         }
     }
 
+    /// `get`, apart from its callers.
+    #[inline(never)]
+    fn get_apart(&self, page: Page) -> Option<&V>
+        ensures { option_copied result ≡ get nat_eq self.now page }
+    {
+        self.get(page)
+    }
+
     /// The value of a page; None where it isn't in the map. No answer depends on the number `hint`, at which the page
     /// is looked for first.
     #[inline(always)]
     pub fn get_near(&self, page: Page, hint: usize) -> Option<&V>
         ensures value { option_copied result ≡ get nat_eq self.now page }
     {
-        match self.get_index_near(page, hint) {
-            Some(index) => Some(&self.entries[index].1),
-            None => None,
+        match self.get_index(hint) {
+            Some((key, value)) if key == page => Some(value),
+            _ => self.get_apart(page),
         }
     }
 

@@ -97,17 +97,11 @@ pub fn reserve_slots(slots: &mut Vec<u32>) -> Result<(), NoMemory>
     ensures alike { LeadsAlike slots.old.items slots.new.items }
     ensures succeeds { HasSlots slots.old → IsOk result }
 {
-    match begin(slots) {
-        Ok(()) => {}
-        Err(_) => return Err(NoMemory),
-    }
+    begin(slots)?;
     if slots.len() > MAX_SLOTS - MORE_SLOTS {
         return Err(NoMemory);
     }
-    match slots.reserve(MORE_SLOTS) {
-        Ok(()) => Ok(()),
-        Err(_) => Err(NoMemory),
-    }
+    slots.reserve(MORE_SLOTS).map_err(|_| NoMemory)
 }
 
 /// Adds a node, to which this slot then leads, where there is room for it; tells its number.

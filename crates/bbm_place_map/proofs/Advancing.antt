@@ -48,9 +48,8 @@ all_done R start new k whole done rest m =
 
 pub position_kept : (R : Entry → Entry → Type 0) (o p : Option Entry) → Advances R o p → option_map position p ≡ option_map position o
 position_kept R None None h = refl
-position_kept R None (Some f) h = absurd h
-position_kept R (Some e) None h = absurd h
 position_kept R (Some e) (Some f) h = ap (λ (s : ℕ × ℕ). Some s) h.0
+position_kept R _ _ h = absurd h
 
 place_position : (o : Option Entry) → unwrap_or (option_map (λ (e : Entry). e.place) o) 0 ≡ unwrap_or (option_map (λ (s : ℕ × ℕ). s.0) (option_map position o)) 0
 place_position None = refl
@@ -69,6 +68,5 @@ of_cell R old new each (Some k) = each k
 
 pub advance_by : (R S : Entry → Entry → Type 0) → ((e f : Entry) → R e f → S e f) → (o p : Option Entry) → Advances R o p → Advances S o p
 advance_by R S by None None h = tt
-advance_by R S by None (Some f) h = absurd h
-advance_by R S by (Some e) None h = absurd h
 advance_by R S by (Some e) (Some f) h = (h.0, by e f h.1)
+advance_by R S by _ _ h = absurd h

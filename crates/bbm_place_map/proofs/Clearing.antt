@@ -9,13 +9,16 @@ use Rattle.std.proofs.Common.{◌^◌}
 use Rattle.bbm_place_map.specs.Map.{marks_at, pends_at}
 use Rattle.bbm_place_map.specs.MapCalls.{Frees}
 use Rattle.bbm_place_map.specs.Puts.{Clears}
-use Rattle.bbm_place_map.specs.Sound.{CanBreak, FewLinked}
+use Rattle.bbm_place_map.specs.Sound.{CanBreak, FewLinked, SameSize}
 use Rattle.bbm_place_map.specs.Works.{Listed}
+use Rattle.bbm_place_map.specs.declared.work.Work.{Work}
 use Rattle.bbm_place_map.proofs.Idle.{idle_from}
 use Rattle.bbm_place_map.proofs.Listing.{gone_or_same, listed_fewer}
 use Rattle.bbm_place_map.proofs.Pages.{lose_marks, lose_pends}
 use Rattle.bbm_place_map.proofs.Parts.{at_maybe, at_part, cell_here, none_marks, none_pends}
 use Rattle.bbm_place_map.proofs.Places.{index_inside, index_none}
+use Rattle.bbm_place_map.proofs.Positions.{linked_seated, placed_seated}
+use Rattle.bbm_place_map.proofs.Common.{position_at}
 
 -- cells and entries of a map can be edited
 pub able : (map : PlaceMap) → FewLinked map.cells map.broken
@@ -31,39 +34,60 @@ breakable map a i at = record {
 }
 
 -- A map hangs together with these values, cells and entries.
-pub record Fits (map : PlaceMap) (values cells : Vec ℕ Global) (broken : Vec Entry Global) : Type 0 where
-  pub numbered : Numbered (get nat_eq map.pages) (vec_len values)
-  pub parted : Parted (get nat_eq map.pages) map.parts.items (vec_len values) (vec_len cells)
-  pub linked : Linked cells.items broken.items
-  pub placed : Placed (starts (get nat_eq map.pages) map.parts.items) broken.items
-  pub space : vec_len values ≤ vec_capacity cells
-  pub room : vec_len values ≤ vec_capacity broken
-  pub fewer : vec_len cells ≤ vec_len values
-  pub few : vec_len values < 2 ^ 32
-  pub listed : Listed map.work cells.items broken.items
+abbrev pub Fits : PlaceMap → Vec ℕ Global → Vec ℕ Global → Vec Entry Global → Work → Type 0
+Fits map values cells broken work = record {
+  numbered : Numbered (get nat_eq map.pages) (vec_len values);
+  parted : Parted (get nat_eq map.pages) map.parts.items (vec_len values) (vec_len cells);
+  linked : Linked cells.items broken.items;
+  placed : Placed (starts (get nat_eq map.pages) map.parts.items) broken.items;
+  space : vec_len values ≤ vec_capacity cells;
+  room : vec_len values ≤ vec_capacity broken;
+  fewer : vec_len cells ≤ vec_len values;
+  few : vec_len values < 2 ^ 32;
+  listed : Listed work cells.items broken.items;
+}
 
--- so it does with as many values, and with cells of which some were cleared
-pub fits_cleared : (map : PlaceMap) (values cells : Vec ℕ Global) (broken : Vec Entry Global) (these : ℕ → Bool)
-    → vec_len values ≡ vec_len map.values → Clears these map.cells cells map.broken broken → Fits map values cells broken
-fits_cleared map values cells broken these len e =
+-- so it does with as many values and cells, in as much room
+pub fits_with : (map : PlaceMap) (values cells : Vec ℕ Global) (broken : Vec Entry Global) (work : Work)
+    → vec_len values ≡ vec_len map.values → vec_len cells ≡ vec_len map.cells → vec_capacity cells ≡ vec_capacity map.cells
+    → vec_capacity broken ≡ vec_capacity map.broken → Linked cells.items broken.items
+    → Placed (starts (get nat_eq map.pages) map.parts.items) broken.items → Listed work cells.items broken.items
+    → Fits map values cells broken work
+fits_with map values cells broken work many len space room linked placed listed =
     let N : ℕ → Type 0 = Numbered (get nat_eq map.pages) in
     let P : ℕ → Type 0 = λ n. Parted (get nat_eq map.pages) map.parts.items n (vec_len map.cells) in
     let Q : ℕ → Type 0 = Parted (get nat_eq map.pages) map.parts.items (vec_len values) in
     record {
-      numbered = subst N (sym len) map.numbered;
-      parted = subst Q (sym e.sound.len) (subst P (sym len) map.parted);
-      linked = e.sound.linked;
-      placed = e.sound.placed (starts (get nat_eq map.pages) map.parts.items) map.placed;
-      space = omega (arith, len, e.sound.space, map.space);
-      room = omega (arith, len, e.sound.room, map.room);
-      fewer = omega (arith, len, e.sound.len, map.fewer);
-      few = omega (arith, len, map.few);
-      listed =
-          listed_fewer map.work map.work map.cells.items cells.items map.broken.items broken.items refl refl
-          (λ wide q j holds. holds) (λ wide q j holds. holds)
-          (λ j. gone_or_same (these j) (entry_in map.cells.items map.broken.items j) (entry_in cells.items broken.items j) (e.entries j))
-          map.listed;
+      numbered = subst N (sym many) map.numbered;
+      parted = subst Q (sym len) (subst P (sym many) map.parted);
+      linked = linked;
+      placed = placed;
+      space = omega (arith, many, space, map.space);
+      room = omega (arith, many, room, map.room);
+      fewer = omega (arith, many, len, map.fewer);
+      few = omega (arith, many, map.few);
+      listed = listed;
     }
+
+-- and with cells of which some were cleared
+pub fits_cleared : (map : PlaceMap) (values cells : Vec ℕ Global) (broken : Vec Entry Global) (these : ℕ → Bool)
+    → vec_len values ≡ vec_len map.values → Clears these map.cells cells map.broken broken → Fits map values cells broken map.work
+fits_cleared map values cells broken these many e =
+    fits_with map values cells broken map.work many e.sound.len e.sound.space e.sound.room e.sound.linked
+    (e.sound.placed (starts (get nat_eq map.pages) map.parts.items) map.placed)
+    (listed_fewer map.work map.work map.cells.items cells.items map.broken.items broken.items refl refl
+    (λ wide q j holds. holds) (λ wide q j holds. holds)
+    (λ j. gone_or_same (these j) (entry_in map.cells.items map.broken.items j) (entry_in cells.items broken.items j) (e.entries j))
+    map.listed)
+
+-- and with entries that changed, each in its place
+pub fits_seated : (map : PlaceMap) (broken : Vec Entry Global) (work : Work)
+    → ((m : ℕ) → position_at broken.items m ≡ position_at map.broken.items m) → SameSize map.broken broken
+    → Listed work map.cells.items broken.items → Fits map map.values map.cells broken work
+fits_seated map broken work positions size listed =
+    fits_with map map.values map.cells broken work refl refl refl size.room
+    (linked_seated map.broken.items broken.items positions map.cells.items size.len map.linked)
+    (placed_seated map.broken.items broken.items positions (starts (get nat_eq map.pages) map.parts.items) map.placed) listed
 
 -- What is then at each place: nothing at those that a test holds of, and what was there elsewhere.
 pub record AtPlaces (gone : ℕ → Bool) (map : PlaceMap) (cells : List ℕ) (broken : List Entry) : Type 0 where

@@ -8,9 +8,8 @@ use Rattle.std.proofs.lemmas.List.Folds.{sum_by-replicate}
 use Rattle.std.proofs.lemmas.List.Sums.{sum_by-append}
 
 zeros : (n i : ℕ) → value_in (replicate n 0) i ≡ 0
-zeros zero i = refl
-zeros (suc n) zero = refl
 zeros (suc n) (suc i) = zeros n i
+zeros _ _ = refl
 
 -- the values stay, and there are as many listed cells
 pub values_filled : (xs : List ℕ) (n i : ℕ) → value_in (xs ++ replicate n 0) i ≡ value_in xs i

@@ -12,19 +12,12 @@ no_pe p = ap (λ (n : ℕ). n == 1) (bit_at-zero p)
 
 pub nothing_waits : (b : Bool) (c : Cover) (p : ℕ) → waits no_pends b c p ≡ false
 nothing_waits true NoCover p = refl
-nothing_waits true Half p = no_pe p
-nothing_waits true Second p = no_pe p
-nothing_waits true Full p = no_pe p
 nothing_waits false NoCover p = refl
-nothing_waits false Half p = no_pe p
-nothing_waits false Second p = no_pe p
-nothing_waits false Full p = no_pe p
+nothing_waits _ _ p = no_pe p
 
 pub no_pe_waits : (c : Cover) (p : ℕ) → waits_in no_pend c p ≡ false
 no_pe_waits NoCover p = refl
-no_pe_waits Half p = no_pe p
-no_pe_waits Second p = no_pe p
-no_pe_waits Full p = no_pe p
+no_pe_waits _ p = no_pe p
 
 pub idle_from : (x : Pends) → x ≡ no_pends → IsIdle x
 idle_from x is b c p = ap (λ (y : Pends). waits y b c p) is ∙ nothing_waits b c p

@@ -35,7 +35,7 @@ module _ (base : ℕ → Option ℕ) (cells : List ℕ) (entries mid new : List 
   step m e c (Some f) (Some g) h h' is =
       noted_alike f.marks e.marks (pends_in f.pends.items by.issuer) (pends_in e.pends.items by.issuer) (pends_in g.pends.items by.issuer)
       (pends_in g.pends.items by.issuer) by.reach by.broadcast c h.1.0
-      (λ b c' p. ap (λ (ps : List Pending). waits (pends_in ps by.issuer) b c' p) h.1.1) refl (h'.1.2 c is)
+      (λ b c' p. ap (λ (ps : List Pending). waits (pends_in ps by.issuer) b c' p) h.1.1) refl (h'.1.2 c is).2
 
   at_place : (i : ℕ) (e : Entry) (c : Cover) → slice_get entries i ≡ Some e → slice_get covers i ≡ Some c
       → Noted (state_from None (at_index None (marks_in cells entries) (index_of base e.place)))
@@ -103,12 +103,11 @@ module _ (base : ℕ → Option ℕ) (cells : List ℕ) (entries mid new : List 
   unmoved : (m : ℕ) (c : Cover) (o p r : Option Entry) → Advances Keeps o p → Advances (NotesAt covers by m) p r
       → slice_get covers m ≡ Some c → is_cover c ≡ false → pends_of by.issuer r ≡ pends_of by.issuer o
   unmoved m c None None None h h' is none = refl
-  unmoved m c None None (Some g) h h' is none = absurd h'
   unmoved m c None (Some f) r h h' is none = absurd h
   unmoved m c (Some e) None r h h' is none = absurd h
-  unmoved m c (Some e) (Some f) None h h' is none = absurd h'
   unmoved m c (Some e) (Some f) (Some g) h h' is none =
-      ap (λ (ps : List Pending). pends_in ps by.issuer) (h'.1.3 c is none) ∙ ap (λ (ps : List Pending). pends_in ps by.issuer) h.1.1
+      ap (λ (ps : List Pending). pends_in ps by.issuer) ((h'.1.2 c is).3 none) ∙ ap (λ (ps : List Pending). pends_in ps by.issuer) h.1.1
+  unmoved m c _ _ _ h h' is none = absurd h'
 
   module _ (count : ℕ) (numbered : Numbered base count) (covered : ℕ → Cover)
       (each : (m : ℕ) (e : Entry) (c : Cover) → slice_get entries m ≡ Some e → slice_get covers m ≡ Some c → c ≡ covered e.place) where

@@ -91,8 +91,6 @@ module _ (cells : List ℕ) (entries : List Entry) (linked : Linked cells entrie
   told_at : (wide : Bool) (n q j : ℕ) → ((k : ℕ) (e : Entry) → slice_get entries k ≡ Some e → P e.cell ⊎ IsTold wide n q e.marks)
       → (s : Option ℕ) → slot_in cells j ≡ s → (o : Option Entry) → entry_of entries s ≡ o → (marks : Marks) → marks_of o ≡ Some marks
       → P j ⊎ IsTold wide n q marks
-  told_at wide n q j known s at None was marks is = cc
-  told_at wide n q j known None at (Some e) was marks is = cc
   told_at wide n q j known (Some k) at (Some e) was marks is =
       let cell : e.cell ≡ j = same_Some e.cell j (sym (ap (option_map (λ (x : Entry). x.cell)) was) ∙ linked.forth j k at) in
       let Q : Marks → Type 0 = λ m. P j ⊎ IsTold wide n q m in
@@ -101,6 +99,7 @@ module _ (cells : List ℕ) (entries : List Entry) (linked : Linked cells entrie
         | inl holds ↦ inl (subst P cell holds)
         | inr told ↦ inr told
       ])
+  told_at wide n q j known _ at _ was marks is = cc
 
   pub told_by_cell : (wide : Bool) (n q : ℕ)
       → ((k : ℕ) (e : Entry) → slice_get entries k ≡ Some e → P e.cell ⊎ IsTold wide n q e.marks)

@@ -242,17 +242,15 @@ listed_fresh w w' cells cells' entries entries' j pe marks pes none writers clea
 -- a DSB publishes
 pends_same : (by : Barrier) (q : ℕ) (o p : Option Entry) → Advances (Publishes by) o p → pends_of q p ≡ pends_of q o
 pends_same by q None None h = refl
-pends_same by q None (Some f) h = absurd h
-pends_same by q (Some e) None h = absurd h
 pends_same by q (Some e) (Some f) h = ap (λ (v : SmallVec Pending). pends_in v.items q) h.1.0
+pends_same by q _ _ h = absurd h
 
 clean_same : (by : Barrier) (m : ℕ) (o p : Option Entry) → Advances (Publishes by) o p
     → ((marks : Marks) → marks_of o ≡ Some marks → is_clean m marks ≡ false) → (marks : Marks) → marks_of p ≡ Some marks → is_clean m marks ≡ false
 clean_same by m None None h known marks is = known marks is
-clean_same by m None (Some f) h known marks is = absurd h
-clean_same by m (Some e) None h known marks is = absurd h
 clean_same by m (Some e) (Some f) h known marks is =
     ap (is_clean m) (sym (same_Some f.marks marks is)) ∙ ap (every_pe m) (fun_ext h.1.1.clean) ∙ known e.marks refl
+clean_same by m _ _ h known marks is = absurd h
 
 module _ (w w' : Work) (by : Barrier) (cells : List ℕ) (entries entries' : List Entry)
     (number : w.pes ≡ by.n) (pes : w'.pes ≡ w.pes) (settled : w'.settled ≡ w.settled) (waiting : w'.waiting.items ≡ w.waiting.items)
@@ -346,16 +344,14 @@ module _ (w w' : Work) (by : Barrier) (cells cells' : List ℕ) (entries entries
 -- a TLBI is noted
 noted_marks : (R : Entry → Entry → Type 0) → ((e f : Entry) → R e f → f.marks ≡ e.marks) → (o p : Option Entry) → Advances R o p → marks_of p ≡ marks_of o
 noted_marks R same None None h = refl
-noted_marks R same None (Some f) h = absurd h
-noted_marks R same (Some e) None h = absurd h
 noted_marks R same (Some e) (Some f) h = ap (λ (m : Marks). Some m) (same e f h.1)
+noted_marks R same _ _ h = absurd h
 
 noted_pends : (R : Entry → Entry → Type 0) (q : ℕ) → ((e f : Entry) → R e f → pends_in f.pends.items q ≡ pends_in e.pends.items q) → (o p : Option Entry)
     → Advances R o p → pends_of q p ≡ pends_of q o
 noted_pends R q same None None h = refl
-noted_pends R q same None (Some f) h = absurd h
-noted_pends R q same (Some e) None h = absurd h
 noted_pends R q same (Some e) (Some f) h = same e f h.1
+noted_pends R q same _ _ h = absurd h
 
 module _ (w w' : Work) (cells : List ℕ) (entries entries' : List Entry) (pes : w'.pes ≡ w.pes) (settled : w'.settled ≡ w.settled)
     (unpublished : w'.unpublished.items ≡ w.unpublished.items)
@@ -417,8 +413,6 @@ module _ (cells : List ℕ) (entries mid : List Entry) (kept : (k : ℕ) → Adv
         → Advances (Waits w'.waiting.items by.issuer) o p
         → HoldsFor w'.waiting.items by.issuer wide j ⊎ (IsQuiet wide (pends_of by.issuer o) → IsQuiet wide (pends_of by.issuer p))
     waits_at wide j s at None None was now h = inr (λ quiet. quiet)
-    waits_at wide j s at None (Some f) was now h = absurd h
-    waits_at wide j s at (Some e) None was now h = absurd h
     waits_at wide j None at (Some e) (Some f) was now h = cc
     waits_at wide j (Some k) at (Some e) (Some f) was now h =
         let cell : e.cell ≡ j = same_Some e.cell j (sym (ap (option_map (λ (x : Entry). x.cell)) was) ∙ linked.forth j k at) in
@@ -426,6 +420,7 @@ module _ (cells : List ℕ) (entries mid : List Entry) (kept : (k : ℕ) → Adv
           | inl holds ↦ inl (subst (λ (x : ℕ). HoldsFor w'.waiting.items by.issuer wide x) cell holds)
           | inr still ↦ inr still
         ]
+    waits_at wide j s at _ _ was now h = absurd h
 
     waits_then : (wide : Bool) (q j : ℕ)
         → HoldsFor w'.waiting.items q wide j ⊎ (IsQuiet wide (pends_for cells mid q j) → IsQuiet wide (pends_for cells new q j))

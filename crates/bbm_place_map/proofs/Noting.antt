@@ -20,9 +20,7 @@ noted_alike marks marks' r r' after after' reach broadcast cover is alike same n
 
 none_counts : (marks : Marks) (c : Cover) (p : ℕ) → (same_cover c NoCover && counts_at (Broken marks) c p) ≡ false
 none_counts marks NoCover p = refl
-none_counts marks Half p = refl
-none_counts marks Second p = refl
-none_counts marks Full p = refl
+none_counts marks _ p = refl
 
 nothing : (x y w : Bool) → w ≡ ((x && (y && false)) || w)
 nothing = proved 3 (λ x y w. Is w ((x && (y && false)) || w)) refl
@@ -38,10 +36,7 @@ pub notes_at : (covers : List Cover) (k : ℕ) (cover : Cover) (by : Issuing) (e
 notes_at covers k cover by e f is notes = (
   notes.0,
   notes.1,
-  λ c at.
-      let P : Cover → Type 0 = λ x. Noted (Broken e.marks) (pends_in e.pends.items by.issuer) by.reach by.broadcast x (pends_in f.pends.items by.issuer) in
-      subst P (same_Some cover c (sym is ∙ at)) notes.2,
-  λ c at none. notes.3 (ap is_cover (same_Some cover c (sym is ∙ at)) ∙ none),
+  λ c at. subst (λ (x : Cover). NotesAs x by e f) (same_Some cover c (sym is ∙ at)) notes,
 )
 
 pub waits_kept : (lists lists' : List WorkList) (issuer : ℕ)
@@ -61,16 +56,13 @@ local_noted marks r after reach cover noted quiet false c p is = noted false c p
 -- a TLBI leaves quiet what was so, if it isn't the first to wait there, or of those that aren't broadcast the first such
 pub quiet_noted : (marks : Marks) (r after : Pends) (reach : PeMask) (broadcast : Bool) (cover : Cover) → (IsQuiet broadcast r → ⊥)
     → Noted (Broken marks) r reach broadcast cover after → (wide : Bool) → IsQuiet wide r → IsQuiet wide after
-quiet_noted marks r after reach true cover some noted true quiet = absurd (some quiet)
 quiet_noted marks r after reach true cover some noted false quiet = local_noted marks r after reach cover noted quiet
 quiet_noted marks r after reach false cover some noted true quiet = absurd (some (λ b c p _. quiet b c p refl))
-quiet_noted marks r after reach false cover some noted false quiet = absurd (some quiet)
+quiet_noted marks r after reach _ cover some noted _ quiet = absurd (some quiet)
 
 pub uncovered : (cover : Cover) → is_cover cover ≡ false → cover ≡ NoCover
 uncovered NoCover none = refl
-uncovered Half none = cc
-uncovered Second none = cc
-uncovered Full none = cc
+uncovered _ none = cc
 
 -- an entry that isn't covered stays
 pub not_noted : (cover : Cover) (by : Issuing) (e : Entry) → is_cover cover ≡ false

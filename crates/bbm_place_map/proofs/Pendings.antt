@@ -126,12 +126,11 @@ pub noted_in : (old new : List Pending) (q : ℕ) (marks : Marks) (reach : PeMas
     → Adds marks reach cover (pend_in old (lane_of q broadcast)) (pend_in new (lane_of q broadcast))
     → ((m : ℕ) → m ≢ lane_of q broadcast → pend_in new m ≡ pend_in old m)
     → Noted (Broken marks) (pends_in old q) reach broadcast cover (pends_in new q)
-noted_in old new q marks reach true cover there others true c p = there c p
 noted_in old new q marks reach true cover there others false c p =
     ap (λ (x : Pend). waits_in x c p) (others (lane_of q false) (λ same. sides_apart q (sym same)))
 noted_in old new q marks reach false cover there others true c p =
     ap (λ (x : Pend). waits_in x c p) (others (lane_of q true) (sides_apart q))
-noted_in old new q marks reach false cover there others false c p = there c p
+noted_in old new q marks reach _ cover there others _ c p = there c p
 
 -- the answered ones are taken out of both lanes of an issuer
 module _ (old mid new : List Pending) (q : ℕ) (dsb : Dsb) (all own both : Pend)
@@ -171,10 +170,7 @@ pub adds_none : (marks : Marks) (reach : PeMask) (cover : Cover) (pend : Pend)
     → ((p : ℕ) → ((pe_in reach p && counts_for marks cover p) && not (waits_in pend cover p)) ≡ false)
     → Adds marks reach cover pend pend
 adds_none marks reach cover pend none NoCover p = none_by (pe_in reach p) (same_cover NoCover cover)
-adds_none marks reach NoCover pend none Half p = passed_by (pe_in reach p) (pe_in marks.seen p) (pe_in pend.half p)
 adds_none marks reach Half pend none Half p = kept_by (pe_in reach p) (pe_in marks.seen p) (pe_in pend.half p) (none p)
-adds_none marks reach Second pend none Half p = passed_by (pe_in reach p) (pe_in marks.seen p) (pe_in pend.half p)
-adds_none marks reach Full pend none Half p = passed_by (pe_in reach p) (pe_in marks.seen p) (pe_in pend.half p)
 adds_none marks reach NoCover pend none Second p = passed_by (pe_in reach p) (pe_in marks.half p) (pe_in pend.second p)
 adds_none marks reach Half pend none Second p = passed_by (pe_in reach p) (pe_in marks.half p) (pe_in pend.second p)
 adds_none marks reach Second pend none Second p =
@@ -184,3 +180,4 @@ adds_none marks reach NoCover pend none Full p = passed_by (pe_in reach p) (pe_i
 adds_none marks reach Half pend none Full p = passed_by (pe_in reach p) (pe_in marks.seen p) (pe_in pend.full p)
 adds_none marks reach Second pend none Full p = passed_by (pe_in reach p) (pe_in marks.seen p) (pe_in pend.full p)
 adds_none marks reach Full pend none Full p = kept_by (pe_in reach p) (pe_in marks.seen p) (pe_in pend.full p) (none p)
+adds_none marks reach _ pend none Half p = passed_by (pe_in reach p) (pe_in marks.seen p) (pe_in pend.half p)

@@ -15,8 +15,7 @@ pub record Found (base : ℕ → Option ℕ) (a j : ℕ) : Type 0 where
 found_at : (base : ℕ → Option ℕ) (a j : ℕ) (t : Bool) (o : Option ℕ) → (a % 8 == 0) ≡ t → base (a / 4096 * 4096) ≡ o
     → (if t then option_map (λ b. b + a % 4096 / 8) o else None) ≡ Some j → Found base a j
 found_at base a j true (Some b) is at h = record { aligned = eqb-true (a % 8) 0 is; start = b; is = at; sum = same_Some (b + a % 4096 / 8) j h }
-found_at base a j true None is at h = absurd (none-some j h)
-found_at base a j false o is at h = absurd (none-some j h)
+found_at base a j _ _ is at h = absurd (none-some j h)
 
 pub found : (base : ℕ → Option ℕ) (a j : ℕ) → index_of base a ≡ Some j → Found base a j
 found base a j h = found_at base a j (a % 8 == 0) (base (a / 4096 * 4096)) refl refl h

@@ -30,15 +30,13 @@ module _ (by : Barrier) where
   of_entry : (live : Option Core) (o p : Option Entry) → Advances (Publishes by) o p
       → Published (state_from live (marks_of o)) by.issuer by.dsb by.n (state_from live (marks_of p))
   of_entry live None None h = whole live
-  of_entry live None (Some f) h = absurd h
-  of_entry live (Some e) None h = absurd h
   of_entry live (Some e) (Some f) h = h.1.1
+  of_entry live _ _ h = absurd h
 
   same_pends : (q : ℕ) (o p : Option Entry) → Advances (Publishes by) o p → pends_of q p ≡ pends_of q o
   same_pends q None None h = refl
-  same_pends q None (Some f) h = absurd h
-  same_pends q (Some e) None h = absurd h
   same_pends q (Some e) (Some f) h = ap (λ (v : SmallVec Pending). pends_in v.items q) h.1.0
+  same_pends q _ _ h = absurd h
 
   module _ (cells : List ℕ) (old new : List Entry)
       (each : (k : ℕ) → Advances (Publishes by) (slice_get old k) (slice_get new k)) where

@@ -65,11 +65,10 @@ module _ (by : Barrier) where
 
   heard_from : (o p : Option Entry) (f : Entry) → Advances (Publishes by) o p → p ≡ Some f → IsHeard by f.marks
   heard_from None None f h is = absurd (none-some f is)
-  heard_from None (Some g) f h is = absurd h
-  heard_from (Some e) None f h is = absurd h
   heard_from (Some e) (Some g) f h is =
       let P : Entry → Type 0 = λ x. IsHeard by x.marks in
       subst P (same_Some g f is) (heard_after by e g h.1)
+  heard_from _ _ f h is = absurd h
 
   -- a DSB leaves nothing that it would publish
   pub all_heard : (start new : List Entry) → ((k : ℕ) → Advances (Publishes by) (slice_get start k) (slice_get new k))
@@ -80,8 +79,6 @@ module _ (by : Barrier) where
       → ((e : Entry) → o ≡ Some e → P e.cell ⊎ IsTold wide by.n q e.marks)
       → Advances (Publishes by) o p → p ≡ Some f → P f.cell ⊎ IsTold wide by.n q f.marks
   kept_from wide q P None None f known h is = absurd (none-some f is)
-  kept_from wide q P None (Some g) f known h is = absurd h
-  kept_from wide q P (Some e) None f known h is = absurd h
   kept_from wide q P (Some e) (Some g) f known h is =
       let Q : Entry → Type 0 = λ x. P x.cell ⊎ IsTold wide by.n q x.marks in
       subst Q (same_Some g f is)
@@ -89,6 +86,7 @@ module _ (by : Barrier) where
         | inl holds ↦ inl (subst P (sym (ap (λ (s : ℕ × ℕ). s.1) h.0)) holds)
         | inr told ↦ inr (told_kept by wide q e g h.1 told)
       ])
+  kept_from wide q P _ _ f known h is = absurd h
 
   -- of any PE, what a list has or is told stays so
   pub known_kept : (wide : Bool) (q : ℕ) (P : ℕ → Type 0) (start new : List Entry)

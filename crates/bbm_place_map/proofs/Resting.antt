@@ -32,14 +32,12 @@ waits_on : (a w : Bool) → (a && w) ≡ false → w ≡ (not a && w)
 waits_on = proved 2 (λ a w. If (Is (a && w) false) (Is w (not a && w))) refl
 
 has_both : (c : Answers) → has_broadcast c ≡ true → has_local c ≡ true
-has_both EveryTlbi h = refl
-has_both LocalTlbis h = refl
 has_both NoTlbi h = h
+has_both _ h = refl
 
 has_none : (c : Answers) → has_local c ≡ false → has_broadcast c ≡ false
 has_none EveryTlbi h = h
-has_none LocalTlbis h = refl
-has_none NoTlbi h = refl
+has_none _ h = refl
 
 -- a DSB that completes the TLBIs that are broadcast completes the others, too
 answers_both : (dsb : Dsb) → answers_broadcast dsb ≡ true → answers_local dsb ≡ true

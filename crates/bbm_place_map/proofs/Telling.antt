@@ -22,12 +22,10 @@ pub publishes_within : (dsb : Dsb) (issuer n p : ℕ) → issuer < n → publish
 publishes_within dsb issuer n p below h = hears_within (audience dsb.domain dsb.types) issuer n p below h
 
 reach_in : (d : Domain) (t : Types) (issuer n p : ℕ) → hears (audience d t) issuer n p ≡ true → (not (is_non d) || nat_eq p issuer) ≡ true
-reach_in Full t issuer n p h = refl
-reach_in Inner t issuer n p h = refl
-reach_in Outer t issuer n p h = refl
 reach_in Non All issuer n p h = h
 reach_in Non Stores issuer n p h = h
 reach_in Non Loads issuer n p h = absurd (false≢true h)
+reach_in _ t issuer n p h = refl
 
 reach_by : (dsb : Dsb) (issuer n p : ℕ) → publishes dsb issuer n p ≡ true → (not (is_non dsb.domain) || nat_eq p issuer) ≡ true
 reach_by dsb issuer n p h = reach_in dsb.domain dsb.types issuer n p h
@@ -65,10 +63,9 @@ module _ (by : Barrier) where
   again_both : (o p r : Option Entry) → Advances (Publishes by) o p → Advances (Publishes by) p r
       → Advances (Publishes by) o r
   again_both None None r h h' = h'
-  again_both None (Some f) r h h' = absurd h
-  again_both (Some e) None r h h' = absurd h
   again_both (Some e) (Some f) None h h' = absurd h'
   again_both (Some e) (Some f) (Some g) h h' = (h'.0 ∙ h.0, again_entry e f g h.1 h'.1)
+  again_both _ _ r h h' = absurd h
 
   -- a DSB that publishes or_self_left publishes the same once
   pub again : (o p r : Option Entry) → MayPublish by o p → Advances (Publishes by) p r

@@ -61,11 +61,10 @@ module _ (S : Entry → Entry → Type 0) (entries new : List Entry) (k : ℕ) (
 pub advance_then : (A B C : Entry → Entry → Type 0) → ((e f g : Entry) → position f ≡ position e → A e f → B f g → C e g) → (o p r : Option Entry)
     → Advances A o p → Advances B p r → Advances C o r
 advance_then A B C by None None None h h' = tt
-advance_then A B C by None None (Some g) h h' = absurd h'
 advance_then A B C by None (Some f) r h h' = absurd h
 advance_then A B C by (Some e) None r h h' = absurd h
-advance_then A B C by (Some e) (Some f) None h h' = absurd h'
 advance_then A B C by (Some e) (Some f) (Some g) h h' = (h'.0 ∙ h.0, by e f g h.0 h.1 h'.1)
+advance_then A B C by _ _ _ h h' = absurd h'
 
 -- one more item
 module _ (xs : List Found) (x : Found) (by : Issuing) (lists lists' : List WorkList)
@@ -149,9 +148,8 @@ module _ (xs : List Found) (entries : List Entry) where
     notes_in : (m : ℕ) (o p : Option Entry) → slice_get entries m ≡ o → Advances (NotesFound xs by lists) o p
         → Advances (NotesAt covers_of by m) o p
     notes_in m None None at h = tt
-    notes_in m None (Some f) at h = absurd h
-    notes_in m (Some e) None at h = absurd h
     notes_in m (Some e) (Some f) at h = (h.0, notes_at covers_of m (cover_in xs e.place) by e f (cover_got m e at) h.1.0)
+    notes_in m _ _ at h = absurd h
 
     pub notes_each : (m : ℕ) → Advances (NotesAt covers_of by m) (slice_get entries m) (slice_get new m)
     notes_each m = notes_in m (slice_get entries m) (slice_get new m) refl (each m)

@@ -58,9 +58,7 @@ NotesAs cover by e f =
 abbrev pub NotesAt : List Cover → Issuing → ℕ → Entry → Entry → Type 0
 NotesAt covers by m e f =
     (f.marks ≡ e.marks) × ((q : ℕ) → q ≢ by.issuer → pends_in f.pends.items q ≡ pends_in e.pends.items q)
-    × ((c : Cover) → slice_get covers m ≡ Some c
-    → Noted (Broken e.marks) (pends_in e.pends.items by.issuer) by.reach by.broadcast c (pends_in f.pends.items by.issuer))
-    × ((c : Cover) → slice_get covers m ≡ Some c → is_cover c ≡ false → f.pends.items ≡ e.pends.items)
+    × ((c : Cover) → slice_get covers m ≡ Some c → NotesAs c by e f)
 
 -- the TLBI is noted at one place, and no other entry changes
 abbrev pub NotesOne : ℕ → Cover → Issuing → List WorkList → Entry → Entry → Type 0

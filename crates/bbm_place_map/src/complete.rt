@@ -27,10 +27,7 @@ use bbm_regimes::Pe;
 fn is_table(core: Core) -> bool
     ensures { result ≡ spec_is_table core }
 {
-    match core {
-        Core::Table { .. } => true,
-        Core::Leaf { .. } => false,
-    }
+    matches!(core, Core::Table { .. })
 }
 
 /// A DSB of the issuer answered its TLBIs at one entry, which stays for now. Whether its place is cleansed at every PE.

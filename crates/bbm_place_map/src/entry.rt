@@ -144,21 +144,15 @@ fn grow(pendings: &mut SmallVec<Pending, 1>) -> Result<(), NoMemory>
     ensures items { pendings.new.items ≡ pendings.old.items }
     ensures room { OnOk result (HasRoomFor pendings.new 1) }
 {
-    match pendings.reserve(1) {
-        Ok(()) => Ok(()),
-        Err(_) => Err(NoMemory),
-    }
+    pendings.reserve(1).map_err(|_| NoMemory)
 }
 
 /// Whether what waits for the answers of a lane is kept first.
 #[inline(always)]
 fn is_first(pendings: &[Pending], lane: Lane) -> bool
-    ensures { result ≡ true → IsFirst pendings.now 0 lane }
+    ensures { IsTrue result ↔ IsFirst pendings.now 0 lane }
 {
-    if pendings.is_empty() {
-        return false;
-    }
-    pendings[0].lane == lane
+    !pendings.is_empty() && pendings[0].lane == lane
 }
 
 /// Whether there is room for what waits for the answers of a lane; false says nothing.

@@ -56,12 +56,7 @@ fn entry_of(kept: &Kept, broken: &[Entry], place: Place, hint: u32) -> Option<u3
 fn is_cover(cover: Cover) -> bool
     ensures { result ≡ spec_is_cover cover }
 {
-    match cover {
-        Cover::None => false,
-        Cover::Half => true,
-        Cover::Second => true,
-        Cover::Full => true,
-    }
+    !matches!(cover, Cover::None)
 }
 
 /// Makes room at an entry for what waits for the answers of a lane. `NoMemory` where there is none.

@@ -92,10 +92,7 @@ impl PlaceMap {
         ensures tracked { is_tracked self.now (page_of place) ≡ true → IsSome result }
     {
         let _ = place.get();
-        match self.pages.get_near(place.page(), hint) {
-            Some(base) => Some(*base + place.index() as usize),
-            None => None,
-        }
+        Some(*self.pages.get_near(place.page(), hint)? + place.index() as usize)
     }
 
     /// The number of the place's value, looked up at once, as most places that are asked for are in another page than
@@ -106,10 +103,7 @@ impl PlaceMap {
         ensures tracked { is_tracked self.now (page_of place) ≡ true → IsSome result }
     {
         let _ = place.get();
-        match self.pages.get(place.page()) {
-            Some(base) => Some(*base + place.index() as usize),
-            None => None,
-        }
+        Some(*self.pages.get(place.page())? + place.index() as usize)
     }
 
     /// The entry of the place of the value with this number; None where the place isn't broken.

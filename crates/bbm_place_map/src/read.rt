@@ -42,10 +42,7 @@ fn number(cell: u32) -> Option<u32>
 pub fn slot_of(cells: &[u32], j: usize) -> Option<u32>
     ensures { result ≡ slot_in cells.now j }
 {
-    match cells.get(j) {
-        Some(cell) => number(*cell),
-        None => None,
-    }
+    number(*cells.get(j)?)
 }
 
 /// The number of the cell of the value with this number; None where no place of its page was broken yet.
@@ -54,10 +51,7 @@ pub fn cell(parts: &[u32], j: usize) -> Option<usize>
     requires { j / VALUES < length parts.now }
     ensures { result ≡ cell_by parts.now j }
 {
-    match number(parts[j / VALUES]) {
-        Some(start) => Some(start as usize + j % VALUES),
-        None => None,
-    }
+    Some(number(parts[j / VALUES])? as usize + j % VALUES)
 }
 
 /// The number of a place's entry; None where the place isn't broken.
@@ -65,13 +59,9 @@ pub fn entry_at(pages: &PageMap<usize>, parts: &[u32], cells: &[u32], place: Pla
     ensures { result ≡ slot_at (starts (get nat_eq pages.now) parts.now) cells.now place }
 {
     let _ = place.get();
-    match pages.get(place.page()).copied() {
-        Some(base) => match slot_of(parts, base / VALUES) {
-            Some(start) => slot_of(cells, start as usize + place.index() as usize),
-            None => None,
-        },
-        None => None,
-    }
+    let base = pages.get(place.page()).copied()?;
+    let start = slot_of(parts, base / VALUES)?;
+    slot_of(cells, start as usize + place.index() as usize)
 }
 
 /// The number of the entry of the place of a value; None where the place isn't broken.
@@ -80,10 +70,7 @@ pub fn entry_number(parts: &[u32], cells: &[u32], j: usize) -> Option<u32>
     requires { j / VALUES < length parts.now }
     ensures { result ≡ option_and_then (slot_in cells.now) (cell_by parts.now j) }
 {
-    match cell(parts, j) {
-        Some(i) => slot_of(cells, i),
-        None => None,
-    }
+    slot_of(cells, cell(parts, j)?)
 }
 
 /// The entry of a cell; None where it has none.
@@ -104,10 +91,7 @@ pub fn entry<'a>(parts: &[u32], cells: &[u32], broken: &'a [Entry], j: usize) ->
     requires { HasValue j parts.now cells.now broken.now }
     ensures { option_copied result ≡ entry_by parts.now cells.now broken.now j }
 {
-    match cell(parts, j) {
-        Some(i) => entry_of(cells, broken, i),
-        None => None,
-    }
+    entry_of(cells, broken, cell(parts, j)?)
 }
 
 /// The marks of a cell's place; None where it isn't broken.
@@ -115,10 +99,7 @@ pub fn marks(cells: &[u32], broken: &[Entry], i: usize) -> Option<Marks>
     requires { Linked cells.now broken.now }
     ensures { result ≡ marks_of (entry_in cells.now broken.now i) }
 {
-    match entry_of(cells, broken, i) {
-        Some(entry) => Some(entry.marks),
-        None => None,
-    }
+    Some(entry_of(cells, broken, i)?.marks)
 }
 
 /// Whether these values are all 0.

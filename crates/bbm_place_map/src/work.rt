@@ -280,11 +280,7 @@ pub fn begin(work: &mut Work, n: u8, broken: usize)
     ensures kept { (work.new ≡ work.old) ⊎ ((broken ≡ 0) ⊎ GivesUp work.new) }
 {
     if work.pes != n {
-        if broken == 0 {
-            renew(work, n, false);
-        } else {
-            renew(work, n, true);
-        }
+        renew(work, n, broken != 0);
     }
 }
 

@@ -26,18 +26,28 @@ above_part roles (suc level) (Hangs parent kind deep base first) = refl
 above_part roles (suc level) Gone = refl
 above_part roles (suc level) Null = refl
 
+-- a node depends on its page's role, and on the places above that alone
+pub node_above : (roles roles' : ℕ → Role) (heading : Heading) (page : ℕ) (role : Role)
+    → ((level : ℕ) → above_by roles' level role ≡ above_by roles level role)
+    → node_with roles' heading page role ≡ node_with roles heading page role
+node_above roles roles' heading page (Hangs parent kind level base first) above =
+    ap (λ (all : List Above). Some (record {
+      page = page;
+      kind = kind;
+      level = level;
+      root = first;
+      base = base;
+      above = all;
+    })) (above level)
+node_above roles roles' heading page _ above = refl
+
 module _ (roles roles' : ℕ → Role) (same : SameTrees roles roles') where
   above_inner : (level : ℕ) (role : Role) → above_by roles' level role ≡ above_by roles level role
-  above_inner zero role = refl
-  above_inner (suc level) Untracked = refl
-  above_inner (suc level) Fresh = refl
-  above_inner (suc level) (RootPage kind first part) = refl
   above_inner (suc level) (Hangs parent kind deep base first) =
       ap (λ (rest : List Above). record { place = parent; level = level } ∷ rest)
       (above_part roles' level (roles' (page_of parent)) ∙ ap (above_by roles' level) (same (page_of parent))
       ∙ sym (above_part roles' level (roles (page_of parent))) ∙ above_inner level (roles (page_of parent)))
-  above_inner (suc level) Gone = refl
-  above_inner (suc level) Null = refl
+  above_inner _ _ = refl
 
   module _ (heading : Heading) where
     node_part : (page : ℕ) (role : Role) → node_with roles' heading page role ≡ node_with roles' heading page (tree_part role)
@@ -48,53 +58,30 @@ module _ (roles roles' : ℕ → Role) (same : SameTrees roles roles') where
     node_part page Gone = refl
     node_part page Null = refl
 
-    node_inner : (page : ℕ) (role : Role) → node_with roles' heading page role ≡ node_with roles heading page role
-    node_inner page Untracked = refl
-    node_inner page Fresh = refl
-    node_inner page (RootPage kind first part) = refl
-    node_inner page (Hangs parent kind level base first) =
-        ap (λ (above : List Above). Some (record {
-          page = page;
-          kind = kind;
-          level = level;
-          root = first;
-          base = base;
-          above = above;
-        })) (above_inner level (Hangs parent kind level base first))
-    node_inner page Gone = refl
-    node_inner page Null = refl
-
     pub node_same : (page : ℕ) → node_by roles' heading page ≡ node_by roles heading page
     node_same page = node_part page (roles' page) ∙ ap (node_with roles' heading page) (same page)
-        ∙ sym (node_part page (roles page)) ∙ node_inner page (roles page)
+        ∙ sym (node_part page (roles page))
+        ∙ node_above roles roles' heading page (roles page) (λ level. above_inner level (roles page))
 
 -- only a hanging page has the part of one
 pub hangs_part : (role : Role) (parent level base first : ℕ) (kind : Kind) → tree_part role ≡ Hangs parent kind level base first
     → role ≡ Hangs parent kind level base first
-hangs_part Untracked parent level base first kind e = cc
-hangs_part Fresh parent level base first kind e = cc
 hangs_part (RootPage kind' first' part) parent level base first kind e = e
 hangs_part (Hangs p k l b f) parent level base first kind e = e
 hangs_part Gone parent level base first kind e = e
-hangs_part Null parent level base first kind e = cc
+hangs_part _ parent level base first kind e = cc
 
 -- a fresh page is in no tree
 pub fresh_part : (role : Role) → is_fresh_role role ≡ true → tree_part role ≡ Gone
-fresh_part Untracked e = refl
-fresh_part Fresh e = refl
 fresh_part (RootPage kind first part) e = cc
 fresh_part (Hangs parent kind level base first) e = cc
-fresh_part Gone e = refl
-fresh_part Null e = refl
+fresh_part _ e = refl
 
 pub out_part : (roles : ℕ → Role) (heading : Heading) (page : ℕ) (role : Role) → node_with roles heading page role ≡ None
     → tree_part role ≡ Gone
-out_part roles heading page Untracked e = refl
-out_part roles heading page Fresh e = refl
 out_part roles heading page (RootPage kind first part) e = cc
 out_part roles heading page (Hangs parent kind level base first) e = cc
-out_part roles heading page Gone e = refl
-out_part roles heading page Null e = refl
+out_part roles heading page _ e = refl
 
 -- a page that is in no tree gets another role that is in none
 pub put_trees : (roles roles' : ℕ → Role) (page : ℕ) (role : Role) → ((p : ℕ) → roles' p ≡ (if p == page then role else roles p))

@@ -8,7 +8,7 @@ use Rattle.bbm_rules.proofs.Common.{None, is_none, Contains, inl, inr, refl, sym
 use Rattle.bbm_rules.proofs.Common.{Kind, page_of, Above, Node, node_below, region_start, and-false}
 use Rattle.std.specs.Option.{IsSomeAnd}
 use Rattle.bbm_tree_index.specs.SoundRoles.{Below}
-use Rattle.bbm_tree_index.proofs.Climbing.{fresh_part, out_part, tree_part}
+use Rattle.bbm_tree_index.proofs.Climbing.{fresh_part, node_above, out_part, tree_part}
 use Rattle.bbm_tree_index.proofs.Levels.{goes_on}
 use Rattle.bbm_tree_index.proofs.Places.{at_page}
 use Rattle.bbm_tree_index.proofs.Sweeping.{node_hang}
@@ -27,20 +27,13 @@ Begins roles heading m = (m.above ≡ [])
 
 out_node : (roles : ℕ → Role) (heading : Heading) (page : ℕ) (role : Role) → tree_part role ≡ Gone
     → node_with roles heading page role ≡ None
-out_node roles heading page Untracked e = refl
-out_node roles heading page Fresh e = refl
 out_node roles heading page (RootPage kind first part) e = cc
 out_node roles heading page (Hangs parent kind level base first) e = cc
-out_node roles heading page Gone e = refl
-out_node roles heading page Null e = refl
+out_node roles heading page _ e = refl
 
 fresh_not_null : (role : Role) → is_fresh_role role ≡ true → is_null_role role ≡ false
-fresh_not_null Untracked e = refl
-fresh_not_null Fresh e = refl
-fresh_not_null (RootPage kind first part) e = refl
-fresh_not_null (Hangs parent kind level base first) e = refl
-fresh_not_null Gone e = refl
 fresh_not_null Null e = cc
+fresh_not_null _ e = refl
 
 hung_not_fresh : (m : Node) (above : List Above) → is_fresh_role (role_as m above) ≡ false
 hung_not_fresh m [] = refl
@@ -98,39 +91,19 @@ module _ (roles roles' : ℕ → Role) (heading : Heading) (sound : Sound roles 
   above_role : (level p : ℕ) (role : Role) → roles p ≡ role
       → ((q : ℕ) (m : Node) → node_by roles heading q ≡ Some m → above_by roles' level (roles q) ≡ above_by roles level (roles q))
       → above_by roles' (suc level) role ≡ above_by roles (suc level) role
-  above_role level p Untracked r ih = refl
-  above_role level p Fresh r ih = refl
-  above_role level p (RootPage kind first part) r ih = refl
   above_role level p (Hangs parent kind deep base first) r ih =
       let found = hangs_at roles heading sound p parent deep base first kind r in
       ap (λ (rest : List Above). record { place = parent; level = level } ∷ rest)
       (ap (above_by roles' level) (stays (page_of parent) found.0 found.1) ∙ ih (page_of parent) found.0 found.1)
-  above_role level p Gone r ih = refl
-  above_role level p Null r ih = refl
+  above_role level p _ r ih = refl
 
   above_kept : (level p : ℕ) (n : Node) → node_by roles heading p ≡ Some n → above_by roles' level (roles p) ≡ above_by roles level (roles p)
   above_kept zero p n e = refl
   above_kept (suc level) p n e = above_role level p (roles p) refl (above_kept level)
 
-  node_role : (p : ℕ) (role : Role) (n : Node) → roles p ≡ role → node_by roles heading p ≡ Some n
-      → node_with roles' heading p role ≡ node_with roles heading p role
-  node_role p Untracked n r e = refl
-  node_role p Fresh n r e = refl
-  node_role p (RootPage kind first part) n r e = refl
-  node_role p (Hangs parent kind level base first) n r e =
-      ap (λ (above : List Above). Some (record {
-        page = p;
-        kind = kind;
-        level = level;
-        root = first;
-        base = base;
-        above = above;
-      })) (subst (λ role. above_by roles' level role ≡ above_by roles level role) r (above_kept level p n e))
-  node_role p Gone n r e = refl
-  node_role p Null n r e = refl
-
   pub node_kept : (p : ℕ) (n : Node) → node_by roles heading p ≡ Some n → node_by roles' heading p ≡ Some n
-  node_kept p n e = ap (node_with roles' heading p) (stays p n e) ∙ node_role p (roles p) n refl e ∙ e
+  node_kept p n e = ap (node_with roles' heading p) (stays p n e)
+      ∙ node_above roles roles' heading p (roles p) (λ level. above_kept level p n e) ∙ e
 
   -- a page that is reached has the role of its node
   reached_role : (m : Node) → Reached m → roles' m.page ≡ role_as m m.above

@@ -41,23 +41,21 @@ module _ (old new : TreeIndex) (page : ℕ) (role : Role)
   unfolding role_in
   is_put = role_put (get nat_eq old.roles) (get nat_eq new.roles) page role put
 
-  pub fresh_put : (p : ℕ) → fresh_in new p ≡ (if p == page then is_fresh_role role else fresh_in old p)
-  unfolding fresh_in
-  fresh_put p = ap is_fresh_role (is_put p) ∙ by (p == page)
+  test_put : (test : Role → Bool) (p : ℕ)
+      → test (role_in new p) ≡ (if p == page then test role else test (role_in old p))
+  test_put test p = ap test (is_put p) ∙ by (p == page)
     where
-      by : (b : Bool) → is_fresh_role (if b then role else role_in old p)
-          ≡ (if b then is_fresh_role role else is_fresh_role (role_in old p))
+      by : (b : Bool) → test (if b then role else role_in old p) ≡ (if b then test role else test (role_in old p))
       by true = refl
       by false = refl
 
+  pub fresh_put : (p : ℕ) → fresh_in new p ≡ (if p == page then is_fresh_role role else fresh_in old p)
+  unfolding fresh_in
+  fresh_put = test_put is_fresh_role
+
   pub null_put : (p : ℕ) → null_in new p ≡ (if p == page then is_null_role role else null_in old p)
   unfolding null_in
-  null_put p = ap is_null_role (is_put p) ∙ by (p == page)
-    where
-      by : (b : Bool) → is_null_role (if b then role else role_in old p)
-          ≡ (if b then is_null_role role else is_null_role (role_in old p))
-      by true = refl
-      by false = refl
+  null_put = test_put is_null_role
 
 pub true_there : (b x : Bool) → (if b then true else x) ≡ (b || x)
 true_there = proved 2 (λ b x. Is (if b then true else x) (b || x)) refl

@@ -28,8 +28,6 @@ module _ (map : PlaceMap) (roles : ℕ → Role) (heading : Heading) (sound : So
 
   by_node : (p : ℕ) (role : Role) (n : Node) (leaving : Leaving) → roles p ≡ role → node_with roles heading p role ≡ Some n
       → Says p role leaving n
-  by_node p Untracked n leaving r e = absurd (none-some n e)
-  by_node p Fresh n leaving r e = absurd (none-some n e)
   by_node p (RootPage kind first part) n Unheld r e = subst (Says p (RootPage kind first part) Unheld) (same_Some _ n e) refl
   by_node p (RootPage kind first part) n (Root page) r e =
       subst (Says p (RootPage kind first part) (Root page)) (same_Some _ n e) (sym (not-not (first == page)))
@@ -47,16 +45,12 @@ module _ (map : PlaceMap) (roles : ℕ → Role) (heading : Heading) (sound : So
       ∙ ap (cut_by (passes_at map (asked.This place)) roles n.level) (sym r)
       ∙ cut_node (passes_at map (asked.This place)) roles heading sound p n (ap (node_with roles heading p) r ∙ e)
       ∙ sym (not-not (any (λ a. a.place == place) n.above))
-  by_node p Gone n leaving r e = absurd (none-some n e)
-  by_node p Null n leaving r e = absurd (none-some n e)
+  by_node p _ n leaving r e = absurd (none-some n e)
 
   by_none : (p : ℕ) (role : Role) (leaving : Leaving) → node_with roles heading p role ≡ None → leaves_role map roles leaving role ≡ false
-  by_none p Untracked leaving e = refl
-  by_none p Fresh leaving e = refl
   by_none p (RootPage kind first part) leaving e = absurd (none-some _ (sym e))
   by_none p (Hangs parent kind level base first) leaving e = absurd (none-some _ (sym e))
-  by_none p Gone leaving e = refl
-  by_none p Null leaving e = refl
+  by_none p _ leaving e = refl
 
   pub leaves_at : (leaving : Leaving) (p : ℕ)
       → leaves_role map roles leaving (roles p) ≡ leaves_node (stays map leaving) (node_by roles heading p)
@@ -126,16 +120,12 @@ module _ (map : PlaceMap) (roles : ℕ → Role) (heading : Heading) (sound : So
 
       role_same : (level p : ℕ) (role : Role) (n : Node) → roles p ≡ role → node_with roles heading p role ≡ Some n → n.level ≡ suc level
           → ((q : ℕ) (m : Node) → node_by roles heading q ≡ Some m → m.level ≡ level → Same level (roles q)) → Same (suc level) role
-      role_same level p Untracked n r e deep ih = refl
-      role_same level p Fresh n r e deep ih = refl
-      role_same level p (RootPage kind first part) n r e deep ih = refl
       role_same level p (Hangs parent kind l base first) n r e deep ih =
           let found = hangs_at roles heading sound p parent l base first kind r in
           hang_same level parent kind found.0 found.1
           (suc_inj (sym found.2.deeper ∙ ap (λ m. m.level) (same_Some _ n e) ∙ deep))
           ih (hid (page_of parent)) refl
-      role_same level p Gone n r e deep ih = refl
-      role_same level p Null n r e deep ih = refl
+      role_same level p _ n r e deep ih = refl
 
       zero_same : (role : Role) → Same 0 role
       zero_same Untracked = refl
@@ -159,11 +149,8 @@ module _ (map : PlaceMap) (roles : ℕ → Role) (heading : Heading) (sound : So
         → ((parent level base first : ℕ) (kind : Kind) → role ≡ Hangs parent kind level base first
         → leaves_role map roles leaving role ≡ cut_by test roles level role)
         → node_with roles heading p role ≡ Some n → leaves_role map roles leaving role ≡ true → cut_by test roles n.level role ≡ true
-    left_cut test p Untracked n root hang e h = absurd (none-some n e)
-    left_cut test p Fresh n root hang e h = absurd (none-some n e)
     left_cut test p (RootPage kind first part) n root hang e h = absurd (true≢false (sym h ∙ root kind first part refl))
     left_cut test p (Hangs parent kind level base first) n root hang e h =
         subst (λ l. cut_by test roles l (Hangs parent kind level base first) ≡ true) (ap (λ m. m.level) (same_Some _ n e))
         (sym (hang parent level base first kind refl) ∙ h)
-    left_cut test p Gone n root hang e h = absurd (none-some n e)
-    left_cut test p Null n root hang e h = absurd (none-some n e)
+    left_cut test p _ n root hang e h = absurd (none-some n e)

@@ -20,12 +20,9 @@ kept_is keeps (Some n) = by (keeps n)
 
 leaver_out : (map : PlaceMap) (roles : ℕ → Role) (leaving : Leaving) (role : Role) → leaves_role map roles leaving role ≡ true
     → (is_fresh_role role ≡ false) × (is_null_role role ≡ false)
-leaver_out map roles leaving Untracked e = (refl, refl)
 leaver_out map roles leaving Fresh e = cc
-leaver_out map roles leaving (RootPage kind first part) e = (refl, refl)
-leaver_out map roles leaving (Hangs parent kind level base first) e = (refl, refl)
-leaver_out map roles leaving Gone e = (refl, refl)
 leaver_out map roles leaving Null e = cc
+leaver_out map roles leaving _ e = (refl, refl)
 
 module _ (old : TreeIndex) (map : PlaceMap) (leaving : Leaving) where
   pub left_at : (p : ℕ) → leaves_role map (role_in old) leaving (role_in old p) ≡ leaves_node (stays map leaving) (node_in old p)
@@ -41,23 +38,24 @@ module _ (old : TreeIndex) (map : PlaceMap) (leaving : Leaving) where
         roles (closed map (role_in old) (heading_of old) (is_sound old).roles leaving) p
         ∙ ap (λ b. if b then None else node_in old p) (left_at p) ∙ kept_is (stays map leaving) (node_in old p)
 
-    fresh_left : (p : ℕ) → fresh_in new p ≡ fresh_in old p
-    unfolding fresh_in
-    fresh_left p = ap is_fresh_role (roles p) ∙ by (leaves_role map (role_in old) leaving (role_in old p)) refl
+    -- what is asked of a role alone, of none that leaves nor of one that is gone
+    role_left : (test : Role → Bool) → test Gone ≡ false
+        → ((role : Role) → leaves_role map (role_in old) leaving role ≡ true → test role ≡ false)
+        → (p : ℕ) → test (role_in new p) ≡ test (role_in old p)
+    role_left test gone none p = ap test (roles p) ∙ by (leaves_role map (role_in old) leaving (role_in old p)) refl
       where
         by : (b : Bool) → leaves_role map (role_in old) leaving (role_in old p) ≡ b
-            → is_fresh_role (if b then Gone else role_in old p) ≡ is_fresh_role (role_in old p)
-        by true e = sym (leaver_out map (role_in old) leaving (role_in old p) e).0
+            → test (if b then Gone else role_in old p) ≡ test (role_in old p)
+        by true e = gone ∙ sym (none (role_in old p) e)
         by false e = refl
+
+    fresh_left : (p : ℕ) → fresh_in new p ≡ fresh_in old p
+    unfolding fresh_in
+    fresh_left = role_left is_fresh_role refl (λ role e. (leaver_out map (role_in old) leaving role e).0)
 
     null_left : (p : ℕ) → null_in new p ≡ null_in old p
     unfolding null_in
-    null_left p = ap is_null_role (roles p) ∙ by (leaves_role map (role_in old) leaving (role_in old p)) refl
-      where
-        by : (b : Bool) → leaves_role map (role_in old) leaving (role_in old p) ≡ b
-            → is_null_role (if b then Gone else role_in old p) ≡ is_null_role (role_in old p)
-        by true e = sym (leaver_out map (role_in old) leaving (role_in old p) e).1
-        by false e = refl
+    null_left = role_left is_null_role refl (λ role e. (leaver_out map (role_in old) leaving role e).1)
 
     pub trees_left : KeepsOnly (stays map leaving) old new
     trees_left = record { node = node_left; fresh = fresh_left; null = null_left }

@@ -25,10 +25,7 @@ module _ (P : ℕ → Type 0) (one : P 1) (two : P 2) (four : P 4) (eight : P 8)
 
   counts : (w : World) → world_ok w ≡ true → (kind : Kind) → P (page_count w kind)
   counts (Hyp w) k S2 = counts_by w.s2_pages (w.s2_start == 0) (and_parts _ _ k).1
-  counts (Hyp w) k El2 = one
-  counts (Hyp w) k Ttbr0 = one
-  counts (Hyp w) k Ttbr1 = one
-  counts (Kernel w) k _ = one
+  counts _ k _ = one
 
 pub start_low : (w : World) → world_ok w ≡ true → (kind : Kind) → start_of w kind ≤ 2
 start_low (Hyp w) k El2 = leb-true w.el2_start 2 (and_parts _ _ (and_parts _ _ k).0).0

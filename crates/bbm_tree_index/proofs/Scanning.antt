@@ -63,12 +63,10 @@ lt_more i j = by (nat_lt i (j + 1)) (nat_lt i j) (i == j) refl refl refl
     less f g l = omega (arith, f, g, l)
 
     by : (x y z : Bool) → nat_lt i (j + 1) ≡ x → nat_lt i j ≡ y → (i == j) ≡ z → x ≡ (y || z)
-    by true true z ex ey ez = refl
-    by true false true ex ey ez = refl
     by true false false ex ey ez = absurd (less (λ l. true≢false (sym (lt-ltb i j l) ∙ ey)) (eqb-false i j ez) (ltb-true i (j + 1) ex))
     by false true z ex ey ez = absurd (true≢false (sym (lt-ltb i (j + 1) (more (ltb-true i j ey))) ∙ ex))
     by false false true ex ey ez = absurd (true≢false (sym (lt-ltb i (j + 1) (same (eqb-true i j ez))) ∙ ex))
-    by false false false ex ey ez = refl
+    by _ _ _ ex ey ez = refl
 
 spread : (d b x e : Bool) → ((d || (b && x)) || (b && e)) ≡ (d || (b && (x || e)))
 spread = proved 4 (λ d b x e. Is ((d || (b && x)) || (b && e)) (d || (b && (x || e)))) refl
@@ -86,10 +84,8 @@ scan_none p done a = by (done a) (page_of a == p) (nat_lt (index_of a) 0) refl
     below l = omega (arith, l)
 
     by : (d b x : Bool) → nat_lt (index_of a) 0 ≡ x → (d || (b && x)) ≡ d
-    by true b x e = refl
     by false true true e = absurd (below (ltb-true (index_of a) 0 e))
-    by false true false e = refl
-    by false false x e = refl
+    by _ _ _ e = refl
 
 pub scan_all : (p n : ℕ) → 512 ≤ n → (done : ℕ → Bool) (a : ℕ) → (done a || page_of a == p) ≡ (done a || scanned p n a)
 scan_all p n end done a = ap (λ b. done a || b) (by (page_of a == p) (nat_lt (index_of a) n) refl)
@@ -98,9 +94,8 @@ scan_all p n end done a = ap (λ b. done a || b) (by (page_of a == p) (nat_lt (i
     below = omega (arith, end)
 
     by : (b x : Bool) → nat_lt (index_of a) n ≡ x → b ≡ (b && x)
-    by true true e = refl
     by true false e = absurd (true≢false (sym (lt-ltb (index_of a) n below) ∙ e))
-    by false x e = refl
+    by _ _ e = refl
 
 -- tests that agree on places give the same marks
 pub alike : (fresh : ℕ → Bool) (value : ℕ → ℕ) (starts : List Node) (k : ℕ) (done done' : ℕ → Bool)
@@ -134,11 +129,10 @@ module _ (value : ℕ → ℕ) (p from to : ℕ) (zero : (j : ℕ) → from ≤ 
 
       by : (d b x y : Bool) → (page_of r.place == p) ≡ b → nat_lt (index_of r.place) to ≡ x → nat_lt (index_of r.place) from ≡ y
           → (d || (b && x)) ≡ true → (d || (b && y)) ≡ true
-      by true b x y eb ex ey e = refl
-      by false true true true eb ex ey e = refl
       by false true true false eb ex ey e = absurd (none eb ex ey)
       by false true false y eb ex ey e = absurd (true≢false (sym e))
       by false false x y eb ex ey e = absurd (true≢false (sym e))
+      by _ _ _ _ eb ex ey e = refl
 
 pub wider : (p n : ℕ) (done : ℕ → Bool) (a : ℕ) → (done a || scanned p n a) ≡ true → (done a || scanned p (n + 8) a) ≡ true
 wider p n done a = by (done a) (page_of a == p) (nat_lt (index_of a) n) (nat_lt (index_of a) (n + 8)) refl refl
@@ -147,9 +141,8 @@ wider p n done a = by (done a) (page_of a == p) (nat_lt (index_of a) n) (nat_lt 
     more l = omega (arith, l)
 
     by : (d b x y : Bool) → nat_lt (index_of a) n ≡ x → nat_lt (index_of a) (n + 8) ≡ y → (d || (b && x)) ≡ true → (d || (b && y)) ≡ true
-    by true b x y ex ey e = refl
-    by false true true true ex ey e = refl
     by false true true false ex ey e =
         absurd (true≢false (sym (lt-ltb (index_of a) (n + 8) (more (ltb-true (index_of a) n ex))) ∙ ey))
     by false true false y ex ey e = absurd (true≢false (sym e))
     by false false x y ex ey e = absurd (true≢false (sym e))
+    by _ _ _ _ ex ey e = refl

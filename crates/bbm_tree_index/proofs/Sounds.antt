@@ -23,14 +23,11 @@ sound_same roles roles' heading same s = record {
 node_fits : (roles : ℕ → Role) (heading : Heading) (page : ℕ) (role : Role) (s : Spot) → spot_with heading role ≡ Some s
     → ((n : Node) → node_with roles heading page role ≡ Some n → (n.level < 4) × (n.base + 512 * input_pages n.level ≤ 2 ^ 45))
     → Fits s
-node_fits roles heading page Untracked s e h = absurd (none-some s e)
-node_fits roles heading page Fresh s e h = absurd (none-some s e)
 node_fits roles heading page (RootPage kind first part) s e h =
     subst Fits (same_Some _ s e) (record { shallow = (h _ refl).0; within = (h _ refl).1 })
 node_fits roles heading page (Hangs parent kind level base first) s e h =
     subst Fits (same_Some _ s e) (record { shallow = (h _ refl).0; within = (h _ refl).1 })
-node_fits roles heading page Gone s e h = absurd (none-some s e)
-node_fits roles heading page Null s e h = absurd (none-some s e)
+node_fits roles heading page _ s e h = absurd (none-some s e)
 
 pub role_fits : (roles : ℕ → Role) (heading : Heading) → Sound roles heading → (page : ℕ) → RoleFits heading (roles page)
 role_fits roles heading s page spot e =

@@ -6,6 +6,7 @@ use Rattle.bbm_rules.proofs.Common.{ap, ◌∙◌, subst, true≢false, if◌the
 use Rattle.bbm_rules.proofs.Common.{node_below}
 use Rattle.std.specs.Option.{IsSomeAnd}
 use Rattle.bbm_tree_index.specs.SoundRoles.{Below}
+use Rattle.bbm_tree_index.proofs.Climbing.{node_above}
 use Rattle.bbm_tree_index.proofs.Cutting.{above_node}
 
 -- the node of a page that hangs at a place is the one below the node of that place
@@ -50,43 +51,23 @@ module _ (roles roles' : ℕ → Role) (heading : Heading) (sound : Sound roles 
   above_role : (level p : ℕ) (role : Role) → roles p ≡ role → leaves p ≡ false
       → ((q : ℕ) → leaves q ≡ false → above_by roles' level (roles q) ≡ above_by roles level (roles q))
       → above_by roles' (suc level) role ≡ above_by roles (suc level) role
-  above_role level p Untracked r e ih = refl
-  above_role level p Fresh r e ih = refl
-  above_role level p (RootPage kind first part) r e ih = refl
   above_role level p (Hangs parent kind deep base first) r e ih =
       let out = parent_stays p parent deep base first kind r e in
       ap (λ (rest : List Above). record { place = parent; level = level } ∷ rest)
       (ap (above_by roles' level) (stay (page_of parent) out) ∙ ih (page_of parent) out)
-  above_role level p Gone r e ih = refl
-  above_role level p Null r e ih = refl
+  above_role level p _ r e ih = refl
 
   above_swept : (level p : ℕ) → leaves p ≡ false → above_by roles' level (roles p) ≡ above_by roles level (roles p)
   above_swept zero p e = refl
   above_swept (suc level) p e = above_role level p (roles p) refl e (above_swept level)
-
-  node_role : (p : ℕ) (role : Role) → roles p ≡ role → leaves p ≡ false
-      → node_with roles' heading p role ≡ node_with roles heading p role
-  node_role p Untracked r e = refl
-  node_role p Fresh r e = refl
-  node_role p (RootPage kind first part) r e = refl
-  node_role p (Hangs parent kind level base first) r e =
-      ap (λ (above : List Above). Some (record {
-        page = p;
-        kind = kind;
-        level = level;
-        root = first;
-        base = base;
-        above = above;
-      })) (subst (λ role. above_by roles' level role ≡ above_by roles level role) r (above_swept level p e))
-  node_role p Gone r e = refl
-  node_role p Null r e = refl
 
   pub node_swept : (p : ℕ) → node_by roles' heading p ≡ (if leaves p then None else node_by roles heading p)
   node_swept p = by (leaves p) refl
     where
       by : (b : Bool) → leaves p ≡ b → node_by roles' heading p ≡ (if b then None else node_by roles heading p)
       by true e = ap (node_with roles' heading p) (swept p ∙ ap (λ b. if b then Gone else roles p) e)
-      by false e = ap (node_with roles' heading p) (stay p e) ∙ node_role p (roles p) refl e
+      by false e = ap (node_with roles' heading p) (stay p e)
+          ∙ node_above roles roles' heading p (roles p) (λ level. above_swept level p e)
 
   -- a page that is still there stayed
   pub node_stays : (p : ℕ) (n : Node) → node_by roles' heading p ≡ Some n → (leaves p ≡ false) × (node_by roles heading p ≡ Some n)

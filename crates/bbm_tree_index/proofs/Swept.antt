@@ -28,9 +28,7 @@ pick_more : {A : Type 0} (b a l now : Bool) (g r : A) → (b ≡ true → now �
 pick_more false true l now g r h = refl
 pick_more false false l now g r h = refl
 pick_more true true true now g r h = ap (λ n. if n then g else g) (h refl)
-pick_more true true false now g r h = ap (λ n. if n then g else r) (h refl)
-pick_more true false true now g r h = ap (λ n. if n then g else r) (h refl)
-pick_more true false false now g r h = ap (λ n. if n then g else r) (h refl)
+pick_more true _ _ now g r h = ap (λ n. if n then g else r) (h refl)
 
 as_if : (a b : Bool) → (a || b) ≡ (if a then true else (if b then true else false))
 as_if = proved 2 (λ a b. Is (a || b) (if a then true else (if b then true else false))) refl

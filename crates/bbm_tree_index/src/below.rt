@@ -20,6 +20,8 @@ pub fn place_below(above: &Path, page: Page, input: u64) -> Option<(Place, Path)
     ensures path { IfSome result (λ met. (n : Node) (a : ℕ) → above.now ≡ path_at n a
         → met.1 ≡ path_at (node_below n a page) met.0) }
     ensures level { IfSome result (λ met. met.1.level ≡ suc above.now.level) }
+    ensures translates { IfSome result (λ met. (n : Node) (a : ℕ) → above.now ≡ path_at n a
+        → Translates page (node_below n a page) input met.0) }
     ensures met { (n : Node) (a b : ℕ) → above.now ≡ path_at n a → Translates page (node_below n a page) input b
         → option_map (λ met. met.0) result ≡ Some b }
 {
@@ -29,8 +31,6 @@ pub fn place_below(above: &Path, page: Page, input: u64) -> Option<(Place, Path)
         base: above.region.lo,
         first: above.first,
     };
-    match spot.place_at(page, input) {
-        Some(place) => Some((place, spot.path(place))),
-        None => None,
-    }
+    let place = spot.place_at(page, input)?;
+    Some((place, spot.path(place)))
 }

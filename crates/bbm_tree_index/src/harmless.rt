@@ -23,7 +23,7 @@ const CONTIGUOUS: u64 = 1 << 52;
 const NOT_GLOBAL: u64 = 1 << 11;
 
 /// Whether the kind is that of the lower range.
-pub fn is_lower(kind: Kind) -> bool
+fn is_lower(kind: Kind) -> bool
     ensures { result ≡ same_kind kind Kind.Ttbr0 }
 {
     kind == Kind::Ttbr0

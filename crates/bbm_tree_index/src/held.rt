@@ -41,10 +41,7 @@ pub fn next_at(map: &PlaceMap, kind: Kind, level: u8, place: Place) -> Option<Pa
     requires { level ≤ 3 }
     ensures { result ≡ next_in (core_at map.now kind level place) }
 {
-    match core_at(map, kind, level, place) {
-        Some(core) => next_of(&core),
-        None => None,
-    }
+    next_of(&core_at(map, kind, level, place)?)
 }
 
 /// The place of the page with this number, 0 to 511.

@@ -22,7 +22,7 @@ use crate::leaving::{Leaving, sweep};
 use crate::mark::Mark;
 use crate::role::{Detach, Path, Role};
 use crate::spot::{Spot, spot_of};
-use crate::table::{put, role_of};
+use crate::table::put;
 use bbm_events::Header;
 use bbm_page_map::PageMap;
 use bbm_place_map::PlaceMap;
@@ -89,10 +89,7 @@ impl TreeIndex {
     pub fn role(&self, page: Page) -> Role
         ensures { result ≡ role_in self.now page }
     {
-        match self.roles.get(page) {
-            Some(role) => *role,
-            None => Role::Untracked,
-        }
+        self.roles.get(page).copied().unwrap_or(Role::Untracked)
     }
 
     /// Whether the page is fresh. No answer depends on the number `hint`, at which the page is looked for first.
@@ -100,7 +97,7 @@ impl TreeIndex {
     pub fn is_fresh(&self, page: Page, hint: usize) -> bool
         ensures { result ≡ fresh_in self.now page }
     {
-        matches!(role_of(&self.roles, page, hint), Role::Fresh)
+        matches!(self.roles.get_near(page, hint), Some(Role::Fresh))
     }
 
     /// Whether the page is a null page.
@@ -141,10 +138,7 @@ impl TreeIndex {
     pub fn path_near(&self, place: Place, hint: usize) -> Option<Path>
         ensures { result ≡ option_map (λ n. path_at n place) (node_in self.now (page_of place)) }
     {
-        match self.spot(place.page(), hint) {
-            Some(spot) => Some(spot.path(place)),
-            None => None,
-        }
+        Some(self.spot(place.page(), hint)?.path(place))
     }
 
     /// Where the page stands, None where it is in no tree. No answer depends on the number `hint`, at which the page is
@@ -171,16 +165,14 @@ impl TreeIndex {
         ensures path { IfSome result (λ met. (n : Node) × (node_in self.now page ≡ Some n)
             × (met.1 ≡ path_at n met.0)) }
         ensures low { IfSome result (λ met. met.1.level ≤ 3) }
+        ensures translates { IfSome result (λ met. (n : Node) → node_in self.now page ≡ Some n
+            → Translates page n input met.0) }
         ensures met { (n : Node) (a : ℕ) → node_in self.now page ≡ Some n → Translates page n input a
             → option_map (λ met. met.0) result ≡ Some a }
     {
-        match self.spot(page, hint) {
-            Some(spot) => match spot.place_at(page, input) {
-                Some(place) => Some((place, spot.path(place))),
-                None => None,
-            },
-            None => None,
-        }
+        let spot = self.spot(page, hint)?;
+        let place = spot.place_at(page, input)?;
+        Some((place, spot.path(place)))
     }
 
     /// Whether the present value of a place above the place is invalid; false where its page is in no tree.

@@ -12,7 +12,7 @@ ghost use Rattle.bbm_tree_index.specs.LeastPages.{Wrong, WrongIn, WrongPage, ask
 ghost use Rattle.bbm_tree_index.specs.Survey.{fresh_of};
 
 use crate::fault::TreeFault;
-use crate::harmless::{are_harmless, is_lower};
+use crate::harmless::are_harmless;
 use crate::held::{PLACES, place_of};
 use crate::mark::Mark;
 use crate::role::{Attach, Role};
@@ -240,24 +240,6 @@ fn least_leaf(
     least
 }
 
-/// The least place of the attached pages with a leaf for every ASID, in a tree of the lower range.
-fn least_global(
-    map: &PlaceMap,
-    tables: &[IndexMap<u64, Mark>],
-    kind: Kind,
-    start: u8,
-) -> Option<Place>
-    requires pages { HavePages tables.now }
-    requires low { start + length tables.now ≤ 4 }
-    ensures { LeastOf (LeafPlace tables.now (value_at map.now) (asks Leaf.UserGlobal) kind start) result }
-{
-    if is_lower(kind) {
-        least_leaf(map, tables, &Leaf::UserGlobal, kind, start)
-    } else {
-        None
-    }
-}
-
 /// Judges the pages of a survey that begins at this kind and level.
 pub fn judge_tables(
     roles: &PageMap<Role>,
@@ -281,7 +263,7 @@ pub fn judge_tables(
     if let Some(place) = least_leaf(map, tables, &Leaf::Contiguous, kind, level) {
         return Err(TreeFault::BadKind(place));
     }
-    if let Some(place) = least_global(map, tables, kind, level) {
+    if let Some(place) = least_leaf(map, tables, &Leaf::UserGlobal, kind, level) {
         return Err(TreeFault::GlobalUser(place));
     }
     Ok(())

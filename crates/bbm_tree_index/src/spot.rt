@@ -91,6 +91,9 @@ impl Spot {
             → input < self.now.base + index_of a * input_pages_of self.now.level + input_pages_of self.now.level
             → result ≡ Some a }
         ensures inside { IfSome result (λ a. is_at page a ≡ true) }
+        ensures region { IfSome result
+            (λ a. (self.now.base + index_of a * input_pages_of self.now.level ≤ input)
+            × (input < self.now.base + index_of a * input_pages_of self.now.level + input_pages_of self.now.level)) }
     {
         if input < self.base {
             return None;

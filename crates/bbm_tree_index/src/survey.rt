@@ -202,10 +202,7 @@ fn push_table(
 ) -> Result<(), NoMemory>
     ensures { OnOk result (tables.new.items ≡ tables.old.items ++ table ∷ []) }
 {
-    match tables.push(table) {
-        Ok(()) => Ok(()),
-        Err(_) => Err(NoMemory),
-    }
+    tables.push(table).map_err(|_| NoMemory)
 }
 
 /// Adds the table of the level behind the one with this number, which is the last.

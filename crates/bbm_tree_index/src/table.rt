@@ -30,10 +30,10 @@ pub fn number_of(roles: &PageMap<Role>, page: Page, hint: usize) -> usize {
 pub fn role_of(roles: &PageMap<Role>, page: Page, hint: usize) -> Role
     ensures { result ≡ roles_of roles.now page }
 {
-    match roles.get_near(page, hint) {
-        Some(role) => *role,
-        None => Role::Untracked,
-    }
+    roles
+        .get_near(page, hint)
+        .copied()
+        .unwrap_or(Role::Untracked)
 }
 
 /// Whether the page is fresh.

@@ -90,10 +90,7 @@ impl PlaceMap {
         requires { IsPosition self.now position.now }
         ensures { result ≡ is_some (marks_at self.now position.now.place) }
     {
-        match self.entry(position.index) {
-            Some(_entry) => true,
-            None => false,
-        }
+        self.entry(position.index).is_some()
     }
 
     /// The core that a position's place is broken over; where it isn't broken, this one.

@@ -167,10 +167,7 @@ impl PlaceMap {
     {
         let start = self.cells.len();
         write::add_cells(&mut self.cells, VALUES);
-        match self.owners.push((position.index / VALUES) as u32) {
-            Ok(()) => {}
-            Err(_) => {}
-        }
+        let _ = self.owners.push((position.index / VALUES) as u32);
         put_slot(&mut self.parts, position.index / VALUES, Some(start as u32));
         start + position.index % VALUES
     }

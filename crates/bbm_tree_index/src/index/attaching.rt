@@ -110,10 +110,8 @@ impl TreeIndex {
         ensures prepared { IfOk result (λ prepared. IsPrepared prepared self.now map.now at) }
     {
         let tables = self.survey(alloc, map, &at)?;
-        match self.judge_survey(map, &at, &tables) {
-            Ok(()) => Ok(Prepared { tables }),
-            Err(fault) => Err(fault),
-        }
+        self.judge_survey(map, &at, &tables)?;
+        Ok(Prepared { tables })
     }
 
     /// Attaches pages that can be, as `prepare` found them in this index: those named, and all that paths through fresh
@@ -143,12 +141,8 @@ impl TreeIndex {
         ensures tracked { SameTracked self.old self.new }
         ensures same { OnErr result (SamePages self.old self.new) }
     {
-        match self.prepare(alloc, map, at) {
-            Ok(prepared) => {
-                self.attach_prepared(&prepared);
-                Ok(())
-            }
-            Err(fault) => Err(fault),
-        }
+        let prepared = self.prepare(alloc, map, at)?;
+        self.attach_prepared(&prepared);
+        Ok(())
     }
 }

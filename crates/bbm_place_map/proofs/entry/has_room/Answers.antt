@@ -6,4 +6,4 @@ pub returns : goal.returns
 returns c = λ same lacks.
     let P : List Pending → Type 0 = λ ps. IsFirst ps 0 c.args.lane in
     absurd (known_by c.args.pendings.now.items (Some 0) c.args.lane refl
-    (subst P c.as_slice.ensures (c.is_first.ensures same)) lacks)
+    (subst P c.as_slice.ensures (c.is_first.ensures.0 same)) lacks)

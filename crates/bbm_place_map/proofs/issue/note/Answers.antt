@@ -16,7 +16,7 @@ pub loop-k-init : goal.loop-k-init
 loop-k-init c = record {
   done = λ m below.
       self_advances (NotesAt c.args.covers.now c.args.tlbi.now m) (slice_get c.args.broken.now.items m)
-      (λ e is. (refl, λ q other. refl, λ x at. c.requires.noted m e x below is at, λ x at none. refl));
+      (λ e is. (refl, λ q other. refl, λ x at. (refl, λ q other. refl, c.requires.noted m e x below is at, λ none. refl)));
   waits = λ m below.
       self_advances (Waits c.args.lists.now.items c.args.tlbi.now.issuer) (slice_get c.args.broken.now.items m)
       (λ e is wide. inr (λ quiet. quiet));

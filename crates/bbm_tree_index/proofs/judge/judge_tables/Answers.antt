@@ -41,14 +41,14 @@ returns-in-Some-least_leaf c = λ starts told. (
       c.least_leaf.result (Some c.in-Some-least_leaf.place) c.in-Some-least_leaf.is is_bad c.least_leaf.ensures,
 )
 
-pub returns-in-Some-least_global : goal.returns-in-Some-least_global
-returns-in-Some-least_global c = λ starts told. (
+pub returns-in-Some-least_leaf-2 : goal.returns-in-Some-least_leaf-2
+returns-in-Some-least_leaf-2 c = λ starts told. (
   pages c.args.tables.now (fresh_of c.args.roles.now) (value_at c.args.map.now) starts c.args.kind c.args.level told
       c.least_wrong.result None c.in_default.is c.args.named c.least_wrong.ensures,
   leaves c.args.tables.now (fresh_of c.args.roles.now) (value_at c.args.map.now) starts c.args.kind c.args.level told
       c.least_leaf.result None c.in_default-least_leaf.is is_bad c.least_leaf.ensures,
   leaves c.args.tables.now (fresh_of c.args.roles.now) (value_at c.args.map.now) starts c.args.kind c.args.level told
-      c.least_global.result (Some c.in-Some-least_global.place) c.in-Some-least_global.is is_user_global c.least_global.ensures,
+      c.least_leaf-2.result (Some c.in-Some-least_leaf-2.place) c.in-Some-least_leaf-2.is is_user_global c.least_leaf-2.ensures,
 )
 
 pub returns : goal.returns
@@ -58,5 +58,5 @@ returns c = λ starts told. (
   leaves c.args.tables.now (fresh_of c.args.roles.now) (value_at c.args.map.now) starts c.args.kind c.args.level told
       c.least_leaf.result None c.in_default-least_leaf.is is_bad c.least_leaf.ensures,
   leaves c.args.tables.now (fresh_of c.args.roles.now) (value_at c.args.map.now) starts c.args.kind c.args.level told
-      c.least_global.result None c.in_default-least_global.is is_user_global c.least_global.ensures,
+      c.least_leaf-2.result None c.in_default-least_leaf-2.is is_user_global c.least_leaf-2.ensures,
 )

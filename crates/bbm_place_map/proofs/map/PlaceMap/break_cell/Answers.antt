@@ -4,7 +4,7 @@ use Rattle.bbm_place_map.proofs.Common.{at_index}
 use Rattle.bbm_place_map.proofs.Common.{starts, PlaceMap}
 use Rattle.bbm_place_map.specs.Map.{marks_at, pends_at}
 use Rattle.bbm_place_map.proofs.Blank.{free_cell}
-use Rattle.bbm_place_map.proofs.Clearing.{breakable}
+use Rattle.bbm_place_map.proofs.Clearing.{breakable, fits_with}
 use Rattle.bbm_place_map.proofs.Listing.{listed_fresh}
 use Rattle.bbm_place_map.proofs.Places.{at_place, at_same}
 use Rattle.bbm_place_map.proofs.map.PlaceMap.break_cell.Goals as goal
@@ -31,21 +31,11 @@ invariant_of-self c =
     let e = c.link.ensures in
     let n = c.note_break.ensures in
     let made = c.broken_by-marks.ensures in
-    let P : ℕ → Type 0 = Parted (get nat_eq self.pages) self.parts.items (vec_len self.values) in
-    record {
-      numbered = self.numbered;
-      parted = subst P (sym e.len) self.parted;
-      linked = e.linked;
-      placed = e.placed (starts (get nat_eq self.pages) self.parts.items) c.requires.cell self.placed;
-      space = omega (arith, e.space, self.space);
-      room = omega (arith, e.room, self.room);
-      fewer = omega (arith, e.len, self.fewer);
-      few = self.few;
-      listed =
-          listed_fresh self.work c.note_break.new.work self.cells.items c.link.new.cells.items self.broken.items c.link.new.broken.items
-          c.args.i c.args.pe c.broken_by-marks.result n.pes (none self c.args.position.now.place c.args.i c.requires.cell c.requires.whole)
-          made.writers made.clean n.there n.kept n.waiting n.settled e.marks e.pends self.listed;
-    }
+    fits_with self self.values c.link.new.cells c.link.new.broken c.note_break.new.work refl e.len e.space e.room e.linked
+    (e.placed (starts (get nat_eq self.pages) self.parts.items) c.requires.cell self.placed)
+    (listed_fresh self.work c.note_break.new.work self.cells.items c.link.new.cells.items self.broken.items c.link.new.broken.items
+    c.args.i c.args.pe c.broken_by-marks.result n.pes (none self c.args.position.now.place c.args.i c.requires.cell c.requires.whole)
+    made.writers made.clean n.there n.kept n.waiting n.settled e.marks e.pends self.listed)
 
 pub returns-clause-written : goal.returns-clause-written
 unfolding marks_at pends_at

@@ -4,6 +4,7 @@ use Rattle.std.proofs.lemmas.Bool.{eqb-false}
 use Rattle.std.proofs.lemmas.List.{nil_from_length}
 use Rattle.bbm_place_map.specs.Map.{marks_at, pends_at}
 use Rattle.bbm_place_map.proofs.Answering.{completes_whole}
+use Rattle.bbm_place_map.proofs.Clearing.{fits_with}
 use Rattle.bbm_place_map.proofs.Completed.{completed_at, others_at, kept_at, lost_at}
 use Rattle.bbm_place_map.proofs.Listing.{listed_begun, listed_completed, quiet_of}
 use Rattle.bbm_place_map.proofs.Made.{barrier}
@@ -21,23 +22,17 @@ complete-lost-requires-clause-settled c =
     c.begin.ensures.pes (omega (arith, c.len.ensures)) c.begin.ensures.kept c.args.self.now.listed).settled
 
 pub invariant_of-self-2 : goal.invariant_of-self-2
-invariant_of-self-2 c = record {
-  numbered = c.args.self.now.numbered;
-  parted =
-      let P : ℕ → Type 0 = Parted (get nat_eq c.args.self.now.pages) c.args.self.now.parts.items (vec_len c.args.self.now.values) in
-      subst P (sym c.complete-lost.ensures.completed.sound.len) c.args.self.now.parted;
-  linked = c.complete-lost.ensures.completed.sound.linked;
-  placed = c.complete-lost.ensures.completed.sound.placed (starts (get nat_eq c.args.self.now.pages) c.args.self.now.parts.items) c.args.self.now.placed;
-  space = omega (arith, c.complete-lost.ensures.completed.sound.space);
-  room = omega (arith, c.complete-lost.ensures.completed.sound.room);
-  fewer = omega (arith, c.complete-lost.ensures.completed.sound.len);
-  few = c.args.self.now.few;
-  listed =
-      listed_completed c.begin.new.work (record c.begin.new.work { settled = true; waiting = c.complete-lost.new.lists }) (barrier c.args.issuer c.args.dsb c.args.n)
-      c.args.self.now.cells.items c.complete-lost.new.cells.items c.args.self.now.broken.items c.complete-lost.new.broken.items c.begin.ensures.pes refl refl
-      c.complete-lost.ensures.completed.each c.complete-lost.ensures.known c.complete-lost.ensures.kept_lists (listed_begun c.args.self.now.work c.begin.new.work c.args.n c.len.result c.args.self.now.cells.items c.args.self.now.broken.items c.requires.some c.requires.within
-      c.begin.ensures.pes (omega (arith, c.len.ensures)) c.begin.ensures.kept c.args.self.now.listed);
-}
+invariant_of-self-2 c =
+    let self = c.args.self.now in
+    let e = c.complete-lost.ensures in
+    let still = e.completed.sound in
+    let work = record c.begin.new.work { settled = true; waiting = c.complete-lost.new.lists } in
+    fits_with self self.values c.complete-lost.new.cells c.complete-lost.new.broken work refl still.len still.space still.room still.linked
+    (still.placed (starts (get nat_eq self.pages) self.parts.items) self.placed)
+    (listed_completed c.begin.new.work work (barrier c.args.issuer c.args.dsb c.args.n) self.cells.items c.complete-lost.new.cells.items
+    self.broken.items c.complete-lost.new.broken.items c.begin.ensures.pes refl refl e.completed.each e.known e.kept_lists
+    (listed_begun self.work c.begin.new.work c.args.n c.len.result self.cells.items self.broken.items c.requires.some c.requires.within
+    c.begin.ensures.pes (omega (arith, c.len.ensures)) c.begin.ensures.kept self.listed))
 
 pub returns-then-is_empty-clause-completed : goal.returns-then-is_empty-clause-completed
 unfolding marks_at pends_at

@@ -2,51 +2,37 @@ use Rattle.bbm_place_map.proofs.Common.{ℕ, refl, sym, nat_eq, arith, ◌∙◌
 use Rattle.bbm_place_map.specs.Map.{marks_at, pends_at, restless_in, restless_place}
 use Rattle.bbm_place_map.proofs.Advancing.{position_kept}
 use Rattle.bbm_place_map.proofs.Issued.{noted_by_number}
-use Rattle.bbm_place_map.proofs.Positions.{linked_seated, placed_seated}
+use Rattle.bbm_place_map.proofs.Clearing.{fits_seated}
+use Rattle.bbm_place_map.proofs.Positions.{linked_seated}
 use Rattle.bbm_place_map.proofs.Listing.{listed_roomed, listed_noted}
 use Rattle.bbm_place_map.proofs.Made.{issuing}
 use Rattle.bbm_place_map.proofs.map.PlaceMap.issue_all.Goals as goal
 
 pub invariant_of-self : goal.invariant_of-self
 invariant_of-self c =
-    let old = c.args.self.now.broken.items in
-    let mid = c.make_room.new.broken.items in
-    let positions = λ (m : ℕ). position_kept Keeps (slice_get old m) (slice_get mid m) (c.make_room.ensures.each m) in
-    record {
-      numbered = c.args.self.now.numbered;
-      parted = c.args.self.now.parted;
-      linked = linked_seated old mid positions c.args.self.now.cells.items c.make_room.ensures.size.len c.args.self.now.linked;
-      placed = placed_seated old mid positions (starts (get nat_eq c.args.self.now.pages) c.args.self.now.parts.items) c.args.self.now.placed;
-      room = omega (arith, c.make_room.ensures.size.room);
-      space = c.args.self.now.space;
-      fewer = c.args.self.now.fewer;
-      few = c.args.self.now.few;
-      listed = listed_roomed c.args.self.now.cells.items old mid c.make_room.ensures.each c.args.self.now.work c.args.self.now.listed;
-    }
+    let self = c.args.self.now in
+    let mid = c.make_room.new.broken in
+    let e = c.make_room.ensures in
+    fits_seated self mid self.work (λ (m : ℕ). position_kept Keeps (slice_get self.broken.items m) (slice_get mid.items m) (e.each m)) e.size
+    (listed_roomed self.cells.items self.broken.items mid.items e.each self.work self.listed)
 
 pub invariant_of-self-2 : goal.invariant_of-self-2
 invariant_of-self-2 c =
-    let old = c.args.self.now.broken.items in
+    let self = c.args.self.now in
+    let old = self.broken.items in
     let mid = c.make_room.new.broken.items in
-    let new = c.note.new.broken.items in
-    let positions = λ (m : ℕ).
-    position_kept (NotesAt c.args.covers.now (issuing c.args.issuer c.args.reach c.args.broadcast) m) (slice_get mid m) (slice_get new m) (c.note.ensures.each m)
-    ∙ position_kept Keeps (slice_get old m) (slice_get mid m) (c.make_room.ensures.each m) in
-    record {
-      numbered = c.args.self.now.numbered;
-      parted = c.args.self.now.parted;
-      linked = linked_seated old new positions c.args.self.now.cells.items (c.note.ensures.rest.len ∙ c.make_room.ensures.size.len) c.args.self.now.linked;
-      placed = placed_seated old new positions (starts (get nat_eq c.args.self.now.pages) c.args.self.now.parts.items) c.args.self.now.placed;
-      room = omega (arith, c.make_room.ensures.size.room, c.note.ensures.rest.room);
-      space = c.args.self.now.space;
-      fewer = c.args.self.now.fewer;
-      few = c.args.self.now.few;
-      listed =
-          listed_noted c.args.self.now.cells.items old mid c.make_room.ensures.each new c.args.covers.now (issuing c.args.issuer c.args.reach c.args.broadcast)
-          c.args.self.now.work (record c.args.self.now.work { waiting = c.note.new.lists })
-          (linked_seated old mid (λ (m : ℕ). position_kept Keeps (slice_get old m) (slice_get mid m) (c.make_room.ensures.each m)) c.args.self.now.cells.items c.make_room.ensures.size.len c.args.self.now.linked)
-          refl refl refl c.note.ensures.each c.note.ensures.waits c.note.ensures.rest.kept c.args.self.now.listed;
-    }
+    let new = c.note.new.broken in
+    let by = issuing c.args.issuer c.args.reach c.args.broadcast in
+    let e = c.make_room.ensures in
+    let rest = c.note.ensures.rest in
+    let first = λ (m : ℕ). position_kept Keeps (slice_get old m) (slice_get mid m) (e.each m) in
+    let work = record self.work { waiting = c.note.new.lists } in
+    fits_seated self new work
+    (λ (m : ℕ). position_kept (NotesAt c.args.covers.now by m) (slice_get mid m) (slice_get new.items m) (c.note.ensures.each m) ∙ first m)
+    (record { len = rest.len ∙ e.size.len; room = rest.room ∙ e.size.room })
+    (listed_noted self.cells.items old mid e.each new.items c.args.covers.now by self.work work
+    (linked_seated old mid first self.cells.items e.size.len self.linked)
+    refl refl refl c.note.ensures.each c.note.ensures.waits rest.kept self.listed)
 
 pub returns-clause-noted : goal.returns-clause-noted
 unfolding marks_at pends_at restless_in restless_place

@@ -3,6 +3,7 @@ use Rattle.bbm_place_map.proofs.Common.{starts, Entry, Keeps, NotesFound, positi
 use Rattle.bbm_place_map.specs.Map.{marks_at, pends_at}
 use Rattle.bbm_place_map.proofs.Advancing.{position_kept}
 use Rattle.bbm_place_map.proofs.Issued.{noted_found, unnoted_found}
+use Rattle.bbm_place_map.proofs.Clearing.{fits_seated}
 use Rattle.bbm_place_map.proofs.Positions.{linked_seated, placed_seated}
 use Rattle.bbm_place_map.proofs.Listing.{listed_roomed, listed_noted}
 use Rattle.bbm_place_map.proofs.Parts.{sound_by}
@@ -15,19 +16,11 @@ positions old mid each m = position_kept Keeps (slice_get old m) (slice_get mid 
 
 pub invariant_of-self : goal.invariant_of-self
 invariant_of-self c =
-    let old = c.args.self.now.broken.items in
-    let mid = c.make_room_found.new.broken.items in
-    record {
-      numbered = c.args.self.now.numbered;
-      parted = c.args.self.now.parted;
-      linked = linked_seated old mid (positions old mid c.make_room_found.ensures.each) c.args.self.now.cells.items c.make_room_found.ensures.size.len c.args.self.now.linked;
-      placed = placed_seated old mid (positions old mid c.make_room_found.ensures.each) (starts (get nat_eq c.args.self.now.pages) c.args.self.now.parts.items) c.args.self.now.placed;
-      room = omega (arith, c.make_room_found.ensures.size.room);
-      space = c.args.self.now.space;
-      fewer = c.args.self.now.fewer;
-      few = c.args.self.now.few;
-      listed = listed_roomed c.args.self.now.cells.items old mid c.make_room_found.ensures.each c.args.self.now.work c.args.self.now.listed;
-    }
+    let self = c.args.self.now in
+    let mid = c.make_room_found.new.broken in
+    let e = c.make_room_found.ensures in
+    fits_seated self mid self.work (positions self.broken.items mid.items e.each) e.size
+    (listed_roomed self.cells.items self.broken.items mid.items e.each self.work self.listed)
 
 pub make_room_found-requires : goal.make_room_found-requires
 make_room_found-requires c =
@@ -45,30 +38,24 @@ note_found-requires-clause-sound c =
 
 pub invariant_of-self-2 : goal.invariant_of-self-2
 invariant_of-self-2 c =
-    let old = c.args.self.now.broken.items in
+    let self = c.args.self.now in
+    let old = self.broken.items in
     let mid = c.make_room_found.new.broken.items in
-    let new = c.note_found.new.broken.items in
+    let new = c.note_found.new.broken in
     let found = c.args.found.now in
+    let by = issuing c.args.issuer c.args.reach c.args.broadcast in
+    let lists = c.note_found.new.lists in
+    let e = c.make_room_found.ensures in
     let each = c.note_found.ensures.each in
-    let all = λ (m : ℕ).
-    position_kept (NotesFound found (issuing c.args.issuer c.args.reach c.args.broadcast) c.note_found.new.lists.items) (slice_get mid m) (slice_get new m) (each m) ∙ positions old mid c.make_room_found.ensures.each m in
-    record {
-      numbered = c.args.self.now.numbered;
-      parted = c.args.self.now.parted;
-      linked = linked_seated old new all c.args.self.now.cells.items (c.note_found.ensures.rest.len ∙ c.make_room_found.ensures.size.len) c.args.self.now.linked;
-      placed = placed_seated old new all (starts (get nat_eq c.args.self.now.pages) c.args.self.now.parts.items) c.args.self.now.placed;
-      room = omega (arith, c.make_room_found.ensures.size.room, c.note_found.ensures.rest.room);
-      space = c.args.self.now.space;
-      fewer = c.args.self.now.fewer;
-      few = c.args.self.now.few;
-      listed =
-          listed_noted c.args.self.now.cells.items old mid c.make_room_found.ensures.each new (covers_of found mid) (issuing c.args.issuer c.args.reach c.args.broadcast)
-          c.args.self.now.work (record c.args.self.now.work { waiting = c.note_found.new.lists })
-          (linked_seated old mid (positions old mid c.make_room_found.ensures.each) c.args.self.now.cells.items c.make_room_found.ensures.size.len c.args.self.now.linked)
-          refl refl refl (notes_each found mid (issuing c.args.issuer c.args.reach c.args.broadcast) c.note_found.new.lists.items new each)
-          (waits_each found mid (issuing c.args.issuer c.args.reach c.args.broadcast) c.note_found.new.lists.items new each)
-          c.note_found.ensures.rest.kept c.args.self.now.listed;
-    }
+    let rest = c.note_found.ensures.rest in
+    let first = positions old mid e.each in
+    let work = record self.work { waiting = lists } in
+    fits_seated self new work
+    (λ (m : ℕ). position_kept (NotesFound found by lists.items) (slice_get mid m) (slice_get new.items m) (each m) ∙ first m)
+    (record { len = rest.len ∙ e.size.len; room = rest.room ∙ e.size.room })
+    (listed_noted self.cells.items old mid e.each new.items (covers_of found mid) by self.work work
+    (linked_seated old mid first self.cells.items e.size.len self.linked)
+    refl refl refl (notes_each found mid by lists.items new.items each) (waits_each found mid by lists.items new.items each) rest.kept self.listed)
 
 pub returns-clause-noted : goal.returns-clause-noted
 unfolding marks_at pends_at

@@ -1,8 +1,8 @@
 use Rattle.bbm_place_map.proofs.Common.{ℕ, None, Some, false≢true, nat_eq, ap, sym, subst, ◌∙◌, arith, vec_len, get}
-use Rattle.bbm_place_map.proofs.Common.{no_pends}
+use Rattle.bbm_place_map.proofs.Common.{no_pends, refl}
 use Rattle.bbm_place_map.proofs.Common.{place_cell, marks_in, pends_for, Parted, at_index, starts}
 use Rattle.bbm_place_map.specs.Map.{marks_at, pends_at}
-use Rattle.bbm_place_map.proofs.Clearing.{breakable}
+use Rattle.bbm_place_map.proofs.Clearing.{breakable, fits_with}
 use Rattle.bbm_place_map.proofs.Listing.{listed_broken}
 use Rattle.bbm_place_map.proofs.Places.{at_place, at_same}
 use Rattle.bbm_place_map.proofs.map.PlaceMap.mark.Goals as goal
@@ -16,22 +16,12 @@ invariant_of-self c =
     let self = c.args.self.now in
     let e = c.mark.ensures in
     let n = c.note_write.ensures in
-    let P : ℕ → Type 0 = Parted (get nat_eq self.pages) self.parts.items (vec_len self.values) in
-    record {
-      numbered = self.numbered;
-      parted = subst P (sym e.len) self.parted;
-      linked = e.linked;
-      placed = e.placed (starts (get nat_eq self.pages) self.parts.items) c.requires.cell self.placed;
-      space = omega (arith, e.space, self.space);
-      room = omega (arith, e.room, self.room);
-      fewer = omega (arith, e.len, self.fewer);
-      few = self.few;
-      listed =
-          listed_broken self.work c.note_write.new.work self.cells.items c.mark.new.cells.items self.broken.items c.mark.new.broken.items
-          c.args.i c.args.marks c.args.before.now n.pes
-          (c.requires.before ∙ ap (at_index None (marks_in self.cells.items self.broken.items)) c.requires.cell)
-          n.told n.kept n.waiting n.settled n.unclean e.marks e.pends self.listed;
-    }
+    fits_with self self.values c.mark.new.cells c.mark.new.broken c.note_write.new.work refl e.len e.space e.room e.linked
+    (e.placed (starts (get nat_eq self.pages) self.parts.items) c.requires.cell self.placed)
+    (listed_broken self.work c.note_write.new.work self.cells.items c.mark.new.cells.items self.broken.items c.mark.new.broken.items
+    c.args.i c.args.marks c.args.before.now n.pes
+    (c.requires.before ∙ ap (at_index None (marks_in self.cells.items self.broken.items)) c.requires.cell)
+    n.told n.kept n.waiting n.settled n.unclean e.marks e.pends self.listed)
 
 pub returns-clause-left : goal.returns-clause-left
 unfolding marks_at pends_at

@@ -5,7 +5,8 @@ use Rattle.bbm_place_map.specs.Map.{is_tracked, marks_at, pends_at, restless_in,
 use Rattle.bbm_place_map.proofs.Knowing.{told_entry}
 use Rattle.bbm_place_map.proofs.Advancing.{position_kept, place_kept}
 use Rattle.bbm_place_map.proofs.Published.{published_at, pends_at_same}
-use Rattle.bbm_place_map.proofs.Positions.{linked_seated, placed_seated}
+use Rattle.bbm_place_map.proofs.Clearing.{fits_seated}
+use Rattle.bbm_place_map.proofs.Positions.{linked_seated}
 use Rattle.bbm_place_map.proofs.Listing.{listed_begun, listed_published, told_of}
 use Rattle.bbm_place_map.proofs.Made.{barrier}
 use Rattle.bbm_place_map.proofs.map.PlaceMap.publish.Goals as goal
@@ -19,28 +20,20 @@ publish-requires-clause-known c = λ wide.
     c.begin.ensures.pes (omega (arith, c.len.ensures)) c.begin.ensures.kept c.args.self.now.listed) wide c.args.issuer)
     j marks c.requires.issuer_below is)
 
-positions : (by : Barrier) (old new : List Entry) → ((k : ℕ) → Advances (Publishes by) (slice_get old k) (slice_get new k))
-    → (m : ℕ) → position_at new m ≡ position_at old m
-positions by old new each m = position_kept (Publishes by) (slice_get old m) (slice_get new m) (each m)
-
 pub invariant_of-self-2 : goal.invariant_of-self-2
-invariant_of-self-2 c = record {
-  numbered = c.args.self.now.numbered;
-  parted = c.args.self.now.parted;
-  linked = linked_seated c.args.self.now.broken.items c.publish.new.broken.items (positions (barrier c.args.issuer c.args.dsb c.args.n) c.args.self.now.broken.items c.publish.new.broken.items c.publish.ensures.published.each) c.args.self.now.cells.items c.publish.ensures.published.size.len c.args.self.now.linked;
-  placed = placed_seated c.args.self.now.broken.items c.publish.new.broken.items (positions (barrier c.args.issuer c.args.dsb c.args.n) c.args.self.now.broken.items c.publish.new.broken.items c.publish.ensures.published.each) (starts (get nat_eq c.args.self.now.pages) c.args.self.now.parts.items) c.args.self.now.placed;
-  room = omega (arith, c.publish.ensures.published.size.room);
-  space = c.args.self.now.space;
-  fewer = c.args.self.now.fewer;
-  few = c.args.self.now.few;
-  listed =
-      listed_published c.begin.new.work (record c.begin.new.work { unpublished = c.publish.new.lists }) (barrier c.args.issuer c.args.dsb c.args.n)
-      c.args.self.now.cells.items c.args.self.now.broken.items c.publish.new.broken.items c.begin.ensures.pes refl refl refl
-      c.publish.ensures.published.each c.publish.ensures.known c.publish.ensures.others c.args.self.now.linked
-      (linked_seated c.args.self.now.broken.items c.publish.new.broken.items (positions (barrier c.args.issuer c.args.dsb c.args.n) c.args.self.now.broken.items c.publish.new.broken.items c.publish.ensures.published.each) c.args.self.now.cells.items c.publish.ensures.published.size.len c.args.self.now.linked)
-      (listed_begun c.args.self.now.work c.begin.new.work c.args.n c.len.result c.args.self.now.cells.items c.args.self.now.broken.items c.requires.some c.requires.within
-      c.begin.ensures.pes (omega (arith, c.len.ensures)) c.begin.ensures.kept c.args.self.now.listed);
-}
+invariant_of-self-2 c =
+    let self = c.args.self.now in
+    let new = c.publish.new.broken in
+    let by = barrier c.args.issuer c.args.dsb c.args.n in
+    let all = c.publish.ensures.published in
+    let positions = λ (m : ℕ). position_kept (Publishes by) (slice_get self.broken.items m) (slice_get new.items m) (all.each m) in
+    let work = record c.begin.new.work { unpublished = c.publish.new.lists } in
+    fits_seated self new work positions all.size
+    (listed_published c.begin.new.work work by self.cells.items self.broken.items new.items c.begin.ensures.pes refl refl refl
+    all.each c.publish.ensures.known c.publish.ensures.others self.linked
+    (linked_seated self.broken.items new.items positions self.cells.items all.size.len self.linked)
+    (listed_begun self.work c.begin.new.work c.args.n c.len.result self.cells.items self.broken.items c.requires.some c.requires.within
+    c.begin.ensures.pes (omega (arith, c.len.ensures)) c.begin.ensures.kept self.listed))
 
 pub returns-clause-published : goal.returns-clause-published
 unfolding marks_at

@@ -1,25 +1,14 @@
 use Rattle.bbm_place_map.proofs.Common.{ℕ, nat_eq, refl, arith, sym, subst, vec_len, get, value_in, Numbered, Parted}
 use Rattle.bbm_place_map.specs.Map.{IsPosition, is_tracked, value_at}
+use Rattle.bbm_place_map.proofs.Clearing.{fits_with}
 use Rattle.bbm_place_map.proofs.Places.{at_place}
 use Rattle.bbm_place_map.proofs.map.PlaceMap.put_at.Goals as goal
 
 pub invariant_of-self : goal.invariant_of-self
 invariant_of-self c =
     let self = c.args.self.now in
-    let len = c.put_value.ensures.len in
-    let N : ℕ → Type 0 = Numbered (get nat_eq self.pages) in
-    let P : ℕ → Type 0 = λ n. Parted (get nat_eq self.pages) self.parts.items n (vec_len self.cells) in
-    record {
-      numbered = subst N (sym len) self.numbered;
-      parted = subst P (sym len) self.parted;
-      linked = self.linked;
-      placed = self.placed;
-      space = omega (arith, len, self.space);
-      room = omega (arith, len, self.room);
-      fewer = omega (arith, len, self.fewer);
-      few = omega (arith, len, self.few);
-      listed = self.listed;
-    }
+    fits_with self c.put_value.new.values self.cells self.broken self.work c.put_value.ensures.len refl refl refl self.linked
+    self.placed self.listed
 
 pub returns-clause-put : goal.returns-clause-put
 unfolding IsPosition is_tracked value_at

@@ -10,20 +10,8 @@ clear_by-requires-clause-able c = able c.args.self.now
 
 pub invariant_of-self : goal.invariant_of-self
 invariant_of-self c =
-    let self = c.args.self.now in
-    let fits = fits_cleared self c.put_value.new.values c.clear_by.new.cells c.clear_by.new.broken
-    (is_at (cell_by c.deref.result.now c.args.position.now.index)) c.put_value.ensures.len c.clear_by.ensures in
-    record {
-      numbered = fits.numbered;
-      parted = fits.parted;
-      linked = fits.linked;
-      placed = fits.placed;
-      space = fits.space;
-      room = fits.room;
-      fewer = fits.fewer;
-      few = fits.few;
-      listed = fits.listed;
-    }
+    fits_cleared c.args.self.now c.put_value.new.values c.clear_by.new.cells c.clear_by.new.broken
+    (is_at (cell_by c.deref.result.now c.args.position.now.index)) c.put_value.ensures.len c.clear_by.ensures
 
 pub returns-clause-put : goal.returns-clause-put
 unfolding IsPosition is_tracked value_at

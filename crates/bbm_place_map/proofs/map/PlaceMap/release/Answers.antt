@@ -13,20 +13,8 @@ clear_part-requires-clause-within c =
 
 pub invariant_of-self : goal.invariant_of-self
 invariant_of-self c =
-    let self = c.args.self.now in
-    let fits = fits_cleared self self.values c.clear_part.new.cells c.clear_part.new.broken
-    (in_part (slot_in c.deref.result.now (c.in-Some.base / 512))) refl c.clear_part.ensures in
-    record {
-      numbered = fits.numbered;
-      parted = fits.parted;
-      linked = fits.linked;
-      placed = fits.placed;
-      space = fits.space;
-      room = fits.room;
-      fewer = fits.fewer;
-      few = fits.few;
-      listed = fits.listed;
-    }
+    fits_cleared c.args.self.now c.args.self.now.values c.clear_part.new.cells c.clear_part.new.broken
+    (in_part (slot_in c.deref.result.now (c.in-Some.base / 512))) refl c.clear_part.ensures
 
 pub returns-in-Some-clause-freed : goal.returns-in-Some-clause-freed
 unfolding marks_at pends_at

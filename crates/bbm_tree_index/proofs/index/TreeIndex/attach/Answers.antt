@@ -1,4 +1,4 @@
 use Rattle.bbm_tree_index.proofs.index.TreeIndex.attach.Goals as goal
 
-pub returns-in-Ok-clause-attached : goal.returns-in-Ok-clause-attached
-returns-in-Ok-clause-attached c = c.attach_prepared.ensures.attached c.args.map.now c.args.at c.in-Ok.ensures.prepared c.requires.named
+pub returns-clause-attached : goal.returns-clause-attached
+returns-clause-attached c = c.attach_prepared.ensures.attached c.args.map.now c.args.at c.in_ok-prepared.ensures.prepared c.requires.named
