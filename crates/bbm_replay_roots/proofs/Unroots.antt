@@ -11,13 +11,14 @@ use Rattle.bbm_rules.proofs.Common.{World, Hyp, Kernel, Heading, Event, Root, Un
 use Rattle.bbm_rules.proofs.Common.{among, if_so, is_that, some_pe, base_of, kind_of_reg, Declared, is_root}
 use Rattle.bbm_rules.proofs.Common.{kind_in_world, lock_of, root_at, is_base_at, lacks, no_lock, no_root, holds_tag}
 use Rattle.bbm_rules.proofs.Common.{tag_set, tags_of}
-use Rattle.std.specs.Cmp.{both_ways}
-use Rattle.bbm_lemmas.proofs.Words.{pe_none}
-use Rattle.bbm_tlbi_scope.specs.declared.entry.TagSet.TheVariants.{None as NoTag}
+use Rattle.bbm_lemmas.specs.Elements.{In}
+use Rattle.bbm_lemmas.proofs.Tautologies.{proved}
+use Rattle.bbm_lemmas.proofs.Tautologies.Claim.{If, Is}
+use Rattle.bbm_lemmas.proofs.Tests.{any_alike, any_map}
+use Rattle.bbm_lemmas.proofs.Words.{among_in, pe_none}
 use Rattle.bbm_rules.specs.Broken.{broken}
 use Rattle.bbm_rules.specs.RegisterValues as rules
 use Rattle.bbm_rules.specs.Rules.{root_in_use}
-use Rattle.bbm_tlbi_scope.specs.TagSets.{HasTags}
 use Rattle.bbm_roots.specs.Refusals.{JudgesRetire}
 use Rattle.bbm_roots.specs.RootRegisters.{names_in, names_page, uses}
 use Rattle.bbm_roots.specs.declared.fault.InUse.TheVariants.{Pe as ByPe, Tag as ByTag}
@@ -28,53 +29,14 @@ use Rattle.bbm_replay_roots.proofs.Judge.{broken_unroot, or_rule}
 abbrev pub err_of : {A : Type 0} → RootFault → Result A RootFault
 err_of fault = Err fault
 
--- ---- tests
-
-value_found : (f : ℕ → Bool) (vs : List ℕ) → list_any f vs ≡ true → (v : ℕ) × (among v vs ≡ true) × (f v ≡ true)
-value_found f vs e =
-    let k = any_found f vs e in (k.0, any_finds (λ m. m == k.0) vs k.0 k.1 (eq-eqb k.0 k.0 refl), k.2)
-
--- ---- the bases of one register
+-- ---- the bases of the registers
 
 abbrev at_base : ℕ → ℕ → Bool
 at_base page v = is_that (base_of v) page
 
-base_used : (h : List Event) (reg : Reg) (page : ℕ) (vs : List ℕ) → names_in (map (load_in h reg) vs) page ≡ true → list_any (at_base page) vs ≡ true
-base_used h reg page [] e = e
-base_used h reg page (v ∷ vs) e =
-    elim (or_cases (names_page page (load_in h reg v)) (names_in (map (load_in h reg) vs) page) e) [
-      | inl here ↦ or_left (at_base page v) (list_any (at_base page) vs) (one (base_of v) here)
-      | inr there ↦ or_right (at_base page v) (list_any (at_base page) vs) (base_used h reg page vs there)
-    ]
-  where
-    one : (base : Option ℕ) → is_that (root_in h (kind_of_reg reg) base) page ≡ true → is_that base page ≡ true
-    one None e = e
-    one (Some b) e = by (is_root h (kind_of_reg reg) b) e
-      where
-        by : (c : Bool) → is_that (if_so c b) page ≡ true → (b == page) ≡ true
-        by true e = e
-        by false e = absurd (true≢false (sym e))
-
-used_base : (h : List Event) (reg : Reg) (page : ℕ) (vs : List ℕ) → is_root h (kind_of_reg reg) page ≡ true
-    → list_any (at_base page) vs ≡ true → names_in (map (load_in h reg) vs) page ≡ true
-used_base h reg page [] root e = e
-used_base h reg page (v ∷ vs) root e =
-    elim (or_cases (at_base page v) (list_any (at_base page) vs) e) [
-      | inl here ↦ or_left (names_page page (load_in h reg v)) (names_in (map (load_in h reg) vs) page) (one (base_of v) here)
-      | inr there ↦ or_right (names_page page (load_in h reg v)) (names_in (map (load_in h reg) vs) page) (used_base h reg page vs root there)
-    ]
-  where
-    one : (base : Option ℕ) → is_that base page ≡ true → is_that (root_in h (kind_of_reg reg) base) page ≡ true
-    one None e = e
-    one (Some b) e =
-        let same : b ≡ page = eqb-true b page e in
-        ap (λ (c : Bool). is_that (if_so c b) page) (ap (is_root h (kind_of_reg reg)) same ∙ root) ∙ e
-
 base_there : (page : ℕ) (o : Option ℕ) → is_that o page ≡ true → o ≡ Some page
 base_there page None e = absurd (true≢false (sym e))
 base_there page (Some b) e = ap (λ (n : ℕ). Some n) (eqb-true b page e)
-
--- ---- the bases of all registers of a PE
 
 abbrev in_reg : List Event → ℕ → ℕ → Reg → Bool
 in_reg h page p reg = list_any (at_base page) (rules.register_values h p reg)
@@ -87,46 +49,17 @@ four h page p =
     ∙ ap (λ (b : Bool). in_reg h page p VttbrEl2 || b) (list_any-append (at_base page) (rules.register_values h p Ttbr0El1) _
     ∙ ap (λ (b : Bool). in_reg h page p Ttbr0El1 || b) (list_any-append (at_base page) (rules.register_values h p Ttbr1El1) [])))
 
-four_up : (world : World) (a : Reg → Bool) → (a (first_reg world) || a (second_reg world)) ≡ true
-    → (a Ttbr0El2 || (a VttbrEl2 || (a Ttbr0El1 || (a Ttbr1El1 || false)))) ≡ true
-four_up (Hyp w) a e =
-    elim (or_cases (a Ttbr0El2) (a VttbrEl2) e) [
-      | inl k ↦ or_left (a Ttbr0El2) _ k
-      | inr k ↦ or_right (a Ttbr0El2) _ (or_left (a VttbrEl2) _ k)
-    ]
-four_up (Kernel w) a e =
-    elim (or_cases (a Ttbr0El1) (a Ttbr1El1) e) [
-      | inl k ↦ or_right (a Ttbr0El2) _ (or_right (a VttbrEl2) _ (or_left (a Ttbr0El1) _ k))
-      | inr k ↦ or_right (a Ttbr0El2) _ (or_right (a VttbrEl2) _ (or_right (a Ttbr0El1) _ (or_left (a Ttbr1El1) false k)))
-    ]
-
-one_of_world : (world : World) (a : Reg → Bool) (reg : Reg) → kind_in_world world (kind_of_reg reg) ≡ true → a reg ≡ true
-    → (a (first_reg world) || a (second_reg world)) ≡ true
-one_of_world (Hyp w) a Ttbr0El2 k e = or_left (a Ttbr0El2) (a VttbrEl2) e
-one_of_world (Hyp w) a VttbrEl2 k e = or_right (a Ttbr0El2) (a VttbrEl2) e
-one_of_world (Hyp w) a Ttbr0El1 k e = absurd (true≢false (sym k))
-one_of_world (Hyp w) a Ttbr1El1 k e = absurd (true≢false (sym k))
-one_of_world (Kernel w) a Ttbr0El2 k e = absurd (true≢false (sym k))
-one_of_world (Kernel w) a VttbrEl2 k e = absurd (true≢false (sym k))
-one_of_world (Kernel w) a Ttbr0El1 k e = or_left (a Ttbr0El1) (a Ttbr1El1) e
-one_of_world (Kernel w) a Ttbr1El1 k e = or_right (a Ttbr0El1) (a Ttbr1El1) e
-
-four_down : (world : World) (a : Reg → Bool) → ((reg : Reg) → a reg ≡ true → kind_in_world world (kind_of_reg reg) ≡ true)
-    → (a Ttbr0El2 || (a VttbrEl2 || (a Ttbr0El1 || (a Ttbr1El1 || false)))) ≡ true → (a (first_reg world) || a (second_reg world)) ≡ true
-four_down world a k e =
-    elim (or_cases (a Ttbr0El2) _ e) [
-      | inl here ↦ one_of_world world a Ttbr0El2 (k Ttbr0El2 here) here
-      | inr e1 ↦ elim (or_cases (a VttbrEl2) _ e1) [
-        | inl here ↦ one_of_world world a VttbrEl2 (k VttbrEl2 here) here
-        | inr e2 ↦ elim (or_cases (a Ttbr0El1) _ e2) [
-          | inl here ↦ one_of_world world a Ttbr0El1 (k Ttbr0El1 here) here
-          | inr e3 ↦ elim (or_cases (a Ttbr1El1) false e3) [
-            | inl here ↦ one_of_world world a Ttbr1El1 (k Ttbr1El1 here) here
-            | inr never ↦ absurd (true≢false (sym never))
-          ]
-        ]
-      ]
-    ]
+-- the registers of the world are two of the four, where no value of another passes
+four_same : (world : World) (a : Reg → Bool) → ((reg : Reg) → a reg ≡ true → kind_in_world world (kind_of_reg reg) ≡ true)
+    → (a (first_reg world) || a (second_reg world)) ≡ (a Ttbr0El2 || (a VttbrEl2 || (a Ttbr0El1 || (a Ttbr1El1 || false))))
+four_same (Hyp w) a k =
+    proved 4 (λ x y z u. If (If (Is z true) (Is false true)) (If (If (Is u true) (Is false true))
+    (Is (x || y) (x || (y || (z || (u || false))))))) refl
+    (a Ttbr0El2) (a VttbrEl2) (a Ttbr0El1) (a Ttbr1El1) (k Ttbr0El1) (k Ttbr1El1)
+four_same (Kernel w) a k =
+    proved 4 (λ x y z u. If (If (Is x true) (Is false true)) (If (If (Is y true) (Is false true))
+    (Is (z || u) (x || (y || (z || (u || false))))))) refl
+    (a Ttbr0El2) (a VttbrEl2) (a Ttbr0El1) (a Ttbr1El1) (k Ttbr0El2) (k VttbrEl2)
 
 module _ (heading : Heading) (laws : Laws heading) (proper : Proper heading) (h : List Event) (kept : keeps heading Patterns h ≡ true) where
   root_in_world : (kind : Kind) (page : ℕ) → is_root h kind page ≡ true → kind_in_world heading.world kind ≡ true
@@ -148,26 +81,48 @@ module _ (heading : Heading) (laws : Laws heading) (proper : Proper heading) (h 
         let d = laws.root.of_page h page r at in ap (is_root h r.kind) (sym d.1) ∙ laws.root.is_of_kind h r d.0
 
     -- a base that is this page is a root of its register's kind
-    base_root : (p : ℕ) → p < heading.pes → (reg : Reg) → in_reg h page p reg ≡ true → is_root h (kind_of_reg reg) page ≡ true
-    base_root p less reg e =
-        let f = value_found (at_base page) (rules.register_values h p reg) e in
-        elim (laws.bases.named h proper kept p f.0 page reg less f.1 (base_there page (base_of f.0) f.2)) [
+    base_root : (p : ℕ) → p < heading.pes → (reg : Reg) (v : ℕ) → In (rules.register_values h p reg) v → base_of v ≡ Some page
+        → is_root h (kind_of_reg reg) page ≡ true
+    base_root p less reg v i is =
+        elim (laws.bases.named h proper kept p v page reg less (among_in v (rules.register_values h p reg) i) is) [
           | inl root ↦ root
           | inr null ↦ absurd (true≢false (sym is_declared ∙ laws.bases.null h proper kept r.kind page null))
         ]
 
     reg_same : (p : ℕ) → p < heading.pes → (reg : Reg) → names_in (loads_after h p reg) page ≡ in_reg h page p reg
     reg_same p less reg =
-        both_ways _ _ (base_used h reg page (rules.register_values h p reg))
-        (λ e. used_base h reg page (rules.register_values h p reg) (base_root p less reg e) e)
+        any_map (names_page page) (load_in h reg) (rules.register_values h p reg)
+        ∙ any_alike (λ v. names_page page (load_in h reg v)) (at_base page) (rules.register_values h p reg)
+        (λ v i. one (base_of v) (base_root p less reg v i))
+      where
+        one : (base : Option ℕ) → (base ≡ Some page → is_root h (kind_of_reg reg) page ≡ true)
+            → is_that (root_in h (kind_of_reg reg) base) page ≡ is_that base page
+        one None k = refl
+        one (Some b) k = by (b == page) refl
+          where
+            other : (d : Bool) → (b == page) ≡ false → is_that (if_so d b) page ≡ (b == page)
+            other true e = refl
+            other false e = sym e
+
+            by : (c : Bool) → (b == page) ≡ c → is_that (if_so (is_root h (kind_of_reg reg) b) b) page ≡ (b == page)
+            by true e =
+                let same : b ≡ page = eqb-true b page e in
+                ap (λ (d : Bool). is_that (if_so d b) page)
+                (ap (is_root h (kind_of_reg reg)) same ∙ k (ap (λ (n : ℕ). Some n) same))
+            by false e = other (is_root h (kind_of_reg reg) b) e
+
+    in_world : (p : ℕ) → p < heading.pes → (reg : Reg) → in_reg h page p reg ≡ true
+        → kind_in_world heading.world (kind_of_reg reg) ≡ true
+    in_world p less reg e =
+        let f = any_found (at_base page) (rules.register_values h p reg) e in
+        root_in_world (kind_of_reg reg) page (base_root p less reg f.0 f.1 (base_there page (base_of f.0) f.2))
 
     uses_same : (p : ℕ) → p < heading.pes → uses h heading.world page p ≡ is_base_at h page p
     uses_same p less =
         ap (λ (b : Bool). b || names_in (loads_after h p (second_reg heading.world)) page) (reg_same p less (first_reg heading.world))
-        ∙ (ap (λ (b : Bool). in_reg h page p (first_reg heading.world) || b) (reg_same p less (second_reg heading.world))
-        ∙ (both_ways _ _ (four_up heading.world (in_reg h page p))
-        (four_down heading.world (in_reg h page p) (λ reg e. root_in_world (kind_of_reg reg) page (base_root p less reg e)))
-        ∙ sym (four h page p)))
+        ∙ ap (λ (b : Bool). in_reg h page p (first_reg heading.world) || b) (reg_same p less (second_reg heading.world))
+        ∙ four_same heading.world (in_reg h page p) (in_world p less)
+        ∙ sym (four h page p)
 
   -- ---- tags
 
@@ -304,38 +259,3 @@ module _ (heading : Heading) (laws : Laws heading) (proper : Proper heading) (h 
           → rest ≡ Some (record { rule = unroot_rule fault; at = page }) → ⊥
       clash None rest fault e f = cc
       clash (Some at) rest fault e f = cc
-
--- ---- the set of the tags
-
-pub set_is : (heading : Heading) (laws : Laws heading) (h : List Event) (page : ℕ) → (test : Tag → Bool)
-    → ((tag : Tag) → test tag ≡ holds_tag heading Patterns page tag h) → (set : TagSet) → HasTags test set
-    → set ≡ tag_set (tags_of heading Patterns page h)
-set_is heading laws h page test same set has = by set (tag_set (tags_of heading Patterns page h)) refl has
-  where
-    own : (g : Tag) → same_tag g g ≡ true
-    own g = (laws.equality_tests.tags g g).1 refl
-
-    by : (set other : TagSet) → tag_set (tags_of heading Patterns page h) ≡ other → HasTags test set → set ≡ other
-    by NoTag NoTag is has = refl
-    by NoTag (One u) is has = absurd
-        (true≢false (sym (laws.tag_set.one page h u is u ∙ own u) ∙ (sym (same u) ∙ has u)))
-    by NoTag Many is has = let m = laws.tag_set.many page h is in absurd
-        (true≢false (sym m.3 ∙ (sym (same m.0) ∙ has m.0)))
-    by (One t) NoTag is has = absurd (true≢false (sym (has t ∙ own t) ∙ (same t ∙ laws.tag_set.none page h is t)))
-    by (One t) (One u) is has =
-        let e : u ≡ t = (laws.equality_tests.tags u t).0
-        (sym (laws.tag_set.one page h u is t) ∙ (sym (same t) ∙ (has t ∙ own t))) in
-        ap (λ (g : Tag). One g) (sym e)
-    by (One t) Many is has =
-        let m = laws.tag_set.many page h is in
-        let a : m.0 ≡ t = sym ((laws.equality_tests.tags t m.0).0 (sym (has m.0) ∙ (same m.0 ∙ m.3))) in
-        let b : m.1 ≡ t = sym ((laws.equality_tests.tags t m.1).0 (sym (has m.1) ∙ (same m.1 ∙ m.4))) in
-        absurd (true≢false (sym (own t) ∙ (ap (λ (g : Tag). same_tag g t) (sym a) ∙ (ap (λ (g : Tag). same_tag m.0 g) (sym b) ∙ m.2))))
-    by Many NoTag is has = absurd (true≢false (sym has.3 ∙ (same has.0 ∙ laws.tag_set.none page h is has.0)))
-    by Many (One u) is has =
-        let a : u ≡ has.0 = (laws.equality_tests.tags u has.0).0
-        (sym (laws.tag_set.one page h u is has.0) ∙ (sym (same has.0) ∙ has.3)) in
-        let b : u ≡ has.1 = (laws.equality_tests.tags u has.1).0
-        (sym (laws.tag_set.one page h u is has.1) ∙ (sym (same has.1) ∙ has.4)) in
-        absurd (true≢false (sym (own u) ∙ (ap (λ (g : Tag). same_tag g u) a ∙ (ap (λ (g : Tag). same_tag has.0 g) b ∙ has.2))))
-    by Many Many is has = refl

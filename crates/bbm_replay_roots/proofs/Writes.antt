@@ -15,7 +15,11 @@ use Rattle.bbm_rules.proofs.Common.{tag_conflict, ReadsTag, Reading, holds_at, h
 use Rattle.std.specs.List.{filter}
 use Rattle.std.specs.Option.{unwrap_or}
 use Rattle.std.proofs.lemmas.Bool.{lt-leb}
-use Rattle.bbm_lemmas.proofs.Words.{pe_found}
+use Rattle.bbm_lemmas.specs.Elements.{In}
+use Rattle.bbm_lemmas.proofs.Elements.{any_finds, any_found, from_filter, from_flat, from_map, in_map, to_filter}
+use Rattle.bbm_lemmas.proofs.Elements.{to_flat}
+use Rattle.bbm_lemmas.proofs.Numbers.{same_swapped}
+use Rattle.bbm_lemmas.proofs.Words.{among_in, in_among, pe_found}
 use Rattle.bbm_regimes.specs.declared.regime.Which.TheVariants.{Values as ValuesLimit}
 use Rattle.bbm_rules.specs.Broken.{broken}
 use Rattle.bbm_rules.specs.Rules.{wrong_world}
@@ -23,7 +27,6 @@ use Rattle.bbm_roots.specs.LeastOf.{IsLeast, ReadingUpTo}
 use Rattle.bbm_roots.specs.Refusals.{JudgesWrite, conflicts, missing_root, unless_root}
 use Rattle.bbm_roots.specs.RootRegisters.{NullNamesNone}
 use Rattle.bbm_roots.specs.declared.fault.RootFault.TheVariants as faults
-use Rattle.bbm_roots.proofs.Readable.{swap}
 use Rattle.bbm_histories.specs.TagSteps.{kind_of_tag}
 use Rattle.bbm_replay_roots.specs.RootFaults.{write_fault}
 use Rattle.bbm_replay_roots.proofs.Judge.{broken_msr, or_rule}
@@ -70,36 +73,6 @@ least_some (m ∷ ns) n e k =
 abbrev pages_with : (Declared → Bool) → List Declared → List ℕ
 pages_with test rs = map (λ r. r.page) (filter test rs)
 
-one_found : (test : Declared → Bool) (rs : List Declared) (m : ℕ) → among m (pages_with test rs) ≡ true
-    → (s : Declared) × (s.page ≡ m) × (test s ≡ true)
-one_found test [] m e = absurd (true≢false (sym e))
-one_found test (r ∷ rs) m e = by (test r) refl e (λ k. one_found test rs m k)
-  where
-    by : (b : Bool) → test r ≡ b → among m (map (λ (x : Declared). x.page) (cond b (r ∷ filter test rs) (filter test rs))) ≡ true
-        → (among m (pages_with test rs) ≡ true → (s : Declared) × (s.page ≡ m) × (test s ≡ true))
-        → (s : Declared) × (s.page ≡ m) × (test s ≡ true)
-    by false is e rest = rest e
-    by true is e rest =
-        elim (or_cases (r.page == m) (among m (pages_with test rs)) e) [
-          | inl here ↦ (r, eqb-true r.page m here, is)
-          | inr there ↦ rest there
-        ]
-
-one_finds : (test : Declared → Bool) (n : ℕ) → ((s : Declared) → s.page ≡ n → test s ≡ true) → (rs : List Declared) → list_any (is_at n) rs ≡ true
-    → among n (pages_with test rs) ≡ true
-one_finds test n k [] e = e
-one_finds test n k (r ∷ rs) e =
-    elim (or_cases (r.page == n) (list_any (is_at n) rs) e) [
-      | inl here ↦ ap (λ (b : Bool). among n (map (λ (x : Declared). x.page) (cond b (r ∷ filter test rs) (filter test rs)))) (k r (eqb-true r.page n here))
-          ∙ or_left (r.page == n) (among n (pages_with test rs)) here
-      | inr there ↦ by (test r) (one_finds test n k rs there)
-    ]
-  where
-    by : (b : Bool) → among n (pages_with test rs) ≡ true
-        → among n (map (λ (x : Declared). x.page) (cond b (r ∷ filter test rs) (filter test rs))) ≡ true
-    by true f = or_right (r.page == n) (among n (pages_with test rs)) f
-    by false f = f
-
 -- ---- the roots that hold a tag which is readable for another
 
 abbrev test_of : (ℕ → Tag → Bool) → Reading → Declared → Bool
@@ -111,49 +84,40 @@ clash_in rs n tag = list_any (λ r. same_tag r.tag tag && not (r.root == n)) rs
 clash_found : (own : (g : Tag) → same_tag g g ≡ true) (holds : ℕ → Tag → Bool) (roots : List Declared) (rs : List Reading) (m : ℕ)
     → among m (flat_map (λ r. pages_with (test_of holds r) roots) rs) ≡ true
     → (tag : Tag) × (clash_in rs m tag ≡ true) × (holds m tag ≡ true)
-clash_found own holds roots [] m e = absurd (true≢false (sym e))
-clash_found own holds roots (r ∷ rs) m e =
-    elim (or_cases (among m (pages_with (test_of holds r) roots)) (among m (flat_map (λ r. pages_with (test_of holds r) roots) rs))
-    (sym (list_any-append (λ x. x == m) (pages_with (test_of holds r) roots) (flat_map (λ r. pages_with (test_of holds r) roots) rs)) ∙ e)) [
-      | inl here ↦
-          let f = one_found (test_of holds r) roots m here in
-          let parts = and_parts (not (f.0.page == r.root)) (holds f.0.page r.tag) f.2 in (
-            r.tag,
-            or_left (same_tag r.tag r.tag && not (r.root == m)) (clash_in rs m r.tag)
-                (and_from (same_tag r.tag r.tag) (not (r.root == m)) (own r.tag)
-                (ap (λ (b : Bool). not b) (swap r.root m ∙ ap (λ (n : ℕ). n == r.root) (sym f.1)) ∙ parts.0)),
-            ap (λ (n : ℕ). holds n r.tag) (sym f.1) ∙ parts.1,
-          )
-      | inr there ↦ let f = clash_found own holds roots rs m there in
-          (f.0, or_right (same_tag r.tag f.0 && not (r.root == m)) (clash_in rs m f.0) f.1, f.2)
-    ]
+clash_found own holds roots rs m e =
+    let f = from_flat (λ r. pages_with (test_of holds r) roots) rs m
+    (in_among m (flat_map (λ r. pages_with (test_of holds r) roots) rs) e) in
+    let s = from_map (λ (s : Declared). s.page) (filter (test_of holds f.0) roots) m f.2 in
+    let parts = and_parts (not (s.0.page == f.0.root)) (holds s.0.page f.0.tag)
+    (from_filter (test_of holds f.0) roots s.0 s.1).1 in (
+      f.0.tag,
+      any_finds (λ r. same_tag r.tag f.0.tag && not (r.root == m)) rs f.0 f.1
+          (and_from (same_tag f.0.tag f.0.tag) (not (f.0.root == m)) (own f.0.tag)
+          (ap (λ (b : Bool). not b) (same_swapped f.0.root m ∙ ap (λ (n : ℕ). n == f.0.root) (sym s.2)) ∙ parts.0)),
+      ap (λ (n : ℕ). holds n f.0.tag) (sym s.2) ∙ parts.1,
+    )
 
 clash_finds : (same : (g k : Tag) → same_tag g k ≡ true → g ≡ k) (holds : ℕ → Tag → Bool) (roots : List Declared) (rs : List Reading) (n : ℕ) (tag : Tag)
     → clash_in rs n tag ≡ true → holds n tag ≡ true → list_any (is_at n) roots ≡ true
     → among n (flat_map (λ r. pages_with (test_of holds r) roots) rs) ≡ true
-clash_finds same holds roots [] n tag e k root = absurd (true≢false (sym e))
-clash_finds same holds roots (r ∷ rs) n tag e k root =
-    list_any-append (λ x. x == n) (pages_with (test_of holds r) roots) (flat_map (λ r. pages_with (test_of holds r) roots) rs)
-    ∙ elim (or_cases (same_tag r.tag tag && not (r.root == n)) (clash_in rs n tag) e) [
-      | inl here ↦
-          let parts = and_parts (same_tag r.tag tag) (not (r.root == n)) here in
-          or_left (among n (pages_with (test_of holds r) roots)) (among n (flat_map (λ r. pages_with (test_of holds r) roots) rs))
-          (one_finds (test_of holds r) n (λ s at. and_from (not (s.page == r.root)) (holds s.page r.tag)
-          (ap (λ (x : ℕ). not (x == r.root)) at ∙ (ap (λ (b : Bool). not b) (swap n r.root) ∙ parts.1))
-          (ap (λ (x : ℕ). holds x r.tag) at ∙ (ap (holds n) (same r.tag tag parts.0) ∙ k))) roots root)
-      | inr there ↦ or_right (among n (pages_with (test_of holds r) roots)) (among n (flat_map (λ r. pages_with (test_of holds r) roots) rs))
-          (clash_finds same holds roots rs n tag there k root)
-    ]
+clash_finds same holds roots rs n tag e k root =
+    let r = any_found (λ r. same_tag r.tag tag && not (r.root == n)) rs e in
+    let s = any_found (is_at n) roots root in
+    let at : s.0.page ≡ n = eqb-true s.0.page n s.2 in
+    let parts = and_parts (same_tag r.0.tag tag) (not (r.0.root == n)) r.2 in
+    among_in n (flat_map (λ r. pages_with (test_of holds r) roots) rs)
+    (to_flat (λ r. pages_with (test_of holds r) roots) rs r.0 n r.1
+    (subst (In (pages_with (test_of holds r.0) roots)) at (in_map (λ (x : Declared). x.page) (filter (test_of holds r.0) roots) s.0
+    (to_filter (test_of holds r.0) roots s.0 s.1 (and_from (not (s.0.page == r.0.root)) (holds s.0.page r.0.tag)
+    (ap (λ (x : ℕ). not (x == r.0.root)) at ∙ (ap (λ (b : Bool). not b) (same_swapped n r.0.root) ∙ parts.1))
+    (ap (λ (x : ℕ). holds x r.0.tag) at ∙ (ap (holds n) (same r.0.tag tag parts.0) ∙ k)))))))
 
 -- ---- a declared root
 
 any_at : (kind : Kind) (n : ℕ) (rs : List Declared) → list_any (λ r. is_at n r && same_kind r.kind kind) rs ≡ true → list_any (is_at n) rs ≡ true
-any_at kind n [] e = e
-any_at kind n (r ∷ rs) e =
-    elim (or_cases (is_at n r && same_kind r.kind kind) (list_any (λ r. is_at n r && same_kind r.kind kind) rs) e) [
-      | inl here ↦ or_left (is_at n r) (list_any (is_at n) rs) (and_parts (is_at n r) (same_kind r.kind kind) here).0
-      | inr there ↦ or_right (is_at n r) (list_any (is_at n) rs) (any_at kind n rs there)
-    ]
+any_at kind n rs e =
+    let f = any_found (λ (r : Declared). is_at n r && same_kind r.kind kind) rs e in
+    any_finds (is_at n) rs f.0 f.1 (and_parts (is_at n f.0) (same_kind f.0.kind kind) f.2).0
 
 reads_root : (world : World) (h : List Event) (p root : ℕ) (tag : Tag) → ReadsTag world h p tag root → (kind : Kind) × (is_root h kind root ≡ true)
 reads_root (Hyp world) h p root El2Tag k = (_, k.1.declared)

@@ -2,8 +2,8 @@
 use Rattle.std.specs.Prelude.{ℕ, Option}
 use Rattle.std.specs.Option.{option_map}
 use Rattle.bbm_roots.specs.Listed as lower
-use Rattle.bbm_roots.specs.declared.root.Declared.{Declared}
 use Rattle.bbm_rules.specs.Prelude.{Kind}
+use Rattle.bbm_rules.specs.Roots.{Declared}
 use Rattle.bbm_replay_roots.specs.declared.state.RootState.{RootState}
 
 -- the kind and the first page of one of them by its number, None from the count on

@@ -106,7 +106,6 @@ impl RootState {
         ensures { (heading : Heading) (h : List TheEvent) → StateStands self.now heading h → result
             ≡ spec.is_root h kind page }
     {
-        laws_below();
         self.roots.is_root(kind, page)
     }
 
@@ -115,7 +114,6 @@ impl RootState {
         ensures { (heading : Heading) (h : List TheEvent) → StateStands self.now heading h
             → result ≡ is_some (spec.root_at h page) }
     {
-        laws_below();
         self.roots.is_declared(page)
     }
 
@@ -125,7 +123,6 @@ impl RootState {
         ensures { (heading : Heading) (h : List TheEvent) → StateStands self.now heading h
             → result ≡ spec.lock_of h page }
     {
-        laws_below();
         self.roots.lock_of(page)
     }
 
@@ -170,9 +167,11 @@ impl RootState {
         self.roots.tags_of(page)
     }
 
-    /// The number of declared roots, 0 to 1,024. Each has a number below it.
+    /// The number of declared roots. Each has a number below it.
     pub fn count(&self) -> usize
-        ensures { (heading : Heading) (h : List TheEvent) (page : ℕ) (root : spec.Declared)
+        ensures count { (heading : Heading) (h : List TheEvent) → StateStands self.now heading h
+            → result ≡ length (spec.roots_of h) }
+        ensures each { (heading : Heading) (h : List TheEvent) (page : ℕ) (root : spec.Declared)
             → StateStands self.now heading h → spec.root_at h page ≡ Some root
             → (i : ℕ) × (i < result) × (nth_root_in self.now i ≡ Some (root.kind, root.page)) }
     {
@@ -214,7 +213,6 @@ impl RootState {
         ensures { (heading : Heading) (h : List TheEvent) → StateStands self.now heading h
             → result ≡ registers.vmid_of heading h pe }
     {
-        laws_below();
         match self.roots.vmid_of(pe) {
             Ok(vmid) => Some(vmid),
             Err(_) => None,
@@ -334,7 +332,6 @@ impl RootState {
         requires { MayAsk (StateStands self.old) pe }
         ensures { TakesEvent (TheEvent.Isb pe) self.old self.new }
     {
-        laws_below();
         self.roots.isb(pe);
     }
 
@@ -373,7 +370,6 @@ impl RootState {
         requires { MayAsk (StateStands self.old) pe }
         ensures { TakesEvent (TheEvent.Dsb pe dsb) self.old self.new }
     {
-        laws_below();
         self.roots.complete(pe, dsb);
     }
 

@@ -17,8 +17,10 @@ pub use mathlib.Core.Bool.{and-false, and-true, or-false}
 pub use Rattle.bbm_barriers.specs.Options.{answers}
 pub use Rattle.bbm_barriers.specs.declared.Dsb.{Dsb}
 pub use Rattle.bbm_lemmas.proofs.Bools.{first_none, first_true, second_none}
+pub use Rattle.bbm_lemmas.proofs.Numbers.{same_swapped}
 pub use Rattle.bbm_lemmas.proofs.Tautologies.{proved}
 pub use Rattle.bbm_lemmas.proofs.Tautologies.Claim.{If, Is}
+pub use Rattle.bbm_lemmas.proofs.Words.{pe_finds, pe_found, pe_none}
 pub use Rattle.bbm_lemmas.specs.ListWords.{same_flag}
 pub use Rattle.bbm_regimes.specs.declared.regime.AsidFrom.{AsidFrom}
 pub use Rattle.bbm_regimes.specs.declared.regime.Kind.{Kind}
@@ -52,8 +54,9 @@ pub use Rattle.bbm_roots.specs.declared.pending.Pendings.{Pendings}
 pub use Rattle.bbm_roots.specs.declared.pending.Waiting.{Waiting}
 pub use Rattle.bbm_roots.specs.declared.reading.Reading.{Reading}
 pub use Rattle.bbm_roots.specs.declared.registers.Registers.{Registers}
-pub use Rattle.bbm_roots.specs.declared.root.Declared.{Declared}
 pub use Rattle.bbm_roots.specs.declared.roots.Roots.{Roots}
+pub use Rattle.bbm_roots.proofs.Equal.{reg_equal, tag_equal, tag_self}
+pub use Rattle.bbm_rules.specs.Roots.{Declared}
 pub use Rattle.bbm_tlbi_scope.specs.ScopeTags.{takes_whole_tag}
 pub use Rattle.bbm_tlbi_scope.specs.TagSets.{HasTags}
 pub use Rattle.bbm_tlbi_scope.specs.declared.entry.TagSet.{TagSet}

@@ -1,45 +1,33 @@
 -- What the entries say of the roots that hold tags is what the history says.
-use Rattle.bbm_roots.proofs.Common.{◌≡◌, ℕ, zero, suc, ◌<◌, ◌≤◌, ⊎_elim, Option, Some, None, Bool, true, false, ◌&&◌}
+use Rattle.bbm_roots.proofs.Common.{pe_finds, pe_none}
+use Rattle.bbm_roots.proofs.Common.{◌≡◌, ℕ, ◌<◌, ◌≤◌, ⊎_elim, Option, Some, None, Bool, true, false, ◌&&◌}
 use Rattle.bbm_roots.proofs.Common.{◌||◌, nat_eq, List, [], ◌∷◌, refl, sym, ◌∙◌, ap, list_any, proved, Is, IndexMap}
-use Rattle.bbm_roots.proofs.Common.{get, fun_ext, cases_lt, false≢true, eq-eqb, true_from_ne_false, Tag, Reg}
+use Rattle.bbm_roots.proofs.Common.{get, cases_lt, eq-eqb, Tag, Reg}
 use Rattle.bbm_roots.proofs.Common.{some_pe, is_hold, hold_in, tag_in, entry_bit, entry_held, tag_key, conflict_in}
 use Rattle.bbm_roots.proofs.Common.{is_clash, IsCalm, has_reading, has_other, is_reading, is_other, conflicts}
 use Rattle.bbm_roots.proofs.Common.{Held, Reading, and-false, first_none, second_none}
 use Rattle.bbm_regimes.specs.PeMask.{pe_in}
+use Rattle.bbm_lemmas.proofs.Tests.{any_and, any_both, any_or, any_same}
+use Rattle.bbm_lemmas.specs.ListWords.{below}
 use Rattle.bbm_events.specs.Heading.{Heading}
 use Rattle.bbm_events.specs.declared.event.Event.{Event}
 use Rattle.bbm_events.specs.declared.event.Event.TheVariants.{Msr}
 use Rattle.bbm_rules.specs.Claims.{Patterns}
-use Rattle.bbm_rules.specs.Tags.{holds_at, holds_tag}
-use Rattle.bbm_roots.proofs.Bits.{none_below, none_at}
-use Rattle.bbm_roots.proofs.Readable.{others-are, readings_at}
+use Rattle.bbm_rules.specs.Tags.{holds_at, holds_tag, readings}
+use Rattle.bbm_roots.proofs.Bits.{none_at}
 use Rattle.bbm_roots.proofs.Steps.{holds-written}
 use mathlib.Core.Bool.{or_comm}
-
-some_pe-or : (n : ℕ) (f g : ℕ → Bool) → some_pe n (λ p. f p || g p) ≡ (some_pe n f || some_pe n g)
-some_pe-or zero f g = refl
-some_pe-or (suc n) f g =
-    ap (λ (b : Bool). (f n || g n) || b) (some_pe-or n f g) ∙ proved 4 (λ a b c d. Is ((a || b) || (c || d)) ((a || c)
-    || (b || d))) refl (f n) (g n) (some_pe n f) (some_pe n g)
-
-some_pe-and : (n : ℕ) (b : Bool) (f : ℕ → Bool) → some_pe n (λ p. b && f p) ≡ (b && some_pe n f)
-some_pe-and n true f = refl
-some_pe-and n false f = none_below n (λ p. false) (λ p lt. refl)
 
 -- at this PE alone
 some_pe-one : (n pe : ℕ) (b : Bool) → pe < n → some_pe n (λ p. nat_eq p pe && b) ≡ b
 some_pe-one n pe true lt =
-    true_from_ne_false (some_pe n (λ p. nat_eq p pe && true))
-    (λ e. false≢true (sym (none_at n (λ p. nat_eq p pe && true) pe e lt) ∙ ap (λ (b : Bool). b && true) (eq-eqb pe pe refl)))
-some_pe-one n pe false lt = none_below n (λ p. nat_eq p pe && false) (λ p k. and-false (nat_eq p pe))
-
-some_pe-same : (n : ℕ) (f g : ℕ → Bool) → ((p : ℕ) → f p ≡ g p) → some_pe n f ≡ some_pe n g
-some_pe-same n f g same = ap (some_pe n) (fun_ext same)
+    pe_finds n (λ p. nat_eq p pe && true) pe lt (ap (λ (b : Bool). b && true) (eq-eqb pe pe refl))
+some_pe-one n pe false lt = pe_none n (λ p. nat_eq p pe && false) (λ p k. and-false (nat_eq p pe))
 
 -- at one PE of the entry
 entry-is : (n : ℕ) (g : Tag) (r : ℕ) (o : Option Held) → entry_held n g r o ≡ some_pe n (λ p. entry_bit g r p o)
-entry-is n g r None = sym (none_below n (λ p. false) (λ p lt. refl))
-entry-is n g r (Some held) = sym (some_pe-and n (is_hold g r held) (pe_in held.pes))
+entry-is n g r None = sym (pe_none n (λ p. false) (λ p lt. refl))
+entry-is n g r (Some held) = sym (any_and (is_hold g r held) (pe_in held.pes) (below n))
 
 module _ {S : Type 0} (hs : IndexMap ℕ Held S) where
   pub tag_in-is : (n : ℕ) (g : Tag) (r : ℕ) → tag_in hs n g r ≡ some_pe n (hold_in hs g r)
@@ -51,7 +39,7 @@ module _ {S : Type 0} (hs : IndexMap ℕ Held S) where
       tag_in hs heading.pes g r ≡ holds_tag heading Patterns r g h
   tag-held heading h same g r =
       tag_in-is heading.pes g r
-      ∙ some_pe-same heading.pes (hold_in hs g r) (λ p. holds_at heading Patterns p r g h) (same g r)
+      ∙ any_same (hold_in hs g r) (λ p. holds_at heading Patterns p r g h) (below heading.pes) (same g r)
 
   -- what the tags that are about to be readable show is what is in conflict
   pub clash-split : (n : ℕ) (seen : List Reading) (x : Reading) →
@@ -60,34 +48,30 @@ module _ {S : Type 0} (hs : IndexMap ℕ Held S) where
       split (has_other x.tag x.root seen) (tag_in hs n x.tag x.root) seen
       ∙ turn (has_reading x.tag x.root seen) (has_other x.tag x.root seen) (tag_in hs n x.tag x.root)
     where
-      swap : (a b c d o t : Bool) → (((a && o) || (b && t)) || ((c && o) || (d && t))) ≡ (((a || c) && o) || ((b || d) && t))
-      swap = proved 6 (λ a b c d o t. Is (((a && o) || (b && t)) || ((c && o) || (d && t))) (((a || c) && o) || ((b
-          || d) && t))) refl
-
       split : (o t : Bool) (xs : List Reading) →
           list_any (λ y. (is_reading x.tag x.root y && o) || (is_other x.tag x.root y && t)) xs
           ≡ ((has_reading x.tag x.root xs && o) || (has_other x.tag x.root xs && t))
-      split o t [] = refl
-      split o t (y ∷ ys) =
-          ap (λ (b : Bool). ((is_reading x.tag x.root y && o) || (is_other x.tag x.root y && t)) || b) (split o t ys)
-          ∙ swap (is_reading x.tag x.root y) (is_other x.tag x.root y) (has_reading x.tag x.root ys) (has_other x.tag x.root ys) o t
+      split o t xs =
+          any_or (λ y. is_reading x.tag x.root y && o) (λ y. is_other x.tag x.root y && t) xs
+          ∙ ap (λ (b : Bool). b || list_any (λ y. is_other x.tag x.root y && t) xs) (any_both (is_reading x.tag x.root) o xs)
+          ∙ ap (λ (b : Bool). (has_reading x.tag x.root xs && o) || b) (any_both (is_other x.tag x.root) t xs)
 
       turn : (a o t : Bool) → ((a && o) || (o && t)) ≡ (o && (a || t))
       turn = proved 3 (λ a o t. Is ((a && o) || (o && t)) (o && (a || t))) refl
 
 -- A register write of one PE, at which the tags and roots seen are then readable.
 module _ {S : Type 0} (heading : Heading) (h : List Event) (pe : ℕ) (reg : Reg) (value : ℕ) (seen : List Reading)
-    (here : (p : ℕ) → nat_eq p pe ≡ true → readings_at heading (Msr pe reg value ∷ h) p ≡ seen)
-    (there : (p : ℕ) → nat_eq p pe ≡ false → readings_at heading (Msr pe reg value ∷ h) p ≡ readings_at heading h p)
+    (here : (p : ℕ) → nat_eq p pe ≡ true → readings heading (Msr pe reg value ∷ h) p ≡ seen)
+    (there : (p : ℕ) → nat_eq p pe ≡ false → readings heading (Msr pe reg value ∷ h) p ≡ readings heading h p)
     (known : pe < heading.pes) (hs : IndexMap ℕ Held S)
     (same : (g : Tag) (r p : ℕ) → hold_in hs g r p ≡ holds_at heading Patterns p r g h) where
   tag-written : (g : Tag) (r : ℕ) → holds_tag heading Patterns r g (Msr pe reg value ∷ h)
       ≡ (tag_in hs heading.pes g r || has_reading g r seen)
   tag-written g r =
-      some_pe-same heading.pes (λ p. holds_at heading Patterns p r g (Msr pe reg value ∷ h))
-      (λ p. holds_at heading Patterns p r g h || (nat_eq p pe && has_reading g r seen))
+      any_same (λ p. holds_at heading Patterns p r g (Msr pe reg value ∷ h))
+      (λ p. holds_at heading Patterns p r g h || (nat_eq p pe && has_reading g r seen)) (below heading.pes)
       (λ p. sym (holds-written heading h pe reg value seen here there g r p))
-      ∙ some_pe-or heading.pes (λ p. holds_at heading Patterns p r g h) (λ p. nat_eq p pe && has_reading g r seen)
+      ∙ any_or (λ p. holds_at heading Patterns p r g h) (λ p. nat_eq p pe && has_reading g r seen) (below heading.pes)
       ∙ ap (λ (b : Bool). holds_tag heading Patterns r g h || b) (some_pe-one heading.pes pe (has_reading g r seen) known)
       ∙ ap (λ (b : Bool). b || has_reading g r seen) (sym (tag-held hs heading h same g r))
 
@@ -96,8 +80,7 @@ module _ {S : Type 0} (heading : Heading) (h : List Event) (pe : ℕ) (reg : Reg
       ap (λ (b : Bool). has_other x.tag x.root seen && b) (or_comm (has_reading x.tag x.root seen) (tag_in hs heading.pes x.tag x.root))
       ∙ ap (λ (b : Bool). has_other x.tag x.root seen && b) (sym (tag-written x.tag x.root))
       ∙ ap (λ (b : Bool). b && holds_tag heading Patterns x.root x.tag (Msr pe reg value ∷ h))
-      (ap (has_other x.tag x.root) (sym (here pe (eq-eqb pe pe refl)))
-      ∙ others-are heading (Msr pe reg value ∷ h) pe x.tag x.root)
+      (ap (has_other x.tag x.root) (sym (here pe (eq-eqb pe pe refl))))
 
 -- where nothing is in conflict at the first n PEs, and no other PE holds a tag, no tag is to be taken from another root
 pub calm-from : {S : Type 0} (hs : IndexMap ℕ Held S) (n : ℕ) (seen : List Reading) →

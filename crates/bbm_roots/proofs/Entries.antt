@@ -1,4 +1,5 @@
 -- The entries of the tags that are held, found by the key of a tag or one after another.
+use Rattle.bbm_roots.proofs.Common.{tag_equal}
 use Rattle.bbm_roots.proofs.Common.{◌≡◌, ◌+◌, ◌<◌, ◌≤◌, ℕ, Bool, true, false, ◌&&◌, ◌||◌, not, nat_eq, List, [], ◌∷◌}
 use Rattle.bbm_roots.proofs.Common.{Option, Some, None, cond, refl, sym, ◌∙◌, ap, take, length, list_any, lookup}
 use Rattle.bbm_roots.proofs.Common.{false≢true, eqb-true, eq-eqb, or_left, or_right, take_all, proved, If, Is, IndexMap}
@@ -10,7 +11,7 @@ use Rattle.std.specs.Map.{keys_of, values_of}
 use Rattle.std.proofs.lemmas.Option.{get_or_from_slice_get}
 use Rattle.bbm_regimes.specs.PeMask.{pe_in}
 use Rattle.bbm_roots.specs.Holds.{is_held_by}
-use Rattle.bbm_roots.proofs.Bits.{and_right, same_tag-true}
+use Rattle.bbm_roots.proofs.Bits.{and_right}
 use Rattle.bbm_roots.proofs.Lists.{any-next, any-front}
 
 -- what an entry that a key finds passes, one of the entries does
@@ -93,7 +94,7 @@ reading-clash y seen other x = by_case (is_reading x.tag x.root y) refl
     by_case : (b : Bool) → is_reading x.tag x.root y ≡ b → (b && has_other x.tag x.root seen) ≡ b
     by_case false e = refl
     by_case true e =
-        ap (λ (g : Tag). has_other g x.root seen) (sym (same_tag-true y.tag x.tag (first_true (same_tag y.tag x.tag) (nat_eq y.root x.root) e)))
+        ap (λ (g : Tag). has_other g x.root seen) (sym (tag_equal y.tag x.tag (first_true (same_tag y.tag x.tag) (nat_eq y.root x.root) e)))
         ∙ ap (λ (r : ℕ). has_other y.tag r seen) (sym (eqb-true y.root x.root (and_right (same_tag y.tag x.tag) (nat_eq y.root x.root) e)))
         ∙ other
 
@@ -104,7 +105,7 @@ pub holder-clash : {S : Type 0} (hs : IndexMap ℕ Held S) (n : ℕ) (y : Readin
 holder-clash hs n y root apart holder x = by_case (same_tag y.tag x.tag) refl
   where
     there : same_tag y.tag x.tag ≡ true → tag_in hs n x.tag x.root ≡ nat_eq root x.root
-    there e = ap (λ (g : Tag). tag_in hs n g x.root) (sym (same_tag-true y.tag x.tag e)) ∙ holder x.root
+    there e = ap (λ (g : Tag). tag_in hs n g x.root) (sym (tag_equal y.tag x.tag e)) ∙ holder x.root
 
     by_root : (a b : Bool) → nat_eq y.root x.root ≡ a → nat_eq root x.root ≡ b → (not a && b) ≡ b
     by_root false b e f = refl

@@ -9,6 +9,8 @@ use Rattle.bbm_roots.proofs.Common.{and-true, or-false}
 use Rattle.bbm_regimes.specs.declared.regime.AsidFrom.TheVariants.{Ttbr0 as FromTtbr0, Ttbr1 as FromTtbr1}
 use Rattle.bbm_regimes.specs.declared.regime.Tag.TheVariants.{El2 as El2Tag, Ttbr1 as Ttbr1Tag}
 use Rattle.bbm_roots.specs.Readings.{reads_asid, names_some, names_root, names_root_with, numbered}
+use Rattle.bbm_lemmas.proofs.Elements.{is_none_of}
+use Rattle.bbm_lemmas.proofs.Tests.{any_and, any_both, any_same}
 use Rattle.bbm_roots.proofs.Lists.{any-weaker}
 
 -- a test of what each element gives
@@ -77,22 +79,10 @@ pub readings-isb : (t : Reading → Bool) (world : World) (b : Bool) (xs ys : Li
 readings-isb t world true xs ys e = readings-newest t world xs ys e
 readings-isb t world false xs ys e = e
 
-pub newest-same : (b : Bool) (x : RootValue) → cond b (newest (x ∷ [])) (x ∷ []) ≡ x ∷ []
-newest-same true x = refl
-newest-same false x = refl
-
 -- the test by cases
 some-name : (root : Option ℕ) (tag g : Tag) → list_any (is_of_tag g) (reading_at tag root) ≡ (is_some root && same_tag tag g)
 some-name None tag g = refl
 some-name (Some n) tag g = or-false (same_tag tag g)
-
-any-same : {X : Type 0} (p q : X → Bool) → ((x : X) → p x ≡ q x) → (xs : List X) → list_any p xs ≡ list_any q xs
-any-same p q h [] = refl
-any-same p q h (x ∷ xs) = ap (λ (b : Bool). b || list_any p xs) (h x) ∙ ap (λ (b : Bool). q x || b) (any-same p q h xs)
-
-any-none : {X : Type 0} (xs : List X) → list_any (λ x. false) xs ≡ false
-any-none [] = refl
-any-none (x ∷ xs) = any-none xs
 
 -- the readings of a kind have a tag that isn't of the kind nowhere, one that always is where a root is named, and one
 -- with a number where a root is named with it
@@ -100,54 +90,46 @@ module _ (g : Tag) (kind : Kind) where
   own : (xs : List RootValue) → has_tag g (flat_map (own_reading kind) xs) ≡ list_any (λ x. is_some x.root && same_tag (tag_of kind x.number) g) xs
   own xs =
       any-flat_map (is_of_tag g) (own_reading kind) xs
-      ∙ any-same (λ x. list_any (is_of_tag g) (own_reading kind x)) (λ x. is_some x.root && same_tag (tag_of kind x.number) g)
-      (λ x. some-name x.root (tag_of kind x.number) g) xs
+      ∙ any_same (λ x. list_any (is_of_tag g) (own_reading kind x)) (λ x. is_some x.root && same_tag (tag_of kind x.number) g) xs
+      (λ x. some-name x.root (tag_of kind x.number) g)
 
   own-none : ((n : ℕ) → same_tag (tag_of kind n) g ≡ false) → (xs : List RootValue) → has_tag g (flat_map (own_reading kind) xs) ≡ false
   own-none h xs =
       own xs
-      ∙ any-same (λ x. is_some x.root && same_tag (tag_of kind x.number) g) (λ x. false)
-      (λ x. ap (λ (b : Bool). is_some x.root && b) (h x.number) ∙ and-false (is_some x.root)) xs
-      ∙ any-none xs
+      ∙ is_none_of (λ x. is_some x.root && same_tag (tag_of kind x.number) g) xs
+      (λ x i. ap (λ (b : Bool). is_some x.root && b) (h x.number) ∙ and-false (is_some x.root))
 
   own-all : ((n : ℕ) → same_tag (tag_of kind n) g ≡ true) → (xs : List RootValue) → has_tag g (flat_map (own_reading kind) xs) ≡ list_any names_root xs
   own-all h xs =
       own xs
-      ∙ any-same (λ x. is_some x.root && same_tag (tag_of kind x.number) g) names_root
-      (λ x. ap (λ (b : Bool). is_some x.root && b) (h x.number) ∙ and-true (is_some x.root)) xs
+      ∙ any_same (λ x. is_some x.root && same_tag (tag_of kind x.number) g) names_root xs
+      (λ x. ap (λ (b : Bool). is_some x.root && b) (h x.number) ∙ and-true (is_some x.root))
 
 join : (g : Tag) (xs ys : List Reading) (a b : Bool) → has_tag g xs ≡ a → has_tag g ys ≡ b → has_tag g (xs ++ ys) ≡ (a || b)
 join g xs ys a b e f = list_any-append (is_of_tag g) xs ys ∙ ap (λ (x : Bool). x || has_tag g ys) e ∙ ap (λ (y : Bool). a || y) f
 
 -- the readings under each ASID of the second list
 crossed-one : (a n : ℕ) (xs : List RootValue) → has_tag (Asid a) (flat_map (reading_under (Asid n)) xs) ≡ (list_any names_root xs && (n == a))
-crossed-one a n [] = refl
-crossed-one a n (x ∷ xs) =
-    list_any-append (is_of_tag (Asid a)) (reading_at (Asid n) x.root) (flat_map (reading_under (Asid n)) xs)
-    ∙ ap (λ (b : Bool). b || has_tag (Asid a) (flat_map (reading_under (Asid n)) xs)) (some-name x.root (Asid n)
-    (Asid a))
-    ∙ ap (λ (b : Bool). (is_some x.root && (n == a)) || b) (crossed-one a n xs)
-    ∙ proved 3 (λ p q c. Is ((p && c) || (q && c)) ((p || q) && c)) refl (is_some x.root) (list_any names_root xs)
-    (n == a)
+crossed-one a n xs =
+    any-flat_map (is_of_tag (Asid a)) (reading_under (Asid n)) xs
+    ∙ any_same (λ x. list_any (is_of_tag (Asid a)) (reading_under (Asid n) x)) (λ x. names_root x && (n == a)) xs
+    (λ x. some-name x.root (Asid n) (Asid a))
+    ∙ any_both names_root (n == a) xs
 
 crossed-asid : (a : ℕ) (xs ys : List RootValue) → has_tag (Asid a) (flat_map (readings_with xs) ys) ≡ (list_any names_root xs && list_any (numbered a) ys)
-crossed-asid a xs [] = sym (and-false (list_any names_root xs))
-crossed-asid a xs (y ∷ ys) =
-    list_any-append (is_of_tag (Asid a)) (readings_with xs y) (flat_map (readings_with xs) ys)
-    ∙ ap (λ (b : Bool). b || has_tag (Asid a) (flat_map (readings_with xs) ys)) (crossed-one a y.number xs)
-    ∙ ap (λ (b : Bool). (list_any names_root xs && (y.number == a)) || b) (crossed-asid a xs ys)
-    ∙ proved 3 (λ p c d. Is ((p && c) || (p && d)) (p && (c || d))) refl (list_any names_root xs) (y.number == a)
-    (list_any (numbered a) ys)
+crossed-asid a xs ys =
+    any-flat_map (is_of_tag (Asid a)) (readings_with xs) ys
+    ∙ any_same (λ y. list_any (is_of_tag (Asid a)) (readings_with xs y)) (λ y. list_any names_root xs && numbered a y) ys
+    (λ y. crossed-one a y.number xs)
+    ∙ any_and (list_any names_root xs) (numbered a) ys
 
 crossed-none : (g : Tag) → ((n : ℕ) → same_tag (Asid n) g ≡ false) → (xs ys : List RootValue) → has_tag g (flat_map (readings_with xs) ys) ≡ false
 crossed-none g h xs ys =
     any-flat_map (is_of_tag g) (readings_with xs) ys
-    ∙ any-same (λ y. list_any (is_of_tag g) (readings_with xs y)) (λ y. false)
-    (λ y. any-flat_map (is_of_tag g) (reading_under (Asid y.number)) xs
-    ∙ any-same (λ x. list_any (is_of_tag g) (reading_under (Asid y.number) x)) (λ x. false)
-    (λ x. some-name x.root (Asid y.number) g ∙ ap (λ (b : Bool). is_some x.root && b) (h y.number) ∙ and-false (is_some x.root)) xs
-    ∙ any-none xs) ys
-    ∙ any-none ys
+    ∙ is_none_of (λ y. list_any (is_of_tag g) (readings_with xs y)) ys
+    (λ y i. any-flat_map (is_of_tag g) (reading_under (Asid y.number)) xs
+    ∙ is_none_of (λ x. list_any (is_of_tag g) (reading_under (Asid y.number) x)) xs
+    (λ x j. some-name x.root (Asid y.number) g ∙ ap (λ (b : Bool). is_some x.root && b) (h y.number) ∙ and-false (is_some x.root)))
 
 -- in the Kernel world, by the register that names the ASID
 abbrev reads_of_kernel : AsidFrom → List RootValue → List RootValue → Tag → Bool

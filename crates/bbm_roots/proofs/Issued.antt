@@ -1,4 +1,5 @@
 -- A TLBI of a history, by what it names.
+use Rattle.bbm_roots.proofs.Common.{same_swapped}
 use Rattle.bbm_roots.proofs.Common.{◌≡◌, ℕ, Bool, true, false, not, ◌&&◌, ◌||◌, ◌==◌, nat_eq, cond, Option, Some, None}
 use Rattle.bbm_roots.proofs.Common.{refl, sym, ap, ◌∙◌, List, proved, If, Is, Tag, takes_whole_tag, same_flag}
 use Rattle.std.proofs.Common.{Result, Ok, Err}
@@ -23,7 +24,6 @@ use Rattle.bbm_rules.specs.RegisterValues.{lacks_vmid, named_scope, vmid_of}
 use Rattle.bbm_rules.specs.Tags.{takes_tag}
 use Rattle.bbm_histories.specs.HistorySteps.{is_tlbi}
 use Rattle.bbm_roots.specs.RootChanges.{Issues}
-use Rattle.bbm_roots.proofs.Readable.{swap}
 
 -- ---- the scope of a TLBI is broadcast where its operation is
 
@@ -98,9 +98,9 @@ issue-is heading h pe op xt scope vmid named q b tag p =
     ∙ ap (λ (v : Option ℕ). pe == q && (same_bool scope.broadcast b && ((scope.broadcast || (not heading.cnp && pe == p)) && takes_whole_tag scope v tag)))
     (sym named.1)
     ∙ ap (λ (x : Bool). x && (same_bool scope.broadcast b && ((scope.broadcast || (not heading.cnp && pe == p)) && takes_whole_tag scope vmid tag)))
-    (swap pe q)
+    (same_swapped pe q)
     ∙ ap (λ (x : Bool). q == pe && (same_bool scope.broadcast b && ((scope.broadcast || (not heading.cnp && x)) && takes_whole_tag scope vmid tag)))
-    (swap pe p)
+    (same_swapped pe p)
     ∙ ap (λ (x : Bool). q == pe && (x && ((scope.broadcast || (not heading.cnp && p == pe)) && takes_whole_tag scope vmid tag)))
     (sym (flag scope.broadcast b))
     ∙ turn (q == pe) (same_flag scope.broadcast b) scope.broadcast (not heading.cnp) (p == pe) (takes_whole_tag scope vmid tag) named.2

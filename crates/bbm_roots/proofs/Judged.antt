@@ -18,19 +18,7 @@ use Rattle.bbm_roots.specs.declared.fault.RootFault.TheVariants.{NoRoot}
 use Rattle.bbm_roots.proofs.Conflicts.{conflict-is}
 use Rattle.bbm_roots.proofs.Numbers.{length-loads}
 use Rattle.bbm_roots.proofs.Taken.{seen-here}
-use Rattle.bbm_roots.proofs.Written.{elsewhere}
-
--- a register of the world is its first or its second
-loads-there : (world : World) (h : List Event) (pe : ℕ) (reg : Reg) → kind_in_world world (kind_of_reg reg) ≡ true →
-    cond (is_first reg) (loads_after h pe (first_reg world)) (loads_after h pe (second_reg world)) ≡ loads_after h pe reg
-loads-there (Hyp w) h pe Ttbr0El2 e = refl
-loads-there (Hyp w) h pe VttbrEl2 e = refl
-loads-there (Hyp w) h pe Ttbr0El1 e = absurd (false≢true e)
-loads-there (Hyp w) h pe Ttbr1El1 e = absurd (false≢true e)
-loads-there (Kernel w) h pe Ttbr0El2 e = absurd (false≢true e)
-loads-there (Kernel w) h pe VttbrEl2 e = absurd (false≢true e)
-loads-there (Kernel w) h pe Ttbr0El1 e = refl
-loads-there (Kernel w) h pe Ttbr1El1 e = refl
+use Rattle.bbm_roots.proofs.Written.{elsewhere, of_world_is}
 
 pub write-judged : (old : Roots) (heading : Heading) (h : List Event) (pe : ℕ) (reg : Reg) (value : ℕ) (null : Bool)
     (load : RootValue) (seen : List Reading) → Stands old heading h → pe < pes_of old →
@@ -64,8 +52,8 @@ write-judged old heading h pe reg value null load seen stands known of_world is_
     count =
         ap (λ (xs : List RootValue). length (cond (is_first reg) xs (loads_in old.registers.second.items pe))) (stands.first pe less)
         ∙ ap (λ (ys : List RootValue). length (cond (is_first reg) (loads_after h pe (first_reg heading.world)) ys)) (stands.second pe less)
-        ∙ ap (length {A = RootValue}) (loads-there heading.world h pe reg
-        (ap (λ (w : World). kind_in_world w (kind_of_reg reg)) (sym stands.world) ∙ of_world))
+        ∙ ap (length {A = RootValue}) ((of_world_is heading.world reg
+        (ap (λ (w : World). kind_in_world w (kind_of_reg reg)) (sym stands.world) ∙ of_world)).2 (loads_after h pe))
         ∙ length-loads h reg (register_values h pe reg)
 
 -- a write of a value whose root is missing

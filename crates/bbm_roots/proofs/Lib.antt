@@ -1,3 +1,4 @@
+mod Equal
 mod Common
 pub mod Columns
 pub mod Bits

@@ -1,16 +1,13 @@
 -- What a test finds in a list, and in the front of it.
 use Rattle.bbm_roots.proofs.Common.{◌≡◌, ℕ, zero, suc, ◌<◌, ◌+◌, Bool, true, false, ◌||◌, List, [], ◌∷◌, length, take}
-use Rattle.bbm_roots.proofs.Common.{get_or, refl, sym, ◌∙◌, ap, list_any, false≢true, proved, If, Is}
+use Rattle.bbm_roots.proofs.Common.{get_or, refl, sym, ◌∙◌, ap, list_any, false≢true}
 use Rattle.std.proofs.lemmas.List.Folds.{list_any_more}
+use Rattle.bbm_lemmas.proofs.Elements.{any_found, any_finds}
 
 -- a weaker test finds what a stronger one finds
 pub any-weaker : {X : Type 0} (strong weak : X → Bool) → ((x : X) → strong x ≡ true → weak x ≡ true) →
     (xs : List X) → list_any strong xs ≡ true → list_any weak xs ≡ true
-any-weaker strong weak h [] e = e
-any-weaker strong weak h (x ∷ xs) e =
-    proved 4 (λ a a' b b'. If (If (Is a true) (Is a' true)) (If (If (Is b true) (Is b' true)) (If (Is (a || b) true) (Is
-    (a' || b') true)))) refl (strong x) (weak x) (list_any strong xs) (list_any weak xs) (h x)
-    (any-weaker strong weak h xs) e
+any-weaker strong weak h xs e = let f = any_found strong xs e in any_finds weak xs f.0 f.1 (h f.0 f.2)
 
 -- what a loop has found with the item at its index
 pub any-next : {X : Type 0} (test : X → Bool) (xs : List X) (i : ℕ) (x : X) → i < length xs → x ≡ get_or xs i x →

@@ -8,8 +8,9 @@ use Rattle.std.proofs.Common.{map}
 use Rattle.bbm_regimes.specs.Registers.{tag_number}
 use Rattle.bbm_lemmas.specs.ListWords as words
 use Rattle.bbm_events.specs.declared.event.Event.{Event}
-use Rattle.bbm_events.specs.declared.event.Event.TheVariants.{Isb, Msr}
 use Rattle.bbm_rules.specs.RegisterValues.{register_values}
+use Rattle.bbm_rules.specs.Sentences.{register_value}
+use Rattle.bbm_rules.proofs.RegisterLaw.{first}
 use Rattle.bbm_roots.specs.RootRegisters.{load_in}
 use Rattle.bbm_roots.proofs.Bits.{and_right}
 use Rattle.bbm_roots.proofs.Leasts.{or-split}
@@ -96,17 +97,8 @@ numbers-are h reg [] = refl
 numbers-are h reg (v ∷ vs) = ap (λ (ns : List ℕ). tag_number v ∷ ns) (numbers-are h reg vs)
 
 pub some-value : (h : List Event) (p : ℕ) (reg : Reg) → 0 < length (register_values h p reg)
-some-value [] p reg = omega arith
-some-value (Msr pe r value ∷ h) p reg = by_case (pe == p && same_reg r reg) (some-value h p reg)
+some-value h p reg = by (register_values h p reg) (first p reg h)
   where
-    by_case : (b : Bool) → 0 < length (register_values h p reg) →
-        0 < length (cond b (value ∷ register_values h p reg) (register_values h p reg))
-    by_case true k = omega arith
-    by_case false k = k
-some-value (Isb pe ∷ h) p reg = by_case (pe == p) (register_values h p reg) (some-value h p reg)
-  where
-    by_case : (b : Bool) (vs : List ℕ) → 0 < length vs → 0 < length (cond b (take 1 vs) vs)
-    by_case true [] k = k
-    by_case true (v ∷ vs) k = omega arith
-    by_case false vs k = k
-some-value (e ∷ h) p reg = some-value h p reg
+    by : (vs : List ℕ) → take 1 vs ≡ register_value h p reg ∷ [] → 0 < length vs
+    by [] e = absurd (cc)
+    by (v ∷ vs) e = omega arith

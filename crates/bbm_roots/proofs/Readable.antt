@@ -8,7 +8,6 @@ use Rattle.bbm_roots.proofs.Common.{readings_of, readings_with, own_reading, rea
 use Rattle.bbm_roots.proofs.Common.{has_tag, has_other, same_tag, first_reg, second_reg, newest, kind_of_reg, RootValue}
 use Rattle.bbm_roots.proofs.Common.{Reading}
 use Rattle.std.proofs.Common.{map}
-use Rattle.std.proofs.lemmas.List.{map-append}
 use Rattle.std.specs.List.{cons_option, filter_map}
 use Rattle.std.specs.Option.{option_and_then}
 use Rattle.bbm_regimes.specs.Registers.{base_of, tag_number}
@@ -21,19 +20,9 @@ use Rattle.bbm_rules.specs.RegisterValues.{register_values}
 use Rattle.bbm_rules.specs.Roots.{is_root}
 use Rattle.bbm_rules.specs.Tags as tags
 use Rattle.bbm_histories.specs.TagSteps.{BasesStay}
-use Rattle.bbm_roots.specs.Refusals.{reads_other}
 use Rattle.bbm_roots.specs.RootRegisters.{load_in, loads_after, root_in}
 
 -- ---- values
-
-pub swap : (a b : ℕ) → (a == b) ≡ (b == a)
-swap a b = by (a == b) (b == a) refl refl
-  where
-    by : (x y : Bool) → (a == b) ≡ x → (b == a) ≡ y → x ≡ y
-    by true true e f = refl
-    by false false e f = refl
-    by true false e f = sym (sym f ∙ eq-eqb b a (sym (eqb-true a b e)))
-    by false true e f = sym e ∙ eq-eqb a b (sym (eqb-true b a f))
 
 pub newest-map : (f : ℕ → RootValue) (vs : List ℕ) → newest (map f vs) ≡ map f (take 1 vs)
 newest-map f [] = refl
@@ -73,23 +62,19 @@ loads-past heading h e stay outside p reg =
 
 -- ---- readable tags
 
-abbrev as_reading : tags.Reading → Reading
-as_reading r = record { tag = r.tag; root = r.root }
-
-one-reading : (tag : Tag) (h : List Event) (kind : Kind) (base : Option ℕ) (rest : List tags.Reading)
-    → reading_at tag (root_in h kind base) ++ map as_reading rest
-    ≡ map as_reading (cons_option (option_and_then (λ b. if_so (is_root h kind b) (record { tag = tag; root = b })) base) rest)
+one-reading : (tag : Tag) (h : List Event) (kind : Kind) (base : Option ℕ) (rest : List Reading)
+    → reading_at tag (root_in h kind base) ++ rest
+    ≡ cons_option (option_and_then (λ b. if_so (is_root h kind b) (record { tag = tag; root = b })) base) rest
 one-reading tag h kind None rest = refl
 one-reading tag h kind (Some b) rest = by (is_root h kind b)
   where
-    by : (c : Bool) → reading_at tag (if_so c b) ++ map as_reading rest
-        ≡ map as_reading (cons_option (if_so c (record { tag = tag; root = b })) rest)
+    by : (c : Bool) → reading_at tag (if_so c b) ++ rest ≡ cons_option (if_so c (record { tag = tag; root = b })) rest
     by true = refl
     by false = refl
 
 own-same : (h : List Event) (reg : Reg) (tag : ℕ → Tag) (f : RootValue → List Reading)
     → ((v : ℕ) → f (load_in h reg v) ≡ reading_at (tag v) (root_in h (kind_of_reg reg) (base_of v))) → (vs : List ℕ)
-    → flat_map f (map (load_in h reg) vs) ≡ map as_reading (filter_map (tags.reading_of h reg tag) vs)
+    → flat_map f (map (load_in h reg) vs) ≡ filter_map (tags.reading_of h reg tag) vs
 own-same h reg tag f k [] = refl
 own-same h reg tag f k (v ∷ vs) =
     ap (λ (xs : List Reading). xs ++ flat_map f (map (load_in h reg) vs)) (k v)
@@ -98,72 +83,47 @@ own-same h reg tag f k (v ∷ vs) =
 
 under-same : (h : List Event) (vs ws : List ℕ)
     → flat_map (readings_with (map (load_in h Ttbr0El1) vs)) (map (load_in h Ttbr1El1) ws)
-    ≡ map as_reading (flat_map (λ from. filter_map (tags.reading_of h Ttbr0El1 (λ value. Asid (tag_number from))) vs) ws)
+    ≡ flat_map (λ from. filter_map (tags.reading_of h Ttbr0El1 (λ value. Asid (tag_number from))) vs) ws
 under-same h vs [] = refl
 under-same h vs (w ∷ ws) =
     ap (λ (xs : List Reading). xs ++ flat_map (readings_with (map (load_in h Ttbr0El1) vs)) (map (load_in h Ttbr1El1) ws))
     (own-same h Ttbr0El1 (λ value. Asid (tag_number w)) (reading_under (Asid (tag_number w))) (λ v. refl) vs)
-    ∙ (ap (λ (xs : List Reading). map as_reading (filter_map (tags.reading_of h Ttbr0El1 (λ value. Asid (tag_number w))) vs) ++ xs) (under-same h vs ws)
-    ∙ sym (map-append as_reading (filter_map (tags.reading_of h Ttbr0El1 (λ value. Asid (tag_number w))) vs)
-    (flat_map (λ from. filter_map (tags.reading_of h Ttbr0El1 (λ value. Asid (tag_number from))) vs) ws)))
+    ∙ ap (λ (xs : List Reading). filter_map (tags.reading_of h Ttbr0El1 (λ value. Asid (tag_number w))) vs ++ xs) (under-same h vs ws)
 
 asid-same : (from : AsidFrom) (h : List Event) (p : ℕ)
-    → asid_readings from (loads_after h p Ttbr0El1) (loads_after h p Ttbr1El1) ≡ map as_reading (tags.asid_readings from h p)
+    → asid_readings from (loads_after h p Ttbr0El1) (loads_after h p Ttbr1El1) ≡ tags.asid_readings from h p
 asid-same FromTtbr0 h p =
     own-same h Ttbr0El1 (λ value. Asid (tag_number value)) (own_reading Ttbr0) (λ v. refl) (register_values h p Ttbr0El1)
 asid-same FromTtbr1 h p = under-same h (register_values h p Ttbr0El1) (register_values h p Ttbr1El1)
 
-readings-same : (world : World) (h : List Event) (p : ℕ)
-    → readings_of world (loads_after h p (first_reg world)) (loads_after h p (second_reg world))
-    ≡ map as_reading (tags.readings_in world h p)
+pub readings-same : (world : World) (h : List Event) (p : ℕ)
+    → readings_of world (loads_after h p (first_reg world)) (loads_after h p (second_reg world)) ≡ tags.readings_in world h p
 readings-same (Hyp world) h p =
     ap (λ (xs : List Reading). xs ++ flat_map (own_reading S2) (loads_after h p VttbrEl2))
     (own-same h Ttbr0El2 (λ value. El2Tag) (own_reading El2) (λ v. refl) (register_values h p Ttbr0El2))
-    ∙ (ap (λ (xs : List Reading). map as_reading (tags.readings_of h p Ttbr0El2 (λ value. El2Tag)) ++ xs)
+    ∙ ap (λ (xs : List Reading). tags.readings_of h p Ttbr0El2 (λ value. El2Tag) ++ xs)
     (own-same h VttbrEl2 (λ value. Vmid (tag_number value)) (own_reading S2) (λ v. refl) (register_values h p VttbrEl2))
-    ∙ sym (map-append as_reading (tags.readings_of h p Ttbr0El2 (λ value. El2Tag)) (tags.readings_of h p VttbrEl2 (λ value. Vmid (tag_number value)))))
 readings-same (Kernel world) h p =
     ap (λ (xs : List Reading). xs ++ flat_map (own_reading Ttbr1) (loads_after h p Ttbr1El1))
     (asid-same world.asid_from h p)
-    ∙ (ap (λ (xs : List Reading). map as_reading (tags.asid_readings world.asid_from h p) ++ xs)
+    ∙ ap (λ (xs : List Reading). tags.asid_readings world.asid_from h p ++ xs)
     (own-same h Ttbr1El1 (λ value. Ttbr1Tag) (own_reading Ttbr1) (λ v. refl) (register_values h p Ttbr1El1))
-    ∙ sym (map-append as_reading (tags.asid_readings world.asid_from h p) (tags.readings_of h p Ttbr1El1 (λ value. Ttbr1Tag))))
-
--- what is readable at a PE after a history, by what its register values name
-abbrev pub readings_at : Heading → List Event → ℕ → List Reading
-readings_at heading h p =
-    readings_of heading.world (loads_after h p (first_reg heading.world)) (loads_after h p (second_reg heading.world))
-
-any-map : (f : Reading → Bool) (rs : List tags.Reading) → list_any f (map as_reading rs) ≡ list_any (λ r. f (as_reading r)) rs
-any-map f [] = refl
-any-map f (r ∷ rs) = ap (λ (b : Bool). f (as_reading r) || b) (any-map f rs)
-
-module _ (heading : Heading) (h : List Event) (p : ℕ) where
-  test-is : (f : Reading → Bool) → list_any f (readings_at heading h p) ≡ list_any (λ r. f (as_reading r)) (tags.readings heading h p)
-  test-is f = ap (list_any f) (readings-same heading.world h p) ∙ any-map f (tags.readings heading h p)
-
-  pub reads-are : (g : Tag) (r : ℕ) → has_reading g r (readings_at heading h p) ≡ tags.reads heading h p g r
-  reads-are g r = test-is (λ x. same_tag x.tag g && x.root == r)
-
-  pub some-are : (g : Tag) → has_tag g (readings_at heading h p) ≡ tags.reads_for_some heading h p g
-  some-are g = test-is (λ x. same_tag x.tag g)
-
-  pub others-are : (g : Tag) (r : ℕ) → has_other g r (readings_at heading h p) ≡ reads_other heading h p g r
-  others-are g r = test-is (λ x. same_tag x.tag g && not (x.root == r))
 
 -- an event that leaves what the values of a PE name
 module _ (heading : Heading) (h : List Event) (e : Event) (p : ℕ)
     (first : loads_after (e ∷ h) p (first_reg heading.world) ≡ loads_after h p (first_reg heading.world))
     (second : loads_after (e ∷ h) p (second_reg heading.world) ≡ loads_after h p (second_reg heading.world)) where
-  stays : readings_at heading (e ∷ h) p ≡ readings_at heading h p
-  stays =
-      ap (λ (xs : List RootValue). readings_of heading.world xs (loads_after (e ∷ h) p (second_reg heading.world)))
+  pub readings-stay : tags.readings heading (e ∷ h) p ≡ tags.readings heading h p
+  readings-stay =
+      sym (readings-same heading.world (e ∷ h) p)
+      ∙ ap (λ (xs : List RootValue). readings_of heading.world xs (loads_after (e ∷ h) p (second_reg heading.world)))
       first
       ∙ ap (λ (ys : List RootValue). readings_of heading.world (loads_after h p (first_reg heading.world)) ys)
       second
+      ∙ readings-same heading.world h p
 
   pub reads-stay : (g : Tag) (r : ℕ) → tags.reads heading (e ∷ h) p g r ≡ tags.reads heading h p g r
-  reads-stay g r = sym (reads-are heading (e ∷ h) p g r) ∙ ap (has_reading g r) stays ∙ reads-are heading h p g r
+  reads-stay g r = ap (has_reading g r) readings-stay
 
   pub some-stay : (g : Tag) → tags.reads_for_some heading (e ∷ h) p g ≡ tags.reads_for_some heading h p g
-  some-stay g = sym (some-are heading (e ∷ h) p g) ∙ ap (has_tag g) stays ∙ some-are heading h p g
+  some-stay g = ap (has_tag g) readings-stay

@@ -1,4 +1,5 @@
 -- A register write that makes nothing readable that the PE doesn't hold.
+use Rattle.bbm_roots.proofs.Common.{tag_equal}
 use Rattle.bbm_roots.proofs.Common.{◌≡◌, ◌<◌, ℕ, Bool, true, false, ◌&&◌, ◌||◌, not, nat_eq, List, [], ◌∷◌, ◌++◌}
 use Rattle.bbm_roots.proofs.Common.{Option, Some, None, cond, refl, sym, ◌∙◌, ap, list_any, flat_map, false≢true}
 use Rattle.bbm_roots.proofs.Common.{eqb-true, eq-eqb, not-true, list_any-append, proved, Is, IndexMap, get, AsidFrom}
@@ -19,9 +20,9 @@ use Rattle.bbm_lemmas.proofs.Bools.{or_middle}
 use Rattle.bbm_lemmas.proofs.Elements.{any_found, any_finds}
 use Rattle.bbm_roots.specs.LoadsOf.{other_loads}
 use Rattle.bbm_roots.specs.RootRegisters.{loads_after}
-use Rattle.bbm_roots.proofs.Bits.{and_right, same_tag-true}
+use Rattle.bbm_roots.proofs.Bits.{and_right}
 use Rattle.bbm_roots.proofs.Leasts.{or-split}
-use Rattle.bbm_roots.proofs.Readable.{reads-are}
+use Rattle.bbm_roots.proofs.Readable.{readings-same}
 use Rattle.bbm_roots.proofs.Steps.{reads-holds}
 
 -- what a test finds among readings, with those of one more value
@@ -75,7 +76,7 @@ module _ {S : Type 0} (hs : IndexMap ℕ Held S) (pe : ℕ) (g : Tag) (r : ℕ) 
   root-held tag None held e = absurd (false≢true e)
   root-held tag (Some root) held e =
       let k : (same_tag tag g && nat_eq root r) ≡ true = sym (or-false (same_tag tag g && nat_eq root r)) ∙ e in
-      ap (λ (h : Tag). hold_in hs h r pe) (sym (same_tag-true tag g (first_true (same_tag tag g) (nat_eq root r) k)))
+      ap (λ (h : Tag). hold_in hs h r pe) (sym (tag_equal tag g (first_true (same_tag tag g) (nat_eq root r) k)))
       ∙ ap (λ (m : ℕ). hold_in hs tag m pe) (sym (eqb-true root r (and_right (same_tag tag g) (nat_eq root r) k)))
       ∙ held
 
@@ -225,7 +226,7 @@ read-held roots pe heading h stands known g r e =
     let less : pe < heading.pes = let n = stands.pes in omega (arith, known) in
     stands.holds g r pe
     ∙ reads-holds heading h g r pe
-    (sym (reads-are heading h pe g r)
+    (ap (has_reading g r) (sym (readings-same heading.world h pe))
     ∙ ap (λ (ys : List RootValue). has_reading g r (readings_of heading.world (loads_after h pe (first_reg heading.world)) ys))
     (sym (stands.second pe less))
     ∙ ap (λ (xs : List RootValue). has_reading g r (readings_of heading.world xs (loads_in roots.registers.second.items pe)))

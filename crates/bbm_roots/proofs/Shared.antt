@@ -1,4 +1,5 @@
 -- A register write that makes one tag readable, which its root holds at some PE.
+use Rattle.bbm_roots.proofs.Common.{pe_found, tag_equal}
 use Rattle.bbm_roots.proofs.Common.{◌≡◌, ◌<◌, ◌≤◌, ℕ, Bool, true, false, nat_le, ⊎_elim, ◌&&◌, ◌||◌, not, nat_eq, List}
 use Rattle.bbm_roots.proofs.Common.{[], ◌∷◌, ◌++◌, Option, Some, None, cond, refl, sym, ◌∙◌, ap, is_some, flat_map}
 use Rattle.bbm_roots.proofs.Common.{false≢true, eqb-true, not-true, cases_lt, proved, If, Is, IndexMap, get, AsidFrom}
@@ -17,7 +18,7 @@ use Rattle.bbm_events.specs.declared.event.Event.{Event}
 use Rattle.bbm_roots.specs.HoldsNew.{kernel_tag, own_tag}
 use Rattle.bbm_roots.specs.RootJudgements.{IsShared}
 use Rattle.bbm_roots.specs.TagsByRoot.{is_listed}
-use Rattle.bbm_roots.proofs.Bits.{and_right, same_tag-true, some-found}
+use Rattle.bbm_roots.proofs.Bits.{and_right}
 use Rattle.bbm_roots.proofs.Conflicts.{tag_in-is}
 use Rattle.bbm_roots.proofs.Leasts.{or-split}
 use Rattle.bbm_roots.proofs.Settled.{ahead, behind, one-root, read-held}
@@ -27,29 +28,6 @@ pub below-nine : (n : ℕ) (full : Bool) → full ≡ nat_le 9 n → full ≡ fa
 below-nine n full same less_than =
     ⊎_elim (λ (less : n < 9). less)
     (λ (le : 9 ≤ n). absurd (false≢true (sym less_than ∙ same ∙ le-leb 9 n le))) (cases_lt n 9)
-
--- where the one tag that a value makes readable is held, so is all that it makes readable anew
-pub own-held : {S : Type 0} (hs : IndexMap ℕ Held S) (pe : ℕ) (world : World) (b : Bool) (load : RootValue) (other : List RootValue)
-    (tag : Tag) → own_tag world b load.number ≡ Some tag → holds_root hs pe tag load.root ≡ true →
-    holds_new hs pe world b load other ≡ true
-own-held hs pe (Hyp w) true load other tag is held =
-    let same : El2Tag ≡ tag = cc in ap (λ (g : Tag). holds_root hs pe g load.root) same ∙ held
-own-held hs pe (Hyp w) false load other tag is held =
-    let same : Vmid load.number ≡ tag = cc in ap (λ (g : Tag). holds_root hs pe g load.root) same ∙ held
-own-held hs pe (Kernel w) true load other tag is held = by_first w.asid_from is
-  where
-    by_first : (from : AsidFrom) → kernel_tag from true load.number ≡ Some tag → holds_asids hs pe from load other ≡ true
-    by_first FromTtbr0 e =
-        let same : Asid load.number ≡ tag = cc in ap (λ (g : Tag). holds_root hs pe g load.root) same ∙ held
-    by_first FromTtbr1 e = cc
-own-held hs pe (Kernel w) false load other tag is held = by_second w.asid_from is
-  where
-    by_second : (from : AsidFrom) → kernel_tag from false load.number ≡ Some tag →
-        (holds_root hs pe Ttbr1Tag load.root && holds_under hs pe from load other) ≡ true
-    by_second FromTtbr0 e =
-        let same : Ttbr1Tag ≡ tag = cc in
-        ap (λ (g : Tag). holds_root hs pe g load.root && true) same ∙ ap (λ (b : Bool). b && true) held
-    by_second FromTtbr1 e = cc
 
 module _ (g : Tag) (r : ℕ) (root : ℕ) where
   read-one : (own tag : Tag) (o : Option ℕ) → own ≡ tag → o ≡ Some root →
@@ -112,19 +90,8 @@ module _ (roots : Roots) (pe : ℕ) (reg : Reg) (load : RootValue) (reading : Re
   -- a PE at which the root holds the tag
   holder : (q : ℕ) × (hold_in roots.holds reading.tag reading.root q ≡ true)
   holder =
-      some-found (pes_of roots) (hold_in roots.holds reading.tag reading.root)
-      (sym (tag_in-is roots.holds (pes_of roots) reading.tag reading.root) ∙ shared.held)
-
-  -- the tag has an entry
-  pub tag-there : (g : Tag) → has_tag g (reading ∷ []) ≡ true → has_entry roots.holds g ≡ true
-  tag-there g e =
-      let same : same_tag reading.tag g ≡ true = sym (or-false (same_tag reading.tag g)) ∙ e in
-      ap (has_entry roots.holds) (sym (same_tag-true reading.tag g same))
-      ∙ by_entry (get nat_eq roots.holds (tag_key reading.tag)) shared.held
-    where
-      by_entry : (o : Option Held) → entry_held (pes_of roots) reading.tag reading.root o ≡ true → is_some o ≡ true
-      by_entry None e = absurd (false≢true e)
-      by_entry (Some x) e = refl
+      let f = pe_found (pes_of roots) (hold_in roots.holds reading.tag reading.root)
+      (sym (tag_in-is roots.holds (pes_of roots) reading.tag reading.root) ∙ shared.held) in (f.0, f.2)
 
   -- the root may hold it
   pub tag-listed : (g : Tag) (r : ℕ) → has_reading g r (reading ∷ []) ≡ true →
@@ -133,7 +100,7 @@ module _ (roots : Roots) (pe : ℕ) (reg : Reg) (load : RootValue) (reading : Re
       let k : (same_tag reading.tag g && nat_eq reading.root r) ≡ true =
       sym (or-false (same_tag reading.tag g && nat_eq reading.root r)) ∙ e in
       ap (λ (t : Tag). is_listed roots.by_root r (tag_key t))
-      (sym (same_tag-true reading.tag g (first_true (same_tag reading.tag g) (nat_eq reading.root r) k)))
+      (sym (tag_equal reading.tag g (first_true (same_tag reading.tag g) (nat_eq reading.root r) k)))
       ∙ ap (λ (m : ℕ). is_listed roots.by_root m (tag_key reading.tag))
       (sym (eqb-true reading.root r (and_right (same_tag reading.tag g) (nat_eq reading.root r) k)))
       ∙ roots.listed reading.tag reading.root holder.0 holder.1
@@ -144,7 +111,7 @@ module _ (roots : Roots) (pe : ℕ) (reg : Reg) (load : RootValue) (reading : Re
       let other : (same_tag reading.tag g && not (nat_eq reading.root r)) ≡ true =
       sym (or-false (same_tag reading.tag g && not (nat_eq reading.root r))) ∙ e in
       let same : reading.tag ≡ g =
-      same_tag-true reading.tag g (first_true (same_tag reading.tag g) (not (nat_eq reading.root r)) other) in
+      tag_equal reading.tag g (first_true (same_tag reading.tag g) (not (nat_eq reading.root r)) other) in
       let apart : nat_eq reading.root r ≡ false =
       not-true (nat_eq reading.root r) (and_right (same_tag reading.tag g) (not (nat_eq reading.root r)) other) in
       let others =
@@ -173,7 +140,7 @@ module _ (roots : Roots) (pe : ℕ) (reg : Reg) (load : RootValue) (reading : Re
         (λ k. (
           holder.0,
           ap (λ (t : Tag). hold_in roots.holds t r holder.0)
-              (sym (same_tag-true reading.tag g (first_true (same_tag reading.tag g) (nat_eq reading.root r) k)))
+              (sym (tag_equal reading.tag g (first_true (same_tag reading.tag g) (nat_eq reading.root r) k)))
               ∙ ap (λ (m : ℕ). hold_in roots.holds reading.tag m holder.0)
               (sym (eqb-true reading.root r (and_right (same_tag reading.tag g) (nat_eq reading.root r) k)))
               ∙ holder.1,

@@ -1,4 +1,5 @@
 -- What one more event does to the tags that are held and to the TLBIs that wait.
+use Rattle.bbm_roots.proofs.Common.{same_swapped}
 use Rattle.bbm_roots.proofs.Common.{◌≡◌, ℕ, Bool, true, false, ◌&&◌, ◌||◌, ◌==◌, not, nat_eq, cond, List, [], ◌∷◌, refl}
 use Rattle.bbm_roots.proofs.Common.{sym, ◌∙◌, ap, Option, false≢true, not-true, proved, If, Is, answers, Dsb, AsidFrom}
 use Rattle.bbm_roots.proofs.Common.{Tag, World, Hyp, Kernel, Reg, takes_whole_tag, same_flag, has_reading, has_tag}
@@ -19,7 +20,7 @@ use Rattle.bbm_roots.specs.RootChanges.{Issues}
 use Rattle.bbm_roots.proofs.Bits.{and_right}
 use Rattle.bbm_roots.proofs.Issued.{issue-is}
 use Rattle.bbm_roots.proofs.Lists.{any-weaker}
-use Rattle.bbm_roots.proofs.Readable.{reads-are, readings_at, reads-stay, some-are, some-stay, swap}
+use Rattle.bbm_roots.proofs.Readable.{reads-stay, some-stay}
 
 nothing-read : (world : World) (p : ℕ) → tags.readings_in world [] p ≡ []
 nothing-read (Hyp w) p = refl
@@ -108,7 +109,7 @@ module _ (heading : Heading) where
         ∙ ap (λ (s : Bool). cond (pe == q && answers dsb b) false (tag_waits heading p g q b h) && not s)
         (some-stay heading h (ADsb pe dsb) p refl refl g)
         ∙ ap (λ (x : Bool). cond (x && answers dsb b) false (tag_waits heading p g q b h) && not (reads_for_some heading h p g))
-        (swap pe q)
+        (same_swapped pe q)
         ∙ proved 3 (λ w n s. If (If (Is w true) (Is s false)) (Is (cond n false w && not s) (w && not n))) refl
         (tag_waits heading p g q b h) (q == pe && answers dsb b) (reads_for_some heading h p g) (waits-unread h q b g p)
 
@@ -182,8 +183,8 @@ module _ (heading : Heading) where
   -- ---- a register write of one PE, at which the tags and roots seen are then readable
 
   module _ (h : List Event) (pe : ℕ) (reg : Reg) (value : ℕ) (seen : List Reading)
-      (here : (p : ℕ) → nat_eq p pe ≡ true → readings_at heading (Msr pe reg value ∷ h) p ≡ seen)
-      (there : (p : ℕ) → nat_eq p pe ≡ false → readings_at heading (Msr pe reg value ∷ h) p ≡ readings_at heading h p) where
+      (here : (p : ℕ) → nat_eq p pe ≡ true → tags.readings heading (Msr pe reg value ∷ h) p ≡ seen)
+      (there : (p : ℕ) → nat_eq p pe ≡ false → tags.readings heading (Msr pe reg value ∷ h) p ≡ tags.readings heading h p) where
     abbrev after : List Event
     after = Msr pe reg value ∷ h
 
@@ -196,11 +197,10 @@ module _ (heading : Heading) where
         by_pe true e =
             proved 2 (λ k s. Is (k || s) (s || (k && true))) refl (holds_at heading Patterns p r g h) (has_reading g r seen)
             ∙ ap (λ (s : Bool). s || (holds_at heading Patterns p r g h && true))
-            (sym (ap (has_reading g r) (here p e)) ∙ reads-are heading after p g r)
+            (sym (ap (has_reading g r) (here p e)))
         by_pe false e =
             or-false (holds_at heading Patterns p r g h)
-            ∙ sym (holds-stay h (Msr pe reg value) g r p (λ k. sym (reads-are heading h p g r) ∙ (ap (has_reading g r)
-            (sym (there p e)) ∙ reads-are heading after p g r) ∙ k) refl)
+            ∙ sym (holds-stay h (Msr pe reg value) g r p (λ k. ap (has_reading g r) (sym (there p e)) ∙ k) refl)
 
     pub waits-written : (q : ℕ) (b : Bool) (g : Tag) (r p : ℕ) (old : Bool) →
         holds_at heading Patterns p r g after ≡ true →
@@ -215,14 +215,14 @@ module _ (heading : Heading) where
         by_tag : (t : Bool) → nat_eq p pe ≡ true → has_tag g seen ≡ t → (old && not t) ≡ tag_waits heading p g q b after
         by_tag true at tag =
             let read : reads_for_some heading after p g ≡ true =
-            sym (some-are heading after p g) ∙ (ap (has_tag g) (here p at) ∙ tag) in
+            ap (has_tag g) (here p at) ∙ tag in
             and-false old
             ∙ sym (and-false (tag_waits heading p g q b h))
             ∙ ap (λ (x : Bool). tag_waits heading p g q b h && not x) (sym read)
             ∙ sym (tag_step heading p g q b (Msr pe reg value) h)
         by_tag false at tag =
             let unread : reads_for_some heading after p g ≡ false =
-            sym (some-are heading after p g) ∙ (ap (has_tag g) (here p at) ∙ tag) in
+            ap (has_tag g) (here p at) ∙ tag in
             ap (λ (x : Bool). x && true)
             (is_old (last (holds_at heading Patterns p r g h) (reads heading after p g r) (reads_for_some heading after p g)
             (reads-some after g r p) unread held))
@@ -232,8 +232,6 @@ module _ (heading : Heading) where
         by_pe : (m : Bool) → nat_eq p pe ≡ m → (old && not (m && has_tag g seen)) ≡ tag_waits heading p g q b after
         by_pe true at = by_tag (has_tag g seen) at refl
         by_pe false at =
-            let same = holds-stay h (Msr pe reg value) g r p (λ k. sym (reads-are heading h p g r) ∙ (ap (has_reading g r)
-            (sym (there p at)) ∙ reads-are heading after p g r) ∙ k) refl in
+            let same = holds-stay h (Msr pe reg value) g r p (λ k. ap (has_reading g r) (sym (there p at)) ∙ k) refl in
             and-true old ∙ is_old (sym same ∙ held)
-            ∙ sym (waits-stay h (Msr pe reg value) q b g p (λ k. sym (some-are heading h p g) ∙ (ap (has_tag g)
-            (sym (there p at)) ∙ some-are heading after p g) ∙ k) refl)
+            ∙ sym (waits-stay h (Msr pe reg value) q b g p (λ k. ap (has_tag g) (sym (there p at)) ∙ k) refl)

@@ -1,4 +1,5 @@
 -- The tags that a root may hold, looked at one after another.
+use Rattle.bbm_roots.proofs.Common.{pe_found}
 use Rattle.bbm_roots.proofs.Common.{◌≡◌, ◌+◌, ◌<◌, ℕ, Bool, true, false, ◌&&◌, ◌||◌, nat_eq, List, [], ◌∷◌, Some}
 use Rattle.bbm_roots.proofs.Common.{is_some}
 use Rattle.bbm_roots.proofs.Common.{cond, refl, sym, ◌∙◌, ap, take, length, list_any, lookup, false≢true, eqb-true}
@@ -6,7 +7,6 @@ use Rattle.bbm_roots.proofs.Common.{and-false, IndexMap, Option, get, Tag, entry
 use Rattle.std.specs.List.{slice_get}
 use Rattle.std.proofs.lemmas.Option.{get_or_from_slice_get}
 use Rattle.bbm_roots.specs.TagsByRoot.{has_key, AreListed}
-use Rattle.bbm_roots.proofs.Bits.{some-found}
 use Rattle.bbm_roots.proofs.Conflicts.{tag_in-is}
 use Rattle.bbm_roots.proofs.Lists.{any-next}
 
@@ -27,8 +27,8 @@ module _ {S : Type 0} (hs : IndexMap ℕ Held S) (n root : ℕ) where
       AreListed hs by_root → get nat_eq by_root root ≡ o → (g : Tag) → tag_in hs n g root ≡ true →
       has_key (tag_key g) o ≡ true
   held-listed by_root o listed is g e =
-      let at = some-found n (hold_in hs g root) (sym (tag_in-is hs n g root) ∙ e) in
-      ap (has_key (tag_key g)) (sym is) ∙ listed g root at.0 at.1
+      let at = pe_found n (hold_in hs g root) (sym (tag_in-is hs n g root) ∙ e) in
+      ap (has_key (tag_key g)) (sym is) ∙ listed g root at.0 at.2
 
   module _ {V : Type 0} where
     -- whether a tag that the root may hold is this one, and the root holds it

@@ -1,4 +1,5 @@
 -- What a register write leaves readable.
+use Rattle.bbm_roots.proofs.Common.{reg_equal, same_swapped}
 use Rattle.bbm_roots.proofs.Common.{◌≡◌, ℕ, Bool, true, false, ◌&&◌, not, nat_eq, ◌==◌, List, ◌∷◌, refl, sym, ◌∙◌, ap}
 use Rattle.bbm_roots.proofs.Common.{cond, Option, None, false≢true, eqb-true, Reg, Ttbr0El2, VttbrEl2, Ttbr0El1}
 use Rattle.bbm_roots.proofs.Common.{Ttbr1El1, World, Hyp, Kernel, readings_of, first_reg, second_reg, is_first}
@@ -13,10 +14,11 @@ use Rattle.bbm_events.specs.declared.event.Event.{Event}
 use Rattle.bbm_events.specs.declared.event.Event.TheVariants.{Msr}
 use Rattle.bbm_rules.specs.RegisterValues.{register_values}
 use Rattle.bbm_rules.specs.Roots.{is_root}
+use Rattle.bbm_rules.specs.Tags.{readings}
 use Rattle.bbm_roots.specs.Refusals.{unless_root}
 use Rattle.bbm_roots.specs.RootRegisters.{NullNamesNone, load_in, loads_after, root_in}
 use Rattle.bbm_roots.proofs.Bits.{and_right}
-use Rattle.bbm_roots.proofs.Readable.{load-root, readings_at, swap}
+use Rattle.bbm_roots.proofs.Readable.{load-root, readings-same, readings-stay}
 
 -- what a value names, by its parts, where its root isn't missing
 pub load-is : (h : List Event) (number : ℕ) (root : Option ℕ) (reg : Reg) (value : ℕ) (null : Bool) → number ≡ tag_number value →
@@ -41,34 +43,14 @@ load-is h number root reg value null same_number same_root there none =
     by_null false is e = by_base (base_of value) e
 
 -- a register of the world is its first or its second
-pub is_the_first : (world : World) (reg : Reg) → kind_in_world world (kind_of_reg reg) ≡ true →
-    same_reg reg (first_reg world) ≡ is_first reg
-is_the_first (Hyp w) Ttbr0El2 e = refl
-is_the_first (Hyp w) VttbrEl2 e = refl
-is_the_first (Hyp w) Ttbr0El1 e = absurd (false≢true e)
-is_the_first (Hyp w) Ttbr1El1 e = absurd (false≢true e)
-is_the_first (Kernel w) Ttbr0El2 e = absurd (false≢true e)
-is_the_first (Kernel w) VttbrEl2 e = absurd (false≢true e)
-is_the_first (Kernel w) Ttbr0El1 e = refl
-is_the_first (Kernel w) Ttbr1El1 e = refl
-
-pub is_the_second : (world : World) (reg : Reg) → kind_in_world world (kind_of_reg reg) ≡ true →
-    same_reg reg (second_reg world) ≡ not (is_first reg)
-is_the_second (Hyp w) Ttbr0El2 e = refl
-is_the_second (Hyp w) VttbrEl2 e = refl
-is_the_second (Hyp w) Ttbr0El1 e = absurd (false≢true e)
-is_the_second (Hyp w) Ttbr1El1 e = absurd (false≢true e)
-is_the_second (Kernel w) Ttbr0El2 e = absurd (false≢true e)
-is_the_second (Kernel w) VttbrEl2 e = absurd (false≢true e)
-is_the_second (Kernel w) Ttbr0El1 e = refl
-is_the_second (Kernel w) Ttbr1El1 e = refl
-
-same_reg-true : (a b : Reg) → same_reg a b ≡ true → a ≡ b
-same_reg-true Ttbr0El2 Ttbr0El2 e = refl
-same_reg-true VttbrEl2 VttbrEl2 e = refl
-same_reg-true Ttbr0El1 Ttbr0El1 e = refl
-same_reg-true Ttbr1El1 Ttbr1El1 e = refl
-same_reg-true _ _ e = absurd (false≢true e)
+pub of_world_is : (world : World) (reg : Reg) → kind_in_world world (kind_of_reg reg) ≡ true →
+    (same_reg reg (first_reg world) ≡ is_first reg) × (same_reg reg (second_reg world) ≡ not (is_first reg)) ×
+    ((f : Reg → List RootValue) → cond (is_first reg) (f (first_reg world)) (f (second_reg world)) ≡ f reg)
+of_world_is (Hyp w) Ttbr0El2 e = (refl, refl, λ f. refl)
+of_world_is (Hyp w) VttbrEl2 e = (refl, refl, λ f. refl)
+of_world_is (Kernel w) Ttbr0El1 e = (refl, refl, λ f. refl)
+of_world_is (Kernel w) Ttbr1El1 e = (refl, refl, λ f. refl)
+of_world_is _ _ e = absurd (false≢true e)
 
 -- the new value stands in front in its register
 module _ (h : List Event) (pe : ℕ) (reg : Reg) (value : ℕ) where
@@ -76,7 +58,7 @@ module _ (h : List Event) (pe : ℕ) (reg : Reg) (value : ℕ) where
       ≡ cond (nat_eq p pe && same_reg reg other) (load_in h reg value ∷ loads_after h p other) (loads_after h p other)
   loads-written p other =
       ap (λ (b : Bool). map (load_in h other) (cond (b && same_reg reg other) (value ∷ register_values h p other)
-      (register_values h p other))) (swap pe p)
+      (register_values h p other))) (same_swapped pe p)
       ∙ by_case (p == pe && same_reg reg other) refl
     where
       by_case : (b : Bool) → (p == pe && same_reg reg other) ≡ b →
@@ -85,55 +67,42 @@ module _ (h : List Event) (pe : ℕ) (reg : Reg) (value : ℕ) where
       by_case false e = refl
       by_case true e =
           ap (λ (r : Reg). load_in h r value ∷ loads_after h p other)
-          (sym (same_reg-true reg other (and_right (p == pe) (same_reg reg other) e)))
+          (sym (reg_equal reg other (and_right (p == pe) (same_reg reg other) e)))
 
 module _ (heading : Heading) (h : List Event) (pe : ℕ) (reg : Reg) (value : ℕ) where
-  written : (p : ℕ) → readings_at heading (Msr pe reg value ∷ h) p ≡ readings_of heading.world
-      (cond (nat_eq p pe && same_reg reg (first_reg heading.world)) (load_in h reg value ∷ loads_after h p (first_reg heading.world)) (loads_after h p (first_reg heading.world)))
-      (cond (nat_eq p pe && same_reg reg (second_reg heading.world)) (load_in h reg value ∷ loads_after h p (second_reg heading.world)) (loads_after h p (second_reg heading.world)))
-  written p =
-      ap (λ (xs : List RootValue). readings_of heading.world xs (loads_after (Msr pe reg value ∷ h) p (second_reg heading.world)))
-      (loads-written h pe reg value p (first_reg heading.world))
-      ∙ ap (λ (ys : List RootValue). readings_of heading.world
-      (cond (nat_eq p pe && same_reg reg (first_reg heading.world)) (load_in h reg value ∷ loads_after h p (first_reg heading.world)) (loads_after h p (first_reg heading.world))) ys)
-      (loads-written h pe reg value p (second_reg heading.world))
-
   -- at another PE the same stays readable
-  pub elsewhere : (p : ℕ) → nat_eq p pe ≡ false → readings_at heading (Msr pe reg value ∷ h) p ≡ readings_at heading h p
-  elsewhere p e =
-      written p
-      ∙ ap (λ (b : Bool). readings_of heading.world
-      (cond (b && same_reg reg (first_reg heading.world)) (load_in h reg value ∷ loads_after h p (first_reg heading.world)) (loads_after h p (first_reg heading.world)))
-      (cond (b && same_reg reg (second_reg heading.world)) (load_in h reg value ∷ loads_after h p (second_reg heading.world)) (loads_after h p (second_reg heading.world)))) e
+  pub elsewhere : (p : ℕ) → nat_eq p pe ≡ false → readings heading (Msr pe reg value ∷ h) p ≡ readings heading h p
+  elsewhere p e = readings-stay heading h (Msr pe reg value) p (same (first_reg heading.world)) (same (second_reg heading.world))
+    where
+      same : (other : Reg) → loads_after (Msr pe reg value ∷ h) p other ≡ loads_after h p other
+      same other =
+          loads-written h pe reg value p other
+          ∙ ap (λ (b : Bool). cond (b && same_reg reg other) (load_in h reg value ∷ loads_after h p other) (loads_after h p other)) e
 
   -- at the PE the new value is in front
   pub right-here : (p : ℕ) (load : RootValue) (first second : List RootValue) → kind_in_world heading.world (kind_of_reg reg) ≡ true →
       load ≡ load_in h reg value →
       first ≡ loads_after h pe (first_reg heading.world) → second ≡ loads_after h pe (second_reg heading.world) → nat_eq p pe ≡ true →
-      readings_at heading (Msr pe reg value ∷ h) p
+      readings heading (Msr pe reg value ∷ h) p
       ≡ readings_of heading.world (cond (is_first reg) (load ∷ first) first) (cond (is_first reg) second (load ∷ second))
   right-here p load first second of_world is_load is_left is_right at =
-      written p
-      ∙ ap (λ (b : Bool). readings_of heading.world
-      (cond (b && same_reg reg (first_reg heading.world)) (load_in h reg value ∷ loads_after h p (first_reg heading.world)) (loads_after h p (first_reg heading.world)))
-      (cond (b && same_reg reg (second_reg heading.world)) (load_in h reg value ∷ loads_after h p (second_reg heading.world)) (loads_after h p (second_reg heading.world)))) at
-      ∙ ap (λ (b : Bool). readings_of heading.world
-      (cond b (load_in h reg value ∷ loads_after h p (first_reg heading.world)) (loads_after h p (first_reg heading.world)))
-      (cond (same_reg reg (second_reg heading.world)) (load_in h reg value ∷ loads_after h p (second_reg heading.world)) (loads_after h p (second_reg heading.world)))) (is_the_first heading.world reg of_world)
-      ∙ ap (λ (b : Bool). readings_of heading.world
-      (cond (is_first reg) (load_in h reg value ∷ loads_after h p (first_reg heading.world)) (loads_after h p (first_reg heading.world)))
-      (cond b (load_in h reg value ∷ loads_after h p (second_reg heading.world)) (loads_after h p (second_reg heading.world)))) (is_the_second heading.world reg of_world)
-      ∙ ap (λ (n : ℕ). readings_of heading.world
-      (cond (is_first reg) (load_in h reg value ∷ loads_after h n (first_reg heading.world)) (loads_after h n (first_reg heading.world)))
-      (cond (not (is_first reg)) (load_in h reg value ∷ loads_after h n (second_reg heading.world)) (loads_after h n (second_reg heading.world)))) (eqb-true p pe at)
-      ∙ ap (λ (l : RootValue). readings_of heading.world
-      (cond (is_first reg) (l ∷ loads_after h pe (first_reg heading.world)) (loads_after h pe (first_reg heading.world)))
-      (cond (not (is_first reg)) (l ∷ loads_after h pe (second_reg heading.world)) (loads_after h pe (second_reg heading.world)))) (sym is_load)
-      ∙ ap (λ (xs : List RootValue). readings_of heading.world (cond (is_first reg) (load ∷ xs) xs)
-      (cond (not (is_first reg)) (load ∷ loads_after h pe (second_reg heading.world)) (loads_after h pe (second_reg heading.world)))) (sym is_left)
-      ∙ ap (λ (ys : List RootValue). readings_of heading.world (cond (is_first reg) (load ∷ first) first) (cond (not (is_first reg)) (load ∷ ys) ys)) (sym is_right)
-      ∙ ap (λ (ys : List RootValue). readings_of heading.world (cond (is_first reg) (load ∷ first) first) ys) (turned (is_first reg) (load ∷ second) second)
+      sym (readings-same heading.world (Msr pe reg value ∷ h) p)
+      ∙ ap (λ (xs : List RootValue). readings_of heading.world xs (loads_after (Msr pe reg value ∷ h) p (second_reg heading.world)))
+      (one (first_reg heading.world) (is_first reg) first (of_world_is heading.world reg of_world).0 is_left)
+      ∙ ap (λ (ys : List RootValue). readings_of heading.world (cond (is_first reg) (load ∷ first) first) ys)
+      (one (second_reg heading.world) (not (is_first reg)) second (of_world_is heading.world reg of_world).1 is_right
+      ∙ turned (is_first reg) (load ∷ second) second)
     where
+      one : (other : Reg) (b : Bool) (xs : List RootValue) → same_reg reg other ≡ b → xs ≡ loads_after h pe other →
+          loads_after (Msr pe reg value ∷ h) p other ≡ cond b (load ∷ xs) xs
+      one other b xs is_b is_xs =
+          loads-written h pe reg value p other
+          ∙ ap (λ (c : Bool). cond (c && same_reg reg other) (load_in h reg value ∷ loads_after h p other) (loads_after h p other)) at
+          ∙ ap (λ (c : Bool). cond c (load_in h reg value ∷ loads_after h p other) (loads_after h p other)) is_b
+          ∙ ap (λ (n : ℕ). cond b (load_in h reg value ∷ loads_after h n other) (loads_after h n other)) (eqb-true p pe at)
+          ∙ ap (λ (l : RootValue). cond b (l ∷ loads_after h pe other) (loads_after h pe other)) (sym is_load)
+          ∙ ap (λ (ys : List RootValue). cond b (load ∷ ys) ys) (sym is_xs)
+
       turned : (b : Bool) (xs ys : List RootValue) → cond (not b) xs ys ≡ cond b ys xs
       turned true xs ys = refl
       turned false xs ys = refl

@@ -1,13 +1,8 @@
--- The declared roots as they are kept. Source: project's own choice.
+-- The kind of a declared root. Source: project's own choice.
 use Rattle.std.specs.Prelude.{Bool, false, Option, Some, None}
 pub use Rattle.bbm_regimes.specs.SameRegister.{same_kind}
 use Rattle.bbm_regimes.specs.declared.regime.Kind.{Kind}
-use Rattle.bbm_rules.specs.Roots as rules
-use Rattle.bbm_roots.specs.declared.root.Declared.{Declared}
-
--- a root that is kept, as a root of a history
-abbrev pub as_declared : Declared → rules.Declared
-as_declared r = record { page = r.page; kind = r.kind; lock = r.lock }
+use Rattle.bbm_rules.specs.Roots.{Declared}
 
 -- whether there is a root and it is of the kind
 abbrev pub is_of_kind : Kind → Option Declared → Bool

@@ -1,6 +1,5 @@
 -- What the roots stand for: a history, point by point. A history is newest first.
 use Rattle.std.specs.Prelude.{◌≡◌, ◌<◌, ◌≤◌, ◌&&◌, ℕ, Bool, true, false, List, [], ◌∷◌, nat_eq, length, Option, None}
-use Rattle.std.specs.Option.{option_map}
 use Rattle.indexmap.specs.IndexMap.{get, index_map_len, spare}
 use Rattle.bbm_regimes.specs.declared.regime.Reg.{Reg}
 use Rattle.bbm_regimes.specs.declared.regime.Tag.{Tag}
@@ -14,7 +13,6 @@ use Rattle.bbm_rules.specs.Roots.{lock_of, root_at, roots_of}
 use Rattle.bbm_rules.specs.Tags.{holds_at}
 use Rattle.bbm_histories.specs.HistorySteps.{tag_waits}
 use Rattle.bbm_roots.specs.Columns.{loads_in}
-use Rattle.bbm_roots.specs.DeclaredRoots.{as_declared}
 use Rattle.bbm_roots.specs.Holds.{hold_in}
 use Rattle.bbm_roots.specs.RootPendings.{has_pending, pending_in, EachLost}
 use Rattle.bbm_roots.specs.RootRegisters.{first_reg, loads_after, second_reg}
@@ -39,7 +37,7 @@ pub record Stands (roots : Roots) (heading : Heading) (h : List Event) : Type 0 
   pub second : (p : ℕ) → p < heading.pes
       → loads_in roots.registers.second.items p ≡ loads_after h p (second_reg heading.world)
   pub outside : (p : ℕ) (reg : Reg) → heading.pes ≤ p → register_values h p reg ≡ 0 ∷ []
-  pub declared : (page : ℕ) → option_map as_declared (get nat_eq roots.declared page) ≡ root_at h page
+  pub declared : (page : ℕ) → get nat_eq roots.declared page ≡ root_at h page
   pub count : index_map_len roots.declared ≡ length (roots_of h)
   pub locks : roots.names_locks ≡ false → (page : ℕ) → lock_of h page ≡ None
   pub holds : (tag : Tag) (root p : ℕ) → hold_in roots.holds tag root p ≡ holds_at heading Patterns p root tag h

@@ -8,14 +8,25 @@ use crate::load::RootValue;
 use bbm_regimes::{AsidFrom, Kind, NoMemory, Page, Tag, World, same_tag};
 use smallvec::SmallVec;
 use std::alloc::Global;
+use std::marker::Model;
 
-/// A tag that is readable for a root.
+/// A tag that is readable for a root. A clause sees it as the reading of the definitions.
 #[derive(Clone, Copy, Debug, PartialEq, Eq)]
 pub struct Reading {
     /// The tag.
     pub tag: Tag,
     /// The first page of the root.
     pub root: Page,
+}
+
+impl Model for Reading {
+    ghost use Rattle.bbm_rules.specs.Tags.{Reading};
+
+    ghost Value = { Reading };
+
+    ghost view = { λ r. record { tag = r.tag; root = r.root } };
+
+    ghost inverse = { λ r. record { tag = r.tag; root = r.root } };
 }
 
 /// The place of a tag in the order `El2`, VMIDs, ASIDs, `Ttbr1`, 0 to 131073.

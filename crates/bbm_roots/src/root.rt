@@ -4,9 +4,10 @@ ghost use Rattle.std.specs.Prelude.{◌≡◌};
 ghost use Rattle.bbm_roots.specs.DeclaredRoots.{same_kind as spec_same_kind};
 
 use bbm_regimes::{Kind, Page};
+use std::marker::Model;
 
-/// A declared root: its first page, its kind, and the lock that its writers hold or none. Source: project's own
-/// choice.
+/// A declared root: its first page, its kind, and the lock that its writers hold or none. A clause sees it as the
+/// declared root of the definitions.
 #[derive(Clone, Copy, Debug, PartialEq, Eq)]
 pub struct Declared {
     /// The first page.
@@ -15,6 +16,16 @@ pub struct Declared {
     pub kind: Kind,
     /// The number of the lock, or None.
     pub lock: Option<u16>,
+}
+
+impl Model for Declared {
+    ghost use Rattle.bbm_rules.specs.Roots.{Declared};
+
+    ghost Value = { Declared };
+
+    ghost view = { λ r. record { page = r.page; kind = r.kind; lock = r.lock } };
+
+    ghost inverse = { λ r. record { page = r.page; kind = r.kind; lock = r.lock } };
 }
 
 /// Whether the kinds are the same.

@@ -55,9 +55,8 @@ impl Roots {
     ghost use Rattle.bbm_rules.specs.Roots as spec;
     ghost use Rattle.bbm_rules.specs.Tags.{holds_tag};
     ghost use Rattle.bbm_tlbi_scope.specs.declared.op.TlbiOp.{TlbiOp as TheOp};
-    ghost use Rattle.bbm_roots.specs.DeclaredRoots.{as_declared};
     ghost use Rattle.bbm_roots.specs.Holds.{has_entry, conflict_in, tag_key, IsCalm, Marks};
-    ghost use Rattle.bbm_roots.specs.Listed.{count_in, nth_in};
+    ghost use Rattle.bbm_roots.specs.Listed.{nth_in};
     ghost use Rattle.bbm_roots.specs.LoadsOf.{loads_of};
     ghost use Rattle.bbm_roots.specs.Readings.{has_reading, has_tag};
     ghost use Rattle.bbm_roots.specs.Refusals.{missing_root, conflicts, JudgesWrite, JudgesVmid};
@@ -127,12 +126,12 @@ impl Roots {
         }
     }
 
-    /// The number of declared roots, 0 to 1,024.
+    /// The number of declared roots. Each of them has a number below it.
     pub fn count(&self) -> usize
-        ensures count { result ≡ count_in self.now }
+        ensures count { (heading : Heading) (h : List TheEvent) → Stands self.now heading h
+            → result ≡ length (spec.roots_of h) }
         ensures each { (heading : Heading) (h : List TheEvent) (page : ℕ) (root : TheRoot) → Stands self.now heading h
-            → spec.root_at h page ≡ Some (as_declared root)
-            → (i : ℕ) × (i < result) × (nth_in self.now i ≡ Some root) }
+            → spec.root_at h page ≡ Some root → (i : ℕ) × (i < result) × (nth_in self.now i ≡ Some root) }
     {
         self.declared.len()
     }

@@ -1,8 +1,9 @@
+use Rattle.bbm_roots.proofs.Common.{tag_equal}
 use Rattle.bbm_roots.proofs.Common.{◌≡◌, ◌∙◌, ◌||◌, ℕ, true, nat_eq, take, arith, ap, sym, or_left, or_right}
 use Rattle.bbm_roots.proofs.Common.{eqb-true, first_true, Tag, tag_key, has_entry, has_reading, has_tag, is_of_tag}
-use Rattle.bbm_roots.proofs.Common.{is_reading, same_tag}
+use Rattle.bbm_roots.proofs.Common.{is_reading, same_tag, subst, Reading}
 use Rattle.bbm_roots.specs.TagsByRoot.{is_listed}
-use Rattle.bbm_roots.proofs.Bits.{and_right, same_tag-true}
+use Rattle.bbm_roots.proofs.Bits.{and_right}
 use Rattle.bbm_roots.proofs.Leasts.{or-split}
 use Rattle.bbm_roots.proofs.Lists.{any-next}
 use Rattle.bbm_roots.proofs.hold.make_room.Goals as goal
@@ -23,13 +24,14 @@ loop-reading-preserved c =
           or-split (has_reading g r (take i readings)) (is_reading g r y) (is_listed new r (tag_key g) ≡ true)
           (λ k. c.list.ensures.kept r (tag_key g) (c.loop-reading.invariant.listed g r k))
           (λ k. ap (λ (t : Tag). is_listed new r (tag_key t))
-          (sym (same_tag-true y.tag g (first_true (same_tag y.tag g) (nat_eq y.root r) k)))
+          (sym (tag_equal y.tag g (first_true (same_tag y.tag g) (nat_eq y.root r) k)))
           ∙ ap (λ (m : ℕ). is_listed new m (tag_key y.tag))
           (sym (eqb-true y.root r (and_right (same_tag y.tag g) (nat_eq y.root r) k)))
-          ∙ c.in_ok-list.ensures.listed)
+          ∙ subst (λ (x : Reading). is_listed new x.root (tag_key x.tag) ≡ true) c.reading.view_is c.in_ok-list.ensures.listed)
           (sym (any-next (is_reading g r) readings i y (omega arith) c.reading-item.is) ∙ e);
       made = λ g e.
           c.in_ok-make_entry.ensures.made g
+          ∙ ap (λ (x : Reading). has_entry before g || same_tag x.tag g) c.reading.view_is
           ∙ or-split (has_tag g (take i readings)) (is_of_tag g y)
           ((has_entry before g || same_tag y.tag g) ≡ true)
           (λ k. or_left (has_entry before g) (same_tag y.tag g) (c.loop-reading.invariant.made g k))

@@ -1,7 +1,7 @@
+use Rattle.bbm_roots.proofs.Common.{tag_equal}
 use Rattle.bbm_roots.proofs.Common.{◌≡◌, take, arith, ap, sym, ◌∙◌, ◌&&◌, ◌||◌, Bool, true, list_any, or_left, or_right}
 use Rattle.bbm_roots.proofs.Common.{take_all, Tag, takes_whole_tag, has_wait, same_tag}
 use Rattle.bbm_roots.proofs.Lists.{any-next}
-use Rattle.bbm_roots.proofs.Bits.{same_tag-true}
 use Rattle.bbm_roots.proofs.Entries.{held-among, is_held_as}
 use Rattle.bbm_roots.proofs.Leasts.{or-split}
 use Rattle.bbm_roots.proofs.issue.make_entries.Goals as goal
@@ -28,7 +28,7 @@ loop-held-preserved c =
           ((has_wait before g || (taken x.tag && same_tag x.tag g)) ≡ true)
           (λ k. or_left (has_wait before g) (taken x.tag && same_tag x.tag g) (c.loop-held.invariant.made g k takes))
           (λ k. or_right (has_wait before g) (taken x.tag && same_tag x.tag g)
-          (ap (λ (b : Bool). taken x.tag && b) k ∙ ap (λ (t : Tag). taken t && true) (same_tag-true x.tag g k)
+          (ap (λ (b : Bool). taken x.tag && b) k ∙ ap (λ (t : Tag). taken t && true) (tag_equal x.tag g k)
           ∙ ap (λ (b : Bool). b && true) takes))
           (sym (any-next (is_held_as g) all i x (omega arith) c.held-item.is) ∙ among);
     }

@@ -1,5 +1,5 @@
 use Rattle.bbm_roots.proofs.Common.{◌≡◌, ◌∙◌, ◌&&◌, ◌||◌, not, take, arith, ap, sym, refl, Bool, nat_eq, proved, Is}
-use Rattle.bbm_roots.proofs.Common.{wait_in, has_tag, is_of_tag, same_tag}
+use Rattle.bbm_roots.proofs.Common.{wait_in, has_tag, is_of_tag, same_tag, get_or, subst, Reading}
 use Rattle.bbm_roots.proofs.Lists.{any-next}
 use Rattle.bbm_roots.proofs.pending.clear_place.Goals as goal
 
@@ -10,11 +10,13 @@ pub loop-reading-preserved : goal.loop-reading-preserved
 loop-reading-preserved c = λ g p.
     let readings = c.args.readings.now in
     let i = c.loop-reading.reading-index in
-    let x = c.reading-item.result in
+    let x : Reading = record { tag = c.reading.inside.tag; root = c.reading.inside.root } in
+    let is : x ≡ get_or readings i x =
+    subst (λ (y : Reading). y ≡ get_or readings i y) (sym c.reading.view_is) c.reading-item.is in
     let old = wait_in c.args.map.now g p in
     let here = nat_eq p c.args.pe in
     c.clear_tag.ensures g p
     ∙ ap (λ (b : Bool). b && not (here && same_tag x.tag g)) (c.loop-reading.invariant g p)
     ∙ cleared old here (has_tag g (take i readings)) (same_tag x.tag g)
     ∙ ap (λ (b : Bool). old && not (here
-    && b)) (sym (any-next (is_of_tag g) readings i x (omega arith) c.reading-item.is))
+    && b)) (sym (any-next (is_of_tag g) readings i x (omega arith) is))

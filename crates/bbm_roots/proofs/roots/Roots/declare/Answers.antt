@@ -1,16 +1,13 @@
 use Rattle.bbm_roots.proofs.Common.{◌≡◌, ◌∙◌, ap, sym, refl, nat_eq, ◌+◌, ◌∷◌, cond, ℕ, Option, Some, None}
 use Rattle.bbm_roots.proofs.Common.{Bool, false, is_some, length, arith, rules, get, index_map_len, Tag, Reg}
 use Rattle.bbm_roots.proofs.Common.{first_reg, second_reg}
-use Rattle.bbm_roots.proofs.Common.{Declared}
-use Rattle.std.specs.Option.{option_map}
 use Rattle.bbm_events.specs.declared.event.Event.{Event}
 use Rattle.bbm_events.specs.declared.event.Event.TheVariants.{Root}
-use Rattle.bbm_rules.specs.Roots as rules-of
-use Rattle.bbm_rules.specs.Roots.{root_at, roots_of, retired}
-use Rattle.bbm_roots.specs.DeclaredRoots.{as_declared}
+use Rattle.bbm_rules.specs.Roots.{Declared, root_at, roots_of, retired}
+use Rattle.bbm_histories.proofs.ValueSteps.{root_step}
 use Rattle.bbm_roots.specs.RootRegisters.{loads_after}
 use Rattle.bbm_roots.proofs.Readable.{loads-past, reads-stay, some-stay}
-use Rattle.bbm_roots.proofs.RootLists.{absent-retired, found-declared, map-cond, mapped, unlocked-declared}
+use Rattle.bbm_roots.proofs.RootLists.{absent-retired, unlocked}
 use Rattle.bbm_roots.proofs.Steps.{holds-stay, waits-stay}
 use Rattle.bbm_roots.proofs.roots.Roots.declare.Goals as goal
 
@@ -23,12 +20,12 @@ returns-in-Ok-clause-taken c = λ pe heading h stands stay.
     let kept = λ (g : Tag) (r p : ℕ). holds-stay heading h e g r p (λ k. sym (reads-stay heading h e p (same p (first_reg heading.world))
     (same p (second_reg heading.world)) g r) ∙ k) refl in
     let none : is_some c.in-Ok.field-0 ≡ false =
-    ap (is_some {T = Declared}) (c.in-Ok.ensures.old) ∙ mapped _ (stands.declared c.get.result
+    ap (is_some {T = Declared}) (c.in-Ok.ensures.old ∙ stands.declared c.get.result
     ∙ ap (λ (n : ℕ). root_at h n) c.get.ensures.value ∙ absent) in
     let len : index_map_len c.insert.new.self ≡ index_map_len c.args.self.now.declared + 1 =
     c.in-Ok.ensures.len ∙ ap (λ (b : Bool). index_map_len c.args.self.now.declared + cond b 0 1) none in
     let short : length (retired c.args.page (roots_of h)) ≡ length (roots_of h) =
-    ap (length {A = rules-of.Declared}) (absent-retired c.args.page (roots_of h) absent) in
+    ap (length {A = Declared}) (absent-retired c.args.page (roots_of h) absent) in
     record {
       pes = stands.pes;
       world = stands.world;
@@ -36,14 +33,13 @@ returns-in-Ok-clause-taken c = λ pe heading h stands stay.
       second = λ p lt. stands.second p lt ∙ sym (same p (second_reg heading.world));
       outside = stands.outside;
       declared = λ q.
-          ap (option_map as_declared) (c.in-Ok.ensures.updates.0 q
-          ∙ ap (λ (n : ℕ). cond (nat_eq n q) (Some root) (get nat_eq c.args.self.now.declared q)) c.get.ensures.value)
-          ∙ map-cond (nat_eq c.args.page q) (Some root) (get nat_eq c.args.self.now.declared q)
-          ∙ ap (λ (o : Option rules-of.Declared). cond (nat_eq c.args.page q) (Some (as_declared root)) o) (stands.declared q)
-          ∙ sym (found-declared (as_declared root) c.args.page q (roots_of h) refl);
+          c.in-Ok.ensures.updates.0 q
+          ∙ ap (λ (n : ℕ). cond (nat_eq n q) (Some root) (get nat_eq c.args.self.now.declared q)) c.get.ensures.value
+          ∙ ap (λ (o : Option Declared). cond (nat_eq c.args.page q) (Some root) o) (stands.declared q)
+          ∙ sym (root_step e h q);
       count = omega (arith, stands.count);
       locks = λ none.
-          unlocked-declared (as_declared root) (roots_of h) (search rules) (stands.locks (search rules));
+          unlocked h e c.args.page (Some root) (λ q. refl) (search rules) (stands.locks (search rules));
       holds = λ g r p. stands.holds g r p ∙ sym (kept g r p);
       inside = λ g r p past. kept g r p ∙ stands.inside g r p past;
       pendings = λ q b g r p held.

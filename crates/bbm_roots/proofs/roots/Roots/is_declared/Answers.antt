@@ -1,10 +1,8 @@
-use Rattle.bbm_roots.proofs.Common.{◌≡◌, ◌∙◌, ap, sym, is_some, get, nat_eq, rules}
+use Rattle.bbm_roots.proofs.Common.{◌≡◌, ◌∙◌, ap, is_some, get, nat_eq, rules}
 use Rattle.bbm_rules.specs.Roots.{Declared}
-use Rattle.bbm_roots.proofs.RootLists.{some-mapped}
 use Rattle.bbm_roots.proofs.roots.Roots.is_declared.Goals as goal
 
 pub returns : goal.returns
 returns c heading h stands =
     let kept : c.is_some.result ≡ is_some (get nat_eq c.args.self.now.declared c.args.page) = search rules in
-    kept ∙ sym (some-mapped (get nat_eq c.args.self.now.declared c.args.page))
-    ∙ ap (is_some {T = Declared}) (stands.declared c.args.page)
+    kept ∙ ap (is_some {T = Declared}) (stands.declared c.args.page)

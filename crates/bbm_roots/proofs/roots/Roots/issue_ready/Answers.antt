@@ -1,6 +1,7 @@
 use Rattle.bbm_roots.proofs.Common.{◌≡◌, ◌<◌, ◌≤◌, ◌∙◌, ap, sym, refl, Bool, ◌&&◌, ◌||◌, nat_eq, nat_lt, List, true}
 use Rattle.bbm_roots.proofs.Common.{false, ℕ, Option, ⊎_elim, false≢true, cases_lt, lt-ltb, first_true, Tag, World}
 use Rattle.bbm_roots.proofs.Common.{takes_whole_tag, loads_in, hold_in, pending_in, has_pending, same_flag, unread_at}
+use Rattle.bbm_roots.proofs.Common.{has_tag}
 use Rattle.bbm_roots.proofs.Common.{reads_tag, first_reg, second_reg, world_of, pes_of, RootValue, or-false, Registers}
 use Rattle.bbm_roots.proofs.Common.{Roots, arith}
 use Rattle.bbm_tlbi_scope.specs.declared.op.TlbiOp.{TlbiOp}
@@ -12,7 +13,7 @@ use Rattle.bbm_roots.specs.RootChanges.{Issues, SameDeclared, TakesWhere}
 use Rattle.bbm_roots.specs.RootRegisters.{loads_after}
 use Rattle.bbm_roots.proofs.Flat.{reads_tag-is}
 use Rattle.bbm_roots.proofs.Changes.{log-same, room-same}
-use Rattle.bbm_roots.proofs.Readable.{reads-stay, some-are}
+use Rattle.bbm_roots.proofs.Readable.{reads-stay, readings-same}
 use Rattle.bbm_roots.proofs.Steps.{holds-stay, noted}
 use Rattle.bbm_roots.proofs.Bits.{and_right}
 use Rattle.bbm_roots.proofs.PendingBits.{entry-there}
@@ -62,7 +63,7 @@ issued old new issuer op xt scope vmid has registers holds roots there notes = r
             (stands.second p below)
             ∙ sym (reads_tag-is heading.world (loads_after h p (first_reg heading.world))
             (loads_after h p (second_reg heading.world)) g)
-            ∙ some-are heading h p g);
+            ∙ ap (has_tag g) (readings-same heading.world h p));
       };
   prepared = room-same old new roots.declared;
   log = log-same old new registers;
