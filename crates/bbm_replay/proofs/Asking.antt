@@ -4,7 +4,7 @@ use Rattle.bbm_replay.proofs.Common.{asks_tags}
 use Rattle.bbm_rules.proofs.Common.{◌≡◌, ℕ, Bool, true, false, cond, ◌&&◌, not, is_none, Option, refl, sym, ◌∙◌, ap}
 use Rattle.bbm_rules.proofs.Common.{true≢false, and_right, Extent, Kind, cover_by, cover_of, fits_place, vmid_matches}
 use Rattle.bbm_rules.proofs.Common.{names_some, has_page, Cover, Half, Second, Full, PlaceView, TagSet, Family, El2All}
-use Rattle.bbm_rules.proofs.Common.{El2Va, E1All, VmAll1, VmAll12, Ipa, Va, VaAll}
+use Rattle.bbm_rules.proofs.Common.{El2Va, E1All, VmAll1, VmAll12, Ipa, Va, VaAll, arith}
 use Rattle.bbm_tlbi_scope.specs.ScopeCovers.{asid_matches, fits_leaf, fits_table, where_fits}
 use Rattle.bbm_tlbi_scope.specs.declared.entry.Cover.TheVariants.{None as NoCover}
 use Rattle.bbm_replay.proofs.Descents.{none_by}
@@ -23,109 +23,16 @@ module _ (s : Scope) (vmid : Option ℕ) (kind : Kind) (region : Extent) (level 
 
   -- the table of covers doesn't ask whether a place is childless, but whether it fits
   by_fits : (k : Kind) (f : Family) (fits c c' : Bool) (t : TagSet) → cover_by k f fits s vmid (seen c t) ≡ cover_by k f fits s vmid (seen c' t)
-  by_fits El2 El2All fits c c' t = refl
-  by_fits El2 El2Va fits c c' t = refl
-  by_fits El2 E1All fits c c' t = refl
-  by_fits El2 VmAll1 fits c c' t = refl
-  by_fits El2 VmAll12 fits c c' t = refl
-  by_fits El2 Ipa fits c c' t = refl
-  by_fits El2 Va fits c c' t = refl
-  by_fits El2 VaAll fits c c' t = refl
-  by_fits El2 Asid fits c c' t = refl
-  by_fits S2 El2All fits c c' t = refl
-  by_fits S2 El2Va fits c c' t = refl
-  by_fits S2 E1All fits c c' t = refl
-  by_fits S2 VmAll1 fits c c' t = refl
-  by_fits S2 VmAll12 fits c c' t = refl
-  by_fits S2 Ipa fits c c' t = refl
-  by_fits S2 Va fits c c' t = refl
-  by_fits S2 VaAll fits c c' t = refl
-  by_fits S2 Asid fits c c' t = refl
-  by_fits Ttbr0 El2All fits c c' t = refl
-  by_fits Ttbr0 El2Va fits c c' t = refl
-  by_fits Ttbr0 E1All fits c c' t = refl
-  by_fits Ttbr0 VmAll1 fits c c' t = refl
-  by_fits Ttbr0 VmAll12 fits c c' t = refl
-  by_fits Ttbr0 Ipa fits c c' t = refl
-  by_fits Ttbr0 Va fits c c' t = refl
-  by_fits Ttbr0 VaAll fits c c' t = refl
-  by_fits Ttbr0 Asid fits c c' t = refl
-  by_fits Ttbr1 El2All fits c c' t = refl
-  by_fits Ttbr1 El2Va fits c c' t = refl
-  by_fits Ttbr1 E1All fits c c' t = refl
-  by_fits Ttbr1 VmAll1 fits c c' t = refl
-  by_fits Ttbr1 VmAll12 fits c c' t = refl
-  by_fits Ttbr1 Ipa fits c c' t = refl
-  by_fits Ttbr1 Va fits c c' t = refl
-  by_fits Ttbr1 VaAll fits c c' t = refl
-  by_fits Ttbr1 Asid fits c c' t = refl
+  by_fits k f fits c c' t = grind arith
 
   -- at operations that name no pages it asks the tags of a place alone
   pub unpaged : (k : Kind) (f : Family) → has_page f ≡ false → (b b' : Bool) (v w : PlaceView) → v.tags ≡ w.tags
       → cover_by k f b s vmid v ≡ cover_by k f b' s vmid w
-  unpaged El2 El2All p b b' v w same = refl
-  unpaged S2 El2All p b b' v w same = refl
-  unpaged Ttbr0 El2All p b b' v w same = refl
-  unpaged Ttbr1 El2All p b b' v w same = refl
-  unpaged k El2Va p b b' v w same = absurd (true≢false p)
-  unpaged El2 E1All p b b' v w same = refl
-  unpaged S2 E1All p b b' v w same = refl
-  unpaged Ttbr0 E1All p b b' v w same = refl
-  unpaged Ttbr1 E1All p b b' v w same = refl
-  unpaged El2 VmAll1 p b b' v w same = refl
-  unpaged S2 VmAll1 p b b' v w same = ap (λ t. where_fits Second (vmid_matches vmid t)) same
-  unpaged Ttbr0 VmAll1 p b b' v w same = refl
-  unpaged Ttbr1 VmAll1 p b b' v w same = refl
-  unpaged El2 VmAll12 p b b' v w same = refl
-  unpaged S2 VmAll12 p b b' v w same = ap (λ t. where_fits Full (vmid_matches vmid t)) same
-  unpaged Ttbr0 VmAll12 p b b' v w same = refl
-  unpaged Ttbr1 VmAll12 p b b' v w same = refl
-  unpaged k Ipa p b b' v w same = absurd (true≢false p)
-  unpaged k Va p b b' v w same = absurd (true≢false p)
-  unpaged k VaAll p b b' v w same = absurd (true≢false p)
-  unpaged El2 Asid p b b' v w same = refl
-  unpaged S2 Asid p b b' v w same = refl
-  unpaged Ttbr0 Asid p b b' v w same = ap (λ t. where_fits Full (asid_matches s.asid t)) same
-  unpaged Ttbr1 Asid p b b' v w same = refl
+  unpaged k f p b b' v w same = grind arith
 
   untagged : (k : Kind) (f : Family) → asks_tags f k ≡ false → (fits c : Bool) (t t' : TagSet)
       → cover_by k f fits s vmid (seen c t) ≡ cover_by k f fits s vmid (seen c t')
-  untagged El2 El2All p fits c t t' = refl
-  untagged El2 El2Va p fits c t t' = refl
-  untagged El2 E1All p fits c t t' = refl
-  untagged El2 VmAll1 p fits c t t' = refl
-  untagged El2 VmAll12 p fits c t t' = refl
-  untagged El2 Ipa p fits c t t' = refl
-  untagged El2 Va p fits c t t' = refl
-  untagged El2 VaAll p fits c t t' = refl
-  untagged El2 Asid p fits c t t' = refl
-  untagged S2 El2All p fits c t t' = refl
-  untagged S2 El2Va p fits c t t' = refl
-  untagged S2 E1All p fits c t t' = refl
-  untagged S2 VmAll1 p fits c t t' = absurd (true≢false p)
-  untagged S2 VmAll12 p fits c t t' = absurd (true≢false p)
-  untagged S2 Ipa p fits c t t' = absurd (true≢false p)
-  untagged S2 Va p fits c t t' = refl
-  untagged S2 VaAll p fits c t t' = refl
-  untagged S2 Asid p fits c t t' = refl
-  untagged Ttbr0 El2All p fits c t t' = refl
-  untagged Ttbr0 El2Va p fits c t t' = refl
-  untagged Ttbr0 E1All p fits c t t' = refl
-  untagged Ttbr0 VmAll1 p fits c t t' = refl
-  untagged Ttbr0 VmAll12 p fits c t t' = refl
-  untagged Ttbr0 Ipa p fits c t t' = refl
-  untagged Ttbr0 Va p fits c t t' = absurd (true≢false p)
-  untagged Ttbr0 VaAll p fits c t t' = refl
-  untagged Ttbr0 Asid p fits c t t' = absurd (true≢false p)
-  untagged Ttbr1 El2All p fits c t t' = refl
-  untagged Ttbr1 El2Va p fits c t t' = refl
-  untagged Ttbr1 E1All p fits c t t' = refl
-  untagged Ttbr1 VmAll1 p fits c t t' = refl
-  untagged Ttbr1 VmAll12 p fits c t t' = refl
-  untagged Ttbr1 Ipa p fits c t t' = refl
-  untagged Ttbr1 Va p fits c t t' = refl
-  untagged Ttbr1 VaAll p fits c t t' = refl
-  untagged Ttbr1 Asid p fits c t t' = refl
+  untagged k f p fits c t t' = grind arith
 
   -- the tags count where they are asked
   same_tags : (f : Family) (fits c : Bool) (t t' : TagSet) → (asks_tags f kind ≡ true → t ≡ t')
@@ -169,44 +76,7 @@ module _ (s : Scope) (vmid : Option ℕ) (kind : Kind) (region : Extent) (level 
 -- where the tags are asked, and neither the VMID nor the ASID is the only one of them, nothing is covered
 mismatch : (s : Scope) (vmid : Option ℕ) (k : Kind) (f : Family) → asks_tags f k ≡ true → (fits : Bool) (v : PlaceView)
     → vmid_matches vmid v.tags ≡ false → asid_matches s.asid v.tags ≡ false → cover_by k f fits s vmid v ≡ NoCover
-mismatch s vmid El2 El2All p fits v no_vmid no_asid = absurd (true≢false (sym p))
-mismatch s vmid El2 El2Va p fits v no_vmid no_asid = absurd (true≢false (sym p))
-mismatch s vmid El2 E1All p fits v no_vmid no_asid = absurd (true≢false (sym p))
-mismatch s vmid El2 VmAll1 p fits v no_vmid no_asid = absurd (true≢false (sym p))
-mismatch s vmid El2 VmAll12 p fits v no_vmid no_asid = absurd (true≢false (sym p))
-mismatch s vmid El2 Ipa p fits v no_vmid no_asid = absurd (true≢false (sym p))
-mismatch s vmid El2 Va p fits v no_vmid no_asid = absurd (true≢false (sym p))
-mismatch s vmid El2 VaAll p fits v no_vmid no_asid = absurd (true≢false (sym p))
-mismatch s vmid El2 Asid p fits v no_vmid no_asid = absurd (true≢false (sym p))
-mismatch s vmid S2 El2All p fits v no_vmid no_asid = absurd (true≢false (sym p))
-mismatch s vmid S2 El2Va p fits v no_vmid no_asid = absurd (true≢false (sym p))
-mismatch s vmid S2 E1All p fits v no_vmid no_asid = absurd (true≢false (sym p))
-mismatch s vmid S2 VmAll1 p fits v no_vmid no_asid = ap (λ b. where_fits Second b) no_vmid
-mismatch s vmid S2 VmAll12 p fits v no_vmid no_asid = ap (λ b. where_fits Full b) no_vmid
-mismatch s vmid S2 Ipa p fits v no_vmid no_asid =
-    ap (λ b. where_fits Half b) (and_right fits (vmid_matches vmid v.tags) no_vmid)
-mismatch s vmid S2 Va p fits v no_vmid no_asid = absurd (true≢false (sym p))
-mismatch s vmid S2 VaAll p fits v no_vmid no_asid = absurd (true≢false (sym p))
-mismatch s vmid S2 Asid p fits v no_vmid no_asid = absurd (true≢false (sym p))
-mismatch s vmid Ttbr0 El2All p fits v no_vmid no_asid = absurd (true≢false (sym p))
-mismatch s vmid Ttbr0 El2Va p fits v no_vmid no_asid = absurd (true≢false (sym p))
-mismatch s vmid Ttbr0 E1All p fits v no_vmid no_asid = absurd (true≢false (sym p))
-mismatch s vmid Ttbr0 VmAll1 p fits v no_vmid no_asid = absurd (true≢false (sym p))
-mismatch s vmid Ttbr0 VmAll12 p fits v no_vmid no_asid = absurd (true≢false (sym p))
-mismatch s vmid Ttbr0 Ipa p fits v no_vmid no_asid = absurd (true≢false (sym p))
-mismatch s vmid Ttbr0 Va p fits v no_vmid no_asid =
-    ap (λ b. where_fits Full b) (and_right fits (asid_matches s.asid v.tags) no_asid)
-mismatch s vmid Ttbr0 VaAll p fits v no_vmid no_asid = absurd (true≢false (sym p))
-mismatch s vmid Ttbr0 Asid p fits v no_vmid no_asid = ap (λ b. where_fits Full b) no_asid
-mismatch s vmid Ttbr1 El2All p fits v no_vmid no_asid = absurd (true≢false (sym p))
-mismatch s vmid Ttbr1 El2Va p fits v no_vmid no_asid = absurd (true≢false (sym p))
-mismatch s vmid Ttbr1 E1All p fits v no_vmid no_asid = absurd (true≢false (sym p))
-mismatch s vmid Ttbr1 VmAll1 p fits v no_vmid no_asid = absurd (true≢false (sym p))
-mismatch s vmid Ttbr1 VmAll12 p fits v no_vmid no_asid = absurd (true≢false (sym p))
-mismatch s vmid Ttbr1 Ipa p fits v no_vmid no_asid = absurd (true≢false (sym p))
-mismatch s vmid Ttbr1 Va p fits v no_vmid no_asid = absurd (true≢false (sym p))
-mismatch s vmid Ttbr1 VaAll p fits v no_vmid no_asid = absurd (true≢false (sym p))
-mismatch s vmid Ttbr1 Asid p fits v no_vmid no_asid = absurd (true≢false (sym p))
+mismatch s vmid k f p fits v no_vmid no_asid = grind arith
 
 pub mismatched : (s : Scope) (vmid : Option ℕ) (v : PlaceView) → asks_tags s.family v.kind ≡ true
     → vmid_matches vmid v.tags ≡ false → asid_matches s.asid v.tags ≡ false → cover_of s vmid v ≡ NoCover

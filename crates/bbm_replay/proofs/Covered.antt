@@ -13,19 +13,12 @@ use Rattle.bbm_tlbi_scope.specs.declared.entry.Cover.TheVariants.{None as NoCove
 
 pub table_is : (d : Desc) (c : Core) → descriptor.core_in d ≡ Some c
     → is_some (held.next_in (Some c)) ≡ is_some (next_in d)
-table_is Invalid c k = let bad : None ≡ Some c = k in absurd cc
-table_is (Table next ns) c k =
-    let same : core.Table next ns ≡ c = cc in ap (λ (x : Core). is_some (held.next_in (Some x))) (sym same)
-table_is (Leaf out attrs share global contiguous) c k =
-    let same : core.Leaf out attrs share global contiguous ≡ c = cc in
-    ap (λ (x : Core). is_some (held.next_in (Some x))) (sym same)
+table_is Invalid c k = cc
+table_is d c k = cc
 
 pub global_is : (d : Desc) (c : Core) → descriptor.core_in d ≡ Some c → is_global_core (Some c) ≡ is_global d
-global_is Invalid c k = let bad : None ≡ Some c = k in absurd cc
-global_is (Table next ns) c k =
-    let same : core.Table next ns ≡ c = cc in ap (λ (x : Core). is_global_core (Some x)) (sym same)
-global_is (Leaf out attrs share global contiguous) c k =
-    let same : core.Leaf out attrs share global contiguous ≡ c = cc in ap (λ (x : Core). is_global_core (Some x)) (sym same)
+global_is Invalid c k = cc
+global_is d c k = cc
 
 pub same_by_truth : (a b : Bool) → ((a ≡ true) → b ≡ true) → ((b ≡ true) → a ≡ true) → a ≡ b
 same_by_truth = proved 2 (λ a b. If (If (Is a true) (Is b true)) (If (If (Is b true) (Is a true)) (Is a b))) refl
@@ -63,34 +56,11 @@ module _ (heading : Heading) (h : List Event) (pe : ℕ) (op : TlbiOp) (xt : ℕ
       → tags ≡ tag_set (tags_of heading Patterns n.root h)
       → scopes.cover_of scope vmid (seen table global childless tags)
       ≡ cover_at heading Patterns (notes heading h) (Tlbi pe op xt) place
-  covered named vmid_is node held t g c s = sym (
-      ap (λ (o : Option Scope). unwrap_or (option_and_then (λ (x : Scope). option_and_then (λ (w : PlaceView).
-      Some (scopes.cover_of x (vmid_of heading (events_of (notes heading h)) pe) w))
-      (view_at heading Patterns (notes heading h) place)) o) NoCover)
-      (ap (λ (es : List Event). named_scope heading es pe op xt) ev ∙ named)
-      ∙ ap (λ (o : Option PlaceView). unwrap_or (option_and_then (λ (w : PlaceView).
-      Some (scopes.cover_of scope (vmid_of heading (events_of (notes heading h)) pe) w)) o) NoCover) view_is
-      ∙ ap (λ (x : Option ℕ). scopes.cover_of scope x (seen table global childless tags))
-      (ap (λ (es : List Event). vmid_of heading es pe) ev ∙ sym vmid_is))
-    where
-      view_is : view_at heading Patterns (notes heading h) place ≡ Some (seen table global childless tags)
-      view_is = ap (λ (o : Option Node). option_and_then (λ (m : Node). option_and_then (λ (v : ℕ). Some (told m v))
-          (held_at heading Patterns (notes heading h) m place)) o) node
-          ∙ ap (λ (o : Option ℕ). option_and_then (λ (v : ℕ). Some (told n v)) o) held
-          ∙ ap (λ b. Some (seen b (is_global (desc_of n.kind n.level value)) (is_childless heading Patterns (notes heading h) n value)
-          (tag_set (tags_of heading Patterns n.root (events_of (notes heading h)))))) (sym t)
-          ∙ ap (λ b. Some (seen table b (is_childless heading Patterns (notes heading h) n value)
-          (tag_set (tags_of heading Patterns n.root (events_of (notes heading h)))))) (sym g)
-          ∙ ap (λ b. Some (seen table global b (tag_set (tags_of heading Patterns n.root (events_of (notes heading h)))))) (sym c)
-          ∙ ap (λ (x : TagSet). Some (seen table global childless x))
-          (ap (λ (es : List Event). tag_set (tags_of heading Patterns n.root es)) ev ∙ sym s)
+  covered named vmid_is node held t g c s = cc
 
 pub core_of_marks : (o : Option Core) (m : Option Marks) (x : Marks) → m ≡ Some x → core_in (state_from o m) ≡ Some x.core
-core_of_marks o m x k = ap (λ (z : Option Marks). core_in (state_from o z)) k ∙ by o
-  where
-    by : (o : Option Core) → core_in (state_from o (Some x)) ≡ Some x.core
-    by None = refl
-    by (Some c) = refl
+core_of_marks None m x k = cc
+core_of_marks (Some c) m x k = cc
 
 pub held_of : (o : Option ℕ) (f : ℕ → Option Core) (c : Core) → option_and_then f o ≡ Some c
     → (v : ℕ) × (o ≡ Some v) × (f v ≡ Some c)

@@ -18,51 +18,11 @@ use Rattle.bbm_replay.proofs.Extents.{holds_meets}
 
 unfit : (kind : Kind) (family : Family) → has_page family ≡ true → (s : Scope) (vmid : Option ℕ) (v : PlaceView)
     → cover_by kind family false s vmid v ≡ NoCover
-unfit kind El2All p s vmid v = absurd (true≢false (sym p))
-unfit kind E1All p s vmid v = absurd (true≢false (sym p))
-unfit kind VmAll1 p s vmid v = absurd (true≢false (sym p))
-unfit kind VmAll12 p s vmid v = absurd (true≢false (sym p))
-unfit kind Asid p s vmid v = absurd (true≢false (sym p))
-unfit El2 El2Va p s vmid v = refl
-unfit S2 El2Va p s vmid v = refl
-unfit Ttbr0 El2Va p s vmid v = refl
-unfit Ttbr1 El2Va p s vmid v = refl
-unfit El2 Ipa p s vmid v = refl
-unfit S2 Ipa p s vmid v = refl
-unfit Ttbr0 Ipa p s vmid v = refl
-unfit Ttbr1 Ipa p s vmid v = refl
-unfit El2 Va p s vmid v = refl
-unfit S2 Va p s vmid v = refl
-unfit Ttbr0 Va p s vmid v = refl
-unfit Ttbr1 Va p s vmid v = refl
-unfit El2 VaAll p s vmid v = refl
-unfit S2 VaAll p s vmid v = refl
-unfit Ttbr0 VaAll p s vmid v = refl
-unfit Ttbr1 VaAll p s vmid v = refl
+unfit kind family p s vmid v = grind arith
 
 unlike : (kind : Kind) (family : Family) → has_page family ≡ true → covers_kind family kind ≡ false → (b : Bool) (s : Scope)
     (vmid : Option ℕ) (v : PlaceView) → cover_by kind family b s vmid v ≡ NoCover
-unlike kind El2All p k b s vmid v = absurd (true≢false (sym p))
-unlike kind E1All p k b s vmid v = absurd (true≢false (sym p))
-unlike kind VmAll1 p k b s vmid v = absurd (true≢false (sym p))
-unlike kind VmAll12 p k b s vmid v = absurd (true≢false (sym p))
-unlike kind Asid p k b s vmid v = absurd (true≢false (sym p))
-unlike El2 El2Va p k b s vmid v = absurd (true≢false k)
-unlike S2 El2Va p k b s vmid v = refl
-unlike Ttbr0 El2Va p k b s vmid v = refl
-unlike Ttbr1 El2Va p k b s vmid v = refl
-unlike El2 Ipa p k b s vmid v = refl
-unlike S2 Ipa p k b s vmid v = absurd (true≢false k)
-unlike Ttbr0 Ipa p k b s vmid v = refl
-unlike Ttbr1 Ipa p k b s vmid v = refl
-unlike El2 Va p k b s vmid v = refl
-unlike S2 Va p k b s vmid v = refl
-unlike Ttbr0 Va p k b s vmid v = absurd (true≢false k)
-unlike Ttbr1 Va p k b s vmid v = absurd (true≢false k)
-unlike El2 VaAll p k b s vmid v = refl
-unlike S2 VaAll p k b s vmid v = refl
-unlike Ttbr0 VaAll p k b s vmid v = absurd (true≢false k)
-unlike Ttbr1 VaAll p k b s vmid v = absurd (true≢false k)
+unlike kind family p k b s vmid v = grind arith
 
 -- where the table of covers gives none, there is none
 pub none_by : (s : Scope) (vmid : Option ℕ) (v : PlaceView)

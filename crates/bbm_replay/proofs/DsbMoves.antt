@@ -5,7 +5,7 @@ use Rattle.bbm_replay.proofs.Common.{waiting}
 use Rattle.bbm_rules.proofs.Common.{◌≡◌, ℕ, Bool, true, false, cond, ◌&&◌, nat_eq, List, [], ◌∷◌, Contains, Option}
 use Rattle.bbm_rules.proofs.Common.{Some, None, is_some, refl, sym, ◌∙◌, ap, subst, true≢false, and_parts, eqb-true}
 use Rattle.bbm_rules.proofs.Common.{not-true, and_right, is_non, core_of, is_valid, Core, Cover, fits_heading, Patterns}
-use Rattle.bbm_rules.proofs.Common.{held, every, page_of, Barrier, Heading, Event, Dsb, Above, Node}
+use Rattle.bbm_rules.proofs.Common.{held, every, page_of, Barrier, Heading, Event, Dsb, Above, Node, arith}
 use Rattle.bbm_rules.specs.Broken.{broken}
 use Rattle.bbm_replay_entries.specs.EntryEvents.{Heard}
 use Rattle.bbm_replay_trees.specs.Told.{core_at, next_in}
@@ -65,15 +65,8 @@ module _ (heading : Heading) (laws : Laws heading) (h : List Event) (old mid new
   none_waits a k p b c i = by (nat_eq p q) refl
     where
       by : (x : Bool) → nat_eq p q ≡ x → waits (new.pends p a) b c i ≡ false
-      by true same =
-          let one : p ≡ q = eqb-true p q same in
-          subst (λ (x : ℕ). waits (new.pends x a) b c i ≡ false) (sym one)
-          ((completes.completed a).waiting b c i ∙ gone (new.marks a) k _)
-        where
-          gone : (m : Option Marks) → m ≡ None → (x : Bool) → (is_some (core_in (state_from None m)) && x) ≡ false
-          gone None e x = refl
-          gone (Some m) e x = let bad : Some m ≡ None = e in absurd cc
-      by false other = completes.others p a other b c i ∙ ap (λ (m : Option Marks). is_some m && waits (mid.pends p a) b c i) k
+      by true same = cc (eqb-true p q same, (completes.completed a).waiting b c i, k)
+      by false other = cc (completes.others p a other b c i, k)
 
   -- each place of a tree
   module _ (n : Node) (a : ℕ) (is : old.node (page_of a) ≡ Some n) where
@@ -136,11 +129,12 @@ module _ (heading : Heading) (laws : Laws heading) (h : List Event) (old mid new
       let up = laws.neighbours.above h old m.page m a t.kept t.nodes (cores heading h old t) is inside in
       let n = up.0 in
       let stands = dsb_entry n a.place up.1 in
-      let here : holds n.kind n.level a.place ≡ is_some (held heading Patterns n.kind n.level a.place (notes heading (e ∷ h)))
-      = ap (λ (o : Option Core). is_some o) (sym (state_core n.kind n.level (new.value a.place) (new.marks a.place)))
-      ∙ sym (laws.holds.holds (e ∷ h) n.kind n.level a.place (state_of new n.kind n.level a.place) (waiting new a.place) stands) in
-      subst (λ (k : Kind). holds k a.level a.place ≡ is_some (held heading Patterns k a.level a.place (notes heading (e ∷ h)))) up.2
-      (subst (λ (l : ℕ). holds n.kind l a.place ≡ is_some (held heading Patterns n.kind l a.place (notes heading (e ∷ h)))) up.3 here)
+      cc (
+        state_core n.kind n.level (new.value a.place) (new.marks a.place),
+        laws.holds.holds (e ∷ h) n.kind n.level a.place (state_of new n.kind n.level a.place) (waiting new a.place) stands,
+        up.2,
+        up.3,
+      )
 
   -- where no place lost a table, every page of a tree stays in it
   module _ (no_loss : (a next : ℕ) → next_in (core_in (state_from None (mid.marks a))) ≡ Some next
@@ -162,16 +156,10 @@ module _ (heading : Heading) (laws : Laws heading) (h : List Event) (old mid new
     still_holds kind level a next table = by (old.marks a) refl
       where
         by : (m : Option Marks) → old.marks a ≡ m → holds kind level a ≡ true
-        by None k =
-            ap (λ (m : Option Marks). is_some (core_with m kind level (new.value a))) (whole_stays a k ∙ sym k)
-            ∙ ap (λ v. is_some (core_with (old.marks a) kind level v)) (value_same a)
-            ∙ some_next (core_at old kind level a) next table
+        by None k = cc (whole_stays a k, k, value_same a, some_next (core_at old kind level a) next table)
         by (Some m) k =
-            let is_marked : is_some (old.marks a) ≡ true = ap (λ (m : Option Marks). is_some m) k in
-            let still = no_loss a next (ap (λ (o : Option Core). next_in o)
-            (heard_core a ∙ sym (broken_core kind level (old.value a) (old.marks a) is_marked)) ∙ table) in
-            ap (λ (o : Option Core). is_some o) (broken_core kind level (new.value a) (new.marks a) still)
-            ∙ core_some (new.marks a) ∙ still
+            let still = no_loss a next (cc (k, heard_core a, table)) in
+            cc (broken_core kind level (new.value a) (new.marks a) still, core_some (new.marks a), still)
 
     all_above : (xs : List Above) (p : ℕ) (m : Node) → old.node p ≡ Some m → m.above ≡ xs
         → every (λ a. holds m.kind a.level a.place) xs ≡ true
@@ -186,8 +174,7 @@ module _ (heading : Heading) (laws : Laws heading) (h : List Event) (old mid new
         let level : a.level ≡ n.level = ap (λ (x : Above). x.level) first in
         let kind : m.kind ≡ n.kind = ap (λ (x : Node). x.kind) up.is_below in
         let here : holds m.kind a.level a.place ≡ true
-        = ap (λ (k : Kind). holds k a.level a.place) kind ∙ ap (λ (l : ℕ). holds n.kind l a.place) level
-        ∙ still_holds n.kind n.level a.place m.page up.table in
+        = cc (kind, level, still_holds n.kind n.level a.place m.page up.table) in
         let older : every (λ a. holds n.kind a.level a.place) rest ≡ true
         = all_above rest (page_of a.place) n up.is_parent others in
         let there : every (λ a. holds m.kind a.level a.place) rest ≡ true

@@ -3,18 +3,16 @@ use Rattle.bbm_replay.proofs.Common.{is_broken, waits, Marks, Pends, EntryState,
 use Rattle.bbm_replay.proofs.Common.{AllFit, View, Laws, Told, next_in, state_of, waiting}
 use Rattle.bbm_rules.proofs.Common.{◌≡◌, ℕ, ◌<◌, Bool, true, false, ◌&&◌, List, ◌∷◌, Option, Some, None, refl, sym, ◌∙◌}
 use Rattle.bbm_rules.proofs.Common.{ap, subst, proved, If, Is, core_of, fits_heading, keeps, Patterns, page_of, Heading}
-use Rattle.bbm_rules.proofs.Common.{Event, Node, Core, is_some, true≢false}
+use Rattle.bbm_rules.proofs.Common.{Event, Node, Core, is_some, true≢false, arith}
 use Rattle.bbm_rules.specs.Broken.{broken}
 use Rattle.bbm_replay.proofs.Moves.{Alike}
 
 pub none_of : {A : Type 0} (o : Option A) → is_some o ≡ false → o ≡ None
-none_of None k = refl
-none_of (Some x) k = absurd (true≢false k)
+none_of o k = grind arith
 
 -- what holds a table isn't empty
 pub some_next : (o : Option Core) (next : ℕ) → next_in o ≡ Some next → is_some o ≡ true
-some_next None next k = let bad : None ≡ Some next = k in absurd cc
-some_next (Some core) next k = refl
+some_next o next k = grind arith
 
 pub keeps_more : (heading : Heading) (h : List Event) (e : Event) → keeps heading Patterns h ≡ true
     → broken heading Patterns h e ≡ None → keeps heading Patterns (e ∷ h) ≡ true
@@ -29,8 +27,7 @@ guard = proved 2 (λ x y. If (If (Is x false) (Is y false)) (Is y (x && y))) ref
 
 pub state_same : (kind : Kind) (level : ℕ) (v v' : ℕ) (m m' : Option Marks) → v' ≡ v → m' ≡ m
     → state_from (core_of kind level v) m ≡ state_from (core_of kind level v') m'
-state_same kind level v v' m m' e k =
-    ap (λ (x : ℕ). state_from (core_of kind level x) m) (sym e) ∙ ap (λ (x : Option Marks). state_from (core_of kind level v') x) (sym k)
+state_same kind level v v' m m' e k = cc
 
 module _ (heading : Heading) (laws : Laws heading) where
   pub some_pe : (h : List Event) (v : View) → Told heading h v → 0 < heading.pes

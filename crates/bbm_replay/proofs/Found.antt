@@ -57,12 +57,9 @@ untracked heading h p s page k = by (node_in p.index page) refl
 -- the same of any node
 pub found_at : (o : Option Node) (place : ℕ) (r : Option Path) (path : Path) → r ≡ Some path
     → r ≡ option_map (λ n. path_at n place) o → (n : Node) × (o ≡ Some n) × (path ≡ path_at n place)
-found_at None place r path e k = let bad : Some path ≡ None = sym e ∙ k in absurd cc
-found_at (Some n) place r path e k =
-    let both : Some path ≡ Some (path_at n place) = sym e ∙ k in
-    let same : path ≡ path_at n place = cc in
-    (n, refl, same)
+found_at None place r path e k = absurd cc
+found_at (Some n) place r path e k = (n, refl, cc)
 
 pub none_at : (o : Option Node) (place : ℕ) (r : Option Path) → r ≡ None → r ≡ option_map (λ n. path_at n place) o → o ≡ None
 none_at None place r e k = refl
-none_at (Some n) place r e k = let bad : None ≡ Some (path_at n place) = sym e ∙ k in absurd cc
+none_at (Some n) place r e k = cc

@@ -3,7 +3,7 @@ use Rattle.bbm_replay.proofs.Common.{core_in, is_broken, IsIdle, Marks, state_fr
 use Rattle.bbm_replay.proofs.Common.{Attached, View, Laws, Told, state_of, waiting}
 use Rattle.bbm_rules.proofs.Common.{◌≡◌, ℕ, Bool, true, false, ◌⊎◌, List, [], ◌∷◌, Option, Some, None, refl, sym, ◌∙◌}
 use Rattle.bbm_rules.proofs.Common.{ap, subst, inl, inr, core_of, Core, fits_heading, Patterns, page_of, Heading, Event}
-use Rattle.bbm_rules.proofs.Common.{Root, Node, node_below, nodes_of_root, value_of}
+use Rattle.bbm_rules.proofs.Common.{Root, Node, node_below, nodes_of_root, value_of, arith}
 use Rattle.bbm_rules.specs.Broken.{broken}
 use Rattle.bbm_tree_index.specs.Paths.{Through}
 use Rattle.bbm_replay.proofs.Moves.{Alike, Attaches, Grown, SameMap}
@@ -38,12 +38,10 @@ grown old new starts move = record {
         inl (e ∙ same)
 
 pub core_whole : (o : Option Core) → core_in (state_from o None) ≡ o
-core_whole None = refl
-core_whole (Some core) = refl
+core_whole o = grind arith
 
 unbroken_whole : (o : Option Core) → is_broken (state_from o None) ≡ false
-unbroken_whole None = refl
-unbroken_whole (Some core) = refl
+unbroken_whole o = grind arith
 
 module _ (heading : Heading) (laws : Laws heading) where
   -- a place of a page that was fresh
@@ -53,9 +51,7 @@ module _ (heading : Heading) (laws : Laws heading) where
       → EntryStands heading (e ∷ h) n.kind n.level a (state_of new n.kind n.level a) (waiting new a)
   planted h old new t e n a fresh untouched value marks idle =
       let level = n.level in
-      let same : state_from (core_of n.kind level (value_of h a)) None ≡ state_of new n.kind level a
-      = ap (λ (x : ℕ). state_from (core_of n.kind level x) None) (sym (t.values a) ∙ sym value)
-      ∙ ap (λ (m : Option Marks). state_from (core_of n.kind level (new.value a)) m) (sym marks) in
+      let same : state_from (core_of n.kind level (value_of h a)) None ≡ state_of new n.kind level a = cc (t.values a, value, marks) in
       subst (λ x. EntryStands heading (e ∷ h) n.kind level a x (waiting new a)) same
       (laws.stays h e n.kind level a _ (waiting new a) (some_pe heading laws h old t) untouched
       (laws.begins.fresh h n.kind level a _ (waiting new a) (some_pe heading laws h old t) t.kept

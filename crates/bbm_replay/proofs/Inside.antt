@@ -1,19 +1,18 @@
 -- A write at a place of a tree, at the parts.
 use Rattle.bbm_replay.proofs.Common.{Written, WritesAs, waits, IsIdle, Pends, EntryState, same_kind, NoLock}
 use Rattle.bbm_replay.proofs.Common.{BreakBeforeMake, LimboMake, NotFresh, BadKind, GlobalUser, Broken, limbo_by, Path}
-use Rattle.bbm_replay.proofs.Common.{NullWritten, PlaceMap, TreeIndex, state_at}
-use Rattle.bbm_replay.proofs.Common.{RootState, View, notes, Laws, attached_next, is_contiguous_core, is_global_core}
-use Rattle.bbm_replay.proofs.Common.{step_fault, TreeFault, Rules, Admitted, core_in, Kind, WritesTree, IsAt, Links}
-use Rattle.bbm_replay.proofs.Common.{IsUnlocked, MayAdmit, Meets, PartsStand, SameFrame, view_of, Told}
-use Rattle.bbm_replay.proofs.Common.{state_of, ReplayState}
-use Rattle.bbm_rules.proofs.Common.{◌≡◌, ℕ, ◌<◌, ◌%◌, Bool, true, false, not, ◌&&◌, ◌⊎◌, ◌==◌}
-use Rattle.bbm_rules.proofs.Common.{List, [], ◌∷◌, Option, Some, None, is_none, is_some, option_and_then, Result, Ok}
-use Rattle.bbm_rules.proofs.Common.{Err, refl, sym, ◌∙◌, ap, subst, inl, inr, option_map_or}
-use Rattle.bbm_rules.proofs.Common.{core_of, desc_of, differ, Core, Desc, Invalid}
+use Rattle.bbm_replay.proofs.Common.{NullWritten, PlaceMap, TreeIndex, state_at, RootState, View, notes, Laws}
+use Rattle.bbm_replay.proofs.Common.{attached_next, is_contiguous_core, is_global_core, step_fault, TreeFault, Rules}
+use Rattle.bbm_replay.proofs.Common.{Admitted, core_in, Kind, WritesTree, IsAt, Links, IsUnlocked, MayAdmit, Meets}
+use Rattle.bbm_replay.proofs.Common.{PartsStand, SameFrame, view_of, Told, state_of, ReplayState}
+use Rattle.bbm_rules.proofs.Common.{◌≡◌, ℕ, ◌<◌, ◌%◌, Bool, true, false, not, ◌&&◌, ◌⊎◌, ◌==◌, List, [], ◌∷◌, Option}
+use Rattle.bbm_rules.proofs.Common.{Some, None, is_none, is_some, option_and_then, Result, Ok, Err, refl, sym, ◌∙◌, ap}
+use Rattle.bbm_rules.proofs.Common.{subst, inl, inr, option_map_or, core_of, desc_of, differ, Core, Desc, Invalid}
 use Rattle.bbm_rules.proofs.Common.{Table, Leaf, rewrites, attached_by, Patterns, is_global, if_so, page_of, Ttbr0}
 use Rattle.bbm_rules.proofs.Common.{Heading, Event, Write, lock_of, bad_kind, break_before_make, global_user}
 use Rattle.bbm_rules.proofs.Common.{is_contiguous, lacks, limbo_make, no_lock, not_fresh, null_written, rewritten_fresh}
 use Rattle.bbm_rules.proofs.Common.{Node, held_at, next_in, next_of, node_below, node_of, and-false, and_right, Breach}
+use Rattle.bbm_rules.proofs.Common.{arith}
 use Rattle.bbm_descriptor.specs.Descriptor as descriptor
 use Rattle.bbm_rules.proofs.TreeLaw.{table_level}
 use Rattle.bbm_rules.specs.Answers.{is_written}
@@ -52,16 +51,14 @@ global_is (Leaf out attrs share global contiguous) = refl
 attaches_none : (held : Option Core) (d : Desc) → attached_next held (descriptor.core_in d) ≡ None
     → (is_some held ≡ true) ⊎ (next_in d ≡ None)
 attaches_none (Some core) d k = inl refl
-attaches_none None Invalid k = inr refl
-attaches_none None (Table next ns) k = let bad : Some next ≡ None = k in absurd cc
-attaches_none None (Leaf out attrs share global contiguous) k = inr refl
+attaches_none None Invalid k = inr k
+attaches_none None d k = inr k
 
 attaches_next : (held : Option Core) (d : Desc) (next : ℕ) → attached_next held (descriptor.core_in d) ≡ Some next
     → (held ≡ None) × (next_in d ≡ Some next)
 attaches_next (Some core) d next k = let bad : None ≡ Some next = k in absurd cc
-attaches_next None Invalid next k = let bad : None ≡ Some next = k in absurd cc
-attaches_next None (Table at ns) next k = (refl, k)
-attaches_next None (Leaf out attrs share global contiguous) next k = let bad : None ≡ Some next = k in absurd cc
+attaches_next None Invalid next k = (refl, k)
+attaches_next None d next k = (refl, k)
 
 -- ---- the rule on locks
 

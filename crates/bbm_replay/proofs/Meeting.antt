@@ -129,17 +129,7 @@ null_page heading (Null pe at ∷ h) page fit k =
     by before true e = subst (λ (x : ℕ). is_page x ≡ true) (eqb-true at page e)
         (and_parts (nat_lt pe heading.pes) (is_page at) (and_parts (fits_heading heading (Null pe at)) _ fit).0).1
     by before false e = before (ap (λ b. b || is_null h page) (sym e) ∙ k)
-null_page heading (Init pe at ∷ h) page fit k = null_page heading h page (and_parts (fits_heading heading (Init pe at)) _ fit).1 k
-null_page heading (Root pe kind lock at ∷ h) page fit k = null_page heading h page (and_parts (fits_heading heading (Root pe kind lock at)) _ fit).1 k
-null_page heading (Unroot pe at ∷ h) page fit k = null_page heading h page (and_parts (fits_heading heading (Unroot pe at)) _ fit).1 k
-null_page heading (Write pe at v ∷ h) page fit k = null_page heading h page (and_parts (fits_heading heading (Write pe at v)) _ fit).1 k
-null_page heading (Dsb pe dsb ∷ h) page fit k = null_page heading h page (and_parts (fits_heading heading (Dsb pe dsb)) _ fit).1 k
-null_page heading (Dmb pe dsb ∷ h) page fit k = null_page heading h page (and_parts (fits_heading heading (Dmb pe dsb)) _ fit).1 k
-null_page heading (Isb pe ∷ h) page fit k = null_page heading h page (and_parts (fits_heading heading (Isb pe)) _ fit).1 k
-null_page heading (Tlbi pe op xt ∷ h) page fit k = null_page heading h page (and_parts (fits_heading heading (Tlbi pe op xt)) _ fit).1 k
-null_page heading (Msr pe reg v ∷ h) page fit k = null_page heading h page (and_parts (fits_heading heading (Msr pe reg v)) _ fit).1 k
-null_page heading (Lock pe lock ∷ h) page fit k = null_page heading h page (and_parts (fits_heading heading (Lock pe lock)) _ fit).1 k
-null_page heading (Unlock pe lock ∷ h) page fit k = null_page heading h page (and_parts (fits_heading heading (Unlock pe lock)) _ fit).1 k
+null_page heading (e ∷ h) page fit k = null_page heading h page (and_parts (fits_heading heading e) _ fit).1 k
 
 pub meets_msr : ((heading : Heading) → Laws heading) → (p : ReplayState) (r : RootState) (pe : ℕ) (reg : Reg) (value : ℕ)
     → MayMeet p (Msr pe reg value) → (result : Result (Unit {0}) StepFault) (null : Bool)

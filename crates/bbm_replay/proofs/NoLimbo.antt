@@ -1,9 +1,9 @@
 -- Where no place is broken over a table, no place is in limbo.
 use Rattle.bbm_replay.proofs.Common.{Marks, PlaceMap, Kind, core_with, limbo_by, next_in, TreeIndex, Laws, view_of}
 use Rattle.bbm_replay.proofs.Common.{Told}
-use Rattle.bbm_rules.proofs.Common.{◌≡◌, ℕ, true, false, not, List, [], ◌∷◌, Option, Some, None, refl, sym}
-use Rattle.bbm_rules.proofs.Common.{◌∙◌, ap, option_map_or, core_of, is_valid, any, page_of, Heading, Event}
-use Rattle.bbm_rules.proofs.Common.{Above, Node, or_from}
+use Rattle.bbm_rules.proofs.Common.{◌≡◌, ℕ, true, false, not, List, [], ◌∷◌, Option, Some, None, refl, sym, ◌∙◌, ap}
+use Rattle.bbm_rules.proofs.Common.{option_map_or, core_of, is_valid, any, page_of, Heading, Event, Above, Node}
+use Rattle.bbm_rules.proofs.Common.{or_from}
 use Rattle.bbm_place_map.specs.Map.{marks_at, value_at}
 use Rattle.bbm_tree_index.specs.Index.{node_in}
 use Rattle.bbm_replay.specs.ReplayStanding.{OverLeaves}
@@ -34,10 +34,7 @@ module _ (heading : Heading) (laws : Laws heading) (h : List Event) (map : Place
       let bare : next_in (core_of parent.kind parent.level value) ≡ Some m.page
       = bare_table parent.kind parent.level value m.page (marks_at map x.place) (low x.place) hangs.table in
       let good : is_valid kind x.level value ≡ true
-      = ap (λ (k : Kind). is_valid k x.level value) (sym own)
-      ∙ ap (λ l. is_valid parent.kind l value) (sym (ap (λ (y : Above). y.level) both.0))
-      ∙ sym (laws.core_where_valid parent.kind parent.level value)
-      ∙ some_next (core_of parent.kind parent.level value) m.page bare in
+      = cc (own, both.0, laws.core_where_valid parent.kind parent.level value, some_next (core_of parent.kind parent.level value) m.page bare) in
       or_from (not (is_valid kind x.level value)) (any (λ a. not (is_valid kind a.level (value_at map a.place))) above)
       (ap (λ b. not b) good) (above_valid kind above (page_of x.place) parent hangs.is_parent own both.1)
     where

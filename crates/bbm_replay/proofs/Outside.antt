@@ -3,10 +3,10 @@ use Rattle.std.proofs.Math.Bool.{and_assoc}
 use Rattle.bbm_replay.proofs.Common.{NoLock, NullWritten, BreakBeforeMake, LimboMake, NotFresh, RewrittenFresh, BadKind}
 use Rattle.bbm_replay.proofs.Common.{GlobalUser, Broken, IsIdle, Pends, PlaceMap, Puts, notes, waits, Laws, Rules}
 use Rattle.bbm_replay.proofs.Common.{MayMeet, Meets, PartsStand, view_of, ReplayState}
-use Rattle.bbm_rules.proofs.Common.{◌≡◌, ℕ, ◌%◌, Bool, true, false, not, ◌&&◌, ◌||◌, ◌==◌, List, ◌∷◌, None, Ok}
-use Rattle.bbm_rules.proofs.Common.{Err, refl, ◌∙◌, ap, Patterns, if_so, page_of, Heading, Event, Breach}
-use Rattle.bbm_rules.proofs.Common.{Write, not_fresh, rewritten_fresh, null_written, bad_kind, global_user}
-use Rattle.bbm_rules.proofs.Common.{break_before_make, limbo_make, no_lock, Option}
+use Rattle.bbm_rules.proofs.Common.{◌≡◌, ℕ, ◌%◌, Bool, true, false, not, ◌&&◌, ◌||◌, ◌==◌, List, ◌∷◌, None, Ok, Err}
+use Rattle.bbm_rules.proofs.Common.{refl, ◌∙◌, ap, Patterns, if_so, page_of, Heading, Event, Breach, Write, not_fresh}
+use Rattle.bbm_rules.proofs.Common.{rewritten_fresh, null_written, bad_kind, global_user, break_before_make, limbo_make}
+use Rattle.bbm_rules.proofs.Common.{no_lock, Option}
 use Rattle.bbm_entry_state.specs.declared.state.EntryState.TheVariants as state
 use Rattle.bbm_rules.specs.Broken.{broken}
 use Rattle.bbm_place_map.specs.Map.{marks_at, pends_at, value_at}
@@ -45,18 +45,7 @@ module _ (laws : (heading : Heading) → Laws heading) (rules : (heading : Headi
         let again = (rules heading).writes.rewritten h view pe place v s.told.fresh s.told.values
         ∙ ap (λ b. if_so b place) (and_assoc (fresh_in old.index page) (value_at old.map place % 2 == 1)
         (not (value_at old.map place == v))) in
-        rw (rules_are, out.0, null, out.1, out.2, bare.1, again, bare.2, bare.3) refl
-      where
-        rules_are : broken heading Patterns h (Write pe place v)
-            ≡ found NoLock (no_lock heading Patterns (notes heading h) (Write pe place v))
-            (found NullWritten (null_written heading Patterns (notes heading h) (Write pe place v))
-            (found BreakBeforeMake (break_before_make heading Patterns (notes heading h) (Write pe place v))
-            (found LimboMake (limbo_make heading Patterns (notes heading h) (Write pe place v))
-            (found NotFresh (not_fresh heading Patterns (notes heading h) (Write pe place v))
-            (found RewrittenFresh (rewritten_fresh heading Patterns (notes heading h) (Write pe place v))
-            (found BadKind (bad_kind heading Patterns (notes heading h) (Write pe place v))
-            (found GlobalUser (global_user heading Patterns (notes heading h) (Write pe place v)) None)))))))
-        rules_are = write_is heading (rules heading) h (view_of old.map old.index) s.told pe place v
+        rw (write_is heading (rules heading) h view s.told pe place v, out.0, null, out.1, out.2, bare.1, again, bare.2, bare.3) refl
 
     judged : (null fresh again : Bool) → null_in old.index page ≡ null → fresh_in old.index page ≡ fresh
         → rewritten ≡ again → broken heading Patterns h (Write pe place v) ≡ verdict page place null fresh again

@@ -25,27 +25,11 @@ plain_of (Isb pe) k = record { values = refl; inits = refl; nulls = refl; trees 
 plain_of (Msr pe reg value) k = record { values = refl; inits = refl; nulls = refl; trees = refl; unattached = λ heading ns. refl }
 plain_of (Lock pe lock) k = record { values = refl; inits = refl; nulls = refl; trees = refl; unattached = λ heading ns. refl }
 plain_of (Unlock pe lock) k = record { values = refl; inits = refl; nulls = refl; trees = refl; unattached = λ heading ns. refl }
-plain_of (Init pe page) k = absurd (true≢false (sym k))
-plain_of (Null pe page) k = absurd (true≢false (sym k))
-plain_of (Root pe kind lock page) k = absurd (true≢false (sym k))
-plain_of (Unroot pe page) k = absurd (true≢false (sym k))
-plain_of (Write pe place value) k = absurd (true≢false (sym k))
-plain_of (Dsb pe dsb) k = absurd (true≢false (sym k))
-plain_of (Tlbi pe op xt) k = absurd (true≢false (sym k))
+plain_of e k = absurd (true≢false (sym k))
 
 untouched : (e : Event) (a : ℕ) → is_quiet e ≡ true → touches a e ≡ false
 untouched (Dmb pe dsb) a k = refl
-untouched (Isb pe) a k = refl
-untouched (Msr pe reg value) a k = refl
-untouched (Lock pe lock) a k = refl
-untouched (Unlock pe lock) a k = refl
-untouched (Init pe page) a k = absurd (true≢false (sym k))
-untouched (Null pe page) a k = absurd (true≢false (sym k))
-untouched (Root pe kind lock page) a k = absurd (true≢false (sym k))
-untouched (Unroot pe page) a k = absurd (true≢false (sym k))
-untouched (Write pe place value) a k = absurd (true≢false (sym k))
-untouched (Dsb pe dsb) a k = absurd (true≢false (sym k))
-untouched (Tlbi pe op xt) a k = absurd (true≢false (sym k))
+untouched e a k = cc
 
 module _ (heading : Heading) (laws : Laws heading) where
   -- the tracked pages, where no page was initialised

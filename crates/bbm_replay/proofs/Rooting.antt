@@ -34,16 +34,15 @@ module _ (laws : (heading : Heading) → Laws heading) (rules : (heading : Headi
   abbrev e : Event
   e = Root pe kind lock page
 
-  pub root_world : ((heading : Heading) → old.header ≡ heading → kind_in_world heading.world kind ≡ false)
-      → Meets old old e (Err (Broken WrongWorld 0))
+  pub root_world : kind_in_world old.header.world kind ≡ false → Meets old old e (Err (Broken WrongWorld 0))
   root_world wrong = meets_broken old e WrongWorld 0
       (λ heading h s. root_is heading (rules heading) h (view_of old.map old.index) s.told pe page kind lock
-      ∙ stops WrongWorld _ _ 0 (where_true (not (kind_in_world heading.world kind)) 0 (ap not (wrong heading s.header))))
+      ∙ stops WrongWorld _ _ 0 (where_true (not (kind_in_world heading.world kind)) 0 (cc (wrong, s.header))))
 
-  module _ (right : (heading : Heading) → old.header ≡ heading → kind_in_world heading.world kind ≡ true) where
+  module _ (right : kind_in_world old.header.world kind ≡ true) where
     module _ (heading : Heading) (h : List Event) (s : PartsStand old heading h) where
       world_is : if_so {A = ℕ} (not (kind_in_world heading.world kind)) 0 ≡ None
-      world_is = where_false (not (kind_in_world heading.world kind)) 0 (ap not (right heading s.header))
+      world_is = where_false (not (kind_in_world heading.world kind)) 0 (cc (right, s.header))
 
       verdict_here : (r : Result (Unit {0}) TreeFault)
           → index.Judges (fresh_in old.index) (value_at old.map) (starts (heading_of old.index) kind page) {A = Unit {0}} true r
@@ -81,19 +80,17 @@ module _ (laws : (heading : Heading) → Laws heading) (rules : (heading : Headi
           ∙ passes WrongWorld _ _ (world_is heading h s) ∙ passes NotFresh _ _ v.0 ∙ passes BadKind _ _ v.1
           ∙ passes GlobalUser _ _ v.2 ∙ stops PageInUse _ None at k
 
-      pub unbroken : ((heading : Heading) → old.header ≡ heading
-          → least (filter (λ p. not (fresh_in old.index p)) (root_pages heading.world kind page)) ≡ None)
+      pub unbroken : least (filter (λ p. not (fresh_in old.index p)) (root_pages old.header.world kind page)) ≡ None
           → (heading : Heading) (h : List Event) → PartsStand old heading h → broken heading Patterns h e ≡ None
       unbroken k heading h s =
           let v = verdict_here heading h s (Ok tt) fine in
           root_is heading (rules heading) h (view_of old.map old.index) s.told pe page kind lock
           ∙ passes WrongWorld _ _ (world_is heading h s) ∙ passes NotFresh _ _ v.0 ∙ passes BadKind _ _ v.1
-          ∙ passes GlobalUser _ _ v.2 ∙ passes PageInUse _ None (k heading s.header)
+          ∙ passes GlobalUser _ _ v.2 ∙ passes PageInUse _ None (cc (k, s.header))
 
-      pub root_used : (at : ℕ) → ((heading : Heading) → old.header ≡ heading
-          → least (filter (λ p. not (fresh_in old.index p)) (root_pages heading.world kind page)) ≡ Some at)
+      pub root_used : (at : ℕ) → least (filter (λ p. not (fresh_in old.index p)) (root_pages old.header.world kind page)) ≡ Some at
           → Meets old old e (Err (Broken PageInUse at))
-      root_used at k = meets_broken old e PageInUse at (λ heading h s. used heading h s at (k heading s.header))
+      root_used at k = meets_broken old e PageInUse at (λ heading h s. used heading h s at (cc (k, s.header)))
 
       module _ (free : (heading : Heading) (h : List Event) → PartsStand old heading h → broken heading Patterns h e ≡ None)
           (ready : RootState) (same : (heading : Heading) (h : List Event) → roots.StateStands old.roots heading h
@@ -154,14 +151,11 @@ pub root_page : (heading : Heading) (pe : ℕ) (lock : Option ℕ) (kind : Kind)
 root_page heading pe lock kind page fits = third_true (is_pe heading pe) (is_root_lock lock) (is_root_page heading.world kind page) fits
 
 -- the pages of a root are consecutive ones
-pub unfresh_is : (p : ReplayState) (kind : Kind) (page count : ℕ) (heading : Heading) → p.header ≡ heading
-    → kind_in_world p.header.world kind ≡ true → count ≡ page_count p.header.world kind
-    → least (filter (λ x. not (fresh_in p.index x)) (root_pages heading.world kind page))
+pub unfresh_is : (p : ReplayState) (kind : Kind) (page count : ℕ) → kind_in_world p.header.world kind ≡ true
+    → count ≡ page_count p.header.world kind
+    → least (filter (λ x. not (fresh_in p.index x)) (root_pages p.header.world kind page))
     ≡ least (filter (λ x. not (fresh_in p.index x)) (pages_from page count))
-unfresh_is p kind page count heading e right is =
-    ap (λ (x : Heading). least (filter (λ x. not (fresh_in p.index x)) (root_pages x.world kind page))) (sym e)
-    ∙ ap (λ b. least (filter (λ x. not (fresh_in p.index x)) (cond b (pages_from page (page_count p.header.world kind)) []))) right
-    ∙ ap (λ (n : ℕ). least (filter (λ x. not (fresh_in p.index x)) (pages_from page n))) (sym is)
+unfresh_is p kind page count right is = cc
 
 -- what was attached, in the words of the laws
 pub attaches_of : (old new : TreeIndex) (map map' : PlaceMap) (at : Attach) → changes.Attaches (value_at map) at old new

@@ -1,29 +1,14 @@
 -- A TLBI of pages that names none of those that the places of a page translate covers none of these.
 use Rattle.bbm_replay.proofs.Common.{input_pages, PlaceMap, TreeIndex, RootState, NamedTlbi, MayBeIssued, notes}
 use Rattle.bbm_rules.proofs.Common.{◌≡◌, ℕ, zero, suc, ◌+◌, ◌-◌, ◌*◌, ◌/◌, ◌<◌, ◌≤◌, ◌^◌, nat_le, true, false, List}
-use Rattle.bbm_rules.proofs.Common.{Some, sym}
-use Rattle.bbm_rules.proofs.Common.{◌∙◌, ap, subst, arith, and_left, and_right, Extent, names_some, has_page, Patterns}
-use Rattle.bbm_rules.proofs.Common.{cover_at, events_of, index_of, page_of, Heading, Event, Tlbi, TlbiOp, Node}
-use Rattle.bbm_rules.proofs.Common.{region_of}
-use Rattle.bbm_rules.proofs.Common.{region_start}
+use Rattle.bbm_rules.proofs.Common.{Some, sym, ◌∙◌, ap, subst, arith, and_left, and_right, Extent, names_some, has_page}
+use Rattle.bbm_rules.proofs.Common.{Patterns, cover_at, events_of, index_of, page_of, Heading, Event, Tlbi, TlbiOp}
+use Rattle.bbm_rules.proofs.Common.{Node, region_of, region_start}
 use Rattle.std.proofs.lemmas.Bool.{lt-leb}
 use Rattle.bbm_tlbi_scope.specs.declared.entry.Cover.TheVariants.{None as NoCover}
 use Rattle.bbm_tree_index.specs.Index.{node_in}
 use Rattle.bbm_replay.proofs.Descents.{index_small, part_inside, unnamed}
-use Rattle.bbm_replay.proofs.Unmet.{cover_none, some_width}
-
--- how many pages a place of a level translates
-pub width_within : (l : ℕ) → (1 ≤ input_pages l) × (input_pages l ≤ 2 ^ 27)
-width_within zero = (omega arith, omega arith)
-width_within (suc zero) = (omega arith, omega arith)
-width_within (suc (suc zero)) = (omega arith, omega arith)
-width_within (suc (suc (suc l))) = (omega (arith, deep), omega (arith, deep))
-  where
-    none : 3 - suc (suc (suc l)) ≡ 0
-    none = omega arith
-
-    deep : input_pages (suc (suc (suc l))) ≡ 1
-    deep = ap (λ (x : ℕ). 2 ^ (12 + 9 * x) / 4096) none
+use Rattle.bbm_replay.proofs.Unmet.{cover_none, some_region, width_within}
 
 module _ (named : Extent) (n : Node) (a : ℕ) where
   -- what a place translates lies in what its page does
@@ -77,15 +62,10 @@ module _ (n : Node) (a lo hi i : ℕ) (from : lo ≡ (region_of n a).lo)
 module _ (heading : Heading) (h : List Event) (ev : events_of (notes heading h) ≡ h) (map : PlaceMap)
     (index : TreeIndex) (state : RootState) (pe : ℕ) (op : TlbiOp) (xt : ℕ) (named : NamedTlbi)
     (m : MayBeIssued heading h map index state pe op xt named) where
-  pub place_unnamed : has_page named.scope.family ≡ true → (n : Node) (a : ℕ) → n.level < 4
+  pub place_unnamed : has_page named.scope.family ≡ true → (n : Node) (a : ℕ)
       → node_in index (page_of a) ≡ Some n → names_some named.scope.interval (region_of n a) ≡ false
       → cover_at heading Patterns (notes heading h) (Tlbi pe op xt) a ≡ NoCover
-  place_unnamed paged n a low is none =
-      cover_none heading h ev map index state pe op xt named m n a (sym (m.told.nodes (page_of a)) ∙ is)
-      (λ v own kind region. unnamed named.scope paged own v
-      (subst (λ (x : Extent). x.lo ≤ x.hi) (sym region)
-      (ends (region_start n a) (input_pages n.level) (some_width n.level low)))
+  place_unnamed paged n a is none =
+      cover_none heading h ev map index state pe op xt named m n a is (λ v own kind region. unnamed named.scope paged own v
+      (subst (λ (x : Extent). x.lo ≤ x.hi) (sym region) (some_region n a))
       (ap (λ (x : Extent). names_some named.scope.interval x) region ∙ none))
-    where
-      ends : (start w : ℕ) → 1 ≤ w → start ≤ start + w - 1
-      ends start w k = omega arith

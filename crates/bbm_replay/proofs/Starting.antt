@@ -80,21 +80,20 @@ module _ (laws : (heading : Heading) → Laws heading) (rules : (heading : Headi
               let bad : Limit which ≡ NoMemory = none (λ e. absurd cc) in absurd cc
 
   module _ (m : MayMeet old (Null pe page)) where
-    pub null_world : ((heading : Heading) → old.header ≡ heading → kind_in_world heading.world S2 ≡ true)
-        → Meets old old (Null pe page) (Err (Broken WrongWorld 0))
+    pub null_world : kind_in_world old.header.world S2 ≡ true → Meets old old (Null pe page) (Err (Broken WrongWorld 0))
     null_world wrong = meets_broken old (Null pe page) WrongWorld 0
-        (λ heading h s. null_wrong heading (rules heading) h (view_of old.map old.index) s.told pe page (wrong heading s.header))
+        (λ heading h s. null_wrong heading (rules heading) h (view_of old.map old.index) s.told pe page (cc (wrong, s.header)))
 
-    module _ (right : (heading : Heading) → old.header ≡ heading → kind_in_world heading.world S2 ≡ false) where
+    module _ (right : kind_in_world old.header.world S2 ≡ false) where
       pub null_unfresh : fresh_in old.index page ≡ false → Meets old old (Null pe page) (Err (Broken PageInUse page))
       null_unfresh k = meets_broken old (Null pe page) PageInUse page
-          (λ heading h s. null_used heading (rules heading) h (view_of old.map old.index) s.told pe page (right heading s.header)
+          (λ heading h s. null_used heading (rules heading) h (view_of old.map old.index) s.told pe page (cc (right, s.header))
           ((rules heading).on_pages.null_unfresh h (view_of old.map old.index) pe page s.told.fresh k))
 
       pub null_nonzero : ((a : ℕ) × (is_at page a ≡ true) × (value_at old.map a ≡ 0 → ⊥))
           → Meets old old (Null pe page) (Err (Broken PageInUse page))
       null_nonzero k = meets_broken old (Null pe page) PageInUse page
-          (λ heading h s. null_used heading (rules heading) h (view_of old.map old.index) s.told pe page (right heading s.header)
+          (λ heading h s. null_used heading (rules heading) h (view_of old.map old.index) s.told pe page (cc (right, s.header))
           ((rules heading).on_pages.null_used h (view_of old.map old.index) pe page k.0 s.told.values k.1 k.2))
 
       pub null_ok : fresh_in old.index page ≡ true → ((a : ℕ) → is_at page a ≡ true → value_at old.map a ≡ 0)
@@ -113,7 +112,7 @@ module _ (laws : (heading : Heading) → Laws heading) (rules : (heading : Headi
         where
           unbroken : (heading : Heading) (h : List Event) → PartsStand old heading h → broken heading Patterns h (Null pe page) ≡ None
           unbroken heading h s = null_free heading (rules heading) h (view_of old.map old.index) s.told pe page
-              (right heading s.header)
+              (cc (right, s.header))
               ((rules heading).on_pages.null_unused h (view_of old.map old.index) pe page s.told.fit s.told.fresh s.told.values fresh zero)
 
 pub free_parts : (o : Option Node) (b : Bool) → (is_some o || b) ≡ false → (o ≡ None) × (b ≡ false)
@@ -121,11 +120,8 @@ free_parts None b k = (refl, k)
 free_parts (Some n) b k = absurd (true≢false k)
 
 limit_back : (f : TreeFault) → step_fault f ≡ Limit Pages → f ≡ tree.Limit Pages
-limit_back tree.NoMemory k = let bad : NoMemory ≡ Limit Pages = k in absurd cc
-limit_back (tree.Limit which) k = let same : Limit which ≡ Limit Pages = k in let one : which ≡ Pages = cc in ap (λ (w : Which). tree.Limit w) one
-limit_back (tree.NotFresh page) k = let bad : Broken NotFresh page ≡ Limit Pages = k in absurd cc
-limit_back (tree.BadKind place) k = let bad : Broken BadKind place ≡ Limit Pages = k in absurd cc
-limit_back (tree.GlobalUser place) k = let bad : Broken GlobalUser place ≡ Limit Pages = k in absurd cc
+limit_back tree.NoMemory k = cc
+limit_back f k = cc
 
 -- a page that the index doesn't track
 pub full_by : (f : TreeFault) (r : StepFault) (A : Type 0) → r ≡ step_fault f → (f ≡ tree.Limit Pages → A) → r ≡ Limit Pages → A

@@ -3,7 +3,7 @@ use Rattle.bbm_replay.proofs.Common.{Noted, is_broken, Marks, EntryState, EntryS
 use Rattle.bbm_replay.proofs.Common.{state_of, waiting}
 use Rattle.bbm_rules.proofs.Common.{◌≡◌, ℕ, ◌<◌, Bool, true, false, ◌&&◌, nat_eq, List, ◌∷◌, Option, Some, None}
 use Rattle.bbm_rules.proofs.Common.{is_some, refl, sym, ◌∙◌, ap, subst, inl, core_of, PeMask, operation, fits_heading}
-use Rattle.bbm_rules.proofs.Common.{Patterns, cover_at, page_of, Heading, Event, Tlbi, TlbiOp, reaches, Node}
+use Rattle.bbm_rules.proofs.Common.{Patterns, cover_at, page_of, Heading, Event, Tlbi, TlbiOp, reaches, Node, and-false}
 use Rattle.bbm_regimes.specs.PeMask.{pe_in}
 use Rattle.bbm_rules.specs.Broken.{broken}
 use Rattle.bbm_replay.proofs.Moves.{Issues}
@@ -29,15 +29,10 @@ module _ (heading : Heading) (laws : Laws heading) (h : List Event) (old new : V
     entry : (m : Option Marks) → old.marks a ≡ m
         → EntryStands heading (e ∷ h) n.kind n.level a (state_of new n.kind n.level a) (waiting new a)
     entry None k =
-        let whole : is_broken state ≡ false = broken_marks (core_of n.kind n.level (old.value a)) (old.marks a)
-        ∙ ap (λ (m : Option Marks). is_some m) k in
+        let whole : is_broken state ≡ false = cc (broken_marks (core_of n.kind n.level (old.value a)) (old.marks a), k) in
         entry_same heading laws (e ∷ h) n.kind n.level a state (state_of new n.kind n.level a) (waiting old a) (waiting new a)
         (laws.tlbi.idle h n.kind n.level a q op xt state (waiting old a) (some_pe heading laws h old t) (inl whole) (t.entries n a is))
-        same_new (λ p. move.others p a (off (nat_eq p q) (old.marks a) k))
-      where
-        off : (b : Bool) (m : Option Marks) → m ≡ None → (b && is_some m) ≡ false
-        off true m k = ap (λ (m : Option Marks). is_some m) k
-        off false m k = refl
+        same_new (λ p. move.others p a (cc (k, and-false (nat_eq p q))))
     entry (Some m) k =
         let marked : is_some (old.marks a) ≡ true = ap (λ (m : Option Marks). is_some m) k in
         subst (λ (x : EntryState). EntryStands heading (e ∷ h) n.kind n.level a x (waiting new a)) same_new

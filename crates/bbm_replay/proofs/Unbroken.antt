@@ -6,6 +6,7 @@ use Rattle.bbm_rules.proofs.Common.{◌≡◌, ℕ, Bool, true, false, ◌==◌,
 use Rattle.bbm_rules.proofs.Common.{if◌then◌else◌, eqb-true, core_of, Core, Write}
 use Rattle.bbm_place_map.specs.Map.{marks_at, pends_at, value_at}
 use Rattle.bbm_place_map.specs.MapCalls.{Leaves}
+use Rattle.bbm_place_map.proofs.Wholes.{made}
 use Rattle.bbm_replay.proofs.Growing.{core_whole}
 use Rattle.bbm_replay.proofs.Inside.{may_admit}
 
@@ -47,14 +48,7 @@ module _ (old new : PlaceMap) (pe place v : ℕ) (unbroken : marks_at old place 
   writes_unbroken put live (Some core) stays = record {
     written = (
       Live core,
-      record {
-        core = refl;
-        broken = refl;
-        writers = λ p. refl;
-        seen = λ p. refl;
-        half = λ p. refl;
-        clean = λ p. refl;
-      },
+      made (state_at old live place) pe core,
       leaves_unbroken (Live core) refl,
     );
     put = put;

@@ -3,14 +3,13 @@ use Rattle.bbm_replay.proofs.Common.{unwrap_or, Noted, waits, Marks, Pends, Entr
 use Rattle.bbm_replay.proofs.Common.{input_pages, is_sound, IsWay, core_at, TreeIndex, RootState, SameCores, notes}
 use Rattle.bbm_replay.proofs.Common.{MayBeIssued, NamedTlbi, Laws, MetFromAll, NamesOne, covers_kind, view_of}
 use Rattle.bbm_rules.proofs.Common.{◌≡◌, ℕ, zero, suc, ◌+◌, ◌-◌, ◌*◌, ◌%◌, ◌<◌, ◌≤◌, ◌&&◌, ◌||◌, nat_le, Bool, true}
-use Rattle.bbm_rules.proofs.Common.{false}
-use Rattle.bbm_rules.proofs.Common.{cond, List, [], length, Option, Some, None, Contains, slice_index_or, is_some}
-use Rattle.bbm_rules.proofs.Common.{option_and_then, refl, sym, ◌∙◌, ap, subst, arith, true≢false, not-suc-le-zero}
-use Rattle.bbm_rules.proofs.Common.{le_of_suc-le-suc, and_parts, leb-true, desc_of, same_bool, page_count, PeMask, Kind}
-use Rattle.bbm_rules.proofs.Common.{Cover, Half, Second, Full, PlaceView, Patterns, cover_at, is_global, view_at}
-use Rattle.bbm_rules.proofs.Common.{events_of, page_of, Event, Scope, TlbiOp, Tlbi, named_scope, vmid_of, Declared}
-use Rattle.bbm_rules.proofs.Common.{kind_in_world, pages_from, root_at, root_pages, tag_set, tags_of, Node, held_at}
-use Rattle.bbm_rules.proofs.Common.{is_childless, next_of, node_of, region_of, region_start}
+use Rattle.bbm_rules.proofs.Common.{false, cond, List, [], length, Option, Some, None, Contains, slice_index_or}
+use Rattle.bbm_rules.proofs.Common.{is_some, option_and_then, refl, sym, ◌∙◌, ap, subst, arith, true≢false}
+use Rattle.bbm_rules.proofs.Common.{not-suc-le-zero, le_of_suc-le-suc, and_parts, leb-true, desc_of, same_bool}
+use Rattle.bbm_rules.proofs.Common.{page_count, PeMask, Kind, Cover, Half, Second, Full, PlaceView, Patterns, cover_at}
+use Rattle.bbm_rules.proofs.Common.{is_global, view_at, events_of, page_of, Event, Scope, TlbiOp, Tlbi, named_scope}
+use Rattle.bbm_rules.proofs.Common.{vmid_of, Declared, kind_in_world, pages_from, root_at, root_pages, tag_set, tags_of}
+use Rattle.bbm_rules.proofs.Common.{Node, held_at, is_childless, next_of, node_of, region_of, region_start, ◌/◌, ◌^◌}
 use Rattle.bbm_entry_state.specs.EntryCalls.{counts_at}
 use Rattle.bbm_entry_state.specs.declared.state.EntryState.TheVariants.{Broken}
 use Rattle.bbm_place_map.specs.Map.{marks_at}
@@ -24,14 +23,27 @@ use Rattle.bbm_replay.specs.OnePage.{IsPage}
 use Rattle.bbm_replay.proofs.Descents.{Top, away, foreign, lies_in, top}
 use Rattle.bbm_replay.proofs.Writing.{cores}
 use Rattle.bbm_lemmas.proofs.Bools.{or_nothing}
+use Rattle.bbm_replay.proofs.SamePage.{by_view, view_covers}
 
--- a level below 4 has a width
-pub some_width : (l : ℕ) → l < 4 → 1 ≤ input_pages l
-some_width zero k = omega arith
-some_width (suc zero) k = omega arith
-some_width (suc (suc zero)) k = omega arith
-some_width (suc (suc (suc zero))) k = omega arith
-some_width (suc (suc (suc (suc l)))) k = absurd (omega arith)
+-- how many pages a place of a level translates
+pub width_within : (l : ℕ) → (1 ≤ input_pages l) × (input_pages l ≤ 2 ^ 27)
+width_within zero = (omega arith, omega arith)
+width_within (suc zero) = (omega arith, omega arith)
+width_within (suc (suc zero)) = (omega arith, omega arith)
+width_within (suc (suc (suc l))) = (omega (arith, deep), omega (arith, deep))
+  where
+    none : 3 - suc (suc (suc l)) ≡ 0
+    none = omega arith
+
+    deep : input_pages (suc (suc (suc l))) ≡ 1
+    deep = ap (λ (x : ℕ). 2 ^ (12 + 9 * x) / 4096) none
+
+-- the region of a place isn't empty
+pub some_region : (n : Node) (a : ℕ) → (region_of n a).lo ≤ (region_of n a).hi
+some_region n a = by (region_start n a) (input_pages n.level) (width_within n.level).0
+  where
+    by : (start w : ℕ) → 1 ≤ w → start ≤ start + w - 1
+    by start w k = omega arith
 
 -- a page of consecutive ones has a number
 numbered : (page n q : ℕ) → Contains (pages_from page n) q → (j : ℕ) × (j < n) × (q ≡ page + 4096 * j)
@@ -75,36 +87,19 @@ module _ (heading : Heading) (h : List Event) (ev : events_of (notes heading h) 
     (state : RootState) (pe : ℕ) (op : TlbiOp) (xt : ℕ) (named : NamedTlbi)
     (m : MayBeIssued heading h map index state pe op xt named) where
   -- a place isn't covered where the scope covers no view of its kind and region
-  pub cover_none : (n : Node) (a : ℕ) → node_of heading Patterns (notes heading h) (page_of a) ≡ Some n
+  pub cover_none : (n : Node) (a : ℕ) → node_in index (page_of a) ≡ Some n
       → ((v : PlaceView) (own : Option ℕ) → v.kind ≡ n.kind → v.region ≡ region_of n a → scopes.cover_of named.scope own v ≡ NoCover)
       → cover_at heading Patterns (notes heading h) (Tlbi pe op xt) a ≡ NoCover
-  cover_none n a node none =
-      ap (λ (o : Option Scope). unwrap_or (option_and_then (λ (x : Scope). option_and_then (λ (w : PlaceView).
-      Some (scopes.cover_of x (vmid_of heading (events_of (notes heading h)) pe) w))
-      (view_at heading Patterns (notes heading h) a)) o) NoCover)
-      (ap (λ (es : List Event). named_scope heading es pe op xt) ev ∙ m.names)
-      ∙ ap (λ (o : Option PlaceView). unwrap_or (option_and_then (λ (w : PlaceView).
-      Some (scopes.cover_of named.scope (vmid_of heading (events_of (notes heading h)) pe) w)) o) NoCover)
-      (ap (λ (o : Option Node). option_and_then (λ (k : Node). option_and_then (λ (v : ℕ). Some (told k v))
-      (held_at heading Patterns (notes heading h) k a)) o) node)
-      ∙ by (held_at heading Patterns (notes heading h) n a)
+  cover_none n a is none = by (held_at heading Patterns (notes heading h) n a) refl
     where
-      told : Node → ℕ → PlaceView
-      told k v = record {
-        kind = k.kind;
-        region = region_of k a;
-        level = k.level;
-        table = is_some (next_of k.kind k.level v);
-        global = is_global (desc_of k.kind k.level v);
-        childless = is_childless heading Patterns (notes heading h) k v;
-        tags = tag_set (tags_of heading Patterns k.root (events_of (notes heading h)));
-      }
+      node : node_of heading Patterns (notes heading h) (page_of a) ≡ Some n
+      node = sym (m.told.nodes (page_of a)) ∙ is
 
-      by : (o : Option ℕ) → unwrap_or (option_and_then (λ (w : PlaceView).
-          Some (scopes.cover_of named.scope (vmid_of heading (events_of (notes heading h)) pe) w))
-          (option_and_then (λ (v : ℕ). Some (told n v)) o)) NoCover ≡ NoCover
-      by None = refl
-      by (Some v) = none (told n v) (vmid_of heading (events_of (notes heading h)) pe) refl refl
+      by : (o : Option ℕ) → held_at heading Patterns (notes heading h) n a ≡ o
+          → cover_at heading Patterns (notes heading h) (Tlbi pe op xt) a ≡ NoCover
+      by None e = cc (ev, m.names, node, e)
+      by (Some v) e = sym (view_covers heading h ev map index state pe op xt named m n a v is e)
+          ∙ none (by_view heading h ev map index state pe op xt named m a n v) named.vmid refl refl
 
 module _ (heading : Heading) (laws : Laws heading) (h : List Event)
     (starts : Starts heading)
@@ -143,29 +138,16 @@ module _ (heading : Heading) (laws : Laws heading) (h : List Event)
         by None is = absurd (true≢false (sym broken ∙ ap (λ (x : Option Marks). is_some x) (m.told.outside a is)))
         by (Some n) is = inside (lies_in at (region_of n a)) (covers_kind named.scope.family n.kind) refl refl
           where
-            node : node_of heading Patterns (notes heading h) (page_of a) ≡ Some n
-            node = sym (m.told.nodes (page_of a)) ∙ is
-
-            low : n.level < 4
-            low = (laws.neighbours.own h (view_of map index) (page_of a) n m.told.nodes is).1
-
-            width : 1 ≤ input_pages n.level
-            width = some_width n.level low
-
             inside : (b k : Bool) → lies_in at (region_of n a) ≡ b → covers_kind named.scope.family n.kind ≡ k
                 → cover_at heading Patterns (notes heading h) (Tlbi pe op xt) a ≡ NoCover
-            inside false k e f = cover_none heading h ev map index state pe op xt named m n a node (λ v own kind region. away named.scope at one own v
-                (subst (λ x. x.lo ≤ x.hi) (sym region) (ends (region_start n a) (input_pages n.level) width))
-                (ap (λ x. lies_in at x) region ∙ e))
-              where
-                ends : (start w : ℕ) → 1 ≤ w → start ≤ start + w - 1
-                ends start w k = omega arith
-            inside true false e f = cover_none heading h ev map index state pe op xt named m n a node (λ v own kind region. foreign named.scope at one own v
+            inside false k e f = cover_none heading h ev map index state pe op xt named m n a is (λ v own kind region. away named.scope at one own v
+                (subst (λ x. x.lo ≤ x.hi) (sym region) (some_region n a)) (ap (λ x. lies_in at x) region ∙ e))
+            inside true false e f = cover_none heading h ev map index state pe op xt named m n a is (λ v own kind region. foreign named.scope at one own v
                 (ap (λ (x : Kind). covers_kind named.scope.family x) kind ∙ f))
             inside true true e f =
                 let both = and_parts (nat_le (region_start n a) at) (nat_le at (region_start n a + input_pages n.level - 1)) e in
                 let from = leb-true (region_start n a) at both.0 in
-                let to = before (region_start n a) (input_pages n.level) width (leb-true at (region_start n a + input_pages n.level - 1) both.1) in
+                let to = before (region_start n a) (input_pages n.level) (width_within n.level).0 (leb-true at (region_start n a + input_pages n.level - 1) both.1) in
                 missed (found_top n a f (top heading laws h (view_of map index) m.told.kept m.told.fit m.told.nodes same_cores at a
                 n is (aligned a broken) from to))
               where

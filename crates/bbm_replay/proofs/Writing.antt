@@ -22,17 +22,10 @@ use Rattle.bbm_replay.proofs.Ways.{state_core}
 -- the state that a write leaves is the one that is read back
 read_back : (new : EntryState) (value : Option Core) (old : EntryState) (pe : ℕ) → Written old pe value new
     → state_from value (marks_of_state new) ≡ new
-read_back Clean None old pe w = refl
-read_back Clean (Some core) old pe w = let bad : None ≡ Some core = w.core in absurd cc
-read_back (Live core) (Some value) old pe w =
-    let both : Some core ≡ Some value = w.core in
-    let same : value ≡ core = cc in
-    ap (λ (x : Core). Live x) same
-read_back (Live core) None old pe w =
-    let had : core_in old ≡ Some core = sym w.core in
-    absurd (true≢false (sym (w.broken ∙ ap (λ (o : Option Core). is_some o) had)))
+read_back (Live core) None old pe w = cc (w.core, w.broken)
 read_back (Broken marks) None old pe w = refl
-read_back (Broken marks) (Some value) old pe w = refl
+read_back Clean None old pe w = refl
+read_back new value old pe w = cc w.core
 
 -- the core of what each place of a tree holds
 pub cores : (heading : Heading) (h : List Event) (v : View) → Told heading h v → SameCores heading h (core_at v)
@@ -73,9 +66,7 @@ module _ (heading : Heading) (laws : Laws heading) (h : List Event) (old new : V
       → EntryStands heading (e ∷ h) n.kind n.level place (state_of new n.kind n.level place) (waiting new place)
   at_place n is written =
       let back = read_back state (core_of n.kind n.level v) (state_of old n.kind n.level place) pe written in
-      let same : state ≡ state_of new n.kind n.level place = sym back
-      ∙ ap (λ (x : ℕ). state_from (core_of n.kind n.level x) (marks_of_state state)) (sym value_here)
-      ∙ ap (λ (m : Option Marks). state_from (core_of n.kind n.level (new.value place)) m) (sym marks_here) in
+      let same : state ≡ state_of new n.kind n.level place = cc (back, value_here, marks_here) in
       subst (λ x. EntryStands heading (e ∷ h) n.kind n.level place x (waiting new place)) same
       (laws.write h n.kind n.level place pe v (state_of old n.kind n.level place) state (waiting old place)
       (waiting new place) (some_pe heading laws h old t) written left (t.entries n place is))

@@ -12,10 +12,8 @@ use Rattle.bbm_tlbi_scope.specs.declared.entry.Cover.TheVariants.{None as NoCove
 use Rattle.bbm_tlbi_scope.specs.declared.op.TlbiOp.{TlbiOp}
 use Rattle.bbm_entry_state.specs.Answered.{answered_at}
 use Rattle.bbm_entry_state.specs.EntryCalls.{Completed, Noted as Issues, clean_after, counts_at}
-use Rattle.bbm_entry_state.specs.Marking.{counts_for}
 use Rattle.bbm_entry_state.specs.Points.{clean_at, core_in, half_at, is_broken, seen_at, waits as waits_at, writer_at}
 use Rattle.bbm_entry_state.specs.EntryStanding.{IsIdle}
-use Rattle.bbm_entry_state.specs.declared.marks.Marks.{Marks}
 use Rattle.bbm_entry_state.specs.declared.pending.Pends.{Pends}
 use Rattle.bbm_entry_state.specs.declared.state.EntryState.{EntryState}
 use Rattle.bbm_entry_state.specs.declared.state.EntryState.TheVariants.{Clean, Live, Broken}
@@ -30,7 +28,9 @@ use Rattle.bbm_replay_entries.specs.KnownOfEntries.{Known}
 use Rattle.bbm_replay_entries.specs.Marked.{Marked, cover_waits}
 use Rattle.bbm_replay_entries.proofs.Since.{Untouched, answered_seen, counted, counts, cover_counted, untouched}
 use Rattle.bbm_histories.proofs.SeenFirst.{seen_on}
+use Rattle.bbm_lemmas.proofs.Bools.{or_nothing}
 use Rattle.bbm_lemmas.proofs.Numbers.{same_swapped}
+use Rattle.bbm_rules.proofs.Common.{arith}
 
 -- ---- the points of a state that isn't broken
 
@@ -88,22 +88,7 @@ is_still (Tlbi q op xt) = false
 is_still e = true
 
 same_cover_back : (c d : Cover) → same_cover c d ≡ same_cover d c
-same_cover_back NoCover NoCover = refl
-same_cover_back NoCover Half = refl
-same_cover_back NoCover Second = refl
-same_cover_back NoCover Full = refl
-same_cover_back Half NoCover = refl
-same_cover_back Half Half = refl
-same_cover_back Half Second = refl
-same_cover_back Half Full = refl
-same_cover_back Second NoCover = refl
-same_cover_back Second Half = refl
-same_cover_back Second Second = refl
-same_cover_back Second Full = refl
-same_cover_back Full NoCover = refl
-same_cover_back Full Half = refl
-same_cover_back Full Second = refl
-same_cover_back Full Full = refl
+same_cover_back c d = grind arith
 
 -- what was so before, and what is so now where the PE has seen it
 add_seen : (x s a : Bool) → (a ≡ true → s ≡ true) → (x || (s && a)) ≡ (a || x)
@@ -118,9 +103,7 @@ both_written p pe place w =
 
 -- nothing waits where the place isn't broken
 counts_nowhere : (state : EntryState) (c : Cover) (p : ℕ) → is_broken state ≡ false → counts_at state c p ≡ false
-counts_nowhere Clean c p t = refl
-counts_nowhere (Live core) c p t = refl
-counts_nowhere (Broken marks) c p t = absurd (true≢false t)
+counts_nowhere state c p t = grind arith
 
 pub issued_idle : (state : EntryState) (q : ℕ) (reach : PeMask) (broadcast : Bool) (cover : Cover) (pends pends' : ℕ → Pends) → is_broken state ≡ false
     → Issues state (pends q) reach broadcast cover (pends' q) → OthersWait q pends pends' → ((i : ℕ) → IsIdle (pends i)) → (i : ℕ) → IsIdle (pends' i)
@@ -128,14 +111,14 @@ issued_idle state q reach broadcast cover pends pends' unbroken issues others id
   where
     by : (t : Bool) → nat_eq i q ≡ t → waits_at (pends' i) b c p ≡ false
     by false t = others i t b c p ∙ idle i b c p
-    by true t =
-        ap (λ (j : ℕ). waits_at (pends' j) b c p) (eqb-true i q t)
-        ∙ (issues b c p
-        ∙ (ap (λ (x : Bool). (same_bool broadcast b && (pe_in reach p && (same_cover c cover && x))) || waits_at (pends q) b c p)
-        (counts_nowhere state c p unbroken)
-        ∙ (ap (λ (x : Bool). (same_bool broadcast b && (pe_in reach p && x)) || waits_at (pends q) b c p) (and-false (same_cover c cover))
-        ∙ (ap (λ (x : Bool). (same_bool broadcast b && x) || waits_at (pends q) b c p) (and-false (pe_in reach p))
-        ∙ (ap (λ (x : Bool). x || waits_at (pends q) b c p) (and-false (same_bool broadcast b)) ∙ idle q b c p)))))
+    by true t = cc (
+      eqb-true i q t,
+      issues b c p,
+      counts_nowhere state c p unbroken,
+      and-false (same_cover c cover),
+      or_nothing (same_bool broadcast b) (pe_in reach p) (waits_at (pends q) b c p),
+      idle q b c p,
+    )
 
 module _ (heading : Heading) (k : Known heading) (place : ℕ) where
   -- ---- an unbroken state and nothing that waits, where nothing was written
@@ -171,63 +154,41 @@ module _ (heading : Heading) (k : Known heading) (place : ℕ) where
       → Marked heading place (n ∷ since) new pends'
   marked_still n since old new pends pends' still m writers seen_same half_same clean_same waits_same = record {
     writers = λ p. writers p ∙ ap (λ (b : Bool). writes p place n.event || b) (m.writers p);
-    seen = λ p. seen_same p ∙ m.seen p ∙ sym (k.pattern_steps.seen place p n since ∙ seen_by p n.event still);
+    seen = λ p. seen_same p ∙ m.seen p ∙ sym (k.pattern_steps.seen place p n since ∙ (by p n.event still).0);
     half = λ p below. half_same p ∙ m.half p below
-        ∙ sym (k.pattern_steps.half place p n since ∙ half_by p n.event still);
+        ∙ sym (k.pattern_steps.half place p n since ∙ (by p n.event still).1);
     clean = λ p below. clean_same p ∙ m.clean p below
-        ∙ sym (k.pattern_steps.cleansed place p n since ∙ cleansed_by p n.event still);
+        ∙ sym (k.pattern_steps.cleansed place p n since ∙ (by p n.event still).2);
     waiting = λ p below q b c. waits_same q b c p ∙ m.waiting p below q b c
-        ∙ (cover_counted heading place p q b c since ∙ sym (counted_step p q b c n since ∙ waits_by p q b c n.event still));
+        ∙ (cover_counted heading place p q b c since ∙ sym (counted_step p q b c n since ∙ (by p n.event still).3 q b c));
   }
     where
-      seen_by : (p : ℕ) (e : Event) → is_still e ≡ true → seen_after heading place p e since ≡ seen heading place p since
-      seen_by p (Dsb q dsb) t = absurd (true≢false (sym t))
-      seen_by p e t = refl
-
-      half_by : (p : ℕ) (e : Event) → is_still e ≡ true → half_after heading place p e since ≡ half heading place p since
-      half_by p (Dsb q dsb) t = absurd (true≢false (sym t))
-      half_by p e t = refl
-
-      cleansed_by : (p : ℕ) (e : Event) → is_still e ≡ true → cleansed_after heading place p e since ≡ cleansed heading Patterns place p since
-      cleansed_by p (Dsb q dsb) t = absurd (true≢false (sym t))
-      cleansed_by p e t = refl
-
-      waits_by : (p q : ℕ) (b : Bool) (c : Cover) (e : Event) → is_still e ≡ true
-          → waits_after event_of q b (flushes heading place p c (counts heading place p c)) e n since ≡ counted heading place p q b c since
-      waits_by p q b c (Dsb pe dsb) t = absurd (true≢false (sym t))
-      waits_by p q b c (Tlbi pe op xt) t = absurd (true≢false (sym t))
-      waits_by p q b c e t = refl
+      by : (p : ℕ) (e : Event) → is_still e ≡ true → (seen_after heading place p e since ≡ seen heading place p since)
+          × (half_after heading place p e since ≡ half heading place p since)
+          × (cleansed_after heading place p e since ≡ cleansed heading Patterns place p since)
+          × ((q : ℕ) (b : Bool) (c : Cover) → waits_after event_of q b (flushes heading place p c (counts heading place p c)) e n since
+          ≡ counted heading place p q b c since)
+      by p (Dsb q dsb) t = absurd (true≢false (sym t))
+      by p (Tlbi pe op xt) t = absurd (true≢false (sym t))
+      by p e t = (refl, refl, refl, λ q b c. refl)
 
   -- ---- a TLBI
 
-  counts_is : (marks : Marks) (p : ℕ) (c : Cover) (since : List Noted) → pe_in marks.seen p ≡ seen heading place p since
-      → pe_in marks.half p ≡ half heading place p since → counts_for marks c p ≡ counts heading place p c since
-  counts_is marks p NoCover since s h = refl
-  counts_is marks p Half since s h = s
-  counts_is marks p Second since s h = h
-  counts_is marks p Full since s h = s
-
   counts_now : (state : EntryState) (p : ℕ) (c : Cover) (since : List Noted) → is_broken state ≡ true → seen_at state p ≡ seen heading place p since
       → half_at state p ≡ half heading place p since → counts_at state c p ≡ counts heading place p c since
-  counts_now Clean p c since b s h = absurd (true≢false (sym b))
-  counts_now (Live core) p c since b s h = absurd (true≢false (sym b))
-  counts_now (Broken marks) p c since b s h = counts_is marks p c since s h
+  counts_now state p c since b s h = grind arith
 
   module _ (n : Noted) (since : List Noted) (q : ℕ) (op : TlbiOp) (xt : ℕ) (is : n.event ≡ Tlbi q op xt) where
     -- what waits after the TLBI
     tlbi_waits : (p i : ℕ) (b : Bool) (c : Cover) → cover_waits heading place p i b c (n ∷ since)
         ≡ ((q == i && (same_bool (operation op).broadcast b
         && (reaches heading (Tlbi q op xt) p && (same_cover (n.covers place) c && counts heading place p c since)))) || cover_waits heading place p i b c since)
-    tlbi_waits p i b c =
-        counted_step p i b c n since
-        ∙ (ap (λ (e : Event). waits_after event_of i b (flushes heading place p c (counts heading place p c)) e n since) is
-        ∙ (ap (λ (e : Event). (q == i && (same_bool (operation op).broadcast b
-        && ((reaches heading e p && same_cover (n.covers place) c) && counts heading place p c since))) || counted heading place p i b c since) is
-        ∙ (ap (λ (x : Bool). (q == i && (same_bool (operation op).broadcast b && x)) || counted heading place p i b c since)
-        (and_assoc (reaches heading (Tlbi q op xt) p) (same_cover (n.covers place) c) (counts heading place p c since))
-        ∙ ap (λ (x : Bool). (q == i && (same_bool (operation op).broadcast b
-        && (reaches heading (Tlbi q op xt) p && (same_cover (n.covers place) c && counts heading place p c since)))) || x)
-        (sym (cover_counted heading place p i b c since)))))
+    tlbi_waits p i b c = cc (
+      counted_step p i b c n since,
+      is,
+      cover_counted heading place p i b c since,
+      and_assoc (reaches heading (Tlbi q op xt) p) (same_cover (n.covers place) c) (counts heading place p c since),
+    )
 
     tlbi_marks : (state : EntryState) (pends pends' : ℕ → Pends) → Marked heading place since state pends
         → ((p : ℕ) → p < heading.pes → (i : ℕ) (b : Bool) (c : Cover) → waits_at (pends' i) b c p
@@ -235,18 +196,11 @@ module _ (heading : Heading) (k : Known heading) (place : ℕ) where
         && (reaches heading (Tlbi q op xt) p && (same_cover (n.covers place) c && counts heading place p c since)))) || waits_at (pends i) b c p))
         → Marked heading place (n ∷ since) state pends'
     tlbi_marks state pends pends' m now = record {
-      writers = λ p. m.writers p ∙ ap (λ (e : Event). writes p place e || wrote heading place p p since) (sym is);
-      seen = λ p. m.seen p ∙ sym (k.pattern_steps.seen place p n since
-          ∙ ap (λ (e : Event). seen_after heading place p e since) is);
-      half = λ p below. m.half p below
-          ∙ sym (k.pattern_steps.half place p n since ∙ ap (λ (e : Event). half_after heading place p e since) is);
-      clean = λ p below. m.clean p below
-          ∙ sym (k.pattern_steps.cleansed place p n since ∙ ap (λ (e : Event). cleansed_after heading place p e since)
-          is);
-      waiting = λ p below i b c. now p below i b c
-          ∙ (ap (λ (x : Bool). (q == i && (same_bool (operation op).broadcast b
-          && (reaches heading (Tlbi q op xt) p && (same_cover (n.covers place) c && counts heading place p c since)))) || x) (m.waiting p below i b c)
-          ∙ sym (tlbi_waits p i b c));
+      writers = λ p. cc (m.writers p, is);
+      seen = λ p. cc (m.seen p, k.pattern_steps.seen place p n since, is);
+      half = λ p below. cc (m.half p below, k.pattern_steps.half place p n since, is);
+      clean = λ p below. cc (m.clean p below, k.pattern_steps.cleansed place p n since, is);
+      waiting = λ p below i b c. cc (now p below i b c, m.waiting p below i b c, tlbi_waits p i b c);
     }
 
     pub marked_tlbi : (reach : PeMask) (state : EntryState) (pends pends' : ℕ → Pends) → is_broken state ≡ true
@@ -259,88 +213,69 @@ module _ (heading : Heading) (k : Known heading) (place : ℕ) where
         by : (p : ℕ) → p < heading.pes → (b : Bool) (c : Cover) (i : ℕ) (t : Bool) → nat_eq i q ≡ t → waits_at (pends' i) b c p
             ≡ ((q == i && (same_bool (operation op).broadcast b
             && (reaches heading (Tlbi q op xt) p && (same_cover (n.covers place) c && counts heading place p c since)))) || waits_at (pends i) b c p)
-        by p below b c i false t =
-            others i t b c p ∙ ap (λ (x : Bool). (x && (same_bool (operation op).broadcast b
-            && (reaches heading (Tlbi q op xt) p && (same_cover (n.covers place) c && counts heading place p c since)))) || waits_at (pends i) b c p)
-            (sym (same_swapped q i ∙ t))
-        by p below b c i true t =
-            let here : (q == i) ≡ true = same_swapped q i ∙ t in
-            let same : q ≡ i = eqb-true q i here in
-            ap (λ (j : ℕ). waits_at (pends' j) b c p) (sym same)
-            ∙ (issues b c p
-            ∙ (ap (λ (x : Bool). (same_bool (operation op).broadcast b && (x && (same_cover c (n.covers place) && counts_at state c p))) || waits_at (pends q) b c p)
-            (reached p below)
-            ∙ (ap (λ (x : Bool). (same_bool (operation op).broadcast b && (reaches heading (Tlbi q op xt) p && (x && counts_at state c p))) || waits_at (pends q) b c p)
-            (same_cover_back c (n.covers place))
-            ∙ (ap (λ (x : Bool). (same_bool (operation op).broadcast b && (reaches heading (Tlbi q op xt) p && (same_cover (n.covers place) c && x)))
-            || waits_at (pends q) b c p) (counts_now state p c since broken (m.seen p) (m.half p below))
-            ∙ (ap (λ (j : ℕ). (same_bool (operation op).broadcast b
-            && (reaches heading (Tlbi q op xt) p && (same_cover (n.covers place) c && counts heading place p c since))) || waits_at (pends j) b c p) same
-            ∙ ap (λ (x : Bool). (x && (same_bool (operation op).broadcast b
-            && (reaches heading (Tlbi q op xt) p && (same_cover (n.covers place) c && counts heading place p c since)))) || waits_at (pends i) b c p) (sym here))))))
+        by p below b c i false t = cc (others i t b c p, same_swapped q i, t)
+        by p below b c i true t = cc (
+          eqb-true i q t,
+          issues b c p,
+          reached p below,
+          same_cover_back c (n.covers place),
+          counts_now state p c since broken (m.seen p) (m.half p below),
+        )
 
     -- a TLBI that reaches no PE, or doesn't cover the place
     pub marked_unreached : (state : EntryState) (pends : ℕ → Pends) → ((p : ℕ) → p < heading.pes → reaches heading (Tlbi q op xt) p ≡ false)
         → Marked heading place since state pends → Marked heading place (n ∷ since) state pends
     marked_unreached state pends unreached m = tlbi_marks state pends pends m (λ p below i b c.
-        sym (ap (λ (x : Bool). (q == i && (same_bool (operation op).broadcast b && (x && (same_cover (n.covers place) c && counts heading place p c since))))
-        || waits_at (pends i) b c p) (unreached p below)
-        ∙ (ap (λ (x : Bool). (q == i && x) || waits_at (pends i) b c p) (and-false (same_bool (operation op).broadcast b))
-        ∙ ap (λ (x : Bool). x || waits_at (pends i) b c p) (and-false (q == i)))))
+        cc (unreached p below, or_nothing (q == i) (same_bool (operation op).broadcast b) (waits_at (pends i) b c p)))
 
     uncovered : (c : Cover) (p : ℕ) → (same_cover NoCover c && counts heading place p c since) ≡ false
-    uncovered NoCover p = refl
-    uncovered Half p = refl
-    uncovered Second p = refl
-    uncovered Full p = refl
+    uncovered c p = grind arith
 
     pub marked_uncovered : (state : EntryState) (pends : ℕ → Pends) → n.covers place ≡ NoCover
         → Marked heading place since state pends → Marked heading place (n ∷ since) state pends
     marked_uncovered state pends none m = tlbi_marks state pends pends m (λ p below i b c.
-        sym (ap (λ (x : Bool). (q == i && (same_bool (operation op).broadcast b && (reaches heading (Tlbi q op xt) p && x))) || waits_at (pends i) b c p)
-        (ap (λ (x : Cover). same_cover x c && counts heading place p c since) none ∙ uncovered c p)
-        ∙ (ap (λ (x : Bool). (q == i && (same_bool (operation op).broadcast b && x)) || waits_at (pends i) b c p) (and-false (reaches heading (Tlbi q op xt) p))
-        ∙ (ap (λ (x : Bool). (q == i && x) || waits_at (pends i) b c p) (and-false (same_bool (operation op).broadcast b))
-        ∙ ap (λ (x : Bool). x || waits_at (pends i) b c p) (and-false (q == i))))))
+        cc (
+          none,
+          uncovered c p,
+          and-false (reaches heading (Tlbi q op xt) p),
+          or_nothing (q == i) (same_bool (operation op).broadcast b) (waits_at (pends i) b c p),
+        ))
 
   -- ---- a DSB
 
   module _ (n : Noted) (since : List Noted) (q : ℕ) (dsb : Barrier) (is : n.event ≡ Dsb q dsb) (old mid : EntryState) (pends : ℕ → Pends)
       (mids : Middle heading old q dsb mid) (m : Marked heading place since old pends) where
     seen_now : (p : ℕ) → seen_at mid p ≡ seen heading place p (n ∷ since)
-    seen_now p =
-        mids.seen p
-        ∙ (ap (λ (x : Bool). (publishes_to heading dsb q p && x) || seen_at old p) (m.writers q)
-        ∙ (ap (λ (x : Bool). (publishes_to heading dsb q p && wrote heading place p q since) || x) (m.seen p)
-        ∙ sym (k.pattern_steps.seen place p n since ∙ ap (λ (e : Event). seen_after heading place p e since) is)))
+    seen_now p = cc (mids.seen p, m.writers q, m.seen p, k.pattern_steps.seen place p n since, is)
 
     answered_now : (p : ℕ) → p < heading.pes → (c : Cover) → answered_at (pends q) dsb c p ≡ answered_by dsb (λ b. cover_waits heading place p q b c since)
-    answered_now p below c =
-        ap (λ (x : Bool). (answers dsb true && x) || (answers dsb false && waits_at (pends q) false c p)) (m.waiting p below q true c)
-        ∙ ap (λ (x : Bool). (answers dsb true && cover_waits heading place p q true c since) || (answers dsb false && x)) (m.waiting p below q false c)
+    answered_now p below c = cc (m.waiting p below q true c, m.waiting p below q false c)
 
     half_now : (p : ℕ) → p < heading.pes → (half_at mid p || (seen_at mid p && answered_at (pends q) dsb Half p)) ≡ half heading place p (n ∷ since)
-    half_now p below =
-        ap (λ (x : Bool). x || (seen_at mid p && answered_at (pends q) dsb Half p)) (mids.half p ∙ m.half p below)
-        ∙ (ap (λ (x : Bool). half heading place p since || (x && answered_at (pends q) dsb Half p)) (seen_now p)
-        ∙ (ap (λ (x : Bool). half heading place p since || (seen heading place p (n ∷ since) && x)) (answered_now p below Half)
-        ∙ (add_seen (half heading place p since) (seen heading place p (n ∷ since)) (answered_by dsb (λ b. half_waits heading place p q b since))
-        (λ a. seen_on heading k.pattern_steps place p n since (answered_seen heading k place p q dsb Half since a))
-        ∙ sym (k.pattern_steps.half place p n since ∙ ap (λ (e : Event). half_after heading place p e since) is))))
+    half_now p below = cc (
+      mids.half p,
+      m.half p below,
+      seen_now p,
+      answered_now p below Half,
+      add_seen (half heading place p since) (seen heading place p (n ∷ since)) (answered_by dsb (λ b. half_waits heading place p q b since))
+          (λ a. seen_on heading k.pattern_steps place p n since (answered_seen heading k place p q dsb Half since a)),
+      k.pattern_steps.half place p n since,
+      is,
+    )
 
     pub clean_now : (p : ℕ) → p < heading.pes → clean_after mid (pends q) dsb p ≡ cleansed heading Patterns place p (n ∷ since)
-    clean_now p below =
-        ap (λ (x : Bool). x || (seen_at mid p && (answered_at (pends q) dsb Full p || answered_at (pends q) dsb Second p))) (mids.clean p ∙ m.clean p below)
-        ∙ (ap (λ (x : Bool). cleansed heading Patterns place p since || (x && (answered_at (pends q) dsb Full p || answered_at (pends q) dsb Second p))) (seen_now p)
-        ∙ (ap (λ (x : Bool). cleansed heading Patterns place p since || (seen heading place p (n ∷ since) && (x || answered_at (pends q) dsb Second p)))
-        (answered_now p below Full)
-        ∙ (ap (λ (x : Bool). cleansed heading Patterns place p since
-        || (seen heading place p (n ∷ since) && (answered_by dsb (λ b. full_waits heading place p q b since) || x))) (answered_now p below Second)
-        ∙ (add_seen (cleansed heading Patterns place p since) (seen heading place p (n ∷ since))
-        (answered_by dsb (λ b. full_waits heading place p q b since) || answered_by dsb (λ b. second_waits heading place p q b since))
-        (λ a. seen_on heading k.pattern_steps place p n since (either p a))
-        ∙ sym (k.pattern_steps.cleansed place p n since ∙ ap (λ (e : Event). cleansed_after heading place p e since)
-        is)))))
+    clean_now p below = cc (
+      mids.clean p,
+      m.clean p below,
+      seen_now p,
+      answered_now p below Full,
+      answered_now p below Second,
+      add_seen (cleansed heading Patterns place p since) (seen heading place p (n ∷ since))
+          (answered_by dsb (λ b. full_waits heading place p q b since) || answered_by dsb (λ b. second_waits heading place p q b since))
+          (λ a. seen_on heading k.pattern_steps place p n since (either p a)),
+      k.pattern_steps.cleansed place p n since,
+      is,
+    )
       where
         either : (p : ℕ) → (answered_by dsb (λ b. full_waits heading place p q b since) || answered_by dsb (λ b. second_waits heading place p q b since)) ≡ true
             → seen heading place p since ≡ true
@@ -352,39 +287,28 @@ module _ (heading : Heading) (k : Known heading) (place : ℕ) where
     -- what waits after the DSB
     dsb_waits : (p i : ℕ) (b : Bool) (c : Cover) → cover_waits heading place p i b c (n ∷ since)
         ≡ cond (q == i && answers dsb b) false (cover_waits heading place p i b c since)
-    dsb_waits p i b c =
-        counted_step p i b c n since
-        ∙ (ap (λ (e : Event). waits_after event_of i b (flushes heading place p c (counts heading place p c)) e n since) is
-        ∙ ap (λ (x : Bool). cond (q == i && answers dsb b) false x) (sym (cover_counted heading place p i b c since)))
+    dsb_waits p i b c = cc (counted_step p i b c n since, is, cover_counted heading place p i b c since)
 
     pub marked_dsb : (new : EntryState) (pends' : ℕ → Pends) → is_broken new ≡ true → Completed mid (pends q) dsb heading.pes new (pends' q)
         → OthersStay new q pends pends' → Marked heading place (n ∷ since) new pends'
     marked_dsb new pends' broken d others =
         let some : is_some (core_in new) ≡ true = (and_parts (is_some (core_in new)) (is_broken mid) (sym d.broken ∙ broken)).0 in
         record {
-          writers = λ p. d.writers p ∙ (ap (λ (x : Bool). x && writer_at mid p) some ∙ (mids.writers p ∙ (m.writers p
-              ∙ ap (λ (e : Event). writes p place e || wrote heading place p p since) (sym is))));
-          seen = λ p. d.seen p ∙ (ap (λ (x : Bool). x && seen_at mid p) some ∙ seen_now p);
-          half = λ p below. d.half p
-              ∙ (ap (λ (x : Bool). x && (half_at mid p || (seen_at mid p && answered_at (pends q) dsb Half p))) some ∙ half_now p below);
-          clean = λ p below. d.clean p ∙ (ap (λ (x : Bool). x && clean_after mid (pends q) dsb p) some ∙ clean_now p below);
+          writers = λ p. cc (d.writers p, some, mids.writers p, m.writers p, is);
+          seen = λ p. cc (d.seen p, some, seen_now p);
+          half = λ p below. cc (d.half p, some, half_now p below);
+          clean = λ p below. cc (d.clean p, some, clean_now p below);
           waiting = λ p below i b c. by some p below b c i (nat_eq i q) refl ∙ sym (dsb_waits p i b c);
         }
       where
         by : is_some (core_in new) ≡ true → (p : ℕ) → p < heading.pes → (b : Bool) (c : Cover) (i : ℕ) (t : Bool) → nat_eq i q ≡ t
             → waits_at (pends' i) b c p ≡ cond (q == i && answers dsb b) false (cover_waits heading place p i b c since)
-        by some p below b c i false t =
-            others i t b c p
-            ∙ (ap (λ (x : Bool). x && waits_at (pends i) b c p) broken
-            ∙ (m.waiting p below i b c
-            ∙ ap (λ (x : Bool). cond (x && answers dsb b) false (cover_waits heading place p i b c since)) (sym (same_swapped q i ∙ t))))
-        by some p below b c i true t =
-            let here : (q == i) ≡ true = same_swapped q i ∙ t in
-            let same : q ≡ i = eqb-true q i here in
-            ap (λ (j : ℕ). waits_at (pends' j) b c p) (sym same)
-            ∙ (d.waiting b c p
-            ∙ (ap (λ (x : Bool). x && (not (answers dsb b) && waits_at (pends q) b c p)) some
-            ∙ (left_bits (answers dsb b) (waits_at (pends q) b c p)
-            ∙ (ap (λ (x : Bool). cond (true && answers dsb b) false x) (m.waiting p below q b c)
-            ∙ (ap (λ (j : ℕ). cond (true && answers dsb b) false (cover_waits heading place p j b c since)) same
-            ∙ ap (λ (x : Bool). cond (x && answers dsb b) false (cover_waits heading place p i b c since)) (sym here))))))
+        by some p below b c i false t = cc (others i t b c p, broken, m.waiting p below i b c, same_swapped q i, t)
+        by some p below b c i true t = cc (
+          eqb-true i q t,
+          t,
+          d.waiting b c p,
+          some,
+          m.waiting p below q b c,
+          left_bits (answers dsb b) (waits_at (pends q) b c p),
+        )

@@ -1,10 +1,10 @@
 -- The phase that a state tells.
 use Rattle.bbm_rules.proofs.Common.{◌≡◌, ℕ, ◌<◌, Bool, true, false, cond, not, ◌&&◌, List, Option, Some, None, is_some}
-use Rattle.bbm_rules.proofs.Common.{option_and_then, refl, sym, ◌∙◌, ap, true≢false, option_map_or, is_valid, Patterns}
-use Rattle.bbm_rules.proofs.Common.{cleansed, half, noted, ValidWrite, cleansed_everywhere, last_valid, Noted}
+use Rattle.bbm_rules.proofs.Common.{option_and_then, refl, sym, ◌∙◌, ap, option_map_or, is_valid, Patterns}
+use Rattle.bbm_rules.proofs.Common.{noted, ValidWrite, cleansed_everywhere, last_valid, Noted}
 use Rattle.bbm_rules.proofs.Common.{events_of, broken_phase, is_restless, page_of, Node, held_at, node_of, value_of}
 use Rattle.std.specs.Prelude.{unwrap_or}
-use Rattle.bbm_regimes.specs.PeMask.{pe_in}
+use Rattle.bbm_rules.proofs.Common.{arith}
 use Rattle.bbm_entry_state.specs.Points.{core_in, is_broken}
 use Rattle.bbm_entry_state.specs.declared.pending.Pends.{Pends}
 use Rattle.bbm_entry_state.specs.declared.state.EntryState.{EntryState}
@@ -12,7 +12,7 @@ use Rattle.bbm_entry_state.specs.declared.state.EntryState.TheVariants as state
 use Rattle.bbm_events.specs.Heading.{Heading}
 use Rattle.bbm_events.specs.declared.event.Event.{Event}
 use Rattle.bbm_rules.specs.declared.phase.Phase.{Phase}
-use Rattle.bbm_rules.specs.declared.phase.Phase.TheVariants.{Clean, Live, Broken, Seen, Half, Cleansed}
+use Rattle.bbm_rules.specs.declared.phase.Phase.TheVariants.{Clean, Live}
 use Rattle.bbm_rules.specs.Phases.{phase_of}
 use Rattle.bbm_replay_entries.specs.KnownOfEntries.{Known}
 use Rattle.bbm_replay_entries.specs.Marked.{Marked}
@@ -22,26 +22,18 @@ use Rattle.bbm_replay_entries.proofs.Places.{holds_core}
 
 -- a state without a core
 coreless : (s : EntryState) (p : ℕ) → is_some (core_in s) ≡ false → phase_in s p ≡ Clean
-coreless state.Clean p t = refl
-coreless (state.Live core) p t = absurd (true≢false t)
-coreless (state.Broken marks) p t = absurd (true≢false t)
+coreless s p t = grind arith
 
 -- one with a core that isn't broken
 living : (s : EntryState) (p : ℕ) → is_some (core_in s) ≡ true → is_broken s ≡ false → phase_in s p ≡ Live
-living state.Clean p t b = absurd (true≢false (sym t))
-living (state.Live core) p t b = refl
-living (state.Broken marks) p t b = absurd (true≢false b)
+living s p t b = grind arith
 
 module _ (heading : Heading) (k : Known heading) (h : List Event) (place p : ℕ) where
   -- a broken one
   breaking : (s : EntryState) (pends : ℕ → Pends) (since : List Noted) → p < heading.pes → is_broken s ≡ true → Marked heading place since s pends
       → broken_phase heading Patterns place p since ≡ phase_in s p
-  breaking state.Clean pends since below b m = absurd (true≢false (sym b))
-  breaking (state.Live core) pends since below b m = absurd (true≢false (sym b))
-  breaking (state.Broken marks) pends since below b m =
-      sym (ap (λ (x : Bool). cond x Cleansed (cond (pe_in marks.half p) Half (cond (pe_in marks.seen p) Seen Broken))) (m.clean p below)
-      ∙ (ap (λ (x : Bool). cond (cleansed heading Patterns place p since) Cleansed (cond x Half (cond (pe_in marks.seen p) Seen Broken))) (m.half p below)
-      ∙ ap (λ (x : Bool). cond (cleansed heading Patterns place p since) Cleansed (cond (half heading place p since) Half (cond x Seen Broken))) (m.seen p)))
+  breaking (state.Broken marks) pends since below b m = cc (m.clean p below, m.half p below, m.seen p)
+  breaking s pends since below b m = cc
 
   -- the phase by the last valid write
   abbrev phase_from : (n : Node) → ValidWrite → Option Phase
@@ -60,33 +52,19 @@ module _ (heading : Heading) (k : Known heading) (h : List Event) (place p : ℕ
     holds = holds_core heading k n.kind n.level place h s pends e
 
     phase_found : (o : Option ValidWrite) → last_valid n.kind n.level place (noted heading Patterns h) ≡ o → unwrap_or (option_and_then (λ w. phase_from n w) o) Clean ≡ phase_in s p
-    phase_found None is =
-        sym (coreless s p (sym holds ∙ ap (λ (o : Option ValidWrite). is_some (option_and_then
-        (λ w. cond (cleansed_everywhere heading Patterns place w.since) None (Some w.value)) o)) is))
+    phase_found None is = cc (coreless s p (cc (holds, is)))
     phase_found (Some w) is = by (cleansed_everywhere heading Patterns place w.since) refl
       where
-        held_is : is_some (held_now heading h n.kind n.level place) ≡ is_some (cond (cleansed_everywhere heading Patterns place w.since) None (Some w.value))
-        held_is = ap (λ (o : Option ValidWrite). is_some (option_and_then
-            (λ w. cond (cleansed_everywhere heading Patterns place w.since) None (Some w.value)) o)) is
-
         valid : (t : Bool) → is_valid n.kind n.level (value_of h place) ≡ t → is_some (held_now heading h n.kind n.level place) ≡ true
             → cond (is_valid n.kind n.level (value_of h place)) Live (broken_phase heading Patterns place p w.since) ≡ phase_in s p
-        valid true v some =
-            ap (λ (x : Bool). cond x Live (broken_phase heading Patterns place p w.since)) v
-            ∙ sym (living s p (sym holds ∙ some) (e.broken ∙ (ap (λ (x : Bool). x && not (is_valid n.kind n.level (value_of h place))) some ∙ ap not v)))
+        valid true v some = cc (v, living s p (sym holds ∙ some) (cc (e.broken, some, v)))
         valid false v some =
-            let broken : is_broken s ≡ true = e.broken ∙ (ap (λ (x : Bool). x && not (is_valid n.kind n.level (value_of h place))) some ∙ ap not v) in
-            ap (λ (x : Bool). cond x Live (broken_phase heading Patterns place p w.since)) v
-            ∙ breaking s pends w.since below broken (e.marks broken w is)
+            let broken : is_broken s ≡ true = cc (e.broken, some, v) in cc (v, breaking s pends w.since below broken (e.marks broken w is))
 
         by : (t : Bool) → cleansed_everywhere heading Patterns place w.since ≡ t → unwrap_or (cond (cleansed_everywhere heading Patterns place w.since) None
             (Some (cond (is_valid n.kind n.level (value_of h place)) Live (broken_phase heading Patterns place p w.since)))) Clean ≡ phase_in s p
-        by true t =
-            ap (λ (x : Bool). unwrap_or (cond x None (Some (cond (is_valid n.kind n.level (value_of h place)) Live (broken_phase heading Patterns place p w.since)))) Clean) t
-            ∙ sym (coreless s p (sym holds ∙ (held_is ∙ ap (λ (x : Bool). is_some (cond x None (Some w.value))) t)))
-        by false t =
-            ap (λ (x : Bool). unwrap_or (cond x None (Some (cond (is_valid n.kind n.level (value_of h place)) Live (broken_phase heading Patterns place p w.since)))) Clean) t
-            ∙ valid (is_valid n.kind n.level (value_of h place)) refl (held_is ∙ ap (λ (x : Bool). is_some (cond x None (Some w.value))) t)
+        by true t = cc (t, coreless s p (cc (holds, is, t)))
+        by false t = cc (t, valid (is_valid n.kind n.level (value_of h place)) refl (cc (is, t)))
 
     pub phase_tells : node_of heading Patterns (noted heading Patterns h) (page_of place) ≡ Some n → phase_of heading Patterns h place p ≡ phase_in s p
     phase_tells is = phase_is ∙ (ap by_node is ∙ phase_found (last_valid n.kind n.level place (noted heading Patterns h)) refl)

@@ -1,5 +1,5 @@
 -- What one more event does to a state that stands for a history.
-use Rattle.bbm_rules.proofs.Common.{◌≡◌, ℕ, ◌<◌, Bool, true, false, cond, not, ◌&&◌, ◌||◌, ◌==◌, nat_eq, List, [], ◌∷◌}
+use Rattle.bbm_rules.proofs.Common.{◌≡◌, ℕ, ◌<◌, Bool, true, false, cond, not, ◌&&◌, ◌==◌, nat_eq, List, ◌∷◌}
 use Rattle.bbm_rules.proofs.Common.{◌++◌, Option, Some, None, is_some, is_none, option_and_then, refl, sym, ◌∙◌, ap}
 use Rattle.bbm_rules.proofs.Common.{subst, true≢false, and_parts, eq-eqb, eqb-true, false_from_ne_true, answers}
 use Rattle.bbm_rules.proofs.Common.{core_of, is_valid, Core, every_pe, every_same, every_wider, Kind, Cover, Patterns}
@@ -10,14 +10,13 @@ use Rattle.std.proofs.lemmas.Option.{option_and_then_some}
 use Rattle.bbm_barriers.specs.declared.Dsb.{Dsb as Barrier}
 use Rattle.bbm_lemmas.proofs.Every.{every_none}
 use Rattle.bbm_entry_state.specs.EntryCalls.{Completed, Written, clean_after, core_after}
-use Rattle.bbm_entry_state.specs.Points.{clean_at, core_in, half_at, is_broken, seen_at, waits as waits_at, writer_at}
+use Rattle.bbm_entry_state.specs.Points.{core_in, is_broken, waits as waits_at, writer_at}
 use Rattle.bbm_entry_state.specs.EntryStanding.{IsIdle, KeepsPends}
 use Rattle.bbm_entry_state.specs.declared.pending.Pends.{Pends}
 use Rattle.bbm_entry_state.specs.declared.state.EntryState.{EntryState}
-use Rattle.bbm_entry_state.specs.declared.state.EntryState.TheVariants.{Clean, Live, Broken}
 use Rattle.bbm_events.specs.Heading.{Heading}
 use Rattle.bbm_events.specs.declared.event.Event.{Event}
-use Rattle.bbm_events.specs.declared.event.Event.TheVariants.{Init, Write, Dsb, Tlbi}
+use Rattle.bbm_events.specs.declared.event.Event.TheVariants.{Write, Dsb}
 use Rattle.bbm_histories.specs.HistorySteps.{held_after, wrote}
 use Rattle.bbm_replay_entries.specs.EntryEvents.{Heard, OthersStay, touches}
 use Rattle.bbm_replay_entries.specs.KnownOfEntries.{Known}
@@ -26,6 +25,7 @@ use Rattle.bbm_replay_entries.specs.EntryStands.{ByValue, EntryStands, core_now,
 use Rattle.bbm_replay_entries.proofs.Marks.{Middle, both_written, clean_now, is_still, marked_blank, marked_dsb}
 use Rattle.bbm_replay_entries.proofs.Marks.{marked_still, middle}
 use Rattle.bbm_replay_entries.proofs.Since.{cleansed_on, unwritten}
+use Rattle.bbm_rules.proofs.Common.{arith}
 
 -- ---- options
 
@@ -71,15 +71,13 @@ module _ (heading : Heading) (k : Known heading) (kind : Kind) (level place : �
     where
       by : (o : Option ℕ) → held_now heading h kind level place ≡ o
           → is_some (held_now heading h kind level place) ≡ is_some (core_now heading h kind level place)
-      by None e = ap (λ (x : Option ℕ). is_some x) e ∙ sym (ap (λ (x : Option ℕ). is_some (option_and_then (core_of kind level) x)) e)
-      by (Some x) e = ap (λ (x : Option ℕ). is_some x) e
-          ∙ sym (ap (λ (x : Option ℕ). is_some (option_and_then (core_of kind level) x)) e
-          ∙ core_valid x (k.held.valid kind level place (noted heading Patterns h) x e))
+      by None e = cc
+      by (Some x) e = cc (e, core_valid x (k.held.valid kind level place (noted heading Patterns h) x e))
 
   -- the state has a core where something is held
   pub holds_core : (h : List Event) (state : EntryState) (pends : ℕ → Pends) → EntryStands heading h kind level place state pends
       → is_some (held_now heading h kind level place) ≡ is_some (core_in state)
-  holds_core h state pends s = core_held h ∙ ap (λ (o : Option Core). is_some o) (sym s.core)
+  holds_core h state pends s = cc (core_held h, s.core)
 
   -- ---- a place that comes into a tree
 
@@ -94,15 +92,13 @@ module _ (heading : Heading) (k : Known heading) (kind : Kind) (level place : �
   }
     where
       by_core : (t : Bool) → is_valid kind level (value_of h place) ≡ t → core_of kind level (value_of h place) ≡ core_now heading h kind level place
-      by_core true t = sym (ap (option_and_then (core_of kind level)) (holds ∙ ap (λ (x : Bool). cond x (Some (value_of h place)) None) t))
-      by_core false t = core_invalid (value_of h place) t
-          ∙ sym (ap (option_and_then (core_of kind level)) (holds ∙ ap (λ (x : Bool). cond x (Some (value_of h place)) None) t))
+      by_core true t = cc (holds, t)
+      by_core false t = cc (holds, t, core_invalid (value_of h place) t)
 
       by_broken : (t : Bool) → is_valid kind level (value_of h place) ≡ t
           → false ≡ (is_some (held_now heading h kind level place) && not (is_valid kind level (value_of h place)))
-      by_broken true t = sym (ap (λ (x : Bool). is_some (held_now heading h kind level place) && not x) t ∙ and-false (is_some (held_now heading h kind level place)))
-      by_broken false t = sym (ap (λ (x : Option ℕ). is_some x && not (is_valid kind level (value_of h place)))
-          (holds ∙ ap (λ (x : Bool). cond x (Some (value_of h place)) None) t))
+      by_broken true t = cc (t, and-false (is_some (held_now heading h kind level place)))
+      by_broken false t = cc (holds, t)
 
   pub fresh_holds : (h : List Event) → 0 < heading.pes
       → ((value : ℕ) → held_now heading h kind level place ≡ Some value → value_of h place ≡ value)
@@ -111,13 +107,13 @@ module _ (heading : Heading) (k : Known heading) (kind : Kind) (level place : �
     where
       by : (t : Bool) → is_valid kind level (value_of h place) ≡ t
           → held_now heading h kind level place ≡ cond (is_valid kind level (value_of h place)) (Some (value_of h place)) None
-      by true t = valid_held h pes t ∙ sym (ap (λ (x : Bool). cond x (Some (value_of h place)) None) t)
-      by false t =
-          none_is (held_now heading h kind level place) (false_from_ne_true (is_some (held_now heading h kind level place)) (λ some.
-          let x : (value : ℕ) × (held_now heading h kind level place ≡ Some value) = some_is (held_now heading h kind level place) some in
-          true≢false (sym (k.held.valid kind level place (noted heading Patterns h) x.0 x.1)
-          ∙ (ap (is_valid kind level) (sym (present x.0 x.1)) ∙ t))))
-          ∙ sym (ap (λ (x : Bool). cond x (Some (value_of h place)) None) t)
+      by true t = cc (valid_held h pes t, t)
+      by false t = sym (cc (
+        none_is (held_now heading h kind level place) (false_from_ne_true (is_some (held_now heading h kind level place)) (λ some.
+            let x : (value : ℕ) × (held_now heading h kind level place ≡ Some value) = some_is (held_now heading h kind level place) some in
+            absurd (cc (k.held.valid kind level place (noted heading Patterns h) x.0 x.1, present x.0 x.1)))),
+        t,
+      ))
 
   -- ---- the last valid write after an event that isn't one
 
@@ -138,30 +134,24 @@ module _ (heading : Heading) (k : Known heading) (kind : Kind) (level place : �
   -- ---- an event that doesn't touch the place
 
   last_on : (e : Event) (n : Noted) (found : Option ValidWrite) → touches place e ≡ false → last_valid_after kind level place e n found ≡ later n found
-  last_on (Write pe at value) n found t = ap (λ (b : Bool). cond (b && is_valid kind level value) (Some (record { value = value; since = [] })) (later n found)) t
-  last_on (Init pe page) n found t = ap (λ (b : Bool). cond b None (later n found)) t
-  last_on e n found t = refl
+  last_on (Write pe at value) n found t = cc
+  last_on e n found t = cc
 
   value_on : (e : Event) (h : List Event) → touches place e ≡ false → value_of (e ∷ h) place ≡ value_of h place
-  value_on (Write pe at value) h t = ap (λ (b : Bool). cond b value (value_of h place)) t
-  value_on (Init pe page) h t = ap (λ (b : Bool). cond b 0 (value_of h place)) t
-  value_on e h t = refl
+  value_on (Write pe at value) h t = cc
+  value_on e h t = cc
 
   held_on : (e : Event) (n : Noted) (h : List Noted) → touches place e ≡ false
       → held_after heading Patterns kind level place e n h ≡ held heading Patterns kind level place h
-  held_on (Write pe at value) n h t =
-      ap (λ (b : Bool). cond (b && is_valid kind level value) (Some value) (held heading Patterns kind level place h)) t
-  held_on (Init pe page) n h t = ap (λ (b : Bool). cond b None (held heading Patterns kind level place h)) t
-  held_on (Dsb q dsb) n h t = absurd (true≢false t)
-  held_on e n h t = refl
+  held_on (Write pe at value) n h t = cc
+  held_on e n h t = cc
 
   still_on : (e : Event) → touches place e ≡ false → is_still e ≡ true
-  still_on (Dsb q dsb) t = absurd (true≢false t)
-  still_on (Tlbi q op xt) t = absurd (true≢false t)
-  still_on e t = refl
+  still_on (Dsb q dsb) t = cc
+  still_on e t = cc
 
   unwritten_on : (p : ℕ) (e : Event) → touches place e ≡ false → writes p place e ≡ false
-  unwritten_on p (Write pe at value) t = ap (λ (b : Bool). (pe == p) && b) t ∙ and-false (pe == p)
+  unwritten_on p (Write pe at value) t = cc (t, and-false (pe == p))
   unwritten_on p e t = refl
 
   -- what a place holds and its value are as they were
@@ -178,9 +168,8 @@ module _ (heading : Heading) (k : Known heading) (kind : Kind) (level place : �
       → (is_broken state ≡ false → (q : ℕ) → IsIdle (pends' q))
       → EntryStands heading (e ∷ h) kind level place state pends'
   alike_stands h e state pends pends' a s marks idle = record {
-    core = s.core ∙ ap (option_and_then (core_of kind level)) (sym a.held);
-    broken = s.broken ∙ (ap (λ (o : Option ℕ). is_some o && not (is_valid kind level (value_of h place))) (sym a.held)
-        ∙ ap (λ (v : ℕ). is_some (held_now heading (e ∷ h) kind level place) && not (is_valid kind level v)) (sym a.value));
+    core = cc (s.core, a.held);
+    broken = cc (s.broken, a.held, a.value);
     marks = λ broken w last. last_later h e w (λ since. Marked heading place since state pends') a.last (marks broken) last;
     idle = idle;
   }
@@ -194,7 +183,7 @@ module _ (heading : Heading) (k : Known heading) (kind : Kind) (level place : �
         last = last_on e n (last_valid kind level place (noted heading Patterns h)) t;
       }) s
       (λ broken w last. marked_still heading k place n w.since state state pends pends (still_on e t) (s.marks broken w last)
-      (λ p. sym (ap (λ (b : Bool). b || writer_at state p) (unwritten_on p e t))) (λ p. refl) (λ p. refl) (λ p. refl) (λ q b c p. refl))
+      (λ p. cc (unwritten_on p e t)) (λ p. refl) (λ p. refl) (λ p. refl) (λ q b c p. refl))
       s.idle
     where
       n : Noted
@@ -227,7 +216,7 @@ module _ (heading : Heading) (k : Known heading) (kind : Kind) (level place : �
     where
       by : (t : Bool) → is_valid kind level (value_of h place) ≡ t → is_valid kind level (value_of h place) ≡ true
       by true t = t
-      by false t = absurd (true≢false (sym (s.broken ∙ (ap (λ (b : Bool). b && not (is_valid kind level (value_of h place))) some ∙ ap not t)) ∙ unbroken))
+      by false t = cc (s.broken, some, t, unbroken)
 
   -- the masks of a place that holds something, broken or not
   held_marks : (h : List Event) (state : EntryState) (pends : ℕ → Pends) (w : ValidWrite) → EntryStands heading h kind level place state pends
@@ -256,33 +245,28 @@ module _ (heading : Heading) (k : Known heading) (kind : Kind) (level place : �
       holds : (t : Bool) → is_valid kind level value ≡ t → held_now heading (e ∷ h) kind level place
           ≡ cond t (Some value) (held_now heading h kind level place)
       holds t v =
-          k.held_step kind level place n (noted heading Patterns h) pes
-          ∙ (ap (λ (b : Bool). cond (b && is_valid kind level value) (Some value) (held_now heading h kind level place)) here
-          ∙ ap (λ (b : Bool). cond b (Some value) (held_now heading h kind level place)) v)
+          cc (k.held_step kind level place n (noted heading Patterns h) pes, here, v)
 
       present : value_of (e ∷ h) place ≡ value
-      present = ap (λ (b : Bool). cond b value (value_of h place)) here
+      present = cc here
 
       idle : is_broken new ≡ false → (q : ℕ) → IsIdle (pends' q)
-      idle t q b c p = keeps q b c p ∙ ap (λ (x : Bool). x && waits_at (pends q) b c p) t
+      idle t q b c p = cc (keeps q b c p, t)
 
       last : is_valid kind level value ≡ false → last_valid kind level place (noted heading Patterns (e ∷ h))
           ≡ later n (last_valid kind level place (noted heading Patterns h))
-      last v = ap (λ (b : Bool). cond b (Some (record { value = value; since = [] })) (later n (last_valid kind level place (noted heading Patterns h))))
-          (ap (λ (b : Bool). (place == place) && b) v ∙ and-false (place == place))
+      last v = cc (v, and-false (place == place))
 
       after_valid : (core : Core) (o : Option Core) → o ≡ Some core → core_after o (core_in old) ≡ o
-      after_valid core o is = ap (λ (x : Option Core). core_after x (core_in old)) is ∙ sym is
+      after_valid core o is = cc
 
       by : (t : Bool) → is_valid kind level value ≡ t → EntryStands heading (e ∷ h) kind level place new pends'
       by true v =
           let has : (core : Core) × (core_of kind level value ≡ Some core) = some_is (core_of kind level value) (core_valid value v) in
           let unbroken : is_broken new ≡ false = w.broken ∙ ap (λ (o : Option Core). is_none o && is_some (core_in old)) has.1 in
           record {
-            core = w.core ∙ (after_valid has.0 (core_of kind level value) has.1 ∙ sym (ap (option_and_then (core_of kind level)) (holds true v)));
-            broken = unbroken ∙ sym (ap (λ (x : ℕ). is_some (held_now heading (e ∷ h) kind level place) && not (is_valid kind level x)) present
-                ∙ (ap (λ (b : Bool). is_some (held_now heading (e ∷ h) kind level place) && not b) v
-                ∙ and-false (is_some (held_now heading (e ∷ h) kind level place))));
+            core = cc (w.core, after_valid has.0 (core_of kind level value) has.1, holds true v);
+            broken = cc (unbroken, present, v, and-false (is_some (held_now heading (e ∷ h) kind level place)));
             marks = λ broken. absurd (true≢false (sym broken ∙ unbroken));
             idle = idle;
           }
@@ -292,19 +276,14 @@ module _ (heading : Heading) (k : Known heading) (kind : Kind) (level place : �
           let breaks : is_broken new ≡ is_some (core_in old) = w.broken ∙ ap (λ (o : Option Core). is_none o && is_some (core_in old)) none in
           let some : is_some (held_now heading h kind level place) ≡ is_some (core_in old) = holds_core h old pends s in
           record {
-            core = same ∙ (s.core ∙ sym (ap (option_and_then (core_of kind level)) (holds false v)));
-            broken = breaks ∙ (sym some ∙ sym (ap (λ (o : Option ℕ). is_some o && not (is_valid kind level (value_of (e ∷ h) place))) (holds false v)
-                ∙ (ap (λ (x : ℕ). is_some (held_now heading h kind level place) && not (is_valid kind level x)) present
-                ∙ (ap (λ (b : Bool). is_some (held_now heading h kind level place) && not b) v
-                ∙ and-true (is_some (held_now heading h kind level place))))));
+            core = cc (same, s.core, holds false v);
+            broken = cc (breaks, some, holds false v, present, v, and-true (is_some (held_now heading h kind level place)));
             marks = λ broken x is. last_later h e x (λ since. Marked heading place since new pends') (last v)
                 (λ y was. marked_still heading k place n y.since old new pends pends' refl
                 (held_marks h old pends y s (some ∙ (sym breaks ∙ broken)) was)
-                (λ p. w.writers p ∙ (ap (λ (b : Bool). b && (p == pe || writer_at old p)) broken ∙ both_written p pe place (writer_at old p)))
-                (λ p. w.seen p ∙ ap (λ (o : Option Core). is_none o && seen_at old p) none)
-                (λ p. w.half p ∙ ap (λ (o : Option Core). is_none o && half_at old p) none)
-                (λ p. w.clean p ∙ ap (λ (o : Option Core). is_none o && clean_at old p) none)
-                (λ q b c p. keeps q b c p ∙ ap (λ (t : Bool). t && waits_at (pends q) b c p) broken)) is;
+                (λ p. cc (w.writers p, broken, both_written p pe place (writer_at old p)))
+                (λ p. cc (w.seen p, none)) (λ p. cc (w.half p, none)) (λ p. cc (w.clean p, none))
+                (λ q b c p. cc (keeps q b c p, broken))) is;
             idle = idle;
           }
 
@@ -314,12 +293,14 @@ module _ (heading : Heading) (k : Known heading) (kind : Kind) (level place : �
   present_core h state pends pes s unbroken = s.core ∙ by (is_some (held_now heading h kind level place)) refl
     where
       by : (t : Bool) → is_some (held_now heading h kind level place) ≡ t → core_now heading h kind level place ≡ core_of kind level (value_of h place)
-      by true t = ap (option_and_then (core_of kind level)) (valid_held h pes (unbroken_held h state pends s unbroken t))
+      by true t = cc (valid_held h pes (unbroken_held h state pends s unbroken t))
       by false t =
           let none : held_now heading h kind level place ≡ None = none_is (held_now heading h kind level place) t in
-          ap (option_and_then (core_of kind level)) none
-          ∙ sym (core_invalid (value_of h place) (false_from_ne_true (is_valid kind level (value_of h place)) (λ v.
-          let apart : None ≡ Some (value_of h place) = sym none ∙ valid_held h pes v in cc)))
+          cc (
+            none,
+            core_invalid (value_of h place) (false_from_ne_true (is_valid kind level (value_of h place)) (λ v.
+                let apart : None ≡ Some (value_of h place) = sym none ∙ valid_held h pes v in cc)),
+          )
 
   -- ---- a DSB
 
@@ -332,10 +313,9 @@ module _ (heading : Heading) (k : Known heading) (kind : Kind) (level place : �
     where
       by : (t : Bool) → cleansed_everywhere heading Patterns place w.since ≡ t
           → cond (cleansed_everywhere heading Patterns place (n ∷ w.since)) None (Some w.value) ≡ None
-      by true t = ap (λ (b : Bool). cond b None (Some w.value))
-          (every_wider heading.pes (λ p. cleansed heading Patterns place p w.since) (λ p. cleansed heading Patterns place p (n ∷ w.since))
+      by true t = cc (every_wider heading.pes (λ p. cleansed heading Patterns place p w.since) (λ p. cleansed heading Patterns place p (n ∷ w.since))
           (λ p c. cleansed_on heading k place p n w.since c) t)
-      by false t = let apart : Some w.value ≡ None = sym (ap (λ (b : Bool). cond b None (Some w.value)) t) ∙ e in cc
+      by false t = cc (t, e)
 
   whole_held : (h : List Event) (q : ℕ) (dsb : Barrier) (state : EntryState) (pends : ℕ → Pends) → 0 < heading.pes → is_broken state ≡ false
       → EntryStands heading h kind level place state pends → held_now heading (Dsb q dsb ∷ h) kind level place ≡ held_now heading h kind level place
@@ -358,20 +338,18 @@ module _ (heading : Heading) (k : Known heading) (kind : Kind) (level place : �
       let same : held_now heading (Dsb q dsb ∷ h) kind level place ≡ held_now heading h kind level place
       = whole_held h q dsb old pends pes whole s in
       record {
-        core = core ∙ (s.core ∙ ap (option_and_then (core_of kind level)) (sym same));
-        broken = unbroken ∙ (sym whole ∙ (s.broken ∙ ap (λ (o : Option ℕ). is_some o && not (is_valid kind level (value_of h place))) (sym same)));
+        core = cc (core, s.core, same);
+        broken = cc (unbroken, whole, s.broken, same);
         marks = λ broken. absurd (true≢false (sym broken ∙ unbroken));
         idle = λ t. idle;
       }
 
   unfinished : (dsb : Barrier) (mid : EntryState) (pends : Pends) → 0 < heading.pes → is_broken mid ≡ false
       → every_pe heading.pes (clean_after mid pends dsb) ≡ false
-  unfinished dsb mid pends pes unbroken = every_none heading.pes (clean_after mid pends dsb) pes (both mid unbroken)
+  unfinished dsb mid pends pes unbroken = every_none heading.pes (clean_after mid pends dsb) pes (λ p. both mid unbroken p)
     where
       both : (mid : EntryState) → is_broken mid ≡ false → (p : ℕ) → clean_after mid pends dsb p ≡ false
-      both Clean t p = refl
-      both (Live core) t p = refl
-      both (Broken marks) t p = absurd (true≢false t)
+      both mid t p = grind arith
 
   -- what a broken place holds
   broken_held : (h : List Event) (state : EntryState) (pends : ℕ → Pends) → EntryStands heading h kind level place state pends → is_broken state ≡ true
@@ -385,12 +363,10 @@ module _ (heading : Heading) (k : Known heading) (kind : Kind) (level place : �
       (λ w last is. (w, last, x.1 ∙ by w.value x.0 (cleansed_everywhere heading Patterns place w.since) is))
     where
       by : (v x : ℕ) (t : Bool) → cond t None (Some v) ≡ Some x → Some x ≡ Some v
-      by v x true e = cc
-      by v x false e = sym e
+      by v x t e = grind arith
 
   cond_core : (t : Bool) (v : ℕ) → option_and_then (core_of kind level) (cond t None (Some v)) ≡ cond t None (core_of kind level v)
-  cond_core true v = refl
-  cond_core false v = refl
+  cond_core t v = grind arith
 
   pub dsb_stands : (h : List Event) (q : ℕ) (dsb : Barrier) (old mid new : EntryState) (pends pends' : ℕ → Pends) → 0 < heading.pes
       → Heard heading old q dsb mid → Completed mid (pends q) dsb heading.pes new (pends' q) → OthersStay new q pends pends'
@@ -410,19 +386,22 @@ module _ (heading : Heading) (k : Known heading) (kind : Kind) (level place : �
       quiet unbroken own i b c p = one (nat_eq i q) refl
         where
           one : (t : Bool) → nat_eq i q ≡ t → waits_at (pends' i) b c p ≡ false
-          one true t = ap (λ (j : ℕ). waits_at (pends' j) b c p) (eqb-true i q t) ∙ own b c p
-          one false t = others i t b c p ∙ ap (λ (x : Bool). x && waits_at (pends i) b c p) unbroken
+          one true t = cc (eqb-true i q t, own b c p)
+          one false t = cc (others i t b c p, unbroken)
 
       by : (t : Bool) → is_broken old ≡ t → EntryStands heading (e ∷ h) kind level place new pends'
       by false t =
           let mid_whole : is_broken mid ≡ false = mids.broken ∙ t in
           let unbroken : is_broken new ≡ false
-          = d.broken ∙ (ap (λ (x : Bool). is_some (core_in new) && x) mid_whole ∙ and-false (is_some (core_in new))) in
+          = cc (d.broken, mid_whole, and-false (is_some (core_in new))) in
           whole_stands h q dsb old new pends pends' pes t
-          (d.core ∙ (ap (λ (x : Bool). cond x None (core_in mid)) (unfinished dsb mid (pends q) pes mid_whole) ∙ mids.core)) unbroken
-          (quiet unbroken (λ b c p. d.waiting b c p
-          ∙ (ap (λ (x : Bool). is_some (core_in new) && (not (answers dsb b) && x)) (s.idle t q b c p)
-          ∙ (ap (λ (x : Bool). is_some (core_in new) && x) (and-false (not (answers dsb b))) ∙ and-false (is_some (core_in new)))))) s
+          (cc (d.core, unfinished dsb mid (pends q) pes mid_whole, mids.core)) unbroken
+          (quiet unbroken (λ b c p. cc (
+            d.waiting b c p,
+            s.idle t q b c p,
+            and-false (not (answers dsb b)),
+            and-false (is_some (core_in new)),
+          ))) s
       by true t =
           let has : (w : ValidWrite) × (last_valid kind level place (noted heading Patterns h) ≡ Some w) × (held_now heading h kind level place ≡ Some w.value)
           = broken_held h old pends s t in
@@ -431,24 +410,17 @@ module _ (heading : Heading) (k : Known heading) (kind : Kind) (level place : �
           = every_same heading.pes (clean_after mid (pends q) dsb) (λ p. cleansed heading Patterns place p (n ∷ w.since))
           (clean_now heading k place n w.since q dsb refl old mid pends mids (s.marks t w has.1)) in
           let holds : held_now heading (e ∷ h) kind level place ≡ cond (cleansed_everywhere heading Patterns place (n ∷ w.since)) None (Some w.value)
-          = k.held_step kind level place n (noted heading Patterns h) pes
-          ∙ ap (option_and_then (λ (x : ValidWrite). cond (cleansed_everywhere heading Patterns place (n ∷ x.since)) None (Some x.value))) has.1 in
+          = cc has.1 in
           let core : core_in new ≡ core_now heading (e ∷ h) kind level place
-          = d.core ∙ (ap (λ (x : Bool). cond x None (core_in mid)) all
-          ∙ (ap (λ (x : Option Core). cond (cleansed_everywhere heading Patterns place (n ∷ w.since)) None x)
-          (mids.core ∙ (s.core ∙ ap (option_and_then (core_of kind level)) has.2))
-          ∙ (sym (cond_core (cleansed_everywhere heading Patterns place (n ∷ w.since)) w.value) ∙ ap (option_and_then (core_of kind level)) (sym holds)))) in
+          = cc (d.core, all, mids.core, s.core, has.2, cond_core (cleansed_everywhere heading Patterns place (n ∷ w.since)) w.value, holds) in
           let invalid : not (is_valid kind level (value_of h place)) ≡ true
           = (and_parts (is_some (held_now heading h kind level place)) (not (is_valid kind level (value_of h place))) (sym s.broken ∙ t)).1 in
           let breaks : is_broken new ≡ is_some (core_in new)
-          = d.broken ∙ (ap (λ (x : Bool). is_some (core_in new) && x) (mids.broken ∙ t) ∙ and-true (is_some (core_in new))) in
+          = cc (d.broken, mids.broken, t, and-true (is_some (core_in new))) in
           record {
             core = core;
-            broken = breaks ∙ (ap (λ (o : Option Core). is_some o) core ∙ (sym (core_held (e ∷ h))
-                ∙ (sym (and-true (is_some (held_now heading (e ∷ h) kind level place)))
-                ∙ ap (λ (x : Bool). is_some (held_now heading (e ∷ h) kind level place) && x) (sym invalid))));
+            broken = cc (breaks, core, core_held (e ∷ h), invalid, and-true (is_some (held_now heading (e ∷ h) kind level place)));
             marks = λ broken x is. last_later h e x (λ since. Marked heading place since new pends') refl
                 (λ y was. marked_dsb heading k place n y.since q dsb refl old mid pends mids (s.marks t y was) new pends' broken d others) is;
-            idle = λ unbroken. quiet unbroken (λ b c p. d.waiting b c p
-                ∙ ap (λ (x : Bool). x && (not (answers dsb b) && waits_at (pends q) b c p)) (sym breaks ∙ unbroken));
+            idle = λ unbroken. quiet unbroken (λ b c p. cc (d.waiting b c p, breaks, unbroken));
           }

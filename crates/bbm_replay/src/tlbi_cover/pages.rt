@@ -7,7 +7,6 @@ ghost use Rattle.bbm_rules.specs.Tree.{Node};
 ghost use Rattle.bbm_tlbi_scope.specs.Numbers.{names_some as spec_names_some};
 ghost use Rattle.bbm_tree_index.specs.Nodes.{path_at};
 
-use crate::laws::laws;
 use crate::tlbi_cover::Covering;
 use bbm_place_map::{Answer, PlaceMap};
 use bbm_regimes::{NoMemory, Page, Pe, PeMask, Place};
@@ -55,7 +54,6 @@ impl Covering<'_> {
         ensures alike { CoversAlike map.now self.now result.1 }
     {
         law_notes_keep_the_events();
-        laws();
         let place = map.restless_at(i);
         let page = place.page();
         let Some(path) = self.index.path_near(place, map.restless_page(i)) else {

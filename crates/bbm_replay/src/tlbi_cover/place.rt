@@ -14,7 +14,6 @@ ghost use Rattle.bbm_tlbi_scope.specs.ScopeCovers.{asid_matches, cover_of, vmid_
 ghost use Rattle.bbm_tree_index.specs.HeldCores.{Childless, core_at};
 ghost use Rattle.bbm_tree_index.specs.Index.{node_in};
 
-use crate::laws::laws;
 use crate::tlbi_cover::Covering;
 use crate::writes::is_global;
 use bbm_descriptor::Core;
@@ -166,7 +165,6 @@ impl Covering<'_> {
         requires path { IsPathOf self.now.index.now place path.now }
         ensures { IsBrokenOver map.now place core.now → IsCovered map.now self.now result place }
     {
-        laws();
         law_entry_holds();
         law_childless_by_cores();
         law_notes_keep_the_events();

@@ -6,18 +6,18 @@ use Rattle.bbm_replay.proofs.parts.ReplayState.null.Goals as goal
 pub returns-then-has_kind : goal.returns-then-has_kind
 returns-then-has_kind c =
     null_world c.laws.ensures c.rules.ensures c.law_others.ensures c.args.self.now c.args.self.now c.args.pe c.args.page c.requires
-    (λ heading e. ap (λ (x : Heading). kind_in_world x.world S2) (sym e) ∙ sym c.has_kind.ensures ∙ c.if-has_kind.true)
+    (sym c.has_kind.ensures ∙ c.if-has_kind.true)
 
 pub returns-then-not-is_fresh : goal.returns-then-not-is_fresh
 returns-then-not-is_fresh c = rw c.get.ensures.value
     (null_unfresh c.laws.ensures c.rules.ensures c.law_others.ensures c.args.self.now c.args.self.now c.args.pe c.args.page c.requires
-    (λ heading e. ap (λ (x : Heading). kind_in_world x.world S2) (sym e) ∙ sym c.has_kind.ensures ∙ c.if-has_kind.false)
+    (sym c.has_kind.ensures ∙ c.if-has_kind.false)
     (sym c.is_fresh.ensures ∙ c.if-not-is_fresh.true))
 
 pub returns-then-not-is_zero : goal.returns-then-not-is_zero
 returns-then-not-is_zero c = rw c.get-then-not-is_zero.ensures.value
     (null_nonzero c.laws.ensures c.rules.ensures c.law_others.ensures c.args.self.now c.args.self.now c.args.pe c.args.page c.requires
-    (λ heading e. ap (λ (x : Heading). kind_in_world x.world S2) (sym e) ∙ sym c.has_kind.ensures ∙ c.if-has_kind.false)
+    (sym c.has_kind.ensures ∙ c.if-has_kind.false)
     (c.is_zero.ensures.other c.if-not-is_zero.true))
 
 pub returns : goal.returns
@@ -26,7 +26,7 @@ returns c =
     let e = c.nullify.ensures in
     let new : ReplayState = record old { index = c.nullify.new.self } in
     null_ok c.laws.ensures c.rules.ensures c.law_others.ensures old new c.args.pe c.args.page c.requires
-    (λ heading e. ap (λ (x : Heading). kind_in_world x.world S2) (sym e) ∙ sym c.has_kind.ensures ∙ c.if-has_kind.false)
+    (sym c.has_kind.ensures ∙ c.if-has_kind.false)
     (sym c.is_fresh.ensures ∙ c.if-not-is_fresh.false) (c.is_zero.ensures.zero c.if-not-is_zero.false)
     (record { header = refl; index_header = e.tracked.heading }) refl
     (record {

@@ -1,8 +1,6 @@
 use Rattle.bbm_replay.proofs.Common.{Puts}
-use Rattle.bbm_rules.proofs.Common.{◌≡◌, ℕ, ◌%◌, ◌==◌, ◌&&◌, not, sym, ◌∙◌, ap, subst}
-use Rattle.bbm_place_map.specs.Map.{value_at}
+use Rattle.bbm_rules.proofs.Common.{◌≡◌, subst}
 use Rattle.bbm_place_map.specs.declared.position.Position.{Position}
-use Rattle.bbm_tree_index.specs.Index.{fresh_in, null_in}
 use Rattle.bbm_replay.proofs.Findings.{if_some}
 use Rattle.bbm_replay.proofs.Outside.{outside_null, outside_ok, outside_rewritten, outside_unfresh}
 use Rattle.bbm_replay.proofs.parts.ReplayState.write_outside.Goals as goal
@@ -10,20 +8,14 @@ use Rattle.bbm_replay.proofs.parts.ReplayState.write_outside.Goals as goal
 pub returns-then-is_null : goal.returns-then-is_null
 returns-then-is_null c = rw c.get.ensures.value
     (outside_null c.laws.ensures c.rules.ensures c.args.self.now c.args.pe c.args.place c.args.value c.requires.may
-    c.requires.outside
-    (ap (λ (x : ℕ). fresh_in c.args.self.now.index x) (sym c.page-page.ensures) ∙ sym c.is_fresh.ensures
-    ∙ c.if-not-is_fresh.true)
-    (ap (λ (x : ℕ). null_in c.args.self.now.index x) (sym c.page-page.ensures) ∙ sym c.is_null.ensures
-    ∙ c.if-is_null.true))
+    c.requires.outside (cc (c.page-page.ensures, c.is_fresh.ensures, c.if-not-is_fresh.true))
+    (cc (c.page-page.ensures, c.is_null.ensures, c.if-is_null.true)))
 
 pub returns-then-not-is_fresh : goal.returns-then-not-is_fresh
 returns-then-not-is_fresh c = rw (c.get-then-not-is_fresh.ensures.value, c.page-page.ensures)
     (outside_unfresh c.laws.ensures c.rules.ensures c.args.self.now c.args.pe c.args.place c.args.value c.requires.may
-    c.requires.outside
-    (ap (λ (x : ℕ). fresh_in c.args.self.now.index x) (sym c.page-page.ensures) ∙ sym c.is_fresh.ensures
-    ∙ c.if-not-is_fresh.true)
-    (ap (λ (x : ℕ). null_in c.args.self.now.index x) (sym c.page-page.ensures) ∙ sym c.is_null.ensures
-    ∙ c.if-is_null.false))
+    c.requires.outside (cc (c.page-page.ensures, c.is_fresh.ensures, c.if-not-is_fresh.true))
+    (cc (c.page-page.ensures, c.is_null.ensures, c.if-is_null.false)))
 
 pub returns-then-rewrites : goal.returns-then-rewrites
 returns-then-rewrites c =
@@ -31,25 +23,16 @@ returns-then-rewrites c =
     c.position_near.result c.unwrap-position.result c.unwrap-position.ensures c.position_near.ensures.place in
     rw c.get-then-rewrites.ensures.value
     (outside_rewritten c.laws.ensures c.rules.ensures c.args.self.now c.args.pe c.args.place c.args.value c.requires.may
-    c.requires.outside
-    (ap (λ (x : ℕ). fresh_in c.args.self.now.index x) (sym c.page-page.ensures) ∙ sym c.is_fresh.ensures
-    ∙ c.if-not-is_fresh.false)
-    (ap (λ (a : ℕ). value_at c.args.self.now.map a % 2 == 1 && not (value_at c.args.self.now.map a == c.args.value))
-    (sym same) ∙ ap (λ (x : ℕ). x % 2 == 1 && not (x == c.args.value)) (sym c.value_of.ensures)
-    ∙ sym c.rewrites.ensures ∙ c.if-rewrites.true))
+    c.requires.outside (cc (c.page-page.ensures, c.is_fresh.ensures, c.if-not-is_fresh.false))
+    (cc (same, c.value_of.ensures, c.rewrites.ensures, c.if-rewrites.true)))
 
 pub returns : goal.returns
 returns c =
-    let map = c.args.self.now.map in
     let same : c.unwrap-position.result.place ≡ c.args.place = if_some (λ (s : Position). s.place ≡ c.args.place)
     c.position_near.result c.unwrap-position.result c.unwrap-position.ensures c.position_near.ensures.place in
     outside_ok c.laws.ensures c.rules.ensures c.args.self.now c.args.pe c.args.place c.args.value c.requires.may
-    c.requires.outside
-    (ap (λ (x : ℕ). fresh_in c.args.self.now.index x) (sym c.page-page.ensures) ∙ sym c.is_fresh.ensures
-    ∙ c.if-not-is_fresh.false)
-    (ap (λ (a : ℕ). value_at map a % 2 == 1 && not (value_at map a == c.args.value)) (sym same)
-    ∙ ap (λ (x : ℕ). x % 2 == 1 && not (x == c.args.value)) (sym c.value_of.ensures) ∙ sym c.rewrites.ensures
-    ∙ c.if-rewrites.false)
+    c.requires.outside (cc (c.page-page.ensures, c.is_fresh.ensures, c.if-not-is_fresh.false))
+    (cc (same, c.value_of.ensures, c.rewrites.ensures, c.if-rewrites.false))
     c.law_others.ensures c.put_at.new.self
-    (subst (λ a. Puts c.args.value a map c.put_at.new.self) same c.put_at.ensures.put)
+    (subst (λ a. Puts c.args.value a c.args.self.now.map c.put_at.new.self) same c.put_at.ensures.put)
     c.put_at.ensures.marks c.put_at.ensures.pends c.law_idle.ensures

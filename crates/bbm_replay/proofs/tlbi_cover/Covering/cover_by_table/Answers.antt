@@ -1,8 +1,7 @@
 use Rattle.bbm_replay.proofs.Common.{Path, notes, asks_childless, asks_tags, view_of}
-use Rattle.bbm_rules.proofs.Common.{◌≡◌, ◌<◌, ℕ, true, false, Option, Some, is_some, refl, sym, ◌∙◌, ap}
-use Rattle.bbm_rules.proofs.Common.{subst}
-use Rattle.bbm_rules.proofs.Common.{core_of, desc_of, Core, names_some, has_page, Patterns, page_of, tag_set}
-use Rattle.bbm_rules.proofs.Common.{tags_of, held_at, is_childless, region_of}
+use Rattle.bbm_rules.proofs.Common.{◌≡◌, ◌<◌, ℕ, true, false, Option, Some, is_some, refl, sym, ◌∙◌, ap, subst, core_of}
+use Rattle.bbm_rules.proofs.Common.{desc_of, Core, names_some, has_page, Patterns, page_of, tag_set, tags_of, held_at}
+use Rattle.bbm_rules.proofs.Common.{is_childless, region_of}
 use Rattle.bbm_place_map.specs.Map.{marks_at, value_at}
 use Rattle.bbm_tlbi_scope.specs.ScopeCovers as scopes
 use Rattle.bbm_replay.specs.Covering.{Mismatches}
@@ -22,11 +21,8 @@ returns-then-not-names_some c over heading h pe op xt issued =
     let paged : has_page by.named.now.scope.family ≡ true = sym c.has_page.ensures ∙ c.if-has_page.true in
     let none : names_some by.named.now.scope.interval c.args.path.now.region ≡ false
     = sym c.names_some.ensures ∙ c.if-not-names_some.true in
-    let low : n.level < 4
-    = ((c.laws.ensures heading).neighbours.own h (view_of c.args.map.now by.index.now) (page_of place) n
-    m.told.nodes c.requires.path.1).1 in
     sym (place_unnamed heading h (c.law_notes_keep_the_events.ensures heading Patterns h) c.args.map.now by.index.now
-    by.roots.now pe op xt by.named.now m paged n place low c.requires.path.1
+    by.roots.now pe op xt by.named.now m paged n place c.requires.path.1
     (sym (ap (λ (y : Path). names_some by.named.now.scope.interval y.region) c.requires.path.2) ∙ none))
 
 pub returns-in_default : goal.returns-in_default

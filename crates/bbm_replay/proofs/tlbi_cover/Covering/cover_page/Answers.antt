@@ -1,7 +1,6 @@
 use Rattle.bbm_replay.proofs.Common.{Marks, notes, view_of}
-use Rattle.bbm_rules.proofs.Common.{◌≡◌, true, false, is_some, Option, Some, sym, ◌∙◌, ap, arith}
-use Rattle.bbm_rules.proofs.Common.{true≢false}
-use Rattle.bbm_rules.proofs.Common.{has_page, cover_at, page_of, Patterns, Tlbi}
+use Rattle.bbm_rules.proofs.Common.{◌≡◌, true, false, is_some, Option, Some, sym, ◌∙◌, ap, arith, true≢false, has_page}
+use Rattle.bbm_rules.proofs.Common.{cover_at, page_of, Patterns, Tlbi}
 use Rattle.bbm_place_map.specs.Map.{marks_at, restless_place}
 use Rattle.bbm_tlbi_scope.specs.declared.entry.Cover.TheVariants.{None as NoCover}
 use Rattle.bbm_tree_index.specs.Index.{node_in}
@@ -57,7 +56,6 @@ returns-then-names_none-clause-alike c a same broken heading h pe op xt issued =
     let none : cover_at heading Patterns (notes heading h) (Tlbi pe op xt) a ≡ NoCover
     = place_unnamed heading h (c.law_notes_keep_the_events.ensures heading Patterns h) map by.index.now by.roots.now pe
     op xt by.named.now issued.1 paged n.0 a
-    ((c.laws.ensures heading).neighbours.own h (view_of map by.index.now) (page_of a) n.0 issued.1.told.nodes is).1
     is (c.names_none.ensures c.if-names_none.true n.0 n.2 a) in
     c.in-None.is ∙ sym none
 

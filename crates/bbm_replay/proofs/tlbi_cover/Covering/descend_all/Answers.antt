@@ -24,5 +24,5 @@ loop-number-preserved c =
 
 pub returns-clause-met : goal.returns-clause-met
 returns-clause-met c heading h root stands at covers =
-    let i = c.count-number-end.ensures heading h root.page root stands at in
+    let i = c.count-number-end.ensures.each heading h root.page root stands at in
     c.loop-number.invariant.met i.0 (omega (arith, i.1)) root.kind root.page i.2 covers
