@@ -180,7 +180,7 @@ module _ (heading : Heading) where
       (λ n place value w t inside holds last. changeless heading k place item w.since
       (of_tlbi heading k place item.covers item.position w.since pe op xt (λ p less reached.
       false_from_ne_true (adds (item.covers place) (seen heading place p w.since) (half heading place p w.since)
-      (cleansed heading Patterns place p w.since)) (λ adding. true≢false (sym (adds_needed heading k h (Tlbi pe op xt) p place n w less reached
+      (cleansed heading Patterns place p w.since)) (λ adding. true≢false (sym (adds_needed heading k.notes_keep_the_events h (Tlbi pe op xt) p place n w less reached
       (node_before k h kept_before n place t inside) last adding) ∙ needless)))))
       (k.same_tags.tlbi pe op xt h k.proper kept_before (takes_none h (Tlbi pe op xt) needless))
     where

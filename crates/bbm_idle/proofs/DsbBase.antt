@@ -2,10 +2,10 @@
 -- the same patterns.
 use Rattle.bbm_idle.proofs.Common.{Phase, Clean, Live, Patterns, Kind, SamePatterns, answers_needed, keeps_phases}
 use Rattle.bbm_idle.proofs.Common.{Known, same_phase}
-use Rattle.bbm_rules.proofs.Common.{◌≡◌, ℕ, ◌<◌, Bool, true, false, cond, not, List, [], ◌∷◌, Option, Some, None}
+use Rattle.bbm_rules.proofs.Common.{◌≡◌, ℕ, ◌<◌, Bool, true, false, cond, not, List, ◌∷◌, Option, Some, None}
 use Rattle.bbm_rules.proofs.Common.{option_and_then, is_none, Contains, refl, sym, ◌∙◌, ap, subst, inl, inr, and_parts}
 use Rattle.bbm_rules.proofs.Common.{not-true, In, is_valid, every_pe, keeps, cleansed, half, seen, cover_at, note}
-use Rattle.bbm_rules.proofs.Common.{noted, ValidWrite, cleansed_everywhere, held, last_valid, any, every, Noted}
+use Rattle.bbm_rules.proofs.Common.{noted, ValidWrite, cleansed_everywhere, held, last_valid, any, Noted}
 use Rattle.bbm_rules.proofs.Common.{broken_phase, page_of, Barrier, Heading, Event, Write, Dsb, unanswered, itself}
 use Rattle.bbm_rules.proofs.Common.{Node, held_at, node_of, value_of, written_places}
 use Rattle.bbm_lemmas.proofs.Every.{every_at}
@@ -15,16 +15,11 @@ use Rattle.bbm_rules.specs.Tree.{tree}
 use Rattle.bbm_histories.specs.TreeChanges.{HeldChange}
 use Rattle.bbm_histories.specs.TreeSteps.{holds_above, node_where}
 use Rattle.bbm_idle.specs.Idle.{is_idle}
-use Rattle.bbm_idle.proofs.Needed.{half_stays}
+use Rattle.bbm_idle.proofs.FindLists.{every_in}
+use Rattle.bbm_idle.proofs.Needed.{half_stays, written_at}
 use Rattle.bbm_idle.proofs.Phases.{SameMarks, never_clean, same_marks}
 use Rattle.bbm_idle.proofs.Since.{Untouched, Unwritten, untouched, unwritten_on}
 use Rattle.bbm_idle.proofs.Waits.{changeless, of_dsb}
-use Rattle.bbm_rules.proofs.HeldLemmas.{last_is_written}
-
-every_in : {A : Type 0} (test : A → Bool) (xs : List A) (x : A) → every test xs ≡ true → In xs x → test x ≡ true
-every_in test [] x e i = absurd i
-every_in test (y ∷ xs) x e (inl same) = ap test (sym same) ∙ (and_parts (test y) (every test xs) e).0
-every_in test (y ∷ xs) x e (inr there) = every_in test xs x (and_parts (test y) (every test xs) e).1 there
 
 module _ (heading : Heading) where
   -- what holds a value has a last valid write
@@ -69,11 +64,6 @@ module _ (heading : Heading) where
         (λ p. same_phase (phase_of heading Patterns (Dsb pe dsb ∷ h) place p) (phase_of heading Patterns h place p)))
         (written_places h) place idle_parts.0 there) p less
 
-    in_written : (kind : Kind) (level place : ℕ) (w : ValidWrite) → last_valid kind level place before ≡ Some w → In (written_places h) place
-    in_written kind level place w last =
-        subst (λ (es : List Event). In (written_places es) place) (k.notes_keep_the_events h)
-        (last_is_written kind level place before w last)
-
     -- the node of a place of a tree
     node_before : (n : Node) (place : ℕ) → Contains (tree heading Patterns before) n → page_of place ≡ n.page
         → node_of heading Patterns before (page_of place) ≡ Some n
@@ -104,7 +94,7 @@ module _ (heading : Heading) where
         (subst (λ (x : Phase). same_phase Clean x ≡ true)
         (k.phase_parts.holding h place 0 value n last.0 node holds last.1)
         (subst (λ (x : Phase). same_phase x (phase_of heading Patterns h place 0) ≡ true) (now_clean n place 0 node none)
-        (same_phases place 0 (in_written n.kind n.level place last.0 last.1) k.proper.some_pe)))
+        (same_phases place 0 (written_at heading k.notes_keep_the_events h n.kind n.level place last.0 last.1) k.proper.some_pe)))
 
     pub same_held : (n : Node) (place : ℕ) → Contains (tree heading Patterns before) n → page_of place ≡ n.page
         → held_at heading Patterns after n place ≡ held_at heading Patterns before n place
@@ -146,7 +136,7 @@ module _ (heading : Heading) where
           (k.phase_parts.holding (Dsb pe dsb ∷ h) place p value n (record { value = w.value; since = item ∷ w.since })
           node_after
           (same_held n place t inside ∙ holds) last_after)
-          (same_phases place p (in_written n.kind n.level place w last) less))
+          (same_phases place p (written_at heading k.notes_keep_the_events h n.kind n.level place w last) less))
 
       -- where the present value is valid, nobody wrote the place since
       live : is_valid n.kind n.level (value_of h place) ≡ true → Unwritten heading k place p w.since

@@ -1,10 +1,16 @@
--- Tests over lists and over PEs.
-use Rattle.bbm_rules.proofs.Common.{◌≡◌, Bool, ◌&&◌, ◌||◌, List, [], ◌∷◌, refl, ap, ◌∙◌, flat_map, list_any, list_all}
-use Rattle.bbm_rules.proofs.Common.{list_any-append}
+-- Tests over lists.
+use Rattle.bbm_rules.proofs.Common.{◌≡◌, Bool, true, ◌&&◌, ◌||◌, List, [], ◌∷◌, refl, sym, ap, ◌∙◌, inl, inr}
+use Rattle.bbm_rules.proofs.Common.{and_from, and_parts, In, flat_map, list_any, list_all, list_any-append}
 
--- ---- tests
+pub every_in : {A : Type 0} (test : A → Bool) (xs : List A) (x : A) → list_all test xs ≡ true → In xs x → test x ≡ true
+every_in test [] x e i = absurd i
+every_in test (y ∷ xs) x e (inl same) = ap test (sym same) ∙ (and_parts (test y) (list_all test xs) e).0
+every_in test (y ∷ xs) x e (inr there) = every_in test xs x (and_parts (test y) (list_all test xs) e).1 there
 
--- ---- lists
+pub every_of : {A : Type 0} (test : A → Bool) (xs : List A) → ((x : A) → In xs x → test x ≡ true) → list_all test xs ≡ true
+every_of test [] each = refl
+every_of test (x ∷ xs) each =
+    and_from (test x) (list_all test xs) (each x (inl refl)) (every_of test xs (λ y i. each y (inr i)))
 
 pub every_alike : {A : Type 0} (f g : A → Bool) (xs : List A) → ((x : A) → f x ≡ g x) → list_all f xs ≡ list_all g xs
 every_alike f g [] same = refl
@@ -16,7 +22,3 @@ pub any_flat : {A B : Type 0} (f : A → List B) (test : B → Bool) (xs : List 
 any_flat f test [] = refl
 any_flat f test (x ∷ xs) =
     list_any-append test (f x) (flat_map f xs) ∙ ap (λ (b : Bool). list_any test (f x) || b) (any_flat f test xs)
-
--- ---- an item that every item passes with
-
--- ---- PEs

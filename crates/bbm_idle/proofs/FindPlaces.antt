@@ -6,7 +6,7 @@ use Rattle.bbm_rules.proofs.Common.{None, length, get_or, take, reverse, refl, a
 use Rattle.bbm_rules.proofs.Common.{Cover, Trust, cover_at, noted, ValidWrite, any, below, some_pe, Noted, Heading}
 use Rattle.bbm_rules.proofs.Common.{Event, reaches, roots_of, written_places}
 use Rattle.bbm_tlbi_scope.specs.declared.entry.Cover.TheVariants.{None as NoCover}
-use Rattle.bbm_idle.specs.Finding.{adds_since}
+use Rattle.bbm_idle.specs.Idle.{adds_since}
 use Rattle.bbm_lemmas.proofs.Tests.{any_same}
 
 -- a TLBI that doesn't cover the place adds nothing

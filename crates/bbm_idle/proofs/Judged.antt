@@ -1,8 +1,8 @@
 -- Histories that are alike judge alike which TLBIs are needed, and which phases an event keeps.
-use Rattle.bbm_idle.proofs.Common.{Phase, Patterns, Alike, SamePatterns, adds, adds_at, is_needed, is_needed_at}
-use Rattle.bbm_idle.proofs.Common.{keeps_phases, takes_of, Known, same_phase}
+use Rattle.bbm_idle.proofs.Common.{Phase, Patterns, Alike, SamePatterns, adds, adds_at, adds_since, is_needed}
+use Rattle.bbm_idle.proofs.Common.{is_needed_at, keeps_phases, takes_of, Known, same_phase}
 use Rattle.bbm_rules.proofs.Common.{◌≡◌, ℕ, ◌<◌, Bool, false, cond, ◌&&◌, ◌||◌, ◌==◌, List, ◌∷◌, Option, Some, None}
-use Rattle.bbm_rules.proofs.Common.{option_and_then, Contains, find, is_none, is_some, map, unwrap_or, refl, sym, ◌∙◌}
+use Rattle.bbm_rules.proofs.Common.{option_and_then, option_map_or, Contains, find, is_none, is_some, map, unwrap_or, refl, sym, ◌∙◌}
 use Rattle.bbm_rules.proofs.Common.{ap, result_ok, every_same, scoped_by_vmid, Cover, PlaceView, cover_of}
 use Rattle.bbm_rules.proofs.Common.{takes_whole_tag, desc_of, every_pe, cleansed, half, seen, cover_at, is_global}
 use Rattle.bbm_rules.proofs.Common.{noted, view_at, ValidWrite, last_valid, any, below, every, one_number, Noted}
@@ -87,8 +87,7 @@ module _ (heading : Heading) (h h' : List Event) (a : Alike heading Patterns Pat
 
   module _ (k : Known heading) (e : Event) (p : ℕ) (less : p < heading.pes) (place : ℕ) where
     abbrev adds_by : List Noted → Option ValidWrite → Bool
-    adds_by ns o = unwrap_or (option_and_then (λ w. Some (adds (cover_at heading Patterns ns e place) (seen heading place p w.since)
-        (half heading place p w.since) (cleansed heading Patterns place p w.since))) o) false
+    adds_by ns o = adds_since heading (cover_at heading Patterns ns e place) p place o
 
     -- where it covers nothing, it adds nothing
     adds_none : (ns : List Noted) (o : Option ValidWrite) → cover_at heading Patterns ns e place ≡ NoCover → adds_by ns o ≡ false
@@ -102,16 +101,15 @@ module _ (heading : Heading) (h h' : List Event) (a : Alike heading Patterns Pat
     same_adds : adds_at heading here e p place ≡ adds_at heading there e p place
     same_adds = by (node_of heading Patterns here (page_of place)) refl
       where
+        in_node : List Noted → Option Node → Bool
+        in_node ns o = option_map_or (λ n. adds_by ns (last_valid n.kind n.level place ns)) o false
+
         at : (ns : List Noted) (n : Node) → node_of heading Patterns ns (page_of place) ≡ Some n
             → adds_at heading ns e p place ≡ adds_by ns (last_valid n.kind n.level place ns)
-        at ns n node = ap (λ (o : Option Node). unwrap_or (option_and_then (λ m. option_and_then (λ w. Some (adds (cover_at heading Patterns ns e place)
-            (seen heading place p w.since) (half heading place p w.since) (cleansed heading Patterns place p w.since)))
-            (last_valid m.kind m.level place ns)) o) false) node
+        at ns n node = ap (in_node ns) node
 
         out : (ns : List Noted) → node_of heading Patterns ns (page_of place) ≡ None → adds_at heading ns e p place ≡ false
-        out ns node = ap (λ (o : Option Node). unwrap_or (option_and_then (λ m. option_and_then (λ w. Some (adds (cover_at heading Patterns ns e place)
-            (seen heading place p w.since) (half heading place p w.since) (cleansed heading Patterns place p w.since)))
-            (last_valid m.kind m.level place ns)) o) false) node
+        out ns node = ap (in_node ns) node
 
         holding : (n : Node) (value : ℕ) → Contains (tree heading Patterns here) n → page_of place ≡ n.page
             → held_at heading Patterns here n place ≡ Some value

@@ -12,6 +12,8 @@ pub mod Since
 pub mod Waits
 pub mod Phases
 pub mod Needed
+pub mod NeededLaw
+pub mod IdleLaw
 pub mod DsbBase
 pub mod Base
 pub mod Thinned

@@ -1,8 +1,8 @@
 -- What it says of a TLBI that it is needed, or isn't.
-use Rattle.bbm_idle.proofs.Common.{Patterns, answered_by, half_after, half_waits, is_tlbi, adds, adds_at}
-use Rattle.bbm_idle.proofs.Common.{answers_needed, is_needed, is_needed_at, takes_of, Known}
+use Rattle.bbm_idle.proofs.Common.{Patterns, answered_by, half_after, half_waits, is_tlbi, adds, adds_at, adds_since}
+use Rattle.bbm_idle.proofs.Common.{answers_needed, is_needed, is_needed_at, takes_of, Kind, Known}
 use Rattle.bbm_rules.proofs.Common.{◌≡◌, ℕ, ◌<◌, Bool, true, false, not, ◌&&◌, ◌||◌, List, [], ◌∷◌, ◌++◌, Option, Some}
-use Rattle.bbm_rules.proofs.Common.{option_and_then, Contains, is_none, unwrap_or, refl, sym, ◌∙◌, ap, subst}
+use Rattle.bbm_rules.proofs.Common.{option_map_or, Contains, is_none, refl, sym, ◌∙◌, ap, subst}
 use Rattle.bbm_rules.proofs.Common.{true≢false, and_from, and_parts, false_from_ne_true, or_left, or_right, pe_finds}
 use Rattle.bbm_rules.proofs.Common.{In, any_finds, any_found, from_contains, none_of, to_contains, answers, same_bool}
 use Rattle.bbm_rules.proofs.Common.{operation, Cover, Half, keeps, cleansed, flushes, half, same_cover, seen, cover_at}
@@ -11,6 +11,7 @@ use Rattle.bbm_rules.proofs.Common.{Event, Dsb, Tlbi, Issued, completes, reaches
 use Rattle.bbm_rules.proofs.Common.{completes_for, itself, Node, node_of, written_places}
 use Rattle.std.proofs.lemmas.List.{append_assoc}
 use Rattle.bbm_rules.specs.Broken.{broken}
+use Rattle.bbm_rules.specs.BrokenLaws.{NotesKeepEvents}
 use Rattle.bbm_rules.specs.Notes.{event_of}
 use Rattle.bbm_rules.specs.Tree.{tree}
 use Rattle.bbm_histories.specs.TreeChanges.{HeldBy, View}
@@ -40,29 +41,33 @@ module _ (heading : Heading) where
       ≡ adds (cover_at heading Patterns h e place) (seen heading place p w.since) (half heading place p w.since)
       (cleansed heading Patterns place p w.since)
   adds_there h e p place n w node last =
-      ap (λ (o : Option Node). unwrap_or (option_and_then (λ m. option_and_then by (last_valid m.kind m.level place h)) o) false) node
-      ∙ ap (λ (o : Option ValidWrite). unwrap_or (option_and_then by o) false) last
-    where
-      by : ValidWrite → Option Bool
-      by v = Some (adds (cover_at heading Patterns h e place) (seen heading place p v.since) (half heading place p v.since)
-          (cleansed heading Patterns place p v.since))
+      ap (λ (o : Option Node). option_map_or (λ m. adds_since heading (cover_at heading Patterns h e place) p place
+      (last_valid m.kind m.level place h)) o false) node
+      ∙ ap (adds_since heading (cover_at heading Patterns h e place) p place) last
 
   needs_at : (h : List Event) (e : Event) (p : ℕ) → p < heading.pes → is_needed_at heading h e p ≡ true → is_needed heading h e ≡ true
   needs_at h e p less needed = pe_finds heading.pes (is_needed_at heading h e) p less needed
 
+  -- a place that had a valid write was written
+  pub written_at : NotesKeepEvents heading Patterns → (h : List Event) (kind : Kind) (level place : ℕ) (w : ValidWrite)
+      → last_valid kind level place (noted heading Patterns h) ≡ Some w → In (written_places h) place
+  written_at notes h kind level place w last =
+      subst (λ (es : List Event). In (written_places es) place) (notes h)
+      (last_is_written kind level place (noted heading Patterns h) w last)
+
   -- a TLBI that adds something at a place of a tree is needed
-  pub adds_needed : Known heading → (h : List Event) (e : Event) (p place : ℕ) (n : Node) (w : ValidWrite) → p < heading.pes
-      → reaches heading e p ≡ true → node_of heading Patterns (noted heading Patterns h) (page_of place) ≡ Some n
+  pub adds_needed : NotesKeepEvents heading Patterns → (h : List Event) (e : Event) (p place : ℕ) (n : Node) (w : ValidWrite)
+      → p < heading.pes → reaches heading e p ≡ true
+      → node_of heading Patterns (noted heading Patterns h) (page_of place) ≡ Some n
       → last_valid n.kind n.level place (noted heading Patterns h) ≡ Some w
       → adds (cover_at heading Patterns (noted heading Patterns h) e place) (seen heading place p w.since) (half heading place p w.since)
       (cleansed heading Patterns place p w.since) ≡ true → is_needed heading h e ≡ true
-  adds_needed k h e p place n w less reached node last adding =
+  adds_needed notes h e p place n w less reached node last adding =
       needs_at h e p less (and_from (reaches heading e p)
       (any (adds_at heading (noted heading Patterns h) e p) (written_places h) || any (takes_of heading h e p) (roots_of h)) reached
       (or_left (any (adds_at heading (noted heading Patterns h) e p) (written_places h)) (any (takes_of heading h e p) (roots_of h))
       (any_finds (adds_at heading (noted heading Patterns h) e p) (written_places h) place
-      (subst (λ (es : List Event). In (written_places es) place) (k.notes_keep_the_events h)
-      (last_is_written n.kind n.level place (noted heading Patterns h) w last))
+      (written_at notes h n.kind n.level place w last)
       (adds_there (noted heading Patterns h) e p place n w node last ∙ adding))))
 
   -- and so is one that takes a tag which a root holds
@@ -146,7 +151,7 @@ module _ (heading : Heading) (k : Known heading) (h : List Event) (kept : keeps 
       let a : AtIssue q t = at_issue q t waiting outer.1 in (
         a.before,
         a.waiting,
-        adds_needed heading k a.before t.tlbi.event p place n (record { value = value; since = t.before }) less inner.0
+        adds_needed heading k.notes_keep_the_events a.before t.tlbi.event p place n (record { value = value; since = t.before }) less inner.0
             a.node a.last (adding (cover_at heading Patterns (noted heading Patterns a.before) t.tlbi.event place) (seen heading place p t.before)
             (half heading place p t.before) (cleansed heading Patterns place p t.before)
             (sym a.covered ∙ same_by (t.tlbi.covers place) Half inner.1) outer.1 (unhalf_before unhalf q t waiting)),

@@ -1,6 +1,6 @@
 -- What is kept beside a history, and asked of it, while the idle events of a log are found. No public contract cites
 -- these words. Source: project's own choice.
-use Rattle.std.specs.Prelude.{◌≡◌, ℕ, Bool, true, false, not, ◌&&◌, ◌||◌, ◌==◌, List, Option, Some, None, unwrap_or}
+use Rattle.std.specs.Prelude.{◌≡◌, ℕ, Bool, true, false, not, ◌&&◌, ◌||◌, ◌==◌, List, Option, Some, None}
 use Rattle.std.specs.Prelude.{if◌then◌else◌}
 use Rattle.bbm_lemmas.specs.EveryPe.{every_pe}
 use Rattle.bbm_regimes.specs.PeMask.{pe_in}
@@ -10,23 +10,20 @@ use Rattle.bbm_tlbi_scope.specs.ScopeTags.{takes_whole_tag}
 use Rattle.bbm_rules.specs.declared.phase.Phase.{Phase}
 use Rattle.bbm_rules.specs.declared.phase.Phase.TheVariants.{Clean, Live}
 use Rattle.bbm_rules.specs.Claims.{Patterns}
-use Rattle.bbm_rules.specs.Cleansing.{cleansed, half, seen}
-use Rattle.bbm_rules.specs.Held.{ValidWrite, cleansed_everywhere, last_valid}
-use Rattle.bbm_rules.specs.Lists.{◌>>=◌, any}
+use Rattle.bbm_rules.specs.Held.{cleansed_everywhere, last_valid}
+use Rattle.bbm_rules.specs.Lists.{any}
 use Rattle.bbm_rules.specs.Notes.{Noted}
 use Rattle.bbm_rules.specs.Phases.{broken_phase}
-use Rattle.bbm_rules.specs.Places.{page_of}
 use Rattle.bbm_rules.specs.Prelude.{Heading, Event, Scope, Tag, Dsb, Tlbi}
 use Rattle.bbm_rules.specs.Reach.{Issued, reaches, unanswered}
 use Rattle.bbm_rules.specs.Roots.{Declared, roots_of}
 use Rattle.bbm_rules.specs.Tags.{Reading, ever_read, itself, takes_tag}
-use Rattle.bbm_rules.specs.Tree.{node_of}
 use Rattle.bbm_rules.specs.Values.{written_places}
 use Rattle.bbm_oracle_tags.specs.Watches.{is_cast}
 use Rattle.bbm_oracle_patterns.specs.PlacePhases.{furthest}
 use Rattle.bbm_oracle_patterns.specs.declared.trace.Trace.{Trace}
 use Rattle.bbm_oracle_trees.specs.ByPatterns.{StandsByPatterns}
-use Rattle.bbm_idle.specs.Idle.{adds, is_needed, takes_of}
+use Rattle.bbm_idle.specs.Idle.{adds, adds_since, is_needed, takes_of}
 use Rattle.bbm_idle.specs.SamePhase.{same_phase}
 use Rattle.bbm_oracle_patterns.specs.declared.search.TreePlace.{TreePlace}
 use Rattle.bbm_idle.specs.declared.find_phases.Phases.{Phases}
@@ -37,26 +34,13 @@ use Rattle.bbm_idle.specs.declared.finding.Search.{Search}
 
 -- ---- places
 
-module _ (heading : Heading) where
-  -- whether a TLBI that covers the place so far adds something at p, over its last valid write
-  abbrev pub adds_since : Cover → ℕ → ℕ → Option ValidWrite → Bool
-  adds_since cover p place found = unwrap_or (found >>= (λ w. Some (adds cover (seen heading place p w.since)
-      (half heading place p w.since) (cleansed heading Patterns place p w.since)))) false
-
-  -- the same of a place of a tree
-  abbrev pub adds_with : List Noted → Cover → ℕ → ℕ → Bool
-  adds_with h cover p place = unwrap_or (do
-    n ← node_of heading Patterns h (page_of place)
-    w ← last_valid n.kind n.level place h
-    Some (adds cover (seen heading place p w.since) (half heading place p w.since)
-        (cleansed heading Patterns place p w.since))) false
-
--- the same by the sets of PEs at which a place is seen, half and cleansed
+-- whether a TLBI that covers a place so far adds something at p, by the sets of PEs at which the place is seen, half
+-- and cleansed
 abbrev pub trace_adds : Cover → ℕ → Option Trace → Bool
 trace_adds cover p None = false
 trace_adds cover p (Some t) = adds cover (pe_in t.seen p) (pe_in t.half p) (pe_in t.cleansed p)
 
--- the same of a seat, a place with the kind and the level that it has in its tree
+-- whether it adds something at a seat, a place with the kind and the level that it has in its tree
 abbrev pub place_adds : Heading → List Noted → (ℕ → Cover) → ℕ → TreePlace → Bool
 place_adds heading h cover p s = adds_since heading (cover s.place) p s.place (last_valid s.kind s.level s.place h)
 

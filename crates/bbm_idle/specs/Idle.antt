@@ -1,15 +1,15 @@
 -- Idle events: those that a log can do without, and still keep the rules. A history is newest first, so whether an
 -- event is idle goes by the events before it alone. Source: project's own choice.
-use Rattle.std.specs.Prelude.{◌≡◌, ℕ, Bool, true, false, not, ◌&&◌, ◌||◌, ◌==◌, List, [], ◌∷◌, Some, unwrap_or}
-use Rattle.std.specs.Prelude.{if◌then◌else◌}
+use Rattle.std.specs.Option.{option_map_or}
+use Rattle.std.specs.Prelude.{◌≡◌, ℕ, Bool, true, false, not, ◌&&◌, ◌||◌, ◌==◌, List, [], ◌∷◌, Option, if◌then◌else◌}
 use Rattle.bbm_lemmas.specs.EveryPe.{every_pe}
 use Rattle.bbm_tlbi_scope.specs.declared.entry.Cover.{Cover}
 use Rattle.bbm_tlbi_scope.specs.declared.entry.Cover.TheVariants.{None as NoCover, Half, Second, Full}
 use Rattle.bbm_rules.specs.Claims.{Patterns}
 use Rattle.bbm_rules.specs.Cleansing.{cleansed, half, seen}
 use Rattle.bbm_rules.specs.Covers.{cover_at, noted}
-use Rattle.bbm_rules.specs.Held.{last_valid}
-use Rattle.bbm_rules.specs.Lists.{◌>>=◌, any, every, some_pe}
+use Rattle.bbm_rules.specs.Held.{ValidWrite, last_valid}
+use Rattle.bbm_rules.specs.Lists.{any, every, some_pe}
 use Rattle.bbm_rules.specs.Notes.{Noted}
 use Rattle.bbm_rules.specs.Phases.{phase_of}
 use Rattle.bbm_rules.specs.Places.{page_of}
@@ -38,13 +38,19 @@ adds Second is_seen is_half is_cleansed = is_half && not is_cleansed
 adds NoCover is_seen is_half is_cleansed = false
 
 module _ (heading : Heading) where
-  -- whether the TLBI adds something at the place of a tree, at p
+  -- whether a TLBI that covers the place so far adds something at p, over its last valid write
+  abbrev pub adds_since : Cover → ℕ → ℕ → Option ValidWrite → Bool
+  adds_since cover p place found = option_map_or (λ w. adds cover (seen heading place p w.since)
+      (half heading place p w.since) (cleansed heading Patterns place p w.since)) found false
+
+  -- the same of a place of a tree
+  abbrev pub adds_with : List Noted → Cover → ℕ → ℕ → Bool
+  adds_with h cover p place = option_map_or (λ n. adds_since cover p place (last_valid n.kind n.level place h))
+      (node_of heading Patterns h (page_of place)) false
+
+  -- the same of a TLBI
   abbrev pub adds_at : List Noted → Event → ℕ → ℕ → Bool
-  adds_at h e p place = unwrap_or (do
-    n ← node_of heading Patterns h (page_of place)
-    w ← last_valid n.kind n.level place h
-    Some (adds (cover_at heading Patterns h e place) (seen heading place p w.since) (half heading place p w.since)
-        (cleansed heading Patterns place p w.since))) false
+  adds_at h e p place = adds_with h (cover_at heading Patterns h e place) p place
 
   -- whether the root holds at p a tag that the TLBI takes whole
   abbrev pub takes_of : List Event → Event → ℕ → Declared → Bool

@@ -1,9 +1,11 @@
--- What the crates below prove, as one record, so that each proof here takes it as one hypothesis.
+-- What the crates below prove, as two records, so that each proof here takes it as one hypothesis. No public contract
+-- cites these words.
 use Rattle.bbm_rules.specs.Prelude.{Heading}
 use Rattle.bbm_rules.specs.BrokenLaws.{NotesKeepEvents, NotesOfOlder}
 use Rattle.bbm_rules.specs.Claims.{Patterns}
-use Rattle.bbm_rules.specs.EventLaws.{AnsweredBySentence, ByChanges}
+use Rattle.bbm_rules.specs.EventLaws.{AnsweredBySentence, ByChanges, RootsBySentence, TestsAreExact}
 use Rattle.bbm_rules.specs.HeldLaws.{CleansedBySentence, HalfBySentence, LastValidBySentence, SeenBySentence}
+use Rattle.bbm_rules.specs.TagLaws.{TagHeldBySentence}
 use Rattle.bbm_rules.specs.TreeLaws.{TreeBySentence}
 use Rattle.bbm_histories.specs.ContentLaws.{FrozenView, HeldAfter, HeldChanges, NothingGoesBack, PhaseByParts}
 use Rattle.bbm_histories.specs.PatternLaws.{PatternsAfter, PatternsStay}
@@ -39,3 +41,16 @@ pub record Known (heading : Heading) : Type 0 where
   pub takes_alike : TakenAlike heading
   pub tree : TreeBySentence heading Patterns
   pub trees_alike : TreesAlike heading Patterns Patterns
+
+-- the sentences of the terms by which needed TLBIs and idle events are told
+pub record Terms (heading : Heading) : Type 0 where
+  pub answered : AnsweredBySentence
+  pub cleansed : CleansedBySentence heading Patterns
+  pub equality_tests : TestsAreExact
+  pub half : HalfBySentence heading
+  pub last_valid : LastValidBySentence
+  pub notes_keep_the_events : NotesKeepEvents heading Patterns
+  pub phase_parts : PhaseByParts heading Patterns
+  pub roots : RootsBySentence
+  pub seen : SeenBySentence heading
+  pub tag_held : TagHeldBySentence heading Patterns

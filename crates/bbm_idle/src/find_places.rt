@@ -14,6 +14,7 @@ ghost use Rattle.bbm_rules.specs.Values as values;
 ghost use Rattle.bbm_oracle_patterns.specs.Kept.{cover_in, notes_of};
 ghost use Rattle.bbm_oracle_trees.specs.Past.{notes};
 ghost use Rattle.bbm_idle.specs.Finding as spec;
+ghost use Rattle.bbm_idle.specs.Idle as idle;
 
 use bbm_events::{Event, Header};
 use bbm_oracle_patterns::{Kept, Trace, TreePlace, last_valid, trace_of};
@@ -60,7 +61,7 @@ pub fn add_written(places: &mut Vec<Place>, event: &Event) -> Result<(), NoMemor
 /// is oldest first.
 fn trace_in(header: &Header, log: &[Kept], kind: Kind, level: u8, place: Place) -> Option<Trace>
     ensures { (p : ℕ) (cover : Grade) → spec.trace_adds cover p result
-        ≡ spec.adds_since header.now cover p place (holding.last_valid kind level place (notes_of (reverse log.now))) }
+        ≡ idle.adds_since header.now cover p place (holding.last_valid kind level place (notes_of (reverse log.now))) }
 {
     match last_valid(log, kind, level, place) {
         Some(write) => Some(trace_of(header, &log[write.index + 1..], place)),
@@ -72,7 +73,7 @@ fn trace_in(header: &Header, log: &[Kept], kind: Kind, level: u8, place: Place) 
 fn seat_at(history: &History<AllPatterns>, place: Place) -> Option<TreePlace>
     requires { history.now.trust ≡ Patterns }
     ensures { (p : ℕ) (cover : ℕ → Grade) → spec.seat_adds history.now.heading (notes history.now) cover p result
-        ≡ spec.adds_with history.now.heading (notes history.now) (cover place) p place }
+        ≡ idle.adds_with history.now.heading (notes history.now) (cover place) p place }
 {
     match history.node_of(place.page()) {
         Some(node) => Some(TreePlace {
@@ -106,7 +107,7 @@ pub fn seats_of(
     requires { history.now.trust ≡ Patterns }
     ensures { IfOk result (λ seats. (p : ℕ) (cover : ℕ → Grade)
         → any (spec.place_adds history.now.heading (notes history.now) cover p) seats.items
-        ≡ any (λ place. spec.adds_with history.now.heading (notes history.now) (cover place) p place) places.now) }
+        ≡ any (λ place. idle.adds_with history.now.heading (notes history.now) (cover place) p place) places.now) }
 {
     let mut seats = Vec::new(alloc);
     for place in places {
@@ -131,7 +132,7 @@ fn added(cover: Cover, trace: &Trace) -> PeMask
 /// the place nothing is searched.
 #[tactic(auto, using(crate::proofs::FindPlaces::adds_nothing))]
 fn added_at(header: &Header, log: &[Kept], cover: Cover, seat: &TreePlace) -> PeMask
-    ensures { (p : ℕ) → pe_in result p ≡ spec.adds_since header.now cover p seat.now.place
+    ensures { (p : ℕ) → pe_in result p ≡ idle.adds_since header.now cover p seat.now.place
         (holding.last_valid seat.now.kind seat.now.level seat.now.place (notes_of (reverse log.now))) }
 {
     match cover {

@@ -2,7 +2,7 @@
 
 ghost use Rattle.std.specs.Prelude.{◌≡◌, true};
 ghost use Rattle.bbm_events.specs.Heading.{Heading, heading_ok};
-ghost use Rattle.bbm_idle.specs.KnownOfIdle.{Known};
+ghost use Rattle.bbm_idle.specs.KnownOfIdle.{Known, Terms};
 
 use bbm_alike::{
     law_alike_joins, law_alike_judges, law_alike_step, law_covers_alike, law_same_tags,
@@ -13,8 +13,8 @@ use bbm_histories::{
     law_pattern_steps, law_patterns_stay, law_phase_parts, law_proper,
 };
 use bbm_rules::{
-    law_answered, law_changes, law_cleansed, law_half, law_last_valid, law_notes,
-    law_notes_keep_the_events, law_seen, law_tree,
+    law_answered, law_changes, law_cleansed, law_equality_tests, law_half, law_last_valid,
+    law_notes, law_notes_keep_the_events, law_root, law_seen, law_tag_held, law_tree,
 };
 
 /// The laws that the laws here stand on.
@@ -47,4 +47,20 @@ pub(crate) fn known()
     law_takes_alike();
     law_tree();
     law_trees_alike();
+}
+
+/// What the laws below say of the terms by which needed TLBIs and idle events are told.
+pub(crate) fn terms()
+    ensures { (heading : Heading) → Terms heading }
+{
+    law_answered();
+    law_cleansed();
+    law_equality_tests();
+    law_half();
+    law_last_valid();
+    law_notes_keep_the_events();
+    law_phase_parts();
+    law_root();
+    law_seen();
+    law_tag_held();
 }

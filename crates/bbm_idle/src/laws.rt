@@ -1,4 +1,4 @@
-//! The law of the events that a log can do without.
+//! The laws of the events that a log can do without.
 
 ghost use Rattle.std.specs.Prelude.{◌≡◌, ◌<◌, ℕ, Bool, false, true, List, ◌∷◌, ◌++◌};
 ghost use Rattle.bbm_events.specs.Heading.{Heading, heading_ok};
@@ -8,8 +8,26 @@ ghost use Rattle.bbm_rules.specs.Claims.Trust.{Patterns};
 ghost use Rattle.bbm_rules.specs.Phases.{phase_of};
 ghost use Rattle.bbm_alike.specs.Alike.{Alike};
 ghost use Rattle.bbm_idle.specs.Idle.{ChoosesIdle, is_idle, without, without_idle};
+ghost use Rattle.bbm_idle.specs.IdleLaws.{IdleBySentence, NeededBySentence};
 
-use crate::known::known;
+use crate::known::{known, terms};
+
+/// A TLBI is needed exactly where at a PE that it reaches it takes a place of a tree further, or takes a whole tag that
+/// a declared root holds there. The law is `NeededBySentence`.
+pub fn law_needed()
+    ensures { (heading : Heading) → NeededBySentence heading }
+{
+    terms();
+}
+
+/// An event is idle exactly where it is a DMB; an ISB of a PE that wrote no root register since its last one; a TLBI
+/// that isn't needed; or a DSB that leaves every phase of every place, and answers no TLBI that was needed. The law is
+/// `IdleBySentence`.
+pub fn law_idle_event()
+    ensures { (heading : Heading) → IdleBySentence heading }
+{
+    terms();
+}
 
 /// A log that keeps the rules keeps them without its idle events, all of them or any. It is then alike to what it was:
 /// each place has the same phase at each PE, and each further event is judged alike. Without all of them no event that

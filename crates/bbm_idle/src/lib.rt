@@ -12,4 +12,4 @@ mod known;
 pub mod laws;
 
 pub use finding::find;
-pub use laws::law_idle;
+pub use laws::{law_idle, law_idle_event, law_needed};

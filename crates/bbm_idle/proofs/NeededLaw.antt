@@ -1,0 +1,132 @@
+-- A TLBI is needed exactly where the sentence says so.
+use Rattle.bbm_idle.proofs.Common.{Patterns, adds, adds_at, adds_since, is_needed, is_needed_at, takes_of}
+use Rattle.bbm_rules.proofs.Common.{◌≡◌, ℕ, ◌<◌, true, false, not, ◌&&◌, ◌||◌, List, Option, Some, None}
+use Rattle.bbm_rules.proofs.Common.{option_map_or, ◌⊎◌, inl, inr, refl, sym, ◌∙◌, true≢false, and_from, and_parts}
+use Rattle.bbm_rules.proofs.Common.{not-true, or_cases, In, any_finds, any_found, from_contains, to_contains, any}
+use Rattle.bbm_rules.proofs.Common.{Cover, Full, Half, Second, cover_at, noted, cleansed, half, seen, ValidWrite}
+use Rattle.bbm_rules.proofs.Common.{last_valid, Noted, page_of, Heading, Event, Tag, reaches, Declared, roots_of}
+use Rattle.bbm_rules.proofs.Common.{distinct, ever_read, holds_at, takes_tag, Node, node_of, written_places}
+use Rattle.bbm_tlbi_scope.specs.declared.entry.Cover.TheVariants.{None as NoCover}
+use Rattle.bbm_alike.proofs.HeldTags.{held_is_listed}
+use Rattle.bbm_lemmas.proofs.Bools.{not_from}
+use Rattle.bbm_lemmas.proofs.Words.{pe_found}
+use Rattle.bbm_idle.specs.IdleSentences.{Needed, NeededForPlace, NeededForTag, TakesFurther}
+use Rattle.bbm_idle.specs.KnownOfIdle.{Terms}
+use Rattle.bbm_idle.proofs.Needed.{adds_needed, takes_needed}
+
+module _ (heading : Heading) (t : Terms heading) where
+  -- ---- a place
+
+  further : (c : Cover) (place p : ℕ) (since : List Noted) → adds c (seen heading place p since) (half heading place p since)
+      (cleansed heading Patterns place p since) ≡ true → TakesFurther heading c place p since
+  further Full place p since e =
+      let parts = and_parts (seen heading place p since) (not (cleansed heading Patterns place p since)) e in (
+        t.seen.sound place p since parts.0,
+        λ c. true≢false (sym (t.cleansed.complete place p since c) ∙ not-true (cleansed heading Patterns place p since) parts.1),
+      )
+  further Half place p since e =
+      let parts = and_parts (seen heading place p since) (not (half heading place p since)) e in (
+        t.seen.sound place p since parts.0,
+        λ c. true≢false (sym (t.half.complete place p since c) ∙ not-true (half heading place p since) parts.1),
+      )
+  further Second place p since e =
+      let parts = and_parts (half heading place p since) (not (cleansed heading Patterns place p since)) e in (
+        t.half.sound place p since parts.0,
+        λ c. true≢false (sym (t.cleansed.complete place p since c) ∙ not-true (cleansed heading Patterns place p since) parts.1),
+      )
+  further NoCover place p since e = true≢false (sym e)
+
+  adding : (c : Cover) (place p : ℕ) (since : List Noted) → TakesFurther heading c place p since
+      → adds c (seen heading place p since) (half heading place p since) (cleansed heading Patterns place p since) ≡ true
+  adding Full place p since f =
+      and_from (seen heading place p since) (not (cleansed heading Patterns place p since)) (t.seen.complete place p since f.0)
+      (not_from (cleansed heading Patterns place p since) (λ e. f.1 (t.cleansed.sound place p since e)))
+  adding Half place p since f =
+      and_from (seen heading place p since) (not (half heading place p since)) (t.seen.complete place p since f.0)
+      (not_from (half heading place p since) (λ e. f.1 (t.half.sound place p since e)))
+  adding Second place p since f =
+      and_from (half heading place p since) (not (cleansed heading Patterns place p since)) (t.half.complete place p since f.0)
+      (not_from (cleansed heading Patterns place p since) (λ e. f.1 (t.cleansed.sound place p since e)))
+  adding NoCover place p since f = absurd f
+
+  for_place : (h : List Noted) (e : Event) (p place : ℕ) → adds_at heading h e p place ≡ true → NeededForPlace heading h e p place
+  for_place h e p place adds_some = by (node_of heading Patterns h (page_of place)) refl adds_some
+    where
+      over : (n : Node) → node_of heading Patterns h (page_of place) ≡ Some n → (o : Option ValidWrite)
+          → last_valid n.kind n.level place h ≡ o → adds_since heading (cover_at heading Patterns h e place) p place o ≡ true
+          → NeededForPlace heading h e p place
+      over n node None last a = absurd (true≢false (sym a))
+      over n node (Some w) last a = record {
+        node = n;
+        in_tree = node;
+        write = w;
+        last_write = t.last_valid.sound n.kind n.level place h w last;
+        further = further (cover_at heading Patterns h e place) place p w.since a;
+      }
+
+      by : (o : Option Node) → node_of heading Patterns h (page_of place) ≡ o
+          → option_map_or (λ n. adds_since heading (cover_at heading Patterns h e place) p place (last_valid n.kind n.level place h)) o false ≡ true
+          → NeededForPlace heading h e p place
+      by None node a = absurd (true≢false (sym a))
+      by (Some n) node a = over n node (last_valid n.kind n.level place h) refl a
+
+  -- ---- a tag
+
+  for_tag : (h : List Event) (e : Event) (p : ℕ) (r : Declared) → In (roots_of h) r → takes_of heading h e p r ≡ true
+      → (tag : Tag) × NeededForTag heading h e p tag
+  for_tag h e p r declared taking =
+      let f = any_found (λ (tag : Tag). takes_tag heading e h tag && holds_at heading Patterns p r.page tag h)
+      (distinct (ever_read heading r.page h)) taking in
+      let parts = and_parts (takes_tag heading e h f.0) (holds_at heading Patterns p r.page f.0 h) f.2 in (
+        f.0,
+        record {
+          root = r;
+          declared = t.roots.sound h r (to_contains (roots_of h) r declared);
+          held = t.tag_held.sound p r.page f.0 h parts.1;
+          whole = parts.0;
+        },
+      )
+
+  taking : (h : List Event) (e : Event) (p : ℕ) (tag : Tag) → p < heading.pes → (n : NeededForTag heading h e p tag)
+      → takes_of heading h e p n.root ≡ true
+  taking h e p tag less n =
+      let held = t.tag_held.complete p n.root.page tag h n.held in
+      any_finds (λ (g : Tag). takes_tag heading e h g && holds_at heading Patterns p n.root.page g h)
+      (distinct (ever_read heading n.root.page h)) tag
+      (held_is_listed heading Patterns p n.root.page tag t.equality_tests.tags h less held)
+      (and_from (takes_tag heading e h tag) (holds_at heading Patterns p n.root.page tag h) n.whole held)
+
+  -- ---- a TLBI
+
+  pub needed_sound : (h : List Event) (e : Event) → is_needed heading h e ≡ true → Needed heading h e
+  needed_sound h e needed =
+      let at = pe_found heading.pes (is_needed_at heading h e) needed in
+      let parts = and_parts (reaches heading e at.0)
+      (any (adds_at heading (noted heading Patterns h) e at.0) (written_places h) || any (takes_of heading h e at.0) (roots_of h)) at.2 in
+      record {
+        p = at.0;
+        is_pe = at.1;
+        reached = parts.0;
+        for_one = elim (or_cases (any (adds_at heading (noted heading Patterns h) e at.0) (written_places h))
+            (any (takes_of heading h e at.0) (roots_of h)) parts.1) [
+              | inl place ↦
+                  let f = any_found (adds_at heading (noted heading Patterns h) e at.0) (written_places h) place in
+                  inl (f.0, for_place (noted heading Patterns h) e at.0 f.0 f.2)
+              | inr tag ↦ let f = any_found (takes_of heading h e at.0) (roots_of h) tag in inr (for_tag h e at.0 f.0 f.1 f.2)
+            ];
+      }
+
+  pub needed_complete : (h : List Event) (e : Event) → Needed heading h e → is_needed heading h e ≡ true
+  needed_complete h e n = by n.for_one
+    where
+      by : ((place : ℕ) × NeededForPlace heading (noted heading Patterns h) e n.p place) ⊎ ((tag : Tag) × NeededForTag heading h e n.p tag)
+          → is_needed heading h e ≡ true
+      by (inl there) =
+          let f : NeededForPlace heading (noted heading Patterns h) e n.p there.0 = there.1 in
+          adds_needed heading t.notes_keep_the_events h e n.p there.0 f.node f.write n.is_pe n.reached f.in_tree
+          (t.last_valid.complete f.node.kind f.node.level there.0 (noted heading Patterns h) f.write f.last_write)
+          (adding (cover_at heading Patterns (noted heading Patterns h) e there.0) there.0 n.p f.write.since f.further)
+      by (inr there) =
+          let f : NeededForTag heading h e n.p there.0 = there.1 in
+          takes_needed heading h e n.p f.root n.is_pe n.reached
+          (from_contains (roots_of h) f.root (t.roots.complete h f.root f.declared)) (taking h e n.p there.0 n.is_pe f)
