@@ -92,13 +92,13 @@ module _ (heading : Heading) (h : List Event) (q : ℕ) (dsb : Barrier)
 
   module _ (a p : ℕ) (w : ValidWrite) (below : p < heading.pes) (k : IsCleansed heading after a p w)
       (not_yet : (v : ValidWrite) → IsCleansed heading before a p v → ⊥) where
-    the_write : Was newest (last_valid k.node.kind k.node.level a before) w
+    pub the_write : Was newest (last_valid k.node.kind k.node.level a before) w
     the_write = was newest (last_valid k.node.kind k.node.level a before) w k.is_last
 
     pub had_write : (x : ValidWrite) × (last_valid k.node.kind k.node.level a before ≡ Some x)
     had_write = (the_write.before, the_write.is)
 
-    unclean : IsUncleansed heading a p the_write.before.since
+    pub unclean : IsUncleansed heading a p the_write.before.since
     unclean = by (cleansed heading Patterns a p the_write.before.since) refl
       where
         by : (b : Bool) → cleansed heading Patterns a p the_write.before.since ≡ b → b ≡ false

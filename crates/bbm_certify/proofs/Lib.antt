@@ -23,3 +23,6 @@ pub mod DueAdds
 pub mod Knowing
 pub mod Finished
 pub mod Whole
+pub mod ClaimNumbers
+pub mod FewClaims
+pub mod ClaimsFit

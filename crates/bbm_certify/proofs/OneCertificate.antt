@@ -7,7 +7,7 @@ use Rattle.bbm_rules.proofs.Common.{Heading, Event, from_contains, to_contains, 
 
 -- ---- the order is one
 
-less_itself : (ns : List ℕ) → less ns ns ≡ false
+pub less_itself : (ns : List ℕ) → less ns ns ≡ false
 less_itself [] = refl
 less_itself (n ∷ ns) =
     or_from (nat_lt n n) (n == n && less ns ns) (le-ltb n n (omega arith)) (and_right (n == n) (less ns ns) (less_itself ns))
@@ -45,11 +45,11 @@ less_through (m ∷ ms) (n ∷ ns) (o ∷ os) a b =
 
 -- ---- two lists in this order with the same claims
 
-rest : (c : Claim) (cs : List Claim) → Ascending (c ∷ cs) → Ascending cs
+pub rest : (c : Claim) (cs : List Claim) → Ascending (c ∷ cs) → Ascending cs
 rest c [] a = tt
 rest c (d ∷ cs) a = a.1
 
-above : (c : Claim) (cs : List Claim) (x : Claim) → Ascending (c ∷ cs) → In cs x → less (claim_key c) (claim_key x) ≡ true
+pub above : (c : Claim) (cs : List Claim) (x : Claim) → Ascending (c ∷ cs) → In cs x → less (claim_key c) (claim_key x) ≡ true
 above c [] x a i = absurd i
 above c (d ∷ cs) x a (inl same) = ap (λ (y : Claim). less (claim_key c) (claim_key y)) (sym same) ∙ a.0
 above c (d ∷ cs) x a (inr i) = less_through (claim_key c) (claim_key d) (claim_key x) a.0 (above d cs x a.1 i)

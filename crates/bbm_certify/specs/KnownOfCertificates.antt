@@ -3,8 +3,9 @@
 use Rattle.bbm_rules.specs.Prelude.{Heading}
 use Rattle.bbm_rules.specs.Claims.{Trust}
 use Rattle.bbm_rules.specs.Claims.Trust.{Patterns}
+use Rattle.bbm_rules.specs.BrokenLaws.{NotesKeepEvents}
 use Rattle.bbm_rules.specs.EventLaws.{AnsweredBySentence, TestsAreExact}
-use Rattle.bbm_rules.specs.HeldLaws.{CleansedBySentence}
+use Rattle.bbm_rules.specs.HeldLaws.{CleansedBySentence, LastValidBySentence}
 use Rattle.bbm_rules.specs.TagLaws.{TagHeldBySentence}
 use Rattle.bbm_rules.specs.TreeLaws.{TreeBySentence}
 use Rattle.bbm_histories.specs.ContentLaws.{FreshStays}
@@ -23,7 +24,9 @@ pub record Known (heading : Heading) : Type 0 where
   pub cleansed : (trust : Trust) → CleansedBySentence heading trust
   pub covers_alike : (other : Trust) → CoversAlike heading Patterns other
   pub equality_tests : TestsAreExact
+  pub events_noted : NotesKeepEvents heading Patterns
   pub fresh_content : FreshStays heading Patterns
+  pub last_valid : LastValidBySentence
   pub one_node : SingleNode heading Patterns
   pub one_position : OnePosition heading Patterns
   pub pattern_steps : PatternsAfter heading

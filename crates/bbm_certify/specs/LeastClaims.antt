@@ -1,7 +1,7 @@
 -- The claims of a certificate: for each event of a log those of the places that it cleanses and of the tags that it
 -- takes away. A history is newest first; the claims stand in the order of a log. Source: project's own choice.
-use Rattle.std.specs.Prelude.{◌≡◌, ℕ, ◌<◌, Bool, true, false, ◌&&◌, ◌||◌, ◌==◌, nat_lt, List, [], ◌∷◌, ◌++◌, length}
-use Rattle.std.specs.Prelude.{suc, Some}
+use Rattle.std.specs.Prelude.{◌≡◌, ℕ, ◌<◌, Bool, true, false, List, [], ◌∷◌, ◌++◌, length}
+use Rattle.std.specs.Prelude.{suc, Some, None}
 use Rattle.std.specs.Prelude.{Contains}
 use Rattle.bbm_events.specs.declared.claim.Claim.{Claim}
 use Rattle.bbm_events.specs.declared.claim.Claim.TheVariants.{Place, Two, Taken}
@@ -9,6 +9,8 @@ use Rattle.bbm_rules.specs.Claims.Trust.{Patterns}
 use Rattle.bbm_rules.specs.Cleansing.{cleansed}
 use Rattle.bbm_rules.specs.Covers.{noted}
 use Rattle.bbm_rules.specs.Held.{ValidWrite, last_valid}
+use Rattle.bbm_rules.specs.Limits.{limit_of}
+use Rattle.bbm_rules.specs.Lists.{by_number}
 use Rattle.bbm_rules.specs.Notes.{Noted}
 use Rattle.bbm_rules.specs.PatternSentences.{OneStep, TwoSteps}
 use Rattle.bbm_rules.specs.Places.{page_of}
@@ -19,10 +21,6 @@ use Rattle.bbm_rules.specs.Tags.{holds_at}
 use Rattle.bbm_rules.specs.Tree.{Node, tree}
 
 -- ---- orders
-
--- less by a number; where the two are equal, by what comes next
-abbrev pub by_number : ℕ → ℕ → Bool → Bool
-by_number m n next = nat_lt m n || (m == n && next)
 
 -- less by lists of equal length: by the first number in which they differ
 abbrev pub less : List ℕ → List ℕ → Bool
@@ -105,3 +103,8 @@ module _ (heading : Heading) where
   IsCertificate (e ∷ h) claims = (before : List Claim) × (due : List Claim) × (claims ≡ before ++ due)
       × IsCertificate h before × Ascending due × ((c : Claim) → Contains due c → IsDue h e c)
       × ((c : Claim) → IsDue h e c → Contains due c)
+
+-- no event of a history reaches a limit
+abbrev pub WithinLimits : List Event → Type 0
+WithinLimits [] = Unit {0}
+WithinLimits (e ∷ h) = (limit_of h e ≡ None) × WithinLimits h

@@ -11,7 +11,10 @@ use bbm_histories::{
     law_fresh_content, law_one_node, law_one_position, law_pattern_steps, law_proper,
     law_tag_claim_steps, law_tag_steps, law_tags, law_tree_step,
 };
-use bbm_rules::{law_answered, law_cleansed, law_equality_tests, law_tag_held, law_tree};
+use bbm_rules::{
+    law_answered, law_cleansed, law_equality_tests, law_last_valid, law_notes_keep_the_events,
+    law_tag_held, law_tree,
+};
 
 /// The laws that the proofs here stand on.
 pub(crate) fn known()
@@ -25,6 +28,8 @@ pub(crate) fn known()
     law_covers_alike();
     law_equality_tests();
     law_fresh_content();
+    law_last_valid();
+    law_notes_keep_the_events();
     law_one_node();
     law_one_position();
     law_pattern_steps();

@@ -10,5 +10,5 @@ mod sorted;
 mod steps;
 mod tags;
 
-pub use laws::{law_certificate_is_verified, law_one_certificate};
+pub use laws::{law_certificate_can_be_written, law_certificate_is_verified, law_one_certificate};
 pub use making::make;

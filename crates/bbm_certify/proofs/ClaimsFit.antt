@@ -1,0 +1,268 @@
+-- Each claim of a certificate fits the header of its log, whose events fit it: so it can be written.
+use Rattle.bbm_certify.proofs.Common.{Known, IsCertificate, IsCleansed, IsDue, IsLeast, OneAt, TakenAt, TwoAt}
+use Rattle.bbm_rules.proofs.Common.{◌≡◌, ◌⊎◌, ℕ, suc, ◌+◌, ◌<◌, ◌≤◌, ◌^◌, ◌/◌, Bool, true, false, cond, ◌&&◌, ◌==◌}
+use Rattle.bbm_rules.proofs.Common.{nat_lt, List, [], ◌∷◌, ◌++◌, length, take, Option, Some, None, refl, sym, ◌∙◌, ap}
+use Rattle.bbm_rules.proofs.Common.{subst, inl, inr, arith, and_from, and_parts, lt-ltb, ltb-true, option_and_then}
+use Rattle.bbm_rules.proofs.Common.{filter_map, flat_map, length-append, to_contains, in_append, in_left, in_right}
+use Rattle.bbm_rules.proofs.Common.{in_split, list_all, every, if_so, fits_heading, is_pe, is_place, is_value, Claim}
+use Rattle.bbm_rules.proofs.Common.{Place, Two, Taken, keeps, Patterns, noted, note, ValidWrite, Noted, events_of}
+use Rattle.bbm_rules.proofs.Common.{Heading, Event, Write, Isb, Msr, Dsb, Reg, Tag, El2Tag, Vmid, Asid, Ttbr1Tag}
+use Rattle.bbm_rules.proofs.Common.{Ttbr0El2, VttbrEl2, Ttbr0El1, Ttbr1El1, World, Hyp, Kernel, AsidFrom, FromTtbr0}
+use Rattle.bbm_rules.proofs.Common.{FromTtbr1, Reading, asid_readings, readings, readings_in, readings_of, tag_number}
+use Rattle.bbm_rules.proofs.Common.{register_values, same_reg, base_of, is_root, kind_of_reg, Issued, OneStep, TwoSteps}
+use Rattle.bbm_rules.proofs.Common.{Flush, In}
+use Rattle.bbm_rules.specs.Tags.{reading_of}
+use Rattle.bbm_tlbi_scope.specs.declared.entry.Cover.{Cover}
+use Rattle.bbm_events.specs.Certificate.{is_claim, is_position, is_tag}
+use Rattle.bbm_lemmas.proofs.Elements.{from_filter_map, from_flat}
+use Rattle.bbm_certify.specs.LeastClaims.{WithinLimits}
+use Rattle.bbm_certify.proofs.ClaimNumbers.{HasNumber, OfPlace, OfTag, written}
+use Rattle.bbm_certify.proofs.FewClaims.{due_number, kept_before}
+use Rattle.bbm_certify.proofs.Finished.{all_in}
+
+-- ---- positions
+
+position_fits : (n count : ℕ) → n ≤ count → count < 2 ^ 32 → is_position n ≡ true
+position_fits n count within few = lt-ltb n (2 ^ 32) (omega (arith, within, few))
+
+module _ (heading : Heading) where
+  noted_length : (h : List Event) → length (noted heading Patterns h) ≡ length h
+  noted_length [] = refl
+  noted_length (e ∷ h) = ap suc (noted_length h)
+
+  position_in : (h : List Event) (n : Noted) → In (noted heading Patterns h) n → n.position ≤ length h
+  position_in [] n i = absurd i
+  position_in (e ∷ h) n (inl same) =
+      let at : suc (length (noted heading Patterns h)) ≡ n.position = ap (λ (m : Noted). m.position) same in
+      omega (arith, at, noted_length h)
+  position_in (e ∷ h) n (inr i) = let le : n.position ≤ length h = position_in h n i in omega (arith, le)
+
+  -- ---- the events of a pattern are among those since the write
+
+  record Parts (since : List Noted) (t : Issued Noted) (d : Noted) : Type 0 where
+    pub dsb : In since d
+    pub tlbi : In since t.tlbi
+    pub before : (x : Noted) → In t.before x → In since x
+
+  flush_parts : (cover : Cover) (place p : ℕ) (since : List Noted) (t : Issued Noted) (d : Noted)
+      → Flush heading cover place p since t d → Parts since t d
+  flush_parts cover place p since t d k =
+      let a = k.answer in
+      let older : (x : Noted) → In a.older x → In since x
+      = λ x i. subst (λ (ns : List Noted). In ns x) (sym a.split) (in_right a.newer (d ∷ a.older) x (inr i)) in
+      record {
+        dsb = subst (λ (ns : List Noted). In ns d) (sym a.split) (in_split a.newer a.older d);
+        tlbi = older t.tlbi (subst (λ (ns : List Noted). In ns t.tlbi) (sym a.is_open.split)
+            (in_split a.is_open.newer t.before t.tlbi));
+        before = λ x i. older x (subst (λ (ns : List Noted). In ns x) (sym a.is_open.split)
+            (in_right a.is_open.newer (t.tlbi ∷ t.before) x (inr i)));
+      }
+
+  module _ (h : List Event) (few : length h < 2 ^ 32) (since : List Noted)
+      (inside : (n : Noted) → In since n → In (noted heading Patterns h) n) (place p : ℕ) where
+    at : (n : ℕ) (x : Noted) → n ≡ x.position → In since x → is_position n ≡ true
+    at n x same i = position_fits n (length h)
+        (let le : x.position ≤ length h = position_in h x (inside x i) in omega (arith, same, le)) few
+
+    one_fits : (b t d : ℕ) → OneAt heading place p since (b ∷ t ∷ d ∷ [])
+        → (is_position b ≡ true) × ((is_position t && is_position d) ≡ true)
+    one_fits b t d k =
+        let flush = flush_parts _ place p since k.0.t k.0.d k.0.flush in
+        let published = k.0.published in
+        let b_in : In since k.0.b = flush.before k.0.b (subst (λ (ns : List Noted). In ns k.0.b) (sym published.split)
+        (in_split published.newer (published.between ++ published.write ∷ published.older) k.0.b)) in
+        let b_is : b ≡ k.0.b.position = cc in
+        let t_is : t ≡ k.0.t.tlbi.position = cc in
+        let d_is : d ≡ k.0.d.position = cc in (
+          at b k.0.b b_is b_in,
+          and_from (is_position t) (is_position d) (at t k.0.t.tlbi t_is flush.tlbi)
+              (at d k.0.d d_is flush.dsb),
+        )
+
+    two_fits : (b t1 d1 t2 d2 : ℕ) → TwoAt heading place p since (b ∷ t1 ∷ d1 ∷ t2 ∷ d2 ∷ [])
+        → (is_position b ≡ true) × ((is_position t1 && is_position d1) ≡ true)
+        × ((is_position t2 && is_position d2) ≡ true)
+    two_fits b t1 d1 t2 d2 k =
+        let second = flush_parts _ place p since k.0.t2 k.0.d2 k.0.second in
+        let first = flush_parts _ place p k.0.t2.before k.0.t1 k.0.d1 k.0.first.flush in
+        let published = k.0.first.published in
+        let b_in : In since k.0.b = second.before k.0.b (first.before k.0.b
+        (subst (λ (ns : List Noted). In ns k.0.b) (sym published.split)
+        (in_split published.newer (published.between ++ published.write ∷ published.older) k.0.b))) in
+        let b_is : b ≡ k.0.b.position = cc in
+        let t1_is : t1 ≡ k.0.t1.tlbi.position = cc in
+        let d1_is : d1 ≡ k.0.d1.position = cc in
+        let t2_is : t2 ≡ k.0.t2.tlbi.position = cc in
+        let d2_is : d2 ≡ k.0.d2.position = cc in (
+          at b k.0.b b_is b_in,
+          and_from (is_position t1) (is_position d1) (at t1 k.0.t1.tlbi t1_is (second.before k.0.t1.tlbi first.tlbi))
+              (at d1 k.0.d1 d1_is (second.before k.0.d1 first.dsb)),
+          and_from (is_position t2) (is_position d2) (at t2 k.0.t2.tlbi t2_is second.tlbi) (at d2 k.0.d2 d2_is second.dsb),
+        )
+
+  taken_fits : (h : List Event) (e : Event) (p t d : ℕ) (tag : Tag) → length (e ∷ h) < 2 ^ 32 → d ≡ suc (length h)
+      → TakenAt heading p tag (e ∷ h) (t ∷ []) → (is_position t && is_position d) ≡ true
+  taken_fits h e p t d tag few d_is k =
+      let at : t ≡ suc (length k.0.before) = cc in
+      and_from (is_position t) (is_position d)
+      (position_fits t (length (e ∷ h)) (omega (
+        arith,
+        at,
+        ap length k.1.split,
+        length-append k.1.later (Dsb k.1.q k.1.dsb ∷ k.1.earlier),
+        ap length k.1.is_open.split,
+        length-append k.1.is_open.newer (k.0.tlbi ∷ k.0.before),
+      )) few)
+      (position_fits d (length (e ∷ h)) (omega (arith, d_is)) few)
+
+  -- ---- tags
+
+  abbrev AllFit : List Event → Type 0
+  AllFit h = (e : Event) → In h e → fits_heading heading e ≡ true
+
+  in_first : {A : Type 0} (xs : List A) (x : A) → In (take 1 xs) x → In xs x
+  in_first [] x i = i
+  in_first (y ∷ ys) x (inl same) = inl same
+  in_first (y ∷ ys) x (inr i) = absurd i
+
+  value_fits : (h : List Event) (p : ℕ) (reg : Reg) (v : ℕ) → AllFit h → In (register_values h p reg) v → v < 2 ^ 64
+  value_fits [] p reg v fit (inl same) = omega (arith, same)
+  value_fits [] p reg v fit (inr i) = absurd i
+  value_fits (Msr pe r value ∷ h) p reg v fit i =
+      by (pe == p && same_reg r reg) i (value_fits h p reg v (λ e j. fit e (inr j)))
+    where
+      by : (b : Bool) → In (cond b (value ∷ register_values h p reg) (register_values h p reg)) v
+          → (In (register_values h p reg) v → v < 2 ^ 64) → v < 2 ^ 64
+      by true (inl same) older =
+          let parts = and_parts (is_pe heading pe) (is_value value) (fit (Msr pe r value) (inl refl)) in
+          let below : value < 2 ^ 64 = ltb-true value (2 ^ 64) parts.1 in
+          omega (arith, same, below)
+      by true (inr j) older = older j
+      by false j older = older j
+  value_fits (Isb pe ∷ h) p reg v fit i = value_fits h p reg v (λ e k. fit e (inr k)) (by (pe == p) i)
+    where
+      by : (b : Bool) → In (cond b (take 1 (register_values h p reg)) (register_values h p reg)) v
+          → In (register_values h p reg) v
+      by true j = in_first (register_values h p reg) v j
+      by false j = j
+  value_fits (e ∷ h) p reg v fit i = value_fits h p reg v (λ x j. fit x (inr j)) i
+
+  tag_small : (v : ℕ) → v < 2 ^ 64 → nat_lt (tag_number v) (2 ^ 16) ≡ true
+  tag_small v below = lt-ltb (tag_number v) (2 ^ 16) (omega (arith, below))
+
+  reading-tag : (h : List Event) (reg : Reg) (tag : ℕ → Tag) (v : ℕ) (r : Reading) → reading_of h reg tag v ≡ Some r
+      → tag v ≡ r.tag
+  reading-tag h reg tag v r e = by (base_of v) e
+    where
+      with_base : (base : ℕ) (b : Bool) → if_so b (record { tag = tag v; root = base }) ≡ Some r → tag v ≡ r.tag
+      with_base base true k =
+          let same : record { tag = tag v; root = base } ≡ r = cc in ap (λ (x : Reading). x.tag) same
+      with_base base false k = cc
+
+      by : (o : Option ℕ) → option_and_then (λ base. if_so (is_root h (kind_of_reg reg) base)
+          (record { tag = tag v; root = base })) o ≡ Some r → tag v ≡ r.tag
+      by None k = cc
+      by (Some base) k = with_base base (is_root h (kind_of_reg reg) base) k
+
+  fits_of : (h : List Event) (p : ℕ) (reg : Reg) (tag : ℕ → Tag) (r : Reading)
+      → ((v : ℕ) → In (register_values h p reg) v → is_tag (tag v) ≡ true) → In (readings_of h p reg tag) r
+      → is_tag r.tag ≡ true
+  fits_of h p reg tag r each i =
+      let k = from_filter_map (reading_of h reg tag) (register_values h p reg) r i in
+      ap (λ (g : Tag). is_tag g) (sym (reading-tag h reg tag k.0 r k.2)) ∙ each k.0 k.1
+
+  asid_fits : (from : AsidFrom) (h : List Event) (p : ℕ) (r : Reading) → AllFit h → In (asid_readings from h p) r
+      → is_tag r.tag ≡ true
+  asid_fits FromTtbr0 h p r fit i =
+      fits_of h p Ttbr0El1 (λ value. Asid (tag_number value)) r (λ v j. tag_small v (value_fits h p Ttbr0El1 v fit j)) i
+  asid_fits FromTtbr1 h p r fit i =
+      let k = from_flat (λ from. readings_of h p Ttbr0El1 (λ value. Asid (tag_number from)))
+      (register_values h p Ttbr1El1) r i in
+      fits_of h p Ttbr0El1 (λ value. Asid (tag_number k.0)) r (λ v j. tag_small k.0 (value_fits h p Ttbr1El1 k.0 fit k.1)) k.2
+
+  reading_fits : (h : List Event) (p : ℕ) (r : Reading) → AllFit h → In (readings heading h p) r → is_tag r.tag ≡ true
+  reading_fits h p r fit i = by heading.world i
+    where
+      by : (world : World) → In (readings_in world h p) r → is_tag r.tag ≡ true
+      by (Hyp world) j =
+          elim (in_append (readings_of h p Ttbr0El2 (λ value. El2Tag)) (readings_of h p VttbrEl2 (λ value. Vmid (tag_number value))) r j) [
+            | inl k ↦ fits_of h p Ttbr0El2 (λ value. El2Tag) r (λ v l. refl) k
+            | inr k ↦ fits_of h p VttbrEl2 (λ value. Vmid (tag_number value)) r
+                (λ v l. tag_small v (value_fits h p VttbrEl2 v fit l)) k
+          ]
+      by (Kernel world) j =
+          elim (in_append (asid_readings world.asid_from h p) (readings_of h p Ttbr1El1 (λ value. Ttbr1Tag)) r j) [
+            | inl k ↦ asid_fits world.asid_from h p r fit k
+            | inr k ↦ fits_of h p Ttbr1El1 (λ value. Ttbr1Tag) r (λ v l. refl) k
+          ]
+
+  tag_fits : (h : List Event) (p n : ℕ) (tag : Tag) → AllFit h → OfTag heading h p tag n → is_tag tag ≡ true
+  tag_fits h p n tag fit k =
+      let there : (e : Event) → In (Msr p k.reg k.value ∷ k.before) e → In h e
+      = λ e i. subst (λ (es : List Event). In es e) (sym k.split) (in_right k.later (Msr p k.reg k.value ∷ k.before) e i) in
+      ap (λ (g : Tag). is_tag g) (sym k.of_tag)
+      ∙ reading_fits (Msr p k.reg k.value ∷ k.before) p k.reading (λ e i. fit e (there e i))
+      (subst (λ (rs : List Reading). In rs k.reading) (sym k.read) (in_split k.front k.behind k.reading))
+
+-- ---- claims
+
+module _ (heading : Heading) (known : Known heading) (few_pes : heading.pes ≤ 128) where
+  place_fits : (h : List Event) (p a n : ℕ) → AllFit heading h → OfPlace heading h p a n → is_place a ≡ true
+  place_fits h p a n fit k =
+      let there : In h (Write k.pe a k.value) = subst (λ (es : List Event). In es (Write k.pe a k.value))
+      (sym (written heading h p a n known.events_noted k)) (in_split (events_of k.since) (events_of k.older) (Write k.pe a k.value)) in
+      let parts = and_parts (is_pe heading k.pe && is_place a) (is_value k.value) (fit (Write k.pe a k.value) there) in
+      (and_parts (is_pe heading k.pe) (is_place a) parts.0).1
+
+  module _ (h : List Event) (e : Event) (kept : keeps heading Patterns (e ∷ h) ≡ true) (within : WithinLimits h)
+      (fit : AllFit heading (e ∷ h)) (few : length (e ∷ h) < 2 ^ 32) where
+    before_fit : AllFit heading h
+    before_fit x i = fit x (inr i)
+
+    -- the events since the last valid write are some of the history
+    since_in : (a p : ℕ) (w : ValidWrite) → IsCleansed heading (noted heading Patterns (e ∷ h)) a p w → (n : Noted)
+        → In w.since n → In (noted heading Patterns (e ∷ h)) n
+    since_in a p w k n i =
+        let last = known.last_valid.sound k.node.kind k.node.level a (noted heading Patterns (e ∷ h)) w k.is_last in
+        subst (λ (ns : List Noted). In ns n) (sym last.split) (in_left w.since (last.write ∷ last.older) n i)
+
+    due_fits : (c : Claim) → IsDue heading h e c → is_claim heading c ≡ true
+    due_fits c due = by c due (due_number heading known few_pes h e kept within c due)
+      where
+        by : (x : Claim) (k : IsDue heading h e x) → (n : ℕ) × HasNumber heading h e x n → is_claim heading x ≡ true
+        by (Place p a b t d) k number =
+            let at = one_fits heading (e ∷ h) few k.1.0.since (since_in a p k.1.0 k.1.1) a p b t d k.1.2.holds in
+            and_from (is_pe heading p && is_place a && is_position b) (is_position t && is_position d)
+            (and_from (is_pe heading p && is_place a) (is_position b)
+            (and_from (is_pe heading p) (is_place a) (lt-ltb p heading.pes k.0)
+            (place_fits h p a number.0 before_fit number.1.0)) at.0) at.1
+        by (Two p a b t1 d1 t2 d2) k number =
+            let at = two_fits heading (e ∷ h) few k.1.0.since (since_in a p k.1.0 k.1.1) a p b t1 d1 t2 d2 k.1.3.holds in
+            and_from (is_pe heading p && is_place a && is_position b && (is_position t1 && is_position d1))
+            (is_position t2 && is_position d2)
+            (and_from (is_pe heading p && is_place a && is_position b) (is_position t1 && is_position d1)
+            (and_from (is_pe heading p && is_place a) (is_position b)
+            (and_from (is_pe heading p) (is_place a) (lt-ltb p heading.pes k.0)
+            (place_fits h p a number.0 before_fit number.1.0)) at.0) at.1) at.2
+        by (Taken p tag t d) k number =
+            and_from (is_pe heading p && is_tag tag) (is_position t && is_position d)
+            (and_from (is_pe heading p) (is_tag tag) (lt-ltb p heading.pes k.0)
+            (tag_fits heading h p number.0 tag before_fit number.1.0))
+            (taken_fits heading h e p t d tag few k.3 k.4.holds)
+
+  fit_from : (h : List Event) (cs : List Claim) → keeps heading Patterns h ≡ true → WithinLimits h → AllFit heading h
+      → length h < 2 ^ 32 → IsCertificate heading h cs → (c : Claim) → In cs c → is_claim heading c ≡ true
+  fit_from [] cs kept within fit few cert c i = absurd (subst (λ (xs : List Claim). In xs c) cert i)
+  fit_from (e ∷ h) cs kept within fit few cert c i =
+      elim (in_append cert.0 cert.1 c (subst (λ (xs : List Claim). In xs c) cert.2 i)) [
+        | inl was ↦ fit_from h cert.0 (kept_before heading h e kept) within.1 (λ x j. fit x (inr j))
+            (omega (arith, few)) cert.3 c was
+        | inr now ↦ due_fits h e kept within.1 fit few c (cert.5 c (to_contains cert.1 c now))
+      ]
+
+  -- each claim of a certificate fits the header
+  pub claims_fit : (h : List Event) (cs : List Claim) → keeps heading Patterns h ≡ true → WithinLimits h
+      → every (fits_heading heading) h ≡ true → length h < 2 ^ 32 → IsCertificate heading h cs
+      → (c : Claim) → In cs c → is_claim heading c ≡ true
+  claims_fit h cs kept within fit few =
+      fit_from h cs kept within (λ e i. all_in (fits_heading heading) h e fit i) few
