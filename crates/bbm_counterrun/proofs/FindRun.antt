@@ -1,16 +1,15 @@
 -- What a search over the events before a write finds is what the definitions ask for.
 use Rattle.bbm_counterrun.proofs.Common.{notes, StandsFor, Patterns, Kind, Step, IsLog, HasLeastReads}
 use Rattle.bbm_counterrun.proofs.Common.{PlansHaveLeastReads, IsPlain, Plan, run_of, ends_at_leaf, holds_leaf}
-use Rattle.bbm_counterrun.proofs.Common.{plan_found, PlainIsTested, is_plain, Goal, way_to}
+use Rattle.bbm_counterrun.proofs.Common.{plan_found, PlainIsTested, is_plain, Goal, way_among, way_to}
 use Rattle.bbm_rules.proofs.Common.{◌≡◌, ℕ, ◌+◌, ◌-◌, ◌≤◌, arith, length, get_or, take, Bool, true, false, true≢false}
 use Rattle.bbm_rules.proofs.Common.{◌↔◌, List, [], ◌∷◌, reverse, option_map, IfSome, Option, Some, None, inl, inr, sym}
-use Rattle.bbm_rules.proofs.Common.{◌∙◌, ap, subst, refl, reverse-append, reverse-reverse, take_all, In, from_contains}
+use Rattle.bbm_rules.proofs.Common.{◌∙◌, ap, subst, reverse-append, reverse-reverse, take_all, In, from_contains}
 use Rattle.bbm_rules.proofs.Common.{in_append, to_contains, fits_heading, heading_ok, Trust, noted, Noted, page_of}
 use Rattle.bbm_rules.proofs.Common.{Heading, Event, Write, Node, node_of, same_Some, none-some}
 use Rattle.std.proofs.Common.{All}
 use Rattle.std.proofs.lemmas.List.Elements.{All-contains}
 use Rattle.bbm_oracle_trees.specs.Past.{Past}
-use Rattle.bbm_counterrun.specs.Goals.{way_among}
 use Rattle.bbm_counterrun.specs.Plans.{Finds}
 use Rattle.bbm_counterrun.specs.RefusedWrite.{IsRefused}
 use Rattle.bbm_counterrun.specs.Searching.{FindsRun}
@@ -44,10 +43,6 @@ is_log heading events ok fit = record {
 abbrev kind_by : Heading → Trust → List Noted → ℕ → Option Kind
 kind_by heading trust ns place = option_map (λ n. n.kind) (node_of heading trust ns (page_of place))
 
--- the way as a program asks for it is that of the definitions
-way_same : (heading : Heading) (h : List Event) (place : ℕ) → way_among heading Patterns (noted heading Patterns h) place ≡ way_to heading h place
-way_same heading h place = refl
-
 module _ (past : Past) (heading : Heading) (h : List Event) (place : ℕ) (trust : past.trust ≡ Patterns) (stands : StandsFor past heading h) where
   notes_same : notes past ≡ noted heading Patterns h
   notes_same = stands.notes_are ∙ ap (λ (t : Trust). noted heading t h) trust
@@ -62,7 +57,7 @@ module _ (past : Past) (heading : Heading) (h : List Event) (place : ℕ) (trust
   way_is =
       ap (λ (x : Heading). way_among x past.trust (notes past) place) stands.heading_is
       ∙ ap (λ (t : Trust). way_among heading t (notes past) place) trust
-      ∙ ap (λ (ns : List Noted). way_among heading Patterns ns place) notes_same ∙ way_same heading h place
+      ∙ ap (λ (ns : List Noted). way_among heading Patterns ns place) notes_same
 
 -- ---- what is found
 

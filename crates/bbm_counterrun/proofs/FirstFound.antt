@@ -41,7 +41,7 @@ walk_short heading h x (r ∷ rs) le e =
     let rest : length rs + suc x.last.level ≤ 3 = walk_short heading h (extended x r.place r.value) rs (omega (arith, low)) a.1 in
     omega (arith, rest)
 
-reads_short : (heading : Heading) (h : List Event) (e : Event) (k p : ℕ) (kind : Kind) (number : ℕ) (rs : List Read) (o : Option ℕ)
+pub reads_short : (heading : Heading) (h : List Event) (e : Event) (k p : ℕ) (kind : Kind) (number : ℕ) (rs : List Read) (o : Option ℕ)
     → start_of heading.world kind ≤ 3 → is_plain heading h e (plan_of k p kind number rs o) ≡ true → length rs ≤ 4
 reads_short heading h e k p kind number [] o start plain = omega arith
 reads_short heading h e k p kind number (r ∷ rs) o start plain =

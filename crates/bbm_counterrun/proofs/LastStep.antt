@@ -18,12 +18,12 @@ pub record RunLaws (heading : Heading) (trust : Trust) : Type 0 where
   pub kept : KeptIsSafe heading trust
 
 -- the log of a state begins with that of an earlier one
-record Grows (s t : State) : Type 0 where
-  later : List Event
-  split : t.log ≡ later ++ s.log
+pub record Grows (s t : State) : Type 0 where
+  pub later : List Event
+  pub split : t.log ≡ later ++ s.log
 
 module _ (heading : Heading) where
-  grows_by : (s t : State) (step : Step) → Leads heading s step t → Grows s t
+  pub grows_by : (s t : State) (step : Step) → Leads heading s step t → Grows s t
   grows_by s t (Machine (Start p kind n place value)) l = record { later = []; split = ap (λ (u : State). u.log) l.1 }
   grows_by s t (Machine (Extend n place value)) l = record { later = []; split = ap (λ (u : State). u.log) l.3 }
   grows_by s t (Machine (Combine n)) l = record { later = []; split = ap (λ (u : State). u.log) l.3 }

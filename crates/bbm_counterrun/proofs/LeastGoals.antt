@@ -1,12 +1,13 @@
 -- The least reads of a way: of each place the least value that means the same, at most what a walk read there.
-use Rattle.bbm_counterrun.proofs.Common.{Read, by_number, by_reads, Goal, goal_at, is_like, least_read, least_reads}
+use Rattle.bbm_counterrun.proofs.Common.{Patterns, Read, by_number, by_reads, Goal, is_like, least_read, least_reads}
 use Rattle.bbm_counterrun.proofs.Common.{written_at}
 use Rattle.bbm_rules.proofs.Common.{◌≡◌, ℕ, suc, ◌≤◌, arith, min, Bool, true, false, ◌&&◌, not, ◌==◌, nat_lt, cond}
 use Rattle.bbm_rules.proofs.Common.{List, [], ◌∷◌, map, filter, filter_map, Option, Some, unwrap_or, ◌⊎◌, inl, inr}
 use Rattle.bbm_rules.proofs.Common.{refl, sym, ◌∙◌, ap, true≢false, and_from, and_parts, cases_lt, eqb-true, ltb-true}
 use Rattle.bbm_rules.proofs.Common.{not-true, not_from_false, or_cases, cons_option, In, from_filter, to_filter, Kind}
-use Rattle.bbm_rules.proofs.Common.{is_valid, needs, same_core, ◌>>=◌, among, least, page_of, Heading, Event, Init}
-use Rattle.bbm_rules.proofs.Common.{Write, is_readable, published, readable_before}
+use Rattle.bbm_rules.proofs.Common.{is_valid, needs, ◌>>=◌, among, least, page_of, Heading, Event, Init}
+use Rattle.bbm_rules.proofs.Common.{Write, is_readable, noted, published, readable_before}
+use Rattle.bbm_counterrun.specs.Ways.{goal_among}
 use Rattle.bbm_counterrun.proofs.Sights.{IsLikeRead, LikeReads}
 use Rattle.bbm_tlb_machine.proofs.Descs.{CoreLaw, means_same}
 
@@ -71,7 +72,7 @@ no_zero v n e = elim (or_cases (0 == v) false e) [
 ]
 
 module _ (heading : Heading) where
-  written : (later h : List Event) (place p v : ℕ) → (v ≡ 0 → ⊥) → among v (readable_before heading later h place p) ≡ true
+  pub written : (later h : List Event) (place p v : ℕ) → (v ≡ 0 → ⊥) → among v (readable_before heading later h place p) ≡ true
       → In (written_at h place) v
   written later [] place p v n e = absurd (no_zero v n e)
   written later (Write q at value ∷ h) place p v n e =
@@ -103,10 +104,13 @@ module _ (heading : Heading) where
 
 -- ---- values of one core mean the same
 
-zero_is_invalid : (kind : Kind) (level value : ℕ) → is_valid kind level value ≡ true → value ≡ 0 → ⊥
+pub zero_is_invalid : (kind : Kind) (level value : ℕ) → is_valid kind level value ≡ true → value ≡ 0 → ⊥
 zero_is_invalid kind level value v e = true≢false (sym v ∙ ap (is_valid kind level) e)
 
 -- ---- the least reads of a way
+
+abbrev pub goal_at : Heading → List Event → ℕ → Option Goal
+goal_at heading h = goal_among heading Patterns (noted heading Patterns h)
 
 -- what the place of a read holds has the core of the value that was read, and that could be read when the first events
 -- of the log were taken

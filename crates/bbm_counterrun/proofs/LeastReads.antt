@@ -4,13 +4,13 @@ use Rattle.bbm_counterrun.proofs.Common.{Patterns, start_of, Entry, Part, parts_
 use Rattle.bbm_counterrun.proofs.Common.{IsLog, conflicts_with, is_stale, combined, has_number, may_start}
 use Rattle.bbm_counterrun.proofs.Common.{HasLeastReads, PlansHaveLeastReads, Plan, Read, reads_of, holds_leaf}
 use Rattle.bbm_counterrun.proofs.Common.{combined_by, first_events, is_plain, is_within, may_extend_by, may_walk}
-use Rattle.bbm_counterrun.proofs.Common.{outlives, started_by, walked_by, goal_at, least_reads, way_to}
+use Rattle.bbm_counterrun.proofs.Common.{outlives, started_by, walked_by, least_reads, way_to}
 use Rattle.bbm_rules.proofs.Common.{◌≡◌, ℕ, ◌<◌, Bool, true, ◌&&◌, ◌==◌, List, [], ◌∷◌, ◌++◌, length, map, filter_map}
 use Rattle.bbm_rules.proofs.Common.{reverse, Option, Some, None, inl, inr, refl, sym, ◌∙◌, ap, subst, and_from}
 use Rattle.bbm_rules.proofs.Common.{and_parts, eqb-true, or_left, In, core_in, core_of, differ, is_valid, needs, keeps}
 use Rattle.bbm_rules.proofs.Common.{noted, any, page_of, Heading, Event, Write, reads, Node, node_of, is_readable}
 use Rattle.bbm_counterrun.specs.Ways.{places_to}
-use Rattle.bbm_counterrun.proofs.LeastGoals.{HasLeast, HaveGoals, NotAbove, all_least, first_if_least}
+use Rattle.bbm_counterrun.proofs.LeastGoals.{HasLeast, HaveGoals, NotAbove, all_least, first_if_least, goal_at}
 use Rattle.bbm_counterrun.proofs.PlainTest.{KeptAt, plain_is_kept}
 use Rattle.bbm_counterrun.proofs.Sights.{LikeReads, Sight, outlives_same, plan_same, with_reads}
 use Rattle.bbm_counterrun.proofs.WayParts.{IsOnWay, WayLaws, first_goal, is_leaf_there, kind_stays, last_is_stale}

@@ -14,14 +14,17 @@ mod LeastGoals
 mod LeastReads
 mod NumberCode
 mod OneEntry
+mod OneRun
 mod Order
 mod PlainTest
 mod ReadCode
 mod RunCode
+mod RunLength
 mod RunTexts
 mod SearchCode
 mod SearchPlain
 mod Sights
+mod StepsFit
 mod WalkCode
 mod WalkSteps
 mod WayCode

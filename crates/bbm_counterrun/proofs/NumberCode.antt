@@ -1,14 +1,13 @@
--- The numbers under which walks may be made are among those that are looked at.
+-- The numbers under which walks may be made are among those that are tried.
 use Rattle.bbm_counterrun.proofs.Common.{Kind, Entry, tag_of_entry, has_number, may_start, started}
 use Rattle.bbm_rules.proofs.Common.{◌≡◌, ℕ, ◌+◌, ◌<◌, true, ◌==◌, List, ◌++◌, length, get_or, take, Some}
-use Rattle.bbm_rules.proofs.Common.{option_to_list, refl, sym, ◌∙◌, ap, subst, true≢false, and_parts, eq-eqb, eqb-true}
+use Rattle.bbm_rules.proofs.Common.{option_to_list, refl, sym, ◌∙◌, ap, true≢false, and_parts, eq-eqb, eqb-true}
 use Rattle.bbm_rules.proofs.Common.{any_finds, any_found, among, El2, S2, Ttbr0, Ttbr1, Tag, El2Tag, Vmid, Asid}
 use Rattle.bbm_rules.proofs.Common.{Ttbr1Tag, Heading, Event, Reading, readings, reads}
 use Rattle.bbm_lemmas.proofs.Elements.{to_filter_map}
 use Rattle.bbm_rules.specs.Prelude.{same_tag}
-use Rattle.bbm_tlb_machine.specs.Step.{current_asids}
 use Rattle.bbm_counterrun.proofs.WayCode.{filter_more}
-use Rattle.bbm_counterrun.specs.RunNumbers.{number_of, numbers_of}
+use Rattle.bbm_counterrun.specs.RunNumbers.{number_of, numbers_by, numbers_of}
 
 of_el2 : (tag : Tag) → same_tag tag El2Tag ≡ true → number_of tag ≡ Some 0
 of_el2 El2Tag k = refl
@@ -44,57 +43,23 @@ module _ (heading : Heading) (h : List Event) (p : ℕ) where
       let b = and_parts _ _ a.0 in
       and_parts _ _ b.0
 
-  el2_numbered : (items : List ℕ) → items ≡ numbers_of (readings heading h p) → (number now place value : ℕ)
-      → may_start heading h (started heading now p El2 number place value) number ≡ true → among number items ≡ true
-  el2_numbered items e number now place value k =
+  -- a number under which a walk may be made is among those that are tried
+  pub is_numbered : (kind : Kind) (number now place value : ℕ)
+      → may_start heading h (started heading now p kind number place value) number ≡ true
+      → among number (numbers_by heading h p kind) ≡ true
+  is_numbered El2 number now place value k =
       let s = parts (started heading now p El2 number place value) number k in
       let none : number ≡ 0 = eqb-true number 0 s.1 in
-      ap (among number) e ∙ is_among El2Tag _ number (λ other same. of_el2 other same ∙ ap (λ i. Some i) (sym none)) s.0
-
-  s2_numbered : (items : List ℕ) → items ≡ numbers_of (readings heading h p) → (number now place value : ℕ)
-      → may_start heading h (started heading now p S2 number place value) number ≡ true → among number items ≡ true
-  s2_numbered items e number now place value k =
-      ap (among number) e ∙ is_among (Vmid number) _ number (λ other same. of_vmid other number same)
+      is_among El2Tag _ number (λ other same. of_el2 other same ∙ ap (λ i. Some i) (sym none)) s.0
+  is_numbered S2 number now place value k =
+      is_among (Vmid number) _ number (λ other same. of_vmid other number same)
       (parts (started heading now p S2 number place value) number k).0
-
-  ttbr0_numbered : (items : List ℕ) → items ≡ numbers_of (readings heading h p) → (number now place value : ℕ)
-      → may_start heading h (started heading now p Ttbr0 number place value) number ≡ true → among number items ≡ true
-  ttbr0_numbered items e number now place value k =
-      ap (among number) e ∙ is_among (Asid number) _ number (λ other same. of_asid other number same)
+  is_numbered Ttbr0 number now place value k =
+      is_among (Asid number) _ number (λ other same. of_asid other number same)
       (parts (started heading now p Ttbr0 number place value) number k).0
-
-  ttbr1_numbered : (items : List ℕ) → items ≡ current_asids heading.world h p → (number now place value : ℕ)
-      → may_start heading h (started heading now p Ttbr1 number place value) number ≡ true → among number items ≡ true
-  ttbr1_numbered items e number now place value k =
-      ap (among number) e ∙ (parts (started heading now p Ttbr1 number place value) number k).1
-
-  pub numbered_el2 : (kind : Kind) (items : List ℕ) → kind ≡ El2 → items ≡ numbers_of (readings heading h p) → (number now place value : ℕ)
-      → may_start heading h (started heading now p kind number place value) number ≡ true → among number items ≡ true
-  numbered_el2 kind items same e number now place value k =
-      el2_numbered items e number now place value
-      (subst (λ (l : Kind). may_start heading h (started heading now p l number place value) number ≡ true) same k)
-
-  pub numbered_s2 : (kind : Kind) (items : List ℕ) → kind ≡ S2 → items ≡ numbers_of (readings heading h p) → (number now place value : ℕ)
-      → may_start heading h (started heading now p kind number place value) number ≡ true → among number items ≡ true
-  numbered_s2 kind items same e number now place value k =
-      s2_numbered items e number now place value
-      (subst (λ (l : Kind). may_start heading h (started heading now p l number place value) number ≡ true) same k)
-
-  pub numbered_ttbr0 : (kind : Kind) (items : List ℕ) → kind ≡ Ttbr0 → items ≡ numbers_of (readings heading h p) → (number now place value : ℕ)
-      → may_start heading h (started heading now p kind number place value) number ≡ true → among number items ≡ true
-  numbered_ttbr0 kind items same e number now place value k =
-      ttbr0_numbered items e number now place value
-      (subst (λ (l : Kind). may_start heading h (started heading now p l number place value) number ≡ true) same k)
-
-  pub numbered_ttbr1 : (kind : Kind) (items : List ℕ) → kind ≡ Ttbr1 → items ≡ current_asids heading.world h p → (number now place value : ℕ)
-      → may_start heading h (started heading now p kind number place value) number ≡ true → among number items ≡ true
-  numbered_ttbr1 kind items same e number now place value k =
-      ttbr1_numbered items e number now place value
-      (subst (λ (l : Kind). may_start heading h (started heading now p l number place value) number ≡ true) same k)
+  is_numbered Ttbr1 number now place value k = (parts (started heading now p Ttbr1 number place value) number k).1
 
 -- one number more
 pub number_more : (rs : List Reading) (i : ℕ) (r : Reading) (old new : List ℕ) → i < length rs → r ≡ get_or rs i r
     → old ≡ numbers_of (take i rs) → new ≡ old ++ option_to_list (number_of r.tag) → new ≡ numbers_of (take (i + 1) rs)
 number_more rs i r old new within at was is = filter_more (λ (s : Reading). number_of s.tag) rs i r old new within at was is
-
-pub ruleset numbered = (numbered_el2, numbered_s2, numbered_ttbr0, numbered_ttbr1)

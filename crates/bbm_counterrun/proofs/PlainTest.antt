@@ -6,14 +6,13 @@ use Rattle.bbm_counterrun.proofs.Common.{combined_by, first_events, is_forbidden
 use Rattle.bbm_counterrun.proofs.Common.{outlives, walked_by}
 use Rattle.bbm_rules.proofs.Common.{◌≡◌, ℕ, suc, ◌+◌, ◌-◌, ◌≤◌, arith, Bool, true, ◌&&◌, not, nat_lt, nat_le, List, []}
 use Rattle.bbm_rules.proofs.Common.{◌∷◌, ◌++◌, length, map, take, drop, reverse, Option, Contains, zero-le, Some, None}
-use Rattle.bbm_rules.proofs.Common.{refl, sym, ◌∙◌, ap, subst, suc-le-suc, le_of_suc-le-suc, and_from, and_parts}
-use Rattle.bbm_rules.proofs.Common.{le-leb, leb-true, lt-ltb, ltb-true, drop_at, length-drop, length-reverse}
+use Rattle.bbm_rules.proofs.Common.{refl, sym, ◌∙◌, ap, subst, suc-le-suc, and_from, and_parts}
+use Rattle.bbm_rules.proofs.Common.{leb-true, drop_at, length-drop, length-reverse}
 use Rattle.bbm_rules.proofs.Common.{map-append, reverse-append, take-append-drop, take_at, ◌>>=◌, if_so, Heading, Event}
 use Rattle.std.proofs.lemmas.List.{drop-append-le, take-append-le}
 use Rattle.bbm_lemmas.proofs.Words.{if_so_some}
 use Rattle.bbm_tlb_machine.specs.declared.step.Step.TheVariants.{Event as Taken}
 use Rattle.bbm_tlb_machine.specs.MachineRun.{at_start}
-use Rattle.bbm_counterrun.specs.Plans.{Fits, combine_fits}
 use Rattle.bbm_counterrun.proofs.Following.{run_after, run_append, run_back, run_from, run_to, then_so}
 use Rattle.bbm_counterrun.proofs.OneEntry.{forbidden_in, forbidden_is, none_kept, one_kept, one_meets, past_none}
 use Rattle.bbm_counterrun.proofs.OneEntry.{past_one}
@@ -52,34 +51,46 @@ rest_taken : (newer older : List Event) (n : ℕ) → length older ≡ n → dro
 rest_taken newer older n c =
     ap (drop n) (reverse-append newer older) ∙ drop_at (reverse older) (reverse newer) n (length-reverse older ∙ c)
 
+-- what the bounds of a plan say
+pub combine_parts : (starts count n : ℕ) → combine_within starts count (Some n) ≡ true → (starts ≤ n) × (n ≤ count)
+combine_parts starts count n k =
+    let p = and_parts (nat_le starts n) (nat_le n count) k in
+    (leb-true starts n p.0, leb-true n count p.1)
+
+pub within_parts : (plan : Plan) (count : ℕ) → is_within plan count ≡ true
+    → (plan.starts ≤ count) × (combine_within plan.starts count plan.combines ≡ true)
+within_parts plan count k =
+    let p = and_parts (nat_lt 0 plan.starts && nat_le plan.starts count) (combine_within plan.starts count plan.combines) k in
+    (leb-true plan.starts count (and_parts (nat_lt 0 plan.starts) (nat_le plan.starts count) p.0).1, p.1)
+
 -- the steps behind the walk, and the run, over a log with one event more
 behind_more : (plan : Plan) (o : Option ℕ) (events : List Event) (e : Event) (count : ℕ) → length events ≡ count
-    → plan.starts ≤ count → combine_fits plan.starts (suc count) o
+    → plan.starts ≤ count → combine_within plan.starts count o ≡ true
     → behind plan o (events ++ e ∷ []) ≡ behind plan o events ++ Taken e ∷ []
 behind_more plan None events e count long le fits =
     ap (map Taken) (drop-append-le plan.starts events (e ∷ []) (omega (arith, long, le))) ∙ map-append Taken (drop plan.starts events) (e ∷ [])
 behind_more plan (Some n) events e count long le fits =
-    let less : n ≤ length events = omega (arith, long, fits.1) in
+    let less : n ≤ length events = omega (arith, long, (combine_parts plan.starts count n fits).1) in
     ap (λ es. map Taken (drop plan.starts es) ++ combine_of (made_by plan) ++ map Taken (drop n (events ++ e ∷ [])))
     (take-append-le n events (e ∷ []) less)
     ∙ ap (λ ss. map Taken (drop plan.starts (take n events)) ++ combine_of (made_by plan) ++ ss)
     (ap (map Taken) (drop-append-le n events (e ∷ []) less) ∙ map-append Taken (drop n events) (e ∷ []))
     ∙ sym (append_assoc (map Taken (drop plan.starts (take n events)) ++ combine_of (made_by plan)) (map Taken (drop n events)) (Taken e ∷ []))
 
-run_more : (plan : Plan) (events : List Event) (e : Event) (count : ℕ) → length events ≡ count → Fits plan (suc count)
+run_more : (plan : Plan) (events : List Event) (e : Event) (count : ℕ) → length events ≡ count → is_within plan count ≡ true
     → run_of plan (events ++ e ∷ []) ≡ run_of plan events ++ Taken e ∷ []
-run_more plan events e count long fits =
-    let le : plan.starts ≤ count = omega (arith, fits.before_last) in
+run_more plan events e count long within =
+    let p = within_parts plan count within in
     ap (λ es. map Taken es ++ walk_of plan ++ behind plan plan.combines (events ++ e ∷ []))
-    (take-append-le plan.starts events (e ∷ []) (omega (arith, long, le)))
-    ∙ ap (λ ss. map Taken (take plan.starts events) ++ walk_of plan ++ ss) (behind_more plan plan.combines events e count long le fits.combine)
+    (take-append-le plan.starts events (e ∷ []) (omega (arith, long, p.0)))
+    ∙ ap (λ ss. map Taken (take plan.starts events) ++ walk_of plan ++ ss) (behind_more plan plan.combines events e count long p.0 p.1)
     ∙ sym (append_assoc (map Taken (take plan.starts events) ++ walk_of plan) (behind plan plan.combines events) (Taken e ∷ []))
 
-run_to_event : (plan : Plan) (h : List Event) (e : Event) → Fits plan (suc (length h))
+run_to_event : (plan : Plan) (h : List Event) (e : Event) → is_within plan (length h) ≡ true
     → reverse (run_of plan (reverse (e ∷ h))) ≡ Taken e ∷ reverse (run_of plan (reverse h))
-run_to_event plan h e fits =
+run_to_event plan h e within =
     ap (λ es. reverse (run_of plan es)) (reverse-append (e ∷ []) h)
-    ∙ ap (reverse {A = Step}) (run_more plan (reverse h) e (length h) (length-reverse h) fits)
+    ∙ ap (reverse {A = Step}) (run_more plan (reverse h) e (length h) (length-reverse h) within)
     ∙ reverse-append (run_of plan (reverse h)) (Taken e ∷ [])
 
 -- ---- where the run over the events before leads
@@ -167,7 +178,7 @@ module _ (heading : Heading) where
       ∙ ap (λ b. if_so (not b && is_stage2 x.kind && not (forbidden_in heading (combined n x) last (mid ++ older))) end) (sym early)
       ∙ ap (λ b. if_so (not (is_forbidden heading plan.starts n x (last ++ (mid ++ older))) && is_stage2 x.kind && not b) end) (sym late)
 
-  leads : (h : List Event) (plan : Plan) (o : Option ℕ) → plan.starts ≤ length h → combine_fits plan.starts (suc (length h)) o
+  leads : (h : List Event) (plan : Plan) (o : Option ℕ) → plan.starts ≤ length h → combine_within plan.starts (length h) o ≡ true
       → run_to heading at_start (map Taken (take plan.starts (reverse h)) ++ walk_of plan ++ behind plan o (reverse h))
       ≡ if_so (may_walk heading (first_events plan.starts h) plan && outlives heading (walked_by heading plan) plan.starts o h)
       (one_kept h (number_by o (made_by plan)) (combined_by o (walked_by heading plan)))
@@ -179,8 +190,9 @@ module _ (heading : Heading) where
       ≡ if_so (outlives heading (walked_by heading plan) plan.starts None es) (one_kept es (made_by plan) (walked_by heading plan)))
       (sym s.whole) (uncombined s.newer s.older plan (made_by plan) (walked_by heading plan) s.count))
   leads h plan (Some n) le fits =
-      let s : Split h n = split_at h n (omega (arith, fits.1)) in
-      let r : Split s.older plan.starts = split_at s.older plan.starts (omega (arith, fits.0, s.count)) in
+      let c = combine_parts plan.starts (length h) n fits in
+      let s : Split h n = split_at h n c.1 in
+      let r : Split s.older plan.starts = split_at s.older plan.starts (omega (arith, c.0, s.count)) in
       let whole : h ≡ s.newer ++ (r.newer ++ r.older) = s.whole ∙ ap (λ es. s.newer ++ es) r.whole in
       let count : length (r.newer ++ r.older) ≡ n = sym (ap length r.whole) ∙ s.count in
       all_parts h (s.newer ++ r.newer) r.older plan (Some n) (outlives heading (walked_by heading plan) plan.starts (Some n) h)
@@ -192,50 +204,22 @@ module _ (heading : Heading) where
 
   -- ---- the test
 
-  within_from : (starts count : ℕ) (o : Option ℕ) → combine_within starts count o ≡ true → combine_fits starts (suc count) o
-  within_from starts count None k = tt
-  within_from starts count (Some n) k =
-      let p = and_parts (nat_le starts n) (nat_le n count) k in
-      (leb-true starts n p.0, suc-le-suc (leb-true n count p.1))
-
-  within_to : (starts count : ℕ) (o : Option ℕ) → combine_fits starts (suc count) o → combine_within starts count o ≡ true
-  within_to starts count None k = refl
-  within_to starts count (Some n) k =
-      and_from (nat_le starts n) (nat_le n count) (le-leb starts n k.0) (le-leb n count (le_of_suc-le-suc k.1))
-
-  fits_from : (plan : Plan) (count : ℕ) → is_within plan count ≡ true → Fits plan (suc count)
-  fits_from plan count k =
-      let a = and_parts (nat_lt 0 plan.starts && nat_le plan.starts count) (combine_within plan.starts count plan.combines) k in
-      let b = and_parts (nat_lt 0 plan.starts) (nat_le plan.starts count) a.0 in
-      record {
-        after_some = ltb-true 0 plan.starts b.0;
-        before_last = suc-le-suc (leb-true plan.starts count b.1);
-        combine = within_from plan.starts count plan.combines a.1;
-      }
-
-  fits_to : (plan : Plan) (count : ℕ) → Fits plan (suc count) → is_within plan count ≡ true
-  fits_to plan count f =
-      and_from (nat_lt 0 plan.starts && nat_le plan.starts count) (combine_within plan.starts count plan.combines)
-      (and_from (nat_lt 0 plan.starts) (nat_le plan.starts count) (lt-ltb 0 plan.starts f.after_some)
-      (le-leb plan.starts count (le_of_suc-le-suc f.before_last)))
-      (within_to plan.starts count plan.combines f.combine)
-
-  leads_to : (h : List Event) (plan : Plan) → Fits plan (suc (length h))
+  leads_to : (h : List Event) (plan : Plan) → is_within plan (length h) ≡ true
       → run_to heading at_start (run_of plan (reverse h))
       ≡ if_so (may_walk heading (first_events plan.starts h) plan && outlives heading (walked_by heading plan) plan.starts plan.combines h)
       (one_kept h (number_by plan.combines (made_by plan)) (combined_by plan.combines (walked_by heading plan)))
-  leads_to h plan fits = leads h plan plan.combines (le_of_suc-le-suc fits.before_last) fits.combine
+  leads_to h plan within = let p = within_parts plan (length h) within in leads h plan plan.combines p.0 p.1
 
   test_from : RunsAreFollowed → (h : List Event) (e : Event) (plan : Plan) → IsPlain heading h e plan → is_plain heading h e plan ≡ true
   test_from law h e plan p =
       let c = p.conflicts in
-      let same : reverse (run_of plan (reverse h)) ≡ c.older = tail_is _ _ _ (sym (run_to_event plan h e p.fits) ∙ c.last) in
+      let same : reverse (run_of plan (reverse h)) ≡ c.older = tail_is _ _ _ (sym (run_to_event plan h e p.within) ∙ c.last) in
       let r = run_back heading law [] (run_of plan (reverse h)) c.before (subst (λ (ss : List Step). IsRun heading ss c.before) (sym same) c.run) in
       let led : run_to heading at_start (run_of plan (reverse h)) ≡ Some c.before
       = ap (λ s. run_to heading s (run_of plan (reverse h))) (sym r.1) ∙ r.2 in
-      let q = if_so_some _ _ c.before (sym (leads_to h plan p.fits) ∙ led) in
+      let q = if_so_some _ _ c.before (sym (leads_to h plan p.within) ∙ led) in
       let b = and_parts (may_walk heading (first_events plan.starts h) plan) (outlives heading (walked_by heading plan) plan.starts plan.combines h) q.0 in
-      and_from _ _ (and_from _ _ (and_from _ _ (fits_to plan (length h) p.fits) b.0) b.1)
+      and_from _ _ (and_from _ _ (and_from _ _ p.within b.0) b.1)
       (sym (one_meets heading h (number_by plan.combines (made_by plan)) (combined_by plan.combines (walked_by heading plan)) e)
       ∙ ap (λ s. in_conflict heading s e) (sym q.1) ∙ c.conflict)
 
@@ -244,15 +228,14 @@ module _ (heading : Heading) where
       let a = and_parts _ (conflicts_with heading h e (combined_by plan.combines (walked_by heading plan))) k in
       let b = and_parts _ (outlives heading (walked_by heading plan) plan.starts plan.combines h) a.0 in
       let d = and_parts (is_within plan (length h)) (may_walk heading (first_events plan.starts h) plan) b.0 in
-      let fits = fits_from plan (length h) d.0 in
-      let led = leads_to h plan fits ∙ ap (λ b. if_so b (one_kept h (number_by plan.combines (made_by plan)) (combined_by plan.combines (walked_by heading plan))))
+      let led = leads_to h plan d.0 ∙ ap (λ b. if_so b (one_kept h (number_by plan.combines (made_by plan)) (combined_by plan.combines (walked_by heading plan))))
       (and_from (may_walk heading (first_events plan.starts h) plan) (outlives heading (walked_by heading plan) plan.starts plan.combines h) d.1 b.1) in
       record {
-        fits = fits;
+        within = d.0;
         conflicts = record {
           older = reverse (run_of plan (reverse h));
           before = one_kept h (number_by plan.combines (made_by plan)) (combined_by plan.combines (walked_by heading plan));
-          last = run_to_event plan h e fits;
+          last = run_to_event plan h e d.0;
           run = run_from heading law [] (run_of plan (reverse h)) at_start
               (one_kept h (number_by plan.combines (made_by plan)) (combined_by plan.combines (walked_by heading plan))) refl led;
           over = refl;

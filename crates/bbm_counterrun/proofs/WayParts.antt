@@ -1,7 +1,7 @@
 -- The parts of an entry that conflicts with a write over a leaf stand on the way to the place of the write.
 use Rattle.bbm_counterrun.proofs.Common.{append_assoc, Patterns, start_of, Entry, Part, desc_in, is_leaf, parts_of}
 use Rattle.bbm_counterrun.proofs.Common.{Begins, Chained, Fine, RunsAreFollowed, is_stale, extended, may_extend, Read}
-use Rattle.bbm_counterrun.proofs.Common.{holds_leaf, extended_by, may_extend_by, Goal, goal_at}
+use Rattle.bbm_counterrun.proofs.Common.{holds_leaf, extended_by, may_extend_by, Goal}
 use Rattle.bbm_rules.proofs.Common.{◌≡◌, ℕ, suc, ◌+◌, arith, Bool, true, false, ◌&&◌, ◌||◌, ◌==◌, List, [], ◌∷◌, ◌++◌}
 use Rattle.bbm_rules.proofs.Common.{length, map, reverse, Option, Some, None, unwrap_or, Contains, inl, inr, refl, sym}
 use Rattle.bbm_rules.proofs.Common.{◌∙◌, ap, true≢false, and_parts, eqb-true, or_cases, reverse-append, In, to_contains}
@@ -15,7 +15,7 @@ use Rattle.bbm_histories.specs.PositionLaws.{SingleNode}
 use Rattle.bbm_tlb_machine.specs.Invariant.{Holding, Placed}
 use Rattle.bbm_tlb_machine.specs.MachineLaws.{EntriesAreFine}
 use Rattle.bbm_counterrun.specs.RefusedWrite.{leaf_among, leaf_in}
-use Rattle.bbm_counterrun.proofs.LeastGoals.{HaveGoals}
+use Rattle.bbm_counterrun.proofs.LeastGoals.{HaveGoals, goal_at}
 use Rattle.bbm_tlb_machine.proofs.Descs.{CoreLaw, means_same}
 
 -- the laws of the machine, of trees, of what is held and of cores

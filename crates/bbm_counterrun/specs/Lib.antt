@@ -1,7 +1,7 @@
 pub mod TlbiAnswers
-pub mod Goals
 pub mod LeastList
 pub mod RunNumbers
+pub mod RunSteps
 pub mod Plans
 pub mod RefusedWrite
 pub mod Searching

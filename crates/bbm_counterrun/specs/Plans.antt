@@ -1,9 +1,10 @@
 -- Conflict runs of a refused write, and which of them are plain. A log, a run and their parts are oldest first here,
 -- but where it is said otherwise.
 -- Source: project's own choice.
-use Rattle.std.specs.Prelude.{◌≡◌, ℕ, zero, suc, ◌<◌, ◌≤◌, Bool, true, false, ◌&&◌, ◌||◌, ◌==◌, nat_lt, List, [], ◌∷◌}
+use Rattle.std.specs.Prelude.{◌≡◌, ℕ, zero, suc, Bool, true, false, ◌&&◌, nat_le, nat_lt, List, [], ◌∷◌}
 use Rattle.std.specs.Prelude.{◌++◌, length, map, take, drop, reverse, Option, Some, None, Ok}
 use Rattle.bbm_events.specs.declared.machine.MachineLine.TheVariants.{Start, Extend, Combine, Drop}
+use Rattle.bbm_rules.specs.Lists.{by_number}
 use Rattle.bbm_rules.specs.Prelude.{Kind, Heading, Event}
 use Rattle.bbm_tlb_machine.specs.declared.step.Step.{Step}
 use Rattle.bbm_tlb_machine.specs.declared.step.Step.TheVariants.{Machine, Event as Taken}
@@ -74,26 +75,21 @@ behind plan (Some n) events =
 abbrev pub run_of : Plan → List Event → List Step
 run_of plan events = map Taken (take plan.starts events) ++ walk_of plan ++ behind plan plan.combines events
 
--- The start comes after some event, the combine after the same or a later one, and both before the last of so many.
-abbrev pub combine_fits : ℕ → ℕ → Option ℕ → Type 0
-combine_fits starts count None = Unit {0}
-combine_fits starts count (Some n) = (starts ≤ n) × (n < count)
+-- whether the start comes after some event, the combine after the same or a later one, and both within so many events
+abbrev pub combine_within : ℕ → ℕ → Option ℕ → Bool
+combine_within starts count None = true
+combine_within starts count (Some n) = nat_le starts n && nat_le n count
 
-pub record Fits (plan : Plan) (count : ℕ) : Type 0 where
-  pub after_some : 0 < plan.starts
-  pub before_last : plan.starts < count
-  pub combine : combine_fits plan.starts count plan.combines
+abbrev pub is_within : Plan → ℕ → Bool
+is_within plan count = nat_lt 0 plan.starts && nat_le plan.starts count && combine_within plan.starts count plan.combines
 
--- Plain conflict run: the run of a plan over the events of h and then e, that is a conflict run. Here h is newest first.
+-- Plain conflict run: the run of a plan over the events of h and then e, that is a conflict run. The walk and the
+-- combine come before e. Here h is newest first.
 pub record IsPlain (heading : Heading) (h : List Event) (e : Event) (plan : Plan) : Type 0 where
-  pub fits : Fits plan (suc (length h))
+  pub within : is_within plan (length h) ≡ true
   pub conflicts : IsConflictRun heading h e (reverse (run_of plan (reverse (e ∷ h))))
 
 -- ---- the order of plain runs
-
--- less by a number; where the two are equal, by what comes next
-abbrev pub by_number : ℕ → ℕ → Bool → Bool
-by_number m n next = nat_lt m n || (m == n && next)
 
 -- less by lists of reads: by the first in which they differ, place before value, and a list that ends before another
 -- is less; where they are equal, by what comes next

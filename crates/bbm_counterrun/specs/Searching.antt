@@ -1,7 +1,6 @@
--- What a search over the plans finds, key by key. A history is newest first. Source: project's own choice.
+-- What a search over the plans finds, key by key. A history is newest first. No public contract cites these words.
 use Rattle.std.specs.Prelude.{◌≡◌, ℕ, ◌<◌, ◌≤◌, Bool, true, false, ◌&&◌, not, nat_le, List, [], ◌∷◌, length, Option}
-use Rattle.std.specs.Prelude.{Some}
-use Rattle.std.specs.Prelude.{None}
+use Rattle.std.specs.Prelude.{Some, None}
 use Rattle.bbm_rules.specs.Lists.{among, any}
 use Rattle.bbm_rules.specs.Prelude.{Kind, Heading, Event}
 use Rattle.bbm_tlb_machine.specs.Entry.{Entry}

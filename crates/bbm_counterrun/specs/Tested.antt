@@ -12,7 +12,7 @@ use Rattle.bbm_rules.specs.Tags.{itself}
 use Rattle.bbm_tlb_machine.specs.Entry.{Entry}
 use Rattle.bbm_tlb_machine.specs.Safe.{conflicts_with}
 use Rattle.bbm_tlb_machine.specs.Step.{combined, extended, is_stage2, may_extend, may_start, must_go, started}
-use Rattle.bbm_counterrun.specs.Plans.{IsPlain, Plan, Read}
+use Rattle.bbm_counterrun.specs.Plans.{IsPlain, Plan, Read, is_within}
 
 -- the first so many events of a history
 abbrev pub first_events : ℕ → List Event → List Event
@@ -22,14 +22,6 @@ first_events n h = drop (length h - n) h
 abbrev pub extended_by : Entry → List Read → Entry
 extended_by x [] = x
 extended_by x (r ∷ rs) = extended_by (extended x r.place r.value) rs
-
--- whether the start comes after some event, the combine after the same or a later one, and both within so many events
-abbrev pub combine_within : ℕ → ℕ → Option ℕ → Bool
-combine_within starts count None = true
-combine_within starts count (Some n) = nat_le starts n && nat_le n count
-
-abbrev pub is_within : Plan → ℕ → Bool
-is_within plan count = nat_lt 0 plan.starts && nat_le plan.starts count && combine_within plan.starts count plan.combines
 
 -- the entry at the last event, of the one that the walk leaves
 abbrev pub combined_by : Option ℕ → Entry → Entry

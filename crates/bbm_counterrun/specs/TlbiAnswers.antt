@@ -1,5 +1,5 @@
 -- The TLBIs of a log that a DSB answers, as the search keeps them. A history is newest first.
--- Source: project's own choice.
+-- No public contract cites these words.
 use Rattle.std.specs.Prelude.{◌≡◌, ℕ, Bool, ◌&&◌, nat_le, nat_lt, List}
 use Rattle.bbm_rules.specs.Lists.{any}
 use Rattle.bbm_rules.specs.Prelude.{Heading, Event}

@@ -2,12 +2,12 @@
 -- each the least value that a walk can read there at some moment with the same meaning. A history is newest first.
 -- Source: project's own choice.
 use Rattle.std.specs.Prelude.{ℕ, Bool, ◌&&◌, not, ◌==◌, List, [], ◌∷◌, ◌++◌, map, filter, filter_map, reverse, Option}
-use Rattle.std.specs.Prelude.{Some}
-use Rattle.std.specs.Prelude.{None, if◌then◌else◌}
+use Rattle.std.specs.Prelude.{Some, None, if◌then◌else◌}
 use Rattle.bbm_descriptor.specs.Descriptor.{is_valid, needs}
-use Rattle.bbm_rules.specs.Claims.{Patterns}
+use Rattle.bbm_rules.specs.Claims.{Trust, Patterns}
 use Rattle.bbm_rules.specs.Covers.{noted}
 use Rattle.bbm_rules.specs.Lists.{◌>>=◌, least}
+use Rattle.bbm_rules.specs.Notes.{Noted}
 use Rattle.bbm_rules.specs.Places.{page_of}
 use Rattle.bbm_rules.specs.Prelude.{Kind, Heading, Event, Write}
 use Rattle.bbm_rules.specs.Tree.{Node, held_at, node_of}
@@ -32,17 +32,28 @@ abbrev pub places_to : Option Node → ℕ → List ℕ
 places_to None place = []
 places_to (Some n) place = reverse (map (λ a. a.place) n.above) ++ place ∷ []
 
-module _ (heading : Heading) where
-  module _ (h : List Event) where
-    abbrev pub goal_at : ℕ → Option Goal
-    goal_at place = do
-      n ← node_of heading Patterns (noted heading Patterns h) (page_of place)
-      value ← held_at heading Patterns (noted heading Patterns h) n place
-      Some (record { place = place; kind = n.kind; level = n.level; value = value })
+-- the way by the notes of a history and what is trusted
+module _ (heading : Heading) (trust : Trust) (h : List Noted) where
+  -- a place of a page with what it holds
+  abbrev pub goal_in : ℕ → Node → Option Goal
+  goal_in place n = do
+    value ← held_at heading trust h n place
+    Some (record { place = place; kind = n.kind; level = n.level; value = value })
 
-    abbrev pub way_to : ℕ → List Goal
-    way_to place =
-        filter_map goal_at (places_to (node_of heading Patterns (noted heading Patterns h) (page_of place)) place)
+  abbrev pub goal_among : ℕ → Option Goal
+  goal_among place = node_of heading trust h (page_of place) >>= goal_in place
+
+  -- those of these places that hold something
+  abbrev pub goals_among : List ℕ → List Goal
+  goals_among places = filter_map goal_among places
+
+  abbrev pub way_among : ℕ → List Goal
+  way_among place = goals_among (places_to (node_of heading trust h (page_of place)) place)
+
+module _ (heading : Heading) where
+  -- the way by every pattern of events
+  abbrev pub way_to : List Event → ℕ → List Goal
+  way_to h = way_among heading Patterns (noted heading Patterns h)
 
   module _ (h : List Event) (p : ℕ) where
     -- whether p can read the value at the place of the goal, and it has the core of what the place holds

@@ -3,7 +3,7 @@
 ghost use Rattle.std.specs.Prelude.{◌≡◌, ℕ, ◌<◌, ◌≤◌, ◌&&◌, true, false, length, IfOk};
 ghost use Rattle.bbm_counterrun.specs.TlbiAnswers.{forbids_by};
 ghost use Rattle.bbm_counterrun.specs.Searching as spec;
-ghost use Rattle.bbm_counterrun.specs.Tested.{combine_within};
+ghost use Rattle.bbm_counterrun.specs.Plans.{combine_within};
 ghost use Rattle.bbm_tlb_machine.specs.Step.{combined, is_stage2};
 
 use crate::answers::{Answer, is_forbidden};

@@ -1,6 +1,7 @@
 //! The run of the first plain conflict run.
 
-ghost use Rattle.std.specs.Prelude.{◌≡◌, ℕ, ◌<◌, ◌∷◌, true, List, is_some, reverse, option_map, All, IfOk, IfSome};
+ghost use Rattle.std.specs.Prelude.{◌≡◌, ℕ, ◌<◌, ◌∷◌, true, false, List, None, is_some, reverse, option_map};
+ghost use Rattle.std.specs.Prelude.{All, IfOk, IfSome};
 ghost use Rattle.bbm_counterrun.specs.TlbiAnswers.{IsAnswers};
 ghost use Rattle.bbm_counterrun.specs.Plans.{Finds};
 ghost use Rattle.bbm_counterrun.specs.RefusedWrite as spec;
@@ -186,11 +187,14 @@ pub fn find_over_leaf(
     }
 }
 
-/// The first plain conflict run of the last event of a log; None where there is none, or where that is no write at a
-/// place that holds a leaf. `NoMemory` where there is no memory.
+/// The first plain conflict run of the last event of a log, where that is a write which the rule of break-before-make
+/// refuses at a place that holds a leaf, after events that keep the rules; None where there is none. None also where the
+/// last event is no write at a place that holds a leaf before it. `NoMemory` where there is no memory.
 pub fn find(alloc: Global, header: &Header, log: &Vec<Event>) -> Result<Option<Vec<Step>>, NoMemory>
     requires fits { All (λ event. fits_heading header.now event ≡ true) log.now.items }
-    ensures { IfOk result (λ found. (h : List TheEvent) (pe place value : ℕ)
+    ensures no_leaf { IfOk result (λ found. spec.ends_at_leaf header.now (reverse log.now.items) ≡ false
+        → found ≡ None) }
+    ensures finds { IfOk result (λ found. (h : List TheEvent) (pe place value : ℕ)
         → reverse log.now.items ≡ Write pe place value ∷ h
         → spec.IsRefused header.now h pe place value → spec.holds_leaf header.now h place ≡ true
         → Finds header.now h (Write pe place value) (option_map (λ v. v.items) found)) }

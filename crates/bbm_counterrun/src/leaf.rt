@@ -54,8 +54,8 @@ pub fn is_leaf_at(history: &History<AllPatterns>, place: Place) -> bool
 }
 
 /// Whether the last event of a log is a write at a place that holds a leaf before it; so where there is a refused
-/// write, whether what it would replace is a leaf. `NoMemory` where there is none.
-pub fn holds_leaf(alloc: Global, header: &Header, log: &Vec<Event>) -> Result<bool, NoMemory>
+/// write, whether what it would replace is a leaf. `NoMemory` where there is no memory.
+pub fn ends_at_leaf(alloc: Global, header: &Header, log: &Vec<Event>) -> Result<bool, NoMemory>
     requires { All (λ event. fits_heading header.now event ≡ true) log.now.items }
     ensures { IfOk result (λ leaf. leaf ≡ spec.ends_at_leaf header.now (reverse log.now.items)) }
 {

@@ -18,6 +18,8 @@ mod walk;
 mod way;
 
 pub use first_run::{find, find_over_leaf};
-pub use laws::{law_conflict_at_the_end, law_plain_is_tested};
-pub use leaf::holds_leaf;
+pub use laws::{
+    law_conflict_at_the_end, law_one_run, law_plain_is_tested, law_run_is_short, law_steps_fit,
+};
+pub use leaf::ends_at_leaf;
 pub use least_list::law_least_reads;

@@ -1,10 +1,9 @@
 //! The VMIDs and ASIDs under which a walk may be made.
 
-ghost use Rattle.std.specs.Prelude.{◌≡◌, ℕ, ◌++◌, true, map, reverse, option_to_list, IfOk, OnOk};
+ghost use Rattle.std.specs.Prelude.{◌≡◌, ◌++◌, map, reverse, option_to_list, IfOk, OnOk};
 ghost use Rattle.bbm_counterrun.specs.RunNumbers as spec;
-ghost use Rattle.bbm_rules.specs.Lists.{among};
 ghost use Rattle.bbm_rules.specs.RegisterValues.{tag_number as number_in};
-ghost use Rattle.bbm_tlb_machine.specs.Step.{asid_register as asid_register_of, current_asids, may_start, started};
+ghost use Rattle.bbm_tlb_machine.specs.Step.{asid_register as asid_register_of, current_asids};
 ghost use Rattle.bbm_rules.specs.Tags.{readings};
 
 use bbm_events::{Event, Header};
@@ -90,9 +89,9 @@ fn readable(alloc: Global, header: &Header, events: &[Event], pe: Pe) -> Result<
     numbers_of(alloc, &readings)
 }
 
-/// Numbers of which each one is, under which the PE may start a walk through tables of the kind after these events.
+/// The numbers that are tried for a walk of the PE through tables of the kind after these events: those of the tags that
+/// are readable there, in the order of their readings; and of the upper range, whose tag has none, the current ASIDs.
 /// `NoMemory` where there is none.
-#[tactic(auto, using(crate::proofs::NumberCode::numbered))]
 pub fn numbers_at(
     alloc: Global,
     header: &Header,
@@ -100,22 +99,10 @@ pub fn numbers_at(
     pe: Pe,
     kind: Kind,
 ) -> Result<Vec<u16>, NoMemory>
-    ensures { IfOk result (λ numbers. (number now place value : ℕ) → may_start header.now (reverse events.now)
-        (started header.now now pe kind number place value) number ≡ true → among number numbers.items ≡ true) }
+    ensures { IfOk result (λ numbers. numbers.items ≡ spec.numbers_by header.now (reverse events.now) pe kind) }
 {
     match kind {
-        Kind::El2 => {
-            let numbers = readable(alloc, header, events, pe)?;
-            Ok(numbers)
-        }
-        Kind::S2 => {
-            let numbers = readable(alloc, header, events, pe)?;
-            Ok(numbers)
-        }
-        Kind::Ttbr0 => {
-            let numbers = readable(alloc, header, events, pe)?;
-            Ok(numbers)
-        }
+        Kind::El2 | Kind::S2 | Kind::Ttbr0 => readable(alloc, header, events, pe),
         Kind::Ttbr1 => current(alloc, header, events, pe),
     }
 }

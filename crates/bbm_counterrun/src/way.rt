@@ -1,8 +1,7 @@
 //! The way to a place.
 
 ghost use Rattle.std.specs.Prelude.{◌≡◌, ◌++◌, Some, map, reverse, option_to_list, IfOk, OnOk};
-ghost use Rattle.bbm_counterrun.specs.Goals as spec;
-ghost use Rattle.bbm_counterrun.specs.Ways.{places_to};
+ghost use Rattle.bbm_counterrun.specs.Ways as spec;
 ghost use Rattle.bbm_oracle_trees.specs.Past.{notes};
 
 use crate::read::Goal;
@@ -95,7 +94,7 @@ fn way_in(
     place: Place,
 ) -> Result<Vec<Goal>, NoMemory>
     ensures { IfOk result (λ way. way.items ≡ spec.goals_among history.now.heading history.now.trust (notes history.now)
-        (places_to (Some node.now) place)) }
+        (spec.places_to (Some node.now) place)) }
 {
     let mut way = Vec::new(alloc);
     add_above(history, &node.above, &mut way)?;

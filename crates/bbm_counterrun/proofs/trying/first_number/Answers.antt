@@ -1,9 +1,12 @@
-use Rattle.bbm_rules.proofs.Common.{ap, ◌∙◌, among}
+use Rattle.bbm_rules.proofs.Common.{ap, ◌∙◌, among, reverse, take}
 use Rattle.bbm_counterrun.proofs.ChoiceSteps.{every_number}
+use Rattle.bbm_counterrun.proofs.NumberCode.{is_numbered}
 use Rattle.bbm_counterrun.proofs.trying.first_number.Goals as goal
 
 pub returns : goal.returns
 returns c =
     every_number c.args.search.now.header.now c.args.search.now.events.now c.args.search.now.place c.args.search.now.value c.args.starts c.args.pe
     c.args.search.now.kind c.args.reads.now c.deref.result.now c.in_ok-best.best c.requires.within
-    (λ n now at v may. ap (among n) c.deref.ensures.value ∙ c.in_ok-numbers.ensures n now at v may) c.in_ok-best.ensures
+    (λ n now at v may. ap (among n) (c.deref.ensures.value ∙ c.in_ok-numbers.ensures)
+    ∙ is_numbered c.args.search.now.header.now (reverse (take c.args.starts c.args.search.now.events.now)) c.args.pe c.args.search.now.kind n now at v may)
+    c.in_ok-best.ensures

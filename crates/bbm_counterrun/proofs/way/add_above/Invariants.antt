@@ -1,6 +1,6 @@
 use Rattle.bbm_counterrun.proofs.Common.{notes}
 use Rattle.bbm_rules.proofs.Common.{◌≡◌, ◌++◌, map, take, reverse, Above}
-use Rattle.bbm_counterrun.specs.Goals.{goals_among}
+use Rattle.bbm_counterrun.specs.Ways.{goals_among}
 use Rattle.bbm_counterrun.proofs.way.add_above.Given as goal
 
 abbrev pub invariant-loop-place : goal.invariant-loop-place
