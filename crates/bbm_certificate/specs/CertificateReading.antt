@@ -1,10 +1,8 @@
--- A log and right behind it its certificate, line by line: a fold over lines, which knows nothing of a reader. All lines
--- are read before anything is judged. Events are newest first, and claims in their order.
+-- A log and right behind it its certificate, line by line: a fold over lines. All lines are read before anything is
+-- judged. Events are newest first, and claims in their order.
 -- Source: project's own choice.
-use Rattle.std.specs.Prelude.{◌≡◌, ◌≤◌, ℕ, suc, ◌+◌, Bool, true, false, ◌==◌, nat_le, List, [], ◌∷◌, ◌++◌, length, drop}
-use Rattle.std.specs.Prelude.{reverse}
-use Rattle.std.specs.Prelude.{Contains}
-use Rattle.std.specs.Prelude.{Result, Ok, Err, if◌then◌else◌}
+use Rattle.std.specs.Prelude.{◌≡◌, ◌≤◌, ℕ, ◌+◌, Bool, true, false, ◌==◌, nat_le, List, [], ◌∷◌, ◌++◌, length, reverse}
+use Rattle.std.specs.Prelude.{Contains, Result, Ok, Err, if◌then◌else◌}
 use Rattle.bbm_regimes.specs.declared.regime.Which.TheVariants.{LineBytes, Events, Claims}
 use Rattle.bbm_events.specs.declared.certificate.ClaimItem.{ClaimItem}
 use Rattle.bbm_events.specs.declared.certificate.ClaimItem.TheVariants as claim_item
@@ -20,7 +18,7 @@ use Rattle.bbm_events.specs.Fits.{fits_heading}
 use Rattle.bbm_events.specs.Lines.{header_of, item_of}
 use Rattle.bbm_rules.specs.declared.verdict.Verdict.{Verdict}
 use Rattle.bbm_rules.specs.declared.verdict.Verdict.TheVariants.{Malformed, Limit}
-use Rattle.bbm_rules.specs.Outcome.{text_of, is_too_long, unread_after}
+use Rattle.bbm_rules.specs.Fold.{Turned, Halts, Passes, Fold, Ending, ending_at, header_by}
 use Rattle.bbm_certificate.specs.declared.kept.Kept.{Kept}
 use Rattle.bbm_certificate.specs.declared.kept.Part.{Part}
 use Rattle.bbm_certificate.specs.declared.kept.Part.TheVariants as part
@@ -46,104 +44,78 @@ pub data Reached : Type 0 where
   AtClaims : Heading → List Event → List Claim → Reached
   AtEnd : Heading → List Event → List Claim → Reached
 
--- What one line decides: reading stops there, or how far the lines are read with it. A line that stops reading is
--- malformed or reaches a limit.
-pub data Turned : Type 0 where
-  Stops : Verdict → Turned
-  GoesOn : Reached → Turned
+-- What is said of a text: reading stopped, at a line that is malformed or reaches a limit, or it was read whole: the
+-- heading, the events and the claims.
+pub data CertificateSays : Type 0 where
+  Stopped : Verdict → CertificateSays
+  Whole : Heading → List Event → List Claim → CertificateSays
 
 -- one more event: a malformed line comes before the limit of events
-abbrev pub after_event : ℕ → Heading → List Event → Event → Turned
+abbrev pub after_event : ℕ → Heading → List Event → Event → Turned Reached CertificateSays
 after_event number heading h event =
-    if nat_le event_limit (length h) then Stops (Limit number Events) else GoesOn (AtEvents heading (event ∷ h))
+    if nat_le event_limit (length h) then Halts (Stopped (Limit number Events))
+    else Passes (AtEvents heading (event ∷ h))
 
 -- the end of the log, with the right count of its events
-abbrev pub after_log : ℕ → Heading → List Event → ℕ → Turned
+abbrev pub after_log : ℕ → Heading → List Event → ℕ → Turned Reached CertificateSays
 after_log number heading h count =
-    if count == length h then GoesOn (BehindLog heading h) else Stops (Malformed number WrongCount)
+    if count == length h then Passes (BehindLog heading h) else Halts (Stopped (Malformed number WrongCount))
 
 -- a line of the log; a label says nothing here
-abbrev pub after_item : ℕ → Heading → List Event → Result Item Cause → Turned
+abbrev pub after_item : ℕ → Heading → List Event → Result Item Cause → Turned Reached CertificateSays
 after_item number heading h (Ok (item.Event event label)) = after_event number heading h event
 after_item number heading h (Ok (item.End count)) = after_log number heading h count
-after_item number heading h (Err cause) = Stops (Malformed number cause)
+after_item number heading h (Err cause) = Halts (Stopped (Malformed number cause))
 
 -- the line right behind the log, which begins the certificate
-abbrev pub after_first : ℕ → Heading → List Event → Result (Unit {0}) Cause → Turned
-after_first number heading h (Ok _) = GoesOn (AtClaims heading h [])
-after_first number heading h (Err cause) = Stops (Malformed number cause)
+abbrev pub after_first : ℕ → Heading → List Event → Result (Unit {0}) Cause → Turned Reached CertificateSays
+after_first number heading h (Ok _) = Passes (AtClaims heading h [])
+after_first number heading h (Err cause) = Halts (Stopped (Malformed number cause))
 
 -- one more claim
-abbrev pub after_claim : ℕ → Heading → List Event → List Claim → Claim → Turned
+abbrev pub after_claim : ℕ → Heading → List Event → List Claim → Claim → Turned Reached CertificateSays
 after_claim number heading h cs claim =
-    if nat_le claim_limit (length cs) then Stops (Limit number Claims) else GoesOn (AtClaims heading h (cs ++ claim ∷ []))
+    if nat_le claim_limit (length cs) then Halts (Stopped (Limit number Claims))
+    else Passes (AtClaims heading h (cs ++ claim ∷ []))
 
 -- the end of the certificate, with the right count of its claims
-abbrev pub after_claims : ℕ → Heading → List Event → List Claim → ℕ → Turned
+abbrev pub after_claims : ℕ → Heading → List Event → List Claim → ℕ → Turned Reached CertificateSays
 after_claims number heading h cs count =
-    if count == length cs then GoesOn (AtEnd heading h cs) else Stops (Malformed number WrongCount)
+    if count == length cs then Passes (AtEnd heading h cs) else Halts (Stopped (Malformed number WrongCount))
 
 -- a line of the certificate behind its first
-abbrev pub after_claim_item : ℕ → Heading → List Event → List Claim → Result ClaimItem Cause → Turned
+abbrev pub after_claim_item : ℕ → Heading → List Event → List Claim → Result ClaimItem Cause
+    → Turned Reached CertificateSays
 after_claim_item number heading h cs (Ok (claim_item.Claim claim)) = after_claim number heading h cs claim
 after_claim_item number heading h cs (Ok (claim_item.End count)) = after_claims number heading h cs count
-after_claim_item number heading h cs (Err cause) = Stops (Malformed number cause)
-
-abbrev pub after_header : ℕ → Result Heading Cause → Turned
-after_header number (Ok heading) = GoesOn (AtEvents heading [])
-after_header number (Err cause) = Stops (Malformed number cause)
+after_claim_item number heading h cs (Err cause) = Halts (Stopped (Malformed number cause))
 
 -- a line of at most 200 bytes
-abbrev pub after_line : ℕ → Reached → List ℕ → Turned
-after_line number AtHeader line = after_header number (header_of line)
+abbrev pub after_line : ℕ → Reached → List ℕ → Turned Reached CertificateSays
+after_line number AtHeader line = header_by (λ heading. AtEvents heading []) Stopped number (header_of line)
 after_line number (AtEvents heading h) line = after_item number heading h (item_of heading line)
 after_line number (BehindLog heading h) line = after_first number heading h (certificate_of line)
 after_line number (AtClaims heading h cs) line = after_claim_item number heading h cs (claim_of heading line)
-after_line number (AtEnd heading h cs) line = Stops (Malformed number AfterEnd)
+after_line number (AtEnd heading h cs) line = Halts (Stopped (Malformed number AfterEnd))
 
 -- a line that is too long
 abbrev pub too_long_at : ℕ → Reached → Verdict
 too_long_at number (AtEnd heading h cs) = Malformed number AfterEnd
 too_long_at number _ = Limit number LineBytes
 
-abbrev pub turned_by : ℕ → Reached → List ℕ → Turned
-turned_by number reached line =
-    if is_too_long line then Stops (too_long_at number reached) else after_line number reached line
-
--- What is said of a text: reading stopped, or it was read whole: the heading, the events and the claims.
-pub data Said : Type 0 where
-  Stopped : Verdict → Said
-  Whole : Heading → List Event → List Claim → Said
-
 -- the end of the input, after these bytes since the last newline
-abbrev pub cut_at : ℕ → Reached → List ℕ → Said
+abbrev pub cut_at : ℕ → Reached → List ℕ → CertificateSays
 cut_at number (AtEnd heading h cs) [] = Whole heading h cs
 cut_at number (AtEnd heading h cs) (byte ∷ rest) = Stopped (Malformed number AfterEnd)
 cut_at number _ rest = Stopped (Malformed number NoEnd)
 
-abbrev pub end_of : ℕ → Reached → List ℕ → Said
-end_of number reached rest =
-    if is_too_long rest then Stopped (too_long_at number reached) else cut_at number reached rest
+-- the events of a log and the claims of its certificate are kept
+unfoldable pub certifying : Fold Reached CertificateSays
+certifying = record { line = after_line; long = λ n p. Stopped (too_long_at n p); cut = cut_at }
 
--- what is said of a text, and the bytes that need not be read for it
-pub record Read : Type 0 where
-  pub says : Said
-  pub unread : List ℕ
-
-abbrev pub read_after : List ℕ → List (List ℕ) → List ℕ → (Reached → Read) → Turned → Read
-read_after line lines rest goes_on (Stops verdict) =
-    record { says = Stopped verdict; unread = unread_after line lines rest }
-read_after line lines rest goes_on (GoesOn next) = goes_on next
-
--- from line number n on, where the lines before were read so far
-abbrev pub read_from : ℕ → Reached → List (List ℕ) → List ℕ → Read
-read_from number reached [] rest = record { says = end_of number reached rest; unread = drop 201 rest }
-read_from number reached (line ∷ lines) rest =
-    read_after line lines rest (λ next. read_from (suc number) next lines rest) (turned_by number reached line)
-
--- a list of bytes that is a log and its certificate
-abbrev pub read_of : List ℕ → Read
-read_of bytes = read_from 1 AtHeader (text_of bytes).lines (text_of bytes).rest
+-- what is said of a list of bytes, and which of them need not be read for it
+abbrev pub read_of : List ℕ → Ending CertificateSays
+read_of bytes = ending_at certifying 1 AtHeader bytes
 
 -- the number of the next line
 abbrev pub next_number : Reached → ℕ
@@ -169,8 +141,8 @@ IsSound (AtClaims heading h cs) = AreRead heading h cs
 IsSound (AtEnd heading h cs) = AreRead heading h cs
 
 -- the end of the certificate comes behind its claims
-abbrev pub EndsAt : Reached → Turned → Type 0
-EndsAt (AtClaims heading h cs) turned = turned ≡ GoesOn (AtEnd heading h cs)
+abbrev pub EndsAt : Reached → Turned Reached CertificateSays → Type 0
+EndsAt (AtClaims heading h cs) turned = turned ≡ Passes (AtEnd heading h cs)
 EndsAt _ turned = ⊥
 
 -- how far the lines behind the header were read, by what is kept of them
@@ -188,16 +160,16 @@ abbrev pub kept_at : Heading → Kept → Reached
 kept_at heading kept = reached_in heading kept.part (reverse kept.events.items) kept.claims.items
 
 -- whether a line behind those is one more event or claim
-abbrev pub is_kept : Reached → Turned → Bool
-is_kept (AtEvents heading h) (GoesOn (AtEvents heading' h')) = true
-is_kept (AtClaims heading h cs) (GoesOn (AtClaims heading' h' cs')) = true
+abbrev pub is_kept : Reached → Turned Reached CertificateSays → Bool
+is_kept (AtEvents heading h) (Passes (AtEvents heading' h')) = true
+is_kept (AtClaims heading h cs) (Passes (AtClaims heading' h' cs')) = true
 is_kept _ _ = false
 
--- What line number n, behind the header, says, by how far the lines before it are read, and with it: it was taken; or it is the
--- end of the certificate; or reading stops. There may be no memory for an event or a claim alone.
-abbrev pub TakesLine : ℕ → Reached → Reached → Result Turn LineFault → Turned → Type 0
-TakesLine number old new (Ok turn.Taken) turned = turned ≡ GoesOn new
+-- What line number n, behind the header, says, by how far the lines before it are read, and with it: it was taken; or
+-- it is the end of the certificate; or reading stops. There may be no memory for an event or a claim alone.
+abbrev pub TakesLine : ℕ → Reached → Reached → Result Turn LineFault → Turned Reached CertificateSays → Type 0
+TakesLine number old new (Ok turn.Taken) turned = turned ≡ Passes new
 TakesLine number old new (Ok turn.End) turned = EndsAt old turned × (new ≡ old)
-TakesLine number old new (Err (fault.Malformed cause)) turned = turned ≡ Stops (Malformed number cause)
-TakesLine number old new (Err (fault.Limit which)) turned = turned ≡ Stops (Limit number which)
+TakesLine number old new (Err (fault.Malformed cause)) turned = turned ≡ Halts (Stopped (Malformed number cause))
+TakesLine number old new (Err (fault.Limit which)) turned = turned ≡ Halts (Stopped (Limit number which))
 TakesLine number old new (Err fault.NoMemory) turned = is_kept old turned ≡ true

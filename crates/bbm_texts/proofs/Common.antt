@@ -19,7 +19,7 @@ pub use Rattle.bbm_texts.specs.CertTexts.{claim_lines}
 pub use Rattle.bbm_texts.specs.Counterruns.{refused_write, step_line, step_lines}
 pub use Rattle.bbm_texts.specs.Generating.{counts_text, ended, gen_first}
 pub use Rattle.bbm_texts.specs.Known.{Keeps, Knows, KnowsThat, TellsEvent}
-pub use Rattle.bbm_texts.specs.Says.{Says, SaysIn, ShowsMore}
+pub use Rattle.bbm_texts.specs.Says.{IsOutput, IsOutputUnder, MayShowEvidence}
 pub use Rattle.bbm_texts.specs.Shown.{marked_lines}
 pub use Rattle.bbm_texts.specs.Statuses.{status_of}
 pub use Rattle.bbm_texts.specs.Telling.{place_named}

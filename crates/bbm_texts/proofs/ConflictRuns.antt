@@ -4,7 +4,7 @@ use Rattle.bbm_texts.proofs.Common.{Unlock, Failed, Patterns, Status, Decision, 
 use Rattle.bbm_texts.proofs.Common.{BreakBeforeMake, LimboMake, NotFresh, RewrittenFresh, BadKind, GlobalUser}
 use Rattle.bbm_texts.proofs.Common.{PageInUse, NoRoot, TagConflict, RootInUse, UnsyncedVmid, BadOperand, LockBusy}
 use Rattle.bbm_texts.proofs.Common.{LockNotMine, Verdict, Accepted, Refused, Malformed, Limit, refused_write, step_line}
-use Rattle.bbm_texts.proofs.Common.{step_lines, Show, Counterrun, ended, ShowsMore, status_of, Keeps, KnowsThat}
+use Rattle.bbm_texts.proofs.Common.{step_lines, Show, Counterrun, ended, MayShowEvidence, status_of, Keeps, KnowsThat}
 use Rattle.bbm_texts.proofs.Common.{TellsEvent, Pours, Puts, ReportsDecided, ReportsText, Wrote, Step}
 use Rattle.bbm_rules.proofs.Common.{◌≡◌, ℕ, zero, suc, ◌+◌, ◌<◌, true, Bool, List, [], ◌∷◌, ◌++◌, length, map}
 use Rattle.bbm_rules.proofs.Common.{take, drop, get_or, reverse, Option, Some, None, Result, Err, refl, ap, sym, ◌∙◌}
@@ -184,7 +184,7 @@ knows-refused stands heading h e (Malformed line cause) refused is keeps tells =
 knows-refused stands heading h e (Limit line which) refused is keeps tells = cc
 
 shows-by : (line : ℕ) (rule : Rule) (at : ℕ) (label : Option (List ℕ)) (e : Event) (refused : Option Event) → refused_by rule refused ≡ Some e
-    → ShowsMore (Show Counterrun) (Refused line rule at label)
+    → MayShowEvidence (Show Counterrun) (Refused line rule at label)
 shows-by line BreakBeforeMake at label e refused is = tt
 shows-by line WrongWorld at label e refused is = cc
 shows-by line NoLock at label e refused is = cc
@@ -204,7 +204,7 @@ shows-by line LockBusy at label e refused is = cc
 shows-by line LockNotMine at label e refused is = cc
 
 -- a run may be shown then
-pub shows-run : (v : Verdict) (e : Event) (refused : Option Event) → refused_write refused v ≡ Some e → ShowsMore (Show Counterrun) v
+pub shows-run : (v : Verdict) (e : Event) (refused : Option Event) → refused_write refused v ≡ Some e → MayShowEvidence (Show Counterrun) v
 shows-run (Accepted events) e refused is = cc
 shows-run (Refused line rule at label) e refused is = shows-by line rule at label e refused is
 shows-run (Malformed line cause) e refused is = cc

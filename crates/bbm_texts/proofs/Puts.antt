@@ -3,7 +3,7 @@ use Rattle.bbm_texts.proofs.Common.{Failed, Heading, Rule, WrongWorld, NoLock, N
 use Rattle.bbm_texts.proofs.Common.{NotFresh, RewrittenFresh, BadKind, GlobalUser, PageInUse, NoRoot, TagConflict}
 use Rattle.bbm_texts.proofs.Common.{RootInUse, UnsyncedVmid, BadOperand, LockBusy, LockNotMine, Verdict, Accepted}
 use Rattle.bbm_texts.proofs.Common.{Refused, Malformed, Limit, Patterns, explained, Command, Show, Counterrun, Cert}
-use Rattle.bbm_texts.proofs.Common.{Says, SaysIn, Keeps, Knows, place_named, Part, Puts}
+use Rattle.bbm_texts.proofs.Common.{IsOutput, IsOutputUnder, Keeps, Knows, place_named, Part, Puts}
 use Rattle.bbm_rules.proofs.Common.{◌≡◌, Bool, true, false, if◌then◌else◌, ℕ, zero, suc, ◌+◌, ◌-◌, ◌<◌, List, [], ◌++◌}
 use Rattle.bbm_rules.proofs.Common.{length, take, Option, Some, None, Result, Ok, Err, refl, ap, sym, ◌∙◌, arith}
 use Rattle.bbm_rules.proofs.Common.{append_assoc, append-nil, length-append, subst, is_place}
@@ -126,7 +126,7 @@ knows-keeps stands heading h (Malformed line cause) place is knows = cc
 knows-keeps stands heading h (Limit line which) place is knows = cc
 
 -- a verdict behind which nothing is said
-line-alone : (command : Command) (heading : Heading) (h : List EventOf) (refused : Option EventOf) (v : Verdict) → EndsThere v → SaysIn command heading h refused v (verdict_text v)
+line-alone : (command : Command) (heading : Heading) (h : List EventOf) (refused : Option EventOf) (v : Verdict) → EndsThere v → IsOutputUnder command heading h refused v (verdict_text v)
 line-alone command heading h refused (Accepted events) ends = absurd ends
 line-alone command heading h refused (Refused line rule at label) ends = absurd ends
 line-alone Check heading h refused (Malformed line cause) ends = refl
@@ -144,6 +144,6 @@ line-alone (Show Idle) heading h refused (Limit line which) ends = sym (append-n
 line-alone (Show Counterrun) heading h refused (Limit line which) ends = refl
 line-alone (Show Cert) heading h refused (Limit line which) ends = refl
 
-pub says-line : (command : Command) (heading : Option Heading) (h : List EventOf) (refused : Option EventOf) (v : Verdict) → EndsThere v → Says command heading h refused v (verdict_text v)
+pub says-line : (command : Command) (heading : Option Heading) (h : List EventOf) (refused : Option EventOf) (v : Verdict) → EndsThere v → IsOutput command heading h refused v (verdict_text v)
 says-line command None h refused v ends = refl
 says-line command (Some heading) h refused v ends = line-alone command heading h refused v ends

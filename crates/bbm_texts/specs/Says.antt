@@ -15,40 +15,41 @@ use Rattle.bbm_texts.specs.declared.commands.Command.{Command}
 use Rattle.bbm_texts.specs.declared.commands.Command.TheVariants.{Check, Slow, Explain, Walk, Show}
 use Rattle.bbm_texts.specs.declared.commands.Evidence.TheVariants.{Idle, Counterrun, Cert}
 use Rattle.bbm_texts.specs.declared.decision.Decision.{Decision}
-use Rattle.bbm_texts.specs.Shown.{Shown}
+use Rattle.bbm_texts.specs.Shown.{IsEvidenceText}
 
--- The text of a command for a verdict, after these events of a log with this heading, and for the event that the verdict
--- refuses, if there is one: the line of the verdict, and what is said behind it; or what the command shows.
-abbrev pub SaysIn : Command → Heading → List Event → Option Event → Verdict → List ℕ → Type 0
-SaysIn Check heading h refused verdict text = text ≡ verdict_text verdict
-SaysIn Slow heading h refused verdict text = text ≡ verdict_text verdict
-SaysIn Explain heading h refused verdict text = text ≡ verdict_text verdict ++ explained heading h verdict
-SaysIn (Walk question) heading h refused verdict text =
+-- The text of a command for a verdict, after these events of a log with this heading, and for the event that the
+-- verdict refuses, if there is one: the line of the verdict, and what is said behind it; or what the command shows.
+abbrev pub IsOutputUnder : Command → Heading → List Event → Option Event → Verdict → List ℕ → Type 0
+IsOutputUnder Check heading h refused verdict text = text ≡ verdict_text verdict
+IsOutputUnder Slow heading h refused verdict text = text ≡ verdict_text verdict
+IsOutputUnder Explain heading h refused verdict text = text ≡ verdict_text verdict ++ explained heading h verdict
+IsOutputUnder (Walk question) heading h refused verdict text =
     (further : List ℕ) × (text ≡ verdict_text verdict ++ further) × Walked heading h question verdict further
-SaysIn (Show evidence) heading h refused verdict text = Shown evidence heading h refused verdict text
+IsOutputUnder (Show evidence) heading h refused verdict text = IsEvidenceText evidence heading h refused verdict text
 
 -- The same; where the log has no heading it is the line of the verdict.
-abbrev pub Says : Command → Option Heading → List Event → Option Event → Verdict → List ℕ → Type 0
-Says command None h refused verdict text = text ≡ verdict_text verdict
-Says command (Some heading) h refused verdict text = SaysIn command heading h refused verdict text
+abbrev pub IsOutput : Command → Option Heading → List Event → Option Event → Verdict → List ℕ → Type 0
+IsOutput command None h refused verdict text = text ≡ verdict_text verdict
+IsOutput command (Some heading) h refused verdict text = IsOutputUnder command heading h refused verdict text
 
 -- the text of a command for what was decided
-abbrev pub SaysFor : Command → Option Heading → List Event → Decision → List ℕ → Type 0
-SaysFor command heading h decision text = Says command heading h decision.refused decision.verdict text
+abbrev pub IsOutputFor : Command → Option Heading → List Event → Decision → List ℕ → Type 0
+IsOutputFor command heading h decision text = IsOutput command heading h decision.refused decision.verdict text
 
 -- whether a command shows more of the events
-abbrev pub shows : Command → Bool
-shows (Show evidence) = true
-shows _ = false
+abbrev pub shows_evidence : Command → Bool
+shows_evidence (Show evidence) = true
+shows_evidence _ = false
 
 -- A command may show more of the events for this verdict.
-abbrev pub ShowsMore : Command → Verdict → Type 0
-ShowsMore (Show Idle) (Accepted events) = Unit {0}
-ShowsMore (Show Counterrun) (Refused line BreakBeforeMake at label) = Unit {0}
-ShowsMore (Show Cert) (Accepted events) = Unit {0}
-ShowsMore _ _ = ⊥
+abbrev pub MayShowEvidence : Command → Verdict → Type 0
+MayShowEvidence (Show Idle) (Accepted events) = Unit {0}
+MayShowEvidence (Show Counterrun) (Refused line BreakBeforeMake at label) = Unit {0}
+MayShowEvidence (Show Cert) (Accepted events) = Unit {0}
+MayShowEvidence _ _ = ⊥
 
--- The line on a log that was judged by its certificate, for so many events and claims: the event at a position stands on the line behind it.
+-- The line on a log that was judged by its certificate, for so many events and claims: the event at a position stands
+-- on the line behind it.
 abbrev pub judged_text : ℕ → ℕ → Judged → List ℕ
 judged_text events claims Yes = verified_text events claims
 judged_text events claims (No position rule at) = unverified_text (suc position) rule at

@@ -27,9 +27,9 @@ abbrev pub idle_lines : Heading → List Event → Verdict → List ℕ
 idle_lines heading h (Accepted events) = marked_lines (idle_marks heading h)
 idle_lines heading h _ = []
 
--- Shown: the line of the verdict, and behind it those of idle events; or where break-before-make refuses an event, a run;
--- or of an accepted log its certificate.
-abbrev pub Shown : Evidence → Heading → List Event → Option Event → Verdict → List ℕ → Type 0
-Shown Idle heading h refused verdict text = text ≡ verdict_text verdict ++ idle_lines heading h verdict
-Shown Counterrun heading h refused verdict text = RunOf heading h verdict text (refused_write refused verdict)
-Shown Cert heading h refused verdict text = CertOf heading h verdict text
+-- Shown: the line of the verdict, and behind it those of idle events; or where break-before-make refuses an event, a
+-- run; or of an accepted log its certificate.
+abbrev pub IsEvidenceText : Evidence → Heading → List Event → Option Event → Verdict → List ℕ → Type 0
+IsEvidenceText Idle heading h refused verdict text = text ≡ verdict_text verdict ++ idle_lines heading h verdict
+IsEvidenceText Counterrun heading h refused verdict text = RunOf heading h verdict text (refused_write refused verdict)
+IsEvidenceText Cert heading h refused verdict text = CertOf heading h verdict text

@@ -17,7 +17,7 @@ use Rattle.bbm_texts.specs.declared.decision.Decision.{Decision}
 use Rattle.bbm_texts.specs.declared.status.Status.{Status}
 use Rattle.bbm_texts.specs.declared.status.Status.TheVariants as status
 use Rattle.bbm_texts.specs.Generating.{selftest_text}
-use Rattle.bbm_texts.specs.Says.{SaysFor, ShowsMore, judged_text}
+use Rattle.bbm_texts.specs.Says.{IsOutputFor, MayShowEvidence, judged_text}
 use Rattle.bbm_texts.specs.Shown.{marked_lines}
 use Rattle.bbm_texts.specs.Statuses.{followed_status, judged_status, status_of}
 
@@ -57,8 +57,8 @@ ReportsText Text wanted result old new faults faults' =
 abbrev pub ReportsDecided : Command → Option Heading → List Event → Decision → Status → Option (List ℕ)
     → Option (List ℕ) → ℕ → ℕ → Type 0
 ReportsDecided command heading h decision result old new faults faults' =
-    WroteSome (SaysFor command heading h decision) (status_of decision.verdict) result old new faults faults'
-    ⊎ (ShowsMore command decision.verdict × Silent status.NoMemory result old new faults faults')
+    WroteSome (IsOutputFor command heading h decision) (status_of decision.verdict) result old new faults faults'
+    ⊎ (MayShowEvidence command decision.verdict × Silent status.NoMemory result old new faults faults')
 
 -- a verdict with the lines of idle events behind it was to be written, or there was no memory for these
 abbrev pub ReportsIdle : Heading → List Event → Verdict → Status → Option (List ℕ) → Option (List ℕ) → ℕ → ℕ → Type 0

@@ -7,7 +7,7 @@ ghost use Rattle.bbm_events.specs.Heading.{Heading as HeadingOf};
 ghost use Rattle.bbm_rules.specs.Texts.{verdict_text};
 ghost use Rattle.bbm_texts.specs.declared.commands.Command.{Command as CommandOf};
 ghost use Rattle.bbm_texts.specs.Known.{EndsThere, KnowsDecided};
-ghost use Rattle.bbm_texts.specs.Says.{Says, SaysFor, shows};
+ghost use Rattle.bbm_texts.specs.Says.{IsOutput, IsOutputFor, shows_evidence};
 ghost use Rattle.bbm_texts.specs.Statuses.{status_of};
 ghost use Rattle.bbm_texts.specs.Writing.{Wrote, WroteSome};
 
@@ -26,7 +26,7 @@ pub fn report_verdict<K: Sink>(verdict: &Verdict, out: &mut K) -> Status
     ensures wrote { Wrote (status_of verdict.now) (verdict_text verdict.now) result
         (K.held out.old) (K.held out.new) (K.faults out.old) (K.faults out.new) }
     ensures alone { EndsThere verdict.now → (command : CommandOf) (heading : Option HeadingOf) (h : List Event)
-        (refused : Option Event) → Says command heading h refused verdict.now (verdict_text verdict.now) }
+        (refused : Option Event) → IsOutput command heading h refused verdict.now (verdict_text verdict.now) }
 {
     settled(tell_verdict(verdict, out), status(verdict))
 }
@@ -41,9 +41,9 @@ pub fn report<C: Checker, K: Sink>(
     out: &mut K,
 ) -> Status
     requires known { (h : List Event) × KnowsDecided (C.stands checker.now) header.now h decision.now }
-    requires plain { shows command.now ≡ false }
+    requires plain { shows_evidence command.now ≡ false }
     ensures { (h : List Event) → KnowsDecided (C.stands checker.now) header.now h decision.now
-        → WroteSome (SaysFor command.now (Some header.now) h decision.now) (status_of decision.now.verdict) result
+        → WroteSome (IsOutputFor command.now (Some header.now) h decision.now) (status_of decision.now.verdict) result
         (K.held out.old) (K.held out.new) (K.faults out.old) (K.faults out.new) }
 {
     settled(

@@ -8,7 +8,7 @@ ghost use Rattle.bbm_rules.specs.Texts.{verdict_text as text_of_verdict};
 ghost use Rattle.bbm_report.specs.ReportLines.{found_text as text_of_found, phase_text as text_of_phase};
 ghost use Rattle.bbm_report.specs.Further.{explained, phase_lines as lines_of_phases};
 ghost use Rattle.bbm_texts.specs.declared.commands.Command.TheVariants as command_of;
-ghost use Rattle.bbm_texts.specs.Says.{Says, shows};
+ghost use Rattle.bbm_texts.specs.Says.{IsOutput, shows_evidence};
 ghost use Rattle.bbm_texts.specs.Known.{Keeps, Knows};
 ghost use Rattle.bbm_texts.specs.Telling.{place_named};
 ghost use Rattle.bbm_texts.specs.Writing.{Puts};
@@ -144,7 +144,7 @@ fn tell_walked<C: Checker, K: Sink>(
 ) -> Result<(), Failed>
     requires { (h : List Event) × Knows (C.stands checker.now) header.now h verdict.now }
     ensures puts { (h : List Event) (refused : Option Event) → Knows (C.stands checker.now) header.now h verdict.now
-        → (text : List ℕ) × Says (command_of.Walk question.now) (Some header.now) h refused verdict.now text
+        → (text : List ℕ) × IsOutput (command_of.Walk question.now) (Some header.now) h refused verdict.now text
         × Puts text result (K.held out.old) (K.held out.new) (K.faults out.old) (K.faults out.new) }
 {
     match *verdict {
@@ -163,9 +163,9 @@ pub fn tell_all<C: Checker, K: Sink>(
     out: &mut K,
 ) -> Result<(), Failed>
     requires known { (h : List Event) × Knows (C.stands checker.now) header.now h verdict.now }
-    requires plain { shows command.now ≡ false }
+    requires plain { shows_evidence command.now ≡ false }
     ensures puts { (h : List Event) (refused : Option Event) → Knows (C.stands checker.now) header.now h verdict.now
-        → (text : List ℕ) × Says command.now (Some header.now) h refused verdict.now text
+        → (text : List ℕ) × IsOutput command.now (Some header.now) h refused verdict.now text
         × Puts text result (K.held out.old) (K.held out.new) (K.faults out.old) (K.faults out.new) }
 {
     match command {

@@ -1,4 +1,4 @@
-use Rattle.bbm_texts.proofs.Common.{Event, Heading, Verdict, Accepted, Show, Cert, Status, Decision, ShowsMore}
+use Rattle.bbm_texts.proofs.Common.{Event, Heading, Verdict, Accepted, Show, Cert, Status, Decision, MayShowEvidence}
 use Rattle.bbm_texts.proofs.Common.{status_of, Keeps, KnowsThat, ReportsDecided, ReportsText}
 use Rattle.bbm_rules.proofs.Common.{◌≡◌, ℕ, List, Option, Some, inl, inr, sym, subst}
 use Rattle.bbm_texts.specs.CertTexts.{CertOf, CertifiedBy}
@@ -11,7 +11,7 @@ reports-claims : (heading : Heading) (h : List Event) (d : Decision) (n : ℕ) (
 reports-claims heading h d n result old new f f' is (inl told) =
     inl (told.0, subst (λ (v : Verdict). CertOf heading h v told.0) (sym is) told.1, told.2)
 reports-claims heading h d n result old new f f' is (inr silent) =
-    inr (subst (λ (v : Verdict). ShowsMore (Show Cert) v) (sym is) tt, silent)
+    inr (subst (λ (v : Verdict). MayShowEvidence (Show Cert) v) (sym is) tt, silent)
 
 pub returns-in-Accepted : goal.returns-in-Accepted
 returns-in-Accepted g c = λ h knows.
