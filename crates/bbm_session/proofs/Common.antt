@@ -9,20 +9,18 @@ pub use Rattle.bbm_gen.specs.Generated.{heading}
 pub use Rattle.bbm_io.specs.Flow.{plain}
 pub use Rattle.bbm_report.specs.Further.{heading_in}
 pub use Rattle.bbm_rules.specs.Claims.{Patterns}
-pub use Rattle.bbm_rules.specs.Outcome.{before_text, goes_on_to, limit_after, read_from}
+pub use Rattle.bbm_rules.specs.Outcome.{limit_after}
 pub use Rattle.bbm_rules.specs.declared.limits.Limits.{Limits}
 pub use Rattle.bbm_rules.specs.declared.rule.Rule.{Rule}
 pub use Rattle.bbm_rules.specs.declared.verdict.Verdict.{Verdict}
 pub use Rattle.bbm_rules.specs.declared.verdict.Verdict.TheVariants.{Accepted, Limit, Malformed, Refused}
-pub use Rattle.bbm_session.specs.Certificates.{CertifiedReadFor, certified_lines}
-pub use Rattle.bbm_session.specs.Fold.{Ending, Fold, Halts, IsEnd, IsInside, IsStart, Passes, Turned, alone}
-pub use Rattle.bbm_session.specs.Fold.{ending_after, ending_at, ending_from, header_by, lines_from, passes_to, refusing}
-pub use Rattle.bbm_session.specs.Folds.{Certifies, Follows, Judged, Judges, certifying, event_needs, event_on}
-pub use Rattle.bbm_session.specs.Folds.{following, is_frugal, judged_at, judging, judging_for}
+pub use Rattle.bbm_session.specs.Certificates.{CertifiedReadFor}
+pub use Rattle.bbm_session.specs.Reader.{IsEnd, IsInside, IsStart, Reader, alone}
+pub use Rattle.bbm_session.specs.Readers.{Certifies, Follows, Judges, certificate_reader, event_needs, is_frugal}
+pub use Rattle.bbm_session.specs.Readers.{judged_at, log_reader, reader_for, run_reader}
 pub use Rattle.bbm_session.specs.JudgedLog.{Unjudged}
-pub use Rattle.bbm_session.specs.Refused.{RefusedIn, event_in, refused_in}
-pub use Rattle.bbm_session.specs.Run.{NeedsMemory, ReadAs, ReadFor, command_lines, limits_of}
-pub use Rattle.bbm_session.specs.Runs.{RunReadFor, run_lines}
+pub use Rattle.bbm_session.specs.Run.{NeedsMemory, ReadAs, ReadFor, limits_of}
+pub use Rattle.bbm_session.specs.Runs.{RunReadFor}
 pub use Rattle.bbm_session.specs.Serving.{Heads, Reports, ReportsShown}
 pub use Rattle.bbm_session.specs.Stages.{Breaks, Concludes, Ends, Going, HeaderLine, IsBrief, KnowsAt, KnowsWhy}
 pub use Rattle.bbm_session.specs.Stages.{MayTakeLine, ReadsHeader, RefusedOn, Shrinks, Starts, Starves, Stops}
@@ -34,7 +32,7 @@ pub use Rattle.bbm_log_grammar.specs.declared.turn.Turn.{Turn}
 pub use Rattle.bbm_log_grammar.specs.declared.turn.Turn.TheVariants.{End, Taken}
 pub use Rattle.bbm_texts.specs.Generating.{gen_text}
 pub use Rattle.bbm_texts.specs.Known.{IsRefused, Keeps, KnowsThat}
-pub use Rattle.bbm_texts.specs.Says.{Says, SaysFor}
+pub use Rattle.bbm_texts.specs.Says.{IsOutput, IsOutputFor}
 pub use Rattle.bbm_texts.specs.declared.commands.Command.{Command}
 pub use Rattle.bbm_texts.specs.declared.commands.Command.TheVariants.{Check, Explain, Show, Slow, Walk}
 pub use Rattle.bbm_texts.specs.declared.decision.Decision.{Decision}

@@ -1,19 +1,17 @@
 -- The text of a generated log: each line is read as what was written, and the log is accepted.
-use Rattle.bbm_session.proofs.Common.{plain, heading, item_fits, Patterns, Accepted, Ending, Fold, Passes, alone}
-use Rattle.bbm_session.proofs.Common.{ending_at, Judged, judged_at, judging, gen_text}
+use Rattle.bbm_session.proofs.Common.{plain, heading, item_fits, Patterns, Accepted, gen_text}
 use Rattle.bbm_rules.proofs.Common.{◌≡◌, ℕ, zero, suc, ◌+◌, ◌<◌, ◌≤◌, ◌==◌, nat_le, true, false, List, [], ◌∷◌, ◌++◌}
-use Rattle.bbm_rules.proofs.Common.{length, None, refl, ap, sym, ◌∙◌, subst, arith, append_assoc, nat_tests}
-use Rattle.bbm_rules.proofs.Common.{Item, AtHeader, AtEvents, AtEnd, Progress}
-use Rattle.bbm_rules.proofs.Common.{outcome_of}
+use Rattle.bbm_rules.proofs.Common.{length, None, refl, ap, sym, ◌∙◌, subst, arith, append_assoc, nat_tests, Item}
+use Rattle.bbm_rules.proofs.Common.{AtHeader, AtEvents, AtEnd, Ending, Fold, Judged, Passes, Progress, ending_at}
+use Rattle.bbm_rules.proofs.Common.{outcome_of, unrefused}
 use Rattle.bbm_gen.specs.Generated.{GeneratedKeepsRules, event_at, log_of}
 use Rattle.bbm_events.specs.LineLaws.{WrittenIsALine, WrittenIsRead}
 use Rattle.bbm_events.specs.Lines.{header_line, item_line}
 use Rattle.bbm_events.specs.Spelling.{is_plain}
 use Rattle.bbm_events.specs.declared.event.Item.TheVariants.{Event, End}
-use Rattle.bbm_rules.specs.Outcome.{check_limits}
-use Rattle.bbm_session.specs.Fold.{end_by}
+use Rattle.bbm_rules.specs.Outcome.{check_limits, judging}
+use Rattle.bbm_rules.specs.Fold.{end_by}
 use Rattle.bbm_texts.specs.Generating.{gen_begin}
-use Rattle.bbm_session.proofs.Judgements.{outcome_said, outcome-said}
 use Rattle.bbm_session.proofs.Stages.{ending-line}
 
 -- the laws of the crates below on the events of a generated log, and on written lines
@@ -32,7 +30,7 @@ log_length n (suc i) = ap suc (log_length n i)
 
 module _ (n count : ℕ) (few : count ≤ 4294967293) (facts : Facts n count) where
   abbrev fold : Fold Progress Judged
-  fold = judging true check_limits
+  fold = judging Patterns check_limits
 
   -- the text behind the first events
   abbrev rest : ℕ → ℕ → List ℕ
@@ -60,25 +58,27 @@ module _ (n count : ℕ) (few : count ≤ 4294967293) (facts : Facts n count) wh
 
   event_line : (i : ℕ) → i < count
       → fold.line (i + 2) (AtEvents heading (log_of n i)) (item_line (item i)) ≡ Passes (AtEvents heading (log_of n (suc i)))
+  unfolding judging
   event_line i below =
       let low : nat_le 4294967295 (i + 2) ≡ false = grind (arith, nat_tests, few, below) in
       rw (facts.read.item heading (item i) refl (item_ok i below), facts.events.unbroken i below, facts.events.limits i below, low) refl
 
   end_line : fold.line (count + 2) (AtEvents heading (log_of n count)) (item_line (End count)) ≡ Passes (AtEnd (log_of n count))
+  unfolding judging
   end_line =
       let all = log_length n count in
       let same : (count == length (log_of n count)) ≡ true = grind (arith, nat_tests, all) in
       rw (facts.read.item heading (End count) refl end_ok, same) refl
 
   abbrev done : Ending Judged
-  done = record { says = judged_at (AtEnd (log_of n count)) (alone (Accepted count)); unread = [] }
+  done = record { says = unrefused (log_of n count) (Accepted count); unread = [] }
 
   at_end : ending_at fold (count + 2) (AtEvents heading (log_of n count)) (item_line (End count) ++ 10 ∷ []) ≡ done
-  unfolding end_by
+  unfolding end_by judging
   at_end =
       ending-line fold (count + 2) (AtEvents heading (log_of n count)) (item_line (End count)) []
       (plain_is (item_line (End count)) ∙ facts.lines.item_plain heading (End count) end_ok) (facts.lines.item_short heading (End count) refl end_ok)
-      ∙ rw end_line (ap (λ (events : ℕ). record { says = judged_at (AtEnd (log_of n count)) (alone (Accepted events)); unread = [] }) (log_length n count))
+      ∙ rw end_line (ap (λ (events : ℕ). record { says = unrefused (log_of n count) (Accepted events); unread = [] }) (log_length n count))
 
   read_rest : (i k : ℕ) → i + k ≡ count → ending_at fold (i + 2) (AtEvents heading (log_of n i)) (rest i k) ≡ done
   read_rest i zero is =
@@ -97,12 +97,9 @@ module _ (n count : ℕ) (few : count ≤ 4294967293) (facts : Facts n count) wh
   unfolding gen_begin
   whole_text = sym (append_assoc (header_line heading) (10 ∷ []) (rest 0 count)) ∙ begins 0 count (omega arith)
 
-  read_whole : ending_at fold 1 AtHeader (gen_text n count) ≡ done
-  read_whole =
+  pub accepted : outcome_of Patterns check_limits (gen_text n count) ≡ done
+  unfolding judging
+  accepted =
       ap (ending_at fold 1 AtHeader) (sym whole_text)
       ∙ ending-line fold 1 AtHeader (header_line heading) (rest 0 count) (plain_is (header_line heading) ∙ facts.lines.header_plain heading) (facts.lines.header_short heading refl)
       ∙ rw (facts.read.header heading refl) (read_rest 0 count (omega arith))
-
-  pub accepted : outcome_of Patterns check_limits (gen_text n count)
-      ≡ record { verdict = Accepted count; unread = []; log = log_of n count }
-  accepted = outcome-said true check_limits (gen_text n count) ∙ ap outcome_said read_whole

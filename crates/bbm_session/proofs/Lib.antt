@@ -1,11 +1,15 @@
 mod Common
 pub mod Texts
-pub mod RefusedLines
+pub mod TextLines
 pub mod Stages
 pub mod ReadBytes
 pub mod Judgements
 pub mod RunLines
 pub mod CertificateLines
-pub mod RefusedEvents
 pub mod Served
 pub mod GeneratedLogs
+pub mod IdleLines
+pub mod CertifiedText
+pub mod CounterrunLines
+pub mod RefusedLogs
+pub mod CounterrunTexts

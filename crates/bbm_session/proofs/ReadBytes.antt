@@ -1,16 +1,17 @@
 -- Which bytes are read for what is said of a text: all of them where no line is named, and else those up to the line.
-use Rattle.bbm_session.proofs.Common.{drop_of_length-le, plain, before_text, Fold, Turned, Halts, Passes, Ending}
-use Rattle.bbm_session.proofs.Common.{ending_after, ending_at, ending_from, passes_to, lines_from, plain_lines, Breaks}
-use Rattle.bbm_session.proofs.Common.{Starves}
+use Rattle.bbm_session.proofs.Common.{drop_of_length-le, plain, Heading, Verdict, Malformed, Reader, plain_lines}
+use Rattle.bbm_session.proofs.Common.{Breaks, Starves}
 use Rattle.bbm_rules.proofs.Common.{◌≡◌, ◌⊎◌, ℕ, zero, suc, ◌+◌, ◌≤◌, ◌<◌, Bool, true, false, nat_eq, if◌then◌else◌}
-use Rattle.bbm_rules.proofs.Common.{List, [], ◌∷◌, ◌++◌, length, drop, Option, Some, None, option_and_then, refl, ap}
-use Rattle.bbm_rules.proofs.Common.{sym, ◌∙◌, subst, inl, inr, arith, append_assoc, append-nil, and_parts, nat_tests}
-use Rattle.bbm_rules.proofs.Common.{Text, text_of, bytes_of, is_too_long}
-use Rattle.bbm_session.specs.Fold.{turned_by, end_by}
-use Rattle.bbm_session.specs.Run.{ReadToFault, ReadToWant, reached_from}
+use Rattle.bbm_rules.proofs.Common.{List, [], ◌∷◌, ◌++◌, length, drop, Option, Some, None, refl, ap, sym, ◌∙◌, subst}
+use Rattle.bbm_rules.proofs.Common.{inl, inr, arith, append_assoc, append-nil, and_parts, nat_tests, Text, text_of}
+use Rattle.bbm_rules.proofs.Common.{bytes_of, is_too_long, Fold, Turned, Halts, Passes, Ending, Result, Ok, Err}
+use Rattle.bbm_rules.proofs.Common.{ending_after, ending_at, ending_from, header_by, lines_from}
+use Rattle.bbm_events.specs.declared.malformed.Malformed.{Malformed as Cause}
+use Rattle.bbm_rules.specs.Fold.{before_text, turned_by, end_by}
+use Rattle.bbm_session.specs.Run.{ReadToFault, ReadToWant}
 use Rattle.bbm_session.specs.Stages.{Broke, Starved}
 use Rattle.bbm_session.proofs.Stages.{turned-short, turned-long, end-short, end-long, seam, bytes_of-append}
-use Rattle.bbm_session.proofs.Stages.{plain_lines-append}
+use Rattle.bbm_session.proofs.Stages.{plain_lines-append, text_of-behind}
 use Rattle.bbm_session.proofs.Texts.{plain-head, text_of-line, text_of-plain, bytes_of-text_of}
 
 -- ---- what was read, from line number n on, by the line that is named
@@ -60,7 +61,7 @@ plain_step : (newline : Bool) (b : ℕ) (lines : List (List ℕ)) (rest : List �
 plain_step true b lines rest test ls r = (ls, r)
 plain_step false b lines rest test ls r = plain_before b lines rest test ls r
 
-plain_text : (bytes : List ℕ) → (plain_lines (text_of bytes).lines ≡ true) × (plain (text_of bytes).rest ≡ true)
+pub plain_text : (bytes : List ℕ) → (plain_lines (text_of bytes).lines ≡ true) × (plain (text_of bytes).rest ≡ true)
 plain_text [] = (refl, refl)
 plain_text (b ∷ bytes) =
     let rest = plain_text bytes in
@@ -117,9 +118,25 @@ by_cut n name rest unread clean none (inl is) =
     by_named n name (text_of rest) unread is (rw (text_of-plain rest clean) (inr (omega arith, inr none)))
 by_cut n name rest unread clean none (inr is) = subst (λ (o : Option ℕ). ByName n o (text_of rest) unread) (sym is) none
 
+-- what line n decides names it
+abbrev pub NamedTurn : {P V : Type 0} → (V → Option ℕ) → ℕ → Turned P V → Type 0
+NamedTurn names n (Halts v) = names v ≡ Some n
+NamedTurn names n (Passes next) = Unit {0}
+
+pub named-if : {P V : Type 0} (names : V → Option ℕ) (n : ℕ) (b : Bool) (s t : Turned P V) → NamedTurn names n s
+    → NamedTurn names n t → NamedTurn names n (if b then s else t)
+named-if names n true s t first second = first
+named-if names n false s t first second = second
+
+pub named-header : {P V : Type 0} (names : V → Option ℕ) (n : ℕ) (begun : Heading → P) (says : Verdict → V)
+    (r : Result Heading Cause) → ((cause : Cause) → names (says (Malformed n cause)) ≡ Some n)
+    → NamedTurn names n (header_by begun says n r)
+named-header names n begun says (Ok heading) named = tt
+named-header names n begun says (Err cause) named = named cause
+
 -- What is said by a fold names the line at which it is said, or none at the end.
 pub record Named {P V : Type 0} (fold : Fold P V) (names : V → Option ℕ) : Type 0 where
-  pub line : (n : ℕ) (p : P) (l : List ℕ) (v : V) → fold.line n p l ≡ Halts v → names v ≡ Some n
+  pub line : (n : ℕ) (p : P) (l : List ℕ) → NamedTurn names n (fold.line n p l)
   pub long : (n : ℕ) (p : P) → names (fold.long n p) ≡ Some n
   pub cut : (n : ℕ) (p : P) (rest : List ℕ) → (names (fold.cut n p rest) ≡ Some n) ⊎ (names (fold.cut n p rest) ≡ None)
 
@@ -151,9 +168,9 @@ module _ {P V : Type 0} (fold : Fold P V) where
       abbrev Behind : Type 0
       Behind = (next : P) → ReadBy (suc n) (ending_from fold (suc n) next lines rest) (bytes_of lines rest)
 
-      by_turn : (t : Turned P V) → ((v : V) → t ≡ Halts v → names v ≡ Some n) → is_too_long line ≡ false → plain line ≡ true → Behind
+      by_turn : (t : Turned P V) → NamedTurn names n t → is_too_long line ≡ false → plain line ≡ true → Behind
           → ReadBy n (ending_after line lines rest (λ next. ending_from fold (suc n) next lines rest) t) (line ++ 10 ∷ bytes_of lines rest)
-      by_turn (Halts v) says short clean behind = rw short (read_line n (names v) line (bytes_of lines rest) clean (says v refl))
+      by_turn (Halts v) says short clean behind = rw short (read_line n (names v) line (bytes_of lines rest) clean says)
       by_turn (Passes next) says short clean behind =
           let k = behind next in
           let o = ending_from fold (suc n) next lines rest in
@@ -172,7 +189,7 @@ module _ {P V : Type 0} (fold : Fold P V) where
           (read_long n (names (fold.long n p)) line (10 ∷ bytes_of lines rest) h clean (named.long n p))
       by_length false short clean behind =
           let h : length line ≤ 200 = grind (arith, nat_tests) in
-          rw (turned-short fold n p line h) (by_turn (fold.line n p line) (λ v is. named.line n p line v is) short clean behind)
+          rw (turned-short fold n p line h) (by_turn (fold.line n p line) (named.line n p line) short clean behind)
 
     reads : (n : ℕ) (p : P) (lines : List (List ℕ)) (rest : List ℕ) → plain_lines lines ≡ true → plain rest ≡ true
         → ReadBy n (ending_from fold n p lines rest) (bytes_of lines rest)
@@ -189,6 +206,13 @@ module _ {P V : Type 0} (fold : Fold P V) where
         let k = reads 1 start (text_of bytes).lines (text_of bytes).rest clean.0 clean.1 in
         (k.taken, sym (bytes_of-text_of bytes) ∙ k.is, k.to)
 
+-- what a line decides names it, also one that is too long
+pub named-turned : {P V : Type 0} (fold : Fold P V) (names : V → Option ℕ) → Named fold names → (n : ℕ) (p : P)
+    (l : List ℕ) → NamedTurn names n (turned_by fold n p l)
+unfolding turned_by
+named-turned fold names named n p l =
+    named-if names n (is_too_long l) (Halts (fold.long n p)) (fold.line n p l) (named.long n p) (named.line n p l)
+
 -- ---- of a text whose reading stopped before anything was said
 
 bytes_of-behind : (lines : List (List ℕ)) (piece rest : List ℕ) → bytes_of lines (piece ++ rest) ≡ bytes_of lines piece ++ rest
@@ -196,36 +220,13 @@ bytes_of-behind [] piece rest = refl
 bytes_of-behind (line ∷ lines) piece rest =
     ap (λ x. line ++ 10 ∷ x) (bytes_of-behind lines piece rest) ∙ sym (append_assoc line (10 ∷ bytes_of lines piece) rest)
 
-text_of-bytes_of : (lines : List (List ℕ)) (rest : List ℕ) → plain_lines lines ≡ true → plain rest ≡ true
+pub text_of-bytes_of : (lines : List (List ℕ)) (rest : List ℕ) → plain_lines lines ≡ true → plain rest ≡ true
     → text_of (bytes_of lines rest) ≡ record { lines = lines; rest = rest }
-text_of-bytes_of [] rest clean r = text_of-plain rest r
-text_of-bytes_of (line ∷ lines) rest clean r =
-    let parts = and_parts (plain line) (plain_lines lines) clean in
-    rw (text_of-line line (bytes_of lines rest) parts.0, text_of-bytes_of lines rest parts.1 r) refl
+text_of-bytes_of lines rest clean r = rw (text_of-behind lines rest clean, text_of-plain rest r, append-nil lines) refl
 
--- what is made of one of two
-pub if-by : {A B : Type 0} (f : A → B) (b : Bool) (x y : A) → (if b then f x else f y) ≡ f (if b then x else y)
-if-by f true x y = refl
-if-by f false x y = refl
-
--- Lines are read as far as by a fold, where each line leads as far as it passes.
-pub reaches : {P V : Type 0} (fold : Fold P V) (leads : ℕ → P → List ℕ → Option P)
-    → ((n : ℕ) (p : P) (line : List ℕ) (on : P → Option P) → option_and_then on (leads n p line) ≡ passes_to on (turned_by fold n p line))
-    → (n : ℕ) (p : P) (lines : List (List ℕ)) → reached_from leads n p lines ≡ lines_from fold n p lines
-reaches fold leads each n p [] = refl
-reaches {P} {V} fold leads each n p (line ∷ lines) =
-    each n p line (λ next. reached_from leads (suc n) next lines)
-    ∙ behind (turned_by fold n p line) (λ next. reaches fold leads each (suc n) next lines)
-  where
-    behind : (t : Turned P V) → ((next : P) → reached_from leads (suc n) next lines ≡ lines_from fold (suc n) next lines)
-        → passes_to (λ next. reached_from leads (suc n) next lines) t ≡ passes_to (λ next. lines_from fold (suc n) next lines) t
-    behind (Halts v) same = refl
-    behind (Passes next) same = same next
-
-module _ {P V : Type 0} (fold : Fold P V) (start : P) (reads : List (List ℕ) → Option P)
-    (same : (lines : List (List ℕ)) → reads lines ≡ lines_from fold 1 start lines) where
+module _ {P V : Type 0} (reader : Reader P V) (start : P) where
   -- a read failed: none of the lines that were read halts
-  fault_at : (bytes rest : List ℕ) → Broke fold 1 start bytes rest → ReadToFault reads bytes (Some rest)
+  fault_at : (bytes rest : List ℕ) → Broke reader 1 start bytes rest → ReadToFault reader.lines start bytes (Some rest)
   fault_at bytes rest broke =
       let lines = broke.passed.lines in
       let text = text_of-bytes_of lines broke.piece broke.passed.clean broke.clean in
@@ -237,17 +238,17 @@ module _ {P V : Type 0} (fold : Fold P V) (start : P) (reads : List (List ℕ) �
           now = refl;
         };
         reached = broke.reached;
-        undecided = ap (λ (t : Text). reads t.lines) text ∙ same lines ∙ broke.passed.read;
+        undecided = ap (λ (t : Text). lines_from reader.lines 1 start t.lines) text ∙ broke.passed.read;
         short = subst (λ (t : Text). length t.rest ≤ 200) (sym text) broke.short;
       }
 
-  pub to_fault : (bytes : List ℕ) (left : Option (List ℕ)) → Breaks fold 1 start (Some bytes) left → ReadToFault reads bytes left
+  pub to_fault : (bytes : List ℕ) (left : Option (List ℕ)) → Breaks reader 1 start (Some bytes) left → ReadToFault reader.lines start bytes left
   to_fault bytes None breaks = absurd breaks
   to_fault bytes (Some rest) breaks = fault_at bytes rest breaks
 
   -- there was no memory for a line: what was read ends with it
-  module _ (Needs : ℕ → P → List ℕ → Type 0) (needing : (n : ℕ) (p : P) (line : List ℕ) → fold.needs n p line ≡ true → Needs n p line) where
-    want_at : (bytes rest : List ℕ) → Starved fold 1 start bytes rest → ReadToWant reads Needs bytes (Some rest)
+  module _ (Needs : ℕ → P → List ℕ → Type 0) (needing : (n : ℕ) (p : P) (line : List ℕ) → reader.needs n p line ≡ true → Needs n p line) where
+    want_at : (bytes rest : List ℕ) → Starved reader 1 start bytes rest → ReadToWant reader.lines start Needs bytes (Some rest)
     want_at bytes rest starved =
         let lines = starved.passed.lines in
         let line = starved.line in
@@ -264,11 +265,11 @@ module _ {P V : Type 0} (fold : Fold P V) (start : P) (reads : List (List ℕ) �
           line = line;
           reached = starved.reached;
           lines = text;
-          undecided = same lines ∙ starved.passed.read;
+          undecided = starved.passed.read;
           short = starved.short;
-          needs = needing (suc (length lines)) starved.reached line (subst (λ (n : ℕ). fold.needs n starved.reached line ≡ true) at starved.needs);
+          needs = needing (suc (length lines)) starved.reached line (subst (λ (n : ℕ). reader.needs n starved.reached line ≡ true) at starved.needs);
         }
 
-    pub to_want : (bytes : List ℕ) (left : Option (List ℕ)) → Starves fold 1 start (Some bytes) left → ReadToWant reads Needs bytes left
+    pub to_want : (bytes : List ℕ) (left : Option (List ℕ)) → Starves reader 1 start (Some bytes) left → ReadToWant reader.lines start Needs bytes left
     to_want bytes None starves = absurd starves
     to_want bytes (Some rest) starves = want_at bytes rest starves

@@ -1,14 +1,14 @@
 -- What a text that was read says of a call of the program: the bytes that were read and written, and the status.
 use Rattle.bbm_session.proofs.Common.{Heading, Event, Kept, Verdict, Accepted, Refused, Malformed, Limit, Limits}
-use Rattle.bbm_session.proofs.Common.{Patterns, heading_in, Step, Command, Judge, Verify, Generate, Selftest, Decision}
-use Rattle.bbm_session.proofs.Common.{Stop, Decided, ReadFault, NoMemory, CertifiedReadFor, certified_lines, Says}
-use Rattle.bbm_session.proofs.Common.{SaysFor, Fold, ending_at, Certifies, Follows, Judged, certifying, following}
-use Rattle.bbm_session.proofs.Common.{is_frugal, judged_at, judging_for, gen_text, NeedsMemory, ReadFor, command_lines}
-use Rattle.bbm_session.proofs.Common.{limits_of, refused_in, RunReadFor, run_lines, Breaks, Concludes, Ends, HeaderLine}
-use Rattle.bbm_session.proofs.Common.{Starts, Starves, Stops, Heads, Reports, ReportsShown}
+use Rattle.bbm_session.proofs.Common.{Patterns, Step, Command, Judge, Verify, Generate, Selftest, Decision, Stop}
+use Rattle.bbm_session.proofs.Common.{Decided, ReadFault, NoMemory, CertifiedReadFor, IsOutput, IsOutputFor, Reader}
+use Rattle.bbm_session.proofs.Common.{Certifies}
+use Rattle.bbm_session.proofs.Common.{Follows, certificate_reader, run_reader, is_frugal, judged_at, reader_for}
+use Rattle.bbm_session.proofs.Common.{gen_text, NeedsMemory, ReadFor, limits_of, RunReadFor, Breaks, Concludes, Ends}
+use Rattle.bbm_session.proofs.Common.{HeaderLine, Starts, Starves, Stops, Heads, Reports, ReportsShown}
 use Rattle.bbm_rules.proofs.Common.{◌≡◌, ◌⊎◌, ℕ, Bool, true, false, List, [], Option, Some, None, Result, Ok, Err, refl}
 use Rattle.bbm_rules.proofs.Common.{ap, sym, ◌∙◌, subst, inl, inr, reverse, length, IfOk, false≢true, Claim, AtHeader}
-use Rattle.bbm_rules.proofs.Common.{Outcome, Progress, Text, events_in, outcome_of, text_of, verdict_of_bytes}
+use Rattle.bbm_rules.proofs.Common.{Judged, Progress, Text, ending_at, events_in, outcome_of, text_of, verdict_of_bytes}
 use Rattle.bbm_io.specs.Flow.{extended}
 use Rattle.bbm_cert.specs.declared.judged.Judged.{Judged as JudgedBy}
 use Rattle.bbm_cert.specs.declared.judged.Judged.TheVariants.{Yes, No}
@@ -23,8 +23,8 @@ use Rattle.bbm_texts.specs.declared.status.Status.{Status}
 use Rattle.bbm_texts.specs.declared.status.Status.TheVariants as status
 use Rattle.bbm_session.specs.Certificates.{certified_needs, read_status, read_text}
 use Rattle.bbm_texts.specs.Statuses.{judged_status as status_judged, status_of, followed_status}
-use Rattle.bbm_texts.specs.Says.{judged_text as text_judged, ShowsMore}
-use Rattle.bbm_session.specs.Folds.{whole_run}
+use Rattle.bbm_texts.specs.Says.{judged_text as text_judged, MayShowEvidence}
+use Rattle.bbm_session.specs.Readers.{whole_run}
 use Rattle.bbm_session.specs.JudgedLog.{JudgedLog}
 use Rattle.bbm_session.specs.Requests.{status_for, IsTextFor, IsSomeTextFor, unread_for, ReadForAll, FaultAt, WantAt}
 use Rattle.bbm_session.specs.Requests.{reads_input}
@@ -34,11 +34,10 @@ use Rattle.bbm_session.specs.Runs.{run_status, step_needs}
 use Rattle.bbm_session.specs.Serving.{Answered, FollowsRun, IsLine, Obeys, Serves, SilentTo, Streams, Told, Verifies}
 use Rattle.bbm_session.specs.Serving.{WantsJudged, WantsRead, WantsRun, WroteTo}
 use Rattle.bbm_texts.specs.Writing.{Part, ReportsJudged, ReportsRun}
-use Rattle.bbm_session.proofs.CertificateLines.{NotAccepted, certifying-start, certified-lines, certified-whole}
-use Rattle.bbm_session.proofs.CertificateLines.{certified-read-to, read-said, not-accepted}
-use Rattle.bbm_session.proofs.RunLines.{following-start, run-lines, run-read-to, run-said}
-use Rattle.bbm_session.proofs.Judgements.{AllFit, command-lines, needs-memory, outcome-said, read-to}
-use Rattle.bbm_session.proofs.RefusedEvents.{says-refused}
+use Rattle.bbm_session.proofs.CertificateLines.{NotAccepted, certifying-start, certified-whole, certified-read-to}
+use Rattle.bbm_session.proofs.CertificateLines.{not-accepted}
+use Rattle.bbm_session.proofs.RunLines.{following-start, run-read-to}
+use Rattle.bbm_session.proofs.Judgements.{needs-memory, read-to}
 use Rattle.bbm_session.proofs.ReadBytes.{to_fault, to_want}
 use Rattle.bbm_session.proofs.Stages.{continues-concludes, continues-stops, header-passes}
 
@@ -60,7 +59,7 @@ tells_judged : (j : JudgedBy) → tells_verdict (status_judged j) ≡ true
 tells_judged Yes = refl
 tells_judged (No position rule at) = refl
 
-tells_read : (says : read.Said) → tells_verdict (read_status says) ≡ true
+tells_read : (says : read.CertificateSays) → tells_verdict (read_status says) ≡ true
 tells_read (read.Stopped verdict) = tells_of verdict
 tells_read (read.Whole heading h claims) = tells_judged (judged heading claims h)
 
@@ -79,7 +78,7 @@ none_left_run : (says : run.RunSays) (read : Text) (unread : List ℕ) → run_s
 none_left_run (run.Stopped verdict) read unread accepted f = none_left verdict read unread accepted f
 none_left_run (run.Whole heading steps) read unread accepted f = f
 
-none_left_read : (says : read.Said) (text : Text) (unread : List ℕ) → read_status says ≡ status.Accepted
+none_left_read : (says : read.CertificateSays) (text : Text) (unread : List ℕ) → read_status says ≡ status.Accepted
     → CertifiedReadFor says text unread → unread ≡ []
 none_left_read (read.Stopped verdict) text unread accepted f = none_left verdict text unread accepted f
 none_left_read (read.Whole heading h claims) text unread accepted f = f
@@ -95,7 +94,7 @@ accepted_is (Malformed line cause) accepted = cc
 accepted_is (Limit line which) accepted = cc
 
 -- what is accepted is read whole, and judged so
-accepted_whole : (says : read.Said) → read_status says ≡ status.Accepted → NotAccepted says
+accepted_whole : (says : read.CertificateSays) → read_status says ≡ status.Accepted → NotAccepted says
     → (heading : Heading) × (h : List Event) × (claims : List Claim) × (says ≡ read.Whole heading h claims)
     × (judged heading claims h ≡ Yes)
 accepted_whole (read.Stopped (Accepted events)) accepted apart = absurd apart
@@ -108,56 +107,37 @@ accepted_whole (read.Whole heading h claims) accepted apart =
 -- ---- what was said of some bytes, of which this is left
 
 -- what was left where it is known what was said
-unread_is : {P V : Type 0} (fold : Fold P V) (start : P) (bytes : List ℕ) (left : Option (List ℕ)) (v : V)
-    → Concludes fold 1 start (Some bytes) v left
-    → ((ending_at fold 1 start bytes).says ≡ v) × (left ≡ Some (ending_at fold 1 start bytes).unread)
-unread_is fold start bytes None v concludes = absurd concludes
-unread_is fold start bytes (Some rest) v concludes = (concludes.0, ap Some (sym concludes.1))
+unread_is : {P V : Type 0} (reader : Reader P V) (start : P) (bytes : List ℕ) (left : Option (List ℕ)) (v : V)
+    → Concludes reader 1 start (Some bytes) v left
+    → ((ending_at reader.lines 1 start bytes).says ≡ v) × (left ≡ Some (ending_at reader.lines 1 start bytes).unread)
+unread_is reader start bytes None v concludes = absurd concludes
+unread_is reader start bytes (Some rest) v concludes = (concludes.0, ap Some (sym concludes.1))
 
-judged_text : AllFit → (command : Command) (heading : Option Heading) (bytes : List ℕ) (v : Judged) (text : List ℕ)
-    → (ending_at (judging_for command) 1 AtHeader bytes).says ≡ v
-    → Heads (Some bytes) heading → Says command heading v.log v.refused v.verdict text → IsTextOf command bytes text
-judged_text all command heading bytes v text is heads says =
-    let limits = limits_of command in
-    let lines = (text_of bytes).lines in
-    let o = ending_at (judging_for command) 1 AtHeader bytes in
-    let told = says-refused all command heading bytes v text is heads says in
-    let said : Says command heading o.says.log (refused_in heading lines o.says.verdict) o.says.verdict text =
-    subst (λ (x : Judged). Says command heading x.log (refused_in heading lines x.verdict) x.verdict text)
-    (sym is) told in
-    subst (λ (k : Outcome). Says command (heading_in lines) k.log (refused_in (heading_in lines) lines k.verdict)
-    k.verdict text) (sym (outcome-said (is_frugal command) limits bytes))
-    (subst (λ (x : Option Heading). Says command x o.says.log (refused_in x lines o.says.verdict) o.says.verdict text)
-    (sym heads) said)
+judged_text : (command : Command) (heading : Option Heading) (bytes : List ℕ) (v : Judged) (text : List ℕ)
+    → (outcome_of Patterns (limits_of command) bytes).says ≡ v
+    → Heads (Some bytes) heading → IsOutput command heading v.log v.refused v.verdict text → IsTextOf command bytes text
+judged_text command heading bytes v text is heads says =
+    let judged = (outcome_of Patterns (limits_of command) bytes).says in
+    subst (λ (x : Option Heading). IsOutput command x judged.log judged.refused judged.verdict text) (sym heads)
+    (subst (λ (x : Judged). IsOutput command heading x.log x.refused x.verdict text) (sym is) says)
 
 module _ (bytes : List ℕ) (left : Option (List ℕ)) where
-  judged_concluded : (command : Command) (v : Judged) → Concludes (judging_for command) 1 AtHeader (Some bytes) v left
-      → (verdict_of_bytes Patterns (limits_of command) bytes ≡ v.verdict)
+  judged_concluded : (command : Command) (v : Judged) → Concludes (reader_for command) 1 AtHeader (Some bytes) v left
+      → ((outcome_of Patterns (limits_of command) bytes).says ≡ v)
       × (left ≡ Some (outcome_of Patterns (limits_of command) bytes).unread)
-  judged_concluded command v concludes =
-      let k = unread_is (judging_for command) AtHeader bytes left v concludes in
-      let said = outcome-said (is_frugal command) (limits_of command) bytes in (
-        ap (λ (o : Outcome). o.verdict) said ∙ ap (λ (x : Judged). x.verdict) k.0,
-        k.1 ∙ ap (λ (o : Outcome). Some o.unread) (sym said),
-      )
+  judged_concluded command v concludes = unread_is (reader_for command) AtHeader bytes left v concludes
 
-  run_concluded : (says : run.RunSays) → Concludes following 1 run.AtHeader (Some bytes) says left
+  run_concluded : (says : run.RunSays) → Concludes run_reader 1 run.AtHeader (Some bytes) says left
       → ((run.run_of bytes).says ≡ says) × (left ≡ Some (run.run_of bytes).unread)
-  run_concluded says concludes =
-      let k = unread_is following run.AtHeader bytes left says concludes in
-      let said = run-said bytes in
-      (ap (λ (o : run.RunOutcome). o.says) said ∙ k.0, k.1 ∙ ap (λ (o : run.RunOutcome). Some o.unread) (sym said))
+  run_concluded says concludes = unread_is run_reader run.AtHeader bytes left says concludes
 
-  read_concluded : (says : read.Said) → Concludes certifying 1 read.AtHeader (Some bytes) says left
+  read_concluded : (says : read.CertificateSays) → Concludes certificate_reader 1 read.AtHeader (Some bytes) says left
       → ((read.read_of bytes).says ≡ says) × (left ≡ Some (read.read_of bytes).unread)
-  read_concluded says concludes =
-      let k = unread_is certifying read.AtHeader bytes left says concludes in
-      let said = read-said bytes in
-      (ap (λ (o : read.Read). o.says) said ∙ k.0, k.1 ∙ ap (λ (o : read.Read). Some o.unread) (sym said))
+  read_concluded says concludes = unread_is certificate_reader read.AtHeader bytes left says concludes
 
   -- all before what is left was read for what is said
   read_for_all : (request : Request) → left ≡ Some (unread_for request bytes) → ReadForAll request bytes left
-  read_for_all (Judge command) is = read-to (is_frugal command) (limits_of command) bytes left is
+  read_for_all (Judge command) is = read-to (limits_of command) bytes left is
   read_for_all Follow is = run-read-to bytes left is
   read_for_all Verify is = certified-read-to bytes left is
   read_for_all (Generate n count) is = is
@@ -178,19 +158,19 @@ module _ (bytes : List ℕ) (left : Option (List ℕ)) where
   -- there was no memory for a line, or for what comes of what was read whole
   judged_wants : (command : Command) → WantsJudged command (Some bytes) left → Wants command bytes left
   judged_wants command (inl starves) =
-      inl (to_want (judging_for command) AtHeader (command_lines command) (command-lines command)
-      (λ n. NeedsMemory command) (λ n. needs-memory command) bytes left starves)
+      inl (to_want (reader_for command) AtHeader (λ n. NeedsMemory command) (λ n. needs-memory command) bytes left
+      starves)
   judged_wants command (inr whole) =
       let k = judged_concluded command whole.says whole.concludes in
       inr (record {
-        shows = subst (ShowsMore command) (sym k.0) whole.shows;
-        read = read-to (is_frugal command) (limits_of command) bytes left k.1;
+        shows = subst (λ (v : Judged). MayShowEvidence command v.verdict) (sym k.0) whole.shows;
+        read = read-to (limits_of command) bytes left k.1;
       })
 
   run_wants : WantsRun (Some bytes) left → WantAt Follow bytes left
   run_wants (inl starves) =
-      inl (to_want following run.AtHeader run_lines run-lines (λ n p line. step_needs n p line ≡ true)
-      (λ n p line needs. needs) bytes left starves)
+      inl (to_want run_reader run.AtHeader (λ n p line. step_needs n p line ≡ true) (λ n p line needs. needs) bytes left
+      starves)
   run_wants (inr whole) =
       let k = run_concluded (run.Whole whole.heading whole.steps) whole.concludes in
       let r = run-read-to bytes left k.1 in
@@ -203,8 +183,8 @@ module _ (bytes : List ℕ) (left : Option (List ℕ)) where
 
   read_wants : WantsRead (Some bytes) left → WantAt Verify bytes left
   read_wants (inl starves) =
-      inl (to_want certifying read.AtHeader certified_lines certified-lines
-      (λ n p line. certified_needs n p line ≡ true) (λ n p line needs. needs) bytes left starves)
+      inl (to_want certificate_reader read.AtHeader (λ n p line. certified_needs n p line ≡ true)
+      (λ n p line needs. needs) bytes left starves)
   read_wants (inr whole) =
       let k = read_concluded (read.Whole whole.heading whole.log whole.claims) whole.concludes in
       let r = certified-read-to bytes left k.1 in
@@ -213,7 +193,7 @@ module _ (bytes : List ℕ) (left : Option (List ℕ)) where
         log = whole.log;
         claims = whole.claims;
         whole = k.0;
-        now = r.3 ∙ ap Some (subst (λ (s : read.Said). CertifiedReadFor s (text_of r.0) r.1) k.0 r.4);
+        now = r.3 ∙ ap Some (subst (λ (s : read.CertificateSays). CertifiedReadFor s (text_of r.0) r.1) k.0 r.4);
       })
 
 -- a log that was judged by the limits of a command, and by a checker that is frugal where that of the command is
@@ -232,52 +212,52 @@ module _ (result : Status) (streams : Streams) where
 
   -- ---- how a text is answered, by why reading stopped
 
-  pub answered : {P V : Type 0} (fold : Fold P V) (start q : P) (Text : V → List ℕ → Type 0) (tells : V → Status)
+  pub answered : {P V : Type 0} (reader : Reader P V) (start q : P) (Text : V → List ℕ → Type 0) (tells : V → Status)
       (Wants : Option (List ℕ) → Option (List ℕ) → Type 0) (OfVerdict : Decision → List ℕ → Type 0) (stop : Stop)
-      → ((v : Decision) (text : List ℕ) → OfVerdict v text → Text (fold.stopped q v) text)
-      → ((v : Decision) → status_of v.verdict ≡ tells (fold.stopped q v))
-      → (Starves fold 1 start old new → Wants old new)
-      → Stops fold 1 start old stop q new f f' → Reports OfVerdict stop result held held' w w'
-      → Answered fold start Text tells Wants result streams
-  answered fold start q Text tells Wants OfVerdict (Decided v) texts statuses wants stops reports = inl (record {
-    says = fold.stopped q v;
+      → ((v : Decision) (text : List ℕ) → OfVerdict v text → Text (reader.stopped q v) text)
+      → ((v : Decision) → status_of v.verdict ≡ tells (reader.stopped q v))
+      → (Starves reader 1 start old new → Wants old new)
+      → Stops reader 1 start old stop q new f f' → Reports OfVerdict stop result held held' w w'
+      → Answered reader start Text tells Wants result streams
+  answered reader start q Text tells Wants OfVerdict (Decided v) texts statuses wants stops reports = inl (record {
+    says = reader.stopped q v;
     concludes = stops.0;
     sound = stops.1;
     text = reports.0;
     is = texts v reports.0 reports.1;
     wrote = subst (λ (s : Status). WroteTo s reports.0 result streams) (statuses v) reports.2;
   })
-  answered fold start q Text tells Wants OfVerdict ReadFault texts statuses wants stops reports =
+  answered reader start q Text tells Wants OfVerdict ReadFault texts statuses wants stops reports =
       inr (inl (record { breaks = stops.0; rose = stops.1; silent = reports }))
-  answered fold start q Text tells Wants OfVerdict NoMemory texts statuses wants stops reports =
+  answered reader start q Text tells Wants OfVerdict NoMemory texts statuses wants stops reports =
       inr (inr (record { wants = wants stops.0; sound = stops.1; silent = reports }))
 
   -- a log that was judged for a command, by the text that is told of a verdict
   pub answered-judged : (command : Command) (heading : Option Heading) (reached : Progress) (stop : Stop)
-      → Stops (judging_for command) 1 AtHeader old stop reached new f f'
-      → Reports (SaysFor command heading (events_in reached)) stop result held held' w w' → Heads old heading
+      → Stops (reader_for command) 1 AtHeader old stop reached new f f'
+      → Reports (IsOutputFor command heading (events_in reached)) stop result held held' w w' → Heads old heading
       → Obeys command result streams
   answered-judged command heading reached stop stops reports heads = record {
     heading = heading;
     heads = heads;
-    answered = answered (judging_for command) AtHeader reached
-        (λ said text. Says command heading said.log said.refused said.verdict text) (λ said. status_of said.verdict)
-        (WantsJudged command) (SaysFor command heading (events_in reached)) stop
+    answered = answered (reader_for command) AtHeader reached
+        (λ said text. IsOutput command heading said.log said.refused said.verdict text) (λ said. status_of said.verdict)
+        (WantsJudged command) (IsOutputFor command heading (events_in reached)) stop
         (λ v text says. says) (λ v. refl) (λ starves. inl starves) stops reports;
   }
 
   -- the same for a command that shows more of the events
   pub answered-shown : (command : Command) (heading : Option Heading) (reached : Progress) (stop : Stop)
-      → Stops (judging_for command) 1 AtHeader old stop reached new f f'
+      → Stops (reader_for command) 1 AtHeader old stop reached new f f'
       → ReportsShown command heading (events_in reached) stop result held held' w w' → Heads old heading
       → Obeys command result streams
   answered-shown command heading reached stop stops reports heads =
       record { heading = heading; heads = heads; answered = by stop stops reports }
     where
-      by : (s : Stop) → Stops (judging_for command) 1 AtHeader old s reached new f f'
+      by : (s : Stop) → Stops (reader_for command) 1 AtHeader old s reached new f f'
           → ReportsShown command heading (events_in reached) s result held held' w w'
-          → Answered (judging_for command) AtHeader
-          (λ said text. Says command heading said.log said.refused said.verdict text) (λ said. status_of said.verdict)
+          → Answered (reader_for command) AtHeader
+          (λ said text. IsOutput command heading said.log said.refused said.verdict text) (λ said. status_of said.verdict)
           (WantsJudged command) result streams
       by (Decided decision) stopped (inl told) = inl (record {
         says = judged_at reached decision;
@@ -300,17 +280,17 @@ module _ (result : Status) (streams : Streams) where
   -- a run that was read whole, and followed if there was memory
   pub followed-whole : {E : Type 0} (heading : Heading) (kept : List Step) (told : Result Followed E)
       (mid : Option (List ℕ)) (between : ℕ) → HeaderLine heading old mid → between ≡ f
-      → Ends following (Follows kept following heading) (run.AtSteps heading []) (Ok tt) mid new between f'
+      → Ends run_reader (Follows kept run_reader heading) (run.AtSteps heading []) (Ok tt) mid new between f'
       → IfOk told (λ t. t ≡ run.followed heading (reverse kept)) → ReportsRun told result held held' w w'
       → FollowsRun result streams
   followed-whole {E = E} heading kept told mid between header same ends is reports = by told is reports
     where
-      concludes : Concludes following 1 run.AtHeader old (run.Whole heading (reverse kept)) new
+      concludes : Concludes run_reader 1 run.AtHeader old (run.Whole heading (reverse kept)) new
       concludes =
-          continues-concludes following 1 2 run.AtHeader (run.AtSteps heading []) (run.Whole heading (reverse kept))
+          continues-concludes run_reader 1 2 run.AtHeader (run.AtSteps heading []) (run.Whole heading (reverse kept))
           old mid new
-          (header-passes following run.AtHeader (λ h. run.AtSteps h []) following-start heading old mid header)
-          (subst (λ (v : run.RunSays). Concludes following 2 (run.AtSteps heading []) mid v new)
+          (header-passes run_reader run.AtHeader (λ h. run.AtSteps h []) following-start heading old mid header)
+          (subst (λ (v : run.RunSays). Concludes run_reader 2 (run.AtSteps heading []) mid v new)
           (ap whole_run ends.3.is) ends.2)
 
       by : (t : Result Followed E) → IfOk t (λ x. x ≡ run.followed heading (reverse kept))
@@ -333,41 +313,41 @@ module _ (result : Status) (streams : Streams) where
   -- a run that was read up to a line that stops reading, or to a fault
   pub followed-stopped : (heading : Heading) (kept : List Step) (stop : Stop) (mid : Option (List ℕ)) (between : ℕ)
       → HeaderLine heading old mid → between ≡ f
-      → Ends following (Follows kept following heading) (run.AtSteps heading []) (Err stop) mid new between f'
+      → Ends run_reader (Follows kept run_reader heading) (run.AtSteps heading []) (Err stop) mid new between f'
       → Reports IsLine stop result held held' w w' → FollowsRun result streams
   followed-stopped heading kept stop mid between header same ends reports =
       let begun = λ (h : Heading). run.AtSteps h [] in
-      let passes = header-passes following run.AtHeader begun following-start heading old mid header in
-      answered following run.AtHeader ends.0 (λ says text. text ≡ run.run_text says) run_status WantsRun IsLine stop
+      let passes = header-passes run_reader run.AtHeader begun following-start heading old mid header in
+      answered run_reader run.AtHeader ends.0 (λ says text. text ≡ run.run_text says) run_status WantsRun IsLine stop
       (λ v text is. is) (λ v. refl) (λ starves. inl starves)
-      (continues-stops following 1 2 run.AtHeader (run.AtSteps heading []) ends.0 stop old mid new f between f' passes
+      (continues-stops run_reader 1 2 run.AtHeader (run.AtSteps heading []) ends.0 stop old mid new f between f' passes
       same ends.2) reports
 
   -- a run whose header was not read
-  pub followed-unread : (stop : Stop) → Starts following run.AtHeader (Err stop) old new f f'
+  pub followed-unread : (stop : Stop) → Starts run_reader run.AtHeader (Err stop) old new f f'
       → Reports IsLine stop result held held' w w' → FollowsRun result streams
   followed-unread stop starts reports =
-      answered following run.AtHeader run.AtHeader (λ says text. text ≡ run.run_text says) run_status WantsRun IsLine
+      answered run_reader run.AtHeader run.AtHeader (λ says text. text ≡ run.run_text says) run_status WantsRun IsLine
       stop (λ v text is. is) (λ v. refl) (λ starves. inl starves) starts reports
 
   -- a log that was read whole with its certificate, and judged if there was memory
   pub verified-whole : {E : Type 0} (heading : Heading) (kept : Kept) (events claims : ℕ) (told : Result JudgedBy E)
       (mid : Option (List ℕ)) (between : ℕ) → HeaderLine heading old mid → between ≡ f
-      → Ends certifying (Certifies kept certifying heading) (read.AtEvents heading []) (Ok tt) mid new between f'
+      → Ends certificate_reader (Certifies kept certificate_reader heading) (read.AtEvents heading []) (Ok tt) mid new between f'
       → events ≡ length (reverse kept.events.items) → claims ≡ length kept.claims.items
       → IfOk told (λ t. t ≡ judged heading kept.claims.items (reverse kept.events.items))
       → ReportsJudged events claims told result held held' w w' → Verifies result streams
   verified-whole {E = E} heading kept events claims told mid between header same ends counts claimed is reports =
       by told is reports
     where
-      concludes : Concludes certifying 1 read.AtHeader old
+      concludes : Concludes certificate_reader 1 read.AtHeader old
           (read.Whole heading (reverse kept.events.items) kept.claims.items) new
       concludes =
-          continues-concludes certifying 1 2 read.AtHeader (read.AtEvents heading [])
+          continues-concludes certificate_reader 1 2 read.AtHeader (read.AtEvents heading [])
           (read.Whole heading (reverse kept.events.items) kept.claims.items) old mid new
-          (header-passes certifying read.AtHeader (λ h. read.AtEvents h []) certifying-start heading old mid header)
-          (subst (λ (v : read.Said). Concludes certifying 2 (read.AtEvents heading []) mid v new)
-          (certified-whole heading kept certifying ends.0 ends.1 ends.3) ends.2)
+          (header-passes certificate_reader read.AtHeader (λ h. read.AtEvents h []) certifying-start heading old mid header)
+          (subst (λ (v : read.CertificateSays). Concludes certificate_reader 2 (read.AtEvents heading []) mid v new)
+          (certified-whole heading kept certificate_reader ends.0 ends.1 ends.3) ends.2)
 
       by : (t : Result JudgedBy E) → IfOk t (λ x. x ≡ judged heading kept.claims.items (reverse kept.events.items))
           → ReportsJudged events claims t result held held' w w' → Verifies result streams
@@ -396,21 +376,21 @@ module _ (result : Status) (streams : Streams) where
   -- a log and its certificate that were read up to a line that stops reading, or to a fault
   pub verified-stopped : (heading : Heading) (kept : Kept) (stop : Stop) (mid : Option (List ℕ)) (between : ℕ)
       → HeaderLine heading old mid → between ≡ f
-      → Ends certifying (Certifies kept certifying heading) (read.AtEvents heading []) (Err stop) mid new between f'
+      → Ends certificate_reader (Certifies kept certificate_reader heading) (read.AtEvents heading []) (Err stop) mid new between f'
       → Reports IsLine stop result held held' w w' → Verifies result streams
   verified-stopped heading kept stop mid between header same ends reports =
       let begun = λ (h : Heading). read.AtEvents h [] in
-      let passes = header-passes certifying read.AtHeader begun certifying-start heading old mid header in
-      answered certifying read.AtHeader ends.0 (λ says text. text ≡ read_text says) read_status WantsRead IsLine stop
+      let passes = header-passes certificate_reader read.AtHeader begun certifying-start heading old mid header in
+      answered certificate_reader read.AtHeader ends.0 (λ says text. text ≡ read_text says) read_status WantsRead IsLine stop
       (λ v text is. is) (λ v. refl) (λ starves. inl starves)
-      (continues-stops certifying 1 2 read.AtHeader (read.AtEvents heading []) ends.0 stop old mid new f between f'
+      (continues-stops certificate_reader 1 2 read.AtHeader (read.AtEvents heading []) ends.0 stop old mid new f between f'
       passes same ends.2) reports
 
   -- a log and its certificate whose header was not read
-  pub verified-unread : (stop : Stop) → Starts certifying read.AtHeader (Err stop) old new f f'
+  pub verified-unread : (stop : Stop) → Starts certificate_reader read.AtHeader (Err stop) old new f f'
       → Reports IsLine stop result held held' w w' → Verifies result streams
   verified-unread stop starts reports =
-      answered certifying read.AtHeader read.AtHeader (λ says text. text ≡ read_text says) read_status WantsRead IsLine
+      answered certificate_reader read.AtHeader read.AtHeader (λ says text. text ≡ read_text says) read_status WantsRead IsLine
       stop (λ v text is. is) (λ v. refl) (λ starves. inl starves) starts reports
 
   -- ---- what is known where the request was served
@@ -442,23 +422,23 @@ module _ (result : Status) (streams : Streams) where
   wrote_part wanted text told (inr failed) is = failed.2
 
   -- a text that was read
-  module _ {P V : Type 0} {fold : Fold P V} {start : P} {Text : V → List ℕ → Type 0} {tells : V → Status}
+  module _ {P V : Type 0} {reader : Reader P V} {start : P} {Text : V → List ℕ → Type 0} {tells : V → Status}
       {Wants : Option (List ℕ) → Option (List ℕ) → Type 0} (told : (v : V) → tells_verdict (tells v) ≡ true) where
-    telling : Answered fold start Text tells Wants result streams → Spoke → Told fold start Text tells result streams
+    telling : Answered reader start Text tells Wants result streams → Spoke → Told reader start Text tells result streams
     telling (inl t) spoke = t
     telling (inr (inl failed)) spoke =
         absurd (unspoken status.ReadFault refl (λ same. cc) failed.silent.0 spoke)
     telling (inr (inr wanted)) spoke =
         absurd (unspoken status.NoMemory refl (λ same. cc) wanted.silent.0 spoke)
 
-    broke : Answered fold start Text tells Wants result streams → result ≡ status.ReadFault
-        → Breaks fold 1 start old new
+    broke : Answered reader start Text tells Wants result streams → result ≡ status.ReadFault
+        → Breaks reader 1 start old new
     broke (inl t) is =
         absurd (wrote_apart (tells t.says) t.text (told t.says) t.wrote status.ReadFault refl (λ same. cc) is)
     broke (inr (inl failed)) is = failed.breaks
     broke (inr (inr wanted)) is = let other = wanted.silent.0 in cc
 
-    starved : Answered fold start Text tells Wants result streams → result ≡ status.NoMemory → Wants old new
+    starved : Answered reader start Text tells Wants result streams → result ≡ status.NoMemory → Wants old new
     starved (inl t) is =
         absurd (wrote_apart (tells t.says) t.text (told t.says) t.wrote status.NoMemory refl (λ same. cc) is)
     starved (inr (inl failed)) is = let other = failed.silent.0 in cc
@@ -579,14 +559,14 @@ module _ (result : Status) (streams : Streams) where
     heads_at : (heading : Option Heading) → Heads old heading → Heads (Some bytes) heading
     heads_at heading heads = subst (λ (o : Option (List ℕ)). Heads o heading) is heads
 
-    concluded : {P V : Type 0} (fold : Fold P V) (start : P) (v : V) → Concludes fold 1 start old v new
-        → Concludes fold 1 start (Some bytes) v new
-    concluded fold start v concludes = subst (λ (o : Option (List ℕ)). Concludes fold 1 start o v new) is concludes
+    concluded : {P V : Type 0} (reader : Reader P V) (start : P) (v : V) → Concludes reader 1 start old v new
+        → Concludes reader 1 start (Some bytes) v new
+    concluded reader start v concludes = subst (λ (o : Option (List ℕ)). Concludes reader 1 start o v new) is concludes
 
     -- the text of the request for these bytes was to be written, with their status
     record SpokeOf (request : Request) : Type 0 where
       text : List ℕ
-      has : AllFit → IsTextFor request bytes text
+      has : IsTextFor request bytes text
       unread : new ≡ Some (unread_for request bytes)
       told : tells_verdict (status_for request bytes) ≡ true
       wrote : WroteTo (status_for request bytes) text result streams
@@ -594,46 +574,45 @@ module _ (result : Status) (streams : Streams) where
     spoke_of : (request : Request) → Serves request result streams → Spoke → SpokeOf request
     spoke_of (Judge command) o spoke =
         let t = telling tells_judgement o.answered spoke in
-        let concludes = concluded (judging_for command) AtHeader t.says t.concludes in
-        let said = unread_is (judging_for command) AtHeader bytes new t.says concludes in
+        let concludes = concluded (reader_for command) AtHeader t.says t.concludes in
         let k = judged_concluded bytes new command t.says concludes in
         record {
           text = t.text;
-          has = λ all. judged_text all command o.heading bytes t.says t.text said.0 (heads_at o.heading o.heads) t.is;
+          has = judged_text command o.heading bytes t.says t.text k.0 (heads_at o.heading o.heads) t.is;
           unread = k.1;
           told = tells_of (verdict_of_bytes Patterns (limits_of command) bytes);
-          wrote = subst (λ (s : Status). WroteTo s t.text result streams) (ap status_of (sym k.0)) t.wrote;
+          wrote = subst (λ (v : Judged). WroteTo (status_of v.verdict) t.text result streams) (sym k.0) t.wrote;
         }
     spoke_of Follow o spoke =
         let t = telling tells_run o spoke in
-        let k = run_concluded bytes new t.says (concluded following run.AtHeader t.says t.concludes) in
+        let k = run_concluded bytes new t.says (concluded run_reader run.AtHeader t.says t.concludes) in
         record {
           text = t.text;
-          has = λ all. t.is ∙ ap run.run_text (sym k.0);
+          has = t.is ∙ ap run.run_text (sym k.0);
           unread = k.1;
           told = tells_run (run.run_of bytes).says;
           wrote = subst (λ (s : Status). WroteTo s t.text result streams) (ap run_status (sym k.0)) t.wrote;
         }
     spoke_of Verify o spoke =
         let t = telling tells_read o spoke in
-        let k = read_concluded bytes new t.says (concluded certifying read.AtHeader t.says t.concludes) in
+        let k = read_concluded bytes new t.says (concluded certificate_reader read.AtHeader t.says t.concludes) in
         record {
           text = t.text;
-          has = λ all. t.is ∙ ap read_text (sym k.0);
+          has = t.is ∙ ap read_text (sym k.0);
           unread = k.1;
           told = tells_read (read.read_of bytes).says;
           wrote = subst (λ (s : Status). WroteTo s t.text result streams) (ap read_status (sym k.0)) t.wrote;
         }
     spoke_of (Generate n count) o spoke = record {
       text = gen_text n count;
-      has = λ all. refl;
+      has = refl;
       unread = o.0 ∙ is;
       told = refl;
       wrote = o.2;
     }
     spoke_of (Selftest n count) o spoke = record {
       text = selftest_text n count;
-      has = λ all. refl;
+      has = refl;
       unread = o.0 ∙ is;
       told = refl;
       wrote = tested_telling (selftest_text n count) o.2 spoke;
@@ -645,17 +624,17 @@ module _ (result : Status) (streams : Streams) where
         let k = spoke_of request o (inl tell) in
         (wrote_whole (status_for request bytes) k.text k.wrote tell).0
 
-    pub served-text : AllFit → (request : Request) → Serves request result streams → tells_verdict result ≡ true
+    pub served-text : (request : Request) → Serves request result streams → tells_verdict result ≡ true
         → (text : List ℕ) × IsTextFor request bytes text × (held' ≡ extended held text)
-    served-text all request o tell =
+    served-text request o tell =
         let k = spoke_of request o (inl tell) in
-        (k.text, k.has all, (wrote_whole (status_for request bytes) k.text k.wrote tell).1)
+        (k.text, k.has, (wrote_whole (status_for request bytes) k.text k.wrote tell).1)
 
-    pub served-part : AllFit → (request : Request) → Serves request result streams → result ≡ status.WriteFault
+    pub served-part : (request : Request) → Serves request result streams → result ≡ status.WriteFault
         → (text : List ℕ) × IsTextFor request bytes text × Part text held held'
-    served-part all request o cuts =
+    served-part request o cuts =
         let k = spoke_of request o (inr cuts) in
-        (k.text, k.has all, wrote_part (status_for request bytes) k.text k.told k.wrote cuts)
+        (k.text, k.has, wrote_part (status_for request bytes) k.text k.told k.wrote cuts)
 
     pub served-unread : (request : Request) → Serves request result streams → tells_verdict result ≡ true
         → new ≡ Some (unread_for request bytes)
@@ -692,15 +671,15 @@ module _ (result : Status) (streams : Streams) where
     pub served-fault : (request : Request) → Serves request result streams → result ≡ status.ReadFault
         → FaultAt request bytes new
     served-fault (Judge command) o fault =
-        to_fault (judging_for command) AtHeader (command_lines command) (command-lines command) bytes new
-        (subst (λ (x : Option (List ℕ)). Breaks (judging_for command) 1 AtHeader x new) is
+        to_fault (reader_for command) AtHeader bytes new
+        (subst (λ (x : Option (List ℕ)). Breaks (reader_for command) 1 AtHeader x new) is
         (broke tells_judgement o.answered fault))
     served-fault Follow o fault =
-        to_fault following run.AtHeader run_lines run-lines bytes new
-        (subst (λ (x : Option (List ℕ)). Breaks following 1 run.AtHeader x new) is (broke tells_run o fault))
+        to_fault run_reader run.AtHeader bytes new
+        (subst (λ (x : Option (List ℕ)). Breaks run_reader 1 run.AtHeader x new) is (broke tells_run o fault))
     served-fault Verify o fault =
-        to_fault certifying read.AtHeader certified_lines certified-lines bytes new
-        (subst (λ (x : Option (List ℕ)). Breaks certifying 1 read.AtHeader x new) is (broke tells_read o fault))
+        to_fault certificate_reader read.AtHeader bytes new
+        (subst (λ (x : Option (List ℕ)). Breaks certificate_reader 1 read.AtHeader x new) is (broke tells_read o fault))
     served-fault (Generate n count) o fault = tested_sound (gen_text n count) (inl o.2) fault
     served-fault (Selftest n count) o fault = tested_sound (selftest_text n count) o.2 fault
 

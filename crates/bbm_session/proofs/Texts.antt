@@ -1,8 +1,8 @@
 -- The lines of a text, read from its front.
-use Rattle.bbm_session.proofs.Common.{plain, before_text}
+use Rattle.bbm_session.proofs.Common.{plain}
 use Rattle.bbm_rules.proofs.Common.{◌≡◌, ℕ, Bool, true, false, if◌then◌else◌, arith, ◌&&◌, not, nat_eq, List, [], ◌∷◌}
-use Rattle.bbm_rules.proofs.Common.{◌++◌, refl, ap, sym, ◌∙◌, nat_tests, proved, If, Is, Text, text_of}
-use Rattle.bbm_rules.proofs.Common.{bytes_of}
+use Rattle.bbm_rules.proofs.Common.{◌++◌, refl, ap, sym, ◌∙◌, nat_tests, proved, If, Is, Text, text_of, bytes_of}
+use Rattle.bbm_rules.specs.Fold.{before_text}
 use Rattle.bbm_lemmas.proofs.Tautologies.Claim.{Both}
 
 both : (x y : Bool) → (not x && y) ≡ true → (x ≡ false) × (y ≡ true)

@@ -1,10 +1,11 @@
 pub mod Certificates
-pub mod Fold
-pub mod Folds
+pub mod FollowedRuns
+pub mod IdleLines
 pub mod JudgedLog
 pub mod Keeping
 pub mod Pieces
-pub mod Refused
+pub mod Reader
+pub mod Readers
 pub mod Requests
 pub mod Run
 pub mod Runs

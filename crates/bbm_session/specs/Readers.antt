@@ -1,7 +1,6 @@
--- The folds over the lines of a log: one judges its events, one keeps the steps of a run, and one keeps the events and
+-- The readers of the lines of a log: one judges its events, one keeps the steps of a run, and one keeps the events and
 -- the claims of a certificate behind them. No public contract cites these words.
 use Rattle.std.specs.Prelude.{◌≡◌, ℕ, ◌+◌, ◌≤◌, Bool, true, false, not, ◌&&◌, is_ok, List, [], length, reverse, Option}
-use Rattle.std.specs.Prelude.{None}
 use Rattle.std.specs.Prelude.{Result, Ok, Err}
 use Rattle.bbm_events.specs.declared.event.Event.{Event}
 use Rattle.bbm_events.specs.declared.event.Item.{Item}
@@ -12,10 +11,8 @@ use Rattle.bbm_events.specs.Lines.{header_of, item_of}
 use Rattle.bbm_rules.specs.Answers.{rewrites, takes_no_memory}
 use Rattle.bbm_rules.specs.Claims.{Patterns}
 use Rattle.bbm_rules.specs.declared.limits.Limits.{Limits}
-use Rattle.bbm_rules.specs.declared.verdict.Verdict.{Verdict}
 use Rattle.bbm_rules.specs.declared.verdict.Verdict.TheVariants.{Accepted, Malformed, Limit}
-use Rattle.bbm_rules.specs.Outcome.{Progress, AtHeader, AtEvents, AtEnd, Step, Decides, GoesOn, after_line}
-use Rattle.bbm_rules.specs.Outcome.{cut_at, events_in, too_long_at}
+use Rattle.bbm_rules.specs.Outcome.{Progress, AtHeader, AtEvents, AtEnd, Judged, events_in, judging, unrefused}
 use Rattle.bbm_tlb_machine.specs.declared.step.Step.{Step as MachineStep}
 use Rattle.bbm_log_grammar.specs.declared.turn.LineFault.{LineFault}
 use Rattle.bbm_log_grammar.specs.declared.turn.LineFault.TheVariants as fault
@@ -25,35 +22,15 @@ use Rattle.bbm_certificate.specs.CertificateReading as read
 use Rattle.bbm_session.specs.Certificates.{certified_needs}
 use Rattle.bbm_texts.specs.declared.commands.Command.{Command}
 use Rattle.bbm_texts.specs.declared.commands.Command.TheVariants.{Check, Slow, Explain, Walk, Show}
-use Rattle.bbm_session.specs.Fold.{Fold, Turned, Halts, Passes, alone, refusing}
+use Rattle.bbm_session.specs.Reader.{Reader, alone}
 use Rattle.bbm_session.specs.Run.{limits_of}
 use Rattle.bbm_session.specs.Runs.{step_needs}
-use Rattle.bbm_session.specs.Refused.{event_in}
-use Rattle.bbm_session.specs.Stages.{KnowsAt, Stops}
+use Rattle.bbm_session.specs.Stages.{KnowsAt, Stops, judged_after}
 use Rattle.bbm_texts.specs.Known.{Keeps}
 use Rattle.bbm_texts.specs.declared.decision.Decision.{Decision}
 use Rattle.bbm_session.specs.declared.stop.Stop.{Stop}
 use Rattle.bbm_session.specs.declared.stop.Stop.TheVariants.{Decided, NoMemory}
 use Rattle.bbm_log_grammar.specs.declared.turn.Turn.{Turn}
-
--- a verdict, the event that it refuses if there is one, and the events before the line that decides, the newest first
-pub record Judged : Type 0 where
-  pub verdict : Verdict
-  pub refused : Option Event
-  pub log : List Event
-
-abbrev pub judged_at : Progress → Decision → Judged
-judged_at p decision = record { verdict = decision.verdict; refused = decision.refused; log = events_in p }
-
--- by the event on the line, if there is one
-abbrev pub judged_by : Progress → Option Event → Step → Turned Progress Judged
-judged_by p event (Decides verdict) = Halts (judged_at p (refusing event verdict))
-judged_by p event (GoesOn next) = Passes next
-
--- the event on a line behind these
-abbrev pub event_on : Progress → List ℕ → Option Event
-event_on (AtEvents heading h) line = event_in (item_of heading line)
-event_on _ line = None
 
 -- whether memory may be needed for an event, by a checker that is frugal or not
 abbrev pub event_needs : Bool → Heading → List Event → Event → Bool
@@ -77,25 +54,26 @@ is_frugal Check = true
 is_frugal Explain = true
 is_frugal (Walk question) = true
 
+abbrev pub judged_at : Progress → Decision → Judged
+judged_at p decision = judged_after (events_in p) decision
+
 -- the events of a log are judged, by a checker that is frugal or not
-abbrev pub judging : Bool → Limits → Fold Progress Judged
-judging frugal limits = record {
-  line = λ n p line. judged_by p (event_on p line) (after_line Patterns limits n p line);
-  long = λ n p. judged_at p (alone (too_long_at n p));
-  cut = λ n p rest. judged_at p (alone (cut_at n p rest));
+abbrev pub log_reader : Bool → Limits → Reader Progress Judged
+log_reader frugal limits = record {
+  lines = judging Patterns limits;
   stopped = judged_at;
-  whole = λ p. judged_at p (alone (Accepted (length (events_in p))));
+  whole = λ p. unrefused (events_in p) (Accepted (length (events_in p)));
   needs = λ n. line_needs frugal;
 }
 
-abbrev pub judging_for : Command → Fold Progress Judged
-judging_for command = judging (is_frugal command) (limits_of command)
+abbrev pub reader_for : Command → Reader Progress Judged
+reader_for command = log_reader (is_frugal command) (limits_of command)
 
 -- A checker stands for a history of this header, whose events are on the lines before this one.
 pub record Judges (frugal : Bool) (stands : Heading → List Event → Type 0) (limits : Limits)
-    (fold : Fold Progress Judged) (heading : Heading) (p : Progress) (n : ℕ) : Type 0 where
+    (reader : Reader Progress Judged) (heading : Heading) (p : Progress) (n : ℕ) : Type 0 where
   pub h : List Event
-  pub fold_is : fold ≡ judging frugal limits
+  pub reader_is : reader ≡ log_reader frugal limits
   pub is : p ≡ AtEvents heading h
   pub keeps : Keeps stands heading h
   pub number : n ≡ length h + 2
@@ -104,12 +82,8 @@ pub record Judges (frugal : Bool) (stands : Heading → List Event → Type 0) (
 pub record StopsKnown (frugal : Bool) (stands : Heading → List Event → Type 0) (limits : Limits)
     (heading : Heading) (p : Progress) (stop : Stop) (old new : Option (List ℕ)) (faults faults' : ℕ) : Type 0 where
   pub reached : Progress
-  pub stops : Stops (judging frugal limits) 2 p old stop reached new faults faults'
+  pub stops : Stops (log_reader frugal limits) 2 p old stop reached new faults faults'
   pub known : KnowsAt stands heading (events_in reached) stop
-
-abbrev pub kept_by : run.Turned → Turned run.Reached run.RunSays
-kept_by (run.Stops verdict) = Halts (run.Stopped verdict)
-kept_by (run.GoesOn next) = Passes next
 
 abbrev pub whole_run : run.Reached → run.RunSays
 whole_run (run.AtSteps heading steps) = run.Whole heading steps
@@ -117,20 +91,18 @@ whole_run (run.AtEnd heading steps) = run.Whole heading steps
 whole_run run.AtHeader = run.Stopped (Accepted 0)
 
 -- the steps of a run are kept
-abbrev pub following : Fold run.Reached run.RunSays
-following = record {
-  line = λ n p line. kept_by (run.after_line n p line);
-  long = λ n p. run.Stopped (run.too_long_at n p);
-  cut = run.cut_at;
+abbrev pub run_reader : Reader run.Reached run.RunSays
+run_reader = record {
+  lines = run.following;
   stopped = λ p decision. run.Stopped decision.verdict;
   whole = whole_run;
   needs = step_needs;
 }
 
 -- these steps, the oldest first, are on the lines before this one
-pub record Follows (kept : List MachineStep) (fold : Fold run.Reached run.RunSays) (heading : Heading) (p : run.Reached)
-    (n : ℕ) : Type 0 where
-  pub fold_is : fold ≡ following
+pub record Follows (kept : List MachineStep) (reader : Reader run.Reached run.RunSays) (heading : Heading)
+    (p : run.Reached) (n : ℕ) : Type 0 where
+  pub reader_is : reader ≡ run_reader
   pub is : p ≡ run.AtSteps heading (reverse kept)
   pub number : n ≡ length kept + 2
   pub few : length kept ≤ 2000
@@ -142,11 +114,7 @@ Turns n (Err (fault.Malformed cause)) result = result ≡ Err (Decided (alone (M
 Turns n (Err (fault.Limit which)) result = result ≡ Err (Decided (alone (Limit n which)))
 Turns n (Err fault.NoMemory) result = result ≡ Err NoMemory
 
-abbrev pub certified_by : read.Turned → Turned read.Reached read.Said
-certified_by (read.Stops verdict) = Halts (read.Stopped verdict)
-certified_by (read.GoesOn next) = Passes next
-
-abbrev pub whole_read : read.Reached → read.Said
+abbrev pub whole_read : read.Reached → read.CertificateSays
 whole_read (read.AtEvents heading h) = read.Whole heading h []
 whole_read (read.BehindLog heading h) = read.Whole heading h []
 whole_read (read.AtClaims heading h claims) = read.Whole heading h claims
@@ -154,20 +122,19 @@ whole_read (read.AtEnd heading h claims) = read.Whole heading h claims
 whole_read read.AtHeader = read.Stopped (Accepted 0)
 
 -- the events of a log and the claims of its certificate are kept
-abbrev pub certifying : Fold read.Reached read.Said
-certifying = record {
-  line = λ n p line. certified_by (read.after_line n p line);
-  long = λ n p. read.Stopped (read.too_long_at n p);
-  cut = read.cut_at;
+abbrev pub certificate_reader : Reader read.Reached read.CertificateSays
+certificate_reader = record {
+  lines = read.certifying;
   stopped = λ p decision. read.Stopped decision.verdict;
   whole = whole_read;
   needs = certified_needs;
 }
 
 -- what is kept of the lines before this one, which are a log and claims
-pub record Certifies (kept : Kept) (fold : Fold read.Reached read.Said) (heading : Heading) (p : read.Reached) (n : ℕ)
-    : Type 0 where
-  pub fold_is : fold ≡ certifying
+pub record Certifies (kept : Kept) (reader : Reader read.Reached read.CertificateSays) (heading : Heading)
+    (p : read.Reached)
+    (n : ℕ) : Type 0 where
+  pub reader_is : reader ≡ certificate_reader
   pub is : p ≡ read.kept_at heading kept
   pub sound : read.IsSound (read.kept_at heading kept)
   pub number : n ≡ read.next_number (read.kept_at heading kept)

@@ -1,27 +1,27 @@
--- What the program's words ask for, and what it does for each: a log is judged, a run is followed, a log is judged by its
--- certificate, a generated log is written, or one is judged without being stored.
--- Source: project's own choice.
+-- What the program's words ask for, and what it does for each: a log is judged, a run is followed, a log is judged by
+-- its certificate, a generated log is written, or one is judged without being stored. Source: project's own choice.
 use Rattle.std.specs.Prelude.{◌≡◌, ℕ, nat_le, Bool, true, false, List, [], ◌∷◌, Option, Some, None, option_map, codes}
 use Rattle.std.specs.Prelude.{bytes_eq, if◌then◌else◌}
 use Rattle.bbm_events.specs.Lines.{passing}
 use Rattle.bbm_events.specs.Spelling.{decimal_value}
-use Rattle.bbm_certificate.specs.CertificateReading.{Said, read_of}
+use Rattle.bbm_certificate.specs.CertificateReading as read
+use Rattle.bbm_certificate.specs.CertificateReading.{CertificateSays, read_of}
+use Rattle.bbm_follow.specs.Following as run
 use Rattle.bbm_follow.specs.Following.{RunSays, run_of, run_text}
 use Rattle.bbm_rules.specs.Claims.{Patterns}
 use Rattle.bbm_rules.specs.Lists.{◌>>=◌}
 use Rattle.bbm_rules.specs.declared.verdict.Verdict.{Verdict}
-use Rattle.bbm_rules.specs.Outcome.{outcome_of, verdict_of_bytes}
+use Rattle.bbm_rules.specs.Outcome.{AtHeader, outcome_of, verdict_of_bytes}
 use Rattle.bbm_session.specs.declared.command.Request.{Request}
 use Rattle.bbm_session.specs.declared.command.Request.TheVariants.{Judge, Follow, Verify, Generate, Selftest}
 use Rattle.bbm_texts.specs.declared.status.Status.{Status}
 use Rattle.bbm_texts.specs.declared.status.Status.TheVariants as status
-use Rattle.bbm_session.specs.Certificates.{CertifiedReadFor, CertifiedWants, certified_lines, read_status, read_text}
+use Rattle.bbm_session.specs.Certificates.{CertifiedReadFor, CertifiedWants, read_status, read_text}
 use Rattle.bbm_texts.specs.Generating.{gen_text, selftest_text}
-use Rattle.bbm_session.specs.Run.{IsTextOf, IsSomeText, ReadAs, ReadTo, ReadToFault, Wants, command_lines, command_of}
-use Rattle.bbm_session.specs.Run.{limits_of}
-use Rattle.bbm_session.specs.Run.{or_else}
+use Rattle.bbm_session.specs.Run.{IsTextOf, IsSomeText, ReadAs, ReadTo, ReadToFault, Wants, command_of, judging_for}
+use Rattle.bbm_session.specs.Run.{limits_of, or_else}
 use Rattle.bbm_texts.specs.Statuses.{status_of}
-use Rattle.bbm_session.specs.Runs.{RunReadFor, RunWants, run_lines, run_status}
+use Rattle.bbm_session.specs.Runs.{RunReadFor, RunWants, run_status}
 
 -- the request of one word that isn't a command
 abbrev pub request_at : List ℕ → Option Request
@@ -95,7 +95,7 @@ abbrev pub IsSomeTextFor : Request → Status → List ℕ → Type 0
 IsSomeTextFor (Judge command) tells text =
     (verdict : Verdict) × (tells ≡ status_of verdict) × IsSomeText command verdict text
 IsSomeTextFor Follow tells text = (says : RunSays) × (tells ≡ run_status says) × (text ≡ run_text says)
-IsSomeTextFor Verify tells text = (says : Said) × (tells ≡ read_status says) × (text ≡ read_text says)
+IsSomeTextFor Verify tells text = (says : CertificateSays) × (tells ≡ read_status says) × (text ≡ read_text says)
 IsSomeTextFor (Generate n count) tells text = (tells ≡ status.Accepted) × (text ≡ gen_text n count)
 IsSomeTextFor (Selftest n count) tells text = (tells ≡ status.Accepted) × (text ≡ selftest_text n count)
 
@@ -117,9 +117,9 @@ ReadForAll (Selftest n count) bytes left = left ≡ Some bytes
 
 -- a read failed, which can't be where nothing is read
 abbrev pub FaultAt : Request → List ℕ → Option (List ℕ) → Type 0
-FaultAt (Judge command) bytes left = ReadToFault (command_lines command) bytes left
-FaultAt Follow bytes left = ReadToFault run_lines bytes left
-FaultAt Verify bytes left = ReadToFault certified_lines bytes left
+FaultAt (Judge command) bytes left = ReadToFault (judging_for command) AtHeader bytes left
+FaultAt Follow bytes left = ReadToFault run.following run.AtHeader bytes left
+FaultAt Verify bytes left = ReadToFault read.certifying read.AtHeader bytes left
 FaultAt (Generate n count) bytes left = ⊥
 FaultAt (Selftest n count) bytes left = ⊥
 

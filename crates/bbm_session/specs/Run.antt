@@ -1,7 +1,6 @@
 -- What the program's words ask for, and what it says.
 -- Source: project's own choice.
 use Rattle.std.specs.Prelude.{◌≡◌, ◌⊎◌, ℕ, suc, ◌≤◌, List, [], ◌∷◌, ◌++◌, length, Option, Some, None, option_map}
-use Rattle.std.specs.Prelude.{option_and_then}
 use Rattle.std.specs.Prelude.{Result, Ok, IsOk, Bool, true, false, codes, bytes_eq, if◌then◌else◌}
 use Rattle.bbm_rules.specs.declared.verdict.Verdict.{Verdict}
 use Rattle.bbm_rules.specs.declared.verdict.Verdict.TheVariants.{Accepted, Refused, Malformed, Limit}
@@ -14,17 +13,17 @@ use Rattle.bbm_events.specs.Lines.{header_of, item_of}
 use Rattle.bbm_rules.specs.Answers.{rewrites, takes_no_memory}
 use Rattle.bbm_rules.specs.Claims.{Patterns}
 use Rattle.bbm_rules.specs.declared.limits.Limits.{Limits}
-use Rattle.bbm_rules.specs.Outcome.{check_limits, slow_limits, Outcome, outcome_of, verdict_of_bytes, Progress}
-use Rattle.bbm_rules.specs.Outcome.{AtHeader, AtEvents, AtEnd, Text, text_of, read_lines}
+use Rattle.bbm_rules.specs.Fold.{Fold, Text, lines_from, text_of}
+use Rattle.bbm_rules.specs.Outcome.{check_limits, slow_limits, outcome_of, verdict_of_bytes, Progress, AtHeader}
+use Rattle.bbm_rules.specs.Outcome.{AtEvents, AtEnd, Judged, judging}
 use Rattle.bbm_report.specs.Further.{heading_in}
 use Rattle.bbm_report.specs.Questions.{walk_asked}
 use Rattle.bbm_texts.specs.declared.commands.Command.{Command}
 use Rattle.bbm_texts.specs.declared.commands.Command.TheVariants.{Check, Slow, Explain, Walk, Show}
 use Rattle.bbm_texts.specs.declared.commands.Evidence.TheVariants.{Idle, Counterrun, Cert}
-use Rattle.bbm_session.specs.Refused.{refused_in}
 use Rattle.bbm_texts.specs.declared.status.Status.{Status}
 use Rattle.bbm_texts.specs.declared.status.Status.TheVariants as status
-use Rattle.bbm_texts.specs.Says.{Says, ShowsMore}
+use Rattle.bbm_texts.specs.Says.{IsOutput, MayShowEvidence}
 
 -- the command of one word
 abbrev pub command_at : List ℕ → Option Command
@@ -57,18 +56,22 @@ limits_of Explain = check_limits
 limits_of (Walk question) = check_limits
 limits_of (Show evidence) = slow_limits
 
--- The text of a command for these bytes: by their verdict, the events before the line that decides, and the event of that
--- line where it is refused.
+-- the fold by which a command judges the lines of a log
+abbrev pub judging_for : Command → Fold Progress Judged
+judging_for command = judging Patterns (limits_of command)
+
+-- The text of a command for these bytes: by their verdict, the events before the line that decides, and the event of
+-- that line where it is refused.
 abbrev pub IsTextOf : Command → List ℕ → List ℕ → Type 0
 IsTextOf command bytes text =
-    let outcome : Outcome = outcome_of Patterns (limits_of command) bytes in
-    let lines = (text_of bytes).lines in
-    Says command (heading_in lines) outcome.log (refused_in (heading_in lines) lines outcome.verdict) outcome.verdict text
+    let judged : Judged = (outcome_of Patterns (limits_of command) bytes).says in
+    IsOutput command (heading_in (text_of bytes).lines) judged.log judged.refused judged.verdict text
 
 -- the text of a command for a verdict, where it isn't told what was read
 abbrev pub IsSomeText : Command → Verdict → List ℕ → Type 0
 IsSomeText command verdict text =
-    (heading : Option Heading) × (h : List Event) × (refused : Option Event) × Says command heading h refused verdict text
+    (heading : Option Heading) × (h : List Event) × (refused : Option Event)
+    × IsOutput command heading h refused verdict text
 
 -- whether a status says that the text of a verdict was written whole
 abbrev pub tells_verdict : Status → Bool
@@ -108,29 +111,24 @@ pub record ReadPart (bytes : List ℕ) (left : Option (List ℕ)) : Type 0 where
   pub is : bytes ≡ read ++ unread
   pub now : left ≡ Some unread
 
--- How far lines are read, from line number n on, by how far each line leads; None where one of them stops reading.
-abbrev pub reached_from : {P : Type 0} → (ℕ → P → List ℕ → Option P) → ℕ → P → List (List ℕ) → Option P
-reached_from leads n p [] = Some p
-reached_from leads n p (line ∷ lines) = option_and_then (λ next. reached_from leads (suc n) next lines) (leads n p line)
-
 -- A read failed: none of the lines that were read stops reading, and of the next one at most 200 bytes were read.
-pub record ReadToFault {P : Type 0} (reads : List (List ℕ) → Option P) (bytes : List ℕ) (left : Option (List ℕ))
+pub record ReadToFault {P V : Type 0} (fold : Fold P V) (start : P) (bytes : List ℕ) (left : Option (List ℕ))
     : Type 0 where
   pub part : ReadPart bytes left
   pub reached : P
-  pub undecided : reads (text_of part.read).lines ≡ Some reached
+  pub undecided : lines_from fold 1 start (text_of part.read).lines ≡ Some reached
   pub short : length (text_of part.read).rest ≤ 200
 
 -- There was no memory: what was read ends with a line that needs memory, by its number and how far the lines before it
 -- are read, and none of these stops reading.
-pub record ReadToWant {P : Type 0} (reads : List (List ℕ) → Option P) (Needs : ℕ → P → List ℕ → Type 0)
+pub record ReadToWant {P V : Type 0} (fold : Fold P V) (start : P) (Needs : ℕ → P → List ℕ → Type 0)
     (bytes : List ℕ) (left : Option (List ℕ)) : Type 0 where
   pub part : ReadPart bytes left
   pub before : List (List ℕ)
   pub line : List ℕ
   pub reached : P
   pub lines : text_of part.read ≡ record { lines = before ++ line ∷ []; rest = [] }
-  pub undecided : reads before ≡ Some reached
+  pub undecided : lines_from fold 1 start before ≡ Some reached
   pub short : length line ≤ 200
   pub needs : Needs (suc (length before)) reached line
 
@@ -158,16 +156,13 @@ NeedsMemory command AtHeader line = IsOk (header_of line)
 NeedsMemory command (AtEvents heading h) line = ItemNeeds command heading h (item_of heading line)
 NeedsMemory command (AtEnd h) line = ⊥
 
--- how far these lines of a log are read for a command
-abbrev pub command_lines : Command → List (List ℕ) → Option Progress
-command_lines command lines = read_lines Patterns (limits_of command) lines
-
 -- There was no memory for what is shown: all was read that the verdict needs.
 pub record ShownWant (command : Command) (bytes : List ℕ) (left : Option (List ℕ)) : Type 0 where
-  pub shows : ShowsMore command (verdict_of_bytes Patterns (limits_of command) bytes)
+  pub shows : MayShowEvidence command (verdict_of_bytes Patterns (limits_of command) bytes)
   pub read : ReadTo bytes (verdict_of_bytes Patterns (limits_of command) bytes) left
 
 -- There was no memory, for a line or for what is shown.
 abbrev pub Wants : Command → List ℕ → Option (List ℕ) → Type 0
 Wants command bytes left =
-    ReadToWant (command_lines command) (λ number. NeedsMemory command) bytes left ⊎ ShownWant command bytes left
+    ReadToWant (judging_for command) AtHeader (λ number. NeedsMemory command) bytes left
+    ⊎ ShownWant command bytes left

@@ -1,13 +1,13 @@
 -- What the program says of a run, and which bytes it reads for it.
 -- Source: project's own choice.
-use Rattle.std.specs.Prelude.{◌≡◌, ◌⊎◌, ℕ, Bool, true, false, List, [], Option, Some, None}
+use Rattle.std.specs.Prelude.{◌≡◌, ◌⊎◌, ℕ, Bool, true, false, List, [], Option, Some}
 use Rattle.bbm_events.specs.Heading.{Heading}
-use Rattle.bbm_rules.specs.Outcome.{Text}
+use Rattle.bbm_rules.specs.Fold.{Text}
 use Rattle.bbm_tlb_machine.specs.declared.step.Step.{Step}
-use Rattle.bbm_follow.specs.Following.{Reached, AtHeader, AtSteps, Turned, Stops, GoesOn, turned_by, after_line}
-use Rattle.bbm_follow.specs.Following.{is_step, RunSays, Stopped, Whole, followed, run_of}
+use Rattle.bbm_follow.specs.Following.{Reached, AtHeader, AtSteps, after_line, following, is_step, RunSays, Stopped}
+use Rattle.bbm_follow.specs.Following.{Whole, followed, run_of}
 use Rattle.bbm_texts.specs.declared.status.Status.{Status}
-use Rattle.bbm_session.specs.Run.{ReadFor, ReadToWant, reached_from}
+use Rattle.bbm_session.specs.Run.{ReadFor, ReadToWant}
 use Rattle.bbm_texts.specs.Statuses.{followed_status, status_of}
 
 -- the status of a run
@@ -20,15 +20,6 @@ run_status (Whole heading steps) = followed_status (followed heading steps)
 abbrev pub RunReadFor : RunSays → Text → List ℕ → Type 0
 RunReadFor (Stopped verdict) read unread = ReadFor verdict read unread
 RunReadFor (Whole heading steps) read unread = unread ≡ []
-
--- how far a line leads
-abbrev pub run_leads : Turned → Option Reached
-run_leads (Stops verdict) = None
-run_leads (GoesOn next) = Some next
-
--- how far these lines are read, where none of them stops reading
-abbrev pub run_lines : List (List ℕ) → Option Reached
-run_lines lines = reached_from (λ number reached line. run_leads (turned_by number reached line)) 1 AtHeader lines
 
 -- whether memory is needed for line number n: it is one more step
 abbrev pub step_needs : ℕ → Reached → List ℕ → Bool
@@ -45,5 +36,5 @@ pub record RunUnfollowed (bytes : List ℕ) (left : Option (List ℕ)) : Type 0 
 -- where there is no memory for a run
 abbrev pub RunWants : List ℕ → Option (List ℕ) → Type 0
 RunWants bytes left =
-    ReadToWant run_lines (λ number reached line. step_needs number reached line ≡ true) bytes left
+    ReadToWant following AtHeader (λ number reached line. step_needs number reached line ≡ true) bytes left
     ⊎ RunUnfollowed bytes left

@@ -6,7 +6,8 @@ use Rattle.bbm_events.specs.declared.event.Event.{Event}
 use Rattle.bbm_events.specs.Heading.{Heading}
 use Rattle.bbm_follow.specs.Following as run
 use Rattle.bbm_certificate.specs.CertificateReading as read
-use Rattle.bbm_rules.specs.Outcome.{AtHeader, text_of}
+use Rattle.bbm_rules.specs.Fold.{text_of}
+use Rattle.bbm_rules.specs.Outcome.{AtHeader, Judged}
 use Rattle.bbm_rules.specs.Texts.{verdict_text}
 use Rattle.bbm_report.specs.Further.{heading_in}
 use Rattle.bbm_tlb_machine.specs.declared.step.Step.{Step}
@@ -19,10 +20,10 @@ use Rattle.bbm_texts.specs.declared.decision.Decision.{Decision}
 use Rattle.bbm_session.specs.declared.stop.Stop.{Stop}
 use Rattle.bbm_session.specs.declared.stop.Stop.TheVariants.{Decided, ReadFault, NoMemory}
 use Rattle.bbm_session.specs.Certificates.{read_status, read_text}
-use Rattle.bbm_session.specs.Fold.{Fold}
-use Rattle.bbm_session.specs.Folds.{Judged, judging_for, following, certifying}
+use Rattle.bbm_session.specs.Reader.{Reader}
+use Rattle.bbm_session.specs.Readers.{reader_for, run_reader, certificate_reader}
 use Rattle.bbm_texts.specs.Generating.{gen_text}
-use Rattle.bbm_texts.specs.Says.{Says, ShowsMore}
+use Rattle.bbm_texts.specs.Says.{IsOutput, MayShowEvidence}
 use Rattle.bbm_texts.specs.Statuses.{status_of}
 use Rattle.bbm_session.specs.Runs.{run_status}
 use Rattle.bbm_session.specs.Stages.{Breaks, Concludes, Starves}
@@ -82,18 +83,19 @@ SilentTo wanted result streams =
     Silent wanted result streams.held_before streams.held_after streams.write_faults_before streams.write_faults_after
 
 -- something was said of the text that was left, and its line was written
-pub record Told {P V : Type 0} (fold : Fold P V) (start : P) (Text : V → List ℕ → Type 0) (tells : V → Status)
+pub record Told {P V : Type 0} (reader : Reader P V) (start : P) (Text : V → List ℕ → Type 0) (tells : V → Status)
     (result : Status) (streams : Streams) : Type 0 where
   pub says : V
-  pub concludes : Concludes fold 1 start streams.left_before says streams.left_after
+  pub concludes : Concludes reader 1 start streams.left_before says streams.left_after
   pub sound : streams.read_faults_after ≡ streams.read_faults_before
   pub text : List ℕ
   pub is : Text says text
   pub wrote : WroteTo (tells says) text result streams
 
 -- nothing was said: a read failed, or there was no memory
-pub record ReadFailed {P V : Type 0} (fold : Fold P V) (start : P) (result : Status) (streams : Streams) : Type 0 where
-  pub breaks : Breaks fold 1 start streams.left_before streams.left_after
+pub record ReadFailed {P V : Type 0} (reader : Reader P V) (start : P) (result : Status) (streams : Streams)
+    : Type 0 where
+  pub breaks : Breaks reader 1 start streams.left_before streams.left_after
   pub rose : Rose streams.read_faults_before streams.read_faults_after
   pub silent : SilentTo status.ReadFault result streams
 
@@ -104,32 +106,32 @@ pub record Wanted (Wants : Option (List ℕ) → Option (List ℕ) → Type 0) (
   pub silent : SilentTo status.NoMemory result streams
 
 -- a text was read, and the answer was written
-abbrev pub Answered : {P V : Type 0} → Fold P V → P → (V → List ℕ → Type 0) → (V → Status)
+abbrev pub Answered : {P V : Type 0} → Reader P V → P → (V → List ℕ → Type 0) → (V → Status)
     → (Option (List ℕ) → Option (List ℕ) → Type 0) → Status → Streams → Type 0
-Answered fold start Text tells Wants result streams =
-    Told fold start Text tells result streams
-    ⊎ (ReadFailed fold start result streams ⊎ Wanted Wants result streams)
+Answered reader start Text tells Wants result streams =
+    Told reader start Text tells result streams
+    ⊎ (ReadFailed reader start result streams ⊎ Wanted Wants result streams)
 
 -- a run was read whole
 pub record ReadWhole (left left' : Option (List ℕ)) : Type 0 where
   pub heading : Heading
   pub steps : List Step
-  pub concludes : Concludes following 1 run.AtHeader left (run.Whole heading steps) left'
+  pub concludes : Concludes run_reader 1 run.AtHeader left (run.Whole heading steps) left'
 
 -- what was left and is left where there was no memory for a run
 abbrev pub WantsRun : Option (List ℕ) → Option (List ℕ) → Type 0
-WantsRun left left' = Starves following 1 run.AtHeader left left' ⊎ ReadWhole left left'
+WantsRun left left' = Starves run_reader 1 run.AtHeader left left' ⊎ ReadWhole left left'
 
 -- a log was read whole with its certificate
 pub record ReadBoth (left left' : Option (List ℕ)) : Type 0 where
   pub heading : Heading
   pub log : List Event
   pub claims : List Claim
-  pub concludes : Concludes certifying 1 read.AtHeader left (read.Whole heading log claims) left'
+  pub concludes : Concludes certificate_reader 1 read.AtHeader left (read.Whole heading log claims) left'
 
 -- what was left and is left where there was no memory for a log and its certificate
 abbrev pub WantsRead : Option (List ℕ) → Option (List ℕ) → Type 0
-WantsRead left left' = Starves certifying 1 read.AtHeader left left' ⊎ ReadBoth left left'
+WantsRead left left' = Starves certificate_reader 1 read.AtHeader left left' ⊎ ReadBoth left left'
 
 -- the same by why reading stopped
 abbrev pub ReportsShown : Command → Option Heading → List Event → Stop → Status → Option (List ℕ) → Option (List ℕ)
@@ -144,30 +146,30 @@ ReportsShown command heading h NoMemory result old new faults faults' =
 -- a log was read for its verdict, behind which a command shows more
 pub record ReadJudged (command : Command) (left left' : Option (List ℕ)) : Type 0 where
   pub says : Judged
-  pub concludes : Concludes (judging_for command) 1 AtHeader left says left'
-  pub shows : ShowsMore command says.verdict
+  pub concludes : Concludes (reader_for command) 1 AtHeader left says left'
+  pub shows : MayShowEvidence command says.verdict
 
 -- what was left and is left where there was no memory for a command
 abbrev pub WantsJudged : Command → Option (List ℕ) → Option (List ℕ) → Type 0
-WantsJudged command left left' = Starves (judging_for command) 1 AtHeader left left' ⊎ ReadJudged command left left'
+WantsJudged command left left' = Starves (reader_for command) 1 AtHeader left left' ⊎ ReadJudged command left left'
 
 -- a log was judged for a command
 pub record Obeys (command : Command) (result : Status) (streams : Streams) : Type 0 where
   pub heading : Option Heading
   pub heads : Heads streams.left_before heading
-  pub answered : Answered (judging_for command) AtHeader
-      (λ said text. Says command heading said.log said.refused said.verdict text) (λ said. status_of said.verdict)
+  pub answered : Answered (reader_for command) AtHeader
+      (λ said text. IsOutput command heading said.log said.refused said.verdict text) (λ said. status_of said.verdict)
       (WantsJudged command) result streams
 
 -- a run was followed
 abbrev pub FollowsRun : Status → Streams → Type 0
 FollowsRun result streams =
-    Answered following run.AtHeader (λ says text. text ≡ run.run_text says) run_status WantsRun result streams
+    Answered run_reader run.AtHeader (λ says text. text ≡ run.run_text says) run_status WantsRun result streams
 
 -- a log was judged by its certificate
 abbrev pub Verifies : Status → Streams → Type 0
 Verifies result streams =
-    Answered certifying read.AtHeader (λ says text. text ≡ read_text says) read_status WantsRead result streams
+    Answered certificate_reader read.AtHeader (λ says text. text ≡ read_text says) read_status WantsRead result streams
 
 -- a generated log was written, and the source is as before
 abbrev pub Generates : ℕ → ℕ → Status → Streams → Type 0

@@ -2,8 +2,8 @@
 
 ghost use Rattle.std.specs.Prelude.{◌≡◌, ◌*◌, ◌<◌, Some, ok_or};
 ghost use Rattle.bbm_follow.specs.Following.{Reached, RunSays};
-ghost use Rattle.bbm_session.specs.Fold.{Fold};
-ghost use Rattle.bbm_session.specs.Folds.{Follows};
+ghost use Rattle.bbm_session.specs.Reader.{Reader};
+ghost use Rattle.bbm_session.specs.Readers.{Follows};
 ghost use Rattle.bbm_session.specs.Stages.{MayTakeLine, Shrinks, FoldsLine};
 ghost use Rattle.bbm_session.specs.Serving.{FollowsRun, streams_of};
 
@@ -28,8 +28,8 @@ fn follow_line(
     stop: &mut Stop,
 ) -> Option<Turn>
     requires { MayTakeLine (Follows steps.old.items) header.now number }
-    ensures takes { (fold : Fold Reached RunSays) (p : Reached) → Follows steps.old.items fold header.now p number
-        → FoldsLine fold (Follows steps.new.items fold header.now) number p line.now
+    ensures takes { (reader : Reader Reached RunSays) (p : Reached) → Follows steps.old.items reader header.now p number
+        → FoldsLine reader (Follows steps.new.items reader header.now) number p line.now
         (ok_or result stop.new) }
     ensures few { result ≡ Some Turn.Taken → number < 4294967295 }
 {
@@ -45,7 +45,7 @@ pub struct Following {
 
 impl Taker for Following {
     ghost use Rattle.bbm_follow.specs.Following.{Reached, RunSays};
-    ghost use Rattle.bbm_session.specs.Folds.{Follows};
+    ghost use Rattle.bbm_session.specs.Readers.{Follows};
 
     ghost Reached = { Reached };
 

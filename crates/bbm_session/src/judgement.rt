@@ -4,8 +4,8 @@ ghost use Rattle.std.specs.Prelude.{◌≡◌, ◌*◌, [], Bool, List, MatchRes
 ghost use Rattle.bbm_events.specs.declared.event.Event.{Event};
 ghost use Rattle.bbm_events.specs.Heading.{Heading};
 ghost use Rattle.bbm_rules.specs.Outcome.{AtEvents};
-ghost use Rattle.bbm_session.specs.Fold.{alone};
-ghost use Rattle.bbm_session.specs.Folds.{StopsKnown};
+ghost use Rattle.bbm_session.specs.Reader.{alone};
+ghost use Rattle.bbm_session.specs.Readers.{StopsKnown};
 ghost use Rattle.bbm_session.specs.JudgedLog.{JudgedLog, Unjudged};
 ghost use Rattle.bbm_session.specs.Stages.{Ready, Shrinks};
 
@@ -76,7 +76,6 @@ pub fn judge_log<C: Fresh + Drop, S: Source>(
         (S.left log.old) (S.left log.new) (S.faults log.old) (S.faults log.new)) }
     ensures shrinks { Shrinks (201 * 4294967298) (S.left log.old) (S.left log.new) }
 {
-    law_item_fits();
     let mut lines = Lines::new();
     match header_line::<Judging<C>, S>(&mut lines, log) {
         Ok(header) => match C::fresh(alloc, &header) {

@@ -9,15 +9,14 @@ ghost use Rattle.bbm_events.specs.Heading.{Heading};
 ghost use Rattle.bbm_rules.specs.Answers.{Answers, MayTake};
 ghost use Rattle.bbm_rules.specs.Broken.{Breach};
 ghost use Rattle.bbm_rules.specs.Claims.{Patterns};
-ghost use Rattle.bbm_rules.specs.Outcome.{AtEvents, GoesOn, limit_after, after_event, after_item};
+ghost use Rattle.bbm_rules.specs.Fold.{Passes};
+ghost use Rattle.bbm_rules.specs.Outcome.{AtEvents, Judged, Progress, limit_after, after_event, after_item};
 ghost use Rattle.bbm_log_grammar.specs.InLine.{read_in};
 ghost use Rattle.bbm_io.specs.Reading.{LiesWhole};
-ghost use Rattle.bbm_rules.specs.Outcome.{Progress};
-ghost use Rattle.bbm_session.specs.Fold.{Fold};
-ghost use Rattle.bbm_session.specs.Folds.{Judged, Judges, event_needs, item_needs};
+ghost use Rattle.bbm_session.specs.Reader.{Reader};
+ghost use Rattle.bbm_session.specs.Readers.{Judges, event_needs, item_needs};
 ghost use Rattle.bbm_session.specs.Stages.{FoldsLine, StopsAt, MayJudge, MayTakeLine, JudgesLine};
 ghost use Rattle.bbm_texts.specs.Known.{Keeps};
-ghost use Rattle.bbm_session.specs.Refused.{event_in};
 
 use crate::reading::{stop_limit, stop_malformed};
 use crate::stop::Stop;
@@ -99,7 +98,7 @@ fn judge_event<C: Checker>(
     requires { MayTake (C.stands judging.old.checker) event }
     ensures judges { (heading : Heading) (h : List Event) → Keeps (C.stands judging.old.checker) heading h
         → fits_heading heading event ≡ true
-        → JudgesLine (C.stands judging.new.checker) heading h (Some event)
+        → JudgesLine (C.stands judging.new.checker) heading h
         (event_needs (C.frugal judging.old.checker) heading h event ≡ true)
         (ok_or result stop.new)
         (after_event Patterns judging.old.limits number heading h event label.entry) }
@@ -131,7 +130,7 @@ fn judge_item<C: Checker>(
     requires { MayJudge (C.stands judging.old.checker) (read_in read) }
     ensures judges { (heading : Heading) (h : List Event) → Keeps (C.stands judging.old.checker) heading h
         → IfOk (read_in read.entry) (λ item. item_fits heading item ≡ true)
-        → JudgesLine (C.stands judging.new.checker) heading h (event_in (read_in read.entry))
+        → JudgesLine (C.stands judging.new.checker) heading h
         (item_needs (C.frugal judging.old.checker) heading h (read_in read.entry) ≡ true)
         (ok_or result stop.new)
         (after_item Patterns judging.old.limits number heading h (read_in read.entry)) }
@@ -172,7 +171,7 @@ fn take_event<C: Checker>(judging: &mut Judging<C>, number: u64, event: Event) -
     requires { MayTake (C.stands judging.old.checker) event }
     ensures taken { result ≡ true → (heading : Heading) (h : List Event) (label : Option (List ℕ))
         → Keeps (C.stands judging.old.checker) heading h → fits_heading heading event ≡ true
-        → (after_event Patterns judging.old.limits number heading h event label ≡ GoesOn (AtEvents heading (event ∷ h)))
+        → (after_event Patterns judging.old.limits number heading h event label ≡ Passes (AtEvents heading (event ∷ h)))
         × Keeps (C.stands judging.new.checker) heading (event ∷ h) }
     ensures few { result ≡ true → number < 4294967295 }
     ensures untaken { result ≡ false → (heading : Heading) (h : List Event)
@@ -201,16 +200,16 @@ fn take_kind<C: Checker, F: Front>(
     requires { MayTakeLine (Judges (C.frugal judging.old.checker) (C.stands judging.old.checker) judging.old.limits)
         header.now number }
     ensures line { IfSome result (λ taken. IfSome taken (λ count. LiesWhole count bytes.now)) }
-    ensures takes { IfSome result (λ taken. IfSome taken (λ count. (fold : Fold Progress Judged) (p : Progress)
-        → Judges (C.frugal judging.old.checker) (C.stands judging.old.checker) judging.old.limits fold header.now p
+    ensures takes { IfSome result (λ taken. IfSome taken (λ count. (reader : Reader Progress Judged) (p : Progress)
+        → Judges (C.frugal judging.old.checker) (C.stands judging.old.checker) judging.old.limits reader header.now p
         number
-        → FoldsLine fold (Judges (C.frugal judging.new.checker) (C.stands judging.new.checker) judging.new.limits fold
-        header.now) number p (take count bytes.now) (Ok Turn.Taken))) }
+        → FoldsLine reader (Judges (C.frugal judging.new.checker) (C.stands judging.new.checker) judging.new.limits
+        reader header.now) number p (take count bytes.now) (Ok Turn.Taken))) }
     ensures few { IfSome result (λ taken. OnSome taken (number < 4294967295)) }
-    ensures untaken { result ≡ Some None → (fold : Fold Progress Judged) (p : Progress)
-        → Judges (C.frugal judging.old.checker) (C.stands judging.old.checker) judging.old.limits fold header.now p
+    ensures untaken { result ≡ Some None → (reader : Reader Progress Judged) (p : Progress)
+        → Judges (C.frugal judging.old.checker) (C.stands judging.old.checker) judging.old.limits reader header.now p
         number
-        → Judges (C.frugal judging.new.checker) (C.stands judging.new.checker) judging.new.limits fold header.now p
+        → Judges (C.frugal judging.new.checker) (C.stands judging.new.checker) judging.new.limits reader header.now p
         number }
     ensures other { result ≡ None → judging.new ≡ judging.old }
 {

@@ -13,18 +13,24 @@ ghost use Rattle.bbm_events.specs.declared.event.Event.{Event};
 ghost use Rattle.bbm_rules.specs.Broken.{keeps};
 ghost use Rattle.bbm_rules.specs.Claims.Trust.{Listed};
 ghost use Rattle.bbm_rules.specs.Claims.{Patterns};
-ghost use Rattle.bbm_rules.specs.Outcome.{check_limits, outcome_of, verdict_of_bytes};
+ghost use Rattle.bbm_rules.specs.Outcome.{check_limits, outcome_of, unrefused, verdict_of_bytes};
 ghost use Rattle.bbm_rules.specs.Pages.{initialised};
 ghost use Rattle.bbm_rules.specs.Phases.{restless_of};
 ghost use Rattle.bbm_rules.specs.Texts.{verdict_text};
 ghost use Rattle.bbm_rules.specs.declared.verdict.Verdict.TheVariants.{Accepted};
 ghost use Rattle.bbm_texts.specs.Generating.{counts_text, gen_text, selftest_text};
-ghost use Rattle.bbm_session.specs.Verified.{IsVerified};
+ghost use Rattle.bbm_session.specs.Run.{IsTextOf, limits_of};
+ghost use Rattle.bbm_session.specs.Verified.{IsVerified, IsVerifiedBy};
+ghost use Rattle.bbm_texts.specs.declared.commands.Command.TheVariants.{Show};
+ghost use Rattle.bbm_texts.specs.declared.commands.Evidence.TheVariants.{Cert};
 
 use bbm_cert::law_judged;
 use bbm_certificate::law_read_whole;
-use bbm_certify::law_certificate_is_verified;
-use bbm_events::{law_written_is_a_line, law_written_is_read};
+use bbm_certify::{law_certificate_can_be_written, law_certificate_is_verified};
+use bbm_events::{
+    law_claim_written_is_a_line, law_claim_written_is_read, law_header_in_range, law_item_fits,
+    law_written_is_a_line, law_written_is_read,
+};
 use bbm_gen::law_gen;
 use bbm_tlb_machine::law_safe;
 
@@ -34,10 +40,10 @@ use bbm_tlb_machine::law_safe;
 pub fn law_generated_is_accepted(n: u64, count: u32)
     requires lines { count ≤ 4294967293 }
     ensures accepted { outcome_of Patterns check_limits (gen_text n count)
-        ≡ record { verdict = Accepted count; unread = []; log = log_of n count } }
+        ≡ record { says = unrefused (log_of n count) (Accepted count); unread = [] } }
     ensures selftest { selftest_text n count ≡ verdict_text (verdict_of_bytes Patterns check_limits (gen_text n count))
-        ++ counts_text (length (initialised (outcome_of Patterns check_limits (gen_text n count)).log))
-        (restless_of heading Patterns (outcome_of Patterns check_limits (gen_text n count)).log) }
+        ++ counts_text (length (initialised (outcome_of Patterns check_limits (gen_text n count)).says.log))
+        (restless_of heading Patterns (outcome_of Patterns check_limits (gen_text n count)).says.log) }
 {
     law_gen(n, count);
     law_written_is_a_line();
@@ -73,4 +79,22 @@ pub fn law_certificate_says_yes()
 {
     law_certificate_is_verified();
     law_judged();
+}
+
+/// Where a log is accepted within the limits of `cert`, what `cert` writes of it is the text of its certificate, and
+/// `verify` reads the bytes of the log with this text behind them whole and says that the log keeps the rules by the
+/// claims. These are at most 128 for each event, and fewer than the limit. The call does nothing; the law is its
+/// contract.
+pub fn law_cert_then_verify()
+    ensures { (bytes text : List ℕ) (events : ℕ) →
+        verdict_of_bytes Patterns (limits_of (Show Cert)) bytes ≡ Accepted events →
+        IsTextOf (Show Cert) bytes text →
+        IsVerifiedBy bytes text events (outcome_of Patterns (limits_of (Show Cert)) bytes).says.log }
+{
+    law_header_in_range();
+    law_item_fits();
+    law_claim_written_is_a_line();
+    law_claim_written_is_read();
+    law_certificate_can_be_written();
+    law_certificate_says_yes();
 }

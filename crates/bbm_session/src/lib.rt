@@ -4,7 +4,9 @@
 
 mod answering;
 mod command;
+pub mod counterrun_law;
 mod following;
+pub mod idle_law;
 mod judgement;
 mod judging;
 mod keeping;
@@ -19,6 +21,8 @@ mod top;
 mod verifying;
 
 pub use command::Request;
+pub use counterrun_law::law_counterrun_is_followed;
+pub use idle_law::law_idle_lines;
 pub use laws::{
     law_cert, law_certificate_says_yes, law_generated_is_accepted, law_verified_is_safe,
 };

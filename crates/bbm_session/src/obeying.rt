@@ -2,11 +2,11 @@
 
 ghost use Rattle.std.specs.Prelude.{◌≡◌, ◌*◌, false, List, Some};
 ghost use Rattle.bbm_events.specs.declared.event.Event.{Event};
-ghost use Rattle.bbm_session.specs.Folds.{is_frugal};
-ghost use Rattle.bbm_texts.specs.Says.{shows};
+ghost use Rattle.bbm_session.specs.Readers.{is_frugal};
+ghost use Rattle.bbm_texts.specs.Says.{shows_evidence};
 ghost use Rattle.bbm_session.specs.Stages.{KnowsAt, Shrinks};
 ghost use Rattle.bbm_session.specs.Serving.{Obeys, Reports, streams_of};
-ghost use Rattle.bbm_texts.specs.Says.{SaysFor};
+ghost use Rattle.bbm_texts.specs.Says.{IsOutputFor};
 
 use crate::answering::report_stop;
 use crate::command::limits;
@@ -27,9 +27,9 @@ fn report_stopped<C: Checker, K: Sink>(
     out: &mut K,
 ) -> Status
     requires known { (h : List Event) × KnowsAt (C.stands checker.now) header.now h stop }
-    requires plain { shows command.now ≡ false }
+    requires plain { shows_evidence command.now ≡ false }
     ensures { (h : List Event) → KnowsAt (C.stands checker.now) header.now h stop
-        → Reports (SaysFor command.now (Some header.now) h) stop result (K.held out.old) (K.held out.new)
+        → Reports (IsOutputFor command.now (Some header.now) h) stop result (K.held out.old) (K.held out.new)
         (K.faults out.old) (K.faults out.new) }
 {
     match stop {
@@ -47,7 +47,7 @@ pub fn obey<C: Fresh + Drop, S: Source, K: Sink>(
     log: &mut S,
     out: &mut K,
 ) -> Status
-    requires plain { shows command.now ≡ false }
+    requires plain { shows_evidence command.now ≡ false }
     ensures obeys { ((checker : C) → C.frugal checker ≡ is_frugal command.now)
         → Obeys command.now result
         (streams_of S.left S.faults log.old log.new K.held K.faults out.old out.new) }

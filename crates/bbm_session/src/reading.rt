@@ -2,8 +2,8 @@
 
 ghost use Rattle.std.specs.Prelude.{◌≡◌, ◌+◌, ◌*◌, ◌≤◌, ◌<◌, OnOk, IfOk, IfErr, Some, OnSome, ok_or};
 ghost use Rattle.bbm_events.specs.Heading.{Heading};
-ghost use Rattle.bbm_session.specs.Fold.{Fold, IsStart, IsInside, IsEnd, alone};
-ghost use Rattle.bbm_session.specs.Folds.{Turns};
+ghost use Rattle.bbm_session.specs.Reader.{Reader, IsStart, IsInside, IsEnd, alone};
+ghost use Rattle.bbm_session.specs.Readers.{Turns};
 ghost use Rattle.bbm_session.specs.Stages.{Shrinks, Ready, IsBrief, ReadsHeader, Starts, MayGoOn, Advances, Reaches};
 ghost use Rattle.bbm_session.specs.Stages.{Closes, Ends};
 
@@ -69,8 +69,8 @@ fn judge_header(read: Result<Header, Malformed>) -> Result<Header, Stop>
 pub fn header_line<T: Taker, S: Source>(lines: &mut Lines, log: &mut S) -> Result<Header, Stop>
     requires { Ready lines.old 1 }
     ensures ready { OnOk result (Ready lines.new 2) }
-    ensures starts { (fold : Fold T.Reached T.Said) (start : T.Reached) (begun : Heading → T.Reached)
-        → IsStart fold start begun → Starts fold start result (S.left log.old) (S.left log.new)
+    ensures starts { (reader : Reader T.Reached T.Said) (start : T.Reached) (begun : Heading → T.Reached)
+        → IsStart reader start begun → Starts reader start result (S.left log.old) (S.left log.new)
         (S.faults log.old) (S.faults log.new) }
     ensures brief { IfErr result (λ stop. IsBrief stop) }
     ensures shrinks { Shrinks 201 (S.left log.old) (S.left log.new) }
@@ -100,9 +100,9 @@ fn any_line<T: Taker, S: Source>(
     requires number { number ≤ 4294967295 }
     requires ready { Ready lines.old number }
     ensures ready { OnSome result (Ready lines.new (number + 1)) }
-    ensures advances { (fold : Fold T.Reached T.Said) (p : T.Reached) → IsInside fold p
-        → T.stands taker.old fold header.now p number
-        → Advances fold (T.stands taker.new fold header.now) number p (ok_or result stop.new)
+    ensures advances { (reader : Reader T.Reached T.Said) (p : T.Reached) → IsInside reader p
+        → T.stands taker.old reader header.now p number
+        → Advances reader (T.stands taker.new reader header.now) number p (ok_or result stop.new)
         (S.left log.old) (S.left log.new) (S.faults log.old) (S.faults log.new) }
     ensures shrinks { Shrinks 201 (S.left log.old) (S.left log.new) }
     ensures few { result ≡ Some Turn.Taken → number < 4294967295 }
@@ -137,9 +137,9 @@ fn log_lines<T: Taker, S: Source>(
     requires ready { Ready lines.old 2 }
     ensures ready { IfOk result (λ number. Ready lines.new number) }
     ensures number { IfOk result (λ number. number ≤ 4294967296) }
-    ensures reaches { (fold : Fold T.Reached T.Said) (p : T.Reached) → IsInside fold p
-        → T.stands taker.old fold header.now p 2
-        → Reaches fold (T.stands taker.new fold header.now) p result (S.left log.old) (S.left log.new)
+    ensures reaches { (reader : Reader T.Reached T.Said) (p : T.Reached) → IsInside reader p
+        → T.stands taker.old reader header.now p 2
+        → Reaches reader (T.stands taker.new reader header.now) p result (S.left log.old) (S.left log.new)
         (S.faults log.old) (S.faults log.new) }
     ensures shrinks { Shrinks (201 * 4294967296) (S.left log.old) (S.left log.new) }
 {
@@ -167,8 +167,8 @@ fn nothing_follows<T: Taker, S: Source>(
 ) -> Result<(), Stop>
     requires ready { Ready lines.old number }
     requires number { number ≤ 4294967296 }
-    ensures closes { (fold : Fold T.Reached T.Said) (p : T.Reached) (end : T.Reached) → IsEnd fold p end
-        → Closes fold p end result number (S.left log.old) (S.left log.new) (S.faults log.old) (S.faults log.new) }
+    ensures closes { (reader : Reader T.Reached T.Said) (p : T.Reached) (end : T.Reached) → IsEnd reader p end
+        → Closes reader p end result number (S.left log.old) (S.left log.new) (S.faults log.old) (S.faults log.new) }
     ensures brief { IfErr result (λ stop. IsBrief stop) }
     ensures shrinks { Shrinks 201 (S.left log.old) (S.left log.new) }
 {
@@ -195,9 +195,9 @@ pub fn read_log<T: Taker, S: Source>(
 ) -> Result<(), Stop>
     requires begun { MayGoOn (T.stands taker.old) header.now 2 }
     requires ready { Ready lines.old 2 }
-    ensures ends { (fold : Fold T.Reached T.Said) (p : T.Reached) → IsInside fold p
-        → T.stands taker.old fold header.now p 2
-        → Ends fold (T.stands taker.new fold header.now) p result (S.left log.old) (S.left log.new)
+    ensures ends { (reader : Reader T.Reached T.Said) (p : T.Reached) → IsInside reader p
+        → T.stands taker.old reader header.now p 2
+        → Ends reader (T.stands taker.new reader header.now) p result (S.left log.old) (S.left log.new)
         (S.faults log.old) (S.faults log.new) }
     ensures shrinks { Shrinks (201 * 4294967297) (S.left log.old) (S.left log.new) }
 {

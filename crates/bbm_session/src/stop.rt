@@ -1,7 +1,7 @@
 //! How reading a log goes on, and why it stops.
 
 ghost use Rattle.std.specs.Prelude.{◌≡◌};
-ghost use Rattle.bbm_session.specs.Fold.{alone};
+ghost use Rattle.bbm_session.specs.Reader.{alone};
 
 use bbm_rules::Verdict;
 use bbm_texts::Decision;

@@ -28,7 +28,6 @@ use crate::laws::law_verified_is_safe;
 use crate::obeying::obey;
 use crate::showing::show;
 use crate::verifying::verify;
-use bbm_events::law_item_fits;
 use bbm_io::{Sink, Source};
 use bbm_oracle::Oracle;
 use bbm_replay::Replay;
@@ -186,7 +185,6 @@ pub fn run<S: Source, K: Sink>(
     match said(words) {
         Some(request) => {
             law_accepted_is_safe();
-            law_item_fits();
             law_verified_is_safe();
             serve(alloc, &request, log, out)
         }

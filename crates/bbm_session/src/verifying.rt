@@ -1,9 +1,9 @@
 //! A log and its certificate, taken line after line and judged by it.
 
 ghost use Rattle.std.specs.Prelude.{◌≡◌, ◌*◌, ◌<◌, Some, ok_or};
-ghost use Rattle.bbm_certificate.specs.CertificateReading.{Reached, Said};
-ghost use Rattle.bbm_session.specs.Fold.{Fold};
-ghost use Rattle.bbm_session.specs.Folds.{Certifies};
+ghost use Rattle.bbm_certificate.specs.CertificateReading.{Reached, CertificateSays};
+ghost use Rattle.bbm_session.specs.Reader.{Reader};
+ghost use Rattle.bbm_session.specs.Readers.{Certifies};
 ghost use Rattle.bbm_session.specs.Stages.{MayTakeLine, Shrinks, FoldsLine};
 ghost use Rattle.bbm_session.specs.Serving.{Verifies, streams_of};
 
@@ -27,8 +27,9 @@ fn verify_line(
     stop: &mut Stop,
 ) -> Option<Turn>
     requires { MayTakeLine (Certifies kept.old) header.now number }
-    ensures takes { (fold : Fold Reached Said) (p : Reached) → Certifies kept.old fold header.now p number
-        → FoldsLine fold (Certifies kept.new fold header.now) number p line.now
+    ensures takes { (reader : Reader Reached CertificateSays) (p : Reached)
+        → Certifies kept.old reader header.now p number
+        → FoldsLine reader (Certifies kept.new reader header.now) number p line.now
         (ok_or result stop.new) }
     ensures few { result ≡ Some Turn.Taken → number < 4294967295 }
 {
@@ -43,8 +44,8 @@ pub struct Verifying {
 }
 
 impl Taker for Verifying {
-    ghost use Rattle.bbm_certificate.specs.CertificateReading.{Reached, Said as SaidOfBoth};
-    ghost use Rattle.bbm_session.specs.Folds.{Certifies};
+    ghost use Rattle.bbm_certificate.specs.CertificateReading.{Reached, CertificateSays as SaidOfBoth};
+    ghost use Rattle.bbm_session.specs.Readers.{Certifies};
 
     ghost Reached = { Reached };
 

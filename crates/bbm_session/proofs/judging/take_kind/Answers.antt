@@ -1,10 +1,9 @@
 -- The line of an event that was read at the front of some bytes, and taken.
-use Rattle.bbm_session.proofs.Common.{Fold, Heading, Judged, Judges, Keeps, Limits, Patterns, FoldsLine, Taken}
+use Rattle.bbm_session.proofs.Common.{Reader, Heading, Judges, Keeps, Limits, Patterns, FoldsLine, Taken}
 use Rattle.std.proofs.Common.{IfSome, refl, subst}
 use Rattle.std.specs.Bool.{then_some}
 use Rattle.bbm_rules.proofs.Common.{◌≡◌, ℕ, Bool, List, ◌∷◌, Option, Ok, take, true, false, sym, ◌∙◌, arith}
-use Rattle.bbm_rules.proofs.Common.{fits_heading}
-use Rattle.bbm_rules.proofs.Common.{label_fits, and_parts, AtEvents, Progress, GoesOn}
+use Rattle.bbm_rules.proofs.Common.{fits_heading, label_fits, and_parts, AtEvents, Progress, Passes, Judged}
 use Rattle.bbm_events.specs.declared.event.Event.{Event}
 use Rattle.bbm_events.specs.declared.event.Item.TheVariants as item
 use Rattle.bbm_io.specs.Reading.{LiesWhole}
@@ -24,16 +23,16 @@ module _ (heading : Heading) (e : Event) (label : Option (List ℕ)) (count : �
   }
 
   takes : (frugal frugal' : Bool) (stands stands' : Heading → List Event → Type 0) (limits limits' : Limits)
-      (fold : Fold Progress Judged) (p : Progress) (n : ℕ) → frugal' ≡ frugal → limits' ≡ limits
+      (reader : Reader Progress Judged) (p : Progress) (n : ℕ) → frugal' ≡ frugal → limits' ≡ limits
       → StandsFirst heading (item.Event e label) count bytes
       → ((h : List Event) → Keeps stands heading h → fits_heading heading e ≡ true
-      → (after_event Patterns limits n heading h e label ≡ GoesOn (AtEvents heading (e ∷ h)))
+      → (after_event Patterns limits n heading h e label ≡ Passes (AtEvents heading (e ∷ h)))
       × Keeps stands' heading (e ∷ h))
-      → Judges frugal stands limits fold heading p n
-      → FoldsLine fold (Judges frugal' stands' limits' fold heading) n p (take count bytes) (Ok Taken)
-  takes frugal frugal' stands stands' limits limits' fold p n same within first taken judges =
+      → Judges frugal stands limits reader heading p n
+      → FoldsLine reader (Judges frugal' stands' limits' reader heading) n p (take count bytes) (Ok Taken)
+  takes frugal frugal' stands stands' limits limits' reader p n same within first taken judges =
       let fits = (and_parts (fits_heading heading e) (label_fits heading.version label) first.fits).0 in
-      judged-takes frugal frugal' stands stands' limits limits' heading fold p n (take count bytes)
+      judged-takes frugal frugal' stands stands' limits limits' heading reader p n (take count bytes)
       (Ok (item.Event e label)) (Ok Taken) same within judges (sym first.is)
       (λ h keeps. let after = taken h keeps fits in (e ∷ h, after.0, after.1, omega arith))
 
@@ -49,10 +48,10 @@ returns-in-Some-clause-takes g c =
     let after = c.take_event.new.judging in
     let header = c.args.header.now in
     let count = c.in-Some.count in
-    told _ c.take_event.result count _ c.then_some.ensures (λ is fold p judges.
+    told _ c.take_event.result count _ c.then_some.ensures (λ is reader p judges.
     takes header c.in-Some.event c.in-Some._label count c.args.bytes.now (g.C.Checker.frugal before.checker)
     (g.C.Checker.frugal after.checker) (g.C.Checker.stands before.checker) (g.C.Checker.stands after.checker)
-    before.limits after.limits fold p c.args.number c.take_event.ensures.frugal c.take_event.ensures.limits
+    before.limits after.limits reader p c.args.number c.take_event.ensures.frugal c.take_event.ensures.limits
     c.in-Some.ensures.line (λ h. c.take_event.ensures.taken is header h c.in-Some._label) judges)
 
 pub returns-in-Some-clause-line : goal.returns-in-Some-clause-line

@@ -1,5 +1,5 @@
 use Rattle.bbm_session.proofs.Common.{heading, Patterns}
-use Rattle.bbm_rules.proofs.Common.{◌++◌, length, sym, ap, Outcome, initialised}
+use Rattle.bbm_rules.proofs.Common.{◌++◌, length, sym, ap, Ending, Judged, initialised}
 use Rattle.bbm_rules.specs.Phases.{restless_of}
 use Rattle.bbm_rules.specs.Texts.{verdict_text}
 use Rattle.bbm_texts.specs.Generating.{counts_text, selftest_text}
@@ -16,5 +16,6 @@ returns-clause-accepted c = accepted c.args.n c.args.count c.requires.lines (rec
 pub returns-clause-selftest : goal.returns-clause-selftest
 unfolding selftest_text
 returns-clause-selftest c =
-    ap (λ (o : Outcome). verdict_text o.verdict ++ counts_text (length (initialised o.log)) (restless_of heading Patterns o.log))
+    ap (λ (o : Ending Judged). verdict_text o.says.verdict
+    ++ counts_text (length (initialised o.says.log)) (restless_of heading Patterns o.says.log))
     (sym (returns-clause-accepted c))

@@ -1,4 +1,4 @@
-use Rattle.bbm_session.proofs.Common.{SaysFor, Stop, KnowsAt, Reports}
+use Rattle.bbm_session.proofs.Common.{IsOutputFor, Stop, KnowsAt, Reports}
 use Rattle.bbm_rules.proofs.Common.{Some, sym, subst}
 use Rattle.bbm_session.proofs.obeying.report_stopped.Goals as goal
 
@@ -13,5 +13,5 @@ returns-in-Decided g c = λ h knows.
     let header = c.args.header.now in
     let stands = g.C.Checker.stands c.args.checker.now in
     let known = subst (λ (s : Stop). KnowsAt stands header h s) c.in-Decided.is knows in
-    subst (λ (s : Stop). Reports (SaysFor c.args.command.now (Some header) h) s c.report.result (g.K.Sink.held c.args.out.now) (g.K.Sink.held c.report.new.out) (g.K.Sink.faults c.args.out.now) (g.K.Sink.faults c.report.new.out)) (sym c.in-Decided.is)
+    subst (λ (s : Stop). Reports (IsOutputFor c.args.command.now (Some header) h) s c.report.result (g.K.Sink.held c.args.out.now) (g.K.Sink.held c.report.new.out) (g.K.Sink.faults c.args.out.now) (g.K.Sink.faults c.report.new.out)) (sym c.in-Decided.is)
     (c.report.ensures h known)

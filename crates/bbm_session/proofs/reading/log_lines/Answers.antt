@@ -34,13 +34,13 @@ lines-preserved-in-Some g c =
       ready = (c.take.ensures.failed ∙ kept.ready.0, omega (arith, kept.ready.1, c.take.ensures.taken, whole.short));
       shrinks = shrinks-trans (201 * n) 201 (201 * (n + 1)) _ _ _ (omega arith) kept.shrinks (takes-shrinks piece.Line (take count hand) _ _ within c.take.ensures.took);
       sound = c.take.ensures.sound ∙ kept.sound;
-      going = λ fold p inside stands.
-          let going = kept.going fold p inside stands in
-          let after = g.T.Taker.stands c.take_ahead.new.self fold header in
-          let says = λ (l : List ℕ). FoldsLine fold after n going.0 (take count l) (Ok Taken) in
-          let taken = subst says c.ahead.ensures (c.in-Some.ensures.takes fold going.0 going.3) in
-          going-on fold (g.T.Taker.stands c.lines.taker fold header) after p n _ _ _ _ _ going
-          (line-advances fold after n going.0 (Ok Taken) (take count hand) _ _ _ _ whole.no_newline within c.take.ensures.took taken c.take.ensures.sound);
+      going = λ reader p inside stands.
+          let going = kept.going reader p inside stands in
+          let after = g.T.Taker.stands c.take_ahead.new.self reader header in
+          let says = λ (l : List ℕ). FoldsLine reader after n going.0 (take count l) (Ok Taken) in
+          let taken = subst says c.ahead.ensures (c.in-Some.ensures.takes reader going.0 going.3) in
+          going-on reader (g.T.Taker.stands c.lines.taker reader header) after p n _ _ _ _ _ going
+          (line-advances reader after n going.0 (Ok Taken) (take count hand) _ _ _ _ whole.no_newline within c.take.ensures.took taken c.take.ensures.sound);
     }
 
 pub any_line-requires-clause-stands : goal.any_line-requires-clause-stands
@@ -63,10 +63,10 @@ lines-preserved g c =
       ready = c.in-Some-Taken.ensures.ready;
       shrinks = shrinks-trans (201 * c.lines.number) 201 (201 * (c.lines.number + 1)) _ _ _ (omega arith) kept.shrinks c.in-Some-Taken.ensures.shrinks;
       sound = advanced.4 ∙ kept.sound;
-      going = λ fold p inside stands.
-          let going = kept.going fold p inside stands in
-          let taken = rw c.in-Some-Taken.field-0-is at c.in-Some-Taken.ensures.advances fold going.0 going.2 (untaken fold going.0 going.3) in
-          going-on fold (g.T.Taker.stands c.lines.taker fold header) (g.T.Taker.stands c.any_line.new.taker fold header) p c.lines.number _ _ _ _ _ going taken;
+      going = λ reader p inside stands.
+          let going = kept.going reader p inside stands in
+          let taken = rw c.in-Some-Taken.field-0-is at c.in-Some-Taken.ensures.advances reader going.0 going.2 (untaken reader going.0 going.3) in
+          going-on reader (g.T.Taker.stands c.lines.taker reader header) (g.T.Taker.stands c.any_line.new.taker reader header) p c.lines.number _ _ _ _ _ going taken;
     }
 
 pub returns-in-Some-End-clause-shrinks : goal.returns-in-Some-End-clause-shrinks
@@ -76,17 +76,17 @@ pub returns-in-None-clause-shrinks : goal.returns-in-None-clause-shrinks
 returns-in-None-clause-shrinks g c = shrinks-trans (201 * c.lines.number) 201 (201 * 4294967296) _ _ _ (omega (arith, c.lines.invariant.within)) c.lines.invariant.shrinks c.in-None.ensures.shrinks
 
 pub returns-in-Some-End-clause-reaches : goal.returns-in-Some-End-clause-reaches
-returns-in-Some-End-clause-reaches g c = λ fold p inside stands.
+returns-in-Some-End-clause-reaches g c = λ reader p inside stands.
     let kept = c.lines.invariant in
-    let going = kept.going fold p inside stands in
-    let untaken = c.in_default.ensures.untaken refl fold going.0 going.3 in
-    let advanced = rw c.in-Some-End.field-0-is at c.in-Some-End.ensures.advances fold going.0 going.2 untaken in
-    going-end fold (g.T.Taker.stands c.lines.taker fold c.args.header.now) (g.T.Taker.stands c.any_line.new.taker fold c.args.header.now) p c.lines.number _ _ _ _ _ _ going kept.sound advanced
+    let going = kept.going reader p inside stands in
+    let untaken = c.in_default.ensures.untaken refl reader going.0 going.3 in
+    let advanced = rw c.in-Some-End.field-0-is at c.in-Some-End.ensures.advances reader going.0 going.2 untaken in
+    going-end reader (g.T.Taker.stands c.lines.taker reader c.args.header.now) (g.T.Taker.stands c.any_line.new.taker reader c.args.header.now) p c.lines.number _ _ _ _ _ _ going kept.sound advanced
 
 pub returns-in-None-clause-reaches : goal.returns-in-None-clause-reaches
-returns-in-None-clause-reaches g c = λ fold p inside stands.
+returns-in-None-clause-reaches g c = λ reader p inside stands.
     let kept = c.lines.invariant in
-    let going = kept.going fold p inside stands in
-    let untaken = c.in_default.ensures.untaken refl fold going.0 going.3 in
-    let stopped = c.in-None.ensures.advances fold going.0 going.2 untaken in
-    going-stops fold (g.T.Taker.stands c.lines.taker fold c.args.header.now) (g.T.Taker.stands c.any_line.new.taker fold c.args.header.now) p c.lines.number c.any_line.new.stop _ _ _ _ _ _ going kept.sound stopped
+    let going = kept.going reader p inside stands in
+    let untaken = c.in_default.ensures.untaken refl reader going.0 going.3 in
+    let stopped = c.in-None.ensures.advances reader going.0 going.2 untaken in
+    going-stops reader (g.T.Taker.stands c.lines.taker reader c.args.header.now) (g.T.Taker.stands c.any_line.new.taker reader c.args.header.now) p c.lines.number c.any_line.new.stop _ _ _ _ _ _ going kept.sound stopped

@@ -1,8 +1,6 @@
-use Rattle.bbm_session.proofs.Common.{Patterns, Command, Judge, Verify, Generate, Selftest}
-use Rattle.bbm_rules.proofs.Common.{◌≡◌, Option, ap, map, option_map}
-use Rattle.std.specs.String.{string_bytes}
+use Rattle.bbm_session.proofs.Common.{Patterns, Judge, Verify, Generate, Selftest}
+use Rattle.bbm_rules.proofs.Common.{◌≡◌}
 use Rattle.bbm_session.specs.Requests as requests
-use Rattle.bbm_session.specs.Run.{or_else}
 use Rattle.bbm_session.proofs.Served.{served-accepted, served-accepts, served-as, served-fault, served-generated}
 use Rattle.bbm_session.proofs.Served.{served-part, served-part_of_some, served-read, served-selftested, served-some}
 use Rattle.bbm_session.proofs.Served.{served-status, served-text, served-unread, served-untold, served-untouched}
@@ -19,7 +17,7 @@ pub returns-in-Some-clause-text : goal.returns-in-Some-clause-text
 returns-in-Some-clause-text g c = λ request bytes asked tells.
     let same : c.in-Some.request ≡ request = cc in
     let serves = served-as _ _ _ _ same c.serve.ensures.serves in
-    served-text _ _ bytes asked.has c.law_item_fits.ensures request serves tells
+    served-text _ _ bytes asked.has request serves tells
 
 pub returns-in-Some-clause-some_verdict : goal.returns-in-Some-clause-some_verdict
 returns-in-Some-clause-some_verdict g c = λ request says tells.
@@ -94,7 +92,7 @@ pub returns-in-Some-clause-part_of_text : goal.returns-in-Some-clause-part_of_te
 returns-in-Some-clause-part_of_text g c = λ request bytes asked cuts.
     let same : c.in-Some.request ≡ request = cc in
     let serves = served-as _ _ _ _ same c.serve.ensures.serves in
-    served-part _ _ bytes asked.has c.law_item_fits.ensures request serves cuts
+    served-part _ _ bytes asked.has request serves cuts
 
 pub returns-in-Some-clause-part_of_some : goal.returns-in-Some-clause-part_of_some
 returns-in-Some-clause-part_of_some g c = λ request says cuts.
