@@ -2,11 +2,10 @@
 -- is written is read again, and no other line is read as it.
 use Rattle.bbm_events.proofs.Common.{◌≡◌, ℕ, ◌^◌, ◌<◌, ◌≤◌, List, [], ◌∷◌, length, true, ◌&&◌, refl, ap, ◌∙◌, Result}
 use Rattle.bbm_events.proofs.Common.{Ok, arith, IfErr, codes, decimal, and_parts, leb-true, ltb-true, eqb-true, Kind}
-use Rattle.bbm_events.proofs.Common.{El2, S2, Ttbr0, Ttbr1}
-use Rattle.bbm_events.proofs.Common.{Malformed, UnknownWord, BadNumber, MissingField, IsFieldCause, IsLineCause}
-use Rattle.bbm_events.proofs.Common.{Heading, heading_ok, may_share, fields, hex, with_word, kind_word, kinds, is_pe}
-use Rattle.bbm_events.proofs.Common.{is_place, is_value, ◌>>=◌, Fields, passing, exactly, pe_field, kind_field}
-use Rattle.bbm_events.proofs.Common.{place_field, value_field}
+use Rattle.bbm_events.proofs.Common.{El2, S2, Ttbr0, Ttbr1, Malformed, UnknownWord, BadNumber, MissingField}
+use Rattle.bbm_events.proofs.Common.{IsFieldCause, IsLineCause, Heading, heading_ok, may_share, fields, hex, with_word}
+use Rattle.bbm_events.proofs.Common.{kind_word, kinds, is_pe, is_place, is_value, ◌>>=◌, Fields, passing, exactly}
+use Rattle.bbm_events.proofs.Common.{pe_field, kind_field, place_field, value_field}
 use Rattle.std.proofs.lemmas.Bool.{and_from}
 use Rattle.bbm_events.specs.declared.machine.MachineLine.{MachineLine}
 use Rattle.bbm_events.specs.declared.machine.MachineLine.TheVariants.{Start, Extend, Combine, Share, Drop}
@@ -18,8 +17,7 @@ use Rattle.bbm_events.specs.Machine.{mark_field, machine_word_field, tag_field, 
 use Rattle.bbm_events.specs.Machine.{share_line, machine_after, machine_of, machine_fields, machine_line}
 use Rattle.bbm_events.proofs.Causes.{Ends, then_ends, field_ends, whole_ends, pe_ends, place_ends, value_ends}
 use Rattle.bbm_events.proofs.Causes.{count_ends, count_line_ends, word_ends, of_fields}
-use Rattle.bbm_events.proofs.Readings.{bind_ok, field_ok, passing_field_ok, pe_kept, count_kept, place_kept}
-use Rattle.bbm_events.proofs.Readings.{value_kept}
+use Rattle.bbm_events.proofs.Readings.{bind_ok, field_ok, passing_field_ok, pe_kept, count_kept, place_kept, value_kept}
 use Rattle.bbm_events.proofs.Joining.{joined_fields, fields_joined, all_visible}
 use Rattle.bbm_events.proofs.OneSpelling.{word_once}
 use Rattle.bbm_events.proofs.OneLine.{IsRead, as_read, count_line_read_as, exactly_once, passing_from, whole_end}

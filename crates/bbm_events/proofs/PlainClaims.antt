@@ -7,8 +7,8 @@ use Rattle.bbm_events.specs.declared.certificate.ClaimItem.{ClaimItem}
 use Rattle.bbm_events.specs.declared.certificate.ClaimItem.TheVariants as item
 use Rattle.bbm_events.specs.declared.certificate.TagWord.{TagWord}
 use Rattle.bbm_events.specs.declared.certificate.TagWord.TheVariants as word
-use Rattle.bbm_events.specs.Certificate.{is_tag, is_position, is_claim, claim_fields, claim_fits}
-use Rattle.bbm_events.specs.Certificate.{claim_line, number_of_tag, tag_word, word_of_tag}
+use Rattle.bbm_events.specs.Certificate.{is_tag, is_position, is_claim, claim_fields, claim_fits, claim_line}
+use Rattle.bbm_events.specs.Certificate.{number_of_tag, tag_word, word_of_tag}
 use Rattle.bbm_events.specs.Spelling.{is_plain}
 use Rattle.bbm_events.proofs.CertificateLines.{claim_all_visible, number_below}
 use Rattle.bbm_events.proofs.PlainLines.{Short, decimal_length, joined_length, joined_plain, pe_length, place_length}

@@ -1,7 +1,8 @@
 -- The induction over a history that keeps the rules.
 use Rattle.bbm_histories.proofs.Common.{Heading, Event, Rule, Below}
 use Rattle.bbm_rules.proofs.Common.{◌≡◌, ℕ, Bool, true, false, List, [], ◌∷◌, ◌++◌, None, is_none, refl, ◌∙◌, ap}
-use Rattle.bbm_rules.proofs.Common.{and_parts, breaks, keeps, Trust, note, noted, if_so, Noted, events_of}
+use Rattle.bbm_rules.proofs.Common.{and_from, and_parts, breaks, keeps, Trust, note, noted, if_so, Noted, events_of}
+use Rattle.bbm_rules.proofs.Common.{length, suc}
 use Rattle.bbm_rules.specs.Broken.{broken}
 
 pub if_none : (b : Bool) (n : ℕ) → if_so b n ≡ None → b ≡ false
@@ -20,6 +21,12 @@ module _ (heading : Heading) (trust : Trust) where
     b.each_rule.sound (e ∷ h) [] h e k
         refl,
   )
+
+  -- an event that no rule refuses keeps the rules
+  pub kept_next : (h : List Event) (e : Event) → keeps heading trust h ≡ true → broken heading trust h e ≡ None
+      → keeps heading trust (e ∷ h) ≡ true
+  kept_next h e kept none =
+      and_from (keeps heading trust h) (is_none (broken heading trust h e)) kept (ap (λ o. is_none o) none)
 
   pub kept_before : (newer older : List Event) → keeps heading trust (newer ++ older) ≡ true → keeps heading trust older ≡ true
   kept_before [] older k = k
@@ -40,6 +47,10 @@ module _ (heading : Heading) (trust : Trust) where
 pub events_append : (newer older : List Noted) → events_of (newer ++ older) ≡ events_of newer ++ events_of older
 events_append [] older = refl
 events_append (n ∷ newer) older = ap (λ (es : List Event). n.event ∷ es) (events_append newer older)
+
+pub events_length : (ns : List Noted) → length (events_of ns) ≡ length ns
+events_length [] = refl
+events_length (n ∷ ns) = ap suc (events_length ns)
 
 -- an event of an annotated history, with its notes
 pub record At (ns : List Noted) (e : Event) : Type 0 where

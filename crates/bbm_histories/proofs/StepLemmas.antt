@@ -1,15 +1,15 @@
 -- The step equations of the definitions that search.
 use Rattle.bbm_histories.proofs.Common.{and-false, and-true, or-false, Heading, Below, cleansed_under, answered_by}
 use Rattle.bbm_histories.proofs.Common.{held_after, seen_after, waits}
-use Rattle.bbm_rules.proofs.Common.{◌≡◌, ℕ, ◌<◌, ◌≤◌, ◌&&◌, ◌||◌, not, Bool, true, false, cond, ◌==◌, nat_le, List, []}
-use Rattle.bbm_rules.proofs.Common.{◌∷◌, length, Option, Some, None, option_and_then, refl, sym, ◌∙◌, ap, subst}
-use Rattle.bbm_rules.proofs.Common.{true≢false, arith, eq-eqb, le-leb, leb-true, proved, Is, answers, Kind, is_valid}
-use Rattle.bbm_rules.proofs.Common.{same_bool, operation, Half, Barrier, Event, Init, Write, Dsb, Tlbi, Trust, Patterns}
-use Rattle.bbm_rules.proofs.Common.{answered_where, answers_one, cleansed, flushes, full_step, half, publishes_write}
-use Rattle.bbm_rules.proofs.Common.{second_step, seen, ValidWrite, cleansed_everywhere, held, last_valid}
-use Rattle.bbm_rules.proofs.Common.{last_valid_after, later, any, Noted, events_of, page_of, Issued, completes}
-use Rattle.bbm_rules.proofs.Common.{left_open, reaches, unanswered, itself, loses, read_since, reads_for_some}
-use Rattle.bbm_rules.proofs.Common.{takes_tag, publishes_to, value_of, or_middle}
+use Rattle.bbm_rules.proofs.Common.{◌≡◌, ℕ, ◌<◌, ◌&&◌, ◌||◌, not, Bool, true, false, cond, ◌==◌, List, [], ◌∷◌, length}
+use Rattle.bbm_rules.proofs.Common.{Option, Some, None, option_and_then, refl, sym, ◌∙◌, ap, subst, true≢false, arith}
+use Rattle.bbm_rules.proofs.Common.{eq-eqb, le-leb, proved, Is, answers, Kind, is_valid, same_bool, operation, Half}
+use Rattle.bbm_rules.proofs.Common.{Barrier, Event, Init, Write, Dsb, Tlbi, Trust, Patterns, answered_where}
+use Rattle.bbm_rules.proofs.Common.{answers_one, cleansed, flushes, full_step, half, publishes_write, second_step, seen}
+use Rattle.bbm_rules.proofs.Common.{ValidWrite, cleansed_everywhere, held, last_valid, last_valid_after, later, any}
+use Rattle.bbm_rules.proofs.Common.{Noted, events_of, page_of, Issued, completes, left_open, reaches, unanswered}
+use Rattle.bbm_rules.proofs.Common.{itself, loses, read_since, reads_for_some, takes_tag, publishes_to, value_of}
+use Rattle.bbm_rules.proofs.Common.{or_middle}
 use Rattle.bbm_regimes.specs.declared.regime.Tag.{Tag}
 use Rattle.bbm_rules.specs.Notes.{event_of}
 use Rattle.bbm_rules.specs.Reach.{still_open}
@@ -17,6 +17,7 @@ use Rattle.bbm_histories.specs.HistorySteps.{cleansed_after, half_after, is_tlbi
 use Rattle.bbm_histories.specs.HistorySteps.{waits_after, wrote}
 use Rattle.bbm_histories.proofs.HeldSteps.{held_same}
 use Rattle.bbm_lemmas.proofs.Tests.{any_and, any_both, any_filter, any_never, any_or, any_same}
+use Rattle.bbm_rules.proofs.TagLaw.{unread_yet}
 
 -- ---- what waits
 
@@ -254,16 +255,6 @@ module _ (q : ℕ) where
       by older x = older f g same
 
 module _ (heading : Heading) (p : ℕ) (tag : Tag) where
-  -- nothing was readable after the last event
-  none_since : (n : ℕ) (h : List Event) → length h ≤ n → read_since heading n p tag h ≡ false
-  none_since n [] short = refl
-  none_since n (e ∷ h) short = by (nat_le n (length h)) refl (none_since n h (omega arith))
-    where
-      by : (c : Bool) → nat_le n (length h) ≡ c → read_since heading n p tag h ≡ false
-          → ((c && reads_for_some heading (e ∷ h) p tag) || read_since heading n p tag h) ≡ false
-      by true c rest = let less : n ≤ length h = leb-true n (length h) c in absurd (omega arith)
-      by false c rest = rest
-
   -- a TLBI takes the tag after one more event where it did before, unless the tag is readable then
   takes_on : (e : Event) (h : List Event) (t : Issued Event) → length t.before < length h
       → takes heading p tag (e ∷ h) t ≡ (takes heading p tag h t && not (reads_for_some heading (e ∷ h) p tag))
@@ -282,7 +273,7 @@ module _ (heading : Heading) (p : ℕ) (tag : Tag) where
       ap (λ (c : Bool). (reaches heading e p && takes_tag heading e h tag)
       && not ((c && reads_for_some heading (e ∷ h) p tag) || read_since heading (length h) p tag h)) (le-leb (length h) (length h) (omega arith))
       ∙ (ap (λ (c : Bool). (reaches heading e p && takes_tag heading e h tag) && not ((true && reads_for_some heading (e ∷ h) p tag) || c))
-      (none_since (length h) h (omega arith))
+      (unread_yet heading p tag (length h) h (omega arith))
       ∙ ap (λ (c : Bool). (reaches heading e p && takes_tag heading e h tag) && not c) (or-false (reads_for_some heading (e ∷ h) p tag)))
 
   -- those with so many events before them that a test holds

@@ -1,5 +1,5 @@
 -- Booleans: what the libraries' lemmas don't say.
-use Rattle.std.proofs.Common.{◌≡◌, Bool, true, false, not, cond, ◌&&◌, ◌||◌, refl, sym, ap, ◌∙◌, true≢false}
+use Rattle.std.proofs.Common.{◌≡◌, Bool, true, false, not, cond, ◌&&◌, ◌||◌, refl}
 use Rattle.bbm_lemmas.proofs.Tautologies.{proved}
 use Rattle.bbm_lemmas.proofs.Tautologies.Claim.{If, Is, Never}
 

@@ -2,8 +2,11 @@
 use Rattle.std.proofs.Common.{◌≡◌, ℕ, zero, suc, ◌<◌, Bool, true, false, cond, ◌⊎◌, List, [], ◌∷◌, ◌++◌, length, Option}
 use Rattle.std.proofs.Common.{Some, None, Contains, slice_index_or, filter, flat_map, filter_map, map, refl, sym, ◌∙◌}
 use Rattle.std.proofs.Common.{ap, subst, inl, inr, true≢false, not-suc-le-zero, le_of_suc-le-suc, suc-le-suc, zero-le}
-use Rattle.std.proofs.lemmas.Bool.{or_cases, or_from, or_left, or_parts, or_right}
-use Rattle.std.specs.List.{cons_option, list_any}
+use Rattle.std.proofs.Common.{◌+◌, get_or, option_to_list, take}
+use Rattle.std.proofs.lemmas.Bool.{and_parts, or_cases, or_from, or_left, or_parts, or_right}
+use Rattle.std.proofs.lemmas.List.{take_more}
+use Rattle.std.proofs.lemmas.List.Elements.{filter_map-append}
+use Rattle.std.specs.List.{cons_option, list_all, list_any}
 use Rattle.bbm_lemmas.specs.Elements.{In}
 
 in_at : {X : Type 0} (xs : List X) (x : X) (k : ℕ) → k < length xs → slice_index_or xs k x ≡ x → In xs x
@@ -179,3 +182,25 @@ contains_cases {X} xs y x c = by c.0 c.1 c.2
 pub contains_after : {X : Type 0} (xs ys : List X) (x : X) → Contains ys x → Contains (xs ++ ys) x
 contains_after [] ys x c = c
 contains_after (y ∷ xs) ys x c = contains_more (xs ++ ys) y x (contains_after xs ys x c)
+
+-- where every element passes, one that is there does
+pub every_in : {X : Type 0} (test : X → Bool) (xs : List X) (x : X) → list_all test xs ≡ true → In xs x → test x ≡ true
+every_in test [] x e i = absurd i
+every_in test (y ∷ xs) x e (inl same) = ap test (sym same) ∙ (and_parts (test y) (list_all test xs) e).0
+every_in test (y ∷ xs) x e (inr there) = every_in test xs x (and_parts (test y) (list_all test xs) e).1 there
+
+-- ---- one item more of a list
+
+pub one_option : {Y : Type 0} (o : Option Y) → cons_option o [] ≡ option_to_list o
+one_option None = refl
+one_option (Some y) = refl
+
+pub taken_more : {X : Type 0} (xs : List X) (i : ℕ) (x : X) → i < length xs → x ≡ get_or xs i x
+    → take (i + 1) xs ≡ take i xs ++ x ∷ []
+taken_more xs i x lt is = take_more xs i x lt ∙ ap (λ y. take i xs ++ y ∷ []) (sym is)
+
+pub filter_map_more : {X Y : Type 0} (f : X → Option Y) (xs : List X) (i : ℕ) (x : X) (ys zs : List Y) → i < length xs
+    → x ≡ get_or xs i x → ys ≡ filter_map f (take i xs) → zs ≡ ys ++ option_to_list (f x)
+    → zs ≡ filter_map f (take (i + 1) xs)
+filter_map_more f xs i x ys zs lt is before now =
+    rw (now, before, taken_more xs i x lt is, filter_map-append f (take i xs) (x ∷ []), one_option (f x)) refl

@@ -1,8 +1,12 @@
 -- What is said of lines, for any fold over them: what the first line that decides says, or else what the end says.
 use Rattle.bbm_rules.proofs.Common.{◌≡◌, ◌⊎◌, ℕ, suc, ◌+◌, List, [], ◌∷◌, ◌++◌, length, Option, Some, refl, ap, sym}
-use Rattle.bbm_rules.proofs.Common.{◌∙◌, subst, inl, inr, arith, append-nil, Ending, Fold, Halts, Passes, Turned}
-use Rattle.bbm_rules.proofs.Common.{ending_after, ending_from, lines_from, passes_to}
+use Rattle.bbm_rules.proofs.Common.{◌∙◌, subst, inl, inr, arith, append-nil, Ending, Fold, Halts, Passes, Turned, Bool}
+use Rattle.bbm_rules.proofs.Common.{true, false, if◌then◌else◌, None, Result, Ok, Err, Heading, ending_after}
+use Rattle.bbm_rules.proofs.Common.{ending_from, header_by, is_too_long, lines_from, passes_to}
+use Rattle.bbm_events.specs.declared.malformed.Malformed.{Malformed as Cause}
 use Rattle.bbm_rules.specs.Fold.{DecidedByEnd, DecidedByLine, end_by, turned_by}
+use Rattle.bbm_rules.specs.declared.verdict.Verdict.{Verdict}
+use Rattle.bbm_rules.specs.declared.verdict.Verdict.TheVariants.{Malformed}
 
 -- where one thing holds of how far the lines are read, another of what is said
 abbrev pub Turns : {P V : Type 0} → (P → Type 0) → (V → Type 0) → Turned P V → Type 0
@@ -101,3 +105,34 @@ module _ {P V : Type 0} (fold : Fold P V) where
       inr (record { progress = p; read = refl; decides = ap (λ (m : ℕ). end_by fold m p rest) (omega arith) })
   one_decides n p (l ∷ lines) rest =
       decided_then n p l lines rest (turned_by fold n p l) refl (λ next. one_decides (suc n) next lines rest)
+
+-- ---- the line that is named
+
+-- what line n decides names it
+abbrev pub NamedTurn : {P V : Type 0} → (V → Option ℕ) → ℕ → Turned P V → Type 0
+NamedTurn names n (Halts v) = names v ≡ Some n
+NamedTurn names n (Passes next) = Unit {0}
+
+pub named_if : {P V : Type 0} (names : V → Option ℕ) (n : ℕ) (b : Bool) (s t : Turned P V) → NamedTurn names n s
+    → NamedTurn names n t → NamedTurn names n (if b then s else t)
+named_if names n true s t first second = first
+named_if names n false s t first second = second
+
+pub named_header : {P V : Type 0} (names : V → Option ℕ) (n : ℕ) (begun : Heading → P) (says : Verdict → V)
+    (r : Result Heading Cause) → ((cause : Cause) → names (says (Malformed n cause)) ≡ Some n)
+    → NamedTurn names n (header_by begun says n r)
+named_header names n begun says (Ok heading) named = tt
+named_header names n begun says (Err cause) named = named cause
+
+-- What is said by a fold names the line at which it is said, or none at the end.
+pub record Named {P V : Type 0} (fold : Fold P V) (names : V → Option ℕ) : Type 0 where
+  pub line : (n : ℕ) (p : P) (l : List ℕ) → NamedTurn names n (fold.line n p l)
+  pub long : (n : ℕ) (p : P) → names (fold.long n p) ≡ Some n
+  pub cut : (n : ℕ) (p : P) (rest : List ℕ) → (names (fold.cut n p rest) ≡ Some n) ⊎ (names (fold.cut n p rest) ≡ None)
+
+-- what a line decides names it, also one that is too long
+pub named_turned : {P V : Type 0} (fold : Fold P V) (names : V → Option ℕ) → Named fold names → (n : ℕ) (p : P)
+    (l : List ℕ) → NamedTurn names n (turned_by fold n p l)
+unfolding turned_by
+named_turned fold names named n p l =
+    named_if names n (is_too_long l) (Halts (fold.long n p)) (fold.line n p l) (named.long n p) (named.line n p l)

@@ -1,6 +1,7 @@
 pub mod Common
 pub mod Judged
 pub mod Folds
+pub mod AcceptedLogs
 pub mod SameLimits
 pub mod CasesCore
 pub mod CasesPublication
@@ -25,7 +26,7 @@ pub mod CasesUnreached
 pub mod ReadableLaw
 pub mod OpenLaw
 pub mod EqualityLaw
-mod SameRegister
+pub mod SameRegister
 pub mod SearchLemmas
 pub mod LimitLaw
 pub mod VmidLaw
@@ -49,5 +50,5 @@ pub mod TreeLaw
 pub mod AttachLaw
 pub mod ReadsLaw
 pub mod NullLaw
-mod Twice
+pub mod Twice
 mod RepeatedLaw

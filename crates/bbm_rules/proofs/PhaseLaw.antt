@@ -10,7 +10,7 @@ use Rattle.bbm_rules.specs.declared.phase.Phase.TheVariants.{Clean, Live, Broken
 use Rattle.bbm_rules.specs.declared.rule.Rule.TheVariants.{BreakBeforeMake}
 use Rattle.bbm_rules.specs.Phases.{phase_of}
 
-if_at : (b : Bool) (n at : ℕ) → if_so b n ≡ Some at → n ≡ at
+pub if_at : (b : Bool) (n at : ℕ) → if_so b n ≡ Some at → n ≡ at
 if_at true n at e = cc
 if_at false n at e = cc
 

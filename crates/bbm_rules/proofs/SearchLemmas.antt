@@ -1,7 +1,7 @@
 -- What a search finds, and that it finds what is there; later items keep what it found.
 use Rattle.bbm_rules.proofs.Common.{◌≡◌, Bool, true, false, List, [], ◌∷◌, ◌++◌, refl, sym, ◌∙◌, ap, subst, inl, inr}
-use Rattle.bbm_rules.proofs.Common.{true≢false, or_cases, or_left, or_right, or_from, In, any_finds, any_found}
-use Rattle.bbm_rules.proofs.Common.{in_split, is_none_of, none_of, any, some}
+use Rattle.bbm_rules.proofs.Common.{true≢false, or_cases, or_left, or_right, or_from, In, in_split, is_none_of, none_of}
+use Rattle.bbm_rules.proofs.Common.{any, some}
 use Rattle.bbm_lemmas.proofs.Elements.{split_in}
 
 -- where none of the newer items passes, in the words of a sentence
@@ -73,8 +73,3 @@ some_weaker test other h weaker s =
       split = f.split;
       passed = weaker f.item f.older f.passed;
     })
-
-pub any_weaker : {A : Type 0} (test other : A → Bool) (xs : List A)
-    → ((x : A) → test x ≡ true → other x ≡ true) → any test xs ≡ true → any other xs ≡ true
-any_weaker test other xs weaker s =
-    let f = any_found test xs s in any_finds other xs f.0 f.1 (weaker f.0 f.2)

@@ -7,6 +7,7 @@ use Rattle.bbm_rules.proofs.Common.{leb-false, le-leb, not-true, not_from_false,
 use Rattle.bbm_rules.proofs.Common.{from_contains, to_contains, Taken, Trust, same_tag, Issued, completes, reaches}
 use Rattle.bbm_rules.proofs.Common.{unanswered, Open, TakenAway, Reading, asid_readings, holds_at, itself, loses}
 use Rattle.bbm_rules.proofs.Common.{read_since, readings, readings_in, readings_of, reads, reads_for_some, takes_tag}
+use Rattle.bbm_rules.proofs.Common.{nat_lt, lt-ltb, ◌^◌, ◌||◌, tag_number}
 use Rattle.bbm_barriers.specs.declared.Dsb.{Dsb as Barrier}
 use Rattle.bbm_regimes.specs.declared.regime.AsidFrom.{AsidFrom}
 use Rattle.bbm_regimes.specs.declared.regime.AsidFrom.TheVariants.{Ttbr0 as FromTtbr0, Ttbr1 as FromTtbr1}
@@ -33,7 +34,7 @@ some_reading heading h p tag root k =
     any_finds (λ (r : Reading). same_tag r.tag tag) (readings heading h p) r.0 r.1 (and_parts (same_tag r.0.tag tag) (r.0.root == root) r.2).0
 
 -- at the start no tag is readable
-no_reading : (world : World) (p : ℕ) → readings_in world [] p ≡ []
+pub no_reading : (world : World) (p : ℕ) → readings_in world [] p ≡ []
 no_reading (Hyp hyp) p = refl
 no_reading (Kernel kernel) p = by_asid kernel.asid_from
   where
@@ -45,6 +46,21 @@ not_at_start : (heading : Heading) (p root : ℕ) (tag : Tag) → reads heading 
 not_at_start heading p root tag k =
     let r = any_found (λ (r : Reading). same_tag r.tag tag && r.root == root) (readings heading [] p) k in
     subst (λ (rs : List Reading). In rs r.0) (no_reading heading.world p) r.1
+
+-- the number of a tag has 16 bits
+pub tag_small : (value : ℕ) → value < 2 ^ 64 → nat_lt (tag_number value) (2 ^ 16) ≡ true
+tag_small value below = lt-ltb (tag_number value) (2 ^ 16) (omega (arith, below))
+
+-- nothing is readable after the last event
+pub unread_yet : (heading : Heading) (p : ℕ) (tag : Tag) (n : ℕ) (h : List Event) → length h ≤ n
+    → read_since heading n p tag h ≡ false
+unread_yet heading p tag n [] within = refl
+unread_yet heading p tag n (e ∷ h) within = by (nat_le n (length h)) refl (unread_yet heading p tag n h (omega (arith, within)))
+  where
+    by : (c : Bool) → nat_le n (length h) ≡ c → read_since heading n p tag h ≡ false
+        → ((c && reads_for_some heading (e ∷ h) p tag) || read_since heading n p tag h) ≡ false
+    by true late rest = let less : n ≤ length h = leb-true n (length h) late in absurd (omega (arith, less, within))
+    by false late rest = rest
 
 module _ (heading : Heading) (trust : Trust) (p : ℕ) (tag : Tag) where
   -- ---- moments at which the tag is readable for no root

@@ -200,7 +200,7 @@ flat_via f g (p ∷ ps) = by (f p) refl (flat_via f g ps)
 
 -- ---- different numbers
 
-apart_written : (h : List Event) → Apart (written_places h)
+pub apart_written : (h : List Event) → Apart (written_places h)
 apart_written [] = tt
 apart_written (Write pe at value ∷ h) = with_apart at (written_places h) (apart_written h)
 apart_written (e ∷ h) = apart_written h
