@@ -3,8 +3,8 @@ use Rattle.bbm_rules.proofs.Common.{◌≡◌, ℕ, suc, Bool, List, Option, Som
 use Rattle.bbm_rules.proofs.Common.{unwrap_or, Contains, refl, sym, ◌∙◌, ap, desc_of, cover_of, Cover, PlaceView}
 use Rattle.bbm_rules.proofs.Common.{TagSet, Heading, Event, Tlbi, Tag, Scope, Trust, cover_at, is_global, noted}
 use Rattle.bbm_rules.proofs.Common.{view_at, held, Noted, events_of, page_of, named_scope, vmid_of, distinct, ever_read}
-use Rattle.bbm_rules.proofs.Common.{holds_at, holds_tag, tag_set, tags_of, Node, held_at, in_tree, is_childless}
-use Rattle.bbm_rules.proofs.Common.{next_of, node_below, node_of, region_of, value_of, same_truth}
+use Rattle.bbm_rules.proofs.Common.{holds_at, holds_tag, tag_set, tags_of, Node, held_at, is_childless, next_of}
+use Rattle.bbm_rules.proofs.Common.{node_below, node_of, region_of, value_of, same_truth}
 use Rattle.bbm_tlbi_scope.specs.declared.entry.Cover.TheVariants.{None as NoCover}
 use Rattle.bbm_rules.specs.Tree.{tree}
 use Rattle.bbm_alike.specs.Alike.{Alike}
@@ -30,9 +30,6 @@ module _ (heading : Heading) (k : Known heading) (one other : Trust) (h h' : Lis
 
   pub node_alike : (page : ℕ) → node_of heading one marks page ≡ node_of heading other marks' page
   node_alike = same_node heading one other marks marks' a.trees
-
-  pub in_tree_alike : (page : ℕ) → in_tree heading one marks page ≡ in_tree heading other marks' page
-  in_tree_alike page = ap is_some (node_alike page)
 
   -- what a place of the node of a page holds
   pub held_alike : (n : Node) (place : ℕ) → node_of heading one marks (page_of place) ≡ Some n

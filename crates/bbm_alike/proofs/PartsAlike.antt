@@ -3,16 +3,11 @@ use Rattle.bbm_rules.proofs.Common.{◌≡◌, ℕ, zero, suc, ◌-◌, Bool, co
 use Rattle.bbm_rules.proofs.Common.{is_none, option_and_then, find, filter_map, flat_map, map, refl, ◌∙◌, ap, Attached}
 use Rattle.bbm_rules.proofs.Common.{End, attached_by, attached_from, end_at, ends_below, Trust, Noted, events_of}
 use Rattle.bbm_rules.proofs.Common.{is_fresh, page_of, Heading, Event, Root, Write, root_pages, start_of, Node, held_at}
-use Rattle.bbm_rules.proofs.Common.{in_limbo, next_of, node_of, places_in, value_of, written_places}
+use Rattle.bbm_rules.proofs.Common.{next_of, node_of, places_in, value_of, written_places}
 use Rattle.bbm_rules.specs.Prelude.{Kind}
 use Rattle.bbm_rules.specs.Tree.{tree}
 use Rattle.bbm_alike.proofs.ListsAlike.{same_flat}
 use Rattle.bbm_alike.proofs.SameThen.{same_then}
-
-module _ (h h' : List Noted) (values : (place : ℕ) → value_of (events_of h) place ≡ value_of (events_of h') place) where
-  -- the places of a node are in limbo alike
-  pub same_limbo : (n : Node) → in_limbo h n ≡ in_limbo h' n
-  same_limbo n = simp values
 
 module _ (heading : Heading) (one other : Trust) (h h' : List Noted) where
   module _ (trees : tree heading one h ≡ tree heading other h') where

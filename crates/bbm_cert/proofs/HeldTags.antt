@@ -6,7 +6,8 @@ use Rattle.bbm_rules.proofs.Common.{proved, If, Is, Claim, changes, same_tag, Li
 use Rattle.bbm_rules.proofs.Common.{holds_at, loses, reads, reads_for_some, readings_in}
 use Rattle.bbm_cert.specs.Holdings.{is_holding, next_has}
 use Rattle.bbm_cert.specs.declared.holdings.Loss.{Loss}
-use Rattle.bbm_oracle_tags.proofs.MomentLemmas.{none-at-start, same-readings}
+use Rattle.bbm_oracle_tags.proofs.MomentLemmas.{same-readings}
+use Rattle.bbm_rules.proofs.TagLaw.{no_reading}
 
 -- ---- one more of the tags that were held
 
@@ -35,7 +36,7 @@ module _ (heading : Heading) (known : Known heading) (claims : List Claim) (p ro
   read_held [] k =
       absurd (true≢false (sym k
       ∙ ap (λ (rs : List Reading). list_any (λ r. same_tag r.tag tag && r.root == root) rs)
-      (none-at-start heading.world p)))
+      (no_reading heading.world p)))
   read_held (e ∷ h) k =
       or_left (reads heading (e ∷ h) p tag root) (holds_at heading (Listed claims) p root tag h
       && not (loses heading (Listed claims) p tag e h)) k

@@ -6,9 +6,9 @@ use Rattle.bbm_rules.proofs.Common.{subst, arith, drop-cons, and_right, le-ltb, 
 use Rattle.bbm_rules.proofs.Common.{take-append-drop, list_any-append, list_any_more, list_any, proved, Is, changes}
 use Rattle.bbm_rules.proofs.Common.{same_tag, Tag, Heading, Event, Reading, read_since, reads_for_some, and-true}
 use Rattle.bbm_cert.specs.Spans.{goes_past, is_span, read_after}
-use Rattle.bbm_cert.proofs.Takers.{unread_yet}
+use Rattle.bbm_rules.proofs.TagLaw.{no_reading, unread_yet}
 use Rattle.bbm_cert.proofs.Tests.{none_below}
-use Rattle.bbm_oracle_tags.proofs.MomentLemmas.{none-at-start, same-readings}
+use Rattle.bbm_oracle_tags.proofs.MomentLemmas.{same-readings}
 
 -- ---- one more of those that were kept
 
@@ -119,4 +119,4 @@ module _ (heading : Heading) (p : ℕ) (tag : Tag) where
   -- at the start
   pub nothing_lasts : (n : ℕ) → false ≡ read_after heading p tag n []
   nothing_lasts n =
-      sym (ap (λ (rs : List Reading). list_any (λ r. same_tag r.tag tag) rs || false) (none-at-start heading.world p))
+      sym (ap (λ (rs : List Reading). list_any (λ r. same_tag r.tag tag) rs || false) (no_reading heading.world p))

@@ -4,16 +4,17 @@ use Rattle.bbm_cert.proofs.Common.{or-false, answered_by, is_tlbi, Known, answer
 use Rattle.bbm_rules.proofs.Common.{◌≡◌, ◌⊎◌, ℕ, suc, ◌+◌, ◌-◌, ◌<◌, ◌≤◌, Bool, true, false, cond, not, ◌&&◌, ◌||◌}
 use Rattle.bbm_rules.proofs.Common.{◌==◌, nat_le, List, [], ◌∷◌, ◌++◌, length, take, drop, get_or, reverse, refl, sym}
 use Rattle.bbm_rules.proofs.Common.{◌∙◌, ap, inl, inr, arith, length-append, and_from, and_right, eq-eqb, le-leb}
-use Rattle.bbm_rules.proofs.Common.{leb-true, ne_eqb, or_from, or_left, or_right, get_or_default, length-drop}
-use Rattle.bbm_rules.proofs.Common.{length-reverse, take_all, list_any, proved, Is, answers, Barrier, Tag, Heading}
-use Rattle.bbm_rules.proofs.Common.{Event, Dsb, Tlbi, completes, reaches, completes_for, issues, itself, read_since}
-use Rattle.bbm_rules.proofs.Common.{reads_for_some, takes_tag, and-true}
+use Rattle.bbm_rules.proofs.Common.{ne_eqb, or_from, or_left, or_right, get_or_default, length-drop, length-reverse}
+use Rattle.bbm_rules.proofs.Common.{take_all, list_any, proved, Is, answers, Barrier, Tag, Heading, Event, Dsb, Tlbi}
+use Rattle.bbm_rules.proofs.Common.{completes, reaches, completes_for, issues, itself, read_since, reads_for_some}
+use Rattle.bbm_rules.proofs.Common.{takes_tag, and-true}
 use Rattle.bbm_histories.specs.ClaimSteps.{tag_waits_at, tag_waits_at_after}
 use Rattle.bbm_cert.specs.Takings.{is_open_for}
 use Rattle.bbm_cert.proofs.Flushed.{answered, answered_is}
 use Rattle.bbm_cert.proofs.Kepts.{length_before, split}
 use Rattle.bbm_cert.proofs.TagSteps.{next}
 use Rattle.bbm_lemmas.proofs.Tests.{any_reverse}
+use Rattle.bbm_rules.proofs.TagLaw.{unread_yet}
 
 stops : (c w : Bool) → cond c false w ≡ (w && not c)
 stops = proved 2 (λ c w. Is (cond c false w) (w && not c)) refl
@@ -45,15 +46,6 @@ unheld t count (inr past) n less = ne_eqb t (suc n) (λ e. omega (arith, past, l
 
 module _ (heading : Heading) (p : ℕ) (tag : Tag) where
   -- ---- whether the tag was readable since
-
-  pub unread_yet : (n : ℕ) (h : List Event) → length h ≤ n → read_since heading n p tag h ≡ false
-  unread_yet n [] within = refl
-  unread_yet n (e ∷ h) within = here (nat_le n (length h)) refl (unread_yet n h (omega (arith, within)))
-    where
-      here : (c : Bool) → nat_le n (length h) ≡ c → read_since heading n p tag h ≡ false
-          → ((c && reads_for_some heading (e ∷ h) p tag) || read_since heading n p tag h) ≡ false
-      here true k so_far = absurd (omega (arith, leb-true n (length h) k, within))
-      here false k so_far = so_far
 
   read_now : (n : ℕ) (e : Event) (h : List Event) → n ≤ length h → reads_for_some heading (e ∷ h) p tag ≡ true
       → read_since heading n p tag (e ∷ h) ≡ true
@@ -149,7 +141,7 @@ module _ (heading : Heading) (p : ℕ) (tag : Tag) where
             older)
             (le-leb (length older) (length older) (omega arith))
             ∙ ap (λ (b : Bool). reads_for_some heading (e ∷ older) p tag || b)
-            (unread_yet (length older) older (omega arith))
+            (unread_yet heading p tag (length older) older (omega arith))
             ∙ or-false (reads_for_some heading (e ∷ older) p tag)
     waits_split t k (x ∷ newer) older e at =
         let h : List Event = newer ++ e ∷ older in

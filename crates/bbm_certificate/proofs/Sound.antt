@@ -2,8 +2,8 @@
 use Rattle.bbm_rules.proofs.Common.{◌≡◌, ℕ, suc, ◌<◌, ◌==◌, Bool, true, false, if◌then◌else◌, nat_le, List, [], ◌∷◌}
 use Rattle.bbm_rules.proofs.Common.{◌++◌, length, reverse, Contains, Result, Ok, Err, refl, subst, arith, inl, inr}
 use Rattle.bbm_rules.proofs.Common.{slice_index_or, and_parts, leb-false, get_or_default, reverse-append, In}
-use Rattle.bbm_rules.proofs.Common.{from_contains, to_contains, in_left, in_right, Claim, Item, WrongCount}
-use Rattle.bbm_rules.proofs.Common.{fits_heading, label_fits, heading_ok, is_too_long, text_of}
+use Rattle.bbm_rules.proofs.Common.{from_contains, to_contains, in_left, in_right, Claim, Item, fits_heading}
+use Rattle.bbm_rules.proofs.Common.{label_fits, heading_ok, is_too_long, text_of}
 use Rattle.std.proofs.Common.{All}
 use Rattle.std.proofs.lemmas.List.{length-append}
 use Rattle.bbm_events.specs.declared.certificate.ClaimItem.{ClaimItem}
@@ -12,7 +12,7 @@ use Rattle.bbm_events.specs.declared.event.Event.{Event}
 use Rattle.bbm_events.specs.declared.event.Item.TheVariants as item
 use Rattle.bbm_regimes.specs.declared.regime.Which.TheVariants.{Events, Claims}
 use Rattle.bbm_events.specs.declared.malformed.Malformed.{Malformed as Cause}
-use Rattle.bbm_rules.specs.declared.verdict.Verdict.TheVariants.{Malformed, Limit}
+use Rattle.bbm_rules.specs.declared.verdict.Verdict.TheVariants.{Limit}
 use Rattle.bbm_events.specs.Certificate.{certificate_of, claim_of}
 use Rattle.bbm_events.specs.Heading.{Heading}
 use Rattle.bbm_events.specs.LineLaws.{LineLaws}
@@ -22,10 +22,9 @@ use Rattle.bbm_rules.proofs.Folds.{Turns as Goes, said_of}
 use Rattle.bbm_rules.specs.Fold.{end_by, turned_by}
 use Rattle.bbm_certificate.specs.CertificateReading.{AreRead, AtClaims, AtEnd, AtEvents, AtHeader, BehindLog, IsSound}
 use Rattle.bbm_certificate.specs.CertificateReading.{Reached, CertificateSays, Stopped, Whole, after_claim}
-use Rattle.bbm_certificate.specs.CertificateReading.{after_claim_item}
-use Rattle.bbm_certificate.specs.CertificateReading.{after_claims, after_event, after_first, after_item, after_line}
-use Rattle.bbm_certificate.specs.CertificateReading.{after_log, certifying, claim_limit, cut_at, event_limit}
-use Rattle.bbm_certificate.specs.CertificateReading.{next_number, read_of, too_long_at}
+use Rattle.bbm_certificate.specs.CertificateReading.{after_claim_item, after_claims, after_event, after_first}
+use Rattle.bbm_certificate.specs.CertificateReading.{after_item, after_line, after_log, certifying, claim_limit, cut_at}
+use Rattle.bbm_certificate.specs.CertificateReading.{event_limit, next_number, read_of, too_long_at}
 
 -- what is read whole is sound
 abbrev SoundlySaid : CertificateSays → Type 0

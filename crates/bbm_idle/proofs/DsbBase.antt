@@ -5,9 +5,9 @@ use Rattle.bbm_idle.proofs.Common.{Known, same_phase}
 use Rattle.bbm_rules.proofs.Common.{◌≡◌, ℕ, ◌<◌, Bool, true, false, cond, not, List, ◌∷◌, Option, Some, None}
 use Rattle.bbm_rules.proofs.Common.{option_and_then, is_none, Contains, refl, sym, ◌∙◌, ap, subst, inl, inr, and_parts}
 use Rattle.bbm_rules.proofs.Common.{not-true, In, is_valid, every_pe, keeps, cleansed, half, seen, cover_at, note}
-use Rattle.bbm_rules.proofs.Common.{noted, ValidWrite, cleansed_everywhere, held, last_valid, any, Noted}
-use Rattle.bbm_rules.proofs.Common.{broken_phase, page_of, Barrier, Heading, Event, Write, Dsb, unanswered, itself}
-use Rattle.bbm_rules.proofs.Common.{Node, held_at, node_of, value_of, written_places}
+use Rattle.bbm_rules.proofs.Common.{noted, ValidWrite, cleansed_everywhere, held, last_valid, any, Noted, broken_phase}
+use Rattle.bbm_rules.proofs.Common.{page_of, Barrier, Heading, Event, Write, Dsb, unanswered, itself, Node, held_at}
+use Rattle.bbm_rules.proofs.Common.{node_of, value_of, written_places}
 use Rattle.bbm_lemmas.proofs.Every.{every_at}
 use Rattle.bbm_rules.specs.Broken.{broken}
 use Rattle.bbm_rules.specs.Phases.{phase_of}
@@ -15,7 +15,7 @@ use Rattle.bbm_rules.specs.Tree.{tree}
 use Rattle.bbm_histories.specs.TreeChanges.{HeldChange}
 use Rattle.bbm_histories.specs.TreeSteps.{holds_above, node_where}
 use Rattle.bbm_idle.specs.Idle.{is_idle}
-use Rattle.bbm_idle.proofs.FindLists.{every_in}
+use Rattle.bbm_lemmas.proofs.Elements.{every_in}
 use Rattle.bbm_idle.proofs.Needed.{half_stays, written_at}
 use Rattle.bbm_idle.proofs.Phases.{SameMarks, never_clean, same_marks}
 use Rattle.bbm_idle.proofs.Since.{Untouched, Unwritten, untouched, unwritten_on}

@@ -1,11 +1,6 @@
 -- Tests over lists.
-use Rattle.bbm_rules.proofs.Common.{◌≡◌, Bool, true, ◌&&◌, ◌||◌, List, [], ◌∷◌, refl, sym, ap, ◌∙◌, inl, inr}
-use Rattle.bbm_rules.proofs.Common.{and_from, and_parts, In, flat_map, list_any, list_all, list_any-append}
-
-pub every_in : {A : Type 0} (test : A → Bool) (xs : List A) (x : A) → list_all test xs ≡ true → In xs x → test x ≡ true
-every_in test [] x e i = absurd i
-every_in test (y ∷ xs) x e (inl same) = ap test (sym same) ∙ (and_parts (test y) (list_all test xs) e).0
-every_in test (y ∷ xs) x e (inr there) = every_in test xs x (and_parts (test y) (list_all test xs) e).1 there
+use Rattle.bbm_rules.proofs.Common.{◌≡◌, Bool, true, ◌&&◌, ◌||◌, List, [], ◌∷◌, refl, ap, ◌∙◌, inl, inr, and_from, In}
+use Rattle.bbm_rules.proofs.Common.{flat_map, list_any, list_all, list_any-append}
 
 pub every_of : {A : Type 0} (test : A → Bool) (xs : List A) → ((x : A) → In xs x → test x ≡ true) → list_all test xs ≡ true
 every_of test [] each = refl

@@ -1,16 +1,16 @@
 -- The phases of places at all PEs.
-use Rattle.bbm_idle.proofs.Common.{Clean, Live, Patterns, phase_at, Past, notes, StandsByPatterns, same_phase}
-use Rattle.bbm_rules.proofs.Common.{◌≡◌, ℕ, ◌<◌, Bool, true, false, not, cond, ◌&&◌, ◌||◌, nat_lt, List, Option, Some}
-use Rattle.bbm_rules.proofs.Common.{None, refl, sym, ap, ◌∙◌, lt-ltb, is_valid, Trust, cleansed, half, seen, noted}
-use Rattle.bbm_rules.proofs.Common.{cleansed_everywhere, last_valid, ◌>>=◌, Noted, events_of, broken_phase, page_of}
-use Rattle.bbm_rules.proofs.Common.{Heading, Event, Node, node_of, value_of}
-use Rattle.std.specs.Option.{unwrap_or}
+use Rattle.bbm_idle.proofs.Common.{Patterns, phase_at, Past, notes, StandsByPatterns, same_phase}
+use Rattle.bbm_rules.proofs.Common.{◌≡◌, ℕ, ◌<◌, Bool, true, false, not, ◌&&◌, ◌||◌, nat_lt, List, Some, refl, sym, ap}
+use Rattle.bbm_rules.proofs.Common.{◌∙◌, lt-ltb, Trust, cleansed, half, seen, Noted, events_of, page_of, Heading, Event}
+use Rattle.bbm_rules.proofs.Common.{Node, node_of, value_of}
 use Rattle.bbm_regimes.specs.PeMask.{pe_in}
 use Rattle.bbm_rules.specs.Phases.{phase_of}
 use Rattle.bbm_oracle_patterns.specs.PlacePhases.{furthest}
 use Rattle.bbm_oracle_patterns.specs.declared.trace.Trace.{Trace}
 use Rattle.bbm_oracle_trees.specs.TreePhases.{phase_among}
 use Rattle.bbm_idle.specs.Finding.{phase_by}
+use Rattle.bbm_oracle_trees.proofs.Phasing.{phase_at_node}
+use Rattle.bbm_oracle_trees.proofs.Phasing as among
 
 -- ---- of a history
 
@@ -20,32 +20,13 @@ pub at_node : (heading : Heading) (trust : Trust) (h : List Noted) (place p : �
     → phase_at heading Patterns n.kind n.level place (value_of (events_of h) place) p h ≡ phase_among heading trust h place p
 at_node heading trust h place p n is found =
     ap (λ (t : Trust). phase_at heading t n.kind n.level place (value_of (events_of h) place) p h) (sym is)
-    ∙ sym (ap (λ (o : Option Node). unwrap_or (o >>= (λ m. last_valid m.kind m.level place h >>= (λ w.
-    cond (cleansed_everywhere heading trust place w.since) None
-    (Some (cond (is_valid m.kind m.level (value_of (events_of h) place)) Live (broken_phase heading trust place p w.since)))))) Clean) found)
-
--- where it found none
-pub at_no_node : (heading : Heading) (trust : Trust) (h : List Noted) (place p : ℕ)
-    → node_of heading trust h (page_of place) ≡ None → Clean ≡ phase_among heading trust h place p
-at_no_node heading trust h place p none =
-    sym (ap (λ (o : Option Node). unwrap_or (o >>= (λ m. last_valid m.kind m.level place h >>= (λ w.
-    cond (cleansed_everywhere heading trust place w.since) None
-    (Some (cond (is_valid m.kind m.level (value_of (events_of h) place)) Live (broken_phase heading trust place p w.since)))))) Clean) none)
-
-noted_phase : (heading : Heading) (h : List Event) (place p : ℕ) → events_of (noted heading Patterns h) ≡ h
-    → phase_among heading Patterns (noted heading Patterns h) place p ≡ phase_of heading Patterns h place p
-unfolding phase_of
-noted_phase heading h place p e = rw e refl
+    ∙ phase_at_node heading trust h place p n found
 
 -- that of the events that the history stands for
 pub phase_stands : (past : Past) (heading : Heading) (h : List Event) → StandsByPatterns past heading h → (place p : ℕ)
     → phase_among past.heading past.trust (notes past) place p ≡ phase_of heading Patterns h place p
 phase_stands past heading h s place p =
-    let are : notes past ≡ noted heading Patterns h = s.kept.notes_are ∙ ap (λ (t : Trust). noted heading t h) s.trust_is in
-    ap (λ (t : Trust). phase_among past.heading t (notes past) place p) s.trust_is
-    ∙ ap (λ (g : Heading). phase_among g Patterns (notes past) place p) s.kept.heading_is
-    ∙ ap (λ (n : List Noted). phase_among heading Patterns n place p) are
-    ∙ noted_phase heading h place p (ap (λ (n : List Noted). events_of n) (sym are) ∙ s.kept.events_are)
+    among.phase_stands past heading h s.kept place p ∙ ap (λ (t : Trust). phase_of heading t h place p) s.trust_is
 
 -- ---- two phases
 

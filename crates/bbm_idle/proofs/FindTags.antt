@@ -10,7 +10,8 @@ use Rattle.bbm_idle.specs.Finding.{IsKnown, passes, taken_passes}
 use Rattle.bbm_idle.proofs.FindLists.{any_flat}
 use mathlib.Core.Bool.{or_assoc, or_self_left}
 use Rattle.bbm_lemmas.proofs.Tests.{any_never, any_same}
-use Rattle.bbm_oracle_tags.proofs.MomentLemmas.{none-at-start, same-readings}
+use Rattle.bbm_oracle_tags.proofs.MomentLemmas.{same-readings}
+use Rattle.bbm_rules.proofs.TagLaw.{no_reading}
 
 -- ---- one more reading
 
@@ -101,7 +102,7 @@ read_before : (heading : Heading) (h : List Event) (root : ℕ) (test : Tag → 
 read_before heading [] root test =
     ap (λ (b : Bool). b || false)
     (any_same (λ p. any (passes root test) (readings heading [] p)) (λ p. false) (below heading.pes)
-    (λ p. ap (λ (rs : List Reading). any (passes root test) rs) (none-at-start heading.world p)) ∙ any_never (below heading.pes))
+    (λ p. ap (λ (rs : List Reading). any (passes root test) rs) (no_reading heading.world p)) ∙ any_never (below heading.pes))
 read_before heading (e ∷ h) root test =
     ap (λ (b : Bool). read_now heading (e ∷ h) (passes root test) || b) (ever_more heading e h root test)
     ∙ or_self_left (read_now heading (e ∷ h) (passes root test)) (any test (ever_read heading root h))

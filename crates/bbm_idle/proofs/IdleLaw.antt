@@ -1,13 +1,13 @@
 -- An event is idle exactly where the sentence says so.
-use Rattle.bbm_idle.proofs.Common.{Phase, Clean, Live, Patterns, answers_needed, is_needed, keeps_phases}
-use Rattle.bbm_idle.proofs.Common.{same_phase, wrote_register}
-use Rattle.bbm_rules.proofs.Common.{◌≡◌, ℕ, Bool, true, false, cond, not, ◌==◌, List, [], ◌∷◌, ◌++◌, Option}
-use Rattle.bbm_rules.proofs.Common.{Some, None, option_and_then, refl, sym, ◌∙◌, ap, subst, true≢false, and_from}
-use Rattle.bbm_rules.proofs.Common.{and_parts, eqb-true, false_from_ne_true, not-true, or_cases, or_left, or_right, inl}
-use Rattle.bbm_rules.proofs.Common.{inr, In, any_finds, any_found, from_contains, to_contains, among, any, every_pe}
-use Rattle.bbm_rules.proofs.Common.{noted, ValidWrite, cleansed_everywhere, last_valid, page_of, Barrier, Heading}
-use Rattle.bbm_rules.proofs.Common.{Event, Dsb, Dmb, Isb, Tlbi, Msr, Reg, completes, unanswered, itself, Node, held_at}
-use Rattle.bbm_rules.proofs.Common.{node_of, written_places}
+use Rattle.bbm_idle.proofs.Common.{Phase, Clean, Live, Patterns, answers_needed, is_needed, keeps_phases, same_phase}
+use Rattle.bbm_idle.proofs.Common.{wrote_register}
+use Rattle.bbm_rules.proofs.Common.{◌≡◌, ℕ, Bool, true, false, cond, not, ◌==◌, List, [], ◌∷◌, ◌++◌, Option, Some, None}
+use Rattle.bbm_rules.proofs.Common.{option_and_then, refl, sym, ◌∙◌, ap, subst, true≢false, and_from, and_parts}
+use Rattle.bbm_rules.proofs.Common.{eqb-true, false_from_ne_true, not-true, or_cases, or_left, or_right, inl, inr, In}
+use Rattle.bbm_rules.proofs.Common.{any_finds, any_found, from_contains, to_contains, among, any, every_pe, noted}
+use Rattle.bbm_rules.proofs.Common.{ValidWrite, cleansed_everywhere, last_valid, page_of, Barrier, Heading, Event, Dsb}
+use Rattle.bbm_rules.proofs.Common.{Dmb, Isb, Tlbi, Msr, Reg, completes, unanswered, itself, Node, held_at, node_of}
+use Rattle.bbm_rules.proofs.Common.{written_places}
 use Rattle.bbm_lemmas.proofs.Bools.{not_from}
 use Rattle.bbm_lemmas.proofs.Every.{every_at, every_from}
 use Rattle.bbm_lemmas.proofs.Words.{among_in, in_among, same_number}
@@ -16,7 +16,8 @@ use Rattle.bbm_rules.specs.declared.phase.Phase.TheVariants.{Broken, Seen, Half,
 use Rattle.bbm_idle.specs.Idle.{is_idle}
 use Rattle.bbm_idle.specs.IdleSentences.{AnswersNeeded, IsIdle, KeepsPhases, WroteRegister}
 use Rattle.bbm_idle.specs.KnownOfIdle.{Terms}
-use Rattle.bbm_idle.proofs.FindLists.{every_in, every_of}
+use Rattle.bbm_idle.proofs.FindLists.{every_of}
+use Rattle.bbm_lemmas.proofs.Elements.{every_in}
 use Rattle.bbm_idle.proofs.Needed.{written_at}
 use Rattle.bbm_idle.proofs.NeededLaw.{needed_complete, needed_sound}
 

@@ -2,14 +2,14 @@
 use Rattle.bbm_idle.proofs.Common.{Phase, Patterns, Alike, SamePatterns, adds, adds_at, adds_since, is_needed}
 use Rattle.bbm_idle.proofs.Common.{is_needed_at, keeps_phases, takes_of, Known, same_phase}
 use Rattle.bbm_rules.proofs.Common.{◌≡◌, ℕ, ◌<◌, Bool, false, cond, ◌&&◌, ◌||◌, ◌==◌, List, ◌∷◌, Option, Some, None}
-use Rattle.bbm_rules.proofs.Common.{option_and_then, option_map_or, Contains, find, is_none, is_some, map, unwrap_or, refl, sym, ◌∙◌}
-use Rattle.bbm_rules.proofs.Common.{ap, result_ok, every_same, scoped_by_vmid, Cover, PlaceView, cover_of}
-use Rattle.bbm_rules.proofs.Common.{takes_whole_tag, desc_of, every_pe, cleansed, half, seen, cover_at, is_global}
-use Rattle.bbm_rules.proofs.Common.{noted, view_at, ValidWrite, last_valid, any, below, every, one_number, Noted}
-use Rattle.bbm_rules.proofs.Common.{events_of, page_of, Heading, Event, Tlbi, Tag, World, Hyp, Kernel, VttbrEl2, Scope}
-use Rattle.bbm_rules.proofs.Common.{reaches, named_scope, tag_number, vmid_of, Declared, roots_of, distinct, ever_read}
-use Rattle.bbm_rules.proofs.Common.{holds_at, tag_set, tags_of, takes_tag, Node, held_at, is_childless, next_of}
-use Rattle.bbm_rules.proofs.Common.{node_of, region_of, written_places}
+use Rattle.bbm_rules.proofs.Common.{option_and_then, option_map_or, Contains, find, is_none, is_some, map, unwrap_or}
+use Rattle.bbm_rules.proofs.Common.{refl, sym, ◌∙◌, ap, result_ok, every_same, scoped_by_vmid, Cover, PlaceView}
+use Rattle.bbm_rules.proofs.Common.{cover_of, takes_whole_tag, desc_of, every_pe, cleansed, half, seen, cover_at}
+use Rattle.bbm_rules.proofs.Common.{is_global, noted, view_at, ValidWrite, last_valid, any, below, every, one_number}
+use Rattle.bbm_rules.proofs.Common.{Noted, events_of, page_of, Heading, Event, Tlbi, Tag, World, Hyp, Kernel, VttbrEl2}
+use Rattle.bbm_rules.proofs.Common.{Scope, reaches, named_scope, tag_number, vmid_of, Declared, roots_of, distinct}
+use Rattle.bbm_rules.proofs.Common.{ever_read, holds_at, tag_set, tags_of, takes_tag, Node, held_at, is_childless}
+use Rattle.bbm_rules.proofs.Common.{next_of, node_of, region_of, written_places}
 use Rattle.bbm_tlbi_scope.specs.declared.entry.Cover.TheVariants.{None as NoCover}
 use Rattle.bbm_rules.specs.Phases.{phase_of}
 use Rattle.bbm_rules.specs.Prelude.{scope_of}

@@ -2,12 +2,12 @@
 use Rattle.bbm_idle.proofs.Common.{Patterns, answered_by, half_after, half_waits, is_tlbi, adds, adds_at, adds_since}
 use Rattle.bbm_idle.proofs.Common.{answers_needed, is_needed, is_needed_at, takes_of, Kind, Known}
 use Rattle.bbm_rules.proofs.Common.{◌≡◌, ℕ, ◌<◌, Bool, true, false, not, ◌&&◌, ◌||◌, List, [], ◌∷◌, ◌++◌, Option, Some}
-use Rattle.bbm_rules.proofs.Common.{option_map_or, Contains, is_none, refl, sym, ◌∙◌, ap, subst}
-use Rattle.bbm_rules.proofs.Common.{true≢false, and_from, and_parts, false_from_ne_true, or_left, or_right, pe_finds}
-use Rattle.bbm_rules.proofs.Common.{In, any_finds, any_found, from_contains, none_of, to_contains, answers, same_bool}
-use Rattle.bbm_rules.proofs.Common.{operation, Cover, Half, keeps, cleansed, flushes, half, same_cover, seen, cover_at}
-use Rattle.bbm_rules.proofs.Common.{noted, ValidWrite, last_valid, any, Noted, events_of, page_of, Barrier, Heading}
-use Rattle.bbm_rules.proofs.Common.{Event, Dsb, Tlbi, Issued, completes, reaches, unanswered, Declared, roots_of, Open}
+use Rattle.bbm_rules.proofs.Common.{option_map_or, Contains, is_none, refl, sym, ◌∙◌, ap, subst, true≢false, and_from}
+use Rattle.bbm_rules.proofs.Common.{and_parts, false_from_ne_true, or_left, or_right, pe_finds, In, any_finds}
+use Rattle.bbm_rules.proofs.Common.{any_found, from_contains, none_of, to_contains, answers, same_bool, operation}
+use Rattle.bbm_rules.proofs.Common.{Cover, Half, keeps, cleansed, flushes, half, same_cover, seen, cover_at, noted}
+use Rattle.bbm_rules.proofs.Common.{ValidWrite, last_valid, any, Noted, events_of, page_of, Barrier, Heading, Event}
+use Rattle.bbm_rules.proofs.Common.{Dsb, Tlbi, Issued, completes, reaches, unanswered, Declared, roots_of, Open}
 use Rattle.bbm_rules.proofs.Common.{completes_for, itself, Node, node_of, written_places}
 use Rattle.std.proofs.lemmas.List.{append_assoc}
 use Rattle.bbm_rules.specs.Broken.{broken}

@@ -1,11 +1,11 @@
 -- A TLBI is needed exactly where the sentence says so.
 use Rattle.bbm_idle.proofs.Common.{Patterns, adds, adds_at, adds_since, is_needed, is_needed_at, takes_of}
-use Rattle.bbm_rules.proofs.Common.{◌≡◌, ℕ, ◌<◌, true, false, not, ◌&&◌, ◌||◌, List, Option, Some, None}
-use Rattle.bbm_rules.proofs.Common.{option_map_or, ◌⊎◌, inl, inr, refl, sym, ◌∙◌, true≢false, and_from, and_parts}
-use Rattle.bbm_rules.proofs.Common.{not-true, or_cases, In, any_finds, any_found, from_contains, to_contains, any}
-use Rattle.bbm_rules.proofs.Common.{Cover, Full, Half, Second, cover_at, noted, cleansed, half, seen, ValidWrite}
-use Rattle.bbm_rules.proofs.Common.{last_valid, Noted, page_of, Heading, Event, Tag, reaches, Declared, roots_of}
-use Rattle.bbm_rules.proofs.Common.{distinct, ever_read, holds_at, takes_tag, Node, node_of, written_places}
+use Rattle.bbm_rules.proofs.Common.{◌≡◌, ℕ, ◌<◌, true, false, not, ◌&&◌, ◌||◌, List, Option, Some, None, option_map_or}
+use Rattle.bbm_rules.proofs.Common.{◌⊎◌, inl, inr, refl, sym, ◌∙◌, true≢false, and_from, and_parts, not-true, or_cases}
+use Rattle.bbm_rules.proofs.Common.{In, any_finds, any_found, from_contains, to_contains, any, Cover, Full, Half}
+use Rattle.bbm_rules.proofs.Common.{Second, cover_at, noted, cleansed, half, seen, ValidWrite, last_valid, Noted}
+use Rattle.bbm_rules.proofs.Common.{page_of, Heading, Event, Tag, reaches, Declared, roots_of, distinct, ever_read}
+use Rattle.bbm_rules.proofs.Common.{holds_at, takes_tag, Node, node_of, written_places}
 use Rattle.bbm_tlbi_scope.specs.declared.entry.Cover.TheVariants.{None as NoCover}
 use Rattle.bbm_alike.proofs.HeldTags.{held_is_listed}
 use Rattle.bbm_lemmas.proofs.Bools.{not_from}

@@ -1,6 +1,6 @@
 -- Bytes of a reader of std, behind those that were read ahead.
-use Rattle.std.proofs.Common.{◌≡◌, ℕ, List, ◌++◌, length, take, drop, slice_range, ◌+◌, ◌-◌, ◌≤◌, arith, Option}
-use Rattle.std.proofs.Common.{None, Some, ap, sym, ◌∙◌, subst, append-nil}
+use Rattle.std.proofs.Common.{◌≡◌, ℕ, List, ◌++◌, length, take, drop, slice_range, ◌+◌, ◌-◌, ◌≤◌, arith, Option, None}
+use Rattle.std.proofs.Common.{Some, ap, sym, ◌∙◌, subst, append-nil}
 use Rattle.std.proofs.lemmas.List.{drop-take, drop-drop, length-take}
 use Rattle.std.proofs.Math.Seq.{take-add}
 use Rattle.std.specs.Io.KnownBytes.{Keeps, Appends, Consumes}

@@ -1,16 +1,12 @@
 -- The least of a list, from its parts.
 use Rattle.bbm_rules.proofs.Common.{◌≡◌, ℕ, ◌+◌, ◌<◌, ◌++◌, ◌∷◌, [], Bool, true, false, cond, List, Option, Some, None}
-use Rattle.bbm_rules.proofs.Common.{min, unwrap_or, option_to_list, length, take, get_or, filter, flat_map, refl, sym}
-use Rattle.bbm_rules.proofs.Common.{◌∙◌, ap, arith, nat_tests, among, if_so, least, repeated}
+use Rattle.bbm_rules.proofs.Common.{min, unwrap_or, length, take, get_or, filter, flat_map, refl, sym, ◌∙◌, ap, arith}
+use Rattle.bbm_rules.proofs.Common.{nat_tests, among, if_so, least, repeated}
 use Rattle.std.proofs.lemmas.Grind.{flat_map-append}
 use Rattle.std.proofs.lemmas.List.{append-nil}
 use Rattle.std.proofs.lemmas.List.Elements.{filter-append}
 use Rattle.bbm_judge.specs.Lesser.{is_at_most, lesser}
-use Rattle.bbm_judge.proofs.Lists.{taken_more}
-
-pub lesser_none : (one : Option ℕ) → lesser one None ≡ one
-lesser_none None = refl
-lesser_none (Some n) = let e : min n n ≡ n = omega arith in ap (λ (m : ℕ). Some m) e
+use Rattle.bbm_lemmas.proofs.Elements.{taken_more}
 
 lesser_assoc : (a b c : Option ℕ) → lesser (lesser a b) c ≡ lesser a (lesser b c)
 lesser_assoc None b c = refl
@@ -25,11 +21,6 @@ pub least_append : (a b : List ℕ) → least (a ++ b) ≡ lesser (least a) (lea
 least_append [] b = refl
 least_append (n ∷ a) b =
     ap (λ (o : Option ℕ). lesser (Some n) o) (least_append a b) ∙ sym (lesser_assoc (Some n) (least a) (least b))
-
--- the least behind a number that may be missing
-pub least_behind : (one : Option ℕ) (ms : List ℕ) → least (option_to_list one ++ ms) ≡ lesser one (least ms)
-least_behind None ms = refl
-least_behind (Some n) ms = refl
 
 -- a number where the test holds is the least of a list of it alone
 least_one : (b : Bool) (x : ℕ) → if_so b x ≡ least (cond b (x ∷ []) [])

@@ -1,7 +1,6 @@
 -- The notes of kept events: how many there are, and those of a list that is joined from two.
 use Rattle.bbm_rules.proofs.Common.{◌≡◌, ℕ, suc, ◌+◌, List, [], ◌∷◌, ◌++◌, length, refl, ◌∙◌, ap, arith, Noted}
-use Rattle.bbm_rules.proofs.Common.{events_of}
-use Rattle.bbm_rules.proofs.Common.{length-append}
+use Rattle.bbm_rules.proofs.Common.{events_of, length-append}
 use Rattle.bbm_oracle_patterns.specs.Kept.{note_of, notes_behind, notes_of}
 use Rattle.bbm_oracle_patterns.specs.declared.kept.Kept.{Kept}
 

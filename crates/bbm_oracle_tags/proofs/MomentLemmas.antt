@@ -1,16 +1,18 @@
 -- What is readable at a moment: by the lists that are kept, at the start, and after an event that changes nothing of
 -- it.
 use Rattle.bbm_rules.proofs.Common.{◌≡◌, ℕ, ◌+◌, ◌<◌, false, ◌||◌, List, [], ◌∷◌, ◌++◌, length, take, get_or, Option}
-use Rattle.bbm_rules.proofs.Common.{Some, None, refl, sym, ap, ◌∙◌, true≢false, append_assoc, cons_option, take_more}
-use Rattle.bbm_rules.proofs.Common.{filter_map-append, AsidFrom, FromTtbr0, FromTtbr1, Ttbr0El1, Ttbr1El1, Ttbr1Tag}
-use Rattle.bbm_rules.proofs.Common.{World, Hyp, Kernel, Reg, Heading, Event, Root, Unroot, Isb, Msr, Tag, changes}
-use Rattle.bbm_rules.proofs.Common.{register_values, Declared, roots_of, Reading, asid_readings, readings_in}
-use Rattle.bbm_rules.proofs.Common.{readings_of, reads, reads_for_some}
+use Rattle.bbm_rules.proofs.Common.{refl, sym, ap, ◌∙◌, true≢false, append_assoc, take_more, filter_map-append}
+use Rattle.bbm_rules.proofs.Common.{AsidFrom, FromTtbr0, FromTtbr1, Ttbr0El1, Ttbr1El1, Ttbr1Tag, World, Hyp, Kernel}
+use Rattle.bbm_rules.proofs.Common.{Reg, Heading, Event, Root, Unroot, Isb, Msr, Tag, changes, register_values}
+use Rattle.bbm_rules.proofs.Common.{Declared, roots_of, Reading, asid_readings, readings_in, readings_of, reads}
+use Rattle.bbm_rules.proofs.Common.{reads_for_some}
 use Rattle.std.specs.List.{filter_map}
 use Rattle.std.specs.Option.{option_to_list}
 use Rattle.bbm_oracle_tags.specs.Moments.{IsMoment, asid_readings_by, first_reg, second_reg, readings_by, is_read}
 use Rattle.bbm_oracle_tags.specs.Moments.{is_read_for_some}
 use Rattle.bbm_oracle_tags.specs.declared.moment.Moment.{Moment}
+use Rattle.bbm_rules.proofs.TagLaw.{no_reading}
+use Rattle.bbm_lemmas.proofs.Elements.{one_option}
 
 asid-readings-by : (from : AsidFrom) (h : List Event) (p : ℕ)
     → asid_readings from h p ≡ asid_readings_by from (roots_of h) (register_values h p Ttbr0El1)
@@ -27,15 +29,6 @@ readings-by (Kernel world) h p = ap (λ own. own ++ readings_of h p Ttbr1El1 (λ
 pub moment-readings : (world : World) (h : List Event) (p : ℕ) (m : Moment) → IsMoment world p h m
     → readings_by world m.roots.items m.first.items m.second.items ≡ readings_in world h p
 moment-readings world h p m k = rw (k.roots, k.first, k.second) (sym (readings-by world h p))
-
--- at the start
-pub none-at-start : (world : World) (p : ℕ) → readings_in world [] p ≡ []
-none-at-start (Hyp world) p = refl
-none-at-start (Kernel world) p = by_register world.asid_from
-  where
-    by_register : (from : AsidFrom) → asid_readings from [] p ++ readings_of [] p Ttbr1El1 (λ value. Ttbr1Tag) ≡ []
-    by_register FromTtbr0 = refl
-    by_register FromTtbr1 = refl
 
 -- an event that changes neither roots nor registers
 pub same-roots : (e : Event) (h : List Event) → ((changes e).roots || (changes e).registers) ≡ false
@@ -77,13 +70,9 @@ same-reads-some heading e h p tag k = ap (λ (rs : List Reading). is_read_for_so
     (same-readings heading.world e h p k)
 
 pub reads-nothing : (heading : Heading) (p : ℕ) (tag : Tag) (root : ℕ) → reads heading [] p tag root ≡ false
-reads-nothing heading p tag root = ap (λ (rs : List Reading). is_read rs tag root) (none-at-start heading.world p)
+reads-nothing heading p tag root = ap (λ (rs : List Reading). is_read rs tag root) (no_reading heading.world p)
 
 -- one more value, and what it lets read
-cons-nothing : {Y : Type 0} (o : Option Y) → cons_option o [] ≡ option_to_list o
-cons-nothing None = refl
-cons-nothing (Some y) = refl
-
 pub readings-more : {Y : Type 0} (f : ℕ → Option Y) (xs : List ℕ) (i : ℕ) (now old start : List Y) → i < length xs
     → old ≡ start ++ filter_map f (take i xs) → now ≡ old ++ option_to_list (f (get_or xs i 0))
     → now ≡ start ++ filter_map f (take (i + 1) xs)
@@ -93,7 +82,7 @@ readings-more {Y} f xs i now old start lt before here =
     ∙ append_assoc start (filter_map f (take i xs)) (option_to_list (f (get_or xs i 0)))
     ∙ ap (λ (ys : List Y). start ++ ys) (sym (ap (λ (zs : List ℕ). filter_map f zs) (take_more xs i 0 lt)
     ∙ filter_map-append f (take i xs) (get_or xs i 0 ∷ [])
-    ∙ ap (λ (ys : List Y). filter_map f (take i xs) ++ ys) (cons-nothing (f (get_or xs i 0)))))
+    ∙ ap (λ (ys : List Y). filter_map f (take i xs) ++ ys) (one_option (f (get_or xs i 0)))))
 
 -- the two tests of what is readable, by the lists that are kept
 pub reads-by : (heading : Heading) (h : List Event) (p : ℕ) (m : Moment) (rs : List Reading) (tag : Tag) (root : ℕ)

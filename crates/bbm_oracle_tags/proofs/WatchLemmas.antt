@@ -1,10 +1,9 @@
 -- One more event, and the TLBIs that the PEs await of it.
-use Rattle.bbm_rules.proofs.Common.{◌≡◌, ℕ, suc, ◌<◌, ◌≤◌, Bool, true, false, not, ◌&&◌, ◌||◌, cond, ◌==◌, nat_le, List}
-use Rattle.bbm_rules.proofs.Common.{[], ◌∷◌, length, refl, sym, ap, ◌∙◌, arith, true≢false, le-leb, leb-true}
-use Rattle.bbm_rules.proofs.Common.{any-filter_same, proved, Is, answers, operation, Barrier, Heading, Event, Dsb, Tlbi}
-use Rattle.bbm_rules.proofs.Common.{Tag, any, Issued, completes, left_open, reaches, unanswered, holds_at, itself}
-use Rattle.bbm_rules.proofs.Common.{loses, read_since, reads, reads_for_some, takes_tag, and-false, and-true, and_comm}
-use Rattle.bbm_rules.proofs.Common.{first_true}
+use Rattle.bbm_rules.proofs.Common.{◌≡◌, ℕ, suc, ◌<◌, ◌≤◌, Bool, true, false, not, ◌&&◌, ◌||◌, cond, ◌==◌, List, []}
+use Rattle.bbm_rules.proofs.Common.{◌∷◌, length, refl, sym, ap, ◌∙◌, arith, true≢false, le-leb, any-filter_same, proved}
+use Rattle.bbm_rules.proofs.Common.{Is, answers, operation, Barrier, Heading, Event, Dsb, Tlbi, Tag, any, Issued}
+use Rattle.bbm_rules.proofs.Common.{completes, left_open, reaches, unanswered, holds_at, itself, loses, read_since}
+use Rattle.bbm_rules.proofs.Common.{reads, reads_for_some, takes_tag, and-false, and-true, and_comm, first_true}
 use Rattle.bbm_regimes.specs.PeMask.{pe_in}
 use Rattle.bbm_rules.specs.Claims.{Patterns}
 use Rattle.bbm_rules.specs.Tags.{is_taken_by}
@@ -14,6 +13,7 @@ use Rattle.bbm_oracle_tags.proofs.BoolLemmas.{read-later, read-now, taken-broadc
 use Rattle.bbm_oracle_tags.proofs.MomentLemmas.{same-reads-some}
 use mathlib.Core.Bool.{or_self_left}
 use Rattle.bbm_lemmas.proofs.Bools.{ands_of_first, never_of_two, both_of_two}
+use Rattle.bbm_rules.proofs.TagLaw.{unread_yet}
 
 -- each of the TLBIs was issued before so many events had come
 abbrev older : ℕ → List (Issued Event) → Type 0
@@ -65,18 +65,6 @@ sorted true dsb e k = absurd (true≢false (sym k))
 sorted false dsb e k = absurd (true≢false (sym k))
 
 module _ (heading : Heading) (p : ℕ) (tag : Tag) where
-  -- nothing is read after as many events as came
-  unread : (n : ℕ) (h : List Event) → length h ≤ n → read_since heading n p tag h ≡ false
-  unread n [] le = refl
-  unread n (e ∷ h) le =
-      ap (λ (b : Bool). (b && reads_for_some heading (e ∷ h) p tag) || read_since heading n p tag h)
-      (late (nat_le n (length h)) refl)
-      ∙ unread n h (omega arith)
-    where
-      late : (b : Bool) → nat_le n (length h) ≡ b → nat_le n (length h) ≡ false
-      late true e = let k : n ≤ length h = leb-true n (length h) e in absurd (omega arith)
-      late false e = e
-
   -- one more moment
   read-next : (n : ℕ) (e : Event) (h : List Event) → n ≤ length h
       → read_since heading n p tag (e ∷ h) ≡ (reads_for_some heading (e ∷ h) p tag || read_since heading n p tag h)
@@ -122,7 +110,7 @@ module _ (heading : Heading) (p : ℕ) (tag : Tag) where
   takes-first e h cast =
       ap (λ (b : Bool). is_cast cast e && (reaches heading e p && (takes_tag heading e h tag && not b)))
       (read-next (length h) e h (omega arith) ∙ ap (λ (b : Bool). reads_for_some heading (e ∷ h) p tag || b)
-      (unread (length h) h (omega arith)))
+      (unread_yet heading p tag (length h) h (omega arith)))
       ∙ read-now (is_cast cast e) (reaches heading e p) (takes_tag heading e h tag)
       (reads_for_some heading (e ∷ h) p tag)
 

@@ -52,9 +52,9 @@ found_passes {X} test other (y ∷ ys) x found none =
     by_test false e found later = later found
 
 -- one more item of a list whose items may give nothing
-pub filter_map_more : {X Y : Type 0} (f : X → Option Y) (front : List Y) (xs : List X) (i : ℕ) (x : X) → i < length xs →
+pub filter_map_behind : {X Y : Type 0} (f : X → Option Y) (front : List Y) (xs : List X) (i : ℕ) (x : X) → i < length xs →
     x ≡ get_or xs i x → (front ++ filter_map f (take i xs)) ++ option_to_list (f x) ≡ front ++ filter_map f (take (i + 1) xs)
-filter_map_more {X} {Y} f front xs i x lt is =
+filter_map_behind {X} {Y} f front xs i x lt is =
     append_assoc front (filter_map f (take i xs)) (option_to_list (f x))
     ∙ ap (λ (ys : List Y). front ++ (filter_map f (take i xs) ++ ys)) (one (f x))
     ∙ ap (λ (ys : List Y). front ++ ys) (sym (filter_map-append f (take i xs) (x ∷ [])))

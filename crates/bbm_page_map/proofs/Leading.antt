@@ -1,9 +1,7 @@
 -- What the slots lead to is the number of each page's entry.
 use Rattle.std.proofs.Common.{◌≡◌, ◌∙◌, ℕ, zero, suc, ◌+◌, ◌-◌, ◌*◌, ◌/◌, ◌%◌, ◌^◌, ◌<◌, ◌≤◌, ◌⊎◌, inl, inr, Bool, true}
-use Rattle.std.proofs.Common.{false, List, [], ◌∷◌, ◌++◌}
-use Rattle.std.proofs.Common.{length, if◌then◌else◌, nat_eq, nat_lt, nat_le, refl, sym, ap, subst, arith, Option, Some}
-use Rattle.std.proofs.Common.{None, is_some, slice_get}
-use Rattle.std.proofs.Common.{get_or, vec_len, vec_capacity, ◌&&◌}
+use Rattle.std.proofs.Common.{false, List, [], ◌∷◌, ◌++◌, length, if◌then◌else◌, nat_eq, nat_lt, nat_le, refl, sym, ap}
+use Rattle.std.proofs.Common.{subst, arith, Option, Some, None, is_some, slice_get, get_or, vec_len, vec_capacity, ◌&&◌}
 use Rattle.std.proofs.lemmas.Bool.{and_parts, eqb-true, leb-true, ltb-true, ne_eqb}
 use Rattle.std.proofs.lemmas.Cmp.{nat_eq_equiv}
 use Rattle.std.proofs.lemmas.List.{get_or_past}

@@ -14,6 +14,7 @@ use Rattle.bbm_descriptor.specs.declared.walk.Walk.{Walk}
 use Rattle.bbm_events.specs.Heading.{Heading}
 use Rattle.bbm_report.specs.Further.{Found, root_of}
 use Rattle.bbm_report.specs.declared.questions.Question.{Question}
+use Rattle.bbm_rules.proofs.SameRegister.{kind_equal}
 
 every_kept : {A : Type 0} (test keep : A → Bool) (xs : List A) → list_all test xs ≡ true → list_all test (filter keep xs) ≡ true
 every_kept test keep [] k = refl
@@ -25,13 +26,6 @@ every_kept {A} test keep (x ∷ xs) k =
         → list_all test (cond b (x ∷ filter keep xs) (filter keep xs)) ≡ true
     by true here rest = and_from (test x) (list_all test (filter keep xs)) here rest
     by false here rest = rest
-
-kind_is : (k l : Kind) → same_kind k l ≡ true → k ≡ l
-kind_is El2 El2 e = refl
-kind_is S2 S2 e = refl
-kind_is Ttbr0 Ttbr0 e = refl
-kind_is Ttbr1 Ttbr1 e = refl
-kind_is _ _ e = absurd (true≢false (sym e))
 
 module _ (heading : Heading) where
   abbrev fits_root : Declared → Bool
@@ -58,7 +52,7 @@ module _ (heading : Heading) where
       elim (or_cases (is_at page r && same_kind r.kind kind) (any (λ r. is_at page r && same_kind r.kind kind) rs) found) [
         | inl here ↦
             let same = and_parts (is_at page r) (same_kind r.kind kind) here in
-            subst (λ (l : Kind). is_root_page heading.world l page ≡ true) (kind_is r.kind kind same.1)
+            subst (λ (l : Kind). is_root_page heading.world l page ≡ true) (kind_equal r.kind kind same.1)
             (subst (λ (n : ℕ). is_root_page heading.world r.kind n ≡ true) (eqb-true r.page page same.0) parts.0)
         | inr there ↦ one_of kind page rs parts.1 there
       ]

@@ -6,11 +6,11 @@ use Rattle.bbm_texts.proofs.Common.{PageInUse, NoRoot, TagConflict, RootInUse, U
 use Rattle.bbm_texts.proofs.Common.{LockNotMine, Verdict, Accepted, Refused, Malformed, Limit, refused_write, step_line}
 use Rattle.bbm_texts.proofs.Common.{step_lines, Show, Counterrun, ended, MayShowEvidence, status_of, Keeps, KnowsThat}
 use Rattle.bbm_texts.proofs.Common.{TellsEvent, Pours, Puts, ReportsDecided, ReportsText, Wrote, Step}
-use Rattle.bbm_rules.proofs.Common.{◌≡◌, ℕ, zero, suc, ◌+◌, ◌<◌, true, Bool, List, [], ◌∷◌, ◌++◌, length, map}
-use Rattle.bbm_rules.proofs.Common.{take, drop, get_or, reverse, Option, Some, None, Result, Err, refl, ap, sym, ◌∙◌}
-use Rattle.bbm_rules.proofs.Common.{subst, append_assoc, append-nil, IfSome, option_map, inl, inr, false≢true}
-use Rattle.bbm_rules.proofs.Common.{length-reverse, reverse-append, reverse-reverse, take-append-drop, take_more}
-use Rattle.bbm_rules.proofs.Common.{AllPass-from_list_all, and_from, fits_heading, Combine, Drop}
+use Rattle.bbm_rules.proofs.Common.{◌≡◌, ℕ, zero, suc, ◌+◌, ◌<◌, true, Bool, List, [], ◌∷◌, ◌++◌, length, map, take}
+use Rattle.bbm_rules.proofs.Common.{drop, get_or, reverse, Option, Some, None, Result, Err, refl, ap, sym, ◌∙◌, subst}
+use Rattle.bbm_rules.proofs.Common.{append_assoc, append-nil, IfSome, option_map, inl, inr, false≢true, length-reverse}
+use Rattle.bbm_rules.proofs.Common.{reverse-append, reverse-reverse, take-append-drop, take_more, AllPass-from_list_all}
+use Rattle.bbm_rules.proofs.Common.{and_from, fits_heading, Combine, Drop}
 use Rattle.std.proofs.Common.{All}
 use Rattle.std.proofs.lemmas.List.Elements.{All-append, All-cons, All-drop, All-head, All-map, All-nil, All-push}
 use Rattle.std.proofs.lemmas.List.Elements.{All-tail, All-take}

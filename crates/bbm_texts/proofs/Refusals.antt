@@ -4,13 +4,14 @@ use Rattle.bbm_texts.proofs.Common.{Rule, Verdict, Accepted, Refused, Malformed,
 use Rattle.bbm_texts.proofs.Common.{BreakBeforeMake, LimboMake, NotFresh, RewrittenFresh, BadKind, GlobalUser}
 use Rattle.bbm_texts.proofs.Common.{PageInUse, NoRoot, TagConflict, RootInUse, UnsyncedVmid, BadOperand, LockBusy}
 use Rattle.bbm_texts.proofs.Common.{LockNotMine, Patterns, Keeps, Knows, KnowsThat, TellsEvent}
-use Rattle.bbm_rules.proofs.Common.{option_map_or, ◌≡◌, ◌⊎◌, ℕ, Bool, true, false, ◌&&◌, List, [], ◌∷◌, Option, Some}
-use Rattle.bbm_rules.proofs.Common.{None, refl, ap, ◌∙◌, subst, inl, inr, proved, If, Is, fits_heading, is_pe, is_place}
-use Rattle.bbm_rules.proofs.Common.{is_value, Breach, breaks, first_broken, noted, ◌>>=◌, if_so, Noted, page_of}
+use Rattle.bbm_rules.proofs.Common.{option_map_or, ◌≡◌, ◌⊎◌, ℕ, Bool, true, ◌&&◌, List, [], ◌∷◌, Option, Some, None}
+use Rattle.bbm_rules.proofs.Common.{refl, ap, ◌∙◌, subst, inl, inr, proved, If, Is, fits_heading, is_pe, is_place}
+use Rattle.bbm_rules.proofs.Common.{is_value, Breach, breaks, first_broken, noted, ◌>>=◌, Noted, page_of}
 use Rattle.bbm_rules.proofs.Common.{break_before_make, node_of, held_at}
 use Rattle.bbm_events.specs.declared.event.Event.{Event as EventOf}
 use Rattle.bbm_rules.specs.Broken.{rules, broken}
 use Rattle.bbm_texts.specs.Known.{NamesPlace}
+use Rattle.bbm_rules.proofs.PhaseLaw.{if_at}
 
 module _ (heading : Heading) (h : List Noted) (e : EventOf) where
   -- where the rule of a breach is broken at its number, or one behind it is
@@ -37,16 +38,12 @@ bound : {A : Type 0} (found : Option A) (place at : ℕ) (f : A → Option ℕ) 
 bound None place at f each is = cc
 bound (Some x) place at f each is = each x is
 
-only-so : (test : Bool) (place at : ℕ) → if_so test place ≡ Some at → place ≡ at
-only-so true place at is = cc
-only-so false place at is = cc
-
 middle : (a b c : Bool) → (a && b && c) ≡ true → b ≡ true
 middle = proved 3 (λ a b c. If (Is (a && b && c) true) (Is b true)) refl
 
 same-place : (heading : Heading) (h : List Noted) (pe place value at : ℕ) → break_before_make heading Patterns h (Write pe place value) ≡ Some at → place ≡ at
 same-place heading h pe place value at is =
-    bound (node_of heading Patterns h (page_of place)) place at _ (λ n. bound (held_at heading Patterns h n place) place at _ (λ old. only-so _ place at)) is
+    bound (node_of heading Patterns h (page_of place)) place at _ (λ n. bound (held_at heading Patterns h n place) place at _ (λ old. if_at _ place at)) is
 
 place-of : (heading : Heading) (h : List Noted) (e : EventOf) (at : ℕ) → fits_heading heading e ≡ true
     → break_before_make heading Patterns h e ≡ Some at → is_place at ≡ true

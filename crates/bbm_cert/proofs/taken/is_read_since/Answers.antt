@@ -1,6 +1,7 @@
 use Rattle.bbm_rules.proofs.Common.{take, reverse, sym, ◌∙◌, arith, Isb}
 use Rattle.bbm_cert.proofs.Kepts.{length_before}
-use Rattle.bbm_cert.proofs.Takers.{read_there, unread_more, unread_yet}
+use Rattle.bbm_cert.proofs.Takers.{read_there, unread_more}
+use Rattle.bbm_rules.proofs.TagLaw.{unread_yet}
 use Rattle.bbm_cert.proofs.taken.is_read_since.Goals as goal
 
 pub loop-i-init : goal.loop-i-init

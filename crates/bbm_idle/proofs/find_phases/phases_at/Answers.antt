@@ -1,7 +1,8 @@
 use Rattle.bbm_idle.proofs.Common.{Patterns, notes_of, phase_at, Kept, notes}
 use Rattle.bbm_rules.proofs.Common.{◌≡◌, ℕ, List, Some, None, reverse, ap, sym, ◌∙◌, events_of, page_of, Heading, Event}
 use Rattle.bbm_rules.proofs.Common.{Node, node_of, value_of}
-use Rattle.bbm_idle.proofs.FindPhases.{at_node, at_no_node, phase_stands}
+use Rattle.bbm_idle.proofs.FindPhases.{at_node, phase_stands}
+use Rattle.bbm_oracle_trees.proofs.Phasing.{phase_nowhere}
 use Rattle.bbm_idle.proofs.find_phases.phases_at.Goals as goal
 
 pub returns-in-Some : goal.returns-in-Some
@@ -26,4 +27,4 @@ returns-in-None c = λ heading h s p.
     let past = c.args.history.now in
     let nowhere : node_of past.heading past.trust (notes past) (page_of c.args.place) ≡ None =
     sym (rw c.page.ensures at c.in-None.ensures) in
-    at_no_node past.heading past.trust (notes past) c.args.place p nowhere ∙ phase_stands past heading h s c.args.place p
+    phase_nowhere past.heading past.trust (notes past) c.args.place p nowhere ∙ phase_stands past heading h s c.args.place p

@@ -1,6 +1,6 @@
 use Rattle.bbm_rules.proofs.Common.{arith, events_of, next_of, value_of}
 use Rattle.bbm_oracle_trees.specs.Past.{notes}
-use Rattle.bbm_judge.proofs.Lists.{filter_map_more}
+use Rattle.bbm_lemmas.proofs.Elements.{filter_map_more}
 use Rattle.bbm_judge.proofs.ends.next_pages.Goals as goal
 
 pub loop-place-preserved : goal.loop-place-preserved
