@@ -1,12 +1,10 @@
 -- The parts of a line at the front of some bytes, put together.
-use Rattle.bbm_log_grammar.proofs.Common.{◌≡◌, ◌≢◌, ℕ, zero, suc, ◌+◌, ◌-◌, ◌*◌, ◌/◌, ◌%◌, ◌<◌, ◌≤◌, Bool, true}
-use Rattle.bbm_log_grammar.proofs.Common.{false, cond, List, [], ⊤, arith, take-append-drop, length-take, le-leb}
-use Rattle.bbm_log_grammar.proofs.Common.{take_all, take_rest}
-use Rattle.bbm_log_grammar.proofs.Common.{digit_value, list_all, Full, Inner, Non, Dsb, All, Loads, Stores, Event}
-use Rattle.bbm_log_grammar.proofs.Common.{item_fits, Heading, is_label, is_label_byte, event_fields, joined, dsb_word}
-use Rattle.bbm_log_grammar.proofs.Common.{op_word, reg_word, Reg, Ttbr0El2, VttbrEl2, Ttbr0El1, Ttbr1El1, TlbiOp}
-use Rattle.bbm_log_grammar.proofs.Common.{Vae2is, Vale2is, Vae1is, Vale1is, Ipas2e1is, Vmalle1is, Vmalls12e1is}
-use Rattle.bbm_log_grammar.proofs.Common.{Vaale1is, Alle2is, Aside1is, is_lower_digit}
+use Rattle.bbm_log_grammar.proofs.Common.{◌≡◌, ◌≢◌, ℕ, zero, suc, ◌+◌, ◌-◌, ◌*◌, ◌/◌, ◌%◌, ◌<◌, ◌≤◌, Bool, true, false}
+use Rattle.bbm_log_grammar.proofs.Common.{cond, List, [], ⊤, arith, take-append-drop, length-take, le-leb, take_all}
+use Rattle.bbm_log_grammar.proofs.Common.{take_rest, digit_value, list_all, Inner, Dsb, All, Stores, Event, item_fits}
+use Rattle.bbm_log_grammar.proofs.Common.{Heading, is_label, is_label_byte, event_fields, joined, dsb_word, op_word}
+use Rattle.bbm_log_grammar.proofs.Common.{reg_word, Reg, TlbiOp, Vae2is, Vale2is, Vae1is, Vale1is, Ipas2e1is, Vmalle1is}
+use Rattle.bbm_log_grammar.proofs.Common.{Alle2is, is_lower_digit}
 use Rattle.std.proofs.Common.{Fits, w8, append_assoc, append-nil, length-append}
 use Rattle.std.proofs.Common.{
   ◌∷◌,

@@ -180,8 +180,8 @@ pub fn kind_named(field: &[u8]) -> Option<Kind>
     named(&KINDS, field)
 }
 
-/// The registers.
-pub(crate) const REGS: [Reg; 4] = [Reg::Ttbr0El2, Reg::VttbrEl2, Reg::Ttbr0El1, Reg::Ttbr1El1];
+/// The registers, the usual ones first.
+pub(crate) const REGS: [Reg; 4] = [Reg::Ttbr0El1, Reg::VttbrEl2, Reg::Ttbr1El1, Reg::Ttbr0El2];
 
 impl Worded for Reg {
     ghost word_of = { words.reg_word };

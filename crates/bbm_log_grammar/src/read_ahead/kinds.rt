@@ -18,9 +18,10 @@ ghost use Rattle.bbm_tlbi_scope.specs.Operations.{has_operand};
 use crate::line::LabelText;
 use crate::read_ahead::front::{decimal_ahead, end_ahead, hex_ahead, pe_ahead, word_ahead};
 use crate::values::lock_of;
+use crate::words::REGS;
 use bbm_barriers::{Domain, Dsb, Types};
 use bbm_events::{Event, Header, Keyword, has_op, law_written_is_a_line, law_written_is_read};
-use bbm_regimes::{Page, Pe, Place, Reg};
+use bbm_regimes::{Page, Pe, Place};
 use bbm_tlbi_scope::TlbiOp;
 
 /// So many bytes have the longest event of these in them, and more: a write takes at most 43.
@@ -276,9 +277,6 @@ impl Front for Isbs {
 /// Register writes, locks, pages that are initialised, DMBs, and DSBs and TLBIs of a few options and operations more.
 #[derive(Drop)]
 pub struct ByWord;
-
-/// The registers, the usual ones first.
-const REGS: [Reg; 4] = [Reg::Ttbr0El1, Reg::VttbrEl2, Reg::Ttbr1El1, Reg::Ttbr0El2];
 
 /// The operations that are less usual.
 const OPS: [TlbiOp; 3] = [TlbiOp::Aside1is, TlbiOp::Vaale1is, TlbiOp::Vmalls12e1is];
