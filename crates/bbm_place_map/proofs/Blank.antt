@@ -2,10 +2,10 @@
 use Rattle.bbm_place_map.proofs.Common.{◌≡◌, ℕ, ◌+◌, ◌*◌, ◌/◌, ◌%◌, ◌<◌, List, Option, Some, None, refl, ap, sym, ◌∙◌}
 use Rattle.bbm_place_map.proofs.Common.{nat_eq, none-some, get, number_of, slot_in, value_in, entry_of, marks_of}
 use Rattle.bbm_place_map.proofs.Common.{marks_in, Linked, at_index, index_of, starts, Entry, PlaceMap}
-use Rattle.bbm_place_map.specs.Map.{marks_at, value_at}
 use Rattle.bbm_place_map.proofs.Parts.{number_zero, start_is}
 use Rattle.bbm_place_map.proofs.Places.{cell_of, eighth_at, index_from, index_none, number_at, number_below, page_at}
 use Rattle.bbm_place_map.proofs.Positions.{found}
+use Rattle.bbm_place_map.specs.Map.{marks_at, value_at}
 
 -- a cell has no entry where its place isn't broken
 module _ (cells : List ℕ) (entries : List Entry) (linked : Linked cells entries) where

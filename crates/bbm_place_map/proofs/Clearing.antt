@@ -1,24 +1,20 @@
 -- A place, or all places of a page, that aren't broken any more.
-use Rattle.bbm_place_map.proofs.Common.{◌≡◌, ℕ, ◌/◌, ◌≤◌, ◌<◌, Bool, true, false, List, Some, None, nat_eq, ap}
-use Rattle.bbm_place_map.proofs.Common.{refl, sym, subst, arith, inl, inr, cases_Bool, eqb-true, ◌∙◌, vec_len}
-use Rattle.bbm_place_map.proofs.Common.{vec_capacity, if◌then◌else◌, cond-false}
-use Rattle.bbm_place_map.proofs.Common.{cond-true, Vec, Global, get, cell_by, in_part, is_at, slot_in, entry_in}
-use Rattle.bbm_place_map.proofs.Common.{marks_of, no_pends, page_of, pends_of, place_cell, marks_in, pends_for, IsIdle}
-use Rattle.bbm_place_map.proofs.Common.{Linked, Numbered, Parted, Placed, at_index, index_of, starts, Entry, PlaceMap}
+use Rattle.bbm_place_map.proofs.Common.{◌≡◌, ℕ, ◌/◌, ◌≤◌, ◌<◌, Bool, true, false, List, Some, None, nat_eq, ap, refl}
+use Rattle.bbm_place_map.proofs.Common.{sym, subst, arith, eqb-true, ◌∙◌, vec_len, vec_capacity, if◌then◌else◌}
+use Rattle.bbm_place_map.proofs.Common.{cond-false, cond-true, Vec, Global, get, cell_by, in_part, is_at, slot_in}
+use Rattle.bbm_place_map.proofs.Common.{entry_in, marks_of, no_pends, page_of, pends_of, place_cell, marks_in}
+use Rattle.bbm_place_map.proofs.Common.{pends_for, IsIdle, Linked, Numbered, Parted, Placed, at_index, index_of, starts}
+use Rattle.bbm_place_map.proofs.Common.{Entry, PlaceMap, position_at, Option, Frees, SameSize, Work, split_by, if_then}
 use Rattle.std.proofs.Common.{◌^◌}
-use Rattle.bbm_place_map.specs.Map.{marks_at, pends_at}
-use Rattle.bbm_place_map.specs.MapCalls.{Frees}
 use Rattle.bbm_place_map.specs.Puts.{Clears}
-use Rattle.bbm_place_map.specs.Sound.{CanBreak, FewLinked, SameSize}
+use Rattle.bbm_place_map.specs.Sound.{CanBreak, FewLinked}
 use Rattle.bbm_place_map.specs.Works.{Listed}
-use Rattle.bbm_place_map.specs.declared.work.Work.{Work}
 use Rattle.bbm_place_map.proofs.Idle.{idle_from}
 use Rattle.bbm_place_map.proofs.Listing.{gone_or_same, listed_fewer}
-use Rattle.bbm_place_map.proofs.Pages.{lose_marks, lose_pends}
-use Rattle.bbm_place_map.proofs.Parts.{at_maybe, at_part, cell_here, none_marks, none_pends}
+use Rattle.bbm_place_map.proofs.Parts.{at_maybe, at_part, cell_here, none_marks, none_pends, start_is, column}
 use Rattle.bbm_place_map.proofs.Places.{index_inside, index_none}
 use Rattle.bbm_place_map.proofs.Positions.{linked_seated, placed_seated}
-use Rattle.bbm_place_map.proofs.Common.{position_at}
+use Rattle.bbm_place_map.specs.Map.{marks_at, pends_at}
 
 -- cells and entries of a map can be edited
 pub able : (map : PlaceMap) → FewLinked map.cells map.broken
@@ -75,7 +71,7 @@ pub fits_cleared : (map : PlaceMap) (values cells : Vec ℕ Global) (broken : Ve
 fits_cleared map values cells broken these many e =
     fits_with map values cells broken map.work many e.sound.len e.sound.space e.sound.room e.sound.linked
     (e.sound.placed (starts (get nat_eq map.pages) map.parts.items) map.placed)
-    (listed_fewer map.work map.work map.cells.items cells.items map.broken.items broken.items refl refl
+    (listed_fewer map.work map.work.unpublished map.work.waiting map.cells.items cells.items map.broken.items broken.items
     (λ wide q j holds. holds) (λ wide q j holds. holds)
     (λ j. gone_or_same (these j) (entry_in map.cells.items map.broken.items j) (entry_in cells.items broken.items j) (e.entries j))
     map.listed)
@@ -95,80 +91,54 @@ pub record AtPlaces (gone : ℕ → Bool) (map : PlaceMap) (cells : List ℕ) (b
   pub pends : (q a : ℕ) → gone a ≡ false → at_index no_pends (pends_for cells broken q) (place_cell map a) ≡ pends_at map q a
   pub dropped : (q a : ℕ) → gone a ≡ true → IsIdle (at_index no_pends (pends_for cells broken q) (place_cell map a))
 
+column_at : {X : Type 0} (f : Option Entry → X) (gone : ℕ → Bool) (map : PlaceMap) (cells : List ℕ) (broken : List Entry) (a : ℕ)
+    → at_index None (entry_in cells broken) (place_cell map a)
+    ≡ (if gone a then None else at_index None (entry_in map.cells.items map.broken.items) (place_cell map a))
+    → at_index (f None) (λ j. f (entry_in cells broken j)) (place_cell map a)
+    ≡ (if gone a then f None else at_index (f None) (λ j. f (entry_in map.cells.items map.broken.items j)) (place_cell map a))
+column_at f gone map cells broken a is =
+    column f cells broken (place_cell map a) ∙ ap f is
+    ∙ if_then f (gone a) None (at_index None (entry_in map.cells.items map.broken.items) (place_cell map a))
+    ∙ ap (λ x. if gone a then f None else x) (sym (column f map.cells.items map.broken.items (place_cell map a)))
+
 at_places : (gone : ℕ → Bool) (map : PlaceMap) (cells : List ℕ) (broken : List Entry)
-    → ((a : ℕ) → at_index None (marks_in cells broken) (place_cell map a) ≡ (if gone a then None else marks_at map a))
-    → ((q a : ℕ) → at_index no_pends (pends_for cells broken q) (place_cell map a) ≡ (if gone a then no_pends else pends_at map q a))
+    → ((a : ℕ) → at_index None (entry_in cells broken) (place_cell map a)
+    ≡ (if gone a then None else at_index None (entry_in map.cells.items map.broken.items) (place_cell map a)))
     → AtPlaces gone map cells broken
-at_places gone map cells broken marks pends = record {
-  marks = marks;
-  pends = λ q a off. pends q a ∙ cond-false (gone a) no_pends (pends_at map q a) off;
+unfolding marks_at pends_at
+at_places gone map cells broken is = record {
+  marks = λ a. column_at marks_of gone map cells broken a (is a);
+  pends = λ q a off. column_at (pends_of q) gone map cells broken a (is a) ∙ cond-false (gone a) no_pends (pends_at map q a) off;
   dropped = λ q a on.
       idle_from (at_index no_pends (pends_for cells broken q) (place_cell map a))
-      (pends q a ∙ cond-true (gone a) no_pends (pends_at map q a) on);
+      (column_at (pends_of q) gone map cells broken a (is a) ∙ cond-true (gone a) no_pends (pends_at map q a) on);
 }
 
 module _ (map : PlaceMap) (parts : List ℕ) (ps : parts ≡ map.parts.items) (cells : Vec ℕ Global) (broken : Vec Entry Global) where
   -- the cell of a place is cleared, if there is one
-  module _ (place j : ℕ) (at : index_of (get nat_eq map.pages) place ≡ Some j)
-      (clears : Clears (is_at (cell_by parts j)) map.cells cells map.broken broken) where
-    place_clears : Clears (is_at (cell_by map.parts.items j)) map.cells cells map.broken broken
-    place_clears = let P : List ℕ → Type 0 = λ xs. Clears (is_at (cell_by xs j)) map.cells cells map.broken broken in subst P ps clears
-
-    place_marks : (a : ℕ) → at_index None (marks_in cells.items broken.items) (place_cell map a) ≡ (if nat_eq a place then None else marks_at map a)
-    unfolding marks_at
-    place_marks =
-        at_maybe (starts (get nat_eq map.pages) map.parts.items) (vec_len map.cells) map.parted.numbered None
-        (marks_in map.cells.items map.broken.items) (marks_in cells.items broken.items) place (cell_by map.parts.items j)
-        (cell_here map place j at)
-        (λ i. ap marks_of (place_clears.entries i) ∙ lose_marks (is_at (cell_by map.parts.items j) i) (entry_in map.cells.items map.broken.items i))
-
-    place_pends : (q a : ℕ) → at_index no_pends (pends_for cells.items broken.items q) (place_cell map a)
-        ≡ (if nat_eq a place then no_pends else pends_at map q a)
-    unfolding pends_at
-    place_pends q =
-        at_maybe (starts (get nat_eq map.pages) map.parts.items) (vec_len map.cells) map.parted.numbered no_pends
-        (pends_for map.cells.items map.broken.items q) (pends_for cells.items broken.items q) place (cell_by map.parts.items j)
-        (cell_here map place j at)
-        (λ i. ap (pends_of q) (place_clears.entries i) ∙ lose_pends q (is_at (cell_by map.parts.items j) i) (entry_in map.cells.items map.broken.items i))
-
-    pub place_cleared : AtPlaces (λ a. nat_eq a place) map cells.items broken.items
-    place_cleared = at_places (λ a. nat_eq a place) map cells.items broken.items place_marks place_pends
+  pub place_cleared : (place j : ℕ) → index_of (get nat_eq map.pages) place ≡ Some j
+      → Clears (is_at (cell_by parts j)) map.cells cells map.broken broken → AtPlaces (λ a. nat_eq a place) map cells.items broken.items
+  place_cleared place j at clears =
+      at_places (λ a. nat_eq a place) map cells.items broken.items
+      (at_maybe (starts (get nat_eq map.pages) map.parts.items) (vec_len map.cells) map.parted.numbered None
+      (entry_in map.cells.items map.broken.items) (entry_in cells.items broken.items) place (cell_by parts j)
+      (cell_here map place j at ∙ ap (λ (xs : List ℕ). cell_by xs j) (sym ps)) clears.entries)
 
   -- the cells of a page are cleared, if there are any
-  module _ (page b : ℕ) (is : get nat_eq map.pages page ≡ Some b)
-      (clears : Clears (in_part (slot_in parts (b / 512))) map.cells cells map.broken broken) where
-    page_clears : Clears (in_part (slot_in map.parts.items (b / 512))) map.cells cells map.broken broken
-    page_clears = let P : List ℕ → Type 0 = λ xs. Clears (in_part (slot_in xs (b / 512))) map.cells cells map.broken broken in subst P ps clears
-
-    page_marks : (a : ℕ) → at_index None (marks_in cells.items broken.items) (place_cell map a)
-        ≡ (if nat_eq (page_of a) page then None else marks_at map a)
-    unfolding marks_at
-    page_marks =
-        at_part (get nat_eq map.pages) map.parts.items None (marks_in map.cells.items map.broken.items) (marks_in cells.items broken.items)
-        (vec_len map.cells) map.parted.numbered page b is
-        (λ i. ap marks_of (page_clears.entries i) ∙ lose_marks (in_part (slot_in map.parts.items (b / 512)) i) (entry_in map.cells.items map.broken.items i))
-
-    page_pends : (q a : ℕ) → at_index no_pends (pends_for cells.items broken.items q) (place_cell map a)
-        ≡ (if nat_eq (page_of a) page then no_pends else pends_at map q a)
-    unfolding pends_at
-    page_pends q =
-        at_part (get nat_eq map.pages) map.parts.items no_pends (pends_for map.cells.items map.broken.items q)
-        (pends_for cells.items broken.items q) (vec_len map.cells) map.parted.numbered page b is
-        (λ i. ap (pends_of q) (page_clears.entries i) ∙ lose_pends q (in_part (slot_in map.parts.items (b / 512)) i) (entry_in map.cells.items map.broken.items i))
-
-    pub page_cleared : AtPlaces (λ a. nat_eq (page_of a) page) map cells.items broken.items
-    page_cleared = at_places (λ a. nat_eq (page_of a) page) map cells.items broken.items page_marks page_pends
+  pub page_cleared : (page b : ℕ) → get nat_eq map.pages page ≡ Some b
+      → Clears (in_part (slot_in parts (b / 512))) map.cells cells map.broken broken
+      → AtPlaces (λ a. nat_eq (page_of a) page) map cells.items broken.items
+  page_cleared page b is clears =
+      at_places (λ a. nat_eq (page_of a) page) map cells.items broken.items
+      (at_part (starts (get nat_eq map.pages) map.parts.items) (vec_len map.cells) map.parted.numbered None
+      (entry_in map.cells.items map.broken.items) (entry_in cells.items broken.items) page (slot_in parts (b / 512))
+      (start_is (get nat_eq map.pages) map.parts.items page b is ∙ ap (λ (xs : List ℕ). slot_in xs (b / 512)) (sym ps)) clears.entries)
 
 -- a page that isn't tracked has no broken place
 pub frees_untracked : (map new : PlaceMap) (page : ℕ) → get nat_eq map.pages page ≡ None
     → ((a : ℕ) → marks_at new a ≡ marks_at map a) → ((q a : ℕ) → pends_at new q a ≡ pends_at map q a) → Frees page map new
 frees_untracked map new page none marks pends = record {
-  marks = λ a.
-      elim (cases_Bool (nat_eq (page_of a) page)) [
-        | inl same ↦
-            marks a ∙ none_marks map a (no_value a same) ∙ sym (cond-true (nat_eq (page_of a) page) None (marks_at map a) same)
-        | inr off ↦ marks a ∙ sym (cond-false (nat_eq (page_of a) page) None (marks_at map a) off)
-      ];
+  marks = λ a. split_by (nat_eq (page_of a) page) (λ same. marks a ∙ none_marks map a (no_value a same)) (λ off. marks a);
   pends = λ q a off. pends q a;
   dropped = λ q a same. idle_from (pends_at new q a) (pends q a ∙ none_pends map a (no_value a same) q);
 }

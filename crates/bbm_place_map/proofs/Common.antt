@@ -7,10 +7,11 @@ pub use Rattle.std.proofs.Common.{drop, false, get_or, if◌then◌else◌, inl,
 pub use Rattle.std.proofs.Common.{not, refl, set, slice_get, slice_index, subst, suc, sym, take, true, unwrap_or}
 pub use Rattle.std.proofs.Common.{vec_capacity, vec_len, zero, ℕ, ◌%◌, ◌&&◌, ◌*◌, ◌++◌, ◌+◌, ◌-◌, ◌/◌, ◌<◌, ◌==◌, ◌||◌}
 pub use Rattle.std.proofs.Common.{◌↔◌, ◌∙◌, ◌∷◌, ◌≡◌, ◌≢◌, ◌≤◌, ◌⊎◌}
+pub use Rattle.std.proofs.Common.{cond, option_and_then, replicate}
 pub use Rattle.std.proofs.lemmas.Bool.{and_from, cases_Bool, cases_eq, cases_lt, cond-false, cond-true, eq-eqb}
 pub use Rattle.std.proofs.lemmas.Bool.{eqb-true, false≢true, le-leb, lt-leb, lt-ltb, ltb-true, ne_eqb, or_left}
 pub use Rattle.std.proofs.lemmas.Bool.{or_right}
-pub use Rattle.std.proofs.lemmas.List.{get_or_default, get_or_past, length-set}
+pub use Rattle.std.proofs.lemmas.List.{get_or_default, get_or_past, length-set, nil_from_length}
 pub use Rattle.std.proofs.lemmas.List.Sums.{count_by-le-length}
 pub use Rattle.std.proofs.lemmas.Option.{none-some, same_Some, slice_get-get_or, slice_get_cases, slice_get_past}
 pub use Rattle.std.proofs.lemmas.Option.{slice_get_read, slice_get_within}
@@ -21,7 +22,6 @@ pub use Rattle.std.specs.declared.alloc.Global.{Global}
 pub use mathlib.Core.Bool.{and-false}
 pub use mathlib.Core.Path.{fun_ext}
 pub use Rattle.bbm_barriers.specs.Options.{answers, answers_broadcast, answers_local, publishes}
-pub use Rattle.bbm_barriers.specs.declared.Domain.TheVariants.{Inner}
 pub use Rattle.bbm_barriers.specs.declared.Dsb.{Dsb}
 pub use Rattle.bbm_barriers.specs.declared.Types.TheVariants.{All, Stores}
 pub use Rattle.bbm_descriptor.specs.Descriptor.{core_of}
@@ -29,7 +29,7 @@ pub use Rattle.bbm_descriptor.specs.declared.desc.Core.{Core}
 pub use Rattle.bbm_entry_state.specs.Answered.{answered_at}
 pub use Rattle.bbm_entry_state.specs.EntryCalls.{Completed, Noted, Published, Written, clean_after, counts_at}
 pub use Rattle.bbm_entry_state.specs.EntryStanding.{IsIdle}
-pub use Rattle.bbm_entry_state.specs.Points.{core_in, is_broken, waits, waits_in}
+pub use Rattle.bbm_entry_state.specs.Points.{core_in, waits, waits_in}
 pub use Rattle.bbm_entry_state.specs.declared.marks.Marks.{Marks}
 pub use Rattle.bbm_entry_state.specs.declared.pending.Pend.{Pend}
 pub use Rattle.bbm_entry_state.specs.declared.pending.Pends.{Pends}
@@ -39,6 +39,7 @@ pub use Rattle.bbm_lemmas.proofs.Bools.{with_true}
 pub use Rattle.bbm_lemmas.proofs.Tautologies.{proved}
 pub use Rattle.bbm_lemmas.proofs.Tautologies.Claim.{If, Is}
 pub use Rattle.bbm_lemmas.specs.EveryPe.{every_pe}
+pub use Rattle.bbm_place_map.proofs.Points.{either, if_then, put_away, put_here, split_at, split_by}
 pub use Rattle.bbm_place_map.specs.Cells.{cell_by, in_page, in_part, is_at, is_listed, number_of, slot_in, value_in}
 pub use Rattle.bbm_place_map.specs.Dsbs.{IsHeard, IsUnanswered}
 pub use Rattle.bbm_place_map.specs.Each.{Advances, Completes, Publishes, is_table, loses_table}
@@ -47,10 +48,11 @@ pub use Rattle.bbm_place_map.specs.Entries.{lane_of, marks_of, no_pend, no_pends
 pub use Rattle.bbm_place_map.specs.Entries.{position_at}
 pub use Rattle.bbm_place_map.specs.Finds.{FoundAs, cover_in, is_found}
 pub use Rattle.bbm_place_map.specs.Map.{page_of, place_cell, state_at}
-pub use Rattle.bbm_place_map.specs.MapCalls.{IsSame, KeepsItems}
+pub use Rattle.bbm_place_map.specs.MapCalls.{Frees, IsSame, KeepsItems, Leaves}
 pub use Rattle.bbm_place_map.specs.Parts.{marks_in, pends_for}
 pub use Rattle.bbm_place_map.specs.PlaceNotes.{Keeps, NotesAs, NotesAt, NotesFound, NotesOne, is_cover}
-pub use Rattle.bbm_place_map.specs.Sound.{Linked, Numbered, Parted, Placed, StillSound, at_index, index_of, starts}
+pub use Rattle.bbm_place_map.specs.Sound.{Linked, Numbered, Parted, Placed, SameSize, StillSound, at_index, index_of}
+pub use Rattle.bbm_place_map.specs.Sound.{starts}
 pub use Rattle.bbm_place_map.specs.States.{marks_of_state, state_from}
 pub use Rattle.bbm_place_map.specs.Works.{Holds, HoldsFor, IsQuiet, IsTold, MayComplete, MayPublish, Waits, is_clean}
 pub use Rattle.bbm_place_map.specs.Works.{part}
@@ -60,8 +62,10 @@ pub use Rattle.bbm_place_map.specs.declared.found.Found.{Found}
 pub use Rattle.bbm_place_map.specs.declared.map.PlaceMap.{PlaceMap}
 pub use Rattle.bbm_place_map.specs.declared.orders.Barrier.{Barrier}
 pub use Rattle.bbm_place_map.specs.declared.orders.Issuing.{Issuing}
+pub use Rattle.bbm_place_map.specs.declared.work.Work.{Work}
 pub use Rattle.bbm_place_map.specs.declared.work.WorkList.{WorkList}
+pub use Rattle.bbm_regimes.specs.PeMask.{pe_in}
 pub use Rattle.bbm_regimes.specs.declared.pe.PeMask.{PeMask}
 pub use Rattle.bbm_tlbi_scope.specs.SameCover.{same_cover}
 pub use Rattle.bbm_tlbi_scope.specs.declared.entry.Cover.{Cover}
-pub use Rattle.bbm_tlbi_scope.specs.declared.entry.Cover.TheVariants.{Full, Half, Second}
+pub use Rattle.bbm_tlbi_scope.specs.declared.entry.Cover.TheVariants.{Full, Half, Second, None as NoCover}

@@ -2,8 +2,7 @@
 use Rattle.bbm_place_map.proofs.Common.{◌≡◌, ℕ, ◌+◌, ◌<◌, ◌≤◌, List, length, Bool, Option, Some, None, is_some, refl}
 use Rattle.bbm_place_map.proofs.Common.{ap, sym, ◌∙◌, arith, inl, inr, count_by, set, get_or, cases_lt, length-set}
 use Rattle.bbm_place_map.proofs.Common.{get_or_past, count_by-le-length, none-some, slice_get_read, value_in, slot_in}
-use Rattle.bbm_place_map.proofs.Common.{is_listed, number_of, Linked, Entry}
-use Rattle.std.proofs.Common.{cond}
+use Rattle.bbm_place_map.proofs.Common.{is_listed, number_of, Linked, Entry, cond}
 use Rattle.std.proofs.lemmas.List.Sums.{sum_by-set}
 use Rattle.std.proofs.lemmas.Option.{get_or_from_slice_get}
 

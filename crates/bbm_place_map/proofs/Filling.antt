@@ -1,8 +1,7 @@
 -- Zeros at the end.
-use Rattle.bbm_place_map.proofs.Common.{◌≡◌, ℕ, ◌≤◌, Bool, true, zero, suc, List, [], ◌∷◌, ◌++◌, length}
-use Rattle.bbm_place_map.proofs.Common.{refl, ap, ◌∙◌, arith, take, if◌then◌else◌, cond-true, count_by, is_listed}
-use Rattle.bbm_place_map.proofs.Common.{value_in}
-use Rattle.std.proofs.Common.{cond, replicate}
+use Rattle.bbm_place_map.proofs.Common.{◌≡◌, ℕ, ◌≤◌, Bool, true, zero, suc, List, [], ◌∷◌, ◌++◌, length, refl, ap, ◌∙◌}
+use Rattle.bbm_place_map.proofs.Common.{arith, take, if◌then◌else◌, cond-true, count_by, is_listed, value_in, cond}
+use Rattle.bbm_place_map.proofs.Common.{replicate}
 use Rattle.std.proofs.lemmas.List.{take_all}
 use Rattle.std.proofs.lemmas.List.Folds.{sum_by-replicate}
 use Rattle.std.proofs.lemmas.List.Sums.{sum_by-append}

@@ -2,21 +2,17 @@
 use Rattle.bbm_place_map.proofs.Common.{◌≡◌, ℕ, ◌+◌, ◌<◌, Bool, true, false, nat_eq, suc, List, [], ◌∷◌, length, ◌++◌}
 use Rattle.bbm_place_map.proofs.Common.{drop, take, get_or, refl, arith, ap, sym, ◌∙◌, inl, inr, ◌||◌, if◌then◌else◌}
 use Rattle.bbm_place_map.proofs.Common.{cases_Bool, cond-true, cond-false, eq-eqb, eqb-true, false≢true, proved, If, Is}
-use Rattle.bbm_place_map.proofs.Common.{Cover, cover_in, is_found, FoundAs, Found}
+use Rattle.bbm_place_map.proofs.Common.{Cover, cover_in, is_found, FoundAs, Found, NoCover}
 use Rattle.std.proofs.Common.{add-one}
 use Rattle.std.proofs.Math.Seq.{take-suc}
 use Rattle.std.proofs.lemmas.List.{take-append-drop}
-use Rattle.bbm_tlbi_scope.specs.declared.entry.Cover.TheVariants.{None as NoCover}
 use mathlib.Core.Bool.{or-false, or-true}
 
 pub cover_none : (xs : List Found) (a : ℕ) → is_found xs a ≡ false → cover_in xs a ≡ NoCover
 cover_none [] a none = refl
 cover_none (x ∷ xs) a none =
-    elim (cases_Bool (nat_eq x.place a)) [
-      | inl is ↦ absurd (false≢true (sym none ∙ ap (λ (b : Bool). b || is_found xs a) is))
-      | inr other ↦ cond-false (nat_eq x.place a) x.cover (cover_in xs a) other
-          ∙ cover_none xs a (sym (ap (λ (b : Bool). b || is_found xs a) other) ∙ none)
-    ]
+    elim (nat_eq x.place a) as (λ b. (b || is_found xs a) ≡ false → (if b then x.cover else cover_in xs a) ≡ NoCover)
+    [ true ↦ λ h. absurd (false≢true (sym h)) | false ↦ cover_none xs a ] none
 
 pub cover_is : (f : ℕ → Cover) (xs : List Found) → FoundAs xs f → (a : ℕ) → is_found xs a ≡ true → cover_in xs a ≡ f a
 cover_is f [] fits a found = absurd (false≢true found)

@@ -1,10 +1,9 @@
 -- Where nothing waits.
 use Rattle.bbm_place_map.proofs.Common.{◌≡◌, ℕ, Bool, true, false, ◌==◌, List, [], Option, Some, None, refl, ap, ◌∙◌}
-use Rattle.bbm_place_map.proofs.Common.{slice_get, Cover, Half, Second, Full, waits, waits_in, IsIdle, Pends, no_pend}
-use Rattle.bbm_place_map.proofs.Common.{no_pends, pends_of, entry_of, slot_in, pends_for, IsQuiet, Entry, at_index}
+use Rattle.bbm_place_map.proofs.Common.{slice_get, Cover, waits, waits_in, IsIdle, Pends, no_pend, no_pends, pends_of}
+use Rattle.bbm_place_map.proofs.Common.{entry_of, slot_in, pends_for, IsQuiet, Entry, at_index, NoCover}
 use Rattle.std.proofs.lemmas.Nat.Bits.{bit_at-zero}
 use Rattle.bbm_regimes.specs.PeMask.{pe_in}
-use Rattle.bbm_tlbi_scope.specs.declared.entry.Cover.TheVariants.{None as NoCover}
 
 no_pe : (p : ℕ) → pe_in (record { bits = 0 }) p ≡ false
 unfolding pe_in

@@ -1,8 +1,7 @@
 -- Whether nothing waits, by masks.
 use Rattle.bbm_place_map.proofs.Common.{◌≡◌, ℕ, Bool, true, false, ◌||◌, ◌↔◌, IsTrue, refl, sym, ◌∙◌, PeMask, Cover}
-use Rattle.bbm_place_map.proofs.Common.{Half, Second, Full, waits, waits_in, Pend, Pends, IsQuiet, false≢true}
-use Rattle.bbm_regimes.specs.PeMask.{pe_in}
-use Rattle.bbm_tlbi_scope.specs.declared.entry.Cover.TheVariants.{None as NoCover}
+use Rattle.bbm_place_map.proofs.Common.{Half, Second, Full, waits, waits_in, Pend, Pends, IsQuiet, false≢true, pe_in}
+use Rattle.bbm_place_map.proofs.Common.{NoCover}
 use Rattle.std.proofs.lemmas.Bool.{or_from}
 use Rattle.bbm_lemmas.proofs.Bools.{first_none, second_none}
 

@@ -1,13 +1,14 @@
 -- What the lists of work tell of each cell.
 use Rattle.bbm_place_map.proofs.Common.{◌≡◌, ℕ, ◌<◌, ◌⊎◌, true, false, nat_eq, zero, suc, List, [], ◌∷◌, length, get_or}
 use Rattle.bbm_place_map.proofs.Common.{Option, Some, None, Contains, refl, ap, sym, subst, ◌∙◌, arith, inl, inr, Bool}
-use Rattle.bbm_place_map.proofs.Common.{slice_get, option_map, cases_Bool, eq-eqb, eqb-true, false≢true, or_left}
-use Rattle.bbm_place_map.proofs.Common.{or_right, same_Some, Marks, slot_in, entry_of, entry_in, marks_of, pends_of}
-use Rattle.bbm_place_map.proofs.Common.{pends_in, no_pends, marks_in, pends_for, Linked, Holds, HoldsFor, IsQuiet}
-use Rattle.bbm_place_map.proofs.Common.{IsTold, part, Entry, WorkList}
+use Rattle.bbm_place_map.proofs.Common.{slice_get, cases_Bool, eq-eqb, eqb-true, false≢true, or_left, or_right}
+use Rattle.bbm_place_map.proofs.Common.{same_Some, Marks, entry_in, marks_of, pends_of, pends_in, no_pends, marks_in}
+use Rattle.bbm_place_map.proofs.Common.{pends_for, Linked, Holds, HoldsFor, IsQuiet, IsTold, part, Entry, WorkList}
+use Rattle.bbm_place_map.proofs.Common.{either}
 use Rattle.std.proofs.lemmas.Bool.{or_cases}
 use Rattle.bbm_place_map.specs.Works.{is_in, holds, has, holds_for}
 use Rattle.bbm_place_map.proofs.Idle.{idle_from, quiet_from}
+use Rattle.bbm_place_map.proofs.Seats.{marked, seat_of, seated_at, by_entry}
 
 in_from : (xs : List ℕ) (k d j : ℕ) → k < length xs → get_or xs k d ≡ j → is_in xs j ≡ true
 in_from [] k d j within is = absurd (omega arith)
@@ -31,10 +32,7 @@ holds_from list wide j h =
 
 holds_to : (list : WorkList) (wide : Bool) (j : ℕ) → holds list wide j ≡ true → Holds list wide j
 holds_to list wide j h =
-    elim (or_cases list.given_up (is_in (part wide list) j) h) [
-      | inl up ↦ inl up
-      | inr c ↦ inr (in_to (part wide list) j c)
-    ]
+    either (or_cases list.given_up (is_in (part wide list) j) h) (λ up. up) (in_to (part wide list) j)
 
 has_from : (o : Option WorkList) (wide : Bool) (j : ℕ) → ((list : WorkList) → o ≡ Some list → Holds list wide j) → has o wide j ≡ true
 has_from None wide j h = refl
@@ -56,10 +54,7 @@ for_to lists q wide j h = has_to (slice_get lists q) wide j h
 pub known_or : (lists : List WorkList) (q : ℕ) (wide : Bool) (j : ℕ) (P : Type 0) → (holds_for lists q wide j ≡ false → P)
     → HoldsFor lists q wide j ⊎ P
 known_or lists q wide j P h =
-    elim (cases_Bool (holds_for lists q wide j)) [
-      | inl is ↦ inl (for_to lists q wide j is)
-      | inr none ↦ inr (h none)
-    ]
+    either (cases_Bool (holds_for lists q wide j)) (for_to lists q wide j) h
 
 pub or_known : (lists : List WorkList) (q : ℕ) (wide : Bool) (j : ℕ) (P : Type 0) → HoldsFor lists q wide j ⊎ P
     → holds_for lists q wide j ≡ false → P
@@ -71,44 +66,23 @@ or_known lists q wide j P h none =
 
 -- what is known of each entry is known of each cell
 module _ (cells : List ℕ) (entries : List Entry) (linked : Linked cells entries) (P : ℕ → Type 0) where
-  quiet_at : (wide : Bool) (q j : ℕ)
-      → ((k : ℕ) (e : Entry) → slice_get entries k ≡ Some e → P e.cell ⊎ IsQuiet wide (pends_in e.pends.items q))
-      → (s : Option ℕ) → slot_in cells j ≡ s → (o : Option Entry) → entry_of entries s ≡ o → P j ⊎ IsQuiet wide (pends_of q o)
-  quiet_at wide q j known s at None was = inr (quiet_from wide no_pends (idle_from no_pends refl))
-  quiet_at wide q j known None at (Some e) was = cc
-  quiet_at wide q j known (Some k) at (Some e) was =
-      let cell : e.cell ≡ j = same_Some e.cell j (sym (ap (option_map (λ (x : Entry). x.cell)) was) ∙ linked.forth j k at) in
-      elim (known k e was) [
-        | inl holds ↦ inl (subst P cell holds)
-        | inr quiet ↦ inr quiet
-      ]
-
   pub quiet_by_cell : (wide : Bool) (q : ℕ)
       → ((k : ℕ) (e : Entry) → slice_get entries k ≡ Some e → P e.cell ⊎ IsQuiet wide (pends_in e.pends.items q))
       → (j : ℕ) → P j ⊎ IsQuiet wide (pends_for cells entries q j)
-  quiet_by_cell wide q known j = quiet_at wide q j known (slot_in cells j) refl (entry_in cells entries j) refl
-
-  told_at : (wide : Bool) (n q j : ℕ) → ((k : ℕ) (e : Entry) → slice_get entries k ≡ Some e → P e.cell ⊎ IsTold wide n q e.marks)
-      → (s : Option ℕ) → slot_in cells j ≡ s → (o : Option Entry) → entry_of entries s ≡ o → (marks : Marks) → marks_of o ≡ Some marks
-      → P j ⊎ IsTold wide n q marks
-  told_at wide n q j known (Some k) at (Some e) was marks is =
-      let cell : e.cell ≡ j = same_Some e.cell j (sym (ap (option_map (λ (x : Entry). x.cell)) was) ∙ linked.forth j k at) in
-      let Q : Marks → Type 0 = λ m. P j ⊎ IsTold wide n q m in
-      subst Q (same_Some e.marks marks is)
-      (elim (known k e was) [
-        | inl holds ↦ inl (subst P cell holds)
-        | inr told ↦ inr told
-      ])
-  told_at wide n q j known _ at _ was marks is = cc
+  quiet_by_cell wide q known j =
+      by_entry (λ o. P j ⊎ IsQuiet wide (pends_of q o)) (entry_in cells entries j)
+      (λ _. inr (quiet_from wide no_pends (idle_from no_pends refl)))
+      (λ e is. let s = seat_of linked j e is in either (known s.0 e s.2) (subst P s.3) (λ quiet. quiet))
 
   pub told_by_cell : (wide : Bool) (n q : ℕ)
       → ((k : ℕ) (e : Entry) → slice_get entries k ≡ Some e → P e.cell ⊎ IsTold wide n q e.marks)
       → (j : ℕ) (marks : Marks) → marks_in cells entries j ≡ Some marks → P j ⊎ IsTold wide n q marks
-  told_by_cell wide n q known j marks is = told_at wide n q j known (slot_in cells j) refl (entry_in cells entries j) refl marks is
+  told_by_cell wide n q known j marks is =
+      let m = marked (entry_in cells entries j) marks is in
+      let s = seat_of linked j m.0 m.1 in
+      subst (λ (x : Marks). P j ⊎ IsTold wide n q x) m.2 (either (known s.0 m.0 s.2) (subst P s.3) (λ told. told))
 
   pub told_entry : (wide : Bool) (n q : ℕ)
       → ((j : ℕ) (marks : Marks) → marks_in cells entries j ≡ Some marks → P j ⊎ IsTold wide n q marks)
       → (k : ℕ) (e : Entry) → slice_get entries k ≡ Some e → P e.cell ⊎ IsTold wide n q e.marks
-  told_entry wide n q known k e is =
-      known e.cell e.marks
-      (ap (λ (s : Option ℕ). marks_of (entry_of entries s)) (linked.back e.cell k (ap (option_map (λ (x : Entry). x.cell)) is)) ∙ ap marks_of is)
+  told_entry wide n q known k e is = known e.cell e.marks (ap marks_of (seated_at linked k e is))

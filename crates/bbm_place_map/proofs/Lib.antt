@@ -1,6 +1,8 @@
 mod Common
 pub mod Made
 pub mod Lists
+pub mod Points
+pub mod Seats
 pub mod Edits
 pub mod Linking
 pub mod Leaving
@@ -24,7 +26,6 @@ pub mod Publishing
 pub mod Published
 pub mod Completing
 pub mod Answering
-pub mod Looking
 pub mod Idling
 pub mod Resting
 pub mod Rounds

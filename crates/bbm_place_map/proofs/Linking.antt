@@ -1,18 +1,13 @@
--- Cells and entries that name each other, after an entry comes or goes.
-use Rattle.bbm_place_map.proofs.Common.{◌≡◌, ◌≢◌, ℕ, ◌+◌, ◌-◌, ◌<◌, Bool, true, false, nat_eq, nat_le, List, [], ◌∷◌}
-use Rattle.bbm_place_map.proofs.Common.{◌++◌, length, Option, Some, None, refl, ap, sym, ◌∙◌, arith, inl, inr}
-use Rattle.bbm_place_map.proofs.Common.{if◌then◌else◌, slice_get, count_by, is_some, swap_remove, option_map}
-use Rattle.bbm_place_map.proofs.Common.{length-set, cases_eq, cases_lt, eq-eqb, ne_eqb, lt-leb, cond-true, cond-false}
-use Rattle.bbm_place_map.proofs.Common.{slice_get_past, same_Some, none-some, slot_in, is_listed, cell_at, entry_of}
-use Rattle.bbm_place_map.proofs.Common.{entry_in, marks_of, pends_of, pends_in, marks_in, pends_for, Linked, Placed}
-use Rattle.bbm_place_map.proofs.Common.{index_of, Entry, Pending}
+-- Cells and entries that name each other, after an entry comes.
+use Rattle.bbm_place_map.proofs.Common.{◌≡◌, ℕ, ◌+◌, ◌<◌, nat_eq, List, [], ◌∷◌, ◌++◌, length, Option, Some, None, refl}
+use Rattle.bbm_place_map.proofs.Common.{ap, sym, ◌∙◌, arith, inl, inr, if◌then◌else◌, slice_get, count_by, is_some}
+use Rattle.bbm_place_map.proofs.Common.{option_map, cases_eq, cases_lt, slice_get_past, same_Some, none-some, slot_in}
+use Rattle.bbm_place_map.proofs.Common.{is_listed, cell_at, entry_of, entry_in, marks_of, pends_of, pends_in, Linked}
+use Rattle.bbm_place_map.proofs.Common.{Placed, index_of, Entry, put_here, put_away, split_at}
 use Rattle.std.proofs.Common.{length-append}
-use Rattle.std.proofs.lemmas.List.{length-take}
 use Rattle.bbm_place_map.proofs.Lists.{push_get}
 use Rattle.bbm_place_map.proofs.Edits.{one_if}
-
-abbrev the_cell : Entry → ℕ
-the_cell e = e.cell
+use Rattle.bbm_place_map.proofs.Seats.{the_cell}
 
 pub cell_within : (entries : List Entry) (k i : ℕ) → cell_at entries k ≡ Some i → k < length entries
 cell_within entries k i h =
@@ -21,61 +16,53 @@ cell_within entries k i h =
       | inr ge ↦ absurd (none-some i (sym (ap (option_map the_cell) (slice_get_past entries k ge)) ∙ h))
     ]
 
-choose : (b : Bool) (x : Entry) (o : Option Entry) → option_map the_cell (if b then Some x else o) ≡ (if b then Some x.cell else option_map the_cell o)
-choose true x o = refl
-choose false x o = refl
+-- what is kept of an entry that is put in the place of another one, or of none
+module _ (start now : ℕ → Option Entry) (e : Entry) (j : ℕ) (is : (i : ℕ) → now i ≡ (if nat_eq i j then Some e else start i)) where
+  pub marks_put : (i : ℕ) → marks_of (now i) ≡ (if nat_eq i j then Some e.marks else marks_of (start i))
+  marks_put i = split_at i j (λ same. ap marks_of (put_here _ _ is i same)) (λ other. ap marks_of (put_away _ _ is i other))
 
-pub choose_marks : (b : Bool) (x : Entry) (o : Option Entry) → marks_of (if b then Some x else o) ≡ (if b then Some x.marks else marks_of o)
-choose_marks true x o = refl
-choose_marks false x o = refl
+  pub pends_put : (q : ℕ) → pends_in e.pends.items q ≡ pends_of q (start j) → (i : ℕ) → pends_of q (now i) ≡ pends_of q (start i)
+  pends_put q kept i =
+      elim (cases_eq i j) [
+        | inl same ↦ ap (pends_of q) (put_here _ _ is i same) ∙ kept ∙ ap (λ (x : ℕ). pends_of q (start x)) (sym same)
+        | inr other ↦ ap (pends_of q) (put_away _ _ is i other)
+      ]
+
+-- what leads to a number leads back from it, with one more pair
+leads_more : (s s' t t' : ℕ → Option ℕ) (j n : ℕ) → ((i : ℕ) → s' i ≡ (if nat_eq i j then Some n else s i))
+    → ((k : ℕ) → t' k ≡ (if nat_eq k n then Some j else t k)) → t n ≡ None → ((i k : ℕ) → s i ≡ Some k → t k ≡ Some i)
+    → (i k : ℕ) → s' i ≡ Some k → t' k ≡ Some i
+leads_more s s' t t' j n to fro free leads i k h =
+    elim (cases_eq i j) [
+      | inl same ↦ put_here _ _ fro k (same_Some k n (sym h ∙ put_here _ _ to i same)) ∙ ap (λ (x : ℕ). Some x) (sym same)
+      | inr other ↦
+          let old : t k ≡ Some i = leads i k (sym (put_away _ _ to i other) ∙ h) in
+          put_away _ _ fro k (λ same. none-some i (sym free ∙ ap t (sym same) ∙ old)) ∙ old
+    ]
 
 -- an entry for a cell that had none
 module _ (cells cells' : List ℕ) (entries : List Entry) (e : Entry) (j n : ℕ) (linked : Linked cells entries)
     (free : slot_in cells j ≡ None) (at : e.cell ≡ j) (number : n ≡ length entries)
-    (slot_is : (i : ℕ) → slot_in cells' i ≡ (if nat_eq i j then Some n else slot_in cells i))
+    (slots : (i : ℕ) → slot_in cells' i ≡ (if nat_eq i j then Some n else slot_in cells i))
     (count : count_by is_listed cells' + one_if (is_some (slot_in cells j)) ≡ count_by is_listed cells + 1) where
-  slots : (i : ℕ) → slot_in cells' i ≡ (if nat_eq i j then Some (length entries) else slot_in cells i)
-  slots i = slot_is i ∙ ap (λ (m : ℕ). if nat_eq i j then Some m else slot_in cells i) number
+  gets : (k : ℕ) → slice_get (entries ++ e ∷ []) k ≡ (if nat_eq k n then Some e else slice_get entries k)
+  gets k = push_get entries e k ∙ ap (λ (m : ℕ). if nat_eq k m then Some e else slice_get entries k) (sym number)
 
-  slot_new : (i : ℕ) → i ≡ j → slot_in cells' i ≡ Some (length entries)
-  slot_new i same = slots i ∙ cond-true (nat_eq i j) (Some (length entries)) (slot_in cells i) (eq-eqb i j same)
+  past : slice_get entries n ≡ None
+  past = slice_get_past entries n (omega arith)
 
-  slot_old : (i : ℕ) → i ≢ j → slot_in cells' i ≡ slot_in cells i
-  slot_old i other = slots i ∙ cond-false (nat_eq i j) (Some (length entries)) (slot_in cells i) (ne_eqb i j other)
-
-  get_new : (k : ℕ) → k ≡ length entries → slice_get (entries ++ e ∷ []) k ≡ Some e
-  get_new k same = push_get entries e k ∙ cond-true (nat_eq k (length entries)) (Some e) (slice_get entries k) (eq-eqb k (length entries) same)
-
-  get_old : (k : ℕ) → k ≢ length entries → slice_get (entries ++ e ∷ []) k ≡ slice_get entries k
-  get_old k other = push_get entries e k ∙ cond-false (nat_eq k (length entries)) (Some e) (slice_get entries k) (ne_eqb k (length entries) other)
-
-  forth : (i k : ℕ) → slot_in cells' i ≡ Some k → cell_at (entries ++ e ∷ []) k ≡ Some i
-  forth i k h =
-      elim (cases_eq i j) [
-        | inl same ↦
-            let new : k ≡ length entries = same_Some k (length entries) (sym h ∙ slot_new i same) in
-            ap (option_map the_cell) (get_new k new) ∙ ap (λ (n : ℕ). Some n) (at ∙ sym same)
-        | inr other ↦
-            let old : cell_at entries k ≡ Some i = linked.forth i k (sym (slot_old i other) ∙ h) in
-            let below : k < length entries = cell_within entries k i old in
-            ap (option_map the_cell) (get_old k (λ same. absurd (omega arith))) ∙ old
-      ]
-
-  back : (i k : ℕ) → cell_at (entries ++ e ∷ []) k ≡ Some i → slot_in cells' i ≡ Some k
-  back i k h =
-      elim (cases_eq k (length entries)) [
-        | inl new ↦
-            let same : i ≡ j = same_Some i j (sym h ∙ ap (option_map the_cell) (get_new k new) ∙ ap (λ (n : ℕ). Some n) at) in
-            slot_new i same ∙ ap (λ (n : ℕ). Some n) (sym new)
-        | inr other ↦
-            let old : slot_in cells i ≡ Some k = linked.back i k (sym (ap (option_map the_cell) (get_old k other)) ∙ h) in
-            slot_old i (λ same. none-some k (sym free ∙ ap (slot_in cells) (sym same) ∙ old)) ∙ old
-      ]
+  cells_are : (k : ℕ) → cell_at (entries ++ e ∷ []) k ≡ (if nat_eq k n then Some j else cell_at entries k)
+  cells_are k =
+      split_at k n (λ same. ap (option_map the_cell) (put_here _ _ gets k same) ∙ ap (λ (x : ℕ). Some x) at)
+      (λ other. ap (option_map the_cell) (put_away _ _ gets k other))
 
   pub linked_more : Linked cells' (entries ++ e ∷ [])
   linked_more = record {
-    forth = forth;
-    back = back;
+    forth =
+        leads_more (slot_in cells) (slot_in cells') (cell_at entries) (cell_at (entries ++ e ∷ [])) j n slots cells_are
+        (ap (option_map the_cell) past) linked.forth;
+    back = λ i k. leads_more (cell_at entries) (cell_at (entries ++ e ∷ [])) (slot_in cells) (slot_in cells') n j cells_are slots free
+        (λ x y. linked.back y x) k i;
     count =
         let none : one_if (is_some (slot_in cells j)) ≡ 0 = ap (λ (o : Option ℕ). one_if (is_some o)) free in
         let old : count_by is_listed cells ≡ length entries = linked.count in
@@ -86,182 +73,18 @@ module _ (cells cells' : List ℕ) (entries : List Entry) (e : Entry) (j n : ℕ
   old_same i None h = refl
   old_same i (Some k) h =
       let below : k < length entries = cell_within entries k i (linked.forth i k h) in
-      get_old k (λ same. absurd (omega arith))
+      put_away _ _ gets k (λ same. absurd (omega arith))
 
   pub entries_more : (i : ℕ) → entry_in cells' (entries ++ e ∷ []) i ≡ (if nat_eq i j then Some e else entry_in cells entries i)
   entries_more i =
-      elim (cases_eq i j) [
-        | inl same ↦
-            ap (entry_of (entries ++ e ∷ [])) (slot_new i same) ∙ get_new (length entries) refl
-            ∙ sym (cond-true (nat_eq i j) (Some e) (entry_in cells entries i) (eq-eqb i j same))
-        | inr other ↦
-            ap (entry_of (entries ++ e ∷ [])) (slot_old i other) ∙ old_same i (slot_in cells i) refl
-            ∙ sym (cond-false (nat_eq i j) (Some e) (entry_in cells entries i) (ne_eqb i j other))
-      ]
-
-  pub marks_more : (i : ℕ) → marks_in cells' (entries ++ e ∷ []) i ≡ (if nat_eq i j then Some e.marks else marks_in cells entries i)
-  marks_more i = ap marks_of (entries_more i) ∙ choose_marks (nat_eq i j) e (entry_in cells entries i)
-
-  pub pends_more : e.pends.items ≡ [] → (q i : ℕ) → pends_for cells' (entries ++ e ∷ []) q i ≡ pends_for cells entries q i
-  pends_more empty q i =
-      elim (cases_eq i j) [
-        | inl same ↦
-            ap (pends_of q) (entries_more i ∙ cond-true (nat_eq i j) (Some e) (entry_in cells entries i) (eq-eqb i j same))
-            ∙ ap (λ (ps : List Pending). pends_in ps q) empty
-            ∙ sym (ap (λ (o : Option ℕ). pends_of q (entry_of entries o)) (ap (slot_in cells) same ∙ free))
-        | inr other ↦ ap (pends_of q) (entries_more i ∙ cond-false (nat_eq i j) (Some e) (entry_in cells entries i) (ne_eqb i j other))
-      ]
+      split_at i j (λ same. ap (entry_of (entries ++ e ∷ [])) (put_here _ _ slots i same) ∙ put_here _ _ gets n refl)
+      (λ other. ap (entry_of (entries ++ e ∷ [])) (put_away _ _ slots i other) ∙ old_same i (slot_in cells i) refl)
 
   pub placed_more : (base : ℕ → Option ℕ) → index_of base e.place ≡ Some j → Placed base entries → Placed base (entries ++ e ∷ [])
   placed_more base here placed k x h =
-      elim (cases_eq k (length entries)) [
+      elim (cases_eq k n) [
         | inl same ↦
-            let is : x ≡ e = same_Some x e (sym h ∙ get_new k same) in
+            let is : x ≡ e = same_Some x e (sym h ∙ put_here _ _ gets k same) in
             ap (λ (y : Entry). index_of base y.place) is ∙ here ∙ ap (λ (m : ℕ). Some m) (sym (ap the_cell is ∙ at))
-        | inr other ↦ placed k x (sym (get_old k other) ∙ h)
-      ]
-
-pub length_swap : (entries : List Entry) (k : ℕ) (r : Entry) → k < length entries → length (swap_remove entries k r) + 1 ≡ length entries
-length_swap entries k r within =
-    simp (length-take, length-set) (omega arith)
-
-pub not_past : (n k m : ℕ) → k < n → m < k → nat_le (n - 1) m ≡ false
-not_past n k m within below = lt-leb (n - 1) m (omega arith)
-
--- an entry leaves, and the last one takes its number
-module _ (cells cells' : List ℕ) (entries entries' : List Entry) (j k l : ℕ) (linked : Linked cells entries)
-    (this : cell_at entries k ≡ Some j) (last : cell_at entries (length entries - 1) ≡ Some l)
-    (slots : (i : ℕ) → slot_in cells' i ≡ (if nat_eq i j then None else if nat_eq i l then Some k else slot_in cells i))
-    (gets : (i : ℕ) → slice_get entries' i
-    ≡ (if nat_le (length entries - 1) i then None else if nat_eq i k then slice_get entries (length entries - 1) else slice_get entries i))
-    (count : count_by is_listed cells' + 1 ≡ count_by is_listed cells) (len : length entries' + 1 ≡ length entries) where
-  slot_gone : (i : ℕ) → i ≡ j → slot_in cells' i ≡ None
-  slot_gone i same = slots i ∙ cond-true (nat_eq i j) None (if nat_eq i l then Some k else slot_in cells i) (eq-eqb i j same)
-
-  slot_else : (i : ℕ) → i ≢ j → slot_in cells' i ≡ (if nat_eq i l then Some k else slot_in cells i)
-  slot_else i other = slots i ∙ cond-false (nat_eq i j) None (if nat_eq i l then Some k else slot_in cells i) (ne_eqb i j other)
-
-  slot_moved : (i : ℕ) → i ≢ j → i ≡ l → slot_in cells' i ≡ Some k
-  slot_moved i other same = slot_else i other ∙ cond-true (nat_eq i l) (Some k) (slot_in cells i) (eq-eqb i l same)
-
-  slot_kept : (i : ℕ) → i ≢ j → i ≢ l → slot_in cells' i ≡ slot_in cells i
-  slot_kept i other apart = slot_else i other ∙ cond-false (nat_eq i l) (Some k) (slot_in cells i) (ne_eqb i l apart)
-
-  get_below : (m : ℕ) → m < length entries - 1
-      → slice_get entries' m ≡ (if nat_eq m k then slice_get entries (length entries - 1) else slice_get entries m)
-  get_below m below =
-      gets m ∙ cond-false (nat_le (length entries - 1) m) None
-      (if nat_eq m k then slice_get entries (length entries - 1) else slice_get entries m) (lt-leb (length entries - 1) m below)
-
-  pub get_moved : (m : ℕ) → m < length entries - 1 → m ≡ k → slice_get entries' m ≡ slice_get entries (length entries - 1)
-  get_moved m below same =
-      get_below m below ∙ cond-true (nat_eq m k) (slice_get entries (length entries - 1)) (slice_get entries m) (eq-eqb m k same)
-
-  pub get_kept : (m : ℕ) → m < length entries - 1 → m ≢ k → slice_get entries' m ≡ slice_get entries m
-  get_kept m below other =
-      get_below m below ∙ cond-false (nat_eq m k) (slice_get entries (length entries - 1)) (slice_get entries m) (ne_eqb m k other)
-
-  this_slot : slot_in cells j ≡ Some k
-  this_slot = linked.back j k this
-
-  last_slot : slot_in cells l ≡ Some (length entries - 1)
-  last_slot = linked.back l (length entries - 1) last
-
-  k_within : k < length entries
-  k_within = cell_within entries k j this
-
-  -- where the two cells differ, so do the two numbers
-  k_below : l ≢ j → k < length entries - 1
-  k_below apart =
-      let within = k_within in
-      elim (cases_eq k (length entries - 1)) [
-        | inl same ↦ absurd (apart (same_Some l j (sym last ∙ ap (cell_at entries) (sym same) ∙ this)))
-        | inr other ↦ omega arith
-      ]
-
-  -- any other cell's entry stays in its place
-  kept_below : (i m : ℕ) → i ≢ j → i ≢ l → slot_in cells i ≡ Some m → (m < length entries - 1) × (m ≢ k)
-  kept_below i m other apart h =
-      let at : cell_at entries m ≡ Some i = linked.forth i m h in
-      let within : m < length entries = cell_within entries m i at in
-      let below : m ≢ length entries - 1
-      = λ same. apart (same_Some i l (sym at ∙ ap (cell_at entries) same ∙ last)) in
-      (omega arith, λ same. other (same_Some i j (sym at ∙ ap (cell_at entries) same ∙ this)))
-
-  forth' : (i m : ℕ) → slot_in cells' i ≡ Some m → cell_at entries' m ≡ Some i
-  forth' i m h =
-      elim (cases_eq i j) [
-        | inl same ↦ absurd (none-some m (sym (slot_gone i same) ∙ h))
-        | inr other ↦
-            elim (cases_eq i l) [
-              | inl moved ↦
-                  let here : m ≡ k = same_Some m k (sym h ∙ slot_moved i other moved) in
-                  let below : k < length entries - 1 = k_below (λ e. other (moved ∙ e)) in
-                  ap (option_map the_cell) (get_moved m (omega arith) here) ∙ last ∙ ap (λ (n : ℕ). Some n) (sym moved)
-              | inr apart ↦
-                  let old : slot_in cells i ≡ Some m = sym (slot_kept i other apart) ∙ h in
-                  let stays = kept_below i m other apart old in
-                  ap (option_map the_cell) (get_kept m stays.0 stays.1) ∙ linked.forth i m old
-            ]
-      ]
-
-  back' : (i m : ℕ) → cell_at entries' m ≡ Some i → slot_in cells' i ≡ Some m
-  back' i m h =
-      let within : m < length entries' = cell_within entries' m i h in
-      let below : m < length entries - 1 = omega arith in
-      elim (cases_eq m k) [
-        | inl here ↦
-            let moved : i ≡ l = same_Some i l (sym h ∙ ap (option_map the_cell) (get_moved m below here) ∙ last) in
-            let other : i ≢ j
-            = λ same. let both : length entries - 1 ≡ k
-            = same_Some (length entries - 1) k (sym last_slot ∙ ap (slot_in cells) (sym moved ∙ same) ∙ this_slot) in absurd (omega arith) in
-            slot_moved i other moved ∙ ap (λ (n : ℕ). Some n) (sym here)
-        | inr elsewhere ↦
-            let old : slot_in cells i ≡ Some m = linked.back i m (sym (ap (option_map the_cell) (get_kept m below elsewhere)) ∙ h) in
-            let other : i ≢ j = λ same. elsewhere (same_Some m k (sym old ∙ ap (slot_in cells) same ∙ this_slot)) in
-            let apart : i ≢ l
-            = λ same. let both : m ≡ length entries - 1
-            = same_Some m (length entries - 1) (sym old ∙ ap (slot_in cells) same ∙ last_slot) in absurd (omega arith) in
-            slot_kept i other apart ∙ old
-      ]
-
-  pub linked_less : Linked cells' entries'
-  linked_less = record {
-    forth = forth';
-    back = back';
-    count = let old = linked.count in omega arith;
-  }
-
-  kept_same : (i : ℕ) → i ≢ j → i ≢ l → (o : Option ℕ) → slot_in cells i ≡ o → entry_of entries' o ≡ entry_of entries o
-  kept_same i other apart None h = refl
-  kept_same i other apart (Some m) h = let stays = kept_below i m other apart h in get_kept m stays.0 stays.1
-
-  pub entries_less : (i : ℕ) → entry_in cells' entries' i ≡ (if nat_eq i j then None else entry_in cells entries i)
-  entries_less i =
-      elim (cases_eq i j) [
-        | inl same ↦
-            ap (entry_of entries') (slot_gone i same)
-            ∙ sym (cond-true (nat_eq i j) None (entry_in cells entries i) (eq-eqb i j same))
-        | inr other ↦
-            elim (cases_eq i l) [
-              | inl moved ↦
-                  ap (entry_of entries') (slot_moved i other moved) ∙ get_moved k (k_below (λ e. other (moved ∙ e))) refl
-                  ∙ sym (ap (entry_of entries) (ap (slot_in cells) moved ∙ last_slot))
-                  ∙ sym (cond-false (nat_eq i j) None (entry_in cells entries i) (ne_eqb i j other))
-              | inr apart ↦
-                  ap (entry_of entries') (slot_kept i other apart) ∙ kept_same i other apart (slot_in cells i) refl
-                  ∙ sym (cond-false (nat_eq i j) None (entry_in cells entries i) (ne_eqb i j other))
-            ]
-      ]
-
-  -- the numbers below the one that leaves stay
-  pub slot_below : (i m : ℕ) → m < k → slot_in cells' i ≡ Some m → slot_in cells i ≡ Some m
-  slot_below i m below h =
-      elim (cases_eq i j) [
-        | inl same ↦ absurd (none-some m (sym (slot_gone i same) ∙ h))
-        | inr other ↦
-            elim (cases_eq i l) [
-              | inl moved ↦ let here : m ≡ k = same_Some m k (sym h ∙ slot_moved i other moved) in absurd (omega arith)
-              | inr apart ↦ sym (slot_kept i other apart) ∙ h
-            ]
+        | inr other ↦ placed k x (sym (put_away _ _ gets k other) ∙ h)
       ]

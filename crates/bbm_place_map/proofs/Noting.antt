@@ -1,35 +1,26 @@
 -- What the issue of a TLBI notes at an entry.
-use Rattle.bbm_place_map.proofs.Common.{◌≡◌, ℕ, Bool, true, false, List, Some, slice_get, inl, inr, nat_eq}
-use Rattle.bbm_place_map.proofs.Common.{if◌then◌else◌, ◌&&◌, ◌||◌, refl, ap, sym, subst, ◌∙◌, false≢true, cases_eq}
-use Rattle.bbm_place_map.proofs.Common.{eq-eqb, ne_eqb, cond-true, cond-false, same_Some, proved, Is, PeMask, Cover}
-use Rattle.bbm_place_map.proofs.Common.{Half, Second, Full, Noted, counts_at, same_cover, waits, Marks, Pends, Broken}
-use Rattle.bbm_place_map.proofs.Common.{WaitsAlike, pends_in, NotesAs, NotesAt, is_cover, HoldsFor, IsQuiet, Waits}
-use Rattle.bbm_place_map.proofs.Common.{Entry, Issuing, WorkList}
+use Rattle.bbm_place_map.proofs.Common.{◌≡◌, ℕ, Bool, true, false, List, Some, slice_get, nat_eq, if◌then◌else◌, ◌&&◌}
+use Rattle.bbm_place_map.proofs.Common.{◌||◌, refl, ap, sym, subst, ◌∙◌, false≢true, same_Some, proved, Is, PeMask}
+use Rattle.bbm_place_map.proofs.Common.{Cover, Noted, waits, Marks, Pends, Broken, pends_in, NotesAs, NotesAt, is_cover}
+use Rattle.bbm_place_map.proofs.Common.{HoldsFor, IsQuiet, Waits, Entry, Issuing, WorkList, ◌≢◌, Keeps, Pending, pe_in}
+use Rattle.bbm_place_map.proofs.Common.{NoCover, split_at, either}
 use Rattle.bbm_descriptor.specs.Descriptor.{same_bool}
-use Rattle.bbm_regimes.specs.PeMask.{pe_in}
-use Rattle.bbm_tlbi_scope.specs.declared.entry.Cover.TheVariants.{None as NoCover}
 
-pub noted_alike : (marks marks' : Marks) (r r' after after' : Pends) (reach : PeMask) (broadcast : Bool) (cover : Cover)
-    → marks ≡ marks' → WaitsAlike r' r → after' ≡ after → Noted (Broken marks) r reach broadcast cover after
-    → Noted (Broken marks') r' reach broadcast cover after'
-noted_alike marks marks' r r' after after' reach broadcast cover is alike same noted =
-    let P : Marks → Type 0 = λ m. Noted (Broken m) r reach broadcast cover after in
-    λ b c p.
-    ap (λ (x : Pends). waits x b c p) same ∙ (subst P is noted) b c p
-    ∙ ap (λ (w : Bool). (same_bool broadcast b && (pe_in reach p && (same_cover c cover && counts_at (Broken marks') c p))) || w) (alike b c p)
-
-none_counts : (marks : Marks) (c : Cover) (p : ℕ) → (same_cover c NoCover && counts_at (Broken marks) c p) ≡ false
-none_counts marks NoCover p = refl
-none_counts marks _ p = refl
+-- where room is made before a TLBI is noted
+pub notes_over : (cover : Cover) (by : Issuing) (e f g : Entry) → Keeps e f → NotesAs cover by f g → NotesAs cover by e g
+notes_over cover by e f g kept notes =
+    let P : Marks → List Pending → Type 0 = λ m ps. (g.marks ≡ m) × ((q : ℕ) → q ≢ by.issuer → pends_in g.pends.items q ≡ pends_in ps q)
+    × Noted (Broken m) (pends_in ps by.issuer) by.reach by.broadcast cover (pends_in g.pends.items by.issuer)
+    × (is_cover cover ≡ false → g.pends.items ≡ ps) in
+    subst (P e.marks) kept.1 (subst (λ (m : Marks). P m f.pends.items) kept.0 notes)
 
 nothing : (x y w : Bool) → w ≡ ((x && (y && false)) || w)
 nothing = proved 3 (λ x y w. Is w ((x && (y && false)) || w)) refl
 
 -- a TLBI that doesn't cover the place leaves what waits
 pub noted_none : (marks : Marks) (r : Pends) (reach : PeMask) (broadcast : Bool) → Noted (Broken marks) r reach broadcast NoCover r
-noted_none marks r reach broadcast b c p =
-    nothing (same_bool broadcast b) (pe_in reach p) (waits r b c p)
-    ∙ ap (λ (x : Bool). (same_bool broadcast b && (pe_in reach p && x)) || waits r b c p) (sym (none_counts marks c p))
+noted_none marks r reach broadcast b NoCover p = nothing (same_bool broadcast b) (pe_in reach p) (waits r b NoCover p)
+noted_none marks r reach broadcast b c p = nothing (same_bool broadcast b) (pe_in reach p) (waits r b c p)
 
 pub notes_at : (covers : List Cover) (k : ℕ) (cover : Cover) (by : Issuing) (e f : Entry)
     → slice_get covers k ≡ Some cover → NotesAs cover by e f → NotesAt covers by k e f
@@ -43,22 +34,15 @@ pub waits_kept : (lists lists' : List WorkList) (issuer : ℕ)
     → ((wide : Bool) (q j : ℕ) → HoldsFor lists q wide j → HoldsFor lists' q wide j) → (e f : Entry)
     → Waits lists issuer e f → Waits lists' issuer e f
 waits_kept lists lists' issuer kept e f waits wide =
-    elim (waits wide) [
-      | inl holds ↦ inl (kept wide issuer e.cell holds)
-      | inr quiet ↦ inr quiet
-    ]
-
-local_noted : (marks : Marks) (r after : Pends) (reach : PeMask) (cover : Cover) → Noted (Broken marks) r reach true cover after
-    → IsQuiet false r → IsQuiet false after
-local_noted marks r after reach cover noted quiet true c p is = absurd (false≢true is)
-local_noted marks r after reach cover noted quiet false c p is = noted false c p ∙ quiet false c p refl
+    either (waits wide) (kept wide issuer e.cell) (λ quiet. quiet)
 
 -- a TLBI leaves quiet what was so, if it isn't the first to wait there, or of those that aren't broadcast the first such
 pub quiet_noted : (marks : Marks) (r after : Pends) (reach : PeMask) (broadcast : Bool) (cover : Cover) → (IsQuiet broadcast r → ⊥)
     → Noted (Broken marks) r reach broadcast cover after → (wide : Bool) → IsQuiet wide r → IsQuiet wide after
-quiet_noted marks r after reach true cover some noted false quiet = local_noted marks r after reach cover noted quiet
-quiet_noted marks r after reach false cover some noted true quiet = absurd (some (λ b c p _. quiet b c p refl))
-quiet_noted marks r after reach _ cover some noted _ quiet = absurd (some quiet)
+quiet_noted marks r after reach true cover some noted false quiet true c p is = absurd (false≢true is)
+quiet_noted marks r after reach true cover some noted false quiet false c p is = noted false c p ∙ quiet false c p refl
+quiet_noted marks r after reach false cover some noted true quiet b c p is = absurd (some (λ b c p _. quiet b c p refl))
+quiet_noted marks r after reach _ cover some noted _ quiet b c p is = absurd (some quiet)
 
 pub uncovered : (cover : Cover) → is_cover cover ≡ false → cover ≡ NoCover
 uncovered NoCover none = refl
@@ -77,8 +61,4 @@ not_noted cover by e none = (
 
 pub gets_same : (entries : List Entry) (k : ℕ) (e : Entry) → slice_get entries k ≡ Some e
     → (i : ℕ) → slice_get entries i ≡ (if nat_eq i k then Some e else slice_get entries i)
-gets_same entries k e is i =
-    elim (cases_eq i k) [
-      | inl same ↦ ap (slice_get entries) same ∙ is ∙ sym (cond-true (nat_eq i k) (Some e) (slice_get entries i) (eq-eqb i k same))
-      | inr other ↦ sym (cond-false (nat_eq i k) (Some e) (slice_get entries i) (ne_eqb i k other))
-    ]
+gets_same entries k e is i = split_at i k (λ same. ap (slice_get entries) same ∙ is) (λ _. refl)

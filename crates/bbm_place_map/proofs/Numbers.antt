@@ -1,12 +1,10 @@
 -- The number of a broken place.
 use Rattle.bbm_place_map.proofs.Common.{◌≡◌, ℕ, ◌<◌, List, Option, Some, None, refl, ap, sym, ◌∙◌, nat_eq}
 use Rattle.bbm_place_map.proofs.Common.{slice_get_within, vec_len, get, cell_by, slot_in, entry_of, marks_of}
-use Rattle.bbm_place_map.proofs.Common.{place_cell, marks_in, at_index, index_of, starts, PlaceMap}
-use Rattle.std.proofs.Common.{option_and_then}
-use Rattle.bbm_place_map.specs.Map.{marks_at, restless_in, restless_place}
+use Rattle.bbm_place_map.proofs.Common.{place_cell, marks_in, at_index, index_of, starts, PlaceMap, option_and_then}
 use Rattle.bbm_place_map.proofs.Parts.{cell_here}
-use Rattle.bbm_place_map.proofs.Restless.{place_is}
-use Rattle.bbm_place_map.proofs.Visiting.{slot_place}
+use Rattle.bbm_place_map.proofs.Restless.{place_is, slot_place}
+use Rattle.bbm_place_map.specs.Map.{marks_at, restless_in, restless_place}
 
 module _ (map : PlaceMap) (a j : ℕ) (at : index_of (get nat_eq map.pages) a ≡ Some j) where
   abbrev pub number : Option ℕ

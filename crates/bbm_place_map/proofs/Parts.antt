@@ -1,21 +1,20 @@
 -- Pages and where their cells start.
 use Rattle.bbm_place_map.proofs.Common.{◌≡◌, ◌≢◌, ℕ, zero, suc, ◌+◌, ◌*◌, ◌/◌, ◌%◌, ◌<◌, ◌≤◌, Bool, true, false, nat_eq}
 use Rattle.bbm_place_map.proofs.Common.{◌==◌, List, length, Option, Some, None, refl, ap, sym, subst, ◌∙◌, arith, inl}
-use Rattle.bbm_place_map.proofs.Common.{inr, is_some, if◌then◌else◌, count_by, slice_get, vec_len}
-use Rattle.bbm_place_map.proofs.Common.{option_map, cases_eq, cases_Bool, eq-eqb, ne_eqb, eqb-true, cond-true}
-use Rattle.bbm_place_map.proofs.Common.{cond-false, false≢true, get_or_past, count_by-le-length, same_Some, none-some}
-use Rattle.bbm_place_map.proofs.Common.{fun_ext, get, cell_by, in_part, is_at, is_listed, number_of, slot_in, value_in}
-use Rattle.bbm_place_map.proofs.Common.{entry_in, entry_of, marks_of, no_pends, pends_of, place_cell, IsSame}
-use Rattle.bbm_place_map.proofs.Common.{KeepsItems, marks_in, pends_for, Linked, Numbered, Parted, Placed, at_index}
-use Rattle.bbm_place_map.proofs.Common.{index_of, starts, Entry, PlaceMap}
-use Rattle.std.proofs.Common.{option_and_then}
+use Rattle.bbm_place_map.proofs.Common.{inr, is_some, if◌then◌else◌, count_by, slice_get, vec_len, option_map, cases_eq}
+use Rattle.bbm_place_map.proofs.Common.{cases_Bool, eq-eqb, eqb-true, cond-true, cond-false, false≢true, get_or_past}
+use Rattle.bbm_place_map.proofs.Common.{count_by-le-length, same_Some, none-some, fun_ext, get, cell_by, in_part, is_at}
+use Rattle.bbm_place_map.proofs.Common.{is_listed, number_of, slot_in, value_in, entry_in, entry_of, marks_of, no_pends}
+use Rattle.bbm_place_map.proofs.Common.{pends_of, place_cell, IsSame, KeepsItems, marks_in, pends_for, Linked, Numbered}
+use Rattle.bbm_place_map.proofs.Common.{Parted, Placed, at_index, index_of, starts, Entry, PlaceMap, option_and_then}
+use Rattle.bbm_place_map.proofs.Common.{put_here, put_away, split_at}
 use Rattle.std.specs.Prelude.{unwrap_or}
 use Rattle.bbm_place_map.specs.Entries.{entry_by}
-use Rattle.bbm_place_map.specs.Map.{is_tracked, marks_at, pends_at, restless_in, restless_place, value_at}
 use Rattle.bbm_place_map.specs.Sound.{HasValue, IsSound}
 use Rattle.bbm_place_map.proofs.Edits.{fewer_listed, one_if}
-use Rattle.bbm_place_map.proofs.Growing.{numbered_more, placed_more, points_more}
+use Rattle.bbm_place_map.proofs.Growing.{numbered_more, placed_more, points_more, Grown}
 use Rattle.bbm_place_map.proofs.Places.{at_page, at_place, at_same, found, index_inside, index_none, number_below}
+use Rattle.bbm_place_map.specs.Map.{is_tracked, marks_at, pends_at, value_at, restless_in, restless_place}
 
 module _ (base : ℕ → Option ℕ) (parts : List ℕ) where
   pub start_is : (page b : ℕ) → base page ≡ Some b → starts base parts page ≡ slot_in parts (b / 512)
@@ -51,28 +50,14 @@ module _ (base : ℕ → Option ℕ) (parts : List ℕ) where
   pub cell_none : (a : ℕ) → index_of base a ≡ None → index_of (starts base parts) a ≡ None
   cell_none a h = none_by a (a % 8 == 0) (base (a / 4096 * 4096)) refl refl h
 
-  -- the cells of a page change: so do its places
-  pub at_part : {X : Type 0} (d : X) (f g : ℕ → X) (count : ℕ) → Numbered (starts base parts) count → (page b : ℕ)
-      → base page ≡ Some b → ((i : ℕ) → g i ≡ (if in_part (slot_in parts (b / 512)) i then d else f i))
-      → (a : ℕ) → at_index d g (index_of (starts base parts) a)
-      ≡ (if nat_eq (a / 4096 * 4096) page then d else at_index d f (index_of (starts base parts) a))
-  at_part {X} d f g count numbered page b is new a = by (slot_in parts (b / 512)) (start_is page b is) new
-    where
-      by : (o : Option ℕ) → starts base parts page ≡ o → ((i : ℕ) → g i ≡ (if in_part o i then d else f i))
-          → at_index d g (index_of (starts base parts) a)
-          ≡ (if nat_eq (a / 4096 * 4096) page then d else at_index d f (index_of (starts base parts) a))
-      by (Some s) at all = at_page (starts base parts) count numbered d f g page s at all a
-      by None at all =
-          let same : at_index d g (index_of (starts base parts) a) ≡ at_index d f (index_of (starts base parts) a)
-          = at_same d f g all (index_of (starts base parts) a) in
-          elim (cases_eq (a / 4096 * 4096) page) [
-            | inl here ↦
-                ap (at_index d g) (index_none (starts base parts) a (ap (starts base parts) here ∙ at))
-                ∙ sym (cond-true (nat_eq (a / 4096 * 4096) page) d (at_index d f (index_of (starts base parts) a)) (eq-eqb (a / 4096 * 4096) page here))
-            | inr other ↦
-                same
-                ∙ sym (cond-false (nat_eq (a / 4096 * 4096) page) d (at_index d f (index_of (starts base parts) a)) (ne_eqb (a / 4096 * 4096) page other))
-          ]
+-- the cells of a page change that may have some: so do its places
+pub at_part : {X : Type 0} (base : ℕ → Option ℕ) (count : ℕ) → Numbered base count → (d : X) (f g : ℕ → X) (page : ℕ)
+    (o : Option ℕ) → base page ≡ o → ((i : ℕ) → g i ≡ (if in_part o i then d else f i))
+    → (a : ℕ) → at_index d g (index_of base a) ≡ (if nat_eq (a / 4096 * 4096) page then d else at_index d f (index_of base a))
+at_part base count numbered d f g page (Some s) at new a = at_page base count numbered d f g page s at new a
+at_part base count numbered d f g page None at new a =
+    split_at (a / 4096 * 4096) page (λ here. ap (at_index d g) (index_none base a (ap base here ∙ at)))
+    (λ _. at_same d f g new (index_of base a))
 
 -- a place changes that may have a cell
 pub at_maybe : {X : Type 0} (base : ℕ → Option ℕ) (count : ℕ) → Numbered base count → (d : X) (f g : ℕ → X) (place : ℕ)
@@ -80,25 +65,18 @@ pub at_maybe : {X : Type 0} (base : ℕ → Option ℕ) (count : ℕ) → Number
     → (a : ℕ) → at_index d g (index_of base a) ≡ (if nat_eq a place then d else at_index d f (index_of base a))
 at_maybe base count numbered d f g place (Some j) here new a = at_place base count numbered d d f g place j here new a
 at_maybe base count numbered d f g place None here new a =
-    elim (cases_eq a place) [
-      | inl same ↦
-          ap (at_index d g) (ap (index_of base) same ∙ here)
-          ∙ sym (cond-true (nat_eq a place) d (at_index d f (index_of base a)) (eq-eqb a place same))
-      | inr other ↦
-          at_same d f g new (index_of base a)
-          ∙ sym (cond-false (nat_eq a place) d (at_index d f (index_of base a)) (ne_eqb a place other))
-    ]
+    split_at a place (λ same. ap (at_index d g) (ap (index_of base) same ∙ here)) (λ _. at_same d f g new (index_of base a))
 
--- what is at a place, by its value
-marks_out : (cells : List ℕ) (entries : List Entry) (o : Option ℕ)
-    → at_index None (marks_in cells entries) o ≡ marks_of (option_and_then (entry_in cells entries) o)
-marks_out cells entries None = refl
-marks_out cells entries (Some i) = refl
+-- what is kept of the entry of a cell, if there is one
+pub column : {X : Type 0} (f : Option Entry → X) (cells : List ℕ) (entries : List Entry) (o : Option ℕ)
+    → at_index (f None) (λ j. f (entry_in cells entries j)) o ≡ f (at_index None (entry_in cells entries) o)
+column f cells entries None = refl
+column f cells entries (Some j) = refl
 
-pends_out : (cells : List ℕ) (entries : List Entry) (q : ℕ) (o : Option ℕ)
-    → at_index no_pends (pends_for cells entries q) o ≡ pends_of q (option_and_then (entry_in cells entries) o)
-pends_out cells entries q None = refl
-pends_out cells entries q (Some i) = refl
+entry_found : (cells : List ℕ) (entries : List Entry) (o : Option ℕ)
+    → option_and_then (entry_in cells entries) o ≡ at_index None (entry_in cells entries) o
+entry_found cells entries None = refl
+entry_found cells entries (Some j) = refl
 
 -- the value with this number has a part, which tells where the cells of its page start
 module _ (map : PlaceMap) (j : ℕ) (within : j < vec_len map.values) (parts : List ℕ) (ps : parts ≡ map.parts.items) where
@@ -118,20 +96,15 @@ module _ (map : PlaceMap) (a j : ℕ) (at : index_of (get nat_eq map.pages) a �
 
   module _ (parts cells : List ℕ) (entries : List Entry) (ps : parts ≡ map.parts.items) (cs : cells ≡ map.cells.items)
       (es : entries ≡ map.broken.items) where
-    read_entry : entry_by parts cells entries j ≡ option_and_then (entry_in map.cells.items map.broken.items) (place_cell map a)
-    read_entry =
-        ap (λ (xs : List ℕ). entry_by xs cells entries j) ps
-        ∙ ap (λ (xs : List ℕ). entry_by map.parts.items xs entries j) cs
-        ∙ ap (λ (xs : List Entry). entry_by map.parts.items map.cells.items xs j) es
-        ∙ ap (option_and_then (entry_in map.cells.items map.broken.items)) (sym cell_here)
-
-    pub read_marks : marks_of (entry_by parts cells entries j) ≡ marks_at map a
-    unfolding marks_at
-    read_marks = ap marks_of read_entry ∙ sym (marks_out map.cells.items map.broken.items (place_cell map a))
-
-    pub read_pends : (q : ℕ) → pends_of q (entry_by parts cells entries j) ≡ pends_at map q a
-    unfolding pends_at
-    read_pends q = ap (pends_of q) read_entry ∙ sym (pends_out map.cells.items map.broken.items q (place_cell map a))
+    pub read_column : {X : Type 0} (f : Option Entry → X)
+        → f (entry_by parts cells entries j) ≡ at_index (f None) (λ i. f (entry_in map.cells.items map.broken.items i)) (place_cell map a)
+    read_column f =
+        ap (λ (xs : List ℕ). f (entry_by xs cells entries j)) ps
+        ∙ ap (λ (xs : List ℕ). f (entry_by map.parts.items xs entries j)) cs
+        ∙ ap (λ (xs : List Entry). f (entry_by map.parts.items map.cells.items xs j)) es
+        ∙ ap (λ (o : Option ℕ). f (option_and_then (entry_in map.cells.items map.broken.items) o)) (sym cell_here)
+        ∙ ap f (entry_found map.cells.items map.broken.items (place_cell map a))
+        ∙ sym (column f map.cells.items map.broken.items (place_cell map a))
 
 module _ (map : PlaceMap) (a : ℕ) (at : index_of (get nat_eq map.pages) a ≡ None) where
   no_cell : place_cell map a ≡ None
@@ -172,11 +145,6 @@ broken_eighth map a broken =
           (starts (get nat_eq map.pages) map.parts.items (a / 4096 * 4096))) None e)) ∙ broken))
     ]
 
--- a number that is kept
-pub number_next : (n m : ℕ) → n ≡ m + 1 → number_of n ≡ Some m
-number_next zero m is = absurd (omega arith)
-number_next (suc k) m is = ap (λ (x : ℕ). Some x) (omega arith)
-
 pub number_zero : (n : ℕ) → number_of n ≡ None → n ≡ 0
 number_zero zero h = refl
 number_zero (suc k) h = absurd (none-some k (sym h))
@@ -190,20 +158,17 @@ pub parted_fewer : {base : ℕ → Option ℕ} {parts : List ℕ} {values cells 
 parted_fewer {base} {parts} p = omega (arith, p.each, p.some, count_by-le-length is_listed parts)
 
 -- one more page, which has no cells yet
-module _ (old new : ℕ → Option ℕ) (parts parts' : List ℕ) (page count values : ℕ)
-    (updates : (p : ℕ) → new p ≡ (if nat_eq p page then Some values else old p)) (free : old page ≡ None)
+module _ {old new : ℕ → Option ℕ} {page values : ℕ} (grown : Grown old new page values) (parts parts' : List ℕ) (count : ℕ)
     (slots : (i : ℕ) → slot_in parts' i ≡ slot_in parts i) (parted : Parted old parts values count) where
   starts_at : (p : ℕ) → starts new parts' p ≡ starts old parts p
   starts_at p =
       elim (cases_eq p page) [
         | inl same ↦
-            start_is new parts' p values (updates p ∙ cond-true (nat_eq p page) (Some values) (old p) (eq-eqb p page same))
-            ∙ slots (values / 512) ∙ slot_past parts (values / 512) (omega (arith, parted.each))
-            ∙ sym (start_none old parts p (ap old same ∙ free))
+            start_is new parts' p values (put_here _ _ grown.updates p same) ∙ slots (values / 512)
+            ∙ slot_past parts (values / 512) (omega (arith, parted.each)) ∙ sym (start_none old parts p (ap old same ∙ grown.free))
         | inr other ↦
             at_same None (λ n. slot_in parts (n / 512)) (λ n. slot_in parts' (n / 512)) (λ n. slots (n / 512)) (new p)
-            ∙ ap (at_index None (λ n. slot_in parts (n / 512)))
-            (updates p ∙ cond-false (nat_eq p page) (Some values) (old p) (ne_eqb p page other))
+            ∙ ap (at_index None (λ n. slot_in parts (n / 512))) (put_away _ _ grown.updates p other)
       ]
 
   pub starts_kept : starts new parts' ≡ starts old parts
@@ -212,12 +177,8 @@ module _ (old new : ℕ → Option ℕ) (parts parts' : List ℕ) (page count va
   whole_by : (p b : ℕ) → new p ≡ Some b → b % 512 ≡ 0
   whole_by p b h =
       elim (cases_eq p page) [
-        | inl same ↦
-            let is : values ≡ b
-            = same_Some values b (sym (updates p ∙ cond-true (nat_eq p page) (Some values) (old p) (eq-eqb p page same)) ∙ h) in
-            omega (arith, is, parted.each)
-        | inr other ↦
-            parted.whole p b (sym (updates p ∙ cond-false (nat_eq p page) (Some values) (old p) (ne_eqb p page other)) ∙ h)
+        | inl same ↦ let is : values ≡ b = same_Some values b (sym (put_here _ _ grown.updates p same) ∙ h) in omega (arith, is, parted.each)
+        | inr other ↦ parted.whole p b (sym (put_away _ _ grown.updates p other) ∙ h)
       ]
 
   pub parted_more : (values' : ℕ) → values' ≡ values + 512 → length parts' ≡ length parts + 1
@@ -243,28 +204,16 @@ module _ (base : ℕ → Option ℕ) (parts parts' : List ℕ) (values count pag
   by_base : (p : ℕ) (o : Option ℕ) → base p ≡ o → p ≢ page → starts base parts' p ≡ starts base parts p
   by_base p None at apart = start_none base parts' p at ∙ sym (start_none base parts p at)
   by_base p (Some c) at apart =
-      start_is base parts' p c at ∙ slots (c / 512)
-      ∙ cond-false (nat_eq (c / 512) n) (Some count) (slot_in parts (c / 512)) (ne_eqb (c / 512) n (other_number p c at apart))
-      ∙ sym (start_is base parts p c at)
+      start_is base parts' p c at ∙ put_away _ _ slots (c / 512) (other_number p c at apart) ∙ sym (start_is base parts p c at)
 
-  start_new : starts base parts' page ≡ Some count
-  start_new =
-      start_is base parts' page b is ∙ slots (b / 512)
-      ∙ cond-true (nat_eq (b / 512) n) (Some count) (slot_in parts (b / 512)) (eq-eqb (b / 512) n number)
-
-  pub start_free : starts base parts page ≡ None
-  start_free = start_is base parts page b is ∙ ap (slot_in parts) number ∙ free
-
-  pub start_updates : (p : ℕ) → starts base parts' p ≡ (if nat_eq p page then Some count else starts base parts p)
-  start_updates p =
-      elim (cases_eq p page) [
-        | inl same ↦
-            ap (starts base parts') same ∙ start_new
-            ∙ sym (cond-true (nat_eq p page) (Some count) (starts base parts p) (eq-eqb p page same))
-        | inr other ↦
-            by_base p (base p) refl other
-            ∙ sym (cond-false (nat_eq p page) (Some count) (starts base parts p) (ne_eqb p page other))
-      ]
+  pub part_grown : Grown (starts base parts) (starts base parts') page count
+  part_grown = record {
+    updates = λ p.
+        split_at p page (λ same. ap (starts base parts') same ∙ start_is base parts' page b is ∙ put_here _ _ slots (b / 512) number)
+        (by_base p (base p) refl);
+    free = start_is base parts page b is ∙ ap (slot_in parts) number ∙ free;
+    numbered = parted.numbered;
+  }
 
 -- the cells of a page are among the cells
 pub part_within : (map : PlaceMap) (parts : List ℕ) → parts ≡ map.parts.items → (page b : ℕ) → get nat_eq map.pages page ≡ Some b
@@ -312,22 +261,12 @@ module _ (map : PlaceMap) (a j : ℕ) (at : index_of (get nat_eq map.pages) a �
         let below : a % 4096 / 8 < 512 = number_below a in
         omega (arith, even, sum, below)
 
-    parted_start : Parted (get nat_eq map.pages) map.parts.items (vec_len map.values) start
-    parted_start =
+    grown : Grown old_starts new_starts page start
+    grown =
+        let f = found (get nat_eq map.pages) a j at in
         let P : ℕ → Type 0 = Parted (get nat_eq map.pages) map.parts.items (vec_len map.values) in
-        subst P (sym last) map.parted
-
-    updates : (p : ℕ) → new_starts p ≡ (if nat_eq p page then Some start else old_starts p)
-    updates =
-        let f = found (get nat_eq map.pages) a j at in
-        start_updates (get nat_eq map.pages) map.parts.items parts (vec_len map.values) start page f.start (j / 512) parted_start map.numbered
-        f.is base_number number_free slots
-
-    free : old_starts page ≡ None
-    free =
-        let f = found (get nat_eq map.pages) a j at in
-        start_free (get nat_eq map.pages) map.parts.items parts (vec_len map.values) start page f.start (j / 512) parted_start map.numbered
-        f.is base_number number_free slots
+        part_grown (get nat_eq map.pages) map.parts.items parts (vec_len map.values) start page f.start (j / 512) (subst P (sym last) map.parted)
+        map.numbered f.is base_number number_free slots
 
     pub parted_new : (count' : ℕ) → count' ≡ start + 512 → Parted (get nat_eq map.pages) parts (vec_len map.values) count'
     parted_new count' more =
@@ -336,36 +275,27 @@ module _ (map : PlaceMap) (a j : ℕ) (at : index_of (get nat_eq map.pages) a �
           whole = map.parted.whole;
           each = omega (arith, map.parted.each, len);
           some = omega (arith, map.parted.some, none, count, more, last);
-          numbered = numbered_more old_starts new_starts page start updates free parted_start.numbered count' (omega (arith, more));
+          numbered = numbered_more grown count' (omega (arith, more));
         }
 
     pub placed_new : Placed new_starts map.broken.items
-    placed_new = placed_more old_starts new_starts page start updates free parted_start.numbered map.broken.items map.placed
+    placed_new = placed_more grown map.broken.items map.placed
 
     pub cell_new : index_of new_starts a ≡ Some (start + j % 512)
     cell_new =
         cell_is (get nat_eq map.pages) parts map.parted.whole a j at
-        ∙ ap (option_map (λ n. n + j % 512))
-        (slots (j / 512) ∙ cond-true (nat_eq (j / 512) (j / 512)) (Some start) (slot_in map.parts.items (j / 512)) (eq-eqb (j / 512) (j / 512) refl))
+        ∙ ap (option_map (λ n. n + j % 512)) (put_here _ _ slots (j / 512) refl)
 
     past : (i : ℕ) → start ≤ i → slot_in map.cells.items i ≡ None
     past i behind = slot_past map.cells.items i (omega (arith, last, behind))
 
-    pub marks_new : (b : ℕ) → at_index None (marks_in cells map.broken.items) (index_of new_starts b) ≡ marks_at map b
-    unfolding marks_at
-    marks_new =
-        points_more old_starts new_starts page start updates free parted_start.numbered None
-        (marks_in map.cells.items map.broken.items) (marks_in cells map.broken.items)
-        (λ i. ap (λ (o : Option ℕ). marks_of (entry_of map.broken.items o)) (same i))
-        (λ i behind. ap (λ (o : Option ℕ). marks_of (entry_of map.broken.items o)) (past i behind))
-
-    pub pends_new : (q b : ℕ) → at_index no_pends (pends_for cells map.broken.items q) (index_of new_starts b) ≡ pends_at map q b
-    unfolding pends_at
-    pends_new q =
-        points_more old_starts new_starts page start updates free parted_start.numbered no_pends
-        (pends_for map.cells.items map.broken.items q) (pends_for cells map.broken.items q)
-        (λ i. ap (λ (o : Option ℕ). pends_of q (entry_of map.broken.items o)) (same i))
-        (λ i behind. ap (λ (o : Option ℕ). pends_of q (entry_of map.broken.items o)) (past i behind))
+    pub column_new : {X : Type 0} (f : Option Entry → X) (b : ℕ) → at_index (f None) (λ i. f (entry_in cells map.broken.items i)) (index_of new_starts b)
+        ≡ at_index (f None) (λ i. f (entry_in map.cells.items map.broken.items i)) (place_cell map b)
+    column_new f =
+        points_more grown (f None)
+        (λ i. f (entry_in map.cells.items map.broken.items i)) (λ i. f (entry_in cells map.broken.items i))
+        (λ i. ap (λ (o : Option ℕ). f (entry_of map.broken.items o)) (same i))
+        (λ i behind. ap (λ (o : Option ℕ). f (entry_of map.broken.items o)) (past i behind))
 
 -- the same pages, values, cells and entries
 module _ (old new : PlaceMap) (kept : KeepsItems old new) where
@@ -377,28 +307,22 @@ module _ (old new : PlaceMap) (kept : KeepsItems old new) where
       ap (λ m. index_of (starts (get nat_eq m) new.parts.items) a) kept.pages
       ∙ ap (λ (xs : List ℕ). index_of (starts (get nat_eq old.pages) xs) a) kept.parts
 
-  marks_kept : (a : ℕ) → marks_at new a ≡ marks_at old a
-  unfolding marks_at
-  marks_kept a =
-      ap (at_index None (marks_in new.cells.items new.broken.items)) (cell_kept a)
-      ∙ ap (λ (xs : List ℕ). at_index None (marks_in xs new.broken.items) (place_cell old a)) kept.cells
-      ∙ ap (λ (xs : List Entry). at_index None (marks_in old.cells.items xs) (place_cell old a)) kept.entries
-
-  pends_kept : (q a : ℕ) → pends_at new q a ≡ pends_at old q a
-  unfolding pends_at
-  pends_kept q a =
-      ap (at_index no_pends (pends_for new.cells.items new.broken.items q)) (cell_kept a)
-      ∙ ap (λ (xs : List ℕ). at_index no_pends (pends_for xs new.broken.items q) (place_cell old a)) kept.cells
-      ∙ ap (λ (xs : List Entry). at_index no_pends (pends_for old.cells.items xs q) (place_cell old a)) kept.entries
+  column_same : {X : Type 0} (f : Option Entry → X) (a : ℕ)
+      → at_index (f None) (λ i. f (entry_in new.cells.items new.broken.items i)) (place_cell new a)
+      ≡ at_index (f None) (λ i. f (entry_in old.cells.items old.broken.items i)) (place_cell old a)
+  column_same f a =
+      ap (at_index (f None) (λ i. f (entry_in new.cells.items new.broken.items i))) (cell_kept a)
+      ∙ ap (λ (xs : List ℕ). at_index (f None) (λ i. f (entry_in xs new.broken.items i)) (place_cell old a)) kept.cells
+      ∙ ap (λ (xs : List Entry). at_index (f None) (λ i. f (entry_in old.cells.items xs i)) (place_cell old a)) kept.entries
 
   pub kept_same : IsSame old new
-  unfolding value_at is_tracked restless_in restless_place
+  unfolding value_at marks_at pends_at is_tracked restless_in restless_place
   kept_same = record {
     values = λ a.
         ap (at_index 0 (value_in new.values.items)) (index_kept a)
         ∙ ap (λ (xs : List ℕ). at_index 0 (value_in xs) (index_of (get nat_eq old.pages) a)) kept.values;
-    marks = marks_kept;
-    pends = pends_kept;
+    marks = column_same marks_of;
+    pends = λ q. column_same (pends_of q);
     pages = λ p. ap (λ m. is_some (get nat_eq m p)) kept.pages;
     restless = ap (λ (xs : List Entry). length xs) kept.entries;
     places = λ i. ap (λ (xs : List Entry). unwrap_or (option_map (λ (e : Entry). e.place) (slice_get xs i)) 0) kept.entries;

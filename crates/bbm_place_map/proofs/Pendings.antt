@@ -5,10 +5,9 @@ use Rattle.bbm_place_map.proofs.Common.{if◌then◌else◌, Option, Some, None,
 use Rattle.bbm_place_map.proofs.Common.{cond-false, eq-eqb, ne_eqb, false≢true, get_or_default, Pend, Dsb}
 use Rattle.bbm_place_map.proofs.Common.{answers_broadcast, answers_local, PeMask, Cover, Noted, waits_in, Marks, Pends}
 use Rattle.bbm_place_map.proofs.Common.{Broken, Adds, WaitsAlike, lane_of, no_pend, pend_in, pends_in, IsFirst, Lacks}
-use Rattle.bbm_place_map.proofs.Common.{IsQuiet, Pending, SmallVec, same_cover, proved, If, Is, Half, Second, Full}
+use Rattle.bbm_place_map.proofs.Common.{IsQuiet, Pending, SmallVec, proved, If, Is, Half, Second, Full, subst, pe_in}
+use Rattle.bbm_place_map.proofs.Common.{NoCover}
 use Rattle.bbm_entry_state.specs.Marking.{counts_for}
-use Rattle.bbm_regimes.specs.PeMask.{pe_in}
-use Rattle.bbm_tlbi_scope.specs.declared.entry.Cover.TheVariants.{None as NoCover}
 use Rattle.bbm_place_map.specs.Dsbs.{Takes, TakesAnswered, WaitsOn}
 use Rattle.smallvec.specs.SmallVec.{with_items}
 use Rattle.smallvec.proofs.SmallVecLemmas.{items-with_items}
@@ -162,22 +161,20 @@ kept_by = proved 3 (λ r k w. If (Is ((r && k) && not w) false) (Is w ((r && (tr
 passed_by : (r k w : Bool) → w ≡ ((r && (false && k)) || w)
 passed_by = proved 3 (λ r k w. Is w ((r && (false && k)) || w)) refl
 
-none_by : (r k : Bool) → false ≡ ((r && (k && false)) || false)
-none_by = proved 2 (λ r k. Is false ((r && (k && false)) || false)) refl
-
--- nothing is added where each PE waits that a TLBI reaches and for which it counts
-pub adds_none : (marks : Marks) (reach : PeMask) (cover : Cover) (pend : Pend)
+adds_none : (marks : Marks) (reach : PeMask) (cover : Cover) (pend : Pend)
     → ((p : ℕ) → ((pe_in reach p && counts_for marks cover p) && not (waits_in pend cover p)) ≡ false)
     → Adds marks reach cover pend pend
-adds_none marks reach cover pend none NoCover p = none_by (pe_in reach p) (same_cover NoCover cover)
+adds_none marks reach NoCover pend none NoCover p = kept_by (pe_in reach p) false false (none p)
 adds_none marks reach Half pend none Half p = kept_by (pe_in reach p) (pe_in marks.seen p) (pe_in pend.half p) (none p)
-adds_none marks reach NoCover pend none Second p = passed_by (pe_in reach p) (pe_in marks.half p) (pe_in pend.second p)
-adds_none marks reach Half pend none Second p = passed_by (pe_in reach p) (pe_in marks.half p) (pe_in pend.second p)
-adds_none marks reach Second pend none Second p =
-    kept_by (pe_in reach p) (pe_in marks.half p) (pe_in pend.second p) (none p)
-adds_none marks reach Full pend none Second p = passed_by (pe_in reach p) (pe_in marks.half p) (pe_in pend.second p)
-adds_none marks reach NoCover pend none Full p = passed_by (pe_in reach p) (pe_in marks.seen p) (pe_in pend.full p)
-adds_none marks reach Half pend none Full p = passed_by (pe_in reach p) (pe_in marks.seen p) (pe_in pend.full p)
-adds_none marks reach Second pend none Full p = passed_by (pe_in reach p) (pe_in marks.seen p) (pe_in pend.full p)
+adds_none marks reach Second pend none Second p = kept_by (pe_in reach p) (pe_in marks.half p) (pe_in pend.second p) (none p)
 adds_none marks reach Full pend none Full p = kept_by (pe_in reach p) (pe_in marks.seen p) (pe_in pend.full p) (none p)
-adds_none marks reach _ pend none Half p = passed_by (pe_in reach p) (pe_in marks.seen p) (pe_in pend.half p)
+adds_none marks reach cover pend none c p = passed_by (pe_in reach p) (counts_for marks c p) (waits_in pend c p)
+
+-- nothing is added where each PE waits that a TLBI reaches and for which it counts
+pub adds_nothing : (marks : Marks) (reach seen missing : PeMask) (cover at : Cover) (pend : Pend) → cover ≡ at
+    → ((p : ℕ) → pe_in seen p ≡ (pe_in reach p && counts_for marks at p))
+    → ((p : ℕ) → pe_in missing p ≡ (pe_in seen p && not (waits_in pend at p))) → ((p : ℕ) → pe_in missing p ≡ false)
+    → Adds marks reach cover pend pend
+adds_nothing marks reach seen missing cover at pend is seen_is missing_is none =
+    subst (λ (x : Cover). Adds marks reach x pend pend) (sym is) (adds_none marks reach at pend (λ p.
+    ap (λ (x : Bool). x && not (waits_in pend at p)) (sym (seen_is p)) ∙ sym (missing_is p) ∙ none p))

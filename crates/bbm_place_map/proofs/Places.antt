@@ -1,8 +1,9 @@
 -- Places and their cells.
 use Rattle.bbm_place_map.proofs.Common.{◌≡◌, ◌≢◌, ℕ, ◌+◌, ◌-◌, ◌*◌, ◌/◌, ◌%◌, ◌<◌, ◌≤◌, Bool, true, false, nat_eq, ◌==◌}
 use Rattle.bbm_place_map.proofs.Common.{Option, Some, None, refl, ap, sym, ◌∙◌, arith, inl, inr, if◌then◌else◌}
-use Rattle.bbm_place_map.proofs.Common.{option_map, cases_eq, cases_lt, cases_Bool, eq-eqb, ne_eqb, eqb-true, cond-true}
-use Rattle.bbm_place_map.proofs.Common.{cond-false, same_Some, none-some, in_page, Numbered, index_of, at_index}
+use Rattle.bbm_place_map.proofs.Common.{option_map, cases_lt, cases_Bool, eq-eqb, eqb-true, cond-true, cond-false}
+use Rattle.bbm_place_map.proofs.Common.{same_Some, none-some, in_page, Numbered, index_of, at_index, put_here, put_away}
+use Rattle.bbm_place_map.proofs.Common.{split_at}
 use Rattle.bbm_place_map.proofs.Pages.{inside, before, behind}
 
 -- the page's base of a place that has a cell
@@ -117,31 +118,22 @@ module _ (base : ℕ → Option ℕ) (count : ℕ) (numbered : Numbered base cou
       → (o : Option ℕ) → index_of base a ≡ o → at_index d g o ≡ at_index d f o
   elsewhere d v f g place j here new a other None h = refl
   elsewhere d v f g place j here new a other (Some i) h =
-      new i ∙ cond-false (nat_eq i j) v (f i)
-      (ne_eqb i j (λ same. other (index_once a place j (h ∙ ap (λ (n : ℕ). Some n) same) here)))
+      put_away _ _ new i (λ same. other (index_once a place j (h ∙ ap (λ (n : ℕ). Some n) same) here))
 
   -- a cell changes: so does its place
   pub at_place : {X : Type 0} (d v : X) (f g : ℕ → X) (place j : ℕ) → index_of base place ≡ Some j
       → ((i : ℕ) → g i ≡ (if nat_eq i j then v else f i))
       → (a : ℕ) → at_index d g (index_of base a) ≡ (if nat_eq a place then v else at_index d f (index_of base a))
   at_place d v f g place j here new a =
-      elim (cases_eq a place) [
-        | inl same ↦
-            ap (at_index d g) (ap (index_of base) same ∙ here) ∙ new j ∙ cond-true (nat_eq j j) v (f j) (eq-eqb j j refl)
-            ∙ sym (cond-true (nat_eq a place) v (at_index d f (index_of base a)) (eq-eqb a place same))
-        | inr other ↦
-            elsewhere d v f g place j here new a other (index_of base a) refl
-            ∙ sym (cond-false (nat_eq a place) v (at_index d f (index_of base a)) (ne_eqb a place other))
-      ]
+      split_at a place (λ same. ap (at_index d g) (ap (index_of base) same ∙ here) ∙ put_here _ _ new j refl)
+      (λ other. elsewhere d v f g place j here new a other (index_of base a) refl)
 
   within_page : {X : Type 0} (d : X) (f g : ℕ → X) (page b : ℕ) → base page ≡ Some b
       → ((i : ℕ) → g i ≡ (if in_page b 512 i then d else f i)) → (a : ℕ) → a / 4096 * 4096 ≡ page
       → (o : Option ℕ) → index_of base a ≡ o → at_index d g o ≡ d
   within_page d f g page b is new a same None h = refl
   within_page d f g page b is new a same (Some i) h =
-      let w = found base a i h in
-      let start : w.start ≡ b = same_Some w.start b (sym w.is ∙ ap base same ∙ is) in
-      let sum : w.start + a % 4096 / 8 ≡ i = w.sum in
+      let sum : b + a % 4096 / 8 ≡ i = cell_of base page b a i is same h in
       let below : a % 4096 / 8 < 512 = number_below a in
       new i ∙ cond-true (in_page b 512 i) d (f i) (inside b 512 i (omega arith) (omega arith))
 
@@ -172,14 +164,8 @@ module _ (base : ℕ → Option ℕ) (count : ℕ) (numbered : Numbered base cou
       → ((i : ℕ) → g i ≡ (if in_page b 512 i then d else f i))
       → (a : ℕ) → at_index d g (index_of base a) ≡ (if nat_eq (a / 4096 * 4096) page then d else at_index d f (index_of base a))
   at_page d f g page b is new a =
-      elim (cases_eq (a / 4096 * 4096) page) [
-        | inl same ↦
-            within_page d f g page b is new a same (index_of base a) refl
-            ∙ sym (cond-true (nat_eq (a / 4096 * 4096) page) d (at_index d f (index_of base a)) (eq-eqb (a / 4096 * 4096) page same))
-        | inr other ↦
-            out_of_page d f g page b is new a other (index_of base a) refl
-            ∙ sym (cond-false (nat_eq (a / 4096 * 4096) page) d (at_index d f (index_of base a)) (ne_eqb (a / 4096 * 4096) page other))
-      ]
+      split_at (a / 4096 * 4096) page (λ same. within_page d f g page b is new a same (index_of base a) refl)
+      (λ other. out_of_page d f g page b is new a other (index_of base a) refl)
 
 pub at_same : {X : Type 0} (d : X) (f g : ℕ → X) → ((i : ℕ) → g i ≡ f i) → (o : Option ℕ) → at_index d g o ≡ at_index d f o
 at_same d f g same None = refl

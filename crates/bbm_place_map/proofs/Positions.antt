@@ -1,12 +1,8 @@
 -- Entries that change, each in its place.
 use Rattle.bbm_place_map.proofs.Common.{◌≡◌, ◌≢◌, ℕ, nat_eq, List, length, Option, Some, None, refl, ap, sym, ◌∙◌, inl}
-use Rattle.bbm_place_map.proofs.Common.{inr, if◌then◌else◌, slice_get, Vec, Global, option_map, cases_eq, eq-eqb}
-use Rattle.bbm_place_map.proofs.Common.{ne_eqb, cond-true, cond-false, same_Some, none-some, SmallVec, slot_in}
-use Rattle.bbm_place_map.proofs.Common.{position}
-use Rattle.bbm_place_map.proofs.Common.{position_at, cell_at, entry_of, entry_in, marks_of, pends_of, pends_in}
-use Rattle.bbm_place_map.proofs.Common.{marks_in}
-use Rattle.bbm_place_map.proofs.Common.{pends_for, Linked, Placed, StillSound, index_of, Entry, Pending}
-use Rattle.bbm_place_map.proofs.Linking.{choose_marks}
+use Rattle.bbm_place_map.proofs.Common.{inr, if◌then◌else◌, slice_get, Vec, Global, option_map, cases_eq, same_Some}
+use Rattle.bbm_place_map.proofs.Common.{none-some, slot_in, position, position_at, cell_at, entry_of, entry_in, Linked}
+use Rattle.bbm_place_map.proofs.Common.{Placed, StillSound, index_of, Entry, SameSize, put_here, put_away, split_at}
 
 position_cell : (o : Option Entry) → option_map (λ (e : Entry). e.cell) o ≡ option_map (λ (p : ℕ × ℕ). p.1) (option_map position o)
 position_cell None = refl
@@ -40,54 +36,25 @@ module _ (entries entries' : List Entry) (positions : (m : ℕ) → position_at 
 module _ (cells : List ℕ) (entries entries' : List Entry) (e e' : Entry) (j k : ℕ) (linked : Linked cells entries)
     (here : slot_in cells j ≡ Some k) (was : slice_get entries k ≡ Some e) (seated : position e' ≡ position e)
     (gets : (i : ℕ) → slice_get entries' i ≡ (if nat_eq i k then Some e' else slice_get entries i)) where
-  at_k : (i : ℕ) → i ≡ k → slice_get entries' i ≡ Some e'
-  at_k i same = gets i ∙ cond-true (nat_eq i k) (Some e') (slice_get entries i) (eq-eqb i k same)
-
-  off_k : (i : ℕ) → i ≢ k → slice_get entries' i ≡ slice_get entries i
-  off_k i other = gets i ∙ cond-false (nat_eq i k) (Some e') (slice_get entries i) (ne_eqb i k other)
-
   pub positions_changed : (m : ℕ) → position_at entries' m ≡ position_at entries m
   positions_changed m =
       elim (cases_eq m k) [
         | inl same ↦
-            ap (option_map position) (at_k m same) ∙ ap (λ (p : ℕ × ℕ). Some p) seated
+            ap (option_map position) (put_here _ _ gets m same) ∙ ap (λ (p : ℕ × ℕ). Some p) seated
             ∙ sym (ap (option_map position) (ap (slice_get entries) same ∙ was))
-        | inr other ↦ ap (option_map position) (off_k m other)
+        | inr other ↦ ap (option_map position) (put_away _ _ gets m other)
       ]
 
   kept : (i : ℕ) → i ≢ j → (o : Option ℕ) → slot_in cells i ≡ o → entry_of entries' o ≡ entry_of entries o
   kept i other None h = refl
   kept i other (Some m) h =
-      off_k m (λ same. other (same_Some i j
+      put_away _ _ gets m (λ same. other (same_Some i j
       (sym (linked.forth i m h) ∙ ap (cell_at entries) same ∙ linked.forth j k here)))
 
   pub entries_changed : (i : ℕ) → entry_in cells entries' i ≡ (if nat_eq i j then Some e' else entry_in cells entries i)
   entries_changed i =
-      elim (cases_eq i j) [
-        | inl same ↦
-            ap (entry_of entries') (ap (slot_in cells) same ∙ here) ∙ at_k k refl
-            ∙ sym (cond-true (nat_eq i j) (Some e') (entry_in cells entries i) (eq-eqb i j same))
-        | inr other ↦
-            kept i other (slot_in cells i) refl
-            ∙ sym (cond-false (nat_eq i j) (Some e') (entry_in cells entries i) (ne_eqb i j other))
-      ]
-
-  pub entry_was : entry_in cells entries j ≡ Some e
-  entry_was = ap (entry_of entries) here ∙ was
-
-  pub marks_changed : (i : ℕ) → marks_in cells entries' i ≡ (if nat_eq i j then Some e'.marks else marks_in cells entries i)
-  marks_changed i = ap marks_of (entries_changed i) ∙ choose_marks (nat_eq i j) e' (entry_in cells entries i)
-
-  pub pends_changed : e'.pends ≡ e.pends → (q i : ℕ) → pends_for cells entries' q i ≡ pends_for cells entries q i
-  pends_changed same q i =
-      elim (cases_eq i j) [
-        | inl here' ↦
-            ap (pends_of q) (entries_changed i ∙ cond-true (nat_eq i j) (Some e') (entry_in cells entries i) (eq-eqb i j here'))
-            ∙ ap (λ (ps : List Pending). pends_in ps q) (ap (λ (v : SmallVec Pending). v.items) same)
-            ∙ sym (ap (pends_of q) (ap (entry_in cells entries) here' ∙ entry_was))
-        | inr other ↦
-            ap (pends_of q) (entries_changed i ∙ cond-false (nat_eq i j) (Some e') (entry_in cells entries i) (ne_eqb i j other))
-      ]
+      split_at i j (λ same. ap (entry_of entries') (ap (slot_in cells) same ∙ here) ∙ put_here _ _ gets k refl)
+      (λ other. kept i other (slot_in cells i) refl)
 
 found_in : (o : Option Entry) (j : ℕ) → option_map (λ (e : Entry). e.cell) o ≡ Some j → (e : Entry) × (o ≡ Some e)
 found_in None j h = absurd (none-some j h)
@@ -99,6 +66,16 @@ found entries k j h = found_in (slice_get entries k) j h
 -- cells and entries that stay as they are, and one edit after another
 pub still_same : (cells : Vec ℕ Global) (entries : Vec Entry Global) → Linked cells.items entries.items → StillSound cells cells entries entries
 still_same cells entries linked = record { linked = linked; len = refl; space = refl; room = refl; placed = λ base placed. placed }
+
+pub still_seated : (cells : Vec ℕ Global) (old new : Vec Entry Global) → ((m : ℕ) → position_at new.items m ≡ position_at old.items m)
+    → SameSize old new → Linked cells.items old.items → StillSound cells cells old new
+still_seated cells old new positions size linked = record {
+  linked = linked_seated old.items new.items positions cells.items size.len linked;
+  len = refl;
+  space = refl;
+  room = size.room;
+  placed = placed_seated old.items new.items positions;
+}
 
 pub still_more : {cells cells' cells'' : Vec ℕ Global} {old mid new : Vec Entry Global} → StillSound cells cells' old mid
     → StillSound cells' cells'' mid new → StillSound cells cells'' old new

@@ -5,17 +5,18 @@ use Rattle.bbm_place_map.proofs.Common.{none-some, fun_ext, proved, If, Is, Dsb,
 use Rattle.bbm_place_map.proofs.Common.{answers_local, Core, every_pe, Cover, Half, Second, Full, answered_at}
 use Rattle.bbm_place_map.proofs.Common.{clean_after, waits, core_in, Marks, Pends, Broken, IsUnanswered, Completes}
 use Rattle.bbm_place_map.proofs.Common.{loses_table, is_table, pends_in, pends_of, marks_of, state_from, IsQuiet}
-use Rattle.bbm_place_map.proofs.Common.{IsTold, MayComplete, is_clean, Entry, Barrier, and-false}
+use Rattle.bbm_place_map.proofs.Common.{IsTold, MayComplete, is_clean, Entry, Barrier, and-false, subst, ◌⊎◌, pe_in}
+use Rattle.bbm_place_map.proofs.Common.{either}
 use Rattle.std.proofs.Common.{is_none}
 use Rattle.bbm_barriers.specs.Options.{completed, has_broadcast, has_local, Completed as Answers}
-use Rattle.bbm_barriers.specs.Options.Completed.{EveryTlbi, LocalTlbis, NoTlbi}
-use Rattle.bbm_regimes.specs.PeMask.{pe_in}
+use Rattle.bbm_barriers.specs.Options.Completed.{NoTlbi}
 use Rattle.bbm_entry_state.specs.EntryCalls.{half_after}
 use Rattle.bbm_place_map.specs.Each.{has_table}
 use Rattle.bbm_place_map.proofs.Answering.{completes_at}
 use Rattle.bbm_place_map.proofs.Completing.{completes_none}
 use mathlib.Core.Bool.{and_self_left}
 use Rattle.bbm_lemmas.proofs.Bools.{and_none}
+use Rattle.std.proofs.lemmas.Bool.{false_from_ne_true}
 
 none_answered : (a w : Bool) → (a && (not a && w)) ≡ false
 none_answered = proved 2 (λ a w. Is (a && (not a && w)) false) refl
@@ -35,16 +36,12 @@ has_both : (c : Answers) → has_broadcast c ≡ true → has_local c ≡ true
 has_both NoTlbi h = h
 has_both _ h = refl
 
-has_none : (c : Answers) → has_local c ≡ false → has_broadcast c ≡ false
-has_none EveryTlbi h = h
-has_none _ h = refl
-
 -- a DSB that completes the TLBIs that are broadcast completes the others, too
 answers_both : (dsb : Dsb) → answers_broadcast dsb ≡ true → answers_local dsb ≡ true
 answers_both dsb = has_both (completed dsb.domain dsb.types)
 
 answers_none : (dsb : Dsb) → answers_local dsb ≡ false → answers_broadcast dsb ≡ false
-answers_none dsb = has_none (completed dsb.domain dsb.types)
+answers_none dsb none = false_from_ne_true (answers_broadcast dsb) (λ all. false≢true (sym none ∙ answers_both dsb all))
 
 -- a DSB that answers no TLBI, or none of those that wait
 pub no_answer : (dsb : Dsb) (r : Pends) → answers_local dsb ≡ false → IsUnanswered dsb r
@@ -84,40 +81,31 @@ module _ (by : Barrier) where
   unanswered : (r : Pends) → IsUnanswered by.dsb r → (c : Cover) (p : ℕ) → answered_at r by.dsb c p ≡ false
   unanswered r none c p = ap (λ (b : Bool). b || (answers by.dsb false && waits r false c p)) (none true c p) ∙ none false c p
 
-  still : (e : Entry) → ((c : Cover) (p : ℕ) → answered_at (pends_in e.pends.items by.issuer) by.dsb c p ≡ false)
-      → is_clean by.n e.marks ≡ false
-      → ((b : Bool) (c : Cover) (p : ℕ) → waits (pends_in e.pends.items by.issuer) b c p ≡ (not (answers by.dsb b) && waits (pends_in e.pends.items by.issuer) b c p))
-      → Completes by (Some e) (Some e)
-  still e none unclean waiting = record {
-    own = record {
-      core = sym (ap (λ (b : Bool). if b then None else Some e.marks.core) (every_still e none ∙ unclean));
-      broken = refl;
-      writers = λ p. refl;
-      seen = λ p. refl;
-      half = λ p. sym (half_still e none p);
-      clean = λ p. sym (clean_still e none p);
-      waiting = waiting;
-    };
-    others = λ q other b c p. refl;
-  }
-
   pub unanswered_same : (o : Option Entry) → IsUnanswered by.dsb (pends_of by.issuer o)
       → ((marks : Marks) → marks_of o ≡ Some marks → is_clean by.n marks ≡ false) → Completes by o o
   unanswered_same None none unclean = completes_none by
   unanswered_same (Some e) none unclean =
-      still e (unanswered (pends_in e.pends.items by.issuer) none) (unclean e.marks refl)
-      (λ b c p. waits_on (answers by.dsb b) (waits (pends_in e.pends.items by.issuer) b c p) (none b c p))
+      let still = unanswered (pends_in e.pends.items by.issuer) none in
+      record {
+        own = record {
+          core = sym (ap (λ (b : Bool). if b then None else Some e.marks.core) (every_still e still ∙ unclean e.marks refl));
+          broken = refl;
+          writers = λ p. refl;
+          seen = λ p. refl;
+          half = λ p. sym (half_still e still p);
+          clean = λ p. sym (clean_still e still p);
+          waiting = λ b c p. waits_on (answers by.dsb b) (waits (pends_in e.pends.items by.issuer) b c p) (none b c p);
+        };
+        others = λ q other b c p. refl;
+      }
 
   none_stays : (f : Entry) → Completes by None (Some f) → ⊥
   none_stays f h = absurd (false≢true (sym h.own.broken))
 
   left_none : (e f : Entry) → Completes by (Some e) (Some f) → (c : Cover) (p : ℕ) → answered_at (pends_in f.pends.items by.issuer) by.dsb c p ≡ false
-  left_none e f h c p =
-      ap (λ (b : Bool). (answers by.dsb true && b) || (answers by.dsb false && waits (pends_in f.pends.items by.issuer) false c p)) (h.own.waiting true c p)
-      ∙ ap (λ (b : Bool). b || (answers by.dsb false && waits (pends_in f.pends.items by.issuer) false c p))
-      (none_answered (answers by.dsb true) (waits (pends_in e.pends.items by.issuer) true c p))
-      ∙ ap (λ (b : Bool). answers by.dsb false && b) (h.own.waiting false c p)
-      ∙ none_answered (answers by.dsb false) (waits (pends_in e.pends.items by.issuer) false c p)
+  left_none e f h =
+      unanswered (pends_in f.pends.items by.issuer) (λ b c p. ap (λ (w : Bool). answers by.dsb b && w) (h.own.waiting b c p)
+      ∙ none_answered (answers by.dsb b) (waits (pends_in e.pends.items by.issuer) b c p))
 
   some_unclean : (e f : Entry) → Completes by (Some e) (Some f)
       → every_pe by.n (clean_after (Broken e.marks) (pends_in e.pends.items by.issuer) by.dsb) ≡ false
@@ -231,7 +219,11 @@ module _ (by : Barrier) where
       ∙ and-false (is_some (core_in (state_from None (marks_of p))))
 
   -- of any PE, where nothing more was published nothing more is
-  pub told_completed : (wide : Bool) (m q : ℕ) (o : Option Entry) (f : Entry) → Completes by o (Some f)
-      → ((e : Entry) → o ≡ Some e → IsTold wide m q e.marks) → IsTold wide m q f.marks
-  told_completed wide m q None f h told = absurd (none_stays f h)
-  told_completed wide m q (Some e) f h told = λ p below reach wrote. h.own.seen p ∙ told e refl p below reach (sym (h.own.writers q) ∙ wrote)
+  pub told_completed : (wide : Bool) (n q : ℕ) (H : Type 0) (o p : Option Entry) → Completes by o p
+      → ((marks : Marks) → marks_of o ≡ Some marks → H ⊎ IsTold wide n q marks)
+      → (marks : Marks) → marks_of p ≡ Some marks → H ⊎ IsTold wide n q marks
+  told_completed wide n q H o None h known marks is = absurd (none-some marks is)
+  told_completed wide n q H None (Some f) h known marks is = absurd (none_stays f h)
+  told_completed wide n q H (Some e) (Some f) h known marks is =
+      subst (λ (x : Marks). H ⊎ IsTold wide n q x) (same_Some f.marks marks is)
+      (either (known e.marks refl) (λ holds. holds) (λ told p below reach wrote. h.own.seen p ∙ told p below reach (sym (h.own.writers q) ∙ wrote)))

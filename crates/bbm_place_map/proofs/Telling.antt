@@ -1,34 +1,29 @@
 -- What DSBs of a PE publish, and where they publish no more.
 use Rattle.bbm_place_map.proofs.Common.{◌≡◌, ℕ, ◌<◌, ◌⊎◌, Bool, true, false, not, ◌&&◌, ◌||◌, nat_eq, Option, Some}
-use Rattle.bbm_place_map.proofs.Common.{None, refl, arith, ap, sym, subst, ◌∙◌, inl, inr, cases_eq, ltb-true, lt-ltb}
-use Rattle.bbm_place_map.proofs.Common.{eqb-true, eq-eqb, and_from, false≢true, or_left, or_right, same_Some, proved}
-use Rattle.bbm_place_map.proofs.Common.{If, Is, Dsb, Inner, All, Stores, publishes, Marks, IsHeard, Advances, Publishes}
-use Rattle.bbm_place_map.proofs.Common.{IsTold, MayPublish, Entry, Barrier}
+use Rattle.bbm_place_map.proofs.Common.{None, refl, arith, ap, sym, ◌∙◌, inl, inr, cases_eq, ltb-true, lt-ltb, eqb-true}
+use Rattle.bbm_place_map.proofs.Common.{eq-eqb, and_from, false≢true, or_left, or_right, same_Some, proved, If, Is, Dsb}
+use Rattle.bbm_place_map.proofs.Common.{All, Stores, publishes, Marks, IsHeard, Advances, Publishes, IsTold, MayPublish}
+use Rattle.bbm_place_map.proofs.Common.{Entry, Barrier, Published, EntryState, Broken, pe_in, either}
+use Rattle.bbm_entry_state.specs.Points.{writer_at, seen_at}
 use Rattle.bbm_barriers.specs.declared.Domain.{Domain}
-use Rattle.bbm_barriers.specs.declared.Domain.TheVariants.{Full, Outer, Non}
+use Rattle.bbm_barriers.specs.declared.Domain.TheVariants.{Non}
 use Rattle.bbm_barriers.specs.declared.Types.{Types}
 use Rattle.bbm_barriers.specs.declared.Types.TheVariants.{Loads}
 use Rattle.bbm_barriers.specs.Options.{hears, audience, is_non, Audience}
 use Rattle.bbm_barriers.specs.Options.Audience.{EveryPe, IssuerAlone, NoPe}
-use Rattle.bbm_regimes.specs.PeMask.{pe_in}
 use mathlib.Core.Bool.{or_self_left}
+use Rattle.bbm_place_map.proofs.Advancing.{at_both, advance_then}
 
 hears_within : (a : Audience) (issuer n p : ℕ) → issuer < n → hears a issuer n p ≡ true → p < n
 hears_within EveryPe issuer n p below h = ltb-true p n h
 hears_within IssuerAlone issuer n p below h = let same : p ≡ issuer = eqb-true p issuer h in omega arith
 hears_within NoPe issuer n p below h = absurd (false≢true h)
 
-pub publishes_within : (dsb : Dsb) (issuer n p : ℕ) → issuer < n → publishes dsb issuer n p ≡ true → p < n
-publishes_within dsb issuer n p below h = hears_within (audience dsb.domain dsb.types) issuer n p below h
-
 reach_in : (d : Domain) (t : Types) (issuer n p : ℕ) → hears (audience d t) issuer n p ≡ true → (not (is_non d) || nat_eq p issuer) ≡ true
 reach_in Non All issuer n p h = h
 reach_in Non Stores issuer n p h = h
 reach_in Non Loads issuer n p h = absurd (false≢true h)
 reach_in _ t issuer n p h = refl
-
-reach_by : (dsb : Dsb) (issuer n p : ℕ) → publishes dsb issuer n p ≡ true → (not (is_non dsb.domain) || nat_eq p issuer) ≡ true
-reach_by dsb issuer n p h = reach_in dsb.domain dsb.types issuer n p h
 
 own_in : (a : Audience) (issuer n : ℕ) → issuer < n → (hears a issuer n issuer ≡ true) ⊎ ((p : ℕ) → hears a issuer n p ≡ false)
 own_in EveryPe issuer n below = inl (lt-ltb issuer n below)
@@ -60,49 +55,33 @@ module _ (by : Barrier) where
     },
   )
 
-  again_both : (o p r : Option Entry) → Advances (Publishes by) o p → Advances (Publishes by) p r
-      → Advances (Publishes by) o r
-  again_both None None r h h' = h'
-  again_both (Some e) (Some f) None h h' = absurd h'
-  again_both (Some e) (Some f) (Some g) h h' = (h'.0 ∙ h.0, again_entry e f g h.1 h'.1)
-  again_both _ _ r h h' = absurd h
+  -- a DSB that publishes twice publishes the same once
+  pub again : (o p r : Option Entry) → MayPublish by o p → Advances (Publishes by) p r → Advances (Publishes by) o r
+  again o p r (inl same) h = at_both (Publishes by) o p r r (sym same) refl h
+  again o p r (inr did) h = advance_then (Publishes by) (Publishes by) (Publishes by) (λ e f g _. again_entry e f g) o p r did h
 
-  -- a DSB that publishes or_self_left publishes the same once
-  pub again : (o p r : Option Entry) → MayPublish by o p → Advances (Publishes by) p r
-      → Advances (Publishes by) o r
-  again o p r may h =
-      elim may [
-        | inl same ↦ let P : Option Entry → Type 0 = λ x. Advances (Publishes by) x r in subst P same h
-        | inr did ↦ again_both o p r did h
-      ]
+  -- where nothing more is published nothing changes
+  pub still_published : (s : EntryState)
+      → ((p : ℕ) → publishes by.dsb by.issuer by.n p ≡ true → writer_at s by.issuer ≡ true → seen_at s p ≡ true)
+      → Published s by.issuer by.dsb by.n s
+  still_published s heard = record {
+    core = refl;
+    broken = refl;
+    writers = λ p. refl;
+    seen = λ p. once (publishes by.dsb by.issuer by.n p) (writer_at s by.issuer) (seen_at s p) (heard p);
+    half = λ p. refl;
+    clean = λ p. refl;
+  }
 
-  pub same_published : (e : Entry) → IsHeard by e.marks → Publishes by e e
-  same_published e heard = (
-    refl,
-    record {
-      core = refl;
-      broken = refl;
-      writers = λ p. refl;
-      seen = λ p. once (publishes by.dsb by.issuer by.n p) (pe_in e.marks.writers by.issuer) (pe_in e.marks.seen p) (heard p);
-      half = λ p. refl;
-      clean = λ p. refl;
-    },
-  )
-
-  -- where nothing more is published, an entry that may have been visited was
-  pub heard_advances : (o p : Option Entry) → ((e : Entry) → o ≡ Some e → IsHeard by e.marks) → MayPublish by o p
+  -- and an entry that may have been visited was
+  pub heard_advances : (o p : Option Entry) → ((e : Entry) → o ≡ Some e → Advances (Publishes by) o p ⊎ IsHeard by e.marks) → MayPublish by o p
       → Advances (Publishes by) o p
-  heard_advances None p heard may =
-      elim may [
-        | inl same ↦ let P : Option Entry → Type 0 = λ x. Advances (Publishes by) None x in subst P (sym same) tt
-        | inr did ↦ did
-      ]
-  heard_advances (Some e) p heard may =
-      elim may [
-        | inl same ↦
-            let P : Option Entry → Type 0 = λ x. Advances (Publishes by) (Some e) x in
-            subst P (sym same) (refl, same_published e (heard e refl))
-        | inr did ↦ did
+  heard_advances o p known (inr did) = did
+  heard_advances None p known (inl same) = at_both (Publishes by) None None p None refl same tt
+  heard_advances (Some e) p known (inl same) =
+      elim (known e refl) [
+        | inl did ↦ did
+        | inr heard ↦ at_both (Publishes by) (Some e) (Some e) p (Some e) refl same (refl, (refl, still_published (Broken e.marks) heard))
       ]
 
   -- what a DSB published it publishes no more
@@ -113,8 +92,8 @@ module _ (by : Barrier) where
       (and_from (publishes by.dsb by.issuer by.n p) (pe_in e.marks.writers by.issuer) reached (sym (h.1.writers by.issuer) ∙ wrote))
 
   -- of any PE, where nothing more was published nothing more is
-  pub told_kept : (wide : Bool) (q : ℕ) (e f : Entry) → Publishes by e f → IsTold wide by.n q e.marks → IsTold wide by.n q f.marks
-  told_kept wide q e f h told p below reach wrote =
+  pub told_kept : (wide : Bool) (n q : ℕ) (e f : Entry) → Publishes by e f → IsTold wide n q e.marks → IsTold wide n q f.marks
+  told_kept wide n q e f h told p below reach wrote =
       h.1.seen p
       ∙ or_right (publishes by.dsb by.issuer by.n p && pe_in e.marks.writers by.issuer) (pe_in e.marks.seen p)
       (told p below reach (sym (h.1.writers q) ∙ wrote))
@@ -122,7 +101,7 @@ module _ (by : Barrier) where
   -- a DSB publishes no more where none does that reaches as many PEs
   pub heard_told : (marks : Marks) → by.issuer < by.n → IsTold (not (is_non by.dsb.domain)) by.n by.issuer marks → IsHeard by marks
   heard_told marks below told p reached wrote =
-      told p (publishes_within by.dsb by.issuer by.n p below reached) (reach_by by.dsb by.issuer by.n p reached) wrote
+      told p (hears_within (audience by.dsb.domain by.dsb.types) by.issuer by.n p below reached) (reach_in by.dsb.domain by.dsb.types by.issuer by.n p reached) wrote
 
   -- and none that reaches the PE alone, or any, where this one reached the PE, or each
   pub told_alone : (marks : Marks) → publishes by.dsb by.issuer by.n by.issuer ≡ true → IsHeard by marks → IsTold false by.n by.issuer marks
@@ -143,7 +122,4 @@ told_after_write wide n q b marks wrote more told p below reach _ = more p (told
 pub slot_cases : (s : Option ℕ) (k : ℕ) → (s ≡ Some k) ⊎ (s ≡ Some k → ⊥)
 slot_cases None k = inr (λ h. cc)
 slot_cases (Some m) k =
-    elim (cases_eq m k) [
-      | inl same ↦ inl (ap (λ (x : ℕ). Some x) same)
-      | inr other ↦ inr (λ h. other (same_Some m k h))
-    ]
+    either (cases_eq m k) (ap (λ (x : ℕ). Some x)) (λ other h. other (same_Some m k h))

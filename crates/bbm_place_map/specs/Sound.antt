@@ -54,11 +54,6 @@ pub record KeepsSlots (cells cells' : List ℕ) : Type 0 where
   pub slots : (i : ℕ) → slot_in cells' i ≡ slot_in cells i
   pub linked : (entries : List Entry) → Linked cells entries → Linked cells' entries
 
--- Below entry k each entry stays, and no cell names one that it didn't name.
-pub record FrontStays (k : ℕ) (cells cells' : List ℕ) (entries entries' : List Entry) : Type 0 where
-  pub below : (i m : ℕ) → m < k → slot_in cells' i ≡ Some m → slot_in cells i ≡ Some m
-  pub front : (m : ℕ) → m < k → slice_get entries' m ≡ slice_get entries m
-
 -- Cells, fewer than 2^32, and entries that can be edited.
 pub record FewLinked (cells : Vec ℕ Global) (entries : Vec Entry Global) : Type 0 where
   pub linked : Linked cells.items entries.items

@@ -1,16 +1,15 @@
 //! What a DSB answers.
 
-ghost use Rattle.std.specs.Prelude.{◌≡◌, ◌≢◌, ◌≤◌, ◌<◌, ◌+◌, ◌^◌, ◌⊎◌, ℕ, Bool, Some, Option, vec_len, vec_capacity};
-ghost use Rattle.std.specs.Prelude.{length, slice_get, slice_index, nat_eq, true, false, if◌then◌else◌};
+ghost use Rattle.std.specs.Prelude.{◌≡◌, ◌≢◌, ◌≤◌, ◌<◌, ◌+◌, ◌⊎◌, ℕ, Bool, Some, vec_len, length, slice_get, nat_eq};
+ghost use Rattle.std.specs.Prelude.{true, false, if◌then◌else◌};
 ghost use Rattle.bbm_entry_state.specs.EntryCalls.{Completed};
 ghost use Rattle.bbm_entry_state.specs.declared.state.EntryState.TheVariants as state;
-ghost use Rattle.bbm_place_map.specs.Cells.{slot_in};
 ghost use Rattle.bbm_place_map.specs.Dsbs.{CanAnswer, CompletesAll, HasWaiting, HoldWaiting, IsSettled};
 ghost use Rattle.bbm_place_map.specs.Each.{Completes, loses_table, is_table as spec_is_table};
 ghost use Rattle.bbm_place_map.specs.Entries.{cell_at, entry_in, no_pends, pends_in, position};
 ghost use Rattle.bbm_place_map.specs.Parts.{marks_in};
-ghost use Rattle.bbm_place_map.specs.Sound.{FrontStays, SameSize, StillSound};
-ghost use Rattle.bbm_place_map.specs.Works.{Holds, HoldsFor, IsQuiet, MayComplete};
+ghost use Rattle.bbm_place_map.specs.Sound.{SameSize, StillSound};
+ghost use Rattle.bbm_place_map.specs.Works.{Holds, HoldsFor, IsQuiet};
 ghost use Rattle.bbm_place_map.specs.declared.entry.Entry.{Entry as TheEntry};
 
 use crate::entry::{Entry, is_quiet_for, take_answered};
@@ -65,7 +64,7 @@ fn complete_at(cells: &mut Vec<u32>, broken: &mut Vec<Entry>, k: usize, barrier:
         ≡ loses_table (marks_in cells.old.items broken.old.items j) (marks_in cells.new.items broken.new.items j) }
     ensures others { (i j : ℕ) → cell_at broken.old.items k ≡ Some j → i ≢ j
         → entry_in cells.new.items broken.new.items i ≡ entry_in cells.old.items broken.old.items i }
-    ensures front { FrontStays k cells.old.items cells.new.items broken.old.items broken.new.items }
+    ensures front { (m : ℕ) → m < k → slice_get broken.new.items m ≡ slice_get broken.old.items m }
 {
     let core = broken[k].marks.core;
     if answer_at(broken, k, barrier) {
@@ -116,24 +115,17 @@ fn complete_cell(
     }
 }
 
-/// A DSB of the issuer answered its TLBIs at the entries of these cells. Whether one over a table left.
+/// A DSB of the issuer answered its TLBIs at the entries of these cells, which are all those at which something waits for
+/// that. Whether one over a table left.
 fn complete_cells(
     cells: &mut Vec<u32>,
     broken: &mut Vec<Entry>,
     list: &[u32],
     barrier: &Barrier,
 ) -> bool
-    requires { CanAnswer barrier.now cells.old broken.old }
-    ensures sound { StillSound cells.old cells.new broken.old broken.new }
-    ensures here { (i : ℕ) → i < length list.now → Completes barrier.now
-        (entry_in cells.old.items broken.old.items (slice_index list.now i))
-        (entry_in cells.new.items broken.new.items (slice_index list.now i)) }
-    ensures each { (j : ℕ) → MayComplete barrier.now (entry_in cells.old.items broken.old.items j)
-        (entry_in cells.new.items broken.new.items j) }
-    ensures lost { result ≡ true → (j : ℕ) × (loses_table (marks_in cells.old.items broken.old.items j)
-        (marks_in cells.new.items broken.new.items j) ≡ true) }
-    ensures kept { result ≡ false → (j : ℕ) → loses_table (marks_in cells.old.items broken.old.items j)
-        (marks_in cells.new.items broken.new.items j) ≡ false }
+    requires able { CanAnswer barrier.now cells.old broken.old }
+    requires waiting { HasWaiting list.now barrier.now cells.old.items broken.old.items }
+    ensures { CompletesAll barrier.now cells.old cells.new broken.old broken.new result }
 {
     let mut lost = false;
     for i in 0..list.len() {
@@ -166,21 +158,6 @@ fn relist(broken: &[Entry], list: &mut WorkList, issuer: Pe)
     }
 }
 
-/// A DSB of the issuer answered its TLBIs. The list has all cells at which something waits for that. Whether an entry
-/// over a table left.
-fn complete_list(
-    cells: &mut Vec<u32>,
-    broken: &mut Vec<Entry>,
-    list: &[u32],
-    barrier: &Barrier,
-) -> bool
-    requires able { CanAnswer barrier.now cells.old broken.old }
-    requires waiting { HasWaiting list.now barrier.now cells.old.items broken.old.items }
-    ensures { CompletesAll barrier.now cells.old cells.new broken.old broken.new result }
-{
-    complete_cells(cells, broken, list, barrier)
-}
-
 /// A DSB of the issuer answered its TLBIs. Its list, which has all cells at which something waits for that, loses the
 /// cells where nothing is left, or passes them for the next such DSB. Whether an entry over a table left.
 fn complete_listed(
@@ -200,7 +177,7 @@ fn complete_listed(
         return false;
     }
     let wide = completes_broadcast(barrier.dsb);
-    let lost = complete_list(cells, broken, part(list, wide), barrier);
+    let lost = complete_cells(cells, broken, part(list, wide), barrier);
     if wide {
         restart(list, false);
     } else {

@@ -5,7 +5,7 @@ ghost use Rattle.std.specs.Prelude.{vec_capacity, count_by, slice_get, cond, if�
 ghost use Rattle.bbm_place_map.specs.Cells.{slot_in, is_listed, number_of};
 ghost use Rattle.bbm_place_map.specs.Entries.{cell_at, entry_in};
 ghost use Rattle.bbm_place_map.specs.Puts.{Breaks};
-ghost use Rattle.bbm_place_map.specs.Sound.{CanBreak, FewLinked, FrontStays, StillSound};
+ghost use Rattle.bbm_place_map.specs.Sound.{CanBreak, FewLinked, StillSound};
 
 use crate::entry::Entry;
 use bbm_entry_state::Marks;
@@ -70,7 +70,7 @@ pub fn unlink(cells: &mut Vec<u32>, broken: &mut Vec<Entry>, k: usize)
     ensures entries { (j : ℕ) → cell_at broken.old.items k ≡ Some j → (i : ℕ)
         → entry_in cells.new.items broken.new.items i
         ≡ (if nat_eq i j then None else entry_in cells.old.items broken.old.items i) }
-    ensures front { FrontStays k cells.old.items cells.new.items broken.old.items broken.new.items }
+    ensures front { (m : ℕ) → m < k → slice_get broken.new.items m ≡ slice_get broken.old.items m }
 {
     let cell = broken[k].cell as usize;
     let last = broken[broken.len() - 1].cell as usize;

@@ -1,13 +1,13 @@
 //! What a DSB publishes.
 
-ghost use Rattle.std.specs.Prelude.{◌≡◌, ◌≢◌, ◌≤◌, ◌<◌, ◌⊎◌, ℕ, Bool, Some, true, false, vec_len, vec_capacity};
-ghost use Rattle.std.specs.Prelude.{length, slice_get, slice_index, nat_eq, if◌then◌else◌};
+ghost use Rattle.std.specs.Prelude.{◌≡◌, ◌≢◌, ◌<◌, ◌⊎◌, ℕ, Bool, Some, true, false, Contains, vec_len, slice_get};
+ghost use Rattle.std.specs.Prelude.{nat_eq, if◌then◌else◌};
 ghost use Rattle.bbm_place_map.specs.Cells.{slot_in};
-ghost use Rattle.bbm_place_map.specs.Dsbs.{CanPublish, HoldUntold, InLog, IsAudience, PublishesAll};
+ghost use Rattle.bbm_place_map.specs.Dsbs.{CanPublish, HoldUntold, InLog, IsAudience, IsHeard, PublishesAll};
 ghost use Rattle.bbm_place_map.specs.Each.{Advances, Publishes};
 ghost use Rattle.bbm_place_map.specs.Entries.{position};
 ghost use Rattle.bbm_place_map.specs.Sound.{Linked, SameSize};
-ghost use Rattle.bbm_place_map.specs.Works.{Holds, HoldsFor, IsTold, MayPublish};
+ghost use Rattle.bbm_place_map.specs.Works.{Holds, HoldsFor, IsTold};
 ghost use Rattle.bbm_place_map.specs.declared.entry.Entry.{Entry as TheEntry};
 
 use crate::entry::Entry;
@@ -49,7 +49,8 @@ fn publish_cell(cells: &[u32], broken: &mut Vec<Entry>, cell: u32, barrier: &Bar
     }
 }
 
-/// A DSB of the issuer, which publishes to these PEs, published its writes at the entries of these cells.
+/// A DSB of the issuer, which publishes to these PEs, published its writes at the entries of these cells, which are all
+/// those of which it can publish more.
 fn publish_cells(
     cells: &[u32],
     broken: &mut Vec<Entry>,
@@ -59,10 +60,9 @@ fn publish_cells(
 )
     requires linked { Linked cells.now broken.old.items }
     requires heard { IsAudience barrier.now heard }
-    ensures here { (i k : ℕ) → i < length list.now → slot_in cells.now (slice_index list.now i) ≡ Some k
-        → Advances (Publishes barrier.now) (slice_get broken.old.items k) (slice_get broken.new.items k) }
-    ensures each { (k : ℕ) → MayPublish barrier.now (slice_get broken.old.items k) (slice_get broken.new.items k) }
-    ensures size { SameSize broken.old broken.new }
+    requires known { (k : ℕ) (e : TheEntry) → slice_get broken.old.items k ≡ Some e
+        → Contains list.now e.cell ⊎ IsHeard barrier.now e.marks }
+    ensures { PublishesAll barrier.now broken.old broken.new }
 {
     for i in 0..list.len() {
         publish_cell(cells, broken, list[i], barrier, heard);
@@ -111,25 +111,6 @@ fn relist(broken: &[Entry], list: &mut WorkList, barrier: &Barrier)
     }
 }
 
-/// A DSB of the issuer, which publishes to these PEs, published its writes. Its list has all entries of which it can
-/// publish more, and stays.
-fn publish_list(
-    cells: &[u32],
-    broken: &mut Vec<Entry>,
-    list: &WorkList,
-    barrier: &Barrier,
-    heard: PeMask,
-)
-    requires heard { IsAudience barrier.now heard }
-    requires able { CanPublish barrier.now cells.now broken.old.items }
-    requires open { list.now.given_up ≡ false }
-    requires known { HoldUntold (Holds list.now) barrier.now broken.old.items }
-    ensures { PublishesAll barrier.now broken.old broken.new }
-{
-    let wide = !is_non(barrier.dsb.domain);
-    publish_cells(cells, broken, part(list, wide), barrier, heard);
-}
-
 /// A DSB of the issuer published its writes. Its list, which has all entries of which it can publish more, loses its
 /// cells where nothing is left, or passes them for the next DSB that reaches its PE alone. A DSB that publishes nothing
 /// visits none.
@@ -144,7 +125,8 @@ fn publish_listed(cells: &[u32], broken: &mut Vec<Entry>, list: &mut WorkList, b
     if heard.is_empty() {
         return;
     }
-    publish_list(cells, broken, list, barrier, heard);
+    let wide = !is_non(barrier.dsb.domain);
+    publish_cells(cells, broken, part(list, wide), barrier, heard);
     if !list.cells.is_empty() {
         if PeMask::all(barrier.n).minus(heard).is_empty() {
             restart(list, false);

@@ -1,9 +1,9 @@
 use Rattle.bbm_place_map.proofs.Common.{ap, sym, ◌∙◌, arith, subst, Completed, position, pends_in, no_pends, Entry}
 use Rattle.bbm_entry_state.specs.Answered.{Answered}
-use Rattle.bbm_entry_state.specs.declared.state.EntryState.TheVariants as state
 use Rattle.bbm_place_map.proofs.Idle.{nothing_waits}
 use Rattle.bbm_place_map.proofs.Leaving.{entry_same}
 use Rattle.bbm_place_map.proofs.Lists.{set_get}
+use Rattle.bbm_entry_state.specs.declared.state.EntryState.TheVariants as state
 use Rattle.bbm_place_map.proofs.complete.answer_at.Goals as goal
 
 pub returns-clause-entry : goal.returns-clause-entry

@@ -1,24 +1,18 @@
-use Rattle.bbm_place_map.proofs.Common.{ℕ, arith, inl, inr, sym, subst, ◌∙◌, set, length, ◌≤◌, slice_get_past}
-use Rattle.bbm_place_map.proofs.Common.{none-some, HoldsFor}
+use Rattle.bbm_place_map.proofs.Common.{arith, inl, sym, ◌∙◌, length, ◌≤◌, slice_get_past, none-some, either}
 use Rattle.bbm_place_map.proofs.Holding.{set_there, set_others, read_for}
 use Rattle.bbm_place_map.proofs.complete.complete.Goals as goal
 
 pub complete_by-requires-clause-known : goal.complete_by-requires-clause-known
 complete_by-requires-clause-known c = λ wide j.
-    elim (c.requires.known wide j) [
-      | inl holds ↦ inl (read_for c.args.lists.now.items c.get-q.result c.args.barrier.now.issuer c.index_mut.result.now (omega arith) c.get-q.ensures.value c.index_mut.ensures.value wide j holds)
-      | inr quiet ↦ inr quiet
-    ]
+    either (c.requires.known wide j)
+    (read_for c.args.lists.now.items c.get-q.result c.args.barrier.now.issuer c.index_mut.result.now (omega arith) c.get-q.ensures.value
+    c.index_mut.ensures.value wide j) (λ known. known)
 
 pub returns-then-q-len-clause-known : goal.returns-then-q-len-clause-known
 returns-then-q-len-clause-known c = λ wide j.
-    elim (c.complete_by.ensures.known wide j) [
-      | inl holds ↦
-          let P : ℕ → Type 0 = λ x. HoldsFor (set c.args.lists.now.items c.get-q.result c.complete_by.new.list) x wide j in
-          inl (subst P c.get-q.ensures.value
-          (set_there c.args.lists.now.items c.get-q.result c.index_mut.result.now c.complete_by.new.list (omega arith) c.index_mut.ensures.value wide j holds))
-      | inr quiet ↦ inr quiet
-    ]
+    either (c.complete_by.ensures.known wide j)
+    (set_there c.args.lists.now.items c.get-q.result c.complete_by.new.list (omega arith) c.args.barrier.now.issuer c.get-q.ensures.value wide j)
+    (λ known. known)
 
 pub returns-then-q-len-clause-kept_lists : goal.returns-then-q-len-clause-kept_lists
 returns-then-q-len-clause-kept_lists c = λ wide q j other.

@@ -1,40 +1,62 @@
-use Rattle.bbm_place_map.proofs.Common.{◌≤◌, ◌-◌, length, arith, ap, option_map, Entry}
-use Rattle.bbm_place_map.proofs.Looking.{looked_none, looked_answer, looked_on}
-use Rattle.bbm_place_map.proofs.Restless.{entry_there}
+use Rattle.bbm_place_map.proofs.Common.{List, Some, ap, arith, length, ℕ, ◌-◌, ◌<◌, ◌≡◌, ◌≤◌, option_map, cell_at}
+use Rattle.bbm_place_map.proofs.Common.{entry_in, Entry}
 use Rattle.bbm_place_map.proofs.Positions.{still_same, still_more}
+use Rattle.bbm_place_map.proofs.Restless.{entry_there}
+use Rattle.bbm_place_map.proofs.Rounds.{rounded_none, rounded_lost, rounded_on, past_completes, no_more, answered_more}
 use Rattle.bbm_place_map.proofs.complete.complete_all.Goals as goal
 
 pub loop-k-init : goal.loop-k-init
 loop-k-init c = record {
   sound = still_same c.args.cells.now c.args.broken.now c.requires.linked;
   short = omega arith;
-  looked = looked_none c.args.barrier.now c.args.cells.now.items c.args.broken.now.items c.len-k.result c.requires.linked (omega arith);
+  round = rounded_none c.args.barrier.now (entry_in c.args.cells.now.items c.args.broken.now.items);
+  done = past_completes c.args.barrier.now c.args.cells.now.items c.args.broken.now.items c.len-k.result c.requires.linked (omega arith);
 }
+
+-- the cell of the entry that is looked at
+at : (entries : List Entry) (k : ℕ) → 0 < k → k ≤ length entries → (j : ℕ) × (cell_at entries (k - 1) ≡ Some j)
+at entries k some short =
+    let e = entry_there entries (k - 1) (omega arith) in
+    (e.0.cell, ap (option_map (λ (x : Entry). x.cell)) e.1)
 
 pub loop-k-preserved-then-complete_at : goal.loop-k-preserved-then-complete_at
 loop-k-preserved-then-complete_at c =
+    let inv = c.loop-k.invariant in
+    let ens = c.complete_at.ensures in
+    let by = c.args.barrier.now in
     let k = c.loop-k.k in
-    let short : k ≤ length c.loop-k.broken.items = c.loop-k.invariant.short in
-    let e = entry_there c.loop-k.broken.items (c.loop-k.k - 1) (omega arith) in
+    let j = at c.loop-k.broken.items k (omega arith) inv.short in
+    let start = entry_in c.args.cells.now.items c.args.broken.now.items in
+    let mid = entry_in c.loop-k.cells.items c.loop-k.broken.items in
+    let new = entry_in c.complete_at.new.cells.items c.complete_at.new.broken.items in
+    let others = λ (i : ℕ). ens.others i j.0 j.1 in
     record {
-      sound = still_more c.loop-k.invariant.sound c.complete_at.ensures.sound;
-      short = omega (arith, c.complete_at.ensures.short);
-      looked = looked_answer c.args.barrier.now c.loop-k.k (c.loop-k.k - 1) c.loop-k.lost c.complete_at.result c.args.cells.now.items c.loop-k.cells.items c.complete_at.new.cells.items c.args.broken.now.items c.loop-k.broken.items c.complete_at.new.broken.items
-          (omega arith) (omega arith) c.loop-k.invariant.looked c.loop-k.invariant.sound.linked c.complete_at.ensures.sound.linked
-          c.complete_at.ensures.here c.complete_at.ensures.answer c.complete_at.ensures.others c.complete_at.ensures.front.below c.complete_at.ensures.front.front e.0.cell
-          (ap (option_map (λ (x : Entry). x.cell)) e.1) c.if-complete_at.true;
+      sound = still_more inv.sound ens.sound;
+      short = omega (arith, ens.short);
+      round = rounded_lost by start mid new j.0 c.loop-k.lost inv.round (ens.here j.0 j.1) others c.complete_at.result (ens.answer j.0 j.1) c.if-complete_at.true;
+      done = λ i h.
+          answered_more by start mid new j.0 c.loop-k.lost inv.round (ens.here j.0 j.1) others i
+          (λ other. inv.done i (no_more c.loop-k.cells.items c.complete_at.new.cells.items c.loop-k.broken.items c.complete_at.new.broken.items
+          k (k - 1) j.0 (omega arith) inv.sound.linked ens.sound.linked ens.front j.1 i other h));
     }
 
 pub loop-k-preserved : goal.loop-k-preserved
 loop-k-preserved c =
+    let inv = c.loop-k.invariant in
+    let ens = c.complete_at.ensures in
+    let by = c.args.barrier.now in
     let k = c.loop-k.k in
-    let short : k ≤ length c.loop-k.broken.items = c.loop-k.invariant.short in
-    let e = entry_there c.loop-k.broken.items (c.loop-k.k - 1) (omega arith) in
+    let j = at c.loop-k.broken.items k (omega arith) inv.short in
+    let start = entry_in c.args.cells.now.items c.args.broken.now.items in
+    let mid = entry_in c.loop-k.cells.items c.loop-k.broken.items in
+    let new = entry_in c.complete_at.new.cells.items c.complete_at.new.broken.items in
+    let others = λ (i : ℕ). ens.others i j.0 j.1 in
     record {
-      sound = still_more c.loop-k.invariant.sound c.complete_at.ensures.sound;
-      short = omega (arith, c.complete_at.ensures.short);
-      looked = looked_on c.args.barrier.now c.loop-k.k (c.loop-k.k - 1) c.loop-k.lost c.complete_at.result c.args.cells.now.items c.loop-k.cells.items c.complete_at.new.cells.items c.args.broken.now.items c.loop-k.broken.items c.complete_at.new.broken.items
-          (omega arith) (omega arith) c.loop-k.invariant.looked c.loop-k.invariant.sound.linked c.complete_at.ensures.sound.linked
-          c.complete_at.ensures.here c.complete_at.ensures.answer c.complete_at.ensures.others c.complete_at.ensures.front.below c.complete_at.ensures.front.front e.0.cell
-          (ap (option_map (λ (x : Entry). x.cell)) e.1) c.if-complete_at.false;
+      sound = still_more inv.sound ens.sound;
+      short = omega (arith, ens.short);
+      round = rounded_on by start mid new j.0 c.loop-k.lost inv.round (ens.here j.0 j.1) others c.complete_at.result (ens.answer j.0 j.1) c.if-complete_at.false;
+      done = λ i h.
+          answered_more by start mid new j.0 c.loop-k.lost inv.round (ens.here j.0 j.1) others i
+          (λ other. inv.done i (no_more c.loop-k.cells.items c.complete_at.new.cells.items c.loop-k.broken.items c.complete_at.new.broken.items
+          k (k - 1) j.0 (omega arith) inv.sound.linked ens.sound.linked ens.front j.1 i other h));
     }

@@ -1,23 +1,18 @@
-use Rattle.bbm_place_map.proofs.Common.{◌⊎◌, ℕ, Bool, true, false, List, Contains, sym, subst, ◌∙◌, inl, inr}
-use Rattle.bbm_place_map.proofs.Common.{false≢true, entry_in, pends_for, Holds, IsQuiet}
+use Rattle.bbm_place_map.proofs.Common.{◌⊎◌, ℕ, Bool, true, false, sym, ◌∙◌, inr, false≢true, entry_in, pends_for}
+use Rattle.bbm_place_map.proofs.Common.{Holds, IsQuiet, either}
 use Rattle.bbm_place_map.proofs.Resting.{quiet_kept, quiet_answered, quiet_unanswered, unanswered_same, stays_kept}
 use Rattle.bbm_place_map.proofs.Resting.{no_answer, answers_all, answers_own}
 use Rattle.bbm_place_map.proofs.Positions.{still_same}
+use Rattle.bbm_place_map.proofs.Holding.{listed_in}
 use Rattle.bbm_place_map.proofs.complete.complete_listed.Goals as goal
 
-pub complete_list-lost-requires-clause-waiting : goal.complete_list-lost-requires-clause-waiting
-complete_list-lost-requires-clause-waiting c = record {
+pub complete_cells-lost-requires-clause-waiting : goal.complete_cells-lost-requires-clause-waiting
+complete_cells-lost-requires-clause-waiting c = record {
   known = λ j.
-      elim (c.requires.known c.completes_broadcast-wide.result j) [
-        | inl holds ↦
-            elim holds [
-              | inl up ↦ absurd (false≢true (sym c.requires.open ∙ up))
-              | inr has ↦ inl (subst (λ (xs : List ℕ). Contains xs j) (sym c.part.ensures) has)
-            ]
-        | inr quiet ↦
-            inr (quiet_unanswered c.args.barrier.now.dsb c.completes_broadcast-wide.result
-            (pends_for c.args.cells.now.items c.args.broken.now.items c.args.barrier.now.issuer j) c.completes_broadcast-wide.ensures quiet)
-      ];
+      either (c.requires.known c.completes_broadcast-wide.result j)
+      (listed_in c.args.list.now c.completes_broadcast-wide.result c.part.result.now j c.requires.open c.part.ensures)
+      (quiet_unanswered c.args.barrier.now.dsb c.completes_broadcast-wide.result
+      (pends_for c.args.cells.now.items c.args.broken.now.items c.args.barrier.now.issuer j) c.completes_broadcast-wide.ensures);
   settled = c.requires.settled;
 }
 
@@ -38,22 +33,19 @@ returns-then-wide-clause-known c = λ wide j.
     inr (quiet_answered c.args.barrier.now wide
     (λ b _. answers_all c.args.barrier.now.dsb (sym c.completes_broadcast-wide.ensures ∙ c.if-wide.true) b)
     (entry_in c.args.cells.now.items c.args.broken.now.items j)
-    (entry_in c.complete_list-lost.new.cells.items c.complete_list-lost.new.broken.items j) (c.complete_list-lost.ensures.each j))
+    (entry_in c.complete_cells-lost.new.cells.items c.complete_cells-lost.new.broken.items j) (c.complete_cells-lost.ensures.each j))
 
 known_then : (c : goal.After-pass_local) → (wide : Bool) (j : ℕ) → Holds c.pass_local.new.list wide j
-    ⊎ IsQuiet wide (pends_for c.complete_list-lost.new.cells.items c.complete_list-lost.new.broken.items c.args.barrier.now.issuer j)
+    ⊎ IsQuiet wide (pends_for c.complete_cells-lost.new.cells.items c.complete_cells-lost.new.broken.items c.args.barrier.now.issuer j)
 known_then c true j =
-    elim (c.requires.known true j) [
-      | inl holds ↦ inl (c.pass_local.ensures j holds)
-      | inr quiet ↦
-          inr (quiet_kept c.args.barrier.now true (entry_in c.args.cells.now.items c.args.broken.now.items j)
-          (entry_in c.complete_list-lost.new.cells.items c.complete_list-lost.new.broken.items j) (c.complete_list-lost.ensures.each j) quiet)
-    ]
+    either (c.requires.known true j) (c.pass_local.ensures j)
+    (quiet_kept c.args.barrier.now true (entry_in c.args.cells.now.items c.args.broken.now.items j)
+    (entry_in c.complete_cells-lost.new.cells.items c.complete_cells-lost.new.broken.items j) (c.complete_cells-lost.ensures.each j))
 known_then c false j =
     inr (quiet_answered c.args.barrier.now false
     (answers_own c.args.barrier.now.dsb (sym c.completes_local.ensures ∙ c.if-not-completes_local.false))
     (entry_in c.args.cells.now.items c.args.broken.now.items j)
-    (entry_in c.complete_list-lost.new.cells.items c.complete_list-lost.new.broken.items j) (c.complete_list-lost.ensures.each j))
+    (entry_in c.complete_cells-lost.new.cells.items c.complete_cells-lost.new.broken.items j) (c.complete_cells-lost.ensures.each j))
 
 pub returns-else-wide-clause-known : goal.returns-else-wide-clause-known
 returns-else-wide-clause-known c = known_then c

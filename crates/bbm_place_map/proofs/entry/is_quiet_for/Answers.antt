@@ -1,5 +1,4 @@
-use Rattle.bbm_place_map.proofs.Common.{List, length, ap, refl, sym, ◌∙◌, eqb-true, pends_in, Pending}
-use Rattle.std.proofs.lemmas.List.{nil_from_length}
+use Rattle.bbm_place_map.proofs.Common.{List, length, ap, refl, sym, ◌∙◌, eqb-true, pends_in, Pending, nil_from_length}
 use Rattle.bbm_place_map.proofs.Idle.{idle_from, quiet_from}
 use Rattle.bbm_place_map.proofs.Pendings.{quiet_alike}
 use Rattle.bbm_place_map.proofs.entry.is_quiet_for.Goals as goal

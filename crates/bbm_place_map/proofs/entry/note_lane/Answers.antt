@@ -1,7 +1,6 @@
 use Rattle.bbm_place_map.proofs.Common.{◌≡◌, ◌&&◌, ◌||◌, Bool, ap, sym, ◌∙◌, arith, refl, subst, List, length, eq-eqb}
 use Rattle.bbm_place_map.proofs.Common.{ne_eqb, same_cover, waits_in, Pend, Adds, pend_in, no_pend, IsFirst, Lacks}
-use Rattle.bbm_place_map.proofs.Common.{Pending}
-use Rattle.bbm_regimes.specs.PeMask.{pe_in}
+use Rattle.bbm_place_map.proofs.Common.{Pending, pe_in}
 use Rattle.bbm_entry_state.specs.Marking.{counts_for}
 use Rattle.bbm_place_map.proofs.Idle.{no_pe_waits}
 use Rattle.bbm_place_map.proofs.Pendings.{lacks_all, more_there, more_others, written}

@@ -1,6 +1,5 @@
 use Rattle.bbm_place_map.proofs.Common.{ℕ, List, sym, ◌∙◌, ◌↔◌, IsTrue, subst, true, false, Adds, HasRoom, IsQuiet}
-use Rattle.bbm_place_map.proofs.Common.{pend_in}
-use Rattle.bbm_place_map.proofs.Common.{pends_in, Pending}
+use Rattle.bbm_place_map.proofs.Common.{pend_in, pends_in, Pending}
 use Rattle.bbm_place_map.proofs.Pendings.{issuer_kept, lanes_apart, noted_in}
 use Rattle.bbm_place_map.proofs.entry.note_pends.Goals as goal
 

@@ -1,6 +1,6 @@
 use Rattle.bbm_place_map.proofs.Common.{ap, sym, ◌∙◌, nat_eq, refl, length, arith, get_or, slice_get_read, eqb-true}
 use Rattle.bbm_place_map.proofs.Common.{get, starts, Entry}
-use Rattle.bbm_place_map.proofs.Visiting.{slot_of_place}
+use Rattle.bbm_place_map.proofs.Restless.{slot_of_place}
 use Rattle.bbm_place_map.proofs.issue.entry_of.Goals as goal
 
 pub returns-then-eq : goal.returns-then-eq

@@ -1,6 +1,6 @@
 use Rattle.bbm_place_map.proofs.Common.{refl, arith, slice_get}
 use Rattle.bbm_place_map.specs.PlaceNotes.{Readies}
-use Rattle.bbm_place_map.proofs.Visiting.{self_advances}
+use Rattle.bbm_place_map.proofs.Advancing.{self_advances}
 use Rattle.bbm_place_map.proofs.issue.make_room.Goals as goal
 
 pub loop-k-init : goal.loop-k-init

@@ -1,7 +1,8 @@
 use Rattle.bbm_place_map.proofs.Common.{◌≡◌, ℕ, subst, Some, arith, refl, ap, sym, ◌∙◌, inl, inr, nat_eq, length}
 use Rattle.bbm_place_map.proofs.Common.{slice_get, get, starts, OnOk-map, cases_eq, same_Some, none-some}
-use Rattle.bbm_place_map.proofs.Common.{slice_get_within, HasRoom, Keeps, Entry}
-use Rattle.bbm_place_map.proofs.Visiting.{slot_place, slot_of_place, one_advances, gets_off, gets_here}
+use Rattle.bbm_place_map.proofs.Common.{slice_get_within, HasRoom, Keeps, Entry, put_here, put_away}
+use Rattle.bbm_place_map.proofs.Restless.{slot_place, slot_of_place}
+use Rattle.bbm_place_map.proofs.Advancing.{one_advances}
 use Rattle.bbm_place_map.proofs.issue.make_room_for.Goals as goal
 
 was : (c : goal.After-make_room_at) → (e : Entry) × (slice_get c.args.broken.now.items c.in-Some.k ≡ Some e) × (e.place ≡ c.args.item.place)
@@ -32,11 +33,11 @@ returns-in-Some-clause-ready c =
     elim (cases_eq m c.in-Some.k) [
       | inl here ↦
           subst P (sym (same_Some x f.0 (sym is ∙ ap (slice_get c.make_room_at.new.broken.items) here
-          ∙ gets_here Keeps c.args.broken.now.items c.make_room_at.new.broken.items c.in-Some.k e.0 f.0 e.1 f.1 f.2 f.4))) room
+          ∙ put_here _ _ f.4 c.in-Some.k refl))) room
       | inr away ↦
           absurd (away (same_Some m c.in-Some.k
           (sym (slot_of_place (starts (get nat_eq c.args.kept.now.pages.now) c.args.kept.now.parts.now) c.args.kept.now.cells.now c.args.broken.now.items c.requires.linked c.requires.placed c.args.item.place m x
-          (sym (gets_off Keeps c.args.broken.now.items c.make_room_at.new.broken.items c.in-Some.k e.0 f.0 e.1 f.1 f.2 f.4 m away) ∙ is) same)
+          (sym (put_away _ _ f.4 m away) ∙ is) same)
           ∙ sym c.entry_of.ensures ∙ c.in-Some.is)))
     ])
     f.3
@@ -49,9 +50,9 @@ returns-in-Some-clause-others c = λ m x is other.
       | inl same ↦
           absurd (other (ap (λ (y : Entry). y.place)
           (same_Some x f.0 (sym is ∙ ap (slice_get c.make_room_at.new.broken.items) same
-          ∙ gets_here Keeps c.args.broken.now.items c.make_room_at.new.broken.items c.in-Some.k e.0 f.0 e.1 f.1 f.2 f.4))
+          ∙ put_here _ _ f.4 c.in-Some.k refl))
           ∙ ap (λ (s : ℕ × ℕ). s.0) f.1 ∙ e.2))
-      | inr away ↦ gets_off Keeps c.args.broken.now.items c.make_room_at.new.broken.items c.in-Some.k e.0 f.0 e.1 f.1 f.2 f.4 m away
+      | inr away ↦ put_away _ _ f.4 m away
     ]
 
 pub returns-in-None-clause-ready : goal.returns-in-None-clause-ready

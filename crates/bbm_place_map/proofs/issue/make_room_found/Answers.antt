@@ -1,9 +1,8 @@
 use Rattle.bbm_place_map.proofs.Common.{ℕ, nat_eq, ap, sym, ◌∙◌, inl, inr, slice_get, take, List, cases_Bool, eq-eqb}
 use Rattle.bbm_place_map.proofs.Common.{eqb-true, false≢true, get, starts, is_found, Keeps, Found}
-use Rattle.bbm_place_map.proofs.Advancing.{position_kept}
+use Rattle.bbm_place_map.proofs.Advancing.{position_kept, advance_then}
 use Rattle.bbm_place_map.proofs.Finding.{found_off, take_more}
 use Rattle.bbm_place_map.proofs.Positions.{linked_seated, placed_seated}
-use Rattle.bbm_place_map.proofs.Visiting.{advance_then}
 use Rattle.bbm_place_map.proofs.issue.make_room_found.Goals as goal
 
 pub make_room_for-requires : goal.make_room_for-requires

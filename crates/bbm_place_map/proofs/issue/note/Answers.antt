@@ -1,9 +1,8 @@
 use Rattle.bbm_place_map.proofs.Common.{ℕ, ◌<◌, arith, refl, inr, ◌∙◌, sym, slice_get, length, NotesAt, Waits}
-use Rattle.bbm_place_map.proofs.Advancing.{done_more, rest_more, all_done, advance_by}
+use Rattle.bbm_place_map.proofs.Advancing.{done_more, rest_more, all_done, advance_by, self_advances}
 use Rattle.bbm_place_map.proofs.Issued.{cover_read}
 use Rattle.bbm_place_map.proofs.Noting.{notes_at, waits_kept}
 use Rattle.bbm_place_map.proofs.Restless.{entry_there}
-use Rattle.bbm_place_map.proofs.Visiting.{self_advances}
 use Rattle.bbm_place_map.proofs.issue.note.Goals as goal
 
 pub note_entry-requires-clause-ready : goal.note_entry-requires-clause-ready

@@ -1,9 +1,9 @@
 use Rattle.bbm_place_map.proofs.Common.{ap, sym, ◌∙◌, arith, subst, ◌↔◌, IsTrue, false≢true, Noted, position, pends_in}
 use Rattle.bbm_place_map.proofs.Common.{IsQuiet, Entry}
-use Rattle.bbm_entry_state.specs.declared.state.EntryState.TheVariants as state
 use Rattle.bbm_place_map.proofs.Leaving.{entry_same}
 use Rattle.bbm_place_map.proofs.Lists.{set_get}
 use Rattle.bbm_place_map.proofs.Noting.{quiet_noted}
+use Rattle.bbm_entry_state.specs.declared.state.EntryState.TheVariants as state
 use Rattle.bbm_place_map.proofs.issue.note_at.Goals as goal
 
 pub returns-clause-entry : goal.returns-clause-entry

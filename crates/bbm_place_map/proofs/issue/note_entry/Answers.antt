@@ -1,5 +1,5 @@
-use Rattle.bbm_place_map.proofs.Common.{false≢true, cond-true, eq-eqb, ◌≡◌, Bool, nat_eq, Some, ap, sym, subst, ◌∙◌}
-use Rattle.bbm_place_map.proofs.Common.{inl, inr, refl, slice_get, arith, ℕ, HoldsFor, Entry}
+use Rattle.bbm_place_map.proofs.Common.{false≢true, ◌≡◌, Bool, ap, sym, subst, ◌∙◌, inl, inr, refl, arith, ℕ, HoldsFor}
+use Rattle.bbm_place_map.proofs.Common.{Entry, put_here}
 use Rattle.bbm_place_map.proofs.Noting.{not_noted, gets_same}
 use Rattle.bbm_place_map.proofs.Leaving.{entry_same}
 use Rattle.bbm_place_map.proofs.issue.note_entry.Goals as goal
@@ -10,7 +10,7 @@ returns-then-note_at-clause-entry c = λ e is.
     let P : ℕ → Type 0 = λ x. (wide : Bool) → HoldsFor c.add_for.new.lists.items c.args.tlbi.now.issuer wide x in
     let now : c.index.result.now ≡ f.0
     = entry_same c.note_at.new.broken.items c.args.k c.index.result.now f.0 (omega (arith, c.note_at.ensures.size.len)) c.index.ensures
-    (f.6 c.args.k ∙ cond-true (nat_eq c.args.k c.args.k) (Some f.0) (slice_get c.args.broken.now.items c.args.k) (eq-eqb c.args.k c.args.k refl)) in (
+    (put_here _ _ f.6 c.args.k refl) in (
       f.0,
       f.1,
       (f.2, f.3, f.4, λ none. absurd (false≢true (sym none ∙ sym c.is_cover.ensures ∙ c.if-is_cover.true))),

@@ -1,6 +1,7 @@
 use Rattle.bbm_place_map.proofs.Common.{arith, refl, ap, sym, ◌∙◌, inr, nat_eq, length, slice_get, same_Some, none-some}
 use Rattle.bbm_place_map.proofs.Common.{slice_get_within, get, starts, NotesOne, Entry}
-use Rattle.bbm_place_map.proofs.Visiting.{slot_place, slot_of_place, one_advances, self_advances}
+use Rattle.bbm_place_map.proofs.Restless.{slot_place, slot_of_place}
+use Rattle.bbm_place_map.proofs.Advancing.{self_advances, one_advances}
 use Rattle.bbm_place_map.proofs.issue.note_for.Goals as goal
 
 pub note_entry-requires-clause-within : goal.note_entry-requires-clause-within

@@ -1,8 +1,8 @@
 use Rattle.bbm_place_map.proofs.Common.{[], ◌∷◌, ◌++◌, ap, sym, ◌∙◌, List, subst, take, slice_get, Advances, is_found}
 use Rattle.bbm_place_map.proofs.Common.{NotesOne, NotesFound, Found}
-use Rattle.bbm_place_map.proofs.Advancing.{advance_by}
+use Rattle.bbm_place_map.proofs.Advancing.{advance_by, advance_then}
 use Rattle.bbm_place_map.proofs.Finding.{found_at, take_more}
-use Rattle.bbm_place_map.proofs.Visiting.{advance_then, note_step, skip_step}
+use Rattle.bbm_place_map.proofs.Visiting.{note_step, skip_step}
 use Rattle.bbm_place_map.proofs.issue.note_next.Goals as goal
 
 pub note_for-requires-clause-ready : goal.note_for-requires-clause-ready

@@ -36,5 +36,5 @@ returns c =
           all.kept i
           ∙ ap (λ (n : ℕ). if nat_eq i n then None else entry_in c.args.cells.now.items c.args.broken.now.items i)
           (same_Some c.index.result.now.cell j (sym (cell_read c.args.broken.now.items c.args.k c.index.result.now (omega arith) c.index.ensures) ∙ is));
-      front = record { below = all.below; front = all.front };
+      front = all.front;
     }

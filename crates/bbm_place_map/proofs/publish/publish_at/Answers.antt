@@ -1,9 +1,8 @@
-use Rattle.bbm_place_map.proofs.Common.{◌≡◌, ◌&&◌, ◌||◌, Bool, true, Some, ap, sym, ◌∙◌, arith, refl, subst}
-use Rattle.bbm_place_map.proofs.Common.{false≢true, with_true, publishes, Core, Publishes, position, Entry}
-use Rattle.bbm_regimes.specs.PeMask.{pe_in}
+use Rattle.bbm_place_map.proofs.Common.{◌≡◌, ◌&&◌, ◌||◌, Bool, true, Some, ap, sym, ◌∙◌, arith, refl, subst, false≢true}
+use Rattle.bbm_place_map.proofs.Common.{with_true, publishes, Core, Publishes, position, Entry, Broken, pe_in}
 use Rattle.bbm_place_map.proofs.Leaving.{entry_same}
 use Rattle.bbm_place_map.proofs.Lists.{set_get}
-use Rattle.bbm_place_map.proofs.Telling.{same_published}
+use Rattle.bbm_place_map.proofs.Telling.{still_published}
 use Rattle.bbm_place_map.proofs.publish.publish_at.Goals as goal
 
 pub returns-then-has-clause-entry : goal.returns-then-has-clause-entry
@@ -43,6 +42,6 @@ returns-else-has-clause-entry c = λ e is.
     let P : Entry → Type 0 = λ y. Publishes c.args.barrier.now y x in (
       x,
       ap position same,
-      subst P same (same_published c.args.barrier.now x (λ p reached wrote. absurd (false≢true (sym none ∙ wrote)))),
+      subst P same (refl, still_published c.args.barrier.now (Broken x.marks) (λ p reached wrote. absurd (false≢true (sym none ∙ wrote)))),
       λ i. set_get c.args.broken.now.items c.args.k x i (omega arith),
     )

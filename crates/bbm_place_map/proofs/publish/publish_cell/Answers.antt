@@ -1,6 +1,6 @@
-use Rattle.bbm_place_map.proofs.Common.{◌≡◌, ℕ, Some, nat_eq, arith, ap, sym, subst, ◌∙◌, refl, slice_get, eq-eqb}
-use Rattle.bbm_place_map.proofs.Common.{ne_eqb, cond-true, cond-false, same_Some, slot_in, Advances, Publishes, Entry}
-use Rattle.bbm_place_map.proofs.Advancing.{at_both}
+use Rattle.bbm_place_map.proofs.Common.{◌≡◌, ℕ, Some, arith, ap, sym, ◌∙◌, slice_get, same_Some, slot_in, Publishes}
+use Rattle.bbm_place_map.proofs.Common.{Entry, put_away}
+use Rattle.bbm_place_map.proofs.Advancing.{one_here}
 use Rattle.bbm_place_map.proofs.Linking.{cell_within}
 use Rattle.bbm_place_map.proofs.Positions.{linked_seated, positions_changed, found}
 use Rattle.bbm_place_map.proofs.publish.publish_cell.Goals as goal
@@ -30,17 +30,10 @@ pub returns-in-Some-clause-here : goal.returns-in-Some-clause-here
 returns-in-Some-clause-here c = λ k is.
     let e = was c in
     let f = c.publish_at.ensures.entry e.0 e.1 in
-    let P : ℕ → Type 0 = λ x. Advances (Publishes c.args.barrier.now) (slice_get c.args.broken.now.items x) (slice_get c.publish_at.new.broken.items x) in
-    subst P (same_Some c.in-Some.k k (sym (at c) ∙ is))
-    (at_both (Publishes c.args.barrier.now) (slice_get c.args.broken.now.items c.in-Some.k) (Some e.0)
-    (slice_get c.publish_at.new.broken.items c.in-Some.k) (Some f.0) e.1
-    (f.3 c.in-Some.k ∙ cond-true (nat_eq c.in-Some.k c.in-Some.k) (Some f.0) (slice_get c.args.broken.now.items c.in-Some.k) (eq-eqb c.in-Some.k c.in-Some.k refl))
-    (f.1, f.2))
+    one_here (Publishes c.args.barrier.now) c.args.broken.now.items c.publish_at.new.broken.items c.in-Some.k e.0 f.0 e.1 f.1 f.2 f.3 k
+    (same_Some k c.in-Some.k (sym is ∙ at c))
 
 pub returns-in-Some-clause-others : goal.returns-in-Some-clause-others
 returns-in-Some-clause-others c = λ k other.
     let e = was c in
-    let f = c.publish_at.ensures.entry e.0 e.1 in
-    f.3 k
-    ∙ cond-false (nat_eq k c.in-Some.k) (Some f.0) (slice_get c.args.broken.now.items k)
-    (ne_eqb k c.in-Some.k (λ same. other (at c ∙ ap (λ (x : ℕ). Some x) (sym same))))
+    put_away _ _ (c.publish_at.ensures.entry e.0 e.1).3 k (λ same. other (at c ∙ ap (λ (x : ℕ). Some x) (sym same)))

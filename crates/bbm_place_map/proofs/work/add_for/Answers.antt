@@ -1,25 +1,20 @@
-use Rattle.bbm_place_map.proofs.Common.{◌≤◌, ℕ, arith, inl, subst, sym, ◌∙◌, set, length, slice_get_past, none-some}
-use Rattle.bbm_place_map.proofs.Common.{HoldsFor}
+use Rattle.bbm_place_map.proofs.Common.{◌≤◌, arith, inl, sym, ◌∙◌, length, slice_get_past, none-some}
 use Rattle.bbm_place_map.proofs.Holding.{set_there, set_kept}
 use Rattle.bbm_place_map.proofs.work.add_for.Goals as goal
 
 pub returns-then-not-list-clause-there : goal.returns-then-not-list-clause-there
 returns-then-not-list-clause-there c = λ wide.
-    let P : ℕ → Type 0 = λ x. HoldsFor (set c.args.lists.now.items c.get-q.result c.add.new.list) x wide c.args.cell in
-    subst P c.get-q.ensures.value
-    (set_there c.args.lists.now.items c.get-q.result c.index_mut-list.result.now c.add.new.list (omega arith) c.index_mut-list.ensures.value
-    wide c.args.cell (c.add.ensures.there wide))
+    set_there c.args.lists.now.items c.get-q.result c.add.new.list (omega arith) c.args.pe c.get-q.ensures.value wide c.args.cell
+    (c.add.ensures.there wide)
 
 pub returns-then-not-list-clause-kept : goal.returns-then-not-list-clause-kept
 returns-then-not-list-clause-kept c =
-    set_kept c.args.lists.now.items c.get-q.result c.index_mut-list.result.now c.add.new.list (omega arith) c.index_mut-list.ensures.value c.add.ensures.kept
+    set_kept c.args.lists.now.items c.get-q.result c.add.new.list (omega arith) c.index_mut-list.result.now c.index_mut-list.ensures.value c.add.ensures.kept
 
 pub returns-else-not-list-clause-there : goal.returns-else-not-list-clause-there
 returns-else-not-list-clause-there c = λ wide.
-    let P : ℕ → Type 0 = λ x. HoldsFor (set c.args.lists.now.items c.get-q.result c.index_mut-list.result.now) x wide c.args.cell in
-    subst P c.get-q.ensures.value
-    (set_there c.args.lists.now.items c.get-q.result c.index_mut-list.result.now c.index_mut-list.result.now (omega arith) c.index_mut-list.ensures.value
-    wide c.args.cell (inl c.if-not-list.false))
+    set_there c.args.lists.now.items c.get-q.result c.index_mut-list.result.now (omega arith) c.args.pe c.get-q.ensures.value wide c.args.cell
+    (inl c.if-not-list.false)
 
 pub returns-else-q-len-clause-there : goal.returns-else-q-len-clause-there
 returns-else-q-len-clause-there c = λ wide list is.

@@ -1,6 +1,5 @@
 use Rattle.bbm_place_map.proofs.Common.{ℕ, Bool, not, ◌&&◌, nat_eq, inl, inr, ap, subst, sym, ◌∙◌, cases_Bool, eqb-true}
-use Rattle.bbm_place_map.proofs.Common.{HoldsFor}
-use Rattle.bbm_regimes.specs.PeMask.{pe_in}
+use Rattle.bbm_place_map.proofs.Common.{HoldsFor, pe_in}
 use Rattle.bbm_place_map.proofs.Holding.{still_in}
 use Rattle.bbm_place_map.proofs.work.add_mostly.Goals as goal
 

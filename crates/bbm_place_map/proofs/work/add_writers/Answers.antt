@@ -1,5 +1,4 @@
-use Rattle.bbm_place_map.proofs.Common.{◌≡◌, ℕ, true, arith, inl, inr, subst, sym, cases_eq, HoldsFor}
-use Rattle.bbm_regimes.specs.PeMask.{pe_in}
+use Rattle.bbm_place_map.proofs.Common.{◌≡◌, ℕ, true, arith, inl, inr, subst, sym, cases_eq, HoldsFor, pe_in}
 use Rattle.bbm_place_map.proofs.work.add_writers.Goals as goal
 
 pub loop-i-preserved : goal.loop-i-preserved

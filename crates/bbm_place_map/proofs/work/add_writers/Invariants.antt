@@ -1,5 +1,4 @@
-use Rattle.bbm_place_map.proofs.Common.{◌≡◌, ◌<◌, ℕ, Bool, true, HoldsFor}
-use Rattle.bbm_regimes.specs.PeMask.{pe_in}
+use Rattle.bbm_place_map.proofs.Common.{◌≡◌, ◌<◌, ℕ, Bool, true, HoldsFor, pe_in}
 use Rattle.bbm_place_map.proofs.work.add_writers.Given as goal
 
 abbrev pub invariant-loop-i : goal.invariant-loop-i

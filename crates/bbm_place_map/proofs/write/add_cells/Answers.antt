@@ -1,6 +1,6 @@
 use Rattle.bbm_place_map.proofs.Common.{◌≡◌, ◌+◌, ◌-◌, ◌++◌, ℕ, List, arith, ap, sym, ◌∙◌, vec_len, count_by, number_of}
-use Rattle.bbm_place_map.proofs.Common.{is_listed, slot_in}
-use Rattle.std.proofs.Common.{is_ok, replicate}
+use Rattle.bbm_place_map.proofs.Common.{is_listed, slot_in, replicate}
+use Rattle.std.proofs.Common.{is_ok}
 use Rattle.bbm_place_map.proofs.Filling.{count_filled, filled, values_filled}
 use Rattle.bbm_place_map.proofs.write.add_cells.Goals as goal
 

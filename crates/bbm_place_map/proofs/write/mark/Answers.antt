@@ -1,8 +1,7 @@
 use Rattle.bbm_place_map.proofs.Common.{◌≡◌, ℕ, List, Some, ap, sym, ◌∙◌, arith, refl, slice_get, slot_in, position_at}
-use Rattle.bbm_place_map.proofs.Common.{Entry}
-use Rattle.bbm_place_map.proofs.Linking.{cell_within}
-use Rattle.bbm_place_map.proofs.Positions.{linked_seated, placed_seated, positions_changed, marks_changed}
-use Rattle.bbm_place_map.proofs.Positions.{pends_changed, found}
+use Rattle.bbm_place_map.proofs.Common.{Entry, Option, entry_in, entry_of, pends_of}
+use Rattle.bbm_place_map.proofs.Linking.{cell_within, marks_put, pends_put}
+use Rattle.bbm_place_map.proofs.Positions.{positions_changed, found, entries_changed, still_seated}
 use Rattle.bbm_place_map.proofs.write.mark.Goals as goal
 
 pub remark-requires : goal.remark-requires
@@ -31,16 +30,19 @@ positions c =
 pub returns-in-Some : goal.returns-in-Some
 returns-in-Some c =
     let w = was c in
+    let cells = c.args.cells.now.items in
+    let start = entry_in cells c.args.broken.now.items in
+    let still = still_seated c.args.cells.now c.args.broken.now c.remark.new.broken (positions c) c.remark.ensures.size c.requires.linked in
+    let is = entries_changed cells c.args.broken.now.items c.remark.new.broken.items w.0 (after c w.0) c.args.j c.in-Some.k
+    c.requires.linked (here c) w.1 refl (c.remark.ensures.entry w.0 w.1) in
     record {
-      linked = linked_seated c.args.broken.now.items c.remark.new.broken.items (positions c) c.args.cells.now.items c.remark.ensures.size.len c.requires.linked;
+      linked = still.linked;
       len = refl;
-      room = c.remark.ensures.size.room;
+      room = still.room;
       space = refl;
-      marks =
-          marks_changed c.args.cells.now.items c.args.broken.now.items c.remark.new.broken.items w.0 (after c w.0) c.args.j c.in-Some.k
-          c.requires.linked (here c) w.1 refl (c.remark.ensures.entry w.0 w.1);
-      pends =
-          pends_changed c.args.cells.now.items c.args.broken.now.items c.remark.new.broken.items w.0 (after c w.0) c.args.j c.in-Some.k
-          c.requires.linked (here c) w.1 refl (c.remark.ensures.entry w.0 w.1) refl;
-      placed = λ base _ placed. placed_seated c.args.broken.now.items c.remark.new.broken.items (positions c) base placed;
+      marks = marks_put start (entry_in cells c.remark.new.broken.items) (after c w.0) c.args.j is;
+      pends = λ q.
+          pends_put start (entry_in cells c.remark.new.broken.items) (after c w.0) c.args.j is q
+          (sym (ap (λ (s : Option ℕ). pends_of q (entry_of c.args.broken.now.items s)) (here c) ∙ ap (pends_of q) w.1));
+      placed = λ base _. still.placed base;
     }

@@ -1,8 +1,8 @@
-use Rattle.bbm_place_map.proofs.Common.{refl, arith, inr, vec_len}
-use Rattle.bbm_place_map.specs.Map.{IsPosition, is_tracked, marks_at, pends_at, restless_in, restless_place, value_at}
-use Rattle.bbm_place_map.proofs.Listing.{by_slots, listed_fewer}
-use Rattle.bbm_place_map.proofs.Parts.{cell_new, cells_room, marks_new, number_within, parted_fewer, parted_new}
-use Rattle.bbm_place_map.proofs.Parts.{pends_new, placed_new}
+use Rattle.bbm_place_map.proofs.Common.{refl, arith, inr, vec_len, ap, entry_of, marks_of, pends_of}
+use Rattle.bbm_place_map.proofs.Listing.{listed_fewer}
+use Rattle.bbm_place_map.proofs.Parts.{cell_new, cells_room, number_within, parted_fewer, parted_new, placed_new}
+use Rattle.bbm_place_map.proofs.Parts.{column_new}
+use Rattle.bbm_place_map.specs.Map.{is_tracked, marks_at, pends_at, value_at, restless_in, restless_place, IsPosition}
 use Rattle.bbm_place_map.proofs.map.PlaceMap.add_part.Goals as goal
 
 pub add_cells-requires : goal.add_cells-requires
@@ -51,9 +51,9 @@ invariant_of-self c =
       fewer = parted_fewer parted;
       few = self.few;
       listed =
-          listed_fewer self.work self.work self.cells.items c.add_cells.new.cells.items self.broken.items self.broken.items refl refl
-          (λ wide q i holds. holds) (λ wide q i holds. holds)
-          (λ i. inr (by_slots self.cells.items c.add_cells.new.cells.items self.broken.items kept.slots i)) self.listed;
+          listed_fewer self.work self.work.unpublished self.work.waiting self.cells.items c.add_cells.new.cells.items self.broken.items
+          self.broken.items (λ wide q i holds. holds) (λ wide q i holds. holds)
+          (λ i. inr (ap (entry_of self.broken.items) (kept.slots i))) self.listed;
     }
 
 pub returns-clause-cell : goal.returns-clause-cell
@@ -75,11 +75,11 @@ returns-clause-same c =
     record {
       values = λ a. refl;
       marks =
-          marks_new self place j c.requires.position c.requires.none c.len-start.result c.put_slot.new.cells.items
-          c.add_cells.new.cells.items c.len-start.ensures s.slots (omega (arith, s.len)) s.count kept.slots;
-      pends =
-          pends_new self place j c.requires.position c.requires.none c.len-start.result c.put_slot.new.cells.items
-          c.add_cells.new.cells.items c.len-start.ensures s.slots (omega (arith, s.len)) s.count kept.slots;
+          column_new self place j c.requires.position c.requires.none c.len-start.result c.put_slot.new.cells.items
+          c.add_cells.new.cells.items c.len-start.ensures s.slots (omega (arith, s.len)) s.count kept.slots marks_of;
+      pends = λ q.
+          column_new self place j c.requires.position c.requires.none c.len-start.result c.put_slot.new.cells.items
+          c.add_cells.new.cells.items c.len-start.ensures s.slots (omega (arith, s.len)) s.count kept.slots (pends_of q);
       pages = λ p. refl;
       restless = refl;
       places = λ i. refl;

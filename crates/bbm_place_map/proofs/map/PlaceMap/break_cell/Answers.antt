@@ -1,14 +1,12 @@
-use Rattle.bbm_place_map.proofs.Common.{◌≡◌, ℕ, None, Some, nat_eq, refl, ap, sym, subst, ◌∙◌, arith, vec_len}
-use Rattle.bbm_place_map.proofs.Common.{false≢true, get, no_pends, place_cell, marks_in, pends_for, Core, Parted}
-use Rattle.bbm_place_map.proofs.Common.{at_index}
-use Rattle.bbm_place_map.proofs.Common.{starts, PlaceMap}
-use Rattle.bbm_place_map.specs.Map.{marks_at, pends_at}
+use Rattle.bbm_place_map.proofs.Common.{◌≡◌, ℕ, None, Some, nat_eq, refl, ap, sym, ◌∙◌, vec_len, false≢true, get}
+use Rattle.bbm_place_map.proofs.Common.{no_pends, place_cell, marks_in, pends_for, Core, at_index, starts, PlaceMap}
 use Rattle.bbm_place_map.proofs.Blank.{free_cell}
 use Rattle.bbm_place_map.proofs.Clearing.{breakable, fits_with}
 use Rattle.bbm_place_map.proofs.Listing.{listed_fresh}
 use Rattle.bbm_place_map.proofs.Places.{at_place, at_same}
-use Rattle.bbm_place_map.proofs.map.PlaceMap.break_cell.Goals as goal
 use mathlib.Core.Bool.{or-false}
+use Rattle.bbm_place_map.specs.Map.{marks_at, pends_at}
+use Rattle.bbm_place_map.proofs.map.PlaceMap.break_cell.Goals as goal
 
 pub link-requires-clause-able : goal.link-requires-clause-able
 link-requires-clause-able c = breakable c.args.self.now c.args.position.now.place c.args.i c.requires.cell

@@ -1,6 +1,6 @@
 use Rattle.bbm_place_map.proofs.Common.{ℕ, List, ap, sym, ◌∙◌, cell_by}
-use Rattle.bbm_place_map.specs.Map.{IsPosition}
 use Rattle.bbm_place_map.proofs.Parts.{cell_here}
+use Rattle.bbm_place_map.specs.Map.{IsPosition}
 use Rattle.bbm_place_map.proofs.map.PlaceMap.cell.Goals as goal
 
 pub returns-in-Some-clause-cell : goal.returns-in-Some-clause-cell

@@ -1,6 +1,6 @@
 use Rattle.bbm_place_map.proofs.Common.{refl, sym, ◌∙◌, state_at}
-use Rattle.bbm_place_map.specs.Map.{IsPosition, is_tracked, marks_at, pends_at, value_at}
 use Rattle.bbm_place_map.proofs.Wholes.{writes_over}
+use Rattle.bbm_place_map.specs.Map.{is_tracked, marks_at, pends_at, value_at, IsPosition}
 use Rattle.bbm_place_map.proofs.map.PlaceMap.clear_at.Goals as goal
 
 pub returns-in-Live : goal.returns-in-Live

@@ -1,5 +1,4 @@
-use Rattle.bbm_place_map.proofs.Common.{sym, subst, EntryState}
-use Rattle.bbm_place_map.specs.MapCalls.{Leaves}
+use Rattle.bbm_place_map.proofs.Common.{sym, subst, EntryState, Leaves}
 use Rattle.bbm_place_map.proofs.map.PlaceMap.clear_from.Goals as goal
 
 pub returns-in-Broken : goal.returns-in-Broken

@@ -1,17 +1,16 @@
 use Rattle.bbm_place_map.proofs.Common.{◌≡◌, true, false, Some, refl, ℕ, nat_eq, sym, ◌∙◌, arith, vec_len, subst}
-use Rattle.bbm_place_map.proofs.Common.{eqb-true, get, Marks, marks_in, is_clean, Parted, index_of, starts}
+use Rattle.bbm_place_map.proofs.Common.{eqb-true, get, Marks, marks_in, is_clean, index_of, starts, nil_from_length}
 use Rattle.std.proofs.lemmas.Bool.{eqb-false}
-use Rattle.std.proofs.lemmas.List.{nil_from_length}
-use Rattle.bbm_place_map.specs.Map.{marks_at, pends_at}
 use Rattle.bbm_place_map.proofs.Answering.{completes_whole}
 use Rattle.bbm_place_map.proofs.Clearing.{fits_with}
 use Rattle.bbm_place_map.proofs.Completed.{completed_at, others_at, kept_at, lost_at}
 use Rattle.bbm_place_map.proofs.Listing.{listed_begun, listed_completed, quiet_of}
 use Rattle.bbm_place_map.proofs.Made.{barrier}
+use Rattle.bbm_place_map.specs.Map.{marks_at, pends_at}
 use Rattle.bbm_place_map.proofs.map.PlaceMap.complete.Goals as goal
 
 pub complete-lost-requires-clause-known : goal.complete-lost-requires-clause-known
-complete-lost-requires-clause-known c = λ wide. quiet_of c.begin.new.work c.args.self.now.cells.items c.args.self.now.broken.items (listed_begun c.args.self.now.work c.begin.new.work c.args.n c.len.result c.args.self.now.cells.items c.args.self.now.broken.items c.requires.some c.requires.within
+complete-lost-requires-clause-known c = λ wide. quiet_of (listed_begun c.args.self.now.work c.begin.new.work c.args.n c.len.result c.args.self.now.cells.items c.args.self.now.broken.items c.requires.some c.requires.within
     c.begin.ensures.pes (omega (arith, c.len.ensures)) c.begin.ensures.kept c.args.self.now.listed) wide c.args.issuer
 
 pub complete-lost-requires-clause-settled : goal.complete-lost-requires-clause-settled
@@ -29,8 +28,8 @@ invariant_of-self-2 c =
     let work = record c.begin.new.work { settled = true; waiting = c.complete-lost.new.lists } in
     fits_with self self.values c.complete-lost.new.cells c.complete-lost.new.broken work refl still.len still.space still.room still.linked
     (still.placed (starts (get nat_eq self.pages) self.parts.items) self.placed)
-    (listed_completed c.begin.new.work work (barrier c.args.issuer c.args.dsb c.args.n) self.cells.items c.complete-lost.new.cells.items
-    self.broken.items c.complete-lost.new.broken.items c.begin.ensures.pes refl refl e.completed.each e.known e.kept_lists
+    (listed_completed c.begin.new.work c.complete-lost.new.lists (barrier c.args.issuer c.args.dsb c.args.n) self.cells.items
+    c.complete-lost.new.cells.items self.broken.items c.complete-lost.new.broken.items c.begin.ensures.pes e.completed.each e.known e.kept_lists
     (listed_begun self.work c.begin.new.work c.args.n c.len.result self.cells.items self.broken.items c.requires.some c.requires.within
     c.begin.ensures.pes (omega (arith, c.len.ensures)) c.begin.ensures.kept self.listed))
 

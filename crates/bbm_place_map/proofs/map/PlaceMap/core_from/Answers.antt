@@ -1,7 +1,7 @@
 use Rattle.bbm_place_map.proofs.Common.{ℕ, ◌+◌, ◌*◌, Option, nat_eq, ap, ◌∙◌, vec_len, get, core_of, Core, core_in}
 use Rattle.bbm_place_map.proofs.Common.{state_from}
-use Rattle.bbm_place_map.specs.Map.{IsPosition, marks_at}
 use Rattle.bbm_place_map.proofs.Places.{index_behind, page_inside}
+use Rattle.bbm_place_map.specs.Map.{marks_at, IsPosition}
 use Rattle.bbm_place_map.proofs.map.PlaceMap.core_from.Goals as goal
 
 pub core_or-requires : goal.core_or-requires

@@ -1,9 +1,9 @@
 use Rattle.bbm_place_map.proofs.Common.{◌≡◌, ℕ, ◌<◌, ◌+◌, ◌/◌, List, Some, refl, nat_eq, ap, sym, subst, ◌∙◌, arith}
 use Rattle.bbm_place_map.proofs.Common.{length, false≢true, get, slot_in, value_in, at_index}
-use Rattle.bbm_place_map.specs.Map.{value_at}
 use Rattle.bbm_place_map.proofs.Blank.{free_marks, marks_free, values_zero, zero_values}
 use Rattle.bbm_place_map.proofs.Parts.{none_marks, part_within}
 use Rattle.bbm_place_map.proofs.Places.{index_none}
+use Rattle.bbm_place_map.specs.Map.{value_at}
 use Rattle.bbm_place_map.proofs.map.PlaceMap.is_blank.Goals as goal
 
 -- the values that are looked at are those of the map

@@ -1,11 +1,11 @@
-use Rattle.bbm_place_map.proofs.Common.{ℕ, refl, sym, nat_eq, arith, ◌∙◌, slice_get, get, starts, Keeps, NotesAt}
-use Rattle.bbm_place_map.specs.Map.{marks_at, pends_at, restless_in, restless_place}
-use Rattle.bbm_place_map.proofs.Advancing.{position_kept}
+use Rattle.bbm_place_map.proofs.Common.{ℕ, sym, nat_eq, ◌∙◌, slice_get, get, starts, Keeps, NotesAt}
+use Rattle.bbm_place_map.proofs.Advancing.{position_kept, advance_by}
 use Rattle.bbm_place_map.proofs.Issued.{noted_by_number}
 use Rattle.bbm_place_map.proofs.Clearing.{fits_seated}
 use Rattle.bbm_place_map.proofs.Positions.{linked_seated}
-use Rattle.bbm_place_map.proofs.Listing.{listed_roomed, listed_noted}
+use Rattle.bbm_place_map.proofs.Listing.{listed_roomed, listed_noted, NotesAll}
 use Rattle.bbm_place_map.proofs.Made.{issuing}
+use Rattle.bbm_place_map.specs.Map.{marks_at, pends_at, restless_in, restless_place}
 use Rattle.bbm_place_map.proofs.map.PlaceMap.issue_all.Goals as goal
 
 pub invariant_of-self : goal.invariant_of-self
@@ -30,9 +30,10 @@ invariant_of-self-2 c =
     fits_seated self new work
     (λ (m : ℕ). position_kept (NotesAt c.args.covers.now by m) (slice_get mid m) (slice_get new.items m) (c.note.ensures.each m) ∙ first m)
     (record { len = rest.len ∙ e.size.len; room = rest.room ∙ e.size.room })
-    (listed_noted self.cells.items old mid e.each new.items c.args.covers.now by self.work work
+    (listed_noted self.cells.items mid new.items by self.work c.note.new.lists
     (linked_seated old mid first self.cells.items e.size.len self.linked)
-    refl refl refl c.note.ensures.each c.note.ensures.waits rest.kept self.listed)
+    (λ (m : ℕ). advance_by (NotesAt c.args.covers.now by m) (NotesAll by.issuer) (λ x f h. (h.0, h.1)) (slice_get mid m) (slice_get new.items m)
+    (c.note.ensures.each m)) c.note.ensures.waits rest.kept (listed_roomed self.cells.items old mid e.each self.work self.listed))
 
 pub returns-clause-noted : goal.returns-clause-noted
 unfolding marks_at pends_at restless_in restless_place

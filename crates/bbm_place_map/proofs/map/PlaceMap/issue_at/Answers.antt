@@ -1,14 +1,13 @@
-use Rattle.bbm_place_map.proofs.Common.{ℕ, ◌≡◌, List, refl, nat_eq, arith, ◌∙◌, vec_len, slice_get, get, Advances}
-use Rattle.bbm_place_map.proofs.Common.{starts, Entry, Keeps, NotesFound, position_at}
-use Rattle.bbm_place_map.specs.Map.{marks_at, pends_at}
-use Rattle.bbm_place_map.proofs.Advancing.{position_kept}
+use Rattle.bbm_place_map.proofs.Common.{ℕ, ◌≡◌, List, nat_eq, ◌∙◌, vec_len, slice_get, get, Advances, starts, Entry}
+use Rattle.bbm_place_map.proofs.Common.{Keeps, NotesFound, position_at, Waits}
+use Rattle.bbm_place_map.proofs.Advancing.{position_kept, advance_by}
 use Rattle.bbm_place_map.proofs.Issued.{noted_found, unnoted_found}
 use Rattle.bbm_place_map.proofs.Clearing.{fits_seated}
 use Rattle.bbm_place_map.proofs.Positions.{linked_seated, placed_seated}
-use Rattle.bbm_place_map.proofs.Listing.{listed_roomed, listed_noted}
+use Rattle.bbm_place_map.proofs.Listing.{listed_roomed, listed_noted, NotesAll}
 use Rattle.bbm_place_map.proofs.Parts.{sound_by}
-use Rattle.bbm_place_map.proofs.Visiting.{covers_of, notes_each, waits_each}
 use Rattle.bbm_place_map.proofs.Made.{issuing}
+use Rattle.bbm_place_map.specs.Map.{marks_at, pends_at}
 use Rattle.bbm_place_map.proofs.map.PlaceMap.issue_at.Goals as goal
 
 positions : (old mid : List Entry) → ((m : ℕ) → Advances Keeps (slice_get old m) (slice_get mid m)) → (m : ℕ) → position_at mid m ≡ position_at old m
@@ -53,16 +52,19 @@ invariant_of-self-2 c =
     fits_seated self new work
     (λ (m : ℕ). position_kept (NotesFound found by lists.items) (slice_get mid m) (slice_get new.items m) (each m) ∙ first m)
     (record { len = rest.len ∙ e.size.len; room = rest.room ∙ e.size.room })
-    (listed_noted self.cells.items old mid e.each new.items (covers_of found mid) by self.work work
-    (linked_seated old mid first self.cells.items e.size.len self.linked)
-    refl refl refl (notes_each found mid by lists.items new.items each) (waits_each found mid by lists.items new.items each) rest.kept self.listed)
+    (listed_noted self.cells.items mid new.items by self.work lists (linked_seated old mid first self.cells.items e.size.len self.linked)
+    (λ (m : ℕ). advance_by (NotesFound found by lists.items) (NotesAll by.issuer) (λ x f h. (h.0.0, h.0.1)) (slice_get mid m)
+    (slice_get new.items m) (each m))
+    (λ (m : ℕ). advance_by (NotesFound found by lists.items) (Waits lists.items by.issuer) (λ x f h. h.2) (slice_get mid m)
+    (slice_get new.items m) (each m)) rest.kept
+    (listed_roomed self.cells.items old mid e.each self.work self.listed))
 
 pub returns-clause-noted : goal.returns-clause-noted
 unfolding marks_at pends_at
 returns-clause-noted c =
     noted_found (starts (get nat_eq c.args.self.now.pages) c.args.self.now.parts.items) c.args.self.now.cells.items c.args.self.now.broken.items c.make_room_found.new.broken.items
     c.note_found.new.broken.items c.args.found.now (issuing c.args.issuer c.args.reach c.args.broadcast) c.note_found.new.lists.items c.args.self.now.linked
-    c.args.self.now.placed c.make_room_found.ensures.each c.make_room_found.ensures.size.len c.note_found.ensures.each
+    c.args.self.now.placed c.make_room_found.ensures.each c.note_found.ensures.each
     (vec_len c.args.self.now.cells) c.args.self.now.parted.numbered
 
 pub returns-clause-unnoted : goal.returns-clause-unnoted
@@ -70,5 +72,5 @@ unfolding pends_at
 returns-clause-unnoted c =
     unnoted_found (starts (get nat_eq c.args.self.now.pages) c.args.self.now.parts.items) c.args.self.now.cells.items c.args.self.now.broken.items c.make_room_found.new.broken.items
     c.note_found.new.broken.items c.args.found.now (issuing c.args.issuer c.args.reach c.args.broadcast) c.note_found.new.lists.items c.args.self.now.linked
-    c.args.self.now.placed c.make_room_found.ensures.each c.make_room_found.ensures.size.len c.note_found.ensures.each
+    c.args.self.now.placed c.make_room_found.ensures.each c.note_found.ensures.each
     (vec_len c.args.self.now.cells) c.args.self.now.parted.numbered

@@ -1,7 +1,7 @@
 use Rattle.bbm_place_map.proofs.Common.{nat_eq, get, starts}
-use Rattle.bbm_place_map.specs.Map.{marks_at, pends_at}
 use Rattle.bbm_place_map.proofs.Idle.{idle_from}
 use Rattle.bbm_place_map.proofs.Restless.{none_waits}
+use Rattle.bbm_place_map.specs.Map.{marks_at, pends_at}
 use Rattle.bbm_place_map.proofs.map.PlaceMap.law_idle.Goals as goal
 
 pub returns : goal.returns

@@ -1,10 +1,9 @@
-use Rattle.bbm_place_map.proofs.Common.{ℕ, None, Some, false≢true, nat_eq, ap, sym, subst, ◌∙◌, arith, vec_len, get}
-use Rattle.bbm_place_map.proofs.Common.{no_pends, refl}
-use Rattle.bbm_place_map.proofs.Common.{place_cell, marks_in, pends_for, Parted, at_index, starts}
-use Rattle.bbm_place_map.specs.Map.{marks_at, pends_at}
+use Rattle.bbm_place_map.proofs.Common.{None, Some, false≢true, nat_eq, ap, sym, ◌∙◌, vec_len, get, no_pends, refl}
+use Rattle.bbm_place_map.proofs.Common.{place_cell, marks_in, pends_for, at_index, starts}
 use Rattle.bbm_place_map.proofs.Clearing.{breakable, fits_with}
 use Rattle.bbm_place_map.proofs.Listing.{listed_broken}
 use Rattle.bbm_place_map.proofs.Places.{at_place, at_same}
+use Rattle.bbm_place_map.specs.Map.{marks_at, pends_at}
 use Rattle.bbm_place_map.proofs.map.PlaceMap.mark.Goals as goal
 
 pub mark-requires : goal.mark-requires

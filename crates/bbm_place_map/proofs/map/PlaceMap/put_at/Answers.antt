@@ -1,7 +1,7 @@
-use Rattle.bbm_place_map.proofs.Common.{ℕ, nat_eq, refl, arith, sym, subst, vec_len, get, value_in, Numbered, Parted}
-use Rattle.bbm_place_map.specs.Map.{IsPosition, is_tracked, value_at}
+use Rattle.bbm_place_map.proofs.Common.{nat_eq, refl, vec_len, get, value_in}
 use Rattle.bbm_place_map.proofs.Clearing.{fits_with}
 use Rattle.bbm_place_map.proofs.Places.{at_place}
+use Rattle.bbm_place_map.specs.Map.{is_tracked, value_at, IsPosition}
 use Rattle.bbm_place_map.proofs.map.PlaceMap.put_at.Goals as goal
 
 pub invariant_of-self : goal.invariant_of-self

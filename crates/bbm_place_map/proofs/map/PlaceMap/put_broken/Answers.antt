@@ -1,5 +1,5 @@
-use Rattle.bbm_place_map.proofs.Common.{List, ℕ, None, Some, Option, nat_eq, ap, sym, ◌∙◌, if◌then◌else◌, Marks}
-use Rattle.bbm_place_map.proofs.Common.{false≢true, marks_in, at_index, Entry}
+use Rattle.bbm_place_map.proofs.Common.{List, ℕ, None, ap, sym, ◌∙◌, marks_in, at_index, Entry, Broken}
+use Rattle.bbm_place_map.proofs.Wholes.{left_between, put_between}
 use Rattle.bbm_place_map.specs.Map.{is_tracked, marks_at, pends_at, value_at}
 use Rattle.bbm_place_map.proofs.map.PlaceMap.put_broken.Goals as goal
 
@@ -14,20 +14,14 @@ mark-requires-clause-before c =
 
 pub returns-clause-put : goal.returns-clause-put
 unfolding value_at is_tracked
-returns-clause-put c = record {
-  values = λ a.
-      c.put_at.ensures.put.values a
-      ∙ ap (λ (v : ℕ). if nat_eq a c.args.position.now.place then c.args.value else v)
-      (c.mark.ensures.same.values a ∙ c.cell-i.ensures.same.values a);
-  pages = λ p. c.put_at.ensures.put.pages p ∙ c.mark.ensures.same.pages p ∙ c.cell-i.ensures.same.pages p;
-}
+returns-clause-put c =
+    let kept = c.mark.ensures.same in
+    put_between c.args.value c.args.position.now.place c.args.self.now c.cell-i.new.self c.mark.new.self c.put_at.new.self c.cell-i.ensures.same
+    (record { values = kept.values; pages = kept.pages }) c.put_at.ensures.put
 
 pub returns-clause-left : goal.returns-clause-left
 unfolding marks_at pends_at
-returns-clause-left c = record {
-  marks = λ a.
-      c.put_at.ensures.marks a ∙ c.mark.ensures.left.marks a
-      ∙ ap (λ (m : Option Marks). if nat_eq a c.args.position.now.place then Some c.args.marks else m) (c.cell-i.ensures.same.marks a);
-  pends = λ q a stays. c.put_at.ensures.pends q a ∙ c.mark.ensures.left.pends q a stays ∙ c.cell-i.ensures.same.pends q a;
-  dropped = λ q is. absurd (false≢true (sym is));
-}
+returns-clause-left c =
+    let left = c.mark.ensures.left in
+    left_between (Broken c.args.marks) c.args.position.now.place c.args.self.now c.cell-i.new.self c.mark.new.self c.put_at.new.self c.cell-i.ensures.same
+    (record { marks = left.marks; pends = left.pends; dropped = left.dropped }) c.put_at.ensures.marks c.put_at.ensures.pends

@@ -1,9 +1,9 @@
 use Rattle.bbm_place_map.proofs.Common.{refl, nat_eq, vec_len, eq-eqb, false, get, cell_by, is_at, value_in}
-use Rattle.bbm_place_map.specs.Map.{IsPosition, is_tracked, marks_at, pends_at, value_at}
 use Rattle.bbm_place_map.proofs.Clearing.{able, fits_cleared, place_cleared}
 use Rattle.bbm_place_map.proofs.Places.{at_place}
-use Rattle.bbm_place_map.proofs.map.PlaceMap.put_unbroken.Goals as goal
 use Rattle.bbm_lemmas.proofs.Bools.{none_unless}
+use Rattle.bbm_place_map.specs.Map.{is_tracked, marks_at, pends_at, value_at, IsPosition}
+use Rattle.bbm_place_map.proofs.map.PlaceMap.put_unbroken.Goals as goal
 
 pub clear_by-requires-clause-able : goal.clear_by-requires-clause-able
 clear_by-requires-clause-able c = able c.args.self.now

@@ -1,7 +1,7 @@
 use Rattle.bbm_place_map.proofs.Common.{◌/◌, refl, sym, ◌∙◌, in_part, slot_in}
-use Rattle.bbm_place_map.specs.Map.{marks_at, pends_at}
 use Rattle.bbm_place_map.proofs.Clearing.{able, fits_cleared, frees_untracked, page_cleared}
 use Rattle.bbm_place_map.proofs.Parts.{part_within}
+use Rattle.bbm_place_map.specs.Map.{marks_at, pends_at}
 use Rattle.bbm_place_map.proofs.map.PlaceMap.release.Goals as goal
 
 pub clear_part-requires-clause-able : goal.clear_part-requires-clause-able

@@ -1,8 +1,8 @@
 use Rattle.bbm_place_map.proofs.Common.{nat_eq, vec_len, get, starts}
-use Rattle.bbm_place_map.specs.Map.{marks_at, pends_at, restless_in, restless_place}
 use Rattle.bbm_place_map.proofs.Idle.{idle_from}
 use Rattle.bbm_place_map.proofs.Parts.{broken_eighth}
 use Rattle.bbm_place_map.proofs.Restless.{place_broken, place_each, place_once, none_waits}
+use Rattle.bbm_place_map.specs.Map.{marks_at, pends_at, restless_in, restless_place}
 use Rattle.bbm_place_map.proofs.map.PlaceMap.restless.Goals as goal
 
 pub returns-clause-broken : goal.returns-clause-broken

@@ -1,7 +1,7 @@
 use Rattle.bbm_place_map.proofs.Common.{nat_eq, ap, is_some, Option, get, starts, Marks}
-use Rattle.bbm_place_map.specs.Map.{marks_at, restless_in}
 use Rattle.bbm_place_map.proofs.Leaving.{entry_read}
 use Rattle.bbm_place_map.proofs.Restless.{marks_are}
+use Rattle.bbm_place_map.specs.Map.{marks_at, restless_in}
 use Rattle.bbm_place_map.proofs.map.PlaceMap.restless_at.Goals as goal
 
 pub returns-clause-broken : goal.returns-clause-broken

@@ -1,7 +1,7 @@
 use Rattle.bbm_place_map.proofs.Common.{nat_eq, refl, ap, ◌∙◌, get, starts, Entry}
-use Rattle.bbm_place_map.specs.Map.{marks_at, restless_in, restless_place}
 use Rattle.bbm_place_map.proofs.Leaving.{entry_read}
 use Rattle.bbm_place_map.proofs.Restless.{marks_are, marks_here, place_is}
+use Rattle.bbm_place_map.specs.Map.{marks_at, restless_in, restless_place}
 use Rattle.bbm_place_map.proofs.map.PlaceMap.restless_core.Goals as goal
 
 pub returns : goal.returns

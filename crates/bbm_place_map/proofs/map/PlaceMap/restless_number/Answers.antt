@@ -1,8 +1,8 @@
 use Rattle.bbm_place_map.proofs.Common.{nat_eq, sym, ◌∙◌, vec_len, get}
-use Rattle.bbm_place_map.specs.Map.{IsPosition}
 use Rattle.bbm_place_map.proofs.Numbers.{number_none, number_read, number_some}
 use Rattle.bbm_place_map.proofs.Parts.{has_part}
 use Rattle.bbm_place_map.proofs.Places.{index_inside}
+use Rattle.bbm_place_map.specs.Map.{IsPosition}
 use Rattle.bbm_place_map.proofs.map.PlaceMap.restless_number.Goals as goal
 
 pub entry_number-requires : goal.entry_number-requires

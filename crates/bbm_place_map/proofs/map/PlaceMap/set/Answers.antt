@@ -1,5 +1,4 @@
-use Rattle.bbm_place_map.proofs.Common.{◌≡◌, ℕ, Option, Some, IfSome, sym, subst, EntryState, Live}
-use Rattle.bbm_place_map.specs.MapCalls.{Leaves}
+use Rattle.bbm_place_map.proofs.Common.{◌≡◌, ℕ, Option, Some, IfSome, sym, subst, EntryState, Live, Leaves}
 use Rattle.bbm_place_map.specs.declared.position.Position.{Position}
 use Rattle.bbm_place_map.proofs.map.PlaceMap.set.Goals as goal
 

@@ -1,7 +1,6 @@
-use Rattle.bbm_place_map.proofs.Common.{ℕ, Option, ap, sym, ◌∙◌, arith, core_of, Core, value_in, at_index}
-use Rattle.bbm_place_map.proofs.Common.{state_from}
-use Rattle.bbm_place_map.specs.Map.{marks_at, value_at}
+use Rattle.bbm_place_map.proofs.Common.{ℕ, Option, ap, sym, ◌∙◌, arith, core_of, Core, value_in, at_index, state_from}
 use Rattle.bbm_place_map.proofs.Edits.{value_read}
+use Rattle.bbm_place_map.specs.Map.{marks_at, value_at}
 use Rattle.bbm_place_map.proofs.map.PlaceMap.state_by.Goals as goal
 
 pub returns-in-Some : goal.returns-in-Some

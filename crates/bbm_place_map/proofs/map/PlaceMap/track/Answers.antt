@@ -1,11 +1,10 @@
-use Rattle.bbm_place_map.proofs.Common.{◌≡◌, ℕ, ◌/◌, nat_eq, ap, sym, ◌∙◌, inl, inr, vec_len, if◌then◌else◌}
-use Rattle.bbm_place_map.proofs.Common.{cases_Bool, cond-false, cond-true, eqb-true, get, OnOk-map, in_part, slot_in}
-use Rattle.bbm_place_map.proofs.Common.{value_in, page_of, at_index}
-use Rattle.bbm_place_map.specs.Map.{marks_at, pends_at, value_at}
-use Rattle.bbm_place_map.specs.MapCalls.{Frees, KeepsBroken}
+use Rattle.bbm_place_map.proofs.Common.{◌≡◌, ℕ, ◌/◌, nat_eq, ap, sym, ◌∙◌, vec_len, if◌then◌else◌, get, OnOk-map}
+use Rattle.bbm_place_map.proofs.Common.{in_part, slot_in, value_in, page_of, at_index, Frees, split_at}
+use Rattle.bbm_place_map.specs.MapCalls.{KeepsBroken}
 use Rattle.bbm_place_map.proofs.Clearing.{able, fits_cleared, frees_untracked, page_cleared}
 use Rattle.bbm_place_map.proofs.Parts.{part_within}
 use Rattle.bbm_place_map.proofs.Places.{at_page, index_none}
+use Rattle.bbm_place_map.specs.Map.{marks_at, pends_at, value_at}
 use Rattle.bbm_place_map.proofs.map.PlaceMap.track.Goals as goal
 
 pub clear_part-requires-clause-able : goal.clear_part-requires-clause-able
@@ -42,13 +41,10 @@ returns-in-None-clause-values c =
     OnOk-map c.add_page.result ((a : ℕ) → value_at new a ≡ value_at self a)
     ((a : ℕ) → value_at new a ≡ (if nat_eq (page_of a) c.args.page then 0 else value_at self a))
     (λ h a.
-    elim (cases_Bool (nat_eq (page_of a) c.args.page)) [
-      | inl same ↦
-          h a ∙ ap (at_index 0 (value_in self.values.items)) (index_none (get nat_eq self.pages) a
-          (ap (get nat_eq self.pages) (eqb-true (page_of a) c.args.page same) ∙ sym c.base.ensures.base ∙ c.in-None.is))
-          ∙ sym (cond-true (nat_eq (page_of a) c.args.page) 0 (value_at self a) same)
-      | inr off ↦ h a ∙ sym (cond-false (nat_eq (page_of a) c.args.page) 0 (value_at self a) off)
-    ])
+    split_at (page_of a) c.args.page
+    (λ same. h a ∙ ap (at_index 0 (value_in self.values.items)) (index_none (get nat_eq self.pages) a
+    (ap (get nat_eq self.pages) same ∙ sym c.base.ensures.base ∙ c.in-None.is)))
+    (λ off. h a))
     c.add_page.ensures.values
 
 pub returns-in-None-clause-freed : goal.returns-in-None-clause-freed

@@ -1,7 +1,7 @@
 use Rattle.bbm_place_map.proofs.Common.{◌+◌, nat_eq, ap, sym, ◌∙◌, arith, vec_len, get, value_in, at_index}
-use Rattle.bbm_place_map.specs.Map.{value_at, IsPosition}
 use Rattle.bbm_place_map.proofs.Edits.{value_read}
 use Rattle.bbm_place_map.proofs.Places.{index_behind, page_inside}
+use Rattle.bbm_place_map.specs.Map.{value_at, IsPosition}
 use Rattle.bbm_place_map.proofs.map.PlaceMap.value_from.Goals as goal
 
 pub returns : goal.returns

@@ -1,6 +1,6 @@
 use Rattle.bbm_place_map.proofs.Common.{ap, sym, ◌∙◌, arith, value_in, at_index}
-use Rattle.bbm_place_map.specs.Map.{value_at}
 use Rattle.bbm_place_map.proofs.Edits.{value_read}
+use Rattle.bbm_place_map.specs.Map.{value_at}
 use Rattle.bbm_place_map.proofs.map.PlaceMapMemory.value.Goals as goal
 
 pub returns-in-Some : goal.returns-in-Some
