@@ -1,9 +1,7 @@
 -- Which changes keep an index and a map in agreement.
-use Rattle.bbm_tree_index.proofs.Common.{PlaceMap, Agrees, core_at, core_with, TreeIndex}
+use Rattle.bbm_tree_index.proofs.Common.{PlaceMap, Agrees, core_at, core_with, TreeIndex, marks_at, value_at, child}
+use Rattle.bbm_tree_index.proofs.Common.{next_in, node_in}
 use Rattle.bbm_rules.proofs.Common.{◌≡◌, ℕ, Some, None, sym, ap, ◌∙◌, page_of, Node}
-use Rattle.bbm_place_map.specs.Map.{marks_at, value_at}
-use Rattle.bbm_tree_index.specs.HeldCores.{child, next_in}
-use Rattle.bbm_tree_index.specs.Index.{node_in}
 
 -- a place of a tree has the same marks and the same value
 pub record SamePlace (map map' : PlaceMap) (a : ℕ) : Type 0 where

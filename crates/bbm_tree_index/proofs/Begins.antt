@@ -1,15 +1,15 @@
 -- Where the paths of what is attached begin.
-use Rattle.bbm_tree_index.proofs.Common.{IndexMap, PlaceMap, page_count, MayJudge, IsSurvey, Told, below_all, starts_of}
-use Rattle.bbm_tree_index.proofs.Common.{Starting, Well, root_marks, TreeIndex, Mark, Attach, Root, Below}
-use Rattle.bbm_rules.proofs.Common.{◌≡◌, ℕ, suc, ◌≤◌, ◌<◌, ◌+◌, ◌*◌, ◌^◌, true, List, [], ◌∷◌, Option, Some, Contains}
-use Rattle.bbm_rules.proofs.Common.{length, sym, ap, ◌∙◌, subst, arith, same_Some, heading_ok, Kind, page_of, start_of}
-use Rattle.bbm_rules.proofs.Common.{Node, node_below}
-use Rattle.bbm_place_map.specs.Map.{value_at}
-use Rattle.bbm_tree_index.specs.Index.{fresh_in, heading_of, node_in}
-use Rattle.bbm_tree_index.specs.LeastPages.{HavePages}
+use Rattle.bbm_tree_index.proofs.Common.{Heading, Role, node_by, IndexMap, PlaceMap, page_count, MayJudge, IsSurvey}
+use Rattle.bbm_tree_index.proofs.Common.{Told, below_all, starts_of, Starting, Well, root_marks, TreeIndex, Mark}
+use Rattle.bbm_tree_index.proofs.Common.{Attach, Root, Below, value_at, HavePages}
+use Rattle.bbm_rules.proofs.Common.{◌⊎◌, inl, inr, ◌≡◌, ℕ, ◌≤◌, ◌<◌, ◌+◌, ◌*◌, ◌^◌, true, List, [], ◌∷◌, Option, Some}
+use Rattle.bbm_rules.proofs.Common.{Contains, length, refl, sym, ap, ◌∙◌, subst, arith, heading_ok, Kind, page_of}
+use Rattle.bbm_rules.proofs.Common.{start_of, Node, node_below}
+use Rattle.bbm_tree_index.specs.Index.{fresh_in, heading_of, node_in, role_in}
 use Rattle.bbm_tree_index.proofs.Begun.{is_only, only}
 use Rattle.bbm_tree_index.proofs.RootFits.{count_some, root_end, root_fits}
-use Rattle.bbm_tree_index.proofs.Rooted.{Pages, root_apart, root_nodes, root_same, root_some, root_starting, root_well}
+use Rattle.bbm_tree_index.proofs.Rooted.{Pages, in_pages, root_apart, root_nodes, root_same, root_some, root_starting}
+use Rattle.bbm_tree_index.proofs.Rooted.{root_well}
 
 module _ (index : TreeIndex) (at : Attach) (may : MayJudge index at) where
   module _ (kind : Kind) (first : ℕ) (is : at ≡ Root kind first) where
@@ -46,28 +46,33 @@ module _ (index : TreeIndex) (at : Attach) (may : MayJudge index at) where
     pub starts_below : starts_of index at ≡ node_below n place next ∷ []
     starts_below = ap (starts_of index) is ∙ ap (λ o. below_all o place next) node
 
-    pub same_below : (s : Node) → Contains (starts_of index at) s → (s.kind ≡ n.kind) × (s.level ≡ suc n.level)
-    same_below s c = let e = only (node_below n place next) s (subst (λ xs. Contains xs s) starts_below c) in
-        (ap (λ x. x.kind) e, ap (λ x. x.level) e)
-
     pub some_below : (s : Node) × Contains (starts_of index at) s
     some_below = (node_below n place next, subst (λ xs. Contains xs (node_below n place next)) (sym starts_below) (is_only (node_below n place next)))
 
-    pub low_below : n.level < 3
-    low_below = let m = subst (MayJudge index) is may in
-        subst (λ x. x.level < 3) (same_Some m.0 n (sym m.1 ∙ node)) m.2
-
 pub apart_of : (index : TreeIndex) (at : Attach) → MayJudge index at → (s s' : Node) → Contains (starts_of index at) s
     → Contains (starts_of index at) s' → s.page ≡ s'.page → s ≡ s'
-apart_of index (Root kind first) may s s' c c' e =
-    let is : starts_of index (Root kind first) ≡ Pages kind first (heading_of index) (page_count (heading_of index).world kind)
-    = root_nodes kind first (heading_of index) may.0 in
+apart_of index (Root kind first) may s s' c c' e = let is = starts_root index (Root kind first) may kind first refl in
     root_apart kind first (heading_of index) (page_count (heading_of index).world kind) s s'
     (subst (λ xs. Contains xs s) is c) (subst (λ xs. Contains xs s') is c') e
 apart_of index (Below place next) may s s' c c' e =
-    let is : starts_of index (Below place next) ≡ node_below may.0 place next ∷ [] = ap (λ o. below_all o place next) may.1 in
+    let is = starts_below index (Below place next) may place next may.0 refl may.1 in
     only (node_below may.0 place next) s (subst (λ xs. Contains xs s) is c)
     ∙ sym (only (node_below may.0 place next) s' (subst (λ xs. Contains xs s') is c'))
+
+-- the node is one of a root, or hangs at a place of a page of a tree
+abbrev pub Begins : (ℕ → Role) → Heading → Node → Type 0
+Begins roles heading m = (m.above ≡ [])
+    ⊎ ((n : Node) × (place : ℕ) × (node_by roles heading (page_of place) ≡ Some n) × (m ≡ node_below n place m.page))
+
+pub starts_begin : (index : TreeIndex) (at : Attach) → MayJudge index at → (s : Node) → Contains (starts_of index at) s
+    → Begins (role_in index) (heading_of index) s
+unfolding node_in
+starts_begin index (Root kind first) may s c = let heading = heading_of index in
+    inl (ap (λ (x : Node). x.above) (in_pages kind first heading (page_count heading.world kind) s
+    (subst (λ xs. Contains xs s) (root_nodes kind first heading may.0) c)).2)
+starts_begin index (Below place next) may s c =
+    let same = only (node_below may.0 place next) s (subst (λ xs. Contains xs s) (ap (λ o. below_all o place next) may.1) c) in
+    inr (may.0, place, may.1, same ∙ ap (node_below may.0 place) (sym (ap (λ (x : Node). x.page) same)))
 
 module _ {S : Type 0} (tables : List (IndexMap ℕ Mark S)) (index : TreeIndex) (map : PlaceMap) (at : Attach)
     (survey : IsSurvey tables index map at) where

@@ -9,10 +9,7 @@ use Rattle.bbm_tree_index.proofs.Growing.{hang_fits, well_grown, well_none}
 -- the only item of a list of one
 pub only : {X : Type 0} (x y : X) → Contains (x ∷ []) y → y ≡ x
 only x y (zero, below, at) = sym at
-only x y (suc k, below, at) = absurd (none k below)
-  where
-    none : (k : ℕ) → suc k < 1 → ⊥
-    none k l = omega (arith, l)
+only x y (suc k, below, at) = absurd (omega (arith, below))
 
 pub is_only : {X : Type 0} (x : X) → Contains (x ∷ []) x
 is_only x = (0, omega arith, refl)
@@ -21,14 +18,12 @@ module _ (s : Spot) (place next : ℕ) (mark : Mark) (is : mark.role ≡ Hangs p
     (few : mark.many ≡ false) (g : ℕ → Option Mark) (put : (q : ℕ) → g q ≡ (if q == next then Some mark else None)) where
   pub one_well : (heading : Heading) → Fits s → s.level < 3 → index_of place < 512 → (next < 2 ^ 48) × (next % 4096 ≡ 0) → Well heading g
   one_well heading fits low below page = well_grown heading (Some next) mark (λ q. None) g put
-      (λ p e. (ap' p e page.0, ap'' p e page.1, subst (λ r. RoleFits heading r) (sym is) (hang_fits heading s place (index_of place) s.kind s.first fits low below)))
+      (λ p e. subst (λ q. (q < 2 ^ 48) × (q % 4096 ≡ 0) × RoleFits heading mark.role) (same_Some next p e) (
+        page.0,
+        page.1,
+        subst (RoleFits heading) (sym is) (hang_fits heading s place (index_of place) s.kind s.first fits low below),
+      ))
       (well_none heading (λ q. None) (λ q. refl))
-    where
-      ap' : (p : ℕ) → Some next ≡ Some p → next < 2 ^ 48 → p < 2 ^ 48
-      ap' p e h = subst (λ q. q < 2 ^ 48) (same_Some next p e) h
-
-      ap'' : (p : ℕ) → Some next ≡ Some p → next % 4096 ≡ 0 → p % 4096 ≡ 0
-      ap'' p e h = subst (λ q. q % 4096 ≡ 0) (same_Some next p e) h
 
   pub one_start : (heading : Heading) (n : Node) → StandsAt s n → Starting heading g (node_below n place next ∷ [])
   one_start heading n st = let m : Node = node_below n place next in record {

@@ -1,7 +1,6 @@
 -- What is asked of the places above a page, by its role and by its node.
-use Rattle.bbm_tree_index.proofs.Common.{Heading, Sound, hangs_at, cut_by, above_by, node_by, node_with, StandsAt}
-use Rattle.bbm_tree_index.proofs.Common.{spot_with}
-use Rattle.bbm_tree_index.proofs.Common.{Role, Untracked, Fresh, RootPage, Hangs, Gone, Null, Spot}
+use Rattle.bbm_tree_index.proofs.Common.{spot_as, Heading, Sound, hangs_at, cut_by, above_by, node_by, node_with}
+use Rattle.bbm_tree_index.proofs.Common.{StandsAt, spot_with, Role, RootPage, Hangs, Spot}
 use Rattle.bbm_rules.proofs.Common.{◌≡◌, ℕ, zero, suc, Bool, ◌||◌, [], Some, None, refl, sym, ap, ◌∙◌, subst, none-some}
 use Rattle.bbm_rules.proofs.Common.{same_Some, Kind, any, page_of, Node}
 
@@ -19,12 +18,13 @@ above_node roles heading page (Hangs parent kind level base first) n e =
 above_node roles heading page _ n e = absurd (none-some n e)
 
 -- a spot is that of a node
+pub stands : (s : Spot) (n : Node) → spot_as n ≡ s → StandsAt s n
+stands s n e = record { kind = ap (λ t. t.kind) e; level = ap (λ t. t.level) e; base = ap (λ t. t.base) e; root = ap (λ t. t.first) e }
+
 pub spot_node : (roles : ℕ → Role) (heading : Heading) (page : ℕ) (role : Role) (s : Spot) → spot_with heading role ≡ Some s
     → (n : Node) × (node_with roles heading page role ≡ Some n) × StandsAt s n
-spot_node roles heading page (RootPage kind first part) s e = let f = same_Some _ s e in
-    (_, refl, record { kind = ap (λ t. t.kind) f; level = ap (λ t. t.level) f; base = ap (λ t. t.base) f; root = ap (λ t. t.first) f })
-spot_node roles heading page (Hangs parent kind level base first) s e = let f = same_Some _ s e in
-    (_, refl, record { kind = ap (λ t. t.kind) f; level = ap (λ t. t.level) f; base = ap (λ t. t.base) f; root = ap (λ t. t.first) f })
+spot_node roles heading page (RootPage kind first part) s e = (_, refl, stands s _ (same_Some _ s e))
+spot_node roles heading page (Hangs parent kind level base first) s e = (_, refl, stands s _ (same_Some _ s e))
 spot_node roles heading page _ s e = absurd (none-some s e)
 
 pub spot_none : (roles : ℕ → Role) (heading : Heading) (page : ℕ) (role : Role) → spot_with heading role ≡ None
@@ -57,7 +57,7 @@ module _ (test : Kind → ℕ → ℕ → Bool) (roles : ℕ → Role) (heading 
   cut_any zero page n e = cut_zero n.kind page (roles page) n e
   cut_any (suc left) page n e = cut_suc left page (roles page) n refl e (cut_any left)
 
-  pub cut_node : (page : ℕ) (n : Node) → node_by roles heading page ≡ Some n
-      → cut_by test roles n.level (roles page) ≡ any (λ a. test n.kind a.level a.place) n.above
-  cut_node page n e = cut_any n.level page n e
-      ∙ ap (any (λ a. test n.kind a.level a.place)) (sym (above_node roles heading page (roles page) n e))
+  -- of a page that hangs
+  pub cut_hang : (page parent level base first : ℕ) (kind : Kind) → roles page ≡ Hangs parent kind level base first
+      → Cut level kind (Hangs parent kind level base first)
+  cut_hang page parent level base first kind r = subst (Cut level kind) r (cut_any level page _ (ap (node_with roles heading page) r))

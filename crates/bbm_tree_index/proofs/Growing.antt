@@ -3,9 +3,9 @@ use Rattle.bbm_tree_index.proofs.Common.{length-map, IndexMap, get, index_map_le
 use Rattle.bbm_tree_index.proofs.Common.{RoleFits, Well, grown, joined, Mark, Spot, Hangs}
 use Rattle.bbm_rules.proofs.Common.{◌≡◌, ℕ, zero, suc, ◌<◌, ◌≤◌, ◌+◌, ◌*◌, ◌%◌, ◌^◌, Bool, true, false, ◌||◌, ◌==◌}
 use Rattle.bbm_rules.proofs.Common.{List, [], ◌∷◌, ◌++◌, Option, Some, None, is_some, nat_eq, take, get_or, slice_get}
-use Rattle.bbm_rules.proofs.Common.{refl, sym, ap, ◌∙◌, subst, true≢false, if◌then◌else◌, arith, list_any, eqb-true}
-use Rattle.bbm_rules.proofs.Common.{eq-eqb, none-some, same_Some, slice_get_within, take_all, take_more}
-use Rattle.bbm_rules.proofs.Common.{list_any-append, input_pages, Kind, or-false}
+use Rattle.bbm_rules.proofs.Common.{refl, sym, ap, ◌∙◌, subst, true≢false, if◌then◌else◌, arith, nat_tests, list_any}
+use Rattle.bbm_rules.proofs.Common.{eqb-true, inl, inr, eq-eqb, false_from_ne_true, none-some, or_cases, same_Some}
+use Rattle.bbm_rules.proofs.Common.{slice_get_within, take_all, take_more, list_any-append, input_pages, Kind, or-false}
 use Rattle.std.specs.List.{IsDistinct}
 use Rattle.bbm_tree_index.specs.PageTables.{HasPages}
 use Rattle.std.proofs.lemmas.Option.{get_or_from_slice_get}
@@ -17,10 +17,7 @@ below_low : (base index level : ℕ) → level < 3 → index < 512 → base + 51
 below_low base index zero l i h = omega (arith, i, h)
 below_low base index (suc zero) l i h = omega (arith, i, h)
 below_low base index (suc (suc zero)) l i h = omega (arith, i, h)
-below_low base index (suc (suc (suc level))) l i h = absurd (high l)
-  where
-    high : suc (suc (suc level)) < 3 → ⊥
-    high l = omega (arith, l)
+below_low base index (suc (suc (suc level))) l i h = absurd (omega (arith, l))
 
 pub hang_fits : (heading : Heading) (s : Spot) (place index : ℕ) (kind : Kind) (first : ℕ) → Fits s → s.level < 3 → index < 512
     → RoleFits heading (Hangs place kind (suc s.level) (s.base + index * input_pages s.level) first)
@@ -37,14 +34,10 @@ well_grown heading None mark g g' is new w = record {
   fit = λ p m e. w.fit p m (sym (is p) ∙ e);
 }
 well_grown heading (Some next) mark g g' is new w = record {
-  pages = λ p e. page p (p == next) refl (ap (λ o. is_some o) (sym (is p)) ∙ e);
+  pages = λ p e. grind (arith, nat_tests, is p, w.pages p, new next refl);
   fit = λ p m e. fit p m (p == next) refl (sym (is p) ∙ e);
 }
   where
-    page : (p : ℕ) (b : Bool) → (p == next) ≡ b → is_some (if b then Some (joined (g next) mark) else g p) ≡ true → (p < 2 ^ 48) × (p % 4096 ≡ 0)
-    page p true t e = subst (λ q. (q < 2 ^ 48) × (q % 4096 ≡ 0)) (sym (eqb-true p next t)) ((new next refl).0, (new next refl).1)
-    page p false t e = w.pages p e
-
     joined_fit : (o : Option Mark) → g next ≡ o → RoleFits heading (joined o mark).role
     joined_fit None e = (new next refl).2
     joined_fit (Some old) e = w.fit next old e
@@ -55,25 +48,18 @@ well_grown heading (Some next) mark g g' is new w = record {
 
 -- a key stands at no earlier index
 pub any_at : (k : ℕ) (ks : List ℕ) (j : ℕ) → list_any (nat_eq k) (take j ks) ≡ true → (i : ℕ) × (i < j) × (nat_eq k (get_or ks i 0) ≡ true)
-any_at k [] zero e = absurd (true≢false (sym e))
+any_at k (x ∷ xs) (suc j) e =
+    elim (or_cases (nat_eq k x) (list_any (nat_eq k) (take j xs)) e) [
+      | inl t ↦ (0, omega arith, t)
+      | inr t ↦ let found = any_at k xs j t in (suc found.0, omega (arith, found.1), found.2)
+    ]
 any_at k [] (suc j) e = absurd (true≢false (sym e))
-any_at k (x ∷ xs) zero e = absurd (true≢false (sym e))
-any_at k (x ∷ xs) (suc j) e = by (nat_eq k x) refl (any_at k xs j)
-  where
-    by : (b : Bool) → nat_eq k x ≡ b → (list_any (nat_eq k) (take j xs) ≡ true → (i : ℕ) × (i < j) × (nat_eq k (get_or xs i 0) ≡ true))
-        → (i : ℕ) × (i < suc j) × (nat_eq k (get_or (x ∷ xs) i 0) ≡ true)
-    by true t ih = (0, omega arith, t)
-    by false t ih = let found = ih (ap (λ b. b || list_any (nat_eq k) (take j xs)) (sym t) ∙ e) in
-        (suc found.0, omega (arith, found.1), found.2)
+any_at k xs zero e = absurd (true≢false (sym e))
 
 pub not_before : (ks : List ℕ) (j k : ℕ) → IsDistinct nat_eq ks → slice_get ks j ≡ Some k → list_any (nat_eq k) (take j ks) ≡ false
-not_before ks j k distinct at = by (list_any (nat_eq k) (take j ks)) refl
-  where
-    by : (b : Bool) → list_any (nat_eq k) (take j ks) ≡ b → list_any (nat_eq k) (take j ks) ≡ false
-    by true e = let found = any_at k ks j e in
-        absurd (true≢false (sym (eq-eqb (get_or ks found.0 0) (get_or ks j 0) (sym (eqb-true k (get_or ks found.0 0) found.2)
-        ∙ sym (get_or_from_slice_get ks j k 0 at))) ∙ apart_from_distinct nat_eq ks found.0 j 0 distinct found.1 (slice_get_within ks j k at)))
-    by false e = e
+not_before ks j k distinct at = false_from_ne_true (list_any (nat_eq k) (take j ks)) (λ e. let found = any_at k ks j e in
+    true≢false (sym (eq-eqb (get_or ks found.0 0) (get_or ks j 0) (sym (eqb-true k (get_or ks found.0 0) found.2)
+    ∙ sym (get_or_from_slice_get ks j k 0 at))) ∙ apart_from_distinct nat_eq ks found.0 j 0 distinct found.1 (slice_get_within ks j k at)))
 
 pub well_none : (heading : Heading) (g : ℕ → Option Mark) → ((p : ℕ) → g p ≡ None) → Well heading g
 well_none heading g none = record {

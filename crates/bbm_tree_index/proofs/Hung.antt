@@ -1,29 +1,20 @@
 -- Nodes and soundness after pages were hung: each page that is reached got the role of its node, the others kept theirs.
-use Rattle.bbm_tree_index.proofs.Common.{Heading, Sound, hangs_at, above_by, is_fresh_role, is_null_role, node_by}
-use Rattle.bbm_tree_index.proofs.Common.{node_with}
-use Rattle.bbm_tree_index.proofs.Common.{Fits, spot_with, Goes, role_as, spot_as, Role, Untracked, Fresh, RootPage}
-use Rattle.bbm_tree_index.proofs.Common.{Hangs, Gone, Null}
-use Rattle.bbm_rules.proofs.Common.{◌≡◌, ℕ, zero, suc, ◌⊎◌, ◌&&◌, Bool, true, false, List, [], ◌∷◌, ◌++◌, Option, Some}
-use Rattle.bbm_rules.proofs.Common.{None, is_none, Contains, inl, inr, refl, sym, ap, ◌∙◌, subst, none-some, same_Some}
-use Rattle.bbm_rules.proofs.Common.{Kind, page_of, Above, Node, node_below, region_start, and-false}
+use Rattle.bbm_tree_index.proofs.Common.{IndexMap, PlaceMap, Heading, Sound, hangs_at, is_sound, is_fresh_role, node_by}
+use Rattle.bbm_tree_index.proofs.Common.{is_null_role, node_with, spot_with, role_as, spot_as, Mark, TreeIndex, Attach}
+use Rattle.bbm_tree_index.proofs.Common.{Reached, Role, RootPage, Hangs, Gone, Null, starts_of, value_at}
+use Rattle.bbm_rules.proofs.Common.{arith, ◌≡◌, ℕ, zero, suc, ◌⊎◌, ◌&&◌, true, false, List, [], ◌∷◌, Option, Some, None}
+use Rattle.bbm_rules.proofs.Common.{is_none, inl, inr, refl, sym, ap, ◌∙◌, subst, none-some, same_Some, Kind, page_of}
+use Rattle.bbm_rules.proofs.Common.{Above, Node, region_start, and-false}
 use Rattle.std.specs.Option.{IsSomeAnd}
+use Rattle.bbm_tree_index.specs.Index.{fresh_in, heading_of, role_in}
 use Rattle.bbm_tree_index.specs.SoundRoles.{Below}
-use Rattle.bbm_tree_index.proofs.Climbing.{fresh_part, node_above, out_part, tree_part}
-use Rattle.bbm_tree_index.proofs.Levels.{goes_on}
+use Rattle.bbm_tree_index.proofs.Begins.{Begins, starts_begin}
+use Rattle.bbm_tree_index.proofs.Climbing.{fresh_part, node_kept, out_part, tree_part}
+use Rattle.bbm_tree_index.proofs.Levels.{above_of, start_is}
 use Rattle.bbm_tree_index.proofs.Places.{at_page}
+use Rattle.bbm_tree_index.proofs.Reaching.{Reach, Ready, reach_fresh, reach_unique}
+use Rattle.bbm_tree_index.proofs.Surveying.{IsHung, Stays, reach_fits, reach_plain}
 use Rattle.bbm_tree_index.proofs.Sweeping.{node_hang}
-
--- a path from a start reaches the node
-pub record Reach (fresh : ℕ → Bool) (value : ℕ → ℕ) (starts : List Node) (m : Node) : Type 0 where
-  pub start : Node
-  pub is_start : Contains starts start
-  pub places : List ℕ
-  pub goes : Goes fresh value start places m
-
--- the node is one of a root, or hangs at a place of a page of a tree
-abbrev pub Begins : (ℕ → Role) → Heading → Node → Type 0
-Begins roles heading m = (m.above ≡ [])
-    ⊎ ((n : Node) × (place : ℕ) × (node_by roles heading (page_of place) ≡ Some n) × (m ≡ node_below n place m.page))
 
 out_node : (roles : ℕ → Role) (heading : Heading) (page : ℕ) (role : Role) → tree_part role ≡ Gone
     → node_with roles heading page role ≡ None
@@ -35,13 +26,9 @@ fresh_not_null : (role : Role) → is_fresh_role role ≡ true → is_null_role 
 fresh_not_null Null e = cc
 fresh_not_null _ e = refl
 
-hung_not_fresh : (m : Node) (above : List Above) → is_fresh_role (role_as m above) ≡ false
-hung_not_fresh m [] = refl
-hung_not_fresh m (a ∷ rest) = refl
-
-hung_not_null : (m : Node) (above : List Above) → is_null_role (role_as m above) ≡ false
-hung_not_null m [] = refl
-hung_not_null m (a ∷ rest) = refl
+hung_neither : (m : Node) (above : List Above) → (is_fresh_role (role_as m above) ≡ false) × (is_null_role (role_as m above) ≡ false)
+hung_neither m [] = (refl, refl)
+hung_neither m (a ∷ rest) = (refl, refl)
 
 -- the page of a root has its node by its role
 root_node : (roles : ℕ → Role) (heading : Heading) (m : Node) → m.above ≡ []
@@ -55,103 +42,80 @@ root_node roles heading m none e = let same = same_Some _ _ e in λ i. Some (rec
   above = sym none i;
 })
 
-module _ (roles roles' : ℕ → Role) (heading : Heading) (sound : Sound roles heading) (fresh : ℕ → Bool)
-    (is_fresh : (p : ℕ) → fresh p ≡ is_fresh_role (roles p)) (value : ℕ → ℕ) (starts : List Node)
-    (all_fresh : (m : Node) → Reach fresh value starts m → fresh m.page ≡ true)
-    (unique : (m m' : Node) → Reach fresh value starts m → Reach fresh value starts m' → m.page ≡ m'.page → m ≡ m')
-    (begins : (s : Node) → Contains starts s → Begins roles heading s)
-    (plain : (m : Node) → Reach fresh value starts m → spot_with heading (role_as m m.above) ≡ Some (spot_as m))
-    (fits : (m : Node) → Reach fresh value starts m → Fits (spot_as m))
-    (hung : (p : ℕ) → ((m : Node) × Reach fresh value starts m × (m.page ≡ p) × (roles' p ≡ role_as m m.above))
-    ⊎ ((roles' p ≡ roles p) × ((m : Node) → Reach fresh value starts m → m.page ≡ p → ⊥))) where
-  abbrev Reached : Node → Type 0
-  Reached m = Reach fresh value starts m
+module _ {S : Type 0} {tables : List (IndexMap ℕ Mark S)} {index : TreeIndex} {map : PlaceMap} {at : Attach}
+    (ready : Ready tables index map at)
+    (roles' : ℕ → Role) (hung : (p : ℕ) → IsHung ready roles' p ⊎ Stays ready roles' p) where
+  abbrev roles : ℕ → Role
+  roles = role_in index
 
-  abbrev IsHung : ℕ → Type 0
-  IsHung p = (m : Node) × Reached m × (m.page ≡ p) × (roles' p ≡ role_as m m.above)
+  abbrev heading : Heading
+  heading = heading_of index
 
-  abbrev Same : ℕ → Type 0
-  Same p = (roles' p ≡ roles p) × ((m : Node) → Reached m → m.page ≡ p → ⊥)
+  abbrev Reached_at : Node → Type 0
+  Reached_at = Reach index map at
 
-  by_hung : (p : ℕ) (P : Type 0) → (IsHung p → P) → (Same p → P) → P
-  by_hung p P f g = by (hung p)
-    where
-      by : IsHung p ⊎ Same p → P
-      by (inl h) = f h
-      by (inr h) = g h
+  out_at : (p : ℕ) → IsHung ready roles' p → tree_part (roles p) ≡ Gone
+  unfolding fresh_in
+  out_at p h = fresh_part (roles p) (ap (fresh_in index) (sym h.2) ∙ reach_fresh ready h.0 h.1)
 
-  out_at : (p : ℕ) → IsHung p → tree_part (roles p) ≡ Gone
-  out_at p h = fresh_part (roles p) (sym (is_fresh p) ∙ ap fresh (sym h.2) ∙ all_fresh h.0 h.1)
-
-  -- a page of a tree keeps its role
+  -- a page of a tree keeps its role, and its node
   stays : (p : ℕ) (n : Node) → node_by roles heading p ≡ Some n → roles' p ≡ roles p
-  stays p n e = by_hung p (roles' p ≡ roles p)
-      (λ h. absurd (none-some n (sym (out_node roles heading p (roles p) (out_at p h)) ∙ e))) (λ h. h.0)
+  stays p n e = elim (hung p) [ inl h ↦ absurd (none-some n (sym (out_node roles heading p (roles p) (out_at p h)) ∙ e)) | inr h ↦ h.0 ]
 
-  above_role : (level p : ℕ) (role : Role) → roles p ≡ role
-      → ((q : ℕ) (m : Node) → node_by roles heading q ≡ Some m → above_by roles' level (roles q) ≡ above_by roles level (roles q))
-      → above_by roles' (suc level) role ≡ above_by roles (suc level) role
-  above_role level p (Hangs parent kind deep base first) r ih =
-      let found = hangs_at roles heading sound p parent deep base first kind r in
-      ap (λ (rest : List Above). record { place = parent; level = level } ∷ rest)
-      (ap (above_by roles' level) (stays (page_of parent) found.0 found.1) ∙ ih (page_of parent) found.0 found.1)
-  above_role level p _ r ih = refl
-
-  above_kept : (level p : ℕ) (n : Node) → node_by roles heading p ≡ Some n → above_by roles' level (roles p) ≡ above_by roles level (roles p)
-  above_kept zero p n e = refl
-  above_kept (suc level) p n e = above_role level p (roles p) refl (above_kept level)
-
-  pub node_kept : (p : ℕ) (n : Node) → node_by roles heading p ≡ Some n → node_by roles' heading p ≡ Some n
-  node_kept p n e = ap (node_with roles' heading p) (stays p n e)
-      ∙ node_above roles roles' heading p (roles p) (λ level. above_kept level p n e) ∙ e
+  pub node_in_tree : (p : ℕ) (n : Node) → node_by roles heading p ≡ Some n → node_by roles' heading p ≡ Some n
+  node_in_tree p n e = node_kept roles roles' (λ q. (m : Node) × (node_by roles heading q ≡ Some m))
+      (λ q k. ap tree_part (stays q k.0 k.1))
+      (λ q parent level base first kind r k. let found = hangs_at roles heading (is_sound index).roles q parent level base first kind r in
+      (found.0, found.1)) heading p (n, e) ∙ e
 
   -- a page that is reached has the role of its node
-  reached_role : (m : Node) → Reached m → roles' m.page ≡ role_as m m.above
-  reached_role m r = by_hung m.page (roles' m.page ≡ role_as m m.above)
-      (λ h. h.3 ∙ ap (λ x. role_as x x.above) (unique h.0 m h.1 r h.2)) (λ h. absurd (h.1 m r refl))
+  reached_role : (m : Node) → Reached_at m → roles' m.page ≡ role_as m m.above
+  reached_role m r =
+      elim (hung m.page) [
+        | inl h ↦ h.3 ∙ ap (λ x. role_as x x.above) (reach_unique ready h.0 m h.1 r h.2)
+        | inr h ↦ absurd (h.1 m r refl)
+      ]
 
-  begun_node : (m : Node) → Reached m → Begins roles' heading m → node_by roles' heading m.page ≡ Some m
+  begun_node : (m : Node) → Reached_at m → Begins roles' heading m → node_by roles' heading m.page ≡ Some m
   begun_node m r (inl none) =
       ap (node_with roles' heading m.page) (reached_role m r ∙ ap (role_as m) none)
-      ∙ root_node roles' heading m none (ap (λ a. spot_with heading (role_as m a)) (sym none) ∙ plain m r)
+      ∙ root_node roles' heading m none (ap (λ a. spot_with heading (role_as m a)) (sym none) ∙ reach_plain ready m r)
   begun_node m r (inr (n, place, at, below)) =
       node_hang roles' heading m.page place (suc n.level) (region_start n place) n.root n.kind n
       (reached_role m r ∙ ap (λ x. role_as x x.above) below) at
       (record { same_kind = refl; deeper = refl; start = refl; same_root = refl })
       ∙ ap (λ x. Some x) (sym below)
 
-  walk : (x m : Node) (places : List ℕ) → Reached x → Begins roles' heading x → Goes fresh value x places m → Begins roles' heading m
-  walk x m [] r b g = subst (Begins roles' heading) g b
-  walk x m (place ∷ places) r b g = walk g.0 m places (record {
-    start = r.start;
-    is_start = r.is_start;
-    places = r.places ++ place ∷ [];
-    goes = goes_on fresh value r.start x g.0 r.places place r.goes g.1;
-  }) (inr (x, place, ap (node_by roles' heading) (at_page x.page place g.1.inside) ∙ begun_node x r b, g.1.below)) g.2
-
   begun : (s : Node) → Begins roles heading s → Begins roles' heading s
   begun s (inl none) = inl none
-  begun s (inr (n, place, at, below)) = inr (n, place, node_kept (page_of place) n at, below)
+  begun s (inr (n, place, at, below)) = inr (n, place, node_in_tree (page_of place) n at, below)
 
-  begins_at : (m : Node) → Reached m → Begins roles' heading m
-  begins_at m r = walk r.start m r.places (record { start = r.start; is_start = r.is_start; places = []; goes = refl })
-      (begun r.start (begins r.start r.is_start)) r.goes
+  begins_at : (k : ℕ) (m : Node) → Reached (fresh_in index) (value_at map) (starts_of index at) k m → Begins roles' heading m
+  begins_at zero m r = subst (Begins roles' heading) (start_is (fresh_in index) (value_at map) (starts_of index at) m r)
+      (begun r.start (starts_begin index at ready.may r.start r.is_start))
+  begins_at (suc k) m r = let a = above_of (fresh_in index) (value_at map) (starts_of index at) k m r in
+      inr (a.0, a.2, ap (node_by roles' heading) (at_page a.0.page a.2 a.3.inside) ∙ begun_node a.0 (k, a.1) (begins_at k a.0 a.1), a.3.below)
 
-  pub node_reached : (m : Node) → Reached m → node_by roles' heading m.page ≡ Some m
-  node_reached m r = begun_node m r (begins_at m r)
+  pub node_reached : (m : Node) → Reached_at m → node_by roles' heading m.page ≡ Some m
+  node_reached m r = begun_node m r (begins_at r.0 m r.1)
+
+  at_hung : (p : ℕ) (h : IsHung ready roles' p) → node_by roles' heading p ≡ Some h.0
+  at_hung p h = subst (λ q. node_by roles' heading q ≡ Some h.0) h.2 (node_reached h.0 h.1)
 
   -- each node is an old one, or that of a page that is reached
   pub node_back : (p : ℕ) (m : Node) → node_by roles' heading p ≡ Some m
-      → (node_by roles heading p ≡ Some m) ⊎ ((m.page ≡ p) × Reached m)
-  node_back p m e = by_hung p ((node_by roles heading p ≡ Some m) ⊎ ((m.page ≡ p) × Reached m))
-      (λ h. let same : h.0 ≡ m = same_Some h.0 m (sym (subst (λ q. node_by roles' heading q ≡ Some h.0) h.2 (node_reached h.0 h.1)) ∙ e) in
-      inr (ap (λ x. x.page) (sym same) ∙ h.2, subst Reached same h.1))
-      (λ h. inl (old h (node_by roles heading p) refl))
+      → (node_by roles heading p ≡ Some m) ⊎ ((m.page ≡ p) × Reached_at m)
+  node_back p m e =
+      elim (hung p) [
+        | inl h ↦ let same : h.0 ≡ m = same_Some h.0 m (sym (at_hung p h) ∙ e) in
+            inr (ap (λ x. x.page) (sym same) ∙ h.2, subst Reached_at same h.1)
+        | inr h ↦ inl (old h (node_by roles heading p) refl)
+      ]
     where
-      old : Same p → (o : Option Node) → node_by roles heading p ≡ o → node_by roles heading p ≡ Some m
+      old : Stays ready roles' p → (o : Option Node) → node_by roles heading p ≡ o → node_by roles heading p ≡ Some m
       old h None f = absurd (none-some m (sym (ap (node_with roles' heading p) h.0
           ∙ out_node roles' heading p (roles p) (out_part roles heading p (roles p) f)) ∙ e))
-      old h (Some n) f = f ∙ sym (node_kept p n f) ∙ e
+      old h (Some n) f = f ∙ sym (node_in_tree p n f) ∙ e
 
   -- what is kept of a hanging page agrees with the page above
   HangGood : Role → Type 0
@@ -169,43 +133,35 @@ module _ (roles roles' : ℕ → Role) (heading : Heading) (sound : Sound roles 
   hangs : (p parent level base first : ℕ) (kind : Kind) → roles' p ≡ Hangs parent kind level base first
       → IsSomeAnd (node_by roles' heading (page_of parent)) (Below parent kind level base first)
   unfolding HangGood
-  hangs p parent level base first kind e = by_hung p
-      (IsSomeAnd (node_by roles' heading (page_of parent)) (Below parent kind level base first))
-      (λ h. subst HangGood (sym h.3 ∙ e) (good_at h.0 (begins_at h.0 h.1)))
-      (λ h. let found = hangs_at roles heading sound p parent level base first kind (sym h.0 ∙ e) in
-      subst (λ o. IsSomeAnd o (Below parent kind level base first)) (sym (node_kept (page_of parent) found.0 found.1)) found.2)
-
-  by_node : (p : ℕ) (n : Node) (P : Type 0) → node_by roles' heading p ≡ Some n → (node_by roles heading p ≡ Some n → P)
-      → (Reached n → P) → P
-  by_node p n P e f g = by (node_back p n e)
-    where
-      by : (node_by roles heading p ≡ Some n) ⊎ ((n.page ≡ p) × Reached n) → P
-      by (inl h) = f h
-      by (inr h) = g h.1
+  hangs p parent level base first kind e =
+      elim (hung p) [
+        | inl h ↦ subst HangGood (sym h.3 ∙ e) (good_at h.0 (begins_at h.1.0 h.0 h.1.1))
+        | inr h ↦ let found = hangs_at roles heading (is_sound index).roles p parent level base first kind (sym h.0 ∙ e) in
+            subst (λ o. IsSomeAnd o (Below parent kind level base first)) (sym (node_in_tree (page_of parent) found.0 found.1)) found.2
+      ]
 
   pub sound_hung : Sound roles' heading
   sound_hung = record {
     hangs = hangs;
-    shallow = λ p n e. by_node p n _ e (sound.shallow p n) (λ r. (fits n r).shallow);
-    within = λ p n e. by_node p n _ e (sound.within p n) (λ r. (fits n r).within);
+    shallow = λ p n e. elim (node_back p n e) [ inl f ↦ (is_sound index).roles.shallow p n f | inr r ↦ (reach_fits ready n r.1).shallow ];
+    within = λ p n e. elim (node_back p n e) [ inl f ↦ (is_sound index).roles.within p n f | inr r ↦ (reach_fits ready n r.1).within ];
   }
 
-  at_hung : (p : ℕ) (h : IsHung p) → node_by roles' heading p ≡ Some h.0
-  at_hung p h = subst (λ q. node_by roles' heading q ≡ Some h.0) h.2 (node_reached h.0 h.1)
-
   pub fresh_hung : (p : ℕ) → is_fresh_role (roles' p) ≡ (is_fresh_role (roles p) && is_none (node_by roles' heading p))
-  fresh_hung p = by_hung p _
-      (λ h. ap is_fresh_role h.3 ∙ hung_not_fresh h.0 h.0.above ∙ sym (ap (λ o. is_fresh_role (roles p) && is_none o) (at_hung p h)
-      ∙ and-false (is_fresh_role (roles p))))
-      (λ h. ap is_fresh_role h.0 ∙ same h (is_fresh_role (roles p)) refl)
-    where
-      same : Same p → (b : Bool) → is_fresh_role (roles p) ≡ b → is_fresh_role (roles p) ≡ (is_fresh_role (roles p) && is_none (node_by roles' heading p))
-      same h true e = e ∙ sym (ap (λ b. b && is_none (node_by roles' heading p)) e
-          ∙ ap (λ o. is_none o) (ap (node_with roles' heading p) h.0 ∙ out_node roles' heading p (roles p) (fresh_part (roles p) e)))
-      same h false e = e ∙ sym (ap (λ b. b && is_none (node_by roles' heading p)) e)
+  fresh_hung p =
+      elim (hung p) [
+        | inl h ↦ ap is_fresh_role h.3 ∙ (hung_neither h.0 h.0.above).0
+            ∙ sym (ap (λ o. is_fresh_role (roles p) && is_none o) (at_hung p h) ∙ and-false (is_fresh_role (roles p)))
+        | inr h ↦ let none : is_fresh_role (roles p) ≡ true → node_by roles' heading p ≡ None
+            = λ e. ap (node_with roles' heading p) h.0 ∙ out_node roles' heading p (roles p) (fresh_part (roles p) e) in
+            grind (arith, ap is_fresh_role h.0, none)
+      ]
 
   pub null_hung : (p : ℕ) → is_null_role (roles' p) ≡ is_null_role (roles p)
-  null_hung p = by_hung p _
-      (λ h. ap is_null_role h.3 ∙ hung_not_null h.0 h.0.above
-      ∙ sym (fresh_not_null (roles p) (sym (is_fresh p) ∙ ap fresh (sym h.2) ∙ all_fresh h.0 h.1)))
-      (λ h. ap is_null_role h.0)
+  unfolding fresh_in
+  null_hung p =
+      elim (hung p) [
+        | inl h ↦ ap is_null_role h.3 ∙ (hung_neither h.0 h.0.above).1
+            ∙ sym (fresh_not_null (roles p) (ap (fresh_in index) (sym h.2) ∙ reach_fresh ready h.0 h.1))
+        | inr h ↦ ap is_null_role h.0
+      ]

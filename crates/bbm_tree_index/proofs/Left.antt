@@ -1,10 +1,8 @@
 -- The words of an index after pages left.
-use Rattle.bbm_tree_index.proofs.Common.{PlaceMap, is_sound, leaves_role, stays, is_fresh_role, is_null_role}
-use Rattle.bbm_tree_index.proofs.Common.{node_by, TreeIndex, Leaving, Role, Untracked, Fresh, RootPage, Hangs, Gone}
-use Rattle.bbm_tree_index.proofs.Common.{Null}
-use Rattle.bbm_rules.proofs.Common.{◌≡◌, ℕ, Bool, true, false, not, Option, Some, None, refl, sym, ap, ◌∙◌}
-use Rattle.bbm_rules.proofs.Common.{if◌then◌else◌, Node}
-use Rattle.bbm_tree_index.specs.HeldCores.{kept, leaves as leaves_node}
+use Rattle.bbm_tree_index.proofs.Common.{PlaceMap, is_sound, leaves_role, stays, is_fresh_role, is_null_role, node_by}
+use Rattle.bbm_tree_index.proofs.Common.{TreeIndex, Leaving, Role, Fresh, Gone, Null, kept, leaves as leaves_node}
+use Rattle.bbm_rules.proofs.Common.{arith, ◌≡◌, ℕ, Bool, true, false, Option, Some, None, refl, ap, ◌∙◌, if◌then◌else◌}
+use Rattle.bbm_rules.proofs.Common.{Node}
 use Rattle.bbm_tree_index.specs.Index.{fresh_in, heading_of, node_in, null_in, role_in}
 use Rattle.bbm_tree_index.specs.IndexChanges.{KeepsOnly}
 use Rattle.bbm_tree_index.proofs.Keeping.{closed, leaves_at}
@@ -12,11 +10,7 @@ use Rattle.bbm_tree_index.proofs.Sweeping.{node_swept}
 
 kept_is : (keeps : Node → Bool) (o : Option Node) → (if leaves_node keeps o then None else o) ≡ kept keeps o
 kept_is keeps None = refl
-kept_is keeps (Some n) = by (keeps n)
-  where
-    by : (b : Bool) → (if not b then None else Some n) ≡ (if b then Some n else None)
-    by true = refl
-    by false = refl
+kept_is keeps (Some n) = grind arith
 
 leaver_out : (map : PlaceMap) (roles : ℕ → Role) (leaving : Leaving) (role : Role) → leaves_role map roles leaving role ≡ true
     → (is_fresh_role role ≡ false) × (is_null_role role ≡ false)
@@ -42,12 +36,7 @@ module _ (old : TreeIndex) (map : PlaceMap) (leaving : Leaving) where
     role_left : (test : Role → Bool) → test Gone ≡ false
         → ((role : Role) → leaves_role map (role_in old) leaving role ≡ true → test role ≡ false)
         → (p : ℕ) → test (role_in new p) ≡ test (role_in old p)
-    role_left test gone none p = ap test (roles p) ∙ by (leaves_role map (role_in old) leaving (role_in old p)) refl
-      where
-        by : (b : Bool) → leaves_role map (role_in old) leaving (role_in old p) ≡ b
-            → test (if b then Gone else role_in old p) ≡ test (role_in old p)
-        by true e = gone ∙ sym (none (role_in old p) e)
-        by false e = refl
+    role_left test gone none p = grind (arith, roles p, none (role_in old p))
 
     fresh_left : (p : ℕ) → fresh_in new p ≡ fresh_in old p
     unfolding fresh_in

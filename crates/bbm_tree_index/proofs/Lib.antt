@@ -5,7 +5,6 @@ pub mod Sounds
 pub mod Cutting
 pub mod Sweeping
 pub mod Keeping
-pub mod Leavings
 pub mod Growing
 pub mod Swept
 pub mod Injective

@@ -1,22 +1,16 @@
 -- Whether a place is in limbo, by the role of its page.
-use Rattle.bbm_tree_index.proofs.Common.{above_by, node_with, TreeIndex, Role, Hangs}
-use Rattle.bbm_rules.proofs.Common.{◌≡◌, ℕ, Some, refl, ap, Kind, Node}
+use Rattle.bbm_tree_index.proofs.Common.{PlaceMap, cut_by, is_sound, limbo_by, node_with, passes_at, value_at}
+use Rattle.bbm_tree_index.proofs.Common.{TreeIndex, Role, Hangs}
+use Rattle.bbm_rules.proofs.Common.{◌≡◌, ℕ, false, sym, ap, ◌∙◌, option_map_or, Kind}
 use Rattle.bbm_tree_index.specs.Index.{heading_of, node_in, role_in}
+use Rattle.bbm_tree_index.specs.declared.climb.Asked.TheVariants.{Invalid}
+use Rattle.bbm_tree_index.proofs.Cutting.{cut_hang}
 
--- the node of a page that hangs at a place
-pub hanging : (index : TreeIndex) (page parent level base first : ℕ) (kind : Kind)
+pub limbo_hangs : (index : TreeIndex) (map : PlaceMap) (page parent level base first : ℕ) (kind : Kind)
     → role_in index page ≡ Hangs parent kind level base first
-    → (n : Node) × (node_in index page ≡ Some n) × (n.level ≡ level)
+    → cut_by (passes_at map Invalid) (role_in index) level (Hangs parent kind level base first)
+    ≡ option_map_or (limbo_by (value_at map)) (node_in index page) false
 unfolding node_in
-hanging index page parent level base first kind e = (
-  record {
-    page = page;
-    kind = kind;
-    level = level;
-    root = first;
-    base = base;
-    above = above_by (role_in index) level (Hangs parent kind level base first);
-  },
-  ap (λ (r : Role). node_with (role_in index) (heading_of index) page r) e,
-  refl,
-)
+limbo_hangs index map page parent level base first kind e =
+    cut_hang (passes_at map Invalid) (role_in index) (heading_of index) (is_sound index).roles page parent level base first kind e
+    ∙ sym (ap (λ (r : Role). option_map_or (limbo_by (value_at map)) (node_with (role_in index) (heading_of index) page r) false) e)

@@ -1,40 +1,27 @@
--- Paths through fresh pages, by steps, and what it means that pages can be attached.
-use Rattle.bbm_tree_index.proofs.Common.{IsUnfresh, Never, Attached, Goes}
-use Rattle.bbm_rules.proofs.Common.{◌≡◌, ℕ, suc, ◌<◌, ◌+◌, ◌==◌, Bool, true, false, List, [], ◌∷◌, Contains, length}
-use Rattle.bbm_rules.proofs.Common.{inl, inr, refl, sym, ap, ◌∙◌, subst, true≢false, arith, eqb-true, eq-eqb}
-use Rattle.bbm_rules.proofs.Common.{end_at, Node, node_below}
+-- Paths through fresh pages, by steps, where pages can be attached.
+use Rattle.bbm_tree_index.proofs.Common.{IndexMap, PlaceMap, IsSurvey, IsUnfresh, MayJudge, Never, Attached, Goes}
+use Rattle.bbm_tree_index.proofs.Common.{IsPath, Reached, Mark, TreeIndex, Attach, starts_of, names_pages, value_at}
+use Rattle.bbm_tree_index.proofs.Common.{fresh_in}
+use Rattle.bbm_rules.proofs.Common.{◌≡◌, ℕ, ◌<◌, ◌⊎◌, Bool, true, List, [], ◌∷◌, length, inl, inr, refl, sym, ap, ◌∙◌}
+use Rattle.bbm_rules.proofs.Common.{subst, true≢false, arith, cases_eq, end_at, Node, node_below}
+use Rattle.std.proofs.lemmas.Bool.{true_from_ne_false}
 use Rattle.bbm_rules.proofs.TreeLaw.{table_level}
 use Rattle.bbm_tree_index.specs.Paths.{Through}
-use Rattle.bbm_tree_index.proofs.Hung.{Reach}
+use Rattle.bbm_tree_index.specs.Prepared.{AreNamedFresh}
+use Rattle.bbm_tree_index.proofs.Begins.{apart_of}
 use Rattle.bbm_tree_index.proofs.Starts.{goes_kind}
 use Rattle.bbm_tree_index.proofs.Ways.{goes_leads, goes_same}
 
 -- two lists of numbers are equal or not
-tail_of : List ℕ → List ℕ
-tail_of [] = []
-tail_of (x ∷ xs) = xs
-
-head_of : List ℕ → ℕ
-head_of [] = 0
-head_of (x ∷ xs) = x
-
-same_or_not : (xs ys : List ℕ) (P : Type 0) → (xs ≡ ys → P) → ((xs ≡ ys → ⊥) → P) → P
-unfolding head_of tail_of
-same_or_not [] [] P f g = f refl
-same_or_not [] (y ∷ ys) P f g = g (λ e. none (length ys) (ap length e))
-  where
-    none : (n : ℕ) → 0 ≡ suc n → ⊥
-    none n e = omega (arith, e)
-same_or_not (x ∷ xs) [] P f g = g (λ e. none (length xs) (ap length e))
-  where
-    none : (n : ℕ) → suc n ≡ 0 → ⊥
-    none n e = omega (arith, e)
-same_or_not (x ∷ xs) (y ∷ ys) P f g = by (x == y) refl
-    (λ t. same_or_not xs ys P (λ e. f (λ i. eqb-true x y t i ∷ e i)) (λ n. g (λ e. n (ap tail_of e))))
-  where
-    by : (b : Bool) → (x == y) ≡ b → ((x == y) ≡ true → P) → P
-    by true t more = more t
-    by false t more = g (λ e. true≢false (sym (eq-eqb x y (ap head_of e)) ∙ t))
+same_or_not : (xs ys : List ℕ) → (xs ≡ ys) ⊎ (xs ≡ ys → ⊥)
+same_or_not [] [] = inl refl
+same_or_not [] (y ∷ ys) = inr (λ e. cc)
+same_or_not (x ∷ xs) [] = inr (λ e. cc)
+same_or_not (x ∷ xs) (y ∷ ys) =
+    elim (cases_eq x y) [
+      | inl e ↦ elim (same_or_not xs ys) [ inl f ↦ inl (λ i. e i ∷ f i) | inr n ↦ inr (λ h. n cc) ]
+      | inr n ↦ inr (λ h. n cc)
+    ]
 
 module _ (fresh : ℕ → Bool) (value : ℕ → ℕ) where
   through_of : (s m : Node) (places : List ℕ) → Goes fresh value s places m → fresh m.page ≡ true → Through fresh value s places m
@@ -56,86 +43,92 @@ module _ (fresh : ℕ → Bool) (value : ℕ → ℕ) where
   )
 
   -- a path stays above level 4
-  pub goes_shallow : (s m : Node) (places : List ℕ) → s.level < 4 → Goes fresh value s places m → m.level < 4
+  goes_shallow : (s m : Node) (places : List ℕ) → s.level < 4 → Goes fresh value s places m → m.level < 4
   goes_shallow s m [] l g = subst (λ (x : Node). x.level < 4) g l
   goes_shallow s m (place ∷ places) l g = goes_shallow g.0 m places
-      (deeper g.0.level s.level (ap (λ (x : Node). x.level) g.1.below) (table_level s.kind s.level (value place) g.0.page g.1.table)) g.2
-    where
-      deeper : (n k : ℕ) → n ≡ suc k → k < 3 → n < 4
-      deeper n k e l = omega (arith, e, l)
+      (omega (arith, ap (λ (x : Node). x.level) g.1.below, table_level s.kind s.level (value place) g.0.page g.1.table)) g.2
 
-  module _ (starts : List Node) where
-    pub attached_reach : (m : Node) → Attached fresh value starts m → Reach fresh value starts m
-    attached_reach m a = record {
+-- the tables are a survey of pages that can be attached
+pub record Ready {S : Type 0} (tables : List (IndexMap ℕ Mark S)) (index : TreeIndex) (map : PlaceMap) (at : Attach) : Type 0 where
+  pub may : MayJudge index at
+  pub named : AreNamedFresh index at
+  pub never : Never (IsUnfresh (fresh_in index) (value_at map) (starts_of index at) (names_pages at))
+  pub survey : IsSurvey tables index map at
+
+-- a path from a start reaches the node
+abbrev pub Reach : TreeIndex → PlaceMap → Attach → Node → Type 0
+Reach index map at m = (k : ℕ) × Reached (fresh_in index) (value_at map) (starts_of index at) k m
+
+module _ {S : Type 0} {tables : List (IndexMap ℕ Mark S)} {index : TreeIndex} {map : PlaceMap} {at : Attach}
+    (ready : Ready tables index map at) where
+  pub path_to : (m : Node) (r : Reach index map at m)
+      → IsPath (fresh_in index) (value_at map) (starts_of index at) r.1.start r.1.places (end_at m.level m.page)
+  path_to m r = let s = r.1.start in let c = ready.survey.count s r.1.is_start in record {
+    is_start = r.1.is_start;
+    within = omega (
+      arith,
+      (goes_kind (fresh_in index) (value_at map) s m r.1.places r.1.goes).1,
+      goes_shallow (fresh_in index) (value_at map) s m r.1.places (omega (arith, c, ready.survey.filled)) r.1.goes,
+    );
+    leads = goes_leads (fresh_in index) (value_at map) s m r.1.places r.1.goes;
+  }
+
+  pub reach_fresh : (m : Node) → Reach index map at m → fresh_in index m.page ≡ true
+  reach_fresh m r = true_from_ne_false (fresh_in index m.page) (λ e. ready.never m.page (inl (record {
+    start = r.1.start;
+    places = r.1.places;
+    end = end_at m.level m.page;
+    path = path_to m r;
+    ends = refl;
+    unfresh = e;
+    judged = λ n f. true≢false (sym (ready.named n r.1.start r.1.is_start) ∙ ap (λ (x : Node). fresh_in index x.page)
+        (subst (λ ps. Goes (fresh_in index) (value_at map) r.1.start ps m) f r.1.goes) ∙ e);
+  })))
+
+  pub reach_unique : (m m' : Node) → Reach index map at m → Reach index map at m' → m.page ≡ m'.page → m ≡ m'
+  reach_unique m m' r q same =
+      elim (cases_eq r.1.start.page q.1.start.page) [
+        | inl e ↦ elim (same_or_not r.1.places q.1.places) [
+          | inl f ↦ goes_same (fresh_in index) (value_at map) q.1.start m m' q.1.places
+              (subst (λ ps. Goes (fresh_in index) (value_at map) q.1.start ps m) f
+              (subst (λ (x : Node). Goes (fresh_in index) (value_at map) x r.1.places m)
+              (apart_of index at ready.may r.1.start q.1.start r.1.is_start q.1.is_start e) r.1.goes)) q.1.goes
+          | inr n ↦ absurd (twice (λ e f. n f))
+        ]
+        | inr n ↦ absurd (twice (λ e f. n e))
+      ]
+    where
+      twice : (r.1.start.page ≡ q.1.start.page → r.1.places ≡ q.1.places → ⊥) → ⊥
+      twice d = ready.never m.page (inr (record {
+        start = r.1.start;
+        places = r.1.places;
+        end = end_at m.level m.page;
+        path = path_to m r;
+        ends = refl;
+        other_start = q.1.start;
+        other_places = q.1.places;
+        other_end = end_at m'.level m'.page;
+        other_path = path_to m' q;
+        other_ends = sym same;
+        differ = d;
+      }))
+
+  pub reach_attached : (m : Node) → Reach index map at m → Attached (fresh_in index) (value_at map) (starts_of index at) m
+  reach_attached m r = record {
+    start = r.1.start;
+    is_start = r.1.is_start;
+    places = r.1.places;
+    through = through_of (fresh_in index) (value_at map) r.1.start m r.1.places r.1.goes (reach_fresh m r);
+  }
+
+  pub attached_reach : (m : Node) → Attached (fresh_in index) (value_at map) (starts_of index at) m → Reach index map at m
+  attached_reach m a = (
+    length a.places,
+    record {
       start = a.start;
       is_start = a.is_start;
       places = a.places;
-      goes = goes_of a.start m a.places a.through;
-    }
-
-    module _ (named : Bool) (never : Never (IsUnfresh fresh value starts named)) (shallow : (s : Node) → Contains starts s → s.level < 4)
-        (apart : (s s' : Node) → Contains starts s → Contains starts s' → s.page ≡ s'.page → s ≡ s')
-        (named_fresh : named ≡ true → (s : Node) → Contains starts s → fresh s.page ≡ true) where
-      within : (m : Node) (r : Reach fresh value starts m) → r.start.level + length r.places < 4
-      within m r = omega (
-        arith,
-        (goes_kind fresh value r.start m r.places r.goes).1,
-        goes_shallow r.start m r.places (shallow r.start r.is_start) r.goes,
-      )
-
-      pub reach_fresh : (m : Node) → Reach fresh value starts m → fresh m.page ≡ true
-      reach_fresh m r = by (fresh m.page) refl
-        where
-          ended : (places : List ℕ) → places ≡ [] → Goes fresh value r.start places m → r.start ≡ m
-          ended [] e g = g
-          ended (x ∷ xs) e g = absurd (none (length xs) (ap length e))
-            where
-              none : (n : ℕ) → suc n ≡ 0 → ⊥
-              none n e = omega (arith, e)
-
-          by : (b : Bool) → fresh m.page ≡ b → fresh m.page ≡ true
-          by true e = e
-          by false e = absurd (never m.page (inl (record {
-            start = r.start;
-            places = r.places;
-            end = end_at m.level m.page;
-            path = record { is_start = r.is_start; within = within m r; leads = goes_leads fresh value r.start m r.places r.goes };
-            ends = refl;
-            unfresh = e;
-            judged = λ n f. true≢false (sym (named_fresh n r.start r.is_start)
-                ∙ ap (λ (x : Node). fresh x.page) (ended r.places f r.goes) ∙ e);
-          })))
-
-      pub reach_unique : (m m' : Node) → Reach fresh value starts m → Reach fresh value starts m' → m.page ≡ m'.page → m ≡ m'
-      reach_unique m m' r q same = by (r.start.page == q.start.page) refl
-        where
-          twice : (r.start.page ≡ q.start.page → r.places ≡ q.places → ⊥) → ⊥
-          twice d = never m.page (inr (record {
-            start = r.start;
-            places = r.places;
-            end = end_at m.level m.page;
-            path = record { is_start = r.is_start; within = within m r; leads = goes_leads fresh value r.start m r.places r.goes };
-            ends = refl;
-            other_start = q.start;
-            other_places = q.places;
-            other_end = end_at m'.level m'.page;
-            other_path = record { is_start = q.is_start; within = within m' q; leads = goes_leads fresh value q.start m' q.places q.goes };
-            other_ends = sym same;
-            differ = d;
-          }))
-
-          by : (b : Bool) → (r.start.page == q.start.page) ≡ b → m ≡ m'
-          by true t = same_or_not r.places q.places (m ≡ m')
-              (λ e. goes_same fresh value q.start m m' q.places (subst (λ ps. Goes fresh value q.start ps m) e
-              (subst (λ (x : Node). Goes fresh value x r.places m)
-              (apart r.start q.start r.is_start q.is_start (eqb-true r.start.page q.start.page t)) r.goes)) q.goes)
-              (λ n. absurd (twice (λ e f. n f)))
-          by false t = absurd (twice (λ e f. true≢false (sym (eq-eqb r.start.page q.start.page e) ∙ t)))
-
-      pub reach_attached : (m : Node) → Reach fresh value starts m → Attached fresh value starts m
-      reach_attached m r = record {
-        start = r.start;
-        is_start = r.is_start;
-        places = r.places;
-        through = through_of r.start m r.places r.goes (reach_fresh m r);
-      }
+      count = refl;
+      goes = goes_of (fresh_in index) (value_at map) a.start m a.places a.through;
+    },
+  )

@@ -1,10 +1,9 @@
 -- Which changes keep an index sound.
-use Rattle.bbm_tree_index.proofs.Common.{Heading, Sound, node_with, Fits, RoleFits, spot_with, Role, Untracked, Fresh}
-use Rattle.bbm_tree_index.proofs.Common.{RootPage, Hangs, Gone, Null, Spot}
-use Rattle.bbm_rules.proofs.Common.{◌≡◌, ℕ, ◌<◌, ◌≤◌, ◌+◌, ◌*◌, ◌^◌, Some, refl, sym, ap, ◌∙◌, subst, none-some}
-use Rattle.bbm_rules.proofs.Common.{same_Some, page_of, input_pages, Node}
+use Rattle.bbm_tree_index.proofs.Common.{Heading, Sound, RoleFits, Role}
+use Rattle.bbm_rules.proofs.Common.{ℕ, ◌<◌, ◌≤◌, ◌+◌, ◌*◌, ◌^◌, sym, ap, ◌∙◌, subst, page_of, input_pages}
 use Rattle.std.specs.Option.{IsSomeAnd}
 use Rattle.bbm_tree_index.specs.SoundRoles.{Below}
+use Rattle.bbm_tree_index.proofs.Cutting.{spot_node}
 use Rattle.bbm_tree_index.proofs.Climbing.{SameTrees, hangs_part, node_same, tree_part}
 
 pub sound_same : (roles roles' : ℕ → Role) (heading : Heading) → SameTrees roles roles' → Sound roles heading
@@ -20,15 +19,9 @@ sound_same roles roles' heading same s = record {
 }
 
 -- the role of a sound index fits
-node_fits : (roles : ℕ → Role) (heading : Heading) (page : ℕ) (role : Role) (s : Spot) → spot_with heading role ≡ Some s
-    → ((n : Node) → node_with roles heading page role ≡ Some n → (n.level < 4) × (n.base + 512 * input_pages n.level ≤ 2 ^ 45))
-    → Fits s
-node_fits roles heading page (RootPage kind first part) s e h =
-    subst Fits (same_Some _ s e) (record { shallow = (h _ refl).0; within = (h _ refl).1 })
-node_fits roles heading page (Hangs parent kind level base first) s e h =
-    subst Fits (same_Some _ s e) (record { shallow = (h _ refl).0; within = (h _ refl).1 })
-node_fits roles heading page _ s e h = absurd (none-some s e)
-
 pub role_fits : (roles : ℕ → Role) (heading : Heading) → Sound roles heading → (page : ℕ) → RoleFits heading (roles page)
-role_fits roles heading s page spot e =
-    node_fits roles heading page (roles page) spot e (λ n at. (s.shallow page n at, s.within page n at))
+role_fits roles heading sound page s e = let f = spot_node roles heading page (roles page) s e in record {
+  shallow = subst (λ l. l < 4) f.2.level (sound.shallow page f.0 f.1);
+  within = subst (λ b. b + 512 * input_pages s.level ≤ 2 ^ 45) f.2.base
+      (subst (λ l. f.0.base + 512 * input_pages l ≤ 2 ^ 45) f.2.level (sound.within page f.0 f.1));
+}

@@ -2,10 +2,9 @@
 use Rattle.bbm_tree_index.proofs.Common.{IndexMap, get, Heading, spot_with, Counts, Goes, Plain, Reached, Starting}
 use Rattle.bbm_tree_index.proofs.Common.{Surveyed, Uniform, Well, role_as, spot_as, Mark}
 use Rattle.bbm_rules.proofs.Common.{◌≡◌, ℕ, zero, suc, ◌+◌, Bool, List, [], ◌∷◌, ◌++◌, Option, Some, Contains, length}
-use Rattle.bbm_rules.proofs.Common.{nat_eq, slice_get, is_some, refl, sym, ap, ◌∙◌, subst, arith, none-some, same_Some}
-use Rattle.bbm_rules.proofs.Common.{Node}
-use Rattle.std.proofs.lemmas.List.{nil_from_length}
+use Rattle.bbm_rules.proofs.Common.{nat_eq, slice_get, refl, sym, ap, ◌∙◌, subst, arith, none-some, same_Some, Node}
 use Rattle.bbm_tree_index.proofs.Counting.{counts_same}
+use Rattle.bbm_tree_index.proofs.Levels.{start_is}
 
 module _ (fresh : ℕ → Bool) (value : ℕ → ℕ) where
   pub goes_kind : (s m : Node) (places : List ℕ) → Goes fresh value s places m → (m.kind ≡ s.kind) × (m.level ≡ s.level + length places)
@@ -31,14 +30,7 @@ module _ (fresh : ℕ → Bool) (value : ℕ → ℕ) where
     pub at_start : (q : ℕ) → Counts (Reached fresh value starts 0) q (first q)
     at_start q = counts_same (Contains starts) (Reached fresh value starts 0) q (first q)
         (λ m at c. record { start = m; is_start = c; places = []; count = refl; goes = refl })
-        (λ m at r. subst (Contains starts) (ended r.start m r.places (nil_from_length r.places r.count) r.goes) r.is_start) (s.told q)
-      where
-        ended : (a m : Node) (places : List ℕ) → places ≡ [] → Goes fresh value a places m → a ≡ m
-        ended a m [] e g = g
-        ended a m (x ∷ xs) e g = absurd (none (length xs) (ap length e))
-          where
-            none : (n : ℕ) → suc n ≡ 0 → ⊥
-            none n e = omega (arith, e)
+        (λ m at r. subst (Contains starts) (start_is fresh value starts m r) r.is_start) (s.told q)
 
 -- one more table at the end
 pushed : {X : Type 0} (xs : List X) (x y : X) (k : ℕ) → slice_get (xs ++ x ∷ []) k ≡ Some y
@@ -48,28 +40,25 @@ pushed [] x y (suc k) e P f g = absurd (none-some y e)
 pushed (a ∷ xs) x y zero e P f g = f e
 pushed (a ∷ xs) x y (suc k) e P f g = pushed xs x y k e P f (λ h. g (omega (arith, h)))
 
-module _ {S : Type 0} (heading : Heading) (fresh : ℕ → Bool) (value : ℕ → ℕ) (first : ℕ → Option Mark) where
-  pub one_table : (table : IndexMap ℕ Mark S) → ((q : ℕ) → get nat_eq table q ≡ first q) → Well heading first
-      → Surveyed heading fresh value first (table ∷ [])
-  one_table table is w = record {
+module _ {S : Type 0} (heading : Heading) (fresh : ℕ → Bool) (value : ℕ → ℕ) where
+  pub one_table : (table : IndexMap ℕ Mark S) → Well heading (get nat_eq table)
+      → Surveyed heading fresh value (get nat_eq table) (table ∷ [])
+  one_table table w = record {
     wells = λ k t e. pushed [] table t k e (Well heading (get nat_eq t)) (λ h. absurd (none-some t h))
-        (λ z h. subst (λ x. Well heading (get nat_eq x)) h (record {
-          pages = λ p o. w.pages p (ap (λ x. is_some x) (sym (is p)) ∙ o);
-          fit = λ p m o. w.fit p m (sym (is p) ∙ o);
-        }));
+        (λ z h. subst (λ x. Well heading (get nat_eq x)) h w);
     levels = λ starts s k t e. pushed [] table t k e ((q : ℕ) → Counts (Reached fresh value starts k) q (get nat_eq t q))
         (λ h. absurd (none-some t h))
         (λ z h q. subst (λ j. Counts (Reached fresh value starts j) q (get nat_eq t q)) (sym z)
-        (subst (Counts (Reached fresh value starts 0) q) (sym (is q) ∙ ap (λ x. get nat_eq x q) h) (at_start fresh value heading first starts s q)));
+        (subst (λ x. Counts (Reached fresh value starts 0) q (get nat_eq x q)) h (at_start fresh value heading (get nat_eq table) starts s q)));
   }
 
-  pub more_tables : (tables : List (IndexMap ℕ Mark S)) (last next : IndexMap ℕ Mark S) (k : ℕ) → length tables ≡ suc k
+  pub more_tables : (first : ℕ → Option Mark) (tables : List (IndexMap ℕ Mark S)) (last next : IndexMap ℕ Mark S) (k : ℕ) → length tables ≡ suc k
       → slice_get tables k ≡ Some last → Surveyed heading fresh value first tables → Well heading (get nat_eq next)
       → ((starts : List Node) (j : ℕ) → Uniform fresh value starts j → Plain heading (Reached fresh value starts j)
       → ((q : ℕ) → Counts (Reached fresh value starts j) q (get nat_eq last q))
       → (q : ℕ) → Counts (Reached fresh value starts (suc j)) q (get nat_eq next q))
       → Surveyed heading fresh value first (tables ++ next ∷ [])
-  more_tables tables last next k count at s w step = record {
+  more_tables first tables last next k count at s w step = record {
     wells = λ j t e. pushed tables next t j e (Well heading (get nat_eq t)) (s.wells j t) (λ z h. subst (λ x. Well heading (get nat_eq x)) h w);
     levels = λ starts g j t e. pushed tables next t j e ((q : ℕ) → Counts (Reached fresh value starts j) q (get nat_eq t q))
         (s.levels starts g j t)

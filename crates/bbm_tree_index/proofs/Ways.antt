@@ -1,6 +1,6 @@
 -- A path tells the node at its end, and a node the path of so many places that reaches it.
 use Rattle.bbm_tree_index.proofs.Common.{Goes}
-use Rattle.bbm_rules.proofs.Common.{◌≡◌, ℕ, suc, Bool, List, [], ◌∷◌, length, refl, sym, ap, ◌∙◌, subst, arith, suc_inj}
+use Rattle.bbm_rules.proofs.Common.{◌≡◌, ℕ, Bool, List, [], ◌∷◌, length, refl, sym, ap, ◌∙◌, subst, arith, suc_inj}
 use Rattle.bbm_rules.proofs.Common.{same_Some, End, end_at, page_of, Node, node_below}
 use Rattle.bbm_tree_index.specs.Paths.{Leads}
 use Rattle.bbm_tree_index.proofs.Injective.{above_same, place_same}
@@ -43,14 +43,8 @@ module _ (fresh : ℕ → Bool) (value : ℕ → ℕ) where
   pub goes_back : (s s' m : Node) (places places' : List ℕ) → length places ≡ length places' → Goes fresh value s places m
       → Goes fresh value s' places' m → (s ≡ s') × (places ≡ places')
   goes_back s s' m [] [] e g g' = (g ∙ sym g', refl)
-  goes_back s s' m [] (p' ∷ ps') e g g' = absurd (none (length ps') e)
-    where
-      none : (n : ℕ) → 0 ≡ suc n → ⊥
-      none n e = omega (arith, e)
-  goes_back s s' m (p ∷ ps) [] e g g' = absurd (none (length ps) e)
-    where
-      none : (n : ℕ) → suc n ≡ 0 → ⊥
-      none n e = omega (arith, e)
+  goes_back s s' m [] (p' ∷ ps') e g g' = absurd (omega arith)
+  goes_back s s' m (p ∷ ps) [] e g g' = absurd (omega arith)
   goes_back s s' m (p ∷ ps) (p' ∷ ps') e g g' =
       let ih = goes_back g.0 g'.0 m ps ps' (suc_inj e) g.2 g'.2 in
       let same : node_below s p g.0.page ≡ node_below s' p' g'.0.page = sym g.1.below ∙ ih.0 ∙ g'.1.below in

@@ -1,6 +1,5 @@
-use Rattle.bbm_tree_index.proofs.Common.{spares}
+use Rattle.bbm_tree_index.proofs.Common.{spares, value_at}
 use Rattle.bbm_rules.proofs.Common.{◌≡◌, ℕ, ◌<◌, ◌≤◌, ◌+◌, ◌*◌, true}
-use Rattle.bbm_place_map.specs.Map.{value_at}
 use Rattle.bbm_tree_index.proofs.harmless.are_eight_harmless.Given as goal
 
 abbrev pub invariant-loop-index : goal.invariant-loop-index

@@ -1,6 +1,5 @@
-use Rattle.bbm_tree_index.proofs.Common.{asks, spares}
-use Rattle.bbm_rules.proofs.Common.{ℕ, ◌<◌, ◌≤◌, ◌+◌, ◌*◌, inl, inr, sym, ◌∙◌, subst, arith, cases_lt}
-use Rattle.bbm_place_map.specs.Map.{value_at}
+use Rattle.bbm_tree_index.proofs.Common.{asks, spares, value_at}
+use Rattle.bbm_rules.proofs.Common.{◌≤◌, ◌+◌, ◌*◌, inl, inr, sym, ◌∙◌, subst, arith, cases_lt}
 use Rattle.bbm_tree_index.proofs.Joined.{bits_some}
 use Rattle.bbm_tree_index.proofs.LeafBits.{harmless}
 use Rattle.bbm_tree_index.proofs.Wrongs.{no_leaves}
@@ -17,11 +16,8 @@ loop-part-preserved c = λ leaf j below.
       | inr more ↦ harmless leaf c.args.kind c.args.level (value (c.args.page + 8 * j))
           (sym (λ k. spares (c.is_lower-lower.ensures k) (c.leaf_bits-bits.ensures k)
           (value (c.in-Some.ensures.place k + 8 * j)))
-          ∙ c.are_eight_harmless.ensures c.if-not-are_eight_harmless.false j more (under c.loop-part.part j below))
+          ∙ c.are_eight_harmless.ensures c.if-not-are_eight_harmless.false j more (omega (arith, below)))
     ]
-  where
-    under : (part j : ℕ) → j < 8 * (part + 1) → j < 8 * part + 8
-    under part j l = omega (arith, l)
 
 pub returns : goal.returns
 returns c = λ yes leaf.

@@ -1,6 +1,5 @@
-use Rattle.bbm_tree_index.proofs.Common.{asks, Leaf}
+use Rattle.bbm_tree_index.proofs.Common.{asks, Leaf, value_at}
 use Rattle.bbm_rules.proofs.Common.{◌≡◌, ℕ, ◌<◌, ◌+◌, ◌*◌, false, desc_of}
-use Rattle.bbm_place_map.specs.Map.{value_at}
 use Rattle.bbm_tree_index.proofs.harmless.is_page_harmless.Given as goal
 
 abbrev pub invariant-loop-part : goal.invariant-loop-part

@@ -1,5 +1,5 @@
+use Rattle.bbm_tree_index.proofs.Common.{value_at}
 use Rattle.bbm_rules.proofs.Common.{◌+◌, ◌*◌}
-use Rattle.bbm_place_map.specs.Map.{value_at}
 use Rattle.bbm_tree_index.proofs.Joined.{four_zero}
 use Rattle.bbm_tree_index.proofs.held.four_joined.Goals as goal
 

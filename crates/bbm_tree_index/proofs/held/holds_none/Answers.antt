@@ -1,38 +1,31 @@
-use Rattle.bbm_tree_index.proofs.Common.{core_in, PlaceMap, core_at, holds_at}
-use Rattle.bbm_rules.proofs.Common.{◌≡◌, ℕ, ◌+◌, ◌*◌, ◌%◌, false, Option, is_some, arith, refl, ap, sym, subst, ◌∙◌}
-use Rattle.bbm_rules.proofs.Common.{inl, inr, cases_eq, false≢true, core_of, Core, Kind}
-use Rattle.bbm_place_map.specs.Map.{marks_at, state_at, value_at}
+use Rattle.bbm_tree_index.proofs.Common.{core_in, PlaceMap, holds_at, marks_at, state_at, value_at}
+use Rattle.bbm_rules.proofs.Common.{◌≡◌, ℕ, ◌+◌, ◌*◌, ◌%◌, false, Option, is_some, arith, refl, ap, sym, ◌∙◌}
+use Rattle.bbm_rules.proofs.Common.{false≢true, core_of, Core, Kind}
+use Rattle.std.proofs.Common.{below_more}
 use Rattle.bbm_tree_index.proofs.Blank.{holds_nothing, core_read}
 use Rattle.bbm_tree_index.proofs.Places.{at_page, each_place, number_at}
 use Rattle.bbm_tree_index.proofs.held.holds_none.Goals as goal
 
+-- what a cell of the page holds
 read : (map : PlaceMap) (kind : Kind) (level page place i : ℕ) (o : Option Core)
     → o ≡ core_in (state_at map (core_of kind level (value_at map (place + 8 * i))) (place + 8 * i)) → place ≡ page
-    → core_at map kind level (page + 8 * i) ≡ o
-read map kind level page place i o is same =
-    sym (is
-    ∙ core_read (marks_at map (place + 8 * i)) kind level (value_at map (place + 8 * i))
-    ∙ ap (λ (s : ℕ). core_at map kind level (s + 8 * i)) same)
+    → holds_at map kind level (page + 8 * i) ≡ is_some o
+read map kind level page place i o is same = ap (λ (s : ℕ). holds_at map kind level (s + 8 * i)) (sym same)
+    ∙ sym (ap (λ (x : Option Core). is_some x) (is ∙ core_read (marks_at map (place + 8 * i)) kind level (value_at map (place + 8 * i))))
 
 pub loop-index-preserved : goal.loop-index-preserved
-loop-index-preserved c = λ j below.
-    elim (cases_eq j c.loop-index.index) [
-      | inl same ↦
-          let P : ℕ → Type 0 = λ x. holds_at c.args.map.now c.args.kind c.args.level (c.args.page + 8 * x) ≡ false in
-          subst P (sym same) (ap (λ (o : Option Core). is_some o) (read c.args.map.now c.args.kind c.args.level c.args.page c.first_position-position.result.place c.loop-index.index c.core_from.result
-          c.core_from.ensures c.first_position-position.ensures.place) ∙ sym c.is_some.ensures ∙ c.if-is_some.false)
-      | inr other ↦ c.loop-index.invariant j (omega arith)
-    ]
+loop-index-preserved c = let place = c.first_position-position in
+    below_more (λ j. holds_at c.args.map.now c.args.kind c.args.level (c.args.page + 8 * j) ≡ false) c.loop-index.index c.loop-index.invariant
+    (read c.args.map.now c.args.kind c.args.level c.args.page place.result.place c.loop-index.index c.core_from.result
+    c.core_from.ensures place.ensures.place ∙ sym c.is_some.ensures ∙ c.if-is_some.false)
 
 pub returns-then-is_some : goal.returns-then-is_some
-returns-then-is_some c = (
+returns-then-is_some c = let place = c.first_position-position in (
   λ none. absurd (false≢true none),
-  λ none.
-      let aligned : c.args.page % 4096 ≡ 0
-      = ap (λ (s : ℕ). s % 4096) (sym c.first_position-position.ensures.place) ∙ c.first_position-position.ensures.first in
-      let here = none (c.args.page + 8 * c.loop-index.index) (number_at c.args.page c.loop-index.index aligned (omega arith)) in
-      absurd (false≢true (sym here ∙ ap (λ (o : Option Core). is_some o) (read c.args.map.now c.args.kind c.args.level c.args.page c.first_position-position.result.place c.loop-index.index c.core_from.result
-      c.core_from.ensures c.first_position-position.ensures.place) ∙ sym c.is_some.ensures ∙ c.if-is_some.true)),
+  λ none. absurd (false≢true (sym (none (c.args.page + 8 * c.loop-index.index) (number_at c.args.page c.loop-index.index
+      (ap (λ (s : ℕ). s % 4096) (sym place.ensures.place) ∙ place.ensures.first) (omega arith)))
+      ∙ read c.args.map.now c.args.kind c.args.level c.args.page place.result.place c.loop-index.index c.core_from.result
+      c.core_from.ensures place.ensures.place ∙ sym c.is_some.ensures ∙ c.if-is_some.true)),
 )
 
 pub returns : goal.returns

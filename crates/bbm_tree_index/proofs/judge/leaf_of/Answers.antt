@@ -1,8 +1,8 @@
-use Rattle.bbm_tree_index.proofs.Common.{asks}
-use Rattle.bbm_rules.proofs.Common.{◌≡◌, ◌+◌, ◌*◌, ap, sym, ◌∙◌, desc_of}
-use Rattle.bbm_place_map.specs.Map.{value_at}
+use Rattle.bbm_tree_index.proofs.Common.{asks, value_at}
+use Rattle.bbm_rules.proofs.Common.{◌≡◌, ℕ, ◌+◌, ◌*◌, Bool, false, ap, sym, ◌∙◌, desc_of}
+use Rattle.std.proofs.Common.{below_more}
 use Rattle.bbm_tree_index.proofs.Blank.{no_leaf}
-use Rattle.bbm_tree_index.proofs.Wrongs.{first_leaf, no_leaves, no_more}
+use Rattle.bbm_tree_index.proofs.Wrongs.{first_leaf, no_leaves}
 use Rattle.bbm_tree_index.proofs.judge.leaf_of.Goals as goal
 
 pub returns-then-is_blank : goal.returns-then-is_blank
@@ -11,29 +11,18 @@ returns-then-is_blank c =
     c.args.leaf.now c.args.kind c.args.level
 
 pub loop-index-preserved : goal.loop-index-preserved
-loop-index-preserved c =
-    let value = value_at c.args.map.now in
-    let test = asks c.args.leaf.now in
-    let kind = c.args.kind in
-    let level = c.args.level in
-    let i = c.loop-index.index in
-    let read : c.value_from.result ≡ value (c.args.page + 8 * i)
-    = c.value_from.ensures ∙ ap (λ s. value (s + 8 * i)) c.first_position-position.ensures.place in
-    no_more value test kind level c.args.page i c.loop-index.invariant
-    (ap (λ v. test kind (desc_of kind level v)) (sym read) ∙ sym c.is_leaf.ensures ∙ c.if-is_leaf.false)
+loop-index-preserved c = let value = value_at c.args.map.now in let i = c.loop-index.index in
+    let passes : ℕ → Bool = λ v. asks c.args.leaf.now c.args.kind (desc_of c.args.kind c.args.level v) in
+    below_more (λ j. passes (value (c.args.page + 8 * j)) ≡ false) i c.loop-index.invariant
+    (ap passes (sym (c.value_from.ensures ∙ ap (λ s. value (s + 8 * i)) c.first_position-position.ensures.place))
+    ∙ sym c.is_leaf.ensures ∙ c.if-is_leaf.false)
 
 pub returns-then-is_leaf : goal.returns-then-is_leaf
-returns-then-is_leaf c =
-    let value = value_at c.args.map.now in
-    let test = asks c.args.leaf.now in
-    let kind = c.args.kind in
-    let level = c.args.level in
-    let i = c.loop-index.index in
-    let at = c.place_of.ensures.place in
-    let read : c.value_from.result ≡ value c.place_of.result
-    = c.value_from.ensures ∙ ap (λ s. value (s + 8 * i)) c.first_position-position.ensures.place ∙ ap value (sym at) in
-    first_leaf value test kind level c.args.page i c.loop-index.invariant c.place_of.result at c.place_of.ensures.inside
-    (ap (λ v. test kind (desc_of kind level v)) (sym read) ∙ sym c.is_leaf.ensures ∙ c.if-is_leaf.true)
+returns-then-is_leaf c = let value = value_at c.args.map.now in let i = c.loop-index.index in let at = c.place_of.ensures.place in
+    first_leaf value (asks c.args.leaf.now) c.args.kind c.args.level c.args.page i c.loop-index.invariant c.place_of.result at
+    c.place_of.ensures.inside (ap (λ v. asks c.args.leaf.now c.args.kind (desc_of c.args.kind c.args.level v))
+    (ap value at ∙ sym (c.value_from.ensures ∙ ap (λ s. value (s + 8 * i)) c.first_position-position.ensures.place))
+    ∙ sym c.is_leaf.ensures ∙ c.if-is_leaf.true)
 
 pub returns : goal.returns
 returns c =

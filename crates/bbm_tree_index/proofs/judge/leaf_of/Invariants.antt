@@ -1,6 +1,5 @@
-use Rattle.bbm_tree_index.proofs.Common.{asks}
+use Rattle.bbm_tree_index.proofs.Common.{asks, value_at}
 use Rattle.bbm_rules.proofs.Common.{◌≡◌, ℕ, ◌<◌, ◌+◌, ◌*◌, false, desc_of}
-use Rattle.bbm_place_map.specs.Map.{value_at}
 use Rattle.bbm_tree_index.proofs.judge.leaf_of.Given as goal
 
 abbrev pub invariant-loop-index : goal.invariant-loop-index

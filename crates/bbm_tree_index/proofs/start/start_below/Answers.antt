@@ -1,11 +1,9 @@
 use Rattle.bbm_tree_index.proofs.Common.{get, joined, Mark, Hangs}
-use Rattle.bbm_rules.proofs.Common.{◌≡◌, ℕ, ◌<◌, ◌%◌, ◌/◌, ◌==◌, Some, None, refl, ap, ◌∙◌, nat_eq, if◌then◌else◌, ◌+◌}
-use Rattle.bbm_rules.proofs.Common.{◌*◌, suc, add-one, arith, false, lookup, index_of, input_pages}
+use Rattle.bbm_rules.proofs.Common.{◌≡◌, ℕ, ◌==◌, Some, None, refl, ap, ◌∙◌, nat_eq, if◌then◌else◌, ◌+◌, ◌*◌, suc}
+use Rattle.bbm_rules.proofs.Common.{add-one, false, lookup, index_of, input_pages}
+use Rattle.bbm_tree_index.proofs.Places.{number_below}
 use Rattle.bbm_tree_index.proofs.Begun.{one_start, one_well}
 use Rattle.bbm_tree_index.proofs.start.start_below.Goals as goal
-
-below : (a : ℕ) → a % 4096 / 8 < 512
-below a = omega arith
 
 pub returns : goal.returns
 returns c =
@@ -17,6 +15,6 @@ returns c =
     ∙ (λ i. if q == c.args.next then Some (joined (empty c.args.next i) mark) else empty q i) in
     record {
       well = λ heading. one_well c.args.spot.now c.args.place c.args.next mark is refl (get nat_eq c.add.new.table) put heading c.requires.fits c.requires.low
-          (below c.args.place) (c.add.ensures.below, c.add.ensures.aligned);
+          (number_below c.args.place) (c.add.ensures.below, c.add.ensures.aligned);
       start = λ heading n st. one_start c.args.spot.now c.args.place c.args.next mark is refl (get nat_eq c.add.new.table) put heading n st;
     }

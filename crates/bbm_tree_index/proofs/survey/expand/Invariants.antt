@@ -1,6 +1,5 @@
-use Rattle.bbm_tree_index.proofs.Common.{get, keys, Counts, Partly, Plain, Reached, Uniform, Well, fresh_of}
+use Rattle.bbm_tree_index.proofs.Common.{get, keys, Counts, Partly, Plain, Reached, Uniform, Well, fresh_of, value_at}
 use Rattle.bbm_rules.proofs.Common.{ℕ, List, nat_eq, take, list_any, page_of, Node}
-use Rattle.bbm_place_map.specs.Map.{value_at}
 use Rattle.bbm_tree_index.proofs.survey.expand.Given as goal
 
 abbrev pub invariant-loop-index : goal.invariant-loop-index

@@ -1,11 +1,9 @@
-use Rattle.bbm_tree_index.proofs.Common.{get, Partly}
-use Rattle.bbm_rules.proofs.Common.{◌≡◌, ℕ, Bool, ◌||◌, ◌==◌, ◌+◌, ◌*◌, ap, nat_eq, subst, arith, page_of}
-use Rattle.bbm_place_map.specs.Map.{value_at}
-use Rattle.bbm_tree_index.specs.Survey.{Expands, scanned, with_first}
-use Rattle.bbm_tree_index.proofs.Blank.{nowhere}
-use Rattle.bbm_tree_index.proofs.Counting.{counts_same}
-use Rattle.bbm_tree_index.proofs.Levels.{more_done}
-use Rattle.bbm_tree_index.proofs.Scanning.{alike, scan_all, scan_none}
+use Rattle.bbm_tree_index.proofs.Common.{get, value_at, Expands, scanned, with_first}
+use Rattle.bbm_rules.proofs.Common.{◌≡◌, ℕ, ◌||◌, ◌==◌, ◌+◌, ◌*◌, ◌∙◌, nat_eq, subst, arith, page_of}
+use Rattle.bbm_tree_index.proofs.Blank.{leads_nowhere}
+use Rattle.bbm_tree_index.proofs.Counting.{marks_same}
+use Rattle.bbm_tree_index.proofs.Places.{at_page}
+use Rattle.bbm_tree_index.proofs.Scanning.{alike, page_done, scan_all, scan_none}
 use Rattle.bbm_tree_index.proofs.survey.expand_page.Goals as goal
 
 pub loop-part-init : goal.loop-part-init
@@ -47,11 +45,7 @@ returns c = record {
 }
 
 pub returns-in_default-clause-level : goal.returns-in_default-clause-level
-returns-in_default-clause-level c = λ fresh starts k done mark uniform is_fresh undone few found stands old q.
-    let value = value_at c.args.map.now in
-    let p = c.args.page in
-    let more : ℕ → Bool = λ a. done a || page_of a == p in
-    counts_same (Partly fresh value starts k done) (Partly fresh value starts k more) q (get nat_eq c.args.below.now q)
-    (λ m at. more_done fresh value starts k done more (λ a e. ap (λ b. b || page_of a == p) e) m)
-    (λ m at. nowhere value p (c.first_position.ensures.zero c.in_default.is) fresh starts k done m)
-    (old q)
+returns-in_default-clause-level c = λ fresh starts k done mark uniform is_fresh undone few found stands.
+    marks_same fresh (value_at c.args.map.now) starts k done (λ a. done a || page_of a == c.args.page)
+    (λ n m a s. page_done c.args.page n.page a (done a) s.inside (λ e. leads_nowhere n.kind n.level _ m.page s.table
+    (c.first_position.ensures.zero c.in_default.is a (at_page n.page a s.inside ∙ e)))) (get nat_eq c.args.below.now)

@@ -1,7 +1,5 @@
-use Rattle.bbm_tree_index.proofs.Common.{get}
+use Rattle.bbm_tree_index.proofs.Common.{get, value_at, Expands, StaysWell, with_first}
 use Rattle.bbm_rules.proofs.Common.{◌*◌, nat_eq}
-use Rattle.bbm_place_map.specs.Map.{value_at}
-use Rattle.bbm_tree_index.specs.Survey.{Expands, StaysWell, with_first}
 use Rattle.bbm_tree_index.proofs.survey.expand_page.Given as goal
 
 abbrev pub invariant-loop-part : goal.invariant-loop-part

@@ -1,11 +1,9 @@
 use Rattle.bbm_tree_index.proofs.Common.{get, RoleFits, Hangs}
-use Rattle.bbm_rules.proofs.Common.{◌≡◌, ℕ, ◌<◌, ◌%◌, ◌^◌, Some, sym, subst, nat_eq, ◌/◌, suc, add-one, arith}
-use Rattle.bbm_rules.proofs.Common.{on_ok_weaker, same_Some, index_of}
+use Rattle.bbm_rules.proofs.Common.{◌≡◌, ◌<◌, ◌%◌, ◌^◌, Some, sym, subst, nat_eq, suc, add-one, on_ok_weaker, same_Some}
+use Rattle.bbm_rules.proofs.Common.{index_of}
+use Rattle.bbm_tree_index.proofs.Places.{number_below}
 use Rattle.bbm_tree_index.proofs.Growing.{hang_fits, well_grown}
 use Rattle.bbm_tree_index.proofs.survey.expand_place.Goals as goal
-
-below : (a : ℕ) → a % 4096 / 8 < 512
-below a = omega arith
 
 pub returns-in-Some-clause-well : goal.returns-in-Some-clause-well
 returns-in-Some-clause-well c = on_ok_weaker c.add.result (λ h heading w.
@@ -16,5 +14,5 @@ returns-in-Some-clause-well c = on_ok_weaker c.add.result (λ h heading w.
       subst (λ l. RoleFits heading (Hangs c.args.place c.args.spot.now.kind l c.start.result c.args.spot.now.first)) (sym (add-one c.args.spot.now.level))
           (subst (λ b. RoleFits heading (Hangs c.args.place c.args.spot.now.kind (suc c.args.spot.now.level) b c.args.spot.now.first)) (sym c.start.ensures)
           (hang_fits heading c.args.spot.now c.args.place (index_of c.args.place) c.args.spot.now.kind c.args.spot.now.first c.requires c.in-Some.ensures.low
-          (below c.args.place))),
+          (number_below c.args.place))),
     )) w) c.add.ensures.marks

@@ -1,6 +1,5 @@
-use Rattle.bbm_tree_index.proofs.Common.{get, Surveyed, fresh_of}
+use Rattle.bbm_tree_index.proofs.Common.{get, Surveyed, fresh_of, value_at}
 use Rattle.bbm_rules.proofs.Common.{◌≡◌, suc, length, nat_eq}
-use Rattle.bbm_place_map.specs.Map.{value_at}
 use Rattle.bbm_tree_index.proofs.survey.survey.Given as goal
 
 abbrev pub invariant-loop-depth : goal.invariant-loop-depth

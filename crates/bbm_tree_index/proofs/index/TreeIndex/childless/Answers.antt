@@ -1,6 +1,5 @@
-use Rattle.bbm_tree_index.proofs.Common.{StandsAt}
+use Rattle.bbm_tree_index.proofs.Common.{StandsAt, node_in}
 use Rattle.bbm_rules.proofs.Common.{sym, ap, ◌∙◌, subst, same_Some}
-use Rattle.bbm_tree_index.specs.Index.{node_in}
 use Rattle.bbm_tree_index.proofs.index.TreeIndex.childless.Goals as goal
 
 pub returns-in-Some-clause-inside : goal.returns-in-Some-clause-inside

@@ -1,5 +1,5 @@
+use Rattle.bbm_tree_index.proofs.Common.{stays_without}
 use Rattle.bbm_rules.proofs.Common.{sym, subst}
-use Rattle.bbm_tree_index.specs.HeldCores.{stays_without}
 use Rattle.bbm_tree_index.specs.IndexChanges.{TakesOut}
 use Rattle.bbm_tree_index.specs.declared.role.Detach.{Detach}
 use Rattle.bbm_tree_index.proofs.index.TreeIndex.detach.Goals as goal

@@ -1,8 +1,6 @@
-use Rattle.bbm_tree_index.proofs.Common.{starts_of}
-use Rattle.bbm_rules.proofs.Common.{◌≡◌, ℕ, subst, arith, length, ◌≤◌, ◌+◌}
-use Rattle.bbm_place_map.specs.Map.{value_at}
+use Rattle.bbm_tree_index.proofs.Common.{starts_of, value_at, Judges}
+use Rattle.bbm_rules.proofs.Common.{subst, sym, arith, ◌≤◌}
 use Rattle.bbm_tree_index.specs.Index.{fresh_in, role_in}
-use Rattle.bbm_tree_index.specs.Attaching.{Judges}
 use Rattle.bbm_tree_index.proofs.Begins.{have_pages, survey_count, survey_told}
 use Rattle.bbm_tree_index.proofs.index.TreeIndex.judge_survey.Goals as goal
 
@@ -10,12 +8,8 @@ pub judge_tables-requires-clause-pages : goal.judge_tables-requires-clause-pages
 judge_tables-requires-clause-pages c = have_pages c.args.tables.now c.args.self.now c.args.map.now c.args.at.now c.requires.survey
 
 pub judge_tables-requires-clause-low : goal.judge_tables-requires-clause-low
-judge_tables-requires-clause-low c = same_le (c.begin-kind.result.1 + length c.args.tables.now)
-    (survey_count c.args.tables.now c.args.self.now c.args.map.now c.args.at.now c.requires.survey
-    c.begin-kind.result.0 c.begin-kind.result.1 c.begin-kind.ensures.same c.begin-kind.ensures.some)
-  where
-    same_le : (n : ℕ) → n ≡ 4 → n ≤ 4
-    same_le n e = omega (arith, e)
+judge_tables-requires-clause-low c = subst (λ n. n ≤ 4) (sym (survey_count c.args.tables.now c.args.self.now c.args.map.now c.args.at.now
+    c.requires.survey c.begin-kind.result.0 c.begin-kind.result.1 c.begin-kind.ensures.same c.begin-kind.ensures.some)) (omega arith)
 
 pub returns : goal.returns
 unfolding fresh_in role_in

@@ -1,6 +1,5 @@
-use Rattle.bbm_tree_index.proofs.Common.{leaves_role, roles_of}
-use Rattle.bbm_rules.proofs.Common.{ℕ, Bool, refl, ap, ◌∙◌, if◌then◌else◌, None, page_of}
-use Rattle.bbm_place_map.specs.Map.{marks_at}
+use Rattle.bbm_tree_index.proofs.Common.{Releases, leaves_role, roles_of}
+use Rattle.bbm_rules.proofs.Common.{ℕ, Bool, refl, subst, fun_ext}
 use Rattle.bbm_tree_index.specs.Index.{heading_of, known_in, pages_in, role_in}
 use Rattle.bbm_tree_index.proofs.Growing.{pages_same}
 use Rattle.bbm_tree_index.proofs.Keeping.{closed}
@@ -26,19 +25,8 @@ invariant_of-self-clause-paged c = pages_same c.sweep.ensures.roles.same c.args.
 pub returns : goal.returns
 unfolding heading_of known_in pages_in role_in
 returns c =
-    let old = c.args.self.now in let map = c.args.map.now in let leaving = c.args.leaving.now in
-    let r = c.sweep.ensures.roles.roles in
-    let same = c.sweep.ensures.roles.same in
-    let m = c.sweep.ensures.map in
-    let all = left_at old map leaving in
-    record {
-      trees = trees_left old map leaving _ refl r;
+    let old = c.args.self.now in let map = c.args.map.now in let same = c.sweep.ensures.roles.same in record {
+      trees = trees_left old map c.args.leaving.now _ refl c.sweep.ensures.roles.roles;
       tracked = record { known = same.known; pages = same.len; heading = refl };
-      map = record {
-        values = m.values;
-        marks = λ a. m.marks a ∙ ap (λ b. if b then None else marks_at map a) (all (page_of a));
-        pends = λ q a e. m.pends q a (all (page_of a) ∙ e);
-        dropped = λ q a e. m.dropped q a (all (page_of a) ∙ e);
-        pages = m.pages;
-      };
+      map = subst (λ gone. Releases gone map c.sweep.new.map) (fun_ext (left_at old map c.args.leaving.now)) c.sweep.ensures.map;
     }

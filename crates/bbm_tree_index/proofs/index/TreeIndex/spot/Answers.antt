@@ -1,11 +1,10 @@
 use Rattle.bbm_tree_index.proofs.Common.{get, Fits, RoleFits, is_sound, StandsAt, spot_with, TreeIndex, Role, Untracked}
 use Rattle.bbm_tree_index.proofs.Common.{Spot}
-use Rattle.bbm_rules.proofs.Common.{◌≡◌, ℕ, Some, None, Option, IfSome, nat_eq, unwrap_or, refl, ap, sym, ◌∙◌, subst}
-use Rattle.bbm_rules.proofs.Common.{Node}
+use Rattle.bbm_rules.proofs.Common.{◌≡◌, ℕ, Some, None, Option, IfSome, nat_eq, unwrap_or, ap, sym, ◌∙◌, subst, Node}
 use Rattle.std.specs.Option.{option_copied}
+use Rattle.bbm_tree_index.specs.Index.{heading_of, node_in, role_in}
 use Rattle.bbm_tree_index.proofs.Cutting.{spot_node, spot_none}
 use Rattle.bbm_tree_index.proofs.Sounds.{role_fits}
-use Rattle.bbm_tree_index.specs.Index.{heading_of, node_in, role_in}
 use Rattle.bbm_tree_index.proofs.index.TreeIndex.spot.Goals as goal
 
 role_is : (index : TreeIndex) (page : ℕ) (role : Role) → Some role ≡ get nat_eq index.roles page → role_in index page ≡ role
@@ -27,23 +26,20 @@ returns-in-Some-clause-spot c =
     (ap (λ o. option_copied o) (sym c.in-Some.is) ∙ c.get_near.ensures.value) in
     c.spot_of.ensures ∙ ap (spot_with c.args.self.now.header) (sym is)
 
-fits_some : (o : Option Spot) → ((s : Spot) → o ≡ Some s → Fits s) → IfSome o Fits
-fits_some None h = tt
-fits_some (Some s) h = h s refl
-
-node_some : (old : TreeIndex) (page : ℕ) (o : Option Spot) → o ≡ spot_with (heading_of old) (role_in old page)
-    → IfSome o (λ s. (n : Node) × (node_in old page ≡ Some n) × StandsAt s n)
+spot_met : (old : TreeIndex) (page : ℕ) (o : Option Spot) → o ≡ spot_with (heading_of old) (role_in old page)
+    → IfSome o Fits × IfSome o (λ s. (n : Node) × (node_in old page ≡ Some n) × StandsAt s n)
 unfolding node_in
-node_some old page None e = tt
-node_some old page (Some s) e = spot_node (role_in old) (heading_of old) page (role_in old page) s (sym e)
+spot_met old page None e = (tt, tt)
+spot_met old page (Some s) e = (
+  role_fits (role_in old) (heading_of old) (is_sound old).roles page s (sym e),
+  spot_node (role_in old) (heading_of old) page (role_in old page) s (sym e),
+)
 
 pub returns-in-Some-clause-fits : goal.returns-in-Some-clause-fits
-returns-in-Some-clause-fits c = fits_some c.spot_of.result (λ s e. role_fits (role_in c.args.self.now)
-    (heading_of c.args.self.now) (is_sound c.args.self.now).roles c.args.page s (sym (returns-in-Some-clause-spot c) ∙ e))
+returns-in-Some-clause-fits c = (spot_met c.args.self.now c.args.page c.spot_of.result (returns-in-Some-clause-spot c)).0
 
 pub returns-in-Some-clause-node : goal.returns-in-Some-clause-node
-returns-in-Some-clause-node c =
-    node_some c.args.self.now c.args.page c.spot_of.result (returns-in-Some-clause-spot c)
+returns-in-Some-clause-node c = (spot_met c.args.self.now c.args.page c.spot_of.result (returns-in-Some-clause-spot c)).1
 
 pub returns-in-Some-clause-none : goal.returns-in-Some-clause-none
 unfolding node_in

@@ -1,4 +1,4 @@
-use Rattle.bbm_rules.proofs.Common.{◌≡◌, ◌+◌, ◌*◌, ◌-◌, ◌/◌, Some, sym, ap, ◌∙◌, arith, index_of}
+use Rattle.bbm_rules.proofs.Common.{◌≡◌, ◌+◌, ◌*◌, Some, sym, ap, ◌∙◌, arith, index_of}
 use Rattle.bbm_regimes.specs.World.{input_pages as input_pages_of}
 use Rattle.bbm_tree_index.proofs.Descending.{part_is, part_reaches, some_width}
 use Rattle.bbm_tree_index.proofs.Places.{place_is}
