@@ -1,14 +1,13 @@
 -- The least rule that an event breaks, and what stands after one that breaks none.
-use Rattle.bbm_replay_roots.proofs.Common.{is_none, Limit, RootFault, room_fault, Kind, Patterns, Rule}
-use Rattle.bbm_replay_roots.proofs.Common.{WrongWorld, NoLock, NoRoot, TagConflict, RootInUse, UnsyncedVmid, LockBusy}
-use Rattle.bbm_replay_roots.proofs.Common.{pes_of, Laws, StateStands, RootState}
+use Rattle.bbm_replay_roots.proofs.Common.{is_none, Limit, RootFault, room_fault, Kind, Patterns, Rule, WrongWorld}
+use Rattle.bbm_replay_roots.proofs.Common.{NoLock, NoRoot, TagConflict, RootInUse, UnsyncedVmid, LockBusy, pes_of, Laws}
+use Rattle.bbm_replay_roots.proofs.Common.{StateStands, RootState}
 use Rattle.bbm_rules.proofs.Common.{◌≡◌, ℕ, ◌<◌, Bool, true, false, not, ◌&&◌, ◌==◌, cond, nat_le, length, ◌≤◌, ◌↔◌}
 use Rattle.bbm_rules.proofs.Common.{Result, Ok, List, ◌∷◌, Option, Some, None, refl, sym, ap, ◌∙◌, arith, true≢false}
-use Rattle.bbm_rules.proofs.Common.{option_map_or, and_from, eq-eqb, eqb-true, le-leb, leb-true, ne_eqb, result_ok}
-use Rattle.bbm_rules.proofs.Common.{Which, scope_of, of_world, lacks_vmid, named_scope, World, Scope, Init, Null, Root}
-use Rattle.bbm_rules.proofs.Common.{Write, Reg, TlbiOp, Heading, Event, Dsb, Dmb, Isb, Tlbi, Msr, Lock, Unlock, Unroot}
-use Rattle.bbm_rules.proofs.Common.{Breach, keeps, noted, holder_of, if_so, is_that, Declared, is_root, root_at}
-use Rattle.bbm_rules.proofs.Common.{roots_of}
+use Rattle.bbm_rules.proofs.Common.{option_map_or, eq-eqb, eqb-true, le-leb, leb-true, ne_eqb, result_ok, Which}
+use Rattle.bbm_rules.proofs.Common.{scope_of, of_world, lacks_vmid, named_scope, World, Scope, Init, Null, Root, Write}
+use Rattle.bbm_rules.proofs.Common.{Reg, TlbiOp, Heading, Event, Dsb, Dmb, Isb, Tlbi, Msr, Lock, Unlock, Unroot, Breach}
+use Rattle.bbm_rules.proofs.Common.{noted, holder_of, if_so, is_that, Declared, is_root, root_at, roots_of}
 use Rattle.bbm_barriers.specs.declared.Dsb.{Dsb as Barrier}
 use Rattle.bbm_locks.specs.Holders.{holder_at}
 use Rattle.bbm_roots.specs.declared.fault.RootFault.TheVariants as roots
@@ -21,6 +20,7 @@ use Rattle.bbm_roots.specs.RootChanges as changes
 use Rattle.bbm_roots.specs.RootsStand as lower
 use Rattle.bbm_roots.proofs.Others.{others as left}
 use Rattle.bbm_replay_roots.specs.RootStateStands.{KeepsState, concerns_roots}
+use Rattle.bbm_histories.proofs.Induction.{kept_next}
 
 -- the breach of the rule, or else the other
 abbrev pub or_rule : Rule → Option ℕ → Option Breach → Option Breach
@@ -72,18 +72,13 @@ module _ (heading : Heading) (h : List Event) where
 
 -- ---- what stands
 
-pub kept_next : (heading : Heading) (h : List Event) (e : Event) → keeps heading Patterns h ≡ true → broken heading Patterns h e ≡ None
-    → keeps heading Patterns (e ∷ h) ≡ true
-kept_next heading h e kept none =
-    and_from (keeps heading Patterns h) (is_none (broken heading Patterns h e)) kept (ap (λ (o : Option Breach). is_none o) none)
-
 pub stood : {old : RootState} {heading : Heading} {h : List Event} (new : RootState) (e : Event) → StateStands old heading h
     → broken heading Patterns h e ≡ None → new.header ≡ old.header → lower.Stands new.roots heading (e ∷ h)
     → ((lock : ℕ) → holder_at new.locks lock ≡ holder_of (e ∷ h) lock) → StateStands new heading (e ∷ h)
 stood {heading = heading} {h = h} new e s none header roots locks = record {
   heading_is = header ∙ s.heading_is;
   proper = s.proper;
-  kept = kept_next heading h e s.kept none;
+  kept = kept_next heading Patterns h e s.kept none;
   roots = roots;
   locks = locks;
 }
@@ -191,7 +186,7 @@ free_page {heading = heading} {h = h} pe page kind lock laws s none = by (root_a
         let there : is_root h r.kind page ≡ true = ap (is_root h r.kind) (sym d.1) ∙ laws.root.is_of_kind h r d.0 in
         let apart : is_root h r.kind page ≡ false = laws.bases.new_root h pe page kind r.kind lock
         (laws.proper s.proper)
-        (kept_next heading h (Root pe kind lock page) s.kept none) in
+        (kept_next heading Patterns h (Root pe kind lock page) s.kept none) in
         absurd (true≢false (sym there ∙ apart))
 
 -- ---- TLBIs

@@ -3,14 +3,12 @@ use Rattle.bbm_replay_roots.proofs.Common.{is_none, option_and_then, Kind, Patte
 use Rattle.bbm_replay_roots.proofs.Common.{WrongWorld, first_reg, load_in, loads_after, root_in, second_reg, RootFault}
 use Rattle.bbm_replay_roots.proofs.Common.{Proper, Laws}
 use Rattle.bbm_rules.proofs.Common.{◌≡◌, ℕ, ◌<◌, ◌≤◌, Bool, true, false, not, ◌&&◌, ◌||◌, ◌==◌, nat_lt, List, [], ◌∷◌}
-use Rattle.bbm_rules.proofs.Common.{map, length, Option, Some, None, Result, Ok, Err, refl, sym, ap, ◌∙◌}
-use Rattle.bbm_rules.proofs.Common.{true≢false, inl, inr, arith, list_any, cases_lt, lt-ltb, eqb-true, eq-eqb}
-use Rattle.bbm_rules.proofs.Common.{not-false, or_cases, or_left, or_right, list_any-append, pe_finds, any_finds}
-use Rattle.bbm_rules.proofs.Common.{any_found, TagSet, One, Many, Reg, Ttbr0El2, VttbrEl2, Ttbr0El1, Ttbr1El1, Tag}
-use Rattle.bbm_rules.proofs.Common.{World, Hyp, Kernel, Heading, Event, Root, Unroot, Breach, keeps, same_tag, noted}
-use Rattle.bbm_rules.proofs.Common.{among, if_so, is_that, some_pe, base_of, kind_of_reg, Declared, is_root}
-use Rattle.bbm_rules.proofs.Common.{kind_in_world, lock_of, root_at, is_base_at, lacks, no_lock, no_root, holds_tag}
-use Rattle.bbm_rules.proofs.Common.{tag_set, tags_of}
+use Rattle.bbm_rules.proofs.Common.{map, length, Option, Some, None, Result, Ok, Err, refl, sym, ap, ◌∙◌, true≢false}
+use Rattle.bbm_rules.proofs.Common.{inl, inr, arith, list_any, cases_lt, lt-ltb, eqb-true, not-false, or_left, or_right}
+use Rattle.bbm_rules.proofs.Common.{list_any-append, pe_finds, any_found, Reg, Ttbr0El2, VttbrEl2, Ttbr0El1, Ttbr1El1}
+use Rattle.bbm_rules.proofs.Common.{Tag, World, Hyp, Kernel, Heading, Event, Root, Unroot, Breach, keeps, noted, if_so}
+use Rattle.bbm_rules.proofs.Common.{is_that, some_pe, base_of, kind_of_reg, Declared, is_root, kind_in_world, lock_of}
+use Rattle.bbm_rules.proofs.Common.{root_at, is_base_at, lacks, no_lock, no_root, holds_tag, tag_set, tags_of}
 use Rattle.bbm_lemmas.specs.Elements.{In}
 use Rattle.bbm_lemmas.proofs.Tautologies.{proved}
 use Rattle.bbm_lemmas.proofs.Tautologies.Claim.{If, Is}

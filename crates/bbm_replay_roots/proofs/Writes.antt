@@ -1,17 +1,16 @@
 -- Whether a register write may be taken, by the rules and by what the roots tell.
 use Rattle.bbm_replay_roots.proofs.Common.{flat_map, option_and_then, Kind, Patterns, NoRoot, TagConflict, WrongWorld}
 use Rattle.bbm_replay_roots.proofs.Common.{names_null, root_in, StateStands, RootState, RootFault, Proper}
-use Rattle.bbm_replay_roots.proofs.Common.{has_null_base}
-use Rattle.bbm_replay_roots.proofs.Common.{Laws}
-use Rattle.bbm_rules.proofs.Common.{◌≡◌, ℕ, ◌≤◌, Bool, true, false, not, ◌&&◌, ◌||◌, ◌==◌, cond, nat_le, List}
-use Rattle.bbm_rules.proofs.Common.{[], ◌∷◌, map, length, min, Option, Some, None, Result, Ok, Err, refl, sym, ap, ◌∙◌}
-use Rattle.bbm_rules.proofs.Common.{subst, true≢false, inl, inr, arith, list_any, option_map_or, and_from, and_parts}
-use Rattle.bbm_rules.proofs.Common.{eqb-true, eq-eqb, le-leb, or_cases, or_left, or_right, list_any-append, pe_finds}
-use Rattle.bbm_rules.proofs.Common.{Which, Reg, Ttbr0El2, VttbrEl2, Ttbr0El1, Ttbr1El1, Tag, El2Tag, Vmid, Asid}
-use Rattle.bbm_rules.proofs.Common.{Ttbr1Tag, World, Hyp, Kernel, Heading, Event, Msr, Answers, keeps, same_tag, noted}
-use Rattle.bbm_rules.proofs.Common.{among, if_so, least, Noted, is_null, base_of, kind_of_reg, same_reg, Declared}
-use Rattle.bbm_rules.proofs.Common.{is_at, is_root, kind_in_world, register_values, roots_of, same_kind, no_root}
-use Rattle.bbm_rules.proofs.Common.{tag_conflict, ReadsTag, Reading, holds_at, holds_tag, loses, readings, reads}
+use Rattle.bbm_replay_roots.proofs.Common.{has_null_base, Laws}
+use Rattle.bbm_rules.proofs.Common.{◌≡◌, ℕ, ◌≤◌, Bool, true, false, not, ◌&&◌, ◌||◌, ◌==◌, cond, nat_le, List, [], ◌∷◌}
+use Rattle.bbm_rules.proofs.Common.{map, length, min, Option, Some, None, Result, Ok, Err, refl, sym, ap, ◌∙◌, subst}
+use Rattle.bbm_rules.proofs.Common.{true≢false, inl, inr, arith, list_any, option_map_or, and_from, and_parts, eqb-true}
+use Rattle.bbm_rules.proofs.Common.{eq-eqb, le-leb, or_cases, or_left, or_right, pe_finds, Which, Reg, Ttbr0El2}
+use Rattle.bbm_rules.proofs.Common.{VttbrEl2, Ttbr0El1, Ttbr1El1, Tag, El2Tag, Vmid, Asid, Ttbr1Tag, World, Hyp, Kernel}
+use Rattle.bbm_rules.proofs.Common.{Heading, Event, Msr, Answers, keeps, same_tag, noted, among, if_so, least, Noted}
+use Rattle.bbm_rules.proofs.Common.{is_null, base_of, kind_of_reg, same_reg, Declared, is_at, is_root, kind_in_world}
+use Rattle.bbm_rules.proofs.Common.{register_values, roots_of, same_kind, no_root, tag_conflict, ReadsTag, Reading}
+use Rattle.bbm_rules.proofs.Common.{holds_at, holds_tag, loses, readings, reads}
 use Rattle.std.specs.List.{filter}
 use Rattle.std.specs.Option.{unwrap_or}
 use Rattle.std.proofs.lemmas.Bool.{lt-leb}

@@ -1,6 +1,6 @@
 -- What stays with the registers, and with the declared roots.
-use Rattle.bbm_roots.proofs.Common.{◌≡◌, ◌<◌, ℕ, subst, sym, HashMap, BuildHasherDefault, FoldHasher, index_map_len}
-use Rattle.bbm_roots.proofs.Common.{ap, Declared, Registers, Roots}
+use Rattle.bbm_roots.proofs.Common.{◌≡◌, ◌<◌, ℕ, subst, sym, HashMap, BuildHasherDefault, FoldHasher, index_map_len, ap}
+use Rattle.bbm_roots.proofs.Common.{Declared, Registers, Roots}
 use Rattle.indexmap.specs.IndexMap.{spare}
 use Rattle.bbm_roots.specs.RootChanges.{SameLog}
 use Rattle.bbm_roots.specs.RootsStand.{IsPrepared}

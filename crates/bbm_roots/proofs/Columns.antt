@@ -52,18 +52,11 @@ loads_in-last [] v = refl
 loads_in-last (w ∷ ws) v = loads_in-last ws v
 
 -- one more PE, with these values
-pub loads_in-more : (xs : List RootValue) (vs : Column) (v : ArrayVec RootValue) (n : ℕ) → length vs ≡ n → v.items ≡ xs →
-    ((p : ℕ) → p < n → loads_in vs p ≡ xs) → (p : ℕ) → p < n + 1 → loads_in (vs ++ v ∷ []) p ≡ xs
-loads_in-more xs vs v n len here before p lt =
-    ⊎_elim (λ (less : p < n). loads_in-push vs v p (omega arith) ∙ before p less)
-    (λ (last : n ≤ p).
-    let at : length vs ≡ p = omega arith in
-    subst (λ (k : ℕ). loads_in (vs ++ v ∷ []) k ≡ xs) at (loads_in-last vs v ∙ here))
-    (cases_lt p n)
-
 pub grown : (xs : List RootValue) (vs ws : Column) (v : ArrayVec RootValue) → ws ≡ vs ++ v ∷ [] → v.items ≡ xs →
     ((p : ℕ) → p < length vs → loads_in vs p ≡ xs) → (p : ℕ) → p < length vs + 1 → loads_in ws p ≡ xs
 grown xs vs ws v is here before p lt =
-    ap (λ (us : Column). loads_in us p) is ∙ loads_in-more xs vs v (length vs) refl here before p lt
+    rw is (⊎_elim (λ (less : p < length vs). loads_in-push vs v p less ∙ before p less)
+    (λ (last : length vs ≤ p). let at : p ≡ length vs = omega arith in rw at (loads_in-last vs v ∙ here))
+    (cases_lt p (length vs)))
 
 pub ruleset growing = (grown)

@@ -3,7 +3,8 @@ pub use Rattle.indexmap.specs.IndexMap.{IndexMap, get, index_map_len, values}
 pub use Rattle.std.proofs.Common.{Bool, BuildHasherDefault, FoldHasher, HashMap, IsSome, List, None, Option, Some, []}
 pub use Rattle.std.proofs.Common.{ap, arith, cond, false, get_or, is_some, length, nat_eq, nat_le, nat_lt, not, refl}
 pub use Rattle.std.proofs.Common.{rules, set, subst, suc, sym, take, true, zero, ℕ, ⊎_elim, ◌&&◌, ◌++◌, ◌+◌, ◌<◌, ◌==◌}
-pub use Rattle.std.proofs.Common.{◌||◌, ◌∙◌, ◌∷◌, ◌≡◌, ◌≤◌}
+pub use Rattle.std.proofs.Common.{◌||◌, ◌∙◌, ◌∷◌, ◌≡◌, ◌≤◌, Result, map}
+pub use Rattle.std.proofs.Math.Bool.{or_assoc}
 pub use Rattle.std.proofs.Math.Dec.{eqb-suc-suc, eqb-suc-zero, eqb-zero-suc}
 pub use Rattle.std.proofs.Math.Path.{fun_ext}
 pub use Rattle.std.proofs.lemmas.Bool.{cases_lt, eq-eqb, eqb-true, false≢true, lt-ltb, ltb-true, not-true, or_left}
@@ -11,24 +12,37 @@ pub use Rattle.std.proofs.lemmas.Bool.{or_right, true_from_ne_false}
 pub use Rattle.std.proofs.lemmas.Bool.Decides.{nat_tests}
 pub use Rattle.std.proofs.lemmas.List.{take_all}
 pub use Rattle.std.proofs.lemmas.List.Folds.{list_any-append}
-pub use Rattle.std.specs.List.{flat_map, list_any}
+pub use Rattle.std.proofs.lemmas.Option.{get_or_from_slice_get}
+pub use Rattle.std.specs.List.{flat_map, list_any, slice_get}
 pub use Rattle.std.specs.Map.{lookup}
+pub use Rattle.std.specs.Option.{option_and_then}
 pub use mathlib.Core.Bool.{and-false, and-true, or-false}
 pub use Rattle.bbm_barriers.specs.Options.{answers}
 pub use Rattle.bbm_barriers.specs.declared.Dsb.{Dsb}
+pub use Rattle.bbm_events.specs.Heading.{Heading}
+pub use Rattle.bbm_events.specs.declared.event.Event.{Event}
+pub use Rattle.bbm_events.specs.declared.event.Event.TheVariants.{Tlbi, Msr, Dsb as ADsb, Root, Unroot}
+pub use Rattle.bbm_histories.specs.HistorySteps.{is_tlbi, tag_waits, tag_waits_after}
+pub use Rattle.bbm_histories.specs.TagSteps.{BasesStay}
 pub use Rattle.bbm_lemmas.proofs.Bools.{first_none, first_true, second_none}
+pub use Rattle.bbm_lemmas.proofs.Elements.{any_found, any_finds}
 pub use Rattle.bbm_lemmas.proofs.Numbers.{same_swapped}
 pub use Rattle.bbm_lemmas.proofs.Tautologies.{proved}
 pub use Rattle.bbm_lemmas.proofs.Tautologies.Claim.{If, Is}
+pub use Rattle.bbm_lemmas.proofs.Tests.{any_and, any_both, any_same}
 pub use Rattle.bbm_lemmas.proofs.Words.{pe_finds, pe_found, pe_none}
 pub use Rattle.bbm_lemmas.specs.ListWords.{same_flag}
+pub use Rattle.bbm_regimes.specs.PeMask.{pe_in}
+pub use Rattle.bbm_regimes.specs.Registers.{base_of, tag_number}
+pub use Rattle.bbm_regimes.specs.World.{kind_in_world}
 pub use Rattle.bbm_regimes.specs.declared.regime.AsidFrom.{AsidFrom}
+pub use Rattle.bbm_regimes.specs.declared.regime.AsidFrom.TheVariants.{Ttbr0 as FromTtbr0, Ttbr1 as FromTtbr1}
 pub use Rattle.bbm_regimes.specs.declared.regime.Kind.{Kind}
 pub use Rattle.bbm_regimes.specs.declared.regime.Kind.TheVariants.{El2, S2, Ttbr0, Ttbr1}
 pub use Rattle.bbm_regimes.specs.declared.regime.Reg.{Reg}
 pub use Rattle.bbm_regimes.specs.declared.regime.Reg.TheVariants.{Ttbr0El1, Ttbr0El2, Ttbr1El1, VttbrEl2}
 pub use Rattle.bbm_regimes.specs.declared.regime.Tag.{Tag}
-pub use Rattle.bbm_regimes.specs.declared.regime.Tag.TheVariants.{Asid, Vmid}
+pub use Rattle.bbm_regimes.specs.declared.regime.Tag.TheVariants.{Asid, Vmid, El2 as El2Tag, Ttbr1 as Ttbr1Tag}
 pub use Rattle.bbm_regimes.specs.declared.regime.World.{World}
 pub use Rattle.bbm_regimes.specs.declared.regime.World.TheVariants.{Hyp, Kernel}
 pub use Rattle.bbm_roots.specs.Columns.{loads_in}
@@ -37,17 +51,19 @@ pub use Rattle.bbm_roots.specs.Holds.{IsCalm, Marks, conflict_in, entry_bit, ent
 pub use Rattle.bbm_roots.specs.Holds.{is_held_under, is_hold, some_pe, tag_in, tag_key}
 pub use Rattle.bbm_roots.specs.HoldsNew.{holds_asids, holds_new, holds_root, holds_under}
 pub use Rattle.bbm_roots.specs.LeastOf.{IsLeast, ReadingUpTo, TagUpTo, UpTo}
-pub use Rattle.bbm_roots.specs.LoadsOf.{readings_after}
+pub use Rattle.bbm_roots.specs.LoadsOf.{readings_after, other_loads, reads_at}
 pub use Rattle.bbm_roots.specs.Readings.{asid_readings, has_other, has_reading, has_tag, is_of_tag, is_other}
 pub use Rattle.bbm_roots.specs.Readings.{is_reading, own_reading, reading_at, reading_under, readings_of, readings_with}
 pub use Rattle.bbm_roots.specs.Readings.{reads_tag, same_tag, tag_of}
 pub use Rattle.bbm_roots.specs.Refusals.{conflicts, is_other_number, missing_root, other_number}
-pub use Rattle.bbm_roots.specs.RootChanges.{Writes}
+pub use Rattle.bbm_roots.specs.RootChanges.{Writes, Issues, TakesWhere}
 pub use Rattle.bbm_roots.specs.RootPendings.{has_pending, has_wait, pending_in, slot_of, unread_at, wait_at, wait_bit}
 pub use Rattle.bbm_roots.specs.RootPendings.{wait_in}
-pub use Rattle.bbm_roots.specs.RootRegisters.{at_start, first_reg, is_first, is_that, kind_of_reg, names_null}
-pub use Rattle.bbm_roots.specs.RootRegisters.{names_in, newest, root_of, same_reg, second_reg, uses}
+pub use Rattle.bbm_roots.specs.RootRegisters.{at_start, first_reg, is_first, is_that, kind_of_reg, names_null, names_in}
+pub use Rattle.bbm_roots.specs.RootRegisters.{newest, root_of, same_reg, second_reg, uses, load_in, loads_after}
+pub use Rattle.bbm_roots.specs.RootRegisters.{root_in, NullNamesNone}
 pub use Rattle.bbm_roots.specs.RootsStand.{Stands, pes_of, world_of}
+pub use Rattle.bbm_roots.specs.TagsByRoot.{is_listed, AreListed}
 pub use Rattle.bbm_roots.specs.declared.hold.Held.{Held}
 pub use Rattle.bbm_roots.specs.declared.load.RootValue.{RootValue}
 pub use Rattle.bbm_roots.specs.declared.pending.Pendings.{Pendings}
@@ -55,9 +71,15 @@ pub use Rattle.bbm_roots.specs.declared.pending.Waiting.{Waiting}
 pub use Rattle.bbm_roots.specs.declared.reading.Reading.{Reading}
 pub use Rattle.bbm_roots.specs.declared.registers.Registers.{Registers}
 pub use Rattle.bbm_roots.specs.declared.roots.Roots.{Roots}
-pub use Rattle.bbm_roots.proofs.Equal.{reg_equal, tag_equal, tag_self}
-pub use Rattle.bbm_rules.specs.Roots.{Declared}
+pub use Rattle.bbm_rules.proofs.SameRegister.{reg_equal, tag_equal, tag_self}
+pub use Rattle.bbm_rules.specs.Claims.{Patterns}
+pub use Rattle.bbm_rules.specs.Reach.{reaches}
+pub use Rattle.bbm_rules.specs.RegisterValues.{named_scope, register_values}
+pub use Rattle.bbm_rules.specs.Roots.{Declared, is_root, root_at, roots_of, lock_of, retired}
+pub use Rattle.bbm_rules.specs.Tags.{takes_tag, readings, loses, holds_at, holds_tag}
 pub use Rattle.bbm_tlbi_scope.specs.ScopeTags.{takes_whole_tag}
 pub use Rattle.bbm_tlbi_scope.specs.TagSets.{HasTags}
 pub use Rattle.bbm_tlbi_scope.specs.declared.entry.TagSet.{TagSet}
 pub use Rattle.bbm_tlbi_scope.specs.declared.entry.TagSet.TheVariants.{Many}
+pub use Rattle.bbm_tlbi_scope.specs.declared.op.TlbiOp.{TlbiOp}
+pub use Rattle.bbm_tlbi_scope.specs.declared.scope.Scope.{Scope}

@@ -1,28 +1,21 @@
 -- What the entries say of the roots that hold tags is what the history says.
-use Rattle.bbm_roots.proofs.Common.{pe_finds, pe_none}
-use Rattle.bbm_roots.proofs.Common.{◌≡◌, ℕ, ◌<◌, ◌≤◌, ⊎_elim, Option, Some, None, Bool, true, false, ◌&&◌}
-use Rattle.bbm_roots.proofs.Common.{◌||◌, nat_eq, List, [], ◌∷◌, refl, sym, ◌∙◌, ap, list_any, proved, Is, IndexMap}
-use Rattle.bbm_roots.proofs.Common.{get, cases_lt, eq-eqb, Tag, Reg}
-use Rattle.bbm_roots.proofs.Common.{some_pe, is_hold, hold_in, tag_in, entry_bit, entry_held, tag_key, conflict_in}
-use Rattle.bbm_roots.proofs.Common.{is_clash, IsCalm, has_reading, has_other, is_reading, is_other, conflicts}
-use Rattle.bbm_roots.proofs.Common.{Held, Reading, and-false, first_none, second_none}
-use Rattle.bbm_regimes.specs.PeMask.{pe_in}
-use Rattle.bbm_lemmas.proofs.Tests.{any_and, any_both, any_or, any_same}
+use Rattle.bbm_roots.proofs.Common.{pe_finds, pe_none, ◌≡◌, ℕ, ◌<◌, ◌≤◌, ⊎_elim, Option, Some, None, Bool, true, false}
+use Rattle.bbm_roots.proofs.Common.{pe_in, any_and, any_both, any_same, Heading, Event, Msr, Patterns, holds_at}
+use Rattle.bbm_roots.proofs.Common.{holds_tag, readings, ◌&&◌, ◌||◌, nat_eq, List, ◌∷◌, refl, sym, ◌∙◌, ap, list_any}
+use Rattle.bbm_roots.proofs.Common.{proved, Is, IndexMap, get, cases_lt, eq-eqb, Tag, Reg, some_pe, is_hold, hold_in}
+use Rattle.bbm_roots.proofs.Common.{tag_in, entry_bit, entry_held, tag_key, conflict_in, is_clash, IsCalm, has_reading}
+use Rattle.bbm_roots.proofs.Common.{has_other, conflicts, Held, Reading, first_none, second_none}
+use Rattle.bbm_lemmas.proofs.Tests.{any_or}
 use Rattle.bbm_lemmas.specs.ListWords.{below}
-use Rattle.bbm_events.specs.Heading.{Heading}
-use Rattle.bbm_events.specs.declared.event.Event.{Event}
-use Rattle.bbm_events.specs.declared.event.Event.TheVariants.{Msr}
-use Rattle.bbm_rules.specs.Claims.{Patterns}
-use Rattle.bbm_rules.specs.Tags.{holds_at, holds_tag, readings}
-use Rattle.bbm_roots.proofs.Bits.{none_at}
+use Rattle.bbm_roots.proofs.Tests.{none_at}
 use Rattle.bbm_roots.proofs.Steps.{holds-written}
 use mathlib.Core.Bool.{or_comm}
 
 -- at this PE alone
 some_pe-one : (n pe : ℕ) (b : Bool) → pe < n → some_pe n (λ p. nat_eq p pe && b) ≡ b
-some_pe-one n pe true lt =
-    pe_finds n (λ p. nat_eq p pe && true) pe lt (ap (λ (b : Bool). b && true) (eq-eqb pe pe refl))
-some_pe-one n pe false lt = pe_none n (λ p. nat_eq p pe && false) (λ p k. and-false (nat_eq p pe))
+some_pe-one n pe b lt =
+    any_both (λ p. nat_eq p pe) b (below n)
+    ∙ ap (λ (c : Bool). c && b) (pe_finds n (λ p. nat_eq p pe) pe lt (eq-eqb pe pe refl))
 
 -- at one PE of the entry
 entry-is : (n : ℕ) (g : Tag) (r : ℕ) (o : Option Held) → entry_held n g r o ≡ some_pe n (λ p. entry_bit g r p o)
@@ -45,19 +38,9 @@ module _ {S : Type 0} (hs : IndexMap ℕ Held S) where
   pub clash-split : (n : ℕ) (seen : List Reading) (x : Reading) →
       list_any (is_clash hs n seen x) seen ≡ conflict_in hs n seen x
   clash-split n seen x =
-      split (has_other x.tag x.root seen) (tag_in hs n x.tag x.root) seen
-      ∙ turn (has_reading x.tag x.root seen) (has_other x.tag x.root seen) (tag_in hs n x.tag x.root)
-    where
-      split : (o t : Bool) (xs : List Reading) →
-          list_any (λ y. (is_reading x.tag x.root y && o) || (is_other x.tag x.root y && t)) xs
-          ≡ ((has_reading x.tag x.root xs && o) || (has_other x.tag x.root xs && t))
-      split o t xs =
-          any_or (λ y. is_reading x.tag x.root y && o) (λ y. is_other x.tag x.root y && t) xs
-          ∙ ap (λ (b : Bool). b || list_any (λ y. is_other x.tag x.root y && t) xs) (any_both (is_reading x.tag x.root) o xs)
-          ∙ ap (λ (b : Bool). (has_reading x.tag x.root xs && o) || b) (any_both (is_other x.tag x.root) t xs)
-
-      turn : (a o t : Bool) → ((a && o) || (o && t)) ≡ (o && (a || t))
-      turn = proved 3 (λ a o t. Is ((a && o) || (o && t)) (o && (a || t))) refl
+      simp (any_or, any_both)
+      (proved 3 (λ a o t. Is ((a && o) || (o && t)) (o && (a || t))) refl (has_reading x.tag x.root seen)
+      (has_other x.tag x.root seen) (tag_in hs n x.tag x.root))
 
 -- A register write of one PE, at which the tags and roots seen are then readable.
 module _ {S : Type 0} (heading : Heading) (h : List Event) (pe : ℕ) (reg : Reg) (value : ℕ) (seen : List Reading)
@@ -77,21 +60,19 @@ module _ {S : Type 0} (heading : Heading) (h : List Event) (pe : ℕ) (reg : Reg
 
   pub conflict-is : (x : Reading) → conflict_in hs heading.pes seen x ≡ conflicts heading (Msr pe reg value ∷ h) pe x
   conflict-is x =
-      ap (λ (b : Bool). has_other x.tag x.root seen && b) (or_comm (has_reading x.tag x.root seen) (tag_in hs heading.pes x.tag x.root))
-      ∙ ap (λ (b : Bool). has_other x.tag x.root seen && b) (sym (tag-written x.tag x.root))
-      ∙ ap (λ (b : Bool). b && holds_tag heading Patterns x.root x.tag (Msr pe reg value ∷ h))
-      (ap (has_other x.tag x.root) (sym (here pe (eq-eqb pe pe refl))))
+      rw (or_comm (has_reading x.tag x.root seen) (tag_in hs heading.pes x.tag x.root), ← tag-written x.tag x.root)
+      (ap (λ (b : Bool). b && holds_tag heading Patterns x.root x.tag (Msr pe reg value ∷ h))
+      (ap (has_other x.tag x.root) (sym (here pe (eq-eqb pe pe refl)))))
 
 -- where nothing is in conflict at the first n PEs, and no other PE holds a tag, no tag is to be taken from another root
 pub calm-from : {S : Type 0} (hs : IndexMap ℕ Held S) (n : ℕ) (seen : List Reading) →
     ((g : Tag) (r p : ℕ) → n ≤ p → hold_in hs g r p ≡ false) →
     ((x : Reading) → conflict_in hs n seen x ≡ false) → IsCalm hs seen
 calm-from hs n seen past none g r other =
-    let x : Reading = record { tag = g; root = r } in
     let both : (has_reading g r seen || tag_in hs n g r) ≡ false =
-    sym (ap (λ (b : Bool). b && (has_reading g r seen || tag_in hs n g r)) other) ∙ none x in
+    sym (ap (λ (b : Bool). b && (has_reading g r seen || tag_in hs n g r)) other) ∙ none (record { tag = g; root = r }) in
     let no_tag : some_pe n (hold_in hs g r) ≡ false =
     sym (tag_in-is hs n g r) ∙ second_none (has_reading g r seen) (tag_in hs n g r) both in (
       first_none (has_reading g r seen) (tag_in hs n g r) both,
-      λ p. ⊎_elim (λ (lt : p < n). none_at n (hold_in hs g r) p no_tag lt) (λ (le : n ≤ p). past g r p le) (cases_lt p n),
+      λ p. ⊎_elim (none_at n (hold_in hs g r) p no_tag) (past g r p) (cases_lt p n),
     )

@@ -1,29 +1,20 @@
 -- The entries of the tags that are held, found by the key of a tag or one after another.
-use Rattle.bbm_roots.proofs.Common.{tag_equal}
-use Rattle.bbm_roots.proofs.Common.{◌≡◌, ◌+◌, ◌<◌, ◌≤◌, ℕ, Bool, true, false, ◌&&◌, ◌||◌, not, nat_eq, List, [], ◌∷◌}
-use Rattle.bbm_roots.proofs.Common.{Option, Some, None, cond, refl, sym, ◌∙◌, ap, take, length, list_any, lookup}
-use Rattle.bbm_roots.proofs.Common.{false≢true, eqb-true, eq-eqb, or_left, or_right, take_all, proved, If, Is, IndexMap}
-use Rattle.bbm_roots.proofs.Common.{values, Tag, is_hold, entry_bit, entry_held, is_held_under, hold_in, tag_in}
-use Rattle.bbm_roots.proofs.Common.{tag_key, same_tag, has_other, is_reading, is_other, Held, Reading, or-false}
+use Rattle.bbm_roots.proofs.Common.{tag_equal, ◌≡◌, ◌+◌, ◌<◌, ◌≤◌, ℕ, Bool, true, false, ◌&&◌, ◌||◌, nat_eq, List}
+use Rattle.bbm_roots.proofs.Common.{slice_get, get_or_from_slice_get, pe_in, arith, nat_tests, [], ◌∷◌, Option, Some}
+use Rattle.bbm_roots.proofs.Common.{None, cond, refl, sym, ◌∙◌, ap, take, length, list_any, lookup, false≢true}
+use Rattle.bbm_roots.proofs.Common.{take_all, IndexMap, values, Tag, is_hold, entry_bit, entry_held, is_held_under}
+use Rattle.bbm_roots.proofs.Common.{hold_in, tag_in, tag_key, same_tag, has_other, is_reading, is_other, Held, Reading}
 use Rattle.bbm_roots.proofs.Common.{first_true}
-use Rattle.std.specs.List.{AllByRecursion, IsDistinct, slice_get}
+use Rattle.std.specs.List.{AllByRecursion, IsDistinct}
 use Rattle.std.specs.Map.{keys_of, values_of}
-use Rattle.std.proofs.lemmas.Option.{get_or_from_slice_get}
-use Rattle.bbm_regimes.specs.PeMask.{pe_in}
 use Rattle.bbm_roots.specs.Holds.{is_held_by}
-use Rattle.bbm_roots.proofs.Bits.{and_right}
-use Rattle.bbm_roots.proofs.Lists.{any-next, any-front}
+use Rattle.bbm_roots.proofs.Tests.{as-same, any-next, any-front}
 
 -- what an entry that a key finds passes, one of the entries does
 found-among : (entry : Option Held → Bool) (test : Held → Bool) → entry None ≡ false → ((x : Held) → entry (Some x) ≡ true → test x ≡ true) →
     (key : ℕ → Bool) (es : List (ℕ × Held)) → entry (lookup key es) ≡ true → list_any test (values_of es) ≡ true
 found-among entry test none some key [] e = absurd (false≢true (sym none ∙ e))
-found-among entry test none some key (x ∷ xs) e = by_key (found-among entry test none some key xs) (key x.0) e
-  where
-    by_key : (entry (lookup key xs) ≡ true → list_any test (values_of xs) ≡ true) → (b : Bool) →
-        entry (cond b (Some x.1) (lookup key xs)) ≡ true → (test x.1 || list_any test (values_of xs)) ≡ true
-    by_key rest true e = or_left (test x.1) (list_any test (values_of xs)) (some x.1 e)
-    by_key rest false e = or_right (test x.1) (list_any test (values_of xs)) (rest e)
+found-among entry test none some key (x ∷ xs) e = grind (arith, found-among entry test none some key xs, some x.1)
 
 -- whether an entry is one of the tag
 abbrev pub is_held_as : Tag → Held → Bool
@@ -53,15 +44,9 @@ module _ (n root : ℕ) where
       list_any (shows g) es ≡ entry_held n g root (lookup (nat_eq (tag_key g)) es)
   unfolding IsDistinct
   shown-among g [] distinct = refl
-  shown-among g (e ∷ es) distinct = by_key (nat_eq (tag_key g) e.0) refl (shown-among g es distinct.1)
-    where
-      by_key : (b : Bool) → nat_eq (tag_key g) e.0 ≡ b → list_any (shows g) es ≡ entry_held n g root (lookup (nat_eq (tag_key g)) es) →
-          ((b && is_held_by n g root e.1) || list_any (shows g) es)
-          ≡ entry_held n g root (cond b (Some e.1) (lookup (nat_eq (tag_key g)) es))
-      by_key false at rest = rest
-      by_key true at rest =
-          ap (λ (t : Bool). is_held_by n g root e.1 || t) (none-shows g e.0 es (eqb-true (tag_key g) e.0 at) distinct.0)
-          ∙ or-false (is_held_by n g root e.1)
+  shown-among g (e ∷ es) distinct =
+      let none = λ (at : tag_key g ≡ e.0). none-shows g e.0 es at distinct.0 in
+      grind (arith, nat_tests, shown-among g es distinct.1)
 
   module _ {S : Type 0} (hs : IndexMap ℕ Held S) (i : ℕ) where
     -- whether one of the first entries shows it
@@ -82,40 +67,21 @@ module _ (n root : ℕ) where
 pub marked-step : (same here held pe seen : Bool) → (same ≡ true → here ≡ false → held ≡ false) →
     (same ≡ true → here ≡ false → seen ≡ false) →
     cond same (here && ((held || (pe && seen)) || pe)) (held || (pe && seen)) ≡ (held || (pe && (seen || (same && here))))
-marked-step = proved 5 (λ same here held pe seen. If (If (Is same true) (If (Is here false) (Is held false))) (If (If
-    (Is same true) (If (Is here false) (Is seen false))) (Is (cond same (here && ((held || (pe && seen)) || pe)) (held
-    || (pe && seen))) (held || (pe && (seen || (same && here))))))) refl
+marked-step same here held pe seen = grind (arith)
 
 -- the reading of a tag and a root, which is this one
 pub reading-clash : (y : Reading) (seen : List Reading) → has_other y.tag y.root seen ≡ true → (x : Reading) →
     (is_reading x.tag x.root y && has_other x.tag x.root seen) ≡ (same_tag y.tag x.tag && nat_eq y.root x.root)
-reading-clash y seen other x = by_case (is_reading x.tag x.root y) refl
-  where
-    by_case : (b : Bool) → is_reading x.tag x.root y ≡ b → (b && has_other x.tag x.root seen) ≡ b
-    by_case false e = refl
-    by_case true e =
-        ap (λ (g : Tag). has_other g x.root seen) (sym (tag_equal y.tag x.tag (first_true (same_tag y.tag x.tag) (nat_eq y.root x.root) e)))
-        ∙ ap (λ (r : ℕ). has_other y.tag r seen) (sym (eqb-true y.root x.root (and_right (same_tag y.tag x.tag) (nat_eq y.root x.root) e)))
-        ∙ other
+reading-clash y seen other x =
+    let there : is_reading x.tag x.root y ≡ true → has_other x.tag x.root seen ≡ true =
+    λ e. as-same (λ g r. has_other g r seen ≡ true) y.tag x.tag y.root x.root e other in
+    grind (arith)
 
 -- the other root that holds the reading's tag
 pub holder-clash : {S : Type 0} (hs : IndexMap ℕ Held S) (n : ℕ) (y : Reading) (root : ℕ) → nat_eq root y.root ≡ false →
     ((r : ℕ) → tag_in hs n y.tag r ≡ nat_eq root r) → (x : Reading) →
     (is_other x.tag x.root y && tag_in hs n x.tag x.root) ≡ (same_tag y.tag x.tag && nat_eq root x.root)
-holder-clash hs n y root apart holder x = by_case (same_tag y.tag x.tag) refl
-  where
-    there : same_tag y.tag x.tag ≡ true → tag_in hs n x.tag x.root ≡ nat_eq root x.root
-    there e = ap (λ (g : Tag). tag_in hs n g x.root) (sym (tag_equal y.tag x.tag e)) ∙ holder x.root
-
-    by_root : (a b : Bool) → nat_eq y.root x.root ≡ a → nat_eq root x.root ≡ b → (not a && b) ≡ b
-    by_root false b e f = refl
-    by_root true false e f = refl
-    by_root true true e f =
-        absurd (false≢true (sym apart ∙ eq-eqb root y.root (eqb-true root x.root f ∙ sym (eqb-true y.root x.root e))))
-
-    by_case : (b : Bool) → same_tag y.tag x.tag ≡ b →
-        ((b && not (nat_eq y.root x.root)) && tag_in hs n x.tag x.root) ≡ (b && nat_eq root x.root)
-    by_case false e = refl
-    by_case true e =
-        ap (λ (t : Bool). not (nat_eq y.root x.root) && t) (there e)
-        ∙ by_root (nat_eq y.root x.root) (nat_eq root x.root) refl refl
+holder-clash hs n y root apart holder x =
+    let there : same_tag y.tag x.tag ≡ true → tag_in hs n x.tag x.root ≡ nat_eq root x.root =
+    λ e. ap (λ (g : Tag). tag_in hs n g x.root) (sym (tag_equal y.tag x.tag e)) ∙ holder x.root in
+    grind (arith, nat_tests)

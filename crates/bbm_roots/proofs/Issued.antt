@@ -1,72 +1,36 @@
 -- A TLBI of a history, by what it names.
-use Rattle.bbm_roots.proofs.Common.{same_swapped}
-use Rattle.bbm_roots.proofs.Common.{◌≡◌, ℕ, Bool, true, false, not, ◌&&◌, ◌||◌, ◌==◌, nat_eq, cond, Option, Some, None}
-use Rattle.bbm_roots.proofs.Common.{refl, sym, ap, ◌∙◌, List, proved, If, Is, Tag, takes_whole_tag, same_flag}
-use Rattle.std.proofs.Common.{Result, Ok, Err}
+use Rattle.bbm_roots.proofs.Common.{same_swapped, ◌≡◌, ℕ, Bool, true, false, not, ◌&&◌, ◌||◌, ◌==◌, nat_eq, arith}
+use Rattle.bbm_roots.proofs.Common.{Result, TlbiOp, Scope, Heading, Event, Tlbi, reaches, named_scope, takes_tag}
+use Rattle.bbm_roots.proofs.Common.{is_tlbi, Issues, Option, Some, None, refl, ap, List, Tag, takes_whole_tag}
+use Rattle.bbm_roots.proofs.Common.{same_flag}
 use Rattle.std.specs.Result.{result_ok}
 use Rattle.bbm_descriptor.specs.Descriptor.{same_bool}
 use Rattle.bbm_range.specs.declared.BadRange.{BadRange}
-use Rattle.bbm_range.specs.declared.BadRange.TheVariants.{Granule, Unaligned}
 use Rattle.bbm_range.specs.declared.Range.{Range}
 use Rattle.bbm_range.specs.RangePages.{range_of}
-use Rattle.bbm_tlbi_scope.specs.Decode.{canonical, decoded, granule_known, hint_field, interval_field, page_scope}
-use Rattle.bbm_tlbi_scope.specs.Decode.{range_canonical, range_scope, scope_of, scope_over}
-use Rattle.bbm_tlbi_scope.specs.Operand.{hint_of}
+use Rattle.bbm_tlbi_scope.specs.Decode.{page_scope, range_scope, scope_of, scope_over}
 use Rattle.bbm_tlbi_scope.specs.Operations.{Operation, operation}
-use Rattle.bbm_tlbi_scope.specs.declared.op.TlbiOp.{TlbiOp}
-use Rattle.bbm_tlbi_scope.specs.declared.scope.BadOperand.TheVariants.{NonCanonical, TtlGranule}
-use Rattle.bbm_tlbi_scope.specs.declared.scope.Scope.{Scope}
-use Rattle.bbm_events.specs.Heading.{Heading}
-use Rattle.bbm_events.specs.declared.event.Event.{Event}
-use Rattle.bbm_events.specs.declared.event.Event.TheVariants.{Tlbi}
-use Rattle.bbm_rules.specs.Reach.{reaches}
-use Rattle.bbm_rules.specs.RegisterValues.{lacks_vmid, named_scope, vmid_of}
-use Rattle.bbm_rules.specs.Tags.{takes_tag}
-use Rattle.bbm_histories.specs.HistorySteps.{is_tlbi}
-use Rattle.bbm_roots.specs.RootChanges.{Issues}
+use Rattle.bbm_rules.specs.RegisterValues.{vmid_of}
 
 -- ---- the scope of a TLBI is broadcast where its operation is
 
 decoded-broadcast : (o : Operation) (xt : ℕ) (scope : Scope) → result_ok (page_scope o xt) ≡ Some scope → scope.broadcast ≡ o.broadcast
-decoded-broadcast o xt scope e = by (canonical o.family xt) (granule_known o.family xt) e
-  where
-    by : (c g : Bool) → result_ok (cond c (cond g (Ok (decoded o xt (interval_field o.family xt) (hint_field o.family xt))) (Err TtlGranule)) (Err NonCanonical)) ≡ Some scope
-        → scope.broadcast ≡ o.broadcast
-    by true true k =
-        let same : decoded o xt (interval_field o.family xt) (hint_field o.family xt) ≡ scope = cc in
-        ap (λ (s : Scope). s.broadcast) (sym same)
-    by true false k = cc
-    by false g k = cc
+decoded-broadcast o xt scope e = grind (arith)
 
 over-broadcast : (o : Operation) (xt : ℕ) (r : Result Range BadRange) (scope : Scope) → result_ok (scope_over o xt r) ≡ Some scope
     → scope.broadcast ≡ o.broadcast
-over-broadcast o xt (Ok range) scope k =
-    let same : decoded o xt (Some (record { lo = range.lo; hi = range.hi })) (hint_of range.level) ≡ scope = cc in
-    ap (λ (s : Scope). s.broadcast) (sym same)
-over-broadcast o xt (Err Granule) scope k = cc
-over-broadcast o xt (Err Unaligned) scope k = cc
+over-broadcast o xt r scope e = grind (arith)
 
 range-broadcast : (o : Operation) (xt : ℕ) (scope : Scope) → result_ok (range_scope o xt) ≡ Some scope → scope.broadcast ≡ o.broadcast
-range-broadcast o xt scope e = by (range_canonical o.family xt) e
-  where
-    by : (c : Bool) → result_ok (cond c (scope_over o xt (range_of xt)) (Err NonCanonical)) ≡ Some scope → scope.broadcast ≡ o.broadcast
-    by true k = over-broadcast o xt (range_of xt) scope k
-    by false k = cc
+range-broadcast o xt scope e = grind (arith, over-broadcast o xt (range_of xt) scope)
 
 scope-broadcast : (op : TlbiOp) (xt : ℕ) (scope : Scope) → result_ok (scope_of op xt) ≡ Some scope → scope.broadcast ≡ (operation op).broadcast
-scope-broadcast op xt scope e = by (operation op).range e
-  where
-    by : (c : Bool) → result_ok (cond c (range_scope (operation op) xt) (page_scope (operation op) xt)) ≡ Some scope → scope.broadcast ≡ (operation op).broadcast
-    by true k = range-broadcast (operation op) xt scope k
-    by false k = decoded-broadcast (operation op) xt scope k
+scope-broadcast op xt scope e =
+    grind (arith, range-broadcast (operation op) xt scope, decoded-broadcast (operation op) xt scope)
 
 pub named-broadcast : (heading : Heading) (h : List Event) (pe : ℕ) (op : TlbiOp) (xt : ℕ) (scope : Scope)
     → named_scope heading h pe op xt ≡ Some scope → scope.broadcast ≡ (operation op).broadcast
-named-broadcast heading h pe op xt scope e = by (lacks_vmid heading h pe op) e
-  where
-    by : (c : Bool) → cond c None (result_ok (scope_of op xt)) ≡ Some scope → scope.broadcast ≡ (operation op).broadcast
-    by true k = cc
-    by false k = scope-broadcast op xt scope k
+named-broadcast heading h pe op xt scope e = grind (arith, scope-broadcast op xt scope)
 
 -- ---- what it takes, and where
 
@@ -91,20 +55,9 @@ pub issue-is : (heading : Heading) (h : List Event) (pe : ℕ) (op : TlbiOp) (xt
     → (pe == q && (is_tlbi b (Tlbi pe op xt) && (reaches heading (Tlbi pe op xt) p && takes_tag heading (Tlbi pe op xt) h tag)))
     ≡ ((nat_eq q pe && same_flag scope.broadcast b && takes_whole_tag scope vmid tag) && (scope.broadcast || nat_eq p pe))
 issue-is heading h pe op xt scope vmid named q b tag p =
-    ap (λ (x : Bool). pe == q && (same_bool x b && ((x || (not heading.cnp && pe == p)) && takes_tag heading (Tlbi pe op xt) h tag)))
-    (sym (named-broadcast heading h pe op xt scope named.0))
-    ∙ ap (λ (x : Bool). pe == q && (same_bool scope.broadcast b && ((scope.broadcast || (not heading.cnp && pe == p)) && x)))
-    (takes-by heading h pe op xt tag scope named.0)
-    ∙ ap (λ (v : Option ℕ). pe == q && (same_bool scope.broadcast b && ((scope.broadcast || (not heading.cnp && pe == p)) && takes_whole_tag scope v tag)))
-    (sym named.1)
-    ∙ ap (λ (x : Bool). x && (same_bool scope.broadcast b && ((scope.broadcast || (not heading.cnp && pe == p)) && takes_whole_tag scope vmid tag)))
-    (same_swapped pe q)
-    ∙ ap (λ (x : Bool). q == pe && (same_bool scope.broadcast b && ((scope.broadcast || (not heading.cnp && x)) && takes_whole_tag scope vmid tag)))
-    (same_swapped pe p)
-    ∙ ap (λ (x : Bool). q == pe && (x && ((scope.broadcast || (not heading.cnp && p == pe)) && takes_whole_tag scope vmid tag)))
-    (sym (flag scope.broadcast b))
-    ∙ turn (q == pe) (same_flag scope.broadcast b) scope.broadcast (not heading.cnp) (p == pe) (takes_whole_tag scope vmid tag) named.2
+    rw (takes-by heading h pe op xt tag scope named.0, ← named-broadcast heading h pe op xt scope named.0)
+    (rw (← named.1, same_swapped pe q, same_swapped pe p, ← flag scope.broadcast b)
+    (turn (q == pe) (same_flag scope.broadcast b) scope.broadcast (not heading.cnp) (p == pe) (takes_whole_tag scope vmid tag) named.2))
   where
     turn : (a s x n d t : Bool) → (x || n) ≡ true → (a && (s && ((x || (n && d)) && t))) ≡ (((a && s) && t) && (x || d))
-    turn = proved 6 (λ a s x n d t. If (Is (x || n) true) (Is (a && (s && ((x || (n && d)) && t))) (((a && s) && t)
-        && (x || d)))) refl
+    turn a s x n d t = grind (arith)

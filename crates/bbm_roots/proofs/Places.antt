@@ -1,10 +1,9 @@
 -- The places of issuers, where their TLBIs wait.
 use Rattle.bbm_roots.proofs.Common.{◌≡◌, ℕ, zero, suc, ◌<◌, ◌≤◌, ◌++◌, Bool, true, false, ◌&&◌, nat_eq, List, [], ◌∷◌}
 use Rattle.bbm_roots.proofs.Common.{length, set, get_or, refl, sym, ◌∙◌, ◌+◌, ◌||◌, not, ap, arith, cond, Option, Some}
-use Rattle.bbm_roots.proofs.Common.{None, is_some, ⊎_elim, lookup, eqb-true, eq-eqb, cases_lt, false≢true, nat_tests}
-use Rattle.bbm_roots.proofs.Common.{eqb-suc-zero, eqb-zero-suc, eqb-suc-suc, IndexMap, get, index_map_len, Tag, tag_key}
-use Rattle.bbm_roots.proofs.Common.{slot_of, wait_at, wait_bit, wait_in, has_wait, same_flag, Waiting, and-true}
-use Rattle.bbm_roots.proofs.Common.{and-false, or-false}
+use Rattle.bbm_roots.proofs.Common.{None, is_some, lookup, eq-eqb, nat_tests, eqb-suc-zero, eqb-zero-suc, eqb-suc-suc}
+use Rattle.bbm_roots.proofs.Common.{IndexMap, get, index_map_len, Tag, tag_key, slot_of, wait_at, wait_bit, wait_in}
+use Rattle.bbm_roots.proofs.Common.{has_wait, same_flag, Waiting}
 use Rattle.indexmap.specs.IndexMap.{Updates}
 
 none-among : (key : ℕ) (es : List (ℕ × Waiting)) → length es ≡ 0 → lookup (nat_eq key) es ≡ None
@@ -14,12 +13,7 @@ none-among key (x ∷ xs) e = absurd (omega (arith, e))
 lookup-last : (test : ℕ → Bool) (es : List (ℕ × Waiting)) (e : ℕ × Waiting) → lookup test es ≡ None → test e.0 ≡ true →
     lookup test (es ++ e ∷ []) ≡ Some e.1
 lookup-last test [] e none hit = ap (λ (b : Bool). cond b (Some e.1) None) hit
-lookup-last test (x ∷ xs) e none hit = by_case (test x.0) (lookup-last test xs e) none
-  where
-    by_case : (b : Bool) → (lookup test xs ≡ None → test e.0 ≡ true → lookup test (xs ++ e ∷ []) ≡ Some e.1) →
-        cond b (Some x.1) (lookup test xs) ≡ None → cond b (Some x.1) (lookup test (xs ++ e ∷ [])) ≡ Some e.1
-    by_case true rest none = absurd (cc)
-    by_case false rest none = rest none hit
+lookup-last test (x ∷ xs) e none hit = grind (arith, lookup-last test xs e)
 
 module _ {S : Type 0} where
   -- the entry under a key in a place that is there
@@ -75,11 +69,7 @@ module _ {S : Type 0} where
 
   pub at-outside : (ms : List (IndexMap ℕ Waiting S)) (i : ℕ) → length ms ≤ i → (n key : ℕ) →
       wait_at ms n key ≡ cond (nat_eq n i) None (wait_at ms n key)
-  at-outside ms i past n key = by_case (nat_eq n i) refl
-    where
-      by_case : (b : Bool) → nat_eq n i ≡ b → wait_at ms n key ≡ cond b None (wait_at ms n key)
-      by_case false e = refl
-      by_case true e = let at : n ≡ i = eqb-true n i e in at-past ms n key (omega arith)
+  at-outside ms i past n key = grind (arith, nat_tests, at-past)
 
   pub none-in : (m : IndexMap ℕ Waiting S) → index_map_len m ≡ 0 → (key : ℕ) → get nat_eq m key ≡ None
   none-in m e key = none-among key m.entries e
@@ -91,53 +81,24 @@ module _ {S : Type 0} where
       ((n : ℕ) → n < i → wait_bit g p (wait_at now n (tag_key g)) ≡ (wait_bit g p (wait_at old n (tag_key g)) && c)) →
       (n : ℕ) → n < i + 1 →
       wait_bit g p (wait_at (set now i y) n (tag_key g)) ≡ (wait_bit g p (wait_at old n (tag_key g)) && c)
-  at-next g p c now old i d y h same here front n lt =
-      ap (wait_bit g p) (at-set now i y n (tag_key g) h) ∙ by_case (nat_eq n i) refl
-    where
-      by_case : (b : Bool) → nat_eq n i ≡ b →
-          wait_bit g p (cond b (get nat_eq y (tag_key g)) (wait_at now n (tag_key g)))
-          ≡ (wait_bit g p (wait_at old n (tag_key g)) && c)
-      by_case true e =
-          let at : n ≡ i = eqb-true n i e in
-          here
-          ∙ ap (λ (o : Option Waiting). wait_bit g p o && c) (sym (at-get_or now i (tag_key g) d h) ∙ same)
-          ∙ ap (λ (k : ℕ). wait_bit g p (wait_at old k (tag_key g)) && c) (sym at)
-      by_case false e =
-          ⊎_elim (λ (less : n < i). front n less)
-          (λ (past : i ≤ n). let at : n ≡ i = omega arith in absurd (false≢true (sym e ∙ eq-eqb n i at)))
-          (cases_lt n i)
+  at-next g p c now old i d y h same here front n lt = grind (arith, nat_tests, at-set, at-get_or)
 
   pub at-behind : (now : List (IndexMap ℕ Waiting S)) (i : ℕ) (y : IndexMap ℕ Waiting S) → i < length now →
       (n key : ℕ) → i + 1 ≤ n →
       wait_at (set now i y) n key ≡ wait_at now n key
-  at-behind now i y h n key le =
-      at-set now i y n key h
-      ∙ ap (λ (b : Bool). cond b (get nat_eq y key) (wait_at now n key)) (apart (nat_eq n i) refl)
-    where
-      apart : (b : Bool) → nat_eq n i ≡ b → nat_eq n i ≡ false
-      apart false e = e
-      apart true e = let at : n ≡ i = eqb-true n i e in absurd (omega arith)
+  at-behind now i y h n key le = grind (arith, nat_tests, at-set)
 
   -- one place changed, where the entries of a tag at a PE stay
   pub at-kept : (ms : List (IndexMap ℕ Waiting S)) (i : ℕ) (m new : IndexMap ℕ Waiting S) → i < length ms →
       m ≡ get_or ms i m →
       ((g : Tag) (p : ℕ) → wait_in new g p ≡ wait_in m g p) → (n : ℕ) (g : Tag) (p : ℕ) →
       wait_bit g p (wait_at (set ms i new) n (tag_key g)) ≡ wait_bit g p (wait_at ms n (tag_key g))
-  at-kept ms i m new h is same n g p = ap (wait_bit g p) (at-set ms i new n (tag_key g) h) ∙ by_case (nat_eq n i) refl
-    where
-      by_case : (b : Bool) → nat_eq n i ≡ b →
-          wait_bit g p (cond b (get nat_eq new (tag_key g)) (wait_at ms n (tag_key g)))
-          ≡ wait_bit g p (wait_at ms n (tag_key g))
-      by_case false e = refl
-      by_case true e =
-          same g p ∙ ap (wait_bit g p) (sym (at-place ms i m h is (tag_key g)))
-          ∙ ap (λ (k : ℕ). wait_bit g p (wait_at ms k (tag_key g))) (sym (eqb-true n i e))
+  at-kept ms i m new h is same n g p = grind (arith, nat_tests, at-set, at-place, same)
 
   -- the place that was just written
   pub at-here : (ms : List (IndexMap ℕ Waiting S)) (i : ℕ) (new : IndexMap ℕ Waiting S) → i < length ms → (key : ℕ) →
       wait_at (set ms i new) i key ≡ get nat_eq new key
-  at-here ms i new h key =
-      at-set ms i new i key h ∙ ap (λ (b : Bool). cond b (get nat_eq new key) (wait_at ms i key)) (eq-eqb i i refl)
+  at-here ms i new h key = grind (arith, nat_tests, at-set)
 
   -- one place changed, where the entry of a tag gets a PE if z holds
   pub at-noted : (ms : List (IndexMap ℕ Waiting S)) (i : ℕ) (m new : IndexMap ℕ Waiting S) → i < length ms →
@@ -145,39 +106,13 @@ module _ {S : Type 0} where
       (g : Tag) (p : ℕ) (z : Bool) → wait_in new g p ≡ (wait_in m g p || (has_wait m g && z)) → (n : ℕ) →
       wait_bit g p (wait_at (set ms i new) n (tag_key g))
       ≡ (wait_bit g p (wait_at ms n (tag_key g)) || (is_some (wait_at ms n (tag_key g)) && (nat_eq n i && z)))
-  at-noted ms i m new h is g p z noted n = ap (wait_bit g p) (at-set ms i new n (tag_key g) h)
-      ∙ by_case (nat_eq n i) refl
-    where
-      by_case : (b : Bool) → nat_eq n i ≡ b →
-          wait_bit g p (cond b (get nat_eq new (tag_key g)) (wait_at ms n (tag_key g)))
-          ≡ (wait_bit g p (wait_at ms n (tag_key g)) || (is_some (wait_at ms n (tag_key g)) && (b && z)))
-      by_case false e =
-          sym (or-false (wait_bit g p (wait_at ms n (tag_key g))))
-          ∙ ap (λ (b : Bool). wait_bit g p (wait_at ms n (tag_key g))
-          || b) (sym (and-false (is_some (wait_at ms n (tag_key g)))))
-      by_case true e =
-          noted
-          ∙ ap (λ (o : Option Waiting). wait_bit g p o || (is_some o && z)) (sym (at-place ms i m h is (tag_key g)))
-          ∙ ap (λ (k : ℕ). wait_bit g p (wait_at ms k (tag_key g))
-          || (is_some (wait_at ms k (tag_key g)) && z)) (sym (eqb-true n i e))
+  at-noted ms i m new h is g p z noted n = grind (arith, nat_tests, at-set, at-place)
 
   -- where the place isn't there, there is no entry
   pub at-unnoted : (ms : List (IndexMap ℕ Waiting S)) (i : ℕ) → length ms ≤ i → (g : Tag) (p : ℕ) (z : Bool) (n : ℕ) →
       wait_bit g p (wait_at ms n (tag_key g))
       ≡ (wait_bit g p (wait_at ms n (tag_key g)) || (is_some (wait_at ms n (tag_key g)) && (nat_eq n i && z)))
-  at-unnoted ms i past g p z n = by_case (nat_eq n i) refl
-    where
-      by_case : (b : Bool) → nat_eq n i ≡ b →
-          wait_bit g p (wait_at ms n (tag_key g))
-          ≡ (wait_bit g p (wait_at ms n (tag_key g)) || (is_some (wait_at ms n (tag_key g)) && (b && z)))
-      by_case false e =
-          sym (or-false (wait_bit g p (wait_at ms n (tag_key g))))
-          ∙ ap (λ (b : Bool). wait_bit g p (wait_at ms n (tag_key g))
-          || b) (sym (and-false (is_some (wait_at ms n (tag_key g)))))
-      by_case true e =
-          let at : n ≡ i = eqb-true n i e in
-          let none : wait_at ms n (tag_key g) ≡ None = at-past ms n (tag_key g) (omega arith) in
-          ap (wait_bit g p) none ∙ ap (λ (o : Option Waiting). wait_bit g p o || (is_some o && z)) (sym none)
+  at-unnoted ms i past g p z n = grind (arith, nat_tests, at-past)
 
   -- an entry taken out at the end
   pub popped-step : (old new : IndexMap ℕ Waiting S) (key : ℕ) (w : Waiting) →
@@ -185,33 +120,13 @@ module _ {S : Type 0} where
       Updates nat_eq old new key None → (g : Tag) (p : ℕ) (h : Bool) →
       ((h && not (nat_eq (tag_key g) key && wait_bit g p (Some w))) && not (wait_in new g p))
       ≡ (h && not (wait_in old g p))
-  popped-step old new key w is updates g p h = by_case (nat_eq (tag_key g) key) refl
-    where
-      gone : get nat_eq new key ≡ None
-      gone = updates.1
-
-      was : get nat_eq old key ≡ Some w
-      was =
-          ap (λ (es : List (ℕ × Waiting)). lookup (nat_eq key) es) is
-          ∙ lookup-last (nat_eq key) new.entries (key, w) gone (eq-eqb key key refl)
-
-      by_case : (b : Bool) → nat_eq (tag_key g) key ≡ b →
-          ((h && not (b && wait_bit g p (Some w))) && not (wait_in new g p)) ≡ (h && not (wait_in old g p))
-      by_case true e =
-          let at : tag_key g ≡ key = eqb-true (tag_key g) key e in
-          ap (λ (k : ℕ). (h && not (wait_bit g p (Some w))) && not (wait_bit g p (get nat_eq new k))) at
-          ∙ ap (λ (o : Option Waiting). (h && not (wait_bit g p (Some w))) && not (wait_bit g p o)) gone
-          ∙ and-true (h && not (wait_bit g p (Some w)))
-          ∙ ap (λ (o : Option Waiting). h && not (wait_bit g p o)) (sym was)
-          ∙ ap (λ (k : ℕ). h && not (wait_bit g p (get nat_eq old k))) (sym at)
-      by_case false e =
-          ap (λ (b : Bool). b && not (wait_in new g p)) (and-true h)
-          ∙ ap (λ (o : Option Waiting). h
-          && not (wait_bit g p o)) (updates.2 (tag_key g) (apart (nat_eq key (tag_key g)) refl))
-        where
-          apart : (b : Bool) → nat_eq key (tag_key g) ≡ b → nat_eq key (tag_key g) ≡ false
-          apart false k = k
-          apart true k = absurd (false≢true (sym e ∙ eq-eqb (tag_key g) key (sym (eqb-true key (tag_key g) k))))
+  popped-step old new key w is updates g p h =
+      let gone : get nat_eq new key ≡ None = updates.1 in
+      let was : get nat_eq old key ≡ Some w =
+      ap (λ (es : List (ℕ × Waiting)). lookup (nat_eq key) es) is
+      ∙ lookup-last (nat_eq key) new.entries (key, w) gone (eq-eqb key key refl) in
+      let others = updates.2 in
+      grind (arith, nat_tests, others)
 
 -- each issuer has two places of its own
 pub slots : (q : ℕ) (b : Bool) (r : ℕ) (c : Bool) → nat_eq (slot_of q b) (slot_of r c) ≡ (nat_eq q r && same_flag c b)

@@ -1,26 +1,15 @@
 -- The readable tags of a history are those of what its readable register values name.
-use Rattle.bbm_roots.proofs.Common.{◌≡◌, ℕ, ◌<◌, ◌≤◌, ⊎_elim, cases_lt, Bool, true, false, not, ◌&&◌, ◌||◌, ◌==◌}
-use Rattle.bbm_roots.proofs.Common.{List, [], ◌∷◌, ◌++◌}
-use Rattle.bbm_roots.proofs.Common.{take, Option, Some, None, refl, sym, ap, ◌∙◌, list_any, flat_map, eqb-true, eq-eqb}
-use Rattle.bbm_roots.proofs.Common.{proved, If, Is, AsidFrom, Kind, El2, S2, Ttbr0, Ttbr1, Reg, Ttbr0El2}
-use Rattle.bbm_roots.proofs.Common.{VttbrEl2, Ttbr0El1, Ttbr1El1, Tag, Vmid, Asid, World, Hyp, Kernel, asid_readings}
-use Rattle.bbm_roots.proofs.Common.{readings_of, readings_with, own_reading, reading_at, reading_under, has_reading}
-use Rattle.bbm_roots.proofs.Common.{has_tag, has_other, same_tag, first_reg, second_reg, newest, kind_of_reg, RootValue}
-use Rattle.bbm_roots.proofs.Common.{Reading}
-use Rattle.std.proofs.Common.{map}
+use Rattle.bbm_roots.proofs.Common.{◌≡◌, ℕ, ◌<◌, ◌≤◌, ⊎_elim, cases_lt, Bool, true, ◌||◌, ◌==◌, List, [], ◌∷◌, arith}
+use Rattle.bbm_roots.proofs.Common.{map, option_and_then, base_of, tag_number, FromTtbr0, FromTtbr1, El2Tag, Ttbr1Tag}
+use Rattle.bbm_roots.proofs.Common.{Heading, Event, register_values, is_root, BasesStay, load_in, loads_after, root_in}
+use Rattle.bbm_roots.proofs.Common.{or_right, ◌++◌, take, Option, Some, None, refl, sym, ap, ◌∙◌, flat_map, eq-eqb}
+use Rattle.bbm_roots.proofs.Common.{AsidFrom, Kind, El2, S2, Ttbr0, Ttbr1, Reg, Ttbr0El2, VttbrEl2, Ttbr0El1, Ttbr1El1}
+use Rattle.bbm_roots.proofs.Common.{Tag, Vmid, Asid, World, Hyp, Kernel, asid_readings, readings_of, readings_with}
+use Rattle.bbm_roots.proofs.Common.{own_reading, reading_at, reading_under, has_reading, has_tag, first_reg, second_reg}
+use Rattle.bbm_roots.proofs.Common.{newest, kind_of_reg, RootValue, Reading}
 use Rattle.std.specs.List.{cons_option, filter_map}
-use Rattle.std.specs.Option.{option_and_then}
-use Rattle.bbm_regimes.specs.Registers.{base_of, tag_number}
-use Rattle.bbm_regimes.specs.declared.regime.AsidFrom.TheVariants.{Ttbr0 as FromTtbr0, Ttbr1 as FromTtbr1}
-use Rattle.bbm_regimes.specs.declared.regime.Tag.TheVariants.{El2 as El2Tag, Ttbr1 as Ttbr1Tag}
 use Rattle.bbm_lemmas.specs.ListWords.{among, if_so}
-use Rattle.bbm_events.specs.Heading.{Heading}
-use Rattle.bbm_events.specs.declared.event.Event.{Event}
-use Rattle.bbm_rules.specs.RegisterValues.{register_values}
-use Rattle.bbm_rules.specs.Roots.{is_root}
 use Rattle.bbm_rules.specs.Tags as tags
-use Rattle.bbm_histories.specs.TagSteps.{BasesStay}
-use Rattle.bbm_roots.specs.RootRegisters.{load_in, loads_after, root_in}
 
 -- ---- values
 
@@ -31,9 +20,9 @@ newest-map f (v ∷ vs) = refl
 map-same : (f g : ℕ → RootValue) (vs : List ℕ) → ((v : ℕ) → among v vs ≡ true → f v ≡ g v) → map f vs ≡ map g vs
 map-same f g [] k = refl
 map-same f g (v ∷ vs) k =
-    ap (λ (x : RootValue). x ∷ map f vs) (k v (ap (λ (b : Bool). b || among v vs) (eq-eqb v v refl)))
-    ∙ ap (λ (xs : List RootValue). g v ∷ xs) (map-same f g vs (λ w e. k w (proved 2 (λ a b. If (Is b true) (Is (a || b)
-    true)) refl (v == w) (among w vs) e)))
+    let here = k v (ap (λ (b : Bool). b || among v vs) (eq-eqb v v refl)) in
+    let rest = map-same f g vs (λ w e. k w (or_right (v == w) (among w vs) e)) in
+    cc
 
 pub load-root : (n : ℕ) (r s : Option ℕ) → r ≡ s
     → let a : RootValue = record { number = n; root = r } in let b : RootValue = record { number = n; root = s } in a ≡ b
@@ -57,8 +46,7 @@ pub loads-past : (heading : Heading) (h : List Event) (e : Event) → BasesStay 
     → map (load_in (e ∷ h) reg) (register_values h p reg) ≡ loads_after h p reg
 loads-past heading h e stay outside p reg =
     ⊎_elim (λ (less : p < heading.pes). loads-stay heading h e stay p reg less)
-    (λ (past : heading.pes ≤ p). ap (map (load_in (e ∷ h) reg)) (outside p reg past)
-    ∙ sym (ap (map (load_in h reg)) (outside p reg past))) (cases_lt p heading.pes)
+    (λ (past : heading.pes ≤ p). rw (outside p reg past) refl) (cases_lt p heading.pes)
 
 -- ---- readable tags
 
@@ -66,29 +54,23 @@ one-reading : (tag : Tag) (h : List Event) (kind : Kind) (base : Option ℕ) (re
     → reading_at tag (root_in h kind base) ++ rest
     ≡ cons_option (option_and_then (λ b. if_so (is_root h kind b) (record { tag = tag; root = b })) base) rest
 one-reading tag h kind None rest = refl
-one-reading tag h kind (Some b) rest = by (is_root h kind b)
-  where
-    by : (c : Bool) → reading_at tag (if_so c b) ++ rest ≡ cons_option (if_so c (record { tag = tag; root = b })) rest
-    by true = refl
-    by false = refl
+one-reading tag h kind (Some b) rest = grind (arith)
 
 own-same : (h : List Event) (reg : Reg) (tag : ℕ → Tag) (f : RootValue → List Reading)
     → ((v : ℕ) → f (load_in h reg v) ≡ reading_at (tag v) (root_in h (kind_of_reg reg) (base_of v))) → (vs : List ℕ)
     → flat_map f (map (load_in h reg) vs) ≡ filter_map (tags.reading_of h reg tag) vs
 own-same h reg tag f k [] = refl
 own-same h reg tag f k (v ∷ vs) =
-    ap (λ (xs : List Reading). xs ++ flat_map f (map (load_in h reg) vs)) (k v)
-    ∙ (ap (λ (xs : List Reading). reading_at (tag v) (root_in h (kind_of_reg reg) (base_of v)) ++ xs) (own-same h reg tag f k vs)
-    ∙ one-reading (tag v) h (kind_of_reg reg) (base_of v) (filter_map (tags.reading_of h reg tag) vs))
+    rw (k v, own-same h reg tag f k vs)
+    (one-reading (tag v) h (kind_of_reg reg) (base_of v) (filter_map (tags.reading_of h reg tag) vs))
 
 under-same : (h : List Event) (vs ws : List ℕ)
     → flat_map (readings_with (map (load_in h Ttbr0El1) vs)) (map (load_in h Ttbr1El1) ws)
     ≡ flat_map (λ from. filter_map (tags.reading_of h Ttbr0El1 (λ value. Asid (tag_number from))) vs) ws
 under-same h vs [] = refl
 under-same h vs (w ∷ ws) =
-    ap (λ (xs : List Reading). xs ++ flat_map (readings_with (map (load_in h Ttbr0El1) vs)) (map (load_in h Ttbr1El1) ws))
-    (own-same h Ttbr0El1 (λ value. Asid (tag_number w)) (reading_under (Asid (tag_number w))) (λ v. refl) vs)
-    ∙ ap (λ (xs : List Reading). filter_map (tags.reading_of h Ttbr0El1 (λ value. Asid (tag_number w))) vs ++ xs) (under-same h vs ws)
+    rw (own-same h Ttbr0El1 (λ value. Asid (tag_number w)) (reading_under (Asid (tag_number w))) (λ v. refl) vs)
+    (rw (under-same h vs ws) refl)
 
 asid-same : (from : AsidFrom) (h : List Event) (p : ℕ)
     → asid_readings from (loads_after h p Ttbr0El1) (loads_after h p Ttbr1El1) ≡ tags.asid_readings from h p
@@ -99,15 +81,11 @@ asid-same FromTtbr1 h p = under-same h (register_values h p Ttbr0El1) (register_
 pub readings-same : (world : World) (h : List Event) (p : ℕ)
     → readings_of world (loads_after h p (first_reg world)) (loads_after h p (second_reg world)) ≡ tags.readings_in world h p
 readings-same (Hyp world) h p =
-    ap (λ (xs : List Reading). xs ++ flat_map (own_reading S2) (loads_after h p VttbrEl2))
-    (own-same h Ttbr0El2 (λ value. El2Tag) (own_reading El2) (λ v. refl) (register_values h p Ttbr0El2))
-    ∙ ap (λ (xs : List Reading). tags.readings_of h p Ttbr0El2 (λ value. El2Tag) ++ xs)
-    (own-same h VttbrEl2 (λ value. Vmid (tag_number value)) (own_reading S2) (λ v. refl) (register_values h p VttbrEl2))
+    rw (own-same h Ttbr0El2 (λ value. El2Tag) (own_reading El2) (λ v. refl) (register_values h p Ttbr0El2))
+    (rw (own-same h VttbrEl2 (λ v. Vmid (tag_number v)) (own_reading S2) (λ v. refl) (register_values h p VttbrEl2)) refl)
 readings-same (Kernel world) h p =
-    ap (λ (xs : List Reading). xs ++ flat_map (own_reading Ttbr1) (loads_after h p Ttbr1El1))
-    (asid-same world.asid_from h p)
-    ∙ ap (λ (xs : List Reading). tags.asid_readings world.asid_from h p ++ xs)
-    (own-same h Ttbr1El1 (λ value. Ttbr1Tag) (own_reading Ttbr1) (λ v. refl) (register_values h p Ttbr1El1))
+    rw (asid-same world.asid_from h p)
+    (rw (own-same h Ttbr1El1 (λ value. Ttbr1Tag) (own_reading Ttbr1) (λ v. refl) (register_values h p Ttbr1El1)) refl)
 
 -- an event that leaves what the values of a PE name
 module _ (heading : Heading) (h : List Event) (e : Event) (p : ℕ)
@@ -115,12 +93,7 @@ module _ (heading : Heading) (h : List Event) (e : Event) (p : ℕ)
     (second : loads_after (e ∷ h) p (second_reg heading.world) ≡ loads_after h p (second_reg heading.world)) where
   pub readings-stay : tags.readings heading (e ∷ h) p ≡ tags.readings heading h p
   readings-stay =
-      sym (readings-same heading.world (e ∷ h) p)
-      ∙ ap (λ (xs : List RootValue). readings_of heading.world xs (loads_after (e ∷ h) p (second_reg heading.world)))
-      first
-      ∙ ap (λ (ys : List RootValue). readings_of heading.world (loads_after h p (first_reg heading.world)) ys)
-      second
-      ∙ readings-same heading.world h p
+      sym (readings-same heading.world (e ∷ h) p) ∙ rw (first, second) (readings-same heading.world h p)
 
   pub reads-stay : (g : Tag) (r : ℕ) → tags.reads heading (e ∷ h) p g r ≡ tags.reads heading h p g r
   reads-stay g r = ap (has_reading g r) readings-stay

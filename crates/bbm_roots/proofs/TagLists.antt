@@ -1,26 +1,22 @@
 -- The tags that a root may hold, looked at one after another.
-use Rattle.bbm_roots.proofs.Common.{pe_found}
-use Rattle.bbm_roots.proofs.Common.{◌≡◌, ◌+◌, ◌<◌, ℕ, Bool, true, false, ◌&&◌, ◌||◌, nat_eq, List, [], ◌∷◌, Some}
-use Rattle.bbm_roots.proofs.Common.{is_some}
-use Rattle.bbm_roots.proofs.Common.{cond, refl, sym, ◌∙◌, ap, take, length, list_any, lookup, false≢true, eqb-true}
-use Rattle.bbm_roots.proofs.Common.{and-false, IndexMap, Option, get, Tag, entry_held, hold_in, tag_in, tag_key, Held}
-use Rattle.std.specs.List.{slice_get}
-use Rattle.std.proofs.lemmas.Option.{get_or_from_slice_get}
-use Rattle.bbm_roots.specs.TagsByRoot.{has_key, AreListed}
+use Rattle.bbm_roots.proofs.Common.{pe_found, ◌≡◌, ◌+◌, ◌<◌, ℕ, Bool, true, ◌&&◌, ◌||◌, nat_eq, List, [], ◌∷◌, arith}
+use Rattle.bbm_roots.proofs.Common.{slice_get, get_or_from_slice_get, AreListed, any_both, nat_tests, Some, is_some}
+use Rattle.bbm_roots.proofs.Common.{refl, sym, ◌∙◌, ap, take, length, list_any, lookup, IndexMap, Option, get, Tag}
+use Rattle.bbm_roots.proofs.Common.{entry_held, hold_in, tag_in, tag_key, Held}
+use Rattle.bbm_roots.specs.TagsByRoot.{has_key}
 use Rattle.bbm_roots.proofs.Conflicts.{tag_in-is}
-use Rattle.bbm_roots.proofs.Lists.{any-next}
+use Rattle.bbm_roots.proofs.Tests.{any-next}
+
+some-lookup : {V : Type 0} (test : ℕ → Bool) (es : List (ℕ × V)) →
+    is_some (lookup test es) ≡ list_any (λ (e : ℕ × V). test e.0) es
+some-lookup test [] = refl
+some-lookup test (e ∷ es) = grind (arith, some-lookup test es)
 
 module _ {S : Type 0} (hs : IndexMap ℕ Held S) (n root : ℕ) where
   -- what is found under a key shows
   pub keyed : (g : Tag) (key : ℕ) (o : Option Held) → get nat_eq hs key ≡ o →
       (nat_eq (tag_key g) key && tag_in hs n g root) ≡ (nat_eq (tag_key g) key && entry_held n g root o)
-  keyed g key o is = by_key (nat_eq (tag_key g) key) refl
-    where
-      by_key : (b : Bool) → nat_eq (tag_key g) key ≡ b → (b && tag_in hs n g root) ≡ (b && entry_held n g root o)
-      by_key false e = refl
-      by_key true e =
-          ap (λ (k : ℕ). entry_held n g root (get nat_eq hs k)) (eqb-true (tag_key g) key e)
-          ∙ ap (entry_held n g root) is
+  keyed g key o is = grind (arith, nat_tests)
 
   -- what the root holds is among what it may hold
   pub held-listed : {V T R : Type 0} (by_root : IndexMap ℕ (IndexMap ℕ V T) R) (o : Option (IndexMap ℕ V T)) →
@@ -44,28 +40,7 @@ module _ {S : Type 0} (hs : IndexMap ℕ Held S) (n root : ℕ) where
     pub all-shown : (g : Tag) (es : List (ℕ × V)) →
         (tag_in hs n g root ≡ true → is_some (lookup (nat_eq (tag_key g)) es) ≡ true) →
         tag_in hs n g root ≡ list_any (shows_tag g) es
-    all-shown g es among = by_held (tag_in hs n g root) among
-      where
-        here : (xs : List (ℕ × V)) → is_some (lookup (nat_eq (tag_key g)) xs) ≡ true →
-            list_any (λ (e : ℕ × V). nat_eq (tag_key g) e.0 && true) xs ≡ true
-        here [] e = absurd (false≢true e)
-        here (x ∷ xs) e = by_key (nat_eq (tag_key g) x.0) (here xs) e
-          where
-            by_key : (b : Bool) → (is_some (lookup (nat_eq (tag_key g)) xs) ≡ true →
-                list_any (λ (e : ℕ × V). nat_eq (tag_key g) e.0 && true) xs ≡ true) →
-                is_some (cond b (Some x.1) (lookup (nat_eq (tag_key g)) xs)) ≡ true →
-                ((b && true) || list_any (λ (e : ℕ × V). nat_eq (tag_key g) e.0 && true) xs) ≡ true
-            by_key true rest e = refl
-            by_key false rest e = rest e
-
-        nowhere : (xs : List (ℕ × V)) → list_any (λ (e : ℕ × V). nat_eq (tag_key g) e.0 && false) xs ≡ false
-        nowhere [] = refl
-        nowhere (x ∷ xs) =
-            ap (λ (b : Bool). b || list_any (λ (e : ℕ × V). nat_eq (tag_key g) e.0 && false) xs)
-            (and-false (nat_eq (tag_key g) x.0))
-            ∙ nowhere xs
-
-        by_held : (b : Bool) → (b ≡ true → is_some (lookup (nat_eq (tag_key g)) es) ≡ true) →
-            b ≡ list_any (λ (e : ℕ × V). nat_eq (tag_key g) e.0 && b) es
-        by_held true there = sym (here es (there refl))
-        by_held false there = sym (nowhere es)
+    all-shown g es among =
+        let found = some-lookup (nat_eq (tag_key g)) es in
+        let both = any_both (λ (e : ℕ × V). nat_eq (tag_key g) e.0) (tag_in hs n g root) es in
+        grind (arith)

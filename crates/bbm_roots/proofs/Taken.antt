@@ -1,94 +1,154 @@
--- Roots after a register write that is taken stand for the history with the write.
-use Rattle.bbm_roots.proofs.Common.{same_swapped}
-use Rattle.bbm_roots.proofs.Common.{◌≡◌, ◌<◌, ◌≤◌, ◌∙◌, ap, sym, Bool, ◌&&◌, ◌||◌, not, nat_eq, List, ◌∷◌, true}
-use Rattle.bbm_roots.proofs.Common.{false, cond, ℕ, arith, Reg, Tag, World, loads_in, Marks, pending_in, has_reading}
-use Rattle.bbm_roots.proofs.Common.{readings_of, first_reg, second_reg, is_first, same_reg, kind_of_reg, Writes, Stands}
-use Rattle.bbm_roots.proofs.Common.{world_of, pes_of, RootValue, Reading, Roots}
-use Rattle.std.proofs.Common.{◌≢◌}
-use Rattle.std.proofs.lemmas.Bool.{ne_eqb}
-use Rattle.bbm_regimes.specs.World.{kind_in_world}
-use Rattle.bbm_events.specs.Heading.{Heading}
-use Rattle.bbm_events.specs.declared.event.Event.{Event}
-use Rattle.bbm_events.specs.declared.event.Event.TheVariants.{Msr}
-use Rattle.bbm_rules.specs.Claims.{Patterns}
-use Rattle.bbm_rules.specs.RegisterValues.{register_values}
-use Rattle.bbm_rules.specs.Tags.{holds_at, readings}
-use Rattle.bbm_roots.specs.RootRegisters.{load_in, loads_after}
+-- A register write: roots after one that is taken stand for the history with it, and it is judged as the history says.
+use Rattle.bbm_roots.proofs.Common.{reg_equal, same_swapped, ◌≡◌, ℕ, Bool, true, false, ◌&&◌, not, nat_eq, List, arith}
+use Rattle.bbm_roots.proofs.Common.{base_of, tag_number, kind_in_world, Heading, Event, Msr, readings, NullNamesNone}
+use Rattle.bbm_roots.proofs.Common.{load_in, loads_after, root_in, ◌∷◌, refl, sym, ◌∙◌, ap, cond, Option, None}
+use Rattle.bbm_roots.proofs.Common.{false≢true, eqb-true, Reg, Ttbr0El2, VttbrEl2, Ttbr0El1, Ttbr1El1, World, Hyp}
+use Rattle.bbm_roots.proofs.Common.{Kernel, readings_of, first_reg, second_reg, is_first, same_reg, kind_of_reg}
+use Rattle.bbm_roots.proofs.Common.{root_of, missing_root, RootValue, ◌<◌, ◌≤◌, ◌||◌, Result, register_values}
+use Rattle.bbm_roots.proofs.Common.{TakesWhere, loads_in, Marks, pending_in, has_reading, Writes, Stands, world_of}
+use Rattle.bbm_roots.proofs.Common.{pes_of, Reading, Roots, length, subst, fun_ext, conflict_in, conflicts}
+use Rattle.bbm_roots.proofs.Common.{readings_after, nat_tests}
+use Rattle.bbm_roots.proofs.Readable.{readings-same, readings-stay}
 use Rattle.bbm_roots.proofs.Steps.{holds-written, waits-written}
-use Rattle.bbm_roots.proofs.Written.{elsewhere, loads-written, of_world_is, right-here}
+use Rattle.bbm_roots.specs.Refusals.{JudgesWrite}
+use Rattle.bbm_roots.specs.declared.fault.RootFault.{RootFault}
+use Rattle.bbm_roots.proofs.Conflicts.{conflict-is}
+use Rattle.bbm_roots.proofs.Numbers.{length-loads}
+use Rattle.bbm_roots.specs.LoadsOf.{loads_of}
+use Rattle.bbm_roots.proofs.Changes.{room-same}
 
--- what is readable at the PE after the write
-pub seen-here : (old : Roots) (heading : Heading) (h : List Event) (pe : ℕ) (reg : Reg) (value : ℕ) (load : RootValue)
-    (seen : List Reading) → Stands old heading h → pe < pes_of old → kind_in_world (world_of old) (kind_of_reg reg) ≡ true →
-    load ≡ load_in h reg value →
-    seen ≡ readings_of (world_of old)
-    (cond (is_first reg) (load ∷ loads_in old.registers.first.items pe) (loads_in old.registers.first.items pe))
-    (cond (is_first reg) (loads_in old.registers.second.items pe) (load ∷ loads_in old.registers.second.items pe)) →
-    (p : ℕ) → nat_eq p pe ≡ true → readings heading (Msr pe reg value ∷ h) p ≡ seen
-seen-here old heading h pe reg value load seen stands known of_world is_load is_seen p at =
-    let less : pe < heading.pes = let n = stands.pes in omega (arith, known) in
-    right-here heading h pe reg value p load (loads_in old.registers.first.items pe) (loads_in old.registers.second.items pe)
-    (ap (λ (w : World). kind_in_world w (kind_of_reg reg)) (sym stands.world) ∙ of_world) is_load
-    (stands.first pe less) (stands.second pe less) at
-    ∙ ap (λ (w : World). readings_of w
-    (cond (is_first reg) (load ∷ loads_in old.registers.first.items pe) (loads_in old.registers.first.items pe))
-    (cond (is_first reg) (loads_in old.registers.second.items pe) (load ∷ loads_in old.registers.second.items pe)))
-    (sym stands.world)
-    ∙ sym is_seen
+-- what a value names, by its parts, where its root isn't missing
+pub load-is : (h : List Event) (number : ℕ) (root : Option ℕ) (reg : Reg) (value : ℕ) (null : Bool) → number ≡ tag_number value →
+    root ≡ root_of reg value null → missing_root h reg value null ≡ None → NullNamesNone h reg value null →
+    let load : RootValue = record { number = number; root = root } in load ≡ load_in h reg value
+load-is h number root reg value null same_number same_root there none =
+    let same : root_of reg value null ≡ root_in h (kind_of_reg reg) (base_of value) = grind (arith) in
+    rw (same_number, same_root, same) refl
 
-pub stands-taken : (old new : Roots) (heading : Heading) (h : List Event) (pe : ℕ) (reg : Reg) (value : ℕ) (load : RootValue)
-    (seen : List Reading) → Stands old heading h → pe < pes_of old → kind_in_world (world_of old) (kind_of_reg reg) ≡ true →
-    load ≡ load_in h reg value →
-    seen ≡ readings_of (world_of old)
-    (cond (is_first reg) (load ∷ loads_in old.registers.first.items pe) (loads_in old.registers.first.items pe))
-    (cond (is_first reg) (loads_in old.registers.second.items pe) (load ∷ loads_in old.registers.second.items pe)) →
-    Writes pe reg load seen old new → Marks old.holds new.holds pe seen → Stands new heading (Msr pe reg value ∷ h)
-stands-taken old new heading h pe reg value load seen stands known of_world is_load is_seen taken marked =
-    let in_world : kind_in_world heading.world (kind_of_reg reg) ≡ true =
-    ap (λ (w : World). kind_in_world w (kind_of_reg reg)) (sym stands.world) ∙ of_world in
-    let here : (p : ℕ) → nat_eq p pe ≡ true → readings heading (Msr pe reg value ∷ h) p ≡ seen =
-    seen-here old heading h pe reg value load seen stands known of_world is_load is_seen in
-    let written : (g : Tag) (r p : ℕ) → (holds_at heading Patterns p r g h || (nat_eq p pe && has_reading g r seen))
-    ≡ holds_at heading Patterns p r g (Msr pe reg value ∷ h) =
-    holds-written heading h pe reg value seen here (elsewhere heading h pe reg value) in
-    let ne : (p : ℕ) → heading.pes ≤ p → nat_eq p pe ≡ false = λ p past.
-    let n = stands.pes in let other : p ≢ pe = omega (arith, known) in ne_eqb p pe other in
-    let firsts : ℕ → List RootValue = λ p. loads_after h p (first_reg heading.world) in
-    let seconds : ℕ → List RootValue = λ p. loads_after h p (second_reg heading.world) in
-    record {
-      pes = taken.loads.pes ∙ stands.pes;
-      world = taken.loads.world ∙ stands.world;
-      first = λ p lt.
-          taken.loads.first p
-          ∙ ap (λ (xs : List RootValue). cond (nat_eq p pe && is_first reg) (load ∷ xs) xs) (stands.first p lt)
-          ∙ ap (λ (l : RootValue). cond (nat_eq p pe && is_first reg) (l ∷ firsts p) (firsts p)) is_load
-          ∙ ap (λ (b : Bool). cond (nat_eq p pe && b) (load_in h reg value ∷ firsts p) (firsts p))
-          (sym (of_world_is heading.world reg in_world).0)
-          ∙ sym (loads-written h pe reg value p (first_reg heading.world));
-      second = λ p lt.
-          taken.loads.second p
-          ∙ ap (λ (xs : List RootValue). cond (nat_eq p pe && not (is_first reg)) (load ∷ xs) xs) (stands.second p lt)
-          ∙ ap (λ (l : RootValue). cond (nat_eq p pe && not (is_first reg)) (l ∷ seconds p) (seconds p)) is_load
-          ∙ ap (λ (b : Bool). cond (nat_eq p pe && b) (load_in h reg value ∷ seconds p) (seconds p))
-          (sym (of_world_is heading.world reg in_world).1)
-          ∙ sym (loads-written h pe reg value p (second_reg heading.world));
-      outside = λ p other past.
-          ap (λ (b : Bool). cond (b && same_reg reg other) (value ∷ register_values h p other) (register_values h p other))
-          (same_swapped pe p ∙ ne p past)
-          ∙ stands.outside p other past;
-      declared = λ q. let d = taken.roots.declared in let s = stands.declared q in cc;
-      count = let d = taken.roots.declared in let s = stands.count in cc;
-      locks = λ none. stands.locks (sym taken.roots.locks ∙ none);
-      holds = λ g r p.
-          marked g r p
-          ∙ ap (λ (b : Bool). b || (nat_eq p pe && has_reading g r seen)) (stands.holds g r p)
-          ∙ written g r p;
-      inside = λ g r p past.
-          sym (written g r p)
-          ∙ ap (λ (k : Bool). k || (nat_eq p pe && has_reading g r seen)) (stands.inside g r p past)
-          ∙ ap (λ (b : Bool). b && has_reading g r seen) (ne p past);
-      pendings = λ q b g r p held.
-          taken.pendings q b g p
-          ∙ waits-written heading h pe reg value seen here (elsewhere heading h pe reg value) q b g r p
-          (pending_in old.pendings q b g p) held (stands.pendings q b g r p);
-    }
+-- a register of the world is its first or its second
+pub of_world_is : (world : World) (reg : Reg) → kind_in_world world (kind_of_reg reg) ≡ true →
+    (same_reg reg (first_reg world) ≡ is_first reg) × (same_reg reg (second_reg world) ≡ not (is_first reg)) ×
+    ((f : Reg → List RootValue) → cond (is_first reg) (f (first_reg world)) (f (second_reg world)) ≡ f reg)
+of_world_is (Hyp w) Ttbr0El2 e = (refl, refl, λ f. refl)
+of_world_is (Hyp w) VttbrEl2 e = (refl, refl, λ f. refl)
+of_world_is (Kernel w) Ttbr0El1 e = (refl, refl, λ f. refl)
+of_world_is (Kernel w) Ttbr1El1 e = (refl, refl, λ f. refl)
+of_world_is _ _ e = absurd (false≢true e)
+
+-- the new value stands in front in its register
+module _ (h : List Event) (pe : ℕ) (reg : Reg) (value : ℕ) where
+  pub loads-written : (p : ℕ) (other : Reg) → loads_after (Msr pe reg value ∷ h) p other
+      ≡ cond (nat_eq p pe && same_reg reg other) (load_in h reg value ∷ loads_after h p other) (loads_after h p other)
+  loads-written p other = let swapped = same_swapped pe p in let same = reg_equal reg other in grind (arith)
+
+module _ (heading : Heading) (h : List Event) (pe : ℕ) (reg : Reg) (value : ℕ) where
+  -- at another PE the same stays readable
+  pub elsewhere : (p : ℕ) → nat_eq p pe ≡ false → readings heading (Msr pe reg value ∷ h) p ≡ readings heading h p
+  elsewhere p e = readings-stay heading h (Msr pe reg value) p (same (first_reg heading.world)) (same (second_reg heading.world))
+    where
+      same : (other : Reg) → loads_after (Msr pe reg value ∷ h) p other ≡ loads_after h p other
+      same other = rw (loads-written h pe reg value p other, e) refl
+
+  -- at the PE the new value is in front
+  pub right-here : (p : ℕ) (load : RootValue) (first second : List RootValue) → kind_in_world heading.world (kind_of_reg reg) ≡ true →
+      load ≡ load_in h reg value →
+      first ≡ loads_after h pe (first_reg heading.world) → second ≡ loads_after h pe (second_reg heading.world) → nat_eq p pe ≡ true →
+      readings heading (Msr pe reg value ∷ h) p
+      ≡ readings_of heading.world (cond (is_first reg) (load ∷ first) first) (cond (is_first reg) second (load ∷ second))
+  right-here p load first second of_world is_load is_left is_right at =
+      let is = of_world_is heading.world reg of_world in
+      let one = loads-written h pe reg value p (first_reg heading.world) in
+      let two = loads-written h pe reg value p (second_reg heading.world) in
+      sym (readings-same heading.world (Msr pe reg value ∷ h) p)
+      ∙ rw (one, two, at, is.0, is.1, eqb-true p pe at, ← is_load, ← is_left, ← is_right)
+      (ap (readings_of heading.world (cond (is_first reg) (load ∷ first) first)) (turned (is_first reg) (load ∷ second) second))
+    where
+      turned : (b : Bool) (xs ys : List RootValue) → cond (not b) xs ys ≡ cond b ys xs
+      turned b xs ys = grind (arith)
+
+-- The write of a value with this number, which names this root: it isn't missing, and these tags are readable after it.
+module _ (old : Roots) (pe : ℕ) (reg : Reg) (value : ℕ) (null : Bool) (number : ℕ) (root : Option ℕ) (seen : List Reading)
+    (known : pe < pes_of old) (of_world : kind_in_world (world_of old) (kind_of_reg reg) ≡ true)
+    (is_number : number ≡ tag_number value)
+    (named : (heading : Heading) (h : List Event) → Stands old heading h → root ≡ root_of reg value null)
+    (found : (heading : Heading) (h : List Event) → Stands old heading h → missing_root h reg value null ≡ None)
+    (is_seen : seen ≡ readings_after old.registers pe reg (record { number = number; root = root })) where
+  abbrev load : RootValue
+  load = record { number = number; root = root }
+
+  module _ (heading : Heading) (h : List Event) (stands : Stands old heading h) (none : NullNamesNone h reg value null) where
+    less : pe < heading.pes
+    less = let n = stands.pes in omega (arith, known)
+
+    in_world : kind_in_world heading.world (kind_of_reg reg) ≡ true
+    in_world = ap (λ (w : World). kind_in_world w (kind_of_reg reg)) (sym stands.world) ∙ of_world
+
+    is_load : load ≡ load_in h reg value
+    is_load = load-is h number root reg value null is_number (named heading h stands) (found heading h stands) none
+
+    here : (p : ℕ) → nat_eq p pe ≡ true → readings heading (Msr pe reg value ∷ h) p ≡ seen
+    here p at =
+        right-here heading h pe reg value p load (loads_in old.registers.first.items pe) (loads_in old.registers.second.items pe)
+        in_world is_load (stands.first pe less) (stands.second pe less) at
+        ∙ rw (← stands.world) (sym is_seen)
+
+    stands-taken : (new : Roots) → Writes pe reg load seen old new → Marks old.holds new.holds pe seen →
+        Stands new heading (Msr pe reg value ∷ h)
+    stands-taken new taken marked =
+        let written = holds-written heading h pe reg value seen here (elsewhere heading h pe reg value) in
+        let ne : (p : ℕ) → heading.pes ≤ p → nat_eq p pe ≡ false = λ p past. let n = stands.pes in grind (arith, nat_tests) in
+        let is_in = of_world_is heading.world reg in_world in
+        record {
+          pes = taken.loads.pes ∙ stands.pes;
+          world = taken.loads.world ∙ stands.world;
+          first = λ p lt. let after = loads-written h pe reg value p (first_reg heading.world) in
+              cc (taken.loads.first p, stands.first p lt, is_load, is_in.0, after);
+          second = λ p lt. let after = loads-written h pe reg value p (second_reg heading.world) in
+              cc (taken.loads.second p, stands.second p lt, is_load, is_in.1, after);
+          outside = λ p other past. rw (same_swapped pe p, ne p past) (stands.outside p other past);
+          declared = λ q. let d = taken.roots.declared in let s = stands.declared q in cc;
+          count = let d = taken.roots.declared in let s = stands.count in cc;
+          locks = λ none. stands.locks (sym taken.roots.locks ∙ none);
+          holds = λ g r p.
+              marked g r p
+              ∙ ap (λ (b : Bool). b || (nat_eq p pe && has_reading g r seen)) (stands.holds g r p)
+              ∙ written g r p;
+          inside = λ g r p past.
+              sym (written g r p)
+              ∙ ap (λ (k : Bool). k || (nat_eq p pe && has_reading g r seen)) (stands.inside g r p past)
+              ∙ ap (λ (b : Bool). b && has_reading g r seen) (ne p past);
+          pendings = λ q b g r p held.
+              taken.pendings q b g p
+              ∙ waits-written heading h pe reg value seen here (elsewhere heading h pe reg value) q b g r p
+              (pending_in old.pendings q b g p) held (stands.pendings q b g r p);
+        }
+
+    pub write-judged : {A : Type 0} (result : Result A RootFault) →
+        JudgesWrite None (conflict_in old.holds (pes_of old) seen) (length (loads_of old.registers pe reg)) result →
+        JudgesWrite (missing_root h reg value null) (conflicts heading (Msr pe reg value ∷ h) pe)
+        (length (register_values h pe reg)) result
+    write-judged result k =
+        subst (λ (m : Option ℕ). JudgesWrite m (conflicts heading (Msr pe reg value ∷ h) pe) (length (register_values h pe reg)) result)
+        (sym (found heading h stands))
+        (subst (λ (f : Reading → Bool). JudgesWrite None f (length (register_values h pe reg)) result) conflict
+        (subst (λ (n : ℕ). JudgesWrite None (conflict_in old.holds (pes_of old) seen) n result) count k))
+      where
+        conflict : conflict_in old.holds (pes_of old) seen ≡ conflicts heading (Msr pe reg value ∷ h) pe
+        conflict =
+            ap (λ (n : ℕ). conflict_in old.holds n seen) stands.pes
+            ∙ fun_ext (conflict-is heading h pe reg value seen here (elsewhere heading h pe reg value) less old.holds stands.holds)
+
+        count : length (loads_of old.registers pe reg) ≡ length (register_values h pe reg)
+        count =
+            rw (stands.first pe less, stands.second pe less)
+            (ap (length {A = RootValue}) ((of_world_is heading.world reg in_world).2 (loads_after h pe))
+            ∙ length-loads h reg (register_values h pe reg))
+
+  pub write-taken : (new : Roots) → Writes pe reg load seen old new →
+      ((heading : Heading) (h : List Event) → Stands old heading h → Marks old.holds new.holds pe seen) →
+      TakesWhere (λ heading h. NullNamesNone h reg value null) (Msr pe reg value) old new
+  write-taken new written marked = record {
+    taken = λ heading h stands none. stands-taken heading h stands none new written (marked heading h stands);
+    prepared = room-same old new written.roots.declared;
+    log = record { pes = written.loads.pes; world = written.loads.world };
+  }

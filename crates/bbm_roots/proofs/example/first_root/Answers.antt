@@ -1,11 +1,5 @@
-use Rattle.bbm_roots.proofs.Common.{◌≡◌, ◌∙◌, ◌==◌, ℕ, List, [], ◌∷◌, Some, None, ap, sym, refl, subst, rules, El2}
-use Rattle.bbm_roots.proofs.Common.{Ttbr0El2}
-use Rattle.bbm_roots.proofs.Common.{Stands, eqb-true, false≢true, or-false}
-use Rattle.bbm_regimes.specs.Registers.{base_of}
-use Rattle.bbm_events.specs.Heading.{Heading}
-use Rattle.bbm_events.specs.declared.event.Event.{Event}
-use Rattle.bbm_events.specs.declared.event.Event.TheVariants.{Msr, Root}
-use Rattle.bbm_histories.specs.TagSteps.{BasesStay}
+use Rattle.bbm_roots.proofs.Common.{◌≡◌, ◌∙◌, ◌==◌, List, [], ◌∷◌, Some, None, ap, sym, refl, rules, El2, eqb-true}
+use Rattle.bbm_roots.proofs.Common.{base_of, Heading, Event, Root, BasesStay, false≢true, or-false}
 use Rattle.bbm_roots.proofs.Callers.{undeclared}
 use Rattle.bbm_roots.proofs.example.first_root.Goals as goal
 
@@ -26,8 +20,6 @@ returns c =
     let declared : List Event = Root 0 El2 None c.args.page ∷ none in
     let pe : c.unwrap-pe.result ≡ 0 = search rules in
     let base : c.get.result ≡ c.args.page = c.get.ensures.value in
-    subst (λ (q : ℕ). Stands c.write_reg.new.self heading (Msr q Ttbr0El2 c.args.page ∷ declared)) pe
-    (subst (λ (v : ℕ). Stands c.write_reg.new.self heading (Msr c.unwrap-pe.result Ttbr0El2 v ∷ declared)) base
-    (c.in_ok-write_reg.ensures.tried.taken.taken heading declared
+    rw (pe, base) at (c.in_ok-write_reg.ensures.tried.taken.taken heading declared
     (c.in_ok-declare.ensures.taken 0 heading none c.in_ok-roots.ensures.empty (at-start heading (Root 0 El2 None c.args.page)))
-    (λ k. absurd (false≢true k))))
+    (λ k. absurd (false≢true k)))

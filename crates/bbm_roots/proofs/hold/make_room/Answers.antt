@@ -1,11 +1,6 @@
-use Rattle.bbm_roots.proofs.Common.{tag_equal}
-use Rattle.bbm_roots.proofs.Common.{◌≡◌, ◌∙◌, ◌||◌, ℕ, true, nat_eq, take, arith, ap, sym, or_left, or_right}
-use Rattle.bbm_roots.proofs.Common.{eqb-true, first_true, Tag, tag_key, has_entry, has_reading, has_tag, is_of_tag}
-use Rattle.bbm_roots.proofs.Common.{is_reading, same_tag, subst, Reading}
-use Rattle.bbm_roots.specs.TagsByRoot.{is_listed}
-use Rattle.bbm_roots.proofs.Bits.{and_right}
-use Rattle.bbm_roots.proofs.Leasts.{or-split}
-use Rattle.bbm_roots.proofs.Lists.{any-next}
+use Rattle.bbm_roots.proofs.Common.{◌≡◌, ◌∙◌, ◌||◌, true, take, arith, ap, sym, or_left, or_right, tag_key, has_entry}
+use Rattle.bbm_roots.proofs.Common.{is_listed, has_reading, has_tag, is_of_tag, is_reading, same_tag, subst, Reading}
+use Rattle.bbm_roots.proofs.Tests.{as-same, or-split, any-next}
 use Rattle.bbm_roots.proofs.hold.make_room.Goals as goal
 
 pub loop-reading-preserved : goal.loop-reading-preserved
@@ -23,11 +18,8 @@ loop-reading-preserved c =
       listed = λ g r e.
           or-split (has_reading g r (take i readings)) (is_reading g r y) (is_listed new r (tag_key g) ≡ true)
           (λ k. c.list.ensures.kept r (tag_key g) (c.loop-reading.invariant.listed g r k))
-          (λ k. ap (λ (t : Tag). is_listed new r (tag_key t))
-          (sym (tag_equal y.tag g (first_true (same_tag y.tag g) (nat_eq y.root r) k)))
-          ∙ ap (λ (m : ℕ). is_listed new m (tag_key y.tag))
-          (sym (eqb-true y.root r (and_right (same_tag y.tag g) (nat_eq y.root r) k)))
-          ∙ subst (λ (x : Reading). is_listed new x.root (tag_key x.tag) ≡ true) c.reading.view_is c.in_ok-list.ensures.listed)
+          (λ k. as-same (λ t m. is_listed new m (tag_key t) ≡ true) y.tag g y.root r k
+          (subst (λ (x : Reading). is_listed new x.root (tag_key x.tag) ≡ true) c.reading.view_is c.in_ok-list.ensures.listed))
           (sym (any-next (is_reading g r) readings i y (omega arith) c.reading-item.is) ∙ e);
       made = λ g e.
           c.in_ok-make_entry.ensures.made g

@@ -1,5 +1,5 @@
 use Rattle.bbm_roots.proofs.Common.{◌≡◌, ℕ, true, take, Tag, hold_in, tag_key, has_entry, has_tag, has_reading}
-use Rattle.bbm_roots.specs.TagsByRoot.{is_listed, AreListed}
+use Rattle.bbm_roots.proofs.Common.{is_listed, AreListed}
 use Rattle.bbm_roots.proofs.hold.make_room.Given as goal
 
 abbrev pub invariant-loop-reading : goal.invariant-loop-reading

@@ -1,9 +1,8 @@
-use Rattle.bbm_roots.proofs.Common.{tag_self}
-use Rattle.bbm_roots.proofs.Common.{◌≡◌, ◌+◌, ◌∙◌, ◌&&◌, ◌||◌, nat_eq, not, take, arith, ap, sym, cond, ℕ, List, Bool}
-use Rattle.bbm_roots.proofs.Common.{true, false, list_any, Tag, hold_in, has_reading, is_reading, is_other, is_of_tag}
-use Rattle.bbm_roots.proofs.Common.{same_tag, Reading, or_right, refl, proved, If, Is, get_or, subst}
+use Rattle.bbm_roots.proofs.Common.{tag_self, ◌≡◌, ◌+◌, ◌∙◌, ◌&&◌, ◌||◌, nat_eq, not, take, arith, ap, sym, cond, ℕ}
+use Rattle.bbm_roots.proofs.Common.{List, Bool, true, false, list_any, Tag, hold_in, has_reading, is_reading, is_other}
+use Rattle.bbm_roots.proofs.Common.{is_of_tag, same_tag, Reading, or_right}
 use Rattle.bbm_roots.proofs.Entries.{marked-step}
-use Rattle.bbm_roots.proofs.Lists.{any-next, any-front, none-front}
+use Rattle.bbm_roots.proofs.Tests.{any-next, any-front, none-front}
 use Rattle.bbm_roots.proofs.hold.mark.Goals as goal
 
 -- what an element of the list passes
@@ -17,16 +16,14 @@ other-there y g r same here = ap (λ (b : Bool). b && not (nat_eq y.root r)) sam
 -- one more reading: what is held was held before, or is one of the readings
 only-step : (same here now at old seen : Bool) → (now ≡ true → (old || seen) ≡ true) →
     cond same (here && (now || at)) now ≡ true → (old || (seen || (same && here))) ≡ true
-only-step = proved 6 (λ same here now at old seen. If (If (Is now true) (Is (old || seen) true)) (If (Is (cond same
-    (here && (now || at)) now) true) (Is (old || (seen || (same && here))) true))) refl
+only-step same here now at old seen = grind (arith)
 
 pub mark_one-requires : goal.mark_one-requires
 mark_one-requires c =
     let y : Reading = record { tag = c.reading.inside.tag; root = c.reading.inside.root } in
     let i = c.loop-reading.reading-index in
     let readings = c.args.readings.now in
-    let is : y ≡ get_or readings i y =
-    subst (λ (x : Reading). x ≡ get_or readings i x) (sym c.reading.view_is) c.reading-item.is in
+    let is = rw (← c.reading.view_is) at c.reading-item.is in
     c.loop-reading.invariant.entries y.tag
     ∙ c.requires y.tag
     (there (is_of_tag y.tag) readings i y (any-next (is_of_tag y.tag) readings i y (omega arith) is) (tag_self y.tag))
@@ -36,20 +33,18 @@ loop-reading-preserved c =
     let y : Reading = record { tag = c.reading.inside.tag; root = c.reading.inside.root } in
     let i = c.loop-reading.reading-index in
     let readings = c.args.readings.now in
-    let is : y ≡ get_or readings i y =
-    subst (λ (x : Reading). x ≡ get_or readings i x) (sym c.reading.view_is) c.reading-item.is in
+    let is = rw (← c.reading.view_is) at c.reading-item.is in
     let old = c.args.holds.now in
     record {
       bits = λ calm g r p.
           let other = λ (same : same_tag y.tag g ≡ true) (here : nat_eq y.root r ≡ false).
           calm g r (there (is_other g r) readings i y (any-next (is_other g r) readings i y (omega arith) is)
           (other-there y g r same here)) in
-          c.mark_one.ensures.bits g r p
-          ∙ ap (λ (b : Bool). cond (same_tag y.tag g) (nat_eq y.root r && (b || nat_eq p c.args.pe)) b) (c.loop-reading.invariant.bits calm g r p)
-          ∙ marked-step (same_tag y.tag g) (nat_eq y.root r) (hold_in old g r p) (nat_eq p c.args.pe) (has_reading g r (take i readings))
-          (λ same here. (other same here).1 p) (λ same here. none-front (is_reading g r) i readings (other same here).0)
-          ∙ ap (λ (b : Bool). hold_in old g r p || (nat_eq p c.args.pe && b))
-          (sym (any-next (is_reading g r) readings i y (omega arith) is));
+          let next = any-next (is_reading g r) readings i y (omega arith) is in
+          rw (c.mark_one.ensures.bits g r p, c.loop-reading.invariant.bits calm g r p, next)
+          (marked-step (same_tag y.tag g) (nat_eq y.root r) (hold_in old g r p) (nat_eq p c.args.pe)
+          (has_reading g r (take i readings)) (λ same here. (other same here).1 p)
+          (λ same here. none-front (is_reading g r) i readings (other same here).0));
       only = λ g r p e.
           ap (λ (b : Bool). hold_in old g r p || b) (any-next (is_reading g r) readings i y (omega arith) is)
           ∙ only-step (same_tag y.tag g) (nat_eq y.root r) (hold_in c.loop-reading.holds g r p) (nat_eq p c.args.pe)

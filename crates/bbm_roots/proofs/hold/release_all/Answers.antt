@@ -1,29 +1,20 @@
-use Rattle.bbm_roots.proofs.Common.{◌∙◌, ◌&&◌, not, arith, ap, sym, Bool, Option, ℕ, HashMap, BuildHasherDefault}
-use Rattle.bbm_roots.proofs.Common.{FoldHasher, Tag, false≢true, hold_in, tag_key, wait_in, wait_bit, Held, Waiting}
-use Rattle.bbm_roots.proofs.Common.{and-true}
-use Rattle.bbm_roots.specs.TagsByRoot.{is_listed}
+use Rattle.bbm_roots.proofs.Common.{◌∙◌, ◌&&◌, not, arith, ap, sym, Option, false≢true, hold_in, tag_key, wait_bit}
+use Rattle.bbm_roots.proofs.Common.{Waiting, and-true}
 use Rattle.bbm_roots.proofs.Places.{none-in, popped-step}
 use Rattle.bbm_roots.proofs.hold.release_all.Goals.{in-Some, in_default}
 use Rattle.bbm_roots.proofs.hold.release_all.Goals as goal
 
 pub loop-count-preserved : goal.loop-count-preserved
 loop-count-preserved c =
-    let after = c.pop.new.self in
     elim c.match-pop.branch [
       | in-Some w ↦ record {
         len = omega (arith, w.in-Some.ensures.len, c.loop-count.invariant.len);
         listed = λ before g r p e.
-            ap (λ (x : HashMap ℕ (HashMap ℕ Tag (BuildHasherDefault FoldHasher)) (BuildHasherDefault FoldHasher)).
-            is_listed x r (tag_key g)) w.by_root-is
-            ∙ w.release_under.ensures.listed (c.loop-count.invariant.listed before) g r p
-            (sym (ap (λ (h : HashMap ℕ Held (BuildHasherDefault FoldHasher)). hold_in h g r p) w.holds-is) ∙ e);
+            rw w.by_root-is (w.release_under.ensures.listed (c.loop-count.invariant.listed before) g r p (rw w.holds-is at e));
         bits = λ g r p.
-            ap (λ (h : HashMap ℕ Held (BuildHasherDefault FoldHasher)). hold_in h g r p
-            && not (wait_in after g p)) w.holds-is
-            ∙ ap (λ (b : Bool). b && not (wait_in after g p)) (w.release_under.ensures.holds g r p)
-            ∙ popped-step c.loop-count.waits after w.in-Some.key w.in-Some.waiting w.in-Some.ensures.entries
-            w.in-Some.ensures.updates g p (hold_in c.loop-count.holds g r p)
-            ∙ c.loop-count.invariant.bits g r p;
+            rw (w.holds-is, w.release_under.ensures.holds g r p)
+            (popped-step c.loop-count.waits c.pop.new.self w.in-Some.key w.in-Some.waiting w.in-Some.ensures.entries
+            w.in-Some.ensures.updates g p (hold_in c.loop-count.holds g r p) ∙ c.loop-count.invariant.bits g r p);
       }
       | in_default w ↦
           absurd (false≢true (w.in_default.ensures.found.1

@@ -1,5 +1,4 @@
-use Rattle.bbm_roots.proofs.Common.{◌≡◌, ◌+◌, ℕ, ◌&&◌, not, index_map_len, Tag, hold_in, wait_in}
-use Rattle.bbm_roots.specs.TagsByRoot.{AreListed}
+use Rattle.bbm_roots.proofs.Common.{◌≡◌, ◌+◌, ℕ, ◌&&◌, not, index_map_len, Tag, hold_in, wait_in, AreListed}
 use Rattle.bbm_roots.proofs.hold.release_all.Given as goal
 
 abbrev pub invariant-loop-count : goal.invariant-loop-count

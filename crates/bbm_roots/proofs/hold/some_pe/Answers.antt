@@ -1,6 +1,5 @@
-use Rattle.bbm_roots.proofs.Common.{Bool, ◌&&◌, ◌∙◌, ap}
-use Rattle.bbm_regimes.specs.PeMask.{pe_in}
-use Rattle.bbm_roots.proofs.Bits.{some_pe-empty}
+use Rattle.bbm_roots.proofs.Common.{Bool, ◌&&◌, ◌∙◌, ap, pe_in}
+use Rattle.bbm_roots.proofs.Tests.{some_pe-empty}
 use Rattle.bbm_roots.proofs.hold.some_pe.Goals as goal
 
 pub returns : goal.returns

@@ -1,9 +1,7 @@
-use Rattle.bbm_roots.proofs.Common.{tag_equal}
-use Rattle.bbm_roots.proofs.Common.{◌≡◌, take, arith, ap, sym, ◌∙◌, ◌&&◌, ◌||◌, Bool, true, list_any, or_left, or_right}
-use Rattle.bbm_roots.proofs.Common.{take_all, Tag, takes_whole_tag, has_wait, same_tag}
-use Rattle.bbm_roots.proofs.Lists.{any-next}
+use Rattle.bbm_roots.proofs.Common.{tag_equal, ◌≡◌, take, arith, ap, sym, ◌∙◌, ◌&&◌, ◌||◌, Bool, true, list_any}
+use Rattle.bbm_roots.proofs.Common.{or_left, or_right, take_all, Tag, takes_whole_tag, has_wait, same_tag}
+use Rattle.bbm_roots.proofs.Tests.{any-next, or-split}
 use Rattle.bbm_roots.proofs.Entries.{held-among, is_held_as}
-use Rattle.bbm_roots.proofs.Leasts.{or-split}
 use Rattle.bbm_roots.proofs.issue.make_entries.Goals as goal
 
 pub returns-clause-made : goal.returns-clause-made

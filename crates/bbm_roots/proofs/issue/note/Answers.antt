@@ -1,17 +1,14 @@
-use Rattle.bbm_roots.proofs.Common.{◌≡◌, ◌∙◌, ◌&&◌, ◌||◌, ap, sym, Bool, true, false, nat_eq, is_some, refl, ℕ}
-use Rattle.bbm_roots.proofs.Common.{eqb-true, proved, If, Is, takes_whole_tag, tag_key, slot_of, wait_at, wait_bit}
-use Rattle.bbm_roots.proofs.Common.{unread_at, same_flag}
-use Rattle.bbm_regimes.specs.PeMask.{pe_in}
+use Rattle.bbm_roots.proofs.Common.{◌≡◌, ◌∙◌, ◌&&◌, ◌||◌, ap, sym, Bool, true, false, nat_eq, is_some, ℕ, arith, pe_in}
+use Rattle.bbm_roots.proofs.Common.{eqb-true, takes_whole_tag, tag_key, slot_of, wait_at, wait_bit, unread_at}
+use Rattle.bbm_roots.proofs.Common.{same_flag}
 use Rattle.bbm_roots.proofs.Places.{slots}
 use Rattle.bbm_roots.proofs.issue.note.Goals as goal
 
 known : (k w h s t u : Bool) → (k && (w || (h && (s && (t && u))))) ≡ ((k && w) || ((k && h) && ((s && t) && u)))
-known = proved 6 (λ k w h s t u. Is (k && (w || (h && (s && (t && u))))) ((k && w) || ((k && h) && ((s && t) && u))))
-    refl
+known k w h s t u = grind (arith)
 
 unnoted : (k w h q s t u : Bool) → (q ≡ true → k ≡ false) → (k && w) ≡ ((k && w) || ((k && h) && ((q && s && t) && u)))
-unnoted = proved 7 (λ k w h q s t u. If (If (Is q true) (Is k false)) (Is (k && w) ((k && w) || ((k && h) && ((q && s
-    && t) && u))))) refl
+unnoted k w h q s t u = grind (arith)
 
 pub returns-then-has : goal.returns-then-has
 returns-then-has c = λ q b g r h p held.
@@ -21,10 +18,8 @@ returns-then-has c = λ q b g r h p held.
     let w = wait_at ms (slot_of q b) (tag_key g) in
     let takes = takes_whole_tag c.args.scope.now c.args.vmid g in
     let unread = unread_at c.args.registers.now c.args.issuer flag g p in
-    ap (λ (x : Bool). here && x) (c.note_place.ensures (slot_of q b) g r h p held)
-    ∙ ap (λ (x : Bool). here && (wait_bit g p w
-    || (is_some w && (x && (takes && unread))))) (slots q b c.args.issuer flag)
-    ∙ known here (wait_bit g p w) (is_some w) (nat_eq q c.args.issuer && same_flag flag b) takes unread
+    rw (c.note_place.ensures (slot_of q b) g r h p held, slots q b c.args.issuer flag)
+    (known here (wait_bit g p w) (is_some w) (nat_eq q c.args.issuer && same_flag flag b) takes unread)
 
 pub returns-else-has : goal.returns-else-has
 returns-else-has c = λ q b g r h p held.

@@ -1,6 +1,6 @@
-use Rattle.bbm_roots.proofs.Common.{◌≡◌, take, arith, ap, sym, ◌∙◌, ◌&&◌, ◌||◌, Bool, refl, list_any, take_all, proved}
-use Rattle.bbm_roots.proofs.Common.{Is, takes_whole_tag, has_wait, wait_in, unread_at, same_tag}
-use Rattle.bbm_roots.proofs.Lists.{any-next}
+use Rattle.bbm_roots.proofs.Common.{◌≡◌, take, arith, ap, ◌∙◌, ◌&&◌, ◌||◌, Bool, refl, list_any, take_all, proved, Is}
+use Rattle.bbm_roots.proofs.Common.{takes_whole_tag, has_wait, wait_in, unread_at, same_tag}
+use Rattle.bbm_roots.proofs.Tests.{any-next}
 use Rattle.bbm_roots.proofs.Entries.{held-among, is_held_as}
 use Rattle.bbm_roots.proofs.issue.note_entries.Goals as goal
 
@@ -17,15 +17,9 @@ loop-held-preserved c =
       bits = λ g p.
           let z = takes_whole_tag c.args.scope.now c.args.vmid g
           && unread_at c.args.registers.now c.args.issuer c.args.scope.now.broadcast g p in
-          c.note_one-in-loop-held.ensures.bits g p
-          ∙ ap (λ (b : Bool). b
-          || (has_wait c.loop-held.waits g && (same_tag x.tag g && z))) (c.loop-held.invariant.bits g p)
-          ∙ ap (λ (b : Bool). (wait_in old g p || (has_wait old g && (list_any (is_held_as g) (take i all) && z)))
-          || (b && (same_tag x.tag g && z)))
-          (c.loop-held.invariant.known g)
-          ∙ noted-more (wait_in old g p) (has_wait old g) (list_any (is_held_as g) (take i all)) (same_tag x.tag g) z
-          ∙ ap (λ (b : Bool). wait_in old g p || (has_wait old g && (b && z)))
-          (sym (any-next (is_held_as g) all i x (omega arith) c.held-item.is));
+          let next = any-next (is_held_as g) all i x (omega arith) c.held-item.is in
+          rw (c.note_one-in-loop-held.ensures.bits g p, c.loop-held.invariant.bits g p, c.loop-held.invariant.known g, next)
+          (noted-more (wait_in old g p) (has_wait old g) (list_any (is_held_as g) (take i all)) (same_tag x.tag g) z);
       known = λ g. c.note_one-in-loop-held.ensures.known g ∙ c.loop-held.invariant.known g;
     }
 

@@ -1,5 +1,4 @@
-use Rattle.bbm_roots.proofs.Common.{◌<◌, ◌≤◌, ◌∙◌, ◌&&◌, ◌||◌, ap, arith, length, ℕ, nat_eq, is_some, takes_whole_tag}
-use Rattle.bbm_roots.proofs.Common.{tag_key, wait_at, wait_bit, unread_at}
+use Rattle.bbm_roots.proofs.Common.{◌<◌, ◌≤◌, ◌&&◌, arith, length, takes_whole_tag, unread_at}
 use Rattle.bbm_roots.proofs.Places.{at-noted, at-unnoted}
 use Rattle.bbm_roots.proofs.issue.note_place.Goals as goal
 
@@ -10,10 +9,9 @@ returns-then-place-len c = λ n g r h p held.
     let z = takes_whole_tag c.args.scope.now c.args.vmid g
     && unread_at c.args.registers.now c.args.issuer c.args.scope.now.broadcast g p in
     let below : place < length ms = omega (arith, c.if-place-len.true, c.len.ensures) in
-    at-noted ms place c.index_mut.result.now c.note_entries.new.waits below c.index_mut.ensures.value g p z
-    (c.note_entries.ensures g r h p held) n
-    ∙ ap (λ (k : ℕ). wait_bit g p (wait_at ms n (tag_key g))
-    || (is_some (wait_at ms n (tag_key g)) && (nat_eq n k && z))) c.slot-place.ensures.slot
+    rw (← c.slot-place.ensures.slot)
+    (at-noted ms place c.index_mut.result.now c.note_entries.new.waits below c.index_mut.ensures.value g p z
+    (c.note_entries.ensures g r h p held) n)
 
 pub returns-else-place-len : goal.returns-else-place-len
 returns-else-place-len c = λ n g r h p held.
@@ -22,6 +20,4 @@ returns-else-place-len c = λ n g r h p held.
     let z = takes_whole_tag c.args.scope.now c.args.vmid g
     && unread_at c.args.registers.now c.args.issuer c.args.scope.now.broadcast g p in
     let past : length ms ≤ place = omega (arith, c.if-place-len.false, c.len.ensures) in
-    at-unnoted ms place past g p z n
-    ∙ ap (λ (k : ℕ). wait_bit g p (wait_at ms n (tag_key g))
-    || (is_some (wait_at ms n (tag_key g)) && (nat_eq n k && z))) c.slot-place.ensures.slot
+    rw (← c.slot-place.ensures.slot) (at-unnoted ms place past g p z n)

@@ -1,9 +1,7 @@
-use Rattle.bbm_roots.proofs.Common.{◌≡◌, ◌∙◌, Bool, true, ◌&&◌, ◌||◌, not, nat_eq, nat_lt, refl, sym, ap}
-use Rattle.bbm_roots.proofs.Common.{ℕ, false≢true, proved, If, Is, Option, Some, None, is_some, rules, get, tag_key}
-use Rattle.bbm_roots.proofs.Common.{entry_bit, is_hold, Held, IsLeast, UpTo}
-use Rattle.bbm_regimes.specs.PeMask.{pe_in}
-use Rattle.bbm_roots.specs.LoadsOf.{reads_at}
-use Rattle.bbm_roots.proofs.Bits.{and_right}
+use Rattle.bbm_roots.proofs.Common.{◌≡◌, ◌∙◌, Bool, true, ◌&&◌, ◌||◌, not, nat_eq, nat_lt, refl, sym, ap, ℕ, false≢true}
+use Rattle.bbm_roots.proofs.Common.{pe_in, reads_at, arith, Option, Some, None, is_some, rules, get, tag_key, entry_bit}
+use Rattle.bbm_roots.proofs.Common.{is_hold, Held, IsLeast, UpTo}
+use Rattle.bbm_roots.proofs.Tests.{and_right}
 use Rattle.bbm_roots.proofs.issue.takes_from.Goals as goal
 
 -- where one passes there is a least
@@ -13,8 +11,7 @@ some-least test (Some x) least p e = refl
 
 among : (below reached held unread of_pe : Bool) → (below ≡ true → reached ≡ of_pe) → held ≡ true →
     (below && (of_pe && unread)) ≡ true → (below && ((reached && held) && unread)) ≡ true
-among = proved 5 (λ b r h n s. If (If (Is b true) (Is r s)) (If (Is h true) (If (Is (b && (s && n)) true) (Is (b && ((r
-    && h) && n)) true)))) refl
+among below reached held unread of_pe = grind (arith)
 
 pub returns-in-Some : goal.returns-in-Some
 returns-in-Some c = λ r p held lost.

@@ -1,8 +1,8 @@
-use Rattle.bbm_roots.proofs.Common.{tag_equal}
-use Rattle.bbm_roots.proofs.Common.{◌≡◌, ◌∙◌, sym, ap, values, Tag, hold_in, takes_whole_tag, unread_at, Held}
+use Rattle.bbm_roots.proofs.Common.{tag_equal, ◌≡◌, ◌∙◌, sym, ap, values, Tag, hold_in, takes_whole_tag, unread_at}
+use Rattle.bbm_roots.proofs.Common.{Held}
 use Rattle.bbm_roots.specs.RootPendings.{takes_entry}
 use Rattle.bbm_roots.proofs.Entries.{held-among, is_held_as}
-use Rattle.bbm_roots.proofs.Lists.{any-weaker}
+use Rattle.bbm_roots.proofs.Tests.{any-weaker}
 use Rattle.bbm_roots.proofs.issue.takes_held.Goals as goal
 
 pub returns-in-None : goal.returns-in-None

@@ -1,6 +1,5 @@
-use Rattle.bbm_roots.proofs.Common.{◌≡◌, ◌∙◌, Bool, true, ◌&&◌, ◌||◌, not, nat_eq, nat_lt, refl, proved, If, Is}
-use Rattle.bbm_regimes.specs.PeMask.{pe_in}
-use Rattle.bbm_roots.specs.LoadsOf.{reads_at}
+use Rattle.bbm_roots.proofs.Common.{◌≡◌, ◌∙◌, Bool, true, ◌&&◌, ◌||◌, not, nat_eq, nat_lt, refl, proved, If, Is, pe_in}
+use Rattle.bbm_roots.proofs.Common.{reads_at}
 use Rattle.bbm_roots.proofs.issue.unread.Goals as goal
 
 below-same : (b r s n : Bool) → (b ≡ true → r ≡ s) → (b && (r && n)) ≡ (b && (s && n))

@@ -1,6 +1,6 @@
-use Rattle.bbm_roots.proofs.Common.{◌≡◌, ◌∙◌, ◌&&◌, ◌||◌, not, take, arith, ap, sym, refl, Bool, nat_eq, proved, Is}
-use Rattle.bbm_roots.proofs.Common.{wait_in, has_tag, is_of_tag, same_tag, get_or, subst, Reading}
-use Rattle.bbm_roots.proofs.Lists.{any-next}
+use Rattle.bbm_roots.proofs.Common.{◌≡◌, ◌&&◌, ◌||◌, not, take, arith, refl, Bool, nat_eq, proved, Is, wait_in, has_tag}
+use Rattle.bbm_roots.proofs.Common.{is_of_tag, same_tag, Reading}
+use Rattle.bbm_roots.proofs.Tests.{any-next}
 use Rattle.bbm_roots.proofs.pending.clear_place.Goals as goal
 
 cleared : (h k a b : Bool) → ((h && not (k && a)) && not (k && b)) ≡ (h && not (k && (a || b)))
@@ -11,12 +11,8 @@ loop-reading-preserved c = λ g p.
     let readings = c.args.readings.now in
     let i = c.loop-reading.reading-index in
     let x : Reading = record { tag = c.reading.inside.tag; root = c.reading.inside.root } in
-    let is : x ≡ get_or readings i x =
-    subst (λ (y : Reading). y ≡ get_or readings i y) (sym c.reading.view_is) c.reading-item.is in
+    let is = rw (← c.reading.view_is) at c.reading-item.is in
     let old = wait_in c.args.map.now g p in
     let here = nat_eq p c.args.pe in
-    c.clear_tag.ensures g p
-    ∙ ap (λ (b : Bool). b && not (here && same_tag x.tag g)) (c.loop-reading.invariant g p)
-    ∙ cleared old here (has_tag g (take i readings)) (same_tag x.tag g)
-    ∙ ap (λ (b : Bool). old && not (here
-    && b)) (sym (any-next (is_of_tag g) readings i x (omega arith) is))
+    rw (c.clear_tag.ensures g p, c.loop-reading.invariant g p, any-next (is_of_tag g) readings i x (omega arith) is)
+    (cleared old here (has_tag g (take i readings)) (same_tag x.tag g))

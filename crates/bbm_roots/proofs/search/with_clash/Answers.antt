@@ -1,8 +1,8 @@
 use Rattle.bbm_roots.proofs.Common.{◌||◌, ◌&&◌, tag_in, is_clash, ReadingUpTo, is_reading, is_other, has_other}
-use Rattle.bbm_roots.proofs.Leasts.{least-same}
+use Rattle.bbm_roots.proofs.Common.{or_assoc}
+use Rattle.bbm_roots.proofs.Tests.{least-same}
 use Rattle.bbm_roots.proofs.search.with_clash.Goals as goal
 use Rattle.std.proofs.Common.{sym}
-use Rattle.std.proofs.Math.Bool.{or_assoc}
 
 pub returns : goal.returns
 returns c = λ test h.
@@ -10,9 +10,7 @@ returns c = λ test h.
     let seen = c.args.seen.now in
     let holds = c.args.holds.now in
     let n = c.args.n in
-    least-same ReadingUpTo
-    (λ x. (test x || (is_reading x.tag x.root y && has_other x.tag x.root seen)) || (is_other x.tag x.root y && tag_in holds n x.tag x.root))
-    (λ x. test x || is_clash holds n seen x y)
+    least-same ReadingUpTo _ (λ x. test x || is_clash holds n seen x y)
     (λ x. sym (or_assoc (test x) (is_reading x.tag x.root y && has_other x.tag x.root seen)
     (is_other x.tag x.root y && tag_in holds n x.tag x.root)))
     c.with_holder.result

@@ -1,5 +1,5 @@
 use Rattle.bbm_roots.proofs.Common.{◌≡◌, ℕ, ◌&&◌, ap, ◌∙◌, sym, Bool, Tag, is_hold, is_held_under, and-true}
-use Rattle.bbm_roots.proofs.Bits.{hold-tag, hold-self}
+use Rattle.bbm_roots.proofs.Tests.{hold-tag, hold-self}
 use Rattle.bbm_roots.proofs.search.with_entry.Goals as goal
 
 pub returns-then-is_held_under-clause-added : goal.returns-then-is_held_under-clause-added

@@ -1,7 +1,7 @@
 use Rattle.bbm_roots.proofs.Common.{◌||◌, ◌&&◌, ◌∙◌, ap, sym, nat_eq, Bool, tag_in, ReadingUpTo, is_other, same_tag}
 use Rattle.bbm_roots.proofs.Common.{◌≡◌, ℕ, false, subst, IsLeast, Reading}
 use Rattle.bbm_roots.proofs.Entries.{holder-clash}
-use Rattle.bbm_roots.proofs.Leasts.{least-same}
+use Rattle.bbm_roots.proofs.Tests.{least-same}
 use Rattle.bbm_roots.proofs.search.with_holder.Goals as goal
 
 pub returns-else-eq : goal.returns-else-eq

@@ -1,7 +1,7 @@
 use Rattle.bbm_roots.proofs.Common.{◌∙◌, ◌&&◌, ◌||◌, nat_eq, ap, rules, Bool, Some, None, tag_key, tag_in}
 use Rattle.bbm_roots.proofs.Common.{is_held_under, and-false}
 use Rattle.std.proofs.lemmas.Option.{IfSome_then}
-use Rattle.bbm_roots.proofs.Leasts.{tags-same}
+use Rattle.bbm_roots.proofs.Tests.{tags-same}
 use Rattle.bbm_roots.proofs.TagLists.{keyed}
 use Rattle.bbm_roots.proofs.search.with_key.Goals as goal
 

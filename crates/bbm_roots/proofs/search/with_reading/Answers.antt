@@ -1,7 +1,7 @@
 use Rattle.bbm_roots.proofs.Common.{◌||◌, ◌&&◌, ap, sym, ◌∙◌, nat_eq, Bool, ReadingUpTo, is_reading, has_other}
 use Rattle.bbm_roots.proofs.Common.{same_tag, ◌≡◌, true, subst, IsLeast, Reading}
 use Rattle.bbm_roots.proofs.Entries.{reading-clash}
-use Rattle.bbm_roots.proofs.Leasts.{least-same}
+use Rattle.bbm_roots.proofs.Tests.{least-same}
 use Rattle.bbm_roots.proofs.search.with_reading.Goals as goal
 
 pub returns-then-has_other : goal.returns-then-has_other

@@ -1,5 +1,4 @@
-use Rattle.bbm_roots.proofs.Common.{◌≡◌, ℕ, ◌<◌, ◌&&◌, not, false, loads_in, reads_tag}
-use Rattle.bbm_regimes.specs.PeMask.{pe_in}
+use Rattle.bbm_roots.proofs.Common.{◌≡◌, ℕ, ◌<◌, ◌&&◌, not, false, loads_in, reads_tag, pe_in}
 use Rattle.bbm_roots.proofs.registers.Registers.first_unread.Given as goal
 
 abbrev pub invariant-loop-number : goal.invariant-loop-number

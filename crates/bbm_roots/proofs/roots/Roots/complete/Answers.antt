@@ -1,10 +1,6 @@
-use Rattle.bbm_roots.proofs.Common.{◌≡◌, ◌∙◌, ap, sym, ℕ, Bool, ◌&&◌, ◌||◌, List, ◌∷◌, not, nat_eq, true, false, refl}
-use Rattle.bbm_roots.proofs.Common.{eqb-true, proved, Is, answers, Dsb, Tag, loads_in, hold_in, tag_key, pending_in}
-use Rattle.bbm_roots.proofs.Common.{slot_of, wait_at, wait_bit, Stands, Pendings, Registers, Roots, and-true}
-use Rattle.bbm_regimes.specs.PeMask.{pe_in}
-use Rattle.bbm_events.specs.Heading.{Heading}
-use Rattle.bbm_events.specs.declared.event.Event.{Event}
-use Rattle.bbm_events.specs.declared.event.Event.TheVariants.{Dsb as ADsb}
+use Rattle.bbm_roots.proofs.Common.{◌≡◌, ◌∙◌, ap, sym, ℕ, Bool, ◌&&◌, List, ◌∷◌, not, nat_eq, true, false, refl, arith}
+use Rattle.bbm_roots.proofs.Common.{pe_in, Heading, Event, ADsb, nat_tests, answers, Dsb, Tag, loads_in, hold_in}
+use Rattle.bbm_roots.proofs.Common.{pending_in, Stands, Pendings, Registers, Roots, and-true}
 use Rattle.bbm_roots.specs.RootPendings.{answered_in}
 use Rattle.bbm_roots.specs.RootChanges.{Answers, Takes}
 use Rattle.bbm_roots.proofs.Changes.{log-same, room-same}
@@ -39,26 +35,12 @@ completed old new heading h issuer dsb stands answered = record {
 -- an issuer of whom nothing waits
 none-answered : (ps : Pendings) (issuer : ℕ) (dsb : Dsb) (g : Tag) (p : ℕ) → pe_in ps.issuers issuer ≡ false →
     answered_in ps issuer dsb g p ≡ false
-none-answered ps issuer dsb g p e =
-    ap (λ (b : Bool). (answers dsb true && (b
-    && wait_bit g p (wait_at ps.waits.items (slot_of issuer true) (tag_key g))))
-    || (answers dsb false && (b && wait_bit g p (wait_at ps.waits.items (slot_of issuer false) (tag_key g))))) e
-    ∙ proved 2 (λ a b. Is ((a && false) || (b && false)) false) refl (answers dsb true) (answers dsb false)
+none-answered ps issuer dsb g p e = grind (arith)
 
 all-open : (ps : Pendings) (issuer : ℕ) (dsb : Dsb) (q : ℕ) (b : Bool) (g : Tag) (p : ℕ) →
     pe_in ps.issuers issuer ≡ false →
     pending_in ps q b g p ≡ (pending_in ps q b g p && not (nat_eq q issuer && answers dsb b))
-all-open ps issuer dsb q b g p e = by_issuer (nat_eq q issuer) refl
-  where
-    by_issuer : (k : Bool) → nat_eq q issuer ≡ k →
-        pending_in ps q b g p ≡ (pending_in ps q b g p && not (k && answers dsb b))
-    by_issuer false at = sym (and-true (pending_in ps q b g p))
-    by_issuer true at =
-        let none : pending_in ps q b g p ≡ false =
-        ap (λ (n : ℕ). pe_in ps.issuers n
-        && wait_bit g p (wait_at ps.waits.items (slot_of q b) (tag_key g))) (eqb-true q issuer at)
-        ∙ ap (λ (k : Bool). k && wait_bit g p (wait_at ps.waits.items (slot_of q b) (tag_key g))) e in
-        none ∙ ap (λ (x : Bool). x && not (answers dsb b)) (sym none)
+all-open ps issuer dsb q b g p e = grind (arith, nat_tests)
 
 takes : (old new : Roots) (issuer : ℕ) (dsb : Dsb) → Answers issuer dsb old new → Takes (ADsb issuer dsb) old new
 takes old new issuer dsb answered = record {
@@ -76,9 +58,7 @@ returns-else-has c =
     let none : pe_in old.pendings.issuers c.args.issuer ≡ false = sym c.has.ensures ∙ c.if-has.false in
     takes old old c.args.issuer c.args.dsb
     (record {
-      holds = λ g r p. sym (ap (λ (b : Bool). hold_in old.holds g r p
-          && not b) (none-answered old.pendings c.args.issuer c.args.dsb g p none)
-          ∙ and-true (hold_in old.holds g r p));
+      holds = λ g r p. rw (none-answered old.pendings c.args.issuer c.args.dsb g p none) (sym (and-true _));
       pendings = λ q b g p. all-open old.pendings c.args.issuer c.args.dsb q b g p none;
       registers = refl;
       roots = record { declared = refl; locks = refl };

@@ -1,5 +1,4 @@
-use Rattle.bbm_roots.proofs.Common.{◌≡◌, ◌∙◌, ap, is_some, get, nat_eq, rules}
-use Rattle.bbm_rules.specs.Roots.{Declared}
+use Rattle.bbm_roots.proofs.Common.{◌≡◌, ◌∙◌, ap, is_some, get, nat_eq, rules, Declared}
 use Rattle.bbm_roots.proofs.roots.Roots.is_declared.Goals as goal
 
 pub returns : goal.returns

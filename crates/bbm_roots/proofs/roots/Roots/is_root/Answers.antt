@@ -1,5 +1,4 @@
-use Rattle.bbm_roots.proofs.Common.{◌≡◌, ◌∙◌, ap, Option, Some, None, get, nat_eq, rules, is_of_kind}
-use Rattle.bbm_rules.specs.Roots.{Declared}
+use Rattle.bbm_roots.proofs.Common.{◌≡◌, ◌∙◌, ap, Option, Some, None, get, nat_eq, rules, is_of_kind, Declared}
 use Rattle.bbm_roots.proofs.RootLists.{kind-found}
 use Rattle.bbm_roots.proofs.roots.Roots.is_root.Goals as goal
 

@@ -1,23 +1,25 @@
-use Rattle.bbm_roots.proofs.Common.{◌≡◌, ◌<◌, ◌≤◌, ◌∙◌, ap, sym, refl, Bool, ◌&&◌, ◌||◌, nat_eq, nat_lt, List, true}
-use Rattle.bbm_roots.proofs.Common.{false, ℕ, Option, ⊎_elim, false≢true, cases_lt, lt-ltb, first_true, Tag, World}
-use Rattle.bbm_roots.proofs.Common.{takes_whole_tag, loads_in, hold_in, pending_in, has_pending, same_flag, unread_at}
-use Rattle.bbm_roots.proofs.Common.{has_tag}
-use Rattle.bbm_roots.proofs.Common.{reads_tag, first_reg, second_reg, world_of, pes_of, RootValue, or-false, Registers}
-use Rattle.bbm_roots.proofs.Common.{Roots, arith}
-use Rattle.bbm_tlbi_scope.specs.declared.op.TlbiOp.{TlbiOp}
-use Rattle.bbm_tlbi_scope.specs.declared.scope.Scope.{Scope}
-use Rattle.bbm_events.specs.declared.event.Event.TheVariants.{Tlbi}
-use Rattle.bbm_rules.specs.Claims.{Patterns}
-use Rattle.bbm_rules.specs.Tags.{holds_at}
-use Rattle.bbm_roots.specs.RootChanges.{Issues, SameDeclared, TakesWhere}
-use Rattle.bbm_roots.specs.RootRegisters.{loads_after}
+use Rattle.bbm_roots.proofs.Common.{◌≡◌, ◌<◌, ◌∙◌, ap, sym, refl, Bool, ◌&&◌, ◌||◌, nat_eq, nat_lt, true, false, ℕ}
+use Rattle.bbm_roots.proofs.Common.{TlbiOp, Scope, Tlbi, Patterns, holds_at, Issues, TakesWhere, loads_after, Option}
+use Rattle.bbm_roots.proofs.Common.{lt-ltb, first_true, Tag, takes_whole_tag, loads_in, hold_in, pending_in}
+use Rattle.bbm_roots.proofs.Common.{has_pending, same_flag, unread_at, has_tag, reads_tag, first_reg, second_reg}
+use Rattle.bbm_roots.proofs.Common.{world_of, pes_of, or-false, Registers, Roots, arith, eqb-true, Pendings}
+use Rattle.bbm_roots.specs.RootChanges.{SameDeclared}
 use Rattle.bbm_roots.proofs.Flat.{reads_tag-is}
 use Rattle.bbm_roots.proofs.Changes.{log-same, room-same}
 use Rattle.bbm_roots.proofs.Readable.{reads-stay, readings-same}
 use Rattle.bbm_roots.proofs.Steps.{holds-stay, noted}
-use Rattle.bbm_roots.proofs.Bits.{and_right}
-use Rattle.bbm_roots.proofs.PendingBits.{entry-there}
+use Rattle.bbm_roots.proofs.Tests.{and_right, same_flag-true}
 use Rattle.bbm_roots.proofs.roots.Roots.issue_ready.Goals as goal
+
+-- the entry of an issuer, which is this one
+entry-there : (q issuer : ℕ) (flag b takes : Bool) (g : Tag) (ps : Pendings) →
+    (nat_eq q issuer && same_flag flag b && takes) ≡ true → (takes ≡ true → has_pending ps issuer flag g ≡ true) →
+    has_pending ps q b g ≡ true
+entry-there q issuer flag b takes g ps key there =
+    let front : (nat_eq q issuer && same_flag flag b) ≡ true = first_true _ takes key in
+    let flags = same_flag-true flag b (and_right (nat_eq q issuer) _ front) in
+    rw (eqb-true q issuer (first_true _ (same_flag flag b) front), ← flags)
+    (there (and_right (nat_eq q issuer && same_flag flag b) takes key))
 
 -- a TLBI changes nothing but what waits: it is noted where there is an entry, which is where it takes a tag from a PE
 issued : (old new : Roots) (issuer : ℕ) (op : TlbiOp) (xt : ℕ) (scope : Scope) (vmid : Option ℕ) (has : ℕ → Bool → Tag → Bool) →
@@ -48,22 +50,16 @@ issued old new issuer op xt scope vmid has registers holds roots there notes = r
             let held : holds_at heading Patterns p r g h ≡ true = sym (stay g r p) ∙ after in
             let here : hold_in old.holds g r p ≡ true = stands.holds g r p ∙ held in
             let below : p < heading.pes =
-            ⊎_elim (λ (lt : p < heading.pes). lt)
-            (λ (past : heading.pes ≤ p). absurd (false≢true (sym (stands.inside g r p past) ∙ held)))
-            (cases_lt p heading.pes) in
+            let inside = stands.inside g r p in grind (arith) in
             let less : p < pes_of old = let n = stands.pes in omega (arith, below) in
             notes q b g r p here
             ∙ noted heading h issuer op xt scope vmid named q b g p (pending_in old.pendings q b g p) (has q b g)
             (nat_lt p (pes_of old))
             (reads_tag (world_of old) (loads_in old.registers.first.items p) (loads_in old.registers.second.items p) g)
             (stands.pendings q b g r p held) (there q b g r p here) (lt-ltb p (pes_of old) less)
-            (ap (λ (w : World). reads_tag w (loads_in old.registers.first.items p) (loads_in old.registers.second.items p) g) stands.world
-            ∙ ap (λ (xs : List RootValue). reads_tag heading.world xs (loads_in old.registers.second.items p) g) (stands.first p below)
-            ∙ ap (λ (ys : List RootValue). reads_tag heading.world (loads_after h p (first_reg heading.world)) ys g)
-            (stands.second p below)
-            ∙ sym (reads_tag-is heading.world (loads_after h p (first_reg heading.world))
-            (loads_after h p (second_reg heading.world)) g)
-            ∙ ap (has_tag g) (readings-same heading.world h p));
+            (rw (stands.world, stands.first p below, stands.second p below)
+            (sym (reads_tag-is heading.world (loads_after h p (first_reg heading.world))
+            (loads_after h p (second_reg heading.world)) g) ∙ ap (has_tag g) (readings-same heading.world h p)));
       };
   prepared = room-same old new roots.declared;
   log = log-same old new registers;

@@ -1,6 +1,4 @@
-use Rattle.bbm_roots.proofs.Common.{◌∙◌, ap}
-use Rattle.std.specs.Option.{option_and_then}
-use Rattle.bbm_rules.specs.Roots.{Declared}
+use Rattle.bbm_roots.proofs.Common.{◌∙◌, ap, option_and_then, Declared}
 use Rattle.bbm_roots.proofs.roots.Roots.lock_of.Goals as goal
 
 pub returns-then-self : goal.returns-then-self

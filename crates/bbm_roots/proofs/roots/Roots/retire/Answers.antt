@@ -1,17 +1,30 @@
-use Rattle.bbm_roots.proofs.Common.{◌≡◌, ◌∙◌, ap, sym, refl, Bool, nat_eq, ◌+◌, ◌∷◌, true, cond, ℕ, Option}
-use Rattle.bbm_roots.proofs.Common.{None, is_some, arith, rules, get, index_map_len, Tag, names_in, first_reg}
-use Rattle.bbm_roots.proofs.Common.{second_reg, first_none, second_none}
-use Rattle.bbm_events.specs.declared.event.Event.{Event}
-use Rattle.bbm_events.specs.declared.event.Event.TheVariants.{Unroot}
-use Rattle.bbm_rules.specs.RegisterValues.{register_values}
-use Rattle.bbm_rules.specs.Roots.{Declared, root_at, roots_of}
-use Rattle.bbm_histories.proofs.ValueSteps.{root_step}
-use Rattle.bbm_roots.specs.RootRegisters.{loads_after}
-use Rattle.bbm_roots.proofs.Readable.{reads-stay, some-stay}
+use Rattle.bbm_roots.proofs.Common.{◌≡◌, ◌∙◌, ap, sym, refl, Bool, nat_eq, ◌+◌, ◌∷◌, true, cond, ℕ, Option, None, Event}
+use Rattle.bbm_roots.proofs.Common.{Unroot, register_values, Declared, root_at, roots_of, loads_after, load_in, root_in}
+use Rattle.bbm_roots.proofs.Common.{map, base_of, tag_number, is_some, arith, rules, get, index_map_len, names_in}
+use Rattle.bbm_roots.proofs.Common.{first_reg, second_reg, first_none, second_none, false, List, [], Some, Kind, Reg}
+use Rattle.bbm_roots.proofs.Common.{is_that, kind_of_reg, nat_tests}
+use Rattle.bbm_histories.proofs.ValueSteps.{root_step, is_root_step}
+use Rattle.bbm_roots.specs.RootRegisters.{names_page}
 use Rattle.bbm_roots.proofs.RootLists.{retired-length, roots-apart, unlocked}
-use Rattle.bbm_roots.proofs.Rooted.{unroot-stays}
-use Rattle.bbm_roots.proofs.Steps.{holds-stay, waits-stay}
+use Rattle.bbm_roots.proofs.Steps.{kept-stands}
+use Rattle.bbm_roots.proofs.Readable.{load-root}
 use Rattle.bbm_roots.proofs.roots.Roots.retire.Goals as goal
+
+-- an `unroot` of a page that no readable value names leaves what the values name
+module _ (h : List Event) (pe page : ℕ) where
+  unnamed : (kind : Kind) (base : Option ℕ) → is_that (root_in h kind base) page ≡ false →
+      root_in (Unroot pe page ∷ h) kind base ≡ root_in h kind base
+  unnamed kind None e = refl
+  unnamed kind (Some b) e = let step = is_root_step kind b (Unroot pe page) h in grind (arith, nat_tests)
+
+  unroot-stays : (reg : Reg) (vs : List ℕ) → names_in (map (load_in h reg) vs) page ≡ false →
+      map (load_in (Unroot pe page ∷ h) reg) vs ≡ map (load_in h reg) vs
+  unroot-stays reg [] e = refl
+  unroot-stays reg (v ∷ vs) e =
+      let here = load-root (tag_number v) _ _ (unnamed (kind_of_reg reg) (base_of v)
+      (first_none (names_page page (load_in h reg v)) _ e)) in
+      let rest = unroot-stays reg vs (second_none (names_page page (load_in h reg v)) _ e) in
+      cc
 
 pub returns-in-Ok-clause-tried : goal.returns-in-Ok-clause-tried
 returns-in-Ok-clause-tried c = λ pe. record {
@@ -32,26 +45,13 @@ returns-in-Ok-clause-tried c = λ pe. record {
         ∙ ap (λ (n : ℕ). root_at h n) c.get.ensures.value) ∙ judged.0 in
         let one : index_map_len c.swap_remove.new.self + 1 ≡ index_map_len c.args.self.now.declared =
         sym (ap (λ (b : Bool). index_map_len c.swap_remove.new.self + cond b 1 0) taken) ∙ c.swap_remove.ensures.len in
-        let stay = λ (g : Tag) (r p : ℕ). holds-stay heading h e g r p (λ k. sym (reads-stay heading h e p (first p) (second p) g r) ∙ k) refl in
-        record {
-          pes = stands.pes;
-          world = stands.world;
-          first = λ p lt. stands.first p lt ∙ sym (first p);
-          second = λ p lt. stands.second p lt ∙ sym (second p);
-          outside = stands.outside;
-          declared = λ q.
-              c.swap_remove.ensures.updates.0 q
-              ∙ ap (λ (n : ℕ). cond (nat_eq n q) none (get nat_eq c.args.self.now.declared q)) c.get.ensures.value
-              ∙ ap (λ (o : Option Declared). cond (nat_eq page q) None o) (stands.declared q)
-              ∙ sym (root_step e h q);
-          count = omega (arith, one, stands.count, retired-length page (roots_of h) (roots-apart h) judged.0);
-          locks = λ known. unlocked h e page None (λ q. refl) refl (stands.locks known);
-          holds = λ g r p. stands.holds g r p ∙ sym (stay g r p);
-          inside = λ g r p past. stay g r p ∙ stands.inside g r p past;
-          pendings = λ q b g r p held.
-              stands.pendings q b g r p (sym (stay g r p) ∙ held)
-              ∙ sym (waits-stay heading h e q b g p (λ k. sym (some-stay heading h e p (first p) (second p) g) ∙ k) refl);
-        };
+        kept-stands _ stands e refl refl refl first second (λ p reg. refl) (λ g p. refl) (λ q b g p. refl)
+        (λ q. c.swap_remove.ensures.updates.0 q
+        ∙ ap (λ (n : ℕ). cond (nat_eq n q) none (get nat_eq c.args.self.now.declared q)) c.get.ensures.value
+        ∙ ap (λ (o : Option Declared). cond (nat_eq page q) None o) (stands.declared q)
+        ∙ sym (root_step e h q))
+        (omega (arith, one, stands.count, retired-length page (roots_of h) (roots-apart h) judged.0))
+        (λ known. unlocked h e page None (λ q. refl) refl (stands.locks known));
     prepared = search rules;
     log = record { pes = refl; world = refl };
   };

@@ -1,5 +1,4 @@
-use Rattle.bbm_roots.proofs.Common.{◌≡◌, Some, None, sym, ◌∙◌, ap, rules, Option, get, nat_eq, is_of_kind}
-use Rattle.bbm_rules.specs.Roots.{Declared}
+use Rattle.bbm_roots.proofs.Common.{◌≡◌, Some, None, sym, ◌∙◌, ap, rules, Option, get, nat_eq, is_of_kind, Declared}
 use Rattle.bbm_rules.proofs.RootLaw.{root_of_page}
 use Rattle.bbm_roots.proofs.RootLists.{kind-found}
 use Rattle.bbm_roots.proofs.roots.Roots.root_page.Goals as goal

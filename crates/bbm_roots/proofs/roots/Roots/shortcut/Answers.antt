@@ -1,7 +1,10 @@
 -- What is known of the one tag that a value makes readable.
-use Rattle.bbm_roots.proofs.Common.{Bool, ◌&&◌, ap, tag_key, slot_of, wait_at, wait_bit}
-use Rattle.bbm_roots.proofs.Shared.{below-nine}
+use Rattle.bbm_roots.proofs.Common.{◌≡◌, ◌<◌, ℕ, false, nat_le, nat_tests, arith, Bool, ◌&&◌, ap, tag_key, slot_of}
+use Rattle.bbm_roots.proofs.Common.{wait_at, wait_bit}
 use Rattle.bbm_roots.proofs.roots.Roots.shortcut.Goals as goal
+
+below-nine : (n : ℕ) (full : Bool) → full ≡ nat_le 9 n → full ≡ false → n < 9
+below-nine n full same none = grind (arith, nat_tests)
 
 pub returns-in-Some-clause-shared : goal.returns-in-Some-clause-shared
 returns-in-Some-clause-shared c = λ x is.

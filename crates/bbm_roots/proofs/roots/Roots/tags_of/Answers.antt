@@ -1,8 +1,6 @@
-use Rattle.bbm_roots.proofs.Common.{ℕ, sym, ap, ◌∙◌, tag_in, pes_of}
-use Rattle.bbm_rules.specs.Claims.{Patterns}
-use Rattle.bbm_rules.specs.Tags.{holds_tag}
+use Rattle.bbm_roots.proofs.Common.{ℕ, sym, ap, ◌∙◌, tag_in, pes_of, Patterns, holds_tag}
 use Rattle.bbm_roots.proofs.Conflicts.{tag-held}
-use Rattle.bbm_roots.proofs.Leasts.{tags-same}
+use Rattle.bbm_roots.proofs.Tests.{tags-same}
 use Rattle.bbm_roots.proofs.roots.Roots.tags_of.Goals as goal
 
 pub returns : goal.returns

@@ -1,10 +1,7 @@
-use Rattle.bbm_roots.proofs.Common.{◌≡◌, ◌∙◌, sym, ap, subst, List, ◌<◌, ℕ, length, Option, World, Hyp, VttbrEl2}
-use Rattle.bbm_roots.proofs.Common.{second_reg, RootValue, arith}
-use Rattle.bbm_lemmas.specs.ListWords as words
-use Rattle.bbm_rules.specs.RegisterValues.{register_values, vmid_in}
-use Rattle.bbm_roots.specs.Refusals.{JudgesVmid}
-use Rattle.bbm_roots.specs.RootRegisters.{loads_after}
-use Rattle.bbm_roots.proofs.Numbers.{length-loads, numbers-are, one_number, some-value}
+use Rattle.bbm_roots.proofs.Common.{◌≡◌, ◌∙◌, sym, ap, List, ◌<◌, length, World, Hyp, VttbrEl2, second_reg, RootValue}
+use Rattle.bbm_roots.proofs.Common.{register_values, loads_after, arith}
+use Rattle.bbm_rules.specs.RegisterValues.{vmid_in}
+use Rattle.bbm_roots.proofs.Numbers.{length-loads, numbers-are, some-value}
 use Rattle.bbm_roots.proofs.roots.Roots.vmid_of.Goals as goal
 
 pub returns-in-Hyp : goal.returns-in-Hyp
@@ -17,11 +14,8 @@ returns-in-Hyp c = λ heading h stands.
     c.loads_at.ensures ∙ stands.second pe less ∙ ap (λ (w : World). loads_after h pe (second_reg w)) world in
     let some : 0 < length values = let n = length-loads h VttbrEl2 (register_values h pe VttbrEl2) in
     omega (arith, some-value h pe VttbrEl2) in
-    subst (λ (w : World). JudgesVmid (vmid_in w h pe) (loads_after h pe (second_reg w)) c.one_number.result) (sym world)
-    (subst (λ (o : Option ℕ). JudgesVmid o values c.one_number.result)
-    (ap words.one_number (numbers-are h VttbrEl2 (register_values h pe VttbrEl2)))
-    (subst (λ (ls : List RootValue). JudgesVmid (one_number ls) ls c.one_number.result) same
-    (c.one_number.ensures.judged (subst (λ (ls : List RootValue). 0 < length ls) (sym same) some))))
+    rw (world, ← numbers-are h VttbrEl2 (register_values h pe VttbrEl2), ← same)
+    (c.one_number.ensures.judged (rw same some))
 
 pub returns-in-Kernel : goal.returns-in-Kernel
 returns-in-Kernel c = λ heading h stands. ap (λ (w : World). vmid_in w h c.args.pe) (sym stands.world ∙ c.in-Kernel.is)
