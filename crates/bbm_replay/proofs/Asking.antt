@@ -1,11 +1,9 @@
 -- What the cover of a place doesn't depend on.
-use Rattle.bbm_replay.proofs.Common.{El2, S2, Ttbr0, Ttbr1, lacks_vmid, names_all, Asid, Scope, asks_childless}
-use Rattle.bbm_replay.proofs.Common.{asks_tags}
-use Rattle.bbm_rules.proofs.Common.{◌≡◌, ℕ, Bool, true, false, cond, ◌&&◌, not, is_none, Option, refl, sym, ◌∙◌, ap}
-use Rattle.bbm_rules.proofs.Common.{true≢false, and_right, Extent, Kind, cover_by, cover_of, fits_place, vmid_matches}
-use Rattle.bbm_rules.proofs.Common.{names_some, has_page, Cover, Half, Second, Full, PlaceView, TagSet, Family, El2All}
-use Rattle.bbm_rules.proofs.Common.{El2Va, E1All, VmAll1, VmAll12, Ipa, Va, VaAll, arith}
-use Rattle.bbm_tlbi_scope.specs.ScopeCovers.{asid_matches, fits_leaf, fits_table, where_fits}
+use Rattle.bbm_replay.proofs.Common.{lacks_vmid, names_all, Scope, asks_childless, asks_tags}
+use Rattle.bbm_rules.proofs.Common.{◌≡◌, ℕ, Bool, true, false, cond, ◌&&◌, not, is_none, Option, refl, ◌∙◌, ap, Extent}
+use Rattle.bbm_rules.proofs.Common.{Kind, cover_by, cover_of, fits_place, vmid_matches, names_some, has_page, Cover}
+use Rattle.bbm_rules.proofs.Common.{PlaceView, TagSet, Family, arith}
+use Rattle.bbm_tlbi_scope.specs.ScopeCovers.{asid_matches, fits_leaf, fits_table}
 use Rattle.bbm_tlbi_scope.specs.declared.entry.Cover.TheVariants.{None as NoCover}
 use Rattle.bbm_replay.proofs.Descents.{none_by}
 

@@ -1,42 +1,35 @@
--- DSBs.
-use Rattle.bbm_replay.proofs.Common.{Published, core_in, is_broken, waits, Marks, EntryState, state_from, Kind}
-use Rattle.bbm_replay.proofs.Common.{EntryStands, core_with, View, is_held_by, kept, notes, Laws, Told, state_of}
-use Rattle.bbm_replay.proofs.Common.{waiting}
+-- DSBs: what stands after one, in a view and at the parts.
+use Rattle.bbm_replay.proofs.Common.{broken, kept_next, Published, core_in, is_broken, waits, Marks, EntryState}
+use Rattle.bbm_replay.proofs.Common.{state_from, Kind, EntryStands, core_with, View, is_held_by, kept, notes, Laws}
+use Rattle.bbm_replay.proofs.Common.{Told, state_of, waiting, node_in, is_tracked, marks_at, PlaceMap, MayMeet, Meets}
+use Rattle.bbm_replay.proofs.Common.{SameFrame, PartsStand, view_of, ReplayState}
 use Rattle.bbm_rules.proofs.Common.{◌≡◌, ℕ, Bool, true, false, cond, ◌&&◌, nat_eq, List, [], ◌∷◌, Contains, Option}
-use Rattle.bbm_rules.proofs.Common.{Some, None, is_some, refl, sym, ◌∙◌, ap, subst, true≢false, and_parts, eqb-true}
-use Rattle.bbm_rules.proofs.Common.{not-true, and_right, is_non, core_of, is_valid, Core, Cover, fits_heading, Patterns}
-use Rattle.bbm_rules.proofs.Common.{held, every, page_of, Barrier, Heading, Event, Dsb, Above, Node, arith}
-use Rattle.bbm_rules.specs.Broken.{broken}
+use Rattle.bbm_rules.proofs.Common.{Some, None, is_some, refl, sym, ◌∙◌, ap, subst, and_parts, eqb-true, not-true}
+use Rattle.bbm_rules.proofs.Common.{and_right, is_non, core_of, is_valid, Core, Cover, fits_heading, Patterns, held}
+use Rattle.bbm_rules.proofs.Common.{every, page_of, Barrier, Heading, Event, Dsb, Above, Node, arith, Ok}
 use Rattle.bbm_replay_entries.specs.EntryEvents.{Heard}
 use Rattle.bbm_replay_trees.specs.Told.{core_at, next_in}
-use Rattle.bbm_replay.proofs.Moves.{Completes, Hears, Leaves}
-use Rattle.bbm_replay.proofs.Aparts.{apart_leaves, apart_same}
-use Rattle.bbm_replay.proofs.Entries.{entry_same, fit_more, keeps_more, none_of, some_next, some_pe, state_same}
-use Rattle.bbm_replay.proofs.Leaving.{was_there}
-use Rattle.bbm_replay.proofs.Quiet.{tracked_stay}
+use Rattle.bbm_place_map.specs.MapCalls.{lost_table}
+use Rattle.bbm_place_map.specs.Each.{loses_table}
+use Rattle.bbm_replay_roots.specs.RootStateStands as roots
+use Rattle.bbm_replay.proofs.Moves.{Completes, Hears, Leaves, SamePages, SameTracked}
+use Rattle.bbm_replay.proofs.Aparts.{apart_leaves, apart_same, was_there}
+use Rattle.bbm_replay.proofs.Cases.{either, some_or}
+use Rattle.bbm_replay.proofs.Entries.{entry_same, none_of, some_next, some_pe}
+use Rattle.bbm_replay.proofs.Quiet.{told_next}
 use Rattle.bbm_replay.proofs.Writing.{cores}
 use Rattle.bbm_replay.proofs.Ways.{state_core}
+use Rattle.bbm_replay.proofs.Framing.{meets_ok}
 
 pub broken_marks : (live : Option Core) (m : Option Marks) → is_broken (state_from live m) ≡ is_some m
-broken_marks None None = refl
-broken_marks (Some core) None = refl
-broken_marks None (Some m) = refl
-broken_marks (Some core) (Some m) = refl
-
-pub core_some : (m : Option Marks) → is_some (core_in (state_from None m)) ≡ is_some m
-core_some None = refl
-core_some (Some m) = refl
+broken_marks live m = grind arith
 
 -- of a broken place the state is one whatever its live core
 pub same_state : (live live' : Option Core) (m : Option Marks) → is_some m ≡ true → state_from live m ≡ state_from live' m
-same_state live live' None k = absurd (true≢false (sym k))
-same_state None None (Some m) k = refl
-same_state None (Some c) (Some m) k = refl
-same_state (Some c) None (Some m) k = refl
-same_state (Some c) (Some c') (Some m) k = refl
+same_state live live' m k = grind arith
 
-module _ (heading : Heading) (laws : Laws heading) (h : List Event) (old mid new : View) (t : Told heading h old)
-    (q : ℕ) (dsb : Barrier) (hears : Hears old mid (heading.cnp && is_non dsb.domain) q dsb heading.pes)
+module _ {heading : Heading} (laws : Laws heading) {h : List Event} {old mid new : View} (t : Told heading h old)
+    {q : ℕ} {dsb : Barrier} (hears : Hears old mid (heading.cnp && is_non dsb.domain) q dsb heading.pes)
     (completes : Completes mid new q dsb heading.pes) where
   abbrev e : Event
   e = Dsb q dsb
@@ -45,11 +38,8 @@ module _ (heading : Heading) (laws : Laws heading) (h : List Event) (old mid new
   value_same a = completes.value a ∙ hears.value a
 
   heard_marks : (a : ℕ) → is_some (mid.marks a) ≡ is_some (old.marks a)
-  heard_marks a = by (heading.cnp && is_non dsb.domain) refl
-    where
-      by : (b : Bool) → (heading.cnp && is_non dsb.domain) ≡ b → is_some (mid.marks a) ≡ is_some (old.marks a)
-      by true k = ap (λ (m : Option Marks). is_some m) (hears.unheard k a)
-      by false k = sym (broken_marks None (mid.marks a)) ∙ (hears.published k None a).broken ∙ broken_marks None (old.marks a)
+  heard_marks a = either (heading.cnp && is_non dsb.domain) (λ k. ap (λ (m : Option Marks). is_some m) (hears.unheard k a))
+      (λ k. sym (broken_marks None (mid.marks a)) ∙ (hears.published k None a).broken ∙ broken_marks None (old.marks a))
 
   completed_marks : (a : ℕ) → is_some (new.marks a) ≡ (is_some (core_in (state_from None (new.marks a))) && is_some (mid.marks a))
   completed_marks a = sym (broken_marks None (new.marks a)) ∙ (completes.completed a).broken
@@ -62,11 +52,8 @@ module _ (heading : Heading) (laws : Laws heading) (h : List Event) (old mid new
 
   -- what waits where nothing is broken any more
   none_waits : (a : ℕ) → new.marks a ≡ None → (p : ℕ) (b : Bool) (c : Cover) (i : ℕ) → waits (new.pends p a) b c i ≡ false
-  none_waits a k p b c i = by (nat_eq p q) refl
-    where
-      by : (x : Bool) → nat_eq p q ≡ x → waits (new.pends p a) b c i ≡ false
-      by true same = cc (eqb-true p q same, (completes.completed a).waiting b c i, k)
-      by false other = cc (completes.others p a other b c i, k)
+  none_waits a k p b c i = either (nat_eq p q) (λ same. cc (eqb-true p q same, (completes.completed a).waiting b c i, k))
+      (λ other. cc (completes.others p a other b c i, k))
 
   -- each place of a tree
   module _ (n : Node) (a : ℕ) (is : old.node (page_of a) ≡ Some n) where
@@ -79,11 +66,10 @@ module _ (heading : Heading) (laws : Laws heading) (h : List Event) (old mid new
         let s = t.entries n a is in
         let unbroken : is_broken (state_of old n.kind n.level a) ≡ false
         = broken_marks live (old.marks a) ∙ ap (λ (m : Option Marks). is_some m) k in
-        entry_same heading laws (e ∷ h) n.kind n.level a (state_of old n.kind n.level a) (state_of new n.kind n.level a)
-        (waiting old a) (waiting new a)
-        (laws.dsb.whole h n.kind n.level a q dsb (state_of old n.kind n.level a) (waiting old a) (some_pe heading laws h old t) unbroken s)
-        (state_same n.kind n.level (old.value a) (new.value a) (old.marks a) (new.marks a) (value_same a) (whole_stays a k ∙ sym k))
-        (λ p b c i. none_waits a (whole_stays a k) p b c i ∙ sym (s.idle unbroken p b c i))
+        let same : state_of old n.kind n.level a ≡ state_of new n.kind n.level a = cc (value_same a, whole_stays a k, k) in
+        entry_same laws
+        (laws.dsb.whole h n.kind n.level a q dsb (state_of old n.kind n.level a) (waiting old a) (some_pe laws t) unbroken s)
+        same (λ p b c i. none_waits a (whole_stays a k) p b c i ∙ sym (s.idle unbroken p b c i))
 
     broken_entry : is_some (old.marks a) ≡ true
         → EntryStands heading (e ∷ h) n.kind n.level a (state_of new n.kind n.level a) (waiting new a)
@@ -93,9 +79,8 @@ module _ (heading : Heading) (laws : Laws heading) (h : List Event) (old mid new
         let dead : live ≡ None = none_of live (laws.core_where_valid n.kind n.level (old.value a)
         ∙ ap (λ (x : ℕ). is_valid n.kind n.level x) (t.values a)
         ∙ not-true _ (and_parts _ _ (sym s.broken ∙ now_broken)).1) in
-        let mid_broken : is_some (mid.marks a) ≡ true = heard_marks a ∙ k in
         let same_mid : state_from live (mid.marks a) ≡ state_from None (mid.marks a)
-        = same_state live None (mid.marks a) mid_broken in
+        = same_state live None (mid.marks a) (heard_marks a ∙ k) in
         let same_new : state_from None (new.marks a) ≡ state_of new n.kind n.level a
         = ap (λ (o : Option Core). state_from o (new.marks a)) (sym dead ∙ ap (λ (x : ℕ). core_of n.kind n.level x) (sym (value_same a))) in
         let heard : Heard heading (state_of old n.kind n.level a) q dsb (state_from None (mid.marks a)) = record {
@@ -105,20 +90,14 @@ module _ (heading : Heading) (laws : Laws heading) (h : List Event) (old mid new
         } in
         subst (λ (x : EntryState). EntryStands heading (e ∷ h) n.kind n.level a x (waiting new a)) same_new
         (laws.dsb.calls h n.kind n.level a q dsb (state_of old n.kind n.level a) (state_from None (mid.marks a))
-        (state_from None (new.marks a)) (waiting mid a) (waiting new a) (some_pe heading laws h old t) heard
+        (state_from None (new.marks a)) (waiting mid a) (waiting new a) (some_pe laws t) heard
         (completes.completed a)
         (λ p other b c i. completes.others p a other b c i
         ∙ ap (λ x. x && waits (mid.pends p a) b c i) (sym (broken_marks None (new.marks a))))
-        (entry_same heading laws h n.kind n.level a (state_of old n.kind n.level a) (state_of old n.kind n.level a)
-        (waiting old a) (waiting mid a) s refl (λ p. hears.pends p a)))
+        (entry_same laws s refl (λ p. hears.pends p a)))
 
     pub dsb_entry : EntryStands heading (e ∷ h) n.kind n.level a (state_of new n.kind n.level a) (waiting new a)
-    dsb_entry = by (old.marks a) refl
-      where
-        by : (m : Option Marks) → old.marks a ≡ m
-            → EntryStands heading (e ∷ h) n.kind n.level a (state_of new n.kind n.level a) (waiting new a)
-        by None k = whole_entry k
-        by (Some m) k = broken_entry (ap (λ (m : Option Marks). is_some m) k)
+    dsb_entry = some_or (old.marks a) (λ m k. broken_entry (ap (λ (m : Option Marks). is_some m) k)) whole_entry
 
   abbrev holds : Kind → ℕ → ℕ → Bool
   holds kind level a = is_some (core_at new kind level a)
@@ -126,46 +105,33 @@ module _ (heading : Heading) (laws : Laws heading) (h : List Event) (old mid new
   holds_is : (m : Node) (a : Above) → old.node m.page ≡ Some m → Contains m.above a
       → holds m.kind a.level a.place ≡ is_some (held heading Patterns m.kind a.level a.place (notes heading (e ∷ h)))
   holds_is m a is inside =
-      let up = laws.neighbours.above h old m.page m a t.kept t.nodes (cores heading h old t) is inside in
+      let up = laws.neighbours.above h old m.page m a t.kept t.nodes (cores t) is inside in
       let n = up.0 in
-      let stands = dsb_entry n a.place up.1 in
-      cc (
-        state_core n.kind n.level (new.value a.place) (new.marks a.place),
-        laws.holds.holds (e ∷ h) n.kind n.level a.place (state_of new n.kind n.level a.place) (waiting new a.place) stands,
-        up.2,
-        up.3,
-      )
+      let held_now = laws.holds.holds (e ∷ h) n.kind n.level a.place (state_of new n.kind n.level a.place)
+      (waiting new a.place) (dsb_entry n a.place up.1) in
+      cc (state_core n.kind n.level (new.value a.place) (new.marks a.place), held_now, up.2, up.3)
 
   -- where no place lost a table, every page of a tree stays in it
   module _ (no_loss : (a next : ℕ) → next_in (core_in (state_from None (mid.marks a))) ≡ Some next
       → is_some (new.marks a) ≡ true) where
     heard_core : (a : ℕ) → core_in (state_from None (mid.marks a)) ≡ core_in (state_from None (old.marks a))
-    heard_core a = by (heading.cnp && is_non dsb.domain) refl
-      where
-        by : (b : Bool) → (heading.cnp && is_non dsb.domain) ≡ b
-            → core_in (state_from None (mid.marks a)) ≡ core_in (state_from None (old.marks a))
-        by true k = ap (λ (m : Option Marks). core_in (state_from None m)) (hears.unheard k a)
-        by false k = (hears.published k None a).core
-
-    broken_core : (kind : Kind) (level v : ℕ) (m : Option Marks) → is_some m ≡ true
-        → core_with m kind level v ≡ core_in (state_from None m)
-    broken_core kind level v None k = absurd (true≢false (sym k))
-    broken_core kind level v (Some m) k = refl
+    heard_core a = either (heading.cnp && is_non dsb.domain)
+        (λ k. ap (λ (m : Option Marks). core_in (state_from None m)) (hears.unheard k a))
+        (λ k. (hears.published k None a).core)
 
     still_holds : (kind : Kind) (level a next : ℕ) → next_in (core_at old kind level a) ≡ Some next → holds kind level a ≡ true
-    still_holds kind level a next table = by (old.marks a) refl
+    still_holds kind level a next table = some_or (old.marks a)
+        (λ m k. broken_core (new.marks a) (no_loss a next (cc (k, heard_core a, table))))
+        (λ k. cc (whole_stays a k, k, value_same a, some_next (core_at old kind level a) next table))
       where
-        by : (m : Option Marks) → old.marks a ≡ m → holds kind level a ≡ true
-        by None k = cc (whole_stays a k, k, value_same a, some_next (core_at old kind level a) next table)
-        by (Some m) k =
-            let still = no_loss a next (cc (k, heard_core a, table)) in
-            cc (broken_core kind level (new.value a) (new.marks a) still, core_some (new.marks a), still)
+        broken_core : (m : Option Marks) → is_some m ≡ true → is_some (core_with m kind level (new.value a)) ≡ true
+        broken_core m k = grind arith
 
     all_above : (xs : List Above) (p : ℕ) (m : Node) → old.node p ≡ Some m → m.above ≡ xs
         → every (λ a. holds m.kind a.level a.place) xs ≡ true
     all_above [] p m is e = refl
     all_above (a ∷ rest) p m is e =
-        let up = laws.neighbours.up h old p m a rest t.kept t.fit t.nodes (cores heading h old t) is e in
+        let up = laws.neighbours.up h old p m a rest t.kept t.fit t.nodes (cores t) is e in
         let n = up.parent in
         let lists : a ∷ rest ≡ record { place = a.place; level = n.level } ∷ n.above
         = sym e ∙ ap (λ (x : Node). x.above) up.is_below in
@@ -182,45 +148,84 @@ module _ (heading : Heading) (laws : Laws heading) (h : List Event) (old mid new
         rw (here, there) refl
 
     pub all_held : (p : ℕ) → kept (is_held_by holds) (old.node p) ≡ old.node p
-    all_held p = by (old.node p) refl
-      where
-        by : (o : Option Node) → old.node p ≡ o → kept (is_held_by holds) o ≡ o
-        by None k = refl
-        by (Some m) k = ap (λ b. cond b (Some m) None) (all_above m.above p m k refl)
+    all_held p = some_or (old.node p) (λ m k. rw k (ap (λ b. cond b (Some m) None) (all_above m.above p m k refl))) (λ k. rw k refl)
 
   pub after_dsb : (last : View) → fits_heading heading e ≡ true → broken heading Patterns h e ≡ None
-      → ((p : ℕ) → new.node p ≡ old.node p)
-      → Leaves new last (is_held_by holds)
-      → ((p : ℕ) → new.fresh p ≡ old.fresh p) → ((p : ℕ) → new.null p ≡ old.null p)
-      → ((p : ℕ) → new.tracked p ≡ old.tracked p) → ((p : ℕ) → new.known p ≡ old.known p) → new.pages ≡ old.pages
-      → Told heading (e ∷ h) last
-  after_dsb last fits unbroken nodes move fresh null tracked known pages =
-      let sound = keeps_more heading h e t.kept unbroken in
-      let proper = laws.proper t.proper in
-      let rest = tracked_stay heading laws h old last t e refl (record {
-        tracked = λ p. move.tracking.tracked p ∙ tracked p;
-        known = λ p. move.tracking.known p ∙ known p;
-        pages = move.tracking.pages ∙ pages;
-      }) in
-      record {
-        proper = t.proper;
-        kept = sound;
-        fit = fit_more heading h e t.fit fits;
-        values = λ a. move.value a ∙ value_same a ∙ laws.values.others h old e refl t.values a;
-        nodes = laws.nodes.dsb h old last holds q dsb sound t.nodes holds_is
-            (λ p. move.node p ∙ ap (λ (o : Option Node). kept (is_held_by holds) o) (nodes p));
-        fresh = λ p. move.roles.fresh p ∙ fresh p ∙ laws.fresh.others h old e sound refl refl refl t.fresh p;
-        null = λ p. move.roles.null p ∙ null p ∙ laws.pages.same_null h old e refl t.null p;
-        known = rest.0;
-        pages = rest.1;
-        tracked = rest.2;
-        apart = apart_leaves new last (is_held_by holds)
-            (apart_same old new t.apart nodes (record { fresh = fresh; null = null }) tracked) move;
-        entries = λ n a is.
-            let was = was_there (is_held_by holds) (new.node (page_of a)) n (sym (move.node _) ∙ is) in
-            entry_same heading laws (e ∷ h) n.kind n.level a (state_of new n.kind n.level a) (state_of last n.kind n.level a)
-            (waiting new a) (waiting last a) (dsb_entry n a (sym (nodes _) ∙ was.0))
-            (state_same n.kind n.level (new.value a) (last.value a) (new.marks a) (last.marks a) (move.value a) ((move.marks a).1 n is))
-            (λ p. move.pends p a n is);
-        outside = λ a is. (move.marks a).0 is;
-      }
+      → ((p : ℕ) → new.node p ≡ old.node p) → Leaves new last (is_held_by holds) → SamePages old new
+      → SameTracked old new → Told heading (e ∷ h) last
+  after_dsb last fits unbroken nodes move roles tracking =
+      let kept_on = kept_next heading Patterns h e t.kept unbroken in
+      told_next laws last t e fits unbroken refl (record {
+        tracked = λ p. move.tracking.tracked p ∙ tracking.tracked p;
+        known = λ p. move.tracking.known p ∙ tracking.known p;
+        pages = move.tracking.pages ∙ tracking.pages;
+      }) (λ a. move.value a ∙ value_same a ∙ laws.values.others h old e refl t.values a)
+      (laws.nodes.dsb h old last holds q dsb kept_on t.nodes holds_is
+      (λ p. move.node p ∙ ap (λ (o : Option Node). kept (is_held_by holds) o) (nodes p)))
+      (λ p. move.roles.fresh p ∙ roles.fresh p ∙ laws.fresh.others h old e kept_on refl refl refl t.fresh p)
+      (λ p. move.roles.null p ∙ roles.null p ∙ laws.pages.same_null h old e refl t.null p)
+      (apart_leaves new last (is_held_by holds) (apart_same old new t.apart nodes roles tracking.tracked) move)
+      (λ n a is.
+      let was = was_there (is_held_by holds) (new.node (page_of a)) n (sym (move.node _) ∙ is) in
+      let same : state_of new n.kind n.level a ≡ state_of last n.kind n.level a = cc (move.value a, (move.marks a).1 n is) in
+      entry_same laws (dsb_entry n a (sym (nodes _) ∙ was.1)) same (λ p. move.pends p a n is))
+      (λ a is. (move.marks a).0 is)
+
+-- a place that has lost no table still is broken
+pub not_lost : (m m' : Option Marks) (next : ℕ) → loses_table m m' ≡ false → next_in (core_in (state_from None m)) ≡ Some next
+    → is_some m' ≡ true
+not_lost m m' next k table = grind arith
+
+module _ (laws : (heading : Heading) → Laws heading) (old : ReplayState) (m1 m2 : PlaceMap) (pe : ℕ) (dsb : Barrier)
+    (silent : Bool) (n : ℕ) (silent_is : silent ≡ (old.header.cnp && is_non dsb.domain)) (count : n ≡ old.header.pes)
+    (hears : Hears (view_of old.map old.index) (view_of m1 old.index) silent pe dsb n)
+    (completes : Completes (view_of m1 old.index) (view_of m2 old.index) pe dsb n) where
+  abbrev holding : Kind → ℕ → ℕ → Bool
+  holding kind level a = is_some (core_at (view_of m2 old.index) kind level a)
+
+  module _ (heading : Heading) (h : List Event) (s : PartsStand old heading h) where
+    count_here : n ≡ heading.pes
+    count_here = count ∙ ap (λ (x : Heading). x.pes) s.header
+
+    hears_here : Hears (view_of old.map old.index) (view_of m1 old.index) (heading.cnp && is_non dsb.domain) pe dsb heading.pes
+    hears_here = subst (λ b. Hears (view_of old.map old.index) (view_of m1 old.index) b pe dsb heading.pes)
+        (silent_is ∙ ap (λ (x : Heading). x.cnp && is_non dsb.domain) s.header)
+        (subst (λ x. Hears (view_of old.map old.index) (view_of m1 old.index) silent pe dsb x) count_here hears)
+
+    completes_here : Completes (view_of m1 old.index) (view_of m2 old.index) pe dsb heading.pes
+    completes_here = subst (λ x. Completes (view_of m1 old.index) (view_of m2 old.index) pe dsb x) count_here completes
+
+    still_outside : (a : ℕ) → node_in old.index (page_of a) ≡ None → marks_at m2 a ≡ None
+    still_outside a none = whole_stays (laws heading) s.told hears_here completes_here a (s.told.outside a none)
+
+    -- nothing leaves where no place lost a table
+    nothing_leaves : ((a : ℕ) → lost_table m1 m2 a ≡ false)
+        → Leaves (view_of m2 old.index) (view_of m2 old.index) (is_held_by holding)
+    nothing_leaves kept_all = record {
+      node = λ p. sym (all_held (laws heading) s.told hears_here completes_here
+          (λ a next table. not_lost (marks_at m1 a) (marks_at m2 a) next (kept_all a) table) p);
+      value = λ a. refl;
+      marks = λ a. (still_outside a, λ n is. refl);
+      pends = λ q a n is b c p. refl;
+      roles = record { fresh = λ p. refl; null = λ p. refl };
+      tracking = record { tracked = λ p. refl; known = λ p. refl; pages = refl };
+    }
+
+  pub dsb_meets : (new : ReplayState) → MayMeet old (Dsb pe dsb) → SameFrame old new → roots.BarriersPass
+      → ((heading : Heading) (h : List Event) → roots.StateStands old.roots heading h
+      → roots.StateStands new.roots heading (Dsb pe dsb ∷ h))
+      → ((p : ℕ) → is_tracked m2 p ≡ is_tracked old.map p)
+      → (((a : ℕ) → node_in old.index (page_of a) ≡ None → marks_at m2 a ≡ None)
+      → (((a : ℕ) → lost_table m1 m2 a ≡ false)
+      → Leaves (view_of m2 old.index) (view_of m2 old.index) (is_held_by holding))
+      → Leaves (view_of m2 old.index) (view_of new.map new.index) (is_held_by holding))
+      → Meets old new (Dsb pe dsb) (Ok tt)
+  dsb_meets new may frame pass taken tracked move = meets_ok (Dsb pe dsb) may frame (λ heading h s fits. (
+    pass.dsb heading h pe dsb,
+    pass.dsb_limit h pe dsb,
+    after_dsb (laws heading) s.told (hears_here heading h s) (completes_here heading h s) (view_of new.map new.index) fits
+        (pass.dsb heading h pe dsb) (λ p. refl) (move (still_outside heading h s) (nothing_leaves heading h s))
+        (record { fresh = λ p. refl; null = λ p. refl })
+        (record { tracked = tracked; known = λ p. refl; pages = refl }),
+    taken heading h s.roots,
+  ))

@@ -1,10 +1,8 @@
 -- One place after an event that leaves it.
-use Rattle.bbm_replay.proofs.Common.{is_broken, waits, Marks, Pends, EntryState, state_from, Kind, touches, EntryStands}
-use Rattle.bbm_replay.proofs.Common.{AllFit, View, Laws, Told, next_in, state_of, waiting}
-use Rattle.bbm_rules.proofs.Common.{◌≡◌, ℕ, ◌<◌, Bool, true, false, ◌&&◌, List, ◌∷◌, Option, Some, None, refl, sym, ◌∙◌}
-use Rattle.bbm_rules.proofs.Common.{ap, subst, proved, If, Is, core_of, fits_heading, keeps, Patterns, page_of, Heading}
-use Rattle.bbm_rules.proofs.Common.{Event, Node, Core, is_some, true≢false, arith}
-use Rattle.bbm_rules.specs.Broken.{broken}
+use Rattle.bbm_replay.proofs.Common.{is_broken, waits, Pends, EntryState, Kind, touches, EntryStands, View, Laws, Told}
+use Rattle.bbm_replay.proofs.Common.{next_in, state_of, waiting}
+use Rattle.bbm_rules.proofs.Common.{◌≡◌, ℕ, ◌<◌, Bool, true, false, ◌&&◌, List, ◌∷◌, Option, Some, None, refl, ◌∙◌}
+use Rattle.bbm_rules.proofs.Common.{subst, proved, If, Is, page_of, Heading, Event, Node, Core, is_some, arith}
 use Rattle.bbm_replay.proofs.Moves.{Alike}
 
 pub none_of : {A : Type 0} (o : Option A) → is_some o ≡ false → o ≡ None
@@ -14,39 +12,27 @@ none_of o k = grind arith
 pub some_next : (o : Option Core) (next : ℕ) → next_in o ≡ Some next → is_some o ≡ true
 some_next o next k = grind arith
 
-pub keeps_more : (heading : Heading) (h : List Event) (e : Event) → keeps heading Patterns h ≡ true
-    → broken heading Patterns h e ≡ None → keeps heading Patterns (e ∷ h) ≡ true
-keeps_more heading h e k b = rw (k, b) refl
-
-pub fit_more : (heading : Heading) (h : List Event) (e : Event) → AllFit heading h → fits_heading heading e ≡ true
-    → AllFit heading (e ∷ h)
-fit_more heading h e k f = rw (f, k) refl
-
 guard : (x y : Bool) → (x ≡ false → y ≡ false) → y ≡ (x && y)
 guard = proved 2 (λ x y. If (If (Is x false) (Is y false)) (Is y (x && y))) refl
 
-pub state_same : (kind : Kind) (level : ℕ) (v v' : ℕ) (m m' : Option Marks) → v' ≡ v → m' ≡ m
-    → state_from (core_of kind level v) m ≡ state_from (core_of kind level v') m'
-state_same kind level v v' m m' e k = cc
-
-module _ (heading : Heading) (laws : Laws heading) where
-  pub some_pe : (h : List Event) (v : View) → Told heading h v → 0 < heading.pes
-  some_pe h v t = (laws.proper t.proper).some_pe
+module _ {heading : Heading} (laws : Laws heading) where
+  pub some_pe : {h : List Event} {v : View} → Told heading h v → 0 < heading.pes
+  some_pe t = (laws.proper t.proper).some_pe
 
   -- the same state, and pendings that are alike
-  pub entry_same : (h : List Event) (kind : Kind) (level a : ℕ) (s s' : EntryState) (pends pends' : ℕ → Pends)
+  pub entry_same : {h : List Event} {kind : Kind} {level a : ℕ} {s s' : EntryState} {pends pends' : ℕ → Pends}
       → EntryStands heading h kind level a s pends → s ≡ s' → ((q : ℕ) → Alike (pends q) (pends' q))
       → EntryStands heading h kind level a s' pends'
-  entry_same h kind level a s s' pends pends' t e alike =
+  entry_same {h} {kind} {level} {a} {s} {s'} {pends} {pends'} t e alike =
       subst (λ (x : EntryState). EntryStands heading h kind level a x pends') e
       (laws.alike h kind level a s pends pends' t
       (λ q b c p. alike q b c p ∙ guard (is_broken s) (waits (pends q) b c p) (λ k. t.idle k q b c p)))
 
-  pub carried : (h : List Event) (old new : View) → Told heading h old → (e : Event) (n : Node) (a : ℕ)
+  pub carried : {h : List Event} {old : View} (new : View) → Told heading h old → (e : Event) (n : Node) (a : ℕ)
       → old.node (page_of a) ≡ Some n → touches a e ≡ false → new.value a ≡ old.value a → new.marks a ≡ old.marks a
       → ((q : ℕ) → Alike (old.pends q a) (new.pends q a))
       → EntryStands heading (e ∷ h) n.kind n.level a (state_of new n.kind n.level a) (waiting new a)
-  carried h old new t e n a is untouched value marks alike =
-      entry_same (e ∷ h) n.kind n.level a (state_of old n.kind n.level a) (state_of new n.kind n.level a) (waiting old a) (waiting new a)
-      (laws.stays h e n.kind n.level a (state_of old n.kind n.level a) (waiting old a) (some_pe h old t) untouched (t.entries n a is))
-      (state_same n.kind n.level (old.value a) (new.value a) (old.marks a) (new.marks a) value marks) alike
+  carried {h} {old} new t e n a is untouched value marks alike =
+      let same : state_of old n.kind n.level a ≡ state_of new n.kind n.level a = cc in
+      entry_same (laws.stays h e n.kind n.level a (state_of old n.kind n.level a) (waiting old a) (some_pe t) untouched
+      (t.entries n a is)) same alike

@@ -1,11 +1,11 @@
 -- Places that are found, each with its cover.
-use Rattle.bbm_replay.proofs.Common.{Covering, FoundAs, is_found, Found, Grows, IsSettled, PlaceMap, notes}
-use Rattle.bbm_rules.proofs.Common.{◌≡◌, ℕ, zero, suc, Bool, true, false, ◌||◌, List, [], ◌∷◌, ◌++◌, Option, Some}
-use Rattle.bbm_rules.proofs.Common.{nat_eq, Result, Ok, Err, refl, ap, subst, not-suc-le-zero, le_of_suc-le-suc}
-use Rattle.bbm_rules.proofs.Common.{slice_get, length, ◌<◌, eq-eqb, or_right, proved, If, Is, Cover, Patterns}
-use Rattle.bbm_rules.proofs.Common.{cover_at, Core, Tlbi, sym, ◌∙◌, true≢false}
-use Rattle.bbm_replay.specs.Covering.{IsBrokenOver, IsCovered}
-use Rattle.bbm_place_map.specs.Map.{restless_place}
+use Rattle.bbm_replay.proofs.Common.{IsCovered, restless_place, Covering, FoundAs, is_found, Found, Grows, IsSettled}
+use Rattle.bbm_replay.proofs.Common.{PlaceMap, notes}
+use Rattle.bbm_rules.proofs.Common.{◌≡◌, ℕ, zero, suc, Bool, true, false, List, [], ◌∷◌, ◌++◌, Option, Some, Result, Ok}
+use Rattle.bbm_rules.proofs.Common.{Err, refl, subst, not-suc-le-zero, le_of_suc-le-suc, slice_get, length, ◌<◌, proved}
+use Rattle.bbm_rules.proofs.Common.{If, Is, Cover, Patterns, cover_at, Core, Tlbi, sym, ◌∙◌, true≢false, arith}
+use Rattle.bbm_rules.proofs.Common.{nat_tests}
+use Rattle.bbm_replay.specs.Covering.{IsBrokenOver}
 use Rattle.std.specs.Prelude.{IfSome, OnOk}
 use Rattle.std.proofs.lemmas.List.Elements.{All-append}
 
@@ -15,11 +15,6 @@ on_ok (Err x) p f = tt
 
 pub if_some : {A : Type 0} (P : A → Type 0) (o : Option A) (x : A) → o ≡ Some x → IfSome o P → P x
 if_some P o x e p = subst (λ y. IfSome y P) e p
-
--- what two clauses of an answer come to where it is Ok
-pub on_both : {A E : Type 0} (r : Result A E) {P Q R : Type 0} → OnOk r P → OnOk r Q → (P → Q → R) → OnOk r R
-on_both (Ok x) p q f = f p q
-on_both (Err x) p q f = tt
 
 -- an element before the end, and the one at the end
 pub at_end : {X : Type 0} (xs : List X) (x : X) → slice_get (xs ++ x ∷ []) (length xs) ≡ Some x
@@ -39,20 +34,12 @@ as_end xs x f all e = All-append (λ (y : Found). y.cover ≡ f y.place) xs (x �
     one (suc k) d below = absurd (not-suc-le-zero (le_of_suc-le-suc below))
 
 pub found_end : (xs : List Found) (x : Found) → is_found (xs ++ x ∷ []) x.place ≡ true
-found_end [] x = ap (λ b. b || false) (same x.place)
-  where
-    same : (n : ℕ) → nat_eq n n ≡ true
-    same n = eq-eqb n n refl
-found_end (y ∷ ys) x = or_right (nat_eq y.place x.place) (is_found (ys ++ x ∷ []) x.place) (found_end ys x)
+found_end [] x = grind (arith, nat_tests)
+found_end (y ∷ ys) x = grind (arith, found_end ys x)
 
 pub found_before : (xs : List Found) (x : Found) (a : ℕ) → is_found xs a ≡ true → is_found (xs ++ x ∷ []) a ≡ true
-found_before [] x a e = let bad : false ≡ true = e in absurd cc
-found_before (y ∷ ys) x a e = by (nat_eq y.place a) e (found_before ys x a)
-  where
-    by : (b : Bool) → (b || is_found ys a) ≡ true → (is_found ys a ≡ true → is_found (ys ++ x ∷ []) a ≡ true)
-        → (b || is_found (ys ++ x ∷ []) a) ≡ true
-    by true k rest = refl
-    by false k rest = rest k
+found_before [] x a e = absurd cc
+found_before (y ∷ ys) x a e = grind (arith, found_before ys x a)
 
 missing : (old new : Bool) → (old ≡ true → new ≡ true) → new ≡ false → old ≡ false
 missing = proved 2 (λ o n. If (If (Is o true) (Is n true)) (If (Is n false) (Is o false))) refl

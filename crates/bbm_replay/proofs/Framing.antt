@@ -1,27 +1,67 @@
 -- The parts after an event, by what their objects say.
-use Rattle.bbm_replay.proofs.Common.{waits, Pends, PlaceMap, TreeIndex, Laws, SameFrame, PartsStand, view_of, Told}
-use Rattle.bbm_replay.proofs.Common.{ReplayState}
-use Rattle.bbm_rules.proofs.Common.{List, ◌∙◌, ap, Heading, Event}
-use Rattle.bbm_place_map.specs.MapCalls.{IsSame}
-use Rattle.bbm_tree_index.specs.Index.{SamePages, SameTracked}
+use Rattle.bbm_replay.proofs.Common.{Rule, Broken, takes_no_memory, broken, IsSame, SamePages, SameTracked}
+use Rattle.bbm_replay.proofs.Common.{IsFrugal, waits, Pends, PlaceMap, TreeIndex, Laws, MayMeet, Meets, SameFrame}
+use Rattle.bbm_replay.proofs.Common.{PartsStand, view_of, ReplayState, StepFault, NoMemory, Told}
+use Rattle.bbm_rules.proofs.Common.{Some, ◌≡◌, ℕ, true, false, List, ◌∷◌, None, Result, Ok, Err, sym, ◌∙◌, ap, subst}
+use Rattle.bbm_rules.proofs.Common.{fits_heading, Answers, rewrites, limit_of, Patterns, Heading, Event}
 use Rattle.bbm_replay_roots.specs.RootStateStands as roots
 use Rattle.bbm_replay.proofs.Moves.{Same}
 use Rattle.bbm_replay.proofs.Quiet.{told_same}
 
-pub stands_next : (old new : ReplayState) → SameFrame old new → (heading : Heading) (h next : List Event) → PartsStand old heading h
-    → Told heading next (view_of new.map new.index) → roots.StateStands new.roots heading next → PartsStand new heading next
-stands_next old new f heading h next s told roots = record {
-  header = f.header ∙ s.header;
-  index_header = f.index_header ∙ s.index_header;
-  told = told;
-  roots = roots;
+-- an event that is taken, which fits the header
+pub meets_ok : {old new : ReplayState} (e : Event) {u : Unit {0}} → MayMeet old e → SameFrame old new
+    → ((heading : Heading) (h : List Event) → PartsStand old heading h → fits_heading heading e ≡ true
+    → (broken heading Patterns h e ≡ None) × (limit_of h e ≡ None) × Told heading (e ∷ h) (view_of new.map new.index)
+    × roots.StateStands new.roots heading (e ∷ h)) → Meets old new e (Ok u)
+meets_ok {old = old} e m frame next = record {
+  judged = λ heading h s. let n = next heading h s (fits heading h s) in (n.0, n.1);
+  taken = λ heading h s.
+      let n = next heading h s (fits heading h s) in
+      record {
+        header = frame.header ∙ s.header;
+        index_header = frame.index_header ∙ s.index_header;
+        told = n.2;
+        roots = n.3;
+      };
+  unchanged = tt;
+  frugal = tt;
 }
+  where
+    fits : (heading : Heading) (h : List Event) → PartsStand old heading h → fits_heading heading e ≡ true
+    fits heading h s = subst (λ (x : Heading). fits_heading x e ≡ true) (sym m.2.header ∙ s.header) m.3
+
+-- an event that may take memory
+pub frugal_else : (p : ReplayState) (e : Event) (r : Result (Unit {0}) StepFault)
+    → ((heading : Heading) (h : List Event) → PartsStand p heading h
+    → (takes_no_memory e ≡ false) × (rewrites heading h e ≡ false)) → IsFrugal p e r
+frugal_else p e (Err NoMemory) k = k
+frugal_else p e r k = tt
+
+-- one that isn't taken
+pub meets_err : {old new : ReplayState} (e : Event) (fault : StepFault)
+    → ((heading : Heading) (h : List Event) → PartsStand old heading h
+    → Answers (Err fault) (broken heading Patterns h e) (limit_of h e))
+    → ((heading : Heading) (h : List Event) → PartsStand old heading h → PartsStand new heading h)
+    → ((heading : Heading) (h : List Event) → PartsStand old heading h
+    → (takes_no_memory e ≡ false) × (rewrites heading h e ≡ false)) → Meets old new e (Err fault)
+meets_err {old = old} e fault judged same spends =
+    record { judged = judged; taken = tt; unchanged = same; frugal = frugal_else old e (Err fault) spends }
+
+-- an event that breaks a rule
+pub meets_broken : (p : ReplayState) (e : Event) (rule : Rule) (at : ℕ)
+    → ((heading : Heading) (h : List Event) → PartsStand p heading h
+    → broken heading Patterns h e ≡ Some (record { rule = rule; at = at })) → Meets p p e (Err (Broken rule at))
+meets_broken p e rule at k = record { judged = k; taken = tt; unchanged = λ heading h s. s; frugal = tt }
 
 pub stands_still : ((heading : Heading) → Laws heading) → (old new : ReplayState) → SameFrame old new
     → Same (view_of old.map old.index) (view_of new.map new.index)
     → (heading : Heading) (h : List Event) → PartsStand old heading h → roots.StateStands new.roots heading h → PartsStand new heading h
-stands_still laws old new f same heading h s roots = stands_next old new f heading h h s
-    (told_same heading (laws heading) h (view_of old.map old.index) (view_of new.map new.index) s.told same) roots
+stands_still laws old new frame same heading h s roots = record {
+  header = frame.header ∙ s.header;
+  index_header = frame.index_header ∙ s.index_header;
+  told = told_same (laws heading) s.told same;
+  roots = roots;
+}
 
 -- nothing changed, by the records of the map and of the index
 pub same_of : (m m' : PlaceMap) (i i' : TreeIndex) → IsSame m m' → SamePages i i' → SameTracked i i'

@@ -1,37 +1,31 @@
 -- A write at a place of a tree, at the parts.
-use Rattle.bbm_replay.proofs.Common.{Written, WritesAs, waits, IsIdle, Pends, EntryState, same_kind, NoLock}
+use Rattle.bbm_replay.proofs.Common.{node_in, broken, marks_at, pends_at, value_at, SamePages, SameTracked, fresh_in}
+use Rattle.bbm_replay.proofs.Common.{Judging, Written, WritesAs, waits, IsIdle, Pends, EntryState, same_kind, NoLock}
 use Rattle.bbm_replay.proofs.Common.{BreakBeforeMake, LimboMake, NotFresh, BadKind, GlobalUser, Broken, limbo_by, Path}
-use Rattle.bbm_replay.proofs.Common.{NullWritten, PlaceMap, TreeIndex, state_at, RootState, View, notes, Laws}
-use Rattle.bbm_replay.proofs.Common.{attached_next, is_contiguous_core, is_global_core, step_fault, TreeFault, Rules}
-use Rattle.bbm_replay.proofs.Common.{Admitted, core_in, Kind, WritesTree, IsAt, Links, IsUnlocked, MayAdmit, Meets}
-use Rattle.bbm_replay.proofs.Common.{PartsStand, SameFrame, view_of, Told, state_of, ReplayState}
-use Rattle.bbm_rules.proofs.Common.{◌≡◌, ℕ, ◌<◌, ◌%◌, Bool, true, false, not, ◌&&◌, ◌⊎◌, ◌==◌, List, [], ◌∷◌, Option}
-use Rattle.bbm_rules.proofs.Common.{Some, None, is_none, is_some, option_and_then, Result, Ok, Err, refl, sym, ◌∙◌, ap}
-use Rattle.bbm_rules.proofs.Common.{subst, inl, inr, option_map_or, core_of, desc_of, differ, Core, Desc, Invalid}
-use Rattle.bbm_rules.proofs.Common.{Table, Leaf, rewrites, attached_by, Patterns, is_global, if_so, page_of, Ttbr0}
-use Rattle.bbm_rules.proofs.Common.{Heading, Event, Write, lock_of, bad_kind, break_before_make, global_user}
-use Rattle.bbm_rules.proofs.Common.{is_contiguous, lacks, limbo_make, no_lock, not_fresh, null_written, rewritten_fresh}
-use Rattle.bbm_rules.proofs.Common.{Node, held_at, next_in, next_of, node_below, node_of, and-false, and_right, Breach}
-use Rattle.bbm_rules.proofs.Common.{arith}
-use Rattle.bbm_descriptor.specs.Descriptor as descriptor
+use Rattle.bbm_replay.proofs.Common.{PlaceMap, TreeIndex, state_at, RootState, View, notes, Laws, attached_next}
+use Rattle.bbm_replay.proofs.Common.{is_contiguous_core, is_global_core, step_fault, TreeFault, Rules, Admitted}
+use Rattle.bbm_replay.proofs.Common.{core_in, Kind, WritesTree, IsAt, Links, IsUnlocked, MayAdmit, Meets, PartsStand}
+use Rattle.bbm_replay.proofs.Common.{SameFrame, view_of, Told, state_of, ReplayState}
+use Rattle.bbm_rules.proofs.Common.{◌≡◌, ℕ, ◌<◌, ◌%◌, Bool, true, false, not, ◌&&◌, ◌⊎◌, ◌==◌, List, ◌∷◌, Option, Some}
+use Rattle.bbm_rules.proofs.Common.{None, is_none, is_some, option_and_then, Result, Ok, Err, refl, sym, ◌∙◌, ap, subst}
+use Rattle.bbm_rules.proofs.Common.{option_map_or, core_of, desc_of, differ, Core, Desc, rewrites, attached_by}
+use Rattle.bbm_rules.proofs.Common.{Patterns, is_global, if_so, page_of, Ttbr0, Heading, Event, Write, lock_of}
+use Rattle.bbm_rules.proofs.Common.{bad_kind, break_before_make, global_user, is_contiguous, lacks, limbo_make, no_lock}
+use Rattle.bbm_rules.proofs.Common.{not_fresh, null_written, rewritten_fresh, Node, held_at, next_in, next_of, node_of}
+use Rattle.bbm_rules.proofs.Common.{and-false, and_right, Breach, arith, false_from_ne_true, fits_heading, limit_of}
 use Rattle.bbm_rules.proofs.TreeLaw.{table_level}
 use Rattle.bbm_rules.specs.Answers.{is_written}
-use Rattle.bbm_rules.specs.Broken.{broken}
-use Rattle.bbm_place_map.specs.Map.{marks_at, pends_at, value_at}
-use Rattle.bbm_tree_index.specs.Index.{SamePages, SameTracked, fresh_in, node_in, null_in}
-use Rattle.bbm_replay_roots.specs.RootStateStands as roots
 use Rattle.bbm_replay_trees.specs.Told.{core_at}
-use Rattle.bbm_replay.proofs.Moves.{Attaches, Writes}
+use Rattle.bbm_descriptor.specs.Descriptor as descriptor
+use Rattle.bbm_replay_roots.specs.RootStateStands as roots
 use Rattle.bbm_tree_index.specs.Attaching as index
 use Rattle.bbm_tree_index.specs.IndexChanges as changes
 use Rattle.bbm_tree_index.specs.Paths as index_paths
 use Rattle.bbm_tree_index.specs.declared.role.Attach.TheVariants as attach
-use Rattle.bbm_tree_index.specs.declared.fault.TreeFault.TheVariants as tree
-use Rattle.bbm_replay.proofs.Framing.{stands_next, stands_still}
-use Rattle.bbm_replay.proofs.Judging.{Verdict, found, passes, stops, verdict, where_false, where_true, write_is}
-use Rattle.bbm_replay.proofs.Meeting.{fits_all}
+use Rattle.bbm_replay.proofs.Moves.{Attaches, Writes}
+use Rattle.bbm_replay.proofs.Framing.{meets_err, meets_ok, stands_still, meets_broken}
+use Rattle.bbm_replay.proofs.Judging.{all_pass, found, refused, write_is}
 use Rattle.bbm_replay.proofs.Rooting.{attaches_of}
-use Rattle.bbm_replay.proofs.Starting.{meets_broken}
 use Rattle.bbm_replay.proofs.Writing.{after_attaching_write, after_plain_write, cores}
 use Rattle.bbm_replay.proofs.Entries.{none_of}
 use Rattle.bbm_replay.proofs.Ways.{state_core}
@@ -39,26 +33,18 @@ use Rattle.bbm_replay.proofs.Ways.{state_core}
 -- ---- what the core of a descriptor says
 
 contiguous_is : (kind : Kind) (d : Desc) → is_contiguous kind d ≡ is_contiguous_core (descriptor.core_in d)
-contiguous_is kind Invalid = refl
-contiguous_is kind (Table next ns) = refl
-contiguous_is kind (Leaf out attrs share global contiguous) = refl
+contiguous_is kind d = grind arith
 
 global_is : (d : Desc) → is_global d ≡ is_global_core (descriptor.core_in d)
-global_is Invalid = refl
-global_is (Table next ns) = refl
-global_is (Leaf out attrs share global contiguous) = refl
+global_is d = grind arith
 
 attaches_none : (held : Option Core) (d : Desc) → attached_next held (descriptor.core_in d) ≡ None
     → (is_some held ≡ true) ⊎ (next_in d ≡ None)
-attaches_none (Some core) d k = inl refl
-attaches_none None Invalid k = inr k
-attaches_none None d k = inr k
+attaches_none held d k = grind arith
 
 attaches_next : (held : Option Core) (d : Desc) (next : ℕ) → attached_next held (descriptor.core_in d) ≡ Some next
     → (held ≡ None) × (next_in d ≡ Some next)
-attaches_next (Some core) d next k = let bad : None ≡ Some next = k in absurd cc
-attaches_next None Invalid next k = (refl, k)
-attaches_next None d next k = (refl, k)
+attaches_next held d next k = grind arith
 
 -- ---- the rule on locks
 
@@ -76,8 +62,7 @@ module _ (rules : (heading : Heading) → Rules heading) {old : ReplayState} {pe
 
   pub locked : (a : ℕ) → lock ≡ Some a → Meets old old (Write pe place v) (Err (Broken NoLock a))
   locked a k = meets_broken old (Write pe place v) NoLock a (λ heading h s.
-      write_is heading (rules heading) h (view_of old.map old.index) s.told pe place v
-      ∙ stops NoLock _ _ a (no_lock_is heading h s ∙ k))
+      rw (write_is (rules heading) h pe place v, no_lock_is heading h s, k) refl)
 
   pub unlocked : lock ≡ None → IsUnlocked old (Write pe place v)
   unlocked k heading h s = no_lock_is heading h s ∙ k
@@ -140,17 +125,13 @@ module _ (laws : (heading : Heading) → Laws heading) (rules : (heading : Headi
   module _ (heading : Heading) (h : List Event) (s : PartsStand old heading h) where
     null_none : null_written heading Patterns (notes heading h) e ≡ None
     null_none = (rules heading).writes.null h v_old pe place v s.told.null
-        ∙ where_false (null_in old.index (page_of place)) place (s.told.apart.node_not_null (page_of place) n at.1)
+        ∙ ap (λ b. if_so b place) (s.told.apart.node_not_null (page_of place) n at.1)
 
     rewritten_none : rewritten_fresh heading Patterns (notes heading h) e ≡ None
     rewritten_none = (rules heading).writes.rewritten h v_old pe place v s.told.fresh s.told.values
-        ∙ by (fresh_in old.index (page_of place)) refl
-      where
-        by : (b : Bool) → fresh_in old.index (page_of place) ≡ b → if_so (fresh_in old.index (page_of place)
-            && value_at old.map place % 2 == 1 && not (value_at old.map place == v)) place ≡ None
-        by false k = ap (λ b. if_so (b && value_at old.map place % 2 == 1 && not (value_at old.map place == v)) place) k
-        by true k =
-            let both : Some n ≡ None = sym at.1 ∙ s.told.apart.fresh_outside (page_of place) k in absurd cc
+        ∙ ap (λ b. if_so (b && value_at old.map place % 2 == 1 && not (value_at old.map place == v)) place)
+        (false_from_ne_true (fresh_in old.index (page_of place)) (λ k.
+        let both : Some n ≡ None = sym at.1 ∙ s.told.apart.fresh_outside (page_of place) k in absurd cc))
 
     -- the rules on the page that is attached, or on the leaf
     abbrev last : Option Breach
@@ -159,7 +140,7 @@ module _ (laws : (heading : Heading) → Laws heading) (rules : (heading : Headi
         (found GlobalUser (global_user heading Patterns (notes heading h) e) None))
 
     bbm_is : break_before_make heading Patterns (notes heading h) e ≡ if_so (differ held new) place
-    bbm_is = (rules heading).writes.held h v_old n pe place v s.told.nodes (cores heading h v_old s.told) at.1
+    bbm_is = (rules heading).writes.held h v_old n pe place v s.told.nodes (cores s.told) at.1
         ∙ ap (λ (x : Option Core). if_so (differ x (core_of n.kind n.level v)) place) (sym held_n)
         ∙ ap (λ (x : Option Core). if_so (differ held x) place) (sym new_n)
 
@@ -173,27 +154,21 @@ module _ (laws : (heading : Heading) → Laws heading) (rules : (heading : Headi
     -- the least broken rule is the first of these
     write_breaks : broken heading Patterns h e
         ≡ found BreakBeforeMake (if_so (differ held new) place) (found LimboMake (if_so in_limbo place) last)
-    write_breaks = write_is heading (rules heading) h v_old s.told pe place v
-        ∙ passes NoLock _ _ (m.unlocked heading h s) ∙ passes NullWritten _ _ null_none
-        ∙ rw (bbm_is, limbo_is, rewritten_none) refl
+    write_breaks = rw (write_is (rules heading) h pe place v, m.unlocked heading h s, null_none)
+        (rw (bbm_is, limbo_is, rewritten_none) refl)
 
   -- so it is broken where the value differs from what the place holds
   pub differs : differ held new ≡ true → Meets old old e (Err (Broken BreakBeforeMake place))
-  differs k = meets_broken old e BreakBeforeMake place
-      (λ heading h s. write_breaks heading h s ∙ stops BreakBeforeMake _ _ place (where_true (differ held new) place k))
+  differs k = meets_broken old e BreakBeforeMake place (λ heading h s. rw (write_breaks heading h s, k) refl)
 
   module _ (alike : differ held new ≡ false) where
     pub makes_limbo : in_limbo ≡ true → Meets old old e (Err (Broken LimboMake place))
-    makes_limbo k = meets_broken old e LimboMake place (λ heading h s. write_breaks heading h s
-        ∙ passes BreakBeforeMake _ _ (where_false (differ held new) place alike)
-        ∙ stops LimboMake _ _ place (where_true in_limbo place k))
+    makes_limbo k = meets_broken old e LimboMake place (λ heading h s. rw (write_breaks heading h s, alike, k) refl)
 
     module _ (above : in_limbo ≡ false) where
       left : (heading : Heading) (h : List Event) (s : PartsStand old heading h)
           → broken heading Patterns h e ≡ last heading h s
-      left heading h s = write_breaks heading h s
-          ∙ passes BreakBeforeMake _ _ (where_false (differ held new) place alike)
-          ∙ passes LimboMake _ _ (where_false in_limbo place above)
+      left heading h s = rw (write_breaks heading h s, alike, above) refl
 
       -- ---- it attaches nothing
 
@@ -206,7 +181,7 @@ module _ (laws : (heading : Heading) → Laws heading) (rules : (heading : Headi
               ≡ if_so (same_kind n.kind Ttbr0 && is_global (desc_of n.kind n.level v)) place)
           leaves = (rules heading).unattached.inside h v_old n pe place v s.told.nodes at.1
               ((laws heading).unattached.attaches_none h v_old n pe place v s.told.nodes
-              (cores heading h v_old s.told) at.1 (none_attached none))
+              (cores s.told) at.1 (none_attached none))
 
           bad_is : bad_kind heading Patterns (notes heading h) e ≡ if_so (is_contiguous_core new) place
           bad_is = leaves.1 ∙ ap (λ b. if_so b place) (contiguous_is n.kind (desc_of n.kind n.level v))
@@ -222,25 +197,20 @@ module _ (laws : (heading : Heading) → Laws heading) (rules : (heading : Headi
           -- the rules on the leaf
           leaf : broken heading Patterns h e ≡ found BadKind (if_so (is_contiguous_core new) place)
               (found GlobalUser (if_so (same_kind path.kind Ttbr0 && is_global_core new) place) None)
-          leaf = left heading h s ∙ passes NotFresh _ _ leaves.0 ∙ rw (bad_is, user_is) refl
+          leaf = rw (left heading h s, leaves.0, bad_is, user_is) refl
 
         pub contiguous : is_contiguous_core new ≡ true → Meets old old e (Err (Broken BadKind place))
-        contiguous k = meets_broken old e BadKind place (λ heading h s. leaf heading h s
-            ∙ stops BadKind _ _ place (where_true (is_contiguous_core new) place k))
+        contiguous k = meets_broken old e BadKind place (λ heading h s. rw (leaf heading h s, k) refl)
 
         module _ (good : is_contiguous_core new ≡ false) where
           pub user_global : (same_kind path.kind Ttbr0 && is_global_core new) ≡ true
               → Meets old old e (Err (Broken GlobalUser place))
-          user_global k = meets_broken old e GlobalUser place (λ heading h s. leaf heading h s
-              ∙ passes BadKind _ _ (where_false (is_contiguous_core new) place good)
-              ∙ stops GlobalUser _ _ place (where_true (same_kind path.kind Ttbr0 && is_global_core new) place k))
+          user_global k = meets_broken old e GlobalUser place (λ heading h s. rw (leaf heading h s, good, k) refl)
 
           pub admitted : (same_kind path.kind Ttbr0 && is_global_core new) ≡ false
               → Admitted old old pe place v (attached_next held new)
           admitted k = record {
-            kept = λ heading h s. leaf heading h s
-                ∙ passes BadKind _ _ (where_false (is_contiguous_core new) place good)
-                ∙ passes GlobalUser _ _ (where_false (same_kind path.kind Ttbr0 && is_global_core new) place k);
+            kept = λ heading h s. rw (leaf heading h s, good, k) refl;
             frame = record { header = refl; index_header = refl };
             same_map = refl;
             same_roots = refl;
@@ -252,38 +222,29 @@ module _ (laws : (heading : Heading) → Laws heading) (rules : (heading : Headi
       module _ (next : ℕ) (one : attached_next held new ≡ Some next) where
         abbrev JudgesHere : Result (Unit {0}) TreeFault → Type 0
         JudgesHere r = index.Judges (fresh_in old.index) (value_at old.map)
-            (index_paths.starts_of old.index (attach.Below place next)) {A = Unit {0}} false r
+            (index_paths.starts_of old.index (attach.Below place next)) false r
 
-        judged_here : (heading : Heading) (h : List Event) → PartsStand old heading h
-            → (r : Result (Unit {0}) TreeFault)
-            → JudgesHere r
-            → Verdict r (not_fresh heading Patterns (notes heading h) e) (bad_kind heading Patterns (notes heading h) e)
-            (global_user heading Patterns (notes heading h) e)
-        judged_here heading h s r k =
-            verdict (fresh_in old.index) (value_at old.map) (node_below n place next ∷ []) heading h false e
-            ((rules heading).judging.write h v_old n pe place v next
-            s.told.fit s.told.nodes s.told.fresh s.told.values (cores heading h v_old s.told) at.1
-            (one_attached next one).0 (one_attached next one).1) r
-            (subst (λ (o : Option Node). index.Judges (fresh_in old.index) (value_at old.map)
-            (index_paths.below_all o place next) {A = Unit {0}} false r) at.1 k)
+        judging : (heading : Heading) (h : List Event) → PartsStand old heading h → Judging (fresh_in old.index)
+            (value_at old.map) (index_paths.starts_of old.index (attach.Below place next)) heading h false e
+        judging heading h s =
+            subst (λ (o : Option Node). Judging (fresh_in old.index) (value_at old.map) (index_paths.below_all o place next)
+            heading h false e) (sym at.1) ((rules heading).judging.write h v_old n pe place v next
+            s.told.fit s.told.nodes s.told.fresh s.told.values (cores s.told) at.1
+            (one_attached next one).0 (one_attached next one).1)
 
         -- so it may take memory
         attaching : (heading : Heading) (h : List Event) → PartsStand old heading h → rewrites heading h e ≡ false
-        attaching heading h s = and_right (is_written h place) _ (some_attached held_none)
-          where
-            node_is : node_of heading Patterns (notes heading h) (page_of place) ≡ Some n
-            node_is = sym (s.told.nodes (page_of place)) ∙ at.1
-
-            held_none : held_at heading Patterns (notes heading h) n place ≡ None
-            held_none = none_of (held_at heading Patterns (notes heading h) n place)
-                ((laws heading).holds.holds h n.kind n.level place _ _ (s.told.entries n place at.1)
-                ∙ ap (λ (x : Option Core). is_some x)
-                (state_core n.kind n.level (value_at old.map place) (marks_at old.map place)
-                ∙ (one_attached next one).0))
-
-            some_attached : held_at heading Patterns (notes heading h) n place ≡ None
-                → is_none (attached_by heading Patterns (notes heading h) e) ≡ false
-            some_attached empty = rw (node_is, empty, (one_attached next one).1) refl
+        attaching heading h s =
+            let node_is : node_of heading Patterns (notes heading h) (page_of place) ≡ Some n
+            = sym (s.told.nodes (page_of place)) ∙ at.1 in
+            let held_none : held_at heading Patterns (notes heading h) n place ≡ None
+            = none_of (held_at heading Patterns (notes heading h) n place)
+            ((laws heading).holds.holds h n.kind n.level place _ _ (s.told.entries n place at.1)
+            ∙ ap (λ (x : Option Core). is_some x)
+            (state_core n.kind n.level (value_at old.map place) (marks_at old.map place) ∙ (one_attached next one).0)) in
+            let attaches : is_none (attached_by heading Patterns (notes heading h) e) ≡ false
+            = rw (node_is, held_none, (one_attached next one).1) refl in
+            and_right (is_written h place) _ attaches
 
         module _ (index' : TreeIndex) (tracked : SameTracked old.index index') where
           frame : SameFrame old (record old { index = index' })
@@ -301,44 +262,16 @@ module _ (laws : (heading : Heading) → Laws heading) (rules : (heading : Headi
 
             pub attach_fault : (fault : TreeFault) → JudgesHere (Err fault)
                 → Meets old (record old { index = index' }) e (Err (step_fault fault))
-            attach_fault tree.NoMemory k = record {
-              judged = λ heading h s. tt;
-              taken = tt;
-              unchanged = same;
-              frugal = λ heading h s. (refl, attaching heading h s);
-            }
-            attach_fault (tree.Limit which) k = absurd k
-            attach_fault (tree.NotFresh x) k = record {
-              judged = λ heading h s. left heading h s
-                  ∙ stops NotFresh _ _ x (judged_here heading h s (Err (tree.NotFresh x)) k);
-              taken = tt;
-              unchanged = same;
-              frugal = tt;
-            }
-            attach_fault (tree.BadKind x) k = record {
-              judged = λ heading h s.
-                  let w = judged_here heading h s (Err (tree.BadKind x)) k in
-                  left heading h s ∙ passes NotFresh _ _ w.0 ∙ stops BadKind _ _ x w.1;
-              taken = tt;
-              unchanged = same;
-              frugal = tt;
-            }
-            attach_fault (tree.GlobalUser x) k = record {
-              judged = λ heading h s.
-                  let w = judged_here heading h s (Err (tree.GlobalUser x)) k in
-                  left heading h s ∙ passes NotFresh _ _ w.0 ∙ passes BadKind _ _ w.1 ∙ stops GlobalUser _ _ x w.2;
-              taken = tt;
-              unchanged = same;
-              frugal = tt;
-            }
+            attach_fault fault k = meets_err e (step_fault fault)
+                (λ heading h s. refused (judging heading h s) None (limit_of h e) (left heading h s) fault k) same
+                (λ heading h s. (refl, attaching heading h s))
 
           pub attach_ok : JudgesHere (Ok tt)
               → changes.Attaches (value_at old.map) (attach.Below place next) old.index index'
               → Admitted old (record old { index = index' }) pe place v (attached_next held new)
           attach_ok fine attached = record {
             kept = λ heading h s.
-                let w = judged_here heading h s (Ok tt) fine in
-                left heading h s ∙ passes NotFresh _ _ w.0 ∙ passes BadKind _ _ w.1 ∙ passes GlobalUser _ _ w.2;
+                let pass = all_pass (judging heading h s) fine in rw (left heading h s, pass.0, pass.1, pass.2) refl;
             frame = frame;
             same_map = refl;
             same_roots = refl;
@@ -393,37 +326,27 @@ module _ (laws : (heading : Heading) → Laws heading) (rules : (heading : Headi
       dropped = here.written.2.dropped;
     }
 
-    module _ (heading : Heading) (h : List Event) (s : PartsStand old heading h) where
-      told : (o : Option ℕ) → attached_next held new ≡ o → Links old.map place o old.index mid.index
-          → Told heading (e ∷ h) (view_of map mid.index)
-      told None k same = subst (λ (i : TreeIndex). Told heading (e ∷ h) (view_of map i)) (sym same)
-          (after_plain_write heading (laws heading) h v_old (view_of map old.index) s.told pe place v state
-          (move old.index) (fits_all old e m.tree.may heading h s) (done.kept heading h s) (λ p. refl)
-          (record { tracked = here.put.pages; known = λ p. refl; pages = refl }) n at.1 written_n
-          (none_attached k) (λ p. refl) (λ p. refl) idle)
-      told (Some next) k links =
-          let attached = attaches_of old.index mid.index old.map map (attach.Below place next) links.0
-          (record { tracked = here.put.pages; known = links.1.known; pages = links.1.pages }) in
-          after_attaching_write heading (laws heading) h v_old (view_of map mid.index) s.told pe place v state
-          (move mid.index) (fits_all old e m.tree.may heading h s) (done.kept heading h s)
-          attached.null attached.tracking
-          n next at.1 written_n (one_attached next k).0 (one_attached next k).1
-          (subst (λ (o : Option Node). Attaches v_old (view_of map mid.index) (index_paths.below_all o place next)) at.1
-          attached) idle
-
     pub taken : Meets old (record mid { map = map }) e (Ok tt)
-    taken = record {
-      judged = λ heading h s. (done.kept heading h s, (rules heading).limits.others h e refl);
-      taken = λ heading h s. stands_next old (record mid { map = map }) frame heading h (e ∷ h) s
-          (told heading h s (attached_next held new) refl done.links)
-          (subst (λ (r : RootState). roots.StateStands r heading (e ∷ h)) (sym done.same_roots)
-          (others old.roots heading h e s.roots refl (done.kept heading h s)));
-      unchanged = tt;
-      frugal = tt;
-    }
+    taken = meets_ok e m.tree.may (record { header = done.frame.header; index_header = done.frame.index_header })
+        (λ heading h s fits. (
+          done.kept heading h s,
+          (rules heading).limits.others h e refl,
+          told heading h s fits (attached_next held new) refl done.links,
+          subst (λ (r : RootState). roots.StateStands r heading (e ∷ h)) (sym done.same_roots)
+              (others old.roots heading h e s.roots refl (done.kept heading h s)),
+        ))
       where
-        frame : SameFrame old (record mid { map = map })
-        frame = record {
-          header = done.frame.header;
-          index_header = done.frame.index_header;
-        }
+        told : (heading : Heading) (h : List Event) → PartsStand old heading h → fits_heading heading e ≡ true
+            → (o : Option ℕ) → attached_next held new ≡ o → Links old.map place o old.index mid.index
+            → Told heading (e ∷ h) (view_of map mid.index)
+        told heading h s fits None k same = subst (λ (i : TreeIndex). Told heading (e ∷ h) (view_of map i)) (sym same)
+            (after_plain_write (laws heading) s.told pe (move old.index) fits (done.kept heading h s) (λ p. refl)
+            (record { tracked = here.put.pages; known = λ p. refl; pages = refl }) idle (λ p. refl) (λ p. refl) n at.1
+            written_n (none_attached k))
+        told heading h s fits (Some next) k links =
+            let attached = attaches_of old.index mid.index old.map map (attach.Below place next) links.0
+            (record { tracked = here.put.pages; known = links.1.known; pages = links.1.pages }) in
+            after_attaching_write (laws heading) s.told pe (move mid.index) fits (done.kept heading h s)
+            attached.null attached.tracking idle n next at.1 written_n (one_attached next k).0 (one_attached next k).1
+            (subst (λ (o : Option Node). Attaches v_old (view_of map mid.index) (index_paths.below_all o place next)) at.1
+            attached)

@@ -1,10 +1,10 @@
 mod Common
+pub mod Cases
 pub mod Moves
 pub mod Aparts
 pub mod Entries
 pub mod Quiet
 pub mod PageMoves
-pub mod Leaving
 pub mod Growing
 pub mod Writing
 pub mod DsbMoves
@@ -12,19 +12,13 @@ pub mod TlbiMoves
 pub mod Judging
 pub mod Meeting
 pub mod Framing
-pub mod Starting
-pub mod Gone
 pub mod Counting
-pub mod Settling
 pub mod Rooting
 pub mod RootPages
 pub mod Inside
 pub mod Unbroken
 pub mod Outside
 pub mod Found
-pub mod Empty
-pub mod Covered
-pub mod Extents
 pub mod Descents
 pub mod Findings
 pub mod Asking
@@ -34,4 +28,3 @@ pub mod NoLimbo
 pub mod Unmet
 pub mod Noting
 pub mod Skips
-pub mod Issuing

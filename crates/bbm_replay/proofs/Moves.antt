@@ -118,8 +118,7 @@ is_quiet (Lock pe lock) = true
 is_quiet (Unlock pe lock) = true
 is_quiet _ = false
 
--- The trees grew: a page of a tree was one before, at the same node, or it was fresh and in no tree.
+-- The trees grew: a page of a tree was one before, at the same node, or it was fresh.
 pub record Grown (old new : View) : Type 0 where
   pub stays : (p : ℕ) (n : Node) → old.node p ≡ Some n → new.node p ≡ Some n
-  pub comes : (p : ℕ) (n : Node) → new.node p ≡ Some n → (old.node p ≡ Some n)
-      ⊎ ((old.node p ≡ None) × (old.fresh p ≡ true))
+  pub comes : (p : ℕ) (n : Node) → new.node p ≡ Some n → (old.node p ≡ Some n) ⊎ (old.fresh p ≡ true)

@@ -1,44 +1,33 @@
 -- A TLBI that is noted at the places that were found, where it covers no other broken place.
-use Rattle.bbm_replay.proofs.Common.{Covering, FoundAs, is_found, Found, IsSettled, Noted, Pends, PlaceMap, notes}
-use Rattle.bbm_replay.proofs.Common.{state_from}
-use Rattle.bbm_rules.proofs.Common.{◌≡◌, ℕ, Bool, true, false, List, [], None, is_some, refl, sym, ◌∙◌, ap, subst}
-use Rattle.bbm_rules.proofs.Common.{not-suc-le-zero, Cover, Patterns, PeMask, cover_at, Tlbi}
-use Rattle.bbm_rules.proofs.Common.{Result, Err}
-use Rattle.bbm_place_map.specs.Map.{marks_at, pends_at}
+use Rattle.bbm_replay.proofs.Common.{marks_at, pends_at, Covering, FoundAs, is_found, Found, IsSettled, Noted}
+use Rattle.bbm_replay.proofs.Common.{Pends, PlaceMap, notes, state_from}
+use Rattle.bbm_rules.proofs.Common.{◌≡◌, ℕ, true, false, List, [], None, is_some, refl, sym, ◌∙◌, ap, subst}
+use Rattle.bbm_rules.proofs.Common.{not-suc-le-zero, Cover, Patterns, PeMask, cover_at, Tlbi, Result, Err}
 use Rattle.bbm_tlbi_scope.specs.declared.entry.Cover.TheVariants.{None as NoCover}
-use Rattle.bbm_place_map.specs.MapCalls.{IsSame, NotesOnly}
 use Rattle.bbm_replay.specs.Covering.{AreCovered, IsNoted, NotesEach}
 use Rattle.bbm_regimes.specs.declared.regime.NoMemory.{NoMemory}
+use Rattle.bbm_replay.proofs.Cases.{either}
 use Rattle.bbm_replay.proofs.Unmet.{noted_none}
 
-either : (b : Bool) {P : Type 0} → (b ≡ true → P) → (b ≡ false → P) → P
-either true p q = p refl
-either false p q = q refl
-
 -- nothing changes
-module _ (map : PlaceMap) where
-  same : IsSame map map
-  same = record {
+pub not_noted : (map : PlaceMap) (by : Covering) (pe : ℕ) (reach : PeMask) (r : Result (Unit {0}) NoMemory)
+    (e : NoMemory) → r ≡ Err e → IsNoted by pe reach map map r
+not_noted map by pe reach r e is = subst (λ x. IsNoted by pe reach map map x) (sym is) (record {
+  noted = tt;
+  only = record {
+    others = λ q a k. refl;
+    marks = λ a. refl;
+    same = record { values = λ a. refl; pages = λ p. refl; restless = refl; places = λ i. refl };
+  };
+  kept = record {
     values = λ a. refl;
     marks = λ a. refl;
     pends = λ q a. refl;
     pages = λ p. refl;
     restless = refl;
     places = λ i. refl;
-  }
-
-  stays : (pe : ℕ) → NotesOnly pe map map
-  stays pe = record {
-    others = λ q a k. refl;
-    marks = λ a. refl;
-    same = record { values = λ a. refl; pages = λ p. refl; restless = refl; places = λ i. refl };
-  }
-
-pub not_noted : (map : PlaceMap) (by : Covering) (pe : ℕ) (reach : PeMask) (r : Result (Unit {0}) NoMemory)
-    (e : NoMemory) → r ≡ Err e → IsNoted by pe reach map map r
-not_noted map by pe reach r e is =
-    subst (λ x. IsNoted by pe reach map map x) (sym is)
-    (record { noted = tt; only = stays map pe; kept = same map })
+  };
+})
 
 module _ (old : PlaceMap) (by : Covering) where
   pub none_covered : (xs : List Found) → xs ≡ [] → AreCovered old by xs

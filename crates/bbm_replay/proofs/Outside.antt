@@ -1,21 +1,15 @@
 -- A write at a place of no tree, at the parts.
+use Rattle.bbm_replay.proofs.Common.{node_in, broken, marks_at, pends_at, value_at, fresh_in, null_in, NullWritten}
+use Rattle.bbm_replay.proofs.Common.{NotFresh, RewrittenFresh, Broken, IsIdle, Pends, PlaceMap, Puts, waits, Laws}
+use Rattle.bbm_replay.proofs.Common.{Rules, MayMeet, Meets, PartsStand, view_of, ReplayState}
+use Rattle.bbm_rules.proofs.Common.{◌≡◌, ℕ, ◌%◌, Bool, true, false, not, ◌&&◌, ◌||◌, ◌==◌, List, None, Ok, Err, refl}
+use Rattle.bbm_rules.proofs.Common.{◌∙◌, ap, Patterns, if_so, page_of, Heading, Event, Breach, Write, Option}
 use Rattle.std.proofs.Math.Bool.{and_assoc}
-use Rattle.bbm_replay.proofs.Common.{NoLock, NullWritten, BreakBeforeMake, LimboMake, NotFresh, RewrittenFresh, BadKind}
-use Rattle.bbm_replay.proofs.Common.{GlobalUser, Broken, IsIdle, Pends, PlaceMap, Puts, notes, waits, Laws, Rules}
-use Rattle.bbm_replay.proofs.Common.{MayMeet, Meets, PartsStand, view_of, ReplayState}
-use Rattle.bbm_rules.proofs.Common.{◌≡◌, ℕ, ◌%◌, Bool, true, false, not, ◌&&◌, ◌||◌, ◌==◌, List, ◌∷◌, None, Ok, Err}
-use Rattle.bbm_rules.proofs.Common.{refl, ◌∙◌, ap, Patterns, if_so, page_of, Heading, Event, Breach, Write, not_fresh}
-use Rattle.bbm_rules.proofs.Common.{rewritten_fresh, null_written, bad_kind, global_user, break_before_make, limbo_make}
-use Rattle.bbm_rules.proofs.Common.{no_lock, Option}
 use Rattle.bbm_entry_state.specs.declared.state.EntryState.TheVariants as state
-use Rattle.bbm_rules.specs.Broken.{broken}
-use Rattle.bbm_place_map.specs.Map.{marks_at, pends_at, value_at}
-use Rattle.bbm_tree_index.specs.Index.{fresh_in, node_in, null_in}
 use Rattle.bbm_replay_roots.specs.RootStateStands as roots
-use Rattle.bbm_replay.proofs.Framing.{stands_next}
+use Rattle.bbm_replay.proofs.Framing.{meets_ok, meets_broken}
+use Rattle.bbm_replay.proofs.Moves.{Writes}
 use Rattle.bbm_replay.proofs.Judging.{found, write_is}
-use Rattle.bbm_replay.proofs.Meeting.{fits_all}
-use Rattle.bbm_replay.proofs.Starting.{meets_broken}
 use Rattle.bbm_replay.proofs.Unbroken.{leaves_unbroken}
 use Rattle.bbm_replay.proofs.Writing.{after_write_outside}
 
@@ -45,21 +39,16 @@ module _ (laws : (heading : Heading) → Laws heading) (rules : (heading : Headi
         let again = (rules heading).writes.rewritten h view pe place v s.told.fresh s.told.values
         ∙ ap (λ b. if_so b place) (and_assoc (fresh_in old.index page) (value_at old.map place % 2 == 1)
         (not (value_at old.map place == v))) in
-        rw (write_is heading (rules heading) h view s.told pe place v, out.0, null, out.1, out.2, bare.1, again, bare.2, bare.3) refl
-
-    judged : (null fresh again : Bool) → null_in old.index page ≡ null → fresh_in old.index page ≡ fresh
-        → rewritten ≡ again → broken heading Patterns h (Write pe place v) ≡ verdict page place null fresh again
-    judged null fresh again a b c = write_breaks ∙ ap (λ x. verdict page place x (fresh_in old.index page) rewritten) a
-        ∙ ap (λ x. verdict page place null x rewritten) b ∙ ap (λ x. verdict page place null fresh x) c
+        rw (write_is (rules heading) h pe place v, out.0, null, out.1, out.2, bare.1, again, bare.2, bare.3) refl
 
   module _ (fresh : fresh_in old.index page ≡ false) where
     pub outside_null : null_in old.index page ≡ true → Meets old old (Write pe place v) (Err (Broken NullWritten place))
     outside_null null = meets_broken old (Write pe place v) NullWritten place
-        (λ heading h s. judged heading h s true false rewritten null fresh refl)
+        (λ heading h s. rw (write_breaks heading h s, null) refl)
 
     pub outside_unfresh : null_in old.index page ≡ false → Meets old old (Write pe place v) (Err (Broken NotFresh page))
     outside_unfresh real = meets_broken old (Write pe place v) NotFresh page
-        (λ heading h s. judged heading h s false false rewritten real fresh refl)
+        (λ heading h s. rw (write_breaks heading h s, real, fresh) refl)
 
   module _ (fresh : fresh_in old.index page ≡ true) where
     real : null_in old.index page ≡ false
@@ -67,39 +56,29 @@ module _ (laws : (heading : Heading) → Laws heading) (rules : (heading : Headi
 
     pub outside_rewritten : rewritten ≡ true → Meets old old (Write pe place v) (Err (Broken RewrittenFresh place))
     outside_rewritten k = meets_broken old (Write pe place v) RewrittenFresh place
-        (λ heading h s. judged heading h s false true true real fresh k)
+        (λ heading h s. rw (write_breaks heading h s, real, fresh, k) refl)
 
     module _ (k : rewritten ≡ false) (others : roots.OthersStand) (map : PlaceMap) (put : Puts v place old.map map)
         (marks : (a : ℕ) → marks_at map a ≡ marks_at old.map a)
         (pends : (q a : ℕ) → pends_at map q a ≡ pends_at old.map q a)
         (idle : (q a : ℕ) → marks_at map a ≡ None → IsIdle (pends_at map q a)) where
-      kept : (heading : Heading) (h : List Event) → PartsStand old heading h
-          → broken heading Patterns h (Write pe place v) ≡ None
-      kept heading h s = judged heading h s false true false real fresh k
-
       pub outside_ok : Meets old (record old { map = map }) (Write pe place v) (Ok tt)
-      outside_ok = record {
-        judged = λ heading h s. (kept heading h s, (rules heading).limits.others h (Write pe place v) refl);
-        taken = λ heading h s.
-            let left = leaves_unbroken old.map map pe place v (m.2.told.outside place away)
-            marks pends idle state.Clean refl in
-            stands_next old (record old { map = map }) (record { header = refl; index_header = refl })
-            heading h (Write pe place v ∷ h) s
-            (after_write_outside heading (laws heading) h (view_of old.map old.index)
-            (view_of map old.index) s.told pe place v
-            state.Clean
-            (record {
-              value = put.values;
-              marks = left.marks;
-              pends = λ q a k b c p. ap (λ (x : Pends). waits x b c p) (left.pends q a k);
-              dropped = left.dropped;
-            })
-            (fits_all old (Write pe place v) m heading h s) (kept heading h s) (λ p. refl)
-            (record { tracked = put.pages; known = λ p. refl; pages = refl }) away refl
-            ((rules heading).unattached.outside h (view_of old.map old.index) pe place v s.told.nodes s.told.fresh
-            s.told.null away).0
-            (λ p. refl) (λ p. refl))
-            (others old.roots heading h (Write pe place v) s.roots refl (kept heading h s));
-        unchanged = tt;
-        frugal = tt;
-      }
+      outside_ok =
+          let whole = m.2.told.outside place away in
+          let left = leaves_unbroken old.map map pe place v whole marks pends idle state.Clean refl in
+          meets_ok (Write pe place v) m (record { header = refl; index_header = refl }) (λ heading h s fits.
+          let kept : broken heading Patterns h (Write pe place v) ≡ None = rw (write_breaks heading h s, real, fresh, k) refl in
+          let move : Writes (view_of old.map old.index) (view_of map old.index) place v state.Clean = record {
+            value = put.values;
+            marks = left.marks;
+            pends = λ q a k b c p. ap (λ (x : Pends). waits x b c p) (left.pends q a k);
+            dropped = left.dropped;
+          } in (
+            kept,
+            (rules heading).limits.others h (Write pe place v) refl,
+            after_write_outside (laws heading) s.told pe move fits kept (λ p. refl)
+                (record { tracked = put.pages; known = λ p. refl; pages = refl }) idle (λ p. refl) (λ p. refl) away refl
+                ((rules heading).unattached.outside h (view_of old.map old.index) pe place v s.told.nodes s.told.fresh
+                s.told.null away).0,
+            others old.roots heading h (Write pe place v) s.roots refl kept,
+          ))

@@ -1,39 +1,41 @@
--- A page that is initialised, or becomes a null page.
-use Rattle.bbm_replay.proofs.Common.{Marks, View, Laws, Told}
-use Rattle.bbm_rules.proofs.Common.{◌≡◌, ℕ, Bool, true, false, cond, ◌==◌, ◌||◌, List, ◌∷◌, Option, Some, None, refl}
-use Rattle.bbm_rules.proofs.Common.{sym, ◌∙◌, ap, ne_eqb, fits_heading, Patterns, page_of, Heading, Event, Init, Null}
-use Rattle.bbm_rules.proofs.Common.{Node}
-use Rattle.bbm_rules.specs.Broken.{broken}
-use Rattle.bbm_replay.proofs.Moves.{Begins, Nullifies}
-use Rattle.bbm_replay.proofs.Aparts.{apart_begins, apart_nullifies}
-use Rattle.bbm_replay.proofs.Entries.{carried, fit_more, keeps_more}
-use Rattle.bbm_replay.proofs.Quiet.{nodes_stay, tracked_stay}
+-- Pages that are initialised, become null pages or leave the trees, in a view and at the parts.
+use Rattle.bbm_replay.proofs.Common.{broken, kept_next, View, Laws, Told, node_in, value_at, fresh_in, heading_of}
+use Rattle.bbm_replay.proofs.Common.{null_in, kind_in_world, PageInUse, WrongWorld, Broken, TreeFault, step_fault}
+use Rattle.bbm_replay.proofs.Common.{Rules, MayMeet, Meets, SameFrame, PartsStand, view_of, ReplayState, notes}
+use Rattle.bbm_replay.proofs.Common.{PlaceMap, TreeIndex, marks_at, waits, Marks, Pends, StepFault, kept}
+use Rattle.bbm_rules.proofs.Common.{◌≡◌, ℕ, Bool, true, cond, not, ◌==◌, ◌||◌, List, ◌∷◌, Option, Some, None, refl, sym}
+use Rattle.bbm_rules.proofs.Common.{◌∙◌, ap, fits_heading, Patterns, page_of, Heading, Event, Init, Null, Unroot, arith}
+use Rattle.bbm_rules.proofs.Common.{◌≤◌, false, Ok, Err, is_some, Pages, Answers, limit_of, S2, Node, page_in_use}
+use Rattle.bbm_tree_index.specs.Index.{known_in, pages_in}
+use Rattle.bbm_replay_trees.specs.Told.{is_at}
+use Rattle.bbm_tree_index.specs.HeldCores.{leaves}
+use Rattle.bbm_tree_index.specs.IndexChanges.{TakesOut}
+use Rattle.bbm_replay_roots.specs.RootStateStands as roots
+use Rattle.bbm_tree_index.specs.declared.fault.TreeFault.TheVariants as tree
+use Rattle.bbm_replay.proofs.Moves.{Begins, Leaves, Nullifies, Same}
+use Rattle.bbm_replay.proofs.Aparts.{apart, apart_begins, apart_leaves, apart_nullifies, was_there}
+use Rattle.bbm_replay.proofs.Entries.{carried}
+use Rattle.bbm_replay.proofs.Quiet.{told_next}
+use Rattle.bbm_replay.proofs.Framing.{meets_broken, meets_err, meets_ok, stands_still}
+use Rattle.bbm_replay.proofs.Judging.{found, init_is, init_limit, init_no_limit, null_is}
+use Rattle.bbm_replay.proofs.Meeting.{answers}
 
--- a page with a node isn't one without
-pub apart : (node : ℕ → Option Node) (p q : ℕ) (n : Node) → node p ≡ Some n → node q ≡ None → (p == q) ≡ false
-apart node p q n is none = ne_eqb p q (λ e. let both : Some n ≡ None = sym is ∙ ap node e ∙ none in absurd cc)
+none_anyway : {A : Type 0} (b : Bool) (m : Option A) → m ≡ None → cond b None m ≡ None
+none_anyway b m k = grind arith
 
-pub apart_back : (node : ℕ → Option Node) (p q : ℕ) (n : Node) → node p ≡ Some n → node q ≡ None → (q == p) ≡ false
-apart_back node p q n is none = ne_eqb q p (λ e. let both : Some n ≡ None = sym is ∙ ap node (sym e) ∙ none in absurd cc)
-
-none_anyway : (b : Bool) (m : Option Marks) → m ≡ None → cond b None m ≡ None
-none_anyway true m k = refl
-none_anyway false m k = k
-
-module _ (heading : Heading) (laws : Laws heading) (h : List Event) (old new : View) (t : Told heading h old)
+module _ {heading : Heading} (laws : Laws heading) {h : List Event} {old : View} (new : View) (t : Told heading h old)
     (pe page : ℕ) where
   pub after_init : fits_heading heading (Init pe page) ≡ true → broken heading Patterns h (Init pe page) ≡ None
       → Begins old new page → Told heading (Init pe page ∷ h) new
   after_init fits unbroken move =
       let e = Init pe page in
-      let kept = keeps_more heading h e t.kept unbroken in
-      let proper = laws.proper t.proper in
+      let kept = kept_next heading Patterns h e t.kept unbroken in
       record {
         proper = t.proper;
         kept = kept;
-        fit = fit_more heading h e t.fit fits;
+        fit = rw (fits, t.fit) refl;
         values = laws.values.init h old new pe page t.values move.value;
-        nodes = nodes_stay heading laws h old new t e kept refl move.nodes;
+        nodes = λ p. move.nodes p ∙ laws.nodes.others h old e (laws.proper t.proper) kept refl t.nodes p;
         fresh = laws.fresh.init h old new pe page kept t.fresh move.fresh;
         null = λ p. move.null p ∙ laws.pages.same_null h old e refl t.null p;
         known = laws.pages.known h old new pe page t.known move.known;
@@ -42,10 +44,9 @@ module _ (heading : Heading) (laws : Laws heading) (h : List Event) (old new : V
         apart = apart_begins old new page t.apart move;
         entries = λ n a is.
             let was : old.node (page_of a) ≡ Some n = sym (move.nodes _) ∙ is in
-            let off : (page_of a == page) ≡ false = apart old.node (page_of a) page n was move.outside in
-            carried heading laws h old new t e n a was (apart_back old.node (page_of a) page n was move.outside)
-            (move.value a ∙ ap (λ b. cond b 0 (old.value a)) off) (move.marks a ∙ ap (λ b. cond b None (old.marks a)) off)
-            (λ q. move.pends q a off);
+            let off = apart old.node (page_of a) page n was move.outside in
+            carried laws new t e n a was off.1 (move.value a ∙ ap (λ b. cond b 0 (old.value a)) off.0)
+            (move.marks a ∙ ap (λ b. cond b None (old.marks a)) off.0) (λ q. move.pends q a off.0);
         outside = λ a is. move.marks a
             ∙ none_anyway (page_of a == page) (old.marks a) (t.outside a (sym (move.nodes _) ∙ is));
       }
@@ -54,22 +55,169 @@ module _ (heading : Heading) (laws : Laws heading) (h : List Event) (old new : V
       → Nullifies old new page → Told heading (Null pe page ∷ h) new
   after_null fits unbroken move =
       let e = Null pe page in
-      let kept = keeps_more heading h e t.kept unbroken in
-      let proper = laws.proper t.proper in
-      let rest = tracked_stay heading laws h old new t e refl move.tracking in
-      record {
-        proper = t.proper;
-        kept = kept;
-        fit = fit_more heading h e t.fit fits;
-        values = λ a. move.map.value a ∙ laws.values.others h old e refl t.values a;
-        nodes = nodes_stay heading laws h old new t e kept refl move.nodes;
-        fresh = laws.fresh.null h old new pe page kept t.fresh move.fresh;
-        null = laws.pages.null h old new pe page t.null move.null;
-        known = rest.0;
-        pages = rest.1;
-        tracked = rest.2;
-        apart = apart_nullifies old new page t.apart move;
-        entries = λ n a is. carried heading laws h old new t e n a (sym (move.nodes _) ∙ is) refl
-            (move.map.value a) (move.map.marks a) (λ q. move.map.pends q a);
-        outside = λ a is. move.map.marks a ∙ t.outside a (sym (move.nodes _) ∙ is);
-      }
+      let kept = kept_next heading Patterns h e t.kept unbroken in
+      told_next laws new t e fits unbroken refl move.tracking
+      (λ a. move.map.value a ∙ laws.values.others h old e refl t.values a)
+      (λ p. move.nodes p ∙ laws.nodes.others h old e (laws.proper t.proper) kept refl t.nodes p)
+      (laws.fresh.null h old new pe page kept t.fresh move.fresh) (laws.pages.null h old new pe page t.null move.null)
+      (apart_nullifies old new page t.apart move)
+      (λ n a is. carried laws new t e n a (sym (move.nodes _) ∙ is) refl (move.map.value a) (move.map.marks a)
+      (λ q. move.map.pends q a))
+      (λ a is. move.map.marks a ∙ t.outside a (sym (move.nodes _) ∙ is))
+
+  pub after_unroot : fits_heading heading (Unroot pe page) ≡ true → broken heading Patterns h (Unroot pe page) ≡ None
+      → Leaves old new (λ m. not (m.root == page)) → Told heading (Unroot pe page ∷ h) new
+  after_unroot fits unbroken move =
+      let e = Unroot pe page in
+      let kept = kept_next heading Patterns h e t.kept unbroken in
+      told_next laws new t e fits unbroken refl move.tracking
+      (λ a. move.value a ∙ laws.values.others h old e refl t.values a)
+      (laws.nodes.unroot h old new pe page (laws.proper t.proper) kept t.nodes move.node)
+      (λ p. move.roles.fresh p ∙ laws.fresh.others h old e kept refl refl refl t.fresh p)
+      (λ p. move.roles.null p ∙ laws.pages.same_null h old e refl t.null p)
+      (apart_leaves old new (λ m. not (m.root == page)) t.apart move)
+      (λ n a is. carried laws new t e n a
+      (was_there (λ m. not (m.root == page)) (old.node (page_of a)) n (sym (move.node _) ∙ is)).1 refl (move.value a)
+      ((move.marks a).1 n is) (λ q. move.pends q a n is))
+      (λ a is. (move.marks a).0 is)
+
+module _ (rules : (heading : Heading) → Rules heading) (old : ReplayState) (pe page : ℕ) where
+  pub init_refused : (is_some (node_in old.index page) || null_in old.index page) ≡ true
+      → Meets old old (Init pe page) (Err (Broken PageInUse page))
+  init_refused used = meets_broken old (Init pe page) PageInUse page
+      (λ heading h s. rw (init_is (rules heading) s.told pe page, used) refl)
+
+  init_kept : (is_some (node_in old.index page) || null_in old.index page) ≡ false
+      → (heading : Heading) (h : List Event) → PartsStand old heading h → broken heading Patterns h (Init pe page) ≡ None
+  init_kept free heading h s = rw (init_is (rules heading) s.told pe page, free) refl
+
+  pub null_world : kind_in_world old.header.world S2 ≡ true → Meets old old (Null pe page) (Err (Broken WrongWorld 0))
+  null_world wrong = meets_broken old (Null pe page) WrongWorld 0 (λ heading h s.
+      let k : kind_in_world heading.world S2 ≡ true = cc (wrong, s.header) in
+      rw (null_is (rules heading) s.told pe page, k) refl)
+
+  module _ (right : kind_in_world old.header.world S2 ≡ false) where
+    -- by the rule on pages in use
+    null_breaks : (heading : Heading) (h : List Event) → PartsStand old heading h → (o : Option ℕ)
+        → page_in_use heading Patterns (notes heading h) (Null pe page) ≡ o
+        → broken heading Patterns h (Null pe page) ≡ found PageInUse o None
+    null_breaks heading h s o k =
+        let right_here : kind_in_world heading.world S2 ≡ false = cc (right, s.header) in
+        rw (null_is (rules heading) s.told pe page, right_here, k) refl
+
+    pub null_unfresh : fresh_in old.index page ≡ false → Meets old old (Null pe page) (Err (Broken PageInUse page))
+    null_unfresh k = meets_broken old (Null pe page) PageInUse page (λ heading h s. null_breaks heading h s (Some page)
+        ((rules heading).on_pages.null_unfresh h (view_of old.map old.index) pe page s.told.fresh k))
+
+    pub null_nonzero : ((a : ℕ) × (is_at page a ≡ true) × (value_at old.map a ≡ 0 → ⊥))
+        → Meets old old (Null pe page) (Err (Broken PageInUse page))
+    null_nonzero k = meets_broken old (Null pe page) PageInUse page (λ heading h s. null_breaks heading h s (Some page)
+        ((rules heading).on_pages.null_used h (view_of old.map old.index) pe page k.0 s.told.values k.1 k.2))
+
+module _ (laws : (heading : Heading) → Laws heading) (rules : (heading : Heading) → Rules heading) (others : roots.OthersStand)
+    (old : ReplayState) (map : PlaceMap) (index : TreeIndex) (same_heading : heading_of index ≡ heading_of old.index)
+    (pe page : ℕ) where
+  abbrev became : ReplayState
+  became = record old { map = map; index = index }
+
+  frame : SameFrame old became
+  frame = record { header = refl; index_header = same_heading }
+
+  module _ (m : MayMeet old (Init pe page))
+      (free : (is_some (node_in old.index page) || null_in old.index page) ≡ false) where
+    pub init_ok : ((known_in old.index page ≡ false) × (16384 ≤ pages_in old.index) → ⊥)
+        → Begins (view_of old.map old.index) (view_of map index) page → Meets old became (Init pe page) (Ok tt)
+    init_ok room begins = meets_ok (Init pe page) m frame (λ heading h s fits.
+        let kept = init_kept rules old pe page free heading h s in (
+          kept,
+          init_no_limit (rules heading) s.told pe page room,
+          after_init (laws heading) (view_of map index) s.told pe page fits kept begins,
+          others old.roots heading h (Init pe page) s.roots refl kept,
+        ))
+
+    pub init_err : (fault : TreeFault)
+        → (fault ≡ tree.Limit Pages → (known_in old.index page ≡ false) × (16384 ≤ pages_in old.index))
+        → ((fault ≡ tree.Limit Pages → ⊥) → fault ≡ tree.NoMemory)
+        → Same (view_of old.map old.index) (view_of map index) → Meets old became (Init pe page) (Err (step_fault fault))
+    init_err fault full else_none same = meets_err (Init pe page) (step_fault fault)
+        (λ heading h s. by fault heading h s full else_none)
+        (λ heading h s. stands_still laws old became frame same heading h s s.roots) (λ heading h s. (refl, refl))
+      where
+        by : (f : TreeFault) (heading : Heading) (h : List Event) → PartsStand old heading h
+            → (f ≡ tree.Limit Pages → (known_in old.index page ≡ false) × (16384 ≤ pages_in old.index))
+            → ((f ≡ tree.Limit Pages → ⊥) → f ≡ tree.NoMemory)
+            → Answers (Err (step_fault f)) (broken heading Patterns h (Init pe page)) (limit_of h (Init pe page))
+        by tree.NoMemory heading h s full none = tt
+        by (tree.Limit Pages) heading h s full none = (
+          init_kept rules old pe page free heading h s,
+          init_limit (rules heading) s.told pe page (full refl).0 (full refl).1,
+        )
+        by f heading h s full none = let bad : f ≡ tree.NoMemory = none (λ e. absurd cc) in absurd cc
+
+  pub null_ok : MayMeet old (Null pe page) → kind_in_world old.header.world S2 ≡ false → fresh_in old.index page ≡ true
+      → ((a : ℕ) → is_at page a ≡ true → value_at old.map a ≡ 0)
+      → Nullifies (view_of old.map old.index) (view_of map index) page → Meets old became (Null pe page) (Ok tt)
+  null_ok m right fresh zero move = meets_ok (Null pe page) m frame (λ heading h s fits.
+      let kept = null_breaks rules old pe page right heading h s None ((rules heading).on_pages.null_unused h
+      (view_of old.map old.index) pe page s.told.fit s.told.fresh s.told.values fresh zero) in (
+        kept,
+        (rules heading).limits.others h (Null pe page) refl,
+        after_null (laws heading) (view_of map index) s.told pe page fits kept move,
+        others old.roots heading h (Null pe page) s.roots refl kept,
+      ))
+
+pub free_parts : (o : Option Node) (b : Bool) → (is_some o || b) ≡ false → (o ≡ None) × (b ≡ false)
+free_parts o b k = grind arith
+
+-- what stays doesn't leave
+stays_there : (keeps : Node → Bool) (o : Option Node) (n : Node) → kept keeps o ≡ Some n → leaves keeps o ≡ false
+stays_there keeps o n k = grind arith
+
+goes : (keeps : Node → Bool) (o : Option Node) (m : Option Marks) → kept keeps o ≡ None → (o ≡ None → m ≡ None)
+    → cond (leaves keeps o) None m ≡ None
+goes keeps o m k whole = grind arith
+
+pub leaves_of : (old new : TreeIndex) (before after : PlaceMap) (keeps : Node → Bool)
+    → ((a : ℕ) → node_in old (page_of a) ≡ None → marks_at before a ≡ None) → TakesOut keeps old new before after
+    → Leaves (view_of before old) (view_of after new) keeps
+leaves_of old new before after keeps outside out =
+    let node = out.trees.node in
+    record {
+      node = node;
+      value = out.map.values;
+      marks = λ a. (
+        (λ none. out.map.marks a ∙ goes keeps (node_in old (page_of a)) (marks_at before a) (sym (node _) ∙ none) (outside a)),
+        (λ n is. out.map.marks a
+            ∙ ap (λ b. cond b None (marks_at before a)) (stays_there keeps (node_in old (page_of a)) n (sym (node _) ∙ is))),
+      );
+      pends = λ q a n is b c p. ap (λ (x : Pends). waits x b c p)
+          (out.map.pends q a (stays_there keeps (node_in old (page_of a)) n (sym (node _) ∙ is)));
+      roles = record { fresh = out.trees.fresh; null = out.trees.null };
+      tracking = record { tracked = out.map.pages; known = out.tracked.known; pages = out.tracked.pages };
+    }
+
+module _ (laws : (heading : Heading) → Laws heading) (rules : (heading : Heading) → Rules heading) (old : ReplayState)
+    (pe page : ℕ) (m : MayMeet old (Unroot pe page)) where
+  pub unroot_err : (fault : StepFault)
+      → ((heading : Heading) (h : List Event) → roots.StateStands old.roots heading h
+      → roots.Judges (Err fault) (broken heading Patterns h (Unroot pe page))) → Meets old old (Unroot pe page) (Err fault)
+  unroot_err fault judged = meets_err (Unroot pe page) fault (λ heading h s.
+      answers (Err fault) _ _ (judged heading h s.roots) ((rules heading).limits.others h (Unroot pe page) refl))
+      (λ heading h s. s) (λ heading h s. (refl, refl))
+
+  pub unroot_ok : (new : ReplayState)
+      → ((heading : Heading) (h : List Event) → roots.StateStands old.roots heading h
+      → broken heading Patterns h (Unroot pe page) ≡ None)
+      → SameFrame old new
+      → ((heading : Heading) (h : List Event) → PartsStand old heading h
+      → Leaves (view_of old.map old.index) (view_of new.map new.index) (λ n. not (n.root == page)))
+      → ((heading : Heading) (h : List Event) → roots.StateStands old.roots heading h
+      → broken heading Patterns h (Unroot pe page) ≡ None → roots.StateStands new.roots heading (Unroot pe page ∷ h))
+      → Meets old new (Unroot pe page) (Ok tt)
+  unroot_ok new unbroken frame move taken = meets_ok (Unroot pe page) m frame (λ heading h s fits.
+      let kept = unbroken heading h s.roots in (
+        kept,
+        (rules heading).limits.others h (Unroot pe page) refl,
+        after_unroot (laws heading) (view_of new.map new.index) s.told pe page fits kept (move heading h s),
+        taken heading h s.roots kept,
+      ))

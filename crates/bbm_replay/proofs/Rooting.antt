@@ -1,124 +1,117 @@
 -- A root that is declared, at the parts.
-use Rattle.bbm_replay.proofs.Common.{IsIdle, Kind, kind_in_world, WrongWorld, NotFresh, BadKind, GlobalUser, PageInUse}
-use Rattle.bbm_replay.proofs.Common.{StepFault, Broken, Limit, NoMemory, PlaceMap, TreeIndex, TreeFault, RootState}
-use Rattle.bbm_replay.proofs.Common.{notes, step_fault, Laws, Rules, MayMeet, Meets, SameFrame, PartsStand, view_of}
-use Rattle.bbm_replay.proofs.Common.{ReplayState, third_true}
-use Rattle.bbm_rules.proofs.Common.{◌≡◌, ℕ, Bool, true, false, cond, not, List, [], ◌∷◌, length, Option, Some, None}
-use Rattle.bbm_rules.proofs.Common.{filter, Result, Ok, Err, refl, sym, ◌∙◌, ap, subst, nat_le, Roots, Answers}
-use Rattle.bbm_rules.proofs.Common.{Patterns, limit_of, if_so, least, Heading, Event, Root, fits_heading, is_pe}
-use Rattle.bbm_rules.proofs.Common.{is_root_lock, is_root_page, pages_from, root_pages, roots_of, bad_kind, global_user}
-use Rattle.bbm_rules.proofs.Common.{not_fresh, Node, nodes_of_root}
-use Rattle.bbm_rules.specs.Broken.{broken}
-use Rattle.bbm_rules.specs.Roots.{page_count}
-use Rattle.bbm_place_map.specs.Map.{marks_at, pends_at, value_at}
-use Rattle.bbm_tree_index.specs.Index.{fresh_in, heading_of}
+use Rattle.bbm_replay.proofs.Common.{broken, marks_at, pends_at, value_at, fresh_in, heading_of, Judging, IsIdle, Kind}
+use Rattle.bbm_replay.proofs.Common.{kind_in_world, WrongWorld, NotFresh, BadKind, GlobalUser, PageInUse, StepFault}
+use Rattle.bbm_replay.proofs.Common.{Broken, Limit, NoMemory, PlaceMap, TreeIndex, TreeFault, RootState, notes}
+use Rattle.bbm_replay.proofs.Common.{step_fault, Laws, Rules, MayMeet, Meets, SameFrame, PartsStand, view_of}
+use Rattle.bbm_replay.proofs.Common.{ReplayState}
+use Rattle.bbm_rules.proofs.Common.{◌≡◌, ℕ, true, false, not, List, ◌∷◌, length, Option, Some, None, filter, Result, Ok}
+use Rattle.bbm_rules.proofs.Common.{Err, refl, sym, ap, subst, nat_le, Roots, Answers, Patterns, limit_of, if_so, least}
+use Rattle.bbm_rules.proofs.Common.{Heading, Event, Root, pages_from, root_pages, roots_of, bad_kind, global_user}
+use Rattle.bbm_rules.proofs.Common.{page_count, Contains, not_fresh, Node, nodes_of_root}
+use Rattle.bbm_tree_index.specs.Paths.{starts_of}
+use Rattle.bbm_tree_index.specs.Prepared.{AreNamedFresh}
+use Rattle.bbm_tree_index.specs.declared.role.Attach.{Attach}
 use Rattle.bbm_tree_index.specs.Attaching as index
 use Rattle.bbm_tree_index.specs.IndexChanges as changes
-use Rattle.bbm_tree_index.specs.Paths.{starts_of}
-use Rattle.bbm_tree_index.specs.declared.role.Attach.{Attach}
-use Rattle.bbm_tree_index.specs.declared.fault.TreeFault.TheVariants as tree
+use Rattle.bbm_tree_index.specs.declared.role.Attach.TheVariants as attach
 use Rattle.bbm_replay_roots.specs.RootStateStands as roots
+use Rattle.bbm_replay.proofs.RootPages.{named_fresh}
 use Rattle.bbm_replay.proofs.Moves.{Attaches, SameMap, SameTracked}
-use Rattle.bbm_replay.proofs.Framing.{stands_next}
+use Rattle.bbm_replay.proofs.Cases.{either}
+use Rattle.bbm_replay.proofs.Framing.{meets_err, meets_ok, meets_broken}
 use Rattle.bbm_replay.proofs.Growing.{after_root}
-use Rattle.bbm_replay.proofs.Judging.{Verdict, passes, root_is, stops, verdict, where_false, where_true}
-use Rattle.bbm_replay.proofs.Meeting.{fits_all, frugal_else, stands_same, with_roots}
-use Rattle.bbm_replay.proofs.Starting.{meets_broken}
+use Rattle.bbm_replay.proofs.Judging.{all_pass, found, refused, root_is}
+use Rattle.bbm_replay.proofs.Meeting.{stands_same, with_roots}
 
 -- the nodes of the pages of a root
 abbrev pub starts : Heading → Kind → ℕ → List Node
 starts heading kind page = nodes_of_root heading (record { page = page; kind = kind; lock = None })
 
+-- the first of its pages that isn't fresh
+abbrev pub unfresh : ReplayState → Kind → ℕ → Option ℕ
+unfresh old kind page =
+    least (filter (λ p. not (fresh_in old.index p)) (pages_from page (page_count old.header.world kind)))
+
+-- where there is none, each is fresh
+pub named : (old : ReplayState) (kind : Kind) (page : ℕ) → kind_in_world old.header.world kind ≡ true
+    → unfresh old kind page ≡ None → {heading : Heading} {h : List Event} → PartsStand old heading h
+    → AreNamedFresh old.index (attach.Root kind page)
+named old kind page right none {heading} s k n inside =
+    let here : least (filter (λ p. not (fresh_in old.index p)) (root_pages heading.world kind page)) ≡ None
+    = cc (right, s.header, none) in
+    named_fresh (fresh_in old.index) kind _ page _ (root_pages heading.world kind page) here n
+    (subst (λ (x : Heading). Contains (starts x kind page) n) s.index_header inside)
+
 module _ (laws : (heading : Heading) → Laws heading) (rules : (heading : Heading) → Rules heading) (old : ReplayState)
-    (pe page : ℕ) (kind : Kind) (lock : Option ℕ) (m : MayMeet old (Root pe kind lock page)) where
+    (pe page : ℕ) (kind : Kind) (lock : Option ℕ) where
   abbrev e : Event
   e = Root pe kind lock page
 
+  -- what the index answers of the pages
+  abbrev pub JudgedAs : Result (Unit {0}) TreeFault → Type 0
+  JudgedAs r = index.Judges (fresh_in old.index) (value_at old.map) (starts (heading_of old.index) kind page) true r
+
   pub root_world : kind_in_world old.header.world kind ≡ false → Meets old old e (Err (Broken WrongWorld 0))
-  root_world wrong = meets_broken old e WrongWorld 0
-      (λ heading h s. root_is heading (rules heading) h (view_of old.map old.index) s.told pe page kind lock
-      ∙ stops WrongWorld _ _ 0 (where_true (not (kind_in_world heading.world kind)) 0 (cc (wrong, s.header))))
+  root_world wrong = meets_broken old e WrongWorld 0 (λ heading h s.
+      let k : kind_in_world heading.world kind ≡ false = cc (wrong, s.header) in
+      rw (root_is (rules heading) s.told pe page kind lock, k) refl)
 
   module _ (right : kind_in_world old.header.world kind ≡ true) where
     module _ (heading : Heading) (h : List Event) (s : PartsStand old heading h) where
-      world_is : if_so {A = ℕ} (not (kind_in_world heading.world kind)) 0 ≡ None
-      world_is = where_false (not (kind_in_world heading.world kind)) 0 (cc (right, s.header))
+      root_breaks : broken heading Patterns h e
+          ≡ found NotFresh (not_fresh heading Patterns (notes heading h) e)
+          (found BadKind (bad_kind heading Patterns (notes heading h) e)
+          (found GlobalUser (global_user heading Patterns (notes heading h) e)
+          (found PageInUse (unfresh old kind page) None)))
+      root_breaks =
+          let k : kind_in_world heading.world kind ≡ true = cc (right, s.header) in
+          rw (s.header, root_is (rules heading) s.told pe page kind lock, k) refl
 
-      verdict_here : (r : Result (Unit {0}) TreeFault)
-          → index.Judges (fresh_in old.index) (value_at old.map) (starts (heading_of old.index) kind page) {A = Unit {0}} true r
-          → Verdict r (not_fresh heading Patterns (notes heading h) e) (bad_kind heading Patterns (notes heading h) e)
-          (global_user heading Patterns (notes heading h) e)
-      verdict_here r k = verdict (fresh_in old.index) (value_at old.map) (starts heading kind page) heading h true e
-          ((rules heading).judging.root h (view_of old.map old.index) pe page kind lock
-          ((laws heading).proper s.told.proper) s.told.fit s.told.fresh s.told.values) r
-          (subst (λ (x : Heading). index.Judges (fresh_in old.index) (value_at old.map) (starts x kind page) {A = Unit {0}} true r) s.index_header k)
+      judging : Judging (fresh_in old.index) (value_at old.map) (starts (heading_of old.index) kind page) heading h true e
+      judging = subst (λ (x : Heading). Judging (fresh_in old.index) (value_at old.map) (starts x kind page) heading h true e)
+          (sym s.index_header) ((rules heading).judging.root h (view_of old.map old.index) pe page kind lock
+          ((laws heading).proper s.told.proper) s.told.fit s.told.fresh s.told.values)
 
-    pub root_fault : (fault : TreeFault)
-        → index.Judges (fresh_in old.index) (value_at old.map) (starts (heading_of old.index) kind page) {A = Unit {0}} true (Err fault)
-        → Meets old old e (Err (step_fault fault))
-    root_fault tree.NoMemory k = record { judged = λ heading h s. tt; taken = tt; unchanged = λ heading h s. s; frugal = λ heading h s. (refl, refl) }
-    root_fault (tree.Limit which) k = absurd k
-    root_fault (tree.NotFresh at) k = meets_broken old e NotFresh at (λ heading h s.
-        root_is heading (rules heading) h (view_of old.map old.index) s.told pe page kind lock
-        ∙ passes WrongWorld _ _ (world_is heading h s) ∙ stops NotFresh _ _ at (verdict_here heading h s (Err (tree.NotFresh at)) k))
-    root_fault (tree.BadKind at) k = meets_broken old e BadKind at (λ heading h s.
-        let v = verdict_here heading h s (Err (tree.BadKind at)) k in
-        root_is heading (rules heading) h (view_of old.map old.index) s.told pe page kind lock
-        ∙ passes WrongWorld _ _ (world_is heading h s) ∙ passes NotFresh _ _ v.0 ∙ stops BadKind _ _ at v.1)
-    root_fault (tree.GlobalUser at) k = meets_broken old e GlobalUser at (λ heading h s.
-        let v = verdict_here heading h s (Err (tree.GlobalUser at)) k in
-        root_is heading (rules heading) h (view_of old.map old.index) s.told pe page kind lock
-        ∙ passes WrongWorld _ _ (world_is heading h s) ∙ passes NotFresh _ _ v.0 ∙ passes BadKind _ _ v.1 ∙ stops GlobalUser _ _ at v.2)
+    pub root_fault : (fault : TreeFault) → JudgedAs (Err fault) → Meets old old e (Err (step_fault fault))
+    root_fault fault k = meets_err e (step_fault fault) (λ heading h s. refused (judging heading h s)
+        (found PageInUse (unfresh old kind page) None) (limit_of h e) (root_breaks heading h s) fault k)
+        (λ heading h s. s) (λ heading h s. (refl, refl))
 
-    module _ (fine : index.Judges (fresh_in old.index) (value_at old.map) (starts (heading_of old.index) kind page) {A = Unit {0}} true (Ok tt)) where
-      used : (heading : Heading) (h : List Event) → PartsStand old heading h → (at : ℕ)
-          → least (filter (λ p. not (fresh_in old.index p)) (root_pages heading.world kind page)) ≡ Some at
-          → broken heading Patterns h e ≡ Some (record { rule = PageInUse; at = at })
-      used heading h s at k =
-          let v = verdict_here heading h s (Ok tt) fine in
-          root_is heading (rules heading) h (view_of old.map old.index) s.told pe page kind lock
-          ∙ passes WrongWorld _ _ (world_is heading h s) ∙ passes NotFresh _ _ v.0 ∙ passes BadKind _ _ v.1
-          ∙ passes GlobalUser _ _ v.2 ∙ stops PageInUse _ None at k
+    module _ (fine : JudgedAs (Ok tt)) where
+      passed : (heading : Heading) (h : List Event) → PartsStand old heading h → (o : Option ℕ)
+          → unfresh old kind page ≡ o
+          → broken heading Patterns h e ≡ found PageInUse o None
+      passed heading h s o k =
+          let pass = all_pass (judging heading h s) fine in
+          rw (root_breaks heading h s, pass.0, pass.1, pass.2, k) refl
 
-      pub unbroken : least (filter (λ p. not (fresh_in old.index p)) (root_pages old.header.world kind page)) ≡ None
-          → (heading : Heading) (h : List Event) → PartsStand old heading h → broken heading Patterns h e ≡ None
-      unbroken k heading h s =
-          let v = verdict_here heading h s (Ok tt) fine in
-          root_is heading (rules heading) h (view_of old.map old.index) s.told pe page kind lock
-          ∙ passes WrongWorld _ _ (world_is heading h s) ∙ passes NotFresh _ _ v.0 ∙ passes BadKind _ _ v.1
-          ∙ passes GlobalUser _ _ v.2 ∙ passes PageInUse _ None (cc (k, s.header))
+      pub unbroken : unfresh old kind page ≡ None → (heading : Heading) (h : List Event) → PartsStand old heading h
+          → broken heading Patterns h e ≡ None
+      unbroken k heading h s = passed heading h s None k
 
-      pub root_used : (at : ℕ) → least (filter (λ p. not (fresh_in old.index p)) (root_pages old.header.world kind page)) ≡ Some at
-          → Meets old old e (Err (Broken PageInUse at))
-      root_used at k = meets_broken old e PageInUse at (λ heading h s. used heading h s at (cc (k, s.header)))
+      pub root_used : (at : ℕ) → unfresh old kind page ≡ Some at → Meets old old e (Err (Broken PageInUse at))
+      root_used at k = meets_broken old e PageInUse at (λ heading h s. passed heading h s (Some at) k)
 
-      module _ (free : (heading : Heading) (h : List Event) → PartsStand old heading h → broken heading Patterns h e ≡ None)
-          (ready : RootState) (same : (heading : Heading) (h : List Event) → roots.StateStands old.roots heading h
-          → roots.StateStands ready heading h) where
+      module _ (none : unfresh old kind page ≡ None) (ready : RootState) (same : (heading : Heading) (h : List Event)
+          → roots.StateStands old.roots heading h → roots.StateStands ready heading h) where
         -- there is no room for the root
         pub root_full : (fault : StepFault)
             → ((heading : Heading) (h : List Event) → roots.StateStands old.roots heading h
             → (fault ≡ Limit Roots) → limit_of h e ≡ Some Roots)
             → ((fault ≡ Limit Roots → ⊥) → fault ≡ NoMemory) → Meets old (with_roots old ready) e (Err fault)
-        root_full fault full none = record {
-          judged = λ heading h s. by fault heading h (full heading h s.roots) none s;
-          taken = tt;
-          unchanged = λ heading h s. stands_same old ready heading h s (same heading h s.roots);
-          frugal = frugal_else old e (Err fault) (λ heading h s. (refl, refl));
-        }
+        root_full fault full else_none = meets_err e fault
+            (λ heading h s. by fault heading h s (full heading h s.roots) else_none)
+            (λ heading h s. stands_same old ready heading h s (same heading h s.roots)) (λ heading h s. (refl, refl))
           where
-            by : (f : StepFault) → (heading : Heading) (h : List Event) → ((f ≡ Limit Roots) → limit_of h e ≡ Some Roots)
-                → ((f ≡ Limit Roots → ⊥) → f ≡ NoMemory) → PartsStand old heading h
+            by : (f : StepFault) (heading : Heading) (h : List Event) → PartsStand old heading h
+                → (f ≡ Limit Roots → limit_of h e ≡ Some Roots) → ((f ≡ Limit Roots → ⊥) → f ≡ NoMemory)
                 → Answers (Err f) (broken heading Patterns h e) (limit_of h e)
-            by NoMemory heading h full none s = tt
-            by (Broken rule at) heading h full none s =
-                let bad : Broken rule at ≡ NoMemory = none (λ k. absurd cc) in absurd cc
-            by (Limit Roots) heading h full none s = (free heading h s, full refl)
-            by (Limit which) heading h full none s =
-                let bad : Limit which ≡ NoMemory = none (λ k. absurd cc) in absurd cc
+            by NoMemory heading h s full else_none = tt
+            by (Limit Roots) heading h s full else_none = (unbroken none heading h s, full refl)
+            by f heading h s full else_none = let bad : f ≡ NoMemory = else_none (λ k. absurd cc) in absurd cc
 
         -- there is, and the pages are attached
-        pub root_ok : (new : ReplayState) → SameFrame old new
+        pub root_ok : (new : ReplayState) → MayMeet old e → SameFrame old new
             → ((heading : Heading) (h : List Event) → roots.StateStands old.roots heading h → limit_of h e ≡ Some Roots → ⊥)
             → SameMap (view_of old.map old.index) (view_of new.map new.index)
             → Attaches (view_of old.map old.index) (view_of new.map new.index) (starts (heading_of old.index) kind page)
@@ -126,36 +119,16 @@ module _ (laws : (heading : Heading) → Laws heading) (rules : (heading : Headi
             → ((heading : Heading) (h : List Event) → roots.StateStands ready heading h → broken heading Patterns h e ≡ None
             → roots.StateStands new.roots heading (e ∷ h))
             → Meets old new e (Ok tt)
-        root_ok new frame room map attached idle taken = record {
-          judged = λ heading h s. (free heading h s, no_limit heading h s);
-          taken = λ heading h s. stands_next old new frame heading h (e ∷ h) s
-              (after_root heading (laws heading) h (view_of old.map old.index) (view_of new.map new.index) s.told pe page kind lock
-              (fits_all old e m heading h s) (free heading h s) map
-              (subst (λ (x : Heading). Attaches (view_of old.map old.index) (view_of new.map new.index) (starts x kind page)) s.index_header attached)
-              idle)
-              (taken heading h (same heading h s.roots) (free heading h s));
-          unchanged = tt;
-          frugal = tt;
-        }
-          where
-            no_limit : (heading : Heading) (h : List Event) → PartsStand old heading h → limit_of h e ≡ None
-            no_limit heading h s = by (nat_le 1024 (length (roots_of h))) refl
-              where
-                by : (b : Bool) → nat_le 1024 (length (roots_of h)) ≡ b → limit_of h e ≡ None
-                by false k = ap (λ b. if_so b Roots) k
-                by true k = absurd (room heading h s.roots (ap (λ b. if_so b Roots) k))
-
--- the page of a root fits
-pub root_page : (heading : Heading) (pe : ℕ) (lock : Option ℕ) (kind : Kind) (page : ℕ)
-    → fits_heading heading (Root pe kind lock page) ≡ true → is_root_page heading.world kind page ≡ true
-root_page heading pe lock kind page fits = third_true (is_pe heading pe) (is_root_lock lock) (is_root_page heading.world kind page) fits
-
--- the pages of a root are consecutive ones
-pub unfresh_is : (p : ReplayState) (kind : Kind) (page count : ℕ) → kind_in_world p.header.world kind ≡ true
-    → count ≡ page_count p.header.world kind
-    → least (filter (λ x. not (fresh_in p.index x)) (root_pages p.header.world kind page))
-    ≡ least (filter (λ x. not (fresh_in p.index x)) (pages_from page count))
-unfresh_is p kind page count right is = cc
+        root_ok new m frame room map attached idle taken = meets_ok e m frame (λ heading h s fits.
+            let kept = unbroken none heading h s in (
+              kept,
+              either (nat_le 1024 (length (roots_of h)))
+                  (λ k. absurd (room heading h s.roots (ap (λ b. if_so b Roots) k))) (λ k. ap (λ b. if_so b Roots) k),
+              after_root (laws heading) (view_of new.map new.index) s.told pe page kind lock fits kept map
+                  (subst (λ (x : Heading). Attaches (view_of old.map old.index) (view_of new.map new.index)
+                  (starts x kind page)) s.index_header attached) idle,
+              taken heading h (same heading h s.roots) kept,
+            ))
 
 -- what was attached, in the words of the laws
 pub attaches_of : (old new : TreeIndex) (map map' : PlaceMap) (at : Attach) → changes.Attaches (value_at map) at old new

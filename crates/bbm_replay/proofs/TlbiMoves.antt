@@ -1,18 +1,22 @@
--- TLBIs.
-use Rattle.bbm_replay.proofs.Common.{Noted, is_broken, Marks, EntryState, EntryStands, View, notes, Laws, Told}
-use Rattle.bbm_replay.proofs.Common.{state_of, waiting}
-use Rattle.bbm_rules.proofs.Common.{◌≡◌, ℕ, ◌<◌, Bool, true, false, ◌&&◌, nat_eq, List, ◌∷◌, Option, Some, None}
-use Rattle.bbm_rules.proofs.Common.{is_some, refl, sym, ◌∙◌, ap, subst, inl, core_of, PeMask, operation, fits_heading}
-use Rattle.bbm_rules.proofs.Common.{Patterns, cover_at, page_of, Heading, Event, Tlbi, TlbiOp, reaches, Node, and-false}
-use Rattle.bbm_regimes.specs.PeMask.{pe_in}
-use Rattle.bbm_rules.specs.Broken.{broken}
+-- TLBIs: what stands after one, in a view and at the parts.
+use Rattle.bbm_replay.proofs.Common.{pe_in, broken, Noted, is_broken, Marks, EntryState, EntryStands, View, notes, Laws}
+use Rattle.bbm_replay.proofs.Common.{Told, state_of, waiting, is_tracked, marks_at, pends_at, value_at, waits, IsIdle}
+use Rattle.bbm_replay.proofs.Common.{Pends, state_from, PlaceMap, RootState, Rules, MayMeet, Meets, PartsStand, view_of}
+use Rattle.bbm_replay.proofs.Common.{ReplayState}
+use Rattle.bbm_rules.proofs.Common.{◌≡◌, ℕ, ◌<◌, true, false, ◌&&◌, nat_eq, List, ◌∷◌, Option, Some, None, is_some}
+use Rattle.bbm_rules.proofs.Common.{refl, ap, subst, inl, core_of, PeMask, operation, fits_heading, Patterns, cover_at}
+use Rattle.bbm_rules.proofs.Common.{page_of, Heading, Event, Tlbi, TlbiOp, reaches, Node, and-false, not, ◌||◌, Ok, sym}
+use Rattle.bbm_rules.proofs.Common.{◌∙◌}
+use Rattle.bbm_lemmas.proofs.Bools.{second_false}
+use Rattle.bbm_replay_roots.specs.RootStateStands as roots
 use Rattle.bbm_replay.proofs.Moves.{Issues}
 use Rattle.bbm_replay.proofs.DsbMoves.{broken_marks, same_state}
-use Rattle.bbm_replay.proofs.Aparts.{apart_same}
-use Rattle.bbm_replay.proofs.Entries.{entry_same, fit_more, keeps_more, some_pe, state_same}
-use Rattle.bbm_replay.proofs.Quiet.{nodes_stay, tracked_stay}
+use Rattle.bbm_replay.proofs.Cases.{some_or, either}
+use Rattle.bbm_replay.proofs.Entries.{entry_same, some_pe, none_of}
+use Rattle.bbm_replay.proofs.Quiet.{told_plain}
+use Rattle.bbm_replay.proofs.Framing.{meets_ok}
 
-module _ (heading : Heading) (laws : Laws heading) (h : List Event) (old new : View) (t : Told heading h old)
+module _ {heading : Heading} (laws : Laws heading) {h : List Event} {old : View} (new : View) (t : Told heading h old)
     (q : ℕ) (op : TlbiOp) (xt : ℕ) (reach : PeMask)
     (reached : (p : ℕ) → p < heading.pes → pe_in reach p ≡ reaches heading (Tlbi q op xt) p)
     (move : Issues old new q reach (operation op).broadcast (cover_at heading Patterns (notes heading h) (Tlbi q op xt))) where
@@ -24,42 +28,62 @@ module _ (heading : Heading) (laws : Laws heading) (h : List Event) (old new : V
     state = state_of old n.kind n.level a
 
     same_new : state ≡ state_of new n.kind n.level a
-    same_new = state_same n.kind n.level (old.value a) (new.value a) (old.marks a) (new.marks a) (move.value a) (move.marks a)
+    same_new = cc (move.value a, move.marks a)
 
-    entry : (m : Option Marks) → old.marks a ≡ m
-        → EntryStands heading (e ∷ h) n.kind n.level a (state_of new n.kind n.level a) (waiting new a)
-    entry None k =
-        let whole : is_broken state ≡ false = cc (broken_marks (core_of n.kind n.level (old.value a)) (old.marks a), k) in
-        entry_same heading laws (e ∷ h) n.kind n.level a state (state_of new n.kind n.level a) (waiting old a) (waiting new a)
-        (laws.tlbi.idle h n.kind n.level a q op xt state (waiting old a) (some_pe heading laws h old t) (inl whole) (t.entries n a is))
-        same_new (λ p. move.others p a (cc (k, and-false (nat_eq p q))))
-    entry (Some m) k =
+    entry : EntryStands heading (e ∷ h) n.kind n.level a (state_of new n.kind n.level a) (waiting new a)
+    entry = some_or (old.marks a)
+        (λ m k.
         let marked : is_some (old.marks a) ≡ true = ap (λ (m : Option Marks). is_some m) k in
         subst (λ (x : EntryState). EntryStands heading (e ∷ h) n.kind n.level a x (waiting new a)) same_new
         (laws.tlbi.call h n.kind n.level a q op xt reach (cover_at heading Patterns (notes heading h) e a) state
-        (waiting old a) (waiting new a) (some_pe heading laws h old t) reached refl
+        (waiting old a) (waiting new a) (some_pe laws t) reached refl
         (subst (λ (x : EntryState). Noted x (old.pends q a) reach (operation op).broadcast
         (cover_at heading Patterns (notes heading h) e a) (new.pends q a))
         (same_state None (core_of n.kind n.level (old.value a)) (old.marks a) marked) (move.noted n a is marked))
-        (λ p other. move.others p a (ap (λ b. b && is_some (old.marks a)) other)) (t.entries n a is))
+        (λ p other. move.others p a (ap (λ b. b && is_some (old.marks a)) other)) (t.entries n a is)))
+        (λ k.
+        let whole : is_broken state ≡ false = cc (broken_marks (core_of n.kind n.level (old.value a)) (old.marks a), k) in
+        entry_same laws
+        (laws.tlbi.idle h n.kind n.level a q op xt state (waiting old a) (some_pe laws t) (inl whole) (t.entries n a is))
+        same_new (λ p. move.others p a (cc (k, and-false (nat_eq p q)))))
 
   pub after_tlbi : fits_heading heading e ≡ true → broken heading Patterns h e ≡ None → Told heading (e ∷ h) new
-  after_tlbi fits unbroken =
-      let sound = keeps_more heading h e t.kept unbroken in
-      let proper = laws.proper t.proper in
-      let rest = tracked_stay heading laws h old new t e refl move.tracking in
-      record {
-        proper = t.proper;
-        kept = sound;
-        fit = fit_more heading h e t.fit fits;
-        values = λ a. move.value a ∙ laws.values.others h old e refl t.values a;
-        nodes = nodes_stay heading laws h old new t e sound refl move.nodes;
-        fresh = λ p. move.roles.fresh p ∙ laws.fresh.others h old e sound refl refl refl t.fresh p;
-        null = λ p. move.roles.null p ∙ laws.pages.same_null h old e refl t.null p;
-        known = rest.0;
-        pages = rest.1;
-        tracked = rest.2;
-        apart = apart_same old new t.apart move.nodes move.roles move.tracking.tracked;
-        entries = λ n a is. let was = sym (move.nodes _) ∙ is in entry n a was (old.marks a) refl;
-        outside = λ a is. move.marks a ∙ t.outside a (sym (move.nodes _) ∙ is);
-      }
+  after_tlbi fits unbroken = told_plain laws new t e fits unbroken
+      (record { values = refl; inits = refl; nulls = refl; trees = refl; unattached = λ heading ns. refl })
+      move.value move.marks move.nodes move.roles move.tracking entry
+
+pub tlbi_meets : ((heading : Heading) → Laws heading) → ((heading : Heading) → Rules heading) → (old : ReplayState) (map : PlaceMap)
+    (r : RootState) (pe : ℕ) (op : TlbiOp) (xt : ℕ) → MayMeet old (Tlbi pe op xt)
+    → ((heading : Heading) (h : List Event) → roots.StateStands old.roots heading h → broken heading Patterns h (Tlbi pe op xt) ≡ None)
+    → (reach : PeMask) → ((p : ℕ) → p < old.header.pes
+    → pe_in reach p ≡ ((operation op).broadcast || (not old.header.cnp && nat_eq pe p)))
+    → ((heading : Heading) (h : List Event) → PartsStand old heading h → (a : ℕ) → is_some (marks_at old.map a) ≡ true
+    → Noted (state_from None (marks_at old.map a)) (pends_at old.map pe a) reach (operation op).broadcast
+    (cover_at heading Patterns (notes heading h) (Tlbi pe op xt) a) (pends_at map pe a))
+    → ((q a : ℕ) → nat_eq q pe ≡ false → pends_at map q a ≡ pends_at old.map q a)
+    → ((q a : ℕ) → marks_at old.map a ≡ None → IsIdle (pends_at old.map q a))
+    → ((q a : ℕ) → marks_at map a ≡ None → IsIdle (pends_at map q a))
+    → ((a : ℕ) → value_at map a ≡ value_at old.map a) → ((a : ℕ) → marks_at map a ≡ marks_at old.map a)
+    → ((p : ℕ) → is_tracked map p ≡ is_tracked old.map p)
+    → ((heading : Heading) (h : List Event) → PartsStand old heading h → roots.StateStands r heading (Tlbi pe op xt ∷ h))
+    → Meets old (record old { map = map; roots = r }) (Tlbi pe op xt) (Ok tt)
+tlbi_meets laws rules old map r pe op xt m unbroken reach reached noted others idle idle' values marks pages taken =
+    meets_ok (Tlbi pe op xt) m (record { header = refl; index_header = refl }) (λ heading h s fits. (
+      unbroken heading h s.roots,
+      (rules heading).limits.others h (Tlbi pe op xt) refl,
+      after_tlbi (laws heading) (view_of map old.index) s.told pe op xt reach
+          (subst (λ (x : Heading). (p : ℕ) → p < x.pes → pe_in reach p ≡ ((operation op).broadcast || (not x.cnp && nat_eq pe p))) s.header reached)
+          (record {
+            value = values;
+            marks = marks;
+            noted = λ n a is broken. noted heading h s a broken;
+            others = λ q a k. either (nat_eq q pe) (λ e b c p.
+                let none = none_of (marks_at old.map a) (second_false (nat_eq q pe) (is_some (marks_at old.map a)) k e) in
+                idle' q a (marks a ∙ none) b c p ∙ sym (idle q a none b c p))
+                (λ e b c p. ap (λ (w : Pends). waits w b c p) (others q a e));
+            nodes = λ p. refl;
+            roles = record { fresh = λ p. refl; null = λ p. refl };
+            tracking = record { tracked = pages; known = λ p. refl; pages = refl };
+          }) fits (unbroken heading h s.roots),
+      taken heading h s,
+    ))

@@ -1,12 +1,10 @@
 -- A write that leaves a place unbroken, which wasn't broken: its value alone changes.
-use Rattle.bbm_replay.proofs.Common.{Written, WritesAs, IsIdle, Marks, EntryState, Clean, Live, Puts, PlaceMap}
-use Rattle.bbm_replay.proofs.Common.{core_in, marks_of_state, state_from, IsUnlocked, MayAdmit, Path, ReplayState}
-use Rattle.bbm_replay.proofs.Common.{WritesTree, state_at}
+use Rattle.bbm_replay.proofs.Common.{marks_at, pends_at, value_at, Written, WritesAs, IsIdle, Marks, EntryState}
+use Rattle.bbm_replay.proofs.Common.{Live, Puts, PlaceMap, core_in, marks_of_state, state_from, IsUnlocked, MayAdmit}
+use Rattle.bbm_replay.proofs.Common.{Path, ReplayState, WritesTree, state_at}
 use Rattle.bbm_rules.proofs.Common.{◌≡◌, ℕ, Bool, true, false, ◌==◌, Option, Some, None, refl, sym, ◌∙◌, ap, subst}
-use Rattle.bbm_rules.proofs.Common.{if◌then◌else◌, eqb-true, core_of, Core, Write}
-use Rattle.bbm_place_map.specs.Map.{marks_at, pends_at, value_at}
+use Rattle.bbm_rules.proofs.Common.{if◌then◌else◌, eqb-true, core_of, Core, Write, arith}
 use Rattle.bbm_place_map.specs.MapCalls.{Leaves}
-use Rattle.bbm_place_map.proofs.Wholes.{made}
 use Rattle.bbm_replay.proofs.Growing.{core_whole}
 use Rattle.bbm_replay.proofs.Inside.{may_admit}
 
@@ -27,6 +25,18 @@ breaks_unbroken old new pe place v core value unbroken none w =
     (subst (λ (s : EntryState). WritesAs s pe None v place old new)
     (sym (ap (λ (o : Option Marks). state_from (Some core) o) unbroken)) w)
 
+written_whole : (pe : ℕ) (value live : Option Core) → (value ≡ None → live ≡ None)
+    → Written (state_from live None) pe value (state_from value None)
+written_whole pe None (Some core) stays = let bad : Some core ≡ None = stays refl in absurd cc
+written_whole pe value live stays = record {
+  core = refl;
+  broken = refl;
+  writers = λ p. refl;
+  seen = λ p. refl;
+  half = λ p. refl;
+  clean = λ p. refl;
+}
+
 module _ (old new : PlaceMap) (pe place v : ℕ) (unbroken : marks_at old place ≡ None)
     (marks : (a : ℕ) → marks_at new a ≡ marks_at old a) (pends : (q a : ℕ) → pends_at new q a ≡ pends_at old q a)
     (idle : (q a : ℕ) → marks_at new a ≡ None → IsIdle (pends_at new q a)) where
@@ -45,30 +55,15 @@ module _ (old new : PlaceMap) (pe place v : ℕ) (unbroken : marks_at old place 
   -- a valid value makes it live, and an invalid one leaves it clean
   pub writes_unbroken : Puts v place old new → (live value : Option Core) → (value ≡ None → live ≡ None)
       → WritesAs (state_at old live place) pe value v place old new
-  writes_unbroken put live (Some core) stays = record {
+  writes_unbroken put live value stays = record {
     written = (
-      Live core,
-      made (state_at old live place) pe core,
-      leaves_unbroken (Live core) refl,
-    );
-    put = put;
-  }
-  writes_unbroken put live None stays = record {
-    written = (
-      Clean,
-      subst (λ (s : EntryState). Written s pe None Clean) (sym was) (record {
-        core = refl;
-        broken = refl;
-        writers = λ p. refl;
-        seen = λ p. refl;
-        half = λ p. refl;
-        clean = λ p. refl;
-      }),
-      leaves_unbroken Clean refl,
+      state_from value None,
+      subst (λ (o : Option Marks). Written (state_from live o) pe value (state_from value None)) (sym unbroken)
+          (written_whole pe value live stays),
+      leaves_unbroken (state_from value None) (whole value),
     );
     put = put;
   }
     where
-      was : state_at old live place ≡ Clean
-      was = ap (λ (o : Option Marks). state_from live o) unbroken
-          ∙ ap (λ (o : Option Core). state_from o None) (stays refl)
+      whole : (o : Option Core) → marks_of_state (state_from o None) ≡ None
+      whole o = grind arith

@@ -1,28 +1,23 @@
 -- A broken place that isn't met on the way down to an input page isn't covered by a TLBI of that page.
-use Rattle.bbm_replay.proofs.Common.{unwrap_or, Noted, waits, Marks, Pends, EntryState, Clean, Live, Heading, PlaceMap}
-use Rattle.bbm_replay.proofs.Common.{input_pages, is_sound, IsWay, core_at, TreeIndex, RootState, SameCores, notes}
+use Rattle.bbm_replay.proofs.Common.{node_in, marks_at, pe_in, Noted, waits, Marks, Pends, EntryState, Heading}
+use Rattle.bbm_replay.proofs.Common.{PlaceMap, input_pages, is_sound, IsWay, core_at, TreeIndex, RootState, notes}
 use Rattle.bbm_replay.proofs.Common.{MayBeIssued, NamedTlbi, Laws, MetFromAll, NamesOne, covers_kind, view_of}
 use Rattle.bbm_rules.proofs.Common.{◌≡◌, ℕ, zero, suc, ◌+◌, ◌-◌, ◌*◌, ◌%◌, ◌<◌, ◌≤◌, ◌&&◌, ◌||◌, nat_le, Bool, true}
 use Rattle.bbm_rules.proofs.Common.{false, cond, List, [], length, Option, Some, None, Contains, slice_index_or}
-use Rattle.bbm_rules.proofs.Common.{is_some, option_and_then, refl, sym, ◌∙◌, ap, subst, arith, true≢false}
-use Rattle.bbm_rules.proofs.Common.{not-suc-le-zero, le_of_suc-le-suc, and_parts, leb-true, desc_of, same_bool}
-use Rattle.bbm_rules.proofs.Common.{page_count, PeMask, Kind, Cover, Half, Second, Full, PlaceView, Patterns, cover_at}
-use Rattle.bbm_rules.proofs.Common.{is_global, view_at, events_of, page_of, Event, Scope, TlbiOp, Tlbi, named_scope}
-use Rattle.bbm_rules.proofs.Common.{vmid_of, Declared, kind_in_world, pages_from, root_at, root_pages, tag_set, tags_of}
-use Rattle.bbm_rules.proofs.Common.{Node, held_at, is_childless, next_of, node_of, region_of, region_start, ◌/◌, ◌^◌}
+use Rattle.bbm_rules.proofs.Common.{is_some, refl, sym, ◌∙◌, ap, subst, arith, true≢false, not-suc-le-zero}
+use Rattle.bbm_rules.proofs.Common.{le_of_suc-le-suc, and_parts, leb-true, same_bool, page_count, PeMask, Kind, Cover}
+use Rattle.bbm_rules.proofs.Common.{Half, Second, Full, PlaceView, Patterns, cover_at, events_of, page_of, Event}
+use Rattle.bbm_rules.proofs.Common.{TlbiOp, Tlbi, Declared, kind_in_world, pages_from, root_at, root_pages, Node}
+use Rattle.bbm_rules.proofs.Common.{held_at, node_of, region_of, region_start, ◌/◌, ◌^◌}
 use Rattle.bbm_entry_state.specs.EntryCalls.{counts_at}
-use Rattle.bbm_entry_state.specs.declared.state.EntryState.TheVariants.{Broken}
-use Rattle.bbm_place_map.specs.Map.{marks_at}
-use Rattle.bbm_regimes.specs.PeMask.{pe_in}
-use Rattle.bbm_tlbi_scope.specs.ScopeCovers as scopes
 use Rattle.bbm_tlbi_scope.specs.SameCover.{same_cover}
 use Rattle.bbm_tlbi_scope.specs.declared.entry.Cover.TheVariants.{None as NoCover}
-use Rattle.bbm_tree_index.specs.Index.{node_in}
 use Rattle.bbm_replay_trees.specs.NodeLaws.{Starts}
 use Rattle.bbm_replay.specs.OnePage.{IsPage}
-use Rattle.bbm_replay.proofs.Descents.{Top, away, foreign, lies_in, top}
-use Rattle.bbm_replay.proofs.Writing.{cores}
 use Rattle.bbm_lemmas.proofs.Bools.{or_nothing}
+use Rattle.bbm_tlbi_scope.specs.ScopeCovers as scopes
+use Rattle.bbm_replay.proofs.Descents.{Top, away, foreign, lies_in, top}
+use Rattle.bbm_replay.proofs.Cases.{some_or}
 use Rattle.bbm_replay.proofs.SamePage.{by_view, view_covers}
 
 -- how many pages a place of a level translates
@@ -71,9 +66,7 @@ pub noted_none : (state : EntryState) (p : Pends) (reach : PeMask) (broadcast : 
 noted_none state p reach broadcast b c q = sym (by c)
   where
     uncounted : (state : EntryState) → counts_at state NoCover q ≡ false
-    uncounted Clean = refl
-    uncounted (Live core) = refl
-    uncounted (Broken marks) = refl
+    uncounted state = grind arith
 
     by : (c : Cover) → ((same_bool broadcast b && (pe_in reach q && (same_cover c NoCover && counts_at state c q))) || waits p b c q)
         ≡ waits p b c q
@@ -83,40 +76,35 @@ noted_none state p reach broadcast b c q = sym (by c)
     by Second = or_nothing (same_bool broadcast b) (pe_in reach q) (waits p b Second q)
     by Full = or_nothing (same_bool broadcast b) (pe_in reach q) (waits p b Full q)
 
-module _ (heading : Heading) (h : List Event) (ev : events_of (notes heading h) ≡ h) (map : PlaceMap) (index : TreeIndex)
-    (state : RootState) (pe : ℕ) (op : TlbiOp) (xt : ℕ) (named : NamedTlbi)
+module _ {heading : Heading} {h : List Event} (ev : events_of (notes heading h) ≡ h) {map : PlaceMap} {index : TreeIndex}
+    {state : RootState} {pe : ℕ} {op : TlbiOp} {xt : ℕ} {named : NamedTlbi}
     (m : MayBeIssued heading h map index state pe op xt named) where
   -- a place isn't covered where the scope covers no view of its kind and region
   pub cover_none : (n : Node) (a : ℕ) → node_in index (page_of a) ≡ Some n
       → ((v : PlaceView) (own : Option ℕ) → v.kind ≡ n.kind → v.region ≡ region_of n a → scopes.cover_of named.scope own v ≡ NoCover)
       → cover_at heading Patterns (notes heading h) (Tlbi pe op xt) a ≡ NoCover
-  cover_none n a is none = by (held_at heading Patterns (notes heading h) n a) refl
+  cover_none n a is none = some_or (held_at heading Patterns (notes heading h) n a)
+      (λ v e. sym (view_covers ev m n a v is e) ∙ none (by_view ev m a n v) named.vmid refl refl) unheld
     where
       node : node_of heading Patterns (notes heading h) (page_of a) ≡ Some n
       node = sym (m.told.nodes (page_of a)) ∙ is
 
-      by : (o : Option ℕ) → held_at heading Patterns (notes heading h) n a ≡ o
+      unheld : held_at heading Patterns (notes heading h) n a ≡ None
           → cover_at heading Patterns (notes heading h) (Tlbi pe op xt) a ≡ NoCover
-      by None e = cc (ev, m.names, node, e)
-      by (Some v) e = sym (view_covers heading h ev map index state pe op xt named m n a v is e)
-          ∙ none (by_view heading h ev map index state pe op xt named m a n v) named.vmid refl refl
+      unheld e = cc (ev, m.names, node, e)
 
-module _ (heading : Heading) (laws : Laws heading) (h : List Event)
-    (starts : Starts heading)
-    (ev : events_of (notes heading h) ≡ h) (map : PlaceMap) (index : TreeIndex) (state : RootState) (pe : ℕ) (op : TlbiOp)
-    (xt : ℕ) (named : NamedTlbi) (m : MayBeIssued heading h map index state pe op xt named) where
+module _ {heading : Heading} (laws : Laws heading) {h : List Event} (starts : Starts heading)
+    (ev : events_of (notes heading h) ≡ h) {map : PlaceMap} {index : TreeIndex} {state : RootState} {pe : ℕ} {op : TlbiOp}
+    {xt : ℕ} {named : NamedTlbi} (m : MayBeIssued heading h map index state pe op xt named) where
   module _ (aligned : (a : ℕ) → is_some (marks_at map a) ≡ true → a % 8 ≡ 0) (at : ℕ)
       (one : NamesOne named.scope at) (Has : ℕ → Type 0)
       (met : (r : Declared) → root_at h r.page ≡ Some r → covers_kind named.scope.family r.kind ≡ true
       → MetFromAll (node_in index) (core_at map) at r.page (page_count heading.world r.kind) Has) where
-    same_cores : SameCores heading h (core_at map)
-    same_cores = cores heading h (view_of map index) m.told
-
     is_page : (p : ℕ) (n : Node) → node_in index p ≡ Some n → IsPage p
     is_page p n is = (is_sound index).pages p (sym (m.told.tracked p) ∙ m.told.apart.node_tracked p n is)
 
     found_top : (n : Node) (a : ℕ) → covers_kind named.scope.family n.kind ≡ true
-        → (t : Top heading laws h (view_of map index) m.told.kept m.told.fit m.told.nodes same_cores at a n)
+        → (t : Top laws m.told at a n)
         → Has a
     found_top n a covers t =
         let own = laws.neighbours.own h (view_of map index) t.page t.start m.told.nodes t.is_start in
@@ -132,24 +120,22 @@ module _ (heading : Heading) (laws : Laws heading) (h : List Event)
     pub uncovered : (a : ℕ) → is_some (marks_at map a) ≡ true
         → (Has a → cover_at heading Patterns (notes heading h) (Tlbi pe op xt) a ≡ NoCover)
         → cover_at heading Patterns (notes heading h) (Tlbi pe op xt) a ≡ NoCover
-    uncovered a broken missed = by (node_in index (page_of a)) refl
+    uncovered a broken missed = some_or (node_in index (page_of a))
+        (λ n is. inside n is (lies_in at (region_of n a)) (covers_kind named.scope.family n.kind) refl refl)
+        (λ is. absurd (true≢false (sym broken ∙ ap (λ (x : Option Marks). is_some x) (m.told.outside a is))))
       where
-        by : (o : Option Node) → node_in index (page_of a) ≡ o → cover_at heading Patterns (notes heading h) (Tlbi pe op xt) a ≡ NoCover
-        by None is = absurd (true≢false (sym broken ∙ ap (λ (x : Option Marks). is_some x) (m.told.outside a is)))
-        by (Some n) is = inside (lies_in at (region_of n a)) (covers_kind named.scope.family n.kind) refl refl
-          where
-            inside : (b k : Bool) → lies_in at (region_of n a) ≡ b → covers_kind named.scope.family n.kind ≡ k
-                → cover_at heading Patterns (notes heading h) (Tlbi pe op xt) a ≡ NoCover
-            inside false k e f = cover_none heading h ev map index state pe op xt named m n a is (λ v own kind region. away named.scope at one own v
-                (subst (λ x. x.lo ≤ x.hi) (sym region) (some_region n a)) (ap (λ x. lies_in at x) region ∙ e))
-            inside true false e f = cover_none heading h ev map index state pe op xt named m n a is (λ v own kind region. foreign named.scope at one own v
-                (ap (λ (x : Kind). covers_kind named.scope.family x) kind ∙ f))
-            inside true true e f =
-                let both = and_parts (nat_le (region_start n a) at) (nat_le at (region_start n a + input_pages n.level - 1)) e in
-                let from = leb-true (region_start n a) at both.0 in
-                let to = before (region_start n a) (input_pages n.level) (width_within n.level).0 (leb-true at (region_start n a + input_pages n.level - 1) both.1) in
-                missed (found_top n a f (top heading laws h (view_of map index) m.told.kept m.told.fit m.told.nodes same_cores at a
-                n is (aligned a broken) from to))
-              where
-                before : (start w : ℕ) → 1 ≤ w → at ≤ start + w - 1 → at < start + w
-                before start w k l = omega arith
+        before : (start w : ℕ) → 1 ≤ w → at ≤ start + w - 1 → at < start + w
+        before start w k l = omega arith
+
+        inside : (n : Node) → node_in index (page_of a) ≡ Some n → (b k : Bool) → lies_in at (region_of n a) ≡ b
+            → covers_kind named.scope.family n.kind ≡ k
+            → cover_at heading Patterns (notes heading h) (Tlbi pe op xt) a ≡ NoCover
+        inside n is false k e f = cover_none ev m n a is (λ v own kind region. away named.scope at one own v
+            (subst (λ x. x.lo ≤ x.hi) (sym region) (some_region n a)) (ap (λ x. lies_in at x) region ∙ e))
+        inside n is true false e f = cover_none ev m n a is (λ v own kind region. foreign named.scope at one own v
+            (ap (λ (x : Kind). covers_kind named.scope.family x) kind ∙ f))
+        inside n is true true e f =
+            let both = and_parts (nat_le (region_start n a) at) (nat_le at (region_start n a + input_pages n.level - 1)) e in
+            let from = leb-true (region_start n a) at both.0 in
+            let to = before (region_start n a) (input_pages n.level) (width_within n.level).0 (leb-true at (region_start n a + input_pages n.level - 1) both.1) in
+            missed (found_top n a f (top laws m.told at a n is (aligned a broken) from to))

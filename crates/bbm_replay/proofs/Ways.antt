@@ -7,8 +7,6 @@ use Rattle.bbm_rules.proofs.Common.{Core, Kind, page_of, input_pages, Node, node
 use Rattle.bbm_tree_index.specs.Descent.{MayHang}
 use Rattle.bbm_tree_index.specs.Index.{node_in}
 use Rattle.bbm_replay.specs.OnePage.{FitTogether}
-use Rattle.bbm_replay.proofs.Growing.{core_whole}
-use Rattle.bbm_replay.proofs.Covered.{core_of_marks}
 
 -- where no place of a page translates the input page, no way goes on through the page
 module _ (node : ℕ → Option Node) (core : Kind → ℕ → ℕ → Option Core) (at page : ℕ)
@@ -135,5 +133,4 @@ module _ (map : PlaceMap) (index : TreeIndex) (fits : FitTogether map index) (at
 -- the core of a state is what its place holds
 pub state_core : (kind : Kind) (level value : ℕ) (m : Option Marks)
     → core_in (state_from (core_of kind level value) m) ≡ core_with m kind level value
-state_core kind level value (Some x) = core_of_marks (core_of kind level value) (Some x) x refl
-state_core kind level value None = core_whole (core_of kind level value)
+state_core kind level value m = grind arith

@@ -1,39 +1,33 @@
 -- Writes.
-use Rattle.bbm_replay.proofs.Common.{Written, core_in, is_broken, waits, IsIdle, Marks, EntryState, Clean, Live}
-use Rattle.bbm_replay.proofs.Common.{marks_of_state, state_from, EntryStands, SameCores, View, notes, Laws, Apart, Told}
-use Rattle.bbm_replay.proofs.Common.{state_of, waiting}
+use Rattle.bbm_replay.proofs.Common.{broken, kept_next, Written, is_broken, waits, IsIdle, EntryState, marks_of_state}
+use Rattle.bbm_replay.proofs.Common.{state_from, EntryStands, SameCores, View, notes, Laws, Apart, Told, state_of}
+use Rattle.bbm_replay.proofs.Common.{waiting}
 use Rattle.bbm_rules.proofs.Common.{◌≡◌, ℕ, Bool, true, false, cond, ◌&&◌, not, ◌⊎◌, ◌==◌, List, [], ◌∷◌, Option, Some}
-use Rattle.bbm_rules.proofs.Common.{None, is_some, refl, sym, ◌∙◌, ap, subst, inl, true≢false, eq-eqb, eqb-true, ne_eqb}
-use Rattle.bbm_rules.proofs.Common.{core_of, Core, fits_heading, attached_by, Patterns, page_of, Heading, Event, Write}
-use Rattle.bbm_rules.proofs.Common.{Node, next_of, node_below}
+use Rattle.bbm_rules.proofs.Common.{None, is_some, refl, sym, ◌∙◌, ap, subst, inl, eq-eqb, eqb-true, eqb-false, ne_eqb}
+use Rattle.bbm_rules.proofs.Common.{and_left, same_Some, core_of, Core, fits_heading, attached_by, Patterns, page_of}
+use Rattle.bbm_rules.proofs.Common.{Heading, Event, Write, Node, next_of, node_below, arith}
 use Rattle.bbm_entry_state.specs.EntryStanding.{KeepsPends}
-use Rattle.bbm_entry_state.specs.declared.state.EntryState.TheVariants.{Broken}
-use Rattle.bbm_rules.specs.Broken.{broken}
 use Rattle.bbm_replay_trees.specs.Told.{core_at}
 use Rattle.bbm_replay_trees.specs.Told as told
 use Rattle.bbm_replay.proofs.Moves.{Attaches, Grown, SameNodes, SameTracked, Writes}
 use Rattle.bbm_replay.proofs.Aparts.{apart_grown, apart_same}
-use Rattle.bbm_replay.proofs.Entries.{carried, fit_more, keeps_more, some_pe}
+use Rattle.bbm_replay.proofs.Entries.{some_pe}
 use Rattle.bbm_replay.proofs.Growing.{grown, grown_entry, grown_outside}
-use Rattle.bbm_replay.proofs.PageMoves.{apart}
-use Rattle.bbm_replay.proofs.Quiet.{tracked_stay}
+use Rattle.bbm_replay.proofs.Quiet.{told_next}
 use Rattle.bbm_replay.proofs.Ways.{state_core}
 
 -- the state that a write leaves is the one that is read back
 read_back : (new : EntryState) (value : Option Core) (old : EntryState) (pe : ℕ) → Written old pe value new
     → state_from value (marks_of_state new) ≡ new
-read_back (Live core) None old pe w = cc (w.core, w.broken)
-read_back (Broken marks) None old pe w = refl
-read_back Clean None old pe w = refl
-read_back new value old pe w = cc w.core
+read_back new value old pe w = grind (arith, w.core, w.broken)
 
 -- the core of what each place of a tree holds
-pub cores : (heading : Heading) (h : List Event) (v : View) → Told heading h v → SameCores heading h (core_at v)
-cores heading h v t n a is =
+pub cores : {heading : Heading} {h : List Event} {v : View} → Told heading h v → SameCores heading h (core_at v)
+cores {v = v} t n a is =
     sym (state_core n.kind n.level (v.value a) (v.marks a)) ∙ (t.entries n a (t.nodes (page_of a) ∙ is)).core
 
-module _ (heading : Heading) (laws : Laws heading) (h : List Event) (old new : View) (t : Told heading h old)
-    (pe place v : ℕ) (state : EntryState) (move : Writes old new place v state) where
+module _ {heading : Heading} (laws : Laws heading) {h : List Event} {old new : View} (t : Told heading h old) (pe : ℕ)
+    {place v : ℕ} {state : EntryState} (move : Writes old new place v state) where
   abbrev e : Event
   e = Write pe place v
 
@@ -54,11 +48,8 @@ module _ (heading : Heading) (laws : Laws heading) (h : List Event) (old new : V
   marks_here : new.marks place ≡ marks_of_state state
   marks_here = move.marks place ∙ ap (λ b. cond b (marks_of_state state) (old.marks place)) (eq-eqb place place refl)
 
-  off_place : (a : ℕ) (b : Bool) → (a == place) ≡ false → (a == place && b) ≡ false
-  off_place a b k = ap (λ x. x && b) k
-
-  swapped : (a : ℕ) → (a == place) ≡ false → (place == a) ≡ false
-  swapped a k = ne_eqb place a (λ same. absurd (true≢false (sym (eq-eqb a place (sym same)) ∙ k)))
+  marks_off : (a : ℕ) → (a == place) ≡ false → new.marks a ≡ old.marks a
+  marks_off a k = move.marks a ∙ ap (λ b. cond b (marks_of_state state) (old.marks a)) k
 
   -- the place, at its node
   at_place : (n : Node) → old.node (page_of place) ≡ Some n
@@ -69,126 +60,91 @@ module _ (heading : Heading) (laws : Laws heading) (h : List Event) (old new : V
       let same : state ≡ state_of new n.kind n.level place = cc (back, value_here, marks_here) in
       subst (λ x. EntryStands heading (e ∷ h) n.kind n.level place x (waiting new place)) same
       (laws.write h n.kind n.level place pe v (state_of old n.kind n.level place) state (waiting old place)
-      (waiting new place) (some_pe heading laws h old t) written left (t.entries n place is))
+      (waiting new place) (some_pe laws t) written left (t.entries n place is))
 
   module _ (fits : fits_heading heading e ≡ true) (unbroken : broken heading Patterns h e ≡ None)
-      (null : (p : ℕ) → new.null p ≡ old.null p) (tracking : SameTracked old new) where
-    -- a write at a place of a tree
-    pub after_write : (n : Node) → old.node (page_of place) ≡ Some n
-        → Written (state_of old n.kind n.level place) pe (core_of n.kind n.level v) state
-        → Grown old new → told.SameNodes heading (e ∷ h) new.node → told.SameFresh heading (e ∷ h) new.fresh
-        → Apart new → ((q a : ℕ) → new.marks a ≡ None → IsIdle (new.pends q a)) → Told heading (e ∷ h) new
-    after_write n is written g nodes fresh apart idle =
-        let rest = tracked_stay heading laws h old new t e refl tracking in
-        record {
-          proper = t.proper;
-          kept = keeps_more heading h e t.kept unbroken;
-          fit = fit_more heading h e t.fit fits;
-          values = laws.values.write h old new pe place v t.values move.value;
-          nodes = nodes;
-          fresh = fresh;
-          null = λ p. null p ∙ laws.pages.same_null h old e refl t.null p;
-          known = rest.0;
-          pages = rest.1;
-          tracked = rest.2;
-          apart = apart;
-          entries = λ m a here. entry m a here (a == place) refl;
-          outside = λ a here. outside a here (a == place) refl;
-        }
+      (null : (p : ℕ) → new.null p ≡ old.null p) (tracking : SameTracked old new)
+      (idle : (q a : ℕ) → new.marks a ≡ None → IsIdle (new.pends q a)) where
+    told_written : Grown old new → told.SameNodes heading (e ∷ h) new.node
+        → told.SameFresh heading (e ∷ h) new.fresh → Apart new → ((m : Node) → new.node (page_of place) ≡ Some m
+        → EntryStands heading (e ∷ h) m.kind m.level place (state_of new m.kind m.level place) (waiting new place))
+        → (new.node (page_of place) ≡ None → new.marks place ≡ None) → Told heading (e ∷ h) new
+    told_written g nodes fresh apart here gone =
+        told_next laws new t e fits unbroken refl tracking
+        (laws.values.write h old new pe place v t.values move.value) nodes fresh
+        (λ p. null p ∙ laws.pages.same_null h old e refl t.null p) apart
+        (λ m a is. entry m a is (a == place) refl) (λ a is. outside a is (a == place) refl)
       where
         entry : (m : Node) (a : ℕ) → new.node (page_of a) ≡ Some m → (b : Bool) → (a == place) ≡ b
             → EntryStands heading (e ∷ h) m.kind m.level a (state_of new m.kind m.level a) (waiting new a)
-        entry m a here true k =
-            let same : a ≡ place = eqb-true a place k in
-            let there : new.node (page_of place) ≡ Some m = subst (λ (x : ℕ). new.node (page_of x) ≡ Some m) same here in
-            let both : Some n ≡ Some m = sym (g.stays (page_of place) n is) ∙ there in
-            let node : n ≡ m = cc in
-            subst (λ (x : ℕ). EntryStands heading (e ∷ h) m.kind m.level x (state_of new m.kind m.level x) (waiting new x)) (sym same)
-            (subst (λ (x : Node). EntryStands heading (e ∷ h) x.kind x.level place (state_of new x.kind x.level place) (waiting new place)) node
-            (at_place n is written))
-        entry m a here false k = grown_entry heading laws h old new t e g idle m a here (swapped a k)
-            (move.value a ∙ ap (λ b. cond b v (old.value a)) k)
-            (move.marks a ∙ ap (λ b. cond b (marks_of_state state) (old.marks a)) k)
-            (λ q. move.pends q a (off_place a (not (is_broken state)) k))
+        entry m a is true k =
+            subst (λ (x : ℕ). new.node (page_of x) ≡ Some m
+            → EntryStands heading (e ∷ h) m.kind m.level x (state_of new m.kind m.level x) (waiting new x))
+            (sym (eqb-true a place k)) (here m) is
+        entry m a is false k = grown_entry laws new t e g idle m a is (ne_eqb place a (λ e. eqb-false a place k (sym e)))
+            (move.value a ∙ ap (λ b. cond b v (old.value a)) k) (marks_off a k)
+            (λ q. move.pends q a (and_left (a == place) (not (is_broken state)) k))
 
         outside : (a : ℕ) → new.node (page_of a) ≡ None → (b : Bool) → (a == place) ≡ b → new.marks a ≡ None
-        outside a here true k =
-            let same : a ≡ place = eqb-true a place k in
-            let there : old.node (page_of a) ≡ None = grown_outside heading laws old new g (page_of a) here in
-            let both : Some n ≡ None = sym is ∙ ap (λ (x : ℕ). old.node (page_of x)) (sym same) ∙ there in
-            absurd cc
-        outside a here false k = move.marks a ∙ ap (λ b. cond b (marks_of_state state) (old.marks a)) k
-            ∙ t.outside a (grown_outside heading laws old new g (page_of a) here)
+        outside a is true k = subst (λ (x : ℕ). new.node (page_of x) ≡ None → new.marks x ≡ None)
+            (sym (eqb-true a place k)) gone is
+        outside a is false k = marks_off a k ∙ t.outside a (grown_outside old new g (page_of a) is)
+
+    -- a write at a place of a tree
+    after_write : (n : Node) → old.node (page_of place) ≡ Some n
+        → Written (state_of old n.kind n.level place) pe (core_of n.kind n.level v) state
+        → Grown old new → told.SameNodes heading (e ∷ h) new.node → told.SameFresh heading (e ∷ h) new.fresh
+        → Apart new → Told heading (e ∷ h) new
+    after_write n is written g nodes fresh apart =
+        let stays = g.stays (page_of place) n is in
+        told_written g nodes fresh apart
+        (λ m there. subst (λ (x : Node). EntryStands heading (e ∷ h) x.kind x.level place
+        (state_of new x.kind x.level place) (waiting new place)) (same_Some n m (sym stays ∙ there))
+        (at_place n is written))
+        (λ none. let both : Some n ≡ None = sym stays ∙ none in absurd cc)
 
     -- one that attaches nothing
-    pub after_plain_write : (n : Node) → old.node (page_of place) ≡ Some n
-        → Written (state_of old n.kind n.level place) pe (core_of n.kind n.level v) state
-        → (is_some (core_at old n.kind n.level place) ≡ true) ⊎ (next_of n.kind n.level v ≡ None)
-        → SameNodes old new → ((p : ℕ) → new.fresh p ≡ old.fresh p)
-        → ((q a : ℕ) → new.marks a ≡ None → IsIdle (new.pends q a)) → Told heading (e ∷ h) new
-    after_plain_write n is written plain nodes fresh idle =
-        let sound = keeps_more heading h e t.kept unbroken in
-        let proper = laws.proper t.proper in
-        let unattached = laws.unattached.attaches_none h old n pe place v t.nodes (cores heading h old t) is plain in
-        let g : Grown old new = record {
-          stays = λ p m k. nodes p ∙ k;
-          comes = λ p m k. inl (sym (nodes p) ∙ k);
-        } in
-        after_write n is written g
-        (λ p. nodes p ∙ laws.nodes.plain_write h old pe place v proper sound unattached t.nodes p)
-        (λ p. fresh p ∙ laws.fresh.others h old e sound refl refl unattached t.fresh p)
-        (apart_same old new t.apart nodes (record { fresh = fresh; null = null }) tracking.tracked) idle
+    module _ (nodes : SameNodes old new) (fresh : (p : ℕ) → new.fresh p ≡ old.fresh p) where
+      still : Grown old new
+      still = record { stays = λ p m k. nodes p ∙ k; comes = λ p m k. inl (sym (nodes p) ∙ k) }
+
+      module _ (unattached : attached_by heading Patterns (notes heading h) e ≡ None) where
+        same_nodes : told.SameNodes heading (e ∷ h) new.node
+        same_nodes p = nodes p ∙ laws.nodes.plain_write h old pe place v (laws.proper t.proper)
+            (kept_next heading Patterns h e t.kept unbroken) unattached t.nodes p
+
+        same_fresh : told.SameFresh heading (e ∷ h) new.fresh
+        same_fresh p = fresh p ∙ laws.fresh.others h old e (kept_next heading Patterns h e t.kept unbroken) refl refl
+            unattached t.fresh p
+
+      same_apart : Apart new
+      same_apart = apart_same old new t.apart nodes (record { fresh = fresh; null = null }) tracking.tracked
+
+      pub after_plain_write : (n : Node) → old.node (page_of place) ≡ Some n
+          → Written (state_of old n.kind n.level place) pe (core_of n.kind n.level v) state
+          → (is_some (core_at old n.kind n.level place) ≡ true) ⊎ (next_of n.kind n.level v ≡ None)
+          → Told heading (e ∷ h) new
+      after_plain_write n is written plain =
+          let unattached = laws.unattached.attaches_none h old n pe place v t.nodes (cores t) is plain in
+          after_write n is written still (same_nodes unattached) (same_fresh unattached) same_apart
+
+      -- at a place outside the trees
+      pub after_write_outside : old.node (page_of place) ≡ None → marks_of_state state ≡ None
+          → attached_by heading Patterns (notes heading h) e ≡ None → Told heading (e ∷ h) new
+      after_write_outside away clean unattached =
+          told_written still (same_nodes unattached) (same_fresh unattached) same_apart
+          (λ m there. let both : Some m ≡ None = sym there ∙ nodes (page_of place) ∙ away in absurd cc)
+          (λ none. marks_here ∙ clean)
 
     -- one that attaches the next page
     pub after_attaching_write : (n : Node) (next : ℕ) → old.node (page_of place) ≡ Some n
         → Written (state_of old n.kind n.level place) pe (core_of n.kind n.level v) state
         → core_at old n.kind n.level place ≡ None → next_of n.kind n.level v ≡ Some next
-        → Attaches old new (node_below n place next ∷ [])
-        → ((q a : ℕ) → new.marks a ≡ None → IsIdle (new.pends q a)) → Told heading (e ∷ h) new
-    after_attaching_write n next is written empty table attached idle =
-        let sound = keeps_more heading h e t.kept unbroken in
-        let proper = laws.proper t.proper in
-        let nodes = laws.nodes.write h old new n pe place v next proper
-        t.fit sound t.nodes t.fresh t.values (cores heading h old t) is empty table attached.node in
-        after_write n is written (grown old new (node_below n place next ∷ []) attached) nodes
-        (laws.fresh.attached h old new e refl refl t.fresh nodes attached.fresh)
-        (apart_grown old new t.apart (grown old new (node_below n place next ∷ []) attached) attached.fresh null tracking.tracked) idle
-
-    -- one outside the trees
-    pub after_write_outside : old.node (page_of place) ≡ None → state ≡ Clean
-        → attached_by heading Patterns (notes heading h) e ≡ None → SameNodes old new
-        → ((p : ℕ) → new.fresh p ≡ old.fresh p) → Told heading (e ∷ h) new
-    after_write_outside away clean unattached nodes fresh =
-        let sound = keeps_more heading h e t.kept unbroken in
-        let proper = laws.proper t.proper in
-        let rest = tracked_stay heading laws h old new t e refl tracking in
-        record {
-          proper = t.proper;
-          kept = sound;
-          fit = fit_more heading h e t.fit fits;
-          values = laws.values.write h old new pe place v t.values move.value;
-          nodes = λ p. nodes p ∙ laws.nodes.plain_write h old pe place v proper sound unattached t.nodes p;
-          fresh = λ p. fresh p ∙ laws.fresh.others h old e sound refl refl unattached t.fresh p;
-          null = λ p. null p ∙ laws.pages.same_null h old e refl t.null p;
-          known = rest.0;
-          pages = rest.1;
-          tracked = rest.2;
-          apart = apart_same old new t.apart nodes (record { fresh = fresh; null = null }) tracking.tracked;
-          entries = λ m a here. entry m a (sym (nodes (page_of a)) ∙ here);
-          outside = λ a here. outside a (sym (nodes (page_of a)) ∙ here) (a == place) refl;
-        }
-      where
-        entry : (m : Node) (a : ℕ) → old.node (page_of a) ≡ Some m
-            → EntryStands heading (e ∷ h) m.kind m.level a (state_of new m.kind m.level a) (waiting new a)
-        entry m a here =
-            let k : (a == place) ≡ false = ne_eqb a place (λ same.
-            let both : Some m ≡ None = sym here ∙ ap (λ (x : ℕ). old.node (page_of x)) same ∙ away in absurd cc) in
-            carried heading laws h old new t e m a here (swapped a k)
-            (move.value a ∙ ap (λ b. cond b v (old.value a)) k)
-            (move.marks a ∙ ap (λ b. cond b (marks_of_state state) (old.marks a)) k)
-            (λ q. move.pends q a (off_place a (not (is_broken state)) k))
-
-        outside : (a : ℕ) → old.node (page_of a) ≡ None → (b : Bool) → (a == place) ≡ b → new.marks a ≡ None
-        outside a here true k = move.marks a ∙ ap (λ b. cond b (marks_of_state state) (old.marks a)) k
-            ∙ ap (λ (s : EntryState). marks_of_state s) clean
-        outside a here false k = move.marks a ∙ ap (λ b. cond b (marks_of_state state) (old.marks a)) k ∙ t.outside a here
+        → Attaches old new (node_below n place next ∷ []) → Told heading (e ∷ h) new
+    after_attaching_write n next is written empty table attached =
+        let nodes = laws.nodes.write h old new n pe place v next (laws.proper t.proper)
+        t.fit (kept_next heading Patterns h e t.kept unbroken) t.nodes t.fresh t.values (cores t) is empty table
+        attached.node in
+        let g = grown old new (node_below n place next ∷ []) attached in
+        after_write n is written g nodes (laws.fresh.attached h old new e refl refl t.fresh nodes attached.fresh)
+        (apart_grown old new t.apart g attached.fresh null tracking.tracked)

@@ -10,7 +10,7 @@ ghost use Rattle.bbm_events.specs.declared.event.Event.{Event};
 ghost use Rattle.bbm_events.specs.declared.event.Event.TheVariants.{Write};
 ghost use Rattle.bbm_regimes.specs.SameRegister.{same_kind};
 ghost use Rattle.bbm_rules.specs.Places.{page_of};
-ghost use Rattle.bbm_tree_index.specs.Index.{fresh_in, node_in};
+ghost use Rattle.bbm_tree_index.specs.Index.{node_in};
 ghost use Rattle.bbm_tree_index.specs.declared.role.Path.{Path as ThePath};
 ghost use Rattle.bbm_replay.specs.Leaves as leaves;
 ghost use Rattle.bbm_replay.specs.ReplayStanding.{Admits, IsAt, IsUnlocked, MayAdmit, MayMeet, Meets, OverLeaves};
@@ -115,12 +115,9 @@ fn rules_out_limbo(map: &PlaceMap) -> bool
 fn attached_next(old: &Option<Core>, new: &Option<Core>) -> Option<Page>
     ensures { result ≡ leaves.attached_next old.now new.now }
 {
-    match old {
-        Some(_) => None,
-        None => match new {
-            Some(core) => next_of(core),
-            None => None,
-        },
+    match (old, new) {
+        (None, Some(core)) => next_of(core),
+        _ => None,
     }
 }
 
@@ -300,7 +297,11 @@ impl ReplayState {
         laws();
         rules();
         law_others();
-        let (position, path) = self.find(place, hint).unwrap();
+        let position = self.map.position_near(place, hint).unwrap();
+        let path = self
+            .index
+            .path_near(place, self.map.page_number(&position))
+            .unwrap();
         let live = self.map.live_at(&position, path.kind, path.level);
         let old = self.map.core_at(&position, live);
         let new = core(path.kind, path.level, value);
@@ -367,18 +368,15 @@ impl ReplayState {
     {
         laws();
         let hint = self.map.recent_page();
-        match self.find(place, hint) {
-            Some(found) => {
-                let (position, path) = found;
-                let write = TreeWrite {
-                    pe,
-                    position: &position,
-                    value,
-                    path: &path,
-                };
-                self.write_inside(alloc, &write)
-            }
-            None => self.write_outside(pe, place, value, hint),
-        }
+        let Some((position, path)) = self.find(place, hint) else {
+            return self.write_outside(pe, place, value, hint);
+        };
+        let write = TreeWrite {
+            pe,
+            position: &position,
+            value,
+            path: &path,
+        };
+        self.write_inside(alloc, &write)
     }
 }

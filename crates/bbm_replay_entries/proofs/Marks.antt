@@ -3,7 +3,7 @@ use Rattle.bbm_rules.proofs.Common.{◌≡◌, ℕ, ◌<◌, Bool, true, false, 
 use Rattle.bbm_rules.proofs.Common.{is_some, refl, sym, ◌∙◌, ap, inl, inr, true≢false, and_parts, eq-eqb, eqb-true}
 use Rattle.bbm_rules.proofs.Common.{or_cases, proved, If, Is, answers, is_non, same_bool, PeMask, operation, Cover}
 use Rattle.bbm_rules.proofs.Common.{Half, Second, Full, Patterns, cleansed, flushes, half, same_cover, seen, writes}
-use Rattle.bbm_rules.proofs.Common.{Noted, reaches, publishes_to}
+use Rattle.bbm_rules.proofs.Common.{Noted, reaches, publishes_to, subst, arith}
 use Rattle.std.proofs.Math.Bool.{and-false, and-true, and_assoc}
 use Rattle.bbm_barriers.specs.Options.{publishes}
 use Rattle.bbm_barriers.specs.declared.Dsb.{Dsb as Barrier}
@@ -30,20 +30,14 @@ use Rattle.bbm_replay_entries.proofs.Since.{Untouched, answered_seen, counted, c
 use Rattle.bbm_histories.proofs.SeenFirst.{seen_on}
 use Rattle.bbm_lemmas.proofs.Bools.{or_nothing}
 use Rattle.bbm_lemmas.proofs.Numbers.{same_swapped}
-use Rattle.bbm_rules.proofs.Common.{arith}
 
 -- ---- the points of a state that isn't broken
 
-pub record Blank (state : EntryState) : Type 0 where
-  pub writers : (p : ℕ) → writer_at state p ≡ false
-  pub seen : (p : ℕ) → seen_at state p ≡ false
-  pub half : (p : ℕ) → half_at state p ≡ false
-  pub clean : (p : ℕ) → clean_at state p ≡ false
-
-pub blank : (state : EntryState) → is_broken state ≡ false → Blank state
-blank Clean b = record { writers = λ p. refl; seen = λ p. refl; half = λ p. refl; clean = λ p. refl }
-blank (Live core) b = record { writers = λ p. refl; seen = λ p. refl; half = λ p. refl; clean = λ p. refl }
-blank (Broken marks) b = absurd (true≢false b)
+blank : (state : EntryState) (p : ℕ) → is_broken state ≡ false → (writer_at state p ≡ false) × (seen_at state p ≡ false)
+    × (half_at state p ≡ false) × (clean_at state p ≡ false)
+blank Clean p b = (refl, refl, refl, refl)
+blank (Live core) p b = (refl, refl, refl, refl)
+blank (Broken marks) p b = absurd (true≢false b)
 
 -- ---- a DSB published
 
@@ -60,24 +54,22 @@ pub middle : (heading : Heading) (old : EntryState) (q : ℕ) (dsb : Barrier) (m
 middle heading old q dsb mid heard = by (heading.cnp && is_non dsb.domain) refl
   where
     by : (t : Bool) → (heading.cnp && is_non dsb.domain) ≡ t → Middle heading old q dsb mid
-    by false t = record {
-      core = (heard.published t).core;
-      broken = (heard.published t).broken;
-      writers = (heard.published t).writers;
-      seen = λ p. (heard.published t).seen p ∙ ap (λ (b : Bool). (b && writer_at old q) || seen_at old p)
-          (sym (ap (λ (b : Bool). publishes dsb q heading.pes p && not b) t ∙ and-true (publishes dsb q heading.pes p)));
-      half = (heard.published t).half;
-      clean = (heard.published t).clean;
+    by false t = let r = heard.published t in record {
+      core = r.core;
+      broken = r.broken;
+      writers = r.writers;
+      seen = λ p. cc (r.seen p, t, and-true (publishes dsb q heading.pes p));
+      half = r.half;
+      clean = r.clean;
     }
-    by true t = record {
-      core = ap core_in (heard.unheard t);
-      broken = ap is_broken (heard.unheard t);
-      writers = λ p. ap (λ (s : EntryState). writer_at s p) (heard.unheard t);
-      seen = λ p. ap (λ (s : EntryState). seen_at s p) (heard.unheard t) ∙ ap (λ (b : Bool). (b && writer_at old q) || seen_at old p)
-          (sym (ap (λ (b : Bool). publishes dsb q heading.pes p && not b) t ∙ and-false (publishes dsb q heading.pes p)));
-      half = λ p. ap (λ (s : EntryState). half_at s p) (heard.unheard t);
-      clean = λ p. ap (λ (s : EntryState). clean_at s p) (heard.unheard t);
-    }
+    by true t = subst (Middle heading old q dsb) (sym (heard.unheard t)) (record {
+      core = refl;
+      broken = refl;
+      writers = λ p. refl;
+      seen = λ p. cc (t, and-false (publishes dsb q heading.pes p));
+      half = λ p. refl;
+      clean = λ p. refl;
+    })
 
 -- ---- tests
 
@@ -98,8 +90,7 @@ left_bits : (ends w : Bool) → (true && (not ends && w)) ≡ cond (true && ends
 left_bits = proved 2 (λ ends w. Is (true && (not ends && w)) (cond (true && ends) false w)) refl
 
 pub both_written : (p pe place : ℕ) (w : Bool) → (nat_eq p pe || w) ≡ ((pe == p && place == place) || w)
-both_written p pe place w =
-    ap (λ (b : Bool). b || w) (same_swapped p pe ∙ sym (ap (λ (b : Bool). (pe == p) && b) (eq-eqb place place refl) ∙ and-true (pe == p)))
+both_written p pe place w = cc (same_swapped p pe, eq-eqb place place refl, and-true (pe == p))
 
 -- nothing waits where the place isn't broken
 counts_nowhere : (state : EntryState) (c : Cover) (p : ℕ) → is_broken state ≡ false → counts_at state c p ≡ false
@@ -127,12 +118,11 @@ module _ (heading : Heading) (k : Known heading) (place : ℕ) where
       → ((q : ℕ) → IsIdle (pends q)) → ((p q : ℕ) → wrote heading place p q since ≡ false) → Marked heading place since state pends
   marked_blank since state pends unbroken idle none =
       let u : (p : ℕ) → Untouched heading k place p since = λ p. untouched heading k place p since (none p) in
-      let points : Blank state = blank state unbroken in
       record {
-        writers = λ p. points.writers p ∙ sym (none p p);
-        seen = λ p. points.seen p ∙ sym (u p).unseen;
-        half = λ p below. points.half p ∙ sym (u p).unhalf;
-        clean = λ p below. points.clean p ∙ sym (u p).uncleansed;
+        writers = λ p. (blank state p unbroken).0 ∙ sym (none p p);
+        seen = λ p. (blank state p unbroken).1 ∙ sym (u p).unseen;
+        half = λ p below. (blank state p unbroken).2 ∙ sym (u p).unhalf;
+        clean = λ p below. (blank state p unbroken).3 ∙ sym (u p).uncleansed;
         waiting = λ p below q b c. idle q b c p ∙ sym ((u p).idle q b c);
       }
 
@@ -155,10 +145,8 @@ module _ (heading : Heading) (k : Known heading) (place : ℕ) where
   marked_still n since old new pends pends' still m writers seen_same half_same clean_same waits_same = record {
     writers = λ p. writers p ∙ ap (λ (b : Bool). writes p place n.event || b) (m.writers p);
     seen = λ p. seen_same p ∙ m.seen p ∙ sym (k.pattern_steps.seen place p n since ∙ (by p n.event still).0);
-    half = λ p below. half_same p ∙ m.half p below
-        ∙ sym (k.pattern_steps.half place p n since ∙ (by p n.event still).1);
-    clean = λ p below. clean_same p ∙ m.clean p below
-        ∙ sym (k.pattern_steps.cleansed place p n since ∙ (by p n.event still).2);
+    half = λ p below. cc (half_same p, m.half p below, k.pattern_steps.half place p n since, (by p n.event still).1);
+    clean = λ p below. cc (clean_same p, m.clean p below, k.pattern_steps.cleansed place p n since, (by p n.event still).2);
     waiting = λ p below q b c. waits_same q b c p ∙ m.waiting p below q b c
         ∙ (cover_counted heading place p q b c since ∙ sym (counted_step p q b c n since ∙ (by p n.event still).3 q b c));
   }
@@ -179,10 +167,13 @@ module _ (heading : Heading) (k : Known heading) (place : ℕ) where
   counts_now state p c since b s h = grind arith
 
   module _ (n : Noted) (since : List Noted) (q : ℕ) (op : TlbiOp) (xt : ℕ) (is : n.event ≡ Tlbi q op xt) where
-    -- what waits after the TLBI
+    -- what waits after the TLBI, by what waited before
+    abbrev told : ℕ → ℕ → Bool → Cover → Bool → Bool
+    told p i b c before = (q == i && (same_bool (operation op).broadcast b && (reaches heading (Tlbi q op xt) p
+        && (same_cover (n.covers place) c && counts heading place p c since)))) || before
+
     tlbi_waits : (p i : ℕ) (b : Bool) (c : Cover) → cover_waits heading place p i b c (n ∷ since)
-        ≡ ((q == i && (same_bool (operation op).broadcast b
-        && (reaches heading (Tlbi q op xt) p && (same_cover (n.covers place) c && counts heading place p c since)))) || cover_waits heading place p i b c since)
+        ≡ told p i b c (cover_waits heading place p i b c since)
     tlbi_waits p i b c = cc (
       counted_step p i b c n since,
       is,
@@ -191,9 +182,8 @@ module _ (heading : Heading) (k : Known heading) (place : ℕ) where
     )
 
     tlbi_marks : (state : EntryState) (pends pends' : ℕ → Pends) → Marked heading place since state pends
-        → ((p : ℕ) → p < heading.pes → (i : ℕ) (b : Bool) (c : Cover) → waits_at (pends' i) b c p
-        ≡ ((q == i && (same_bool (operation op).broadcast b
-        && (reaches heading (Tlbi q op xt) p && (same_cover (n.covers place) c && counts heading place p c since)))) || waits_at (pends i) b c p))
+        → ((p : ℕ) → p < heading.pes → (i : ℕ) (b : Bool) (c : Cover)
+        → waits_at (pends' i) b c p ≡ told p i b c (waits_at (pends i) b c p))
         → Marked heading place (n ∷ since) state pends'
     tlbi_marks state pends pends' m now = record {
       writers = λ p. cc (m.writers p, is);
@@ -210,9 +200,8 @@ module _ (heading : Heading) (k : Known heading) (place : ℕ) where
     marked_tlbi reach state pends pends' broken reached issues others m =
         tlbi_marks state pends pends' m (λ p below i b c. by p below b c i (nat_eq i q) refl)
       where
-        by : (p : ℕ) → p < heading.pes → (b : Bool) (c : Cover) (i : ℕ) (t : Bool) → nat_eq i q ≡ t → waits_at (pends' i) b c p
-            ≡ ((q == i && (same_bool (operation op).broadcast b
-            && (reaches heading (Tlbi q op xt) p && (same_cover (n.covers place) c && counts heading place p c since)))) || waits_at (pends i) b c p)
+        by : (p : ℕ) → p < heading.pes → (b : Bool) (c : Cover) (i : ℕ) (t : Bool) → nat_eq i q ≡ t
+            → waits_at (pends' i) b c p ≡ told p i b c (waits_at (pends i) b c p)
         by p below b c i false t = cc (others i t b c p, same_swapped q i, t)
         by p below b c i true t = cc (
           eqb-true i q t,
@@ -272,17 +261,14 @@ module _ (heading : Heading) (k : Known heading) (place : ℕ) where
       answered_now p below Second,
       add_seen (cleansed heading Patterns place p since) (seen heading place p (n ∷ since))
           (answered_by dsb (λ b. full_waits heading place p q b since) || answered_by dsb (λ b. second_waits heading place p q b since))
-          (λ a. seen_on heading k.pattern_steps place p n since (either p a)),
+          (λ a. seen_on heading k.pattern_steps place p n since (elim (or_cases (answered_by dsb (λ b. full_waits heading place p q b since))
+          (answered_by dsb (λ b. second_waits heading place p q b since)) a) [
+            | inl full ↦ answered_seen heading k place p q dsb Full since full
+            | inr second ↦ answered_seen heading k place p q dsb Second since second
+          ])),
       k.pattern_steps.cleansed place p n since,
       is,
     )
-      where
-        either : (p : ℕ) → (answered_by dsb (λ b. full_waits heading place p q b since) || answered_by dsb (λ b. second_waits heading place p q b since)) ≡ true
-            → seen heading place p since ≡ true
-        either p a = elim (or_cases (answered_by dsb (λ b. full_waits heading place p q b since)) (answered_by dsb (λ b. second_waits heading place p q b since)) a) [
-          | inl full ↦ answered_seen heading k place p q dsb Full since full
-          | inr second ↦ answered_seen heading k place p q dsb Second since second
-        ]
 
     -- what waits after the DSB
     dsb_waits : (p i : ℕ) (b : Bool) (c : Cover) → cover_waits heading place p i b c (n ∷ since)

@@ -1,14 +1,12 @@
 -- The phase that a state tells.
-use Rattle.bbm_rules.proofs.Common.{◌≡◌, ℕ, ◌<◌, Bool, true, false, cond, not, ◌&&◌, List, Option, Some, None, is_some}
-use Rattle.bbm_rules.proofs.Common.{option_and_then, refl, sym, ◌∙◌, ap, option_map_or, is_valid, Patterns}
-use Rattle.bbm_rules.proofs.Common.{noted, ValidWrite, cleansed_everywhere, last_valid, Noted}
-use Rattle.bbm_rules.proofs.Common.{events_of, broken_phase, is_restless, page_of, Node, held_at, node_of, value_of}
+use Rattle.bbm_rules.proofs.Common.{◌≡◌, ℕ, ◌<◌, Bool, true, false, cond, List, Option, Some, None, is_some}
+use Rattle.bbm_rules.proofs.Common.{option_and_then, refl, sym, ◌∙◌, ap, is_valid, Patterns, noted, ValidWrite}
+use Rattle.bbm_rules.proofs.Common.{cleansed_everywhere, last_valid, Noted, broken_phase, is_restless, page_of, Node}
+use Rattle.bbm_rules.proofs.Common.{node_of, value_of, arith}
 use Rattle.std.specs.Prelude.{unwrap_or}
-use Rattle.bbm_rules.proofs.Common.{arith}
 use Rattle.bbm_entry_state.specs.Points.{core_in, is_broken}
 use Rattle.bbm_entry_state.specs.declared.pending.Pends.{Pends}
 use Rattle.bbm_entry_state.specs.declared.state.EntryState.{EntryState}
-use Rattle.bbm_entry_state.specs.declared.state.EntryState.TheVariants as state
 use Rattle.bbm_events.specs.Heading.{Heading}
 use Rattle.bbm_events.specs.declared.event.Event.{Event}
 use Rattle.bbm_rules.specs.declared.phase.Phase.{Phase}
@@ -19,6 +17,7 @@ use Rattle.bbm_replay_entries.specs.Marked.{Marked}
 use Rattle.bbm_replay_entries.specs.EntryPhases.{phase_in}
 use Rattle.bbm_replay_entries.specs.EntryStands.{EntryStands, held_now}
 use Rattle.bbm_replay_entries.proofs.Places.{holds_core}
+use Rattle.bbm_entry_state.specs.declared.state.EntryState.TheVariants as state
 
 -- a state without a core
 coreless : (s : EntryState) (p : ℕ) → is_some (core_in s) ≡ false → phase_in s p ≡ Clean
@@ -72,21 +71,12 @@ module _ (heading : Heading) (k : Known heading) (h : List Event) (place p : ℕ
   pub phase_outside : node_of heading Patterns (noted heading Patterns h) (page_of place) ≡ None → phase_of heading Patterns h place p ≡ Clean
   phase_outside is = phase_is ∙ ap by_node is
 
-abbrev restless_by : Heading → List Event → ℕ → Option Node → Bool
-restless_by heading h place o =
-    option_map_or (λ (n : Node). is_some (held_at heading Patterns (noted heading Patterns h) n place)
-    && not (is_valid n.kind n.level (value_of (events_of (noted heading Patterns h)) place))) o false
-
 pub restless_tells : (heading : Heading) (k : Known heading) (h : List Event) (n : Node) (place : ℕ) (s : EntryState) (pends : ℕ → Pends)
     → node_of heading Patterns (noted heading Patterns h) (page_of place) ≡ Some n → EntryStands heading h n.kind n.level place s pends
     → is_restless heading Patterns (noted heading Patterns h) place ≡ is_broken s
-restless_tells heading k h n place s pends is e =
-    ap (restless_by heading h place) is
-    ∙ (ap (λ (x : List Event). is_some (held_now heading h n.kind n.level place) && not
-    (is_valid n.kind n.level (value_of x place))) (k.notes_keep_the_events h)
-    ∙ sym e.broken)
+restless_tells heading k h n place s pends is e = rw (is, k.notes_keep_the_events h) (sym e.broken)
 
 pub restless_outside : (heading : Heading) (h : List Event) (place : ℕ)
     → node_of heading Patterns (noted heading Patterns h) (page_of place) ≡ None
     → is_restless heading Patterns (noted heading Patterns h) place ≡ false
-restless_outside heading h place is = ap (restless_by heading h place) is
+restless_outside heading h place is = rw (is) refl

@@ -1,12 +1,11 @@
 -- What one more event does to a state that stands for a history.
-use Rattle.bbm_rules.proofs.Common.{◌≡◌, ℕ, ◌<◌, Bool, true, false, cond, not, ◌&&◌, ◌==◌, nat_eq, List, ◌∷◌}
-use Rattle.bbm_rules.proofs.Common.{◌++◌, Option, Some, None, is_some, is_none, option_and_then, refl, sym, ◌∙◌, ap}
-use Rattle.bbm_rules.proofs.Common.{subst, true≢false, and_parts, eq-eqb, eqb-true, false_from_ne_true, answers}
-use Rattle.bbm_rules.proofs.Common.{core_of, is_valid, Core, every_pe, every_same, every_wider, Kind, Cover, Patterns}
-use Rattle.bbm_rules.proofs.Common.{cleansed, writes, note, noted, ValidWrite, cleansed_everywhere, held, last_valid}
-use Rattle.bbm_rules.proofs.Common.{last_valid_after, later, Noted, events_of, value_of}
+use Rattle.bbm_rules.proofs.Common.{◌≡◌, ℕ, ◌<◌, Bool, true, false, cond, not, ◌&&◌, ◌==◌, nat_eq, List, ◌∷◌, Option}
+use Rattle.bbm_rules.proofs.Common.{Some, None, is_some, is_none, option_and_then, refl, sym, ◌∙◌, ap, subst}
+use Rattle.bbm_rules.proofs.Common.{true≢false, and_parts, eq-eqb, eqb-true, false_from_ne_true, answers, core_of}
+use Rattle.bbm_rules.proofs.Common.{is_valid, Core, every_pe, every_same, every_wider, Kind, Cover, Patterns, cleansed}
+use Rattle.bbm_rules.proofs.Common.{writes, note, noted, ValidWrite, cleansed_everywhere, held, last_valid}
+use Rattle.bbm_rules.proofs.Common.{last_valid_after, later, Noted, events_of, value_of, arith}
 use Rattle.std.proofs.Math.Bool.{and-false, and-true}
-use Rattle.std.proofs.lemmas.Option.{option_and_then_some}
 use Rattle.bbm_barriers.specs.declared.Dsb.{Dsb as Barrier}
 use Rattle.bbm_lemmas.proofs.Every.{every_none}
 use Rattle.bbm_entry_state.specs.EntryCalls.{Completed, Written, clean_after, core_after}
@@ -14,6 +13,8 @@ use Rattle.bbm_entry_state.specs.Points.{core_in, is_broken, waits as waits_at, 
 use Rattle.bbm_entry_state.specs.EntryStanding.{IsIdle, KeepsPends}
 use Rattle.bbm_entry_state.specs.declared.pending.Pends.{Pends}
 use Rattle.bbm_entry_state.specs.declared.state.EntryState.{EntryState}
+use Rattle.std.proofs.lemmas.Bool.{true_from_ne_false}
+use Rattle.bbm_rules.proofs.HeldLemmas.{holding, older}
 use Rattle.bbm_events.specs.Heading.{Heading}
 use Rattle.bbm_events.specs.declared.event.Event.{Event}
 use Rattle.bbm_events.specs.declared.event.Event.TheVariants.{Write, Dsb}
@@ -25,39 +26,35 @@ use Rattle.bbm_replay_entries.specs.EntryStands.{ByValue, EntryStands, core_now,
 use Rattle.bbm_replay_entries.proofs.Marks.{Middle, both_written, clean_now, is_still, marked_blank, marked_dsb}
 use Rattle.bbm_replay_entries.proofs.Marks.{marked_still, middle}
 use Rattle.bbm_replay_entries.proofs.Since.{cleansed_on, unwritten}
-use Rattle.bbm_rules.proofs.Common.{arith}
 
 -- ---- options
 
 none_is : {A : Type 0} (o : Option A) → is_some o ≡ false → o ≡ None
-none_is None e = refl
-none_is (Some x) e = absurd (true≢false e)
+none_is o e = grind arith
 
 some_is : {A : Type 0} (o : Option A) → is_some o ≡ true → (x : A) × (o ≡ Some x)
 some_is None e = absurd (true≢false (sym e))
 some_is (Some x) e = (x, refl)
+
+unclean : (mid : EntryState) (pends : Pends) (dsb : Barrier) → is_broken mid ≡ false → (p : ℕ) → clean_after mid pends dsb p ≡ false
+unclean mid pends dsb t p = grind arith
 
 module _ (heading : Heading) (k : Known heading) (kind : Kind) (level place : ℕ) where
   -- ---- what is held, by the value
 
   valid_held : (h : List Event) → 0 < heading.pes → is_valid kind level (value_of h place) ≡ true → held_now heading h kind level place ≡ Some (value_of h place)
   valid_held h pes v =
-      let same : events_of (noted heading Patterns h) ≡ h = k.notes_keep_the_events h in
-      k.held.live kind level place (noted heading Patterns h) pes
-      (ap (λ (x : List Event). is_valid kind level (value_of x place)) same ∙ v)
-      ∙ ap (λ (x : List Event). Some (value_of x place)) same
+      subst (λ (x : List Event). is_valid kind level (value_of x place) ≡ true → held_now heading h kind level place ≡ Some (value_of x place))
+      (k.notes_keep_the_events h) (k.held.live kind level place (noted heading Patterns h) pes) v
 
   -- a valid value was written last
   valid_unwritten : (h : List Event) (w : ValidWrite) → is_valid kind level (value_of h place) ≡ true
       → last_valid kind level place (noted heading Patterns h) ≡ Some w → (p q : ℕ) → wrote heading place p q w.since ≡ false
   valid_unwritten h w v last p q =
       let same : events_of (noted heading Patterns h) ≡ h = k.notes_keep_the_events h in
-      let live : (w : ValidWrite) × (last_valid kind level place (noted heading Patterns h) ≡ Some w)
-      × (w.value ≡ value_of (events_of (noted heading Patterns h)) place) × ((q v : ℕ) (n : Noted) (after before : List Noted)
-      → w.since ≡ after ++ n ∷ before → n.event ≡ Write q place v → ⊥)
-      = k.last_valid.live kind level place (noted heading Patterns h)
+      let live = k.last_valid.live kind level place (noted heading Patterns h)
       (ap (λ (x : List Event). is_valid kind level (value_of x place)) same ∙ v) in
-      let one : live.0 ≡ w = cc in
+      let one : live.0 ≡ w = cc (live.1, last) in
       ap (λ (x : ValidWrite). wrote heading place p q x.since) (sym one) ∙ unwritten heading place p live.0.since live.3 q
 
   core_valid : (value : ℕ) → is_valid kind level value ≡ true → is_some (core_of kind level value) ≡ true
@@ -69,10 +66,9 @@ module _ (heading : Heading) (k : Known heading) (kind : Kind) (level place : �
   core_held : (h : List Event) → is_some (held_now heading h kind level place) ≡ is_some (core_now heading h kind level place)
   core_held h = by (held_now heading h kind level place) refl
     where
-      by : (o : Option ℕ) → held_now heading h kind level place ≡ o
-          → is_some (held_now heading h kind level place) ≡ is_some (core_now heading h kind level place)
-      by None e = cc
-      by (Some x) e = cc (e, core_valid x (k.held.valid kind level place (noted heading Patterns h) x e))
+      by : (o : Option ℕ) → held_now heading h kind level place ≡ o → is_some o ≡ is_some (option_and_then (core_of kind level) o)
+      by None e = refl
+      by (Some x) e = sym (core_valid x (k.held.valid kind level place (noted heading Patterns h) x e))
 
   -- the state has a core where something is held
   pub holds_core : (h : List Event) (state : EntryState) (pends : ℕ → Pends) → EntryStands heading h kind level place state pends
@@ -85,20 +81,16 @@ module _ (heading : Heading) (k : Known heading) (kind : Kind) (level place : �
       → held_now heading h kind level place ≡ cond (is_valid kind level (value_of h place)) (Some (value_of h place)) None
       → ByValue kind level (value_of h place) state pends → EntryStands heading h kind level place state pends
   value_stands h state pends holds b = record {
-    core = b.core ∙ by_core (is_valid kind level (value_of h place)) refl;
-    broken = b.unbroken ∙ by_broken (is_valid kind level (value_of h place)) refl;
+    core = (by (is_valid kind level (value_of h place)) refl).0;
+    broken = (by (is_valid kind level (value_of h place)) refl).1;
     marks = λ broken. absurd (true≢false (sym broken ∙ b.unbroken));
     idle = λ unbroken. b.idle;
   }
     where
-      by_core : (t : Bool) → is_valid kind level (value_of h place) ≡ t → core_of kind level (value_of h place) ≡ core_now heading h kind level place
-      by_core true t = cc (holds, t)
-      by_core false t = cc (holds, t, core_invalid (value_of h place) t)
-
-      by_broken : (t : Bool) → is_valid kind level (value_of h place) ≡ t
-          → false ≡ (is_some (held_now heading h kind level place) && not (is_valid kind level (value_of h place)))
-      by_broken true t = cc (t, and-false (is_some (held_now heading h kind level place)))
-      by_broken false t = cc (holds, t)
+      by : (t : Bool) → is_valid kind level (value_of h place) ≡ t → (core_in state ≡ core_now heading h kind level place)
+          × (is_broken state ≡ (is_some (held_now heading h kind level place) && not (is_valid kind level (value_of h place))))
+      by true t = (cc (b.core, holds, t), cc (b.unbroken, t, and-false (is_some (held_now heading h kind level place))))
+      by false t = (cc (b.core, holds, t, core_invalid (value_of h place) t), cc (b.unbroken, holds, t))
 
   pub fresh_holds : (h : List Event) → 0 < heading.pes
       → ((value : ℕ) → held_now heading h kind level place ≡ Some value → value_of h place ≡ value)
@@ -108,12 +100,9 @@ module _ (heading : Heading) (k : Known heading) (kind : Kind) (level place : �
       by : (t : Bool) → is_valid kind level (value_of h place) ≡ t
           → held_now heading h kind level place ≡ cond (is_valid kind level (value_of h place)) (Some (value_of h place)) None
       by true t = cc (valid_held h pes t, t)
-      by false t = sym (cc (
-        none_is (held_now heading h kind level place) (false_from_ne_true (is_some (held_now heading h kind level place)) (λ some.
-            let x : (value : ℕ) × (held_now heading h kind level place ≡ Some value) = some_is (held_now heading h kind level place) some in
-            absurd (cc (k.held.valid kind level place (noted heading Patterns h) x.0 x.1, present x.0 x.1)))),
-        t,
-      ))
+      by false t = none_is (held_now heading h kind level place) (false_from_ne_true (is_some (held_now heading h kind level place)) (λ some.
+          let x : (value : ℕ) × (held_now heading h kind level place ≡ Some value) = some_is (held_now heading h kind level place) some in
+          absurd (cc (k.held.valid kind level place (noted heading Patterns h) x.0 x.1, present x.0 x.1, t)))) ∙ sym (cc t)
 
   -- ---- the last valid write after an event that isn't one
 
@@ -123,100 +112,69 @@ module _ (heading : Heading) (k : Known heading) (kind : Kind) (level place : �
       → P (note heading Patterns (noted heading Patterns h) e ∷ old.since))
       → last_valid kind level place (noted heading Patterns (e ∷ h)) ≡ Some w → P w.since
   last_later h e w P on each last =
-      option_and_then_some (λ (x : ValidWrite). Some (record { value = x.value; since = n ∷ x.since })) (last_valid kind level place (noted heading Patterns h)) w
-      (sym on ∙ last)
-      (λ old is same. let one : record { value = old.value; since = n ∷ old.since } ≡ w = cc in
-      subst (λ (x : ValidWrite). P x.since) one (each old is))
-    where
-      n : Noted
-      n = note heading Patterns (noted heading Patterns h) e
+      let o = older (note heading Patterns (noted heading Patterns h) e) (last_valid kind level place (noted heading Patterns h)) w
+      (sym on ∙ last) in
+      subst P o.longer (each o.before o.is)
 
   -- ---- an event that doesn't touch the place
 
   last_on : (e : Event) (n : Noted) (found : Option ValidWrite) → touches place e ≡ false → last_valid_after kind level place e n found ≡ later n found
-  last_on (Write pe at value) n found t = cc
-  last_on e n found t = cc
+  last_on e n found t = grind arith
 
   value_on : (e : Event) (h : List Event) → touches place e ≡ false → value_of (e ∷ h) place ≡ value_of h place
-  value_on (Write pe at value) h t = cc
-  value_on e h t = cc
+  value_on e h t = grind arith
 
   held_on : (e : Event) (n : Noted) (h : List Noted) → touches place e ≡ false
       → held_after heading Patterns kind level place e n h ≡ held heading Patterns kind level place h
-  held_on (Write pe at value) n h t = cc
-  held_on e n h t = cc
+  held_on e n h t = grind arith
 
   still_on : (e : Event) → touches place e ≡ false → is_still e ≡ true
-  still_on (Dsb q dsb) t = cc
-  still_on e t = cc
+  still_on e t = grind arith
 
   unwritten_on : (p : ℕ) (e : Event) → touches place e ≡ false → writes p place e ≡ false
   unwritten_on p (Write pe at value) t = cc (t, and-false (pe == p))
   unwritten_on p e t = refl
 
   -- what a place holds and its value are as they were
-  record Alike (h : List Event) (e : Event) : Type 0 where
-    pub held : held_now heading (e ∷ h) kind level place ≡ held_now heading h kind level place
-    pub value : value_of (e ∷ h) place ≡ value_of h place
-    pub last : last_valid kind level place (noted heading Patterns (e ∷ h))
-        ≡ later (note heading Patterns (noted heading Patterns h) e) (last_valid kind level place (noted heading Patterns h))
-
-  alike_stands : (h : List Event) (e : Event) (state : EntryState) (pends pends' : ℕ → Pends) → Alike h e
-      → EntryStands heading h kind level place state pends
-      → (is_broken state ≡ true → (w : ValidWrite) → last_valid kind level place (noted heading Patterns h) ≡ Some w
-      → Marked heading place (note heading Patterns (noted heading Patterns h) e ∷ w.since) state pends')
-      → (is_broken state ≡ false → (q : ℕ) → IsIdle (pends' q))
-      → EntryStands heading (e ∷ h) kind level place state pends'
-  alike_stands h e state pends pends' a s marks idle = record {
-    core = cc (s.core, a.held);
-    broken = cc (s.broken, a.held, a.value);
-    marks = λ broken w last. last_later h e w (λ since. Marked heading place since state pends') a.last (marks broken) last;
-    idle = idle;
-  }
-
-  pub stays : (h : List Event) (e : Event) (state : EntryState) (pends : ℕ → Pends) → 0 < heading.pes → touches place e ≡ false
-      → EntryStands heading h kind level place state pends → EntryStands heading (e ∷ h) kind level place state pends
-  stays h e state pends pes t s =
-      alike_stands h e state pends pends (record {
-        held = k.held_step kind level place n (noted heading Patterns h) pes ∙ held_on e n (noted heading Patterns h) t;
-        value = value_on e h t;
-        last = last_on e n (last_valid kind level place (noted heading Patterns h)) t;
-      }) s
-      (λ broken w last. marked_still heading k place n w.since state state pends pends (still_on e t) (s.marks broken w last)
-      (λ p. cc (unwritten_on p e t)) (λ p. refl) (λ p. refl) (λ p. refl) (λ q b c p. refl))
-      s.idle
-    where
-      n : Noted
-      n = note heading Patterns (noted heading Patterns h) e
-
-  -- ---- a TLBI
-
-  pub tlbi_stands : (h : List Event) (e : Event) (state : EntryState) (pends pends' : ℕ → Pends) → 0 < heading.pes
+  pub alike_stands : (h : List Event) (e : Event) (state : EntryState) (pends pends' : ℕ → Pends) → 0 < heading.pes
       → held_after heading Patterns kind level place e (note heading Patterns (noted heading Patterns h) e) (noted heading Patterns h) ≡ held_now heading h kind level place
       → value_of (e ∷ h) place ≡ value_of h place
-      → last_valid_after kind level place e (note heading Patterns (noted heading Patterns h) e) (last_valid kind level place (noted heading Patterns h))
+      → last_valid kind level place (noted heading Patterns (e ∷ h))
       ≡ later (note heading Patterns (noted heading Patterns h) e) (last_valid kind level place (noted heading Patterns h))
       → EntryStands heading h kind level place state pends
       → (is_broken state ≡ true → (since : List Noted) → Marked heading place since state pends
       → Marked heading place (note heading Patterns (noted heading Patterns h) e ∷ since) state pends')
       → (is_broken state ≡ false → (q : ℕ) → IsIdle (pends' q))
       → EntryStands heading (e ∷ h) kind level place state pends'
-  tlbi_stands h e state pends pends' pes holds value last s marks idle =
-      alike_stands h e state pends pends' (record {
-        held = k.held_step kind level place (note heading Patterns (noted heading Patterns h) e) (noted heading Patterns h) pes ∙ holds;
-        value = value;
-        last = last;
-      }) s (λ broken w is. marks broken w.since (s.marks broken w is)) idle
+  alike_stands h e state pends pends' pes holds value later_is s marks idle =
+      let held : held_now heading (e ∷ h) kind level place ≡ held_now heading h kind level place
+      = k.held_step kind level place (note heading Patterns (noted heading Patterns h) e) (noted heading Patterns h) pes ∙ holds in
+      record {
+        core = cc (s.core, held);
+        broken = cc (s.broken, held, value);
+        marks = λ broken w last. last_later h e w (λ since. Marked heading place since state pends') later_is
+            (λ y was. marks broken y.since (s.marks broken y was)) last;
+        idle = idle;
+      }
+
+  pub stays : (h : List Event) (e : Event) (state : EntryState) (pends : ℕ → Pends) → 0 < heading.pes → touches place e ≡ false
+      → EntryStands heading h kind level place state pends → EntryStands heading (e ∷ h) kind level place state pends
+  stays h e state pends pes t s =
+      alike_stands h e state pends pends pes (held_on e n (noted heading Patterns h) t) (value_on e h t)
+      (last_on e n (last_valid kind level place (noted heading Patterns h)) t) s
+      (λ broken since m. marked_still heading k place n since state state pends pends (still_on e t) m
+      (λ p. cc (unwritten_on p e t)) (λ p. refl) (λ p. refl) (λ p. refl) (λ q b c p. refl))
+      s.idle
+    where
+      n : Noted
+      n = note heading Patterns (noted heading Patterns h) e
 
   -- ---- a write
 
   unbroken_held : (h : List Event) (state : EntryState) (pends : ℕ → Pends) → EntryStands heading h kind level place state pends → is_broken state ≡ false
       → is_some (held_now heading h kind level place) ≡ true → is_valid kind level (value_of h place) ≡ true
-  unbroken_held h state pends s unbroken some = by (is_valid kind level (value_of h place)) refl
-    where
-      by : (t : Bool) → is_valid kind level (value_of h place) ≡ t → is_valid kind level (value_of h place) ≡ true
-      by true t = t
-      by false t = cc (s.broken, some, t, unbroken)
+  unbroken_held h state pends s unbroken some =
+      true_from_ne_false (is_valid kind level (value_of h place)) (λ t. absurd (cc (s.broken, some, t, unbroken)))
 
   -- the masks of a place that holds something, broken or not
   held_marks : (h : List Event) (state : EntryState) (pends : ℕ → Pends) (w : ValidWrite) → EntryStands heading h kind level place state pends
@@ -244,8 +202,7 @@ module _ (heading : Heading) (k : Known heading) (kind : Kind) (level place : �
 
       holds : (t : Bool) → is_valid kind level value ≡ t → held_now heading (e ∷ h) kind level place
           ≡ cond t (Some value) (held_now heading h kind level place)
-      holds t v =
-          cc (k.held_step kind level place n (noted heading Patterns h) pes, here, v)
+      holds t v = cc (k.held_step kind level place n (noted heading Patterns h) pes, here, v)
 
       present : value_of (e ∷ h) place ≡ value
       present = cc here
@@ -257,15 +214,14 @@ module _ (heading : Heading) (k : Known heading) (kind : Kind) (level place : �
           ≡ later n (last_valid kind level place (noted heading Patterns h))
       last v = cc (v, and-false (place == place))
 
-      after_valid : (core : Core) (o : Option Core) → o ≡ Some core → core_after o (core_in old) ≡ o
-      after_valid core o is = cc
-
       by : (t : Bool) → is_valid kind level value ≡ t → EntryStands heading (e ∷ h) kind level place new pends'
       by true v =
           let has : (core : Core) × (core_of kind level value ≡ Some core) = some_is (core_of kind level value) (core_valid value v) in
           let unbroken : is_broken new ≡ false = w.broken ∙ ap (λ (o : Option Core). is_none o && is_some (core_in old)) has.1 in
+          let core : core_in new ≡ core_of kind level value
+          = w.core ∙ (ap (λ (o : Option Core). core_after o (core_in old)) has.1 ∙ sym has.1) in
           record {
-            core = cc (w.core, after_valid has.0 (core_of kind level value) has.1, holds true v);
+            core = cc (core, holds true v);
             broken = cc (unbroken, present, v, and-false (is_some (held_now heading (e ∷ h) kind level place)));
             marks = λ broken. absurd (true≢false (sym broken ∙ unbroken));
             idle = idle;
@@ -290,17 +246,14 @@ module _ (heading : Heading) (k : Known heading) (kind : Kind) (level place : �
   -- the core of an unbroken place is that of its value
   pub present_core : (h : List Event) (state : EntryState) (pends : ℕ → Pends) → 0 < heading.pes
       → EntryStands heading h kind level place state pends → is_broken state ≡ false → core_in state ≡ core_of kind level (value_of h place)
-  present_core h state pends pes s unbroken = s.core ∙ by (is_some (held_now heading h kind level place)) refl
+  present_core h state pends pes s unbroken = s.core ∙ by (is_valid kind level (value_of h place)) refl
     where
-      by : (t : Bool) → is_some (held_now heading h kind level place) ≡ t → core_now heading h kind level place ≡ core_of kind level (value_of h place)
-      by true t = cc (valid_held h pes (unbroken_held h state pends s unbroken t))
+      by : (t : Bool) → is_valid kind level (value_of h place) ≡ t → core_now heading h kind level place ≡ core_of kind level (value_of h place)
+      by true t = cc (valid_held h pes t)
       by false t =
-          let none : held_now heading h kind level place ≡ None = none_is (held_now heading h kind level place) t in
-          cc (
-            none,
-            core_invalid (value_of h place) (false_from_ne_true (is_valid kind level (value_of h place)) (λ v.
-                let apart : None ≡ Some (value_of h place) = sym none ∙ valid_held h pes v in cc)),
-          )
+          let none = none_is (held_now heading h kind level place) (false_from_ne_true (is_some (held_now heading h kind level place))
+          (λ some. true≢false (sym (unbroken_held h state pends s unbroken some) ∙ t))) in
+          cc (core_invalid (value_of h place) t, none)
 
   -- ---- a DSB
 
@@ -346,10 +299,8 @@ module _ (heading : Heading) (k : Known heading) (kind : Kind) (level place : �
 
   unfinished : (dsb : Barrier) (mid : EntryState) (pends : Pends) → 0 < heading.pes → is_broken mid ≡ false
       → every_pe heading.pes (clean_after mid pends dsb) ≡ false
-  unfinished dsb mid pends pes unbroken = every_none heading.pes (clean_after mid pends dsb) pes (λ p. both mid unbroken p)
-    where
-      both : (mid : EntryState) → is_broken mid ≡ false → (p : ℕ) → clean_after mid pends dsb p ≡ false
-      both mid t p = grind arith
+  unfinished dsb mid pends pes unbroken =
+      every_none heading.pes (clean_after mid pends dsb) pes (λ p. unclean mid pends dsb unbroken p)
 
   -- what a broken place holds
   broken_held : (h : List Event) (state : EntryState) (pends : ℕ → Pends) → EntryStands heading h kind level place state pends → is_broken state ≡ true
@@ -358,12 +309,8 @@ module _ (heading : Heading) (k : Known heading) (kind : Kind) (level place : �
       let some : is_some (held_now heading h kind level place) ≡ true
       = (and_parts (is_some (held_now heading h kind level place)) (not (is_valid kind level (value_of h place))) (sym s.broken ∙ broken)).0 in
       let x : (value : ℕ) × (held_now heading h kind level place ≡ Some value) = some_is (held_now heading h kind level place) some in
-      option_and_then_some (λ (w : ValidWrite). cond (cleansed_everywhere heading Patterns place w.since) None (Some w.value))
-      (last_valid kind level place (noted heading Patterns h)) x.0 x.1
-      (λ w last is. (w, last, x.1 ∙ by w.value x.0 (cleansed_everywhere heading Patterns place w.since) is))
-    where
-      by : (v x : ℕ) (t : Bool) → cond t None (Some v) ≡ Some x → Some x ≡ Some v
-      by v x t e = grind arith
+      let o = holding heading Patterns place (last_valid kind level place (noted heading Patterns h)) x.0 x.1 in
+      (o.write, o.is, x.1 ∙ ap Some (sym o.same))
 
   cond_core : (t : Bool) (v : ℕ) → option_and_then (core_of kind level) (cond t None (Some v)) ≡ cond t None (core_of kind level v)
   cond_core t v = grind arith

@@ -1,60 +1,40 @@
 -- The number of restless places.
 use Rattle.bbm_rules.proofs.Common.{◌≡◌, ℕ, zero, suc, ◌<◌, ◌≤◌, not, Bool, true, false, ◌&&◌, List, [], ◌∷◌, length}
 use Rattle.bbm_rules.proofs.Common.{Option, Some, None, is_some, filter, map, refl, sym, ◌∙◌, ap, subst, inl, inr}
-use Rattle.bbm_rules.proofs.Common.{true≢false, arith, and_parts, option_map_or, is_valid, Event, Write, Patterns}
-use Rattle.bbm_rules.proofs.Common.{below, events_of, is_restless, page_of, Node, held_at, node_of, value_of}
-use Rattle.bbm_rules.proofs.Common.{written_places, In, from_filter, from_map, in_map, to_filter}
+use Rattle.bbm_rules.proofs.Common.{true≢false, arith, and_parts, option_map_or, is_valid, Event, Patterns, below}
+use Rattle.bbm_rules.proofs.Common.{events_of, is_restless, page_of, Node, held_at, node_of, value_of, written_places}
+use Rattle.bbm_rules.proofs.Common.{In, from_filter, from_map, in_map, to_filter, any_finds, any_found, eq-eqb}
+use Rattle.bbm_rules.proofs.Common.{eqb-true, nat_eq, ne_eqb}
 use Rattle.std.proofs.lemmas.List.Sums.{length-filter}
 use Rattle.bbm_events.specs.Heading.{Heading}
 use Rattle.bbm_rules.specs.Phases.{restless_of}
 use Rattle.bbm_replay_trees.specs.BelowTrees.{Below}
 use Rattle.bbm_replay_trees.specs.Restless.{Numbers}
 use Rattle.bbm_replay_trees.specs.Told.{notes}
-use Rattle.bbm_lemmas.proofs.Words.{Apart, below_less, filter_apart, with_apart, in_below}
-use Rattle.bbm_replay_trees.proofs.HangLemmas.{held_written}
+use Rattle.bbm_lemmas.proofs.Words.{Apart, below_less, filter_apart, in_below}
+use Rattle.bbm_rules.proofs.HeldLemmas.{held_is_written}
+use Rattle.bbm_replay_trees.proofs.FitLemmas.{some_is}
+use Rattle.bbm_rules.proofs.Twice.{apart_written}
+use Rattle.std.specs.List.{AllByRecursion, IsDistinct}
+use Rattle.std.proofs.lemmas.Cmp.{nat_eq_equiv}
+use Rattle.std.proofs.lemmas.Map.Made.{length-le_from_is_member}
 
 -- ---- lists without repeats
 
-written_apart : (h : List Event) → Apart (written_places h)
-written_apart [] = tt
-written_apart (Write pe at value ∷ h) = with_apart at (written_places h) (written_apart h)
-written_apart (e ∷ h) = written_apart h
-
--- a list without one element
-cut : (ys : List ℕ) (x : ℕ) → In ys x → List ℕ
-cut [] x i = []
-cut (y ∷ ys) x (inl e) = ys
-cut (y ∷ ys) x (inr i) = y ∷ cut ys x i
-
-cut_length : (ys : List ℕ) (x : ℕ) (i : In ys x) → length ys ≡ suc (length (cut ys x i))
-unfolding cut
-cut_length [] x i = absurd i
-cut_length (y ∷ ys) x (inl e) = refl
-cut_length (y ∷ ys) x (inr i) = ap suc (cut_length ys x i)
-
-cut_keeps : (ys : List ℕ) (x : ℕ) (i : In ys x) (a : ℕ) → (a ≡ x → ⊥) → In ys a → In (cut ys x i) a
-unfolding cut
-cut_keeps [] x i a other j = absurd i
-cut_keeps (y ∷ ys) x (inl e) a other (inl same) = absurd (other (sym same ∙ e))
-cut_keeps (y ∷ ys) x (inl e) a other (inr j) = j
-cut_keeps (y ∷ ys) x (inr i) a other (inl same) = inl same
-cut_keeps (y ∷ ys) x (inr i) a other (inr j) = inr (cut_keeps ys x i a other j)
+distinct : (xs : List ℕ) → Apart xs → IsDistinct nat_eq xs
+unfolding IsDistinct
+distinct [] a = tt
+distinct (x ∷ xs) a = (none xs a.0, distinct xs a.1)
+  where
+    none : (ys : List ℕ) → (In ys x → ⊥) → AllByRecursion (λ y. nat_eq x y ≡ false) ys
+    none [] out = tt
+    none (y ∷ ys) out = (ne_eqb x y (λ e. out (inl (sym e))), none ys (λ i. out (inr i)))
 
 part_length : (xs ys : List ℕ) → Apart xs → ((a : ℕ) → In xs a → In ys a) → length xs ≤ length ys
-part_length [] ys a part = omega arith
-part_length (x ∷ xs) ys a part =
-    let i : In ys x = part x (inl refl) in
-    let whole : length ys ≡ suc (length (cut ys x i)) = cut_length ys x i in
-    let rest : length xs ≤ length (cut ys x i)
-    = part_length xs (cut ys x i) a.1 (λ y j. cut_keeps ys x i y (λ e. a.0 (subst (In xs) e j)) (part y (inr j))) in
-    omega (arith, whole, rest)
-
-same_length : (xs ys : List ℕ) → Apart xs → Apart ys → ((a : ℕ) → In xs a → In ys a) → ((a : ℕ) → In ys a → In xs a)
-    → length xs ≡ length ys
-same_length xs ys a b to from =
-    let one : length xs ≤ length ys = part_length xs ys a to in
-    let two : length ys ≤ length xs = part_length ys xs b from in
-    omega (arith, one, two)
+part_length xs ys a part =
+    length-le_from_is_member nat_eq_equiv xs ys (distinct xs a)
+    (λ q k. let f = any_found (nat_eq q) xs k in
+    any_finds (nat_eq q) ys q (part q (subst (In xs) (sym (eqb-true q f.0 f.2)) f.1)) (eq-eqb q q refl))
 
 -- ---- restless places
 
@@ -72,18 +52,22 @@ module _ (heading : Heading) (b : Below heading) (h : List Event) where
           → In (written_places (events_of (notes heading h))) a
       by None l = absurd (true≢false (sym l))
       by (Some n) l =
-          held_written heading n.kind n.level a (notes heading h)
+          let some = some_is (held_at heading Patterns (notes heading h) n a)
           (and_parts (is_some (held_at heading Patterns (notes heading h) n a))
-          (not (is_valid n.kind n.level (value_of (events_of (notes heading h)) a))) l).0
+          (not (is_valid n.kind n.level (value_of (events_of (notes heading h)) a))) l).0 in
+          held_is_written heading Patterns a n.kind n.level (notes heading h) some.0 some.1
 
   pub counted : (places : List ℕ) → Apart places → ((a : ℕ) → In places a → is_one a ≡ true)
       → ((a : ℕ) → is_one a ≡ true → In places a) → restless_of heading Patterns h ≡ length places
   unfolding restless_of
   counted places once each all =
       sym (length-filter is_one (written_places h))
-      ∙ same_length (filter is_one (written_places h)) places (filter_apart is_one (written_places h) (written_apart h)) once
-      (λ a i. all a (from_filter is_one (written_places h) a i).1)
-      (λ a i. to_filter is_one (written_places h) a (restless_written a (each a i)) (each a i))
+      ∙ (let some : length (filter is_one (written_places h)) ≤ length places
+      = part_length (filter is_one (written_places h)) places (filter_apart is_one (written_places h) (apart_written h))
+      (λ a i. all a (from_filter is_one (written_places h) a i).1) in
+      let rest : length places ≤ length (filter is_one (written_places h))
+      = part_length places (filter is_one (written_places h)) once
+      (λ a i. to_filter is_one (written_places h) a (restless_written a (each a i)) (each a i)) in omega (arith, some, rest))
 
   numbers_apart : (place : ℕ → ℕ) (count n : ℕ) → n ≤ count
       → ((i j : ℕ) → i < count → j < count → place i ≡ place j → i ≡ j) → Apart (map place (below n))

@@ -1,17 +1,16 @@
 -- Where the pages of trees hang.
-use Rattle.bbm_rules.proofs.Common.{◌≡◌, ℕ, suc, ◌+◌, ◌<◌, ◌⊎◌, Bool, true, false, cond, ◌&&◌, ◌==◌, List, [], ◌∷◌}
-use Rattle.bbm_rules.proofs.Common.{length, Option, Some, None, is_some, Contains, option_and_then, refl, sym, ◌∙◌, ap}
-use Rattle.bbm_rules.proofs.Common.{subst, inl, inr, true≢false, arith, eqb-true, Kind, core_in, core_of, desc_of}
-use Rattle.bbm_rules.proofs.Common.{is_valid, Core, Desc, Invalid, Table, Leaf, Event, Init, Null, Root, Unroot, Write}
-use Rattle.bbm_rules.proofs.Common.{Dsb, Dmb, Isb, Tlbi, Msr, Lock, Unlock, keeps, Patterns, ValidWrite}
-use Rattle.bbm_rules.proofs.Common.{cleansed_everywhere, held, last_valid, last_valid_after, later, Noted, events_of}
-use Rattle.bbm_rules.proofs.Common.{page_of, Above, Node, held_at, next_of, node_below, node_of, Down, IsNode}
-use Rattle.bbm_rules.proofs.Common.{written_places, with_has, with_keeps, In, from_contains}
+use Rattle.bbm_rules.proofs.Common.{◌≡◌, ℕ, ◌+◌, ◌<◌, ◌⊎◌, inl, inr, List, [], ◌∷◌, length, Option, Some, Contains}
+use Rattle.bbm_rules.proofs.Common.{refl, sym, ◌∙◌, ap, subst, arith, Event, Patterns, Declared, root_at, root_pages}
+use Rattle.bbm_rules.proofs.Common.{roots_of, Node, IsNode, suc, true, None, is_some, option_and_then, Kind, core_in}
+use Rattle.bbm_rules.proofs.Common.{core_of, desc_of, Core, Desc, Invalid, Table, Leaf, keeps, held, Noted, page_of}
+use Rattle.bbm_rules.proofs.Common.{Above, held_at, next_of, node_below, node_of, Down, written_places, In}
+use Rattle.bbm_rules.proofs.Common.{from_contains}
 use Rattle.bbm_events.specs.Heading.{Heading}
-use Rattle.bbm_rules.specs.Tree.{next_in as next_in_desc, tree}
+use Rattle.bbm_rules.specs.Tree.{tree, next_in as next_in_desc}
 use Rattle.bbm_replay_trees.specs.BelowTrees.{Below}
-use Rattle.bbm_replay_trees.specs.Told.{AllFit, Hangs, SameCores, SameNodes, next_in, notes}
+use Rattle.bbm_replay_trees.specs.Told.{SameNodes, notes, AllFit, Hangs, SameCores, next_in}
 use Rattle.bbm_replay_trees.proofs.FitLemmas.{is_at_page}
+use Rattle.bbm_rules.proofs.HeldLemmas.{held_is_written}
 
 -- ---- the core of a table
 
@@ -24,63 +23,6 @@ pub table_held : (kind : Kind) (level : ℕ) (o : Option ℕ) (next : ℕ) → n
     → (v : ℕ) × (o ≡ Some v) × (next_of kind level v ≡ Some next)
 table_held kind level None next e = let none : None ≡ Some next = e in cc
 table_held kind level (Some v) next e = (v, refl, sym (table_core (desc_of kind level v)) ∙ e)
-
--- ---- what is held was written
-
-later_some : (n : Noted) (o : Option ValidWrite) (w : ValidWrite) → later n o ≡ Some w → is_some o ≡ true
-later_some n None w e = let none : None ≡ Some w = e in cc
-later_some n (Some x) w e = refl
-
-written_after : (kind : Kind) (level place : ℕ) (e : Event) (n : Noted) (es : List Event) (o : Option ValidWrite) (w : ValidWrite)
-    → (is_some o ≡ true → In (written_places es) place) → last_valid_after kind level place e n o ≡ Some w
-    → In (written_places (e ∷ es)) place
-written_after kind level place (Write pe at value) n es o w older e =
-    by (at == place) (is_valid kind level value) refl e
-  where
-    by : (c d : Bool) → (at == place) ≡ c → cond (c && d) (Some (record { value = value; since = [] })) (later n o) ≡ Some w
-        → In (written_places (Write pe at value ∷ es)) place
-    by true true here k = subst (In (written_places (Write pe at value ∷ es))) (eqb-true at place here) (with_has at (written_places es))
-    by true false here k = with_keeps at (written_places es) place (older (later_some n o w k))
-    by false d here k = with_keeps at (written_places es) place (older (later_some n o w k))
-written_after kind level place (Init pe page) n es o w older e = by (page == page_of place) e
-  where
-    by : (c : Bool) → cond c None (later n o) ≡ Some w → In (written_places es) place
-    by true k = let none : None ≡ Some w = k in cc
-    by false k = older (later_some n o w k)
-written_after kind level place (Null pe page) n es o w older e = older (later_some n o w e)
-written_after kind level place (Root pe k lock page) n es o w older e = older (later_some n o w e)
-written_after kind level place (Unroot pe page) n es o w older e = older (later_some n o w e)
-written_after kind level place (Dsb pe dsb) n es o w older e = older (later_some n o w e)
-written_after kind level place (Dmb pe dsb) n es o w older e = older (later_some n o w e)
-written_after kind level place (Isb pe) n es o w older e = older (later_some n o w e)
-written_after kind level place (Tlbi pe op xt) n es o w older e = older (later_some n o w e)
-written_after kind level place (Msr pe reg v) n es o w older e = older (later_some n o w e)
-written_after kind level place (Lock pe lock) n es o w older e = older (later_some n o w e)
-written_after kind level place (Unlock pe lock) n es o w older e = older (later_some n o w e)
-
-last_written : (kind : Kind) (level place : ℕ) (ns : List Noted) → is_some (last_valid kind level place ns) ≡ true
-    → In (written_places (events_of ns)) place
-last_written kind level place [] e = absurd (true≢false (sym e))
-last_written kind level place (n ∷ ns) e =
-    by (last_valid kind level place (n ∷ ns)) refl e (last_written kind level place ns)
-  where
-    by : (o : Option ValidWrite) → last_valid kind level place (n ∷ ns) ≡ o → is_some o ≡ true
-        → (is_some (last_valid kind level place ns) ≡ true → In (written_places (events_of ns)) place)
-        → In (written_places (events_of (n ∷ ns))) place
-    by None k some older = absurd (true≢false (sym some))
-    by (Some w) k some older =
-        written_after kind level place n.event n (events_of ns) (last_valid kind level place ns) w older k
-
-pub held_written : (heading : Heading) (kind : Kind) (level place : ℕ) (ns : List Noted)
-    → is_some (held heading Patterns kind level place ns) ≡ true → In (written_places (events_of ns)) place
-held_written heading kind level place ns e =
-    last_written kind level place ns (by (last_valid kind level place ns) e)
-  where
-    by : (o : Option ValidWrite)
-        → is_some (option_and_then (λ w. cond (cleansed_everywhere heading Patterns place w.since) None (Some w.value)) o) ≡ true
-        → is_some o ≡ true
-    by None k = k
-    by (Some w) k = refl
 
 -- ---- paths
 
@@ -99,12 +41,6 @@ module _ (heading : Heading) (b : Below heading) (h : List Event) where
     pub table : next_of parent.kind parent.level value ≡ Some m.page
     pub made : m ≡ node_below parent place m.page
 
-  under_next : (n : Node) (place value next : ℕ) → Contains (tree heading Patterns marks) n → page_of place ≡ n.page
-      → held_at heading Patterns marks n place ≡ Some value → next_of n.kind n.level value ≡ Some next
-      → Under (node_below n place next)
-  under_next n place value next c inside holds table =
-      record { parent = n; there = c; place = place; inside = inside; value = value; holds = holds; table = table; made = refl }
-
   pub down_under : (places : List ℕ) (n m : Node) → Contains (tree heading Patterns marks) n → Down heading Patterns marks n places m
       → (n ≡ m) ⊎ Under m
   down_under [] n m c d = inl d
@@ -112,7 +48,16 @@ module _ (heading : Heading) (b : Below heading) (h : List Event) where
       let next : Node = node_below n place d.3 in
       let there : Contains (tree heading Patterns marks) next = b.tree.below marks n place d.1 d.3 c d.0 d.2 d.4 in
       elim (down_under places next m there d.5) [
-        | inl same ↦ inr (subst Under same (under_next n place d.1 d.3 c d.0 d.2 d.4))
+        | inl same ↦ inr (subst Under same (record {
+          parent = n;
+          there = c;
+          place = place;
+          inside = d.0;
+          value = d.1;
+          holds = d.2;
+          table = d.4;
+          made = refl;
+        }))
         | inr under ↦ inr under
       ]
 
@@ -121,13 +66,12 @@ module _ (heading : Heading) (b : Below heading) (h : List Event) where
   down_level (place ∷ places) n m d =
       let rest : m.level ≡ suc n.level + length places = down_level places (node_below n place d.3) m d.5 in omega (arith, rest)
 
-  -- a node of a tree with a place above lies below another
-  pub hangs : (m : Node) → Contains (tree heading Patterns marks) m → (a : Above) (rest : List Above) → m.above ≡ a ∷ rest → Under m
-  hangs m c a rest above =
-      let k : IsNode heading Patterns marks m = b.tree.sound marks m c in
+  -- a node of a tree is one of a root, or lies below another
+  root_or_under : (m : Node) → (k : IsNode heading Patterns marks m) → (k.start ≡ m) ⊎ Under m
+  root_or_under m k =
       let deep : m.level ≡ k.start.level + length k.places = down_level k.places k.start m k.down in
       let low : m.level < 4 = k.level in
-      let start : Contains (tree heading Patterns marks) k.start = b.tree.complete marks k.start (record {
+      down_under k.places k.start m (b.tree.complete marks k.start (record {
         root = k.root;
         declared = k.declared;
         start = k.start;
@@ -135,12 +79,37 @@ module _ (heading : Heading) (b : Below heading) (h : List Event) where
         places = [];
         down = refl;
         level = omega (arith, deep, low);
-      }) in
-      elim (down_under k.places k.start m start k.down) [
+      })) k.down
+
+  -- with a place above, it lies below another
+  pub hangs : (m : Node) → Contains (tree heading Patterns marks) m → (a : Above) (rest : List Above) → m.above ≡ a ∷ rest → Under m
+  hangs m c a rest above =
+      let k : IsNode heading Patterns marks m = b.tree.sound marks m c in
+      elim (root_or_under m k) [
         | inl same ↦ (let none : [] ≡ a ∷ rest
             = sym (b.root_pages.fields k.root k.start k.is_start).3 ∙ (ap (λ (x : Node). x.above) same ∙ above) in cc)
         | inr under ↦ under
       ]
+
+  -- a page of a tree that hangs at no place is one of a declared root
+  pub start_of : (found : (r : Declared) → Contains (roots_of h) r → root_at h r.page ≡ Some r) → (node : ℕ → Option Node)
+      → SameNodes heading h node → (p : ℕ) (m : Node) → node p ≡ Some m → m.above ≡ []
+      → (r : Declared) × (root_at h r.page ≡ Some r) × (m.root ≡ r.page) × (m.kind ≡ r.kind)
+      × Contains (root_pages heading.world r.kind r.page) m.page
+  start_of found node same p m is none =
+      let k : IsNode heading Patterns marks m = b.tree.sound marks m (b.tree.taken marks p m (sym (same p) ∙ is)).0 in
+      let one : k.start ≡ m = elim (root_or_under m k) [
+        | inl start ↦ start
+        | inr u ↦ (let bad : [] ≡ record { place = u.place; level = u.parent.level } ∷ u.parent.above
+            = sym (sym (ap (λ (x : Node). x.above) u.made) ∙ none) in absurd cc)
+      ] in
+      let says = b.root_pages.fields k.root k.start k.is_start in (
+        k.root,
+        found k.root (subst (λ es. Contains (roots_of es) k.root) (b.notes_keep_the_events h) k.declared),
+        sym (ap (λ (x : Node). x.root) one) ∙ says.2,
+        sym (ap (λ (x : Node). x.kind) one) ∙ says.0,
+        subst (λ (x : Node). Contains (root_pages heading.world k.root.kind k.root.page) x.page) one says.4,
+      )
 
   -- ---- by what a checker says
 
@@ -176,66 +145,49 @@ module _ (heading : Heading) (b : Below heading) (h : List Event) where
         is_parent = ap node u.inside ∙ node_is u.parent u.there;
         at = is_at_page heading h fit u.parent.page u.place
             (subst (λ es. In (written_places es) u.place) (b.notes_keep_the_events h)
-            (held_written heading u.parent.kind u.parent.level u.place marks (ap is_some u.holds))) u.inside;
+            (held_is_written heading Patterns u.place u.parent.kind u.parent.level marks u.value u.holds)) u.inside;
         table = ap next_in (core_is m u) ∙ (table_core (desc_of u.parent.kind u.parent.level u.value) ∙ u.table);
         is_below = u.made;
       }
 
-      abbrev head_of : Above → List Above → Above
-      head_of d [] = d
-      head_of d (a ∷ rest) = a
-
-      abbrev tail_of : List Above → List Above
-      tail_of [] = []
-      tail_of (a ∷ rest) = rest
-
       pub up : AllFit heading h → (p : ℕ) (m : Node) (a : Above) (rest : List Above) → node p ≡ Some m → m.above ≡ a ∷ rest
           → Hangs node core a.place m
       up fit p m a rest k above =
-          let t = b.tree.taken marks p m (sym (same p) ∙ k) in
-          let u : Under m = hangs m t.0 a rest above in
-          let place : u.place ≡ a.place
-          = ap (λ (xs : List Above). (head_of a xs).place) (sym (ap (λ (x : Node). x.above) u.made) ∙ above) in
-          subst (λ (x : ℕ). Hangs node core x m) place (hang_at fit m u)
+          let u : Under m = hangs m (b.tree.taken marks p m (sym (same p) ∙ k)).0 a rest above in
+          let both : record { place = u.place; level = u.parent.level } ∷ u.parent.above ≡ a ∷ rest
+          = sym (ap (λ (y : Node). y.above) u.made) ∙ above in
+          let first : record { place = u.place; level = u.parent.level } ≡ a = cc in
+          subst (λ (x : Above). Hangs node core x.place m) first (hang_at fit m u)
 
       -- a node of the kind at a place above, which holds something
-      pub record Stands (kind : Kind) (a : Above) : Type 0 where
-        pub at : Node
-        pub is_at_place : node (page_of a.place) ≡ Some at
-        pub same_kind : at.kind ≡ kind
-        pub same_level : at.level ≡ a.level
-        pub holds : is_some (core at.kind at.level a.place) ≡ true
+      abbrev Stands : Kind → Above → Type 0
+      Stands kind a = (n : Node) × (node (page_of a.place) ≡ Some n) × (n.kind ≡ kind) × (n.level ≡ a.level)
+          × (is_some (core n.kind n.level a.place) ≡ true)
 
       stands_under : (m : Node) → (u : Under m) → Stands m.kind (record { place = u.place; level = u.parent.level })
-      stands_under m u = record {
-        at = u.parent;
-        is_at_place = ap node u.inside ∙ node_is u.parent u.there;
-        same_kind = sym (ap (λ (x : Node). x.kind) u.made);
-        same_level = refl;
-        holds = ap is_some (core_is m u) ∙ (b.core_where_valid u.parent.kind u.parent.level u.value
-            ∙ b.held.valid u.parent.kind u.parent.level u.place marks u.value u.holds);
-      }
+      stands_under m u = (
+        u.parent,
+        ap node u.inside ∙ node_is u.parent u.there,
+        sym (ap (λ (x : Node). x.kind) u.made),
+        refl,
+        ap is_some (core_is m u) ∙ (b.core_where_valid u.parent.kind u.parent.level u.value
+            ∙ b.held.valid u.parent.kind u.parent.level u.place marks u.value u.holds),
+      )
 
-      pub stands : (xs : List Above) (m : Node) → Contains (tree heading Patterns marks) m → m.above ≡ xs → (a : Above) → In xs a
+      stands : (xs : List Above) (m : Node) → Contains (tree heading Patterns marks) m → m.above ≡ xs → (a : Above) → In xs a
           → Stands m.kind a
       stands [] m c above a i = absurd i
       stands (x ∷ xs) m c above a i =
-          by i (stands xs u.parent u.there (ap tail_of (sym (ap (λ (y : Node). y.above) u.made) ∙ above)) a)
-        where
-          u : Under m
-          u = hangs m c x xs above
+          let u : Under m = hangs m c x xs above in
+          let both : record { place = u.place; level = u.parent.level } ∷ u.parent.above ≡ x ∷ xs
+          = sym (ap (λ (y : Node). y.above) u.made) ∙ above in
+          let first : record { place = u.place; level = u.parent.level } ≡ x = cc in
+          let rest : u.parent.above ≡ xs = cc in
+          elim i [
+            | inl e ↦ subst (Stands m.kind) (first ∙ e) (stands_under m u)
+            | inr j ↦ subst (λ (k : Kind). Stands k a) (sym (ap (λ (y : Node). y.kind) u.made)) (stands xs u.parent u.there rest a j)
+          ]
 
-          first : record { place = u.place; level = u.parent.level } ≡ x
-          first = ap (head_of x) (sym (ap (λ (y : Node). y.above) u.made) ∙ above)
-
-          by : (x ≡ a) ⊎ In xs a → (In xs a → Stands u.parent.kind a) → Stands m.kind a
-          by (inl e) rest = subst (Stands m.kind) (first ∙ e) (stands_under m u)
-          by (inr j) rest = subst (λ (k : Kind). Stands k a) (sym (ap (λ (y : Node). y.kind) u.made)) (rest j)
-
-      pub above : (p : ℕ) (m : Node) (a : Above) → node p ≡ Some m → Contains m.above a → (n : Node)
-          × (node (page_of a.place) ≡ Some n) × (n.kind ≡ m.kind) × (n.level ≡ a.level)
-          × (is_some (core n.kind n.level a.place) ≡ true)
+      pub above : (p : ℕ) (m : Node) (a : Above) → node p ≡ Some m → Contains m.above a → Stands m.kind a
       above p m a k c =
-          let t = b.tree.taken marks p m (sym (same p) ∙ k) in
-          let s : Stands m.kind a = stands m.above m t.0 refl a (from_contains m.above a c) in
-          (s.at, s.is_at_place, s.same_kind, s.same_level, s.holds)
+          stands m.above m (b.tree.taken marks p m (sym (same p) ∙ k)).0 refl a (from_contains m.above a c)

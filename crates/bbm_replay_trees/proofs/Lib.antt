@@ -2,11 +2,9 @@ pub mod FitLemmas
 pub mod RuleLemmas
 pub mod LeastLemmas
 pub mod PathLemmas
-pub mod JudgeLemmas
 pub mod AttachLemmas
 pub mod NodeLemmas
 pub mod HangLemmas
-pub mod StartLemmas
 pub mod PageLemmas
 pub mod PlaceLemmas
 pub mod CountLemmas

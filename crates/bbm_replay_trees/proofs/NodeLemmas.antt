@@ -1,12 +1,12 @@
 -- The node of each page after an event.
-use Rattle.bbm_rules.proofs.Common.{◌≡◌, ℕ, ◌⊎◌, ◌↔◌, not, Bool, true, false, cond, ◌&&◌, ◌==◌, List, [], ◌∷◌, Option}
-use Rattle.bbm_rules.proofs.Common.{Some, None, is_some, Contains, refl, sym, ◌∙◌, ap, subst, inl, inr, true≢false}
-use Rattle.bbm_rules.proofs.Common.{and_parts, not-true, Kind, Event, Init, Null, Root, Unroot, Write, Dsb, Dmb, Isb}
-use Rattle.bbm_rules.proofs.Common.{Tlbi, Msr, Lock, Unlock, Barrier, attached_by, keeps, Patterns, noted, held, every}
-use Rattle.bbm_rules.proofs.Common.{Noted, is_fresh, may_be_fresh, page_of, Above, Node, held_at, in_tree, next_of}
-use Rattle.bbm_rules.proofs.Common.{node_below, node_of, nodes_of_root, In, from_contains, to_contains}
+use Rattle.bbm_rules.proofs.Common.{◌≡◌, ℕ, ◌⊎◌, ◌↔◌, not, Bool, true, cond, ◌&&◌, ◌==◌, List, [], ◌∷◌, Option, Some}
+use Rattle.bbm_rules.proofs.Common.{None, is_some, Contains, refl, sym, ◌∙◌, ap, subst, inl, inr, true≢false, Kind}
+use Rattle.bbm_rules.proofs.Common.{Event, Root, Unroot, Write, Dsb, Barrier, attached_by, keeps, Patterns, noted, held}
+use Rattle.bbm_rules.proofs.Common.{every, Noted, is_fresh, page_of, Above, Node, held_at, next_of, node_below, node_of}
+use Rattle.bbm_rules.proofs.Common.{nodes_of_root, In, from_contains, to_contains, arith, false_from_ne_true}
+use Rattle.bbm_replay_trees.proofs.FitLemmas.{none_is, some_is}
 use Rattle.bbm_events.specs.Heading.{Heading}
-use Rattle.bbm_histories.specs.TreeChanges.{Attaches, Linked, Proper, Through as ThroughIn}
+use Rattle.bbm_histories.specs.TreeChanges.{Attaches, Proper, Through as ThroughIn}
 use Rattle.bbm_histories.specs.TreeSteps.{holds_above, is_under, node_where}
 use Rattle.bbm_replay_trees.specs.BelowTrees.{Below}
 use Rattle.bbm_replay_trees.specs.TreeEvents.{leaves_trees}
@@ -14,25 +14,18 @@ use Rattle.bbm_tree_index.specs.Paths.{Attached, Through}
 use Rattle.bbm_replay_trees.specs.Told.{AllFit, SameFresh, SameNodes, SameValues, is_held_by, kept, notes}
 use Rattle.bbm_tree_index.proofs.Places.{at_page}
 use Rattle.bbm_replay_trees.proofs.PathLemmas.{table_at, value_is}
+use Rattle.bbm_histories.proofs.FreshLemmas.{fresh_is_outside}
 
 -- a fresh page is in no tree
 pub fresh_outside : (heading : Heading) (ns : List Noted) (page : ℕ) → is_fresh heading Patterns ns page ≡ true
     → node_of heading Patterns ns page ≡ None
-fresh_outside heading [] page e = absurd (true≢false (sym e))
-fresh_outside heading (n ∷ ns) page e =
-    by (node_of heading Patterns (n ∷ ns) page)
-    (not-true (in_tree heading Patterns (n ∷ ns) page)
-    (and_parts (may_be_fresh n.event page (is_fresh heading Patterns ns page)) (not (in_tree heading Patterns (n ∷ ns) page)) e).1)
-  where
-    by : (o : Option Node) → is_some o ≡ false → o ≡ None
-    by None k = refl
-    by (Some m) k = absurd (true≢false k)
+fresh_outside heading ns page e =
+    none_is (node_of heading Patterns ns page) (fresh_is_outside heading Patterns ns page e)
 
 -- ---- what is kept
 
 pub kept_is : (test : Node → Bool) (o : Option Node) → kept test o ≡ node_where test o
-kept_is test None = refl
-kept_is test (Some m) = refl
+kept_is test o = grind arith
 
 every_same : (f g : Above → Bool) (xs : List Above) → ((a : Above) → In xs a → f a ≡ g a) → every f xs ≡ every g xs
 every_same f g [] same = refl
@@ -102,26 +95,24 @@ module _ (heading : Heading) (b : Below heading) (h : List Event) where
             is_start = to_contains (node_below n place next ∷ []) (node_below n place next) (inl refl);
             places = l.places;
             through = through_mine l.places (node_below n place next) m
-                (subst (λ (x : ℕ). ThroughIn heading Patterns marks (node_below n place x) l.places m) same_next
-                (subst (λ (x : Node). ThroughIn heading Patterns marks (node_below x place l.next) l.places m) same l.through));
+                (rw (← same, ← same_next) l.through);
           }
 
       pub write_theirs : (m : Node) → Attached fresh value (node_below n place next ∷ []) m
           → Attaches heading Patterns marks (Write pe place v) m
-      write_theirs m a = by (from_contains (node_below n place next ∷ []) a.start a.is_start)
-        where
-          by : In (node_below n place next ∷ []) a.start → Linked heading Patterns marks place v m
-          by (inl same) = record {
-            parent = n;
-            is_parent = node_is;
-            empty = empty;
-            next = next;
-            table = table;
-            places = a.places;
-            through = through_theirs a.places (node_below n place next) m
-                (subst (λ (x : Node). Through fresh value x a.places m) (sym same) a.through);
-          }
-          by (inr i) = absurd i
+      write_theirs m a = elim (from_contains (node_below n place next ∷ []) a.start a.is_start) [
+        | inl same ↦ record {
+          parent = n;
+          is_parent = node_is;
+          empty = empty;
+          next = next;
+          table = table;
+          places = a.places;
+          through = through_theirs a.places (node_below n place next) m
+              (subst (λ (x : Node). Through fresh value x a.places m) (sym same) a.through);
+        }
+        | inr i ↦ absurd i
+      ]
 
   -- ---- an event that attaches
 
@@ -157,16 +148,14 @@ module _ (heading : Heading) (b : Below heading) (h : List Event) where
             ap (node_of heading Patterns (noted heading Patterns (e ∷ h))) (sym a.0)
             ∙ b.node_step.attached h e proper kept_rules m (theirs m a.1)
 
-        no_old : next_node p ≡ None → (o : Option Node) → node p ≡ o → o ≡ None
-        no_old none None k = refl
-        no_old none (Some m) k = let apart : None ≡ Some m = sym none ∙ (iff p m).1 (inl k) in cc
-
         by : (o : Option Node) → next_node p ≡ o → next_node p ≡ node_of heading Patterns (noted heading Patterns (e ∷ h)) p
         by (Some m) k = k ∙ sym (known m ((iff p m).0 k))
         by None k =
             k ∙ sym (b.node_step.others h e proper kept_rules no_dsb no_unroot p (λ x a in_page.
             let apart : None ≡ Some x = sym k ∙ (iff p x).1 (inr (in_page, mine x a)) in cc)
-            ∙ (sym (same p) ∙ no_old k (node p) refl))
+            ∙ (sym (same p) ∙ none_is (node p) (false_from_ne_true (is_some (node p)) (λ some.
+            let old = some_is (node p) some in
+            let apart : None ≡ Some old.0 = sym k ∙ (iff p old.0).1 (inl old.1) in absurd cc))))
 
     -- ---- an event that attaches nothing
 
@@ -184,18 +173,7 @@ module _ (heading : Heading) (b : Below heading) (h : List Event) where
         (λ q first k. true≢false (sym quiet ∙ ap leaves_trees k)) (no_attach e quiet)
       where
         no_attach : (e : Event) → leaves_trees e ≡ true → attached_by heading Patterns marks e ≡ None
-        no_attach (Root pe kind lock page) k = absurd (true≢false (sym k))
-        no_attach (Write pe place v) k = absurd (true≢false (sym k))
-        no_attach (Init pe page) k = refl
-        no_attach (Null pe page) k = refl
-        no_attach (Unroot pe page) k = refl
-        no_attach (Dsb pe dsb) k = refl
-        no_attach (Dmb pe dsb) k = refl
-        no_attach (Isb pe) k = refl
-        no_attach (Tlbi pe op xt) k = refl
-        no_attach (Msr pe reg v) k = refl
-        no_attach (Lock pe lock) k = refl
-        no_attach (Unlock pe lock) k = refl
+        no_attach e k = grind arith
 
     -- ---- pages that leave
 
@@ -214,12 +192,9 @@ module _ (heading : Heading) (b : Below heading) (h : List Event) where
         ≡ is_some (held heading Patterns m.kind a.level a.place (notes heading (Dsb pe dsb ∷ h))))
         → ((p : ℕ) → next_node p ≡ kept (is_held_by holds) (node p)) → SameNodes heading (Dsb pe dsb ∷ h) next_node
     after_dsb next_node holds pe dsb kept_rules told is p =
-        is p ∙ (by (node p) refl ∙ (ap (node_where (holds_above heading Patterns now)) (same p)
+        is p ∙ (by (node p) refl ∙ (ap (node_where (holds_above heading Patterns (notes heading (Dsb pe dsb ∷ h)))) (same p)
         ∙ sym (b.node_step.dsb h pe dsb kept_rules p)))
       where
-        now : List Noted
-        now = notes heading (Dsb pe dsb ∷ h)
-
         by : (o : Option Node) → node p ≡ o → kept (is_held_by holds) o ≡ node_where (holds_above heading Patterns (notes heading (Dsb pe dsb ∷ h))) o
         by None k = refl
         by (Some m) k =

@@ -1,8 +1,8 @@
 -- The fresh pages after an event, and what else is known of pages and values.
-use Rattle.bbm_rules.proofs.Common.{◌≡◌, ℕ, suc, ◌+◌, not, Bool, true, false, cond, ◌&&◌, ◌||◌, ◌==◌, List, ◌∷◌, length}
-use Rattle.bbm_rules.proofs.Common.{Option, None, is_none, refl, sym, ◌∙◌, ap, true≢false, arith, eqb-true, Event, Init}
-use Rattle.bbm_rules.proofs.Common.{Null, attached_by, keeps, changes, Patterns, among, with_number, is_fresh}
-use Rattle.bbm_rules.proofs.Common.{may_be_fresh, Node, in_tree, and_comm}
+use Rattle.bbm_rules.proofs.Common.{◌≡◌, ℕ, ◌+◌, not, Bool, true, false, cond, ◌&&◌, ◌||◌, ◌==◌, List, ◌∷◌, length}
+use Rattle.bbm_rules.proofs.Common.{Option, None, is_none, refl, sym, ◌∙◌, ap, arith, eqb-true, Event, Init, Null}
+use Rattle.bbm_rules.proofs.Common.{attached_by, keeps, changes, Patterns, among, with_number, is_fresh, may_be_fresh}
+use Rattle.bbm_rules.proofs.Common.{Node, in_tree, and_comm}
 use Rattle.bbm_events.specs.Heading.{Heading}
 use Rattle.bbm_replay_trees.specs.BelowTrees.{Below}
 use Rattle.bbm_replay_trees.specs.Told.{SameFresh, SameNodes, notes}
@@ -13,25 +13,20 @@ use Rattle.bbm_rules.proofs.ChangesLaw.{fresh_kept}
 
 pub known_more : (ms : List ℕ) (page p : ℕ) (known : Bool) → known ≡ among p ms
     → (p == page || known) ≡ among p (with_number page ms)
-known_more ms page p known same = by (among page ms) refl
+known_more ms page p known same = by (among page ms) (p == page) refl refl
   where
-    there : (c : Bool) → (p == page) ≡ c → among page ms ≡ true → (c || known) ≡ among p ms
-    there true e k = sym (ap (λ x. among x ms) (eqb-true p page e) ∙ k)
-    there false e k = same
-
-    by : (c : Bool) → among page ms ≡ c → (p == page || known) ≡ among p (cond c ms (page ∷ ms))
-    by true k = there (p == page) refl k
-    by false k = ap (λ c. c || known) (same_swapped p page) ∙ ap (λ c. page == p || c) same
+    by : (c d : Bool) → among page ms ≡ c → (p == page) ≡ d → (d || known) ≡ among p (cond c ms (page ∷ ms))
+    by true true k e = sym (ap (λ x. among x ms) (eqb-true p page e) ∙ k)
+    by true false k e = same
+    by false d k e = ap (λ c. d || c) same ∙ ap (λ c. c || among p ms) (sym e ∙ same_swapped p page)
 
 pub count_more : (ms : List ℕ) (page pages : ℕ) (known : Bool) → known ≡ among page ms → pages ≡ length ms
     → length (with_number page ms) ≡ pages + cond known 0 1
-count_more ms page pages known same count = by (among page ms) known same
+count_more ms page pages known same count = rw same (by (among page ms))
   where
-    by : (c k : Bool) → k ≡ c → length (cond c ms (page ∷ ms)) ≡ pages + cond k 0 1
-    by true true e = let here : pages ≡ pages + 0 = omega arith in sym count ∙ here
-    by false false e = let more : suc pages ≡ pages + 1 = omega arith in ap suc (sym count) ∙ more
-    by true false e = absurd (true≢false (sym e))
-    by false true e = absurd (true≢false e)
+    by : (c : Bool) → length (cond c ms (page ∷ ms)) ≡ pages + cond c 0 1
+    by true = omega arith
+    by false = omega arith
 
 module _ (heading : Heading) (b : Below heading) (h : List Event) (fresh : ℕ → Bool) (same : SameFresh heading h fresh) where
   -- the fresh pages after an event that attaches nothing

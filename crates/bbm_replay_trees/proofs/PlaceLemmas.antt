@@ -1,15 +1,16 @@
 -- Childless tables, and the number of restless places.
-use Rattle.bbm_rules.proofs.Common.{◌≡◌, ℕ, suc, true, false, List, Option, Some, None, is_some, option_and_then, refl}
-use Rattle.bbm_rules.proofs.Common.{sym, ◌∙◌, ap, subst, true≢false, Kind, core_of, desc_of, Core, Event, keeps}
-use Rattle.bbm_rules.proofs.Common.{Patterns, held, page_of, Node, held_at, is_childless, next_of, node_below, node_of}
-use Rattle.bbm_rules.proofs.Common.{written_places, In}
+use Rattle.bbm_rules.proofs.Common.{◌≡◌, ℕ, suc, true, List, Option, Some, None, is_some, option_and_then, refl, sym}
+use Rattle.bbm_rules.proofs.Common.{◌∙◌, ap, subst, true≢false, Kind, core_of, desc_of, Core, Event, keeps, Patterns}
+use Rattle.bbm_rules.proofs.Common.{held, page_of, Node, held_at, is_childless, next_of, node_below, node_of}
+use Rattle.bbm_rules.proofs.Common.{written_places, In, false_from_ne_true}
 use Rattle.bbm_events.specs.Heading.{Heading}
 use Rattle.bbm_replay_trees.specs.BelowTrees.{Below}
 use Rattle.bbm_replay_trees.specs.Told.{AllFit, Childless, SameCores, SameNodes, is_at, next_in, notes}
 use Rattle.bbm_replay_trees.proofs.AttachLemmas.{core_some}
 use Rattle.bbm_tree_index.proofs.Places.{at_page}
-use Rattle.bbm_replay_trees.proofs.FitLemmas.{is_at_page}
-use Rattle.bbm_replay_trees.proofs.HangLemmas.{down, held_written, table_core}
+use Rattle.bbm_replay_trees.proofs.FitLemmas.{is_at_page, none_is, some_is}
+use Rattle.bbm_replay_trees.proofs.HangLemmas.{down, table_core}
+use Rattle.bbm_rules.proofs.HeldLemmas.{held_is_written}
 
 -- ---- childless
 
@@ -52,15 +53,10 @@ module _ (heading : Heading) (b : Below heading) (h : List Event) (kept_rules : 
       let table : next_of n.kind n.level value ≡ Some c.next
       = sym (table_core (desc_of n.kind n.level value)) ∙ (ap next_in (sym core_is) ∙ c.table) in
       (b.childless_step.table (notes heading h) n value c.next table).1
-      (λ a inside. none a inside (held heading Patterns n.kind (suc n.level) a (notes heading h)) refl)
-    where
-      none : (a : ℕ) → page_of a ≡ c.next → (o : Option ℕ) → held heading Patterns n.kind (suc n.level) a (notes heading h) ≡ o → o ≡ None
-      none a inside None k = refl
-      none a inside (Some v) k =
-          let at_next : is_at c.next a ≡ true = is_at_page heading h fit c.next a
-          (subst (λ es. In (written_places es) a) (b.notes_keep_the_events h)
-          (held_written heading n.kind (suc n.level) a (notes heading h) (ap is_some k))) inside in
-          let held_none : is_some (held heading Patterns n.kind (suc n.level) a (notes heading h)) ≡ false
-          = sym (core_some heading b h (node_below n place c.next) a)
-          ∙ (ap is_some (sym (core_below c.next a c.table inside)) ∙ c.holds_none a at_next) in
-          absurd (true≢false (sym (ap is_some k) ∙ held_none))
+      (λ a inside. none_is (held heading Patterns n.kind (suc n.level) a (notes heading h)) (false_from_ne_true _ (λ some.
+      let v = some_is (held heading Patterns n.kind (suc n.level) a (notes heading h)) some in
+      let at_next : is_at c.next a ≡ true = is_at_page heading h fit c.next a
+      (subst (λ es. In (written_places es) a) (b.notes_keep_the_events h)
+      (held_is_written heading Patterns a n.kind (suc n.level) (notes heading h) v.0 v.1)) inside in
+      true≢false (sym some ∙ (sym (core_some heading b h (node_below n place c.next) a)
+      ∙ (ap is_some (sym (core_below c.next a c.table inside)) ∙ c.holds_none a at_next))))))

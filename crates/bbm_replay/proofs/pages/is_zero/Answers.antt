@@ -1,6 +1,6 @@
+use Rattle.bbm_replay.proofs.Common.{value_at}
 use Rattle.bbm_rules.proofs.Common.{◌≡◌, ℕ, ◌+◌, ◌*◌, ◌/◌, ◌%◌, ◌<◌, ◌==◌, true, ap, ◌∙◌, arith, and_from, and_parts}
 use Rattle.bbm_rules.proofs.Common.{eq-eqb, eqb-true, page_of}
-use Rattle.bbm_place_map.specs.Map.{value_at}
 use Rattle.bbm_replay_trees.specs.Told.{is_at}
 use Rattle.bbm_replay.proofs.pages.is_zero.Goals as goal
 

@@ -1,5 +1,5 @@
+use Rattle.bbm_replay.proofs.Common.{value_at}
 use Rattle.bbm_rules.proofs.Common.{◌≡◌, ℕ, ◌+◌, ◌*◌, ◌<◌}
-use Rattle.bbm_place_map.specs.Map.{value_at}
 use Rattle.bbm_replay.proofs.pages.is_zero.Given as goal
 
 abbrev pub invariant-loop-index : goal.invariant-loop-index

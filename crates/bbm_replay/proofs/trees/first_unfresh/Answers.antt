@@ -1,5 +1,5 @@
+use Rattle.bbm_replay.proofs.Common.{fresh_in}
 use Rattle.bbm_rules.proofs.Common.{◌≡◌, ℕ, ◌+◌, ◌*◌, ◌≤◌, false, sym, ◌∙◌, ap, arith}
-use Rattle.bbm_tree_index.specs.Index.{fresh_in}
 use Rattle.bbm_replay.proofs.Counting.{first_unfresh, none_unfresh}
 use Rattle.bbm_replay.proofs.trees.first_unfresh.Goals as goal
 

@@ -1,5 +1,5 @@
+use Rattle.bbm_replay.proofs.Common.{fresh_in}
 use Rattle.bbm_rules.proofs.Common.{◌≡◌, ℕ, ◌+◌, ◌*◌, ◌<◌, true}
-use Rattle.bbm_tree_index.specs.Index.{fresh_in}
 use Rattle.bbm_replay.proofs.trees.first_unfresh.Given as goal
 
 abbrev pub invariant-loop-i : goal.invariant-loop-i

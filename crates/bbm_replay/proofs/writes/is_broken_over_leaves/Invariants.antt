@@ -1,6 +1,5 @@
-use Rattle.bbm_replay.proofs.Common.{Marks, next_in}
+use Rattle.bbm_replay.proofs.Common.{marks_at, restless_place, Marks, next_in}
 use Rattle.bbm_rules.proofs.Common.{◌≡◌, ℕ, ◌<◌, None, Some}
-use Rattle.bbm_place_map.specs.Map.{marks_at, restless_place}
 use Rattle.bbm_replay.proofs.writes.is_broken_over_leaves.Given as goal
 
 abbrev pub invariant-loop-i : goal.invariant-loop-i

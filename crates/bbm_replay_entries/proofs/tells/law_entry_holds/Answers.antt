@@ -1,25 +1,19 @@
 use Rattle.bbm_rules.proofs.Common.{◌≡◌, ℕ, refl, ap, ◌∙◌, sym, option_and_then, Option, Some, None, core_of, desc_of}
-use Rattle.bbm_rules.proofs.Common.{desc_with, Core, Desc, Invalid, Table, Leaf, Kind, next_in, next_of}
+use Rattle.bbm_rules.proofs.Common.{desc_with, Core, Desc, Kind, next_in, next_of, arith}
 use Rattle.bbm_descriptor.specs.Descriptor.{core_in as core_of_desc}
-use Rattle.bbm_descriptor.specs.declared.desc.Core.TheVariants.{Table as CoreTable, Leaf as CoreLeaf}
 use Rattle.bbm_replay_entries.specs.EntryStands.{held_now}
 use Rattle.bbm_replay_entries.proofs.Places.{holds_core, present_core}
 use Rattle.bbm_replay_entries.proofs.tells.law_entry_holds.Goals as goal
 
 fields : (desc : Desc) (core : Core) → core_of_desc desc ≡ Some core → desc ≡ desc_with core
-fields Invalid core e = cc
-fields (Table next ns) core e = let same : CoreTable next ns ≡ core = cc in ap desc_with same
-fields (Leaf out attrs share global contiguous) core e =
-    let same : CoreLeaf out attrs share global contiguous ≡ core = cc in ap desc_with same
+fields desc core e = grind arith
 
 -- the next page by the core of a descriptor
 abbrev by_core : Option Core → Option ℕ
 by_core o = option_and_then (λ core. next_in (desc_with core)) o
 
 next_fields : (desc : Desc) → next_in desc ≡ by_core (core_of_desc desc)
-next_fields Invalid = refl
-next_fields (Table next ns) = refl
-next_fields (Leaf out attrs share global contiguous) = refl
+next_fields desc = grind arith
 
 next_held : (kind : Kind) (level : ℕ) (o : Option ℕ) → option_and_then (next_of kind level) o ≡ by_core (option_and_then (core_of kind level) o)
 next_held kind level None = refl

@@ -1,25 +1,17 @@
-use Rattle.bbm_rules.proofs.Common.{◌≡◌, ℕ, false, List, Option, Some, None, option_and_then, refl, ap, sym, ◌∙◌}
-use Rattle.bbm_rules.proofs.Common.{option_map_or, core_of, differ, needs, Core, Patterns, noted, if_so, Heading, Event}
-use Rattle.bbm_rules.proofs.Common.{Node, held_at}
+use Rattle.bbm_rules.proofs.Common.{refl, ◌≡◌, ℕ, false, Option, option_and_then, ap, sym, ◌∙◌, option_map_or, core_of}
+use Rattle.bbm_rules.proofs.Common.{differ, needs, Core, if_so, arith}
 use Rattle.bbm_rules.specs.Prelude.{Kind}
 use Rattle.bbm_replay_entries.specs.EntryStands.{held_now}
 use Rattle.bbm_replay_entries.proofs.tells.law_entry_need.Goals as goal
 
 needs_by : (kind : Kind) (level value : ℕ) (o : Option ℕ) → option_map_or (λ old. needs kind level old value) o false
     ≡ differ (option_and_then (core_of kind level) o) (core_of kind level value)
-needs_by kind level value None = refl
-needs_by kind level value (Some old) = refl
+needs_by kind level value o = grind arith
 
 rule_by : (kind : Kind) (level value place : ℕ) (o : Option ℕ)
     → option_and_then (λ old. if_so (needs kind level old value) place) o
     ≡ if_so (differ (option_and_then (core_of kind level) o) (core_of kind level value)) place
-rule_by kind level value place None = refl
-rule_by kind level value place (Some old) = refl
-
-abbrev broken_by : Heading → List Event → ℕ → ℕ → Option Node → Option ℕ
-broken_by heading h place value o =
-    option_and_then (λ (n : Node). option_and_then (λ old. if_so (needs n.kind n.level old value) place)
-    (held_at heading Patterns (noted heading Patterns h) n place)) o
+rule_by kind level value place o = grind arith
 
 pub returns : goal.returns
 returns c heading = record {
@@ -27,8 +19,7 @@ returns c heading = record {
       needs_by kind level value (held_now heading h kind level place)
       ∙ ap (λ (o : Option Core). differ o (core_of kind level value)) (sym s.core);
   rule = λ h n pe place value state pends is s.
-      ap (broken_by heading h place value) is
-      ∙ (rule_by n.kind n.level value place (held_now heading h n.kind n.level place)
+      rw (is) (rule_by n.kind n.level value place (held_now heading h n.kind n.level place)
       ∙ ap (λ (o : Option Core). if_so (differ o (core_of n.kind n.level value)) place) (sym s.core));
-  outside = λ h pe place value is. ap (broken_by heading h place value) is;
+  outside = λ h pe place value is. rw (is) refl;
 }

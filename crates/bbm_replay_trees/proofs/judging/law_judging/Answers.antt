@@ -1,7 +1,7 @@
 use Rattle.bbm_rules.proofs.Common.{◌∙◌, sym, page_of}
 use Rattle.bbm_replay_trees.proofs.AttachLemmas.{core_none, root_judging, write_judging}
-use Rattle.bbm_replay_trees.proofs.judging.law_judging.Goals as goal
 use Rattle.bbm_rules.proofs.TreeLaw.{table_level}
+use Rattle.bbm_replay_trees.proofs.judging.law_judging.Goals as goal
 
 pub returns : goal.returns
 returns c heading = let b = c.below.ensures heading in record {

@@ -1,8 +1,8 @@
 use Rattle.bbm_rules.proofs.Common.{length, ◌||◌, ◌==◌, List, ℕ, ap, sym, ◌∙◌, among, initialised}
 use Rattle.bbm_replay_trees.proofs.PageLemmas.{count_more, known_more}
-use Rattle.bbm_replay_trees.proofs.pages.law_pages.Goals as goal
 use Rattle.bbm_lemmas.proofs.Numbers.{same_swapped}
 use Rattle.bbm_rules.proofs.ChangesLaw.{inits_kept, nulls_kept}
+use Rattle.bbm_replay_trees.proofs.pages.law_pages.Goals as goal
 
 pub returns : goal.returns
 returns c = record {

@@ -1,7 +1,7 @@
 use Rattle.bbm_rules.proofs.Common.{cond, ◌==◌, ap, sym, ◌∙◌, page_of}
 use Rattle.bbm_rules.proofs.ChangesLaw.{values_kept}
-use Rattle.bbm_replay_trees.proofs.pages.law_values.Goals as goal
 use Rattle.bbm_lemmas.proofs.Numbers.{same_swapped}
+use Rattle.bbm_replay_trees.proofs.pages.law_values.Goals as goal
 
 pub returns : goal.returns
 returns c = record {

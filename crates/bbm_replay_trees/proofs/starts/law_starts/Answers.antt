@@ -1,4 +1,4 @@
-use Rattle.bbm_replay_trees.proofs.StartLemmas.{start_of}
+use Rattle.bbm_replay_trees.proofs.HangLemmas.{start_of}
 use Rattle.bbm_replay_trees.proofs.starts.law_starts.Goals as goal
 
 pub returns : goal.returns

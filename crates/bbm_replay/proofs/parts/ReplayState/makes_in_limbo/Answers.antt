@@ -9,8 +9,8 @@ pub returns-then-rules_out_limbo : goal.returns-then-rules_out_limbo
 returns-then-rules_out_limbo c =
     let r = c.requires in
     sym (ap (λ b. is_some c.args.new.now && b)
-    (no_limbo r.0 (c.laws.ensures r.0) r.1 c.args.self.now.map c.args.self.now.index r.2.told
-    (c.rules_out_limbo.ensures c.if-rules_out_limbo.true) c.args.place) ∙ and-false (is_some c.args.new.now))
+    (no_limbo (c.laws.ensures r.0) c.args.self.now.map c.args.self.now.index r.2.told (c.rules_out_limbo.ensures c.if-rules_out_limbo.true)
+    c.args.place) ∙ and-false (is_some c.args.new.now))
 
 pub returns : goal.returns
 returns c = rw (sym c.is_some.ensures ∙ c.if-not-is_some.false) c.in_limbo.ensures

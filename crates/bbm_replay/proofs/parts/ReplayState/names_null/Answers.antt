@@ -1,18 +1,13 @@
-use Rattle.bbm_rules.proofs.Common.{◌≡◌, ℕ, ◌<◌, ◌%◌, ◌==◌, ◌^◌, true, false, nat_lt, Option, Some, None, sym, ◌∙◌, ap}
-use Rattle.bbm_rules.proofs.Common.{true≢false, and_parts, eqb-true, ltb-true, option_map_or, is_page, is_null}
+use Rattle.bbm_rules.proofs.Common.{◌≡◌, ℕ, ◌<◌, ◌%◌, ◌^◌, true, Option, None, sym, ◌∙◌, ap, arith, nat_tests, false}
+use Rattle.bbm_rules.proofs.Common.{option_map_or, is_page, is_null}
 use Rattle.std.proofs.Common.{IsSome}
 use Rattle.bbm_replay.proofs.Meeting.{never_null}
 use Rattle.bbm_replay.proofs.parts.ReplayState.names_null.Goals as goal
 
-is_one : (base : ℕ) (o : Option ℕ) → o ≡ None → (((base < 2 ^ 48) × (base % 4096 ≡ 0)) → IsSome o) → is_page base ≡ true → ⊥
+is_one : (base : ℕ) (o : Option ℕ) → o ≡ None → ((base < 2 ^ 48) × (base % 4096 ≡ 0) → IsSome o) → is_page base ≡ true → ⊥
 is_one base o none some page =
-    let both = and_parts (nat_lt base (2 ^ 48)) (base % 4096 == 0) page in
-    let s : IsSome o = some (ltb-true base (2 ^ 48) both.0, eqb-true (base % 4096) 0 both.1) in
-    no (o) none s
-  where
-    no : (x : Option ℕ) → x ≡ None → IsSome x → ⊥
-    no None e s = absurd (true≢false (sym s))
-    no (Some n) e s = let bad : Some n ≡ None = e in absurd cc
+    let both : (base < 2 ^ 48) × (base % 4096 ≡ 0) = grind (arith, nat_tests) in
+    let has : IsSome o = some both in cc
 
 pub returns-in-None-new : goal.returns-in-None-new
 returns-in-None-new c heading h s =

@@ -1,36 +1,31 @@
-use Rattle.bbm_replay.proofs.Common.{kind_in_world, ReplayState}
-use Rattle.bbm_rules.proofs.Common.{refl, sym, ◌∙◌, ap, S2, Heading}
-use Rattle.bbm_replay.proofs.Starting.{null_nonzero, null_ok, null_unfresh, null_world}
+use Rattle.bbm_rules.proofs.Common.{refl, sym, ◌∙◌}
+use Rattle.bbm_replay.proofs.PageMoves.{null_nonzero, null_ok, null_unfresh, null_world}
 use Rattle.bbm_replay.proofs.parts.ReplayState.null.Goals as goal
 
 pub returns-then-has_kind : goal.returns-then-has_kind
 returns-then-has_kind c =
-    null_world c.laws.ensures c.rules.ensures c.law_others.ensures c.args.self.now c.args.self.now c.args.pe c.args.page c.requires
-    (sym c.has_kind.ensures ∙ c.if-has_kind.true)
+    null_world c.rules.ensures c.args.self.now c.args.pe c.args.page (sym c.has_kind.ensures ∙ c.if-has_kind.true)
 
 pub returns-then-not-is_fresh : goal.returns-then-not-is_fresh
 returns-then-not-is_fresh c = rw c.get.ensures.value
-    (null_unfresh c.laws.ensures c.rules.ensures c.law_others.ensures c.args.self.now c.args.self.now c.args.pe c.args.page c.requires
-    (sym c.has_kind.ensures ∙ c.if-has_kind.false)
+    (null_unfresh c.rules.ensures c.args.self.now c.args.pe c.args.page (sym c.has_kind.ensures ∙ c.if-has_kind.false)
     (sym c.is_fresh.ensures ∙ c.if-not-is_fresh.true))
 
 pub returns-then-not-is_zero : goal.returns-then-not-is_zero
 returns-then-not-is_zero c = rw c.get-then-not-is_zero.ensures.value
-    (null_nonzero c.laws.ensures c.rules.ensures c.law_others.ensures c.args.self.now c.args.self.now c.args.pe c.args.page c.requires
-    (sym c.has_kind.ensures ∙ c.if-has_kind.false)
+    (null_nonzero c.rules.ensures c.args.self.now c.args.pe c.args.page (sym c.has_kind.ensures ∙ c.if-has_kind.false)
     (c.is_zero.ensures.other c.if-not-is_zero.true))
 
 pub returns : goal.returns
 returns c =
     let old = c.args.self.now in
     let e = c.nullify.ensures in
-    let new : ReplayState = record old { index = c.nullify.new.self } in
-    null_ok c.laws.ensures c.rules.ensures c.law_others.ensures old new c.args.pe c.args.page c.requires
-    (sym c.has_kind.ensures ∙ c.if-has_kind.false)
-    (sym c.is_fresh.ensures ∙ c.if-not-is_fresh.false) (c.is_zero.ensures.zero c.if-not-is_zero.false)
-    (record { header = refl; index_header = e.tracked.heading }) refl
+    let fresh = sym c.is_fresh.ensures ∙ c.if-not-is_fresh.false in
+    null_ok c.laws.ensures c.rules.ensures c.law_others.ensures old old.map c.nullify.new.self e.tracked.heading
+    c.args.pe c.args.page c.requires (sym c.has_kind.ensures ∙ c.if-has_kind.false) fresh
+    (c.is_zero.ensures.zero c.if-not-is_zero.false)
     (record {
-      was_fresh = sym c.is_fresh.ensures ∙ c.if-not-is_fresh.false;
+      was_fresh = fresh;
       map = record { value = λ a. refl; marks = λ a. refl; pends = λ q a b i p. refl };
       nodes = e.null.node;
       tracking = record { tracked = λ p. refl; known = e.tracked.known; pages = e.tracked.pages };

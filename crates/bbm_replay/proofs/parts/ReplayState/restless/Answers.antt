@@ -1,8 +1,7 @@
-use Rattle.bbm_replay.proofs.Common.{Marks, notes, view_of, state_of, waiting, ReplayState}
-use Rattle.bbm_rules.proofs.Common.{◌≡◌, ℕ, Option, Some, None, is_some, refl, sym, ◌∙◌, ap, core_of, Patterns}
-use Rattle.bbm_rules.proofs.Common.{is_restless, page_of, Node}
-use Rattle.bbm_place_map.specs.Map.{marks_at, restless_place, value_at}
-use Rattle.bbm_tree_index.specs.Index.{node_in}
+use Rattle.bbm_replay.proofs.Common.{node_in, marks_at, restless_place, value_at, Marks, notes, view_of, state_of}
+use Rattle.bbm_replay.proofs.Common.{waiting, ReplayState}
+use Rattle.bbm_rules.proofs.Common.{◌≡◌, ℕ, Option, is_some, sym, ◌∙◌, ap, core_of, Patterns, is_restless, page_of}
+use Rattle.bbm_replay.proofs.Cases.{some_or}
 use Rattle.bbm_replay.proofs.DsbMoves.{broken_marks}
 use Rattle.bbm_replay.proofs.parts.ReplayState.restless.Goals as goal
 
@@ -17,13 +16,10 @@ returns c heading h s = c.restless.ensures.count
     p : ReplayState
     p = c.args.self.now
 
-    by : (a : ℕ) (o : Option Node) → node_in p.index (page_of a) ≡ o
-        → is_restless heading Patterns (notes heading h) a ≡ is_some (marks_at p.map a)
-    by a (Some n) k = (c.law_entry_phase.ensures heading).restless h n a (state_of (view_of p.map p.index) n.kind n.level a)
-        (waiting (view_of p.map p.index) a) (sym (s.told.nodes (page_of a)) ∙ k) (s.told.entries n a k)
-        ∙ broken_marks (core_of n.kind n.level (value_at p.map a)) (marks_at p.map a)
-    by a None k = (c.law_entry_phase.ensures heading).outside_restless h a (sym (s.told.nodes (page_of a)) ∙ k)
-        ∙ sym (ap (λ (m : Option Marks). is_some m) (s.told.outside a k))
-
     is : (a : ℕ) → is_restless heading Patterns (notes heading h) a ≡ is_some (marks_at p.map a)
-    is a = by a (node_in p.index (page_of a)) refl
+    is a = some_or (node_in p.index (page_of a))
+        (λ n k. (c.law_entry_phase.ensures heading).restless h n a (state_of (view_of p.map p.index) n.kind n.level a)
+        (waiting (view_of p.map p.index) a) (sym (s.told.nodes (page_of a)) ∙ k) (s.told.entries n a k)
+        ∙ broken_marks (core_of n.kind n.level (value_at p.map a)) (marks_at p.map a))
+        (λ k. (c.law_entry_phase.ensures heading).outside_restless h a (sym (s.told.nodes (page_of a)) ∙ k)
+        ∙ sym (ap (λ (m : Option Marks). is_some m) (s.told.outside a k)))

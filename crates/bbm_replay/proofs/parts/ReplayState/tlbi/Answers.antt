@@ -1,9 +1,8 @@
-use Rattle.bbm_replay.proofs.Common.{Noted, state_from, notes, MayBeIssued, view_of, ReplayState}
+use Rattle.bbm_replay.proofs.Common.{marks_at, pends_at, pe_in, Noted, NoMemory, state_from, notes, MayBeIssued}
+use Rattle.bbm_replay.proofs.Common.{view_of, ReplayState}
 use Rattle.bbm_rules.proofs.Common.{◌≡◌, ℕ, ◌<◌, None, not, ◌&&◌, ◌||◌, nat_eq, refl, subst, Patterns, cover_at, Tlbi}
-use Rattle.bbm_place_map.specs.Map.{marks_at, pends_at}
-use Rattle.bbm_regimes.specs.PeMask.{pe_in}
-use Rattle.bbm_replay.proofs.Framing.{same_of, stands_still}
-use Rattle.bbm_replay.proofs.Issuing.{tlbi_meets}
+use Rattle.bbm_replay.proofs.Framing.{meets_err, same_of, stands_still}
+use Rattle.bbm_replay.proofs.TlbiMoves.{tlbi_meets}
 use Rattle.bbm_replay.proofs.Writing.{cores}
 use Rattle.bbm_replay.proofs.parts.ReplayState.tlbi.Goals as goal
 
@@ -17,7 +16,7 @@ issue-requires c =
       fits = record {
         tracked = λ p n is. told.apart.node_tracked p n is;
         below = λ n place next is table. (c.laws.ensures heading).neighbours.down h view n place next told.kept told.nodes
-            (cores heading h view told) is table;
+            (cores told) is table;
       };
     }
 
@@ -25,17 +24,12 @@ pub returns-in-Err-issue : goal.returns-in-Err-issue
 returns-in-Err-issue c =
     let old = c.args.self.now in
     let new : ReplayState = record old { map = c.issue.new.map; roots = c.prepare_issue.new.self } in
-    record {
-      judged = λ heading h s. tt;
-      taken = tt;
-      unchanged = λ heading h s. stands_still c.laws.ensures old new (record
-          { header = refl; index_header = refl })
-          (same_of old.map new.map old.index old.index c.in-Err-issue.ensures.kept
-          (record { node = λ p. refl; fresh = λ p. refl; null = λ p. refl })
-          (record { known = λ p. refl; pages = refl; heading = refl })) heading h s
-          (c.prepare_issue.ensures.kept.same heading h s.roots);
-      frugal = λ heading h s. (refl, refl);
-    }
+    meets_err (Tlbi c.args.pe c.args.op c.args.xt) NoMemory (λ heading h s. tt)
+    (λ heading h s. stands_still c.laws.ensures old new (record { header = refl; index_header = refl })
+    (same_of old.map new.map old.index old.index c.in-Err-issue.ensures.kept
+    (record { node = λ p. refl; fresh = λ p. refl; null = λ p. refl })
+    (record { known = λ p. refl; pages = refl; heading = refl })) heading h s
+    (c.prepare_issue.ensures.kept.same heading h s.roots)) (λ heading h s. (refl, refl))
 
 pub returns-in-Ok-issue : goal.returns-in-Ok-issue
 returns-in-Ok-issue c =

@@ -1,6 +1,6 @@
 use Rattle.bbm_replay.proofs.Common.{ReplayState}
 use Rattle.bbm_rules.proofs.Common.{not, ◌==◌, refl, Node}
-use Rattle.bbm_replay.proofs.Gone.{leaves_of, unroot_err, unroot_ok}
+use Rattle.bbm_replay.proofs.PageMoves.{leaves_of, unroot_err, unroot_ok}
 use Rattle.bbm_replay.proofs.parts.ReplayState.unroot.Goals as goal
 
 pub retire-requires : goal.retire-requires

@@ -5,10 +5,8 @@ use Rattle.bbm_replay.proofs.parts.ReplayState.write.Goals as goal
 
 pub write_inside-requires-clause-at : goal.write_inside-requires-clause-at
 write_inside-requires-clause-at c = found_tree c.laws.ensures c.args.self.now c.args.pe c.args.place c.args.value
-    c.requires
-    c.in-Some.found c.in-Some.ensures.at c.in-Some.ensures.place
+    c.requires c.in-Some.position.place c.in-Some.path c.in-Some.ensures.at c.in-Some.ensures.place
 
-pub returns-in-Some : goal.returns-in-Some
-returns-in-Some c =
-    subst (λ a. Meets c.args.self.now c.write_inside.new.self (Write c.args.pe a c.args.value) c.write_inside.result)
+pub returns : goal.returns
+returns c = subst (λ a. Meets c.args.self.now c.write_inside.new.self (Write c.args.pe a c.args.value) c.write_inside.result)
     c.in-Some.ensures.place c.write_inside.ensures

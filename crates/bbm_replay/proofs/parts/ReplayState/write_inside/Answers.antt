@@ -1,6 +1,5 @@
-use Rattle.bbm_replay.proofs.Common.{MayAdmit}
+use Rattle.bbm_replay.proofs.Common.{marks_at, value_at, MayAdmit}
 use Rattle.bbm_rules.proofs.Common.{◌≡◌, None, Some, sym, ◌∙◌, core_of}
-use Rattle.bbm_place_map.specs.Map.{marks_at, value_at}
 use Rattle.bbm_replay.proofs.Entries.{none_of}
 use Rattle.bbm_replay.proofs.Inside.{admitted_invalid, locked, taken, unlocked}
 use Rattle.bbm_replay.proofs.Unbroken.{breaks_unbroken, may_admit_unbroken}

@@ -1,6 +1,5 @@
-use Rattle.bbm_replay.proofs.Common.{Puts}
+use Rattle.bbm_replay.proofs.Common.{Position, Puts}
 use Rattle.bbm_rules.proofs.Common.{◌≡◌, subst}
-use Rattle.bbm_place_map.specs.declared.position.Position.{Position}
 use Rattle.bbm_replay.proofs.Findings.{if_some}
 use Rattle.bbm_replay.proofs.Outside.{outside_null, outside_ok, outside_rewritten, outside_unfresh}
 use Rattle.bbm_replay.proofs.parts.ReplayState.write_outside.Goals as goal

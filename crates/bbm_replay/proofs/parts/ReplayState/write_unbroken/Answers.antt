@@ -1,6 +1,6 @@
-use Rattle.bbm_replay.proofs.Common.{MayAdmit, PlaceMap}
+use Rattle.bbm_replay.proofs.Common.{marks_at, MayAdmit, PlaceMap}
 use Rattle.bbm_rules.proofs.Common.{◌≡◌, None, sym, ◌∙◌, subst}
-use Rattle.bbm_place_map.specs.Map.{IsPosition, marks_at}
+use Rattle.bbm_place_map.specs.Map.{IsPosition}
 use Rattle.bbm_replay.proofs.Inside.{taken}
 use Rattle.bbm_replay.proofs.Unbroken.{may_admit_unbroken, writes_unbroken}
 use Rattle.bbm_replay.proofs.parts.ReplayState.write_unbroken.Goals as goal

@@ -1,7 +1,6 @@
+use Rattle.bbm_replay.proofs.Common.{IsCovered, Found, IsPathOf, IsSettled}
 use Rattle.bbm_rules.proofs.Common.{sym, ◌∙◌, subst}
-use Rattle.bbm_replay.proofs.Common.{Found, IsPathOf, IsSettled}
 use Rattle.bbm_replay.proofs.Findings.{covered_at, grows_by, settled_by}
-use Rattle.bbm_replay.specs.Covering.{IsCovered}
 use Rattle.bbm_replay.proofs.tlbi_cover.Covering.add_broken.Goals as goal
 
 pub cover_of-cover-requires : goal.cover_of-cover-requires

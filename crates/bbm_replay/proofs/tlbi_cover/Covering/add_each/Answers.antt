@@ -1,6 +1,5 @@
-use Rattle.bbm_replay.proofs.Common.{IsSettled}
-use Rattle.bbm_rules.proofs.Common.{◌≡◌, ◌<◌, arith, subst, inl, inr, cases_lt}
-use Rattle.bbm_place_map.specs.Map.{restless_place}
+use Rattle.bbm_replay.proofs.Common.{below_more, restless_place, IsSettled}
+use Rattle.bbm_rules.proofs.Common.{ℕ, ◌<◌, arith, subst}
 use Rattle.bbm_replay.proofs.Findings.{settled_more}
 use Rattle.bbm_replay.proofs.tlbi_cover.Covering.add_each.Goals as goal
 
@@ -15,12 +14,8 @@ loop-i-preserved c =
     let new = c.add_numbered.new.found.items in
     record {
       grows = (λ all. e.grows.0 (v.grows.0 all), λ a has. e.grows.1 a (v.grows.1 a has));
-      settled = λ j below.
-          elim (cases_lt j i) [
-            | inl lt ↦ settled_more map by old new e.grows (restless_place map j) (v.settled j lt)
-            | inr ge ↦ (let same : i ≡ j = omega (arith, ge, below) in
-                subst (λ n. IsSettled map by new (restless_place map n)) same e.settled)
-          ];
+      settled = below_more (λ (j : ℕ). IsSettled map by new (restless_place map j)) i
+          (λ j less. settled_more map by old new e.grows (restless_place map j) (v.settled j less)) e.settled;
     }
 
 pub returns-clause-settled : goal.returns-clause-settled

@@ -1,6 +1,5 @@
-use Rattle.bbm_replay.proofs.Common.{Grows, IsSettled}
+use Rattle.bbm_replay.proofs.Common.{restless_place, Grows, IsSettled}
 use Rattle.bbm_rules.proofs.Common.{ℕ, ◌<◌}
-use Rattle.bbm_place_map.specs.Map.{restless_place}
 use Rattle.bbm_replay.proofs.tlbi_cover.Covering.add_each.Given as goal
 
 abbrev pub invariant-loop-i : goal.invariant-loop-i

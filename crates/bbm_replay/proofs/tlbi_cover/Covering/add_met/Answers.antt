@@ -1,7 +1,5 @@
+use Rattle.bbm_replay.proofs.Common.{restless_place, Position, IsPathOf, IsSettled}
 use Rattle.bbm_rules.proofs.Common.{◌≡◌, sym, ◌∙◌, subst}
-use Rattle.bbm_place_map.specs.Map.{restless_place}
-use Rattle.bbm_place_map.specs.declared.position.Position.{Position}
-use Rattle.bbm_replay.proofs.Common.{IsPathOf, IsSettled}
 use Rattle.bbm_replay.proofs.Findings.{if_some}
 use Rattle.bbm_replay.proofs.tlbi_cover.Covering.add_met.Goals as goal
 

@@ -1,6 +1,5 @@
-use Rattle.bbm_replay.proofs.Common.{IsPathOf, Marks}
+use Rattle.bbm_replay.proofs.Common.{node_in, IsPathOf, Marks}
 use Rattle.bbm_rules.proofs.Common.{is_some, Option, sym, ◌∙◌, ap, subst, true≢false, page_of}
-use Rattle.bbm_tree_index.specs.Index.{node_in}
 use Rattle.bbm_replay.proofs.Found.{found_at, none_at}
 use Rattle.bbm_replay.proofs.tlbi_cover.Covering.add_numbered.Goals as goal
 

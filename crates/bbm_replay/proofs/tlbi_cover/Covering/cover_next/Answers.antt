@@ -1,6 +1,5 @@
+use Rattle.bbm_replay.proofs.Common.{marks_at, restless_place, IsCovered}
 use Rattle.bbm_rules.proofs.Common.{◌≡◌, ℕ, true, is_some, sym, ◌∙◌, ap, arith, page_of}
-use Rattle.bbm_place_map.specs.Map.{marks_at, restless_place}
-use Rattle.bbm_replay.specs.Covering.{IsCovered}
 use Rattle.bbm_replay.specs.declared.tlbi_cover.pages.PageCover.{PageCover}
 use Rattle.bbm_replay.proofs.Findings.{if_some}
 use Rattle.bbm_replay.proofs.tlbi_cover.Covering.cover_next.Goals as goal

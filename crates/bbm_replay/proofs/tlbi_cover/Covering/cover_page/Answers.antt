@@ -1,9 +1,7 @@
-use Rattle.bbm_replay.proofs.Common.{Marks, notes, view_of}
+use Rattle.bbm_replay.proofs.Common.{node_in, marks_at, restless_place, Marks, notes}
 use Rattle.bbm_rules.proofs.Common.{◌≡◌, true, false, is_some, Option, Some, sym, ◌∙◌, ap, arith, true≢false, has_page}
 use Rattle.bbm_rules.proofs.Common.{cover_at, page_of, Patterns, Tlbi}
-use Rattle.bbm_place_map.specs.Map.{marks_at, restless_place}
 use Rattle.bbm_tlbi_scope.specs.declared.entry.Cover.TheVariants.{None as NoCover}
-use Rattle.bbm_tree_index.specs.Index.{node_in}
 use Rattle.bbm_replay.proofs.Findings.{covered_at}
 use Rattle.bbm_replay.proofs.Found.{found_at, none_at}
 use Rattle.bbm_replay.proofs.SamePage.{page_alike}
@@ -34,8 +32,8 @@ returns-then-not-has_page-clause-alike c a same broken heading h pe op xt issued
     covered_at c.args.map.now c.args.self.now c.cover_of-cover.result c.args.i c.restless_at-place.result
     c.restless_core.result c.restless_at-place.ensures.place c.restless_core.ensures c.cover_of-cover.ensures
     heading h pe op xt issued
-    ∙ page_alike heading h (c.law_notes_keep_the_events.ensures heading Patterns h) map by.index.now by.roots.now pe op
-    xt by.named.now issued.1 unpaged place a (omega (arith, page, same, c.page-page.ensures))
+    ∙ page_alike (c.law_notes_keep_the_events.ensures heading Patterns h) issued.1 unpaged place a
+    (omega (arith, page, same, c.page-page.ensures))
     (ap (λ x. is_some (marks_at map x)) (sym here) ∙ c.restless_at-place.ensures.broken) broken
 
 pub returns-then-names_none-clause-here : goal.returns-then-names_none-clause-here
@@ -54,9 +52,8 @@ returns-then-names_none-clause-alike c a same broken heading h pe op xt issued =
     let is : node_in by.index.now (page_of a) ≡ Some n.0 = ap (node_in by.index.now) page ∙ n.1 in
     let paged : has_page by.named.now.scope.family ≡ true = sym c.has_page.ensures ∙ c.if-not-has_page.false in
     let none : cover_at heading Patterns (notes heading h) (Tlbi pe op xt) a ≡ NoCover
-    = place_unnamed heading h (c.law_notes_keep_the_events.ensures heading Patterns h) map by.index.now by.roots.now pe
-    op xt by.named.now issued.1 paged n.0 a
-    is (c.names_none.ensures c.if-names_none.true n.0 n.2 a) in
+    = place_unnamed (c.law_notes_keep_the_events.ensures heading Patterns h) issued.1 paged n.0 a is
+    (c.names_none.ensures c.if-names_none.true n.0 n.2 a) in
     c.in-None.is ∙ sym none
 
 pub returns-else-names_none-clause-here : goal.returns-else-names_none-clause-here

@@ -1,7 +1,6 @@
-use Rattle.bbm_replay.proofs.Common.{notes}
+use Rattle.bbm_replay.proofs.Common.{restless_place, notes}
 use Rattle.bbm_rules.proofs.Common.{◌<◌, ◌≡◌, ◌++◌, ◌∷◌, [], ℕ, List, Some, ◌∙◌, ap, arith, slice_get, length, inl, inr}
 use Rattle.bbm_rules.proofs.Common.{cases_lt, Cover, Patterns, cover_at, Tlbi}
-use Rattle.bbm_place_map.specs.Map.{restless_place}
 use Rattle.bbm_replay.proofs.Findings.{at_end, before_end}
 use Rattle.bbm_replay.proofs.tlbi_cover.Covering.covers.Goals as goal
 

@@ -1,7 +1,6 @@
-use Rattle.bbm_replay.proofs.Common.{notes, IssuesAt}
-use Rattle.bbm_rules.proofs.Common.{◌≡◌, ℕ, ◌<◌, List, Some, length, slice_get, Patterns}
-use Rattle.bbm_rules.proofs.Common.{cover_at, Heading, Event, Tlbi, TlbiOp}
-use Rattle.bbm_place_map.specs.Map.{restless_place}
+use Rattle.bbm_replay.proofs.Common.{restless_place, notes, IssuesAt}
+use Rattle.bbm_rules.proofs.Common.{◌≡◌, ℕ, ◌<◌, List, Some, length, slice_get, Patterns, cover_at, Heading, Event}
+use Rattle.bbm_rules.proofs.Common.{Tlbi, TlbiOp}
 use Rattle.bbm_replay.specs.Covering.{CoversAlike}
 use Rattle.bbm_replay.proofs.tlbi_cover.Covering.covers.Given as goal
 

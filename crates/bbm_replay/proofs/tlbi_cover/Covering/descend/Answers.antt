@@ -1,13 +1,9 @@
-use Rattle.bbm_replay.proofs.Common.{IsWay, core_at, is_at, path_at, Path, IsSettled}
-use Rattle.bbm_rules.proofs.Common.{◌≡◌, ◌≤◌, ℕ, suc, true, None, Some, inl, inr, sym, ◌∙◌, subst, arith, page_of, Node}
-use Rattle.bbm_rules.proofs.Common.{node_below}
-use Rattle.bbm_tree_index.specs.Index.{node_in}
+use Rattle.bbm_replay.proofs.Common.{node_in, IsWay, core_at, is_at, path_at, Path, IsSettled}
+use Rattle.bbm_rules.proofs.Common.{◌≡◌, ◌≤◌, ℕ, suc, true, Some, inl, inr, sym, ◌∙◌, subst, arith, page_of, Node}
+use Rattle.bbm_rules.proofs.Common.{node_below, same_Some}
 use Rattle.bbm_replay.proofs.Findings.{if_some, settled_more}
 use Rattle.bbm_replay.proofs.Ways.{ahead, goes_on, may_hang, on_way, on_way_below, way_ends}
 use Rattle.bbm_replay.proofs.tlbi_cover.Covering.descend.Goals as goal
-
-one : {A : Type 0} (x y : A) → Some x ≡ Some y → x ≡ y
-one x y e = cc
 
 pub loop-depth-init : goal.loop-depth-init
 loop-depth-init c =
@@ -32,16 +28,6 @@ loop-depth-init c =
           w));
     }
 
-pub returns-in_default-here-clause-grows : goal.returns-in_default-here-clause-grows
-returns-in_default-here-clause-grows c = c.loop-depth.invariant.grows
-
-pub returns-in_default-here-clause-met : goal.returns-in_default-here-clause-met
-returns-in_default-here-clause-met c page way a w =
-    elim (c.loop-depth.invariant.met way a w) [
-      | inl has ↦ has
-      | inr more ↦ (let bad : None ≡ Some more.0 = sym c.in_default-here.is ∙ more.1 in absurd cc)
-    ]
-
 pub add_met-requires-clause-tracked : goal.add_met-requires-clause-tracked
 add_met-requires-clause-tracked c =
     let m = c.in-Some-here.met in
@@ -56,12 +42,6 @@ add_met-requires-clause-path c =
     let on = (c.loop-depth.invariant.on_way c.in-Some-here.met c.in-Some-here.is).0 in
     (on.stands, on.is_node, on.has_path)
 
-pub returns-in_default-2-clause-grows : goal.returns-in_default-2-clause-grows
-returns-in_default-2-clause-grows c =
-    let v = c.loop-depth.invariant.grows in
-    let e = c.in_ok-next.ensures.grows in
-    (λ all. e.0 (v.0 all), λ a has. e.1 a (v.1 a has))
-
 pub returns-in_default-2-clause-met : goal.returns-in_default-2-clause-met
 returns-in_default-2-clause-met c page way a w =
     let index = c.args.self.now.index.now in
@@ -71,7 +51,7 @@ returns-in_default-2-clause-met c page way a w =
     elim (c.loop-depth.invariant.met way a w) [
       | inl has ↦ settled_more map c.args.self.now c.loop-depth.found.items c.add_met.new.found.items
           c.in_ok-next.ensures.grows a has
-      | inr more ↦ (let same : m ≡ more.0 = one m more.0 (sym c.in-Some-here.is ∙ more.1) in
+      | inr more ↦ (let same : m ≡ more.0 = same_Some m more.0 (sym c.in-Some-here.is ∙ more.1) in
           let here : m.0 ≡ a = way_ends (node_in index) (core_at map) c.args.input m.0 m.1 on c.in_ok-next.field-0
           c.in_ok-next.ensures.next c.in_default-2.is more.2 a
           (subst (λ (y : ℕ × Path). IsWay (node_in index) (core_at map) c.args.input (page_of y.0) more.2 a) (sym same)
@@ -119,7 +99,7 @@ loop-depth-preserved c =
           elim (v.met way a w) [
             | inl has ↦ inl (settled_more map c.args.self.now c.loop-depth.found.items c.add_met.new.found.items added a
                 has)
-            | inr more ↦ (let same : m ≡ more.0 = one m more.0 (sym c.in-Some-here.is ∙ more.1) in
+            | inr more ↦ (let same : m ≡ more.0 = same_Some m more.0 (sym c.in-Some-here.is ∙ more.1) in
                 goes_on map index c.requires.fits c.args.input m.0 m.1 at.0 next goes x c.in-Some-2.is
                 below inside e.met (IsSettled map c.args.self.now c.add_met.new.found.items)
                 c.in_ok-next.ensures.settled more.2 a
@@ -127,9 +107,6 @@ loop-depth-preserved c =
                 (sym same) more.3))
           ];
     }
-
-pub returns-clause-grows : goal.returns-clause-grows
-returns-clause-grows c = c.loop-depth.invariant.grows
 
 pub returns-clause-met : goal.returns-clause-met
 returns-clause-met c page way a w =

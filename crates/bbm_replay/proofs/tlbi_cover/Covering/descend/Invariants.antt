@@ -1,6 +1,5 @@
-use Rattle.bbm_replay.proofs.Common.{IsWay, core_at, Path, Grows, IsOnWay, IsSettled}
+use Rattle.bbm_replay.proofs.Common.{node_in, IsWay, core_at, Path, Grows, IsOnWay, IsSettled}
 use Rattle.bbm_rules.proofs.Common.{◌≡◌, ◌≤◌, ◌⊎◌, ℕ, List, Some}
-use Rattle.bbm_tree_index.specs.Index.{node_in}
 use Rattle.bbm_replay.proofs.Ways.{IsAhead}
 use Rattle.bbm_replay.proofs.tlbi_cover.Covering.descend.Given as goal
 

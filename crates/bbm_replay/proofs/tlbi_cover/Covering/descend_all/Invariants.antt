@@ -1,7 +1,5 @@
-use Rattle.bbm_replay.proofs.Common.{core_at, Grows, IsSettled, MetFromAll, covers_kind}
+use Rattle.bbm_replay.proofs.Common.{node_in, nth_root_in, core_at, Grows, IsSettled, MetFromAll, covers_kind}
 use Rattle.bbm_rules.proofs.Common.{◌≡◌, ℕ, ◌<◌, true, Some, page_count, Kind}
-use Rattle.bbm_tree_index.specs.Index.{node_in}
-use Rattle.bbm_replay_roots.specs.RootsByNumber.{nth_root_in}
 use Rattle.bbm_replay.proofs.tlbi_cover.Covering.descend_all.Given as goal
 
 abbrev pub invariant-loop-number : goal.invariant-loop-number

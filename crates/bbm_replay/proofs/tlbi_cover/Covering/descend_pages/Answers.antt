@@ -1,6 +1,5 @@
-use Rattle.bbm_replay.proofs.Common.{below_more, core_at, IsSettled}
+use Rattle.bbm_replay.proofs.Common.{node_in, below_more, core_at, IsSettled}
 use Rattle.bbm_rules.proofs.Common.{◌+◌, ◌*◌, ℕ, subst}
-use Rattle.bbm_tree_index.specs.Index.{node_in}
 use Rattle.bbm_replay.specs.OnePage.{MetFrom}
 use Rattle.bbm_replay.proofs.Findings.{settled_more}
 use Rattle.bbm_replay.proofs.tlbi_cover.Covering.descend_pages.Goals as goal

@@ -1,5 +1,4 @@
-use Rattle.bbm_replay.proofs.Common.{core_at, Grows, IsSettled, MetFromAll}
-use Rattle.bbm_tree_index.specs.Index.{node_in}
+use Rattle.bbm_replay.proofs.Common.{node_in, core_at, Grows, IsSettled, MetFromAll}
 use Rattle.bbm_replay.proofs.tlbi_cover.Covering.descend_pages.Given as goal
 
 abbrev pub invariant-loop-part : goal.invariant-loop-part

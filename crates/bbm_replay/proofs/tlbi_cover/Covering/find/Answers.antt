@@ -1,6 +1,5 @@
-use Rattle.bbm_replay.proofs.Common.{Heading, core_at, IsSettled, MetFromAll, NamesOne}
+use Rattle.bbm_replay.proofs.Common.{node_in, Heading, core_at, IsSettled, MetFromAll, NamesOne}
 use Rattle.bbm_rules.proofs.Common.{◌≤◌, sym, subst, page_count, Patterns}
-use Rattle.bbm_tree_index.specs.Index.{node_in}
 use Rattle.bbm_replay.specs.OnePage.{FitsSearch}
 use Rattle.bbm_replay.specs.declared.tlbi_cover.Search.{Search}
 use Rattle.bbm_replay.specs.declared.tlbi_cover.TheConstants.{ONE_BY_ONE}
@@ -25,9 +24,8 @@ returns-in_ok-descend_all-in-WayTo-clause-settled c =
     = subst (λ (x : Search). FitsSearch by.named.now.scope c.restless.result x) c.in-WayTo.is c.search.ensures in
     λ yes a broken missed heading h pe op xt issued.
     let m = issued.1 in
-    sym (uncovered heading (c.laws.ensures heading) h (c.law_starts.ensures heading)
-    (c.law_notes_keep_the_events.ensures heading Patterns h) map index by.roots.now pe op xt by.named.now m
-    c.restless.ensures.aligned c.in-WayTo.page one (IsSettled map by items)
+    sym (uncovered (c.laws.ensures heading) (c.law_starts.ensures heading)
+    (c.law_notes_keep_the_events.ensures heading Patterns h) m c.restless.ensures.aligned c.in-WayTo.page one (IsSettled map by items)
     (λ r at covers. subst (λ (x : Heading). MetFromAll (node_in index) (core_at map) c.in-WayTo.page r.page
     (page_count x.world r.kind) (IsSettled map by items)) issued.0 (met heading h r m.stands at covers))
     a broken (λ has. sym (has broken missed heading h pe op xt issued)))

@@ -1,6 +1,6 @@
 use Rattle.bbm_replay.proofs.Common.{Noted, state_from, notes}
-use Rattle.bbm_rules.proofs.Common.{err_from_is_err_and}
-use Rattle.bbm_rules.proofs.Common.{ℕ, List, None, ◌∙◌, ap, subst, slice_get, Cover, Patterns, cover_at, Tlbi}
+use Rattle.bbm_rules.proofs.Common.{err_from_is_err_and, ℕ, List, None, ◌∙◌, ap, subst, slice_get, Cover, Patterns}
+use Rattle.bbm_rules.proofs.Common.{cover_at, Tlbi}
 use Rattle.bbm_place_map.specs.Map.{marks_at, pends_at}
 use Rattle.bbm_replay.proofs.Findings.{on_ok}
 use Rattle.bbm_replay.proofs.Noting.{not_noted}

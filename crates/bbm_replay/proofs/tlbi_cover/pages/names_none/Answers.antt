@@ -1,7 +1,6 @@
 use Rattle.bbm_replay.proofs.Common.{Path}
 use Rattle.bbm_rules.proofs.Common.{◌≡◌, ◌+◌, ◌*◌, ◌≤◌, arith, ap, ◌∙◌, Option, Extent, input_pages, leb-true}
-use Rattle.bbm_rules.proofs.Common.{names_some}
-use Rattle.bbm_rules.proofs.Common.{region_of}
+use Rattle.bbm_rules.proofs.Common.{names_some, region_of}
 use Rattle.bbm_replay.proofs.Skips.{far, names_above, product_within}
 use Rattle.bbm_replay.proofs.tlbi_cover.pages.names_none.Goals as goal
 
