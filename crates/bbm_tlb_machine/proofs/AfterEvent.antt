@@ -62,35 +62,32 @@ publication_after heading place p n since b k = by k.newer k.split
       publishes = k.publishes;
     })
 
+none_split : (newer older : List Noted) (n : Noted) → [] ≡ newer ++ n ∷ older → ⊥
+none_split [] older n s = cc
+none_split (y ∷ newer) older n s = cc
+
 pub no_publication : (heading : Heading) (place p : ℕ) (b : Noted) → Publication heading place p [] b → ⊥
-no_publication heading place p b k = by k.newer k.split
-  where
-    by : (newer : List Noted) → [] ≡ newer ++ b ∷ (k.between ++ k.write ∷ k.older) → ⊥
-    by [] s = cc
-    by (y ∷ newer) s = cc
+no_publication heading place p b k = none_split k.newer (k.between ++ k.write ∷ k.older) b k.split
 
 module _ (heading : Heading) (trust : Trust) (k : Known heading trust) (place p : ℕ) where
   -- what is published before a TLBI is published after it, and after its answer
   pub publication_before : (q : ℕ) (since : List Noted) (t : Issued Noted) (b : Noted) → Open event_of q since t
       → Publication heading place p t.before b → Publication heading place p since b
   publication_before q since t b o published =
-      subst (λ (xs : List Noted). Publication heading place p xs b) (sym o.split)
-      (k.patterns_stay.publication place p o.newer (t.tlbi ∷ t.before) b
+      rw o.split (k.patterns_stay.publication place p o.newer (t.tlbi ∷ t.before) b
       (k.patterns_stay.publication place p (t.tlbi ∷ []) t.before b published))
 
   pub publication_answered : (since : List Noted) (t : Issued Noted) (d b : Noted) → Answer since t d
       → Publication heading place p t.before b → Publication heading place p since b
   publication_answered since t d b a published =
-      subst (λ (xs : List Noted). Publication heading place p xs b) (sym a.split)
-      (k.patterns_stay.publication place p a.newer (d ∷ a.older) b
+      rw a.split (k.patterns_stay.publication place p a.newer (d ∷ a.older) b
       (k.patterns_stay.publication place p (d ∷ []) a.older b (publication_before a.q a.older t b a.is_open published)))
 
   -- what is half before a TLBI is half after it
   pub half_before : (q : ℕ) (since : List Noted) (t2 : Issued Noted) (b : Noted) (t : Issued Noted) (d : Noted)
       → Open event_of q since t2 → HalfBy heading place p t2.before b t d → HalfBy heading place p since b t d
   half_before q since t2 b t d o half =
-      subst (λ (xs : List Noted). HalfBy heading place p xs b t d) (sym o.split)
-      (k.patterns_stay.half place p o.newer (t2.tlbi ∷ t2.before) b t d
+      rw o.split (k.patterns_stay.half place p o.newer (t2.tlbi ∷ t2.before) b t d
       (k.patterns_stay.half place p (t2.tlbi ∷ []) t2.before b t d half))
 
 -- ---- answers
@@ -134,8 +131,4 @@ answer_after n since t d k = by k.newer k.split
         })
 
 pub no_answer : (t : Issued Noted) (d : Noted) → Answer [] t d → ⊥
-no_answer t d k = by k.newer k.split
-  where
-    by : (newer : List Noted) → [] ≡ newer ++ d ∷ k.older → ⊥
-    by [] s = cc
-    by (y ∷ newer) s = cc
+no_answer t d k = none_split k.newer k.older d k.split

@@ -1,24 +1,23 @@
 -- A TLBI that covers a place of a part, and that was issued after the entry was made, takes the entry.
 use Rattle.bbm_rules.proofs.Common.{◌≡◌, ℕ, suc, ◌+◌, ◌-◌, ◌<◌, ◌≤◌, ◌⊎◌, Bool, true, false, List, [], ◌∷◌, ◌++◌}
-use Rattle.bbm_rules.proofs.Common.{length, Option, Some, None, is_some, Contains, refl, sym, ◌∙◌, ap, subst, inl, inr}
-use Rattle.bbm_rules.proofs.Common.{arith, true≢false, length-append, Kind, Extent, holds, desc_of, Desc, read_through}
-use Rattle.bbm_rules.proofs.Common.{tag_of, Cover, PlaceView, keeps, Trust, seen, is_global, noted, view_at, ValidWrite}
-use Rattle.bbm_rules.proofs.Common.{held, last_valid, ◌>>=◌, Noted, events_of, IsLastValid, Publication, page_of}
-use Rattle.bbm_rules.proofs.Common.{Heading, Ttbr0, Ttbr1, Event, Issued, Open, tag_set, tags_of, Node, held_at}
-use Rattle.bbm_rules.proofs.Common.{is_childless, next_in, next_of, node_of, region_of, region_start, Childless}
+use Rattle.bbm_rules.proofs.Common.{length, Some, None, is_some, Contains, refl, sym, ◌∙◌, ap, subst, inl, inr, arith}
+use Rattle.bbm_rules.proofs.Common.{true≢false, length-append, Extent, holds, desc_of, Desc, read_through, Cover}
+use Rattle.bbm_rules.proofs.Common.{PlaceView, keeps, Trust, seen, is_global, noted, view_at, ValidWrite, held}
+use Rattle.bbm_rules.proofs.Common.{last_valid, Noted, events_of, IsLastValid, Publication, page_of, Heading, Ttbr0}
+use Rattle.bbm_rules.proofs.Common.{Ttbr1, Event, Issued, Open, tag_set, tags_of, Node, is_childless, next_in, next_of}
+use Rattle.bbm_rules.proofs.Common.{node_of, region_of, Childless}
 use Rattle.std.proofs.lemmas.List.{append_assoc, append_cancel_left}
-use Rattle.bbm_tlbi_scope.specs.Agreement.{Agrees, EndsBy, HasTag}
+use Rattle.bbm_tlbi_scope.specs.Agreement.{Agrees, EndsBy}
 use Rattle.bbm_tlbi_scope.specs.declared.entry.Cover.TheVariants.{None as NoCover}
 use Rattle.bbm_rules.specs.Notes.{event_of}
 use Rattle.bbm_rules.specs.Prelude.{input_pages}
 use Rattle.bbm_rules.specs.Tree.{tree}
 use Rattle.bbm_histories.specs.TreeChanges.{HeldBy, View}
-use Rattle.bbm_tlb_machine.specs.Entry.{Entry, Part, desc_in, head_of, is_leaf, parts_of, region_in, tag_of_entry}
+use Rattle.bbm_tlb_machine.specs.Entry.{Entry, Part, desc_in, head_of, is_leaf, parts_of, region_in}
 use Rattle.bbm_tlb_machine.specs.Invariant.{Fine, Holding, IsAt, IsBelow, IsNear}
 use Rattle.bbm_tlb_machine.specs.KnownOfMachine.{Known}
 use Rattle.bbm_tlb_machine.proofs.Descs.{leaf_if_no_table, no_leaf_if_table, some_pages}
-use Rattle.bbm_histories.proofs.Induction.{events_append, kept_before}
-use Rattle.bbm_tlb_machine.proofs.Elements.{events_length}
+use Rattle.bbm_histories.proofs.Induction.{events_append, kept_before, events_length}
 use Rattle.bbm_tlb_machine.proofs.Facts.{has_tag, held_there, means, no_global, tag_then}
 use Rattle.bbm_tlb_machine.proofs.Regions.{chain_kind, inside_of, last_or_above, region_holds}
 use Rattle.bbm_tlb_machine.proofs.Scopes.{CoversBy, covers_by}
@@ -66,13 +65,7 @@ module _ (heading : Heading) (trust : Trust) (k : Known heading trust) (h : List
     kind_of_last = at.kind ∙ chain_kind x.last x.above f.shape.chained part i
 
     same_region : region_in part ≡ region_of (f.placed part i).node part.place
-    same_region = by part.first part.level (region_start n part.place) n.level (sym at.region) (sym at.level)
-      where
-        by : (a l b m : ℕ) → a ≡ b → l ≡ m
-            → (let e : Extent = record { lo = a; hi = a + input_pages l - 1 } in e) ≡ (let e : Extent = record { lo = b; hi = b + input_pages m - 1 } in e)
-        by a l b m e g =
-            ap (λ (c : ℕ). let e : Extent = record { lo = c; hi = c + input_pages l - 1 } in e) e
-            ∙ ap (λ (c : ℕ). let e : Extent = record { lo = b; hi = b + input_pages c - 1 } in e) g
+    same_region = rw (at.region, at.level)
 
     -- a place that holds no table is that of the last part
     is_last : is_some (next_in (desc_in part)) ≡ false → x.last ≡ part
@@ -109,8 +102,7 @@ module _ (heading : Heading) (trust : Trust) (k : Known heading trust) (h : List
             let nexts : Some c.next ≡ Some (page_of r.0.place) = sym c.table ∙ (ap next_in means_it ∙ r.2.inside) in
             let page : c.next ≡ page_of r.0.place = cc in
             let holds : held heading trust n.kind (suc n.level) r.0.place notes ≡ Some q.value
-            = ap (λ (l : Kind). held heading trust l (suc n.level) r.0.place notes) (at.kind ∙ sym r.2.kind)
-            ∙ (ap (λ (l : ℕ). held heading trust r.0.kind l r.0.place notes) (ap suc at.level ∙ sym r.2.level) ∙ q.holds) in
+            = rw (at.kind, at.level, ← r.2.kind, ← r.2.level) q.holds in
             let apart : None ≡ Some q.value = sym (c.holds_none r.0.place (sym page)) ∙ holds in
             cc
 
@@ -137,10 +129,8 @@ module _ (heading : Heading) (trust : Trust) (k : Known heading trust) (h : List
         → Agrees (head_of x) (view_of heading trust older n part.place value)
     agrees older newer split since still = record {
       kind = ap (read_through x.kind) kind_of_last ∙ f.shape.fits;
-      tag = subst (λ (c : Kind). HasTag (tag_set (tags_of heading trust n.root (events_of older))) (tag_of c (head_of x))) (sym kind_of_last)
-          (subst (λ (r : ℕ). HasTag (tag_set (tags_of heading trust r (events_of older))) (tag_of_entry x)) (sym at.root)
-          (has_tag heading trust k h kept x (events_of older)
-          (tag_then heading trust k h kept x f.tagged newer (events_of older) split since)));
+      tag = rw (kind_of_last, at.root) (has_tag heading trust k h kept x (events_of older)
+          (tag_then heading trust k h kept x f.tagged newer (events_of older) split since));
       ending = ends older still;
       region = nonempty x.last.first (input_pages x.last.level) (some_pages x.last.level);
       lower = λ (e : n.kind ≡ Ttbr0). no_global heading trust k h kept x f (sym kind_of_last ∙ e);
@@ -165,8 +155,7 @@ module _ (heading : Heading) (trust : Trust) (k : Known heading trust) (h : List
         in_tree = (f.placed part i).in_tree;
         inside = at.inside;
         holds = held_there heading trust k h kept x part n at value (f.holding part i).holds;
-        is_last = ap (λ (c : Kind). last_valid c n.level part.place notes) at.kind
-            ∙ (ap (λ (l : ℕ). last_valid part.kind l part.place notes) at.level ∙ last);
+        is_last = rw (at.kind, at.level) last;
       }
 
       view : View heading trust (noted heading trust h) (f.placed part i).node part.place (f.holding part i).value o.newer t.before t.tlbi
@@ -193,10 +182,7 @@ module _ (heading : Heading) (trust : Trust) (k : Known heading trust) (h : List
           (subst (λ (xs : List Noted). Contains (tree heading trust xs) n) is_noted view.was.in_tree))
 
       view_then : view_at heading trust view.older part.place ≡ Some (view_of heading trust view.older (f.placed part i).node part.place (f.holding part i).value)
-      view_then =
-          ap (λ (m : Option Node). m >>= (λ (n : Node). held_at heading trust view.older n part.place
-          >>= (λ (value : ℕ). Some (view_of heading trust view.older n part.place value)))) node_then
-          ∙ ap (λ (v : Option ℕ). v >>= (λ (value : ℕ). Some (view_of heading trust view.older (f.placed part i).node part.place value))) view.was.holds
+      view_then = rw (node_then, view.was.holds)
 
       covers : CoversBy heading view.older t.tlbi.event (view_of heading trust view.older (f.placed part i).node part.place (f.holding part i).value) cover
       covers =

@@ -1,41 +1,30 @@
 -- What values of one core have in common, and what is known of tables and leaves.
-use Rattle.bbm_rules.proofs.Common.{◌≡◌, ℕ, zero, suc, ◌+◌, ◌-◌, ◌*◌, ◌/◌, ◌^◌, ◌≤◌, Bool, true, false, cond, ◌==◌}
-use Rattle.bbm_rules.proofs.Common.{Some, is_some, refl, sym, ◌∙◌, ap, subst, arith, true≢false, false_from_ne_true}
-use Rattle.bbm_rules.proofs.Common.{not-false, Kind, Form, core_in, desc_as, desc_of, desc_with, differ, form_of}
-use Rattle.bbm_rules.proofs.Common.{is_valid, needs, same_core, valid_form, type_bits, Core, Desc, Invalid, Table, Leaf}
-use Rattle.bbm_rules.proofs.Common.{Trust, Heading, next_in, next_of}
+use Rattle.bbm_rules.proofs.Common.{◌≡◌, ℕ, suc, ◌+◌, ◌-◌, ◌*◌, ◌/◌, ◌^◌, ◌≤◌, true, false, Some, is_some, refl, sym}
+use Rattle.bbm_rules.proofs.Common.{◌∙◌, ap, subst, arith, true≢false, false_from_ne_true, not-false, Kind, Form}
+use Rattle.bbm_rules.proofs.Common.{core_in, desc_as, desc_of, desc_with, differ, form_of, is_valid, needs, same_core}
+use Rattle.bbm_rules.proofs.Common.{valid_form, Core, Desc, Invalid, Table, Leaf, Trust, Heading, next_in, next_of}
 use Rattle.bbm_descriptor.specs.declared.desc.Core.TheVariants.{Table as CoreTable, Leaf as CoreLeaf}
 use Rattle.bbm_rules.specs.Prelude.{input_pages}
 use Rattle.bbm_tlb_machine.specs.Entry.{is_leaf}
 use Rattle.bbm_tlb_machine.specs.KnownOfMachine.{Known}
+use Rattle.bbm_tlb_machine.proofs.PartLemmas.{none_at}
 
 not_invalid : (form : Form) (kind : Kind) (level value : ℕ) → valid_form form ≡ true → desc_as form kind level value ≡ Invalid → ⊥
 not_invalid Form.invalid kind level value v e = true≢false (sym v)
-not_invalid Form.table kind level value v e = cc
-not_invalid Form.leaf kind level value v e = cc
+not_invalid form kind level value v e = cc
 
 -- a table stands above level 3, and its next page translates a part of its region by each of 512 places
 pub pages_below : (kind : Kind) (level value next : ℕ) → next_of kind level value ≡ Some next
     → input_pages level ≡ 512 * input_pages (suc level)
-pages_below kind zero value next e = refl
-pages_below kind (suc zero) value next e = refl
-pages_below kind (suc (suc zero)) value next e = refl
-pages_below kind (suc (suc (suc level))) value next e =
-    absurd (by (type_bits value == 3) (type_bits value == 1) e)
-  where
-    by : (b c : Bool) → next_in (desc_as (cond b Form.leaf (cond c Form.invalid Form.invalid)) kind (suc (suc (suc level))) value) ≡ Some next → ⊥
-    by true c k = cc
-    by false true k = cc
-    by false false k = cc
+pages_below kind (suc (suc (suc level))) value next e = let none = none_at kind level value in cc
+pages_below kind level value next e = refl
 
 pub some_pages : (level : ℕ) → 1 ≤ input_pages level
-some_pages zero = omega arith
-some_pages (suc zero) = omega arith
-some_pages (suc (suc zero)) = omega arith
 some_pages (suc (suc (suc level))) =
     let none : 3 - suc (suc (suc level)) ≡ 0 = omega arith in
     let one : 1 ≤ 2 ^ (12 + 9 * 0) / 4096 = omega arith in
     subst (λ (n : ℕ). 1 ≤ 2 ^ (12 + 9 * n) / 4096) (sym none) one
+some_pages level = omega arith
 
 pub leaf_if_no_table : (kind : Kind) (level value : ℕ) → is_valid kind level value ≡ true
     → is_some (next_in (desc_of kind level value)) ≡ false → is_leaf (desc_of kind level value) ≡ true
@@ -62,13 +51,11 @@ module _ (law : CoreLaw) where
 
   same_in : (d d' : Desc) → (d ≡ Invalid → ⊥) → (d' ≡ Invalid → ⊥) → differ (core_in d) (core_in d') ≡ false → d ≡ d'
   same_in Invalid d' n m e = absurd (n refl)
-  same_in (Table next ns) Invalid n m e = absurd (m refl)
-  same_in (Leaf out attrs share global contiguous) Invalid n m e = absurd (m refl)
+  same_in d Invalid n m e = absurd (m refl)
   same_in (Table next ns) (Table next' ns') n m e = cores_same (CoreTable next ns) (CoreTable next' ns') e
-  same_in (Table next ns) (Leaf out attrs share global contiguous) n m e = absurd (true≢false e)
-  same_in (Leaf out attrs share global contiguous) (Table next ns) n m e = absurd (true≢false e)
   same_in (Leaf out attrs share global contiguous) (Leaf out' attrs' share' global' contiguous') n m e =
       cores_same (CoreLeaf out attrs share global contiguous) (CoreLeaf out' attrs' share' global' contiguous') e
+  same_in d d' n m e = absurd (true≢false e)
 
   -- valid values that don't need break-before-make mean the same, but for what is in no core
   pub means_same : (kind : Kind) (level a c : ℕ) → is_valid kind level a ≡ true → is_valid kind level c ≡ true
@@ -78,13 +65,9 @@ module _ (law : CoreLaw) where
       (not_invalid (form_of level c) kind level c vc) e
 
 module _ (heading : Heading) (trust : Trust) (k : Known heading trust) where
-  pub same_desc : (kind : Kind) (level a c : ℕ) → is_valid kind level a ≡ true → is_valid kind level c ≡ true
-      → needs kind level a c ≡ false → desc_of kind level a ≡ desc_of kind level c
-  same_desc = means_same k.same_cores
-
   -- two values that have the core of a third one
   pub no_need : (kind : Kind) (level c u v : ℕ) → is_valid kind level c ≡ true → needs kind level c u ≡ false
       → needs kind level c v ≡ false → needs kind level u v ≡ false
   no_need kind level c u v valid eu ev =
       false_from_ne_true (needs kind level u v) (λ y. let parts = k.need kind level u v y in
-      parts.2 (ap core_in (sym (same_desc kind level c u valid parts.0 eu) ∙ same_desc kind level c v valid parts.1 ev)))
+      parts.2 (ap core_in (sym (means_same k.same_cores kind level c u valid parts.0 eu) ∙ means_same k.same_cores kind level c v valid parts.1 ev)))

@@ -3,7 +3,7 @@ use Rattle.bbm_rules.proofs.Common.{◌≡◌, ℕ, suc, ◌≤◌, true, false,
 use Rattle.bbm_rules.proofs.Common.{Contains, refl, sym, ◌∙◌, ap, subst, inl, inr, arith, bind_some, Kind, needs}
 use Rattle.bbm_rules.proofs.Common.{tag_of, EntryHead, keeps, Trust, note, noted, ValidWrite, cleansed_everywhere, held}
 use Rattle.bbm_rules.proofs.Common.{last_valid, last_valid_after, later, IsLastValid, Heading, El2, S2, Ttbr0, Ttbr1}
-use Rattle.bbm_rules.proofs.Common.{Event, Dsb, is_root, Node, held_at}
+use Rattle.bbm_rules.proofs.Common.{Event, Dsb, is_root, held_at}
 use Rattle.bbm_histories.specs.TagSteps.{kind_of_tag}
 use Rattle.bbm_histories.specs.TreeChanges.{HeldChange}
 use Rattle.bbm_tlb_machine.specs.Entry.{Entry, Part, head_of, parts_of, tag_of_entry}
@@ -24,6 +24,8 @@ tag_kind Ttbr1 e = refl
 
 module _ (heading : Heading) (trust : Trust) (k : Known heading trust) (h : List Event) (e : Event)
     (kept : keeps heading trust (e ∷ h) ≡ true) (x : Entry) (f : Fine heading trust h x) (none : LeavesIt heading h e x) where
+  open f.shape use {is_pe, fits, begins, chained, valid}
+
   kept_then : keeps heading trust h ≡ true
   kept_then = kept_before heading trust (e ∷ []) h kept
 
@@ -60,14 +62,8 @@ module _ (heading : Heading) (trust : Trust) (k : Known heading trust) (h : List
     holding_after = by (k.held_changes.changes h e k.proper.some_pe kept (f.placed part i).node part.place
         (f.placed part i).in_tree (f.placed part i).is_at.inside)
       where
-        n : Node
-        n = (f.placed part i).node
-
         at : IsAt (f.placed part i).node x.root part
         at = (f.placed part i).is_at
-
-        q : Holding heading trust h part
-        q = f.holding part i
 
         was : held_at heading trust (noted heading trust h) (f.placed part i).node part.place ≡ Some (f.holding part i).value
         was = held_there heading trust k h kept_then x part (f.placed part i).node at (f.holding part i).value (f.holding part i).holds
@@ -92,9 +88,7 @@ module _ (heading : Heading) (trust : Trust) (k : Known heading trust) (h : List
               holds = there ∙ w.4;
               same_core = no_need heading trust k part.kind part.level (f.holding part i).value w.1 part.value
                   (held_valid heading trust k h kept_then x part (f.holding part i))
-                  (subst (λ (c : Kind). needs c part.level (f.holding part i).value w.1 ≡ false) at.kind
-                  (subst (λ (l : ℕ). needs (f.placed part i).node.kind l (f.holding part i).value w.1 ≡ false) at.level no))
-                  (f.holding part i).same_core;
+                  (rw (at.kind, at.level) at no) (f.holding part i).same_core;
             }
         by (inr (inr d)) = absurd (still_held (Dsb d.0 d.1) d.2 (λ found. refl) (there ∙ d.3))
 
@@ -108,15 +102,7 @@ module _ (heading : Heading) (trust : Trust) (k : Known heading trust) (h : List
       (k.tags.root (e ∷ h) k.proper kept x.root (tag_of_entry x)
       (tag_now heading trust k (e ∷ h) kept x tagged made)) in
       record {
-        shape = record {
-          is_pe = f.shape.is_pe;
-          made = made;
-          joined = joined;
-          fits = f.shape.fits;
-          begins = f.shape.begins;
-          chained = f.shape.chained;
-          valid = f.shape.valid;
-        };
+        shape = record { is_pe = is_pe; made = made; joined = joined; fits = fits; begins = begins; chained = chained; valid = valid };
         placed = all_placed heading trust k (e ∷ h) kept x x.last.kind declared x.last x.above refl f.shape.begins f.shape.chained
             holding_after f.shape.valid;
         holding = holding_after;

@@ -1,16 +1,38 @@
 -- What a fine entry gives at once: the node, the value and the tag of its parts, in one place.
-use Rattle.bbm_rules.proofs.Common.{◌≡◌, ℕ, ◌≤◌, true, false, List, [], ◌++◌, length, Some, refl, sym, ◌∙◌, ap, arith}
-use Rattle.bbm_rules.proofs.Common.{true≢false, and_right, Kind, desc_of, is_valid, TagSet, One, Many, keeps, Trust}
-use Rattle.bbm_rules.proofs.Common.{is_global, noted, held, Noted, Heading, Ttbr0, Event, holds_at, holds_tag, tag_set}
-use Rattle.bbm_rules.proofs.Common.{tags_of, Node, held_at, pe_finds, contains_head}
+use Rattle.bbm_rules.proofs.Common.{◌≡◌, suc, ◌+◌, ◌∷◌, length-append, ℕ, ◌≤◌, true, false, List, [], ◌++◌, length}
+use Rattle.bbm_rules.proofs.Common.{Some, refl, sym, ◌∙◌, ap, arith, true≢false, and_right, desc_of, is_valid, TagSet}
+use Rattle.bbm_rules.proofs.Common.{One, Many, keeps, Trust, is_global, noted, held, Noted, Heading, Ttbr0, Event}
+use Rattle.bbm_rules.proofs.Common.{holds_at, holds_tag, tag_set, tags_of, Node, held_at, pe_finds, contains_head}
 use Rattle.bbm_tlbi_scope.specs.Agreement.{HasTag}
 use Rattle.bbm_tlbi_scope.specs.declared.entry.TagSet.TheVariants.{None as NoTag}
 use Rattle.bbm_tlbi_scope.specs.Takes.{is_global_leaf}
 use Rattle.bbm_tlb_machine.specs.Entry.{Entry, Part, desc_in, head_of, is_leaf, tag_of_entry}
 use Rattle.bbm_tlb_machine.specs.Invariant.{Fine, Holding, IsAt, Placed, Tagged}
 use Rattle.bbm_tlb_machine.specs.KnownOfMachine.{Known}
-use Rattle.bbm_tlb_machine.proofs.Descs.{same_desc}
-use Rattle.bbm_tlb_machine.proofs.Elements.{Between, between_splits}
+use Rattle.bbm_tlb_machine.proofs.Descs.{means_same}
+
+-- of two splits of one list, that with the longer second part lies before the other
+record Between {X : Type 0} (newer older first rest : List X) : Type 0 where
+  between : List X
+  start : first ≡ newer ++ between
+  end : older ≡ between ++ rest
+
+between_splits : {X : Type 0} (newer older first rest : List X) → newer ++ older ≡ first ++ rest → length rest ≤ length older
+    → Between newer older first rest
+between_splits [] older first rest e le = record { between = first; start = refl; end = e }
+between_splits (n ∷ newer) older [] rest e le =
+    let long : length (newer ++ older) ≡ length newer + length older = length-append newer older in
+    let same : suc (length (newer ++ older)) ≡ length rest = ap length e in
+    absurd (omega (arith, long, same, le))
+between_splits {X} (n ∷ newer) older (y ∷ first) rest e le =
+    let head : n ≡ y = cc in
+    let tail : newer ++ older ≡ first ++ rest = cc in
+    let b : Between newer older first rest = between_splits newer older first rest tail le in
+    record {
+      between = b.between;
+      start = ap (λ (z : X). z ∷ first) (sym head) ∙ ap (λ (zs : List X). n ∷ zs) b.start;
+      end = b.end;
+    }
 
 module _ (heading : Heading) (trust : Trust) (k : Known heading trust) (h : List Event) (kept : keeps heading trust h ≡ true) (x : Entry) where
   abbrev notes : List Noted
@@ -20,9 +42,7 @@ module _ (heading : Heading) (trust : Trust) (k : Known heading trust) (h : List
   pub held_there : (part : Part) (n : Node) → IsAt n x.root part → (value : ℕ)
       → held heading trust part.kind part.level part.place notes ≡ Some value
       → held_at heading trust notes n part.place ≡ Some value
-  held_there part n a value e =
-      ap (λ (c : Kind). held heading trust c n.level part.place notes) a.kind
-      ∙ (ap (λ (l : ℕ). held heading trust part.kind l part.place notes) a.level ∙ e)
+  held_there part n a value e = rw (a.kind, a.level) e
 
   pub held_valid : (part : Part) (q : Holding heading trust h part) → is_valid part.kind part.level q.value ≡ true
   held_valid part q = (k.held.sound part.kind part.level part.place notes q.value q.holds).last_write.valid
@@ -31,9 +51,7 @@ module _ (heading : Heading) (trust : Trust) (k : Known heading trust) (h : List
   pub means : (part : Part) (n : Node) → IsAt n x.root part → (q : Holding heading trust h part)
       → is_valid part.kind part.level part.value ≡ true → desc_of n.kind n.level q.value ≡ desc_in part
   means part n a q valid =
-      ap (λ (c : Kind). desc_of c n.level q.value) a.kind
-      ∙ (ap (λ (l : ℕ). desc_of part.kind l q.value) a.level
-      ∙ same_desc heading trust k part.kind part.level q.value part.value (held_valid part q) valid q.same_core)
+      rw (a.kind, a.level) (means_same k.same_cores part.kind part.level q.value part.value (held_valid part q) valid q.same_core)
 
   -- the root holds the entry's tag at each moment since the entry was made
   pub tag_then : Tagged heading trust h x → (newer older : List Event) → h ≡ newer ++ older → x.since ≤ length older

@@ -8,10 +8,9 @@ use Rattle.bbm_tlb_machine.specs.declared.step.Step.{Step}
 use Rattle.bbm_tlb_machine.specs.declared.step.Step.TheVariants.{Machine, Event as Taken}
 use Rattle.bbm_tlb_machine.specs.Entry.{Entry}
 use Rattle.bbm_tlb_machine.specs.Followed.{Followed, Follows, GoesOn, entry_made, found}
-use Rattle.bbm_tlb_machine.specs.MachinePendings.{IsPending, Pending}
-use Rattle.bbm_tlb_machine.specs.MachineRun.{Living, State, after_event, follow_steps, next_in, or_index, step_to}
-use Rattle.bbm_tlb_machine.specs.MachineRun.{with_entry}
-use Rattle.bbm_tlb_machine.specs.Safe.{conflicts_with, earlier, fails_at, first_conflict, in_conflict}
+use Rattle.bbm_tlb_machine.specs.MachinePendings.{IsPending}
+use Rattle.bbm_tlb_machine.specs.MachineRun.{Living, State, after_event, follow_steps, next_in, step_to, with_entry}
+use Rattle.bbm_tlb_machine.specs.Safe.{conflicts_with, earlier, first_conflict, in_conflict}
 use Rattle.bbm_tlb_machine.specs.Step.{combined, extended, is_stage2, may_extend, may_share, shared}
 
 if_so_with : (s : State) (b : Bool) (y x : Entry) → Some x ≡ if_so b y → if_so b (with_entry s y) ≡ Some (with_entry s x)
@@ -41,14 +40,11 @@ earlier_none (Some i) = refl
 module _ (heading : Heading) (older : List Step) (i : ℕ) (old new : Followed) where
   runs : (step : Step) → follow_steps heading older ≡ Ok old.state → step_to heading old.state step ≡ Some new.state
       → follow_steps heading (step ∷ older) ≡ Ok new.state
-  runs step r k =
-      ap (λ (r : Result State ℕ). next_in heading r step (length older)) r ∙ ap (λ (o : Option State). or_index o (length older)) k
+  runs step r k = rw (r, k)
 
   stops : (step : Step) → length older ≡ i → follow_steps heading older ≡ Ok old.state → step_to heading old.state step ≡ None
       → follow_steps heading (step ∷ older) ≡ Err i
-  stops step n r k =
-      ap (λ (r : Result State ℕ). next_in heading r step (length older)) r
-      ∙ (ap (λ (o : Option State). or_index o (length older)) k ∙ ap Err n)
+  stops step n r k = rw (r, k) (ap Err n)
 
   pub line_on : (line : MachineLine) (done : Bool) → length older ≡ i → Follows heading older old
       → step_to heading old.state (Machine line) ≡ if_so done new.state
@@ -56,10 +52,8 @@ module _ (heading : Heading) (older : List Step) (i : ℕ) (old new : Followed) 
       → GoesOn heading (Machine line ∷ older) i new done
   line_on line true n f k log pending conflict = record {
     run = runs (Machine line) f.run k;
-    unanswered = subst (λ (h : List Event). IsPending heading h new.pending) (sym log)
-        (subst (λ (ps : List Pending). IsPending heading old.state.log ps) (sym pending) f.unanswered);
-    conflict = ap (λ (r : Result State ℕ). earlier (first_conflict heading older) (if_so (fails_at heading r (Machine line)) (length older))) f.run
-        ∙ (earlier_none (first_conflict heading older) ∙ (f.conflict ∙ sym conflict));
+    unanswered = rw (log, pending) f.unanswered;
+    conflict = rw (f.run) (earlier_none (first_conflict heading older) ∙ (f.conflict ∙ sym conflict));
   }
   line_on line false n f k log pending conflict = stops (Machine line) n f.run k
 
@@ -71,9 +65,7 @@ module _ (heading : Heading) (older : List Step) (i : ℕ) (old new : Followed) 
   event_on e true n f k pending conflict = record {
     run = runs (Taken e) f.run k;
     unanswered = pending refl;
-    conflict = ap (λ (r : Result State ℕ). earlier (first_conflict heading older) (if_so (fails_at heading r (Taken e)) (length older))) f.run
-        ∙ (ap (λ (o : Option ℕ). earlier o (if_so (in_conflict heading old.state e) (length older))) f.conflict
-        ∙ (ap (λ (m : ℕ). earlier old.conflict (if_so (in_conflict heading old.state e) m)) n ∙ sym (conflict refl)));
+    conflict = rw (f.run, f.conflict, n) (sym (conflict refl));
   }
   event_on e false n f k pending conflict = stops (Taken e) n f.run k
 

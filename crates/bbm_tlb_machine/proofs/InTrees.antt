@@ -2,8 +2,8 @@
 -- of what was read.
 use Rattle.bbm_rules.proofs.Common.{◌≡◌, ℕ, suc, ◌+◌, ◌*◌, ◌<◌, true, List, [], ◌∷◌, Some, Contains, refl, sym, ◌∙◌, ap}
 use Rattle.bbm_rules.proofs.Common.{subst, inl, inr, Kind, is_valid, keeps, Trust, noted, Noted, index_of, page_of}
-use Rattle.bbm_rules.proofs.Common.{Heading, Event, is_root, roots_of, Node, next_in, next_of, node_below}
-use Rattle.bbm_rules.proofs.Common.{nodes_of_root, contains_cases, contains_head, contains_more, contains_none}
+use Rattle.bbm_rules.proofs.Common.{Heading, Event, is_root, Node, next_in, next_of, node_below, nodes_of_root}
+use Rattle.bbm_rules.proofs.Common.{contains_cases, contains_head, contains_more, contains_none}
 use Rattle.bbm_rules.specs.Prelude.{input_pages}
 use Rattle.bbm_tlb_machine.specs.Entry.{Entry, Part}
 use Rattle.bbm_tlb_machine.specs.Invariant.{Begins, Chained, Holding, IsAt, IsBelow, Placed, start_nodes}
@@ -18,15 +18,12 @@ module _ (heading : Heading) (trust : Trust) (k : Known heading trust) (h : List
       → Contains (start_nodes heading part.kind x.root) n → IsAt n x.root part → Placed heading trust h x.root part
   start_placed kind declared part same n c a =
       let r = k.root.of_kind h kind x.root declared in
-      let there : Contains (nodes_of_root heading r.0) n
-      = subst (λ (p : ℕ). Contains (start_nodes heading r.0.kind p) n) (sym r.2)
-      (subst (λ (s : Kind). Contains (start_nodes heading s x.root) n) (same ∙ sym r.3) c) in
+      let there : Contains (nodes_of_root heading r.0) n = rw (r.2, r.3, ← same) c in
       record {
         node = n;
         in_tree = k.tree.complete notes n (record {
           root = r.0;
-          declared = subst (λ (es : List Event). Contains (roots_of es) r.0) (sym (k.notes_keep_the_events h))
-              (k.root.complete h r.0 r.1);
+          declared = rw (k.notes_keep_the_events h) (k.root.complete h r.0 r.1);
           start = n;
           is_start = there;
           places = [];

@@ -12,7 +12,6 @@ mod CasesShare
 mod CasesVmids
 mod Covered
 pub mod Descs
-mod Elements
 mod EventSteps
 mod Facts
 pub mod FollowSteps

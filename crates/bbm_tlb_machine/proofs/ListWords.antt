@@ -16,8 +16,3 @@ is_none {X} p xs all =
 pub among_numbers : (n : ℕ) (values : List ℕ) → any (λ v. tag_number v == n) values ≡ among n (map tag_number values)
 among_numbers n [] = refl
 among_numbers n (v ∷ values) = ap (λ b. (tag_number v == n) || b) (among_numbers n values)
-
--- a test that never passes
-pub any_none : {X : Type 0} (xs : List X) → false ≡ any (λ (x : X). false) xs
-any_none [] = refl
-any_none (x ∷ xs) = any_none xs

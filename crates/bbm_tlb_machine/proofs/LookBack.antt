@@ -1,65 +1,42 @@
 -- One look back at an event, by the event.
-use Rattle.bbm_rules.proofs.Common.{◌≡◌, ℕ, suc, ◌+◌, ◌<◌, Bool, true, false, cond, ◌&&◌, ◌||◌, ◌==◌, List, [], ◌∷◌}
-use Rattle.bbm_rules.proofs.Common.{length, take, drop, get_or, reverse, refl, sym, ◌∙◌, ap, add-one, eq-eqb, or_left}
-use Rattle.bbm_rules.proofs.Common.{reverse-append, take_more, proved, If, Is, among, page_of, Barrier, Heading, Event}
-use Rattle.bbm_rules.proofs.Common.{Init, Write, Dsb, published, publishes_to, readable_before, or-false}
+use Rattle.bbm_rules.proofs.Common.{◌≡◌, ℕ, suc, ◌+◌, ◌<◌, Bool, true, false, ◌&&◌, ◌||◌, ◌==◌, List, [], ◌∷◌, length}
+use Rattle.bbm_rules.proofs.Common.{take, drop, get_or, reverse, refl, sym, ◌∙◌, ap, add-one, eq-eqb, reverse-append}
+use Rattle.bbm_rules.proofs.Common.{take_more, proved, If, Is, among, page_of, Barrier, Heading, Event, Init, Write}
+use Rattle.bbm_rules.proofs.Common.{Dsb, published, publishes_to, readable_before, or-false}
 use Rattle.std.proofs.Common.{drop-cons}
 use Rattle.std.proofs.Math.Bool.{or_comm}
 use Rattle.bbm_rules.specs.Values.{publishes_for}
 use Rattle.bbm_lemmas.proofs.Numbers.{same_swapped}
 
--- a write at the place
-at_write : (v value : ℕ) (rest : List ℕ) (gone : Bool) → (v == value) ≡ false
-    → among value (v ∷ cond gone [] rest) ≡ (cond gone false (among value rest))
-at_write v value rest true e = ap (λ b. b || false) e
-at_write v value rest false e = ap (λ b. b || among value rest) e
-
 -- the look at a write
-pub write_elsewhere : (heading : Heading) (p place value : ℕ) (later older : List Event) (q at v : ℕ) → (at == place) ≡ false
-    → among value (readable_before heading later (Write q at v ∷ older) place p)
-    ≡ among value (readable_before heading (Write q at v ∷ later) older place p)
-write_elsewhere heading p place value later older q at v e =
-    ap (λ b. among value (cond b (v ∷ cond (published heading q p later) [] (readable_before heading (Write q at v ∷ later) older place p))
-    (readable_before heading (Write q at v ∷ later) older place p))) e
+module _ (heading : Heading) (p place value : ℕ) (later older : List Event) (q at v : ℕ) where
+  pub write_elsewhere : (at == place) ≡ false → among value (readable_before heading later (Write q at v ∷ older) place p)
+      ≡ among value (readable_before heading (Write q at v ∷ later) older place p)
+  write_elsewhere e = rw e
 
-pub write_found : (heading : Heading) (p place value : ℕ) (later older : List Event) (q at v : ℕ) → (at == place) ≡ true
-    → (v == value) ≡ true → among value (readable_before heading later (Write q at v ∷ older) place p) ≡ true
-write_found heading p place value later older q at v e k =
-    ap (λ b. among value (cond b (v ∷ cond (published heading q p later) [] (readable_before heading (Write q at v ∷ later) older place p))
-    (readable_before heading (Write q at v ∷ later) older place p))) e
-    ∙ or_left (v == value) _ k
+  pub write_found : (at == place) ≡ true → (v == value) ≡ true
+      → among value (readable_before heading later (Write q at v ∷ older) place p) ≡ true
+  write_found e k = rw (e, k)
 
-pub write_gone : (heading : Heading) (p place value : ℕ) (later older : List Event) (q at v : ℕ) → (at == place) ≡ true
-    → (v == value) ≡ false → published heading q p later ≡ true
-    → among value (readable_before heading later (Write q at v ∷ older) place p) ≡ false
-write_gone heading p place value later older q at v e k gone =
-    ap (λ b. among value (cond b (v ∷ cond (published heading q p later) [] (readable_before heading (Write q at v ∷ later) older place p))
-    (readable_before heading (Write q at v ∷ later) older place p))) e
-    ∙ (at_write v value _ (published heading q p later) k
-    ∙ ap (λ b. cond b false (among value (readable_before heading (Write q at v ∷ later) older place p))) gone)
+  pub write_gone : (at == place) ≡ true → (v == value) ≡ false → published heading q p later ≡ true
+      → among value (readable_before heading later (Write q at v ∷ older) place p) ≡ false
+  write_gone e k gone = rw (e, k, gone)
 
-pub write_further : (heading : Heading) (p place value : ℕ) (later older : List Event) (q at v : ℕ) → (at == place) ≡ true
-    → (v == value) ≡ false → published heading q p later ≡ false
-    → among value (readable_before heading later (Write q at v ∷ older) place p)
-    ≡ among value (readable_before heading (Write q at v ∷ later) older place p)
-write_further heading p place value later older q at v e k gone =
-    ap (λ b. among value (cond b (v ∷ cond (published heading q p later) [] (readable_before heading (Write q at v ∷ later) older place p))
-    (readable_before heading (Write q at v ∷ later) older place p))) e
-    ∙ (at_write v value _ (published heading q p later) k
-    ∙ ap (λ b. cond b false (among value (readable_before heading (Write q at v ∷ later) older place p))) gone)
+  pub write_further : (at == place) ≡ true → (v == value) ≡ false → published heading q p later ≡ false
+      → among value (readable_before heading later (Write q at v ∷ older) place p)
+      ≡ among value (readable_before heading (Write q at v ∷ later) older place p)
+  write_further e k gone = rw (e, k, gone)
 
 -- at an init
-pub init_elsewhere : (heading : Heading) (p place value : ℕ) (later older : List Event) (q page : ℕ) → (page == page_of place) ≡ false
-    → among value (readable_before heading later (Init q page ∷ older) place p)
-    ≡ among value (readable_before heading (Init q page ∷ later) older place p)
-init_elsewhere heading p place value later older q page e =
-    ap (λ b. among value (cond b (0 ∷ []) (readable_before heading (Init q page ∷ later) older place p))) e
+module _ (heading : Heading) (p place value : ℕ) (later older : List Event) (q page : ℕ) where
+  pub init_elsewhere : (page == page_of place) ≡ false
+      → among value (readable_before heading later (Init q page ∷ older) place p)
+      ≡ among value (readable_before heading (Init q page ∷ later) older place p)
+  init_elsewhere e = rw e
 
-pub init_here : (heading : Heading) (p place value : ℕ) (later older : List Event) (q page : ℕ) → (page == page_of place) ≡ true
-    → among value (readable_before heading later (Init q page ∷ older) place p) ≡ (0 == value)
-init_here heading p place value later older q page e =
-    ap (λ b. among value (cond b (0 ∷ []) (readable_before heading (Init q page ∷ later) older place p))) e
-    ∙ or-false (0 == value)
+  pub init_here : (page == page_of place) ≡ true
+      → among value (readable_before heading later (Init q page ∷ older) place p) ≡ (0 == value)
+  init_here e = rw e (or-false (0 == value))
 
 and_one : (a b : Bool) → b ≡ true → (a && b) ≡ a
 and_one = proved 2 (λ a b. If (Is b true) (Is (a && b) a)) refl

@@ -6,12 +6,10 @@ use Rattle.bbm_rules.proofs.Common.{tag_of, EntryKind, Stage2, Combined, keeps, 
 use Rattle.bbm_rules.proofs.Common.{last_valid, is_that, Noted, Cleansed, HalfBy, Publication, page_of, Heading, El2}
 use Rattle.bbm_rules.proofs.Common.{S2, Ttbr0, Ttbr1, Tag, Vmid, Asid, Event, Dsb, Issued, is_root, TakenAway, reads}
 use Rattle.bbm_rules.proofs.Common.{Node, next_of, is_readable, contains_cases, contains_head, contains_none}
-use Rattle.bbm_tlbi_scope.specs.declared.entry.EntryKind.TheVariants.{El2 as El2Entry, El1}
 use Rattle.bbm_rules.specs.Prelude.{kind_in_world}
-use Rattle.bbm_rules.specs.Sentences.{HoldsTag}
 use Rattle.bbm_histories.specs.ValueChanges.{Window}
 use Rattle.bbm_tlb_machine.specs.Entry.{Entry, Part, head_of, parts_of, tag_of_entry}
-use Rattle.bbm_tlb_machine.specs.Invariant.{Fine, Holding, IsAt, IsBelow, IsNear, Placed, Tagged, start_nodes}
+use Rattle.bbm_tlb_machine.specs.Invariant.{Chained, Fine, Holding, IsAt, IsBelow, IsNear, Placed, Tagged, start_nodes}
 use Rattle.bbm_tlb_machine.specs.Safe.{IsLog}
 use Rattle.bbm_tlb_machine.specs.KnownOfMachine.{Known}
 use Rattle.bbm_tlb_machine.specs.Step.{Extends, Starts, combined, entry_kind, extended, first_part, is_stage2}
@@ -37,18 +35,11 @@ kind_fits Ttbr1 = refl
 
 stage2_is : (kind : EntryKind) → is_stage2 kind ≡ true → kind ≡ Stage2
 stage2_is Stage2 e = refl
-stage2_is El2Entry e = absurd (true≢false (sym e))
-stage2_is Combined e = absurd (true≢false (sym e))
-stage2_is El1 e = absurd (true≢false (sym e))
+stage2_is kind e = absurd (true≢false (sym e))
 
 combined_fits : (kind : Kind) → read_through Stage2 kind ≡ true → read_through Combined kind ≡ true
 combined_fits S2 e = refl
-combined_fits El2 e = absurd (true≢false (sym e))
-combined_fits Ttbr0 e = absurd (true≢false (sym e))
-combined_fits Ttbr1 e = absurd (true≢false (sym e))
-
-stage2_apart : Stage2 ≡ Combined → ⊥
-stage2_apart e = cc
+combined_fits kind e = absurd (true≢false (sym e))
 
 that_is : (o : Option ℕ) (n : ℕ) → is_that o n ≡ true → o ≡ Some n
 that_is (Some m) n e = ap Some (eqb-true m n e)
@@ -77,9 +68,7 @@ module _ (heading : Heading) (trust : Trust) (k : Known heading trust) (h : List
           (subst (λ (l : ℕ). needs p.node.kind l win.kept part.value ≡ false) p.is_at.level win.same_core);
     };
     unseen = λ w last q near b published.
-        let is_last : last_valid p.node.kind p.node.level part.place notes ≡ Some w
-        = ap (λ (c : Kind). last_valid c p.node.level part.place notes) p.is_at.kind
-        ∙ (ap (λ (l : ℕ). last_valid part.kind l part.place notes) p.is_at.level ∙ last) in
+        let is_last : last_valid p.node.kind p.node.level part.place notes ≡ Some w = rw (p.is_at.kind, p.is_at.level) last in
         let both : Some win.last ≡ Some w = sym win.is_last ∙ is_last in
         let same : win.last ≡ w = cc in
         let here : Publication heading part.place x.pe w.since b = at_pe q near part.place w.since b published in
@@ -88,9 +77,7 @@ module _ (heading : Heading) (trust : Trust) (k : Known heading trust) (h : List
   }
     where
       valid_there : is_valid p.node.kind p.node.level part.value ≡ true
-      valid_there =
-          subst (λ (c : Kind). is_valid c p.node.level part.value ≡ true) (sym p.is_at.kind)
-          (subst (λ (l : ℕ). is_valid part.kind l part.value ≡ true) (sym p.is_at.level) valid)
+      valid_there = rw (p.is_at.level) valid
 
       win : Window heading trust (noted heading trust h) p.node part.place x.pe part.value
       win = k.window h kept p.node part.place x.pe part.value is_pe p.in_tree p.is_at.inside readable valid_there
@@ -115,20 +102,24 @@ module _ (heading : Heading) (trust : Trust) (k : Known heading trust) (h : List
   new_half x part new w last p near b t d half =
       new.unseen w last p near b (publication_answered heading trust k part.place p w.since t d b half.flush.answer half.published)
 
-  -- what is held under a tag is held under an equal one
-  held_as : (x : Entry) (t : Tagged heading trust h x) (tag : Tag) → tag_of_entry x ≡ tag
-      → (r : HoldsTag heading trust t.pe x.root tag h) × (length r.older ≡ x.since)
-  held_as x t tag e = (
-    record {
+  -- an entry with the root, the moment and the tag of one that is tagged is tagged
+  tagged_as : (x y : Entry) (t : Tagged heading trust h x) → IsNear heading y t.pe → x.root ≡ y.root → x.since ≡ y.since
+      → tag_of_entry x ≡ tag_of_entry y → Tagged heading trust h y
+  tagged_as x y t near root since e = record {
+    pe = t.pe;
+    near = near;
+    is_pe = t.is_pe;
+    held = record {
       newer = t.held.newer;
       older = t.held.older;
       split = t.held.split;
-      read = subst (λ (g : Tag). reads heading t.held.older t.pe g x.root ≡ true) e t.held.read;
+      read = subst (λ (r : ℕ). reads heading t.held.older t.pe (tag_of_entry y) r ≡ true) root
+          (subst (λ (g : Tag). reads heading t.held.older t.pe g x.root ≡ true) e t.held.read);
       not_taken = subst (λ (g : Tag). (u : Issued Event) → TakenAway heading trust t.pe g h u → length t.held.older ≤ length u.before → ⊥)
           e t.held.not_taken;
-    },
-    t.moment,
-  )
+    };
+    moment = t.moment ∙ since;
+  }
 
   -- ---- Start
 
@@ -214,6 +205,8 @@ module _ (heading : Heading) (trust : Trust) (k : Known heading trust) (h : List
   -- ---- Extend
 
   module _ (x : Entry) (f : Fine heading trust h x) (place value : ℕ) (s : Extends heading h x place value) where
+    open f.shape use {is_pe, made, joined, fits, begins, chained, valid}
+
     abbrev part : Part
     part = next_part x.last place value
 
@@ -243,66 +236,49 @@ module _ (heading : Heading) (trust : Trust) (k : Known heading trust) (h : List
         ]
 
     pub fine_extended : Fine heading trust h (extended x place value)
-    fine_extended = record {
-      shape = record {
-        is_pe = f.shape.is_pe;
-        made = f.shape.made;
-        joined = f.shape.joined;
-        fits = f.shape.fits;
-        begins = f.shape.begins;
-        chained = (is_below, f.shape.chained);
-        valid = more (λ (q : Part). is_valid q.kind q.level q.value ≡ true) s.valid f.shape.valid;
-      };
-      placed = more (λ (q : Part). Placed heading trust h x.root q) next_placed f.placed;
-      holding = more (λ (q : Part). Holding heading trust h q) next_new.holding f.holding;
-      uncleansed = more (λ (q : Part). (w : ValidWrite) → last_valid q.kind q.level q.place (noted heading trust h) ≡ Some w → (p : ℕ)
-          → IsNear heading x p → Cleansed heading trust q.place p w.since → ⊥)
-          (λ w last p near c. new_uncleansed x part next_new w last p near c) f.uncleansed;
-      tagged = record {
-        pe = f.tagged.pe;
-        near = f.tagged.near;
-        is_pe = f.tagged.is_pe;
-        held = (held_as x f.tagged (tag_of_entry (extended x place value)) (same_tag_of x.last.kind x (extended x place value) refl refl)).0;
-        moment = (held_as x f.tagged (tag_of_entry (extended x place value)) (same_tag_of x.last.kind x (extended x place value) refl refl)).1;
-      };
-      made_before = more (λ (q : Part). (w : ValidWrite) → last_valid q.kind q.level q.place (noted heading trust h) ≡ Some w → (p : ℕ)
-          → IsNear heading x p → (b : Noted) → Publication heading q.place p w.since b → x.since < b.position)
-          (λ w last p near b published. absurd (next_new.unseen w last p near b published)) f.made_before;
-      joined_before = more (λ (q : Part). (w : ValidWrite) → last_valid q.kind q.level q.place (noted heading trust h) ≡ Some w → (p : ℕ)
-          → IsNear heading x p → (b : Noted) (t : Issued Noted) (d : Noted) → HalfBy heading q.place p w.since b t d
-          → (x.kind ≡ Combined) × (x.joined < d.position))
-          (λ w last p near b t d half. absurd (new_half x part next_new w last p near b t d half)) f.joined_before;
-    }
+    fine_extended =
+        let below : Chained (next_part x.last place value) (parts_of x) = (is_below, chained) in
+        let read : (q : Part) → Contains (parts_of (extended x place value)) q → is_valid q.kind q.level q.value ≡ true
+        = more (λ (q : Part). is_valid q.kind q.level q.value ≡ true) s.valid valid in
+        record {
+          shape = record { is_pe = is_pe; made = made; joined = joined; fits = fits; begins = begins; chained = below; valid = read };
+          placed = more (λ (q : Part). Placed heading trust h x.root q) next_placed f.placed;
+          holding = more (λ (q : Part). Holding heading trust h q) next_new.holding f.holding;
+          uncleansed = more (λ (q : Part). (w : ValidWrite) → last_valid q.kind q.level q.place (noted heading trust h) ≡ Some w → (p : ℕ)
+              → IsNear heading x p → Cleansed heading trust q.place p w.since → ⊥)
+              (λ w last p near c. new_uncleansed x part next_new w last p near c) f.uncleansed;
+          tagged = tagged_as x (extended x place value) f.tagged f.tagged.near refl refl
+              (same_tag_of x.last.kind x (extended x place value) refl refl);
+          made_before = more (λ (q : Part). (w : ValidWrite) → last_valid q.kind q.level q.place (noted heading trust h) ≡ Some w → (p : ℕ)
+              → IsNear heading x p → (b : Noted) → Publication heading q.place p w.since b → x.since < b.position)
+              (λ w last p near b published. absurd (next_new.unseen w last p near b published)) f.made_before;
+          joined_before = more (λ (q : Part). (w : ValidWrite) → last_valid q.kind q.level q.place (noted heading trust h) ≡ Some w → (p : ℕ)
+              → IsNear heading x p → (b : Noted) (t : Issued Noted) (d : Noted) → HalfBy heading q.place p w.since b t d
+              → (x.kind ≡ Combined) × (x.joined < d.position))
+              (λ w last p near b t d half. absurd (new_half x part next_new w last p near b t d half)) f.joined_before;
+        }
 
   -- ---- Combine, Share
 
   module _ (x : Entry) (f : Fine heading trust h x) where
+    open f.shape use {is_pe, made, joined, fits, begins, chained, valid}
+
     pub fine_combined : is_stage2 x.kind ≡ true → Fine heading trust h (combined (length h) x)
     fine_combined stage2 =
         let kind : x.kind ≡ Stage2 = stage2_is x.kind stage2 in
+        let now : length h ≤ length h = omega arith in
+        let both : read_through Combined x.last.kind ≡ true
+        = combined_fits x.last.kind (ap (λ (y : EntryKind). read_through y x.last.kind) (sym kind) ∙ fits) in
         record {
-          shape = record {
-            is_pe = f.shape.is_pe;
-            made = f.shape.made;
-            joined = omega arith;
-            fits = combined_fits x.last.kind (ap (λ (y : EntryKind). read_through y x.last.kind) (sym kind) ∙ f.shape.fits);
-            begins = f.shape.begins;
-            chained = f.shape.chained;
-            valid = f.shape.valid;
-          };
+          shape = record { is_pe = is_pe; made = made; joined = now; fits = both; begins = begins; chained = chained; valid = valid };
           placed = f.placed;
           holding = f.holding;
           uncleansed = f.uncleansed;
-          tagged = record {
-            pe = f.tagged.pe;
-            near = f.tagged.near;
-            is_pe = f.tagged.is_pe;
-            held = (held_as x f.tagged (tag_of_entry (combined (length h) x)) (same_tag_of x.last.kind x (combined (length h) x) refl refl)).0;
-            moment = (held_as x f.tagged (tag_of_entry (combined (length h) x)) (same_tag_of x.last.kind x (combined (length h) x) refl refl)).1;
-          };
+          tagged = tagged_as x (combined (length h) x) f.tagged f.tagged.near refl refl
+              (same_tag_of x.last.kind x (combined (length h) x) refl refl);
           made_before = f.made_before;
           joined_before = λ q i w last p near b t d half.
-              absurd (stage2_apart (sym kind ∙ (f.joined_before q i w last p near b t d half).0));
+              let apart : x.kind ≡ Combined = (f.joined_before q i w last p near b t d half).0 in cc;
         }
 
     -- an entry at another PE is near where this one is
@@ -312,25 +288,12 @@ module _ (heading : Heading) (trust : Trust) (k : Known heading trust) (h : List
         let less : p < heading.pes = ltb-true p heading.pes both.1 in
         let near : (q : ℕ) → IsNear heading (shared x p) q → IsNear heading x q = λ q n. back p both.0 less q n in
         record {
-          shape = record {
-            is_pe = less;
-            made = f.shape.made;
-            joined = f.shape.joined;
-            fits = f.shape.fits;
-            begins = f.shape.begins;
-            chained = f.shape.chained;
-            valid = f.shape.valid;
-          };
+          shape = record { is_pe = less; made = made; joined = joined; fits = fits; begins = begins; chained = chained; valid = valid };
           placed = f.placed;
           holding = f.holding;
           uncleansed = λ q i w last r n. f.uncleansed q i w last r (near r n);
-          tagged = record {
-            pe = f.tagged.pe;
-            near = inr (both.0, f.tagged.is_pe);
-            is_pe = f.tagged.is_pe;
-            held = (held_as x f.tagged (tag_of_entry (shared x p)) (same_tag_of x.last.kind x (shared x p) refl refl)).0;
-            moment = (held_as x f.tagged (tag_of_entry (shared x p)) (same_tag_of x.last.kind x (shared x p) refl refl)).1;
-          };
+          tagged = tagged_as x (shared x p) f.tagged (inr (both.0, f.tagged.is_pe)) refl refl
+              (same_tag_of x.last.kind x (shared x p) refl refl);
           made_before = λ q i w last r n. f.made_before q i w last r (near r n);
           joined_before = λ q i w last r n. f.joined_before q i w last r (near r n);
         }

@@ -1,27 +1,27 @@
 -- One more event after which no entry is left that a TLBI which it answers must have taken: the tag, and the patterns after
 -- the last valid writes of the parts' places.
-use Rattle.bbm_rules.proofs.Common.{◌≡◌, ℕ, suc, ◌<◌, ◌≤◌, not, true, false, List, [], ◌∷◌, ◌++◌, length, Option, Some}
-use Rattle.bbm_rules.proofs.Common.{None, Contains, refl, sym, ◌∙◌, ap, subst, inl, inr, arith, true≢false, and_parts}
-use Rattle.bbm_rules.proofs.Common.{Kind, read_through, tag_of, takes_whole_tag, taken, Cover, Half, Second, Full}
-use Rattle.bbm_rules.proofs.Common.{EntryKind, Combined, keeps, Trust, note, noted, ValidWrite, last_valid, Noted}
-use Rattle.bbm_rules.proofs.Common.{events_of, Answer, HalfBy, IsLastValid, Publication, Barrier, Heading, El2, S2}
-use Rattle.bbm_rules.proofs.Common.{Ttbr0, Ttbr1, Tag, Event, Dsb, Tlbi, Issued, completes, reaches, unanswered}
-use Rattle.bbm_rules.proofs.Common.{named_scope, vmid_of, Open, TakenAway, itself, takes_tag}
+use Rattle.bbm_rules.proofs.Common.{◌≡◌, ◌⊎◌, ℕ, suc, ◌<◌, ◌≤◌, not, true, false, List, [], ◌∷◌, ◌++◌, length, Option}
+use Rattle.bbm_rules.proofs.Common.{Some, None, Contains, refl, sym, ◌∙◌, ap, subst, inl, inr, arith, true≢false}
+use Rattle.bbm_rules.proofs.Common.{and_parts, Kind, read_through, tag_of, takes_whole_tag, taken, Cover, Half, Second}
+use Rattle.bbm_rules.proofs.Common.{Full, EntryKind, Combined, keeps, Trust, note, noted, ValidWrite, last_valid, Noted}
+use Rattle.bbm_rules.proofs.Common.{events_of, Answer, HalfBy, IsLastValid, Publication, Barrier, Heading, S2, Tag}
+use Rattle.bbm_rules.proofs.Common.{Event, Dsb, Tlbi, Issued, completes, reaches, unanswered, vmid_of, Open, TakenAway}
+use Rattle.bbm_rules.proofs.Common.{itself, takes_tag}
 use Rattle.std.proofs.lemmas.List.{append_assoc}
+use Rattle.bbm_rules.specs.PatternSentences.{Flush}
 use Rattle.bbm_tlbi_scope.specs.Numbers.{lacks_vmid as scope_lacks_vmid}
 use Rattle.bbm_tlbi_scope.specs.ScopeTags.{whole_tag_by}
-use Rattle.bbm_tlbi_scope.specs.declared.op.TlbiOp.{TlbiOp}
 use Rattle.bbm_tlbi_scope.specs.declared.scope.Scope.{Scope}
 use Rattle.bbm_tlb_machine.specs.Entry.{Entry, Part, age_by, head_of, parts_of, tag_of_entry}
 use Rattle.bbm_tlb_machine.specs.Invariant.{Fine, Goes, IsNear, JoinedBefore, MadeBefore, Tagged, Taken, Unanswered}
 use Rattle.bbm_tlb_machine.specs.Invariant.{Uncleansed}
 use Rattle.bbm_tlb_machine.specs.KnownOfMachine.{Known}
 use Rattle.bbm_tlb_machine.specs.Step.{must_go}
-use Rattle.bbm_tlb_machine.proofs.AfterEvent.{AnswersNow, LastBefore, answer_after, half_before, last_step, no_answer}
+use Rattle.bbm_tlb_machine.proofs.AfterEvent.{AnswersNow, answer_after, half_before, last_step, no_answer}
 use Rattle.bbm_tlb_machine.proofs.AfterEvent.{no_publication, publication_after}
-use Rattle.bbm_tlb_machine.proofs.Elements.{events_length}
+use Rattle.bbm_histories.proofs.Induction.{events_length}
 use Rattle.bbm_tlb_machine.proofs.Facts.{no_global}
-use Rattle.bbm_tlb_machine.proofs.Scopes.{must_go_by, through_s2, whole_age}
+use Rattle.bbm_tlb_machine.proofs.Scopes.{Scoped, must_go_by, scoped, through_s2, whole_age}
 use Rattle.bbm_tlb_machine.proofs.Taken.{half_through, open_among, reached_here, taken as taken_entry}
 
 -- the event leaves no entry that a TLBI which it answers must have taken: this one neither
@@ -31,29 +31,21 @@ LeavesIt heading h e x = (q : ℕ) (dsb : Barrier) → e ≡ Dsb q dsb → (t : 
 
 s2_if_combined : (kind : Kind) → read_through Combined kind ≡ true → kind ≡ S2
 s2_if_combined S2 e = refl
-s2_if_combined El2 e = absurd (true≢false (sym e))
-s2_if_combined Ttbr0 e = absurd (true≢false (sym e))
-s2_if_combined Ttbr1 e = absurd (true≢false (sym e))
+s2_if_combined kind e = absurd (true≢false (sym e))
 
 module _ (heading : Heading) where
-  -- a TLBI that takes a whole tag
-  pub record TakesWhole (e : Event) (before : List Event) (tag : Tag) : Type 0 where
-    pub pe : ℕ
-    pub op : TlbiOp
-    pub xt : ℕ
-    pub scope : Scope
-    pub is : e ≡ Tlbi pe op xt
-    pub named : named_scope heading before pe op xt ≡ Some scope
-    pub whole : takes_whole_tag scope (vmid_of heading before pe) tag ≡ true
+  -- what answers a TLBI after fewer events flushes after them
+  flush_of : {cover : Cover} {place p : ℕ} {more since : List Noted} {t : Issued Noted} {d : Noted}
+      → Flush heading cover place p more t d → Answer since t d → Flush heading cover place p since t d
+  flush_of f a = record { answer = a; reached = f.reached; covered = f.covered }
 
-  takes_whole : (e : Event) (before : List Event) (tag : Tag) → takes_tag heading e before tag ≡ true → TakesWhole e before tag
-  takes_whole (Tlbi pe op xt) before tag e = by (named_scope heading before pe op xt) refl e
-    where
-      by : (o : Option Scope) → named_scope heading before pe op xt ≡ o
-          → (elim o [ None ↦ false | Some scope ↦ takes_whole_tag scope (vmid_of heading before pe) tag ]) ≡ true
-          → TakesWhole (Tlbi pe op xt) before tag
-      by None n e = absurd (true≢false (sym e))
-      by (Some scope) n e = record { pe = pe; op = op; xt = xt; scope = scope; is = refl; named = n; whole = e }
+  -- a TLBI that takes a whole tag
+  takes_whole : (e : Event) (before : List Event) (tag : Tag) → takes_tag heading e before tag ≡ true
+      → Scoped heading before e (λ scope vmid. takes_whole_tag scope vmid tag ≡ true)
+  takes_whole (Tlbi pe op xt) before tag e =
+      scoped heading before pe op xt _
+      (λ (o : Option Scope). (elim o [ None ↦ false | Some scope ↦ takes_whole_tag scope (vmid_of heading before pe) tag ]) ≡ true)
+      (λ k. true≢false (sym k)) (λ scope k. k) e
   takes_whole e before tag k = absurd (true≢false (sym k))
 
 module _ (heading : Heading) (trust : Trust) (k : Known heading trust) (h : List Event) (e : Event)
@@ -80,12 +72,12 @@ module _ (heading : Heading) (trust : Trust) (k : Known heading trust) (h : List
       by [] s =
           let first : e ≡ Dsb a.q a.dsb = cc in
           let rest : h ≡ a.earlier = cc in
-          let w : TakesWhole heading t.tlbi t.before (tag_of_entry x) = takes_whole heading t.tlbi t.before (tag_of_entry x) a.whole in
+          let w = takes_whole heading t.tlbi t.before (tag_of_entry x) a.whole in
           let parts = and_parts (not (scope_lacks_vmid w.scope.vmid_scoped (vmid_of heading t.before w.pe)))
-          (whole_tag_by (tag_of_entry x) w.scope.family w.scope (vmid_of heading t.before w.pe)) w.whole in
+          (whole_tag_by (tag_of_entry x) w.scope.family w.scope (vmid_of heading t.before w.pe)) w.says in
           let takes : taken w.scope (vmid_of heading t.before w.pe) (head_of x) ≡ true
           = k.whole_tag_takes w.scope (vmid_of heading t.before w.pe) (head_of x) x.last.kind f.shape.fits
-          (no_global heading trust k h kept x f) w.whole in
+          (no_global heading trust k h kept x f) w.says in
           let age : age_by w.scope.family x.kind x.since x.joined ≡ x.since
           = whole_age (tag_of_entry x) w.scope.family w.scope (vmid_of heading t.before w.pe) x.kind x.since x.joined
           (λ c. (x.vmid, ap (λ (s : Kind). tag_of s (head_of x)) (s2_if_combined x.last.kind (ap (λ (y : EntryKind). read_through y x.last.kind) (sym c) ∙ f.shape.fits))))
@@ -132,18 +124,17 @@ module _ (heading : Heading) (trust : Trust) (k : Known heading trust) (h : List
 
   pub made_before_after : MadeBefore heading trust (e ∷ h) x
   made_before_after part i w last p near b published =
-      by (last_step part.kind part.level part.place now notes w last)
-    where
-      by : LastBefore part.kind part.level part.place (note heading trust (noted heading trust h) e) (noted heading trust h) w → x.since < b.position
-      by (inl s) = absurd (no_publication heading part.place p b (subst (λ (xs : List Noted). Publication heading part.place p xs b) s published))
-      by (inr v) =
-          elim (publication_after heading part.place p now v.0.since b
-          (subst (λ (xs : List Noted). Publication heading part.place p xs b) v.2 published)) [
-            | inl same ↦
-                let position : b.position ≡ suc (length (noted heading trust h)) = ap (λ (n : Noted). n.position) same in
-                omega (arith, position, count, f.shape.made)
-            | inr old ↦ f.made_before part i v.0 v.1 p near b old
-          ]
+      elim (last_step part.kind part.level part.place now notes w last) [
+        | inl s ↦ absurd (no_publication heading part.place p b (subst (λ (xs : List Noted). Publication heading part.place p xs b) s published))
+        | inr v ↦
+            elim (publication_after heading part.place p now v.0.since b
+            (subst (λ (xs : List Noted). Publication heading part.place p xs b) v.2 published)) [
+              | inl same ↦
+                  let position : b.position ≡ suc (length (noted heading trust h)) = ap (λ (n : Noted). n.position) same in
+                  omega (arith, position, count, f.shape.made)
+              | inr old ↦ f.made_before part i v.0 v.1 p near b old
+            ]
+      ]
 
   -- a TLBI that is answered now, and covers the place of a part so far, is among those that the entry would have to leave for
   module _ (part : Part) (i : Contains (parts_of x) part) (v : ValidWrite)
@@ -195,56 +186,46 @@ module _ (heading : Heading) (trust : Trust) (k : Known heading trust) (h : List
         (half_before heading trust k part.place p a.q v.since t b t1 d1 a.is_open first) in
         stays Second covered (its.rest joined.0 part i v last p near b t1 d1 t first (unanswered_by Second covered))
 
+  -- the event answers the TLBI, or it was answered before it
+  answered_when : (part : Part) (w : ValidWrite) → last_valid part.kind part.level part.place (noted heading trust (e ∷ h)) ≡ Some w
+      → (t : Issued Noted) (d : Noted) → Answer w.since t d
+      → ((v : ValidWrite) × (last_valid part.kind part.level part.place (noted heading trust h) ≡ Some v)
+      × AnswersNow (note heading trust (noted heading trust h) e) v.since t d)
+      ⊎ ((v : ValidWrite) × (last_valid part.kind part.level part.place (noted heading trust h) ≡ Some v) × Answer v.since t d)
+  answered_when part w last t d answer =
+      elim (last_step part.kind part.level part.place now notes w last) [
+        | inl s ↦ absurd (no_answer t d (subst (λ (xs : List Noted). Answer xs t d) s answer))
+        | inr v ↦ elim (answer_after now v.0.since t d (subst (λ (xs : List Noted). Answer xs t d) v.2 answer)) [
+          | inl a ↦ inl (v.0, v.1, a)
+          | inr old ↦ inr (v.0, v.1, old)
+        ]
+      ]
+
   pub joined_before_after : JoinedBefore heading trust (e ∷ h) x
   joined_before_after part i w last p near b t d half =
-      by (last_step part.kind part.level part.place now notes w last)
-    where
-      by : LastBefore part.kind part.level part.place (note heading trust (noted heading trust h) e) (noted heading trust h) w
-          → (x.kind ≡ Combined) × (x.joined < d.position)
-      by (inl s) = absurd (no_answer t d (subst (λ (xs : List Noted). Answer xs t d) s half.flush.answer))
-      by (inr v) =
-          elim (answer_after now v.0.since t d (subst (λ (xs : List Noted). Answer xs t d) v.2 half.flush.answer)) [
-            | inl a ↦ half_stays part i v.0 v.1 p near t d a half.flush.reached b half.published half.flush.covered
-            | inr old ↦ f.joined_before part i v.0 v.1 p near b t d (record {
-              flush = record { answer = old; reached = half.flush.reached; covered = half.flush.covered };
-              published = half.published;
-            })
-          ]
+      elim (answered_when part w last t d half.flush.answer) [
+        | inl v ↦ half_stays part i v.0 v.1 p near t d v.2 half.flush.reached b half.published half.flush.covered
+        | inr v ↦ f.joined_before part i v.0 v.1 p near b t d (record { flush = flush_of heading half.flush v.2; published = half.published })
+      ]
 
   pub uncleansed_after : Uncleansed heading trust (e ∷ h) x
   uncleansed_after part i w last p near (inl one) =
-      by (last_step part.kind part.level part.place now notes w last)
-    where
-      by : LastBefore part.kind part.level part.place (note heading trust (noted heading trust h) e) (noted heading trust h) w → ⊥
-      by (inl s) = no_answer one.t one.d (subst (λ (xs : List Noted). Answer xs one.t one.d) s one.flush.answer)
-      by (inr v) =
-          elim (answer_after now v.0.since one.t one.d (subst (λ (xs : List Noted). Answer xs one.t one.d) v.2 one.flush.answer)) [
-            | inl a ↦ full_stays part i v.0 v.1 p near one.t one.d a one.flush.reached one.b one.published one.flush.covered
-            | inr old ↦ f.uncleansed part i v.0 v.1 p near (inl (record {
-              b = one.b;
-              t = one.t;
-              d = one.d;
-              published = one.published;
-              flush = record { answer = old; reached = one.flush.reached; covered = one.flush.covered };
-              allowed = one.allowed;
-            }))
-          ]
+      elim (answered_when part w last one.t one.d one.flush.answer) [
+        | inl v ↦ full_stays part i v.0 v.1 p near one.t one.d v.2 one.flush.reached one.b one.published one.flush.covered
+        | inr v ↦ f.uncleansed part i v.0 v.1 p near (inl
+            (record { b = one.b; t = one.t; d = one.d; published = one.published; flush = flush_of heading one.flush v.2; allowed = one.allowed }))
+      ]
   uncleansed_after part i w last p near (inr two) =
-      by (last_step part.kind part.level part.place now notes w last)
-    where
-      by : LastBefore part.kind part.level part.place (note heading trust (noted heading trust h) e) (noted heading trust h) w → ⊥
-      by (inl s) = no_answer two.t2 two.d2 (subst (λ (xs : List Noted). Answer xs two.t2 two.d2) s two.second.answer)
-      by (inr v) =
-          elim (answer_after now v.0.since two.t2 two.d2 (subst (λ (xs : List Noted). Answer xs two.t2 two.d2) v.2 two.second.answer)) [
-            | inl a ↦ rest_stays part i v.0 v.1 p near two.t2 two.d2 a two.second.reached two.b two.t1 two.d1 two.first two.second.covered
-            | inr old ↦ f.uncleansed part i v.0 v.1 p near (inr (record {
-              b = two.b;
-              t1 = two.t1;
-              d1 = two.d1;
-              t2 = two.t2;
-              d2 = two.d2;
-              first = two.first;
-              second = record { answer = old; reached = two.second.reached; covered = two.second.covered };
-              allowed = two.allowed;
-            }))
-          ]
+      elim (answered_when part w last two.t2 two.d2 two.second.answer) [
+        | inl v ↦ rest_stays part i v.0 v.1 p near two.t2 two.d2 v.2 two.second.reached two.b two.t1 two.d1 two.first two.second.covered
+        | inr v ↦ f.uncleansed part i v.0 v.1 p near (inr (record {
+          b = two.b;
+          t1 = two.t1;
+          d1 = two.d1;
+          t2 = two.t2;
+          d2 = two.d2;
+          first = two.first;
+          second = flush_of heading two.second v.2;
+          allowed = two.allowed;
+        }))
+      ]

@@ -1,5 +1,5 @@
 -- What is kept of the unanswered TLBIs, and what it says of the entries that are left.
-use Rattle.bbm_rules.proofs.Common.{◌≡◌, ℕ, Bool, true, false, cond, ◌&&◌, ◌||◌, not, ◌==◌, nat_le, List, [], ◌∷◌, map}
+use Rattle.bbm_rules.proofs.Common.{◌≡◌, ℕ, Bool, true, false, cond, ◌&&◌, not, ◌==◌, nat_le, List, [], ◌∷◌, map}
 use Rattle.bbm_rules.proofs.Common.{filter, None, refl, sym, ◌∙◌, ap, true≢false, eqb-true, eq-eqb, false_from_ne_true}
 use Rattle.bbm_rules.proofs.Common.{proved, If, Is, any, Barrier, TlbiOp, Heading, Event, Dsb, Tlbi, Issued, completes}
 use Rattle.bbm_rules.proofs.Common.{left_open, reaches, unanswered, itself}
@@ -8,7 +8,8 @@ use Rattle.bbm_tlb_machine.specs.MachinePendings.{IsPending, Pending, is_answere
 use Rattle.bbm_tlb_machine.specs.MachinePendings.{pending_of}
 use Rattle.bbm_tlb_machine.specs.MachineRun.{Living, State, leaves_some}
 use Rattle.bbm_tlb_machine.specs.Step.{must_go, takes_by}
-use Rattle.bbm_lemmas.proofs.Tests.{any_map, any_same}
+use Rattle.bbm_lemmas.proofs.Tests.{any_filter, any_map, any_same}
+use Rattle.std.proofs.Math.Bool.{and_assoc}
 
 -- a TLBI without a scope takes nothing
 pub never : (heading : Heading) (p : Pending) (x : Entry) → p.scope ≡ None → false ≡ must_leave heading p x
@@ -17,22 +18,10 @@ never heading p x e =
     sym (proved 3 (λ a b c. If (Is b false) (Is (a && b && c) false)) refl (reaches heading p.tlbi x.pe)
     (takes_by p.scope p.vmid x) (nat_le (age_for p.family x) p.before) none)
 
--- tests of lists
-any_step : {X : Type 0} (i c m : X → Bool) (x : X) (xs ys : List X) (b : Bool) → i x ≡ b
-    → any (λ x. i x && c x && m x) xs ≡ any (λ x. c x && m x) ys
-    → ((i x && c x && m x) || any (λ x. i x && c x && m x) xs) ≡ any (λ x. c x && m x) (cond (i x) (x ∷ ys) ys)
-any_step i c m x xs ys true e k =
-    ap (λ b. (b && c x && m x) || any (λ x. i x && c x && m x) xs) e
-    ∙ (ap (λ b. (c x && m x) || b) k
-    ∙ sym (ap (λ b. any (λ x. c x && m x) (cond b (x ∷ ys) ys)) e))
-any_step i c m x xs ys false e k =
-    ap (λ b. (b && c x && m x) || any (λ x. i x && c x && m x) xs) e
-    ∙ (k ∙ sym (ap (λ b. any (λ x. c x && m x) (cond b (x ∷ ys) ys)) e))
-
-any_filter : {X : Type 0} (i c m : X → Bool) (xs : List X)
-    → any (λ x. i x && c x && m x) xs ≡ any (λ x. c x && m x) (filter i xs)
-any_filter i c m [] = refl
-any_filter i c m (x ∷ xs) = any_step i c m x xs (filter i xs) (i x) refl (any_filter i c m xs)
+map_cond : {X Y : Type 0} (f : X → Y) (b : Bool) (x : X) (xs : List X) (ys : List Y) → ys ≡ map f xs
+    → cond b (f x ∷ ys) ys ≡ map f (cond b (x ∷ xs) xs)
+map_cond {X} {Y} f true x xs ys e = ap (λ (zs : List Y). f x ∷ zs) e
+map_cond f false x xs ys e = e
 
 module _ (heading : Heading) where
   leave_is : (e : Event) (before : List Event) (x : Entry)
@@ -45,49 +34,29 @@ module _ (heading : Heading) where
   pub left : (s : State) (q : ℕ) (dsb : Barrier) (pending : List Pending) → IsPending heading s.log pending
       → leaves_any heading s.living q dsb pending ≡ leaves_some heading s (Dsb q dsb)
   left s q dsb pending stands =
-      any_filter (λ (p : Pending). p.issuer == q) (λ (p : Pending). completes dsb p.tlbi) (leaves_by heading s.living) pending
+      any_same _ _ pending (λ p. and_assoc (p.issuer == q) (completes dsb p.tlbi) (leaves_by heading s.living p))
+      ∙ (sym (any_filter (λ (p : Pending). completes dsb p.tlbi && leaves_by heading s.living p) (λ (p : Pending). p.issuer == q) pending)
       ∙ (ap (any (λ (p : Pending). completes dsb p.tlbi && leaves_by heading s.living p)) (stands q)
       ∙ (any_map (λ (p : Pending). completes dsb p.tlbi && leaves_by heading s.living p) (pending_of heading) (unanswered itself q s.log)
       ∙ any_same _ (λ (t : Issued Event). completes dsb t.tlbi && any (λ (l : Living). must_go heading t l.entry) s.living)
       (unanswered itself q s.log) (λ t. ap (λ b. completes dsb t.tlbi && b)
       (any_same (λ (l : Living). must_leave heading (pending_of heading t) l.entry) (λ (l : Living). must_go heading t l.entry)
-      s.living (λ l. leave_is t.tlbi t.before l.entry)))))
+      s.living (λ l. leave_is t.tlbi t.before l.entry))))))
 
   -- a TLBI more
-  add : (q pe : ℕ) (b : Bool) (new : Issued Event) (ps : List Pending) (ts : List (Issued Event))
-      → filter (λ (p : Pending). p.issuer == q) ps ≡ map (pending_of heading) ts
-      → cond b (pending_of heading new ∷ filter (λ (p : Pending). p.issuer == q) ps) (filter (λ (p : Pending). p.issuer == q) ps)
-      ≡ map (pending_of heading) (cond b (new ∷ ts) ts)
-  add q pe true new ps ts k = ap (λ (ps : List Pending). pending_of heading new ∷ ps) k
-  add q pe false new ps ts k = k
-
   pub tlbi_step : (h : List Event) (pe : ℕ) (op : TlbiOp) (xt : ℕ) (pending : List Pending) → IsPending heading h pending
       → IsPending heading (Tlbi pe op xt ∷ h) (pending_of heading (record { tlbi = Tlbi pe op xt; before = h }) ∷ pending)
   tlbi_step h pe op xt pending stands q =
-      add q pe (pe == q) (record { tlbi = Tlbi pe op xt; before = h }) pending (unanswered itself q h) (stands q)
+      map_cond (pending_of heading) (pe == q) (record { tlbi = Tlbi pe op xt; before = h }) (unanswered itself q h) _ (stands q)
 
 -- filters of filters and of maps
 filter_step : {X : Type 0} (i k j : X → Bool) (x : X) (xs ys : List X) (a b : Bool) → i x ≡ a → k x ≡ b
     → (i x ≡ true → k x ≡ j x) → filter i xs ≡ filter j ys
     → filter i (cond (k x) (x ∷ xs) xs) ≡ filter j (cond (i x) (x ∷ ys) ys)
-filter_step {X} i k j x xs ys true true e f same rest =
-    let g : j x ≡ true = sym (same e) ∙ f in
-    ap (λ b. filter i (cond b (x ∷ xs) xs)) f
-    ∙ (ap (λ b. cond b (x ∷ filter i xs) (filter i xs)) e
-    ∙ (ap (λ (zs : List X). x ∷ zs) rest
-    ∙ (sym (ap (λ b. cond b (x ∷ filter j ys) (filter j ys)) g) ∙ sym (ap (λ b. filter j (cond b (x ∷ ys) ys)) e))))
-filter_step i k j x xs ys true false e f same rest =
-    let g : j x ≡ false = sym (same e) ∙ f in
-    ap (λ b. filter i (cond b (x ∷ xs) xs)) f
-    ∙ (rest
-    ∙ (sym (ap (λ b. cond b (x ∷ filter j ys) (filter j ys)) g) ∙ sym (ap (λ b. filter j (cond b (x ∷ ys) ys)) e)))
-filter_step i k j x xs ys false true e f same rest =
-    ap (λ b. filter i (cond b (x ∷ xs) xs)) f
-    ∙ (ap (λ b. cond b (x ∷ filter i xs) (filter i xs)) e
-    ∙ (rest ∙ sym (ap (λ b. filter j (cond b (x ∷ ys) ys)) e)))
-filter_step i k j x xs ys false false e f same rest =
-    ap (λ b. filter i (cond b (x ∷ xs) xs)) f
-    ∙ (rest ∙ sym (ap (λ b. filter j (cond b (x ∷ ys) ys)) e))
+filter_step {X} i k j x xs ys true true e f same rest = rw (f, e, sym (same e) ∙ f) (ap (λ (zs : List X). x ∷ zs) rest)
+filter_step i k j x xs ys true false e f same rest = rw (f, e, sym (same e) ∙ f) rest
+filter_step i k j x xs ys false true e f same rest = rw (f, e) rest
+filter_step i k j x xs ys false false e f same rest = rw (f, e) rest
 
 filters : {X : Type 0} (i k j : X → Bool) → ((x : X) → i x ≡ true → k x ≡ j x) → (xs : List X)
     → filter i (filter k xs) ≡ filter j (filter i xs)
@@ -98,11 +67,6 @@ filters i k j same (x ∷ xs) =
 filter_all : {X : Type 0} (xs : List X) → filter (λ (x : X). true) xs ≡ xs
 filter_all [] = refl
 filter_all {X} (x ∷ xs) = ap (λ (zs : List X). x ∷ zs) (filter_all xs)
-
-map_cond : {X Y : Type 0} (f : X → Y) (b : Bool) (x : X) (xs : List X) (ys : List Y) → ys ≡ map f xs
-    → cond b (f x ∷ ys) ys ≡ map f (cond b (x ∷ xs) xs)
-map_cond {X} {Y} f true x xs ys e = ap (λ (zs : List Y). f x ∷ zs) e
-map_cond f false x xs ys e = e
 
 filter_of_map : {X Y : Type 0} (f : X → Y) (p : Y → Bool) (xs : List X) → filter p (map f xs) ≡ map f (filter (λ x. p (f x)) xs)
 filter_of_map f p [] = refl
@@ -137,13 +101,6 @@ module _ (heading : Heading) (pe : ℕ) (dsb : Barrier) where
 
   pub dsb_step : (h : List Event) (pending : List Pending) → IsPending heading h pending
       → IsPending heading (Dsb pe dsb ∷ h) (filter (λ p. not (is_answered pe dsb p)) pending)
-  dsb_step h pending stands q = at (pe == q) refl
-    where
-      at : (b : Bool) → (pe == q) ≡ b
-          → filter (λ (p : Pending). p.issuer == q) (filter (λ (p : Pending). not (is_answered pe dsb p)) pending)
-          ≡ map (pending_of heading) (unanswered itself q (Dsb pe dsb ∷ h))
-      at b e =
-          answered h pending stands q b e
-          ∙ ap (λ b. map (pending_of heading) (cond b (left_open itself dsb (unanswered itself q h)) (unanswered itself q h))) (sym e)
+  dsb_step h pending stands q = answered h pending stands q (pe == q) refl
 
 pub ruleset steps = (tlbi_step, dsb_step)

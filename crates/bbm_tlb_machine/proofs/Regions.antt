@@ -1,49 +1,39 @@
 -- The parts of an entry one below the other: their kinds, and their regions, each inside that of a part above.
-use Rattle.bbm_rules.proofs.Common.{◌≡◌, ℕ, suc, ◌+◌, ◌-◌, ◌*◌, ◌≤◌, ◌⊎◌, nat_le, true, List, [], ◌∷◌, Contains, sym}
-use Rattle.bbm_rules.proofs.Common.{◌∙◌, ap, subst, inl, inr, arith, and_from, le-leb, holds, index_of, page_of}
-use Rattle.bbm_rules.proofs.Common.{contains_cases, contains_head, contains_more}
+use Rattle.bbm_rules.proofs.Common.{◌≡◌, refl, ℕ, suc, ◌+◌, ◌-◌, ◌*◌, ◌≤◌, ◌⊎◌, nat_le, true, List, [], ◌∷◌, Contains}
+use Rattle.bbm_rules.proofs.Common.{sym, ◌∙◌, ap, subst, inl, inr, arith, and_from, le-leb, holds, index_of, page_of}
+use Rattle.bbm_rules.proofs.Common.{contains_cases, contains_head, contains_more, contains_none}
 use Rattle.std.proofs.Common.{mul-le-mul_right}
 use Rattle.bbm_rules.specs.Prelude.{input_pages}
 use Rattle.bbm_tlb_machine.specs.Entry.{Part, region_in}
 use Rattle.bbm_tlb_machine.specs.Invariant.{Chained, IsBelow}
 use Rattle.bbm_tlb_machine.proofs.Descs.{pages_below, some_pages}
 
-pub chain_kind : (part : Part) (above : List Part) → Chained part above → (q : Part) → Contains (part ∷ above) q → q.kind ≡ part.kind
-chain_kind part [] c q i =
+-- what holds of the last part, and of each part that is above one of which it holds, holds of all of them
+all_chained : (P : Part → Type 0) (part : Part) (above : List Part) → Chained part above
+    → ((lower upper : Part) → Contains (part ∷ above) lower → IsBelow lower upper → P lower → P upper)
+    → P part → (q : Part) → Contains (part ∷ above) q → P q
+all_chained P part [] c step first q i =
     elim (contains_cases [] part q i) [
-      | inl e ↦ ap (λ (p : Part). p.kind) (sym e)
-      | inr j ↦ absurd (none j)
+      | inl e ↦ subst P e first
+      | inr j ↦ absurd (contains_none q j)
     ]
-  where
-    none : Contains [] q → ⊥
-    none j = omega (arith, j.1)
-chain_kind part (a ∷ above) c q i =
+all_chained P part (a ∷ above) c step first q i =
     elim (contains_cases (a ∷ above) part q i) [
-      | inl e ↦ ap (λ (p : Part). p.kind) (sym e)
-      | inr j ↦ chain_kind a above c.1 q j ∙ sym c.0.kind
+      | inl e ↦ subst P e first
+      | inr j ↦ all_chained P a above c.1 (λ l u m. step l u (contains_more (a ∷ above) part l m))
+          (step part a (contains_head (a ∷ above) part) c.0 first) q j
     ]
+
+pub chain_kind : (part : Part) (above : List Part) → Chained part above → (q : Part) → Contains (part ∷ above) q → q.kind ≡ part.kind
+chain_kind part above c =
+    all_chained (λ (q : Part). q.kind ≡ part.kind) part above c (λ lower upper i b e. sym b.kind ∙ e) refl
 
 -- a part is the last one, or another was read below it
 pub last_or_above : (part : Part) (above : List Part) → Chained part above → (q : Part) → Contains (part ∷ above) q
     → (part ≡ q) ⊎ ((lower : Part) × Contains (part ∷ above) lower × IsBelow lower q)
-last_or_above part [] c q i =
-    elim (contains_cases [] part q i) [
-      | inl e ↦ inl e
-      | inr j ↦ absurd (none j)
-    ]
-  where
-    none : Contains [] q → ⊥
-    none j = omega (arith, j.1)
-last_or_above part (a ∷ above) c q i =
-    elim (contains_cases (a ∷ above) part q i) [
-      | inl e ↦ inl e
-      | inr j ↦ inr (by (last_or_above a above c.1 q j))
-    ]
-  where
-    by : (a ≡ q) ⊎ ((lower : Part) × Contains (a ∷ above) lower × IsBelow lower q)
-        → (lower : Part) × Contains (part ∷ a ∷ above) lower × IsBelow lower q
-    by (inl e) = (part, contains_head (a ∷ above) part, subst (λ (p : Part). IsBelow part p) e c.0)
-    by (inr r) = (r.0, contains_more (a ∷ above) part r.0 r.1, r.2)
+last_or_above part above c =
+    all_chained (λ (q : Part). (part ≡ q) ⊎ ((lower : Part) × Contains (part ∷ above) lower × IsBelow lower q)) part above c
+    (λ lower upper i b e. inr (lower, i, b)) (inl refl)
 
 -- the region of a part is inside that of another
 pub record IsInside (upper lower : Part) : Type 0 where
@@ -68,22 +58,12 @@ one_inside lower upper c =
     by f g m i j e s b = (omega (arith, e), omega (arith, e, s, b))
 
 pub inside_of : (part : Part) (above : List Part) → Chained part above → (q : Part) → Contains (part ∷ above) q → IsInside q part
-inside_of part [] c q i =
-    elim (contains_cases [] part q i) [
-      | inl e ↦ subst (λ (p : Part). IsInside p part) e (record { low = omega arith; high = omega arith })
-      | inr j ↦ absurd (none j)
-    ]
+inside_of part above c =
+    all_chained (λ (q : Part). IsInside q part) part above c (λ lower upper i b v. join lower upper (one_inside lower upper b) v)
+    (record { low = omega arith; high = omega arith })
   where
-    none : Contains [] q → ⊥
-    none j = omega (arith, j.1)
-inside_of part (a ∷ above) c q i =
-    elim (contains_cases (a ∷ above) part q i) [
-      | inl e ↦ subst (λ (p : Part). IsInside p part) e (record { low = omega arith; high = omega arith })
-      | inr j ↦ join (inside_of a above c.1 q j) (one_inside part a c.0)
-    ]
-  where
-    join : IsInside q a → IsInside a part → IsInside q part
-    join u v = record { low = omega (arith, u.low, v.low); high = omega (arith, u.high, v.high) }
+    join : (lower upper : Part) → IsInside upper lower → IsInside lower part → IsInside upper part
+    join lower upper u v = record { low = omega (arith, u.low, v.low); high = omega (arith, u.high, v.high) }
 
 pub region_holds : (upper lower : Part) → IsInside upper lower → holds (region_in upper) (region_in lower) ≡ true
 region_holds upper lower k =

@@ -1,12 +1,10 @@
 -- The page of a root in which a walk starts, and the PEs at which a tag is readable.
-use Rattle.bbm_rules.proofs.Common.{◌≡◌, ℕ, zero, suc, ◌+◌, ◌-◌, ◌*◌, ◌/◌, ◌%◌, ◌<◌, ◌≤◌, ◌⊎◌, inl, inr, nat_lt, ◌&&◌}
-use Rattle.bbm_rules.proofs.Common.{◌||◌, ◌==◌, Bool, true, false, cond, List, [], ◌∷◌, take, Some, None, Contains}
-use Rattle.bbm_rules.proofs.Common.{refl, sym, ◌∙◌, ap, subst, arith, true≢false, and_parts, eqb-true, ltb-true}
-use Rattle.bbm_rules.proofs.Common.{or_cases, Kind, fits_heading, is_value, among, index_of, page_of, El2, S2, Ttbr0}
-use Rattle.bbm_rules.proofs.Common.{Ttbr1, Reg, World, Hyp, Kernel, Heading, Event, Init, Null, Root, Unroot, Write}
-use Rattle.bbm_rules.proofs.Common.{Dsb, Dmb, Isb, Tlbi, Msr, Lock, Unlock, base_of, register_values, same_reg}
-use Rattle.bbm_rules.proofs.Common.{pages_from, root_pages, ReadsTag, Node, nodes_of_pages, tag_of, EntryHead}
-use Rattle.bbm_rules.proofs.Common.{contains_head, contains_more}
+use Rattle.bbm_rules.proofs.Common.{◌≡◌, or-false, ℕ, zero, suc, ◌+◌, ◌-◌, ◌*◌, ◌/◌, ◌%◌, ◌<◌, ◌≤◌, nat_lt, ◌&&◌, ◌==◌}
+use Rattle.bbm_rules.proofs.Common.{Bool, true, false, cond, List, [], ◌∷◌, take, Some, None, Contains, refl, sym, ◌∙◌}
+use Rattle.bbm_rules.proofs.Common.{ap, arith, and_parts, eqb-true, ltb-true, Kind, fits_heading, is_value, among}
+use Rattle.bbm_rules.proofs.Common.{index_of, page_of, El2, S2, Ttbr0, Ttbr1, Reg, World, Hyp, Kernel, Heading, Event}
+use Rattle.bbm_rules.proofs.Common.{Isb, Msr, base_of, register_values, same_reg, pages_from, ReadsTag, Node}
+use Rattle.bbm_rules.proofs.Common.{nodes_of_pages, tag_of, EntryHead, contains_head, contains_more}
 use Rattle.std.proofs.Common.{mod-lt, lt_of_not-le}
 use Rattle.std.proofs.Math.Nat.{mod-add-div'}
 use Rattle.bbm_rules.specs.Prelude.{first_input_page, input_pages, kind_in_world, page_count, start_of}
@@ -26,9 +24,7 @@ node_in kind level root page base (suc n) zero p b less ep eb =
     let same_page : page ≡ p = omega (arith, ep) in
     let none : 0 * input_pages level ≡ 0 = omega arith in
     let same_base : base ≡ b = omega (arith, eb, none) in
-    subst (λ (c : ℕ). Contains (nodes_of_pages kind level root base (pages_from page (suc n))) (node_at kind level root p c)) same_base
-    (subst (λ (q : ℕ). Contains (nodes_of_pages kind level root base (pages_from page (suc n))) (node_at kind level root q base)) same_page
-    (contains_head (nodes_of_pages kind level root (base + 512 * input_pages level) (pages_from (page + 4096) n)) (node_at kind level root page base)))
+    rw (← same_page, ← same_base) (contains_head _ (node_at kind level root page base))
 node_in kind level root page base (suc n) (suc j) p b less ep eb =
     let more : suc j * input_pages level ≡ input_pages level + j * input_pages level = omega arith in
     contains_more (nodes_of_pages kind level root (base + 512 * input_pages level) (pages_from (page + 4096) n)) (node_at kind level root page base)
@@ -68,12 +64,8 @@ module _ (heading : Heading) where
       (root_of heading.world kind place + 4096 * p.page)
       (first_input_page heading.world kind + 512 * (p.page * input_pages (start_of heading.world kind))) in (
         n,
-        subst (λ (pages : List ℕ). Contains (nodes_of_pages kind (start_of heading.world kind) (root_of heading.world kind place)
-            (first_input_page heading.world kind) pages) n) (sym (pages_are kind place of_world))
-            (node_in kind (start_of heading.world kind) (root_of heading.world kind place) (root_of heading.world kind place)
-            (first_input_page heading.world kind) (page_count heading.world kind) p.page
-            (root_of heading.world kind place + 4096 * p.page)
-            (first_input_page heading.world kind + 512 * (p.page * input_pages (start_of heading.world kind))) p.among_pages refl refl),
+        rw of_world (node_in kind (start_of heading.world kind) (root_of heading.world kind place) (root_of heading.world kind place)
+            (first_input_page heading.world kind) (page_count heading.world kind) p.page _ _ p.among_pages refl refl),
         record {
           inside = p.page_is;
           kind = refl;
@@ -84,12 +76,6 @@ module _ (heading : Heading) where
         },
       )
     where
-      pages_are : (kind : Kind) (place : ℕ) → kind_in_world heading.world kind ≡ true
-          → root_pages heading.world kind (root_of heading.world kind place)
-          ≡ pages_from (root_of heading.world kind place) (page_count heading.world kind)
-      pages_are kind place e =
-          ap (λ (b : Bool). cond b (pages_from (root_of heading.world kind place) (page_count heading.world kind)) []) e
-
       region : (f j x i whole : ℕ) → whole ≡ 512 * j + x → f + 512 * (j * i) + x * i ≡ f + whole * i
       region f j x i whole e =
           let split : (512 * j + x) * i ≡ 512 * (j * i) + x * i = omega arith in
@@ -120,34 +106,16 @@ no_values heading (Isb pe ∷ h) p reg fits past =
     by : (b : Bool) → register_values h p reg ≡ 0 ∷ [] → cond b (take 1 (register_values h p reg)) (register_values h p reg) ≡ 0 ∷ []
     by true rest = ap (take 1) rest
     by false rest = rest
-no_values heading (Init pe page ∷ h) p reg fits past = no_values heading h p reg (λ e i. fits e (contains_more h (Init pe page) e i)) past
-no_values heading (Null pe page ∷ h) p reg fits past = no_values heading h p reg (λ e i. fits e (contains_more h (Null pe page) e i)) past
-no_values heading (Root pe kind lock page ∷ h) p reg fits past =
-    no_values heading h p reg (λ e i. fits e (contains_more h (Root pe kind lock page) e i)) past
-no_values heading (Unroot pe page ∷ h) p reg fits past = no_values heading h p reg (λ e i. fits e (contains_more h (Unroot pe page) e i)) past
-no_values heading (Write pe place value ∷ h) p reg fits past =
-    no_values heading h p reg (λ e i. fits e (contains_more h (Write pe place value) e i)) past
-no_values heading (Dsb pe dsb ∷ h) p reg fits past = no_values heading h p reg (λ e i. fits e (contains_more h (Dsb pe dsb) e i)) past
-no_values heading (Dmb pe dsb ∷ h) p reg fits past = no_values heading h p reg (λ e i. fits e (contains_more h (Dmb pe dsb) e i)) past
-no_values heading (Tlbi pe op xt ∷ h) p reg fits past = no_values heading h p reg (λ e i. fits e (contains_more h (Tlbi pe op xt) e i)) past
-no_values heading (Lock pe lock ∷ h) p reg fits past = no_values heading h p reg (λ e i. fits e (contains_more h (Lock pe lock) e i)) past
-no_values heading (Unlock pe lock ∷ h) p reg fits past = no_values heading h p reg (λ e i. fits e (contains_more h (Unlock pe lock) e i)) past
+no_values heading (e ∷ h) p reg fits past = no_values heading h p reg (λ y i. fits y (contains_more h e y i)) past
 
 names_pe : (heading : Heading) (h : List Event) → ((e : Event) → Contains h e → fits_heading heading e ≡ true)
     → (p : ℕ) (reg : Reg) (root value : ℕ) → Names h p reg root value → p < heading.pes
-names_pe heading h fits p reg root value n = lt_of_not-le (λ past. past_none past)
-  where
-    past_none : heading.pes ≤ p → ⊥
-    past_none past =
-        let one : (0 == value || false) ≡ true = sym (ap (among value) (no_values heading h p reg fits past)) ∙ n.readable in
-        by (or_cases (0 == value) false one)
-      where
-        by : (0 == value ≡ true) ⊎ (false ≡ true) → ⊥
-        by (inl e) =
-            let zero_value : 0 ≡ value = eqb-true 0 value e in
-            let apart : None ≡ Some root = ap base_of zero_value ∙ n.base in
-            cc
-        by (inr e) = true≢false (sym e)
+names_pe heading h fits p reg root value n =
+    lt_of_not-le (λ past.
+    let none : 0 ≡ value
+    = eqb-true 0 value (sym (or-false (0 == value)) ∙ (sym (ap (among value) (no_values heading h p reg fits past)) ∙ n.readable)) in
+    let apart : None ≡ Some root = ap base_of none ∙ n.base in
+    cc)
 
 -- the PE is one of the header, and the kind of the tag one of the world
 pub reads_at : (heading : Heading) (h : List Event) → ((e : Event) → Contains h e → fits_heading heading e ≡ true)
@@ -157,7 +125,4 @@ reads_at heading h fits p root El2 e (Hyp w) k = (names_pe heading h fits p _ ro
 reads_at heading h fits p root S2 e (Hyp w) k = (names_pe heading h fits p _ root k.0 k.1, refl)
 reads_at heading h fits p root Ttbr0 e (Kernel w) k = (names_pe heading h fits p _ root k.0 k.2, refl)
 reads_at heading h fits p root Ttbr1 e (Kernel w) k = (names_pe heading h fits p _ root k.0 k.1, refl)
-reads_at heading h fits p root Ttbr0 e (Hyp w) k = absurd k
-reads_at heading h fits p root Ttbr1 e (Hyp w) k = absurd k
-reads_at heading h fits p root El2 e (Kernel w) k = absurd k
-reads_at heading h fits p root S2 e (Kernel w) k = absurd k
+reads_at heading h fits p root kind e world k = absurd k

@@ -1,18 +1,17 @@
 -- The run that is computed is the run that the relation names.
-use Rattle.bbm_rules.proofs.Common.{◌≡◌, ℕ, Bool, true, false, ◌&&◌, ◌↔◌, List, [], ◌∷◌, ◌++◌, length, Option, Some}
-use Rattle.bbm_rules.proofs.Common.{None, Result, Ok, Err, Contains, refl, sym, ◌∙◌, ap, and_from, and_left, and_parts}
-use Rattle.bbm_rules.proofs.Common.{and_right, not_from_false, not-true, bind_some, Start, Extend, Combine, Share, Drop}
-use Rattle.bbm_rules.proofs.Common.{◌>>=◌, any, if_so, Barrier, Heading, Event, Dsb, Issued, completes, unanswered}
-use Rattle.bbm_rules.proofs.Common.{itself}
+use Rattle.bbm_rules.proofs.Common.{◌≡◌, ℕ, true, false, ◌&&◌, ◌↔◌, List, [], ◌∷◌, ◌++◌, length, Option, Some, None}
+use Rattle.bbm_rules.proofs.Common.{Result, Ok, Err, refl, sym, ◌∙◌, ap, and_from, and_parts, not_from_false, not-true}
+use Rattle.bbm_rules.proofs.Common.{bind_some, Start, Extend, Combine, Share, Drop, any, Barrier, Heading, Event, Dsb}
+use Rattle.bbm_rules.proofs.Common.{Issued, completes, unanswered, itself}
+use Rattle.bbm_lemmas.proofs.Bools.{and_apart, second_false}
 use Rattle.bbm_lemmas.proofs.Words.{if_so_some, some_if_so}
 use Rattle.bbm_tlb_machine.specs.declared.step.Step.{Step}
 use Rattle.bbm_tlb_machine.specs.declared.step.Step.TheVariants.{Machine, Event as Taken}
 use Rattle.bbm_tlb_machine.specs.Entry.{Entry}
 use Rattle.bbm_tlb_machine.specs.MachineRun.{IsRun, Leads, LeavesNone, Living, State, entry_at, next_in, follow_steps}
-use Rattle.bbm_tlb_machine.specs.MachineRun.{leaves_some, or_index, step_to, with_entry, without}
+use Rattle.bbm_tlb_machine.specs.MachineRun.{leaves_some, or_index, step_to, without}
 use Rattle.bbm_tlb_machine.specs.First.{IsFirstBad}
-use Rattle.bbm_tlb_machine.specs.Step.{Extends, Starts, combined, extended, is_stage2, may_extend, may_share, may_start}
-use Rattle.bbm_tlb_machine.specs.Step.{must_go, shared}
+use Rattle.bbm_tlb_machine.specs.Step.{Extends, Starts, may_extend, may_start, must_go}
 use Rattle.bbm_tlb_machine.proofs.ListWords.{is_none, none_in}
 
 module _ (heading : Heading) where
@@ -40,21 +39,15 @@ module _ (heading : Heading) where
   -- the entries that a DSB would leave
   leaves_from : (s : State) (q : ℕ) (dsb : Barrier) → leaves_some heading s (Dsb q dsb) ≡ false → LeavesNone heading s (Dsb q dsb)
   leaves_from s q dsb k t i e l j =
-      let none = none_in (λ (t : Issued Event). completes dsb t.tlbi && any (λ (l : Living). must_go heading t l.entry) s.living)
-      (unanswered itself q s.log) k t i in
-      let open_one : any (λ (l : Living). must_go heading t l.entry) s.living ≡ false
-      = sym (ap (λ b. b && any (λ (l : Living). must_go heading t l.entry) s.living) e) ∙ none in
-      none_in (λ (l : Living). must_go heading t l.entry) s.living open_one l j
+      none_in (λ (l : Living). must_go heading t l.entry) s.living (second_false (completes dsb t.tlbi) _
+      (none_in (λ (t : Issued Event). completes dsb t.tlbi && any (λ (l : Living). must_go heading t l.entry) s.living)
+      (unanswered itself q s.log) k t i) e) l j
 
   leaves_to : (s : State) (q : ℕ) (dsb : Barrier) → LeavesNone heading s (Dsb q dsb) → leaves_some heading s (Dsb q dsb) ≡ false
   leaves_to s q dsb all =
       is_none (λ (t : Issued Event). completes dsb t.tlbi && any (λ (l : Living). must_go heading t l.entry) s.living)
-      (unanswered itself q s.log) (λ t i. by t i (completes dsb t.tlbi) refl)
-    where
-      by : (t : Issued Event) → Contains (unanswered itself q s.log) t → (b : Bool) → completes dsb t.tlbi ≡ b
-          → (completes dsb t.tlbi && any (λ (l : Living). must_go heading t l.entry) s.living) ≡ false
-      by t i false e = and_left _ _ e
-      by t i true e = and_right _ _ (is_none (λ (l : Living). must_go heading t l.entry) s.living (all t i e))
+      (unanswered itself q s.log) (λ t i. and_apart (completes dsb t.tlbi) _ (λ e.
+      is_none (λ (l : Living). must_go heading t l.entry) s.living (all t i e)))
 
   leaves_none : (s : State) (e : Event) → leaves_some heading s e ≡ false → LeavesNone heading s e
   leaves_none s (Dsb q dsb) k = leaves_from s q dsb k
@@ -83,16 +76,10 @@ module _ (heading : Heading) where
   complete : (s : State) (step : Step) (next : State) → Leads heading s step next → step_to heading s step ≡ Some next
   complete s (Machine (Start p kind n place value)) next l = some_if_so _ _ next (starts_to s.log _ n l.0) l.1
   complete s (Machine (Extend n place value)) next l =
-      ap (λ (o : Option Entry). o >>= (λ x. if_so (may_extend heading s.log x place value) (with_entry s (extended x place value)))) l.1
-      ∙ some_if_so _ _ next (extends_to s.log l.0 place value l.2) l.3
-  complete s (Machine (Combine n)) next l =
-      ap (λ (o : Option Entry). o >>= (λ x. if_so (is_stage2 x.kind) (with_entry s (combined (length s.log) x)))) l.1
-      ∙ some_if_so _ _ next l.2 l.3
-  complete s (Machine (Share n p)) next l =
-      ap (λ (o : Option Entry). o >>= (λ x. if_so (may_share heading p) (with_entry s (shared x p)))) l.1
-      ∙ some_if_so _ _ next l.2 l.3
-  complete s (Machine (Drop n)) next l =
-      ap (λ (o : Option Entry). o >>= (λ x. Some (without s n))) l.1 ∙ ap Some (sym l.2)
+      rw (l.1) (some_if_so _ _ next (extends_to s.log l.0 place value l.2) l.3)
+  complete s (Machine (Combine n)) next l = rw (l.1) (some_if_so _ _ next l.2 l.3)
+  complete s (Machine (Share n p)) next l = rw (l.1) (some_if_so _ _ next l.2 l.3)
+  complete s (Machine (Drop n)) next l = rw (l.1) (ap Some (sym l.2))
   complete s (Taken e) next l = some_if_so _ _ next (not_from_false _ (none_left s e l.0)) l.1
 
   -- runs
@@ -113,9 +100,7 @@ module _ (heading : Heading) where
 
   pub run_complete : (steps : List Step) (s : State) → IsRun heading steps s → follow_steps heading steps ≡ Ok s
   run_complete [] s k = ap Ok (sym k)
-  run_complete (step ∷ steps) s k =
-      ap (λ (r : Result State ℕ). next_in heading r step (length steps)) (run_complete steps k.0 k.1)
-      ∙ ap (λ (o : Option State). or_index o (length steps)) (complete k.0 step s k.2)
+  run_complete (step ∷ steps) s k = rw (run_complete steps k.0 k.1, complete k.0 step s k.2)
 
   -- the first step that is none
   or_err : (o : Option State) (i j : ℕ) → or_index o i ≡ Err j → (o ≡ None) × (i ≡ j)
@@ -134,11 +119,8 @@ module _ (heading : Heading) where
         split = refl;
         index = e.1;
         run = run_sound steps s r;
-        none = λ next l. absurd_some (step_to heading s step) next e.0 (complete s step next l);
+        none = λ next l. let led : step_to heading s step ≡ Some next = complete s step next l in cc;
       }
-    where
-      absurd_some : (o : Option State) (next : State) → o ≡ None → o ≡ Some next → ⊥
-      absurd_some o next e k = cc
 
   stops_later : (step : Step) (steps : List Step) (j : ℕ) → IsFirstBad heading steps j → IsFirstBad heading (step ∷ steps) j
   stops_later step steps j s = record {
@@ -169,11 +151,8 @@ module _ (heading : Heading) where
 
   stop_at : (newer : List Step) (step : Step) (older : List Step) (s : State) → follow_steps heading older ≡ Ok s
       → step_to heading s step ≡ None → follow_steps heading (newer ++ step ∷ older) ≡ Err (length older)
-  stop_at [] step older s r k =
-      ap (λ (r : Result State ℕ). next_in heading r step (length older)) r
-      ∙ ap (λ (o : Option State). or_index o (length older)) k
-  stop_at (x ∷ newer) step older s r k =
-      ap (λ (r : Result State ℕ). next_in heading r x (length (newer ++ step ∷ older))) (stop_at newer step older s r k)
+  stop_at [] step older s r k = rw (r, k)
+  stop_at (x ∷ newer) step older s r k = rw (stop_at newer step older s r k)
 
   stop_complete : (steps : List Step) (j : ℕ) → IsFirstBad heading steps j → follow_steps heading steps ≡ Err j
   stop_complete steps j s =

@@ -1,12 +1,12 @@
 -- In each run over a log that keeps the rules each entry that is kept is fine; so the log is safe.
-use Rattle.bbm_rules.proofs.Common.{◌≡◌, ℕ, suc, ◌<◌, ◌≤◌, arith, not, ◌&&◌, ◌==◌, nat_lt, Bool, true, false, cond}
-use Rattle.bbm_rules.proofs.Common.{List, [], ◌∷◌, ◌++◌, length, Option, Some, None, option_map, find, filter, Contains}
-use Rattle.bbm_rules.proofs.Common.{refl, sym, ◌∙◌, ap, subst, inl, inr, true≢false, and_from, and_parts, eq-eqb}
-use Rattle.bbm_rules.proofs.Common.{ltb-true, or_left, or_right, Kind, needs, fits_heading, is_value, Start, Extend, Combine}
-use Rattle.bbm_rules.proofs.Common.{Share, Drop, keeps, Trust, same_tag, noted, ◌>>=◌, any, if_so, page_of, Barrier}
-use Rattle.bbm_rules.proofs.Common.{Reg, Tag, Heading, Event, Init, Write, Dsb, Msr, completes, unanswered, Reading}
-use Rattle.bbm_rules.proofs.Common.{holds_at, holds_tag, itself, reads, readings, Node, held_at, in_tree, node_of}
-use Rattle.bbm_rules.proofs.Common.{pe_finds, contains_cases, contains_head, contains_more, contains_none}
+use Rattle.bbm_rules.proofs.Common.{◌≡◌, cond, Bool, find, option_map, true, false, contains_head, contains_more, ℕ}
+use Rattle.bbm_rules.proofs.Common.{suc, ◌<◌, ◌≤◌, arith, not, ◌&&◌, ◌==◌, nat_lt, List, [], ◌∷◌, ◌++◌, length, Some}
+use Rattle.bbm_rules.proofs.Common.{None, Contains, refl, sym, ◌∙◌, ap, subst, inl, inr, true≢false, and_from}
+use Rattle.bbm_rules.proofs.Common.{and_parts, eq-eqb, ltb-true, or_left, needs, fits_heading, is_value, Start, Extend}
+use Rattle.bbm_rules.proofs.Common.{Combine, Share, Drop, keeps, Trust, same_tag, noted, ◌>>=◌, any, if_so, page_of}
+use Rattle.bbm_rules.proofs.Common.{Barrier, Reg, Tag, Heading, Event, Init, Write, Dsb, Msr, completes, unanswered}
+use Rattle.bbm_rules.proofs.Common.{Reading, holds_at, itself, reads, readings, Node, held_at, in_tree, node_of}
+use Rattle.bbm_rules.proofs.Common.{pe_finds, contains_cases, contains_none}
 use Rattle.bbm_rules.specs.Prelude.{World, Hyp, Kernel, AsidFrom, FromTtbr0, FromTtbr1, Ttbr1El1, Ttbr1Tag}
 use Rattle.bbm_rules.specs.Tags.{asid_readings, readings_in, readings_of}
 use Rattle.bbm_rules.specs.declared.rule.Rule.TheVariants.{BreakBeforeMake}
@@ -23,40 +23,23 @@ use Rattle.bbm_tlb_machine.proofs.Facts.{held_there, held_valid, tag_now}
 use Rattle.bbm_tlb_machine.proofs.Made.{fine_combined, fine_extended, fine_shared, fine_start}
 use Rattle.bbm_tlb_machine.proofs.Patterns.{LeavesIt, tagged_after}
 use Rattle.bbm_tlb_machine.proofs.Taken.{taken}
-use Rattle.bbm_lemmas.proofs.Elements.{contains_after}
-use Rattle.bbm_histories.proofs.Induction.{kept_before}
+use Rattle.bbm_lemmas.proofs.Elements.{any_finds, contains_after, from_contains, from_filter, to_contains}
+use Rattle.bbm_histories.proofs.Induction.{if_none, kept_before}
 
 -- ---- entries by number
 
-found_in : {X : Type 0} (test : X → Bool) (xs : List X) (x : X) → find test xs ≡ Some x → Contains xs x
-found_in {X} test [] x e = cc
-found_in {X} test (y ∷ xs) x e = by (test y) e (λ k. contains_more xs y x (found_in test xs x k))
-  where
-    by : (b : Bool) → cond b (Some y) (find test xs) ≡ Some x → (find test xs ≡ Some x → Contains (y ∷ xs) x) → Contains (y ∷ xs) x
-    by true k rest = let same : y ≡ x = cc in subst (λ (z : X). Contains (y ∷ xs) z) same (contains_head xs y)
-    by false k rest = rest k
-
-filtered_in : {X : Type 0} (test : X → Bool) (xs : List X) (x : X) → Contains (filter test xs) x → Contains xs x
-filtered_in {X} test [] x c = c
-filtered_in {X} test (y ∷ xs) x c = by (test y) c (λ k. contains_more xs y x (filtered_in test xs x k))
-  where
-    by : (b : Bool) → Contains (cond b (y ∷ filter test xs) (filter test xs)) x → (Contains (filter test xs) x → Contains (y ∷ xs) x)
-        → Contains (y ∷ xs) x
-    by true k rest =
-        elim (contains_cases (filter test xs) y x k) [
-          | inl e ↦ subst (λ (z : X). Contains (y ∷ xs) z) e (contains_head xs y)
-          | inr j ↦ rest j
-        ]
-    by false k rest = rest k
-
 -- the entry of a number is one of those that are kept
-kept_entry : (s : State) (number : ℕ) (x : Entry) → entry_at s number ≡ Some x → (l : Living) × Contains s.living l × (l.entry ≡ x)
-kept_entry s number x e = by (find (λ (l : Living). l.number == number) s.living) refl e
+kept_entry : (number : ℕ) (ls : List Living) (x : Entry)
+    → option_map (λ (l : Living). l.entry) (find (λ (l : Living). l.number == number) ls) ≡ Some x
+    → (l : Living) × Contains ls l × (l.entry ≡ x)
+kept_entry number [] x e = cc
+kept_entry number (l ∷ ls) x e = by (l.number == number) e (kept_entry number ls x)
   where
-    by : (o : Option Living) → find (λ (l : Living). l.number == number) s.living ≡ o → option_map (λ (l : Living). l.entry) o ≡ Some x
-        → (l : Living) × Contains s.living l × (l.entry ≡ x)
-    by None f k = cc
-    by (Some l) f k = let same : l.entry ≡ x = cc in (l, found_in (λ (l : Living). l.number == number) s.living l f, same)
+    by : (b : Bool) → option_map (λ (l : Living). l.entry) (cond b (Some l) (find (λ (l : Living). l.number == number) ls)) ≡ Some x
+        → (option_map (λ (l : Living). l.entry) (find (λ (l : Living). l.number == number) ls) ≡ Some x
+        → (m : Living) × Contains ls m × (m.entry ≡ x)) → (m : Living) × Contains (l ∷ ls) m × (m.entry ≡ x)
+    by true e rest = let same : l.entry ≡ x = cc in (l, contains_head ls l, same)
+    by false e rest = let r = rest e in (r.0, contains_more ls l r.0 r.1, r.2)
 
 module _ (heading : Heading) (trust : Trust) (k : Known heading trust) where
   abbrev AllFine : State → Type 0
@@ -71,58 +54,45 @@ module _ (heading : Heading) (trust : Trust) (k : Known heading trust) where
 
   fine_at : (s : State) (number : ℕ) (x : Entry) → AllFine s → entry_at s number ≡ Some x → Fine heading trust s.log x
   fine_at s number x all e =
-      let l = kept_entry s number x e in subst (λ (y : Entry). Fine heading trust s.log y) l.2 (all l.0 l.1)
+      let l = kept_entry number s.living x e in subst (λ (y : Entry). Fine heading trust s.log y) l.2 (all l.0 l.1)
 
   leaves_it : (s : State) (e : Event) → LeavesNone heading s e → (l : Living) → Contains s.living l → LeavesIt heading s.log e l.entry
   leaves_it s (Dsb q dsb) none l i r d is t j completed =
-      let same : (q ≡ r) × (dsb ≡ d) = dsb_parts q r dsb d is in
-      none t (subst (λ (p : ℕ). Contains (unanswered itself p s.log) t) (sym same.0) j)
-      (ap (λ (b : Barrier). completes b t.tlbi) same.1 ∙ completed) l i
-    where
-      dsb_parts : (q r : ℕ) (dsb d : Barrier) → Dsb q dsb ≡ Dsb r d → (q ≡ r) × (dsb ≡ d)
-      dsb_parts q r dsb d e =
-          let first : q ≡ r = cc in
-          let second : dsb ≡ d = cc in
-          (first, second)
+      let first : r ≡ q = cc in
+      let second : dsb ≡ d = cc in
+      none t (subst (λ (p : ℕ). Contains (unanswered itself p s.log) t) first j)
+      (ap (λ (b : Barrier). completes b t.tlbi) second ∙ completed) l i
   leaves_it s e none l i r d is t j completed = let apart : e ≡ Dsb r d = is in cc
+
+  -- what is fine in a state is fine in the next one, which is the same
+  led : (made next : State) → next ≡ made → IsLog heading next.log → keeps heading trust next.log ≡ true
+      → (IsLog heading made.log → keeps heading trust made.log ≡ true → AllFine made) → AllFine next
+  led made next e log kept all =
+      subst AllFine (sym e)
+      (all (subst (λ (n : State). IsLog heading n.log) e log) (subst (λ (n : State). keeps heading trust n.log ≡ true) e kept))
 
   step_fine : (s : State) (step : Step) (next : State) → IsLog heading next.log → keeps heading trust next.log ≡ true
       → Leads heading s step next → (IsLog heading s.log → keeps heading trust s.log ≡ true → AllFine s) → AllFine next
   step_fine s (Machine (Start p kind number place value)) next log kept leads before =
-      subst AllFine (sym leads.1)
-      (let log' : IsLog heading s.log = subst (λ (n : State). IsLog heading n.log) leads.1 log in
-      let kept' : keeps heading trust s.log ≡ true = subst (λ (n : State). keeps heading trust n.log ≡ true) leads.1 kept in
-      with_fine s _ (before log' kept') (fine_start heading trust k s.log kept' log' p kind number place value leads.0))
+      led _ next leads.1 log kept (λ log' kept'. with_fine s _ (before log' kept')
+      (fine_start heading trust k s.log kept' log' p kind number place value leads.0))
   step_fine s (Machine (Extend number place value)) next log kept leads before =
-      subst AllFine (sym leads.3)
-      (let log' : IsLog heading s.log = subst (λ (n : State). IsLog heading n.log) leads.3 log in
-      let kept' : keeps heading trust s.log ≡ true = subst (λ (n : State). keeps heading trust n.log ≡ true) leads.3 kept in
-      with_fine s _ (before log' kept')
+      led _ next leads.3 log kept (λ log' kept'. with_fine s _ (before log' kept')
       (fine_extended heading trust k s.log kept' leads.0 (fine_at s number leads.0 (before log' kept') leads.1) place value leads.2))
   step_fine s (Machine (Combine number)) next log kept leads before =
-      subst AllFine (sym leads.3)
-      (let log' : IsLog heading s.log = subst (λ (n : State). IsLog heading n.log) leads.3 log in
-      let kept' : keeps heading trust s.log ≡ true = subst (λ (n : State). keeps heading trust n.log ≡ true) leads.3 kept in
-      with_fine s _ (before log' kept')
+      led _ next leads.3 log kept (λ log' kept'. with_fine s _ (before log' kept')
       (fine_combined heading trust k s.log kept' leads.0 (fine_at s number leads.0 (before log' kept') leads.1) leads.2))
   step_fine s (Machine (Share number p)) next log kept leads before =
-      subst AllFine (sym leads.3)
-      (let log' : IsLog heading s.log = subst (λ (n : State). IsLog heading n.log) leads.3 log in
-      let kept' : keeps heading trust s.log ≡ true = subst (λ (n : State). keeps heading trust n.log ≡ true) leads.3 kept in
-      with_fine s _ (before log' kept')
+      led _ next leads.3 log kept (λ log' kept'. with_fine s _ (before log' kept')
       (fine_shared heading trust k s.log kept' leads.0 (fine_at s number leads.0 (before log' kept') leads.1) p leads.2))
   step_fine s (Machine (Drop number)) next log kept leads before =
-      subst AllFine (sym leads.2)
-      (let log' : IsLog heading s.log = subst (λ (n : State). IsLog heading n.log) leads.2 log in
-      let kept' : keeps heading trust s.log ≡ true = subst (λ (n : State). keeps heading trust n.log ≡ true) leads.2 kept in
-      λ l i. before log' kept' l (filtered_in (λ (m : Living). not (m.number == number)) s.living l i))
+      led _ next leads.2 log kept (λ log' kept' l i. before log' kept' l (to_contains s.living l
+      (from_filter (λ (m : Living). not (m.number == number)) s.living l (from_contains _ l i)).0))
   step_fine s (Taken e) next log kept leads before =
-      subst AllFine (sym leads.1)
-      (let log' : IsLog heading (e ∷ s.log) = subst (λ (n : State). IsLog heading n.log) leads.1 log in
-      let kept' : keeps heading trust (e ∷ s.log) ≡ true = subst (λ (n : State). keeps heading trust n.log ≡ true) leads.1 kept in
+      led _ next leads.1 log kept (λ log' kept' l i.
       let older : IsLog heading s.log
       = record { header = log'.header; events = λ y i. log'.events y (contains_more s.log e y i) } in
-      λ l i. fine_after heading trust k s.log e kept' l.entry
+      fine_after heading trust k s.log e kept' l.entry
       (before older (kept_before heading trust (e ∷ []) s.log kept') l i) (leaves_it s e leads.0 l i))
 
   pub run_fine : (steps : List Step) (s : State) → IsLog heading s.log → keeps heading trust s.log ≡ true
@@ -150,17 +120,9 @@ module _ (heading : Heading) (trust : Trust) (k : Known heading trust) where
 
   read_by : (rs : List Reading) (tag : Tag) (r : Reading) → Contains rs r → r.tag ≡ tag
       → any (λ (y : Reading). same_tag y.tag tag && y.root == r.root) rs ≡ true
-  read_by [] tag r i e = absurd (contains_none r i)
-  read_by (y ∷ rs) tag r i e =
-      let rest : Contains rs r → any (λ (y : Reading). same_tag y.tag tag && y.root == r.root) rs ≡ true
-      = λ j. read_by rs tag r j e in
-      elim (contains_cases rs y r i) [
-        | inl same ↦ or_left (same_tag y.tag tag && y.root == r.root) (any (λ (y : Reading). same_tag y.tag tag && y.root == r.root) rs)
-            (and_from (same_tag y.tag tag) (y.root == r.root)
-            ((k.equality_tests.tags y.tag tag).1 (ap (λ (z : Reading). z.tag) same ∙ e))
-            (eq-eqb y.root r.root (ap (λ (z : Reading). z.root) same)))
-        | inr j ↦ or_right (same_tag y.tag tag && y.root == r.root) (any (λ (y : Reading). same_tag y.tag tag && y.root == r.root) rs) (rest j)
-      ]
+  read_by rs tag r i e =
+      any_finds (λ (y : Reading). same_tag y.tag tag && y.root == r.root) rs r (from_contains rs r i)
+      (and_from (same_tag r.tag tag) (r.root == r.root) ((k.equality_tests.tags r.tag tag).1 e) (eq-eqb r.root r.root refl))
 
   read_at : (h : List Event) (pe : ℕ) (tag : Tag) (r : Reading) → Contains (readings heading h pe) r → r.tag ≡ tag
       → holds_at heading trust pe r.root tag h ≡ true
@@ -188,28 +150,17 @@ module _ (heading : Heading) (trust : Trust) (k : Known heading trust) where
         let p : Placed heading trust s.log x.root part = f.placed part i in
         let q : Holding heading trust s.log part = f.holding part i in
         let node : node_of heading trust (noted heading trust s.log) (page_of place) ≡ Some p.node
-        = ap (λ (a : ℕ). node_of heading trust (noted heading trust s.log) (page_of a)) (sym e)
-        ∙ (ap (node_of heading trust (noted heading trust s.log)) p.is_at.inside
-        ∙ k.one_node.the_first s.log older p.node p.in_tree) in
+        = rw (← e, p.is_at.inside) (k.one_node.the_first s.log older p.node p.in_tree) in
         let held : held_at heading trust (noted heading trust s.log) p.node place ≡ Some q.value
-        = ap (held_at heading trust (noted heading trust s.log) p.node) (sym e)
-        ∙ held_there heading trust k s.log older x part p.node p.is_at q.value q.holds in
+        = rw (← e) (held_there heading trust k s.log older x part p.node p.is_at q.value q.holds) in
         let rule : (node_of heading trust (noted heading trust s.log) (page_of place)
         >>= (λ (n : Node). held_at heading trust (noted heading trust s.log) n place
         >>= (λ (old : ℕ). if_so (needs n.kind n.level old value) place))) ≡ None
         = k.each_rule.sound (Write pe place value ∷ s.log) [] s.log (Write pe place value) kept refl BreakBeforeMake in
-        let one : if_so (needs p.node.kind p.node.level q.value value) place ≡ None
-        = sym (ap (λ (o : Option Node). o >>= (λ (n : Node). held_at heading trust (noted heading trust s.log) n place
-        >>= (λ (old : ℕ). if_so (needs n.kind n.level old value) place))) node
-        ∙ ap (λ (o : Option ℕ). o >>= (λ (old : ℕ). if_so (needs p.node.kind p.node.level old value) place)) held) ∙ rule in
+        let one : if_so (needs p.node.kind p.node.level q.value value) place ≡ None = rw (node, held) at rule in
         let there : needs p.node.kind p.node.level q.value value ≡ false = if_none (needs p.node.kind p.node.level q.value value) place one in
         no_need heading trust k part.kind part.level q.value part.value value (held_valid heading trust k s.log older x part q) q.same_core
-        (subst (λ (c : Kind). needs c part.level q.value value ≡ false) p.is_at.kind
-        (subst (λ (l : ℕ). needs p.node.kind l q.value value ≡ false) p.is_at.level there))
-      where
-        if_none : (b : Bool) (n : ℕ) → if_so b n ≡ None → b ≡ false
-        if_none true n e = cc
-        if_none false n e = refl
+        (rw (p.is_at.kind, p.is_at.level) at there)
 
     no_page : (pe page : ℕ) → keeps heading trust (Init pe page ∷ s.log) ≡ true → (part : Part) → Contains (parts_of x) part
         → page_of part.place ≡ page → ⊥

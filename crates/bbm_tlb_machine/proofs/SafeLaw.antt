@@ -12,9 +12,10 @@ use Rattle.bbm_tlb_machine.specs.MachineRun.{IsRun, Living, State, follow_steps}
 use Rattle.bbm_tlb_machine.specs.Safe.{ComesTo, Safe, conflicts_with, earlier, fails_at, first_conflict, has_other_root}
 use Rattle.bbm_tlb_machine.specs.Safe.{in_conflict, is_stale}
 use Rattle.bbm_tlb_machine.specs.First.{IsFirstConflict}
-use Rattle.bbm_tlb_machine.proofs.ListWords.{any_none, is_none, none_in}
+use Rattle.bbm_tlb_machine.proofs.ListWords.{is_none, none_in}
 use Rattle.bbm_tlb_machine.proofs.RunLaw.{run_complete, run_sound}
 use Rattle.bbm_lemmas.proofs.Bools.{second_false, and_apart}
+use Rattle.bbm_lemmas.proofs.Tests.{any_never}
 use Rattle.bbm_histories.proofs.Induction.{if_none}
 
 module _ (heading : Heading) (tests : TestsAreExact) where
@@ -152,8 +153,7 @@ module _ (heading : Heading) where
       → (first_conflict heading steps ≡ Some i → IsFirstConflict heading steps i)
       → earlier o (if_so (fails_at heading (follow_steps heading steps) step) (length steps)) ≡ Some i
       → IsFirstConflict heading (step ∷ steps) i
-  found_after steps step i None e rest k =
-      conflicts_here steps step i e (fails_at heading (follow_steps heading steps) step) refl k
+  found_after steps step i None e rest k = conflicts_here steps step i e _ refl k
   found_after steps step i (Some j) e rest k = conflicts_later step steps i (rest (e ∙ k))
 
   found_sound : (steps : List Step) (i : ℕ) → first_conflict heading steps ≡ Some i → IsFirstConflict heading steps i
@@ -163,12 +163,8 @@ module _ (heading : Heading) where
   found_at : (newer : List Step) (e : Event) (older : List Step) (s : State) → IsRun heading older s
       → in_conflict heading s e ≡ true → first_conflict heading older ≡ None
       → first_conflict heading (newer ++ Taken e ∷ older) ≡ Some (length older)
-  found_at [] e older s run k none =
-      ap (λ (o : Option ℕ). earlier o (if_so (fails_at heading (follow_steps heading older) (Taken e)) (length older))) none
-      ∙ ap (λ (b : Bool). if_so b (length older)) (fails_is older s e run ∙ k)
-  found_at (x ∷ newer) e older s run k none =
-      ap (λ (o : Option ℕ). earlier o (if_so (fails_at heading (follow_steps heading (newer ++ Taken e ∷ older)) x) (length (newer ++ Taken e ∷ older))))
-      (found_at newer e older s run k none)
+  found_at [] e older s run k none = rw (none, fails_is older s e run, k)
+  found_at (x ∷ newer) e older s run k none = rw (found_at newer e older s run k none)
 
   found_complete : (steps : List Step) (i : ℕ) → IsFirstConflict heading steps i → first_conflict heading steps ≡ Some i
   found_complete steps i c =
@@ -182,7 +178,7 @@ pub quiet : (heading : Heading) (h : List Event) (e : Event) (living : List Livi
 quiet heading h (Init pe page) living a b d = absurd (a pe page refl)
 quiet heading h (Write pe at v) living a b d = absurd (b pe at v refl)
 quiet heading h (Msr pe reg v) living a b d = absurd (d pe reg v refl)
-quiet heading h _ living a b d = any_none living
+quiet heading h _ living a b d = sym (any_never living)
 
 pub safe_law : TestsAreExact → (heading : Heading) (log : List Event)
     → Safe heading log ↔ ((s : State) (e : Event) → ComesTo heading log s e → in_conflict heading s e ≡ false)

@@ -14,15 +14,6 @@ use Rattle.bbm_tlb_machine.proofs.Covered.{Covering, covering}
 use Rattle.bbm_histories.proofs.Induction.{At, event_at, events_append}
 use Rattle.bbm_tlb_machine.proofs.Scopes.{cover_inside, full_age, half_is_s2, must_go_by, second_age, stage2_age}
 
-half_some : Half ≡ NoCover → ⊥
-half_some e = cc
-
-second_some : Second ≡ NoCover → ⊥
-second_some e = cc
-
-full_some : Full ≡ NoCover → ⊥
-full_some e = cc
-
 -- it is open among the events alone
 pub open_among : (heading : Heading) (trust : Trust) (k : Known heading trust) (h : List Event) (cover : Cover) (place p : ℕ)
     (since : List Noted) (t : Issued Noted) (u : Unanswered heading trust h cover place p since t)
@@ -45,84 +36,74 @@ module _ (heading : Heading) (trust : Trust) (k : Known heading trust) (h : List
 
   module _ (part : Part) (i : Contains (parts_of x) part) (w : ValidWrite)
       (last : last_valid part.kind part.level part.place (noted heading trust h) ≡ Some w) (p : ℕ) (near : IsNear heading x p)
-      (b : Noted) (t : Issued Noted) (published : Publication heading part.place p t.before b)
-      (cover : Cover) (u : Unanswered heading trust h cover part.place p w.since t) where
-    covers : (cover ≡ NoCover → ⊥) → Covering heading x t cover u.older
-    covers some =
-        covering heading trust k h kept x f part i w last p u.q near t u.is_open b published
-        (f.made_before part i w last p near b (publication_before heading trust k part.place p u.q w.since t b u.is_open published))
-        cover some u.covered u.older u.whole
-
-    goes : (c : Covering heading x t cover u.older) (age : ℕ)
-        → taken_by_scope c.by_scope.scope (vmid_of heading (events_of u.older) c.by_scope.pe) (head_of x) ≡ true
-        → age_by c.by_scope.scope.family x.kind x.since x.joined ≡ age → age ≤ length (events_of u.older)
-        → Goes heading trust h x t.tlbi u.older
-    goes c age takes aged old =
-        must_go_by heading x t.tlbi.event (events_of u.older) c.by_scope.pe c.by_scope.op c.by_scope.xt c.by_scope.scope c.by_scope.is
-        (reached_here t.tlbi.event p near u.reached) c.by_scope.named takes age aged old
-
-    inside : (cover ≡ NoCover → ⊥) → (c : Covering heading x t cover u.older)
-        → cover_by c.view.kind c.by_scope.scope.family (fits_place c.by_scope.scope c.view) c.by_scope.scope
-        (vmid_of heading (events_of u.older) c.by_scope.pe) c.view ≡ cover
-    inside some c = cover_inside c.by_scope.scope (vmid_of heading (events_of u.older) c.by_scope.pe) c.view cover some c.by_scope.covers
-
-  module _ (part : Part) (i : Contains (parts_of x) part) (w : ValidWrite)
-      (last : last_valid part.kind part.level part.place (noted heading trust h) ≡ Some w) (p : ℕ) (near : IsNear heading x p)
       (b : Noted) (t : Issued Noted) where
+    module _ (cover : Cover) (u : Unanswered heading trust h cover part.place p w.since t) where
+      covers : Publication heading part.place p t.before b → (cover ≡ NoCover → ⊥) → Covering heading x t cover u.older
+      covers published some =
+          covering heading trust k h kept x f part i w last p u.q near t u.is_open b published
+          (f.made_before part i w last p near b (publication_before heading trust k part.place p u.q w.since t b u.is_open published))
+          cover some u.covered u.older u.whole
+
+      goes : (c : Covering heading x t cover u.older) (age : ℕ)
+          → taken_by_scope c.by_scope.scope (vmid_of heading (events_of u.older) c.by_scope.pe) (head_of x) ≡ true
+          → age_by c.by_scope.scope.family x.kind x.since x.joined ≡ age → age ≤ length (events_of u.older)
+          → Goes heading trust h x t.tlbi u.older
+      goes c age takes aged old =
+          must_go_by heading x t.tlbi.event (events_of u.older) c.by_scope.pe c.by_scope.op c.by_scope.xt c.by_scope.scope c.by_scope.is
+          (reached_here t.tlbi.event p near u.reached) c.by_scope.named takes age aged old
+
+      inside : (cover ≡ NoCover → ⊥) → (c : Covering heading x t cover u.older)
+          → cover_by c.view.kind c.by_scope.scope.family (fits_place c.by_scope.scope c.view) c.by_scope.scope
+          (vmid_of heading (events_of u.older) c.by_scope.pe) c.view ≡ cover
+      inside some c =
+          cover_inside c.by_scope.scope (vmid_of heading (events_of u.older) c.by_scope.pe) c.view cover some c.by_scope.says
+
     full_goes : Publication heading part.place p t.before b → (u : Unanswered heading trust h Full part.place p w.since t)
         → Goes heading trust h x t.tlbi u.older
     full_goes published u =
-        let c = covers part i w last p near b t published Full u full_some in
-        goes part i w last p near b t published Full u c x.since
-        (k.full_takes c.by_scope.scope (vmid_of heading (events_of u.older) c.by_scope.pe) (head_of x) c.view c.agrees c.by_scope.covers)
-        (full_age c.view.kind c.by_scope.scope.family (fits_place c.by_scope.scope c.view) c.by_scope.scope
-        (vmid_of heading (events_of u.older) c.by_scope.pe) c.view x.kind x.since x.joined c.agrees.kind
-        (inside part i w last p near b t published Full u full_some c)) c.since
+        let c = covers Full u published (λ k. cc) in
+        goes Full u c x.since
+        (k.full_takes c.by_scope.scope (vmid_of heading (events_of u.older) c.by_scope.pe) (head_of x) c.view c.agrees c.by_scope.says)
+        (full_age c.view.kind c.by_scope.scope.family _ c.by_scope.scope _ c.view x.kind x.since x.joined c.agrees.kind
+        (inside Full u (λ k. cc) c)) c.since
 
     half_goes : x.kind ≡ Stage2 → Publication heading part.place p t.before b
         → (u : Unanswered heading trust h Half part.place p w.since t) → Goes heading trust h x t.tlbi u.older
     half_goes stage2 published u =
-        let c = covers part i w last p near b t published Half u half_some in
-        goes part i w last p near b t published Half u c x.since
-        (k.half_takes c.by_scope.scope (vmid_of heading (events_of u.older) c.by_scope.pe) (head_of x) c.view c.agrees stage2 c.by_scope.covers)
+        let c = covers Half u published (λ k. cc) in
+        goes Half u c x.since
+        (k.half_takes c.by_scope.scope (vmid_of heading (events_of u.older) c.by_scope.pe) (head_of x) c.view c.agrees stage2 c.by_scope.says)
         (ap (λ (y : EntryKind). age_by c.by_scope.scope.family y x.since x.joined) stage2 ∙ stage2_age c.by_scope.scope.family x.since x.joined)
         c.since
 
-  rest_goes : x.kind ≡ Combined → (part : Part) (i : Contains (parts_of x) part) (w : ValidWrite)
-      → last_valid part.kind part.level part.place (noted heading trust h) ≡ Some w → (p : ℕ) → IsNear heading x p
-      → (b : Noted) (t1 : Issued Noted) (d1 : Noted) (t : Issued Noted) → HalfBy heading part.place p t.before b t1 d1
-      → (u : Unanswered heading trust h Second part.place p w.since t) → Goes heading trust h x t.tlbi u.older
-  rest_goes combined part i w last p near b t1 d1 t first u =
-      let published : Publication heading part.place p t.before b
-      = publication_answered heading trust k part.place p t.before t1 d1 b first.flush.answer first.published in
-      let c = covers part i w last p near b t published Second u second_some in
-      let joined : x.joined < d1.position
-      = (f.joined_before part i w last p near b t1 d1 (half_before heading trust k part.place p u.q w.since t b t1 d1 u.is_open first)).1 in
-      let le : d1.position ≤ length (events_of u.older) = c.earlier first.flush.answer.newer first.flush.answer.older d1 first.flush.answer.split in
-      goes part i w last p near b t published Second u c x.joined
-      (k.second_takes c.by_scope.scope (vmid_of heading (events_of u.older) c.by_scope.pe) (head_of x) c.view c.agrees combined c.by_scope.covers)
-      (ap (λ (y : EntryKind). age_by c.by_scope.scope.family y x.since x.joined) combined
-      ∙ second_age c.view.kind c.by_scope.scope.family (fits_place c.by_scope.scope c.view) c.by_scope.scope
-      (vmid_of heading (events_of u.older) c.by_scope.pe) c.view x.since x.joined
-      (ap (λ (y : EntryKind). read_through y c.view.kind) (sym combined) ∙ c.agrees.kind)
-      (inside part i w last p near b t published Second u second_some c))
-      (omega (arith, le, joined))
+    rest_goes : x.kind ≡ Combined → (t1 : Issued Noted) (d1 : Noted) → HalfBy heading part.place p t.before b t1 d1
+        → (u : Unanswered heading trust h Second part.place p w.since t) → Goes heading trust h x t.tlbi u.older
+    rest_goes combined t1 d1 first u =
+        let published : Publication heading part.place p t.before b
+        = publication_answered heading trust k part.place p t.before t1 d1 b first.flush.answer first.published in
+        let c = covers Second u published (λ k. cc) in
+        let joined : x.joined < d1.position
+        = (f.joined_before part i w last p near b t1 d1 (half_before heading trust k part.place p u.q w.since t b t1 d1 u.is_open first)).1 in
+        let le : d1.position ≤ length (events_of u.older) = c.earlier first.flush.answer.newer first.flush.answer.older d1 first.flush.answer.split in
+        goes Second u c x.joined
+        (k.second_takes c.by_scope.scope (vmid_of heading (events_of u.older) c.by_scope.pe) (head_of x) c.view c.agrees combined c.by_scope.says)
+        (ap (λ (y : EntryKind). age_by c.by_scope.scope.family y x.since x.joined) combined
+        ∙ second_age c.view.kind c.by_scope.scope.family _ c.by_scope.scope _ c.view x.since x.joined
+        (ap (λ (y : EntryKind). read_through y c.view.kind) (sym combined) ∙ c.agrees.kind) (inside Second u (λ k. cc) c))
+        (omega (arith, le, joined))
 
-  -- a TLBI that covers a place half covers one of stage 2
-  pub half_through : (part : Part) (i : Contains (parts_of x) part) (w : ValidWrite)
-      → last_valid part.kind part.level part.place (noted heading trust h) ≡ Some w → (p : ℕ) → IsNear heading x p
-      → (b : Noted) (t : Issued Noted) → Publication heading part.place p t.before b
-      → Unanswered heading trust h Half part.place p w.since t → read_through x.kind S2 ≡ true
-  half_through part i w last p near b t published u =
-      let c = covers part i w last p near b t published Half u half_some in
-      let s2 : c.view.kind ≡ S2
-      = half_is_s2 c.view.kind c.by_scope.scope.family (fits_place c.by_scope.scope c.view) c.by_scope.scope
-      (vmid_of heading (events_of u.older) c.by_scope.pe) c.view (inside part i w last p near b t published Half u half_some c) in
-      ap (read_through x.kind) (sym s2) ∙ c.agrees.kind
+    -- a TLBI that covers a place half covers one of stage 2
+    pub half_through : Publication heading part.place p t.before b → Unanswered heading trust h Half part.place p w.since t
+        → read_through x.kind S2 ≡ true
+    half_through published u =
+        let c = covers Half u published (λ k. cc) in
+        let s2 : c.view.kind ≡ S2
+        = half_is_s2 c.view.kind c.by_scope.scope.family _ c.by_scope.scope _ c.view (inside Half u (λ k. cc) c) in
+        ap (read_through x.kind) (sym s2) ∙ c.agrees.kind
 
   pub taken : Taken heading trust h x
   taken = record {
-    full = λ part i w last p near b t published u. full_goes part i w last p near b t published u;
-    half = λ stage2 part i w last p near b t published u. half_goes part i w last p near b t stage2 published u;
-    rest = rest_goes;
+    full = full_goes;
+    half = λ stage2 part i w last p near b t. half_goes part i w last p near b t stage2;
+    rest = λ combined part i w last p near b t1 d1 t. rest_goes part i w last p near b t combined t1 d1;
   }
