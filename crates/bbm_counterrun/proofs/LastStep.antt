@@ -31,12 +31,6 @@ module _ (heading : Heading) where
   grows_by s t (Machine (Drop n)) l = record { later = []; split = ap (λ (u : State). u.log) l.2 }
   grows_by s t (Taken e) l = record { later = e ∷ []; split = ap (λ (u : State). u.log) l.1 }
 
-  then_grows : (s t u : State) → Grows s t → Grows t u → Grows s u
-  then_grows s t u a b = record {
-    later = b.later ++ a.later;
-    split = b.split ∙ ap (λ es. b.later ++ es) a.split ∙ sym (append_assoc b.later a.later s.log);
-  }
-
   -- the state that a run was in after its older steps
   record Passed (older : List Step) (t : State) : Type 0 where
     at : State
@@ -47,14 +41,19 @@ module _ (heading : Heading) where
   passed [] older t run = record { at = t; run = run; grows = record { later = []; split = refl } }
   passed (step ∷ newer) older t run =
       let p : Passed older run.0 = passed newer older run.0 run.1 in
-      record { at = p.at; run = p.run; grows = then_grows p.at run.0 t p.grows (grows_by run.0 t step run.2) }
+      let g : Grows run.0 t = grows_by run.0 t step run.2 in record {
+        at = p.at;
+        run = p.run;
+        grows = record {
+          later = g.later ++ p.grows.later;
+          split = g.split ∙ ap (λ es. g.later ++ es) p.grows.split ∙ sym (append_assoc g.later p.grows.later p.at.log);
+        };
+      }
 
   module _ (trust : Trust) (laws : RunLaws heading trust) where
     one_state : (steps : List Step) (s t : State) → IsRun heading steps s → IsRun heading steps t → s ≡ t
     one_state steps s t a b =
-        let one = (laws.runs.run heading steps s).0 a in
-        let other = (laws.runs.run heading steps t).0 b in
-        cc
+        let one = (laws.runs.run heading steps s).0 a in let other = (laws.runs.run heading steps t).0 b in cc
 
     -- no earlier step conflicts
     earlier_is_quiet : (h : List Event) (steps : List Step) (before : State) → Safe heading h → IsRun heading steps before → before.log ≡ h
@@ -77,9 +76,9 @@ module _ (heading : Heading) where
         by None e = e
         by (Some i) e = absurd (apart i ((laws.conflicts.first heading steps i).1 e))
 
-    ends : (h : List Event) (pe place value : ℕ) (steps : List Step) → IsLog heading h → keeps heading trust h ≡ true
+    pub conflict_ends : (h : List Event) (pe place value : ℕ) (steps : List Step) → IsLog heading h → keeps heading trust h ≡ true
         → IsConflictRun heading h (Write pe place value) steps → EndsInConflict heading steps
-    ends h pe place value steps is_log kept c =
+    conflict_ends h pe place value steps is_log kept c =
         let followed : follow_steps heading c.older ≡ Ok c.before = (laws.runs.run heading c.older c.before).0 c.run in
         let quiet = earlier_is_quiet h c.older c.before (laws.kept h is_log kept) c.run c.over in
         record {
@@ -100,7 +99,3 @@ module _ (heading : Heading) where
             first = quiet;
           });
         }
-
-pub conflict_ends : (heading : Heading) (trust : Trust) → RunLaws heading trust → (h : List Event) (pe place value : ℕ)
-    (steps : List Step) → IsLog heading h → keeps heading trust h ≡ true → IsConflictRun heading h (Write pe place value) steps → EndsInConflict heading steps
-conflict_ends = ends

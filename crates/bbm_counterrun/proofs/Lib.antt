@@ -14,7 +14,6 @@ mod LeastGoals
 mod LeastReads
 mod NumberCode
 mod OneEntry
-mod OneRun
 mod Order
 mod PlainTest
 mod ReadCode

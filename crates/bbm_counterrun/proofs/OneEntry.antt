@@ -1,15 +1,15 @@
 -- What becomes of the state where no entry is kept, and where one is.
 use Rattle.bbm_counterrun.proofs.Common.{length-append, Entry, State, conflicts_with, in_conflict, must_go, forbids}
 use Rattle.bbm_counterrun.proofs.Common.{is_forbidden}
-use Rattle.bbm_rules.proofs.Common.{◌≡◌, ℕ, ◌+◌, ◌<◌, ◌≤◌, arith, Bool, true, false, ◌&&◌, ◌||◌, not, nat_lt, nat_le}
-use Rattle.bbm_rules.proofs.Common.{List, [], ◌∷◌, ◌++◌, length, map, reverse, Option, Some, refl, sym, ◌∙◌, ap}
-use Rattle.bbm_rules.proofs.Common.{and_left, and_right, le-leb, le-ltb, lt-ltb, or_from, map-append, reverse-append}
-use Rattle.bbm_rules.proofs.Common.{proved, Is, ◌>>=◌, if_so, Heading, Event, Dsb, Issued, completes, unanswered}
-use Rattle.bbm_rules.proofs.Common.{itself, or-false, is_none_of}
+use Rattle.bbm_rules.proofs.Common.{◌≡◌, ℕ, ◌<◌, ◌≤◌, arith, Bool, true, false, ◌&&◌, ◌||◌, not, nat_lt, nat_le, List}
+use Rattle.bbm_rules.proofs.Common.{[], ◌∷◌, ◌++◌, length, map, reverse, Some, refl, ◌∙◌, ap, and_left, and_right}
+use Rattle.bbm_rules.proofs.Common.{le-ltb, or_from, map-append, reverse-append, ◌>>=◌, if_so, Heading, Event, Dsb}
+use Rattle.bbm_rules.proofs.Common.{Issued, completes, unanswered, itself, or-false, is_none_of, proved, Is}
 use Rattle.std.proofs.lemmas.Bool.{lt-leb}
+use Rattle.std.proofs.lemmas.Bool.Decides.{nat_tests}
 use Rattle.bbm_tlb_machine.specs.declared.step.Step.TheVariants.{Event as Taken}
 use Rattle.bbm_tlb_machine.specs.MachineRun.{leaves_some}
-use Rattle.bbm_counterrun.proofs.Following.{run_after, run_append, run_to, then_so}
+use Rattle.bbm_counterrun.proofs.Following.{run_all, run_so, run_to}
 use Rattle.bbm_lemmas.proofs.Tests.{any_same}
 
 -- ---- the two states
@@ -21,11 +21,7 @@ abbrev pub one_kept : List Event → ℕ → Entry → State
 one_kept h n x = record { log = h; living = record { number = n; entry = x } ∷ []; made = n }
 
 so_some : {A : Type 0} (b : Bool) (x : A) → (if_so b x >>= (λ y. Some y)) ≡ if_so b x
-so_some true x = refl
-so_some false x = refl
-
-not_or : (now before : Bool) → (not before && not now) ≡ not (now || before)
-not_or = proved 2 (λ now before. Is (not before && not now) (not (now || before))) refl
+so_some b x = grind arith
 
 module _ (heading : Heading) where
   -- ---- events
@@ -35,8 +31,7 @@ module _ (heading : Heading) where
   none_left h _ = refl
 
   one_left : (h : List Event) (n : ℕ) (x : Entry) (e : Event) → leaves_some heading (one_kept h n x) e ≡ forbids heading x e h
-  one_left h n x (Dsb q dsb) =
-      any_same _ _ (unanswered itself q h) (λ (t : Issued Event). ap (λ b. completes dsb t.tlbi && b) (or-false (must_go heading t x)))
+  one_left h n x (Dsb q dsb) = any_same _ _ (unanswered itself q h) (λ (t : Issued Event) i. completes dsb t.tlbi && or-false (must_go heading t x) i)
   one_left h n x _ = refl
 
   pub one_meets : (h : List Event) (n : ℕ) (x : Entry) (e : Event) → in_conflict heading (one_kept h n x) e ≡ conflicts_with heading h e x
@@ -50,30 +45,24 @@ module _ (heading : Heading) where
   past_none [] older = refl
   past_none (e ∷ newer) older =
       ap (run_to heading (none_kept older)) (taken_more e newer)
-      ∙ run_after heading (none_kept older) (none_kept (newer ++ older)) (map Taken (reverse newer)) (Taken e ∷ []) (past_none newer older)
-      ∙ ap (λ b. if_so (not b) (none_kept (e ∷ newer ++ older)) >>= (λ s. Some s)) (none_left (newer ++ older) e)
+      ∙ run_all heading (none_kept older) (none_kept (newer ++ older)) _ (map Taken (reverse newer)) (Taken e ∷ []) true (past_none newer older)
+      (ap (λ b. if_so (not b) (none_kept (e ∷ newer ++ older)) >>= (λ s. Some s)) (none_left (newer ++ older) e))
 
   -- whether one of the newer events forbids the entry
   abbrev pub forbidden_in : Entry → List Event → List Event → Bool
   forbidden_in x [] older = false
   forbidden_in x (e ∷ newer) older = forbids heading x e (newer ++ older) || forbidden_in x newer older
 
-  step_one : (h : List Event) (n : ℕ) (x : Entry) (e : Event)
-      → run_to heading (one_kept h n x) (Taken e ∷ []) ≡ if_so (not (forbids heading x e h)) (one_kept (e ∷ h) n x)
-  step_one h n x e =
-      ap (λ b. if_so (not b) (one_kept (e ∷ h) n x) >>= (λ s. Some s)) (one_left h n x e)
-      ∙ so_some (not (forbids heading x e h)) (one_kept (e ∷ h) n x)
-
   pub past_one : (newer older : List Event) (n : ℕ) (x : Entry)
       → run_to heading (one_kept older n x) (map Taken (reverse newer)) ≡ if_so (not (forbidden_in x newer older)) (one_kept (newer ++ older) n x)
   past_one [] older n x = refl
   past_one (e ∷ newer) older n x =
+      let h : List Event = newer ++ older in
       ap (run_to heading (one_kept older n x)) (taken_more e newer)
-      ∙ run_append heading (one_kept older n x) (map Taken (reverse newer)) (Taken e ∷ [])
-      ∙ ap (λ (o : Option State). o >>= (λ s. run_to heading s (Taken e ∷ []))) (past_one newer older n x)
-      ∙ then_so (not (forbidden_in x newer older)) (not (forbids heading x e (newer ++ older))) (one_kept (newer ++ older) n x)
-      (one_kept (e ∷ newer ++ older) n x) (λ s. run_to heading s (Taken e ∷ [])) (step_one (newer ++ older) n x e)
-      ∙ ap (λ b. if_so b (one_kept (e ∷ newer ++ older) n x)) (not_or (forbids heading x e (newer ++ older)) (forbidden_in x newer older))
+      ∙ run_so heading (one_kept older n x) (one_kept h n x) _ (map Taken (reverse newer)) (Taken e ∷ []) _ _ (past_one newer older n x)
+      (so_some _ (one_kept (e ∷ h) n x) ∙ ap (λ b. if_so (not b) (one_kept (e ∷ h) n x)) (one_left h n x e))
+      ∙ ap (λ b. if_so b (one_kept (e ∷ h) n x))
+      (proved 2 (λ a b. Is (not a && not b) (not (b || a))) refl (forbidden_in x newer older) (forbids heading x e h))
 
   -- where only the newer ones count, of a log
   behind_none : (k to : ℕ) (x : Entry) (h : List Event) → length h ≤ k → is_forbidden heading k to x h ≡ false
@@ -81,26 +70,21 @@ module _ (heading : Heading) where
   behind_none k to x (e ∷ h) le =
       or_from _ _ (and_left _ _ (and_left _ _ (lt-leb k (length h) le))) (behind_none k to x h (omega (arith, le)))
 
-  counts : (from to at : ℕ) (b : Bool) → from ≤ at → at < to → (nat_le from at && nat_lt at to && b) ≡ b
-  counts from to at b le lt =
-      ap (λ c. c && nat_lt at to && b) (le-leb from at le) ∙ ap (λ c. c && b) (lt-ltb at to lt)
+  counts : (from to at : ℕ) (b c : Bool) → from ≤ at → at < to → ((nat_le from at && nat_lt at to && b) || c) ≡ (b || c)
+  counts from to at b c le lt = grind (arith, nat_tests)
 
   between_is : (newer older : List Event) (to : ℕ) (x : Entry) → length (newer ++ older) ≤ to
       → is_forbidden heading (length older) to x (newer ++ older) ≡ forbidden_in x newer older
   between_is [] older to x le = behind_none (length older) to x older (omega arith)
   between_is (e ∷ newer) older to x le =
-      let long : length (newer ++ older) ≡ length newer + length older = length-append newer older in
-      ap (λ b. b || is_forbidden heading (length older) to x (newer ++ older))
-      (counts (length older) to (length (newer ++ older)) (forbids heading x e (newer ++ older)) (omega (arith, long)) le)
+      counts (length older) to (length (newer ++ older)) (forbids heading x e (newer ++ older)) _ (omega (arith, length-append newer older)) le
       ∙ ap (λ b. forbids heading x e (newer ++ older) || b) (between_is newer older to x (omega (arith, le)))
 
   -- the events from one number on and before another, of a log
   pub forbidden_is : (last newer older : List Event) (from to : ℕ) (x : Entry) → length older ≡ from → length (newer ++ older) ≡ to
       → is_forbidden heading from to x (last ++ (newer ++ older)) ≡ forbidden_in x newer older
-  forbidden_is [] newer older from to x a b =
-      ap (λ k. is_forbidden heading k to x (newer ++ older)) (sym a) ∙ between_is newer older to x (omega (arith, b))
+  forbidden_is [] newer older from to x a b = rw (← a) (between_is newer older to x (omega (arith, b)))
   forbidden_is (e ∷ last) newer older from to x a b =
-      let long : length (last ++ (newer ++ older)) ≡ length last + length (newer ++ older) = length-append last (newer ++ older) in
       ap (λ c. c || is_forbidden heading from to x (last ++ (newer ++ older)))
-      (and_left _ _ (and_right _ _ (le-ltb (length (last ++ (newer ++ older))) to (omega (arith, long, b)))))
+      (and_left _ _ (and_right _ _ (le-ltb (length (last ++ (newer ++ older))) to (omega (arith, length-append last (newer ++ older), b)))))
       ∙ forbidden_is last newer older from to x a b

@@ -2,21 +2,22 @@
 use Rattle.bbm_counterrun.proofs.Common.{append_assoc, Patterns, start_of, Entry, Part, desc_in, is_leaf, parts_of}
 use Rattle.bbm_counterrun.proofs.Common.{Begins, Chained, Fine, RunsAreFollowed, is_stale, extended, may_extend, Read}
 use Rattle.bbm_counterrun.proofs.Common.{holds_leaf, extended_by, may_extend_by, Goal}
-use Rattle.bbm_rules.proofs.Common.{◌≡◌, ℕ, suc, ◌+◌, arith, Bool, true, false, ◌&&◌, ◌||◌, ◌==◌, List, [], ◌∷◌, ◌++◌}
-use Rattle.bbm_rules.proofs.Common.{length, map, reverse, Option, Some, None, unwrap_or, Contains, inl, inr, refl, sym}
-use Rattle.bbm_rules.proofs.Common.{◌∙◌, ap, true≢false, and_parts, eqb-true, or_cases, reverse-append, In, to_contains}
-use Rattle.bbm_rules.proofs.Common.{Kind, desc_of, is_valid, needs, Desc, Invalid, Table, Leaf, keeps, noted, held}
-use Rattle.bbm_rules.proofs.Common.{◌>>=◌, any, is_that, Noted, page_of, Heading, Event, Declared, Above, Node, held_at}
-use Rattle.bbm_rules.proofs.Common.{next_in, next_of, node_below, node_of, Down, IsNode, is_readable, same_Some}
+use Rattle.bbm_rules.proofs.Common.{◌≡◌, ℕ, suc, ◌+◌, arith, Bool, true, false, ◌||◌, List, [], ◌∷◌, ◌++◌, length, map}
+use Rattle.bbm_rules.proofs.Common.{reverse, Option, Some, None, unwrap_or, Contains, inl, inr, refl, sym, ◌∙◌, ap}
+use Rattle.bbm_rules.proofs.Common.{true≢false, and_parts, eqb-true, reverse-append, In, to_contains, Kind, desc_of}
+use Rattle.bbm_rules.proofs.Common.{is_valid, needs, keeps, noted, any, Noted, page_of, Heading, Event, Declared, Above}
+use Rattle.bbm_rules.proofs.Common.{Node, held_at, next_of, node_below, node_of, Down, IsNode, is_readable, same_Some}
+use Rattle.std.specs.Prelude.{is_some}
+use Rattle.bbm_lemmas.proofs.Bools.{and_apart}
 use Rattle.bbm_rules.specs.HeldLaws.{HeldBySentence}
 use Rattle.bbm_rules.specs.Tree.{tree}
 use Rattle.bbm_rules.specs.TreeLaws.{PagesOfRoots, TreeBySentence}
 use Rattle.bbm_histories.specs.PositionLaws.{SingleNode}
 use Rattle.bbm_tlb_machine.specs.Invariant.{Holding, Placed}
 use Rattle.bbm_tlb_machine.specs.MachineLaws.{EntriesAreFine}
-use Rattle.bbm_counterrun.specs.RefusedWrite.{leaf_among, leaf_in}
-use Rattle.bbm_counterrun.proofs.LeastGoals.{HaveGoals, goal_at}
-use Rattle.bbm_tlb_machine.proofs.Descs.{CoreLaw, means_same}
+use Rattle.bbm_counterrun.specs.RefusedWrite.{leaf_among}
+use Rattle.bbm_counterrun.proofs.LeastGoals.{HasGoal, HaveGoals, goal_at}
+use Rattle.bbm_tlb_machine.proofs.Descs.{CoreLaw, means_same, no_leaf_if_table}
 
 -- the laws of the machine, of trees, of what is held and of cores
 pub record WayLaws (heading : Heading) : Type 0 where
@@ -78,11 +79,6 @@ walk_places x (r ∷ rs) =
 
 -- ---- leaves and tables
 
-leaf_is_no_table : (d : Desc) (next : ℕ) → next_in d ≡ Some next → is_leaf d ≡ true → ⊥
-leaf_is_no_table Invalid next e k = true≢false (sym k)
-leaf_is_no_table (Table n ns) next e k = true≢false (sym k)
-leaf_is_no_table (Leaf out attrs share global contiguous) next e k = cc
-
 -- where the part is at the place, it is a leaf
 abbrev LeafAt : ℕ → Part → Type 0
 LeafAt place part = part.place ≡ place → is_leaf (desc_in part) ≡ true
@@ -90,11 +86,8 @@ LeafAt place part = part.place ≡ place → is_leaf (desc_in part) ≡ true
 module _ (place value : ℕ) where
   -- so a table isn't at the place
   not_stale : (a : Part) (next : ℕ) → next_of a.kind a.level a.value ≡ Some next → LeafAt place a → is_stale place value a ≡ false
-  not_stale a next e leaf = by (a.place == place) refl
-    where
-      by : (b : Bool) → (a.place == place) ≡ b → (b && needs a.kind a.level a.value value) ≡ false
-      by false s = refl
-      by true s = absurd (leaf_is_no_table (desc_in a) next e (leaf (eqb-true a.place place s)))
+  not_stale a next e leaf = and_apart _ _ (λ s.
+      absurd (true≢false (sym (leaf (eqb-true a.place place s)) ∙ no_leaf_if_table (desc_in a) (ap is_some e))))
 
   none_above : (part : Part) (above : List Part) → Chained part above → ((q : Part) → In above q → LeafAt place q)
       → any (is_stale place value) above ≡ false
@@ -105,10 +98,8 @@ module _ (place value : ℕ) where
 
   pub last_is_stale : (part : Part) (above : List Part) → Chained part above → ((q : Part) → In (part ∷ above) q → LeafAt place q)
       → any (is_stale place value) (part ∷ above) ≡ true → is_stale place value part ≡ true
-  last_is_stale part above c leaf e = elim (or_cases (is_stale place value part) (any (is_stale place value) above) e) [
-    | inl here ↦ here
-    | inr there ↦ absurd (true≢false (sym there ∙ none_above part above c (λ q i. leaf q (inr i))))
-  ]
+  last_is_stale part above c leaf e =
+      let none = none_above part above c (λ q i. leaf q (inr i)) in grind arith
 
 module _ (heading : Heading) (laws : WayLaws heading) (h : List Event) (kept : keeps heading Patterns h ≡ true) where
   abbrev notes : List Noted
@@ -128,8 +119,7 @@ module _ (heading : Heading) (laws : WayLaws heading) (h : List Event) (kept : k
         kind = p.is_at.kind;
         level = p.is_at.level;
         value = q.value;
-        holds = ap (λ (k : Kind). held heading Patterns k p.node.level part.place notes) p.is_at.kind
-            ∙ ap (λ (l : ℕ). held heading Patterns part.kind l part.place notes) p.is_at.level ∙ q.holds;
+        holds = rw (p.is_at.kind, p.is_at.level) q.holds;
         valid = valid;
         same_core = q.same_core;
         means = means_same laws.cores part.kind part.level q.value part.value valid (f.shape.valid part c) q.same_core;
@@ -140,22 +130,13 @@ module _ (heading : Heading) (laws : WayLaws heading) (h : List Event) (kept : k
 
   goal_is : (part : Part) (w : IsOnWay heading h part)
       → goal_at heading h part.place ≡ Some (goal_of part.place part.kind part.level w.value)
-  goal_is part w =
-      ap (λ (o : Option Node). o >>= (λ n. held_at heading Patterns notes n part.place
-      >>= (λ value. Some (goal_of part.place n.kind n.level value)))) (node_at part w)
-      ∙ ap (λ (o : Option ℕ). o >>= (λ value. Some (goal_of part.place w.node.kind w.node.level value))) w.holds
-      ∙ ap (λ (k : Kind). Some (goal_of part.place k w.node.level w.value)) w.kind
-      ∙ ap (λ (l : ℕ). Some (goal_of part.place part.kind l w.value)) w.level
+  goal_is part w = rw (node_at part w, w.holds, w.kind, w.level)
 
   -- where the place holds a leaf, the part is one
   pub is_leaf_there : (place : ℕ) → holds_leaf heading h place ≡ true → (part : Part) → IsOnWay heading h part → LeafAt place part
   is_leaf_there place leaf part w e =
       let is : leaf_among heading Patterns notes part.place ≡ Some (is_leaf (desc_in part))
-      = ap (λ (o : Option Node). o >>= (λ n. leaf_in heading Patterns notes n part.place)) (node_at part w)
-      ∙ ap (λ (o : Option ℕ). o >>= (λ value. Some (is_leaf (desc_of w.node.kind w.node.level value)))) w.holds
-      ∙ ap (λ (k : Kind). Some (is_leaf (desc_of k w.node.level w.value))) w.kind
-      ∙ ap (λ (l : ℕ). Some (is_leaf (desc_of part.kind l w.value))) w.level
-      ∙ ap (λ (d : Desc). Some (is_leaf d)) w.means in
+      = rw (node_at part w, w.holds, w.kind, w.level, w.means) in
       sym (ap (λ (o : Option Bool). unwrap_or o false) is) ∙ ap (holds_leaf heading h) e ∙ leaf
 
   -- ---- the places above
@@ -197,8 +178,7 @@ module _ (heading : Heading) (laws : WayLaws heading) (h : List Event) (kept : k
   places_above root part (a ∷ above) begins c on one =
       let upper : IsOnWay heading h a = on a (inl refl) in
       let table : next_of upper.node.kind upper.node.level upper.value ≡ Some (page_of part.place)
-      = ap (λ (k : Kind). next_of k upper.node.level upper.value) upper.kind
-      ∙ ap (λ (l : ℕ). next_of a.kind l upper.value) upper.level ∙ ap next_in upper.means ∙ c.0.inside in
+      = rw (upper.kind, upper.level, upper.means) c.0.inside in
       let lower : Node = node_below upper.node a.place (page_of part.place) in
       let there : Contains (tree heading Patterns notes) lower
       = laws.tree.below notes upper.node a.place upper.value (page_of part.place) upper.in_tree upper.page upper.holds table in
@@ -210,18 +190,15 @@ module _ (heading : Heading) (laws : WayLaws heading) (h : List Event) (kept : k
 
   pub first_goal : (first : List Event) (p : ℕ) (part : Part) → IsOnWay heading h part
       → is_readable heading first part.place p part.value ≡ true → is_valid part.kind part.level part.value ≡ true
-      → HaveGoals heading h first p part.kind part.level (record { place = part.place; value = part.value } ∷ [])
-  first_goal first p part w readable valid = (
-    record {
-      held = w.value;
-      goal = goal_is part w;
-      held_valid = w.valid;
-      same_core = w.same_core;
-      readable = readable;
-      valid = valid;
-    },
-    tt,
-  )
+      → HasGoal heading h first p part.kind part.level (record { place = part.place; value = part.value })
+  first_goal first p part w readable valid = record {
+    held = w.value;
+    goal = goal_is part w;
+    held_valid = w.valid;
+    same_core = w.same_core;
+    readable = readable;
+    valid = valid;
+  }
 
   pub walk_goals : (first : List Event) (x : Entry) (rs : List Read)
       → ((q : Part) → In (parts_of (extended_by x rs)) q → IsOnWay heading h q) → may_extend_by heading first x rs ≡ true
@@ -229,8 +206,8 @@ module _ (heading : Heading) (laws : WayLaws heading) (h : List Event) (kept : k
   walk_goals first x [] on m = tt
   walk_goals first x (r ∷ rs) on m =
       let y : Entry = extended x r.place r.value in
-      let a = and_parts (may_extend heading first x r.place r.value) (may_extend_by heading first y rs) m in
-      let b = and_parts (is_that (next_in (desc_in x.last)) (page_of r.place) && is_readable heading first r.place x.pe r.value)
-      (is_valid x.last.kind (suc x.last.level) r.value) a.0 in
-      let c = and_parts (is_that (next_in (desc_in x.last)) (page_of r.place)) (is_readable heading first r.place x.pe r.value) b.0 in
-      ((first_goal first x.pe y.last (on y.last (parts_stay y rs y.last (inl refl))) c.1 b.1).0, walk_goals first y rs on a.1)
+      let a = and_parts (may_extend heading first x r.place r.value) _ m in
+      let b = and_parts _ _ a.0 in (
+        first_goal first x.pe y.last (on y.last (parts_stay y rs y.last (inl refl))) (and_parts _ _ b.0).1 b.1,
+        walk_goals first y rs on a.1,
+      )

@@ -35,7 +35,6 @@ fn add_number(reading: &Reading, numbers: &mut Vec<u16>) -> Result<(), NoMemory>
 }
 
 /// The numbers of the tags that are read.
-#[tactic(auto, using(crate::proofs::NumberCode::number_more))]
 fn numbers_of(alloc: Global, readings: &[Reading]) -> Result<Vec<u16>, NoMemory>
     ensures { IfOk result (λ numbers. numbers.items ≡ spec.numbers_of readings.now) }
 {

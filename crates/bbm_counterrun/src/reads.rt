@@ -33,7 +33,6 @@ fn lesser(best: Option<u64>, value: u64) -> Option<u64>
 }
 
 /// The best value so far after a look at one more event.
-#[tactic(auto, using(crate::proofs::ReadCode::looks))]
 fn look(
     header: &Header,
     events: &[Event],

@@ -86,7 +86,7 @@ fn add_above(
 }
 
 /// The way to the place as one of the page.
-#[tactic(auto, using(crate::proofs::WayCode::way_is))]
+#[tactic(auto, using(crate::proofs::WayCode::way_parts))]
 fn way_in(
     alloc: Global,
     history: &History<AllPatterns>,

@@ -5,8 +5,7 @@ use Rattle.bbm_counterrun.proofs.trying.first_number.Goals as goal
 
 pub returns : goal.returns
 returns c =
-    every_number c.args.search.now.header.now c.args.search.now.events.now c.args.search.now.place c.args.search.now.value c.args.starts c.args.pe
-    c.args.search.now.kind c.args.reads.now c.deref.result.now c.in_ok-best.best c.requires.within
-    (λ n now at v may. ap (among n) (c.deref.ensures.value ∙ c.in_ok-numbers.ensures)
-    ∙ is_numbered c.args.search.now.header.now (reverse (take c.args.starts c.args.search.now.events.now)) c.args.pe c.args.search.now.kind n now at v may)
-    c.in_ok-best.ensures
+    let search = c.args.search.now in
+    every_number search.header.now search.events.now search.place search.value c.args.starts c.args.pe search.kind c.args.reads.now
+    c.deref.result.now c.in_ok-best.best c.requires.within (λ n now at v may.
+    ap (among n) (c.deref.ensures.value ∙ c.in_ok-numbers.ensures) ∙ is_numbered search.header.now (reverse (take c.args.starts search.events.now)) c.args.pe search.kind n now at v may) c.in_ok-best.ensures

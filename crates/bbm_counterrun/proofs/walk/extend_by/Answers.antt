@@ -4,8 +4,6 @@ use Rattle.bbm_counterrun.proofs.walk.extend_by.Goals as goal
 
 pub loop-read-preserved : goal.loop-read-preserved
 loop-read-preserved c = record {
-  may = extend_may c.args.header.now (reverse c.args.events.now) c.loop-read.last c.in-Some.next c.args.reads.now c.loop-read.read-index
-      c.read-item.result _ c.in_ok-next.field-0 c.loop-read-test.true c.read-item.is c.in_ok-next.ensures c.in-Some.is c.loop-read.invariant.may;
-  same = extend_same c.args.header.now (reverse c.args.events.now) c.loop-read.last c.in-Some.next c.args.reads.now c.loop-read.read-index
-      c.read-item.result _ c.in_ok-next.field-0 c.loop-read-test.true c.read-item.is c.in_ok-next.ensures c.in-Some.is c.loop-read.invariant.same;
+  may = extend_may c.args.header.now (reverse c.args.events.now) c.loop-read.last _ _ _ _ _ _ c.loop-read-test.true c.read-item.is c.in_ok-next.ensures c.in-Some.is c.loop-read.invariant.may;
+  same = extend_same c.args.header.now (reverse c.args.events.now) c.loop-read.last _ _ _ _ _ _ c.loop-read-test.true c.read-item.is c.in_ok-next.ensures c.in-Some.is c.loop-read.invariant.same;
 }
