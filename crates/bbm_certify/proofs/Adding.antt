@@ -2,8 +2,8 @@
 use Rattle.bbm_certify.proofs.Common.{insert, Ascending, IsDue, claim_key, less, AreDue, Adds}
 use Rattle.bbm_rules.proofs.Common.{◌≡◌, ◌⊎◌, ℕ, ◌+◌, ◌<◌, ◌≤◌, true, false, List, [], ◌∷◌, ◌++◌, length, take, drop}
 use Rattle.bbm_rules.proofs.Common.{get_or, refl, sym, ◌∙◌, ap, subst, inl, inr, arith, length-append, get_or_at}
-use Rattle.bbm_rules.proofs.Common.{get_or_default, length-take-le, take-append-drop, Claim, Heading, Event}
-use Rattle.bbm_rules.proofs.Common.{from_contains, in_append, in_left, in_right, in_split, to_contains, In}
+use Rattle.bbm_rules.proofs.Common.{append_assoc, get_or_default, length-take-le, take-append-drop, Claim, Heading}
+use Rattle.bbm_rules.proofs.Common.{Event, from_contains, in_append, in_left, in_right, in_split, to_contains, In}
 use Rattle.bbm_certify.specs.Orders.{HasKey}
 use Rattle.bbm_certify.proofs.OneDue.{key_size, less_neither}
 
@@ -16,13 +16,6 @@ pub adds_none : (These : Claim → Type 0) (xs : List Claim) → ((c : Claim) �
 adds_none These xs none =
     record { sorted = λ a. a; from = λ c i. inl i; kept = λ c i. i; has = λ c t. absurd (none c t) }
 
-pub adds_same : (S T : Claim → Type 0) (xs ys : List Claim) → Adds S xs ys → ((c : Claim) → S c → T c)
-    → ((c : Claim) → T c → S c) → Adds T xs ys
-adds_same S T xs ys a to from = record { sorted = a.sorted; from = from_one; kept = a.kept; has = λ c t. a.has c (from c t) }
-  where
-    from_one : (c : Claim) → In ys c → In xs c ⊎ T c
-    from_one c i = elim (a.from c i) [ inl old ↦ inl old | inr new ↦ inr (to c new) ]
-
 has_on : (xs ys : List Claim) (c : Claim) → ((d : Claim) → In xs d → In ys d) → HasKey xs c → HasKey ys c
 has_on xs ys c kept k = (k.0, kept k.0 k.1, k.2)
 
@@ -30,20 +23,18 @@ pub adds_more : (S T U : Claim → Type 0) (xs ys zs : List Claim) → Adds S xs
     → ((c : Claim) → T c → U c) → ((c : Claim) → U c → S c ⊎ T c) → Adds U xs zs
 adds_more S T U xs ys zs a b left right parts = record {
   sorted = λ o. b.sorted (a.sorted o);
-  from = from_both;
+  from = λ c i. elim (b.from c i) [
+    | inl old ↦ elim (a.from c old) [ inl older ↦ inl older | inr s ↦ inr (left c s) ]
+    | inr t ↦ inr (right c t)
+  ];
   kept = λ c i. b.kept c (a.kept c i);
-  has = has_both;
+  has = λ c u. elim (parts c u) [ inl s ↦ has_on ys zs c b.kept (a.has c s) | inr t ↦ b.has c t ];
 }
-  where
-    from_both : (c : Claim) → In zs c → In xs c ⊎ U c
-    from_both c i =
-        elim (b.from c i) [
-          | inl old ↦ elim (a.from c old) [ inl older ↦ inl older | inr s ↦ inr (left c s) ]
-          | inr t ↦ inr (right c t)
-        ]
 
-    has_both : (c : Claim) → U c → HasKey zs c
-    has_both c u = elim (parts c u) [ inl s ↦ has_on ys zs c b.kept (a.has c s) | inr t ↦ b.has c t ]
+pub adds_same : (S T : Claim → Type 0) (xs ys : List Claim) → Adds S xs ys → ((c : Claim) → S c → T c)
+    → ((c : Claim) → T c → S c) → Adds T xs ys
+adds_same S T xs ys a to from =
+    adds_more S (λ c. ⊥) T xs ys ys a (adds_none (λ c. ⊥) ys (λ c k. k)) to (λ c k. absurd k) (λ c t. inl (from c t))
 
 -- ---- one claim
 
@@ -63,8 +54,15 @@ pub inserted : (xs : List Claim) (n : ℕ) (c : Claim) → n ≤ length xs
     → (n < length xs → before_it c (get_or xs n c)) → Adds (λ x. x ≡ c) xs (insert xs n c)
 inserted xs n c within last first = record {
   sorted = λ a. insert_sorted (take n xs) (drop n xs) c (subst (λ (ys : List Claim). Ascending ys) (sym whole) a) at_end at_start;
-  from = from_one;
-  kept = λ x i. kept_one x (in_append (take n xs) (drop n xs) x (subst (λ (ys : List Claim). In ys x) (sym whole) i));
+  from = λ x i. elim (in_append (take n xs) (c ∷ drop n xs) x i) [
+    | inl left ↦ inl (subst (λ (ys : List Claim). In ys x) whole (in_left (take n xs) (drop n xs) x left))
+    | inr (inl same) ↦ inr (sym same)
+    | inr (inr right) ↦ inl (subst (λ (ys : List Claim). In ys x) whole (in_right (take n xs) (drop n xs) x right))
+  ];
+  kept = λ x i. elim (in_append (take n xs) (drop n xs) x (subst (λ (ys : List Claim). In ys x) (sym whole) i)) [
+    | inl left ↦ in_left (take n xs) (c ∷ drop n xs) x left
+    | inr right ↦ in_right (take n xs) (c ∷ drop n xs) x (inr right)
+  ];
   has = λ x same. (c, in_split (take n xs) (drop n xs) c, ap claim_key (sym same));
 }
   where
@@ -77,16 +75,8 @@ inserted xs n c within last first = record {
     at_end : (before : List Claim) (x : Claim) → take n xs ≡ before ++ x ∷ [] → before_it x c
     at_end before x e =
         last before (drop n xs) x
-        (sym whole ∙ (ap (λ (ys : List Claim). ys ++ drop n xs) e ∙ assoc before x (drop n xs)))
-        (omega (arith, count, ap length e, size before x))
-      where
-        assoc : (xs : List Claim) (b : Claim) (cs : List Claim) → (xs ++ b ∷ []) ++ cs ≡ xs ++ b ∷ cs
-        assoc [] b cs = refl
-        assoc (a ∷ xs) b cs = ap (λ (ys : List Claim). a ∷ ys) (assoc xs b cs)
-
-        size : (xs : List Claim) (b : Claim) → length (xs ++ b ∷ []) ≡ length xs + 1
-        size [] b = omega arith
-        size (a ∷ xs) b = omega (arith, size xs b)
+        (sym whole ∙ (ap (λ (ys : List Claim). ys ++ drop n xs) e ∙ append_assoc before (x ∷ []) (drop n xs)))
+        (omega (arith, count, ap length e, length-append before (x ∷ [])))
 
     at_start : (after : List Claim) (y : Claim) → drop n xs ≡ y ∷ after → before_it c y
     at_start after y e =
@@ -94,18 +84,6 @@ inserted xs n c within last first = record {
         subst (λ (z : Claim). before_it c z)
         (ap (λ (ys : List Claim). get_or ys n c) split ∙ get_or_at (take n xs) y after c n count)
         (first (omega (arith, ap length split, length-append (take n xs) (y ∷ after), count)))
-
-    from_one : (x : Claim) → In (insert xs n c) x → In xs x ⊎ (x ≡ c)
-    from_one x i =
-        elim (in_append (take n xs) (c ∷ drop n xs) x i) [
-          | inl left ↦ inl (subst (λ (ys : List Claim). In ys x) whole (in_left (take n xs) (drop n xs) x left))
-          | inr (inl same) ↦ inr (sym same)
-          | inr (inr right) ↦ inl (subst (λ (ys : List Claim). In ys x) whole (in_right (take n xs) (drop n xs) x right))
-        ]
-
-    kept_one : (x : Claim) → In (take n xs) x ⊎ In (drop n xs) x → In (insert xs n c) x
-    kept_one x (inl left) = in_left (take n xs) (c ∷ drop n xs) x left
-    kept_one x (inr right) = in_right (take n xs) (c ∷ drop n xs) x (inr right)
 
 -- a claim whose key is there
 pub has_key : (xs : List Claim) (n : ℕ) (c : Claim) → n < length xs → less (claim_key c) (claim_key (get_or xs n c)) ≡ false
@@ -129,26 +107,16 @@ pub all_due : (heading : Heading) (h : List Event) (e : Event) (P T : Claim → 
     → ((c : Claim) → IsDue heading h e c → P c ⊎ T c)
     → ((c d : Claim) → IsDue heading h e c → IsDue heading h e d → claim_key c ≡ claim_key d → c ≡ d)
     → AreDue heading h e ys
-all_due heading h e P T xs ys a b left right parts one = record {
-  sorted = b.sorted (a.sorted tt);
-  sound = λ c i. due c (from_contains ys c i);
-  complete = λ c k. to_contains ys c (there c k (elim (parts c k) [
-    | inl p ↦ has_on xs ys c b.kept (a.has c p)
-    | inr t ↦ b.has c t
-  ]));
-}
+all_due heading h e P T xs ys a b left right parts one =
+    all (adds_more P T (IsDue heading h e) [] xs ys a b left right parts)
   where
-    due : (c : Claim) → In ys c → IsDue heading h e c
-    due c i =
-        elim (b.from c i) [
-          | inl old ↦ elim (a.from c old) [ inl none ↦ absurd none | inr p ↦ left c p ]
-          | inr t ↦ right c t
-        ]
+    due : Adds (IsDue heading h e) [] ys → (c : Claim) → In ys c → IsDue heading h e c
+    due both c i = elim (both.from c i) [ inl none ↦ absurd none | inr k ↦ k ]
 
-    there : (c : Claim) → IsDue heading h e c → HasKey ys c → In ys c
-    there c k has = subst (λ (x : Claim). In ys x) (one has.0 c (due has.0 has.1) k has.2) has.1
-
-pub none_are_due : (heading : Heading) (h : List Event) (e : Event) → ((c : Claim) → IsDue heading h e c → ⊥)
-    → AreDue heading h e []
-none_are_due heading h e none =
-    record { sorted = tt; sound = λ c i. absurd (from_contains [] c i); complete = λ c k. absurd (none c k) }
+    all : Adds (IsDue heading h e) [] ys → AreDue heading h e ys
+    all both = record {
+      sorted = both.sorted tt;
+      sound = λ c i. due both c (from_contains ys c i);
+      complete = λ c k. let has = both.has c k in
+          to_contains ys c (subst (λ (x : Claim). In ys x) (one has.0 c (due both has.0 has.1) k has.2) has.1);
+    }

@@ -1,35 +1,20 @@
 -- A log that keeps the rules keeps them by the claims of its certificate alone: at each of its prefixes the rules tell the
 -- two ways to read it not apart.
-use Rattle.bbm_certify.proofs.Common.{Known, IsCertificate, IsCleansed, IsDue}
-use Rattle.bbm_rules.proofs.Common.{◌≡◌, ℕ, suc, ◌<◌, Bool, true, false, ◌⊎◌, List, [], ◌∷◌, ◌++◌, length, Some}
-use Rattle.bbm_rules.proofs.Common.{is_none, is_some, Contains, refl, sym, ◌∙◌, ap, subst, inl, inr, true≢false}
-use Rattle.bbm_rules.proofs.Common.{fun_ext, and_parts, or_cases, or_left, or_right, Claim, Place, Two, Taken, Cover}
-use Rattle.bbm_rules.proofs.Common.{keeps, Trust, Patterns, Listed, answered_where, answers_one, cleansed, full_step}
-use Rattle.bbm_rules.proofs.Common.{second_step, cover_at, note, noted, ValidWrite, last_valid, later, Noted, page_of}
-use Rattle.bbm_rules.proofs.Common.{Barrier, Heading, Event, Dsb, Tag, holds_at, loses, Node, held_at, from_contains}
-use Rattle.bbm_rules.proofs.Common.{in_left, in_right, to_contains, In, same_truth}
+use Rattle.bbm_certify.proofs.Common.{Known, IsCertificate, IsDue}
+use Rattle.bbm_rules.proofs.Common.{◌≡◌, ℕ, suc, ◌<◌, Bool, true, false, List, [], ◌∷◌, ◌++◌, length, Some, is_some}
+use Rattle.bbm_rules.proofs.Common.{Contains, refl, sym, ◌∙◌, ap, subst, inl, inr, true≢false, fun_ext, Claim, Taken}
+use Rattle.bbm_rules.proofs.Common.{Cover, keeps, Patterns, Listed, cleansed, cover_at, note, noted, ValidWrite}
+use Rattle.bbm_rules.proofs.Common.{last_valid, Noted, page_of, Barrier, Heading, Event, Dsb, Tag, holds_at, loses}
+use Rattle.bbm_rules.proofs.Common.{Node, held_at, from_contains, in_left, in_right, to_contains, In, same_truth}
 use Rattle.bbm_rules.proofs.Common.{same_Some}
-use Rattle.bbm_rules.specs.Broken.{broken}
+use Rattle.std.proofs.lemmas.Bool.{cases_Bool}
+use Rattle.bbm_histories.proofs.Induction.{kept_before}
+use Rattle.bbm_histories.proofs.PatternLemmas.{cleansed_stays}
+use Rattle.bbm_certify.proofs.DuePlaces.{due_now}
 use Rattle.bbm_rules.specs.Tree.{tree}
 use Rattle.bbm_alike.specs.Alike.{Alike, TakesAlike}
-use Rattle.bbm_certify.proofs.PlaceClaims.{LeastClaim, forgotten, least_claim, listed_one, listed_two}
+use Rattle.bbm_certify.proofs.PlaceClaims.{forgotten, least_claim, listed_claim}
 use Rattle.bbm_certify.proofs.TagClaims as tags
-
--- what is cleansed stays so
-grows : (heading : Heading) (trust : Trust) (place p : ℕ) (n : Noted) (since : List Noted)
-    → cleansed heading trust place p since ≡ true → cleansed heading trust place p (n ∷ since) ≡ true
-grows heading trust place p n since e =
-    elim (or_cases (answered_where (full_step heading trust place p) since)
-    (answered_where (second_step heading trust place p) since) e) [
-      | inl x ↦ or_left (answered_where (full_step heading trust place p) (n ∷ since))
-          (answered_where (second_step heading trust place p) (n ∷ since))
-          (or_right (answers_one (full_step heading trust place p n.position) n.event since)
-          (answered_where (full_step heading trust place p) since) x)
-      | inr x ↦ or_right (answered_where (full_step heading trust place p) (n ∷ since))
-          (answered_where (second_step heading trust place p) (n ∷ since))
-          (or_right (answers_one (second_step heading trust place p n.position) n.event since)
-          (answered_where (second_step heading trust place p) since) x)
-    ]
 
 abbrev marked : Event → (ℕ → Cover) → ℕ → Noted
 marked e covers position = record { event = e; covers = covers; position = position }
@@ -37,10 +22,6 @@ marked e covers position = record { event = e; covers = covers; position = posit
 abbrev is_dsb : Event → Bool
 is_dsb (Dsb q dsb) = true
 is_dsb _ = false
-
-dsb_or : (e : Event) → ((q : ℕ) × (dsb : Barrier) × (e ≡ Dsb q dsb)) ⊎ ((q : ℕ) (dsb : Barrier) → e ≡ Dsb q dsb → ⊥)
-dsb_or (Dsb q dsb) = inl (q, dsb, refl)
-dsb_or e = inr (λ q dsb same. true≢false (sym (ap is_dsb same)))
 
 module _ (heading : Heading) (known : Known heading) (cs : List Claim) where
   -- the log so far, by every pattern and by the claims
@@ -66,7 +47,8 @@ module _ (heading : Heading) (known : Known heading) (cs : List Claim) where
         ap (λ (n : Noted). n ∷ noted heading Patterns h) (same_note e)
         ∙ ap (λ (ns : List Noted). note heading (Listed cs) (noted heading (Listed cs) h) e ∷ ns) so_far.notes
 
-    module _ (q : ℕ) (dsb : Barrier) (due : (c : Claim) → IsDue heading h (Dsb q dsb) c → Contains cs c) where
+    module _ (q : ℕ) (dsb : Barrier) (keeps_dsb : keeps heading Patterns (Dsb q dsb ∷ h) ≡ true)
+        (due : (c : Claim) → IsDue heading h (Dsb q dsb) c → Contains cs c) where
       -- ---- places
 
       module _ (n : Node) (place p : ℕ) (w w' : ValidWrite)
@@ -82,55 +64,28 @@ module _ (heading : Heading) (known : Known heading) (cs : List Claim) where
         same_write : w ≡ w'
         same_write = same_Some w w' (sym is ∙ (ap (last_valid n.kind n.level place) so_far.notes ∙ is'))
 
-        not_before : cleansed heading Patterns place p w.since ≡ false → (v : ValidWrite)
-            → IsCleansed heading (noted heading Patterns h) place p v → ⊥
-        not_before unclean v k =
-            let same_node : k.node ≡ n = known.one_node.at_most_one h kept k.node n k.in_tree in_tree
-            (sym k.inside ∙ inside) in
-            let same : v ≡ w = same_Some v w (sym k.is_last
-            ∙ (ap (λ (m : Node). last_valid m.kind m.level place (noted heading Patterns h)) same_node ∙ is)) in
-            true≢false (sym k.is_clean ∙ (ap (λ (x : ValidWrite). cleansed heading Patterns place p x.since) same ∙ unclean))
-
-        abbrev after : ValidWrite
-        after = record { value = w.value; since = newest ∷ w.since }
-
-        is_after : cleansed heading Patterns place p (newest ∷ w.since) ≡ true
-            → IsCleansed heading (noted heading Patterns (Dsb q dsb ∷ h)) place p after
-        is_after clean = record {
-          node = n;
-          in_tree = in_after;
-          inside = inside;
-          is_last = ap (later newest) is;
-          is_clean = clean;
-        }
-
-        claimed : cleansed heading Patterns place p w.since ≡ false
-            → cleansed heading Patterns place p (newest ∷ w.since) ≡ true
-            → LeastClaim heading known place p (newest ∷ w.since)
+        cleansed_too : cleansed heading Patterns place p (newest ∷ w.since) ≡ true
             → cleansed heading (Listed cs) place p (newest ∷ w.since) ≡ true
-        claimed unclean clean (inl l) =
-            listed_one heading known place p cs (newest ∷ w.since) l.0 l.1 l.2 l.3.holds
-            (due (Place p place l.0 l.1 l.2) (below, (after, is_after clean, l.3), not_before unclean))
-        claimed unclean clean (inr l) =
-            listed_two heading known place p cs (newest ∷ w.since) l.1 l.2 l.3 l.4 l.5 l.6.holds
-            (due (Two p place l.1 l.2 l.3 l.4 l.5) (below, (after, is_after clean, l.0, l.6), not_before unclean))
-
-        cleansed_too : (c : Bool) → cleansed heading Patterns place p w.since ≡ c
-            → cleansed heading Patterns place p (newest ∷ w.since) ≡ true
-            → cleansed heading (Listed cs) place p (newest ∷ w.since) ≡ true
-        cleansed_too false unclean clean = claimed unclean clean (least_claim heading known place p (newest ∷ w.since) clean)
-        cleansed_too true was clean = let s = so_far.alike.patterns n place w w' in_tree inside holds is is' in
-            grows heading (Listed cs) place p newest w.since
-            (ap (λ (x : ValidWrite). cleansed heading (Listed cs) place p x.since) same_write
-            ∙ (sym (s.cleansed_alike p below) ∙ was))
+        cleansed_too clean = elim (cases_Bool (cleansed heading Patterns place p w.since)) [
+          | inl was ↦
+              let by_claims : cleansed heading (Listed cs) place p w.since ≡ true
+              = ap (λ (x : ValidWrite). cleansed heading (Listed cs) place p x.since) same_write
+              ∙ (sym ((so_far.alike.patterns n place w w' in_tree inside holds is is').cleansed_alike p below) ∙ was) in
+              let by_sentence = known.cleansed (Listed cs) in
+              by_sentence.complete place p (newest ∷ w.since)
+              (cleansed_stays heading (Listed cs) place p (newest ∷ []) w.since (by_sentence.sound place p w.since by_claims))
+          | inr unclean ↦
+              let l = least_claim heading place p known (newest ∷ w.since) clean in
+              listed_claim heading place p known (newest ∷ w.since) cs l.0 l.1
+              (due l.0 (due_now heading known h q dsb keeps_dsb place p n w below in_after inside is unclean l.0 l.1))
+        ]
 
         same_cleansed : cleansed heading Patterns place p (newest ∷ w.since) ≡ cleansed heading (Listed cs) place p
             (note heading (Listed cs) (noted heading (Listed cs) h) (Dsb q dsb) ∷ w'.since)
         same_cleansed =
             same_truth (cleansed heading Patterns place p (newest ∷ w.since))
             (cleansed heading (Listed cs) place p (newest ∷ w.since))
-            (cleansed_too (cleansed heading Patterns place p w.since) refl)
-            (forgotten heading known place p cs (newest ∷ w.since))
+            cleansed_too (forgotten heading place p known cs (newest ∷ w.since))
             ∙ (ap (λ (m : Noted). cleansed heading (Listed cs) place p (m ∷ w.since)) (same_note (Dsb q dsb))
             ∙ ap (λ (x : ValidWrite). cleansed heading (Listed cs) place p
             (note heading (Listed cs) (noted heading (Listed cs) h) (Dsb q dsb) ∷ x.since)) same_write)
@@ -149,29 +104,15 @@ module _ (heading : Heading) (known : Known heading) (cs : List Claim) where
             (tags.forgotten heading known p tag q dsb h cs)
 
       takes_dsb : TakesAlike heading Patterns (Listed cs) h h (Dsb q dsb)
-      takes_dsb = record { cleanses = cleanses_at; takes = same_lost }
-        where
-          cleanses_at : (n : Node) (place p : ℕ) (w w' : ValidWrite)
-              → Contains (tree heading Patterns (noted heading Patterns h)) n
-              → Contains (tree heading Patterns (noted heading Patterns (Dsb q dsb ∷ h))) n → page_of place ≡ n.page
-              → is_some (held_at heading Patterns (noted heading Patterns h) n place) ≡ true
-              → last_valid n.kind n.level place (noted heading Patterns h) ≡ Some w
-              → last_valid n.kind n.level place (noted heading (Listed cs) h) ≡ Some w' → p < heading.pes
-              → cleansed heading Patterns place p (note heading Patterns (noted heading Patterns h) (Dsb q dsb) ∷ w.since)
-              ≡ cleansed heading (Listed cs) place p
-              (note heading (Listed cs) (noted heading (Listed cs) h) (Dsb q dsb) ∷ w'.since)
-          cleanses_at n place p w w' in_tree in_after inside holds is is' below =
-              same_cleansed n place p w w' in_tree in_after inside holds is is' below
+      takes_dsb = record { cleanses = same_cleansed; takes = same_lost }
 
     -- ---- one event
 
-    takes_alike : (e : Event) → ((c : Claim) → IsDue heading h e c → Contains cs c)
-        → ((q : ℕ) × (dsb : Barrier) × (e ≡ Dsb q dsb)) ⊎ ((q : ℕ) (dsb : Barrier) → e ≡ Dsb q dsb → ⊥)
+    takes_alike : (e : Event) → keeps heading Patterns (e ∷ h) ≡ true → ((c : Claim) → IsDue heading h e c → Contains cs c)
         → TakesAlike heading Patterns (Listed cs) h h e
-    takes_alike e due (inl is) =
-        subst (λ (x : Event). ((c : Claim) → IsDue heading h x c → Contains cs c)
-        → TakesAlike heading Patterns (Listed cs) h h x) (sym is.2) (takes_dsb is.0 is.1) due
-    takes_alike e due (inr other) = known.takes_alike.no_dsb Patterns (Listed cs) h h e other so_far.alike
+    takes_alike (Dsb q dsb) keeps_e due = takes_dsb q dsb keeps_e due
+    takes_alike e keeps_e due =
+        known.takes_alike.no_dsb Patterns (Listed cs) h h e (λ q dsb same. true≢false (sym (ap is_dsb same))) so_far.alike
 
     next : (e : Event) → keeps heading Patterns (e ∷ h) ≡ true → ((c : Claim) → IsDue heading h e c → Contains cs c)
         → Certified (e ∷ h)
@@ -180,7 +121,7 @@ module _ (heading : Heading) (known : Known heading) (cs : List Claim) where
         sym ((known.alike_judges (Listed cs)).keeps h h e so_far.alike (kept ∙ sym so_far.kept)) ∙ keeps_e in
         record {
           alike = known.alike_step (Listed cs) h h e known.proper.some_pe keeps_e kept_too so_far.alike
-              (takes_alike e due (dsb_or e));
+              (takes_alike e keeps_e due);
           notes = same_notes e;
           kept = kept_too;
         }
@@ -193,8 +134,8 @@ module _ (heading : Heading) (known : Known heading) (cs : List Claim) where
     kept = refl;
   }
   certified (e ∷ h) claims kept cert among =
-      let before = and_parts (keeps heading Patterns h) (is_none (broken heading Patterns h e)) kept in
+      let before = kept_before heading Patterns (e ∷ []) h kept in
       let within : (c : Claim) → In (cert.0 ++ cert.1) c → In cs c =
       λ c i. among c (subst (λ (xs : List Claim). In xs c) (sym cert.2) i) in
-      next h before.0 (certified h cert.0 before.0 cert.3 (λ c i. within c (in_left cert.0 cert.1 c i))) e kept
+      next h before (certified h cert.0 before cert.3 (λ c i. within c (in_left cert.0 cert.1 c i))) e kept
       (λ c is. to_contains cs c (within c (in_right cert.0 cert.1 c (from_contains cert.1 c (cert.6 c is)))))

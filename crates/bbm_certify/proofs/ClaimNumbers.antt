@@ -2,42 +2,19 @@
 -- that of the last valid write of the place and of the PE; a claim of a tag that of the register write since which some
 -- root holds the tag, and of the reading by which the tag was readable then.
 use Rattle.bbm_certify.specs.LeastClaims.{Ascending, Holding, claim_key, less, tag_key}
-use Rattle.bbm_rules.proofs.Common.{◌≡◌, ◌⊎◌, ℕ, suc, ◌+◌, ◌*◌, ◌<◌, ◌≤◌, Bool, true, false, List, [], ◌∷◌, ◌++◌}
-use Rattle.bbm_rules.proofs.Common.{length, refl, sym, ◌∙◌, ap, subst, inl, inr, true≢false, arith, length-append}
-use Rattle.bbm_rules.proofs.Common.{nat_eq, or_right, eqb-true, in_append, any_found, Claim, Place, Two, Taken}
-use Rattle.bbm_rules.proofs.Common.{Patterns, cleansed, note, noted, Noted, events_of, Heading, Event, Write, Msr, Dsb}
-use Rattle.bbm_rules.proofs.Common.{Reg, Tag, Reading, readings, In}
-use Rattle.bbm_histories.specs.HistorySteps.{cleansed_after}
-use Rattle.bbm_histories.specs.PatternLaws.{PatternsAfter}
+use Rattle.bbm_rules.proofs.Common.{◌≡◌, ◌⊎◌, ℕ, suc, ◌+◌, ◌*◌, ◌<◌, ◌≤◌, true, false, List, [], ◌∷◌, ◌++◌, length}
+use Rattle.bbm_rules.proofs.Common.{refl, sym, ◌∙◌, ap, subst, inl, inr, true≢false, arith, length-append, nat_eq}
+use Rattle.bbm_rules.proofs.Common.{eqb-true, in_append, any_found, Claim, Place, Two, Taken, Patterns, cleansed, note}
+use Rattle.bbm_rules.proofs.Common.{noted, Noted, events_of, Heading, Event, Write, Msr, Reg, Tag, Reading, readings}
+use Rattle.bbm_rules.proofs.Common.{In, false_from_ne_true}
+use Rattle.bbm_rules.specs.HeldLaws.{CleansedBySentence}
+use Rattle.bbm_histories.proofs.PatternLemmas.{cleansed_stays}
+use Rattle.bbm_certify.proofs.Searches.{same_behind}
 use Rattle.bbm_lemmas.proofs.Words.{Apart}
 use Rattle.std.proofs.lemmas.Map.Steps.{length-le_from_distinct_below}
 use Rattle.std.specs.List.{IsDistinct, AllByRecursion}
 use Rattle.bbm_certify.proofs.OneCertificate.{above, less_itself, rest}
-
--- ---- splits of a list, told by how much stands behind
-
-same_behind : {A : Type 0} (xs ys as' bs : List A) (x y : A) → xs ++ x ∷ as' ≡ ys ++ y ∷ bs → length as' ≡ length bs
-    → (xs ≡ ys) × (x ≡ y) × (as' ≡ bs)
-same_behind [] [] as' bs x y e size = (refl, cc, cc)
-same_behind [] (b ∷ ys) as' bs x y e size =
-    let rest : as' ≡ ys ++ y ∷ bs = cc in
-    absurd (omega (arith, ap length rest, length-append ys (y ∷ bs), size))
-same_behind (a ∷ xs) [] as' bs x y e size =
-    let rest : xs ++ x ∷ as' ≡ bs = cc in
-    absurd (omega (arith, ap length rest, length-append xs (x ∷ as'), size))
-same_behind {A} (a ∷ xs) (b ∷ ys) as' bs x y e size =
-    let rest : xs ++ x ∷ as' ≡ ys ++ y ∷ bs = cc in
-    let head : a ≡ b = cc in
-    let more = same_behind xs ys as' bs x y rest size in
-    (ap (λ (z : A). z ∷ xs) head ∙ ap (λ (zs : List A). b ∷ zs) more.0, more.1, more.2)
-
-events-append : (ns ms : List Noted) → events_of (ns ++ ms) ≡ events_of ns ++ events_of ms
-events-append [] ms = refl
-events-append (n ∷ ns) ms = ap (λ (es : List Event). n.event ∷ es) (events-append ns ms)
-
-events-length : (ns : List Noted) → length (events_of ns) ≡ length ns
-events-length [] = refl
-events-length (n ∷ ns) = ap suc (events-length ns)
+use Rattle.bbm_histories.proofs.Induction.{events_append, events_length}
 
 -- ---- numbers by a position and a number below 128
 
@@ -52,11 +29,8 @@ apart_distinct (n ∷ ns) a = (none ns a.0, apart_distinct ns a.1)
   where
     none : (ms : List ℕ) → (In ms n → ⊥) → AllByRecursion (λ m. nat_eq n m ≡ false) ms
     none [] out = tt
-    none (m ∷ ms) out = (by (nat_eq n m) refl, none ms (λ i. out (inr i)))
-      where
-        by : (b : Bool) → nat_eq n m ≡ b → b ≡ false
-        by false e = refl
-        by true e = absurd (out (inl (sym (eqb-true n m e))))
+    none (m ∷ ms) out =
+        (false_from_ne_true (nat_eq n m) (λ e. out (inl (sym (eqb-true n m e)))), none ms (λ i. out (inr i)))
 
 few_below : (ns : List ℕ) (n : ℕ) → Apart ns → ((m : ℕ) → In ns m → m < n) → length ns ≤ n
 few_below ns n a below =
@@ -76,24 +50,25 @@ apart_both (m ∷ ms) ns a b out = (
 
 module _ (heading : Heading) where
   -- The number of a place and a PE, by a write of the place. So many events came before it.
-  pub record OfPlace (h : List Event) (p a n : ℕ) : Type 0 where
-    pub since : List Noted
+  pub record WriteMark (p a n : ℕ) : Type 0 where
     pub write : Noted
     pub older : List Noted
     pub pe : ℕ
     pub value : ℕ
-    pub split : noted heading Patterns h ≡ since ++ write ∷ older
     pub wrote : write.event ≡ Write pe a value
     pub small : p < 128
     pub number : n ≡ 128 * length older + p
 
+  pub record OfPlace (h : List Event) (p a n : ℕ) : Type 0 where
+    pub mark : WriteMark p a n
+    pub since : List Noted
+    pub split : noted heading Patterns h ≡ since ++ mark.write ∷ mark.older
+
   -- the number of a tag and a PE, by a register write of the PE and one of the readings after it
-  pub record OfTag (h : List Event) (p : ℕ) (tag : Tag) (n : ℕ) : Type 0 where
-    pub later : List Event
+  pub record TagMark (p : ℕ) (tag : Tag) (n : ℕ) : Type 0 where
     pub before : List Event
     pub reg : Reg
     pub value : ℕ
-    pub split : h ≡ later ++ Msr p reg value ∷ before
     pub front : List Reading
     pub reading : Reading
     pub behind : List Reading
@@ -101,6 +76,11 @@ module _ (heading : Heading) where
     pub of_tag : reading.tag ≡ tag
     pub small : length behind < 128
     pub number : n ≡ 128 * length before + length behind
+
+  pub record OfTag (h : List Event) (p : ℕ) (tag : Tag) (n : ℕ) : Type 0 where
+    pub mark : TagMark p tag n
+    pub later : List Event
+    pub split : h ≡ later ++ Msr p mark.reg mark.value ∷ mark.before
 
   -- the place is cleansed at the PE by an event, and wasn't before
   abbrev pub BecomesClean : List Event → Event → ℕ → ℕ → ℕ → Type 0
@@ -114,7 +94,7 @@ module _ (heading : Heading) where
 
   -- and none does after an event
   abbrev pub BecomesFree : List Event → Event → ℕ → Tag → ℕ → Type 0
-  BecomesFree h e p tag n = (k : OfTag h p tag n) × HeldSince h p tag (length k.before)
+  BecomesFree h e p tag n = (k : OfTag h p tag n) × HeldSince h p tag (length k.mark.before)
       × (Holding heading (e ∷ h) p tag → ⊥)
 
   -- a claim of an event has the number
@@ -135,7 +115,7 @@ module _ (heading : Heading) where
     pub after : List Event
     pub moment : List Event
     pub split : h ≡ after ++ moment
-    pub since : length of.before < length moment
+    pub since : length of.mark.before < length moment
     pub free : Holding heading moment p tag → ⊥
 
   -- a claim of the history has the number
@@ -146,53 +126,45 @@ module _ (heading : Heading) where
 
   -- the write of a place as an event
   pub written : (h : List Event) (p a n : ℕ) (events_noted : (x : List Event) → events_of (noted heading Patterns x) ≡ x)
-      (k : OfPlace h p a n) → h ≡ events_of k.since ++ Write k.pe a k.value ∷ events_of k.older
-  written h p a n events_noted k =
-      sym (events_noted h) ∙ (ap events_of k.split ∙ (events-append k.since (k.write ∷ k.older)
-      ∙ ap (λ (e : Event). events_of k.since ++ e ∷ events_of k.older) k.wrote))
-
-  write-value : (pe at value pe' at' value' : ℕ) → Write pe at value ≡ Write pe' at' value' → at ≡ at'
-  write-value pe at value pe' at' value' e = cc
+      (k : OfPlace h p a n) → h ≡ events_of k.since ++ Write k.mark.pe a k.mark.value ∷ events_of k.mark.older
+  written h p a n events_noted k = let m = k.mark in
+      sym (events_noted h) ∙ (ap events_of k.split ∙ (events_append k.since (m.write ∷ m.older)
+      ∙ ap (λ (e : Event). events_of k.since ++ e ∷ events_of m.older) m.wrote))
 
   same_place : (h : List Event) (p a q b n : ℕ) (k : OfPlace h p a n) (l : OfPlace h q b n)
       → (a ≡ b) × (p ≡ q) × (k.since ≡ l.since)
   same_place h p a q b n k l =
-      let parts = same_parts (length k.older) (length l.older) p q (sym k.number ∙ l.number) k.small l.small in
-      let same = same_behind k.since l.since k.older l.older k.write l.write (sym k.split ∙ l.split) parts.0 in (
-        write-value k.pe a k.value l.pe b l.value (sym k.wrote ∙ (ap (λ (w : Noted). w.event) same.1 ∙ l.wrote)),
-        parts.1,
-        same.0,
-      )
-
-  msr-pe : (p q : ℕ) (reg reg' : Reg) (value value' : ℕ) → Msr p reg value ≡ Msr q reg' value' → p ≡ q
-  msr-pe p q reg reg' value value' e = cc
+      let x = k.mark in
+      let y = l.mark in
+      let parts = same_parts (length x.older) (length y.older) p q (sym x.number ∙ y.number) x.small y.small in
+      let same = same_behind k.since l.since x.older y.older x.write y.write (sym k.split ∙ l.split) parts.0 in
+      let wrote : Write x.pe a x.value ≡ Write y.pe b y.value = sym x.wrote ∙ (ap (λ (w : Noted). w.event) same.1 ∙ y.wrote) in
+      ((cc), parts.1, same.0)
 
   same_tag : (h : List Event) (p q n : ℕ) (tag other : Tag) (k : OfTag h p tag n) (l : OfTag h q other n)
-      → (p ≡ q) × (tag ≡ other) × (length k.before ≡ length l.before)
+      → (p ≡ q) × (tag ≡ other) × (length k.mark.before ≡ length l.mark.before)
   same_tag h p q n tag other k l =
-      let parts = same_parts (length k.before) (length l.before) (length k.behind) (length l.behind) (sym k.number ∙ l.number)
-      k.small l.small in
-      let same = same_behind k.later l.later k.before l.before (Msr p k.reg k.value) (Msr q l.reg l.value)
+      let x = k.mark in
+      let y = l.mark in
+      let parts = same_parts (length x.before) (length y.before) (length x.behind) (length y.behind) (sym x.number ∙ y.number)
+      x.small y.small in
+      let same = same_behind k.later l.later x.before y.before (Msr p x.reg x.value) (Msr q y.reg y.value)
       (sym k.split ∙ l.split) parts.0 in
-      let pe : p ≡ q = msr-pe p q k.reg l.reg k.value l.value same.1 in
-      let reads : readings heading (Msr p k.reg k.value ∷ k.before) p ≡ readings heading (Msr q l.reg l.value ∷ l.before) q
-      = ap (λ (e : Event). readings heading (e ∷ k.before) p) same.1
-      ∙ (ap (λ (es : List Event). readings heading (Msr q l.reg l.value ∷ es) p) same.2
-      ∙ ap (λ (x : ℕ). readings heading (Msr q l.reg l.value ∷ l.before) x) pe) in
-      let at = same_behind k.front l.front k.behind l.behind k.reading l.reading
-      (sym k.read ∙ (reads ∙ l.read)) parts.1 in
-      (pe, sym k.of_tag ∙ (ap (λ (r : Reading). r.tag) at.1 ∙ l.of_tag), parts.0)
+      let pe : p ≡ q = cc same.1 in
+      let reads : readings heading (Msr p x.reg x.value ∷ x.before) p ≡ readings heading (Msr q y.reg y.value ∷ y.before) q
+      = cc (same.1, same.2) in
+      let at = same_behind x.front y.front x.behind y.behind x.reading y.reading (sym x.read ∙ (reads ∙ y.read)) parts.1 in
+      (pe, sym x.of_tag ∙ (ap (λ (r : Reading). r.tag) at.1 ∙ y.of_tag), parts.0)
 
   module _ (events_noted : (x : List Event) → events_of (noted heading Patterns x) ≡ x) where
     place_or_tag : (h : List Event) (p a q n : ℕ) (tag : Tag) → OfPlace h p a n → OfTag h q tag n → ⊥
     place_or_tag h p a q n tag k l =
-        let parts = same_parts (length k.older) (length l.before) p (length l.behind) (sym k.number ∙ l.number) k.small l.small in
-        let same = same_behind (events_of k.since) l.later (events_of k.older) l.before (Write k.pe a k.value)
-        (Msr q l.reg l.value) (sym (written h p a n events_noted k) ∙ l.split) (events-length k.older ∙ parts.0) in
-        apart same.1
-      where
-        apart : Write k.pe a k.value ≡ Msr q l.reg l.value → ⊥
-        apart e = cc
+        let x = k.mark in
+        let y = l.mark in
+        let parts = same_parts (length x.older) (length y.before) p (length y.behind) (sym x.number ∙ y.number) x.small y.small in
+        let same = same_behind (events_of k.since) l.later (events_of x.older) y.before (Write x.pe a x.value)
+        (Msr q y.reg y.value) (sym (written h p a n events_noted k) ∙ l.split) (events_length x.older ∙ parts.0) in
+        absurd (cc same.1)
 
     -- two claims of an event with one number have one key
     pub same_key : (h : List Event) (e : Event) (c d : Claim) (n : ℕ) → HasNumber h e c n → HasNumber h e d n
@@ -201,9 +173,7 @@ module _ (heading : Heading) where
       where
         places : (p a q b : ℕ) → BecomesClean h e p a n → BecomesClean h e q b n
             → 0 ∷ a ∷ 0 ∷ p ∷ [] ≡ 0 ∷ b ∷ 0 ∷ q ∷ []
-        places p a q b x y =
-            let same = same_place h p a q b n x.0 y.0 in
-            ap (λ (m : ℕ). 0 ∷ m ∷ 0 ∷ p ∷ []) same.0 ∙ ap (λ (m : ℕ). 0 ∷ b ∷ 0 ∷ m ∷ []) same.1
+        places p a q b x y = let same = same_place h p a q b n x.0 y.0 in cc (same.0, same.1)
 
         by : (x y : Claim) → HasNumber h e x n → HasNumber h e y n → claim_key x ≡ claim_key y
         by (Place p a b t d) (Place q x b' t' d') i j = places p a q x i j
@@ -234,7 +204,7 @@ module _ (heading : Heading) where
         tagged p tag x (inl y) = place_or_tag h y.0 y.1 p n tag y.2 x.0
         tagged p tag x (inr y) =
             let same = same_tag h p y.p n tag y.tag x.0 y.of in
-            let since : length x.0.before < length y.moment = let later = y.since in omega (arith, later, same.2) in
+            let since : length x.0.mark.before < length y.moment = omega (arith, y.since, same.2) in
             y.free (subst (λ (q : ℕ). Holding heading y.moment q y.tag) same.0
             (subst (λ (g : Tag). Holding heading y.moment p g) same.1 (x.1 y.after y.moment y.split since)))
 
@@ -246,33 +216,12 @@ module _ (heading : Heading) where
   -- ---- one more event
 
   abbrev pub more_place : (h : List Event) (e : Event) (p a n : ℕ) → OfPlace h p a n → OfPlace (e ∷ h) p a n
-  more_place h e p a n k = record {
-    since = note heading Patterns (noted heading Patterns h) e ∷ k.since;
-    write = k.write;
-    older = k.older;
-    pe = k.pe;
-    value = k.value;
-    split = ap (λ (ns : List Noted). note heading Patterns (noted heading Patterns h) e ∷ ns) k.split;
-    wrote = k.wrote;
-    small = k.small;
-    number = k.number;
-  }
+  more_place h e p a n k = let newest = note heading Patterns (noted heading Patterns h) e in
+      record { mark = k.mark; since = newest ∷ k.since; split = ap (λ (ns : List Noted). newest ∷ ns) k.split }
 
   abbrev pub more_tag : (h : List Event) (e : Event) (p n : ℕ) (tag : Tag) → OfTag h p tag n → OfTag (e ∷ h) p tag n
-  more_tag h e p n tag k = record {
-    later = e ∷ k.later;
-    before = k.before;
-    reg = k.reg;
-    value = k.value;
-    split = ap (λ (es : List Event). e ∷ es) k.split;
-    front = k.front;
-    reading = k.reading;
-    behind = k.behind;
-    read = k.read;
-    of_tag = k.of_tag;
-    small = k.small;
-    number = k.number;
-  }
+  more_tag h e p n tag k =
+      record { mark = k.mark; later = e ∷ k.later; split = ap (λ (es : List Event). e ∷ es) k.split }
 
   -- a number of a claim of the event is used after it
   pub becomes_used : (h : List Event) (e : Event) (c : Claim) (n : ℕ) → HasNumber h e c n → IsUsed (e ∷ h) n
@@ -286,29 +235,22 @@ module _ (heading : Heading) where
         after = [];
         moment = e ∷ h;
         split = refl;
-        since = omega (arith, ap length k.0.split, length-append k.0.later (Msr p k.0.reg k.0.value ∷ k.0.before));
+        since = let m = k.0.mark in
+            omega (arith, ap length k.0.split, length-append k.0.later (Msr p m.reg m.value ∷ m.before));
         free = k.2;
       })
 
-  -- what is cleansed stays so
-  stays_clean : (steps : PatternsAfter heading) (p a : ℕ) (e : Event) (n : Noted) (since : List Noted) → n.event ≡ e
-      → cleansed heading Patterns a p since ≡ true → cleansed heading Patterns a p (n ∷ since) ≡ true
-  stays_clean steps p a e n since is clean =
-      steps.cleansed a p n since ∙ (ap (λ (x : Event). cleansed_after heading a p x since) is ∙ by e)
-    where
-      by : (x : Event) → cleansed_after heading a p x since ≡ true
-      by (Dsb q dsb) = or_right _ (cleansed heading Patterns a p since) clean
-      by x = clean
-
-  pub stays_used : (steps : PatternsAfter heading) (h : List Event) (e : Event) (n : ℕ) → IsUsed h n → IsUsed (e ∷ h) n
-  stays_used steps h e n (inl k) =
+  pub stays_used : CleansedBySentence heading Patterns → (h : List Event) (e : Event) (n : ℕ) → IsUsed h n → IsUsed (e ∷ h) n
+  stays_used clean h e n (inl k) =
+      let newest = note heading Patterns (noted heading Patterns h) e in
       inl (
         k.0,
         k.1,
         more_place h e k.0 k.1 n k.2,
-        stays_clean steps k.0 k.1 e (note heading Patterns (noted heading Patterns h) e) k.2.since refl k.3,
+        clean.complete k.1 k.0 (newest ∷ k.2.since)
+            (cleansed_stays heading Patterns k.1 k.0 (newest ∷ []) k.2.since (clean.sound k.1 k.0 k.2.since k.3)),
       )
-  stays_used steps h e n (inr k) =
+  stays_used clean h e n (inr k) =
       inr (record {
         p = k.p;
         tag = k.tag;
@@ -338,23 +280,23 @@ module _ (heading : Heading) where
 
   module _ (events_noted : (x : List Event) → events_of (noted heading Patterns x) ≡ x) where
     used_below : (h : List Event) (n : ℕ) → IsUsed h n → n < 128 * length h
-    used_below h n (inl k) =
+    used_below h n (inl k) = let m = k.2.mark in
         omega (
           arith,
-          k.2.number,
-          k.2.small,
+          m.number,
+          m.small,
           ap length k.2.split,
-          length-append k.2.since (k.2.write ∷ k.2.older),
-          events-length (noted heading Patterns h),
+          length-append k.2.since (m.write ∷ m.older),
+          events_length (noted heading Patterns h),
           ap length (events_noted h),
         )
-    used_below h n (inr k) =
+    used_below h n (inr k) = let m = k.of.mark in
         omega (
           arith,
-          k.of.number,
-          k.of.small,
+          m.number,
+          m.small,
           ap length k.of.split,
-          length-append k.of.later (Msr k.p k.of.reg k.of.value ∷ k.of.before),
+          length-append k.of.later (Msr k.p m.reg m.value ∷ m.before),
         )
 
     pub numbered : (h : List Event) (e : Event) (cs : List Claim) → Ascending cs
@@ -374,23 +316,21 @@ module _ (heading : Heading) where
                 ∙ less_itself (claim_key k.0)))),
             more.apart,
           );
-          claims = λ n. by n first more;
+          claims = λ n i. elim i [
+            | inl same ↦ (c, inl refl, subst (λ (m : ℕ). HasNumber h e c m) same first.1)
+            | inr j ↦ let k = more.claims n j in (k.0, inr k.1, k.2)
+          ];
         }
-      where
-        by : (n : ℕ) (first : (m : ℕ) × HasNumber h e c m) (more : Numbered h e cs) → In (first.0 ∷ more.numbers) n
-            → (d : Claim) × In (c ∷ cs) d × HasNumber h e d n
-        by n first more (inl same) = (c, inl refl, subst (λ (m : ℕ). HasNumber h e c m) same first.1)
-        by n first more (inr i) = let k = more.claims n i in (k.0, inr k.1, k.2)
 
-    pub counted_next : (steps : PatternsAfter heading) (h : List Event) (e : Event) (cs ds : List Claim) → Counted h cs
+    pub counted_next : CleansedBySentence heading Patterns → (h : List Event) (e : Event) (cs ds : List Claim) → Counted h cs
         → Numbered h e ds → Counted (e ∷ h) (cs ++ ds)
-    counted_next steps h e cs ds old new = record {
+    counted_next clean h e cs ds old new = record {
       numbers = old.numbers ++ new.numbers;
       size = omega (arith, length-append old.numbers new.numbers, length-append cs ds, old.size, new.size);
       apart = apart_both old.numbers new.numbers old.apart new.apart
           (λ n i j. let k = new.claims n j in fresh events_noted h e k.0 n k.2 (old.used n i));
       used = λ n i. elim (in_append old.numbers new.numbers n i) [
-        | inl was ↦ stays_used steps h e n (old.used n was)
+        | inl was ↦ stays_used clean h e n (old.used n was)
         | inr now ↦ let k = new.claims n now in becomes_used h e k.0 n k.2
       ];
     }

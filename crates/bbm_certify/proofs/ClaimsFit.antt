@@ -1,24 +1,27 @@
 -- Each claim of a certificate fits the header of its log, whose events fit it: so it can be written.
-use Rattle.bbm_certify.proofs.Common.{Known, IsCertificate, IsCleansed, IsDue, IsLeast, OneAt, TakenAt, TwoAt}
-use Rattle.bbm_rules.proofs.Common.{◌≡◌, ◌⊎◌, ℕ, suc, ◌+◌, ◌<◌, ◌≤◌, ◌^◌, ◌/◌, Bool, true, false, cond, ◌&&◌, ◌==◌}
-use Rattle.bbm_rules.proofs.Common.{nat_lt, List, [], ◌∷◌, ◌++◌, length, take, Option, Some, None, refl, sym, ◌∙◌, ap}
-use Rattle.bbm_rules.proofs.Common.{subst, inl, inr, arith, and_from, and_parts, lt-ltb, ltb-true, option_and_then}
-use Rattle.bbm_rules.proofs.Common.{filter_map, flat_map, length-append, to_contains, in_append, in_left, in_right}
-use Rattle.bbm_rules.proofs.Common.{in_split, list_all, every, if_so, fits_heading, is_pe, is_place, is_value, Claim}
-use Rattle.bbm_rules.proofs.Common.{Place, Two, Taken, keeps, Patterns, noted, note, ValidWrite, Noted, events_of}
-use Rattle.bbm_rules.proofs.Common.{Heading, Event, Write, Isb, Msr, Dsb, Reg, Tag, El2Tag, Vmid, Asid, Ttbr1Tag}
-use Rattle.bbm_rules.proofs.Common.{Ttbr0El2, VttbrEl2, Ttbr0El1, Ttbr1El1, World, Hyp, Kernel, AsidFrom, FromTtbr0}
-use Rattle.bbm_rules.proofs.Common.{FromTtbr1, Reading, asid_readings, readings, readings_in, readings_of, tag_number}
-use Rattle.bbm_rules.proofs.Common.{register_values, same_reg, base_of, is_root, kind_of_reg, Issued, OneStep, TwoSteps}
-use Rattle.bbm_rules.proofs.Common.{Flush, In}
+use Rattle.bbm_certify.proofs.Common.{Known, IsCertificate, IsCleansed, IsDue, OneAt, TakenAt, TwoAt}
+use Rattle.bbm_rules.proofs.Common.{◌≡◌, ℕ, suc, ◌<◌, ◌≤◌, ◌^◌, Bool, true, false, cond, ◌&&◌, ◌==◌, List, [], ◌∷◌}
+use Rattle.bbm_rules.proofs.Common.{length, take, refl, sym, ◌∙◌, ap, subst, inl, inr, arith, and_from, and_parts}
+use Rattle.bbm_rules.proofs.Common.{lt-ltb, ltb-true, length-append, to_contains, in_append, in_left, in_right, every}
+use Rattle.bbm_rules.proofs.Common.{if_so, fits_heading, is_pe, is_place, is_value, Claim, Place, Two, Taken, keeps}
+use Rattle.bbm_rules.proofs.Common.{Patterns, noted, ValidWrite, Noted, events_of, Heading, Event, Write, Isb, Msr, Dsb}
+use Rattle.bbm_rules.proofs.Common.{Reg, Tag, El2Tag, Vmid, Asid, Ttbr1Tag, Ttbr0El2, VttbrEl2, Ttbr0El1, Ttbr1El1}
+use Rattle.bbm_rules.proofs.Common.{World, Hyp, Kernel, AsidFrom, FromTtbr0, FromTtbr1, Reading, asid_readings}
+use Rattle.bbm_rules.proofs.Common.{readings, readings_in, readings_of, tag_number, register_values, same_reg, base_of}
+use Rattle.bbm_rules.proofs.Common.{is_root, kind_of_reg, In, bind_some, proved, If, Is}
 use Rattle.bbm_rules.specs.Tags.{reading_of}
-use Rattle.bbm_tlbi_scope.specs.declared.entry.Cover.{Cover}
 use Rattle.bbm_events.specs.Certificate.{is_claim, is_position, is_tag}
-use Rattle.bbm_lemmas.proofs.Elements.{from_filter_map, from_flat}
+use Rattle.bbm_lemmas.proofs.Bools.{first_true}
+use Rattle.bbm_lemmas.proofs.Elements.{from_filter_map, from_flat, from_map}
+use Rattle.bbm_lemmas.proofs.Words.{if_so_some}
+use Rattle.bbm_certify.proofs.LeastFound.{Over}
+use Rattle.bbm_certify.proofs.PlaceClaims.{one_over, positions, two_over}
+use Rattle.bbm_certify.proofs.Searches.{is_in}
 use Rattle.bbm_certify.specs.LeastClaims.{WithinLimits}
 use Rattle.bbm_certify.proofs.ClaimNumbers.{HasNumber, OfPlace, OfTag, written}
-use Rattle.bbm_certify.proofs.FewClaims.{due_number, kept_before}
-use Rattle.bbm_certify.proofs.Finished.{all_in}
+use Rattle.bbm_certify.proofs.FewClaims.{due_number, was_kept}
+use Rattle.bbm_lemmas.proofs.Elements.{every_in}
+use Rattle.bbm_rules.proofs.TagLaw.{tag_small}
 
 -- ---- positions
 
@@ -39,66 +42,26 @@ module _ (heading : Heading) where
 
   -- ---- the events of a pattern are among those since the write
 
-  record Parts (since : List Noted) (t : Issued Noted) (d : Noted) : Type 0 where
-    pub dsb : In since d
-    pub tlbi : In since t.tlbi
-    pub before : (x : Noted) → In t.before x → In since x
-
-  flush_parts : (cover : Cover) (place p : ℕ) (since : List Noted) (t : Issued Noted) (d : Noted)
-      → Flush heading cover place p since t d → Parts since t d
-  flush_parts cover place p since t d k =
-      let a = k.answer in
-      let older : (x : Noted) → In a.older x → In since x
-      = λ x i. subst (λ (ns : List Noted). In ns x) (sym a.split) (in_right a.newer (d ∷ a.older) x (inr i)) in
-      record {
-        dsb = subst (λ (ns : List Noted). In ns d) (sym a.split) (in_split a.newer a.older d);
-        tlbi = older t.tlbi (subst (λ (ns : List Noted). In ns t.tlbi) (sym a.is_open.split)
-            (in_split a.is_open.newer t.before t.tlbi));
-        before = λ x i. older x (subst (λ (ns : List Noted). In ns x) (sym a.is_open.split)
-            (in_right a.is_open.newer (t.tlbi ∷ t.before) x (inr i)));
-      }
-
   module _ (h : List Event) (few : length h < 2 ^ 32) (since : List Noted)
       (inside : (n : Noted) → In since n → In (noted heading Patterns h) n) (place p : ℕ) where
-    at : (n : ℕ) (x : Noted) → n ≡ x.position → In since x → is_position n ≡ true
-    at n x same i = position_fits n (length h)
-        (let le : x.position ≤ length h = position_in h x (inside x i) in omega (arith, same, le)) few
+    at : (n : ℕ) → In (positions since) n → is_position n ≡ true
+    at n i =
+        let x = from_map (λ (x : Noted). x.position) since n i in
+        let le = position_in h x.0 (inside x.0 x.1) in
+        position_fits n (length h) (omega (arith, x.2, le)) few
 
     one_fits : (b t d : ℕ) → OneAt heading place p since (b ∷ t ∷ d ∷ [])
-        → (is_position b ≡ true) × ((is_position t && is_position d) ≡ true)
+        → (is_position b ≡ true) × (is_position t ≡ true) × (is_position d ≡ true)
     one_fits b t d k =
-        let flush = flush_parts _ place p since k.0.t k.0.d k.0.flush in
-        let published = k.0.published in
-        let b_in : In since k.0.b = flush.before k.0.b (subst (λ (ns : List Noted). In ns k.0.b) (sym published.split)
-        (in_split published.newer (published.between ++ published.write ∷ published.older) k.0.b)) in
-        let b_is : b ≡ k.0.b.position = cc in
-        let t_is : t ≡ k.0.t.tlbi.position = cc in
-        let d_is : d ≡ k.0.d.position = cc in (
-          at b k.0.b b_is b_in,
-          and_from (is_position t) (is_position d) (at t k.0.t.tlbi t_is flush.tlbi)
-              (at d k.0.d d_is flush.dsb),
-        )
+        let i = subst (λ (ns : List ℕ). Over (positions since) 3 ns) (sym k.1) (one_over heading place p since k.0) in
+        (at b i.0, at t i.1.0, at d i.1.1.0)
 
     two_fits : (b t1 d1 t2 d2 : ℕ) → TwoAt heading place p since (b ∷ t1 ∷ d1 ∷ t2 ∷ d2 ∷ [])
-        → (is_position b ≡ true) × ((is_position t1 && is_position d1) ≡ true)
-        × ((is_position t2 && is_position d2) ≡ true)
+        → (is_position b ≡ true) × (is_position t1 ≡ true) × (is_position d1 ≡ true) × (is_position t2 ≡ true)
+        × (is_position d2 ≡ true)
     two_fits b t1 d1 t2 d2 k =
-        let second = flush_parts _ place p since k.0.t2 k.0.d2 k.0.second in
-        let first = flush_parts _ place p k.0.t2.before k.0.t1 k.0.d1 k.0.first.flush in
-        let published = k.0.first.published in
-        let b_in : In since k.0.b = second.before k.0.b (first.before k.0.b
-        (subst (λ (ns : List Noted). In ns k.0.b) (sym published.split)
-        (in_split published.newer (published.between ++ published.write ∷ published.older) k.0.b))) in
-        let b_is : b ≡ k.0.b.position = cc in
-        let t1_is : t1 ≡ k.0.t1.tlbi.position = cc in
-        let d1_is : d1 ≡ k.0.d1.position = cc in
-        let t2_is : t2 ≡ k.0.t2.tlbi.position = cc in
-        let d2_is : d2 ≡ k.0.d2.position = cc in (
-          at b k.0.b b_is b_in,
-          and_from (is_position t1) (is_position d1) (at t1 k.0.t1.tlbi t1_is (second.before k.0.t1.tlbi first.tlbi))
-              (at d1 k.0.d1 d1_is (second.before k.0.d1 first.dsb)),
-          and_from (is_position t2) (is_position d2) (at t2 k.0.t2.tlbi t2_is second.tlbi) (at d2 k.0.d2 d2_is second.dsb),
-        )
+        let i = subst (λ (ns : List ℕ). Over (positions since) 5 ns) (sym k.1) (two_over heading place p since k.0) in
+        (at b i.0, at t1 i.1.0, at d1 i.1.1.0, at t2 i.1.1.1.0, at d2 i.1.1.1.1.0)
 
   taken_fits : (h : List Event) (e : Event) (p t d : ℕ) (tag : Tag) → length (e ∷ h) < 2 ^ 32 → d ≡ suc (length h)
       → TakenAt heading p tag (e ∷ h) (t ∷ []) → (is_position t && is_position d) ≡ true
@@ -147,29 +110,15 @@ module _ (heading : Heading) where
       by false j = j
   value_fits (e ∷ h) p reg v fit i = value_fits h p reg v (λ x j. fit x (inr j)) i
 
-  tag_small : (v : ℕ) → v < 2 ^ 64 → nat_lt (tag_number v) (2 ^ 16) ≡ true
-  tag_small v below = lt-ltb (tag_number v) (2 ^ 16) (omega (arith, below))
-
-  reading-tag : (h : List Event) (reg : Reg) (tag : ℕ → Tag) (v : ℕ) (r : Reading) → reading_of h reg tag v ≡ Some r
-      → tag v ≡ r.tag
-  reading-tag h reg tag v r e = by (base_of v) e
-    where
-      with_base : (base : ℕ) (b : Bool) → if_so b (record { tag = tag v; root = base }) ≡ Some r → tag v ≡ r.tag
-      with_base base true k =
-          let same : record { tag = tag v; root = base } ≡ r = cc in ap (λ (x : Reading). x.tag) same
-      with_base base false k = cc
-
-      by : (o : Option ℕ) → option_and_then (λ base. if_so (is_root h (kind_of_reg reg) base)
-          (record { tag = tag v; root = base })) o ≡ Some r → tag v ≡ r.tag
-      by None k = cc
-      by (Some base) k = with_base base (is_root h (kind_of_reg reg) base) k
-
   fits_of : (h : List Event) (p : ℕ) (reg : Reg) (tag : ℕ → Tag) (r : Reading)
       → ((v : ℕ) → In (register_values h p reg) v → is_tag (tag v) ≡ true) → In (readings_of h p reg tag) r
       → is_tag r.tag ≡ true
   fits_of h p reg tag r each i =
       let k = from_filter_map (reading_of h reg tag) (register_values h p reg) r i in
-      ap (λ (g : Tag). is_tag g) (sym (reading-tag h reg tag k.0 r k.2)) ∙ each k.0 k.1
+      let b = bind_some (λ (base : ℕ). if_so (is_root h (kind_of_reg reg) base) (record { tag = tag k.0; root = base }))
+      (base_of k.0) r k.2 in
+      let is = if_so_some (is_root h (kind_of_reg reg) b.0) (record { tag = tag k.0; root = b.0 }) r b.2 in
+      ap (λ (x : Reading). is_tag x.tag) is.1 ∙ each k.0 k.1
 
   asid_fits : (from : AsidFrom) (h : List Event) (p : ℕ) (r : Reading) → AllFit h → In (asid_readings from h p) r
       → is_tag r.tag ≡ true
@@ -198,27 +147,26 @@ module _ (heading : Heading) where
 
   tag_fits : (h : List Event) (p n : ℕ) (tag : Tag) → AllFit h → OfTag heading h p tag n → is_tag tag ≡ true
   tag_fits h p n tag fit k =
-      let there : (e : Event) → In (Msr p k.reg k.value ∷ k.before) e → In h e
-      = λ e i. subst (λ (es : List Event). In es e) (sym k.split) (in_right k.later (Msr p k.reg k.value ∷ k.before) e i) in
-      ap (λ (g : Tag). is_tag g) (sym k.of_tag)
-      ∙ reading_fits (Msr p k.reg k.value ∷ k.before) p k.reading (λ e i. fit e (there e i))
-      (subst (λ (rs : List Reading). In rs k.reading) (sym k.read) (in_split k.front k.behind k.reading))
+      let m = k.mark in
+      let history = Msr p m.reg m.value ∷ m.before in
+      ap (λ (g : Tag). is_tag g) (sym m.of_tag)
+      ∙ reading_fits history p m.reading
+      (λ e i. fit e (subst (λ (es : List Event). In es e) (sym k.split) (in_right k.later history e i)))
+      (is_in (readings heading history p) m.front m.behind m.reading m.read)
 
 -- ---- claims
 
 module _ (heading : Heading) (known : Known heading) (few_pes : heading.pes ≤ 128) where
   place_fits : (h : List Event) (p a n : ℕ) → AllFit heading h → OfPlace heading h p a n → is_place a ≡ true
   place_fits h p a n fit k =
-      let there : In h (Write k.pe a k.value) = subst (λ (es : List Event). In es (Write k.pe a k.value))
-      (sym (written heading h p a n known.events_noted k)) (in_split (events_of k.since) (events_of k.older) (Write k.pe a k.value)) in
-      let parts = and_parts (is_pe heading k.pe && is_place a) (is_value k.value) (fit (Write k.pe a k.value) there) in
-      (and_parts (is_pe heading k.pe) (is_place a) parts.0).1
+      let m = k.mark in
+      let write = Write m.pe a m.value in
+      let there = is_in h (events_of k.since) (events_of m.older) write (written heading h p a n known.events_noted k) in
+      let parts = first_true (is_pe heading m.pe && is_place a) (is_value m.value) (fit write there) in
+      (and_parts (is_pe heading m.pe) (is_place a) parts).1
 
   module _ (h : List Event) (e : Event) (kept : keeps heading Patterns (e ∷ h) ≡ true) (within : WithinLimits h)
       (fit : AllFit heading (e ∷ h)) (few : length (e ∷ h) < 2 ^ 32) where
-    before_fit : AllFit heading h
-    before_fit x i = fit x (inr i)
-
     -- the events since the last valid write are some of the history
     since_in : (a p : ℕ) (w : ValidWrite) → IsCleansed heading (noted heading Patterns (e ∷ h)) a p w → (n : Noted)
         → In w.since n → In (noted heading Patterns (e ∷ h)) n
@@ -232,22 +180,21 @@ module _ (heading : Heading) (known : Known heading) (few_pes : heading.pes ≤ 
         by : (x : Claim) (k : IsDue heading h e x) → (n : ℕ) × HasNumber heading h e x n → is_claim heading x ≡ true
         by (Place p a b t d) k number =
             let at = one_fits heading (e ∷ h) few k.1.0.since (since_in a p k.1.0 k.1.1) a p b t d k.1.2.holds in
-            and_from (is_pe heading p && is_place a && is_position b) (is_position t && is_position d)
-            (and_from (is_pe heading p && is_place a) (is_position b)
-            (and_from (is_pe heading p) (is_place a) (lt-ltb p heading.pes k.0)
-            (place_fits h p a number.0 before_fit number.1.0)) at.0) at.1
+            proved 5 (λ v w x y z. If (Is v true) (If (Is w true) (If (Is x true) (If (Is y true) (If (Is z true)
+            (Is (((v && w) && x) && (y && z)) true)))))) refl (is_pe heading p) (is_place a) (is_position b) (is_position t)
+            (is_position d) (lt-ltb p heading.pes k.0) (place_fits h p a number.0 (λ x i. fit x (inr i)) number.1.0)
+            at.0 at.1 at.2
         by (Two p a b t1 d1 t2 d2) k number =
             let at = two_fits heading (e ∷ h) few k.1.0.since (since_in a p k.1.0 k.1.1) a p b t1 d1 t2 d2 k.1.3.holds in
-            and_from (is_pe heading p && is_place a && is_position b && (is_position t1 && is_position d1))
-            (is_position t2 && is_position d2)
-            (and_from (is_pe heading p && is_place a && is_position b) (is_position t1 && is_position d1)
-            (and_from (is_pe heading p && is_place a) (is_position b)
-            (and_from (is_pe heading p) (is_place a) (lt-ltb p heading.pes k.0)
-            (place_fits h p a number.0 before_fit number.1.0)) at.0) at.1) at.2
+            proved 7 (λ t u v w x y z. If (Is t true) (If (Is u true) (If (Is v true) (If (Is w true) (If (Is x true)
+            (If (Is y true) (If (Is z true) (Is ((((t && u) && v) && (w && x)) && (y && z)) true)))))))) refl
+            (is_pe heading p) (is_place a) (is_position b) (is_position t1) (is_position d1) (is_position t2) (is_position d2)
+            (lt-ltb p heading.pes k.0) (place_fits h p a number.0 (λ x i. fit x (inr i)) number.1.0)
+            at.0 at.1 at.2 at.3 at.4
         by (Taken p tag t d) k number =
             and_from (is_pe heading p && is_tag tag) (is_position t && is_position d)
             (and_from (is_pe heading p) (is_tag tag) (lt-ltb p heading.pes k.0)
-            (tag_fits heading h p number.0 tag before_fit number.1.0))
+            (tag_fits heading h p number.0 tag (λ x i. fit x (inr i)) number.1.0))
             (taken_fits heading h e p t d tag few k.3 k.4.holds)
 
   fit_from : (h : List Event) (cs : List Claim) → keeps heading Patterns h ≡ true → WithinLimits h → AllFit heading h
@@ -255,7 +202,7 @@ module _ (heading : Heading) (known : Known heading) (few_pes : heading.pes ≤ 
   fit_from [] cs kept within fit few cert c i = absurd (subst (λ (xs : List Claim). In xs c) cert i)
   fit_from (e ∷ h) cs kept within fit few cert c i =
       elim (in_append cert.0 cert.1 c (subst (λ (xs : List Claim). In xs c) cert.2 i)) [
-        | inl was ↦ fit_from h cert.0 (kept_before heading h e kept) within.1 (λ x j. fit x (inr j))
+        | inl was ↦ fit_from h cert.0 (was_kept heading h e kept) within.1 (λ x j. fit x (inr j))
             (omega (arith, few)) cert.3 c was
         | inr now ↦ due_fits h e kept within.1 fit few c (cert.5 c (to_contains cert.1 c now))
       ]
@@ -265,4 +212,4 @@ module _ (heading : Heading) (known : Known heading) (few_pes : heading.pes ≤ 
       → every (fits_heading heading) h ≡ true → length h < 2 ^ 32 → IsCertificate heading h cs
       → (c : Claim) → In cs c → is_claim heading c ≡ true
   claims_fit h cs kept within fit few =
-      fit_from h cs kept within (λ e i. all_in (fits_heading heading) h e fit i) few
+      fit_from h cs kept within (λ e i. every_in (fits_heading heading) h e fit i) few

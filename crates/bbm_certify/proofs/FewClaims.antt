@@ -1,20 +1,22 @@
 -- Each claim that is due at an event has a number, so a certificate has at most 128 claims for each event of its log.
 use Rattle.bbm_certify.proofs.Common.{Known, IsCertificate, IsCleansed, IsDue}
-use Rattle.bbm_rules.proofs.Common.{◌≡◌, ◌⊎◌, ℕ, suc, ◌+◌, ◌*◌, ◌<◌, ◌≤◌, Bool, true, false, cond, not, ◌&&◌, ◌==◌}
-use Rattle.bbm_rules.proofs.Common.{nat_le, List, [], ◌∷◌, ◌++◌, length, take, Option, Some, None, Contains, refl, sym}
-use Rattle.bbm_rules.proofs.Common.{◌∙◌, ap, subst, inl, inr, true≢false, arith, and_parts, eqb-true, leb-false}
-use Rattle.bbm_rules.proofs.Common.{leb-true, or_cases, is_none, filter_map, flat_map, length-append, any_found}
-use Rattle.bbm_rules.proofs.Common.{are_pes, heading_ok, nat_lt, if_so, ◌||◌, if◌then◌else◌, is_version, may_share}
+use Rattle.bbm_rules.proofs.Common.{◌≡◌, ℕ, suc, ◌+◌, ◌*◌, ◌<◌, ◌≤◌, Bool, true, false, cond, not, ◌&&◌, ◌==◌, nat_le}
+use Rattle.bbm_rules.proofs.Common.{List, [], ◌∷◌, ◌++◌, length, take, Option, Some, None, refl, sym, ◌∙◌, ap, subst}
+use Rattle.bbm_rules.proofs.Common.{inl, inr, arith, and_parts, eqb-true, leb-false, or_cases, filter_map, flat_map}
+use Rattle.bbm_rules.proofs.Common.{length-append, any_found, are_pes, heading_ok, if_so, ◌||◌, is_version, may_share}
 use Rattle.bbm_rules.proofs.Common.{world_ok, Claim, Place, Two, Taken, keeps, Patterns, cleansed, noted, Noted}
 use Rattle.bbm_rules.proofs.Common.{Barrier, Heading, Event, Isb, Msr, Dsb, Reg, Tag, AsidFrom, FromTtbr0, FromTtbr1}
 use Rattle.bbm_rules.proofs.Common.{World, Hyp, Kernel, Reading, asid_readings, holds_at, loses, readings, readings_in}
-use Rattle.bbm_rules.proofs.Common.{readings_of, reads, register_values, same_tag, same_reg, Node, Ttbr0El1, Ttbr1El1}
+use Rattle.bbm_rules.proofs.Common.{readings_of, reads, register_values, same_tag, same_reg, Ttbr0El1, Ttbr1El1}
 use Rattle.bbm_rules.proofs.Common.{Ttbr0El2, VttbrEl2, Asid, Vmid, El2Tag, Ttbr1Tag, tag_number, ValidWrite}
 use Rattle.bbm_rules.proofs.Common.{to_contains}
-use Rattle.bbm_rules.specs.Broken.{broken}
+use Rattle.bbm_lemmas.proofs.Bools.{first_true}
+use Rattle.std.proofs.lemmas.Bool.{cases_Bool}
+use Rattle.bbm_rules.specs.EventLaws.{TestsAreExact}
+use Rattle.bbm_histories.proofs.Induction.{kept_before}
+use Rattle.bbm_rules.proofs.Common.{nat_tests}
 use Rattle.bbm_regimes.specs.declared.regime.Which.TheVariants.{Values}
 use Rattle.bbm_rules.specs.Tags.{reading_of}
-use Rattle.bbm_rules.specs.Tree.{tree}
 use Rattle.bbm_lemmas.proofs.Elements.{split_in}
 use Rattle.std.specs.List.{cons_option}
 use Rattle.std.proofs.lemmas.List.{length-take}
@@ -27,25 +29,23 @@ use Rattle.bbm_certify.proofs.Knowing.{held_now, reads_written}
 
 -- ---- a log has few PEs and few readable values
 
-few_pes : (version n : ℕ) → are_pes version n ≡ true → n ≤ 128
-few_pes version n ok = by (nat_lt version 3) (and_parts (nat_le 1 n) (nat_le n (if nat_lt version 3 then 64 else 128)) ok).1
-  where
-    by : (b : Bool) → nat_le n (cond b 64 128) ≡ true → n ≤ 128
-    by true e = let few : n ≤ 64 = leb-true n 64 e in omega (arith, few)
-    by false e = leb-true n 128 e
-
 pub pes_of : (heading : Heading) → heading_ok heading ≡ true → heading.pes ≤ 128
 pes_of h ok =
-    let front = and_parts (is_version h.version && are_pes h.version h.pes && (may_share h.version || not h.cnp)) (world_ok h.world) ok in
-    let some = and_parts (is_version h.version && are_pes h.version h.pes) (may_share h.version || not h.cnp) front.0 in
-    few_pes h.version h.pes (and_parts (is_version h.version) (are_pes h.version h.pes) some.0).1
+    let front = first_true (is_version h.version && are_pes h.version h.pes && (may_share h.version || not h.cnp)) (world_ok h.world) ok in
+    let some = first_true (is_version h.version && are_pes h.version h.pes) (may_share h.version || not h.cnp) front in
+    few_pes h.version h.pes (and_parts (is_version h.version) (are_pes h.version h.pes) some).1
+  where
+    few_pes : (version n : ℕ) → are_pes version n ≡ true → n ≤ 128
+    few_pes version n few = grind (arith, nat_tests)
 
 -- a register has at most nine readable values in a log that reaches no limit
-room : (n : ℕ) (b : Bool) → nat_le 9 n ≡ b → if_so b Values ≡ None → n < 9
-room n true e none = cc
-room n false e none = leb-false 9 n e
+room : (n : ℕ) → if_so (nat_le 9 n) Values ≡ None → n < 9
+room n none = elim (cases_Bool (nat_le 9 n)) [
+  | inl full ↦ absurd (cc (none, full))
+  | inr some ↦ leb-false 9 n some
+]
 
-module _ (same_register : (r s : Reg) → same_reg r s ≡ true → r ≡ s) where
+module _ (tests : TestsAreExact) where
   few_values : (h : List Event) (p : ℕ) (reg : Reg) → WithinLimits h → length (register_values h p reg) ≤ 9
   few_values [] p reg within = omega arith
   few_values (Msr pe r value ∷ h) p reg within = by (pe == p && same_reg r reg) refl (few_values h p reg within.1)
@@ -55,11 +55,10 @@ module _ (same_register : (r s : Reg) → same_reg r s ≡ true → r ≡ s) whe
       by false e few = few
       by true e few =
           let parts = and_parts (pe == p) (same_reg r reg) e in
-          let less : length (register_values h pe r) < 9
-          = room (length (register_values h pe r)) (nat_le 9 (length (register_values h pe r))) refl within.0 in
+          let less = room (length (register_values h pe r)) within.0 in
           let same : register_values h pe r ≡ register_values h p reg
           = ap (λ (q : ℕ). register_values h q r) (eqb-true pe p parts.0)
-          ∙ ap (λ (s : Reg). register_values h p s) (same_register r reg parts.1) in
+          ∙ ap (λ (s : Reg). register_values h p s) ((tests.registers r reg).0 parts.1) in
           omega (arith, less, ap length same)
   few_values (Isb pe ∷ h) p reg within = by (pe == p) (few_values h p reg within.1)
     where
@@ -87,20 +86,17 @@ module _ (same_register : (r s : Reg) → same_reg r s ≡ true → r ≡ s) whe
 
   few_of : (h : List Event) (p : ℕ) (reg : Reg) (tag : ℕ → Tag) → WithinLimits h → length (readings_of h p reg tag) ≤ 9
   few_of h p reg tag within =
-      let found : length (readings_of h p reg tag) ≤ length (register_values h p reg)
-      = few_found (reading_of h reg tag) (register_values h p reg) in
-      let values : length (register_values h p reg) ≤ 9 = few_values h p reg within in
+      let found = few_found (reading_of h reg tag) (register_values h p reg) in
+      let values = few_values h p reg within in
       omega (arith, found, values)
 
   few_asids : (from : AsidFrom) (h : List Event) (p : ℕ) → WithinLimits h → length (asid_readings from h p) ≤ 81
   few_asids FromTtbr0 h p within =
-      let few : length (readings_of h p Ttbr0El1 (λ value. Asid (tag_number value))) ≤ 9 = few_of h p Ttbr0El1 _ within in
-      omega (arith, few)
+      let few = few_of h p Ttbr0El1 (λ value. Asid (tag_number value)) within in omega (arith, few)
   few_asids FromTtbr1 h p within =
-      let values : length (register_values h p Ttbr1El1) ≤ 9 = few_values h p Ttbr1El1 within in
-      let few : length (asid_readings FromTtbr1 h p) ≤ 9 * length (register_values h p Ttbr1El1)
-      = few_flat (λ from. readings_of h p Ttbr0El1 (λ value. Asid (tag_number from))) 9 (register_values h p Ttbr1El1)
-      (λ from. few_of h p Ttbr0El1 _ within) in
+      let values = few_values h p Ttbr1El1 within in
+      let few = few_flat (λ from. readings_of h p Ttbr0El1 (λ value. Asid (tag_number from))) 9 (register_values h p Ttbr1El1)
+      (λ from. few_of h p Ttbr0El1 (λ value. Asid (tag_number from)) within) in
       omega (arith, few, values)
 
   few_readings : (heading : Heading) (h : List Event) (p : ℕ) → WithinLimits h → length (readings heading h p) ≤ 90
@@ -108,9 +104,8 @@ module _ (same_register : (r s : Reg) → same_reg r s ≡ true → r ≡ s) whe
     where
       by : (world : World) → length (readings_in world h p) ≤ 90
       by (Hyp world) =
-          let one : length (readings_of h p Ttbr0El2 (λ value. El2Tag)) ≤ 9 = few_of h p Ttbr0El2 _ within in
-          let other : length (readings_of h p VttbrEl2 (λ value. Vmid (tag_number value))) ≤ 9
-          = few_of h p VttbrEl2 _ within in
+          let one = few_of h p Ttbr0El2 (λ value. El2Tag) within in
+          let other = few_of h p VttbrEl2 (λ value. Vmid (tag_number value)) within in
           omega (
             arith,
             one,
@@ -119,8 +114,8 @@ module _ (same_register : (r s : Reg) → same_reg r s ≡ true → r ≡ s) whe
                 (readings_of h p VttbrEl2 (λ value. Vmid (tag_number value))),
           )
       by (Kernel world) =
-          let one : length (asid_readings world.asid_from h p) ≤ 81 = few_asids world.asid_from h p within in
-          let other : length (readings_of h p Ttbr1El1 (λ value. Ttbr1Tag)) ≤ 9 = few_of h p Ttbr1El1 _ within in
+          let one = few_asids world.asid_from h p within in
+          let other = few_of h p Ttbr1El1 (λ value. Ttbr1Tag) within in
           omega (
             arith,
             one,
@@ -131,9 +126,10 @@ module _ (same_register : (r s : Reg) → same_reg r s ≡ true → r ≡ s) whe
 
 -- ---- the numbers of what is due
 
-pub kept_before : (heading : Heading) (h : List Event) (e : Event) → keeps heading Patterns (e ∷ h) ≡ true
+-- a log that keeps the rules kept them before its last event
+pub was_kept : (heading : Heading) (h : List Event) (e : Event) → keeps heading Patterns (e ∷ h) ≡ true
     → keeps heading Patterns h ≡ true
-kept_before heading h e kept = (and_parts (keeps heading Patterns h) (is_none (broken heading Patterns h e)) kept).0
+was_kept heading h e kept = kept_before heading Patterns (e ∷ []) h kept
 
 module _ (heading : Heading) (known : Known heading) (few : heading.pes ≤ 128) where
   -- the place that a DSB cleanses at a PE has a last valid write
@@ -142,40 +138,31 @@ module _ (heading : Heading) (known : Known heading) (few : heading.pes ≤ 128)
       → ((v : ValidWrite) → IsCleansed heading (noted heading Patterns h) a p v → ⊥)
       → (n : ℕ) × BecomesClean heading h (Dsb q dsb) p a n
   place_number h q dsb kept a p w below k not_yet =
-      let was = the_write heading h q dsb ((known.cleansed Patterns).sound) ((known.cleansed Patterns).complete)
-      (known.one_node.at_most_one h (kept_before heading h (Dsb q dsb) kept)) was_node
-      (known.tree.taken (noted heading Patterns (Dsb q dsb ∷ h)))
-      (known.one_node.the_first (Dsb q dsb ∷ h) kept) a p w below k not_yet in
-      let uncleansed = unclean heading h q dsb ((known.cleansed Patterns).sound) ((known.cleansed Patterns).complete)
-      (known.one_node.at_most_one h (kept_before heading h (Dsb q dsb) kept)) was_node
-      (known.tree.taken (noted heading Patterns (Dsb q dsb ∷ h)))
-      (known.one_node.the_first (Dsb q dsb ∷ h) kept) a p w below k not_yet in
+      let was = the_write heading known h q dsb kept a p w k not_yet in
       let last = known.last_valid.sound k.node.kind k.node.level a (noted heading Patterns h) was.before was.is in (
         128 * length last.older + p,
         (
           record {
+            mark = record {
+              write = last.write;
+              older = last.older;
+              pe = last.pe;
+              value = was.before.value;
+              wrote = last.wrote;
+              small = omega (arith, below, few);
+              number = refl;
+            };
             since = was.before.since;
-            write = last.write;
-            older = last.older;
-            pe = last.pe;
-            value = was.before.value;
             split = last.split;
-            wrote = last.wrote;
-            small = omega (arith, below, few);
-            number = refl;
           },
-          uncleansed,
+          unclean heading known h q dsb kept a p w k not_yet,
           ap (λ (ns : List Noted). cleansed heading Patterns a p ns) was.since_is ∙ k.is_clean,
         ),
       )
-    where
-      was_node : (n : Node) → Contains (tree heading Patterns (noted heading Patterns (Dsb q dsb ∷ h))) n
-          → Contains (tree heading Patterns (noted heading Patterns h)) n
-      was_node n i = ((known.tree_step.dsb h q dsb kept n).0 i).0
 
   -- the tag that a root holds at a PE was readable there for it after a register write of the PE, and held since then
   abbrev TagNumber : List Event → ℕ → Tag → Type 0
-  TagNumber h p tag = (n : ℕ) × ((k : OfTag heading h p tag n) × HeldSince heading h p tag (length k.before))
+  TagNumber h p tag = (n : ℕ) × ((k : OfTag heading h p tag n) × HeldSince heading h p tag (length k.mark.before))
 
   -- held at the newest moment and at those before it
   held_more : (h : List Event) (e : Event) (p count : ℕ) (tag : Tag) → Holding heading (e ∷ h) p tag
@@ -186,14 +173,11 @@ module _ (heading : Heading) (known : Known heading) (few : heading.pes ≤ 128)
   held_more h e p count tag now before (x ∷ after) moment split since =
       let rest : h ≡ after ++ moment = cc in before after moment rest since
 
-  none_longer : (h after moment : List Event) → h ≡ after ++ moment → length h < length moment → ⊥
-  none_longer h after moment split longer = omega (arith, ap length split, length-append after moment, longer)
-
   module _ (h : List Event) (e : Event) (p root : ℕ) (tag : Tag) (within : WithinLimits (e ∷ h))
       (held : holds_at heading Patterns p root tag (e ∷ h) ≡ true) where
     still_held : TagNumber h p tag → TagNumber (e ∷ h) p tag
     still_held k =
-        (k.0, (more_tag heading h e p k.0 tag k.1.0, held_more h e p (length k.1.0.before) tag (root, held) k.1.1))
+        (k.0, (more_tag heading h e p k.0 tag k.1.0, held_more h e p (length k.1.0.mark.before) tag (root, held) k.1.1))
 
     -- it becomes readable by the event, a register write
     now_read : (reg : Reg) (value : ℕ) → e ≡ Msr p reg value → reads heading (e ∷ h) p tag root ≡ true
@@ -201,76 +185,58 @@ module _ (heading : Heading) (known : Known heading) (few : heading.pes ≤ 128)
     now_read reg value is read =
         let r = any_found (λ (x : Reading). same_tag x.tag tag && x.root == root) (readings heading (e ∷ h) p) read in
         let at = split_in (readings heading (e ∷ h) p) r.0 r.1 in
-        let count : length (readings heading (e ∷ h) p) ≤ 90 = few_readings
-        (λ x y. (known.equality_tests.registers x y).0) heading (e ∷ h) p within in (
+        let count = few_readings known.equality_tests heading (e ∷ h) p within in (
           128 * length h + length at.1,
           (
             record {
+              mark = record {
+                before = h;
+                reg = reg;
+                value = value;
+                front = at.0;
+                reading = r.0;
+                behind = at.1;
+                read = ap (λ (x : Event). readings heading (x ∷ h) p) (sym is) ∙ at.2;
+                of_tag = (known.equality_tests.tags r.0.tag tag).0 (first_true (same_tag r.0.tag tag) (r.0.root == root) r.2);
+                small = omega (arith, count, ap length at.2, length-append at.0 (r.0 ∷ at.1));
+                number = refl;
+              };
               later = [];
-              before = h;
-              reg = reg;
-              value = value;
               split = ap (λ (x : Event). x ∷ h) is;
-              front = at.0;
-              reading = r.0;
-              behind = at.1;
-              read = ap (λ (x : Event). readings heading (x ∷ h) p) (sym is) ∙ at.2;
-              of_tag = (known.equality_tests.tags r.0.tag tag).0 (and_parts (same_tag r.0.tag tag) (r.0.root == root) r.2).0;
-              small = omega (arith, count, ap length at.2, length-append at.0 (r.0 ∷ at.1));
-              number = refl;
             },
             held_more h e p (length h) tag (root, held)
-                (λ after moment split longer. absurd (none_longer h after moment split longer)),
+                (λ after moment split longer. absurd (omega (arith, ap length split, length-append after moment, longer))),
           ),
         )
 
   tag_number_of : (h : List Event) → keeps heading Patterns h ≡ true → WithinLimits h → (p root : ℕ) (tag : Tag)
       → p < heading.pes → holds_at heading Patterns p root tag h ≡ true → TagNumber h p tag
-  tag_number_of [] kept within p root tag below held = absurd (true≢false (sym held))
+  tag_number_of [] kept within p root tag below held = absurd (cc)
   tag_number_of (e ∷ h) kept within p root tag below held =
-      by (holds_at heading Patterns p root tag h) refl
-      (tag_number_of h (kept_before heading h e kept) within.1 p root tag below)
-    where
-      written : reads heading (e ∷ h) p tag root ≡ true
-          → (holds_at heading Patterns p root tag h ≡ true) ⊎ ((reg : Reg) × (value : ℕ) × (e ≡ Msr p reg value))
-      written = reads_written heading h e (known.tags.becomes h e known.proper kept)
-          (held_now heading h (λ p root tag. known.tag_held.complete p root tag h)) p root tag below
-
-      newly : (b : Bool) → holds_at heading Patterns p root tag h ≡ b → b ≡ false
-          → reads heading (e ∷ h) p tag root ≡ true → TagNumber (e ∷ h) p tag
-      newly b was none read =
-          elim (written read) [
-            | inl held_before ↦ absurd (true≢false (sym held_before ∙ (was ∙ none)))
-            | inr w ↦ now_read h e p root tag within held w.0 w.1 w.2 read
-          ]
-
-      by : (b : Bool) → holds_at heading Patterns p root tag h ≡ b
-          → (holds_at heading Patterns p root tag h ≡ true → TagNumber h p tag) → TagNumber (e ∷ h) p tag
-      by true was before = still_held h e p root tag within held (before was)
-      by false was before =
-          elim (or_cases (reads heading (e ∷ h) p tag root)
-          (holds_at heading Patterns p root tag h && not (loses heading Patterns p tag e h)) held) [
-            | inl read ↦ newly false was refl read
-            | inr stays ↦ absurd (true≢false (sym (and_parts (holds_at heading Patterns p root tag h)
-                (not (loses heading Patterns p tag e h)) stays).0 ∙ was))
-          ]
+      elim (or_cases (reads heading (e ∷ h) p tag root)
+      (holds_at heading Patterns p root tag h && not (loses heading Patterns p tag e h)) held) [
+        | inl read ↦
+            elim (reads_written heading h e (known.tags.becomes h e known.proper kept)
+            (held_now heading h (λ p root tag. known.tag_held.complete p root tag h)) p root tag below read) [
+              | inl was ↦ still_held h e p root tag within held
+                  (tag_number_of h (was_kept heading h e kept) within.1 p root tag below was)
+              | inr w ↦ now_read h e p root tag within held w.0 w.1 w.2 read
+            ]
+        | inr stays ↦ still_held h e p root tag within held
+            (tag_number_of h (was_kept heading h e kept) within.1 p root tag below
+            (first_true (holds_at heading Patterns p root tag h) (not (loses heading Patterns p tag e h)) stays))
+      ]
 
   -- ---- what is due has a number
 
-  at_dsb : (h : List Event) (q : ℕ) (dsb : Barrier) → keeps heading Patterns (Dsb q dsb ∷ h) ≡ true → WithinLimits h
-      → (c : Claim) → IsDue heading h (Dsb q dsb) c → (n : ℕ) × HasNumber heading h (Dsb q dsb) c n
-  at_dsb h q dsb kept within (Place p a b t d) k = place_number h q dsb kept a p k.1.0 k.0 k.1.1 k.2
-  at_dsb h q dsb kept within (Two p a b t1 d1 t2 d2) k = place_number h q dsb kept a p k.1.0 k.0 k.1.1 k.2
-  at_dsb h q dsb kept within (Taken p tag t d) k =
-      let held = tag_number_of h (kept_before heading h (Dsb q dsb) kept) within p k.1.0 tag k.0 k.1.1 in
-      (held.0, (held.1.0, held.1.1, k.2))
-
   pub due_number : (h : List Event) (e : Event) → keeps heading Patterns (e ∷ h) ≡ true → WithinLimits h → (c : Claim)
       → IsDue heading h e c → (n : ℕ) × HasNumber heading h e c n
-  due_number h (Dsb q dsb) kept within c k = at_dsb h q dsb kept within c k
-  due_number h e kept within c k =
-      absurd (none_due heading h e (λ q dsb is. cc) known.pattern_steps (λ n i. elim (known.one_position.gained h e kept n i)
-      [ inl old ↦ inl old | inr new ↦ inr new.0 ]) (known.fresh_content.attached h e known.proper.some_pe kept) c k)
+  due_number h (Dsb q dsb) kept within (Place p a b t d) k = place_number h q dsb kept a p k.1.0 k.0 k.1.1 k.2
+  due_number h (Dsb q dsb) kept within (Two p a b t1 d1 t2 d2) k = place_number h q dsb kept a p k.1.0 k.0 k.1.1 k.2
+  due_number h (Dsb q dsb) kept within (Taken p tag t d) k =
+      let held = tag_number_of h (was_kept heading h (Dsb q dsb) kept) within p k.1.0 tag k.0 k.1.1 in
+      (held.0, (held.1.0, held.1.1, k.2))
+  due_number h e kept within c k = absurd (none_due heading known h e (λ q dsb is. cc) kept c k)
 
   counted : (h : List Event) (cs : List Claim) → keeps heading Patterns h ≡ true → WithinLimits h
       → IsCertificate heading h cs → Counted heading h cs
@@ -281,11 +247,11 @@ module _ (heading : Heading) (known : Known heading) (few : heading.pes ≤ 128)
     used = λ n i. absurd i;
   }
   counted (e ∷ h) cs kept within cert =
-      let before = counted h cert.0 (kept_before heading h e kept) within.1 cert.3 in
+      let before = counted h cert.0 (was_kept heading h e kept) within.1 cert.3 in
       let due = numbered heading known.events_noted h e cert.1 cert.4
       (λ c i. due_number h e kept within.1 c (cert.5 c (to_contains cert.1 c i))) in
       subst (λ (xs : List Claim). Counted heading (e ∷ h) xs) (sym cert.2)
-      (counted_next heading known.events_noted known.pattern_steps h e cert.0 cert.1 before due)
+      (counted_next heading known.events_noted (known.cleansed Patterns) h e cert.0 cert.1 before due)
 
   -- a certificate has at most 128 claims for each event of its log
   pub few_claims_of : (h : List Event) (cs : List Claim) → keeps heading Patterns h ≡ true → WithinLimits h

@@ -1,11 +1,10 @@
 -- A certificate that is made event by event.
-use Rattle.bbm_certify.proofs.Common.{note_of, notes_of, Kept, notes, IsNewest, writes_at, Known, IsCertificate, AreDue}
+use Rattle.bbm_certify.proofs.Common.{notes_of, Kept, notes, IsNewest, writes_at, Known, IsCertificate, AreDue}
 use Rattle.bbm_certify.proofs.Common.{HasTaken, IsMaking, Adds, AreTaken, IsKnown, ReadsAreWritten}
-use Rattle.bbm_rules.proofs.Common.{◌≡◌, ℕ, suc, ◌-◌, ◌≤◌, Bool, true, ◌||◌, List, [], ◌∷◌, ◌++◌, length, take, drop}
-use Rattle.bbm_rules.proofs.Common.{reverse, refl, sym, ◌∙◌, ap, subst, arith, inl, inr, length-append, and_parts}
-use Rattle.bbm_rules.proofs.Common.{length-reverse, length-take-le, reverse-append, reverse-reverse, take-append-drop}
-use Rattle.bbm_rules.proofs.Common.{take_at, list_all, Claim, keeps, Trust, Patterns, note, noted, among, Noted}
-use Rattle.bbm_rules.proofs.Common.{Barrier, Heading, Event, Dsb, In}
+use Rattle.bbm_rules.proofs.Common.{◌≡◌, ℕ, suc, ◌-◌, ◌≤◌, true, ◌||◌, List, [], ◌∷◌, ◌++◌, length, take, drop, reverse}
+use Rattle.bbm_rules.proofs.Common.{refl, sym, ◌∙◌, ap, subst, arith, length-append, length-reverse, length-take-le}
+use Rattle.bbm_rules.proofs.Common.{reverse-append, reverse-reverse, take-append-drop, take_at, Claim, keeps, Trust}
+use Rattle.bbm_rules.proofs.Common.{Patterns, note, noted, among, Noted, Barrier, Heading, Event, Dsb}
 use Rattle.bbm_oracle_trees.specs.Past.{Past}
 use Rattle.bbm_certify.specs.DueAt.{AreDue as ArePlaces}
 use Rattle.bbm_oracle_trees.specs.ByPatterns.{StandsByPatterns}
@@ -41,6 +40,12 @@ keeps_first heading log i kept =
 pub count_is : (past : Past) (heading : Heading) (h : List Event) → StandsByPatterns past heading h → length past.kept ≡ length h
 count_is past heading h s = sym (length_events past.kept) ∙ ap length s.kept.events_are
 
+-- the same claims were added
+moved : (F : Heading → Trust → List Noted → List Noted → Claim → Type 0) (g heading : Heading) (t trust : Trust)
+    (ns after es before : List Noted) (none xs : List Claim) → g ≡ heading → t ≡ trust → ns ≡ after → es ≡ before → none ≡ []
+    → Adds (F g t ns es) none xs → Adds (F heading trust after before) [] xs
+moved F g heading t trust ns after es before none xs a b c d e k = rw (a, b, c, d, e) at k
+
 -- ---- one event
 
 module _ (heading : Heading) (known : Known heading) (m : Making) (h : List Event) where
@@ -57,15 +62,12 @@ module _ (heading : Heading) (known : Known heading) (m : Making) (h : List Even
         ap (λ (ks : List Kept). notes_of ks) log_is
         ∙ (taken.history.kept.notes_are ∙ ap (λ (t : Trust). noted heading t (Dsb q dsb ∷ h)) taken.history.trust_is)
 
-    tail_is : (x y : Noted) (xs ys : List Noted) → x ∷ xs ≡ y ∷ ys → xs ≡ ys
-    tail_is x y xs ys e = cc
-
     before_by : (ks : List Kept) → reverse log ≡ ks → notes_of ks ≡ newest ∷ before
         → notes_of (reverse (take (length log - 1) log)) ≡ before
-    before_by [] is e = absurd (omega (arith, ap length e))
+    before_by [] is e = absurd (cc)
     before_by (k ∷ older) is e =
-        ap (λ (ks : List Kept). notes_of ks) (without_last log k older is)
-        ∙ tail_is (note_of (length older) k) newest (notes_of older) before e
+        let rest : notes_of older ≡ before = cc in
+        ap (λ (ks : List Kept). notes_of ks) (without_last log k older is) ∙ rest
 
     pub before_is : notes_of (reverse (take (length log - 1) log)) ≡ before
     before_is = before_by (reverse log) refl notes_are
@@ -83,17 +85,11 @@ module _ (heading : Heading) (known : Known heading) (m : Making) (h : List Even
         → Adds (AreTaken heading h (Dsb q dsb) m.known.items) xs ys → AreDue heading h (Dsb q dsb) ys
     due_here none xs ys empty a b =
         due_at_dsb heading known h q dsb taken.keeps_rules m.places.items taken.places m.known.items taken.known xs ys
-        (subst (λ (ns : List Noted). Adds (ArePlaces heading Patterns (noted heading Patterns (Dsb q dsb ∷ h)) newest ns m.places.items)
-        [] xs) before_is
-        (subst (λ (ns : List Noted). Adds (ArePlaces heading Patterns ns newest
-        (notes_of (reverse (take (length log - 1) log))) m.places.items) [] xs)
+        (moved (λ g t ns es. ArePlaces g t ns newest es m.places.items) m.history.heading heading m.history.trust Patterns
+        (notes m.history) (noted heading Patterns (Dsb q dsb ∷ h)) (notes_of (reverse (take (length log - 1) log))) before none xs
+        taken.history.kept.heading_is taken.history.trust_is
         (taken.history.kept.notes_are ∙ ap (λ (t : Trust). noted heading t (Dsb q dsb ∷ h)) taken.history.trust_is)
-        (subst (λ (t : Trust). Adds (ArePlaces heading t (notes m.history) newest
-        (notes_of (reverse (take (length log - 1) log))) m.places.items) [] xs) taken.history.trust_is
-        (subst (λ (g : Heading). Adds (ArePlaces g m.history.trust (notes m.history) newest
-        (notes_of (reverse (take (length log - 1) log))) m.places.items) [] xs) taken.history.kept.heading_is
-        (subst (λ (cs : List Claim). Adds (ArePlaces m.history.heading m.history.trust (notes m.history) newest
-        (notes_of (reverse (take (length log - 1) log))) m.places.items) cs xs) empty a))))) b
+        before_is empty a) b
 
   -- what is kept for the next event
   pub making_next : (e : Event) (new : Making) → IsMaking m heading h → keeps heading Patterns (e ∷ h) ≡ true
@@ -115,13 +111,6 @@ pub certificate_next : (heading : Heading) (h h' : List Event) (e : Event) (befo
 certificate_next heading h h' e before due after is cert d whole =
     subst (λ (x : List Event). IsCertificate heading x after) is
     (before, due, whole, cert, d.sorted, d.sound, d.complete)
-
--- ---- each event of a log
-
-pub all_in : {A : Type 0} (test : A → Bool) (xs : List A) (x : A) → list_all test xs ≡ true → In xs x → test x ≡ true
-all_in test [] x e i = absurd i
-all_in {A} test (y ∷ ys) x e (inl same) = ap test (sym same) ∙ (and_parts (test y) (list_all test ys) e).0
-all_in test (y ∷ ys) x e (inr i) = all_in test ys x (and_parts (test y) (list_all test ys) e).1 i
 
 -- how many events a history of the first of a log has
 pub first_count : (past : Past) (heading : Heading) (log : List Event) (i : ℕ) → i ≤ length log

@@ -1,8 +1,9 @@
 -- What was ever readable, after one more event.
 use Rattle.bbm_certify.proofs.Common.{has, Holding, IsKnown, ReadsAreWritten}
-use Rattle.bbm_rules.proofs.Common.{◌≡◌, ◌⊎◌, ℕ, ◌≤◌, Bool, true, false, not, ◌&&◌, List, [], ◌∷◌, length, refl, ap}
-use Rattle.bbm_rules.proofs.Common.{inl, inr, arith, length-append, and_parts, or_cases, Patterns, Heading, Event, Dsb}
-use Rattle.bbm_rules.proofs.Common.{Msr, Reg, Tag, Issued, TakenAway, holds_at, loses, reads}
+use Rattle.bbm_rules.proofs.Common.{◌≡◌, ℕ, ◌≤◌, true, not, ◌&&◌, List, [], ◌∷◌, length, refl, ap, inl, inr, arith}
+use Rattle.bbm_rules.proofs.Common.{length-append, and_parts, or_cases, Patterns, Heading, Event, Dsb, Msr, Reg, Tag}
+use Rattle.bbm_rules.proofs.Common.{Issued, TakenAway, holds_at, loses, reads}
+use Rattle.std.proofs.lemmas.Bool.{cases_Bool}
 use Rattle.bbm_rules.specs.Sentences.{HoldsTag}
 use Rattle.bbm_histories.specs.TagSteps.{BecomesReadable}
 
@@ -33,12 +34,10 @@ module _ (heading : Heading) (h : List Event) where
     pub reads_written : BecomesReadable heading h e
         → ((p root : ℕ) (tag : Tag) → reads heading h p tag root ≡ true → holds_at heading Patterns p root tag h ≡ true)
         → ReadsAreWritten heading h e
-    reads_written becomes held p root tag below read = by (reads heading h p tag root) refl
-      where
-        by : (b : Bool) → reads heading h p tag root ≡ b
-            → (holds_at heading Patterns p root tag h ≡ true) ⊎ ((reg : Reg) × (value : ℕ) × (e ≡ Msr p reg value))
-        by true was = inl (held p root tag was)
-        by false wasnt = inr (becomes p root tag below read wasnt)
+    reads_written becomes held p root tag below read = elim (cases_Bool (reads heading h p tag root)) [
+      | inl was ↦ inl (held p root tag was)
+      | inr wasnt ↦ inr (becomes p root tag below read wasnt)
+    ]
 
     -- ---- what was known, and what was read at a PE
 

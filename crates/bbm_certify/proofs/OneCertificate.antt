@@ -1,47 +1,17 @@
 -- A log has one certificate at most: what is due at an event has one order.
 use Rattle.bbm_certify.proofs.Common.{Ascending, IsCertificate, claim_key, less}
-use Rattle.bbm_rules.proofs.Common.{◌≡◌, ℕ, ◌<◌, true, false, ◌&&◌, ◌==◌, nat_lt, ◌⊎◌, List, [], ◌∷◌, ◌++◌, refl, sym}
-use Rattle.bbm_rules.proofs.Common.{◌∙◌, ap, subst, inl, inr, true≢false, arith, and_from, and_parts, and_right, eq-eqb}
-use Rattle.bbm_rules.proofs.Common.{eqb-true, le-ltb, lt-ltb, ltb-true, or_cases, or_from, or_left, or_right, Claim}
-use Rattle.bbm_rules.proofs.Common.{Heading, Event, from_contains, to_contains, In}
+use Rattle.bbm_rules.proofs.Common.{◌≡◌, ℕ, true, false, List, [], ◌∷◌, refl, sym, nat_tests, arith, ◌∙◌, ap, inl, inr}
+use Rattle.bbm_rules.proofs.Common.{true≢false, Claim, Heading, Event, from_contains, to_contains, In}
 
 -- ---- the order is one
 
 pub less_itself : (ns : List ℕ) → less ns ns ≡ false
 less_itself [] = refl
-less_itself (n ∷ ns) =
-    or_from (nat_lt n n) (n == n && less ns ns) (le-ltb n n (omega arith)) (and_right (n == n) (less ns ns) (less_itself ns))
+less_itself (n ∷ ns) = grind (arith, nat_tests, less_itself ns)
 
 less_through : (ms ns os : List ℕ) → less ms ns ≡ true → less ns os ≡ true → less ms os ≡ true
-less_through [] ns os a b = absurd (true≢false (sym a))
-less_through (m ∷ ms) [] os a b = absurd (true≢false (sym a))
-less_through (m ∷ ms) (n ∷ ns) [] a b = absurd (true≢false (sym b))
-less_through (m ∷ ms) (n ∷ ns) (o ∷ os) a b =
-    by (or_cases (nat_lt m n) (m == n && less ms ns) a) (or_cases (nat_lt n o) (n == o && less ns os) b)
-    (less_through ms ns os)
-  where
-    first : m < o → less (m ∷ ms) (o ∷ os) ≡ true
-    first lt = or_left (nat_lt m o) (m == o && less ms os) (lt-ltb m o lt)
-
-    by : (nat_lt m n ≡ true) ⊎ ((m == n && less ms ns) ≡ true) → (nat_lt n o ≡ true) ⊎ ((n == o && less ns os) ≡ true)
-        → (less ms ns ≡ true → less ns os ≡ true → less ms os ≡ true) → less (m ∷ ms) (o ∷ os) ≡ true
-    by (inl x) (inl y) next =
-        let i : m < n = ltb-true m n x in
-        let j : n < o = ltb-true n o y in
-        first (omega (arith, i, j))
-    by (inl x) (inr y) next =
-        let i : m < n = ltb-true m n x in
-        let parts = and_parts (n == o) (less ns os) y in
-        first (subst (λ (z : ℕ). m < z) (eqb-true n o parts.0) i)
-    by (inr x) (inl y) next =
-        let j : n < o = ltb-true n o y in
-        let parts = and_parts (m == n) (less ms ns) x in
-        first (subst (λ (z : ℕ). z < o) (sym (eqb-true m n parts.0)) j)
-    by (inr x) (inr y) next =
-        let p = and_parts (m == n) (less ms ns) x in
-        let q = and_parts (n == o) (less ns os) y in
-        or_right (nat_lt m o) (m == o && less ms os)
-        (and_from (m == o) (less ms os) (eq-eqb m o (eqb-true m n p.0 ∙ eqb-true n o q.0)) (next p.1 q.1))
+less_through (m ∷ ms) (n ∷ ns) (o ∷ os) a b = grind (arith, nat_tests, less_through ms ns os)
+less_through ms ns os a b = absurd (cc)
 
 -- ---- two lists in this order with the same claims
 
@@ -62,7 +32,7 @@ apart c x same k =
 same_head : (c d : Claim) (cs ds : List Claim) → Ascending (c ∷ cs) → Ascending (d ∷ ds) → In (d ∷ ds) c → In (c ∷ cs) d
     → c ≡ d
 same_head c d cs ds a b (inl same) j = sym same
-same_head c d cs ds a b (inr i) (inl same) = same
+same_head c d cs ds a b i (inl same) = same
 same_head c d cs ds a b (inr i) (inr j) =
     absurd (apart c c refl (less_through (claim_key c) (claim_key d) (claim_key c) (above c cs d a j) (above d ds c b i)))
 
@@ -93,4 +63,4 @@ one_certificate heading (e ∷ h) claims others a b =
     let due : a.1 ≡ b.1 = same_list a.1 b.1 a.4 b.4
     (λ c i. from_contains b.1 c (b.6 c (a.5 c (to_contains a.1 c i))))
     (λ c i. from_contains a.1 c (a.6 c (b.5 c (to_contains b.1 c i)))) in
-    a.2 ∙ (ap (λ (xs : List Claim). xs ++ a.1) before ∙ (ap (λ (xs : List Claim). b.0 ++ xs) due ∙ sym b.2))
+    cc (a.2, b.2)

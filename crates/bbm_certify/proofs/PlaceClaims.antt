@@ -1,262 +1,185 @@
 -- What is cleansed, claim by claim: every place that is cleansed by a pattern has a least claim of it, in one step where
 -- there is one, and a list of claims that has this claim cleanses the place, too.
-use Rattle.bbm_certify.proofs.Common.{Known, IsLeast, OneAt, TwoAt, less}
-use Rattle.bbm_rules.proofs.Common.{◌≡◌, ℕ, Bool, true, false, ◌⊎◌, List, [], ◌∷◌, ◌++◌, map, Contains, refl, sym, ◌∙◌}
-use Rattle.bbm_rules.proofs.Common.{ap, subst, inl, inr, true≢false, Claim, Place, Two, Patterns, Listed, cleansed}
-use Rattle.bbm_rules.proofs.Common.{Noted, Answer, Cleansed, OneStep, Publication, TwoSteps, Heading, Issued, in_map}
-use Rattle.bbm_rules.proofs.Common.{in_right, in_split, In}
+use Rattle.bbm_certify.proofs.Common.{allows, Known, IsLeast, IsLeastClaim, OneAt, TwoAt}
+use Rattle.bbm_rules.proofs.Common.{◌≡◌, ◌⊎◌, ℕ, Bool, true, List, [], ◌∷◌, ◌++◌, map, get_or, Contains, refl, sym, ◌∙◌}
+use Rattle.bbm_rules.proofs.Common.{ap, subst, inl, inr, Claim, Place, Two, Taken, Trust, Patterns, Listed, cleansed}
+use Rattle.bbm_rules.proofs.Common.{Noted, Answer, OneStep, Publication, TwoSteps, Heading, Issued, in_map, In}
 use Rattle.bbm_certify.proofs.OneClaim.{listed, named, only_this, this}
-use Rattle.bbm_certify.proofs.LeastFound.{LeastList, Over, Sized, finds_list, least_list, some_list}
+use Rattle.bbm_certify.proofs.LeastFound.{Over, Sized, least_or_none}
+use Rattle.bbm_certify.proofs.Searches.{is_behind, is_in}
 
 -- ---- the events of a pattern came after the last valid write
 
-tlbi_in : (since : List Noted) (t : Issued Noted) (d : Noted) → Answer since t d → In since t.tlbi
-tlbi_in since t d a =
-    subst (λ (xs : List Noted). In xs t.tlbi) (sym a.split) (in_right a.newer (d ∷ a.older) t.tlbi (inr
-    (subst (λ (xs : List Noted). In xs t.tlbi) (sym a.is_open.split) (in_split a.is_open.newer t.before t.tlbi))))
-
-before_in : (since : List Noted) (t : Issued Noted) (d x : Noted) → Answer since t d → In t.before x → In since x
-before_in since t d x a i =
-    subst (λ (xs : List Noted). In xs x) (sym a.split) (in_right a.newer (d ∷ a.older) x (inr
-    (subst (λ (xs : List Noted). In xs x) (sym a.is_open.split) (in_right a.is_open.newer (t.tlbi ∷ t.before) x (inr i)))))
-
-answer_in : (since : List Noted) (t : Issued Noted) (d : Noted) → Answer since t d → In since d
-answer_in since t d a = subst (λ (xs : List Noted). In xs d) (sym a.split) (in_split a.newer a.older d)
-
-barrier_in : (heading : Heading) (place p : ℕ) (since : List Noted) (b : Noted) → Publication heading place p since b
-    → In since b
-barrier_in heading place p since b k =
-    subst (λ (xs : List Noted). In xs b) (sym k.split) (in_split k.newer (k.between ++ k.write ∷ k.older) b)
-
-abbrev positions : List Noted → List ℕ
+abbrev pub positions : List Noted → List ℕ
 positions since = map (λ (n : Noted). n.position) since
 
-at_in : (since : List Noted) (n : Noted) → In since n → In (positions since) n.position
-at_in since n i = in_map (λ (n : Noted). n.position) since n i
+module _ (since : List Noted) (t : Issued Noted) (d : Noted) (a : Answer since t d) where
+  answer_in : In since d
+  answer_in = is_in since a.newer a.older d a.split
 
-three : (ns : List ℕ) → Sized 3 ns → (b t d : ℕ) × (ns ≡ b ∷ t ∷ d ∷ [])
-three [] s = absurd s
-three (b ∷ []) s = absurd s
-three (b ∷ t ∷ []) s = absurd s
-three (b ∷ t ∷ d ∷ []) s = (b, t, d, refl)
-three (b ∷ t ∷ d ∷ x ∷ ns) s = absurd s
+  tlbi_in : In since t.tlbi
+  tlbi_in =
+      is_behind since a.newer a.older d t.tlbi a.split (is_in a.older a.is_open.newer t.before t.tlbi a.is_open.split)
 
-five : (ns : List ℕ) → Sized 5 ns → (b t1 d1 t2 d2 : ℕ) × (ns ≡ b ∷ t1 ∷ d1 ∷ t2 ∷ d2 ∷ [])
-five [] s = absurd s
-five (b ∷ []) s = absurd s
-five (b ∷ t1 ∷ []) s = absurd s
-five (b ∷ t1 ∷ d1 ∷ []) s = absurd s
-five (b ∷ t1 ∷ d1 ∷ t2 ∷ []) s = absurd s
-five (b ∷ t1 ∷ d1 ∷ t2 ∷ d2 ∷ []) s = (b, t1, d1, t2, d2, refl)
-five (b ∷ t1 ∷ d1 ∷ t2 ∷ d2 ∷ x ∷ ns) s = absurd s
+  before_in : (x : Noted) → In t.before x → In since x
+  before_in x i =
+      is_behind since a.newer a.older d x a.split (is_behind a.older a.is_open.newer t.before t.tlbi x a.is_open.split i)
 
-module _ (heading : Heading) (known : Known heading) (place p : ℕ) where
-  -- ---- what a list of claims cleanses is cleansed
+module _ (heading : Heading) (place p : ℕ) where
+  barrier_in : (since : List Noted) (b : Noted) → Publication heading place p since b → In since b
+  barrier_in since b k = is_in since k.newer (k.between ++ k.write ∷ k.older) b k.split
 
-  pub forgotten : (cs : List Claim) (since : List Noted) → cleansed heading (Listed cs) place p since ≡ true
-      → cleansed heading Patterns place p since ≡ true
-  forgotten cs since e =
-      (known.cleansed Patterns).complete place p since (forget ((known.cleansed (Listed cs)).sound place p since e))
-    where
-      forget : Cleansed heading (Listed cs) place p since → Cleansed heading Patterns place p since
-      forget (inl o) = inl (record { b = o.b; t = o.t; d = o.d; published = o.published; flush = o.flush; allowed = refl })
-      forget (inr o) = inr (record { b = o.b; t1 = o.t1; d1 = o.d1; t2 = o.t2; d2 = o.d2; first = o.first; second = o.second; allowed = refl })
+  module _ (since : List Noted) where
+    at_in : (n : Noted) → In since n → In (positions since) n.position
+    at_in n i = in_map (λ (n : Noted). n.position) since n i
 
-  -- ---- in one step
+    abbrev one_claim : OneStep heading Patterns place p since → Claim
+    one_claim o = Place p place o.b.position o.t.tlbi.position o.d.position
 
-  abbrev one_test : List Noted → List ℕ → Bool
-  one_test since (b ∷ t ∷ d ∷ []) = cleansed heading (Listed (Place p place b t d ∷ [])) place p since
-  one_test since _ = false
+    abbrev two_claim : TwoSteps heading Patterns place p since → Claim
+    two_claim o = Two p place o.b.position o.t1.tlbi.position o.d1.position o.t2.tlbi.position o.d2.position
 
-  one_here : (since : List Noted) (b t d : ℕ)
-      → Cleansed heading (Listed (Place p place b t d ∷ [])) place p since → OneAt heading place p since (b ∷ t ∷ d ∷ [])
-  one_here since b t d (inl o) = (
-    record { b = o.b; t = o.t; d = o.d; published = o.published; flush = o.flush; allowed = refl },
-    ap named (only_this heading known (Place p place b t d) (Place p place o.b.position o.t.tlbi.position o.d.position) o.allowed),
-  )
-  one_here since b t d (inr o) = absurd (true≢false (sym o.allowed))
-
-  one_sound : (since : List Noted) (ns : List ℕ) → one_test since ns ≡ true → OneAt heading place p since ns
-  one_sound since [] e = absurd (true≢false (sym e))
-  one_sound since (b ∷ []) e = absurd (true≢false (sym e))
-  one_sound since (b ∷ t ∷ []) e = absurd (true≢false (sym e))
-  one_sound since (b ∷ t ∷ d ∷ []) e =
-      one_here since b t d ((known.cleansed (Listed (Place p place b t d ∷ []))).sound place p since e)
-  one_sound since (b ∷ t ∷ d ∷ x ∷ ns) e = absurd (true≢false (sym e))
-
-  module _ (since : List Noted) (o : OneStep heading Patterns place p since) where
-    abbrev one_claim : Claim
-    one_claim = Place p place o.b.position o.t.tlbi.position o.d.position
-
-    one_complete : one_test since (named one_claim) ≡ true
-    one_complete =
-        (known.cleansed (Listed (one_claim ∷ []))).complete place p since
-        (inl (record { b = o.b; t = o.t; d = o.d; published = o.published; flush = o.flush; allowed = this heading known one_claim }))
-
-    one_over : Over (positions since) 3 (named one_claim)
-    one_over = (
-      at_in since o.b (before_in since o.t o.d o.b o.flush.answer (barrier_in heading place p o.t.before o.b o.published)),
+    pub one_over : (o : OneStep heading Patterns place p since) → Over (positions since) 3 (named (one_claim o))
+    one_over o = (
+      at_in o.b (before_in since o.t o.d o.flush.answer o.b (barrier_in o.t.before o.b o.published)),
       (
-        at_in since o.t.tlbi (tlbi_in since o.t o.d o.flush.answer),
-        (at_in since o.d (answer_in since o.t o.d o.flush.answer), tt),
+        at_in o.t.tlbi (tlbi_in since o.t o.d o.flush.answer),
+        (at_in o.d (answer_in since o.t o.d o.flush.answer), tt),
       ),
     )
-
-  least_one : (since : List Noted) → LeastList (positions since) 3 (one_test since)
-      → (b t d : ℕ) × IsLeast (OneAt heading place p since) (b ∷ t ∷ d ∷ [])
-  least_one since l =
-      let s = three l.ns l.sized in (
-        s.0,
-        s.1,
-        s.2,
-        subst (IsLeast (OneAt heading place p since)) s.3
-            (record { holds = one_sound since l.ns l.passes; least = only }),
-      )
-    where
-      only : (other : List ℕ) → OneAt heading place p since other → less other l.ns ≡ false
-      only other at =
-          ap (λ (ns : List ℕ). less ns l.ns) at.1
-          ∙ l.least (named (one_claim since at.0)) (one_over since at.0) (one_complete since at.0)
-
-  no_one : (since : List Noted) → some_list (positions since) 3 (one_test since) ≡ false
-      → OneStep heading Patterns place p since → ⊥
-  no_one since none o =
-      true≢false (sym (finds_list (positions since) 3 (one_test since) (named (one_claim since o)) (one_over since o)
-      (one_complete since o)) ∙ none)
-
-  -- the claim with these positions
-  abbrev one_named : List ℕ → Claim
-  one_named (b ∷ t ∷ d ∷ []) = Place p place b t d
-  one_named _ = Place p place 0 0 0
-
-  pub listed_one : (cs : List Claim) (since : List Noted) (b t d : ℕ) → OneAt heading place p since (b ∷ t ∷ d ∷ [])
-      → Contains cs (Place p place b t d) → cleansed heading (Listed cs) place p since ≡ true
-  listed_one cs since b t d at has = let o = at.0 in
-      (known.cleansed (Listed cs)).complete place p since (inl (record {
-        b = o.b;
-        t = o.t;
-        d = o.d;
-        published = o.published;
-        flush = o.flush;
-        allowed = listed heading known cs (Place p place b t d) (one_claim since o) has (ap one_named at.1);
-      }))
-
-  -- ---- in two
-
-  abbrev two_test : List Noted → List ℕ → Bool
-  two_test since (b ∷ t1 ∷ d1 ∷ t2 ∷ d2 ∷ []) = cleansed heading (Listed (Two p place b t1 d1 t2 d2 ∷ [])) place p since
-  two_test since _ = false
-
-  two_here : (since : List Noted) (b t1 d1 t2 d2 : ℕ)
-      → Cleansed heading (Listed (Two p place b t1 d1 t2 d2 ∷ [])) place p since
-      → TwoAt heading place p since (b ∷ t1 ∷ d1 ∷ t2 ∷ d2 ∷ [])
-  two_here since b t1 d1 t2 d2 (inl o) = absurd (true≢false (sym o.allowed))
-  two_here since b t1 d1 t2 d2 (inr o) = (
-    record { b = o.b; t1 = o.t1; d1 = o.d1; t2 = o.t2; d2 = o.d2; first = o.first; second = o.second; allowed = refl },
-    ap named (only_this heading known (Two p place b t1 d1 t2 d2)
-        (Two p place o.b.position o.t1.tlbi.position o.d1.position o.t2.tlbi.position o.d2.position) o.allowed),
-  )
-
-  two_sound : (since : List Noted) (ns : List ℕ) → two_test since ns ≡ true → TwoAt heading place p since ns
-  two_sound since [] e = absurd (true≢false (sym e))
-  two_sound since (b ∷ []) e = absurd (true≢false (sym e))
-  two_sound since (b ∷ t1 ∷ []) e = absurd (true≢false (sym e))
-  two_sound since (b ∷ t1 ∷ d1 ∷ []) e = absurd (true≢false (sym e))
-  two_sound since (b ∷ t1 ∷ d1 ∷ t2 ∷ []) e = absurd (true≢false (sym e))
-  two_sound since (b ∷ t1 ∷ d1 ∷ t2 ∷ d2 ∷ []) e =
-      two_here since b t1 d1 t2 d2 ((known.cleansed (Listed (Two p place b t1 d1 t2 d2 ∷ []))).sound place p since e)
-  two_sound since (b ∷ t1 ∷ d1 ∷ t2 ∷ d2 ∷ x ∷ ns) e = absurd (true≢false (sym e))
-
-  module _ (since : List Noted) (o : TwoSteps heading Patterns place p since) where
-    abbrev two_claim : Claim
-    two_claim = Two p place o.b.position o.t1.tlbi.position o.d1.position o.t2.tlbi.position o.d2.position
-
-    two_complete : two_test since (named two_claim) ≡ true
-    two_complete =
-        (known.cleansed (Listed (two_claim ∷ []))).complete place p since (inr (record {
-          b = o.b;
-          t1 = o.t1;
-          d1 = o.d1;
-          t2 = o.t2;
-          d2 = o.d2;
-          first = o.first;
-          second = o.second;
-          allowed = this heading known two_claim;
-        }))
 
     -- the events of the first step came before the second TLBI
-    first_in : (x : Noted) → In o.t2.before x → In (positions since) x.position
-    first_in x i = at_in since x (before_in since o.t2 o.d2 x o.second.answer i)
-
-    two_over : Over (positions since) 5 (named two_claim)
-    two_over = let a = o.first.flush.answer in (
-      first_in o.b (before_in o.t2.before o.t1 o.d1 o.b a (barrier_in heading place p o.t1.before o.b o.first.published)),
-      (
-        first_in o.t1.tlbi (tlbi_in o.t2.before o.t1 o.d1 a),
-        (
-          first_in o.d1 (answer_in o.t2.before o.t1 o.d1 a),
+    pub two_over : (o : TwoSteps heading Patterns place p since) → Over (positions since) 5 (named (two_claim o))
+    two_over o =
+        let a = o.first.flush.answer in
+        let first_in : (x : Noted) → In o.t2.before x → In (positions since) x.position
+        = λ x i. at_in x (before_in since o.t2 o.d2 o.second.answer x i) in (
+          first_in o.b (before_in o.t2.before o.t1 o.d1 a o.b (barrier_in o.t1.before o.b o.first.published)),
           (
-            at_in since o.t2.tlbi (tlbi_in since o.t2 o.d2 o.second.answer),
-            (at_in since o.d2 (answer_in since o.t2 o.d2 o.second.answer), tt),
+            first_in o.t1.tlbi (tlbi_in o.t2.before o.t1 o.d1 a),
+            (
+              first_in o.d1 (answer_in o.t2.before o.t1 o.d1 a),
+              (
+                at_in o.t2.tlbi (tlbi_in since o.t2 o.d2 o.second.answer),
+                (at_in o.d2 (answer_in since o.t2 o.d2 o.second.answer), tt),
+              ),
+            ),
           ),
-        ),
-      ),
-    )
+        )
 
-  least_two : (since : List Noted) → LeastList (positions since) 5 (two_test since)
-      → (b t1 d1 t2 d2 : ℕ) × IsLeast (TwoAt heading place p since) (b ∷ t1 ∷ d1 ∷ t2 ∷ d2 ∷ [])
-  least_two since l =
-      let s = five l.ns l.sized in (
-        s.0,
-        s.1,
-        s.2,
-        s.3,
-        s.4,
-        subst (IsLeast (TwoAt heading place p since)) s.5
-            (record { holds = two_sound since l.ns l.passes; least = only }),
-      )
-    where
-      only : (other : List ℕ) → TwoAt heading place p since other → less other l.ns ≡ false
-      only other at =
-          ap (λ (ns : List ℕ). less ns l.ns) at.1
-          ∙ l.least (named (two_claim since at.0)) (two_over since at.0) (two_complete since at.0)
+  -- ---- patterns by their claims
 
-  abbrev two_named : List ℕ → Claim
-  two_named (b ∷ t1 ∷ d1 ∷ t2 ∷ d2 ∷ []) = Two p place b t1 d1 t2 d2
-  two_named _ = Two p place 0 0 0 0 0
+  module _ (known : Known heading) where
+    module _ (trust : Trust) (since : List Noted) where
+      allowed_one : (o : OneStep heading Patterns place p since) → allows trust (one_claim since o) ≡ true
+          → cleansed heading trust place p since ≡ true
+      allowed_one o k = (known.cleansed trust).complete place p since
+          (inl (record { b = o.b; t = o.t; d = o.d; published = o.published; flush = o.flush; allowed = k }))
 
-  pub listed_two : (cs : List Claim) (since : List Noted) (b t1 d1 t2 d2 : ℕ)
-      → TwoAt heading place p since (b ∷ t1 ∷ d1 ∷ t2 ∷ d2 ∷ []) → Contains cs (Two p place b t1 d1 t2 d2)
-      → cleansed heading (Listed cs) place p since ≡ true
-  listed_two cs since b t1 d1 t2 d2 at has = let o = at.0 in
-      (known.cleansed (Listed cs)).complete place p since (inr (record {
-        b = o.b;
-        t1 = o.t1;
-        d1 = o.d1;
-        t2 = o.t2;
-        d2 = o.d2;
-        first = o.first;
-        second = o.second;
-        allowed = listed heading known cs (Two p place b t1 d1 t2 d2) (two_claim since o) has (ap two_named at.1);
-      }))
+      allowed_two : (o : TwoSteps heading Patterns place p since) → allows trust (two_claim since o) ≡ true
+          → cleansed heading trust place p since ≡ true
+      allowed_two o k = (known.cleansed trust).complete place p since
+          (inr (record { b = o.b; t1 = o.t1; d1 = o.d1; t2 = o.t2; d2 = o.d2; first = o.first; second = o.second; allowed = k }))
 
-  -- ---- the claim of a place that is cleansed
+      by_trust : cleansed heading trust place p since ≡ true
+          → ((o : OneStep heading Patterns place p since) × (allows trust (one_claim since o) ≡ true))
+          ⊎ ((o : TwoSteps heading Patterns place p since) × (allows trust (two_claim since o) ≡ true))
+      by_trust e = elim ((known.cleansed trust).sound place p since e) [
+        | inl o ↦
+            inl (record { b = o.b; t = o.t; d = o.d; published = o.published; flush = o.flush; allowed = refl }, o.allowed)
+        | inr o ↦
+            inr (record { b = o.b; t1 = o.t1; d1 = o.d1; t2 = o.t2; d2 = o.d2; first = o.first; second = o.second; allowed = refl }, o.allowed)
+      ]
 
-  abbrev pub LeastClaim : List Noted → Type 0
-  LeastClaim since = ((b t d : ℕ) × IsLeast (OneAt heading place p since) (b ∷ t ∷ d ∷ []))
-      ⊎ ((OneStep heading Patterns place p since → ⊥)
-      × (b t1 d1 t2 d2 : ℕ) × IsLeast (TwoAt heading place p since) (b ∷ t1 ∷ d1 ∷ t2 ∷ d2 ∷ []))
+    -- what a list of claims cleanses is cleansed
+    pub forgotten : (cs : List Claim) (since : List Noted) → cleansed heading (Listed cs) place p since ≡ true
+        → cleansed heading Patterns place p since ≡ true
+    forgotten cs since e = elim (by_trust (Listed cs) since e) [
+      | inl k ↦ allowed_one Patterns since k.0 refl
+      | inr k ↦ allowed_two Patterns since k.0 refl
+    ]
 
-  pub least_claim : (since : List Noted) → cleansed heading Patterns place p since ≡ true → LeastClaim since
-  least_claim since e =
-      by (some_list (positions since) 3 (one_test since)) refl ((known.cleansed Patterns).sound place p since e)
-    where
-      by : (c : Bool) → some_list (positions since) 3 (one_test since) ≡ c → Cleansed heading Patterns place p since
-          → LeastClaim since
-      by true some pattern = inl (least_one since (least_list (positions since) 3 (one_test since) some))
-      by false none (inl o) = absurd (no_one since none o)
-      by false none (inr o) =
-          let l = least_two since (least_list (positions since) 5 (two_test since)
-          (finds_list (positions since) 5 (two_test since) (named (two_claim since o)) (two_over since o)
-          (two_complete since o))) in
-          inr (no_one since none, l.0, l.1, l.2, l.3, l.4, l.5)
+    -- ---- the claims with these positions
+
+    abbrev one_named : List ℕ → Claim
+    one_named ns = Place p place (get_or ns 0 0) (get_or ns 1 0) (get_or ns 2 0)
+
+    abbrev two_named : List ℕ → Claim
+    two_named ns = Two p place (get_or ns 0 0) (get_or ns 1 0) (get_or ns 2 0) (get_or ns 3 0) (get_or ns 4 0)
+
+    names_one : (ns : List ℕ) → Sized 3 ns → named (one_named ns) ≡ ns
+    names_one (b ∷ t ∷ d ∷ []) s = refl
+    names_one ns s = absurd s
+
+    names_two : (ns : List ℕ) → Sized 5 ns → named (two_named ns) ≡ ns
+    names_two (b ∷ t1 ∷ d1 ∷ t2 ∷ d2 ∷ []) s = refl
+    names_two ns s = absurd s
+
+    module _ (since : List Noted) where
+      abbrev test : Claim → Bool
+      test c = cleansed heading (Listed (c ∷ [])) place p since
+
+      one_sound : (ns : List ℕ) → Sized 3 ns → test (one_named ns) ≡ true → OneAt heading place p since ns
+      one_sound ns sized e = elim (by_trust (Listed (one_named ns ∷ [])) since e) [
+        | inl k ↦
+            (k.0, sym (names_one ns sized) ∙ ap named (only_this heading known (one_named ns) (one_claim since k.0) k.1))
+        | inr k ↦ absurd (cc (only_this heading known (one_named ns) (two_claim since k.0) k.1))
+      ]
+
+      one_complete : (ns : List ℕ) → OneAt heading place p since ns → Over (positions since) 3 ns × (test (one_named ns) ≡ true)
+      one_complete ns at =
+          subst (λ (ms : List ℕ). Over (positions since) 3 ms × (test (one_named ms) ≡ true)) (sym at.1) (
+            one_over since at.0,
+            allowed_one (Listed (one_claim since at.0 ∷ [])) since at.0 (this heading known (one_claim since at.0)),
+          )
+
+      two_sound : (ns : List ℕ) → Sized 5 ns → test (two_named ns) ≡ true → TwoAt heading place p since ns
+      two_sound ns sized e = elim (by_trust (Listed (two_named ns ∷ [])) since e) [
+        | inl k ↦ absurd (cc (only_this heading known (two_named ns) (one_claim since k.0) k.1))
+        | inr k ↦
+            (k.0, sym (names_two ns sized) ∙ ap named (only_this heading known (two_named ns) (two_claim since k.0) k.1))
+      ]
+
+      two_complete : (ns : List ℕ) → TwoAt heading place p since ns → Over (positions since) 5 ns × (test (two_named ns) ≡ true)
+      two_complete ns at =
+          subst (λ (ms : List ℕ). Over (positions since) 5 ms × (test (two_named ms) ≡ true)) (sym at.1) (
+            two_over since at.0,
+            allowed_two (Listed (two_claim since at.0 ∷ [])) since at.0 (this heading known (two_claim since at.0)),
+          )
+
+      -- ---- the claim of a place that is cleansed
+
+      pub least_claim : cleansed heading Patterns place p since ≡ true → (c : Claim) × IsLeastClaim heading place p since c
+      least_claim e =
+          elim (least_or_none (OneAt heading place p since) (positions since) 3 (λ ns. test (one_named ns)) one_sound one_complete) [
+            | inl l ↦ (
+              one_named l.0,
+              (refl, refl, subst (IsLeast (OneAt heading place p since)) (sym (names_one l.0 l.1)) l.2),
+            )
+            | inr no_one ↦
+                elim (least_or_none (TwoAt heading place p since) (positions since) 5 (λ ns. test (two_named ns)) two_sound two_complete) [
+                  | inl l ↦ (
+                    two_named l.0,
+                    (
+                      refl,
+                      refl,
+                      (λ o. no_one (named (one_claim since o)) (o, refl)),
+                      subst (IsLeast (TwoAt heading place p since)) (sym (names_two l.0 l.1)) l.2,
+                    ),
+                  )
+                  | inr no_two ↦ absurd (elim (by_trust Patterns since e) [
+                    | inl k ↦ no_one (named (one_claim since k.0)) (k.0, refl)
+                    | inr k ↦ no_two (named (two_claim since k.0)) (k.0, refl)
+                  ])
+                ]
+          ]
+
+      pub listed_claim : (cs : List Claim) (c : Claim) → IsLeastClaim heading place p since c → Contains cs c
+          → cleansed heading (Listed cs) place p since ≡ true
+      listed_claim cs (Place r a b t d) k has = let at = k.2.holds in
+          allowed_one (Listed cs) since at.0 (listed heading known cs (Place r a b t d) (one_claim since at.0) has
+          (cc (k.0, k.1, at.1)))
+      listed_claim cs (Two r a b t1 d1 t2 d2) k has = let at = k.3.holds in
+          allowed_two (Listed cs) since at.0 (listed heading known cs (Two r a b t1 d1 t2 d2) (two_claim since at.0) has
+          (cc (k.0, k.1, at.1)))
+      listed_claim cs (Taken r tag t d) k has = absurd k

@@ -1,25 +1,19 @@
 -- The patterns that end with the newest event, by the events of a log that is kept.
-use Rattle.bbm_certify.proofs.Common.{note_of, notes_behind, Kept, BeginsAt, answers, publishes}
+use Rattle.bbm_certify.proofs.Common.{note_of, notes_behind, Kept, BeginsAt, OneAt, TwoAt, answers}
 use Rattle.bbm_rules.proofs.Common.{◌≡◌, ◌⊎◌, ℕ, suc, ◌+◌, true, List, [], ◌∷◌, ◌++◌, length, reverse, refl, sym, ◌∙◌}
-use Rattle.bbm_rules.proofs.Common.{ap, subst, inl, inr, true≢false, arith, append_assoc, length-append, Cover, Half}
-use Rattle.bbm_rules.proofs.Common.{Second, Full, Patterns, Noted, Flush, OneStep, Publication, TwoSteps, Barrier}
-use Rattle.bbm_rules.proofs.Common.{Heading, Event, Dsb, Issued, completes, Open}
+use Rattle.bbm_rules.proofs.Common.{ap, subst, inl, inr, arith, append_assoc, length-append, Cover, Half, Second, Full}
+use Rattle.bbm_rules.proofs.Common.{Patterns, Noted, Flush, OneStep, TwoSteps, Barrier, Heading, Event, Dsb, Issued}
+use Rattle.bbm_rules.proofs.Common.{Open}
 use Rattle.bbm_rules.specs.Notes.{event_of}
-use Rattle.bbm_certify.proofs.Kepts.{Answered, Published, Waiting, answered_of, publication_of, published_in}
+use Rattle.bbm_certify.proofs.Kepts.{Answered, Begun, answered_of, barrier_of, flush_by, publication_of, published_in}
 use Rattle.bbm_certify.proofs.Kepts.{waiting_in}
-use Rattle.bbm_certify.proofs.Spots.{Seat, head_is, notes_split, seat, tail_is}
-
-same_barrier : (q q' : ℕ) (dsb dsb' : Barrier) → Dsb q dsb ≡ Dsb q' dsb' → (q ≡ q') × (dsb ≡ dsb')
-same_barrier q q' dsb dsb' e = ((cc), (cc))
-
-joined : (xs ys zs : List Kept) (k : Kept) → (xs ++ k ∷ ys) ++ zs ≡ xs ++ k ∷ (ys ++ zs)
-joined xs ys zs k = append_assoc xs (k ∷ ys) zs
+use Rattle.bbm_certify.proofs.Spots.{notes_split, seat}
 
 -- a part that is split itself
 pub split_in_two : (log before after bb ba : List Kept) (k b : Kept) → log ≡ before ++ k ∷ after → before ≡ bb ++ b ∷ ba
     → log ≡ bb ++ b ∷ (ba ++ k ∷ after)
 split_in_two log before after bb ba k b split inner =
-    split ∙ (ap (λ (xs : List Kept). xs ++ k ∷ after) inner ∙ joined bb ba (k ∷ after) b)
+    split ∙ (ap (λ (xs : List Kept). xs ++ k ∷ after) inner ∙ append_assoc bb (b ∷ ba) (k ∷ after))
 
 -- how many there are before an event
 pub count_in_two : (before bb ba : List Kept) (b : Kept) → before ≡ bb ++ b ∷ ba → length before ≡ suc (length bb + length ba)
@@ -27,8 +21,11 @@ count_in_two before bb ba b inner = omega (arith, ap length inner, length-append
 
 module _ (heading : Heading) (place p from : ℕ) (log : List Kept) (newest : Noted) (q : ℕ) (dsb : Barrier)
     (is : newest.event ≡ Dsb q dsb) where
-  abbrev since : List Noted
+  abbrev pub since : List Noted
   since = notes_behind from (reverse log)
+
+  abbrev pub position : ℕ → ℕ
+  position i = suc (from + i)
 
   -- ---- what the newest event answers
 
@@ -39,16 +36,18 @@ module _ (heading : Heading) (place p from : ℕ) (log : List Kept) (newest : No
       by : (newer : List Noted) → newest ∷ since ≡ newer ++ d ∷ f.answer.older
           → Flush heading cover place p since t d ⊎ ((d ≡ newest) × Answered heading place p from cover q dsb since t)
       by [] split =
-          let same : d ≡ newest = head_is newest d since f.answer.older split in
-          let older : f.answer.older ≡ since = tail_is newest d since f.answer.older split in
-          let both = same_barrier f.answer.q q f.answer.dsb dsb
-          (sym f.answer.barrier ∙ (ap (λ (n : Noted). n.event) same ∙ is)) in
+          let same : d ≡ newest = cc in
+          let older : f.answer.older ≡ since = cc in
+          let barrier : Dsb f.answer.q f.answer.dsb ≡ Dsb q dsb
+          = sym f.answer.barrier ∙ (ap (λ (n : Noted). n.event) same ∙ is) in
+          let issuer : f.answer.q ≡ q = cc in
+          let type : f.answer.dsb ≡ dsb = cc in
           inr (
             same,
             record {
-              is_open = subst (λ (x : ℕ). Open event_of x since t) both.0
+              is_open = subst (λ (x : ℕ). Open event_of x since t) issuer
                   (subst (λ (xs : List Noted). Open event_of f.answer.q xs t) older f.answer.is_open);
-              completed = ap (λ (b : Barrier). completes b t.tlbi.event) (sym both.1) ∙ f.answer.completed;
+              completed = cc f.answer.completed;
               reached = f.reached;
               covered = f.covered;
             },
@@ -60,7 +59,7 @@ module _ (heading : Heading) (place p from : ℕ) (log : List Kept) (newest : No
               dsb = f.answer.dsb;
               newer = newer;
               older = f.answer.older;
-              split = sym (tail_is newest x since (newer ++ d ∷ f.answer.older) split);
+              split = cc;
               barrier = f.answer.barrier;
               is_open = f.answer.is_open;
               completed = f.answer.completed;
@@ -69,225 +68,155 @@ module _ (heading : Heading) (place p from : ℕ) (log : List Kept) (newest : No
             covered = f.covered;
           })
 
-  answered_now : (cover : Cover) (t : Issued Noted) → Answered heading place p from cover q dsb since t
-      → Flush heading cover place p (newest ∷ since) t newest
-  answered_now cover t a = record {
-    answer = record {
-      q = q;
-      dsb = dsb;
-      newer = [];
-      older = since;
-      split = refl;
-      barrier = is;
-      is_open = a.is_open;
-      completed = a.completed;
-    };
-    reached = a.reached;
-    covered = a.covered;
-  }
-
   -- ---- one step
 
   pub record OneStepAt (b t : ℕ) : Type 0 where
-    pub before : List Kept
-    pub mid : List Kept
+    pub front : List Kept
     pub after : List Kept
-    pub kb : Kept
     pub kt : Kept
-    pub split : log ≡ before ++ kb ∷ (mid ++ kt ∷ after)
-    pub b_is : length before ≡ b
-    pub t_is : suc (length before + length mid) ≡ t
-    pub does : publishes heading place p kb.event before ≡ true
+    pub split : log ≡ front ++ kt ∷ after
+    pub at : length front ≡ t
+    pub begun : Begun heading place p front b
     pub waits : answers heading place p Full (Dsb q dsb) kt after ≡ true
 
-  -- the positions of a step
-  pub record OnePositions (k : OneStep heading Patterns place p (newest ∷ since)) : Type 0 where
-    pub b : ℕ
-    pub t : ℕ
-    pub step : OneStepAt b t
-    pub b_at : k.b.position ≡ suc (from + b)
-    pub t_at : k.t.tlbi.position ≡ suc (from + t)
-    pub d_at : k.d.position ≡ newest.position
+  abbrev pub one_positions : ℕ → ℕ → List ℕ
+  one_positions b t = position b ∷ position t ∷ newest.position ∷ []
 
-  pub one_in : (k : OneStep heading Patterns place p (newest ∷ since))
-      → OneStep heading Patterns place p since ⊎ OnePositions k
-  one_in k = by (newest_or Full k.t k.d k.flush)
+  -- such a step with the positions of this one
+  abbrev pub OneFound : OneStep heading Patterns place p (newest ∷ since) → Type 0
+  OneFound k = (b t : ℕ) × OneStepAt b t
+      × (k.b.position ∷ k.t.tlbi.position ∷ k.d.position ∷ [] ≡ one_positions b t)
+
+  pub one_in : (k : OneStep heading Patterns place p (newest ∷ since)) → OneStep heading Patterns place p since ⊎ OneFound k
+  one_in k = elim (newest_or Full k.t k.d k.flush) [
+    | inl f ↦ inl (record { b = k.b; t = k.t; d = k.d; published = k.published; flush = f; allowed = refl })
+    | inr a ↦ inr (one a)
+  ]
     where
-      by : Flush heading Full place p since k.t k.d ⊎ ((k.d ≡ newest) × Answered heading place p from Full q dsb since k.t)
-          → OneStep heading Patterns place p since ⊎ OnePositions k
-      by (inl f) = inl (record { b = k.b; t = k.t; d = k.d; published = k.published; flush = f; allowed = refl })
-      by (inr a) = inr (two (waiting_in heading place p from Full q dsb log k.t a.1))
-        where
-          two : Waiting heading place p from Full (Dsb q dsb) log k.t → OnePositions k
-          two w = three (published_in heading place p from w.before k.b
-              (subst (λ (ns : List Noted). Publication heading place p ns k.b) w.before_is k.published))
-            where
-              three : Published heading place p from w.before k.b → OnePositions k
-              three s = record {
-                b = length s.before;
-                t = suc (length s.before + length s.after);
-                step = record {
-                  before = s.before;
-                  mid = s.after;
-                  after = w.after;
-                  kb = s.k;
-                  kt = w.k;
-                  split = split_in_two log w.before w.after s.before s.after w.k s.k w.split s.split;
-                  b_is = refl;
-                  t_is = refl;
-                  does = s.does;
-                  waits = w.does;
-                };
-                b_at = ap (λ (n : Noted). n.position) s.is;
-                t_at = ap (λ (n : Noted). n.position) w.is
-                    ∙ ap (λ (n : ℕ). suc (from + n)) (count_in_two w.before s.before s.after s.k s.split);
-                d_at = ap (λ (n : Noted). n.position) a.0;
-              }
+      one : (k.d ≡ newest) × Answered heading place p from Full q dsb since k.t → OneFound k
+      one a =
+          let w = waiting_in heading place p from Full q dsb (Dsb q dsb) log k.t refl a.1 in
+          let s = published_in heading place p from w.before k.t.before k.b w.before_is k.published in
+          let d_at : k.d.position ≡ newest.position = ap (λ (n : Noted). n.position) a.0 in (
+            s.0,
+            length w.before,
+            record { front = w.before; after = w.after; kt = w.k; split = w.split; at = refl; begun = s.1; waits = w.does },
+            cc (s.2, w.at),
+          )
 
-  pub one_of : (b t : ℕ) → OneStepAt b t → (k : OneStep heading Patterns place p (newest ∷ since))
-      × (suc (from + b) ≡ k.b.position) × (suc (from + t) ≡ k.t.tlbi.position) × (newest.position ≡ k.d.position)
+  pub one_of : (b t : ℕ) → OneStepAt b t → OneAt heading place p (newest ∷ since) (one_positions b t)
   one_of b t s =
-      let before_t : List Kept = s.before ++ s.kb ∷ s.mid in
-      let split : log ≡ before_t ++ s.kt ∷ s.after = s.split ∙ sym (joined s.before s.mid (s.kt ∷ s.after) s.kb) in
       let issued : Issued Noted
-      = record { tlbi = note_of (from + length before_t) s.kt; before = notes_behind from (reverse before_t) } in
-      let count : length before_t ≡ t = count_in_two before_t s.before s.mid s.kb refl ∙ s.t_is in (
+      = record { tlbi = note_of (from + length s.front) s.kt; before = notes_behind from (reverse s.front) } in (
         record {
-          b = note_of (from + length s.before) s.kb;
+          b = note_of (from + length s.begun.before) s.begun.k;
           t = issued;
           d = newest;
-          published = publication_of heading place p from before_t s.before s.mid s.kb refl s.does;
-          flush = answered_now Full issued (answered_of heading place p from Full q dsb log before_t s.after s.kt split s.waits);
+          published = publication_of heading place p from s.front s.begun.before s.begun.after s.begun.k s.begun.split s.begun.does;
+          flush = flush_by heading place p from Full q dsb (newest ∷ since) [] since newest issued refl is
+              (answered_of heading place p from Full q dsb log s.front s.after s.kt s.split s.waits);
           allowed = refl;
         },
-        ap (λ (n : ℕ). suc (from + n)) (sym s.b_is),
-        ap (λ (n : ℕ). suc (from + n)) (sym count),
-        refl,
+        cc (s.begun.at, s.at),
       )
 
   -- ---- two steps
 
   pub record TwoStepsAt (b i wait gap : ℕ) : Type 0 where
     pub begins : BeginsAt heading place p (Dsb q dsb) log i wait gap
-    pub before : List Kept
-    pub after : List Kept
-    pub kb : Kept
-    pub split : begins.before ≡ before ++ kb ∷ after
-    pub b_is : length before ≡ b
-    pub does : publishes heading place p kb.event before ≡ true
+    pub begun : Begun heading place p begins.before b
 
-  -- the positions of two steps
-  pub record TwoPositions (k : TwoSteps heading Patterns place p (newest ∷ since)) : Type 0 where
-    pub b : ℕ
-    pub i : ℕ
-    pub wait : ℕ
-    pub gap : ℕ
-    pub steps : TwoStepsAt b i wait gap
-    pub b_at : k.b.position ≡ suc (from + b)
-    pub t1_at : k.t1.tlbi.position ≡ suc (from + i)
-    pub d1_at : k.d1.position ≡ suc (from + suc (i + wait))
-    pub t2_at : k.t2.tlbi.position ≡ suc (from + suc (suc (i + wait) + gap))
-    pub d2_at : k.d2.position ≡ newest.position
+  abbrev pub two_positions : ℕ → ℕ → ℕ → ℕ → List ℕ
+  two_positions b i wait gap = position b ∷ position i ∷ position (suc (i + wait)) ∷ position (suc (suc (i + wait) + gap))
+      ∷ newest.position ∷ []
 
-  pub two_in : (k : TwoSteps heading Patterns place p (newest ∷ since))
-      → TwoSteps heading Patterns place p since ⊎ TwoPositions k
-  two_in k = by (newest_or Second k.t2 k.d2 k.second)
+  positions_are : (b t1 d1 t2 d2 : Noted) (b' i wait gap i' j : ℕ) → b.position ≡ position b' → t1.position ≡ position i
+      → d1.position ≡ position i' → i' ≡ suc (i + wait) → t2.position ≡ position j → j ≡ suc (i' + gap)
+      → d2.position ≡ newest.position
+      → b.position ∷ t1.position ∷ d1.position ∷ t2.position ∷ d2.position ∷ [] ≡ two_positions b' i wait gap
+  positions_are b t1 d1 t2 d2 b' i wait gap i' j u v w x y z end = cc
+
+  abbrev pub TwoFound : TwoSteps heading Patterns place p (newest ∷ since) → Type 0
+  TwoFound k = (b i wait gap : ℕ) × TwoStepsAt b i wait gap
+      × (k.b.position ∷ k.t1.tlbi.position ∷ k.d1.position ∷ k.t2.tlbi.position ∷ k.d2.position ∷ []
+      ≡ two_positions b i wait gap)
+
+  steps_at : (b : ℕ) (before mid between after : List Kept) (tlbi d t : Kept) → Begun heading place p before b
+      → log ≡ before ++ tlbi ∷ (mid ++ d ∷ (between ++ t ∷ after)) → answers heading place p Half d.event tlbi mid ≡ true
+      → answers heading place p Second (Dsb q dsb) t after ≡ true
+      → TwoStepsAt b (length before) (length mid) (length between)
+  steps_at b before mid between after tlbi d t begun split first second = record {
+    begins = record {
+      before = before;
+      tlbi = tlbi;
+      later = mid ++ d ∷ (between ++ t ∷ after);
+      split = split;
+      at = refl;
+      begins = record {
+        mid = mid;
+        between = between;
+        after = after;
+        d = d;
+        t = t;
+        split = refl;
+        first = first;
+        second = second;
+        waits = refl;
+        gaps = refl;
+      };
+    };
+    begun = begun;
+  }
+
+  pub two_in : (k : TwoSteps heading Patterns place p (newest ∷ since)) → TwoSteps heading Patterns place p since ⊎ TwoFound k
+  two_in k = elim (newest_or Second k.t2 k.d2 k.second) [
+    | inl f ↦
+        inl (record { b = k.b; t1 = k.t1; d1 = k.d1; t2 = k.t2; d2 = k.d2; first = k.first; second = f; allowed = refl })
+    | inr a ↦ inr (two a)
+  ]
     where
-      by : Flush heading Second place p since k.t2 k.d2
-          ⊎ ((k.d2 ≡ newest) × Answered heading place p from Second q dsb since k.t2)
-          → TwoSteps heading Patterns place p since ⊎ TwoPositions k
-      by (inl f) =
-          inl (record { b = k.b; t1 = k.t1; d1 = k.d1; t2 = k.t2; d2 = k.d2; first = k.first; second = f; allowed = refl })
-      by (inr a) = inr (two (waiting_in heading place p from Second q dsb log k.t2 a.1))
-        where
-          two : Waiting heading place p from Second (Dsb q dsb) log k.t2 → TwoPositions k
-          two w = three (seat from w.before k.first.flush.answer.newer k.first.flush.answer.older k.d1
-              (sym w.before_is ∙ k.first.flush.answer.split))
-            where
-              three : Seat from w.before k.first.flush.answer.newer k.first.flush.answer.older k.d1 → TwoPositions k
-              three s = four (waiting_in heading place p from Half k.first.flush.answer.q k.first.flush.answer.dsb s.before k.t1 (record {
-                is_open = subst (λ (xs : List Noted). Open event_of k.first.flush.answer.q xs k.t1) s.older_is k.first.flush.answer.is_open;
-                completed = k.first.flush.answer.completed;
-                reached = k.first.flush.reached;
-                covered = k.first.flush.covered;
-              }))
-                where
-                  four : Waiting heading place p from Half (Dsb k.first.flush.answer.q k.first.flush.answer.dsb) s.before k.t1 → TwoPositions k
-                  four h = five (published_in heading place p from h.before k.b
-                      (subst (λ (ns : List Noted). Publication heading place p ns k.b) h.before_is k.first.published))
-                    where
-                      barrier : s.k.event ≡ Dsb k.first.flush.answer.q k.first.flush.answer.dsb
-                      barrier = ap (λ (n : Noted). n.event) (sym s.is) ∙ k.first.flush.answer.barrier
-
-                      count_d : length s.before ≡ suc (length h.before + length h.after)
-                      count_d = count_in_two s.before h.before h.after h.k h.split
-
-                      count_t : length w.before ≡ suc (suc (length h.before + length h.after) + length s.after)
-                      count_t =
-                          omega (arith, count_in_two w.before s.before s.after s.k s.split, count_d)
-
-                      five : Published heading place p from h.before k.b → TwoPositions k
-                      five b = record {
-                        b = length b.before;
-                        i = length h.before;
-                        wait = length h.after;
-                        gap = length s.after;
-                        steps = record {
-                          begins = record {
-                            before = h.before;
-                            tlbi = h.k;
-                            later = h.after ++ s.k ∷ (s.after ++ w.k ∷ w.after);
-                            split = split_in_two log s.before (s.after ++ w.k ∷ w.after) h.before h.after s.k h.k
-                                (split_in_two log w.before w.after s.before s.after w.k s.k w.split s.split) h.split;
-                            at = refl;
-                            begins = record {
-                              mid = h.after;
-                              between = s.after;
-                              after = w.after;
-                              d = s.k;
-                              t = w.k;
-                              split = refl;
-                              first = ap (λ (e : Event). answers heading place p Half e h.k h.after) barrier ∙ h.does;
-                              second = w.does;
-                              waits = refl;
-                              gaps = refl;
-                            };
-                          };
-                          before = b.before;
-                          after = b.after;
-                          kb = b.k;
-                          split = b.split;
-                          b_is = refl;
-                          does = b.does;
-                        };
-                        b_at = ap (λ (n : Noted). n.position) b.is;
-                        t1_at = ap (λ (n : Noted). n.position) h.is;
-                        d1_at = ap (λ (n : Noted). n.position) s.is ∙ ap (λ (n : ℕ). suc (from + n)) count_d;
-                        t2_at = ap (λ (n : Noted). n.position) w.is ∙ ap (λ (n : ℕ). suc (from + n)) count_t;
-                        d2_at = ap (λ (n : Noted). n.position) a.0;
-                      }
-
-  -- a barrier that answers
-  barrier_of : (cover : Cover) (e : Event) (k : Kept) (later : List Kept) → answers heading place p cover e k later ≡ true
-      → (r : ℕ) × (b : Barrier) × (e ≡ Dsb r b)
-  barrier_of cover (Dsb r b) k later does = (r, b, refl)
-  barrier_of cover e k later does = absurd (true≢false (sym does))
+      two : (k.d2 ≡ newest) × Answered heading place p from Second q dsb since k.t2 → TwoFound k
+      two a =
+          let f = k.first.flush in
+          let w = waiting_in heading place p from Second q dsb (Dsb q dsb) log k.t2 refl a.1 in
+          let s = seat from w.before f.answer.newer f.answer.older k.d1 (sym w.before_is ∙ f.answer.split) in
+          let h = waiting_in heading place p from Half f.answer.q f.answer.dsb s.k.event s.before k.t1
+          (ap (λ (n : Noted). n.event) (sym s.is) ∙ f.answer.barrier) (record {
+            is_open = subst (λ (xs : List Noted). Open event_of f.answer.q xs k.t1) s.older_is f.answer.is_open;
+            completed = f.answer.completed;
+            reached = f.reached;
+            covered = f.covered;
+          }) in
+          let b = published_in heading place p from h.before k.t1.before k.b h.before_is k.first.published in
+          let count_d = count_in_two s.before h.before h.after h.k h.split in
+          let count_t = count_in_two w.before s.before s.after s.k s.split in (
+            b.0,
+            length h.before,
+            length h.after,
+            length s.after,
+            steps_at b.0 h.before h.after s.after w.after h.k s.k w.k b.1
+                (split_in_two log s.before (s.after ++ w.k ∷ w.after) h.before h.after s.k h.k
+                (split_in_two log w.before w.after s.before s.after w.k s.k w.split s.split) h.split)
+                h.does w.does,
+            positions_are k.b k.t1.tlbi k.d1 k.t2.tlbi k.d2 b.0 (length h.before) (length h.after) (length s.after)
+                (length s.before) (length w.before) b.2 h.at (ap (λ (n : Noted). n.position) s.is) count_d w.at count_t
+                (ap (λ (n : Noted). n.position) a.0),
+          )
 
   module _ (b i wait gap : ℕ) (s : TwoStepsAt b i wait gap) where
     -- the events before the first answer, and before the second TLBI
     abbrev before_d : List Kept
     before_d = s.begins.before ++ s.begins.tlbi ∷ s.begins.begins.mid
 
-    abbrev before_t : List Kept
+    abbrev pub before_t : List Kept
     before_t = before_d ++ s.begins.begins.d ∷ s.begins.begins.between
 
-    split_t : log ≡ before_t ++ s.begins.begins.t ∷ s.begins.begins.after
-    split_t =
+    pub split_t : log ≡ before_t ++ s.begins.begins.t ∷ s.begins.begins.after
+    split_t = let x = s.begins.begins in
         s.begins.split
-        ∙ (ap (λ (ks : List Kept). s.begins.before ++ s.begins.tlbi ∷ ks) s.begins.begins.split
-        ∙ (sym (joined s.begins.before s.begins.begins.mid
-        (s.begins.begins.d ∷ (s.begins.begins.between ++ s.begins.begins.t ∷ s.begins.begins.after)) s.begins.tlbi)
-        ∙ sym (joined before_d s.begins.begins.between (s.begins.begins.t ∷ s.begins.begins.after) s.begins.begins.d)))
+        ∙ (ap (λ (ks : List Kept). s.begins.before ++ s.begins.tlbi ∷ ks) x.split
+        ∙ (sym (append_assoc s.begins.before (s.begins.tlbi ∷ x.mid) (x.d ∷ (x.between ++ x.t ∷ x.after)))
+        ∙ sym (append_assoc before_d (x.d ∷ x.between) (x.t ∷ x.after))))
 
     count_d : length before_d ≡ suc (i + wait)
     count_d =
@@ -306,51 +235,28 @@ module _ (heading : Heading) (place p from : ℕ) (log : List Kept) (newest : No
     abbrev t2 : Issued Noted
     t2 = record { tlbi = note_of (from + length before_t) s.begins.begins.t; before = notes_behind from (reverse before_t) }
 
-    abbrev Found : Type 0
-    Found = (k : TwoSteps heading Patterns place p (newest ∷ since))
-        × (suc (from + b) ≡ k.b.position) × (suc (from + i) ≡ k.t1.tlbi.position)
-        × (suc (from + suc (i + wait)) ≡ k.d1.position) × (suc (from + suc (suc (i + wait) + gap)) ≡ k.t2.tlbi.position)
-        × (newest.position ≡ k.d2.position)
-
-    two_by : (r : ℕ) (c : Barrier) → s.begins.begins.d.event ≡ Dsb r c → Found
-    two_by r c is_d =
-        let a : Answered heading place p from Half r c (notes_behind from (reverse before_d)) t1
-        = answered_of heading place p from Half r c before_d s.begins.before s.begins.begins.mid s.begins.tlbi refl
-        (ap (λ (e : Event). answers heading place p Half e s.begins.tlbi s.begins.begins.mid) (sym is_d) ∙ s.begins.begins.first) in (
+    pub two_of : TwoAt heading place p (newest ∷ since) (two_positions b i wait gap)
+    two_of =
+        let x = s.begins.begins in
+        let d = barrier_of heading place p Half x.d.event s.begins.tlbi x.mid x.first in (
           record {
-            b = note_of (from + length s.before) s.kb;
+            b = note_of (from + length s.begun.before) s.begun.k;
             t1 = t1;
-            d1 = note_of (from + length before_d) s.begins.begins.d;
+            d1 = note_of (from + length before_d) x.d;
             t2 = t2;
             d2 = newest;
             first = record {
-              flush = record {
-                answer = record {
-                  q = r;
-                  dsb = c;
-                  newer = notes_behind (from + suc (length before_d)) (reverse s.begins.begins.between);
-                  older = notes_behind from (reverse before_d);
-                  split = notes_split from before_t before_d s.begins.begins.between s.begins.begins.d refl;
-                  barrier = is_d;
-                  is_open = a.is_open;
-                  completed = a.completed;
-                };
-                reached = a.reached;
-                covered = a.covered;
-              };
-              published = publication_of heading place p from s.begins.before s.before s.after s.kb s.split s.does;
+              flush = flush_by heading place p from Half d.0 d.1 t2.before
+                  (notes_behind (from + suc (length before_d)) (reverse x.between)) (notes_behind from (reverse before_d))
+                  (note_of (from + length before_d) x.d) t1 (notes_split from before_t before_d x.between x.d refl) d.2
+                  (answered_of heading place p from Half d.0 d.1 before_d s.begins.before x.mid s.begins.tlbi refl
+                  (ap (λ (e : Event). answers heading place p Half e s.begins.tlbi x.mid) (sym d.2) ∙ x.first));
+              published = publication_of heading place p from s.begins.before s.begun.before s.begun.after s.begun.k
+                  s.begun.split s.begun.does;
             };
-            second = answered_now Second t2 (answered_of heading place p from Second q dsb log before_t
-                s.begins.begins.after s.begins.begins.t split_t s.begins.begins.second);
+            second = flush_by heading place p from Second q dsb (newest ∷ since) [] since newest t2 refl is
+                (answered_of heading place p from Second q dsb log before_t x.after x.t split_t x.second);
             allowed = refl;
           },
-          ap (λ (n : ℕ). suc (from + n)) (sym s.b_is),
-          ap (λ (n : ℕ). suc (from + n)) (sym s.begins.at),
-          ap (λ (n : ℕ). suc (from + n)) (sym count_d),
-          ap (λ (n : ℕ). suc (from + n)) (sym count_t),
-          refl,
+          cc (s.begun.at, s.begins.at, count_d, count_t),
         )
-
-    pub two_of : Found
-    two_of = let d = barrier_of Half s.begins.begins.d.event s.begins.tlbi s.begins.begins.mid s.begins.begins.first in
-        two_by d.0 d.1 d.2

@@ -1,7 +1,7 @@
 use Rattle.bbm_certify.proofs.Common.{Kept, AreEnds}
 use Rattle.bbm_rules.proofs.Common.{None, Some, List, subst, arith}
-use Rattle.bbm_certify.proofs.Ended.{at_here, halves_here, halves_more}
-use Rattle.bbm_certify.proofs.Searches.{behind}
+use Rattle.bbm_certify.proofs.Ended.{halves_here, halves_more}
+use Rattle.bbm_certify.proofs.Searches.{at_here, behind}
 use Rattle.bbm_certify.proofs.patterns.first_halves.Goals as goal
 
 pub loop-t-init : goal.loop-t-init

@@ -5,6 +5,5 @@ use Rattle.bbm_certify.proofs.places.add_since.Goals as goal
 pub returns-in-None : goal.returns-in-None
 returns-in-None c = λ newest k.
     since_unfinished c.args.header.now c.args.place c.args.before c.args.log.now newest
-    ((c.law_cleansed.ensures c.args.header.now Patterns).sound c.args.place)
-    ((c.law_cleansed.ensures c.args.header.now Patterns).complete c.args.place)
-    c.args.answer.now c.args.header.now.pes c.args.due.now.items k c.in-None.ensures
+    (c.law_cleansed.ensures c.args.header.now Patterns) c.args.answer.now k c.args.header.now.pes c.args.due.now.items
+    c.in-None.ensures

@@ -1,10 +1,10 @@
 use Rattle.bbm_certify.proofs.Common.{AreDue}
 use Rattle.bbm_rules.proofs.Common.{List, subst, sym, Claim}
-use Rattle.bbm_certify.proofs.Whole.{none_at}
+use Rattle.bbm_certify.proofs.DueNone.{none_at}
 use Rattle.bbm_certify.proofs.making.Making.due.Goals as goal
 
 pub returns-in_default : goal.returns-in_default
 returns-in_default c = λ h taken.
     subst (λ (cs : List Claim). AreDue c.args.header.now h c.args.event.now cs) (sym c.new.ensures.items)
-    (none_at c.args.header.now (c.known.ensures c.args.header.now c.in_ranges.ensures) h c.args.event.now taken.keeps_rules
-    c.in_default.not-Dsb)
+    (none_at c.args.header.now (c.known.ensures c.args.header.now c.in_ranges.ensures) h c.args.event.now
+    c.in_default.not-Dsb taken.keeps_rules)
