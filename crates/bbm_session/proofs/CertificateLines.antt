@@ -23,12 +23,13 @@ use Rattle.bbm_certificate.specs.CertificateReading.{AreRead, Reached, AtHeader,
 use Rattle.bbm_certificate.specs.CertificateReading.{EndsAt, IsSound, after_item, after_first, after_claim_item}
 use Rattle.bbm_certificate.specs.CertificateReading.{after_line, certifying, claims_by, claim_limit, event_limit}
 use Rattle.bbm_certificate.specs.CertificateReading.{kept_at, next_number, reached_in, too_long_at, CertificateSays}
-use Rattle.bbm_certificate.specs.CertificateReading.{Stopped}
-use Rattle.bbm_certificate.specs.CertificateReading.{Whole, cut_at, read_of}
+use Rattle.bbm_certificate.specs.CertificateReading.{Stopped, Whole, cut_at, read_of}
 use Rattle.bbm_certificate.specs.CertificateReading as read
 use Rattle.bbm_session.specs.Readers.{Turns, whole_read}
-use Rattle.bbm_session.proofs.Judgements.{named_line, read_for}
-use Rattle.bbm_session.proofs.ReadBytes.{ByName, Named, NamedTurn, named-header, named-if, named-turned, read-by}
+use Rattle.bbm_rules.proofs.AcceptedLogs.{named_line}
+use Rattle.bbm_session.proofs.Judgements.{read_for}
+use Rattle.bbm_session.proofs.ReadBytes.{ByName, read-by}
+use Rattle.bbm_rules.proofs.Folds.{Named, NamedTurn, named_header, named_if, named_turned}
 
 -- ---- the parts of a text
 
@@ -192,8 +193,8 @@ abbrev Names : ℕ → Turned Reached CertificateSays → Type 0
 Names n t = NamedTurn named_said n t
 
 names_item : (n : ℕ) (heading : Heading) (h : List Event) (r : Result Item Cause) → Names n (after_item n heading h r)
-names_item n heading h (Ok (item.Event e label)) = named-if named_said n (nat_le event_limit (length h)) _ _ refl tt
-names_item n heading h (Ok (item.End count)) = named-if named_said n (count == length h) _ _ tt refl
+names_item n heading h (Ok (item.Event e label)) = named_if named_said n (nat_le event_limit (length h)) _ _ refl tt
+names_item n heading h (Ok (item.End count)) = named_if named_said n (count == length h) _ _ tt refl
 names_item n heading h (Err cause) = refl
 
 names_first : (n : ℕ) (heading : Heading) (h : List Event) (r : Result (Unit {0}) Cause)
@@ -204,14 +205,14 @@ names_first n heading h (Err cause) = refl
 names_claim : (n : ℕ) (heading : Heading) (h : List Event) (claims : List Claim) (r : Result ClaimItem Cause)
     → Names n (after_claim_item n heading h claims r)
 names_claim n heading h claims (Ok (claim_item.Claim claim)) =
-    named-if named_said n (nat_le claim_limit (length claims)) _ _ refl tt
+    named_if named_said n (nat_le claim_limit (length claims)) _ _ refl tt
 names_claim n heading h claims (Ok (claim_item.End count)) =
-    named-if named_said n (count == length claims) _ _ tt refl
+    named_if named_said n (count == length claims) _ _ tt refl
 names_claim n heading h claims (Err cause) = refl
 
 names_line : (n : ℕ) (p : Reached) (line : List ℕ) → Names n (after_line n p line)
 names_line n AtHeader line =
-    named-header named_said n (λ heading. AtEvents heading []) Stopped (header_of line) (λ cause. refl)
+    named_header named_said n (λ heading. AtEvents heading []) Stopped (header_of line) (λ cause. refl)
 names_line n (AtEvents heading h) line = names_item n heading h (item_of heading line)
 names_line n (BehindLog heading h) line = names_first n heading h (certificate_of line)
 names_line n (AtClaims heading h claims) line = names_claim n heading h claims (claim_of heading line)
@@ -285,5 +286,5 @@ end-none n p rest = by (is_too_long rest)
 
 pub not-accepted : (bytes : List ℕ) → NotAccepted (read_of bytes).says
 not-accepted bytes = said_of certifying (λ (q : Reached). Unit {0}) NotAccepted
-    (λ n p l read. turn-none n (turned_by certifying n p l) (named-turned certifying named_said certifying-named n p l))
+    (λ n p l read. turn-none n (turned_by certifying n p l) (named_turned certifying named_said certifying-named n p l))
     (λ n p rest read. end-none n p rest) 1 AtHeader (text_of bytes).lines (text_of bytes).rest tt

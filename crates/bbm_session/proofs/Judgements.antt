@@ -2,21 +2,20 @@
 use Rattle.bbm_session.proofs.Common.{IfErr, item_fits, Heading, Verdict, Accepted, Refused, Malformed, Limit, Patterns}
 use Rattle.bbm_session.proofs.Common.{Limits, limit_after, Command, Check, Slow, Explain, Walk, Show, Decision, Stop}
 use Rattle.bbm_session.proofs.Common.{Decided, ReadFault, NoMemory, Turn, Taken, End, Reader, alone, IsStart, IsInside}
-use Rattle.bbm_session.proofs.Common.{IsEnd, Judges, event_needs, is_frugal, log_reader, NeedsMemory, ReadFor}
-use Rattle.bbm_session.proofs.Common.{Keeps, KnowsThat, MayTakeLine, KnowsAt, KnowsWhy, RefusedOn, FoldsLine, Ends}
+use Rattle.bbm_session.proofs.Common.{IsEnd, Judges, event_needs, is_frugal, log_reader, NeedsMemory, ReadFor, Keeps}
+use Rattle.bbm_session.proofs.Common.{KnowsThat, MayTakeLine, KnowsAt, KnowsWhy, RefusedOn, FoldsLine, Ends}
 use Rattle.bbm_rules.proofs.Common.{◌≡◌, ◌≢◌, not, ℕ, ◌<◌, ◌+◌, Bool, true, false, if◌then◌else◌, List, [], ◌∷◌, length}
 use Rattle.bbm_rules.proofs.Common.{Option, Some, None, refl, ap, sym, arith, subst, ◌^◌, Result, Ok, Err, IfOk, ◌==◌}
-use Rattle.bbm_rules.proofs.Common.{◌⊎◌, inl, inr, and_parts, not-true, Which, Item, fits_heading, label_fits}
-use Rattle.bbm_rules.proofs.Common.{WrongCount, rewrites, Breach, limit_of, Text, Turned, Halts, Passes, limit_at}
-use Rattle.bbm_rules.proofs.Common.{AtHeader, AtEvents, AtEnd, Judged, after_item, after_judged, after_kept, after_line}
-use Rattle.bbm_rules.proofs.Common.{too_long_at, unrefused, cut_at, Progress, outcome_of, verdict_of_bytes, events_in}
-use Rattle.bbm_rules.proofs.Common.{text_of}
+use Rattle.bbm_rules.proofs.Common.{inl, inr, and_parts, not-true, Which, Item, fits_heading, label_fits, WrongCount}
+use Rattle.bbm_rules.proofs.Common.{rewrites, Breach, limit_of, Text, Turned, Halts, Passes, limit_at, AtHeader}
+use Rattle.bbm_rules.proofs.Common.{AtEvents, AtEnd, Judged, after_item, after_judged, after_kept, unrefused, Progress}
+use Rattle.bbm_rules.proofs.Common.{outcome_of, verdict_of_bytes, events_in, text_of}
 use Rattle.std.proofs.Common.{OnOk}
 use Rattle.bbm_lemmas.proofs.Bools.{not_from}
 use Rattle.bbm_events.specs.declared.event.Event.{Event as EventOf}
 use Rattle.bbm_events.specs.declared.event.Item.TheVariants as item
 use Rattle.bbm_events.specs.declared.malformed.Malformed.{Malformed as Cause}
-use Rattle.bbm_events.specs.Lines.{header_of, item_of}
+use Rattle.bbm_events.specs.Lines.{item_of}
 use Rattle.bbm_rules.specs.declared.step_fault.StepFault.{StepFault}
 use Rattle.bbm_rules.specs.declared.step_fault.StepFault.TheVariants as step_fault
 use Rattle.bbm_rules.proofs.Folds.{Turns as TurnsBy}
@@ -27,7 +26,9 @@ use Rattle.bbm_session.specs.Readers.{StopsKnown, item_needs, line_needs}
 use Rattle.bbm_session.specs.Run.{EventNeeds, ItemNeeds, NeedsRoom, ReadTo, UpTo}
 use Rattle.bbm_texts.specs.Known.{TellsEvent}
 use Rattle.bbm_session.specs.Stages.{StopsAt, MayJudge, JudgesLine}
-use Rattle.bbm_session.proofs.ReadBytes.{ByName, Named, NamedTurn, named-header, named-if, read-by}
+use Rattle.bbm_rules.proofs.AcceptedLogs as logs
+use Rattle.bbm_rules.proofs.AcceptedLogs.{judged_line, named_line}
+use Rattle.bbm_session.proofs.ReadBytes.{ByName, read-by}
 
 -- ---- an event
 
@@ -260,15 +261,6 @@ judged-ends all stands frugal frugal' limits limits' heading p (Err s) stop old 
 
 -- ---- the line that a verdict names
 
-abbrev pub named_line : Verdict → Option ℕ
-named_line (Accepted events) = None
-named_line (Refused line rule at label) = Some line
-named_line (Malformed line cause) = Some line
-named_line (Limit line which) = Some line
-
-abbrev judged_line : Judged → Option ℕ
-judged_line judged = named_line judged.verdict
-
 up_to : (line : ℕ) (read : Text) (unread : List ℕ) → ByName 1 (Some line) read unread → UpTo line read unread
 up_to line read unread (inl (count, none)) = inl (omega (arith, count), none)
 up_to line read unread (inr (count, end)) = inr (omega (arith, count), end)
@@ -280,53 +272,12 @@ read_for (Malformed line cause) read unread f = up_to line read unread f
 read_for (Limit line which) read unread f = up_to line read unread f
 
 module _ (limits : Limits) where
-  abbrev Names : ℕ → Turned Progress Judged → Type 0
-  Names n t = NamedTurn judged_line n t
-
-  names_kept : (n : ℕ) (heading : Heading) (h : List EventOf) (e : EventOf) (limit : Option Which)
-      → Names n (after_kept n heading h e limit)
-  names_kept n heading h e (Some which) = refl
-  names_kept n heading h e None = tt
-
-  names_judged : (n : ℕ) (heading : Heading) (h : List EventOf) (e : EventOf) (label : Option (List ℕ))
-      (breach : Option Breach) → Names n (after_judged limits n heading h e label breach)
-  names_judged n heading h e label (Some breach) = refl
-  names_judged n heading h e label None = names_kept n heading h e (limit_at limits n h (limit_of h e))
-
-  names_item : (n : ℕ) (heading : Heading) (h : List EventOf) (r : Result Item Cause)
-      → Names n (after_item Patterns limits n heading h r)
-  names_item n heading h (Ok (item.Event e label)) = names_judged n heading h e label (broken heading Patterns h e)
-  names_item n heading h (Ok (item.End count)) = named-if judged_line n (count == length h) _ _ tt refl
-  names_item n heading h (Err cause) = refl
-
-  names_line : (n : ℕ) (p : Progress) (line : List ℕ) → Names n (after_line Patterns limits n p line)
-  names_line n AtHeader line =
-      named-header judged_line n (λ heading. AtEvents heading []) (unrefused []) (header_of line) (λ cause. refl)
-  names_line n (AtEvents heading h) line = names_item n heading h (item_of heading line)
-  names_line n (AtEnd h) line = refl
-
-  names_long : (n : ℕ) (p : Progress) → named_line (too_long_at n p) ≡ Some n
-  names_long n AtHeader = refl
-  names_long n (AtEvents heading h) = refl
-  names_long n (AtEnd h) = refl
-
-  names_cut : (n : ℕ) (p : Progress) (rest : List ℕ)
-      → (named_line (cut_at n p rest) ≡ Some n) ⊎ (named_line (cut_at n p rest) ≡ None)
-  names_cut n AtHeader rest = inl refl
-  names_cut n (AtEvents heading h) rest = inl refl
-  names_cut n (AtEnd h) [] = inr refl
-  names_cut n (AtEnd h) (b ∷ rest) = inl refl
-
-  judging-named : Named (judging Patterns limits) judged_line
-  unfolding judging
-  judging-named = record { line = names_line; long = names_long; cut = names_cut }
-
   -- what is left unread, where the rest was read
   pub read-to : (bytes : List ℕ) (left : Option (List ℕ)) → left ≡ Some (outcome_of Patterns limits bytes).unread
       → ReadTo bytes (verdict_of_bytes Patterns limits bytes) left
   read-to bytes left is =
       let o = outcome_of Patterns limits bytes in
-      let k = read-by (judging Patterns limits) judged_line judging-named AtHeader bytes in
+      let k = read-by (judging Patterns limits) judged_line (logs.names Patterns limits) AtHeader bytes in
       (k.0, o.unread, k.1, is, read_for o.says.verdict (text_of k.0) o.unread k.2)
 
 -- ---- the line for which there was no memory

@@ -1,18 +1,17 @@
 -- Which bytes are read for what is said of a text: all of them where no line is named, and else those up to the line.
-use Rattle.bbm_session.proofs.Common.{drop_of_length-le, plain, Heading, Verdict, Malformed, Reader, plain_lines}
-use Rattle.bbm_session.proofs.Common.{Breaks, Starves}
+use Rattle.bbm_session.proofs.Common.{drop_of_length-le, plain, Reader, plain_lines, Breaks, Starves}
 use Rattle.bbm_rules.proofs.Common.{◌≡◌, ◌⊎◌, ℕ, zero, suc, ◌+◌, ◌≤◌, ◌<◌, Bool, true, false, nat_eq, if◌then◌else◌}
 use Rattle.bbm_rules.proofs.Common.{List, [], ◌∷◌, ◌++◌, length, drop, Option, Some, None, refl, ap, sym, ◌∙◌, subst}
 use Rattle.bbm_rules.proofs.Common.{inl, inr, arith, append_assoc, append-nil, and_parts, nat_tests, Text, text_of}
-use Rattle.bbm_rules.proofs.Common.{bytes_of, is_too_long, Fold, Turned, Halts, Passes, Ending, Result, Ok, Err}
-use Rattle.bbm_rules.proofs.Common.{ending_after, ending_at, ending_from, header_by, lines_from}
-use Rattle.bbm_events.specs.declared.malformed.Malformed.{Malformed as Cause}
-use Rattle.bbm_rules.specs.Fold.{before_text, turned_by, end_by}
+use Rattle.bbm_rules.proofs.Common.{bytes_of, is_too_long, Fold, Turned, Halts, Passes, Ending, ending_after, ending_at}
+use Rattle.bbm_rules.proofs.Common.{ending_from, lines_from}
+use Rattle.bbm_rules.specs.Fold.{before_text, end_by}
 use Rattle.bbm_session.specs.Run.{ReadToFault, ReadToWant}
 use Rattle.bbm_session.specs.Stages.{Broke, Starved}
 use Rattle.bbm_session.proofs.Stages.{turned-short, turned-long, end-short, end-long, seam, bytes_of-append}
 use Rattle.bbm_session.proofs.Stages.{plain_lines-append, text_of-behind}
 use Rattle.bbm_session.proofs.Texts.{plain-head, text_of-line, text_of-plain, bytes_of-text_of}
+use Rattle.bbm_rules.proofs.Folds.{Named, NamedTurn}
 
 -- ---- what was read, from line number n on, by the line that is named
 
@@ -118,28 +117,6 @@ by_cut n name rest unread clean none (inl is) =
     by_named n name (text_of rest) unread is (rw (text_of-plain rest clean) (inr (omega arith, inr none)))
 by_cut n name rest unread clean none (inr is) = subst (λ (o : Option ℕ). ByName n o (text_of rest) unread) (sym is) none
 
--- what line n decides names it
-abbrev pub NamedTurn : {P V : Type 0} → (V → Option ℕ) → ℕ → Turned P V → Type 0
-NamedTurn names n (Halts v) = names v ≡ Some n
-NamedTurn names n (Passes next) = Unit {0}
-
-pub named-if : {P V : Type 0} (names : V → Option ℕ) (n : ℕ) (b : Bool) (s t : Turned P V) → NamedTurn names n s
-    → NamedTurn names n t → NamedTurn names n (if b then s else t)
-named-if names n true s t first second = first
-named-if names n false s t first second = second
-
-pub named-header : {P V : Type 0} (names : V → Option ℕ) (n : ℕ) (begun : Heading → P) (says : Verdict → V)
-    (r : Result Heading Cause) → ((cause : Cause) → names (says (Malformed n cause)) ≡ Some n)
-    → NamedTurn names n (header_by begun says n r)
-named-header names n begun says (Ok heading) named = tt
-named-header names n begun says (Err cause) named = named cause
-
--- What is said by a fold names the line at which it is said, or none at the end.
-pub record Named {P V : Type 0} (fold : Fold P V) (names : V → Option ℕ) : Type 0 where
-  pub line : (n : ℕ) (p : P) (l : List ℕ) → NamedTurn names n (fold.line n p l)
-  pub long : (n : ℕ) (p : P) → names (fold.long n p) ≡ Some n
-  pub cut : (n : ℕ) (p : P) (rest : List ℕ) → (names (fold.cut n p rest) ≡ Some n) ⊎ (names (fold.cut n p rest) ≡ None)
-
 module _ {P V : Type 0} (fold : Fold P V) where
   module _ (names : V → Option ℕ) (named : Named fold names) where
     abbrev ReadBy : ℕ → Ending V → List ℕ → Type 0
@@ -205,13 +182,6 @@ module _ {P V : Type 0} (fold : Fold P V) where
         let clean = plain_text bytes in
         let k = reads 1 start (text_of bytes).lines (text_of bytes).rest clean.0 clean.1 in
         (k.taken, sym (bytes_of-text_of bytes) ∙ k.is, k.to)
-
--- what a line decides names it, also one that is too long
-pub named-turned : {P V : Type 0} (fold : Fold P V) (names : V → Option ℕ) → Named fold names → (n : ℕ) (p : P)
-    (l : List ℕ) → NamedTurn names n (turned_by fold n p l)
-unfolding turned_by
-named-turned fold names named n p l =
-    named-if names n (is_too_long l) (Halts (fold.long n p)) (fold.line n p l) (named.long n p) (named.line n p l)
 
 -- ---- of a text whose reading stopped before anything was said
 

@@ -1,7 +1,7 @@
 -- The events before a refused one are a log that keeps the rules, and the refused one breaks the rule that is told.
 use Rattle.bbm_session.proofs.Common.{Limits, Patterns, heading_in}
-use Rattle.bbm_rules.proofs.Common.{◌≡◌, ℕ, Bool, true, false, cond, List, [], ◌∷◌, None, Some, is_none, Result}
-use Rattle.bbm_rules.proofs.Common.{Ok, Err, refl, sym, ap, subst, inl, inr, and_from, result_ok, fits_heading, keeps}
+use Rattle.bbm_rules.proofs.Common.{◌≡◌, ℕ, Bool, true, false, cond, List, [], ◌∷◌, None, Some, is_none, Result, Ok}
+use Rattle.bbm_rules.proofs.Common.{Err, refl, sym, ap, subst, inl, inr, and_from, result_ok, fits_heading, keeps}
 use Rattle.bbm_rules.proofs.Common.{AtEnd, AtEvents, AtHeader, Halts, Judged, Progress, after_line, cut_at}
 use Rattle.bbm_rules.proofs.Common.{ending_after, ending_from, events_in, header_by, is_too_long, outcome_of, text_of}
 use Rattle.bbm_rules.proofs.Common.{too_long_at, unrefused, Heading, Event, Turned, contains_cases, contains_none}

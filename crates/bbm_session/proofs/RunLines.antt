@@ -16,8 +16,10 @@ use Rattle.bbm_follow.specs.Following.{is_machine, after_line, too_long_at, RunS
 use Rattle.bbm_follow.specs.Following.{run_of, step_limit, event_count}
 use Rattle.bbm_follow.specs.Following as run
 use Rattle.bbm_session.specs.Readers.{Turns}
-use Rattle.bbm_session.proofs.Judgements.{named_line, read_for}
-use Rattle.bbm_session.proofs.ReadBytes.{ByName, Named, NamedTurn, named-header, named-if, read-by}
+use Rattle.bbm_rules.proofs.AcceptedLogs.{named_line}
+use Rattle.bbm_session.proofs.Judgements.{read_for}
+use Rattle.bbm_session.proofs.ReadBytes.{ByName, read-by}
+use Rattle.bbm_rules.proofs.Folds.{Named, NamedTurn, named_header, named_if}
 
 -- ---- the parts of a run
 
@@ -91,12 +93,12 @@ abbrev Names : ℕ → Turned Reached RunSays → Type 0
 Names n t = NamedTurn named_run n t
 
 names_step : (n : ℕ) (heading : Heading) (steps : List Step) (s : Step) → Names n (after_step n heading steps s)
-names_step n heading steps s = named-if named_run n (nat_le step_limit (length steps)) _ _ refl tt
+names_step n heading steps s = named_if named_run n (nat_le step_limit (length steps)) _ _ refl tt
 
 names_item : (n : ℕ) (heading : Heading) (steps : List Step) (r : Result Item Cause)
     → Names n (after_item n heading steps r)
 names_item n heading steps (Ok (item.Event e label)) = names_step n heading steps _
-names_item n heading steps (Ok (item.End count)) = named-if named_run n (count == event_count steps) _ _ tt refl
+names_item n heading steps (Ok (item.End count)) = named_if named_run n (count == event_count steps) _ _ tt refl
 names_item n heading steps (Err cause) = refl
 
 names_machine : (n : ℕ) (heading : Heading) (steps : List Step) (r : Result MachineLine Cause)
@@ -106,8 +108,8 @@ names_machine n heading steps (Err cause) = refl
 
 names_line : (n : ℕ) (p : Reached) (line : List ℕ) → Names n (after_line n p line)
 names_line n AtHeader line =
-    named-header named_run n (λ heading. AtSteps heading []) Stopped (header_of line) (λ cause. refl)
-names_line n (AtSteps heading steps) line = named-if named_run n (is_machine line) _ _
+    named_header named_run n (λ heading. AtSteps heading []) Stopped (header_of line) (λ cause. refl)
+names_line n (AtSteps heading steps) line = named_if named_run n (is_machine line) _ _
     (names_machine n heading steps (machine_of heading line)) (names_item n heading steps (item_of heading line))
 names_line n (AtEnd heading steps) line = refl
 

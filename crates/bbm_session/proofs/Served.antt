@@ -2,10 +2,9 @@
 use Rattle.bbm_session.proofs.Common.{Heading, Event, Kept, Verdict, Accepted, Refused, Malformed, Limit, Limits}
 use Rattle.bbm_session.proofs.Common.{Patterns, Step, Command, Judge, Verify, Generate, Selftest, Decision, Stop}
 use Rattle.bbm_session.proofs.Common.{Decided, ReadFault, NoMemory, CertifiedReadFor, IsOutput, IsOutputFor, Reader}
-use Rattle.bbm_session.proofs.Common.{Certifies}
-use Rattle.bbm_session.proofs.Common.{Follows, certificate_reader, run_reader, is_frugal, judged_at, reader_for}
-use Rattle.bbm_session.proofs.Common.{gen_text, NeedsMemory, ReadFor, limits_of, RunReadFor, Breaks, Concludes, Ends}
-use Rattle.bbm_session.proofs.Common.{HeaderLine, Starts, Starves, Stops, Heads, Reports, ReportsShown}
+use Rattle.bbm_session.proofs.Common.{Certifies, Follows, certificate_reader, run_reader, is_frugal, judged_at}
+use Rattle.bbm_session.proofs.Common.{reader_for, gen_text, NeedsMemory, ReadFor, limits_of, RunReadFor, Breaks}
+use Rattle.bbm_session.proofs.Common.{Concludes, Ends, HeaderLine, Starts, Starves, Stops, Heads, Reports, ReportsShown}
 use Rattle.bbm_rules.proofs.Common.{◌≡◌, ◌⊎◌, ℕ, Bool, true, false, List, [], Option, Some, None, Result, Ok, Err, refl}
 use Rattle.bbm_rules.proofs.Common.{ap, sym, ◌∙◌, subst, inl, inr, reverse, length, IfOk, false≢true, Claim, AtHeader}
 use Rattle.bbm_rules.proofs.Common.{Judged, Progress, Text, ending_at, events_in, outcome_of, text_of, verdict_of_bytes}

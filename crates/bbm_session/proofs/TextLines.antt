@@ -2,7 +2,7 @@
 use Rattle.bbm_rules.specs.Fold.{Text, before_text, text_of, Fold, Turned, Halts, Passes, ending_after, ending_at}
 use Rattle.bbm_rules.specs.Fold.{ending_from, passes_to, lines_from, turned_by}
 use Rattle.bbm_rules.proofs.Common.{◌≡◌, ℕ, suc, ◌+◌, ◌≤◌, ◌==◌, Bool, true, false, if◌then◌else◌, List, [], ◌∷◌, ◌++◌}
-use Rattle.bbm_rules.proofs.Common.{length, Option, Some, refl, ◌∙◌, ap, subst, arith, le-ltb, is_too_long}
+use Rattle.bbm_rules.proofs.Common.{length, Option, Some, refl, ◌∙◌, ap, arith, le-ltb, is_too_long}
 use Rattle.bbm_rules.proofs.Folds.{passed}
 use Rattle.bbm_io.specs.Flow.{plain}
 use Rattle.bbm_session.proofs.Texts.{text_of-line}
@@ -48,7 +48,7 @@ text_of-append (b ∷ bs) more h = by (b == 10) h (text_of-append bs more)
 
 module _ {P V : Type 0} (fold : Fold P V) where
   -- lines that are passed begin with one that is
-  pub passes : (goes_on : P → Option P) (q : P) (t : Turned P V) → passes_to goes_on t ≡ Some q
+  passes : (goes_on : P → Option P) (q : P) (t : Turned P V) → passes_to goes_on t ≡ Some q
       → (next : P) × (t ≡ Passes next) × (goes_on next ≡ Some q)
   passes goes_on q (Halts v) read = cc
   passes goes_on q (Passes next) read = (next, refl, read)
@@ -65,15 +65,6 @@ module _ {P V : Type 0} (fold : Fold P V) where
       let count : suc n + length lines ≡ n + suc (length lines) = omega arith in
       ap (passes_to (λ next. lines_from fold (suc n) next (lines ++ more))) k.1
       ∙ (lines-append (suc n) k.0 q lines more k.2 ∙ ap (λ (m : ℕ). lines_from fold m q more) count)
-
-  -- the same of bytes that are whole lines, and of more bytes behind them
-  pub lines-behind : (n : ℕ) (p q : P) (bytes more : List ℕ) → AreLines bytes
-      → lines_from fold n p (text_of bytes).lines ≡ Some q
-      → lines_from fold n p (text_of (bytes ++ more)).lines
-      ≡ lines_from fold (n + length (text_of bytes).lines) q (text_of more).lines
-  lines-behind n p q bytes more whole read =
-      ap (λ (t : Text). lines_from fold n p t.lines) (text_of-append bytes more whole)
-      ∙ lines-append n p q (text_of bytes).lines (text_of more).lines read
 
   pub ending-behind : (n : ℕ) (p q : P) (bytes more : List ℕ) → AreLines bytes
       → lines_from fold n p (text_of bytes).lines ≡ Some q
@@ -100,27 +91,3 @@ module _ {P V : Type 0} (fold : Fold P V) where
           (fold.line n p line)
       by false e = refl
       by true e = cc
-
--- ---- two folds over the same lines
-
--- Where each line that the one passes is passed by the other, and what holds of how far both are read stays so, the
--- other passes all lines that the one passes.
-module _ {P V Q W : Type 0} (one : Fold P V) (other : Fold Q W) (Alike : ℕ → P → Q → Type 0)
-    (step : (n : ℕ) (p next : P) (q : Q) (line : List ℕ) → Alike n p q → turned_by one n p line ≡ Passes next
-    → (x : Q) × (turned_by other n q line ≡ Passes x) × Alike (suc n) next x) where
-  pub lines-alike : (n : ℕ) (p end : P) (q : Q) (lines : List (List ℕ)) → Alike n p q
-      → lines_from one n p lines ≡ Some end
-      → (x : Q) × (lines_from other n q lines ≡ Some x) × Alike (n + length lines) end x
-  lines-alike n p end q [] alike read =
-      let same : p ≡ end = cc in
-      let count : n ≡ n + 0 = omega arith in
-      (q, refl, subst (λ (m : ℕ). Alike m end q) count (subst (λ (y : P). Alike n y q) same alike))
-  lines-alike n p end q (line ∷ lines) alike read =
-      let k = passes one (λ next. lines_from one (suc n) next lines) end (turned_by one n p line) read in
-      let s = step n p k.0 q line alike k.1 in
-      let more = lines-alike (suc n) k.0 end s.0 lines s.2 k.2 in
-      let count : suc n + length lines ≡ n + suc (length lines) = omega arith in (
-        more.0,
-        ap (passes_to (λ next. lines_from other (suc n) next lines)) s.1 ∙ more.1,
-        subst (λ (m : ℕ). Alike m end more.0) count more.2,
-      )

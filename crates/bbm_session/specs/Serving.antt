@@ -1,4 +1,4 @@
--- What became of what was asked for, by what was read and written.
+-- What became of what was asked for, by what was read and written. No public contract cites these words.
 use Rattle.std.specs.Prelude.{◌≡◌, ℕ, List, Option, Some, None, ◌⊎◌}
 use Rattle.bbm_io.specs.Faults.{Rose}
 use Rattle.bbm_events.specs.declared.claim.Claim.{Claim}

@@ -1,8 +1,7 @@
 -- Worked cases: how far two PEs are after steps of one place.
-use Rattle.bbm_type_tests.proofs.Common.{ℕ, Bool, true, false, Option, Some, None, List, [], ◌∷◌, refl, Dsb, Inner, Non}
-use Rattle.bbm_type_tests.proofs.Common.{All, Stores, Cover}
+use Rattle.bbm_type_tests.proofs.Common.{ℕ, true, false, Some, None, List, [], ◌∷◌, refl, Inner, Non, All, Stores}
+use Rattle.bbm_type_tests.proofs.Common.{Cover}
 use Rattle.std.specs.Prelude.{◌==◌, is_none, reverse, if◌then◌else◌}
-use Rattle.bbm_descriptor.specs.declared.desc.Core.{Core}
 use Rattle.bbm_descriptor.specs.declared.desc.Core.TheVariants as core
 use Rattle.bbm_tlbi_scope.specs.declared.entry.Cover.TheVariants.{Half, Second, Full}
 use Rattle.bbm_entry_state.specs.EntrySteps.{Step, Wrote, Barrier, Flush, since, some, is_write}

@@ -1,4 +1,4 @@
-use Rattle.bbm_rules.proofs.Common.{◌≡◌, Bool, true, false, ◌&&◌, List, [], ◌∷◌, reverse, refl, ap, ◌∙◌, list_all}
+use Rattle.bbm_rules.proofs.Common.{◌≡◌, Bool, true, ◌&&◌, List, [], ◌∷◌, reverse, refl, ap, ◌∙◌, list_all}
 use Rattle.bbm_rules.proofs.Common.{reverse-append, proved, Is, fits_heading}
 use Rattle.std.proofs.lemmas.List.Folds.{list_all-append}
 use Rattle.bbm_evidence_tests.proofs.idle.idle_lines.Goals as goal
