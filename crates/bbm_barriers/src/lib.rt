@@ -6,7 +6,7 @@ ghost use Rattle.bbm_regimes.specs.PeMask.{pe_in};
 ghost use Rattle.bbm_barriers.specs.Options.{publishes, answers_broadcast, answers_local};
 ghost use Rattle.bbm_barriers.specs.Options as options;
 
-use bbm_regimes::{Pe, PeMask};
+use bbm_regimes::{Pe, PeCount, PeMask};
 
 /// The shareability domain of a barrier. `Full` is the domain of the options `sy`, `st` and `ld`.
 /// Source: Arm ARM (DDI 0487), "Memory barriers".
@@ -49,12 +49,10 @@ pub struct Dsb {
     pub types: Types,
 }
 
-/// The PEs to which a DSB of the issuer publishes the issuer's earlier writes, in a log with `n` PEs, 1
-/// to 128: every PE, the issuer alone, or none, by the table of the options. Source: Arm ARM (DDI 0487),
+/// The PEs to which a DSB of the issuer publishes the issuer's earlier writes, in a log with `n` PEs:
+/// every PE, the issuer alone, or none, by the table of the options. Source: Arm ARM (DDI 0487),
 /// "Memory barriers"; that all PEs are in one inner shareable domain is the project's own choice.
-pub fn publishes_to(dsb: Dsb, issuer: Pe, n: u8) -> PeMask
-    requires some { 1 ≤ n }
-    requires within { n ≤ 128 }
+pub fn publishes_to(dsb: Dsb, issuer: Pe, n: PeCount) -> PeMask
     requires issuer_below { issuer < n }
     ensures { (p : ℕ) → pe_in result p ≡ publishes dsb issuer n p }
 {

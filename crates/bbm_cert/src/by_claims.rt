@@ -121,7 +121,7 @@ impl<'a> Evidence for ByClaims<'a> {
 
     fn is_cleansed(&self, header: &Header, _log: &[Kept], from: usize, place: Place) -> bool {
         known();
-        cleansed_since(&self.cleansings, from, place).has_all(header.pes)
+        cleansed_since(&self.cleansings, from, place).has_all(header.pe_count())
     }
 
     fn after(

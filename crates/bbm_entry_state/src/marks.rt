@@ -5,7 +5,7 @@ ghost use Rattle.bbm_regimes.specs.PeMask.{pe_in};
 
 use crate::pending::Pend;
 use bbm_descriptor::Core;
-use bbm_regimes::{Pe, PeMask};
+use bbm_regimes::{Pe, PeCount, PeMask};
 use bbm_tlbi_scope::Cover;
 
 /// How far a broken place is taken through break-before-make at each PE. Source: project's own choice.
@@ -84,10 +84,8 @@ impl Marks {
         }
     }
 
-    /// Whether each of the first `n` PEs, 1 to 128, is clean.
-    pub fn is_clean(&self, n: u8) -> bool
-        requires some { 1 ≤ n }
-        requires within { n ≤ 128 }
+    /// Whether each of the first `n` PEs is clean.
+    pub fn is_clean(&self, n: PeCount) -> bool
         ensures { result ≡ every_pe n (λ p. pe_in self.now.clean p) }
     {
         self.clean.has_all(n)

@@ -4,7 +4,7 @@ use crate::marks::Marks;
 use crate::pending::Pends;
 use bbm_barriers::{Dsb, publishes_to};
 use bbm_descriptor::Core;
-use bbm_regimes::{Pe, PeMask};
+use bbm_regimes::{Pe, PeCount, PeMask};
 use bbm_tlbi_scope::Cover;
 
 /// What TLBs may keep of one place. Source: project's own choice.
@@ -25,7 +25,7 @@ pub enum EntryState {
 }
 
 impl EntryState {
-    ghost use Rattle.std.specs.Prelude.{◌≡◌, ◌≤◌, ◌<◌};
+    ghost use Rattle.std.specs.Prelude.{◌≡◌, ◌<◌};
     ghost use Rattle.bbm_entry_state.specs.EntryCalls.{Written, Published, Noted, Completed};
 
     /// The state of a place that never had a valid value.
@@ -56,11 +56,9 @@ impl EntryState {
         }
     }
 
-    /// The state after a DSB of the issuer published its writes of the place, in a log with `n` PEs, 1 to 128.
+    /// The state after a DSB of the issuer published its writes of the place, in a log with `n` PEs.
     /// What the DSB answers is for `complete`. Source: Arm ARM (DDI 0487), "Memory barriers".
-    pub fn dsb(self, issuer: Pe, dsb: Dsb, n: u8) -> EntryState
-        requires some { 1 ≤ n }
-        requires within { n ≤ 128 }
+    pub fn dsb(self, issuer: Pe, dsb: Dsb, n: PeCount) -> EntryState
         requires issuer_below { issuer < n }
         ensures { Published self issuer dsb n result }
     {
@@ -93,11 +91,9 @@ impl EntryState {
     }
 
     /// The state, and the pendings of the issuer, given those before, after a DSB of the issuer answered its
-    /// TLBIs, in a log with `n` PEs, 1 to 128. A state cleansed at every PE becomes `Clean`. Source: Arm ARM
+    /// TLBIs, in a log with `n` PEs. A state cleansed at every PE becomes `Clean`. Source: Arm ARM
     /// (DDI 0487), "TLB maintenance instructions".
-    pub fn complete(self, pends: Pends, dsb: Dsb, n: u8) -> (EntryState, Pends)
-        requires some { 1 ≤ n }
-        requires within { n ≤ 128 }
+    pub fn complete(self, pends: Pends, dsb: Dsb, n: PeCount) -> (EntryState, Pends)
         ensures { Completed self pends dsb n result.0 result.1 }
     {
         match self {

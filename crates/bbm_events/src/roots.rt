@@ -7,7 +7,7 @@ ghost use Rattle.bbm_regimes.specs.World as spec;
 ghost use Rattle.bbm_events.specs.Heading.{heading_ok};
 
 use crate::header::Header;
-use bbm_regimes::{Kind, World};
+use bbm_regimes::{Kind, PeCount, World};
 
 impl Header {
     /// The numbers of a header are in their ranges. The call does nothing; what it tells is its contract.
@@ -17,13 +17,11 @@ impl Header {
         let _pes = self.pes;
     }
 
-    /// The number of PEs, 1 to 128.
-    pub fn pe_count(&self) -> u8
-        ensures count { result ≡ self.now.pes }
-        ensures some { 1 ≤ result }
-        ensures within { result ≤ 128 }
+    /// The number of PEs.
+    pub fn pe_count(&self) -> PeCount
+        ensures { result ≡ self.now.pes }
     {
-        self.pes
+        PeCount::new(self.pes)
     }
 
     /// The number of consecutive pages of a root of this kind, 1 to 16. Source: Arm ARM (DDI 0487), "VMSAv8-64

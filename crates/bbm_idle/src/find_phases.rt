@@ -151,7 +151,7 @@ fn alike_broken(header: &Header, new: &Trace, old: &Trace) -> PeMask
         new.cleansed.or(new.half).or(new.seen),
         old.cleansed.or(old.half).or(old.seen),
     );
-    PeMask::all(header.pes).minus(cleansed.or(half).or(seen))
+    PeMask::all(header.pe_count()).minus(cleansed.or(half).or(seen))
 }
 
 /// The PEs of the header at which the phases are the same.
@@ -160,7 +160,7 @@ fn alike(header: &Header, new: &Phases, old: &Phases) -> PeMask
         ≡ same_phase (spec.phase_from new.now p) (spec.phase_from old.now p) }
 {
     match (new, old) {
-        (Phases::Clean, Phases::Clean) | (Phases::Live, Phases::Live) => PeMask::all(header.pes),
+        (Phases::Clean, Phases::Clean) | (Phases::Live, Phases::Live) => PeMask::all(header.pe_count()),
         (Phases::Broken(new), Phases::Broken(old)) => alike_broken(header, new, old),
         _ => PeMask::none(),
     }
@@ -172,7 +172,7 @@ fn has_still(history: &History<AllPatterns>, header: &Header, old: &PlacePhases)
         → result ≡ spec.is_kept_by header.now.pes (phase_of header.now Patterns h) old.now }
 {
     let new = phases_at(history, old.place);
-    alike(header, &new, &old.phases).has_all(header.pes)
+    alike(header, &new, &old.phases).has_all(header.pe_count())
 }
 
 /// Whether each of the places has its phases still.

@@ -88,7 +88,7 @@ pub fn trace_of(header: &Header, later: &[Kept], place: Place) -> Trace
 pub(crate) fn has_every_pe(header: &Header, pes: PeMask) -> bool
     ensures { result ≡ every_pe header.now.pes (λ p. pe_in pes p) }
 {
-    pes.has_all(header.pes)
+    pes.has_all(header.pe_count())
 }
 
 /// Whether the place is cleansed at every PE, where it is written in these events. No event behind that changes it.

@@ -15,7 +15,7 @@ use crate::open::Open;
 use crate::trace::Trace;
 use bbm_barriers::{Dsb, is_non, publishes_to};
 use bbm_events::{Event, Header};
-use bbm_regimes::{Pe, PeMask, Place};
+use bbm_regimes::{Pe, PeCount, PeMask, Place};
 use bbm_tlbi_scope::{Cover, TlbiOp};
 
 /// What a walk has found in the events so far. Source: project's own choice.
@@ -38,7 +38,7 @@ pub fn every_pe_of(header: &Header) -> PeMask
     ensures mask { (p : ℕ) → pe_in result p ≡ nat_lt p header.now.pes }
     ensures count { header.now.pes ≤ 128 }
 {
-    PeMask::all(header.pes)
+    PeMask::all(header.pe_count())
 }
 
 /// The PEs to which a DSB of the issuer publishes its earlier writes. Under `cnp` one of the non-shareable domain
@@ -47,7 +47,7 @@ pub fn every_pe_of(header: &Header) -> PeMask
 fn published_to(header: &Header, dsb: Dsb, issuer: Pe) -> PeMask
     ensures { (p : ℕ) → pe_in result p ≡ values.publishes_to header.now dsb issuer p }
 {
-    let pes = publishes_to(dsb, issuer, 128);
+    let pes = publishes_to(dsb, issuer, PeCount::new(128));
     if !is_non(dsb.domain) {
         pes.and(every_pe_of(header))
     } else if header.cnp {

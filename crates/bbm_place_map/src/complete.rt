@@ -31,8 +31,6 @@ fn is_table(core: Core) -> bool
 
 /// A DSB of the issuer answered its TLBIs at one entry, which stays for now. Whether its place is cleansed at every PE.
 fn answer_at(broken: &mut Vec<Entry>, k: usize, barrier: &Barrier) -> bool
-    requires some { 1 ≤ barrier.now.n }
-    requires most { barrier.now.n ≤ 128 }
     requires within { k < vec_len broken.old }
     ensures entry { (e : TheEntry) → slice_get broken.old.items k ≡ Some e → (f : TheEntry) × (position f ≡ position e)
         × (result ≡ true → Completed (state.Broken e.marks) (pends_in e.pends.items barrier.now.issuer)

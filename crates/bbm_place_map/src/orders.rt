@@ -2,7 +2,7 @@
 //! Source: project's own choice, where no other is named.
 
 use bbm_barriers::Dsb;
-use bbm_regimes::{Pe, PeMask};
+use bbm_regimes::{Pe, PeCount, PeMask};
 
 /// A DSB.
 #[derive(Clone, Copy, Debug)]
@@ -12,7 +12,7 @@ pub struct Barrier {
     /// Its option.
     pub dsb: Dsb,
     /// The number of PEs of the log.
-    pub n: u8,
+    pub n: PeCount,
 }
 
 /// A TLBI, without how far it covers a place.

@@ -8,7 +8,7 @@ ghost use Rattle.bbm_place_map.specs.Works.{AddsAll, GivesUp, Holds, HoldsFor, i
 ghost use Rattle.bbm_place_map.specs.Works.{part as spec_part};
 
 use bbm_entry_state::Marks;
-use bbm_regimes::{Pe, PeMask};
+use bbm_regimes::{Pe, PeCount, PeMask};
 use std::alloc::Global;
 
 /// The numbers of cells at whose places something may be left to do, unless there were too many. A cell may stand here
@@ -27,7 +27,7 @@ pub struct WorkList {
 #[derive(Drop)]
 pub struct Work {
     /// The number of PEs of the log.
-    pub pes: u8,
+    pub pes: PeCount,
     /// Whether it is known that no place is broken whose every PE is clean.
     pub settled: bool,
     /// Of each PE, where it wrote and some PE hasn't seen it.
@@ -41,7 +41,7 @@ pub fn no_work(alloc: Global) -> Work
     ensures pes { result.pes ≡ 1 }
 {
     Work {
-        pes: 1,
+        pes: PeCount::new(1),
         settled: true,
         unpublished: Vec::new(alloc),
         waiting: Vec::new(alloc),
@@ -160,11 +160,10 @@ fn add_writer(lists: &mut Vec<WorkList>, writers: PeMask, i: u8, cell: u32, brok
 }
 
 /// Adds a cell to the lists of these PEs, of the first `pes`.
-fn add_writers(lists: &mut Vec<WorkList>, writers: PeMask, pes: u8, cell: u32, broken: usize)
-    requires { pes ≤ 128 }
+fn add_writers(lists: &mut Vec<WorkList>, writers: PeMask, pes: PeCount, cell: u32, broken: usize)
     ensures { AddsAll writers pes cell lists.old.items lists.new.items }
 {
-    for i in 0..pes {
+    for i in 0..pes.get() {
         add_writer(lists, writers, i, cell, broken);
     }
 }
@@ -175,11 +174,10 @@ fn add_mostly(
     lists: &mut Vec<WorkList>,
     writers: PeMask,
     mostly: Pe,
-    pes: u8,
+    pes: PeCount,
     cell: u32,
     broken: usize,
 )
-    requires { pes ≤ 128 }
     ensures { AddsAll writers pes cell lists.old.items lists.new.items }
 {
     add_for(lists, mostly, cell, broken);
@@ -195,11 +193,10 @@ fn add_fresh(
     lists: &mut Vec<WorkList>,
     writers: PeMask,
     mostly: Pe,
-    pes: u8,
+    pes: PeCount,
     cell: u32,
     broken: usize,
 )
-    requires { pes ≤ 128 }
     ensures { AddsAll writers pes cell lists.old.items lists.new.items }
 {
     if !writers.is_empty() {
@@ -218,8 +215,6 @@ pub fn note_write(
     marks: &Marks,
     broken: usize,
 )
-    requires some { 1 ≤ work.old.pes }
-    requires most { work.old.pes ≤ 128 }
     ensures pes { work.new.pes ≡ work.old.pes }
     ensures told { (wide : Bool) (q : ℕ) → q < work.old.pes → HoldsFor work.new.unpublished.items q wide cell
         ⊎ ((pe_in marks.now.writers q ≡ false) ⊎ IsToldAsBefore before.now marks.now q) }
@@ -262,7 +257,7 @@ fn restart_all(lists: &mut Vec<WorkList>, given_up: bool)
 /// The log has `n` PEs. The lists speak for all places, or each has given up.
 #[cold]
 #[inline(never)]
-fn renew(work: &mut Work, n: u8, given_up: bool)
+fn renew(work: &mut Work, n: PeCount, given_up: bool)
     ensures pes { work.new.pes ≡ n }
     ensures given_up { given_up ≡ true → GivesUp work.new }
 {
@@ -275,7 +270,7 @@ fn renew(work: &mut Work, n: u8, given_up: bool)
 /// The log has `n` PEs, and so many places are broken. Where it had another number of PEs before, nothing is known of
 /// these.
 #[inline(always)]
-pub fn begin(work: &mut Work, n: u8, broken: usize)
+pub fn begin(work: &mut Work, n: PeCount, broken: usize)
     ensures pes { work.new.pes ≡ n }
     ensures kept { (work.new ≡ work.old) ⊎ ((broken ≡ 0) ⊎ GivesUp work.new) }
 {

@@ -12,6 +12,6 @@ pub mod register;
 pub use address::{Page, Place};
 pub use interval::{Interval, span};
 pub use laws::law_every_pe;
-pub use pe::{Pe, PeMask};
+pub use pe::{Pe, PeCount, PeMask};
 pub use regime::{AsidFrom, HypWorld, KernelWorld, Kind, NoMemory, Reg, Tag, Which, World};
 pub use register::{base_of, kind_of, same_reg, same_tag, tag_number};

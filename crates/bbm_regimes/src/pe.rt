@@ -44,6 +44,42 @@ impl Pe {
     }
 }
 
+/// The number of processing elements of a log, 1 to 128.
+#[derive(Clone, Copy, Debug, PartialEq, Eq)]
+pub struct PeCount {
+    pes: u8,
+}
+
+impl Model for PeCount {
+    ghost Value = { ℕ };
+
+    ghost view = { λ n. n.pes };
+
+    ghost invariant = { (λ n. (1 ≤ n.pes) × (n.pes ≤ 128)) };
+
+    ghost inverse = { λ n. record { pes = n } };
+}
+
+impl PeCount {
+    /// So many PEs.
+    pub fn new(pes: u8) -> PeCount
+        requires some { 1 ≤ pes }
+        requires within { pes ≤ 128 }
+        ensures { result ≡ pes }
+    {
+        PeCount { pes }
+    }
+
+    /// The number, 1 to 128.
+    pub fn get(self) -> u8
+        ensures value { result ≡ self }
+        ensures some { 1 ≤ self }
+        ensures within { self ≤ 128 }
+    {
+        self.pes
+    }
+}
+
 /// A set of processing elements, of numbers 0 to 127. Contracts speak of it by its points alone,
 /// `pe_in mask p`.
 #[derive(Clone, Copy, Debug)]
@@ -73,13 +109,11 @@ impl PeMask {
     }
 
     /// The set of the first n PEs.
-    pub fn all(n: u8) -> PeMask
-        requires some { 1 ≤ n }
-        requires within { n ≤ 128 }
+    pub fn all(n: PeCount) -> PeMask
         ensures { (p : ℕ) → pe_in result p ≡ nat_lt p n }
     {
         PeMask {
-            bits: u128::MAX >> (128 - n),
+            bits: u128::MAX >> (128 - n.pes),
         }
     }
 
@@ -125,9 +159,7 @@ impl PeMask {
     }
 
     /// Whether each of the first n PEs is in the set.
-    pub fn has_all(self, n: u8) -> bool
-        requires some { 1 ≤ n }
-        requires within { n ≤ 128 }
+    pub fn has_all(self, n: PeCount) -> bool
         ensures { result ≡ every_pe n (λ p. pe_in self p) }
     {
         PeMask::all(n).minus(self).is_empty()

@@ -13,7 +13,7 @@ use crate::parts::ReplayState;
 use bbm_barriers::{Dsb, is_non};
 use bbm_events::Header;
 use bbm_place_map::PlaceMap;
-use bbm_regimes::Pe;
+use bbm_regimes::{Pe, PeCount};
 use bbm_replay_roots::{law_barriers, law_others};
 
 /// Whether the DSB publishes nothing, since TLBs may share entries and its domain is the non-shareable one.
@@ -24,9 +24,7 @@ fn is_silent(header: &Header, dsb: Dsb) -> bool
 }
 
 /// The DSB of the PE publishes its writes, unless it is silent.
-fn publish(map: &mut PlaceMap, silent: bool, pe: Pe, dsb: Dsb, n: u8)
-    requires some { 1 ≤ n }
-    requires within { n ≤ 128 }
+fn publish(map: &mut PlaceMap, silent: bool, pe: Pe, dsb: Dsb, n: PeCount)
     requires pe_below { pe < n }
     ensures published { silent ≡ false → (live : Option Core) (a : ℕ)
         → Published (state_at map.old live a) pe dsb n (state_at map.new live a) }

@@ -7,11 +7,10 @@ ghost use Rattle.bbm_roots.specs.Holds.{hold_in, tag_in};
 ghost use Rattle.bbm_roots.specs.HoldsNew as spec;
 ghost use Rattle.bbm_roots.specs.declared.reading.Reading.{Reading as TheReading};
 
-use crate::count::PeCount;
 use crate::hold::{Holds, is_held_at, is_hold, some_pe, tag_key};
 use crate::load::RootValue;
 use crate::reading::Reading;
-use bbm_regimes::{AsidFrom, Page, Pe, Tag, World};
+use bbm_regimes::{AsidFrom, Page, Pe, PeCount, Tag, World};
 
 /// What is known of the tags that a new value makes readable.
 #[derive(Clone, Copy, Debug)]

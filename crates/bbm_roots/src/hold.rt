@@ -16,11 +16,10 @@ ghost use Rattle.bbm_roots.specs.Readings.{has_tag as spec_has_tag};
 ghost use Rattle.bbm_roots.specs.TagsByRoot.{is_listed, AreListed};
 
 use crate::by_root::{ByRoot, list, unlist};
-use crate::count::PeCount;
 use crate::pending::{Waiting, Waits, answers, slot};
 use crate::reading::Reading;
 use bbm_barriers::Dsb;
-use bbm_regimes::{NoMemory, Page, Pe, PeMask, Tag, same_tag};
+use bbm_regimes::{NoMemory, Page, Pe, PeCount, PeMask, Tag, same_tag};
 use indexmap::IndexMap;
 use std::alloc::Global;
 
@@ -42,7 +41,7 @@ pub struct Held {
 pub fn some_pe(pes: PeMask, n: PeCount) -> bool
     ensures { result ≡ spec.some_pe n (λ p. pe_in pes p) }
 {
-    !pes.and(n.all()).is_empty()
+    !pes.and(PeMask::all(n)).is_empty()
 }
 
 /// Whether the entry is that of the tag and the root.

@@ -89,7 +89,7 @@ fn reached(registers: &Registers, issuer: Pe, broadcast: bool) -> PeMask
     ensures { (p : ℕ) → nat_lt p registers.now.pes ≡ true → pe_in result p ≡ (broadcast || nat_eq p issuer) }
 {
     if broadcast {
-        registers.pes.all()
+        PeMask::all(registers.pes)
     } else {
         PeMask::one(issuer)
     }

@@ -19,7 +19,6 @@
 
 mod anew;
 mod by_root;
-mod count;
 pub mod example;
 mod fault;
 mod hold;

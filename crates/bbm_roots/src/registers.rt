@@ -8,12 +8,11 @@ ghost use Rattle.bbm_regimes.specs.PeMask.{pe_in};
 ghost use Rattle.bbm_roots.specs.Columns.{ChangesLoads, loads_in};
 ghost use Rattle.bbm_roots.specs.RootRegisters.{at_start, newest};
 
-use crate::count::PeCount;
 use crate::load::{self, RootValue, is_first};
 use crate::reading::{Readings, readings, reads_tag};
 use arrayvec::ArrayVec;
 use bbm_events::Header;
-use bbm_regimes::{NoMemory, Page, Pe, PeMask, Reg, Tag, World};
+use bbm_regimes::{NoMemory, Page, Pe, PeCount, PeMask, Reg, Tag, World};
 use std::alloc::Global;
 
 /// The values of one register that may still be in use, the newest first: one that every PE starts with or
@@ -134,7 +133,7 @@ impl Registers {
         let first = new_column(alloc, header.pes)?;
         let second = new_column(alloc, header.pes)?;
         Ok(Registers {
-            pes: PeCount::new(header.pes),
+            pes: header.pe_count(),
             world: header.world,
             first,
             second,

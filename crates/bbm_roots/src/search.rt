@@ -14,10 +14,9 @@ ghost use Rattle.bbm_roots.specs.LeastOf.{IsLeast, IsLeastWith, ReadingUpTo, Tag
 ghost use Rattle.bbm_roots.specs.TagsByRoot.{AreListed};
 
 use crate::by_root::{ByRoot, Tags};
-use crate::count::PeCount;
 use crate::hold::{Held, Holds, some_pe, tag_key};
 use crate::reading::{Reading, has_other, tag_rank};
-use bbm_regimes::{Page, Tag, same_tag};
+use bbm_regimes::{Page, PeCount, Tag, same_tag};
 use bbm_tlbi_scope::{TagSet, with_tag};
 
 /// Whether the first comes no later than the second: by the root's first page, then by the tag.

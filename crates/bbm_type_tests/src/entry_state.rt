@@ -2,7 +2,7 @@
 
 use bbm_descriptor::Core;
 use bbm_entry_state::{EntryState, break_before_make};
-use bbm_regimes::Pe;
+use bbm_regimes::{Pe, PeCount};
 
 #[test]
 fn nothing_is_left_after_break_before_make(rt: HostRuntime) {
@@ -14,5 +14,5 @@ fn nothing_is_left_after_break_before_make(rt: HostRuntime) {
         contiguous: false,
     };
     let one = Pe::new(1).unwrap();
-    assert!(rt; matches!(break_before_make(core, one, 2), EntryState::Clean));
+    assert!(rt; matches!(break_before_make(core, one, PeCount::new(2)), EntryState::Clean));
 }

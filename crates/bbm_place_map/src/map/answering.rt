@@ -17,13 +17,11 @@ use crate::map::PlaceMap;
 use crate::orders::{Barrier, Issuing};
 use crate::{complete, issue, publish, work};
 use bbm_barriers::Dsb;
-use bbm_regimes::{NoMemory, Pe, PeMask};
+use bbm_regimes::{NoMemory, Pe, PeCount, PeMask};
 
 impl PlaceMap {
-    /// A DSB of the issuer, in a log with `n` PEs, 1 to 128, published its writes. Only the marks change.
-    pub fn publish(&mut self, issuer: Pe, dsb: Dsb, n: u8)
-        requires some { 1 ≤ n }
-        requires within { n ≤ 128 }
+    /// A DSB of the issuer, in a log with `n` PEs, published its writes. Only the marks change.
+    pub fn publish(&mut self, issuer: Pe, dsb: Dsb, n: PeCount)
         requires issuer_below { issuer < n }
         ensures published { (live : Option TheCore) (a : ℕ)
             → Published (state_at self.old live a) issuer dsb n (state_at self.new live a) }
@@ -42,11 +40,9 @@ impl PlaceMap {
         );
     }
 
-    /// A DSB of the issuer, in a log with `n` PEs, 1 to 128, answered its TLBIs. A place that is cleansed at every PE
+    /// A DSB of the issuer, in a log with `n` PEs, answered its TLBIs. A place that is cleansed at every PE
     /// isn't broken any more, and nothing waits there. Whether such a place was broken over a table.
-    pub fn complete(&mut self, issuer: Pe, dsb: Dsb, n: u8) -> bool
-        requires some { 1 ≤ n }
-        requires within { n ≤ 128 }
+    pub fn complete(&mut self, issuer: Pe, dsb: Dsb, n: PeCount) -> bool
         ensures completed { (a : ℕ) → Completed (state_at self.old None a) (pends_at self.old issuer a) dsb n
             (state_at self.new None a) (pends_at self.new issuer a) }
         ensures others { (q a : ℕ) (b : Bool) (c : TheCover) (p : ℕ) → nat_eq q issuer ≡ false
