@@ -27,17 +27,16 @@ quiet_of {w} {cells} {entries} listed wide q j =
     known_or w.waiting.items q wide j (IsQuiet wide (pends_for cells entries q j)) (listed.idle wide q j)
 
 -- what the lists of a log with n PEs have, or is told, is quiet, or is unclean
-listed_by : {w : Work} {cells : List ℕ} {entries : List Entry} (n : ℕ) → w.pes ≡ n → 1 ≤ n → n ≤ 128
+listed_by : {w : Work} {cells : List ℕ} {entries : List Entry} (n : ℕ) → w.pes ≡ n → 1 ≤ n
     → ((wide : Bool) (q j : ℕ) (marks : Marks) → q < n → marks_in cells entries j ≡ Some marks
     → HoldsFor w.unpublished.items q wide j ⊎ IsTold wide n q marks)
     → ((wide : Bool) (q j : ℕ) → HoldsFor w.waiting.items q wide j ⊎ IsQuiet wide (pends_for cells entries q j))
     → (w.settled ≡ true → (j : ℕ) (marks : Marks) → marks_in cells entries j ≡ Some marks → is_clean n marks ≡ false)
     → Listed w cells entries
-listed_by {w} {cells} {entries} n pes some most told quiet settled =
+listed_by {w} {cells} {entries} n pes some told quiet settled =
     let P : ℕ → Type 0 = λ m. Listed (record w { pes = m }) cells entries in
     subst P (sym pes) (record {
       some = some;
-      most = most;
       told = λ wide q j marks below is. or_known w.unpublished.items q wide j (IsTold wide n q marks) (told wide q j marks below is);
       idle = λ wide q j. or_known w.waiting.items q wide j (IsQuiet wide (pends_for cells entries q j)) (quiet wide q j);
       settled = settled;
@@ -48,25 +47,25 @@ no_marks entries none None marks is = none-some marks is
 no_marks entries none (Some k) marks is = none-some marks (sym (ap (λ (es : List Entry). marks_of (slice_get es k)) none) ∙ is)
 
 -- where nothing is broken there is nothing to do
-pub listed_none : (w : Work) (cells : List ℕ) (entries : List Entry) (n : ℕ) → w.pes ≡ n → 1 ≤ n → n ≤ 128 → entries ≡ []
+pub listed_none : (w : Work) (cells : List ℕ) (entries : List Entry) (n : ℕ) → w.pes ≡ n → 1 ≤ n → entries ≡ []
     → Listed w cells entries
-listed_none w cells entries n pes some most none =
-    listed_by n pes some most
+listed_none w cells entries n pes some none =
+    listed_by n pes some
     (λ wide q j marks below is. absurd (no_marks entries none (slot_in cells j) marks is))
     (λ wide q j. inr (quiet_from wide (pends_for cells entries q j) (none_kept q cells entries none (Some j))))
     (λ settled j marks is. absurd (no_marks entries none (slot_in cells j) marks is))
 
 -- a log with so many PEs begins
-pub listed_begun : (w w' : Work) (n broken : ℕ) (cells : List ℕ) (entries : List Entry) → 1 ≤ n → n ≤ 128 → w'.pes ≡ n → broken ≡ length entries
+pub listed_begun : (w w' : Work) (n broken : ℕ) (cells : List ℕ) (entries : List Entry) → 1 ≤ n → w'.pes ≡ n → broken ≡ length entries
     → (w' ≡ w) ⊎ ((broken ≡ 0) ⊎ GivesUp w') → Listed w cells entries → Listed w' cells entries
-listed_begun w w' n broken cells entries some most pes number kept listed =
+listed_begun w w' n broken cells entries some pes number kept listed =
     elim kept [
       | inl same ↦ subst (λ (x : Work). Listed x cells entries) (sym same) listed
       | inr changed ↦
           elim changed [
-            | inl none ↦ listed_none w' cells entries n pes some most (nil_from_length entries (sym number ∙ none))
+            | inl none ↦ listed_none w' cells entries n pes some (nil_from_length entries (sym number ∙ none))
             | inr up ↦
-                listed_by n pes some most (λ wide q j marks below is. inl (up.0 wide q j)) (λ wide q j. inl (up.1 wide q j))
+                listed_by n pes some (λ wide q j marks below is. inl (up.0 wide q j)) (λ wide q j. inl (up.1 wide q j))
                 (λ settled j marks is. absurd (up.2 settled))
           ]
     ]
@@ -78,7 +77,7 @@ pub listed_fewer : (w : Work) (lists lists' : Vec WorkList Global) (cells cells'
     → ((j : ℕ) → (entry_in cells' entries' j ≡ None) ⊎ (entry_in cells' entries' j ≡ entry_in cells entries j))
     → Listed w cells entries → Listed (record w { unpublished = lists; waiting = lists' }) cells' entries'
 listed_fewer w lists lists' cells cells' entries entries' unpublished waiting stays listed =
-    listed_by w.pes refl listed.some listed.most
+    listed_by w.pes refl listed.some
     (λ wide q j marks below is. either (told_of listed wide q j marks below (were (stays j) is)) (unpublished wide q j) (λ told. told))
     (λ wide q j.
     elim (stays j) [
@@ -103,7 +102,7 @@ pub listed_broken : (w w' : Work) (cells cells' : List ℕ) (entries entries' : 
     → ((q i : ℕ) → pends_for cells' entries' q i ≡ pends_for cells entries q i)
     → Listed w cells entries → Listed w' cells' entries'
 listed_broken w w' cells cells' entries entries' j marks before pes was told kept waiting settled unclean marks_are pends_are listed =
-    listed_by w.pes pes listed.some listed.most
+    listed_by w.pes pes listed.some
     (λ wide q i m below.
     at (λ x y. HoldsFor w'.unpublished.items q wide x ⊎ IsTold wide w.pes q y) (here wide q below)
     (λ x y is. either (told_of listed wide q x y below is) (kept wide q x) (λ old. old)) i m)
@@ -184,7 +183,7 @@ module _ (w : Work) (lists : Vec WorkList Global) (by : Barrier) (cells : List �
 
   pub listed_published : Listed (record w { unpublished = lists }) cells entries'
   listed_published =
-      listed_by w.pes refl listed.some listed.most told_then
+      listed_by w.pes refl listed.some told_then
       (λ wide q j. subst (λ (x : Pends). HoldsFor w.waiting.items q wide j ⊎ IsQuiet wide x)
       (sym (by_cell (λ o p. pends_of q p ≡ pends_of q o) refl (λ e f h. ap (λ (v : SmallVec Pending). pends_in v.items q) h.0) j))
       (quiet_of listed wide q j))
@@ -201,7 +200,7 @@ pub listed_completed : (w : Work) (lists : Vec WorkList Global) (by : Barrier) (
     → ((wide : Bool) (q j : ℕ) → q ≢ by.issuer → HoldsFor w.waiting.items q wide j → HoldsFor lists.items q wide j)
     → Listed w cells entries → Listed (record w { settled = true; waiting = lists }) cells' entries'
 listed_completed w lists by cells cells' entries entries' number each known others listed =
-    listed_by w.pes refl listed.some listed.most
+    listed_by w.pes refl listed.some
     (λ wide q j marks below. told_completed by wide w.pes q (HoldsFor w.unpublished.items q wide j) (entry_in cells entries j)
     (entry_in cells' entries' j) (each j) (λ m. told_of listed wide q j m below) marks)
     (λ wide q j.
@@ -224,7 +223,7 @@ listed_changed : (w : Work) (lists : Vec WorkList Global) (cells : List ℕ) (en
     → HoldsFor lists.items q wide j ⊎ (IsQuiet wide (pends_for cells entries q j) → IsQuiet wide (pends_for cells entries' q j)))
     → Listed w cells entries → Listed (record w { waiting = lists }) cells entries'
 listed_changed w lists cells entries entries' kept marks_are waits_are listed =
-    listed_by w.pes refl listed.some listed.most
+    listed_by w.pes refl listed.some
     (λ wide q j marks below is. told_of listed wide q j marks below (sym (marks_are j) ∙ is))
     (λ wide q j.
     elim (waits_are wide q j) [

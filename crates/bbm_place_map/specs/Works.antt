@@ -81,7 +81,6 @@ GivesUp work =
 -- reaches the PE alone does; and where all is settled no place waits to leave.
 pub record Listed (work : Work) (cells : List ℕ) (entries : List Entry) : Type 0 where
   pub some : 1 ≤ work.pes
-  pub most : work.pes ≤ 128
   pub told : (wide : Bool) (q j : ℕ) (marks : Marks) → q < work.pes → marks_in cells entries j ≡ Some marks
       → holds_for work.unpublished.items q wide j ≡ false → IsTold wide work.pes q marks
   pub idle : (wide : Bool) (q j : ℕ) → holds_for work.waiting.items q wide j ≡ false

@@ -271,10 +271,11 @@ fn renew(work: &mut Work, n: PeCount, given_up: bool)
 /// these.
 #[inline(always)]
 pub fn begin(work: &mut Work, n: PeCount, broken: usize)
+    ensures some { 1 ≤ n }
     ensures pes { work.new.pes ≡ n }
     ensures kept { (work.new ≡ work.old) ⊎ ((broken ≡ 0) ⊎ GivesUp work.new) }
 {
-    if work.pes != n {
+    if work.pes.get() != n.get() {
         renew(work, n, broken != 0);
     }
 }

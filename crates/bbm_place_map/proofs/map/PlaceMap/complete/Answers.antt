@@ -10,14 +10,14 @@ use Rattle.bbm_place_map.specs.Map.{marks_at, pends_at}
 use Rattle.bbm_place_map.proofs.map.PlaceMap.complete.Goals as goal
 
 pub complete-lost-requires-clause-known : goal.complete-lost-requires-clause-known
-complete-lost-requires-clause-known c = λ wide. quiet_of (listed_begun c.args.self.now.work c.begin.new.work c.args.n c.len.result c.args.self.now.cells.items c.args.self.now.broken.items c.requires.some c.requires.within
+complete-lost-requires-clause-known c = λ wide. quiet_of (listed_begun c.args.self.now.work c.begin.new.work c.args.n c.len.result c.args.self.now.cells.items c.args.self.now.broken.items c.begin.ensures.some
     c.begin.ensures.pes (omega (arith, c.len.ensures)) c.begin.ensures.kept c.args.self.now.listed) wide c.args.issuer
 
 pub complete-lost-requires-clause-settled : goal.complete-lost-requires-clause-settled
 complete-lost-requires-clause-settled c =
     let P : ℕ → Type 0 = λ x. c.begin.new.work.settled ≡ true → (j : ℕ) (marks : Marks)
     → marks_in c.args.self.now.cells.items c.args.self.now.broken.items j ≡ Some marks → is_clean x marks ≡ false in
-    subst P c.begin.ensures.pes (listed_begun c.args.self.now.work c.begin.new.work c.args.n c.len.result c.args.self.now.cells.items c.args.self.now.broken.items c.requires.some c.requires.within
+    subst P c.begin.ensures.pes (listed_begun c.args.self.now.work c.begin.new.work c.args.n c.len.result c.args.self.now.cells.items c.args.self.now.broken.items c.begin.ensures.some
     c.begin.ensures.pes (omega (arith, c.len.ensures)) c.begin.ensures.kept c.args.self.now.listed).settled
 
 pub invariant_of-self-2 : goal.invariant_of-self-2
@@ -30,7 +30,7 @@ invariant_of-self-2 c =
     (still.placed (starts (get nat_eq self.pages) self.parts.items) self.placed)
     (listed_completed c.begin.new.work c.complete-lost.new.lists (barrier c.args.issuer c.args.dsb c.args.n) self.cells.items
     c.complete-lost.new.cells.items self.broken.items c.complete-lost.new.broken.items c.begin.ensures.pes e.completed.each e.known e.kept_lists
-    (listed_begun self.work c.begin.new.work c.args.n c.len.result self.cells.items self.broken.items c.requires.some c.requires.within
+    (listed_begun self.work c.begin.new.work c.args.n c.len.result self.cells.items self.broken.items c.begin.ensures.some
     c.begin.ensures.pes (omega (arith, c.len.ensures)) c.begin.ensures.kept self.listed))
 
 pub returns-then-is_empty-clause-completed : goal.returns-then-is_empty-clause-completed

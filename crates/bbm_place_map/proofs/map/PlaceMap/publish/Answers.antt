@@ -16,7 +16,7 @@ publish-requires-clause-known c = λ wide.
     told_entry c.args.self.now.cells.items c.args.self.now.broken.items c.args.self.now.linked (HoldsFor c.begin.new.work.unpublished.items c.args.issuer wide) wide c.args.n c.args.issuer
     (let P : ℕ → Type 0 = λ x. (j : ℕ) (marks : Marks) → c.args.issuer < x → marks_in c.args.self.now.cells.items c.args.self.now.broken.items j ≡ Some marks
     → HoldsFor c.begin.new.work.unpublished.items c.args.issuer wide j ⊎ IsTold wide x c.args.issuer marks in
-    λ j marks is. subst P c.begin.ensures.pes (told_of (listed_begun c.args.self.now.work c.begin.new.work c.args.n c.len.result c.args.self.now.cells.items c.args.self.now.broken.items c.requires.some c.requires.within
+    λ j marks is. subst P c.begin.ensures.pes (told_of (listed_begun c.args.self.now.work c.begin.new.work c.args.n c.len.result c.args.self.now.cells.items c.args.self.now.broken.items c.begin.ensures.some
     c.begin.ensures.pes (omega (arith, c.len.ensures)) c.begin.ensures.kept c.args.self.now.listed) wide c.args.issuer)
     j marks c.requires.issuer_below is)
 
@@ -32,7 +32,7 @@ invariant_of-self-2 c =
     (listed_published c.begin.new.work c.publish.new.lists by self.cells.items self.broken.items new.items c.begin.ensures.pes
     all.each c.publish.ensures.known c.publish.ensures.others
     (linked_seated self.broken.items new.items positions self.cells.items all.size.len self.linked)
-    (listed_begun self.work c.begin.new.work c.args.n c.len.result self.cells.items self.broken.items c.requires.some c.requires.within
+    (listed_begun self.work c.begin.new.work c.args.n c.len.result self.cells.items self.broken.items c.begin.ensures.some
     c.begin.ensures.pes (omega (arith, c.len.ensures)) c.begin.ensures.kept self.listed))
 
 pub returns-clause-published : goal.returns-clause-published
