@@ -35,9 +35,9 @@ pub use Rattle.bbm_replay.specs.declared.parts.ReplayState.{ReplayState}
 pub use Rattle.bbm_replay.specs.declared.tlbi_cover.Covering.{Covering}
 pub use Rattle.bbm_replay_entries.specs.EntryEvents.{touches}
 pub use Rattle.bbm_replay_entries.specs.EntryStands.{EntryStands}
-pub use Rattle.bbm_replay_roots.specs.RootsByNumber.{nth_root_in}
-pub use Rattle.bbm_replay_roots.specs.declared.named.NamedTlbi.{NamedTlbi}
-pub use Rattle.bbm_replay_roots.specs.declared.state.RootState.{RootState}
+pub use Rattle.bbm_roots.specs.Listed.{nth_in}
+pub use Rattle.bbm_roots.specs.declared.named.NamedTlbi.{NamedTlbi}
+pub use Rattle.bbm_roots.specs.declared.roots.Roots.{Roots}
 pub use Rattle.bbm_replay_trees.specs.Judging.{Judging}
 pub use Rattle.bbm_replay_trees.specs.Told.{AllFit, SameCores, View, is_held_by, kept, notes}
 pub use Rattle.bbm_rules.specs.Answers.{takes_no_memory}

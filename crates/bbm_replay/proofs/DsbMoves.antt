@@ -11,7 +11,8 @@ use Rattle.bbm_replay_entries.specs.EntryEvents.{Heard}
 use Rattle.bbm_replay_trees.specs.Told.{core_at, next_in}
 use Rattle.bbm_place_map.specs.MapCalls.{lost_table}
 use Rattle.bbm_place_map.specs.Each.{loses_table}
-use Rattle.bbm_replay_roots.specs.RootStateStands as roots
+use Rattle.bbm_roots.specs.RootChanges as changes
+use Rattle.bbm_roots.specs.RootsStand as roots
 use Rattle.bbm_replay.proofs.Moves.{Completes, Hears, Leaves, SamePages, SameTracked}
 use Rattle.bbm_replay.proofs.Aparts.{apart_leaves, apart_same, was_there}
 use Rattle.bbm_replay.proofs.Cases.{either, some_or}
@@ -211,9 +212,9 @@ module _ (laws : (heading : Heading) → Laws heading) (old : ReplayState) (m1 m
       tracking = record { tracked = λ p. refl; known = λ p. refl; pages = refl };
     }
 
-  pub dsb_meets : (new : ReplayState) → MayMeet old (Dsb pe dsb) → SameFrame old new → roots.BarriersPass
-      → ((heading : Heading) (h : List Event) → roots.StateStands old.roots heading h
-      → roots.StateStands new.roots heading (Dsb pe dsb ∷ h))
+  pub dsb_meets : (new : ReplayState) → MayMeet old (Dsb pe dsb) → SameFrame old new → changes.BarriersPass
+      → ((heading : Heading) (h : List Event) → roots.Stands old.roots heading h
+      → roots.Stands new.roots heading (Dsb pe dsb ∷ h))
       → ((p : ℕ) → is_tracked m2 p ≡ is_tracked old.map p)
       → (((a : ℕ) → node_in old.index (page_of a) ≡ None → marks_at m2 a ≡ None)
       → (((a : ℕ) → lost_table m1 m2 a ≡ false)

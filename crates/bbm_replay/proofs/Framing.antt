@@ -4,7 +4,7 @@ use Rattle.bbm_replay.proofs.Common.{IsFrugal, waits, Pends, PlaceMap, TreeIndex
 use Rattle.bbm_replay.proofs.Common.{PartsStand, view_of, ReplayState, StepFault, NoMemory, Told}
 use Rattle.bbm_rules.proofs.Common.{Some, ◌≡◌, ℕ, true, false, List, ◌∷◌, None, Result, Ok, Err, sym, ◌∙◌, ap, subst}
 use Rattle.bbm_rules.proofs.Common.{fits_heading, Answers, rewrites, limit_of, Patterns, Heading, Event}
-use Rattle.bbm_replay_roots.specs.RootStateStands as roots
+use Rattle.bbm_roots.specs.RootsStand as roots
 use Rattle.bbm_replay.proofs.Moves.{Same}
 use Rattle.bbm_replay.proofs.Quiet.{told_same}
 
@@ -12,7 +12,7 @@ use Rattle.bbm_replay.proofs.Quiet.{told_same}
 pub meets_ok : {old new : ReplayState} (e : Event) {u : Unit {0}} → MayMeet old e → SameFrame old new
     → ((heading : Heading) (h : List Event) → PartsStand old heading h → fits_heading heading e ≡ true
     → (broken heading Patterns h e ≡ None) × (limit_of h e ≡ None) × Told heading (e ∷ h) (view_of new.map new.index)
-    × roots.StateStands new.roots heading (e ∷ h)) → Meets old new e (Ok u)
+    × roots.Stands new.roots heading (e ∷ h)) → Meets old new e (Ok u)
 meets_ok {old = old} e m frame next = record {
   judged = λ heading h s. let n = next heading h s (fits heading h s) in (n.0, n.1);
   taken = λ heading h s.
@@ -55,7 +55,7 @@ meets_broken p e rule at k = record { judged = k; taken = tt; unchanged = λ hea
 
 pub stands_still : ((heading : Heading) → Laws heading) → (old new : ReplayState) → SameFrame old new
     → Same (view_of old.map old.index) (view_of new.map new.index)
-    → (heading : Heading) (h : List Event) → PartsStand old heading h → roots.StateStands new.roots heading h → PartsStand new heading h
+    → (heading : Heading) (h : List Event) → PartsStand old heading h → roots.Stands new.roots heading h → PartsStand new heading h
 stands_still laws old new frame same heading h s roots = record {
   header = frame.header ∙ s.header;
   index_header = frame.index_header ∙ s.index_header;

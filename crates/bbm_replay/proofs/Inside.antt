@@ -2,7 +2,7 @@
 use Rattle.bbm_replay.proofs.Common.{node_in, broken, marks_at, pends_at, value_at, SamePages, SameTracked, fresh_in}
 use Rattle.bbm_replay.proofs.Common.{Judging, Written, WritesAs, waits, IsIdle, Pends, EntryState, same_kind, NoLock}
 use Rattle.bbm_replay.proofs.Common.{BreakBeforeMake, LimboMake, NotFresh, BadKind, GlobalUser, Broken, limbo_by, Path}
-use Rattle.bbm_replay.proofs.Common.{PlaceMap, TreeIndex, state_at, RootState, View, notes, Laws, attached_next}
+use Rattle.bbm_replay.proofs.Common.{PlaceMap, TreeIndex, state_at, Roots, View, notes, Laws, attached_next}
 use Rattle.bbm_replay.proofs.Common.{is_contiguous_core, is_global_core, step_fault, TreeFault, Rules, Admitted}
 use Rattle.bbm_replay.proofs.Common.{core_in, Kind, WritesTree, IsAt, Links, IsUnlocked, MayAdmit, Meets, PartsStand}
 use Rattle.bbm_replay.proofs.Common.{SameFrame, view_of, Told, state_of, ReplayState}
@@ -17,7 +17,8 @@ use Rattle.bbm_rules.proofs.TreeLaw.{table_level}
 use Rattle.bbm_rules.specs.Answers.{is_written}
 use Rattle.bbm_replay_trees.specs.Told.{core_at}
 use Rattle.bbm_descriptor.specs.Descriptor as descriptor
-use Rattle.bbm_replay_roots.specs.RootStateStands as roots
+use Rattle.bbm_roots.specs.RootChanges as root_changes
+use Rattle.bbm_roots.specs.RootsStand as roots
 use Rattle.bbm_tree_index.specs.Attaching as index
 use Rattle.bbm_tree_index.specs.IndexChanges as changes
 use Rattle.bbm_tree_index.specs.Paths as index_paths
@@ -50,7 +51,7 @@ attaches_next held d next k = grind arith
 
 module _ (rules : (heading : Heading) → Rules heading) {old : ReplayState} {pe place v : ℕ} {path : Path}
     (tree : WritesTree old pe place v path) {x : ℕ} (same : x ≡ place) {lock : Option ℕ}
-    (lock_is : (heading : Heading) (h : List Event) → roots.StateStands old.roots heading h
+    (lock_is : (heading : Heading) (h : List Event) → roots.Stands old.roots heading h
     → lock ≡ option_and_then (λ l. if_so (lacks h pe l) x) (lock_of h path.first)) where
   no_lock_is : (heading : Heading) (h : List Event) → PartsStand old heading h
       → no_lock heading Patterns (notes heading h) (Write pe place v) ≡ lock
@@ -302,7 +303,7 @@ module _ (laws : (heading : Heading) → Laws heading) (rules : (heading : Headi
 
   -- ---- the value is written
 
-  module _ (others : roots.OthersStand) (mid : ReplayState)
+  module _ (others : root_changes.OthersStand) (mid : ReplayState)
       (done : Admitted old mid pe place v (attached_next held new))
       (map : PlaceMap) (live : Option Core) (live_is : live ≡ core_of path.kind path.level (value_at old.map place))
       (writes : WritesAs (state_at mid.map live place) pe new v place mid.map map)
@@ -332,7 +333,7 @@ module _ (laws : (heading : Heading) → Laws heading) (rules : (heading : Headi
           done.kept heading h s,
           (rules heading).limits.others h e refl,
           told heading h s fits (attached_next held new) refl done.links,
-          subst (λ (r : RootState). roots.StateStands r heading (e ∷ h)) (sym done.same_roots)
+          subst (λ (r : Roots). roots.Stands r heading (e ∷ h)) (sym done.same_roots)
               (others old.roots heading h e s.roots refl (done.kept heading h s)),
         ))
       where

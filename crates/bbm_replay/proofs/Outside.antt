@@ -6,7 +6,7 @@ use Rattle.bbm_rules.proofs.Common.{◌≡◌, ℕ, ◌%◌, Bool, true, false, 
 use Rattle.bbm_rules.proofs.Common.{◌∙◌, ap, Patterns, if_so, page_of, Heading, Event, Breach, Write, Option}
 use Rattle.std.proofs.Math.Bool.{and_assoc}
 use Rattle.bbm_entry_state.specs.declared.state.EntryState.TheVariants as state
-use Rattle.bbm_replay_roots.specs.RootStateStands as roots
+use Rattle.bbm_roots.specs.RootChanges as changes
 use Rattle.bbm_replay.proofs.Framing.{meets_ok, meets_broken}
 use Rattle.bbm_replay.proofs.Moves.{Writes}
 use Rattle.bbm_replay.proofs.Judging.{found, write_is}
@@ -58,7 +58,7 @@ module _ (laws : (heading : Heading) → Laws heading) (rules : (heading : Headi
     outside_rewritten k = meets_broken old (Write pe place v) RewrittenFresh place
         (λ heading h s. rw (write_breaks heading h s, real, fresh, k) refl)
 
-    module _ (k : rewritten ≡ false) (others : roots.OthersStand) (map : PlaceMap) (put : Puts v place old.map map)
+    module _ (k : rewritten ≡ false) (others : changes.OthersStand) (map : PlaceMap) (put : Puts v place old.map map)
         (marks : (a : ℕ) → marks_at map a ≡ marks_at old.map a)
         (pends : (q a : ℕ) → pends_at map q a ≡ pends_at old.map q a)
         (idle : (q a : ℕ) → marks_at map a ≡ None → IsIdle (pends_at map q a)) where

@@ -10,7 +10,9 @@ use Rattle.bbm_tree_index.specs.Index.{known_in, pages_in}
 use Rattle.bbm_replay_trees.specs.Told.{is_at}
 use Rattle.bbm_tree_index.specs.HeldCores.{leaves}
 use Rattle.bbm_tree_index.specs.IndexChanges.{TakesOut}
-use Rattle.bbm_replay_roots.specs.RootStateStands as roots
+use Rattle.bbm_roots.specs.RootChanges as changes
+use Rattle.bbm_roots.specs.RootJudgements as judges
+use Rattle.bbm_roots.specs.RootsStand as roots
 use Rattle.bbm_tree_index.specs.declared.fault.TreeFault.TheVariants as tree
 use Rattle.bbm_replay.proofs.Moves.{Begins, Leaves, Nullifies, Same}
 use Rattle.bbm_replay.proofs.Aparts.{apart, apart_begins, apart_leaves, apart_nullifies, was_there}
@@ -114,7 +116,7 @@ module _ (rules : (heading : Heading) → Rules heading) (old : ReplayState) (pe
     null_nonzero k = meets_broken old (Null pe page) PageInUse page (λ heading h s. null_breaks heading h s (Some page)
         ((rules heading).on_pages.null_used h (view_of old.map old.index) pe page k.0 s.told.values k.1 k.2))
 
-module _ (laws : (heading : Heading) → Laws heading) (rules : (heading : Heading) → Rules heading) (others : roots.OthersStand)
+module _ (laws : (heading : Heading) → Laws heading) (rules : (heading : Heading) → Rules heading) (others : changes.OthersStand)
     (old : ReplayState) (map : PlaceMap) (index : TreeIndex) (same_heading : heading_of index ≡ heading_of old.index)
     (pe page : ℕ) where
   abbrev became : ReplayState
@@ -199,20 +201,20 @@ leaves_of old new before after keeps outside out =
 module _ (laws : (heading : Heading) → Laws heading) (rules : (heading : Heading) → Rules heading) (old : ReplayState)
     (pe page : ℕ) (m : MayMeet old (Unroot pe page)) where
   pub unroot_err : (fault : StepFault)
-      → ((heading : Heading) (h : List Event) → roots.StateStands old.roots heading h
-      → roots.Judges (Err fault) (broken heading Patterns h (Unroot pe page))) → Meets old old (Unroot pe page) (Err fault)
+      → ((heading : Heading) (h : List Event) → roots.Stands old.roots heading h
+      → judges.Judges (Err fault) (broken heading Patterns h (Unroot pe page))) → Meets old old (Unroot pe page) (Err fault)
   unroot_err fault judged = meets_err (Unroot pe page) fault (λ heading h s.
       answers (Err fault) _ _ (judged heading h s.roots) ((rules heading).limits.others h (Unroot pe page) refl))
       (λ heading h s. s) (λ heading h s. (refl, refl))
 
   pub unroot_ok : (new : ReplayState)
-      → ((heading : Heading) (h : List Event) → roots.StateStands old.roots heading h
+      → ((heading : Heading) (h : List Event) → roots.Stands old.roots heading h
       → broken heading Patterns h (Unroot pe page) ≡ None)
       → SameFrame old new
       → ((heading : Heading) (h : List Event) → PartsStand old heading h
       → Leaves (view_of old.map old.index) (view_of new.map new.index) (λ n. not (n.root == page)))
-      → ((heading : Heading) (h : List Event) → roots.StateStands old.roots heading h
-      → broken heading Patterns h (Unroot pe page) ≡ None → roots.StateStands new.roots heading (Unroot pe page ∷ h))
+      → ((heading : Heading) (h : List Event) → roots.Stands old.roots heading h
+      → broken heading Patterns h (Unroot pe page) ≡ None → roots.Stands new.roots heading (Unroot pe page ∷ h))
       → Meets old new (Unroot pe page) (Ok tt)
   unroot_ok new unbroken frame move taken = meets_ok (Unroot pe page) m frame (λ heading h s fits.
       let kept = unbroken heading h s.roots in (

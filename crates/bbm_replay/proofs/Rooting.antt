@@ -1,7 +1,8 @@
 -- A root that is declared, at the parts.
 use Rattle.bbm_replay.proofs.Common.{broken, marks_at, pends_at, value_at, fresh_in, heading_of, Judging, IsIdle, Kind}
 use Rattle.bbm_replay.proofs.Common.{kind_in_world, WrongWorld, NotFresh, BadKind, GlobalUser, PageInUse, StepFault}
-use Rattle.bbm_replay.proofs.Common.{Broken, Limit, NoMemory, PlaceMap, TreeIndex, TreeFault, RootState, notes}
+use Rattle.bbm_replay.proofs.Common.{Broken, Limit, NoMemory, PlaceMap, TreeIndex, TreeFault, notes}
+use Rattle.bbm_roots.specs.declared.roots.Roots.{Roots as TheRoots}
 use Rattle.bbm_replay.proofs.Common.{step_fault, Laws, Rules, MayMeet, Meets, SameFrame, PartsStand, view_of}
 use Rattle.bbm_replay.proofs.Common.{ReplayState}
 use Rattle.bbm_rules.proofs.Common.{◌≡◌, ℕ, true, false, not, List, ◌∷◌, length, Option, Some, None, filter, Result, Ok}
@@ -14,7 +15,7 @@ use Rattle.bbm_tree_index.specs.declared.role.Attach.{Attach}
 use Rattle.bbm_tree_index.specs.Attaching as index
 use Rattle.bbm_tree_index.specs.IndexChanges as changes
 use Rattle.bbm_tree_index.specs.declared.role.Attach.TheVariants as attach
-use Rattle.bbm_replay_roots.specs.RootStateStands as roots
+use Rattle.bbm_roots.specs.RootsStand as roots
 use Rattle.bbm_replay.proofs.RootPages.{named_fresh}
 use Rattle.bbm_replay.proofs.Moves.{Attaches, SameMap, SameTracked}
 use Rattle.bbm_replay.proofs.Cases.{either}
@@ -92,11 +93,11 @@ module _ (laws : (heading : Heading) → Laws heading) (rules : (heading : Headi
       pub root_used : (at : ℕ) → unfresh old kind page ≡ Some at → Meets old old e (Err (Broken PageInUse at))
       root_used at k = meets_broken old e PageInUse at (λ heading h s. passed heading h s (Some at) k)
 
-      module _ (none : unfresh old kind page ≡ None) (ready : RootState) (same : (heading : Heading) (h : List Event)
-          → roots.StateStands old.roots heading h → roots.StateStands ready heading h) where
+      module _ (none : unfresh old kind page ≡ None) (ready : TheRoots) (same : (heading : Heading) (h : List Event)
+          → roots.Stands old.roots heading h → roots.Stands ready heading h) where
         -- there is no room for the root
         pub root_full : (fault : StepFault)
-            → ((heading : Heading) (h : List Event) → roots.StateStands old.roots heading h
+            → ((heading : Heading) (h : List Event) → roots.Stands old.roots heading h
             → (fault ≡ Limit Roots) → limit_of h e ≡ Some Roots)
             → ((fault ≡ Limit Roots → ⊥) → fault ≡ NoMemory) → Meets old (with_roots old ready) e (Err fault)
         root_full fault full else_none = meets_err e fault
@@ -112,12 +113,12 @@ module _ (laws : (heading : Heading) → Laws heading) (rules : (heading : Headi
 
         -- there is, and the pages are attached
         pub root_ok : (new : ReplayState) → MayMeet old e → SameFrame old new
-            → ((heading : Heading) (h : List Event) → roots.StateStands old.roots heading h → limit_of h e ≡ Some Roots → ⊥)
+            → ((heading : Heading) (h : List Event) → roots.Stands old.roots heading h → limit_of h e ≡ Some Roots → ⊥)
             → SameMap (view_of old.map old.index) (view_of new.map new.index)
             → Attaches (view_of old.map old.index) (view_of new.map new.index) (starts (heading_of old.index) kind page)
             → ((q a : ℕ) → marks_at new.map a ≡ None → IsIdle (pends_at new.map q a))
-            → ((heading : Heading) (h : List Event) → roots.StateStands ready heading h → broken heading Patterns h e ≡ None
-            → roots.StateStands new.roots heading (e ∷ h))
+            → ((heading : Heading) (h : List Event) → roots.Stands ready heading h → broken heading Patterns h e ≡ None
+            → roots.Stands new.roots heading (e ∷ h))
             → Meets old new e (Ok tt)
         root_ok new m frame room map attached idle taken = meets_ok e m frame (λ heading h s fits.
             let kept = unbroken none heading h s in (

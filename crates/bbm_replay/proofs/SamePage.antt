@@ -1,6 +1,6 @@
 -- A TLBI that names no pages covers the broken places of a page alike.
 use Rattle.bbm_replay.proofs.Common.{Path, path_at, core_in, Marks, state_from, is_global_core, node_in, marks_at}
-use Rattle.bbm_replay.proofs.Common.{value_at, PlaceMap, lacks_vmid, TreeIndex, NamedTlbi, RootState, notes}
+use Rattle.bbm_replay.proofs.Common.{value_at, PlaceMap, lacks_vmid, TreeIndex, NamedTlbi, Roots, notes}
 use Rattle.bbm_replay.proofs.Common.{MayBeIssued}
 use Rattle.bbm_rules.proofs.Common.{◌≡◌, ℕ, Option, Some, None, is_some, option_and_then, refl, Core, Desc, is_global}
 use Rattle.bbm_rules.proofs.Common.{next_in, arith, Bool, cond, true, false, List, sym, ◌∙◌, ap, true≢false, core_of}
@@ -42,7 +42,7 @@ by_path path table global childless tags = record {
 }
 
 module _ {heading : Heading} {h : List Event} (ev : events_of (notes heading h) ≡ h) {map : PlaceMap} {index : TreeIndex}
-    {state : RootState} {pe : ℕ} {op : TlbiOp} {xt : ℕ} {named : NamedTlbi}
+    {state : Roots} {pe : ℕ} {op : TlbiOp} {xt : ℕ} {named : NamedTlbi}
     (m : MayBeIssued heading h map index state pe op xt named) where
   abbrev pub by_view : ℕ → Node → ℕ → PlaceView
   by_view a n v = by_path (path_at n a) (is_some (next_of n.kind n.level v)) (is_global (desc_of n.kind n.level v))

@@ -1,5 +1,5 @@
 -- A TLBI of pages that names none of those that the places of a page translate covers none of these.
-use Rattle.bbm_replay.proofs.Common.{node_in, input_pages, PlaceMap, TreeIndex, RootState, NamedTlbi, MayBeIssued}
+use Rattle.bbm_replay.proofs.Common.{node_in, input_pages, PlaceMap, TreeIndex, Roots, NamedTlbi, MayBeIssued}
 use Rattle.bbm_replay.proofs.Common.{notes}
 use Rattle.bbm_rules.proofs.Common.{◌≡◌, ℕ, ◌+◌, ◌-◌, ◌*◌, ◌/◌, ◌<◌, ◌≤◌, nat_le, true, false, List, Some, sym, ◌∙◌, ap}
 use Rattle.bbm_rules.proofs.Common.{subst, arith, and_left, Extent, names_some, has_page, Patterns, cover_at, events_of}
@@ -45,7 +45,7 @@ module _ (n : Node) (a lo hi i : ℕ) (from : lo ≡ n.base + index_of a * input
     far at above wide = omega (arith, start_is, width_is, above, wide)
 
 pub place_unnamed : {heading : Heading} {h : List Event} (ev : events_of (notes heading h) ≡ h) {map : PlaceMap}
-    {index : TreeIndex} {state : RootState} {pe : ℕ} {op : TlbiOp} {xt : ℕ} {named : NamedTlbi}
+    {index : TreeIndex} {state : Roots} {pe : ℕ} {op : TlbiOp} {xt : ℕ} {named : NamedTlbi}
     → MayBeIssued heading h map index state pe op xt named → has_page named.scope.family ≡ true → (n : Node) (a : ℕ)
     → node_in index (page_of a) ≡ Some n → names_some named.scope.interval (region_of n a) ≡ false
     → cover_at heading Patterns (notes heading h) (Tlbi pe op xt) a ≡ NoCover

@@ -1,14 +1,14 @@
 -- TLBIs: what stands after one, in a view and at the parts.
 use Rattle.bbm_replay.proofs.Common.{pe_in, broken, Noted, is_broken, Marks, EntryState, EntryStands, View, notes, Laws}
 use Rattle.bbm_replay.proofs.Common.{Told, state_of, waiting, is_tracked, marks_at, pends_at, value_at, waits, IsIdle}
-use Rattle.bbm_replay.proofs.Common.{Pends, state_from, PlaceMap, RootState, Rules, MayMeet, Meets, PartsStand, view_of}
+use Rattle.bbm_replay.proofs.Common.{Pends, state_from, PlaceMap, Roots, Rules, MayMeet, Meets, PartsStand, view_of}
 use Rattle.bbm_replay.proofs.Common.{ReplayState}
 use Rattle.bbm_rules.proofs.Common.{◌≡◌, ℕ, ◌<◌, true, false, ◌&&◌, nat_eq, List, ◌∷◌, Option, Some, None, is_some}
 use Rattle.bbm_rules.proofs.Common.{refl, ap, subst, inl, core_of, PeMask, operation, fits_heading, Patterns, cover_at}
 use Rattle.bbm_rules.proofs.Common.{page_of, Heading, Event, Tlbi, TlbiOp, reaches, Node, and-false, not, ◌||◌, Ok, sym}
 use Rattle.bbm_rules.proofs.Common.{◌∙◌}
 use Rattle.bbm_lemmas.proofs.Bools.{second_false}
-use Rattle.bbm_replay_roots.specs.RootStateStands as roots
+use Rattle.bbm_roots.specs.RootsStand as roots
 use Rattle.bbm_replay.proofs.Moves.{Issues}
 use Rattle.bbm_replay.proofs.DsbMoves.{broken_marks, same_state}
 use Rattle.bbm_replay.proofs.Cases.{some_or, either}
@@ -53,8 +53,8 @@ module _ {heading : Heading} (laws : Laws heading) {h : List Event} {old : View}
       move.value move.marks move.nodes move.roles move.tracking entry
 
 pub tlbi_meets : ((heading : Heading) → Laws heading) → ((heading : Heading) → Rules heading) → (old : ReplayState) (map : PlaceMap)
-    (r : RootState) (pe : ℕ) (op : TlbiOp) (xt : ℕ) → MayMeet old (Tlbi pe op xt)
-    → ((heading : Heading) (h : List Event) → roots.StateStands old.roots heading h → broken heading Patterns h (Tlbi pe op xt) ≡ None)
+    (r : Roots) (pe : ℕ) (op : TlbiOp) (xt : ℕ) → MayMeet old (Tlbi pe op xt)
+    → ((heading : Heading) (h : List Event) → roots.Stands old.roots heading h → broken heading Patterns h (Tlbi pe op xt) ≡ None)
     → (reach : PeMask) → ((p : ℕ) → p < old.header.pes
     → pe_in reach p ≡ ((operation op).broadcast || (not old.header.cnp && nat_eq pe p)))
     → ((heading : Heading) (h : List Event) → PartsStand old heading h → (a : ℕ) → is_some (marks_at old.map a) ≡ true
@@ -65,7 +65,7 @@ pub tlbi_meets : ((heading : Heading) → Laws heading) → ((heading : Heading)
     → ((q a : ℕ) → marks_at map a ≡ None → IsIdle (pends_at map q a))
     → ((a : ℕ) → value_at map a ≡ value_at old.map a) → ((a : ℕ) → marks_at map a ≡ marks_at old.map a)
     → ((p : ℕ) → is_tracked map p ≡ is_tracked old.map p)
-    → ((heading : Heading) (h : List Event) → PartsStand old heading h → roots.StateStands r heading (Tlbi pe op xt ∷ h))
+    → ((heading : Heading) (h : List Event) → PartsStand old heading h → roots.Stands r heading (Tlbi pe op xt ∷ h))
     → Meets old (record old { map = map; roots = r }) (Tlbi pe op xt) (Ok tt)
 tlbi_meets laws rules old map r pe op xt m unbroken reach reached noted others idle idle' values marks pages taken =
     meets_ok (Tlbi pe op xt) m (record { header = refl; index_header = refl }) (λ heading h s fits. (

@@ -1,6 +1,6 @@
 -- A broken place that isn't met on the way down to an input page isn't covered by a TLBI of that page.
 use Rattle.bbm_replay.proofs.Common.{node_in, marks_at, pe_in, Noted, waits, Marks, Pends, EntryState, Heading}
-use Rattle.bbm_replay.proofs.Common.{PlaceMap, input_pages, is_sound, IsWay, core_at, TreeIndex, RootState, notes}
+use Rattle.bbm_replay.proofs.Common.{PlaceMap, input_pages, is_sound, IsWay, core_at, TreeIndex, Roots, notes}
 use Rattle.bbm_replay.proofs.Common.{MayBeIssued, NamedTlbi, Laws, MetFromAll, NamesOne, covers_kind, view_of}
 use Rattle.bbm_rules.proofs.Common.{◌≡◌, ℕ, zero, suc, ◌+◌, ◌-◌, ◌*◌, ◌%◌, ◌<◌, ◌≤◌, ◌&&◌, ◌||◌, nat_le, Bool, true}
 use Rattle.bbm_rules.proofs.Common.{false, cond, List, [], length, Option, Some, None, Contains, slice_index_or}
@@ -77,7 +77,7 @@ noted_none state p reach broadcast b c q = sym (by c)
     by Full = or_nothing (same_bool broadcast b) (pe_in reach q) (waits p b Full q)
 
 module _ {heading : Heading} {h : List Event} (ev : events_of (notes heading h) ≡ h) {map : PlaceMap} {index : TreeIndex}
-    {state : RootState} {pe : ℕ} {op : TlbiOp} {xt : ℕ} {named : NamedTlbi}
+    {state : Roots} {pe : ℕ} {op : TlbiOp} {xt : ℕ} {named : NamedTlbi}
     (m : MayBeIssued heading h map index state pe op xt named) where
   -- a place isn't covered where the scope covers no view of its kind and region
   pub cover_none : (n : Node) (a : ℕ) → node_in index (page_of a) ≡ Some n
@@ -94,7 +94,7 @@ module _ {heading : Heading} {h : List Event} (ev : events_of (notes heading h) 
       unheld e = cc (ev, m.names, node, e)
 
 module _ {heading : Heading} (laws : Laws heading) {h : List Event} (starts : Starts heading)
-    (ev : events_of (notes heading h) ≡ h) {map : PlaceMap} {index : TreeIndex} {state : RootState} {pe : ℕ} {op : TlbiOp}
+    (ev : events_of (notes heading h) ≡ h) {map : PlaceMap} {index : TreeIndex} {state : Roots} {pe : ℕ} {op : TlbiOp}
     {xt : ℕ} {named : NamedTlbi} (m : MayBeIssued heading h map index state pe op xt named) where
   module _ (aligned : (a : ℕ) → is_some (marks_at map a) ≡ true → a % 8 ≡ 0) (at : ℕ)
       (one : NamesOne named.scope at) (Has : ℕ → Type 0)

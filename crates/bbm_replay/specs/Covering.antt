@@ -26,9 +26,9 @@ use Rattle.bbm_tree_index.specs.Index.{node_in}
 use Rattle.bbm_tree_index.specs.Nodes.{path_at}
 use Rattle.bbm_tree_index.specs.declared.index.TreeIndex.{TreeIndex}
 use Rattle.bbm_tree_index.specs.declared.role.Path.{Path}
-use Rattle.bbm_replay_roots.specs.RootStateStands as roots
-use Rattle.bbm_replay_roots.specs.declared.named.NamedTlbi.{NamedTlbi}
-use Rattle.bbm_replay_roots.specs.declared.state.RootState.{RootState}
+use Rattle.bbm_roots.specs.RootsStand as roots
+use Rattle.bbm_roots.specs.declared.named.NamedTlbi.{NamedTlbi}
+use Rattle.bbm_roots.specs.declared.roots.Roots.{Roots}
 use Rattle.bbm_rules.specs.Claims.Trust.{Patterns}
 use Rattle.bbm_rules.specs.Covers.{cover_at}
 use Rattle.bbm_rules.specs.Places.{page_of}
@@ -46,10 +46,10 @@ abbrev pub IsBrokenOver : PlaceMap → ℕ → Core → Type 0
 IsBrokenOver map place core = (marks : Marks) × (marks_at map place ≡ Some marks) × (marks.core ≡ core)
 
 -- The map, the index and the roots stand for the history, and this is what the TLBI names with the VMID of its issuer.
-pub record MayBeIssued (heading : Heading) (h : List Event) (map : PlaceMap) (index : TreeIndex) (state : RootState)
+pub record MayBeIssued (heading : Heading) (h : List Event) (map : PlaceMap) (index : TreeIndex) (state : Roots)
     (pe : ℕ) (op : TlbiOp) (xt : ℕ) (named : NamedTlbi) : Type 0 where
   pub told : Told heading h (view_of map index)
-  pub stands : roots.StateStands state heading h
+  pub stands : roots.Stands state heading h
   pub names : named_scope heading h pe op xt ≡ Some named.scope
   pub vmid_is : named.vmid ≡ vmid_of heading h pe
 

@@ -9,7 +9,7 @@ use Rattle.bbm_tree_index.specs.HeldCores.{next_in}
 use Rattle.bbm_tree_index.specs.Index.{SameTracked, fresh_in, heading_of, known_in, node_in, null_in, pages_in}
 use Rattle.bbm_tree_index.specs.IndexChanges.{Attaches}
 use Rattle.bbm_tree_index.specs.declared.index.TreeIndex.{TreeIndex}
-use Rattle.bbm_replay_roots.specs.RootStateStands as roots
+use Rattle.bbm_roots.specs.RootsStand as roots
 use Rattle.bbm_events.specs.Fits.{fits_heading}
 use Rattle.bbm_rules.specs.Answers.{Answers, rewrites, takes_no_memory}
 use Rattle.bbm_rules.specs.Broken.{broken}
@@ -50,7 +50,7 @@ pub record PartsStand (parts : ReplayState) (heading : Heading) (h : List Event)
   pub header : parts.header ≡ heading
   pub index_header : heading_of parts.index ≡ heading
   pub told : Told heading h (view_of parts.map parts.index)
-  pub roots : roots.StateStands parts.roots heading h
+  pub roots : roots.Stands parts.roots heading h
 
 -- they stand for a history of the event's header
 abbrev pub MayMeet : ReplayState → Event → Type 0

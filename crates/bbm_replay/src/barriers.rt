@@ -14,7 +14,7 @@ use bbm_barriers::{Dsb, is_non};
 use bbm_events::Header;
 use bbm_place_map::PlaceMap;
 use bbm_regimes::{Pe, PeCount};
-use bbm_replay_roots::{law_barriers, law_others};
+use bbm_roots::{law_barriers, law_others};
 
 /// Whether the DSB publishes nothing, since TLBs may share entries and its domain is the non-shareable one.
 fn is_silent(header: &Header, dsb: Dsb) -> bool

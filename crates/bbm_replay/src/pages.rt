@@ -12,7 +12,7 @@ use crate::laws::{laws, rules};
 use crate::parts::ReplayState;
 use bbm_place_map::PlaceMap;
 use bbm_regimes::{Kind, Page, Pe};
-use bbm_replay_roots::law_others;
+use bbm_roots::law_others;
 use bbm_rules::{Rule, StepFault};
 use std::alloc::Global;
 

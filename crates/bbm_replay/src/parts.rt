@@ -6,7 +6,7 @@ ghost use Rattle.bbm_replay.specs.ReplayStanding.{MayMeet, Meets, PartsStand};
 use bbm_events::{Event, Header};
 use bbm_place_map::PlaceMap;
 use bbm_regimes::NoMemory;
-use bbm_replay_roots::RootState;
+use bbm_roots::Roots;
 use bbm_rules::StepFault;
 use bbm_tree_index::TreeIndex;
 use std::alloc::Global;
@@ -22,7 +22,7 @@ pub struct ReplayState {
     /// What each page is used for.
     pub(crate) index: TreeIndex,
     /// The roots, registers, tags and locks.
-    pub(crate) roots: RootState,
+    pub(crate) roots: Roots,
 }
 
 impl ReplayState {
@@ -32,7 +32,7 @@ impl ReplayState {
     {
         header.in_ranges();
         let index = TreeIndex::new(alloc, header);
-        let roots = RootState::new(alloc, header)?;
+        let roots = Roots::new(alloc, header)?;
         Ok(ReplayState {
             header: *header,
             map: PlaceMap::new(alloc),

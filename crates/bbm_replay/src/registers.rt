@@ -5,13 +5,13 @@ ghost use Rattle.bbm_events.specs.Heading.{Heading};
 ghost use Rattle.bbm_events.specs.declared.event.Event.{Event};
 ghost use Rattle.bbm_events.specs.declared.event.Event.TheVariants.{Isb, Lock, Msr, Unlock};
 ghost use Rattle.std.specs.Prelude.{Ok};
-ghost use Rattle.bbm_replay_roots.specs.NullBases.{has_null_base};
+ghost use Rattle.bbm_roots.specs.RootRegisters.{has_null_base};
 ghost use Rattle.bbm_replay.specs.ReplayStanding.{MayMeet, Meets, PartsStand};
 
 use crate::laws::laws;
 use crate::parts::ReplayState;
 use bbm_regimes::{Page, Pe, Reg, base_of};
-use bbm_replay_roots::law_barriers;
+use bbm_roots::law_barriers;
 use bbm_rules::StepFault;
 use std::alloc::Global;
 

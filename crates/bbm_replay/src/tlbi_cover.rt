@@ -15,7 +15,7 @@ use crate::laws::laws;
 use bbm_events::Header;
 use bbm_place_map::{Found, PlaceMap};
 use bbm_regimes::{NoMemory, Pe, PeMask};
-use bbm_replay_roots::{NamedTlbi, RootState};
+use bbm_roots::{NamedTlbi, Roots};
 use bbm_replay_trees::starts::law_starts;
 use bbm_rules::law_notes_keep_the_events;
 use bbm_tree_index::TreeIndex;
@@ -33,7 +33,7 @@ pub(crate) struct Covering<'a> {
     /// What each page is used for.
     pub(crate) index: &'a TreeIndex,
     /// The roots, and the tags that they hold.
-    pub(crate) roots: &'a RootState,
+    pub(crate) roots: &'a Roots,
     /// What the TLBI names.
     pub(crate) named: &'a NamedTlbi,
 }

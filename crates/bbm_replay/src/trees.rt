@@ -76,10 +76,8 @@ impl ReplayState {
         }
         self.map.law_idle();
         self.index.attach_prepared(&prepared);
-        match self.roots.declare(alloc, kind, page, lock) {
-            Ok(()) => Ok(()),
-            Err(_) => Err(StepFault::NoMemory),
-        }
+        self.roots.declare(kind, page, lock);
+        Ok(())
     }
 
     /// A root is retired.

@@ -22,7 +22,7 @@ use crate::parts::ReplayState;
 use bbm_descriptor::{Core, core};
 use bbm_place_map::{PlaceMap, Position};
 use bbm_regimes::{Kind, Page, Pe, Place};
-use bbm_replay_roots::law_others;
+use bbm_roots::law_others;
 use bbm_rules::{Rule, StepFault};
 use bbm_tree_index::{Attach, Path, next_of};
 use std::alloc::Global;

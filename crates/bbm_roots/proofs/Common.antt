@@ -2,18 +2,19 @@
 pub use Rattle.indexmap.specs.IndexMap.{IndexMap, get, index_map_len, values}
 pub use Rattle.std.proofs.Common.{Bool, BuildHasherDefault, FoldHasher, HashMap, IsSome, List, None, Option, Some, []}
 pub use Rattle.std.proofs.Common.{ap, arith, cond, false, get_or, is_some, length, nat_eq, nat_le, nat_lt, not, refl}
-pub use Rattle.std.proofs.Common.{rules, set, subst, suc, sym, take, true, zero, ℕ, ⊎_elim, ◌&&◌, ◌++◌, ◌+◌, ◌<◌, ◌==◌}
+pub use Rattle.std.proofs.Common.{rules, set, slice_index_or, subst, suc, sym, take, true, zero, ℕ, ⊎_elim, ◌&&◌, ◌++◌, ◌+◌, ◌<◌, ◌==◌}
 pub use Rattle.std.proofs.Common.{◌||◌, ◌∙◌, ◌∷◌, ◌≡◌, ◌≤◌, Result, map}
 pub use Rattle.std.proofs.Math.Bool.{or_assoc}
 pub use Rattle.std.proofs.Math.Dec.{eqb-suc-suc, eqb-suc-zero, eqb-zero-suc}
 pub use Rattle.std.proofs.Math.Path.{fun_ext}
-pub use Rattle.std.proofs.lemmas.Bool.{cases_lt, eq-eqb, eqb-true, false≢true, lt-ltb, ltb-true, not-true, or_left}
+pub use Rattle.std.proofs.lemmas.Bool.{cases_lt, eq-eqb, eqb-true, false≢true, lt-ltb, ltb-true, not-false, not-true}
+pub use Rattle.std.proofs.lemmas.Bool.{or_left}
 pub use Rattle.std.proofs.lemmas.Bool.{or_right, true_from_ne_false}
 pub use Rattle.std.proofs.lemmas.Bool.Decides.{nat_tests}
 pub use Rattle.std.proofs.lemmas.List.{take_all}
 pub use Rattle.std.proofs.lemmas.List.Folds.{list_any-append}
 pub use Rattle.std.proofs.lemmas.Option.{get_or_from_slice_get}
-pub use Rattle.std.specs.List.{flat_map, list_any, slice_get}
+pub use Rattle.std.specs.List.{flat_map, list_all, list_any, slice_get}
 pub use Rattle.std.specs.Map.{lookup}
 pub use Rattle.std.specs.Option.{option_and_then}
 pub use mathlib.Core.Bool.{and-false, and-true, or-false}
@@ -23,7 +24,6 @@ pub use Rattle.bbm_events.specs.Heading.{Heading}
 pub use Rattle.bbm_events.specs.declared.event.Event.{Event}
 pub use Rattle.bbm_events.specs.declared.event.Event.TheVariants.{Tlbi, Msr, Dsb as ADsb, Root, Unroot}
 pub use Rattle.bbm_histories.specs.HistorySteps.{is_tlbi, tag_waits, tag_waits_after}
-pub use Rattle.bbm_histories.specs.TagSteps.{BasesStay}
 pub use Rattle.bbm_lemmas.proofs.Bools.{first_none, first_true, second_none}
 pub use Rattle.bbm_lemmas.proofs.Elements.{any_found, any_finds}
 pub use Rattle.bbm_lemmas.proofs.Numbers.{same_swapped}
@@ -32,6 +32,7 @@ pub use Rattle.bbm_lemmas.proofs.Tautologies.Claim.{If, Is}
 pub use Rattle.bbm_lemmas.proofs.Tests.{any_and, any_both, any_same}
 pub use Rattle.bbm_lemmas.proofs.Words.{pe_finds, pe_found, pe_none}
 pub use Rattle.bbm_lemmas.specs.ListWords.{same_flag}
+pub use Rattle.bbm_locks.specs.Holders.{holder_at}
 pub use Rattle.bbm_regimes.specs.PeMask.{pe_in}
 pub use Rattle.bbm_regimes.specs.Registers.{base_of, tag_number}
 pub use Rattle.bbm_regimes.specs.World.{kind_in_world}
@@ -54,14 +55,15 @@ pub use Rattle.bbm_roots.specs.LeastOf.{IsLeast, ReadingUpTo, TagUpTo, UpTo}
 pub use Rattle.bbm_roots.specs.LoadsOf.{readings_after, other_loads, reads_at}
 pub use Rattle.bbm_roots.specs.Readings.{asid_readings, has_other, has_reading, has_tag, is_of_tag, is_other}
 pub use Rattle.bbm_roots.specs.Readings.{is_reading, own_reading, reading_at, reading_under, readings_of, readings_with}
-pub use Rattle.bbm_roots.specs.Readings.{reads_tag, same_tag, tag_of}
-pub use Rattle.bbm_roots.specs.Refusals.{conflicts, is_other_number, missing_root, other_number}
-pub use Rattle.bbm_roots.specs.RootChanges.{Writes, Issues, TakesWhere}
+pub use Rattle.bbm_roots.specs.Readings.{numbered, reads_tag, same_tag, tag_of}
+pub use Rattle.bbm_roots.specs.Refusals.{conflicts, missing_root}
+pub use Rattle.bbm_roots.specs.RootChanges.{Writes, TakesWhere}
+pub use Rattle.bbm_roots.specs.RootLaws.{Laws}
 pub use Rattle.bbm_roots.specs.RootPendings.{has_pending, has_wait, pending_in, slot_of, unread_at, wait_at, wait_bit}
 pub use Rattle.bbm_roots.specs.RootPendings.{wait_in}
 pub use Rattle.bbm_roots.specs.RootRegisters.{at_start, first_reg, is_first, is_that, kind_of_reg, names_null, names_in}
 pub use Rattle.bbm_roots.specs.RootRegisters.{newest, root_of, same_reg, second_reg, uses, load_in, loads_after}
-pub use Rattle.bbm_roots.specs.RootRegisters.{root_in, NullNamesNone}
+pub use Rattle.bbm_roots.specs.RootRegisters.{has_null_base, root_in}
 pub use Rattle.bbm_roots.specs.RootsStand.{Stands, pes_of, world_of}
 pub use Rattle.bbm_roots.specs.TagsByRoot.{is_listed, AreListed}
 pub use Rattle.bbm_roots.specs.declared.hold.Held.{Held}

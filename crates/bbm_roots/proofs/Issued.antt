@@ -1,7 +1,7 @@
 -- A TLBI of a history, by what it names.
 use Rattle.bbm_roots.proofs.Common.{same_swapped, ◌≡◌, ℕ, Bool, true, false, not, ◌&&◌, ◌||◌, ◌==◌, nat_eq, arith}
 use Rattle.bbm_roots.proofs.Common.{Result, TlbiOp, Scope, Heading, Event, Tlbi, reaches, named_scope, takes_tag}
-use Rattle.bbm_roots.proofs.Common.{is_tlbi, Issues, Option, Some, None, refl, ap, List, Tag, takes_whole_tag}
+use Rattle.bbm_roots.proofs.Common.{is_tlbi, Option, Some, None, refl, ap, List, Tag, takes_whole_tag}
 use Rattle.bbm_roots.proofs.Common.{same_flag}
 use Rattle.std.specs.Result.{result_ok}
 use Rattle.bbm_descriptor.specs.Descriptor.{same_bool}
@@ -48,6 +48,11 @@ pub takes-none : (heading : Heading) (h : List Event) (pe : ℕ) (op : TlbiOp) (
     → named_scope heading h pe op xt ≡ None → takes_tag heading (Tlbi pe op xt) h tag ≡ false
 takes-none heading h pe op xt tag e =
     ap (λ (x : Option Scope). elim x [ None ↦ false | Some scope ↦ takes_whole_tag scope (vmid_of heading h pe) tag ]) e
+
+-- after the history a TLBI of the PE names this scope, under this VMID, and reaches some PE
+abbrev pub Issues : Heading → List Event → ℕ → TlbiOp → ℕ → Scope → Option ℕ → Type 0
+Issues heading h pe op xt scope vmid = (named_scope heading h pe op xt ≡ Some scope) × (vmid ≡ vmid_of heading h pe)
+    × ((scope.broadcast || not heading.cnp) ≡ true)
 
 -- a TLBI that reaches some PE reaches p where it is broadcast or p issued it
 pub issue-is : (heading : Heading) (h : List Event) (pe : ℕ) (op : TlbiOp) (xt : ℕ) (scope : Scope) (vmid : Option ℕ)

@@ -10,9 +10,11 @@ pub mod RootLists
 pub mod Conflicts
 pub mod Entries
 pub mod TagLists
+pub mod Judge
+pub mod RegisterWrites
 pub mod Taken
 pub mod Settled
 pub mod Numbers
-pub mod Callers
+pub mod Unroots
 pub mod Others
 pub mod Changes

@@ -4,19 +4,23 @@ use Rattle.bbm_roots.proofs.Common.{TlbiOp, Scope, Heading, Event, Tlbi, Pattern
 use Rattle.bbm_roots.proofs.Common.{register_values, roots_of, loses, takes_tag, is_tlbi, tag_waits, tag_waits_after}
 use Rattle.bbm_roots.proofs.Common.{loads_after, sym, ◌∙◌, ap, false≢true, proved, If, Is, Reg, Tag, first_reg}
 use Rattle.bbm_roots.proofs.Common.{second_reg, Stands, Roots, and-false}
-use Rattle.bbm_events.specs.declared.event.Event.TheVariants.{Dmb, Init, Lock, Null, Unlock, Write}
+use Rattle.bbm_events.specs.declared.event.Event.TheVariants.{Dmb, Init, Null, Write}
+use Rattle.bbm_locks.specs.Holders.{holder_at}
+use Rattle.bbm_rules.specs.Broken.{broken}
+use Rattle.bbm_rules.specs.Locks.{holder_of}
 use Rattle.bbm_roots.specs.RootChanges.{concerns}
 use Rattle.bbm_roots.proofs.Issued.{named-broadcast, takes-none}
 use Rattle.bbm_roots.proofs.Steps.{kept-stands}
 
 module _ {roots : Roots} {heading : Heading} {h : List Event} (s : Stands roots heading h) where
-  left : (e : Event) → ((p : ℕ) (reg : Reg) → loads_after (e ∷ h) p reg ≡ loads_after h p reg) →
+  left : (e : Event) → broken heading Patterns h e ≡ None →
+      ((lock : ℕ) → holder_at roots.locks lock ≡ holder_of (e ∷ h) lock) → ((p : ℕ) (reg : Reg) → loads_after (e ∷ h) p reg ≡ loads_after h p reg) →
       ((p : ℕ) (reg : Reg) → register_values (e ∷ h) p reg ≡ register_values h p reg) → roots_of (e ∷ h) ≡ roots_of h →
       ((g : Tag) (p : ℕ) → loses heading Patterns p g e h ≡ false) →
       ((q : ℕ) (b : Bool) (g : Tag) (p : ℕ) → tag_waits_after heading p g q b e h ≡ tag_waits heading p g q b h) →
       Stands roots heading (e ∷ h)
-  left e loads values same none waits =
-      kept-stands roots s e refl refl refl (λ p. loads p (first_reg heading.world)) (λ p. loads p (second_reg heading.world))
+  left e keeps holders loads values same none waits =
+      kept-stands roots s e keeps refl holders refl refl refl (λ p. loads p (first_reg heading.world)) (λ p. loads p (second_reg heading.world))
       values none waits (λ page. rw same (s.declared page)) (rw same s.count) (λ known page. rw same (s.locks known page))
 
   -- a TLBI that reaches no PE, or names no scope
@@ -38,13 +42,16 @@ module _ {roots : Roots} {heading : Heading} {h : List Event} (s : Stands roots 
           ∙ proved 4 (λ x n d t. If (Is (x || n) false) (Is ((x || (n && d)) && t) false)) refl scope.broadcast
           (not heading.cnp) (pe == p) (takes_tag heading (Tlbi pe op xt) h g) k
 
-  pub others : (e : Event) → concerns heading h e ≡ false → Stands roots heading (e ∷ h)
-  others (Init pe page) k = left (Init pe page) (λ p reg. refl) (λ p reg. refl) refl (λ g p. refl) (λ q b g p. refl)
-  others (Null pe page) k = left (Null pe page) (λ p reg. refl) (λ p reg. refl) refl (λ g p. refl) (λ q b g p. refl)
-  others (Write pe at v) k = left (Write pe at v) (λ p reg. refl) (λ p reg. refl) refl (λ g p. refl) (λ q b g p. refl)
-  others (Dmb pe dsb) k = left (Dmb pe dsb) (λ p reg. refl) (λ p reg. refl) refl (λ g p. refl) (λ q b g p. refl)
-  others (Lock pe lock) k = left (Lock pe lock) (λ p reg. refl) (λ p reg. refl) refl (λ g p. refl) (λ q b g p. refl)
-  others (Unlock pe lock) k = left (Unlock pe lock) (λ p reg. refl) (λ p reg. refl) refl (λ g p. refl) (λ q b g p. refl)
-  others (Tlbi pe op xt) k = left (Tlbi pe op xt) (λ p reg. refl) (λ p reg. refl) refl (λ g p. refl)
+  pub others : (e : Event) → concerns heading h e ≡ false → broken heading Patterns h e ≡ None → Stands roots heading (e ∷ h)
+  others (Init pe page) k keeps =
+      left (Init pe page) keeps s.holders (λ p reg. refl) (λ p reg. refl) refl (λ g p. refl) (λ q b g p. refl)
+  others (Null pe page) k keeps =
+      left (Null pe page) keeps s.holders (λ p reg. refl) (λ p reg. refl) refl (λ g p. refl) (λ q b g p. refl)
+  others (Write pe at v) k keeps =
+      left (Write pe at v) keeps s.holders (λ p reg. refl) (λ p reg. refl) refl (λ g p. refl) (λ q b g p. refl)
+  others (Dmb pe dsb) k keeps =
+      left (Dmb pe dsb) keeps s.holders (λ p reg. refl) (λ p reg. refl) refl (λ g p. refl) (λ q b g p. refl)
+  others (Tlbi pe op xt) k keeps =
+      left (Tlbi pe op xt) keeps s.holders (λ p reg. refl) (λ p reg. refl) refl (λ g p. refl)
       (λ q b g p. unreached pe op xt q b g p k)
-  others e k = absurd (false≢true (sym k))
+  others e k keeps = absurd (false≢true (sym k))

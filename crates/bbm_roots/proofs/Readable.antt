@@ -1,7 +1,8 @@
 -- The readable tags of a history are those of what its readable register values name.
 use Rattle.bbm_roots.proofs.Common.{◌≡◌, ℕ, ◌<◌, ◌≤◌, ⊎_elim, cases_lt, Bool, true, ◌||◌, ◌==◌, List, [], ◌∷◌, arith}
 use Rattle.bbm_roots.proofs.Common.{map, option_and_then, base_of, tag_number, FromTtbr0, FromTtbr1, El2Tag, Ttbr1Tag}
-use Rattle.bbm_roots.proofs.Common.{Heading, Event, register_values, is_root, BasesStay, load_in, loads_after, root_in}
+use Rattle.bbm_histories.specs.TagSteps.{BasesStay}
+use Rattle.bbm_roots.proofs.Common.{Heading, Event, register_values, is_root, load_in, loads_after, root_in}
 use Rattle.bbm_roots.proofs.Common.{or_right, ◌++◌, take, Option, Some, None, refl, sym, ap, ◌∙◌, flat_map, eq-eqb}
 use Rattle.bbm_roots.proofs.Common.{AsidFrom, Kind, El2, S2, Ttbr0, Ttbr1, Reg, Ttbr0El2, VttbrEl2, Ttbr0El1, Ttbr1El1}
 use Rattle.bbm_roots.proofs.Common.{Tag, Vmid, Asid, World, Hyp, Kernel, asid_readings, readings_of, readings_with}

@@ -1,16 +1,20 @@
 -- What one more event does to the tags that are held and to the TLBIs that wait.
 use Rattle.bbm_roots.proofs.Common.{same_swapped, ◌≡◌, ℕ, Bool, true, false, ◌&&◌, ◌||◌, ◌==◌, not, nat_eq, List, arith}
 use Rattle.bbm_roots.proofs.Common.{TlbiOp, Scope, Heading, Event, ADsb, Msr, Tlbi, Patterns, register_values, lock_of}
-use Rattle.bbm_roots.proofs.Common.{root_at, roots_of, holds_at, loses, tag_waits, tag_waits_after, Issues, loads_after}
+use Rattle.bbm_roots.proofs.Common.{root_at, roots_of, holds_at, loses, tag_waits, tag_waits_after, loads_after}
 use Rattle.bbm_roots.proofs.Common.{None, Pendings, Registers, Roots, Stands, first_reg, get, index_map_len, length}
 use Rattle.bbm_roots.proofs.Common.{loads_in, pending_in, second_reg, If, Is, proved, [], ◌∷◌, refl, sym, ◌∙◌, ap}
 use Rattle.bbm_roots.proofs.Common.{Option, false≢true, answers, Dsb, Tag, World, Reg, takes_whole_tag, same_flag}
 use Rattle.bbm_roots.proofs.Common.{has_reading, has_tag, same_tag, Reading, first_true, list_any}
 use Rattle.bbm_rules.specs.Tags as tags
 use Rattle.bbm_rules.specs.Tags.{reads, reads_for_some}
+use Rattle.bbm_histories.proofs.Induction.{kept_next}
 use Rattle.bbm_histories.proofs.StepLemmas.{tag_lost, tag_step}
+use Rattle.bbm_locks.specs.Holders.{holder_at}
+use Rattle.bbm_rules.specs.Broken.{broken}
+use Rattle.bbm_rules.specs.Locks.{holder_of}
 use Rattle.bbm_roots.proofs.Tests.{any-weaker}
-use Rattle.bbm_roots.proofs.Issued.{issue-is}
+use Rattle.bbm_roots.proofs.Issued.{issue-is, Issues}
 use Rattle.bbm_roots.proofs.Readable.{reads-stay, some-stay}
 
 nothing-read : (world : World) (p : ℕ) → tags.readings_in world [] p ≡ []
@@ -156,9 +160,11 @@ module _ (heading : Heading) where
         let unread = waits-unread h q b g p in
         grind (arith)
 
--- Roots that keep the registers, what is held and what waits, after an event that leaves what the values of the registers
--- name, takes no tag away, and neither issues nor answers anything.
+-- Roots that keep the registers, what is held and what waits, after an event that breaks no rule, leaves what the values of
+-- the registers name, takes no tag away, and neither issues nor answers anything.
 pub kept-stands : {old : Roots} (new : Roots) {heading : Heading} {h : List Event} → Stands old heading h → (e : Event) →
+    broken heading Patterns h e ≡ None → new.header ≡ old.header →
+    ((lock : ℕ) → holder_at new.locks lock ≡ holder_of (e ∷ h) lock) →
     new.registers ≡ old.registers → new.holds ≡ old.holds → new.pendings ≡ old.pendings →
     ((p : ℕ) → loads_after (e ∷ h) p (first_reg heading.world) ≡ loads_after h p (first_reg heading.world)) →
     ((p : ℕ) → loads_after (e ∷ h) p (second_reg heading.world) ≡ loads_after h p (second_reg heading.world)) →
@@ -168,10 +174,13 @@ pub kept-stands : {old : Roots} (new : Roots) {heading : Heading} {h : List Even
     ((page : ℕ) → get nat_eq new.declared page ≡ root_at (e ∷ h) page) →
     index_map_len new.declared ≡ length (roots_of (e ∷ h)) →
     (new.names_locks ≡ false → (page : ℕ) → lock_of (e ∷ h) page ≡ None) → Stands new heading (e ∷ h)
-kept-stands new {heading} {h} s e registers holds pendings first second values none waits declared count locks =
+kept-stands new {heading} {h} s e keeps header holders registers holds pendings first second values none waits declared count locks =
     let stay : (g : Tag) (r p : ℕ) → holds_at heading Patterns p r g (e ∷ h) ≡ holds_at heading Patterns p r g h = λ g r p.
     holds-stay heading h e g r p (λ k. sym (reads-stay heading h e p (first p) (second p) g r) ∙ k) (none g p) in
     record {
+      header = header ∙ s.header;
+      proper = s.proper;
+      kept = kept_next heading Patterns h e s.kept keeps;
       pes = ap (λ (r : Registers). r.pes) registers ∙ s.pes;
       world = ap (λ (r : Registers). r.world) registers ∙ s.world;
       first = λ p lt. ap (λ (r : Registers). loads_in r.first.items p) registers ∙ s.first p lt ∙ sym (first p);
@@ -185,4 +194,5 @@ kept-stands new {heading} {h} s e registers holds pendings first second values n
       pendings = λ q b g r p held.
           ap (λ (ps : Pendings). pending_in ps q b g p) pendings ∙ s.pendings q b g r p (sym (stay g r p) ∙ held)
           ∙ sym (waits-stay heading h e q b g p (λ k. sym (some-stay heading h e p (first p) (second p) g) ∙ k) (waits q b g p));
+      holders = holders;
     }

@@ -1,25 +1,35 @@
 -- A register write: roots after one that is taken stand for the history with it, and it is judged as the history says.
 use Rattle.bbm_roots.proofs.Common.{reg_equal, same_swapped, ◌≡◌, ℕ, Bool, true, false, ◌&&◌, not, nat_eq, List, arith}
-use Rattle.bbm_roots.proofs.Common.{base_of, tag_number, kind_in_world, Heading, Event, Msr, readings, NullNamesNone}
+use Rattle.bbm_roots.proofs.Common.{base_of, tag_number, kind_in_world, Heading, Event, Msr, readings, names_null}
 use Rattle.bbm_roots.proofs.Common.{load_in, loads_after, root_in, ◌∷◌, refl, sym, ◌∙◌, ap, cond, Option, None}
 use Rattle.bbm_roots.proofs.Common.{false≢true, eqb-true, Reg, Ttbr0El2, VttbrEl2, Ttbr0El1, Ttbr1El1, World, Hyp}
 use Rattle.bbm_roots.proofs.Common.{Kernel, readings_of, first_reg, second_reg, is_first, same_reg, kind_of_reg}
-use Rattle.bbm_roots.proofs.Common.{root_of, missing_root, RootValue, ◌<◌, ◌≤◌, ◌||◌, Result, register_values}
-use Rattle.bbm_roots.proofs.Common.{TakesWhere, loads_in, Marks, pending_in, has_reading, Writes, Stands, world_of}
+use Rattle.bbm_roots.proofs.Common.{root_of, missing_root, RootValue, ◌<◌, ◌≤◌, ◌||◌, Result, register_values, Laws}
+use Rattle.bbm_roots.proofs.Common.{TakesWhere, loads_in, Marks, pending_in, has_reading, Writes, Stands, has_null_base}
 use Rattle.bbm_roots.proofs.Common.{pes_of, Reading, Roots, length, subst, fun_ext, conflict_in, conflicts}
-use Rattle.bbm_roots.proofs.Common.{readings_after, nat_tests}
+use Rattle.bbm_roots.proofs.Common.{readings_after, nat_tests, first_none, not-false, Patterns, []}
 use Rattle.bbm_roots.proofs.Readable.{readings-same, readings-stay}
 use Rattle.bbm_roots.proofs.Steps.{holds-written, waits-written}
-use Rattle.bbm_roots.specs.Refusals.{JudgesWrite}
-use Rattle.bbm_roots.specs.declared.fault.RootFault.{RootFault}
+use Rattle.std.proofs.Common.{Err, Ok, OnOk}
+use Rattle.bbm_events.specs.Heading.{heading_ok}
+use Rattle.bbm_histories.proofs.Induction.{kept_next}
+use Rattle.bbm_locks.specs.declared.locks.Locks.{Locks}
+use Rattle.bbm_locks.specs.Holders.{holder_at}
+use Rattle.bbm_rules.proofs.Common.{Answers, if_so, limit_of, noted}
+use Rattle.bbm_rules.specs.Broken.{broken}
+use Rattle.bbm_rules.specs.Rules.{asks_to_share, wrong_world}
+use Rattle.bbm_rules.specs.declared.step_fault.StepFault.{StepFault}
+use Rattle.bbm_roots.specs.Refusals.{JudgesReadings}
 use Rattle.bbm_roots.proofs.Conflicts.{conflict-is}
+use Rattle.bbm_roots.proofs.RegisterWrites.{null_names_none, write_judged}
 use Rattle.bbm_roots.proofs.Numbers.{length-loads}
 use Rattle.bbm_roots.specs.LoadsOf.{loads_of}
 use Rattle.bbm_roots.proofs.Changes.{room-same}
 
 -- what a value names, by its parts, where its root isn't missing
 pub load-is : (h : List Event) (number : ℕ) (root : Option ℕ) (reg : Reg) (value : ℕ) (null : Bool) → number ≡ tag_number value →
-    root ≡ root_of reg value null → missing_root h reg value null ≡ None → NullNamesNone h reg value null →
+    root ≡ root_of reg value null → missing_root h reg value null ≡ None →
+    (names_null reg null ≡ true → root_in h (kind_of_reg reg) (base_of value) ≡ None) →
     let load : RootValue = record { number = number; root = root } in load ≡ load_in h reg value
 load-is h number root reg value null same_number same_root there none =
     let same : root_of reg value null ≡ root_in h (kind_of_reg reg) (base_of value) = grind (arith) in
@@ -66,9 +76,11 @@ module _ (heading : Heading) (h : List Event) (pe : ℕ) (reg : Reg) (value : �
       turned : (b : Bool) (xs ys : List RootValue) → cond (not b) xs ys ≡ cond b ys xs
       turned b xs ys = grind (arith)
 
--- The write of a value with this number, which names this root: it isn't missing, and these tags are readable after it.
-module _ (old : Roots) (pe : ℕ) (reg : Reg) (value : ℕ) (null : Bool) (number : ℕ) (root : Option ℕ) (seen : List Reading)
-    (known : pe < pes_of old) (of_world : kind_in_world (world_of old) (kind_of_reg reg) ≡ true)
+-- The write of a value with this number, which names this root: the register is one of the world and the value doesn't ask
+-- to share, the root isn't missing, and these tags are readable after it.
+module _ (laws : (heading : Heading) → Laws heading) (old : Roots) (pe : ℕ) (reg : Reg) (value : ℕ) (null : Bool) (number : ℕ)
+    (root : Option ℕ) (seen : List Reading) (known : pe < pes_of old)
+    (right : (not (kind_in_world old.header.world (kind_of_reg reg)) || asks_to_share old.header Patterns [] value) ≡ false)
     (is_number : number ≡ tag_number value)
     (named : (heading : Heading) (h : List Event) → Stands old heading h → root ≡ root_of reg value null)
     (found : (heading : Heading) (h : List Event) → Stands old heading h → missing_root h reg value null ≡ None)
@@ -76,15 +88,20 @@ module _ (old : Roots) (pe : ℕ) (reg : Reg) (value : ℕ) (null : Bool) (numbe
   abbrev load : RootValue
   load = record { number = number; root = root }
 
-  module _ (heading : Heading) (h : List Event) (stands : Stands old heading h) (none : NullNamesNone h reg value null) where
+  module _ (heading : Heading) (h : List Event) (stands : Stands old heading h) (told : null ≡ has_null_base h value) where
     less : pe < heading.pes
     less = let n = stands.pes in omega (arith, known)
 
+    right_here : (not (kind_in_world heading.world (kind_of_reg reg)) || asks_to_share heading Patterns [] value) ≡ false
+    right_here = ap (λ (g : Heading). not (kind_in_world g.world (kind_of_reg reg)) || asks_to_share g Patterns [] value)
+        (sym stands.header) ∙ right
+
     in_world : kind_in_world heading.world (kind_of_reg reg) ≡ true
-    in_world = ap (λ (w : World). kind_in_world w (kind_of_reg reg)) (sym stands.world) ∙ of_world
+    in_world = not-false (kind_in_world heading.world (kind_of_reg reg)) (first_none _ _ right_here)
 
     is_load : load ≡ load_in h reg value
-    is_load = load-is h number root reg value null is_number (named heading h stands) (found heading h stands) none
+    is_load = load-is h number root reg value null is_number (named heading h stands) (found heading h stands)
+        (null_names_none h reg value null told ((laws heading).bases.null h ((laws heading).proper stands.proper) stands.kept))
 
     here : (p : ℕ) → nat_eq p pe ≡ true → readings heading (Msr pe reg value ∷ h) p ≡ seen
     here p at =
@@ -93,12 +110,15 @@ module _ (old : Roots) (pe : ℕ) (reg : Reg) (value : ℕ) (null : Bool) (numbe
         ∙ rw (← stands.world) (sym is_seen)
 
     stands-taken : (new : Roots) → Writes pe reg load seen old new → Marks old.holds new.holds pe seen →
-        Stands new heading (Msr pe reg value ∷ h)
-    stands-taken new taken marked =
+        broken heading Patterns h (Msr pe reg value) ≡ None → Stands new heading (Msr pe reg value ∷ h)
+    stands-taken new taken marked keeps =
         let written = holds-written heading h pe reg value seen here (elsewhere heading h pe reg value) in
         let ne : (p : ℕ) → heading.pes ≤ p → nat_eq p pe ≡ false = λ p past. let n = stands.pes in grind (arith, nat_tests) in
         let is_in = of_world_is heading.world reg in_world in
         record {
+          header = taken.roots.header ∙ stands.header;
+          proper = stands.proper;
+          kept = kept_next heading Patterns h (Msr pe reg value) stands.kept keeps;
           pes = taken.loads.pes ∙ stands.pes;
           world = taken.loads.world ∙ stands.world;
           first = λ p lt. let after = loads-written h pe reg value p (first_reg heading.world) in
@@ -108,7 +128,7 @@ module _ (old : Roots) (pe : ℕ) (reg : Reg) (value : ℕ) (null : Bool) (numbe
           outside = λ p other past. rw (same_swapped pe p, ne p past) (stands.outside p other past);
           declared = λ q. let d = taken.roots.declared in let s = stands.declared q in cc;
           count = let d = taken.roots.declared in let s = stands.count in cc;
-          locks = λ none. stands.locks (sym taken.roots.locks ∙ none);
+          locks = λ none. stands.locks (sym taken.roots.names ∙ none);
           holds = λ g r p.
               marked g r p
               ∙ ap (λ (b : Bool). b || (nat_eq p pe && has_reading g r seen)) (stands.holds g r p)
@@ -121,17 +141,18 @@ module _ (old : Roots) (pe : ℕ) (reg : Reg) (value : ℕ) (null : Bool) (numbe
               taken.pendings q b g p
               ∙ waits-written heading h pe reg value seen here (elsewhere heading h pe reg value) q b g r p
               (pending_in old.pendings q b g p) held (stands.pendings q b g r p);
+          holders = λ lock. ap (λ (l : Locks). holder_at l lock) taken.roots.locks ∙ stands.holders lock;
         }
 
-    pub write-judged : {A : Type 0} (result : Result A RootFault) →
-        JudgesWrite None (conflict_in old.holds (pes_of old) seen) (length (loads_of old.registers pe reg)) result →
-        JudgesWrite (missing_root h reg value null) (conflicts heading (Msr pe reg value ∷ h) pe)
-        (length (register_values h pe reg)) result
+    pub write-judged : (result : Result (Unit {0}) StepFault) →
+        JudgesReadings (conflict_in old.holds (pes_of old) seen) (length (loads_of old.registers pe reg)) result →
+        Answers result (broken heading Patterns h (Msr pe reg value)) (limit_of h (Msr pe reg value))
     write-judged result k =
-        subst (λ (m : Option ℕ). JudgesWrite m (conflicts heading (Msr pe reg value ∷ h) pe) (length (register_values h pe reg)) result)
-        (sym (found heading h stands))
-        (subst (λ (f : Reading → Bool). JudgesWrite None f (length (register_values h pe reg)) result) conflict
-        (subst (λ (n : ℕ). JudgesWrite None (conflict_in old.holds (pes_of old) seen) n result) count k))
+        write_judged heading (laws heading) ((laws heading).proper stands.proper) h stands.kept pe reg value
+        (ap (λ (b : Bool). if_so b 0) right_here)
+        (ap (missing_root h reg value) (sym told) ∙ found heading h stands) result
+        (subst (λ (f : Reading → Bool). JudgesReadings f (length (register_values h pe reg)) result) conflict
+        (subst (λ (n : ℕ). JudgesReadings (conflict_in old.holds (pes_of old) seen) n result) count k))
       where
         conflict : conflict_in old.holds (pes_of old) seen ≡ conflicts heading (Msr pe reg value ∷ h) pe
         conflict =
@@ -146,9 +167,11 @@ module _ (old : Roots) (pe : ℕ) (reg : Reg) (value : ℕ) (null : Bool) (numbe
 
   pub write-taken : (new : Roots) → Writes pe reg load seen old new →
       ((heading : Heading) (h : List Event) → Stands old heading h → Marks old.holds new.holds pe seen) →
-      TakesWhere (λ heading h. NullNamesNone h reg value null) (Msr pe reg value) old new
-  write-taken new written marked = record {
-    taken = λ heading h stands none. stands-taken heading h stands none new written (marked heading h stands);
-    prepared = room-same old new written.roots.declared;
-    log = record { pes = written.loads.pes; world = written.loads.world };
+      ((heading : Heading) (h : List Event) → Stands old heading h → JudgesReadings {A = Unit {0}}
+      (conflict_in old.holds (pes_of old) seen) (length (loads_of old.registers pe reg)) (Ok tt)) →
+      TakesWhere (λ heading h. null ≡ has_null_base h value) (Msr pe reg value) old new
+  write-taken new written marked clear = record {
+    taken = λ heading h stands told. stands-taken heading h stands told new written (marked heading h stands)
+        (write-judged heading h stands told (Ok tt) (clear heading h stands)).0;
+    room = room-same old new written.roots.declared;
   }

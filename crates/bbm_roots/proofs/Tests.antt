@@ -82,3 +82,30 @@ tags-same test other same Many h = (h.0, h.1, h.2, same h.0 ∙ h.3, same h.1 �
 pub tags-more : (test other : Tag → Bool) → ((g : Tag) → test g ≡ true → other g ≡ true) → HasTags test Many →
     HasTags other Many
 tags-more test other more h = (h.0, h.1, h.2, more h.0 h.3, more h.1 h.4)
+
+-- one tag is not two
+two-of : (test : Tag → Bool) (t : Tag) → HasTags test (One t) → HasTags test Many → ⊥
+two-of test t one two =
+    let a = tag_equal t two.0 (sym (one two.0) ∙ two.3) in
+    let b = tag_equal t two.1 (sym (one two.1) ∙ two.4) in
+    false≢true (sym two.2 ∙ rw (← a, ← b) (tag_self t))
+
+-- only one set says of each tag whether it passes
+set-one : (test : Tag → Bool) (set other : TagSet) → HasTags test set → HasTags test other → set ≡ other
+set-one test NoTag NoTag a b = refl
+set-one test NoTag (One u) a b = absurd (false≢true (sym (a u) ∙ b u ∙ tag_self u))
+set-one test NoTag Many a b = absurd (false≢true (sym (a b.0) ∙ b.3))
+set-one test (One t) NoTag a b = absurd (false≢true (sym (b t) ∙ a t ∙ tag_self t))
+set-one test (One t) (One u) a b = ap (λ (g : Tag). One g) (tag_equal t u (sym (a u) ∙ b u ∙ tag_self u))
+set-one test (One t) Many a b = absurd (two-of test t a b)
+set-one test Many NoTag a b = absurd (false≢true (sym (b a.0) ∙ a.3))
+set-one test Many (One u) a b = absurd (two-of test u b a)
+set-one test Many Many a b = refl
+
+-- and so the set that tells by cases what passes
+pub same-set : (test : Tag → Bool) (set other : TagSet) → HasTags test set → (other ≡ NoTag → (g : Tag) → test g ≡ false) →
+    ((t : Tag) → other ≡ One t → (g : Tag) → test g ≡ same_tag t g) →
+    (other ≡ Many → (g k : Tag) × (same_tag g k ≡ false) × (test g ≡ true) × (test k ≡ true)) → set ≡ other
+same-set test set NoTag has none one many = set-one test set NoTag has (none refl)
+same-set test set (One t) has none one many = set-one test set (One t) has (one t refl)
+same-set test set Many has none one many = set-one test set Many has (many refl)

@@ -12,5 +12,6 @@ pub mod DeclaredRoots
 pub mod RootsStand
 pub mod RootChanges
 pub mod RootJudgements
+pub mod RootLaws
 pub mod Listed
 pub mod TagsByRoot

@@ -1,36 +1,41 @@
--- How roots judge a call, by the history that they stand for. A history is newest first.
+-- How roots judge an event, by the history that they stand for. A history is newest first.
 -- Source: project's own choice.
-use Rattle.std.specs.Prelude.{◌≡◌, ◌≢◌, ◌≤◌, ◌<◌, ◌↔◌, ℕ, true, List, length, Result, Err, IfErr, Some}
+use Rattle.std.specs.Prelude.{◌≡◌, ◌<◌, ℕ, true, List, length, Option, Some, None, Result, Ok, Err}
 use Rattle.bbm_regimes.specs.declared.regime.Reg.{Reg}
-use Rattle.bbm_regimes.specs.declared.regime.Which.TheVariants.{Roots as RootCount}
-use Rattle.bbm_events.specs.Heading.{Heading}
-use Rattle.bbm_events.specs.declared.event.Event.{Event}
+use Rattle.bbm_rules.specs.Broken.{Breach, broken}
 use Rattle.bbm_rules.specs.Claims.{Patterns}
-use Rattle.bbm_rules.specs.Roots.{root_at, roots_of}
-use Rattle.bbm_rules.specs.Tags.{holds_tag}
+use Rattle.bbm_rules.specs.Prelude.{Heading, Event, Tlbi, TlbiOp}
+use Rattle.bbm_rules.specs.RegisterValues.{named_scope, vmid_of}
+use Rattle.bbm_rules.specs.declared.step_fault.StepFault.{StepFault}
+use Rattle.bbm_rules.specs.declared.step_fault.StepFault.TheVariants.{Broken, Limit, NoMemory}
 use Rattle.bbm_roots.specs.Holds.{tag_in}
 use Rattle.bbm_roots.specs.HoldsNew.{holds_new, own_tag}
 use Rattle.bbm_roots.specs.LoadsOf.{loads_of, other_loads}
-use Rattle.bbm_roots.specs.Refusals.{JudgesRetire}
 use Rattle.bbm_roots.specs.RootPendings.{IsQuiet}
-use Rattle.bbm_roots.specs.RootRegisters.{is_first, uses}
-use Rattle.bbm_roots.specs.RootsStand.{Stands, pes_of, world_of}
-use Rattle.bbm_roots.specs.declared.fault.RootFault.{RootFault}
-use Rattle.bbm_roots.specs.declared.fault.RootFault.TheVariants.{Limit, NoMemory}
+use Rattle.bbm_roots.specs.RootRegisters.{is_first}
+use Rattle.bbm_roots.specs.RootsStand.{pes_of, world_of}
 use Rattle.bbm_roots.specs.declared.load.RootValue.{RootValue}
+use Rattle.bbm_roots.specs.declared.named.NamedTlbi.{NamedTlbi}
 use Rattle.bbm_roots.specs.declared.reading.Reading.{Reading}
 use Rattle.bbm_roots.specs.declared.roots.Roots.{Roots}
 
--- One more root: the limit is reached exactly where 1,024 are declared; else memory alone may be wanting.
-pub record JudgesRoom {A : Type 0} (roots : Roots) (result : Result A RootFault) : Type 0 where
-  pub limit : (heading : Heading) (h : List Event) → Stands roots heading h
-      → (result ≡ Err (Limit RootCount)) ↔ (1024 ≤ length (roots_of h))
-  pub fault : IfErr result (λ fault. fault ≢ Limit RootCount → fault ≡ NoMemory)
+-- the answer where this is the least broken rule, or none is broken
+abbrev pub Judges : Result (Unit {0}) StepFault → Option Breach → Type 0
+Judges (Ok _) breach = breach ≡ None
+Judges (Err (Broken rule at)) breach = breach ≡ Some (record { rule = rule; at = at })
+Judges (Err (Limit which)) breach = ⊥
+Judges (Err NoMemory) breach = ⊥
 
--- the retirement of a root
-abbrev pub JudgesRetirement : {A : Type 0} → Roots → ℕ → Result A RootFault → Type 0
-JudgesRetirement roots page result = (heading : Heading) (h : List Event) → Stands roots heading h
-    → JudgesRetire page (root_at h page) (uses h heading.world page) (λ tag. holds_tag heading Patterns page tag h) result
+-- a TLBI of the PE names this after the history
+abbrev pub IsNamed : Heading → List Event → ℕ → TlbiOp → ℕ → NamedTlbi → Type 0
+IsNamed heading h pe op xt named =
+    (named_scope heading h pe op xt ≡ Some named.scope) × (named.vmid ≡ vmid_of heading h pe)
+
+-- the judgement of a TLBI after the history: what it names, or else the least rule that it breaks
+abbrev pub JudgesTlbi : Heading → List Event → ℕ → TlbiOp → ℕ → Result NamedTlbi StepFault → Type 0
+JudgesTlbi heading h pe op xt (Ok named) =
+    (broken heading Patterns h (Tlbi pe op xt) ≡ None) × IsNamed heading h pe op xt named
+JudgesTlbi heading h pe op xt (Err fault) = Judges (Err fault) (broken heading Patterns h (Tlbi pe op xt))
 
 -- A write of the value changes the register alone: the register isn't full, no TLBI waits, and the PE holds, for its
 -- root, each tag that the value makes readable anew.

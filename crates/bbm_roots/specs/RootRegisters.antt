@@ -1,6 +1,7 @@
 -- The root registers of a PE: what the values that may still be in use name. A history is newest first.
 -- Source: project's own choice, where no other is named.
-use Rattle.std.specs.Prelude.{◌≡◌, ℕ, Bool, true, false, ◌||◌, List, [], ◌∷◌, map, Option, None, if◌then◌else◌}
+use Rattle.std.specs.Prelude.{ℕ, Bool, true, false, ◌||◌, List, [], ◌∷◌, map, Option, None, if◌then◌else◌}
+use Rattle.std.specs.Option.{option_map_or}
 use Rattle.std.specs.List.{list_any}
 use Rattle.bbm_regimes.specs.Registers.{base_of, tag_number}
 pub use Rattle.bbm_regimes.specs.SameRegister.{kind_of_reg, same_reg}
@@ -12,6 +13,7 @@ use Rattle.bbm_regimes.specs.declared.regime.World.TheVariants.{Hyp, Kernel}
 pub use Rattle.bbm_lemmas.specs.ListWords.{is_that}
 use Rattle.bbm_lemmas.specs.ListWords.{◌>>=◌, if_so}
 use Rattle.bbm_events.specs.declared.event.Event.{Event}
+use Rattle.bbm_rules.specs.Pages.{is_null}
 use Rattle.bbm_rules.specs.RegisterValues.{register_values}
 use Rattle.bbm_rules.specs.Roots.{is_root}
 use Rattle.bbm_roots.specs.declared.load.RootValue.{RootValue}
@@ -75,6 +77,6 @@ module _ (h : List Event) where
   uses world page p =
       names_in (loads_after p (first_reg world)) page || names_in (loads_after p (second_reg world)) page
 
-  -- a value that is told to mean that no walk is made has the base of no declared root
-  abbrev pub NullNamesNone : Reg → ℕ → Bool → Type 0
-  NullNamesNone reg value null = names_null reg null ≡ true → root_in (kind_of_reg reg) (base_of value) ≡ None
+-- whether the base of a register value is a null page
+abbrev pub has_null_base : List Event → ℕ → Bool
+has_null_base h value = option_map_or (λ base. is_null h base) (base_of value) false

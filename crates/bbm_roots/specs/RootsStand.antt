@@ -1,13 +1,15 @@
 -- What the roots stand for: a history, point by point. A history is newest first.
-use Rattle.std.specs.Prelude.{◌≡◌, ◌<◌, ◌≤◌, ◌&&◌, ℕ, Bool, true, false, List, [], ◌∷◌, nat_eq, length, Option, None}
+use Rattle.std.specs.Prelude.{◌≡◌, ◌<◌, ◌≤◌, ◌&&◌, ℕ, Bool, true, false, List, [], ◌∷◌, nat_eq, length, None}
 use Rattle.indexmap.specs.IndexMap.{get, index_map_len, spare}
+use Rattle.bbm_locks.specs.Holders.{holder_at}
 use Rattle.bbm_regimes.specs.declared.regime.Reg.{Reg}
 use Rattle.bbm_regimes.specs.declared.regime.Tag.{Tag}
 use Rattle.bbm_regimes.specs.declared.regime.World.{World}
-use Rattle.bbm_tlbi_scope.specs.declared.scope.Scope.{Scope}
-use Rattle.bbm_events.specs.Heading.{Heading}
+use Rattle.bbm_events.specs.Heading.{Heading, heading_ok}
 use Rattle.bbm_events.specs.declared.event.Event.{Event}
+use Rattle.bbm_rules.specs.Broken.{keeps}
 use Rattle.bbm_rules.specs.Claims.{Patterns}
+use Rattle.bbm_rules.specs.Locks.{holder_of}
 use Rattle.bbm_rules.specs.RegisterValues.{register_values}
 use Rattle.bbm_rules.specs.Roots.{lock_of, root_at, roots_of}
 use Rattle.bbm_rules.specs.Tags.{holds_at}
@@ -16,6 +18,7 @@ use Rattle.bbm_roots.specs.Columns.{loads_in}
 use Rattle.bbm_roots.specs.Holds.{hold_in}
 use Rattle.bbm_roots.specs.RootPendings.{has_pending, pending_in, EachLost}
 use Rattle.bbm_roots.specs.RootRegisters.{first_reg, loads_after, second_reg}
+use Rattle.bbm_roots.specs.declared.named.NamedTlbi.{NamedTlbi}
 use Rattle.bbm_roots.specs.declared.roots.Roots.{Roots}
 
 -- the number of PEs, and the world
@@ -25,11 +28,15 @@ pes_of roots = roots.registers.pes
 abbrev pub world_of : Roots → World
 world_of roots = roots.registers.world
 
--- The roots stand for the history of a log with this header: they keep what the readable values of each register name,
--- the declared roots, which PEs hold a tag for a root, and, where a tag is held, which unanswered TLBIs are about to
--- take it away. Where they keep that no root was declared with a lock, no declared root has one. Of the history it says
--- besides that no PE that the log doesn't have wrote a register.
+-- The roots stand for the history of a log with this header, which keeps the rules over all patterns of events: they
+-- keep what the readable values of each register name, the declared roots, which PEs hold a tag for a root, and, where a
+-- tag is held, which unanswered TLBIs are about to take it away, and who holds each lock. Where they keep that no root
+-- was declared with a lock, no declared root has one. Of the history it says besides that no PE that the log doesn't
+-- have wrote a register.
 pub record Stands (roots : Roots) (heading : Heading) (h : List Event) : Type 0 where
+  pub header : roots.header ≡ heading
+  pub proper : heading_ok heading ≡ true
+  pub kept : keeps heading Patterns h ≡ true
   pub pes : pes_of roots ≡ heading.pes
   pub world : world_of roots ≡ heading.world
   pub first : (p : ℕ) → p < heading.pes
@@ -44,14 +51,15 @@ pub record Stands (roots : Roots) (heading : Heading) (h : List Event) : Type 0 
   pub inside : (tag : Tag) (root p : ℕ) → heading.pes ≤ p → holds_at heading Patterns p root tag h ≡ false
   pub pendings : (q : ℕ) (broadcast : Bool) (tag : Tag) (root p : ℕ) → holds_at heading Patterns p root tag h ≡ true →
       pending_in roots.pendings q broadcast tag p ≡ tag_waits heading p tag q broadcast h
+  pub holders : (lock : ℕ) → holder_at roots.locks lock ≡ holder_of h lock
 
 -- room for one more root
-abbrev pub IsPrepared : Roots → Type 0
-IsPrepared roots = (0 < spare roots.declared) × (index_map_len roots.declared < 1024)
+abbrev pub HasRoom : Roots → Type 0
+HasRoom roots = (0 < spare roots.declared) × (index_map_len roots.declared < 1024)
 
--- there is an entry for each tag that a TLBI of the issuer, of this scope and under this VMID, takes and that is held
--- at a PE which it reaches and at which the tag is readable for no root
-abbrev pub IsReady : Roots → ℕ → Scope → Option ℕ → Bool → Type 0
-IsReady roots issuer scope vmid takes =
-    EachLost scope vmid roots.holds roots.registers issuer
-    (λ tag. takes && has_pending roots.pendings issuer scope.broadcast tag)
+-- there is an entry for each tag that a TLBI of the issuer that names this takes and that is held at a PE which it
+-- reaches and at which the tag is readable for no root
+abbrev pub IsReady : Roots → ℕ → NamedTlbi → Bool → Type 0
+IsReady roots issuer named takes =
+    EachLost named.scope named.vmid roots.holds roots.registers issuer
+    (λ tag. takes && has_pending roots.pendings issuer named.scope.broadcast tag)

@@ -1,26 +1,33 @@
 //! The first root of a log, put to use.
 
-ghost use Rattle.std.specs.Prelude.{◌≡◌, true, false, [], ◌∷◌, None, IfOk};
-ghost use Rattle.bbm_events.specs.declared.event.Event.{Event as TheEvent};
-ghost use Rattle.bbm_regimes.specs.SameRegister.{kind_of_reg};
-ghost use Rattle.bbm_regimes.specs.World.{kind_in_world};
+ghost use Rattle.std.specs.Prelude.{◌≡◌, true, [], ◌∷◌, None, IfOk};
+ghost use Rattle.bbm_events.specs.declared.event.Event.TheVariants.{Init, Msr, Root};
+ghost use Rattle.bbm_rules.specs.Broken.{keeps};
+ghost use Rattle.bbm_rules.specs.Claims.{Patterns};
 ghost use Rattle.bbm_roots.specs.RootsStand.{Stands};
 
-use crate::fault::RootFault;
+use crate::laws::law_others;
 use crate::roots::Roots;
 use bbm_events::Header;
 use bbm_regimes::{Kind, Page, Pe, Reg};
+use bbm_rules::StepFault;
 use std::alloc::Global;
 
-/// The roots of a log of the Hyp world after its first two events: a root of the EL2 regime with this first page is
-/// declared, and PE 0 writes it into TTBR0_EL2. Source: project's own choice.
-pub fn first_root(alloc: Global, header: &Header, page: Page) -> Result<Roots, RootFault>
-    requires { kind_in_world header.now.world (kind_of_reg Reg.Ttbr0El2) ≡ true }
+/// The roots of a log after its first three events: a page is made zero, a root of the EL2 regime with this first page
+/// is declared, and PE 0 writes it into TTBR0_EL2. The first two break no rule. Source: project's own choice.
+pub fn first_root(alloc: Global, header: &Header, page: Page) -> Result<Roots, StepFault>
+    requires { keeps header.now Patterns (Root 0 Kind.El2 None page ∷ Init 0 page ∷ []) ≡ true }
     ensures { IfOk result (λ roots. Stands roots header.now
-        (TheEvent.Msr 0 Reg.Ttbr0El2 page ∷ TheEvent.Root 0 Kind.El2 None page ∷ [])) }
+        (Msr 0 Reg.Ttbr0El2 page ∷ Root 0 Kind.El2 None page ∷ Init 0 page ∷ [])) }
 {
-    let mut roots = Roots::new(alloc, header)?;
-    roots.declare(alloc, Kind::El2, page, None)?;
+    law_others();
+    let _pes = header.pe_count();
+    let mut roots = match Roots::new(alloc, header) {
+        Ok(roots) => roots,
+        Err(_) => return Err(StepFault::NoMemory),
+    };
+    roots.prepare(alloc)?;
+    roots.declare(Kind::El2, page, None);
     let pe = Pe::new(0).unwrap();
     roots.write_reg(alloc, pe, Reg::Ttbr0El2, page.get(), false)?;
     Ok(roots)

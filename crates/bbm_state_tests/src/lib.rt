@@ -5,8 +5,6 @@
 #[cfg(test)]
 mod place_map;
 #[cfg(test)]
-mod replay_roots;
-#[cfg(test)]
 mod roots;
 #[cfg(test)]
 mod tree_index;

@@ -4,9 +4,10 @@ use bbm_barriers::{Domain, Dsb, Types};
 use bbm_events::Header;
 use bbm_regimes::{HypWorld, Kind, NoMemory, Page, Pe, Tag, World};
 use bbm_roots::{Roots, first_root};
-use bbm_tlbi_scope::{TagSet, TlbiOp, decode};
+use bbm_tlbi_scope::{TagSet, TlbiOp};
 use std::test::Fail;
 
+// `bbmlog 1 hyp 2 1 1 1`
 const HYP: Header = Header {
     version: 1,
     pes: 2,
@@ -31,11 +32,23 @@ fn the_first_root_holds_its_tag(rt: HostRuntime) -> Result<(), Fail> {
 fn a_tlbi_is_issued_and_answered(rt: HostRuntime) -> Result<(), NoMemory> {
     let mut roots = Roots::new(rt.alloc(), &HYP)?;
     let pe = Pe::new(1).unwrap();
-    if let Ok(scope) = decode(TlbiOp::Alle2is, 0) {
-        roots.issue(rt.alloc(), pe, scope, None)?;
+    if let Ok(named) = roots.judge_tlbi(pe, TlbiOp::Alle2is, 0) {
+        let takes = roots.prepare_issue(rt.alloc(), pe, &named)?;
+        roots.issue_ready(pe, &named, takes);
     }
     let domain = Domain::Inner;
     let types = Types::All;
     roots.complete(pe, Dsb { domain, types });
+    Ok(())
+}
+
+#[test]
+fn a_lock_and_no_root(rt: HostRuntime) -> Result<(), NoMemory> {
+    let mut roots = Roots::new(rt.alloc(), &HYP)?;
+    let pe = Pe::new(1).unwrap();
+    let page = Page::new(0x4000_0000).unwrap();
+    assert!(rt; roots.lock(pe, 3).is_ok());
+    assert!(rt; roots.holder_of(3) == Some(pe) && !roots.lacks(pe, 3));
+    assert!(rt; !roots.is_declared(page) && roots.lock_of(page).is_none());
     Ok(())
 }

@@ -5,7 +5,7 @@ ghost use Rattle.bbm_events.specs.Heading.{Heading};
 ghost use Rattle.bbm_events.specs.declared.event.Event.{Event};
 ghost use Rattle.bbm_replay.specs.Covering.{IsBrokenOver, IsCovered, IsPathOf, Mismatches, asks_childless};
 ghost use Rattle.bbm_replay.specs.Covering.{asks_tags as spec_asks_tags};
-ghost use Rattle.bbm_replay_roots.specs.RootStateStands.{StateStands};
+ghost use Rattle.bbm_roots.specs.RootsStand.{Stands};
 ghost use Rattle.bbm_rules.specs.Claims.Trust.{Patterns};
 ghost use Rattle.bbm_rules.specs.Places.{page_of};
 ghost use Rattle.bbm_rules.specs.Tags.{tag_set, tags_of};
@@ -20,7 +20,7 @@ use bbm_descriptor::Core;
 use bbm_place_map::PlaceMap;
 use bbm_regimes::{Kind, Place, Tag};
 use bbm_replay_entries::law_entry_holds;
-use bbm_replay_roots::NamedTlbi;
+use bbm_roots::NamedTlbi;
 use bbm_replay_trees::law_childless_by_cores;
 use bbm_rules::law_notes_keep_the_events;
 use bbm_tlbi_scope::scope::{is_number, lacks_vmid};
@@ -89,10 +89,10 @@ impl Covering<'_> {
     /// the place by them.
     fn tags(&self, path: &Path) -> Option<TagSet>
         ensures told { IfSome result (λ tags. spec_asks_tags self.now.named.now.scope.family path.now.kind ≡ true
-            → (heading : Heading) (h : List Event) → StateStands self.now.roots.now heading h
+            → (heading : Heading) (h : List Event) → Stands self.now.roots.now heading h
             → tags ≡ tag_set (tags_of heading Patterns path.now.first h)) }
         ensures none { result ≡ None → (spec_asks_tags self.now.named.now.scope.family path.now.kind ≡ true)
-            × ((heading : Heading) (h : List Event) → StateStands self.now.roots.now heading h
+            × ((heading : Heading) (h : List Event) → Stands self.now.roots.now heading h
             → Mismatches self.now.named.now (tag_set (tags_of heading Patterns path.now.first h))) }
     {
         if !asks_tags(self.named.scope.family, path.kind) {
@@ -111,7 +111,7 @@ impl Covering<'_> {
     #[inline(always)]
     fn leaf_cover(&self, path: &Path) -> Option<Cover>
         ensures { IfSome result (λ cover. (heading : Heading) (h : List Event)
-            → StateStands self.now.roots.now heading h → (global childless : Bool)
+            → Stands self.now.roots.now heading h → (global childless : Bool)
             → cover ≡ cover_of self.now.named.now.scope self.now.named.now.vmid (record {
               kind = path.now.kind;
               region = path.now.region;

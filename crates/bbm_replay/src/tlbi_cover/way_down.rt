@@ -6,13 +6,12 @@ ghost use Rattle.bbm_events.specs.Heading.{Heading};
 ghost use Rattle.bbm_events.specs.declared.event.Event.{Event};
 ghost use Rattle.bbm_place_map.specs.Map.{is_tracked};
 ghost use Rattle.bbm_regimes.specs.World as spec;
-ghost use Rattle.bbm_regimes.specs.declared.regime.Kind.{Kind as TheKind};
 ghost use Rattle.bbm_rules.specs.Places.{page_of};
 ghost use Rattle.bbm_rules.specs.Roots.{Declared, root_at};
 ghost use Rattle.bbm_tree_index.specs.HeldCores.{core_at, next_in};
 ghost use Rattle.bbm_tree_index.specs.Index.{node_in};
-ghost use Rattle.bbm_replay_roots.specs.RootsByNumber.{nth_root_in};
-ghost use Rattle.bbm_replay_roots.specs.RootStateStands.{StateStands};
+ghost use Rattle.bbm_roots.specs.Listed.{nth_in};
+ghost use Rattle.bbm_roots.specs.RootsStand.{Stands};
 ghost use Rattle.bbm_replay.specs.Covering.{Grows, IsPathOf, IsSettled};
 ghost use Rattle.bbm_replay.specs.OnePage.{FitTogether, MetFrom, MetFromAll, covers_kind as spec_covers_kind};
 
@@ -147,21 +146,20 @@ impl Covering<'_> {
     ) -> Result<(), NoMemory>
         requires fits { FitTogether map.now self.now.index.now }
         ensures grows { OnOk result (Grows map.now self.now found.old.items found.new.items) }
-        ensures met { OnOk result ((kind : TheKind) (first : ℕ)
-            → nth_root_in self.now.roots.now number ≡ Some (kind, first)
-            → spec_covers_kind self.now.named.now.scope.family kind ≡ true
-            → MetFromAll (node_in self.now.index.now) (core_at map.now) input first
-            (spec.page_count self.now.header.now.world kind) (IsSettled map.now self.now found.new.items)) }
+        ensures met { OnOk result ((root : Declared) → nth_in self.now.roots.now number ≡ Some root
+            → spec_covers_kind self.now.named.now.scope.family root.kind ≡ true
+            → MetFromAll (node_in self.now.index.now) (core_at map.now) input root.page
+            (spec.page_count self.now.header.now.world root.kind) (IsSettled map.now self.now found.new.items)) }
     {
         let Some(root) = self.roots.nth(number) else {
             return Ok(());
         };
-        if !covers_kind(self.named.scope.family, root.0) {
+        if !covers_kind(self.named.scope.family, root.kind) {
             return Ok(());
         }
         let pages = RootPages {
-            first: root.1,
-            count: self.header.page_count(root.0),
+            first: root.page,
+            count: self.header.page_count(root.kind),
             hint: number,
         };
         self.descend_pages(map, input, &pages, found)?;
@@ -180,7 +178,7 @@ impl Covering<'_> {
         requires fits { FitTogether map.now self.now.index.now }
         ensures grows { OnOk result (Grows map.now self.now found.old.items found.new.items) }
         ensures met { OnOk result ((heading : Heading) (h : List Event) (root : Declared)
-            → StateStands self.now.roots.now heading h
+            → Stands self.now.roots.now heading h
             → root_at h root.page ≡ Some root → spec_covers_kind self.now.named.now.scope.family root.kind ≡ true
             → MetFromAll (node_in self.now.index.now) (core_at map.now) input root.page
             (spec.page_count self.now.header.now.world root.kind) (IsSettled map.now self.now found.new.items)) }

@@ -1,24 +1,17 @@
-use Rattle.bbm_roots.proofs.Common.{◌∙◌, List, ap, sym, None, false≢true, other_number, RootValue}
-use Rattle.bbm_roots.proofs.Numbers.{numbers-one, numbers-several, some-number}
+use Rattle.bbm_roots.proofs.Common.{◌∙◌, ap, sym, refl, cond, Bool, Some, None, Option, ℕ, slice_index_or}
+use Rattle.bbm_roots.proofs.Numbers.{one-by}
 use Rattle.bbm_roots.proofs.vmid.one_number.Goals as goal
 
-pub returns-in-Some-least_other-clause-judged : goal.returns-in-Some-least_other-clause-judged
-returns-in-Some-least_other-clause-judged c = λ some.
-    let one = c.in-Some.ensures in
-    let two = c.in-Some-least_other.ensures in
-    (numbers-several c.in-Some.first c.in-Some-least_other.second c.args.loads.now one.0 two.0, one, two)
+pub returns-then-all_numbered : goal.returns-then-all_numbered
+returns-then-all_numbered c =
+    let number : ℕ = (slice_index_or c.args.loads.now 0 c.index-loads-0.result).number in
+    ap (λ (b : Bool). cond b (Some number) None) (sym c.if-all_numbered.true)
+    ∙ one-by c.args.loads.now number c.all_numbered.result c.index-loads-0.result refl
+    (sym c.is_empty.ensures ∙ c.if-is_empty.false) c.all_numbered.ensures
 
-pub returns-in-Some-least_other-clause-none : goal.returns-in-Some-least_other-clause-none
-returns-in-Some-least_other-clause-none c = λ empty.
-    absurd (false≢true (sym (ap (λ (loads : List RootValue). other_number loads None c.in-Some.first) empty) ∙ c.in-Some.ensures.0))
-
-pub returns-in-None-least_other-clause-judged : goal.returns-in-None-least_other-clause-judged
-returns-in-None-least_other-clause-judged c = λ some.
-    numbers-one c.in-Some.first c.args.loads.now some (c.in-None-least_other.ensures)
-
-pub returns-in-None-least_other-clause-none : goal.returns-in-None-least_other-clause-none
-returns-in-None-least_other-clause-none c = λ empty.
-    absurd (false≢true (sym (ap (λ (loads : List RootValue). other_number loads None c.in-Some.first) empty) ∙ c.in-Some.ensures.0))
-
-pub returns-in-None-clause-judged : goal.returns-in-None-clause-judged
-returns-in-None-clause-judged c = λ some. absurd (some-number c.args.loads.now some (c.in-None.ensures))
+pub returns-else-all_numbered : goal.returns-else-all_numbered
+returns-else-all_numbered c =
+    let number : ℕ = (slice_index_or c.args.loads.now 0 c.index-loads-0.result).number in
+    ap (λ (b : Bool). cond b (Some number) None) (sym c.if-all_numbered.false)
+    ∙ one-by c.args.loads.now number c.all_numbered.result c.index-loads-0.result refl
+    (sym c.is_empty.ensures ∙ c.if-is_empty.false) c.all_numbered.ensures

@@ -9,7 +9,7 @@ returns c =
     (λ heading h s. c.law_barriers.ensures.dmb heading h c.args.pe c.args.dsb)
     (λ h. c.law_barriers.ensures.dmb_limit h c.args.pe c.args.dsb)
     (record {
-      taken = λ heading h s. c.law_others.ensures old.roots heading h (Dmb c.args.pe c.args.dsb) s refl
+      taken = λ heading h s done. c.law_others.ensures old.roots heading h (Dmb c.args.pe c.args.dsb) s refl
           (c.law_barriers.ensures.dmb heading h c.args.pe c.args.dsb);
       room = λ room. room;
     }) tt

@@ -14,7 +14,7 @@ returns-then-complete c =
     let m2 = c.complete.new.self in
     let new : ReplayState = record old { map = c.prune.new.map; index = c.prune.new.self; roots = c.complete-then-complete.new.self } in
     dsb_meets c.laws.ensures old c.publish.new.map m2 c.args.pe c.args.dsb c.is_silent-silent.result c.pe_count-n.result
-    c.is_silent-silent.ensures c.pe_count-n.ensures.count
+    c.is_silent-silent.ensures c.pe_count-n.ensures
     (record {
       published = p.published;
       unheard = p.unheard;
@@ -23,7 +23,7 @@ returns-then-complete c =
     })
     (record { completed = e.completed; others = λ q a k b i x. e.others q a b i x k; value = e.same.values })
     new c.requires (record { header = refl; index_header = r.tracked.heading }) c.law_barriers.ensures
-    c.complete-then-complete.ensures.taken (λ x. e.same.pages x ∙ p.pages x)
+    (λ heading h s. c.complete-then-complete.ensures.taken heading h s tt) (λ x. e.same.pages x ∙ p.pages x)
     (λ outside stays. leaves_of old.index new.index m2 new.map (is_held_by (holds_at m2)) outside r)
 
 pub returns : goal.returns
@@ -34,7 +34,7 @@ returns c =
     let m2 = c.complete.new.self in
     let new : ReplayState = record old { map = m2; roots = c.complete-2.new.self } in
     dsb_meets c.laws.ensures old c.publish.new.map m2 c.args.pe c.args.dsb c.is_silent-silent.result c.pe_count-n.result
-    c.is_silent-silent.ensures c.pe_count-n.ensures.count
+    c.is_silent-silent.ensures c.pe_count-n.ensures
     (record {
       published = p.published;
       unheard = p.unheard;
@@ -42,5 +42,5 @@ returns c =
       pends = λ q a b i x. ap (λ (w : Pends). waits w b i x) (p.pends q a);
     })
     (record { completed = e.completed; others = λ q a k b i x. e.others q a b i x k; value = e.same.values })
-    new c.requires (record { header = refl; index_header = refl }) c.law_barriers.ensures c.complete-2.ensures.taken
-    (λ x. e.same.pages x ∙ p.pages x) (λ outside stays. stays (e.kept c.if-complete.false))
+    new c.requires (record { header = refl; index_header = refl }) c.law_barriers.ensures
+    (λ heading h s. c.complete-2.ensures.taken heading h s tt) (λ x. e.same.pages x ∙ p.pages x) (λ outside stays. stays (e.kept c.if-complete.false))

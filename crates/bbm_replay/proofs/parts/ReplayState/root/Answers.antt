@@ -3,7 +3,6 @@ use Rattle.bbm_rules.proofs.Common.{◌+◌, ◌*◌, ◌≤◌, ◌^◌, refl, 
 use Rattle.bbm_tree_index.specs.declared.role.Attach.TheVariants as attach
 use Rattle.bbm_replay.proofs.RootPages.{room_for}
 use Rattle.bbm_replay.proofs.Rooting.{attaches_of, named, root_fault, root_full, root_ok, root_used, root_world}
-use Rattle.bbm_replay.proofs.Rooting.{unbroken}
 use Rattle.bbm_replay.proofs.parts.ReplayState.root.Goals as goal
 
 pub returns-then-not-has_kind : goal.returns-then-not-has_kind
@@ -48,23 +47,8 @@ attach_prepared-requires c = record {
   );
 }
 
-pub declare-requires : goal.declare-requires
-declare-requires c =
-    let m = c.requires in (
-      c.args.pe,
-      (
-        m.0,
-        m.1,
-        c.prepare-2.ensures.kept.same m.0 m.1 m.2.roots,
-        m.3,
-        unbroken c.laws.ensures c.rules.ensures c.args.self.now c.args.pe c.args.page c.args.kind c.args.lock
-            (sym c.has_kind.ensures ∙ c.if-not-has_kind.false) c.in-Ok.ensures.judged
-            (cc (c.page_count.ensures.value, c.in-None.ensures)) m.0 m.1 m.2,
-      ),
-    )
-
-pub returns-in-Ok-declare : goal.returns-in-Ok-declare
-returns-in-Ok-declare c =
+pub returns : goal.returns
+returns c =
     let old = c.args.self.now in
     let right = sym c.has_kind.ensures ∙ c.if-not-has_kind.false in
     let e = c.attach_prepared.ensures in
@@ -79,4 +63,4 @@ returns-in-Ok-declare c =
     (named old c.args.kind c.args.page right (cc (c.page_count.ensures.value, c.in-None.ensures)) c.requires.2))
     (record { tracked = λ p. refl; known = e.tracked.known; pages = e.tracked.pages }))
     c.law_idle.ensures
-    (λ heading h s free. c.in-Ok-declare.ensures.taken heading h c.args.pe s free)
+    (λ heading h s free. c.declare.ensures c.args.pe heading h s free)

@@ -3,11 +3,6 @@ use Rattle.bbm_rules.proofs.Common.{not, ◌==◌, refl, Node}
 use Rattle.bbm_replay.proofs.PageMoves.{leaves_of, unroot_err, unroot_ok}
 use Rattle.bbm_replay.proofs.parts.ReplayState.unroot.Goals as goal
 
-pub retire-requires : goal.retire-requires
-retire-requires c =
-    let m = c.requires in
-    (c.args.pe, (m.0, m.1, m.2.roots, m.3, c.in-Ok.ensures m.0 m.1 m.2.roots))
-
 pub returns-in-Ok : goal.returns-in-Ok
 returns-in-Ok c =
     let old = c.args.self.now in

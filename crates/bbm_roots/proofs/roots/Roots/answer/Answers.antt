@@ -15,5 +15,5 @@ returns c = record {
       (without g p (pe_in old.issuers q) (nat_eq q c.args.issuer && answers c.args.dsb b)
       (wait_at old.waits.items (slot_of q b) (tag_key g)));
   registers = refl;
-  roots = record { declared = refl; locks = refl };
+  roots = record { header = refl; declared = refl; names = refl; locks = refl };
 }

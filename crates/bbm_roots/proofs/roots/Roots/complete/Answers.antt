@@ -1,16 +1,22 @@
 use Rattle.bbm_roots.proofs.Common.{◌≡◌, ◌∙◌, ap, sym, ℕ, Bool, ◌&&◌, List, ◌∷◌, not, nat_eq, true, false, refl, arith}
 use Rattle.bbm_roots.proofs.Common.{pe_in, Heading, Event, ADsb, nat_tests, answers, Dsb, Tag, loads_in, hold_in}
-use Rattle.bbm_roots.proofs.Common.{pending_in, Stands, Pendings, Registers, Roots, and-true}
+use Rattle.bbm_roots.proofs.Common.{pending_in, Stands, Pendings, Registers, Roots, and-true, holder_at, Patterns}
 use Rattle.bbm_roots.specs.RootPendings.{answered_in}
-use Rattle.bbm_roots.specs.RootChanges.{Answers, Takes}
-use Rattle.bbm_roots.proofs.Changes.{log-same, room-same}
+use Rattle.bbm_roots.specs.RootChanges.{Completes, Takes}
+use Rattle.bbm_roots.proofs.Changes.{room-same}
 use Rattle.bbm_roots.proofs.Steps.{holds-completed, held-before, not-before, waits-complete}
+use Rattle.bbm_histories.proofs.Induction.{kept_next}
+use Rattle.bbm_locks.specs.declared.locks.Locks.{Locks}
+use Rattle.bbm_roots.proofs.Judge.{broken_dsb}
 use Rattle.bbm_roots.proofs.roots.Roots.complete.Goals as goal
 
 -- roots from which what a DSB answers was taken away
 completed : (old new : Roots) (heading : Heading) (h : List Event) (issuer : ℕ) (dsb : Dsb) → Stands old heading h →
-    Answers issuer dsb old new → Stands new heading (ADsb issuer dsb ∷ h)
+    Completes issuer dsb old new → Stands new heading (ADsb issuer dsb ∷ h)
 completed old new heading h issuer dsb stands answered = record {
+  header = answered.roots.header ∙ stands.header;
+  proper = stands.proper;
+  kept = kept_next heading Patterns h (ADsb issuer dsb) stands.kept (broken_dsb heading h issuer dsb);
   pes = ap (λ (r : Registers). r.pes) answered.registers ∙ stands.pes;
   world = ap (λ (r : Registers). r.world) answered.registers ∙ stands.world;
   first = λ p lt. ap (λ (r : Registers). loads_in r.first.items p) answered.registers ∙ stands.first p lt;
@@ -18,7 +24,7 @@ completed old new heading h issuer dsb stands answered = record {
   outside = stands.outside;
   declared = λ q. let d = answered.roots.declared in let s = stands.declared q in cc;
   count = let d = answered.roots.declared in let s = stands.count in cc;
-  locks = λ none. stands.locks (sym answered.roots.locks ∙ none);
+  locks = λ none. stands.locks (sym answered.roots.names ∙ none);
   holds = λ g r p.
       answered.holds g r p
       ∙ holds-completed heading h issuer dsb g r p (hold_in old.holds g r p)
@@ -30,6 +36,7 @@ completed old new heading h issuer dsb stands answered = record {
       ∙ ap (λ (x : Bool). x && not (nat_eq q issuer && answers dsb b))
       (stands.pendings q b g r p (held-before heading h issuer dsb g r p after))
       ∙ sym (waits-complete heading h issuer dsb q b g p);
+  holders = λ lock. ap (λ (l : Locks). holder_at l lock) answered.roots.locks ∙ stands.holders lock;
 }
 
 -- an issuer of whom nothing waits
@@ -42,11 +49,10 @@ all-open : (ps : Pendings) (issuer : ℕ) (dsb : Dsb) (q : ℕ) (b : Bool) (g : 
     pending_in ps q b g p ≡ (pending_in ps q b g p && not (nat_eq q issuer && answers dsb b))
 all-open ps issuer dsb q b g p e = grind (arith, nat_tests)
 
-takes : (old new : Roots) (issuer : ℕ) (dsb : Dsb) → Answers issuer dsb old new → Takes (ADsb issuer dsb) old new
+takes : (old new : Roots) (issuer : ℕ) (dsb : Dsb) → Completes issuer dsb old new → Takes (ADsb issuer dsb) old new
 takes old new issuer dsb answered = record {
   taken = λ heading h stands done. completed old new heading h issuer dsb stands answered;
-  prepared = room-same old new answered.roots.declared;
-  log = log-same old new answered.registers;
+  room = room-same old new answered.roots.declared;
 }
 
 pub returns-then-has : goal.returns-then-has
@@ -61,5 +67,5 @@ returns-else-has c =
       holds = λ g r p. rw (none-answered old.pendings c.args.issuer c.args.dsb g p none) (sym (and-true _));
       pendings = λ q b g p. all-open old.pendings c.args.issuer c.args.dsb q b g p none;
       registers = refl;
-      roots = record { declared = refl; locks = refl };
+      roots = record { header = refl; declared = refl; names = refl; locks = refl };
     })

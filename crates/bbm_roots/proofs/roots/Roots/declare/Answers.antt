@@ -1,17 +1,21 @@
 use Rattle.bbm_roots.proofs.Common.{◌≡◌, ◌∙◌, ap, sym, refl, nat_eq, ◌+◌, ◌∷◌, cond, ℕ, Option, Some, None, Bool, false}
 use Rattle.bbm_roots.proofs.Common.{Event, Root, Declared, root_at, roots_of, retired, loads_after, is_some, length}
-use Rattle.bbm_roots.proofs.Common.{arith, rules, get, index_map_len, Reg, first_reg, second_reg}
+use Rattle.bbm_roots.proofs.Common.{arith, rules, get, index_map_len, Patterns, Reg, first_reg, second_reg}
+use Rattle.bbm_histories.proofs.Induction.{kept_next}
 use Rattle.bbm_histories.proofs.ValueSteps.{root_step}
+use Rattle.bbm_roots.proofs.Judge.{free_page}
 use Rattle.bbm_roots.proofs.Readable.{loads-past}
 use Rattle.bbm_roots.proofs.RootLists.{absent-retired, unlocked}
 use Rattle.bbm_roots.proofs.Steps.{kept-stands}
 use Rattle.bbm_roots.proofs.roots.Roots.declare.Goals as goal
 
-pub returns-in-Ok-clause-taken : goal.returns-in-Ok-clause-taken
-returns-in-Ok-clause-taken c = λ pe heading h stands stay.
+pub returns-in-Ok : goal.returns-in-Ok
+returns-in-Ok c = λ pe heading h stands keeps.
+    let laws = c.laws_below.ensures heading in
     let e : Event = Root pe c.args.kind c.args.lock c.args.page in
     let root : Declared = record { page = c.args.page; kind = c.args.kind; lock = c.args.lock } in
-    let absent : root_at h c.args.page ≡ None = c.requires heading h stands in
+    let absent : root_at h c.args.page ≡ None = free_page pe c.args.page c.args.kind c.args.lock laws stands keeps in
+    let stay = laws.bases.stay h e (laws.proper stands.proper) (kept_next heading Patterns h e stands.kept keeps) in
     let same : (p : ℕ) (reg : Reg) → loads_after (e ∷ h) p reg ≡ loads_after h p reg = loads-past heading h e stay stands.outside in
     let none : is_some c.in-Ok.field-0 ≡ false =
     ap (is_some {T = Declared}) (c.in-Ok.ensures.old ∙ stands.declared c.get.result
@@ -20,7 +24,8 @@ returns-in-Ok-clause-taken c = λ pe heading h stands stay.
     c.in-Ok.ensures.len ∙ ap (λ (b : Bool). index_map_len c.args.self.now.declared + cond b 0 1) none in
     let short : length (retired c.args.page (roots_of h)) ≡ length (roots_of h) =
     ap (length {A = Declared}) (absent-retired c.args.page (roots_of h) absent) in
-    kept-stands _ stands e refl refl refl (λ p. same p (first_reg heading.world)) (λ p. same p (second_reg heading.world))
+    kept-stands _ stands e keeps refl stands.holders refl refl refl
+    (λ p. same p (first_reg heading.world)) (λ p. same p (second_reg heading.world))
     (λ p reg. refl) (λ g p. refl) (λ q b g p. refl)
     (λ q. c.in-Ok.ensures.updates.0 q
     ∙ ap (λ (n : ℕ). cond (nat_eq n q) (Some root) (get nat_eq c.args.self.now.declared q)) c.get.ensures.value

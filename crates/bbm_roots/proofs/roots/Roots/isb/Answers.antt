@@ -1,11 +1,13 @@
 use Rattle.bbm_roots.proofs.Common.{same_swapped, ◌≡◌, ◌∙◌, ap, sym, refl, nat_eq, ◌==◌, Bool, List, [], ◌∷◌, true}
 use Rattle.bbm_roots.proofs.Common.{Heading, Event, register_values, readings, load_in, loads_after, arith, cond, ℕ}
 use Rattle.bbm_roots.proofs.Common.{Tag, Reg, is_reading, is_of_tag, newest, first_reg, second_reg, take, list_any}
-use Rattle.bbm_roots.proofs.Common.{RootValue, Reading}
+use Rattle.bbm_roots.proofs.Common.{Patterns, RootValue, Reading}
 use Rattle.bbm_events.specs.declared.event.Event.TheVariants.{Isb}
 use Rattle.bbm_roots.proofs.Flat.{readings-isb}
 use Rattle.bbm_roots.proofs.Readable.{newest-map, readings-same}
 use Rattle.bbm_roots.proofs.Steps.{holds-stay, waits-stay}
+use Rattle.bbm_histories.proofs.Induction.{kept_next}
+use Rattle.bbm_roots.proofs.Judge.{broken_isb, of_state}
 use Rattle.bbm_roots.proofs.roots.Roots.isb.Goals as goal
 
 module _ (h : List Event) (pe : ℕ) where
@@ -30,6 +32,9 @@ returns c = record {
       let pe = c.args.pe in
       let stay = λ (g : Tag) (r p : ℕ). holds-stay heading h (Isb pe) g r p (less h pe heading p (is_reading g r)) refl in
       record {
+        header = stands.header;
+        proper = stands.proper;
+        kept = kept_next heading Patterns h (Isb pe) stands.kept (broken_isb heading h pe);
         pes = stands.pes;
         world = stands.world;
         first = λ p lt.
@@ -48,10 +53,18 @@ returns c = record {
         pendings = λ q b g r p held.
             stands.pendings q b g r p (sym (stay g r p) ∙ held)
             ∙ sym (waits-stay heading h (Isb pe) q b g p (less h pe heading p (is_of_tag g)) refl);
+        holders = stands.holders;
       };
-  prepared = λ room. room;
-  log = record { pes = refl; world = refl };
+  room = λ room. room;
 }
   where
     one : (b : Bool) → let vs : List ℕ = 0 ∷ [] in cond b (take 1 vs) vs ≡ vs
     one b = grind (arith)
+
+pub sync-requires : goal.sync-requires
+sync-requires c =
+    let less = of_state c.requires.2 c.requires.3 in let pes = c.args.self.now.registers.first_pes in omega (arith, less, pes)
+
+pub sync-requires-2 : goal.sync-requires-2
+sync-requires-2 c =
+    let less = of_state c.requires.2 c.requires.3 in let pes = c.args.self.now.registers.second_pes in omega (arith, less, pes)

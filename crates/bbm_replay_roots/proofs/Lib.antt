@@ -1,4 +1,0 @@
-mod Common
-pub mod Judge
-pub mod Unroots
-pub mod Writes
