@@ -160,7 +160,9 @@ fn alike(header: &Header, new: &Phases, old: &Phases) -> PeMask
         ≡ same_phase (spec.phase_from new.now p) (spec.phase_from old.now p) }
 {
     match (new, old) {
-        (Phases::Clean, Phases::Clean) | (Phases::Live, Phases::Live) => PeMask::all(header.pe_count()),
+        (Phases::Clean, Phases::Clean) | (Phases::Live, Phases::Live) => PeMask::all(
+            header.pe_count(),
+        ),
         (Phases::Broken(new), Phases::Broken(old)) => alike_broken(header, new, old),
         _ => PeMask::none(),
     }

@@ -14,5 +14,10 @@ fn nothing_is_left_after_break_before_make(rt: HostRuntime) {
         contiguous: false,
     };
     let one = Pe::new(1).unwrap();
-    assert!(rt; matches!(break_before_make(core, one, PeCount::new(2)), EntryState::Clean));
+    assert!(rt;
+        matches!(
+            break_before_make(core, one, PeCount::new(2)),
+            EntryState::Clean
+        )
+    );
 }
