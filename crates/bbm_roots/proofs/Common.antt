@@ -2,7 +2,8 @@
 pub use Rattle.indexmap.specs.IndexMap.{IndexMap, get, index_map_len, values}
 pub use Rattle.std.proofs.Common.{Bool, BuildHasherDefault, FoldHasher, HashMap, IsSome, List, None, Option, Some, []}
 pub use Rattle.std.proofs.Common.{ap, arith, cond, false, get_or, is_some, length, nat_eq, nat_le, nat_lt, not, refl}
-pub use Rattle.std.proofs.Common.{rules, set, slice_index_or, subst, suc, sym, take, true, zero, ℕ, ⊎_elim, ◌&&◌, ◌++◌, ◌+◌, ◌<◌, ◌==◌}
+pub use Rattle.std.proofs.Common.{rules, set, slice_index_or, subst, suc, sym, take, true, zero, ℕ, ⊎_elim, ◌&&◌, ◌++◌}
+pub use Rattle.std.proofs.Common.{◌+◌, ◌<◌, ◌==◌}
 pub use Rattle.std.proofs.Common.{◌||◌, ◌∙◌, ◌∷◌, ◌≡◌, ◌≤◌, Result, map}
 pub use Rattle.std.proofs.Math.Bool.{or_assoc}
 pub use Rattle.std.proofs.Math.Dec.{eqb-suc-suc, eqb-suc-zero, eqb-zero-suc}
@@ -35,6 +36,7 @@ pub use Rattle.bbm_lemmas.specs.ListWords.{same_flag}
 pub use Rattle.bbm_locks.specs.Holders.{holder_at}
 pub use Rattle.bbm_regimes.specs.PeMask.{pe_in}
 pub use Rattle.bbm_regimes.specs.Registers.{base_of, tag_number}
+pub use Rattle.bbm_regimes.specs.SameRegister.{same_kind}
 pub use Rattle.bbm_regimes.specs.World.{kind_in_world}
 pub use Rattle.bbm_regimes.specs.declared.regime.AsidFrom.{AsidFrom}
 pub use Rattle.bbm_regimes.specs.declared.regime.AsidFrom.TheVariants.{Ttbr0 as FromTtbr0, Ttbr1 as FromTtbr1}
@@ -47,7 +49,6 @@ pub use Rattle.bbm_regimes.specs.declared.regime.Tag.TheVariants.{Asid, Vmid, El
 pub use Rattle.bbm_regimes.specs.declared.regime.World.{World}
 pub use Rattle.bbm_regimes.specs.declared.regime.World.TheVariants.{Hyp, Kernel}
 pub use Rattle.bbm_roots.specs.Columns.{loads_in}
-pub use Rattle.bbm_roots.specs.DeclaredRoots.{is_of_kind}
 pub use Rattle.bbm_roots.specs.Holds.{IsCalm, Marks, conflict_in, entry_bit, entry_held, has_entry, hold_in, is_clash}
 pub use Rattle.bbm_roots.specs.Holds.{is_held_under, is_hold, some_pe, tag_in, tag_key}
 pub use Rattle.bbm_roots.specs.HoldsNew.{holds_asids, holds_new, holds_root, holds_under}
@@ -62,7 +63,7 @@ pub use Rattle.bbm_roots.specs.RootLaws.{Laws}
 pub use Rattle.bbm_roots.specs.RootPendings.{has_pending, has_wait, pending_in, slot_of, unread_at, wait_at, wait_bit}
 pub use Rattle.bbm_roots.specs.RootPendings.{wait_in}
 pub use Rattle.bbm_roots.specs.RootRegisters.{at_start, first_reg, is_first, is_that, kind_of_reg, names_null, names_in}
-pub use Rattle.bbm_roots.specs.RootRegisters.{newest, root_of, same_reg, second_reg, uses, load_in, loads_after}
+pub use Rattle.bbm_roots.specs.RootRegisters.{newest, root_of, same_reg, second_reg, load_in, loads_after}
 pub use Rattle.bbm_roots.specs.RootRegisters.{has_null_base, root_in}
 pub use Rattle.bbm_roots.specs.RootsStand.{Stands, pes_of, world_of}
 pub use Rattle.bbm_roots.specs.TagsByRoot.{is_listed, AreListed}

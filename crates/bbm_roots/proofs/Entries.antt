@@ -2,12 +2,12 @@
 use Rattle.bbm_roots.proofs.Common.{tag_equal, ◌≡◌, ◌+◌, ◌<◌, ◌≤◌, ℕ, Bool, true, false, ◌&&◌, ◌||◌, nat_eq, List}
 use Rattle.bbm_roots.proofs.Common.{slice_get, get_or_from_slice_get, pe_in, arith, nat_tests, [], ◌∷◌, Option, Some}
 use Rattle.bbm_roots.proofs.Common.{None, cond, refl, sym, ◌∙◌, ap, take, length, list_any, lookup, false≢true}
-use Rattle.bbm_roots.proofs.Common.{take_all, IndexMap, values, Tag, is_hold, entry_bit, entry_held, is_held_under}
+use Rattle.bbm_roots.proofs.Common.{take_all, IndexMap, get, values, Tag, entry_bit, entry_held, is_held_under}
 use Rattle.bbm_roots.proofs.Common.{hold_in, tag_in, tag_key, same_tag, has_other, is_reading, is_other, Held, Reading}
 use Rattle.bbm_roots.proofs.Common.{first_true}
 use Rattle.std.specs.List.{AllByRecursion, IsDistinct}
 use Rattle.std.specs.Map.{keys_of, values_of}
-use Rattle.bbm_roots.specs.Holds.{is_held_by}
+use Rattle.bbm_roots.specs.Holds.{entry_keeps, is_held_by, kept_in}
 use Rattle.bbm_roots.proofs.Tests.{as-same, any-next, any-front}
 
 -- what an entry that a key finds passes, one of the entries does
@@ -21,11 +21,18 @@ abbrev pub is_held_as : Tag → Held → Bool
 is_held_as g x = same_tag x.tag g
 
 -- a tag that is held has an entry
-pub held-among : {S : Type 0} (hs : IndexMap ℕ Held S) (g : Tag) (r p : ℕ) → hold_in hs g r p ≡ true → list_any (is_held_as g) (values hs) ≡ true
-held-among hs g r p =
-    found-among (entry_bit g r p) (is_held_as g) refl
-    (λ (x : Held) e. first_true (same_tag x.tag g) (nat_eq x.root r) (first_true (is_hold g r x) (pe_in x.pes p) e))
+pub held-among : {S : Type 0} (hs : IndexMap ℕ Held S) (g : Tag) (p : ℕ) → kept_in hs g p ≡ true → list_any (is_held_as g) (values hs) ≡ true
+held-among hs g p =
+    found-among (entry_keeps g p) (is_held_as g) refl (λ (x : Held) e. first_true (same_tag x.tag g) (pe_in x.pes p) e)
     (nat_eq (tag_key g)) hs.entries
+
+-- what a root holds is held
+pub held-kept : {S : Type 0} (hs : IndexMap ℕ Held S) (g : Tag) (r p : ℕ) → hold_in hs g r p ≡ true → kept_in hs g p ≡ true
+held-kept hs g r p = by (get nat_eq hs (tag_key g))
+  where
+    by : (o : Option Held) → entry_bit g r p o ≡ true → entry_keeps g p o ≡ true
+    by None e = e
+    by (Some held) e = grind (arith)
 
 module _ (n root : ℕ) where
   -- whether an entry with its key shows that the root holds the tag

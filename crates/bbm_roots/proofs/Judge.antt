@@ -199,16 +199,6 @@ pub named_by : (heading : Heading) (h : List Event) (pe : ℕ) (op : TlbiOp) (xt
 named_by heading h pe op xt scope lacks decoded =
     ap (λ (b : Bool). cond b None (result_ok (scope_of op xt))) lacks ∙ ap (λ (r : Result Scope BadOperandOf). result_ok r) decoded
 
--- ---- limits
-
-pub full : (h : List Event) (n : ℕ) → n ≡ length (roots_of h)
-    → (if_so (nat_le 1024 (length (roots_of h))) Roots' ≡ Some Roots') ↔ (1024 ≤ n)
-full h n e = (λ k. up (nat_le 1024 (length (roots_of h))) refl k, λ k. ap (λ (b : Bool). if_so b Roots') (le-leb 1024 (length (roots_of h)) (omega arith)))
-  where
-    up : (b : Bool) → nat_le 1024 (length (roots_of h)) ≡ b → if_so b Roots' ≡ Some Roots' → 1024 ≤ n
-    up true k l = let m = leb-true 1024 (length (roots_of h)) k in omega arith
-    up false k l = let never : None ≡ Some Roots' = l in cc
-
 -- ---- the world of a header
 
 pub world_by : {roots : Roots} {heading : Heading} {h : List Event} (s : Stands roots heading h) (world : World) (op : TlbiOp) (b : Bool)

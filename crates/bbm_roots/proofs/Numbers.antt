@@ -1,7 +1,9 @@
 -- The numbers of a list of values: one, or several.
 use Rattle.bbm_roots.proofs.Common.{◌≡◌, ℕ, ◌<◌, Bool, true, false, ◌&&◌, nat_eq, nat_lt, List, [], ◌∷◌, ◌∙◌, Option}
-use Rattle.bbm_roots.proofs.Common.{map, tag_number, Event, load_in, Some, None, length, cond, subst, slice_index_or, list_all, numbered}
-use Rattle.bbm_roots.proofs.Common.{refl, sym, ap, arith, false≢true, eq-eqb, ltb-true, ◌==◌, Reg, IsLeast, UpTo, RootValue}
+use Rattle.bbm_roots.proofs.Common.{map, tag_number, Event, load_in, Some, None, length, cond, subst, slice_index_or}
+use Rattle.bbm_roots.proofs.Common.{list_all, numbered}
+use Rattle.bbm_roots.proofs.Common.{refl, sym, ap, arith, false≢true, eq-eqb, ltb-true, ◌==◌, Reg, IsLeast, UpTo}
+use Rattle.bbm_roots.proofs.Common.{RootValue}
 use Rattle.std.proofs.lemmas.List.{length-map}
 use Rattle.std.proofs.lemmas.Simd.{map-map}
 use Rattle.bbm_lemmas.specs.ListWords as words

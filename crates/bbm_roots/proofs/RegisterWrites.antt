@@ -1,6 +1,7 @@
 -- Whether a register write may be taken, by the rules and by what the roots tell.
 use Rattle.bbm_roots.proofs.Common.{flat_map, option_and_then, Patterns, names_null, root_in, has_null_base, Laws}
-use Rattle.bbm_rules.proofs.Common.{◌≡◌, ℕ, ◌≤◌, ◌<◌, Bool, true, false, not, ◌&&◌, ◌||◌, ◌==◌, cond, nat_le, List, [], ◌∷◌}
+use Rattle.bbm_rules.proofs.Common.{◌≡◌, ℕ, ◌≤◌, ◌<◌, Bool, true, false, not, ◌&&◌, ◌||◌, ◌==◌, cond, nat_le, List, []}
+use Rattle.bbm_rules.proofs.Common.{◌∷◌}
 use Rattle.bbm_rules.proofs.Common.{map, length, min, Option, Some, None, Result, Ok, Err, refl, sym, ap, ◌∙◌, subst}
 use Rattle.bbm_rules.proofs.Common.{true≢false, inl, inr, arith, list_any, option_map_or, and_from, and_parts, eqb-true}
 use Rattle.bbm_rules.proofs.Common.{eq-eqb, le-leb, or_cases, or_left, or_right, pe_finds, Which, Reg, Ttbr0El2}

@@ -2,7 +2,7 @@
 use Rattle.bbm_roots.proofs.Common.{◌≡◌, ℕ, ◌+◌, Bool, true, false, not, ◌&&◌, nat_eq, List, [], ◌∷◌, Option, nat_tests}
 use Rattle.bbm_roots.proofs.Common.{option_and_then, Event, Root, Unroot, Declared, is_root, lock_of, retired, root_at}
 use Rattle.bbm_roots.proofs.Common.{roots_of, None, is_some, length, cond, refl, ◌∙◌, ap, IsSome, arith, list_any}
-use Rattle.bbm_roots.proofs.Common.{false≢true, Kind, is_of_kind}
+use Rattle.bbm_roots.proofs.Common.{false≢true, Kind, Some, same_kind}
 use Rattle.std.proofs.Common.{find}
 use Rattle.bbm_rules.specs.Roots.{is_at}
 use Rattle.bbm_histories.specs.ValueSteps.{is_root_after, root_after}
@@ -52,7 +52,11 @@ roots-apart (e ∷ h) = roots-apart h
 
 -- ---- the root of a page
 
--- its kind
+-- whether there is a root and it is of the kind
+abbrev pub is_of_kind : Kind → Option Declared → Bool
+is_of_kind kind None = false
+is_of_kind kind (Some r) = same_kind r.kind kind
+
 pub kind-found : (h : List Event) (kind : Kind) (page : ℕ) → is_of_kind kind (root_at h page) ≡ is_root h kind page
 kind-found [] kind page = refl
 kind-found (e ∷ h) kind page =
@@ -73,6 +77,3 @@ pub unlocked : (h : List Event) (e : Event) (page : ℕ) (o : Option Declared)
     → ((q : ℕ) → lock_of h q ≡ None) → (q : ℕ) → lock_of (e ∷ h) q ≡ None
 unlocked h e page o is lock none q =
     let unlocked_before : lock_in (root_at h q) ≡ None = none q in ap lock_in (root_step e h q ∙ is q) ∙ grind (arith)
-
-pub none-there : (o : Option Declared) → is_some o ≡ false → o ≡ None
-none-there o e = grind (arith)

@@ -91,7 +91,7 @@ two-of test t one two =
     false≢true (sym two.2 ∙ rw (← a, ← b) (tag_self t))
 
 -- only one set says of each tag whether it passes
-set-one : (test : Tag → Bool) (set other : TagSet) → HasTags test set → HasTags test other → set ≡ other
+pub set-one : (test : Tag → Bool) (set other : TagSet) → HasTags test set → HasTags test other → set ≡ other
 set-one test NoTag NoTag a b = refl
 set-one test NoTag (One u) a b = absurd (false≢true (sym (a u) ∙ b u ∙ tag_self u))
 set-one test NoTag Many a b = absurd (false≢true (sym (a b.0) ∙ b.3))
@@ -101,11 +101,3 @@ set-one test (One t) Many a b = absurd (two-of test t a b)
 set-one test Many NoTag a b = absurd (false≢true (sym (b a.0) ∙ a.3))
 set-one test Many (One u) a b = absurd (two-of test u b a)
 set-one test Many Many a b = refl
-
--- and so the set that tells by cases what passes
-pub same-set : (test : Tag → Bool) (set other : TagSet) → HasTags test set → (other ≡ NoTag → (g : Tag) → test g ≡ false) →
-    ((t : Tag) → other ≡ One t → (g : Tag) → test g ≡ same_tag t g) →
-    (other ≡ Many → (g k : Tag) × (same_tag g k ≡ false) × (test g ≡ true) × (test k ≡ true)) → set ≡ other
-same-set test set NoTag has none one many = set-one test set NoTag has (none refl)
-same-set test set (One t) has none one many = set-one test set (One t) has (one t refl)
-same-set test set Many has none one many = set-one test set Many has (many refl)

@@ -22,10 +22,15 @@ use Rattle.bbm_rules.specs.Rules.{root_in_use}
 use Rattle.bbm_rules.specs.declared.rule.Rule.TheVariants.{NoLock, NoRoot, RootInUse, WrongWorld}
 use Rattle.bbm_histories.specs.TreeChanges.{Proper}
 use Rattle.bbm_roots.specs.LoadsOf.{uses_at}
-use Rattle.bbm_roots.specs.RootRegisters.{names_page, uses}
+use Rattle.bbm_roots.specs.RootRegisters.{names_page}
 use Rattle.bbm_roots.proofs.Conflicts.{tag-held}
 use Rattle.bbm_roots.proofs.Tests.{and_right, none_at}
 use Rattle.bbm_roots.proofs.Judge.{broken_unroot, or_rule}
+
+-- whether a readable value of a register of the world names the root with this first page
+abbrev pub uses : List Event → World → ℕ → ℕ → Bool
+uses h world page p =
+    names_in (loads_after h p (first_reg world)) page || names_in (loads_after h p (second_reg world)) page
 
 -- ---- the bases of the registers
 

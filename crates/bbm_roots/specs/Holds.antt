@@ -28,6 +28,11 @@ abbrev pub entry_bit : Tag → ℕ → ℕ → Option Held → Bool
 entry_bit tag root p None = false
 entry_bit tag root p (Some held) = holds_bit tag root p held
 
+-- whether an entry is one of the tag, with p in it, whosever it is
+abbrev pub entry_keeps : Tag → ℕ → Option Held → Bool
+entry_keeps tag p None = false
+entry_keeps tag p (Some held) = same_tag held.tag tag && pe_in held.pes p
+
 -- whether the root holds the entry's tag at one of the first n PEs
 abbrev pub is_held_by : ℕ → Tag → ℕ → Held → Bool
 is_held_by n tag root held = is_hold tag root held && some_pe n (pe_in held.pes)
@@ -45,7 +50,11 @@ module _ {S : Type 0} (holds : IndexMap ℕ Held S) where
   abbrev pub has_entry : Tag → Bool
   has_entry tag = is_some (get nat_eq holds (tag_key tag))
 
-  -- whether the tag is held for the root at p, and at one of the first n PEs
+  -- whether the tag is held at p, for any root
+  abbrev pub kept_in : Tag → ℕ → Bool
+  kept_in tag p = entry_keeps tag p (get nat_eq holds (tag_key tag))
+
+  -- whether it is held for the root at p, and at one of the first n PEs
   abbrev pub hold_in : Tag → ℕ → ℕ → Bool
   hold_in tag root p = entry_bit tag root p (get nat_eq holds (tag_key tag))
 

@@ -8,7 +8,6 @@ pub mod Readings
 pub mod Refusals
 pub mod RootRegisters
 pub mod LoadsOf
-pub mod DeclaredRoots
 pub mod RootsStand
 pub mod RootChanges
 pub mod RootJudgements

@@ -9,7 +9,7 @@ use Rattle.bbm_regimes.specs.PeMask.{pe_in}
 use Rattle.bbm_regimes.specs.declared.regime.Tag.{Tag}
 use Rattle.bbm_tlbi_scope.specs.ScopeTags.{takes_whole_tag}
 use Rattle.bbm_tlbi_scope.specs.declared.scope.Scope.{Scope}
-use Rattle.bbm_roots.specs.Holds.{tag_key, hold_in}
+use Rattle.bbm_roots.specs.Holds.{tag_key, kept_in}
 use Rattle.bbm_roots.specs.LoadsOf.{reads_at}
 use Rattle.bbm_roots.specs.Readings.{same_tag, has_tag}
 use Rattle.bbm_roots.specs.declared.hold.Held.{Held}
@@ -92,20 +92,20 @@ EmptiesPlace place old new = (n key : ℕ) → wait_at new n key ≡ (if nat_eq 
 
 -- a TLBI of this scope, under this VMID
 module _ (scope : Scope) (vmid : Option ℕ) {S : Type 0} (holds : IndexMap ℕ Held S) where
-  -- each tag that is held and that it takes passes the test
+  -- each tag that is kept and that it takes passes the test
   abbrev pub EachTaken : (Tag → Bool) → Type 0
-  EachTaken test = (tag : Tag) (root p : ℕ) → hold_in holds tag root p ≡ true → takes_whole_tag scope vmid tag ≡ true
+  EachTaken test = (tag : Tag) (p : ℕ) → kept_in holds tag p ≡ true → takes_whole_tag scope vmid tag ≡ true
       → test tag ≡ true
 
-  -- In a place: of each tag that is held, the entry, where there is one and the TLBI takes the tag, gets the PEs that a
+  -- In a place: of each tag that is kept, the entry, where there is one and the TLBI takes the tag, gets the PEs that a
   -- TLBI of q reaches while the tag is readable there for no root.
   abbrev pub NotesTaken : {T : Type 0} → Registers → ℕ → IndexMap ℕ Waiting T → IndexMap ℕ Waiting T → Type 0
-  NotesTaken registers q old new = (tag : Tag) (root h p : ℕ) → hold_in holds tag root h ≡ true → wait_in new tag p
+  NotesTaken registers q old new = (tag : Tag) (k p : ℕ) → kept_in holds tag k ≡ true → wait_in new tag p
       ≡ (wait_in old tag p || (has_wait old tag && (takes_whole_tag scope vmid tag
       && unread_at registers q scope.broadcast tag p)))
 
-  -- each tag that it takes and that is held at a PE which a TLBI of q reaches while the tag is readable there for no
+  -- each tag that it takes and that is kept at a PE which a TLBI of q reaches while the tag is readable there for no
   -- root passes the test
   abbrev pub EachLost : Registers → ℕ → (Tag → Bool) → Type 0
-  EachLost registers q test = (tag : Tag) (root p : ℕ) → hold_in holds tag root p ≡ true
+  EachLost registers q test = (tag : Tag) (p : ℕ) → kept_in holds tag p ≡ true
       → takes_whole_tag scope vmid tag ≡ true → unread_at registers q scope.broadcast tag p ≡ true → test tag ≡ true

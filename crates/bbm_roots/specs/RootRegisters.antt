@@ -72,11 +72,6 @@ module _ (h : List Event) where
   abbrev pub loads_after : ℕ → Reg → List RootValue
   loads_after p reg = map (load_in reg) (register_values h p reg)
 
-  -- whether one of them, of a register of the world, names the root with this first page
-  abbrev pub uses : World → ℕ → ℕ → Bool
-  uses world page p =
-      names_in (loads_after p (first_reg world)) page || names_in (loads_after p (second_reg world)) page
-
 -- whether the base of a register value is a null page
 abbrev pub has_null_base : List Event → ℕ → Bool
 has_null_base h value = option_map_or (λ base. is_null h base) (base_of value) false

@@ -7,7 +7,7 @@ ghost use Rattle.bbm_roots.specs.Holds.{hold_in, tag_in};
 ghost use Rattle.bbm_roots.specs.HoldsNew as spec;
 ghost use Rattle.bbm_roots.specs.declared.reading.Reading.{Reading as TheReading};
 
-use crate::hold::{Holds, is_held_at, is_hold, some_pe, tag_key};
+use crate::hold::{Holds, is_held_at, some_pe, tag_key};
 use crate::load::RootValue;
 use crate::reading::Reading;
 use bbm_regimes::{AsidFrom, Page, Pe, PeCount, Tag, World};
@@ -65,7 +65,7 @@ fn known_for(holds: &Holds, n: PeCount, tag: Tag, root: Page, pe: Pe) -> Shortcu
 {
     match holds.get(&tag_key(tag)) {
         Some(held) => {
-            if !is_hold(held, tag, root) {
+            if !held.is_hold(tag, root) {
                 Shortcut::Open
             } else if held.pes.has(pe) {
                 Shortcut::Held

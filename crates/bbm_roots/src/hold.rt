@@ -44,11 +44,15 @@ pub fn some_pe(pes: PeMask, n: PeCount) -> bool
     !pes.and(PeMask::all(n)).is_empty()
 }
 
-/// Whether the entry is that of the tag and the root.
-pub fn is_hold(held: &Held, tag: Tag, root: Page) -> bool
-    ensures { result ≡ spec.is_hold tag root held.now }
-{
-    same_tag(held.tag, tag) && held.root == root
+impl Held {
+    ghost use Rattle.bbm_roots.specs.Holds.{is_hold};
+
+    /// Whether the entry is that of the tag and the root.
+    pub fn is_hold(&self, tag: Tag, root: Page) -> bool
+        ensures { result ≡ is_hold tag root self.now }
+    {
+        same_tag(self.tag, tag) && self.root == root
+    }
 }
 
 /// Whether the PE holds the tag for the root, as the entry of the tag says.
@@ -56,7 +60,7 @@ pub fn is_held_at(holds: &Holds, tag: Tag, root: Page, pe: Pe) -> bool
     ensures { result ≡ spec.hold_in holds.now tag root pe }
 {
     match holds.get(&tag_key(tag)) {
-        Some(held) => is_hold(held, tag, root) && held.pes.has(pe),
+        Some(held) => held.is_hold(tag, root) && held.pes.has(pe),
         None => false,
     }
 }
@@ -124,7 +128,7 @@ fn entered(held: Held, tag: Tag, root: Page, pe: Pe) -> Held
         ≡ (nat_eq root r && (spec.holds_bit tag r p held || nat_eq p pe)) }
 {
     let one = PeMask::one(pe);
-    let pes = if is_hold(&held, tag, root) {
+    let pes = if held.is_hold(tag, root) {
         held.pes.or(one)
     } else {
         one

@@ -8,7 +8,7 @@ ghost use Rattle.bbm_regimes.specs.PeMask.{pe_in};
 ghost use Rattle.bbm_regimes.specs.declared.regime.Tag.{Tag as TheTag};
 ghost use Rattle.bbm_tlbi_scope.specs.Operations.{has_page};
 ghost use Rattle.bbm_tlbi_scope.specs.ScopeTags.{takes_whole_tag};
-ghost use Rattle.bbm_roots.specs.Holds.{hold_in, tag_key as key_of};
+ghost use Rattle.bbm_roots.specs.Holds.{kept_in, tag_key as key_of};
 ghost use Rattle.bbm_roots.specs.Keyed.{OthersStay};
 ghost use Rattle.bbm_lemmas.specs.ListWords.{same_flag};
 ghost use Rattle.bbm_roots.specs.RootPendings as spec;
@@ -98,8 +98,8 @@ fn reached(registers: &Registers, issuer: Pe, broadcast: bool) -> PeMask
 /// Whether a TLBI of the issuer for the tag takes it from a PE that holds it: one that it reaches and at which the tag
 /// is readable for no root.
 fn takes_from(holds: &Holds, registers: &Registers, issuer: Pe, broadcast: bool, tag: Tag) -> bool
-    ensures { (r p : ℕ) → hold_in holds.now tag r p ≡ true
-        → spec.unread_at registers.now issuer broadcast tag p ≡ true → result ≡ true }
+    ensures { (p : ℕ) → kept_in holds.now tag p ≡ true → spec.unread_at registers.now issuer broadcast tag p ≡ true
+        → result ≡ true }
 {
     match holds.get(&tag_key(tag)) {
         Some(held) => {
@@ -279,7 +279,7 @@ fn note_place(
     scope: &Scope,
     vmid: Option<u16>,
 )
-    ensures { (n : ℕ) (g : TheTag) (r h p : ℕ) → hold_in holds.now g r h ≡ true
+    ensures { (n : ℕ) (g : TheTag) (h p : ℕ) → kept_in holds.now g h ≡ true
         → spec.wait_bit g p (spec.wait_at waits.new.items n (key_of g))
         ≡ (spec.wait_bit g p (spec.wait_at waits.old.items n (key_of g))
         || (is_some (spec.wait_at waits.old.items n (key_of g)) && (nat_eq n (spec.slot_of issuer scope.now.broadcast)
@@ -301,7 +301,7 @@ pub fn note(
     scope: &Scope,
     vmid: Option<u16>,
 )
-    ensures { (q : ℕ) (b : Bool) (g : TheTag) (r h p : ℕ) → hold_in holds.now g r h ≡ true
+    ensures { (q : ℕ) (b : Bool) (g : TheTag) (h p : ℕ) → kept_in holds.now g h ≡ true
         → spec.pending_in pendings.new q b g p
         ≡ (spec.pending_in pendings.old q b g p || (spec.has_pending pendings.old q b g
         && ((nat_eq q issuer && same_flag scope.now.broadcast b && takes_whole_tag scope.now vmid g)

@@ -1,7 +1,7 @@
 //! A declared root.
 
 ghost use Rattle.std.specs.Prelude.{◌≡◌};
-ghost use Rattle.bbm_roots.specs.DeclaredRoots.{same_kind as spec_same_kind};
+ghost use Rattle.bbm_regimes.specs.SameRegister.{same_kind as spec_same_kind};
 
 use bbm_regimes::{Kind, Page};
 use std::marker::Model;

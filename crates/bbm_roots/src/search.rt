@@ -133,7 +133,7 @@ fn is_held_under(key: u32, held: &Held, n: PeCount, root: Page) -> bool
     ensures held { (g : TheTag) → spec.is_held_under n g root key held.now ≡ (spec.is_hold g root held.now && result) }
     ensures root { result ≡ true → held.now.root ≡ root }
 {
-    held.root == root && some_pe(held.pes, n) && tag_key(held.tag) == key
+    held.is_hold(held.tag, root) && some_pe(held.pes, n) && tag_key(held.tag) == key
 }
 
 /// The first tag, where that of the entry under this key is one more candidate.

@@ -1,4 +1,5 @@
-use Rattle.bbm_roots.proofs.Common.{◌≡◌, ◌∙◌, ◌<◌, ◌≤◌, ◌&&◌, List, [], ◌∷◌, ℕ, Some, None, Option, arith, ap, sym, refl, rules, El2, true, false}
+use Rattle.bbm_roots.proofs.Common.{◌≡◌, ◌∙◌, ◌<◌, ◌≤◌, ◌&&◌, List, [], ◌∷◌, ℕ, Some, None, Option, arith, ap, sym}
+use Rattle.bbm_roots.proofs.Common.{refl, rules, El2, true, false}
 use Rattle.bbm_roots.proofs.Common.{base_of, Bool, Heading, Event, Root, Patterns, Stands, has_null_base}
 use Rattle.bbm_events.specs.declared.event.Event.TheVariants.{Init}
 use Rattle.bbm_rules.proofs.Common.{and_parts, is_null, is_none}

@@ -5,11 +5,11 @@ use Rattle.bbm_roots.proofs.Entries.{held-among, is_held_as}
 use Rattle.bbm_roots.proofs.issue.make_entries.Goals as goal
 
 pub returns-clause-made : goal.returns-clause-made
-returns-clause-made c = λ g r p held takes.
+returns-clause-made c = λ g p kept takes.
     let all = c.entries-held-items.result.now in
     let whole : take c.loop-held.held-index all ≡ all = take_all c.loop-held.held-index all (omega arith) in
     c.loop-held.invariant.made g
-    (ap (list_any (is_held_as g)) (whole ∙ c.entries-held-items.ensures) ∙ held-among c.args.holds.now g r p held) takes
+    (ap (list_any (is_held_as g)) (whole ∙ c.entries-held-items.ensures) ∙ held-among c.args.holds.now g p kept) takes
 
 pub loop-held-preserved : goal.loop-held-preserved
 loop-held-preserved c =

@@ -9,7 +9,7 @@ returns-clause-same c =
     c.index_mut.ensures.value c.make_entries.ensures.same
 
 pub returns-clause-made : goal.returns-clause-made
-returns-clause-made c = on_ok_weaker c.make_entries.result (λ made g r p held takes.
+returns-clause-made c = on_ok_weaker c.make_entries.result (λ made g p kept takes.
     ap (λ (o : Option Waiting). is_some o)
     (at-here c.args.waits.now.items c.args.place c.make_entries.new.waits c.requires (tag_key g))
-    ∙ made g r p held takes) c.make_entries.ensures.made
+    ∙ made g p kept takes) c.make_entries.ensures.made

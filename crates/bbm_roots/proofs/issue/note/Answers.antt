@@ -11,18 +11,18 @@ unnoted : (k w h q s t u : Bool) → (q ≡ true → k ≡ false) → (k && w) �
 unnoted k w h q s t u = grind (arith)
 
 pub returns-then-has : goal.returns-then-has
-returns-then-has c = λ q b g r h p held.
+returns-then-has c = λ q b g h p kept.
     let ms = c.args.pendings.now.waits.items in
     let here = pe_in c.args.pendings.now.issuers q in
     let flag = c.args.scope.now.broadcast in
     let w = wait_at ms (slot_of q b) (tag_key g) in
     let takes = takes_whole_tag c.args.scope.now c.args.vmid g in
     let unread = unread_at c.args.registers.now c.args.issuer flag g p in
-    rw (c.note_place.ensures (slot_of q b) g r h p held, slots q b c.args.issuer flag)
+    rw (c.note_place.ensures (slot_of q b) g h p kept, slots q b c.args.issuer flag)
     (known here (wait_bit g p w) (is_some w) (nat_eq q c.args.issuer && same_flag flag b) takes unread)
 
 pub returns-else-has : goal.returns-else-has
-returns-else-has c = λ q b g r h p held.
+returns-else-has c = λ q b g h p kept.
     let ps = c.args.pendings.now in
     let flag = c.args.scope.now.broadcast in
     let w = wait_at ps.waits.items (slot_of q b) (tag_key g) in

@@ -24,7 +24,7 @@ loop-held-preserved c =
     }
 
 pub returns : goal.returns
-returns c = λ g r h p held.
+returns c = λ g h p kept.
     let all = c.entries-held-items.result.now in
     let old = c.args.waits.now in
     let z = takes_whole_tag c.args.scope.now c.args.vmid g
@@ -32,4 +32,4 @@ returns c = λ g r h p held.
     let whole : take c.loop-held.held-index all ≡ all = take_all c.loop-held.held-index all (omega arith) in
     c.loop-held.invariant.bits g p
     ∙ ap (λ (b : Bool). wait_in old g p || (has_wait old g && (b && z)))
-    (ap (list_any (is_held_as g)) (whole ∙ c.entries-held-items.ensures) ∙ held-among c.args.holds.now g r h held)
+    (ap (list_any (is_held_as g)) (whole ∙ c.entries-held-items.ensures) ∙ held-among c.args.holds.now g h kept)

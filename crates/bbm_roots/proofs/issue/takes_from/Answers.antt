@@ -1,6 +1,7 @@
 use Rattle.bbm_roots.proofs.Common.{◌≡◌, ◌∙◌, Bool, true, ◌&&◌, ◌||◌, not, nat_eq, nat_lt, refl, sym, ap, ℕ, false≢true}
-use Rattle.bbm_roots.proofs.Common.{pe_in, reads_at, arith, Option, Some, None, is_some, rules, get, tag_key, entry_bit}
-use Rattle.bbm_roots.proofs.Common.{is_hold, Held, IsLeast, UpTo}
+use Rattle.bbm_roots.proofs.Common.{pe_in, reads_at, arith, Option, Some, None, is_some, rules, get, tag_key, same_tag}
+use Rattle.bbm_roots.proofs.Common.{Held, IsLeast, UpTo}
+use Rattle.bbm_roots.specs.Holds.{entry_keeps}
 use Rattle.bbm_roots.proofs.Tests.{and_right}
 use Rattle.bbm_roots.proofs.issue.takes_from.Goals as goal
 
@@ -14,13 +15,13 @@ among : (below reached held unread of_pe : Bool) → (below ≡ true → reached
 among below reached held unread of_pe = grind (arith)
 
 pub returns-in-Some : goal.returns-in-Some
-returns-in-Some c = λ r p held lost.
+returns-in-Some c = λ p kept lost.
     let registers = c.args.registers.now in
     let tag = c.args.tag in
     let x : Held = c.in-Some.held.now in
     let found : get nat_eq c.args.holds.now (tag_key tag) ≡ Some x = search rules in
     let there : pe_in x.pes p ≡ true =
-    and_right (is_hold tag r x) (pe_in x.pes p) (sym (ap (entry_bit tag r p) found) ∙ held) in
+    and_right (same_tag x.tag tag) (pe_in x.pes p) (sym (ap (entry_keeps tag p) found) ∙ kept) in
     c.is_some.ensures
     ∙ some-least (λ q. nat_lt q registers.pes && (pe_in c.and-pes.result q && not (reads_at registers q tag)))
     c.first_unread.result c.first_unread.ensures p

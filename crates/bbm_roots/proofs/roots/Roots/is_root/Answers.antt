@@ -1,5 +1,5 @@
-use Rattle.bbm_roots.proofs.Common.{◌≡◌, ◌∙◌, ap, Option, Some, None, get, nat_eq, rules, is_of_kind, Declared}
-use Rattle.bbm_roots.proofs.RootLists.{kind-found}
+use Rattle.bbm_roots.proofs.Common.{◌≡◌, ◌∙◌, ap, Option, Some, None, get, nat_eq, rules, Declared}
+use Rattle.bbm_roots.proofs.RootLists.{is_of_kind, kind-found}
 use Rattle.bbm_roots.proofs.roots.Roots.is_root.Goals as goal
 
 pub returns-in-Some : goal.returns-in-Some

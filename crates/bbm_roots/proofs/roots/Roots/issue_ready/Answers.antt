@@ -1,10 +1,13 @@
 use Rattle.bbm_roots.proofs.Common.{◌≡◌, ◌<◌, ◌∙◌, ap, sym, refl, Bool, ◌&&◌, ◌||◌, nat_eq, nat_lt, true, false, ℕ}
-use Rattle.bbm_roots.proofs.Common.{TlbiOp, Scope, Tlbi, Patterns, holds_at, Stands, holder_at, not, loads_after, Option}
+use Rattle.bbm_roots.proofs.Common.{TlbiOp, Scope, Tlbi, Patterns, holds_at, Stands, holder_at, not, loads_after}
+use Rattle.bbm_roots.proofs.Common.{Option}
 use Rattle.bbm_roots.proofs.Common.{Heading, Event, List, ◌∷◌, None, Some}
-use Rattle.bbm_roots.proofs.Common.{lt-ltb, first_true, Tag, takes_whole_tag, loads_in, hold_in, pending_in}
+use Rattle.bbm_roots.proofs.Common.{lt-ltb, first_true, Tag, takes_whole_tag, loads_in, pending_in}
 use Rattle.bbm_roots.proofs.Common.{has_pending, same_flag, unread_at, has_tag, reads_tag, first_reg, second_reg}
 use Rattle.bbm_roots.proofs.Common.{world_of, pes_of, or-false, Registers, Roots, arith, eqb-true, Pendings}
+use Rattle.bbm_roots.specs.Holds.{kept_in}
 use Rattle.bbm_roots.specs.RootChanges.{SameDeclared}
+use Rattle.bbm_roots.proofs.Entries.{held-kept}
 use Rattle.bbm_roots.proofs.Flat.{reads_tag-is}
 use Rattle.bbm_histories.proofs.Induction.{kept_next}
 use Rattle.bbm_locks.specs.declared.locks.Locks.{Locks}
@@ -32,10 +35,10 @@ entry-there q issuer flag b takes g ps key there =
 -- tag from a PE
 issued : (old new : Roots) (issuer : ℕ) (op : TlbiOp) (xt : ℕ) (scope : Scope) (vmid : Option ℕ) (has : ℕ → Bool → Tag → Bool) →
     new.registers ≡ old.registers → new.holds ≡ old.holds → SameDeclared old new →
-    ((q : ℕ) (b : Bool) (g : Tag) (r p : ℕ) → hold_in old.holds g r p ≡ true →
+    ((q : ℕ) (b : Bool) (g : Tag) (p : ℕ) → kept_in old.holds g p ≡ true →
     (nat_eq q issuer && same_flag scope.broadcast b && takes_whole_tag scope vmid g) ≡ true →
     unread_at old.registers issuer scope.broadcast g p ≡ true → has q b g ≡ true) →
-    ((q : ℕ) (b : Bool) (g : Tag) (r p : ℕ) → hold_in old.holds g r p ≡ true → pending_in new.pendings q b g p
+    ((q : ℕ) (b : Bool) (g : Tag) (p : ℕ) → kept_in old.holds g p ≡ true → pending_in new.pendings q b g p
     ≡ (pending_in old.pendings q b g p || (has q b g && ((nat_eq q issuer && same_flag scope.broadcast b
     && takes_whole_tag scope vmid g) && unread_at old.registers issuer scope.broadcast g p)))) →
     (heading : Heading) (h : List Event) → Stands old heading h → Issues heading h issuer op xt scope vmid →
@@ -59,15 +62,15 @@ issued old new issuer op xt scope vmid has registers holds roots there notes hea
       inside = λ g r p past. stay g r p ∙ stands.inside g r p past;
       pendings = λ q b g r p after.
           let held : holds_at heading Patterns p r g h ≡ true = sym (stay g r p) ∙ after in
-          let here : hold_in old.holds g r p ≡ true = stands.holds g r p ∙ held in
+          let here : kept_in old.holds g p ≡ true = held-kept old.holds g r p (stands.holds g r p ∙ held) in
           let below : p < heading.pes =
           let inside = stands.inside g r p in grind (arith) in
           let less : p < pes_of old = let n = stands.pes in omega (arith, below) in
-          notes q b g r p here
+          notes q b g p here
           ∙ noted heading h issuer op xt scope vmid named q b g p (pending_in old.pendings q b g p) (has q b g)
           (nat_lt p (pes_of old))
           (reads_tag (world_of old) (loads_in old.registers.first.items p) (loads_in old.registers.second.items p) g)
-          (stands.pendings q b g r p held) (there q b g r p here) (lt-ltb p (pes_of old) less)
+          (stands.pendings q b g r p held) (there q b g p here) (lt-ltb p (pes_of old) less)
           (rw (stands.world, stands.first p below, stands.second p below)
           (sym (reads_tag-is heading.world (loads_after h p (first_reg heading.world))
           (loads_after h p (second_reg heading.world)) g) ∙ ap (has_tag g) (readings-same heading.world h p)));
@@ -96,11 +99,11 @@ returns c op xt =
       taken = λ heading h stands k.
           issued old _ c.args.issuer op xt scope vmid (has_pending old.pendings) refl refl
           (record { header = refl; declared = refl; names = refl; locks = refl })
-          (λ q b g r p held key lost. entry-there q c.args.issuer scope.broadcast b (takes_whole_tag scope vmid g) g
+          (λ q b g p kept key lost. entry-there q c.args.issuer scope.broadcast b (takes_whole_tag scope vmid g) g
           old.pendings key
           (λ e. and_right c.args.takes (has_pending old.pendings c.args.issuer scope.broadcast g)
-          (c.requires g r p held e lost)))
-          (λ q b g r p held. c.note.ensures q b g r p p held) heading h stands
+          (c.requires g p kept e lost)))
+          (λ q b g p kept. c.note.ensures q b g p p kept) heading h stands
           (k.0.0, k.0.1, reach-is scope.broadcast true stands (sym c.reaches.ensures ∙ c.if-not-reaches.false)) k.1;
       room = λ room. room;
     }
@@ -138,8 +141,8 @@ returns-then-not-takes c op xt =
     by heading h stands k true e =
         issued old old c.args.issuer op xt scope vmid (λ q b g. false) refl refl
         (record { header = refl; declared = refl; names = refl; locks = refl })
-        (λ q b g r p held key lost. sym c.if-not-takes.true
+        (λ q b g p kept key lost. sym c.if-not-takes.true
         ∙ first_true c.args.takes (has_pending old.pendings c.args.issuer scope.broadcast g)
-        (c.requires g r p held
+        (c.requires g p kept
         (and_right (nat_eq q c.args.issuer && same_flag scope.broadcast b) (takes_whole_tag scope vmid g) key) lost))
-        (λ q b g r p held. sym (or-false (pending_in old.pendings q b g p))) heading h stands (k.0.0, k.0.1, e) k.1
+        (λ q b g p kept. sym (or-false (pending_in old.pendings q b g p))) heading h stands (k.0.0, k.0.1, e) k.1

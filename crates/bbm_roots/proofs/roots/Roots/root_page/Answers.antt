@@ -1,6 +1,6 @@
-use Rattle.bbm_roots.proofs.Common.{◌≡◌, Some, None, sym, ◌∙◌, ap, rules, Option, get, nat_eq, is_of_kind, Declared}
+use Rattle.bbm_roots.proofs.Common.{◌≡◌, Some, None, sym, ◌∙◌, ap, rules, Option, get, nat_eq, Declared}
 use Rattle.bbm_rules.proofs.RootLaw.{root_of_page}
-use Rattle.bbm_roots.proofs.RootLists.{kind-found}
+use Rattle.bbm_roots.proofs.RootLists.{is_of_kind, kind-found}
 use Rattle.bbm_roots.proofs.roots.Roots.root_page.Goals as goal
 
 pub returns-then-same_kind-clause-found : goal.returns-then-same_kind-clause-found

@@ -1,6 +1,7 @@
 use Rattle.bbm_roots.proofs.Common.{◌≡◌, ◌∙◌, ap, sym, refl, Bool, ◌&&◌, ◌||◌, not, nat_eq, List, [], ◌∷◌, false, true}
 use Rattle.bbm_roots.proofs.Common.{Heading, Event, conflict_in, IsCalm, readings_after, has_reading, has_tag, Stands}
-use Rattle.bbm_roots.proofs.Common.{pes_of, Reg, RootValue, Reading, ℕ, missing_root, Patterns, kind_in_world, kind_of_reg}
+use Rattle.bbm_roots.proofs.Common.{pes_of, Reg, RootValue, Reading, ℕ, missing_root, Patterns, kind_in_world}
+use Rattle.bbm_roots.proofs.Common.{kind_of_reg}
 use Rattle.bbm_roots.proofs.Common.{Some}
 use Rattle.std.proofs.Common.{Ok, Err}
 use Rattle.std.proofs.lemmas.Result.{err_from_is_err_and}
