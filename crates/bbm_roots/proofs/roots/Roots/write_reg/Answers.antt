@@ -115,9 +115,10 @@ returns-in-Shared-clause-taken c =
     })
     (λ heading h stands. marks-all old pe c.args.reg load reading shared heading h stands known new
     (c.take.ensures.marked (calm-one old pe c.args.reg load reading shared)))
-    (λ heading h stands.
-    (no-clash old.holds seen (held-somewhere old pe c.args.reg load reading shared heading h stands known) (pes_of old),
-    shared.room))
+    (λ heading h stands. (
+      no-clash old.holds seen (held-somewhere old pe c.args.reg load reading shared heading h stands known) (pes_of old),
+      shared.room,
+    ))
 
 pub returns-in-Shared-clause-judged : goal.returns-in-Shared-clause-judged
 returns-in-Shared-clause-judged c = λ heading h stands told.
@@ -131,9 +132,10 @@ returns-in-Shared-clause-judged c = λ heading h stands told.
     write-judged c.laws_below.ensures old pe c.args.reg c.args.value c.args.null _ _ seen known
     (sym c.is_wrong_write.ensures ∙ c.if-is_wrong_write.false)
     c.tag_number-number.ensures c.in_ok-root.ensures.named c.in_ok-root.ensures.found refl heading h stands told
-    (Ok tt)
-    (no-clash old.holds seen (held-somewhere old pe c.args.reg load reading shared heading h stands known) (pes_of old),
-    shared.room)
+    (Ok tt) (
+      no-clash old.holds seen (held-somewhere old pe c.args.reg load reading shared heading h stands known) (pes_of old),
+      shared.room,
+    )
 
 pub readings_with-requires : goal.readings_with-requires
 readings_with-requires c = record { known = of_state c.requires.2 c.requires.3 }
