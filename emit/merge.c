@@ -16,6 +16,10 @@
  * There is no log, and standard error says why, where a ticket is lost or stands twice, a PE has no closing line, or one
  * that tells of lost events, or a line is none of a log. With --follow what was written then has no `end` line. The
  * other two forms write the header that the registers give.
+ *
+ * Exit status 0 where the log, or the header, is written; else no log came of it, and the status is as that of bbm: 2
+ * what is above, or registers that no log has; 3 the words are wrong; 4 a dump can't be read; 5 a write failed; 6 there
+ * is no memory.
  */
 #define _POSIX_C_SOURCE 200809L
 #include "bbm_emit.h"
@@ -32,6 +36,8 @@
 
 /* The form of a dump, which its first bytes show: a slot has a zero byte among the first eight, and a line has none. */
 enum form { UNKNOWN, TEXT, SLOTS };
+
+enum status { NO_LOG = 2, WRONG_WORDS, CANT_READ, CANT_WRITE, NO_MEMORY };
 
 enum { FORM_BYTES = 8, MOST_FIELDS = 8, NO_PE = -1 };
 
@@ -78,7 +84,7 @@ static uint64_t written; /* tickets that are */
 
 /* ---- what is wrong */
 
-static __attribute__((__noreturn__)) void fail(const char *form, ...)
+static __attribute__((__noreturn__, __format__(__printf__, 2, 3))) void end_with(enum status status, const char *form, ...)
 {
 	va_list rest;
 
@@ -87,8 +93,10 @@ static __attribute__((__noreturn__)) void fail(const char *form, ...)
 	vfprintf(stderr, form, rest);
 	fputc('\n', stderr);
 	va_end(rest);
-	exit(1);
+	exit(status);
 }
+
+#define fail(...) end_with(NO_LOG, __VA_ARGS__)
 
 /* Where something stands: PE, file and line. In a buffer that the next call but three takes. */
 static const char *place_of(int pe, const struct dump *dump, size_t line)
@@ -114,7 +122,7 @@ static void *grown(void *at, size_t bytes)
 {
 	at = realloc(at, bytes);
 	if (!at)
-		fail("there is no memory");
+		end_with(NO_MEMORY, "there is no memory");
 	return at;
 }
 
@@ -488,11 +496,18 @@ static bool read_more(struct dump *dump)
 		}
 	} while (got > 0 || (got < 0 && errno == EINTR));
 	if (got < 0 && errno != EAGAIN)
-		fail("%s: %s", dump->name, strerror(errno));
+		end_with(CANT_READ, "%s: %s", dump->name, strerror(errno));
 	return more;
 }
 
 /* ---- the log */
+
+/* Hands on what was written so far. */
+static void flush_log(void)
+{
+	if (fflush(stdout) || ferror(stdout))
+		end_with(CANT_WRITE, "standard output: %s", strerror(errno));
+}
 
 static int by_ticket(const void *a, const void *b)
 {
@@ -625,7 +640,7 @@ static void merge_growing(struct dump *dumps, int count)
 		}
 		ready = ready_events();
 		write_events(ready);
-		fflush(stdout);
+		flush_log();
 		idle = more ? 0 : idle + 1;
 		if (closed && idle > most_idle)
 			check_tail(0, dumps, count);
@@ -678,8 +693,8 @@ static bool read_header(const char *text)
 
 static __attribute__((__noreturn__)) void usage(void)
 {
-	fail("usage: merge [--strip PREFIX] [--tickets N] [--follow] HEADER DUMP.. | "
-	     "merge --header kernel PES TCR_EL1 CNP | merge --header hyp PES TCR_EL2 VTCR_EL2 CNP");
+	end_with(WRONG_WORDS, "usage: merge [--strip PREFIX] [--tickets N] [--follow] HEADER DUMP.. | "
+		 "merge --header kernel PES TCR_EL1 CNP | merge --header hyp PES TCR_EL2 VTCR_EL2 CNP");
 }
 
 /* merge --header: the header that the registers give. */
@@ -702,7 +717,8 @@ static int write_header(int count, char **words)
 	if (wrong)
 		fail("%s", wrong);
 	printf("%s\n", text);
-	return fclose(stdout) ? 1 : 0;
+	flush_log();
+	return 0;
 }
 
 /* Reads the number of tickets to take, in decimal or as a debugger prints it, where the top bit says that the log is
@@ -752,7 +768,7 @@ static void open_dump(struct dump *dump, const char *name)
 	*dump = (struct dump){.name = name, .pe = NO_PE};
 	dump->file = open(name, O_RDONLY | (option.follow ? O_NONBLOCK : 0));
 	if (dump->file < 0)
-		fail("%s: %s", name, strerror(errno));
+		end_with(CANT_READ, "%s: %s", name, strerror(errno));
 }
 
 int main(int argc, char **argv)
@@ -767,7 +783,7 @@ int main(int argc, char **argv)
 	if (count < 1)
 		usage();
 	if (!read_header(argv[first]))
-		fail("\"%s\" is no header of a log (docs/FORMAT.md)", argv[first]);
+		end_with(WRONG_WORDS, "\"%s\" is no header of a log (docs/FORMAT.md)", argv[first]);
 	dumps = grown(NULL, (size_t)count * sizeof *dumps);
 	for (i = 0; i < count; i++)
 		open_dump(&dumps[i], argv[first + 1 + i]);
@@ -778,5 +794,6 @@ int main(int argc, char **argv)
 	else
 		merge_whole(dumps, count);
 	printf("end %llu\n", (unsigned long long)written);
-	return fclose(stdout) ? 1 : 0;
+	flush_log();
+	return 0;
 }

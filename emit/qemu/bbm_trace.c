@@ -61,6 +61,7 @@ QEMU_EXPORT int qemu_plugin_version = INTERFACE;
 enum { MAX_PES = 128, MAX_VECTORS = 64, WORDS = 512, WAIT_MS = 1000, STOP_MS = 100 };
 #define PAGE_SIZE 4096ull
 #define BASE 0xfffffffff000ull /* the address of a table, in a descriptor and in a root register */
+#define UNSET 0x1de7ec7edbadc0deull /* KVM gives it to the registers of a new guest that nothing has written */
 
 enum kind { NO_KIND, TTBR0_EL1, TTBR1_EL1, TTBR0_EL2, TTBR1_EL2, VTTBR_EL2, KINDS };
 enum use { UNKNOWN, TABLE, LEFT };
@@ -89,6 +90,7 @@ struct site {
 	uint8_t el;
 	uint8_t store; /* enum store */
 	bool is_pair;
+	bool is_last; /* of its block, so that nothing shows whether it completed */
 };
 
 struct event {
@@ -107,6 +109,7 @@ struct pe {
 	const struct site *pending;
 	uint64_t base[KINDS]; /* the root registers as they were written last */
 	uint64_t zeroed_from, zeroed_to, zeroed_at; /* the last translation of a DC ZVA: from page, to page, at which record */
+	bool unfound; /* a DC ZVA is under way at an address that a walk didn't find: mostly it faults, and is made again */
 };
 
 /* What the end of the trace tells. */
@@ -123,8 +126,7 @@ static struct {
 	uint8_t *ram;
 	const char *ram_path;
 	uint64_t base, size;
-	uintptr_t host_ram;   /* where QEMU has the guest's memory; 0 where that isn't known */
-	bool host_ram_sought;
+	uintptr_t host_ram;   /* where QEMU has the guest's memory; 0 where that isn't known. Read without the lock */
 	struct page *pages;
 	uint64_t *told;       /* the last told value of each word of the tables */
 	struct pe pes[MAX_PES];
@@ -143,7 +145,7 @@ enum named { CPSR, SCTLR_EL1, TCR_EL1, REG_TTBR0_EL1, REG_TTBR1_EL1, SCTLR_EL2, 
 static const char *const names[NAMED] = { "cpsr", "SCTLR", "TCR_EL1", "TTBR0_EL1", "TTBR1_EL1", "SCTLR_EL2", "TCR_EL2",
 					  "TTBR0_EL2", "TTBR1_EL2", "HCR_EL2", "VTCR_EL2", "VTTBR_EL2" };
 static struct qemu_plugin_register *general[31], *named[NAMED];
-static pthread_once_t registers_found = PTHREAD_ONCE_INIT;
+static pthread_once_t registers_found = PTHREAD_ONCE_INIT, host_ram_sought = PTHREAD_ONCE_INIT;
 /* The PE of this thread: with thread=multi each has a thread of its own. QEMU's own number of it isn't asked, since code
  * that runs while all others are stopped is translated with the number of one PE in it. */
 static __thread int my_pe = -1;
@@ -470,7 +472,7 @@ static void root_loaded(const struct event *event, enum kind kind, uint64_t valu
 	int level;
 
 	trace.pes[event->pe].base[kind] = value;
-	if (!root)
+	if (!root || value == UNSET)
 		return;
 	if (!start_of(kind, &level, &pages)) {
 		trace.counts.other_granule++;
@@ -743,6 +745,21 @@ static void store_callback(unsigned vcpu, qemu_plugin_meminfo_t info, uint64_t a
 		__atomic_store_n(&flags_of(my_pe)->storing, 0, __ATOMIC_RELEASE);
 }
 
+static bool is_zero(uint32_t word)
+{
+	return (word & 0xffffffe0) == 0xd50b7420 || (word & 0xffffffe0) == 0xd50b7480;
+}
+
+/* An address isn't found by a walk: it faults, or the walk isn't the one that the PE makes. A DC ZVA that faults doesn't
+ * reach the next instruction of its block. */
+static void not_found(const struct event *event)
+{
+	if (is_zero(event->site->word) && !event->site->is_last)
+		trace.pes[event->pe].unfound = true;
+	else
+		__atomic_add_fetch(&trace.counts.zero_untold, 1, __ATOMIC_RELAXED);
+}
+
 /* Bytes from an address on are about to be written by an instruction whose stores QEMU doesn't tell. */
 static void bytes_written(const struct event *event, uint64_t address, uint64_t length)
 {
@@ -750,13 +767,13 @@ static void bytes_written(const struct event *event, uint64_t address, uint64_t 
 	uint64_t page, end = address + length;
 
 	for (page = address & ~(PAGE_SIZE - 1); page < end; page += PAGE_SIZE) {
-		/* The translation is that of the last time, where nothing happened that could change it. */
-		if (page != pe->zeroed_from || trace.counts.records != pe->zeroed_at) {
+		/* The translation is that of the last time, where there was one and nothing happened that could change it. */
+		if (page != pe->zeroed_from || trace.counts.records != pe->zeroed_at || !pe->zeroed_to) {
 			pe->zeroed_from = page;
 			pe->zeroed_at = trace.counts.records;
 			if (!translate(event->site->el, page, &pe->zeroed_to)) {
 				pe->zeroed_to = 0;
-				__atomic_add_fetch(&trace.counts.zero_untold, 1, __ATOMIC_RELAXED);
+				not_found(event);
 			}
 		}
 		if (!in_ram(pe->zeroed_to) || page_of(pe->zeroed_to)->use == UNKNOWN)
@@ -772,7 +789,18 @@ static void zero_callback(unsigned vcpu, void *site)
 	struct event event = event_of(site);
 
 	(void)vcpu;
+	trace.pes[my_pe].unfound = false;
 	bytes_written(&event, x(event.site->word & 31), 1);
+}
+
+/* The instruction behind a DC ZVA, which didn't fault. */
+static void zeroed_callback(unsigned vcpu, void *site)
+{
+	(void)vcpu, (void)site;
+	if (!trace.pes[my_pe].unfound)
+		return;
+	trace.pes[my_pe].unfound = false;
+	__atomic_add_fetch(&trace.counts.zero_untold, 1, __ATOMIC_RELAXED);
 }
 
 /* The first instruction of three of FEAT_MOPS: the address is in Xd, the length in Xn. */
@@ -972,7 +1000,7 @@ static qemu_plugin_vcpu_udata_cb_t callback_before(uint32_t word)
 {
 	if ((word & 0xfff8e000) == 0xd5088000)
 		return tlbi_callback;
-	if ((word & 0xffffffe0) == 0xd50b7420 || (word & 0xffffffe0) == 0xd50b7480)
+	if (is_zero(word))
 		return zero_callback;
 	if (is_first_copy(word))
 		return copy_callback;
@@ -1000,7 +1028,7 @@ static bool is_vector(uint64_t pc)
 }
 
 /* Where QEMU has the guest's memory: its mapping of the file, which isn't the plugin's own. */
-static uintptr_t find_host_ram(void)
+static void find_host_ram(void)
 {
 	FILE *maps = fopen("/proc/self/maps", "r");
 	char *real = realpath(trace.ram_path, NULL), line[1024];
@@ -1018,17 +1046,14 @@ static uintptr_t find_host_ram(void)
 	if (maps)
 		fclose(maps);
 	free(real);
-	return found;
+	trace.host_ram = found;
 }
 
 static uint64_t physical_of(const struct qemu_plugin_insn *insn)
 {
 	uintptr_t host = (uintptr_t)qemu_plugin_insn_haddr(insn);
 
-	if (!trace.host_ram_sought) {
-		trace.host_ram = find_host_ram();
-		trace.host_ram_sought = true;
-	}
+	pthread_once(&host_ram_sought, find_host_ram);
 	return trace.host_ram && host - trace.host_ram < trace.size ? host - trace.host_ram + trace.base : 0;
 }
 
@@ -1051,9 +1076,13 @@ static struct site *new_site(const struct qemu_plugin_insn *insn, uint32_t word,
 static void trace_instruction(struct qemu_plugin_insn *insn, uint32_t word, unsigned el, bool is_last)
 {
 	qemu_plugin_vcpu_udata_cb_t before = callback_before(word);
+	struct site *site;
 
-	if (before)
-		qemu_plugin_register_vcpu_insn_exec_cb(insn, before, QEMU_PLUGIN_CB_R_REGS, new_site(insn, word, el));
+	if (before) {
+		site = new_site(insn, word, el);
+		site->is_last = is_last;
+		qemu_plugin_register_vcpu_insn_exec_cb(insn, before, QEMU_PLUGIN_CB_R_REGS, site);
+	}
 	if (is_barrier(word) && is_last)
 		qemu_plugin_register_vcpu_insn_exec_cb(insn, pending_callback, QEMU_PLUGIN_CB_NO_REGS, new_site(insn, word, el));
 	if (untold_of(word))
@@ -1067,6 +1096,8 @@ static void trace_completion(struct qemu_plugin_insn *next, const struct qemu_pl
 {
 	if (is_barrier(word))
 		qemu_plugin_register_vcpu_insn_exec_cb(next, completed_callback, QEMU_PLUGIN_CB_NO_REGS, new_site(insn, word, el));
+	if (is_zero(word))
+		qemu_plugin_register_vcpu_insn_exec_cb(next, zeroed_callback, QEMU_PLUGIN_CB_NO_REGS, NULL);
 	if (is_store(word) && is_several(word))
 		qemu_plugin_register_vcpu_insn_exec_inline_per_vcpu(next, QEMU_PLUGIN_INLINE_STORE_U64, storing, 0);
 }

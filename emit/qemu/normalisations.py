@@ -41,4 +41,5 @@ ALL = {
 
 
 def for_world(world):
-    return [name for name, one in ALL.items() if world in one.worlds]
+    """The names of those that a world has; of all for None."""
+    return [name for name, one in ALL.items() if world is None or world in one.worlds]

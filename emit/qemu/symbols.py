@@ -1,12 +1,12 @@
 """Where in the guest's code an event comes from: labels by a symbol file.
 
-A symbol file is what /proc/kallsyms or System.map has (`ADDRESS TYPE NAME` a line), or an ELF file. With debug data in the
-ELF file a label is `file:line`, by addr2line, and else the symbol.
+A symbol file is what /proc/kallsyms or System.map has (`ADDRESS TYPE NAME` a line), or an ELF file, whose symbols nm tells.
+With debug data in the ELF file a label is `file:line`, by addr2line, and else the symbol. Of a long one it is the last 32
+characters, as in emit/bbm_emit.h.
 """
 import bisect
 import re
 import shutil
-import struct
 import subprocess
 
 NOT_IN_A_LABEL = re.compile(r"[^A-Za-z0-9./:_-]")
@@ -14,49 +14,56 @@ LONGEST = 32
 CODE = "tTwW"
 
 
+class NoTool(Exception):
+    """Symbols can't be read without a program."""
+
+
 def label_of(text):
-    return NOT_IN_A_LABEL.sub("_", text)[:LONGEST]
+    return NOT_IN_A_LABEL.sub("_", text)[-LONGEST:]
 
 
-def read_map(path):
-    """The symbols of code in a map: (address, name)."""
-    with open(path, errors="replace") as file:
-        for line in file:
-            fields = line.split()
-            if len(fields) == 3 and fields[1] in CODE and not fields[2].startswith("$"):
-                yield int(fields[0], 16), fields[2]
+def tool(name):
+    """A program of binutils that knows code of arm64, or None."""
+    return next(filter(None, map(shutil.which, ("aarch64-linux-gnu-" + name, "llvm-" + name, name))), None)
 
 
-def read_elf(data):
-    """The symbols of functions in an ELF file of 64 bits, little endian, and whether it has lines of source."""
-    offset, = struct.unpack_from("<Q", data, 40)
-    size, count, names_at = struct.unpack_from("<HHH", data, 58)
-    sections = [struct.unpack_from("<IIQQQQIIQQ", data, offset + size * number) for number in range(count)]
-    names = sections[names_at][4]
-    has_lines = any(string_at(data, names + section[0]) == ".debug_line" for section in sections)
-    found = []
-    for section in sections:
-        if section[1] != 2:  # SHT_SYMTAB
-            continue
-        strings = sections[section[6]][4]
-        for at in range(section[4], section[4] + section[5], 24):
-            name, info, _, index, value, _ = struct.unpack_from("<IBBHQQ", data, at)
-            text = string_at(data, strings + name)
-            if info & 15 in (0, 2) and index and text and not text.startswith("$"):
-                found.append((value, text))
-    return found, has_lines
+def is_elf(path):
+    with open(path, "rb") as file:
+        return file.read(4) == b"\x7fELF"
 
 
-def string_at(data, at):
-    return data[at:data.index(b"\0", at)].decode("latin-1")
+def lines_of_elf(path):
+    """The symbols of an ELF file, as lines of a map."""
+    nm = tool("nm")
+    if not nm:
+        raise NoTool(f"the symbols of {path} can't be read, since there is no nm")
+    done = subprocess.run([nm, path], stdout=subprocess.PIPE, encoding="latin-1", check=False)
+    if done.returncode:
+        raise NoTool(f"the symbols of {path} can't be read: {nm} ended with status {done.returncode}")
+    return done.stdout.split("\n")
+
+
+def code_of(lines):
+    """The symbols of code in the lines of a map: (address, name)."""
+    for line in lines:
+        fields = line.split()
+        if len(fields) == 3 and fields[1] in CODE and not fields[2].startswith("$"):
+            yield int(fields[0], 16), fields[2]
+
+
+def read_symbols(path):
+    if is_elf(path):
+        return sorted(code_of(lines_of_elf(path)))
+    with open(path, encoding="latin-1") as file:
+        return sorted(code_of(file))
 
 
 class Lines:
     """addr2line, as a process that is asked an address at a time."""
 
     def __init__(self, path):
-        tool = next(filter(None, map(shutil.which, ("aarch64-linux-gnu-addr2line", "llvm-addr2line", "addr2line"))), None)
-        self.process = tool and subprocess.Popen([tool, "-e", path], stdin=subprocess.PIPE, stdout=subprocess.PIPE, text=True)
+        addr2line = tool("addr2line")
+        self.process = addr2line and subprocess.Popen([addr2line, "-e", path], stdin=subprocess.PIPE, stdout=subprocess.PIPE, text=True)
 
     def at(self, address):
         if not self.process:
@@ -73,16 +80,8 @@ class Lines:
 
 class Symbols:
     def __init__(self, path=None, functions_only=False):
-        self.known, self.lines, self.labels, self.shift = [], None, {}, None
-        if path:
-            with open(path, "rb") as file:
-                data = file.read() if file.read(4) == b"\x7fELF" else None
-            if data is not None:
-                found, has_lines = read_elf(b"\x7fELF" + data)
-                self.lines = Lines(path) if has_lines and not functions_only else None
-            else:
-                found = read_map(path)
-            self.known = sorted(found)
+        self.known, self.labels, self.shift = read_symbols(path) if path else [], {}, None
+        self.lines = Lines(path) if path and is_elf(path) and not functions_only else None
         self.addresses = [address for address, _ in self.known]
 
     def holds(self, address):
