@@ -1,13 +1,57 @@
+// SPDX-License-Identifier: Apache-2.0 OR GPL-2.0-or-later
 /* The writers of bbm_emit.h, the text of a slot, and what helps to begin a log. */
 #include "bbm_emit.h"
+
+#if defined(__KERNEL__)
+#include <linux/atomic.h>
+#include <linux/compiler.h>
+#endif
+
+/*
+ * CALLED is for the functions that are called where events happen, which may be where nothing may
+ * be traced or probed; UNTRACED for all others, which a tracer could call events by. The code of
+ * nVHE has a section of its own, and no tracer. INLINE is for what the first ones are made of.
+ */
+#if defined(__KVM_NVHE_HYPERVISOR__) && defined(__KERNEL__)
+#define CALLED notrace
+#define UNTRACED notrace
+#elif defined(__KERNEL__)
+#define CALLED noinstr
+#define UNTRACED notrace
+#else
+#define CALLED
+#define UNTRACED
+#endif
+#define INLINE static inline __attribute__((__always_inline__))
 
 #define STOPPED ((uint64_t)1 << 63) /* in the tickets: the log is closed */
 
 /* ---- what is atomic */
 
-/* Puts `new` into *at where it is `old`, and tells whether it did. It orders what comes before it and after it: where
- * one PE sees a store behind another's ticket, its own next ticket is a later one. */
-static int swap_if(uint64_t *at, uint64_t old, uint64_t new)
+/*
+ * swap_if puts `new` into *at where it is `old`, and tells whether it did. It orders what comes
+ * before it and after it: where one PE sees a store behind another's ticket, its own next ticket is
+ * a later one.
+ */
+#if defined(__KERNEL__)
+INLINE int swap_if(uint64_t *at, uint64_t old, uint64_t new)
+{
+	return cmpxchg64(at, old, new) == old;
+}
+
+INLINE uint64_t load(const uint64_t *at)
+{
+	/* Pairs with store(). */
+	return smp_load_acquire(at);
+}
+
+INLINE void store(uint64_t *at, uint64_t value)
+{
+	/* Pairs with load(): who sees the value sees all that was stored before. */
+	smp_store_release(at, value);
+}
+#else
+INLINE int swap_if(uint64_t *at, uint64_t old, uint64_t new)
 {
 #if defined(__aarch64__) && !defined(__ARM_FEATURE_ATOMICS)
 	/* Written out, since the compiler's own may be a call to a function of its library. */
@@ -29,20 +73,21 @@ static int swap_if(uint64_t *at, uint64_t old, uint64_t new)
 #endif
 }
 
-static uint64_t load(const uint64_t *at)
+INLINE uint64_t load(const uint64_t *at)
 {
 	return __atomic_load_n(at, __ATOMIC_ACQUIRE);
 }
 
-static void store(uint64_t *at, uint64_t value)
+INLINE void store(uint64_t *at, uint64_t value)
 {
 	__atomic_store_n(at, value, __ATOMIC_RELEASE);
 }
+#endif
 
 /* ---- tickets and slots */
 
 /* The next ticket, or STOPPED. */
-static uint64_t take_ticket(struct bbm_tickets *tickets)
+INLINE uint64_t take_ticket(struct bbm_tickets *tickets)
 {
 	uint64_t ticket;
 
@@ -55,7 +100,7 @@ static uint64_t take_ticket(struct bbm_tickets *tickets)
 }
 
 /* From now on there is no ticket. The number of those that were taken. */
-static uint64_t stop_tickets(struct bbm_tickets *tickets)
+static UNTRACED uint64_t stop_tickets(struct bbm_tickets *tickets)
 {
 	uint64_t next;
 
@@ -65,7 +110,7 @@ static uint64_t stop_tickets(struct bbm_tickets *tickets)
 	return next & ~STOPPED;
 }
 
-static void count_lost(struct bbm_buffer *buffer)
+INLINE void count_lost(struct bbm_buffer *buffer)
 {
 	uint64_t lost;
 
@@ -74,9 +119,12 @@ static void count_lost(struct bbm_buffer *buffer)
 	while (!swap_if(&buffer->lost, lost, lost + 1));
 }
 
-/* A slot for this call alone, which leaves at least `spare` others free; or 0. `read` is loaded behind `next`: so an old
- * `next` makes the buffer seem emptier than it is, and then the swap fails. */
-static struct bbm_slot *take_slot(struct bbm_buffer *buffer, unsigned spare)
+/*
+ * A slot for this call alone, which leaves at least `spare` others free; or 0. `read` is loaded
+ * behind `next`: so an old `next` makes the buffer seem emptier than it is, and then the swap
+ * fails.
+ */
+INLINE struct bbm_slot *take_slot(struct bbm_buffer *buffer, unsigned int spare)
 {
 	uint64_t next;
 
@@ -88,17 +136,19 @@ static struct bbm_slot *take_slot(struct bbm_buffer *buffer, unsigned spare)
 	return &buffer->slots[next % buffer->room];
 }
 
-/* What an event tells, besides its ticket and its PE. Each field is set by itself: what an initialiser leaves out may be
- * made zero by a call of memset. */
+/*
+ * What an event tells, besides its ticket and its PE. Each field is set by itself: what an
+ * initialiser leaves out may be made zero by a call of memset.
+ */
 struct told {
 	enum bbm_word word;
-	unsigned detail;
+	unsigned int detail;
 	int lock;
 	uint64_t first, second;
 };
 
 /* Fills a slot. The mark comes last, so that nobody reads a slot that isn't whole. */
-static void fill(struct bbm_slot *slot, uint64_t ticket, uint32_t pe, const struct told *told,
+INLINE void fill(struct bbm_slot *slot, uint64_t ticket, uint32_t pe, const struct told *told,
 		 const struct bbm_label *label)
 {
 	static const struct bbm_label none;
@@ -118,10 +168,13 @@ static void fill(struct bbm_slot *slot, uint64_t ticket, uint32_t pe, const stru
 	store(&slot->mark, ticket + 1);
 }
 
-/* Keeps one event. An interrupt between any two steps may keep others. It is one function for all events: where the
- * compiler knows which fields are zero, it may call memset for them. */
-static __attribute__((__noinline__)) void keep(struct bbm_buffer *buffer, const struct told *told,
-					       const struct bbm_label *label)
+/*
+ * Keeps one event. An interrupt between any two steps may keep others. It is one function for all
+ * events: where the compiler knows which fields are zero, it may call memset for them.
+ */
+static CALLED __attribute__((__noinline__)) void keep(struct bbm_buffer *buffer,
+						      const struct told *told,
+						      const struct bbm_label *label)
 {
 	uint64_t ticket = take_ticket(buffer->tickets);
 	struct bbm_slot *slot;
@@ -135,7 +188,8 @@ static __attribute__((__noinline__)) void keep(struct bbm_buffer *buffer, const 
 		count_lost(buffer);
 }
 
-void bbm_open(struct bbm_buffer *buffer, struct bbm_tickets *tickets, struct bbm_slot *slots, size_t room, unsigned pe)
+UNTRACED void bbm_open(struct bbm_buffer *buffer, struct bbm_tickets *tickets,
+		       struct bbm_slot *slots, size_t room, unsigned int pe)
 {
 	size_t i;
 
@@ -150,7 +204,7 @@ void bbm_open(struct bbm_buffer *buffer, struct bbm_tickets *tickets, struct bbm
 	buffer->pe = pe;
 }
 
-void bbm_close(struct bbm_buffer *buffer)
+UNTRACED void bbm_close(struct bbm_buffer *buffer)
 {
 	uint64_t taken = stop_tickets(buffer->tickets);
 	struct bbm_slot *slot = take_slot(buffer, 0);
@@ -168,8 +222,8 @@ void bbm_close(struct bbm_buffer *buffer)
 /* ---- the events */
 
 /* An event that has numbers alone, or none. */
-static void keep_numbers(struct bbm_buffer *buffer, enum bbm_word word, uint64_t first, uint64_t second,
-			 const struct bbm_label *label)
+INLINE void keep_numbers(struct bbm_buffer *buffer, enum bbm_word word, uint64_t first,
+			 uint64_t second, const struct bbm_label *label)
 {
 	struct told told;
 
@@ -182,8 +236,8 @@ static void keep_numbers(struct bbm_buffer *buffer, enum bbm_word word, uint64_t
 }
 
 /* One of an option, an operation or a register. */
-static void keep_detail(struct bbm_buffer *buffer, enum bbm_word word, unsigned detail, uint64_t first,
-			const struct bbm_label *label)
+INLINE void keep_detail(struct bbm_buffer *buffer, enum bbm_word word, unsigned int detail,
+			uint64_t first, const struct bbm_label *label)
 {
 	struct told told;
 
@@ -196,8 +250,8 @@ static void keep_detail(struct bbm_buffer *buffer, enum bbm_word word, unsigned 
 }
 
 /* One that names a lock, and perhaps a root. */
-static void keep_lock(struct bbm_buffer *buffer, enum bbm_word word, unsigned kind, int lock, uint64_t page,
-		      const struct bbm_label *label)
+INLINE void keep_lock(struct bbm_buffer *buffer, enum bbm_word word, unsigned int kind, int lock,
+		      uint64_t page, const struct bbm_label *label)
 {
 	struct told told;
 
@@ -209,67 +263,73 @@ static void keep_lock(struct bbm_buffer *buffer, enum bbm_word word, unsigned ki
 	keep(buffer, &told, label);
 }
 
-void bbm_init(struct bbm_buffer *buffer, uint64_t page, const struct bbm_label *label)
+CALLED void bbm_init(struct bbm_buffer *buffer, uint64_t page, const struct bbm_label *label)
 {
 	keep_numbers(buffer, BBM_INIT, page, 0, label);
 }
 
-void bbm_null(struct bbm_buffer *buffer, uint64_t page, const struct bbm_label *label)
+CALLED void bbm_null(struct bbm_buffer *buffer, uint64_t page, const struct bbm_label *label)
 {
 	keep_numbers(buffer, BBM_NULL, page, 0, label);
 }
 
-void bbm_root(struct bbm_buffer *buffer, enum bbm_kind kind, int lock, uint64_t page, const struct bbm_label *label)
+CALLED void bbm_root(struct bbm_buffer *buffer, enum bbm_kind kind, int lock, uint64_t page,
+		     const struct bbm_label *label)
 {
 	keep_lock(buffer, BBM_ROOT, kind, lock, page, label);
 }
 
-void bbm_unroot(struct bbm_buffer *buffer, uint64_t page, const struct bbm_label *label)
+CALLED void bbm_unroot(struct bbm_buffer *buffer, uint64_t page, const struct bbm_label *label)
 {
 	keep_numbers(buffer, BBM_UNROOT, page, 0, label);
 }
 
-void bbm_write(struct bbm_buffer *buffer, uint64_t place, uint64_t value, const struct bbm_label *label)
+CALLED void bbm_write(struct bbm_buffer *buffer, uint64_t place, uint64_t value,
+		      const struct bbm_label *label)
 {
 	keep_numbers(buffer, BBM_W, place, value, label);
 }
 
-void bbm_dsb(struct bbm_buffer *buffer, enum bbm_option option, const struct bbm_label *label)
+CALLED void bbm_dsb(struct bbm_buffer *buffer, enum bbm_option option,
+		    const struct bbm_label *label)
 {
 	keep_detail(buffer, BBM_DSB, option, 0, label);
 }
 
-void bbm_dmb(struct bbm_buffer *buffer, enum bbm_option option, const struct bbm_label *label)
+CALLED void bbm_dmb(struct bbm_buffer *buffer, enum bbm_option option,
+		    const struct bbm_label *label)
 {
 	keep_detail(buffer, BBM_DMB, option, 0, label);
 }
 
-void bbm_isb(struct bbm_buffer *buffer, const struct bbm_label *label)
+CALLED void bbm_isb(struct bbm_buffer *buffer, const struct bbm_label *label)
 {
 	keep_numbers(buffer, BBM_ISB, 0, 0, label);
 }
 
-void bbm_tlbi(struct bbm_buffer *buffer, enum bbm_tlbi_op op, const struct bbm_label *label)
+CALLED void bbm_tlbi(struct bbm_buffer *buffer, enum bbm_tlbi_op op, const struct bbm_label *label)
 {
 	keep_detail(buffer, BBM_TLBI, op, 0, label);
 }
 
-void bbm_tlbi_at(struct bbm_buffer *buffer, enum bbm_tlbi_at_op op, uint64_t operand, const struct bbm_label *label)
+CALLED void bbm_tlbi_at(struct bbm_buffer *buffer, enum bbm_tlbi_at_op op, uint64_t operand,
+			const struct bbm_label *label)
 {
 	keep_detail(buffer, BBM_TLBI_AT, op, operand, label);
 }
 
-void bbm_msr(struct bbm_buffer *buffer, enum bbm_register reg, uint64_t value, const struct bbm_label *label)
+CALLED void bbm_msr(struct bbm_buffer *buffer, enum bbm_register reg, uint64_t value,
+		    const struct bbm_label *label)
 {
 	keep_detail(buffer, BBM_MSR, reg, value, label);
 }
 
-void bbm_lock(struct bbm_buffer *buffer, unsigned lock, const struct bbm_label *label)
+CALLED void bbm_lock(struct bbm_buffer *buffer, unsigned int lock, const struct bbm_label *label)
 {
 	keep_lock(buffer, BBM_LOCK, 0, (int)lock, 0, label);
 }
 
-void bbm_unlock(struct bbm_buffer *buffer, unsigned lock, const struct bbm_label *label)
+CALLED void bbm_unlock(struct bbm_buffer *buffer, unsigned int lock, const struct bbm_label *label)
 {
 	keep_lock(buffer, BBM_UNLOCK, 0, (int)lock, 0, label);
 }
@@ -277,16 +337,16 @@ void bbm_unlock(struct bbm_buffer *buffer, unsigned lock, const struct bbm_label
 /* ---- a tree that stands before logging begins */
 
 #define DESCRIPTOR_TYPE ((uint64_t)3)
-#define DESCRIPTOR_TABLE ((uint64_t)3)                /* at levels 0 to 2 */
+#define DESCRIPTOR_TABLE ((uint64_t)3)                 /* at levels 0 to 2 */
 #define DESCRIPTOR_NEXT ((uint64_t)0x0000fffffffff000) /* the next table */
 
 enum { LAST_LEVEL = 3 };
 
 /* Logs the page of a table and those below it. It calls itself once a level. */
-static int log_table(struct bbm_buffer *buffer, const struct bbm_tree *tree, uint64_t page, unsigned level,
-		     const struct bbm_label *label)
+static UNTRACED int log_table(struct bbm_buffer *buffer, const struct bbm_tree *tree, uint64_t page,
+			      unsigned int level, const struct bbm_label *label)
 {
-	unsigned i;
+	unsigned int i;
 
 	bbm_init(buffer, page, label);
 	for (i = 0; i < BBM_TABLE_ENTRIES; i++) {
@@ -304,12 +364,14 @@ static int log_table(struct bbm_buffer *buffer, const struct bbm_tree *tree, uin
 	return 0;
 }
 
-int bbm_tree(struct bbm_buffer *buffer, const struct bbm_tree *tree, const struct bbm_label *label)
+UNTRACED int bbm_tree(struct bbm_buffer *buffer, const struct bbm_tree *tree,
+		      const struct bbm_label *label)
 {
-	unsigned i;
+	unsigned int i;
 
 	for (i = 0; i < tree->pages; i++)
-		if (log_table(buffer, tree, tree->page + (uint64_t)i * BBM_PAGE_BYTES, tree->start, label)) {
+		if (log_table(buffer, tree, tree->page + (uint64_t)i * BBM_PAGE_BYTES, tree->start,
+			      label)) {
 			count_lost(buffer);
 			return -1;
 		}
@@ -324,7 +386,7 @@ typedef const char name[16];
 
 #define NAME_OF(names, n) ((n) < sizeof(names) / sizeof(names)[0] ? (names)[n] : 0)
 
-const char *bbm_word_name(unsigned word)
+UNTRACED const char *bbm_word_name(unsigned int word)
 {
 	static name names[] = {"nothing", "init", "null", "root", "unroot", "w",      "dsb",  "dmb",
 			       "isb",     "tlbi", "tlbi", "msr",  "lock",   "unlock", "close"};
@@ -332,14 +394,14 @@ const char *bbm_word_name(unsigned word)
 	return NAME_OF(names, word);
 }
 
-const char *bbm_kind_name(unsigned kind)
+UNTRACED const char *bbm_kind_name(unsigned int kind)
 {
 	static name names[] = {"el2", "s2", "ttbr0", "ttbr1"};
 
 	return NAME_OF(names, kind);
 }
 
-const char *bbm_option_name(unsigned option)
+UNTRACED const char *bbm_option_name(unsigned int option)
 {
 	static name names[] = {"sy",  "st",    "ld",    "ish", "ishst", "ishld",
 			       "osh", "oshst", "oshld", "nsh", "nshst", "nshld"};
@@ -347,7 +409,7 @@ const char *bbm_option_name(unsigned option)
 	return NAME_OF(names, option);
 }
 
-const char *bbm_tlbi_name(unsigned op)
+UNTRACED const char *bbm_tlbi_name(unsigned int op)
 {
 	static name names[] = {"alle2",   "alle2is",   "alle1",      "alle1is",
 			       "vmalle1", "vmalle1is", "vmalls12e1", "vmalls12e1is"};
@@ -355,7 +417,7 @@ const char *bbm_tlbi_name(unsigned op)
 	return NAME_OF(names, op);
 }
 
-const char *bbm_tlbi_at_name(unsigned op)
+UNTRACED const char *bbm_tlbi_at_name(unsigned int op)
 {
 	static name names[] = {
 		"vae2",     "vae2is",     "vale2",     "vale2is",     /**/
@@ -372,24 +434,24 @@ const char *bbm_tlbi_at_name(unsigned op)
 	return NAME_OF(names, op);
 }
 
-const char *bbm_register_name(unsigned reg)
+UNTRACED const char *bbm_register_name(unsigned int reg)
 {
 	static name names[] = {"ttbr0_el2", "vttbr_el2", "ttbr0_el1", "ttbr1_el1"};
 
 	return NAME_OF(names, reg);
 }
 
-static char *put_text(char *at, const char *text)
+static UNTRACED char *put_text(char *at, const char *text)
 {
 	while (*text)
 		*at++ = *text++;
 	return at;
 }
 
-static char *put_digits(char *at, uint64_t n, unsigned base)
+static UNTRACED char *put_digits(char *at, uint64_t n, unsigned int base)
 {
 	char digits[20];
-	unsigned count = 0;
+	unsigned int count = 0;
 
 	do
 		digits[count++] = "0123456789abcdef"[n % base];
@@ -399,25 +461,25 @@ static char *put_digits(char *at, uint64_t n, unsigned base)
 	return at;
 }
 
-static char *put_decimal(char *at, uint64_t n)
+static UNTRACED char *put_decimal(char *at, uint64_t n)
 {
 	*at++ = ' ';
 	return put_digits(at, n, 10);
 }
 
-static char *put_hex(char *at, uint64_t n)
+static UNTRACED char *put_hex(char *at, uint64_t n)
 {
 	return put_digits(put_text(at, " 0x"), n, 16);
 }
 
 /* A field that is a word, and `?` where there is none of the number. */
-static char *put_name(char *at, const char *name_or_0)
+static UNTRACED char *put_name(char *at, const char *name_or_0)
 {
 	*at++ = ' ';
 	return put_text(at, name_or_0 ? name_or_0 : "?");
 }
 
-static char *put_lock(char *at, int lock)
+static UNTRACED char *put_lock(char *at, int lock)
 {
 	if (lock == BBM_NO_LOCK)
 		return put_text(at, " -");
@@ -425,15 +487,15 @@ static char *put_lock(char *at, int lock)
 }
 
 /* Whether a label may have the character. */
-static int is_label_character(char c)
+static UNTRACED int is_label_character(char c)
 {
-	return (c >= '0' && c <= '9') || (c >= 'a' && c <= 'z') || (c >= 'A' && c <= 'Z') || c == '.' || c == '/' ||
-	       c == ':' || c == '_' || c == '-';
+	return (c >= '0' && c <= '9') || (c >= 'a' && c <= 'z') || (c >= 'A' && c <= 'Z') ||
+	       c == '.' || c == '/' || c == ':' || c == '_' || c == '-';
 }
 
-static char *put_label(char *at, const char *text)
+static UNTRACED char *put_label(char *at, const char *text)
 {
-	unsigned i;
+	unsigned int i;
 
 	if (!text[0])
 		return at;
@@ -444,7 +506,7 @@ static char *put_label(char *at, const char *text)
 }
 
 /* The fields behind the PE. */
-static char *put_fields(char *at, const struct bbm_slot *slot)
+static UNTRACED char *put_fields(char *at, const struct bbm_slot *slot)
 {
 	switch ((enum bbm_word)slot->word) {
 	case BBM_INIT:
@@ -452,7 +514,8 @@ static char *put_fields(char *at, const struct bbm_slot *slot)
 	case BBM_UNROOT:
 		return put_hex(at, slot->first);
 	case BBM_ROOT:
-		return put_hex(put_lock(put_name(at, bbm_kind_name(slot->detail)), slot->lock), slot->first);
+		return put_hex(put_lock(put_name(at, bbm_kind_name(slot->detail)), slot->lock),
+			       slot->first);
 	case BBM_W:
 		return put_hex(put_hex(at, slot->first), slot->second);
 	case BBM_DSB:
@@ -468,7 +531,9 @@ static char *put_fields(char *at, const struct bbm_slot *slot)
 	case BBM_UNLOCK:
 		return put_lock(at, slot->lock);
 	case BBM_CLOSE:
-		return put_decimal(put_text(put_decimal(put_text(at, " tickets"), slot->first), " lost"), slot->second);
+		return put_decimal(
+			put_text(put_decimal(put_text(at, " tickets"), slot->first), " lost"),
+			slot->second);
 	case BBM_NOTHING:
 	case BBM_ISB:
 	case BBM_WORDS:
@@ -477,7 +542,7 @@ static char *put_fields(char *at, const struct bbm_slot *slot)
 	return at;
 }
 
-size_t bbm_line(const struct bbm_slot *slot, char *line)
+UNTRACED size_t bbm_line(const struct bbm_slot *slot, char *line)
 {
 	char *at = put_digits(line, slot->mark - 1, 10);
 
@@ -486,7 +551,7 @@ size_t bbm_line(const struct bbm_slot *slot, char *line)
 	return (size_t)(at - line);
 }
 
-size_t bbm_read(struct bbm_buffer *buffer, char *text, size_t room)
+UNTRACED size_t bbm_read(struct bbm_buffer *buffer, char *text, size_t room)
 {
 	size_t used = 0;
 
@@ -503,10 +568,10 @@ size_t bbm_read(struct bbm_buffer *buffer, char *text, size_t room)
 	return used;
 }
 
-void bbm_label_of(struct bbm_label *label, const char *text)
+UNTRACED void bbm_label_of(struct bbm_label *label, const char *text)
 {
 	char *to = (char *)label;
-	unsigned length = 0, i;
+	unsigned int length = 0, i;
 
 	while (text[length])
 		length++;
@@ -541,20 +606,20 @@ enum {
 	JOINED_BITS = 4, /* at most 16 pages of a stage 2 root */
 };
 
-static unsigned field(uint64_t value, unsigned shift, unsigned bits)
+static UNTRACED unsigned int field(uint64_t value, unsigned int shift, unsigned int bits)
 {
-	return (unsigned)(value >> shift) & ((1u << bits) - 1);
+	return (unsigned int)(value >> shift) & ((1u << bits) - 1);
 }
 
 /* The bits of an input address that the tables from this level on leave to those above them. */
-static unsigned bits_below(unsigned level)
+static UNTRACED unsigned int bits_below(unsigned int level)
 {
 	return PAGE_BITS + TABLE_BITS * (LAST_LEVEL - level);
 }
 
-int bbm_stage1_walk(unsigned txsz, struct bbm_walk *walk)
+UNTRACED int bbm_stage1_walk(unsigned int txsz, struct bbm_walk *walk)
 {
-	unsigned bits = 64 - txsz, level;
+	unsigned int bits = 64 - txsz, level;
 
 	for (level = 0; level < LAST_LEVEL; level++)
 		if (bits > bits_below(level) && bits <= MOST_BITS) {
@@ -565,9 +630,9 @@ int bbm_stage1_walk(unsigned txsz, struct bbm_walk *walk)
 	return -1;
 }
 
-int bbm_stage2_walk(unsigned t0sz, unsigned sl0, struct bbm_walk *walk)
+UNTRACED int bbm_stage2_walk(unsigned int t0sz, unsigned int sl0, struct bbm_walk *walk)
 {
-	unsigned bits = 64 - t0sz, level = 2 - sl0, below;
+	unsigned int bits = 64 - t0sz, level = 2 - sl0, below;
 
 	if (sl0 > 2 || bits > MOST_BITS)
 		return -1;
@@ -579,21 +644,24 @@ int bbm_stage2_walk(unsigned t0sz, unsigned sl0, struct bbm_walk *walk)
 	return 0;
 }
 
-const char *bbm_kernel_header(char *header, unsigned pes, uint64_t tcr_el1, int cnp)
+UNTRACED const char *bbm_kernel_header(char *header, unsigned int pes, uint64_t tcr_el1, int cnp)
 {
 	struct bbm_walk lower, upper;
-	unsigned t1sz = field(tcr_el1, T1SZ_SHIFT, TXSZ_BITS);
+	unsigned int t1sz = field(tcr_el1, T1SZ_SHIFT, TXSZ_BITS);
 
 	if (pes < 1 || pes > BBM_PES)
 		return "a log has 1 to 128 PEs";
-	if (field(tcr_el1, TG0_SHIFT, TG_BITS) != TG0_4K || field(tcr_el1, TG1_SHIFT, TG_BITS) != TG1_4K)
+	if (field(tcr_el1, TG0_SHIFT, TG_BITS) != TG0_4K ||
+	    field(tcr_el1, TG1_SHIFT, TG_BITS) != TG1_4K)
 		return "a granule of TCR_EL1 isn't 4 KiB";
 	if (field(tcr_el1, DS_SHIFT_EL1, 1))
 		return "TCR_EL1.DS is set: descriptors have 52-bit addresses";
-	if (bbm_stage1_walk(field(tcr_el1, T0SZ_SHIFT, TXSZ_BITS), &lower) || bbm_stage1_walk(t1sz, &upper))
+	if (bbm_stage1_walk(field(tcr_el1, T0SZ_SHIFT, TXSZ_BITS), &lower) ||
+	    bbm_stage1_walk(t1sz, &upper))
 		return "T0SZ or T1SZ of TCR_EL1 has no start level of 0, 1 or 2";
 	if (64 - t1sz != bits_below(upper.start) + TABLE_BITS)
-		return "T1SZ of TCR_EL1 isn't 16, 25 or 34: the first table of the upper range isn't a whole page";
+		return "T1SZ of TCR_EL1 isn't 16, 25 or 34: the first table of the upper range "
+		       "isn't a whole page";
 	header = put_decimal(put_text(header, "bbmlog 4 kernel"), pes);
 	header = put_decimal(put_decimal(header, lower.start), upper.start);
 	header = put_text(header, field(tcr_el1, A1_SHIFT, 1) ? " ttbr1" : " ttbr0");
@@ -601,22 +669,26 @@ const char *bbm_kernel_header(char *header, unsigned pes, uint64_t tcr_el1, int 
 	return 0;
 }
 
-const char *bbm_hyp_header(char *header, unsigned pes, uint64_t tcr_el2, uint64_t vtcr_el2, int cnp)
+UNTRACED const char *bbm_hyp_header(char *header, unsigned int pes, uint64_t tcr_el2,
+				    uint64_t vtcr_el2, int cnp)
 {
 	struct bbm_walk own, guests;
 
 	if (pes < 1 || pes > BBM_PES)
 		return "a log has 1 to 128 PEs";
-	if (field(tcr_el2, TG0_SHIFT, TG_BITS) != TG0_4K || field(vtcr_el2, TG0_SHIFT, TG_BITS) != TG0_4K)
+	if (field(tcr_el2, TG0_SHIFT, TG_BITS) != TG0_4K ||
+	    field(vtcr_el2, TG0_SHIFT, TG_BITS) != TG0_4K)
 		return "a granule of TCR_EL2 or VTCR_EL2 isn't 4 KiB";
 	if (field(tcr_el2, DS_SHIFT_EL2, 1) || field(vtcr_el2, DS_SHIFT_EL2, 1))
 		return "DS of TCR_EL2 or VTCR_EL2 is set: descriptors have 52-bit addresses";
 	if (bbm_stage1_walk(field(tcr_el2, T0SZ_SHIFT, TXSZ_BITS), &own))
 		return "T0SZ of TCR_EL2 has no start level of 0, 1 or 2";
-	if (bbm_stage2_walk(field(vtcr_el2, T0SZ_SHIFT, TXSZ_BITS), field(vtcr_el2, SL0_SHIFT, SL0_BITS), &guests))
+	if (bbm_stage2_walk(field(vtcr_el2, T0SZ_SHIFT, TXSZ_BITS),
+			    field(vtcr_el2, SL0_SHIFT, SL0_BITS), &guests))
 		return "T0SZ and SL0 of VTCR_EL2 don't go together, or start at level 3";
 	header = put_decimal(put_text(header, "bbmlog 4 hyp"), pes);
-	header = put_decimal(put_decimal(put_decimal(header, own.start), guests.start), guests.pages);
+	header = put_decimal(put_decimal(put_decimal(header, own.start), guests.start),
+			     guests.pages);
 	*put_text(header, cnp ? " cnp" : " -") = '\0';
 	return 0;
 }

@@ -1,3 +1,4 @@
+// SPDX-License-Identifier: Apache-2.0 OR GPL-2.0-or-later
 //! Keeps the events of a bbm log in a kernel or a hypervisor in Rust. It needs `core` alone, and has no `unsafe`.
 //!
 //! Each PE has a `Buffer` of its own. Each event takes a ticket, one number for all PEs, and a slot of its buffer. A
@@ -11,6 +12,9 @@
 //! the buffer in which a call is under way, since each call first has its slot alone and then fills it.
 //!
 //! Slots have the layout of those of bbm_emit.h, and text is the same to the byte.
+
+#[cfg(not(target_pointer_width = "64"))]
+compile_error!("bbm_emit is for 64 bits");
 
 use core::fmt::{self, Write};
 use core::sync::atomic::{AtomicU64, Ordering};

@@ -1,3 +1,4 @@
+// SPDX-License-Identifier: Apache-2.0 OR GPL-2.0-or-later
 // Logs the events of a story, which demo.c tells too, and writes the dumps of the two PEs:
 //
 //     demo STORY DIRECTORY

@@ -1,3 +1,4 @@
+// SPDX-License-Identifier: Apache-2.0 OR GPL-2.0-or-later
 /* Puts the dumps of all PEs, as bbm_emit.h and bbm_emit.rs make them, into one log on standard output.
  *
  *     merge [OPTION..] HEADER DUMP..

@@ -1,3 +1,4 @@
+/* SPDX-License-Identifier: Apache-2.0 OR GPL-2.0-or-later */
 /* Markers by which a guest can tell bbm_trace.c what no instruction shows: hints that have no meaning, so that they do
  * nothing on a processor and cost one instruction. Each takes its operands in x0 and x1.
  */

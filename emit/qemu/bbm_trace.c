@@ -1,3 +1,4 @@
+// SPDX-License-Identifier: Apache-2.0 OR GPL-2.0-or-later
 /* A QEMU TCG plugin: traces how an unmodified arm64 guest maintains its translation tables. bbm_convert makes a log of
  * the trace.
  *

@@ -1,3 +1,4 @@
+# SPDX-License-Identifier: Apache-2.0 OR GPL-2.0-or-later
 # shellcheck shell=bash
 # What `run` and `tools/qemu_demo` share. They set `top`, the folder of the repository.
 : "${top:?}"

@@ -1,3 +1,4 @@
+# SPDX-License-Identifier: Apache-2.0 OR GPL-2.0-or-later
 """Makes a log of one world of a trace of bbm_trace.c.
 
     emit/qemu/bbm_convert WORLD TRACE [-o LOG] [--symbols FILE] [--allow NAME,..] [--suggest]
@@ -842,7 +843,8 @@ def report_judged(world, judged, wrong, is_complete):
 
 
 def remarks_of(lines):
-    return [line[2:] for line in lines if line.startswith("# ") and not line.startswith(("# bbm_trace", "# end"))]
+    """What the plugin says at the end of a trace."""
+    return [line[2:] for line in lines if line.startswith("# ") and not line.startswith(("# bbm_trace", "# SPDX", "# end"))]
 
 
 # ---- suggestions

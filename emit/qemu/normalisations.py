@@ -1,3 +1,4 @@
+# SPDX-License-Identifier: Apache-2.0 OR GPL-2.0-or-later
 """The departures from what the machine did that bbm_convert can make, each off unless asked for.
 
 For each: the worlds in which it has a meaning, what it does, and what the judgement loses by it. `--suggest` tries them in

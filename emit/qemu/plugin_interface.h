@@ -1,3 +1,4 @@
+/* SPDX-License-Identifier: Apache-2.0 OR GPL-2.0-or-later */
 /* The declarations of QEMU's TCG plugin interface that bbm_trace.c uses, as of version 4 of it.
  *
  * They are written by hand, since distributions pack no qemu-plugin.h. The two array types of GLib stand here too, so

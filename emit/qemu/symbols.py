@@ -1,3 +1,4 @@
+# SPDX-License-Identifier: Apache-2.0 OR GPL-2.0-or-later
 """Where in the guest's code an event comes from: labels by a symbol file.
 
 A symbol file is what /proc/kallsyms or System.map has (`ADDRESS TYPE NAME` a line), or an ELF file, whose symbols nm tells.

@@ -1,3 +1,4 @@
+// SPDX-License-Identifier: Apache-2.0 OR GPL-2.0-or-later
 /* One call with whatever arguments the number gives, right ones and wrong ones; its lines go to standard output.
  *
  *     any_call NUMBER

@@ -1,3 +1,4 @@
+// SPDX-License-Identifier: Apache-2.0 OR GPL-2.0-or-later
 /* A program for QEMU's board `virt` without any system below it: logs the remap of a block as two PEs do, and shows three
  * ways out. The lines of PE 0 go to the UART, each behind "bbm: " and with a carriage return as on a console, and by
  * semihosting into the file pe0.text. The slots of PE 1 stay in memory, for the monitor's pmemsave. */

@@ -1,3 +1,4 @@
+// SPDX-License-Identifier: Apache-2.0 OR GPL-2.0-or-later
 /* Every call as a kernel's source makes it, to be compiled: with the types of <linux/types.h>, or with those that
  * another header declared. */
 #include "bbm_emit.h"

@@ -1,3 +1,4 @@
+// SPDX-License-Identifier: Apache-2.0 OR GPL-2.0-or-later
 /* A signal handler logs into the buffer in which a call is under way, as an interrupt handler would.
  *
  *     handler steps DUMP    once behind each instruction of a sequence of calls, by the trap flag of x86-64; and counts

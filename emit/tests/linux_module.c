@@ -20,6 +20,7 @@
 static struct bbm_tickets tickets;
 static struct bbm_buffer buffers[BBM_PES];
 static struct dentry *directory;
+static bool is_open; /* each buffer is */
 
 /* What was read of a buffer and isn't given out yet. A buffer has one reader at a time. */
 static struct bbm_reader {
@@ -122,6 +123,8 @@ static int __init bbm_start(void)
 		snprintf(name, sizeof(name), "pe%u", pe);
 		debugfs_create_file(name, 0400, directory, &readers[pe], &bbm_file);
 	}
+	/* Whoever sees it sees the buffers as they are now. */
+	smp_store_release(&is_open, true);
 	return log_tables();
 }
 

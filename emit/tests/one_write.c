@@ -1,3 +1,4 @@
+// SPDX-License-Identifier: Apache-2.0 OR GPL-2.0-or-later
 /* One labelled write, whose instructions an emulator counts. */
 #include "bbm_emit.h"
 

@@ -21,6 +21,7 @@
 #define __init
 #define __exit
 #define THIS_MODULE NULL
+#define smp_store_release(at, value) __atomic_store_n(at, value, __ATOMIC_RELEASE)
 #define READ_ONCE(of) (*(volatile __typeof__(of) *)&(of))
 #define min(a, b) ((a) < (b) ? (a) : (b))
 #define for_each_possible_cpu(pe) for ((pe) = 0; (pe) < 2; (pe)++)

@@ -1,3 +1,4 @@
+// SPDX-License-Identifier: Apache-2.0 OR GPL-2.0-or-later
 // Threads that log as PEs do, each into the file peN.text of a directory:
 //
 //     threads apart DIRECTORY     four PEs, each with its buffer, that move blocks of one tree under its lock

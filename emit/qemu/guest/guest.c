@@ -1,3 +1,4 @@
+// SPDX-License-Identifier: Apache-2.0 OR GPL-2.0-or-later
 /* A guest without an operating system: two PEs map, unmap and remap, right and wrong.
  *
  * One boot runs one scenario, whose number QEMU's loader puts at SCENARIO: its position in the list at the end. The names

@@ -1,3 +1,4 @@
+/* SPDX-License-Identifier: Apache-2.0 OR GPL-2.0-or-later */
 /* PE 0 starts here at EL2 with the MMU off; the other one at second_start, by PSCI. */
 	.section .text.start, "ax"
 	.global _start

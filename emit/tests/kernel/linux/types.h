@@ -1,3 +1,4 @@
+/* SPDX-License-Identifier: Apache-2.0 OR GPL-2.0-or-later */
 /* The types that a kernel's own header of this name has, and no others: for building without any of the compiler's. And
  * words that a kernel has as macros. */
 #ifndef LINUX_TYPES_H
