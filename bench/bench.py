@@ -1,4 +1,5 @@
 #!/usr/bin/env python3
+# SPDX-License-Identifier: Apache-2.0
 """Times programs on made logs, beside `wc -l` on the same bytes.
 
 The logs are those of `logs.py`, by name, each with the verdict that it must have. It prints for each program the user and

@@ -1,3 +1,4 @@
+// SPDX-License-Identifier: Apache-2.0
 /* Prints so many page addresses that the kit's hasher, which has a fixed seed, gives one group (the low 11 bits) and one
  * tag (the top byte), so that a hash table of pages would look at all of them for each. For the log `flood` of hostile_logs.py. */
 #include <stdint.h>

@@ -1,3 +1,4 @@
+# SPDX-License-Identifier: Apache-2.0
 """The logs that `growth` times: made so that the time an event may grow with the log. HOSTILE has each by name, with the
 length that it is meant for; a log is made for a number that scales what may grow. `bbm check` accepts each.
 """

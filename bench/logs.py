@@ -1,3 +1,4 @@
+# SPDX-License-Identifier: Apache-2.0
 """The logs that `bench.py` times, each by a function of its own: LOGS by name. A log is made for a number of events, and
 says which verdict it must have. The long lengths that each is meant for stand at its function.
 """

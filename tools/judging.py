@@ -1,3 +1,4 @@
+# SPDX-License-Identifier: Apache-2.0
 """Runs the program on a log, and says what is wrong with its answer. `tools/fuzz`, `tools/compare`, `tools/refuse_memory` and
 `tools/test_why` use it.
 

@@ -1,3 +1,4 @@
+# SPDX-License-Identifier: Apache-2.0
 """Logs that aren't well formed, or that reach a limit: random bytes, logs with bytes or lines changed, a log with a fault of
 each cause, and one for each limit. `tools/fuzz` judges them.
 """

@@ -1,3 +1,4 @@
+// SPDX-License-Identifier: Apache-2.0
 /* Refuses one allocation of a program, by its number: tools/refuse_memory preloads it.
    REFUSE is the number, from 1, or 0 for none. With COUNT_TO, a file, the number of all is written there at the end. */
 #define _GNU_SOURCE

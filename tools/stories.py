@@ -1,3 +1,4 @@
+# SPDX-License-Identifier: Apache-2.0
 """Structured logs: the events of a kernel or a hypervisor that keeps the rules, with slips that break one. `tools/fuzz`
 and `tools/compare` judge them, and nothing here says what the verdict is.
 

@@ -1,3 +1,4 @@
+# SPDX-License-Identifier: Apache-2.0
 """Changes of a log: what a repair puts in, changes or moves, by the line numbers of the log that was given."""
 from __future__ import annotations
 

@@ -1,3 +1,4 @@
+# SPDX-License-Identifier: Apache-2.0
 """The logs that a word is given: files, packed ones too, and standard input, which `-` names."""
 from __future__ import annotations
 

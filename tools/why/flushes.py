@@ -1,3 +1,4 @@
+# SPDX-License-Identifier: Apache-2.0
 """Barriers and TLBIs that may be missing or wrong between a break and what comes after it, and register writes before a flush.
 
 Each try is what stands before the TLBI, the TLBI, and what stands behind it; each of the three may stay as it is.

@@ -1,3 +1,4 @@
+# SPDX-License-Identifier: Apache-2.0
 """The line of a verdict in the forms that editors and build systems read. docs/OUTPUT.md promises them.
 
 `check --format FORMAT` gives each log to `bbm check` as it is, and ends with the program's status.

@@ -1,3 +1,4 @@
+# SPDX-License-Identifier: Apache-2.0
 """What is wrong with the header of a log, in words. docs/FORMAT.md has its forms; it is the program that judges them.
 
     head -c 300 LOG | python3 tools/why/header.py     says it on standard error

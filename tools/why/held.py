@@ -1,3 +1,4 @@
+# SPDX-License-Identifier: Apache-2.0
 """What is still held where a log is refused, asked of the program right before the refused line of the whole log.
 
 For a place the question is that of `pending`: a made write there. For a tag it is what has to stand before the refused line so that

@@ -1,3 +1,4 @@
+# SPDX-License-Identifier: Apache-2.0
 """The small log in lanes: one column a PE, one row an event, and in each column how long an old entry may live there.
 
 What a row shows of the place after it is the answer of the program to a made write there (`probe`).

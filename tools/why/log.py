@@ -1,3 +1,4 @@
+# SPDX-License-Identifier: Apache-2.0
 """A log as this tool holds it: the header and the event lines, each under its number in the log that was given.
 
 The forms are those of docs/FORMAT.md. Nothing is judged here: a line that isn't well formed is for the program to name.

@@ -1,3 +1,4 @@
+# SPDX-License-Identifier: Apache-2.0
 """Which lines of a log name what a refused line speaks of: the pages on the way to its place, their root, its lock and tags.
 
 This only says which lines are tried first. Whether they are refused alike the program says.

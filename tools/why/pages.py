@@ -1,3 +1,4 @@
+# SPDX-License-Identifier: Apache-2.0
 """`pending --pages`: pages that become a table while a TLB may still reach them through a stage 2 leaf.
 
 The log's writes give the candidates: each `init`, `root` and link of a page that the last valid value of a place in a stage 2 tree

@@ -1,3 +1,4 @@
+# SPDX-License-Identifier: Apache-2.0
 """`partial`: judges a log without its last lines, as a crash leaves it. It is read as a stream."""
 from __future__ import annotations
 

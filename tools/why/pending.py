@@ -1,3 +1,4 @@
+# SPDX-License-Identifier: Apache-2.0
 """`pending`: the places whose old descriptor a TLB may still hold at the end of an accepted log.
 
 The log's writes give the candidates: places that had a valid value since the `init` of their page and have none now. First their

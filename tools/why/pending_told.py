@@ -1,3 +1,4 @@
+# SPDX-License-Identifier: Apache-2.0
 """What `pending` answers, as text and as JSON (docs/OUTPUT.md)."""
 from __future__ import annotations
 

@@ -1,3 +1,4 @@
+# SPDX-License-Identifier: Apache-2.0
 """The lanes as one picture: an SVG, or a page of HTML with the rest of the answer. Each stands by itself, in light and dark."""
 from __future__ import annotations
 

@@ -1,3 +1,4 @@
+# SPDX-License-Identifier: Apache-2.0
 """How far a place has come at each PE, asked of the program by a made write.
 
 Behind the lines at hand a valid value of another core is written at the place. Where the place holds a value, break-before-make

@@ -1,3 +1,4 @@
+# SPDX-License-Identifier: Apache-2.0
 """The program, and what it answers. It alone judges: every statement about a log comes from one of its answers."""
 from __future__ import annotations
 

@@ -1,3 +1,4 @@
+# SPDX-License-Identifier: Apache-2.0
 """Shows each second on standard error, a terminal, how much what the script runs has read of a log.
 
     python3 tools/why/progress.py PID [PREFIX]     until nothing runs below the script, or a TERM signal comes

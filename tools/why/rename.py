@@ -1,3 +1,4 @@
+# SPDX-License-Identifier: Apache-2.0
 """PEs and pages of a small log under small numbers, where that is asked for: `--rename`. The program has to refuse it alike."""
 from __future__ import annotations
 

@@ -1,3 +1,4 @@
+# SPDX-License-Identifier: Apache-2.0
 """The least changes after which a small log gets past its last line: found by trying, and judged by the program."""
 from __future__ import annotations
 

@@ -1,3 +1,4 @@
+# SPDX-License-Identifier: Apache-2.0
 """What docs/RULES.md says of a rule: read there, so that no sentence stands twice."""
 from __future__ import annotations
 

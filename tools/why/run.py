@@ -1,3 +1,4 @@
+# SPDX-License-Identifier: Apache-2.0
 """A run of the small log that ends in a conflict, in words: the program's `counterrun` gives it, and its `follow` the conflict."""
 from __future__ import annotations
 

@@ -1,3 +1,4 @@
+# SPDX-License-Identifier: Apache-2.0
 """What a refusal is about, as the log's own words tell it: the places, their input addresses, roots, locks, tags and PEs.
 
 It goes by the writes that stand in the small log. It chooses what is tried; the program judges each try.

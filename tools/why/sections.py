@@ -1,3 +1,4 @@
+# SPDX-License-Identifier: Apache-2.0
 """Whether a change stays in the sections of what is broken and refused, or takes the flush of another place.
 
 A section is what a PE does about one change of the tables, by locks, by labels, or by barriers.

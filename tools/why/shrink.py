@@ -1,3 +1,4 @@
+# SPDX-License-Identifier: Apache-2.0
 """From a refused log to the least log that the same rule refuses at the same place.
 
 Each try is judged by the program. What is tried first are the lines that name the pages on the way to the place, its root,

@@ -1,3 +1,4 @@
+# SPDX-License-Identifier: Apache-2.0
 """What is judged, read as a stream: a file, or standard input, and again as often as it has to be.
 
 What comes through a pipe and is read again is kept in a temporary file. The memory is that of one part.

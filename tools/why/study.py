@@ -1,3 +1,4 @@
+# SPDX-License-Identifier: Apache-2.0
 """From a refused log to its small log and the repairs of that."""
 from __future__ import annotations
 

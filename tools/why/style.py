@@ -1,3 +1,4 @@
+# SPDX-License-Identifier: Apache-2.0
 """How a text is shown: its width, and whether it has colours and signs beyond ASCII."""
 from __future__ import annotations
 

@@ -1,3 +1,4 @@
+# SPDX-License-Identifier: Apache-2.0
 """Repairs in words, by the lines and labels of the log that was given."""
 from __future__ import annotations
 

@@ -1,3 +1,4 @@
+# SPDX-License-Identifier: Apache-2.0
 """What may be changed in a small log so that it gets past its last line, rule by rule: the tries of a repair, by size.
 
 A rule chooses what is tried, and nothing more. Whether a try passes the program says.

@@ -1,3 +1,4 @@
+# SPDX-License-Identifier: Apache-2.0
 """`why`: a refusal with its small log, what would do, a run, its lanes and its rule, as one text."""
 from __future__ import annotations
 

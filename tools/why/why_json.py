@@ -1,3 +1,4 @@
+# SPDX-License-Identifier: Apache-2.0
 """The answer of `why` as one object of JSON on one line (docs/OUTPUT.md)."""
 from __future__ import annotations
 

@@ -1,3 +1,4 @@
+# SPDX-License-Identifier: Apache-2.0
 """The words of the log, and what each says by itself (docs/FORMAT.md): no rule, and no judgement.
 
 Which TLBI or DSB would do is tried, and the program says whether it does. These tables say in which order.
