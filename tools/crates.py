@@ -1,3 +1,4 @@
+# SPDX-License-Identifier: Apache-2.0
 """The crates of this checkout, as crates.txt lists them."""
 import functools
 import pathlib
