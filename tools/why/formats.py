@@ -1,85 +1,68 @@
 # SPDX-License-Identifier: Apache-2.0
-"""The line of a verdict in the forms that editors and build systems read. docs/OUTPUT.md promises them.
-
-`check --format FORMAT` gives each log to `bbm check` as it is, and ends with the program's status.
-"""
+"""The line of a verdict in the forms that editors and build systems read. docs/OUTPUT.md promises them."""
 from __future__ import annotations
 
 import json
 import re
+from collections.abc import Callable
 from dataclasses import dataclass
 from enum import Enum
 
-import files
-import header
-from program import Answer, Program, Status, emit
+from program import Answer, Status, Unable, Verdict
 
-LOG = "<stdin>"
+UNNAMED = "<stdin>"
 SOURCE = re.compile(r"(.+):([1-9][0-9]*)")
-
-
-class Format(Enum):
-    GCC = "gcc"
-    GITHUB = "github"
-    JSON = "json"
-
-
-USAGE = "usage: bbm check --format gcc | github | json [LOG..]\n"
-VERDICT = re.compile(r"(?P<verdict>accepted) (?P<events>\d+) events"
-                     r"|(?P<refused>refused) line (?P<line>\d+) rule (?P<rule>\d+) (?P<name>\S+) at (?P<at>\S+)(?: @(?P<label>\S+))?"
-                     r"|(?P<malformed>malformed) line (?P<bad>\d+) cause (?P<cause>\d+) (?P<why>\S+)"
-                     r"|(?P<limit>limit) line (?P<last>\d+) (?P<which>\S+)")
 
 
 @dataclass(frozen=True)
 class Finding:
-    """What a verdict on a log says, and where: in the file and line of the label where it is FILE:LINE, else in the log."""
+    """A verdict on a log, whose name is empty where it has none, and the file and line of the label where it is FILE:LINE."""
 
+    verdict: Verdict
     log: str
-    message: str
-    tag: str
-    line: int
-    fields: dict
+    file: str = ""
+    file_line: int = 0
 
     @property
-    def file(self) -> str:
-        return self.fields.get("file", self.log)
+    def message(self) -> str:
+        verdict = self.verdict
+        label = f" ({verdict.label})" if verdict.label and not self.file else ""
+        return {"accepted": f"accepted {verdict.events} events", "refused": f"{verdict.name} at {hex(verdict.at)}{label}",
+                "malformed": f"malformed line, {verdict.name}", "limit": f"limit {verdict.name}"}[verdict.word]
+
+    @property
+    def tag(self) -> str:
+        number = self.verdict.number
+        return {"accepted": "bbm", "refused": f"bbm rule {number}", "malformed": f"bbm cause {number}", "limit": "bbm limit"}[self.verdict.word]
+
+    @property
+    def fields(self) -> dict:
+        verdict = self.verdict
+        if verdict.word == "accepted":
+            told = {"events": verdict.events}
+        elif verdict.word == "refused":
+            told = {"line": verdict.line, "rule": verdict.number, "name": verdict.name, "at": hex(verdict.at)}
+            told |= {"label": verdict.label} if verdict.label else {}
+            told |= {"file": self.file, "file_line": self.file_line} if self.file else {}
+        else:
+            told = {"line": verdict.line, **({"cause": verdict.number} if verdict.number else {}), "name": verdict.name}
+        return {"verdict": verdict.word, **told, **({"log": self.log} if self.log else {})}
 
 
-def source_of(label: str) -> dict:
-    """The file and line that a label names, or nothing."""
-    found = SOURCE.fullmatch(label)
-    return {"file": found.group(1), "file_line": int(found.group(2))} if found else {}
-
-
-def finding_of(answer: Answer, log: str = LOG) -> Finding | None:
-    """None where the answer has no line of a verdict."""
-    found = VERDICT.fullmatch(answer.first)
-    if not found:
-        return None
-    part = found.groupdict()
-    if part["verdict"]:
-        return Finding(log, f"accepted {part['events']} events", "bbm", 0, {"verdict": "accepted", "events": int(part["events"])})
-    if part["refused"]:
-        line, label = int(part["line"]), part["label"] or ""
-        source = source_of(label)
-        told = f" ({label})" if label and not source else ""
-        fields = {"verdict": "refused", "line": line, "rule": int(part["rule"]), "name": part["name"], "at": part["at"]}
-        fields |= {"label": label} if label else {}
-        message = f"{part['name']} at {part['at']}{told}"
-        return Finding(log, message, f"bbm rule {part['rule']}", source.get("file_line", line), fields | source)
-    if part["malformed"]:
-        line = int(part["bad"])
-        fields = {"verdict": "malformed", "line": line, "cause": int(part["cause"]), "name": part["why"]}
-        return Finding(log, f"malformed line, {part['why']}", f"bbm cause {part['cause']}", line, fields)
-    fields = {"verdict": "limit", "line": int(part["last"]), "name": part["which"]}
-    return Finding(log, f"limit {part['which']}", "bbm limit", int(part["last"]), fields)
+def finding_of(answer: Answer, log: str = "") -> Finding:
+    """Fails where the program's answer has no verdict: then it is none of its own."""
+    verdict = answer.verdict
+    if verdict is None:
+        raise Unable(Status.UNABLE, f"the program ended with status {answer.status} and says `{answer.first[:80]}`, so there is no answer")
+    label = SOURCE.fullmatch(verdict.label)
+    return Finding(verdict, log, label.group(1), int(label.group(2))) if label else Finding(verdict, log)
 
 
 def gcc(finding: Finding) -> str:
-    if finding.fields["verdict"] == "accepted":
-        return f"{finding.file}: note: {finding.message} [bbm]"
-    return f"{finding.file}:{finding.line}: error: {finding.message} [{finding.tag}]"
+    file = finding.file or finding.log or UNNAMED
+    if finding.verdict.word == "accepted":
+        return f"{file}: note: {finding.message} [bbm]"
+    return f"{file}:{finding.file_line or finding.verdict.line}: error: {finding.message} [{finding.tag}]"
 
 
 def escaped(text: str) -> str:
@@ -90,38 +73,28 @@ def escaped(text: str) -> str:
 
 
 def github(finding: Finding) -> str:
-    file = f"file={escaped(finding.file)}," if finding.file != LOG else ""
-    if finding.fields["verdict"] == "accepted":
-        return f"::notice {file}title=bbm::{finding.message}"
-    place = f"{file}line={finding.line}," if file else ""
-    return f"::error {place}title={escaped(finding.tag)}::{finding.message}, line {finding.fields['line']} of the log"
+    file = finding.file or finding.log
+    name = f"file={escaped(file)}," if file else ""
+    if finding.verdict.word == "accepted":
+        return f"::notice {name}title=bbm::{finding.message}"
+    place = f"{name}line={finding.file_line or finding.verdict.line}," if file else ""
+    return f"::error {place}title={escaped(finding.tag)}::{finding.message}, line {finding.verdict.line} of the log"
 
 
 def as_json(finding: Finding) -> str:
-    return json.dumps({**finding.fields, **({"log": finding.log} if finding.log != LOG else {})})
+    return json.dumps(finding.fields)
 
 
-FORMS = {Format.GCC: gcc, Format.GITHUB: github, Format.JSON: as_json}
+class Format(Enum):
+    GCC = "gcc"
+    GITHUB = "github"
+    JSON = "json"
+
+    @property
+    def form(self) -> Callable[[Finding], str]:
+        return {Format.GCC: gcc, Format.GITHUB: github, Format.JSON: as_json}[self]
 
 
-def judge(program: Program, form: Format, path: str) -> int:
-    """Writes the verdict on one log, and returns its status."""
-    with files.as_input(path):
-        answer = program.run(("check",), None)
-    finding = finding_of(answer, LOG if path == files.STDIN else path)
-    emit(FORMS[form](finding) + "\n" if finding else answer.text)
-    if answer.status == Status.MALFORMED:
-        header.say(files.begin_of(path, header.MOST))
-    return answer.status
-
-
-def check(program: Program, arguments: list[str]) -> int:
-    """`check --format FORMAT [LOG..]`, or `check --format=FORMAT [LOG..]`."""
-    if arguments[:1] == ["--format"]:
-        form, logs = arguments[1:2], arguments[2:]
-    else:
-        form, logs = [word.removeprefix("--format=") for word in arguments[:1]], arguments[1:]
-    if form not in [[form.value] for form in Format] or any(log[:1] == "-" and log != files.STDIN for log in logs):
-        emit(USAGE)
-        return 3
-    return files.greatest(logs or [files.STDIN], lambda path: judge(program, Format(form[0]), path), has_heads=False)
+def shown(answer: Answer, log: str, form: Format) -> str:
+    """The verdict in a form, as a line."""
+    return form.form(finding_of(answer, log)) + "\n"

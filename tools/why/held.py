@@ -13,7 +13,7 @@ from functools import cached_property
 import words
 from log import ADDRESS_BITS, Line, Log, header_of
 from pending import INSIDE, LAST_LEVEL, PAGE, Asker, Candidate, tables_of
-from program import Program, Refusal
+from program import Program, Verdict
 from style import ranges
 
 # So many places or register writes are told; of one page so many places are asked about, and of one root the loads of so many PEs.
@@ -86,7 +86,7 @@ class Places:
     """The places that hold a value and that a refusal is about: the refused one, those that link the page which is reported, and
     those inside of what these lead to."""
 
-    def __init__(self, program: Program, log: Log, refusal: Refusal):
+    def __init__(self, program: Program, log: Log, refusal: Verdict):
         self.log, self.refusal = log, refusal
         self.before = Before(log, refusal.line - 1)
         self.tables = tables_of(self.before)
@@ -151,7 +151,7 @@ class Places:
 class Tags:
     """The register writes that still stand against a refused register write or `unroot`."""
 
-    def __init__(self, program: Program, log: Log, refusal: Refusal):
+    def __init__(self, program: Program, log: Log, refusal: Verdict):
         self.program, self.log, self.refusal = program, log, refusal
         self.header = header_of(log.header)
         self.refused = log.line(refusal.line)
@@ -226,7 +226,7 @@ class Tags:
         return f"ASID {named[-1].event.value >> words.ASID_SHIFT if named else 0}"
 
 
-def held(program: Program, log: Log, refusal: Refusal) -> list:
+def held(program: Program, log: Log, refusal: Verdict) -> list:
     """What still holds at a refused line, of the rules that ask for it."""
     if refusal.name in OF_PLACES:
         return Places(program, log, refusal).search()

@@ -12,7 +12,7 @@ from itertools import groupby
 import words
 from log import Event, Header, Line, Lines, header_of, written
 from probe import Locks, made, other_value
-from program import Program, Refusal
+from program import Program, Verdict
 from style import BOLD, DIM, RED, Style
 
 ALL_SHOWN = 16
@@ -146,7 +146,7 @@ def columns(header: Header, lines: Lines) -> tuple[list[int], int]:
     return used + rest[:1], len(rest) - 1
 
 
-def chart_of(program: Program, header_text: str, lines: Lines, refusal: Refusal, place: int | None) -> Chart:
+def chart_of(program: Program, header_text: str, lines: Lines, refusal: Verdict, place: int | None) -> Chart:
     """The chart of a log that its last line is refused of."""
     header, rows, locks = header_of(header_text), [], Locks()
     asked = Phases(program, header_text, place) if place is not None else None
@@ -163,7 +163,7 @@ def chart_of(program: Program, header_text: str, lines: Lines, refusal: Refusal,
     return Chart(header, rows, pes, others, place)
 
 
-def mark_alike(program: Program, header: str, rows: list[Row], refusal: Refusal) -> None:
+def mark_alike(program: Program, header: str, rows: list[Row], refusal: Verdict) -> None:
     """Marks the rows behind which the refused line would be refused by the same rule at the same place."""
     lines = [row.line for row in rows]
     for count, row in enumerate(rows[:-1], 1):

@@ -11,7 +11,7 @@ from collections.abc import Iterator
 from dataclasses import dataclass, field
 
 from log import ADDRESS_BITS, Header, Log
-from program import Refusal
+from program import Verdict
 
 BARRIERS = {b"dsb", b"tlbi", b"isb"}
 LOCKS_KEPT = 64
@@ -83,7 +83,7 @@ class Way:
     lines: set = field(default_factory=set)
 
 
-def pages_named(index: Index, refusal: Refusal) -> list[int]:
+def pages_named(index: Index, refusal: Verdict) -> list[int]:
     """The pages that the refused line names, that which it reports, and that of the root that a register write names. The page
     to which a written value leads matters where the rules before that of pages don't refuse the line."""
     line = index.log.line(refusal.line).event
@@ -119,7 +119,7 @@ def written_at(index: Index, place: int, since: int = 0) -> list[int]:
     return [at for at, there, _ in index.writes[place >> PAGE] if there == place and at >= begun]
 
 
-def of_refused(index: Index, refusal: Refusal, last_alone: bool) -> list[int]:
+def of_refused(index: Index, refusal: Verdict, last_alone: bool) -> list[int]:
     """The writes of the refused line's place: those from the last valid one before it on, or all since its page's `init`."""
     line = index.log.line(refusal.line).event
     if line.word != "w":
@@ -144,7 +144,7 @@ def descend(index: Index, way: Way, pages: list[int]) -> None:
         waiting.extend((value & ADDRESS_BITS) >> PAGE for _, value in inside if value & 3 == 3)
 
 
-def window_of(index: Index, refusal: Refusal, way: Way) -> int:
+def window_of(index: Index, refusal: Verdict, way: Way) -> int:
     """The line from which on barriers and TLBIs can matter: the last valid write of the refused place, or of the way to it."""
     line = index.log.line(refusal.line).event
     if line.word == "w":
@@ -161,7 +161,7 @@ def tags(index: Index, way: Way, most: int | None = None) -> set[int]:
     return {line for at in registers_near(index, way)[-most if most else None:] for line in with_its_root(index, at)}
 
 
-def tags_near(index: Index, refusal: Refusal, header: Header) -> list[int]:
+def tags_near(index: Index, refusal: Verdict, header: Header) -> list[int]:
     """The ASIDs and VMIDs of the register writes that name a page of the way, and of those next to them by the same PE, since
     an ASID may stand in the other register; the last ones first."""
     way = climb(index, header, pages_named(index, refusal), True)
@@ -169,12 +169,12 @@ def tags_near(index: Index, refusal: Refusal, header: Header) -> list[int]:
     return list(dict.fromkeys(value >> TAG for value in values[::-1] if value))[:TAGS_TRIED]
 
 
-def loading(index: Index, refusal: Refusal, header: Header) -> list[int]:
+def loading(index: Index, refusal: Verdict, header: Header) -> list[int]:
     """The last lines that load the roots of the way."""
     return sorted(tags(index, climb(index, header, pages_named(index, refusal), True), LOADED))
 
 
-def locks(index: Index, refusal: Refusal, way: Way) -> set[int]:
+def locks(index: Index, refusal: Verdict, way: Way) -> set[int]:
     """The last lines of the locks of the roots on the way, and of the lock that the refused line names, from a `lock` on."""
     wanted = {lock for at in way.lines if (lock := index.log.line(at).event.lock)}
     wanted.add(index.log.line(refusal.line).event.lock)
@@ -185,7 +185,7 @@ def locks(index: Index, refusal: Refusal, way: Way) -> set[int]:
     return set(named)
 
 
-def slices(index: Index, refusal: Refusal, header: Header) -> Iterator[list[int]]:
+def slices(index: Index, refusal: Verdict, header: Header) -> Iterator[list[int]]:
     """Lines to try, from few to many. The refused line is the last of each."""
     named = pages_named(index, refusal)
     barriers = sorted(at for word in BARRIERS for at in index.others[word])
@@ -207,7 +207,7 @@ def slices(index: Index, refusal: Refusal, header: Header) -> Iterator[list[int]
 BEFORE, BEHIND, FLUSHES, FOCUSED, TRIED_LOCKS, WAY = 6, 6, 3, 4, 8, 24
 
 
-def attempts(index: Index, refusal: Refusal, header: Header, held: list[int]) -> list[int]:
+def attempts(index: Index, refusal: Verdict, header: Header, held: list[int]) -> list[int]:
     """The lines near by that may have been meant to help: those of the way, writes of the same places, the barriers and TLBIs around them,
     around the refused line and around those of what is held, the register writes that give the root its tags, and the last lines of the
     locks."""

@@ -13,6 +13,7 @@ class Cut:
 
     def __init__(self, parts: Iterable[bytes]):
         self.parts, self.lines, self.half = parts, 0, 0
+        self.left = self.log()
 
     @property
     def events(self) -> int:
@@ -40,18 +41,16 @@ class Cut:
         self.half = len(half)
         yield b"end %d\n" % self.events
 
+    def answer(self, program: Program) -> Answer:
+        return program.feed(("check",), self.left)
 
-def told(cut: Cut, answer: Answer) -> str:
-    """How many events were judged: all, or those up to the line that decides and with it."""
-    judged = cut.events if answer.accepted or answer.line is None else min(cut.events, max(0, answer.line - 1))
-    half = f", {cut.half} bytes of a half line cut" if cut.half else ""
-    return f"judged {judged} of {cut.events} events{half}\n"
-
-
-def partial(program: Program, parts: Iterable[bytes]) -> tuple[int, str]:
-    cut = Cut(parts)
-    log = cut.log()
-    answer = program.feed(("check",), log)
-    for _ in log:
-        pass
-    return answer.status, answer.text + (told(cut, answer) if answer.text else "")
+    def told(self, answer: Answer) -> str:
+        """How many events were judged: all, or those up to the line that decides and with it. Where that is line 1 no line is an
+        event, and what comes behind isn't read."""
+        if answer.line == 1:
+            return "judged 0 of 0 events\n"
+        for _ in self.left:
+            pass
+        judged = self.events if answer.line is None else min(self.events, answer.line - 1)
+        half = f", {self.half} bytes of a half line cut" if self.half else ""
+        return f"judged {judged} of {self.events} events{half}\n"

@@ -3,9 +3,9 @@
 from __future__ import annotations
 
 import json
+import os
 from dataclasses import dataclass
 
-from formats import as_json, finding_of
 from log import event_of
 from pages import pages
 from pending import pending
@@ -14,16 +14,6 @@ from source import Front, Source, whole
 from style import BOLD, DIM, RED, Style, ranges
 
 PHASES = {"live": RED, "broken": RED, "seen": RED, "half": RED, "cleansed": DIM}
-
-
-@dataclass(frozen=True)
-class Asked:
-    """The options of the word."""
-
-    at: str | None
-    nth: int
-    pages: bool
-    format: str | None
 
 
 @dataclass(frozen=True)
@@ -48,23 +38,23 @@ def pages_found(program: Program, front: Front) -> list[Found]:
             for one in pages(program, front)]
 
 
-def front_of(program: Program, source: Source, asked: Asked, answer: Answer) -> Front | None:
+def front_of(source: Source, label: str, nth: int, answer: Answer) -> Front | None:
     """The log; or with a label up to its line, and with it unless it is that line that is refused. None where another line
     decides before."""
-    if not asked.at:
-        return whole(source, int(answer.first.split(" ")[1])) if answer.accepted else None
-    ending, size, count = b" @" + asked.at.removeprefix("@").encode("latin-1"), 0, 0
+    if not label:
+        return whole(source, answer.verdict.events) if answer.accepted else None
+    ending, size, count = b" @" + os.fsencode(label.removeprefix("@")), 0, 0
     for at, line in enumerate(source.lines(), 1):
         decides = at == answer.line
         if decides and not answer.refusal:
             return None
         count += at > 1 and line.endswith(ending)
-        if count == asked.nth > 0:
+        if count == nth:
             return Front(source, size, at - 2) if decides else Front(source, size + len(line) + 1, at - 1)
         if decides:
             return None
         size += len(line) + 1
-    raise Unable(Status.USAGE, f"no line number {asked.nth} has the label {asked.at}")
+    raise Unable(Status.USAGE, f"no line number {nth} has the label {label}")
 
 
 def labels_of(front: Front, found: list[Found]) -> dict[int, str]:
@@ -86,18 +76,12 @@ def fields(one: Found, labels: dict[int, str]) -> dict:
     return {**{word: hex(address) for word, address in one.addresses.items()}, **lines, "phases": one.by_phase()}
 
 
-def command(program: Program, source: Source, asked: Asked, style: Style) -> tuple[int, str]:
-    """The status, 1 where something is named, and the text."""
-    answer = program.feed(("check",), source.kept())
-    front = front_of(program, source, asked, answer)
-    if front is None:
-        finding = finding_of(answer) if asked.format else None
-        return answer.status, as_json(finding) + "\n" if finding else answer.text
-    found = (pages_found if asked.pages else places_found)(program, front)
+def as_json(front: Front, what: str, found: list[Found], log: str) -> str:
     labels = labels_of(front, found)
-    what = "pages" if asked.pages else "places"
-    if asked.format:
-        named = {"verdict": "accepted", "events": front.events, what: [fields(one, labels) for one in found]}
-        return int(bool(found)), json.dumps(named) + "\n"
-    first = f"accepted {front.events} events\npending {len(found)} {what}\n"
-    return int(bool(found)), first + "".join(told(one, labels, style) for one in found)
+    named = {"verdict": "accepted", "events": front.events, what: [fields(one, labels) for one in found], **({"log": log} if log else {})}
+    return json.dumps(named) + "\n"
+
+
+def text_of(front: Front, what: str, found: list[Found], style: Style) -> str:
+    labels = labels_of(front, found)
+    return f"accepted {front.events} events\npending {len(found)} {what}\n" + "".join(told(one, labels, style) for one in found)

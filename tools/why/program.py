@@ -5,16 +5,15 @@ from __future__ import annotations
 import contextlib
 import errno
 import os
-import pathlib
 import re
 import subprocess
 import sys
 from collections.abc import Iterable
 from dataclasses import dataclass, field
 from enum import IntEnum
+from functools import cached_property
 
-TOP = pathlib.Path(__file__).resolve().parents[2]
-BUILT = TOP / "crates/bbm_cli/out/bbm_cli"
+TOP = os.path.realpath(f"{__file__}/../../..")
 REMEMBERED = 1 << 20
 
 
@@ -27,30 +26,51 @@ class Status(IntEnum):
     UNWRITTEN = 5
     NO_MEMORY = 6
     LIMIT = 7
+    # a file can't be read or written, or the program can't be run
+    UNABLE = 70
 
 
-# The statuses with which the program says something of what it was given.
+# The statuses with which the program says something of what it was given, and those of its faults.
 ANSWERS = (Status.ACCEPTED, Status.REFUSED, Status.MALFORMED, Status.USAGE, Status.LIMIT)
 FAULTS = {Status.UNREADABLE: "a read of the log failed", Status.UNWRITTEN: "a write of the answer failed",
           Status.NO_MEMORY: "there was no memory"}
+VERDICT = re.compile(r"accepted (?P<events>\d+) events"
+                     r"|refused line (?P<line>\d+) rule (?P<rule>\d+) (?P<name>\S+) at (?P<at>0x[0-9a-f]+)(?: @(?P<label>\S+))?"
+                     r"|malformed line (?P<bad>\d+) cause (?P<cause>\d+) (?P<why>\S+)"
+                     r"|limit line (?P<last>\d+) (?P<which>\S+)")
+WORDS = {"accepted": Status.ACCEPTED, "refused": Status.REFUSED, "malformed": Status.MALFORMED, "limit": Status.LIMIT}
 
 
 @dataclass(frozen=True)
-class Refusal:
-    """The line of a refusal: which line breaks which rule, and what the rule reports."""
+class Verdict:
+    """The line of a verdict: how many events were accepted; or the line that decides, with the number and name of the rule or
+    cause, or the name of the limit, and what a rule reports."""
 
-    line: int
-    rule: int
-    name: str
-    at: int
+    word: str
+    events: int = 0
+    line: int = 0
+    number: int = 0
+    name: str = ""
+    at: int = 0
     label: str = ""
+
+    @property
+    def rule(self) -> int:
+        return self.number if self.word == "refused" else 0
 
     @property
     def titled(self) -> str:
         return f"rule {self.rule} {self.name}"
 
 
-REFUSED = re.compile(r"refused line (\d+) rule (\d+) ([a-z-]+) at (0x[0-9a-f]+)(?: @(\S+))?")
+def verdict_of(line: str) -> Verdict | None:
+    found = VERDICT.fullmatch(line)
+    if not found:
+        return None
+    word, part = line.split(" ", 1)[0], found.groupdict(default="")
+    number = lambda *names: int(next((part[name] for name in names if part[name]), "0"))
+    return Verdict(word, number("events"), number("line", "bad", "last"), number("rule", "cause"),
+                   part["name"] or part["why"] or part["which"], int(part["at"] or "0", 16), part["label"])
 
 
 @dataclass(frozen=True)
@@ -64,23 +84,24 @@ class Answer:
     def first(self) -> str:
         return self.text.split("\n", 1)[0]
 
+    @cached_property
+    def verdict(self) -> Verdict | None:
+        """What the first line says, where it is that of a verdict and of this status."""
+        found = verdict_of(self.first)
+        return found if found and WORDS[found.word] == self.status else None
+
     @property
     def accepted(self) -> bool:
         return self.status == Status.ACCEPTED
 
     @property
-    def refusal(self) -> Refusal | None:
-        found = REFUSED.fullmatch(self.first)
-        if not found or self.status != Status.REFUSED:
-            return None
-        line, rule, name, at, label = found.groups()
-        return Refusal(int(line), int(rule), name, int(at, 16), label or "")
+    def refusal(self) -> Verdict | None:
+        return self.verdict if self.status == Status.REFUSED else None
 
     @property
     def line(self) -> int | None:
         """The line that decided, where one did."""
-        found = re.match(r"(?:refused|malformed|limit) line (\d+)", self.first)
-        return int(found.group(1)) if found else None
+        return self.verdict.line or None if self.verdict else None
 
     @property
     def phases(self) -> tuple[str, ...]:
@@ -96,14 +117,10 @@ class Unable(Exception):
         self.status = status
 
 
-# What the next text begins with, of several logs the name of each.
-HEADS: list[str] = []
-
-
 def emit(text: str) -> None:
     """Writes to standard output."""
     try:
-        sys.stdout.write((HEADS.pop() if HEADS else "") + text)
+        sys.stdout.write(text)
         sys.stdout.flush()
     except BrokenPipeError:
         raise
@@ -111,11 +128,10 @@ def emit(text: str) -> None:
         raise Unable(Status.UNWRITTEN, f"a write of the answer failed: {fault.strerror}") from fault
 
 
-def complain(fault: Unable) -> None:
-    """Says on standard error what the fault is, where it is said anywhere."""
-    if str(fault) and sys.stderr:
-        with contextlib.suppress(OSError):
-            sys.stderr.write(f"bbm: {fault}\n")
+def complain(text: str) -> None:
+    """Says something on standard error, where it is said anywhere."""
+    with contextlib.suppress(OSError):
+        os.write(2, f"bbm: {text}\n".encode(errors="backslashreplace"))
 
 
 @dataclass
@@ -130,34 +146,34 @@ class Program:
         key = (words, log)
         if key in self.known:
             return self.known[key]
-        answer = self.run(words, log)
+        answer = self.feed(words, [log])
         if len(log) < REMEMBERED:
             self.known[key] = answer
         return answer
 
-    def run(self, words: tuple[str, ...], log: bytes | None) -> Answer:
-        """The answer to a log, or to standard input where that is None."""
-        return self.feed(words, None if log is None else [log])
+    def feed(self, words: tuple[str, ...], parts: Iterable[bytes]) -> Answer:
+        """The answer to a log that comes in parts, of which those behind the line that decides may be left."""
+        return self.run(words, subprocess.PIPE, parts)
 
-    def feed(self, words: tuple[str, ...], parts: Iterable[bytes] | None) -> Answer:
-        """The answer to a log that comes in parts, of which those behind the line that decides may be left; or to standard
-        input where that is None. A status that says nothing of it is a fault, and so never taken for a yes or a no."""
+    def run(self, words: tuple[str, ...], log: int, parts: Iterable[bytes] = ()) -> Answer:
+        """The answer to a file, by its descriptor, or to a pipe with these parts. A status that says nothing of the log is a
+        fault, and so never taken for a yes or a no."""
         self.runs += 1
-        given = {} if parts is None else {"stdin": subprocess.PIPE}
         try:
-            with subprocess.Popen([self.path, *words], stdout=subprocess.PIPE, **given) as running:
+            with subprocess.Popen([self.path, *words], stdin=log, stdout=subprocess.PIPE) as running:
                 with contextlib.suppress(BrokenPipeError):
-                    for part in parts or ():
+                    for part in parts:
                         running.stdin.write(part)
                 text, _ = running.communicate()
         except OSError as fault:
-            status = Status.NO_MEMORY if fault.errno == errno.ENOMEM else 70
+            status = Status.NO_MEMORY if fault.errno == errno.ENOMEM else Status.UNABLE
             raise Unable(status, f"the program can't be run: {fault}") from fault
         if running.returncode < 0:
-            raise Unable(70, f"the program ended by signal {-running.returncode}")
+            raise Unable(Status.UNABLE, f"the program was ended by signal {-running.returncode}, so there is no answer")
         if running.returncode not in ANSWERS:
             why = FAULTS.get(running.returncode, f"the program ended with status {running.returncode}")
-            raise Unable(running.returncode, f"{why}, so there is no answer")
+            status = running.returncode if running.returncode in FAULTS else Status.UNABLE
+            raise Unable(status, f"{why}, so there is no answer")
         return Answer(running.returncode, text.decode("latin-1"))
 
     def check(self, log: bytes) -> Answer:
@@ -172,5 +188,5 @@ class Program:
 
 
 def built() -> Program:
-    """The program that the script names, or the one that stands beside this tool."""
-    return Program(os.environ.get("BBM") or str(BUILT))
+    """The program that the script names."""
+    return Program(os.environ["BBM"])

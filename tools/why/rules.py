@@ -7,8 +7,7 @@ from dataclasses import dataclass
 
 from program import TOP
 
-RULES = TOP / "docs/RULES.md"
-FORMAT = TOP / "docs/FORMAT.md"
+RULES, FORMAT = f"{TOP}/docs/RULES.md", f"{TOP}/docs/FORMAT.md"
 
 
 @dataclass(frozen=True)
@@ -25,8 +24,13 @@ def plain(text: str) -> str:
     return re.sub(r"\[([^\]]*)\]\([^)]*\)", r"\1", text).strip()
 
 
+def read(path: str) -> str:
+    with open(path, encoding="utf-8") as file:
+        return file.read()
+
+
 def section_of(number: int) -> str | None:
-    found = re.search(rf"^### {number} .*?(?=^###? |\Z)", RULES.read_text(encoding="utf-8"), re.M | re.S)
+    found = re.search(rf"^### {number} .*?(?=^###? |\Z)", read(RULES), re.M | re.S)
     return found.group(0) if found else None
 
 
@@ -46,5 +50,5 @@ def rule_of(number: int) -> Rule | None:
 
 def cause_of(name: str) -> str | None:
     """Where a cause of a malformed line comes, by docs/FORMAT.md."""
-    found = re.search(rf"^\| \d+ {re.escape(name)} \| (.*) \|$", FORMAT.read_text(encoding="utf-8"), re.M)
+    found = re.search(rf"^\| \d+ {re.escape(name)} \| (.*) \|$", read(FORMAT), re.M)
     return plain(found.group(1)) if found else None

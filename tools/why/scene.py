@@ -9,7 +9,7 @@ from dataclasses import dataclass, field, replace
 from functools import cached_property
 
 from log import ADDRESS_BITS, PAGE_BYTES, Event, Header, Line, Lines, header_of
-from program import Refusal
+from program import Verdict
 from words import KIND_OF_REGISTER
 
 # How many lines on each side are looked at where there are more.
@@ -37,7 +37,7 @@ class Scene:
     header_text: str
     lines: Lines
     later: Lines
-    refusal: Refusal
+    refusal: Verdict
     near_tags: list[int] = field(default_factory=list)
     held: tuple[int, ...] = ()
     focus: int | None = None

@@ -12,7 +12,7 @@ from functools import cached_property
 
 from log import WITH_PAGE, Log, header_of
 from names import attempts, index_of, slices
-from program import Program, Refusal
+from program import Program, Verdict
 
 Numbers = Sequence[int]
 BREAK_BEFORE_MAKE = 4
@@ -29,7 +29,7 @@ class Bug:
     phases: tuple[str, ...]
 
 
-def bug_of(program: Program, log: bytes, refusal: Refusal) -> Bug:
+def bug_of(program: Program, log: bytes, refusal: Verdict) -> Bug:
     phases = program.explain(log).phases if refusal.rule == BREAK_BEFORE_MAKE else ()
     return Bug(refusal.rule, refusal.at, phases)
 
@@ -96,7 +96,7 @@ def reduced(log: Log, numbers: Numbers, holds: Callable[[Numbers], bool]) -> Num
 class Shrinker:
     """The least logs of one refused log."""
 
-    def __init__(self, program: Program, log: Log, refusal: Refusal):
+    def __init__(self, program: Program, log: Log, refusal: Verdict):
         self.program, self.log, self.refusal = program, log, refusal
         self.header = header_of(log.header)
         self.bug = bug_of(program, log.until(refusal.line), refusal)

@@ -1,5 +1,5 @@
 # SPDX-License-Identifier: Apache-2.0
-"""What is judged, read as a stream: a file, or standard input, and again as often as it has to be.
+"""What is judged, read as a stream from an open file, and again as often as it has to be.
 
 What comes through a pipe and is read again is kept in a temporary file. The memory is that of one part.
 """
@@ -8,66 +8,81 @@ from __future__ import annotations
 import contextlib
 import os
 import stat
-import tempfile
 from collections.abc import Iterator
 from itertools import islice
 
-from files import STDIN, file_of
-from program import Status, Unable
+from program import Answer, Program, Status, Unable
 
 PART = 1 << 20
+# So many bytes of a line are read where it has more: the program takes no line of more than 200.
+LONGEST = 300
+
+
+@contextlib.contextmanager
+def faults(name: str, status: Status):
+    """A fault of the system ends this process with the status for it."""
+    try:
+        yield
+    except OSError as fault:
+        raise Unable(status, f"{name}: {fault.strerror}, so there is no answer") from fault
 
 
 class Source:
-    """The bytes of a file, or of standard input where its name is `-`."""
+    """The bytes of an open file, standard input unless another descriptor is given. The name is for what is said of faults."""
 
-    def __init__(self, path: str):
-        self.name = "standard input" if path == STDIN else path
-        self.input = file_of(path)
-        with self.faults():
-            number = self.input.fileno()
+    def __init__(self, name: str = "", number: int = 0):
+        self.name, self.input, self.file = name or "standard input", number, None
+        with self.reading():
             is_file = stat.S_ISREG(os.fstat(number).st_mode)
             self.begin = os.lseek(number, 0, os.SEEK_CUR) if is_file else 0
-        self.held = self.input if is_file else None
+        self.held = number if is_file else None
 
-    @contextlib.contextmanager
-    def faults(self):
-        """A fault of a read ends this process with the status for it."""
-        try:
-            yield
-        except OSError as fault:
-            raise Unable(Status.UNREADABLE, f"{self.name}: {fault.strerror}") from fault
+    def reading(self):
+        return faults(self.name, Status.UNREADABLE)
+
+    def keeping(self):
+        return faults(f"the log can't be kept in {os.environ.get('TMPDIR', '/tmp')}", Status.UNABLE)
 
     def parts(self) -> Iterator[bytes]:
         """The bytes that weren't read yet, part by part."""
-        with self.faults():
-            while part := self.input.read(PART):
+        with self.reading():
+            while part := os.read(self.input, PART):
                 yield part
 
     def kept(self) -> Iterator[bytes]:
         """The same, where they are read again: those of a pipe are kept."""
-        with self.faults():
-            self.held = self.held or tempfile.TemporaryFile()
-            for part in self.parts():
-                if self.held is not self.input:
-                    self.held.write(part)
-                    self.held.flush()
-                yield part
+        if self.held is None:
+            # (it takes long to load)
+            from tempfile import TemporaryFile
+
+            with self.keeping():
+                self.file = TemporaryFile()
+                self.held = self.file.fileno()
+        for part in self.parts():
+            if self.file:
+                with self.keeping():
+                    self.file.write(part)
+                    self.file.flush()
+            yield part
+
+    def answer(self, program: Program, *words: str) -> Answer:
+        """What the program answers to these bytes."""
+        return program.feed(words, self.kept()) if self.held is None else program.run(words, self.input)
 
     def size(self) -> int:
-        return os.fstat(self.held.fileno()).st_size - self.begin
+        return os.fstat(self.held).st_size - self.begin
 
     def again(self, size: int | None = None, since: int = 0) -> Iterator[bytes]:
         """The first bytes, so many and from one on: those of a file, or of a pipe those that were kept."""
-        number, at = self.held.fileno(), self.begin + since
-        end = self.begin + self.size() if size is None else self.begin + size
-        with self.faults():
-            while at < end and (part := os.pread(number, min(PART, end - at), at)):
+        at = self.begin + since
+        end = self.begin + (self.size() if size is None else size)
+        with self.reading():
+            while at < end and (part := os.pread(self.held, min(PART, end - at), at)):
                 at += len(part)
                 yield part
 
     def lines(self, size: int | None = None) -> Iterator[bytes]:
-        """The lines of these bytes, each without its newline; the last may have had none."""
+        """The lines of these bytes, each without its newline, and of a long one its begin; the last may have had none."""
         rest = b""
         for part in self.again(size):
             first, *whole = part.split(b"\n")
@@ -76,12 +91,16 @@ class Source:
                 rest = whole.pop()
                 yield from whole
             else:
-                rest += first
+                rest = (rest + first)[:LONGEST]
         yield rest
+
+    def line(self, at: int) -> bytes | None:
+        """The line of this number, from 1 on; None where there is none."""
+        return next(islice(self.lines(), at - 1, None), None)
 
     def read(self) -> bytes:
         """All bytes."""
-        for _ in self.kept():
+        for _ in self.kept() if self.held != self.input else ():
             pass
         return b"".join(self.again())
 

@@ -8,7 +8,7 @@ from changes import Change
 from held import HeldPlace, HeldRoot, HeldTag, held
 from log import Line, Lines, Log
 from names import loading, tags_near
-from program import Program, Refusal
+from program import Program, Verdict
 from repair import Repair, Repairer, anchors
 from scene import Scene
 from shrink import Numbers, Shrinker, reduced
@@ -22,7 +22,7 @@ class Study:
 
     program: Program
     log: Log
-    refusal: Refusal
+    refusal: Verdict
     scene: Scene
     small: Lines
     repairs: list[Repair]
@@ -38,7 +38,7 @@ class Study:
         return self.small[-1]
 
 
-def later_lines(log: Log, refusal: Refusal) -> Lines:
+def later_lines(log: Log, refusal: Verdict) -> Lines:
     last = min(log.last_event, refusal.line + LATER)
     return log.lines(range(refusal.line + 1, last + 1))
 
@@ -71,7 +71,7 @@ def with_repairs(shrinker: Shrinker, repairer: Repairer, repairs: list[Repair], 
     return reduced(shrinker.log, start if holds(start) else tried, holds)
 
 
-def study(program: Program, log: Log, refusal: Refusal) -> Study:
+def study(program: Program, log: Log, refusal: Verdict) -> Study:
     shrinker = Shrinker(program, log, refusal)
     kept = held(program, log, refusal)
     near_tags = tags_near(shrinker.index, refusal, shrinker.header)

@@ -10,8 +10,10 @@ import run
 from log import Lines, written
 from program import Answer
 from repair import positions
+from line_faults import fault_of, plain
 from rules import cause_of, rule_of
 from shrink import reduced
+from source import Source
 from study import Study
 from style import BOLD, Style
 from telling import Teller
@@ -154,12 +156,14 @@ def text_of(answer: Answer, parts: list[list[str]]) -> str:
     return "\n\n".join("\n".join(part) for part in [[answer.first], *parts] if part) + "\n"
 
 
-def other_answer(answer: Answer, line: bytes | None) -> str:
-    """What is said of a log that no rule refuses: the program's line, and for a malformed one the line itself."""
-    if answer.status != 2 or line is None:
-        return answer.text
-    cause = answer.first.split(" ")[-1]
-    why = cause_of(cause)
-    shown = line[:200].decode("latin-1").encode("unicode_escape").decode("ascii")
-    return answer.text + f"  the line: {shown}\n" + (f"  {cause}: {why}\n" if why else "")
+def other_answer(answer: Answer, source: Source) -> str:
+    """What is said of a log that no rule refuses: the program's line, for a malformed one the line itself, and what is wrong in it."""
+    verdict = answer.verdict
+    told = []
+    if verdict and verdict.word == "malformed":
+        line, why = source.line(verdict.line), cause_of(verdict.name)
+        shown = (line or b"")[:200].decode("latin-1").encode("unicode_escape").decode("ascii")
+        told = [f"the line: {shown}"] * (line is not None) + [f"{verdict.name}: {why}"] * bool(why)
+    fault = fault_of(verdict, source) if verdict and verdict.word in ("malformed", "limit") else None
+    return answer.text + "".join(f"  {text}\n" for text in (*told, *([plain(fault)] if fault else ())))
 

@@ -6,9 +6,8 @@ import json
 
 import run
 from changes import Drop, Edit, Move, Put
-from formats import finding_of
+from formats import Finding, finding_of
 from log import Line
-from program import Answer
 from repair import Repair
 from study import Study
 from telling import Teller
@@ -29,8 +28,7 @@ def edit_of(edit: Edit) -> dict:
 def repair_of(repair: Repair, teller: Teller) -> dict:
     """The edits, the words of the text, and the verdict on the whole log, its line as it stands there without the change."""
     *told, _ = teller.repair(repair)
-    finding = finding_of(repair.whole)
-    whole = dict(finding.fields) if finding else {}
+    whole = finding_of(repair.whole).fields
     return {"edits": [edit_of(edit) for edit in repair.change.edits], "told": told,
             "whole": {**whole, "line": repair.next_line} if repair.next_line else whole}
 
@@ -39,9 +37,9 @@ def run_of(told: run.Told | None) -> dict | None:
     return {"lines": [line.at for line in told.lines], "told": told.told()} if told else None
 
 
-def text_of(study: Study, told: run.Told | None, answer: Answer) -> str:
+def text_of(study: Study, told: run.Told | None, finding: Finding) -> str:
     teller = Teller(study.log)
     parts = {"header": study.header, "small": [named(line) for line in study.small],
              "held": [{"told": one.told(), **named(one.line)} for one in study.held],
              "repairs": [repair_of(repair, teller) for repair in study.repairs], "run": run_of(told)}
-    return json.dumps({**finding_of(answer).fields, **parts}) + "\n"
+    return json.dumps({**finding.fields, **parts}) + "\n"
