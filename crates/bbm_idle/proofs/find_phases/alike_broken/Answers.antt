@@ -1,17 +1,15 @@
-use Rattle.bbm_idle.proofs.Common.{Heading}
-use Rattle.bbm_rules.proofs.Common.{◌≡◌, Bool, not, ◌&&◌, ◌||◌, nat_lt, ap, ◌∙◌, arith}
+use Rattle.bbm_rules.proofs.Common.{Bool, not, ◌&&◌, ◌||◌, nat_lt, ap, ◌∙◌, arith}
 use Rattle.bbm_regimes.specs.PeMask.{pe_in}
 use Rattle.bbm_idle.proofs.FindPhases.{alike_at, differ}
 use Rattle.bbm_idle.proofs.find_phases.alike_broken.Goals as goal
 
 pub returns : goal.returns
 returns c = λ p below.
-    let pes : c.header.inside.pes ≡ c.args.header.now.pes = ap (λ (h : Heading). h.pes) c.header.view_is in
-    alike_at c.header.inside.pes p c.args.new.now c.args.old.now (pe_in c.minus.result p)
+    alike_at c.pe_count.result p c.args.new.now c.args.old.now (pe_in c.minus.result p)
     (pe_in c.differing-cleansed.result p) (pe_in c.differing-half.result p) (pe_in c.differing-seen.result p)
-    (omega (arith, pes, below))
+    (omega (arith, c.pe_count.ensures, below))
     (c.minus.ensures p ∙ ap (λ (b : Bool). b && not (pe_in c.or-8.result p)) (c.all.ensures p)
-    ∙ ap (λ (b : Bool). nat_lt p c.header.inside.pes && not b)
+    ∙ ap (λ (b : Bool). nat_lt p c.pe_count.result && not b)
     (c.or-8.ensures p ∙ ap (λ (b : Bool). b || pe_in c.differing-seen.result p) (c.or-7.ensures p)))
     (c.differing-cleansed.ensures p)
     (c.differing-half.ensures p

@@ -8,9 +8,8 @@ use Rattle.bbm_cert.proofs.by_claims.ByClaimsEvidence.is_cleansed.Goals as goal
 pub returns : goal.returns
 returns c =
     let header : Heading = c.args.header.now in
-    let pes : c.header.inside.pes ≡ header.pes = ap (λ (h : Heading). h.pes) c.header.view_is in
     c.has_all.ensures
-    ∙ ap (λ (n : ℕ). every_pe n (λ p. pe_in c.cleansed_since.result p)) pes
+    ∙ ap (λ (n : ℕ). every_pe n (λ p. pe_in c.cleansed_since.result p)) c.pe_count.ensures
     ∙ every_same header.pes (λ p. pe_in c.cleansed_since.result p)
     (λ p. cleansed header (Listed c.args.self.now.claims.now) c.args.place p
     (notes_behind c.args.from (reverse (drop c.args.from c.args._log.now))))
