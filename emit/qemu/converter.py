@@ -23,7 +23,7 @@ import subprocess
 import sys
 from bisect import bisect_right
 from collections import Counter, defaultdict, namedtuple
-from contextlib import contextmanager
+from contextlib import contextmanager, suppress
 from itertools import combinations
 
 import normalisations
@@ -1087,6 +1087,8 @@ def run_guarded():
         # The checker has refused a line, and reads no more.
         return 0
     except Exception as error:  # whatever it is, it is no answer
+        with suppress(OSError):
+            sys.stdout.flush()
         return status_of_fault(error)
 
 
