@@ -406,7 +406,11 @@ class Converter:
 
     def take_write(self, fields):
         place, value = int(fields[5], 16), int(fields[6], 16)
-        table = self.tables.get(place & ~4095)
+        table, root = self.tables.get(place & ~4095), self.roots.get(place & ~4095)
+        if root and root.is_null:
+            # The whole trace shows it beforehand.
+            raise Unjudged(OTHER_FORMS, f"the root 0x{place & ~4095:x} was empty when it was loaded, so the log has it as a null page, and now "
+                           "it is written. Without --follow it can be judged")
         if table is None:
             return
         if table.is_told:
