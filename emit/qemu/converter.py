@@ -409,8 +409,8 @@ class Converter:
         table, root = self.tables.get(place & ~4095), self.roots.get(place & ~4095)
         if root and root.is_null:
             # The whole trace shows it beforehand.
-            raise Unjudged(OTHER_FORMS, f"the root 0x{place & ~4095:x} was empty when it was loaded, so the log has it as a null page, and now "
-                           "it is written. Without --follow it can be judged")
+            raise Unjudged(OTHER_FORMS, f"the root 0x{place & ~4095:x} was empty when it was loaded, so the log has it as a "
+                           "null page, and now it is written. Without --follow it can be judged")
         if table is None:
             return
         if table.is_told:
@@ -592,7 +592,8 @@ class Converter:
         control = self.controls.get(pe, NO_UPPER_WALKS)
         size = control >> 16 & 63
         # With less than 16 walks start at level -1, or there are none.
-        if root and root.is_declared and not root.is_null and not control & NO_UPPER_WALKS and size > 16 and size not in (25, 34):
+        is_walked = root and root.is_declared and not root.is_null and not control & NO_UPPER_WALKS
+        if is_walked and size > 16 and size not in (25, 34):
             self.upper_sizes.add(size)
 
     def turn_mmu(self, fields, pe, on):
@@ -671,10 +672,10 @@ def facts_of(world, symbols, lines):
 
 
 def take_facts(facts, symbols, index, line):
-    """Takes what a line tells of the whole trace."""
+    """Takes what a line tells of the whole trace: where code runs, and, unless the log has begun, what the header needs."""
     try:
         symbols.learn(line)
-        if line[0] in "rwm#":
+        if facts and line[0] in "rwm#":
             facts.add(index, line)
     except (LookupError, ValueError) as error:
         raise unreadable(index, line) from error
@@ -727,7 +728,7 @@ class Following:
         """Takes a line. Answers whether the header has all that is in it."""
         self.facts.count(line)
         if self.converter:
-            self.symbols.learn(line)
+            take_facts(None, self.symbols, index, line)
             fits = self.convert(index, line)
         else:
             take_facts(self.facts, self.symbols, index, line)
@@ -834,7 +835,7 @@ def report_judged(world, judged, wrong, is_complete):
     for text in wrong:
         tell(text)
     if wrong:
-        tell("one header holds for a whole log, so it would be judged by wrong addresses. There is no log, or none with an end")
+        tell("one header holds for a whole log, so it would be judged by wrong addresses. There is no log, or one without an end")
         return OTHER_FORMS
     if missing:
         tell(f"there is nothing to accept: the log has no {' and no '.join(missing)} of the world {world}")
@@ -859,7 +860,8 @@ def program_of(asked):
     return asked or os.environ.get("BBM") or (built if os.path.exists(built) else os.path.join(TOP, "bbm"))
 
 
-VERDICTS = {0: r"accepted \d+ events$", 1: r"refused line (\d+) ", DAMAGED: r"malformed line (\d+) ", LIMIT: r"limit line (\d+) "}
+VERDICTS = {0: r"accepted \d+ events$", 1: r"refused line (\d+) ", DAMAGED: r"malformed line (\d+) ",
+            LIMIT: r"limit line (\d+) "}
 
 
 def judge(program, text):
@@ -919,7 +921,8 @@ class Search:
 
     def begins_with_others(self, allow):
         """Whether a kernel has roots of another form, as that of its identity map, before a snapshot would begin."""
-        return self.world.form == "kernel" and "snapshot" not in allow and self.facts.start is not None and self.misfits(allow)
+        can_begin_late = self.world.form == "kernel" and "snapshot" not in allow and self.facts.start is not None
+        return can_begin_late and self.misfits(allow)
 
     def past(self, allow, origin):
         """The least set of others, the earliest in their list, with which the log gets past a line of the trace."""
@@ -1001,7 +1004,8 @@ class Words(argparse.ArgumentParser):
 
 
 def read_words():
-    words = Words(description=__doc__, formatter_class=argparse.RawDescriptionHelpFormatter, prog="bbm_convert", allow_abbrev=False)
+    words = Words(prog="bbm_convert", allow_abbrev=False, description=__doc__,
+                  formatter_class=argparse.RawDescriptionHelpFormatter)
     words.add_argument("world", nargs="?", choices=list(WORLDS))
     words.add_argument("trace", nargs="?", help="a file, or - for standard input with --follow")
     words.add_argument("-o", "--log", help="the log; standard output unless given")
@@ -1049,8 +1053,8 @@ def make_log(asked, world, symbols, out):
         if asked.log:
             tell(f"the log is in {asked.log}")
     if asked.suggest and is_accepted and status in (0, NO_END):
-        print((f"accepted {len(numbers)} events" if not status else f"nothing is refused of {len(numbers)} events, but there is no end")
-              + (f" with --allow {','.join(asked.allow)}" if asked.allow else ", as it is"))
+        what = "nothing is refused, and there is no end, of" if status else "accepted"
+        print(f"{what} {len(numbers)} events" + (f" with --allow {','.join(asked.allow)}" if asked.allow else ", as it is"))
         if "snapshot" in asked.allow:
             print(f"not judged: what is before {search.start()}")
     return REFUSED if not is_accepted and status in (0, NO_END) else status
