@@ -1,12 +1,16 @@
 # SPDX-License-Identifier: Apache-2.0
-"""Runs the program on a log, and says what is wrong with its answer. `tools/fuzz`, `tools/compare`, `tools/refuse_memory` and
-`tools/test_why` use it.
+"""Runs the program on a log, and says what is wrong with its answer. `tools/fuzz`, `tools/try`, `tools/refuse_memory`
+and `tools/test_why` use it.
 
 The forms are those that docs/OUTPUT.md promises: they are read from there.
 """
+import argparse
 import os
 import re
+import shutil
 import subprocess
+
+from ending import Unable
 
 TOP = os.path.dirname(os.path.dirname(os.path.realpath(__file__)))
 BUILT = os.path.join(TOP, "crates/bbm_cli/out/bbm_cli")
@@ -14,6 +18,32 @@ SECONDS = 10
 PROMISED = os.path.join(TOP, "docs/OUTPUT.md")
 # With this status a part of a text comes, cut anywhere.
 UNWRITTEN, PART = 5, "(?s:.*)"
+
+
+# ---- the words of a tool
+
+def options(tool, about, count, counted):
+    """The options of a tool that runs the program on logs which it makes: so many, unless another number is given."""
+    words = options_of_program(tool, about)
+    words.add_argument("--count", type=int, default=count, help=counted)
+    words.add_argument("--seed", type=int, default=1)
+    words.add_argument("--events", type=int, default=60, help="the most events of a structured log")
+    words.add_argument("--jobs", type=int, default=1, help="the logs that are judged at once")
+    return words
+
+
+def options_of_program(tool, about):
+    words = argparse.ArgumentParser(tool, description=about, formatter_class=argparse.RawDescriptionHelpFormatter)
+    words.add_argument("--program", default=os.environ.get("BBM", BUILT), help="else that of BBM, or the built one")
+    return words
+
+
+def asked(words, given=None):
+    """What is asked for, where there is a program to run."""
+    found = words.parse_args(given)
+    if not shutil.which(found.program):
+        raise Unable(f"there is no program {found.program}")
+    return found
 
 
 # ---- the forms of docs/OUTPUT.md
@@ -139,6 +169,17 @@ def reached(answer):
         if found:
             return re.sub(r" line \d+", "", found.group(0))
     return answer.first[:20] or "nothing"
+
+
+# ---- certificates
+
+def certificate(claims):
+    return "\n".join(["bbmcert 1", *claims, f"end {len(claims)}", ""])
+
+
+def verified(program, log, claims):
+    """What `verify` says of a log with these claims."""
+    return run(program, ["verify"], log + certificate(claims).encode())
 
 
 # ---- logs that follow from a log

@@ -1,6 +1,6 @@
 # SPDX-License-Identifier: Apache-2.0
 """Structured logs: the events of a kernel or a hypervisor that keeps the rules, with slips that break one. `tools/fuzz`
-and `tools/compare` judge them, and nothing here says what the verdict is.
+and `tools/try` judge them, and nothing here says what the verdict is.
 
 `structured(chance, events)` makes a log. `chance` is a random.Random, so that a seed gives the same log again.
 """

@@ -7,7 +7,7 @@ from dataclasses import dataclass
 from enum import Enum
 from typing import Union
 
-from log import Line, Lines, Log
+from log import Line, Lines, Log, joined
 
 
 class Kind(Enum):
@@ -204,4 +204,4 @@ def applied(log: Log, change: Change) -> tuple[bytes, list[int]]:
             text = moved[edit.at] if isinstance(edit, Move) else edit.text.encode("latin-1")
             texts.insert(at, text)
             numbers.insert(at, edit.at if isinstance(edit, Move) else at)
-    return b"\n".join([*texts, b"end %d\n" % (len(texts) - 1)]), numbers
+    return joined(texts), numbers

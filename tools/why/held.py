@@ -11,7 +11,7 @@ from dataclasses import dataclass
 from functools import cached_property
 
 import words
-from log import ADDRESS_BITS, Line, Log, header_of
+from log import ADDRESS_BITS, Line, Log, header_of, joined
 from pending import INSIDE, LAST_LEVEL, PAGE, Asker, Candidate, tables_of
 from program import Program, Verdict
 from style import ranges
@@ -39,7 +39,7 @@ class Before:
         return enumerate(self.log.parts[1:self.last], 2)
 
     def with_tail(self, tail: list[bytes]) -> list[bytes]:
-        return [b"\n".join([*self.log.parts[:self.last], *tail, b"end %d\n" % (self.events + len(tail))])]
+        return [joined([*self.log.parts[:self.last], *tail])]
 
 
 @dataclass(frozen=True)

@@ -9,6 +9,7 @@ import re
 from collections.abc import Iterator
 from dataclasses import dataclass
 
+from log import Header, header_of
 from program import Answer, Verdict, complain
 from source import Source
 
@@ -174,11 +175,10 @@ class EventLine:
             yield Field("ExtraField", f"`{' '.join(more[labelled:])[:40]}` is a field too many{early}; the form is `{' '.join([self.word, *self.names])}`")
 
 
-def event_fault(verdict: Verdict, line: bytes, header: str) -> str | None:
+def event_fault(verdict: Verdict, line: bytes, header: Header) -> str | None:
     if line.endswith(b"\r"):
         return CRLF
-    words = header.split(" ")
-    found = next(EventLine(line.decode("latin-1"), int(words[1]), int(words[3])).faults(), None)
+    found = next(EventLine(line.decode("latin-1"), header.version, header.pes).faults(), None)
     return found.told if found and found.cause == verdict.name else None
 
 
@@ -201,7 +201,7 @@ def fault_of(verdict: Verdict, source: Source, word: str = "check") -> str | Non
         return f"the line is `{line.decode('latin-1')}`, and {verdict.line - 2} event lines stand before it: `end {verdict.line - 2}` is right"
     if verdict.name == "AfterEnd":
         return f"line {verdict.line - 1} is the `end` line, and nothing may stand behind it"
-    return event_fault(verdict, line, next(source.lines()).decode("latin-1"))
+    return event_fault(verdict, line, header_of(next(source.lines()).decode("latin-1")))
 
 
 def say(answer: Answer, source: Source, word: str) -> None:

@@ -155,10 +155,14 @@ class Line:
 Lines = tuple[Line, ...]
 
 
+def joined(parts) -> bytes:
+    """The log of a header and event lines, with the right `end` line."""
+    parts = [*parts]
+    return b"\n".join([*parts, b"end %d\n" % (len(parts) - 1)])
+
+
 def written(header: str, lines) -> bytes:
-    """The log of these lines, with the right `end` line."""
-    texts = [header, *(line.text for line in lines)]
-    return ("\n".join(texts) + f"\nend {len(texts) - 1}\n").encode("latin-1")
+    return joined(text.encode("latin-1") for text in (header, *(line.text for line in lines)))
 
 
 class Log:
@@ -189,10 +193,8 @@ class Log:
 
     def cut(self, numbers) -> bytes:
         """The log of the lines of these numbers alone."""
-        parts = self.parts
-        chosen = [parts[at - 1] for at in numbers]
-        return b"\n".join([parts[0], *chosen, b"end %d\n" % len(chosen)])
+        return joined([self.parts[0], *(self.parts[at - 1] for at in numbers)])
 
     def until(self, last: int) -> bytes:
         """The log up to the line of this number, and with it."""
-        return b"\n".join([*self.parts[:last], b"end %d\n" % (last - 1)])
+        return joined(self.parts[:last])

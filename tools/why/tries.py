@@ -13,6 +13,7 @@ import words
 from changes import Change, Drop, Head, Kind, Move, one, puts
 from flushes import Family, operands, sequences, whole_sequences, with_pe, with_words
 from log import PAGE_BYTES, Line
+from probe import Locks
 from scene import Scene
 
 NEAR = 8
@@ -62,13 +63,10 @@ def before_what_broke(scene: Scene) -> list[int]:
 
 def holders(scene: Scene) -> dict[str, int]:
     """Which PE took each lock last and didn't give it back."""
-    held: dict[str, int] = {}
+    locks = Locks()
     for line in scene.lines[:-1]:
-        if line.event.word == "lock":
-            held[line.event.lock] = line.event.pe
-        elif line.event.word == "unlock":
-            held.pop(line.event.lock, None)
-    return held
+        locks.take(line.event)
+    return locks.held
 
 
 def locks_of_roots(scene: Scene) -> list[str]:

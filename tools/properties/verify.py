@@ -1,27 +1,16 @@
-#!/usr/bin/env python3
 # SPDX-License-Identifier: Apache-2.0
-"""Tries `verify` on random logs and their certificates.
+"""With every claim that can be true, `verify` says of a log what `check` says of it: the claims that are false count
+for nothing. With a part of them it says that of a later event, or of an earlier one, by a text of its form; and then with
+the claims in another order and some of them twice the same.
 
-With every claim that can be true, `verify` says of a log what `check` says of it: the claims that are false count for
-nothing. With a part of them it says that of a later event, or of an earlier one, by a text of its form; and then with the
-claims in another order and some of them twice the same.
-
-    tools/try_verify                         the built program, 300 logs
-    tools/try_verify --program PATH --count 20000 --seed 7 --events 60 --jobs 2
-
-The logs are those of `tools/compare`; one that is refused ends with the line that decides, and one that is malformed or
-reaches a limit is left out. Exit status 0 where nothing fails; a log that fails is printed.
+A log that is refused ends with the line that decides, and one that is malformed or reaches a limit is left out.
 """
-import argparse
-import random
 import re
-import sys
-from functools import partial
-from multiprocessing import Pool
 
 import judging
-import stories
 
+COUNT = 300
+NAMED = ["refused"]
 # The most claims that `verify` takes.
 MOST = 300_000
 
@@ -37,12 +26,12 @@ def answer_of(events, t):
     """The position of the `dsb` that answers the TLBI at position t, or None."""
     pe, op = events[t - 1][1:3]
     options = ("ish", "osh", "sy") if op.endswith("is") else ("ish", "osh", "sy", "nsh")
-    return next((d for d in range(t + 1, len(events) + 1) if events[d - 1][:2] == ["dsb", pe] and events[d - 1][2] in options), None)
+    return next((d for d, event in enumerate(events[t:], t + 1) if event[:2] == ["dsb", pe] and event[2] in options), None)
 
 
 def publications(events, t, pe):
-    """For each place that was written the positions before t at which a `dsb` may publish a write of it to the PE: of each
-    issuer the last."""
+    """For each place that was written the positions before t at which a `dsb` may publish a write of it to the PE: of
+    each issuer the last."""
     last, written, found = {}, {}, {}
     for b, event in enumerate(events[:t - 1], 1):
         if event[0] == "w":
@@ -87,11 +76,6 @@ def claims_of(log):
 
 # ---- what is said by them
 
-def verified(program, log, claims):
-    text = "\n".join(["bbmcert 1", *claims, f"end {len(claims)}", ""])
-    return judging.run(program, ["verify"], log + text.encode())
-
-
 def as_check(answer, claims):
     """What `verify` says with claims by which every pattern counts, where `check` says this."""
     if answer.status == 0:
@@ -104,51 +88,24 @@ def fault(program, log, check, choice):
     claims = claims_of(log)
     if len(claims) > MOST:
         return None
-    answer = verified(program, log, claims)
+    answer = judging.verified(program, log, claims)
     if (answer.status, answer.text) != (check.status, as_check(check, len(claims))):
         return f"check: {check}; with {len(claims)} claims: {answer}"
     some = [claim for claim in claims if choice.random() < choice.choice([0.0, 0.5, 0.9])]
-    part = verified(program, log, some)
+    part = judging.verified(program, log, some)
     wrong = judging.fault_of(["verify"], part)
     if wrong or part.status not in (0, 1):
         return f"with {some}: {part}"
     mixed = some + some[:3]
     choice.shuffle(mixed)
-    again = verified(program, log, mixed)
+    again = judging.verified(program, log, mixed)
     if again.status != part.status or again.status == 1 and again.text != part.text:
         return f"with {some}: {part}; in another order: {again}"
     return None
 
 
-def tried(asked, number):
-    choice = random.Random(f"verify {asked.seed} {number}")
-    log = stories.structured(choice, asked.events)
-    check = judging.run(asked.program, ["check"], log)
-    if check.status == 1:
-        log = judging.cut_before(log, check)[1]
-    return (log, check.status, fault(asked.program, log, check, choice)) if check.status in (0, 1) else None
-
-
-def main():
-    words = argparse.ArgumentParser(description=__doc__, formatter_class=argparse.RawDescriptionHelpFormatter)
-    words.add_argument("--program", default=judging.BUILT, help="the built program")
-    words.add_argument("--count", type=int, default=300, help="the logs")
-    words.add_argument("--seed", type=int, default=1)
-    words.add_argument("--events", type=int, default=60, help="the most events of a log")
-    words.add_argument("--jobs", type=int, default=1, help="the logs that are tried at once")
-    asked = words.parse_args()
-    logs = refused = faults = number = 0
-    with Pool(asked.jobs) as pool:
-        while logs < asked.count:
-            batch = range(number, number + 64)
-            number += 64
-            for log, status, wrong in filter(None, pool.imap(partial(tried, asked), batch, chunksize=4)):
-                logs, refused = logs + 1, refused + status
-                if wrong:
-                    faults += 1
-                    print(f"{wrong[:2000]}\n{log.decode('latin-1')}")
-    print(f"{logs} logs, {refused} of them refused, {faults} faults")
-    sys.exit(1 if faults else 0)
-
-
-main()
+def tried(asked, chance, log, check, _number):
+    if check.status not in (0, 1):
+        return None
+    log = judging.cut_before(log, check)[1] if check.status else log
+    return log, {"refused": check.status}, fault(asked.program, log, check, chance)

@@ -1,27 +1,16 @@
-#!/usr/bin/env python3
 # SPDX-License-Identifier: Apache-2.0
-"""Tries `counterrun` on random logs that break-before-make refuses. What it writes has to be a run over the events up to
-the refused one, which `follow` takes to a conflict at that one; or `none`; or, where the place holds no leaf, the line of
-`check`.
+"""Of a log that break-before-make refuses `counterrun` writes a run over the events up to the refused one, which `follow`
+takes to a conflict at that one; or `none`; or, where the place holds no leaf, the line of `check`.
 
-    tools/try_counterrun                           the built program, 500 refused logs
-    tools/try_counterrun --program PATH --count 20000 --seed 7 --events 60 --jobs 2 --plans 200
-
-The logs are those of `tools/compare`. With `--plans N` every run that has the form of `counterrun` is tried by `follow`, in
-its order, for N of the logs, and the first that ends in the conflict has to be the text. That takes thousands of processes a
-log. Exit status 0 where nothing fails; a log that fails is printed.
+With --plans N every run that has the form of `counterrun` is tried by `follow`, in its order, for N of the logs, and
+the first that ends in the conflict has to be the text. That takes thousands of processes a log.
 """
-import argparse
-import random
 import re
-import sys
-from collections import Counter
-from functools import partial
-from multiprocessing import Pool
 
 import judging
-import stories
 
+COUNT = 500
+NAMED = ["runs", "without", "lines"]
 LABEL = re.compile(rb" @\S+$", re.M)
 
 
@@ -57,14 +46,14 @@ def fault(program, log, check):
     answer = judging.run(program, ["counterrun"], log)
     wrong = judging.fault_of(["counterrun"], answer)
     if wrong or answer.status != 1:
-        return "none", wrong or str(answer)
+        return "without", wrong or str(answer)
     if answer.text == "none\n":
-        return "none", None
+        return "without", None
     if answer.text != check.text:
-        return "run", fault_of_run(program, log, check, answer)
+        return "runs", fault_of_run(program, log, check, answer)
     place = int(check.first.split()[7], 16)
     events = judging.cut_before(log, check)[1].split(b"\n")[1:-2]
-    return "line", "a line, though the place holds a block" if last_valid(events, place) & 3 == 1 else None
+    return "lines", "a line, though the place holds a block" if last_valid(events, place) & 3 == 1 else None
 
 
 # ---- every run of the form
@@ -120,43 +109,16 @@ def first_run(program, log, check):
     return "none\n"
 
 
-# ---- all logs
+def options(words):
+    words.add_argument("--plans", type=int, default=0, help="the logs of which every run is tried")
 
-def tried(asked, number):
-    choice = random.Random(f"counterrun {asked.seed} {number}")
-    log = stories.structured(choice, asked.events)
-    check = judging.run(asked.program, ["check"], log)
+
+def tried(asked, _chance, log, check, number):
     if " rule 4 " not in check.first:
         return None
     kind, wrong = fault(asked.program, log, check)
-    if not wrong and kind != "line" and number < asked.plans:
+    if not wrong and kind != "lines" and number < asked.plans:
         text = judging.run(asked.program, ["counterrun"], log).text
         first = first_run(asked.program, log, check)
         wrong = None if text == first else f"not the first run, which is\n{first}"
-    return log, kind, wrong
-
-
-def main():
-    words = argparse.ArgumentParser(description=__doc__, formatter_class=argparse.RawDescriptionHelpFormatter)
-    words.add_argument("--program", default=judging.BUILT, help="the built program")
-    words.add_argument("--count", type=int, default=500, help="the refused logs")
-    words.add_argument("--seed", type=int, default=1)
-    words.add_argument("--events", type=int, default=60, help="the most events of a log")
-    words.add_argument("--jobs", type=int, default=1, help="the logs that are tried at once")
-    words.add_argument("--plans", type=int, default=0, help="the logs of which every run is tried")
-    asked = words.parse_args()
-    kinds, faults, number = Counter(), 0, 0
-    with Pool(asked.jobs) as pool:
-        while sum(kinds.values()) < asked.count:
-            batch = range(number, number + 256)
-            number += 256
-            for log, kind, wrong in filter(None, pool.imap(partial(tried, asked), batch, chunksize=8)):
-                kinds[kind] += 1
-                if wrong:
-                    faults += 1
-                    print(f"{wrong}\n{log.decode('latin-1')}")
-    print(f"{sum(kinds.values())} logs: {kinds['run']} runs, {kinds['none']} without, {kinds['line']} lines; {faults} faults")
-    sys.exit(1 if faults else 0)
-
-
-main()
+    return log, {kind: 1}, wrong

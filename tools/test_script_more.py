@@ -1,8 +1,9 @@
 #!/usr/bin/env python3
 # SPDX-License-Identifier: Apache-2.0
-"""Tests the options, the logs and the faults of the script `bbm`, over an installed copy with a false program.
+"""Tests of the options, the logs and the faults of the script `bbm`, over an installed copy with a false program.
+`tools/test_script` runs them with its own.
 
-    tools/test_script_more [WORD ..]      the tests whose names have one of the words; all unless one is given
+    python3 tools/test_script_more.py [WORD ..]      the tests whose names have one of the words; all unless one is given
 
 A test is a table. A row is a command for the shell, what it writes to standard output and to standard error, and its
 status; in these texts `..` stands for anything on a line, and `...` for anything. The false program reads the log, says what the
@@ -19,10 +20,11 @@ import sys
 import tempfile
 import time
 import unittest
-from concurrent.futures import ThreadPoolExecutor
+
+import tables
 
 TOP = os.path.dirname(os.path.dirname(os.path.realpath(__file__)))
-SECONDS = 60
+SECONDS = 300
 PROGRAM = """#!/bin/sh
 [ -z "${WORDS-}" ] || echo "$@" >&2
 case "${1-}" in gen) ;; *) cat >"$ROOM/read" 2>/dev/null ;; esac
@@ -48,11 +50,6 @@ case "$1" in
   try) shift 2; echo "$@" >"$ROOM/tried"; cat; sed 's/^/status=/' /dev/null; echo "$UNPROVED"; echo "run=ended status=$UNPROVED_ENDS runners=1" >&2; exit "$UNPROVED_ENDS" ;;
 esac
 """
-
-
-def fits(text, wanted):
-    form = re.escape(wanted).replace(r"\.\.\.", "(?s:.*)").replace(r"\.\.", ".*")
-    return re.fullmatch(form, text.removesuffix("\n"))
 
 
 class Case(unittest.TestCase):
@@ -90,7 +87,7 @@ class Case(unittest.TestCase):
     def ask(self, *rows):
         for code, said, told, status in ((*row, *("", "", 0)[len(row) - 1:]) for row in rows):
             found = self.run_in(code)
-            self.assertTrue(fits(found[0], said) and fits(found[1], told) and found[2] == status,
+            self.assertTrue(tables.fits(found[0], said) and tables.fits(found[1], told) and found[2] == status,
                             f"\n{code}\nis wanted to give {(said, told, status)}\nand gives        {found}")
         self.assertEqual(os.listdir(f"{self.room}/tmp"), [])
 
@@ -219,8 +216,8 @@ class Faults(Case):
     """No fault ends with a status of an answer."""
 
     def test_little_memory(self):
-        for words in ("check", "check --format json", "why", "pending", "partial", "shrink"):
-            for room in (4000, 8000, 10000, *range(11000, 23000, 1000), 30000):
+        for words in ("check", "check --format json", "why", "partial"):
+            for room in (4000, 8000, 12000, 14000, 16000, 18000, 20000, 22000):
                 said, told, status = self.run_in(f"ulimit -v {room}; sh copy/bbm {words} log")
                 is_right = status == 0 and ACCEPTED in said.replace('"verdict": "accepted", "events": 1', ACCEPTED)
                 self.assertTrue(is_right or status in (6, 70, 127) and told, (words, room, said, told, status))
@@ -253,7 +250,7 @@ class Faults(Case):
         self.ask((f"sed 's/^judge_all \"$@\"/exec 3<nowhere/' copy/bbm >copy/b; sh copy/b check log", "", "...bbm: the script ended by itself, so there is no answer", 70))
 
 
-class Build(Case):
+class Proof(Case):
     """Whether the program is that of its sources, and what is said while it is proved."""
 
     def setUp(self):
@@ -288,7 +285,7 @@ class Build(Case):
                   f" line 2 ..\nbbm: ATTENTION: the proved program says:   {ACCEPTED}\nbbm: ATTENTION: .."))
         built = "rm -rf copy/out copy/crates/bbm_cli/out tried; "
         self.ask((f"{built} bbm check --quiet log; ls tried", ACCEPTED, "ls: ..", 2), (f"{built} cat log | bbm check; ls tried", ACCEPTED, "ls: ..", 2),
-                 (f"{built} bbm check log log; ls tried", f"log: {ACCEPTED}\nlog: {ACCEPTED}", "ls: ..", 2))
+                 (f"{built} gzip -c log >p; bbm check p; ls tried", ACCEPTED, "ls: ..", 2), (f"{built} bbm check log log; ls tried", f"log: {ACCEPTED}\nlog: {ACCEPTED}", "ls: ..", 2))
         # a trial that gives no answer says nothing, and one that takes longer than the proof is ended
         self.write("bin/rt", '#!/bin/sh\n[ "$1" != version ] || exit 0\necho $$ >"$ROOM/tried"; exec sleep 100\n')
         self.ask((f"{unbuilt} bbm check log; sleep 1; kill -0 $(cat tried)", ACCEPTED, "...No such process", 1))
@@ -300,25 +297,5 @@ class Build(Case):
         self.ask(("touch wait; bbm check log & until [ -e tried ]; do sleep 0.1; done; kill $!; rm wait; sleep 3; kill -0 $(cat tried)", "", "...No such process", 1))
 
 
-def tried(test):
-    result = unittest.TestResult()
-    test.run(result)
-    return result
-
-
-def main(words):
-    cases = unittest.defaultTestLoader.loadTestsFromModule(sys.modules["__main__"])
-    tests = [test for case in cases for test in case if not words or any(word in test.id() for word in words)]
-    faulty = 0
-    # (they mostly wait)
-    with ThreadPoolExecutor(4) as pool:
-        for result in pool.map(tried, tests):
-            faulty += bool(result.failures or result.errors)
-            for of, text in result.failures + result.errors:
-                print(f"FAILED {of}\n{text}", flush=True)
-    print(f"{len(tests) - faulty} passed, {faulty} failed")
-    return 1 if faulty or not tests else 0
-
-
 if __name__ == "__main__":
-    sys.exit(main(sys.argv[1:]))
+    sys.exit(tables.run(sys.argv[1:]))
