@@ -175,13 +175,13 @@ class Logs(Case):
     def test_long_lines(self):
         """A line without an end takes neither time nor memory."""
         self.ask(("head -c 60000000 /dev/zero | tr '\\0' x >long",),
-                 *((f"ulimit -v 100000; SAYS='limit line 1 line-bytes' ENDS=7 timeout 20 bbm {words} long", "limit line 1 line-bytes...", told, 7)
+                 *((f"ulimit -v 100000; SAYS='limit line 1 line-bytes' ENDS=7 timeout 200 bbm {words} long", "limit line 1 line-bytes...", told, 7)
                    for words, told in (("why", ""), ("pending --at a", "bbm: the line has more than 200 bytes"), ("check", "bbm: the line has more than 200 bytes"))))
 
     def test_log_without_an_end(self):
         self.write("copy/bbm_cli", "#!/bin/sh\nhead -n 1 >/dev/null; echo malformed line $LINE cause 1 NoMagic; exit 2\n")
-        self.ask(("set -o pipefail; yes | LINE=1 timeout 5 bbm partial", "malformed line 1 cause 1 NoMagic\njudged 0 of 0 events", "...", 2),
-                 ("(echo head; yes) | LINE=2 timeout 8 bbm partial", "malformed line 2 cause 1 NoMagic", "", 124))
+        self.ask(("set -o pipefail; yes | LINE=1 timeout 100 bbm partial", "malformed line 1 cause 1 NoMagic\njudged 0 of 0 events", "...", 2),
+                 ("(echo head; yes) | LINE=2 timeout 20 bbm partial", "malformed line 2 cause 1 NoMagic", "", 124))
 
     def test_labels(self):
         self.ask(*((f"LC_ALL={locale} bbm pending --at 日本 log", "", "bbm: no line number 1 has the label ..", 3) for locale in ("C", "C.UTF-8")))
