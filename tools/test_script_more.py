@@ -163,6 +163,11 @@ class Logs(Case):
         self.ask(("bbm why <&-", "", "bbm: standard input: Bad file descriptor, so there is no answer", 4),
                  ("yes isb | head -c 5000 | (ulimit -f 1; bbm pending)", "", "bbm: the log can't be kept in ../tmp: File too large, so there is no answer", 70))
 
+    def test_no_reader(self):
+        """Where nobody reads what Python says the script ends as other tools do, without a word; a full disk is told."""
+        self.ask((f"{TOP}/tools/false_kit/unread bbm check --format gcc log", "-13"),
+                 ("bbm check --format gcc log >/dev/full", "", "...a write of the answer failed..", 5))
+
     def test_many_packed_logs(self):
         self.ask(("gzip -c log >p; ulimit -n 16; bbm check $(yes p | head -n 20) | grep -c accepted", "20"), ("ulimit -n 16; bbm partial p p p | grep -c accepted", "3"))
 
