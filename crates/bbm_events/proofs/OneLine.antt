@@ -19,7 +19,8 @@ use Rattle.bbm_events.specs.declared.keyword.Keyword.TheVariants as first
 use Rattle.bbm_events.specs.declared.event.Event.TheVariants as event
 use Rattle.bbm_events.specs.declared.event.Item.TheVariants as item
 use Rattle.bbm_events.specs.Spelling.{decimal_value, hex_value}
-use Rattle.bbm_events.specs.Lines.{header_of, item_of, header_line, item_line}
+use Rattle.bbm_events.specs.Heading.{has_words, no_words}
+use Rattle.bbm_events.specs.Lines.{header_of, item_of, header_line, item_line, said, word_field}
 use Rattle.bbm_events.proofs.Readings.{bind_ok, field_ok, count_kept}
 use Rattle.bbm_events.proofs.Joining.{joined_fields}
 use Rattle.bbm_events.proofs.OneSpelling.{decimal_once, hex_once, word_once}
@@ -273,14 +274,29 @@ checked_once h [] {x = x} e = (refl, by (heading_ok h) e)
     by false f = cc
 checked_once h (text ∷ rest) e = cc
 
-cnp_once : (version : ℕ) (rest : Fields) (x : Bool × Fields) → cnp_field version rest ≡ Ok x → x.1 ≡ [] → rest ≡ cnp_fields version x.0
-cnp_once version rest x e end = by (may_share version) e
+-- a word that may stand is the field where it was read
+said_once : (word : List ℕ) (rest : Fields) (x : Bool × Fields) → word_field word rest ≡ x → x.1 ≡ [] → rest ≡ said x.0 word
+said_once word [] x e end = ap (λ (y : Bool × Fields). said y.0 word) e
+said_once word (text ∷ rest) x e end = by (bytes_eq word text) refl e
   where
-    by : (shares : Bool) → cond shares (header_field (with_word cnp_word cnps) rest) (Ok (false, rest)) ≡ Ok x → rest ≡ cond shares (cnp_word x.0 ∷ []) []
-    by true f =
+    by : (b : Bool) → bytes_eq word text ≡ b → cond b (true, rest) (false, text ∷ rest) ≡ x → text ∷ rest ≡ said x.0 word
+    by true is f =
+        let last : rest ≡ [] = ap (λ (y : Bool × Fields). y.1) f ∙ end in
+        ap (λ (t : List ℕ). t ∷ rest) (sym ((bytes_eq-Decides word text).0 is))
+        ∙ (ap (λ (left : Fields). word ∷ left) last ∙ ap (λ (y : Bool × Fields). said y.0 word) f)
+    by false is f = let none : text ∷ rest ≡ [] = ap (λ (y : Bool × Fields). y.1) f ∙ end in cc
+
+cnp_once : (version : ℕ) (rest : Fields) (x : Bool × Fields) → cnp_field version rest ≡ Ok x → x.1 ≡ [] → rest ≡ cnp_fields version x.0
+cnp_once version rest x e end = by (has_words version) (may_share version) e
+  where
+    by : (words shares : Bool) → cond words (Ok (word_field (codes "cnp") rest))
+        (cond shares (header_field (with_word cnp_word cnps) rest) (Ok (false, rest))) ≡ Ok x
+        → rest ≡ cond words (said x.0 (codes "cnp")) (cond shares (cnp_word x.0 ∷ []) [])
+    by true shares f = let same : word_field (codes "cnp") rest ≡ x = cc in said_once (codes "cnp") rest x same end
+    by false true f =
         field_once BadHeader BadHeader (with_word cnp_word cnps) cnp_word (λ text v g. word_once cnp_word cnps text g) rest f
         ∙ ap (λ (left : Fields). cnp_word x.0 ∷ left) end
-    by false f = let left : rest ≡ x.1 = cc in left ∙ end
+    by false false f = let left : rest ≡ x.1 = cc in left ∙ end
 
 -- the fields after the version
 abbrev heading_fields : Heading → Fields
@@ -293,7 +309,7 @@ hyp_once version rest e =
     let s2_start = bind_ok (header_field decimal_value el2_start.0.1) _ el2_start.2 in
     let s2_pages = bind_ok (header_field decimal_value s2_start.0.1) _ s2_start.2 in
     let cnp = bind_ok (cnp_field version s2_pages.0.1) _ s2_pages.2 in
-    let end = checked_once (record { version = version; pes = pes.0.0; cnp = cnp.0.0; world = Hyp (record { el2_start = el2_start.0.0; s2_start = s2_start.0.0; s2_pages = s2_pages.0.0 }) }) cnp.0.1 cnp.2 in (
+    let end = checked_once (record { version = version; pes = pes.0.0; cnp = cnp.0.0; words = no_words; world = Hyp (record { el2_start = el2_start.0.0; s2_start = s2_start.0.0; s2_pages = s2_pages.0.0 }) }) cnp.0.1 cnp.2 in (
       ap (λ (left : Fields). codes "hyp" ∷ left) (number_once rest pes.1
           ∙ ap (λ (left : Fields). decimal pes.0.0 ∷ left) (number_once pes.0.1 el2_start.1
           ∙ ap (λ (left : Fields). decimal el2_start.0.0 ∷ left) (number_once el2_start.0.1 s2_start.1
@@ -310,7 +326,7 @@ kernel_once version rest e =
     let start1 = bind_ok (header_field decimal_value start0.0.1) _ start0.2 in
     let asid_from = bind_ok (header_field (with_word asid_from_word asid_froms) start1.0.1) _ start1.2 in
     let cnp = bind_ok (cnp_field version asid_from.0.1) _ asid_from.2 in
-    let end = checked_once (record { version = version; pes = pes.0.0; cnp = cnp.0.0; world = Kernel (record { start0 = start0.0.0; start1 = start1.0.0; asid_from = asid_from.0.0 }) }) cnp.0.1 cnp.2 in (
+    let end = checked_once (record { version = version; pes = pes.0.0; cnp = cnp.0.0; words = no_words; world = Kernel (record { start0 = start0.0.0; start1 = start1.0.0; asid_from = asid_from.0.0 }) }) cnp.0.1 cnp.2 in (
       ap (λ (left : Fields). codes "kernel" ∷ left) (number_once rest pes.1
           ∙ ap (λ (left : Fields). decimal pes.0.0 ∷ left) (number_once pes.0.1 start0.1
           ∙ ap (λ (left : Fields). decimal start0.0.0 ∷ left) (number_once start0.0.1 start1.1

@@ -16,7 +16,8 @@ use Rattle.std.proofs.lemmas.Fmt.{length-decimal-le}
 use Rattle.bbm_events.specs.declared.event.Event.TheVariants as event
 use Rattle.bbm_events.specs.declared.event.Item.TheVariants as item
 use Rattle.bbm_events.specs.Spelling.{is_plain}
-use Rattle.bbm_events.specs.Lines.{header_line, item_line}
+use Rattle.bbm_events.specs.Heading.{has_words}
+use Rattle.bbm_events.specs.Lines.{header_line, item_line, said}
 use Rattle.bbm_events.proofs.Joining.{visible, all_visible}
 use Rattle.bbm_events.proofs.Labels.{label_length}
 use Rattle.bbm_events.proofs.WordsRead.{cnp_word_read, kind_word_read, reg_word_read, asid_from_word_read}
@@ -223,11 +224,14 @@ item_plain h (item.End count) fits = joined_plain (codes "end" ∷ decimal count
 -- ---- the header
 
 cnp_short : (version : ℕ) (cnp : Bool) → Short (cnp_fields version cnp) × (length (cnp_fields version cnp) ≤ 1)
-cnp_short version cnp = by (may_share version)
+cnp_short version cnp = by (has_words version) (may_share version) cnp
   where
-    by : (shares : Bool) → Short (cond shares (cnp_word cnp ∷ []) []) × (length (cond shares (cnp_word cnp ∷ []) []) ≤ 1)
-    by true = ((cnp_length cnp, tt), omega arith)
-    by false = (tt, omega arith)
+    by : (words shares cnp : Bool) → Short (cond words (said cnp (codes "cnp")) (cond shares (cnp_word cnp ∷ []) []))
+        × (length (cond words (said cnp (codes "cnp")) (cond shares (cnp_word cnp ∷ []) [])) ≤ 1)
+    by true shares true = ((leb-true 3 20 refl, tt), omega arith)
+    by true shares false = (tt, omega arith)
+    by false true cnp = ((cnp_length cnp, tt), omega arith)
+    by false false cnp = (tt, omega arith)
 
 world_short : (h : Heading) (pes : ℕ) (world : World) (after : Fields) → pes < 2 ^ 64 → world_ok world ≡ true → Short after
     → Short (header_fields pes world after) × (length (header_fields pes world after) ≤ 5 + length after)
@@ -240,7 +244,7 @@ world_short h pes (Kernel world) after few ok short =
 
 version_below : (version : ℕ) → is_version version ≡ true → version < 2 ^ 64
 version_below version fits =
-    let low = leb-true version 4 (and_parts (nat_le 1 version) (nat_le version 4) fits).1 in
+    let low = leb-true version 5 (and_parts (nat_le 1 version) (nat_le version 5) fits).1 in
     omega (arith, low)
 
 pub header_short : (h : Heading) → heading_ok h ≡ true → length (header_line h) ≤ 200

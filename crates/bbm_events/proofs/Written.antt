@@ -22,9 +22,10 @@ use Rattle.std.proofs.lemmas.Bool.{and_from}
 use Rattle.bbm_regimes.specs.declared.regime.KernelWorld.{KernelWorld}
 use Rattle.bbm_events.specs.declared.event.Event.TheVariants as event
 use Rattle.bbm_events.specs.declared.event.Item.TheVariants as item
-use Rattle.bbm_events.specs.Heading.{are_pes}
+use Rattle.bbm_events.specs.declared.header_words.HeaderWords.{HeaderWords}
+use Rattle.bbm_events.specs.Heading.{are_pes, has_words, no_words, words_ok}
 use Rattle.bbm_events.specs.Spelling.{decimal_value, hex_value}
-use Rattle.bbm_events.specs.Lines.{header_of, item_of, header_line, item_line}
+use Rattle.bbm_events.specs.Lines.{header_of, item_of, header_line, item_line, said, word_field}
 use Rattle.bbm_events.proofs.Joining.{visible, all_visible, fields_joined, digits_visible}
 use Rattle.bbm_events.proofs.OneSpelling.{decimal_read, hex_read}
 use Rattle.bbm_events.proofs.Labels.{label_visible}
@@ -47,6 +48,7 @@ pub record Ranges (h : Heading) : Type 0 where
   pub version : is_version h.version ≡ true
   pub pes : h.pes ≤ 128
   pub cnp : (may_share h.version || not h.cnp) ≡ true
+  pub words : words_ok h.words ≡ true
   pub world : world_ok h.world ≡ true
 
 pes_most : (few : Bool) (pes : ℕ) → (nat_le 1 pes && nat_le pes (cond few 64 128)) ≡ true → pes ≤ 128
@@ -55,10 +57,11 @@ pes_most false pes e = leb-true pes 128 (and_parts (nat_le 1 pes) (nat_le pes 12
 
 pub ranges : (h : Heading) → heading_ok h ≡ true → Ranges h
 ranges h ok =
-    let front = and_parts (is_version h.version && are_pes h.version h.pes && (may_share h.version || not h.cnp)) (world_ok h.world) ok in
-    let some = and_parts (is_version h.version && are_pes h.version h.pes) (may_share h.version || not h.cnp) front.0 in
+    let front = and_parts (is_version h.version && are_pes h.version h.pes && (may_share h.version || not h.cnp) && words_ok h.words) (world_ok h.world) ok in
+    let said = and_parts (is_version h.version && are_pes h.version h.pes && (may_share h.version || not h.cnp)) (words_ok h.words) front.0 in
+    let some = and_parts (is_version h.version && are_pes h.version h.pes) (may_share h.version || not h.cnp) said.0 in
     let both = and_parts (is_version h.version) (are_pes h.version h.pes) some.0 in
-    record { version = both.0; pes = pes_most (nat_lt h.version 3) h.pes both.1; cnp = some.1; world = front.1 }
+    record { version = both.0; pes = pes_most (nat_lt h.version 3) h.pes both.1; cnp = some.1; words = said.1; world = front.1 }
 
 -- The numbers of an item that fits are below 2 ^ 64.
 
@@ -343,18 +346,23 @@ number_read n rest below = field_read BadHeader BadHeader decimal_value (decimal
 in_range : (h : Heading) → heading_ok h ≡ true → checked h [] ≡ Ok h
 in_range h ok = ap (λ t. cond t (Ok h) (Err BadHeader)) ok
 
--- version 1 writes no field of shared TLBs, and reads none
+-- the field of shared TLBs that is written is read; version 1 has none
 cnp_read : (version : ℕ) (cnp : Bool) → (may_share version || not cnp) ≡ true → cnp_field version (cnp_fields version cnp) ≡ Ok (cnp, [])
-cnp_read version cnp fits = by (may_share version) cnp fits
+cnp_read version cnp fits = by (has_words version) (may_share version) cnp fits
   where
-    by : (shares cnp : Bool) → (shares || not cnp) ≡ true → cond shares (header_field (with_word cnp_word cnps) (cond shares (cnp_word cnp ∷ []) [])) (Ok (false, cond shares (cnp_word cnp ∷ []) [])) ≡ Ok (cnp, [])
-    by true cnp f = field_read BadHeader BadHeader (with_word cnp_word cnps) (cnp_word cnp) [] (cnp_word_read cnp)
-    by false true f = cc
-    by false false f = refl
+    by : (words shares cnp : Bool) → (shares || not cnp) ≡ true
+        → cond words (Ok (word_field (codes "cnp") (cond words (said cnp (codes "cnp")) (cond shares (cnp_word cnp ∷ []) []))))
+        (cond shares (header_field (with_word cnp_word cnps) (cond words (said cnp (codes "cnp")) (cond shares (cnp_word cnp ∷ []) [])))
+        (Ok (false, cond words (said cnp (codes "cnp")) (cond shares (cnp_word cnp ∷ []) [])))) ≡ Ok (cnp, [])
+    by true shares true f = refl
+    by true shares false f = refl
+    by false true cnp f = field_read BadHeader BadHeader (with_word cnp_word cnps) (cnp_word cnp) [] (cnp_word_read cnp)
+    by false false true f = cc
+    by false false false f = refl
 
 version_read : (version : ℕ) (rest : Fields) → is_version version ≡ true → version_field (decimal version ∷ rest) ≡ Ok (version, rest)
 version_read version rest fits =
-    let low = leb-true version 4 (and_parts (nat_le 1 version) (nat_le version 4) fits).1 in
+    let low = leb-true version 5 (and_parts (nat_le 1 version) (nat_le version 5) fits).1 in
     field_read NoMagic NoMagic (λ text. passing is_version (decimal_value text)) (decimal version) rest
     (passing_read is_version (decimal_value (decimal version)) (decimal_read version (omega (arith, low))) fits)
 
@@ -365,10 +373,10 @@ read_header_fields all =
     version_field magic.1 >>= (λ version.
     header_field Some version.1 >>= (λ world. world_fields version.0 world.0 world.1)))
 
-world_read : (version pes : ℕ) (cnp : Bool) (world : World) → heading_ok (record { version = version; pes = pes; cnp = cnp; world = world }) ≡ true
-    → read_header_fields (codes "bbmlog" ∷ decimal version ∷ header_fields pes world (cnp_fields version cnp)) ≡ Ok (record { version = version; pes = pes; cnp = cnp; world = world })
+world_read : (version pes : ℕ) (cnp : Bool) (world : World) → heading_ok (record { version = version; pes = pes; cnp = cnp; words = no_words; world = world }) ≡ true
+    → read_header_fields (codes "bbmlog" ∷ decimal version ∷ header_fields pes world (cnp_fields version cnp)) ≡ Ok (record { version = version; pes = pes; cnp = cnp; words = no_words; world = world })
 world_read version pes cnp (Hyp world) ok =
-    let here = ranges (record { version = version; pes = pes; cnp = cnp; world = Hyp world }) ok in
+    let here = ranges (record { version = version; pes = pes; cnp = cnp; words = no_words; world = Hyp world }) ok in
     let small = hyp_below world here.world in
     let after = cnp_fields version cnp in
     on (version_field (decimal version ∷ codes "hyp" ∷ decimal pes ∷ decimal world.el2_start ∷ decimal world.s2_start ∷ decimal world.s2_pages ∷ after)) _
@@ -378,9 +386,9 @@ world_read version pes cnp (Hyp world) ok =
     ∙ on (header_field decimal_value (decimal world.s2_start ∷ decimal world.s2_pages ∷ after)) _ (number_read world.s2_start (decimal world.s2_pages ∷ after) small.1)
     ∙ on (header_field decimal_value (decimal world.s2_pages ∷ after)) _ (number_read world.s2_pages after small.2)
     ∙ on (cnp_field version after) _ (cnp_read version cnp here.cnp)
-    ∙ in_range (record { version = version; pes = pes; cnp = cnp; world = Hyp world }) ok
+    ∙ in_range (record { version = version; pes = pes; cnp = cnp; words = no_words; world = Hyp world }) ok
 world_read version pes cnp (Kernel world) ok =
-    let here = ranges (record { version = version; pes = pes; cnp = cnp; world = Kernel world }) ok in
+    let here = ranges (record { version = version; pes = pes; cnp = cnp; words = no_words; world = Kernel world }) ok in
     let small = kernel_below world here.world in
     let after = cnp_fields version cnp in
     on (version_field (decimal version ∷ codes "kernel" ∷ decimal pes ∷ decimal world.start0 ∷ decimal world.start1 ∷ asid_from_word world.asid_from ∷ after)) _
@@ -390,14 +398,16 @@ world_read version pes cnp (Kernel world) ok =
     ∙ on (header_field decimal_value (decimal world.start1 ∷ asid_from_word world.asid_from ∷ after)) _ (number_read world.start1 (asid_from_word world.asid_from ∷ after) small.1)
     ∙ on (header_field (with_word asid_from_word asid_froms) (asid_from_word world.asid_from ∷ after)) _ (field_read BadHeader BadHeader (with_word asid_from_word asid_froms) (asid_from_word world.asid_from) after (asid_from_word_read world.asid_from))
     ∙ on (cnp_field version after) _ (cnp_read version cnp here.cnp)
-    ∙ in_range (record { version = version; pes = pes; cnp = cnp; world = Kernel world }) ok
+    ∙ in_range (record { version = version; pes = pes; cnp = cnp; words = no_words; world = Kernel world }) ok
 
 pub cnp_all_visible : (version : ℕ) (cnp : Bool) → all_visible (cnp_fields version cnp) ≡ true
-cnp_all_visible version cnp = by (may_share version)
+cnp_all_visible version cnp = by (has_words version) (may_share version) cnp
   where
-    by : (shares : Bool) → all_visible (cond shares (cnp_word cnp ∷ []) []) ≡ true
-    by true = one_more (cnp_word cnp) [] (cnp_word_visible cnp) refl
-    by false = refl
+    by : (words shares cnp : Bool) → all_visible (cond words (said cnp (codes "cnp")) (cond shares (cnp_word cnp ∷ []) [])) ≡ true
+    by true shares true = refl
+    by true shares false = refl
+    by false true cnp = one_more (cnp_word cnp) [] (cnp_word_visible cnp) refl
+    by false false cnp = refl
 
 pub header_all_visible : (pes : ℕ) (world : World) (after : Fields) → all_visible after ≡ true → all_visible (header_fields pes world after) ≡ true
 header_all_visible pes (Hyp world) after clean =
@@ -408,10 +418,21 @@ header_all_visible pes (Kernel world) after clean =
     (dec world.start0 (decimal world.start1 ∷ asid_from_word world.asid_from ∷ after) (dec world.start1 (asid_from_word world.asid_from ∷ after)
     (one_more (asid_from_word world.asid_from) after (asid_from_word_visible world.asid_from) clean)))
 
+none_said : (words : HeaderWords) → words_ok words ≡ true → words ≡ no_words
+none_said words ok = by words.unflushed words.inorder words.isolated ok
+  where
+    by : (u o i : Bool) → not (u || (o || i)) ≡ true → record { unflushed = u; inorder = o; isolated = i } ≡ no_words
+    by false false false e = refl
+    by true o i e = cc
+    by false true i e = cc
+    by false false true e = cc
+
 pub header_written_is_read : (h : Heading) → heading_ok h ≡ true → header_of (header_line h) ≡ Ok h
 unfolding header_of header_line
 header_written_is_read h ok =
     let after = cnp_fields h.version h.cnp in
+    let same : record h { words = no_words } ≡ h =
+        ap (λ (words : HeaderWords). record h { words = words }) (sym (none_said h.words (ranges h ok).words)) in
     ap read_header_fields (fields_joined (codes "bbmlog") (decimal h.version ∷ header_fields h.pes h.world after)
     (dec h.version (header_fields h.pes h.world after) (header_all_visible h.pes h.world after (cnp_all_visible h.version h.cnp))))
-    ∙ world_read h.version h.pes h.cnp h.world ok
+    ∙ (world_read h.version h.pes h.cnp h.world (ap heading_ok same ∙ ok) ∙ ap Ok same)

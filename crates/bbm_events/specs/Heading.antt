@@ -1,21 +1,23 @@
 -- What a log's header says.
 -- Source: project's own choice.
-use Rattle.std.specs.Prelude.{ℕ, Bool, ◌&&◌, ◌||◌, not, nat_le, nat_lt, if◌then◌else◌}
+use Rattle.std.specs.Prelude.{ℕ, Bool, false, ◌&&◌, ◌||◌, not, nat_le, nat_lt, if◌then◌else◌}
 use Rattle.bbm_regimes.specs.declared.regime.World.{World}
 use Rattle.bbm_regimes.specs.World.{world_ok}
 use Rattle.bbm_tlbi_scope.specs.declared.op.TlbiOp.{TlbiOp}
 use Rattle.bbm_tlbi_scope.specs.Operations.{operation}
+use Rattle.bbm_events.specs.declared.header_words.HeaderWords.{HeaderWords}
 
--- the version of the log, the number of PEs, whether their TLBs may copy entries from one another, and the
--- world with the levels at which walks start
+-- the version of the log, the number of PEs, whether their TLBs may copy entries from one another, what else its words
+-- say, and the world with the levels at which walks start
 pub record Heading : Type 0 where
   pub version : ℕ
   pub pes : ℕ
   pub cnp : Bool
+  pub words : HeaderWords
   pub world : World
 
 abbrev pub is_version : ℕ → Bool
-is_version n = nat_le 1 n && nat_le n 4
+is_version n = nat_le 1 n && nat_le n 5
 
 -- Versions 1 and 2 have 1 to 64 PEs, later ones 1 to 128.
 abbrev pub are_pes : ℕ → ℕ → Bool
@@ -25,13 +27,29 @@ are_pes version n = nat_le 1 n && nat_le n (if nat_lt version 3 then 64 else 128
 abbrev pub may_share : ℕ → Bool
 may_share version = nat_le 2 version
 
--- Versions 3 and 4 have labels.
+-- Versions 3 and later have labels.
 abbrev pub may_label : ℕ → Bool
 may_label version = nat_le 3 version
 
--- Version 4 has the operations for a range of pages.
+-- Versions 4 and later have the operations for a range of pages.
 abbrev pub has_op : ℕ → TlbiOp → Bool
 has_op version op = nat_le 4 version || not (operation op).range
 
+-- Version 5 has words behind the numbers, where versions 2 to 4 have one field for `cnp`.
+abbrev pub has_words : ℕ → Bool
+has_words version = nat_le 5 version
+
+-- From version 5 on a null page may be the base of every root register, in both worlds; before, of TTBR0_EL1 alone.
+abbrev pub nulls_everywhere : ℕ → Bool
+nulls_everywhere version = nat_le 5 version
+
+abbrev pub no_words : HeaderWords
+no_words = record { unflushed = false; inorder = false; isolated = false }
+
+-- No log says one of these words yet.
+abbrev pub words_ok : HeaderWords → Bool
+words_ok words = not (words.unflushed || (words.inorder || words.isolated))
+
 abbrev pub heading_ok : Heading → Bool
-heading_ok h = is_version h.version && are_pes h.version h.pes && (may_share h.version || not h.cnp) && world_ok h.world
+heading_ok h = is_version h.version && are_pes h.version h.pes && (may_share h.version || not h.cnp) && words_ok h.words
+    && world_ok h.world

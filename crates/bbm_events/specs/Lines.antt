@@ -1,7 +1,7 @@
 -- The grammar of a log: which header or item a line spells, or the first cause for which it spells none,
 -- and the one line of a header or an item. A line is its bytes without the newline.
 -- Source: project's own choice.
-use Rattle.std.specs.Prelude.{ℕ, List, [], ◌∷◌, ◌++◌, drop, Bool, false, ◌&&◌, ◌==◌, if◌then◌else◌, Option, Some, None}
+use Rattle.std.specs.Prelude.{ℕ, List, [], ◌∷◌, ◌++◌, drop, Bool, true, false, ◌&&◌, ◌==◌, if◌then◌else◌, Option, Some, None}
 use Rattle.std.specs.Prelude.{Result, Ok, Err, codes, decimal, bytes_eq}
 use Rattle.std.specs.Option.{option_map}
 use Rattle.bbm_regimes.specs.declared.regime.HypWorld.{HypWorld}
@@ -22,7 +22,7 @@ use Rattle.bbm_events.specs.declared.keyword.Keyword.TheVariants as first
 use Rattle.bbm_events.specs.declared.malformed.Malformed.{Malformed}
 use Rattle.bbm_events.specs.declared.malformed.Malformed.TheVariants.{NoMagic, BadHeader, UnknownWord, BadNumber, BadPe}
 use Rattle.bbm_events.specs.declared.malformed.Malformed.TheVariants.{BadAddress, MissingField, ExtraField, BadLabel}
-use Rattle.bbm_events.specs.Heading.{Heading, heading_ok, is_version, has_op, may_label, may_share}
+use Rattle.bbm_events.specs.Heading.{Heading, heading_ok, is_version, has_op, has_words, may_label, may_share, no_words}
 use Rattle.bbm_events.specs.Label.{is_label}
 use Rattle.bbm_events.specs.Spelling.{fields, joined, hex, decimal_value, hex_value}
 use Rattle.bbm_events.specs.Words.{with_word, keyword_word, keywords, cnp_word, cnps, kind_word, kinds, reg_word, regs}
@@ -69,20 +69,27 @@ magic_field word = next_field NoMagic NoMagic (exactly word)
 abbrev pub header_field : {A : Type 0} → (List ℕ → Option A) → Fields → FieldRead A
 header_field read = next_field BadHeader BadHeader read
 
--- the second field of a header, `1` to `4`
+-- the second field of a header, `1` to `5`
 abbrev pub version_field : Fields → FieldRead ℕ
 version_field = next_field NoMagic NoMagic (λ text. passing is_version (decimal_value text))
 
--- whether TLBs are shared; version 1 doesn't say it
+-- a word that may stand or not: whether it does, and what follows
+abbrev pub word_field : List ℕ → Fields → Bool × Fields
+word_field word [] = (false, [])
+word_field word (text ∷ rest) = if bytes_eq word text then (true, rest) else (false, text ∷ rest)
+
+-- Whether TLBs are shared. Version 1 doesn't say it, versions 2 to 4 do by `cnp` or `-`, and later ones by the word
+-- `cnp` or by none.
 abbrev pub cnp_field : ℕ → Fields → FieldRead Bool
-cnp_field version rest = if may_share version then header_field (with_word cnp_word cnps) rest else Ok (false, rest)
+cnp_field version rest = if has_words version then Ok (word_field (codes "cnp") rest)
+    else (if may_share version then header_field (with_word cnp_word cnps) rest else Ok (false, rest))
 
 -- the heading, where no field is left and its numbers are in their ranges
 abbrev pub checked : Heading → Fields → Result Heading Malformed
 checked h [] = if heading_ok h then Ok h else Err BadHeader
 checked h (text ∷ rest) = Err BadHeader
 
--- `PES EL2START S2START S2PAGES`, and from version 2 on `CNP`
+-- `PES EL2START S2START S2PAGES`, then in versions 2 to 4 `CNP`, and from version 5 on words
 abbrev pub hyp_fields : ℕ → Fields → Result Heading Malformed
 hyp_fields version rest = do
   pes ← header_field decimal_value rest
@@ -91,9 +98,9 @@ hyp_fields version rest = do
   s2_pages ← header_field decimal_value s2_start.1
   cnp ← cnp_field version s2_pages.1
   let world : HypWorld = record { el2_start = el2_start.0; s2_start = s2_start.0; s2_pages = s2_pages.0 }
-  checked (record { version = version; pes = pes.0; cnp = cnp.0; world = Hyp world }) cnp.1
+  checked (record { version = version; pes = pes.0; cnp = cnp.0; words = no_words; world = Hyp world }) cnp.1
 
--- `PES START0 START1 ASIDFROM`, and from version 2 on `CNP`
+-- `PES START0 START1 ASIDFROM`, and then the same
 abbrev pub kernel_fields : ℕ → Fields → Result Heading Malformed
 kernel_fields version rest = do
   pes ← header_field decimal_value rest
@@ -102,7 +109,7 @@ kernel_fields version rest = do
   asid_from ← header_field (with_word asid_from_word asid_froms) start1.1
   cnp ← cnp_field version asid_from.1
   let world : KernelWorld = record { start0 = start0.0; start1 = start1.0; asid_from = asid_from.0 }
-  checked (record { version = version; pes = pes.0; cnp = cnp.0; world = Kernel world }) cnp.1
+  checked (record { version = version; pes = pes.0; cnp = cnp.0; words = no_words; world = Kernel world }) cnp.1
 
 -- the fields after the word of the world
 abbrev pub world_fields : ℕ → List ℕ → Fields → Result Heading Malformed
@@ -111,7 +118,7 @@ world_fields version word rest =
     else (if bytes_eq word (codes "kernel") then kernel_fields version rest else Err BadHeader)
 
 -- Line 1: `bbmlog VERSION hyp PES EL2START S2START S2PAGES` or `bbmlog VERSION kernel PES START0 START1 ASIDFROM`,
--- and from version 2 on one more field, `cnp` or `-`.
+-- and then in versions 2 to 4 one more field, `cnp` or `-`, and from version 5 on its words, of which there is `cnp`.
 unfoldable pub header_of : List ℕ → Result Heading Malformed
 header_of line = do
   magic ← magic_field (codes "bbmlog") (fields line)
@@ -270,8 +277,14 @@ item_of h line = do
 
 -- The other direction: the fields of a header and of an item, with a space between two of them.
 
+-- a word, where it is said
+abbrev pub said : Bool → List ℕ → Fields
+said true word = word ∷ []
+said false word = []
+
 abbrev pub cnp_fields : ℕ → Bool → Fields
-cnp_fields version cnp = if may_share version then cnp_word cnp ∷ [] else []
+cnp_fields version cnp = if has_words version then said cnp (codes "cnp")
+    else (if may_share version then cnp_word cnp ∷ [] else [])
 
 -- the world's word, the number of PEs and the world's fields, with those that follow
 abbrev pub header_fields : ℕ → World → Fields → Fields

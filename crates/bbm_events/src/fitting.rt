@@ -54,6 +54,14 @@ pub fn has_op(header: &Header, op: TlbiOp) -> bool
     header.version >= 4 || !op.is_range()
 }
 
+/// Whether a null page may be the base of every root register, in both worlds, as from version 5 on; before, it may be
+/// that of TTBR0_EL1 alone.
+pub fn nulls_everywhere(header: &Header) -> bool
+    ensures { result ≡ heading.nulls_everywhere header.now.version }
+{
+    header.version >= 5
+}
+
 fn is_operand(op: TlbiOp, xt: u64) -> bool
     ensures { result ≡ spec.is_operand op xt }
 {

@@ -6,6 +6,7 @@ pub mod claim;
 pub mod event;
 pub mod fitting;
 pub mod header;
+pub mod header_words;
 pub mod keyword;
 pub mod label;
 pub mod laws;
@@ -16,8 +17,9 @@ pub mod roots;
 pub use certificate::{CertificateWord, ClaimItem, ClaimWord, TagWord};
 pub use claim::Claim;
 pub use event::{Event, Item};
-pub use fitting::{fits, has_op};
+pub use fitting::{fits, has_op, nulls_everywhere};
 pub use header::Header;
+pub use header_words::{HeaderWords, NO_WORDS};
 pub use keyword::Keyword;
 pub use label::Label;
 pub use laws::{

@@ -3,7 +3,7 @@
 /// Why a line is malformed, with the number that the program prints. Source: project's own choice.
 #[derive(Clone, Copy, Debug, PartialEq, Eq)]
 pub enum Malformed {
-    /// The first two fields of line 1 aren't `bbmlog` and `1` to `4`.
+    /// The first two fields of line 1 aren't `bbmlog` and `1` to `5`.
     NoMagic = 1,
     /// Another fault of line 1.
     BadHeader = 2,

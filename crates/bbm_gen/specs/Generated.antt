@@ -12,7 +12,7 @@ use Rattle.bbm_barriers.specs.declared.Domain.TheVariants.{Inner}
 use Rattle.bbm_barriers.specs.declared.Types.TheVariants.{All, Stores}
 use Rattle.bbm_tlbi_scope.specs.declared.op.TlbiOp.TheVariants.{Vae2is, Ipas2e1is, Vmalle1is}
 use Rattle.bbm_events.specs.Fits.{fits_heading}
-use Rattle.bbm_events.specs.Heading.{Heading}
+use Rattle.bbm_events.specs.Heading.{Heading, no_words}
 use Rattle.bbm_events.specs.declared.event.Event.{Event}
 use Rattle.bbm_events.specs.declared.event.Event.TheVariants.{Init, Root, Write, Dsb, Dmb, Isb, Tlbi, Msr}
 use Rattle.bbm_rules.specs.Broken.{broken, keeps}
@@ -24,7 +24,7 @@ abbrev pub small_world : HypWorld
 small_world = record { el2_start = 1; s2_start = 1; s2_pages = 1 }
 
 abbrev pub heading : Heading
-heading = record { version = 1; pes = 4; cnp = false; world = Hyp small_world }
+heading = record { version = 1; pes = 4; cnp = false; words = no_words; world = Hyp small_world }
 
 abbrev pub el2_root : ℕ
 el2_root = 0x40000000

@@ -6,7 +6,7 @@ ghost use Rattle.bbm_events.specs.Fits.{fits_heading};
 ghost use Rattle.bbm_gen.specs.Generated as log;
 
 use bbm_barriers::{Domain, Dsb, Types};
-use bbm_events::{Event, Header};
+use bbm_events::{Event, Header, NO_WORDS};
 use bbm_regimes::{HypWorld, Kind, Page, Pe, Place, Reg, World};
 use bbm_tlbi_scope::TlbiOp;
 
@@ -28,6 +28,7 @@ pub fn gen_header() -> Header
         version: 1,
         pes: 4,
         cnp: false,
+        words: NO_WORDS,
         world: World::Hyp(HypWorld {
             el2_start: 1,
             s2_start: 1,

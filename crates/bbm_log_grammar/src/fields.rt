@@ -107,6 +107,17 @@ impl<'a> Fields<'a> {
         }
     }
 
+    /// Whether the next field is the word, and the fields after it; where it isn't, all that are left.
+    pub(crate) fn word(self, word: &[u8]) -> (bool, Fields<'a>)
+        ensures { result ≡ lines.word_field word.now self.entry }
+    {
+        let all = self.rest;
+        match self.next() {
+            Some((text, rest)) => { if word == text { (true, rest) } else { (false, Fields { rest: all }) } }
+            None => (false, Fields { rest: all }),
+        }
+    }
+
     /// The next field, and those after it; None where no field is left.
     pub(crate) fn next(self) -> Option<(&'a [u8], Fields<'a>)>
         ensures { MatchOption result (self.entry ≡ []) (λ x. self.entry ≡ x.0.now ∷ x.1) }

@@ -14,7 +14,7 @@ ghost use Rattle.bbm_events.specs.Lines as lines;
 use crate::fields::{Fields, found};
 use crate::values::version_of;
 use crate::words::{ASID_FROMS, CNPS};
-use bbm_events::{Header, Malformed, law_header_causes};
+use bbm_events::{Header, Malformed, NO_WORDS, law_header_causes};
 use bbm_regimes::{AsidFrom, HypWorld, KernelWorld, World};
 
 /// A number of the header.
@@ -42,15 +42,16 @@ fn version_field<'a>(fields: Fields<'a>) -> Result<(u8, Fields<'a>), Malformed>
     }
 }
 
-/// Whether TLBs are shared, which version 1 doesn't say.
+/// Whether TLBs are shared. Version 1 doesn't say it, versions 2 to 4 do by a field, and later ones by a word or none.
 fn cnp_field<'a>(version: u8, fields: Fields<'a>) -> Result<(bool, Fields<'a>), Malformed>
     ensures cnp { result ≡ lines.cnp_field version fields.entry }
     ensures shares { IfOk result (λ x. (heading.may_share version || not x.0) ≡ true) }
 {
-    if version < 2 {
-        return Ok((false, fields));
+    match version {
+        1 => Ok((false, fields)),
+        2..=4 => fields.word_or(&CNPS, Malformed::BadHeader, Malformed::BadHeader),
+        _ => Ok(fields.word(b"cnp")),
     }
-    fields.word_or(&CNPS, Malformed::BadHeader, Malformed::BadHeader)
 }
 
 /// Whether a log of this version can have so many PEs.
@@ -112,7 +113,8 @@ fn checked(
     requires version { heading.is_version version ≡ true }
     requires shares { (heading.may_share version || not cnp) ≡ true }
     requires world { world_ok world ≡ true }
-    ensures { result ≡ lines.checked (record { version = version; pes = pes; cnp = cnp; world = world }) fields.entry }
+    ensures { result ≡ lines.checked (record {
+        version = version; pes = pes; cnp = cnp; words = heading.no_words; world = world }) fields.entry }
 {
     if !are_pes(version, pes) || fields.next().is_some() {
         return Err(Malformed::BadHeader);
@@ -121,6 +123,7 @@ fn checked(
         version,
         pes: pes as u8,
         cnp,
+        words: NO_WORDS,
         world,
     })
 }
@@ -138,7 +141,8 @@ fn header_in(
     requires shares { (heading.may_share version || not cnp) ≡ true }
     requires world { IfSome world (λ it. world_ok it ≡ true) }
     ensures { (it : TheWorld) → world ≡ lines.passing world_ok (Some it)
-        → result ≡ lines.checked (record { version = version; pes = pes; cnp = cnp; world = it }) fields.entry }
+        → result ≡ lines.checked (record {
+        version = version; pes = pes; cnp = cnp; words = heading.no_words; world = it }) fields.entry }
 {
     match world {
         Some(world) => checked(version, pes, cnp, world, fields),
@@ -208,7 +212,7 @@ fn header_on(line: &[u8]) -> Result<Header, Malformed>
 }
 
 /// The header that line 1 says; the bytes are the line's without its newline. `NoMagic` where the
-/// first two fields aren't `bbmlog` and `1` to `4`, and `BadHeader` where the line isn't the one spelling of a
+/// first two fields aren't `bbmlog` and `1` to `5`, and `BadHeader` where the line isn't the one spelling of a
 /// header for another reason. Source: project's own choice.
 pub fn read_header(line: &[u8]) -> Result<Header, Malformed>
     ensures header { result ≡ header_of line.now }

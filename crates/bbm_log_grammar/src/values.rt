@@ -24,7 +24,7 @@ pub(crate) fn version_of(field: &[u8]) -> Option<u8>
     ensures { result ≡ lines.passing is_version (decimal_value field.now) }
 {
     let number = read_decimal(field)?;
-    if 1 <= number && number <= 4 {
+    if 1 <= number && number <= 5 {
         Some(number as u8)
     } else {
         None

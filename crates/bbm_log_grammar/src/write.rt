@@ -1,7 +1,8 @@
 //! The one line of a header, and of an item.
 //! Source: project's own choice, where no other is named.
 
-ghost use Rattle.std.specs.Prelude.{◌≡◌, ◌+◌, ◌≤◌, ℕ, List, true, Ok, ◌++◌, ◌∷◌, [], length, codes, decimal};
+ghost use Rattle.std.specs.Prelude.{◌≡◌, ◌+◌, ◌≤◌, ℕ, List, true, Ok, ◌++◌, ◌∷◌, [], length, codes, decimal, IfSome};
+ghost use Rattle.std.specs.Prelude.{MatchOption};
 ghost use Rattle.arrayvec.specs.ArrayVec.{array_vec_len};
 ghost use Rattle.bbm_events.specs.declared.event.Event.{Event};
 ghost use Rattle.bbm_events.specs.declared.event.Event.TheVariants as event;
@@ -237,8 +238,21 @@ fn begin_header(out: &mut ArrayVec<u8, 200>, version: u8, world: &[u8])
     add_word_field(out, world);
 }
 
-/// `bbmlog VERSION hyp PES EL2START S2START S2PAGES`, and ` CNP` from version 2 on.
+/// The field that says whether TLBs are shared, where one stands.
 #[tactic(auto, using(crate::proofs::Short::cnp_word_short))]
+fn cnp_text(header: &Header) -> Option<&'static [u8]>
+    ensures text { MatchOption result (cnp_fields header.now.version header.now.cnp ≡ [])
+        (λ word. cnp_fields header.now.version header.now.cnp ≡ word.now ∷ []) }
+    ensures short { IfSome result (λ word. length word.now ≤ 12) }
+{
+    match header.version {
+        1 => None,
+        2..=4 => Some(header.cnp.word()),
+        _ => header.cnp.then_some(b"cnp".as_slice()),
+    }
+}
+
+/// `bbmlog VERSION hyp PES EL2START S2START S2PAGES`, and what says whether TLBs are shared.
 fn hyp_line(out: &mut ArrayVec<u8, 200>, header: &Header, world: HypWorld)
     requires empty { out.old.items ≡ [] }
     ensures { out.new.items
@@ -250,13 +264,13 @@ fn hyp_line(out: &mut ArrayVec<u8, 200>, header: &Header, world: HypWorld)
     add_decimal_field(out, world.el2_start as u64);
     add_decimal_field(out, world.s2_start as u64);
     add_decimal_field(out, world.s2_pages as u64);
-    if header.version >= 2 {
-        add_word_field(out, header.cnp.word());
+    if let Some(word) = cnp_text(header) {
+        add_word_field(out, word);
     }
 }
 
-/// `bbmlog VERSION kernel PES START0 START1 ASIDFROM`, and ` CNP` from version 2 on.
-#[tactic(auto, using(crate::proofs::Short::asid_from_word_short, crate::proofs::Short::cnp_word_short))]
+/// `bbmlog VERSION kernel PES START0 START1 ASIDFROM`, and what says whether TLBs are shared.
+#[tactic(auto, using(crate::proofs::Short::asid_from_word_short))]
 fn kernel_line(out: &mut ArrayVec<u8, 200>, header: &Header, world: KernelWorld)
     requires empty { out.old.items ≡ [] }
     ensures { out.new.items
@@ -268,8 +282,8 @@ fn kernel_line(out: &mut ArrayVec<u8, 200>, header: &Header, world: KernelWorld)
     add_decimal_field(out, world.start0 as u64);
     add_decimal_field(out, world.start1 as u64);
     add_word_field(out, world.asid_from.word());
-    if header.version >= 2 {
-        add_word_field(out, header.cnp.word());
+    if let Some(word) = cnp_text(header) {
+        add_word_field(out, word);
     }
 }
 

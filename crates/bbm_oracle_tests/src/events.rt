@@ -1,7 +1,7 @@
 //! The log: a table and a block are made, and the block is cleared and flushed.
 
 use bbm_barriers::{Domain, Dsb, Types};
-use bbm_events::{Event, Header};
+use bbm_events::{Event, Header, NO_WORDS};
 use bbm_regimes::{HypWorld, Kind, Page, Pe, Place, Reg, World};
 use bbm_tlbi_scope::TlbiOp;
 
@@ -10,6 +10,7 @@ pub const HEADER: Header = Header {
     version: 1,
     pes: 2,
     cnp: false,
+    words: NO_WORDS,
     world: World::Hyp(HypWorld {
         el2_start: 1,
         s2_start: 1,

@@ -7,12 +7,12 @@ use Rattle.bbm_regimes.specs.declared.regime.World.{World}
 use Rattle.bbm_regimes.specs.declared.regime.World.TheVariants.{Hyp, Kernel}
 use Rattle.bbm_regimes.specs.World.{start_of}
 use Rattle.bbm_walk_s2.specs.Joined.{can_join}
-use Rattle.bbm_events.specs.Heading.{Heading}
+use Rattle.bbm_events.specs.Heading.{Heading, words_ok}
 
 world_is_ok : (heading : Heading) → IsTrue (heading_ok heading) → world_ok heading.world ≡ true
 world_is_ok heading ok =
-    (and_parts (is_version heading.version && are_pes heading.version heading.pes && (may_share heading.version || not heading.cnp))
-    (world_ok heading.world) ok).1
+    (and_parts (is_version heading.version && are_pes heading.version heading.pes && (may_share heading.version || not heading.cnp)
+    && words_ok heading.words) (world_ok heading.world) ok).1
 
 either : (zero one two four eight sixteen : Bool) → cond zero one (one || two || four || eight || sixteen) ≡ true
     → (one || not zero && (two || four || eight || sixteen)) ≡ true

@@ -1,7 +1,7 @@
 //! The calls of bbm_roots with ample memory, and its example.
 
 use bbm_barriers::{Domain, Dsb, Types};
-use bbm_events::Header;
+use bbm_events::{Header, NO_WORDS};
 use bbm_regimes::{HypWorld, Kind, NoMemory, Page, Pe, Tag, World};
 use bbm_roots::{Roots, first_root};
 use bbm_tlbi_scope::{TagSet, TlbiOp};
@@ -12,6 +12,7 @@ const HYP: Header = Header {
     version: 1,
     pes: 2,
     cnp: false,
+    words: NO_WORDS,
     world: World::Hyp(HypWorld {
         el2_start: 1,
         s2_start: 1,

@@ -1,6 +1,6 @@
 //! The calls of bbm_tree_index that a null page takes, with ample memory.
 
-use bbm_events::Header;
+use bbm_events::{Header, NO_WORDS};
 use bbm_place_map::PlaceMap;
 use bbm_regimes::{HypWorld, Page, World};
 use bbm_tree_index::{TreeFault, TreeIndex};
@@ -9,6 +9,7 @@ const HYP: Header = Header {
     version: 1,
     pes: 1,
     cnp: false,
+    words: NO_WORDS,
     world: World::Hyp(HypWorld {
         el2_start: 1,
         s2_start: 1,

@@ -8,6 +8,7 @@ use Rattle.bbm_regimes.specs.declared.regime.Tag.TheVariants as tag
 use Rattle.bbm_events.specs.declared.event.Event.TheVariants.{Lock, Tlbi, Root}
 use Rattle.bbm_events.specs.declared.claim.Claim.TheVariants.{Taken}
 use Rattle.bbm_events.specs.declared.certificate.ClaimItem.TheVariants as said
+use Rattle.bbm_events.specs.Heading.{no_words}
 use Rattle.bbm_events.specs.Fits.{fits_heading}
 use Rattle.bbm_events.specs.Certificate.{claim_fits}
 use Rattle.bbm_type_tests.proofs.Rows.{Gives, Gives2}
@@ -47,7 +48,7 @@ spans = refl
 abbrev heading : ℕ → Heading
 heading version =
     let world : World = Hyp (record { el2_start = 1; s2_start = 1; s2_pages = 16 }) in
-    record { version = version; pes = 2; cnp = false; world = world }
+    record { version = version; pes = 2; cnp = false; words = no_words; world = world }
 
 pub events : Gives2 (λ version event. fits_heading (heading version) event) (
     (3, Lock 1 1023, true)

@@ -15,6 +15,7 @@ use Rattle.bbm_events.specs.declared.machine.MachineLine.TheVariants as step
 use Rattle.bbm_events.specs.declared.malformed.Malformed.{Malformed}
 use Rattle.bbm_events.specs.declared.malformed.Malformed.TheVariants.{NoMagic, BadHeader, UnknownWord, BadNumber, BadPe}
 use Rattle.bbm_events.specs.declared.malformed.Malformed.TheVariants.{BadAddress, MissingField, ExtraField, BadLabel}
+use Rattle.bbm_events.specs.Heading.{no_words}
 use Rattle.bbm_events.specs.Spelling.{decimal_value, hex_value}
 use Rattle.bbm_events.specs.Lines.{header_of, item_of, header_line, item_line}
 use Rattle.bbm_events.specs.Machine.{machine_of, machine_line}
@@ -29,7 +30,7 @@ err (Err cause) = Some cause
 abbrev hyp : ℕ → ℕ → ℕ → Heading
 hyp version pes pages =
     let world : World = Hyp (record { el2_start = 1; s2_start = 1; s2_pages = pages }) in
-    record { version = version; pes = pes; cnp = false; world = world }
+    record { version = version; pes = pes; cnp = false; words = no_words; world = world }
 
 unfoldable pub header_cause : String → Option Malformed
 unfolding digits decimal_value hex_value header_of
@@ -40,12 +41,15 @@ pub headers : Gives header_cause (
     ∷ ("bbmlog 2 hyp 64 1 1 1 cnp", None)
     ∷ ("bbmlog 3 hyp 128 1 1 1 -", None)
     ∷ ("bbmlog 4 kernel 128 0 2 ttbr1 cnp", None)
+    ∷ ("bbmlog 5 hyp 128 1 1 1", None)
+    ∷ ("bbmlog 5 kernel 2 0 0 ttbr1 cnp", None)
     ∷ ("", Some NoMagic)
     ∷ ("bbmlog", Some NoMagic)
     ∷ ("bbmlog  1 hyp 2 1 1 1", Some NoMagic)
     ∷ (" bbmlog 1 hyp 2 1 1 1", Some NoMagic)
     ∷ ("bbmlog 0 hyp 2 1 1 1", Some NoMagic)
-    ∷ ("bbmlog 5 hyp 2 1 1 1 -", Some NoMagic)
+    ∷ ("bbmlog 6 hyp 2 1 1 1", Some NoMagic)
+    ∷ ("bbmlog 05 hyp 2 1 1 1", Some NoMagic)
     ∷ ("bbmlog 02 hyp 2 1 1 1 -", Some NoMagic)
     ∷ ("bbmlog 1", Some BadHeader)
     ∷ ("bbmlog 1 hyp 2 1 1", Some BadHeader)
@@ -66,6 +70,18 @@ pub headers : Gives header_cause (
     ∷ ("bbmlog 3 hyp 129 1 1 1 -", Some BadHeader)
     ∷ ("bbmlog 3 hyp 0 1 1 1 -", Some BadHeader)
     ∷ ("bbmlog 4 kernel 2 1 1 ttbr0", Some BadHeader)
+    ∷ ("bbmlog 4 hyp 2 1 1 1 cnp unflushed", Some BadHeader)
+    ∷ ("bbmlog 5 hyp 129 1 1 1", Some BadHeader)
+    ∷ ("bbmlog 5 hyp 2 1 1", Some BadHeader)
+    ∷ ("bbmlog 5 hyp 2 1 1 1 -", Some BadHeader)
+    ∷ ("bbmlog 5 hyp 2 1 1 1 CNP", Some BadHeader)
+    ∷ ("bbmlog 5 hyp 2 1 1 1 ", Some BadHeader)
+    ∷ ("bbmlog 5 hyp 2 1 1 1  cnp", Some BadHeader)
+    ∷ ("bbmlog 5 hyp 2 1 1 1 cnp ", Some BadHeader)
+    ∷ ("bbmlog 5 hyp 2 1 1 1 cnp cnp", Some BadHeader)
+    ∷ ("bbmlog 5 hyp 2 1 1 1 cnp unflushed", Some BadHeader)
+    ∷ ("bbmlog 5 hyp 2 1 1 1 isolated", Some BadHeader)
+    ∷ ("bbmlog 5 kernel 2 1 1 ttbr1 inorder", Some BadHeader)
     ∷ [])
 unfolding header_cause
 headers = refl
@@ -258,6 +274,8 @@ pub header_lines : Gives header_line (
     (hyp 1 2 16, codes "bbmlog 1 hyp 2 1 1 16")
     ∷ (hyp 4 128 1, codes "bbmlog 4 hyp 128 1 1 1 -")
     ∷ (record (hyp 2 64 1) { cnp = true }, codes "bbmlog 2 hyp 64 1 1 1 cnp")
+    ∷ (hyp 5 2 1, codes "bbmlog 5 hyp 2 1 1 1")
+    ∷ (record (hyp 5 2 1) { cnp = true }, codes "bbmlog 5 hyp 2 1 1 1 cnp")
     ∷ (
       record (hyp 1 64 1) { world = Kernel (record { start0 = 2; start1 = 0; asid_from = from.Ttbr1 }) },
       codes "bbmlog 1 kernel 64 2 0 ttbr1",
