@@ -5,6 +5,7 @@ use Rattle.bbm_rules.proofs.Common.{option_map_or, ◌≡◌, ℕ, ◌<◌, Bool
 use Rattle.bbm_rules.proofs.Common.{◌∙◌, ap, Breach, breaks, first_broken, keeps, Trust, noted, holder_of, Noted}
 use Rattle.bbm_rules.proofs.Common.{events_of, is_null, page_of, Heading, Event, Reg, Tag, register_values, roots_of}
 use Rattle.bbm_rules.proofs.Common.{holds_at, tags_of, Node, held_at, node_of, value_of, written_places}
+use Rattle.bbm_rules.proofs.Common.{given_up, left_at}
 use Rattle.bbm_rules.specs.declared.rule.Rule.{Rule}
 use Rattle.bbm_rules.specs.declared.rule.Rule.TheVariants.{WrongWorld, NoLock, NullWritten, BreakBeforeMake, LimboMake}
 use Rattle.bbm_rules.specs.declared.rule.Rule.TheVariants.{NotFresh, RewrittenFresh, BadKind, GlobalUser, PageInUse}
@@ -64,6 +65,15 @@ module _ (heading : Heading) (k : Known heading) (one other : Trust) (h h' : Lis
       both (λ (es : List Event). holds_at heading one p root tag es) (λ (es : List Event). holds_at heading other p root tag es)
       (a.holds p root tag under)
 
+  left : (p page : ℕ) (tag : Tag) → p < heading.pes
+      → left_at heading one p page tag (events_of marks) ≡ left_at heading other p page tag (events_of marks')
+  left p page tag under =
+      both (λ (es : List Event). left_at heading one p page tag es) (λ (es : List Event). left_at heading other p page tag es)
+      (a.left p page tag under)
+
+  given : given_up (events_of marks) ≡ given_up (events_of marks')
+  given = both_alike given_up a.given
+
   held : (n : Node) (place : ℕ) → node_of heading one marks (page_of place) ≡ Some n
       → held_at heading one marks n place ≡ held_at heading other marks' n place
   held n place found = held_alike heading k one other h h' a n place found
@@ -80,8 +90,8 @@ module _ (heading : Heading) (k : Known heading) (one other : Trust) (h h' : Lis
   same_breaks e GlobalUser = same_global_user heading one other marks marks' values places a.fresh a.trees held e
   same_breaks e PageInUse = same_page_in_use heading one other marks marks' values places a.fresh a.trees nulls e
   same_breaks e NoRoot = same_no_root heading one other marks marks' roots nulls e
-  same_breaks e TagConflict = same_tag_conflict heading one other marks marks' registers roots holds e
-  same_breaks e RootInUse = same_root_in_use heading one other marks marks' registers roots holds tags e
+  same_breaks e TagConflict = same_tag_conflict heading one other marks marks' registers roots holds left given e
+  same_breaks e RootInUse = same_root_in_use heading one other marks marks' registers roots holds left given tags e
   same_breaks e UnsyncedVmid = same_unsynced_vmid heading one other marks marks' registers e
   same_breaks e BadOperand = same_bad_operand heading one other marks marks' e
   same_breaks e LockBusy = same_lock_busy heading one other marks marks' locks e

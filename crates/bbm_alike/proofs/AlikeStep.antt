@@ -1,12 +1,17 @@
 -- After the same event, histories that are alike are so still.
 use Rattle.bbm_rules.proofs.Common.{◌≡◌, ℕ, ◌<◌, true, List, ◌∷◌, Heading, Event, keeps, Trust, roots_of, value_of}
 use Rattle.bbm_rules.proofs.Common.{written_places}
+use Rattle.bbm_rules.proofs.Common.{Unroot, ap, given_up, with_number}
 use Rattle.bbm_alike.specs.Alike.{Alike, TakesAlike}
 use Rattle.bbm_alike.specs.KnownOfHistories.{Known}
 use Rattle.bbm_alike.specs.SameTags.{SameTags}
 use Rattle.bbm_alike.proofs.PlainSteps.{locks_step, nulls_step, places_step, registers_step, roots_step, values_step}
 use Rattle.bbm_alike.proofs.TagSteps.{same_tags_step}
 use Rattle.bbm_alike.proofs.TreesStep.{fresh_step, held_step, patterns_step, trees_step}
+
+given_step : (h h' : List Event) (e : Event) → given_up h ≡ given_up h' → given_up (e ∷ h) ≡ given_up (e ∷ h')
+given_step h h' (Unroot pe page) same = ap (λ (pages : List ℕ). with_number page pages) same
+given_step h h' e same = same
 
 module _ (heading : Heading) (k : Known heading) (one other : Trust) (h h' : List Event) (e : Event) (pes : 0 < heading.pes)
     (unbroken : keeps heading one (e ∷ h) ≡ true) (unbroken' : keeps heading other (e ∷ h') ≡ true)
@@ -22,8 +27,8 @@ module _ (heading : Heading) (k : Known heading) (one other : Trust) (h h' : Lis
 
   tags : SameTags heading one other (e ∷ h) (e ∷ h')
   tags =
-      same_tags_step heading k.equality_tests.tags k.tag_steps.waits h h' e a.roots a.registers one other t.takes
-      (record { tags = a.tags; holds = a.holds; tag_wait = a.tag_wait })
+      same_tags_step heading k.equality_tests.tags k.tag_steps.waits h h' e a.roots a.registers one other (k.tag_kept one) t.takes
+      (record { tags = a.tags; holds = a.holds; left = a.left; tag_wait = a.tag_wait })
 
   pub alike_step : Alike heading one other (e ∷ h) (e ∷ h')
   alike_step = record {
@@ -38,6 +43,8 @@ module _ (heading : Heading) (k : Known heading) (one other : Trust) (h h' : Lis
     held = held_step heading k one other h h' a e pes unbroken unbroken' t values roots places;
     patterns = patterns_step heading k one other h h' a e pes unbroken unbroken' t values roots places;
     tags = tags.tags;
+    given = given_step h h' e a.given;
     holds = tags.holds;
+    left = tags.left;
     tag_wait = tags.tag_wait;
   }

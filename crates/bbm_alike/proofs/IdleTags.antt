@@ -2,22 +2,24 @@
 use Rattle.bbm_rules.proofs.Common.{◌≡◌, ◌↔◌, ℕ, ◌<◌, Bool, true, false, cond, not, ◌&&◌, ◌||◌, ◌==◌, List, [], ◌∷◌}
 use Rattle.bbm_rules.proofs.Common.{◌++◌, Contains, filter_map, flat_map, refl, sym, ◌∙◌, ap, subst, true≢false}
 use Rattle.bbm_rules.proofs.Common.{and_from, and_parts, eqb-true, false_from_ne_true, proved, Is, In, any_finds}
-use Rattle.bbm_rules.proofs.Common.{any_found, in_left, is_none_of, to_contains, answers, same_bool, operation, Trust}
+use Rattle.bbm_rules.proofs.Common.{in_left, is_none_of, to_contains, answers, same_bool, operation, Trust}
 use Rattle.bbm_rules.proofs.Common.{same_tag, Patterns, any, below, Barrier, Heading, Event, Dmb, Dsb, Isb, Tlbi, Reg}
-use Rattle.bbm_rules.proofs.Common.{Tag, Issued, completes, reaches, unanswered, register_values, Declared, is_at}
-use Rattle.bbm_rules.proofs.Common.{is_root, roots_of, same_kind, Open, Reading, distinct, ever_read, holds_at}
-use Rattle.bbm_rules.proofs.Common.{holds_tag, itself, loses, readings, reads, reads_for_some, tag_for, takes_tag}
-use Rattle.bbm_lemmas.proofs.Words.{in_below}
+use Rattle.bbm_rules.proofs.Common.{Tag, Issued, completes, reaches, unanswered, register_values}
+use Rattle.bbm_rules.proofs.Common.{Open, Reading, distinct, ever_read, holds_at}
+use Rattle.bbm_rules.proofs.Common.{itself, loses, readings, reads, reads_for_some, tag_for, takes_tag}
 use Rattle.bbm_tlbi_scope.specs.declared.op.TlbiOp.{TlbiOp}
 use Rattle.bbm_histories.specs.HistorySteps.{answered_by, is_tlbi, tag_waits, tag_waits_after, takes}
-use Rattle.bbm_histories.specs.TagSteps.{kind_of_tag}
 use Rattle.bbm_alike.specs.SameTags.{AnswersNone, SameTags, TakesNone}
 use Rattle.bbm_alike.proofs.Distinct.{distinct_again}
-use Rattle.bbm_alike.proofs.HeldTags.{held_at_issue, held_is_listed, no_readings, read_is_held}
+use Rattle.bbm_alike.proofs.HeldTags.{kept_at_issue, kept_is_listed, no_readings, read_is_kept}
 use Rattle.bbm_alike.proofs.ReadingsAlike.{readings_alike}
 use Rattle.bbm_alike.proofs.TagSteps.{WaitsStep}
 use Rattle.bbm_alike.proofs.ListsAlike.{same_flat}
 use Rattle.bbm_lemmas.proofs.Bools.{not_twice}
+use Rattle.bbm_rules.proofs.Common.{or_left, or_right, ends, first_pages, gives_up, kept_at, left_at}
+use Rattle.bbm_rules.proofs.TagEndsLaw.{held_at_once, held_complete, kept_parts}
+use Rattle.bbm_rules.proofs.TagPagesLaw.{kept_listed}
+use Rattle.bbm_alike.specs.SameTags.{takes_of}
 
 -- what a DSB takes away, in all patterns, by what waits
 abbrev pub LostStep : Heading → Type 0
@@ -52,20 +54,51 @@ module _ (heading : Heading) (e : Event) (h : List Event) (same : (p : ℕ) → 
       ap (λ (gs : List Tag). distinct (gs ++ ever_read heading root h)) (same_now root)
       ∙ distinct_again equal (read_now root h) (ever_read heading root h) (read_before root h)
 
-  idle_holds : (trust : Trust) (p root : ℕ) (tag : Tag)
-      → (holds_at heading trust p root tag h ≡ true → loses heading trust p tag e h ≡ false)
-      → holds_at heading trust p root tag (e ∷ h) ≡ holds_at heading trust p root tag h
-  idle_holds trust p root tag kept =
-      ap (λ (b : Bool). b || (holds_at heading trust p root tag h && not (loses heading trust p tag e h)))
-      (ap (λ (rs : List Reading). any (λ r. same_tag r.tag tag && r.root == root) rs) (same p))
-      ∙ by (reads heading h p tag root) (holds_at heading trust p root tag h) refl refl
-    where
-      by : (r b : Bool) → reads heading h p tag root ≡ r → holds_at heading trust p root tag h ≡ b
-          → (r || (b && not (loses heading trust p tag e h))) ≡ b
-      by true true r b = refl
-      by true false r b = absurd (true≢false (sym (read_is_held heading trust p root tag h r) ∙ b))
-      by false true r b = ap not (kept b)
-      by false false r b = refl
+  module _ (trust : Trust) (p page : ℕ) (tag : Tag)
+      (lost : kept_at heading trust p page tag h ≡ true → loses heading trust p tag e h ≡ false) where
+    same_reads : reads heading (e ∷ h) p tag page ≡ reads heading h p tag page
+    same_reads = ap (λ (rs : List Reading). any (λ r. same_tag r.tag tag && r.root == page) rs) (same p)
+
+    idle_kept : kept_at heading trust p page tag (e ∷ h) ≡ kept_at heading trust p page tag h
+    idle_kept =
+        ap (λ (b : Bool). b || (kept_at heading trust p page tag h && not (loses heading trust p tag e h))) same_reads
+        ∙ by (reads heading h p tag page) (kept_at heading trust p page tag h) refl refl
+      where
+        by : (r b : Bool) → reads heading h p tag page ≡ r → kept_at heading trust p page tag h ≡ b
+            → (r || (b && not (loses heading trust p tag e h))) ≡ b
+        by true true r b = refl
+        by true false r b = absurd (true≢false (sym (read_is_kept heading trust p page tag h r) ∙ b))
+        by false true r b = ap not (lost b)
+        by false false r b = refl
+
+    -- what is held or left is kept
+    held_lost : holds_at heading trust p page tag h ≡ true → loses heading trust p tag e h ≡ false
+    held_lost held = lost (kept_parts heading trust p tag page h ∙ or_left (holds_at heading trust p page tag h) _ held)
+
+    left_lost : left_at heading trust p page tag h ≡ true → loses heading trust p tag e h ≡ false
+    left_lost left = lost (kept_parts heading trust p tag page h ∙ or_right (holds_at heading trust p page tag h) _ left)
+
+    module _ (up : gives_up page e ≡ false) where
+      idle_holds : holds_at heading trust p page tag (e ∷ h) ≡ holds_at heading trust p page tag h
+      idle_holds =
+          ap (λ (b : Bool). b || (holds_at heading trust p page tag h && not (ends heading trust p page tag e h))) same_reads
+          ∙ by (reads heading h p tag page) (holds_at heading trust p page tag h) refl refl
+        where
+          by : (r b : Bool) → reads heading h p tag page ≡ r → holds_at heading trust p page tag h ≡ b
+              → (r || (b && not (ends heading trust p page tag e h))) ≡ b
+          by true true r b = refl
+          by true false r b = absurd (true≢false (sym (held_complete heading trust p tag page h (held_at_once heading trust p tag page h r)) ∙ b))
+          by false true r b = ap not (ap (λ (c : Bool). c || loses heading trust p tag e h) up ∙ held_lost b)
+          by false false r b = refl
+
+      idle_left : left_at heading trust p page tag (e ∷ h) ≡ left_at heading trust p page tag h
+      idle_left =
+          ap (λ (c : Bool). (left_at heading trust p page tag h || (c && holds_at heading trust p page tag h)) && not (loses heading trust p tag e h)) up
+          ∙ by (left_at heading trust p page tag h) refl
+        where
+          by : (l : Bool) → left_at heading trust p page tag h ≡ l → ((l || false) && not (loses heading trust p tag e h)) ≡ l
+          by true l = ap not (left_lost l)
+          by false l = refl
 
   -- what waits to be taken away isn't readable
   waits_unread : WaitsStep heading → (p q : ℕ) (b : Bool) (tag : Tag) (hs : List Event)
@@ -83,18 +116,20 @@ module _ (heading : Heading) (e : Event) (h : List Event) (same : (p : ℕ) → 
       ∙ (ap (λ (c : Bool). tag_waits heading p tag q b h && not c) (ap (λ (rs : List Reading). any (λ r. same_tag r.tag tag) rs) (same p))
       ∙ waits_unread waits p q b tag h))
 
-  -- it leaves all tags, where it takes none that is held, and adds and ends no wait for one
+  -- it leaves all tags, where it takes none that is kept, gives no root up, and adds and ends no wait for one
   pub same_tags : ((g k : Tag) → (same_tag g k ≡ true) ↔ (g ≡ k)) → WaitsStep heading → (trust : Trust)
-      → ((p root : ℕ) (tag : Tag) → p < heading.pes → holds_at heading trust p root tag h ≡ true
+      → ((page : ℕ) → gives_up page e ≡ false)
+      → ((p page : ℕ) (tag : Tag) → p < heading.pes → kept_at heading trust p page tag h ≡ true
       → loses heading trust p tag e h ≡ false)
-      → ((p q root : ℕ) (b : Bool) (tag : Tag) → p < heading.pes → holds_at heading trust p root tag h ≡ true
+      → ((p q page : ℕ) (b : Bool) (tag : Tag) → p < heading.pes → kept_at heading trust p page tag h ≡ true
       → tag_waits_after heading p tag q b e h ≡ tag_waits heading p tag q b h)
       → SameTags heading trust trust (e ∷ h) h
-  same_tags equal waits trust kept after = record {
+  same_tags equal waits trust up kept after = record {
     tags = idle_tags equal;
-    holds = λ p root tag less. idle_holds trust p root tag (kept p root tag less);
-    tag_wait = λ p q root b tag less held. idle_wait waits p q b tag
-        (after p q root b tag less (sym (idle_holds trust p root tag (kept p root tag less)) ∙ held));
+    holds = λ p root tag less. idle_holds trust p root tag (kept p root tag less) (up root);
+    left = λ p page tag less. idle_left trust p page tag (kept p page tag less) (up page);
+    tag_wait = λ p q page b tag less held. idle_wait waits p q b tag
+        (after p q page b tag less (sym (idle_kept trust p page tag (kept p page tag less)) ∙ held));
   }
 
 -- ---- barriers
@@ -103,55 +138,42 @@ module _ (heading : Heading) (equal : (g k : Tag) → (same_tag g k ≡ true) �
   pub same_after_dmb : (trust : Trust) (p : ℕ) (dsb : Barrier) (h : List Event)
       → SameTags heading trust trust (Dmb p dsb ∷ h) h
   same_after_dmb trust p dsb h =
-      same_tags heading (Dmb p dsb) h (readings_alike (Dmb p dsb ∷ h) h (λ q reg. refl) refl heading) equal waits trust
+      same_tags heading (Dmb p dsb) h (readings_alike (Dmb p dsb ∷ h) h (λ q reg. refl) refl heading) equal waits trust (λ page. refl)
       (λ p root tag less held. refl) (λ p q root b tag less held. refl)
 
   pub same_after_isb : (trust : Trust) (p : ℕ) (h : List Event)
       → ((q : ℕ) (reg : Reg) → register_values (Isb p ∷ h) q reg ≡ register_values h q reg)
       → SameTags heading trust trust (Isb p ∷ h) h
   same_after_isb trust p h registers =
-      same_tags heading (Isb p) h (readings_alike (Isb p ∷ h) h registers refl heading) equal waits trust
+      same_tags heading (Isb p) h (readings_alike (Isb p ∷ h) h registers refl heading) equal waits trust (λ page. refl)
       (λ p root tag less held. refl) (λ p q root b tag less held. refl)
 
 -- ---- TLBIs and DSBs
 
 module _ (heading : Heading) (equal : (g k : Tag) → (same_tag g k ≡ true) ↔ (g ≡ k)) where
-  -- An event that takes whole no tag of a declared root takes none that is held, where each root that holds a tag is a
-  -- declared one.
-  takes_none : (h : List Event) (e : Event)
-      → ((r : ℕ) (tag : Tag) → holds_tag heading Patterns r tag h ≡ true → is_root h (kind_of_tag tag) r ≡ true)
-      → TakesNone heading h e → (p root : ℕ) (tag : Tag) → p < heading.pes
-      → holds_at heading Patterns p root tag h ≡ true → (reaches heading e p && takes_tag heading e h tag) ≡ false
-  takes_none h e declared none p root tag less held =
+  -- an event that takes whole no tag of a declared root, or of one that was given up, takes none that is kept
+  takes_none : (h : List Event) (e : Event) → TakesNone heading h e → (p page : ℕ) (tag : Tag) → p < heading.pes
+      → kept_at heading Patterns p page tag h ≡ true → (reaches heading e p && takes_tag heading e h tag) ≡ false
+  takes_none h e none p page tag less kept =
       false_from_ne_true (reaches heading e p && takes_tag heading e h tag) (λ taken.
       let parts = and_parts (reaches heading e p) (takes_tag heading e h tag) taken in
-      let r = any_found (λ (r : Declared). is_at root r && same_kind r.kind (kind_of_tag tag)) (roots_of h)
-      (declared root tag (any_finds (λ (p : ℕ). holds_at heading Patterns p root tag h) (below heading.pes) p
-      (in_below heading.pes p less) held)) in
-      let page : r.0.page ≡ root
-      = eqb-true r.0.page root (and_parts (is_at root r.0) (same_kind r.0.kind (kind_of_tag tag)) r.2).0 in
-      let there : any (λ tag. takes_tag heading e h tag && holds_at heading Patterns p r.0.page tag h)
-      (distinct (ever_read heading r.0.page h)) ≡ true
-      = subst (λ (x : ℕ). any (λ tag. takes_tag heading e h tag && holds_at heading Patterns p x tag h)
-      (distinct (ever_read heading x h)) ≡ true) (sym page)
-      (any_finds (λ (tag : Tag). takes_tag heading e h tag && holds_at heading Patterns p root tag h)
-      (distinct (ever_read heading root h)) tag (held_is_listed heading Patterns p root tag equal h less held)
-      (and_from (takes_tag heading e h tag) (holds_at heading Patterns p root tag h) parts.1 held)) in
-      true≢false (sym (and_from (reaches heading e p) _ parts.0
-      (any_finds (λ (r : Declared). any (λ tag. takes_tag heading e h tag && holds_at heading Patterns p r.page tag h)
-      (distinct (ever_read heading r.page h))) (roots_of h) r.0 r.1 there)) ∙ none p less))
+      let there : takes_of heading h e p page ≡ true
+      = any_finds (λ (tag : Tag). takes_tag heading e h tag && kept_at heading Patterns p page tag h)
+      (distinct (ever_read heading page h)) tag (kept_is_listed heading Patterns p page tag equal h less kept)
+      (and_from (takes_tag heading e h tag) (kept_at heading Patterns p page tag h) parts.1 kept) in
+      true≢false (sym (and_from (reaches heading e p) _ parts.0 (any_finds (takes_of heading h e p) (first_pages h) page
+      (kept_listed heading Patterns p page tag h kept) there)) ∙ none p less))
 
   module _ (waits : WaitsStep heading) (lost : LostStep heading) where
     pub same_after_tlbi : (pe : ℕ) (op : TlbiOp) (xt : ℕ) (h : List Event)
-        → ((r : ℕ) (tag : Tag) → holds_tag heading Patterns r tag h ≡ true → is_root h (kind_of_tag tag) r ≡ true)
         → TakesNone heading h (Tlbi pe op xt) → SameTags heading Patterns Patterns (Tlbi pe op xt ∷ h) h
-    same_after_tlbi pe op xt h declared none =
+    same_after_tlbi pe op xt h none =
         same_tags heading (Tlbi pe op xt) h
-        (readings_alike (Tlbi pe op xt ∷ h) h (λ q reg. refl) refl heading) equal waits Patterns
+        (readings_alike (Tlbi pe op xt ∷ h) h (λ q reg. refl) refl heading) equal waits Patterns (λ page. refl)
         (λ p root tag less held. refl)
         (λ p q root b tag less held. ap (λ (c : Bool). (pe == q && (is_tlbi b (Tlbi pe op xt) && c))
         || tag_waits heading p tag q b h)
-        (takes_none h (Tlbi pe op xt) declared none p root tag less held)
+        (takes_none h (Tlbi pe op xt) none p root tag less held)
         ∙ proved 3 (λ x y w. Is ((x && (y && false)) || w) w) refl (pe == q) (is_tlbi b (Tlbi pe op xt))
         (tag_waits heading p tag q b h))
 
@@ -169,21 +191,19 @@ module _ (heading : Heading) (equal : (g k : Tag) → (same_tag g k ≡ true) �
 
     module _ (q : ℕ) (dsb : Barrier) (h : List Event)
         (opens : (t : Issued Event) → Contains (unanswered itself q h) t → Open itself q h t)
-        (declared : (t : Issued Event) → In (unanswered itself q h) t → (r : ℕ) (tag : Tag)
-        → holds_tag heading Patterns r tag t.before ≡ true → is_root t.before (kind_of_tag tag) r ≡ true)
         (none : AnswersNone heading q dsb h) where
-      -- no held tag waits for the DSB
-      none_waits : (p root : ℕ) (b : Bool) (tag : Tag) → p < heading.pes → holds_at heading Patterns p root tag h ≡ true
+      -- no tag that is kept waits for the DSB
+      none_waits : (p root : ℕ) (b : Bool) (tag : Tag) → p < heading.pes → kept_at heading Patterns p root tag h ≡ true
           → answers dsb b ≡ true → tag_waits heading p tag q b h ≡ false
       none_waits p root b tag less held answered =
           is_none_of (λ (t : Issued Event). is_tlbi b t.tlbi && takes heading p tag h t) (unanswered itself q h) (λ t i.
           false_from_ne_true (is_tlbi b t.tlbi && takes heading p tag h t) (λ k.
           let parts = and_parts (is_tlbi b t.tlbi) (takes heading p tag h t) k in
-          let then = held_at_issue heading Patterns p root tag q h t (opens t (to_contains (unanswered itself q h) t i)) parts.1 held in
+          let then = kept_at_issue heading Patterns p root tag q h t (opens t (to_contains (unanswered itself q h) t i)) parts.1 held in
           true≢false (sym (and_from (reaches heading t.tlbi p) (takes_tag heading t.tlbi t.before tag) then.0 then.1)
-          ∙ takes_none t.before t.tlbi (declared t i) (none t i (answered_kind dsb b t.tlbi answered parts.0)) p root tag less then.2)))
+          ∙ takes_none t.before t.tlbi (none t i (answered_kind dsb b t.tlbi answered parts.0)) p root tag less then.2)))
 
-      no_answer : (p root : ℕ) (b : Bool) (tag : Tag) → p < heading.pes → holds_at heading Patterns p root tag h ≡ true
+      no_answer : (p root : ℕ) (b : Bool) (tag : Tag) → p < heading.pes → kept_at heading Patterns p root tag h ≡ true
           → (answers dsb b && tag_waits heading p tag q b h) ≡ false
       no_answer p root b tag less held = by (answers dsb b) refl
         where
@@ -191,13 +211,13 @@ module _ (heading : Heading) (equal : (g k : Tag) → (same_tag g k ≡ true) �
           by true c = none_waits p root b tag less held c
           by false c = refl
 
-      not_lost : (p root : ℕ) (tag : Tag) → p < heading.pes → holds_at heading Patterns p root tag h ≡ true
+      not_lost : (p root : ℕ) (tag : Tag) → p < heading.pes → kept_at heading Patterns p root tag h ≡ true
           → loses heading Patterns p tag (Dsb q dsb) h ≡ false
       not_lost p root tag less held =
           lost p tag q dsb h
           ∙ rw (no_answer p root true tag less held, no_answer p root false tag less held) refl
 
-      still_waits : (p r root : ℕ) (b : Bool) (tag : Tag) → p < heading.pes → holds_at heading Patterns p root tag h ≡ true
+      still_waits : (p r root : ℕ) (b : Bool) (tag : Tag) → p < heading.pes → kept_at heading Patterns p root tag h ≡ true
           → tag_waits_after heading p tag r b (Dsb q dsb) h ≡ tag_waits heading p tag r b h
       still_waits p r root b tag less held = by (q == r && answers dsb b) refl
         where
@@ -211,5 +231,5 @@ module _ (heading : Heading) (equal : (g k : Tag) → (same_tag g k ≡ true) �
 
       pub same_after_dsb : SameTags heading Patterns Patterns (Dsb q dsb ∷ h) h
       same_after_dsb =
-          same_tags heading (Dsb q dsb) h (readings_alike (Dsb q dsb ∷ h) h (λ r reg. refl) refl heading) equal waits Patterns
+          same_tags heading (Dsb q dsb) h (readings_alike (Dsb q dsb ∷ h) h (λ r reg. refl) refl heading) equal waits Patterns (λ page. refl)
           not_lost still_waits

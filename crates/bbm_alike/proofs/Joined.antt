@@ -5,6 +5,8 @@ use Rattle.bbm_rules.proofs.Common.{Noted, page_of, Node, held_at}
 use Rattle.bbm_rules.specs.Tree.{tree}
 use Rattle.bbm_alike.specs.Alike.{Alike, SamePatterns}
 use Rattle.bbm_alike.proofs.HeldStep.{last_of}
+use Rattle.bbm_rules.proofs.Common.{Bool, Tag, ◌||◌, ◌<◌, holds_at, kept_at, left_at}
+use Rattle.bbm_rules.proofs.TagEndsLaw.{kept_parts}
 
 module _ (heading : Heading) where
   -- ---- patterns
@@ -48,6 +50,14 @@ module _ (heading : Heading) where
 
   -- ---- histories
 
+  same_kept : (one other : Trust) (h h' : List Event) → Alike heading one other h h' → (p page : ℕ) (tag : Tag) → p < heading.pes
+      → kept_at heading one p page tag h ≡ kept_at heading other p page tag h'
+  same_kept one other h h' a p page tag below =
+      kept_parts heading one p tag page h
+      ∙ (ap (λ (b : Bool). b || left_at heading one p page tag h) (a.holds p page tag below)
+      ∙ (ap (λ (b : Bool). holds_at heading other p page tag h' || b) (a.left p page tag below)
+      ∙ sym (kept_parts heading other p tag page h')))
+
   pub itself_alike : (trust : Trust) (h : List Event) → Alike heading trust trust h h
   itself_alike trust h = record {
     values = λ place. refl;
@@ -63,7 +73,9 @@ module _ (heading : Heading) where
         let both : w ≡ w' = let e : Some w ≡ Some w' = sym last ∙ last' in cc in
         subst (λ (v : ValidWrite). SamePatterns heading place trust trust w.since v.since) both (same_itself place trust w.since);
     tags = λ root. refl;
+    given = refl;
     holds = λ p root tag below. refl;
+    left = λ p page tag below. refl;
     tag_wait = λ p q root b tag below holds. refl;
   }
 
@@ -81,7 +93,9 @@ module _ (heading : Heading) where
     held = λ n place there inside. refl;
     patterns = λ n place w w' there inside some last last'. absurd (true≢false (sym some));
     tags = λ root. refl;
+    given = refl;
     holds = λ p root tag below. refl;
+    left = λ p page tag below. refl;
     tag_wait = λ p q root b tag below holds. absurd (true≢false (sym holds));
   }
 
@@ -104,8 +118,10 @@ module _ (heading : Heading) where
           same_turned place one other w'.since w.since (a.patterns n place w' w (in_both n there) inside
           (ap is_some (a.held n place (in_both n there) inside) ∙ some) last' last);
       tags = λ root. sym (a.tags root);
+      given = sym a.given;
       holds = λ p root tag below. sym (a.holds p root tag below);
-      tag_wait = λ p q root b tag below holds. sym (a.tag_wait p q root b tag below (a.holds p root tag below ∙ holds));
+      left = λ p page tag below. sym (a.left p page tag below);
+      tag_wait = λ p q page b tag below kept. sym (a.tag_wait p q page b tag below (same_kept one other h h' a p page tag below ∙ kept));
     }
 
   module _ (one middle other : Trust) (h h' h'' : List Event) (a : Alike heading one middle h h') (b : Alike heading middle other h' h'') where
@@ -143,7 +159,9 @@ module _ (heading : Heading) where
       held = λ n place there inside. a.held n place there inside ∙ b.held n place (on n there) inside;
       patterns = patterns_through;
       tags = λ root. a.tags root ∙ b.tags root;
+      given = a.given ∙ b.given;
       holds = λ p root tag below. a.holds p root tag below ∙ b.holds p root tag below;
-      tag_wait = λ p q root c tag below holds. a.tag_wait p q root c tag below holds
-          ∙ b.tag_wait p q root c tag below (sym (a.holds p root tag below) ∙ holds);
+      left = λ p page tag below. a.left p page tag below ∙ b.left p page tag below;
+      tag_wait = λ p q page c tag below kept. a.tag_wait p q page c tag below kept
+          ∙ b.tag_wait p q page c tag below (sym (same_kept one middle h h' a p page tag below) ∙ kept);
     }

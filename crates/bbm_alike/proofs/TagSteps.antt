@@ -12,17 +12,19 @@ use Rattle.bbm_alike.proofs.Distinct.{distinct_append}
 use Rattle.bbm_alike.proofs.PlainSteps.{registers_step, roots_step}
 use Rattle.bbm_alike.proofs.ReadingsAlike.{readings_alike, reads_alike, reads_some_alike, scope_alike, vmid_alike}
 use Rattle.bbm_alike.proofs.ListsAlike.{same_flat}
+use Rattle.bbm_rules.proofs.Common.{ends, gives_up, kept_at, left_at, or_left, or_right}
+use Rattle.bbm_rules.specs.TagLaws.{TagKeptBySentence}
 use Rattle.bbm_rules.proofs.TagLaw.{some_reading}
 
--- a root that holds a tag after an event at which the tag isn't readable held it before
-pub held_before : (heading : Heading) (trust : Trust) (p root : ℕ) (tag : Tag) (e : Event) (h : List Event)
-    → holds_at heading trust p root tag (e ∷ h) ≡ true → reads_for_some heading (e ∷ h) p tag ≡ false
-    → holds_at heading trust p root tag h ≡ true
-held_before heading trust p root tag e h held unread =
+-- a tag that is kept after an event at which it isn't readable was kept before
+pub kept_before : (heading : Heading) (trust : Trust) (p root : ℕ) (tag : Tag) (e : Event) (h : List Event)
+    → kept_at heading trust p root tag (e ∷ h) ≡ true → reads_for_some heading (e ∷ h) p tag ≡ false
+    → kept_at heading trust p root tag h ≡ true
+kept_before heading trust p root tag e h held unread =
     elim (or_cases (reads heading (e ∷ h) p tag root)
-    (holds_at heading trust p root tag h && not (loses heading trust p tag e h)) held) [
+    (kept_at heading trust p root tag h && not (loses heading trust p tag e h)) held) [
       | inl read ↦ absurd (true≢false (sym (some_reading heading (e ∷ h) p tag root read) ∙ unread))
-      | inr kept ↦ (and_parts (holds_at heading trust p root tag h) (not (loses heading trust p tag e h)) kept).0
+      | inr kept ↦ (and_parts (kept_at heading trust p root tag h) (not (loses heading trust p tag e h)) kept).0
     ]
 
 not_lost : (a b x y : Bool) → a ≡ b → (a ≡ true → x ≡ y) → (a && not x) ≡ (b && not y)
@@ -71,8 +73,22 @@ module _ (heading : Heading) (h h' : List Event) (e : Event) (roots : roots_of h
       rw (
         reads_step p tag root,
         not_lost (holds_at heading one p root tag h) (holds_at heading other p root tag h')
-            (loses heading one p tag e h) (loses heading other p tag e h') same lost,
+            (ends heading one p root tag e h) (ends heading other p root tag e h') same
+            (λ held. ap (λ (b : Bool). gives_up root e || b) (lost held)),
       ) refl
+
+  pub left_step : (one other : Trust) (p page : ℕ) (tag : Tag)
+      → holds_at heading one p page tag h ≡ holds_at heading other p page tag h'
+      → left_at heading one p page tag h ≡ left_at heading other p page tag h'
+      → ((left_at heading one p page tag h || (gives_up page e && holds_at heading one p page tag h)) ≡ true
+      → loses heading one p tag e h ≡ loses heading other p tag e h')
+      → left_at heading one p page tag (e ∷ h) ≡ left_at heading other p page tag (e ∷ h')
+  left_step one other p page tag holds left lost =
+      not_lost (left_at heading one p page tag h || (gives_up page e && holds_at heading one p page tag h))
+      (left_at heading other p page tag h' || (gives_up page e && holds_at heading other p page tag h'))
+      (loses heading one p tag e h) (loses heading other p tag e h')
+      (ap (λ (b : Bool). b || (gives_up page e && holds_at heading one p page tag h)) left
+      ∙ ap (λ (b : Bool). left_at heading other p page tag h' || (gives_up page e && b)) holds) lost
 
   -- ---- the TLBIs that wait to take a tag away
 
@@ -99,8 +115,8 @@ module _ (heading : Heading) (h h' : List Event) (e : Event) (roots : roots_of h
   after_alike x p q b tag same = same
 
   pub wait_step : WaitsStep heading → (one : Trust) (p q root : ℕ) (b : Bool) (tag : Tag)
-      → holds_at heading one p root tag (e ∷ h) ≡ true
-      → (holds_at heading one p root tag h ≡ true → tag_waits heading p tag q b h ≡ tag_waits heading p tag q b h')
+      → kept_at heading one p root tag (e ∷ h) ≡ true
+      → (kept_at heading one p root tag h ≡ true → tag_waits heading p tag q b h ≡ tag_waits heading p tag q b h')
       → tag_waits heading p tag q b (e ∷ h) ≡ tag_waits heading p tag q b (e ∷ h')
   wait_step waits one p q root b tag held same =
       waits p tag q b e h
@@ -115,22 +131,34 @@ module _ (heading : Heading) (h h' : List Event) (e : Event) (roots : roots_of h
           ∙ sym (and-false (tag_waits_after heading p tag q b e h')))
       by false is =
           ap (λ (c : Bool). c && not (reads_for_some heading (e ∷ h) p tag)) (after_alike e p q b tag (same
-          (held_before heading one p root tag e h held is)))
+          (kept_before heading one p root tag e h held is)))
 
 -- ---- all together
 
 module _ (heading : Heading) (equal : (g k : Tag) → (same_tag g k ≡ true) ↔ (g ≡ k)) (waits : WaitsStep heading)
     (h h' : List Event) (e : Event) (roots : roots_of h ≡ roots_of h')
     (registers : (p : ℕ) (reg : Reg) → register_values h p reg ≡ register_values h' p reg) where
-  -- where the event takes the same tags away of those that are held
-  pub same_tags_step : (one other : Trust)
-      → ((p root : ℕ) (tag : Tag) → p < heading.pes → holds_at heading one p root tag h ≡ true
+  -- where the event takes the same tags away of those that are kept
+  pub same_tags_step : (one other : Trust) → TagKeptBySentence heading one
+      → ((p page : ℕ) (tag : Tag) → p < heading.pes → kept_at heading one p page tag h ≡ true
       → loses heading one p tag e h ≡ loses heading other p tag e h')
       → SameTags heading one other h h' → SameTags heading one other (e ∷ h) (e ∷ h')
-  same_tags_step one other lost same = record {
+  same_tags_step one other kept lost same = record {
     tags = λ root. tags_step heading h h' e roots registers equal root (same.tags root);
     holds = λ p root tag less.
-        holds_step heading h h' e roots registers one other p root tag (same.holds p root tag less) (lost p root tag less);
-    tag_wait = λ p q root b tag less held.
-        wait_step heading h h' e roots registers waits one p q root b tag held (same.tag_wait p q root b tag less);
+        holds_step heading h h' e roots registers one other p root tag (same.holds p root tag less)
+        (λ held. lost p root tag less (kept.parts p root tag h ∙ or_left (holds_at heading one p root tag h) _ held));
+    left = λ p page tag less.
+        left_step heading h h' e roots registers one other p page tag (same.holds p page tag less) (same.left p page tag less)
+        (λ l. lost p page tag less (kept.parts p page tag h ∙ kept_by p page tag l));
+    tag_wait = λ p q page b tag less held.
+        wait_step heading h h' e roots registers waits one p q page b tag held (same.tag_wait p q page b tag less);
   }
+    where
+      kept_by : (p page : ℕ) (tag : Tag) → (left_at heading one p page tag h || (gives_up page e && holds_at heading one p page tag h)) ≡ true
+          → (holds_at heading one p page tag h || left_at heading one p page tag h) ≡ true
+      kept_by p page tag l =
+          elim (or_cases (left_at heading one p page tag h) (gives_up page e && holds_at heading one p page tag h) l) [
+            | inl left ↦ or_right (holds_at heading one p page tag h) _ left
+            | inr up ↦ or_left (holds_at heading one p page tag h) _ (and_parts (gives_up page e) (holds_at heading one p page tag h) up).1
+          ]

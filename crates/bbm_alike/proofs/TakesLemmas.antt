@@ -2,7 +2,7 @@
 -- the event is no DSB.
 use Rattle.bbm_rules.proofs.Common.{◌≡◌, ℕ, ◌<◌, ◌&&◌, ◌||◌, not, Bool, true, false, List, ◌∷◌, refl, sym, ◌∙◌, ap}
 use Rattle.bbm_rules.proofs.Common.{or_right, Barrier, Heading, Event, Dsb, Tag, Trust, Patterns, cleansed, note, noted}
-use Rattle.bbm_rules.proofs.Common.{Noted, holds_at, loses, reads_for_some}
+use Rattle.bbm_rules.proofs.Common.{Noted, kept_at, loses, reads_for_some}
 use Rattle.bbm_histories.specs.ClaimSteps.{cleansed_under}
 use Rattle.bbm_histories.specs.HistorySteps.{answered_by, cleansed_after, full_waits, second_waits, tag_waits}
 use Rattle.bbm_alike.specs.Alike.{Alike, SamePatterns, TakesAlike}
@@ -38,7 +38,7 @@ module _ (heading : Heading) (k : Known heading) where
     cleansed_by e = s.cleansed_alike p below
 
   module _ (h h' : List Event) (a : Alike heading Patterns Patterns h h') where
-    lost_by : (e : Event) (p root : ℕ) (tag : Tag) → p < heading.pes → holds_at heading Patterns p root tag h ≡ true
+    lost_by : (e : Event) (p root : ℕ) (tag : Tag) → p < heading.pes → kept_at heading Patterns p root tag h ≡ true
         → loses heading Patterns p tag e h ≡ loses heading Patterns p tag e h'
     lost_by (Dsb q dsb) p root tag below holds =
         k.tag_steps.lost p tag q dsb h

@@ -12,7 +12,6 @@ use Rattle.bbm_rules.specs.RegisterValues.{register_values}
 use Rattle.bbm_rules.specs.Roots.{roots_of}
 use Rattle.bbm_rules.specs.Tree.{Node, held_at, tree}
 use Rattle.bbm_rules.specs.Values.{written_places}
-use Rattle.bbm_histories.specs.TreeChanges.{Proper}
 use Rattle.bbm_alike.specs.Alike.{Alike, TakesAlike}
 use Rattle.bbm_alike.specs.SameTags.{AnswersNone, SameTags, TakesNone}
 
@@ -67,15 +66,15 @@ TreesAlike heading one other = (h h' : List Noted) → roots_of (events_of h) �
     → held_at heading one h n place ≡ held_at heading other h' n place)
     → tree heading one h ≡ tree heading other h'
 
--- Which events leave the tags of a history that keeps the rules as they were: a DMB; an ISB after which the registers
--- have the values that they had; a TLBI that takes no whole tag that a declared root holds at a PE that it reaches;
--- and a DSB that answers no TLBI that did so at its issue.
+-- Which events leave the tags of a history as they were: a DMB; an ISB after which the registers have the values that
+-- they had; a TLBI that takes no whole tag that is kept for a page at a PE that it reaches; and a DSB that answers no
+-- TLBI that did so at its issue.
 pub record TagsStay (heading : Heading) : Type 0 where
   pub dmb : (trust : Trust) (p : ℕ) (dsb : Barrier) (h : List Event) → SameTags heading trust trust (Dmb p dsb ∷ h) h
   pub isb : (trust : Trust) (p : ℕ) (h : List Event)
       → ((q : ℕ) (reg : Reg) → register_values (Isb p ∷ h) q reg ≡ register_values h q reg)
       → SameTags heading trust trust (Isb p ∷ h) h
-  pub tlbi : (pe : ℕ) (op : TlbiOp) (xt : ℕ) (h : List Event) → Proper heading → keeps heading Patterns h ≡ true
-      → TakesNone heading h (Tlbi pe op xt) → SameTags heading Patterns Patterns (Tlbi pe op xt ∷ h) h
-  pub dsb : (q : ℕ) (dsb : Barrier) (h : List Event) → Proper heading → keeps heading Patterns h ≡ true
-      → AnswersNone heading q dsb h → SameTags heading Patterns Patterns (Dsb q dsb ∷ h) h
+  pub tlbi : (pe : ℕ) (op : TlbiOp) (xt : ℕ) (h : List Event) → TakesNone heading h (Tlbi pe op xt)
+      → SameTags heading Patterns Patterns (Tlbi pe op xt ∷ h) h
+  pub dsb : (q : ℕ) (dsb : Barrier) (h : List Event) → AnswersNone heading q dsb h
+      → SameTags heading Patterns Patterns (Dsb q dsb ∷ h) h

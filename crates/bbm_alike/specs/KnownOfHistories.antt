@@ -4,6 +4,7 @@ use Rattle.bbm_rules.specs.BrokenLaws.{NotesKeepEvents}
 use Rattle.bbm_rules.specs.Claims.{Trust}
 use Rattle.bbm_rules.specs.EventLaws.{TestsAreExact}
 use Rattle.bbm_rules.specs.HeldLaws.{CleansedBySentence, HalfBySentence, LastValidBySentence, SeenBySentence}
+use Rattle.bbm_rules.specs.TagLaws.{TagKeptBySentence}
 use Rattle.bbm_rules.specs.TreeLaws.{TreeBySentence}
 use Rattle.bbm_histories.specs.ContentLaws.{FreshStays, HeldAfter, PhaseByParts}
 use Rattle.bbm_histories.specs.HolderLaws.{TagsAfter}
@@ -24,5 +25,6 @@ pub record Known (heading : Heading) : Type 0 where
   pub pattern_steps : PatternsAfter heading
   pub phase_parts : (trust : Trust) → PhaseByParts heading trust
   pub seen : SeenBySentence heading
+  pub tag_kept : (trust : Trust) → TagKeptBySentence heading trust
   pub tag_steps : TagsAfter heading
   pub tree : (trust : Trust) → TreeBySentence heading trust

@@ -9,7 +9,7 @@ use bbm_histories::{
 };
 use bbm_rules::{
     law_cleansed, law_equality_tests, law_half, law_last_valid, law_notes_keep_the_events,
-    law_seen, law_tree,
+    law_seen, law_tag_kept, law_tree,
 };
 
 /// The laws that the laws here stand on.
@@ -29,6 +29,7 @@ pub(crate) fn known()
     law_pattern_steps();
     law_phase_parts();
     law_seen();
+    law_tag_kept();
     law_tag_steps();
     law_tree();
 }

@@ -4,7 +4,7 @@ pub use Rattle.std.proofs.Math.Bool.{and-false, or-false, or_comm}
 pub use Rattle.std.proofs.lemmas.List.{length-append, set_split}
 pub use Rattle.bbm_cert.specs.Cleansings.{ends_now, tells}
 pub use Rattle.bbm_cert.specs.Flushes.{completed_by}
-pub use Rattle.bbm_cert.specs.Holdings.{ends_some, has, is_lost, next_lasts, stays_held}
+pub use Rattle.bbm_cert.specs.Holdings.{ends_some, has, is_lost, next_lasts, stays_kept}
 pub use Rattle.bbm_cert.specs.Judged.{judged_with}
 pub use Rattle.bbm_cert.specs.KnownOfClaims.{Known}
 pub use Rattle.bbm_cert.specs.Marks.{answers_for, claim_mark, flush_mark, half_mark, is_of, is_true_of, mark_at}

@@ -8,6 +8,7 @@ pub mod Cleansed
 pub mod TagSteps
 pub mod Takers
 pub mod HeldTags
+pub mod LeftTags
 pub mod Lasting
 pub mod JudgedLaw
 pub mod Verified

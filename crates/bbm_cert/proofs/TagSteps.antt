@@ -3,7 +3,7 @@ use Rattle.bbm_cert.proofs.Common.{or_comm}
 use Rattle.bbm_rules.proofs.Common.{◌≡◌, ℕ, zero, suc, ◌+◌, ◌-◌, ◌<◌, ◌≤◌, Bool, false, not, ◌&&◌, ◌||◌, List, [], ◌∷◌}
 use Rattle.bbm_rules.proofs.Common.{◌++◌, length, take, get_or, reverse, refl, sym, ◌∙◌, ap, arith, length-append}
 use Rattle.bbm_rules.proofs.Common.{length-reverse, reverse-append, reverse-reverse, take_more, Trust, Tag, Heading}
-use Rattle.bbm_rules.proofs.Common.{Event, Msr, holds_at, loses, reads, and-true}
+use Rattle.bbm_rules.proofs.Common.{Event, Msr, ends, holds_at, left_at, reads, and-true, or-false}
 use Rattle.std.proofs.lemmas.List.{get_or-reverse, get_or_append_left}
 use Rattle.std.proofs.Math.Seq.{take-append_seam}
 use Rattle.bbm_cert.specs.Takings.{AreWrites}
@@ -18,19 +18,19 @@ next {X} xs i x below =
 
 -- the event at an index behind them
 write_at : (newer : List Event) (j : ℕ) (d : Event) → AreWrites newer → j < length newer
-    → (heading : Heading) (trust : Trust) (p : ℕ) (tag : Tag) (h : List Event)
-    → loses heading trust p tag (get_or newer j d) h ≡ false
-write_at [] j d writes below heading trust p tag h = absurd (omega arith)
-write_at (Msr pe reg value ∷ newer) zero d writes below heading trust p tag h = refl
-write_at (Msr pe reg value ∷ newer) (suc j) d writes below heading trust p tag h =
-    write_at newer j d writes (omega (arith, below)) heading trust p tag h
-write_at (e ∷ newer) j d writes below heading trust p tag h = absurd writes
+    → (heading : Heading) (trust : Trust) (p root : ℕ) (tag : Tag) (h : List Event)
+    → ends heading trust p root tag (get_or newer j d) h ≡ false
+write_at [] j d writes below heading trust p root tag h = absurd (omega arith)
+write_at (Msr pe reg value ∷ newer) zero d writes below heading trust p root tag h = refl
+write_at (Msr pe reg value ∷ newer) (suc j) d writes below heading trust p root tag h =
+    write_at newer j d writes (omega (arith, below)) heading trust p root tag h
+write_at (e ∷ newer) j d writes below heading trust p root tag h = absurd writes
 
 module _ (heading : Heading) (trust : Trust) (p root : ℕ) (tag : Tag) (events newer older : List Event) (i : ℕ)
     (d : Event)
     (is : reverse events ≡ newer ++ older) (writes : AreWrites newer) (behind : length older ≤ i)
     (below : i < length events) where
-  kept_behind : (h : List Event) → loses heading trust p tag (get_or events i d) h ≡ false
+  kept_behind : (h : List Event) → ends heading trust p root tag (get_or events i d) h ≡ false
   kept_behind h =
       let count : length events ≡ length newer + length older
       = sym (length-reverse events) ∙ ap length is ∙ length-append newer older in
@@ -40,7 +40,7 @@ module _ (heading : Heading) (trust : Trust) (p root : ℕ) (tag : Tag) (events 
       = ap (λ (xs : List Event). get_or xs i d) (sym (reverse-reverse events))
       ∙ get_or-reverse (reverse events) i d (omega (arith, length-reverse events, below))
       ∙ ap (λ (xs : List Event). get_or xs j d) is ∙ get_or_append_left newer older d j within in
-      ap (λ (e : Event). loses heading trust p tag e h) at ∙ write_at newer j d writes within heading trust p tag h
+      ap (λ (e : Event). ends heading trust p root tag e h) at ∙ write_at newer j d writes within heading trust p root tag h
 
   pub holds_more : (before after : Bool)
       → before ≡ holds_at heading trust p root tag (reverse (take i events))
@@ -58,6 +58,15 @@ module _ (heading : Heading) (trust : Trust) (p root : ℕ) (tag : Tag) (events 
       ∙ ap (λ (b : Bool). reads heading (e ∷ h) p tag root || (holds_at heading trust p root tag h && not b))
       (sym (kept_behind h))
       ∙ ap (λ (xs : List Event). holds_at heading trust p root tag xs) (sym now)
+
+-- a register write leaves what was left
+pub left_behind : (heading : Heading) (trust : Trust) (p page : ℕ) (tag : Tag) (newer older : List Event) → AreWrites newer
+    → left_at heading trust p page tag older ≡ left_at heading trust p page tag (newer ++ older)
+left_behind heading trust p page tag [] older writes = refl
+left_behind heading trust p page tag (Msr pe reg value ∷ newer) older writes =
+    left_behind heading trust p page tag newer older writes
+    ∙ sym (and-true _ ∙ or-false (left_at heading trust p page tag (newer ++ older)))
+left_behind heading trust p page tag (e ∷ newer) older writes = absurd writes
 
 -- the older of some events, from the list that has the oldest first
 pub first_of : (events newer older : List Event) (n : ℕ) → reverse events ≡ newer ++ older → n ≡ length older

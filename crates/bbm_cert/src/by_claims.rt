@@ -3,8 +3,8 @@
 ghost use Rattle.std.specs.Prelude.{◌≡◌, ◌++◌, ◌||◌, List, length, reverse, IfOk};
 ghost use Rattle.bbm_events.specs.declared.event.Event.{Event as TheEvent};
 ghost use Rattle.bbm_rules.specs.Claims.Trust.{Listed};
-ghost use Rattle.bbm_rules.specs.Tags.{holds_at as is_held, reads};
-ghost use Rattle.bbm_cert.specs.Holdings.{Hold};
+ghost use Rattle.bbm_rules.specs.Tags.{holds_at as is_held, left_at, reads};
+ghost use Rattle.bbm_cert.specs.Holdings.{Keep};
 ghost use Rattle.bbm_cert.specs.Takings.{AreWrites};
 
 use crate::cleansings::{Cleansing, add_completed, cleansed_since, copied};
@@ -13,7 +13,7 @@ use crate::known::known;
 use bbm_events::{Claim, Event, Header};
 use bbm_oracle_patterns::{Evidence, Kept};
 use bbm_oracle_tags::readings::is_read;
-use bbm_oracle_tags::{Holding, TagEvidence, readings_at};
+use bbm_oracle_tags::{Holding, Keeper, TagEvidence, readings_at};
 use bbm_regimes::{NoMemory, PeMask, Place};
 use std::alloc::Global;
 
@@ -26,7 +26,7 @@ pub struct ByClaims<'a> {
     pub claims: &'a [Claim],
     /// What the claims of places say that are true of the events taken.
     pub cleansings: Vec<Cleansing>,
-    /// What the roots hold after the events taken, and until when tags are readable in them.
+    /// What the roots hold and have left after the events taken, and until when tags are readable in them.
     pub tags: Tags,
     /// How many events were taken.
     pub taken: usize,
@@ -57,7 +57,7 @@ fn holds_from(
     evidence: &ByClaims<'_>,
 ) -> Result<bool, NoMemory>
     requires { (newer older : List TheEvent) × (reverse events.now ≡ newer ++ older) × AreWrites newer
-        × Hold header.now evidence.now.claims.now older evidence.now.tags.held.items
+        × Keep header.now evidence.now.claims.now older evidence.now.tags.held.items evidence.now.tags.left.items
         × (evidence.now.taken ≡ length older) }
     ensures { IfOk result (λ holds. holds ≡ is_held header.now (Listed evidence.now.claims.now) asked.now.pe
         asked.now.root asked.now.tag (reverse events.now)) }
@@ -69,27 +69,49 @@ fn holds_from(
     Ok(holds)
 }
 
+/// Whether a root of the page that was given up left the tag at the PE, where the events behind those taken are
+/// register writes.
+fn left_from(
+    _header: &Header,
+    _events: &[Event],
+    asked: &Holding,
+    evidence: &ByClaims<'_>,
+) -> bool
+    requires { (newer older : List TheEvent) × (reverse _events.now ≡ newer ++ older) × AreWrites newer
+        × Keep _header.now evidence.now.claims.now older evidence.now.tags.held.items evidence.now.tags.left.items
+        × (evidence.now.taken ≡ length older) }
+    ensures { result ≡ left_at _header.now (Listed evidence.now.claims.now) asked.now.pe asked.now.root asked.now.tag
+        (reverse _events.now) }
+{
+    has(&evidence.tags.left, asked.pe, asked.root, asked.tag)
+}
+
 impl<'a> TagEvidence for ByClaims<'a> {
     ghost use Rattle.std.specs.Prelude.{◌≡◌, ◌++◌, ◌∷◌, List, length};
     ghost use Rattle.std.proofs.Common.{ap};
     ghost use Rattle.bbm_rules.specs.Claims.Trust.{Listed};
     ghost use Rattle.bbm_rules.specs.Prelude.{Event, Msr};
-    ghost use Rattle.bbm_cert.specs.Holdings.{Hold};
+    ghost use Rattle.bbm_cert.specs.Holdings.{Keep};
     ghost use Rattle.bbm_cert.specs.Takings.{AreWrites};
 
     ghost trust = { λ evidence. Listed evidence.claims.now };
 
     ghost knows = { λ evidence heading h. (newer older : List Event) × (h ≡ newer ++ older) × AreWrites newer
-        × Hold heading evidence.claims.now older evidence.tags.held.items × (evidence.taken ≡ length older) };
+        × Keep heading evidence.claims.now older evidence.tags.held.items evidence.tags.left.items
+        × (evidence.taken ≡ length older) };
 
-    fn holds_at(
+    fn keeps_at(
         &self,
         alloc: Global,
         header: &Header,
         events: &[Event],
         asked: &Holding,
+        keeper: Keeper,
     ) -> Result<bool, NoMemory> {
-        holds_from(alloc, header, events, asked, self)
+        match keeper {
+            Keeper::Declared => holds_from(alloc, header, events, asked, self),
+            Keeper::GivenUp => Ok(left_from(header, events, asked, self)),
+        }
     }
 
     ghost knows_write = { λ evidence heading h pe reg value known. (
@@ -106,11 +128,11 @@ impl<'a> Evidence for ByClaims<'a> {
     ghost use Rattle.std.specs.Prelude.{◌≡◌, [], length, refl};
     ghost use Rattle.bbm_rules.specs.Notes.{events_of};
     ghost use Rattle.bbm_cert.specs.Cleansings.{Tell};
-    ghost use Rattle.bbm_cert.specs.Holdings.{Hold};
+    ghost use Rattle.bbm_cert.specs.Holdings.{Keep};
     ghost use Rattle.bbm_cert.specs.Spans.{AreSpans};
 
     ghost has_taken = { λ evidence heading notes. Tell heading evidence.claims.now notes evidence.cleansings.items
-        × Hold heading evidence.claims.now (events_of notes) evidence.tags.held.items
+        × Keep heading evidence.claims.now (events_of notes) evidence.tags.held.items evidence.tags.left.items
         × AreSpans heading (events_of notes) evidence.tags.spans.items
         × (evidence.taken ≡ length (events_of notes)) };
 

@@ -1,16 +1,18 @@
-//! Which roots hold which tags, by claims alone, as it is kept from event to event.
+//! Which roots hold which tags, and which were left, by claims alone, as it is kept from event to event.
 
-ghost use Rattle.std.specs.Prelude.{◌≡◌, ◌<◌, ◌∷◌, [], ◌&&◌, ◌||◌, ◌==◌, ℕ, length, reverse, IfOk, OnOk};
+ghost use Rattle.std.specs.Prelude.{◌≡◌, ◌<◌, ◌∷◌, [], ◌++◌, not, ◌&&◌, ◌||◌, ◌==◌, ℕ, length, reverse, filter, IfOk};
+ghost use Rattle.std.specs.Prelude.{OnOk};
 ghost use Rattle.bbm_regimes.specs.declared.regime.Tag.{Tag as TheTag};
 ghost use Rattle.bbm_rules.specs.Claims.{same_tag as is_same_tag};
 ghost use Rattle.bbm_rules.specs.Lists.{any};
+ghost use Rattle.bbm_rules.specs.Roots.{gives_up};
 ghost use Rattle.bbm_rules.specs.Tags.{reads, reads_for_some};
 ghost use Rattle.bbm_histories.specs.ClaimSteps.{completes_taken};
 ghost use Rattle.bbm_rules.specs.Changes.{changes};
 ghost use Rattle.bbm_rules.specs.Notes.{events_of};
 ghost use Rattle.bbm_oracle_patterns.specs.Kept.{notes_of};
-ghost use Rattle.bbm_cert.specs.Holdings.{Hold, before_lasts, ends_some, has as has_it, is_lost, next_has, next_lasts};
-ghost use Rattle.bbm_cert.specs.Holdings.{stays_held};
+ghost use Rattle.bbm_cert.specs.Holdings.{Keep, before_lasts, ends_some, has as has_it, is_lost, next_has, next_lasts};
+ghost use Rattle.bbm_cert.specs.Holdings.{next_left, stays_kept};
 ghost use Rattle.bbm_cert.specs.Spans.{AreSpans, lasts};
 
 use crate::known::known;
@@ -31,11 +33,13 @@ pub struct Loss {
     pub tag: Tag,
 }
 
-/// What the roots hold, and until when tags are readable. Source: project's own choice.
+/// What the roots hold and have left, and until when tags are readable. Source: project's own choice.
 #[derive(Debug, Drop)]
 pub struct Tags {
-    /// What the roots hold.
+    /// What the declared roots hold.
     pub held: Vec<Holding>,
+    /// What those that were given up have left.
+    pub left: Vec<Holding>,
     /// The tags that were readable.
     pub spans: Vec<Span>,
 }
@@ -119,7 +123,7 @@ fn has_loss(losses: &[Loss], pe: Pe, tag: Tag) -> bool
         .any(|loss| loss.pe == pe && same_tag(loss.tag, tag))
 }
 
-/// Whether a tag that was held at the PE still is, after these events, the last of which completes claims of these
+/// Whether a tag that was kept at the PE still is, after these events, the last of which completes claims of these
 /// tags.
 fn stays(
     alloc: Global,
@@ -130,7 +134,7 @@ fn stays(
     tag: Tag,
 ) -> Result<bool, NoMemory>
     ensures { IfOk result (λ stays. stays
-        ≡ stays_held header.now (reverse events.now) losses.now pe tag) }
+        ≡ stays_kept header.now (reverse events.now) losses.now pe tag) }
 {
     if has_loss(losses, pe, tag) {
         is_readable(alloc, header, events, pe, tag)
@@ -139,7 +143,7 @@ fn stays(
     }
 }
 
-/// Adds what was held, where it still is.
+/// Adds what was kept, where it still is.
 fn keep(
     alloc: Global,
     header: &Header,
@@ -150,7 +154,7 @@ fn keep(
 ) -> Result<(), NoMemory>
     ensures { OnOk result ((p root : ℕ) (tag : TheTag) → has_it kept.new.items p root tag
         ≡ (has_it kept.old.items p root tag || (has_it (holding.now ∷ []) p root tag
-        && stays_held header.now (reverse events.now) losses.now p tag))) }
+        && stays_kept header.now (reverse events.now) losses.now p tag))) }
 {
     known();
     if stays(alloc, header, events, losses, holding.pe, holding.tag)? {
@@ -159,7 +163,7 @@ fn keep(
     Ok(())
 }
 
-/// What was held and still is, after these events, the last of which completes claims of these tags.
+/// What was kept and still is, after these events, the last of which completes claims of these tags.
 fn keep_all(
     alloc: Global,
     header: &Header,
@@ -168,7 +172,7 @@ fn keep_all(
     held: &[Holding],
 ) -> Result<Vec<Holding>, NoMemory>
     ensures { IfOk result (λ kept. (p root : ℕ) (tag : TheTag) → has_it kept.items p root tag
-        ≡ (has_it held.now p root tag && stays_held header.now (reverse events.now) losses.now p tag)) }
+        ≡ (has_it held.now p root tag && stays_kept header.now (reverse events.now) losses.now p tag)) }
 {
     let mut kept = Vec::new(alloc);
     for holding in held {
@@ -228,6 +232,7 @@ fn add_read_at(
     ensures spans { OnOk result ((p n : ℕ) (tag : TheTag) → lasts tags.new.spans.items p tag n
         ≡ (lasts tags.old.spans.items p tag n
         || (pe == p && reads_for_some header.now (reverse events.now) pe tag))) }
+    ensures left { tags.new.left ≡ tags.old.left }
 {
     let readings = readings_at(alloc, header, events, pe)?;
     add_readings(&mut tags.held, pe, &readings)?;
@@ -245,6 +250,7 @@ fn add_read(
         ≡ (has_it tags.old.held.items p root tag || reads header.now (reverse events.now) p tag root)) }
     ensures spans { OnOk result ((p n : ℕ) (tag : TheTag) → p < 128 → lasts tags.new.spans.items p tag n
         ≡ (lasts tags.old.spans.items p tag n || reads_for_some header.now (reverse events.now) p tag)) }
+    ensures left { tags.new.left ≡ tags.old.left }
 {
     for number in 0..128 {
         let pe = Pe::new(number).unwrap();
@@ -301,8 +307,63 @@ fn spans_before(
     }
 }
 
-/// What was held and still is after these events, the last of which completes claims of these tags, and what is
-/// readable then, where that event may change it.
+/// Adds the holding, where it is of the root.
+fn add_left(left: &mut Vec<Holding>, holding: &Holding, root: u64) -> Result<(), NoMemory>
+    ensures { OnOk result (left.new.items ≡ left.old.items ++ filter (λ x. x.root == root) (holding.now ∷ [])) }
+{
+    if holding.root == root {
+        left.push(*holding)?;
+    }
+    Ok(())
+}
+
+/// Adds what the root holds.
+fn add_all_left(held: &[Holding], left: &mut Vec<Holding>, root: u64) -> Result<(), NoMemory>
+    ensures { OnOk result (left.new.items ≡ left.old.items ++ filter (λ x. x.root == root) held.now) }
+{
+    for holding in held {
+        add_left(left, holding, root)?;
+    }
+    Ok(())
+}
+
+/// Takes out what the root holds.
+fn drop_held(held: &mut Vec<Holding>, root: u64)
+    ensures { held.new.items ≡ filter (λ x. not (x.root == root)) held.old.items }
+{
+    held.retain(|holding| holding.root != root);
+}
+
+/// What the root holds is left.
+fn leave(tags: &mut Tags, root: u64) -> Result<(), NoMemory>
+    ensures held { OnOk result ((p r : ℕ) (tag : TheTag) → has_it tags.new.held.items p r tag
+        ≡ (has_it tags.old.held.items p r tag && not (root == r))) }
+    ensures left { OnOk result ((p r : ℕ) (tag : TheTag) → has_it tags.new.left.items p r tag
+        ≡ (has_it tags.old.left.items p r tag || (root == r && has_it tags.old.held.items p r tag))) }
+    ensures spans { tags.new.spans ≡ tags.old.spans }
+{
+    add_all_left(&tags.held, &mut tags.left, root)?;
+    drop_held(&mut tags.held, root);
+    Ok(())
+}
+
+/// What a root holds that the event gives up is left then.
+fn give_up(tags: &mut Tags, event: &Event) -> Result<(), NoMemory>
+    ensures held { OnOk result ((p root : ℕ) (tag : TheTag) → has_it tags.new.held.items p root tag
+        ≡ (has_it tags.old.held.items p root tag && not (gives_up root event.now))) }
+    ensures left { OnOk result ((p page : ℕ) (tag : TheTag) → has_it tags.new.left.items p page tag
+        ≡ (has_it tags.old.left.items p page tag
+        || (gives_up page event.now && has_it tags.old.held.items p page tag))) }
+    ensures spans { tags.new.spans ≡ tags.old.spans }
+{
+    match *event {
+        Event::Unroot { pe: _, page } => leave(tags, page.get()),
+        _ => Ok(()),
+    }
+}
+
+/// What was kept and still is after these events, the last of which completes claims of these tags and may give a root
+/// up, and what is readable then, where that event may change it.
 fn next(
     alloc: Global,
     header: &Header,
@@ -314,20 +375,25 @@ fn next(
     requires { 0 < length events.now }
     ensures held { IfOk result (λ next. (p root : ℕ) (tag : TheTag) → p < 128 → has_it next.held.items p root tag
         ≡ next_has header.now newest.now (reverse events.now) losses.now tags.now.held.items p root tag) }
+    ensures left { IfOk result (λ next. (p page : ℕ) (tag : TheTag) → has_it next.left.items p page tag
+        ≡ next_left header.now newest.now (reverse events.now) losses.now tags.now.held.items tags.now.left.items
+        p page tag) }
     ensures spans { IfOk result (λ next. (p n : ℕ) (tag : TheTag) → p < 128 → lasts next.spans.items p tag n
         ≡ next_lasts header.now newest.now (reverse events.now) tags.now.spans.items p tag n) }
 {
     let held = keep_all(alloc, header, events, losses, &tags.held)?;
+    let left = keep_all(alloc, header, events, losses, &tags.left)?;
     let spans = spans_before(alloc, events, newest, &tags.spans)?;
-    let mut next = Tags { held, spans };
+    let mut next = Tags { held, left, spans };
+    give_up(&mut next, newest)?;
     if may_change(newest) {
         add_read(alloc, header, events, &mut next)?;
     }
     Ok(next)
 }
 
-/// The tags that are held and those that were readable after one more event, by the claims alone, from those before it.
-/// `NoMemory` where there is none.
+/// The tags that are held, those that are left and those that were readable after one more event, by the claims alone,
+/// from those before it. `NoMemory` where there is none.
 pub fn tags_after(
     alloc: Global,
     header: &Header,
@@ -337,9 +403,9 @@ pub fn tags_after(
     claims: &[Claim],
 ) -> Result<Tags, NoMemory>
     requires { AreSpans header.now (events_of (notes_of (reverse log.now))) tags.now.spans.items }
-    ensures held { Hold header.now claims.now (events_of (notes_of (reverse log.now))) tags.now.held.items
-        → IfOk result (λ next. Hold header.now claims.now
-        (newest.now ∷ events_of (notes_of (reverse log.now))) next.held.items) }
+    ensures kept { Keep header.now claims.now (events_of (notes_of (reverse log.now))) tags.now.held.items
+        tags.now.left.items → IfOk result (λ next. Keep header.now claims.now
+        (newest.now ∷ events_of (notes_of (reverse log.now))) next.held.items next.left.items) }
     ensures spans { IfOk result (λ next. AreSpans header.now
         (newest.now ∷ events_of (notes_of (reverse log.now))) next.spans.items) }
 {

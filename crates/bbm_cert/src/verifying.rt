@@ -55,6 +55,7 @@ pub fn verify(
         cleansings: Vec::new(alloc),
         tags: Tags {
             held: Vec::new(alloc),
+            left: Vec::new(alloc),
             spans: Vec::new(alloc),
         },
         taken: 0,

@@ -4,7 +4,7 @@ use Rattle.bbm_certify.proofs.Common.{Known, IsCertificate, IsDue}
 use Rattle.bbm_rules.proofs.Common.{◌≡◌, ℕ, suc, ◌<◌, Bool, true, false, List, [], ◌∷◌, ◌++◌, length, Some, is_some}
 use Rattle.bbm_rules.proofs.Common.{Contains, refl, sym, ◌∙◌, ap, subst, inl, inr, true≢false, fun_ext, Claim, Taken}
 use Rattle.bbm_rules.proofs.Common.{Cover, keeps, Patterns, Listed, cleansed, cover_at, note, noted, ValidWrite}
-use Rattle.bbm_rules.proofs.Common.{last_valid, Noted, page_of, Barrier, Heading, Event, Dsb, Tag, holds_at, loses}
+use Rattle.bbm_rules.proofs.Common.{last_valid, Noted, page_of, Barrier, Heading, Event, Dsb, Tag, kept_at, loses}
 use Rattle.bbm_rules.proofs.Common.{Node, held_at, from_contains, in_left, in_right, to_contains, In, same_truth}
 use Rattle.bbm_rules.proofs.Common.{same_Some}
 use Rattle.std.proofs.lemmas.Bool.{cases_Bool}
@@ -92,11 +92,11 @@ module _ (heading : Heading) (known : Known heading) (cs : List Claim) where
 
       -- ---- tags
 
-      module _ (p root : ℕ) (tag : Tag) (below : p < heading.pes) (holds : holds_at heading Patterns p root tag h ≡ true) where
+      module _ (p root : ℕ) (tag : Tag) (below : p < heading.pes) (holds : kept_at heading Patterns p root tag h ≡ true) where
         lost_too : loses heading Patterns p tag (Dsb q dsb) h ≡ true → loses heading (Listed cs) p tag (Dsb q dsb) h ≡ true
         lost_too lost = let l = tags.least_tag heading known p tag q dsb h lost in
             tags.listed_tag heading known p tag q dsb h cs l.0 l.1.holds
-            (due (Taken p tag l.0 (suc (length h))) (below, (root, holds), tags.held_by_none heading known p tag q dsb h lost, refl, l.1))
+            (due (Taken p tag l.0 (suc (length h))) (below, (root, holds), tags.kept_by_none heading known p tag q dsb h lost, refl, l.1))
 
         same_lost : loses heading Patterns p tag (Dsb q dsb) h ≡ loses heading (Listed cs) p tag (Dsb q dsb) h
         same_lost =

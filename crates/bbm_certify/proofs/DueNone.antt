@@ -4,7 +4,7 @@ use Rattle.bbm_rules.proofs.Common.{◌≡◌, ◌⊎◌, ℕ, Bool, true, false
 use Rattle.bbm_rules.proofs.Common.{None, refl, sym, ◌∙◌, ap, inl, inr, true≢false, keeps, is_valid, Claim, Place, Two}
 use Rattle.bbm_rules.proofs.Common.{Taken, Patterns, cleansed, note, noted, proved, If, Is, ◌||◌, contains_none}
 use Rattle.bbm_rules.proofs.Common.{ValidWrite, last_valid, last_valid_after, later, Noted, page_of, Barrier, Heading}
-use Rattle.bbm_rules.proofs.Common.{Event, Init, Write, Dsb, Tag, holds_at, loses, reads, none-some}
+use Rattle.bbm_rules.proofs.Common.{Event, Init, Write, Dsb, Tag, kept_at, loses, reads, none-some}
 use Rattle.bbm_histories.specs.HistorySteps.{cleansed_after}
 use Rattle.bbm_certify.proofs.DuePlaces.{Was, was}
 use Rattle.bbm_histories.proofs.SeenFirst.{cleansed_seen}
@@ -48,12 +48,12 @@ module _ (heading : Heading) (known : Known heading) (h : List Event) (e : Event
   none_lost p tag (Dsb q dsb) differs = absurd (differs q dsb refl)
   none_lost p tag x differs = refl
 
-  -- a tag that was held still is
-  still_held : (p root : ℕ) (tag : Tag) → holds_at heading Patterns p root tag h ≡ true
-      → holds_at heading Patterns p root tag (e ∷ h) ≡ true
-  still_held p root tag held =
+  -- a tag that was kept still is
+  still_kept : (p root : ℕ) (tag : Tag) → kept_at heading Patterns p root tag h ≡ true
+      → kept_at heading Patterns p root tag (e ∷ h) ≡ true
+  still_kept p root tag held =
       proved 3 (λ r b l. If (Is b true) (If (Is l false) (Is (r || (b && not l)) true))) refl (reads heading (e ∷ h) p tag root)
-      (holds_at heading Patterns p root tag h) (loses heading Patterns p tag e h) held (none_lost p tag e other)
+      (kept_at heading Patterns p root tag h) (loses heading Patterns p tag e h) held (none_lost p tag e other)
 
   -- a place that is cleansed was cleansed
   was_cleansed : (a p : ℕ) (w : ValidWrite) → IsCleansed heading after a p w
@@ -79,7 +79,7 @@ module _ (heading : Heading) (known : Known heading) (h : List Event) (e : Event
   pub none_due : (c : Claim) → IsDue heading h e c → ⊥
   none_due (Place p a b t d) k = was_cleansed a p k.1.0 k.1.1 k.2
   none_due (Two p a b t1 d1 t2 d2) k = was_cleansed a p k.1.0 k.1.1 k.2
-  none_due (Taken p tag t d) k = k.2 (k.1.0, still_held p k.1.0 tag k.1.1)
+  none_due (Taken p tag t d) k = k.2 (k.1.0, still_kept p k.1.0 tag k.1.1)
 
   pub none_at : AreDue heading h e []
   none_at = record { sorted = tt; sound = λ c i. absurd (contains_none c i); complete = λ c k. absurd (none_due c k) }

@@ -4,7 +4,7 @@ use Rattle.bbm_rules.proofs.Common.{◌≡◌, ℕ, suc, ◌<◌, ◌≤◌, tru
 use Rattle.bbm_rules.proofs.Common.{length, refl, sym, ◌∙◌, ap, subst, true≢false, arith, and_from, and_parts, eq-eqb}
 use Rattle.bbm_rules.proofs.Common.{eqb-true, lt-ltb, ltb-true, not-true, not_from_false, or_left, Claim, nat_tests}
 use Rattle.bbm_rules.proofs.Common.{Taken, same_tag, Patterns, Listed, Barrier, Heading, Event, Dsb, Tag, Reading}
-use Rattle.bbm_rules.proofs.Common.{holds_at, loses, reads, reads_for_some, readings, any_finds, any_found}
+use Rattle.bbm_rules.proofs.Common.{kept_at, loses, reads, reads_for_some, readings, any_finds, any_found}
 use Rattle.bbm_rules.proofs.Common.{false_from_ne_true, proved, If, Is}
 use Rattle.bbm_lemmas.proofs.Words.{same_number}
 use Rattle.bbm_cert.specs.Holdings.{is_holding}
@@ -60,14 +60,14 @@ module _ (heading : Heading) (known : Known heading) (h : List Event) (q : ℕ) 
   pub taken_due : (x : Holding) (c : Claim) → IsTaken heading h (Dsb q dsb) x c → IsDue heading h (Dsb q dsb) c
   taken_due x c k =
       let may = and_parts (nat_lt x.pe heading.pes && not (reads_for_some heading now x.pe x.tag))
-      (holds_at heading Patterns x.pe x.root x.tag h) k.3 in
+      (kept_at heading Patterns x.pe x.root x.tag h) k.3 in
       let parts = and_parts (nat_lt x.pe heading.pes) (not (reads_for_some heading now x.pe x.tag)) may.0 in
       let unread = not-true (reads_for_some heading now x.pe x.tag) parts.1 in
       let first = k.2.1 k.1 in
       subst (λ (y : Claim). IsDue heading h (Dsb q dsb) y) (sym k.4) (
         ltb-true x.pe heading.pes parts.0,
         (x.root, may.1),
-        tags.held_by_none heading known x.pe x.tag q dsb h (tags.forgotten heading known x.pe x.tag q dsb h
+        tags.kept_by_none heading known x.pe x.tag q dsb h (tags.forgotten heading known x.pe x.tag q dsb h
             (Taken x.pe x.tag k.0 end ∷ []) (test_is x.pe x.tag unread k.0 ∙ first.0)),
         refl,
         least_is_first x.pe x.tag unread k.0 first.0 first.1,
@@ -97,7 +97,7 @@ module _ (heading : Heading) (known : Known heading) (h : List Event) (q : ℕ) 
             (λ zero. absurd (omega (arith, first, zero))),
             (λ some. (takes_at p tag unread t k.4.holds, (λ n lt. first_is_least p tag unread t n k.4 lt))),
           ),
-          and_from (nat_lt p heading.pes && not (reads_for_some heading now p tag)) (holds_at heading Patterns p k.1.0 tag h)
+          and_from (nat_lt p heading.pes && not (reads_for_some heading now p tag)) (kept_at heading Patterns p k.1.0 tag h)
               (and_from (nat_lt p heading.pes) (not (reads_for_some heading now p tag)) (lt-ltb p heading.pes k.0)
               (not_from_false (reads_for_some heading now p tag) unread)) k.1.1,
           ap (λ (n : ℕ). Taken p tag t n) k.3,
@@ -113,5 +113,5 @@ module _ (heading : Heading) (known : Known heading) (h : List Event) (q : ℕ) 
           k.2 (
             r.0.root,
             or_left (reads heading now p tag r.0.root)
-                (holds_at heading Patterns p r.0.root tag h && not (loses heading Patterns p tag (Dsb q dsb) h)) read,
+                (kept_at heading Patterns p r.0.root tag h && not (loses heading Patterns p tag (Dsb q dsb) h)) read,
           ))

@@ -6,12 +6,13 @@ use Rattle.bbm_rules.proofs.Common.{inl, inr, arith, and_parts, eqb-true, leb-fa
 use Rattle.bbm_rules.proofs.Common.{length-append, any_found, are_pes, heading_ok, if_so, ◌||◌, is_version, may_share}
 use Rattle.bbm_rules.proofs.Common.{world_ok, Claim, Place, Two, Taken, keeps, Patterns, cleansed, noted, Noted}
 use Rattle.bbm_rules.proofs.Common.{Barrier, Heading, Event, Isb, Msr, Dsb, Reg, Tag, AsidFrom, FromTtbr0, FromTtbr1}
-use Rattle.bbm_rules.proofs.Common.{World, Hyp, Kernel, Reading, asid_readings, holds_at, loses, readings, readings_in}
+use Rattle.bbm_rules.proofs.Common.{World, Hyp, Kernel, Reading, asid_readings, kept_at, loses, readings, readings_in}
 use Rattle.bbm_rules.proofs.Common.{readings_of, reads, register_values, same_tag, same_reg, Ttbr0El1, Ttbr1El1}
 use Rattle.bbm_rules.proofs.Common.{Ttbr0El2, VttbrEl2, Asid, Vmid, El2Tag, Ttbr1Tag, tag_number, ValidWrite}
 use Rattle.bbm_rules.proofs.Common.{to_contains}
 use Rattle.bbm_lemmas.proofs.Bools.{first_true}
 use Rattle.std.proofs.lemmas.Bool.{cases_Bool}
+use Rattle.bbm_events.specs.Heading.{words_ok}
 use Rattle.bbm_rules.specs.EventLaws.{TestsAreExact}
 use Rattle.bbm_histories.proofs.Induction.{kept_before}
 use Rattle.bbm_rules.proofs.Common.{nat_tests}
@@ -25,14 +26,15 @@ use Rattle.bbm_certify.proofs.ClaimNumbers.{BecomesClean, Counted, HasNumber, He
 use Rattle.bbm_certify.proofs.ClaimNumbers.{few_claims, more_tag, numbered}
 use Rattle.bbm_certify.proofs.DueNone.{none_due}
 use Rattle.bbm_certify.proofs.DuePlaces.{the_write, unclean}
-use Rattle.bbm_certify.proofs.Knowing.{held_now, reads_written}
+use Rattle.bbm_certify.proofs.Knowing.{kept_now, reads_written}
 
 -- ---- a log has few PEs and few readable values
 
 pub pes_of : (heading : Heading) → heading_ok heading ≡ true → heading.pes ≤ 128
 pes_of h ok =
-    let front = first_true (is_version h.version && are_pes h.version h.pes && (may_share h.version || not h.cnp)) (world_ok h.world) ok in
-    let some = first_true (is_version h.version && are_pes h.version h.pes) (may_share h.version || not h.cnp) front in
+    let front = first_true (is_version h.version && are_pes h.version h.pes && (may_share h.version || not h.cnp) && words_ok h.words) (world_ok h.world) ok in
+    let said = first_true (is_version h.version && are_pes h.version h.pes && (may_share h.version || not h.cnp)) (words_ok h.words) front in
+    let some = first_true (is_version h.version && are_pes h.version h.pes) (may_share h.version || not h.cnp) said in
     few_pes h.version h.pes (and_parts (is_version h.version) (are_pes h.version h.pes) some).1
   where
     few_pes : (version n : ℕ) → are_pes version n ≡ true → n ≤ 128
@@ -174,7 +176,7 @@ module _ (heading : Heading) (known : Known heading) (few : heading.pes ≤ 128)
       let rest : h ≡ after ++ moment = cc in before after moment rest since
 
   module _ (h : List Event) (e : Event) (p root : ℕ) (tag : Tag) (within : WithinLimits (e ∷ h))
-      (held : holds_at heading Patterns p root tag (e ∷ h) ≡ true) where
+      (held : kept_at heading Patterns p root tag (e ∷ h) ≡ true) where
     still_held : TagNumber h p tag → TagNumber (e ∷ h) p tag
     still_held k =
         (k.0, (more_tag heading h e p k.0 tag k.1.0, held_more h e p (length k.1.0.mark.before) tag (root, held) k.1.1))
@@ -210,21 +212,21 @@ module _ (heading : Heading) (known : Known heading) (few : heading.pes ≤ 128)
         )
 
   tag_number_of : (h : List Event) → keeps heading Patterns h ≡ true → WithinLimits h → (p root : ℕ) (tag : Tag)
-      → p < heading.pes → holds_at heading Patterns p root tag h ≡ true → TagNumber h p tag
+      → p < heading.pes → kept_at heading Patterns p root tag h ≡ true → TagNumber h p tag
   tag_number_of [] kept within p root tag below held = absurd (cc)
   tag_number_of (e ∷ h) kept within p root tag below held =
       elim (or_cases (reads heading (e ∷ h) p tag root)
-      (holds_at heading Patterns p root tag h && not (loses heading Patterns p tag e h)) held) [
+      (kept_at heading Patterns p root tag h && not (loses heading Patterns p tag e h)) held) [
         | inl read ↦
             elim (reads_written heading h e (known.tags.becomes h e known.proper kept)
-            (held_now heading h (λ p root tag. known.tag_held.complete p root tag h)) p root tag below read) [
+            (kept_now heading h (λ p root tag. known.tag_kept.complete p root tag h)) p root tag below read) [
               | inl was ↦ still_held h e p root tag within held
                   (tag_number_of h (was_kept heading h e kept) within.1 p root tag below was)
               | inr w ↦ now_read h e p root tag within held w.0 w.1 w.2 read
             ]
         | inr stays ↦ still_held h e p root tag within held
             (tag_number_of h (was_kept heading h e kept) within.1 p root tag below
-            (first_true (holds_at heading Patterns p root tag h) (not (loses heading Patterns p tag e h)) stays))
+            (first_true (kept_at heading Patterns p root tag h) (not (loses heading Patterns p tag e h)) stays))
       ]
 
   -- ---- what is due has a number

@@ -9,7 +9,7 @@ use Rattle.bbm_oracle_trees.specs.Past.{Past}
 use Rattle.bbm_certify.specs.DueAt.{AreDue as ArePlaces}
 use Rattle.bbm_oracle_trees.specs.ByPatterns.{StandsByPatterns}
 use Rattle.bbm_certify.specs.declared.making.Making.{Making}
-use Rattle.bbm_certify.proofs.Knowing.{held_now, reads_written}
+use Rattle.bbm_certify.proofs.Knowing.{kept_now, reads_written}
 use Rattle.bbm_certify.proofs.Whole.{due_at_dsb, written_next}
 use Rattle.bbm_histories.proofs.Induction.{kept_before}
 use Rattle.bbm_oracle_patterns.proofs.KeptNotes.{length_events, length_notes}
@@ -101,7 +101,7 @@ module _ (heading : Heading) (known : Known heading) (m : Making) (h : List Even
     history = stands;
     places = written_next heading h e m.places.items new.places.items was.places places;
     known = readable (reads_written heading h e (known.tags.becomes h e known.proper kept)
-        (held_now heading h (λ p root tag. known.tag_held.complete p root tag h))) was.known;
+        (kept_now heading h (λ p root tag. known.tag_kept.complete p root tag h))) was.known;
   }
 
 -- ---- the certificate

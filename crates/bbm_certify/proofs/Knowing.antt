@@ -2,16 +2,16 @@
 use Rattle.bbm_certify.proofs.Common.{has, Holding, IsKnown, ReadsAreWritten}
 use Rattle.bbm_rules.proofs.Common.{◌≡◌, ℕ, ◌≤◌, true, not, ◌&&◌, List, [], ◌∷◌, length, refl, ap, inl, inr, arith}
 use Rattle.bbm_rules.proofs.Common.{length-append, and_parts, or_cases, Patterns, Heading, Event, Dsb, Msr, Reg, Tag}
-use Rattle.bbm_rules.proofs.Common.{Issued, TakenAway, holds_at, loses, reads}
+use Rattle.bbm_rules.proofs.Common.{Issued, TakenAway, kept_at, loses, reads}
 use Rattle.std.proofs.lemmas.Bool.{cases_Bool}
-use Rattle.bbm_rules.specs.Sentences.{HoldsTag}
+use Rattle.bbm_rules.specs.Sentences.{KeptTag}
 use Rattle.bbm_histories.specs.TagSteps.{BecomesReadable}
 
 module _ (heading : Heading) (h : List Event) where
-  -- what is readable is held
-  pub held_now : (held : (p root : ℕ) (tag : Tag) → HoldsTag heading Patterns p root tag h → holds_at heading Patterns p root tag h ≡ true)
-      → (p root : ℕ) (tag : Tag) → reads heading h p tag root ≡ true → holds_at heading Patterns p root tag h ≡ true
-  held_now held p root tag read = held p root tag (record {
+  -- what is readable is kept
+  pub kept_now : (held : (p root : ℕ) (tag : Tag) → KeptTag heading Patterns p root tag h → kept_at heading Patterns p root tag h ≡ true)
+      → (p root : ℕ) (tag : Tag) → reads heading h p tag root ≡ true → kept_at heading Patterns p root tag h ≡ true
+  kept_now held p root tag read = held p root tag (record {
     newer = [];
     older = h;
     split = refl;
@@ -32,7 +32,7 @@ module _ (heading : Heading) (h : List Event) where
 
   module _ (e : Event) where
     pub reads_written : BecomesReadable heading h e
-        → ((p root : ℕ) (tag : Tag) → reads heading h p tag root ≡ true → holds_at heading Patterns p root tag h ≡ true)
+        → ((p root : ℕ) (tag : Tag) → reads heading h p tag root ≡ true → kept_at heading Patterns p root tag h ≡ true)
         → ReadsAreWritten heading h e
     reads_written becomes held p root tag below read = elim (cases_Bool (reads heading h p tag root)) [
       | inl was ↦ inl (held p root tag was)
@@ -48,11 +48,11 @@ module _ (heading : Heading) (h : List Event) where
       pub known_next : IsKnown heading (e ∷ h) new
       known_next p root tag below holds =
           elim (or_cases (reads heading (e ∷ h) p tag root)
-          (holds_at heading Patterns p root tag h && not (loses heading Patterns p tag e h)) holds) [
+          (kept_at heading Patterns p root tag h && not (loses heading Patterns p tag e h)) holds) [
             | inl read ↦ elim (written p root tag below read) [
               | inl held ↦ kept p root tag (all p root tag below held)
               | inr w ↦ added p root w.1 w.0 tag w.2 read
             ]
             | inr stays ↦ kept p root tag (all p root tag below
-                (and_parts (holds_at heading Patterns p root tag h) (not (loses heading Patterns p tag e h)) stays).0)
+                (and_parts (kept_at heading Patterns p root tag h) (not (loses heading Patterns p tag e h)) stays).0)
           ]

@@ -4,7 +4,7 @@ use Rattle.bbm_certify.proofs.Common.{allows, Known, IsLeast, TakenAt}
 use Rattle.bbm_rules.proofs.Common.{◌≡◌, ℕ, suc, ◌<◌, Bool, true, false, not, ◌&&◌, nat_le, List, [], ◌∷◌, ◌++◌, length}
 use Rattle.bbm_rules.proofs.Common.{map, Contains, refl, sym, ◌∙◌, ap, subst, inl, inr, true≢false, arith, and_parts}
 use Rattle.bbm_rules.proofs.Common.{le-leb, not-true, or_cases, Claim, Taken, Trust, Patterns, Listed, Barrier, Heading}
-use Rattle.bbm_rules.proofs.Common.{Event, Dsb, Tag, Issued, completes, reaches, unanswered, Open, TakenAway, holds_at}
+use Rattle.bbm_rules.proofs.Common.{Event, Dsb, Tag, Issued, completes, reaches, unanswered, Open, TakenAway, kept_at}
 use Rattle.bbm_rules.proofs.Common.{itself, loses, read_since, reads, reads_for_some, takes_tag, any_finds, any_found}
 use Rattle.bbm_rules.proofs.Common.{from_contains, in_map, to_contains, In, get_or, or_parts, proved, If, Is}
 use Rattle.bbm_lemmas.proofs.Bools.{second_false}
@@ -97,18 +97,18 @@ module _ (heading : Heading) (known : Known heading) (p : ℕ) (tag : Tag) (q : 
       → loses heading Patterns p tag (Dsb q dsb) h ≡ true
   forgotten cs e = let k = taken_by (Listed cs) e in taken k.t k.away k.newest Patterns refl
 
-  -- no root holds a tag that was taken away
-  pub held_by_none : loses heading Patterns p tag (Dsb q dsb) h ≡ true → Holding heading (Dsb q dsb ∷ h) p tag → ⊥
-  held_by_none lost k =
+  -- a tag that was taken away is kept for no page
+  pub kept_by_none : loses heading Patterns p tag (Dsb q dsb) h ≡ true → Holding heading (Dsb q dsb ∷ h) p tag → ⊥
+  kept_by_none lost k =
       elim (or_cases (reads heading (Dsb q dsb ∷ h) p tag k.0)
-      (holds_at heading Patterns p k.0 tag h && not (loses heading Patterns p tag (Dsb q dsb) h)) k.1) [
+      (kept_at heading Patterns p k.0 tag h && not (loses heading Patterns p tag (Dsb q dsb) h)) k.1) [
         | inl reading ↦
             let parts = and_parts (answered_by dsb (λ b. tag_waits heading p tag q b h))
             (not (reads_for_some heading (Dsb q dsb ∷ h) p tag)) (sym (known.tag_steps.lost p tag q dsb h) ∙ lost) in
             true≢false (sym (some_reading heading (Dsb q dsb ∷ h) p tag k.0 reading)
             ∙ not-true (reads_for_some heading (Dsb q dsb ∷ h) p tag) parts.1)
         | inr stays ↦
-            let parts = and_parts (holds_at heading Patterns p k.0 tag h)
+            let parts = and_parts (kept_at heading Patterns p k.0 tag h)
             (not (loses heading Patterns p tag (Dsb q dsb) h)) stays in
             true≢false (sym lost ∙ not-true (loses heading Patterns p tag (Dsb q dsb) h) parts.1)
       ]

@@ -6,7 +6,7 @@ use Rattle.bbm_rules.specs.Claims.Trust.{Patterns}
 use Rattle.bbm_rules.specs.BrokenLaws.{NotesKeepEvents}
 use Rattle.bbm_rules.specs.EventLaws.{AnsweredBySentence, TestsAreExact}
 use Rattle.bbm_rules.specs.HeldLaws.{CleansedBySentence, LastValidBySentence}
-use Rattle.bbm_rules.specs.TagLaws.{TagHeldBySentence}
+use Rattle.bbm_rules.specs.TagLaws.{TagKeptBySentence}
 use Rattle.bbm_rules.specs.TreeLaws.{TreeBySentence}
 use Rattle.bbm_histories.specs.ContentLaws.{FreshStays}
 use Rattle.bbm_histories.specs.HolderLaws.{TagClaimsAfter, TagsAfter, TagsOfRoots}
@@ -31,7 +31,7 @@ pub record Known (heading : Heading) : Type 0 where
   pub one_position : OnePosition heading Patterns
   pub pattern_steps : PatternsAfter heading
   pub tag_claim_steps : TagClaimsAfter heading
-  pub tag_held : TagHeldBySentence heading Patterns
+  pub tag_kept : TagKeptBySentence heading Patterns
   pub tag_steps : TagsAfter heading
   pub tags : TagsOfRoots heading Patterns
   pub takes_alike : TakenAlike heading

@@ -17,7 +17,7 @@ use Rattle.bbm_rules.specs.Places.{page_of}
 use Rattle.bbm_rules.specs.Prelude.{Heading, Event, Tag, El2Tag, Vmid, Asid, Ttbr1Tag}
 use Rattle.bbm_rules.specs.Reach.{Issued}
 use Rattle.bbm_rules.specs.Sentences.{TakenAway}
-use Rattle.bbm_rules.specs.Tags.{holds_at}
+use Rattle.bbm_rules.specs.Tags.{kept_at}
 use Rattle.bbm_rules.specs.Tree.{Node, tree}
 
 -- ---- orders
@@ -78,13 +78,13 @@ module _ (heading : Heading) where
     pub is_last : last_valid node.kind node.level place h ≡ Some w
     pub is_clean : cleansed heading Patterns place p w.since ≡ true
 
-  -- some root holds the tag at p
+  -- some root holds the tag at p, or one that was given up left it there
   abbrev pub Holding : List Event → ℕ → Tag → Type 0
-  Holding h p tag = (root : ℕ) × (holds_at heading Patterns p root tag h ≡ true)
+  Holding h p tag = (root : ℕ) × (kept_at heading Patterns p root tag h ≡ true)
 
   -- The claim is due at the event: the place is cleansed at the PE after it, and wasn't before; or some root held the
-  -- tag at the PE before it, and none does after it. A claim of a place has one step where the place is cleansed in one,
-  -- and the positions are the least that make the claim true.
+  -- tag at the PE before it or had left it there, and none does after it. A claim of a place has one step where the
+  -- place is cleansed in one, and the positions are the least that make the claim true.
   abbrev pub IsDue : List Event → Event → Claim → Type 0
   IsDue h e (Place p a b t d) = (p < heading.pes)
       × ((w : ValidWrite) × IsCleansed (noted heading Patterns (e ∷ h)) a p w

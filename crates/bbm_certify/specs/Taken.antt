@@ -6,7 +6,7 @@ use Rattle.bbm_rules.specs.Claims.Trust.{Patterns}
 use Rattle.bbm_rules.specs.Lists.{any}
 use Rattle.bbm_rules.specs.Prelude.{Barrier, Heading, Event, Dsb, Msr, Reg, Tag}
 use Rattle.bbm_rules.specs.Sentences.{completes_for, issues}
-use Rattle.bbm_rules.specs.Tags.{holds_at, reads, reads_for_some}
+use Rattle.bbm_rules.specs.Tags.{kept_at, reads, reads_for_some}
 use Rattle.bbm_histories.specs.ClaimSteps.{tag_waits_at}
 use Rattle.bbm_histories.specs.HistorySteps.{answered_by}
 use Rattle.bbm_cert.specs.Holdings.{has}
@@ -28,10 +28,10 @@ module _ (heading : Heading) where
   IsFirstTaking p tag q dsb h t = (t ≡ 0 → (n : ℕ) → takes p tag q dsb h n ≡ false)
       × (0 < t → (takes p tag q dsb h t ≡ true) × ((n : ℕ) → n < t → takes p tag q dsb h n ≡ false))
 
-  -- the root holds the tag at p after h, a PE of the header, and the tag isn't readable there after `now`
+  -- the tag is kept for the page at p after h, a PE of the header, and isn't readable there after `now`
   abbrev pub may_lose : List Event → List Event → Holding → Bool
   may_lose h now x = (nat_lt x.pe heading.pes && not (reads_for_some heading now x.pe x.tag))
-      && holds_at heading Patterns x.pe x.root x.tag h
+      && kept_at heading Patterns x.pe x.root x.tag h
 
   -- the claim that the event, which comes behind h, takes the tag away
   abbrev pub IsTaken : List Event → Event → Holding → Claim → Type 0
@@ -43,12 +43,12 @@ module _ (heading : Heading) where
   abbrev pub AreTaken : List Event → Event → List Holding → Claim → Type 0
   AreTaken h e known c = (x : Holding) × In known x × IsTaken h e x c
 
-  -- they have all that is held
+  -- they have all that is kept
   abbrev pub IsKnown : List Event → List Holding → Type 0
-  IsKnown h known = (p root : ℕ) (tag : Tag) → p < heading.pes → holds_at heading Patterns p root tag h ≡ true
+  IsKnown h known = (p root : ℕ) (tag : Tag) → p < heading.pes → kept_at heading Patterns p root tag h ≡ true
       → has known p root tag ≡ true
 
-  -- what is readable at p after the event was so before it, and then it is held, or the event is a register write of p
+  -- what is readable at p after the event was so before it, and then it is kept, or the event is a register write of p
   abbrev pub ReadsAreWritten : List Event → Event → Type 0
   ReadsAreWritten h e = (p root : ℕ) (tag : Tag) → p < heading.pes → reads heading (e ∷ h) p tag root ≡ true
-      → (holds_at heading Patterns p root tag h ≡ true) ⊎ ((reg : Reg) × (value : ℕ) × (e ≡ Msr p reg value))
+      → (kept_at heading Patterns p root tag h ≡ true) ⊎ ((reg : Reg) × (value : ℕ) × (e ≡ Msr p reg value))

@@ -1,7 +1,7 @@
 //! The claims of the tags that a DSB takes away.
 //! Source: project's own choice.
 
-ghost use Rattle.std.specs.Prelude.{◌≡◌, ◌<◌, ◌+◌, ◌-◌, ◌^◌, ◌∷◌, ◌&&◌, ◌||◌, ◌==◌, ℕ, true, List, length, reverse};
+ghost use Rattle.std.specs.Prelude.{◌≡◌, ◌<◌, ◌+◌, ◌-◌, ◌^◌, ◌∷◌, ◌&&◌, ◌||◌, ◌==◌, ℕ, List, length, reverse};
 ghost use Rattle.std.specs.Prelude.{take, IfOk, OnOk};
 ghost use Rattle.bbm_regimes.specs.declared.regime.Tag.{Tag as TheTag};
 ghost use Rattle.bbm_events.specs.declared.event.Event.{Event as TheEvent};
@@ -17,7 +17,7 @@ use bbm_cert::holdings::has;
 use bbm_cert::marks::issues;
 use bbm_cert::taken::{Answer, Taking, is_answered, is_readable, takes_away};
 use bbm_events::{Claim, Event, Header};
-use bbm_oracle_tags::{Holding, Reading, holds_at, readings_at};
+use bbm_oracle_tags::{Holding, Reading, kept_at, readings_at};
 use bbm_regimes::{NoMemory, Pe};
 use bbm_rules::{law_answered, law_equality_tests};
 use std::alloc::Global;
@@ -79,7 +79,7 @@ fn first_taking(
     Ok(0)
 }
 
-/// Whether the root holds the tag at the PE before the last of the events, and the tag isn't readable there after it.
+/// Whether the tag is kept for the page at the PE before the last of the events, and isn't readable there after it.
 fn may_lose(
     alloc: Global,
     header: &Header,
@@ -95,7 +95,7 @@ fn may_lose(
     {
         return Ok(false);
     }
-    holds_at(alloc, header, before, holding)
+    kept_at(alloc, header, before, holding)
 }
 
 /// Adds the claim that the tag is taken away at the PE, where it is due at this DSB of the issuer, the last of the events.

@@ -24,7 +24,7 @@ walk_short : (heading : Heading) (h : List Event) (x : Entry) (rs : List Read) �
 walk_short heading h x [] le e = omega (arith, le)
 walk_short heading h x (r ∷ rs) le e =
     let a = and_parts (may_extend heading h x r.place r.value) _ e in
-    let t = table_of (desc_of x.last.kind x.last.level x.last.value) (page_of r.place) (first_true _ _ (first_true _ _ a.0)) in
+    let t = table_of (desc_of x.last.kind x.last.level x.last.value) (page_of r.place) (and_parts _ _ (first_true _ _ (first_true _ _ a.0))).1 in
     let low : x.last.level < 3 = table_above x.last.kind x.last.level x.last.value (page_of r.place) t.0 t.1 le t.2 t.3 in
     let rest : length rs + suc x.last.level ≤ 3 = walk_short heading h (extended x r.place r.value) rs (omega (arith, low)) a.1 in
     omega (arith, rest)

@@ -5,12 +5,13 @@ use Rattle.bbm_counterrun.proofs.Common.{conflicts_with, is_stale, combined, Has
 use Rattle.bbm_counterrun.proofs.Common.{Read, reads_of, run_of, made_by, holds_leaf, combined_by, first_events}
 use Rattle.bbm_counterrun.proofs.Common.{is_plain, is_within, may_walk, outlives, started_by, walked_by, least_reads}
 use Rattle.bbm_counterrun.proofs.Common.{way_to}
-use Rattle.bbm_rules.proofs.Common.{◌≡◌, ℕ, ◌<◌, Bool, true, ◌&&◌, ◌==◌, List, [], ◌∷◌, ◌++◌, length, filter_map}
-use Rattle.bbm_rules.proofs.Common.{reverse, Option, Some, None, inl, inr, refl, sym, ◌∙◌, ap, subst, and_from}
+use Rattle.bbm_rules.proofs.Common.{◌≡◌, ℕ, ◌<◌, Bool, true, false, ◌&&◌, ◌==◌, List, [], ◌∷◌, ◌++◌, length, filter_map}
+use Rattle.bbm_rules.proofs.Common.{reverse, Option, Some, None, inl, inr, refl, sym, ◌∙◌, ap, subst, and_from, not, not-true}
 use Rattle.bbm_rules.proofs.Common.{and_parts, eqb-true, or_left, In, core_in, core_of, differ, keeps, noted, any}
 use Rattle.bbm_rules.proofs.Common.{page_of, Heading, Event, Write, Node, node_of}
 use Rattle.bbm_lemmas.proofs.Bools.{first_true}
 use Rattle.bbm_lemmas.proofs.Elements.{contains_head}
+use Rattle.bbm_tlb_machine.specs.Entry.{is_given_up}
 use Rattle.bbm_counterrun.specs.Ways.{places_to}
 use Rattle.bbm_counterrun.proofs.LeastGoals.{HasLeast, HaveGoals, all_least, first_if_least, goal_at}
 use Rattle.bbm_counterrun.proofs.PlainTest.{number_by, plain_parts, plain_run}
@@ -29,17 +30,19 @@ abbrev stale_in : ℕ → ℕ → Sight → Bool
 stale_in place value s = s.0.last.place == place && differ (core_in s.1) (core_of s.0.last.kind s.0.last.level value)
 
 conflict_is : (heading : Heading) (h : List Event) (pe place value : ℕ) (o : Option ℕ) (x : Entry)
-    → conflicts_with heading h (Write pe place value) (combined_by o x) ≡ any (is_stale place value) (parts_of x)
+    → conflicts_with heading h (Write pe place value) (combined_by o x)
+    ≡ (not (is_given_up heading h x) && any (is_stale place value) (parts_of x))
 conflict_is heading h pe place value None x = refl
 conflict_is heading h pe place value (Some n) x = refl
 
 module _ (heading : Heading) (laws : WayLaws heading) (h : List Event) (kept : keeps heading Patterns h ≡ true) where
-  of_fine : (x : Entry) → Fine heading Patterns h x → IsFineWalk heading h x
-  of_fine x f = (f.shape.is_pe, f.shape.begins, f.shape.chained, on_way heading laws h kept x f)
+  of_fine : (x : Entry) → Fine heading Patterns h x → is_given_up heading h x ≡ false → IsFineWalk heading h x
+  of_fine x f stays = (f.shape.is_pe, f.shape.begins, f.shape.chained, on_way heading laws h kept x f stays)
 
-  fine_walk : (o : Option ℕ) (x : Entry) → Fine heading Patterns h (combined_by o x) → IsFineWalk heading h x
-  fine_walk None x f = of_fine x f
-  fine_walk (Some n) x f = of_fine (combined n x) f
+  fine_walk : (o : Option ℕ) (x : Entry) → Fine heading Patterns h (combined_by o x) → is_given_up heading h x ≡ false
+      → IsFineWalk heading h x
+  fine_walk None x f stays = of_fine x f stays
+  fine_walk (Some n) x f stays = of_fine (combined n x) f stays
 
   module _ (plan : Plan) (w : IsFineWalk heading h (walked_by heading plan)) where
     -- each read of the plan has its goal
@@ -56,6 +59,7 @@ module _ (heading : Heading) (laws : WayLaws heading) (h : List Event) (kept : k
         )
 
     module _ (pe place value : ℕ) (leaf : holds_leaf heading h place ≡ true)
+        (stays : is_given_up heading h (walked_by heading plan) ≡ false)
         (meets : any (is_stale place value) (parts_of (walked_by heading plan)) ≡ true) where
       last_stale : is_stale place value (walked_by heading plan).last ≡ true
       last_stale =
@@ -92,7 +96,8 @@ module _ (heading : Heading) (laws : WayLaws heading) (h : List Event) (kept : k
           and_from _ _ (and_from _ _ (and_from _ _ within same.0)
           (sym (outlives_same heading (walked_by heading plan) y same.1 plan.starts plan.combines h) ∙ out))
           (conflict_is heading h pe place value plan.combines y
-          ∙ or_left (is_stale place value y.last) _ (sym (ap (stale_in place value) same.1) ∙ last_stale))
+          ∙ and_from _ _ (ap not (sym (ap (λ (s : Sight). is_given_up heading h s.0) same.1) ∙ stays))
+          (or_left (is_stale place value y.last) _ (sym (ap (stale_in place value) same.1) ∙ last_stale)))
 
       has_least : is_within plan (length h) ≡ true → may_walk heading (first_events plan.starts h) plan ≡ true
           → outlives heading (walked_by heading plan) plan.starts plan.combines h ≡ true
@@ -127,5 +132,7 @@ least_list heading laws h pe place value plan is_log kept leaf k =
     let f : Fine heading Patterns h (combined_by plan.combines x)
     = laws.fine.fine (reverse (run_of plan (reverse h))) _ is_log kept (plain_run heading laws.runs h (Write pe place value) plan k)
     (record { number = number_by plan.combines (made_by plan); entry = combined_by plan.combines x }) (contains_head [] _) in
-    has_least heading laws h kept plan (fine_walk heading laws h kept plan.combines x f) pe place value leaf
-    (sym (conflict_is heading h pe place value plan.combines x) ∙ a.3) a.0 a.1 a.2
+    let c = and_parts (not (is_given_up heading h x)) _ (sym (conflict_is heading h pe place value plan.combines x) ∙ a.3) in
+    let stays : is_given_up heading h x ≡ false = not-true (is_given_up heading h x) c.0 in
+    has_least heading laws h kept plan (fine_walk heading laws h kept plan.combines x f stays) pe place value leaf stays c.1
+    a.0 a.1 a.2

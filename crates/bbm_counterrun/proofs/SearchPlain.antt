@@ -8,6 +8,7 @@ use Rattle.bbm_rules.proofs.Common.{[], ◌∷◌, ◌++◌, length, take, drop,
 use Rattle.bbm_rules.proofs.Common.{subst, and_left, and_right, drop_at, length-drop, length-reverse, reverse-append}
 use Rattle.bbm_rules.proofs.Common.{take-append-drop, ◌>>=◌, any, if_so, Heading, Event, Write}
 use Rattle.std.proofs.lemmas.Bool.Decides.{nat_tests}
+use Rattle.bbm_tlb_machine.specs.Entry.{is_given_up}
 use Rattle.bbm_counterrun.specs.Tested.{walk_by}
 
 -- the events that were taken at a moment
@@ -67,14 +68,18 @@ module _ (heading : Heading) (es : List Event) (place value k p : ℕ) (kind : K
       × (walked_by heading (plan_of k p kind number (r ∷ rs) o) ≡ x)
   entry_is r rs x o e = made_some (starts r) (first r) (λ x. may_extend_by heading (first_events k (reverse es)) x rs) (λ x. extended_by x rs) x (sym (walk_is r rs) ∙ e)
 
-  -- the combine changes no part
+  -- whether the entry conflicts with the write
+  abbrev conflicts : Entry → Bool
+  conflicts x = not (is_given_up heading (reverse es) x) && any (is_stale place value) (parts_of x)
+
+  -- the combine changes no part, and not where the entry is from
   stale_is : (x : Entry) (o : Option ℕ)
-      → conflicts_with heading (reverse es) (Write 0 place value) (combined_by o x) ≡ any (is_stale place value) (parts_of x)
+      → conflicts_with heading (reverse es) (Write 0 place value) (combined_by o x) ≡ conflicts x
   stale_is x None = refl
   stale_is x (Some n) = refl
 
   pub try_fresh : (reads : List Read) (made : Option Entry) (x : Entry) → made ≡ walk reads → made ≡ Some x
-      → any (is_stale place value) (parts_of x) ≡ false → FirstCombine (test reads) None
+      → (not (is_given_up heading (reverse es) x) && any (is_stale place value) (parts_of x)) ≡ false → FirstCombine (test reads) None
   try_fresh [] made x is some none o = cc
   try_fresh (r ∷ rs) made x is some none o =
       and_right _ _ (ap (λ y. conflicts_with heading (reverse es) (Write 0 place value) (combined_by o y))
@@ -86,7 +91,7 @@ module _ (heading : Heading) (es : List Event) (place value k p : ℕ) (kind : K
     outlives_is x (Some n) = λ i.
         not (sym (are k n x) i) && is_stage2 x.kind && not (sym (are n (length (reverse es)) (combined n x)) i)
 
-    test_is : (r : Read) (rs : List Read) (x : Entry) (o : Option ℕ) → walk (r ∷ rs) ≡ Some x → any (is_stale place value) (parts_of x) ≡ true
+    test_is : (r : Read) (rs : List Read) (x : Entry) (o : Option ℕ) → walk (r ∷ rs) ≡ Some x → conflicts x ≡ true
         → test (r ∷ rs) o ≡ (combine_within k (length (reverse es)) o && outlives_by heading answers x k (length (reverse es)) o)
     test_is r rs x o e stale =
         let w = entry_is r rs x o e in
@@ -99,7 +104,7 @@ module _ (heading : Heading) (es : List Event) (place value k p : ℕ) (kind : K
         ∙ bounds_pass k (length h) (combine_within k (length h) o) _ some (omega (arith, le, length-reverse es))
 
     pub try_chosen : (reads : List Read) (made : Option Entry) (x : Entry) → made ≡ walk reads → made ≡ Some x
-        → any (is_stale place value) (parts_of x) ≡ true → (found : Option (Option ℕ))
+        → (not (is_given_up heading (reverse es) x) && any (is_stale place value) (parts_of x)) ≡ true → (found : Option (Option ℕ))
         → FirstCombine (λ o. combine_within k (length es) o && outlives_by heading answers x k (length es) o) found
         → FirstCombine (test reads) found
     try_chosen [] made x is some stale found f = cc

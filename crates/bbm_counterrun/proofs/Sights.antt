@@ -3,6 +3,7 @@ use Rattle.bbm_counterrun.proofs.Common.{start_of, Entry, age_by, desc_in, is_le
 use Rattle.bbm_counterrun.proofs.Common.{is_stage2, may_extend, may_start, must_go, started, takes_by, Plan, Read}
 use Rattle.bbm_counterrun.proofs.Common.{extended_by, forbids, is_forbidden, may_extend_by, may_walk, outlives}
 use Rattle.bbm_counterrun.proofs.Common.{started_by, walked_by}
+use Rattle.bbm_tlb_machine.specs.Entry.{is_given_up}
 use Rattle.bbm_rules.proofs.Common.{◌≡◌, ℕ, suc, ◌+◌, ◌-◌, ◌≤◌, subst, Bool, true, ◌&&◌, ◌||◌, not, nat_le, nat_lt}
 use Rattle.bbm_rules.proofs.Common.{List, [], ◌∷◌, length, Option, Some, None, refl, ◌∙◌, ap, and_from, and_parts, Kind}
 use Rattle.bbm_rules.proofs.Common.{desc_of, is_valid, Desc, EntryHead, tag_of, taken, is_global, is_that, some}
@@ -107,10 +108,11 @@ module _ (heading : Heading) where
       → IsLikeRead heading h x.pe x.last.kind (suc x.last.level) r l → may_extend heading h x r.place r.value ≡ true
       → may_extend heading h y l.place l.value ≡ true
   extend_same h x y r l k c m =
-      subst (λ (s : Sight). is_that (next_in s.1) (page_of l.place) && is_readable heading h l.place s.0.pe l.value
-      && is_valid s.0.last.kind (suc s.0.last.level) l.value ≡ true) k (and_from _ _ (and_from _ _
-      (subst (λ place. is_that (next_in (desc_in x.last)) (page_of place) ≡ true) c.place (first_true _ _ (first_true _ _ m)))
-      c.readable) c.valid)
+      let both = and_parts _ _ (first_true _ _ (first_true _ _ m)) in
+      subst (λ (s : Sight). not (is_given_up heading h s.0) && is_that (next_in s.1) (page_of l.place)
+      && is_readable heading h l.place s.0.pe l.value && is_valid s.0.last.kind (suc s.0.last.level) l.value ≡ true) k
+      (and_from _ _ (and_from _ _ (and_from _ _ both.0
+      (subst (λ place. is_that (next_in (desc_in x.last)) (page_of place) ≡ true) c.place both.1)) c.readable) c.valid)
 
   walks_same : (h : List Event) (x y : Entry) (rs ls : List Read) → sight_of x ≡ sight_of y
       → LikeReads heading h x.pe x.last.kind (suc x.last.level) rs ls → may_extend_by heading h x rs ≡ true

@@ -14,6 +14,7 @@ use Rattle.bbm_rules.specs.Tree.{tree}
 use Rattle.bbm_rules.specs.TreeLaws.{PagesOfRoots, TreeBySentence}
 use Rattle.bbm_histories.specs.PositionLaws.{SingleNode}
 use Rattle.bbm_tlb_machine.specs.Invariant.{Holding, Placed}
+use Rattle.bbm_tlb_machine.specs.Entry.{is_given_up}
 use Rattle.bbm_tlb_machine.specs.MachineLaws.{EntriesAreFine}
 use Rattle.bbm_counterrun.specs.RefusedWrite.{leaf_among}
 use Rattle.bbm_counterrun.proofs.LeastGoals.{HasGoal, HaveGoals, goal_at}
@@ -105,12 +106,13 @@ module _ (heading : Heading) (laws : WayLaws heading) (h : List Event) (kept : k
   abbrev notes : List Noted
   notes = noted heading Patterns h
 
-  -- each part of an entry stands on the way
-  pub on_way : (x : Entry) → Fine heading Patterns h x → (part : Part) → In (parts_of x) part → IsOnWay heading h part
-  on_way x f part i =
+  -- each part of an entry stands on the way, while the entry's root wasn't given up
+  pub on_way : (x : Entry) → Fine heading Patterns h x → is_given_up heading h x ≡ false → (part : Part) → In (parts_of x) part
+      → IsOnWay heading h part
+  on_way x f stays part i =
       let c : Contains (parts_of x) part = to_contains (parts_of x) part i in
-      let p : Placed heading Patterns h x.root part = f.placed part c in
-      let q : Holding heading Patterns h part = f.holding part c in
+      let p : Placed heading Patterns h x.root part = (f.rooted stays).placed part c in
+      let q : Holding heading Patterns h part = (f.rooted stays).holding part c in
       let valid : is_valid part.kind part.level q.value ≡ true = laws.held.valid part.kind part.level part.place notes q.value q.holds in
       record {
         node = p.node;

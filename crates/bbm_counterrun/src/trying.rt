@@ -1,9 +1,12 @@
 //! The VMIDs and ASIDs with which a plan is plain.
 
-ghost use Rattle.std.specs.Prelude.{◌≡◌, ℕ, ◌<◌, ◌≤◌, ◌++◌, ◌∷◌, [], List, length, reverse, IfOk};
+ghost use Rattle.std.specs.Prelude.{◌≡◌, ℕ, ◌<◌, ◌≤◌, ◌&&◌, not, ◌++◌, ◌∷◌, [], List, length, reverse, IfOk};
 ghost use Rattle.bbm_counterrun.specs.TlbiAnswers.{IsAnswers};
 ghost use Rattle.bbm_counterrun.specs.Searching as spec;
 ghost use Rattle.bbm_events.specs.declared.event.Event.TheVariants.{Write};
+ghost use Rattle.bbm_rules.specs.Lists.{any};
+ghost use Rattle.bbm_tlb_machine.specs.Entry.{is_given_up as given_up, parts_of};
+ghost use Rattle.bbm_tlb_machine.specs.Safe.{is_stale as is_stale_part};
 
 use crate::combining::choose;
 use crate::numbers::numbers_at;
@@ -11,6 +14,15 @@ use crate::read::Read;
 use crate::search::{Choice, Search};
 use crate::walk::walk;
 use bbm_regimes::{NoMemory, Pe};
+use bbm_tlb_machine::{Entry, is_given_up};
+
+/// Whether the entry would conflict with the write, where it is kept till then.
+fn is_stale(search: &Search, entry: &Entry) -> bool
+    ensures { result ≡ (not (given_up search.now.header.now (reverse search.now.events.now) entry.now)
+        && any (is_stale_part search.now.place search.now.value) (parts_of entry.now)) }
+{
+    !is_given_up(search.header, search.events, entry) && entry.is_stale(search.place, search.value)
+}
 
 /// How a walk over these reads conflicts with the write: as it is, or combined as early as it can be. None where it
 /// doesn't. The walk is made when so many events were taken. `NoMemory` where there is none.
@@ -31,7 +43,7 @@ pub fn try_number(
 {
     match walk(search, starts, pe, number, reads)? {
         Some(entry) => {
-            if entry.is_stale(search.place, search.value) {
+            if is_stale(search, &entry) {
                 let found = choose(search, &entry, starts as u64)?;
                 Ok(found)
             } else {

@@ -7,6 +7,7 @@ use Rattle.bbm_regimes.specs.declared.regime.Kind.TheVariants.{El2, S2, Ttbr1}
 use Rattle.bbm_regimes.specs.declared.regime.World.{World}
 use Rattle.bbm_regimes.specs.declared.regime.World.TheVariants.{Hyp, Kernel}
 use Rattle.bbm_regimes.specs.World.{start_of}
+use Rattle.bbm_events.specs.Heading.{words_ok}
 
 some_joined : (start pages : ℕ) → are_s2_pages start pages ≡ true → 0 < pages
 some_joined start pages e = by (start == 0) e
@@ -59,9 +60,11 @@ start (Kernel world) S2 e = omega arith
 
 pub proper : (heading : Heading) → heading_ok heading ≡ true → Proper heading
 proper heading e =
-    let all = and_parts (is_version heading.version && are_pes heading.version heading.pes && (may_share heading.version || not heading.cnp))
-    (world_ok heading.world) e in
-    let first = and_parts (is_version heading.version && are_pes heading.version heading.pes) (may_share heading.version || not heading.cnp) all.0 in
+    let all = and_parts (is_version heading.version && are_pes heading.version heading.pes && (may_share heading.version || not heading.cnp)
+    && words_ok heading.words) (world_ok heading.world) e in
+    let said = and_parts (is_version heading.version && are_pes heading.version heading.pes && (may_share heading.version || not heading.cnp))
+    (words_ok heading.words) all.0 in
+    let first = and_parts (is_version heading.version && are_pes heading.version heading.pes) (may_share heading.version || not heading.cnp) said.0 in
     let pes = and_parts (is_version heading.version) (are_pes heading.version heading.pes) first.0 in
     let least : 1 ≤ heading.pes = leb-true 1 heading.pes
     (and_parts (nat_le 1 heading.pes) (nat_le heading.pes (cond (nat_lt heading.version 3) 64 128)) pes.1).0 in

@@ -8,15 +8,19 @@ use Rattle.bbm_rules.proofs.Common.{VttbrEl2, Ttbr0El1, Ttbr1El1, Tag, El2Tag, V
 use Rattle.bbm_rules.proofs.Common.{Event, Init, Null, Root, Unroot, Dsb, Isb, Msr, keeps, Trust, note, noted, among}
 use Rattle.bbm_rules.proofs.Common.{if_so, Noted, events_of, is_fresh, is_null, may_be_fresh, Issued, base_of}
 use Rattle.bbm_rules.proofs.Common.{kind_of_reg, register_values, same_reg, Declared, is_root, kind_in_world, roots_of}
-use Rattle.bbm_rules.proofs.Common.{IsDeclared, TakenAway, ReadsTag, holds_at, holds_tag, loses, reads, in_tree}
+use Rattle.bbm_rules.proofs.Common.{IsDeclared, TakenAway, ReadsTag, ends, gives_up, holds_at, holds_tag, left_at}
+use Rattle.bbm_rules.proofs.Common.{left_tag, loses, reads, in_tree, not-true, false_from_ne_true}
+use Rattle.bbm_lemmas.proofs.Bools.{first_none}
+use Rattle.bbm_lemmas.proofs.Words.{same_number}
+use Rattle.bbm_rules.specs.Rules.{may_be_null}
 use Rattle.bbm_lemmas.proofs.Words.{pe_found}
 use Rattle.bbm_rules.specs.declared.rule.Rule.TheVariants.{NoRoot, RootInUse, TagConflict}
 use Rattle.bbm_rules.specs.TagSentences.{GivesAsid, Names}
-use Rattle.bbm_histories.specs.TagSteps.{BecomesReadable, HeldBetween, StopsToBeReadable, kind_of_tag}
+use Rattle.bbm_histories.specs.TagSteps.{BecomesReadable, HeldBetween, KeptBetween, StopsToBeReadable, kind_of_tag}
 use Rattle.bbm_histories.proofs.HeldSteps.{init_outside}
 use Rattle.bbm_histories.proofs.Induction.{Unbroken, if_none, last_kept, throughout}
 use Rattle.bbm_histories.proofs.PatternLemmas.{later_split}
-use Rattle.bbm_histories.proofs.RootLemmas.{declared_back, declared_on}
+use Rattle.bbm_histories.proofs.RootLemmas.{declared_back, declared_on, not_retired}
 use Rattle.bbm_histories.proofs.TreeSteps.{not_fresh_there, start_in_tree}
 
 -- ---- PEs
@@ -93,6 +97,10 @@ reads_declared (Hyp world) h p root (Vmid vmid) k = k.1.declared
 reads_declared (Kernel world) h p root (Asid asid) k = k.2.declared
 reads_declared (Kernel world) h p root Ttbr1Tag k = k.1.declared
 reads_declared world h p root tag k = absurd k
+
+gives_up_is : (page : ℕ) (e : Event) → gives_up page e ≡ true → (q : ℕ) × (e ≡ Unroot q page)
+gives_up_is page (Unroot pe at) k = (pe, ap (Unroot pe) (eqb-true at page k))
+gives_up_is page e k = absurd (true≢false (sym k))
 
 module _ (heading : Heading) (trust : Trust) (b : Below heading trust) where
   -- ---- null pages
@@ -202,11 +210,11 @@ module _ (heading : Heading) (trust : Trust) (b : Below heading trust) where
   named_by_write : (h : List Event) (pe : ℕ) (reg : Reg) (value base : ℕ) → Unbroken heading trust (noted heading trust h) (Msr pe reg value)
       → base_of value ≡ Some base → Named (events_of (noted heading trust h)) pe reg base
   named_by_write h pe reg value base rule e =
-      by (is_root hs (kind_of_reg reg) base) (same_reg reg Ttbr0El1) (is_null hs base) refl refl
-      (not-false (is_root hs (kind_of_reg reg) base || (same_reg reg Ttbr0El1 && is_null hs base))
-      (if_none (not (is_root hs (kind_of_reg reg) base || (same_reg reg Ttbr0El1 && is_null hs base))) base
+      by (is_root hs (kind_of_reg reg) base) (may_be_null heading trust (noted heading trust h) reg) (is_null hs base) refl refl
+      (not-false (is_root hs (kind_of_reg reg) base || (may_be_null heading trust (noted heading trust h) reg && is_null hs base))
+      (if_none (not (is_root hs (kind_of_reg reg) base || (may_be_null heading trust (noted heading trust h) reg && is_null hs base))) base
       (subst (λ (o : Option ℕ). option_and_then (λ x. if_so (not (is_root (events_of (noted heading trust h)) (kind_of_reg reg) x
-      || (same_reg reg Ttbr0El1 && is_null (events_of (noted heading trust h)) x))) x) o ≡ None) e (rule NoRoot))))
+      || (may_be_null heading trust (noted heading trust h) reg && is_null (events_of (noted heading trust h)) x))) x) o ≡ None) e (rule NoRoot))))
     where
       hs : List Event
       hs = events_of (noted heading trust h)
@@ -393,23 +401,15 @@ module _ (heading : Heading) (trust : Trust) (b : Below heading trust) where
   held_by_root proper [] kept p root tag is_pe k = absurd (true≢false (sym k))
   held_by_root proper (e ∷ h) kept p root tag is_pe k =
       let parts = last_kept heading trust b h e kept in
-      elim (or_cases (reads heading (e ∷ h) p tag root) (holds_at heading trust p root tag h && not (loses heading trust p tag e h)) k) [
+      elim (or_cases (reads heading (e ∷ h) p tag root) (holds_at heading trust p root tag h && not (ends heading trust p root tag e h)) k) [
         | inl read ↦ reads_declared heading.world (e ∷ h) p root tag (b.readable_tag.sound (e ∷ h) p tag root read)
         | inr held ↦
-            let before : holds_at heading trust p root tag h ≡ true
-            = (and_parts (holds_at heading trust p root tag h) (not (loses heading trust p tag e h)) held).0 in
-            root_on proper h e (kind_of_tag tag) root parts.0 parts.1 (λ q is. retired h e p root tag is_pe parts.1 before q is)
-            (held_by_root proper h parts.0 p root tag is_pe before)
+            let both = and_parts (holds_at heading trust p root tag h) (not (ends heading trust p root tag e h)) held in
+            root_on proper h e (kind_of_tag tag) root parts.0 parts.1
+            (λ q is. true≢false (sym (same_number root) ∙ (sym (ap (gives_up root) is)
+            ∙ first_none (gives_up root e) (loses heading trust p tag e h) (not-true (ends heading trust p root tag e h) both.1))))
+            (held_by_root proper h parts.0 p root tag is_pe both.0)
       ]
-    where
-      retired : (h : List Event) (e : Event) (p root : ℕ) (tag : Tag) → p < heading.pes → Unbroken heading trust (noted heading trust h) e
-          → holds_at heading trust p root tag h ≡ true → (q : ℕ) → e ≡ Unroot q root → ⊥
-      retired h e p root tag is_pe rule before q is =
-          let kept : Unbroken heading trust (noted heading trust h) (Unroot q root)
-          = subst (λ (x : Event). Unbroken heading trust (noted heading trust h) x) is rule in
-          true≢false (sym (noted_too (λ (es : List Event). holds_tag heading trust root tag es ≡ true) h
-          (pe_finds heading.pes (λ p. holds_at heading trust p root tag h) p is_pe before))
-          ∙ b.tag_rules.no_tag (noted heading trust h) q root tag (kept RootInUse) (kept NoRoot))
 
   pub holder_is_root : Proper heading → (h : List Event) → keeps heading trust h ≡ true → (root : ℕ) (tag : Tag)
       → holds_tag heading trust root tag h ≡ true → is_root h (kind_of_tag tag) root ≡ true
@@ -422,16 +422,16 @@ module _ (heading : Heading) (trust : Trust) (b : Below heading trust) where
   reads_hold [] p root tag k =
       absurd (true≢false (sym (reads_declared heading.world [] p root tag (b.readable_tag.sound [] p tag root k))))
   reads_hold (e ∷ h) p root tag k =
-      or_left (reads heading (e ∷ h) p tag root) (holds_at heading trust p root tag h && not (loses heading trust p tag e h)) k
+      or_left (reads heading (e ∷ h) p tag root) (holds_at heading trust p root tag h && not (ends heading trust p root tag e h)) k
 
   -- a root that holds a tag held it before, or the tag just became readable for it
   held_or_new : (h : List Event) (e : Event) (p root : ℕ) (tag : Tag) → holds_at heading trust p root tag (e ∷ h) ≡ true
       → (holds_at heading trust p root tag h ≡ true)
       ⊎ ((reads heading (e ∷ h) p tag root ≡ true) × (reads heading h p tag root ≡ false))
   held_or_new h e p root tag k =
-      elim (or_cases (reads heading (e ∷ h) p tag root) (holds_at heading trust p root tag h && not (loses heading trust p tag e h)) k) [
+      elim (or_cases (reads heading (e ∷ h) p tag root) (holds_at heading trust p root tag h && not (ends heading trust p root tag e h)) k) [
         | inl read ↦ by read (reads heading h p tag root) refl
-        | inr held ↦ inl (and_parts (holds_at heading trust p root tag h) (not (loses heading trust p tag e h)) held).0
+        | inr held ↦ inl (and_parts (holds_at heading trust p root tag h) (not (ends heading trust p root tag e h)) held).0
       ]
     where
       by : reads heading (e ∷ h) p tag root ≡ true → (c : Bool) → reads heading h p tag root ≡ c
@@ -481,6 +481,127 @@ module _ (heading : Heading) (trust : Trust) (b : Below heading trust) where
       let g = pe_found heading.pes (λ p. holds_at heading trust p s tag h) l in
       one_at proper h kept f.0 g.0 r s tag f.1 g.1 f.2 g.2
 
+  -- ---- what was left
+
+  -- a tag that was left was so before the event, or the event gives its root up
+  left_or_new : (h : List Event) (e : Event) (p page : ℕ) (tag : Tag) → left_at heading trust p page tag (e ∷ h) ≡ true
+      → (left_at heading trust p page tag h ≡ true)
+      ⊎ ((gives_up page e ≡ true) × (holds_at heading trust p page tag h ≡ true))
+  left_or_new h e p page tag k =
+      elim (or_cases (left_at heading trust p page tag h) (gives_up page e && holds_at heading trust p page tag h)
+      (and_parts _ (not (loses heading trust p tag e h)) k).0) [
+        | inl before ↦ inl before
+        | inr new ↦ inr (and_parts (gives_up page e) (holds_at heading trust p page tag h) new)
+      ]
+
+  -- a root that holds a tag wasn't given up by the event, or the tag just became readable for it
+  not_up : (h : List Event) (e : Event) (p root : ℕ) (tag : Tag) → holds_at heading trust p root tag (e ∷ h) ≡ true
+      → (gives_up root e ≡ false) ⊎ (reads heading (e ∷ h) p tag root ≡ true)
+  not_up h e p root tag k =
+      elim (or_cases (reads heading (e ∷ h) p tag root) (holds_at heading trust p root tag h && not (ends heading trust p root tag e h)) k) [
+        | inl read ↦ inr read
+        | inr held ↦ inl (first_none (gives_up root e) (loses heading trust p tag e h)
+            (not-true (ends heading trust p root tag e h) (and_parts (holds_at heading trust p root tag h) (not (ends heading trust p root tag e h)) held).1))
+      ]
+
+  -- what just became readable for a root was left by none
+  new_unleft : Proper heading → (h : List Event) (e : Event) → keeps heading trust (e ∷ h) ≡ true → (p q r s : ℕ) (tag : Tag) → p < heading.pes
+      → q < heading.pes → reads heading (e ∷ h) p tag r ≡ true → reads heading h p tag r ≡ false
+      → left_at heading trust q s tag (e ∷ h) ≡ true → ⊥
+  new_unleft proper h e kept p q r s tag is_pe is_pe' now before left =
+      let parts = last_kept heading trust b h e kept in
+      let w = becomes proper h e kept p r tag is_pe now before in
+      let rule : Unbroken heading trust (noted heading trust h) (Msr p w.0 w.1)
+      = subst (λ (x : Event). Unbroken heading trust (noted heading trust h) x) w.2 parts.1 in
+      let same : e ∷ h ≡ Msr p w.0 w.1 ∷ events_of (noted heading trust h)
+      = ap (λ (x : Event). x ∷ h) w.2 ∙ ap (λ (es : List Event). Msr p w.0 w.1 ∷ es)
+      (sym (b.notes_keep_the_events h)) in
+      let some : left_tag heading trust s tag (e ∷ h) ≡ true
+      = pe_finds heading.pes (λ p. left_at heading trust p s tag (e ∷ h)) q is_pe' left in
+      true≢false (sym (subst (λ (es : List Event). left_tag heading trust s tag es ≡ true) same some)
+      ∙ b.tag_rules.none_left (noted heading trust h) p w.0 w.1 tag r s (rule TagConflict)
+      (subst (λ (es : List Event). reads heading es p tag r ≡ true) same now))
+
+  unleft : Proper heading → (h : List Event) → keeps heading trust h ≡ true → (p q r s : ℕ) (tag : Tag) → p < heading.pes → q < heading.pes
+      → holds_at heading trust p r tag h ≡ true → left_at heading trust q s tag h ≡ true → ⊥
+  unleft proper [] kept p q r s tag is_pe is_pe' k l = true≢false (sym k)
+  unleft proper (e ∷ h) kept p q r s tag is_pe is_pe' k l =
+      elim (held_or_new h e p r tag k) [
+        | inr new ↦ new_unleft proper h e kept p q r s tag is_pe is_pe' new.0 new.1 l
+        | inl before ↦ elim (left_or_new h e q s tag l) [
+          | inl old ↦ unleft proper h (last_kept heading trust b h e kept).0 p q r s tag is_pe is_pe' before old
+          | inr up ↦
+              let same : r ≡ s
+              = one_at proper h (last_kept heading trust b h e kept).0 p q r s tag is_pe is_pe' before up.1 in
+              elim (not_up h e p r tag k) [
+                | inl stays ↦ true≢false (sym up.0 ∙ (ap (λ (x : ℕ). gives_up x e) (sym same) ∙ stays))
+                | inr read ↦ read_up proper h e kept p r tag is_pe read (ap (λ (x : ℕ). gives_up x e) same ∙ up.0)
+              ]
+        ]
+      ]
+    where
+      -- nothing is readable for a root that the event gives up
+      read_up : Proper heading → (h : List Event) (e : Event) → keeps heading trust (e ∷ h) ≡ true → (p r : ℕ) (tag : Tag) → p < heading.pes
+          → reads heading (e ∷ h) p tag r ≡ true → gives_up r e ≡ true → ⊥
+      read_up proper h (Unroot pe at) kept p r tag is_pe read up =
+          let d = b.root.of_kind (Unroot pe at ∷ h) (kind_of_tag tag) r
+          (reads_declared heading.world (Unroot pe at ∷ h) p r tag (b.readable_tag.sound (Unroot pe at ∷ h) p tag r read)) in
+          not_retired (Unroot pe at) h d.0 d.1 pe (ap (Unroot pe) (eqb-true at r up ∙ sym d.2))
+      read_up proper h e kept p r tag is_pe read up = absurd (true≢false (sym up))
+
+  pub left_alone : Proper heading → (h : List Event) → keeps heading trust h ≡ true → (r s : ℕ) (tag : Tag)
+      → holds_tag heading trust r tag h ≡ true → left_tag heading trust s tag h ≡ false
+  left_alone proper h kept r s tag k = false_from_ne_true (left_tag heading trust s tag h) (λ l.
+      let f = pe_found heading.pes (λ p. holds_at heading trust p r tag h) k in
+      let g = pe_found heading.pes (λ p. left_at heading trust p s tag h) l in
+      unleft proper h kept f.0 g.0 r s tag f.1 g.1 f.2 g.2)
+
+  one_left_at : Proper heading → (h : List Event) → keeps heading trust h ≡ true → (p q r s : ℕ) (tag : Tag) → p < heading.pes → q < heading.pes
+      → left_at heading trust p r tag h ≡ true → left_at heading trust q s tag h ≡ true → r ≡ s
+  one_left_at proper [] kept p q r s tag is_pe is_pe' k l = absurd (true≢false (sym k))
+  one_left_at proper (e ∷ h) kept p q r s tag is_pe is_pe' k l =
+      let kept' = (last_kept heading trust b h e kept).0 in
+      elim (left_or_new h e p r tag k) [
+        | inl old ↦ elim (left_or_new h e q s tag l) [
+          | inl old' ↦ one_left_at proper h kept' p q r s tag is_pe is_pe' old old'
+          | inr up ↦ absurd (unleft proper h kept' q p s r tag is_pe' is_pe up.1 old)
+        ]
+        | inr up ↦ elim (left_or_new h e q s tag l) [
+          | inl old' ↦ absurd (unleft proper h kept' p q r s tag is_pe is_pe' up.1 old')
+          | inr up' ↦ one_at proper h kept' p q r s tag is_pe is_pe' up.1 up'.1
+        ]
+      ]
+
+  pub one_left : Proper heading → (h : List Event) → keeps heading trust h ≡ true → (r s : ℕ) (tag : Tag)
+      → left_tag heading trust r tag h ≡ true → left_tag heading trust s tag h ≡ true → r ≡ s
+  one_left proper h kept r s tag k l =
+      let f = pe_found heading.pes (λ p. left_at heading trust p r tag h) k in
+      let g = pe_found heading.pes (λ p. left_at heading trust p s tag h) l in
+      one_left_at proper h kept f.0 g.0 r s tag f.1 g.1 f.2 g.2
+
+  -- without `unflushed` an `unroot` leaves nothing
+  none_at : heading.words.unflushed ≡ false → (h : List Event) → keeps heading trust h ≡ true → (p s : ℕ) (tag : Tag) → p < heading.pes
+      → left_at heading trust p s tag h ≡ true → ⊥
+  none_at flushed [] kept p s tag is_pe k = true≢false (sym k)
+  none_at flushed (e ∷ h) kept p s tag is_pe k =
+      let parts = last_kept heading trust b h e kept in
+      elim (left_or_new h e p s tag k) [
+        | inl old ↦ none_at flushed h parts.0 p s tag is_pe old
+        | inr up ↦
+            let is = gives_up_is s e up.0 in
+            let rule : Unbroken heading trust (noted heading trust h) (Unroot is.0 s)
+            = subst (λ (x : Event). Unbroken heading trust (noted heading trust h) x) is.1 parts.1 in
+            true≢false (sym (noted_too (λ (es : List Event). holds_tag heading trust s tag es ≡ true) h
+            (pe_finds heading.pes (λ p. holds_at heading trust p s tag h) p is_pe up.1))
+            ∙ b.tag_rules.no_tag flushed (noted heading trust h) is.0 s tag (rule RootInUse) (rule NoRoot))
+      ]
+
+  pub none_left : heading.words.unflushed ≡ false → (h : List Event) → keeps heading trust h ≡ true → (s : ℕ) (tag : Tag)
+      → left_tag heading trust s tag h ≡ false
+  none_left flushed h kept s tag = false_from_ne_true (left_tag heading trust s tag h) (λ l.
+      let g = pe_found heading.pes (λ p. left_at heading trust p s tag h) l in
+      none_at flushed h kept g.0 s tag g.1 g.2)
+
   -- ---- holding goes back
 
   taken_later : (p : ℕ) (tag : Tag) (after h : List Event) (t : Issued Event) → TakenAway heading trust p tag h t
@@ -526,7 +647,25 @@ module _ (heading : Heading) (trust : Trust) (b : Below heading trust) where
 
   pub between : HeldBetween heading trust
   between p root tag h k after middle split =
-      b.tag_held.complete p root tag (middle ++ k.older) (record {
+      b.tag_held.complete p root tag (middle ++ k.kept.older) (record {
+        kept = record {
+          newer = middle;
+          older = k.kept.older;
+          split = refl;
+          read = k.kept.read;
+          not_taken = λ t taken. k.kept.not_taken t (subst (λ (es : List Event). TakenAway heading trust p tag es t) (sym whole)
+              (taken_later p tag after (middle ++ k.kept.older) t taken));
+        };
+        not_given_up = λ q newer older s. k.not_given_up q (after ++ newer) older
+            (split ∙ (ap (λ (es : List Event). after ++ es) s ∙ sym (append_assoc after newer (Unroot q root ∷ older))));
+      })
+    where
+      whole : h ≡ after ++ (middle ++ k.kept.older)
+      whole = k.kept.split ∙ (ap (λ (xs : List Event). xs ++ k.kept.older) split ∙ append_assoc after middle k.kept.older)
+
+  pub kept_between : KeptBetween heading trust
+  kept_between p page tag h k after middle split =
+      b.tag_kept.complete p page tag (middle ++ k.older) (record {
         newer = middle;
         older = k.older;
         split = refl;

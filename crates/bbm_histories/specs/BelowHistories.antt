@@ -7,7 +7,7 @@ use Rattle.bbm_rules.specs.BrokenLaws.{EachRule, NoGlobalUser, NotesKeepEvents, 
 use Rattle.bbm_rules.specs.Claims.{Trust}
 use Rattle.bbm_rules.specs.EventLaws.{PublishedBySentence, ReadableBySentence, RootsBySentence, TestsAreExact}
 use Rattle.bbm_rules.specs.HeldLaws.{HalfBySentence, HeldBySentence, LastValidBySentence, SeenBySentence}
-use Rattle.bbm_rules.specs.TagLaws.{ReadsBySentence, RulesOnTags, TagHeldBySentence}
+use Rattle.bbm_rules.specs.TagLaws.{ReadsBySentence, RulesOnTags, TagHeldBySentence, TagKeptBySentence}
 use Rattle.bbm_rules.specs.TreeLaws.{AttachesFresh, ChildlessBySentence, LimboBySentence, PagesOfRoots, TreeBySentence}
 
 pub record Below (heading : Heading) (trust : Trust) : Type 0 where
@@ -34,5 +34,6 @@ pub record Below (heading : Heading) (trust : Trust) : Type 0 where
   pub root_pages : PagesOfRoots heading
   pub seen : SeenBySentence heading
   pub tag_held : TagHeldBySentence heading trust
+  pub tag_kept : TagKeptBySentence heading trust
   pub tag_rules : RulesOnTags heading trust
   pub tree : TreeBySentence heading trust

@@ -10,16 +10,18 @@ use Rattle.bbm_rules.specs.Pages.{is_null}
 use Rattle.bbm_rules.specs.Reach.{Issued}
 use Rattle.bbm_rules.specs.Roots.{is_root}
 use Rattle.bbm_rules.specs.Sentences.{TakenAway}
-use Rattle.bbm_rules.specs.Tags.{holds_tag, loses, reads_for_some}
+use Rattle.bbm_rules.specs.Tags.{holds_tag, left_tag, loses, reads_for_some}
 use Rattle.bbm_histories.specs.ClaimSteps.{completes_taken, tag_waits_at, tag_waits_at_after}
 use Rattle.bbm_histories.specs.HistorySteps.{answered_by, tag_waits, tag_waits_after}
-use Rattle.bbm_histories.specs.TagSteps.{BasesStay, BecomesReadable, HeldBetween, NamesRoots, StopsToBeReadable}
-use Rattle.bbm_histories.specs.TagSteps.{kind_of_tag}
+use Rattle.bbm_histories.specs.TagSteps.{BasesStay, BecomesReadable, HeldBetween, KeptBetween, NamesRoots}
+use Rattle.bbm_histories.specs.TagSteps.{StopsToBeReadable, kind_of_tag}
 use Rattle.bbm_histories.specs.TreeChanges.{Proper}
 
 -- In a history that keeps the rules, a tag becomes readable at a PE by a register write of the PE, and stops to be so
--- by an ISB of it; at most one root holds it, and that is a declared root of its kind. In every history a TLBI takes a
--- tag away by the event that answers it, and a root that holds a tag held it at each moment since it was readable.
+-- by an ISB of it; at most one root holds it, and that is a declared root of its kind; where one holds it, none that
+-- was given up has left it, and at most one has; under a header without `unflushed` none has. In every history a TLBI
+-- takes a tag away by the event that answers it, and a root that holds a tag held it at each moment since it was
+-- readable.
 pub record TagsOfRoots (heading : Heading) (trust : Trust) : Type 0 where
   pub becomes : (h : List Event) (e : Event) → Proper heading → keeps heading trust (e ∷ h) ≡ true
       → BecomesReadable heading h e
@@ -29,10 +31,17 @@ pub record TagsOfRoots (heading : Heading) (trust : Trust) : Type 0 where
       → holds_tag heading trust r tag h ≡ true → holds_tag heading trust s tag h ≡ true → r ≡ s
   pub root : (h : List Event) → Proper heading → keeps heading trust h ≡ true → (r : ℕ) (tag : Tag)
       → holds_tag heading trust r tag h ≡ true → is_root h (kind_of_tag tag) r ≡ true
+  pub left_alone : (h : List Event) → Proper heading → keeps heading trust h ≡ true → (r s : ℕ) (tag : Tag)
+      → holds_tag heading trust r tag h ≡ true → left_tag heading trust s tag h ≡ false
+  pub one_left : (h : List Event) → Proper heading → keeps heading trust h ≡ true → (r s : ℕ) (tag : Tag)
+      → left_tag heading trust r tag h ≡ true → left_tag heading trust s tag h ≡ true → r ≡ s
+  pub none_left : heading.words.unflushed ≡ false → (h : List Event) → keeps heading trust h ≡ true
+      → (s : ℕ) (tag : Tag) → left_tag heading trust s tag h ≡ false
   pub taken_begins : (p : ℕ) (tag : Tag) (e : Event) (h : List Event) (t : Issued Event)
       → (k : TakenAway heading trust p tag (e ∷ h) t) → TakenAway heading trust p tag h t
       ⊎ ((e ≡ Dsb k.q k.dsb) × (k.earlier ≡ h))
   pub between : HeldBetween heading trust
+  pub kept_between : KeptBetween heading trust
 
 -- In a history that keeps the rules, the base of a readable register value is a declared root of the register's kind or
 -- a null page, and no event changes which; no null page is a declared root, and a `root` names none.

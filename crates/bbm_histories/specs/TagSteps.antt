@@ -7,8 +7,8 @@ use Rattle.bbm_rules.specs.Lists.{among}
 use Rattle.bbm_rules.specs.Pages.{is_null}
 use Rattle.bbm_rules.specs.RegisterValues.{base_of, kind_of_reg, register_values}
 use Rattle.bbm_rules.specs.Roots.{is_root}
-use Rattle.bbm_rules.specs.Sentences.{HoldsTag}
-use Rattle.bbm_rules.specs.Tags.{holds_at, reads}
+use Rattle.bbm_rules.specs.Sentences.{HoldsTag, KeptTag}
+use Rattle.bbm_rules.specs.Tags.{holds_at, kept_at, reads}
 
 -- the kind of the roots that are read under a tag
 abbrev pub kind_of_tag : Tag → Kind
@@ -31,8 +31,14 @@ module _ (heading : Heading) where
   -- A root that holds a tag by a moment at which it was readable held it at each moment since.
   abbrev pub HeldBetween : Trust → Type 0
   HeldBetween trust = (p root : ℕ) (tag : Tag) (h : List Event) (k : HoldsTag heading trust p root tag h)
+      → (after between : List Event) → k.kept.newer ≡ after ++ between
+      → holds_at heading trust p root tag (between ++ k.kept.older) ≡ true
+
+  -- and the same of a tag that is kept for a page
+  abbrev pub KeptBetween : Trust → Type 0
+  KeptBetween trust = (p page : ℕ) (tag : Tag) (h : List Event) (k : KeptTag heading trust p page tag h)
       → (after between : List Event) → k.newer ≡ after ++ between
-      → holds_at heading trust p root tag (between ++ k.older) ≡ true
+      → kept_at heading trust p page tag (between ++ k.older) ≡ true
 
   -- The base of a readable value is a declared root of its register's kind, or a null page.
   abbrev pub NamesRoots : List Event → Type 0

@@ -6,7 +6,7 @@ use Rattle.bbm_rules.proofs.Common.{find, is_none, is_some, Contains, refl, sym,
 use Rattle.bbm_rules.proofs.Common.{false_from_ne_true, not-true, pe_finds, proved, If, Is, none_of, keeps, changes}
 use Rattle.bbm_rules.proofs.Common.{cleansed, half, seen, note, noted, ValidWrite, last_valid, any, Noted, events_of}
 use Rattle.bbm_rules.proofs.Common.{is_fresh, may_be_fresh, page_of, Barrier, Heading, Event, Dsb, Dmb, Isb, Tlbi, Reg}
-use Rattle.bbm_rules.proofs.Common.{reaches, unanswered, register_values, roots_of, itself, Node, held_at, in_tree}
+use Rattle.bbm_rules.proofs.Common.{reaches, unanswered, register_values, first_pages, itself, Node, held_at, in_tree}
 use Rattle.bbm_rules.proofs.Common.{node_of, written_places}
 use Rattle.bbm_rules.specs.Broken.{broken}
 use Rattle.bbm_rules.specs.Tree.{tree}
@@ -26,7 +26,7 @@ module _ (heading : Heading) where
   takes_none h e needless p less =
       proved 3 (λ r a b. If (Is (r && (a || b)) false) (Is (r && b) false)) refl (reaches heading e p) (any
       (adds_at heading (noted heading Patterns h) e p) (written_places h)) (any (takes_of heading h e p)
-      (roots_of h))
+      (first_pages h))
       (false_from_ne_true (is_needed_at heading h e p) (λ needed. true≢false (sym (pe_finds heading.pes
       (is_needed_at heading h e) p less needed)
       ∙ needless)))
@@ -108,7 +108,9 @@ module _ (heading : Heading) where
       patterns = λ n place w w' t inside some last last'. by n place w w' (there n t) inside last last'
           (held_at heading Patterns before n place) refl (sym (ap is_some (same_held n place (there n t) inside)) ∙ some);
       tags = tags.tags;
+      given = k.changes.given e h quiet.roots;
       holds = tags.holds;
+      left = tags.left;
       tag_wait = tags.tag_wait;
     }
       where
@@ -182,7 +184,7 @@ module _ (heading : Heading) where
       false_from_ne_true (adds (item.covers place) (seen heading place p w.since) (half heading place p w.since)
       (cleansed heading Patterns place p w.since)) (λ adding. true≢false (sym (adds_needed heading k.notes_keep_the_events h (Tlbi pe op xt) p place n w less reached
       (node_before k h kept_before n place t inside) last adding) ∙ needless)))))
-      (k.same_tags.tlbi pe op xt h k.proper kept_before (takes_none h (Tlbi pe op xt) needless))
+      (k.same_tags.tlbi pe op xt h (takes_none h (Tlbi pe op xt) needless))
     where
       quiet : Quiet (Tlbi pe op xt)
       quiet = record { values = refl; inits = refl; nulls = refl; roots = refl; locks = refl }
@@ -203,8 +205,7 @@ module _ (heading : Heading) where
       alike_by k h (Dsb pe dsb) (record { values = refl; inits = refl; nulls = refl; roots = refl; locks = refl }) (λ p reg. refl)
       (same_tree heading k h pe dsb kept idle) (same_held heading k h pe dsb kept idle)
       (same_patterns heading k h pe dsb kept idle)
-      (k.same_tags.dsb pe dsb h k.proper
-      (and_parts (keeps heading Patterns h) (is_none (broken heading Patterns h (Dsb pe dsb))) kept).0
+      (k.same_tags.dsb pe dsb h
       (answers_none pe dsb h (not-true (any (answers_needed heading dsb) (unanswered itself pe h))
       (and_parts (keeps_phases heading h (Dsb pe dsb)) (not (any (answers_needed heading dsb) (unanswered itself pe h))) idle).1)))
   base k h e kept idle = absurd (true≢false (sym idle))

@@ -7,7 +7,8 @@ pub use Rattle.bbm_idle.specs.Finding.{AreTaken, IsSearch, is_kept, is_kept_by, 
 pub use Rattle.bbm_idle.specs.Finding.{waits, waits_after}
 pub use Rattle.bbm_idle.specs.Idle.{adds, adds_at, adds_since, adds_with, answers_needed, idle_marks, is_needed}
 pub use Rattle.bbm_idle.specs.Idle.{is_needed_at, keeps_phases}
-pub use Rattle.bbm_idle.specs.Idle.{takes_of, without, without_idle, wrote_register}
+pub use Rattle.bbm_alike.specs.SameTags.{takes_of}
+pub use Rattle.bbm_idle.specs.Idle.{without, without_idle, wrote_register}
 pub use Rattle.bbm_idle.specs.KnownOfIdle.{Known}
 pub use Rattle.bbm_idle.specs.SamePhase.{same_phase}
 pub use Rattle.bbm_oracle_patterns.specs.declared.search.TreePlace.{TreePlace}

@@ -4,7 +4,7 @@ use Rattle.bbm_idle.proofs.Common.{needed_by, place_adds, adds_at, is_needed, is
 use Rattle.bbm_rules.proofs.Common.{◌≡◌, ℕ, ◌+◌, ◌-◌, ◌<◌, ◌≤◌, Bool, false, ◌&&◌, ◌||◌, List, [], ◌∷◌, Option, Some}
 use Rattle.bbm_rules.proofs.Common.{None, length, get_or, take, reverse, refl, ap, ◌∙◌, arith, take_all, reverse_more}
 use Rattle.bbm_rules.proofs.Common.{Cover, Trust, cover_at, noted, ValidWrite, any, below, some_pe, Noted, Heading}
-use Rattle.bbm_rules.proofs.Common.{Event, reaches, roots_of, written_places}
+use Rattle.bbm_rules.proofs.Common.{Event, first_pages, reaches, written_places}
 use Rattle.bbm_tlbi_scope.specs.declared.entry.Cover.TheVariants.{None as NoCover}
 use Rattle.bbm_idle.specs.Idle.{adds_since}
 use Rattle.bbm_lemmas.proofs.Tests.{any_same}
@@ -55,4 +55,4 @@ pub needed_is : (heading : Heading) (h : List Event) (e : Event) (added : ℕ �
     → ((p : ℕ) → added p ≡ any (adds_at heading (noted heading Patterns h) e p) (written_places h))
     → some_pe heading.pes (needed_by heading h e added) ≡ is_needed heading h e
 needed_is heading h e added told = any_same (needed_by heading h e added) (is_needed_at heading h e) (below heading.pes)
-    (λ p. ap (λ (b : Bool). reaches heading e p && (b || any (takes_of heading h e p) (roots_of h))) (told p))
+    (λ p. ap (λ (b : Bool). reaches heading e p && (b || any (takes_of heading h e p) (first_pages h))) (told p))

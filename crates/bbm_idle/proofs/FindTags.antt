@@ -4,7 +4,7 @@ use Rattle.bbm_rules.proofs.Common.{◌≡◌, ℕ, ◌+◌, add-one, Bool, true
 use Rattle.bbm_rules.proofs.Common.{Option, Some, None, refl, sym, ap, ◌∙◌, flat_map, filter_map, cons_option}
 use Rattle.bbm_rules.proofs.Common.{and_parts, eqb-true, or_left, list_any-append, any_finds, any_found, Heading, Event}
 use Rattle.bbm_rules.proofs.Common.{Tag, Tlbi, TlbiOp, Scope, takes_whole_tag, changes, same_tag, any, below, if_so}
-use Rattle.bbm_rules.proofs.Common.{named_scope, vmid_of, Declared, roots_of, Reading, distinct, ever_read, holds_at}
+use Rattle.bbm_rules.proofs.Common.{named_scope, vmid_of, first_pages, Reading, distinct, ever_read, kept_at}
 use Rattle.bbm_rules.proofs.Common.{readings, tag_for, takes_tag, or-false, or_comm}
 use Rattle.bbm_idle.specs.Finding.{IsKnown, passes, taken_passes}
 use Rattle.bbm_idle.proofs.FindLists.{any_flat}
@@ -130,19 +130,19 @@ of_root scope vmid root test r = by_case (eqb r.root root) refl (takes_whole_tag
 
 -- where it names a scope
 pub taken_of : (heading : Heading) (h : List Event) (pe : ℕ) (op : TlbiOp) (xt : ℕ) (scope : Scope) (vmid : Option ℕ)
-    (roots : List Declared) (known taken : List Reading) → IsKnown heading h known
-    → named_scope heading h pe op xt ≡ Some scope → vmid ≡ vmid_of heading h pe → roots ≡ roots_of h
-    → ((test : Reading → Bool) → any test taken ≡ any (λ r. any (is_taken scope vmid r.page test) known) roots)
+    (pages : List ℕ) (known taken : List Reading) → IsKnown heading h known
+    → named_scope heading h pe op xt ≡ Some scope → vmid ≡ vmid_of heading h pe → pages ≡ first_pages h
+    → ((test : Reading → Bool) → any test taken ≡ any (λ page. any (is_taken scope vmid page test) known) pages)
     → AreTaken heading h (Tlbi pe op xt) taken
-taken_of heading h pe op xt scope vmid roots known taken is named under are told = λ test.
+taken_of heading h pe op xt scope vmid pages known taken is named under are told = λ test.
     told (λ r. test r.root r.tag)
-    ∙ any_same (λ r. any (is_taken scope vmid r.page (λ s. test s.root s.tag)) known) (taken_passes heading h (Tlbi pe op xt) test) roots
-    (λ r. any_same (is_taken scope vmid r.page (λ s. test s.root s.tag)) (passes r.page (λ tag. takes_whole_tag scope vmid tag && test r.page tag)) known
-    (of_root scope vmid r.page test)
-    ∙ is r.page (λ tag. takes_whole_tag scope vmid tag && test r.page tag)
-    ∙ any_same (λ tag. takes_whole_tag scope vmid tag && test r.page tag) (λ tag. takes_tag heading (Tlbi pe op xt) h tag && test r.page tag)
-    (ever_read heading r.page h) (λ tag. ap (λ (b : Bool). b && test r.page tag) (whole tag)))
-    ∙ ap (λ (rs : List Declared). any (taken_passes heading h (Tlbi pe op xt) test) rs) are
+    ∙ any_same (λ page. any (is_taken scope vmid page (λ s. test s.root s.tag)) known) (taken_passes heading h (Tlbi pe op xt) test) pages
+    (λ page. any_same (is_taken scope vmid page (λ s. test s.root s.tag)) (passes page (λ tag. takes_whole_tag scope vmid tag && test page tag)) known
+    (of_root scope vmid page test)
+    ∙ is page (λ tag. takes_whole_tag scope vmid tag && test page tag)
+    ∙ any_same (λ tag. takes_whole_tag scope vmid tag && test page tag) (λ tag. takes_tag heading (Tlbi pe op xt) h tag && test page tag)
+    (ever_read heading page h) (λ tag. ap (λ (b : Bool). b && test page tag) (whole tag)))
+    ∙ ap (λ (ps : List ℕ). any (taken_passes heading h (Tlbi pe op xt) test) ps) are
   where
     whole : (tag : Tag) → takes_whole_tag scope vmid tag ≡ takes_tag heading (Tlbi pe op xt) h tag
     whole tag =
@@ -150,28 +150,28 @@ taken_of heading h pe op xt scope vmid roots known taken is named under are told
         ∙ sym (ap (λ (o : Option Scope). elim o [ None ↦ false | Some s ↦ takes_whole_tag s (vmid_of heading h pe) tag ]) named)
 
 -- an event that takes no tag
-untaken : (heading : Heading) (h : List Event) (e : Event) (test : ℕ → Tag → Bool) (rs : List Declared)
-    → ((tag : Tag) → takes_tag heading e h tag ≡ false) → false ≡ any (taken_passes heading h e test) rs
-untaken heading h e test rs none =
-    sym (any_same (taken_passes heading h e test) (λ r. false) rs
-    (λ r. any_same (λ tag. takes_tag heading e h tag && test r.page tag) (λ tag. false) (ever_read heading r.page h)
-    (λ tag. ap (λ (b : Bool). b && test r.page tag) (none tag)) ∙ any_never (ever_read heading r.page h)) ∙ any_never rs)
+untaken : (heading : Heading) (h : List Event) (e : Event) (test : ℕ → Tag → Bool) (pages : List ℕ)
+    → ((tag : Tag) → takes_tag heading e h tag ≡ false) → false ≡ any (taken_passes heading h e test) pages
+untaken heading h e test pages none =
+    sym (any_same (taken_passes heading h e test) (λ page. false) pages
+    (λ page. any_same (λ tag. takes_tag heading e h tag && test page tag) (λ tag. false) (ever_read heading page h)
+    (λ tag. ap (λ (b : Bool). b && test page tag) (none tag)) ∙ any_never (ever_read heading page h)) ∙ any_never pages)
 
 pub taken_unnamed : (heading : Heading) (h : List Event) (pe : ℕ) (op : TlbiOp) (xt : ℕ) → named_scope heading h pe op xt ≡ None
     → AreTaken heading h (Tlbi pe op xt) []
-taken_unnamed heading h pe op xt named = λ test. untaken heading h (Tlbi pe op xt) test (roots_of h)
+taken_unnamed heading h pe op xt named = λ test. untaken heading h (Tlbi pe op xt) test (first_pages h)
     (λ tag. ap (λ (o : Option Scope). elim o [ None ↦ false | Some s ↦ takes_whole_tag s (vmid_of heading h pe) tag ]) named)
 
 pub taken_other : (heading : Heading) (h : List Event) (e : Event) → ((pe : ℕ) (op : TlbiOp) (xt : ℕ) → e ≡ Tlbi pe op xt → ⊥)
     → AreTaken heading h e []
 taken_other heading h (Tlbi pe op xt) none = absurd (none pe op xt refl)
-taken_other heading h e none = λ test. untaken heading h e test (roots_of h) (λ tag. refl)
+taken_other heading h e none = λ test. untaken heading h e test (first_pages h) (λ tag. refl)
 
--- what is held of it
-pub takes_held : ((g k : Tag) → same_tag g k ≡ true → g ≡ k) → (heading : Heading) (h : List Event) (e : Event) (p : ℕ) (taken : List Reading)
+-- what is kept of it
+pub takes_kept : ((g k : Tag) → same_tag g k ≡ true → g ≡ k) → (heading : Heading) (h : List Event) (e : Event) (p : ℕ) (taken : List Reading)
     → AreTaken heading h e taken
-    → any (λ r. holds_at heading Patterns p r.root r.tag h) taken ≡ any (takes_of heading h e p) (roots_of h)
-takes_held decides heading h e p taken are =
-    are (λ root tag. holds_at heading Patterns p root tag h)
-    ∙ any_same (taken_passes heading h e (λ root tag. holds_at heading Patterns p root tag h)) (takes_of heading h e p) (roots_of h)
-    (λ r. sym (any_distinct decides (λ tag. takes_tag heading e h tag && holds_at heading Patterns p r.page tag h) (ever_read heading r.page h)))
+    → any (λ r. kept_at heading Patterns p r.root r.tag h) taken ≡ any (takes_of heading h e p) (first_pages h)
+takes_kept decides heading h e p taken are =
+    are (λ page tag. kept_at heading Patterns p page tag h)
+    ∙ any_same (taken_passes heading h e (λ page tag. kept_at heading Patterns p page tag h)) (takes_of heading h e p) (first_pages h)
+    (λ page. sym (any_distinct decides (λ tag. takes_tag heading e h tag && kept_at heading Patterns p page tag h) (ever_read heading page h)))

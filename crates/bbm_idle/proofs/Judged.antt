@@ -7,11 +7,12 @@ use Rattle.bbm_rules.proofs.Common.{refl, sym, ◌∙◌, ap, result_ok, every_s
 use Rattle.bbm_rules.proofs.Common.{cover_of, takes_whole_tag, desc_of, every_pe, cleansed, half, seen, cover_at}
 use Rattle.bbm_rules.proofs.Common.{is_global, noted, view_at, ValidWrite, last_valid, any, below, every, one_number}
 use Rattle.bbm_rules.proofs.Common.{Noted, events_of, page_of, Heading, Event, Tlbi, Tag, World, Hyp, Kernel, VttbrEl2}
-use Rattle.bbm_rules.proofs.Common.{Scope, reaches, named_scope, tag_number, vmid_of, Declared, roots_of, distinct}
-use Rattle.bbm_rules.proofs.Common.{ever_read, holds_at, tag_set, tags_of, takes_tag, Node, held_at, is_childless}
+use Rattle.bbm_rules.proofs.Common.{Scope, reaches, named_scope, tag_number, vmid_of, Declared, first_pages, given_up, roots_of, distinct}
+use Rattle.bbm_rules.proofs.Common.{◌++◌, ever_read, holds_at, kept_at, left_at, tag_set, tags_of, takes_tag, Node, held_at, is_childless}
 use Rattle.bbm_rules.proofs.Common.{next_of, node_of, region_of, written_places}
 use Rattle.bbm_tlbi_scope.specs.declared.entry.Cover.TheVariants.{None as NoCover}
 use Rattle.bbm_rules.specs.Phases.{phase_of}
+use Rattle.bbm_rules.specs.TagLaws.{TagKeptBySentence}
 use Rattle.bbm_rules.specs.Prelude.{scope_of}
 use Rattle.bbm_rules.specs.RegisterValues.{vmid_in}
 use Rattle.bbm_rules.specs.Tree.{tree}
@@ -75,13 +76,27 @@ module _ (heading : Heading) (h h' : List Event) (a : Alike heading Patterns Pat
       ]) (same_vmid pe)
   same_takes e tag = refl
 
-  same_takes_of : (e : Event) (p : ℕ) → p < heading.pes → (r : Declared) → takes_of heading h e p r ≡ takes_of heading h' e p r
-  same_takes_of e p less r =
-      ap (λ (gs : List Tag). any (λ tag. takes_tag heading e h tag && holds_at heading Patterns p r.page tag h) gs) (a.tags r.page)
-      ∙ any_alike (λ tag. takes_tag heading e h tag && holds_at heading Patterns p r.page tag h)
-      (λ tag. takes_tag heading e h' tag && holds_at heading Patterns p r.page tag h') (distinct (ever_read heading r.page h'))
-      (λ tag i. ap (λ (b : Bool). b && holds_at heading Patterns p r.page tag h) (same_takes e tag)
-      ∙ ap (λ (b : Bool). takes_tag heading e h' tag && b) (a.holds p r.page tag less))
+  same_kept_at : TagKeptBySentence heading Patterns → (p page : ℕ) (tag : Tag) → p < heading.pes
+      → kept_at heading Patterns p page tag h ≡ kept_at heading Patterns p page tag h'
+  same_kept_at kept p page tag less =
+      kept.parts p page tag h
+      ∙ ap (λ (b : Bool). b || left_at heading Patterns p page tag h) (a.holds p page tag less)
+      ∙ ap (λ (b : Bool). holds_at heading Patterns p page tag h' || b) (a.left p page tag less)
+      ∙ sym (kept.parts p page tag h')
+
+  same_takes_of : TagKeptBySentence heading Patterns → (e : Event) (p : ℕ) → p < heading.pes → (page : ℕ)
+      → takes_of heading h e p page ≡ takes_of heading h' e p page
+  same_takes_of kept e p less page =
+      ap (λ (gs : List Tag). any (λ tag. takes_tag heading e h tag && kept_at heading Patterns p page tag h) gs) (a.tags page)
+      ∙ any_alike (λ tag. takes_tag heading e h tag && kept_at heading Patterns p page tag h)
+      (λ tag. takes_tag heading e h' tag && kept_at heading Patterns p page tag h') (distinct (ever_read heading page h'))
+      (λ tag i. ap (λ (b : Bool). b && kept_at heading Patterns p page tag h) (same_takes e tag)
+      ∙ ap (λ (b : Bool). takes_tag heading e h' tag && b) (same_kept_at kept p page tag less))
+
+  same_pages : first_pages h ≡ first_pages h'
+  same_pages =
+      ap (λ (rs : List Declared). map (λ (r : Declared). r.page) rs ++ given_up h) a.roots
+      ∙ ap (λ (ps : List ℕ). map (λ (r : Declared). r.page) (roots_of h') ++ ps) a.given
 
   -- ---- places
 
@@ -148,12 +163,12 @@ module _ (heading : Heading) (h h' : List Event) (a : Alike heading Patterns Pat
   same_needed_at : Known heading → (e : Event) (p : ℕ) → p < heading.pes
       → is_needed_at heading h e p ≡ is_needed_at heading h' e p
   same_needed_at k e p less =
-      ap (λ (b : Bool). reaches heading e p && (b || any (takes_of heading h e p) (roots_of h)))
+      ap (λ (b : Bool). reaches heading e p && (b || any (takes_of heading h e p) (first_pages h)))
       (ap (any (adds_at heading here e p)) a.places
       ∙ any_alike (adds_at heading here e p) (adds_at heading there e p) (written_places h') (λ place i. same_adds k e p less place))
       ∙ ap (λ (b : Bool). reaches heading e p && (any (adds_at heading there e p) (written_places h') || b))
-      (ap (any (takes_of heading h e p)) a.roots
-      ∙ any_alike (takes_of heading h e p) (takes_of heading h' e p) (roots_of h') (λ r i. same_takes_of e p less r))
+      (ap (any (takes_of heading h e p)) same_pages
+      ∙ any_alike (takes_of heading h e p) (takes_of heading h' e p) (first_pages h') (λ page i. same_takes_of k.tag_kept e p less page))
 
   pub same_needed : Known heading → (e : Event) → is_needed heading h e ≡ is_needed heading h' e
   same_needed k e = any_alike (is_needed_at heading h e) (is_needed_at heading h' e) (below heading.pes)

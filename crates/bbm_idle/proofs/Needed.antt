@@ -7,7 +7,7 @@ use Rattle.bbm_rules.proofs.Common.{and_parts, false_from_ne_true, or_left, or_r
 use Rattle.bbm_rules.proofs.Common.{any_found, from_contains, none_of, to_contains, answers, same_bool, operation}
 use Rattle.bbm_rules.proofs.Common.{Cover, Half, keeps, cleansed, flushes, half, same_cover, seen, cover_at, noted}
 use Rattle.bbm_rules.proofs.Common.{ValidWrite, last_valid, any, Noted, events_of, page_of, Barrier, Heading, Event}
-use Rattle.bbm_rules.proofs.Common.{Dsb, Tlbi, Issued, completes, reaches, unanswered, Declared, roots_of, Open}
+use Rattle.bbm_rules.proofs.Common.{Dsb, Tlbi, Issued, completes, reaches, unanswered, first_pages, Open}
 use Rattle.bbm_rules.proofs.Common.{completes_for, itself, Node, node_of, written_places}
 use Rattle.std.proofs.lemmas.List.{append_assoc}
 use Rattle.bbm_rules.specs.Broken.{broken}
@@ -64,20 +64,20 @@ module _ (heading : Heading) where
       (cleansed heading Patterns place p w.since) ≡ true → is_needed heading h e ≡ true
   adds_needed notes h e p place n w less reached node last adding =
       needs_at h e p less (and_from (reaches heading e p)
-      (any (adds_at heading (noted heading Patterns h) e p) (written_places h) || any (takes_of heading h e p) (roots_of h)) reached
-      (or_left (any (adds_at heading (noted heading Patterns h) e p) (written_places h)) (any (takes_of heading h e p) (roots_of h))
+      (any (adds_at heading (noted heading Patterns h) e p) (written_places h) || any (takes_of heading h e p) (first_pages h)) reached
+      (or_left (any (adds_at heading (noted heading Patterns h) e p) (written_places h)) (any (takes_of heading h e p) (first_pages h))
       (any_finds (adds_at heading (noted heading Patterns h) e p) (written_places h) place
       (written_at notes h n.kind n.level place w last)
       (adds_there (noted heading Patterns h) e p place n w node last ∙ adding))))
 
-  -- and so is one that takes a tag which a root holds
-  pub takes_needed : (h : List Event) (e : Event) (p : ℕ) (r : Declared) → p < heading.pes → reaches heading e p ≡ true
-      → In (roots_of h) r → takes_of heading h e p r ≡ true → is_needed heading h e ≡ true
-  takes_needed h e p r less reached declared taking =
+  -- and so is one that takes a tag which is kept for the page of a root
+  pub takes_needed : (h : List Event) (e : Event) (p page : ℕ) → p < heading.pes → reaches heading e p ≡ true
+      → In (first_pages h) page → takes_of heading h e p page ≡ true → is_needed heading h e ≡ true
+  takes_needed h e p page less reached listed taking =
       needs_at h e p less (and_from (reaches heading e p)
-      (any (adds_at heading (noted heading Patterns h) e p) (written_places h) || any (takes_of heading h e p) (roots_of h)) reached
-      (or_right (any (adds_at heading (noted heading Patterns h) e p) (written_places h)) (any (takes_of heading h e p) (roots_of h))
-      (any_finds (takes_of heading h e p) (roots_of h) r declared taking)))
+      (any (adds_at heading (noted heading Patterns h) e p) (written_places h) || any (takes_of heading h e p) (first_pages h)) reached
+      (or_right (any (adds_at heading (noted heading Patterns h) e p) (written_places h)) (any (takes_of heading h e p) (first_pages h))
+      (any_finds (takes_of heading h e p) (first_pages h) page listed taking)))
 
 -- ---- a DSB that answers no TLBI that was needed makes no place half, where it holds something
 

@@ -2,12 +2,12 @@
 use Rattle.bbm_idle.proofs.Common.{Patterns, adds, adds_at, adds_since, is_needed, is_needed_at, takes_of}
 use Rattle.bbm_rules.proofs.Common.{◌≡◌, ℕ, ◌<◌, true, false, not, ◌&&◌, ◌||◌, List, Option, Some, None, option_map_or}
 use Rattle.bbm_rules.proofs.Common.{◌⊎◌, inl, inr, refl, sym, ◌∙◌, true≢false, and_from, and_parts, not-true, or_cases}
-use Rattle.bbm_rules.proofs.Common.{In, any_finds, any_found, from_contains, to_contains, any, Cover, Full, Half}
+use Rattle.bbm_rules.proofs.Common.{In, any_finds, any_found, from_contains, any, Cover, Full, Half}
 use Rattle.bbm_rules.proofs.Common.{Second, cover_at, noted, cleansed, half, seen, ValidWrite, last_valid, Noted}
-use Rattle.bbm_rules.proofs.Common.{page_of, Heading, Event, Tag, reaches, Declared, roots_of, distinct, ever_read}
-use Rattle.bbm_rules.proofs.Common.{holds_at, takes_tag, Node, node_of, written_places}
+use Rattle.bbm_rules.proofs.Common.{page_of, Heading, Event, Tag, reaches, first_pages, distinct, ever_read}
+use Rattle.bbm_rules.proofs.Common.{kept_at, takes_tag, Node, node_of, written_places}
 use Rattle.bbm_tlbi_scope.specs.declared.entry.Cover.TheVariants.{None as NoCover}
-use Rattle.bbm_alike.proofs.HeldTags.{held_is_listed}
+use Rattle.bbm_alike.proofs.HeldTags.{kept_is_listed}
 use Rattle.bbm_lemmas.proofs.Bools.{not_from}
 use Rattle.bbm_lemmas.proofs.Words.{pe_found}
 use Rattle.bbm_idle.specs.IdleSentences.{Needed, NeededForPlace, NeededForTag, TakesFurther}
@@ -72,29 +72,27 @@ module _ (heading : Heading) (t : Terms heading) where
 
   -- ---- a tag
 
-  for_tag : (h : List Event) (e : Event) (p : ℕ) (r : Declared) → In (roots_of h) r → takes_of heading h e p r ≡ true
+  for_tag : (h : List Event) (e : Event) (p page : ℕ) → takes_of heading h e p page ≡ true
       → (tag : Tag) × NeededForTag heading h e p tag
-  for_tag h e p r declared taking =
-      let f = any_found (λ (tag : Tag). takes_tag heading e h tag && holds_at heading Patterns p r.page tag h)
-      (distinct (ever_read heading r.page h)) taking in
-      let parts = and_parts (takes_tag heading e h f.0) (holds_at heading Patterns p r.page f.0 h) f.2 in (
-        f.0,
-        record {
-          root = r;
-          declared = t.roots.sound h r (to_contains (roots_of h) r declared);
-          held = t.tag_held.sound p r.page f.0 h parts.1;
-          whole = parts.0;
-        },
-      )
+  for_tag h e p page taking =
+      let f = any_found (λ (tag : Tag). takes_tag heading e h tag && kept_at heading Patterns p page tag h)
+      (distinct (ever_read heading page h)) taking in
+      let parts = and_parts (takes_tag heading e h f.0) (kept_at heading Patterns p page f.0 h) f.2 in
+      (f.0, record { page = page; kept = t.tag_kept.sound p page f.0 h parts.1; whole = parts.0 })
 
   taking : (h : List Event) (e : Event) (p : ℕ) (tag : Tag) → p < heading.pes → (n : NeededForTag heading h e p tag)
-      → takes_of heading h e p n.root ≡ true
+      → takes_of heading h e p n.page ≡ true
   taking h e p tag less n =
-      let held = t.tag_held.complete p n.root.page tag h n.held in
-      any_finds (λ (g : Tag). takes_tag heading e h g && holds_at heading Patterns p n.root.page g h)
-      (distinct (ever_read heading n.root.page h)) tag
-      (held_is_listed heading Patterns p n.root.page tag t.equality_tests.tags h less held)
-      (and_from (takes_tag heading e h tag) (holds_at heading Patterns p n.root.page tag h) n.whole held)
+      let kept = t.tag_kept.complete p n.page tag h n.kept in
+      any_finds (λ (g : Tag). takes_tag heading e h g && kept_at heading Patterns p n.page g h)
+      (distinct (ever_read heading n.page h)) tag
+      (kept_is_listed heading Patterns p n.page tag t.equality_tests.tags h less kept)
+      (and_from (takes_tag heading e h tag) (kept_at heading Patterns p n.page tag h) n.whole kept)
+
+  -- the page of a tag that is kept is that of a declared root, or of one that was given up
+  listed : (h : List Event) (e : Event) (p : ℕ) (tag : Tag) → (n : NeededForTag heading h e p tag) → In (first_pages h) n.page
+  listed h e p tag n =
+      from_contains (first_pages h) n.page (t.tag_kept.listed p n.page tag h (t.tag_kept.complete p n.page tag h n.kept))
 
   -- ---- a TLBI
 
@@ -102,17 +100,17 @@ module _ (heading : Heading) (t : Terms heading) where
   needed_sound h e needed =
       let at = pe_found heading.pes (is_needed_at heading h e) needed in
       let parts = and_parts (reaches heading e at.0)
-      (any (adds_at heading (noted heading Patterns h) e at.0) (written_places h) || any (takes_of heading h e at.0) (roots_of h)) at.2 in
+      (any (adds_at heading (noted heading Patterns h) e at.0) (written_places h) || any (takes_of heading h e at.0) (first_pages h)) at.2 in
       record {
         p = at.0;
         is_pe = at.1;
         reached = parts.0;
         for_one = elim (or_cases (any (adds_at heading (noted heading Patterns h) e at.0) (written_places h))
-            (any (takes_of heading h e at.0) (roots_of h)) parts.1) [
+            (any (takes_of heading h e at.0) (first_pages h)) parts.1) [
               | inl place ↦
                   let f = any_found (adds_at heading (noted heading Patterns h) e at.0) (written_places h) place in
                   inl (f.0, for_place (noted heading Patterns h) e at.0 f.0 f.2)
-              | inr tag ↦ let f = any_found (takes_of heading h e at.0) (roots_of h) tag in inr (for_tag h e at.0 f.0 f.1 f.2)
+              | inr tag ↦ let f = any_found (takes_of heading h e at.0) (first_pages h) tag in inr (for_tag h e at.0 f.0 f.2)
             ];
       }
 
@@ -128,5 +126,4 @@ module _ (heading : Heading) (t : Terms heading) where
           (adding (cover_at heading Patterns (noted heading Patterns h) e there.0) there.0 n.p f.write.since f.further)
       by (inr there) =
           let f : NeededForTag heading h e n.p there.0 = there.1 in
-          takes_needed heading h e n.p f.root n.is_pe n.reached
-          (from_contains (roots_of h) f.root (t.roots.complete h f.root f.declared)) (taking h e n.p there.0 n.is_pe f)
+          takes_needed heading h e n.p f.page n.is_pe n.reached (listed h e n.p there.0 f) (taking h e n.p there.0 n.is_pe f)

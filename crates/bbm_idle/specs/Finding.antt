@@ -16,14 +16,15 @@ use Rattle.bbm_rules.specs.Notes.{Noted}
 use Rattle.bbm_rules.specs.Phases.{broken_phase}
 use Rattle.bbm_rules.specs.Prelude.{Heading, Event, Scope, Tag, Dsb, Tlbi}
 use Rattle.bbm_rules.specs.Reach.{Issued, reaches, unanswered}
-use Rattle.bbm_rules.specs.Roots.{Declared, roots_of}
+use Rattle.bbm_rules.specs.Roots.{first_pages}
 use Rattle.bbm_rules.specs.Tags.{Reading, ever_read, itself, takes_tag}
 use Rattle.bbm_rules.specs.Values.{written_places}
 use Rattle.bbm_oracle_tags.specs.Watches.{is_cast}
 use Rattle.bbm_oracle_patterns.specs.PlacePhases.{furthest}
 use Rattle.bbm_oracle_patterns.specs.declared.trace.Trace.{Trace}
 use Rattle.bbm_oracle_trees.specs.ByPatterns.{StandsByPatterns}
-use Rattle.bbm_idle.specs.Idle.{adds, adds_since, is_needed, takes_of}
+use Rattle.bbm_alike.specs.SameTags.{takes_of}
+use Rattle.bbm_idle.specs.Idle.{adds, adds_since, is_needed}
 use Rattle.bbm_idle.specs.SamePhase.{same_phase}
 use Rattle.bbm_oracle_patterns.specs.declared.search.TreePlace.{TreePlace}
 use Rattle.bbm_idle.specs.declared.find_phases.Phases.{Phases}
@@ -62,18 +63,19 @@ IsKnown heading h known = (root : ℕ) (test : Tag → Bool) → any (passes roo
 abbrev pub is_taken : Scope → Option ℕ → ℕ → (Reading → Bool) → Reading → Bool
 is_taken scope vmid root test r = (r.root == root && takes_whole_tag scope vmid r.tag) && test r
 
--- what was ever readable for the declared root under a tag that the TLBI takes whole passes the test
-abbrev pub taken_passes : Heading → List Event → Event → (ℕ → Tag → Bool) → Declared → Bool
-taken_passes heading h e test r = any (λ tag. takes_tag heading e h tag && test r.page tag) (ever_read heading r.page h)
+-- what was ever readable for the root of the page under a tag that the TLBI takes whole passes the test
+abbrev pub taken_passes : Heading → List Event → Event → (ℕ → Tag → Bool) → ℕ → Bool
+taken_passes heading h e test page = any (λ tag. takes_tag heading e h tag && test page tag) (ever_read heading page h)
 
--- the list has what was ever readable for a declared root under a tag that the TLBI takes whole
+-- the list has what was ever readable under a tag that the TLBI takes whole, for a declared root or one that was given
+-- up
 abbrev pub AreTaken : Heading → List Event → Event → List Reading → Type 0
 AreTaken heading h e taken = (test : ℕ → Tag → Bool)
-    → any (λ r. test r.root r.tag) taken ≡ any (taken_passes heading h e test) (roots_of h)
+    → any (λ r. test r.root r.tag) taken ≡ any (taken_passes heading h e test) (first_pages h)
 
 -- whether a TLBI that adds something at places at these PEs is needed at p
 abbrev pub needed_by : Heading → List Event → Event → (ℕ → Bool) → ℕ → Bool
-needed_by heading h e added p = reaches heading e p && (added p || any (takes_of heading h e p) (roots_of h))
+needed_by heading h e added p = reaches heading e p && (added p || any (takes_of heading h e p) (first_pages h))
 
 -- ---- phases
 

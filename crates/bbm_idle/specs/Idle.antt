@@ -15,10 +15,11 @@ use Rattle.bbm_rules.specs.Phases.{phase_of}
 use Rattle.bbm_rules.specs.Places.{page_of}
 use Rattle.bbm_rules.specs.Prelude.{Barrier, Heading, Event, Dsb, Dmb, Isb, Tlbi, Msr}
 use Rattle.bbm_rules.specs.Reach.{Issued, completes, reaches, unanswered}
-use Rattle.bbm_rules.specs.Roots.{Declared, roots_of}
-use Rattle.bbm_rules.specs.Tags.{distinct, ever_read, holds_at, itself, takes_tag}
+use Rattle.bbm_rules.specs.Roots.{first_pages}
+use Rattle.bbm_rules.specs.Tags.{itself}
 use Rattle.bbm_rules.specs.Tree.{node_of}
 use Rattle.bbm_rules.specs.Values.{written_places}
+use Rattle.bbm_alike.specs.SameTags.{takes_of}
 use Rattle.bbm_idle.specs.SamePhase.{same_phase}
 
 -- whether p wrote a register since its last ISB
@@ -52,16 +53,12 @@ module _ (heading : Heading) where
   abbrev pub adds_at : List Noted → Event → ℕ → ℕ → Bool
   adds_at h e p place = adds_with h (cover_at heading Patterns h e place) p place
 
-  -- whether the root holds at p a tag that the TLBI takes whole
-  abbrev pub takes_of : List Event → Event → ℕ → Declared → Bool
-  takes_of h e p r = any (λ tag. takes_tag heading e h tag && holds_at heading Patterns p r.page tag h)
-      (distinct (ever_read heading r.page h))
-
-  -- Needed: a TLBI that at a PE which it reaches adds something at a place of a tree, or takes a whole tag that a root
-  -- holds there. A place that was never written holds nothing.
+  -- Needed: a TLBI that at a PE which it reaches adds something at a place of a tree, or takes a whole tag that is kept
+  -- there for the page of a declared root, or of one that was given up. A place that was never written holds nothing.
   abbrev pub is_needed_at : List Event → Event → ℕ → Bool
   is_needed_at h e p = reaches heading e p
-      && (any (adds_at (noted heading Patterns h) e p) (written_places h) || any (takes_of h e p) (roots_of h))
+      && (any (adds_at (noted heading Patterns h) e p) (written_places h)
+      || any (takes_of heading h e p) (first_pages h))
 
   abbrev pub is_needed : List Event → Event → Bool
   is_needed h e = some_pe heading.pes (is_needed_at h e)

@@ -13,8 +13,7 @@ use Rattle.bbm_rules.specs.Phases.{phase_of}
 use Rattle.bbm_rules.specs.Places.{page_of}
 use Rattle.bbm_rules.specs.Prelude.{Barrier, Reg, Tag, Heading, Event, Dsb, Dmb, Isb, Tlbi, Msr}
 use Rattle.bbm_rules.specs.Reach.{Issued, completes, reaches}
-use Rattle.bbm_rules.specs.Roots.{Declared}
-use Rattle.bbm_rules.specs.Sentences.{HoldsTag, IsDeclared, Open}
+use Rattle.bbm_rules.specs.Sentences.{KeptTag, Open}
 use Rattle.bbm_rules.specs.Tags.{itself, takes_tag}
 use Rattle.bbm_rules.specs.Tree.{Node, node_of}
 
@@ -46,11 +45,11 @@ module _ (heading : Heading) where
     pub last_write : IsLastValid node.kind node.level place h write
     pub further : TakesFurther (cover_at heading Patterns h e place) place p write.since
 
-  -- Needed at p for a tag: a declared root holds the tag at p, and the TLBI takes the whole tag.
+  -- Needed at p for a tag: the tag is kept at p for a page, whose root holds it or was given up and left it, and the
+  -- TLBI takes the whole tag.
   pub record NeededForTag (h : List Event) (e : Event) (p : ℕ) (tag : Tag) : Type 0 where
-    pub root : Declared
-    pub declared : IsDeclared h root
-    pub held : HoldsTag heading Patterns p root.page tag h
+    pub page : ℕ
+    pub kept : KeptTag heading Patterns p page tag h
     pub whole : takes_tag heading e h tag ≡ true
 
   -- Needed: at a PE that the TLBI reaches, for a place or for a tag. Before it came h.

@@ -5,7 +5,7 @@ use Rattle.bbm_rules.specs.BrokenLaws.{NotesKeepEvents, NotesOfOlder}
 use Rattle.bbm_rules.specs.Claims.{Patterns}
 use Rattle.bbm_rules.specs.EventLaws.{AnsweredBySentence, ByChanges, RootsBySentence, TestsAreExact}
 use Rattle.bbm_rules.specs.HeldLaws.{CleansedBySentence, HalfBySentence, LastValidBySentence, SeenBySentence}
-use Rattle.bbm_rules.specs.TagLaws.{TagHeldBySentence}
+use Rattle.bbm_rules.specs.TagLaws.{TagKeptBySentence}
 use Rattle.bbm_rules.specs.TreeLaws.{TreeBySentence}
 use Rattle.bbm_histories.specs.ContentLaws.{FrozenView, HeldAfter, HeldChanges, NothingGoesBack, PhaseByParts}
 use Rattle.bbm_histories.specs.PatternLaws.{PatternsAfter, PatternsStay}
@@ -38,6 +38,7 @@ pub record Known (heading : Heading) : Type 0 where
   pub phase_parts : PhaseByParts heading Patterns
   pub same_tags : TagsStay heading
   pub seen : SeenBySentence heading
+  pub tag_kept : TagKeptBySentence heading Patterns
   pub takes_alike : TakenAlike heading
   pub tree : TreeBySentence heading Patterns
   pub trees_alike : TreesAlike heading Patterns Patterns
@@ -53,4 +54,4 @@ pub record Terms (heading : Heading) : Type 0 where
   pub phase_parts : PhaseByParts heading Patterns
   pub roots : RootsBySentence
   pub seen : SeenBySentence heading
-  pub tag_held : TagHeldBySentence heading Patterns
+  pub tag_kept : TagKeptBySentence heading Patterns

@@ -9,7 +9,7 @@ ghost use Rattle.bbm_oracle_patterns.specs.Kept.{notes_of};
 ghost use Rattle.bbm_idle.specs.Finding as spec;
 
 use crate::find_places::added_by;
-use crate::find_tags::holds_some;
+use crate::find_tags::keeps_some;
 use bbm_events::{Event, Header};
 use bbm_oracle_patterns::{Kept, TreePlace};
 use bbm_oracle_tags::{Reading, reaches};
@@ -22,7 +22,7 @@ use std::alloc::Global;
 pub struct Effect<'a> {
     /// The PEs at which it adds something at a place.
     pub added: PeMask,
-    /// What was ever readable for a declared root under a tag that it takes whole.
+    /// What was ever readable under a tag that it takes whole, for a declared root or one that was given up.
     pub taken: &'a [Reading],
 }
 
@@ -40,7 +40,7 @@ pub fn newest_adds(header: &Header, log: &[Kept], seats: &[TreePlace]) -> PeMask
 }
 
 /// Whether the TLBI, coming after the events, reaches the PE, and adds something there at a place or takes a whole tag
-/// that a root holds there.
+/// that is kept there.
 fn is_needed_at(
     alloc: Global,
     header: &Header,
@@ -58,7 +58,7 @@ fn is_needed_at(
         if effect.added.has(pe) {
             Ok(true)
         } else {
-            holds_some(alloc, header, before, pe, effect.taken)
+            keeps_some(alloc, header, before, pe, effect.taken)
         }
     } else {
         Ok(false)

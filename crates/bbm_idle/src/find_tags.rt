@@ -12,7 +12,7 @@ ghost use Rattle.bbm_idle.specs.Finding as spec;
 use bbm_events::{Event, Header};
 use bbm_oracle_tags::readings::is_read;
 use bbm_oracle_tags::{
-    Declared, Holding, Reading, holds_at, named_scope, readings_at, roots_of, vmid_of,
+    Holding, Reading, first_pages, kept_at, named_scope, readings_at, vmid_of,
 };
 use bbm_regimes::{NoMemory, Page, Pe};
 use bbm_rules::law_equality_tests;
@@ -119,26 +119,26 @@ fn add_taken(
     Ok(())
 }
 
-/// Those of the readings that are of one of the roots and whose tag a TLBI of this scope takes whole.
+/// Those of the readings that are of the root of one of the pages and whose tag a TLBI of this scope takes whole.
 fn taken_under(
     alloc: Global,
     scope: &Scope,
     vmid: Option<u16>,
-    roots: &[Declared],
+    pages: &[Page],
     known: &[Reading],
 ) -> Result<Vec<Reading>, NoMemory>
     ensures { IfOk result (λ taken. (test : tags.Reading → Bool) → any test taken.items
-        ≡ any (λ r. any (spec.is_taken scope.now vmid r.page test) known.now) roots.now) }
+        ≡ any (λ page. any (spec.is_taken scope.now vmid page test) known.now) pages.now) }
 {
     let mut taken = Vec::new(alloc);
-    for root in roots {
-        add_taken(&mut taken, scope, vmid, root.page, known)?;
+    for page in pages {
+        add_taken(&mut taken, scope, vmid, *page, known)?;
     }
     Ok(taken)
 }
 
-/// What was ever readable for a declared root under a tag that the TLBI, coming after these events, takes whole.
-/// `NoMemory` where there is none.
+/// What was ever readable under a tag that the TLBI, coming after these events, takes whole, for a declared root or one
+/// that was given up. `NoMemory` where there is none.
 pub fn taken_by(
     alloc: Global,
     header: &Header,
@@ -153,8 +153,8 @@ pub fn taken_by(
         Event::Tlbi { pe, op, xt } => match named_scope(alloc, header, before, pe, op, xt) {
             Ok(Some(scope)) => {
                 let vmid = vmid_of(alloc, header, before, pe)?;
-                let roots = roots_of(alloc, before)?;
-                taken_under(alloc, &scope, vmid, &roots, known)
+                let pages = first_pages(alloc, before)?;
+                taken_under(alloc, &scope, vmid, &pages, known)
             }
             Ok(None) => Ok(Vec::new(alloc)),
             Err(_) => Err(NoMemory),
@@ -163,16 +163,17 @@ pub fn taken_by(
     }
 }
 
-/// Whether a root holds at the PE, after the events, its tag of one of the readings. `NoMemory` where there is none.
-pub fn holds_some(
+/// Whether the tag of one of the readings is kept at the PE, after the events, for the page of its root. `NoMemory`
+/// where there is none.
+pub fn keeps_some(
     alloc: Global,
     header: &Header,
     events: &[Event],
     pe: Pe,
     readings: &[Reading],
 ) -> Result<bool, NoMemory>
-    ensures { IfOk result (λ holds. holds
-        ≡ any (λ r. tags.holds_at header.now Patterns pe r.root r.tag (reverse events.now)) readings.now) }
+    ensures { IfOk result (λ keeps. keeps
+        ≡ any (λ r. tags.kept_at header.now Patterns pe r.root r.tag (reverse events.now)) readings.now) }
 {
     for reading in readings {
         let asked = Holding {
@@ -180,7 +181,7 @@ pub fn holds_some(
             root: reading.root,
             tag: reading.tag,
         };
-        if holds_at(alloc, header, events, &asked)? {
+        if kept_at(alloc, header, events, &asked)? {
             return Ok(true);
         }
     }

@@ -14,7 +14,7 @@ use bbm_histories::{
 };
 use bbm_rules::{
     law_answered, law_changes, law_cleansed, law_equality_tests, law_half, law_last_valid,
-    law_notes, law_notes_keep_the_events, law_root, law_seen, law_tag_held, law_tree,
+    law_notes, law_notes_keep_the_events, law_root, law_seen, law_tag_kept, law_tree,
 };
 
 /// The laws that the laws here stand on.
@@ -44,6 +44,7 @@ pub(crate) fn known()
     law_proper();
     law_seen();
     law_same_tags();
+    law_tag_kept();
     law_takes_alike();
     law_tree();
     law_trees_alike();
@@ -62,5 +63,5 @@ pub(crate) fn terms()
     law_phase_parts();
     law_root();
     law_seen();
-    law_tag_held();
+    law_tag_kept();
 }

@@ -71,7 +71,7 @@ fn breaks<E: Evidence>(
         Rule::BadKind => made_with(alloc, history, Flaw::Contiguous, event),
         Rule::GlobalUser => made_with(alloc, history, Flaw::GlobalUser, event),
         Rule::PageInUse => page_in_use(alloc, history, event),
-        Rule::NoRoot => Ok(rules::no_root(events, event)),
+        Rule::NoRoot => Ok(rules::no_root(header, events, event)),
         Rule::TagConflict => rules::tag_conflict(alloc, history.evidence(), header, events, event),
         Rule::RootInUse => rules::root_in_use(alloc, history.evidence(), header, events, event),
         Rule::UnsyncedVmid => rules::unsynced_vmid(alloc, header, events, event),

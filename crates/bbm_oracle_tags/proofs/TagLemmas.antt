@@ -1,7 +1,7 @@
 -- Which tags a root may hold, those that it holds, and the set of them.
 use Rattle.bbm_rules.proofs.Common.{◌≡◌, ℕ, ◌+◌, ◌<◌, take, get_or, Bool, true, false, not, ◌&&◌, ◌||◌, List, [], ◌∷◌}
 use Rattle.bbm_rules.proofs.Common.{length, refl, sym, ap, ◌∙◌, true≢false, and_from, list_any_more, TagSet, One, Many}
-use Rattle.bbm_rules.proofs.Common.{Heading, Event, Tag, changes, Trust, same_tag, holds_at, loses, reads, first_true}
+use Rattle.bbm_rules.proofs.Common.{Heading, Event, Tag, changes, Trust, same_tag, ends, holds_at, reads, first_true}
 use Rattle.bbm_rules.proofs.Common.{or-false}
 use Rattle.bbm_tlbi_scope.specs.declared.entry.TagSet.TheVariants.{None as NoTag}
 use Rattle.bbm_oracle_tags.specs.HeldTagSets.{HasTags, has_tag, was_read}
@@ -18,12 +18,12 @@ held-was-read heading trust p root tag [] k = k
 held-was-read heading trust p root tag (e ∷ h) k =
     by_case (reads heading (e ∷ h) p tag root) k (λ l. held-was-read heading trust p root tag h l)
   where
-    by_case : (b : Bool) → (b || (holds_at heading trust p root tag h && not (loses heading trust p tag e h))) ≡ true
+    by_case : (b : Bool) → (b || (holds_at heading trust p root tag h && not (ends heading trust p root tag e h))) ≡ true
         → (holds_at heading trust p root tag h ≡ true → was_read heading p root tag h ≡ true)
         → (b || was_read heading p root tag h) ≡ true
     by_case true k rest = refl
     by_case false k rest = rest (first_true (holds_at heading trust p root tag h)
-        (not (loses heading trust p tag e h)) k)
+        (not (ends heading trust p root tag e h)) k)
 
 -- what is read now was read
 pub reads-was-read : (heading : Heading) (p root : ℕ) (tag : Tag) (h : List Event) → reads heading h p tag root ≡ true

@@ -2,7 +2,7 @@
 use Rattle.bbm_rules.proofs.Common.{◌≡◌, ℕ, suc, ◌<◌, ◌≤◌, Bool, true, false, not, ◌&&◌, ◌||◌, cond, ◌==◌, List, []}
 use Rattle.bbm_rules.proofs.Common.{◌∷◌, length, refl, sym, ap, ◌∙◌, arith, true≢false, le-leb, any-filter_same, proved}
 use Rattle.bbm_rules.proofs.Common.{Is, answers, operation, Barrier, Heading, Event, Dsb, Tlbi, Tag, any, Issued}
-use Rattle.bbm_rules.proofs.Common.{completes, left_open, reaches, unanswered, holds_at, itself, loses, read_since}
+use Rattle.bbm_rules.proofs.Common.{completes, left_open, reaches, unanswered, gives_up, holds_at, itself, left_at, loses, read_since}
 use Rattle.bbm_rules.proofs.Common.{reads, reads_for_some, takes_tag, and-false, and-true, and_comm, first_true}
 use Rattle.bbm_regimes.specs.PeMask.{pe_in}
 use Rattle.bbm_rules.specs.Claims.{Patterns}
@@ -250,25 +250,39 @@ module _ (heading : Heading) (p : ℕ) (tag : Tag) where
       ∙ same-whole e h cast whole q (awaits heading p tag h cast q) k
       ∙ sym (awaits-next e h cast q)
 
-  pub watch-next : (root : ℕ) (e : Event) (h : List Event) (old new : Watch) (whole lost : Bool)
+  pub watch-next : (root : ℕ) (e : Event) (h : List Event) (old new : Watch) (whole lost up : Bool)
       → IsWatch heading p root tag h old → Looks heading p root tag (e ∷ h) new
       → (old.reads_some ≡ false → whole ≡ (reaches heading e p && takes_tag heading e h tag))
-      → lost ≡ loses_by e (pe_in old.broadcast) (pe_in old.local)
-      → new.holds ≡ (new.reads || (old.holds && not lost))
+      → lost ≡ loses_by e (pe_in old.broadcast) (pe_in old.local) → up ≡ gives_up root e
+      → new.holds ≡ (new.reads || (old.holds && not (up || lost)))
+      → new.left ≡ ((old.left || (up && old.holds)) && not lost)
       → ((q : ℕ) → pe_in new.local q ≡ awaits_after false whole new.reads_some e q (pe_in old.local q))
       → ((q : ℕ) → pe_in new.broadcast q ≡ awaits_after true whole new.reads_some e q (pe_in old.broadcast q))
       → IsWatch heading p root tag (e ∷ h) new
-  watch-next root e h old new whole lost k looks taken losing holding local broadcast = record {
+  watch-next root e h old new whole lost up k looks taken losing giving holding leaving local broadcast = record {
     looks = looks;
     holds = holding
-        ∙ ap (λ (b : Bool). b || (old.holds && not lost)) looks.reads
-        ∙ ap (λ (b : Bool). reads heading (e ∷ h) p tag root || (b && not lost)) k.holds
-        ∙ ap (λ (b : Bool). reads heading (e ∷ h) p tag root || (holds_at heading Patterns p root tag h && not b))
-        (losing ∙ loses-same e (pe_in old.broadcast) (awaits heading p tag h true) (pe_in old.local)
-        (awaits heading p tag h false) k.broadcast k.local
-        ∙ sym (loses-next e h));
+        ∙ ap (λ (b : Bool). b || (old.holds && not (up || lost))) looks.reads
+        ∙ ap (λ (b : Bool). reads heading (e ∷ h) p tag root || (b && not (up || lost))) k.holds
+        ∙ ap (λ (b : Bool). reads heading (e ∷ h) p tag root || (holds_at heading Patterns p root tag h && not (b || lost)))
+        giving
+        ∙ ap (λ (b : Bool). reads heading (e ∷ h) p tag root
+        || (holds_at heading Patterns p root tag h && not (gives_up root e || b))) is_lost;
+    left = leaving
+        ∙ ap (λ (b : Bool). (b || (up && old.holds)) && not lost) k.left
+        ∙ ap (λ (b : Bool). (left_at heading Patterns p root tag h || (up && b)) && not lost) k.holds
+        ∙ ap (λ (b : Bool). (left_at heading Patterns p root tag h || (b && holds_at heading Patterns p root tag h))
+        && not lost) giving
+        ∙ ap (λ (b : Bool). (left_at heading Patterns p root tag h
+        || (gives_up root e && holds_at heading Patterns p root tag h)) && not b) is_lost;
     local = λ q. awaits-kept e h false whole new.reads_some q (pe_in old.local q) (pe_in new.local q)
         (λ none. taken (k.looks.reads_some ∙ none)) looks.reads_some (k.local q) (local q);
     broadcast = λ q. awaits-kept e h true whole new.reads_some q (pe_in old.broadcast q) (pe_in new.broadcast q)
         (λ none. taken (k.looks.reads_some ∙ none)) looks.reads_some (k.broadcast q) (broadcast q);
   }
+    where
+      is_lost : lost ≡ loses heading Patterns p tag e h
+      is_lost =
+          losing ∙ loses-same e (pe_in old.broadcast) (awaits heading p tag h true) (pe_in old.local)
+          (awaits heading p tag h false) k.broadcast k.local
+          ∙ sym (loses-next e h)

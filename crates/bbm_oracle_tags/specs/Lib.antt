@@ -1,4 +1,5 @@
 pub mod Conflicts
 pub mod Moments
 pub mod HeldTagSets
+pub mod Keepers
 pub mod Watches

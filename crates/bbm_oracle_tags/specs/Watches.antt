@@ -1,4 +1,4 @@
--- What a walk over a history keeps of one tag at one PE, to tell when a root holds it.
+-- What a walk over a history keeps of one tag at one PE, to tell when a root holds it or has left it.
 use Rattle.std.specs.Prelude.{◌≡◌, ℕ, Bool, true, false, not, ◌&&◌, ◌||◌, ◌==◌, List, length}
 use Rattle.bbm_regimes.specs.PeMask.{pe_in}
 use Rattle.bbm_barriers.specs.Options.{answers}
@@ -7,7 +7,7 @@ use Rattle.bbm_rules.specs.Prelude.{Tag, Heading, Event, Dsb, Tlbi}
 use Rattle.bbm_rules.specs.Claims.{Patterns}
 use Rattle.bbm_rules.specs.Lists.{any}
 use Rattle.bbm_rules.specs.Reach.{Issued, reaches, unanswered}
-use Rattle.bbm_rules.specs.Tags.{holds_at, itself, reads, reads_for_some, read_since, takes_tag}
+use Rattle.bbm_rules.specs.Tags.{holds_at, itself, left_at, reads, reads_for_some, read_since, takes_tag}
 use Rattle.bbm_oracle_tags.specs.Moments.{IsMoment}
 use Rattle.bbm_oracle_tags.specs.declared.watch.Watch.{Watch}
 
@@ -38,6 +38,7 @@ pub record Looks (heading : Heading) (p root : ℕ) (tag : Tag) (h : List Event)
 pub record IsWatch (heading : Heading) (p root : ℕ) (tag : Tag) (h : List Event) (w : Watch) : Type 0 where
   pub looks : Looks heading p root tag h w
   pub holds : w.holds ≡ holds_at heading Patterns p root tag h
+  pub left : w.left ≡ left_at heading Patterns p root tag h
   pub local : (q : ℕ) → pe_in w.local q ≡ awaits heading p tag h false q
   pub broadcast : (q : ℕ) → pe_in w.broadcast q ≡ awaits heading p tag h true q
 

@@ -1,11 +1,11 @@
 //! Every pattern of events is trusted.
 
-ghost use Rattle.std.specs.Prelude.{IfOk};
 ghost use Rattle.bbm_rules.specs.Claims.{Patterns};
 
 use crate::evidence::TagEvidence;
 use crate::holding::Holding;
-use crate::tags::holds_at;
+use crate::keeper::Keeper;
+use crate::tags::watched;
 use bbm_events::{Event, Header};
 use bbm_regimes::NoMemory;
 use std::alloc::Global;
@@ -20,14 +20,19 @@ impl TagEvidence for AllPatterns {
 
     ghost knows = { λ all heading h. Unit {0} };
 
-    fn holds_at(
+    fn keeps_at(
         &self,
         alloc: Global,
         header: &Header,
         events: &[Event],
         asked: &Holding,
+        keeper: Keeper,
     ) -> Result<bool, NoMemory> {
-        holds_at(alloc, header, events, asked)
+        let watch = watched(alloc, header, events, asked)?;
+        match keeper {
+            Keeper::Declared => Ok(watch.holds),
+            Keeper::GivenUp => Ok(watch.left),
+        }
     }
 
     ghost knows_write = { λ all heading h pe reg value known. tt };

@@ -2,12 +2,12 @@
 
 use bbm_regimes::{Pe, Tag};
 
-/// A tag that a root holds at a PE, or may hold there. Source: project's own choice.
+/// A tag that a root of a page keeps at a PE, or may keep there. Source: project's own choice.
 #[derive(Clone, Copy, Debug)]
 pub struct Holding {
     /// The PE.
     pub pe: Pe,
-    /// The address of the root's first page, in bytes.
+    /// The address of the page, the first of the root, in bytes.
     pub root: u64,
     /// The tag.
     pub tag: Tag,

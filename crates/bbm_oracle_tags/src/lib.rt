@@ -6,6 +6,7 @@
 mod all_patterns;
 pub mod evidence;
 pub mod holding;
+pub mod keeper;
 pub mod limits;
 pub mod locks;
 mod moment;
@@ -23,6 +24,7 @@ mod watch;
 pub use all_patterns::AllPatterns;
 pub use evidence::TagEvidence;
 pub use holding::Holding;
+pub use keeper::Keeper;
 pub use limits::limit_of;
 pub use locks::{holder_of, lacks};
 pub use numbers::least;
@@ -30,10 +32,12 @@ pub use pages::{count_initialised, has_values, is_initialised, is_null};
 pub use reach::{completes, publishes_for, reaches};
 pub use readings::{Reading, readings_at};
 pub use registers::{named_scope, register_values, vmid_of};
-pub use roots::{Declared, is_root, lock_of, root_at, roots_of};
+pub use roots::{
+    Declared, first_pages, given_up, gives_up, is_root, lock_of, root_at, roots_of,
+};
 pub use rules::{
     bad_operand, lock_busy, lock_not_mine, no_root, null_written, root_in_use, tag_conflict,
     unsynced_vmid, without_lock, wrong_world,
 };
-pub use tags::{holds_at, holds_tag, tag_set_of};
+pub use tags::{keeps_tag, kept_at, tag_set_of};
 pub use values::{places_in, value_of};

@@ -1,8 +1,9 @@
-//! The declared roots.
+//! The declared roots, and those that were given up.
 //! Source: project's own choice, where no other is named.
 
-ghost use Rattle.std.specs.Prelude.{◌≡◌, List, ◌∷◌, reverse, IfOk, OnOk};
+ghost use Rattle.std.specs.Prelude.{◌≡◌, List, ◌∷◌, map, reverse, IfOk, OnOk};
 ghost use Rattle.bbm_events.specs.declared.event.Event.{Event};
+ghost use Rattle.bbm_rules.specs.Lists.{among, with_number};
 ghost use Rattle.bbm_rules.specs.Roots as spec;
 
 use bbm_events::Event;
@@ -91,6 +92,80 @@ pub fn roots_of(alloc: Global, events: &[Event]) -> Result<Vec<Declared>, NoMemo
         take_root(&mut roots, event)?;
     }
     Ok(roots)
+}
+
+/// Whether the event gives up the root with this first page, by its address in bytes.
+pub fn gives_up(event: &Event, page: u64) -> bool
+    ensures { result ≡ spec.gives_up page event.now }
+{
+    match *event {
+        Event::Unroot { pe: _, page: at } => at.get() == page,
+        _ => false,
+    }
+}
+
+/// Whether the page is in the list.
+fn has_page(pages: &[Page], page: Page) -> bool
+    ensures { result ≡ among page pages.now }
+{
+    pages.iter().any(|other| *other == page)
+}
+
+/// Puts the page in front, unless it is there already.
+fn put_page(pages: &mut Vec<Page>, page: Page) -> Result<(), NoMemory>
+    ensures { OnOk result (pages.new.items ≡ with_number page pages.old.items) }
+{
+    if has_page(pages, page) {
+        Ok(())
+    } else {
+        pages.insert(0, page)?;
+        Ok(())
+    }
+}
+
+/// The first pages of the roots that were given up, after one more event.
+fn take_given_up(pages: &mut Vec<Page>, event: &Event) -> Result<(), NoMemory>
+    ensures { OnOk result ((h : List Event) → pages.old.items ≡ spec.given_up h
+        → pages.new.items ≡ spec.given_up (event.now ∷ h)) }
+{
+    match *event {
+        Event::Unroot { pe: _, page } => put_page(pages, page),
+        _ => Ok(()),
+    }
+}
+
+/// The first pages of the roots that were given up, each once, that of the latest first `unroot` in front; some may be
+/// declared anew. `NoMemory` where there is none.
+pub fn given_up(alloc: Global, events: &[Event]) -> Result<Vec<Page>, NoMemory>
+    ensures { IfOk result (λ pages. pages.items ≡ spec.given_up (reverse events.now)) }
+{
+    let mut pages = Vec::new(alloc);
+    for event in events {
+        take_given_up(&mut pages, event)?;
+    }
+    Ok(pages)
+}
+
+/// The first pages of the roots.
+fn pages_of(alloc: Global, roots: &[Declared]) -> Result<Vec<Page>, NoMemory>
+    ensures { IfOk result (λ pages. pages.items ≡ map (λ r. r.page) roots.now) }
+{
+    let mut pages = Vec::new(alloc);
+    for root in roots {
+        pages.push(root.page)?;
+    }
+    Ok(pages)
+}
+
+/// The first pages of the declared roots, and behind them of those that were given up. `NoMemory` where there is none.
+pub fn first_pages(alloc: Global, events: &[Event]) -> Result<Vec<Page>, NoMemory>
+    ensures { IfOk result (λ pages. pages.items ≡ spec.first_pages (reverse events.now)) }
+{
+    let roots = roots_of(alloc, events)?;
+    let mut pages = pages_of(alloc, &roots)?;
+    let up = given_up(alloc, events)?;
+    pages.extend_from_slice(&up)?;
+    Ok(pages)
 }
 
 /// The root with this first page after one more event.

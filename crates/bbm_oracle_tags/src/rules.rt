@@ -5,7 +5,6 @@
 
 ghost use Rattle.std.specs.Prelude.{◌≡◌, not, ◌&&◌, ◌||◌, nat_le, nat_lt, ◌==◌, ◌%◌, length, flat_map, option_and_then};
 ghost use Rattle.std.specs.Prelude.{◌∷◌, ◌++◌, [], List, option_to_list, reverse, IfOk, OnOk};
-ghost use Rattle.bbm_regimes.specs.declared.regime.Reg.TheVariants.{Ttbr0El1};
 ghost use Rattle.bbm_regimes.specs.declared.regime.Tag.{Tag as TheTag};
 ghost use Rattle.bbm_events.specs.Heading.{Heading};
 ghost use Rattle.bbm_events.specs.declared.event.Event.{Event};
@@ -21,15 +20,16 @@ ghost use Rattle.bbm_rules.specs.Tags as tags;
 ghost use Rattle.bbm_oracle_tags.specs.Conflicts as clashes;
 
 use crate::evidence::TagEvidence;
+use crate::keeper::Keeper;
 use crate::locks;
 use crate::numbers::least;
 use crate::pages::is_null;
 use crate::readings::{Reading, readings_at};
 use crate::registers::{register_values, vmid_of};
-use crate::roots::{Declared, is_root, lock_of, root_at, roots_of};
-use crate::tags::{holds_tag, tag_set_of};
-use bbm_events::{Event, Header};
-use bbm_regimes::{Kind, NoMemory, Pe, Reg, base_of, kind_of};
+use crate::roots::{Declared, given_up, is_root, lock_of, root_at, roots_of};
+use crate::tags::{keeps_tag, tag_set_of};
+use bbm_events::{Event, Header, nulls_everywhere};
+use bbm_regimes::{Kind, NoMemory, Page, Pe, Reg, base_of, kind_of};
 use bbm_tlbi_scope::{TagSet, decode, lacks_vmid};
 use std::alloc::Global;
 
@@ -59,8 +59,8 @@ fn is_wrong_write(header: &Header, reg: Reg, value: u64) -> bool
 }
 
 /// 1, wrong-world: the event has a root kind, a register or a TLBI operation that isn't of the header's world, or is a
-/// `null` in the Hyp world, or an `msr` of a value with bit 0 set under a header of version 2 or later without `cnp`.
-/// At: 0.
+/// `null` in the Hyp world under a header of version 4 or older, or an `msr` of a value with bit 0 set under a header
+/// of version 2 or later without `cnp`. At: 0.
 pub fn wrong_world(header: &Header, event: &Event) -> Option<u64>
     ensures { (trust : Trust) (h : List Noted) → result ≡ spec.wrong_world header.now trust h event.now }
 {
@@ -68,7 +68,7 @@ pub fn wrong_world(header: &Header, event: &Event) -> Option<u64>
         Event::Root { kind, .. } => if_so(!header.has_kind(kind), 0),
         Event::Msr { pe: _, reg, value } => if_so(is_wrong_write(header, reg, value), 0),
         Event::Tlbi { op, .. } => if_so(!op.of_world(header.world), 0),
-        Event::Null { .. } => if_so(header.has_kind(Kind::S2), 0),
+        Event::Null { .. } => if_so(header.has_kind(Kind::S2) && !nulls_everywhere(header), 0),
         _ => None,
     }
 }
@@ -101,31 +101,39 @@ pub fn null_written(events: &[Event], event: &Event) -> Option<u64>
     }
 }
 
-/// Whether the base of a register value has no walk to a declared root: it is no first page of a declared root of the
-/// register's kind, nor, in TTBR0_EL1, a null page.
-fn is_rootless(events: &[Event], reg: Reg, base: u64) -> bool
-    ensures { result ≡ not (roots.is_root (reverse events.now) (registers.kind_of_reg reg) base
-        || (registers.same_reg reg Ttbr0El1 && pages.is_null (reverse events.now) base)) }
+/// Whether a null page may be the base of the register: of TTBR0_EL1, and from version 5 on of each.
+fn may_be_null(header: &Header, reg: Reg) -> bool
+    ensures { (trust : Trust) (h : List Noted) → result ≡ spec.may_be_null header.now trust h reg }
+{
+    match reg {
+        Reg::Ttbr0El1 => true,
+        Reg::Ttbr0El2 | Reg::VttbrEl2 | Reg::Ttbr1El1 => nulls_everywhere(header),
+    }
+}
+
+/// Whether the base of a register value is neither the first page of a declared root of the register's kind nor a null
+/// page that counts in the register.
+fn is_rootless(header: &Header, events: &[Event], reg: Reg, base: u64) -> bool
+    ensures { (trust : Trust) (h : List Noted) → result
+        ≡ not (roots.is_root (reverse events.now) (registers.kind_of_reg reg) base
+        || (spec.may_be_null header.now trust h reg && pages.is_null (reverse events.now) base)) }
 {
     if is_root(events, kind_of(reg), base) {
         return false;
     }
-    match reg {
-        Reg::Ttbr0El1 => !is_null(events, base),
-        Reg::Ttbr0El2 | Reg::VttbrEl2 | Reg::Ttbr1El1 => true,
-    }
+    !(may_be_null(header, reg) && is_null(events, base))
 }
 
 /// 11, no-root: a register is given a value other than 0 whose base is neither the first page of a declared root of
-/// the register's kind nor, in TTBR0_EL1, a null page; or an `unroot` names no first page of a declared root. At: the
-/// base, or the page.
-pub fn no_root(events: &[Event], event: &Event) -> Option<u64>
-    ensures { (trust : Trust) (h : List Noted) (header : Heading) → events_of h ≡ reverse events.now
-        → result ≡ spec.no_root header trust h event.now }
+/// the register's kind nor a null page, which under a header of version 4 or older counts in TTBR0_EL1 alone; or an
+/// `unroot` names no first page of a declared root. At: the base, or the page.
+pub fn no_root(header: &Header, events: &[Event], event: &Event) -> Option<u64>
+    ensures { (trust : Trust) (h : List Noted) → events_of h ≡ reverse events.now
+        → result ≡ spec.no_root header.now trust h event.now }
 {
     match *event {
         Event::Msr { pe: _, reg, value } => match base_of(value) {
-            Some(base) => if_so(is_rootless(events, reg, base), base),
+            Some(base) => if_so(is_rootless(header, events, reg, base), base),
             None => None,
         },
         Event::Unroot { pe: _, page } => if_so(root_at(events, page.get()).is_none(), page.get()),
@@ -160,7 +168,15 @@ fn other_holder<E: TagEvidence>(
     if page == reading.root {
         return Ok(None);
     }
-    if holds_tag(alloc, evidence, header, after, page, reading.tag)? {
+    if keeps_tag(
+        alloc,
+        evidence,
+        header,
+        after,
+        page,
+        reading.tag,
+        Keeper::Declared,
+    )? {
         Ok(Some(page))
     } else {
         Ok(None)
@@ -201,29 +217,83 @@ fn other_holders<E: TagEvidence>(
     Ok(pages)
 }
 
-/// The first pages of the roots that hold the tag of a reading for another root.
-fn holders_of_each<E: TagEvidence>(
+/// The page, where a root that was given up left the reading's tag there.
+fn leaver<E: TagEvidence>(
+    alloc: Global,
+    evidence: &E,
+    header: &Header,
+    after: &[Event],
+    reading: &Reading,
+    page: u64,
+) -> Result<Option<u64>, NoMemory>
+    requires { E.knows evidence.now header.now (reverse after.now) }
+    ensures { IfOk result (λ left. option_to_list left
+        ≡ clashes.leaver_pages header.now (E.trust evidence.now) (reverse after.now) reading.now (page ∷ [])) }
+{
+    if keeps_tag(
+        alloc,
+        evidence,
+        header,
+        after,
+        page,
+        reading.tag,
+        Keeper::GivenUp,
+    )? {
+        Ok(Some(page))
+    } else {
+        Ok(None)
+    }
+}
+
+/// Those of the pages at which a root that was given up left the reading's tag.
+fn leavers<E: TagEvidence>(
+    alloc: Global,
+    evidence: &E,
+    header: &Header,
+    after: &[Event],
+    reading: &Reading,
+    given_up: &[Page],
+) -> Result<Vec<u64>, NoMemory>
+    requires { E.knows evidence.now header.now (reverse after.now) }
+    ensures { IfOk result (λ pages. pages.items
+        ≡ clashes.leaver_pages header.now (E.trust evidence.now) (reverse after.now) reading.now given_up.now) }
+{
+    let mut pages = Vec::new(alloc);
+    for page in given_up {
+        let left = leaver(alloc, evidence, header, after, reading, page.get())?;
+        add_page(&mut pages, left)?;
+    }
+    Ok(pages)
+}
+
+/// The first pages of the roots that hold the tag of a reading for another root, and of those that were given up and
+/// left it.
+fn keepers_of_each<E: TagEvidence>(
     alloc: Global,
     evidence: &E,
     header: &Header,
     after: &[Event],
     readings: &[Reading],
     roots: &[Declared],
+    given_up: &[Page],
 ) -> Result<Vec<u64>, NoMemory>
     requires { E.knows evidence.now header.now (reverse after.now) }
     ensures { IfOk result (λ pages. pages.items
-        ≡ flat_map (λ reading. clashes.holder_pages header.now (E.trust evidence.now)
-        (reverse after.now) reading roots.now) readings.now) }
+        ≡ flat_map (clashes.keeper_pages header.now (E.trust evidence.now)
+        (reverse after.now) roots.now given_up.now) readings.now) }
 {
     let mut pages = Vec::new(alloc);
     for reading in readings {
         let holders = other_holders(alloc, evidence, header, after, reading, roots)?;
         pages.extend_from_slice(&holders)?;
+        let left = leavers(alloc, evidence, header, after, reading, given_up)?;
+        pages.extend_from_slice(&left)?;
     }
     Ok(pages)
 }
 
-/// The first pages of roots that hold a tag which is readable at the PE for another root.
+/// The first pages of roots that hold a tag which is readable at the PE for another root, and of roots that were given
+/// up and left one.
 fn conflicts<E: TagEvidence>(
     alloc: Global,
     evidence: &E,
@@ -237,12 +307,14 @@ fn conflicts<E: TagEvidence>(
 {
     let roots = roots_of(alloc, after)?;
     let readings = readings_at(alloc, header, after, pe)?;
-    let pages = holders_of_each(alloc, evidence, header, after, &readings, &roots)?;
-    Ok(pages)
+    let given_up = given_up(alloc, after)?;
+    keepers_of_each(
+        alloc, evidence, header, after, &readings, &roots, &given_up,
+    )
 }
 
-/// 12, tag-conflict: after the register write a tag is readable at its PE for one root, and another root holds it. At:
-/// the least first page of such another root. `NoMemory` where there is none.
+/// 12, tag-conflict: after the register write a tag is readable at its PE for one root, and another root holds it, or
+/// one that was given up has left it. At: the least first page of such another root. `NoMemory` where there is none.
 pub fn tag_conflict<E: TagEvidence>(
     alloc: Global,
     evidence: &E,
@@ -322,7 +394,8 @@ fn has_some(set: TagSet) -> bool
     }
 }
 
-/// Whether the root with this first page is the base of a readable register value at some PE, or holds a tag.
+/// Whether the root with this first page is the base of a readable register value at some PE, or, under a header
+/// without `unflushed`, holds a tag.
 fn is_used<E: TagEvidence>(
     alloc: Global,
     evidence: &E,
@@ -337,12 +410,15 @@ fn is_used<E: TagEvidence>(
     if is_base(alloc, header, events, page)? {
         return Ok(true);
     }
+    if header.words.unflushed {
+        return Ok(false);
+    }
     let set = tag_set_of(alloc, evidence, header, events, page)?;
     Ok(has_some(set))
 }
 
-/// 13, root-in-use: an `unroot` names a root that is the base of a readable register value at some PE, or that holds a
-/// tag. At: the page. `NoMemory` where there is none.
+/// 13, root-in-use: an `unroot` names a root that is the base of a readable register value at some PE, or, under a
+/// header without `unflushed`, that holds a tag. At: the page. `NoMemory` where there is none.
 pub fn root_in_use<E: TagEvidence>(
     alloc: Global,
     evidence: &E,

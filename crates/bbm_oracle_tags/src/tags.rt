@@ -1,4 +1,4 @@
-//! Which tags a root holds.
+//! Which tags a root keeps.
 
 ghost use Rattle.std.specs.Prelude.{◌≡◌, ℕ, List, ◌∷◌, ◌==◌, ◌&&◌, ◌||◌, Bool, true, reverse, IfOk, OnOk};
 ghost use Rattle.bbm_regimes.specs.declared.regime.Tag.{Tag as TheTag};
@@ -7,54 +7,74 @@ ghost use Rattle.bbm_rules.specs.Claims.{Patterns, Trust, same_tag as is_same_ta
 ghost use Rattle.bbm_rules.specs.Tags as spec;
 ghost use Rattle.bbm_oracle_tags.specs.Moments as moments;
 ghost use Rattle.bbm_oracle_tags.specs.HeldTagSets as sets;
+ghost use Rattle.bbm_oracle_tags.specs.Keepers as keepers;
+ghost use Rattle.bbm_oracle_tags.specs.Watches as watches;
 
 use crate::evidence::TagEvidence;
 use crate::holding::Holding;
+use crate::keeper::Keeper;
 use crate::moment::Moment;
 use crate::readings::Reading;
 use crate::watch::{Watch, changes_readings};
 use bbm_events::{Event, Header};
 use bbm_regimes::{NoMemory, Pe, Tag, same_tag};
-use bbm_rules::{law_equality_tests, law_tag_set};
+use bbm_rules::{law_equality_tests, law_tag_kept, law_tag_set};
 use bbm_tlbi_scope::{TagSet, with_tag};
 use std::alloc::Global;
 
-/// Whether the root holds the tag at the PE. `NoMemory` where there is none. Source: project's own choice, after Arm ARM
-/// (DDI 0487), "Translation Lookaside Buffers".
-pub fn holds_at(
+/// The watch of the tag at the PE after the events. `NoMemory` where there is none.
+pub(crate) fn watched(
     alloc: Global,
     header: &Header,
     events: &[Event],
     asked: &Holding,
-) -> Result<bool, NoMemory>
-    ensures { IfOk result (λ holds. holds ≡ spec.holds_at header.now Patterns asked.now.pe asked.now.root asked.now.tag
-        (reverse events.now)) }
+) -> Result<Watch, NoMemory>
+    ensures { IfOk result (λ watch. watches.IsWatch header.now asked.now.pe asked.now.root asked.now.tag
+        (reverse events.now) watch) }
 {
     let mut watch = Watch::new(alloc)?;
     for (i, event) in events.iter().enumerate() {
         watch.take(alloc, header, &events[..i], event, asked)?;
     }
-    Ok(watch.holds)
+    Ok(watch)
 }
 
-/// Whether the root with this first page, by its address in bytes, holds the tag at some PE. `NoMemory` where there is
-/// none. Source: project's own choice, after Arm ARM (DDI 0487), "Translation Lookaside Buffers".
-pub fn holds_tag<E: TagEvidence>(
+/// Whether the tag is kept for the page at the PE: its root holds it, or one that was given up left it. `NoMemory`
+/// where there is none. Source: project's own choice, after Arm ARM (DDI 0487), "Translation Lookaside Buffers".
+pub fn kept_at(
+    alloc: Global,
+    header: &Header,
+    events: &[Event],
+    asked: &Holding,
+) -> Result<bool, NoMemory>
+    ensures { IfOk result (λ kept. kept ≡ spec.kept_at header.now Patterns asked.now.pe asked.now.root asked.now.tag
+        (reverse events.now)) }
+{
+    law_tag_kept();
+    let watch = watched(alloc, header, events, asked)?;
+    Ok(watch.holds || watch.left)
+}
+
+/// Whether the root of the page that is asked, by the page's address in bytes, keeps the tag at some PE: it holds it,
+/// or left it when it was given up. `NoMemory` where there is none. Source: project's own choice, after Arm ARM (DDI
+/// 0487), "Translation Lookaside Buffers".
+pub fn keeps_tag<E: TagEvidence>(
     alloc: Global,
     evidence: &E,
     header: &Header,
     events: &[Event],
     root: u64,
     tag: Tag,
+    keeper: Keeper,
 ) -> Result<bool, NoMemory>
     requires { E.knows evidence.now header.now (reverse events.now) }
-    ensures { IfOk result (λ holds. holds
-        ≡ spec.holds_tag header.now (E.trust evidence.now) root tag (reverse events.now)) }
+    ensures { IfOk result (λ keeps. keeps
+        ≡ keepers.keeps_tag header.now (E.trust evidence.now) keeper root tag (reverse events.now)) }
 {
     for number in 0..header.pes {
         let pe = Pe::new(number).unwrap();
         let asked = Holding { pe, root, tag };
-        if evidence.holds_at(alloc, header, events, &asked)? {
+        if evidence.keeps_at(alloc, header, events, &asked, keeper)? {
             return Ok(true);
         }
     }
@@ -188,7 +208,7 @@ fn held_among<E: TagEvidence>(
 {
     let mut set = TagSet::None;
     for tag in tags {
-        let holds = holds_tag(alloc, evidence, header, events, root, *tag)?;
+        let holds = keeps_tag(alloc, evidence, header, events, root, *tag, Keeper::Declared)?;
         set = with_held(set, *tag, holds);
     }
     Ok(set)

@@ -19,6 +19,7 @@ use crate::moment::Moment;
 use crate::reach::reaches;
 use crate::readings::{is_read, is_read_for_some};
 use crate::registers::vmid_of;
+use crate::roots::gives_up;
 use bbm_barriers::{Dsb, completes_broadcast, completes_local};
 use bbm_events::{Event, Header};
 use bbm_regimes::{NoMemory, Pe, PeMask, Tag};
@@ -34,8 +35,10 @@ pub struct Watch {
     pub reads: bool,
     /// Whether it is readable for some root.
     pub reads_some: bool,
-    /// Whether the root holds the tag.
+    /// Whether the declared root of the page holds the tag.
     pub holds: bool,
+    /// Whether a root of the page that was given up has left the tag.
+    pub left: bool,
     /// The PEs with an unanswered TLBI that isn't broadcast and takes the tag, which wasn't readable since.
     pub local: PeMask,
     /// The PEs with an unanswered broadcast TLBI that takes the tag, which wasn't readable since.
@@ -185,11 +188,18 @@ fn awaiting_after(pes: PeMask, event: &Event, cast: bool, takes: bool, reads_som
     }
 }
 
-/// Whether the root holds the tag after an event.
-fn holds_after(reads: bool, holds: bool, lost: bool) -> bool
-    ensures { result ≡ (reads || (holds && not lost)) }
+/// Whether the declared root holds the tag after an event, which takes the tag away or gives the root up.
+fn holds_after(reads: bool, holds: bool, lost: bool, up: bool) -> bool
+    ensures { result ≡ (reads || (holds && not (up || lost))) }
 {
-    reads || (holds && !lost)
+    reads || (holds && !(up || lost))
+}
+
+/// Whether a root that was given up has left the tag after an event, before which it had or the declared root held it.
+fn left_after(left: bool, holds: bool, lost: bool, up: bool) -> bool
+    ensures { result ≡ ((left || (up && holds)) && not lost) }
+{
+    (left || (up && holds)) && !lost
 }
 
 impl Watch {
@@ -206,6 +216,7 @@ impl Watch {
             reads: false,
             reads_some: false,
             holds: false,
+            left: false,
             local: PeMask::none(),
             broadcast: PeMask::none(),
         })
@@ -223,6 +234,7 @@ impl Watch {
             → spec.Looks header.now asked.now.pe asked.now.root asked.now.tag h self.old
             → spec.Looks header.now asked.now.pe asked.now.root asked.now.tag (event.now ∷ h) self.new) }
         ensures holds { self.new.holds ≡ self.old.holds }
+        ensures left { self.new.left ≡ self.old.left }
         ensures local { self.new.local ≡ self.old.local }
         ensures broadcast { self.new.broadcast ≡ self.old.broadcast }
     {
@@ -250,8 +262,10 @@ impl Watch {
     {
         let whole = takes(alloc, header, before, event, asked, self.reads_some)?;
         let lost = loses(event, self.broadcast, self.local);
+        let up = gives_up(event, asked.root);
         self.look(alloc, header, event, asked)?;
-        self.holds = holds_after(self.reads, self.holds, lost);
+        self.left = left_after(self.left, self.holds, lost, up);
+        self.holds = holds_after(self.reads, self.holds, lost, up);
         self.local = awaiting_after(self.local, event, false, whole, self.reads_some);
         self.broadcast = awaiting_after(self.broadcast, event, true, whole, self.reads_some);
         Ok(())

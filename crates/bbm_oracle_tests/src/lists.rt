@@ -11,9 +11,9 @@ use bbm_oracle_tags::reach::{completes, publishes_for, reaches};
 use bbm_oracle_tags::readings::readings_at;
 use bbm_oracle_tags::registers::{named_scope, register_values, vmid_of};
 use bbm_oracle_tags::roots::{is_root, lock_of, root_at, roots_of};
-use bbm_oracle_tags::tags::{holds_at, holds_tag, tag_set_of};
+use bbm_oracle_tags::tags::{keeps_tag, kept_at, tag_set_of};
 use bbm_oracle_tags::values::{places_in, value_of};
-use bbm_oracle_tags::{AllPatterns, Holding, rules};
+use bbm_oracle_tags::{AllPatterns, Holding, Keeper, rules};
 use bbm_regimes::{Kind, Page, Pe, Place, Reg, Tag, Which};
 use bbm_tlbi_scope::{TagSet, TlbiOp};
 use std::alloc::Global;
@@ -80,8 +80,8 @@ fn tells_tags(alloc: Global) -> Option<bool> {
         root: ROOT,
         tag: Tag::El2,
     };
-    let here = holds_at(alloc, &HEADER, &all, &asked).ok()?;
-    let held = holds_tag(alloc, &AllPatterns, &HEADER, &all, ROOT, Tag::El2).ok()?;
+    let here = kept_at(alloc, &HEADER, &all, &asked).ok()?;
+    let held = keeps_tag(alloc, &AllPatterns, &HEADER, &all, ROOT, Tag::El2, Keeper::Declared).ok()?;
     let tags = tag_set_of(alloc, &AllPatterns, &HEADER, &all, ROOT).ok()?;
     Some(read.len() == 1 && here && held && tags == TagSet::One(Tag::El2))
 }
@@ -100,7 +100,7 @@ fn tells_rules(alloc: Global) -> Option<bool> {
     let clash = rules::tag_conflict(alloc, &AllPatterns, &HEADER, &all, &all[4]).ok()?;
     let used = rules::root_in_use(alloc, &AllPatterns, &HEADER, &all, &unroot).ok()?;
     let unsynced = rules::unsynced_vmid(alloc, &HEADER, &all, &all[9]).ok()?;
-    let rooted = rules::no_root(&all, &load) == Some(BELOW) && used == Some(ROOT) && clash == None;
+    let rooted = rules::no_root(&HEADER, &all, &load) == Some(BELOW) && used == Some(ROOT) && clash == None;
     let locked = rules::lock_busy(&all, &all[2]) == Some(0)
         && rules::without_lock(&all, pe, ROOT, 9) == None;
     Some(rooted && locked && unsynced == None)

@@ -27,7 +27,7 @@ use crate::node::Node;
 use crate::tree::{first_of, is_childless, tree_of};
 use bbm_events::{Event, Header};
 use bbm_oracle_patterns::{Evidence, Kept};
-use bbm_oracle_tags::Holding;
+use bbm_oracle_tags::{Holding, Keeper};
 use bbm_regimes::{NoMemory, Page, Pe, Place, Tag};
 use bbm_rules::Phase;
 use bbm_tlbi_scope::TagSet;
@@ -190,7 +190,7 @@ impl<E: Evidence> History<E> {
         let evidence = self.evidence();
         let root = root.get();
         let asked = Holding { pe, root, tag };
-        evidence.holds_at(alloc, self.header(), self.events(), &asked)
+        evidence.keeps_at(alloc, self.header(), self.events(), &asked, Keeper::Declared)
     }
 
     /// The tags that the root with this first page holds at any PE. `NoMemory` where there is none.

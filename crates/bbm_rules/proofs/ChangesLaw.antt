@@ -4,7 +4,7 @@ use Rattle.bbm_rules.proofs.Common.{Reg, Heading, Event, Init, Null, Root, Unroo
 use Rattle.bbm_rules.proofs.Common.{Unlock, changes, Trust, answered_where, answers_one, cleansed, full_step, half}
 use Rattle.bbm_rules.proofs.Common.{publishes_write, second_step, seen, ValidWrite, last_valid, last_valid_after, later}
 use Rattle.bbm_rules.proofs.Common.{holder_of, Noted, initialised, is_null, may_be_fresh, Issued, unanswered}
-use Rattle.bbm_rules.proofs.Common.{register_values, roots_of, itself, published, value_of, written_places}
+use Rattle.bbm_rules.proofs.Common.{register_values, given_up, roots_of, itself, published, value_of, written_places}
 use Rattle.bbm_rules.specs.Prelude.{Kind}
 
 pub values_kept : (e : Event) (h : List Event) (place : ℕ) → (changes e).values ≡ false → value_of (e ∷ h) place ≡ value_of h place
@@ -33,6 +33,10 @@ pub roots_kept : (e : Event) (h : List Event) → (changes e).roots ≡ false �
 roots_kept (Root pe kind lock page) h k = absurd (true≢false k)
 roots_kept (Unroot pe page) h k = absurd (true≢false k)
 roots_kept e h k = refl
+
+pub given_kept : (e : Event) (h : List Event) → (changes e).roots ≡ false → given_up (e ∷ h) ≡ given_up h
+given_kept (Unroot pe page) h k = absurd (true≢false k)
+given_kept e h k = refl
 
 pub registers_kept : (e : Event) (h : List Event) (p : ℕ) (reg : Reg) → (changes e).registers ≡ false
     → register_values (e ∷ h) p reg ≡ register_values h p reg

@@ -112,7 +112,9 @@ pub use Rattle.bbm_rules.specs.Rules.{not_fresh, null_written, page_in_use, plac
 pub use Rattle.bbm_rules.specs.Rules.{unfresh, untracked_page, written_with}
 pub use Rattle.bbm_rules.specs.Sentences.{IsDeclared, Open, TakenAway, completes_for, issues}
 pub use Rattle.bbm_rules.specs.TagSentences.{ReadsTag}
-pub use Rattle.bbm_rules.specs.Tags.{Reading, asid_readings, distinct, ever_read, holds_at, holds_tag, itself, loses}
+pub use Rattle.bbm_rules.specs.Tags.{Reading, asid_readings, distinct, ends, ever_read, holds_at, holds_tag, itself}
+pub use Rattle.bbm_rules.specs.Tags.{kept_at, left_at, left_tag, loses}
+pub use Rattle.bbm_rules.specs.Roots.{first_pages, given_up, gives_up}
 pub use Rattle.bbm_rules.specs.Tags.{read_since, readings, readings_in, readings_of, reads, reads_for_some, tag_for}
 pub use Rattle.bbm_rules.specs.Tags.{tag_set, tags_of, takes_tag}
 pub use Rattle.bbm_rules.specs.Tree.{Above, Node, child_at, children, held_at, in_limbo, in_tree, is_childless, next_in}

@@ -22,6 +22,8 @@ pub mod CasesValues
 pub mod CasesLimits
 pub mod CasesAnswers
 pub mod CasesVersions
+pub mod CasesNulls
+pub mod CasesUnflushed
 pub mod CasesUnreached
 pub mod ReadableLaw
 pub mod OpenLaw
@@ -37,6 +39,8 @@ pub mod RegisterLaw
 pub mod RootLaw
 pub mod RootPages
 pub mod TagLaw
+pub mod TagEndsLaw
+pub mod TagPagesLaw
 pub mod NotesLaw
 pub mod Patterns
 pub mod PatternLaw

@@ -6,7 +6,7 @@ use Rattle.bbm_rules.proofs.Common.{◌∙◌, ap, subst, inl, inr, true≢false
 use Rattle.bbm_rules.proofs.Common.{not_from_false, or_parts, AsidFrom, FromTtbr0, FromTtbr1, Reg, Ttbr0El2, VttbrEl2}
 use Rattle.bbm_rules.proofs.Common.{Ttbr0El1, Ttbr1El1, Tag, El2Tag, Vmid, Asid, Ttbr1Tag, World, Hyp, Kernel, Event}
 use Rattle.bbm_rules.proofs.Common.{In, any_finds, any_found, from_contains, in_append, in_left, in_map, in_right}
-use Rattle.bbm_rules.proofs.Common.{none_of, to_filter, to_flat, Trust, same_tag, among, below, if_so, is_that, some_pe}
+use Rattle.bbm_rules.proofs.Common.{none_of, to_filter, to_flat, Trust, same_tag, among, below, if_so, is_that}
 use Rattle.bbm_rules.proofs.Common.{Noted, events_of, base_of, kind_of_reg, register_values, tag_number, Declared}
 use Rattle.bbm_rules.proofs.Common.{is_root, root_at, roots_of, is_base_at, no_root, tag_conflict, ReadsTag, Reading}
 use Rattle.bbm_rules.proofs.Common.{asid_readings, holds_tag, readings, readings_in, readings_of, reads, tag_set}
@@ -19,7 +19,11 @@ use Rattle.bbm_lemmas.proofs.Words.{among_in, in_below, same_number, in_among}
 use Rattle.bbm_lemmas.proofs.Elements.{from_filter_map, from_flat, none_in, to_filter_map}
 use Rattle.bbm_rules.proofs.ListLemmas.{least_none}
 use Rattle.bbm_rules.proofs.TagSetLaw.{no_tag}
-use Rattle.bbm_rules.specs.Rules.{is_used, other_holders, root_in_use}
+use Rattle.bbm_rules.specs.Rules.{holds_some_tag, is_loaded, is_used, leavers, other_holders, others, root_in_use}
+use Rattle.bbm_rules.proofs.Common.{given_up, left_at, left_tag}
+use Rattle.bbm_rules.proofs.TagEndsLaw.{left_in_given_up}
+use Rattle.bbm_lemmas.proofs.Bools.{second_false}
+use Rattle.bbm_lemmas.proofs.Words.{pe_found}
 use Rattle.bbm_rules.specs.TagSentences.{GivesAsid, Names}
 use Rattle.bbm_rules.specs.Tags.{reading_of}
 
@@ -172,6 +176,14 @@ empty [] e = refl
 empty (g ∷ tags) e = absurd (true≢false (sym (lt-ltb 0 (suc (length tags)) (omega arith)) ∙ e))
 
 module _ (heading : Heading) (trust : Trust) (h : List Noted) where
+  none_other : {A : Type 0} (pe : ℕ) (reg : Reg) (value : ℕ) → tag_conflict heading trust h (Msr pe reg value) ≡ None
+      → (r : Reading) → In (readings heading (Msr pe reg value ∷ events_of h) pe) r → (page : ℕ)
+      → In (others heading trust h (Msr pe reg value ∷ events_of h) r) page → A
+  none_other pe reg value none r i page j =
+      absurd (none_in (flat_map (others heading trust h (Msr pe reg value ∷ events_of h)) (readings heading (Msr pe reg value ∷ events_of h) pe)) page
+      (least_none (flat_map (others heading trust h (Msr pe reg value ∷ events_of h)) (readings heading (Msr pe reg value ∷ events_of h) pe)) none)
+      (to_flat (others heading trust h (Msr pe reg value ∷ events_of h)) (readings heading (Msr pe reg value ∷ events_of h) pe) r page i j))
+
   -- after a register write a tag that is readable for a root is held by no other declared root
   pub no_other_holder : (pe : ℕ) (reg : Reg) (value : ℕ) (tag : Tag) (root : ℕ) (r : Declared)
       → tag_conflict heading trust h (Msr pe reg value) ≡ None → reads heading (Msr pe reg value ∷ events_of h) pe tag root ≡ true
@@ -179,9 +191,6 @@ module _ (heading : Heading) (trust : Trust) (h : List Noted) where
       → r.page ≡ root
   no_other_holder pe reg value tag root r none read declared holds = by (r.page == root) refl
     where
-      after : List Event
-      after = Msr pe reg value ∷ events_of h
-
       by : (c : Bool) → (r.page == root) ≡ c → r.page ≡ root
       by true c = eqb-true r.page root c
       by false c =
@@ -190,13 +199,34 @@ module _ (heading : Heading) (trust : Trust) (h : List Noted) where
           and_from (not (r.page == f.0.root)) (holds_tag heading trust r.page f.0.tag (Msr pe reg value ∷ events_of h))
           (not_from_false (r.page == f.0.root) (ap (λ (x : ℕ). r.page == x) f.3 ∙ c))
           (ap (λ (g : Tag). holds_tag heading trust r.page g (Msr pe reg value ∷ events_of h)) f.2 ∙ holds) in
-          absurd (none_in (flat_map (other_holders heading trust h (Msr pe reg value ∷ events_of h)) (readings heading (Msr pe reg value ∷ events_of h) pe)) r.page
-          (least_none (flat_map (other_holders heading trust h (Msr pe reg value ∷ events_of h)) (readings heading (Msr pe reg value ∷ events_of h) pe)) none)
-          (to_flat (other_holders heading trust h (Msr pe reg value ∷ events_of h)) (readings heading (Msr pe reg value ∷ events_of h) pe) f.0 r.page f.1
+          none_other pe reg value none f.0 f.1 r.page
+          (in_left (other_holders heading trust h (Msr pe reg value ∷ events_of h) f.0)
+          (leavers heading trust h (Msr pe reg value ∷ events_of h) f.0) r.page
           (in_map (λ (d : Declared). d.page)
           (filter (λ (d : Declared). not (d.page == f.0.root) && holds_tag heading trust d.page f.0.tag (Msr pe reg value ∷ events_of h)) (roots_of (Msr pe reg value ∷ events_of h))) r
           (to_filter (λ (d : Declared). not (d.page == f.0.root) && holds_tag heading trust d.page f.0.tag (Msr pe reg value ∷ events_of h))
-          (roots_of (Msr pe reg value ∷ events_of h)) r (from_contains (roots_of (Msr pe reg value ∷ events_of h)) r declared) other))))
+          (roots_of (Msr pe reg value ∷ events_of h)) r (from_contains (roots_of (Msr pe reg value ∷ events_of h)) r declared) other)))
+
+  -- and left by none that was given up
+  pub none_left : (pe : ℕ) (reg : Reg) (value : ℕ) (tag : Tag) (root page : ℕ)
+      → tag_conflict heading trust h (Msr pe reg value) ≡ None → reads heading (Msr pe reg value ∷ events_of h) pe tag root ≡ true
+      → left_tag heading trust page tag (Msr pe reg value ∷ events_of h) ≡ false
+  none_left pe reg value tag root page none read =
+      by (left_tag heading trust page tag (Msr pe reg value ∷ events_of h)) refl
+    where
+      by : (c : Bool) → left_tag heading trust page tag (Msr pe reg value ∷ events_of h) ≡ c
+          → left_tag heading trust page tag (Msr pe reg value ∷ events_of h) ≡ false
+      by false c = c
+      by true c =
+          let f = found_reading heading (Msr pe reg value ∷ events_of h) pe tag root read in
+          let at = pe_found heading.pes (λ (p : ℕ). left_at heading trust p page tag (Msr pe reg value ∷ events_of h)) c in
+          none_other pe reg value none f.0 f.1 page
+          (in_right (other_holders heading trust h (Msr pe reg value ∷ events_of h) f.0)
+          (leavers heading trust h (Msr pe reg value ∷ events_of h) f.0) page
+          (to_filter (λ (x : ℕ). left_tag heading trust x f.0.tag (Msr pe reg value ∷ events_of h))
+          (given_up (Msr pe reg value ∷ events_of h)) page
+          (left_in_given_up heading trust at.0 tag page (Msr pe reg value ∷ events_of h) at.2)
+          (ap (λ (g : Tag). left_tag heading trust page g (Msr pe reg value ∷ events_of h)) f.2 ∙ c)))
 
   unused : (pe page : ℕ) → root_in_use heading trust h (Unroot pe page) ≡ None → no_root heading trust h (Unroot pe page) ≡ None
       → is_used heading trust h page ≡ false
@@ -219,8 +249,8 @@ module _ (heading : Heading) (trust : Trust) (h : List Noted) where
       → no_root heading trust h (Unroot pe page) ≡ None → p < heading.pes
       → among value (register_values (events_of h) p reg) ≡ true → base_of value ≡ Some page → ⊥
   no_base pe page p reg value in_use none is_pe readable base =
-      let parts = or_parts (some_pe heading.pes (is_base_at (events_of h) page))
-      (nat_lt 0 (length (tags_of heading trust page (events_of h)))) (unused pe page in_use none) in
+      let parts = or_parts (is_loaded heading trust h page) (not heading.words.unflushed && holds_some_tag heading trust h page)
+      (unused pe page in_use none) in
       let here : is_base_at (events_of h) page p ≡ false
       = none_of (is_base_at (events_of h) page) (below heading.pes) parts.0 p (in_below heading.pes p is_pe) in
       let is_base : is_that (base_of value) page ≡ true = ap (λ (o : Option ℕ). is_that o page) base ∙ same_number page in
@@ -229,10 +259,14 @@ module _ (heading : Heading) (trust : Trust) (h : List Noted) where
       (to_flat (register_values (events_of h) p) (Ttbr0El2 ∷ VttbrEl2 ∷ Ttbr0El1 ∷ Ttbr1El1 ∷ []) reg value (in_registers reg)
       (in_among value (register_values (events_of h) p reg) readable)))
 
-  -- nor a root that holds a tag
-  pub no_tag_held : (pe page : ℕ) (tag : Tag) → root_in_use heading trust h (Unroot pe page) ≡ None
+  -- nor, without `unflushed`, a root that holds a tag
+  pub no_tag_held : heading.words.unflushed ≡ false → (pe page : ℕ) (tag : Tag)
+      → root_in_use heading trust h (Unroot pe page) ≡ None
       → no_root heading trust h (Unroot pe page) ≡ None → holds_tag heading trust page tag (events_of h) ≡ false
-  no_tag_held pe page tag in_use none =
-      let parts = or_parts (some_pe heading.pes (is_base_at (events_of h) page))
-      (nat_lt 0 (length (tags_of heading trust page (events_of h)))) (unused pe page in_use none) in
-      no_tag heading trust page (events_of h) (ap tag_set (empty (tags_of heading trust page (events_of h)) parts.1)) tag
+  no_tag_held flushed pe page tag in_use none =
+      let parts = or_parts (is_loaded heading trust h page) (not heading.words.unflushed && holds_some_tag heading trust h page)
+      (unused pe page in_use none) in
+      let some : holds_some_tag heading trust h page ≡ false
+      = second_false (not heading.words.unflushed) (holds_some_tag heading trust h page) parts.1
+      (not_from_false heading.words.unflushed flushed) in
+      no_tag heading trust page (events_of h) (ap tag_set (empty (tags_of heading trust page (events_of h)) some)) tag

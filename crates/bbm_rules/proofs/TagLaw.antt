@@ -1,11 +1,10 @@
--- The tags that a root holds at a PE are those that the sentence names, and the list of all tags that it holds has
--- each of them once.
+-- The tags that are kept for a page at a PE are those that the sentence names.
 use Rattle.bbm_rules.proofs.Common.{◌≡◌, ℕ, suc, ◌+◌, ◌<◌, ◌≤◌, Bool, true, false, not, ◌&&◌, ◌==◌, nat_le, List, []}
 use Rattle.bbm_rules.proofs.Common.{◌∷◌, ◌++◌, length, refl, sym, ◌∙◌, ap, subst, inl, inr, arith, true≢false}
 use Rattle.bbm_rules.proofs.Common.{length-append, or_cases, or_left, or_right, and_parts, and_from, leb-true}
 use Rattle.bbm_rules.proofs.Common.{leb-false, le-leb, not-true, not_from_false, In, any_finds, any_found}
 use Rattle.bbm_rules.proofs.Common.{from_contains, to_contains, Taken, Trust, same_tag, Issued, completes, reaches}
-use Rattle.bbm_rules.proofs.Common.{unanswered, Open, TakenAway, Reading, asid_readings, holds_at, itself, loses}
+use Rattle.bbm_rules.proofs.Common.{unanswered, Open, TakenAway, Reading, asid_readings, kept_at, itself, loses}
 use Rattle.bbm_rules.proofs.Common.{read_since, readings, readings_in, readings_of, reads, reads_for_some, takes_tag}
 use Rattle.bbm_rules.proofs.Common.{nat_lt, lt-ltb, ◌^◌, ◌||◌, tag_number}
 use Rattle.bbm_barriers.specs.declared.Dsb.{Dsb as Barrier}
@@ -22,7 +21,7 @@ use Rattle.bbm_events.specs.declared.event.Event.TheVariants.{Dsb}
 use Rattle.bbm_rules.proofs.OpenLaw.{head_of, tail_of, open_sound, open_complete}
 use Rattle.bbm_rules.proofs.SearchLemmas.{is_none_before, none_before}
 use Rattle.bbm_rules.specs.Claims.{allows}
-use Rattle.bbm_rules.specs.Sentences.{HoldsTag}
+use Rattle.bbm_rules.specs.Sentences.{KeptTag}
 use Rattle.bbm_rules.specs.Tags.{is_taken_by}
 use Rattle.bbm_lemmas.proofs.Bools.{second_false}
 
@@ -42,7 +41,7 @@ no_reading (Kernel kernel) p = by_asid kernel.asid_from
     by_asid FromTtbr0 = refl
     by_asid FromTtbr1 = refl
 
-not_at_start : (heading : Heading) (p root : ℕ) (tag : Tag) → reads heading [] p tag root ≡ true → ⊥
+pub not_at_start : (heading : Heading) (p root : ℕ) (tag : Tag) → reads heading [] p tag root ≡ true → ⊥
 not_at_start heading p root tag k =
     let r = any_found (λ (r : Reading). same_tag r.tag tag && r.root == root) (readings heading [] p) k in
     subst (λ (rs : List Reading). In rs r.0) (no_reading heading.world p) r.1
@@ -157,7 +156,7 @@ module _ (heading : Heading) (trust : Trust) (p : ℕ) (tag : Tag) where
           ∙ unread_at (length t.before) (Dsb q dsb ∷ newer ++ older) (Dsb q dsb ∷ newer) older takes.unread refl
           (leb-false (length older) (length t.before) young)
 
-  not_lost : (root : ℕ) (e : Event) (newer older : List Event) → reads heading older p tag root ≡ true
+  pub not_lost : (root : ℕ) (e : Event) (newer older : List Event) → reads heading older p tag root ≡ true
       → ((t : Issued Event) → TakenAway heading trust p tag (e ∷ newer ++ older) t → length older ≤ length t.before → ⊥)
       → loses heading trust p tag e (newer ++ older) ≡ false
   not_lost root (Dsb q dsb) newer older read none =
@@ -176,7 +175,7 @@ module _ (heading : Heading) (trust : Trust) (p : ℕ) (tag : Tag) where
       = length-append k.is_open.newer (t.tlbi ∷ t.before) in
       omega arith
 
-  at_once : (root : ℕ) (h : List Event) → reads heading h p tag root ≡ true → HoldsTag heading trust p root tag h
+  pub at_once : (root : ℕ) (h : List Event) → reads heading h p tag root ≡ true → KeptTag heading trust p root tag h
   at_once root h read = record {
     newer = [];
     older = h;
@@ -185,9 +184,14 @@ module _ (heading : Heading) (trust : Trust) (p : ℕ) (tag : Tag) where
     not_taken = λ t k old. let s : length t.before < length h = shorter h t k in absurd (omega arith);
   }
 
+  -- it is so at the moment itself
+  pub at_once_newer : (root : ℕ) (h : List Event) (read : reads heading h p tag root ≡ true) → (at_once root h read).newer ≡ []
+  unfolding at_once
+  at_once_newer root h read = refl
+
   -- one event more, which doesn't take the tag away
-  longer : (root : ℕ) (e : Event) (h : List Event) → loses heading trust p tag e h ≡ false
-      → HoldsTag heading trust p root tag h → HoldsTag heading trust p root tag (e ∷ h)
+  pub longer : (root : ℕ) (e : Event) (h : List Event) → loses heading trust p tag e h ≡ false
+      → KeptTag heading trust p root tag h → KeptTag heading trust p root tag (e ∷ h)
   longer root e h keeps k = record {
     newer = e ∷ k.newer;
     older = k.older;
@@ -223,28 +227,33 @@ module _ (heading : Heading) (trust : Trust) (p : ℕ) (tag : Tag) where
         allowed = taken.allowed;
       }) old
 
-  sound : (root : ℕ) (h : List Event) → holds_at heading trust p root tag h ≡ true → HoldsTag heading trust p root tag h
+  pub longer_newer : (root : ℕ) (e : Event) (h : List Event) (keeps : loses heading trust p tag e h ≡ false)
+      (k : KeptTag heading trust p root tag h) → (longer root e h keeps k).newer ≡ e ∷ k.newer
+  unfolding longer
+  longer_newer root e h keeps k = refl
+
+  sound : (root : ℕ) (h : List Event) → kept_at heading trust p root tag h ≡ true → KeptTag heading trust p root tag h
   sound root [] k = absurd (true≢false (sym k))
   sound root (e ∷ h) k =
       elim (or_cases (reads heading (e ∷ h) p tag root)
-      (holds_at heading trust p root tag h && not (loses heading trust p tag e h)) k) [
+      (kept_at heading trust p root tag h && not (loses heading trust p tag e h)) k) [
         | inl now ↦ at_once root (e ∷ h) now
         | inr before ↦
-            let r = and_parts (holds_at heading trust p root tag h) (not (loses heading trust p tag e h)) before in
+            let r = and_parts (kept_at heading trust p root tag h) (not (loses heading trust p tag e h)) before in
             longer root e h (not-true (loses heading trust p tag e h) r.1) (sound root h r.0)
       ]
 
   complete_from : (root : ℕ) (newer older : List Event) → reads heading older p tag root ≡ true
       → ((t : Issued Event) → TakenAway heading trust p tag (newer ++ older) t → length older ≤ length t.before → ⊥)
-      → holds_at heading trust p root tag (newer ++ older) ≡ true
+      → kept_at heading trust p root tag (newer ++ older) ≡ true
   complete_from root [] [] read none = absurd (not_at_start heading p root tag read)
   complete_from root [] (e ∷ h) read none =
       or_left (reads heading (e ∷ h) p tag root)
-      (holds_at heading trust p root tag h && not (loses heading trust p tag e h)) read
+      (kept_at heading trust p root tag h && not (loses heading trust p tag e h)) read
   complete_from root (e ∷ newer) older read none =
       or_right (reads heading (e ∷ newer ++ older) p tag root)
-      (holds_at heading trust p root tag (newer ++ older) && not (loses heading trust p tag e (newer ++ older)))
-      (and_from (holds_at heading trust p root tag (newer ++ older)) (not (loses heading trust p tag e (newer ++ older)))
+      (kept_at heading trust p root tag (newer ++ older) && not (loses heading trust p tag e (newer ++ older)))
+      (and_from (kept_at heading trust p root tag (newer ++ older)) (not (loses heading trust p tag e (newer ++ older)))
       (complete_from root newer older read (λ t k old. none t (one_later t k) old))
       (not_from_false (loses heading trust p tag e (newer ++ older)) (not_lost root e newer older read none)))
     where
@@ -265,13 +274,13 @@ module _ (heading : Heading) (trust : Trust) (p : ℕ) (tag : Tag) where
       }
 
 -- The test and the sentence say the same.
-pub held_sound : (heading : Heading) (trust : Trust) (p root : ℕ) (tag : Tag) (h : List Event)
-    → holds_at heading trust p root tag h ≡ true → HoldsTag heading trust p root tag h
-held_sound heading trust p root tag h k = sound heading trust p tag root h k
+pub kept_sound : (heading : Heading) (trust : Trust) (p root : ℕ) (tag : Tag) (h : List Event)
+    → kept_at heading trust p root tag h ≡ true → KeptTag heading trust p root tag h
+kept_sound heading trust p root tag h k = sound heading trust p tag root h k
 
-pub held_complete : (heading : Heading) (trust : Trust) (p root : ℕ) (tag : Tag) (h : List Event)
-    → HoldsTag heading trust p root tag h → holds_at heading trust p root tag h ≡ true
-held_complete heading trust p root tag h k =
-    subst (λ (es : List Event). holds_at heading trust p root tag es ≡ true) (sym k.split)
+pub kept_complete : (heading : Heading) (trust : Trust) (p root : ℕ) (tag : Tag) (h : List Event)
+    → KeptTag heading trust p root tag h → kept_at heading trust p root tag h ≡ true
+kept_complete heading trust p root tag h k =
+    subst (λ (es : List Event). kept_at heading trust p root tag es ≡ true) (sym k.split)
     (complete_from heading trust p tag root k.newer k.older k.read
     (λ t taken old. k.not_taken t (subst (λ (es : List Event). TakenAway heading trust p tag es t) (sym k.split) taken) old))

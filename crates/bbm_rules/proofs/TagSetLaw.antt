@@ -3,7 +3,7 @@ use Rattle.bbm_rules.proofs.Common.{◌≡◌, ℕ, Bool, true, false, cond, not
 use Rattle.bbm_rules.proofs.Common.{flat_map, Some, refl, sym, ◌∙◌, ap, subst, inl, inr, true≢false, and_parts}
 use Rattle.bbm_rules.proofs.Common.{false_from_ne_true, or_cases, One, Many, Tag, Heading, Event, In, any_finds}
 use Rattle.bbm_rules.proofs.Common.{any_found, from_filter, in_left, in_right, to_filter, to_flat, Trust, same_tag, any}
-use Rattle.bbm_rules.proofs.Common.{below, if_so, Reading, distinct, ever_read, holds_at, holds_tag, loses, readings}
+use Rattle.bbm_rules.proofs.Common.{below, if_so, Reading, distinct, ends, ever_read, holds_at, holds_tag, readings}
 use Rattle.bbm_rules.proofs.Common.{reads, tag_set, tag_for, tags_of}
 use Rattle.bbm_tlbi_scope.specs.declared.entry.TagSet.TheVariants.{None as NoTag}
 use Rattle.bbm_rules.proofs.SameRegister.{tag_equal, tag_self}
@@ -73,14 +73,14 @@ module _ (heading : Heading) (trust : Trust) (root : ℕ) (tag : Tag) where
   was_read p among (e ∷ h) k =
       let now = flat_map (λ (q : ℕ). filter_map (tag_for root) (readings heading (e ∷ h) q)) (below heading.pes) in
       elim (or_cases (reads heading (e ∷ h) p tag root)
-      (holds_at heading trust p root tag h && not (loses heading trust p tag e h)) k) [
+      (holds_at heading trust p root tag h && not (ends heading trust p root tag e h)) k) [
         | inl here ↦
             let r = any_found (λ (r : Reading). same_tag r.tag tag && r.root == root) (readings heading (e ∷ h) p) here in
             in_left now (ever_read heading root h) tag
             (to_flat (λ (q : ℕ). filter_map (tag_for root) (readings heading (e ∷ h) q)) (below heading.pes) p tag among
             (in_tags tag root (readings heading (e ∷ h) p) r.0 r.1 r.2))
         | inr before ↦
-            let r = and_parts (holds_at heading trust p root tag h) (not (loses heading trust p tag e h)) before in
+            let r = and_parts (holds_at heading trust p root tag h) (not (ends heading trust p root tag e h)) before in
             in_right now (ever_read heading root h) tag (was_read p among h r.0)
       ]
 

@@ -11,7 +11,7 @@ use Rattle.bbm_rules.specs.Notes.{Noted, event_of}
 use Rattle.bbm_rules.specs.Pages.{initialised, is_null, may_be_fresh}
 use Rattle.bbm_rules.specs.Reach.{Issued, unanswered}
 use Rattle.bbm_rules.specs.RegisterValues.{register_values}
-use Rattle.bbm_rules.specs.Roots.{Declared, is_root, root_at, roots_of}
+use Rattle.bbm_rules.specs.Roots.{Declared, given_up, is_root, root_at, roots_of}
 use Rattle.bbm_rules.specs.Sentences.{IsDeclared, Open, Published, Readable}
 use Rattle.bbm_rules.specs.Tags.{itself}
 use Rattle.bbm_rules.specs.Values.{is_readable, published, value_of, written_places}
@@ -68,6 +68,7 @@ pub record ByChanges (heading : Heading) (trust : Trust) : Type 0 where
   pub nulls : (e : Event) (h : List Event) (page : ℕ) → (changes e).nulls ≡ false
       → is_null (e ∷ h) page ≡ is_null h page
   pub roots : (e : Event) (h : List Event) → (changes e).roots ≡ false → roots_of (e ∷ h) ≡ roots_of h
+  pub given : (e : Event) (h : List Event) → (changes e).roots ≡ false → given_up (e ∷ h) ≡ given_up h
   pub registers : (e : Event) (h : List Event) (p : ℕ) (reg : Reg) → (changes e).registers ≡ false
       → register_values (e ∷ h) p reg ≡ register_values h p reg
   pub flushes : (e : Event) (h : List Event) (q : ℕ) → (changes e).flushes ≡ false

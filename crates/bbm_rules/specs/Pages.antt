@@ -6,7 +6,8 @@ use Rattle.bbm_rules.specs.Notes.{Noted}
 use Rattle.bbm_rules.specs.Lists.{with_number}
 use Rattle.bbm_rules.specs.Tree.{in_tree}
 
--- Null page: a page that was declared by `null`. As the base of TTBR0 it means that no walk is made.
+-- Null page: a page that was declared by `null`. As the base of a root register it means that no walk is made: of
+-- TTBR0_EL1, and from version 5 on of each.
 abbrev pub is_null : List Event → ℕ → Bool
 is_null [] page = false
 is_null (Null pe at ∷ h) page = at == page || is_null h page

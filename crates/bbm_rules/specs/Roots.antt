@@ -1,11 +1,11 @@
 -- Roots of translation tables. A history is newest first.
 -- Source: project's own choice, but where another is named.
-use Rattle.std.specs.Prelude.{ℕ, zero, suc, ◌+◌, Bool, not, ◌&&◌, ◌==◌, List, [], ◌∷◌, Option, filter, find}
-use Rattle.std.specs.Prelude.{if◌then◌else◌}
+use Rattle.std.specs.Prelude.{ℕ, zero, suc, ◌+◌, Bool, false, not, ◌&&◌, ◌==◌, nat_le, List, [], ◌∷◌, ◌++◌, length}
+use Rattle.std.specs.Prelude.{Option, filter, find, map, if◌then◌else◌}
 pub use Rattle.bbm_regimes.specs.SameRegister.{same_kind}
 pub use Rattle.bbm_regimes.specs.World.{first_input_page, input_pages, kind_in_world, page_count, start_of}
 use Rattle.bbm_rules.specs.Prelude.{Kind, World, Event, Root, Unroot}
-use Rattle.bbm_rules.specs.Lists.{◌>>=◌, any}
+use Rattle.bbm_rules.specs.Lists.{◌>>=◌, any, some, with_number}
 
 -- a declared root: its first page, its kind, and the lock that its writers hold, or none
 pub record Declared : Type 0 where
@@ -39,6 +39,25 @@ is_root h kind page = any (λ r. is_at page r && same_kind r.kind kind) (roots_o
 -- the lock that a root names, None where it names none or the page is no root
 abbrev pub lock_of : List Event → ℕ → Option ℕ
 lock_of h page = root_at h page >>= (λ r. r.lock)
+
+-- Given up: whether the event gives up the root of this page.
+abbrev pub gives_up : ℕ → Event → Bool
+gives_up page (Unroot pe at) = at == page
+gives_up page _ = false
+
+-- the first pages of the roots that were given up, each once; some may be declared anew since
+abbrev pub given_up : List Event → List ℕ
+given_up [] = []
+given_up (Unroot pe page ∷ h) = with_number page (given_up h)
+given_up (_ ∷ h) = given_up h
+
+-- the first pages of the declared roots, and of those that were given up
+abbrev pub first_pages : List Event → List ℕ
+first_pages h = map (λ r. r.page) (roots_of h) ++ given_up h
+
+-- whether the root of this page was given up after the first n events
+abbrev pub given_up_since : ℕ → ℕ → List Event → Bool
+given_up_since n page h = some (λ e before. nat_le n (length before) && gives_up page e) h
 
 -- so many consecutive pages from a first one on
 abbrev pub pages_from : ℕ → ℕ → List ℕ

@@ -8,7 +8,8 @@ use Rattle.bbm_descriptor.specs.Descriptor.{desc_of, is_valid, needs}
 use Rattle.bbm_descriptor.specs.declared.desc.Desc.{Desc}
 use Rattle.bbm_descriptor.specs.declared.desc.Desc.TheVariants.{Leaf}
 use Rattle.bbm_tlbi_scope.specs.Operations.{of_world}
-use Rattle.bbm_rules.specs.Prelude.{Kind, S2, Ttbr0, Ttbr0El2, VttbrEl2, Ttbr0El1, Ttbr1El1, scope_of, Heading, Event}
+use Rattle.bbm_events.specs.Heading.{nulls_everywhere}
+use Rattle.bbm_rules.specs.Prelude.{Kind, S2, Ttbr0, Ttbr0El2, VttbrEl2, Ttbr0El1, Ttbr1El1, scope_of, Heading, Event, Reg}
 use Rattle.bbm_rules.specs.Prelude.{Init, Null, Root, Unroot, Write, Tlbi, Msr, Lock, Unlock}
 use Rattle.bbm_rules.specs.Attach.{Attached, End, all_ends, attached_by, pages_of}
 use Rattle.bbm_rules.specs.Claims.{Trust}
@@ -19,8 +20,8 @@ use Rattle.bbm_rules.specs.Pages.{is_fresh, is_null}
 use Rattle.bbm_rules.specs.Lists.{◌>>=◌, any, if_so, is_that, least, repeated, some_pe}
 use Rattle.bbm_rules.specs.Places.{page_of}
 use Rattle.bbm_rules.specs.RegisterValues.{base_of, kind_of_reg, lacks_vmid, register_values, same_reg}
-use Rattle.bbm_rules.specs.Roots.{is_root, kind_in_world, lock_of, root_at, root_pages, roots_of, same_kind}
-use Rattle.bbm_rules.specs.Tags.{Reading, holds_tag, readings, tags_of}
+use Rattle.bbm_rules.specs.Roots.{given_up, is_root, kind_in_world, lock_of, root_at, root_pages, roots_of, same_kind}
+use Rattle.bbm_rules.specs.Tags.{Reading, holds_tag, left_tag, readings, tags_of}
 use Rattle.bbm_rules.specs.Tree.{held_at, in_limbo, in_tree, node_of}
 use Rattle.bbm_rules.specs.Values.{places_in, value_of}
 
@@ -53,8 +54,8 @@ is_base_at h page p = any (λ value. is_that (base_of value) page)
 
 module _ (heading : Heading) (trust : Trust) (h : List Noted) where
   -- 1, wrong-world: it has a root kind, a register or a TLBI operation that isn't of the header's world, or it is a
-  -- `null` in the Hyp world, or it is an `msr` of a value with bit 0 set under a header of version 2 or later without
-  -- `cnp`. At: 0.
+  -- `null` in the Hyp world under a header of version 4 or older, or it is an `msr` of a value with bit 0 set under a
+  -- header of version 2 or later without `cnp`. At: 0.
   abbrev pub asks_to_share : ℕ → Bool
   asks_to_share value = nat_le 2 heading.version && not heading.cnp && value % 2 == 1
 
@@ -62,7 +63,7 @@ module _ (heading : Heading) (trust : Trust) (h : List Noted) where
   wrong_world (Root pe kind lock page) = if_so (not (kind_in_world heading.world kind)) 0
   wrong_world (Msr pe reg value) = if_so (not (kind_in_world heading.world (kind_of_reg reg)) || asks_to_share value) 0
   wrong_world (Tlbi pe op xt) = if_so (not (of_world heading.world op)) 0
-  wrong_world (Null pe page) = if_so (kind_in_world heading.world S2) 0
+  wrong_world (Null pe page) = if_so (kind_in_world heading.world S2 && not (nulls_everywhere heading.version)) 0
   wrong_world _ = None
 
   -- 2, no-lock: it is a write at a place of a tree, or an `unroot` of a declared root, whose root names a lock that
@@ -152,30 +153,45 @@ module _ (heading : Heading) (trust : Trust) (h : List Noted) where
   page_in_use _ = None
 
   -- 11, no-root: a register is given a value other than 0 whose base is neither the first page of a declared root of
-  -- the register's kind nor, in TTBR0_EL1, a null page; or an `unroot` names no first page of a declared root. At: the
-  -- base, or the page.
+  -- the register's kind nor a null page, which under a header of version 4 or older counts in TTBR0_EL1 alone; or an
+  -- `unroot` names no first page of a declared root. At: the base, or the page.
+  abbrev pub may_be_null : Reg → Bool
+  may_be_null reg = nulls_everywhere heading.version || same_reg reg Ttbr0El1
+
   abbrev pub no_root : Event → Option ℕ
   no_root (Msr pe reg value) = base_of value >>= (λ base. if_so (not (is_root (events_of h) (kind_of_reg reg) base
-      || (same_reg reg Ttbr0El1 && is_null (events_of h) base))) base)
+      || (may_be_null reg && is_null (events_of h) base))) base)
   no_root (Unroot pe page) = if_so (is_none (root_at (events_of h) page)) page
   no_root _ = None
 
-  -- 12, tag-conflict: after the register write a tag is readable at this PE for one root, and another root holds it.
-  -- At: the least first page of such another root. The first argument are the events with the register write.
+  -- 12, tag-conflict: after the register write a tag is readable at this PE for one root, and another root holds it, or
+  -- one that was given up has left it. At: the least first page of such another root. The first argument are the events
+  -- with the register write.
   abbrev pub other_holders : List Event → Reading → List ℕ
   other_holders after reading = map (λ r. r.page) (filter
       (λ r. not (r.page == reading.root) && holds_tag heading trust r.page reading.tag after) (roots_of after))
 
+  abbrev pub leavers : List Event → Reading → List ℕ
+  leavers after reading = filter (λ page. left_tag heading trust page reading.tag after) (given_up after)
+
+  abbrev pub others : List Event → Reading → List ℕ
+  others after reading = other_holders after reading ++ leavers after reading
+
   abbrev pub tag_conflict : Event → Option ℕ
   tag_conflict (Msr pe reg value) = let after : List Event = Msr pe reg value ∷ events_of h in
-      least (flat_map (other_holders after) (readings heading after pe))
+      least (flat_map (others after) (readings heading after pe))
   tag_conflict _ = None
 
-  -- 13, root-in-use: an `unroot` names a root that is the base of a readable register value at some PE, or that holds
-  -- a tag. At: the page.
+  -- 13, root-in-use: an `unroot` names a root that is the base of a readable register value at some PE, or, under a
+  -- header without `unflushed`, that holds a tag. At: the page.
+  abbrev pub is_loaded : ℕ → Bool
+  is_loaded page = some_pe heading.pes (is_base_at (events_of h) page)
+
+  abbrev pub holds_some_tag : ℕ → Bool
+  holds_some_tag page = nat_lt 0 (length (tags_of heading trust page (events_of h)))
+
   abbrev pub is_used : ℕ → Bool
-  is_used page = some_pe heading.pes (is_base_at (events_of h) page)
-      || nat_lt 0 (length (tags_of heading trust page (events_of h)))
+  is_used page = is_loaded page || (not heading.words.unflushed && holds_some_tag page)
 
   abbrev pub root_in_use : Event → Option ℕ
   root_in_use (Unroot pe page) = if_so (not (is_none (root_at (events_of h) page)) && is_used page) page

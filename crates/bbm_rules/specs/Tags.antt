@@ -13,7 +13,7 @@ use Rattle.bbm_rules.specs.Claims.{Trust, allows, same_tag}
 use Rattle.bbm_rules.specs.Lists.{◌>>=◌, any, below, if_so, some, some_pe}
 use Rattle.bbm_rules.specs.Reach.{Issued, completes, reaches, unanswered}
 use Rattle.bbm_rules.specs.RegisterValues.{base_of, kind_of_reg, named_scope, register_values, tag_number, vmid_of}
-use Rattle.bbm_rules.specs.Roots.{is_root}
+use Rattle.bbm_rules.specs.Roots.{gives_up, is_root}
 
 -- a tag that is readable for a root
 pub record Reading : Type 0 where
@@ -90,15 +90,39 @@ module _ (heading : Heading) where
     loses p tag (Dsb q dsb) h = any (is_taken_by p tag q dsb h) (unanswered itself q h)
     loses p tag _ h = false
 
-    -- Tag held by a root, at p: it is readable there for the root now, or it was held before and the last event doesn't
-    -- take it away. Source: project's own choice, after Arm ARM (DDI 0487), "Translation Lookaside Buffers".
+    -- Tag kept for a page, at p: it is readable there for the root of the page now, or it was kept before and the last
+    -- event doesn't take it away. So a TLB of p may keep what it read through a root of the page under the tag: one that
+    -- is declared, or one that was given up. Source: project's own choice, after Arm ARM (DDI 0487), "Translation
+    -- Lookaside Buffers".
+    abbrev pub kept_at : ℕ → ℕ → Tag → List Event → Bool
+    kept_at p page tag [] = false
+    kept_at p page tag (e ∷ h) = reads (e ∷ h) p tag page || (kept_at p page tag h && not (loses p tag e h))
+
+    -- what ends the holding of a tag, but for a moment at which it is readable: the root is given up, or the tag taken
+    -- away
+    abbrev pub ends : ℕ → ℕ → Tag → Event → List Event → Bool
+    ends p root tag e h = gives_up root e || loses p tag e h
+
+    -- Tag held by a declared root, at p: it is readable there for the root now, or it was held before and the last event
+    -- neither gives the root up nor takes the tag away.
     abbrev pub holds_at : ℕ → ℕ → Tag → List Event → Bool
     holds_at p root tag [] = false
-    holds_at p root tag (e ∷ h) = reads (e ∷ h) p tag root || (holds_at p root tag h && not (loses p tag e h))
+    holds_at p root tag (e ∷ h) = reads (e ∷ h) p tag root || (holds_at p root tag h && not (ends p root tag e h))
+
+    -- Tag left at p by a root that was given up: the last event gives up the root of this page, which held the tag, or
+    -- the tag was left before and the last event doesn't take it away. A root that is declared on the page anew holds
+    -- none of what an earlier one left.
+    abbrev pub left_at : ℕ → ℕ → Tag → List Event → Bool
+    left_at p page tag [] = false
+    left_at p page tag (e ∷ h) =
+        (left_at p page tag h || (gives_up page e && holds_at p page tag h)) && not (loses p tag e h)
 
     -- at some PE
     abbrev pub holds_tag : ℕ → Tag → List Event → Bool
     holds_tag root tag h = some_pe heading.pes (λ p. holds_at p root tag h)
+
+    abbrev pub left_tag : ℕ → Tag → List Event → Bool
+    left_tag page tag h = some_pe heading.pes (λ p. left_at p page tag h)
 
   -- the tags that were ever readable for the root, at any PE
   abbrev pub ever_read : ℕ → List Event → List Tag

@@ -24,7 +24,10 @@ pub use history_laws::{
     law_half, law_held, law_last_valid, law_limbo, law_notes, law_paths, law_refused_place,
     law_root_pages, law_seen, law_tree,
 };
-pub use laws::{law_answered, law_notes_keep_the_events, law_readable_value, law_tag_held};
+pub use laws::{
+    law_answered, law_notes_keep_the_events, law_readable_value, law_tag_held, law_tag_kept,
+    law_tag_left,
+};
 pub use limits::Limits;
 pub use path_laws::law_repeated;
 pub use phase::Phase;

@@ -13,12 +13,12 @@ use Rattle.bbm_rules.specs.Notes.{event_of}
 use Rattle.bbm_rules.specs.Prelude.{input_pages}
 use Rattle.bbm_rules.specs.Tree.{tree}
 use Rattle.bbm_histories.specs.TreeChanges.{HeldBy, View}
-use Rattle.bbm_tlb_machine.specs.Entry.{Entry, Part, desc_in, head_of, is_leaf, parts_of, region_in}
-use Rattle.bbm_tlb_machine.specs.Invariant.{Fine, Holding, IsAt, IsBelow, IsNear}
+use Rattle.bbm_tlb_machine.specs.Entry.{Entry, Part, desc_in, head_of, is_given_up, is_leaf, parts_of, region_in}
+use Rattle.bbm_tlb_machine.specs.Invariant.{Fine, Holding, IsAt, IsBelow, IsNear, Rooted}
 use Rattle.bbm_tlb_machine.specs.KnownOfMachine.{Known}
 use Rattle.bbm_tlb_machine.proofs.Descs.{leaf_if_no_table, no_leaf_if_table, some_pages}
 use Rattle.bbm_histories.proofs.Induction.{events_append, kept_before, events_length}
-use Rattle.bbm_tlb_machine.proofs.Facts.{has_tag, held_there, means, no_global, tag_then}
+use Rattle.bbm_tlb_machine.proofs.Facts.{has_tag, held_there, means, tag_then}
 use Rattle.bbm_tlb_machine.proofs.Regions.{chain_kind, inside_of, last_or_above, region_holds}
 use Rattle.bbm_tlb_machine.proofs.Scopes.{CoversBy, covers_by}
 
@@ -44,27 +44,27 @@ pub record Covering (heading : Heading) (x : Entry) (t : Issued Noted) (cover : 
   pub earlier : (a c : List Noted) (d : Noted) → t.before ≡ a ++ d ∷ c → d.position ≤ length (events_of older)
 
 module _ (heading : Heading) (trust : Trust) (k : Known heading trust) (h : List Event) (kept : keeps heading trust h ≡ true)
-    (x : Entry) (f : Fine heading trust h x) where
+    (x : Entry) (f : Fine heading trust h x) (up : is_given_up heading h x ≡ false) (g : Rooted heading trust h x) where
   abbrev notes : List Noted
   notes = noted heading trust h
 
   module _ (part : Part) (i : Contains (parts_of x) part) where
     abbrev n : Node
-    n = (f.placed part i).node
+    n = (g.placed part i).node
 
-    abbrev at : IsAt (f.placed part i).node x.root part
-    at = (f.placed part i).is_at
+    abbrev at : IsAt (g.placed part i).node x.root part
+    at = (g.placed part i).is_at
 
     abbrev value : ℕ
-    value = (f.holding part i).value
+    value = (g.holding part i).value
 
-    means_it : desc_of (f.placed part i).node.kind (f.placed part i).node.level (f.holding part i).value ≡ desc_in part
-    means_it = means heading trust k h kept x part n at (f.holding part i) (f.shape.valid part i)
+    means_it : desc_of (g.placed part i).node.kind (g.placed part i).node.level (g.holding part i).value ≡ desc_in part
+    means_it = means heading trust k h kept x part n at (g.holding part i) (f.shape.valid part i)
 
-    kind_of_last : (f.placed part i).node.kind ≡ x.last.kind
+    kind_of_last : (g.placed part i).node.kind ≡ x.last.kind
     kind_of_last = at.kind ∙ chain_kind x.last x.above f.shape.chained part i
 
-    same_region : region_in part ≡ region_of (f.placed part i).node part.place
+    same_region : region_in part ≡ region_of (g.placed part i).node part.place
     same_region = rw (at.region, at.level)
 
     -- a place that holds no table is that of the last part
@@ -88,17 +88,17 @@ module _ (heading : Heading) (trust : Trust) (k : Known heading trust) (h : List
         → EndsBy true true (head_of x) (view_of heading trust [] n part.place value)
     table_ends e none = by (last_or_above x.last x.above f.shape.chained part i)
       where
-        c : Childless heading trust (noted heading trust h) (f.placed part i).node (f.holding part i).value
+        c : Childless heading trust (noted heading trust h) (g.placed part i).node (g.holding part i).value
         c = k.childless.sound notes n value none
 
         by : (x.last ≡ part) ⊎ ((lower : Part) × Contains (parts_of x) lower × IsBelow lower part)
-            → EndsBy true true (head_of x) (view_of heading trust [] (f.placed part i).node part.place (f.holding part i).value)
+            → EndsBy true true (head_of x) (view_of heading trust [] (g.placed part i).node part.place (g.holding part i).value)
         by (inl s) = (
           ap (λ (p : Part). is_leaf (desc_in p)) s ∙ no_leaf_if_table (desc_in part) e,
           ap region_in s ∙ same_region,
         )
         by (inr r) =
-            let q : Holding heading trust h r.0 = f.holding r.0 r.1 in
+            let q : Holding heading trust h r.0 = g.holding r.0 r.1 in
             let nexts : Some c.next ≡ Some (page_of r.0.place) = sym c.table ∙ (ap next_in means_it ∙ r.2.inside) in
             let page : c.next ≡ page_of r.0.place = cc in
             let holds : held heading trust n.kind (suc n.level) r.0.place notes ≡ Some q.value
@@ -112,12 +112,12 @@ module _ (heading : Heading) (trust : Trust) (k : Known heading trust) (h : List
         (view_of heading trust older n part.place value)
     ends older still = by (is_some (next_of n.kind n.level value)) (is_childless heading trust older n value) refl refl
       where
-        table : is_some (next_in (desc_of (f.placed part i).node.kind (f.placed part i).node.level (f.holding part i).value)) ≡ is_some (next_in (desc_in part))
+        table : is_some (next_in (desc_of (g.placed part i).node.kind (g.placed part i).node.level (g.holding part i).value)) ≡ is_some (next_in (desc_in part))
         table = ap (λ (d : Desc). is_some (next_in d)) means_it
 
-        by : (t c : Bool) → is_some (next_of (f.placed part i).node.kind (f.placed part i).node.level (f.holding part i).value) ≡ t
-            → is_childless heading trust older (f.placed part i).node (f.holding part i).value ≡ c
-            → EndsBy t c (head_of x) (view_of heading trust older (f.placed part i).node part.place (f.holding part i).value)
+        by : (t c : Bool) → is_some (next_of (g.placed part i).node.kind (g.placed part i).node.level (g.holding part i).value) ≡ t
+            → is_childless heading trust older (g.placed part i).node (g.holding part i).value ≡ c
+            → EndsBy t c (head_of x) (view_of heading trust older (g.placed part i).node part.place (g.holding part i).value)
         by false c e g = leaf_ends (sym table ∙ e)
         by true true e g = table_ends (sym table ∙ e) (still g)
         by true false e g =
@@ -130,10 +130,10 @@ module _ (heading : Heading) (trust : Trust) (k : Known heading trust) (h : List
     agrees older newer split since still = record {
       kind = ap (read_through x.kind) kind_of_last ∙ f.shape.fits;
       tag = rw (kind_of_last, at.root) (has_tag heading trust k h kept x (events_of older)
-          (tag_then heading trust k h kept x f.tagged newer (events_of older) split since));
+          (tag_then heading trust k h kept x f.tagged up newer (events_of older) split since));
       ending = ends older still;
       region = nonempty x.last.first (input_pages x.last.level) (some_pages x.last.level);
-      lower = λ (e : n.kind ≡ Ttbr0). no_global heading trust k h kept x f (sym kind_of_last ∙ e);
+      lower = λ (e : n.kind ≡ Ttbr0). f.own_asid (sym kind_of_last ∙ e);
       upper = λ (e : n.kind ≡ Ttbr1) (no_table : is_some (next_of n.kind n.level value) ≡ false) (g : is_global (desc_of n.kind n.level value) ≡ true).
           ap (λ (p : Part). is_global (desc_in p)) (is_last (ap (λ (d : Desc). is_some (next_in d)) (sym means_it) ∙ no_table))
           ∙ (ap is_global (sym means_it) ∙ g);
@@ -150,15 +150,15 @@ module _ (heading : Heading) (trust : Trust) (k : Known heading trust) (h : List
       was_seen : seen heading part.place p t.before ≡ true
       was_seen = k.seen.complete part.place p t.before (b, published)
 
-      holds_it : HeldBy heading trust (noted heading trust h) (f.placed part i).node part.place (f.holding part i).value w
+      holds_it : HeldBy heading trust (noted heading trust h) (g.placed part i).node part.place (g.holding part i).value w
       holds_it = record {
-        in_tree = (f.placed part i).in_tree;
+        in_tree = (g.placed part i).in_tree;
         inside = at.inside;
-        holds = held_there heading trust k h kept x part n at value (f.holding part i).holds;
+        holds = held_there heading trust k h kept x part n at value (g.holding part i).holds;
         is_last = rw (at.kind, at.level) last;
       }
 
-      view : View heading trust (noted heading trust h) (f.placed part i).node part.place (f.holding part i).value o.newer t.before t.tlbi
+      view : View heading trust (noted heading trust h) (g.placed part i).node part.place (g.holding part i).value o.newer t.before t.tlbi
       view = k.frozen_view h kept n part.place value p w o.newer t.before t.tlbi holds_it o.split was_seen
 
       is_split : h ≡ events_of o.newer ++ t.tlbi.event ∷ events_of view.older
@@ -174,24 +174,24 @@ module _ (heading : Heading) (trust : Trust) (k : Known heading trust) (h : List
           (subst (λ (es : List Event). keeps heading trust es ≡ true)
           (is_split ∙ sym (append_assoc (events_of o.newer) (t.tlbi.event ∷ []) (events_of view.older))) kept)
 
-      node_then : node_of heading trust view.older (page_of part.place) ≡ Some (f.placed part i).node
+      node_then : node_of heading trust view.older (page_of part.place) ≡ Some (g.placed part i).node
       node_then =
           ap (node_of heading trust view.older) at.inside
           ∙ subst (λ (xs : List Noted). node_of heading trust xs n.page ≡ Some n) (sym is_noted)
           (k.one_node.the_first (events_of view.older) kept_then n
           (subst (λ (xs : List Noted). Contains (tree heading trust xs) n) is_noted view.was.in_tree))
 
-      view_then : view_at heading trust view.older part.place ≡ Some (view_of heading trust view.older (f.placed part i).node part.place (f.holding part i).value)
+      view_then : view_at heading trust view.older part.place ≡ Some (view_of heading trust view.older (g.placed part i).node part.place (g.holding part i).value)
       view_then = rw (node_then, view.was.holds)
 
-      covers : CoversBy heading view.older t.tlbi.event (view_of heading trust view.older (f.placed part i).node part.place (f.holding part i).value) cover
+      covers : CoversBy heading view.older t.tlbi.event (view_of heading trust view.older (g.placed part i).node part.place (g.holding part i).value) cover
       covers =
           covers_by heading trust view.older t.tlbi.event part.place (view_of heading trust view.older n part.place value) cover
           view_then some
           (ap (λ (c : ℕ → Cover). c part.place) (sym (k.notes.each h o.newer view.older t.tlbi view.split).1) ∙ covered)
 
       -- the events before the TLBI
-      write : IsLastValid (f.placed part i).node.kind (f.placed part i).node.level part.place view.older (record { value = (f.holding part i).value; since = t.before })
+      write : IsLastValid (g.placed part i).node.kind (g.placed part i).node.level part.place view.older (record { value = (g.holding part i).value; since = t.before })
       write = k.last_valid.sound n.kind n.level part.place view.older (record { value = value; since = t.before })
           view.was.is_last
 
@@ -211,7 +211,7 @@ module _ (heading : Heading) (trust : Trust) (k : Known heading trust) (h : List
       since_then =
           let le = earlier published.newer (published.between ++ published.write ∷ published.older) b published.split in omega (arith, le, made)
 
-      agrees_then : Agrees (head_of x) (view_of heading trust view.older (f.placed part i).node part.place (f.holding part i).value)
+      agrees_then : Agrees (head_of x) (view_of heading trust view.older (g.placed part i).node part.place (g.holding part i).value)
       agrees_then =
           agrees view.older (events_of o.newer ++ t.tlbi.event ∷ [])
           (is_split ∙ sym (append_assoc (events_of o.newer) (t.tlbi.event ∷ []) (events_of view.older))) since_then

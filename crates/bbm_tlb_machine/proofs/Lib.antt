@@ -10,11 +10,13 @@ mod CasesParts
 mod CasesReads
 mod CasesShare
 mod CasesVmids
+mod CasesUnflushed
 mod Covered
 pub mod Descs
 mod EventSteps
 mod Facts
 pub mod FollowSteps
+pub mod GivenUp
 mod InTrees
 mod ListWords
 pub mod LookBack

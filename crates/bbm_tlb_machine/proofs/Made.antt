@@ -1,5 +1,5 @@
 -- What a step of the machine makes of fine entries is fine: an entry that is started, extended, joined or copied.
-use Rattle.bbm_rules.proofs.Common.{◌≡◌, ℕ, suc, ◌+◌, ◌<◌, ◌≤◌, nat_lt, true, false, List, [], ◌∷◌, length, Option}
+use Rattle.bbm_rules.proofs.Common.{◌≡◌, ℕ, suc, ◌+◌, ◌<◌, ◌≤◌, nat_lt, true, false, List, [], ◌∷◌, ◌++◌, length, Option}
 use Rattle.bbm_rules.proofs.Common.{Some, None, Contains, refl, sym, ◌∙◌, ap, subst, inl, inr, arith, true≢false}
 use Rattle.bbm_rules.proofs.Common.{length-append, and_parts, eqb-true, ltb-true, Kind, is_valid, needs, read_through}
 use Rattle.bbm_rules.proofs.Common.{tag_of, EntryKind, Stage2, Combined, keeps, Trust, seen, noted, ValidWrite, held}
@@ -9,14 +9,18 @@ use Rattle.bbm_rules.proofs.Common.{Node, next_of, is_readable, contains_cases, 
 use Rattle.bbm_rules.specs.Prelude.{kind_in_world}
 use Rattle.bbm_histories.specs.ValueChanges.{Window}
 use Rattle.bbm_tlb_machine.specs.Entry.{Entry, Part, head_of, parts_of, tag_of_entry}
-use Rattle.bbm_tlb_machine.specs.Invariant.{Chained, Fine, Holding, IsAt, IsBelow, IsNear, Placed, Tagged, start_nodes}
+use Rattle.bbm_tlb_machine.specs.Invariant.{Chained, Fine, Holding, IsAt, IsBelow, IsNear, Placed, Rooted, Tagged}
+use Rattle.bbm_tlb_machine.specs.Invariant.{start_nodes}
 use Rattle.bbm_tlb_machine.specs.Safe.{IsLog}
 use Rattle.bbm_tlb_machine.specs.KnownOfMachine.{Known}
 use Rattle.bbm_tlb_machine.specs.Step.{Extends, Starts, combined, entry_kind, extended, first_part, is_stage2}
 use Rattle.bbm_tlb_machine.specs.Step.{may_share, next_part, root_of, shared, started}
 use Rattle.bbm_tlb_machine.proofs.AfterEvent.{publication_answered}
 use Rattle.bbm_tlb_machine.proofs.EventSteps.{tag_kind}
-use Rattle.bbm_tlb_machine.proofs.Facts.{tag_now}
+use Rattle.bbm_rules.proofs.Common.{Bool, ◌&&◌, nat_le, leb-true, gives_up}
+use Rattle.bbm_rules.specs.Roots.{given_up_since}
+use Rattle.bbm_rules.proofs.SearchLemmas.{is_none_before}
+use Rattle.bbm_tlb_machine.proofs.Facts.{no_global, tag_now}
 use Rattle.bbm_tlb_machine.proofs.InTrees.{below_placed, start_placed}
 use Rattle.bbm_tlb_machine.proofs.Roots.{reads_at, start_node}
 
@@ -44,6 +48,21 @@ combined_fits kind e = absurd (true≢false (sym e))
 that_is : (o : Option ℕ) (n : ℕ) → is_that o n ≡ true → o ≡ Some n
 that_is (Some m) n e = ap Some (eqb-true m n e)
 that_is None n e = absurd (true≢false (sym e))
+
+-- nothing was given up since now
+not_yet : (u : Bool) (n page : ℕ) (h : List Event) → length h ≤ n → (u && given_up_since n page h) ≡ false
+not_yet true n page h le =
+    is_none_before (λ e before. nat_le n (length before) && gives_up page e) h
+    (λ newer e older s. too_early newer e older s (nat_le n (length older)) refl)
+  where
+    too_early : (newer : List Event) (e : Event) (older : List Event) → h ≡ newer ++ e ∷ older → (b : Bool) → nat_le n (length older) ≡ b
+        → (b && gives_up page e) ≡ false
+    too_early newer e older s true b =
+        let late : n ≤ length older = leb-true n (length older) b in
+        let long : length h ≡ length newer + suc (length older) = ap length s ∙ length-append newer (e ∷ older) in
+        absurd (omega (arith, late, long, le))
+    too_early newer e older s false b = refl
+not_yet false n page h le = refl
 
 module _ (heading : Heading) (trust : Trust) (k : Known heading trust) (h : List Event) (kept : keeps heading trust h ≡ true) where
   abbrev notes : List Noted
@@ -169,7 +188,7 @@ module _ (heading : Heading) (trust : Trust) (k : Known heading trust) (h : List
         start_placed heading trust k h kept x kind
         (subst (λ (c : Kind). is_root h c (root_of heading.world kind place) ≡ true) (tag_kind kind (head_of x))
         (k.tags.root h k.proper kept (root_of heading.world kind place) (tag_of_entry x)
-        (tag_now heading trust k h kept x start_tagged (omega arith))))
+        (tag_now heading trust k h kept x start_tagged (not_yet heading.words.unflushed (length h) (root_of heading.world kind place) h (omega arith)) (omega arith))))
         first refl start_is.0 start_is.1 start_is.2
 
     first_new : IsNew (started heading (length h) p kind number place value) (first_part heading kind place value)
@@ -183,6 +202,15 @@ module _ (heading : Heading) (trust : Trust) (k : Known heading trust) (h : List
           | inr j ↦ absurd (contains_none q j)
         ]
 
+    start_rooted : Rooted heading trust h (started heading (length h) p kind number place value)
+    start_rooted = record {
+      placed = only (λ (q : Part). Placed heading trust h (root_of heading.world kind place) q) first_placed;
+      holding = only (λ (q : Part). Holding heading trust h q) first_new.holding;
+      uncleansed = λ q i w last r near c. new_uncleansed x q (only (λ (q : Part). IsNew x q) first_new q i) w last r near c;
+      made_before = λ q i w last r near b published. absurd ((only (λ (q : Part). IsNew x q) first_new q i).unseen w last r near b published);
+      joined_before = λ q i w last r near b t d half. absurd (new_half x q (only (λ (q : Part). IsNew x q) first_new q i) w last r near b t d half);
+    }
+
     pub fine_start : Fine heading trust h (started heading (length h) p kind number place value)
     fine_start = record {
       shape = record {
@@ -194,12 +222,9 @@ module _ (heading : Heading) (trust : Trust) (k : Known heading trust) (h : List
         chained = tt;
         valid = only (λ (q : Part). is_valid q.kind q.level q.value ≡ true) s.valid;
       };
-      placed = only (λ (q : Part). Placed heading trust h (root_of heading.world kind place) q) first_placed;
-      holding = only (λ (q : Part). Holding heading trust h q) first_new.holding;
-      uncleansed = λ q i w last r near c. new_uncleansed x q (only (λ (q : Part). IsNew x q) first_new q i) w last r near c;
+      own_asid = no_global heading trust k h kept x (only (λ (q : Part). is_valid q.kind q.level q.value ≡ true) s.valid) start_rooted;
       tagged = start_tagged;
-      made_before = λ q i w last r near b published. absurd ((only (λ (q : Part). IsNew x q) first_new q i).unseen w last r near b published);
-      joined_before = λ q i w last r near b t d half. absurd (new_half x q (only (λ (q : Part). IsNew x q) first_new q i) w last r near b t d half);
+      rooted = λ up. start_rooted;
     }
 
   -- ---- Extend
@@ -222,7 +247,7 @@ module _ (heading : Heading) (trust : Trust) (k : Known heading trust) (h : List
     }
 
     next_placed : Placed heading trust h x.root (next_part x.last place value)
-    next_placed = below_placed heading trust k h kept x part x.last is_below (f.placed x.last here) (f.holding x.last here) (f.shape.valid x.last here)
+    next_placed = below_placed heading trust k h kept x part x.last is_below ((f.rooted s.goes_on).placed x.last here) ((f.rooted s.goes_on).holding x.last here) (f.shape.valid x.last here)
 
     next_new : IsNew x (next_part x.last place value)
     next_new = just_read x f.shape.is_pe part next_placed s.readable s.valid
@@ -235,27 +260,34 @@ module _ (heading : Heading) (trust : Trust) (k : Known heading trust) (h : List
           | inr j ↦ old q j
         ]
 
+    extended_valid : (q : Part) → Contains (parts_of (extended x place value)) q → is_valid q.kind q.level q.value ≡ true
+    extended_valid = more (λ (q : Part). is_valid q.kind q.level q.value ≡ true) s.valid valid
+
+    extended_rooted : Rooted heading trust h (extended x place value)
+    extended_rooted = record {
+      placed = more (λ (q : Part). Placed heading trust h x.root q) next_placed (f.rooted s.goes_on).placed;
+      holding = more (λ (q : Part). Holding heading trust h q) next_new.holding (f.rooted s.goes_on).holding;
+      uncleansed = more (λ (q : Part). (w : ValidWrite) → last_valid q.kind q.level q.place (noted heading trust h) ≡ Some w → (p : ℕ)
+          → IsNear heading x p → Cleansed heading trust q.place p w.since → ⊥)
+          (λ w last p near c. new_uncleansed x part next_new w last p near c) (f.rooted s.goes_on).uncleansed;
+      made_before = more (λ (q : Part). (w : ValidWrite) → last_valid q.kind q.level q.place (noted heading trust h) ≡ Some w → (p : ℕ)
+          → IsNear heading x p → (b : Noted) → Publication heading q.place p w.since b → x.since < b.position)
+          (λ w last p near b published. absurd (next_new.unseen w last p near b published)) (f.rooted s.goes_on).made_before;
+      joined_before = more (λ (q : Part). (w : ValidWrite) → last_valid q.kind q.level q.place (noted heading trust h) ≡ Some w → (p : ℕ)
+          → IsNear heading x p → (b : Noted) (t : Issued Noted) (d : Noted) → HalfBy heading q.place p w.since b t d
+          → (x.kind ≡ Combined) × (x.joined < d.position))
+          (λ w last p near b t d half. absurd (new_half x part next_new w last p near b t d half)) (f.rooted s.goes_on).joined_before;
+    }
+
     pub fine_extended : Fine heading trust h (extended x place value)
     fine_extended =
         let below : Chained (next_part x.last place value) (parts_of x) = (is_below, chained) in
-        let read : (q : Part) → Contains (parts_of (extended x place value)) q → is_valid q.kind q.level q.value ≡ true
-        = more (λ (q : Part). is_valid q.kind q.level q.value ≡ true) s.valid valid in
         record {
-          shape = record { is_pe = is_pe; made = made; joined = joined; fits = fits; begins = begins; chained = below; valid = read };
-          placed = more (λ (q : Part). Placed heading trust h x.root q) next_placed f.placed;
-          holding = more (λ (q : Part). Holding heading trust h q) next_new.holding f.holding;
-          uncleansed = more (λ (q : Part). (w : ValidWrite) → last_valid q.kind q.level q.place (noted heading trust h) ≡ Some w → (p : ℕ)
-              → IsNear heading x p → Cleansed heading trust q.place p w.since → ⊥)
-              (λ w last p near c. new_uncleansed x part next_new w last p near c) f.uncleansed;
+          shape = record { is_pe = is_pe; made = made; joined = joined; fits = fits; begins = begins; chained = below; valid = extended_valid };
+          own_asid = no_global heading trust k h kept (extended x place value) extended_valid extended_rooted;
           tagged = tagged_as x (extended x place value) f.tagged f.tagged.near refl refl
               (same_tag_of x.last.kind x (extended x place value) refl refl);
-          made_before = more (λ (q : Part). (w : ValidWrite) → last_valid q.kind q.level q.place (noted heading trust h) ≡ Some w → (p : ℕ)
-              → IsNear heading x p → (b : Noted) → Publication heading q.place p w.since b → x.since < b.position)
-              (λ w last p near b published. absurd (next_new.unseen w last p near b published)) f.made_before;
-          joined_before = more (λ (q : Part). (w : ValidWrite) → last_valid q.kind q.level q.place (noted heading trust h) ≡ Some w → (p : ℕ)
-              → IsNear heading x p → (b : Noted) (t : Issued Noted) (d : Noted) → HalfBy heading q.place p w.since b t d
-              → (x.kind ≡ Combined) × (x.joined < d.position))
-              (λ w last p near b t d half. absurd (new_half x part next_new w last p near b t d half)) f.joined_before;
+          rooted = λ up. extended_rooted;
         }
 
   -- ---- Combine, Share
@@ -271,14 +303,17 @@ module _ (heading : Heading) (trust : Trust) (k : Known heading trust) (h : List
         = combined_fits x.last.kind (ap (λ (y : EntryKind). read_through y x.last.kind) (sym kind) ∙ fits) in
         record {
           shape = record { is_pe = is_pe; made = made; joined = now; fits = both; begins = begins; chained = chained; valid = valid };
-          placed = f.placed;
-          holding = f.holding;
-          uncleansed = f.uncleansed;
+          own_asid = f.own_asid;
           tagged = tagged_as x (combined (length h) x) f.tagged f.tagged.near refl refl
               (same_tag_of x.last.kind x (combined (length h) x) refl refl);
-          made_before = f.made_before;
-          joined_before = λ q i w last p near b t d half.
-              let apart : x.kind ≡ Combined = (f.joined_before q i w last p near b t d half).0 in cc;
+          rooted = λ up. let g : Rooted heading trust h x = f.rooted up in record {
+            placed = g.placed;
+            holding = g.holding;
+            uncleansed = g.uncleansed;
+            made_before = g.made_before;
+            joined_before = λ q i w last p near b t d half.
+                let apart : x.kind ≡ Combined = (g.joined_before q i w last p near b t d half).0 in cc;
+          };
         }
 
     -- an entry at another PE is near where this one is
@@ -289,13 +324,16 @@ module _ (heading : Heading) (trust : Trust) (k : Known heading trust) (h : List
         let near : (q : ℕ) → IsNear heading (shared x p) q → IsNear heading x q = λ q n. back p both.0 less q n in
         record {
           shape = record { is_pe = less; made = made; joined = joined; fits = fits; begins = begins; chained = chained; valid = valid };
-          placed = f.placed;
-          holding = f.holding;
-          uncleansed = λ q i w last r n. f.uncleansed q i w last r (near r n);
+          own_asid = f.own_asid;
           tagged = tagged_as x (shared x p) f.tagged (inr (both.0, f.tagged.is_pe)) refl refl
               (same_tag_of x.last.kind x (shared x p) refl refl);
-          made_before = λ q i w last r n. f.made_before q i w last r (near r n);
-          joined_before = λ q i w last r n. f.joined_before q i w last r (near r n);
+          rooted = λ up. let g : Rooted heading trust h x = f.rooted up in record {
+            placed = g.placed;
+            holding = g.holding;
+            uncleansed = λ q i w last r n. g.uncleansed q i w last r (near r n);
+            made_before = λ q i w last r n. g.made_before q i w last r (near r n);
+            joined_before = λ q i w last r n. g.joined_before q i w last r (near r n);
+          };
         }
       where
         back : (p : ℕ) → heading.cnp ≡ true → p < heading.pes → (q : ℕ) → IsNear heading (shared x p) q → IsNear heading x q

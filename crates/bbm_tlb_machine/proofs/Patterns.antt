@@ -12,15 +12,14 @@ use Rattle.bbm_rules.specs.PatternSentences.{Flush}
 use Rattle.bbm_tlbi_scope.specs.Numbers.{lacks_vmid as scope_lacks_vmid}
 use Rattle.bbm_tlbi_scope.specs.ScopeTags.{whole_tag_by}
 use Rattle.bbm_tlbi_scope.specs.declared.scope.Scope.{Scope}
-use Rattle.bbm_tlb_machine.specs.Entry.{Entry, Part, age_by, head_of, parts_of, tag_of_entry}
+use Rattle.bbm_tlb_machine.specs.Entry.{Entry, Part, age_by, head_of, is_given_up, parts_of, tag_of_entry}
 use Rattle.bbm_tlb_machine.specs.Invariant.{Fine, Goes, IsNear, JoinedBefore, MadeBefore, Tagged, Taken, Unanswered}
-use Rattle.bbm_tlb_machine.specs.Invariant.{Uncleansed}
+use Rattle.bbm_tlb_machine.specs.Invariant.{Rooted, Uncleansed}
 use Rattle.bbm_tlb_machine.specs.KnownOfMachine.{Known}
 use Rattle.bbm_tlb_machine.specs.Step.{must_go}
 use Rattle.bbm_tlb_machine.proofs.AfterEvent.{AnswersNow, answer_after, half_before, last_step, no_answer}
 use Rattle.bbm_tlb_machine.proofs.AfterEvent.{no_publication, publication_after}
 use Rattle.bbm_histories.proofs.Induction.{events_length}
-use Rattle.bbm_tlb_machine.proofs.Facts.{no_global}
 use Rattle.bbm_tlb_machine.proofs.Scopes.{Scoped, must_go_by, scoped, through_s2, whole_age}
 use Rattle.bbm_tlb_machine.proofs.Taken.{half_through, open_among, reached_here, taken as taken_entry}
 
@@ -50,18 +49,6 @@ module _ (heading : Heading) where
 
 module _ (heading : Heading) (trust : Trust) (k : Known heading trust) (h : List Event) (e : Event)
     (kept : keeps heading trust h ≡ true) (x : Entry) (f : Fine heading trust h x) (none : LeavesIt heading h e x) where
-  abbrev notes : List Noted
-  notes = noted heading trust h
-
-  abbrev now : Noted
-  now = note heading trust (noted heading trust h) e
-
-  count : length (noted heading trust h) ≡ length h
-  count = sym (events_length notes) ∙ ap length (k.notes_keep_the_events h)
-
-  its : Taken heading trust h x
-  its = taken_entry heading trust k h kept x f
-
   -- ---- the tag
 
   not_taken : (t : Issued Event) → TakenAway heading trust f.tagged.pe (tag_of_entry x) (e ∷ h) t
@@ -77,14 +64,14 @@ module _ (heading : Heading) (trust : Trust) (k : Known heading trust) (h : List
           (whole_tag_by (tag_of_entry x) w.scope.family w.scope (vmid_of heading t.before w.pe)) w.says in
           let takes : taken w.scope (vmid_of heading t.before w.pe) (head_of x) ≡ true
           = k.whole_tag_takes w.scope (vmid_of heading t.before w.pe) (head_of x) x.last.kind f.shape.fits
-          (no_global heading trust k h kept x f) w.says in
+          f.own_asid w.says in
           let age : age_by w.scope.family x.kind x.since x.joined ≡ x.since
           = whole_age (tag_of_entry x) w.scope.family w.scope (vmid_of heading t.before w.pe) x.kind x.since x.joined
           (λ c. (x.vmid, ap (λ (s : Kind). tag_of s (head_of x)) (s2_if_combined x.last.kind (ap (λ (y : EntryKind). read_through y x.last.kind) (sym c) ∙ f.shape.fits))))
           parts.1 in
           let old : x.since ≤ length t.before = omega (arith, f.tagged.moment, le) in
           let must : must_go heading t x ≡ true
-          = must_go_by heading x t.tlbi t.before w.pe w.op w.xt w.scope w.is (reached_here heading trust k h kept x f t.tlbi f.tagged.pe f.tagged.near a.reached)
+          = must_go_by heading x t.tlbi t.before w.pe w.op w.xt w.scope w.is (reached_here heading trust k x t.tlbi f.tagged.pe f.tagged.near a.reached)
           w.named takes x.since age old in
           true≢false (sym must ∙ none a.q a.dsb first t
           (k.answered.complete a.q h t (subst (λ (es : List Event). Open itself a.q es t) (sym rest) a.is_open))
@@ -120,19 +107,28 @@ module _ (heading : Heading) (trust : Trust) (k : Known heading trust) (h : List
     moment = f.tagged.moment;
   }
 
-  -- ---- the patterns
+-- ---- the patterns
+
+module _ (heading : Heading) (trust : Trust) (k : Known heading trust) (h : List Event) (e : Event)
+    (kept : keeps heading trust h ≡ true) (x : Entry) (f : Fine heading trust h x) (up : is_given_up heading h x ≡ false)
+    (g : Rooted heading trust h x) (none : LeavesIt heading h e x) where
+  count : length (noted heading trust h) ≡ length h
+  count = sym (events_length (noted heading trust h)) ∙ ap length (k.notes_keep_the_events h)
+
+  its : Taken heading trust h x
+  its = taken_entry heading trust k h kept x f up g
 
   pub made_before_after : MadeBefore heading trust (e ∷ h) x
   made_before_after part i w last p near b published =
-      elim (last_step part.kind part.level part.place now notes w last) [
+      elim (last_step part.kind part.level part.place (note heading trust (noted heading trust h) e) (noted heading trust h) w last) [
         | inl s ↦ absurd (no_publication heading part.place p b (subst (λ (xs : List Noted). Publication heading part.place p xs b) s published))
         | inr v ↦
-            elim (publication_after heading part.place p now v.0.since b
+            elim (publication_after heading part.place p (note heading trust (noted heading trust h) e) v.0.since b
             (subst (λ (xs : List Noted). Publication heading part.place p xs b) v.2 published)) [
               | inl same ↦
                   let position : b.position ≡ suc (length (noted heading trust h)) = ap (λ (n : Noted). n.position) same in
                   omega (arith, position, count, f.shape.made)
-              | inr old ↦ f.made_before part i v.0 v.1 p near b old
+              | inr old ↦ g.made_before part i v.0 v.1 p near b old
             ]
       ]
 
@@ -171,7 +167,7 @@ module _ (heading : Heading) (trust : Trust) (k : Known heading trust) (h : List
     half_stays : (b : Noted) → Publication heading part.place p t.before b → t.tlbi.covers part.place ≡ Half
         → (x.kind ≡ Combined) × (x.joined < d.position)
     half_stays b published covered =
-        elim (through_s2 x.kind (half_through heading trust k h kept x f part i v last p near b t published (unanswered_by Half covered))) [
+        elim (through_s2 x.kind (half_through heading trust k h kept x f up g part i v last p near b t published (unanswered_by Half covered))) [
           | inl stage2 ↦
               absurd (stays Half covered (its.half stage2 part i v last p near b t published (unanswered_by Half covered)))
           | inr combined ↦
@@ -182,7 +178,7 @@ module _ (heading : Heading) (trust : Trust) (k : Known heading trust) (h : List
     rest_stays : (b : Noted) (t1 : Issued Noted) (d1 : Noted) → HalfBy heading part.place p t.before b t1 d1
         → t.tlbi.covers part.place ≡ Second → ⊥
     rest_stays b t1 d1 first covered =
-        let joined = f.joined_before part i v last p near b t1 d1
+        let joined = g.joined_before part i v last p near b t1 d1
         (half_before heading trust k part.place p a.q v.since t b t1 d1 a.is_open first) in
         stays Second covered (its.rest joined.0 part i v last p near b t1 d1 t first (unanswered_by Second covered))
 
@@ -193,9 +189,9 @@ module _ (heading : Heading) (trust : Trust) (k : Known heading trust) (h : List
       × AnswersNow (note heading trust (noted heading trust h) e) v.since t d)
       ⊎ ((v : ValidWrite) × (last_valid part.kind part.level part.place (noted heading trust h) ≡ Some v) × Answer v.since t d)
   answered_when part w last t d answer =
-      elim (last_step part.kind part.level part.place now notes w last) [
+      elim (last_step part.kind part.level part.place (note heading trust (noted heading trust h) e) (noted heading trust h) w last) [
         | inl s ↦ absurd (no_answer t d (subst (λ (xs : List Noted). Answer xs t d) s answer))
-        | inr v ↦ elim (answer_after now v.0.since t d (subst (λ (xs : List Noted). Answer xs t d) v.2 answer)) [
+        | inr v ↦ elim (answer_after (note heading trust (noted heading trust h) e) v.0.since t d (subst (λ (xs : List Noted). Answer xs t d) v.2 answer)) [
           | inl a ↦ inl (v.0, v.1, a)
           | inr old ↦ inr (v.0, v.1, old)
         ]
@@ -205,20 +201,20 @@ module _ (heading : Heading) (trust : Trust) (k : Known heading trust) (h : List
   joined_before_after part i w last p near b t d half =
       elim (answered_when part w last t d half.flush.answer) [
         | inl v ↦ half_stays part i v.0 v.1 p near t d v.2 half.flush.reached b half.published half.flush.covered
-        | inr v ↦ f.joined_before part i v.0 v.1 p near b t d (record { flush = flush_of heading half.flush v.2; published = half.published })
+        | inr v ↦ g.joined_before part i v.0 v.1 p near b t d (record { flush = flush_of heading half.flush v.2; published = half.published })
       ]
 
   pub uncleansed_after : Uncleansed heading trust (e ∷ h) x
   uncleansed_after part i w last p near (inl one) =
       elim (answered_when part w last one.t one.d one.flush.answer) [
         | inl v ↦ full_stays part i v.0 v.1 p near one.t one.d v.2 one.flush.reached one.b one.published one.flush.covered
-        | inr v ↦ f.uncleansed part i v.0 v.1 p near (inl
+        | inr v ↦ g.uncleansed part i v.0 v.1 p near (inl
             (record { b = one.b; t = one.t; d = one.d; published = one.published; flush = flush_of heading one.flush v.2; allowed = one.allowed }))
       ]
   uncleansed_after part i w last p near (inr two) =
       elim (answered_when part w last two.t2 two.d2 two.second.answer) [
         | inl v ↦ rest_stays part i v.0 v.1 p near two.t2 two.d2 v.2 two.second.reached two.b two.t1 two.d1 two.first two.second.covered
-        | inr v ↦ f.uncleansed part i v.0 v.1 p near (inr (record {
+        | inr v ↦ g.uncleansed part i v.0 v.1 p near (inr (record {
           b = two.b;
           t1 = two.t1;
           d1 = two.d1;

@@ -11,6 +11,7 @@ use Rattle.bbm_tlb_machine.specs.Entry.{Entry}
 use Rattle.bbm_tlb_machine.specs.MachineRun.{IsRun, Leads, LeavesNone, Living, State, entry_at, next_in, follow_steps}
 use Rattle.bbm_tlb_machine.specs.MachineRun.{leaves_some, or_index, step_to, without}
 use Rattle.bbm_tlb_machine.specs.First.{IsFirstBad}
+use Rattle.bbm_tlb_machine.specs.Entry.{is_given_up}
 use Rattle.bbm_tlb_machine.specs.Step.{Extends, Starts, may_extend, may_start, must_go}
 use Rattle.bbm_tlb_machine.proofs.ListWords.{is_none, none_in}
 
@@ -30,11 +31,13 @@ module _ (heading : Heading) where
   extends_from h x place value k =
       let a = and_parts _ _ k in
       let b = and_parts _ _ a.0 in
-      record { below = b.0; readable = b.1; valid = a.1 }
+      let c = and_parts _ _ b.0 in
+      record { goes_on = not-true (is_given_up heading h x) c.0; below = c.1; readable = b.1; valid = a.1 }
 
   extends_to : (h : List Event) (x : Entry) (place value : ℕ) → Extends heading h x place value
       → may_extend heading h x place value ≡ true
-  extends_to h x place value s = and_from _ _ (and_from _ _ s.below s.readable) s.valid
+  extends_to h x place value s =
+      and_from _ _ (and_from _ _ (and_from _ _ (not_from_false (is_given_up heading h x) s.goes_on) s.below) s.readable) s.valid
 
   -- the entries that a DSB would leave
   leaves_from : (s : State) (q : ℕ) (dsb : Barrier) → leaves_some heading s (Dsb q dsb) ≡ false → LeavesNone heading s (Dsb q dsb)

@@ -12,14 +12,16 @@ use Rattle.bbm_rules.specs.Tags.{asid_readings, readings_in, readings_of}
 use Rattle.bbm_rules.specs.declared.rule.Rule.TheVariants.{BreakBeforeMake}
 use Rattle.bbm_tlb_machine.specs.declared.step.Step.{Step}
 use Rattle.bbm_tlb_machine.specs.declared.step.Step.TheVariants.{Machine, Event as Taken}
-use Rattle.bbm_tlb_machine.specs.Entry.{Entry, Part, parts_of, tag_of_entry}
+use Rattle.bbm_rules.proofs.Common.{holds_tag, nat_le}
+use Rattle.bbm_rules.specs.Roots.{given_up_since}
+use Rattle.bbm_tlb_machine.specs.Entry.{Entry, Part, is_given_up, parts_of, tag_of_entry}
 use Rattle.bbm_tlb_machine.specs.Invariant.{Fine, Holding, Placed, Tagged, Taken as TakenBy}
 use Rattle.bbm_tlb_machine.specs.KnownOfMachine.{Known}
 use Rattle.bbm_tlb_machine.specs.MachineRun.{IsRun, Leads, LeavesNone, Living, State, entry_at, with_entry}
-use Rattle.bbm_tlb_machine.specs.Safe.{ComesTo, IsLog, OneRootATag, Safe}
+use Rattle.bbm_tlb_machine.specs.Safe.{ComesTo, IsLog, OneRootATag, ReadsThrough, Safe}
 use Rattle.bbm_tlb_machine.proofs.Descs.{no_need}
-use Rattle.bbm_tlb_machine.proofs.EventSteps.{fine_after}
-use Rattle.bbm_tlb_machine.proofs.Facts.{held_there, held_valid, tag_now}
+use Rattle.bbm_tlb_machine.proofs.EventSteps.{fine_after, still_up}
+use Rattle.bbm_tlb_machine.proofs.Facts.{held_there, held_valid, tag_left, tag_now}
 use Rattle.bbm_tlb_machine.proofs.Made.{fine_combined, fine_extended, fine_shared, fine_start}
 use Rattle.bbm_tlb_machine.proofs.Patterns.{LeavesIt, tagged_after}
 use Rattle.bbm_tlb_machine.proofs.Taken.{taken}
@@ -103,9 +105,10 @@ module _ (heading : Heading) (trust : Trust) (k : Known heading trust) where
       step_fine run.0 step s log kept run.2 (λ log' kept'. run_fine steps run.0 log' kept' run.1)
 
   pub run_taken : (steps : List Step) (s : State) → IsLog heading s.log → keeps heading trust s.log ≡ true
-      → IsRun heading steps s → (l : Living) → Contains s.living l → TakenBy heading trust s.log l.entry
-  run_taken steps s log kept run l i =
-      taken heading trust k s.log kept l.entry (run_fine steps s log kept run l i)
+      → IsRun heading steps s → (l : Living) → Contains s.living l → is_given_up heading s.log l.entry ≡ false
+      → TakenBy heading trust s.log l.entry
+  run_taken steps s log kept run l i up =
+      let f = run_fine steps s log kept run l i in taken heading trust k s.log kept l.entry f up (f.rooted up)
 
   -- ---- one root a tag
 
@@ -130,25 +133,42 @@ module _ (heading : Heading) (trust : Trust) (k : Known heading trust) where
   read_at (y ∷ h) pe tag r i e =
       or_left (reads heading (y ∷ h) pe tag r.root) _ (read_by (readings heading (y ∷ h) pe) tag r i e)
 
-  -- where a PE reads under the tag of an entry, it reads through the entry's root
+  -- where a PE reads under the tag of an entry, it reads through the entry's own root
   one_root : (h : List Event) → keeps heading trust h ≡ true → (x : Entry) → Tagged heading trust h x → x.since ≤ length h
       → (pe : ℕ) → pe < heading.pes → (r : Reading) → Contains (readings heading h pe) r → r.tag ≡ tag_of_entry x
-      → r.root ≡ x.root
-  one_root h kept x tagged made pe is_pe r i e =
-      k.tags.one_root h k.proper kept r.root x.root (tag_of_entry x)
-      (pe_finds heading.pes (λ (p : ℕ). holds_at heading trust p r.root (tag_of_entry x) h) pe is_pe
-      (read_at h pe (tag_of_entry x) r i e))
-      (tag_now heading trust k h kept x tagged made)
+      → ReadsThrough heading h x r.root
+  one_root h kept x tagged made pe is_pe r i e = by (is_given_up heading h x) refl
+    where
+      holds : holds_tag heading trust r.root (tag_of_entry x) h ≡ true
+      holds = pe_finds heading.pes (λ (p : ℕ). holds_at heading trust p r.root (tag_of_entry x) h) pe is_pe
+          (read_at h pe (tag_of_entry x) r i e)
+
+      by : (b : Bool) → is_given_up heading h x ≡ b → ReadsThrough heading h x r.root
+      by false up = record {
+        same = k.tags.one_root h k.proper kept r.root x.root (tag_of_entry x) holds (tag_now heading trust k h kept x tagged up made);
+        stays = up;
+      }
+      by true up = absurd (true≢false (sym (tag_left heading trust k h kept x tagged
+          (and_parts heading.words.unflushed (given_up_since x.since x.root h) up).1)
+          ∙ k.tags.left_alone h k.proper kept r.root x.root (tag_of_entry x) holds))
+
+  -- a register write gives no root up
+  before_msr : (h : List Event) (x : Entry) (pe : ℕ) (reg : Reg) (value root : ℕ) → ReadsThrough heading (Msr pe reg value ∷ h) x root
+      → ReadsThrough heading h x root
+  before_msr h x pe reg value root t = record {
+    same = t.same;
+    stays = still_up heading.words.unflushed (nat_le x.since (length h) && false) (given_up_since x.since x.root h) t.stays;
+  }
 
   -- ---- the clauses of a safe log
 
   module _ (s : State) (x : Entry) (f : Fine heading trust s.log x) where
-    no_stale : (pe place value : ℕ) → keeps heading trust (Write pe place value ∷ s.log) ≡ true → (part : Part)
+    no_stale : is_given_up heading s.log x ≡ false → (pe place value : ℕ) → keeps heading trust (Write pe place value ∷ s.log) ≡ true → (part : Part)
         → Contains (parts_of x) part → part.place ≡ place → needs part.kind part.level part.value value ≡ false
-    no_stale pe place value kept part i e =
+    no_stale up pe place value kept part i e =
         let older : keeps heading trust s.log ≡ true = kept_before heading trust (Write pe place value ∷ []) s.log kept in
-        let p : Placed heading trust s.log x.root part = f.placed part i in
-        let q : Holding heading trust s.log part = f.holding part i in
+        let p : Placed heading trust s.log x.root part = (f.rooted up).placed part i in
+        let q : Holding heading trust s.log part = (f.rooted up).holding part i in
         let node : node_of heading trust (noted heading trust s.log) (page_of place) ≡ Some p.node
         = rw (← e, p.is_at.inside) (k.one_node.the_first s.log older p.node p.in_tree) in
         let held : held_at heading trust (noted heading trust s.log) p.node place ≡ Some q.value
@@ -162,16 +182,17 @@ module _ (heading : Heading) (trust : Trust) (k : Known heading trust) where
         no_need heading trust k part.kind part.level q.value part.value value (held_valid heading trust k s.log older x part q) q.same_core
         (rw (p.is_at.kind, p.is_at.level) at there)
 
-    no_page : (pe page : ℕ) → keeps heading trust (Init pe page ∷ s.log) ≡ true → (part : Part) → Contains (parts_of x) part
+    no_page : is_given_up heading s.log x ≡ false → (pe page : ℕ) → keeps heading trust (Init pe page ∷ s.log) ≡ true → (part : Part) → Contains (parts_of x) part
         → page_of part.place ≡ page → ⊥
-    no_page pe page kept part i e =
-        let p : Placed heading trust s.log x.root part = f.placed part i in
+    no_page up pe page kept part i e =
+        let p : Placed heading trust s.log x.root part = (f.rooted up).placed part i in
         true≢false (sym (k.tree.has (noted heading trust s.log) p.node p.in_tree)
         ∙ (ap (in_tree heading trust (noted heading trust s.log)) (sym p.is_at.inside ∙ e)
         ∙ (k.one_position.no_init s.log pe page kept).0))
 
     no_other : (pe value : ℕ) (reg : Reg) → pe < heading.pes → keeps heading trust (Msr pe reg value ∷ s.log) ≡ true → (r : Reading)
-        → Contains (readings heading (Msr pe reg value ∷ s.log) pe) r → r.tag ≡ tag_of_entry x → r.root ≡ x.root
+        → Contains (readings heading (Msr pe reg value ∷ s.log) pe) r → r.tag ≡ tag_of_entry x
+        → ReadsThrough heading (Msr pe reg value ∷ s.log) x r.root
     no_other pe value reg is_pe kept =
         let older : keeps heading trust s.log ≡ true = kept_before heading trust (Msr pe reg value ∷ []) s.log kept in
         let none : LeavesIt heading s.log (Msr pe reg value) x = λ q dsb is. absurd (apart q dsb is) in
@@ -197,16 +218,16 @@ module _ (heading : Heading) (trust : Trust) (k : Known heading trust) where
 
   pub safe_log : (log : List Event) → IsLog heading log → keeps heading trust log ≡ true → Safe heading log
   safe_log log is_log kept = record {
-    at_write = λ s pe place value c l i part j e.
-        no_stale s l.entry (fine_to log is_log kept s (Write pe place value) c l i) pe place value
+    at_write = λ s pe place value c l i up part j e.
+        no_stale s l.entry (fine_to log is_log kept s (Write pe place value) c l i) up pe place value
         (kept_to log is_log kept s (Write pe place value) c) part j e;
-    at_init = λ s pe page c l i part j e.
-        no_page s l.entry (fine_to log is_log kept s (Init pe page) c l i) pe page (kept_to log is_log kept s (Init pe page) c) part j e;
-    at_msr = λ s pe value reg c l i r j e.
-        no_other s l.entry (fine_to log is_log kept s (Msr pe reg value) c l i) pe value reg
+    at_init = λ s pe page c l i up part j e.
+        no_page s l.entry (fine_to log is_log kept s (Init pe page) c l i) up pe page (kept_to log is_log kept s (Init pe page) c) part j e;
+    at_msr = λ s pe value reg c l i r j e. before_msr s.log l.entry pe reg value r.root
+        (no_other s l.entry (fine_to log is_log kept s (Msr pe reg value) c l i) pe value reg
         (ltb-true pe heading.pes (and_parts (nat_lt pe heading.pes) (is_value value)
         (log_to log is_log kept s (Msr pe reg value) c (Msr pe reg value) (contains_head s.log (Msr pe reg value)))).0)
-        (kept_to log is_log kept s (Msr pe reg value) c) r j e;
+        (kept_to log is_log kept s (Msr pe reg value) c) r j e);
   }
 
   pub one_root_log : (log : List Event) → IsLog heading log → keeps heading trust log ≡ true → OneRootATag heading log

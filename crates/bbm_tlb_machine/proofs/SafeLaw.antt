@@ -7,9 +7,10 @@ use Rattle.bbm_regimes.specs.SameRegister.{same_tag}
 use Rattle.bbm_rules.specs.EventLaws.{TestsAreExact}
 use Rattle.bbm_tlb_machine.specs.declared.step.Step.{Step}
 use Rattle.bbm_tlb_machine.specs.declared.step.Step.TheVariants.{Machine, Event as Taken}
-use Rattle.bbm_tlb_machine.specs.Entry.{Entry, Part, parts_of, tag_of_entry}
+use Rattle.bbm_rules.proofs.Common.{not_from_false, not-true, or_parts, or_from}
+use Rattle.bbm_tlb_machine.specs.Entry.{Entry, Part, is_given_up, parts_of, tag_of_entry}
 use Rattle.bbm_tlb_machine.specs.MachineRun.{IsRun, Living, State, follow_steps}
-use Rattle.bbm_tlb_machine.specs.Safe.{ComesTo, Safe, conflicts_with, earlier, fails_at, first_conflict, has_other_root}
+use Rattle.bbm_tlb_machine.specs.Safe.{ComesTo, ReadsThrough, Safe, conflicts_with, earlier, fails_at, first_conflict, has_other_root}
 use Rattle.bbm_tlb_machine.specs.Safe.{in_conflict, is_stale}
 use Rattle.bbm_tlb_machine.specs.First.{IsFirstConflict}
 use Rattle.bbm_tlb_machine.proofs.ListWords.{is_none, none_in}
@@ -21,43 +22,57 @@ use Rattle.bbm_histories.proofs.Induction.{if_none}
 module _ (heading : Heading) (tests : TestsAreExact) where
   -- one entry
   at_write : (x : Entry) (h : List Event) (pe place value : ℕ) → conflicts_with heading h (Write pe place value) x ≡ false
+      → is_given_up heading h x ≡ false
       → (part : Part) → Contains (parts_of x) part → part.place ≡ place → needs part.kind part.level part.value value ≡ false
-  at_write x h pe place value k part i e =
-      second_false (part.place == place) _ (none_in (is_stale place value) (parts_of x) k part i) (eq-eqb part.place place e)
+  at_write x h pe place value k up part i e =
+      second_false (part.place == place) _ (none_in (is_stale place value) (parts_of x)
+      (second_false (not (is_given_up heading h x)) (any (is_stale place value) (parts_of x)) k (not_from_false (is_given_up heading h x) up)) part i)
+      (eq-eqb part.place place e)
 
   at_init : (x : Entry) (h : List Event) (pe page : ℕ) → conflicts_with heading h (Init pe page) x ≡ false
+      → is_given_up heading h x ≡ false
       → (part : Part) → Contains (parts_of x) part → page_of part.place ≡ page → ⊥
-  at_init x h pe page k part i e =
-      true≢false (sym (eq-eqb (page_of part.place) page e) ∙ none_in (λ (part : Part). page_of part.place == page) (parts_of x) k part i)
+  at_init x h pe page k up part i e =
+      true≢false (sym (eq-eqb (page_of part.place) page e) ∙ none_in (λ (part : Part). page_of part.place == page) (parts_of x)
+      (second_false (not (is_given_up heading h x)) (any (λ (part : Part). page_of part.place == page) (parts_of x)) k
+      (not_from_false (is_given_up heading h x) up)) part i)
 
   at_msr : (x : Entry) (h : List Event) (pe value : ℕ) (reg : Reg) → conflicts_with heading h (Msr pe reg value) x ≡ false
-      → (r : Reading) → Contains (readings heading (Msr pe reg value ∷ h) pe) r → r.tag ≡ tag_of_entry x → r.root ≡ x.root
+      → (r : Reading) → Contains (readings heading (Msr pe reg value ∷ h) pe) r → r.tag ≡ tag_of_entry x
+      → ReadsThrough heading h x r.root
   at_msr x h pe value reg k r i e =
-      let none = none_in (has_other_root x) (readings heading (Msr pe reg value ∷ h) pe) k r i in
+      let none = none_in (has_other_root heading h x) (readings heading (Msr pe reg value ∷ h) pe) k r i in
       let same : same_tag r.tag (tag_of_entry x) ≡ true = ap (λ g. same_tag g (tag_of_entry x)) e ∙ (tests.tags (tag_of_entry x) (tag_of_entry x)).1 refl in
-      eqb-true r.root x.root (not-false _ (second_false (same_tag r.tag (tag_of_entry x)) _ none same))
+      let parts = or_parts (not (r.root == x.root)) (is_given_up heading h x) (second_false (same_tag r.tag (tag_of_entry x)) _ none same) in
+      record { same = eqb-true r.root x.root (not-false _ parts.0); stays = parts.1 }
 
   no_write : (x : Entry) (h : List Event) (pe place value : ℕ)
-      → ((part : Part) → Contains (parts_of x) part → part.place ≡ place → needs part.kind part.level part.value value ≡ false)
+      → (is_given_up heading h x ≡ false → (part : Part) → Contains (parts_of x) part → part.place ≡ place
+      → needs part.kind part.level part.value value ≡ false)
       → conflicts_with heading h (Write pe place value) x ≡ false
   no_write x h pe place value all =
+      and_apart (not (is_given_up heading h x)) _ (λ up.
       is_none (is_stale place value) (parts_of x) (λ part i.
-      and_apart (part.place == place) _ (λ e. all part i (eqb-true part.place place e)))
+      and_apart (part.place == place) _ (λ e. all (not-true (is_given_up heading h x) up) part i (eqb-true part.place place e))))
 
   no_init : (x : Entry) (h : List Event) (pe page : ℕ)
-      → ((part : Part) → Contains (parts_of x) part → page_of part.place ≡ page → ⊥)
+      → (is_given_up heading h x ≡ false → (part : Part) → Contains (parts_of x) part → page_of part.place ≡ page → ⊥)
       → conflicts_with heading h (Init pe page) x ≡ false
   no_init x h pe page all =
+      and_apart (not (is_given_up heading h x)) _ (λ up.
       is_none (λ (part : Part). page_of part.place == page) (parts_of x) (λ part i.
-      false_from_ne_true (page_of part.place == page) (λ e. all part i (eqb-true (page_of part.place) page e)))
+      false_from_ne_true (page_of part.place == page)
+      (λ e. all (not-true (is_given_up heading h x) up) part i (eqb-true (page_of part.place) page e))))
 
   no_msr : (x : Entry) (h : List Event) (pe value : ℕ) (reg : Reg)
-      → ((r : Reading) → Contains (readings heading (Msr pe reg value ∷ h) pe) r → r.tag ≡ tag_of_entry x → r.root ≡ x.root)
+      → ((r : Reading) → Contains (readings heading (Msr pe reg value ∷ h) pe) r → r.tag ≡ tag_of_entry x
+      → ReadsThrough heading h x r.root)
       → conflicts_with heading h (Msr pe reg value) x ≡ false
   no_msr x h pe value reg all =
-      is_none (has_other_root x) (readings heading (Msr pe reg value ∷ h) pe) (λ r i.
+      is_none (has_other_root heading h x) (readings heading (Msr pe reg value ∷ h) pe) (λ r i.
       and_apart (same_tag r.tag (tag_of_entry x)) _ (λ e.
-      ap not (eq-eqb r.root x.root (all r i ((tests.tags r.tag (tag_of_entry x)).0 e)))))
+      let t : ReadsThrough heading h x r.root = all r i ((tests.tags r.tag (tag_of_entry x)).0 e) in
+      or_from (not (r.root == x.root)) (is_given_up heading h x) (ap not (eq-eqb r.root x.root t.same)) t.stays))
 
   -- all of them
   each : (s : State) (e : Event) → in_conflict heading s e ≡ false → (l : Living) → Contains s.living l
@@ -71,10 +86,10 @@ module _ (heading : Heading) (tests : TestsAreExact) where
   safe_from : (log : List Event) → ((s : State) (e : Event) → ComesTo heading log s e → in_conflict heading s e ≡ false)
       → Safe heading log
   safe_from log all = record {
-    at_write = λ s pe place value c l i part j e.
-        at_write l.entry s.log pe place value (each s (Write pe place value) (all s (Write pe place value) c) l i) part j e;
-    at_init = λ s pe page c l i part j e.
-        at_init l.entry s.log pe page (each s (Init pe page) (all s (Init pe page) c) l i) part j e;
+    at_write = λ s pe place value c l i up part j e.
+        at_write l.entry s.log pe place value (each s (Write pe place value) (all s (Write pe place value) c) l i) up part j e;
+    at_init = λ s pe page c l i up part j e.
+        at_init l.entry s.log pe page (each s (Init pe page) (all s (Init pe page) c) l i) up part j e;
     at_msr = λ s pe value reg c l i r j e.
         at_msr l.entry s.log pe value reg (each s (Msr pe reg value) (all s (Msr pe reg value) c) l i) r j e;
   }

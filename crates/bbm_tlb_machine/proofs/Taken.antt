@@ -6,8 +6,8 @@ use Rattle.bbm_rules.proofs.Common.{Noted, events_of, HalfBy, Publication, Headi
 use Rattle.bbm_rules.proofs.Common.{Open, completes_for, itself}
 use Rattle.bbm_tlbi_scope.specs.Takes.{taken as taken_by_scope}
 use Rattle.bbm_tlbi_scope.specs.declared.entry.Cover.TheVariants.{None as NoCover}
-use Rattle.bbm_tlb_machine.specs.Entry.{Entry, Part, age_by, head_of, parts_of}
-use Rattle.bbm_tlb_machine.specs.Invariant.{Fine, Goes, IsNear, Taken, Unanswered}
+use Rattle.bbm_tlb_machine.specs.Entry.{Entry, Part, age_by, head_of, is_given_up, parts_of}
+use Rattle.bbm_tlb_machine.specs.Invariant.{Fine, Goes, IsNear, Rooted, Taken, Unanswered}
 use Rattle.bbm_tlb_machine.specs.KnownOfMachine.{Known}
 use Rattle.bbm_tlb_machine.proofs.AfterEvent.{half_before, publication_answered, publication_before}
 use Rattle.bbm_tlb_machine.proofs.Covered.{Covering, covering}
@@ -27,21 +27,22 @@ open_among heading trust k h cover place p since t u = record {
       subst (λ (z : Event). completes_for u.q t.tlbi.event z ≡ false) a.is (u.is_open.uncompleted a.item a.newer a.older a.split);
 }
 
-module _ (heading : Heading) (trust : Trust) (k : Known heading trust) (h : List Event) (kept : keeps heading trust h ≡ true)
-    (x : Entry) (f : Fine heading trust h x) where
+module _ (heading : Heading) (trust : Trust) (k : Known heading trust) (x : Entry) where
   -- what reaches a PE near reaches the entry's own
   pub reached_here : (t : Event) (p : ℕ) → IsNear heading x p → reaches heading t p ≡ true → reaches heading t x.pe ≡ true
   reached_here t p (inl same) r = ap (reaches heading t) (sym same) ∙ r
   reached_here t p (inr c) r = k.uniform.reached t x.pe p c.0 ∙ r
 
+module _ (heading : Heading) (trust : Trust) (k : Known heading trust) (h : List Event) (kept : keeps heading trust h ≡ true)
+    (x : Entry) (f : Fine heading trust h x) (up : is_given_up heading h x ≡ false) (g : Rooted heading trust h x) where
   module _ (part : Part) (i : Contains (parts_of x) part) (w : ValidWrite)
       (last : last_valid part.kind part.level part.place (noted heading trust h) ≡ Some w) (p : ℕ) (near : IsNear heading x p)
       (b : Noted) (t : Issued Noted) where
     module _ (cover : Cover) (u : Unanswered heading trust h cover part.place p w.since t) where
       covers : Publication heading part.place p t.before b → (cover ≡ NoCover → ⊥) → Covering heading x t cover u.older
       covers published some =
-          covering heading trust k h kept x f part i w last p u.q near t u.is_open b published
-          (f.made_before part i w last p near b (publication_before heading trust k part.place p u.q w.since t b u.is_open published))
+          covering heading trust k h kept x f up g part i w last p u.q near t u.is_open b published
+          (g.made_before part i w last p near b (publication_before heading trust k part.place p u.q w.since t b u.is_open published))
           cover some u.covered u.older u.whole
 
       goes : (c : Covering heading x t cover u.older) (age : ℕ)
@@ -50,7 +51,7 @@ module _ (heading : Heading) (trust : Trust) (k : Known heading trust) (h : List
           → Goes heading trust h x t.tlbi u.older
       goes c age takes aged old =
           must_go_by heading x t.tlbi.event (events_of u.older) c.by_scope.pe c.by_scope.op c.by_scope.xt c.by_scope.scope c.by_scope.is
-          (reached_here t.tlbi.event p near u.reached) c.by_scope.named takes age aged old
+          (reached_here heading trust k x t.tlbi.event p near u.reached) c.by_scope.named takes age aged old
 
       inside : (cover ≡ NoCover → ⊥) → (c : Covering heading x t cover u.older)
           → cover_by c.view.kind c.by_scope.scope.family (fits_place c.by_scope.scope c.view) c.by_scope.scope
@@ -83,7 +84,7 @@ module _ (heading : Heading) (trust : Trust) (k : Known heading trust) (h : List
         = publication_answered heading trust k part.place p t.before t1 d1 b first.flush.answer first.published in
         let c = covers Second u published (λ k. cc) in
         let joined : x.joined < d1.position
-        = (f.joined_before part i w last p near b t1 d1 (half_before heading trust k part.place p u.q w.since t b t1 d1 u.is_open first)).1 in
+        = (g.joined_before part i w last p near b t1 d1 (half_before heading trust k part.place p u.q w.since t b t1 d1 u.is_open first)).1 in
         let le : d1.position ≤ length (events_of u.older) = c.earlier first.flush.answer.newer first.flush.answer.older d1 first.flush.answer.split in
         goes Second u c x.joined
         (k.second_takes c.by_scope.scope (vmid_of heading (events_of u.older) c.by_scope.pe) (head_of x) c.view c.agrees combined c.by_scope.says)

@@ -1,6 +1,6 @@
 -- What a TLB keeps: an entry, made by reading descriptors one after the other, from a root down.
 -- Source: Arm ARM (DDI 0487), "Translation Lookaside Buffers"; the form of an entry is the project's own choice.
-use Rattle.std.specs.Prelude.{ℕ, ◌+◌, ◌-◌, Bool, true, false, List, ◌∷◌}
+use Rattle.std.specs.Prelude.{ℕ, ◌+◌, ◌-◌, Bool, true, false, ◌&&◌, List, ◌∷◌}
 use Rattle.bbm_regimes.specs.Extent.{Extent}
 use Rattle.bbm_descriptor.specs.Descriptor.{desc_of}
 use Rattle.bbm_descriptor.specs.declared.desc.Desc.{Desc}
@@ -12,8 +12,8 @@ use Rattle.bbm_tlbi_scope.specs.declared.scope.Family.{Family}
 use Rattle.bbm_tlbi_scope.specs.declared.scope.Family.TheVariants.{VmAll1}
 use Rattle.bbm_tlbi_scope.specs.Agreement.{tag_of}
 use Rattle.bbm_rules.specs.Covers.{is_global}
-use Rattle.bbm_rules.specs.Prelude.{Kind, Tag}
-use Rattle.bbm_rules.specs.Roots.{input_pages}
+use Rattle.bbm_rules.specs.Prelude.{Heading, Event, Kind, Tag}
+use Rattle.bbm_rules.specs.Roots.{given_up_since, input_pages}
 
 -- Part: a descriptor as it was read: its place, the value that was read, the kind and the level at which it was read,
 -- and the first input page that its place translates.
@@ -77,3 +77,8 @@ age_by _ _ since joined = since
 
 abbrev pub age_for : Family → Entry → ℕ
 age_for family x = age_by family x.kind x.since x.joined
+
+-- Given up: under `unflushed`, whether the entry's root was given up since the first part was read. A root that is
+-- declared on the same page anew is another one.
+abbrev pub is_given_up : Heading → List Event → Entry → Bool
+is_given_up heading h x = heading.words.unflushed && given_up_since x.since x.root h

@@ -14,12 +14,13 @@ use Rattle.bbm_rules.specs.Held.{ValidWrite, held, last_valid}
 use Rattle.bbm_rules.specs.Notes.{Noted, event_of, events_of}
 use Rattle.bbm_rules.specs.PatternSentences.{Cleansed, HalfBy, Publication}
 use Rattle.bbm_rules.specs.Places.{index_of, page_of}
-use Rattle.bbm_rules.specs.Prelude.{Heading, Kind, Event, first_input_page, input_pages, start_of}
+use Rattle.bbm_rules.specs.Prelude.{Heading, Kind, Ttbr0, Event, first_input_page, input_pages, start_of}
 use Rattle.bbm_rules.specs.Reach.{Issued, reaches}
 use Rattle.bbm_rules.specs.Roots.{root_pages}
-use Rattle.bbm_rules.specs.Sentences.{HoldsTag, Open}
+use Rattle.bbm_rules.specs.Sentences.{KeptTag, Open}
 use Rattle.bbm_rules.specs.Tree.{Node, next_of, nodes_of_pages, region_start, tree}
-use Rattle.bbm_tlb_machine.specs.Entry.{Entry, Part, parts_of, tag_of_entry}
+use Rattle.bbm_tlbi_scope.specs.Takes.{is_global_leaf}
+use Rattle.bbm_tlb_machine.specs.Entry.{Entry, Part, head_of, is_given_up, parts_of, tag_of_entry}
 use Rattle.bbm_tlb_machine.specs.Step.{must_go}
 
 -- ---- the shape of an entry
@@ -119,22 +120,31 @@ module _ (heading : Heading) where
         → HalfBy heading place p since b t d → (x.kind ≡ Combined) × (x.joined < d.position))
 
     -- Tag: at a PE near, the entry's tag was readable for its root when the entry was made, and no TLBI since takes it
-    -- away.
+    -- away. So the tag is kept for the root's page: the root holds it, or it was given up since and left it.
     pub record Tagged : Type 0 where
       pub pe : ℕ
       pub near : IsNear x pe
       pub is_pe : pe < heading.pes
-      pub held : HoldsTag heading trust pe x.root (tag_of_entry x) h
+      pub held : KeptTag heading trust pe x.root (tag_of_entry x) h
       pub moment : length held.older ≡ x.since
 
-    pub record Fine : Type 0 where
-      pub shape : Shape (length h) x
+    -- what is so while the entry's root wasn't given up since
+    pub record Rooted : Type 0 where
       pub placed : (part : Part) → Contains (parts_of x) part → Placed trust h x.root part
       pub holding : (part : Part) → Contains (parts_of x) part → Holding trust h part
       pub uncleansed : Uncleansed
-      pub tagged : Tagged
       pub made_before : MadeBefore
       pub joined_before : JoinedBefore
+
+    -- Own ASID: an entry of the lower range ends in no leaf for every ASID. It is so of a root that was given up, too.
+    abbrev pub OwnAsid : Type 0
+    OwnAsid = x.last.kind ≡ Ttbr0 → is_global_leaf (head_of x) ≡ false
+
+    pub record Fine : Type 0 where
+      pub shape : Shape (length h) x
+      pub own_asid : OwnAsid
+      pub tagged : Tagged
+      pub rooted : is_given_up heading h x ≡ false → Rooted
 
     -- the TLBI must have taken the entry by the time that it is answered
     abbrev pub Goes : Noted → List Noted → Type 0
@@ -142,7 +152,8 @@ module _ (heading : Heading) where
 
     -- Taken: an unanswered TLBI takes the entry where, behind a barrier that publishes a write of a part's place, it
     -- covers the place in full; where it covers it half, if the entry is one of stage 2; and where the place was half
-    -- before it and it covers the rest, if the entry combines the stages. It follows from the points of `Fine`.
+    -- before it and it covers the rest, if the entry combines the stages. It follows from the points of `Fine`, while
+    -- the entry's root wasn't given up since.
     pub record Taken : Type 0 where
       pub full : AtParts (λ place p since. (b : Noted) (t : Issued Noted) → Publication heading place p t.before b
           → (u : Unanswered trust h Full place p since t) → Goes t.tlbi u.older)

@@ -16,7 +16,8 @@ use Rattle.bbm_rules.specs.BrokenLaws.{EachRule, NotesKeepEvents, NotesOfOlder}
 use Rattle.bbm_rules.specs.Claims.{Trust}
 use Rattle.bbm_rules.specs.EventLaws.{AnsweredBySentence, RootsBySentence, TestsAreExact}
 use Rattle.bbm_rules.specs.HeldLaws.{HeldBySentence, LastValidBySentence, SeenBySentence}
-use Rattle.bbm_rules.specs.TagLaws.{ReadsBySentence, TagSetSays}
+use Rattle.bbm_rules.specs.TagLaws.{ReadsBySentence, TagHeldBySentence, TagKeptBySentence, TagLeftBySentence}
+use Rattle.bbm_rules.specs.TagLaws.{TagSetSays}
 use Rattle.bbm_rules.specs.TreeLaws.{ChildlessBySentence, PagesOfRoots, TreeBySentence}
 use Rattle.bbm_histories.specs.ContentLaws.{FrozenView, HeldChanges, LimboIsEmpty, LowerLeaves, WindowAtReads}
 use Rattle.bbm_histories.specs.HolderLaws.{TagsOfRoots}
@@ -57,6 +58,9 @@ pub record Known (heading : Heading) (trust : Trust) : Type 0 where
   pub root : RootsBySentence
   pub root_pages : PagesOfRoots heading
   pub seen : SeenBySentence heading
+  pub tag_held : TagHeldBySentence heading trust
+  pub tag_kept : TagKeptBySentence heading trust
+  pub tag_left : TagLeftBySentence heading trust
   pub tag_set : TagSetSays heading trust
   pub tags : TagsOfRoots heading trust
   pub tree : TreeBySentence heading trust

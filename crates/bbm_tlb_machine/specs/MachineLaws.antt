@@ -4,6 +4,7 @@ use Rattle.std.specs.Prelude.{◌≡◌, ◌↔◌, ℕ, true, false, List, ◌�
 use Rattle.bbm_rules.specs.Broken.{keeps}
 use Rattle.bbm_rules.specs.Claims.{Trust}
 use Rattle.bbm_rules.specs.Prelude.{Heading, Event}
+use Rattle.bbm_tlb_machine.specs.Entry.{is_given_up}
 use Rattle.bbm_tlb_machine.specs.First.{IsFirstBad, IsFirstConflict}
 use Rattle.bbm_tlb_machine.specs.Invariant.{Fine, Taken}
 use Rattle.bbm_tlb_machine.specs.MachineRun.{IsRun, Leads, Living, State, follow_steps, step_to}
@@ -39,7 +40,8 @@ module _ (heading : Heading) (trust : Trust) where
     pub fine : (steps : List Step) (s : State) → IsLog heading s.log → keeps heading trust s.log ≡ true
         → IsRun heading steps s → (l : Living) → Contains s.living l → Fine heading trust s.log l.entry
     pub taken : (steps : List Step) (s : State) → IsLog heading s.log → keeps heading trust s.log ≡ true
-        → IsRun heading steps s → (l : Living) → Contains s.living l → Taken heading trust s.log l.entry
+        → IsRun heading steps s → (l : Living) → Contains s.living l → is_given_up heading s.log l.entry ≡ false
+        → Taken heading trust s.log l.entry
 
   -- every log that keeps the rules is safe
   abbrev pub KeptIsSafe : Type 0

@@ -3,7 +3,7 @@
 -- first.
 -- Source: Arm ARM (DDI 0487), "Translation Lookaside Buffers" and "TLB maintenance instructions", but where the
 -- project's own choice is named.
-use Rattle.std.specs.Prelude.{◌≡◌, ℕ, suc, ◌+◌, ◌-◌, ◌*◌, ◌/◌, Bool, true, false, ◌&&◌, ◌==◌, nat_le, nat_lt, List}
+use Rattle.std.specs.Prelude.{◌≡◌, ℕ, suc, ◌+◌, ◌-◌, ◌*◌, ◌/◌, Bool, true, false, ◌&&◌, not, ◌==◌, nat_le, nat_lt, List}
 use Rattle.std.specs.Prelude.{[], length, map, Option, Some, None}
 use Rattle.bbm_descriptor.specs.Descriptor.{is_valid}
 use Rattle.bbm_tlbi_scope.specs.declared.entry.EntryKind.{EntryKind}
@@ -20,7 +20,7 @@ use Rattle.bbm_rules.specs.Roots.{first_input_page, input_pages, page_count, sta
 use Rattle.bbm_rules.specs.Tags.{reads}
 use Rattle.bbm_rules.specs.Tree.{next_of}
 use Rattle.bbm_rules.specs.Values.{is_readable}
-use Rattle.bbm_tlb_machine.specs.Entry.{Entry, Part, age_for, head_of, parts_of, tag_of_entry}
+use Rattle.bbm_tlb_machine.specs.Entry.{Entry, Part, age_for, head_of, is_given_up, parts_of, tag_of_entry}
 
 -- Start: the first part of an entry.
 
@@ -136,16 +136,18 @@ module _ (heading : Heading) where
       reads heading h x.pe (tag_of_entry x) x.root && has_number heading.world h x.pe x.last.kind number
       && is_readable heading h x.last.place x.pe x.last.value && is_valid x.last.kind x.last.level x.last.value
 
-  -- Extend: the last part is a table, and the place in its next page; the value is readable at the entry's PE, and
-  -- valid one level deeper.
+  -- Extend: the entry's root wasn't given up since its first part was read, so that a walk of a root that was doesn't
+  -- go on; the last part is a table, and the place in its next page; the value is readable at the entry's PE, and valid
+  -- one level deeper. That a walk doesn't go on is a premise on the log, which `unflushed` makes.
   pub record Extends (h : List Event) (x : Entry) (place value : ℕ) : Type 0 where
+    pub goes_on : is_given_up heading h x ≡ false
     pub below : is_that (next_of x.last.kind x.last.level x.last.value) (page_of place) ≡ true
     pub readable : is_readable heading h place x.pe value ≡ true
     pub valid : is_valid x.last.kind (suc x.last.level) value ≡ true
 
   abbrev pub may_extend : List Event → Entry → ℕ → ℕ → Bool
   may_extend h x place value =
-      is_that (next_of x.last.kind x.last.level x.last.value) (page_of place)
+      not (is_given_up heading h x) && is_that (next_of x.last.kind x.last.level x.last.value) (page_of place)
       && is_readable heading h place x.pe value && is_valid x.last.kind (suc x.last.level) value
 
   -- Share: TLBs may copy entries from one another, where the header says so, to any PE of the header.

@@ -4,6 +4,7 @@
 mod conflict;
 mod entry;
 mod geometry;
+mod given_up;
 pub mod laws;
 mod living;
 mod looking;
@@ -15,6 +16,7 @@ mod starting;
 pub mod step;
 
 pub use entry::{Entry, Part};
+pub use given_up::is_given_up;
 pub use laws::{law_conflict, law_run};
 pub use looking::can_read;
 pub use machine::{FollowFault, Machine, follow};

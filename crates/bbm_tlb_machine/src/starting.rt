@@ -13,6 +13,7 @@ ghost use Rattle.bbm_tlb_machine.specs.MachineRegisters.{asids_by};
 
 use crate::entry::{Entry, Part, is_valid};
 use crate::geometry::{first_of, root_of};
+use crate::given_up::is_given_up;
 use crate::looking::can_read;
 use bbm_events::{Event, Header, input_pages};
 use bbm_oracle_tags::readings::is_read;
@@ -230,8 +231,9 @@ fn next_part(part: Part, place: Place, value: u64) -> Part
     }
 }
 
-/// The entry that has one part more than the given one; None where there may be none. `NoMemory` where there is none.
-/// Source: project's own choice, after Arm ARM (DDI 0487), "Translation Lookaside Buffers".
+/// The entry that has one part more than the given one; None where there may be none, as where the entry's root was
+/// given up since under a header with `unflushed`. `NoMemory` where there is none. Source: project's own choice, after
+/// Arm ARM (DDI 0487), "Translation Lookaside Buffers".
 pub fn extend(
     alloc: Global,
     header: &Header,
@@ -243,6 +245,9 @@ pub fn extend(
     ensures { IfOk result (λ made. made ≡ if_so
         (spec.may_extend header.now (reverse events.now) entry.now place value) (spec.extended entry.now place value)) }
 {
+    if is_given_up(header, events, entry) {
+        return Ok(None);
+    }
     let last = entry.last;
     if !last.is_above(place) {
         return Ok(None);

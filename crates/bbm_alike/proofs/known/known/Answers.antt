@@ -15,6 +15,7 @@ returns c heading = record {
   pattern_steps = c.law_pattern_steps.ensures heading;
   phase_parts = c.law_phase_parts.ensures heading;
   seen = c.law_seen.ensures heading;
+  tag_kept = c.law_tag_kept.ensures heading;
   tag_steps = c.law_tag_steps.ensures heading;
   tree = c.law_tree.ensures heading;
 }

@@ -9,7 +9,7 @@ loop-i-init c = (
   c.has-holds.ensures.is
       ∙ ap (λ (xs : List Holding). has xs c.args.asked.now.pe c.args.asked.now.root c.args.asked.now.tag)
       c.deref.ensures.value
-      ∙ c.requires.4 c.args.asked.now.pe c.args.asked.now.root c.args.asked.now.tag c.has-holds.ensures.below
+      ∙ c.requires.4.held_is c.args.asked.now.pe c.args.asked.now.root c.args.asked.now.tag c.has-holds.ensures.below
       ∙ ap (λ (h : List Event). holds_at c.args.header.now (Listed c.args.evidence.now.claims.now) c.args.asked.now.pe
       c.args.asked.now.root c.args.asked.now.tag h)
       (sym (first_of c.args.events.now c.requires.0 c.requires.1 c.args.evidence.now.taken c.requires.2 c.requires.5)),

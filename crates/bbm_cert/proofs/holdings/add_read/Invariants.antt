@@ -8,3 +8,4 @@ invariant-loop-number l =
     || (nat_lt p l.number && reads l.header (reverse l.events) p tag root)))
     × ((p n : ℕ) (tag : Tag) → lasts l.tags.spans.items p tag n ≡ (lasts l.initial.tags.spans.items p tag n
     || (nat_lt p l.number && reads_for_some l.header (reverse l.events) p tag)))
+    × (l.tags.left ≡ l.initial.tags.left)

@@ -1,11 +1,16 @@
-use Rattle.bbm_cert.proofs.Common.{notes_of, ends_some, has, next_lasts}
-use Rattle.bbm_rules.proofs.Common.{◌≡◌, ◌∷◌, List, reverse, ◌∙◌, ap, IfOk-weaker, events_of, Event}
-use Rattle.bbm_cert.proofs.HeldTags.{held_then}
+use Rattle.bbm_cert.proofs.Common.{Tag, notes_of, ends_some, has, is_lost, next_lasts}
+use Rattle.bbm_rules.proofs.Common.{◌≡◌, ◌∷◌, ℕ, List, reverse, ◌∙◌, ap, IfOk, IfOk-weaker, Result, Ok, Err, events_of, Event}
+use Rattle.bbm_cert.proofs.HeldTags.{held_then, left_then}
 use Rattle.bbm_cert.proofs.Lasting.{spans_next}
 use Rattle.bbm_cert.proofs.holdings.tags_after.Goals as goal
 
-pub returns-clause-held : goal.returns-clause-held
-returns-clause-held c = λ hold.
+-- what two clauses say of a result
+both : {A E : Type 0} (r : Result A E) {P Q : A → Type 0} → IfOk r P → IfOk r Q → IfOk r (λ x. P x × Q x)
+both (Ok x) p q = (p, q)
+both (Err e) p q = p
+
+pub returns-clause-kept : goal.returns-clause-kept
+returns-clause-kept c = λ keep.
     let e : Event = c.args.newest.now in
     let h : List Event = events_of (notes_of (reverse c.args.log.now)) in
     let before : reverse c.deref.result.now ≡ h
@@ -13,17 +18,24 @@ returns-clause-held c = λ hold.
     let now : reverse c.deref-3.result.now ≡ e ∷ h
     = ap (λ (xs : List Event). reverse xs) c.deref-3.ensures.value ∙ c.in_ok-add_event.ensures
     ∙ ap (λ (xs : List Event). e ∷ xs) c.in_ok-events.ensures in
+    let lost : (p : ℕ) (tag : Tag) → is_lost c.in_ok-losses.losses.items p tag
+        ≡ ends_some c.args.header.now c.args.claims.now p tag e h
+    = λ p tag. c.in_ok-losses.ensures p tag
+    ∙ ap (λ (xs : List Event). ends_some c.args.header.now c.args.claims.now p tag e xs) before in
     IfOk-weaker c.next.result _ _
-    (λ next k p root tag below.
-    held_then c.args.header.now (c.known.ensures c.args.header.now) c.args.claims.now p root tag e h
-    (reverse c.deref-3.result.now)
-    c.in_ok-losses.losses.items c.deref-4.result.now c.args.tags.now.held.items (has next.held.items p root tag) now
-    c.deref-4.ensures.value
-    (hold p root tag below)
-    (c.in_ok-losses.ensures p tag ∙ ap (λ (xs : List Event). ends_some c.args.header.now c.args.claims.now p tag e xs)
-    before)
-    (k p root tag below))
-    c.next.ensures.held
+    (λ next k. record {
+      held_is = λ p root tag below.
+          held_then c.args.header.now (c.known.ensures c.args.header.now) c.args.claims.now p root tag e h
+          (reverse c.deref-3.result.now) c.in_ok-losses.losses.items c.deref-4.result.now c.args.tags.now.held.items
+          (has next.held.items p root tag) now c.deref-4.ensures.value (keep.held_is p root tag below) (lost p tag)
+          (k.0 p root tag below);
+      left_is = λ p page tag below.
+          left_then c.args.header.now (c.known.ensures c.args.header.now) c.args.claims.now p page tag e h
+          (reverse c.deref-3.result.now) c.in_ok-losses.losses.items c.deref-4.result.now c.args.tags.now.held.items
+          c.args.tags.now.left.items (has next.left.items p page tag) now c.deref-4.ensures.value
+          (keep.held_is p page tag below) (keep.left_is p page tag below) (lost p tag) (k.1 p page tag);
+    })
+    (both c.next.result c.next.ensures.held c.next.ensures.left)
 
 pub returns-clause-spans : goal.returns-clause-spans
 returns-clause-spans c =

@@ -22,6 +22,7 @@ returns c heading trust = record {
   root = c.law_root.ensures;
   root_pages = c.law_root_pages.ensures heading;
   seen = c.law_seen.ensures heading;
+  tag_kept = c.law_tag_kept.ensures heading trust;
   tag_held = c.law_tag_held.ensures heading trust;
   tag_rules = c.law_tag_rules.ensures heading trust;
   tree = c.law_tree.ensures heading trust;

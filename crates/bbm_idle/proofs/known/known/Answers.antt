@@ -26,6 +26,7 @@ returns c heading ok = record {
   phase_parts = c.law_phase_parts.ensures heading Patterns;
   same_tags = c.law_same_tags.ensures heading;
   seen = c.law_seen.ensures heading;
+  tag_kept = c.law_tag_kept.ensures heading Patterns;
   takes_alike = c.law_takes_alike.ensures heading;
   tree = c.law_tree.ensures heading Patterns;
   trees_alike = c.law_trees_alike.ensures heading Patterns Patterns;

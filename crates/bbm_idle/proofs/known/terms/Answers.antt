@@ -12,5 +12,5 @@ returns c heading = record {
   phase_parts = c.law_phase_parts.ensures heading Patterns;
   roots = c.law_root.ensures;
   seen = c.law_seen.ensures heading;
-  tag_held = c.law_tag_held.ensures heading Patterns;
+  tag_kept = c.law_tag_kept.ensures heading Patterns;
 }

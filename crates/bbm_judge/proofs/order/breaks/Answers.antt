@@ -16,7 +16,7 @@ returns-in-NullWritten g c =
 
 pub returns-in-NoRoot : goal.returns-in-NoRoot
 returns-in-NoRoot g c =
-    rw c.in-NoRoot.is (c.no_root.ensures c.args.history.now.trust (notes c.args.history.now) c.args.history.now.heading (sym c.events-events.ensures))
+    rw c.in-NoRoot.is (rw c.header-header.ensures at (c.no_root.ensures c.args.history.now.trust (notes c.args.history.now) (sym c.events-events.ensures)))
 
 pub returns-in-LockBusy : goal.returns-in-LockBusy
 returns-in-LockBusy g c =

@@ -15,7 +15,7 @@ returns-clause-taken c = (
       ∙ c.requires.0 a p n)
       ∙ tell_next c.args.header.now a p n c.args.self.now.claims.now (note_of (length c.args.log.now) c.args.newest.now)
       (notes_of (reverse c.args.log.now))),
-  c.in_ok-tags.ensures.held c.requires.1,
+  c.in_ok-tags.ensures.kept c.requires.1,
   c.in_ok-tags.ensures.spans,
   omega (arith, length_events (reverse c.args.log.now), length-reverse c.args.log.now),
 )

@@ -9,11 +9,17 @@ returns c = λ k.
     let h = reverse c.args.before.now in
     let looks = c.in_ok-look.ensures.looks h k.looks in
     watch-next c.args.header.now c.args.asked.now.pe c.args.asked.now.tag c.args.asked.now.root c.args.event.now h
-    c.args.self.now _ c.in_ok-whole.whole c.loses-lost.result
+    c.args.self.now _ c.in_ok-whole.whole c.loses-lost.result c.gives_up-up.result
     k (record { moment = looks.moment; reads = looks.reads; reads_some = looks.reads_some })
-    c.in_ok-whole.ensures c.loses-lost.ensures
+    c.in_ok-whole.ensures c.loses-lost.ensures c.gives_up-up.ensures
     (c.holds_after-self.ensures
-    ∙ ap (λ (b : Bool). c.look.new.self.reads || (b && not c.loses-lost.result)) c.in_ok-look.ensures.holds)
+    ∙ ap (λ (b : Bool). c.look.new.self.reads || (b && not (c.gives_up-up.result || c.loses-lost.result)))
+    c.in_ok-look.ensures.holds)
+    (c.left_after-self.ensures
+    ∙ ap (λ (b : Bool). (b || (c.gives_up-up.result && c.look.new.self.holds)) && not c.loses-lost.result)
+    c.in_ok-look.ensures.left
+    ∙ ap (λ (b : Bool). (c.args.self.now.left || (c.gives_up-up.result && b)) && not c.loses-lost.result)
+    c.in_ok-look.ensures.holds)
     (λ q. c.awaiting_after-self.ensures q
     ∙ ap (λ (m : PeMask). awaits_after false c.in_ok-whole.whole c.look.new.self.reads_some c.args.event.now q
     (pe_in m q)) c.in_ok-look.ensures.local)

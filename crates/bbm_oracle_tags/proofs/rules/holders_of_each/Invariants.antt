@@ -1,9 +1,0 @@
-use Rattle.bbm_rules.proofs.Common.{◌≡◌, take, reverse}
-use Rattle.std.specs.List.{flat_map}
-use Rattle.bbm_oracle_tags.specs.Conflicts.{holder_pages}
-use Rattle.bbm_oracle_tags.proofs.rules.holders_of_each.Given as goal
-
-abbrev pub invariant-loop-reading : goal.invariant-loop-reading
-invariant-loop-reading g l = l.pages.items ≡ flat_map (λ reading.
-    holder_pages l.header (g.E.TagEvidence.trust l.evidence) (reverse l.after) reading l.roots)
-    (take l.reading-index l.readings)
