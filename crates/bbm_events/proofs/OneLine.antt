@@ -19,11 +19,13 @@ use Rattle.bbm_events.specs.declared.keyword.Keyword.TheVariants as first
 use Rattle.bbm_events.specs.declared.event.Event.TheVariants as event
 use Rattle.bbm_events.specs.declared.event.Item.TheVariants as item
 use Rattle.bbm_events.specs.Spelling.{decimal_value, hex_value}
-use Rattle.bbm_events.specs.Heading.{has_words, no_words}
-use Rattle.bbm_events.specs.Lines.{header_of, item_of, header_line, item_line, said, word_field}
+use Rattle.bbm_events.specs.Heading.{has_words}
+use Rattle.bbm_events.specs.Lines.{header_of, item_of, header_line, item_line, header_words, said, word_field, word_fields}
 use Rattle.bbm_events.proofs.Readings.{bind_ok, field_ok, count_kept}
 use Rattle.bbm_events.proofs.Joining.{joined_fields}
 use Rattle.bbm_events.proofs.OneSpelling.{decimal_once, hex_once, word_once}
+use Rattle.bbm_events.proofs.Common.{◌++◌}
+use Rattle.std.proofs.Common.{append-nil}
 
 pub passing_from : {A : Type 0} (test : A → Bool) (o : Option A) {n : A} → passing test o ≡ Some n → o ≡ Some n
 passing_from test None e = cc
@@ -275,32 +277,42 @@ checked_once h [] {x = x} e = (refl, by (heading_ok h) e)
 checked_once h (text ∷ rest) e = cc
 
 -- a word that may stand is the field where it was read
-said_once : (word : List ℕ) (rest : Fields) (x : Bool × Fields) → word_field word rest ≡ x → x.1 ≡ [] → rest ≡ said x.0 word
-said_once word [] x e end = ap (λ (y : Bool × Fields). said y.0 word) e
-said_once word (text ∷ rest) x e end = by (bytes_eq word text) refl e
+may_word_once : (word : List ℕ) (rest : Fields) → rest ≡ said (word_field word rest).0 word ++ (word_field word rest).1
+may_word_once word [] = refl
+may_word_once word (text ∷ rest) = by (bytes_eq word text) refl
   where
-    by : (b : Bool) → bytes_eq word text ≡ b → cond b (true, rest) (false, text ∷ rest) ≡ x → text ∷ rest ≡ said x.0 word
-    by true is f =
-        let last : rest ≡ [] = ap (λ (y : Bool × Fields). y.1) f ∙ end in
-        ap (λ (t : List ℕ). t ∷ rest) (sym ((bytes_eq-Decides word text).0 is))
-        ∙ (ap (λ (left : Fields). word ∷ left) last ∙ ap (λ (y : Bool × Fields). said y.0 word) f)
-    by false is f = let none : text ∷ rest ≡ [] = ap (λ (y : Bool × Fields). y.1) f ∙ end in cc
+    by : (b : Bool) → bytes_eq word text ≡ b
+        → text ∷ rest ≡ said (cond {A = Bool × Fields} b (true, rest) (false, text ∷ rest)).0 word ++ (cond {A = Bool × Fields} b (true, rest) (false, text ∷ rest)).1
+    by true e = ap (λ (t : List ℕ). t ∷ rest) (sym ((bytes_eq-Decides word text).0 e))
+    by false e = refl
 
-cnp_once : (version : ℕ) (rest : Fields) (x : Bool × Fields) → cnp_field version rest ≡ Ok x → x.1 ≡ [] → rest ≡ cnp_fields version x.0
-cnp_once version rest x e end = by (has_words version) (may_share version) e
+-- the words of a header that has no field left
+words_once : (version : ℕ) (rest : Fields) → (header_words version rest).1 ≡ [] → rest ≡ word_fields (header_words version rest).0
+words_once version rest end = by (has_words version) end
+  where
+    by : (b : Bool) → (cond {A = Bool × Fields} b (word_field (codes "unflushed") rest) (false, rest)).1 ≡ []
+        → rest ≡ said (cond {A = Bool × Fields} b (word_field (codes "unflushed") rest) (false, rest)).0 (codes "unflushed")
+    by true none =
+        may_word_once (codes "unflushed") rest
+        ∙ (ap (λ (left : Fields). said (word_field (codes "unflushed") rest).0 (codes "unflushed") ++ left) none ∙ append-nil _)
+    by false none = none
+
+cnp_once : (version : ℕ) (rest : Fields) (x : Bool × Fields) → cnp_field version rest ≡ Ok x → rest ≡ cnp_fields version x.0 ++ x.1
+cnp_once version rest x e = by (has_words version) (may_share version) e
   where
     by : (words shares : Bool) → cond words (Ok (word_field (codes "cnp") rest))
         (cond shares (header_field (with_word cnp_word cnps) rest) (Ok (false, rest))) ≡ Ok x
-        → rest ≡ cond words (said x.0 (codes "cnp")) (cond shares (cnp_word x.0 ∷ []) [])
-    by true shares f = let same : word_field (codes "cnp") rest ≡ x = cc in said_once (codes "cnp") rest x same end
+        → rest ≡ cond words (said x.0 (codes "cnp")) (cond shares (cnp_word x.0 ∷ []) []) ++ x.1
+    by true shares f =
+        let same : word_field (codes "cnp") rest ≡ x = cc in
+        may_word_once (codes "cnp") rest ∙ ap (λ (y : Bool × Fields). said y.0 (codes "cnp") ++ y.1) same
     by false true f =
         field_once BadHeader BadHeader (with_word cnp_word cnps) cnp_word (λ text v g. word_once cnp_word cnps text g) rest f
-        ∙ ap (λ (left : Fields). cnp_word x.0 ∷ left) end
-    by false false f = let left : rest ≡ x.1 = cc in left ∙ end
+    by false false f = let left : rest ≡ x.1 = cc in left
 
 -- the fields after the version
 abbrev heading_fields : Heading → Fields
-heading_fields h = header_fields h.pes h.world (cnp_fields h.version h.cnp)
+heading_fields h = header_fields h.pes h.world (cnp_fields h.version h.cnp ++ word_fields h.words)
 
 hyp_once : (version : ℕ) (rest : Fields) {x : Heading} → hyp_fields version rest ≡ Ok x → (codes "hyp" ∷ rest ≡ heading_fields x) × (version ≡ x.version)
 hyp_once version rest e =
@@ -309,12 +321,13 @@ hyp_once version rest e =
     let s2_start = bind_ok (header_field decimal_value el2_start.0.1) _ el2_start.2 in
     let s2_pages = bind_ok (header_field decimal_value s2_start.0.1) _ s2_start.2 in
     let cnp = bind_ok (cnp_field version s2_pages.0.1) _ s2_pages.2 in
-    let end = checked_once (record { version = version; pes = pes.0.0; cnp = cnp.0.0; words = no_words; world = Hyp (record { el2_start = el2_start.0.0; s2_start = s2_start.0.0; s2_pages = s2_pages.0.0 }) }) cnp.0.1 cnp.2 in (
+    let end = checked_once (record { version = version; pes = pes.0.0; cnp = cnp.0.0; words = (header_words version cnp.0.1).0; world = Hyp (record { el2_start = el2_start.0.0; s2_start = s2_start.0.0; s2_pages = s2_pages.0.0 }) }) (header_words version cnp.0.1).1 cnp.2 in (
       ap (λ (left : Fields). codes "hyp" ∷ left) (number_once rest pes.1
           ∙ ap (λ (left : Fields). decimal pes.0.0 ∷ left) (number_once pes.0.1 el2_start.1
           ∙ ap (λ (left : Fields). decimal el2_start.0.0 ∷ left) (number_once el2_start.0.1 s2_start.1
           ∙ ap (λ (left : Fields). decimal s2_start.0.0 ∷ left) (number_once s2_start.0.1 s2_pages.1
-          ∙ ap (λ (left : Fields). decimal s2_pages.0.0 ∷ left) (cnp_once version s2_pages.0.1 cnp.0 cnp.1 end.0)))))
+          ∙ ap (λ (left : Fields). decimal s2_pages.0.0 ∷ left) (cnp_once version s2_pages.0.1 cnp.0 cnp.1
+          ∙ ap (λ (left : Fields). cnp_fields version cnp.0.0 ++ left) (words_once version cnp.0.1 end.0))))))
           ∙ ap heading_fields end.1,
       ap (λ (h : Heading). h.version) end.1,
     )
@@ -326,12 +339,13 @@ kernel_once version rest e =
     let start1 = bind_ok (header_field decimal_value start0.0.1) _ start0.2 in
     let asid_from = bind_ok (header_field (with_word asid_from_word asid_froms) start1.0.1) _ start1.2 in
     let cnp = bind_ok (cnp_field version asid_from.0.1) _ asid_from.2 in
-    let end = checked_once (record { version = version; pes = pes.0.0; cnp = cnp.0.0; words = no_words; world = Kernel (record { start0 = start0.0.0; start1 = start1.0.0; asid_from = asid_from.0.0 }) }) cnp.0.1 cnp.2 in (
+    let end = checked_once (record { version = version; pes = pes.0.0; cnp = cnp.0.0; words = (header_words version cnp.0.1).0; world = Kernel (record { start0 = start0.0.0; start1 = start1.0.0; asid_from = asid_from.0.0 }) }) (header_words version cnp.0.1).1 cnp.2 in (
       ap (λ (left : Fields). codes "kernel" ∷ left) (number_once rest pes.1
           ∙ ap (λ (left : Fields). decimal pes.0.0 ∷ left) (number_once pes.0.1 start0.1
           ∙ ap (λ (left : Fields). decimal start0.0.0 ∷ left) (number_once start0.0.1 start1.1
           ∙ ap (λ (left : Fields). decimal start1.0.0 ∷ left) (field_once BadHeader BadHeader (with_word asid_from_word asid_froms) asid_from_word (λ text v f. word_once asid_from_word asid_froms text f) start1.0.1 asid_from.1
-          ∙ ap (λ (left : Fields). asid_from_word asid_from.0.0 ∷ left) (cnp_once version asid_from.0.1 cnp.0 cnp.1 end.0)))))
+          ∙ ap (λ (left : Fields). asid_from_word asid_from.0.0 ∷ left) (cnp_once version asid_from.0.1 cnp.0 cnp.1
+          ∙ ap (λ (left : Fields). cnp_fields version cnp.0.0 ++ left) (words_once version cnp.0.1 end.0))))))
           ∙ ap heading_fields end.1,
       ap (λ (h : Heading). h.version) end.1,
     )

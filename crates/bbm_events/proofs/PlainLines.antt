@@ -16,14 +16,16 @@ use Rattle.std.proofs.lemmas.Fmt.{length-decimal-le}
 use Rattle.bbm_events.specs.declared.event.Event.TheVariants as event
 use Rattle.bbm_events.specs.declared.event.Item.TheVariants as item
 use Rattle.bbm_events.specs.Spelling.{is_plain}
-use Rattle.bbm_events.specs.Heading.{has_words}
-use Rattle.bbm_events.specs.Lines.{header_line, item_line, said}
+use Rattle.bbm_events.specs.Lines.{header_line, item_line}
 use Rattle.bbm_events.proofs.Joining.{visible, all_visible}
 use Rattle.bbm_events.proofs.Labels.{label_length}
 use Rattle.bbm_events.proofs.WordsRead.{cnp_word_read, kind_word_read, reg_word_read, asid_from_word_read}
 use Rattle.bbm_events.proofs.WordsRead.{dsb_word_read, op_word_read}
 use Rattle.bbm_events.proofs.Written.{ranges, pe_below, aligned_below, lock_below, hyp_below, kernel_below, dec}
 use Rattle.bbm_events.proofs.Written.{event_all_visible, label_all_visible, cnp_all_visible, header_all_visible}
+use Rattle.bbm_events.specs.declared.header_words.HeaderWords.{HeaderWords}
+use Rattle.bbm_events.specs.Heading.{has_words}
+use Rattle.bbm_events.specs.Lines.{said, word_fields}
 
 -- ---- no newline
 
@@ -223,15 +225,38 @@ item_plain h (item.End count) fits = joined_plain (codes "end" ∷ decimal count
 
 -- ---- the header
 
-cnp_short : (version : ℕ) (cnp : Bool) → Short (cnp_fields version cnp) × (length (cnp_fields version cnp) ≤ 1)
-cnp_short version cnp = by (has_words version) (may_share version) cnp
+-- short pieces before others
+joined_before : (pieces tail : Fields) → Short pieces → length (joined (pieces ++ tail)) ≤ 21 * length pieces + length (joined tail)
+joined_before [] tail short = omega arith
+joined_before (piece ∷ []) [] short = let one = short.0 in omega (arith, one)
+joined_before (piece ∷ []) (next ∷ tail) short =
+    let one = short.0 in omega (arith, one, length-append piece (32 ∷ joined (next ∷ tail)))
+joined_before (piece ∷ next ∷ pieces) tail short =
+    let one = short.0 in
+    let more = joined_before (next ∷ pieces) tail short.1 in
+    omega (arith, one, more, length-append piece (32 ∷ joined (next ∷ pieces ++ tail)))
+
+said_length : (b : Bool) (word : List ℕ) (rest : Fields) → length (joined (said b word ++ rest)) ≤ length word + 1 + length (joined rest)
+said_length true word [] = omega arith
+said_length true word (next ∷ rest) = omega (arith, length-append word (32 ∷ joined (next ∷ rest)))
+said_length false word rest = omega arith
+
+words_length : (version : ℕ) (cnp : Bool) (words : HeaderWords) → length (joined (cnp_fields version cnp ++ word_fields words)) ≤ 52
+words_length version cnp words = by (has_words version) (may_share version)
   where
-    by : (words shares cnp : Bool) → Short (cond words (said cnp (codes "cnp")) (cond shares (cnp_word cnp ∷ []) []))
-        × (length (cond words (said cnp (codes "cnp")) (cond shares (cnp_word cnp ∷ []) [])) ≤ 1)
-    by true shares true = ((leb-true 3 20 refl, tt), omega arith)
-    by true shares false = (tt, omega arith)
-    by false true cnp = ((cnp_length cnp, tt), omega arith)
-    by false false cnp = (tt, omega arith)
+    one : (b : Bool) → length (joined (said b (codes "unflushed"))) ≤ 9
+    one true = omega arith
+    one false = omega arith
+
+    by : (h shares : Bool) → length (joined (cond h (said cnp (codes "cnp")) (cond shares (cnp_word cnp ∷ []) []) ++ word_fields words)) ≤ 52
+    by true shares =
+        let more = said_length cnp (codes "cnp") (word_fields words) in
+        let last = one words.unflushed in omega (arith, last, more)
+    by false true =
+        let more = said_length true (cnp_word cnp) (word_fields words) in
+        let last = one words.unflushed in
+        let few = cnp_length cnp in omega (arith, last, more, few)
+    by false false = let last = one words.unflushed in omega (arith, last)
 
 world_short : (h : Heading) (pes : ℕ) (world : World) (after : Fields) → pes < 2 ^ 64 → world_ok world ≡ true → Short after
     → Short (header_fields pes world after) × (length (header_fields pes world after) ≤ 5 + length after)
@@ -252,17 +277,22 @@ unfolding header_line
 header_short h ok =
     let here = ranges h ok in
     let pes = here.pes in
-    let cnp = cnp_short h.version h.cnp in
-    let one = cnp.1 in
-    let world = world_short h h.pes h.world (cnp_fields h.version h.cnp) (omega (arith, pes)) here.world cnp.0 in
+    let tail = words_length h.version h.cnp h.words in
+    let world = world_short h h.pes h.world [] (omega (arith, pes)) here.world tt in
     let count = world.1 in
-    let most = joined_length (codes "bbmlog" ∷ decimal h.version ∷ header_fields h.pes h.world (cnp_fields h.version h.cnp))
+    let most = joined_before (codes "bbmlog" ∷ decimal h.version ∷ header_fields h.pes h.world []) (cnp_fields h.version h.cnp ++ word_fields h.words)
     (leb-true 6 20 refl, (decimal_length h.version (version_below h.version here.version), world.0)) in
-    omega (arith, most, count, one)
+    subst (λ (fields : Fields). length (joined (codes "bbmlog" ∷ decimal h.version ∷ fields)) ≤ 200)
+    (split h.pes h.world (cnp_fields h.version h.cnp ++ word_fields h.words))
+    (omega (arith, most, count, tail))
+  where
+    split : (pes : ℕ) (world : World) (after : Fields) → header_fields pes world [] ++ after ≡ header_fields pes world after
+    split pes (Hyp world) after = refl
+    split pes (Kernel world) after = refl
 
 pub header_plain : (h : Heading) → is_plain (header_line h) ≡ true
 unfolding header_line
 header_plain h =
-    let after = cnp_fields h.version h.cnp in
+    let after = cnp_fields h.version h.cnp ++ word_fields h.words in
     joined_plain (codes "bbmlog" ∷ decimal h.version ∷ header_fields h.pes h.world after)
-    (dec h.version (header_fields h.pes h.world after) (header_all_visible h.pes h.world after (cnp_all_visible h.version h.cnp)))
+    (dec h.version (header_fields h.pes h.world after) (header_all_visible h.pes h.world after (cnp_all_visible h.version h.cnp h.words)))

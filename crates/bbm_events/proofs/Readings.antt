@@ -19,8 +19,7 @@ use Rattle.bbm_events.specs.declared.event.Item.TheVariants as item
 use Rattle.std.specs.Prelude.{drop, ◌==◌}
 use Rattle.bbm_events.specs.declared.keyword.Keyword.TheVariants as first
 use Rattle.bbm_events.specs.Spelling.{decimal_value, hex_value}
-use Rattle.bbm_events.specs.Heading.{no_words}
-use Rattle.bbm_events.specs.Lines.{header_of, item_of}
+use Rattle.bbm_events.specs.Lines.{header_of, item_of, header_words}
 
 -- where two steps give a value, the first gave one that leads the second to it
 pub bind_ok : {A B : Type 0} (r : Result A Malformed) (f : A → Result B Malformed) {y : B} → (r >>= f) ≡ Ok y → (x : A) × (r ≡ Ok x) × (f x ≡ Ok y)
@@ -217,7 +216,7 @@ hyp_ok version rest e =
     let s2_start = bind_ok (header_field decimal_value el2_start.0.1) _ el2_start.2 in
     let s2_pages = bind_ok (header_field decimal_value s2_start.0.1) _ s2_start.2 in
     let cnp = bind_ok (cnp_field version s2_pages.0.1) _ s2_pages.2 in
-    checked_ok (record { version = version; pes = pes.0.0; cnp = cnp.0.0; words = no_words; world = Hyp (record { el2_start = el2_start.0.0; s2_start = s2_start.0.0; s2_pages = s2_pages.0.0 }) }) cnp.0.1 cnp.2
+    checked_ok (record { version = version; pes = pes.0.0; cnp = cnp.0.0; words = (header_words version cnp.0.1).0; world = Hyp (record { el2_start = el2_start.0.0; s2_start = s2_start.0.0; s2_pages = s2_pages.0.0 }) }) (header_words version cnp.0.1).1 cnp.2
 
 kernel_ok : (version : ℕ) (rest : Fields) {x : Heading} → kernel_fields version rest ≡ Ok x → heading_ok x ≡ true
 kernel_ok version rest e =
@@ -226,7 +225,7 @@ kernel_ok version rest e =
     let start1 = bind_ok (header_field decimal_value start0.0.1) _ start0.2 in
     let asid_from = bind_ok (header_field (with_word asid_from_word asid_froms) start1.0.1) _ start1.2 in
     let cnp = bind_ok (cnp_field version asid_from.0.1) _ asid_from.2 in
-    checked_ok (record { version = version; pes = pes.0.0; cnp = cnp.0.0; words = no_words; world = Kernel (record { start0 = start0.0.0; start1 = start1.0.0; asid_from = asid_from.0.0 }) }) cnp.0.1 cnp.2
+    checked_ok (record { version = version; pes = pes.0.0; cnp = cnp.0.0; words = (header_words version cnp.0.1).0; world = Kernel (record { start0 = start0.0.0; start1 = start1.0.0; asid_from = asid_from.0.0 }) }) (header_words version cnp.0.1).1 cnp.2
 
 world_ok_of : (version : ℕ) (word : List ℕ) (rest : Fields) {x : Heading} → world_fields version word rest ≡ Ok x → heading_ok x ≡ true
 world_ok_of version word rest {x = x} e = by_word (bytes_eq word (codes "hyp")) (bytes_eq word (codes "kernel")) e

@@ -23,9 +23,9 @@ use Rattle.bbm_regimes.specs.declared.regime.KernelWorld.{KernelWorld}
 use Rattle.bbm_events.specs.declared.event.Event.TheVariants as event
 use Rattle.bbm_events.specs.declared.event.Item.TheVariants as item
 use Rattle.bbm_events.specs.declared.header_words.HeaderWords.{HeaderWords}
-use Rattle.bbm_events.specs.Heading.{are_pes, has_words, no_words, words_ok}
+use Rattle.bbm_events.specs.Heading.{are_pes, has_words, words_ok}
 use Rattle.bbm_events.specs.Spelling.{decimal_value, hex_value}
-use Rattle.bbm_events.specs.Lines.{header_of, item_of, header_line, item_line, said, word_field}
+use Rattle.bbm_events.specs.Lines.{header_of, item_of, header_line, item_line, header_words, said, word_field, word_fields}
 use Rattle.bbm_events.proofs.Joining.{visible, all_visible, fields_joined, digits_visible}
 use Rattle.bbm_events.proofs.OneSpelling.{decimal_read, hex_read}
 use Rattle.bbm_events.proofs.Labels.{label_visible}
@@ -48,7 +48,7 @@ pub record Ranges (h : Heading) : Type 0 where
   pub version : is_version h.version ≡ true
   pub pes : h.pes ≤ 128
   pub cnp : (may_share h.version || not h.cnp) ≡ true
-  pub words : words_ok h.words ≡ true
+  pub words : words_ok h.version h.words ≡ true
   pub world : world_ok h.world ≡ true
 
 pes_most : (few : Bool) (pes : ℕ) → (nat_le 1 pes && nat_le pes (cond few 64 128)) ≡ true → pes ≤ 128
@@ -57,8 +57,8 @@ pes_most false pes e = leb-true pes 128 (and_parts (nat_le 1 pes) (nat_le pes 12
 
 pub ranges : (h : Heading) → heading_ok h ≡ true → Ranges h
 ranges h ok =
-    let front = and_parts (is_version h.version && are_pes h.version h.pes && (may_share h.version || not h.cnp) && words_ok h.words) (world_ok h.world) ok in
-    let said = and_parts (is_version h.version && are_pes h.version h.pes && (may_share h.version || not h.cnp)) (words_ok h.words) front.0 in
+    let front = and_parts (is_version h.version && are_pes h.version h.pes && (may_share h.version || not h.cnp) && words_ok h.version h.words) (world_ok h.world) ok in
+    let said = and_parts (is_version h.version && are_pes h.version h.pes && (may_share h.version || not h.cnp)) (words_ok h.version h.words) front.0 in
     let some = and_parts (is_version h.version && are_pes h.version h.pes) (may_share h.version || not h.cnp) said.0 in
     let both = and_parts (is_version h.version) (are_pes h.version h.pes) some.0 in
     record { version = both.0; pes = pes_most (nat_lt h.version 3) h.pes both.1; cnp = some.1; words = said.1; world = front.1 }
@@ -346,17 +346,42 @@ number_read n rest below = field_read BadHeader BadHeader decimal_value (decimal
 in_range : (h : Heading) → heading_ok h ≡ true → checked h [] ≡ Ok h
 in_range h ok = ap (λ t. cond t (Ok h) (Err BadHeader)) ok
 
--- the field of shared TLBs that is written is read; version 1 has none
-cnp_read : (version : ℕ) (cnp : Bool) → (may_share version || not cnp) ≡ true → cnp_field version (cnp_fields version cnp) ≡ Ok (cnp, [])
-cnp_read version cnp fits = by (has_words version) (may_share version) cnp fits
+-- ---- the words
+
+-- a word that stands is read, and one that doesn't where another field or none stands in its place
+cnp_word_next : (cnp : Bool) (words : HeaderWords) → word_field (codes "cnp") (said cnp (codes "cnp") ++ word_fields words) ≡ (cnp, word_fields words)
+cnp_word_next true words = refl
+cnp_word_next false words = by words.unflushed
   where
-    by : (words shares cnp : Bool) → (shares || not cnp) ≡ true
-        → cond words (Ok (word_field (codes "cnp") (cond words (said cnp (codes "cnp")) (cond shares (cnp_word cnp ∷ []) []))))
-        (cond shares (header_field (with_word cnp_word cnps) (cond words (said cnp (codes "cnp")) (cond shares (cnp_word cnp ∷ []) [])))
-        (Ok (false, cond words (said cnp (codes "cnp")) (cond shares (cnp_word cnp ∷ []) [])))) ≡ Ok (cnp, [])
-    by true shares true f = refl
-    by true shares false f = refl
-    by false true cnp f = field_read BadHeader BadHeader (with_word cnp_word cnps) (cnp_word cnp) [] (cnp_word_read cnp)
+    by : (u : Bool) → word_field (codes "cnp") (said u (codes "unflushed")) ≡ (false, said u (codes "unflushed"))
+    by true = refl
+    by false = refl
+
+-- before version 5 there is none
+words_read : (version : ℕ) (words : HeaderWords) → words_ok version words ≡ true → header_words version (word_fields words) ≡ (words, [])
+words_read version words fits = by (has_words version) words.unflushed fits
+  where
+    read : Bool → Bool → Bool × Fields
+    read h u = cond h (word_field (codes "unflushed") (said u (codes "unflushed"))) (false, said u (codes "unflushed"))
+
+    by : (h u : Bool) → (h || not u) ≡ true
+        → ◌≡◌ {A = HeaderWords × Fields} (record { unflushed = (read h u).0 }, (read h u).1) (record { unflushed = u }, [])
+    by true true f = refl
+    by true false f = refl
+    by false true f = cc
+    by false false f = refl
+
+-- the field of shared TLBs, before words that version 5 alone has
+cnp_read : (version : ℕ) (cnp : Bool) (words : HeaderWords) → (may_share version || not cnp) ≡ true → words_ok version words ≡ true
+    → cnp_field version (cnp_fields version cnp ++ word_fields words) ≡ Ok (cnp, word_fields words)
+cnp_read version cnp words fits few = by (has_words version) (may_share version) cnp fits
+  where
+    by : (h shares cnp : Bool) → (shares || not cnp) ≡ true
+        → cond h (Ok (word_field (codes "cnp") (cond h (said cnp (codes "cnp")) (cond shares (cnp_word cnp ∷ []) []) ++ word_fields words)))
+        (cond shares (header_field (with_word cnp_word cnps) (cond h (said cnp (codes "cnp")) (cond shares (cnp_word cnp ∷ []) []) ++ word_fields words))
+        (Ok (false, cond h (said cnp (codes "cnp")) (cond shares (cnp_word cnp ∷ []) []) ++ word_fields words))) ≡ Ok (cnp, word_fields words)
+    by true shares cnp f = ap Ok (cnp_word_next cnp words)
+    by false true cnp f = field_read BadHeader BadHeader (with_word cnp_word cnps) (cnp_word cnp) (word_fields words) (cnp_word_read cnp)
     by false false true f = cc
     by false false false f = refl
 
@@ -373,41 +398,57 @@ read_header_fields all =
     version_field magic.1 >>= (λ version.
     header_field Some version.1 >>= (λ world. world_fields version.0 world.0 world.1)))
 
-world_read : (version pes : ℕ) (cnp : Bool) (world : World) → heading_ok (record { version = version; pes = pes; cnp = cnp; words = no_words; world = world }) ≡ true
-    → read_header_fields (codes "bbmlog" ∷ decimal version ∷ header_fields pes world (cnp_fields version cnp)) ≡ Ok (record { version = version; pes = pes; cnp = cnp; words = no_words; world = world })
-world_read version pes cnp (Hyp world) ok =
-    let here = ranges (record { version = version; pes = pes; cnp = cnp; words = no_words; world = Hyp world }) ok in
+world_read : (version pes : ℕ) (cnp : Bool) (words : HeaderWords) (world : World)
+    → heading_ok (record { version = version; pes = pes; cnp = cnp; words = words; world = world }) ≡ true
+    → read_header_fields (codes "bbmlog" ∷ decimal version ∷ header_fields pes world (cnp_fields version cnp ++ word_fields words))
+    ≡ Ok (record { version = version; pes = pes; cnp = cnp; words = words; world = world })
+world_read version pes cnp words (Hyp world) ok =
+    let here = ranges (record { version = version; pes = pes; cnp = cnp; words = words; world = Hyp world }) ok in
     let small = hyp_below world here.world in
-    let after = cnp_fields version cnp in
+    let after = cnp_fields version cnp ++ word_fields words in
     on (version_field (decimal version ∷ codes "hyp" ∷ decimal pes ∷ decimal world.el2_start ∷ decimal world.s2_start ∷ decimal world.s2_pages ∷ after)) _
     (version_read version (codes "hyp" ∷ decimal pes ∷ decimal world.el2_start ∷ decimal world.s2_start ∷ decimal world.s2_pages ∷ after) here.version)
     ∙ on (header_field decimal_value (decimal pes ∷ decimal world.el2_start ∷ decimal world.s2_start ∷ decimal world.s2_pages ∷ after)) _ (number_read pes (decimal world.el2_start ∷ decimal world.s2_start ∷ decimal world.s2_pages ∷ after) (omega (arith, here.pes)))
     ∙ on (header_field decimal_value (decimal world.el2_start ∷ decimal world.s2_start ∷ decimal world.s2_pages ∷ after)) _ (number_read world.el2_start (decimal world.s2_start ∷ decimal world.s2_pages ∷ after) small.0)
     ∙ on (header_field decimal_value (decimal world.s2_start ∷ decimal world.s2_pages ∷ after)) _ (number_read world.s2_start (decimal world.s2_pages ∷ after) small.1)
     ∙ on (header_field decimal_value (decimal world.s2_pages ∷ after)) _ (number_read world.s2_pages after small.2)
-    ∙ on (cnp_field version after) _ (cnp_read version cnp here.cnp)
-    ∙ in_range (record { version = version; pes = pes; cnp = cnp; words = no_words; world = Hyp world }) ok
-world_read version pes cnp (Kernel world) ok =
-    let here = ranges (record { version = version; pes = pes; cnp = cnp; words = no_words; world = Kernel world }) ok in
+    ∙ on (cnp_field version after) _ (cnp_read version cnp words here.cnp here.words)
+    ∙ ap (λ (x : HeaderWords × Fields). checked (record { version = version; pes = pes; cnp = cnp; words = x.0; world = Hyp world }) x.1)
+    (words_read version words here.words)
+    ∙ in_range (record { version = version; pes = pes; cnp = cnp; words = words; world = Hyp world }) ok
+world_read version pes cnp words (Kernel world) ok =
+    let here = ranges (record { version = version; pes = pes; cnp = cnp; words = words; world = Kernel world }) ok in
     let small = kernel_below world here.world in
-    let after = cnp_fields version cnp in
+    let after = cnp_fields version cnp ++ word_fields words in
     on (version_field (decimal version ∷ codes "kernel" ∷ decimal pes ∷ decimal world.start0 ∷ decimal world.start1 ∷ asid_from_word world.asid_from ∷ after)) _
     (version_read version (codes "kernel" ∷ decimal pes ∷ decimal world.start0 ∷ decimal world.start1 ∷ asid_from_word world.asid_from ∷ after) here.version)
     ∙ on (header_field decimal_value (decimal pes ∷ decimal world.start0 ∷ decimal world.start1 ∷ asid_from_word world.asid_from ∷ after)) _ (number_read pes (decimal world.start0 ∷ decimal world.start1 ∷ asid_from_word world.asid_from ∷ after) (omega (arith, here.pes)))
     ∙ on (header_field decimal_value (decimal world.start0 ∷ decimal world.start1 ∷ asid_from_word world.asid_from ∷ after)) _ (number_read world.start0 (decimal world.start1 ∷ asid_from_word world.asid_from ∷ after) small.0)
     ∙ on (header_field decimal_value (decimal world.start1 ∷ asid_from_word world.asid_from ∷ after)) _ (number_read world.start1 (asid_from_word world.asid_from ∷ after) small.1)
     ∙ on (header_field (with_word asid_from_word asid_froms) (asid_from_word world.asid_from ∷ after)) _ (field_read BadHeader BadHeader (with_word asid_from_word asid_froms) (asid_from_word world.asid_from) after (asid_from_word_read world.asid_from))
-    ∙ on (cnp_field version after) _ (cnp_read version cnp here.cnp)
-    ∙ in_range (record { version = version; pes = pes; cnp = cnp; words = no_words; world = Kernel world }) ok
+    ∙ on (cnp_field version after) _ (cnp_read version cnp words here.cnp here.words)
+    ∙ ap (λ (x : HeaderWords × Fields). checked (record { version = version; pes = pes; cnp = cnp; words = x.0; world = Kernel world }) x.1)
+    (words_read version words here.words)
+    ∙ in_range (record { version = version; pes = pes; cnp = cnp; words = words; world = Kernel world }) ok
 
-pub cnp_all_visible : (version : ℕ) (cnp : Bool) → all_visible (cnp_fields version cnp) ≡ true
-cnp_all_visible version cnp = by (has_words version) (may_share version) cnp
+said_visible : (b : Bool) (word : List ℕ) (rest : Fields) → visible word ≡ true → all_visible rest ≡ true → all_visible (said b word ++ rest) ≡ true
+said_visible true word rest shows clean = one_more word rest shows clean
+said_visible false word rest shows clean = clean
+
+last_visible : (b : Bool) (word : List ℕ) → visible word ≡ true → all_visible (said b word) ≡ true
+last_visible true word shows = one_more word [] shows refl
+last_visible false word shows = refl
+
+pub cnp_all_visible : (version : ℕ) (cnp : Bool) (words : HeaderWords) → all_visible (cnp_fields version cnp ++ word_fields words) ≡ true
+cnp_all_visible version cnp words = by (has_words version) (may_share version)
   where
-    by : (words shares cnp : Bool) → all_visible (cond words (said cnp (codes "cnp")) (cond shares (cnp_word cnp ∷ []) [])) ≡ true
-    by true shares true = refl
-    by true shares false = refl
-    by false true cnp = one_more (cnp_word cnp) [] (cnp_word_visible cnp) refl
-    by false false cnp = refl
+    clean : all_visible (word_fields words) ≡ true
+    clean = last_visible words.unflushed (codes "unflushed") refl
+
+    by : (h shares : Bool) → all_visible (cond h (said cnp (codes "cnp")) (cond shares (cnp_word cnp ∷ []) []) ++ word_fields words) ≡ true
+    by true shares = said_visible cnp (codes "cnp") (word_fields words) refl clean
+    by false true = one_more (cnp_word cnp) (word_fields words) (cnp_word_visible cnp) clean
+    by false false = clean
 
 pub header_all_visible : (pes : ℕ) (world : World) (after : Fields) → all_visible after ≡ true → all_visible (header_fields pes world after) ≡ true
 header_all_visible pes (Hyp world) after clean =
@@ -418,21 +459,10 @@ header_all_visible pes (Kernel world) after clean =
     (dec world.start0 (decimal world.start1 ∷ asid_from_word world.asid_from ∷ after) (dec world.start1 (asid_from_word world.asid_from ∷ after)
     (one_more (asid_from_word world.asid_from) after (asid_from_word_visible world.asid_from) clean)))
 
-none_said : (words : HeaderWords) → words_ok words ≡ true → words ≡ no_words
-none_said words ok = by words.unflushed words.inorder words.isolated ok
-  where
-    by : (u o i : Bool) → not (u || (o || i)) ≡ true → record { unflushed = u; inorder = o; isolated = i } ≡ no_words
-    by false false false e = refl
-    by true o i e = cc
-    by false true i e = cc
-    by false false true e = cc
-
 pub header_written_is_read : (h : Heading) → heading_ok h ≡ true → header_of (header_line h) ≡ Ok h
 unfolding header_of header_line
 header_written_is_read h ok =
-    let after = cnp_fields h.version h.cnp in
-    let same : record h { words = no_words } ≡ h =
-        ap (λ (words : HeaderWords). record h { words = words }) (sym (none_said h.words (ranges h ok).words)) in
+    let after = cnp_fields h.version h.cnp ++ word_fields h.words in
     ap read_header_fields (fields_joined (codes "bbmlog") (decimal h.version ∷ header_fields h.pes h.world after)
-    (dec h.version (header_fields h.pes h.world after) (header_all_visible h.pes h.world after (cnp_all_visible h.version h.cnp))))
-    ∙ (world_read h.version h.pes h.cnp h.world (ap heading_ok same ∙ ok) ∙ ap Ok same)
+    (dec h.version (header_fields h.pes h.world after) (header_all_visible h.pes h.world after (cnp_all_visible h.version h.cnp h.words))))
+    ∙ world_read h.version h.pes h.cnp h.words h.world ok

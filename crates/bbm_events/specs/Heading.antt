@@ -44,12 +44,12 @@ abbrev pub nulls_everywhere : ℕ → Bool
 nulls_everywhere version = nat_le 5 version
 
 abbrev pub no_words : HeaderWords
-no_words = record { unflushed = false; inorder = false; isolated = false }
+no_words = record { unflushed = false }
 
--- No log says one of these words yet.
-abbrev pub words_ok : HeaderWords → Bool
-words_ok words = not (words.unflushed || (words.inorder || words.isolated))
+-- Words stand from version 5 on.
+abbrev pub words_ok : ℕ → HeaderWords → Bool
+words_ok version words = has_words version || not words.unflushed
 
 abbrev pub heading_ok : Heading → Bool
-heading_ok h = is_version h.version && are_pes h.version h.pes && (may_share h.version || not h.cnp) && words_ok h.words
-    && world_ok h.world
+heading_ok h = is_version h.version && are_pes h.version h.pes && (may_share h.version || not h.cnp)
+    && words_ok h.version h.words && world_ok h.world

@@ -22,7 +22,8 @@ use Rattle.bbm_events.specs.declared.keyword.Keyword.TheVariants as first
 use Rattle.bbm_events.specs.declared.malformed.Malformed.{Malformed}
 use Rattle.bbm_events.specs.declared.malformed.Malformed.TheVariants.{NoMagic, BadHeader, UnknownWord, BadNumber, BadPe}
 use Rattle.bbm_events.specs.declared.malformed.Malformed.TheVariants.{BadAddress, MissingField, ExtraField, BadLabel}
-use Rattle.bbm_events.specs.Heading.{Heading, heading_ok, is_version, has_op, has_words, may_label, may_share, no_words}
+use Rattle.bbm_events.specs.Heading.{Heading, heading_ok, is_version, has_op, has_words, may_label, may_share}
+use Rattle.bbm_events.specs.declared.header_words.HeaderWords.{HeaderWords}
 use Rattle.bbm_events.specs.Label.{is_label}
 use Rattle.bbm_events.specs.Spelling.{fields, joined, hex, decimal_value, hex_value}
 use Rattle.bbm_events.specs.Words.{with_word, keyword_word, keywords, cnp_word, cnps, kind_word, kinds, reg_word, regs}
@@ -84,6 +85,12 @@ abbrev pub cnp_field : ℕ → Fields → FieldRead Bool
 cnp_field version rest = if has_words version then Ok (word_field (codes "cnp") rest)
     else (if may_share version then header_field (with_word cnp_word cnps) rest else Ok (false, rest))
 
+-- what else the words say, from version 5 on: `unflushed`, which stands or doesn't
+abbrev pub header_words : ℕ → Fields → HeaderWords × Fields
+header_words version rest =
+    let unflushed : Bool × Fields = if has_words version then word_field (codes "unflushed") rest else (false, rest) in
+    (record { unflushed = unflushed.0 }, unflushed.1)
+
 -- the heading, where no field is left and its numbers are in their ranges
 abbrev pub checked : Heading → Fields → Result Heading Malformed
 checked h [] = if heading_ok h then Ok h else Err BadHeader
@@ -98,7 +105,8 @@ hyp_fields version rest = do
   s2_pages ← header_field decimal_value s2_start.1
   cnp ← cnp_field version s2_pages.1
   let world : HypWorld = record { el2_start = el2_start.0; s2_start = s2_start.0; s2_pages = s2_pages.0 }
-  checked (record { version = version; pes = pes.0; cnp = cnp.0; words = no_words; world = Hyp world }) cnp.1
+  let words : HeaderWords × Fields = header_words version cnp.1
+  checked (record { version = version; pes = pes.0; cnp = cnp.0; words = words.0; world = Hyp world }) words.1
 
 -- `PES START0 START1 ASIDFROM`, and then the same
 abbrev pub kernel_fields : ℕ → Fields → Result Heading Malformed
@@ -109,7 +117,8 @@ kernel_fields version rest = do
   asid_from ← header_field (with_word asid_from_word asid_froms) start1.1
   cnp ← cnp_field version asid_from.1
   let world : KernelWorld = record { start0 = start0.0; start1 = start1.0; asid_from = asid_from.0 }
-  checked (record { version = version; pes = pes.0; cnp = cnp.0; words = no_words; world = Kernel world }) cnp.1
+  let words : HeaderWords × Fields = header_words version cnp.1
+  checked (record { version = version; pes = pes.0; cnp = cnp.0; words = words.0; world = Kernel world }) words.1
 
 -- the fields after the word of the world
 abbrev pub world_fields : ℕ → List ℕ → Fields → Result Heading Malformed
@@ -118,7 +127,7 @@ world_fields version word rest =
     else (if bytes_eq word (codes "kernel") then kernel_fields version rest else Err BadHeader)
 
 -- Line 1: `bbmlog VERSION hyp PES EL2START S2START S2PAGES` or `bbmlog VERSION kernel PES START0 START1 ASIDFROM`,
--- and then in versions 2 to 4 one more field, `cnp` or `-`, and from version 5 on its words, of which there is `cnp`.
+-- and then in versions 2 to 4 one more field, `cnp` or `-`, and from version 5 on its words.
 unfoldable pub header_of : List ℕ → Result Heading Malformed
 header_of line = do
   magic ← magic_field (codes "bbmlog") (fields line)
@@ -286,6 +295,9 @@ abbrev pub cnp_fields : ℕ → Bool → Fields
 cnp_fields version cnp = if has_words version then said cnp (codes "cnp")
     else (if may_share version then cnp_word cnp ∷ [] else [])
 
+abbrev pub word_fields : HeaderWords → Fields
+word_fields words = said words.unflushed (codes "unflushed")
+
 -- the world's word, the number of PEs and the world's fields, with those that follow
 abbrev pub header_fields : ℕ → World → Fields → Fields
 header_fields pes (Hyp world) after =
@@ -295,7 +307,8 @@ header_fields pes (Kernel world) after =
 
 -- the one line of a header
 unfoldable pub header_line : Heading → List ℕ
-header_line h = joined (codes "bbmlog" ∷ decimal h.version ∷ header_fields h.pes h.world (cnp_fields h.version h.cnp))
+header_line h = joined (codes "bbmlog" ∷ decimal h.version
+    ∷ header_fields h.pes h.world (cnp_fields h.version h.cnp ++ word_fields h.words))
 
 abbrev pub lock_text : Option ℕ → List ℕ
 lock_text None = codes "-"
