@@ -32,8 +32,8 @@ use Rattle.bbm_certify.proofs.Knowing.{kept_now, reads_written}
 
 pub pes_of : (heading : Heading) → heading_ok heading ≡ true → heading.pes ≤ 128
 pes_of h ok =
-    let front = first_true (is_version h.version && are_pes h.version h.pes && (may_share h.version || not h.cnp) && words_ok h.words) (world_ok h.world) ok in
-    let said = first_true (is_version h.version && are_pes h.version h.pes && (may_share h.version || not h.cnp)) (words_ok h.words) front in
+    let front = first_true (is_version h.version && are_pes h.version h.pes && (may_share h.version || not h.cnp) && words_ok h.version h.words) (world_ok h.world) ok in
+    let said = first_true (is_version h.version && are_pes h.version h.pes && (may_share h.version || not h.cnp)) (words_ok h.version h.words) front in
     let some = first_true (is_version h.version && are_pes h.version h.pes) (may_share h.version || not h.cnp) said in
     few_pes h.version h.pes (and_parts (is_version h.version) (are_pes h.version h.pes) some).1
   where

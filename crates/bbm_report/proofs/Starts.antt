@@ -12,7 +12,7 @@ use Rattle.bbm_events.specs.Heading.{Heading, words_ok}
 world_is_ok : (heading : Heading) → IsTrue (heading_ok heading) → world_ok heading.world ≡ true
 world_is_ok heading ok =
     (and_parts (is_version heading.version && are_pes heading.version heading.pes && (may_share heading.version || not heading.cnp)
-    && words_ok heading.words) (world_ok heading.world) ok).1
+    && words_ok heading.version heading.words) (world_ok heading.world) ok).1
 
 either : (zero one two four eight sixteen : Bool) → cond zero one (one || two || four || eight || sixteen) ≡ true
     → (one || not zero && (two || four || eight || sixteen)) ≡ true

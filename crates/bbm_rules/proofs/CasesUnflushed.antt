@@ -2,11 +2,12 @@
 -- word `unflushed`.
 use Rattle.bbm_rules.proofs.Common.{codes}
 use Rattle.std.specs.Prelude.{◌≡◌, [], ◌∷◌, refl}
-use Rattle.bbm_rules.proofs.Judged.{judged_unflushed}
+use Rattle.bbm_rules.proofs.Judged.{judged}
 
 -- A guest dies, and its pages are used again under another VMID.
-pub guest_that_dies_unflushed : judged_unflushed "bbmlog 5 hyp 2 1 1 1" (
-    "init 0 0x40000000"
+pub guest_that_dies_unflushed : judged (
+    "bbmlog 5 hyp 2 1 1 1 unflushed"
+    ∷ "init 0 0x40000000"
     ∷ "init 0 0x40001000"
     ∷ "root 0 s2 - 0x40000000"
     ∷ "w 0 0x40000000 0x40001003"
@@ -25,12 +26,13 @@ pub guest_that_dies_unflushed : judged_unflushed "bbmlog 5 hyp 2 1 1 1" (
     ∷ "isb 0"
     ∷ "end 17"
     ∷ []) ≡ codes "accepted 17 events\n"
-unfolding judged_unflushed
+unfolding judged
 guest_that_dies_unflushed = refl
 
 -- Until the ISB the register may be read as it was.
-pub guest_given_up_before_the_isb : judged_unflushed "bbmlog 5 hyp 2 1 1 1" (
-    "init 0 0x40000000"
+pub guest_given_up_before_the_isb : judged (
+    "bbmlog 5 hyp 2 1 1 1 unflushed"
+    ∷ "init 0 0x40000000"
     ∷ "root 0 s2 - 0x40000000"
     ∷ "msr 0 vttbr_el2 0x5000040000000"
     ∷ "isb 0"
@@ -38,24 +40,26 @@ pub guest_given_up_before_the_isb : judged_unflushed "bbmlog 5 hyp 2 1 1 1" (
     ∷ "unroot 0 0x40000000"
     ∷ "end 6"
     ∷ []) ≡ codes "refused line 7 rule 13 root-in-use at 0x40000000\n"
-unfolding judged_unflushed
+unfolding judged
 guest_given_up_before_the_isb = refl
 
 -- The registers of each PE count.
-pub guest_given_up_while_loaded_on_another_pe : judged_unflushed "bbmlog 5 hyp 2 1 1 1" (
-    "init 0 0x40000000"
+pub guest_given_up_while_loaded_on_another_pe : judged (
+    "bbmlog 5 hyp 2 1 1 1 unflushed"
+    ∷ "init 0 0x40000000"
     ∷ "root 0 s2 - 0x40000000"
     ∷ "msr 1 vttbr_el2 0x5000040000000"
     ∷ "isb 1"
     ∷ "unroot 0 0x40000000"
     ∷ "end 5"
     ∷ []) ≡ codes "refused line 6 rule 13 root-in-use at 0x40000000\n"
-unfolding judged_unflushed
+unfolding judged
 guest_given_up_while_loaded_on_another_pe = refl
 
 -- The lock of the root is asked as ever.
-pub unroot_unflushed_without_the_lock : judged_unflushed "bbmlog 5 hyp 2 1 1 1" (
-    "init 0 0x40000000"
+pub unroot_unflushed_without_the_lock : judged (
+    "bbmlog 5 hyp 2 1 1 1 unflushed"
+    ∷ "init 0 0x40000000"
     ∷ "root 0 s2 3 0x40000000"
     ∷ "msr 0 vttbr_el2 0x5000040000000"
     ∷ "isb 0"
@@ -64,12 +68,13 @@ pub unroot_unflushed_without_the_lock : judged_unflushed "bbmlog 5 hyp 2 1 1 1" 
     ∷ "unroot 0 0x40000000"
     ∷ "end 7"
     ∷ []) ≡ codes "refused line 8 rule 2 no-lock at 0x40000000\n"
-unfolding judged_unflushed
+unfolding judged
 unroot_unflushed_without_the_lock = refl
 
 -- The VMID is left to the dead guest.
-pub next_guest_under_the_vmid_before_the_flush : judged_unflushed "bbmlog 5 hyp 2 1 1 1" (
-    "init 0 0x40000000"
+pub next_guest_under_the_vmid_before_the_flush : judged (
+    "bbmlog 5 hyp 2 1 1 1 unflushed"
+    ∷ "init 0 0x40000000"
     ∷ "root 0 s2 - 0x40000000"
     ∷ "w 0 0x40000000 0x40000701"
     ∷ "msr 0 vttbr_el2 0x5000040000000"
@@ -82,12 +87,13 @@ pub next_guest_under_the_vmid_before_the_flush : judged_unflushed "bbmlog 5 hyp 
     ∷ "msr 0 vttbr_el2 0x5000040001000"
     ∷ "end 11"
     ∷ []) ≡ codes "refused line 12 rule 12 tag-conflict at 0x40000000\n"
-unfolding judged_unflushed
+unfolding judged
 next_guest_under_the_vmid_before_the_flush = refl
 
 -- A flush takes the left VMID.
-pub next_guest_under_the_vmid_after_the_flush : judged_unflushed "bbmlog 5 hyp 2 1 1 1" (
-    "init 0 0x40000000"
+pub next_guest_under_the_vmid_after_the_flush : judged (
+    "bbmlog 5 hyp 2 1 1 1 unflushed"
+    ∷ "init 0 0x40000000"
     ∷ "root 0 s2 - 0x40000000"
     ∷ "w 0 0x40000000 0x40000701"
     ∷ "msr 0 vttbr_el2 0x5000040000000"
@@ -102,12 +108,13 @@ pub next_guest_under_the_vmid_after_the_flush : judged_unflushed "bbmlog 5 hyp 2
     ∷ "msr 0 vttbr_el2 0x5000040001000"
     ∷ "end 13"
     ∷ []) ≡ codes "accepted 13 events\n"
-unfolding judged_unflushed
+unfolding judged
 next_guest_under_the_vmid_after_the_flush = refl
 
 -- The flush isn't answered.
-pub next_guest_before_the_answer : judged_unflushed "bbmlog 5 hyp 2 1 1 1" (
-    "init 0 0x40000000"
+pub next_guest_before_the_answer : judged (
+    "bbmlog 5 hyp 2 1 1 1 unflushed"
+    ∷ "init 0 0x40000000"
     ∷ "root 0 s2 - 0x40000000"
     ∷ "w 0 0x40000000 0x40000701"
     ∷ "msr 0 vttbr_el2 0x5000040000000"
@@ -122,12 +129,13 @@ pub next_guest_before_the_answer : judged_unflushed "bbmlog 5 hyp 2 1 1 1" (
     ∷ "msr 0 vttbr_el2 0x5000040001000"
     ∷ "end 13"
     ∷ []) ≡ codes "refused line 14 rule 12 tag-conflict at 0x40000000\n"
-unfolding judged_unflushed
+unfolding judged
 next_guest_before_the_answer = refl
 
 -- A flush of stage 1 isn't of the whole tag.
-pub next_guest_after_a_flush_of_stage_1 : judged_unflushed "bbmlog 5 hyp 2 1 1 1" (
-    "init 0 0x40000000"
+pub next_guest_after_a_flush_of_stage_1 : judged (
+    "bbmlog 5 hyp 2 1 1 1 unflushed"
+    ∷ "init 0 0x40000000"
     ∷ "root 0 s2 - 0x40000000"
     ∷ "w 0 0x40000000 0x40000701"
     ∷ "msr 0 vttbr_el2 0x5000040000000"
@@ -142,12 +150,13 @@ pub next_guest_after_a_flush_of_stage_1 : judged_unflushed "bbmlog 5 hyp 2 1 1 1
     ∷ "msr 0 vttbr_el2 0x5000040001000"
     ∷ "end 13"
     ∷ []) ≡ codes "refused line 14 rule 12 tag-conflict at 0x40000000\n"
-unfolding judged_unflushed
+unfolding judged
 next_guest_after_a_flush_of_stage_1 = refl
 
 -- What is left at any PE counts.
-pub next_guest_on_another_pe_before_the_flush : judged_unflushed "bbmlog 5 hyp 2 1 1 1" (
-    "init 0 0x40000000"
+pub next_guest_on_another_pe_before_the_flush : judged (
+    "bbmlog 5 hyp 2 1 1 1 unflushed"
+    ∷ "init 0 0x40000000"
     ∷ "root 0 s2 - 0x40000000"
     ∷ "w 0 0x40000000 0x40000701"
     ∷ "msr 0 vttbr_el2 0x5000040000000"
@@ -160,12 +169,13 @@ pub next_guest_on_another_pe_before_the_flush : judged_unflushed "bbmlog 5 hyp 2
     ∷ "msr 1 vttbr_el2 0x5000040001000"
     ∷ "end 11"
     ∷ []) ≡ codes "refused line 12 rule 12 tag-conflict at 0x40000000\n"
-unfolding judged_unflushed
+unfolding judged
 next_guest_on_another_pe_before_the_flush = refl
 
 -- Each declaration is a root of its own, so the tag that is left is that of another root.
-pub root_page_declared_again_under_its_vmid : judged_unflushed "bbmlog 5 hyp 2 1 1 1" (
-    "init 0 0x40000000"
+pub root_page_declared_again_under_its_vmid : judged (
+    "bbmlog 5 hyp 2 1 1 1 unflushed"
+    ∷ "init 0 0x40000000"
     ∷ "root 0 s2 - 0x40000000"
     ∷ "w 0 0x40000000 0x40000701"
     ∷ "msr 0 vttbr_el2 0x5000040000000"
@@ -178,12 +188,13 @@ pub root_page_declared_again_under_its_vmid : judged_unflushed "bbmlog 5 hyp 2 1
     ∷ "msr 0 vttbr_el2 0x5000040000000"
     ∷ "end 11"
     ∷ []) ≡ codes "refused line 12 rule 12 tag-conflict at 0x40000000\n"
-unfolding judged_unflushed
+unfolding judged
 root_page_declared_again_under_its_vmid = refl
 
 -- After the flush the VMID is free.
-pub root_page_declared_again_after_the_flush : judged_unflushed "bbmlog 5 hyp 2 1 1 1" (
-    "init 0 0x40000000"
+pub root_page_declared_again_after_the_flush : judged (
+    "bbmlog 5 hyp 2 1 1 1 unflushed"
+    ∷ "init 0 0x40000000"
     ∷ "root 0 s2 - 0x40000000"
     ∷ "w 0 0x40000000 0x40000701"
     ∷ "msr 0 vttbr_el2 0x5000040000000"
@@ -198,12 +209,13 @@ pub root_page_declared_again_after_the_flush : judged_unflushed "bbmlog 5 hyp 2 
     ∷ "msr 0 vttbr_el2 0x5000040000000"
     ∷ "end 13"
     ∷ []) ≡ codes "accepted 13 events\n"
-unfolding judged_unflushed
+unfolding judged
 root_page_declared_again_after_the_flush = refl
 
 -- The VMID of the first declaration is left, whatever came after.
-pub root_page_declared_three_times : judged_unflushed "bbmlog 5 hyp 2 1 1 1" (
-    "init 0 0x40000000"
+pub root_page_declared_three_times : judged (
+    "bbmlog 5 hyp 2 1 1 1 unflushed"
+    ∷ "init 0 0x40000000"
     ∷ "root 0 s2 - 0x40000000"
     ∷ "w 0 0x40000000 0x40000701"
     ∷ "msr 0 vttbr_el2 0x5000040000000"
@@ -223,12 +235,13 @@ pub root_page_declared_three_times : judged_unflushed "bbmlog 5 hyp 2 1 1 1" (
     ∷ "msr 0 vttbr_el2 0x5000040000000"
     ∷ "end 18"
     ∷ []) ≡ codes "refused line 19 rule 12 tag-conflict at 0x40000000\n"
-unfolding judged_unflushed
+unfolding judged
 root_page_declared_three_times = refl
 
 -- The other PE has it still.
-pub local_flush_of_a_left_vmid_on_one_pe : judged_unflushed "bbmlog 5 hyp 2 1 1 1" (
-    "init 0 0x40000000"
+pub local_flush_of_a_left_vmid_on_one_pe : judged (
+    "bbmlog 5 hyp 2 1 1 1 unflushed"
+    ∷ "init 0 0x40000000"
     ∷ "root 0 s2 - 0x40000000"
     ∷ "msr 0 vttbr_el2 0x5000040000000"
     ∷ "isb 0"
@@ -246,12 +259,13 @@ pub local_flush_of_a_left_vmid_on_one_pe : judged_unflushed "bbmlog 5 hyp 2 1 1 
     ∷ "msr 0 vttbr_el2 0x5000040001000"
     ∷ "end 16"
     ∷ []) ≡ codes "refused line 17 rule 12 tag-conflict at 0x40000000\n"
-unfolding judged_unflushed
+unfolding judged
 local_flush_of_a_left_vmid_on_one_pe = refl
 
 -- Each PE flushed its own.
-pub local_flush_of_a_left_vmid_on_each_pe : judged_unflushed "bbmlog 5 hyp 2 1 1 1" (
-    "init 0 0x40000000"
+pub local_flush_of_a_left_vmid_on_each_pe : judged (
+    "bbmlog 5 hyp 2 1 1 1 unflushed"
+    ∷ "init 0 0x40000000"
     ∷ "root 0 s2 - 0x40000000"
     ∷ "msr 0 vttbr_el2 0x5000040000000"
     ∷ "isb 0"
@@ -271,12 +285,13 @@ pub local_flush_of_a_left_vmid_on_each_pe : judged_unflushed "bbmlog 5 hyp 2 1 1
     ∷ "msr 0 vttbr_el2 0x5000040001000"
     ∷ "end 18"
     ∷ []) ≡ codes "accepted 18 events\n"
-unfolding judged_unflushed
+unfolding judged
 local_flush_of_a_left_vmid_on_each_pe = refl
 
 -- The VMID was readable after the issue, so the answer doesn't take it.
-pub flush_begun_while_the_guest_was_readable : judged_unflushed "bbmlog 5 hyp 2 1 1 1" (
-    "init 0 0x40000000"
+pub flush_begun_while_the_guest_was_readable : judged (
+    "bbmlog 5 hyp 2 1 1 1 unflushed"
+    ∷ "init 0 0x40000000"
     ∷ "root 0 s2 - 0x40000000"
     ∷ "w 0 0x40000000 0x40000701"
     ∷ "msr 0 vttbr_el2 0x5000040000000"
@@ -291,12 +306,13 @@ pub flush_begun_while_the_guest_was_readable : judged_unflushed "bbmlog 5 hyp 2 
     ∷ "msr 0 vttbr_el2 0x5000040001000"
     ∷ "end 13"
     ∷ []) ≡ codes "refused line 14 rule 12 tag-conflict at 0x40000000\n"
-unfolding judged_unflushed
+unfolding judged
 flush_begun_while_the_guest_was_readable = refl
 
 -- A flush that is issued before the `unroot` and answered after it takes what was left.
-pub flush_begun_before_the_root_is_given_up : judged_unflushed "bbmlog 5 hyp 2 1 1 1" (
-    "init 0 0x40000000"
+pub flush_begun_before_the_root_is_given_up : judged (
+    "bbmlog 5 hyp 2 1 1 1 unflushed"
+    ∷ "init 0 0x40000000"
     ∷ "root 0 s2 - 0x40000000"
     ∷ "w 0 0x40000000 0x40000701"
     ∷ "msr 0 vttbr_el2 0x5000040000000"
@@ -311,12 +327,13 @@ pub flush_begun_before_the_root_is_given_up : judged_unflushed "bbmlog 5 hyp 2 1
     ∷ "msr 0 vttbr_el2 0x5000040001000"
     ∷ "end 13"
     ∷ []) ≡ codes "accepted 13 events\n"
-unfolding judged_unflushed
+unfolding judged
 flush_begun_before_the_root_is_given_up = refl
 
 -- Nothing is left.
-pub flush_answered_before_the_root_is_given_up : judged_unflushed "bbmlog 5 hyp 2 1 1 1" (
-    "init 0 0x40000000"
+pub flush_answered_before_the_root_is_given_up : judged (
+    "bbmlog 5 hyp 2 1 1 1 unflushed"
+    ∷ "init 0 0x40000000"
     ∷ "root 0 s2 - 0x40000000"
     ∷ "w 0 0x40000000 0x40000701"
     ∷ "msr 0 vttbr_el2 0x5000040000000"
@@ -331,12 +348,13 @@ pub flush_answered_before_the_root_is_given_up : judged_unflushed "bbmlog 5 hyp 
     ∷ "msr 0 vttbr_el2 0x5000040001000"
     ∷ "end 13"
     ∷ []) ≡ codes "accepted 13 events\n"
-unfolding judged_unflushed
+unfolding judged
 flush_answered_before_the_root_is_given_up = refl
 
 -- An ASID is left as a VMID is.
-pub asids_of_ttbr0_left : judged_unflushed "bbmlog 5 kernel 1 1 1 ttbr0" (
-    "init 0 0x40001000"
+pub asids_of_ttbr0_left : judged (
+    "bbmlog 5 kernel 1 1 1 ttbr0 unflushed"
+    ∷ "init 0 0x40001000"
     ∷ "root 0 ttbr0 - 0x40001000"
     ∷ "msr 0 ttbr0_el1 0x5000040001000"
     ∷ "isb 0"
@@ -348,12 +366,13 @@ pub asids_of_ttbr0_left : judged_unflushed "bbmlog 5 kernel 1 1 1 ttbr0" (
     ∷ "msr 0 ttbr0_el1 0x5000040002000"
     ∷ "end 10"
     ∷ []) ≡ codes "refused line 11 rule 12 tag-conflict at 0x40001000\n"
-unfolding judged_unflushed
+unfolding judged
 asids_of_ttbr0_left = refl
 
 -- The root in TTBR0_EL1 would be read under the left ASID.
-pub left_asid_beside_a_null_page_in_ttbr1 : judged_unflushed "bbmlog 5 kernel 2 1 1 ttbr1" (
-    "init 0 0x40000000"
+pub left_asid_beside_a_null_page_in_ttbr1 : judged (
+    "bbmlog 5 kernel 2 1 1 ttbr1 unflushed"
+    ∷ "init 0 0x40000000"
     ∷ "root 0 ttbr1 - 0x40000000"
     ∷ "init 0 0x40001000"
     ∷ "root 0 ttbr0 - 0x40001000"
@@ -376,12 +395,13 @@ pub left_asid_beside_a_null_page_in_ttbr1 : judged_unflushed "bbmlog 5 kernel 2 
     ∷ "msr 0 ttbr1_el1 0x1000040007000"
     ∷ "end 21"
     ∷ []) ≡ codes "refused line 22 rule 12 tag-conflict at 0x40001000\n"
-unfolding judged_unflushed
+unfolding judged
 left_asid_beside_a_null_page_in_ttbr1 = refl
 
 -- The tag of the upper range is left.
-pub upper_root_given_up : judged_unflushed "bbmlog 5 kernel 2 1 1 ttbr1" (
-    "init 0 0x40000000"
+pub upper_root_given_up : judged (
+    "bbmlog 5 kernel 2 1 1 ttbr1 unflushed"
+    ∷ "init 0 0x40000000"
     ∷ "root 0 ttbr1 - 0x40000000"
     ∷ "msr 0 ttbr1_el1 0x40000000"
     ∷ "isb 0"
@@ -393,12 +413,13 @@ pub upper_root_given_up : judged_unflushed "bbmlog 5 kernel 2 1 1 ttbr1" (
     ∷ "msr 0 ttbr1_el1 0x40001000"
     ∷ "end 10"
     ∷ []) ≡ codes "refused line 11 rule 12 tag-conflict at 0x40000000\n"
-unfolding judged_unflushed
+unfolding judged
 upper_root_given_up = refl
 
 -- The tag of EL2 is left.
-pub el2_root_given_up_and_declared_again : judged_unflushed "bbmlog 5 hyp 2 1 1 1" (
-    "init 0 0x40000000"
+pub el2_root_given_up_and_declared_again : judged (
+    "bbmlog 5 hyp 2 1 1 1 unflushed"
+    ∷ "init 0 0x40000000"
     ∷ "root 0 el2 - 0x40000000"
     ∷ "msr 0 ttbr0_el2 0x40000000"
     ∷ "isb 0"
@@ -410,12 +431,13 @@ pub el2_root_given_up_and_declared_again : judged_unflushed "bbmlog 5 hyp 2 1 1 
     ∷ "msr 0 ttbr0_el2 0x40000000"
     ∷ "end 10"
     ∷ []) ≡ codes "refused line 11 rule 12 tag-conflict at 0x40000000\n"
-unfolding judged_unflushed
+unfolding judged
 el2_root_given_up_and_declared_again = refl
 
 -- The number is the least first page of all, here that of a root that was given up.
-pub least_of_a_declared_root_and_a_left_one : judged_unflushed "bbmlog 5 kernel 2 1 1 ttbr1" (
-    "init 0 0x40007000"
+pub least_of_a_declared_root_and_a_left_one : judged (
+    "bbmlog 5 kernel 2 1 1 ttbr1 unflushed"
+    ∷ "init 0 0x40007000"
     ∷ "root 0 ttbr1 - 0x40007000"
     ∷ "init 0 0x40001000"
     ∷ "root 0 ttbr0 - 0x40001000"
@@ -437,12 +459,13 @@ pub least_of_a_declared_root_and_a_left_one : judged_unflushed "bbmlog 5 kernel 
     ∷ "msr 0 ttbr1_el1 0x1000040006000"
     ∷ "end 20"
     ∷ []) ≡ codes "refused line 21 rule 12 tag-conflict at 0x40001000\n"
-unfolding judged_unflushed
+unfolding judged
 least_of_a_declared_root_and_a_left_one = refl
 
 -- Here it is that of a declared root.
-pub declared_root_below_a_left_one : judged_unflushed "bbmlog 5 kernel 2 1 1 ttbr1" (
-    "init 0 0x40001000"
+pub declared_root_below_a_left_one : judged (
+    "bbmlog 5 kernel 2 1 1 ttbr1 unflushed"
+    ∷ "init 0 0x40001000"
     ∷ "root 0 ttbr1 - 0x40001000"
     ∷ "init 0 0x40007000"
     ∷ "root 0 ttbr0 - 0x40007000"
@@ -464,12 +487,13 @@ pub declared_root_below_a_left_one : judged_unflushed "bbmlog 5 kernel 2 1 1 ttb
     ∷ "msr 0 ttbr1_el1 0x1000040006000"
     ∷ "end 20"
     ∷ []) ≡ codes "refused line 21 rule 12 tag-conflict at 0x40001000\n"
-unfolding judged_unflushed
+unfolding judged
 declared_root_below_a_left_one = refl
 
 -- A root that is declared anew holds none of the tags that its page was given up with.
-pub cover_of_a_root_declared_anew : judged_unflushed "bbmlog 5 hyp 2 1 1 1" (
-    "init 0 0x40000000"
+pub cover_of_a_root_declared_anew : judged (
+    "bbmlog 5 hyp 2 1 1 1 unflushed"
+    ∷ "init 0 0x40000000"
     ∷ "root 0 s2 - 0x40000000"
     ∷ "w 0 0x40000000 0x40000701"
     ∷ "msr 0 vttbr_el2 0x5000040000000"
@@ -491,12 +515,13 @@ pub cover_of_a_root_declared_anew : judged_unflushed "bbmlog 5 hyp 2 1 1 1" (
     ∷ "w 0 0x40000000 0x80000701"
     ∷ "end 20"
     ∷ []) ≡ codes "accepted 20 events\n"
-unfolding judged_unflushed
+unfolding judged
 cover_of_a_root_declared_anew = refl
 
 -- So a TLBI under a left VMID covers nothing of it.
-pub cover_of_a_root_declared_anew_under_the_left_vmid : judged_unflushed "bbmlog 5 hyp 2 1 1 1" (
-    "init 0 0x40000000"
+pub cover_of_a_root_declared_anew_under_the_left_vmid : judged (
+    "bbmlog 5 hyp 2 1 1 1 unflushed"
+    ∷ "init 0 0x40000000"
     ∷ "root 0 s2 - 0x40000000"
     ∷ "w 0 0x40000000 0x40000701"
     ∷ "msr 0 vttbr_el2 0x5000040000000"
@@ -522,5 +547,5 @@ pub cover_of_a_root_declared_anew_under_the_left_vmid : judged_unflushed "bbmlog
     ∷ "w 0 0x40000000 0x80000701"
     ∷ "end 24"
     ∷ []) ≡ codes "refused line 25 rule 4 break-before-make at 0x40000000\n"
-unfolding judged_unflushed
+unfolding judged
 cover_of_a_root_declared_anew_under_the_left_vmid = refl

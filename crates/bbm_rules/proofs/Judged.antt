@@ -1,16 +1,15 @@
 -- The words in which the worked cases are written. A case is the text of a log, and the text of the verdict on it by the
 -- whole rules; or what one definition says after the events of a log.
 use Rattle.bbm_rules.proofs.Common.{codes, String, Claim, Trust, Progress, AtEvents, verdict_of_bytes}
-use Rattle.std.specs.Prelude.{ℕ, List, [], ◌∷◌, ◌++◌, true, Option, Some, None, Result, Ok, Err}
+use Rattle.std.specs.Prelude.{ℕ, List, [], ◌∷◌, ◌++◌, Option, Some, None}
 use Rattle.std.specs.Fmt.{digits}
 use Rattle.bbm_events.specs.declared.event.Event.{Event}
-use Rattle.bbm_events.specs.declared.malformed.Malformed.{Malformed}
-use Rattle.bbm_events.specs.Heading.{Heading, no_words}
+use Rattle.bbm_events.specs.Heading.{Heading}
 use Rattle.bbm_events.specs.Lines.{header_of, item_of}
 use Rattle.bbm_events.specs.Spelling.{decimal_value, hex_value}
 use Rattle.bbm_rules.specs.Broken.{broken}
 use Rattle.bbm_rules.specs.Claims.{Listed, Patterns}
-use Rattle.bbm_rules.specs.Fold.{end_by, ending_at, lines_from, turned_by}
+use Rattle.bbm_rules.specs.Fold.{end_by, lines_from, turned_by}
 use Rattle.bbm_rules.specs.Outcome.{AtHeader, check_limits, judging}
 use Rattle.bbm_rules.specs.Texts.{verdict_text}
 use Rattle.bbm_rules.specs.Tree.{tree}
@@ -34,17 +33,7 @@ unfoldable pub judged : List String → List ℕ
 unfolding judged_bytes
 judged lines = judged_bytes (log lines)
 
--- that on the log with this header and these lines, where the header has the word `unflushed` besides
-abbrev unflushed_under : Result Heading Malformed → Progress
-unflushed_under (Ok heading) = AtEvents (record heading { words = record no_words { unflushed = true } }) []
-unflushed_under (Err cause) = AtHeader
-
-unfoldable pub judged_unflushed : String → List String → List ℕ
-unfolding judged_under
-judged_unflushed header lines =
-    verdict_text ((ending_at (judging Patterns check_limits) 2 (unflushed_under (header_of (codes header))) (log lines)).says.verdict)
-
--- the same as `judged` by a certificate, the list of the claims that may be used
+-- the same by a certificate, the list of the claims that may be used
 unfoldable pub judged_by : List Claim → List String → List ℕ
 unfolding judged_under
 judged_by claims lines = judged_under (Listed claims) (log lines)

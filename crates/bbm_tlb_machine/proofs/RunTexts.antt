@@ -1,11 +1,11 @@
 -- The words in which the worked cases are written: the text of a run, and the text of what comes of it.
 use Rattle.bbm_rules.proofs.Common.{codes, String, Item}
-use Rattle.std.specs.Prelude.{ℕ, ◌+◌, List, [], ◌∷◌, ◌++◌, length, reverse, filter_map, true, Option, Some, None, Result, Ok}
+use Rattle.std.specs.Prelude.{ℕ, ◌+◌, List, [], ◌∷◌, ◌++◌, length, reverse, filter_map, Option, Some, None, Result, Ok}
 use Rattle.std.specs.Prelude.{Err, decimal}
 use Rattle.std.specs.Fmt.{digits}
 use Rattle.bbm_events.specs.declared.event.Item.TheVariants as item
 use Rattle.bbm_events.specs.declared.malformed.Malformed.{Malformed}
-use Rattle.bbm_events.specs.Heading.{Heading, no_words}
+use Rattle.bbm_events.specs.Heading.{Heading}
 use Rattle.bbm_events.specs.Lines.{header_of, item_of}
 use Rattle.bbm_events.specs.Machine.{machine_of}
 use Rattle.bbm_events.specs.Spelling.{decimal_value, hex_value}
@@ -40,13 +40,5 @@ unfolding digits header_of step_of decimal_value hex_value
 followed [] = []
 followed (line ∷ lines) = elim (header_of (codes line)) [
   | Ok heading ↦ told_of heading (reverse (filter_map (step_of heading) lines))
-  | Err cause ↦ []
-]
-
--- the same under a header that has the word `unflushed` besides
-unfoldable pub followed_unflushed : String → List String → List ℕ
-unfolding digits header_of step_of decimal_value hex_value
-followed_unflushed header lines = elim (header_of (codes header)) [
-  | Ok heading ↦ told_of (record heading { words = record no_words { unflushed = true } }) (reverse (filter_map (step_of heading) lines))
   | Err cause ↦ []
 ]
