@@ -1,7 +1,8 @@
 -- The grammar of a log: which header or item a line spells, or the first cause for which it spells none,
 -- and the one line of a header or an item. A line is its bytes without the newline.
 -- Source: project's own choice.
-use Rattle.std.specs.Prelude.{ℕ, List, [], ◌∷◌, ◌++◌, drop, Bool, true, false, ◌&&◌, ◌==◌, if◌then◌else◌, Option, Some, None}
+use Rattle.std.specs.Prelude.{ℕ, List, [], ◌∷◌, ◌++◌, drop, Bool, true, false, ◌&&◌, ◌==◌, if◌then◌else◌, Option, Some}
+use Rattle.std.specs.Prelude.{None}
 use Rattle.std.specs.Prelude.{Result, Ok, Err, codes, decimal, bytes_eq}
 use Rattle.std.specs.Option.{option_map}
 use Rattle.bbm_regimes.specs.declared.regime.HypWorld.{HypWorld}

@@ -113,8 +113,8 @@ pub fn law_claim_written_is_read()
         → claim_of heading (claim_line item) ≡ Ok item }
 {}
 
-/// The first line of a certificate, and what is written of a claim or a count that fits, is one line: no byte of it is a
-/// newline, byte 10, and it has at most 200 bytes. The law is `ClaimIsALine`.
+/// The first line of a certificate, and what is written of a claim or a count that fits, is one line: no byte of it is
+/// a newline, byte 10, and it has at most 200 bytes. The law is `ClaimIsALine`.
 pub fn law_claim_written_is_a_line()
     ensures { ClaimIsALine }
 {}

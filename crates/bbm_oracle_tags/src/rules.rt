@@ -314,7 +314,8 @@ fn conflicts<E: TagEvidence>(
 }
 
 /// 12, tag-conflict: after the register write a tag is readable at its PE for one root, and another root holds it, or
-/// one that was given up has left it. At: the least first page of such another root. `NoMemory` where there is none.
+/// one that was given up has left it, at some PE. At: the least first page of such another root. `NoMemory` where there
+/// is none.
 pub fn tag_conflict<E: TagEvidence>(
     alloc: Global,
     evidence: &E,

@@ -9,7 +9,8 @@ use Rattle.bbm_descriptor.specs.declared.desc.Desc.{Desc}
 use Rattle.bbm_descriptor.specs.declared.desc.Desc.TheVariants.{Leaf}
 use Rattle.bbm_tlbi_scope.specs.Operations.{of_world}
 use Rattle.bbm_events.specs.Heading.{nulls_everywhere}
-use Rattle.bbm_rules.specs.Prelude.{Kind, S2, Ttbr0, Ttbr0El2, VttbrEl2, Ttbr0El1, Ttbr1El1, scope_of, Heading, Event, Reg}
+use Rattle.bbm_rules.specs.Prelude.{Kind, S2, Ttbr0, Ttbr0El2, VttbrEl2, Ttbr0El1, Ttbr1El1, scope_of, Heading, Event}
+use Rattle.bbm_rules.specs.Prelude.{Reg}
 use Rattle.bbm_rules.specs.Prelude.{Init, Null, Root, Unroot, Write, Tlbi, Msr, Lock, Unlock}
 use Rattle.bbm_rules.specs.Attach.{Attached, End, all_ends, attached_by, pages_of}
 use Rattle.bbm_rules.specs.Claims.{Trust}
@@ -165,8 +166,8 @@ module _ (heading : Heading) (trust : Trust) (h : List Noted) where
   no_root _ = None
 
   -- 12, tag-conflict: after the register write a tag is readable at this PE for one root, and another root holds it, or
-  -- one that was given up has left it. At: the least first page of such another root. The first argument are the events
-  -- with the register write.
+  -- one that was given up has left it, at some PE. At: the least first page of such another root. The first argument are
+  -- the events with the register write.
   abbrev pub other_holders : List Event → Reading → List ℕ
   other_holders after reading = map (λ r. r.page) (filter
       (λ r. not (r.page == reading.root) && holds_tag heading trust r.page reading.tag after) (roots_of after))

@@ -112,8 +112,8 @@ pub record TakenAway (heading : Heading) (trust : Trust) (p : ℕ) (tag : Tag) (
       → reads_for_some heading moment p tag ≡ false
   pub allowed : allows trust (Taken p tag (suc (length t.before)) (suc (length earlier))) ≡ true
 
--- The tag is kept for the page at p: at some moment it was readable at p for the root of the page, and no TLBI after that
--- moment takes it away. Source: project's own choice, after Arm ARM (DDI 0487), "Translation Lookaside Buffers".
+-- The tag is kept for the page at p: at some moment it was readable at p for the root of the page, and no TLBI after
+-- that moment takes it away. Source: project's own choice, after Arm ARM (DDI 0487), "Translation Lookaside Buffers".
 pub record KeptTag (heading : Heading) (trust : Trust) (p page : ℕ) (tag : Tag) (h : List Event) : Type 0 where
   pub newer : List Event
   pub older : List Event
@@ -126,8 +126,8 @@ pub record HoldsTag (heading : Heading) (trust : Trust) (p root : ℕ) (tag : Ta
   pub kept : KeptTag heading trust p root tag h
   pub not_given_up : (q : ℕ) (after before : List Event) → kept.newer ≡ after ++ Unroot q root ∷ before → ⊥
 
--- A root of the page was given up and left the tag at p: the tag is kept for the page by such a moment, and the root was
--- given up since.
+-- A root of the page was given up and left the tag at p: the tag is kept for the page by such a moment, and the root
+-- was given up since.
 pub record LeftTag (heading : Heading) (trust : Trust) (p page : ℕ) (tag : Tag) (h : List Event) : Type 0 where
   pub kept : KeptTag heading trust p page tag h
   pub q : ℕ

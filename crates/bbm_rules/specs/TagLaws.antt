@@ -21,8 +21,8 @@ pub record ReadsBySentence (heading : Heading) : Type 0 where
       → reads heading h p tag root ≡ true
 
 -- A tag is kept for a page at a PE exactly where it was readable there for the root of the page at some moment, and no
--- TLBI after that moment takes it away: so where the root of the page holds it, or one that was given up left it. The page
--- is that of a declared root, or of one that was given up.
+-- TLBI after that moment takes it away: so where the root of the page holds it, or one that was given up left it. The
+-- page is that of a declared root, or of one that was given up.
 pub record TagKeptBySentence (heading : Heading) (trust : Trust) : Type 0 where
   pub sound : (p page : ℕ) (tag : Tag) (h : List Event) → kept_at heading trust p page tag h ≡ true
       → KeptTag heading trust p page tag h
@@ -76,5 +76,6 @@ pub record RulesOnTags (heading : Heading) (trust : Trust) : Type 0 where
   pub no_base : (h : List Noted) (pe page p : ℕ) (reg : Reg) (value : ℕ)
       → root_in_use heading trust h (Unroot pe page) ≡ None → no_root heading trust h (Unroot pe page) ≡ None
       → p < heading.pes → among value (register_values (events_of h) p reg) ≡ true → base_of value ≡ Some page → ⊥
-  pub no_tag : heading.words.unflushed ≡ false → (h : List Noted) (pe page : ℕ) (tag : Tag) → root_in_use heading trust h (Unroot pe page) ≡ None
+  pub no_tag : heading.words.unflushed ≡ false → (h : List Noted) (pe page : ℕ) (tag : Tag)
+      → root_in_use heading trust h (Unroot pe page) ≡ None
       → no_root heading trust h (Unroot pe page) ≡ None → holds_tag heading trust page tag (events_of h) ≡ false

@@ -91,8 +91,8 @@ module _ (heading : Heading) where
     loses p tag _ h = false
 
     -- Tag kept for a page, at p: it is readable there for the root of the page now, or it was kept before and the last
-    -- event doesn't take it away. So a TLB of p may keep what it read through a root of the page under the tag: one that
-    -- is declared, or one that was given up. Source: project's own choice, after Arm ARM (DDI 0487), "Translation
+    -- event doesn't take it away. So a TLB of p may keep what it read through a root of the page under the tag: one
+    -- that is declared, or one that was given up. Source: project's own choice, after Arm ARM (DDI 0487), "Translation
     -- Lookaside Buffers".
     abbrev pub kept_at : ℕ → ℕ → Tag → List Event → Bool
     kept_at p page tag [] = false
@@ -103,8 +103,8 @@ module _ (heading : Heading) where
     abbrev pub ends : ℕ → ℕ → Tag → Event → List Event → Bool
     ends p root tag e h = gives_up root e || loses p tag e h
 
-    -- Tag held by a declared root, at p: it is readable there for the root now, or it was held before and the last event
-    -- neither gives the root up nor takes the tag away.
+    -- Tag held by a declared root, at p: it is readable there for the root now, or it was held before and the last
+    -- event neither gives the root up nor takes the tag away.
     abbrev pub holds_at : ℕ → ℕ → Tag → List Event → Bool
     holds_at p root tag [] = false
     holds_at p root tag (e ∷ h) = reads (e ∷ h) p tag root || (holds_at p root tag h && not (ends p root tag e h))

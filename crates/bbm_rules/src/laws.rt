@@ -25,15 +25,16 @@ pub fn law_tag_held()
     ensures { (heading : Heading) (trust : Trust) → TagHeldBySentence heading trust }
 {}
 
-/// A tag is left by a root that was given up, at a PE, exactly where it was readable there for the root of the page at some
-/// moment, the root was given up after it, and no TLBI after it takes the tag away. The law is `TagLeftBySentence`.
+/// A tag is left by a root that was given up, at a PE, exactly where it was readable there for the root of the page at
+/// some moment, the root was given up after it, and no TLBI after it takes the tag away. The law is
+/// `TagLeftBySentence`.
 pub fn law_tag_left()
     ensures { (heading : Heading) (trust : Trust) → TagLeftBySentence heading trust }
 {}
 
 /// A tag is kept for a page at a PE exactly where it was readable there for the root of the page at some moment, and no
-/// TLBI after that moment takes it away: so where the root of the page holds it, or one that was given up left it. The page
-/// is that of a declared root, or of one that was given up. The law is `TagKeptBySentence`.
+/// TLBI after that moment takes it away: so where the root of the page holds it, or one that was given up left it. The
+/// page is that of a declared root, or of one that was given up. The law is `TagKeptBySentence`.
 pub fn law_tag_kept()
     ensures { (heading : Heading) (trust : Trust) → TagKeptBySentence heading trust }
 {}
