@@ -24,6 +24,7 @@ pub use command::Request;
 pub use counterrun_law::law_counterrun_is_followed;
 pub use idle_law::law_idle_lines;
 pub use laws::{
-    law_cert, law_certificate_says_yes, law_generated_is_accepted, law_verified_is_safe,
+    law_cert, law_cert_then_verify, law_certificate_says_yes, law_generated_is_accepted,
+    law_verified_is_safe,
 };
 pub use top::run;

@@ -137,8 +137,9 @@ pub fn run<S: Source, K: Sink>(
     ensures one_root_a_tag { (command : CommandOf) (bytes : List ℕ)
         → Asked (map string_bytes words.now.items) (S.left log.old) (Judge command) bytes
         → result ≡ Status.Accepted → HoldsOfLog OneRootATag Patterns (limits_of command) bytes }
-    // Where a log is judged by its certificate and accepted, it keeps the rules by the claims of that alone, and no TLB
-    // keeps what a write, an init or a register write needs gone, in any run of the machine over it.
+    // Where a log is judged by its certificate and accepted, it keeps the rules by the claims of that alone. No TLB keeps
+    // what a write, an init or a register write needs gone, in any run of the machine over it, and at every moment of
+    // such a run there is one root a tag.
     ensures verified_is_safe { (bytes : List ℕ)
         → Asked (map string_bytes words.now.items) (S.left log.old) Verify bytes
         → result ≡ Status.Accepted → IsVerified bytes }
