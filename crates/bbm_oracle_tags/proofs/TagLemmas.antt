@@ -18,7 +18,8 @@ held-was-read heading trust p root tag [] k = k
 held-was-read heading trust p root tag (e ∷ h) k =
     by_case (reads heading (e ∷ h) p tag root) k (λ l. held-was-read heading trust p root tag h l)
   where
-    by_case : (b : Bool) → (b || (holds_at heading trust p root tag h && not (ends heading trust p root tag e h))) ≡ true
+    by_case : (b : Bool)
+        → (b || (holds_at heading trust p root tag h && not (ends heading trust p root tag e h))) ≡ true
         → (holds_at heading trust p root tag h ≡ true → was_read heading p root tag h ≡ true)
         → (b || was_read heading p root tag h) ≡ true
     by_case true k rest = refl

@@ -2,8 +2,8 @@
 use Rattle.bbm_rules.proofs.Common.{◌≡◌, ℕ, suc, ◌<◌, ◌≤◌, Bool, true, false, not, ◌&&◌, ◌||◌, cond, ◌==◌, List, []}
 use Rattle.bbm_rules.proofs.Common.{◌∷◌, length, refl, sym, ap, ◌∙◌, arith, true≢false, le-leb, any-filter_same, proved}
 use Rattle.bbm_rules.proofs.Common.{Is, answers, operation, Barrier, Heading, Event, Dsb, Tlbi, Tag, any, Issued}
-use Rattle.bbm_rules.proofs.Common.{completes, left_open, reaches, unanswered, gives_up, holds_at, itself, left_at, loses, read_since}
-use Rattle.bbm_rules.proofs.Common.{reads, reads_for_some, takes_tag, and-false, and-true, and_comm, first_true}
+use Rattle.bbm_rules.proofs.Common.{completes, left_open, reaches, unanswered, gives_up, holds_at, itself, left_at, loses}
+use Rattle.bbm_rules.proofs.Common.{read_since, reads, reads_for_some, takes_tag, and-false, and-true, and_comm, first_true}
 use Rattle.bbm_regimes.specs.PeMask.{pe_in}
 use Rattle.bbm_rules.specs.Claims.{Patterns}
 use Rattle.bbm_rules.specs.Tags.{is_taken_by}
@@ -264,7 +264,8 @@ module _ (heading : Heading) (p : ℕ) (tag : Tag) where
     holds = holding
         ∙ ap (λ (b : Bool). b || (old.holds && not (up || lost))) looks.reads
         ∙ ap (λ (b : Bool). reads heading (e ∷ h) p tag root || (b && not (up || lost))) k.holds
-        ∙ ap (λ (b : Bool). reads heading (e ∷ h) p tag root || (holds_at heading Patterns p root tag h && not (b || lost)))
+        ∙ ap (λ (b : Bool). reads heading (e ∷ h) p tag root
+        || (holds_at heading Patterns p root tag h && not (b || lost)))
         giving
         ∙ ap (λ (b : Bool). reads heading (e ∷ h) p tag root
         || (holds_at heading Patterns p root tag h && not (gives_up root e || b))) is_lost;

@@ -32,9 +32,7 @@ pub use pages::{count_initialised, has_values, is_initialised, is_null};
 pub use reach::{completes, publishes_for, reaches};
 pub use readings::{Reading, readings_at};
 pub use registers::{named_scope, register_values, vmid_of};
-pub use roots::{
-    Declared, first_pages, given_up, gives_up, is_root, lock_of, root_at, roots_of,
-};
+pub use roots::{Declared, first_pages, given_up, gives_up, is_root, lock_of, root_at, roots_of};
 pub use rules::{
     bad_operand, lock_busy, lock_not_mine, no_root, null_written, root_in_use, tag_conflict,
     unsynced_vmid, without_lock, wrong_world,

@@ -5,8 +5,9 @@
 
 ghost use Rattle.std.specs.Prelude.{◌≡◌, not, ◌&&◌, ◌||◌, nat_le, nat_lt, ◌==◌, ◌%◌, length, flat_map, option_and_then};
 ghost use Rattle.std.specs.Prelude.{◌∷◌, ◌++◌, [], List, option_to_list, reverse, IfOk, OnOk};
+ghost use Rattle.bbm_regimes.specs.declared.regime.Reg.TheVariants.{Ttbr0El1};
 ghost use Rattle.bbm_regimes.specs.declared.regime.Tag.{Tag as TheTag};
-ghost use Rattle.bbm_events.specs.Heading.{Heading};
+ghost use Rattle.bbm_events.specs.Heading.{Heading, nulls_everywhere};
 ghost use Rattle.bbm_events.specs.declared.event.Event.{Event};
 ghost use Rattle.bbm_rules.specs.Claims.{Trust};
 ghost use Rattle.bbm_rules.specs.Lists as lists;
@@ -103,7 +104,7 @@ pub fn null_written(events: &[Event], event: &Event) -> Option<u64>
 
 /// Whether a null page may be the base of the register: of TTBR0_EL1, and from version 5 on of each.
 fn may_be_null(header: &Header, reg: Reg) -> bool
-    ensures { (trust : Trust) (h : List Noted) → result ≡ spec.may_be_null header.now trust h reg }
+    ensures { result ≡ (nulls_everywhere header.now.version || registers.same_reg reg Ttbr0El1) }
 {
     match reg {
         Reg::Ttbr0El1 => true,
@@ -114,14 +115,17 @@ fn may_be_null(header: &Header, reg: Reg) -> bool
 /// Whether the base of a register value is neither the first page of a declared root of the register's kind nor a null
 /// page that counts in the register.
 fn is_rootless(header: &Header, events: &[Event], reg: Reg, base: u64) -> bool
-    ensures { (trust : Trust) (h : List Noted) → result
-        ≡ not (roots.is_root (reverse events.now) (registers.kind_of_reg reg) base
-        || (spec.may_be_null header.now trust h reg && pages.is_null (reverse events.now) base)) }
+    ensures { result ≡ not (roots.is_root (reverse events.now) (registers.kind_of_reg reg) base
+        || ((nulls_everywhere header.now.version || registers.same_reg reg Ttbr0El1)
+        && pages.is_null (reverse events.now) base)) }
 {
     if is_root(events, kind_of(reg), base) {
-        return false;
+        false
+    } else if may_be_null(header, reg) {
+        !is_null(events, base)
+    } else {
+        true
     }
-    !(may_be_null(header, reg) && is_null(events, base))
 }
 
 /// 11, no-root: a register is given a value other than 0 whose base is neither the first page of a declared root of
@@ -308,9 +312,7 @@ fn conflicts<E: TagEvidence>(
     let roots = roots_of(alloc, after)?;
     let readings = readings_at(alloc, header, after, pe)?;
     let given_up = given_up(alloc, after)?;
-    keepers_of_each(
-        alloc, evidence, header, after, &readings, &roots, &given_up,
-    )
+    keepers_of_each(alloc, evidence, header, after, &readings, &roots, &given_up)
 }
 
 /// 12, tag-conflict: after the register write a tag is readable at its PE for one root, and another root holds it, or

@@ -208,7 +208,15 @@ fn held_among<E: TagEvidence>(
 {
     let mut set = TagSet::None;
     for tag in tags {
-        let holds = keeps_tag(alloc, evidence, header, events, root, *tag, Keeper::Declared)?;
+        let holds = keeps_tag(
+            alloc,
+            evidence,
+            header,
+            events,
+            root,
+            *tag,
+            Keeper::Declared,
+        )?;
         set = with_held(set, *tag, holds);
     }
     Ok(set)
