@@ -20,7 +20,7 @@ use bbm_histories::{
 use bbm_rules::{
     law_answered, law_childless, law_each_rule, law_equality_tests, law_held, law_last_valid,
     law_notes, law_notes_keep_the_events, law_readable_tag, law_root, law_root_pages, law_seen,
-    law_tag_set, law_tree,
+    law_tag_held, law_tag_kept, law_tag_left, law_tag_set, law_tree,
 };
 use bbm_tlbi_scope::{law_cover_takes, law_whole_tag_takes};
 
@@ -51,6 +51,9 @@ fn known()
     law_root_pages();
     law_same_core_is_equal();
     law_seen();
+    law_tag_held();
+    law_tag_kept();
+    law_tag_left();
     law_tag_set();
     law_tags();
     law_tree();
