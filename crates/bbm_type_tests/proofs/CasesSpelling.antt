@@ -42,7 +42,9 @@ pub headers : Gives header_cause (
     ∷ ("bbmlog 3 hyp 128 1 1 1 -", None)
     ∷ ("bbmlog 4 kernel 128 0 2 ttbr1 cnp", None)
     ∷ ("bbmlog 5 hyp 128 1 1 1", None)
+    ∷ ("bbmlog 5 hyp 2 1 1 1 cnp unflushed", None)
     ∷ ("bbmlog 5 kernel 2 0 0 ttbr1 cnp", None)
+    ∷ ("bbmlog 5 kernel 2 1 1 ttbr0 unflushed", None)
     ∷ ("", Some NoMagic)
     ∷ ("bbmlog", Some NoMagic)
     ∷ ("bbmlog  1 hyp 2 1 1 1", Some NoMagic)
@@ -70,6 +72,7 @@ pub headers : Gives header_cause (
     ∷ ("bbmlog 3 hyp 129 1 1 1 -", Some BadHeader)
     ∷ ("bbmlog 3 hyp 0 1 1 1 -", Some BadHeader)
     ∷ ("bbmlog 4 kernel 2 1 1 ttbr0", Some BadHeader)
+    ∷ ("bbmlog 4 hyp 2 1 1 1 unflushed", Some BadHeader)
     ∷ ("bbmlog 4 hyp 2 1 1 1 cnp unflushed", Some BadHeader)
     ∷ ("bbmlog 5 hyp 129 1 1 1", Some BadHeader)
     ∷ ("bbmlog 5 hyp 2 1 1", Some BadHeader)
@@ -79,7 +82,10 @@ pub headers : Gives header_cause (
     ∷ ("bbmlog 5 hyp 2 1 1 1  cnp", Some BadHeader)
     ∷ ("bbmlog 5 hyp 2 1 1 1 cnp ", Some BadHeader)
     ∷ ("bbmlog 5 hyp 2 1 1 1 cnp cnp", Some BadHeader)
-    ∷ ("bbmlog 5 hyp 2 1 1 1 cnp unflushed", Some BadHeader)
+    ∷ ("bbmlog 5 hyp 2 1 1 1 unflushed cnp", Some BadHeader)
+    ∷ ("bbmlog 5 hyp 2 1 1 1 unflushed unflushed", Some BadHeader)
+    ∷ ("bbmlog 5 hyp 2 1 1 1 unflushed ", Some BadHeader)
+    ∷ ("bbmlog 5 hyp 2 1 1 1 unflush", Some BadHeader)
     ∷ ("bbmlog 5 hyp 2 1 1 1 isolated", Some BadHeader)
     ∷ ("bbmlog 5 kernel 2 1 1 ttbr1 inorder", Some BadHeader)
     ∷ [])
@@ -280,6 +286,7 @@ pub header_lines : Gives header_line (
       record (hyp 1 64 1) { world = Kernel (record { start0 = 2; start1 = 0; asid_from = from.Ttbr1 }) },
       codes "bbmlog 1 kernel 64 2 0 ttbr1",
     )
+    ∷ (record (hyp 5 2 1) { cnp = true; words = record { unflushed = true } }, codes "bbmlog 5 hyp 2 1 1 1 cnp unflushed")
     ∷ [])
 unfolding digits header_line
 header_lines = refl
