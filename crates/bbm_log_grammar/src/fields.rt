@@ -113,7 +113,13 @@ impl<'a> Fields<'a> {
     {
         let all = self.rest;
         match self.next() {
-            Some((text, rest)) => { if word == text { (true, rest) } else { (false, Fields { rest: all }) } }
+            Some((text, rest)) => {
+                if word == text {
+                    (true, rest)
+                } else {
+                    (false, Fields { rest: all })
+                }
+            }
             None => (false, Fields { rest: all }),
         }
     }

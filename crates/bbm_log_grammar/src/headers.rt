@@ -14,7 +14,7 @@ ghost use Rattle.bbm_events.specs.Lines as lines;
 use crate::fields::{Fields, found};
 use crate::values::version_of;
 use crate::words::{ASID_FROMS, CNPS};
-use bbm_events::{Header, Malformed, NO_WORDS, law_header_causes};
+use bbm_events::{Header, HeaderWords, Malformed, law_header_causes};
 use bbm_regimes::{AsidFrom, HypWorld, KernelWorld, World};
 
 /// A number of the header.
@@ -48,10 +48,23 @@ fn cnp_field<'a>(version: u8, fields: Fields<'a>) -> Result<(bool, Fields<'a>), 
     ensures shares { IfOk result (λ x. (heading.may_share version || not x.0) ≡ true) }
 {
     match version {
-        1 => Ok((false, fields)),
+        0 | 1 => Ok((false, fields)),
         2..=4 => fields.word_or(&CNPS, Malformed::BadHeader, Malformed::BadHeader),
         _ => Ok(fields.word(b"cnp")),
     }
+}
+
+/// What else the words say, and the fields after them.
+fn header_words<'a>(version: u8, fields: Fields<'a>) -> (HeaderWords, Fields<'a>)
+    ensures words { result ≡ lines.header_words version fields.entry }
+    ensures fit { heading.words_ok version result.0 ≡ true }
+{
+    let (unflushed, fields) = if version >= 5 {
+        fields.word(b"unflushed")
+    } else {
+        (false, fields)
+    };
+    (HeaderWords { unflushed }, fields)
 }
 
 /// Whether a log of this version can have so many PEs.
@@ -102,7 +115,7 @@ fn kernel_world(start0: u64, start1: u64, asid_from: AsidFrom) -> Option<World>
     }
 }
 
-/// The header, where it has as many PEs as its version allows and no field is left.
+/// The header, where it has as many PEs as its version allows and no field is left behind its words.
 fn checked(
     version: u8,
     pes: u64,
@@ -113,9 +126,15 @@ fn checked(
     requires version { heading.is_version version ≡ true }
     requires shares { (heading.may_share version || not cnp) ≡ true }
     requires world { world_ok world ≡ true }
-    ensures { result ≡ lines.checked (record {
-        version = version; pes = pes; cnp = cnp; words = heading.no_words; world = world }) fields.entry }
+    ensures { let words = lines.header_words version fields.entry in result ≡ lines.checked (record {
+      version = version;
+      pes = pes;
+      cnp = cnp;
+      words = words.0;
+      world = world;
+    }) words.1 }
 {
+    let (words, fields) = header_words(version, fields);
     if !are_pes(version, pes) || fields.next().is_some() {
         return Err(Malformed::BadHeader);
     }
@@ -123,12 +142,12 @@ fn checked(
         version,
         pes: pes as u8,
         cnp,
-        words: NO_WORDS,
+        words,
         world,
     })
 }
 
-/// The header in this world, where there is one, the version allows so many PEs and no field is left.
+/// The header in this world, where there is one, the version allows so many PEs and no field is left behind the words.
 #[tactic(auto, using(crate::proofs::WorldFaults::unfit_world))]
 fn header_in(
     version: u8,
@@ -141,8 +160,13 @@ fn header_in(
     requires shares { (heading.may_share version || not cnp) ≡ true }
     requires world { IfSome world (λ it. world_ok it ≡ true) }
     ensures { (it : TheWorld) → world ≡ lines.passing world_ok (Some it)
-        → result ≡ lines.checked (record {
-        version = version; pes = pes; cnp = cnp; words = heading.no_words; world = it }) fields.entry }
+        → let words = lines.header_words version fields.entry in result ≡ lines.checked (record {
+          version = version;
+          pes = pes;
+          cnp = cnp;
+          words = words.0;
+          world = it;
+        }) words.1 }
 {
     match world {
         Some(world) => checked(version, pes, cnp, world, fields),

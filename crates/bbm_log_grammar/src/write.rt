@@ -9,8 +9,8 @@ ghost use Rattle.bbm_events.specs.declared.event.Event.TheVariants as event;
 ghost use Rattle.bbm_events.specs.Spelling.{hex, joined};
 ghost use Rattle.bbm_events.specs.Words as words;
 ghost use Rattle.bbm_events.specs.Fits.{item_fits};
-ghost use Rattle.bbm_events.specs.Lines.{header_of, item_of, header_fields, cnp_fields, header_line, item_line};
-ghost use Rattle.bbm_events.specs.Lines.{lock_text, event_fields, label_fields};
+ghost use Rattle.bbm_events.specs.Lines.{header_of, item_of, header_fields, cnp_fields, word_fields, header_line};
+ghost use Rattle.bbm_events.specs.Lines.{item_line, lock_text, event_fields, label_fields};
 ghost use Rattle.bbm_regimes.specs.declared.regime.World.TheVariants.{Hyp, Kernel};
 
 use crate::spell::{add, add_decimal, add_digits};
@@ -252,12 +252,12 @@ fn cnp_text(header: &Header) -> Option<&'static [u8]>
     }
 }
 
-/// `bbmlog VERSION hyp PES EL2START S2START S2PAGES`, and what says whether TLBs are shared.
+/// `bbmlog VERSION hyp PES EL2START S2START S2PAGES`, and its words.
 fn hyp_line(out: &mut ArrayVec<u8, 200>, header: &Header, world: HypWorld)
     requires empty { out.old.items ≡ [] }
     ensures { out.new.items
         ≡ joined (codes "bbmlog" ∷ decimal header.now.version ∷ header_fields header.now.pes (Hyp world)
-        (cnp_fields header.now.version header.now.cnp)) }
+        (cnp_fields header.now.version header.now.cnp ++ word_fields header.now.words)) }
 {
     begin_header(out, header.version, b"hyp");
     add_decimal_field(out, header.pes as u64);
@@ -267,15 +267,18 @@ fn hyp_line(out: &mut ArrayVec<u8, 200>, header: &Header, world: HypWorld)
     if let Some(word) = cnp_text(header) {
         add_word_field(out, word);
     }
+    if header.words.unflushed {
+        add_word_field(out, b"unflushed");
+    }
 }
 
-/// `bbmlog VERSION kernel PES START0 START1 ASIDFROM`, and what says whether TLBs are shared.
+/// `bbmlog VERSION kernel PES START0 START1 ASIDFROM`, and its words.
 #[tactic(auto, using(crate::proofs::Short::asid_from_word_short))]
 fn kernel_line(out: &mut ArrayVec<u8, 200>, header: &Header, world: KernelWorld)
     requires empty { out.old.items ≡ [] }
     ensures { out.new.items
         ≡ joined (codes "bbmlog" ∷ decimal header.now.version ∷ header_fields header.now.pes (Kernel world)
-        (cnp_fields header.now.version header.now.cnp)) }
+        (cnp_fields header.now.version header.now.cnp ++ word_fields header.now.words)) }
 {
     begin_header(out, header.version, b"kernel");
     add_decimal_field(out, header.pes as u64);
@@ -284,6 +287,9 @@ fn kernel_line(out: &mut ArrayVec<u8, 200>, header: &Header, world: KernelWorld)
     add_word_field(out, world.asid_from.word());
     if let Some(word) = cnp_text(header) {
         add_word_field(out, word);
+    }
+    if header.words.unflushed {
+        add_word_field(out, b"unflushed");
     }
 }
 
@@ -337,7 +343,7 @@ fn any_line<const N: usize>(item: Item, out: &mut ArrayVec<u8, N>)
 
 /// Appends the line of an event, or the last line with its count, without its newline, to what stands there,
 /// which leaves room for a line. The item has to fit the header, so that it has a label only under version 3
-/// or 4. It is the line that `write_event` writes, of at most 200 bytes.
+/// or later. It is the line that `write_event` writes, of at most 200 bytes.
 pub fn append_event<const N: usize>(header: &Header, item: Item, out: &mut ArrayVec<u8, N>)
     requires room { array_vec_len out.old + 200 ≤ N }
     requires fits { item_fits header.now item ≡ true }
@@ -348,7 +354,7 @@ pub fn append_event<const N: usize>(header: &Header, item: Item, out: &mut Array
 }
 
 /// Writes the line of an event, or the last line with its count, without its newline, into an empty
-/// buffer. The item has to fit the header, so that it has a label only under version 3 or 4. Reading the
+/// buffer. The item has to fit the header, so that it has a label only under version 3 or later. Reading the
 /// line gives the item again.
 pub fn write_event(header: &Header, item: Item, out: &mut ArrayVec<u8, 200>)
     requires empty { out.old.items ≡ [] }
