@@ -29,14 +29,14 @@ no_readings heading p = by heading.world
     by (Kernel world) = rw (asids world.asid_from) refl
 
 module _ (heading : Heading) (trust : Trust) (p root : ℕ) (tag : Tag) where
-  -- what is readable is held
+  -- what is readable is kept
   pub read_is_kept : (h : List Event) → reads heading h p tag root ≡ true → kept_at heading trust p root tag h ≡ true
   read_is_kept [] e = absurd (true≢false (sym e
       ∙ ap (λ (rs : List Reading). any (λ r. same_tag r.tag tag && r.root == root) rs) (no_readings heading p)))
   read_is_kept (x ∷ h) e = or_left (reads heading (x ∷ h) p tag root) _ e
 
   module _ (equal : (g k : Tag) → (same_tag g k ≡ true) ↔ (g ≡ k)) where
-    -- what is held was readable
+    -- what is kept was readable
     was_read : (h : List Event) → In (below heading.pes) p → kept_at heading trust p root tag h ≡ true
         → In (ever_read heading root h) tag
     was_read [] among held = absurd (true≢false (sym held))
@@ -62,7 +62,7 @@ module _ (heading : Heading) (trust : Trust) (p root : ℕ) (tag : Tag) where
 
   -- ---- what waits
 
-  -- a tag that is held now, and wasn't readable since a moment, was held then
+  -- a tag that is kept now, and wasn't readable since a moment, was kept then
   kept_back : (newer before : List Event) (e : Event) → kept_at heading trust p root tag (newer ++ e ∷ before) ≡ true
       → read_since heading (length before) p tag (newer ++ e ∷ before) ≡ false
       → kept_at heading trust p root tag before ≡ true
@@ -83,7 +83,7 @@ module _ (heading : Heading) (trust : Trust) (p root : ℕ) (tag : Tag) where
       (le-leb (length before) (length rest) long) parts.0))
       parts.1
 
-  -- a tag that is held, and waits for a TLBI to take it away, was held at the issue of the TLBI
+  -- a tag that is kept, and waits for a TLBI to take it away, was kept at the issue of the TLBI
   pub kept_at_issue : (q : ℕ) (h : List Event) (t : Issued Event) → Open itself q h t → takes heading p tag h t ≡ true
       → kept_at heading trust p root tag h ≡ true
       → (reaches heading t.tlbi p ≡ true) × (takes_tag heading t.tlbi t.before tag ≡ true)
