@@ -49,10 +49,11 @@ pub use Rattle.bbm_regimes.specs.declared.regime.Tag.TheVariants.{Asid, Vmid, El
 pub use Rattle.bbm_regimes.specs.declared.regime.World.{World}
 pub use Rattle.bbm_regimes.specs.declared.regime.World.TheVariants.{Hyp, Kernel}
 pub use Rattle.bbm_roots.specs.Columns.{loads_in}
-pub use Rattle.bbm_roots.specs.Holds.{IsCalm, Marks, conflict_in, entry_bit, entry_held, has_entry, hold_in, is_clash}
-pub use Rattle.bbm_roots.specs.Holds.{is_held_under, is_hold, some_pe, tag_in, tag_key}
+pub use Rattle.bbm_roots.specs.Holds.{IsCalm, Leaves, LeavesThose, Marks, conflict_in, entry_bit, entry_kept, entry_keeps}
+pub use Rattle.bbm_roots.specs.Holds.{has_entry, hold_in, is_clash, is_kept_by, kept_in, kept_tag, keeps_in}
+pub use Rattle.bbm_roots.specs.Holds.{is_held_under, is_hold, left_in, some_pe, tag_in, tag_key}
 pub use Rattle.bbm_roots.specs.HoldsNew.{holds_asids, holds_new, holds_root, holds_under}
-pub use Rattle.bbm_roots.specs.LeastOf.{IsLeast, ReadingUpTo, TagUpTo, UpTo}
+pub use Rattle.bbm_roots.specs.LeastOf.{IsLeast, ReadingUpTo, UpTo}
 pub use Rattle.bbm_roots.specs.LoadsOf.{readings_after, other_loads, reads_at}
 pub use Rattle.bbm_roots.specs.Readings.{asid_readings, has_other, has_reading, has_tag, is_of_tag, is_other}
 pub use Rattle.bbm_roots.specs.Readings.{is_reading, own_reading, reading_at, reading_under, readings_of, readings_with}
@@ -79,7 +80,7 @@ pub use Rattle.bbm_rules.specs.Claims.{Patterns}
 pub use Rattle.bbm_rules.specs.Reach.{reaches}
 pub use Rattle.bbm_rules.specs.RegisterValues.{named_scope, register_values}
 pub use Rattle.bbm_rules.specs.Roots.{Declared, is_root, root_at, roots_of, lock_of, retired}
-pub use Rattle.bbm_rules.specs.Tags.{takes_tag, readings, loses, holds_at, holds_tag}
+pub use Rattle.bbm_rules.specs.Tags.{takes_tag, readings, loses, holds_at, holds_tag, left_at, left_tag}
 pub use Rattle.bbm_tlbi_scope.specs.ScopeTags.{takes_whole_tag}
 pub use Rattle.bbm_tlbi_scope.specs.TagSets.{HasTags}
 pub use Rattle.bbm_tlbi_scope.specs.declared.entry.TagSet.{TagSet}

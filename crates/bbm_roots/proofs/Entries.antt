@@ -2,13 +2,15 @@
 use Rattle.bbm_roots.proofs.Common.{tag_equal, ◌≡◌, ◌+◌, ◌<◌, ◌≤◌, ℕ, Bool, true, false, ◌&&◌, ◌||◌, nat_eq, List}
 use Rattle.bbm_roots.proofs.Common.{slice_get, get_or_from_slice_get, pe_in, arith, nat_tests, [], ◌∷◌, Option, Some}
 use Rattle.bbm_roots.proofs.Common.{None, cond, refl, sym, ◌∙◌, ap, take, length, list_any, lookup, false≢true}
-use Rattle.bbm_roots.proofs.Common.{take_all, IndexMap, get, values, Tag, entry_bit, entry_held, is_held_under}
-use Rattle.bbm_roots.proofs.Common.{hold_in, tag_in, tag_key, same_tag, has_other, is_reading, is_other, Held, Reading}
-use Rattle.bbm_roots.proofs.Common.{first_true}
+use Rattle.bbm_roots.proofs.Common.{take_all, IndexMap, get, values, Tag, entry_bit, entry_kept, is_held_under, is_of_tag}
+use Rattle.bbm_roots.proofs.Common.{hold_in, tag_in, tag_key, same_tag, has_other, is_reading, Held, Reading}
+use Rattle.bbm_roots.proofs.Common.{not, entry_keeps, keeps_in, kept_in, kept_tag, LeavesThose, Marks, has_tag, has_reading}
+use Rattle.bbm_roots.proofs.Common.{eq-eqb, eqb-true, first_true, left_in, same_flag, same_swapped, subst, Leaves}
 use Rattle.std.specs.List.{AllByRecursion, IsDistinct}
 use Rattle.std.specs.Map.{keys_of, values_of}
-use Rattle.bbm_roots.specs.Holds.{entry_keeps, is_held_by, kept_in}
-use Rattle.bbm_roots.proofs.Tests.{as-same, any-next, any-front}
+use Rattle.bbm_roots.specs.Holds.{is_kept_somewhere, keeps_other}
+use Rattle.bbm_roots.specs.Keyed.{OthersStay}
+use Rattle.bbm_roots.proofs.Tests.{and_right, as-same, any-next, any-front, any-weaker, or-split}
 
 -- what an entry that a key finds passes, one of the entries does
 found-among : (entry : Option Held → Bool) (test : Held → Bool) → entry None ≡ false → ((x : Held) → entry (Some x) ≡ true → test x ≡ true) →
@@ -26,13 +28,65 @@ held-among hs g p =
     found-among (entry_keeps g p) (is_held_as g) refl (λ (x : Held) e. first_true (same_tag x.tag g) (pe_in x.pes p) e)
     (nat_eq (tag_key g)) hs.entries
 
--- what a root holds is held
-pub held-kept : {S : Type 0} (hs : IndexMap ℕ Held S) (g : Tag) (r p : ℕ) → hold_in hs g r p ≡ true → kept_in hs g p ≡ true
-held-kept hs g r p = by (get nat_eq hs (tag_key g))
+-- what a root keeps is kept
+pub by-root : {S : Type 0} (hs : IndexMap ℕ Held S) (l : Bool) (g : Tag) (r p : ℕ) → keeps_in hs l g r p ≡ true
+    → kept_in hs g p ≡ true
+by-root hs l g r p = by (get nat_eq hs (tag_key g))
   where
-    by : (o : Option Held) → entry_bit g r p o ≡ true → entry_keeps g p o ≡ true
+    by : (o : Option Held) → entry_bit l g r p o ≡ true → entry_keeps g p o ≡ true
     by None e = e
     by (Some held) e = grind (arith)
+
+-- and a root keeps what is kept
+pub some-root : {S : Type 0} (hs : IndexMap ℕ Held S) (g : Tag) (p : ℕ) → kept_in hs g p ≡ true
+    → (l : Bool) × (r : ℕ) × (keeps_in hs l g r p ≡ true)
+some-root hs g p = by (get nat_eq hs (tag_key g))
+  where
+    own : (l : Bool) → same_flag l l ≡ true
+    own true = refl
+    own false = refl
+
+    by : (o : Option Held) → entry_keeps g p o ≡ true → (l : Bool) × (r : ℕ) × (entry_bit l g r p o ≡ true)
+    by None e = absurd (false≢true e)
+    by (Some held) e = (
+      held.left,
+      held.root,
+      rw (first_true (same_tag held.tag g) (pe_in held.pes p) e, eq-eqb held.root held.root refl, own held.left)
+          (and_right (same_tag held.tag g) (pe_in held.pes p) e),
+    )
+
+-- where each root keeps no more, no more is kept
+pub no-more : {S T : Type 0} (old : IndexMap ℕ Held S) (new : IndexMap ℕ Held T) (g : Tag) (p : ℕ)
+    → ((l : Bool) (r : ℕ) → keeps_in new l g r p ≡ true → keeps_in old l g r p ≡ true)
+    → kept_in new g p ≡ true → kept_in old g p ≡ true
+no-more old new g p less e = let s = some-root new g p e in by-root old s.0 g s.1 p (less s.0 s.1 s.2)
+
+-- what a root leaves was held
+pub left-kept : {S : Type 0} (old new : IndexMap ℕ Held S) (page : ℕ) (test : Tag → Bool) → LeavesThose old new page test
+    → (g : Tag) (p : ℕ) → kept_in new g p ≡ true → kept_in old g p ≡ true
+left-kept old new page test leaves g p e = let s = some-root new g p e in by s.0 s.1 s.2
+  where
+    by : (l : Bool) (r : ℕ) → keeps_in new l g r p ≡ true → kept_in old g p ≡ true
+    by false r k = by-root old false g r p (first_true (hold_in old g r p) _ (sym (leaves.held g r p) ∙ k))
+    by true r k = or-split (left_in old g r p) _ (kept_in old g p ≡ true) (by-root old true g r p)
+        (λ a. by-root old false g r p (and_right (nat_eq r page && test g) (hold_in old g r p) a))
+        (sym (leaves.left g r p) ∙ k)
+
+-- what is held after the readings of a PE are marked was kept, or is one of them
+pub marked-kept : {S : Type 0} (old new : IndexMap ℕ Held S) (pe : ℕ) (seen : List Reading) → Marks old new pe seen
+    → (g : Tag) (p : ℕ) → (nat_eq p pe && has_tag g seen) ≡ false → kept_in new g p ≡ true → kept_in old g p ≡ true
+marked-kept old new pe seen marks g p none e = let s = some-root new g p e in by s.0 s.1 s.2
+  where
+    read : (r : ℕ) → has_reading g r seen ≡ true → has_tag g seen ≡ true
+    read r = any-weaker (is_reading g r) (is_of_tag g) (λ (x : Reading) k. first_true (same_tag x.tag g) (nat_eq x.root r) k) seen
+
+    by : (l : Bool) (r : ℕ) → keeps_in new l g r p ≡ true → kept_in old g p ≡ true
+    by false r k = or-split (hold_in old g r p) (nat_eq p pe && has_reading g r seen) (kept_in old g p ≡ true)
+        (by-root old false g r p)
+        (λ a. absurd (false≢true (sym none ∙ rw (first_true (nat_eq p pe) (has_reading g r seen) a)
+        (read r (and_right (nat_eq p pe) (has_reading g r seen) a)))))
+        (sym (marks.held g r p) ∙ k)
+    by true r k = by-root old true g r p (sym (marks.left g r p) ∙ k)
 
 module _ (n root : ℕ) where
   -- whether an entry with its key shows that the root holds the tag
@@ -43,12 +97,12 @@ module _ (n root : ℕ) where
       list_any (shows g) es ≡ false
   none-shows g key [] same apart = refl
   none-shows g key (e ∷ es) same apart =
-      ap (λ (b : Bool). (b && is_held_by n g root e.1) || list_any (shows g) es) (ap (λ (q : ℕ). nat_eq q e.0) same ∙ apart.0)
+      ap (λ (b : Bool). (b && is_kept_somewhere false n g root e.1) || list_any (shows g) es) (ap (λ (q : ℕ). nat_eq q e.0) same ∙ apart.0)
       ∙ none-shows g key es same apart.1
 
   -- where no key is twice there, an entry shows what the one that is found under the tag's key says
   shown-among : (g : Tag) (es : List (ℕ × Held)) → IsDistinct nat_eq (keys_of es) →
-      list_any (shows g) es ≡ entry_held n g root (lookup (nat_eq (tag_key g)) es)
+      list_any (shows g) es ≡ entry_kept false n g root (lookup (nat_eq (tag_key g)) es)
   unfolding IsDistinct
   shown-among g [] distinct = refl
   shown-among g (e ∷ es) distinct =
@@ -84,11 +138,64 @@ reading-clash y seen other x =
     λ e. as-same (λ g r. has_other g r seen ≡ true) y.tag x.tag y.root x.root e other in
     grind (arith)
 
--- the other root that holds the reading's tag
-pub holder-clash : {S : Type 0} (hs : IndexMap ℕ Held S) (n : ℕ) (y : Reading) (root : ℕ) → nat_eq root y.root ≡ false →
-    ((r : ℕ) → tag_in hs n y.tag r ≡ nat_eq root r) → (x : Reading) →
-    (is_other x.tag x.root y && tag_in hs n x.tag x.root) ≡ (same_tag y.tag x.tag && nat_eq root x.root)
-holder-clash hs n y root apart holder x =
-    let there : same_tag y.tag x.tag ≡ true → tag_in hs n x.tag x.root ≡ nat_eq root x.root =
-    λ e. ap (λ (g : Tag). tag_in hs n g x.root) (sym (tag_equal y.tag x.tag e)) ∙ holder x.root in
-    grind (arith, nat_tests)
+-- the roots that keep the reading's tag and aren't the reading's that holds it
+pub keeper-clash : {S : Type 0} (hs : IndexMap ℕ Held S) (n : ℕ) (y : Reading) (keeps : ℕ → Bool) →
+    ((r : ℕ) → ((not (nat_eq y.root r) && tag_in hs n y.tag r) || kept_tag hs true n y.tag r) ≡ keeps r) →
+    (x : Reading) → keeps_other hs n y x ≡ (same_tag y.tag x.tag && keeps x.root)
+keeper-clash hs n y keeps is x = by (same_tag y.tag x.tag) refl
+  where
+    by : (b : Bool) → same_tag y.tag x.tag ≡ b → keeps_other hs n y x ≡ (same_tag y.tag x.tag && keeps x.root)
+    by false e = rw e refl
+    by true e =
+        rw e (ap (λ (g : Tag). (not (nat_eq y.root x.root) && tag_in hs n g x.root) || kept_tag hs true n g x.root)
+        (sym (tag_equal y.tag x.tag e)) ∙ is x.root)
+
+-- what a root leaves of the tags that pass a test, and then under one key
+pub left-under : {S : Type 0} (old now new : IndexMap ℕ Held S) (root key : ℕ) (test : Tag → Bool) → LeavesThose old now root test →
+    OthersStay key now new →
+    ((g : Tag) (r p : ℕ) → entry_bit false g r p (get nat_eq new key) ≡ (entry_bit false g r p (get nat_eq now key) && not (nat_eq r root))) →
+    ((g : Tag) (r p : ℕ) → entry_bit true g r p (get nat_eq new key)
+    ≡ (entry_bit true g r p (get nat_eq now key) || (nat_eq r root && entry_bit false g r p (get nat_eq now key)))) →
+    LeavesThose old new root (λ g. test g || nat_eq (tag_key g) key)
+left-under {S} old now new root key test before others held left = record {
+  held = λ g r p. let was = before.held g r p in let is = held-new g r p in grind (arith);
+  left = λ g r p. let was = before.left g r p in let had = before.held g r p in let is = left-new g r p in grind (arith);
+}
+  where
+    held-new : (g : Tag) (r p : ℕ) → hold_in new g r p
+        ≡ cond (nat_eq (tag_key g) key) (hold_in now g r p && not (nat_eq r root)) (hold_in now g r p)
+    held-new g r p = by (nat_eq (tag_key g) key) refl
+      where
+        by : (b : Bool) → nat_eq (tag_key g) key ≡ b
+            → hold_in new g r p ≡ cond b (hold_in now g r p && not (nat_eq r root)) (hold_in now g r p)
+        by true e = subst (λ (k : ℕ). entry_bit false g r p (get nat_eq new k)
+            ≡ (entry_bit false g r p (get nat_eq now k) && not (nat_eq r root))) (sym (eqb-true (tag_key g) key e)) (held g r p)
+        by false e = ap (entry_bit false g r p) (others (tag_key g) (same_swapped key (tag_key g) ∙ e))
+
+    left-new : (g : Tag) (r p : ℕ) → left_in new g r p ≡ cond (nat_eq (tag_key g) key)
+        (left_in now g r p || (nat_eq r root && hold_in now g r p)) (left_in now g r p)
+    left-new g r p = by (nat_eq (tag_key g) key) refl
+      where
+        by : (b : Bool) → nat_eq (tag_key g) key ≡ b
+            → left_in new g r p ≡ cond b (left_in now g r p || (nat_eq r root && hold_in now g r p)) (left_in now g r p)
+        by true e = subst (λ (k : ℕ). entry_bit true g r p (get nat_eq new k) ≡ (entry_bit true g r p (get nat_eq now k)
+            || (nat_eq r root && entry_bit false g r p (get nat_eq now k)))) (sym (eqb-true (tag_key g) key e)) (left g r p)
+        by false e = ap (entry_bit true g r p) (others (tag_key g) (same_swapped key (tag_key g) ∙ e))
+
+pub leaves-same : {S : Type 0} (old new : IndexMap ℕ Held S) (root : ℕ) (test other : Tag → Bool) → ((g : Tag) → other g ≡ test g) →
+    LeavesThose old new root test → LeavesThose old new root other
+leaves-same old new root test other same leaves = record {
+  held = λ g r p. leaves.held g r p ∙ ap (λ (b : Bool). hold_in old g r p && not (nat_eq r root && b)) (sym (same g));
+  left = λ g r p. leaves.left g r p ∙ ap (λ (b : Bool). left_in old g r p || ((nat_eq r root && b) && hold_in old g r p)) (sym (same g));
+}
+
+-- where each tag that the root holds passes the test, it leaves all
+pub leaves-all : {S : Type 0} (old new : IndexMap ℕ Held S) (root : ℕ) (test : Tag → Bool) → LeavesThose old new root test →
+    ((g : Tag) (p : ℕ) → hold_in old g root p ≡ true → test g ≡ true) → Leaves old new root
+leaves-all old new root test leaves all = record {
+  held = λ g r p. let is = leaves.held g r p in let passes = passes g r p in grind (arith);
+  left = λ g r p. let is = leaves.left g r p in let passes = passes g r p in grind (arith);
+}
+  where
+    passes : (g : Tag) (r p : ℕ) → nat_eq r root ≡ true → hold_in old g r p ≡ true → test g ≡ true
+    passes g r p e held = all g p (ap (λ (n : ℕ). hold_in old g n p) (sym (eqb-true r root e)) ∙ held)

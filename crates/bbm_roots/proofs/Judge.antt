@@ -1,15 +1,14 @@
 -- The least rule that an event breaks.
 use Rattle.bbm_roots.proofs.Common.{AreListed, Laws, Patterns, Stands, Roots, holder_at}
-use Rattle.bbm_rules.proofs.Common.{◌≡◌, ℕ, ◌<◌, Bool, true, false, not, ◌&&◌, ◌==◌, cond, nat_le, length, ◌≤◌, ◌↔◌}
+use Rattle.bbm_rules.proofs.Common.{◌≡◌, ℕ, ◌<◌, Bool, true, false, not, ◌&&◌, ◌==◌, cond}
 use Rattle.bbm_rules.proofs.Common.{Result, Ok, List, ◌∷◌, Option, Some, None, refl, sym, ap, ◌∙◌, arith, true≢false}
-use Rattle.bbm_rules.proofs.Common.{option_map_or, eq-eqb, eqb-true, le-leb, leb-true, ne_eqb, result_ok}
+use Rattle.bbm_rules.proofs.Common.{option_map_or, eq-eqb, eqb-true, ne_eqb, result_ok}
 use Rattle.bbm_rules.proofs.Common.{scope_of, of_world, lacks_vmid, named_scope, World, Scope, Root}
 use Rattle.bbm_rules.proofs.Common.{Reg, TlbiOp, Heading, Event, Dsb, Dmb, Isb, Tlbi, Msr, Lock, Unlock, Unroot, Breach}
-use Rattle.bbm_rules.proofs.Common.{noted, holder_of, if_so, is_that, Declared, is_root, root_at, roots_of}
+use Rattle.bbm_rules.proofs.Common.{noted, holder_of, if_so, is_that, Declared, is_root, root_at}
 use Rattle.std.specs.Option.{is_none}
 use Rattle.bbm_barriers.specs.declared.Dsb.{Dsb as Barrier}
 use Rattle.bbm_locks.specs.declared.locks.Locks.{Locks}
-use Rattle.bbm_regimes.specs.declared.regime.Which.TheVariants.{Roots as Roots'}
 use Rattle.bbm_tlbi_scope.specs.declared.scope.BadOperand.{BadOperand as BadOperandOf}
 use Rattle.bbm_rules.specs.Broken.{broken}
 use Rattle.bbm_rules.specs.Rules as rules
@@ -92,6 +91,7 @@ relocked old locks listed same = record {
     count = s.count;
     locks = s.locks;
     holds = s.holds;
+    left = s.left;
     inside = s.inside;
     pendings = s.pendings;
     holders = λ lock. same lock ∙ s.holders lock;

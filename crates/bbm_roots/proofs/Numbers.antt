@@ -1,5 +1,5 @@
 -- The numbers of a list of values: one, or several.
-use Rattle.bbm_roots.proofs.Common.{◌≡◌, ℕ, ◌<◌, Bool, true, false, ◌&&◌, nat_eq, nat_lt, List, [], ◌∷◌, ◌∙◌, Option}
+use Rattle.bbm_roots.proofs.Common.{◌≡◌, ℕ, ◌<◌, Bool, false, ◌&&◌, nat_eq, nat_lt, List, [], ◌∷◌, ◌∙◌, Option}
 use Rattle.bbm_roots.proofs.Common.{map, tag_number, Event, load_in, Some, None, length, cond, subst, slice_index_or}
 use Rattle.bbm_roots.proofs.Common.{list_all, numbered}
 use Rattle.bbm_roots.proofs.Common.{refl, sym, ap, arith, false≢true, eq-eqb, ltb-true, ◌==◌, Reg, IsLeast, UpTo}

@@ -8,6 +8,7 @@ use Rattle.bbm_events.specs.declared.event.Event.TheVariants.{Dmb, Init, Null, W
 use Rattle.bbm_locks.specs.Holders.{holder_at}
 use Rattle.bbm_rules.specs.Broken.{broken}
 use Rattle.bbm_rules.specs.Locks.{holder_of}
+use Rattle.bbm_rules.specs.Roots.{gives_up}
 use Rattle.bbm_roots.specs.RootChanges.{concerns}
 use Rattle.bbm_roots.proofs.Issued.{named-broadcast, takes-none}
 use Rattle.bbm_roots.proofs.Steps.{kept-stands}
@@ -16,12 +17,12 @@ module _ {roots : Roots} {heading : Heading} {h : List Event} (s : Stands roots 
   left : (e : Event) → broken heading Patterns h e ≡ None →
       ((lock : ℕ) → holder_at roots.locks lock ≡ holder_of (e ∷ h) lock) → ((p : ℕ) (reg : Reg) → loads_after (e ∷ h) p reg ≡ loads_after h p reg) →
       ((p : ℕ) (reg : Reg) → register_values (e ∷ h) p reg ≡ register_values h p reg) → roots_of (e ∷ h) ≡ roots_of h →
-      ((g : Tag) (p : ℕ) → loses heading Patterns p g e h ≡ false) →
+      ((r : ℕ) → gives_up r e ≡ false) → ((g : Tag) (p : ℕ) → loses heading Patterns p g e h ≡ false) →
       ((q : ℕ) (b : Bool) (g : Tag) (p : ℕ) → tag_waits_after heading p g q b e h ≡ tag_waits heading p g q b h) →
       Stands roots heading (e ∷ h)
-  left e keeps holders loads values same none waits =
+  left e keeps holders loads values same ungiven none waits =
       kept-stands roots s e keeps refl holders refl refl refl (λ p. loads p (first_reg heading.world)) (λ p. loads p (second_reg heading.world))
-      values none waits (λ page. rw same (s.declared page)) (rw same s.count) (λ known page. rw same (s.locks known page))
+      values ungiven none waits (λ page. rw same (s.declared page)) (rw same s.count) (λ known page. rw same (s.locks known page))
 
   -- a TLBI that reaches no PE, or names no scope
   unreached : (pe : ℕ) (op : TlbiOp) (xt : ℕ) (q : ℕ) (b : Bool) (g : Tag) (p : ℕ) → concerns heading h (Tlbi pe op xt) ≡ false →
@@ -44,14 +45,14 @@ module _ {roots : Roots} {heading : Heading} {h : List Event} (s : Stands roots 
 
   pub others : (e : Event) → concerns heading h e ≡ false → broken heading Patterns h e ≡ None → Stands roots heading (e ∷ h)
   others (Init pe page) k keeps =
-      left (Init pe page) keeps s.holders (λ p reg. refl) (λ p reg. refl) refl (λ g p. refl) (λ q b g p. refl)
+      left (Init pe page) keeps s.holders (λ p reg. refl) (λ p reg. refl) refl (λ r. refl) (λ g p. refl) (λ q b g p. refl)
   others (Null pe page) k keeps =
-      left (Null pe page) keeps s.holders (λ p reg. refl) (λ p reg. refl) refl (λ g p. refl) (λ q b g p. refl)
+      left (Null pe page) keeps s.holders (λ p reg. refl) (λ p reg. refl) refl (λ r. refl) (λ g p. refl) (λ q b g p. refl)
   others (Write pe at v) k keeps =
-      left (Write pe at v) keeps s.holders (λ p reg. refl) (λ p reg. refl) refl (λ g p. refl) (λ q b g p. refl)
+      left (Write pe at v) keeps s.holders (λ p reg. refl) (λ p reg. refl) refl (λ r. refl) (λ g p. refl) (λ q b g p. refl)
   others (Dmb pe dsb) k keeps =
-      left (Dmb pe dsb) keeps s.holders (λ p reg. refl) (λ p reg. refl) refl (λ g p. refl) (λ q b g p. refl)
+      left (Dmb pe dsb) keeps s.holders (λ p reg. refl) (λ p reg. refl) refl (λ r. refl) (λ g p. refl) (λ q b g p. refl)
   others (Tlbi pe op xt) k keeps =
-      left (Tlbi pe op xt) keeps s.holders (λ p reg. refl) (λ p reg. refl) refl (λ g p. refl)
+      left (Tlbi pe op xt) keeps s.holders (λ p reg. refl) (λ p reg. refl) refl (λ r. refl) (λ g p. refl)
       (λ q b g p. unreached pe op xt q b g p k)
   others e k keeps = absurd (false≢true (sym k))

@@ -1,7 +1,7 @@
 -- The declared roots of a history: how many there are, and the kind and the lock of the one of a page.
 use Rattle.bbm_roots.proofs.Common.{◌≡◌, ℕ, ◌+◌, Bool, true, false, not, ◌&&◌, nat_eq, List, [], ◌∷◌, Option, nat_tests}
 use Rattle.bbm_roots.proofs.Common.{option_and_then, Event, Root, Unroot, Declared, is_root, lock_of, retired, root_at}
-use Rattle.bbm_roots.proofs.Common.{roots_of, None, is_some, length, cond, refl, ◌∙◌, ap, IsSome, arith, list_any}
+use Rattle.bbm_roots.proofs.Common.{roots_of, None, length, cond, refl, ◌∙◌, ap, IsSome, arith, list_any}
 use Rattle.bbm_roots.proofs.Common.{false≢true, Kind, Some, same_kind}
 use Rattle.std.proofs.Common.{find}
 use Rattle.bbm_rules.specs.Roots.{is_at}

@@ -4,7 +4,7 @@ use Rattle.bbm_roots.proofs.Common.{FromTtbr0, FromTtbr1, El2Tag, Ttbr1Tag, Head
 use Rattle.bbm_roots.proofs.Common.{any_finds, other_loads, ◌++◌, Option, Some, None, cond, refl, sym, ◌∙◌, ap}
 use Rattle.bbm_roots.proofs.Common.{list_any, flat_map, false≢true, eq-eqb, not-true, list_any-append, IndexMap, get}
 use Rattle.bbm_roots.proofs.Common.{AsidFrom, El2, S2, Ttbr0, Ttbr1, Reg, Tag, Vmid, Asid, World, Hyp, Kernel}
-use Rattle.bbm_roots.proofs.Common.{first_true, loads_in, hold_in, entry_bit, entry_held, tag_key, conflict_in}
+use Rattle.bbm_roots.proofs.Common.{first_true, loads_in, hold_in, entry_bit, entry_kept, kept_tag, has_tag, is_of_tag, tag_key, conflict_in}
 use Rattle.bbm_roots.proofs.Common.{holds_root, holds_asids, holds_under, holds_new, readings_after, asid_readings}
 use Rattle.bbm_roots.proofs.Common.{readings_of, readings_with, own_reading, reading_at, has_reading, has_other}
 use Rattle.bbm_roots.proofs.Common.{is_reading, is_other, same_tag, arith, is_first, Stands, world_of, pes_of, Held}
@@ -17,7 +17,7 @@ use Rattle.bbm_roots.proofs.Readable.{readings-same}
 use Rattle.bbm_roots.proofs.Steps.{reads-holds}
 use Rattle.bbm_roots.specs.HoldsNew.{kernel_tag, own_tag}
 use Rattle.bbm_roots.specs.RootJudgements.{IsShared}
-use Rattle.bbm_roots.proofs.Conflicts.{tag_in-is}
+use Rattle.bbm_roots.proofs.Conflicts.{kept_tag-is}
 
 -- the tags that a new value makes readable anew, of the first register of the world or the second, by the values of the
 -- other register
@@ -99,16 +99,20 @@ module _ {S : Type 0} (hs : IndexMap ℕ Held S) (pe : ℕ) (g : Tag) (r : ℕ) 
   anew-held (Kernel w) true load other = kernel-held w.asid_from true load other
   anew-held (Kernel w) false load other = kernel-held w.asid_from false load other
 
--- an entry is of one root
-pub one-root : (n : ℕ) (g : Tag) (r s p : ℕ) (o : Option Held) → entry_bit g r p o ≡ true → nat_eq r s ≡ false →
-    (entry_held n g s o ≡ false) × ((q : ℕ) → entry_bit g s q o ≡ false)
+-- an entry is of one root, which holds its tag or left it
+pub one-root : (n : ℕ) (g : Tag) (r s p : ℕ) (o : Option Held) → entry_bit false g r p o ≡ true → nat_eq r s ≡ false →
+    (entry_kept false n g s o ≡ false) × ((q : ℕ) → entry_bit false g s q o ≡ false)
 one-root n g r s p o e apart = (grind (arith, nat_tests), λ q. grind (arith, nat_tests))
+
+pub none-left : (n : ℕ) (g : Tag) (r s p : ℕ) (o : Option Held) → entry_bit false g r p o ≡ true →
+    (entry_kept true n g s o ≡ false) × ((q : ℕ) → entry_bit true g s q o ≡ false)
+none-left n g r s p o e = (grind (arith), λ q. grind (arith))
 
 -- where all that is then readable is held at some PE, nothing is in conflict
 pub no-clash : {S : Type 0} (hs : IndexMap ℕ Held S) (seen : List Reading) →
     ((g : Tag) (r : ℕ) → has_reading g r seen ≡ true → (q : ℕ) × (hold_in hs g r q ≡ true)) →
     (n : ℕ) (x : Reading) → conflict_in hs n seen x ≡ false
-no-clash hs seen held n x = and_apart (has_other x.tag x.root seen) _ (λ e.
+no-clash hs seen held n x = neither (and_apart (has_other x.tag x.root seen) _ (λ e.
     let y = any_found (is_other x.tag x.root) seen e in
     let tags : same_tag y.0.tag x.tag ≡ true = first_true _ (not (nat_eq y.0.root x.root)) y.2 in
     let apart : nat_eq y.0.root x.root ≡ false = not-true _ (and_right (same_tag y.0.tag x.tag) _ y.2) in
@@ -119,13 +123,24 @@ no-clash hs seen held n x = and_apart (has_other x.tag x.root seen) _ (λ e.
     let read = held x.tag x.root in
     let none = others.1 in
     let unheld = others.0 in
-    grind (arith))
+    grind (arith)))
+    (and_apart (has_tag x.tag seen) (kept_tag hs true n x.tag x.root) (λ e.
+    let y = any_found (is_of_tag x.tag) seen e in
+    let there : has_reading x.tag y.0.root seen ≡ true =
+    any_finds (is_reading x.tag y.0.root) seen y.0 y.1 (rw y.2 (eq-eqb y.0.root y.0.root refl)) in
+    let q = held x.tag y.0.root there in
+    (none-left n x.tag y.0.root x.root q.0 (get nat_eq hs (tag_key x.tag)) q.1).0))
+  where
+    neither : {a b : Bool} → a ≡ false → b ≡ false → (a || b) ≡ false
+    neither {a} {b} e k = ap (λ (x : Bool). x || b) e ∙ k
 
 -- where all that is then readable is held, nothing more is
 pub held-stays : {S : Type 0} (hs : IndexMap ℕ Held S) (pe : ℕ) (seen : List Reading) →
-    ((g : Tag) (r : ℕ) → has_reading g r seen ≡ true → hold_in hs g r pe ≡ true) → (g : Tag) (r p : ℕ) →
-    hold_in hs g r p ≡ (hold_in hs g r p || (nat_eq p pe && has_reading g r seen))
-held-stays hs pe seen held g r p = let h = held g r in grind (arith, nat_tests)
+    ((g : Tag) (r : ℕ) → has_reading g r seen ≡ true → hold_in hs g r pe ≡ true) → Marks hs hs pe seen
+held-stays hs pe seen held = record {
+  held = λ g r p. let h = held g r in grind (arith, nat_tests);
+  left = λ g r p. refl;
+}
 
 -- what is readable is held
 pub read-held : (roots : Roots) (pe : ℕ) (heading : Heading) (h : List Event) → Stands roots heading h → pe < pes_of roots →
@@ -169,7 +184,7 @@ module _ (roots : Roots) (pe : ℕ) (reg : Reg) (load : RootValue) (reading : Re
   holder : (q : ℕ) × (hold_in roots.holds reading.tag reading.root q ≡ true)
   holder =
       let f = pe_found (pes_of roots) (hold_in roots.holds reading.tag reading.root)
-      (sym (tag_in-is roots.holds (pes_of roots) reading.tag reading.root) ∙ shared.held) in (f.0, f.2)
+      (sym (kept_tag-is roots.holds false (pes_of roots) reading.tag reading.root) ∙ shared.held) in (f.0, f.2)
 
   -- the root may hold it
   pub tag-listed : (g : Tag) (r : ℕ) → has_reading g r (reading ∷ []) ≡ true →
@@ -179,15 +194,25 @@ module _ (roots : Roots) (pe : ℕ) (reg : Reg) (load : RootValue) (reading : Re
       (sym (or-false (same_tag reading.tag g && nat_eq reading.root r)) ∙ e)
       (roots.listed reading.tag reading.root holder.0 holder.1)
 
-  -- no other root holds it
-  pub calm-one : IsCalm roots.holds (reading ∷ [])
-  calm-one g r e =
+  unheld : (g : Tag) (r : ℕ) → has_other g r (reading ∷ []) ≡ true
+      → (has_reading g r (reading ∷ []) ≡ false) × ((p : ℕ) → hold_in roots.holds g r p ≡ false)
+  unheld g r e =
       let other : (same_tag reading.tag g && not (nat_eq reading.root r)) ≡ true = sym (or-false _) ∙ e in
       let same = tag_equal reading.tag g (first_true _ (not (nat_eq reading.root r)) other) in
       let apart : nat_eq reading.root r ≡ false = not-true _ (and_right (same_tag reading.tag g) _ other) in
       let others =
       one-root (pes_of roots) reading.tag reading.root r holder.0 (get nat_eq roots.holds (tag_key reading.tag)) holder.1
       apart in (rw apart (or-false _ ∙ and-false (same_tag reading.tag g)), λ p. rw (← same) (others.1 p))
+
+  -- no other root holds it, and none left it
+  pub calm-one : IsCalm roots.holds (reading ∷ [])
+  calm-one = record {
+    others = unheld;
+    none_left = λ g r p e.
+        let same = tag_equal reading.tag g (sym (or-false _) ∙ e) in
+        rw (← same) ((none-left (pes_of roots) reading.tag reading.root r holder.0 (get nat_eq roots.holds (tag_key reading.tag))
+        holder.1).1 p);
+  }
 
   module _ (heading : Heading) (h : List Event) (stands : Stands roots heading h) (known : pe < pes_of roots) where
     abbrev read : Tag → ℕ → Bool
@@ -213,11 +238,10 @@ module _ (roots : Roots) (pe : ℕ) (reg : Reg) (load : RootValue) (reading : Re
         (λ k. (pe, read-held roots pe heading h stands known g r k))
         (sym (readable g r) ∙ e)
 
-    -- the mark of the one tag marks all
-    pub marks-all : (new : Roots) → Marks roots.holds new.holds pe (reading ∷ []) →
-        Marks roots.holds new.holds pe (readings_after roots.registers pe reg load)
-    marks-all new marked g r p =
-        marked g r p
+    marked-all : (new : Roots) → Marks roots.holds new.holds pe (reading ∷ []) → (g : Tag) (r p : ℕ) → hold_in new.holds g r p
+        ≡ (hold_in roots.holds g r p || (nat_eq p pe && has_reading g r (readings_after roots.registers pe reg load)))
+    marked-all new marked g r p =
+        marked.held g r p
         ∙ marks-step (hold_in roots.holds g r p) (nat_eq p pe) (has_reading g r (reading ∷ [])) (read g r)
         (λ at k. ap (hold_in roots.holds g r) (eqb-true p pe at) ∙ read-held roots pe heading h stands known g r k)
         ∙ ap (λ (b : Bool). hold_in roots.holds g r p || (nat_eq p pe && b)) (sym (readable g r))
@@ -225,3 +249,8 @@ module _ (roots : Roots) (pe : ℕ) (reg : Reg) (load : RootValue) (reading : Re
         marks-step : (old here own others : Bool) → (here ≡ true → others ≡ true → old ≡ true) →
             (old || (here && own)) ≡ (old || (here && (own || others)))
         marks-step old here own others = grind (arith)
+
+    -- the mark of the one tag marks all
+    pub marks-all : (new : Roots) → Marks roots.holds new.holds pe (reading ∷ []) →
+        Marks roots.holds new.holds pe (readings_after roots.registers pe reg load)
+    marks-all new marked = record { held = marked-all new marked; left = marked.left }

@@ -1,21 +1,25 @@
 -- The tags that a root may hold, looked at one after another.
-use Rattle.bbm_roots.proofs.Common.{pe_found, ◌≡◌, ◌+◌, ◌<◌, ℕ, Bool, true, ◌&&◌, ◌||◌, nat_eq, List, [], ◌∷◌, arith}
+use Rattle.bbm_roots.proofs.Common.{pe_found, ◌≡◌, ◌+◌, ◌<◌, ℕ, Bool, false, true, ◌&&◌, ◌||◌, nat_eq, List, [], ◌∷◌, arith}
 use Rattle.bbm_roots.proofs.Common.{slice_get, get_or_from_slice_get, AreListed, any_both, nat_tests, Some, is_some}
 use Rattle.bbm_roots.proofs.Common.{refl, sym, ◌∙◌, ap, take, length, list_any, lookup, IndexMap, Option, get, Tag}
-use Rattle.bbm_roots.proofs.Common.{entry_held, hold_in, tag_in, tag_key, Held}
+use Rattle.bbm_roots.proofs.Common.{entry_kept, hold_in, tag_in, tag_key, Held}
 use Rattle.bbm_roots.specs.TagsByRoot.{has_key}
-use Rattle.bbm_roots.proofs.Conflicts.{tag_in-is}
+use Rattle.bbm_roots.proofs.Conflicts.{kept_tag-is}
 use Rattle.bbm_roots.proofs.Tests.{any-next}
 
-some-lookup : {V : Type 0} (test : ℕ → Bool) (es : List (ℕ × V)) →
+pub some-lookup : {V : Type 0} (test : ℕ → Bool) (es : List (ℕ × V)) →
     is_some (lookup test es) ≡ list_any (λ (e : ℕ × V). test e.0) es
 some-lookup test [] = refl
 some-lookup test (e ∷ es) = grind (arith, some-lookup test es)
 
+-- whether an entry is under the key of the tag
+abbrev pub is_keyed : {V : Type 0} → Tag → ℕ × V → Bool
+is_keyed g e = nat_eq (tag_key g) e.0
+
 module _ {S : Type 0} (hs : IndexMap ℕ Held S) (n root : ℕ) where
   -- what is found under a key shows
   pub keyed : (g : Tag) (key : ℕ) (o : Option Held) → get nat_eq hs key ≡ o →
-      (nat_eq (tag_key g) key && tag_in hs n g root) ≡ (nat_eq (tag_key g) key && entry_held n g root o)
+      (nat_eq (tag_key g) key && tag_in hs n g root) ≡ (nat_eq (tag_key g) key && entry_kept false n g root o)
   keyed g key o is = grind (arith, nat_tests)
 
   -- what the root holds is among what it may hold
@@ -23,7 +27,7 @@ module _ {S : Type 0} (hs : IndexMap ℕ Held S) (n root : ℕ) where
       AreListed hs by_root → get nat_eq by_root root ≡ o → (g : Tag) → tag_in hs n g root ≡ true →
       has_key (tag_key g) o ≡ true
   held-listed by_root o listed is g e =
-      let at = pe_found n (hold_in hs g root) (sym (tag_in-is hs n g root) ∙ e) in
+      let at = pe_found n (hold_in hs g root) (sym (kept_tag-is hs false n g root) ∙ e) in
       ap (has_key (tag_key g)) (sym is) ∙ listed g root at.0 at.2
 
   module _ {V : Type 0} where

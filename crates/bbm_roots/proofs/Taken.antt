@@ -7,17 +7,18 @@ use Rattle.bbm_roots.proofs.Common.{Kernel, readings_of, first_reg, second_reg, 
 use Rattle.bbm_roots.proofs.Common.{root_of, missing_root, RootValue, ◌<◌, ◌≤◌, ◌||◌, Result, register_values, Laws}
 use Rattle.bbm_roots.proofs.Common.{TakesWhere, loads_in, Marks, pending_in, has_reading, Writes, Stands, has_null_base}
 use Rattle.bbm_roots.proofs.Common.{pes_of, Reading, Roots, length, subst, fun_ext, conflict_in, conflicts}
-use Rattle.bbm_roots.proofs.Common.{readings_after, nat_tests, first_none, not-false, Patterns, []}
+use Rattle.bbm_roots.proofs.Common.{readings_after, nat_tests, first_none, has_tag, not-false, not-true, Patterns, []}
 use Rattle.bbm_roots.proofs.Readable.{readings-same, readings-stay}
-use Rattle.bbm_roots.proofs.Steps.{holds-written, waits-written}
-use Rattle.std.proofs.Common.{Err, Ok, OnOk}
-use Rattle.bbm_events.specs.Heading.{heading_ok}
+use Rattle.bbm_roots.proofs.Entries.{marked-kept}
+use Rattle.bbm_roots.proofs.Steps.{holds-written, left-stay, waits-written}
+use Rattle.bbm_lemmas.proofs.Bools.{not_from}
+use Rattle.std.proofs.Common.{Ok}
 use Rattle.bbm_histories.proofs.Induction.{kept_next}
 use Rattle.bbm_locks.specs.declared.locks.Locks.{Locks}
 use Rattle.bbm_locks.specs.Holders.{holder_at}
-use Rattle.bbm_rules.proofs.Common.{Answers, if_so, limit_of, noted}
+use Rattle.bbm_rules.proofs.Common.{Answers, if_so, limit_of}
 use Rattle.bbm_rules.specs.Broken.{broken}
-use Rattle.bbm_rules.specs.Rules.{asks_to_share, wrong_world}
+use Rattle.bbm_rules.specs.Rules.{asks_to_share}
 use Rattle.bbm_rules.specs.declared.step_fault.StepFault.{StepFault}
 use Rattle.bbm_roots.specs.Refusals.{JudgesReadings}
 use Rattle.bbm_roots.proofs.Conflicts.{conflict-is}
@@ -27,12 +28,12 @@ use Rattle.bbm_roots.specs.LoadsOf.{loads_of}
 use Rattle.bbm_roots.proofs.Changes.{room-same}
 
 -- what a value names, by its parts, where its root isn't missing
-pub load-is : (h : List Event) (number : ℕ) (root : Option ℕ) (reg : Reg) (value : ℕ) (null : Bool) → number ≡ tag_number value →
-    root ≡ root_of reg value null → missing_root h reg value null ≡ None →
-    (names_null reg null ≡ true → root_in h (kind_of_reg reg) (base_of value) ≡ None) →
+pub load-is : (heading : Heading) (h : List Event) (number : ℕ) (root : Option ℕ) (reg : Reg) (value : ℕ) (null : Bool) → number ≡ tag_number value →
+    root ≡ root_of heading reg value null → missing_root heading h reg value null ≡ None →
+    (names_null heading reg null ≡ true → root_in h (kind_of_reg reg) (base_of value) ≡ None) →
     let load : RootValue = record { number = number; root = root } in load ≡ load_in h reg value
-load-is h number root reg value null same_number same_root there none =
-    let same : root_of reg value null ≡ root_in h (kind_of_reg reg) (base_of value) = grind (arith) in
+load-is heading h number root reg value null same_number same_root there none =
+    let same : root_of heading reg value null ≡ root_in h (kind_of_reg reg) (base_of value) = grind (arith) in
     rw (same_number, same_root, same) refl
 
 -- a register of the world is its first or its second
@@ -82,8 +83,8 @@ module _ (laws : (heading : Heading) → Laws heading) (old : Roots) (pe : ℕ) 
     (root : Option ℕ) (seen : List Reading) (known : pe < pes_of old)
     (right : (not (kind_in_world old.header.world (kind_of_reg reg)) || asks_to_share old.header Patterns [] value) ≡ false)
     (is_number : number ≡ tag_number value)
-    (named : (heading : Heading) (h : List Event) → Stands old heading h → root ≡ root_of reg value null)
-    (found : (heading : Heading) (h : List Event) → Stands old heading h → missing_root h reg value null ≡ None)
+    (named : (heading : Heading) (h : List Event) → Stands old heading h → root ≡ root_of heading reg value null)
+    (found : (heading : Heading) (h : List Event) → Stands old heading h → missing_root heading h reg value null ≡ None)
     (is_seen : seen ≡ readings_after old.registers pe reg (record { number = number; root = root })) where
   abbrev load : RootValue
   load = record { number = number; root = root }
@@ -100,8 +101,8 @@ module _ (laws : (heading : Heading) → Laws heading) (old : Roots) (pe : ℕ) 
     in_world = not-false (kind_in_world heading.world (kind_of_reg reg)) (first_none _ _ right_here)
 
     is_load : load ≡ load_in h reg value
-    is_load = load-is h number root reg value null is_number (named heading h stands) (found heading h stands)
-        (null_names_none h reg value null told ((laws heading).bases.null h ((laws heading).proper stands.proper) stands.kept))
+    is_load = load-is heading h number root reg value null is_number (named heading h stands) (found heading h stands)
+        (null_names_none heading h reg value null told ((laws heading).bases.null h ((laws heading).proper stands.proper) stands.kept))
 
     here : (p : ℕ) → nat_eq p pe ≡ true → readings heading (Msr pe reg value ∷ h) p ≡ seen
     here p at =
@@ -130,17 +131,19 @@ module _ (laws : (heading : Heading) → Laws heading) (old : Roots) (pe : ℕ) 
           count = let d = taken.roots.declared in let s = stands.count in cc;
           locks = λ none. stands.locks (sym taken.roots.names ∙ none);
           holds = λ g r p.
-              marked g r p
+              marked.held g r p
               ∙ ap (λ (b : Bool). b || (nat_eq p pe && has_reading g r seen)) (stands.holds g r p)
               ∙ written g r p;
-          inside = λ g r p past.
-              sym (written g r p)
-              ∙ ap (λ (k : Bool). k || (nat_eq p pe && has_reading g r seen)) (stands.inside g r p past)
-              ∙ ap (λ (b : Bool). b && has_reading g r seen) (ne p past);
-          pendings = λ q b g r p held.
+          left = λ g r p.
+              marked.left g r p ∙ stands.left g r p ∙ sym (left-stay heading h (Msr pe reg value) g r p refl refl);
+          inside = λ g p past.
+              not-true _ (not_from _ (λ kept. false≢true (sym (stands.inside g p past)
+              ∙ marked-kept old.holds new.holds pe seen marked g p (ap (λ (b : Bool). b && has_tag g seen) (ne p past)) kept)));
+          pendings = λ q b g p kept.
               taken.pendings q b g p
-              ∙ waits-written heading h pe reg value seen here (elsewhere heading h pe reg value) q b g r p
-              (pending_in old.pendings q b g p) held (stands.pendings q b g r p);
+              ∙ waits-written heading h pe reg value seen here (elsewhere heading h pe reg value) q b g p
+              (pending_in old.pendings q b g p)
+              (λ none. stands.pendings q b g p (marked-kept old.holds new.holds pe seen marked g p none kept));
           holders = λ lock. ap (λ (l : Locks). holder_at l lock) taken.roots.locks ∙ stands.holders lock;
         }
 
@@ -150,14 +153,14 @@ module _ (laws : (heading : Heading) → Laws heading) (old : Roots) (pe : ℕ) 
     write-judged result k =
         write_judged heading (laws heading) ((laws heading).proper stands.proper) h stands.kept pe reg value
         (ap (λ (b : Bool). if_so b 0) right_here)
-        (ap (missing_root h reg value) (sym told) ∙ found heading h stands) result
+        (ap (missing_root heading h reg value) (sym told) ∙ found heading h stands) result
         (subst (λ (f : Reading → Bool). JudgesReadings f (length (register_values h pe reg)) result) conflict
         (subst (λ (n : ℕ). JudgesReadings (conflict_in old.holds (pes_of old) seen) n result) count k))
       where
         conflict : conflict_in old.holds (pes_of old) seen ≡ conflicts heading (Msr pe reg value ∷ h) pe
         conflict =
             ap (λ (n : ℕ). conflict_in old.holds n seen) stands.pes
-            ∙ fun_ext (conflict-is heading h pe reg value seen here (elsewhere heading h pe reg value) less old.holds stands.holds)
+            ∙ fun_ext (conflict-is heading h pe reg value seen here (elsewhere heading h pe reg value) less old.holds stands.holds stands.left)
 
         count : length (loads_of old.registers pe reg) ≡ length (register_values h pe reg)
         count =

@@ -1,7 +1,7 @@
 -- Tests of tags and of sets of PEs, what a test finds in a list and in the front of it, and the least of what passes one.
 use Rattle.bbm_roots.proofs.Common.{pe_finds, pe_none, tag_equal, tag_self, ◌≡◌, ℕ, ◌<◌, Bool, true, false, ◌&&◌, not}
 use Rattle.bbm_roots.proofs.Common.{any_found, any_finds, eqb-true, subst, arith, nat_lt, nat_eq, refl, sym, ◌∙◌, ap}
-use Rattle.bbm_roots.proofs.Common.{true_from_ne_false, false≢true, lt-ltb, ltb-true, eq-eqb, proved, If, Is, Tag}
+use Rattle.bbm_roots.proofs.Common.{true_from_ne_false, false≢true, lt-ltb, ltb-true, proved, If, Is, Tag}
 use Rattle.bbm_roots.proofs.Common.{some_pe, is_hold, same_flag, same_tag, Held, first_true, zero, suc, ◌+◌, ◌||◌, List}
 use Rattle.bbm_roots.proofs.Common.{[], ◌∷◌, length, take, get_or, list_any, Option, Some, None, TagSet, Many, HasTags}
 use Rattle.bbm_roots.proofs.Common.{IsLeast}
@@ -32,10 +32,8 @@ same_flag-true = proved 2 (λ a b. If (Is (same_flag a b) true) (Is a b)) refl
 
 -- the entry of a tag and a root is its own tag's
 pub hold-tag : (g : Tag) (r : ℕ) (x : Held) → is_hold g r x ≡ true → x.tag ≡ g
-hold-tag g r x e = tag_equal x.tag g (first_true (same_tag x.tag g) (nat_eq x.root r) e)
-
-pub hold-self : (x : Held) → is_hold x.tag x.root x ≡ true
-hold-self x = ap (λ (b : Bool). b && nat_eq x.root x.root) (tag_self x.tag) ∙ eq-eqb x.root x.root refl
+hold-tag g r x e = tag_equal x.tag g (first_true (same_tag x.tag g) (nat_eq x.root r)
+    (first_true (same_tag x.tag g && nat_eq x.root r) (not x.left) e))
 
 -- what is so of a tag and a root is so of those that a test tells to be the same
 pub as-same : (P : Tag → ℕ → Type 0) (tag g : Tag) (root r : ℕ) → (same_tag tag g && nat_eq root r) ≡ true → P tag root → P g r

@@ -1,14 +1,14 @@
 -- Whether a root may be retired, by the rules and by what the roots tell.
 use Rattle.bbm_roots.proofs.Common.{Laws, Patterns, first_reg, load_in, loads_after, root_in, second_reg, Roots, Stands}
-use Rattle.bbm_roots.proofs.Common.{option_and_then, pes_of, loads_in, names_in, tag_in}
-use Rattle.bbm_roots.proofs.Common.{IsLeast, UpTo, TagUpTo, is_some, ltb-true, first_true}
-use Rattle.bbm_rules.proofs.Common.{◌≡◌, ℕ, ◌<◌, ◌≤◌, Bool, true, false, not, ◌&&◌, ◌||◌, ◌==◌, nat_lt, List, [], ◌∷◌}
+use Rattle.bbm_roots.proofs.Common.{option_and_then, pes_of, loads_in, names_in}
+use Rattle.bbm_roots.proofs.Common.{IsLeast, UpTo, is_some, ltb-true, first_true}
+use Rattle.bbm_rules.proofs.Common.{◌≡◌, ℕ, ◌<◌, ◌≤◌, Bool, true, false, not, ◌&&◌, ◌||◌, ◌==◌, nat_lt, List, []}
 use Rattle.bbm_rules.proofs.Common.{map, length, Option, Some, None, refl, sym, ap, ◌∙◌, true≢false}
-use Rattle.bbm_rules.proofs.Common.{inl, inr, arith, list_any, cases_lt, lt-ltb, eqb-true, not-false, or_left, or_right}
+use Rattle.bbm_rules.proofs.Common.{inl, inr, arith, list_any, cases_lt, lt-ltb, eqb-true, not-false}
 use Rattle.bbm_rules.proofs.Common.{list_any-append, pe_finds, any_found, Reg, Ttbr0El2, VttbrEl2, Ttbr0El1, Ttbr1El1}
-use Rattle.bbm_rules.proofs.Common.{Tag, World, Hyp, Kernel, Heading, Event, Root, Unroot, Breach, keeps, noted, if_so}
+use Rattle.bbm_rules.proofs.Common.{World, Hyp, Kernel, Heading, Event, Root, Unroot, Breach, keeps, if_so}
 use Rattle.bbm_rules.proofs.Common.{is_that, some_pe, base_of, kind_of_reg, Declared, is_root, kind_in_world, lock_of}
-use Rattle.bbm_rules.proofs.Common.{root_at, is_base_at, lacks, no_lock, no_root, holds_tag, tag_set, tags_of}
+use Rattle.bbm_rules.proofs.Common.{root_at, is_base_at, lacks, tags_of}
 use Rattle.std.specs.Option.{is_none}
 use Rattle.bbm_lemmas.specs.Elements.{In}
 use Rattle.bbm_lemmas.proofs.Tautologies.{proved}
@@ -18,12 +18,10 @@ use Rattle.bbm_lemmas.proofs.Words.{among_in, pe_none}
 use Rattle.bbm_rules.specs.Broken.{broken}
 use Rattle.bbm_rules.specs.Prelude.{Kind}
 use Rattle.bbm_rules.specs.RegisterValues as rules
-use Rattle.bbm_rules.specs.Rules.{root_in_use}
 use Rattle.bbm_rules.specs.declared.rule.Rule.TheVariants.{NoLock, NoRoot, RootInUse, WrongWorld}
 use Rattle.bbm_histories.specs.TreeChanges.{Proper}
 use Rattle.bbm_roots.specs.LoadsOf.{uses_at}
 use Rattle.bbm_roots.specs.RootRegisters.{names_page}
-use Rattle.bbm_roots.proofs.Conflicts.{tag-held}
 use Rattle.bbm_roots.proofs.Tests.{and_right, none_at}
 use Rattle.bbm_roots.proofs.Judge.{broken_unroot, or_rule}
 
@@ -127,34 +125,13 @@ module _ (heading : Heading) (laws : Laws heading) (proper : Proper heading) (h 
         ∙ four_same heading.world (in_reg h page p) (in_world p less)
         ∙ sym (four h page p)
 
-  -- ---- tags
-
-  some_tag : (page : ℕ) (tag : Tag) → holds_tag heading Patterns page tag h ≡ true
-      → nat_lt 0 (length (tags_of heading Patterns page h)) ≡ true
-  some_tag page tag e = by (tags_of heading Patterns page h) refl
-    where
-      by : (gs : List Tag) → tags_of heading Patterns page h ≡ gs → nat_lt 0 (length gs) ≡ true
-      by [] k = absurd (true≢false (sym e ∙ laws.tag_set.none page h (ap tag_set k) tag))
-      by (g ∷ []) k = refl
-      by (g ∷ g' ∷ gs) k = lt-ltb 0 (length (g ∷ g' ∷ gs)) (omega arith)
-
-  no_tags : (page : ℕ) → ((tag : Tag) → holds_tag heading Patterns page tag h ≡ false)
-      → nat_lt 0 (length (tags_of heading Patterns page h)) ≡ false
-  no_tags page none = by (tags_of heading Patterns page h) refl
-    where
-      by : (gs : List Tag) → tags_of heading Patterns page h ≡ gs → nat_lt 0 (length gs) ≡ false
-      by [] k = refl
-      by (g ∷ []) k = absurd (true≢false
-          (sym ((laws.equality_tests.tags g g).1 refl) ∙ (sym (laws.tag_set.one page h g (ap tag_set k) g) ∙ none g)))
-      by (g ∷ g' ∷ gs) k = let m = laws.tag_set.many page h (ap tag_set k) in absurd (true≢false (sym m.3 ∙ none m.0))
-
   -- ---- the rules on an `unroot`, in the order in which they are asked
 
   abbrev base_anywhere : ℕ → Bool
   base_anywhere page = some_pe heading.pes (is_base_at h page)
 
-  abbrev tag_anywhere : ℕ → Bool
-  tag_anywhere page = nat_lt 0 (length (tags_of heading Patterns page h))
+  abbrev used_by_tag : ℕ → Bool
+  used_by_tag page = not heading.words.unflushed && nat_lt 0 (length (tags_of heading Patterns page h))
 
   abbrev lock_rule : ℕ → ℕ → Option ℕ
   lock_rule pe page = option_and_then (λ lock. if_so (lacks h pe lock) page) (lock_of h page)
@@ -165,21 +142,21 @@ module _ (heading : Heading) (laws : Laws heading) (proper : Proper heading) (h 
 
   -- they depend on the history alone, without its notes
   pub unroot_is : (pe page : ℕ) (lock : Option ℕ) (absent used : Bool) → lock_rule pe page ≡ lock
-      → is_none (root_at h page) ≡ absent → (base_anywhere page || tag_anywhere page) ≡ used
+      → is_none (root_at h page) ≡ absent → (base_anywhere page || used_by_tag page) ≡ used
       → broken heading Patterns h (Unroot pe page) ≡ verdict page lock absent used
   unroot_is pe page lock absent used is_lock is_absent is_used =
       broken_unroot heading h pe page
       ∙ ap (λ (es : List Event). or_rule NoLock (option_and_then (λ lock. if_so (lacks es pe lock) page) (lock_of es page))
       (or_rule NoRoot (if_so (is_none (root_at es page)) page)
       (or_rule RootInUse (if_so (not (is_none (root_at es page)) && (some_pe heading.pes (is_base_at es page)
-      || nat_lt 0 (length (tags_of heading Patterns page es)))) page) None))) (laws.notes_keep_the_events h)
+      || (not heading.words.unflushed && nat_lt 0 (length (tags_of heading Patterns page es))))) page) None))) (laws.notes_keep_the_events h)
       ∙ rw (is_lock, is_absent, is_used) refl
 
-  -- a page of which an `unroot` breaks no rule is that of a declared root that is no base and holds no tag
+  -- a page of which an `unroot` breaks no rule is that of a declared root that is no base
   pub unroot_free : (pe page : ℕ) → broken heading Patterns h (Unroot pe page) ≡ None
-      → (is_none (root_at h page) ≡ false) × ((base_anywhere page || tag_anywhere page) ≡ false)
+      → (is_none (root_at h page) ≡ false) × ((base_anywhere page || used_by_tag page) ≡ false)
   unroot_free pe page none =
-      by page (lock_rule pe page) (is_none (root_at h page)) (base_anywhere page || tag_anywhere page)
+      by page (lock_rule pe page) (is_none (root_at h page)) (base_anywhere page || used_by_tag page)
       (sym (unroot_is pe page (lock_rule pe page) _ _ refl refl refl) ∙ none)
     where
       by : (page : ℕ) (lock : Option ℕ) (absent used : Bool) → verdict page lock absent used ≡ None
@@ -231,18 +208,3 @@ module _ (laws : (heading : Heading) → Laws heading) (roots : Roots) (heading 
       let pes = s.pes in let less : q < heading.pes = omega (arith, below) in
       sym (pe_finds heading.pes (is_base_at h page) q less (sym (user_is r at q less)
       ∙ and_right (nat_lt q (pes_of roots)) (uses_at roots.registers q page) k.0))
-
-  -- whether it holds a tag, by the first that it does
-  pub tag_is : (o : Option Tag) → IsLeast TagUpTo (λ g. tag_in roots.holds (pes_of roots) g page) o
-      → is_some o ≡ nat_lt 0 (length (tags_of heading Patterns page h))
-  tag_is o k = by o k
-    where
-      held : (g : Tag) → tag_in roots.holds (pes_of roots) g page ≡ holds_tag heading Patterns page g h
-      held g = ap (λ (n : ℕ). tag_in roots.holds n g page) s.pes ∙ tag-held roots.holds heading h s.holds g page
-
-      by : (o : Option Tag) → IsLeast TagUpTo (λ g. tag_in roots.holds (pes_of roots) g page) o
-          → is_some o ≡ nat_lt 0 (length (tags_of heading Patterns page h))
-      by None k =
-          sym (no_tags heading (laws heading) ((laws heading).proper s.proper) h s.kept page (λ g. sym (held g) ∙ k g))
-      by (Some g) k =
-          sym (some_tag heading (laws heading) ((laws heading).proper s.proper) h s.kept page g (sym (held g) ∙ k.0))

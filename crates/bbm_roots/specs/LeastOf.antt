@@ -1,7 +1,6 @@
 -- The least of what passes a test.
 -- Source: project's own choice.
 use Rattle.std.specs.Prelude.{◌≡◌, ◌≤◌, ℕ, Bool, true, false, ◌||◌, Option, Some, None}
-use Rattle.bbm_regimes.specs.declared.regime.Tag.{Tag}
 use Rattle.bbm_roots.specs.Readings.{tag_rank}
 use Rattle.bbm_roots.specs.declared.reading.Reading.{Reading}
 
@@ -16,13 +15,10 @@ abbrev pub IsLeastWith : {X : Type 0} → (X → X → Type 0) → (X → Bool) 
 IsLeastWith {X} before further old new =
     (test : X → Bool) → IsLeast before test old → IsLeast before (λ x. test x || further x) new
 
--- numbers in their order, tags in the order `El2`, VMIDs, ASIDs, `Ttbr1`, and tags with roots by the root's first page
--- and then by the tag
+-- numbers in their order, and tags with roots by the root's first page and then by the tag, in the order `El2`, VMIDs,
+-- ASIDs, `Ttbr1`
 abbrev pub UpTo : ℕ → ℕ → Type 0
 UpTo m n = m ≤ n
-
-abbrev pub TagUpTo : Tag → Tag → Type 0
-TagUpTo g h = tag_rank g ≤ tag_rank h
 
 abbrev pub ReadingUpTo : Reading → Reading → Type 0
 ReadingUpTo x y = (x.root ≤ y.root) × (x.root ≡ y.root → tag_rank x.tag ≤ tag_rank y.tag)

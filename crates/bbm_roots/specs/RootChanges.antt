@@ -1,6 +1,6 @@
 -- What calls change, and that all else stays. A history is newest first.
 -- Source: project's own choice.
-use Rattle.std.specs.Prelude.{◌≡◌, ℕ, Bool, true, false, None, not, ◌&&◌, ◌||◌, nat_eq, List, ◌∷◌, Option, Some}
+use Rattle.std.specs.Prelude.{◌≡◌, ℕ, Bool, false, None, not, ◌&&◌, ◌||◌, nat_eq, List, ◌∷◌, Some}
 use Rattle.std.specs.Prelude.{Result, OnOk, OnErr, if◌then◌else◌}
 use Rattle.bbm_barriers.specs.Options.{answers}
 use Rattle.bbm_barriers.specs.declared.Dsb.{Dsb as Barrier}
@@ -13,7 +13,7 @@ use Rattle.bbm_rules.specs.Limits.{limit_of}
 use Rattle.bbm_rules.specs.Prelude.{Heading, Event, Dsb, Dmb, Isb, Tlbi}
 use Rattle.bbm_rules.specs.RegisterValues.{named_scope}
 use Rattle.bbm_roots.specs.Columns.{loads_in}
-use Rattle.bbm_roots.specs.Holds.{hold_in}
+use Rattle.bbm_roots.specs.Holds.{keeps_in}
 use Rattle.bbm_roots.specs.RootPendings.{answered_in, pending_in, Clears}
 use Rattle.bbm_roots.specs.RootRegisters.{is_first}
 use Rattle.bbm_roots.specs.RootsStand.{HasRoom, Stands}
@@ -88,8 +88,8 @@ pub record Writes (pe : ℕ) (reg : Reg) (load : RootValue) (seen : List Reading
 
 -- A DSB of q: tags are taken away where its TLBIs that the DSB answers wait, and these wait no more.
 pub record Completes (q : ℕ) (dsb : Barrier) (old new : Roots) : Type 0 where
-  pub holds : (tag : Tag) (root p : ℕ) → hold_in new.holds tag root p
-      ≡ (hold_in old.holds tag root p && not (answered_in old.pendings q dsb tag p))
+  pub holds : (left : Bool) (tag : Tag) (root p : ℕ) → keeps_in new.holds left tag root p
+      ≡ (keeps_in old.holds left tag root p && not (answered_in old.pendings q dsb tag p))
   pub pendings : (issuer : ℕ) (broadcast : Bool) (tag : Tag) (p : ℕ) → pending_in new.pendings issuer broadcast tag p
       ≡ (pending_in old.pendings issuer broadcast tag p && not (nat_eq issuer q && answers dsb broadcast))
   pub registers : new.registers ≡ old.registers

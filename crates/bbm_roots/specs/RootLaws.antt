@@ -5,7 +5,7 @@ use Rattle.bbm_rules.specs.Prelude.{Heading}
 use Rattle.bbm_rules.specs.BrokenLaws.{EachRule, NotesKeepEvents}
 use Rattle.bbm_rules.specs.Claims.{Patterns}
 use Rattle.bbm_rules.specs.EventLaws.{RootsBySentence, TestsAreExact}
-use Rattle.bbm_rules.specs.TagLaws.{ReadsBySentence, TagSetSays}
+use Rattle.bbm_rules.specs.TagLaws.{ReadsBySentence, TagLeftBySentence, TagSetSays}
 use Rattle.bbm_histories.specs.HolderLaws.{BasesOfRoots, TagsOfRoots}
 use Rattle.bbm_histories.specs.TreeChanges.{Proper}
 
@@ -17,5 +17,6 @@ pub record Laws (heading : Heading) : Type 0 where
   pub notes_keep_the_events : NotesKeepEvents heading Patterns
   pub readable_tag : ReadsBySentence heading
   pub root : RootsBySentence
+  pub tag_left : TagLeftBySentence heading Patterns
   pub tag_set : TagSetSays heading Patterns
   pub tags : TagsOfRoots heading Patterns

@@ -1,6 +1,6 @@
 -- The root registers of a PE: what the values that may still be in use name. A history is newest first.
 -- Source: project's own choice, where no other is named.
-use Rattle.std.specs.Prelude.{ℕ, Bool, true, false, ◌||◌, List, [], ◌∷◌, map, Option, None, if◌then◌else◌}
+use Rattle.std.specs.Prelude.{ℕ, Bool, true, false, ◌&&◌, ◌||◌, List, [], ◌∷◌, map, Option, None, if◌then◌else◌}
 use Rattle.std.specs.Option.{option_map_or}
 use Rattle.std.specs.List.{list_any}
 use Rattle.bbm_regimes.specs.Registers.{base_of, tag_number}
@@ -12,6 +12,7 @@ use Rattle.bbm_regimes.specs.declared.regime.World.{World}
 use Rattle.bbm_regimes.specs.declared.regime.World.TheVariants.{Hyp, Kernel}
 pub use Rattle.bbm_lemmas.specs.ListWords.{is_that}
 use Rattle.bbm_lemmas.specs.ListWords.{◌>>=◌, if_so}
+use Rattle.bbm_events.specs.Heading.{Heading, nulls_everywhere}
 use Rattle.bbm_events.specs.declared.event.Event.{Event}
 use Rattle.bbm_rules.specs.Pages.{is_null}
 use Rattle.bbm_rules.specs.RegisterValues.{register_values}
@@ -33,14 +34,14 @@ is_first VttbrEl2 = false
 is_first Ttbr0El1 = true
 is_first Ttbr1El1 = false
 
--- whether a value means that no walk is made: a null page as the base of TTBR0_EL1
-abbrev pub names_null : Reg → Bool → Bool
-names_null Ttbr0El1 null = null
-names_null _ null = false
+-- whether a value means that no walk is made: a null page as the base of TTBR0_EL1, or from version 5 on of each
+-- register
+abbrev pub names_null : Heading → Reg → Bool → Bool
+names_null heading reg null = (nulls_everywhere heading.version || same_reg reg Ttbr0El1) && null
 
 -- the root that a value is to name, None where it is to name none
-abbrev pub root_of : Reg → ℕ → Bool → Option ℕ
-root_of reg value null = if names_null reg null then None else base_of value
+abbrev pub root_of : Heading → Reg → ℕ → Bool → Option ℕ
+root_of heading reg value null = if names_null heading reg null then None else base_of value
 
 -- what the value 0 names, with which each register starts
 abbrev pub at_start : RootValue

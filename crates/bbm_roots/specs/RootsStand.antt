@@ -12,10 +12,10 @@ use Rattle.bbm_rules.specs.Claims.{Patterns}
 use Rattle.bbm_rules.specs.Locks.{holder_of}
 use Rattle.bbm_rules.specs.RegisterValues.{register_values}
 use Rattle.bbm_rules.specs.Roots.{lock_of, root_at, roots_of}
-use Rattle.bbm_rules.specs.Tags.{holds_at}
+use Rattle.bbm_rules.specs.Tags.{holds_at, left_at}
 use Rattle.bbm_histories.specs.HistorySteps.{tag_waits}
 use Rattle.bbm_roots.specs.Columns.{loads_in}
-use Rattle.bbm_roots.specs.Holds.{hold_in}
+use Rattle.bbm_roots.specs.Holds.{hold_in, kept_in, left_in}
 use Rattle.bbm_roots.specs.RootPendings.{has_pending, pending_in, EachLost}
 use Rattle.bbm_roots.specs.RootRegisters.{first_reg, loads_after, second_reg}
 use Rattle.bbm_roots.specs.declared.named.NamedTlbi.{NamedTlbi}
@@ -29,10 +29,10 @@ abbrev pub world_of : Roots → World
 world_of roots = roots.registers.world
 
 -- The roots stand for the history of a log with this header, which keeps the rules over all patterns of events: they
--- keep what the readable values of each register name, the declared roots, which PEs hold a tag for a root, and, where a
--- tag is held, which unanswered TLBIs are about to take it away, and who holds each lock. Where they keep that no root
--- was declared with a lock, no declared root has one. Of the history it says besides that no PE that the log doesn't
--- have wrote a register.
+-- keep what the readable values of each register name, the declared roots, at which PEs a root holds a tag or one that
+-- was given up left it, and, where a tag is held or left, which unanswered TLBIs are about to take it away, and who
+-- holds each lock. Where they keep that no root was declared with a lock, no declared root has one. Of the history it
+-- says besides that no PE that the log doesn't have wrote a register.
 pub record Stands (roots : Roots) (heading : Heading) (h : List Event) : Type 0 where
   pub header : roots.header ≡ heading
   pub proper : heading_ok heading ≡ true
@@ -48,8 +48,9 @@ pub record Stands (roots : Roots) (heading : Heading) (h : List Event) : Type 0 
   pub count : index_map_len roots.declared ≡ length (roots_of h)
   pub locks : roots.names_locks ≡ false → (page : ℕ) → lock_of h page ≡ None
   pub holds : (tag : Tag) (root p : ℕ) → hold_in roots.holds tag root p ≡ holds_at heading Patterns p root tag h
-  pub inside : (tag : Tag) (root p : ℕ) → heading.pes ≤ p → holds_at heading Patterns p root tag h ≡ false
-  pub pendings : (q : ℕ) (broadcast : Bool) (tag : Tag) (root p : ℕ) → holds_at heading Patterns p root tag h ≡ true →
+  pub left : (tag : Tag) (page p : ℕ) → left_in roots.holds tag page p ≡ left_at heading Patterns p page tag h
+  pub inside : (tag : Tag) (p : ℕ) → heading.pes ≤ p → kept_in roots.holds tag p ≡ false
+  pub pendings : (q : ℕ) (broadcast : Bool) (tag : Tag) (p : ℕ) → kept_in roots.holds tag p ≡ true →
       pending_in roots.pendings q broadcast tag p ≡ tag_waits heading p tag q broadcast h
   pub holders : (lock : ℕ) → holder_at roots.locks lock ≡ holder_of h lock
 
@@ -57,8 +58,8 @@ pub record Stands (roots : Roots) (heading : Heading) (h : List Event) : Type 0 
 abbrev pub HasRoom : Roots → Type 0
 HasRoom roots = (0 < spare roots.declared) × (index_map_len roots.declared < 1024)
 
--- there is an entry for each tag that a TLBI of the issuer that names this takes and that is held at a PE which it
--- reaches and at which the tag is readable for no root
+-- there is an entry for each tag that a TLBI of the issuer that names this takes and that is held or left at a PE which
+-- it reaches and at which the tag is readable for no root
 abbrev pub IsReady : Roots → ℕ → NamedTlbi → Bool → Type 0
 IsReady roots issuer named takes =
     EachLost named.scope named.vmid roots.holds roots.registers issuer

@@ -68,13 +68,15 @@ impl Roots {
         }
     }
 
-    /// An `unroot` that breaks no rule: it retires the declared root with this first page. It takes no memory.
+    /// An `unroot` that breaks no rule: it retires the declared root with this first page, which leaves the tags that
+    /// it holds. It takes no memory.
     pub fn retire(&mut self, page: Page)
         ensures { (pe : ℕ) → TakesWhere (λ heading h. broken heading Patterns h (TheEvent.Unroot pe page) ≡ None)
             (TheEvent.Unroot pe page) self.old self.new }
     {
         laws_below();
         self.declared.swap_remove(&page.get());
+        hold::leave(&mut self.holds, &mut self.by_root, page);
     }
 
     /// An ISB of the PE: its newest register values alone stay in use. It takes no memory.

@@ -1,4 +1,4 @@
-//! Which PEs hold a tag for a root.
+//! Which PEs hold a tag for a root, or keep one that a root left.
 //! Source: project's own choice, where no other is named.
 
 ghost use Rattle.std.specs.Prelude.{◌≡◌, ℕ, Bool, ◌&&◌, ◌||◌, not, nat_eq, true, false, Option, Some, None};
@@ -15,7 +15,7 @@ ghost use Rattle.bbm_roots.specs.Readings.{same_tag as spec_same_tag, has_readin
 ghost use Rattle.bbm_roots.specs.Readings.{has_tag as spec_has_tag};
 ghost use Rattle.bbm_roots.specs.TagsByRoot.{is_listed, AreListed};
 
-use crate::by_root::{ByRoot, list, unlist};
+use crate::by_root::{ByRoot, Tags, list, unlist};
 use crate::pending::{Waiting, Waits, answers, slot};
 use crate::reading::Reading;
 use bbm_barriers::Dsb;
@@ -23,10 +23,10 @@ use bbm_regimes::{NoMemory, Page, Pe, PeCount, PeMask, Tag, same_tag};
 use indexmap::IndexMap;
 use std::alloc::Global;
 
-/// The tags that are held, each with its root and the PEs, by the key of the tag.
+/// The tags that are held or left, each with its root and the PEs, by the key of the tag.
 pub type Holds = IndexMap<u32, Held>;
 
-/// The PEs at which a root holds a tag.
+/// The PEs at which a root holds a tag, or one that was given up has left it.
 #[derive(Clone, Copy, Debug)]
 pub struct Held {
     /// The tag.
@@ -35,6 +35,8 @@ pub struct Held {
     pub root: Page,
     /// The PEs.
     pub pes: PeMask,
+    /// Whether the root was given up.
+    pub left: bool,
 }
 
 /// Whether one of the first n PEs is in the set.
@@ -47,11 +49,11 @@ pub fn some_pe(pes: PeMask, n: PeCount) -> bool
 impl Held {
     ghost use Rattle.bbm_roots.specs.Holds.{is_hold};
 
-    /// Whether the entry is that of the tag and the root.
+    /// Whether the entry is that of the tag and the root, which wasn't given up.
     pub fn is_hold(&self, tag: Tag, root: Page) -> bool
         ensures { result ≡ is_hold tag root self.now }
     {
-        same_tag(self.tag, tag) && self.root == root
+        same_tag(self.tag, tag) && self.root == root && !self.left
     }
 }
 
@@ -95,14 +97,23 @@ fn make_entry(holds: &mut Holds, tag: Tag, root: Page) -> Result<(), NoMemory>
         return Ok(());
     }
     let pes = PeMask::none();
-    match holds.insert(key, Held { tag, root, pes }) {
+    let left = false;
+    match holds.insert(
+        key,
+        Held {
+            tag,
+            root,
+            pes,
+            left,
+        },
+    ) {
         Ok(_) => Ok(()),
         Err(_) => Err(NoMemory),
     }
 }
 
 /// Makes an entry for each readable tag that has none, and lists it for its root. `NoMemory` where there is none.
-/// Nobody holds more or less.
+/// Nobody holds more or less, and no more or less is left.
 pub fn make_room(
     holds: &mut Holds,
     by_root: &mut ByRoot,
@@ -122,10 +133,12 @@ pub fn make_room(
     Ok(())
 }
 
-/// The entry of the tag with the PE in it: for this root, where another may have been there before.
+/// The entry of the tag with the PE in it: for this root, where another may have been there before, or one that left
+/// it.
 fn entered(held: Held, tag: Tag, root: Page, pe: Pe) -> Held
-    ensures { (r p : ℕ) → spec.holds_bit tag r p result
-        ≡ (nat_eq root r && (spec.holds_bit tag r p held || nat_eq p pe)) }
+    ensures held { (r p : ℕ) → spec.keeps_bit false tag r p result
+        ≡ (nat_eq root r && (spec.keeps_bit false tag r p held || nat_eq p pe)) }
+    ensures left { (r p : ℕ) → spec.keeps_bit true tag r p result ≡ false }
 {
     let one = PeMask::one(pe);
     let pes = if held.is_hold(tag, root) {
@@ -133,7 +146,13 @@ fn entered(held: Held, tag: Tag, root: Page, pe: Pe) -> Held
     } else {
         one
     };
-    Held { tag, root, pes }
+    let left = false;
+    Held {
+        tag,
+        root,
+        pes,
+        left,
+    }
 }
 
 /// Puts the PE into the entry of the tag, for this root alone.
@@ -141,6 +160,8 @@ fn mark_one(holds: &mut Holds, tag: Tag, root: Page, pe: Pe)
     requires { spec.has_entry holds.old tag ≡ true }
     ensures bits { (g : TheTag) (r p : ℕ) → spec.hold_in holds.new g r p ≡ (if spec_same_tag tag g
         then nat_eq root r && (spec.hold_in holds.old g r p || nat_eq p pe) else spec.hold_in holds.old g r p) }
+    ensures left { (g : TheTag) (r p : ℕ) → spec.left_in holds.new g r p
+        ≡ (spec.left_in holds.old g r p && not (spec_same_tag tag g)) }
     ensures entries { (g : TheTag) → spec.has_entry holds.new g ≡ spec.has_entry holds.old g }
 {
     enter(holds, tag_key(tag), tag, root, pe);
@@ -150,8 +171,9 @@ fn mark_one(holds: &mut Holds, tag: Tag, root: Page, pe: Pe)
 fn enter(holds: &mut Holds, key: u32, tag: Tag, root: Page, pe: Pe)
     requires { is_some (get nat_eq holds.old key) ≡ true }
     ensures others { OthersStay key holds.old holds.new }
-    ensures here { (r p : ℕ) → spec.entry_bit tag r p (get nat_eq holds.new key)
-        ≡ (nat_eq root r && (spec.entry_bit tag r p (get nat_eq holds.old key) || nat_eq p pe)) }
+    ensures here { (r p : ℕ) → spec.entry_bit false tag r p (get nat_eq holds.new key)
+        ≡ (nat_eq root r && (spec.entry_bit false tag r p (get nat_eq holds.old key) || nat_eq p pe)) }
+    ensures left { (r p : ℕ) → spec.entry_bit true tag r p (get nat_eq holds.new key) ≡ false }
     ensures known { (q : ℕ) → is_some (get nat_eq holds.new q) ≡ is_some (get nat_eq holds.old q) }
 {
     match holds.get_mut(&key) {
@@ -160,7 +182,7 @@ fn enter(holds: &mut Holds, key: u32, tag: Tag, root: Page, pe: Pe)
     }
 }
 
-/// Puts the PE into the entries of the readable tags, where no other root holds one of them.
+/// Puts the PE into the entries of the readable tags, where no other root holds one of them and none has left one.
 pub fn mark(holds: &mut Holds, readings: &[Reading], pe: Pe)
     requires { (g : TheTag) → spec_has_tag g readings.now ≡ true → spec.has_entry holds.old g ≡ true }
     ensures marked { spec.IsCalm holds.old readings.now → spec.Marks holds.old holds.new pe readings.now }
@@ -172,13 +194,13 @@ pub fn mark(holds: &mut Holds, readings: &[Reading], pe: Pe)
     }
 }
 
-/// Takes the PEs out of the entry under the key. Its root, where none is left in it.
+/// Takes the PEs out of the entry under the key. Its root, where it has none any more.
 fn narrow(holds: &mut Holds, key: u32, pes: PeMask) -> Option<Page>
     ensures others { OthersStay key holds.old holds.new }
-    ensures here { (g : TheTag) (r p : ℕ) → spec.entry_bit g r p (get nat_eq holds.new key)
-        ≡ (spec.entry_bit g r p (get nat_eq holds.old key) && not (pe_in pes p)) }
-    ensures none { IfSome result (λ root. (g : TheTag) (r p : ℕ) → spec.entry_bit g r p (get nat_eq holds.new key)
-        ≡ false) }
+    ensures here { (l : Bool) (g : TheTag) (r p : ℕ) → spec.entry_bit l g r p (get nat_eq holds.new key)
+        ≡ (spec.entry_bit l g r p (get nat_eq holds.old key) && not (pe_in pes p)) }
+    ensures none { IfSome result (λ root. (l : Bool) (g : TheTag) (r p : ℕ)
+        → spec.entry_bit l g r p (get nat_eq holds.new key) ≡ false) }
 {
     match holds.get_mut(&key) {
         Some(held) => {
@@ -195,16 +217,16 @@ fn narrow(holds: &mut Holds, key: u32, pes: PeMask) -> Option<Page>
 
 /// Forgets the entry under the key, in which there is no PE.
 fn forget(holds: &mut Holds, key: u32)
-    requires { (g : TheTag) (r p : ℕ) → spec.entry_bit g r p (get nat_eq holds.old key) ≡ false }
+    requires { (l : Bool) (g : TheTag) (r p : ℕ) → spec.entry_bit l g r p (get nat_eq holds.old key) ≡ false }
     ensures { spec.SameHolds holds.old holds.new }
 {
     holds.swap_remove(&key);
 }
 
-/// Takes the PEs out of the entry of the tag, and forgets it where none is left.
+/// Takes the PEs out of the entry of the tag, and forgets it where it has none any more.
 fn take_from(holds: &mut Holds, by_root: &mut ByRoot, tag: Tag, pes: PeMask)
-    ensures holds { (g : TheTag) (r p : ℕ) → spec.hold_in holds.new g r p
-        ≡ (spec.hold_in holds.old g r p && not (spec_same_tag tag g && pe_in pes p)) }
+    ensures holds { (l : Bool) (g : TheTag) (r p : ℕ) → spec.keeps_in holds.new l g r p
+        ≡ (spec.keeps_in holds.old l g r p && not (spec_same_tag tag g && pe_in pes p)) }
     ensures listed { AreListed holds.old by_root.old → AreListed holds.new by_root.new }
 {
     let key = tag_key(tag);
@@ -214,10 +236,47 @@ fn take_from(holds: &mut Holds, by_root: &mut ByRoot, tag: Tag, pes: PeMask)
     }
 }
 
+/// Marks the entry under the key as left, where it is the root's.
+fn leave_under(holds: &mut Holds, key: u32, root: Page)
+    ensures others { OthersStay key holds.old holds.new }
+    ensures held { (g : TheTag) (r p : ℕ) → spec.entry_bit false g r p (get nat_eq holds.new key)
+        ≡ (spec.entry_bit false g r p (get nat_eq holds.old key) && not (nat_eq r root)) }
+    ensures left { (g : TheTag) (r p : ℕ) → spec.entry_bit true g r p (get nat_eq holds.new key)
+        ≡ (spec.entry_bit true g r p (get nat_eq holds.old key)
+        || (nat_eq r root && spec.entry_bit false g r p (get nat_eq holds.old key))) }
+{
+    match holds.get_mut(&key) {
+        Some(held) => held.left |= held.root == root,
+        None => {}
+    }
+}
+
+/// Marks the entries of these tags as left, where they are the root's.
+fn leave_each(holds: &mut Holds, tags: &Tags, root: Page)
+    ensures { spec.LeavesThose holds.old holds.new root (λ g. is_some (get nat_eq tags.now (spec.tag_key g))) }
+{
+    for index in 0..tags.len() {
+        if let Some((key, _tag)) = tags.get_index(index) {
+            leave_under(holds, *key, root);
+        }
+    }
+}
+
+/// Marks what the root holds as left. It is listed for the root no more.
+pub fn leave(holds: &mut Holds, by_root: &mut ByRoot, root: Page)
+    requires { AreListed holds.old by_root.old }
+    ensures left { spec.Leaves holds.old holds.new root }
+    ensures listed { AreListed holds.new by_root.new }
+{
+    if let Some(tags) = by_root.swap_remove(&root.get()) {
+        leave_each(holds, &tags, root);
+    }
+}
+
 /// Takes away at these PEs the tag that waits under the key. Under the key of another tag nothing waits.
 fn release_under(holds: &mut Holds, by_root: &mut ByRoot, key: u32, waiting: Waiting)
-    ensures holds { (g : TheTag) (r p : ℕ) → spec.hold_in holds.new g r p ≡ (spec.hold_in holds.old g r p
-        && not (nat_eq (spec.tag_key g) key && wait_bit g p (Some waiting))) }
+    ensures holds { (l : Bool) (g : TheTag) (r p : ℕ) → spec.keeps_in holds.new l g r p
+        ≡ (spec.keeps_in holds.old l g r p && not (nat_eq (spec.tag_key g) key && wait_bit g p (Some waiting))) }
     ensures listed { AreListed holds.old by_root.old → AreListed holds.new by_root.new }
 {
     if tag_key(waiting.tag) == key {
@@ -227,8 +286,8 @@ fn release_under(holds: &mut Holds, by_root: &mut ByRoot, key: u32, waiting: Wai
 
 /// Takes the tags away that wait in this place, and empties it.
 fn release_all(holds: &mut Holds, by_root: &mut ByRoot, waits: &mut Waits)
-    ensures holds { (g : TheTag) (r p : ℕ) → spec.hold_in holds.new g r p
-        ≡ (spec.hold_in holds.old g r p && not (wait_in waits.old g p)) }
+    ensures holds { (l : Bool) (g : TheTag) (r p : ℕ) → spec.keeps_in holds.new l g r p
+        ≡ (spec.keeps_in holds.old l g r p && not (wait_in waits.old g p)) }
     ensures waits { (key : ℕ) → get nat_eq waits.new key ≡ None }
     ensures listed { AreListed holds.old by_root.old → AreListed holds.new by_root.new }
 {
@@ -241,8 +300,8 @@ fn release_all(holds: &mut Holds, by_root: &mut ByRoot, waits: &mut Waits)
 
 /// Takes the tags away that wait in the place of this number, and empties it, where it is there.
 fn release_place(holds: &mut Holds, by_root: &mut ByRoot, waits: &mut Vec<Waits>, place: usize)
-    ensures holds { (g : TheTag) (r p : ℕ) → spec.hold_in holds.new g r p
-        ≡ (spec.hold_in holds.old g r p && not (wait_bit g p (wait_at waits.old.items place (spec.tag_key g)))) }
+    ensures holds { (l : Bool) (g : TheTag) (r p : ℕ) → spec.keeps_in holds.new l g r p
+        ≡ (spec.keeps_in holds.old l g r p && not (wait_bit g p (wait_at waits.old.items place (spec.tag_key g)))) }
     ensures waits { EmptiesPlace place waits.old.items waits.new.items }
     ensures listed { AreListed holds.old by_root.old → AreListed holds.new by_root.new }
 {
@@ -261,8 +320,8 @@ fn release_one(
     dsb: Dsb,
     broadcast: bool,
 )
-    ensures holds { (g : TheTag) (r p : ℕ) → spec.hold_in holds.new g r p ≡ (spec.hold_in holds.old g r p
-        && not (dsb_answers dsb broadcast
+    ensures holds { (l : Bool) (g : TheTag) (r p : ℕ) → spec.keeps_in holds.new l g r p
+        ≡ (spec.keeps_in holds.old l g r p && not (dsb_answers dsb broadcast
         && wait_bit g p (wait_at waits.old.items (slot_of issuer broadcast) (spec.tag_key g)))) }
     ensures waits { (q : ℕ) (b : Bool) (key : ℕ) → wait_at waits.new.items (slot_of q b) key
         ≡ (if (nat_eq q issuer && same_flag broadcast b) && dsb_answers dsb broadcast then None
@@ -282,8 +341,8 @@ pub fn release(
     issuer: Pe,
     dsb: Dsb,
 )
-    ensures holds { (g : TheTag) (r p : ℕ) → spec.hold_in holds.new g r p ≡ (spec.hold_in holds.old g r p
-        && not ((dsb_answers dsb true && wait_bit g p (wait_at waits.old.items (slot_of issuer true) (spec.tag_key g)))
+    ensures holds { (l : Bool) (g : TheTag) (r p : ℕ) → spec.keeps_in holds.new l g r p
+        ≡ (spec.keeps_in holds.old l g r p && not ((dsb_answers dsb true && wait_bit g p (wait_at waits.old.items (slot_of issuer true) (spec.tag_key g)))
         || (dsb_answers dsb false && wait_bit g p (wait_at waits.old.items (slot_of issuer false) (spec.tag_key g))))) }
     ensures waits { (q : ℕ) (b : Bool) (key : ℕ) → wait_at waits.new.items (slot_of q b) key
         ≡ (if nat_eq q issuer && dsb_answers dsb b then None else wait_at waits.old.items (slot_of q b) key) }

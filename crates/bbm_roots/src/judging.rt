@@ -4,13 +4,13 @@
 use crate::laws_below::laws_below;
 use crate::named::NamedTlbi;
 use crate::roots::Roots;
-use crate::{registers, search, vmid};
+use crate::{registers, vmid};
 use bbm_regimes::{Page, Pe, World};
 use bbm_rules::{Rule, StepFault};
-use bbm_tlbi_scope::{TlbiOp, decode, lacks_vmid};
+use bbm_tlbi_scope::{TagSet, TlbiOp, decode, lacks_vmid};
 
 impl Roots {
-    ghost use Rattle.std.specs.Prelude.{◌≡◌, ◌||◌, ℕ, List, length, nat_lt, true, is_some, IfOk};
+    ghost use Rattle.std.specs.Prelude.{◌≡◌, ◌&&◌, ◌||◌, ℕ, List, length, nat_lt, not, true, is_some, IfOk};
     ghost use Rattle.bbm_events.specs.Heading.{Heading};
     ghost use Rattle.bbm_events.specs.declared.event.Event.{Event as TheEvent};
     ghost use Rattle.bbm_lemmas.specs.ListWords.{some_pe};
@@ -39,18 +39,17 @@ impl Roots {
         ensures { (heading : Heading) (h : List TheEvent) → Stands self.now heading h
             → result ≡ nat_lt 0 (length (tags.tags_of heading Patterns page h)) }
     {
-        laws_below();
-        search::first_tag(&self.holds, self.registers.pes, page).is_some()
+        !matches!(self.tags_of(page), TagSet::None)
     }
 
     /// Whether the declared root with this first page is in use, which keeps it from being retired: it is the base of a
-    /// readable register value, or it holds a tag.
+    /// readable register value, or, under a header without `unflushed`, it holds a tag.
     fn is_used(&self, page: Page) -> bool
         ensures { (heading : Heading) (h : List TheEvent) → Stands self.now heading h
             → is_some (spec.root_at h page) ≡ true → result ≡ (some_pe heading.pes (is_base_at h page)
-            || nat_lt 0 (length (tags.tags_of heading Patterns page h))) }
+            || (not heading.words.unflushed && nat_lt 0 (length (tags.tags_of heading Patterns page h)))) }
     {
-        self.is_base(page) || self.holds_tag(page)
+        self.is_base(page) || (!self.header.words.unflushed && self.holds_tag(page))
     }
 
     /// Judges an `unroot` of the page by the PE: Ok exactly where it breaks no rule, else `Broken` with the least rule

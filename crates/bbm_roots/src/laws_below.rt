@@ -6,7 +6,7 @@ ghost use Rattle.bbm_roots.specs.RootLaws.{Laws};
 use bbm_histories::{law_bases, law_proper, law_tags};
 use bbm_rules::{
     law_each_rule, law_equality_tests, law_notes_keep_the_events, law_readable_tag, law_root,
-    law_tag_set,
+    law_tag_left, law_tag_set,
 };
 
 /// The laws that the proofs here stand on.
@@ -20,6 +20,7 @@ pub(crate) fn laws_below()
     law_proper();
     law_readable_tag();
     law_root();
+    law_tag_left();
     law_tag_set();
     law_tags();
 }

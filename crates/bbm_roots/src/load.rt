@@ -4,6 +4,7 @@
 ghost use Rattle.std.specs.Prelude.{◌≡◌};
 ghost use Rattle.bbm_roots.specs.RootRegisters as spec;
 
+use bbm_events::{Header, nulls_everywhere};
 use bbm_regimes::{Page, Reg};
 
 /// What the value of a root register names. Source: Arm ARM (DDI 0487), "AArch64 System register
@@ -18,10 +19,10 @@ pub struct RootValue {
 
 /// Whether a value of this register, whose base is a null page or isn't, as `null` says, means that no walk is
 /// made.
-pub fn names_null(reg: Reg, null: bool) -> bool
-    ensures { result ≡ spec.names_null reg null }
+pub fn names_null(header: &Header, reg: Reg, null: bool) -> bool
+    ensures { result ≡ spec.names_null header.now reg null }
 {
-    matches!(reg, Reg::Ttbr0El1) && null
+    null && (matches!(reg, Reg::Ttbr0El1) || nulls_everywhere(header))
 }
 
 /// Whether the register is the first of its world: TTBR0_EL2, or TTBR0_EL1.

@@ -1,16 +1,16 @@
 //! Searches among the entries of the roots that hold tags.
 
-ghost use Rattle.std.specs.Prelude.{◌≡◌, ℕ, Bool, ◌&&◌, ◌||◌, nat_eq, true, false, Option, Some, None, IfSome};
+ghost use Rattle.std.specs.Prelude.{◌≡◌, ℕ, Bool, ◌&&◌, ◌||◌, nat_eq, not, true, false, Option, Some, None, IfSome};
 ghost use Rattle.std.specs.Prelude.{is_some};
 ghost use Rattle.indexmap.specs.IndexMap.{get};
 ghost use Rattle.bbm_regimes.specs.declared.regime.Tag.{Tag as TheTag};
 ghost use Rattle.bbm_tlbi_scope.specs.TagSets.{HasTags};
 ghost use Rattle.bbm_roots.specs.declared.reading.Reading.{Reading as TheReading};
 ghost use Rattle.bbm_roots.specs.Holds as spec;
-ghost use Rattle.bbm_roots.specs.Readings.{is_other, is_reading, has_other as spec_has_other};
+ghost use Rattle.bbm_roots.specs.Readings.{is_reading, has_other as spec_has_other};
 ghost use Rattle.bbm_roots.specs.Readings.{same_tag as spec_same_tag};
 ghost use Rattle.bbm_roots.specs.RootRegisters.{is_that};
-ghost use Rattle.bbm_roots.specs.LeastOf.{IsLeast, IsLeastWith, ReadingUpTo, TagUpTo};
+ghost use Rattle.bbm_roots.specs.LeastOf.{IsLeast, IsLeastWith, ReadingUpTo};
 ghost use Rattle.bbm_roots.specs.TagsByRoot.{AreListed};
 
 use crate::by_root::{ByRoot, Tags};
@@ -49,13 +49,14 @@ fn lesser(least: Option<Reading>, tag: Tag, root: Page) -> Option<Reading>
     }
 }
 
-/// The root that holds the tag at one of the first n PEs.
-fn holder_of(holds: &Holds, n: PeCount, tag: Tag) -> Option<Page>
-    ensures { (r : ℕ) → spec.tag_in holds.now n tag r ≡ is_that result r }
+/// The root that keeps the tag at one of the first n PEs: another than this that holds it, or one that left it.
+fn keeper_of(holds: &Holds, n: PeCount, tag: Tag, root: Page) -> Option<Page>
+    ensures { (r : ℕ) → ((not (nat_eq root r) && spec.tag_in holds.now n tag r) || spec.kept_tag holds.now true n tag r)
+        ≡ is_that result r }
 {
     match holds.get(&tag_key(tag)) {
         Some(held) => {
-            if same_tag(held.tag, tag) && some_pe(held.pes, n) {
+            if same_tag(held.tag, tag) && (held.left || held.root != root) && some_pe(held.pes, n) {
                 Some(held.root)
             } else {
                 None
@@ -65,24 +66,17 @@ fn holder_of(holds: &Holds, n: PeCount, tag: Tag) -> Option<Page>
     }
 }
 
-/// The least, where the tag is one more candidate for another root that holds it.
-fn with_holder(
+/// The least, where the tag is one more candidate for another root that holds it, or one that left it.
+fn with_keeper(
     least: Option<Reading>,
     holds: &Holds,
     n: PeCount,
     reading: &Reading,
 ) -> Option<Reading>
-    ensures { IsLeastWith ReadingUpTo (λ x. is_other x.tag x.root reading.now && spec.tag_in holds.now n x.tag x.root)
-        least result }
+    ensures { IsLeastWith ReadingUpTo (λ x. spec.keeps_other holds.now n reading.now x) least result }
 {
-    match holder_of(holds, n, reading.tag) {
-        Some(root) => {
-            if root == reading.root {
-                least
-            } else {
-                lesser(least, reading.tag, root)
-            }
-        }
+    match keeper_of(holds, n, reading.tag, reading.root) {
+        Some(root) => lesser(least, reading.tag, root),
         None => least,
     }
 }
@@ -109,7 +103,7 @@ fn with_clash(
 ) -> Option<Reading>
     ensures { IsLeastWith ReadingUpTo (λ x. spec.is_clash holds.now n seen.now x reading.now) least result }
 {
-    with_holder(with_reading(least, seen, reading), holds, n, reading)
+    with_keeper(with_reading(least, seen, reading), holds, n, reading)
 }
 
 /// The least root and tag in conflict: by the root's first page, then by the tag. None where there is none.
@@ -131,42 +125,9 @@ const FEW: usize = 8;
 /// it says nothing.
 fn is_held_under(key: u32, held: &Held, n: PeCount, root: Page) -> bool
     ensures held { (g : TheTag) → spec.is_held_under n g root key held.now ≡ (spec.is_hold g root held.now && result) }
-    ensures root { result ≡ true → held.now.root ≡ root }
+    ensures own { result ≡ true → spec.is_hold held.now.tag root held.now ≡ true }
 {
     held.is_hold(held.tag, root) && some_pe(held.pes, n) && tag_key(held.tag) == key
-}
-
-/// The first tag, where that of the entry under this key is one more candidate.
-fn first_of(first: Option<Tag>, key: u32, held: &Held, n: PeCount, root: Page) -> Option<Tag>
-    ensures { IsLeastWith TagUpTo (λ g. spec.is_held_under n g root key held.now) first result }
-{
-    if !is_held_under(key, held, n, root) {
-        return first;
-    }
-    match first {
-        Some(best) => {
-            if tag_rank(best) <= tag_rank(held.tag) {
-                Some(best)
-            } else {
-                Some(held.tag)
-            }
-        }
-        None => Some(held.tag),
-    }
-}
-
-/// The first tag that the root holds at one of the first n PEs, in the order `El2`, VMIDs, ASIDs, `Ttbr1`. None where
-/// it holds none.
-pub fn first_tag(holds: &Holds, n: PeCount, root: Page) -> Option<Tag>
-    ensures { IsLeast TagUpTo (λ g. spec.tag_in holds.now n g root) result }
-{
-    let mut first = None;
-    for index in 0..holds.len() {
-        if let Some((key, held)) = holds.get_index(index) {
-            first = first_of(first, *key, held, n, root);
-        }
-    }
-    first
 }
 
 /// The set with the tag of the entry under this key, where the root holds it at one of the first n PEs; None where it

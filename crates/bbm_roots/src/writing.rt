@@ -51,14 +51,14 @@ impl Roots {
     /// root.
     fn named_root(&self, reg: Reg, value: u64, null: bool) -> Result<Option<Page>, StepFault>
         ensures named { IfOk result (λ root. (heading : Heading) (h : List TheEvent) → Stands self.now heading h
-            → root ≡ root_of reg value null) }
+            → root ≡ root_of heading reg value null) }
         ensures found { OnOk result ((heading : Heading) (h : List TheEvent) → Stands self.now heading h
-            → missing_root h reg value null ≡ None) }
+            → missing_root heading h reg value null ≡ None) }
         ensures missing { IfErr result (λ fault. (base : ℕ) × (fault ≡ StepFault.Broken Rule.NoRoot base)
             × ((heading : Heading) (h : List TheEvent) → Stands self.now heading h
-            → missing_root h reg value null ≡ Some base)) }
+            → missing_root heading h reg value null ≡ Some base)) }
     {
-        if names_null(reg, null) {
+        if names_null(&self.header, reg, null) {
             return Ok(None);
         }
         match base_of(value) {
@@ -130,12 +130,13 @@ impl Roots {
     }
 
     /// A register write of the PE, judged and taken. `null` tells whether the base of the value is a null page, which
-    /// counts in TTBR0_EL1 alone: such a value names no root, as 0 does. Ok exactly where it breaks no rule and reaches
-    /// no limit, and there is memory. `Broken` with the least rule that it breaks: wrong-world; no-root, where the
-    /// value names another base than that of a declared root of the register's kind; or tag-conflict, with the least
-    /// first page of another root that holds a tag which would be readable. Else `Limit(Values)` where it is the ninth
-    /// write of the register without an ISB between. `NoMemory` may come in the place of tag-conflict, the limit, and
-    /// Ok. After any answer but Ok nothing changes.
+    /// under a header of version 4 or older counts in TTBR0_EL1 alone: such a value names no root, as 0 does. Ok
+    /// exactly where it breaks no rule and reaches no limit, and there is memory. `Broken` with the least rule that it
+    /// breaks: wrong-world; no-root, where the value names another base than that of a declared root of the register's
+    /// kind; or tag-conflict, with the least first page of another root that holds a tag which would be readable, or of
+    /// one that was given up and left it. Else `Limit(Values)` where it is the ninth write of the register without an
+    /// ISB between. `NoMemory` may come in the place of tag-conflict, the limit, and Ok. After any answer but Ok
+    /// nothing changes.
     pub fn write_reg(
         &mut self,
         alloc: Global,

@@ -1,11 +1,10 @@
-use Rattle.bbm_roots.proofs.Common.{◌≡◌, ◌∙◌, ◌<◌, ◌≤◌, ◌&&◌, List, [], ◌∷◌, ℕ, Some, None, Option, arith, ap, sym}
+use Rattle.bbm_roots.proofs.Common.{◌≡◌, List, [], ◌∷◌, ℕ, Some, None, Option, arith}
 use Rattle.bbm_roots.proofs.Common.{refl, rules, El2, true, false}
-use Rattle.bbm_roots.proofs.Common.{base_of, Bool, Heading, Event, Root, Patterns, Stands, has_null_base}
+use Rattle.bbm_roots.proofs.Common.{base_of, Heading, Event, Root, Patterns, has_null_base}
 use Rattle.bbm_events.specs.declared.event.Event.TheVariants.{Init}
 use Rattle.bbm_rules.proofs.Common.{and_parts, is_null, is_none}
 use Rattle.bbm_rules.specs.Broken.{broken, keeps, Breach}
 use Rattle.std.specs.Option.{option_map_or}
-use Rattle.bbm_roots.specs.declared.roots.Roots.{Roots}
 use Rattle.bbm_roots.proofs.example.first_root.Goals as goal
 
 -- the two events break no rule

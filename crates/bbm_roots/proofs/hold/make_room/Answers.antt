@@ -1,4 +1,4 @@
-use Rattle.bbm_roots.proofs.Common.{◌≡◌, ◌∙◌, ◌||◌, true, take, arith, ap, sym, or_left, or_right, tag_key, has_entry}
+use Rattle.bbm_roots.proofs.Common.{◌≡◌, ◌∙◌, ◌||◌, false, true, take, arith, ap, sym, or_left, or_right, tag_key, has_entry}
 use Rattle.bbm_roots.proofs.Common.{is_listed, has_reading, has_tag, is_of_tag, is_reading, same_tag, subst, Reading}
 use Rattle.bbm_roots.proofs.Tests.{as-same, or-split, any-next}
 use Rattle.bbm_roots.proofs.hold.make_room.Goals as goal
@@ -11,10 +11,10 @@ loop-reading-preserved c =
     let new = c.list.new.by_root in
     let before = c.loop-reading.holds in
     record {
-      same = λ g r p. c.make_entry.ensures.same g r p ∙ c.loop-reading.invariant.same g r p;
+      same = λ l g r p. c.make_entry.ensures.same l g r p ∙ c.loop-reading.invariant.same l g r p;
       kept = λ all g r p e.
           c.list.ensures.kept r (tag_key g)
-          (c.loop-reading.invariant.kept all g r p (sym (c.make_entry.ensures.same g r p) ∙ e));
+          (c.loop-reading.invariant.kept all g r p (sym (c.make_entry.ensures.same false g r p) ∙ e));
       listed = λ g r e.
           or-split (has_reading g r (take i readings)) (is_reading g r y) (is_listed new r (tag_key g) ≡ true)
           (λ k. c.list.ensures.kept r (tag_key g) (c.loop-reading.invariant.listed g r k))

@@ -1,5 +1,5 @@
 use Rattle.bbm_roots.proofs.Common.{tag_self, ◌≡◌, ◌+◌, ◌∙◌, ◌&&◌, ◌||◌, nat_eq, not, take, arith, ap, sym, cond, ℕ}
-use Rattle.bbm_roots.proofs.Common.{List, Bool, true, false, list_any, Tag, hold_in, has_reading, is_reading, is_other}
+use Rattle.bbm_roots.proofs.Common.{List, Bool, true, false, list_any, Tag, hold_in, left_in, has_reading, is_reading, is_other}
 use Rattle.bbm_roots.proofs.Common.{is_of_tag, same_tag, Reading, or_right}
 use Rattle.bbm_roots.proofs.Entries.{marked-step}
 use Rattle.bbm_roots.proofs.Tests.{any-next, any-front, none-front}
@@ -17,6 +17,9 @@ other-there y g r same here = ap (λ (b : Bool). b && not (nat_eq y.root r)) sam
 only-step : (same here now at old seen : Bool) → (now ≡ true → (old || seen) ≡ true) →
     cond same (here && (now || at)) now ≡ true → (old || (seen || (same && here))) ≡ true
 only-step same here now at old seen = grind (arith)
+
+left-step : (old same : Bool) → (same ≡ true → old ≡ false) → (old && not same) ≡ old
+left-step old same none = grind (arith)
 
 pub mark_one-requires : goal.mark_one-requires
 mark_one-requires c =
@@ -38,13 +41,18 @@ loop-reading-preserved c =
     record {
       bits = λ calm g r p.
           let other = λ (same : same_tag y.tag g ≡ true) (here : nat_eq y.root r ≡ false).
-          calm g r (there (is_other g r) readings i y (any-next (is_other g r) readings i y (omega arith) is)
+          calm.others g r (there (is_other g r) readings i y (any-next (is_other g r) readings i y (omega arith) is)
           (other-there y g r same here)) in
           let next = any-next (is_reading g r) readings i y (omega arith) is in
           rw (c.mark_one.ensures.bits g r p, c.loop-reading.invariant.bits calm g r p, next)
           (marked-step (same_tag y.tag g) (nat_eq y.root r) (hold_in old g r p) (nat_eq p c.args.pe)
           (has_reading g r (take i readings)) (λ same here. (other same here).1 p)
           (λ same here. none-front (is_reading g r) i readings (other same here).0));
+      left = λ calm g r p.
+          let tag = λ (same : same_tag y.tag g ≡ true).
+          calm.none_left g r p (there (is_of_tag g) readings i y (any-next (is_of_tag g) readings i y (omega arith) is) same) in
+          rw (c.mark_one.ensures.left g r p, c.loop-reading.invariant.left calm g r p)
+          (left-step (left_in old g r p) (same_tag y.tag g) tag);
       only = λ g r p e.
           ap (λ (b : Bool). hold_in old g r p || b) (any-next (is_reading g r) readings i y (omega arith) is)
           ∙ only-step (same_tag y.tag g) (nat_eq y.root r) (hold_in c.loop-reading.holds g r p) (nat_eq p c.args.pe)

@@ -1,5 +1,5 @@
 use Rattle.bbm_roots.proofs.Common.{◌≡◌, ◌&&◌, ◌||◌, not, Bool, true, false, cond, Option, None, nat_eq, Tag, arith, ℕ}
-use Rattle.bbm_roots.proofs.Common.{answers, Dsb, hold_in, tag_key, slot_of, wait_at, wait_bit, same_flag, Waiting}
+use Rattle.bbm_roots.proofs.Common.{answers, Dsb, keeps_in, tag_key, slot_of, wait_at, wait_bit, same_flag, Waiting}
 use Rattle.bbm_roots.proofs.hold.release.Goals as goal
 
 -- what the second of the two leaves, which looks at another place
@@ -14,11 +14,11 @@ both : (dsb : Dsb) (k b : Bool) (o : Option Waiting) →
 both dsb k b o = grind (arith)
 
 pub returns-clause-holds : goal.returns-clause-holds
-returns-clause-holds c = λ g r p.
+returns-clause-holds c = λ l g r p.
     let issuer = c.args.issuer in
     let old = c.args.waits.now.items in
-    rw (c.release_one-2.ensures.holds g r p, c.release_one.ensures.holds g r p, c.release_one.ensures.waits issuer false (tag_key g))
-    (left c.args.dsb (nat_eq issuer issuer) (hold_in c.args.holds.now g r p)
+    rw (c.release_one-2.ensures.holds l g r p, c.release_one.ensures.holds l g r p, c.release_one.ensures.waits issuer false (tag_key g))
+    (left c.args.dsb (nat_eq issuer issuer) (keeps_in c.args.holds.now l g r p)
     (answers c.args.dsb true && wait_bit g p (wait_at old (slot_of issuer true) (tag_key g))) g p
     (wait_at old (slot_of issuer false) (tag_key g)))
 

@@ -1,4 +1,4 @@
-use Rattle.bbm_roots.proofs.Common.{◌∙◌, ◌&&◌, not, arith, ap, sym, Option, false≢true, hold_in, tag_key, wait_bit}
+use Rattle.bbm_roots.proofs.Common.{◌∙◌, ◌&&◌, not, arith, ap, sym, Option, false≢true, keeps_in, tag_key, wait_bit}
 use Rattle.bbm_roots.proofs.Common.{Waiting, and-true}
 use Rattle.bbm_roots.proofs.Places.{none-in, popped-step}
 use Rattle.bbm_roots.proofs.hold.release_all.Goals.{in-Some, in_default}
@@ -11,10 +11,10 @@ loop-count-preserved c =
         len = omega (arith, w.in-Some.ensures.len, c.loop-count.invariant.len);
         listed = λ before g r p e.
             rw w.by_root-is (w.release_under.ensures.listed (c.loop-count.invariant.listed before) g r p (rw w.holds-is at e));
-        bits = λ g r p.
-            rw (w.holds-is, w.release_under.ensures.holds g r p)
+        bits = λ l g r p.
+            rw (w.holds-is, w.release_under.ensures.holds l g r p)
             (popped-step c.loop-count.waits c.pop.new.self w.in-Some.key w.in-Some.waiting w.in-Some.ensures.entries
-            w.in-Some.ensures.updates g p (hold_in c.loop-count.holds g r p) ∙ c.loop-count.invariant.bits g r p);
+            w.in-Some.ensures.updates g p (keeps_in c.loop-count.holds l g r p) ∙ c.loop-count.invariant.bits l g r p);
       }
       | in_default w ↦
           absurd (false≢true (w.in_default.ensures.found.1
@@ -22,10 +22,10 @@ loop-count-preserved c =
     ]
 
 pub returns-clause-holds : goal.returns-clause-holds
-returns-clause-holds c = λ g r p.
-    sym (ap (λ (o : Option Waiting). hold_in c.loop-count.holds g r p && not (wait_bit g p o))
-    (none-in c.loop-count.waits (omega arith) (tag_key g)) ∙ and-true (hold_in c.loop-count.holds g r p))
-    ∙ c.loop-count.invariant.bits g r p
+returns-clause-holds c = λ l g r p.
+    sym (ap (λ (o : Option Waiting). keeps_in c.loop-count.holds l g r p && not (wait_bit g p o))
+    (none-in c.loop-count.waits (omega arith) (tag_key g)) ∙ and-true (keeps_in c.loop-count.holds l g r p))
+    ∙ c.loop-count.invariant.bits l g r p
 
 pub returns-clause-waits : goal.returns-clause-waits
 returns-clause-waits c = none-in c.loop-count.waits (omega arith)

@@ -10,6 +10,7 @@ returns c heading = record {
   notes_keep_the_events = c.law_notes_keep_the_events.ensures heading Patterns;
   readable_tag = c.law_readable_tag.ensures heading;
   root = c.law_root.ensures;
+  tag_left = c.law_tag_left.ensures heading Patterns;
   tag_set = c.law_tag_set.ensures heading Patterns;
   tags = c.law_tags.ensures heading Patterns;
 }

@@ -1,4 +1,5 @@
-use Rattle.bbm_roots.proofs.Common.{◌||◌, ◌&&◌, tag_in, is_clash, ReadingUpTo, is_reading, is_other, has_other}
+use Rattle.bbm_roots.proofs.Common.{◌||◌, ◌&&◌, is_clash, ReadingUpTo, is_reading, has_other}
+use Rattle.bbm_roots.specs.Holds.{keeps_other}
 use Rattle.bbm_roots.proofs.Common.{or_assoc}
 use Rattle.bbm_roots.proofs.Tests.{least-same}
 use Rattle.bbm_roots.proofs.search.with_clash.Goals as goal
@@ -12,6 +13,6 @@ returns c = λ test h.
     let n = c.args.n in
     least-same ReadingUpTo _ (λ x. test x || is_clash holds n seen x y)
     (λ x. sym (or_assoc (test x) (is_reading x.tag x.root y && has_other x.tag x.root seen)
-    (is_other x.tag x.root y && tag_in holds n x.tag x.root)))
-    c.with_holder.result
-    (c.with_holder.ensures (λ x. test x || (is_reading x.tag x.root y && has_other x.tag x.root seen)) (c.with_reading.ensures test h))
+    (keeps_other holds n y x)))
+    c.with_keeper.result
+    (c.with_keeper.ensures (λ x. test x || (is_reading x.tag x.root y && has_other x.tag x.root seen)) (c.with_reading.ensures test h))

@@ -1,5 +1,5 @@
-use Rattle.bbm_roots.proofs.Common.{◌≡◌, ℕ, ◌&&◌, ap, ◌∙◌, sym, Bool, Tag, is_hold, is_held_under, and-true}
-use Rattle.bbm_roots.proofs.Tests.{hold-tag, hold-self}
+use Rattle.bbm_roots.proofs.Common.{◌≡◌, ◌&&◌, ap, ◌∙◌, sym, Bool, Tag, is_hold, is_held_under, and-true}
+use Rattle.bbm_roots.proofs.Tests.{hold-tag}
 use Rattle.bbm_roots.proofs.search.with_entry.Goals as goal
 
 pub returns-then-is_held_under-clause-added : goal.returns-then-is_held_under-clause-added
@@ -10,5 +10,5 @@ returns-then-is_held_under-clause-added c = λ test h.
     c.is_held_under.ensures.held g ∙ ap (λ (b : Bool). is_hold g c.args.root held && b) c.if-is_held_under.true
     ∙ and-true (is_hold g c.args.root held) in
     c.with_tag.ensures test show h
-    (is held.tag ∙ ap (λ (r : ℕ). is_hold held.tag r held) (sym (c.is_held_under.ensures.root c.if-is_held_under.true)) ∙ hold-self held)
+    (is held.tag ∙ c.is_held_under.ensures.own c.if-is_held_under.true)
     (λ g e. sym (hold-tag g c.args.root held (sym (is g) ∙ e)))

@@ -1,4 +1,4 @@
-use Rattle.bbm_roots.proofs.Common.{◌∙◌, ap, sym, refl, cond, Bool, Some, None, Option, ℕ, slice_index_or}
+use Rattle.bbm_roots.proofs.Common.{◌∙◌, ap, sym, refl, cond, Bool, Some, None, ℕ, slice_index_or}
 use Rattle.bbm_roots.proofs.Numbers.{one-by}
 use Rattle.bbm_roots.proofs.vmid.one_number.Goals as goal
 

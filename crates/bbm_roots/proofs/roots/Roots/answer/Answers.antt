@@ -8,7 +8,7 @@ without g p k t o = grind (arith)
 
 pub returns : goal.returns
 returns c = record {
-  holds = λ g r p. rw c.requires (c.release.ensures.holds g r p);
+  holds = λ l g r p. rw c.requires (c.release.ensures.holds l g r p);
   pendings = λ q b g p.
       let old = c.args.self.now.pendings in
       rw (c.close.ensures q b g p, c.release.ensures.waits q b (tag_key g))

@@ -1,10 +1,12 @@
 use Rattle.bbm_roots.proofs.Common.{◌≡◌, ◌∙◌, ap, sym, ℕ, Bool, ◌&&◌, List, ◌∷◌, not, nat_eq, true, false, refl, arith}
-use Rattle.bbm_roots.proofs.Common.{pe_in, Heading, Event, ADsb, nat_tests, answers, Dsb, Tag, loads_in, hold_in}
+use Rattle.bbm_roots.proofs.Common.{pe_in, Heading, Event, ADsb, nat_tests, answers, Dsb, Tag, loads_in, keeps_in, kept_in, first_true, not-true, false≢true}
+use Rattle.bbm_lemmas.proofs.Bools.{not_from}
 use Rattle.bbm_roots.proofs.Common.{pending_in, Stands, Pendings, Registers, Roots, and-true, holder_at, Patterns}
 use Rattle.bbm_roots.specs.RootPendings.{answered_in}
 use Rattle.bbm_roots.specs.RootChanges.{Completes, Takes}
 use Rattle.bbm_roots.proofs.Changes.{room-same}
-use Rattle.bbm_roots.proofs.Steps.{holds-completed, held-before, not-before, waits-complete}
+use Rattle.bbm_roots.proofs.Entries.{by-root, no-more}
+use Rattle.bbm_roots.proofs.Steps.{keeps-completed, keeps-is, waits-complete, keeps_at}
 use Rattle.bbm_histories.proofs.Induction.{kept_next}
 use Rattle.bbm_locks.specs.declared.locks.Locks.{Locks}
 use Rattle.bbm_roots.proofs.Judge.{broken_dsb}
@@ -25,19 +27,26 @@ completed old new heading h issuer dsb stands answered = record {
   declared = λ q. let d = answered.roots.declared in let s = stands.declared q in cc;
   count = let d = answered.roots.declared in let s = stands.count in cc;
   locks = λ none. stands.locks (sym answered.roots.names ∙ none);
-  holds = λ g r p.
-      answered.holds g r p
-      ∙ holds-completed heading h issuer dsb g r p (hold_in old.holds g r p)
-      (pending_in old.pendings issuer true g p) (pending_in old.pendings issuer false g p)
-      (stands.holds g r p) (stands.pendings issuer true g r p) (stands.pendings issuer false g r p);
-  inside = λ g r p past. not-before heading h issuer dsb g r p (stands.inside g r p past);
-  pendings = λ q b g r p after.
+  holds = keeps false;
+  left = keeps true;
+  inside = λ g p past. not-true _ (not_from _ (λ after. false≢true (sym (stands.inside g p past) ∙ less g p after)));
+  pendings = λ q b g p after.
       answered.pendings q b g p
-      ∙ ap (λ (x : Bool). x && not (nat_eq q issuer && answers dsb b))
-      (stands.pendings q b g r p (held-before heading h issuer dsb g r p after))
+      ∙ ap (λ (x : Bool). x && not (nat_eq q issuer && answers dsb b)) (stands.pendings q b g p (less g p after))
       ∙ sym (waits-complete heading h issuer dsb q b g p);
   holders = λ lock. ap (λ (l : Locks). holder_at l lock) answered.roots.locks ∙ stands.holders lock;
 }
+  where
+    less : (g : Tag) (p : ℕ) → kept_in new.holds g p ≡ true → kept_in old.holds g p ≡ true
+    less g p = no-more old.holds new.holds g p (λ l r k. first_true (keeps_in old.holds l g r p) _ (sym (answered.holds l g r p) ∙ k))
+
+    keeps : (l : Bool) (g : Tag) (r p : ℕ) → keeps_in new.holds l g r p ≡ keeps_at heading l p r g (ADsb issuer dsb ∷ h)
+    keeps l g r p =
+        answered.holds l g r p
+        ∙ keeps-completed heading h issuer dsb l g r p (keeps_in old.holds l g r p)
+        (pending_in old.pendings issuer true g p) (pending_in old.pendings issuer false g p) (keeps-is stands l g r p)
+        (λ k. stands.pendings issuer true g p (by-root old.holds l g r p k))
+        (λ k. stands.pendings issuer false g p (by-root old.holds l g r p k))
 
 -- an issuer of whom nothing waits
 none-answered : (ps : Pendings) (issuer : ℕ) (dsb : Dsb) (g : Tag) (p : ℕ) → pe_in ps.issuers issuer ≡ false →
@@ -64,7 +73,7 @@ returns-else-has c =
     let none : pe_in old.pendings.issuers c.args.issuer ≡ false = sym c.has.ensures ∙ c.if-has.false in
     takes old old c.args.issuer c.args.dsb
     (record {
-      holds = λ g r p. rw (none-answered old.pendings c.args.issuer c.args.dsb g p none) (sym (and-true _));
+      holds = λ l g r p. rw (none-answered old.pendings c.args.issuer c.args.dsb g p none) (sym (and-true _));
       pendings = λ q b g p. all-open old.pendings c.args.issuer c.args.dsb q b g p none;
       registers = refl;
       roots = record { header = refl; declared = refl; names = refl; locks = refl };

@@ -1,4 +1,4 @@
-use Rattle.bbm_roots.proofs.Common.{◌≡◌, ◌∙◌, ap, sym, refl, nat_eq, ◌+◌, ◌∷◌, cond, ℕ, Option, Some, None, Bool, false}
+use Rattle.bbm_roots.proofs.Common.{◌≡◌, ◌∙◌, ap, sym, refl, nat_eq, ◌+◌, ◌∷◌, cond, ℕ, Option, Some, None, Bool, false, ◌||◌, false≢true, second_none}
 use Rattle.bbm_roots.proofs.Common.{Event, Root, Declared, root_at, roots_of, retired, loads_after, is_some, length}
 use Rattle.bbm_roots.proofs.Common.{arith, rules, get, index_map_len, Patterns, Reg, first_reg, second_reg}
 use Rattle.bbm_histories.proofs.Induction.{kept_next}
@@ -8,6 +8,11 @@ use Rattle.bbm_roots.proofs.Readable.{loads-past}
 use Rattle.bbm_roots.proofs.RootLists.{absent-retired, unlocked}
 use Rattle.bbm_roots.proofs.Steps.{kept-stands}
 use Rattle.bbm_roots.proofs.roots.Roots.declare.Goals as goal
+
+-- where a lock is none that was named
+unnamed : (before now : Bool) (lock : Option ℕ) → now ≡ is_some lock → (before || now) ≡ false → lock ≡ None
+unnamed before now None is none = refl
+unnamed before now (Some l) is none = absurd (false≢true (sym (second_none before now none) ∙ is))
 
 pub returns-in-Ok : goal.returns-in-Ok
 returns-in-Ok c = λ pe heading h stands keeps.
@@ -26,10 +31,10 @@ returns-in-Ok c = λ pe heading h stands keeps.
     ap (length {A = Declared}) (absent-retired c.args.page (roots_of h) absent) in
     kept-stands _ stands e keeps refl stands.holders refl refl refl
     (λ p. same p (first_reg heading.world)) (λ p. same p (second_reg heading.world))
-    (λ p reg. refl) (λ g p. refl) (λ q b g p. refl)
+    (λ p reg. refl) (λ r. refl) (λ g p. refl) (λ q b g p. refl)
     (λ q. c.in-Ok.ensures.updates.0 q
     ∙ ap (λ (n : ℕ). cond (nat_eq n q) (Some root) (get nat_eq c.args.self.now.declared q)) c.get.ensures.value
     ∙ ap (λ (o : Option Declared). cond (nat_eq c.args.page q) (Some root) o) (stands.declared q)
     ∙ sym (root_step e h q))
     (omega (arith, stands.count))
-    (λ none. unlocked h e c.args.page (Some root) (λ q. refl) (search rules) (stands.locks (search rules)))
+    (λ none. unlocked h e c.args.page (Some root) (λ q. refl) (unnamed _ c.is_some.result c.args.lock (search rules) none) (stands.locks (search rules)))

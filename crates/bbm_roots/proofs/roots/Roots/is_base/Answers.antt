@@ -1,4 +1,4 @@
-use Rattle.bbm_roots.proofs.Common.{◌≡◌, ◌∙◌, refl, sym, ℕ, Option, Some, None, Bool, true, is_some, rules, Declared}
+use Rattle.bbm_roots.proofs.Common.{◌≡◌, ◌∙◌, refl, Option, Some, None, true, is_some, rules, Declared}
 use Rattle.bbm_roots.proofs.Common.{root_at, some_pe}
 use Rattle.bbm_rules.specs.Rules.{is_base_at}
 use Rattle.bbm_roots.proofs.Common.{false≢true}

@@ -5,7 +5,7 @@ use Rattle.bbm_roots.proofs.Common.{Patterns, RootValue, Reading}
 use Rattle.bbm_events.specs.declared.event.Event.TheVariants.{Isb}
 use Rattle.bbm_roots.proofs.Flat.{readings-isb}
 use Rattle.bbm_roots.proofs.Readable.{newest-map, readings-same}
-use Rattle.bbm_roots.proofs.Steps.{holds-stay, waits-stay}
+use Rattle.bbm_roots.proofs.Steps.{holds-stay, left-stay, waits-stay}
 use Rattle.bbm_histories.proofs.Induction.{kept_next}
 use Rattle.bbm_roots.proofs.Judge.{broken_isb, of_state}
 use Rattle.bbm_roots.proofs.roots.Roots.isb.Goals as goal
@@ -30,7 +30,7 @@ pub returns : goal.returns
 returns c = record {
   taken = λ heading h stands done.
       let pe = c.args.pe in
-      let stay = λ (g : Tag) (r p : ℕ). holds-stay heading h (Isb pe) g r p (less h pe heading p (is_reading g r)) refl in
+      let stay = λ (g : Tag) (r p : ℕ). holds-stay heading h (Isb pe) g r p (less h pe heading p (is_reading g r)) refl refl in
       record {
         header = stands.header;
         proper = stands.proper;
@@ -49,9 +49,10 @@ returns c = record {
         count = stands.count;
         locks = stands.locks;
         holds = λ g r p. stands.holds g r p ∙ sym (stay g r p);
-        inside = λ g r p past. stay g r p ∙ stands.inside g r p past;
-        pendings = λ q b g r p held.
-            stands.pendings q b g r p (sym (stay g r p) ∙ held)
+        left = λ g r p. stands.left g r p ∙ sym (left-stay heading h (Isb pe) g r p refl refl);
+        inside = stands.inside;
+        pendings = λ q b g p kept.
+            stands.pendings q b g p kept
             ∙ sym (waits-stay heading h (Isb pe) q b g p (less h pe heading p (is_of_tag g)) refl);
         holders = stands.holders;
       };

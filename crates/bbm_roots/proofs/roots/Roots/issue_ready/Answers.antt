@@ -1,5 +1,5 @@
 use Rattle.bbm_roots.proofs.Common.{◌≡◌, ◌<◌, ◌∙◌, ap, sym, refl, Bool, ◌&&◌, ◌||◌, nat_eq, nat_lt, true, false, ℕ}
-use Rattle.bbm_roots.proofs.Common.{TlbiOp, Scope, Tlbi, Patterns, holds_at, Stands, holder_at, not, loads_after}
+use Rattle.bbm_roots.proofs.Common.{TlbiOp, Scope, Tlbi, Patterns, Stands, holder_at, not, loads_after}
 use Rattle.bbm_roots.proofs.Common.{Option}
 use Rattle.bbm_roots.proofs.Common.{Heading, Event, List, ◌∷◌, None, Some}
 use Rattle.bbm_roots.proofs.Common.{lt-ltb, first_true, Tag, takes_whole_tag, loads_in, pending_in}
@@ -7,7 +7,6 @@ use Rattle.bbm_roots.proofs.Common.{has_pending, same_flag, unread_at, has_tag, 
 use Rattle.bbm_roots.proofs.Common.{world_of, pes_of, or-false, Registers, Roots, arith, eqb-true, Pendings}
 use Rattle.bbm_roots.specs.Holds.{kept_in}
 use Rattle.bbm_roots.specs.RootChanges.{SameDeclared}
-use Rattle.bbm_roots.proofs.Entries.{held-kept}
 use Rattle.bbm_roots.proofs.Flat.{reads_tag-is}
 use Rattle.bbm_histories.proofs.Induction.{kept_next}
 use Rattle.bbm_locks.specs.declared.locks.Locks.{Locks}
@@ -17,7 +16,7 @@ use Rattle.bbm_roots.specs.declared.named.NamedTlbi.{NamedTlbi}
 use Rattle.bbm_roots.proofs.Issued.{Issues}
 use Rattle.bbm_roots.proofs.Others.{others}
 use Rattle.bbm_roots.proofs.Readable.{reads-stay, readings-same}
-use Rattle.bbm_roots.proofs.Steps.{holds-stay, noted}
+use Rattle.bbm_roots.proofs.Steps.{holds-stay, left-stay, noted}
 use Rattle.bbm_roots.proofs.Tests.{and_right, same_flag-true}
 use Rattle.bbm_roots.proofs.roots.Roots.issue_ready.Goals as goal
 
@@ -45,7 +44,7 @@ issued : (old new : Roots) (issuer : ℕ) (op : TlbiOp) (xt : ℕ) (scope : Scop
     broken heading Patterns h (Tlbi issuer op xt) ≡ None → Stands new heading (Tlbi issuer op xt ∷ h)
 issued old new issuer op xt scope vmid has registers holds roots there notes heading h stands named keeps =
     let stay = λ (g : Tag) (r p : ℕ). holds-stay heading h (Tlbi issuer op xt) g r p (λ k. sym (reads-stay heading h
-    (Tlbi issuer op xt) p refl refl g r) ∙ k) refl in
+    (Tlbi issuer op xt) p refl refl g r) ∙ k) refl refl in
     record {
       header = roots.header ∙ stands.header;
       proper = stands.proper;
@@ -59,18 +58,19 @@ issued old new issuer op xt scope vmid has registers holds roots there notes hea
       count = let d = roots.declared in let s = stands.count in cc;
       locks = λ none. stands.locks (sym roots.names ∙ none);
       holds = λ g r p. let k = holds in let s = stands.holds g r p ∙ sym (stay g r p) in cc;
-      inside = λ g r p past. stay g r p ∙ stands.inside g r p past;
-      pendings = λ q b g r p after.
-          let held : holds_at heading Patterns p r g h ≡ true = sym (stay g r p) ∙ after in
-          let here : kept_in old.holds g p ≡ true = held-kept old.holds g r p (stands.holds g r p ∙ held) in
+      left = λ g r p. let k = holds in let s = stands.left g r p ∙ sym (left-stay heading h (Tlbi issuer op xt) g r p refl refl)
+          in cc;
+      inside = λ g p past. let k = holds in let s = stands.inside g p past in cc;
+      pendings = λ q b g p kept.
+          let here : kept_in old.holds g p ≡ true = let k = holds in cc in
           let below : p < heading.pes =
-          let inside = stands.inside g r p in grind (arith) in
+          let inside = stands.inside g p in grind (arith) in
           let less : p < pes_of old = let n = stands.pes in omega (arith, below) in
           notes q b g p here
           ∙ noted heading h issuer op xt scope vmid named q b g p (pending_in old.pendings q b g p) (has q b g)
           (nat_lt p (pes_of old))
           (reads_tag (world_of old) (loads_in old.registers.first.items p) (loads_in old.registers.second.items p) g)
-          (stands.pendings q b g r p held) (there q b g p here) (lt-ltb p (pes_of old) less)
+          (stands.pendings q b g p here) (there q b g p here) (lt-ltb p (pes_of old) less)
           (rw (stands.world, stands.first p below, stands.second p below)
           (sym (reads_tag-is heading.world (loads_after h p (first_reg heading.world))
           (loads_after h p (second_reg heading.world)) g) ∙ ap (has_tag g) (readings-same heading.world h p)));

@@ -1,4 +1,4 @@
-use Rattle.bbm_roots.proofs.Common.{◌≡◌, ◌∙◌, sym, ap, List, ◌<◌, map, ℕ, World, Hyp, VttbrEl2, second_reg, RootValue}
+use Rattle.bbm_roots.proofs.Common.{◌≡◌, ◌∙◌, sym, ap, List, ◌<◌, map, World, Hyp, VttbrEl2, second_reg, RootValue}
 use Rattle.bbm_roots.proofs.Common.{register_values, loads_after, arith}
 use Rattle.bbm_lemmas.specs.ListWords.{one_number}
 use Rattle.bbm_rules.specs.RegisterValues.{vmid_in}

@@ -2,12 +2,11 @@ use Rattle.bbm_roots.proofs.Common.{◌≡◌, ◌∙◌, ap, sym, refl, Bool, �
 use Rattle.bbm_roots.proofs.Common.{Heading, Event, conflict_in, IsCalm, readings_after, has_reading, has_tag, Stands}
 use Rattle.bbm_roots.proofs.Common.{pes_of, Reg, RootValue, Reading, ℕ, missing_root, Patterns, kind_in_world}
 use Rattle.bbm_roots.proofs.Common.{kind_of_reg}
-use Rattle.bbm_roots.proofs.Common.{Some}
 use Rattle.std.proofs.Common.{Ok, Err}
 use Rattle.std.proofs.lemmas.Result.{err_from_is_err_and}
 use Rattle.bbm_rules.proofs.Common.{if_so}
 use Rattle.bbm_rules.specs.Rules.{asks_to_share}
-use Rattle.bbm_rules.specs.declared.rule.Rule.TheVariants.{NoRoot}
+use Rattle.bbm_roots.proofs.Changes.{same-kept}
 use Rattle.bbm_roots.proofs.Conflicts.{calm-from}
 use Rattle.bbm_roots.proofs.Judge.{of_state}
 use Rattle.bbm_roots.proofs.RegisterWrites.{write_elsewhere, write_missing}
@@ -35,7 +34,7 @@ returns-in_err-root-clause-judged c = λ heading h stands told.
     (write_missing heading laws (laws.proper stands.proper) h stands.kept c.args.pe c.args.reg c.args.value
     (ap (λ (g : Heading). if_so (is_wrong g c.args.reg c.args.value) 0) (sym stands.header)
     ∙ ap (λ (b : Bool). if_so b 0) (sym c.is_wrong_write.ensures ∙ c.if-is_wrong_write.false)) m.0
-    (ap (missing_root h c.args.reg c.args.value) (sym told) ∙ m.2 heading h stands))
+    (ap (missing_root heading h c.args.reg c.args.value) (sym told) ∙ m.2 heading h stands))
 
 pub shortcut-requires : goal.shortcut-requires
 shortcut-requires c = of_state c.requires.2 c.requires.3
@@ -166,10 +165,13 @@ returns-clause-taken c =
     let clear : (x : Reading) → conflict_in old.holds (pes_of old) seen x ≡ false =
     λ x. same x ∙ c.in_ok-judge.ensures.0 x in
     let calm : (heading : Heading) (h : List Event) → Stands old heading h → IsCalm c.make_room.new.holds seen =
-    λ heading h stands g r other.
-    let before = calm-from old.holds heading.pes seen (λ g r p past. stands.holds g r p ∙ stands.inside g r p past)
-    (λ x. ap (λ (n : ℕ). conflict_in old.holds n seen x) (sym stands.pes) ∙ clear x) g r other in
-    (before.0, λ p. c.in-Ok-make_room.ensures.same g r p ∙ before.1 p) in
+    λ heading h stands.
+    let before = calm-from old.holds heading.pes seen stands.inside
+    (λ x. ap (λ (n : ℕ). conflict_in old.holds n seen x) (sym stands.pes) ∙ clear x) in
+    record {
+      others = λ g r other. let o = before.others g r other in (o.0, λ p. c.in-Ok-make_room.ensures.same false g r p ∙ o.1 p);
+      none_left = λ g r p read. c.in-Ok-make_room.ensures.same true g r p ∙ before.none_left g r p read;
+    } in
     write-taken c.laws_below.ensures old pe c.args.reg c.args.value c.args.null _ _ seen
     (of_state c.requires.2 c.requires.3) (sym c.is_wrong_write.ensures ∙ c.if-is_wrong_write.false)
     c.tag_number-number.ensures c.in_ok-root.ensures.named c.in_ok-root.ensures.found (c.deref-3.ensures ∙ c.in-Ok.ensures)
@@ -184,9 +186,13 @@ returns-clause-taken c =
         locks = told.roots.locks;
       };
     })
-    (λ heading h stands g r p.
-    c.take-2.ensures.marked (calm heading h stands) g r p
-    ∙ ap (λ (b : Bool). b || (nat_eq p pe && has_reading g r seen)) (c.in-Ok-make_room.ensures.same g r p))
+    (λ heading h stands.
+    let marks = c.take-2.ensures.marked (calm heading h stands) in
+    record {
+      held = λ g r p. marks.held g r p
+          ∙ ap (λ (b : Bool). b || (nat_eq p pe && has_reading g r seen)) (c.in-Ok-make_room.ensures.same false g r p);
+      left = λ g r p. marks.left g r p ∙ c.in-Ok-make_room.ensures.same true g r p;
+    })
     (λ heading h stands. (clear, c.in_ok-judge.ensures.1))
 
 pub returns-clause-judged : goal.returns-clause-judged
@@ -195,3 +201,7 @@ returns-clause-judged c = λ heading h stands told.
     (of_state c.requires.2 c.requires.3) (sym c.is_wrong_write.ensures ∙ c.if-is_wrong_write.false)
     c.tag_number-number.ensures c.in_ok-root.ensures.named c.in_ok-root.ensures.found
     (c.deref.ensures ∙ c.in-Ok.ensures) heading h stands told (Ok tt) c.in_ok-judge.ensures
+
+pub returns-in-Err-make_room-clause-kept : goal.returns-in-Err-make_room-clause-kept
+returns-in-Err-make_room-clause-kept c = same-kept c.args.self.now _ refl refl refl refl refl refl
+    c.make_room.ensures.same
