@@ -258,7 +258,7 @@ def fault(process, pe, number):
             b"dsb %d ish\n" % pe, b"isb %d\n" % pe)
 
 
-def kernel(count):
+def kernel(count, header=b"bbmlog 4 kernel 4 0 0 ttbr1 cnp"):
     """The shape of a log of a real kernel: by far most events are barriers and TLBIs for one page, as those of faults, and
     256 processes on four PEs have some two thousand tables. At 2,000,000 events each process ran forty times."""
     def events():
@@ -271,7 +271,39 @@ def kernel(count):
             yield from switch_to(process, pe)
             for number in range(FAULTS):
                 yield from fault(process, pe, turn // PROCESSES * FAULTS + number)
-    return Log(b"bbmlog 4 kernel 4 0 0 ttbr1 cnp", events())
+    return Log(header, events())
+
+
+def kernel_unflushed(count):
+    """The same log, which says that it may give up roots unflushed."""
+    return kernel(count, b"bbmlog 5 kernel 4 0 0 ttbr1 cnp unflushed")
+
+
+VMIDS = 255
+
+
+def guest_that_dies(number):
+    """A guest is made, run and given up, each on another of four PEs. What TLBs keep of it is flushed with the VMIDs of all,
+    once they are used up."""
+    page, pe = page_at(1 + number % 64), number % 4
+    yield b"init %d 0x%x @vm:create\n" % (pe, page)
+    yield b"root %d s2 - 0x%x @vm:create\n" % (pe, page)
+    if number % VMIDS == 0:
+        yield from (b"tlbi %d alle1is @vm:flush\n" % pe, b"dsb %d ish @vm:flush\n" % pe)
+    for index in range(8):
+        yield b"w %d 0x%x 0x%x @vm:map\n" % (pe, page + 8 * index, number % 256 << 33 | index << 30 | 0x7fd)
+    for value in (number % VMIDS + 1 << 48 | page, 1 << 48 | page_at(0)):
+        yield b"msr %d vttbr_el2 0x%x @vm:run\n" % (pe, value)
+        yield b"isb %d @vm:run\n" % pe
+    yield b"unroot %d 0x%x @vm:destroy\n" % (pe, page)
+
+
+def guests_that_die(count):
+    """Guests that are made and given up unflushed, on 64 pages and under 255 VMIDs in turn, beside a null page."""
+    def events():
+        yield from (new_page(page_at(0)), b"null 0 0x%x\n" % page_at(0))
+        yield from chain.from_iterable(map(guest_that_dies, numbers()))
+    return Log(b"bbmlog 5 hyp 4 1 1 1 unflushed", events())
 
 
 # ---- hostile logs
@@ -353,6 +385,7 @@ LOGS = {
     "moves": moves, "plain": plain, "rounds": rounds,
     "pages_in_order": pages_in_order, "pages_in_random_order": pages_in_random_order, "broken_at_once": broken_at_once,
     "cleared_512": cleared_one_by_one(512), "cleared_4096": cleared_one_by_one(4096), "guests": guests, "asids": asids, "kernel": kernel,
+    "kernel_unflushed": kernel_unflushed, "guests_that_die": guests_that_die,
     "linked_by_all": linked_by_all, "fan_of_512": fan_of_512, "roots_and_flushes": roots_and_flushes,
     "unanswered": unanswered, "registers": registers, "long_lines": long_lines, "crowd": crowd,
 }

@@ -692,3 +692,14 @@ UNTRACED const char *bbm_hyp_header(char *header, unsigned int pes, uint64_t tcr
 	*put_text(header, cnp ? " cnp" : " -") = '\0';
 	return 0;
 }
+
+UNTRACED void bbm_version_5(char *header, int unflushed)
+{
+	char *end = put_text(header, "bbmlog 5");
+
+	while (*end)
+		end++;
+	if (end[-1] == '-')
+		end -= 2; /* the word `cnp` stands or doesn't */
+	*put_text(end, unflushed ? " unflushed" : "") = '\0';
+}

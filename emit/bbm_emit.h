@@ -90,7 +90,7 @@ enum bbm_tlbi_op {
 
 /*
  * A TLBI that has one: for a page, for an ASID, and for a range of pages (which only logs of
- * version 4 have).
+ * version 4 or later have).
  */
 enum bbm_tlbi_at_op {
 	BBM_VAE2, BBM_VAE2IS, BBM_VALE2, BBM_VALE2IS,
@@ -230,7 +230,8 @@ void bbm_open(struct bbm_buffer *buffer, struct bbm_tickets *tickets, struct bbm
 void bbm_init(struct bbm_buffer *buffer, uint64_t page, const struct bbm_label *label);
 
 /**
- * bbm_null() - the page stays empty, as the base of TTBR0_EL1 that means no walk
+ * bbm_null() - the page stays empty, as a base that means no walk: of TTBR0_EL1, and under version 5
+ *	of each root register
  * @buffer: of this PE
  * @page: its address
  * @label: where the event comes from
@@ -438,6 +439,13 @@ const char *bbm_kernel_header(char *header, unsigned int pes, uint64_t tcr_el1, 
  */
 const char *bbm_hyp_header(char *header, unsigned int pes, uint64_t tcr_el2, uint64_t vtcr_el2,
 			   int cnp);
+
+/**
+ * bbm_version_5() - makes a header, which is one of version 4, one of version 5: a draft
+ * @header: as bbm_kernel_header() or bbm_hyp_header() gave it, in the same room
+ * @unflushed: whether a root may be given up while TLBs may keep what was read through it
+ */
+void bbm_version_5(char *header, int unflushed);
 
 /**
  * bbm_line() - the line of a slot, "TICKET LINE" with its newline

@@ -69,7 +69,7 @@ words! {
 }
 
 words! {
-    /// A TLBI that has one: for a page, for an ASID, and for a range of pages (which only logs of version 4 have).
+    /// A TLBI that has one: for a page, for an ASID, and for a range of pages (which only logs of version 4 or later have).
     TlbiAt {
         Vae2 "vae2", Vae2is "vae2is", Vale2 "vale2", Vale2is "vale2is",
         Ipas2e1 "ipas2e1", Ipas2e1is "ipas2e1is", Ipas2le1 "ipas2le1", Ipas2le1is "ipas2le1is",
@@ -275,7 +275,7 @@ impl<'a> Buffer<'a> {
         self.keep(Told::at(Word::Init, page), label);
     }
 
-    /// The page stays empty, as the base of TTBR0_EL1 that means no walk.
+    /// The page stays empty, as a base that means no walk: of TTBR0_EL1, and under version 5 of each root register.
     pub fn null(&self, page: u64, label: Label) {
         self.keep(Told::at(Word::Null, page), label);
     }
@@ -518,23 +518,49 @@ impl Walk {
     }
 }
 
+/// The version of a log.
+#[derive(Clone, Copy, Debug, PartialEq, Eq)]
+pub enum Version {
+    Four,
+    /// A draft. `unflushed` says whether a root may be given up while TLBs may keep what was read through it.
+    Five { unflushed: bool },
+}
+
+impl Version {
+    fn number(self) -> u32 {
+        if self == Version::Four { 4 } else { 5 }
+    }
+
+    /// What stands behind the numbers of a header.
+    fn words(self, cnp: bool) -> &'static str {
+        match (self, cnp) {
+            (Version::Four, false) => " -",
+            (Version::Four | Version::Five { unflushed: false }, true) => " cnp",
+            (Version::Five { unflushed: false }, false) => "",
+            (Version::Five { unflushed: true }, false) => " unflushed",
+            (Version::Five { unflushed: true }, true) => " cnp unflushed",
+        }
+    }
+}
+
 /// The header of a log.
 #[derive(Clone, Copy, Debug, PartialEq, Eq)]
 pub enum Header {
-    Kernel { pes: u32, lower: Walk, upper: Walk, asid_from: Register, cnp: bool },
-    Hyp { pes: u32, own: Walk, guests: Walk, cnp: bool },
+    Kernel { version: Version, pes: u32, lower: Walk, upper: Walk, asid_from: Register, cnp: bool },
+    Hyp { version: Version, pes: u32, own: Walk, guests: Walk, cnp: bool },
 }
 
 impl fmt::Display for Header {
     fn fmt(&self, f: &mut fmt::Formatter<'_>) -> fmt::Result {
-        let shared = |cnp: bool| if cnp { "cnp" } else { "-" };
         match *self {
-            Header::Kernel { pes, lower, upper, asid_from, cnp } => {
+            Header::Kernel { version, pes, lower, upper, asid_from, cnp } => {
                 let from = if asid_from == Register::Ttbr1El1 { "ttbr1" } else { "ttbr0" };
-                write!(f, "bbmlog 4 kernel {pes} {} {} {from} {}", lower.start, upper.start, shared(cnp))
+                let (number, words) = (version.number(), version.words(cnp));
+                write!(f, "bbmlog {number} kernel {pes} {} {} {from}{words}", lower.start, upper.start)
             }
-            Header::Hyp { pes, own, guests, cnp } => {
-                write!(f, "bbmlog 4 hyp {pes} {} {} {} {}", own.start, guests.start, guests.pages, shared(cnp))
+            Header::Hyp { version, pes, own, guests, cnp } => {
+                let (number, words) = (version.number(), version.words(cnp));
+                write!(f, "bbmlog {number} hyp {pes} {} {} {}{words}", own.start, guests.start, guests.pages)
             }
         }
     }
@@ -572,7 +598,7 @@ impl Header {
             return Err("T1SZ of TCR_EL1 isn't 16, 25 or 34: the first table of the upper range isn't a whole page");
         }
         let asid_from = if field(tcr_el1, 22, 1) != 0 { Register::Ttbr1El1 } else { Register::Ttbr0El1 };
-        Ok(Header::Kernel { pes, lower, upper, asid_from, cnp })
+        Ok(Header::Kernel { version: Version::Four, pes, lower, upper, asid_from, cnp })
     }
 
     /// That of a hypervisor, by TCR_EL2 and VTCR_EL2, likewise.
@@ -589,6 +615,13 @@ impl Header {
         let own = Walk::stage1(field(tcr_el2, 0, TXSZ_BITS)).ok_or("T0SZ of TCR_EL2 has no start level of 0, 1 or 2")?;
         let guests = Walk::stage2(field(vtcr_el2, 0, TXSZ_BITS), field(vtcr_el2, 6, 2))
             .ok_or("T0SZ and SL0 of VTCR_EL2 don't go together, or start at level 3")?;
-        Ok(Header::Hyp { pes, own, guests, cnp })
+        Ok(Header::Hyp { version: Version::Four, pes, own, guests, cnp })
+    }
+
+    /// This header, as one of version 5.
+    pub fn version_5(mut self, unflushed: bool) -> Header {
+        let (Header::Kernel { version, .. } | Header::Hyp { version, .. }) = &mut self;
+        *version = Version::Five { unflushed };
+        self
     }
 }

@@ -173,6 +173,14 @@ static void headers(void)
 		puts(wrong ? wrong : text);
 	}
 	puts(bbm_kernel_header(text, 129, tcr_el1[0], 0));
+	for (i = 0; i < 4; i++) {
+		bbm_kernel_header(text, 4, tcr_el1[1], i % 2);
+		bbm_version_5(text, i / 2);
+		puts(text);
+		bbm_hyp_header(text, 4, el2[1].tcr_el2, el2[1].vtcr_el2, i % 2);
+		bbm_version_5(text, i / 2);
+		puts(text);
+	}
 }
 
 static FILE *open_dump(const char *directory, const char *name)

@@ -163,7 +163,11 @@ fn headers() {
     ];
     let kernels = tcr_el1.iter().enumerate().map(|(i, tcr)| Header::kernel(4, *tcr, i % 2 == 0));
     let hyps = el2.iter().enumerate().map(|(i, (tcr, vtcr))| Header::hyp(4, *tcr, *vtcr, i % 2 == 0));
-    for header in kernels.chain(hyps).chain([Header::kernel(129, tcr_el1[0], false)]) {
+    let later = [(false, false), (true, false), (false, true), (true, true)].iter().flat_map(|&(cnp, unflushed)| {
+        [Header::kernel(4, tcr_el1[1], cnp), Header::hyp(4, el2[1].0, el2[1].1, cnp)]
+            .map(|header| header.map(|header| header.version_5(unflushed)))
+    });
+    for header in kernels.chain(hyps).chain([Header::kernel(129, tcr_el1[0], false)]).chain(later) {
         match header {
             Ok(header) => println!("{header}"),
             Err(wrong) => println!("{wrong}"),

@@ -2,8 +2,8 @@
 /* Puts the dumps of all PEs, as bbm_emit.h and bbm_emit.rs make them, into one log on standard output.
  *
  *     merge [OPTION..] HEADER DUMP..
- *     merge --header kernel PES TCR_EL1 CNP
- *     merge --header hyp PES TCR_EL2 VTCR_EL2 CNP
+ *     merge --header kernel PES TCR_EL1 CNP [5 [unflushed]]
+ *     merge --header hyp PES TCR_EL2 VTCR_EL2 CNP [5 [unflushed]]
  *
  * HEADER is the first line of the log, as "bbmlog 4 hyp 2 1 1 1 -". A DUMP is a file of lines "TICKET LINE", as bbm_read
  * writes them, or of the slots of a buffer as they lay in memory, little-endian. A PE's lines may be split over several
@@ -16,7 +16,7 @@
  *
  * There is no log, and standard error says why, where a ticket is lost or stands twice, a PE has no closing line, or one
  * that tells of lost events, or a line is none of a log. With --follow what was written then has no `end` line. The
- * other two forms write the header that the registers give.
+ * other two forms write the header that the registers give, of version 4, or with 5 of that version.
  *
  * Exit status 0 where the log, or the header, is written; else no log came of it, and the status is as that of bbm: 2
  * what is above, or registers that no log has; 3 the words are wrong; 4 a dump can't be read; 5 a write failed; 6 there
@@ -40,7 +40,7 @@ enum form { UNKNOWN, TEXT, SLOTS };
 
 enum status { NO_LOG = 2, WRONG_WORDS, CANT_READ, CANT_WRITE, NO_MEMORY };
 
-enum { FORM_BYTES = 8, MOST_FIELDS = 8, NO_PE = -1 };
+enum { FORM_BYTES = 8, MOST_FIELDS = 10, NO_PE = -1 };
 
 struct dump {
 	const char *name;
@@ -316,7 +316,7 @@ static const char *wrong_tlbi(const struct bbm_slot *slot)
 {
 	if (!bbm_tlbi_at_name(slot->detail))
 		return "no TLBI has that operation";
-	return is_range(slot->detail) && header.version < 4 ? "a TLBI for a range needs a header of version 4" : NULL;
+	return is_range(slot->detail) && header.version < 4 ? "a TLBI for a range needs a header of version 4 or later" : NULL;
 }
 
 /* What makes it none, or null. */
@@ -652,15 +652,28 @@ static void merge_growing(struct dump *dumps, int count)
 
 /* ---- the words of the command */
 
+/* Whether these are what a header of the version may say behind its numbers: up to version 4 one field, `cnp` or `-`, but
+ * none under version 1; and then the words `cnp` and `unflushed`, each of which stands or doesn't. */
+static bool are_words(uint64_t version, char *const words[])
+{
+	if (version < 5)
+		return version == 1 ? !words[0] : words[0] && (!strcmp(words[0], "cnp") || !strcmp(words[0], "-")) && !words[1];
+	if (words[0] && !strcmp(words[0], "cnp"))
+		words++;
+	if (words[0] && !strcmp(words[0], "unflushed"))
+		words++;
+	return !words[0];
+}
+
 /* Reads the fields of a header, as docs/FORMAT.md has them, and writes them again, as only one text has them. */
-static bool read_header_fields(char *const fields[], unsigned count, char *again, size_t room)
+static bool read_header_fields(char *const fields[], char *again, size_t room)
 {
 	uint64_t version, pes, start, other, pages = 1;
 	bool hyp = !strcmp(fields[2], "hyp");
 
-	if (strcmp(fields[0], "bbmlog") || !read_decimal(fields[1], 4, &version) || !version)
+	if (strcmp(fields[0], "bbmlog") || !read_decimal(fields[1], 5, &version) || !version)
 		return false;
-	if (count != (version == 1 ? 7 : 8) || !read_decimal(fields[3], version < 3 ? 64 : BBM_PES, &pes) || !pes)
+	if (!are_words(version, fields + 7) || !read_decimal(fields[3], version < 3 ? 64 : BBM_PES, &pes) || !pes)
 		return false;
 	if (!read_decimal(fields[4], 2, &start) || !read_decimal(fields[5], 2, &other))
 		return false;
@@ -668,25 +681,22 @@ static bool read_header_fields(char *const fields[], unsigned count, char *again
 		return false;
 	if (!hyp && (strcmp(fields[2], "kernel") || (strcmp(fields[6], "ttbr0") && strcmp(fields[6], "ttbr1"))))
 		return false;
-	if (count == 8 && strcmp(fields[7], "cnp") && strcmp(fields[7], "-"))
-		return false;
 	header.version = (unsigned)version;
 	header.pes = (unsigned)pes;
 	header.stage2_bytes = pages * BBM_PAGE_BYTES;
-	snprintf(again, room, "bbmlog %u %s %u %u %u %s%s%s", header.version, fields[2], header.pes, (unsigned)start,
-		 (unsigned)other, fields[6], count == 8 ? " " : "", count == 8 ? fields[7] : "");
+	snprintf(again, room, "bbmlog %u %s %u %u %u %s%s%s%s%s", header.version, fields[2], header.pes, (unsigned)start,
+		 (unsigned)other, fields[6], fields[7] ? " " : "", fields[7] ? fields[7] : "", fields[8] ? " " : "",
+		 fields[8] ? fields[8] : "");
 	return true;
 }
 
 static bool read_header(const char *text)
 {
 	char copy[128], again[128], *fields[MOST_FIELDS];
-	unsigned count;
 
 	if (strlen(text) >= sizeof copy)
 		return false;
-	count = cut(strcpy(copy, text), fields);
-	if (count < 7 || !read_header_fields(fields, count, again, sizeof again))
+	if (cut(strcpy(copy, text), fields) < 7 || !read_header_fields(fields, again, sizeof again))
 		return false;
 	header.text = text;
 	return !strcmp(text, again);
@@ -695,19 +705,26 @@ static bool read_header(const char *text)
 static __attribute__((__noreturn__)) void usage(void)
 {
 	end_with(WRONG_WORDS, "usage: merge [--strip PREFIX] [--tickets N] [--follow] HEADER DUMP.. | "
-		 "merge --header kernel PES TCR_EL1 CNP | merge --header hyp PES TCR_EL2 VTCR_EL2 CNP");
+		 "merge --header kernel PES TCR_EL1 CNP [5 [unflushed]] | "
+		 "merge --header hyp PES TCR_EL2 VTCR_EL2 CNP [5 [unflushed]]");
 }
 
-/* merge --header: the header that the registers give. */
+/* merge --header: the header that the registers give. The words end with a null one. */
 static int write_header(int count, char **words)
 {
-	bool hyp = count == 5 && !strcmp(words[0], "hyp"), kernel = count == 4 && !strcmp(words[0], "kernel");
-	const char *shared = hyp ? words[4] : kernel ? words[3] : "", *wrong;
+	bool hyp = count >= 5 && !strcmp(words[0], "hyp"), kernel = count >= 4 && !strcmp(words[0], "kernel");
+	char *const *last = words + (hyp ? 5 : 4); /* behind CNP */
 	uint64_t pes = 0, tcr = 0, vtcr = 0;
-	int cnp = !strcmp(shared, "cnp");
 	char text[BBM_LINE_BYTES];
+	bool cnp, later, unflushed;
+	const char *wrong;
 
-	if (!cnp && strcmp(shared, "-"))
+	if (!hyp && !kernel)
+		usage();
+	cnp = !strcmp(last[-1], "cnp");
+	later = last[0] && !strcmp(last[0], "5");
+	unflushed = later && last[1] && !strcmp(last[1], "unflushed");
+	if ((!cnp && strcmp(last[-1], "-")) || last[later + unflushed])
 		usage();
 	if (!read_decimal(words[1], UINT32_MAX, &pes) || !read_hex(words[2], &tcr) || (hyp && !read_hex(words[3], &vtcr)))
 		usage();
@@ -717,6 +734,8 @@ static int write_header(int count, char **words)
 		wrong = bbm_kernel_header(text, (unsigned)pes, tcr, cnp);
 	if (wrong)
 		fail("%s", wrong);
+	if (later)
+		bbm_version_5(text, unflushed);
 	printf("%s\n", text);
 	flush_log();
 	return 0;

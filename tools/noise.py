@@ -94,7 +94,7 @@ FAULTY_LINES = {
 
 def labelled_header(chance):
     header = stories.any_header(chance)
-    return stories.text_of(header._replace(version=chance.choice([3, 4]))).encode()
+    return stories.text_of(header._replace(version=chance.choice([3, 4, 5]))).encode()
 
 
 def faulty(chance):
@@ -104,11 +104,12 @@ def faulty(chance):
     if rest.count(b"\n") < 2:
         rest = b"isb 0\nend 1\n"
     if cause == 1:
-        return chance.choice([b"bbmlog 5", b"bbmlog", b"", b"bbmlog  1", b"bbmlog 01 hyp", b"BBMLOG 1"]) + b"\n" + rest
+        return chance.choice([b"bbmlog 6", b"bbmlog", b"", b"bbmlog  1", b"bbmlog 01 hyp", b"BBMLOG 1"]) + b"\n" + rest
     if cause == 2:
         fields = header.split(b" ")
-        at = chance.randrange(2, len(fields))
-        fields[at] = chance.choice([b"x", b"", b"3", b"0", b"129", b"32", fields[at] + b"\r", fields[at] + b" 1"])
+        at, words = chance.randrange(2, len(fields)), [b" 1", b" cnp", b" unflushed", b" -"]
+        some = [b"x", b"", b"3", b"0", b"129", b"32", b"inorder", b"isolated", fields[at] + b"\r", fields[at] + chance.choice(words)]
+        fields[at] = chance.choice(some)
         return b" ".join(fields) + b"\n" + rest
     if cause == 9:
         return log[:chance.randrange(len(log))]

@@ -6,7 +6,7 @@ and `tools/try` judge them, and nothing here says what the verdict is.
 """
 from collections import namedtuple
 
-Header = namedtuple("Header", "version hyp pes starts pages asids cnp")
+Header = namedtuple("Header", "version hyp pes starts pages asids cnp unflushed", defaults=(False,))
 Root = namedtuple("Root", "page kind lock start number")
 Table = namedtuple("Table", "root level first above")
 
@@ -29,18 +29,25 @@ FREE_BITS = [1 << 7, 1 << 10, 1 << 53, 1 << 54, 1 << 55]
 
 
 def any_header(chance):
-    version = chance.choice([1, 2, 3, 4])
+    version = chance.choice([1, 2, 3, 4, 5, 5])
     start = chance.choice([0, 1, 1, 2])
     pes = chance.choice([1, 2, 2, 2, 3, 4, 64, 128 if version > 2 else 64])
     return Header(version, chance.random() < 0.5, pes, (chance.choice([0, 1, 1, 2]), start),
                   1 if start == 0 else chance.choice([1, 1, 2, 4, 16]), chance.choice(["ttbr0", "ttbr1"]),
-                  version > 1 and chance.random() < 0.3)
+                  version > 1 and chance.random() < 0.3, version > 4 and chance.random() < 0.6)
 
 
 def text_of(header):
     a, b = header.starts
     rest = f"hyp {header.pes} {a} {b} {header.pages}" if header.hyp else f"kernel {header.pes} {a} {b} {header.asids}"
-    return f"bbmlog {header.version} {rest}" + ("" if header.version == 1 else " cnp" if header.cnp else " -")
+    return f"bbmlog {header.version} {rest}" + words_of(header)
+
+
+def words_of(header):
+    """What a header says behind its numbers, with the space before it."""
+    if header.version < 5:
+        return "" if header.version == 1 else " cnp" if header.cnp else " -"
+    return " cnp" * header.cnp + " unflushed" * header.unflushed
 
 
 class Story:
@@ -49,7 +56,7 @@ class Story:
     def __init__(self, chance, header, machine=False):
         self.chance, self.header, self.machine = chance, header, machine
         self.lines, self.roots, self.tables, self.held, self.loaded = [], [], {}, {}, {}
-        self.free, self.entries, self.next_page = [], 0, 0x40000000
+        self.free, self.nulls, self.entries, self.next_page = [], [], 0, 0x40000000
 
     # ---- lines
 
@@ -98,11 +105,12 @@ class Story:
     def start_of(self, kind):
         return self.header.starts[kind in ("s2", "ttbr1")]
 
-    def new_root(self, kind=None, lock=None):
+    def new_root(self, kind=None, lock=None, page=None):
+        """A root on pages that are new, or on that page and those behind it."""
         kind = kind or self.chance.choice(self.kinds())
         lock = self.chance.choice([None, None, 1, 2]) if lock is None else lock
         joined = self.header.pages if kind == "s2" else 1
-        page, start, pe = self.page(joined), self.start_of(kind), self.pe()
+        page, start, pe = self.page(joined) if page is None else page, self.start_of(kind), self.pe()
         for number in range(joined):
             self.say(f"init {pe} {page + 4096 * number:#x}")
         if start and self.chance.random() < 0.3:
@@ -130,10 +138,27 @@ class Story:
             self.say(f"isb {pe}")
         self.loaded[pe, root.kind] = root
 
+    def null_page(self):
+        """A page that stays empty."""
+        if not self.nulls or self.chance.random() < 0.3:
+            self.nulls.append(self.fresh_page())
+            self.say(f"null {self.pe()} {self.nulls[-1]:#x}")
+        return self.chance.choice(self.nulls)
+
+    def name_none(self, pe, kind, number=None):
+        """A register names a null page, beside this VMID or ASID, or any."""
+        number = self.chance.randrange(6) if number is None else number
+        value = self.null_page() | number << 48 | (self.header.cnp and self.chance.random() < 0.5)
+        self.say(f"msr {pe} {REGISTERS[kind]} {value:#x}")
+        self.say(f"isb {pe}")
+        self.loaded.pop((pe, kind), None)
+
     def unload(self, root):
-        """Each register that names the root is given 0."""
+        """Each register that names the root is given 0, or from version 5 on a null page."""
         for (pe, kind), loaded in list(self.loaded.items()):
-            if loaded == root:
+            if loaded == root and self.header.version > 4 and self.chance.random() < 0.3:
+                self.name_none(pe, kind, self.chance.choice([root.number, None]))
+            elif loaded == root:
                 self.say(f"msr {pe} {REGISTERS[kind]} 0x0")
                 self.say(f"isb {pe}")
                 del self.loaded[pe, kind]
@@ -229,7 +254,7 @@ class Story:
                       [f"aside1 {root.number << 48:#x}"]],
             "ttbr1": [["vmalle1"], [f"vaa{last}e1 {page | hint:#x}"]],
         }[kind]
-        if self.header.version == 4:
+        if self.header.version > 3:
             # NUM 1 and SCALE 0 are four pages; 3 and 3 the most that a leaf of level 1 has.
             size = self.chance.choice([1 << 39, 3 << 44 | 31 << 39])
             field = (page & 0x1fffffffff) | 1 << 46 | size
@@ -313,11 +338,45 @@ class Story:
         if len(self.roots) < 2:
             return
         self.unload(root)
-        self.flush(self.pe(), [self.whole(root.kind)], False)
+        if not self.header.unflushed or self.chance.random() < 0.2:
+            self.flush(self.pe(), [self.whole(root.kind)], False)
         self.under_lock(root, self.pe(), lambda pe: self.say(f"unroot {pe} {root.page:#x}"))
         self.roots.remove(root)
         for page in [page for page, table in self.tables.items() if table.root == root]:
             self.forget_below(page)
+        if self.header.unflushed and self.chance.random() < 0.7:
+            self.come_after(root)
+
+    def come_after(self, old):
+        """A root that was given up, and perhaps unflushed, is declared anew, or another one gets its VMID or ASID."""
+        page = old.page if self.chance.random() < 0.6 else None
+        joined = self.header.pages if old.kind == "s2" else 1
+        if page is not None:
+            self.free = [one for one in self.free if not page <= one < page + 4096 * joined]
+        if self.chance.random() < 0.7:
+            self.flush_left(old)
+        new = self.new_root(old.kind, page=page)
+        number = old.number if self.chance.random() < 0.7 else new.number
+        self.numbered(new, number)
+        if self.chance.random() < 0.2:
+            self.flush_left(old)
+        self.load(self.roots[-1])
+
+    def flush_left(self, old):
+        """A flush of all that is kept under the tag of a root that was given up: at every PE, by each for itself, or at one."""
+        pe = self.pe()
+        ways = {"el2": ["alle2"], "s2": ["alle1", "vmalls12e1"], "ttbr1": ["vmalle1"],
+                "ttbr0": ["vmalle1", f"aside1 {old.number << 48:#x}"]}[old.kind]
+        way = self.chance.choice(ways + ["vmalle1"] * (self.header.hyp and self.chance.random() < 0.1))
+        if way == "vmalls12e1":
+            self.name_none(pe, "s2", old.number)
+        self.flush(pe, [way], way != "vmalls12e1")
+
+    def numbered(self, root, number):
+        """The root that was declared last has this VMID or ASID."""
+        self.roots[-1] = root._replace(number=number)
+        for page in [page for page, table in self.tables.items() if table.root == root]:
+            self.tables[page] = self.tables[page]._replace(root=self.roots[-1])
 
     def hand_over(self):
         """A register's root and its tag go to another root."""
@@ -325,30 +384,24 @@ class Story:
         self.load(old)
         self.unload(old)
         self.flush(self.pe(), [self.whole(old.kind)], False)
-        new = self.new_root(old.kind)
-        self.roots[-1] = new = new._replace(number=old.number)
-        for page in [page for page, table in self.tables.items() if table.root.page == new.page]:
-            self.tables[page] = self.tables[page]._replace(root=new)
-        self.load(new)
+        self.numbered(self.new_root(old.kind), old.number)
+        self.load(self.roots[-1])
 
     def barrier(self):
         option = self.chance.choice(OPTIONS)
         self.say(self.chance.choice([f"dsb {self.pe()} {option}", f"dmb {self.pe()} {option}", f"isb {self.pe()}"]))
 
     def flush_for_nothing(self):
-        ways = FLUSHES[self.header.hyp] + (RANGES[self.header.hyp] if self.header.version == 4 else [])
+        ways = FLUSHES[self.header.hyp] + (RANGES[self.header.hyp] if self.header.version > 3 else [])
         operation, _, operand = self.chance.choice(ways).partition(" ")
         self.say(f"tlbi {self.pe()} {operation}{self.chance.choice(['', 'is'])} {operand}".rstrip())
 
     def reserve(self):
-        """An empty page stands for no walk, in TTBR0_EL1."""
-        if self.header.hyp:
-            return
-        page, pe = self.fresh_page(), self.pe()
-        self.say(f"null {pe} {page:#x}")
-        self.say(f"msr {pe} ttbr0_el1 {page | self.chance.randrange(3) << 48:#x}")
-        self.say(f"isb {pe}")
-        self.loaded.pop((pe, "ttbr0"), None)
+        """An empty page stands for no walk, in TTBR0_EL1, or from version 5 on in any root register."""
+        if self.header.version > 4:
+            self.name_none(self.pe(), self.chance.choice(self.kinds()))
+        elif not self.header.hyp:
+            self.name_none(self.pe(), "ttbr0")
 
     def lock_and_unlock(self):
         pe, lock = self.pe(), self.chance.choice([0, 3, 1023])
@@ -468,7 +521,7 @@ class Story:
                                      f"null 0 {page:#x}"]))
 
     def slip_11(self):
-        page = self.chance.choice([0x7ffd0000, self.fresh_page()])
+        page = self.chance.choice([0x7ffd0000, self.fresh_page(), *self.nulls[:1]])
         self.say(self.chance.choice([f"msr 0 {REGISTERS[self.chance.choice(self.kinds())]} {page:#x}", f"unroot 0 {page:#x}",
                                      f"msr 0 {REGISTERS[self.kinds()[1]]} 0x1000000000000"]))
 
@@ -476,6 +529,9 @@ class Story:
         kind = self.chance.choice(self.kinds())
         one, two = self.root(kind), self.new_root(kind)
         self.load(one, synchronise=self.chance.random() < 0.5)
+        if self.header.unflushed and self.chance.random() < 0.5:
+            self.unload(one)
+            self.under_lock(one, self.pe(), lambda pe: self.say(f"unroot {pe} {one.page:#x}"))
         self.load(two._replace(number=one.number), synchronise=self.chance.random() < 0.5)
 
     def slip_13(self):
@@ -495,7 +551,7 @@ class Story:
     def slip_15(self):
         name = self.chance.choice(["vae2", "ipas2e1"] if self.header.hyp else ["vae1", "vaae1", "vale1"])
         operand = self.chance.choice([0xc00000040000, 0x800000040000, 0xfff8000, 0x1f000000000, 0x7fffffffffff])
-        if self.header.version == 4 and self.chance.random() < 0.5:
+        if self.header.version > 3 and self.chance.random() < 0.5:
             name, operand = "r" + name, self.chance.choice([0x40000, 2 << 46, 1 << 46 | 1 << 37 | 3, 1 << 46 | 2 << 37 | 5])
         self.say(f"tlbi {self.pe()} {name}is {operand:#x}")
 
