@@ -3,13 +3,14 @@
 use Rattle.bbm_replay.proofs.Common.{broken, Judging, Kind, kind_in_world, Rule, WrongWorld, NoLock, NullWritten}
 use Rattle.bbm_replay.proofs.Common.{BreakBeforeMake, LimboMake, NotFresh, RewrittenFresh, BadKind, GlobalUser}
 use Rattle.bbm_replay.proofs.Common.{PageInUse, TreeFault, View, notes, Rules, Told, step_fault}
-use Rattle.bbm_rules.proofs.Common.{◌≡◌, ℕ, ◌≤◌, Bool, false, not, ◌||◌, nat_le, List, Option, Some, None, Ok, Err}
+use Rattle.bbm_rules.proofs.Common.{◌≡◌, ℕ, ◌≤◌, Bool, false, not, ◌&&◌, ◌||◌, nat_le, List, Option, Some, None, Ok, Err}
 use Rattle.bbm_rules.proofs.Common.{is_some, filter, refl, ◌∙◌, ap, option_map_or, le-leb, leb-true, Pages, Breach}
 use Rattle.bbm_rules.proofs.Common.{Patterns, limit_of, if_so, least, S2, Heading, Event, Init, Null, Root, Write}
 use Rattle.bbm_rules.proofs.Common.{root_pages, bad_kind, break_before_make, global_user, limbo_make, no_lock}
 use Rattle.bbm_rules.proofs.Common.{not_fresh, null_written, page_in_use, rewritten_fresh, Node, Answers, Which}
 use Rattle.bbm_rules.proofs.Common.{not-true, false_from_ne_true}
 use Rattle.bbm_lemmas.proofs.Bools.{and_apart}
+use Rattle.bbm_events.specs.Heading.{nulls_everywhere}
 use Rattle.bbm_tree_index.specs.Attaching.{Judges}
 use Rattle.bbm_tree_index.specs.declared.fault.TreeFault.TheVariants as tree
 
@@ -33,7 +34,7 @@ module _ {heading : Heading} (rules : Rules heading) {h : List Event} {v : View}
       false_from_ne_true (nat_le 16384 v.pages) (λ full. k (not-true (v.known page) new, leb-true 16384 v.pages full))))
 
   pub null_is : broken heading Patterns h (Null pe page)
-      ≡ found WrongWorld (if_so (kind_in_world heading.world S2) 0)
+      ≡ found WrongWorld (if_so (kind_in_world heading.world S2 && not (nulls_everywhere heading.version)) 0)
       (found PageInUse (page_in_use heading Patterns (notes heading h) (Null pe page)) None)
   null_is = rules.by_kind Patterns h (Null pe page)
 

@@ -3,9 +3,10 @@ use Rattle.bbm_replay.proofs.Common.{broken, kept_next, View, Laws, Told, node_i
 use Rattle.bbm_replay.proofs.Common.{null_in, kind_in_world, PageInUse, WrongWorld, Broken, TreeFault, step_fault}
 use Rattle.bbm_replay.proofs.Common.{Rules, MayMeet, Meets, SameFrame, PartsStand, view_of, ReplayState, notes}
 use Rattle.bbm_replay.proofs.Common.{PlaceMap, TreeIndex, marks_at, waits, Marks, Pends, StepFault, kept}
-use Rattle.bbm_rules.proofs.Common.{◌≡◌, ℕ, Bool, true, cond, not, ◌==◌, ◌||◌, List, ◌∷◌, Option, Some, None, refl, sym}
+use Rattle.bbm_rules.proofs.Common.{◌≡◌, ℕ, Bool, true, cond, not, ◌==◌, ◌&&◌, ◌||◌, List, ◌∷◌, Option, Some, None, refl, sym}
 use Rattle.bbm_rules.proofs.Common.{◌∙◌, ap, fits_heading, Patterns, page_of, Heading, Event, Init, Null, Unroot, arith}
 use Rattle.bbm_rules.proofs.Common.{◌≤◌, false, Ok, Err, is_some, Pages, Answers, limit_of, S2, Node, page_in_use}
+use Rattle.bbm_events.specs.Heading.{nulls_everywhere}
 use Rattle.bbm_tree_index.specs.Index.{known_in, pages_in}
 use Rattle.bbm_replay_trees.specs.Told.{is_at}
 use Rattle.bbm_tree_index.specs.HeldCores.{leaves}
@@ -83,6 +84,10 @@ module _ {heading : Heading} (laws : Laws heading) {h : List Event} {old : View}
       ((move.marks a).1 n is) (λ q. move.pends q a n is))
       (λ a is. (move.marks a).0 is)
 
+-- whether a `null` under this header breaks the rule wrong-world
+abbrev is_wrong_null : Heading → Bool
+is_wrong_null heading = kind_in_world heading.world S2 && not (nulls_everywhere heading.version)
+
 module _ (rules : (heading : Heading) → Rules heading) (old : ReplayState) (pe page : ℕ) where
   pub init_refused : (is_some (node_in old.index page) || null_in old.index page) ≡ true
       → Meets old old (Init pe page) (Err (Broken PageInUse page))
@@ -93,18 +98,18 @@ module _ (rules : (heading : Heading) → Rules heading) (old : ReplayState) (pe
       → (heading : Heading) (h : List Event) → PartsStand old heading h → broken heading Patterns h (Init pe page) ≡ None
   init_kept free heading h s = rw (init_is (rules heading) s.told pe page, free) refl
 
-  pub null_world : kind_in_world old.header.world S2 ≡ true → Meets old old (Null pe page) (Err (Broken WrongWorld 0))
+  pub null_world : is_wrong_null old.header ≡ true → Meets old old (Null pe page) (Err (Broken WrongWorld 0))
   null_world wrong = meets_broken old (Null pe page) WrongWorld 0 (λ heading h s.
-      let k : kind_in_world heading.world S2 ≡ true = cc (wrong, s.header) in
+      let k : is_wrong_null heading ≡ true = ap is_wrong_null (sym s.header) ∙ wrong in
       rw (null_is (rules heading) s.told pe page, k) refl)
 
-  module _ (right : kind_in_world old.header.world S2 ≡ false) where
+  module _ (right : is_wrong_null old.header ≡ false) where
     -- by the rule on pages in use
     null_breaks : (heading : Heading) (h : List Event) → PartsStand old heading h → (o : Option ℕ)
         → page_in_use heading Patterns (notes heading h) (Null pe page) ≡ o
         → broken heading Patterns h (Null pe page) ≡ found PageInUse o None
     null_breaks heading h s o k =
-        let right_here : kind_in_world heading.world S2 ≡ false = cc (right, s.header) in
+        let right_here : is_wrong_null heading ≡ false = ap is_wrong_null (sym s.header) ∙ right in
         rw (null_is (rules heading) s.told pe page, right_here, k) refl
 
     pub null_unfresh : fresh_in old.index page ≡ false → Meets old old (Null pe page) (Err (Broken PageInUse page))
@@ -156,7 +161,7 @@ module _ (laws : (heading : Heading) → Laws heading) (rules : (heading : Headi
         )
         by f heading h s full none = let bad : f ≡ tree.NoMemory = none (λ e. absurd cc) in absurd cc
 
-  pub null_ok : MayMeet old (Null pe page) → kind_in_world old.header.world S2 ≡ false → fresh_in old.index page ≡ true
+  pub null_ok : MayMeet old (Null pe page) → is_wrong_null old.header ≡ false → fresh_in old.index page ≡ true
       → ((a : ℕ) → is_at page a ≡ true → value_at old.map a ≡ 0)
       → Nullifies (view_of old.map old.index) (view_of map index) page → Meets old became (Null pe page) (Ok tt)
   null_ok m right fresh zero move = meets_ok (Null pe page) m frame (λ heading h s fits.

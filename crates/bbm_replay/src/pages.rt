@@ -1,6 +1,8 @@
 //! Pages that are made zero, or declared null.
 
-ghost use Rattle.std.specs.Prelude.{◌≡◌, ℕ, ◌||◌, true, false, is_some};
+ghost use Rattle.std.specs.Prelude.{◌≡◌, ℕ, ◌&&◌, ◌||◌, not, true, false, is_some};
+ghost use Rattle.bbm_regimes.specs.World.{kind_in_world};
+ghost use Rattle.bbm_events.specs.Heading as heading;
 ghost use Rattle.bbm_tree_index.specs.Index.{node_in, null_in};
 ghost use Rattle.bbm_events.specs.declared.event.Event.TheVariants.{Init, Null};
 ghost use Rattle.bbm_place_map.specs.Map.{value_at};
@@ -10,6 +12,7 @@ ghost use Rattle.bbm_replay.specs.ReplayStanding.{MayMeet, Meets};
 use crate::faults::step_fault;
 use crate::laws::{laws, rules};
 use crate::parts::ReplayState;
+use bbm_events::nulls_everywhere;
 use bbm_place_map::PlaceMap;
 use bbm_regimes::{Kind, Page, Pe};
 use bbm_roots::law_others;
@@ -58,6 +61,14 @@ impl ReplayState {
         }
     }
 
+    /// Whether a `null` breaks the rule wrong-world: the header's world is Hyp, and its version 4 or older.
+    fn is_wrong_null(&self) -> bool
+        ensures { result ≡ (kind_in_world self.now.header.world Kind.S2
+            && not (heading.nulls_everywhere self.now.header.version)) }
+    {
+        self.header.has_kind(Kind::S2) && !nulls_everywhere(&self.header)
+    }
+
     /// A page is declared a null page.
     pub(crate) fn null(&mut self, pe: Pe, page: Page) -> Result<(), StepFault>
         requires { MayMeet self.old (Null pe page) }
@@ -66,7 +77,7 @@ impl ReplayState {
         laws();
         rules();
         law_others();
-        if self.header.has_kind(Kind::S2) {
+        if self.is_wrong_null() {
             return Err(StepFault::Broken(Rule::WrongWorld, 0));
         }
         if !self.index.is_fresh(page, self.map.recent_page()) {

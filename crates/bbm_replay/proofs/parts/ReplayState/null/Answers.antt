@@ -2,18 +2,18 @@ use Rattle.bbm_rules.proofs.Common.{refl, sym, ◌∙◌}
 use Rattle.bbm_replay.proofs.PageMoves.{null_nonzero, null_ok, null_unfresh, null_world}
 use Rattle.bbm_replay.proofs.parts.ReplayState.null.Goals as goal
 
-pub returns-then-has_kind : goal.returns-then-has_kind
-returns-then-has_kind c =
-    null_world c.rules.ensures c.args.self.now c.args.pe c.args.page (sym c.has_kind.ensures ∙ c.if-has_kind.true)
+pub returns-then-is_wrong_null : goal.returns-then-is_wrong_null
+returns-then-is_wrong_null c =
+    null_world c.rules.ensures c.args.self.now c.args.pe c.args.page (sym c.is_wrong_null.ensures ∙ c.if-is_wrong_null.true)
 
 pub returns-then-not-is_fresh : goal.returns-then-not-is_fresh
 returns-then-not-is_fresh c = rw c.get.ensures.value
-    (null_unfresh c.rules.ensures c.args.self.now c.args.pe c.args.page (sym c.has_kind.ensures ∙ c.if-has_kind.false)
+    (null_unfresh c.rules.ensures c.args.self.now c.args.pe c.args.page (sym c.is_wrong_null.ensures ∙ c.if-is_wrong_null.false)
     (sym c.is_fresh.ensures ∙ c.if-not-is_fresh.true))
 
 pub returns-then-not-is_zero : goal.returns-then-not-is_zero
 returns-then-not-is_zero c = rw c.get-then-not-is_zero.ensures.value
-    (null_nonzero c.rules.ensures c.args.self.now c.args.pe c.args.page (sym c.has_kind.ensures ∙ c.if-has_kind.false)
+    (null_nonzero c.rules.ensures c.args.self.now c.args.pe c.args.page (sym c.is_wrong_null.ensures ∙ c.if-is_wrong_null.false)
     (c.is_zero.ensures.other c.if-not-is_zero.true))
 
 pub returns : goal.returns
@@ -22,7 +22,7 @@ returns c =
     let e = c.nullify.ensures in
     let fresh = sym c.is_fresh.ensures ∙ c.if-not-is_fresh.false in
     null_ok c.laws.ensures c.rules.ensures c.law_others.ensures old old.map c.nullify.new.self e.tracked.heading
-    c.args.pe c.args.page c.requires (sym c.has_kind.ensures ∙ c.if-has_kind.false) fresh
+    c.args.pe c.args.page c.requires (sym c.is_wrong_null.ensures ∙ c.if-is_wrong_null.false) fresh
     (c.is_zero.ensures.zero c.if-not-is_zero.false)
     (record {
       was_fresh = fresh;

@@ -1,5 +1,5 @@
 use Rattle.bbm_replay.proofs.Common.{node_in, core_at, IsSettled, MetFromAll}
-use Rattle.bbm_rules.proofs.Common.{◌≡◌, ℕ, sym, ◌∙◌, ap, subst, page_count, Declared, same_Some}
+use Rattle.bbm_rules.proofs.Common.{sym, ◌∙◌, ap, subst, page_count, Declared, same_Some}
 use Rattle.bbm_replay.proofs.tlbi_cover.Covering.descend_root.Goals as goal
 
 pub returns-clause-met : goal.returns-clause-met
