@@ -5,9 +5,9 @@ use Rattle.bbm_cert.proofs.Lasting.{spans_next}
 use Rattle.bbm_cert.proofs.holdings.tags_after.Goals as goal
 
 -- what two clauses say of a result
-both : {A E : Type 0} (r : Result A E) {P Q : A → Type 0} → IfOk r P → IfOk r Q → IfOk r (λ x. P x × Q x)
-both (Ok x) p q = (p, q)
-both (Err e) p q = p
+both : {A E : Type 0} (r : Result A E) (P Q : A → Type 0) → IfOk r P → IfOk r Q → IfOk r (λ x. P x × Q x)
+both (Ok x) P Q p q = (p, q)
+both (Err e) P Q p q = p
 
 pub returns-clause-kept : goal.returns-clause-kept
 returns-clause-kept c = λ keep.
@@ -35,7 +35,7 @@ returns-clause-kept c = λ keep.
           c.args.tags.now.left.items (has next.left.items p page tag) now c.deref-4.ensures.value
           (keep.held_is p page tag below) (keep.left_is p page tag below) (lost p tag) (k.1 p page tag);
     })
-    (both c.next.result c.next.ensures.held c.next.ensures.left)
+    (both c.next.result _ _ c.next.ensures.held c.next.ensures.left)
 
 pub returns-clause-spans : goal.returns-clause-spans
 returns-clause-spans c =

@@ -9,8 +9,11 @@ pub new-history-requires : goal.new-history-requires
 new-history-requires c = (
   (λ place p n. ap (λ (xs : List Cleansing). tells xs place p n) c.new.ensures.items
       ∙ tell_nothing c.args.header.now c.as_slice.result.now place p n),
-  (λ p root tag below. ap (λ (xs : List Holding). has xs p root tag) c.new-2.ensures.items),
-  (λ p n tag below. ap (λ (xs : List Span). lasts xs p tag n) c.new-3.ensures.items ∙ nothing_lasts c.args.header.now p
+  record {
+    held_is = λ p root tag below. ap (λ (xs : List Holding). has xs p root tag) c.new-2.ensures.items;
+    left_is = λ p page tag below. ap (λ (xs : List Holding). has xs p page tag) c.new-3.ensures.items;
+  },
+  (λ p n tag below. ap (λ (xs : List Span). lasts xs p tag n) c.new-4.ensures.items ∙ nothing_lasts c.args.header.now p
       tag n),
   refl,
 )

@@ -1,5 +1,5 @@
 use Rattle.bbm_cert.proofs.Common.{notes_behind, tells, Cleansing}
-use Rattle.bbm_rules.proofs.Common.{◌≡◌, ℕ, List, reverse, drop, ◌∙◌, ap, every_pe, Listed, cleansed, every_same}
+use Rattle.bbm_rules.proofs.Common.{ℕ, List, reverse, drop, ◌∙◌, ap, every_pe, Listed, cleansed, every_same}
 use Rattle.bbm_events.specs.Heading.{Heading}
 use Rattle.bbm_regimes.specs.PeMask.{pe_in}
 use Rattle.bbm_cert.proofs.Cleansed.{kept_cleansed}
