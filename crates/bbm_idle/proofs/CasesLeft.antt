@@ -66,6 +66,23 @@ pub flush_of_a_tag : marks (
 unfolding marks
 flush_of_a_tag = refl
 
+-- And so is one of a tag that a root left when it was given up.
+pub flush_of_a_left_tag : marks (
+    "bbmlog 5 hyp 2 1 1 1 unflushed"
+    ∷ "init 0 0x40000000"
+    ∷ "root 0 el2 - 0x40000000"
+    ∷ "msr 0 ttbr0_el2 0x40000000"
+    ∷ "msr 0 ttbr0_el2 0x0"
+    ∷ "isb 0"
+    ∷ "unroot 0 0x40000000"
+    ∷ "tlbi 0 alle2is"
+    ∷ "dsb 0 ish"
+    ∷ "tlbi 0 alle2is"
+    ∷ "dsb 0 ish"
+    ∷ []) ≡ Some (true ∷ true ∷ false ∷ false ∷ false ∷ false ∷ false ∷ false ∷ false ∷ false ∷ [])
+unfolding marks
+flush_of_a_left_tag = refl
+
 -- In stage 2 the flush of the combined entries adds nothing before the place is half, and so the first one is idle.
 pub second_step_first : marks (
     "bbmlog 1 hyp 2 1 1 1"

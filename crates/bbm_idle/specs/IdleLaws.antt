@@ -6,7 +6,7 @@ use Rattle.bbm_idle.specs.Idle.{is_idle, is_needed}
 use Rattle.bbm_idle.specs.IdleSentences.{IsIdle, Needed}
 
 -- A TLBI is needed exactly where at a PE that it reaches it takes a place of a tree further, or takes a whole tag that
--- a declared root holds there.
+-- is kept there: a root holds it, or one that was given up left it.
 pub record NeededBySentence (heading : Heading) : Type 0 where
   pub sound : (h : List Event) (e : Event) → is_needed heading h e ≡ true → Needed heading h e
   pub complete : (h : List Event) (e : Event) → Needed heading h e → is_needed heading h e ≡ true

@@ -3,7 +3,7 @@
 use Rattle.bbm_rules.specs.Prelude.{Heading}
 use Rattle.bbm_rules.specs.BrokenLaws.{NotesKeepEvents, NotesOfOlder}
 use Rattle.bbm_rules.specs.Claims.{Patterns}
-use Rattle.bbm_rules.specs.EventLaws.{AnsweredBySentence, ByChanges, RootsBySentence, TestsAreExact}
+use Rattle.bbm_rules.specs.EventLaws.{AnsweredBySentence, ByChanges, TestsAreExact}
 use Rattle.bbm_rules.specs.HeldLaws.{CleansedBySentence, HalfBySentence, LastValidBySentence, SeenBySentence}
 use Rattle.bbm_rules.specs.TagLaws.{TagKeptBySentence}
 use Rattle.bbm_rules.specs.TreeLaws.{TreeBySentence}
@@ -52,6 +52,5 @@ pub record Terms (heading : Heading) : Type 0 where
   pub last_valid : LastValidBySentence
   pub notes_keep_the_events : NotesKeepEvents heading Patterns
   pub phase_parts : PhaseByParts heading Patterns
-  pub roots : RootsBySentence
   pub seen : SeenBySentence heading
   pub tag_kept : TagKeptBySentence heading Patterns

@@ -11,9 +11,7 @@ ghost use Rattle.bbm_idle.specs.Finding as spec;
 
 use bbm_events::{Event, Header};
 use bbm_oracle_tags::readings::is_read;
-use bbm_oracle_tags::{
-    Holding, Reading, first_pages, kept_at, named_scope, readings_at, vmid_of,
-};
+use bbm_oracle_tags::{Holding, Reading, first_pages, kept_at, named_scope, readings_at, vmid_of};
 use bbm_regimes::{NoMemory, Page, Pe};
 use bbm_rules::law_equality_tests;
 use bbm_tlbi_scope::{Scope, whole_tag};

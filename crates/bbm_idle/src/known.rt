@@ -14,7 +14,7 @@ use bbm_histories::{
 };
 use bbm_rules::{
     law_answered, law_changes, law_cleansed, law_equality_tests, law_half, law_last_valid,
-    law_notes, law_notes_keep_the_events, law_root, law_seen, law_tag_kept, law_tree,
+    law_notes, law_notes_keep_the_events, law_seen, law_tag_kept, law_tree,
 };
 
 /// The laws that the laws here stand on.
@@ -61,7 +61,6 @@ pub(crate) fn terms()
     law_last_valid();
     law_notes_keep_the_events();
     law_phase_parts();
-    law_root();
     law_seen();
     law_tag_kept();
 }

@@ -13,7 +13,7 @@ ghost use Rattle.bbm_idle.specs.IdleLaws.{IdleBySentence, NeededBySentence};
 use crate::known::{known, terms};
 
 /// A TLBI is needed exactly where at a PE that it reaches it takes a place of a tree further, or takes a whole tag that
-/// a declared root holds there. The law is `NeededBySentence`.
+/// is kept there: a root holds it, or one that was given up left it. The law is `NeededBySentence`.
 pub fn law_needed()
     ensures { (heading : Heading) → NeededBySentence heading }
 {

@@ -10,7 +10,6 @@ returns c heading = record {
   last_valid = c.law_last_valid.ensures;
   notes_keep_the_events = c.law_notes_keep_the_events.ensures heading Patterns;
   phase_parts = c.law_phase_parts.ensures heading Patterns;
-  roots = c.law_root.ensures;
   seen = c.law_seen.ensures heading;
   tag_kept = c.law_tag_kept.ensures heading Patterns;
 }
