@@ -71,12 +71,7 @@ fn holds_from(
 
 /// Whether a root of the page that was given up left the tag at the PE, where the events behind those taken are
 /// register writes.
-fn left_from(
-    _header: &Header,
-    _events: &[Event],
-    asked: &Holding,
-    evidence: &ByClaims<'_>,
-) -> bool
+fn left_from(_header: &Header, _events: &[Event], asked: &Holding, evidence: &ByClaims<'_>) -> bool
     requires { (newer older : List TheEvent) × (reverse _events.now ≡ newer ++ older) × AreWrites newer
         × Keep _header.now evidence.now.claims.now older evidence.now.tags.held.items evidence.now.tags.left.items
         × (evidence.now.taken ≡ length older) }

@@ -10,8 +10,8 @@ use bbm_descriptor::laws::{
 use bbm_rules::{
     law_attaching, law_childless, law_each_rule, law_equality_tests, law_global_user, law_half,
     law_held, law_last_valid, law_limbo, law_notes, law_notes_keep_the_events, law_published,
-    law_readable_tag, law_readable_value, law_root, law_root_pages, law_seen, law_tag_held, law_tag_kept,
-    law_tag_rules, law_tree,
+    law_readable_tag, law_readable_value, law_root, law_root_pages, law_seen, law_tag_held,
+    law_tag_kept, law_tag_rules, law_tree,
 };
 
 /// The laws that the laws here stand on.

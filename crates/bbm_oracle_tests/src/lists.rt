@@ -81,7 +81,16 @@ fn tells_tags(alloc: Global) -> Option<bool> {
         tag: Tag::El2,
     };
     let here = kept_at(alloc, &HEADER, &all, &asked).ok()?;
-    let held = keeps_tag(alloc, &AllPatterns, &HEADER, &all, ROOT, Tag::El2, Keeper::Declared).ok()?;
+    let held = keeps_tag(
+        alloc,
+        &AllPatterns,
+        &HEADER,
+        &all,
+        ROOT,
+        Tag::El2,
+        Keeper::Declared,
+    )
+    .ok()?;
     let tags = tag_set_of(alloc, &AllPatterns, &HEADER, &all, ROOT).ok()?;
     Some(read.len() == 1 && here && held && tags == TagSet::One(Tag::El2))
 }
@@ -100,7 +109,9 @@ fn tells_rules(alloc: Global) -> Option<bool> {
     let clash = rules::tag_conflict(alloc, &AllPatterns, &HEADER, &all, &all[4]).ok()?;
     let used = rules::root_in_use(alloc, &AllPatterns, &HEADER, &all, &unroot).ok()?;
     let unsynced = rules::unsynced_vmid(alloc, &HEADER, &all, &all[9]).ok()?;
-    let rooted = rules::no_root(&HEADER, &all, &load) == Some(BELOW) && used == Some(ROOT) && clash == None;
+    let rooted = rules::no_root(&HEADER, &all, &load) == Some(BELOW)
+        && used == Some(ROOT)
+        && clash == None;
     let locked = rules::lock_busy(&all, &all[2]) == Some(0)
         && rules::without_lock(&all, pe, ROOT, 9) == None;
     Some(rooted && locked && unsynced == None)

@@ -190,7 +190,13 @@ impl<E: Evidence> History<E> {
         let evidence = self.evidence();
         let root = root.get();
         let asked = Holding { pe, root, tag };
-        evidence.keeps_at(alloc, self.header(), self.events(), &asked, Keeper::Declared)
+        evidence.keeps_at(
+            alloc,
+            self.header(),
+            self.events(),
+            &asked,
+            Keeper::Declared,
+        )
     }
 
     /// The tags that the root with this first page holds at any PE. `NoMemory` where there is none.

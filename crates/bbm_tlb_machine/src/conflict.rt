@@ -16,13 +16,7 @@ use bbm_regimes::{NoMemory, Page, Place, same_tag};
 use std::alloc::Global;
 
 /// Whether an entry whose root wasn't given up has a part at the place from which the value needs break-before-make.
-fn any_stale(
-    header: &Header,
-    events: &[Event],
-    living: &[Living],
-    place: Place,
-    value: u64,
-) -> bool
+fn any_stale(header: &Header, events: &[Event], living: &[Living], place: Place, value: u64) -> bool
     ensures { result ≡ any (λ l. not (given_up header.now (reverse events.now) l.entry)
         && any (spec.is_stale place value) (parts_of l.entry)) living.now }
 {
@@ -48,8 +42,7 @@ fn has_other_root(header: &Header, events: &[Event], readings: &[Reading], entry
     let tag = entry.tag();
     let root = entry.root;
     readings.iter().any(|reading| {
-        same_tag(reading.tag, tag)
-            && (reading.root != root || is_given_up(header, events, entry))
+        same_tag(reading.tag, tag) && (reading.root != root || is_given_up(header, events, entry))
     })
 }
 
@@ -63,9 +56,7 @@ fn any_other_root(
     ensures { result ≡ any (λ l. any (spec.has_other_root header.now (reverse events.now) l.entry) readings.now)
         living.now }
 {
-    living
-        .iter()
-        .any(|living| has_other_root(header, events, readings, &living.entry))
+    living.iter().any(|living| has_other_root(header, events, readings, &living.entry))
 }
 
 /// Whether one of the entries conflicts with the event, which is the last of the events. `NoMemory` where there is

@@ -19,7 +19,7 @@ returns-clause-kept c = λ keep.
     = ap (λ (xs : List Event). reverse xs) c.deref-3.ensures.value ∙ c.in_ok-add_event.ensures
     ∙ ap (λ (xs : List Event). e ∷ xs) c.in_ok-events.ensures in
     let lost : (p : ℕ) (tag : Tag) → is_lost c.in_ok-losses.losses.items p tag
-        ≡ ends_some c.args.header.now c.args.claims.now p tag e h
+    ≡ ends_some c.args.header.now c.args.claims.now p tag e h
     = λ p tag. c.in_ok-losses.ensures p tag
     ∙ ap (λ (xs : List Event). ends_some c.args.header.now c.args.claims.now p tag e xs) before in
     IfOk-weaker c.next.result _ _
