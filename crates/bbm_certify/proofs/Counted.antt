@@ -1,6 +1,6 @@
 -- Where a claim has its place among others, and a number among others.
 use Rattle.bbm_certify.proofs.Common.{insert, claim_key, less, Adds}
-use Rattle.bbm_rules.proofs.Common.{◌≡◌, ℕ, ◌+◌, ◌-◌, ◌<◌, ◌≤◌, Bool, true, false, ◌||◌, ◌==◌, List, [], ◌∷◌, ◌++◌}
+use Rattle.bbm_rules.proofs.Common.{◌≡◌, ℕ, ◌+◌, ◌-◌, ◌<◌, ◌≤◌, Bool, true, false, ◌||◌, ◌==◌, List, ◌∷◌, ◌++◌}
 use Rattle.bbm_rules.proofs.Common.{length, take, drop, get_or, refl, sym, ◌∙◌, ap, subst, arith, inl, inr, cases_eq}
 use Rattle.bbm_rules.proofs.Common.{get_or_default, take-append-drop, list_any-append, proved, Is, Claim, among}
 use Rattle.bbm_certify.proofs.Adding.{before_it, has_key, inserted}

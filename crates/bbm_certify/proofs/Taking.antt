@@ -1,6 +1,6 @@
 -- The TLBIs that take a tag away are among those that wait.
 use Rattle.bbm_certify.proofs.Common.{split_in, is_open, takes}
-use Rattle.bbm_rules.proofs.Common.{◌≡◌, ℕ, suc, ◌+◌, ◌≤◌, Bool, true, false, not, ◌&&◌, ◌==◌, List, [], ◌∷◌, ◌++◌}
+use Rattle.bbm_rules.proofs.Common.{◌≡◌, ℕ, suc, ◌+◌, ◌≤◌, Bool, true, false, not, ◌&&◌, ◌==◌, List, ◌∷◌, ◌++◌}
 use Rattle.bbm_rules.proofs.Common.{length, drop, get_or, reverse, sym, ◌∙◌, ap, inl, inr, true≢false, arith}
 use Rattle.bbm_rules.proofs.Common.{length-append, and_from, and_parts, cases_eq, eqb-true, not_from_false, or_cases}
 use Rattle.bbm_rules.proofs.Common.{length-reverse, reverse-reverse, answers, any, Barrier, Heading, Event, Tag, Issued}
