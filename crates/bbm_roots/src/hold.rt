@@ -133,25 +133,22 @@ pub fn make_room(
     Ok(())
 }
 
-/// The entry of the tag with the PE in it: for this root, where another may have been there before, or one that left
-/// it.
-fn entered(held: Held, tag: Tag, root: Page, pe: Pe) -> Held
-    ensures held { (r p : ℕ) → spec.keeps_bit false tag r p result
-        ≡ (nat_eq root r && (spec.keeps_bit false tag r p held || nat_eq p pe)) }
-    ensures left { (r p : ℕ) → spec.keeps_bit true tag r p result ≡ false }
+/// Puts the PE into the entry of the tag: for this root, where another may have been there before, or one that left it.
+fn enter_one(held: &mut Held, tag: Tag, root: Page, pe: Pe)
+    ensures held { (r p : ℕ) → spec.keeps_bit false tag r p held.new
+        ≡ (nat_eq root r && (spec.keeps_bit false tag r p held.old || nat_eq p pe)) }
+    ensures left { (r p : ℕ) → spec.keeps_bit true tag r p held.new ≡ false }
 {
     let one = PeMask::one(pe);
-    let pes = if held.is_hold(tag, root) {
-        held.pes.or(one)
+    if held.is_hold(tag, root) {
+        held.pes = held.pes.or(one);
     } else {
-        one
-    };
-    let left = false;
-    Held {
-        tag,
-        root,
-        pes,
-        left,
+        *held = Held {
+            tag,
+            root,
+            pes: one,
+            left: false,
+        };
     }
 }
 
@@ -177,7 +174,7 @@ fn enter(holds: &mut Holds, key: u32, tag: Tag, root: Page, pe: Pe)
     ensures known { (q : ℕ) → is_some (get nat_eq holds.new q) ≡ is_some (get nat_eq holds.old q) }
 {
     match holds.get_mut(&key) {
-        Some(held) => *held = entered(*held, tag, root, pe),
+        Some(held) => enter_one(held, tag, root, pe),
         None => {}
     }
 }
