@@ -3,7 +3,7 @@
 ghost use Rattle.std.specs.Prelude.{◌≡◌, ◌++◌, ◌||◌, List, length, reverse, IfOk};
 ghost use Rattle.bbm_events.specs.declared.event.Event.{Event as TheEvent};
 ghost use Rattle.bbm_rules.specs.Claims.Trust.{Listed};
-ghost use Rattle.bbm_rules.specs.Tags.{holds_at as is_held, left_at, reads};
+ghost use Rattle.bbm_rules.specs.Tags.{holds_at as is_held, reads};
 ghost use Rattle.bbm_cert.specs.Holdings.{Keep};
 ghost use Rattle.bbm_cert.specs.Takings.{AreWrites};
 
@@ -69,18 +69,6 @@ fn holds_from(
     Ok(holds)
 }
 
-/// Whether a root of the page that was given up left the tag at the PE, where the events behind those taken are
-/// register writes.
-fn left_from(_header: &Header, _events: &[Event], asked: &Holding, evidence: &ByClaims<'_>) -> bool
-    requires { (newer older : List TheEvent) × (reverse _events.now ≡ newer ++ older) × AreWrites newer
-        × Keep _header.now evidence.now.claims.now older evidence.now.tags.held.items evidence.now.tags.left.items
-        × (evidence.now.taken ≡ length older) }
-    ensures { result ≡ left_at _header.now (Listed evidence.now.claims.now) asked.now.pe asked.now.root asked.now.tag
-        (reverse _events.now) }
-{
-    has(&evidence.tags.left, asked.pe, asked.root, asked.tag)
-}
-
 impl<'a> TagEvidence for ByClaims<'a> {
     ghost use Rattle.std.specs.Prelude.{◌≡◌, ◌++◌, ◌∷◌, List, length};
     ghost use Rattle.std.proofs.Common.{ap};
@@ -105,7 +93,7 @@ impl<'a> TagEvidence for ByClaims<'a> {
     ) -> Result<bool, NoMemory> {
         match keeper {
             Keeper::Declared => holds_from(alloc, header, events, asked, self),
-            Keeper::GivenUp => Ok(left_from(header, events, asked, self)),
+            Keeper::GivenUp => Ok(has(&self.tags.left, asked.pe, asked.root, asked.tag)),
         }
     }
 
