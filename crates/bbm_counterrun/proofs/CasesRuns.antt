@@ -199,6 +199,47 @@ pub run_of_two_reads : run_over two_reads_log two_reads ≡ steps_of (
 unfolding run_over steps_of
 run_of_two_reads = refl
 
+-- ---- roots that were given up
+
+abbrev pub dead_guest_log : List String
+dead_guest_log =
+    "bbmlog 5 hyp 2 1 1 1 unflushed"
+    ∷ "init 0 0x40000000"
+    ∷ "root 0 s2 - 0x40000000"
+    ∷ "w 0 0x40000000 0x40000701"
+    ∷ "msr 0 vttbr_el2 0x5000040000000"
+    ∷ "isb 0"
+    ∷ "msr 0 vttbr_el2 0x0"
+    ∷ "isb 0"
+    ∷ "unroot 0 0x40000000"
+    ∷ "init 0 0x40000000"
+    ∷ "root 0 s2 - 0x40000000"
+    ∷ "w 0 0x40000000 0x40000701"
+    ∷ "msr 0 vttbr_el2 0x6000040000000"
+    ∷ "w 0 0x40000000 0x80000701"
+    ∷ []
+
+abbrev pub guest_read : Plan
+guest_read = record {
+  starts = 12;
+  pe = 0;
+  kind = S2;
+  number = 6;
+  first = record { place = 0x40000000; value = 0x40000701 };
+  rest = [];
+  combines = None;
+}
+
+-- what was read through the root that is declared counts
+pub living_guest_is_plain : is_plain_in dead_guest_log guest_read ≡ Some (Some true)
+unfolding is_plain_in
+living_guest_is_plain = refl
+
+-- and what was through the root that was given up doesn't
+pub dead_guest_is_not_plain : is_plain_in dead_guest_log (record guest_read { starts = 4; number = 5 }) ≡ Some (Some false)
+unfolding is_plain_in
+dead_guest_is_not_plain = refl
+
 -- ---- what the place of the last write holds
 
 pub a_leaf : leaf_in stale_log ≡ Some true
