@@ -236,8 +236,8 @@ class Faults(Case):
         self.ask(("bbm why log", "", "bbm: why needs python3, and that on the PATH can't be run", 70), ("bbm check log", ACCEPTED))
 
     def test_part_that_is_not_there(self):
-        self.ask(("rm copy/tools/why/formats.py; bbm check --format json log", "", "bbm: a part of Python or of tools/why can't be loaded, so there is no answer: ..", 70),
-                 ("echo 'raise ValueError' >copy/tools/why/formats.py; bbm partial log", "", "Traceback...\nbbm: that is a fault of tools/why, so there is no answer", 70),
+        self.ask(("rm copy/tools/why/telling/formats.py; bbm check --format json log", "", "bbm: a part of Python or of tools/why can't be loaded, so there is no answer: ..", 70),
+                 ("echo 'raise ValueError' >copy/tools/why/telling/formats.py; bbm partial log", "", "Traceback...\nbbm: that is a fault of tools/why, so there is no answer", 70),
                  ("rm copy/tools/why/main.py; bbm why log", "", "...bbm: python3 ended by itself, with status 2, so there is no answer", 70))
 
     def test_program_that_fails(self):

@@ -5,9 +5,9 @@ from __future__ import annotations
 import sys
 from dataclasses import dataclass
 
-from formats import Format, finding_of, shown
-from program import Answer, Program, Status, built, emit
-from source import Source
+from why.telling.formats import finding_of, shown
+from why.asking.program import Answer, Program, Status, built, emit
+from why.log.stream import Source
 
 
 @dataclass(frozen=True)
@@ -33,9 +33,9 @@ def asked_of(options: list[str]) -> Asked:
     return Asked(**{**values, "nth": int(values.get("nth", 1))})
 
 
-def say_check(program: Program, source: Source, asked: Asked) -> int:
-    answer = program.run(("check",), source.input)
-    emit(shown(answer, asked.log, Format(asked.format)))
+def say_verdict(answer: Answer, source: Source, asked: Asked) -> int:
+    """The program's answer, where that is all."""
+    emit(shown(answer, asked.log, asked.format) if asked.format else answer.text)
     explain(answer, source)
     return answer.status
 
@@ -43,84 +43,72 @@ def say_check(program: Program, source: Source, asked: Asked) -> int:
 def explain(answer: Answer, source: Source, word: str = "check") -> None:
     """Says on standard error what is wrong in the line that decides, where none of a rule does."""
     if answer.status in (Status.MALFORMED, Status.LIMIT):
-        import line_faults
+        from why.telling import faults
 
-        line_faults.say(answer, source, word)
+        faults.say(answer, source, word)
+
+
+def say_check(program: Program, source: Source, asked: Asked) -> int:
+    return say_verdict(program.run(("check",), source.input), source, asked)
 
 
 def say_why(program: Program, source: Source, asked: Asked) -> int:
-    import picture
-    import why
-    import why_json
-    from log import Log
-    from study import study
-    from style import style_of
+    from why.log.lines import Log
+    from why.log.stream import faults
+    from why.repairs.study import studied
+    from why.telling import answer as telling
+    from why.telling import picture
+    from why.telling.style import style_of
 
     answer = source.answer(program, "check")
     if not answer.refusal:
-        emit(shown(answer, asked.log, Format.JSON) if asked.format else why.other_answer(answer, source))
+        emit(shown(answer, asked.log, asked.format) if asked.format else telling.other_answer(answer, source))
         return answer.status
-    found = study(program, Log(source.read()), answer.refusal)
-    views = why.views_of(found, asked.whole)
-    emit(why_json.text_of(found, views.told, finding_of(answer, asked.log)) if asked.format else
-         why.text_of(answer, why.parts_of(found, views, style_of(sys.stdout))))
+    found = studied(program, Log(source.read()), answer.refusal)
+    parts = telling.Parts(found, telling.views_of(found, asked.whole), style_of(sys.stdout))
+    emit(telling.as_json(parts, finding_of(answer, asked.log)) if asked.format else telling.text_of(answer, parts))
     for path, make in ((asked.svg, picture.svg), (asked.html, picture.html)):
         if path:
-            write_file(path, make(found, views, answer))
+            with faults(path, Status.UNWRITTEN), open(path, "w", encoding="utf-8") as file:
+                file.write(make(parts, answer))
     return answer.status
 
 
-def write_file(path: str, text: str) -> None:
-    from source import faults
-
-    with faults(path, Status.UNWRITTEN), open(path, "w", encoding="utf-8") as file:
-        file.write(text)
-
-
 def say_shrink(program: Program, source: Source, asked: Asked) -> int:
-    import rename
-    from log import Log, written
-    from shrink import Shrinker
-    from study import study
+    from why.asking.least import Shrinker, if_alike
+    from why.log.lines import Log, written
+    from why.repairs.study import studied
 
     answer = source.answer(program, "check")
     if not answer.refusal:
-        emit(answer.text)
-        explain(answer, source)
-        return answer.status
+        return say_verdict(answer, source, asked)
     log = Log(source.read())
-    found = study(program, log, answer.refusal)
-    header, lines = found.header, found.small
+    lines = studied(program, log, answer.refusal).small
     if asked.least:
         lines = log.lines(Shrinker(program, log, answer.refusal).barest([line.at for line in lines]))
-    if asked.rename:
-        header, lines = rename.if_alike(program, header, lines)
-    emit(written(header, lines).decode("latin-1"))
+    small = if_alike(program, log.header, lines) if asked.rename else written(log.header, lines)
+    emit(small.decode("latin-1"))
     return answer.status
 
 
 def say_pending(program: Program, source: Source, asked: Asked) -> int:
-    import pending_told
-    from style import style_of
+    from why.telling import stale
+    from why.telling.style import style_of
 
     answer = source.answer(program, "check")
-    front = pending_told.front_of(source, asked.at, asked.nth, answer)
+    front = stale.front_of(source, asked.at, asked.nth, answer)
     if front is None:
-        emit(shown(answer, asked.log, Format.JSON) if asked.format else answer.text)
-        explain(answer, source)
-        return answer.status
-    found = (pending_told.pages_found if asked.pages else pending_told.places_found)(program, front)
-    what = "pages" if asked.pages else "places"
-    emit(pending_told.as_json(front, what, found, asked.log) if asked.format else
-         pending_told.text_of(front, what, found, style_of(sys.stdout)))
+        return say_verdict(answer, source, asked)
+    what, found = ("pages", stale.pages_found(program, front)) if asked.pages else ("places", stale.places_found(program, front))
+    emit(stale.as_json(front, what, found, asked.log) if asked.format else stale.text_of(front, what, found, style_of(sys.stdout)))
     return Status.REFUSED if found else Status.ACCEPTED
 
 
 def say_partial(program: Program, source: Source, _asked: Asked) -> int:
-    import partial
+    from why.asking.cut import Cut
 
-    cut = partial.Cut(source.parts())
-    answer = cut.answer(program)
+    cut = Cut(source.parts())
+    answer = program.feed(("check",), cut.left)
     emit(answer.text)
     explain(answer, source, "partial")
     emit(cut.told(answer))

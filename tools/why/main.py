@@ -47,7 +47,8 @@ def status_of(items):
     try:
         if not sys.stdout:
             return told(UNWRITTEN, "a write of the answer failed: standard output is closed")
-        import commands
+        sys.path[0] = os.path.dirname(sys.path[0])
+        from why import commands
         return commands.run(*items)
     except Exception as fault:
         try:

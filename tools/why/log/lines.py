@@ -5,7 +5,8 @@ The forms are those of docs/FORMAT.md. Nothing is judged here: a line that isn't
 """
 from __future__ import annotations
 
-from dataclasses import dataclass, replace
+from collections.abc import Iterator, Sequence
+from dataclasses import dataclass, field
 from functools import lru_cache
 
 PAGE_BYTES = 4096
@@ -29,10 +30,6 @@ class Event:
     def plain(self) -> str:
         """The line without its label."""
         return " ".join([self.word, str(self.pe), *self.rest])
-
-    @property
-    def unlabelled(self) -> Event:
-        return replace(self, label="")
 
     @property
     def page(self) -> int | None:
@@ -75,10 +72,10 @@ class Event:
         return number(self.rest[1]) if self.word == "tlbi" and len(self.rest) > 1 else None
 
 
-def number(text: str) -> int:
+def number(text: str | bytes) -> int:
     """A number of a line; 0 where it can't be read."""
     try:
-        return int(text, 16) if text.startswith("0x") else int(text)
+        return int(text, 0)
     except ValueError:
         return 0
 
@@ -134,6 +131,22 @@ def header_of(line: str) -> Header:
     return Header(version, fields[2], number(fields[3]), tuple(fields[4:7]), fields[7] if version > 1 else "-")
 
 
+@dataclass
+class Locks:
+    """The locks of declared roots, and which PE holds each lock."""
+
+    named: dict[str, None] = field(default_factory=dict)
+    held: dict[str, int] = field(default_factory=dict)
+
+    def take(self, event: Event) -> None:
+        if event.word == "lock":
+            self.held[event.lock] = event.pe
+        elif event.word == "unlock":
+            self.held.pop(event.lock, None)
+        elif event.lock is not None:
+            self.named[event.lock] = None
+
+
 @dataclass(frozen=True)
 class Line:
     """An event line, and its number in the log that was given."""
@@ -153,6 +166,8 @@ class Line:
 
 
 Lines = tuple[Line, ...]
+# the numbers of lines, in order
+Numbers = Sequence[int]
 
 
 def joined(parts) -> bytes:
@@ -188,13 +203,29 @@ class Log:
     def line(self, at: int) -> Line:
         return Line(at, self.parts[at - 1].decode("latin-1"))
 
+    def event(self, at: int) -> Event:
+        return self.line(at).event
+
     def lines(self, numbers) -> Lines:
         return tuple(self.line(at) for at in numbers)
 
-    def cut(self, numbers) -> bytes:
+    def cut(self, numbers: Numbers) -> bytes:
         """The log of the lines of these numbers alone."""
         return joined([self.parts[0], *(self.parts[at - 1] for at in numbers)])
 
     def until(self, last: int) -> bytes:
         """The log up to the line of this number, and with it."""
         return joined(self.parts[:last])
+
+
+class Before:
+    """The front part of a log up to a line, for questions behind it."""
+
+    def __init__(self, log: Log, last: int):
+        self.log, self.last, self.events, self.header = log, last, last - 1, log.header
+
+    def lines(self) -> Iterator[tuple[int, bytes]]:
+        return enumerate(self.log.parts[1:self.last], 2)
+
+    def with_tail(self, tail: list[bytes]) -> list[bytes]:
+        return [joined([*self.log.parts[:self.last], *tail])]

@@ -13,15 +13,16 @@ from collections import defaultdict
 from collections.abc import Iterator
 from dataclasses import dataclass
 
-from log import ADDRESS_BITS
-from pending import BREAK_BEFORE_MAKE, LAST_LEVEL, PAGE, WITH_BLOCKS, Tables
-from probe import other_value
-from program import Program, Unable
-from source import Front
+from why.log.lines import ADDRESS_BITS
+from why.asking.places import BREAK_BEFORE_MAKE, LAST_LEVEL, PAGE, WITH_BLOCKS, Tables
+from why.asking.program import Program, Unable
+from why.log.stream import Front
 
 # The bits of a page's number inside what a leaf of each level maps.
 SPANS = {1: 18, 2: 9, 3: 0}
 AT_THE_END = 1 << 40
+# another address, so that a value of the same type has another core
+OTHER = 1 << 40
 
 
 @dataclass(frozen=True)
@@ -145,7 +146,7 @@ class Leaves:
     def made(self, leaf: Leaf) -> list[bytes]:
         """A write of another value at a leaf's place, by the PE that has its lock; else under the lock."""
         holder = self.tables.locks.held.get(leaf.lock)
-        write = "w %d 0x%x 0x%x" % (holder or 0, leaf.place, other_value(leaf.value))
+        write = "w %d 0x%x 0x%x" % (holder or 0, leaf.place, leaf.value ^ OTHER)
         lines = [write] if leaf.lock is None or holder is not None else [f"lock 0 {leaf.lock}", write, f"unlock 0 {leaf.lock}"]
         return [line.encode() for line in lines]
 
@@ -203,14 +204,14 @@ class Asker:
         return reuses
 
 
-def pages(program: Program, front: Front) -> list[Reuse]:
+def reused_pages(program: Program, front: Front) -> list[Reuse]:
     """The reuses of an accepted log at which the leaf is still valid or may still be held, in order."""
-    reuses = Leaves(front).reuses
-    last = {reuse.leaf: reuse for reuse in reuses if not reuse.cleared}
+    found = Leaves(front).reuses
+    last = {reuse.leaf: reuse for reuse in found if not reuse.cleared}
     asker = Asker(program, front)
-    asker.ask([reuse for reuse in reuses if reuse.cleared or reuse is last[reuse.leaf]])
-    before = [reuse for reuse in reuses if not reuse.cleared and reuse is not last[reuse.leaf]]
+    asker.ask([reuse for reuse in found if reuse.cleared or reuse is last[reuse.leaf]])
+    before = [reuse for reuse in found if not reuse.cleared and reuse is not last[reuse.leaf]]
     for reuse in before:
         reuse.phases = last[reuse.leaf].phases
     asker.ask([reuse for reuse in before if not reuse.phases])
-    return [reuse for reuse in reuses if reuse.phases]
+    return [reuse for reuse in found if reuse.phases]

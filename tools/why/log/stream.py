@@ -11,7 +11,7 @@ import stat
 from collections.abc import Iterator
 from itertools import islice
 
-from program import Answer, Program, Status, Unable
+from why.asking.program import Answer, Program, Status, Unable
 
 PART = 1 << 20
 # So many bytes of a line are read where it has more: the program takes no line of more than 200.

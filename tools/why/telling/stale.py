@@ -6,12 +6,12 @@ import json
 import os
 from dataclasses import dataclass
 
-from log import event_of
-from pages import pages
-from pending import pending
-from program import Answer, Program, Status, Unable
-from source import Front, Source, whole
-from style import BOLD, DIM, RED, Style, ranges
+from why.log.lines import event_of
+from why.asking.reuses import reused_pages
+from why.asking.places import stale_places
+from why.asking.program import Answer, Program, Status, Unable
+from why.log.stream import Front, Source, whole
+from why.telling.style import BOLD, DIM, RED, Style, ranges
 
 PHASES = {"live": RED, "broken": RED, "seen": RED, "half": RED, "cleansed": DIM}
 
@@ -29,13 +29,13 @@ class Found:
 
 
 def places_found(program: Program, front: Front) -> list[Found]:
-    return [Found({"place": one.place}, {"cleared": one.cleared}, one.phases) for one in pending(program, front)]
+    return [Found({"place": one.place}, {"cleared": one.cleared}, one.phases) for one in stale_places(program, front)]
 
 
 def pages_found(program: Program, front: Front) -> list[Found]:
     return [Found({"page": one.page << 12, "leaf": one.leaf.place},
                   {"mapped": one.leaf.line, **({"cleared": one.cleared} if one.cleared else {}), "reused": one.line}, one.phases)
-            for one in pages(program, front)]
+            for one in reused_pages(program, front)]
 
 
 def front_of(source: Source, label: str, nth: int, answer: Answer) -> Front | None:

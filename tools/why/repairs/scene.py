@@ -5,12 +5,13 @@ It goes by the writes that stand in the small log. It chooses what is tried; the
 """
 from __future__ import annotations
 
+import itertools
 from dataclasses import dataclass, field, replace
 from functools import cached_property
 
-from log import ADDRESS_BITS, PAGE_BYTES, Event, Header, Line, Lines, header_of
-from program import Verdict
-from words import KIND_OF_REGISTER
+from why.log.lines import ADDRESS_BITS, PAGE_BYTES, Event, Header, Line, Lines
+from why.asking.program import Verdict
+from why.log.words import KIND_OF_REGISTER
 
 # How many lines on each side are looked at where there are more.
 NEAR = 4
@@ -34,23 +35,22 @@ class Scene:
     """The lines at hand, the refused one last, and those that come behind it in the log that was given; the places that hold a
     value there, and that of them to which the scene is narrowed."""
 
-    header_text: str
+    header: Header
     lines: Lines
     later: Lines
     refusal: Verdict
     near_tags: list[int] = field(default_factory=list)
     held: tuple[int, ...] = ()
     focus: int | None = None
-    links: dict[int, int] = field(default_factory=dict)
 
-    def __post_init__(self):
-        for line in self.lines[:-1]:
-            if line.event.next_page is not None:
-                self.links[line.event.next_page] = line.event.place
+    @cached_property
+    def links(self) -> dict[int, int]:
+        """For each page that a write links the place, the last one."""
+        return {line.event.next_page: line.event.place for line in self.lines[:-1] if line.event.next_page is not None}
 
-    @property
-    def header(self) -> Header:
-        return header_of(self.header_text)
+    @cached_property
+    def numbers(self) -> list[int]:
+        return [line.at for line in self.lines]
 
     @property
     def refused(self) -> Line:
@@ -59,6 +59,11 @@ class Scene:
     @property
     def event(self) -> Event:
         return self.refused.event
+
+    @property
+    def reported(self) -> int:
+        """The page that is reported, or that of the place."""
+        return self.refusal.at & ~(PAGE_BYTES - 1)
 
     def of_word(self, *words: str) -> list[Line]:
         return [line for line in self.lines if line.event.word in words]
@@ -110,9 +115,9 @@ class Scene:
         to which the scene is narrowed."""
         if self.focus is not None:
             return [self.focus]
-        event, at = self.event, self.refusal.at
+        event = self.event
         first = [event.place] if event.word == "w" else []
-        pages = [event.page, event.next_page, at & ~(PAGE_BYTES - 1) if at >= PAGE_BYTES else None]
+        pages = [event.page, event.next_page, self.reported or None]
         linking = [self.links[page] for page in pages if page in self.links]
         above = [place for place in first if self.refusal.name == "limbo-make" for place in self.way_up(place)[1:]]
         return list(dict.fromkeys([*first, *linking, *above]))
@@ -178,18 +183,11 @@ class Scene:
         between = [line.event.pe for line in self.in_window("tlbi", "dsb")]
         return list(dict.fromkeys([*first, self.event.pe, *between[::-1]]))[:PES_TRIED]
 
-    def unused_page(self) -> int:
-        return self.unused_pages(1)[0]
-
     def unused_pages(self, count: int) -> list[int]:
         """Pages that no line names, from the least that one does on."""
         lines = (*self.lines, *self.later)
         named = {page for line in lines for page in (line.event.page, line.event.next_page, line.event.base)}
         first = min((page for page in named if page), default=0x4000_0000)
-        found: list[int] = []
-        page = first if first + (len(named) + count) * PAGE_BYTES < 1 << 48 else 0x4000_0000
-        while len(found) < count:
-            if page not in named:
-                found.append(page)
-            page += PAGE_BYTES
-        return found
+        if first + (len(named) + count) * PAGE_BYTES >= 1 << 48:
+            first = 0x4000_0000
+        return [*itertools.islice((page for page in itertools.count(first, PAGE_BYTES) if page not in named), count)]

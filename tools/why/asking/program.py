@@ -13,7 +13,7 @@ from dataclasses import dataclass, field
 from enum import IntEnum
 from functools import cached_property
 
-TOP = os.path.realpath(f"{__file__}/../../..")
+TOP = os.path.realpath(f"{__file__}/../../../..")
 REMEMBERED = 1 << 20
 
 
@@ -139,7 +139,6 @@ class Program:
     """The built program. Answers to small logs are remembered."""
 
     path: str
-    runs: int = 0
     known: dict = field(default_factory=dict)
 
     def ask(self, words: tuple[str, ...], log: bytes) -> Answer:
@@ -158,7 +157,6 @@ class Program:
     def run(self, words: tuple[str, ...], log: int, parts: Iterable[bytes] = ()) -> Answer:
         """The answer to a file, by its descriptor, or to a pipe with these parts. A status that says nothing of the log is a
         fault, and so never taken for a yes or a no."""
-        self.runs += 1
         try:
             with subprocess.Popen([self.path, *words], stdin=log, stdout=subprocess.PIPE) as running:
                 with contextlib.suppress(BrokenPipeError):

@@ -1,7 +1,7 @@
 # SPDX-License-Identifier: Apache-2.0
 """The small log in lanes: one column a PE, one row an event, and in each column how long an old entry may live there.
 
-What a row shows of the place after it is the answer of the program to a made write there (`probe`).
+What a row shows of the place after it is the answer of the program to a made write there (`asking.places`).
 """
 from __future__ import annotations
 
@@ -9,14 +9,13 @@ from dataclasses import dataclass, field, replace
 from enum import Enum
 from itertools import groupby
 
-import words
-from log import Event, Header, Line, Lines, header_of, written
-from probe import Locks, made, other_value
-from program import Program, Verdict
-from style import BOLD, DIM, RED, Style
+from why.asking.places import Asker, Place, tables_of
+from why.asking.program import Program, Verdict
+from why.log import words
+from why.log.lines import Before, Event, Header, Line, Lines, Log, header_of, written
+from why.telling.style import BOLD, DIM, RED, Style
 
 ALL_SHOWN = 16
-BREAK_BEFORE_MAKE = 4
 SET_UP = ("init", "root", "msr", "isb", "dsb", "lock")
 
 
@@ -73,6 +72,15 @@ class Chart:
         """Whether a further column shows behind which rows the refused line would be refused alike."""
         return any(row.alike for row in self.rows)
 
+    @property
+    def phases(self) -> list[str]:
+        """Those that are shown."""
+        return [phase for phase in BARS if any(phase in row.phases for row in self.rows)]
+
+    @property
+    def effects(self) -> list[Effect]:
+        return [effect for effect in Effect if any(effect in row.effects.values() for row in self.rows)]
+
     def living(self, row: int, pe: int) -> bool:
         """Whether a told run has a stale entry at a PE behind this row."""
         return any(of == pe and first <= row < last for of, first, last in self.entries)
@@ -100,28 +108,10 @@ class Chart:
 
 # ---- what the program says
 
-class Phases:
-    """Asks for the phases of one place after each line."""
-
-    def __init__(self, program: Program, header: str, place: int):
-        self.program, self.header, self.place = program, header, place
-        self.value: int | None = None
-
-    def after(self, lines: Lines, locks: Locks) -> tuple[str, ...]:
-        """The phases after these lines; none where the place holds nothing."""
-        event = lines[-1].event
-        if event.place == self.place and event.value & 1:
-            self.value = event.value
-        if self.value is None:
-            return ()
-        return next((phases for pe in locks.writers() if (phases := self.asked(lines, locks, pe))), ())
-
-    def asked(self, lines: Lines, locks: Locks, pe: int) -> tuple[str, ...]:
-        texts = made(locks, pe, self.place, other_value(self.value))
-        answer = self.program.explain(written(self.header, [*lines, *(Line(0, text) for text in texts)]))
-        found = answer.refusal
-        made_line = len(lines) + 1 + len(texts)
-        return answer.phases if found and (found.line, found.rule) == (made_line, BREAK_BEFORE_MAKE) else ()
+def phases_after(program: Program, log: Log, last: int, place: int) -> tuple[str, ...]:
+    """How far a place has come at each PE behind a line; none where it holds nothing."""
+    before = Before(log, last)
+    return next((one.phases for one in Asker(program, before, tables_of(before)).found([Place(place)])), ())
 
 
 def effects_of(event: Event, header: Header, before: tuple[str, ...], after: tuple[str, ...]) -> dict[int, Effect]:
@@ -148,27 +138,23 @@ def columns(header: Header, lines: Lines) -> tuple[list[int], int]:
 
 def chart_of(program: Program, header_text: str, lines: Lines, refusal: Verdict, place: int | None) -> Chart:
     """The chart of a log that its last line is refused of."""
-    header, rows, locks = header_of(header_text), [], Locks()
-    asked = Phases(program, header_text, place) if place is not None else None
+    header, rows, log = header_of(header_text), [], Log(written(header_text, lines))
     before: tuple[str, ...] = ()
-    for count, line in enumerate(lines[:-1], 1):
-        locks.take(line.event)
-        after = asked.after(lines[:count], locks) if asked else ()
+    for last, line in enumerate(lines[:-1], 2):
+        after = () if place is None else phases_after(program, log, last, place)
         rows.append(Row(line, after, effects_of(line.event, header, before, after)))
         before = after
     rows.append(Row(lines[-1], before, {}, True))
-    pes, others = columns(header, lines)
     if not any(row.phases for row in rows):
-        mark_alike(program, header_text, rows, refusal)
-    return Chart(header, rows, pes, others, place)
+        mark_alike(program, log, rows, refusal)
+    return Chart(header, rows, *columns(header, lines), place)
 
 
-def mark_alike(program: Program, header: str, rows: list[Row], refusal: Verdict) -> None:
+def mark_alike(program: Program, log: Log, rows: list[Row], refusal: Verdict) -> None:
     """Marks the rows behind which the refused line would be refused by the same rule at the same place."""
-    lines = [row.line for row in rows]
-    for count, row in enumerate(rows[:-1], 1):
-        found = program.check(written(header, [*lines[:count], lines[-1]])).refusal
-        row.alike = found is not None and (found.line, found.rule, found.at) == (count + 2, refusal.rule, refusal.at)
+    for last, row in enumerate(rows[:-1], 2):
+        found = program.check(log.cut([*range(2, last + 1), log.last_event])).refusal
+        row.alike = found is not None and (found.line, found.rule, found.at) == (last + 1, refusal.rule, refusal.at)
     rows[-1].alike = any(row.alike for row in rows)
 
 
@@ -201,7 +187,7 @@ class Text:
 
     def __init__(self, chart: Chart, style: Style):
         self.chart, self.width, self.painted = chart, style.width, style.painted
-        self.bars = BARS if style.unicode else PLAIN_BARS
+        self.bars, self.entry = (BARS, "█") if style.unicode else (PLAIN_BARS, "E")
         self.digits = max(4, *(len(str(row.line.at)) for row in chart.rows))
 
     def cell(self, number: int, row: Row, pe: int) -> str:
@@ -213,7 +199,7 @@ class Text:
         if effect:
             return self.painted(effect, BOLD) + " "
         if self.chart.living(number, pe):
-            return self.painted("█" if self.bars is BARS else "E", RED) + " "
+            return self.painted(self.entry, RED) + " "
         phase = row.phases[pe] if row.phases else ""
         return self.painted(self.bars.get(phase, " "), DIM if phase in ("live", "cleansed") else RED) + " "
 
@@ -237,15 +223,10 @@ class Text:
         return f"{row.line.at:>{self.digits}}  {cells} {self.painted(text, *([BOLD, RED] if row.refused else []))}".rstrip()
 
     def legend(self) -> list[str]:
-        phases = list(dict.fromkeys(phase for row in self.chart.rows for phase in row.phases))
-        done = list(dict.fromkeys(effect for row in self.chart.rows for effect in row.effects.values()))
-        told = [f"  {self.bars[phase]} {LEGEND[phase]}" for phase in BARS if phase in phases]
-        told += [f"  {effect.value} {EFFECTS[effect]}" for effect in Effect if effect in done]
-        if self.chart.has_alike:
-            told.append(f"  ! {ALIKE}")
-        if self.chart.entries:
-            told.append(f"  {'█' if self.bars is BARS else 'E'} the entry of the run lives here")
-        return told
+        told = [f"  {self.bars[phase]} {LEGEND[phase]}" for phase in self.chart.phases]
+        told += [f"  {effect.value} {EFFECTS[effect]}" for effect in self.chart.effects]
+        told += [f"  ! {ALIKE}"] if self.chart.has_alike else []
+        return told + ([f"  {self.entry} the entry of the run lives here"] if self.chart.entries else [])
 
     def lines(self) -> list[str]:
         return [*self.heads(), *(self.row(number, row) for number, row in enumerate(self.chart.rows)), *self.legend()]

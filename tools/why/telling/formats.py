@@ -4,11 +4,9 @@ from __future__ import annotations
 
 import json
 import re
-from collections.abc import Callable
 from dataclasses import dataclass
-from enum import Enum
 
-from program import Answer, Status, Unable, Verdict
+from why.asking.program import Answer, Status, Unable, Verdict
 
 UNNAMED = "<stdin>"
 SOURCE = re.compile(r"(.+):([1-9][0-9]*)")
@@ -85,16 +83,9 @@ def as_json(finding: Finding) -> str:
     return json.dumps(finding.fields)
 
 
-class Format(Enum):
-    GCC = "gcc"
-    GITHUB = "github"
-    JSON = "json"
-
-    @property
-    def form(self) -> Callable[[Finding], str]:
-        return {Format.GCC: gcc, Format.GITHUB: github, Format.JSON: as_json}[self]
+FORMS = {"gcc": gcc, "github": github, "json": as_json}
 
 
-def shown(answer: Answer, log: str, form: Format) -> str:
-    """The verdict in a form, as a line."""
-    return form.form(finding_of(answer, log)) + "\n"
+def shown(answer: Answer, log: str, form: str) -> str:
+    """The verdict in one of these forms, as a line."""
+    return FORMS[form](finding_of(answer, log)) + "\n"

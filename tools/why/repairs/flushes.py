@@ -8,10 +8,10 @@ from __future__ import annotations
 from collections.abc import Iterator
 from dataclasses import dataclass, replace
 
-import words
-from changes import NOTHING, Change, Kind, Put, Swap, one, puts
-from log import ADDRESS_BITS, Event, Line
-from scene import Scene
+from why.log import words
+from why.repairs.changes import NOTHING, Change, Kind, Put, Swap, one, puts
+from why.log.lines import ADDRESS_BITS, Event, Line
+from why.repairs.scene import Scene
 
 SWITCHING = 5
 
@@ -112,35 +112,24 @@ def changes_of_tlbi(scene: Scene, line: Line) -> tuple[Change, ...]:
     return tuple(with_words(line, rest, kind) for rest, kind in tried.items())
 
 
-# ---- TLBIs that are put in
-
-def tlbis_for_places(scene: Scene, kind: str) -> list[str]:
-    """TLBIs that may take the place, the least first, without their PE."""
-    pages = [hex(words.Operand("ipas2e1" if kind == "s2" else "vae1", 0).at(spot.address))
-             for spot in scene.spots if spot.kind == kind]
-    if kind == "el2":
-        return [f"vae2is {page}" for page in pages] + ["alle2is"]
-    if kind == "s2":
-        return ["vmalle1is"] + [f"ipas2e1is {page}" for page in pages] + ["vmalls12e1is", "alle1is"]
-    by_asid = [f"vae1is {hex(tag << 48 | int(page, 16))}" for page in pages for tag in scene.tags if kind == "ttbr0"]
-    return by_asid + [f"vaae1is {page}" for page in pages] + tlbis_for_tags(scene, kind)
-
-
-def tlbis_for_tags(scene: Scene, kind: str) -> list[str]:
-    """TLBIs that take all under a tag, the least first."""
-    if kind == "el2":
-        return ["alle2is"]
-    if kind == "s2":
-        return ["vmalls12e1is", "alle1is"]
-    return [*(f"aside1is {hex(tag << 48)}" for tag in scene.tags if kind == "ttbr0"), "vmalle1is"]
-
-
-def tlbis_for(scene: Scene, kind: str) -> list[str]:
-    return tlbis_for_tags(scene, kind) if is_about_tags(scene) else tlbis_for_places(scene, kind)
-
+# ---- TLBIs that are put in, and those that are there
 
 def is_about_tags(scene: Scene) -> bool:
     return scene.event.word in ("msr", "unroot")
+
+
+def tlbis_for(scene: Scene, kind: str) -> list[str]:
+    """TLBIs that may take the place, or all under a tag where it is about tags, the least first, without their PE."""
+    spots = [] if is_about_tags(scene) else [spot for spot in scene.spots if spot.kind == kind]
+    pages = [words.Operand("ipas2e1" if kind == "s2" else "vae1", 0).at(spot.address) for spot in spots]
+    if kind == "el2":
+        return [*(f"vae2is {hex(page)}" for page in pages), "alle2is"]
+    if kind == "s2":
+        second = [] if is_about_tags(scene) else [words.SECOND_STEP]
+        return [*second, *(f"ipas2e1is {hex(page)}" for page in pages), "vmalls12e1is", "alle1is"]
+    tags = scene.tags if kind == "ttbr0" else []
+    by_asid = [f"vae1is {hex(tag << 48 | page)}" for page in pages for tag in tags]
+    return [*by_asid, *(f"vaae1is {hex(page)}" for page in pages), *(f"aside1is {hex(tag << 48)}" for tag in tags), "vmalle1is"]
 
 
 def positions(scene: Scene) -> list[tuple[int, int]]:
@@ -153,21 +142,8 @@ def positions(scene: Scene) -> list[tuple[int, int]]:
     return list(dict.fromkeys([*found, *((at, pe) for pe in scene.pes[:2] for at in ends)]))
 
 
-def put_flush(kind: str, at: int, pe: int, text: str) -> Change:
-    is_second = kind == "s2" and text == words.SECOND_STEP
-    return one(Put(at, f"tlbi {pe} {text}", 2 if is_second else 1))
-
-
-def flushes_put(scene: Scene) -> Iterator[Flush]:
-    for kind in scene.kinds:
-        texts = tlbis_for(scene, kind)
-        widest = words.WIDEST[kind] + words.BROADCAST
-        for at, pe in positions(scene):
-            yield Flush(tuple(put_flush(kind, at, pe, text) for text in texts), puts(at, f"tlbi {pe} {widest}"), pe, at, True)
-
-
-def flushes_there(scene: Scene) -> Iterator[Flush]:
-    """The TLBIs that are there: as they are, with other words, and of another PE."""
+def flushes(scene: Scene) -> Iterator[Flush]:
+    """The TLBIs that are there, as they are, with other words, and of another PE; then those that are put in."""
     for line in scene.near("tlbi"):
         yield Flush((NOTHING,), NOTHING, line.event.pe, line.at)
         for kind in scene.kinds:
@@ -176,6 +152,11 @@ def flushes_there(scene: Scene) -> Iterator[Flush]:
         for pe in scene.pes:
             if pe != line.event.pe:
                 yield Flush((with_pe(line, pe),), with_pe(line, pe), pe, line.at)
+    for kind in scene.kinds:
+        widest, second = words.WIDEST[kind] + words.BROADCAST, words.SECOND_STEP if kind == "s2" else ""
+        for at, pe in positions(scene):
+            puts_one = [Put(at, f"tlbi {pe} {text}", 2 if text == second else 1) for text in tlbis_for(scene, kind)]
+            yield Flush(tuple(map(one, puts_one)), puts(at, f"tlbi {pe} {widest}"), pe, at, True)
 
 
 # ---- what stands before and behind a TLBI
@@ -239,7 +220,7 @@ def completions(scene: Scene, flush: Flush) -> Iterator[Change]:
 def sequences(scene: Scene, size: int) -> Iterator[Family]:
     """Each way to a complete flush that takes so many edits."""
     before = switches if is_about_tags(scene) else publications
-    for flush in (*flushes_there(scene), *flushes_put(scene)):
+    for flush in flushes(scene):
         if not flush.choices:
             continue
         width = flush.choices[0].size
@@ -252,16 +233,19 @@ def sequences(scene: Scene, size: int) -> Iterator[Family]:
 
 def whole_sequences(scene: Scene) -> Iterator[Family]:
     """All four steps at once before the refused line: where the log has none of them."""
-    behind, event = scene.refused.at - 1, scene.event
-    pes = loading(scene) if is_about_tags(scene) else [event.pe]
+    event, is_limbo = scene.event, scene.refusal.name == "limbo-make"
+    pes, barrier = [event.pe], f"dsb {event.pe} {words.PUBLISHING}"
+    if is_about_tags(scene):
+        pes = loading(scene)
+        heads = [[text for pe in pes for text in (f"msr {pe} {register} {value}", f"isb {pe}")] for register, value in elsewhere(scene)]
+    else:
+        heads = [[barrier]] if is_limbo else [[f"w {event.pe} {hex(place)} 0x0", barrier] for place in scene.places]
+    tail = [f"init {event.pe} {hex(event.page)}"] if is_limbo else []
     for kind in scene.kinds:
-        if is_about_tags(scene):
-            heads, tail = switched_away(scene, pes), ()
-        else:
-            heads, tail = places_broken(scene), (f"init {event.pe} {hex(event.page)}",) if scene.refusal.name == "limbo-make" else ()
         for head in heads:
             for text in tlbis_for(scene, kind):
-                yield Family((puts(behind, *head, f"tlbi {pes[-1]} {text}", f"dsb {pes[-1]} {words.COMPLETING}", *tail),))
+                flush = [f"tlbi {pes[-1]} {text}", f"dsb {pes[-1]} {words.COMPLETING}"]
+                yield Family((puts(scene.refused.at - 1, *head, *flush, *tail),))
 
 
 def loading(scene: Scene) -> list[int]:
@@ -272,19 +256,3 @@ def loading(scene: Scene) -> list[int]:
     tag_of = lambda event: (event.rest[0], event.value >> words.ASID_SHIFT)
     is_left = lambda old: tag_of(old) == tag_of(event) and old.base not in (0, at) if event.base == at else old.base == at
     return [pe for (pe, _), old in last.items() if is_left(old)][-SWITCHING:] or [event.pe]
-
-
-def switched_away(scene: Scene, pes: list[int]) -> list[tuple[str, ...]]:
-    """Another root, and an ISB, at each of these PEs."""
-    return [tuple(text for pe in pes for text in (f"msr {pe} {register} {value}", f"isb {pe}")) for register, value in elsewhere(scene)]
-
-
-def places_broken(scene: Scene) -> list[tuple[str, ...]]:
-    """The clear of each place that the refusal is about, and the barrier that publishes it."""
-    pe = scene.event.pe
-    barrier = f"dsb {pe} {words.PUBLISHING}"
-    if scene.refusal.name == "limbo-make":
-        return [(barrier,)]
-    return [(f"w {pe} {hex(place)} 0x0", barrier) for place in scene.places]
-
-

@@ -2,12 +2,13 @@
 """The lanes as one picture: an SVG, or a page of HTML with the rest of the answer. Each stands by itself, in light and dark."""
 from __future__ import annotations
 
+from dataclasses import replace
 from html import escape
 
-import why
-from lanes import ALIKE, EFFECTS, LEGEND, LETTERS, Chart, Effect, Row, letter_of
-from program import Answer
-from study import Study
+from why.asking.program import Answer
+from why.telling.answer import Parts
+from why.telling.lanes import ALIKE, EFFECTS, LEGEND, LETTERS, Chart, Row, letter_of
+from why.telling.style import Style
 
 ROW, LANE, LEFT, TOP, LETTER = 22, 30, 64, 70, 7.3
 LONGEST = 84
@@ -151,15 +152,12 @@ class Drawing:
         return parts
 
     def legend_rows(self) -> list[tuple[str, str]]:
-        phases = dict.fromkeys(phase for row in self.chart.rows for phase in row.phases)
-        done = dict.fromkeys(effect for row in self.chart.rows for effect in row.effects.values())
-        rows = [(phase, f"{phase}: {LEGEND[phase]}") for phase in LEGEND if phase in phases]
-        rows += [(effect.value, EFFECTS[effect]) for effect in Effect if effect in done]
-        letters = dict.fromkeys(letter_of(row) for row in self.chart.rows)
+        chart, letters = self.chart, {letter_of(row) for row in self.chart.rows}
+        rows = [(phase, f"{phase}: {LEGEND[phase]}") for phase in chart.phases]
+        rows += [(effect.value, EFFECTS[effect]) for effect in chart.effects]
         rows.append(("W", "in a circle the event: " + ", ".join(f"{letter} {SIGNS[letter]}" for letter in SIGNS if letter in letters)))
-        if self.chart.has_alike:
-            rows.append(("alike", f"column !: {ALIKE}"))
-        return rows + ([("E", "an outline is the entry of the run")] if self.chart.entries else [])
+        rows += [("alike", f"column !: {ALIKE}")] if chart.has_alike else []
+        return rows + ([("E", "an outline is the entry of the run")] if chart.entries else [])
 
     def legend_parts(self) -> list[str]:
         parts = []
@@ -182,8 +180,8 @@ class Drawing:
                f"<style>\n{STYLE}\n</style>\n" + "\n".join([*parts, *self.legend_parts()]) + "\n</svg>\n"
 
 
-def svg(_study: Study, views, answer: Answer) -> str:
-    return Drawing(views.chart, answer.first).svg()
+def svg(parts: Parts, answer: Answer) -> str:
+    return Drawing(parts.views.chart, answer.first).svg()
 
 
 PAGE_STYLE = """
@@ -201,12 +199,13 @@ def section(part: list[str]) -> str:
     return f"<h2>{escape(head)}</h2>\n<pre>{escape(chr(10).join(rest))}</pre>\n"
 
 
-def html(study: Study, views, answer: Answer) -> str:
+def html(parts: Parts, answer: Answer) -> str:
     """The whole answer: the text's parts, with the picture in the place of the lanes."""
-    small, held, repairs, told, _lanes, rule = why.parts_of(study, views, why.Style(100, False, True))
-    picture = f'<h2>Lanes</h2>\n<div class="picture">\n{Drawing(views.chart, answer.first).svg()}</div>\n'
-    parts = [section(part) for part in (repairs, held, small, told) if part]
+    parts = replace(parts, style=Style(100, False, True))
+    picture = f'<h2>Lanes</h2>\n<div class="picture">\n{svg(parts, answer)}</div>\n'
+    first, *more = [section(part) for part in (parts.repairs(), parts.held(), parts.small(), parts.run()) if part]
+    rule = parts.rule()
     return "<!DOCTYPE html>\n<html lang=\"en\">\n<head>\n<meta charset=\"utf-8\">\n" \
            "<meta name=\"viewport\" content=\"width=device-width, initial-scale=1\">\n" \
            f"<title>{escape(answer.first)}</title>\n<style>{PAGE_STYLE}</style>\n</head>\n<body>\n<h1>{escape(answer.first)}</h1>\n" \
-           + "".join(parts[:1]) + picture + "".join([*parts[1:], section(rule) if rule else ""]) + "</body>\n</html>\n"
+           + first + picture + "".join([*more, section(rule) if rule else ""]) + "</body>\n</html>\n"

@@ -18,12 +18,12 @@ from __future__ import annotations
 from array import array
 from collections.abc import Callable, Iterator
 from concurrent.futures import ThreadPoolExecutor
-from dataclasses import dataclass, field
+from dataclasses import dataclass, field, replace
 from functools import cached_property
+from itertools import count, islice
 
-from log import ADDRESS_BITS, Event, Header, event_of, header_of
-from probe import Locks
-from program import Answer, Program, Unable
+from why.log.lines import ADDRESS_BITS, Event, Header, Locks, event_of, header_of
+from why.asking.program import Answer, Program, Unable
 
 BREAK_BEFORE_MAKE, NO_LOCK, PAGE_IN_USE = 4, 2, 10
 LIMIT_OF_PAGES = 16384
@@ -40,20 +40,13 @@ WITH_BLOCKS = (1, 2)
 
 
 @dataclass(frozen=True)
-class Candidate:
-    """A place that may hold a value, and the line that cleared its last valid one; 0 where none did."""
+class Place:
+    """A place that may hold a value, and the line that cleared its last valid one, 0 where none did; and where it does hold one, by
+    the program, its phase at each PE."""
 
     place: int
-    cleared: int
-
-
-@dataclass(frozen=True)
-class Pending:
-    """A place that holds a value, by the program, and its phase at each PE."""
-
-    place: int
-    cleared: int
-    phases: tuple[str, ...]
+    cleared: int = 0
+    phases: tuple[str, ...] = ()
 
 
 class Table:
@@ -139,10 +132,6 @@ class Tables:
             waiting += [((value & ADDRESS_BITS) >> PAGE, level + 1) for value in table.values if value & 3 == 3] if table else []
         return found
 
-    def unused(self) -> Iterator[int]:
-        """Pages that the log never made zero."""
-        return (page << PAGE for page in range(1, 1 << 36) if page not in self.pages)
-
 
 def tables_of(front) -> Tables:
     tables = Tables(front.header)
@@ -158,13 +147,16 @@ class Asker:
 
     def __init__(self, program: Program, front, tables: Tables):
         self.program, self.front = program, front
-        self.taken = [b"lock 0 %s" % lock.encode() for lock in tables.locks.free()]
-        self.writers = tables.locks.writers()
+        named, held = tables.locks.named, tables.locks.held
+        self.taken = [b"lock 0 %s" % lock.encode() for lock in named if lock not in held]
+        # PE 0, which takes the free locks, and those that hold one
+        self.writers = list(dict.fromkeys([0, *(pe for lock, pe in held.items() if lock in named)]))
         self.zeroed = tables.pages.keys()
         room = min(AT_ONCE, LIMIT_OF_PAGES - len(self.zeroed))
-        source = tables.unused()
-        self.fresh = [next(source) for _ in range(room)]
-        self.never_zeroed = next(source)
+        # pages that the log never made zero
+        unused = (page << PAGE for page in count(1) if page not in self.zeroed)
+        self.fresh = [*islice(unused, room)]
+        self.never_zeroed = next(unused)
 
     def answer_to(self, tail: list[bytes], command: str) -> tuple[Answer, int]:
         """The answer to the log with these lines behind it, and which of them it refuses: their number where none is. An
@@ -187,7 +179,7 @@ class Asker:
             left = left[position + 1:]
         return found
 
-    def asked(self, candidates: list[Candidate], pe: int) -> tuple[Answer, int]:
+    def asked(self, candidates: list[Place], pe: int) -> tuple[Answer, int]:
         """The answer to a log with a made write for each, and which of them it refuses: their number where none is. The
         first ones link pages that are made zero, as many as there are, and the others one that isn't."""
         write = lambda candidate, page: b"w %d 0x%x 0x%x" % (pe, candidate.place, page | LINK)
@@ -205,7 +197,7 @@ class Asker:
         tried = position == 0 or writer == 0
         return (writer + 1) % len(self.writers) if tried else 0
 
-    def found(self, candidates: list[Candidate], most: int = LIMIT_OF_PAGES * PLACES) -> list[Pending]:
+    def found(self, candidates: list[Place], most: int = LIMIT_OF_PAGES * PLACES) -> list[Place]:
         """Those of the candidates that hold a value, at most so many."""
         found, left, writer = [], candidates, 0
         while left and len(found) < most:
@@ -216,12 +208,12 @@ class Asker:
                 left, writer = left[position:], self.next_writer(position, writer)
                 continue
             if refusal and refusal.rule == BREAK_BEFORE_MAKE:
-                found.append(Pending(now[position].place, now[position].cleared, answer.phases))
+                found.append(replace(now[position], phases=answer.phases))
             left, writer = left[position + 1 if position < len(now) else len(now):], 0
         return found
 
 
-def pending(program: Program, front) -> list[Pending]:
+def stale_places(program: Program, front) -> list[Place]:
     """The places that hold an old value behind the front part of an accepted log, in order."""
     tables = tables_of(front)
     asker = Asker(program, front, tables)
@@ -229,7 +221,7 @@ def pending(program: Program, front) -> list[Pending]:
     cleared = {page: list(table.without_value(levels.get(page))) for page, table in sorted(tables.pages.items()) if table}
     alone = [page for page, places in cleared.items() if places and page not in levels]
     out = set(alone).difference(*in_jobs(asker.in_trees, alone))
-    candidates = [Candidate(page << PAGE | inside << 3, at) for page in cleared if page not in out for inside, at in cleared[page]]
+    candidates = [Place(page << PAGE | inside << 3, at) for page in cleared if page not in out for inside, at in cleared[page]]
     return [place for found in in_jobs(asker.found, candidates) for place in found if "live" not in place.phases]
 
 

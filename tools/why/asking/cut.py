@@ -4,8 +4,8 @@ from __future__ import annotations
 
 from collections.abc import Iterable, Iterator
 
-from program import Answer, Program
-from source import PART
+from why.asking.program import Answer
+from why.log.stream import PART
 
 
 class Cut:
@@ -40,9 +40,6 @@ class Cut:
             return
         self.half = len(half)
         yield b"end %d\n" % self.events
-
-    def answer(self, program: Program) -> Answer:
-        return program.feed(("check",), self.left)
 
     def told(self, answer: Answer) -> str:
         """How many events were judged: all, or those up to the line that decides and with it. Where that is line 1 no line is an

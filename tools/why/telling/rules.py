@@ -5,7 +5,7 @@ from __future__ import annotations
 import re
 from dataclasses import dataclass
 
-from program import TOP
+from why.asking.program import TOP
 
 RULES, FORMAT = f"{TOP}/docs/RULES.md", f"{TOP}/docs/FORMAT.md"
 
@@ -29,23 +29,12 @@ def read(path: str) -> str:
         return file.read()
 
 
-def section_of(number: int) -> str | None:
-    found = re.search(rf"^### {number} .*?(?=^###? |\Z)", read(RULES), re.M | re.S)
-    return found.group(0) if found else None
-
-
 def rule_of(number: int) -> Rule | None:
     """The rule of this number; None where the document has no section for it."""
-    section = section_of(number)
-    if section is None:
-        return None
-
-    def part(form: str) -> str:
-        found = re.search(form, section, re.M)
-        return plain(found.group(1)) if found else ""
-
-    return Rule(number, part(rf"^### {number} (\S+)"), part(r"^\*\*(An event breaks it exactly where\*\* .*)$").replace("**", ""),
-                part(r"^- \*\*The usual bug:\*\* (.*)$"), part(r"^- \*\*Right:\*\* (.*)$"))
+    section = re.search(rf"^### {number} .*?(?=^###? |\Z)", read(RULES), re.M | re.S)
+    forms = (rf"^### {number} (\S+)", r"^(\*\*An event breaks it exactly where\*\* .*)$", r"^- \*\*The usual bug:\*\* (.*)$", r"^- \*\*Right:\*\* (.*)$")
+    found = [re.search(form, section[0], re.M) for form in forms] if section else []
+    return Rule(number, *(plain(part[1]).replace("**", "") if part else "" for part in found)) if section else None
 
 
 def cause_of(name: str) -> str | None:

@@ -1,45 +1,23 @@
 # SPDX-License-Identifier: Apache-2.0
-"""From a refused log to the least log that the same rule refuses at the same place.
+"""From a refused log to the least log that the same rule refuses at the same place; and with `--rename` its PEs and pages under
+small numbers.
 
 Each try is judged by the program. What is tried first are the lines that name the pages on the way to the place, its root,
 lock and tags (`names`); where these alone aren't refused alike, more lines are.
 """
 from __future__ import annotations
 
-from collections.abc import Callable, Iterator, Sequence
-from dataclasses import dataclass
+from collections.abc import Callable, Iterator
+from dataclasses import dataclass, field, replace
 from functools import cached_property
 
-from log import WITH_PAGE, Log, header_of
-from names import attempts, index_of, slices
-from program import Program, Verdict
+from why.log.lines import ADDRESS_BITS, PAGE_BYTES, WITH_PAGE, Event, Line, Lines, Log, Numbers, header_of, written
+from why.log.index import Index
+from why.asking.program import Answer, Program, Verdict
 
-Numbers = Sequence[int]
 BREAK_BEFORE_MAKE = 4
 # A log of so many events is tried as it is.
 FEW = 48
-
-
-@dataclass(frozen=True)
-class Bug:
-    """What has to stay the same: the rule, what it reports, and how far the place has come at each PE where that is told."""
-
-    rule: int
-    at: int
-    phases: tuple[str, ...]
-
-
-def bug_of(program: Program, log: bytes, refusal: Verdict) -> Bug:
-    phases = program.explain(log).phases if refusal.rule == BREAK_BEFORE_MAKE else ()
-    return Bug(refusal.rule, refusal.at, phases)
-
-
-def has_bug(program: Program, log: bytes, events: int, bug: Bug) -> bool:
-    """Whether the last of so many events is refused alike."""
-    answer = program.explain(log) if bug.phases else program.check(log)
-    found = answer.refusal
-    return found is not None and (found.line, found.rule, found.at) == (events + 1, bug.rule, bug.at) \
-        and (not bug.phases or answer.phases == bug.phases)
 
 
 def without_some(numbers: Numbers, size: int, holds: Callable[[Numbers], bool]) -> Numbers:
@@ -94,40 +72,41 @@ def reduced(log: Log, numbers: Numbers, holds: Callable[[Numbers], bool]) -> Num
 
 
 class Shrinker:
-    """The least logs of one refused log."""
+    """The least logs of one refused log: the same rule refuses the last line at the same place, which has come as far at each PE."""
 
     def __init__(self, program: Program, log: Log, refusal: Verdict):
         self.program, self.log, self.refusal = program, log, refusal
-        self.header = header_of(log.header)
-        self.bug = bug_of(program, log.until(refusal.line), refusal)
+        self.phases = program.explain(log.until(refusal.line)).phases if refusal.rule == BREAK_BEFORE_MAKE else ()
 
     @cached_property
-    def index(self):
-        return index_of(self.log, self.refusal.line)
+    def index(self) -> Index:
+        return Index(self.log, self.refusal)
+
+    def is_alike(self, answer: Answer, numbers: Numbers) -> bool:
+        found = answer.refusal
+        return found is not None and (found.line, found.rule, found.at) == (len(numbers) + 1, self.refusal.rule, self.refusal.at)
 
     def holds(self, numbers: Numbers) -> bool:
-        return has_bug(self.program, self.log.cut(numbers), len(numbers), self.bug)
+        log = self.log.cut(numbers)
+        answer = self.program.explain(log) if self.phases else self.program.check(log)
+        return self.is_alike(answer, numbers) and answer.phases == self.phases
 
     def fronts(self) -> Iterator[Numbers]:
         """Lines to try, from few to all up to the refused one."""
-        yield from slices(self.index, self.refusal, self.header)
+        yield from self.index.slices()
         yield range(2, self.refusal.line + 1)
-
-    def start(self) -> Numbers:
-        """The first of these that is refused alike."""
-        return next(filter(self.holds, self.fronts()))
 
     @cached_property
     def least(self) -> Numbers:
-        """Lines of which none can be left out: the same rule refuses the last at the same place, which has come as far."""
-        return reduced(self.log, self.start(), self.holds)
+        """Lines of which none can be left out."""
+        return reduced(self.log, next(filter(self.holds, self.fronts())), self.holds)
 
     def with_attempts(self, held: list[int]) -> Numbers:
         """The least log and what the log did about it beside, and about what is held by these lines: where a repair is looked for."""
         whole = range(2, self.refusal.line + 1)
         if len(whole) <= FEW:
             return whole
-        return self.joined(attempts(self.index, self.refusal, self.header, held))
+        return self.joined(self.index.attempts(held))
 
     def joined(self, more: Numbers) -> Numbers:
         """The least log with those of these lines that leave the refusal as it is."""
@@ -142,5 +121,58 @@ class Shrinker:
 
     def barest(self, numbers: Numbers) -> Numbers:
         """Of these lines the least that the same rule refuses at the same place, however far the place has come."""
-        bare = Bug(self.bug.rule, self.bug.at, ())
-        return reduced(self.log, numbers, lambda fewer: has_bug(self.program, self.log.cut(fewer), len(fewer), bare))
+        return reduced(self.log, numbers, lambda fewer: self.is_alike(self.program.check(self.log.cut(fewer)), fewer))
+
+
+# ---- small numbers
+
+FIRST_PAGE = 0x4000_0000
+
+
+@dataclass
+class Names:
+    """New numbers, in the order in which the old ones come. Pages that are joined to one root stay together."""
+
+    joined: int
+    pes: dict[int, int] = field(default_factory=dict)
+    groups: dict[int, int] = field(default_factory=dict)
+
+    def pe(self, old: int) -> int:
+        return self.pes.setdefault(old, len(self.pes))
+
+    def address(self, old: int) -> int:
+        group = old // PAGE_BYTES // self.joined
+        new = self.groups.setdefault(group, len(self.groups))
+        return FIRST_PAGE + new * self.joined * PAGE_BYTES + old % (self.joined * PAGE_BYTES)
+
+    def linked(self, value: int, pages: set[int]) -> int:
+        """A value whose address is a page of the log's tables, under the new one."""
+        page = value & ADDRESS_BITS
+        return value & ~ADDRESS_BITS | self.address(page) if page in pages and page else value
+
+
+def renamed_line(line: Line, names: Names, pages: set[int]) -> Line:
+    event = line.event
+    rest = list(event.rest)
+    if event.word == "w":
+        rest = [hex(names.address(event.place)), hex(names.linked(event.value, pages) if event.value & 3 == 3 else event.value)]
+    elif event.word == "msr":
+        rest[1] = hex(names.linked(event.value, pages))
+    elif event.page is not None:
+        rest[-1] = hex(names.address(event.page))
+    return Line(line.at, str(Event(event.word, names.pe(event.pe), tuple(rest), event.label)))
+
+
+def renamed(header_text: str, lines: Lines) -> bytes:
+    pages = {line.event.page for line in lines if line.event.page is not None}
+    header = header_of(header_text)
+    names = Names(max(1, header.pages_of("s2")))
+    new = [renamed_line(line, names, pages) for line in lines]
+    return written(str(replace(header, pes=len(names.pes))), new)
+
+
+def if_alike(program: Program, header: str, lines: Lines) -> bytes:
+    """The log under new names, or as it is where the same rule doesn't refuse its last line then."""
+    logs = written(header, lines), renamed(header, lines)
+    old, new = (program.check(log).refusal for log in logs)
+    return logs[bool(old and new and (old.line, old.rule) == (new.line, new.rule))]

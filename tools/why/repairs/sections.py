@@ -7,11 +7,11 @@ from __future__ import annotations
 
 from collections.abc import Iterator
 
-import words
-from changes import Change, Edit, Head, Move, Put, Swap
-from flushes import is_about_tags
-from log import Event, Log, event_of
-from scene import Scene
+from why.log import words
+from why.repairs.changes import Change, Edit, Kind, Move, Put, Swap
+from why.repairs.flushes import is_about_tags
+from why.log.lines import Event, Log, event_of
+from why.repairs.scene import Scene
 
 FLUSHING = ("dsb", "tlbi")
 # So far a section goes, in lines.
@@ -83,7 +83,7 @@ class Home:
         return all(self.has_edit(edit) for edit in change.edits)
 
     def has_edit(self, edit: Edit) -> bool:
-        if isinstance(edit, Head):
+        if edit.kind is Kind.HEADER:
             return True
         if isinstance(edit, Put):
             return edit.text.split(" ")[0] not in FLUSHING or edit.after in self or edit.after + 1 in self

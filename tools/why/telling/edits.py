@@ -4,22 +4,12 @@ from __future__ import annotations
 
 import re
 
-import words
-from changes import Change, Edit, Head, Kind, Move, Put, Swap
-from log import Event, Header, Log, event_of, header_of
-from repair import Repair
+from why.log import words
+from why.repairs.changes import Change, Edit, Kind, Move, Put, Swap
+from why.log.lines import Event, Log, event_of, header_of
+from why.repairs.study import Repair
 
 CONTIGUOUS = 1 << 52
-
-
-def fault_of_option(event: Event) -> str:
-    """What a DSB with this option doesn't do, by the table of options."""
-    option = event.rest[0]
-    if option.endswith("ld"):
-        return "waits for loads alone"
-    if option.startswith("nsh"):
-        return f"reaches PE {event.pe} alone"
-    return "completes no TLBI" if option.endswith("st") else "isn't enough"
 
 
 def fault_of_operand(old: Event, new: Event, kind: Kind) -> str:
@@ -50,7 +40,10 @@ def told_swap(old: Event, new: Event, kind: Kind, shares: bool) -> str:
     if kind is Kind.BROADCAST:
         return f"{quoted} reaches {reach_of(old, shares)}; `{new.operation}`"
     if kind is Kind.OPTION:
-        return f"{quoted} {fault_of_option(old)}; `{new.rest[0]}`"
+        option = old.rest[0]
+        fault = "waits for loads alone" if option.endswith("ld") else f"reaches PE {old.pe} alone" if option.startswith("nsh") else \
+            "completes no TLBI" if option.endswith("st") else "isn't enough"
+        return f"{quoted} {fault}; `{new.rest[0]}`"
     if kind is Kind.PE:
         return f"{quoted} is by PE {old.pe}; {instead}"
     if kind in (Kind.ADDRESS, Kind.HINT, Kind.TAG, Kind.RANGE, Kind.OPERAND):
@@ -79,15 +72,6 @@ def fault_of_value(old: Event, new: Event) -> str:
     return "doesn't fit"
 
 
-def fault_of_header(old: Header, new: Header) -> str:
-    return "lacks `cnp`" if old.world == new.world else "isn't the world of this log"
-
-
-def between(after: int, log: Log) -> str:
-    """Where an event is put in."""
-    return f"between {after} and {after + 1}" if after + 1 <= log.last_event else f"behind line {after}"
-
-
 class Teller:
     """Tells the changes of one log."""
 
@@ -95,54 +79,40 @@ class Teller:
         self.log, self.header = log, header_of(log.header)
 
     def edit(self, edit: Edit) -> str:
-        if isinstance(edit, Head):
-            return f"line 1: `{self.log.header}` {fault_of_header(self.header, header_of(edit.text))}; `{edit.text}`"
         line = self.log.line(edit.at)
+        if edit.kind is Kind.HEADER:
+            fault = "lacks `cnp`" if self.header.world == header_of(edit.text).world else "isn't the world of this log"
+            return f"line 1: `{self.log.header}` {fault}; `{edit.text}`"
         if isinstance(edit, Swap):
             return f"{line.name}: {told_swap(line.event, event_of(edit.text), edit.kind, self.header.shares)}"
         if isinstance(edit, Move):
-            return f"{line.name}: `{line.event.plain}` moved {self.goal(edit)}"
+            goal = f"before {self.log.line(edit.after + 1).name}" if edit.after < edit.at else f"behind {self.log.line(edit.after).name}"
+            return f"{line.name}: `{line.event.plain}` moved {goal}"
         return f"{line.name}: `{line.event.plain}` left out"
 
-    def goal(self, move: Move) -> str:
-        """Where a line is moved to: before the refused line, or behind or before another."""
-        if move.after < move.at:
-            return f"before {self.log.line(move.after + 1).name}"
-        return f"behind {self.log.line(move.after).name}"
-
-    def puts(self, edits: tuple[Put, ...]) -> str:
+    def puts(self, after: int, edits: list[Put]) -> str:
         """Events that are put in at one position."""
-        texts = ", ".join(f"`{edit.text}`" for edit in edits)
-        return f"{between(edits[0].after, self.log)}: {texts}"
+        where = f"between {after} and {after + 1}" if after + 1 <= self.log.last_event else f"behind line {after}"
+        return f"{where}: " + ", ".join(f"`{edit.text}`" for edit in edits)
 
     def change(self, change: Change) -> list[str]:
         """The change, in the order of the log: a text for each line, and for each position at which events are put in."""
-        told = []
         groups: dict[int, list[Put]] = {}
         for edit in change.edits:
             if isinstance(edit, Put):
                 groups.setdefault(edit.after, []).append(edit)
-            else:
-                told.append((edit.at, self.edit(edit)))
-        told += [(after + 0.5, self.puts(tuple(edits))) for after, edits in groups.items()]
+        told = [(edit.at, self.edit(edit)) for edit in change.edits if not isinstance(edit, Put)]
+        told += [(after + 0.5, self.puts(after, edits)) for after, edits in groups.items()]
         return [text for _, text in sorted(told)]
 
     def repair(self, repair: Repair) -> list[str]:
+        """The change, and what the program says of the whole log with it; its line has another number in the log that was given."""
         texts = self.change(repair.change)
-        if len(texts) == 1 and isinstance(repair.change.edits[0], (Swap, Head)):
+        if len(texts) == 1 and isinstance(repair.change.edits[0], Swap):
             texts = [f"{texts[0]} would do"]
-        return [*texts, self.whole(repair, {1: "it", 2: "both"}.get(len(texts), "all of it"))]
-
-    def whole(self, repair: Repair, what: str) -> str:
-        """What the program says of the whole log with the change."""
+        what = {1: "it", 2: "both"}.get(len(texts), "all of it")
         if repair.whole.accepted:
-            return f"with {what} the whole log is accepted"
-        return f"with {what} the whole log gets to {self.log.line(repair.next_line).name}: {told_answer(repair)}"
-
-
-def told_answer(repair: Repair) -> str:
-    """The answer without its line, which has another number in the log that was given."""
-    refusal = repair.whole.refusal
-    return f"{refusal.titled} at {hex(refusal.at)}" if refusal else re.sub(r" line \d+", "", repair.whole.first)
-
-
+            return [*texts, f"with {what} the whole log is accepted"]
+        refusal = repair.whole.refusal
+        answer = f"{refusal.titled} at {hex(refusal.at)}" if refusal else re.sub(r" line \d+", "", repair.whole.first)
+        return [*texts, f"with {what} the whole log gets to {self.log.line(repair.next_line).name}: {answer}"]

@@ -5,9 +5,9 @@ from __future__ import annotations
 import re
 from dataclasses import dataclass
 
-import words
-from log import Line, Lines
-from program import Answer, Program, Status
+from why.log import words
+from why.log.lines import Line, Lines
+from why.asking.program import Answer, Program, Status
 
 COMMAND = "counterrun"
 # So many events the command takes.
@@ -134,9 +134,6 @@ class Told:
         kept = self.left()
         return [*self.texts, *dict.fromkeys(self.flushes(entry) for entry in kept[-1:]), self.end()]
 
-
-def lives(told: Told) -> list[tuple[int, int, int]]:
-    """For the lanes: each entry that is left, with its PE, the row behind which it was made less one, and that of the conflict."""
-    return [(entry.pe, entry.row - 1, told.run.conflict) for entry in told.left()]
-
-
+    def lives(self) -> list[tuple[int, int, int]]:
+        """For the lanes: each entry that is left, with its PE, the row behind which it was made less one, and that of the conflict."""
+        return [(entry.pe, entry.row - 1, self.run.conflict) for entry in self.left()]

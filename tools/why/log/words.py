@@ -84,9 +84,13 @@ class Operand:
         return level if granule and level else None
 
     @property
+    def bits(self) -> int:
+        """Those of the address."""
+        return RANGE_BITS if is_range(self.operation) else IPA_BITS if "ipas2" in self.operation else VA_BITS
+
+    @property
     def address(self) -> int:
-        bits = RANGE_BITS if is_range(self.operation) else IPA_BITS if "ipas2" in self.operation else VA_BITS
-        return (self.value & bits) << PAGE_SHIFT
+        return (self.value & self.bits) << PAGE_SHIFT
 
     @property
     def pages(self) -> int:
@@ -97,8 +101,7 @@ class Operand:
 
     def at(self, address: int) -> int:
         """The operand with another address."""
-        bits = RANGE_BITS if is_range(self.operation) else IPA_BITS if "ipas2" in self.operation else VA_BITS
-        return self.value & ~bits | address >> PAGE_SHIFT & bits
+        return self.value & ~self.bits | address >> PAGE_SHIFT & self.bits
 
     def without_hint(self) -> int:
         return self.value & ~(RANGE_HINT if is_range(self.operation) else HINT)

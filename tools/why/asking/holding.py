@@ -10,11 +10,11 @@ from collections.abc import Iterator
 from dataclasses import dataclass
 from functools import cached_property
 
-import words
-from log import ADDRESS_BITS, Line, Log, header_of, joined
-from pending import INSIDE, LAST_LEVEL, PAGE, Asker, Candidate, tables_of
-from program import Program, Verdict
-from style import ranges
+from why.log import words
+from why.log.lines import ADDRESS_BITS, Before, Line, Log, header_of
+from why.asking.places import INSIDE, LAST_LEVEL, PAGE, Asker, Place, tables_of
+from why.asking.program import Program, Verdict
+from why.telling.style import ranges
 
 # So many places or register writes are told; of one page so many places are asked about, and of one root the loads of so many PEs.
 TOLD, ASKED, PES = 4, 64, 16
@@ -29,57 +29,13 @@ MISSING = {
 }
 
 
-class Before:
-    """The front part of a log up to a line, for questions behind it."""
-
-    def __init__(self, log: Log, last: int):
-        self.log, self.last, self.events, self.header = log, last, last - 1, log.header
-
-    def lines(self) -> Iterator[tuple[int, bytes]]:
-        return enumerate(self.log.parts[1:self.last], 2)
-
-    def with_tail(self, tail: list[bytes]) -> list[bytes]:
-        return [joined([*self.log.parts[:self.last], *tail])]
-
-
 @dataclass(frozen=True)
-class HeldPlace:
-    """A place that holds a value: what it is to the refused line, the line that cleared it, or that wrote the value which is
-    there, and how far it has come at each PE."""
-
-    place: int
-    role: str
-    line: Line
-    phases: tuple[str, ...]
-
-    def told(self) -> str:
-        by_phase = {phase: [pe for pe, now in enumerate(self.phases) if now == phase] for phase in MISSING}
-        missing = [text.format(f"PE {ranges(by_phase[phase])}") for phase, text in MISSING.items() if by_phase[phase]]
-        done = "written" if self.line.event.value & 1 else "cleared"
-        return f"{hex(self.place)}{self.role}: {done} by {self.line.name}; {'; '.join(missing)}"
-
-
-@dataclass(frozen=True)
-class HeldTag:
-    """A register write that loaded a root, and what of it still holds at its PE."""
+class Held:
+    """What still holds: the line that made it so, what is told of it, and the place where it is one that holds a value."""
 
     line: Line
-    tag: str
-    why: str
-
-    def told(self) -> str:
-        event = self.line.event
-        return f"{event.rest[0]} of PE {event.pe}: {self.line.name} loaded the root {hex(event.base)} under {self.tag}; {self.why}"
-
-
-@dataclass(frozen=True)
-class HeldRoot:
-    """The line that declared a page a root."""
-
-    line: Line
-
-    def told(self) -> str:
-        return f"{self.line.name} declared the page {hex(self.line.event.page)} a root, and no `unroot` gave it up"
+    told: str
+    place: int | None = None
 
 
 class Places:
@@ -92,7 +48,6 @@ class Places:
         self.tables = tables_of(self.before)
         self.levels = self.tables.reached()
         self.asker = Asker(program, self.before, self.tables)
-        self.found: list = []
 
     def first(self) -> list[tuple[int, str]]:
         """The refused place; or those whose last table is the page that is reported."""
@@ -119,33 +74,35 @@ class Places:
         page = self.next_page(place, table.values[(place & INSIDE) >> 3])
         return [(there, f", in the page {hex(page << PAGE)}") for there, _ in self.valued([(page, self.tables.pages.get(page))])]
 
-    def line_of(self, place: int) -> Line:
-        """The line that cleared a place, or that wrote its value."""
-        cleared = self.tables.cleared_at(place)
-        if cleared:
-            return self.log.line(cleared)
-        ends = b" %s " % hex(place).encode()
-        return next(self.log.line(at) for at in range(self.refusal.line - 1, 1, -1)
-                    if self.log.bytes_of(at).startswith(b"w ") and ends in self.log.bytes_of(at))
+    def held(self, place: int, role: str, phases: tuple[str, ...]) -> Held:
+        """A place that holds a value, by the line that cleared it, or that wrote its value: how far it has come at each PE."""
+        ends, at = b" %s " % hex(place).encode(), self.tables.cleared_at(place)
+        line = self.log.line(at or next(at for at in range(self.refusal.line - 1, 1, -1) if self.log.bytes_of(at).startswith(b"w ")
+                                        and ends in self.log.bytes_of(at)))
+        by_phase = {phase: [pe for pe, now in enumerate(phases) if now == phase] for phase in MISSING}
+        missing = [text.format(f"PE {ranges(by_phase[phase])}") for phase, text in MISSING.items() if by_phase[phase]]
+        done = "written" if line.event.value & 1 else "cleared"
+        return Held(line, f"{hex(place)}{role}: {done} by {line.name}; {'; '.join(missing)}", place)
 
-    def root(self) -> list[HeldRoot]:
+    def root(self) -> list[Held]:
         """The last `root` of the page that is reported, where it is one."""
         if self.refusal.at >> PAGE not in self.tables.roots or self.refusal.name != "page-in-use":
             return []
         ends = b" %s " % hex(self.refusal.at).encode()
-        return [HeldRoot(self.log.line(at)) for at, line in self.before.lines() if line.startswith(b"root ") and ends in line + b" "][-1:]
+        line = [self.log.line(at) for at, line in self.before.lines() if line.startswith(b"root ") and ends in line + b" "][-1]
+        return [Held(line, f"{line.name} declared the page {hex(line.event.page)} a root, and no `unroot` gave it up")]
 
-    def search(self) -> list:
-        if self.root():
-            return self.root()
-        waiting = self.first()
-        while waiting and len(self.found) < TOLD:
+    def search(self) -> list[Held]:
+        found, waiting = self.root(), self.first()
+        if found:
+            return found
+        while waiting and len(found) < TOLD:
             roles = dict(sorted(waiting, key=lambda item: not self.tables.cleared_at(item[0]))[:ASKED])
-            held = self.asker.found([Candidate(place, 0) for place in roles], TOLD - len(self.found))
-            self.found += [HeldPlace(one.place, roles[one.place], self.line_of(one.place), one.phases) for one in held]
-            known = {one.place for one in self.found}
+            held = self.asker.found([Place(place) for place in roles], TOLD - len(found))
+            found += [self.held(one.place, roles[one.place], one.phases) for one in held]
+            known = {one.place for one in found}
             waiting = [item for one in held for item in self.inside(one.place) if item[0] not in known]
-        return self.found
+        return found
 
 
 class Tags:
@@ -181,19 +138,20 @@ class Tags:
             return [f"tlbi {pes[0]} {widest}{words.BROADCAST}", f"dsb {pes[0]} {words.COMPLETING}"]
         return [text for pe in pes for text in (f"tlbi {pe} {widest}", f"dsb {pe} nsh")]
 
-    def search(self) -> list[HeldTag]:
+    def search(self) -> list[Held]:
         pes = [line.event.pe for line in self.loads]
         if not pes or not self.passes(self.loads, self.flush(pes)):
             return []
-        found = [HeldTag(load, self.tag_of(load), why) for load in self.loads[:PES] if (why := self.needed(load))]
-        return found[:TOLD] or [HeldTag(self.loads[0], self.tag_of(self.loads[0]), self.not_flushed(self.loads[0]))]
+        found = [self.held(load, why) for load in self.loads[:PES] if (why := self.needed(load))]
+        return found[:TOLD] or [self.held(self.loads[0], self.not_flushed(self.loads[0]))]
 
     def needed(self, load: Line) -> str:
         """What of the load can't be left out where all else is there: nothing, its other value and ISB, or its flush."""
         others = [line for line in self.loads if line is not load]
         pes = [line.event.pe for line in others]
         if not self.passes(others, self.flush([load.event.pe, *pes])):
-            return self.still_there(load)
+            other = self.behind(load, "msr", load.event.rest[0])
+            return f"{other.name} wrote another value, and no ISB of PE {load.event.pe} came behind" if other else "nothing else was written there"
         left = self.flush(pes) if others and not self.header.shares else []
         return "" if self.passes(self.loads, left) else self.not_flushed(load)
 
@@ -205,12 +163,6 @@ class Tags:
         return next((self.log.line(at) for at in range(load.at + 1, self.refusal.line)
                      if (self.log.bytes_of(at) + b" ").startswith(front + b" ")), None)
 
-    def still_there(self, load: Line) -> str:
-        other = self.behind(load, "msr", load.event.rest[0])
-        if other is None:
-            return "nothing else was written there"
-        return f"{other.name} wrote another value, and no ISB of PE {load.event.pe} came behind"
-
     def not_flushed(self, load: Line) -> str:
         other = self.behind(load, "msr", load.event.rest[0])
         synced = self.behind(other, "isb") if other else None
@@ -218,15 +170,20 @@ class Tags:
 
     def tag_of(self, load: Line) -> str:
         """The tag of a load, by the register that names the ASID."""
-        kind = words.KIND_OF_REGISTER[load.event.rest[0]]
-        if kind != "ttbr0":
-            return {"el2": "the EL2 regime", "ttbr1": "the upper range", "s2": f"VMID {load.event.value >> words.ASID_SHIFT}"}[kind]
+        kind, tag = words.KIND_OF_REGISTER[load.event.rest[0]], load.event.value >> words.ASID_SHIFT
         named = [line for line in self.registers if line.event.pe == load.event.pe and line.at <= load.at
                  and line.event.rest[0] == f"{self.header.starts[2]}_el1"]
-        return f"ASID {named[-1].event.value >> words.ASID_SHIFT if named else 0}"
+        asid = named[-1].event.value >> words.ASID_SHIFT if named else 0
+        return {"el2": "the EL2 regime", "ttbr1": "the upper range", "s2": f"VMID {tag}", "ttbr0": f"ASID {asid}"}[kind]
+
+    def held(self, load: Line, why: str) -> Held:
+        """A register write that loaded a root, and what of it still holds at its PE."""
+        event = load.event
+        told = f"{event.rest[0]} of PE {event.pe}: {load.name} loaded the root {hex(event.base)} under {self.tag_of(load)}; {why}"
+        return Held(load, told)
 
 
-def held(program: Program, log: Log, refusal: Verdict) -> list:
+def held_at(program: Program, log: Log, refusal: Verdict) -> list[Held]:
     """What still holds at a refused line, of the rules that ask for it."""
     if refusal.name in OF_PLACES:
         return Places(program, log, refusal).search()

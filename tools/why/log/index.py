@@ -1,0 +1,266 @@
+# SPDX-License-Identifier: Apache-2.0
+"""Which lines of a log name what a refused line speaks of: the pages on the way to its place, their root, its lock and tags.
+
+This only says which lines are tried first. Whether they are refused alike the program says.
+"""
+from __future__ import annotations
+
+from bisect import bisect_right
+from collections import defaultdict
+from collections.abc import Iterator
+from dataclasses import dataclass, field
+from functools import cached_property
+from typing import NamedTuple
+
+from why.log.lines import ADDRESS_BITS, Event, Log, Numbers, header_of, number
+
+BARRIERS = (b"dsb", b"tlbi", b"isb")
+LOCKS_KEPT = 64
+PAGE, TAG = 12, 48
+TAGS_TRIED = 8
+NOT_FRESH = 6
+LOADED = 200
+# How many lines of each kind are near a line, and how many of the last ones count.
+BEFORE, BEHIND, FLUSHES, FOCUSED, TRIED_LOCKS, WAY = 6, 6, 3, 4, 8, 24
+
+
+class Write(NamedTuple):
+    at: int
+    place: int
+    value: int
+
+
+class Register(NamedTuple):
+    """A register write: its line, its PE as the line has it, and the value."""
+
+    at: int
+    pe: bytes
+    value: int
+
+    @property
+    def page(self) -> int:
+        return (self.value & ADDRESS_BITS) >> PAGE
+
+
+@dataclass
+class OfPage:
+    """The lines that make a page zero, declare it, write in it and link it."""
+
+    inits: list[int] = field(default_factory=list)
+    declared: list[int] = field(default_factory=list)
+    writes: list[Write] = field(default_factory=list)
+    links: list[Write] = field(default_factory=list)
+
+
+@dataclass
+class Way:
+    """The pages that matter, and the lines that put them where they are."""
+
+    pages: set = field(default_factory=set)
+    lines: set = field(default_factory=set)
+
+
+class Index:
+    """Where the lines before and at the refused one stand, by what they name. A page goes by its number, address / 4096."""
+
+    def __init__(self, log: Log, refusal):
+        self.log, self.refusal, self.last = log, refusal, refusal.line
+        self.header = header_of(log.header)
+        self.pages: dict[int, OfPage] = defaultdict(OfPage)
+        self.registers: list[Register] = []
+        self.others: dict[bytes, list[int]] = defaultdict(list)
+        for at in range(2, self.last + 1):
+            self.note(at)
+
+    def fields(self, at: int) -> list[bytes]:
+        return self.log.bytes_of(at).split(b" ")
+
+    def note(self, at: int) -> None:
+        word, *fields = self.fields(at)
+        if word == b"w":
+            write = Write(at, number(fields[1]), number(fields[2]))
+            self.pages[write.place >> PAGE].writes.append(write)
+            if write.value & 3 == 3:
+                self.pages[(write.value & ADDRESS_BITS) >> PAGE].links.append(write)
+        elif word == b"init":
+            self.pages[number(fields[1]) >> PAGE].inits.append(at)
+        elif word in (b"root", b"unroot", b"null"):
+            page = [name for name in fields if not name.startswith(b"@")][-1]
+            self.pages[number(page) >> PAGE].declared.append(at)
+        elif word == b"msr":
+            self.registers.append(Register(at, fields[0], number(fields[2])))
+        else:
+            self.others[word].append(at)
+
+    @property
+    def refused(self) -> Event:
+        return self.log.event(self.last)
+
+    def begun(self, page: int) -> int:
+        """The line of the last `init` of a page, 0 where there is none. That of the refused line doesn't count."""
+        return max((at for at in self.pages[page].inits if at < self.last), default=0)
+
+    def of_words(self, *words: bytes) -> list[int]:
+        return sorted(at for word in words for at in self.others[word])
+
+    @cached_property
+    def named(self) -> list[int]:
+        """The pages that the refused line names, that which it reports, and that of the root that a register write names. The page
+        to which a written value leads matters where the rules before that of pages don't refuse the line."""
+        line, at = self.refused, self.refusal.at
+        linked = line.next_page if self.refusal.rule >= NOT_FRESH else None
+        named = [line.page, linked, line.base, at if at >> PAGE else None]
+        return [page >> PAGE for page in named if page is not None and page >> PAGE < 1 << 36]
+
+    # ---- ways
+
+    @cached_property
+    def way(self) -> Way:
+        return self.climb(True)
+
+    def climb(self, last_link_alone: bool) -> Way:
+        """From the pages that are named up: the lines that made each page zero and declared it, and the writes that linked it."""
+        way, waiting = Way(), list(self.named)
+        joined = self.header.pages_of("s2")
+        while waiting:
+            page = waiting.pop()
+            if page in way.pages:
+                continue
+            way.pages.add(page)
+            begun, first = self.begun(page), page - page % joined
+            waiting.extend(range(first, first + joined) if any(self.pages[first + i].declared for i in range(joined)) else ())
+            way.lines.update(at for at in (*self.pages[page].inits, *self.pages[page].declared) if at >= begun)
+            links = [link for link in self.pages[page].links if link.at >= begun and link.at != self.last]
+            for link in links[-1:] if last_link_alone else links:
+                way.lines.update(self.written_at(link.place, link.at if last_link_alone else 0))
+                waiting.append(link.place >> PAGE)
+        return way
+
+    def descend(self, way: Way) -> None:
+        """From the pages that are named down: all that was written in them, and in the pages that they link."""
+        waiting, seen = list(self.named), set()
+        while waiting:
+            page = waiting.pop()
+            if page in seen or not self.pages[page].inits:
+                continue
+            seen.add(page)
+            begun = self.begun(page)
+            inside = [write for write in self.pages[page].writes if write.at >= begun]
+            way.lines.update(at for at in (*self.pages[page].inits, *(write.at for write in inside)) if at >= begun)
+            waiting.extend((write.value & ADDRESS_BITS) >> PAGE for write in inside if write.value & 3 == 3)
+
+    def written_at(self, place: int, since: int = 0) -> list[int]:
+        """The writes of a place since the `init` of its page, and from a line on."""
+        begun = max(since, self.begun(place >> PAGE))
+        return [write.at for write in self.pages[place >> PAGE].writes if write.place == place and write.at >= begun]
+
+    def made_before(self, place: int, at: int) -> int | None:
+        """The last line before one that wrote a valid value at a place."""
+        made = [write.at for write in self.pages[place >> PAGE].writes if write.place == place and write.value & 1 and write.at < at]
+        return made[-1] if made else None
+
+    def of_refused(self, last_alone: bool) -> list[int]:
+        """The writes of the refused line's place: those from the last valid one before it on, or all since its page's `init`."""
+        place = self.refused.place
+        return [] if place is None else self.written_at(place, last_alone and self.made_before(place, self.last) or 0)
+
+    def window_of(self, way: Way) -> int:
+        """The line from which on barriers and TLBIs can matter: the last valid write of the refused place, or of the way to it."""
+        if self.refused.place is not None:
+            return self.made_before(self.refused.place, self.last) or self.last
+        return min((at for at in way.lines if at < self.last), default=2)
+
+    # ---- registers and locks
+
+    def registers_near(self, way: Way) -> list[Register]:
+        """The register writes that name a page of the way as it is now or none, and those next to them by the same PE."""
+        by_pe, found = defaultdict(list), set()
+        for register in self.registers:
+            by_pe[register.pe].append(register)
+        begun = {page: self.begun(page) for page in way.pages}
+        for written in by_pe.values():
+            for i, register in enumerate(written):
+                if register.page in begun and register.at >= begun[register.page]:
+                    found.update(written[max(0, i - 1):i + 2])
+        return sorted(register for register in found if register.at < self.last)
+
+    def with_its_root(self, register: Register) -> list[int]:
+        """A register write with the lines that make its root, and the next `isb` of its PE."""
+        at, page = register.at, self.pages[register.page]
+        behind = bisect_right(self.others[b"isb"], at)
+        synced = [later for later in self.others[b"isb"][behind:behind + 64] if self.fields(later)[1] == register.pe]
+        zeroed = [line for line in page.inits if line < at][-1:]
+        declared = [line for line in page.declared if zeroed and zeroed[0] < line < at and self.fields(line)[0] != b"unroot"]
+        return [at, *zeroed, *declared, *synced[:1]]
+
+    def tags(self, way: Way, most: int = 0) -> set[int]:
+        """The register writes that give the roots of the way their tags, all or so many of the last, each with the lines that make
+        its root, and the next `isb` of its PE."""
+        return {line for register in self.registers_near(way)[-most:] for line in self.with_its_root(register)}
+
+    def tags_near(self) -> list[int]:
+        """The ASIDs and VMIDs of the register writes that name a page of the way, and of those next to them by the same PE, since
+        an ASID may stand in the other register; the last ones first."""
+        values = [register.value for register in self.registers_near(self.way)]
+        return list(dict.fromkeys(value >> TAG for value in values[::-1] if value))[:TAGS_TRIED]
+
+    def loading(self) -> list[int]:
+        """The last lines that load the roots of the way."""
+        return sorted(self.tags(self.way, LOADED))
+
+    def locks(self, way: Way) -> set[int]:
+        """The last lines of the locks of the roots on the way, and of the lock that the refused line names, from a `lock` on."""
+        wanted = {lock for at in way.lines if (lock := self.log.event(at).lock)} | {self.refused.lock}
+        named = [at for at in self.of_words(b"lock", b"unlock") if self.log.event(at).lock in wanted][-LOCKS_KEPT:]
+        while named and self.log.event(named[0]).word == "unlock" and named[0] != self.last:
+            named.pop(0)
+        return set(named)
+
+    # ---- what is tried
+
+    def slices(self) -> Iterator[Numbers]:
+        """Lines to try, from few to many. The refused line is the last of each."""
+        barriers = self.of_words(*BARRIERS)
+        others = {*self.of_words(*self.others), *(register.at for register in self.registers)}
+        others |= {at for page in self.pages.values() for at in (*page.inits, *page.declared)}
+        for last_link_alone, down in ((True, False), (True, True), (False, True)):
+            way = self.climb(last_link_alone)
+            way.lines.update(self.of_refused(last_link_alone))
+            if down:
+                self.descend(way)
+            since = self.window_of(way)
+            near = {at for at in barriers if at >= since}
+            yield sorted(way.lines | near | self.tags(way) | self.locks(way) | {self.last})
+        yield sorted(way.lines | others | {self.last})
+
+    def attempts(self, held: list[int]) -> list[int]:
+        """The lines near by that may have been meant to help: those of the way, writes of the same places, the barriers and TLBIs
+        around them, around the refused line and around those of what is held, the register writes that give the root its tags, and
+        the last lines of the locks."""
+        way = self.climb(True)
+        way.lines.update(self.of_refused(True), *map(self.of_held, held))
+        changed = sorted(at for at in way.lines if self.fields(at)[0] in (b"w", b"unroot") and at < self.last)
+        registers = self.registers_near(way)[-FOCUSED:]
+        is_write = self.refused.word in ("w", "init")
+        focus = [*changed[-FOCUSED:], *held, *([] if is_write else [register.at for register in registers]), self.last]
+        barriers = self.of_words(*(BARRIERS[:2] if is_write else BARRIERS))
+        chosen = {at for centre in focus for at in self.around(barriers, centre)}
+        taken = sorted(self.locks(way))[-TRIED_LOCKS:]
+        given = {at for register in registers for at in self.with_its_root(register)}
+        return sorted(at for at in {*chosen, *focus, *taken, *given, *sorted(way.lines)[-WAY:]} if at < self.last)
+
+    def of_held(self, at: int) -> list[int]:
+        """A line that wrote at a place which holds a value, and the writes there from the last valid one before it on."""
+        line = self.log.event(at)
+        if line.word == "msr":
+            return self.with_its_root(next(register for register in self.registers if register.at == at))
+        since = line.place is not None and self.made_before(line.place, at) or at
+        return [at] if line.place is None else [before for before in self.written_at(line.place, since) if before <= at]
+
+    def around(self, barriers: list[int], centre: int) -> list[int]:
+        """The barriers and TLBIs next to a line: those of its PE, and the next TLBIs of any."""
+        pe, middle = self.fields(centre)[1], bisect_right(barriers, centre)
+        before, behind = barriers[max(0, middle - 64):middle], barriers[middle:middle + 256]
+        own = lambda lines: [at for at in lines if self.fields(at)[1] == pe]
+        flushes = lambda lines: [at for at in lines if self.fields(at)[0] == b"tlbi"]
+        return [*own(before)[-BEFORE:], *own(behind)[:BEHIND], *flushes(before)[-FLUSHES:], *flushes(behind)[:FLUSHES]]

@@ -1,0 +1,185 @@
+# SPDX-License-Identifier: Apache-2.0
+"""`why`: a refusal with its small log, what would do, a run, its lanes and its rule, as one text, and as JSON (docs/OUTPUT.md)."""
+from __future__ import annotations
+
+import json
+import textwrap
+from dataclasses import dataclass, field
+
+from why.asking import runs
+from why.asking.least import reduced
+from why.asking.program import Answer
+from why.log.lines import Line, Lines, written
+from why.log.stream import Source
+from why.repairs.changes import Drop, Edit, Move, Put
+from why.repairs.study import Repair, Study, positions
+from why.telling import lanes
+from why.telling.edits import Teller
+from why.telling.faults import fault_of, plain
+from why.telling.formats import Finding, finding_of
+from why.telling.rules import cause_of, rule_of
+from why.telling.style import BOLD, Style
+
+TOO_MANY = 400
+
+
+@dataclass
+class Views:
+    """The run and the lanes of a study, made once for all forms."""
+
+    told: runs.Told | None
+    no_run: str
+    chart: lanes.Chart
+
+
+def with_run(study: Study, asked: list[int], steps: list[str]) -> Lines:
+    """The small log and, of the lines that were asked, those without which the run has other steps."""
+    small = {line.at for line in study.small}
+    numbers = lambda kept: sorted({*small, *kept})
+    holds = lambda kept: runs.steps_of(study.program, study.log.cut(numbers(kept))) == steps
+    more = [*(at for at in asked if at not in small), study.refusal.line]
+    return study.log.lines(numbers(reduced(study.log, more, holds)))
+
+
+def told_run(study: Study) -> tuple[runs.Told | None, str]:
+    """The run that the program has, over the lines that it needs; or None, and what is said of that. It is asked of all lines where
+    the program takes so many; else of the small log and the lines that load its roots, without which no TLB walks."""
+    if not study.program.has(runs.COMMAND):
+        return None, f"this program has no command `{runs.COMMAND}`"
+    is_short = study.refusal.line - 1 <= runs.MOST_EVENTS
+    asked = list(range(2, study.refusal.line + 1)) if is_short else sorted({*(line.at for line in study.small), *study.loading})
+    try:
+        steps = runs.steps_of(study.program, study.log.cut(asked))
+        lines = with_run(study, asked, steps) if steps else ()
+        found = runs.run_of(study.program, written(study.header, lines)) if steps else None
+    except runs.Beyond as limit:
+        return None, f"unknown, the program says `{limit}`"
+    return (runs.Told(lines, found), "") if found else (None, "the program has none for this log")
+
+
+def views_of(study: Study, whole: bool) -> Views:
+    """The lanes are those of the small log and of what the run takes besides; or where that is asked for those of all lines up to
+    the refused one, where they aren't too many. They follow the old entry of the first place that the refusal is about."""
+    told, no_run = told_run(study)
+    lines = study.small if whole or told is None else told.lines
+    if whole and study.refusal.line <= TOO_MANY:
+        lines = study.log.lines(range(2, study.refusal.line + 1))
+    chart = lanes.chart_of(study.program, study.header, lines, study.refusal, next(iter(study.scene.places), None))
+    if told and lines is told.lines:
+        chart.entries = told.lives()
+    return Views(told, no_run, chart if whole else chart.folded(positions(study.repairs)))
+
+
+# ---- as text
+
+def wrapped(text: str, style: Style, first: str = "  ", later: str = "    ") -> str:
+    return textwrap.fill(text, style.width, initial_indent=first, subsequent_indent=later, break_long_words=False,
+                         break_on_hyphens=False)
+
+
+@dataclass
+class Parts:
+    """The parts of the answer, made from a study, each the lines of a text whose first is the heading."""
+
+    study: Study
+    views: Views
+    style: Style
+    teller: Teller = field(init=False)
+
+    def __post_init__(self):
+        self.teller = Teller(self.study.log)
+
+    def head(self, text: str) -> str:
+        return self.style.painted(text, BOLD)
+
+    def small(self) -> list[str]:
+        study = self.study
+        count, whole = len(study.small), study.refusal.line - 1
+        title = f"The small log: {count} of {whole} events; the same rule refuses the last at the same place"
+        digits = len(str(study.refused.at))
+        lines = [f"  {1:>{digits}}  {study.header}", *(f"  {line.at:>{digits}}  {line.text}" for line in study.small)]
+        return [self.head(title), *lines]
+
+    def held(self) -> list[str]:
+        """What still holds at the refused line."""
+        title = f"What is still held before line {self.study.refusal.line}, by bbm"
+        told = [wrapped(one.told, self.style) for one in self.study.held]
+        return [self.head(title), *told] if told else []
+
+    def repairs(self) -> list[str]:
+        if not self.study.repairs:
+            return [self.head("What would do: nothing of what is tried (docs/WHY.md)")]
+        told = [self.head("What would do, tried and judged by bbm")]
+        for count, repair in enumerate(self.study.repairs, 1):
+            firsts = [f"  {count}. "] + ["     "] * len(repair.change.edits)
+            told += [wrapped(text, self.style, first, "     ") for text, first in zip(self.teller.repair(repair), firsts)]
+        return told
+
+    def run(self) -> list[str]:
+        told = self.views.told
+        if told is None:
+            return [self.head(f"A run that goes wrong: {self.views.no_run}")]
+        small = {line.at for line in self.study.small}
+        more = [str(line.at) for line in told.lines if line.at not in small]
+        also = [f"over the small log and line{'s' if len(more) > 1 else ''} {', '.join(more)} besides"] if more else []
+        return [self.head("A run that goes wrong"), *(wrapped(text, self.style) for text in [*also, *told.told()])]
+
+    def lanes(self) -> list[str]:
+        chart = self.views.chart
+        shown = f"; how long an old entry of {hex(chart.place)} may live there" if chart.phases else ""
+        return [self.head(f"Lanes: a column a PE{shown}"), *lanes.Text(chart, self.style).lines()]
+
+    def rule(self) -> list[str]:
+        rule = rule_of(self.study.refusal.rule)
+        if rule is None:
+            return []
+        told = [rule.sentence, f"The usual bug: {rule.bug}", f"Right: {rule.right}"]
+        return [self.head(f"Rule {rule.number} {rule.name} (docs/RULES.md)"), *(wrapped(text, self.style, later="  ") for text in told)]
+
+
+def text_of(answer: Answer, parts: Parts) -> str:
+    shown = [[answer.first], parts.small(), parts.held(), parts.repairs(), parts.run(), parts.lanes(), parts.rule()]
+    return "\n\n".join("\n".join(part) for part in shown if part) + "\n"
+
+
+def other_answer(answer: Answer, source: Source) -> str:
+    """What is said of a log that no rule refuses: the program's line, for a malformed one the line itself, and what is wrong in it."""
+    verdict = answer.verdict
+    told = []
+    if verdict and verdict.word == "malformed":
+        line, why = source.line(verdict.line), cause_of(verdict.name)
+        shown = (line or b"")[:200].decode("latin-1").encode("unicode_escape").decode("ascii")
+        told = [f"the line: {shown}"] * (line is not None) + [f"{verdict.name}: {why}"] * bool(why)
+    fault = fault_of(verdict, source) if verdict and verdict.word in ("malformed", "limit") else None
+    return answer.text + "".join(f"  {text}\n" for text in (*told, *([plain(fault)] if fault else ())))
+
+
+# ---- as JSON
+
+def named(line: Line) -> dict:
+    return {"line": line.at, "text": line.text}
+
+
+def edit_of(edit: Edit) -> dict:
+    if isinstance(edit, Put):
+        return {"do": "put in", "behind": edit.after, "text": edit.text}
+    if isinstance(edit, Move):
+        return {"do": "move", "line": edit.at, "behind": edit.after}
+    return {"do": "leave out", "line": edit.at} if isinstance(edit, Drop) else {"do": "change", "line": edit.at, "text": edit.text}
+
+
+def repair_of(repair: Repair, teller: Teller) -> dict:
+    """The edits, the words of the text, and the verdict on the whole log, its line as it stands there without the change."""
+    *told, _ = teller.repair(repair)
+    at = {"line": repair.next_line} if repair.next_line else {}
+    return {"edits": [edit_of(edit) for edit in repair.change.edits], "told": told, "whole": {**finding_of(repair.whole).fields, **at}}
+
+
+def as_json(parts: Parts, finding: Finding) -> str:
+    """One object on one line."""
+    study, run = parts.study, parts.views.told
+    told = {"header": study.header, "small": [named(line) for line in study.small],
+            "held": [{"told": one.told, **named(one.line)} for one in study.held],
+            "repairs": [repair_of(repair, parts.teller) for repair in study.repairs],
+            "run": {"lines": [line.at for line in run.lines], "told": run.told()} if run else None}
+    return json.dumps({**finding.fields, **told}) + "\n"
