@@ -245,7 +245,7 @@ def whole_sequences(scene: Scene) -> Iterator[Family]:
         for head in heads:
             for text in tlbis_for(scene, kind):
                 flush = [f"tlbi {pes[-1]} {text}", f"dsb {pes[-1]} {words.COMPLETING}"]
-                yield Family((puts(scene.refused.at - 1, *head, *flush, *tail),))
+                yield Family((puts(scene.refused.at - 1, *scene.under_locks(*head, *flush, *tail)),))
 
 
 def loading(scene: Scene) -> list[int]:

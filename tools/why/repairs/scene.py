@@ -9,7 +9,7 @@ import itertools
 from dataclasses import dataclass, field, replace
 from functools import cached_property
 
-from why.log.lines import ADDRESS_BITS, PAGE_BYTES, Event, Header, Line, Lines
+from why.log.lines import ADDRESS_BITS, PAGE_BYTES, Event, Header, Line, Lines, Locks
 from why.asking.program import Verdict
 from why.log.words import KIND_OF_REGISTER
 
@@ -79,6 +79,26 @@ class Scene:
             for i in range(self.header.pages_of(kind)):
                 found[line.event.page + i * PAGE_BYTES] = (kind, line.event.lock)
         return found
+
+    @cached_property
+    def holders(self) -> dict[str, int]:
+        """Which PE took each lock last and didn't give it back."""
+        locks = Locks()
+        for line in self.lines[:-1]:
+            locks.take(line.event)
+        return locks.held
+
+    @property
+    def locks(self) -> list[str]:
+        """The locks of the roots above the places, or of the root that is given up; else those of all roots."""
+        named = [self.roots[spot.root][1] for spot in self.spots]
+        named += [self.roots[self.event.page][1]] if self.event.page in self.roots else []
+        return list(dict.fromkeys(lock for lock in (named or [lock for _, lock in self.roots.values()]) if lock))
+
+    def under_locks(self, *texts: str) -> list[str]:
+        """These events by the refused line's PE, which takes the locks that nobody holds before them, and gives them back."""
+        free = [f"{self.event.pe} {lock}" for lock in self.locks if lock not in self.holders]
+        return [*(f"lock {lock}" for lock in free), *texts, *(f"unlock {lock}" for lock in free[::-1])]
 
     def way_up(self, place: int) -> list[int]:
         """The place, that which links its page, and so on to a place of a root; shorter where that isn't known."""

@@ -11,7 +11,7 @@ from why.asking.holding import Held, held_at
 from why.asking.least import Shrinker, reduced
 from why.asking.program import Answer, Program, Verdict
 from why.log.lines import Line, Lines, Log, Numbers, header_of
-from why.repairs.changes import Change, Move, edited, position_of
+from why.repairs.changes import Change, Move, Put, edited, position_of
 from why.repairs.flushes import Family, is_about_tags
 from why.repairs.scene import Scene
 from why.repairs.sections import Home
@@ -28,11 +28,13 @@ ACCEPTED_ALL = 1 << 40
 
 @dataclass(frozen=True)
 class Repair:
-    """A change with which the small log passes, and the whole log gets past the refused line: where its next refusal is, if any."""
+    """A change with which the small log passes, and the whole log gets past the refused line: where its next refusal is, if any. And
+    what is to be said of it besides."""
 
     change: Change
     whole: Answer
     next_line: int | None
+    note: str = ""
 
     @property
     def reach(self) -> int:
@@ -92,8 +94,9 @@ class Repairer:
         return max(repairs, key=lambda repair: repair.reach, default=None)
 
     def is_needed(self, change: Change) -> bool:
-        """Whether no edit of the change can be left out."""
-        return change.size == 1 or not any(self.passes(change.but(i)) for i in range(change.size))
+        """Whether no edit of the change can be left out, but a lock that is given back."""
+        others = [change.but(i) for i, edit in enumerate(change.edits) if not (isinstance(edit, Put) and edit.text.startswith("unlock "))]
+        return change.size == 1 or not any(map(self.passes, others))
 
     # ---- search
 
@@ -200,6 +203,30 @@ def with_repairs(shrinker: Shrinker, repairer: Repairer, repairs: list[Repair], 
     return reduced(shrinker.log, start if holds(start) else tried, holds)
 
 
+def refused_from(shrinker: Shrinker, since: int) -> int | None:
+    """The first line behind which the refused line is refused alike, from one on behind which it isn't; None where it is there too."""
+    holds = lambda at: shrinker.holds([*range(2, at + 1), shrinker.refusal.line])
+    if holds(since):
+        return None
+    left = shrinker.refusal.line - 1
+    while left - since > 1:
+        middle = (since + left) // 2
+        since, left = (since, middle) if holds(middle) else (middle, left)
+    return left
+
+
+def use_after_free(shrinker: Shrinker, change: Change) -> str:
+    """What an `init` before a write in its page hides, where that page was linked and left its tree."""
+    index, page = shrinker.index, shrinker.index.refused.page
+    links = [link.at for link in index.pages[(page or 0) >> 12].links if link.at < index.last]
+    zeroes = any(isinstance(edit, Put) and edit.text.endswith(f" {hex(page or 0)}") for edit in change.edits)
+    if index.refused.word != "w" or shrinker.refusal.name != "not-fresh" or not zeroes or not links:
+        return ""
+    left = refused_from(shrinker, links[-1])
+    return f"this hides a use after free, unless the page was given out anew: bbm refuses the write so from {shrinker.log.line(left).name} " \
+        "on, where the page left its tree" if left else ""
+
+
 def studied(program: Program, log: Log, refusal: Verdict) -> Study:
     shrinker = Shrinker(program, log, refusal)
     kept = held_at(program, log, refusal)
@@ -214,5 +241,6 @@ def studied(program: Program, log: Log, refusal: Verdict) -> Study:
         if repairs or not repairer.failed:
             break
         tried = with_lacking(shrinker, repairer, repairer.failed[0], tried)
+    repairs = [replace(repair, note=use_after_free(shrinker, repair.change)) for repair in repairs]
     small = with_repairs(shrinker, repairer, repairs, kept, tried)
     return Study(program, log, refusal, scene, log.lines(small), repairs, shrinker.index.loading(), kept)

@@ -10,7 +10,7 @@ from dataclasses import replace
 from itertools import combinations
 
 from why.log import words
-from why.log.lines import PAGE_BYTES, Header, Line, Locks
+from why.log.lines import PAGE_BYTES, Header, Line
 from why.repairs.changes import Change, Drop, Kind, Move, Swap, one, puts
 from why.repairs.flushes import Family, operands, sequences, whole_sequences, with_pe, with_words
 from why.repairs.scene import Scene
@@ -56,21 +56,6 @@ def synchronised(scene: Scene) -> Iterator[Change]:
 
 # ---- locks
 
-def holders(scene: Scene) -> dict[str, int]:
-    """Which PE took each lock last and didn't give it back."""
-    locks = Locks()
-    for line in scene.lines[:-1]:
-        locks.take(line.event)
-    return locks.held
-
-
-def locks_of_roots(scene: Scene) -> list[str]:
-    """The locks of the roots above the places, or of the root that is given up; else those of all roots."""
-    named = [scene.roots[spot.root][1] for spot in scene.spots]
-    named += [scene.roots[scene.event.page][1]] if scene.event.page in scene.roots else []
-    return list(dict.fromkeys(lock for lock in (named or [lock for _, lock in scene.roots.values()]) if lock))
-
-
 def doubled(scene: Scene) -> Iterator[Change]:
     """A line that says the same as the refused one, left out."""
     if scene.event.word in LEFT_OUT:
@@ -78,8 +63,8 @@ def doubled(scene: Scene) -> Iterator[Change]:
 
 
 def no_lock(scene: Scene) -> Iterator[Change]:
-    behind, pe, held = scene.refused.at - 1, scene.event.pe, holders(scene)
-    for lock in locks_of_roots(scene):
+    behind, pe, held = scene.refused.at - 1, scene.event.pe, scene.holders
+    for lock in scene.locks:
         if lock in held:
             yield with_pe(scene.refused, held[lock])
         yield puts(behind, f"lock {pe} {lock}")
@@ -89,7 +74,7 @@ def no_lock(scene: Scene) -> Iterator[Change]:
 
 
 def lock_busy(scene: Scene) -> Iterator[Change]:
-    lock, holder = scene.event.lock, holders(scene).get(scene.event.lock)
+    lock, holder = scene.event.lock, scene.holders.get(scene.event.lock)
     if holder is not None:
         yield puts(scene.refused.at - 1, f"unlock {holder} {lock}")
         yield from (with_words(line, (lock,), Kind.LOCK) for line in scene.of_word("unlock") if line.event.pe == holder)
@@ -97,7 +82,7 @@ def lock_busy(scene: Scene) -> Iterator[Change]:
 
 
 def lock_not_mine(scene: Scene) -> Iterator[Change]:
-    event, held = scene.event, holders(scene)
+    event, held = scene.event, scene.holders
     if event.lock in held:
         yield with_pe(scene.refused, held[event.lock])
     yield from (with_words(scene.refused, (lock,), Kind.LOCK) for lock, pe in held.items() if pe == event.pe)
@@ -182,13 +167,13 @@ def global_user(scene: Scene) -> Iterator[Change]:
 
 
 def page_in_use(scene: Scene) -> Iterator[Change]:
-    event, behind, page = scene.event, scene.refused.at - 1, scene.refusal.at
+    event, page = scene.event, scene.refusal.at
     first = next((root for root in (page, event.page) if root in scene.roots), page)
-    given_up = f"unroot {event.pe} {hex(first)}"
+    given_up = puts(scene.refused.at - 1, *scene.under_locks(f"unroot {event.pe} {hex(first)}"))
     yield from (zeroed(scene, zero) for zero in made_zero(scene))
-    yield puts(behind, given_up)
+    yield given_up
     yield from doubled(scene)
-    yield puts(behind, given_up, f"init {event.pe} {hex(page)}")
+    yield given_up + zeroed(scene, page)
 
 
 # ---- registers and tags
@@ -299,9 +284,12 @@ def families(scene: Scene, size: int) -> Iterator[Family]:
 
 def largest(scene: Scene) -> Iterator[Family]:
     """Whole sequences, which have more than three edits: tried where nothing smaller passes."""
-    if scene.refusal.name in BY_FLUSHES:
+    rule = scene.refusal.name
+    if rule in TRIES:
+        yield from each(change for change in TRIES[rule](scene) if change.size >= LARGEST)
+    if rule in (*BY_FLUSHES, "page-in-use"):
         yield from whole_sequences(scene)
-    if scene.refusal.name == "not-fresh":
+    if rule == "not-fresh":
         yield from each(both_linked_elsewhere(scene))
 
 

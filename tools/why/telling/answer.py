@@ -111,8 +111,9 @@ class Parts:
             return [self.head("What would do: nothing of what is tried (docs/WHY.md)")]
         told = [self.head("What would do, tried and judged by bbm")]
         for count, repair in enumerate(self.study.repairs, 1):
-            firsts = [f"  {count}. "] + ["     "] * len(repair.change.edits)
-            told += [wrapped(text, self.style, first, "     ") for text, first in zip(self.teller.repair(repair), firsts)]
+            first, *more = self.teller.repair(repair)
+            told.append(wrapped(first, self.style, f"  {count}. ", "     "))
+            told += [wrapped(text, self.style, "     ", "     ") for text in more]
         return told
 
     def run(self) -> list[str]:

@@ -111,6 +111,7 @@ class Teller:
         if len(texts) == 1 and isinstance(repair.change.edits[0], Swap):
             texts = [f"{texts[0]} would do"]
         what = {1: "it", 2: "both"}.get(len(texts), "all of it")
+        texts += [repair.note] if repair.note else []
         if repair.whole.accepted:
             return [*texts, f"with {what} the whole log is accepted"]
         refusal = repair.whole.refusal
