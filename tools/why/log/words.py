@@ -93,6 +93,18 @@ class Operand:
         return (self.value & self.bits) << PAGE_SHIFT
 
     @property
+    def page(self) -> str:
+        """The address as a text; an upper one has all its digits."""
+        top = self.bits + 1 << PAGE_SHIFT - 1
+        is_upper = self.address & top and "ipas2" not in self.operation and not is_of_el2(self.operation)
+        return hex(self.address | (1 << 64) - top if is_upper else self.address)
+
+    @property
+    def granule(self) -> int:
+        """The TG field of a range, bits 47:46."""
+        return self.value >> 46 & 3
+
+    @property
     def pages(self) -> int:
         """How many pages it names."""
         if not is_range(self.operation):

@@ -9,6 +9,7 @@ from enum import Enum
 from typing import Union
 
 from why.log.lines import Log, joined
+from why.log.words import is_of_tag
 
 
 class Kind(Enum):
@@ -35,21 +36,23 @@ class Kind(Enum):
 
 @dataclass(frozen=True)
 class Put:
-    """An event put in behind a line. `text` has no label; `step` tells the second TLBI of two from one that takes all."""
+    """An event put in behind a line, and why. `text` has no label; `step` tells the second TLBI of two from one that takes all."""
 
     after: int
     text: str
     step: int = 1
     kind: Kind = Kind.PUT_IN
+    why: str = ""
 
 
 @dataclass(frozen=True)
 class Swap:
-    """A line with other words; the first line is the header."""
+    """A line with other words, and what is wrong with it where that isn't seen in these; the first line is the header."""
 
     at: int
     text: str
     kind: Kind
+    why: str = ""
 
 
 @dataclass(frozen=True)
@@ -95,6 +98,12 @@ class Change:
     @property
     def kinds(self) -> list[str]:
         return sorted(edit.kind.value for edit in self.edits)
+
+    @property
+    def idea(self) -> frozenset[str]:
+        """The TLBIs for all under a tag that it puts in, at whichever line."""
+        words_of = (edit.text.split(" ") for edit in self.edits if isinstance(edit, (Put, Swap)) and edit.text.startswith("tlbi "))
+        return frozenset(fields[2] for fields in words_of if is_of_tag(fields[2]))
 
     @property
     def touched(self) -> set[int]:

@@ -42,11 +42,11 @@ class Flush:
     is_new: bool = False
 
 
-def with_words(line: Line, rest: tuple[str, ...], kind: Kind, pe: int | None = None) -> Change:
+def with_words(line: Line, rest: tuple[str, ...], kind: Kind, pe: int | None = None, why: str = "") -> Change:
     """The line with other fields, its label as it was."""
     event = line.event
     text = Event(event.word, event.pe if pe is None else pe, rest, event.label)
-    return one(Swap(line.at, str(text), kind))
+    return one(Swap(line.at, str(text), kind, why))
 
 
 def with_pe(line: Line, pe: int) -> Change:
@@ -109,7 +109,8 @@ def changes_of_tlbi(scene: Scene, line: Line) -> tuple[Change, ...]:
     for rest, kind in tries:
         if rest != event.rest:
             tried.setdefault(rest, kind)
-    return tuple(with_words(line, rest, kind) for rest, kind in tried.items())
+    why = other_vmid(scene, line)
+    return tuple(with_words(line, rest, kind, None, why) for rest, kind in tried.items())
 
 
 # ---- TLBIs that are put in, and those that are there
@@ -159,6 +160,40 @@ def flushes(scene: Scene) -> Iterator[Flush]:
             yield Flush(tuple(map(one, puts_one)), puts(at, f"tlbi {pe} {widest}"), pe, at, True)
 
 
+def broadcast(scene: Scene) -> Iterator[Family]:
+    """A local TLBI with the suffix `is`, alone or with the DSB behind it: tried before any change of a line that may be right."""
+    for line in scene.near("tlbi"):
+        if words.is_broadcast(line.event.operation):
+            continue
+        wide = with_words(line, (line.event.operation + words.BROADCAST, *line.event.rest[1:]), Kind.BROADCAST)
+        behind = [dsb for dsb in scene.in_window("dsb") if dsb.at > line.at and dsb.event.pe == line.event.pe][:1]
+        yield Family((wide, *(wide + with_words(dsb, (words.COMPLETING,), Kind.OPTION) for dsb in behind)))
+
+
+def loads_of_s2(scene: Scene) -> list[Event]:
+    """The register writes that load the stage 2 roots of the places."""
+    roots = {spot.root for spot in scene.spots if spot.kind == "s2"}
+    return [line.event for line in scene.of_word("msr") if line.event.base in roots]
+
+
+def other_vmid(scene: Scene, line: Line) -> str:
+    """That a TLBI acts under another VMID than the places have, by the last register writes; nothing where it doesn't."""
+    written = [before.event for before in scene.of_word("msr") if before.at < line.at and before.event.pe == line.event.pe]
+    values = [event.value >> words.ASID_SHIFT for event in written if event.rest[0] == "vttbr_el2"]
+    place = [event.value >> words.ASID_SHIFT for event in loads_of_s2(scene)]
+    is_other = values and place and values[-1] not in place and not words.is_of_el2(line.event.operation)
+    return f"acts under VMID {values[-1]}, and the place is under VMID {place[-1]}" if is_other else ""
+
+
+def under_its_vmid(scene: Scene) -> Iterator[Family]:
+    """The VMID of the places at the PE of a TLBI under another one: an `msr` and an `isb` before the break."""
+    for line in scene.near("tlbi") if scene.last_write else ():
+        why, pe = other_vmid(scene, line), line.event.pe
+        if why:
+            switch = Put(scene.last_write.at - 1, f"msr {pe} vttbr_el2 {loads_of_s2(scene)[-1].rest[1]}", why=f"{line.name} {why}")
+            yield Family((one(switch) + puts(switch.after, f"isb {pe}"),))
+
+
 # ---- what stands before and behind a TLBI
 
 def options_of(line: Line, pe: int) -> list[Change]:
@@ -186,14 +221,15 @@ def publications(scene: Scene, flush: Flush) -> Iterator[Change]:
 
 
 def elsewhere(scene: Scene) -> list[tuple[str, str]]:
-    """Register writes that lead away from a root: those of the log that name another one, and 0."""
+    """Register writes that lead away from a root: to a declared null page, those of the log that name another root, and 0."""
     written = [tuple(line.event.rest) for line in scene.of_word("msr") if line is not scene.refused]
     given_up = scene.refusal.at
     others = [(register, value) for register, value in written if int(value, 16) & ADDRESS_BITS not in (given_up, 0)]
     zeros = [(register, "0x0") for register, _ in written]
     if scene.event.word == "msr":
         zeros.append((scene.event.rest[0], "0x0"))
-    return list(dict.fromkeys([*others, *zeros]))
+    nulls = [("ttbr0_el1", hex(line.event.page)) for line in scene.of_word("null") if any(register == "ttbr0_el1" for register, _ in zeros)]
+    return list(dict.fromkeys([*nulls, *others, *zeros]))
 
 
 def switches(scene: Scene, flush: Flush) -> Iterator[Change]:

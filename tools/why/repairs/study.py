@@ -15,7 +15,7 @@ from why.repairs.changes import Change, Move, Put, edited, position_of
 from why.repairs.flushes import Family, is_about_tags
 from why.repairs.scene import Scene
 from why.repairs.sections import Home
-from why.repairs.tries import LARGEST, families, last_resort
+from why.repairs.tries import LARGEST, families, first_families, last_resort
 
 LATER, ROUNDS = 12, 3
 WANTED, ALIKE = 3, 2
@@ -119,7 +119,7 @@ class Repairer:
 
     def search(self) -> list[Repair]:
         """At most three repairs, the smallest first, and of one size those with which the whole log gets furthest."""
-        repairs: list[Repair] = []
+        repairs = self.found_with(first_families(self.scene), [])
         for size in range(1, LARGEST + 1):
             near = self.near(repairs)
             if len(near) >= WANTED or near and size == LARGEST or len(self.failed) >= MOST_FAILED:
@@ -140,11 +140,12 @@ class Repairer:
 
 
 def varied(repairs: list[Repair]) -> list[Repair]:
-    """The first three, of which no more than two change things of the same kinds."""
+    """The first three, of which no more than two change things of the same kinds, and no two do the same by one TLBI for all."""
     chosen: list[Repair] = []
     for repair in repairs:
         alike = [one for one in chosen if one.change.kinds == repair.change.kinds]
-        if len(alike) < ALIKE and len(chosen) < WANTED:
+        same = [one for one in chosen if repair.change.idea and one.change.idea == repair.change.idea]
+        if not same and len(alike) < ALIKE and len(chosen) < WANTED:
             chosen.append(repair)
     return chosen
 

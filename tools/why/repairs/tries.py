@@ -12,7 +12,7 @@ from itertools import combinations
 from why.log import words
 from why.log.lines import PAGE_BYTES, Header, Line
 from why.repairs.changes import Change, Drop, Kind, Move, Swap, one, puts
-from why.repairs.flushes import Family, operands, sequences, whole_sequences, with_pe, with_words
+from why.repairs.flushes import Family, broadcast, operands, sequences, under_its_vmid, whole_sequences, with_pe, with_words
 from why.repairs.scene import Scene
 
 NEAR = 8
@@ -196,6 +196,14 @@ def no_root(scene: Scene) -> Iterator[Change]:
     yield zeroed(scene, page) + declared
 
 
+def other_tag(scene: Scene) -> Iterator[Change]:
+    """An ASID or VMID in the refused line that no register write has."""
+    event, register = scene.event, "vttbr_el2" if not scene.header.is_kernel else f"{scene.header.starts[2]}_el1"
+    free = next(tag for tag in range(1, len(scene.tags) + 2) if tag not in scene.tags)
+    if event.word == "msr" and event.rest[0] == register:
+        yield other_value(scene.refused, event.value & (1 << words.ASID_SHIFT) - 1 | free << words.ASID_SHIFT)
+
+
 def unsynced_vmid(scene: Scene) -> Iterator[Change]:
     pe = scene.event.pe
     written = [line.at for line in scene.of_word("msr") if line.event.pe == pe]
@@ -249,6 +257,7 @@ TRIES: dict[str, Callable[[Scene], Iterator[Change]]] = {
     "wrong-world": wrong_world, "no-lock": no_lock, "null-written": null_written, "not-fresh": not_fresh,
     "rewritten-fresh": rewritten_fresh, "bad-kind": bad_kind, "global-user": global_user, "page-in-use": page_in_use,
     "no-root": no_root, "unsynced-vmid": unsynced_vmid, "lock-busy": lock_busy, "lock-not-mine": lock_not_mine,
+    "tag-conflict": other_tag,
 }
 
 
@@ -280,6 +289,13 @@ def families(scene: Scene, size: int) -> Iterator[Family]:
     for other in scene.narrowed:
         yield from sequences(other, size)
     yield from of_rule(scene, size)
+
+
+def first_families(scene: Scene) -> Iterator[Family]:
+    """What is tried first, of whatever size: where it passes, the lines around it are right."""
+    for one_scene in (scene, *scene.narrowed):
+        yield from broadcast(one_scene)
+        yield from under_its_vmid(one_scene)
 
 
 def largest(scene: Scene) -> Iterator[Family]:

@@ -14,16 +14,19 @@ CONTIGUOUS = 1 << 52
 
 def fault_of_operand(old: Event, new: Event, kind: Kind) -> str:
     was, is_now = words.Operand(old.operation, old.operand), words.Operand(new.operation, new.operand)
-    if kind is Kind.ADDRESS:
-        return f"names the page {hex(was.address)}, and this is about {hex(is_now.address)}"
+    by_asid = words.base_of(new.operation) in words.BY_ASID and was.asid != is_now.asid
+    if kind is Kind.ADDRESS and was.address != is_now.address:
+        return f"names the page {was.page}, and this is about {is_now.page}" + (f" under ASID {is_now.asid}" if by_asid else "")
+    if kind in (Kind.ADDRESS, Kind.TAG):
+        return f"names ASID {was.asid}, and {'this' if words.is_of_tag(old.operation) else 'the place'} is under ASID {is_now.asid}"
+    if kind is Kind.HINT and words.is_range(old.operation) and was.granule != is_now.granule:
+        return f"has {was.granule} in its TG field, bits 47:46, and 1 is the granule of 4 KiB"
     if kind is Kind.HINT:
         return f"has the level hint {was.hint}" if was.hint is not None else "has a hint for another granule"
-    if kind is Kind.TAG:
-        return f"names ASID {was.asid}, and this is about ASID {is_now.asid}"
     if kind is Kind.RANGE:
         return f"has {was.pages} pages ({is_now.pages} are needed)"
     if was.value != was.aligned():
-        return f"begins at {hex(was.address)}, inside an entry of its level hint {was.hint}"
+        return f"begins at {was.page}, inside an entry of its level hint {was.hint}"
     if old.operand >> 44 and words.shifted(old.operand) == new.operand:
         return "has the address where its page number belongs"
     return "has an operand that no TLBI has"
@@ -67,6 +70,8 @@ def fault_of_value(old: Event, new: Event) -> str:
         return "is for every ASID: bit 11 (nG) is clear"
     if differs == 1 and old.word == "msr":
         return "sets CnP, bit 0"
+    if old.word == "msr" and not differs & (1 << 48) - 1:
+        return f"names {'VMID' if old.rest[0] == 'vttbr_el2' else 'ASID'} {old.value >> 48}, which another root has"
     if old.word == "w" and old.next_page is not None and new.next_page is not None and differs < 1 << 48:
         return f"links the page {hex(old.next_page)}"
     return "doesn't fit"
@@ -84,7 +89,9 @@ class Teller:
             fault = "lacks `cnp`" if self.header.world == header_of(edit.text).world else "isn't the world of this log"
             return f"line 1: `{self.log.header}` {fault}; `{edit.text}`"
         if isinstance(edit, Swap):
-            return f"{line.name}: {told_swap(line.event, event_of(edit.text), edit.kind, self.header.shares)}"
+            new = event_of(edit.text)
+            told = f"`{line.event.plain}` {edit.why}; `{' '.join(new.rest)}`" if edit.why else told_swap(line.event, new, edit.kind, self.header.shares)
+            return f"{line.name}: {told}"
         if isinstance(edit, Move):
             goal = f"before {self.log.line(edit.after + 1).name}" if edit.after < edit.at else f"behind {self.log.line(edit.after).name}"
             return f"{line.name}: `{line.event.plain}` moved {goal}"
@@ -111,7 +118,7 @@ class Teller:
         if len(texts) == 1 and isinstance(repair.change.edits[0], Swap):
             texts = [f"{texts[0]} would do"]
         what = {1: "it", 2: "both"}.get(len(texts), "all of it")
-        texts += [repair.note] if repair.note else []
+        texts += [edit.why for edit in repair.change.edits if isinstance(edit, Put) and edit.why] + [repair.note] * bool(repair.note)
         if repair.whole.accepted:
             return [*texts, f"with {what} the whole log is accepted"]
         refusal = repair.whole.refusal
