@@ -36,15 +36,16 @@ class Held:
     line: Line
     told: str
     place: int | None = None
+    phases: tuple[str, ...] = ()
 
 
 class Places:
     """The places that hold a value and that a refusal is about: the refused one, those that link the page which is reported, and
-    those inside of what these lead to."""
+    those inside of what these lead to; right before the refused line, or behind another one."""
 
-    def __init__(self, program: Program, log: Log, refusal: Verdict):
+    def __init__(self, program: Program, log: Log, refusal: Verdict, last: int = 0):
         self.log, self.refusal = log, refusal
-        self.before = Before(log, refusal.line - 1)
+        self.before = Before(log, last or refusal.line - 1)
         self.tables = tables_of(self.before)
         self.levels = self.tables.reached()
         self.asker = Asker(program, self.before, self.tables)
@@ -82,7 +83,7 @@ class Places:
         by_phase = {phase: [pe for pe, now in enumerate(phases) if now == phase] for phase in MISSING}
         missing = [text.format(f"PE {ranges(by_phase[phase])}") for phase, text in MISSING.items() if by_phase[phase]]
         done = "written" if line.event.value & 1 else "cleared"
-        return Held(line, f"{hex(place)}{role}: {done} by {line.name}; {'; '.join(missing)}", place)
+        return Held(line, f"{hex(place)}{role}: {done} by {line.name}; {'; '.join(missing)}", place, phases)
 
     def root(self) -> list[Held]:
         """The last `root` of the page that is reported, where it is one."""

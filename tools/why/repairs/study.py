@@ -15,6 +15,7 @@ from why.repairs.changes import Change, Move, Put, edited, position_of
 from why.repairs.flushes import Family, is_about_tags
 from why.repairs.scene import Scene
 from why.repairs.sections import Home
+from why.repairs.strictness import Strictness
 from why.repairs.tries import LARGEST, families, first_families, last_resort
 
 LATER, ROUNDS = 12, 3
@@ -170,6 +171,7 @@ class Study:
     repairs: list[Repair]
     loading: Numbers
     held: list[Held]
+    stricter: list[str]
 
     @property
     def header(self) -> str:
@@ -244,4 +246,5 @@ def studied(program: Program, log: Log, refusal: Verdict) -> Study:
         tried = with_lacking(shrinker, repairer, repairer.failed[0], tried)
     repairs = [replace(repair, note=use_after_free(shrinker, repair.change)) for repair in repairs]
     small = with_repairs(shrinker, repairer, repairs, kept, tried)
-    return Study(program, log, refusal, scene, log.lines(small), repairs, shrinker.index.loading(), kept)
+    stricter = Strictness(program, log, refusal, scene, kept).named()
+    return Study(program, log, refusal, scene, log.lines(small), repairs, shrinker.index.loading(), kept, stricter)

@@ -12,6 +12,7 @@ from why.asking.program import Answer
 from why.log.lines import Line, Lines, written
 from why.log.stream import Source
 from why.repairs.changes import Drop, Edit, Move, Put
+from why.repairs.strictness import LINK
 from why.repairs.study import Repair, Study, positions
 from why.telling import lanes
 from why.telling.edits import Teller
@@ -116,6 +117,11 @@ class Parts:
             told += [wrapped(text, self.style, "     ", "     ") for text in more]
         return told
 
+    def stricter(self) -> list[str]:
+        """Which of the cases it is in which `bbm` is stricter than the architecture."""
+        told = [wrapped(f"{text} ({LINK})", self.style) for text in self.study.stricter]
+        return [self.head("Here bbm is stricter than the architecture"), *told] if told else []
+
     def run(self) -> list[str]:
         told = self.views.told
         if told is None:
@@ -139,7 +145,7 @@ class Parts:
 
 
 def text_of(answer: Answer, parts: Parts) -> str:
-    shown = [[answer.first], parts.small(), parts.held(), parts.repairs(), parts.run(), parts.lanes(), parts.rule()]
+    shown = [[answer.first], parts.small(), parts.held(), parts.repairs(), parts.stricter(), parts.run(), parts.lanes(), parts.rule()]
     return "\n\n".join("\n".join(part) for part in shown if part) + "\n"
 
 
@@ -182,5 +188,6 @@ def as_json(parts: Parts, finding: Finding) -> str:
     told = {"header": study.header, "small": [named(line) for line in study.small],
             "held": [{"told": one.told, **named(one.line)} for one in study.held],
             "repairs": [repair_of(repair, parts.teller) for repair in study.repairs],
+            **({"stricter": study.stricter} if study.stricter else {}),
             "run": {"lines": [line.at for line in run.lines], "told": run.told()} if run else None}
     return json.dumps({**finding.fields, **told}) + "\n"
