@@ -78,12 +78,15 @@ def say_shrink(program: Program, source: Source, asked: Asked) -> int:
     from why.asking.least import Shrinker, if_alike
     from why.log.lines import Log, written
     from why.repairs.study import studied
+    from why.telling.answer import told_run
 
     answer = source.answer(program, "check")
     if not answer.refusal:
         return say_verdict(answer, source, asked)
     log = Log(source.read())
-    lines = studied(program, log, answer.refusal).small
+    found = studied(program, log, answer.refusal)
+    told, _ = told_run(found)
+    lines = told.lines if told else found.small
     if asked.least:
         lines = log.lines(Shrinker(program, log, answer.refusal).barest([line.at for line in lines]))
     small = if_alike(program, log.header, lines) if asked.rename else written(log.header, lines)
