@@ -51,9 +51,10 @@ class Strictness:
         """A root that no PE loaded but the one that flushed its own TLB."""
         done = [pe for pe, phase in enumerate(one.phases) if phase == "cleansed"]
         spot = self.scene.spot(one.place)
-        loaded = {line.event.pe for line in self.scene.of_word("msr") if spot and line.event.base == spot.root}
-        local = [line for line in self.scene.in_window("tlbi") if not words.is_broadcast(line.event.operation)]
-        return [OWN_PE.format(hex(one.place), done[0])] if local and len(done) == 1 and loaded <= {*done} else []
+        registers = [self.log.event(at) for at in range(2, self.refusal.line) if self.log.bytes_of(at).startswith(b"msr ")]
+        loaded = {event.pe for event in registers if spot and event.base == spot.root}
+        is_local = any(not words.is_broadcast(line.event.operation) for line in self.scene.in_window("tlbi"))
+        return [OWN_PE.format(hex(one.place), done[0])] if is_local and len(done) == 1 and loaded == {*done} else []
 
     def of_rollover(self) -> list[str]:
         pe, pes = self.scene.event.pe, {one.line.event.pe for one in self.held}
