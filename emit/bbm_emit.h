@@ -230,8 +230,8 @@ void bbm_open(struct bbm_buffer *buffer, struct bbm_tickets *tickets, struct bbm
 void bbm_init(struct bbm_buffer *buffer, uint64_t page, const struct bbm_label *label);
 
 /**
- * bbm_null() - the page stays empty, as a base that means no walk: of TTBR0_EL1, and under version 5
- *	of each root register
+ * bbm_null() - the page stays empty, as a base that means no walk: of TTBR0_EL1, and under
+ *	version 5 of each root register
  * @buffer: of this PE
  * @page: its address
  * @label: where the event comes from

@@ -22,7 +22,7 @@
  *
  *     b .. OPTION                 a DSB has completed; OPTION is its CRm
  *     x ..                        a DSB nXS has completed
- *     i ..                        a context synchronisation event: an ISB, an exception entry or return
+ *     i .. INSN                   a context synchronisation event: an ISB, an exception return, or, where INSN is 0, an exception
  *     t .. INSN XT                a TLBI is about to be issued: its instruction word, and the value of its register
  *     m .. REGISTER VALUE         a register is about to be written
  *     n .. PAGE LEVEL KIND ROOT   a page becomes known as a table, under the root ROOT
@@ -639,7 +639,7 @@ static void completed(const struct event *event)
 		trace.counts.nxs++;
 		tell(event, 'x', "%s", "");
 	} else {
-		tell(event, 'i', "%s", "");
+		tell(event, 'i', " %x", word);
 	}
 	pthread_mutex_unlock(&trace.lock);
 }

@@ -6,9 +6,10 @@
 WORLD is `kernel` (EL1), `hyp` (EL2 and stage 2) or `vhe` (a kernel that runs at EL2, told as one at EL1). TRACE is a file,
 or a pipe with --follow, which writes each line of the log as soon as the trace has what it comes from.
 
-The log says what the machine did. Each departure from it is a normalisation with a name, is made only where --allow has
-the name, and is told on standard error with how often it was made and what it weakens: --list names them. --suggest judges
-the log, tries which of them get past each refusal, and prints the least set that does, with the line, rule and symbol.
+The log is one of version 5, and says what the machine did. Each departure from it is a normalisation with a name, is made
+only where --allow has the name, and is told on standard error with how often it was made and what it weakens: --list names
+them, and the words that --words can give to the header, each of which is a premise. --suggest judges the log, tries which of
+them get past each refusal, and prints the least set that does, with the line, rule and symbol.
 
 Exit status 0; 1 where a refusal is left that --suggest gets not past. With the others nothing is judged, and standard error
 says why: 2 the trace is damaged; 3 the words are wrong; 4 a file can't be read; 5 a write failed; 6 there is no memory; 8
@@ -33,6 +34,7 @@ TOP = os.path.dirname(os.path.dirname(os.path.dirname(os.path.realpath(__file__)
 BASE = 0xfffffffff000  # the address of a table, in a descriptor and in a root register
 CONTIGUOUS, NON_SECURE, INDEX, ASID_BIT = 1 << 52, 1 << 5, 7 << 2, 1 << 48
 NO_UPPER_WALKS = 1 << 23  # TCR.EPD1
+NULL_PAGE = 0  # the base of a VTTBR_EL2 by which no walk is made: of a machine of QEMU it is no memory
 OTHER_GRANULES = {1: 64, 2: 16}  # TCR.TG0, in KiB
 
 # The register through which a tree was found, by its number in the trace.
@@ -119,6 +121,16 @@ def tlbi_name(word):
     return name + SCOPES[crm] + ("nxs" if crn == 9 else "")
 
 
+def page_of_code(fields):
+    """Where the code of a line is, by the number of its page."""
+    return int(fields[3], 16) >> 12
+
+
+def came_from_below(fields):
+    """Whether a line is an exception to EL2 from a lower EL, by which half of the vectors it was taken."""
+    return fields[0] == "i" and fields[2] == "2" and fields[5:6] == ["0"] and int(fields[3], 16) & 0x400 != 0
+
+
 def is_of_el2(name):
     return re.match("r?vae2|r?vale2|alle2", name) is not None
 
@@ -138,9 +150,9 @@ class Form(namedtuple("Form", "starts pages asid")):
         kinds = ("el2", "s2") if self.asid is None else ("ttbr0", "ttbr1")
         return dict(zip(kinds, zip(self.starts, (1, self.pages))))
 
-    def header(self, pes, cnp):
+    def header(self, pes, words):
         world, last = ("hyp", self.pages) if self.asid is None else ("kernel", self.asid)
-        return f"bbmlog 4 {world} {pes} {self.starts[0]} {self.starts[1]} {last} {cnp}"
+        return " ".join(map(str, ["bbmlog", 5, world, pes, *self.starts, last, *words]))
 
 
 def form_of(header):
@@ -174,19 +186,55 @@ class Facts:
         self.controls, self.stage2, self.levels = {}, None, defaultdict(Counter)
         self.first_form = self.form_at_start = None
         self.records = 0
+        # Of guests, where the whole trace is looked at: where VTTBR_EL2 was written by a PE last; for each of these lines the
+        # last at which the PE was below EL2 with it; for each root the lines at which VTTBR_EL2 names it (True), or at which
+        # it begins or ends; the pages of code that store to tables of living guests; and for others such stores of them, by
+        # their lines and roots.
+        self.is_whole, self.loads, self.used, self.life = False, {}, {}, defaultdict(list)
+        self.named, self.table_code, self.stores = {}, set(), defaultdict(list)
 
     def add(self, index, line):
         op = line[0]
-        if op == "r":
+        if op in "rd":
             fields = line.split()
+            self.life[int(fields[5], 16)].append((index, False))
+        if op == "r":
             self.levels[int(fields[7])][max(0, int(fields[6])), int(fields[8])] += 1
         elif op == "w":
-            self.written.add(int(line.split(" ", 6)[5], 16) & ~4095)
+            fields = line.split()
+            self.written.add(int(fields[5], 16) & ~4095)
+            if int(fields[8]) == VTTBR_EL2:
+                self.add_store(index, page_of_code(fields), int(fields[9], 16))
         elif op == "m":
             self.add_register(index, line.split())
         elif op == "#":
             found = re.search(r"PEs (\d+)", line)
             self.pes = int(found.group(1)) if found else self.pes
+
+    def add_use(self, index, line):
+        """A PE is, or was until now, below EL2, with the value of VTTBR_EL2 that it has."""
+        fields = line.split(" ", 6)
+        if fields[2] in "01" or came_from_below(fields):
+            self.used[self.loads.get(fields[1])] = index
+
+    def add_store(self, index, code, root):
+        """A store to a table of stage 2. The guest lives where a PE has its root loaded, or loads it afterwards."""
+        if root in self.named.values():
+            self.table_code.add(code)
+        elif code not in self.table_code:
+            self.stores[code].append((index, root))
+
+    def is_loaded_after(self, root, index):
+        """Whether a root is loaded again before its page has another use."""
+        life = self.life[root]
+        at = bisect_right(life, (index, True))
+        return at < len(life) and life[at][1]
+
+    def end(self):
+        """The whole trace was taken: it shows which roots were loaded behind a store."""
+        for code, stores in self.stores.items():
+            if any(self.is_loaded_after(root, at) for at, root in stores):
+                self.table_code.add(code)
 
     def count(self, line):
         """Takes any line for what the end of the trace says of it."""
@@ -200,6 +248,9 @@ class Facts:
 
     def add_register(self, index, fields):
         pe, name, value = fields[1], fields[5], int(fields[6], 16)
+        if name == "vttbr_el2":
+            self.loads[pe], self.named[pe] = index, value & BASE
+            self.life[value & BASE].append((index, True))
         if name == "vtcr_el2":
             self.stage2 = stage2_start(value) or self.stage2
         if name == self.world.control:
@@ -238,9 +289,10 @@ class Facts:
         return self.world.registers[name][0] == self.asid_register(pe) + "_el1" and value >> 48 != 0
 
     def header(self, allow):
-        cnp = "cnp" if self.cnp and "no-cnp" not in allow else "-"
+        """The header, with the words that are allowed."""
+        words = ["cnp"] * (self.cnp and "no-cnp" not in allow) + [word for word in normalisations.WORDS if word in allow]
         form = self.form_at_start if "snapshot" in allow else self.first_form
-        return (form or self.form()).header(self.pes, cnp)
+        return (form or self.form()).header(self.pes, words)
 
     def most(self, kind, otherwise):
         """The start level and number of pages of most roots of a kind."""
@@ -282,6 +334,7 @@ class Converter:
         self.world, self.facts, self.form, self.symbols, self.out = world, facts, form, symbols, out
         self.tables, self.roots, self.locks = {}, {}, {}
         self.registers, self.mmu_on, self.host_only = defaultdict(dict), {}, {}
+        self.stage2_on, self.written_at, self.has_null, self.given_up = {}, {}, set(), set()
         self.attributes, self.least = {}, range(8)
         self.made, self.told, self.left_out, self.at_stage2, self.stage2_writes = Counter(), Counter(), Counter(), 0, 0
         # What the header doesn't have: forms of roots, and T1SZ of others where an upper root was loaded.
@@ -329,6 +382,9 @@ class Converter:
         self.left_out["DSB nXS"] += 1
 
     def take_isb(self, fields):
+        value = self.registers[fields[1]].get("vttbr_el2", 0)
+        if value & BASE and came_from_below(fields):
+            self.came_up(fields, value)
         self.emit(f"isb {fields[1]}")
 
     def take_lock(self, fields):
@@ -385,6 +441,7 @@ class Converter:
         page, level, kind, root = int(fields[5], 16), int(fields[6]), int(fields[7]), int(fields[8], 16)
         self.page, before = (page, fields[1]), self.tables.get(page)
         if before and before.is_told:
+            self.note_other_use(fields, before)
             self.flush_moved(fields[1], before)
         table = self.tables[page] = Table(level, kind, root)
         if not self.started or kind not in self.world.kinds:
@@ -413,7 +470,11 @@ class Converter:
                            "null page, and now it is written. Without --follow it can be judged")
         if table is None:
             return
-        if table.is_told:
+        if table.kind == VTTBR_EL2 and page_of_code(fields) not in self.facts.table_code and not self.loaded_at(table.root):
+            self.note_other_use(fields, table)
+        if table.is_told and table.root in self.given_up:
+            self.left_out["store to a table of a root that was given up"] += self.started
+        elif table.is_told:
             self.stage2_writes += self.started and table.kind == VTTBR_EL2
             self.tell_write(f"w {fields[1]} 0x{place:x}", value, table, fields)
         else:
@@ -437,12 +498,14 @@ class Converter:
         page = int(fields[5], 16)
         table = self.tables.pop(page, None)
         if table and table.is_told:
+            self.note_other_use(fields, table)
             self.emit(f"init {fields[1]} 0x{page:x}", fields)
 
     # ---- roots
 
     def take_root(self, fields):
         page, kind = int(fields[5], 16), int(fields[7])
+        self.given_up.discard(page)
         self.roots[page] = root = Root(kind, int(fields[6]), int(fields[8]))
         # The table that the kernel keeps empty is never stored to.
         root.is_null = self.world.form == "kernel" and self.tables[page].is_empty and page not in self.facts.written
@@ -479,12 +542,28 @@ class Converter:
             self.other_forms[word, root.level, root.pages] += 1
         self.emit(f"root {pe} {self.world.kinds[root.kind]} {self.locks.get(page, '-')} 0x{page:x}")
 
+    def note_other_use(self, fields, table):
+        """A table of stage 2 is used for something else, or stored to by code that stores to no table of a living guest.
+        Where no PE uses its root, and none ever loads it again, the root was given up."""
+        if not self.facts.is_whole or table.kind != VTTBR_EL2 or not table.is_told or table.root not in self.roots:
+            return
+        used = any(self.stage2_on.get(pe) and self.is_used(pe) for pe in self.loaded_at(table.root))
+        if not used and not self.facts.is_loaded_after(table.root, self.index):
+            self.give_up(fields, table.root)
+
+    def loaded_at(self, root):
+        """The PEs whose VTTBR_EL2 names a root."""
+        return [pe for pe, values in self.registers.items() if values.get("vttbr_el2", 0) & BASE == root]
+
     def take_dead_root(self, fields):
-        page = int(fields[5], 16)
+        self.give_up(fields, int(fields[5], 16))
+
+    def give_up(self, fields, page):
         root = self.roots.pop(page, None)
+        if root and root.kind == VTTBR_EL2:
+            self.given_up.add(page)
         if root and root.is_declared and not root.is_null:
             self.told["unroot"] += self.started
-            self.flush_asids(fields[1], root, "dead-asids")
             self.emit(f"unroot {fields[1]} 0x{page:x}", fields)
 
     def flush_asids(self, pe, root, name):
@@ -514,6 +593,7 @@ class Converter:
         pe, el, name, value = fields[1], int(fields[2]), fields[5], int(fields[6], 16)
         if name == "hcr_el2":
             self.host_only[pe] = bool(value >> 27 & 1)
+            self.turn_stage2(fields, pe, bool(value & 1))
         if name == "sctlr_el2" and self.world.form == "hyp":
             self.turn_mmu(fields, pe, bool(value & 1))
         if name == self.world.attributes:
@@ -529,7 +609,7 @@ class Converter:
             self.left_out[f"MSR {name} at EL{el}, of another regime"] += self.started
             return
         before = self.registers[pe].get(name)
-        self.registers[pe][name] = value
+        self.registers[pe][name], self.written_at[pe, name] = value, self.index
         self.tell_register(fields, name, value, before, self.unless("mmu-off") if self.is_off(pe, name) else {})
 
     def is_off(self, pe, name):
@@ -545,12 +625,11 @@ class Converter:
         if word != "ttbr1_el1" or not self.started:
             return [(value, {})]
         folded = self.of_first(value)
-        condition = self.unless("reserved-ttbr1") if self.is_null(value) else {}
         if before is not None and folded == self.of_first(before):
-            return [(value, {**condition, **self.unless("kpti")})]
+            return [(value, self.unless("kpti"))]
         if folded == value:
-            return [(value, condition)]
-        return [(value, {**condition, **self.unless("kpti")}), (folded, {**condition, "kpti": True})]
+            return [(value, {})]
+        return [(value, self.unless("kpti")), (folded, {"kpti": True})]
 
     def is_null(self, value):
         root = self.roots.get(value & BASE)
@@ -572,10 +651,59 @@ class Converter:
         self.note_upper_size(pe)
         switches = self.world.form == "kernel" and (word == "ttbr1_el1" or (root and root.is_null))
         behind = self.normalised("isb-between-ttbrs") if switches else {}
+        for idle in self.idle_by(pe, name, value):
+            self.tell_null(pe, idle)
+            for told, of_value in self.told_values(name, value & ~BASE | NULL_PAGE, before):
+                self.emit(f"msr {pe} {word} 0x{told:x}", fields, {**condition, **of_value, **self.normalised(idle)})
+            condition = {**condition, idle: False}
         for told, of_value in self.told_values(name, value, before):
             self.emit(f"msr {pe} {word} 0x{told:x}", fields, {**condition, **of_value})
             if behind:
                 self.emit(f"isb {pe} @isb-between-ttbrs", condition={**condition, **of_value, **behind})
+
+    def idle_by(self, pe, name, value):
+        """The normalisations by each of which a value of VTTBR_EL2 has a null page as its base."""
+        if name != "vttbr_el2" or not value & BASE:
+            return []
+        return ["stage2-off"] * (not self.stage2_on.get(pe)) + ["out-of-context"] * (not self.is_used(pe))
+
+    def is_used(self, pe):
+        """Whether a PE is, or comes, below EL2 with its present value of VTTBR_EL2."""
+        return not self.facts.is_whole or self.facts.used.get(self.written_at.get((pe, "vttbr_el2")), -1) > self.index
+
+    def came_up(self, fields, value):
+        """An exception to EL2: a value with which EL2 never returns is out of use, though it may stand there for long."""
+        pe = fields[1]
+        if self.is_used(pe):
+            return
+        self.tell_null(pe, "out-of-context")
+        for told, of_value in self.told_values("vttbr_el2", value & ~BASE | NULL_PAGE, None):
+            condition = {**of_value, **self.normalised("out-of-context")}
+            self.emit(f"msr {pe} vttbr_el2 0x{told:x} @out-of-context", condition=condition)
+
+    def tell_null(self, pe, name):
+        """The null page, before the first value that names it."""
+        if not self.started or name in self.has_null:
+            return
+        condition = {name: True, **{other: False for other in self.has_null}}
+        self.has_null.add(name)
+        self.emit(f"init {pe} 0x{NULL_PAGE:x} @null", condition=condition)
+        self.emit(f"null {pe} 0x{NULL_PAGE:x} @null", condition=condition)
+
+    def turn_stage2(self, fields, pe, on):
+        """HCR_EL2.VM is about to change: VTTBR_EL2 is told as it is with it."""
+        was, self.stage2_on[pe] = self.stage2_on.get(pe, False), on
+        value = self.registers[pe].get("vttbr_el2", 0)
+        if on == was or not value & BASE or self.world.form != "hyp":
+            return
+        condition = self.normalised("stage2-off")
+        if not on:
+            self.tell_null(pe, "stage2-off")
+            value = value & ~BASE | NULL_PAGE
+        elif not self.is_used(pe):
+            condition["out-of-context"] = False
+        for told, of_value in self.told_values("vttbr_el2", value, None):
+            self.emit(f"msr {pe} vttbr_el2 0x{told:x}", fields, {**of_value, **condition})
 
     def note_asid(self, pe):
         """Under which ASID the lower root of a PE is loaded now."""
@@ -665,9 +793,11 @@ def unreadable(index, line):
 
 def facts_of(world, symbols, lines):
     facts = Facts(world)
+    facts.is_whole = True
     for index, line in enumerate(lines):
         take_facts(facts, symbols, index, line)
         facts.count(line)
+    facts.end()
     return facts
 
 
@@ -675,8 +805,10 @@ def take_facts(facts, symbols, index, line):
     """Takes what a line tells of the whole trace: where code runs, and, unless the log has begun, what the header needs."""
     try:
         symbols.learn(line)
-        if facts and line[0] in "rwm#":
+        if facts and line[0] in "rwmd#":
             facts.add(index, line)
+        if facts and facts.is_whole and facts.world.form == "hyp" and line[0] not in "c#":
+            facts.add_use(index, line)
     except (LookupError, ValueError) as error:
         raise unreadable(index, line) from error
 
@@ -768,7 +900,7 @@ def misfits(converter, header, allow):
         told.append(f"roots of {kind} that start {words_of_form(*form)}, {count} times: "
                     + (f"the header has those that start {words_of_form(*had[kind])}" if form[0] >= 0 else
                        "52 bits of address, which no log has. For Linux: -cpu max,lpa2=off"))
-    if converter.has_cnp and header.endswith(" -") and "no-cnp" not in allow:
+    if converter.has_cnp and "cnp" not in header.split() and "no-cnp" not in allow:
         told.append("a root register has CnP, and the header, which was written before, says that none has")
     return told
 
@@ -797,7 +929,10 @@ def report(asked, facts, converter, header, judged, remarks):
     Answers the exit status."""
     for name, count in sorted(converter.made.items()):
         if name in asked.allow and count:
-            tell(f"{name}, {count} times: {normalisations.ALL[name].does}. It weakens: {normalisations.ALL[name].weakens}")
+            tell(about(name, f", {count} times"))
+    for word in normalisations.WORDS:
+        if word in asked.allow:
+            tell(about(word, ", a word of the header"))
     if "contiguous" in asked.allow and converter.at_stage2:
         tell(f"contiguous, {converter.at_stage2} times at stage 2: a change of the Contiguous bit there isn't judged")
     for what, count in sorted(converter.told.items()):
@@ -817,7 +952,8 @@ def report(asked, facts, converter, header, judged, remarks):
 
 ALWAYS = {
     "AttrIndx": "told as the least index that has the same byte in MAIR",
-    "unroot": "told at the first other use of a root's page, while no register names it; when it was given up isn't known",
+    "unroot": "told at the first other use of a root's page, while no register names it, or, but with --follow, of any page of a "
+    "root of stage 2 that is in use nowhere and is never loaded again; when it was given up isn't known",
 }
 
 
@@ -925,11 +1061,13 @@ class Search:
         return can_begin_late and self.misfits(allow)
 
     def past(self, allow, origin):
-        """The least set of others, the earliest in their list, with which the log gets past a line of the trace."""
+        """The least set of others, the earliest in their list, with which the log gets past a line of the trace: of those
+        without a further word of the header, if one does."""
         made = self.log.names_before(origin)
         others = [name for name in self.names if name in made and name not in allow]
-        sets = (names for size in (1, 2, 3) for names in combinations(others, size))
-        return next((list(names) for names in sets if self.verdict([*allow, *names], origin)[1] is None), None)
+        words = [[word] for word in normalisations.WORDS if word not in allow and not self.given_header]
+        sets = ([*word, *names] for word in [[], *words] for size in range(4) for names in combinations(others, size))
+        return next((names for names in sets if names and self.verdict([*allow, *names], origin)[1] is None), None)
 
     def needless(self, allow, given):
         """One that a later one has made needless."""
@@ -980,8 +1118,21 @@ def suggest(search, allow):
 
 
 def add_normalisation(allow, name):
-    print(f"        {name}: {normalisations.ALL[name].does}. It weakens: {normalisations.ALL[name].weakens}")
+    print(f"        {about(name)}")
     allow.append(name)
+
+
+def about(name, often=""):
+    """A normalisation, or a word, with what it does and what is lost by it."""
+    one = {**normalisations.ALL, **normalisations.WORDS}[name]
+    return f"{name}{often}: {one.does}. It weakens: {one.weakens}"
+
+
+def as_asked(allow):
+    """The words of the command by which these are allowed."""
+    names = [name for name in allow if name in normalisations.ALL]
+    words = [name for name in allow if name in normalisations.WORDS]
+    return "".join(f" --{option} {','.join(some)}" for option, some in (("words", words), ("allow", names)) if some)
 
 
 def take_snapshot(search, allow):
@@ -993,8 +1144,9 @@ def take_snapshot(search, allow):
 # ---- words
 
 def list_normalisations():
-    for name, one in normalisations.ALL.items():
-        print(f"{name} ({', '.join(one.worlds)})\n    {one.does}.\n    It weakens: {one.weakens}.")
+    for name, one in {**normalisations.ALL, **normalisations.WORDS}.items():
+        word = ", a word of the header" * (name in normalisations.WORDS)
+        print(f"{name}{word} ({', '.join(one.worlds)})\n    {one.does}.\n    It weakens: {one.weakens}.")
 
 
 class Words(argparse.ArgumentParser):
@@ -1013,21 +1165,31 @@ def read_words():
     words.add_argument("--functions", action="store_true", help="labels are symbols, though there is debug data")
     words.add_argument("--allow", default="", help="normalisations, with commas between")
     words.add_argument("--header", help="the first line of the log, in the place of the one found")
+    words.add_argument("--words", default="", help="words of the header, with commas between")
     words.add_argument("--follow", action="store_true", help="convert while the trace is written")
     words.add_argument("--suggest", action="store_true", help="find the normalisations that the trace needs")
     words.add_argument("--check", help="the checker for --suggest: else $BBM, or the one of this repository")
-    words.add_argument("--list", action="store_true", help="name the normalisations")
+    words.add_argument("--list", action="store_true", help="name the normalisations, and the words")
     asked = words.parse_args()
     asked.allow = [name for name in asked.allow.split(",") if name]
+    asked.words = [word for word in asked.words.split(",") if word]
+    wrong = [word for word in asked.words if word not in normalisations.WORDS]
+    if wrong or (asked.words and asked.header):
+        words.error(f"no word of a header: {', '.join(wrong)}; --list names them" if wrong else "--header has the words itself")
     wrong = [name for name in asked.allow if name not in normalisations.for_world(asked.world)]
     if wrong:
         of_world = f" of the world {asked.world}" if asked.world else ""
         words.error(f"no normalisation{of_world}: {', '.join(wrong)}; --list names them")
     if not asked.list and not asked.trace:
         words.error("WORLD and TRACE are needed")
+    if "out-of-context" in asked.allow and asked.follow:
+        words.error("out-of-context looks ahead over the trace, so --follow can't do it")
     form = form_of(asked.header) if asked.header else None
+    if form and int(asked.header.split()[1]) < 5 and {"stage2-off", "out-of-context"} & set(asked.allow):
+        words.error("a null page in VTTBR_EL2 needs a header of version 5")
     if asked.header and (form is None or (form.asid is None) != (asked.world == "hyp")):
         words.error(f'"{asked.header}" is no header of the world {asked.world} (docs/FORMAT.md)')
+    asked.allow += asked.words
     return asked
 
 
@@ -1054,7 +1216,7 @@ def make_log(asked, world, symbols, out):
             tell(f"the log is in {asked.log}")
     if asked.suggest and is_accepted and status in (0, NO_END):
         what = "nothing is refused, and there is no end, of" if status else "accepted"
-        print(f"{what} {len(numbers)} events" + (f" with --allow {','.join(asked.allow)}" if asked.allow else ", as it is"))
+        print(f"{what} {len(numbers)} events" + (f" with{as_asked(asked.allow)}" if asked.allow else ", as it is"))
         if "snapshot" in asked.allow:
             print(f"not judged: what is before {search.start()}")
     return REFUSED if not is_accepted and status in (0, NO_END) else status

@@ -1,8 +1,9 @@
 # SPDX-License-Identifier: Apache-2.0 OR GPL-2.0-or-later
-"""The departures from what the machine did that bbm_convert can make, each off unless asked for.
+"""The departures from what the machine did that bbm_convert can make, and the words that a header can have for a premise.
+Each is off unless asked for.
 
 For each: the worlds in which it has a meaning, what it does, and what the judgement loses by it. `--suggest` tries them in
-this order, and takes the first of those that get past a refusal.
+this order, those without a further word first, and takes the first of those that get past a refusal.
 """
 from collections import namedtuple
 
@@ -20,24 +21,32 @@ ALL = {
     "isb-between-ttbrs": Normalisation(
         KERNEL, "an ISB is told behind a write of TTBR0_EL1 that names the reserved table, and behind one of TTBR1_EL1",
         "an old value of one of the two registers could be in use for longer than is judged"),
-    "dead-asids": Normalisation(
-        KERNEL, "before the unroot of a dead root, a TLBI of each ASID it was loaded under and a DSB are told",
-        "an ASID that the kernel never flushed after its root died isn't found, until it has another root"),
     "moved-tables": Normalisation(
         KERNEL, "before a table that left its place is linked at another without a store to it, a TLBI of each ASID of its root and a DSB are told",
         "a table that is linked elsewhere before its old place is flushed isn't found"),
-    "reserved-ttbr1": Normalisation(
-        KERNEL, "a write of TTBR1_EL1 that names the reserved table is left out",
-        "the upper range is judged as if it had stayed mapped"),
     "kpti": Normalisation(
         KERNEL, "a second root in TTBR1_EL1 is told as the first; of each pair of ASIDs the even one alone is told",
         "entries under the odd ASID of a process, and those of the second upper root, aren't judged"),
     "mmu-off": Normalisation(
         HYP, "while the MMU of EL2 is off its root register is told as 0",
         "that a PE makes no walk of EL2 then is taken from SCTLR_EL2.M"),
+    "stage2-off": Normalisation(
+        HYP, "while HCR_EL2.VM is 0, VTTBR_EL2 is told with a null page as its base and the VMID that it has",
+        "that a PE makes no walk of stage 2 then is taken from HCR_EL2.VM"),
+    "out-of-context": Normalisation(
+        HYP, "a value of VTTBR_EL2 with which a PE doesn't go below EL2 (any more) is told with a null page as its base and the VMID that it has",
+        "that a PE at EL2 makes no walk of stage 2 is taken from the architecture: that regime is out of context"),
     "no-cnp": Normalisation(
         HYP, "bit 0 of root registers is told as 0, and the header says that TLBs aren't shared",
         "entries that one PE takes from another aren't judged"),
+}
+
+
+# Words of the header of version 5. They are told of no line, and each says that something is true which no trace shows.
+WORDS = {
+    "unflushed": Normalisation(
+        (*KERNEL, *HYP), "the header says that a root may be given up while TLBs may keep what was read through it",
+        "a walk that goes on through a root that was given up isn't found: that there is none is a premise"),
 }
 
 
