@@ -20,7 +20,7 @@ typedef uint64_t u64;
 #define TEST 0x80000000ul      /* the input address at which scenarios map */
 #define IPA 0x40000000ul       /* and the one of stage 2 */
 
-enum { PAGE = 4096, BLOCK = 0x200000, ASID = 1, OTHER_ASID = 2, VMID = 1, LOCK = 3 };
+enum { PAGE = 4096, BLOCK = 0x200000, ASID = 1, OTHER_ASID = 2, VMID = 1, LAST_VMID = 255, LOCK = 3 };
 enum regime { EL1, EL2 };
 
 /* ---- instructions */
@@ -629,6 +629,106 @@ SCENARIO_CODE guest_given_up_while_loaded(void)
 	store(guest_root, 0x123456789ul);
 }
 
+/* ---- scenarios of guests that die and come again, at EL2 */
+
+static u64 guests[2]; /* the first pages of two, of two pages each */
+
+static u64 room_for_guest(void)
+{
+	u64 page = new_page();
+
+	new_page();
+	return page;
+}
+
+/* A guest of one block; no code of it runs. */
+static void make_guest(u64 page)
+{
+	store(page + PAGE + 8 * (IPA >> 21 & 511), guest_leaf(FRAME_A));
+	store(page + 8 * (IPA >> 30), table(page + PAGE));
+	dsb(ishst);
+}
+
+/* It dies: its tables go back at once, and are cleared for what comes. */
+static void free_guest(u64 page)
+{
+	zero(page + PAGE);
+	zero(page);
+	dsb(ishst);
+}
+
+static void run_guest(u64 page, u64 vmid)
+{
+	write_register(vtcr_el2, 0x80023559);
+	write_register(vttbr_el2, page | vmid << 48);
+	isb();
+	write_register(vttbr_el2, 0);
+	isb();
+}
+
+static void run_other_guest(void)
+{
+	run_guest(guests[1], VMID + 1);
+}
+
+static void run_two_guests(void)
+{
+	make_guest(guests[0]);
+	make_guest(guests[1]);
+	run_guest(guests[0], VMID);
+	on_other(run_other_guest);
+	free_guest(guests[0]);
+	free_guest(guests[1]);
+}
+
+static void flush_vmids(void)
+{
+	tlbi(alle1is);
+	dsb(ish);
+}
+
+SCENARIO_CODE guests_come_again(void)
+{
+	guests[0] = room_for_guest();
+	guests[1] = room_for_guest();
+	run_two_guests();
+	flush_vmids();
+	run_two_guests();
+}
+
+SCENARIO_CODE guests_come_again_unflushed(void)
+{
+	guests[0] = room_for_guest();
+	guests[1] = room_for_guest();
+	run_two_guests();
+	run_two_guests();
+}
+
+/* One guest after another, under VMIDs of 8 bits. */
+static void use_up_vmids(bool flushes)
+{
+	u64 page = room_for_guest();
+	int number;
+
+	for (number = 0; number < LAST_VMID + 5; number++) {
+		if (flushes && number == LAST_VMID)
+			flush_vmids();
+		make_guest(page);
+		run_guest(page, 1 + (u64)(number % LAST_VMID));
+		free_guest(page);
+	}
+}
+
+SCENARIO_CODE vmids_used_up(void)
+{
+	use_up_vmids(true);
+}
+
+SCENARIO_CODE vmids_used_up_unflushed(void)
+{
+	use_up_vmids(false);
+}
+
 /* ---- which runs */
 
 static const struct scenario {
@@ -653,6 +753,10 @@ static const struct scenario {
 	{ "hyp stage2_under_another_vmid", EL2, false, stage2_under_another_vmid },
 	{ "hyp guest_given_up", EL2, false, guest_given_up },
 	{ "hyp guest_given_up_while_loaded", EL2, false, guest_given_up_while_loaded },
+	{ "hyp guests_come_again", EL2, false, guests_come_again },
+	{ "hyp guests_come_again_unflushed", EL2, false, guests_come_again_unflushed },
+	{ "hyp vmids_used_up", EL2, false, vmids_used_up },
+	{ "hyp vmids_used_up_unflushed", EL2, false, vmids_used_up_unflushed },
 };
 
 void enter_el1(void);
