@@ -15,7 +15,7 @@ LINK = "docs/BREAK_BEFORE_MAKE.md#where-it-is-stricter-than-the-architecture"
 # The list's words for each case.
 LEAF_AND_TABLE = "{} took the leaves below {}, which bbm says were held before it and aren't now, and not the table: by the architecture one " \
     "TLBI by address takes both, and bbm wants a second one for the table"
-CHILDREN = "{} names one page, and below {} more is held: bbm wants a TLBI for the whole range of a table"
+CHILDREN = "{} takes a part of the range below {}, and there more is held: bbm wants a TLBI for the whole range of a table"
 OWN_PE = "of {} nothing is held at PE {}, which flushed its own TLB, and no other PE ever loaded the root: bbm wants a flush at each PE"
 ROLLOVER = "nothing of the root is held at PE {}, which loads the tag: the architecture asks no more of a PE whose TLB is its own, and bbm " \
     "wants a flush at each PE that had the tag"
