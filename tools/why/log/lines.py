@@ -6,7 +6,7 @@ The forms are those of docs/FORMAT.md. Nothing is judged here: a line that isn't
 from __future__ import annotations
 
 from collections.abc import Iterator, Sequence
-from dataclasses import dataclass, field
+from dataclasses import dataclass, field, replace
 from functools import lru_cache
 
 PAGE_BYTES = 4096
@@ -94,19 +94,28 @@ def padded(word: str, rest: list[str]) -> list[str]:
     return rest + [""] * (least - len(rest)) if word != "isb" else rest
 
 
+# The words of a header in their order, each with the first version that has it; before `WITH_WORDS` the first is a field.
+WORDS, WITH_WORDS = {"cnp": 2, "unflushed": 5}, 5
+
+
 @dataclass(frozen=True)
 class Header:
-    """The fields of the first line: `starts` are what stands between the PEs and the field for CnP."""
+    """The fields of the first line: `starts` are what stands between the PEs and the words, and `words` those that are said."""
 
     version: int
     world: str
     pes: int
     starts: tuple[str, ...]
-    cnp: str
+    words: tuple[str, ...]
 
     def __str__(self) -> str:
-        cnp = [self.cnp] if self.version > 1 else []
-        return " ".join(["bbmlog", str(self.version), self.world, str(self.pes), *self.starts, *cnp])
+        is_field = 1 < self.version < WITH_WORDS and not self.shares
+        return " ".join(["bbmlog", str(self.version), self.world, str(self.pes), *self.starts, *self.words, *["-"] * is_field])
+
+    def saying(self, word: str) -> Header:
+        """The header with this word too, of the first version that has it where this one is older."""
+        words = tuple(said for said in WORDS if said == word or said in self.words)
+        return replace(self, version=max(self.version, WORDS[word]), words=words)
 
     @property
     def is_kernel(self) -> bool:
@@ -114,7 +123,11 @@ class Header:
 
     @property
     def shares(self) -> bool:
-        return self.cnp == "cnp"
+        return "cnp" in self.words
+
+    @property
+    def unflushed(self) -> bool:
+        return "unflushed" in self.words
 
     def start_of(self, kind: str) -> int:
         """The level at which walks of a root of this kind start."""
@@ -126,9 +139,10 @@ class Header:
 
 def header_of(line: str) -> Header:
     fields = line.split(" ")
-    fields += ["0"] * (8 - len(fields))
+    fields += ["0"] * (7 - len(fields))
     version = number(fields[1])
-    return Header(version, fields[2], number(fields[3]), tuple(fields[4:7]), fields[7] if version > 1 else "-")
+    words = tuple(word for word in fields[7:] if version >= WORDS.get(word, version + 1))
+    return Header(version, fields[2], number(fields[3]), tuple(fields[4:7]), words)
 
 
 @dataclass

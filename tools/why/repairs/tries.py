@@ -238,7 +238,7 @@ def worlds(scene: Scene) -> Iterator[Change]:
     event, header = scene.event, scene.header
     world, last = ("hyp", "1") if header.is_kernel else ("kernel", "ttbr0")
     if event.word == "msr" and event.value & 1 and header.version > 1 and not header.shares:
-        yield other_header(replace(header, cnp="cnp"))
+        yield other_header(header.saying("cnp"))
         yield other_value(scene.refused, event.value & ~1)
     yield other_header(replace(header, world=world, starts=(*header.starts[:2], last)))
     if event.word == "root":

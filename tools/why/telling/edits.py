@@ -86,7 +86,9 @@ class Teller:
     def edit(self, edit: Edit) -> str:
         line = self.log.line(edit.at)
         if edit.kind is Kind.HEADER:
-            fault = "lacks `cnp`" if self.header.world == header_of(edit.text).world else "isn't the world of this log"
+            new = header_of(edit.text)
+            said = [f"`{word}`" for word in new.words if word not in self.header.words]
+            fault = f"lacks {' and '.join(said)}" if self.header.world == new.world else "isn't the world of this log"
             return f"line 1: `{self.log.header}` {fault}; `{edit.text}`"
         if isinstance(edit, Swap):
             new = event_of(edit.text)

@@ -10,11 +10,11 @@ from collections.abc import Callable
 from dataclasses import dataclass
 from itertools import zip_longest
 
-from why.log.lines import Header, header_of
+from why.log.lines import WITH_WORDS, WORDS as SAID, Header, header_of
 from why.asking.program import Answer, Verdict, complain
 from why.log.stream import Source
 
-VERSIONS, WORLDS = ("1", "2", "3", "4"), ("hyp", "kernel")
+VERSIONS, WORLDS = ("1", "2", "3", "4", "5"), ("hyp", "kernel")
 PACKED = "the log is {} packed: name it as a file, bbm check LOG"
 # How a file begins that is no text of one byte a letter, and what is said of it.
 OTHERS = {b"\x1f\x8b": PACKED.format("gzip"), b"\xfd7zXZ\0": PACKED.format("xz"), b"\x28\xb5\x2f\xfd": PACKED.format("zstd"),
@@ -105,7 +105,7 @@ def header_fields(version: str, world: str, texts: list[str]) -> dict[str, Field
     level, pages = one_of("0", "1", "2"), one_of("1") if texts[2:3] == ["0"] else one_of("1", "2", "4", "8", "16")
     last = {"S2PAGES": pages} if world == "hyp" else {"ASIDFROM": one_of("ttbr0", "ttbr1")}
     starts = dict.fromkeys(("EL2START", "S2START") if world == "hyp" else ("START0", "START1"), level)
-    cnp = {"CNP": one_of("cnp", "-")} if version != "1" else {}
+    cnp = {"CNP": one_of("cnp", "-")} if 1 < int(version) < WITH_WORDS else {}
     return {"PES": decimal(64 if version in ("1", "2") else 128, least=1), **starts, **last, **cnp}
 
 
@@ -117,9 +117,17 @@ def header_fault(words: list[str]) -> str | None:
     if world not in WORLDS:
         return f"the world is `{world}`, and may be {listed(WORLDS)}"
     fields = header_fields(version, world, texts)
-    form = f"; the form is `bbmlog {version} {world} {' '.join(fields)}`"
-    found = fault_in(texts, fields, form) or fault_behind(texts[len(fields):], form)
+    said = tuple(SAID) if int(version) >= WITH_WORDS else ()
+    form = f"; the form is `bbmlog {version} {world} {' '.join([*fields, *(f'[{word}]' for word in said)])}`"
+    found = fault_in(texts, fields, form) or fault_behind(unsaid(texts[len(fields):], said), form)
     return found.told if found else None
+
+
+def unsaid(texts: list[str], said: tuple[str, ...]) -> list[str]:
+    """What stands behind the words of a header, each of which may stand once, in their order."""
+    for word in said:
+        texts = texts[texts[:1] == [word]:]
+    return texts
 
 
 def fault_of_header(line: bytes) -> str | None:
