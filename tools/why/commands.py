@@ -103,7 +103,9 @@ def say_pending(program: Program, source: Source, asked: Asked) -> int:
     if front is None:
         return say_verdict(answer, source, asked)
     what, found = ("pages", stale.pages_found(program, front)) if asked.pages else ("places", stale.places_found(program, front))
-    emit(stale.as_json(front, what, found, asked.log) if asked.format else stale.text_of(front, what, found, style_of(sys.stdout)))
+    left = None if asked.pages else stale.left_found(program, front)
+    emit(stale.as_json(front, what, found, asked.log, left) if asked.format
+         else stale.text_of(front, what, found, style_of(sys.stdout), left))
     return Status.REFUSED if found else Status.ACCEPTED
 
 

@@ -12,6 +12,7 @@ from functools import cached_property
 
 from why.log import words
 from why.log.lines import ADDRESS_BITS, Before, Line, Log, header_of
+from why.asking.leaving import left_against
 from why.asking.places import INSIDE, LAST_LEVEL, PAGE, Asker, Place, tables_of
 from why.asking.program import Program, Verdict
 from why.telling.style import ranges
@@ -184,8 +185,22 @@ class Tags:
         return Held(load, told)
 
 
+def held_by_left(program: Program, log: Log, refusal: Verdict) -> list[Held]:
+    """The tags that the reported root left: who gave it up, and at each PE where it is left the register write that loaded it."""
+    tags, found = Tags(program, log, refusal), []
+    for left in left_against(program, log, refusal):
+        line = log.line(left.given_up)
+        at = f" at PE {ranges(list(left.pes))}" if left.pes else ""
+        frees = f"; `{left.flush}` and a DSB for it would free that" if left.flush else ""
+        found.append(Held(line, f"{line.name} gave up the root {hex(left.page)}, which left {left.tag.name}{at}{frees}"))
+        found += [tags.held(load, tags.not_flushed(load)) for load in map(log.line, map(left.loaded.get, left.pes))]
+    return found[:1 + TOLD]
+
+
 def held_at(program: Program, log: Log, refusal: Verdict) -> list[Held]:
     """What still holds at a refused line, of the rules that ask for it."""
+    if refusal.name == "tag-conflict" and (found := held_by_left(program, log, refusal)):
+        return found
     if refusal.name in OF_PLACES:
         return Places(program, log, refusal).search()
     return Tags(program, log, refusal).search() if refusal.name in OF_TAGS else []

@@ -135,12 +135,13 @@ def tlbis_for(scene: Scene, kind: str) -> list[str]:
 
 def positions(scene: Scene) -> list[tuple[int, int]]:
     """Behind which lines a TLBI may be put in, and by which PE: before and behind each near DSB by that PE, behind the last
-    ISBs, and before the refused line."""
+    ISBs, and before the refused line; there first where a tag was left, since its flush is put off until the tag is used again."""
     near = scene.near("dsb")
     found = [(at, line.event.pe) for line in near for at in (line.at, line.at - 1)]
     synced = [line.at for line in scene.in_window("isb")[-2:]] if is_about_tags(scene) else []
     ends = [*(line.at for line in near), *synced, scene.refused.at - 1]
-    return list(dict.fromkeys([*found, *((at, pe) for pe in scene.pes[:2] for at in ends)]))
+    first = [(scene.refused.at - 1, scene.event.pe)] if scene.is_about_left else []
+    return list(dict.fromkeys([*first, *found, *((at, pe) for pe in scene.pes[:2] for at in ends)]))
 
 
 def flushes(scene: Scene) -> Iterator[Flush]:

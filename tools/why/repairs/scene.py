@@ -151,10 +151,17 @@ class Scene:
     def spots(self) -> list[Spot]:
         return [spot for place in self.places if (spot := self.spot(place))]
 
+    @property
+    def is_about_left(self) -> bool:
+        """Whether rule 12 reports a root that was given up."""
+        return self.refusal.name == "tag-conflict" and any(line.event.page == self.refusal.at for line in self.of_word("unroot"))
+
     @cached_property
     def kinds(self) -> list[str]:
-        """The kinds of the trees that the refusal is about."""
+        """The kinds of the trees that the refusal is about; first that of the root that left a tag."""
         named = [spot.kind for spot in self.spots]
+        if self.is_about_left and self.reported in self.roots:
+            named.append(self.roots[self.reported][0])
         if self.event.word == "msr":
             named.append(KIND_OF_REGISTER.get(self.event.rest[0], "el2"))
         if self.event.page in self.roots:

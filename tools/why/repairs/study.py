@@ -172,6 +172,7 @@ class Study:
     loading: Numbers
     held: list[Held]
     stricter: list[str]
+    repairer: Repairer
 
     @property
     def header(self) -> str:
@@ -247,4 +248,4 @@ def studied(program: Program, log: Log, refusal: Verdict) -> Study:
     repairs = [replace(repair, note=use_after_free(shrinker, repair.change)) for repair in repairs]
     small = with_repairs(shrinker, repairer, repairs, kept, tried)
     stricter = Strictness(program, log, refusal, scene, kept).named()
-    return Study(program, log, refusal, scene, log.lines(small), repairs, shrinker.index.loading(), kept, stricter)
+    return Study(program, log, refusal, scene, log.lines(small), repairs, shrinker.index.loading(), kept, stricter, repairer)

@@ -43,7 +43,7 @@ def goals(scene: Scene, line: Line) -> list[int]:
 def before_what_broke(scene: Scene) -> list[int]:
     """Behind which lines the refused one may stand to come before what it collides with."""
     page = scene.event.page
-    broke = [line.at for line in scene.lines[:-1] if line.event.word == "unroot" or
+    broke = [line.at for line in scene.lines[:-1] if line.event.word == "unroot" and not scene.is_about_left or
              line.event.word == "w" and line.event.place in scene.places and not line.event.value & 1]
     declared = [line.at for line in scene.lines[:-1] if line.event.word == "null" and line.event.page == page]
     return [at - 1 for at in (*broke[-2:], *declared) if at > 2]

@@ -5,6 +5,7 @@ from __future__ import annotations
 import json
 import textwrap
 from dataclasses import dataclass, field
+from functools import cached_property
 
 from why.asking import runs
 from why.asking.least import reduced
@@ -12,6 +13,7 @@ from why.asking.program import Answer
 from why.log.lines import Line, Lines, written
 from why.log.stream import Source
 from why.repairs.changes import Drop, Edit, Move, Put
+from why.repairs.given_up import under_unflushed
 from why.repairs.strictness import LINK
 from why.repairs.study import Repair, Study, positions
 from why.telling import lanes
@@ -22,6 +24,9 @@ from why.telling.rules import cause_of, rule_of
 from why.telling.style import BOLD, Style
 
 TOO_MANY = 400
+# When a header may say `unflushed`, by docs/LOGGING.md.
+UNFLUSHED = "That is right to say where the kernel flushes a VMID or ASID before another root gets it, and no walk of a root " \
+    "goes on once the root was given up (docs/LOGGING.md, \"Roots that are given up\")."
 
 
 @dataclass
@@ -122,6 +127,17 @@ class Parts:
         told = [wrapped(f"{text} ({LINK})", self.style) for text in self.study.stricter]
         return [self.head("Here bbm is stricter than the architecture"), *told] if told else []
 
+    @cached_property
+    def of_unflushed(self) -> Repair | None:
+        return under_unflushed(self.study.repairer)
+
+    def unflushed(self) -> list[str]:
+        """What a header with `unflushed` would change where a root is given up while it holds a tag."""
+        if self.of_unflushed is None:
+            return []
+        told = [*self.teller.repair(self.of_unflushed), UNFLUSHED]
+        return [self.head("If the kernel flushes later, by bbm"), *(wrapped(text, self.style) for text in told)]
+
     def run(self) -> list[str]:
         told = self.views.told
         if told is None:
@@ -145,7 +161,8 @@ class Parts:
 
 
 def text_of(answer: Answer, parts: Parts) -> str:
-    shown = [[answer.first], parts.small(), parts.held(), parts.repairs(), parts.stricter(), parts.run(), parts.lanes(), parts.rule()]
+    shown = [[answer.first], parts.small(), parts.held(), parts.repairs(), parts.unflushed(), parts.stricter(), parts.run(),
+             parts.lanes(), parts.rule()]
     return "\n\n".join("\n".join(part) for part in shown if part) + "\n"
 
 
@@ -188,6 +205,7 @@ def as_json(parts: Parts, finding: Finding) -> str:
     told = {"header": study.header, "small": [named(line) for line in study.small],
             "held": [{"told": one.told, **named(one.line)} for one in study.held],
             "repairs": [repair_of(repair, parts.teller) for repair in study.repairs],
+            "unflushed": parts.of_unflushed and repair_of(parts.of_unflushed, parts.teller),
             **({"stricter": study.stricter} if study.stricter else {}),
             "run": {"lines": [line.at for line in run.lines], "told": run.told()} if run else None}
     return json.dumps({**finding.fields, **told}) + "\n"

@@ -203,7 +203,8 @@ def html(parts: Parts, answer: Answer) -> str:
     """The whole answer: the text's parts, with the picture in the place of the lanes."""
     parts = replace(parts, style=Style(100, False, True))
     picture = f'<h2>Lanes</h2>\n<div class="picture">\n{svg(parts, answer)}</div>\n'
-    first, *more = [section(part) for part in (parts.repairs(), parts.stricter(), parts.held(), parts.small(), parts.run()) if part]
+    shown = (parts.repairs(), parts.unflushed(), parts.stricter(), parts.held(), parts.small(), parts.run())
+    first, *more = [section(part) for part in shown if part]
     rule = parts.rule()
     return "<!DOCTYPE html>\n<html lang=\"en\">\n<head>\n<meta charset=\"utf-8\">\n" \
            "<meta name=\"viewport\" content=\"width=device-width, initial-scale=1\">\n" \

@@ -6,7 +6,8 @@ import json
 import os
 from dataclasses import dataclass
 
-from why.log.lines import event_of
+from why.log.lines import event_of, header_of
+from why.asking.leaving import Left, left_tags
 from why.asking.reuses import reused_pages
 from why.asking.places import stale_places
 from why.asking.program import Answer, Program, Status, Unable
@@ -57,9 +58,14 @@ def front_of(source: Source, label: str, nth: int, answer: Answer) -> Front | No
     raise Unable(Status.USAGE, f"no line number {nth} has the label {label}")
 
 
-def labels_of(front: Front, found: list[Found]) -> dict[int, str]:
+def left_found(program: Program, front: Front) -> list[Left] | None:
+    """The tags that are left; None where the header doesn't say that any may be."""
+    return left_tags(program, front) if header_of(front.header).unflushed else None
+
+
+def labels_of(front: Front, found: list[Found], left: list[Left] | None = None) -> dict[int, str]:
     """The labels of the lines that are named."""
-    wanted = {at for one in found for at in one.lines.values()}
+    wanted = {*(at for one in found for at in one.lines.values()), *(one.given_up for one in left or ())}
     return {at: event_of(line.decode("latin-1")).label for at, line in front.lines() if at in wanted} if wanted else {}
 
 
@@ -76,12 +82,30 @@ def fields(one: Found, labels: dict[int, str]) -> dict:
     return {**{word: hex(address) for word, address in one.addresses.items()}, **lines, "phases": one.by_phase()}
 
 
-def as_json(front: Front, what: str, found: list[Found], log: str) -> str:
-    labels = labels_of(front, found)
-    named = {"verdict": "accepted", "events": front.events, what: [fields(one, labels) for one in found], **({"log": log} if log else {})}
+def told_left(one: Left, labels: dict[int, str], style: Style) -> str:
+    """A line: the tag, the root that left it, the line that gave the root up, the PEs, and the TLBI that frees the tag."""
+    label = f" @{labels[one.given_up]}" if labels[one.given_up] else ""
+    pes = [f"pes {ranges(list(one.pes))}"] if one.pes else []
+    flush = [f"flush {one.flush}"] if one.flush else []
+    root = f"root {style.painted(hex(one.page), BOLD)} unroot line {one.given_up}{label}"
+    return " ".join(["left", one.tag.word, str(one.tag.number), root, *pes, *flush]) + "\n"
+
+
+def fields_left(one: Left, labels: dict[int, str]) -> dict:
+    line = {"line": one.given_up, **({"label": labels[one.given_up]} if labels[one.given_up] else {})}
+    return {"tag": one.tag.word, "number": one.tag.number, "root": hex(one.page), "unroot": line, "pes": list(one.pes),
+            "flush": one.flush}
+
+
+def as_json(front: Front, what: str, found: list[Found], log: str, left: list[Left] | None = None) -> str:
+    labels = labels_of(front, found, left)
+    named = {"verdict": "accepted", "events": front.events, what: [fields(one, labels) for one in found],
+             **({} if left is None else {"left": [fields_left(one, labels) for one in left]}), **({"log": log} if log else {})}
     return json.dumps(named) + "\n"
 
 
-def text_of(front: Front, what: str, found: list[Found], style: Style) -> str:
-    labels = labels_of(front, found)
-    return f"accepted {front.events} events\npending {len(found)} {what}\n" + "".join(told(one, labels, style) for one in found)
+def text_of(front: Front, what: str, found: list[Found], style: Style, left: list[Left] | None = None) -> str:
+    labels = labels_of(front, found, left)
+    lines = [f"accepted {front.events} events\n", f"pending {len(found)} {what}\n", *(told(one, labels, style) for one in found)]
+    lines += [] if left is None else [f"left {len(left)} tags\n", *(told_left(one, labels, style) for one in left)]
+    return "".join(lines)
