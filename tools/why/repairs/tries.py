@@ -12,7 +12,8 @@ from itertools import combinations
 from why.log import words
 from why.log.lines import PAGE_BYTES, Header, Line
 from why.repairs.changes import Change, Drop, Kind, Move, Swap, one, puts
-from why.repairs.flushes import Family, broadcast, operands, sequences, under_its_vmid, whole_sequences, with_pe, with_words
+from why.repairs.flushes import Family, broadcast, elsewhere, loading, operands, sequences, under_its_vmid, whole_sequences
+from why.repairs.flushes import with_pe, with_words
 from why.repairs.scene import Scene
 
 NEAR = 8
@@ -204,6 +205,13 @@ def other_tag(scene: Scene) -> Iterator[Change]:
         yield other_value(scene.refused, event.value & (1 << words.ASID_SHIFT) - 1 | free << words.ASID_SHIFT)
 
 
+def switched_away(scene: Scene) -> Iterator[Change]:
+    """Another value and an ISB at each PE that has the root loaded, which is enough under `unflushed`."""
+    pes = loading(scene)
+    for register, value in elsewhere(scene):
+        yield puts(scene.refused.at - 1, *(text for pe in pes for text in (f"msr {pe} {register} {value}", f"isb {pe}")))
+
+
 def unsynced_vmid(scene: Scene) -> Iterator[Change]:
     pe = scene.event.pe
     written = [line.at for line in scene.of_word("msr") if line.event.pe == pe]
@@ -256,8 +264,8 @@ def wrong_world(scene: Scene) -> Iterator[Change]:
 TRIES: dict[str, Callable[[Scene], Iterator[Change]]] = {
     "wrong-world": wrong_world, "no-lock": no_lock, "null-written": null_written, "not-fresh": not_fresh,
     "rewritten-fresh": rewritten_fresh, "bad-kind": bad_kind, "global-user": global_user, "page-in-use": page_in_use,
-    "no-root": no_root, "unsynced-vmid": unsynced_vmid, "lock-busy": lock_busy, "lock-not-mine": lock_not_mine,
-    "tag-conflict": other_tag,
+    "no-root": no_root, "root-in-use": switched_away, "unsynced-vmid": unsynced_vmid, "lock-busy": lock_busy,
+    "lock-not-mine": lock_not_mine, "tag-conflict": other_tag,
 }
 
 
