@@ -198,7 +198,9 @@ def no_root(scene: Scene) -> Iterator[Change]:
 
 
 def other_tag(scene: Scene) -> Iterator[Change]:
-    """An ASID or VMID in the refused line that no register write has."""
+    """An ASID or VMID in the refused line that no register write has. What a root left is flushed instead."""
+    if scene.is_about_left:
+        return
     event, register = scene.event, "vttbr_el2" if not scene.header.is_kernel else f"{scene.header.starts[2]}_el1"
     free = next(tag for tag in range(1, len(scene.tags) + 2) if tag not in scene.tags)
     if event.word == "msr" and event.rest[0] == register:
