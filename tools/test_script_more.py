@@ -109,10 +109,11 @@ class Options(Case):
     def test_refused(self):
         forms = {"check": "[LOG..] [--format gcc|github|json]", "slow": "[LOG..]", "partial": "[LOG..]", "shrink": "[LOG..] [--least] [--rename]",
                  "why": "[LOG..] [--svg FILE] [--html FILE] [--whole] [--format json]", "walk": "KIND ROOT ADDR [LOG..]", "gen": "N COUNT",
-                 "pending": "[LOG..] [--pages] [--at LABEL] [--nth N] [--format json]"}
+                 "findings": "[LOG..] [--most N] [--format gcc|github|json|sarif]", "pending": "[LOG..] [--pages] [--at LABEL] [--nth N] [--format json]"}
         for words, told in (
             ("check --format xml", "--format xml: it may be gcc|github|json"), ("check --format", "--format needs a value"),
-            ("check --format= log", "--format needs a value"), ("why --format gcc log", "--format gcc: it may be json"), ("slow log --least", "slow takes no --least"),
+            ("check --format= log", "--format needs a value"), ("why --format gcc log", "--format gcc: it may be json"), ("findings --most 0", "--most 0: it may be a number from 1"),
+            ("findings --format xml", "--format xml: it may be gcc|github|json|sarif"), ("findings --format sarif log log", "--format sarif is for one log"), ("slow log --least", "slow takes no --least"),
             ("why --who log", "why takes no --who"), ("why -x", "why takes no -x"), ("pending --page", "pending takes no --page"), ("pending --at ''", "--at needs a value"),
             ("pending --at", "--at needs a value"), ("pending --nth 2 log", "--nth is for the lines that --at names"), ("pending --at a --nth 0", "--nth 0: it may be a number from 1"),
             ("pending --at a --nth x", "--nth x: it may be a number from 1"), ("shrink --least=yes", "--least takes no value"), ("partial --pages", "partial takes no --pages"),
@@ -134,7 +135,7 @@ class Options(Case):
         for word, options, _ in rows:
             said, _, _ = self.run_in(f"bbm {word} --no-such")
             self.assertEqual(re.findall(r"\[(--[^]]*)\]", said), re.findall(r"`(--[^`]*)`", options.replace("\\", "")), word)
-        self.assertEqual([row[0] for row in rows], ["check", "why", "shrink", "pending", "partial"])
+        self.assertEqual([row[0] for row in rows], ["check", "why", "findings", "shrink", "pending", "partial"])
 
 
 class Logs(Case):

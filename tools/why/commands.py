@@ -24,13 +24,15 @@ class Asked:
     nth: int = 1
     least: bool = False
     rename: bool = False
+    most: int = 20
 
 
 def asked_of(options: list[str]) -> Asked:
     """The options that the script gives: it has judged them."""
     parts = [option.removeprefix("--").partition("=") for option in options]
     values = {name: (value if sign else True) for name, sign, value in parts}
-    return Asked(**{**values, "nth": int(values.get("nth", 1))})
+    numbers = {name: int(values[name]) for name in ("nth", "most") if name in values}
+    return Asked(**{**values, **numbers})
 
 
 def say_verdict(answer: Answer, source: Source, asked: Asked) -> int:
@@ -72,6 +74,19 @@ def say_why(program: Program, source: Source, asked: Asked) -> int:
             with faults(path, Status.UNWRITTEN), open(path, "w", encoding="utf-8") as file:
                 file.write(make(parts, answer))
     return answer.status
+
+
+def say_findings(program: Program, source: Source, asked: Asked) -> int:
+    from why.log.lines import Log
+    from why.repairs.findings import Findings, findings_of
+    from why.telling.findings import FORMS, Report
+
+    first = source.answer(program, "check")
+    log = Log(source.read() if first.refusal else b"")
+    findings = findings_of(program, log, first, asked.most) if first.refusal else Findings([], first)
+    emit(FORMS[asked.format](Report(log, asked.log, findings)))
+    explain(findings.last, source)
+    return Status.REFUSED if findings.last.accepted and findings.found else findings.last.status
 
 
 def say_shrink(program: Program, source: Source, asked: Asked) -> int:
@@ -126,7 +141,7 @@ def say_line(program: Program, source: Source, words: list[str]) -> int:
     return Status.ACCEPTED
 
 
-COMMANDS = {"check": say_check, "why": say_why, "shrink": say_shrink, "pending": say_pending, "partial": say_partial}
+COMMANDS = {"check": say_check, "why": say_why, "findings": say_findings, "shrink": say_shrink, "pending": say_pending, "partial": say_partial}
 
 
 def run(word: str, *items: str) -> int:

@@ -1,6 +1,6 @@
 #!/usr/bin/env python3
 # SPDX-License-Identifier: Apache-2.0
-"""From a refusal to the fix: the words `why`, `shrink`, `pending`, `partial` and `check --format` of the script ./bbm.
+"""From a refusal to the fix: the words `why`, `findings`, `shrink`, `pending`, `partial` and `check --format` of the script ./bbm.
 
     main.py WORD [OPERAND..] [--log=NAME] [--OPTION[=VALUE]..]
 

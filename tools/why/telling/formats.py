@@ -56,18 +56,27 @@ def finding_of(answer: Answer, log: str = "") -> Finding:
     return Finding(verdict, log, label.group(1), int(label.group(2))) if label else Finding(verdict, log)
 
 
+def place_of(finding: Finding) -> str:
+    """The file, and its line where one decides."""
+    line = finding.file_line or finding.verdict.line
+    return f"{finding.file or finding.log or UNNAMED}{f':{line}' if line else ''}"
+
+
 def gcc(finding: Finding) -> str:
-    file = finding.file or finding.log or UNNAMED
-    if finding.verdict.word == "accepted":
-        return f"{file}: note: {finding.message} [bbm]"
-    return f"{file}:{finding.file_line or finding.verdict.line}: error: {finding.message} [{finding.tag}]"
+    kind = "note" if finding.verdict.word == "accepted" else "error"
+    return f"{place_of(finding)}: {kind}: {finding.message} [{finding.tag}]"
 
 
-def escaped(text: str) -> str:
+def escaped(text: str, signs: str = "%\r\n:,") -> str:
     """A value of a workflow command, without its separators."""
-    for sign in "%\r\n:,":
+    for sign in signs:
         text = text.replace(sign, f"%{ord(sign):02X}")
     return text
+
+
+def data(text: str) -> str:
+    """What stands behind the values of a workflow command."""
+    return escaped(text, "%\r\n")
 
 
 def github(finding: Finding) -> str:

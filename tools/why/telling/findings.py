@@ -1,0 +1,105 @@
+# SPDX-License-Identifier: Apache-2.0
+"""`findings`: every refusal of a log with its change, as a text and in the forms of docs/OUTPUT.md."""
+from __future__ import annotations
+
+import json
+from urllib.parse import quote
+
+from why.asking.program import Answer
+from why.log.lines import Log
+from why.repairs.findings import Findings, Found
+from why.telling import formats
+from why.telling.answer import edit_of
+from why.telling.edits import Teller
+
+SCHEMA = "https://json.schemastore.org/sarif-2.1.0.json"
+
+
+def changes(count: int) -> str:
+    """How the changes of so many findings, from the first on, are named."""
+    return "" if not count else "with the change of finding 1" if count == 1 else f"with the changes of findings 1 to {count}"
+
+
+class Report:
+    """What was found of one log, whose name is empty where it has none."""
+
+    def __init__(self, log: Log, name: str, findings: Findings):
+        self.name, self.found, self.last, self.teller = name, findings.found, findings.last, Teller(log)
+
+    def told(self, one: Found) -> list[str]:
+        """The change of a finding, a text for each of its parts."""
+        return self.teller.repair(one.repair)[:-1] if one.repair else ["nothing of what is tried gets past it"]
+
+    def end(self) -> str:
+        """Where it ends, and what the program says there."""
+        count = len(self.found)
+        if self.found and self.found[-1].repair is None:
+            return f"it stops at line {self.last.line}, and nothing behind that is judged"
+        said = "the whole log is accepted" if self.last.accepted else f"`{self.last.first}`, and nothing behind that is judged"
+        return " ".join(filter(None, (changes(count), said)))
+
+    def text(self) -> str:
+        lines = []
+        for count, one in enumerate(self.found, 1):
+            lines += [f"finding {count}: {one.answer.first}", *(f"  {text}" for text in (changes(count - 1), *self.told(one)) if text)]
+        return "".join(f"{line}\n" for line in (*lines, f"findings {len(self.found)}: {self.end()}"))
+
+    # ---- forms
+
+    @property
+    def is_judged(self) -> bool:
+        """Whether the end is a refusal or the acceptance of the log with all changes, and no line that can't be judged."""
+        return self.last.accepted or self.last.refusal is not None
+
+    def shown(self) -> list[Answer]:
+        """The answers to show: the findings, and a line that can't be judged; or where there is neither that the log is accepted."""
+        more = [] if self.found and self.is_judged else [self.last]
+        return [*(one.answer for one in self.found), *more]
+
+    def notes(self) -> list[str]:
+        """For each shown answer of which log it is, and its change."""
+        notes = [", ".join(filter(None, (changes(count), *self.told(one)))) for count, one in enumerate(self.found)]
+        return notes + [changes(len(self.found))] * (len(self.shown()) - len(notes))
+
+    def gcc(self) -> str:
+        lines = []
+        for answer, note in zip(self.shown(), self.notes()):
+            finding = formats.finding_of(answer, self.name)
+            lines += [formats.gcc(finding), *([f"{formats.place_of(finding)}: note: {note} [bbm]"] if note else [])]
+        return "".join(f"{line}\n" for line in lines)
+
+    def github(self) -> str:
+        told = zip(self.shown(), self.notes())
+        return "".join(f"{formats.github(formats.finding_of(answer, self.name))}{': ' + formats.data(note) if note else ''}\n" for answer, note in told)
+
+    def objects(self) -> list[dict]:
+        """One for each shown answer."""
+        objects = [formats.finding_of(answer, self.name).fields for answer in self.shown()]
+        nexts = [*(one.answer for one in self.found[1:]), self.last]
+        for count, (one, whole) in enumerate(zip(self.found, nexts)):
+            repair = {"edits": [edit_of(edit) for edit in one.repair.change.edits], "told": self.told(one),
+                      "whole": formats.finding_of(whole).fields} if one.repair else None
+            objects[count] |= {"finding": count + 1, "repair": repair}
+        return objects
+
+    def json(self) -> str:
+        return "".join(json.dumps(it) + "\n" for it in self.objects())
+
+    def results(self) -> list[dict]:
+        """The results of SARIF: one for each shown answer that isn't an acceptance."""
+        results = []
+        for answer, note in zip(self.shown(), self.notes()):
+            finding = formats.finding_of(answer, self.name)
+            text = f"{finding.message}, line {answer.line} of the log" + (f": {note}" if note else "")
+            place = {"artifactLocation": {"uri": quote(finding.file or self.name or formats.UNNAMED)},
+                     "region": {"startLine": finding.file_line or answer.line}}
+            results += [] if answer.accepted else [{"ruleId": finding.tag, "level": "error", "message": {"text": text},
+                                                    "locations": [{"physicalLocation": place}]}]
+        return results
+
+    def sarif(self) -> str:
+        run = {"tool": {"driver": {"name": "bbm"}}, "results": self.results()}
+        return json.dumps({"$schema": SCHEMA, "version": "2.1.0", "runs": [run]}) + "\n"
+
+
+FORMS = {"": Report.text, "gcc": Report.gcc, "github": Report.github, "json": Report.json, "sarif": Report.sarif}
