@@ -109,11 +109,12 @@ class Options(Case):
     def test_refused(self):
         forms = {"check": "[LOG..] [--format gcc|github|json]", "slow": "[LOG..]", "partial": "[LOG..]", "shrink": "[LOG..] [--least] [--rename]",
                  "why": "[LOG..] [--svg FILE] [--html FILE] [--whole] [--format json]", "walk": "KIND ROOT ADDR [LOG..]", "gen": "N COUNT",
-                 "findings": "[LOG..] [--most N] [--format gcc|github|json|sarif]", "pending": "[LOG..] [--pages] [--at LABEL] [--nth N] [--format json]"}
+                 "findings": "[LOG..] [--most N] [--known FILE] [--write-known FILE] [--format gcc|github|json|sarif]", "pending": "[LOG..] [--pages] [--at LABEL] [--nth N] [--format json]"}
         for words, told in (
             ("check --format xml", "--format xml: it may be gcc|github|json"), ("check --format", "--format needs a value"),
             ("check --format= log", "--format needs a value"), ("why --format gcc log", "--format gcc: it may be json"), ("findings --most 0", "--most 0: it may be a number from 1"),
-            ("findings --format xml", "--format xml: it may be gcc|github|json|sarif"), ("findings --format sarif log log", "--format sarif is for one log"), ("slow log --least", "slow takes no --least"),
+            ("findings --format xml", "--format xml: it may be gcc|github|json|sarif"), ("findings --format sarif log log", "--format sarif is for one log"),
+            ("findings --known", "--known needs a value"), ("findings --write-known x log log", "--write-known is for one log"), ("slow log --least", "slow takes no --least"),
             ("why --who log", "why takes no --who"), ("why -x", "why takes no -x"), ("pending --page", "pending takes no --page"), ("pending --at ''", "--at needs a value"),
             ("pending --at", "--at needs a value"), ("pending --nth 2 log", "--nth is for the lines that --at names"), ("pending --at a --nth 0", "--nth 0: it may be a number from 1"),
             ("pending --at a --nth x", "--nth x: it may be a number from 1"), ("shrink --least=yes", "--least takes no value"), ("partial --pages", "partial takes no --pages"),
@@ -126,6 +127,9 @@ class Options(Case):
         self.ask(("cp log b; bbm partial log b", f"log: {JUDGED}\nb: {JUDGED}"), ("bbm why log b", f"log: {ACCEPTED}\nb: {ACCEPTED}"),
                  *((f"bbm {word} --format json log b", f'{NAMED}{more}, "log": "log"}}\n{NAMED}{more}, "log": "b"}}')
                    for word, more in (("check", ""), ("why", ""), ("pending", ', "places": []'), ("pending --pages", ', "pages": []'))),
+                 ("echo 4 @a >k; bbm findings --known k log", "unmet line 1 of k: 4 @a\nfindings 0: the whole log is accepted"),
+                 ("bbm findings --known k log b", "log: findings 0: the whole log is accepted\nb: findings 0: the whole log is accepted"),
+                 ("bbm findings --known b log", "", "bbm: b: line 1 isn't `RULE @LABEL` or `RULE PLACE`, and ..", 70),
                  ("bbm check --format json <log", f"{NAMED}}}"), ("ENDS=1 bbm check log b", f"log: {ACCEPTED}\nb: {ACCEPTED}", "", 1))
 
     def test_table_of_the_documents(self):

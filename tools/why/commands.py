@@ -25,12 +25,15 @@ class Asked:
     least: bool = False
     rename: bool = False
     most: int = 20
+    known: str = ""
+    write_known: str = ""
+    several: bool = False
 
 
 def asked_of(options: list[str]) -> Asked:
     """The options that the script gives: it has judged them."""
     parts = [option.removeprefix("--").partition("=") for option in options]
-    values = {name: (value if sign else True) for name, sign, value in parts}
+    values = {name.replace("-", "_"): (value if sign else True) for name, sign, value in parts}
     numbers = {name: int(values[name]) for name in ("nth", "most") if name in values}
     return Asked(**{**values, **numbers})
 
@@ -79,14 +82,19 @@ def say_why(program: Program, source: Source, asked: Asked) -> int:
 def say_findings(program: Program, source: Source, asked: Asked) -> int:
     from why.log.lines import Log
     from why.repairs.findings import Findings, findings_of
+    from why.telling import known
     from why.telling.findings import FORMS, Report
 
+    deviations = known.read(asked.known) if asked.known else []
     first = source.answer(program, "check")
     log = Log(source.read() if first.refusal else b"")
     findings = findings_of(program, log, first, asked.most) if first.refusal else Findings([], first)
-    emit(FORMS[asked.format](Report(log, asked.log, findings)))
+    report = Report(log, asked.log, findings, deviations, "" if asked.several else asked.known)
+    if asked.write_known:
+        known.write(asked.write_known, [one.answer.refusal for one in findings.found], deviations, asked.log)
+    emit(FORMS[asked.format](report))
     explain(findings.last, source)
-    return Status.REFUSED if findings.last.accepted and findings.found else findings.last.status
+    return report.status
 
 
 def say_shrink(program: Program, source: Source, asked: Asked) -> int:

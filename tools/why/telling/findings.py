@@ -11,6 +11,7 @@ from why.repairs.findings import Findings, Found
 from why.telling import formats
 from why.telling.answer import edit_of
 from why.telling.edits import Teller
+from why.telling.known import Deviation, met
 
 SCHEMA = "https://json.schemastore.org/sarif-2.1.0.json"
 
@@ -21,10 +22,18 @@ def changes(count: int) -> str:
 
 
 class Report:
-    """What was found of one log, whose name is empty where it has none."""
+    """What was found of one log, whose name is empty where it has none; which findings are known, and the lines of the file of
+    known deviations that none of them meets, where these are told."""
 
-    def __init__(self, log: Log, name: str, findings: Findings):
-        self.name, self.found, self.last, self.teller = name, findings.found, findings.last, Teller(log)
+    def __init__(self, log: Log, name: str, findings: Findings, deviations: list[Deviation], path: str = ""):
+        self.name, self.found, self.last, self.teller, self.path = name, findings.found, findings.last, Teller(log), path
+        self.known = [met(deviations, one.answer.refusal) for one in self.found]
+        self.unmet = [it for it in deviations if path and not any(it.meets(one.answer.refusal) for one in self.found)]
+
+    @property
+    def status(self) -> int:
+        """Known findings don't count, where the log was judged to its end."""
+        return self.last.status or int(not all(self.known))
 
     def told(self, one: Found) -> list[str]:
         """The change of a finding, a text for each of its parts."""
@@ -41,8 +50,12 @@ class Report:
     def text(self) -> str:
         lines = []
         for count, one in enumerate(self.found, 1):
-            lines += [f"finding {count}: {one.answer.first}", *(f"  {text}" for text in (changes(count - 1), *self.told(one)) if text)]
-        return "".join(f"{line}\n" for line in (*lines, f"findings {len(self.found)}: {self.end()}"))
+            known = self.known[count - 1]
+            texts = [*([f"known: {known}"] if known else []), changes(count - 1), *self.told(one)]
+            lines += [f"finding {count}: {one.answer.first}", *(f"  {text}" for text in texts if text)]
+        lines += [f"unmet line {it.line} of {self.path}: {it}" for it in self.unmet]
+        count = sum(map(bool, self.known))
+        return "".join(f"{line}\n" for line in (*lines, f"findings {len(self.found)}{f', {count} known' * bool(count)}: {self.end()}"))
 
     # ---- forms
 
@@ -59,18 +72,25 @@ class Report:
     def notes(self) -> list[str]:
         """For each shown answer of which log it is, and its change."""
         notes = [", ".join(filter(None, (changes(count), *self.told(one)))) for count, one in enumerate(self.found)]
+        notes = [f"known, {known.comment}: {note}" if known and known.comment else note for known, note in zip(self.known, notes)]
         return notes + [changes(len(self.found))] * (len(self.shown()) - len(notes))
+
+    def shown_findings(self) -> list[tuple[formats.Finding, str]]:
+        """What is shown, with its note."""
+        known = [*map(bool, self.known), False]
+        return [(formats.finding_of(answer, self.name, is_known), note) for answer, note, is_known in zip(self.shown(), self.notes(), known)]
 
     def gcc(self) -> str:
         lines = []
-        for answer, note in zip(self.shown(), self.notes()):
-            finding = formats.finding_of(answer, self.name)
+        for finding, note in self.shown_findings():
             lines += [formats.gcc(finding), *([f"{formats.place_of(finding)}: note: {note} [bbm]"] if note else [])]
+        lines += [f"{self.path}:{it.line}: note: no finding meets {it} [bbm]" for it in self.unmet]
         return "".join(f"{line}\n" for line in lines)
 
     def github(self) -> str:
-        told = zip(self.shown(), self.notes())
-        return "".join(f"{formats.github(formats.finding_of(answer, self.name))}{': ' + formats.data(note) if note else ''}\n" for answer, note in told)
+        lines = [formats.github(finding) + (f": {formats.data(note)}" if note else "") for finding, note in self.shown_findings()]
+        lines += [f"::notice file={formats.escaped(self.path)},line={it.line},title=bbm::no finding meets {formats.data(str(it))}" for it in self.unmet]
+        return "".join(f"{line}\n" for line in lines)
 
     def objects(self) -> list[dict]:
         """One for each shown answer."""
@@ -79,8 +99,9 @@ class Report:
         for count, (one, whole) in enumerate(zip(self.found, nexts)):
             repair = {"edits": [edit_of(edit) for edit in one.repair.change.edits], "told": self.told(one),
                       "whole": formats.finding_of(whole).fields} if one.repair else None
-            objects[count] |= {"finding": count + 1, "repair": repair}
-        return objects
+            known = self.known[count]
+            objects[count] |= {"finding": count + 1, "repair": repair, **({"known": known.comment} if known else {})}
+        return objects + [{"verdict": "unmet", "text": str(it), "file": self.path, "file_line": it.line} for it in self.unmet]
 
     def json(self) -> str:
         return "".join(json.dumps(it) + "\n" for it in self.objects())
@@ -88,13 +109,14 @@ class Report:
     def results(self) -> list[dict]:
         """The results of SARIF: one for each shown answer that isn't an acceptance."""
         results = []
-        for answer, note in zip(self.shown(), self.notes()):
-            finding = formats.finding_of(answer, self.name)
-            text = f"{finding.message}, line {answer.line} of the log" + (f": {note}" if note else "")
+        for (finding, note), known in zip(self.shown_findings(), [*self.known, None]):
+            line = finding.verdict.line
+            text = f"{finding.message}, line {line} of the log" + (f": {note}" if note else "")
             place = {"artifactLocation": {"uri": quote(finding.file or self.name or formats.UNNAMED)},
-                     "region": {"startLine": finding.file_line or answer.line}}
-            results += [] if answer.accepted else [{"ruleId": finding.tag, "level": "error", "message": {"text": text},
-                                                    "locations": [{"physicalLocation": place}]}]
+                     "region": {"startLine": finding.file_line or line}}
+            known = {"suppressions": [{"kind": "external", "justification": known.comment}]} if known else {}
+            results += [] if not line else [{"ruleId": finding.tag, "level": "note" if known else "error", "message": {"text": text},
+                                             "locations": [{"physicalLocation": place}], **known}]
         return results
 
     def sarif(self) -> str:

@@ -14,10 +14,12 @@ SOURCE = re.compile(r"(.+):([1-9][0-9]*)")
 
 @dataclass(frozen=True)
 class Finding:
-    """A verdict on a log, whose name is empty where it has none, and the file and line of the label where it is FILE:LINE."""
+    """A verdict on a log, whose name is empty where it has none, whether it is a known deviation, and the file and line of the
+    label where it is FILE:LINE."""
 
     verdict: Verdict
     log: str
+    is_known: bool = False
     file: str = ""
     file_line: int = 0
 
@@ -47,13 +49,13 @@ class Finding:
         return {"verdict": verdict.word, **told, **({"log": self.log} if self.log else {})}
 
 
-def finding_of(answer: Answer, log: str = "") -> Finding:
+def finding_of(answer: Answer, log: str = "", is_known: bool = False) -> Finding:
     """Fails where the program's answer has no verdict: then it is none of its own."""
     verdict = answer.verdict
     if verdict is None:
         raise Unable(Status.UNABLE, f"the program ended with status {answer.status} and says `{answer.first[:80]}`, so there is no answer")
     label = SOURCE.fullmatch(verdict.label)
-    return Finding(verdict, log, label.group(1), int(label.group(2))) if label else Finding(verdict, log)
+    return Finding(verdict, log, is_known, label.group(1), int(label.group(2))) if label else Finding(verdict, log, is_known)
 
 
 def place_of(finding: Finding) -> str:
@@ -63,7 +65,7 @@ def place_of(finding: Finding) -> str:
 
 
 def gcc(finding: Finding) -> str:
-    kind = "note" if finding.verdict.word == "accepted" else "error"
+    kind = "note" if finding.verdict.word == "accepted" or finding.is_known else "error"
     return f"{place_of(finding)}: {kind}: {finding.message} [{finding.tag}]"
 
 
@@ -85,7 +87,7 @@ def github(finding: Finding) -> str:
     if finding.verdict.word == "accepted":
         return f"::notice {name}title=bbm::{finding.message}"
     place = f"{name}line={finding.file_line or finding.verdict.line}," if file else ""
-    return f"::error {place}title={escaped(finding.tag)}::{finding.message}, line {finding.verdict.line} of the log"
+    return f"::{'notice' if finding.is_known else 'error'} {place}title={escaped(finding.tag)}::{finding.message}, line {finding.verdict.line} of the log"
 
 
 def as_json(finding: Finding) -> str:
