@@ -107,14 +107,14 @@ class Options(Case):
                  ("WORDS=1 bbm walk el2 0x0 0x8 -- -x", ACCEPTED, "walk el2 0x0 0x8"), ("bbm partial -- log", JUDGED))
 
     def test_refused(self):
-        forms = {"check": "[LOG..] [--format gcc|github|json]", "slow": "[LOG..]", "partial": "[LOG..]", "shrink": "[LOG..] [--least] [--rename]",
+        forms = {"check": "[LOG..] [--jobs N] [--format gcc|github|json]", "slow": "[LOG..]", "partial": "[LOG..]", "shrink": "[LOG..] [--least] [--rename]",
                  "why": "[LOG..] [--svg FILE] [--html FILE] [--whole] [--format json]", "walk": "KIND ROOT ADDR [LOG..]", "gen": "N COUNT",
-                 "findings": "[LOG..] [--most N] [--known FILE] [--write-known FILE] [--format gcc|github|json|sarif]", "pending": "[LOG..] [--pages] [--at LABEL] [--nth N] [--format json]"}
+                 "findings": "[LOG..] [--jobs N] [--most N] [--known FILE] [--write-known FILE] [--format gcc|github|json|sarif]", "pending": "[LOG..] [--pages] [--at LABEL] [--nth N] [--format json]"}
         for words, told in (
             ("check --format xml", "--format xml: it may be gcc|github|json"), ("check --format", "--format needs a value"),
             ("check --format= log", "--format needs a value"), ("why --format gcc log", "--format gcc: it may be json"), ("findings --most 0", "--most 0: it may be a number from 1"),
-            ("findings --format xml", "--format xml: it may be gcc|github|json|sarif"), ("findings --format sarif log log", "--format sarif is for one log"),
-            ("findings --known", "--known needs a value"), ("findings --write-known x log log", "--write-known is for one log"), ("slow log --least", "slow takes no --least"),
+            ("findings --format xml", "--format xml: it may be gcc|github|json|sarif"), ("findings --known", "--known needs a value"),
+            ("check -j", "--jobs needs a value"), ("check -j 0", "--jobs 0: it may be a number from 1"), ("findings -jx log", "findings takes no -jx"), ("why -j2 log", "why takes no --jobs"), ("slow log --least", "slow takes no --least"),
             ("why --who log", "why takes no --who"), ("why -x", "why takes no -x"), ("pending --page", "pending takes no --page"), ("pending --at ''", "--at needs a value"),
             ("pending --at", "--at needs a value"), ("pending --nth 2 log", "--nth is for the lines that --at names"), ("pending --at a --nth 0", "--nth 0: it may be a number from 1"),
             ("pending --at a --nth x", "--nth x: it may be a number from 1"), ("shrink --least=yes", "--least takes no value"), ("partial --pages", "partial takes no --pages"),
@@ -128,9 +128,33 @@ class Options(Case):
                  *((f"bbm {word} --format json log b", f'{NAMED}{more}, "log": "log"}}\n{NAMED}{more}, "log": "b"}}')
                    for word, more in (("check", ""), ("why", ""), ("pending", ', "places": []'), ("pending --pages", ', "pages": []'))),
                  ("echo 4 @a >k; bbm findings --known k log", "unmet line 1 of k: 4 @a\nfindings 0: the whole log is accepted"),
-                 ("bbm findings --known k log b", "log: findings 0: the whole log is accepted\nb: findings 0: the whole log is accepted"),
+                 ("bbm findings --known k log b", "log: findings 0: the whole log is accepted\nb: findings 0: the whole log is accepted\nunmet line 1 of k: 4 @a"),
                  ("bbm findings --known b log", "", "bbm: b: line 1 isn't `RULE @LABEL` or `RULE PLACE`, and ..", 70),
                  ("bbm check --format json <log", f"{NAMED}}}"), ("ENDS=1 bbm check log b", f"log: {ACCEPTED}\nb: {ACCEPTED}", "", 1))
+
+    def test_logs_at_once(self):
+        """With -j the answers are those without it, in the order of the logs, also of one that is packed or can't be read."""
+        self.ask(("gzip -c log >p; for i in 1 2 3 4 5 6 7; do cp log l$i; done",),
+                 *((f"bbm {word} l1 no l2 p l3 - . l4 l5 <l6 >one; bbm {word} {jobs} l1 no l2 p l3 - . l4 l5 <l6 >two; echo $?; cmp one two; grep -c '{said}' two", "70\n7",
+                    "\n".join(["bbm: there is no file no", "bbm: . is a folder"] * 2)) for word, jobs, said in (("check", "-j 3", "accepted"), ("check --format json", "-j3", "accepted"),
+                                                                                                 ("check --format gcc", "-j 20", "accepted"))),
+                 ("bbm findings -j 3 l1 l2 p >two; cat two", "l1: findings 0: the whole log is accepted\nl2: findings 0: the whole log is accepted\np: findings 0: the whole log is accepted"),
+                 ("(echo '#!/bin/sh'; echo 'sleep 0.5; echo $SAYS; echo >>runs') >c; cp copy/bbm_cli d; cp c copy/bbm_cli; bbm check -j 1 l1 l2 l3 l4 l5 l6 l7 | head -n 1; cp d copy/bbm_cli;"
+                  " sleep 1; [ $(wc -l <runs) -lt 5 ]", f"l1: {ACCEPTED}"),
+                 ("bbm check -j 2 log", ACCEPTED), ("bbm check -j 2 <log", ACCEPTED), ("ENDS=1 bbm check -j 2 log l1", f"log: {ACCEPTED}\nl1: {ACCEPTED}", "", 1),
+                 ("cat copy/bbm_cli >c; (echo '#!/bin/sh'; echo 'sleep 1; echo $SAYS') >copy/bbm_cli; timeout 4 bbm check -j 6 l1 l2 l3 l4 l5 l6 | grep -c accepted; cp c copy/bbm_cli", "6"),
+                 ("(echo '#!/bin/sh'; echo 'echo $$ >>ran; exec sleep 77') >copy/bbm_cli; bbm check -j 2 l1 l2 l3 & until [ \"$(wc -l <ran)\" = 2 ]; do sleep 0.1; done 2>/dev/null; kill $!;"
+                  " wait $!; echo $?; sleep 1; for it in $(cat ran); do kill -0 $it; done", "143", "...No such process\n...No such process", 1))
+
+    def test_unread_logs(self):
+        """Each form has an object or a line for a log that can't be read."""
+        name = "bbm: there is no file no"
+        self.ask(*((f"bbm {word} --format {form} no", said, name, 70) for word, form, said in (
+            ("check", "gcc", "no: error: there is no file no [bbm unreadable]"), ("check", "github", "::error file=no,title=bbm unreadable::there is no file no"),
+            *((word, "json", '{"verdict": "unreadable", "why": "there is no file no", "log": "no"}') for word in ("check", "why", "findings", "pending")),
+            ("findings", "sarif", '{"$schema": ..."results": [{"ruleId": "bbm unreadable", ..."uri": "no"}}}]}]}]}'))),
+            ("bbm why --format json log no log", f'{NAMED}, "log": "log"}}\n{{"verdict": "unreadable", "why": "there is no file no", "log": "no"}}\n{NAMED}, "log": "log"}}', name, 70),
+            ("bbm findings --format sarif log no log no | python3 -c 'import json, sys; print(len(json.load(sys.stdin)[\"runs\"][0][\"results\"]))'", "2", f"{name}\n{name}"))
 
     def test_table_of_the_documents(self):
         """docs/WHY.md has the options as the script takes them."""
@@ -152,7 +176,8 @@ class Logs(Case):
             self.ask((f"{packer} -cq log >p; head -c -9 p >cut",),
                      *((f"rm -f read; {code.format(words)}; cmp read log", said) for words, said in (("check", ACCEPTED), ("partial", "...judged 50000 of 50000..."))
                        for code in ("bbm {} p", "bbm {} <p", "cat p | bbm {}", "bbm {} <(cat p)")),
-                     *((code, "", f"bbm: {name} is packed by {packer}, and is cut or damaged", 70) for words in ("check", "why", "check --format gcc")
+                     ("bbm check --format gcc cut", f"cut: error: cut is packed by {packer}, and is cut or damaged [bbm unreadable]", "bbm: cut is ..", 70),
+                     *((code, "", f"bbm: {name} is packed by {packer}, and is cut or damaged", 70) for words in ("check", "why")
                        for code, name in ((f"bbm {words} cut", "cut"), (f"bbm {words} <cut", "standard input"), (f"cat cut | bbm {words}", "standard input"))))
         self.ask((r"printf '\037' | bbm check; od -An -to1 read", f"{ACCEPTED}\n 037"), ("bbm check </dev/null; wc -c <read", f"{ACCEPTED}\n0"),
                  ("(printf b; sleep 0.3; tail -c +2 log) | bbm check; cmp read log", ACCEPTED))

@@ -27,7 +27,6 @@ class Asked:
     most: int = 20
     known: str = ""
     write_known: str = ""
-    several: bool = False
 
 
 def asked_of(options: list[str]) -> Asked:
@@ -89,7 +88,7 @@ def say_findings(program: Program, source: Source, asked: Asked) -> int:
     first = source.answer(program, "check")
     log = Log(source.read() if first.refusal else b"")
     findings = findings_of(program, log, first, asked.most) if first.refusal else Findings([], first)
-    report = Report(log, asked.log, findings, deviations, "" if asked.several else asked.known)
+    report = Report(log, asked.log, findings, deviations, asked.known)
     if asked.write_known:
         known.write(asked.write_known, [one.answer.refusal for one in findings.found], deviations, asked.log)
     emit(FORMS[asked.format](report))
@@ -153,10 +152,19 @@ COMMANDS = {"check": say_check, "why": say_why, "findings": say_findings, "shrin
 
 
 def run(word: str, *items: str) -> int:
-    """The status of a word on standard input."""
+    """The status of a word on standard input, or of `many` on files."""
+    if word == "many":
+        from why import many
+
+        return many.run(*items)
     sys.stdout.reconfigure(errors="surrogateescape")
     options = [item for item in items if item.startswith("--")]
     asked = asked_of(options)
+    if word == "unread":
+        from why.telling.findings import unread
+
+        emit(unread(items[0], asked.log, asked.format))
+        return Status.UNABLE
     if word == "line":
         return say_line(built(), Source(asked.log), [item for item in items if item not in options])
     return COMMANDS[word](built(), Source(asked.log), asked)

@@ -120,8 +120,24 @@ class Report:
         return results
 
     def sarif(self) -> str:
-        run = {"tool": {"driver": {"name": "bbm"}}, "results": self.results()}
-        return json.dumps({"$schema": SCHEMA, "version": "2.1.0", "runs": [run]}) + "\n"
+        return sarif_of(self.results())
+
+
+def sarif_of(results: list[dict]) -> str:
+    run = {"tool": {"driver": {"name": "bbm"}}, "results": results}
+    return json.dumps({"$schema": SCHEMA, "version": "2.1.0", "runs": [run]}) + "\n"
+
+
+def unread(why: str, name: str, form: str) -> str:
+    """What is told of a log that can't be read, in each form."""
+    if form == "gcc":
+        return f"{name or formats.UNNAMED}: error: {why} [bbm unreadable]\n"
+    if form == "github":
+        return f"::error {f'file={formats.escaped(name)},' if name else ''}title=bbm unreadable::{formats.data(why)}\n"
+    if form == "json":
+        return json.dumps({"verdict": "unreadable", "why": why, **({"log": name} if name else {})}) + "\n"
+    place = {"physicalLocation": {"artifactLocation": {"uri": quote(name or formats.UNNAMED)}}}
+    return sarif_of([{"ruleId": "bbm unreadable", "level": "error", "message": {"text": why}, "locations": [place]}])
 
 
 FORMS = {"": Report.text, "gcc": Report.gcc, "github": Report.github, "json": Report.json, "sarif": Report.sarif}

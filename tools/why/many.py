@@ -1,0 +1,135 @@
+# SPDX-License-Identifier: Apache-2.0
+"""Several logs at once: the script is run for each of them, and what these runs say is told in the order of the logs."""
+from __future__ import annotations
+
+import contextlib
+import json
+import os
+import re
+import signal
+import subprocess
+import sys
+from collections.abc import Iterable
+from concurrent.futures import ThreadPoolExecutor
+from dataclasses import dataclass, field
+from tempfile import TemporaryDirectory
+from threading import RLock
+
+from why.asking.program import Status, emit
+from why.log.stream import faults
+
+UNMET = re.compile(r"unmet line \d+ of .*|.*: note: no finding meets .* \[bbm\]|::notice .*title=bbm::no finding meets .*|\{\"verdict\": \"unmet\".*")
+JUDGED = (Status.ACCEPTED, Status.REFUSED, Status.MALFORMED, Status.LIMIT)
+
+
+@dataclass
+class Many:
+    """A word of the script with its options, over several logs."""
+
+    script: str
+    word: str
+    options: dict[str, str]
+    logs: list[str]
+    running: set[subprocess.Popen] = field(default_factory=set)
+    folder: TemporaryDirectory = field(default_factory=TemporaryDirectory)
+    lock: RLock = field(default_factory=RLock)
+    is_ended: bool = False
+
+    def words(self, count: int) -> list[str]:
+        """What the script is given for the log of this position."""
+        own = {**self.options, **({"write-known": f"{self.folder.name}/{count}"} if "write-known" in self.options else {})}
+        return ["sh", self.script, "--quiet", self.word, *(f"--{name}={value}" for name, value in own.items() if name != "jobs"), "--", self.logs[count]]
+
+    def answer(self, count: int) -> tuple[int, str, bytes]:
+        """The status for one log, and what goes to standard output and error."""
+        log = None if self.logs[count] == "-" else subprocess.DEVNULL
+        with self.lock:
+            if self.is_ended:
+                return Status.UNABLE, "", b""
+            run = subprocess.Popen(self.words(count), stdin=log, stdout=subprocess.PIPE, stderr=subprocess.PIPE)
+            self.running.add(run)
+        with run:
+            text, told = run.communicate()
+        with self.lock:
+            self.running.discard(run)
+        if run.returncode < 0:
+            told += os.fsencode(f"bbm: {self.logs[count]}: the script was ended by signal {-run.returncode}, so there is no answer\n")
+        return (run.returncode if run.returncode >= 0 else Status.UNABLE), text.decode("utf-8", "surrogateescape"), told
+
+    def stop(self) -> None:
+        """Ends what runs, and lets nothing begin."""
+        with self.lock:
+            self.is_ended = True
+            for run in self.running:
+                run.terminate()
+
+    def end(self, number: int, _frame) -> None:
+        """Ends what runs, and this process by the signal."""
+        self.stop()
+        self.folder.cleanup()
+        signal.signal(number, signal.SIG_DFL)
+        os.kill(os.getpid(), number)
+
+    def tell(self) -> int:
+        """Tells all, and gives the greatest status."""
+        for number in (signal.SIGHUP, signal.SIGINT, signal.SIGTERM):
+            signal.signal(number, self.end)
+        with self.folder, ThreadPoolExecutor(int(self.options.get("jobs", "1"))) as pool:
+            try:
+                greatest = self.tell_all(pool.map(self.answer, range(len(self.logs))))
+            except BaseException:
+                self.stop()
+                raise
+            self.write_known()
+        return greatest
+
+    def tell_all(self, answers: Iterable[tuple[int, str, bytes]]) -> int:
+        """Tells the answers, and behind them what only all of them together say: the lines that none meets, or the log of SARIF."""
+        form, greatest, results, unmet = self.options.get("format", ""), 0, [], None
+        for log, (status, text, told) in zip(self.logs, answers):
+            with contextlib.suppress(OSError):
+                os.write(2, told)
+            greatest = max(greatest, status)
+            if form == "sarif":
+                results += [json.loads(text)] if text else []
+                continue
+            lines = text.splitlines(keepends=True)
+            alone = [line for line in lines if self.word == "findings" and UNMET.fullmatch(line[:-1])]
+            if status in JUDGED:
+                unmet = alone if unmet is None else [line for line in unmet if line in alone]
+            if lines or status != Status.UNABLE:
+                emit(self.named(log, "".join(line for line in lines if line not in alone), form))
+        emit(joined(results) if form == "sarif" else "".join(unmet or []))
+        return greatest
+
+    def named(self, log: str, text: str, form: str) -> str:
+        """A text begins with the name of its log, where its form hasn't it and there are several."""
+        return text if form or len(self.logs) == 1 else f"{log}: {text or chr(10)}"
+
+    def write_known(self) -> None:
+        """Joins the files that the runs wrote: a line for each rule and label or place."""
+        path, lines = self.options.get("write-known"), {}
+        if not path:
+            return
+        for part in sorted(os.listdir(self.folder.name), key=int):
+            with open(f"{self.folder.name}/{part}", encoding="utf-8", errors="surrogateescape") as file:
+                for line in file:
+                    lines.setdefault(tuple(line.split()[:2]), line)
+        with faults(path, Status.UNWRITTEN), open(path, "w", encoding="utf-8", errors="surrogateescape") as file:
+            file.writelines(lines.values())
+
+
+def joined(logs: list[dict]) -> str:
+    """One log of SARIF with the results of these."""
+    if not logs:
+        return ""
+    logs[0]["runs"][0]["results"] = [result for log in logs for result in log["runs"][0]["results"]]
+    return json.dumps(logs[0]) + "\n"
+
+
+def run(script: str, word: str, *items: str) -> int:
+    """The greatest status of the script's runs. Behind `--` stand the logs."""
+    sys.stdout.reconfigure(encoding="utf-8", errors="surrogateescape")
+    at = items.index("--")
+    options = dict(item.removeprefix("--").split("=", 1) for item in items[:at])
+    return Many(script, word, options, [*items[at + 1:]]).tell()
