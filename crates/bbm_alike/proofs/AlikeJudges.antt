@@ -12,7 +12,8 @@ use Rattle.bbm_rules.specs.declared.rule.Rule.TheVariants.{NotFresh, RewrittenFr
 use Rattle.bbm_rules.specs.declared.rule.Rule.TheVariants.{NoRoot, TagConflict, RootInUse, UnsyncedVmid, BadOperand}
 use Rattle.bbm_rules.specs.declared.rule.Rule.TheVariants.{LockBusy, LockNotMine}
 use Rattle.bbm_rules.specs.Broken.{broken, rules}
-use Rattle.bbm_alike.specs.Alike.{Alike}
+use Rattle.bbm_alike.specs.Alike.{Alike, SameRegisters}
+use Rattle.bbm_rules.specs.RegisterValues.{standings}
 use Rattle.bbm_alike.specs.KnownOfHistories.{Known}
 use Rattle.bbm_alike.proofs.CoverAlike.{held_alike, of_events, tags_alike, values_alike}
 use Rattle.bbm_alike.proofs.LockRules.{same_bad_operand, same_lock_busy, same_lock_not_mine, same_no_root}
@@ -48,8 +49,11 @@ module _ (heading : Heading) (k : Known heading) (one other : Trust) (h h' : Lis
   nulls : (page : ℕ) → is_null (events_of marks) page ≡ is_null (events_of marks') page
   nulls page = both_alike (λ (es : List Event). is_null es page) (a.nulls page)
 
-  registers : (p : ℕ) (reg : Reg) → register_values (events_of marks) p reg ≡ register_values (events_of marks') p reg
-  registers p reg = both_alike (λ (es : List Event). register_values es p reg) (a.registers p reg)
+  registers : SameRegisters (events_of marks) (events_of marks')
+  registers = record {
+    values = λ p reg. both_alike (λ (es : List Event). register_values es p reg) (a.registers.values p reg);
+    standings = λ p. both_alike (λ (es : List Event). standings es p) (a.registers.standings p);
+  }
 
   locks : (lock : ℕ) → holder_of (events_of marks) lock ≡ holder_of (events_of marks') lock
   locks lock = both_alike (λ (es : List Event). holder_of es lock) (a.locks lock)

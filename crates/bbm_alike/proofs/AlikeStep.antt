@@ -36,7 +36,7 @@ module _ (heading : Heading) (k : Known heading) (one other : Trust) (h h' : Lis
     places = places;
     roots = roots;
     nulls = λ page. nulls_step h h' e page (a.nulls page);
-    registers = λ p reg. registers_step h h' e p reg (a.registers p reg);
+    registers = registers_step h h' e a.registers;
     locks = λ lock. locks_step h h' e lock (a.locks lock);
     trees = trees_step heading k one other h h' a e pes unbroken unbroken' t values roots places;
     fresh = fresh_step heading k one other h h' a e pes unbroken unbroken' t values roots places;

@@ -18,15 +18,16 @@ use Rattle.bbm_rules.proofs.TagSetLaw.{distinct_keeps}
 
 -- nothing is readable before the first event
 pub no_readings : (heading : Heading) (p : ℕ) → readings heading [] p ≡ []
-no_readings heading p = by heading.world
+no_readings heading p = by heading.words.inorder heading.world
   where
-    asids : (from : AsidFrom) → asid_readings from [] p ≡ []
-    asids FromTtbr0 = refl
-    asids FromTtbr1 = refl
+    asids : (order : Bool) (from : AsidFrom) → asid_readings order from [] p ≡ []
+    asids order FromTtbr0 = refl
+    asids true FromTtbr1 = refl
+    asids false FromTtbr1 = refl
 
-    by : (world : World) → readings_in world [] p ≡ []
-    by (Hyp world) = refl
-    by (Kernel world) = rw (asids world.asid_from) refl
+    by : (order : Bool) (world : World) → readings_in order world [] p ≡ []
+    by order (Hyp world) = refl
+    by order (Kernel world) = rw (asids order world.asid_from) refl
 
 module _ (heading : Heading) (trust : Trust) (p root : ℕ) (tag : Tag) where
   -- what is readable is kept

@@ -19,6 +19,9 @@ use Rattle.bbm_lemmas.proofs.Bools.{not_twice}
 use Rattle.bbm_rules.proofs.Common.{or_left, or_right, ends, first_pages, gives_up, kept_at, left_at}
 use Rattle.bbm_rules.proofs.TagEndsLaw.{held_at_once, held_complete, kept_parts}
 use Rattle.bbm_rules.proofs.TagPagesLaw.{kept_listed}
+use Rattle.bbm_rules.proofs.Common.{take}
+use Rattle.bbm_rules.proofs.StandingLaw.{one_standing}
+use Rattle.bbm_rules.specs.RegisterValues.{standings}
 use Rattle.bbm_alike.specs.SameTags.{takes_of}
 
 -- what a DSB takes away, in all patterns, by what waits
@@ -134,18 +137,28 @@ module _ (heading : Heading) (e : Event) (h : List Event) (same : (p : ℕ) → 
 
 -- ---- barriers
 
+standings_stay : (p : ℕ) (h : List Event)
+    → ((q : ℕ) (reg : Reg) → register_values (Isb p ∷ h) q reg ≡ register_values h q reg)
+    → (q : ℕ) → standings (Isb p ∷ h) q ≡ standings h q
+standings_stay p h registers q = by (p == q) (registers q)
+  where
+    by : (c : Bool) → ((reg : Reg) → cond c (take 1 (register_values h q reg)) (register_values h q reg) ≡ register_values h q reg)
+        → cond c (take 1 (standings h q)) (standings h q) ≡ standings h q
+    by true all = one_standing q h all
+    by false all = refl
+
 module _ (heading : Heading) (equal : (g k : Tag) → (same_tag g k ≡ true) ↔ (g ≡ k)) (waits : WaitsStep heading) where
   pub same_after_dmb : (trust : Trust) (p : ℕ) (dsb : Barrier) (h : List Event)
       → SameTags heading trust trust (Dmb p dsb ∷ h) h
   same_after_dmb trust p dsb h =
-      same_tags heading (Dmb p dsb) h (readings_alike (Dmb p dsb ∷ h) h (λ q reg. refl) refl heading) equal waits trust (λ page. refl)
+      same_tags heading (Dmb p dsb) h (readings_alike (Dmb p dsb ∷ h) h (record { values = λ q reg. refl; standings = λ q. refl }) refl heading) equal waits trust (λ page. refl)
       (λ p root tag less held. refl) (λ p q root b tag less held. refl)
 
   pub same_after_isb : (trust : Trust) (p : ℕ) (h : List Event)
       → ((q : ℕ) (reg : Reg) → register_values (Isb p ∷ h) q reg ≡ register_values h q reg)
       → SameTags heading trust trust (Isb p ∷ h) h
   same_after_isb trust p h registers =
-      same_tags heading (Isb p) h (readings_alike (Isb p ∷ h) h registers refl heading) equal waits trust (λ page. refl)
+      same_tags heading (Isb p) h (readings_alike (Isb p ∷ h) h (record { values = registers; standings = standings_stay p h registers }) refl heading) equal waits trust (λ page. refl)
       (λ p root tag less held. refl) (λ p q root b tag less held. refl)
 
 -- ---- TLBIs and DSBs
@@ -169,7 +182,7 @@ module _ (heading : Heading) (equal : (g k : Tag) → (same_tag g k ≡ true) �
         → TakesNone heading h (Tlbi pe op xt) → SameTags heading Patterns Patterns (Tlbi pe op xt ∷ h) h
     same_after_tlbi pe op xt h none =
         same_tags heading (Tlbi pe op xt) h
-        (readings_alike (Tlbi pe op xt ∷ h) h (λ q reg. refl) refl heading) equal waits Patterns (λ page. refl)
+        (readings_alike (Tlbi pe op xt ∷ h) h (record { values = λ q reg. refl; standings = λ q. refl }) refl heading) equal waits Patterns (λ page. refl)
         (λ p root tag less held. refl)
         (λ p q root b tag less held. ap (λ (c : Bool). (pe == q && (is_tlbi b (Tlbi pe op xt) && c))
         || tag_waits heading p tag q b h)
@@ -231,5 +244,5 @@ module _ (heading : Heading) (equal : (g k : Tag) → (same_tag g k ≡ true) �
 
       pub same_after_dsb : SameTags heading Patterns Patterns (Dsb q dsb ∷ h) h
       same_after_dsb =
-          same_tags heading (Dsb q dsb) h (readings_alike (Dsb q dsb ∷ h) h (λ r reg. refl) refl heading) equal waits Patterns (λ page. refl)
+          same_tags heading (Dsb q dsb) h (readings_alike (Dsb q dsb ∷ h) h (record { values = λ r reg. refl; standings = λ r. refl }) refl heading) equal waits Patterns (λ page. refl)
           not_lost still_waits

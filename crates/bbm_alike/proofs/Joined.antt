@@ -64,7 +64,7 @@ module _ (heading : Heading) where
     places = refl;
     roots = refl;
     nulls = λ page. refl;
-    registers = λ p reg. refl;
+    registers = record { values = λ p reg. refl; standings = λ p. refl };
     locks = λ lock. refl;
     trees = refl;
     fresh = λ page. refl;
@@ -86,7 +86,7 @@ module _ (heading : Heading) where
     places = refl;
     roots = refl;
     nulls = λ page. refl;
-    registers = λ p reg. refl;
+    registers = record { values = λ p reg. refl; standings = λ p. refl };
     locks = λ lock. refl;
     trees = refl;
     fresh = λ page. refl;
@@ -109,7 +109,7 @@ module _ (heading : Heading) where
       places = sym a.places;
       roots = sym a.roots;
       nulls = λ page. sym (a.nulls page);
-      registers = λ p reg. sym (a.registers p reg);
+      registers = record { values = λ p reg. sym (a.registers.values p reg); standings = λ p. sym (a.registers.standings p) };
       locks = λ lock. sym (a.locks lock);
       trees = sym a.trees;
       fresh = λ page. sym (a.fresh page);
@@ -152,7 +152,10 @@ module _ (heading : Heading) where
       places = a.places ∙ b.places;
       roots = a.roots ∙ b.roots;
       nulls = λ page. a.nulls page ∙ b.nulls page;
-      registers = λ p reg. a.registers p reg ∙ b.registers p reg;
+      registers = record {
+        values = λ p reg. a.registers.values p reg ∙ b.registers.values p reg;
+        standings = λ p. a.registers.standings p ∙ b.registers.standings p;
+      };
       locks = λ lock. a.locks lock ∙ b.locks lock;
       trees = a.trees ∙ b.trees;
       fresh = λ page. a.fresh page ∙ b.fresh page;

@@ -3,6 +3,7 @@ use Rattle.bbm_rules.proofs.Common.{◌≡◌, ℕ, Bool, List, refl, ap, Trust,
 use Rattle.bbm_rules.proofs.Common.{Heading, Event, Null, Root, Unroot, Tlbi, Msr, Lock, Unlock, Reg, register_values}
 use Rattle.bbm_rules.proofs.Common.{roots_of, no_root}
 use Rattle.bbm_rules.specs.Rules.{bad_operand, lock_busy, lock_not_mine, unsynced_vmid, wrong_world}
+use Rattle.bbm_alike.specs.Alike.{SameRegisters}
 use Rattle.bbm_alike.proofs.ReadingsAlike.{lacks_alike}
 
 module _ (heading : Heading) (one other : Trust) (h h' : List Noted) where
@@ -18,7 +19,7 @@ module _ (heading : Heading) (one other : Trust) (h h' : List Noted) where
   same_bad_operand (Tlbi pe op xt) = refl
   same_bad_operand e = refl
 
-  pub same_unsynced_vmid : ((p : ℕ) (reg : Reg) → register_values (events_of h) p reg ≡ register_values (events_of h') p reg)
+  pub same_unsynced_vmid : SameRegisters (events_of h) (events_of h')
       → (e : Event) → unsynced_vmid heading one h e ≡ unsynced_vmid heading other h' e
   same_unsynced_vmid registers (Tlbi pe op xt) =
       ap (λ (b : Bool). if_so b pe) (lacks_alike (events_of h) (events_of h') registers heading pe op)

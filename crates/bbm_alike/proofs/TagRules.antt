@@ -6,11 +6,12 @@ use Rattle.bbm_rules.proofs.Common.{root_at, roots_of, is_base_at, tag_conflict,
 use Rattle.bbm_rules.proofs.Common.{tags_of}
 use Rattle.bbm_rules.proofs.Common.{◌++◌, given_up, left_at, left_tag}
 use Rattle.bbm_rules.specs.Rules.{is_used, leavers, other_holders, others, root_in_use}
+use Rattle.bbm_alike.specs.Alike.{SameRegisters}
 use Rattle.bbm_alike.proofs.ListsAlike.{same_filter, same_flat, same_some_pe}
 use Rattle.bbm_alike.proofs.TagSteps.{holds_step, left_step, readings_step}
 
 module _ (heading : Heading) (one other : Trust) (h h' : List Noted)
-    (registers : (p : ℕ) (reg : Reg) → register_values (events_of h) p reg ≡ register_values (events_of h') p reg)
+    (registers : SameRegisters (events_of h) (events_of h'))
     (roots : roots_of (events_of h) ≡ roots_of (events_of h'))
     (holds : (p root : ℕ) (tag : Tag) → p < heading.pes
     → holds_at heading one p root tag (events_of h) ≡ holds_at heading other p root tag (events_of h'))
@@ -83,7 +84,7 @@ module _ (heading : Heading) (one other : Trust) (h h' : List Noted)
         (tags page)
       where
         same_base : (p : ℕ) → is_base_at (events_of h) page p ≡ is_base_at (events_of h') page p
-        same_base p = simp registers
+        same_base p = simp registers.values
 
     pub same_root_in_use : (e : Event) → root_in_use heading one h e ≡ root_in_use heading other h' e
     same_root_in_use (Unroot pe page) =

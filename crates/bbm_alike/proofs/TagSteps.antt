@@ -3,10 +3,11 @@ use Rattle.bbm_rules.proofs.Common.{◌≡◌, ◌↔◌, ℕ, ◌<◌, Bool, tr
 use Rattle.bbm_rules.proofs.Common.{Option, Some, None, filter_map, flat_map, refl, sym, ◌∙◌, ap, true≢false, inl, inr}
 use Rattle.bbm_rules.proofs.Common.{and_parts, or_cases, proved, If, Is, answers, Trust, same_tag, below, Heading}
 use Rattle.bbm_rules.proofs.Common.{Event, Dsb, Tlbi, Reg, Scope, Tag, takes_whole_tag, reaches, named_scope}
-use Rattle.bbm_rules.proofs.Common.{register_values, vmid_of, roots_of, Reading, distinct, ever_read, holds_at, loses}
+use Rattle.bbm_rules.proofs.Common.{vmid_of, roots_of, Reading, distinct, ever_read, holds_at, loses}
 use Rattle.bbm_rules.proofs.Common.{readings, reads, reads_for_some, tag_for, takes_tag}
 use Rattle.std.proofs.Math.Bool.{and-false}
 use Rattle.bbm_histories.specs.HistorySteps.{is_tlbi, tag_waits, tag_waits_after}
+use Rattle.bbm_alike.specs.Alike.{SameRegisters}
 use Rattle.bbm_alike.specs.SameTags.{SameTags}
 use Rattle.bbm_alike.proofs.Distinct.{distinct_append}
 use Rattle.bbm_alike.proofs.PlainSteps.{registers_step, roots_step}
@@ -37,9 +38,9 @@ WaitsStep heading = (p : ℕ) (tag : Tag) (q : ℕ) (b : Bool) (e : Event) (h : 
     ≡ (tag_waits_after heading p tag q b e h && not (reads_for_some heading (e ∷ h) p tag))
 
 module _ (heading : Heading) (h h' : List Event) (e : Event) (roots : roots_of h ≡ roots_of h')
-    (registers : (p : ℕ) (reg : Reg) → register_values h p reg ≡ register_values h' p reg) where
-  after : (p : ℕ) (reg : Reg) → register_values (e ∷ h) p reg ≡ register_values (e ∷ h') p reg
-  after p reg = registers_step h h' e p reg (registers p reg)
+    (registers : SameRegisters h h') where
+  after : SameRegisters (e ∷ h) (e ∷ h')
+  after = registers_step h h' e registers
 
   pub readings_step : (p : ℕ) → readings heading (e ∷ h) p ≡ readings heading (e ∷ h') p
   readings_step = readings_alike (e ∷ h) (e ∷ h') after (roots_step h h' e roots) heading
@@ -137,7 +138,7 @@ module _ (heading : Heading) (h h' : List Event) (e : Event) (roots : roots_of h
 
 module _ (heading : Heading) (equal : (g k : Tag) → (same_tag g k ≡ true) ↔ (g ≡ k)) (waits : WaitsStep heading)
     (h h' : List Event) (e : Event) (roots : roots_of h ≡ roots_of h')
-    (registers : (p : ℕ) (reg : Reg) → register_values h p reg ≡ register_values h' p reg) where
+    (registers : SameRegisters h h') where
   -- where the event takes the same tags away of those that are kept
   pub same_tags_step : (one other : Trust) → TagKeptBySentence heading one
       → ((p page : ℕ) (tag : Tag) → p < heading.pes → kept_at heading one p page tag h ≡ true

@@ -8,6 +8,7 @@ use Rattle.bbm_histories.specs.HistorySteps.{answered_by, cleansed_after, full_w
 use Rattle.bbm_alike.specs.Alike.{Alike, SamePatterns, TakesAlike}
 use Rattle.bbm_alike.specs.KnownOfHistories.{Known}
 use Rattle.bbm_alike.proofs.PatternsStep.{answers_alike}
+use Rattle.bbm_alike.proofs.PlainSteps.{registers_step}
 use Rattle.bbm_alike.proofs.ReadingsAlike.{reads_some_alike}
 
 module _ (heading : Heading) (k : Known heading) where
@@ -46,7 +47,7 @@ module _ (heading : Heading) (k : Known heading) where
         (answers_alike dsb (λ b. tag_waits heading p tag q b h) (λ b. tag_waits heading p tag q b h')
         (λ b. a.tag_wait p q root b tag below holds))
         ∙ (ap (λ (x : Bool). answered_by dsb (λ b. tag_waits heading p tag q b h') && not x)
-        (reads_some_alike (Dsb q dsb ∷ h) (Dsb q dsb ∷ h') a.registers a.roots heading p tag)
+        (reads_some_alike (Dsb q dsb ∷ h) (Dsb q dsb ∷ h') (registers_step h h' (Dsb q dsb) a.registers) a.roots heading p tag)
         ∙ sym (k.tag_steps.lost p tag q dsb h')))
     lost_by e p root tag below holds = refl
 

@@ -20,7 +20,8 @@ use Rattle.bbm_events.specs.declared.event.Event.TheVariants as event
 use Rattle.bbm_events.specs.declared.event.Item.TheVariants as item
 use Rattle.bbm_events.specs.Spelling.{decimal_value, hex_value}
 use Rattle.bbm_events.specs.Heading.{has_words}
-use Rattle.bbm_events.specs.Lines.{header_of, item_of, header_line, item_line, header_words, said, word_field, word_fields}
+use Rattle.bbm_events.specs.Lines.{header_of, item_of, header_line, item_line, header_words, later_word, said}
+use Rattle.bbm_events.specs.Lines.{word_field, word_fields}
 use Rattle.bbm_events.proofs.Readings.{bind_ok, field_ok, count_kept}
 use Rattle.bbm_events.proofs.Joining.{joined_fields}
 use Rattle.bbm_events.proofs.OneSpelling.{decimal_once, hex_once, word_once}
@@ -286,16 +287,25 @@ may_word_once word (text ∷ rest) = by (bytes_eq word text) refl
     by true e = ap (λ (t : List ℕ). t ∷ rest) (sym ((bytes_eq-Decides word text).0 e))
     by false e = refl
 
+later_once : (version : ℕ) (word : List ℕ) (rest : Fields)
+    → rest ≡ said (later_word version word rest).0 word ++ (later_word version word rest).1
+later_once version word rest = by (has_words version)
+  where
+    by : (b : Bool) → rest ≡ said (cond {A = Bool × Fields} b (word_field word rest) (false, rest)).0 word
+        ++ (cond {A = Bool × Fields} b (word_field word rest) (false, rest)).1
+    by true = may_word_once word rest
+    by false = refl
+
 -- the words of a header that has no field left
 words_once : (version : ℕ) (rest : Fields) → (header_words version rest).1 ≡ [] → rest ≡ word_fields (header_words version rest).0
-words_once version rest end = by (has_words version) end
-  where
-    by : (b : Bool) → (cond {A = Bool × Fields} b (word_field (codes "unflushed") rest) (false, rest)).1 ≡ []
-        → rest ≡ said (cond {A = Bool × Fields} b (word_field (codes "unflushed") rest) (false, rest)).0 (codes "unflushed")
-    by true none =
-        may_word_once (codes "unflushed") rest
-        ∙ (ap (λ (left : Fields). said (word_field (codes "unflushed") rest).0 (codes "unflushed") ++ left) none ∙ append-nil _)
-    by false none = none
+words_once version rest end =
+    let first : Bool × Fields = later_word version (codes "unflushed") rest in
+    let second : Bool × Fields = later_word version (codes "inorder") first.1 in
+    let last : second.1 ≡ [] = end in
+    later_once version (codes "unflushed") rest
+    ∙ ap (λ (left : Fields). said first.0 (codes "unflushed") ++ left)
+    (later_once version (codes "inorder") first.1
+    ∙ (ap (λ (left : Fields). said second.0 (codes "inorder") ++ left) last ∙ append-nil _))
 
 cnp_once : (version : ℕ) (rest : Fields) (x : Bool × Fields) → cnp_field version rest ≡ Ok x → rest ≡ cnp_fields version x.0 ++ x.1
 cnp_once version rest x e = by (has_words version) (may_share version) e

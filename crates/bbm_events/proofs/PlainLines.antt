@@ -244,19 +244,22 @@ said_length false word rest = omega arith
 words_length : (version : ℕ) (cnp : Bool) (words : HeaderWords) → length (joined (cnp_fields version cnp ++ word_fields words)) ≤ 52
 words_length version cnp words = by (has_words version) (may_share version)
   where
-    one : (b : Bool) → length (joined (said b (codes "unflushed"))) ≤ 9
+    one : (b : Bool) → length (joined (said b (codes "inorder"))) ≤ 7
     one true = omega arith
     one false = omega arith
 
+    said_most : length (joined (word_fields words)) ≤ 17
+    said_most =
+        let more = said_length words.unflushed (codes "unflushed") (said words.inorder (codes "inorder")) in
+        let last = one words.inorder in omega (arith, last, more)
+
     by : (h shares : Bool) → length (joined (cond h (said cnp (codes "cnp")) (cond shares (cnp_word cnp ∷ []) []) ++ word_fields words)) ≤ 52
     by true shares =
-        let more = said_length cnp (codes "cnp") (word_fields words) in
-        let last = one words.unflushed in omega (arith, last, more)
+        let more = said_length cnp (codes "cnp") (word_fields words) in omega (arith, said_most, more)
     by false true =
         let more = said_length true (cnp_word cnp) (word_fields words) in
-        let last = one words.unflushed in
-        let few = cnp_length cnp in omega (arith, last, more, few)
-    by false false = let last = one words.unflushed in omega (arith, last)
+        let few = cnp_length cnp in omega (arith, said_most, more, few)
+    by false false = omega (arith, said_most)
 
 world_short : (h : Heading) (pes : ℕ) (world : World) (after : Fields) → pes < 2 ^ 64 → world_ok world ≡ true → Short after
     → Short (header_fields pes world after) × (length (header_fields pes world after) ≤ 5 + length after)

@@ -19,7 +19,9 @@ use Rattle.bbm_events.proofs.Common.{pe_and, pe_and_two, root_line, tlbi_line, c
 use Rattle.bbm_events.proofs.Common.{operand_fields, event_fields, item_fields, magic_field}
 use Rattle.std.specs.Fmt.{digits}
 use Rattle.std.proofs.lemmas.Bool.{and_from}
+use Rattle.bbm_regimes.specs.declared.regime.Kind.TheVariants.{Ttbr0}
 use Rattle.bbm_regimes.specs.declared.regime.KernelWorld.{KernelWorld}
+use Rattle.bbm_regimes.specs.World.{kind_in_world}
 use Rattle.bbm_events.specs.declared.event.Event.TheVariants as event
 use Rattle.bbm_events.specs.declared.event.Item.TheVariants as item
 use Rattle.bbm_events.specs.declared.header_words.HeaderWords.{HeaderWords}
@@ -48,7 +50,7 @@ pub record Ranges (h : Heading) : Type 0 where
   pub version : is_version h.version ≡ true
   pub pes : h.pes ≤ 128
   pub cnp : (may_share h.version || not h.cnp) ≡ true
-  pub words : words_ok h.version h.words ≡ true
+  pub words : words_ok h.version h.world h.words ≡ true
   pub world : world_ok h.world ≡ true
 
 pes_most : (few : Bool) (pes : ℕ) → (nat_le 1 pes && nat_le pes (cond few 64 128)) ≡ true → pes ≤ 128
@@ -57,8 +59,8 @@ pes_most false pes e = leb-true pes 128 (and_parts (nat_le 1 pes) (nat_le pes 12
 
 pub ranges : (h : Heading) → heading_ok h ≡ true → Ranges h
 ranges h ok =
-    let front = and_parts (is_version h.version && are_pes h.version h.pes && (may_share h.version || not h.cnp) && words_ok h.version h.words) (world_ok h.world) ok in
-    let said = and_parts (is_version h.version && are_pes h.version h.pes && (may_share h.version || not h.cnp)) (words_ok h.version h.words) front.0 in
+    let front = and_parts (is_version h.version && are_pes h.version h.pes && (may_share h.version || not h.cnp) && words_ok h.version h.world h.words) (world_ok h.world) ok in
+    let said = and_parts (is_version h.version && are_pes h.version h.pes && (may_share h.version || not h.cnp)) (words_ok h.version h.world h.words) front.0 in
     let some = and_parts (is_version h.version && are_pes h.version h.pes) (may_share h.version || not h.cnp) said.0 in
     let both = and_parts (is_version h.version) (are_pes h.version h.pes) some.0 in
     record { version = both.0; pes = pes_most (nat_lt h.version 3) h.pes both.1; cnp = some.1; words = said.1; world = front.1 }
@@ -351,30 +353,44 @@ in_range h ok = ap (λ t. cond t (Ok h) (Err BadHeader)) ok
 -- a word that stands is read, and one that doesn't where another field or none stands in its place
 cnp_word_next : (cnp : Bool) (words : HeaderWords) → word_field (codes "cnp") (said cnp (codes "cnp") ++ word_fields words) ≡ (cnp, word_fields words)
 cnp_word_next true words = refl
-cnp_word_next false words = by words.unflushed
+cnp_word_next false words = by words.unflushed words.inorder
   where
-    by : (u : Bool) → word_field (codes "cnp") (said u (codes "unflushed")) ≡ (false, said u (codes "unflushed"))
-    by true = refl
-    by false = refl
+    by : (u i : Bool) → word_field (codes "cnp") (said u (codes "unflushed") ++ said i (codes "inorder"))
+        ≡ (false, said u (codes "unflushed") ++ said i (codes "inorder"))
+    by true i = refl
+    by false true = refl
+    by false false = refl
 
 -- before version 5 there is none
-words_read : (version : ℕ) (words : HeaderWords) → words_ok version words ≡ true → header_words version (word_fields words) ≡ (words, [])
-words_read version words fits = by (has_words version) words.unflushed fits
+words_read : (version : ℕ) (world : World) (words : HeaderWords) → words_ok version world words ≡ true
+    → header_words version (word_fields words) ≡ (words, [])
+words_read version world words fits =
+    by (has_words version) words.unflushed words.inorder
+    (and_parts (has_words version || not (words.unflushed || words.inorder)) (kind_in_world world Ttbr0 || not words.inorder) fits).0
   where
-    read : Bool → Bool → Bool × Fields
-    read h u = cond h (word_field (codes "unflushed") (said u (codes "unflushed"))) (false, said u (codes "unflushed"))
+    first : Bool → Bool → Bool → Bool × Fields
+    first h u i =
+        cond h (word_field (codes "unflushed") (said u (codes "unflushed") ++ said i (codes "inorder")))
+        (false, said u (codes "unflushed") ++ said i (codes "inorder"))
 
-    by : (h u : Bool) → (h || not u) ≡ true
-        → ◌≡◌ {A = HeaderWords × Fields} (record { unflushed = (read h u).0 }, (read h u).1) (record { unflushed = u }, [])
-    by true true f = refl
-    by true false f = refl
-    by false true f = cc
-    by false false f = refl
+    second : Bool → Bool → Bool → Bool × Fields
+    second h u i = cond h (word_field (codes "inorder") (first h u i).1) (false, (first h u i).1)
+
+    by : (h u i : Bool) → (h || not (u || i)) ≡ true
+        → ◌≡◌ {A = HeaderWords × Fields} (record { unflushed = (first h u i).0; inorder = (second h u i).0 }, (second h u i).1)
+        (record { unflushed = u; inorder = i }, [])
+    by true true true f = refl
+    by true true false f = refl
+    by true false true f = refl
+    by true false false f = refl
+    by false true i f = cc
+    by false false true f = cc
+    by false false false f = refl
 
 -- the field of shared TLBs, before words that version 5 alone has
-cnp_read : (version : ℕ) (cnp : Bool) (words : HeaderWords) → (may_share version || not cnp) ≡ true → words_ok version words ≡ true
+cnp_read : (version : ℕ) (cnp : Bool) (words : HeaderWords) → (may_share version || not cnp) ≡ true
     → cnp_field version (cnp_fields version cnp ++ word_fields words) ≡ Ok (cnp, word_fields words)
-cnp_read version cnp words fits few = by (has_words version) (may_share version) cnp fits
+cnp_read version cnp words fits = by (has_words version) (may_share version) cnp fits
   where
     by : (h shares cnp : Bool) → (shares || not cnp) ≡ true
         → cond h (Ok (word_field (codes "cnp") (cond h (said cnp (codes "cnp")) (cond shares (cnp_word cnp ∷ []) []) ++ word_fields words)))
@@ -412,9 +428,9 @@ world_read version pes cnp words (Hyp world) ok =
     ∙ on (header_field decimal_value (decimal world.el2_start ∷ decimal world.s2_start ∷ decimal world.s2_pages ∷ after)) _ (number_read world.el2_start (decimal world.s2_start ∷ decimal world.s2_pages ∷ after) small.0)
     ∙ on (header_field decimal_value (decimal world.s2_start ∷ decimal world.s2_pages ∷ after)) _ (number_read world.s2_start (decimal world.s2_pages ∷ after) small.1)
     ∙ on (header_field decimal_value (decimal world.s2_pages ∷ after)) _ (number_read world.s2_pages after small.2)
-    ∙ on (cnp_field version after) _ (cnp_read version cnp words here.cnp here.words)
+    ∙ on (cnp_field version after) _ (cnp_read version cnp words here.cnp)
     ∙ ap (λ (x : HeaderWords × Fields). checked (record { version = version; pes = pes; cnp = cnp; words = x.0; world = Hyp world }) x.1)
-    (words_read version words here.words)
+    (words_read version (Hyp world) words here.words)
     ∙ in_range (record { version = version; pes = pes; cnp = cnp; words = words; world = Hyp world }) ok
 world_read version pes cnp words (Kernel world) ok =
     let here = ranges (record { version = version; pes = pes; cnp = cnp; words = words; world = Kernel world }) ok in
@@ -426,9 +442,9 @@ world_read version pes cnp words (Kernel world) ok =
     ∙ on (header_field decimal_value (decimal world.start0 ∷ decimal world.start1 ∷ asid_from_word world.asid_from ∷ after)) _ (number_read world.start0 (decimal world.start1 ∷ asid_from_word world.asid_from ∷ after) small.0)
     ∙ on (header_field decimal_value (decimal world.start1 ∷ asid_from_word world.asid_from ∷ after)) _ (number_read world.start1 (asid_from_word world.asid_from ∷ after) small.1)
     ∙ on (header_field (with_word asid_from_word asid_froms) (asid_from_word world.asid_from ∷ after)) _ (field_read BadHeader BadHeader (with_word asid_from_word asid_froms) (asid_from_word world.asid_from) after (asid_from_word_read world.asid_from))
-    ∙ on (cnp_field version after) _ (cnp_read version cnp words here.cnp here.words)
+    ∙ on (cnp_field version after) _ (cnp_read version cnp words here.cnp)
     ∙ ap (λ (x : HeaderWords × Fields). checked (record { version = version; pes = pes; cnp = cnp; words = x.0; world = Kernel world }) x.1)
-    (words_read version words here.words)
+    (words_read version (Kernel world) words here.words)
     ∙ in_range (record { version = version; pes = pes; cnp = cnp; words = words; world = Kernel world }) ok
 
 said_visible : (b : Bool) (word : List ℕ) (rest : Fields) → visible word ≡ true → all_visible rest ≡ true → all_visible (said b word ++ rest) ≡ true
@@ -443,7 +459,9 @@ pub cnp_all_visible : (version : ℕ) (cnp : Bool) (words : HeaderWords) → all
 cnp_all_visible version cnp words = by (has_words version) (may_share version)
   where
     clean : all_visible (word_fields words) ≡ true
-    clean = last_visible words.unflushed (codes "unflushed") refl
+    clean =
+        said_visible words.unflushed (codes "unflushed") (said words.inorder (codes "inorder")) refl
+        (last_visible words.inorder (codes "inorder") refl)
 
     by : (h shares : Bool) → all_visible (cond h (said cnp (codes "cnp")) (cond shares (cnp_word cnp ∷ []) []) ++ word_fields words) ≡ true
     by true shares = said_visible cnp (codes "cnp") (word_fields words) refl clean

@@ -1,8 +1,9 @@
 -- What a log's header says.
 -- Source: project's own choice.
 use Rattle.std.specs.Prelude.{ℕ, Bool, false, ◌&&◌, ◌||◌, not, nat_le, nat_lt, if◌then◌else◌}
+use Rattle.bbm_regimes.specs.declared.regime.Kind.TheVariants.{Ttbr0}
 use Rattle.bbm_regimes.specs.declared.regime.World.{World}
-use Rattle.bbm_regimes.specs.World.{world_ok}
+use Rattle.bbm_regimes.specs.World.{kind_in_world, world_ok}
 use Rattle.bbm_tlbi_scope.specs.declared.op.TlbiOp.{TlbiOp}
 use Rattle.bbm_tlbi_scope.specs.Operations.{operation}
 use Rattle.bbm_events.specs.declared.header_words.HeaderWords.{HeaderWords}
@@ -44,12 +45,13 @@ abbrev pub nulls_everywhere : ℕ → Bool
 nulls_everywhere version = nat_le 5 version
 
 abbrev pub no_words : HeaderWords
-no_words = record { unflushed = false }
+no_words = record { unflushed = false; inorder = false }
 
--- Words stand from version 5 on.
-abbrev pub words_ok : ℕ → HeaderWords → Bool
-words_ok version words = has_words version || not words.unflushed
+-- Words stand from version 5 on, and `inorder` is one of the Kernel world.
+abbrev pub words_ok : ℕ → World → HeaderWords → Bool
+words_ok version world words = (has_words version || not (words.unflushed || words.inorder))
+    && (kind_in_world world Ttbr0 || not words.inorder)
 
 abbrev pub heading_ok : Heading → Bool
 heading_ok h = is_version h.version && are_pes h.version h.pes && (may_share h.version || not h.cnp)
-    && words_ok h.version h.words && world_ok h.world
+    && words_ok h.version h.world h.words && world_ok h.world

@@ -86,11 +86,16 @@ abbrev pub cnp_field : ℕ → Fields → FieldRead Bool
 cnp_field version rest = if has_words version then Ok (word_field (codes "cnp") rest)
     else (if may_share version then header_field (with_word cnp_word cnps) rest else Ok (false, rest))
 
--- what else the words say, from version 5 on: `unflushed`, which stands or doesn't
+-- a word that from version 5 on may stand or not, and doesn't before
+abbrev pub later_word : ℕ → List ℕ → Fields → Bool × Fields
+later_word version word rest = if has_words version then word_field word rest else (false, rest)
+
+-- what else the words say, each of which stands or doesn't, in this order: `unflushed`, then `inorder`
 abbrev pub header_words : ℕ → Fields → HeaderWords × Fields
 header_words version rest =
-    let unflushed : Bool × Fields = if has_words version then word_field (codes "unflushed") rest else (false, rest) in
-    (record { unflushed = unflushed.0 }, unflushed.1)
+    let unflushed : Bool × Fields = later_word version (codes "unflushed") rest in
+    let inorder : Bool × Fields = later_word version (codes "inorder") unflushed.1 in
+    (record { unflushed = unflushed.0; inorder = inorder.0 }, inorder.1)
 
 -- the heading, where no field is left and its numbers are in their ranges
 abbrev pub checked : Heading → Fields → Result Heading Malformed
@@ -297,7 +302,7 @@ cnp_fields version cnp = if has_words version then said cnp (codes "cnp")
     else (if may_share version then cnp_word cnp ∷ [] else [])
 
 abbrev pub word_fields : HeaderWords → Fields
-word_fields words = said words.unflushed (codes "unflushed")
+word_fields words = said words.unflushed (codes "unflushed") ++ said words.inorder (codes "inorder")
 
 -- the world's word, the number of PEs and the world's fields, with those that follow
 abbrev pub header_fields : ℕ → World → Fields → Fields

@@ -6,7 +6,9 @@
 pub struct HeaderWords {
     /// `unflushed`: a root may be given up while TLBs may keep what was read through it.
     pub unflushed: bool,
+    /// `inorder`: the root registers of a PE come into use in the order in which it wrote them. Of the Kernel world alone.
+    pub inorder: bool,
 }
 
 /// No word.
-pub const NO_WORDS: HeaderWords = HeaderWords { unflushed: false };
+pub const NO_WORDS: HeaderWords = HeaderWords { unflushed: false, inorder: false };

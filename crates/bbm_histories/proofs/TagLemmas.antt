@@ -13,6 +13,9 @@ use Rattle.bbm_rules.proofs.Common.{left_tag, loses, reads, in_tree, not-true, f
 use Rattle.bbm_lemmas.proofs.Bools.{first_none}
 use Rattle.bbm_lemmas.proofs.Words.{same_number}
 use Rattle.bbm_rules.specs.Rules.{may_be_null}
+use Rattle.bbm_rules.specs.RegisterValues.{Standing, standing_of, standings}
+use Rattle.bbm_rules.proofs.Common.{contains_cases, contains_head, contains_more, contains_none}
+use Rattle.bbm_rules.proofs.TagEndsLaw.{gives_up_is}
 use Rattle.bbm_lemmas.proofs.Words.{pe_found}
 use Rattle.bbm_rules.specs.declared.rule.Rule.TheVariants.{NoRoot, RootInUse, TagConflict}
 use Rattle.bbm_rules.specs.TagSentences.{GivesAsid, Names}
@@ -74,33 +77,72 @@ values_left pe h p reg value e = by (pe == p) e
 
 -- ---- readable tags
 
--- what reads by the registers of one history reads by those of another
-reads_on : (world : World) (h h' : List Event) (p root : ℕ) → ((reg : Reg) (value : ℕ) → Names h p reg root value → Names h' p reg root value)
-    → ((value : ℕ) → among value (register_values h p Ttbr1El1) ≡ true → among value (register_values h' p Ttbr1El1) ≡ true)
-    → (tag : Tag) → ReadsTag world h p tag root → ReadsTag world h' p tag root
-reads_on (Hyp world) h h' p root names values El2Tag k = (k.0, names Ttbr0El2 k.0 k.1)
-reads_on (Hyp world) h h' p root names values (Vmid vmid) k = (k.0, names VttbrEl2 k.0 k.1, k.2)
-reads_on (Kernel world) h h' p root names values (Asid asid) k =
-    (k.0, k.1, names Ttbr0El1 k.0 k.2, asid_on world.asid_from k.0 k.1 k.3, k.4)
+-- ---- standings
+
+-- where the event is no register write of p and no ISB of it, its standings stay
+standings_same : (e : Event) (h : List Event) (p : ℕ) → (ChangesRegisters p e → ⊥) → standings (e ∷ h) p ≡ standings h p
+standings_same (Msr pe r v) h p other = by (pe == p) refl
   where
-    asid_on : (from : AsidFrom) (value number : ℕ) → GivesAsid from h p value number → GivesAsid from h' p value number
-    asid_on FromTtbr0 value number e = e
-    asid_on FromTtbr1 value number e = values number e
-reads_on (Kernel world) h h' p root names values Ttbr1Tag k = (k.0, names Ttbr1El1 k.0 k.1)
-reads_on world h h' p root names values tag k = absurd k
+    by : (c : Bool) → (pe == p) ≡ c → cond c (standing_of (Msr pe r v ∷ h) p ∷ standings h p) (standings h p) ≡ standings h p
+    by true c = absurd (other (inl (r, v, ap (λ (x : ℕ). Msr x r v) (eqb-true pe p c))))
+    by false c = refl
+standings_same (Isb pe) h p other = by (pe == p) refl
+  where
+    by : (c : Bool) → (pe == p) ≡ c → cond c (take 1 (standings h p)) (standings h p) ≡ standings h p
+    by true c = absurd (other (inr (ap Isb (eqb-true pe p c))))
+    by false c = refl
+standings_same e h p other = refl
+
+-- a register write keeps them
+standings_kept : (pe : ℕ) (r : Reg) (v : ℕ) (h : List Event) (p : ℕ) (s : Standing) → Contains (standings h p) s
+    → Contains (standings (Msr pe r v ∷ h) p) s
+standings_kept pe r v h p s i = by (pe == p)
+  where
+    by : (c : Bool) → Contains (cond c (standing_of (Msr pe r v ∷ h) p ∷ standings h p) (standings h p)) s
+    by true = contains_more (standings h p) (standing_of (Msr pe r v ∷ h) p) s i
+    by false = i
+
+-- an ISB adds none
+contains_first : (ss : List Standing) (s : Standing) → Contains (take 1 ss) s → Contains ss s
+contains_first [] s i = i
+contains_first (x ∷ ss) s i =
+    elim (contains_cases [] x s i) [
+      | inl e ↦ subst (λ (y : Standing). Contains (x ∷ ss) y) e (contains_head ss x)
+      | inr j ↦ absurd (contains_none s j)
+    ]
+
+standings_left : (pe : ℕ) (h : List Event) (p : ℕ) (s : Standing) → Contains (standings (Isb pe ∷ h) p) s → Contains (standings h p) s
+standings_left pe h p s i = by (pe == p) i
+  where
+    by : (c : Bool) → Contains (cond c (take 1 (standings h p)) (standings h p)) s → Contains (standings h p) s
+    by true k = contains_first (standings h p) s k
+    by false k = k
+
+-- what reads by the registers of one history reads by those of another
+reads_on : (order : Bool) (world : World) (h h' : List Event) (p root : ℕ) → ((reg : Reg) (value : ℕ) → Names h p reg root value → Names h' p reg root value)
+    → ((value : ℕ) → among value (register_values h p Ttbr1El1) ≡ true → among value (register_values h' p Ttbr1El1) ≡ true)
+    → ((s : Standing) → Contains (standings h p) s → Contains (standings h' p) s)
+    → (tag : Tag) → ReadsTag order world h p tag root → ReadsTag order world h' p tag root
+reads_on order (Hyp world) h h' p root names values stands El2Tag k = (k.0, names Ttbr0El2 k.0 k.1)
+reads_on order (Hyp world) h h' p root names values stands (Vmid vmid) k = (k.0, names VttbrEl2 k.0 k.1, k.2)
+reads_on order (Kernel world) h h' p root names values stands (Asid asid) k =
+    (k.0, k.1, names Ttbr0El1 k.0 k.2, asid_on order world.asid_from k.0 k.1 k.3, k.4)
+  where
+    asid_on : (order : Bool) (from : AsidFrom) (value number : ℕ) → GivesAsid order from h p value number → GivesAsid order from h' p value number
+    asid_on order FromTtbr0 value number e = e
+    asid_on true FromTtbr1 value number e = stands (record { first = value; second = number }) e
+    asid_on false FromTtbr1 value number e = values number e
+reads_on order (Kernel world) h h' p root names values stands Ttbr1Tag k = (k.0, names Ttbr1El1 k.0 k.1)
+reads_on order world h h' p root names values stands tag k = absurd k
 
 -- the root is a declared one of the tag's kind
-reads_declared : (world : World) (h : List Event) (p root : ℕ) (tag : Tag) → ReadsTag world h p tag root
+reads_declared : (order : Bool) (world : World) (h : List Event) (p root : ℕ) (tag : Tag) → ReadsTag order world h p tag root
     → is_root h (kind_of_tag tag) root ≡ true
-reads_declared (Hyp world) h p root El2Tag k = k.1.declared
-reads_declared (Hyp world) h p root (Vmid vmid) k = k.1.declared
-reads_declared (Kernel world) h p root (Asid asid) k = k.2.declared
-reads_declared (Kernel world) h p root Ttbr1Tag k = k.1.declared
-reads_declared world h p root tag k = absurd k
-
-gives_up_is : (page : ℕ) (e : Event) → gives_up page e ≡ true → (q : ℕ) × (e ≡ Unroot q page)
-gives_up_is page (Unroot pe at) k = (pe, ap (Unroot pe) (eqb-true at page k))
-gives_up_is page e k = absurd (true≢false (sym k))
+reads_declared order (Hyp world) h p root El2Tag k = k.1.declared
+reads_declared order (Hyp world) h p root (Vmid vmid) k = k.1.declared
+reads_declared order (Kernel world) h p root (Asid asid) k = k.2.declared
+reads_declared order (Kernel world) h p root Ttbr1Tag k = k.1.declared
+reads_declared order world h p root tag k = absurd k
 
 module _ (heading : Heading) (trust : Trust) (b : Below heading trust) where
   -- ---- null pages
@@ -316,20 +358,22 @@ module _ (heading : Heading) (trust : Trust) (b : Below heading trust) where
 
   reads_back : Proper heading → (h : List Event) (e : Event) → keeps heading trust h ≡ true → Unbroken heading trust (noted heading trust h) e
       → (p : ℕ) → p < heading.pes → ((reg : Reg) (value : ℕ) → among value (register_values (e ∷ h) p reg) ≡ true
-      → among value (register_values h p reg) ≡ true) → (root : ℕ) (tag : Tag) → reads heading (e ∷ h) p tag root ≡ true
+      → among value (register_values h p reg) ≡ true) → ((s : Standing) → Contains (standings (e ∷ h) p) s → Contains (standings h p) s)
+      → (root : ℕ) (tag : Tag) → reads heading (e ∷ h) p tag root ≡ true
       → reads heading h p tag root ≡ true
-  reads_back proper h e kept rule p is_pe values root tag k =
-      b.readable_tag.complete h p tag root (reads_on heading.world (e ∷ h) h p root
-      (names_back proper h e kept rule p is_pe values root) (values Ttbr1El1) tag
+  reads_back proper h e kept rule p is_pe values stands root tag k =
+      b.readable_tag.complete h p tag root (reads_on heading.words.inorder heading.world (e ∷ h) h p root
+      (names_back proper h e kept rule p is_pe values root) (values Ttbr1El1) stands tag
       (b.readable_tag.sound (e ∷ h) p tag root k))
 
   reads_after : Proper heading → (h : List Event) (e : Event) → keeps heading trust h ≡ true → Unbroken heading trust (noted heading trust h) e
       → (p : ℕ) → p < heading.pes → ((reg : Reg) (value : ℕ) → among value (register_values h p reg) ≡ true
-      → among value (register_values (e ∷ h) p reg) ≡ true) → (root : ℕ) (tag : Tag) → reads heading h p tag root ≡ true
+      → among value (register_values (e ∷ h) p reg) ≡ true) → ((s : Standing) → Contains (standings h p) s → Contains (standings (e ∷ h) p) s)
+      → (root : ℕ) (tag : Tag) → reads heading h p tag root ≡ true
       → reads heading (e ∷ h) p tag root ≡ true
-  reads_after proper h e kept rule p is_pe values root tag k =
-      b.readable_tag.complete (e ∷ h) p tag root (reads_on heading.world h (e ∷ h) p root
-      (names_on proper h e kept rule p is_pe values root) (values Ttbr1El1) tag (b.readable_tag.sound h p tag root k))
+  reads_after proper h e kept rule p is_pe values stands root tag k =
+      b.readable_tag.complete (e ∷ h) p tag root (reads_on heading.words.inorder heading.world h (e ∷ h) p root
+      (names_on proper h e kept rule p is_pe values root) (values Ttbr1El1) stands tag (b.readable_tag.sound h p tag root k))
 
   -- whether the event is a register write of p, an ISB of it, or neither
   data Kinds (p : ℕ) (e : Event) : Type 0 where
@@ -368,31 +412,35 @@ module _ (heading : Heading) (trust : Trust) (b : Below heading trust) where
   becomes proper h e kept p root tag is_pe now before = by (kinds p e)
     where
       clash : ((reg : Reg) (value : ℕ) → among value (register_values (e ∷ h) p reg) ≡ true
-          → among value (register_values h p reg) ≡ true) → ⊥
-      clash values =
+          → among value (register_values h p reg) ≡ true) → ((s : Standing) → Contains (standings (e ∷ h) p) s → Contains (standings h p) s) → ⊥
+      clash values stands =
           let parts = last_kept heading trust b h e kept in
-          true≢false (sym (reads_back proper h e parts.0 parts.1 p is_pe values root tag now) ∙ before)
+          true≢false (sym (reads_back proper h e parts.0 parts.1 p is_pe values stands root tag now) ∙ before)
 
       by : Kinds p e → (reg : Reg) × (value : ℕ) × (e ≡ Msr p reg value)
       by (write reg value is) = (reg, value, is)
       by (sync is) = absurd (clash (λ reg value k. values_left p h p reg value
-          (subst (λ (x : Event). among value (register_values (x ∷ h) p reg) ≡ true) is k)))
-      by (neither other) = absurd (clash (λ reg value k. sym (same_values h e p other reg value) ∙ k))
+          (subst (λ (x : Event). among value (register_values (x ∷ h) p reg) ≡ true) is k))
+          (λ s i. standings_left p h p s (subst (λ (x : Event). Contains (standings (x ∷ h) p) s) is i)))
+      by (neither other) = absurd (clash (λ reg value k. sym (same_values h e p other reg value) ∙ k)
+          (λ s i. subst (λ (ss : List Standing). Contains ss s) (standings_same e h p other) i))
 
   pub stops : Proper heading → (h : List Event) (e : Event) → keeps heading trust (e ∷ h) ≡ true → StopsToBeReadable heading h e
   stops proper h e kept p root tag is_pe before now = by (kinds p e)
     where
       clash : ((reg : Reg) (value : ℕ) → among value (register_values h p reg) ≡ true
-          → among value (register_values (e ∷ h) p reg) ≡ true) → ⊥
-      clash values =
+          → among value (register_values (e ∷ h) p reg) ≡ true) → ((s : Standing) → Contains (standings h p) s → Contains (standings (e ∷ h) p) s) → ⊥
+      clash values stands =
           let parts = last_kept heading trust b h e kept in
-          true≢false (sym (reads_after proper h e parts.0 parts.1 p is_pe values root tag before) ∙ now)
+          true≢false (sym (reads_after proper h e parts.0 parts.1 p is_pe values stands root tag before) ∙ now)
 
       by : Kinds p e → e ≡ Isb p
       by (sync is) = is
       by (write r v is) = absurd (clash (λ reg value k.
-          subst (λ (x : Event). among value (register_values (x ∷ h) p reg) ≡ true) (sym is) (values_kept p r v h p reg value k)))
-      by (neither other) = absurd (clash (λ reg value k. same_values h e p other reg value ∙ k))
+          subst (λ (x : Event). among value (register_values (x ∷ h) p reg) ≡ true) (sym is) (values_kept p r v h p reg value k))
+          (λ s i. subst (λ (x : Event). Contains (standings (x ∷ h) p) s) (sym is) (standings_kept p r v h p s i)))
+      by (neither other) = absurd (clash (λ reg value k. same_values h e p other reg value ∙ k)
+          (λ s i. subst (λ (ss : List Standing). Contains ss s) (sym (standings_same e h p other)) i))
 
   -- ---- which root holds a tag
 
@@ -402,7 +450,7 @@ module _ (heading : Heading) (trust : Trust) (b : Below heading trust) where
   held_by_root proper (e ∷ h) kept p root tag is_pe k =
       let parts = last_kept heading trust b h e kept in
       elim (or_cases (reads heading (e ∷ h) p tag root) (holds_at heading trust p root tag h && not (ends heading trust p root tag e h)) k) [
-        | inl read ↦ reads_declared heading.world (e ∷ h) p root tag (b.readable_tag.sound (e ∷ h) p tag root read)
+        | inl read ↦ reads_declared heading.words.inorder heading.world (e ∷ h) p root tag (b.readable_tag.sound (e ∷ h) p tag root read)
         | inr held ↦
             let both = and_parts (holds_at heading trust p root tag h) (not (ends heading trust p root tag e h)) held in
             root_on proper h e (kind_of_tag tag) root parts.0 parts.1
@@ -420,7 +468,7 @@ module _ (heading : Heading) (trust : Trust) (b : Below heading trust) where
   -- a root holds what is readable for it
   reads_hold : (h : List Event) (p root : ℕ) (tag : Tag) → reads heading h p tag root ≡ true → holds_at heading trust p root tag h ≡ true
   reads_hold [] p root tag k =
-      absurd (true≢false (sym (reads_declared heading.world [] p root tag (b.readable_tag.sound [] p tag root k))))
+      absurd (true≢false (sym (reads_declared heading.words.inorder heading.world [] p root tag (b.readable_tag.sound [] p tag root k))))
   reads_hold (e ∷ h) p root tag k =
       or_left (reads heading (e ∷ h) p tag root) (holds_at heading trust p root tag h && not (ends heading trust p root tag e h)) k
 
@@ -545,7 +593,7 @@ module _ (heading : Heading) (trust : Trust) (b : Below heading trust) where
           → reads heading (e ∷ h) p tag r ≡ true → gives_up r e ≡ true → ⊥
       read_up proper h (Unroot pe at) kept p r tag is_pe read up =
           let d = b.root.of_kind (Unroot pe at ∷ h) (kind_of_tag tag) r
-          (reads_declared heading.world (Unroot pe at ∷ h) p r tag (b.readable_tag.sound (Unroot pe at ∷ h) p tag r read)) in
+          (reads_declared heading.words.inorder heading.world (Unroot pe at ∷ h) p r tag (b.readable_tag.sound (Unroot pe at ∷ h) p tag r read)) in
           not_retired (Unroot pe at) h d.0 d.1 pe (ap (Unroot pe) (eqb-true at r up ∙ sym d.2))
       read_up proper h e kept p r tag is_pe read up = absurd (true≢false (sym up))
 

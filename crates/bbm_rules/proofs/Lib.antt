@@ -24,6 +24,7 @@ pub mod CasesAnswers
 pub mod CasesVersions
 pub mod CasesNulls
 pub mod CasesUnflushed
+pub mod CasesInOrder
 pub mod CasesUnreached
 pub mod ReadableLaw
 pub mod OpenLaw
@@ -39,6 +40,8 @@ pub mod RegisterLaw
 pub mod RootLaw
 pub mod RootPages
 pub mod TagLaw
+pub mod StandingLaw
+pub mod StandingSentence
 pub mod TagEndsLaw
 pub mod TagPagesLaw
 pub mod NotesLaw

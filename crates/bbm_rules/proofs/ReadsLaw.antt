@@ -20,12 +20,14 @@ use Rattle.bbm_lemmas.proofs.Elements.{from_filter_map, from_flat, none_in, to_f
 use Rattle.bbm_rules.proofs.ListLemmas.{least_none}
 use Rattle.bbm_rules.proofs.TagSetLaw.{no_tag}
 use Rattle.bbm_rules.specs.Rules.{holds_some_tag, is_loaded, is_used, leavers, other_holders, others, root_in_use}
-use Rattle.bbm_rules.proofs.Common.{given_up, left_at, left_tag}
+use Rattle.bbm_rules.proofs.Common.{given_up, left_at, left_tag, to_contains}
+use Rattle.bbm_rules.proofs.StandingLaw.{standing_readable}
+use Rattle.bbm_rules.specs.RegisterValues.{Standing, standings}
 use Rattle.bbm_rules.proofs.TagEndsLaw.{left_in_given_up}
 use Rattle.bbm_lemmas.proofs.Bools.{second_false}
 use Rattle.bbm_lemmas.proofs.Words.{pe_found}
 use Rattle.bbm_rules.specs.TagSentences.{GivesAsid, Names}
-use Rattle.bbm_rules.specs.Tags.{reading_of}
+use Rattle.bbm_rules.specs.Tags.{reading_of, standing_reading}
 
 module _ (h : List Event) (p : ℕ) where
   -- a reading that a register gives
@@ -34,18 +36,22 @@ module _ (h : List Event) (p : ℕ) where
     names : Names h p reg r.root value
     same : r.tag ≡ tag value
 
+  -- by this value
+  record GivenAt (reg : Reg) (tag : ℕ → Tag) (r : Reading) (value : ℕ) : Type 0 where
+    names : Names h p reg r.root value
+    same : r.tag ≡ tag value
+
   given_by : (reg : Reg) (tag : ℕ → Tag) (value : ℕ) (r : Reading) → In (register_values h p reg) value
-      → reading_of h reg tag value ≡ Some r → Given reg tag r
+      → reading_of h reg tag value ≡ Some r → GivenAt reg tag r value
   given_by reg tag value r i e = by (base_of value) refl e
     where
       go : (base : ℕ) → base_of value ≡ Some base → (c : Bool) → is_root h (kind_of_reg reg) base ≡ c
-          → if_so c (record { tag = tag value; root = base }) ≡ Some r → Given reg tag r
+          → if_so c (record { tag = tag value; root = base }) ≡ Some r → GivenAt reg tag r value
       go base b false c k = cc
       go base b true c k =
           let same : record { tag = tag value; root = base } ≡ r = cc in
           let root : base ≡ r.root = ap (λ (x : Reading). x.root) same in
           record {
-            value = value;
             names = record {
               readable = among_in value (register_values h p reg) i;
               base = b ∙ ap Some root;
@@ -56,13 +62,15 @@ module _ (h : List Event) (p : ℕ) where
 
       by : (o : Option ℕ) → base_of value ≡ o
           → option_and_then (λ base. if_so (is_root h (kind_of_reg reg) base) (record { tag = tag value; root = base })) o ≡ Some r
-          → Given reg tag r
+          → GivenAt reg tag r value
       by None b k = cc
       by (Some base) b k = go base b (is_root h (kind_of_reg reg) base) refl k
 
   given : (reg : Reg) (tag : ℕ → Tag) (r : Reading) → In (readings_of h p reg tag) r → Given reg tag r
   given reg tag r i =
-      let k = from_filter_map (reading_of h reg tag) (register_values h p reg) r i in given_by reg tag k.0 r k.1 k.2
+      let k = from_filter_map (reading_of h reg tag) (register_values h p reg) r i in
+      let g : GivenAt reg tag r k.0 = given_by reg tag k.0 r k.1 k.2 in
+      record { value = k.0; names = g.names; same = g.same }
 
   gives : (reg : Reg) (tag : ℕ → Tag) (root value : ℕ) → Names h p reg root value
       → In (readings_of h p reg tag) (record { tag = tag value; root = root })
@@ -73,18 +81,30 @@ module _ (h : List Event) (p : ℕ) where
       ∙ ap (λ (c : Bool). if_so c (record { tag = tag value; root = root })) k.declared)
 
   -- a reading under an ASID
-  record AsidGiven (from : AsidFrom) (r : Reading) : Type 0 where
+  record AsidGiven (order : Bool) (from : AsidFrom) (r : Reading) : Type 0 where
     value : ℕ
     number : ℕ
     names : Names h p Ttbr0El1 r.root value
-    asid : GivesAsid from h p value number
+    asid : GivesAsid order from h p value number
     same : r.tag ≡ Asid (tag_number number)
 
-  asid_given : (from : AsidFrom) (r : Reading) → In (asid_readings from h p) r → AsidGiven from r
-  asid_given FromTtbr0 r i =
+  asid_given : (order : Bool) (from : AsidFrom) (r : Reading) → In (asid_readings order from h p) r → AsidGiven order from r
+  asid_given order FromTtbr0 r i =
       let k : Given Ttbr0El1 (λ value. Asid (tag_number value)) r = given Ttbr0El1 (λ value. Asid (tag_number value)) r i in
       record { value = k.value; number = k.value; names = k.names; asid = refl; same = k.same }
-  asid_given FromTtbr1 r i =
+  asid_given true FromTtbr1 r i =
+      let f = from_filter_map (standing_reading h) (standings h p) r i in
+      let g : GivenAt Ttbr0El1 (λ value. Asid (tag_number f.0.second)) r f.0.first
+      = given_by Ttbr0El1 (λ value. Asid (tag_number f.0.second)) f.0.first r
+      (in_among f.0.first (register_values h p Ttbr0El1) (standing_readable p h f.0 f.1)) f.2 in
+      record {
+        value = f.0.first;
+        number = f.0.second;
+        names = g.names;
+        asid = to_contains (standings h p) f.0 f.1;
+        same = g.same;
+      }
+  asid_given false FromTtbr1 r i =
       let f = from_flat (λ from. readings_of h p Ttbr0El1 (λ value. Asid (tag_number from))) (register_values h p Ttbr1El1) r i in
       let k : Given Ttbr0El1 (λ value. Asid (tag_number f.0)) r = given Ttbr0El1 (λ value. Asid (tag_number f.0)) r f.2 in
       record {
@@ -95,60 +115,66 @@ module _ (h : List Event) (p : ℕ) where
         same = k.same;
       }
 
-  asid_gives : (from : AsidFrom) (root value number : ℕ) → Names h p Ttbr0El1 root value → GivesAsid from h p value number
-      → In (asid_readings from h p) (record { tag = Asid (tag_number number); root = root })
-  asid_gives FromTtbr0 root value number k e =
-      subst (λ (x : ℕ). In (asid_readings FromTtbr0 h p) (record { tag = Asid (tag_number x); root = root })) (sym e)
+  asid_gives : (order : Bool) (from : AsidFrom) (root value number : ℕ) → Names h p Ttbr0El1 root value → GivesAsid order from h p value number
+      → In (asid_readings order from h p) (record { tag = Asid (tag_number number); root = root })
+  asid_gives order FromTtbr0 root value number k e =
+      subst (λ (x : ℕ). In (asid_readings order FromTtbr0 h p) (record { tag = Asid (tag_number x); root = root })) (sym e)
       (gives Ttbr0El1 (λ value. Asid (tag_number value)) root value k)
-  asid_gives FromTtbr1 root value number k e =
+  asid_gives true FromTtbr1 root value number k e =
+      to_filter_map (standing_reading h) (standings h p) (record { first = value; second = number })
+      (record { tag = Asid (tag_number number); root = root })
+      (from_contains (standings h p) (record { first = value; second = number }) e)
+      (ap (option_and_then (λ base. if_so (is_root h (kind_of_reg Ttbr0El1) base) (record { tag = Asid (tag_number number); root = base }))) k.base
+      ∙ ap (λ (c : Bool). if_so c (record { tag = Asid (tag_number number); root = root })) k.declared)
+  asid_gives false FromTtbr1 root value number k e =
       to_flat (λ from. readings_of h p Ttbr0El1 (λ value. Asid (tag_number from))) (register_values h p Ttbr1El1) number
       (record { tag = Asid (tag_number number); root = root }) (in_among number (register_values h p Ttbr1El1) e)
       (gives Ttbr0El1 (λ value. Asid (tag_number number)) root value k)
 
-  sound_in : (world : World) (tag : Tag) (root : ℕ) (r : Reading) → In (readings_in world h p) r → r.tag ≡ tag → r.root ≡ root
-      → ReadsTag world h p tag root
-  sound_in (Hyp world) tag root r i same at =
+  sound_in : (order : Bool) (world : World) (tag : Tag) (root : ℕ) (r : Reading) → In (readings_in order world h p) r → r.tag ≡ tag → r.root ≡ root
+      → ReadsTag order world h p tag root
+  sound_in order (Hyp world) tag root r i same at =
       elim (in_append (readings_of h p Ttbr0El2 (λ value. El2Tag)) (readings_of h p VttbrEl2 (λ value. Vmid (tag_number value))) r i) [
         | inl a ↦
             let k : Given Ttbr0El2 (λ value. El2Tag) r = given Ttbr0El2 (λ value. El2Tag) r a in
-            subst (λ (x : Tag). ReadsTag (Hyp world) h p x root) (sym k.same ∙ same)
+            subst (λ (x : Tag). ReadsTag order (Hyp world) h p x root) (sym k.same ∙ same)
             (k.value, subst (λ (x : ℕ). Names h p Ttbr0El2 x k.value) at k.names)
         | inr a ↦
             let k : Given VttbrEl2 (λ value. Vmid (tag_number value)) r = given VttbrEl2 (λ value. Vmid (tag_number value)) r a in
-            subst (λ (x : Tag). ReadsTag (Hyp world) h p x root) (sym k.same ∙ same)
+            subst (λ (x : Tag). ReadsTag order (Hyp world) h p x root) (sym k.same ∙ same)
             (k.value, subst (λ (x : ℕ). Names h p VttbrEl2 x k.value) at k.names, refl)
       ]
-  sound_in (Kernel world) tag root r i same at =
-      elim (in_append (asid_readings world.asid_from h p) (readings_of h p Ttbr1El1 (λ value. Ttbr1Tag)) r i) [
+  sound_in order (Kernel world) tag root r i same at =
+      elim (in_append (asid_readings order world.asid_from h p) (readings_of h p Ttbr1El1 (λ value. Ttbr1Tag)) r i) [
         | inl a ↦
-            let k : AsidGiven world.asid_from r = asid_given world.asid_from r a in
-            subst (λ (x : Tag). ReadsTag (Kernel world) h p x root) (sym k.same ∙ same)
+            let k : AsidGiven order world.asid_from r = asid_given order world.asid_from r a in
+            subst (λ (x : Tag). ReadsTag order (Kernel world) h p x root) (sym k.same ∙ same)
             (k.value, k.number, subst (λ (x : ℕ). Names h p Ttbr0El1 x k.value) at k.names, k.asid, refl)
         | inr a ↦
             let k : Given Ttbr1El1 (λ value. Ttbr1Tag) r = given Ttbr1El1 (λ value. Ttbr1Tag) r a in
-            subst (λ (x : Tag). ReadsTag (Kernel world) h p x root) (sym k.same ∙ same)
+            subst (λ (x : Tag). ReadsTag order (Kernel world) h p x root) (sym k.same ∙ same)
             (k.value, subst (λ (x : ℕ). Names h p Ttbr1El1 x k.value) at k.names)
       ]
 
-  complete_in : (world : World) (tag : Tag) (root : ℕ) → ReadsTag world h p tag root
-      → In (readings_in world h p) (record { tag = tag; root = root })
-  complete_in (Hyp world) El2Tag root k =
+  complete_in : (order : Bool) (world : World) (tag : Tag) (root : ℕ) → ReadsTag order world h p tag root
+      → In (readings_in order world h p) (record { tag = tag; root = root })
+  complete_in order (Hyp world) El2Tag root k =
       in_left (readings_of h p Ttbr0El2 (λ value. El2Tag)) (readings_of h p VttbrEl2 (λ value. Vmid (tag_number value)))
       (record { tag = El2Tag; root = root }) (gives Ttbr0El2 (λ value. El2Tag) root k.0 k.1)
-  complete_in (Hyp world) (Vmid vmid) root k =
+  complete_in order (Hyp world) (Vmid vmid) root k =
       in_right (readings_of h p Ttbr0El2 (λ value. El2Tag)) (readings_of h p VttbrEl2 (λ value. Vmid (tag_number value)))
       (record { tag = Vmid vmid; root = root })
       (subst (λ (x : ℕ). In (readings_of h p VttbrEl2 (λ value. Vmid (tag_number value))) (record { tag = Vmid x; root = root })) k.2
       (gives VttbrEl2 (λ value. Vmid (tag_number value)) root k.0 k.1))
-  complete_in (Kernel world) (Asid asid) root k =
-      in_left (asid_readings world.asid_from h p) (readings_of h p Ttbr1El1 (λ value. Ttbr1Tag))
+  complete_in order (Kernel world) (Asid asid) root k =
+      in_left (asid_readings order world.asid_from h p) (readings_of h p Ttbr1El1 (λ value. Ttbr1Tag))
       (record { tag = Asid asid; root = root })
-      (subst (λ (x : ℕ). In (asid_readings world.asid_from h p) (record { tag = Asid x; root = root })) k.4
-      (asid_gives world.asid_from root k.0 k.1 k.2 k.3))
-  complete_in (Kernel world) Ttbr1Tag root k =
-      in_right (asid_readings world.asid_from h p) (readings_of h p Ttbr1El1 (λ value. Ttbr1Tag))
+      (subst (λ (x : ℕ). In (asid_readings order world.asid_from h p) (record { tag = Asid x; root = root })) k.4
+      (asid_gives order world.asid_from root k.0 k.1 k.2 k.3))
+  complete_in order (Kernel world) Ttbr1Tag root k =
+      in_right (asid_readings order world.asid_from h p) (readings_of h p Ttbr1El1 (λ value. Ttbr1Tag))
       (record { tag = Ttbr1Tag; root = root }) (gives Ttbr1El1 (λ value. Ttbr1Tag) root k.0 k.1)
-  complete_in world tag root k = absurd k
+  complete_in order world tag root k = absurd k
 
 -- the reading that the search finds
 found_reading : (heading : Heading) (h : List Event) (p : ℕ) (tag : Tag) (root : ℕ) → reads heading h p tag root ≡ true
@@ -159,15 +185,15 @@ found_reading heading h p tag root k =
     (f.0, f.1, tag_equal f.0.tag tag parts.0, eqb-true f.0.root root parts.1)
 
 pub reads_sound : (heading : Heading) (h : List Event) (p : ℕ) (tag : Tag) (root : ℕ) → reads heading h p tag root ≡ true
-    → ReadsTag heading.world h p tag root
+    → ReadsTag heading.words.inorder heading.world h p tag root
 reads_sound heading h p tag root k =
-    let f = found_reading heading h p tag root k in sound_in h p heading.world tag root f.0 f.1 f.2 f.3
+    let f = found_reading heading h p tag root k in sound_in h p heading.words.inorder heading.world tag root f.0 f.1 f.2 f.3
 
-pub reads_complete : (heading : Heading) (h : List Event) (p : ℕ) (tag : Tag) (root : ℕ) → ReadsTag heading.world h p tag root
+pub reads_complete : (heading : Heading) (h : List Event) (p : ℕ) (tag : Tag) (root : ℕ) → ReadsTag heading.words.inorder heading.world h p tag root
     → reads heading h p tag root ≡ true
 reads_complete heading h p tag root k =
     any_finds (λ (r : Reading). same_tag r.tag tag && r.root == root) (readings heading h p) (record { tag = tag; root = root })
-    (complete_in h p heading.world tag root k) (and_from (same_tag tag tag) (root == root) (tag_self tag) (same_number root))
+    (complete_in h p heading.words.inorder heading.world tag root k) (and_from (same_tag tag tag) (root == root) (tag_self tag) (same_number root))
 
 -- ---- the rules
 

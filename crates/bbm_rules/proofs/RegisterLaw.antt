@@ -64,7 +64,7 @@ module _ (p : ℕ) (reg : Reg) where
         | inr none ↦ absurd (true≢false (sym none))
       ]
 
-  has_first : (values : List ℕ) (value : ℕ) → take 1 values ≡ value ∷ [] → among value values ≡ true
+  pub has_first : (values : List ℕ) (value : ℕ) → take 1 values ≡ value ∷ [] → among value values ≡ true
   has_first [] value e = cc
   has_first (v ∷ values) value e =
       let same : v ≡ value = cc in

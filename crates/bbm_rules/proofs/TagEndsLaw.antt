@@ -36,7 +36,7 @@ split_on false false false true false = refl
 split_on false false false false true = refl
 split_on false false false false false = refl
 
-gives_up_is : (page : ℕ) (e : Event) → gives_up page e ≡ true → (q : ℕ) × (e ≡ Unroot q page)
+pub gives_up_is : (page : ℕ) (e : Event) → gives_up page e ≡ true → (q : ℕ) × (e ≡ Unroot q page)
 gives_up_is page (Unroot pe at) k = (pe, ap (Unroot pe) (eqb-true at page k))
 gives_up_is page e k = absurd (true≢false (sym k))
 

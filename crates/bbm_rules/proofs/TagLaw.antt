@@ -33,18 +33,19 @@ some_reading heading h p tag root k =
     any_finds (λ (r : Reading). same_tag r.tag tag) (readings heading h p) r.0 r.1 (and_parts (same_tag r.0.tag tag) (r.0.root == root) r.2).0
 
 -- at the start no tag is readable
-pub no_reading : (world : World) (p : ℕ) → readings_in world [] p ≡ []
-no_reading (Hyp hyp) p = refl
-no_reading (Kernel kernel) p = by_asid kernel.asid_from
+pub no_reading : (order : Bool) (world : World) (p : ℕ) → readings_in order world [] p ≡ []
+no_reading order (Hyp hyp) p = refl
+no_reading order (Kernel kernel) p = by_asid order kernel.asid_from
   where
-    by_asid : (from : AsidFrom) → asid_readings from [] p ++ readings_of [] p Ttbr1El1 (λ value. Ttbr1Tag) ≡ []
-    by_asid FromTtbr0 = refl
-    by_asid FromTtbr1 = refl
+    by_asid : (order : Bool) (from : AsidFrom) → asid_readings order from [] p ++ readings_of [] p Ttbr1El1 (λ value. Ttbr1Tag) ≡ []
+    by_asid order FromTtbr0 = refl
+    by_asid true FromTtbr1 = refl
+    by_asid false FromTtbr1 = refl
 
 pub not_at_start : (heading : Heading) (p root : ℕ) (tag : Tag) → reads heading [] p tag root ≡ true → ⊥
 not_at_start heading p root tag k =
     let r = any_found (λ (r : Reading). same_tag r.tag tag && r.root == root) (readings heading [] p) k in
-    subst (λ (rs : List Reading). In rs r.0) (no_reading heading.world p) r.1
+    subst (λ (rs : List Reading). In rs r.0) (no_reading heading.words.inorder heading.world p) r.1
 
 -- the number of a tag has 16 bits
 pub tag_small : (value : ℕ) → value < 2 ^ 64 → nat_lt (tag_number value) (2 ^ 16) ≡ true

@@ -54,13 +54,13 @@ listed_on (Unroot pe at) h page i = by (page == at) refl
 listed_on e h page i = i
 
 -- what is readable is so for a declared root
-read_root : (world : World) (h : List Event) (p root : ℕ) (tag : Tag) → ReadsTag world h p tag root
+pub read_root : (inorder : Bool) (world : World) (h : List Event) (p root : ℕ) (tag : Tag) → ReadsTag inorder world h p tag root
     → (kind : Kind) × (is_root h kind root ≡ true)
-read_root (Hyp world) h p root El2Tag k = (El2, k.1.declared)
-read_root (Hyp world) h p root (Vmid vmid) k = (S2, k.1.declared)
-read_root (Kernel world) h p root (Asid asid) k = (Ttbr0, k.2.declared)
-read_root (Kernel world) h p root Ttbr1Tag k = (Ttbr1, k.1.declared)
-read_root world h p root tag k = absurd k
+read_root inorder (Hyp world) h p root El2Tag k = (El2, k.1.declared)
+read_root inorder (Hyp world) h p root (Vmid vmid) k = (S2, k.1.declared)
+read_root inorder (Kernel world) h p root (Asid asid) k = (Ttbr0, k.2.declared)
+read_root inorder (Kernel world) h p root Ttbr1Tag k = (Ttbr1, k.1.declared)
+read_root inorder world h p root tag k = absurd k
 
 pub kept_listed : (heading : Heading) (trust : Trust) (p page : ℕ) (tag : Tag) (h : List Event)
     → kept_at heading trust p page tag h ≡ true → In (first_pages h) page
@@ -69,7 +69,7 @@ kept_listed heading trust p page tag (e ∷ h) k =
     elim (or_cases (reads heading (e ∷ h) p tag page)
     (kept_at heading trust p page tag h && not (loses heading trust p tag e h)) k) [
       | inl now ↦
-          let root = read_root heading.world (e ∷ h) p page tag (reads_sound heading (e ∷ h) p tag page now) in
+          let root = read_root heading.words.inorder heading.world (e ∷ h) p page tag (reads_sound heading (e ∷ h) p tag page now) in
           let r = any_found (λ (r : Declared). is_at page r && same_kind r.kind root.0) (roots_of (e ∷ h)) root.1 in
           let same : r.0.page ≡ page
           = eqb-true r.0.page page (and_parts (is_at page r.0) (same_kind r.0.kind root.0) r.2).0 in

@@ -9,7 +9,8 @@ use Rattle.bbm_events.specs.declared.claim.Claim.TheVariants.{Taken}
 use Rattle.bbm_rules.specs.Claims.{Trust, allows}
 use Rattle.bbm_rules.specs.Places.{page_of}
 use Rattle.bbm_rules.specs.Reach.{Issued, completes, reaches}
-use Rattle.bbm_rules.specs.RegisterValues.{same_reg}
+pub use Rattle.bbm_rules.specs.RegisterValues.{register_value}
+use Rattle.bbm_rules.specs.RegisterValues.{Standing, standing_of}
 use Rattle.bbm_rules.specs.Roots.{Declared}
 use Rattle.bbm_rules.specs.Tags.{itself, reads, reads_for_some, takes_tag}
 use Rattle.bbm_rules.specs.Values.{published, publishes_to, value_of}
@@ -33,12 +34,6 @@ pub record HoldsLock (h : List Event) (p lock : ℕ) : Type 0 where
   pub last : (q : ℕ) (after before : List Event) → newer ≡ after ++ Lock q lock ∷ before → ⊥
   pub not_given : (after before : List Event) → newer ≡ after ++ Unlock p lock ∷ before → ⊥
 
--- the value of a register of p: the last that p wrote, else 0
-abbrev pub register_value : List Event → ℕ → Reg → ℕ
-register_value [] p reg = 0
-register_value (Msr pe r value ∷ h) p reg = if pe == p && same_reg r reg then value else register_value h p reg
-register_value (_ ∷ h) p reg = register_value h p reg
-
 -- The value is a readable one of the register of p: at some moment the register had it, and after that moment no write
 -- of the register by p is followed by an `isb` of p.
 -- Source: Arm ARM (DDI 0487), "Context synchronization event".
@@ -48,6 +43,16 @@ pub record ReadableRegister (h : List Event) (p : ℕ) (reg : Reg) (value : ℕ)
   pub split : h ≡ newer ++ older
   pub had : register_value older p reg ≡ value
   pub unreplaced : (w : ℕ) (after between before : List Event)
+      → newer ≡ after ++ Isb p ∷ (between ++ Msr p reg w ∷ before) → ⊥
+
+-- The standing is a readable one of p: at some moment the registers stood so, and after that moment no register write of
+-- p is followed by an `isb` of p.
+pub record ReadableStanding (h : List Event) (p : ℕ) (s : Standing) : Type 0 where
+  pub newer : List Event
+  pub older : List Event
+  pub split : h ≡ newer ++ older
+  pub had : standing_of older p ≡ s
+  pub unreplaced : (reg : Reg) (w : ℕ) (after between before : List Event)
       → newer ≡ after ++ Isb p ∷ (between ++ Msr p reg w ∷ before) → ⊥
 
 -- A write of the PE q is published to p, by a DSB of q among the events after it, `later`.

@@ -1,6 +1,6 @@
 -- Tags: under which a PE may read through a root, and which a root holds. A history is newest first.
 -- Source: project's own choice, but where another is named.
-use Rattle.std.specs.Prelude.{ℕ, suc, Bool, false, ◌&&◌, ◌||◌, not, nat_le, ◌==◌, List, [], ◌∷◌, ◌++◌, length, Option}
+use Rattle.std.specs.Prelude.{ℕ, suc, Bool, true, false, ◌&&◌, ◌||◌, not, nat_le, ◌==◌, List, [], ◌∷◌, ◌++◌, length, Option}
 use Rattle.std.specs.Prelude.{Some, None, filter, filter_map, flat_map, if◌then◌else◌}
 use Rattle.bbm_tlbi_scope.specs.declared.entry.TagSet.{TagSet}
 use Rattle.bbm_tlbi_scope.specs.declared.entry.TagSet.TheVariants.{None as NoTag, One, Many}
@@ -12,7 +12,8 @@ use Rattle.bbm_events.specs.declared.claim.Claim.TheVariants.{Taken}
 use Rattle.bbm_rules.specs.Claims.{Trust, allows, same_tag}
 use Rattle.bbm_rules.specs.Lists.{◌>>=◌, any, below, if_so, some, some_pe}
 use Rattle.bbm_rules.specs.Reach.{Issued, completes, reaches, unanswered}
-use Rattle.bbm_rules.specs.RegisterValues.{base_of, kind_of_reg, named_scope, register_values, tag_number, vmid_of}
+use Rattle.bbm_rules.specs.RegisterValues.{Standing, base_of, kind_of_reg, named_scope, register_values, standings}
+use Rattle.bbm_rules.specs.RegisterValues.{tag_number, vmid_of}
 use Rattle.bbm_rules.specs.Roots.{gives_up, is_root}
 
 -- a tag that is readable for a root
@@ -29,22 +30,34 @@ reading_of h reg tag value =
 abbrev pub readings_of : List Event → ℕ → Reg → (ℕ → Tag) → List Reading
 readings_of h p reg tag = filter_map (reading_of h reg tag) (register_values h p reg)
 
--- the ASID is that of the same value of TTBR0_EL1, or that of a readable value of TTBR1_EL1
-abbrev pub asid_readings : AsidFrom → List Event → ℕ → List Reading
-asid_readings FromTtbr0 h p = readings_of h p Ttbr0El1 (λ value. Asid (tag_number value))
-asid_readings FromTtbr1 h p =
+-- the readings of a standing: the base of its value of TTBR0_EL1 under the ASID of its value of TTBR1_EL1
+abbrev pub standing_reading : List Event → Standing → Option Reading
+standing_reading h s = reading_of h Ttbr0El1 (λ value. Asid (tag_number s.second)) s.first
+
+-- The ASID is that of a readable value of TTBR1_EL1; where the registers come into use in order, that of the same
+-- readable standing.
+abbrev pub second_readings : Bool → List Event → ℕ → List Reading
+second_readings true h p = filter_map (standing_reading h) (standings h p)
+second_readings false h p =
     flat_map (λ from. readings_of h p Ttbr0El1 (λ value. Asid (tag_number from))) (register_values h p Ttbr1El1)
+
+-- the ASID is that of the same value of TTBR0_EL1, or as above
+abbrev pub asid_readings : Bool → AsidFrom → List Event → ℕ → List Reading
+asid_readings inorder FromTtbr0 h p = readings_of h p Ttbr0El1 (λ value. Asid (tag_number value))
+asid_readings inorder FromTtbr1 h p = second_readings inorder h p
 
 -- Readable tags at p: `El2` for the base of each readable value of TTBR0_EL2; `Vmid` of a readable value of
 -- VTTBR_EL2 for its base; `Ttbr1` for the base of each readable value of TTBR1_EL1; `Asid` for the base of a
 -- readable value of TTBR0_EL1, with the ASID of that value or of a readable value of TTBR1_EL1, as the header
--- says. Tags of the other world are never readable.
+-- says; under `inorder` with the ASID of TTBR1_EL1 in the same readable standing. Tags of the other world are never
+-- readable.
 -- Source: Arm ARM (DDI 0487), "Translation Lookaside Buffers", and TCR_EL1.A1 of "AArch64 System register
 -- descriptions".
-abbrev pub readings_in : World → List Event → ℕ → List Reading
-readings_in (Hyp world) h p =
+abbrev pub readings_in : Bool → World → List Event → ℕ → List Reading
+readings_in inorder (Hyp world) h p =
     readings_of h p Ttbr0El2 (λ value. El2Tag) ++ readings_of h p VttbrEl2 (λ value. Vmid (tag_number value))
-readings_in (Kernel world) h p = asid_readings world.asid_from h p ++ readings_of h p Ttbr1El1 (λ value. Ttbr1Tag)
+readings_in inorder (Kernel world) h p =
+    asid_readings inorder world.asid_from h p ++ readings_of h p Ttbr1El1 (λ value. Ttbr1Tag)
 
 -- an event of a history is its own event
 abbrev pub itself : Event → Event
@@ -55,7 +68,7 @@ tag_for root r = if_so (r.root == root) r.tag
 
 module _ (heading : Heading) where
   abbrev pub readings : List Event → ℕ → List Reading
-  readings h p = readings_in heading.world h p
+  readings h p = readings_in heading.words.inorder heading.world h p
 
   -- whether the tag is readable at p for the root, and for some root
   abbrev pub reads : List Event → ℕ → Tag → ℕ → Bool

@@ -2,7 +2,7 @@
 //! sentence over all ways to split a history.
 
 ghost use Rattle.std.specs.Prelude.{◌≡◌, ◌↔◌, ℕ, ◌≤◌, true, false, length, Option, None, List, ◌==◌, ◌∷◌, Some};
-ghost use Rattle.std.specs.Prelude.{◌++◌};
+ghost use Rattle.std.specs.Prelude.{◌++◌, Contains};
 ghost use Rattle.bbm_regimes.specs.declared.regime.Kind.{Kind};
 ghost use Rattle.bbm_regimes.specs.declared.regime.Reg.{Reg};
 ghost use Rattle.bbm_regimes.specs.declared.regime.Reg.TheVariants.{VttbrEl2};
@@ -17,9 +17,9 @@ ghost use Rattle.bbm_rules.specs.Limits.{limit_of};
 ghost use Rattle.bbm_rules.specs.Lists.{among};
 ghost use Rattle.bbm_rules.specs.Locks.{holder_of};
 ghost use Rattle.bbm_rules.specs.Pages.{initialised, is_null};
-ghost use Rattle.bbm_rules.specs.RegisterValues.{register_values, tag_number, vmid_of};
+ghost use Rattle.bbm_rules.specs.RegisterValues.{Standing, register_values, standings, tag_number, vmid_of};
 ghost use Rattle.bbm_rules.specs.Roots.{roots_of};
-ghost use Rattle.bbm_rules.specs.Sentences.{HoldsLock, ReadableRegister};
+ghost use Rattle.bbm_rules.specs.Sentences.{HoldsLock, ReadableRegister, ReadableStanding};
 ghost use Rattle.bbm_rules.specs.EventLaws.{ByChanges, PublishedBySentence, RootsBySentence, TestsAreExact};
 ghost use Rattle.bbm_rules.specs.TagLaws.{TagSetSays};
 
@@ -61,6 +61,16 @@ pub fn law_readable_register()
         among value (register_values h p reg) ≡ true → ReadableRegister h p reg value }
     ensures complete { (h : List Event) (p : ℕ) (reg : Reg) (value : ℕ) →
         ReadableRegister h p reg value → among value (register_values h p reg) ≡ true }
+{}
+
+/// A standing is among the readable ones of a PE exactly where the registers stood so at some moment, and after that
+/// moment no register write of the PE is followed by an `isb` of it. The call does nothing; the law is its contract.
+#[tactic(auto, using(crate::proofs::StandingSentence::laws))]
+pub fn law_readable_standing()
+    ensures sound { (h : List Event) (p : ℕ) (s : Standing) →
+        Contains (standings h p) s → ReadableStanding h p s }
+    ensures complete { (h : List Event) (p : ℕ) (s : Standing) →
+        ReadableStanding h p s → Contains (standings h p) s }
 {}
 
 /// A write is published to a PE exactly where a later DSB of its own PE publishes to that PE. The law is

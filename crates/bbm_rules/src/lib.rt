@@ -17,7 +17,7 @@ pub use bbm_events::Claim;
 pub use checker::{Checker, Fresh, Logged};
 pub use event_laws::{
     law_changes, law_equality_tests, law_limits, law_lock_held, law_null, law_published,
-    law_readable_register, law_root, law_tag_set, law_vmid,
+    law_readable_register, law_readable_standing, law_root, law_tag_set, law_vmid,
 };
 pub use history_laws::{
     law_attaching, law_childless, law_cleansed, law_each_rule, law_fresh, law_global_user,

@@ -153,7 +153,7 @@ module _ (heading : Heading) (trust : Trust) (k : Known heading trust) (h : List
     where_read : (p < heading.pes) × (kind_in_world heading.world kind ≡ true)
     where_read =
         reads_at heading h log.events p (root_of heading.world kind place) kind
-        (head_of (started heading (length h) p kind number place value)) heading.world
+        (head_of (started heading (length h) p kind number place value)) heading.words.inorder heading.world
         (k.readable_tag.sound h p (tag_of_entry x) (root_of heading.world kind place) s.tag)
 
     start_tagged : Tagged heading trust h (started heading (length h) p kind number place value)

@@ -119,10 +119,10 @@ names_pe heading h fits p reg root value n =
 
 -- the PE is one of the header, and the kind of the tag one of the world
 pub reads_at : (heading : Heading) (h : List Event) → ((e : Event) → Contains h e → fits_heading heading e ≡ true)
-    → (p root : ℕ) (kind : Kind) (e : EntryHead) (world : World) → ReadsTag world h p (tag_of kind e) root
+    → (p root : ℕ) (kind : Kind) (e : EntryHead) (order : Bool) (world : World) → ReadsTag order world h p (tag_of kind e) root
     → (p < heading.pes) × (kind_in_world world kind ≡ true)
-reads_at heading h fits p root El2 e (Hyp w) k = (names_pe heading h fits p _ root k.0 k.1, refl)
-reads_at heading h fits p root S2 e (Hyp w) k = (names_pe heading h fits p _ root k.0 k.1, refl)
-reads_at heading h fits p root Ttbr0 e (Kernel w) k = (names_pe heading h fits p _ root k.0 k.2, refl)
-reads_at heading h fits p root Ttbr1 e (Kernel w) k = (names_pe heading h fits p _ root k.0 k.1, refl)
-reads_at heading h fits p root kind e world k = absurd k
+reads_at heading h fits p root El2 e order (Hyp w) k = (names_pe heading h fits p _ root k.0 k.1, refl)
+reads_at heading h fits p root S2 e order (Hyp w) k = (names_pe heading h fits p _ root k.0 k.1, refl)
+reads_at heading h fits p root Ttbr0 e order (Kernel w) k = (names_pe heading h fits p _ root k.0 k.2, refl)
+reads_at heading h fits p root Ttbr1 e order (Kernel w) k = (names_pe heading h fits p _ root k.0 k.1, refl)
+reads_at heading h fits p root kind e order world k = absurd k

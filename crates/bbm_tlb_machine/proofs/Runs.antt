@@ -113,13 +113,14 @@ module _ (heading : Heading) (trust : Trust) (k : Known heading trust) where
   -- ---- one root a tag
 
   -- before any event nothing is readable
-  none_read : (world : World) (pe : ℕ) (r : Reading) → Contains (readings_in world [] pe) r → ⊥
-  none_read (Hyp world) pe r i = contains_none r i
-  none_read (Kernel world) pe r i = by world.asid_from i
+  none_read : (order : Bool) (world : World) (pe : ℕ) (r : Reading) → Contains (readings_in order world [] pe) r → ⊥
+  none_read order (Hyp world) pe r i = contains_none r i
+  none_read order (Kernel world) pe r i = by order world.asid_from i
     where
-      by : (from : AsidFrom) → Contains (asid_readings from [] pe ++ readings_of [] pe Ttbr1El1 (λ value. Ttbr1Tag)) r → ⊥
-      by FromTtbr0 i = contains_none r i
-      by FromTtbr1 i = contains_none r i
+      by : (order : Bool) (from : AsidFrom) → Contains (asid_readings order from [] pe ++ readings_of [] pe Ttbr1El1 (λ value. Ttbr1Tag)) r → ⊥
+      by order FromTtbr0 i = contains_none r i
+      by true FromTtbr1 i = contains_none r i
+      by false FromTtbr1 i = contains_none r i
 
   read_by : (rs : List Reading) (tag : Tag) (r : Reading) → Contains rs r → r.tag ≡ tag
       → any (λ (y : Reading). same_tag y.tag tag && y.root == r.root) rs ≡ true
@@ -129,7 +130,7 @@ module _ (heading : Heading) (trust : Trust) (k : Known heading trust) where
 
   read_at : (h : List Event) (pe : ℕ) (tag : Tag) (r : Reading) → Contains (readings heading h pe) r → r.tag ≡ tag
       → holds_at heading trust pe r.root tag h ≡ true
-  read_at [] pe tag r i e = absurd (none_read heading.world pe r i)
+  read_at [] pe tag r i e = absurd (none_read heading.words.inorder heading.world pe r i)
   read_at (y ∷ h) pe tag r i e =
       or_left (reads heading (y ∷ h) pe tag r.root) _ (read_by (readings heading (y ∷ h) pe) tag r i e)
 
