@@ -11,4 +11,7 @@ pub struct HeaderWords {
 }
 
 /// No word.
-pub const NO_WORDS: HeaderWords = HeaderWords { unflushed: false, inorder: false };
+pub const NO_WORDS: HeaderWords = HeaderWords {
+    unflushed: false,
+    inorder: false,
+};
