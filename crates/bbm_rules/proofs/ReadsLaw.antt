@@ -22,7 +22,7 @@ use Rattle.bbm_rules.proofs.TagSetLaw.{no_tag}
 use Rattle.bbm_rules.specs.Rules.{holds_some_tag, is_loaded, is_used, leavers, other_holders, others, root_in_use}
 use Rattle.bbm_rules.proofs.Common.{given_up, left_at, left_tag, to_contains}
 use Rattle.bbm_rules.proofs.StandingLaw.{standing_readable}
-use Rattle.bbm_rules.specs.RegisterValues.{Standing, standings}
+use Rattle.bbm_rules.specs.RegisterValues.{standings}
 use Rattle.bbm_rules.proofs.TagEndsLaw.{left_in_given_up}
 use Rattle.bbm_lemmas.proofs.Bools.{second_false}
 use Rattle.bbm_lemmas.proofs.Words.{pe_found}

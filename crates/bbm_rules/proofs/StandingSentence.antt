@@ -1,6 +1,6 @@
 -- The readable standings of a PE are those that the sentence names.
 use Rattle.bbm_rules.proofs.Common.{◌≡◌, ℕ, Bool, true, false, cond, ◌&&◌, ◌==◌, List, [], ◌∷◌, ◌++◌, refl, sym, ◌∙◌}
-use Rattle.bbm_rules.proofs.Common.{ap, subst, inl, inr, true≢false, take, and_left, and_parts, eqb-true, or_from, or_left}
+use Rattle.bbm_rules.proofs.Common.{ap, subst, inl, inr, true≢false, take, and_left, and_parts, eqb-true, or_from}
 use Rattle.bbm_rules.proofs.Common.{false_from_ne_true, or_parts, Reg, Ttbr0El1, Ttbr1El1, Event, Isb, Msr, In, in_split}
 use Rattle.bbm_rules.proofs.Common.{is_none_of, none_of, any, some, same_reg, from_contains, to_contains, Contains}
 use Rattle.bbm_lemmas.proofs.Words.{same_number}

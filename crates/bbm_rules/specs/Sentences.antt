@@ -1,8 +1,7 @@
 -- The definitions on plain events once more, as sentences over all ways to split a history. The laws say that they say
 -- the same. A history is newest first, so in `newer ++ older` the events of `newer` came after those of `older`.
 -- Source: project's own choice, but where another is named.
-use Rattle.std.specs.Prelude.{◌≡◌, ℕ, suc, ◌<◌, ◌≤◌, Bool, true, false, ◌&&◌, ◌==◌, List, [], ◌∷◌, ◌++◌, length, Option}
-use Rattle.std.specs.Prelude.{if◌then◌else◌}
+use Rattle.std.specs.Prelude.{◌≡◌, ℕ, suc, ◌<◌, ◌≤◌, Bool, true, false, ◌&&◌, ◌==◌, List, ◌∷◌, ◌++◌, length, Option}
 use Rattle.bbm_rules.specs.Prelude.{Barrier, Kind, Reg, Tag, Heading, Event, Init, Root, Unroot, Write, Dsb, Isb, Tlbi}
 use Rattle.bbm_rules.specs.Prelude.{Msr, Lock, Unlock}
 use Rattle.bbm_events.specs.declared.claim.Claim.TheVariants.{Taken}

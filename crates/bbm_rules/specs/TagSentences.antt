@@ -5,7 +5,7 @@ use Rattle.std.specs.Prelude.{◌≡◌, ℕ, Bool, true, false, List, Some, Con
 use Rattle.bbm_rules.specs.Prelude.{AsidFrom, FromTtbr0, FromTtbr1, Reg, Ttbr0El2, VttbrEl2, Ttbr0El1, Ttbr1El1, Tag}
 use Rattle.bbm_rules.specs.Prelude.{El2Tag, Vmid, Asid, Ttbr1Tag, World, Hyp, Kernel, Event}
 use Rattle.bbm_rules.specs.Lists.{among}
-use Rattle.bbm_rules.specs.RegisterValues.{Standing, base_of, kind_of_reg, register_values, standings, tag_number}
+use Rattle.bbm_rules.specs.RegisterValues.{base_of, kind_of_reg, register_values, standings, tag_number}
 use Rattle.bbm_rules.specs.Roots.{is_root}
 
 -- A value of a register of p names a root: the value is a readable one, its base is the first page of the root, and
