@@ -4,6 +4,7 @@ use Rattle.bbm_rules.proofs.Common.{◌≡◌, ℕ, ◌+◌, ◌<◌, Bool, List
 use Rattle.bbm_rules.proofs.Common.{ap, refl, true, false, ◌&&◌, if_so, Heading, Event}
 use Rattle.std.proofs.lemmas.List.{drop_more}
 use Rattle.bbm_lemmas.proofs.Words.{if_so_some}
+use Rattle.bbm_rules.proofs.RuleLemmas.{if_none}
 
 pub next_item : {X : Type 0} (xs : List X) (i : ℕ) (x : X) → i < length xs → x ≡ get_or xs i x → drop i xs ≡ x ∷ drop (i + 1) xs
 next_item xs i x within at = drop_more xs i x within ∙ ap (λ y. y ∷ drop (i + 1) xs) (sym at)
@@ -22,16 +23,12 @@ extend_same heading h x next reads i r end o within at k is e =
     let m = if_so_some _ _ next (sym k ∙ is) in
     ap (λ y. extended_by y (drop (i + 1) reads)) m.1 ∙ rw (next_item reads i r within at) at e
 
-none_made : {X : Type 0} (b : Bool) (x : X) → if_so b x ≡ None → b ≡ false
-none_made true x e = cc
-none_made false x e = refl
-
 -- an extend that can't be made
 pub extend_none : (heading : Heading) (h : List Event) (x end : Entry) (reads : List Read) (i : ℕ) (r : Read) (start : Bool) (o : Option Entry)
     → i < length reads → r ≡ get_or reads i r → o ≡ if_so (may_extend heading h x r.place r.value) (extended x r.place r.value) → o ≡ None
     → may_extend_by heading h x (drop i reads) ≡ start → None ≡ if_so start end
 extend_none heading h x end reads i r start o within at k is e =
-    let no : may_extend heading h x r.place r.value ≡ false = none_made _ _ (sym k ∙ is) in
+    let no : may_extend heading h x r.place r.value ≡ false = if_none _ _ (sym k ∙ is) in
     let stops : start ≡ false
     = sym e ∙ (ap (may_extend_by heading h x) (next_item reads i r within at)
     ∙ ap (λ (b : Bool). b && may_extend_by heading h (extended x r.place r.value) (drop (i + 1) reads)) no) in

@@ -95,7 +95,8 @@ is_position n = is_count n
 abbrev pub is_claim : Heading → Claim → Bool
 is_claim h (Place pe place b t d) = is_pe h pe && is_place place && is_position b && (is_position t && is_position d)
 is_claim h (Two pe place b t1 d1 t2 d2) =
-    is_pe h pe && is_place place && is_position b && (is_position t1 && is_position d1) && (is_position t2 && is_position d2)
+    is_pe h pe && is_place place && is_position b && (is_position t1 && is_position d1)
+    && (is_position t2 && is_position d2)
 is_claim h (Taken pe tag t d) = is_pe h pe && is_tag tag && (is_position t && is_position d)
 
 -- the same of a line: a claim fits, and the count of an end is below 2 ^ 32

@@ -5,7 +5,8 @@ use Rattle.bbm_rules.proofs.Common.{inl, inr, true≢false, Reg, Event, Root, Nu
 use Rattle.bbm_rules.proofs.Common.{is_null, base_of, kind_of_reg, register_values, is_root, eqb-true, not-false}
 use Rattle.bbm_rules.proofs.Common.{or_cases, false_from_ne_true}
 use Rattle.bbm_histories.specs.TagSteps.{BasesStay, NamesRoots}
-use Rattle.bbm_histories.proofs.Induction.{Unbroken, if_none, last_kept}
+use Rattle.bbm_histories.proofs.Induction.{Unbroken, last_kept}
+use Rattle.bbm_rules.proofs.RuleLemmas.{if_none}
 use Rattle.bbm_histories.proofs.TagLemmas.{Named, named, noted_too, null_not_fresh, planted_fresh, root_back}
 use Rattle.bbm_histories.proofs.TagLemmas.{root_not_fresh, root_on, unroot_misses}
 use Rattle.bbm_lemmas.proofs.Bools.{first_none}

@@ -8,7 +8,8 @@ use Rattle.bbm_rules.proofs.Common.{value_of}
 use Rattle.bbm_events.specs.declared.event.Event.TheVariants.{Null}
 use Rattle.bbm_rules.specs.declared.rule.Rule.TheVariants.{RewrittenFresh}
 use Rattle.bbm_histories.specs.ValueChanges.{FreshContent}
-use Rattle.bbm_histories.proofs.Induction.{At, Unbroken, event_at, events_append, if_none}
+use Rattle.bbm_histories.proofs.Induction.{At, Unbroken, event_at, events_append}
+use Rattle.bbm_rules.proofs.RuleLemmas.{if_none}
 use Rattle.bbm_histories.proofs.PatternLemmas.{unseen}
 
 -- a page that stays fresh was fresh before, unless the event is its init

@@ -7,7 +7,8 @@ use Rattle.bbm_rules.proofs.Common.{events_of, is_null, Cleansed, page_of, Node,
 use Rattle.bbm_barriers.specs.declared.Dsb.{Dsb as Barrier}
 use Rattle.bbm_rules.specs.declared.rule.Rule.TheVariants.{BreakBeforeMake}
 use Rattle.bbm_histories.specs.TreeChanges.{HeldChange}
-use Rattle.bbm_histories.proofs.Induction.{Unbroken, if_none}
+use Rattle.bbm_histories.proofs.Induction.{Unbroken}
+use Rattle.bbm_rules.proofs.RuleLemmas.{if_none}
 use Rattle.bbm_histories.proofs.PatternLemmas.{cleansed_stays, one_begins, two_begin}
 
 -- ---- a DSB alone cleanses

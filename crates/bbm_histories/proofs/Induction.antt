@@ -5,10 +5,6 @@ use Rattle.bbm_rules.proofs.Common.{and_from, and_parts, breaks, keeps, Trust, n
 use Rattle.bbm_rules.proofs.Common.{length, suc}
 use Rattle.bbm_rules.specs.Broken.{broken}
 
-pub if_none : (b : Bool) (n : ℕ) → if_so b n ≡ None → b ≡ false
-if_none true n e = cc
-if_none false n e = refl
-
 module _ (heading : Heading) (trust : Trust) where
   -- the event breaks none of the seventeen rules
   abbrev pub Unbroken : List Noted → Event → Type 0

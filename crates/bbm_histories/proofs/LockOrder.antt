@@ -6,7 +6,8 @@ use Rattle.bbm_rules.proofs.Common.{eqb-true, Event, Lock, Unlock, Write, keeps,
 use Rattle.bbm_rules.proofs.Common.{holder_of, page_of, lock_of, lacks, Node, node_of}
 use Rattle.bbm_rules.specs.declared.rule.Rule.TheVariants.{NoLock, LockBusy}
 use Rattle.bbm_histories.specs.LockChanges.{HandsOver, lock_at}
-use Rattle.bbm_histories.proofs.Induction.{Unbroken, if_none, kept_before, last_kept}
+use Rattle.bbm_histories.proofs.Induction.{Unbroken, kept_before, last_kept}
+use Rattle.bbm_rules.proofs.RuleLemmas.{if_none}
 
 is_that_pe : (o : Option ℕ) (p : ℕ) → not (is_that o p) ≡ false → o ≡ Some p
 is_that_pe None p k = absurd (true≢false k)

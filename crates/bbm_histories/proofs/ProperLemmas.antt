@@ -61,9 +61,9 @@ start (Kernel world) S2 e = omega arith
 pub proper : (heading : Heading) → heading_ok heading ≡ true → Proper heading
 proper heading e =
     let all = and_parts (is_version heading.version && are_pes heading.version heading.pes && (may_share heading.version || not heading.cnp)
-    && words_ok heading.version heading.words) (world_ok heading.world) e in
+    && words_ok heading.version heading.world heading.words) (world_ok heading.world) e in
     let said = and_parts (is_version heading.version && are_pes heading.version heading.pes && (may_share heading.version || not heading.cnp))
-    (words_ok heading.version heading.words) all.0 in
+    (words_ok heading.version heading.world heading.words) all.0 in
     let first = and_parts (is_version heading.version && are_pes heading.version heading.pes) (may_share heading.version || not heading.cnp) said.0 in
     let pes = and_parts (is_version heading.version) (are_pes heading.version heading.pes) first.0 in
     let least : 1 ≤ heading.pes = leb-true 1 heading.pes

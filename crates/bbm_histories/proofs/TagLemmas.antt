@@ -21,7 +21,8 @@ use Rattle.bbm_rules.specs.declared.rule.Rule.TheVariants.{NoRoot, RootInUse, Ta
 use Rattle.bbm_rules.specs.TagSentences.{GivesAsid, Names}
 use Rattle.bbm_histories.specs.TagSteps.{BecomesReadable, HeldBetween, KeptBetween, StopsToBeReadable, kind_of_tag}
 use Rattle.bbm_histories.proofs.HeldSteps.{init_outside}
-use Rattle.bbm_histories.proofs.Induction.{Unbroken, if_none, last_kept, throughout}
+use Rattle.bbm_histories.proofs.Induction.{Unbroken, last_kept, throughout}
+use Rattle.bbm_rules.proofs.RuleLemmas.{if_none}
 use Rattle.bbm_histories.proofs.PatternLemmas.{later_split}
 use Rattle.bbm_histories.proofs.RootLemmas.{declared_back, declared_on, not_retired}
 use Rattle.bbm_histories.proofs.TreeSteps.{not_fresh_there, start_in_tree}

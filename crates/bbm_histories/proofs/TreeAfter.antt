@@ -10,7 +10,8 @@ use Rattle.bbm_rules.proofs.Common.{Down, IsNode, value_of, contains_head, conta
 use Rattle.bbm_histories.specs.TreeChanges.{InTreeAfterDsb}
 use Rattle.bbm_histories.proofs.CoreLemmas.{table_is_valid, table_on}
 use Rattle.bbm_histories.proofs.HeldSteps.{IsDsb, held_after_dsb, held_change}
-use Rattle.bbm_histories.proofs.Induction.{Unbroken, if_none}
+use Rattle.bbm_histories.proofs.Induction.{Unbroken}
+use Rattle.bbm_rules.proofs.RuleLemmas.{if_none}
 use Rattle.bbm_histories.proofs.Invariants.{Invariants}
 use Rattle.bbm_histories.proofs.RootLemmas.{declared_on}
 use Rattle.bbm_histories.proofs.TreeSteps.{Link, added, is_tracked, link_in_tree, node_is, not_fresh_there}

@@ -10,7 +10,8 @@ use Rattle.bbm_rules.specs.declared.rule.Rule.TheVariants.{LimboMake}
 use Rattle.bbm_histories.specs.TreeChanges.{HeldBy, View}
 use Rattle.bbm_histories.proofs.FreshLemmas.{content, holds_last}
 use Rattle.bbm_histories.proofs.HeldSteps.{held_back, held_valid}
-use Rattle.bbm_histories.proofs.Induction.{Unbroken, if_none, last_kept}
+use Rattle.bbm_histories.proofs.Induction.{Unbroken, last_kept}
+use Rattle.bbm_rules.proofs.RuleLemmas.{if_none}
 use Rattle.bbm_histories.proofs.Invariants.{Invariants, invariants}
 use Rattle.bbm_histories.proofs.PatternLemmas.{last_one_before, seen_stays, unseen}
 use Rattle.bbm_histories.proofs.TreeSteps.{added, attached_fresh, node_is}

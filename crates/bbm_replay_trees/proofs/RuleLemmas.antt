@@ -7,7 +7,7 @@ use Rattle.bbm_rules.proofs.Common.{root_pages, break_before_make, lacks, limbo_
 use Rattle.bbm_rules.proofs.Common.{page_in_use, rewritten_fresh, Above, Node, held_at, in_limbo, node_of, places_in}
 use Rattle.bbm_rules.proofs.Common.{value_of, In, any_finds, is_none_of, to_filter, arith, ne_eqb, refl}
 use Rattle.std.proofs.lemmas.List.Elements.{filter_agree}
-use Rattle.bbm_histories.proofs.Induction.{if_none}
+use Rattle.bbm_rules.proofs.RuleLemmas.{if_none}
 use Rattle.bbm_events.specs.Heading.{Heading}
 use Rattle.bbm_rules.specs.Broken.{broken}
 use Rattle.bbm_replay_trees.specs.TreeEvents.{may_reach_limit, rules_of}

@@ -15,6 +15,7 @@ use Rattle.bbm_lemmas.proofs.Tautologies.{proved}
 use Rattle.bbm_lemmas.proofs.Tautologies.Claim.{If, Is}
 use Rattle.bbm_lemmas.proofs.Tests.{any_alike, any_map}
 use Rattle.bbm_lemmas.proofs.Words.{among_in, pe_none}
+use Rattle.bbm_rules.proofs.RuleLemmas.{if_none}
 use Rattle.bbm_rules.specs.Broken.{broken}
 use Rattle.bbm_rules.specs.Prelude.{Kind}
 use Rattle.bbm_rules.specs.RegisterValues as rules
@@ -71,10 +72,6 @@ module _ (heading : Heading) (laws : Laws heading) (proper : Proper heading) (h 
       ∙ not-false (kind_in_world heading.world r.0.kind)
       (if_none (not (kind_in_world heading.world r.0.kind)) 0
       (laws.each_rule.sound h d.newer d.older (Root d.pe r.0.kind r.0.lock r.0.page) kept d.split WrongWorld))
-    where
-      if_none : (b : Bool) (n : ℕ) → if_so b n ≡ None → b ≡ false
-      if_none true n e = cc
-      if_none false n e = refl
 
   module _ (page : ℕ) (r : Declared) (at : root_at h page ≡ Some r) where
     is_declared : is_root h r.kind page ≡ true

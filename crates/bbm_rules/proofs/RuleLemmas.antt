@@ -1,5 +1,5 @@
 -- Each rule by itself.
-use Rattle.bbm_rules.proofs.Common.{option_map_or, ◌≡◌, ℕ, true, List, [], ◌∷◌, ◌++◌, Option, Some, None, is_none, refl}
+use Rattle.bbm_rules.proofs.Common.{option_map_or, ◌≡◌, ℕ, Bool, true, false, if_so, List, [], ◌∷◌, ◌++◌, Option, Some, None, is_none, refl}
 use Rattle.bbm_rules.proofs.Common.{sym, ◌∙◌, ap, subst, inl, inr, true≢false, and_from, and_parts, In, Breach, breaks}
 use Rattle.bbm_rules.proofs.Common.{first_broken, keeps, Trust, noted, Noted}
 use Rattle.bbm_events.specs.Heading.{Heading}
@@ -11,6 +11,11 @@ use Rattle.bbm_rules.specs.declared.rule.Rule.TheVariants.{NotFresh, RewrittenFr
 use Rattle.bbm_rules.specs.declared.rule.Rule.TheVariants.{NoRoot, TagConflict, RootInUse, UnsyncedVmid, BadOperand}
 use Rattle.bbm_rules.specs.declared.rule.Rule.TheVariants.{LockBusy, LockNotMine}
 use Rattle.bbm_rules.specs.Broken.{broken, rules}
+
+-- a rule that names nothing isn't broken
+pub if_none : {X : Type 0} (b : Bool) (x : X) → if_so b x ≡ None → b ≡ false
+if_none true x e = cc
+if_none false x e = refl
 
 listed : (r : Rule) → In rules r
 listed WrongWorld = inl refl

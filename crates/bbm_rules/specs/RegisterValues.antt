@@ -6,8 +6,8 @@ use Rattle.std.specs.Result.{result_ok}
 pub use Rattle.bbm_regimes.specs.Registers.{base_of, tag_number}
 pub use Rattle.bbm_regimes.specs.SameRegister.{kind_of_reg, same_reg}
 use Rattle.bbm_tlbi_scope.specs.Operations.{scoped_by_vmid}
-use Rattle.bbm_rules.specs.Prelude.{Reg, VttbrEl2, Ttbr0El1, Ttbr1El1, World, Hyp, Kernel, TlbiOp, Scope, scope_of, Heading, Event, Isb}
-use Rattle.bbm_rules.specs.Prelude.{Msr}
+use Rattle.bbm_rules.specs.Prelude.{Reg, VttbrEl2, Ttbr0El1, Ttbr1El1, World, Hyp, Kernel, TlbiOp, Scope, scope_of}
+use Rattle.bbm_rules.specs.Prelude.{Heading, Event, Isb, Msr}
 use Rattle.bbm_rules.specs.Lists.{one_number}
 
 -- Readable values of a register of p, newest first: those that it had, the first 0 among them, and that no later

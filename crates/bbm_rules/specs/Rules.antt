@@ -166,8 +166,8 @@ module _ (heading : Heading) (trust : Trust) (h : List Noted) where
   no_root _ = None
 
   -- 12, tag-conflict: after the register write a tag is readable at this PE for one root, and another root holds it, or
-  -- one that was given up has left it, at some PE. At: the least first page of such another root. The first argument are
-  -- the events with the register write.
+  -- one that was given up has left it, at some PE. At: the least first page of such another root. The first argument
+  -- are the events with the register write.
   abbrev pub other_holders : List Event → Reading → List ℕ
   other_holders after reading = map (λ r. r.page) (filter
       (λ r. not (r.page == reading.root) && holds_tag heading trust r.page reading.tag after) (roots_of after))

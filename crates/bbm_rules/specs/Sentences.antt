@@ -44,8 +44,8 @@ pub record ReadableRegister (h : List Event) (p : ℕ) (reg : Reg) (value : ℕ)
   pub unreplaced : (w : ℕ) (after between before : List Event)
       → newer ≡ after ++ Isb p ∷ (between ++ Msr p reg w ∷ before) → ⊥
 
--- The standing is a readable one of p: at some moment the registers stood so, and after that moment no register write of
--- p is followed by an `isb` of p.
+-- The standing is a readable one of p: at some moment the registers stood so, and after that moment no register write
+-- of p is followed by an `isb` of p.
 pub record ReadableStanding (h : List Event) (p : ℕ) (s : Standing) : Type 0 where
   pub newer : List Event
   pub older : List Event

@@ -17,7 +17,8 @@ use Rattle.bbm_rules.specs.Tags.{holds_at, holds_tag, kept_at, left_at, left_tag
 pub record ReadsBySentence (heading : Heading) : Type 0 where
   pub sound : (h : List Event) (p : ℕ) (tag : Tag) (root : ℕ) → reads heading h p tag root ≡ true
       → ReadsTag heading.words.inorder heading.world h p tag root
-  pub complete : (h : List Event) (p : ℕ) (tag : Tag) (root : ℕ) → ReadsTag heading.words.inorder heading.world h p tag root
+  pub complete : (h : List Event) (p : ℕ) (tag : Tag) (root : ℕ)
+      → ReadsTag heading.words.inorder heading.world h p tag root
       → reads heading h p tag root ≡ true
 
 -- A tag is kept for a page at a PE exactly where it was readable there for the root of the page at some moment, and no

@@ -26,7 +26,8 @@ GivesAsid false FromTtbr1 h p value from = among from (register_values h p Ttbr1
 -- value that has the ASID. A tag of the other world is never readable.
 abbrev pub ReadsTag : Bool → World → List Event → ℕ → Tag → ℕ → Type 0
 ReadsTag inorder (Hyp world) h p El2Tag root = (value : ℕ) × Names h p Ttbr0El2 root value
-ReadsTag inorder (Hyp world) h p (Vmid vmid) root = (value : ℕ) × Names h p VttbrEl2 root value × (tag_number value ≡ vmid)
+ReadsTag inorder (Hyp world) h p (Vmid vmid) root =
+    (value : ℕ) × Names h p VttbrEl2 root value × (tag_number value ≡ vmid)
 ReadsTag inorder (Kernel world) h p (Asid asid) root = (value from : ℕ) × Names h p Ttbr0El1 root value
     × GivesAsid inorder world.asid_from h p value from × (tag_number from ≡ asid)
 ReadsTag inorder (Kernel world) h p Ttbr1Tag root = (value : ℕ) × Names h p Ttbr1El1 root value

@@ -1,4 +1,5 @@
 -- What a fine entry gives at once: the node, the value and the tag of its parts, in one place.
+use Rattle.bbm_rules.proofs.TagEndsLaw.{gives_up_is}
 use Rattle.bbm_rules.proofs.Common.{◌≡◌, suc, ◌+◌, ◌∷◌, length-append, ℕ, ◌≤◌, true, false, List, [], ◌++◌, length}
 use Rattle.bbm_rules.proofs.Common.{Some, refl, sym, ◌∙◌, ap, arith, true≢false, and_right, desc_of, is_valid, TagSet}
 use Rattle.bbm_rules.proofs.Common.{One, Many, keeps, Trust, is_global, noted, held, Noted, Heading, Ttbr0, Event}
@@ -47,10 +48,6 @@ begins_with {X} item older [] rest e le =
     let same : suc (length older) ≡ length rest = ap length e in absurd (omega (arith, same, le))
 begins_with {X} item older (y ∷ more) rest e le =
     let head : item ≡ y = cc in (more, ap (λ (z : X). z ∷ more) (sym head))
-
-gives_up_is : (page : ℕ) (e : Event) → gives_up page e ≡ true → (q : ℕ) × (e ≡ Unroot q page)
-gives_up_is page (Unroot pe at) k = (pe, ap (Unroot pe) (eqb-true at page k))
-gives_up_is page e k = absurd (true≢false (sym k))
 
 -- no event since gives the root up
 no_up : (n page : ℕ) (h : List Event) → given_up_since n page h ≡ false → (newer older : List Event) → h ≡ newer ++ older

@@ -26,7 +26,8 @@ use Rattle.bbm_tlb_machine.proofs.Made.{fine_combined, fine_extended, fine_share
 use Rattle.bbm_tlb_machine.proofs.Patterns.{LeavesIt, tagged_after}
 use Rattle.bbm_tlb_machine.proofs.Taken.{taken}
 use Rattle.bbm_lemmas.proofs.Elements.{any_finds, contains_after, from_contains, from_filter, to_contains}
-use Rattle.bbm_histories.proofs.Induction.{if_none, kept_before}
+use Rattle.bbm_histories.proofs.Induction.{kept_before}
+use Rattle.bbm_rules.proofs.RuleLemmas.{if_none}
 
 -- ---- entries by number
 

@@ -17,7 +17,7 @@ use Rattle.bbm_tlb_machine.proofs.ListWords.{is_none, none_in}
 use Rattle.bbm_tlb_machine.proofs.RunLaw.{run_complete, run_sound}
 use Rattle.bbm_lemmas.proofs.Bools.{second_false, and_apart}
 use Rattle.bbm_lemmas.proofs.Tests.{any_never}
-use Rattle.bbm_histories.proofs.Induction.{if_none}
+use Rattle.bbm_rules.proofs.RuleLemmas.{if_none}
 
 module _ (heading : Heading) (tests : TestsAreExact) where
   -- one entry
