@@ -3,7 +3,7 @@
 -- of a page alone.
 use Rattle.bbm_rules.proofs.Common.{option_map_or, ◌≡◌, ℕ, ◌<◌, Bool, ◌&&◌, List, [], ◌∷◌, Option, Some, is_none, refl}
 use Rattle.bbm_rules.proofs.Common.{◌∙◌, ap, Breach, breaks, first_broken, keeps, Trust, noted, holder_of, Noted}
-use Rattle.bbm_rules.proofs.Common.{events_of, is_null, page_of, Heading, Event, Reg, Tag, register_values, roots_of}
+use Rattle.bbm_rules.proofs.Common.{events_of, is_null, page_of, Heading, Event, Tag, register_values, roots_of}
 use Rattle.bbm_rules.proofs.Common.{holds_at, tags_of, Node, held_at, node_of, value_of, written_places}
 use Rattle.bbm_rules.proofs.Common.{given_up, left_at}
 use Rattle.bbm_rules.specs.declared.rule.Rule.{Rule}

@@ -1,6 +1,6 @@
 -- The rules on locks, registers and operands judge alike.
 use Rattle.bbm_rules.proofs.Common.{◌≡◌, ℕ, Bool, List, refl, ap, Trust, if_so, holder_of, Noted, events_of, is_null}
-use Rattle.bbm_rules.proofs.Common.{Heading, Event, Null, Root, Unroot, Tlbi, Msr, Lock, Unlock, Reg, register_values}
+use Rattle.bbm_rules.proofs.Common.{Heading, Event, Null, Root, Unroot, Tlbi, Msr, Lock, Unlock}
 use Rattle.bbm_rules.proofs.Common.{roots_of, no_root}
 use Rattle.bbm_rules.specs.Rules.{bad_operand, lock_busy, lock_not_mine, unsynced_vmid, wrong_world}
 use Rattle.bbm_alike.specs.Alike.{SameRegisters}

@@ -1,7 +1,7 @@
 -- The rules on tags and on roots in use judge alike.
 use Rattle.bbm_rules.proofs.Common.{◌≡◌, ℕ, ◌<◌, Bool, not, ◌&&◌, ◌||◌, ◌==◌, nat_lt, List, ◌∷◌, length, Option}
 use Rattle.bbm_rules.proofs.Common.{is_none, filter, find, flat_map, map, refl, ◌∙◌, ap, Trust, if_so, least, some_pe}
-use Rattle.bbm_rules.proofs.Common.{Noted, events_of, Heading, Event, Unroot, Msr, Reg, Tag, register_values, Declared}
+use Rattle.bbm_rules.proofs.Common.{Noted, events_of, Heading, Event, Unroot, Msr, Reg, Tag, Declared}
 use Rattle.bbm_rules.proofs.Common.{root_at, roots_of, is_base_at, tag_conflict, Reading, holds_at, holds_tag, readings}
 use Rattle.bbm_rules.proofs.Common.{tags_of}
 use Rattle.bbm_rules.proofs.Common.{◌++◌, given_up, left_at, left_tag}

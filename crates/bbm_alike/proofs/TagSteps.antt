@@ -2,7 +2,7 @@
 use Rattle.bbm_rules.proofs.Common.{◌≡◌, ◌↔◌, ℕ, ◌<◌, Bool, true, false, cond, not, ◌&&◌, ◌||◌, ◌==◌, List, ◌∷◌, ◌++◌}
 use Rattle.bbm_rules.proofs.Common.{Option, Some, None, filter_map, flat_map, refl, sym, ◌∙◌, ap, true≢false, inl, inr}
 use Rattle.bbm_rules.proofs.Common.{and_parts, or_cases, proved, If, Is, answers, Trust, same_tag, below, Heading}
-use Rattle.bbm_rules.proofs.Common.{Event, Dsb, Tlbi, Reg, Scope, Tag, takes_whole_tag, reaches, named_scope}
+use Rattle.bbm_rules.proofs.Common.{Event, Dsb, Tlbi, Scope, Tag, takes_whole_tag, reaches, named_scope}
 use Rattle.bbm_rules.proofs.Common.{vmid_of, roots_of, Reading, distinct, ever_read, holds_at, loses}
 use Rattle.bbm_rules.proofs.Common.{readings, reads, reads_for_some, tag_for, takes_tag}
 use Rattle.std.proofs.Math.Bool.{and-false}
