@@ -2,7 +2,8 @@
 
 ghost use Rattle.std.specs.Prelude.{◌≡◌, ◌||◌, not, true, Some, None, IfOk, IfErr, IfSome};
 ghost use Rattle.bbm_regimes.specs.declared.regime.World.TheVariants.{Hyp, Kernel};
-ghost use Rattle.bbm_regimes.specs.World.{world_ok};
+ghost use Rattle.bbm_regimes.specs.declared.regime.Kind.TheVariants.{Ttbr0};
+ghost use Rattle.bbm_regimes.specs.World.{kind_in_world, world_ok};
 ghost use Rattle.bbm_regimes.specs.declared.regime.World.{World as TheWorld};
 ghost use Rattle.bbm_events.specs.Causes.{IsHeaderCause};
 ghost use Rattle.bbm_events.specs.Heading as heading;
@@ -54,17 +55,37 @@ fn cnp_field<'a>(version: u8, fields: Fields<'a>) -> Result<(bool, Fields<'a>), 
     }
 }
 
+/// Whether the next field is a word that versions from 5 on have, and the fields after it; where it isn't, all that are
+/// left.
+fn later_word<'a>(version: u8, word: &[u8], fields: Fields<'a>) -> (bool, Fields<'a>)
+    ensures word { result ≡ lines.later_word version word.now fields.entry }
+    ensures later { (heading.has_words version || not result.0) ≡ true }
+{
+    if version >= 5 {
+        fields.word(word)
+    } else {
+        (false, fields)
+    }
+}
+
 /// What else the words say, and the fields after them.
 fn header_words<'a>(version: u8, fields: Fields<'a>) -> (HeaderWords, Fields<'a>)
     ensures words { result ≡ lines.header_words version fields.entry }
-    ensures fit { heading.words_ok version result.0 ≡ true }
+    ensures later { (heading.has_words version || not (result.0.unflushed || result.0.inorder)) ≡ true }
 {
-    let (unflushed, fields) = if version >= 5 {
-        fields.word(b"unflushed")
-    } else {
-        (false, fields)
-    };
-    (HeaderWords { unflushed }, fields)
+    let (unflushed, fields) = later_word(version, b"unflushed", fields);
+    let (inorder, fields) = later_word(version, b"inorder", fields);
+    (HeaderWords { unflushed, inorder }, fields)
+}
+
+/// Whether a log of this world can say these words.
+fn are_words(world: World, words: HeaderWords) -> bool
+    ensures { result ≡ (kind_in_world world Ttbr0 || not words.inorder) }
+{
+    match world {
+        World::Hyp(_) => !words.inorder,
+        World::Kernel(_) => true,
+    }
 }
 
 /// Whether a log of this version can have so many PEs.
@@ -115,39 +136,8 @@ fn kernel_world(start0: u64, start1: u64, asid_from: AsidFrom) -> Option<World>
     }
 }
 
-/// The header, where it has as many PEs as its version allows and no field is left behind its words.
-fn checked(
-    version: u8,
-    pes: u64,
-    cnp: bool,
-    world: World,
-    fields: Fields,
-) -> Result<Header, Malformed>
-    requires version { heading.is_version version ≡ true }
-    requires shares { (heading.may_share version || not cnp) ≡ true }
-    requires world { world_ok world ≡ true }
-    ensures { let words = lines.header_words version fields.entry in result ≡ lines.checked (record {
-      version = version;
-      pes = pes;
-      cnp = cnp;
-      words = words.0;
-      world = world;
-    }) words.1 }
-{
-    let (words, fields) = header_words(version, fields);
-    if !are_pes(version, pes) || fields.next().is_some() {
-        return Err(Malformed::BadHeader);
-    }
-    Ok(Header {
-        version,
-        pes: pes as u8,
-        cnp,
-        words,
-        world,
-    })
-}
-
-/// The header in this world, where there is one, the version allows so many PEs and no field is left behind the words.
+/// The header in this world, where there is one, the version allows so many PEs, the world has the words, and no field is
+/// left behind them.
 #[tactic(auto, using(crate::proofs::WorldFaults::unfit_world))]
 fn header_in(
     version: u8,
@@ -168,9 +158,17 @@ fn header_in(
           world = it;
         }) words.1 }
 {
+    let (words, fields) = header_words(version, fields);
+    let ends = fields.next().is_none();
     match world {
-        Some(world) => checked(version, pes, cnp, world, fields),
-        None => Err(Malformed::BadHeader),
+        Some(world) if ends && are_pes(version, pes) && are_words(world, words) => Ok(Header {
+            version,
+            pes: pes as u8,
+            cnp,
+            words,
+            world,
+        }),
+        _ => Err(Malformed::BadHeader),
     }
 }
 

@@ -11,14 +11,14 @@ ghost use Rattle.bbm_events.specs.Words as words;
 ghost use Rattle.bbm_events.specs.Fits.{item_fits};
 ghost use Rattle.bbm_events.specs.Lines.{header_of, item_of, header_fields, cnp_fields, word_fields, header_line};
 ghost use Rattle.bbm_events.specs.Lines.{item_line, lock_text, event_fields, label_fields};
-ghost use Rattle.bbm_regimes.specs.declared.regime.World.TheVariants.{Hyp, Kernel};
+ghost use Rattle.bbm_log_grammar.specs.Left.{spaced};
 
 use crate::spell::{add, add_decimal, add_digits};
 use crate::words::Worded;
 use arrayvec::ArrayVec;
 use bbm_barriers::{Domain, Dsb, Types};
 use bbm_events::{Event, Header, Item, Label, law_written_is_read};
-use bbm_regimes::{HypWorld, KernelWorld, Kind, Page, Pe, Place, Reg, World};
+use bbm_regimes::{Kind, Page, Pe, Place, Reg, World};
 use bbm_tlbi_scope::TlbiOp;
 
 /// A space and a word of at most 12 bytes.
@@ -226,16 +226,41 @@ fn event_line<const N: usize>(out: &mut ArrayVec<u8, N>, event: Event)
     }
 }
 
-/// `bbmlog VERSION` and the word of the world.
-fn begin_header(out: &mut ArrayVec<u8, 200>, version: u8, world: &[u8])
+/// `bbmlog VERSION`, the word of the world and `PES`.
+fn begin_header(out: &mut ArrayVec<u8, 200>, version: u8, world: &[u8], pes: u8)
     requires empty { out.old.items ≡ [] }
     requires short { length world.now ≤ 12 }
-    ensures written { out.new.items ≡ joined (codes "bbmlog" ∷ decimal version ∷ world.now ∷ []) }
-    ensures longer { array_vec_len out.new ≤ 40 }
+    ensures written { out.new.items
+        ≡ joined (codes "bbmlog" ∷ decimal version ∷ world.now ∷ decimal pes ∷ []) }
+    ensures longer { array_vec_len out.new ≤ 61 }
 {
     add(out, b"bbmlog");
     add_decimal_field(out, version as u64);
     add_word_field(out, world);
+    add_decimal_field(out, pes as u64);
+}
+
+/// `bbmlog VERSION hyp PES EL2START S2START S2PAGES` or `bbmlog VERSION kernel PES START0 START1 ASIDFROM`.
+#[tactic(auto, using(crate::proofs::Short::asid_from_word_short))]
+fn numbers_line(out: &mut ArrayVec<u8, 200>, version: u8, pes: u8, world: World)
+    requires empty { out.old.items ≡ [] }
+    ensures written { out.new.items ≡ joined (codes "bbmlog" ∷ decimal version ∷ header_fields pes world []) }
+    ensures longer { array_vec_len out.new ≤ 124 }
+{
+    match world {
+        World::Hyp(world) => {
+            begin_header(out, version, b"hyp", pes);
+            add_decimal_field(out, world.el2_start as u64);
+            add_decimal_field(out, world.s2_start as u64);
+            add_decimal_field(out, world.s2_pages as u64);
+        }
+        World::Kernel(world) => {
+            begin_header(out, version, b"kernel", pes);
+            add_decimal_field(out, world.start0 as u64);
+            add_decimal_field(out, world.start1 as u64);
+            add_word_field(out, world.asid_from.word());
+        }
+    }
 }
 
 /// The field that says whether TLBs are shared, where one stands.
@@ -252,60 +277,34 @@ fn cnp_text(header: &Header) -> Option<&'static [u8]>
     }
 }
 
-/// `bbmlog VERSION hyp PES EL2START S2START S2PAGES`, and its words.
-fn hyp_line(out: &mut ArrayVec<u8, 200>, header: &Header, world: HypWorld)
-    requires empty { out.old.items ≡ [] }
-    ensures { out.new.items
-        ≡ joined (codes "bbmlog" ∷ decimal header.now.version ∷ header_fields header.now.pes (Hyp world)
-        (cnp_fields header.now.version header.now.cnp ++ word_fields header.now.words)) }
+/// Whether TLBs are shared, and what else the words say.
+fn add_words(out: &mut ArrayVec<u8, 200>, header: &Header)
+    requires room { array_vec_len out.old + 39 ≤ 200 }
+    ensures { out.new.items ≡ out.old.items
+        ++ spaced (cnp_fields header.now.version header.now.cnp ++ word_fields header.now.words) }
 {
-    begin_header(out, header.version, b"hyp");
-    add_decimal_field(out, header.pes as u64);
-    add_decimal_field(out, world.el2_start as u64);
-    add_decimal_field(out, world.s2_start as u64);
-    add_decimal_field(out, world.s2_pages as u64);
     if let Some(word) = cnp_text(header) {
         add_word_field(out, word);
     }
     if header.words.unflushed {
         add_word_field(out, b"unflushed");
     }
-}
-
-/// `bbmlog VERSION kernel PES START0 START1 ASIDFROM`, and its words.
-#[tactic(auto, using(crate::proofs::Short::asid_from_word_short))]
-fn kernel_line(out: &mut ArrayVec<u8, 200>, header: &Header, world: KernelWorld)
-    requires empty { out.old.items ≡ [] }
-    ensures { out.new.items
-        ≡ joined (codes "bbmlog" ∷ decimal header.now.version ∷ header_fields header.now.pes (Kernel world)
-        (cnp_fields header.now.version header.now.cnp ++ word_fields header.now.words)) }
-{
-    begin_header(out, header.version, b"kernel");
-    add_decimal_field(out, header.pes as u64);
-    add_decimal_field(out, world.start0 as u64);
-    add_decimal_field(out, world.start1 as u64);
-    add_word_field(out, world.asid_from.word());
-    if let Some(word) = cnp_text(header) {
-        add_word_field(out, word);
-    }
-    if header.words.unflushed {
-        add_word_field(out, b"unflushed");
+    if header.words.inorder {
+        add_word_field(out, b"inorder");
     }
 }
 
 /// Writes line 1 of a log with this header, without its newline, into an empty buffer. Reading the line
 /// gives the header again.
-#[tactic(auto, unfolding(bbm_events::specs::Lines::header_line))]
+#[tactic(auto, unfolding(bbm_events::specs::Lines::header_line), using(crate::proofs::Parts::header_more))]
 pub fn write_header(header: &Header, out: &mut ArrayVec<u8, 200>)
     requires empty { out.old.items ≡ [] }
     ensures line { out.new.items ≡ header_line header.now }
     ensures read_again { header_of out.new.items ≡ Ok header.now }
 {
     law_written_is_read();
-    match header.world {
-        World::Hyp(world) => hyp_line(out, header, world),
-        World::Kernel(world) => kernel_line(out, header, world),
-    }
+    numbers_line(out, header.version, header.pes, header.world);
+    add_words(out, header);
 }
 
 /// A space, the mark `@` and the label, where there is one.
