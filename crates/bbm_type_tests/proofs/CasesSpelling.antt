@@ -1,6 +1,6 @@
 -- Worked cases: the first cause for which a line isn't well formed, and the lines of all forms of items.
-use Rattle.bbm_type_tests.proofs.Common.{◌≡◌, ℕ, List, [], ◌∷◌, map, true, false, Option, Some, None, Result, Ok, Err}
-use Rattle.bbm_type_tests.proofs.Common.{refl, S2, World, Hyp, Kernel, Inner, Stores, Alle2is, Vae2is, Rvae2is, Heading}
+use Rattle.bbm_type_tests.proofs.Common.{◌≡◌, ℕ, List, [], ◌∷◌, map, Bool, true, false, Option, Some, None, Result, Ok}
+use Rattle.bbm_type_tests.proofs.Common.{Err, refl, S2, World, Hyp, Kernel, Inner, Stores, Alle2is, Vae2is, Rvae2is, Heading}
 use Rattle.std.specs.Prelude.{◌++◌, codes}
 use Prim.Native.String.{String}
 use Rattle.std.specs.Fmt.{digits}
@@ -15,6 +15,7 @@ use Rattle.bbm_events.specs.declared.machine.MachineLine.TheVariants as step
 use Rattle.bbm_events.specs.declared.malformed.Malformed.{Malformed}
 use Rattle.bbm_events.specs.declared.malformed.Malformed.TheVariants.{NoMagic, BadHeader, UnknownWord, BadNumber, BadPe}
 use Rattle.bbm_events.specs.declared.malformed.Malformed.TheVariants.{BadAddress, MissingField, ExtraField, BadLabel}
+use Rattle.bbm_events.specs.declared.header_words.HeaderWords.{HeaderWords}
 use Rattle.bbm_events.specs.Heading.{no_words}
 use Rattle.bbm_events.specs.Spelling.{decimal_value, hex_value}
 use Rattle.bbm_events.specs.Lines.{header_of, item_of, header_line, item_line}
@@ -32,6 +33,13 @@ hyp version pes pages =
     let world : World = Hyp (record { el2_start = 1; s2_start = 1; s2_pages = pages }) in
     record { version = version; pes = pes; cnp = false; words = no_words; world = world }
 
+-- a heading of the Kernel world of this version, with `cnp`, `unflushed` and `inorder` where they are true
+abbrev kernel : ℕ → Bool → Bool → Bool → Heading
+kernel version cnp unflushed inorder =
+    let world : World = Kernel (record { start0 = 2; start1 = 0; asid_from = from.Ttbr1 }) in
+    let words : HeaderWords = record { unflushed = unflushed; inorder = inorder } in
+    record { version = version; pes = 2; cnp = cnp; words = words; world = world }
+
 unfoldable pub header_cause : String → Option Malformed
 unfolding digits decimal_value hex_value header_of
 header_cause line = err (header_of (codes line))
@@ -45,6 +53,8 @@ pub headers : Gives header_cause (
     ∷ ("bbmlog 5 hyp 2 1 1 1 cnp unflushed", None)
     ∷ ("bbmlog 5 kernel 2 0 0 ttbr1 cnp", None)
     ∷ ("bbmlog 5 kernel 2 1 1 ttbr0 unflushed", None)
+    ∷ ("bbmlog 5 kernel 2 1 1 ttbr1 inorder", None)
+    ∷ ("bbmlog 5 kernel 2 1 1 ttbr0 cnp unflushed inorder", None)
     ∷ ("", Some NoMagic)
     ∷ ("bbmlog", Some NoMagic)
     ∷ ("bbmlog  1 hyp 2 1 1 1", Some NoMagic)
@@ -74,6 +84,7 @@ pub headers : Gives header_cause (
     ∷ ("bbmlog 4 kernel 2 1 1 ttbr0", Some BadHeader)
     ∷ ("bbmlog 4 hyp 2 1 1 1 unflushed", Some BadHeader)
     ∷ ("bbmlog 4 hyp 2 1 1 1 cnp unflushed", Some BadHeader)
+    ∷ ("bbmlog 4 kernel 2 1 1 ttbr1 - inorder", Some BadHeader)
     ∷ ("bbmlog 5 hyp 129 1 1 1", Some BadHeader)
     ∷ ("bbmlog 5 hyp 2 1 1", Some BadHeader)
     ∷ ("bbmlog 5 hyp 2 1 1 1 -", Some BadHeader)
@@ -87,7 +98,14 @@ pub headers : Gives header_cause (
     ∷ ("bbmlog 5 hyp 2 1 1 1 unflushed ", Some BadHeader)
     ∷ ("bbmlog 5 hyp 2 1 1 1 unflush", Some BadHeader)
     ∷ ("bbmlog 5 hyp 2 1 1 1 isolated", Some BadHeader)
-    ∷ ("bbmlog 5 kernel 2 1 1 ttbr1 inorder", Some BadHeader)
+    ∷ ("bbmlog 5 hyp 2 1 1 1 inorder", Some BadHeader)
+    ∷ ("bbmlog 5 hyp 2 1 1 1 unflushed inorder", Some BadHeader)
+    ∷ ("bbmlog 5 kernel 2 1 1 ttbr1 isolated", Some BadHeader)
+    ∷ ("bbmlog 5 kernel 2 1 1 ttbr1 inorder isolated", Some BadHeader)
+    ∷ ("bbmlog 5 kernel 2 1 1 ttbr1 inorder inorder", Some BadHeader)
+    ∷ ("bbmlog 5 kernel 2 1 1 ttbr1 inorder unflushed", Some BadHeader)
+    ∷ ("bbmlog 5 kernel 2 1 1 ttbr1 inorder cnp", Some BadHeader)
+    ∷ ("bbmlog 5 kernel 2 1 1 inorder", Some BadHeader)
     ∷ [])
 unfolding header_cause
 headers = refl
@@ -282,11 +300,11 @@ pub header_lines : Gives header_line (
     ∷ (record (hyp 2 64 1) { cnp = true }, codes "bbmlog 2 hyp 64 1 1 1 cnp")
     ∷ (hyp 5 2 1, codes "bbmlog 5 hyp 2 1 1 1")
     ∷ (record (hyp 5 2 1) { cnp = true }, codes "bbmlog 5 hyp 2 1 1 1 cnp")
-    ∷ (
-      record (hyp 1 64 1) { world = Kernel (record { start0 = 2; start1 = 0; asid_from = from.Ttbr1 }) },
-      codes "bbmlog 1 kernel 64 2 0 ttbr1",
-    )
-    ∷ (record (hyp 5 2 1) { cnp = true; words = record { unflushed = true } }, codes "bbmlog 5 hyp 2 1 1 1 cnp unflushed")
+    ∷ (record (hyp 5 2 1) { words = record no_words { unflushed = true } }, codes "bbmlog 5 hyp 2 1 1 1 unflushed")
+    ∷ (kernel 1 false false false, codes "bbmlog 1 kernel 2 2 0 ttbr1")
+    ∷ (kernel 5 true true false, codes "bbmlog 5 kernel 2 2 0 ttbr1 cnp unflushed")
+    ∷ (kernel 5 false false true, codes "bbmlog 5 kernel 2 2 0 ttbr1 inorder")
+    ∷ (kernel 5 true true true, codes "bbmlog 5 kernel 2 2 0 ttbr1 cnp unflushed inorder")
     ∷ [])
 unfolding digits header_line
 header_lines = refl
