@@ -1,18 +1,14 @@
 -- How many pages a stage 2 root joins in a world that a header has.
 use Rattle.bbm_rules.proofs.Common.{◌≡◌, Bool, true, cond, not, ◌&&◌, ◌||◌, ◌==◌, nat_le, refl, and_parts, proved, If}
-use Rattle.bbm_rules.proofs.Common.{Is, are_s2_pages, page_count, world_ok, heading_ok, is_version, are_pes, may_share}
+use Rattle.bbm_rules.proofs.Common.{Is, are_s2_pages, page_count, world_ok, heading_ok}
 use Rattle.std.proofs.Common.{IsTrue}
 use Rattle.bbm_regimes.specs.declared.regime.Kind.TheVariants.{S2}
 use Rattle.bbm_regimes.specs.declared.regime.World.{World}
 use Rattle.bbm_regimes.specs.declared.regime.World.TheVariants.{Hyp, Kernel}
 use Rattle.bbm_regimes.specs.World.{start_of}
 use Rattle.bbm_walk_s2.specs.Joined.{can_join}
-use Rattle.bbm_events.specs.Heading.{Heading, words_ok}
-
-world_is_ok : (heading : Heading) → IsTrue (heading_ok heading) → world_ok heading.world ≡ true
-world_is_ok heading ok =
-    (and_parts (is_version heading.version && are_pes heading.version heading.pes && (may_share heading.version || not heading.cnp)
-    && words_ok heading.version heading.words) (world_ok heading.world) ok).1
+use Rattle.bbm_events.specs.Heading.{Heading}
+use Rattle.bbm_events.proofs.Written.{ranges}
 
 either : (zero one two four eight sixteen : Bool) → cond zero one (one || two || four || eight || sixteen) ≡ true
     → (one || not zero && (two || four || eight || sixteen)) ≡ true
@@ -27,4 +23,4 @@ joined_in (Kernel w) k = refl
 
 pub joined : (heading : Heading) → IsTrue (heading_ok heading)
     → IsTrue (can_join (start_of heading.world S2) (page_count heading.world S2))
-joined heading ok = joined_in heading.world (world_is_ok heading ok)
+joined heading ok = joined_in heading.world (ranges heading ok).world
