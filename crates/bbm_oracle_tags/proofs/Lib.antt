@@ -1,5 +1,6 @@
 mod BoolLemmas
 pub mod MomentLemmas
+pub mod StandingLemmas
 pub mod NumberLemmas
 pub mod PlaceLemmas
 pub mod RootLemmas

@@ -1,11 +1,12 @@
--- What one PE may use at a moment: the declared roots, and the readable values of the root registers of its world.
-use Rattle.std.specs.Prelude.{◌≡◌, ℕ, ◌&&◌, ◌==◌, ◌++◌, Bool, List, Option, filter_map, flat_map}
+-- What one PE may use at a moment: the declared roots, the readable values of the root registers of its world, and its
+-- readable standings.
+use Rattle.std.specs.Prelude.{◌≡◌, ℕ, ◌&&◌, ◌==◌, ◌++◌, Bool, true, false, List, Option, filter_map, flat_map}
 use Rattle.bbm_rules.specs.Prelude.{Kind, El2, S2, Ttbr0, Ttbr1, AsidFrom, FromTtbr0, FromTtbr1, Reg, Ttbr0El2}
 use Rattle.bbm_rules.specs.Prelude.{VttbrEl2, Ttbr0El1, Ttbr1El1, Tag, El2Tag, Vmid, Asid, Ttbr1Tag, World, Hyp}
 use Rattle.bbm_rules.specs.Prelude.{Kernel, Event}
 use Rattle.bbm_rules.specs.Claims.{same_tag}
 use Rattle.bbm_rules.specs.Lists.{◌>>=◌, if_so, any}
-use Rattle.bbm_rules.specs.RegisterValues.{base_of, register_values, tag_number}
+use Rattle.bbm_rules.specs.RegisterValues.{Standing, base_of, register_values, standings, tag_number}
 use Rattle.bbm_rules.specs.Roots.{Declared, is_at, roots_of, same_kind}
 use Rattle.bbm_rules.specs.Tags.{Reading}
 use Rattle.bbm_oracle_tags.specs.declared.moment.Moment.{Moment}
@@ -44,22 +45,33 @@ own_reading roots kind value = reading_in roots kind (tag_of kind (tag_number va
 abbrev pub readings_under : List Declared → List ℕ → ℕ → List Reading
 readings_under roots first from = filter_map (reading_in roots Ttbr0 (Asid (tag_number from))) first
 
-abbrev pub asid_readings_by : AsidFrom → List Declared → List ℕ → List ℕ → List Reading
-asid_readings_by FromTtbr0 roots first second = filter_map (own_reading roots Ttbr0) first
-asid_readings_by FromTtbr1 roots first second = flat_map (readings_under roots first) second
+-- a standing's value of TTBR0_EL1 under the ASID of its value of TTBR1_EL1
+abbrev pub standing_reading : List Declared → Standing → Option Reading
+standing_reading roots s = reading_in roots Ttbr0 (Asid (tag_number s.second)) s.first
 
--- the readable tags, by the roots and the readable values of the two registers
-abbrev pub readings_by : World → List Declared → List ℕ → List ℕ → List Reading
-readings_by (Hyp world) roots first second =
+abbrev pub second_readings_by : Bool → List Declared → List ℕ → List ℕ → List Standing → List Reading
+second_readings_by true roots first second standings = filter_map (standing_reading roots) standings
+second_readings_by false roots first second standings = flat_map (readings_under roots first) second
+
+abbrev pub asid_readings_by : Bool → AsidFrom → List Declared → List ℕ → List ℕ → List Standing → List Reading
+asid_readings_by inorder FromTtbr0 roots first second standings = filter_map (own_reading roots Ttbr0) first
+asid_readings_by inorder FromTtbr1 roots first second standings =
+    second_readings_by inorder roots first second standings
+
+-- the readable tags, by the roots, the readable values of the two registers, and the readable standings
+abbrev pub readings_by : Bool → World → List Declared → List ℕ → List ℕ → List Standing → List Reading
+readings_by inorder (Hyp world) roots first second standings =
     filter_map (own_reading roots El2) first ++ filter_map (own_reading roots S2) second
-readings_by (Kernel world) roots first second =
-    asid_readings_by world.asid_from roots first second ++ filter_map (own_reading roots Ttbr1) second
+readings_by inorder (Kernel world) roots first second standings =
+    asid_readings_by inorder world.asid_from roots first second standings
+    ++ filter_map (own_reading roots Ttbr1) second
 
--- the roots and the values are those of a PE after a history
+-- what is kept is of a PE after a history
 pub record IsMoment (world : World) (p : ℕ) (h : List Event) (m : Moment) : Type 0 where
   pub roots : m.roots.items ≡ roots_of h
   pub first : m.first.items ≡ register_values h p (first_reg world)
   pub second : m.second.items ≡ register_values h p (second_reg world)
+  pub standings : m.standings.items ≡ standings h p
 
 -- whether one of the readings is of this tag for this root, and for some root
 abbrev pub is_read : List Reading → Tag → ℕ → Bool

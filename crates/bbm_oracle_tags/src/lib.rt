@@ -17,6 +17,7 @@ pub mod readings;
 pub mod registers;
 pub mod roots;
 pub mod rules;
+mod standings;
 pub mod tags;
 pub mod values;
 mod watch;

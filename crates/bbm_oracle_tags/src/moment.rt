@@ -1,20 +1,20 @@
 //! What one PE may use at a moment of a walk over the events.
 
-ghost use Rattle.std.specs.Prelude.{◌≡◌, ◌++◌, List, [], ◌∷◌, filter_map, flat_map, option_to_list, IfOk, OnOk};
+ghost use Rattle.std.specs.Prelude.{◌≡◌, ◌++◌, List, [], ◌∷◌, ℕ, filter_map, flat_map, option_to_list, IfOk, OnOk};
 ghost use Rattle.bbm_events.specs.declared.event.Event.{Event};
-ghost use Rattle.bbm_rules.specs.RegisterValues.{register_values};
-ghost use Rattle.bbm_rules.specs.Roots.{roots_of};
+ghost use Rattle.bbm_regimes.specs.declared.regime.World.{World};
 ghost use Rattle.bbm_oracle_tags.specs.Moments as spec;
 
 use crate::readings::Reading;
 use crate::registers::take_value;
 use crate::roots::{Declared, same_kind, take_root};
+use crate::standings::{Standing, at_start as standings_at_start, take_standing};
 use bbm_events::{Event, Header};
 use bbm_regimes::{AsidFrom, Kind, NoMemory, Pe, Reg, Tag, World, base_of, tag_number};
 use std::alloc::Global;
 
-/// What one PE may use at a moment: the declared roots, and the readable values of the root registers of its world.
-/// Source: project's own choice.
+/// What one PE may use at a moment: the declared roots, the readable values of the root registers of its world, and its
+/// readable standings. Source: project's own choice.
 #[derive(Drop)]
 pub struct Moment {
     /// The declared roots, that of the last `root` first.
@@ -23,6 +23,8 @@ pub struct Moment {
     pub first: Vec<u64>,
     /// The readable values of VTTBR_EL2 or TTBR1_EL1, the newest first.
     pub second: Vec<u64>,
+    /// The readable standings, the newest first.
+    pub standings: Vec<Standing>,
 }
 
 /// The first root register of the header's world.
@@ -169,43 +171,75 @@ fn add_each(
     Ok(())
 }
 
+/// Adds what each standing lets read: its value of TTBR0_EL1 under the ASID of its value of TTBR1_EL1.
+fn add_standings(
+    readings: &mut Vec<Reading>,
+    roots: &[Declared],
+    standings: &[Standing],
+) -> Result<(), NoMemory>
+    ensures { OnOk result (readings.new.items
+        ≡ readings.old.items ++ filter_map (spec.standing_reading roots.now) standings.now) }
+{
+    for standing in standings {
+        add_reading(
+            readings,
+            roots,
+            Kind::Ttbr0,
+            Tag::Asid(tag_number(standing.second)),
+            standing.first,
+        )?;
+    }
+    Ok(())
+}
+
 impl Moment {
+    ghost use Rattle.bbm_oracle_tags.specs.Moments.{IsMoment};
+
     /// The moment before any event. `NoMemory` where there is none.
     pub fn new(alloc: Global) -> Result<Moment, NoMemory>
-        ensures roots { IfOk result (λ moment. moment.roots.items ≡ []) }
-        ensures first { IfOk result (λ moment. moment.first.items ≡ 0 ∷ []) }
-        ensures second { IfOk result (λ moment. moment.second.items ≡ 0 ∷ []) }
+        ensures { IfOk result (λ moment. (world : World) (p : ℕ) → IsMoment world p [] moment) }
     {
         let first = at_start(alloc)?;
         let second = at_start(alloc)?;
+        let standings = standings_at_start(alloc)?;
         Ok(Moment {
             roots: Vec::new(alloc),
             first,
             second,
+            standings,
         })
     }
 
     /// The moment after one more event. `NoMemory` where there is none.
     pub fn take(&mut self, header: &Header, event: &Event, pe: Pe) -> Result<(), NoMemory>
-        ensures roots { OnOk result ((h : List Event) → self.old.roots.items ≡ roots_of h
-            → self.new.roots.items ≡ roots_of (event.now ∷ h)) }
-        ensures first { OnOk result ((h : List Event)
-            → self.old.first.items ≡ register_values h pe (spec.first_reg header.now.world)
-            → self.new.first.items ≡ register_values (event.now ∷ h) pe (spec.first_reg header.now.world)) }
-        ensures second { OnOk result ((h : List Event)
-            → self.old.second.items ≡ register_values h pe (spec.second_reg header.now.world)
-            → self.new.second.items ≡ register_values (event.now ∷ h) pe (spec.second_reg header.now.world)) }
+        ensures { OnOk result ((h : List Event) → IsMoment header.now.world pe h self.old
+            → IsMoment header.now.world pe (event.now ∷ h) self.new) }
     {
         take_root(&mut self.roots, event)?;
         take_value(&mut self.first, event, pe, first_reg(header))?;
-        take_value(&mut self.second, event, pe, second_reg(header))
+        take_value(&mut self.second, event, pe, second_reg(header))?;
+        take_standing(&mut self.standings, event, pe)
+    }
+
+    /// Adds the readable tags of the root in TTBR0_EL1, where their ASIDs are those of TTBR1_EL1.
+    fn add_second(&self, readings: &mut Vec<Reading>, inorder: bool) -> Result<(), NoMemory>
+        ensures { OnOk result (readings.new.items ≡ readings.old.items
+            ++ spec.second_readings_by inorder self.now.roots.items self.now.first.items self.now.second.items
+            self.now.standings.items) }
+    {
+        if inorder {
+            add_standings(readings, &self.roots, &self.standings)
+        } else {
+            add_each(readings, &self.roots, &self.first, &self.second)
+        }
     }
 
     /// The readable tags, each with its root. `NoMemory` where there is none. Source: Arm ARM (DDI 0487), "Translation
     /// Lookaside Buffers", and TCR_EL1.A1 of "AArch64 System register descriptions".
     pub fn readings(&self, alloc: Global, header: &Header) -> Result<Vec<Reading>, NoMemory>
-        ensures { IfOk result (λ readings. readings.items ≡ spec.readings_by header.now.world
-            self.now.roots.items self.now.first.items self.now.second.items) }
+        ensures { IfOk result (λ readings. readings.items
+            ≡ spec.readings_by header.now.words.inorder header.now.world self.now.roots.items self.now.first.items
+            self.now.second.items self.now.standings.items) }
     {
         let mut readings = Vec::new(alloc);
         match header.world {
@@ -218,9 +252,7 @@ impl Moment {
                     AsidFrom::Ttbr0 => {
                         add_own(&mut readings, &self.roots, Kind::Ttbr0, &self.first)?
                     }
-                    AsidFrom::Ttbr1 => {
-                        add_each(&mut readings, &self.roots, &self.first, &self.second)?
-                    }
+                    AsidFrom::Ttbr1 => self.add_second(&mut readings, header.words.inorder)?,
                 }
                 add_own(&mut readings, &self.roots, Kind::Ttbr1, &self.second)?;
             }

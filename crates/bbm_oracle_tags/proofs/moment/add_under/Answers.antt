@@ -8,7 +8,7 @@ use Rattle.bbm_oracle_tags.proofs.moment.add_under.Goals as goal
 pub loop-value-preserved : goal.loop-value-preserved
 loop-value-preserved c =
     readings-more (reading_in c.args.roots.now Ttbr0 (Asid (tag_number c.args.from))) c.args.values.now
-    c.loop-value.value-index
+    c.loop-value.value-index 0
     c.add_reading.new.readings.items c.loop-value.readings.items c.args.readings.now.items
     (omega arith) c.loop-value.invariant
     (rw c.tag_number.ensures at c.in_ok-add_reading.ensures)

@@ -1,17 +1,19 @@
-use Rattle.bbm_rules.proofs.Common.{◌∷◌, take, reverse, arith}
-use Rattle.bbm_oracle_tags.specs.Moments.{IsMoment}
+use Rattle.bbm_rules.proofs.Common.{take, reverse, sym, arith, true≢false}
 use Rattle.bbm_lemmas.proofs.Reversed.{reverse_more}
 use Rattle.bbm_oracle_tags.proofs.tags.add_read_at.Goals as goal
+
+pub loop-event-init : goal.loop-event-init
+loop-event-init c = record {
+  moment = c.in_ok-moment.ensures c.args.header.now.world c.args.pe;
+  kept = λ g k. k;
+  added = λ g k. absurd (true≢false (sym k));
+}
 
 pub loop-event-preserved : goal.loop-event-preserved
 loop-event-preserved c =
     let h = reverse (take c.loop-event.event-index c.args.events.now) in
     let old = c.loop-event.invariant in
-    let moment : IsMoment c.args.header.now.world c.args.pe (c.event-item.result ∷ h) c.take.new.self = record {
-      roots = c.in_ok-take.ensures.roots h old.moment.roots;
-      first = c.in_ok-take.ensures.first h old.moment.first;
-      second = c.in_ok-take.ensures.second h old.moment.second;
-    } in
+    let moment = c.in_ok-take.ensures h old.moment in
     let more = reverse_more c.args.events.now c.loop-event.event-index c.event-item.result
     (omega arith) c.event-item.is in
     rw (← more) (record {

@@ -1,15 +1,10 @@
 use Rattle.bbm_rules.proofs.Common.{◌∷◌, sym, ◌∙◌}
-use Rattle.bbm_oracle_tags.specs.Moments.{IsMoment}
 use Rattle.bbm_oracle_tags.proofs.MomentLemmas.{reads-by, reads-some-by, same-reads, same-reads-some}
 use Rattle.bbm_oracle_tags.proofs.watch.Watch.look.Goals as goal
 
 pub returns-in_ok-readings-clause-looks : goal.returns-in_ok-readings-clause-looks
 returns-in_ok-readings-clause-looks c = λ h k.
-    let moment : IsMoment c.args.header.now.world c.args.asked.now.pe (c.args.event.now ∷ h) c.take.new.self = record {
-      roots = c.in_ok-take.ensures.roots h k.moment.roots;
-      first = c.in_ok-take.ensures.first h k.moment.first;
-      second = c.in_ok-take.ensures.second h k.moment.second;
-    } in record {
+    let moment = c.in_ok-take.ensures h k.moment in record {
       moment = moment;
       reads = c.is_read-self.ensures
           ∙ reads-by c.args.header.now (c.args.event.now ∷ h) c.args.asked.now.pe c.take.new.self c.deref.result.now
@@ -23,11 +18,7 @@ returns-in_ok-readings-clause-looks c = λ h k.
 
 pub returns-else-changes_readings-clause-looks : goal.returns-else-changes_readings-clause-looks
 returns-else-changes_readings-clause-looks c = λ h k. record {
-  moment = record {
-    roots = c.in_ok-take.ensures.roots h k.moment.roots;
-    first = c.in_ok-take.ensures.first h k.moment.first;
-    second = c.in_ok-take.ensures.second h k.moment.second;
-  };
+  moment = c.in_ok-take.ensures h k.moment;
   reads = k.reads ∙ sym (same-reads c.args.header.now c.args.event.now h c.args.asked.now.pe c.args.asked.now.tag
       c.args.asked.now.root
       (sym c.changes_readings.ensures ∙ c.if-changes_readings.false));
