@@ -5,6 +5,7 @@ mod CasesAsids
 mod CasesAsked
 mod CasesFlush
 mod CasesFlushTag
+mod CasesInOrder
 mod CasesNumbers
 mod CasesParts
 mod CasesReads
