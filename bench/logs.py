@@ -239,11 +239,18 @@ def new_process(process, pe):
     yield b"root %d ttbr0 - 0x%x\n" % (pe, root)
 
 
-def switch_to(process, pe):
+def switch_to(process, pe, isbs=True):
     """Through the reserved table, so that no root is loaded under the ASID of another."""
     for register, value in ((b"ttbr0", page_at(0) | 1), (b"ttbr1", process + 1 << 49 | page_at(1) | 1), (b"ttbr0", process_pages(process)[0] | 1)):
         yield b"msr %d %s_el1 0x%x @cpu_do_switch_mm\n" % (pe, register, value)
-        yield b"isb %d\n" % pe
+        if isbs:
+            yield b"isb %d\n" % pe
+
+
+def switch_in_order(process, pe):
+    """The same with one ISB behind the three writes."""
+    yield from switch_to(process, pe, False)
+    yield b"isb %d\n" % pe
 
 
 def fault(process, pe, number):
@@ -258,7 +265,7 @@ def fault(process, pe, number):
             b"dsb %d ish\n" % pe, b"isb %d\n" % pe)
 
 
-def kernel(count, header=b"bbmlog 4 kernel 4 0 0 ttbr1 cnp"):
+def kernel(count, header=b"bbmlog 4 kernel 4 0 0 ttbr1 cnp", switch=switch_to):
     """The shape of a log of a real kernel: by far most events are barriers and TLBIs for one page, as those of faults, and
     256 processes on four PEs have some two thousand tables. At 2,000,000 events each process ran forty times."""
     def events():
@@ -268,7 +275,7 @@ def kernel(count, header=b"bbmlog 4 kernel 4 0 0 ttbr1 cnp"):
             process, pe = turn % PROCESSES, turn % 4
             if turn < PROCESSES:
                 yield from new_process(process, pe)
-            yield from switch_to(process, pe)
+            yield from switch(process, pe)
             for number in range(FAULTS):
                 yield from fault(process, pe, turn // PROCESSES * FAULTS + number)
     return Log(header, events())
@@ -277,6 +284,11 @@ def kernel(count, header=b"bbmlog 4 kernel 4 0 0 ttbr1 cnp"):
 def kernel_unflushed(count):
     """The same log, which says that it may give up roots unflushed."""
     return kernel(count, b"bbmlog 5 kernel 4 0 0 ttbr1 cnp unflushed")
+
+
+def kernel_inorder(count):
+    """The same log of a kernel that switches a process with one ISB, which says that its registers come into use in order."""
+    return kernel(count, b"bbmlog 5 kernel 4 0 0 ttbr1 cnp inorder", switch_in_order)
 
 
 VMIDS = 255
@@ -385,7 +397,7 @@ LOGS = {
     "moves": moves, "plain": plain, "rounds": rounds,
     "pages_in_order": pages_in_order, "pages_in_random_order": pages_in_random_order, "broken_at_once": broken_at_once,
     "cleared_512": cleared_one_by_one(512), "cleared_4096": cleared_one_by_one(4096), "guests": guests, "asids": asids, "kernel": kernel,
-    "kernel_unflushed": kernel_unflushed, "guests_that_die": guests_that_die,
+    "kernel_unflushed": kernel_unflushed, "kernel_inorder": kernel_inorder, "guests_that_die": guests_that_die,
     "linked_by_all": linked_by_all, "fan_of_512": fan_of_512, "roots_and_flushes": roots_and_flushes,
     "unanswered": unanswered, "registers": registers, "long_lines": long_lines, "crowd": crowd,
 }

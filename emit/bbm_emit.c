@@ -693,13 +693,18 @@ UNTRACED const char *bbm_hyp_header(char *header, unsigned int pes, uint64_t tcr
 	return 0;
 }
 
-UNTRACED void bbm_version_5(char *header, int unflushed)
+UNTRACED const char *bbm_version_5(char *header, unsigned int words)
 {
-	char *end = put_text(header, "bbmlog 5");
+	char *end = header + sizeof "bbmlog 4 " - 1;
 
+	if (*end == 'h' && (words & BBM_INORDER))
+		return "the word inorder is of kernels alone";
+	put_text(header, "bbmlog 5");
 	while (*end)
 		end++;
 	if (end[-1] == '-')
 		end -= 2; /* the word `cnp` stands or doesn't */
-	*put_text(end, unflushed ? " unflushed" : "") = '\0';
+	end = put_text(end, words & BBM_UNFLUSHED ? " unflushed" : "");
+	*put_text(end, words & BBM_INORDER ? " inorder" : "") = '\0';
+	return 0;
 }

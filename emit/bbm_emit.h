@@ -440,12 +440,20 @@ const char *bbm_kernel_header(char *header, unsigned int pes, uint64_t tcr_el1, 
 const char *bbm_hyp_header(char *header, unsigned int pes, uint64_t tcr_el2, uint64_t vtcr_el2,
 			   int cnp);
 
+/* What a header of version 5 may say besides, each a bit. */
+enum bbm_header_word {
+	BBM_UNFLUSHED = 1, /* a root may be given up while TLBs may keep what was read through it */
+	BBM_INORDER = 2,   /* a kernel's root registers come into use in the order of their writes */
+};
+
 /**
  * bbm_version_5() - makes a header, which is one of version 4, one of version 5: a draft
  * @header: as bbm_kernel_header() or bbm_hyp_header() gave it, in the same room
- * @unflushed: whether a root may be given up while TLBs may keep what was read through it
+ * @words: those of enum bbm_header_word that it says, or 0
+ *
+ * Return: 0; or else what the profile doesn't have, as a sentence, and the header stays.
  */
-void bbm_version_5(char *header, int unflushed);
+const char *bbm_version_5(char *header, unsigned int words);
 
 /**
  * bbm_line() - the line of a slot, "TICKET LINE" with its newline

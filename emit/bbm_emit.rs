@@ -522,8 +522,17 @@ impl Walk {
 #[derive(Clone, Copy, Debug, PartialEq, Eq)]
 pub enum Version {
     Four,
-    /// A draft. `unflushed` says whether a root may be given up while TLBs may keep what was read through it.
-    Five { unflushed: bool },
+    /// A draft.
+    Five(Words),
+}
+
+/// What a header of version 5 may say besides.
+#[derive(Clone, Copy, Debug, Default, PartialEq, Eq)]
+pub struct Words {
+    /// A root may be given up while TLBs may keep what was read through it.
+    pub unflushed: bool,
+    /// A kernel's root registers come into use in the order of their writes.
+    pub inorder: bool,
 }
 
 impl Version {
@@ -532,14 +541,13 @@ impl Version {
     }
 
     /// What stands behind the numbers of a header.
-    fn words(self, cnp: bool) -> &'static str {
-        match (self, cnp) {
-            (Version::Four, false) => " -",
-            (Version::Four | Version::Five { unflushed: false }, true) => " cnp",
-            (Version::Five { unflushed: false }, false) => "",
-            (Version::Five { unflushed: true }, false) => " unflushed",
-            (Version::Five { unflushed: true }, true) => " cnp unflushed",
-        }
+    fn write_words(self, cnp: bool, f: &mut fmt::Formatter<'_>) -> fmt::Result {
+        let (is_field, words) = match self {
+            Version::Four => (true, Words::default()),
+            Version::Five(words) => (false, words),
+        };
+        let said = [(cnp, " cnp"), (is_field && !cnp, " -"), (words.unflushed, " unflushed"), (words.inorder, " inorder")];
+        said.into_iter().filter(|(is_said, _)| *is_said).try_for_each(|(_, word)| f.write_str(word))
     }
 }
 
@@ -555,12 +563,12 @@ impl fmt::Display for Header {
         match *self {
             Header::Kernel { version, pes, lower, upper, asid_from, cnp } => {
                 let from = if asid_from == Register::Ttbr1El1 { "ttbr1" } else { "ttbr0" };
-                let (number, words) = (version.number(), version.words(cnp));
-                write!(f, "bbmlog {number} kernel {pes} {} {} {from}{words}", lower.start, upper.start)
+                write!(f, "bbmlog {} kernel {pes} {} {} {from}", version.number(), lower.start, upper.start)?;
+                version.write_words(cnp, f)
             }
             Header::Hyp { version, pes, own, guests, cnp } => {
-                let (number, words) = (version.number(), version.words(cnp));
-                write!(f, "bbmlog {number} hyp {pes} {} {} {}{words}", own.start, guests.start, guests.pages)
+                write!(f, "bbmlog {} hyp {pes} {} {} {}", version.number(), own.start, guests.start, guests.pages)?;
+                version.write_words(cnp, f)
             }
         }
     }
@@ -618,10 +626,13 @@ impl Header {
         Ok(Header::Hyp { version: Version::Four, pes, own, guests, cnp })
     }
 
-    /// This header, as one of version 5.
-    pub fn version_5(mut self, unflushed: bool) -> Header {
+    /// This header, as one of version 5. The error is what the profile doesn't have, as a sentence.
+    pub fn version_5(mut self, words: Words) -> Result<Header, &'static str> {
+        if words.inorder && matches!(self, Header::Hyp { .. }) {
+            return Err("the word inorder is of kernels alone");
+        }
         let (Header::Kernel { version, .. } | Header::Hyp { version, .. }) = &mut self;
-        *version = Version::Five { unflushed };
-        self
+        *version = Version::Five(words);
+        Ok(self)
     }
 }

@@ -173,13 +173,13 @@ static void headers(void)
 		puts(wrong ? wrong : text);
 	}
 	puts(bbm_kernel_header(text, 129, tcr_el1[0], 0));
-	for (i = 0; i < 4; i++) {
+	for (i = 0; i < 8; i++) {
 		bbm_kernel_header(text, 4, tcr_el1[1], i % 2);
-		bbm_version_5(text, i / 2);
-		puts(text);
+		wrong = bbm_version_5(text, i / 2);
+		puts(wrong ? wrong : text);
 		bbm_hyp_header(text, 4, el2[1].tcr_el2, el2[1].vtcr_el2, i % 2);
-		bbm_version_5(text, i / 2);
-		puts(text);
+		wrong = bbm_version_5(text, i / 2);
+		puts(wrong ? wrong : text);
 	}
 }
 

@@ -6,7 +6,7 @@
 // The files and the stories are those of demo.c.
 mod bbm_emit;
 
-use bbm_emit::{Barrier, Buffer, Header, Kind, Label, Register, Slot, Tickets, Tlbi, TlbiAt, Tree, LINE_BYTES};
+use bbm_emit::{Barrier, Buffer, Header, Kind, Label, Register, Slot, Tickets, Tlbi, TlbiAt, Tree, Words, LINE_BYTES};
 use std::fs;
 use std::path::Path;
 
@@ -163,9 +163,10 @@ fn headers() {
     ];
     let kernels = tcr_el1.iter().enumerate().map(|(i, tcr)| Header::kernel(4, *tcr, i % 2 == 0));
     let hyps = el2.iter().enumerate().map(|(i, (tcr, vtcr))| Header::hyp(4, *tcr, *vtcr, i % 2 == 0));
-    let later = [(false, false), (true, false), (false, true), (true, true)].iter().flat_map(|&(cnp, unflushed)| {
+    let later = (0..8).flat_map(|i| {
+        let (cnp, words) = (i % 2 == 1, Words { unflushed: i / 2 % 2 == 1, inorder: i / 4 == 1 });
         [Header::kernel(4, tcr_el1[1], cnp), Header::hyp(4, el2[1].0, el2[1].1, cnp)]
-            .map(|header| header.map(|header| header.version_5(unflushed)))
+            .map(|header| header.and_then(|header| header.version_5(words)))
     });
     for header in kernels.chain(hyps).chain([Header::kernel(129, tcr_el1[0], false)]).chain(later) {
         match header {

@@ -2,7 +2,7 @@
 /* Puts the dumps of all PEs, as bbm_emit.h and bbm_emit.rs make them, into one log on standard output.
  *
  *     merge [OPTION..] HEADER DUMP..
- *     merge --header kernel PES TCR_EL1 CNP [5 [unflushed]]
+ *     merge --header kernel PES TCR_EL1 CNP [5 [unflushed] [inorder]]
  *     merge --header hyp PES TCR_EL2 VTCR_EL2 CNP [5 [unflushed]]
  *
  * HEADER is the first line of the log, as "bbmlog 4 hyp 2 1 1 1 -". A DUMP is a file of lines "TICKET LINE", as bbm_read
@@ -40,7 +40,7 @@ enum form { UNKNOWN, TEXT, SLOTS };
 
 enum status { NO_LOG = 2, WRONG_WORDS, CANT_READ, CANT_WRITE, NO_MEMORY };
 
-enum { FORM_BYTES = 8, MOST_FIELDS = 10, NO_PE = -1 };
+enum { FORM_BYTES = 8, MOST_FIELDS = 11, NO_PE = -1 };
 
 struct dump {
 	const char *name;
@@ -652,17 +652,28 @@ static void merge_growing(struct dump *dumps, int count)
 
 /* ---- the words of the command */
 
-/* Whether these are what a header of the version may say behind its numbers: up to version 4 one field, `cnp` or `-`, but
- * none under version 1; and then the words `cnp` and `unflushed`, each of which stands or doesn't. */
-static bool are_words(uint64_t version, char *const words[])
+/* The words of version 5 behind these, each of which stands or doesn't: `unflushed`, and `inorder` of a kernel; and what
+ * stands behind them. */
+static char *const *read_words(char *const *words, bool hyp, unsigned *said)
 {
+	*said = 0;
+	if (*words && !strcmp(*words, "unflushed") && words++)
+		*said |= BBM_UNFLUSHED;
+	if (!hyp && *words && !strcmp(*words, "inorder") && words++)
+		*said |= BBM_INORDER;
+	return words;
+}
+
+/* Whether these are what a header of the version may say behind its numbers: up to version 4 one field, `cnp` or `-`, but
+ * none under version 1; and then the words, of which `cnp` is the first. */
+static bool are_words(uint64_t version, bool hyp, char *const *words)
+{
+	bool cnp = *words && !strcmp(*words, "cnp");
+	unsigned said;
+
 	if (version < 5)
-		return version == 1 ? !words[0] : words[0] && (!strcmp(words[0], "cnp") || !strcmp(words[0], "-")) && !words[1];
-	if (words[0] && !strcmp(words[0], "cnp"))
-		words++;
-	if (words[0] && !strcmp(words[0], "unflushed"))
-		words++;
-	return !words[0];
+		return version == 1 ? !*words : (cnp || (*words && !strcmp(*words, "-"))) && !words[1];
+	return !*read_words(words + cnp, hyp, &said);
 }
 
 /* Reads the fields of a header, as docs/FORMAT.md has them, and writes them again, as only one text has them. */
@@ -670,10 +681,11 @@ static bool read_header_fields(char *const fields[], char *again, size_t room)
 {
 	uint64_t version, pes, start, other, pages = 1;
 	bool hyp = !strcmp(fields[2], "hyp");
+	int length;
 
 	if (strcmp(fields[0], "bbmlog") || !read_decimal(fields[1], 5, &version) || !version)
 		return false;
-	if (!are_words(version, fields + 7) || !read_decimal(fields[3], version < 3 ? 64 : BBM_PES, &pes) || !pes)
+	if (!are_words(version, hyp, fields + 7) || !read_decimal(fields[3], version < 3 ? 64 : BBM_PES, &pes) || !pes)
 		return false;
 	if (!read_decimal(fields[4], 2, &start) || !read_decimal(fields[5], 2, &other))
 		return false;
@@ -684,9 +696,10 @@ static bool read_header_fields(char *const fields[], char *again, size_t room)
 	header.version = (unsigned)version;
 	header.pes = (unsigned)pes;
 	header.stage2_bytes = pages * BBM_PAGE_BYTES;
-	snprintf(again, room, "bbmlog %u %s %u %u %u %s%s%s%s%s", header.version, fields[2], header.pes, (unsigned)start,
-		 (unsigned)other, fields[6], fields[7] ? " " : "", fields[7] ? fields[7] : "", fields[8] ? " " : "",
-		 fields[8] ? fields[8] : "");
+	length = snprintf(again, room, "bbmlog %u %s %u %u %u %s", header.version, fields[2], header.pes, (unsigned)start,
+			  (unsigned)other, fields[6]);
+	for (fields += 7; *fields; fields++)
+		length += snprintf(again + length, room - (size_t)length, " %s", *fields);
 	return true;
 }
 
@@ -705,7 +718,7 @@ static bool read_header(const char *text)
 static __attribute__((__noreturn__)) void usage(void)
 {
 	end_with(WRONG_WORDS, "usage: merge [--strip PREFIX] [--tickets N] [--follow] HEADER DUMP.. | "
-		 "merge --header kernel PES TCR_EL1 CNP [5 [unflushed]] | "
+		 "merge --header kernel PES TCR_EL1 CNP [5 [unflushed] [inorder]] | "
 		 "merge --header hyp PES TCR_EL2 VTCR_EL2 CNP [5 [unflushed]]");
 }
 
@@ -716,15 +729,15 @@ static int write_header(int count, char **words)
 	char *const *last = words + (hyp ? 5 : 4); /* behind CNP */
 	uint64_t pes = 0, tcr = 0, vtcr = 0;
 	char text[BBM_LINE_BYTES];
-	bool cnp, later, unflushed;
+	unsigned said = 0;
+	bool cnp, later;
 	const char *wrong;
 
 	if (!hyp && !kernel)
 		usage();
 	cnp = !strcmp(last[-1], "cnp");
 	later = last[0] && !strcmp(last[0], "5");
-	unflushed = later && last[1] && !strcmp(last[1], "unflushed");
-	if ((!cnp && strcmp(last[-1], "-")) || last[later + unflushed])
+	if ((!cnp && strcmp(last[-1], "-")) || *(later ? read_words(last + 1, hyp, &said) : last))
 		usage();
 	if (!read_decimal(words[1], UINT32_MAX, &pes) || !read_hex(words[2], &tcr) || (hyp && !read_hex(words[3], &vtcr)))
 		usage();
@@ -732,10 +745,10 @@ static int write_header(int count, char **words)
 		wrong = bbm_hyp_header(text, (unsigned)pes, tcr, vtcr, cnp);
 	else
 		wrong = bbm_kernel_header(text, (unsigned)pes, tcr, cnp);
+	if (!wrong && later)
+		wrong = bbm_version_5(text, said);
 	if (wrong)
 		fail("%s", wrong);
-	if (later)
-		bbm_version_5(text, unflushed);
 	printf("%s\n", text);
 	flush_log();
 	return 0;

@@ -6,7 +6,7 @@ and `tools/try` judge them, and nothing here says what the verdict is.
 """
 from collections import namedtuple
 
-Header = namedtuple("Header", "version hyp pes starts pages asids cnp unflushed", defaults=(False,))
+Header = namedtuple("Header", "version hyp pes starts pages asids cnp unflushed inorder", defaults=(False, False))
 Root = namedtuple("Root", "page kind lock start number")
 Table = namedtuple("Table", "root level first above")
 
@@ -34,7 +34,7 @@ def any_header(chance):
     pes = chance.choice([1, 2, 2, 2, 3, 4, 64, 128 if version > 2 else 64])
     return Header(version, chance.random() < 0.5, pes, (chance.choice([0, 1, 1, 2]), start),
                   1 if start == 0 else chance.choice([1, 1, 2, 4, 16]), chance.choice(["ttbr0", "ttbr1"]),
-                  version > 1 and chance.random() < 0.3, version > 4 and chance.random() < 0.6)
+                  version > 1 and chance.random() < 0.3, version > 4 and chance.random() < 0.6, version > 4 and chance.random() < 0.6)
 
 
 def text_of(header):
@@ -47,7 +47,7 @@ def words_of(header):
     """What a header says behind its numbers, with the space before it."""
     if header.version < 5:
         return "" if header.version == 1 else " cnp" if header.cnp else " -"
-    return " cnp" * header.cnp + " unflushed" * header.unflushed
+    return " cnp" * header.cnp + " unflushed" * header.unflushed + " inorder" * (header.inorder and not header.hyp)
 
 
 class Story:
@@ -137,6 +137,24 @@ class Story:
         if synchronise:
             self.say(f"isb {pe}")
         self.loaded[pe, root.kind] = root
+
+    def switch(self):
+        """Another process: TTBR0_EL1 names none, TTBR1_EL1 has the new ASID, TTBR0_EL1 the new root, and then comes one ISB."""
+        if self.header.hyp or self.header.asids == "ttbr0":
+            return self.load()
+        pe, root, upper = self.pe(), self.root("ttbr0"), self.loaded.get((self.chance.randrange(2), "ttbr1"))
+        none = self.null_page() if self.chance.random() < 0.5 else 0
+        writes = [("ttbr0", none), ("ttbr1", (upper.page if upper else 0) | root.number << 48), ("ttbr0", root.page)]
+        for kind, value in writes[self.chance.random() < 0.1:]:
+            self.say(f"msr {pe} {REGISTERS[kind]} {value:#x}")
+        self.loaded[pe, "ttbr0"] = root
+        if upper:
+            self.loaded[pe, "ttbr1"] = upper
+        else:
+            self.loaded.pop((pe, "ttbr1"), None)
+        if self.chance.random() < 0.9:
+            self.say(f"isb {pe}")
+        return None
 
     def null_page(self):
         """A page that stays empty."""
@@ -410,7 +428,7 @@ class Story:
         self.say(f"unlock {pe} {lock}")
 
     GOOD = [map_a_leaf] * 5 + [link_a_table] * 5 + [replace] * 5
-    GOOD += [several, load, load, give_up, hand_over, new_root, barrier, flush_for_nothing, reserve, lock_and_unlock]
+    GOOD += [several, load, load, switch, switch, give_up, hand_over, new_root, barrier, flush_for_nothing, reserve, lock_and_unlock]
 
     # ---- slips: each is meant to break the rule of its number, where the world has it
 

@@ -12,7 +12,7 @@ from functools import cached_property
 
 from why.log import words
 from why.log.lines import ADDRESS_BITS, Before, Line, Log, header_of
-from why.asking.leaving import left_against
+from why.asking.leaving import Tag, left_against, tags_of
 from why.asking.places import INSIDE, LAST_LEVEL, PAGE, Asker, Place, tables_of
 from why.asking.program import Program, Verdict
 from why.telling.style import ranges
@@ -117,14 +117,13 @@ class Tags:
         self.before = Before(log, refusal.line - 1)
 
     @cached_property
-    def registers(self) -> list[Line]:
-        return [self.log.line(at) for at, line in self.before.lines() if line.startswith(b"msr ")]
+    def tag_of(self) -> dict[int, Tag]:
+        """For each PE the last register write by which a root is readable under a tag that it is about, with the tag."""
+        return tags_of(self.before).loads_against(self.refused)
 
     @cached_property
     def loads(self) -> list[Line]:
-        """For each PE the last register write of the root that is reported."""
-        last = {line.event.pe: line for line in self.registers if line.event.base == self.refusal.at}
-        return sorted(last.values(), key=lambda line: -line.at)
+        return [self.log.line(at) for at in sorted(self.tag_of, reverse=True)]
 
     def passes(self, switched: list[Line], flush: list[str]) -> bool:
         """Whether the refused line gets by, behind other values in these registers and a flush."""
@@ -144,8 +143,9 @@ class Tags:
         pes = [line.event.pe for line in self.loads]
         if not pes or not self.passes(self.loads, self.flush(pes)):
             return []
-        found = [self.held(load, why) for load in self.loads[:PES] if (why := self.needed(load))]
-        return found[:TOLD] or [self.held(self.loads[0], self.not_flushed(self.loads[0]))]
+        held = lambda load, why: held_by(load, self.tag_of[load.at], why)
+        found = [held(load, why) for load in self.loads[:PES] if (why := self.needed(load))]
+        return found[:TOLD] or [held(self.loads[0], self.not_flushed(self.loads[0]))]
 
     def needed(self, load: Line) -> str:
         """What of the load can't be left out where all else is there: nothing, its other value and ISB, or its flush."""
@@ -170,19 +170,11 @@ class Tags:
         synced = self.behind(other, "isb") if other else None
         return "no TLBI that takes all under it is complete there" + (f" since {synced.name}" if synced else "")
 
-    def tag_of(self, load: Line) -> str:
-        """The tag of a load, by the register that names the ASID."""
-        kind, tag = words.KIND_OF_REGISTER[load.event.rest[0]], load.event.value >> words.ASID_SHIFT
-        named = [line for line in self.registers if line.event.pe == load.event.pe and line.at <= load.at
-                 and line.event.rest[0] == f"{self.header.starts[2]}_el1"]
-        asid = named[-1].event.value >> words.ASID_SHIFT if named else 0
-        return {"el2": "the EL2 regime", "ttbr1": "the upper range", "s2": f"VMID {tag}", "ttbr0": f"ASID {asid}"}[kind]
 
-    def held(self, load: Line, why: str) -> Held:
-        """A register write that loaded a root, and what of it still holds at its PE."""
-        event = load.event
-        told = f"{event.rest[0]} of PE {event.pe}: {load.name} loaded the root {hex(event.base)} under {self.tag_of(load)}; {why}"
-        return Held(load, told)
+def held_by(load: Line, tag: Tag, why: str) -> Held:
+    """A register write that loaded a root under a tag, and what of it still holds at its PE."""
+    event = load.event
+    return Held(load, f"{event.rest[0]} of PE {event.pe}: {load.name} loaded the root {hex(event.base)} under {tag.name}; {why}")
 
 
 def held_by_left(program: Program, log: Log, refusal: Verdict) -> list[Held]:
@@ -193,7 +185,7 @@ def held_by_left(program: Program, log: Log, refusal: Verdict) -> list[Held]:
         at = f" at PE {ranges(list(left.pes))}" if left.pes else ""
         frees = f"; `{left.flush}` and a DSB for it would free that" if left.flush else ""
         found.append(Held(line, f"{line.name} gave up the root {hex(left.page)}, which left {left.tag.name}{at}{frees}"))
-        found += [tags.held(load, tags.not_flushed(load)) for load in map(log.line, map(left.loaded.get, left.pes))]
+        found += [held_by(load, left.tag, tags.not_flushed(load)) for load in map(log.line, map(left.loaded.get, left.pes))]
     return found[:1 + TOLD]
 
 

@@ -11,15 +11,16 @@ from __future__ import annotations
 from collections import defaultdict
 from collections.abc import Iterable, Iterator
 from dataclasses import dataclass, field, replace
-from itertools import count
+from itertools import count, product
+from typing import NamedTuple
 
 from why.asking.program import Program, Unable, Verdict
 from why.log import words
-from why.log.lines import ADDRESS_BITS, PAGE_BYTES, Before, Event, Header, Log, event_of, header_of
+from why.log.lines import ADDRESS_BITS, PAGE_BYTES, Before, Event, Header, Line, Log, event_of, header_of
 
 TAG_CONFLICT = 12
 # A register keeps at most so many readable values, so that a log which reaches that limit takes no more memory.
-MOST_VALUES = 9
+MOST_VALUES, MOST_PAIRS = 9, 17
 OF_TAGS = frozenset((b"msr", b"isb", b"root", b"unroot", b"init", b"null"))
 WORD_OF_KIND = {"el2": "el2", "s2": "vmid", "ttbr0": "asid", "ttbr1": "ttbr1"}
 NAMES = {"el2": "the EL2 regime", "s2": "VMID {}", "ttbr0": "ASID {}", "ttbr1": "the upper range"}
@@ -62,23 +63,37 @@ class Left:
     flush: str = ""
 
 
+class Loaded(NamedTuple):
+    """A value of a root register, and the line that wrote it, 0 where none did."""
+
+    at: int = 0
+    value: int = 0
+
+
 @dataclass
 class Registers:
-    """The values of the root registers of each PE that may be read, with the lines that wrote them."""
+    """The values of the root registers of each PE that may be read, the newest last; and of the two registers of EL1 those that
+    stood together at one moment (the standings of `inorder`)."""
 
-    values: dict[tuple[int, str], list[tuple[int, int]]] = field(default_factory=dict)
+    values: dict[tuple[int, str], list[Loaded]] = field(default_factory=dict)
+    pairs: dict[int, list[tuple[Loaded, Loaded]]] = field(default_factory=dict)
 
-    def of(self, pe: int, register: str) -> list[tuple[int, int]]:
-        return self.values.get((pe, register), [(0, 0)])
+    def of(self, pe: int, register: str) -> list[Loaded]:
+        return self.values.get((pe, register), [Loaded()])
+
+    def pairs_of(self, pe: int) -> list[tuple[Loaded, Loaded]]:
+        return self.pairs.get(pe, [(Loaded(), Loaded())])
 
     def write(self, at: int, event: Event) -> None:
         key = event.pe, event.rest[0]
-        self.values[key] = [*self.of(*key), (at, event.value)][-MOST_VALUES:]
+        self.values[key] = [*self.of(*key), Loaded(at, event.value)][-MOST_VALUES:]
+        newest = tuple(self.of(event.pe, REGISTER_OF_KIND[kind])[-1] for kind in words.KINDS["kernel"])
+        self.pairs[event.pe] = [*self.pairs_of(event.pe), newest][-MOST_PAIRS:]
 
     def synchronise(self, pe: int) -> None:
-        for register in words.KIND_OF_REGISTER:
-            if (pe, register) in self.values:
-                del self.values[pe, register][:-1]
+        for kept in (self.pairs.get(pe), *(self.values.get((pe, register)) for register in words.KIND_OF_REGISTER)):
+            if kept:
+                del kept[:-1]
 
 
 class Tags:
@@ -109,22 +124,23 @@ class Tags:
         else:
             self.pages.add(event.page)
 
-    def tags_at(self, pe: int, kind: str, value: int) -> Iterable[Tag]:
-        """The tags under which a root of a kind may be read by this value of its register."""
+    def loads_at(self, pe: int, kind: str) -> Iterator[tuple[Loaded, int]]:
+        """The values by which a PE may read a root of a kind, each with the number of a tag under which it may."""
+        mine = self.registers.of(pe, REGISTER_OF_KIND[kind])
         if kind in ("el2", "ttbr1"):
-            return [Tag(kind)]
-        if kind == "s2" or self.header.starts[2] == "ttbr0":
-            return [Tag(kind, value >> words.ASID_SHIFT)]
-        return [Tag(kind, other >> words.ASID_SHIFT) for _, other in self.registers.of(pe, REGISTER_OF_KIND["ttbr1"])]
+            return ((load, 0) for load in mine)
+        if kind == "s2" or not self.header.asids_of_ttbr1:
+            return ((load, load.value >> words.ASID_SHIFT) for load in mine)
+        both = self.registers.pairs_of(pe) if self.header.pairs else product(mine, self.registers.of(pe, REGISTER_OF_KIND["ttbr1"]))
+        return ((load, other.value >> words.ASID_SHIFT) for load, other in both)
 
     def read(self, pe: int) -> None:
         """What a PE may read behind a register write of it."""
-        for register, kind in words.KIND_OF_REGISTER.items():
-            for at, value in self.registers.of(pe, register):
-                base = value & ADDRESS_BITS
+        for kind in words.KINDS[self.header.world]:
+            for load, number in self.loads_at(pe, kind):
+                base = load.value & ADDRESS_BITS
                 if self.roots.get(base) == kind:
-                    for tag in self.tags_at(pe, kind, value):
-                        self.load(tag, base, pe, at)
+                    self.load(Tag(kind, number), base, pe, load.at)
 
     def load(self, tag: Tag, page: int, pe: int, at: int) -> None:
         if self.page_of.get(tag) != page or tag in self.left:
@@ -133,6 +149,19 @@ class Tags:
             self.left.pop(tag, None)
         self.tags_by_page[page].add(tag)
         self.loaded[tag][pe] = at
+
+    def loads_against(self, refused: Line) -> dict[int, Tag]:
+        """The lines by which roots are readable under the tags that a register write gives to other ones, or for an `unroot` under
+        those of its root, each with the tag; of each PE the last. The event is taken."""
+        pages, loaded, tags = dict(self.page_of), dict(self.loaded), list(self.tags_by_page.get(refused.event.page, ()))
+        held = [tag for tag in pages if tag not in self.left]
+        self.take(refused.at, refused.text.encode("latin-1"))
+        if refused.event.word == "msr":
+            tags = [tag for tag in held if self.page_of[tag] != pages[tag]]
+        last: dict[int, tuple[int, Tag]] = {}
+        for tag in tags:
+            last |= {pe: (at, tag) for pe, at in loaded[tag].items() if at > last.get(pe, (0, tag))[0]}
+        return dict(last.values())
 
     def give_up(self, at: int, page: int) -> None:
         self.roots.pop(page, None)
@@ -168,7 +197,7 @@ class Asker:
         base = left.page if self.tags.roots.get(left.page) == kind else self.root
         lower, upper = REGISTER_OF_KIND["ttbr0"], REGISTER_OF_KIND["ttbr1"]
         away = [f"msr 0 {lower} 0x0", "isb 0"] if self.header.is_kernel else []
-        if kind == "ttbr0" and self.header.starts[2] == "ttbr1":
+        if kind == "ttbr0" and self.header.asids_of_ttbr1:
             return [*away, f"msr 0 {upper} {hex(number | self.null)}", "isb 0", f"msr 0 {lower} {hex(base)}", "isb 0"]
         return [*away, f"msr 0 {register} {hex(number | base)}", "isb 0"]
 

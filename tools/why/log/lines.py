@@ -95,7 +95,13 @@ def padded(word: str, rest: list[str]) -> list[str]:
 
 
 # The words of a header in their order, each with the first version that has it; before `WITH_WORDS` the first is a field.
-WORDS, WITH_WORDS = {"cnp": 2, "unflushed": 5}, 5
+WORDS, WITH_WORDS = {"cnp": 2, "unflushed": 5, "inorder": 5}, 5
+OF_KERNELS = ("inorder",)
+
+
+def words_of(world: str) -> tuple[str, ...]:
+    """The words that a header of the world may say, in their order."""
+    return tuple(word for word in WORDS if world == "kernel" or word not in OF_KERNELS)
 
 
 @dataclass(frozen=True)
@@ -128,6 +134,16 @@ class Header:
     @property
     def unflushed(self) -> bool:
         return "unflushed" in self.words
+
+    @property
+    def asids_of_ttbr1(self) -> bool:
+        """Whether TTBR1_EL1 has the ASID under which the roots of TTBR0_EL1 are read."""
+        return self.is_kernel and self.starts[2] == "ttbr1"
+
+    @property
+    def pairs(self) -> bool:
+        """Whether an ASID is readable by the two root registers of one moment: by `inorder`, which says nothing elsewhere."""
+        return self.asids_of_ttbr1 and "inorder" in self.words
 
     def start_of(self, kind: str) -> int:
         """The level at which walks of a root of this kind start."""

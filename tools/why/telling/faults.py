@@ -10,7 +10,7 @@ from collections.abc import Callable
 from dataclasses import dataclass
 from itertools import zip_longest
 
-from why.log.lines import WITH_WORDS, WORDS as SAID, Header, header_of
+from why.log.lines import WITH_WORDS, Header, header_of, words_of
 from why.asking.program import Answer, Verdict, complain
 from why.log.stream import Source
 
@@ -117,7 +117,7 @@ def header_fault(words: list[str]) -> str | None:
     if world not in WORLDS:
         return f"the world is `{world}`, and may be {listed(WORLDS)}"
     fields = header_fields(version, world, texts)
-    said = tuple(SAID) if int(version) >= WITH_WORDS else ()
+    said = words_of(world) if int(version) >= WITH_WORDS else ()
     form = f"; the form is `bbmlog {version} {world} {' '.join([*fields, *(f'[{word}]' for word in said)])}`"
     found = fault_in(texts, fields, form) or fault_behind(unsaid(texts[len(fields):], said), form)
     return found.told if found else None
