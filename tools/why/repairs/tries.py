@@ -12,7 +12,7 @@ from itertools import combinations
 from why.log import words
 from why.log.lines import PAGE_BYTES, Header, Line
 from why.repairs.changes import Change, Drop, Kind, Move, Swap, one, puts
-from why.repairs.flushes import Family, broadcast, elsewhere, loading, operands, sequences, under_its_vmid, whole_sequences
+from why.repairs.flushes import Family, broadcast, elsewhere, is_about_tags, loading, operands, sequences, under_its_vmid, whole_sequences
 from why.repairs.flushes import with_pe, with_words
 from why.repairs.scene import Scene
 
@@ -53,6 +53,12 @@ def before_what_broke(scene: Scene) -> list[int]:
 def synchronised(scene: Scene) -> Iterator[Change]:
     """An ISB behind a register write, so that its PE doesn't use a root under two tags."""
     yield from (puts(line.at, f"isb {line.event.pe}") for line in scene.of_word("msr")[-NEAR:] if line is not scene.refused)
+
+
+def both_synchronised(scene: Scene) -> Iterator[Change]:
+    """ISBs behind two register writes of the refused line's PE: where a root and its ASID stand in two registers."""
+    mine = [line for line in scene.of_word("msr")[-NEAR:] if line is not scene.refused and line.event.pe == scene.event.pe]
+    yield from (puts(one_line.at, f"isb {scene.event.pe}") + puts(other.at, f"isb {scene.event.pe}") for one_line, other in combinations(mine, 2))
 
 
 # ---- locks
@@ -296,6 +302,8 @@ def families(scene: Scene, size: int) -> Iterator[Family]:
     if size == 1:
         yield from each(moves(scene))
         yield from each(synchronised(scene))
+    if size == 2 and scene.header.asids_of_ttbr1 and is_about_tags(scene):
+        yield from each(both_synchronised(scene))
     for other in scene.narrowed:
         yield from sequences(other, size)
     yield from of_rule(scene, size)

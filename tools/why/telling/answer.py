@@ -13,7 +13,7 @@ from why.asking.program import Answer
 from why.log.lines import Line, Lines, written
 from why.log.stream import Source
 from why.repairs.changes import Drop, Edit, Move, Put
-from why.repairs.given_up import under_unflushed
+from why.repairs.premises import PREMISES, Premise, under
 from why.repairs.strictness import LINK
 from why.repairs.study import Repair, Study, positions
 from why.telling import lanes
@@ -24,9 +24,6 @@ from why.telling.rules import cause_of, rule_of
 from why.telling.style import BOLD, Style
 
 TOO_MANY = 400
-# When a header may say `unflushed`, by docs/LOGGING.md.
-UNFLUSHED = "That is right to say where the kernel flushes a VMID or ASID before another root gets it, and no walk of a root " \
-    "goes on once the root was given up (docs/LOGGING.md, \"Roots that are given up\")."
 
 
 @dataclass
@@ -128,15 +125,13 @@ class Parts:
         return [self.head("Here bbm is stricter than the architecture"), *told] if told else []
 
     @cached_property
-    def of_unflushed(self) -> Repair | None:
-        return under_unflushed(self.study.repairer)
+    def by_premise(self) -> dict[Premise, Repair | None]:
+        return {premise: under(premise, self.study.repairer) for premise in PREMISES}
 
-    def unflushed(self) -> list[str]:
-        """What a header with `unflushed` would change where a root is given up while it holds a tag."""
-        if self.of_unflushed is None:
-            return []
-        told = [*self.teller.repair(self.of_unflushed), UNFLUSHED]
-        return [self.head("If the kernel flushes later, by bbm"), *(wrapped(text, self.style) for text in told)]
+    def premise(self) -> list[str]:
+        """What a word of the header would change that is a premise. No rule has two."""
+        return [text for premise, repair in self.by_premise.items() if repair for text in (
+            self.head(premise.heading), *(wrapped(text, self.style) for text in (*self.teller.repair(repair), premise.when)))]
 
     def run(self) -> list[str]:
         told = self.views.told
@@ -161,7 +156,7 @@ class Parts:
 
 
 def text_of(answer: Answer, parts: Parts) -> str:
-    shown = [[answer.first], parts.small(), parts.held(), parts.repairs(), parts.unflushed(), parts.stricter(), parts.run(),
+    shown = [[answer.first], parts.small(), parts.held(), parts.repairs(), parts.premise(), parts.stricter(), parts.run(),
              parts.lanes(), parts.rule()]
     return "\n\n".join("\n".join(part) for part in shown if part) + "\n"
 
@@ -205,7 +200,7 @@ def as_json(parts: Parts, finding: Finding) -> str:
     told = {"header": study.header, "small": [named(line) for line in study.small],
             "held": [{"told": one.told, **named(one.line)} for one in study.held],
             "repairs": [repair_of(repair, parts.teller) for repair in study.repairs],
-            "unflushed": parts.of_unflushed and repair_of(parts.of_unflushed, parts.teller),
+            **{premise.word: repair and repair_of(repair, parts.teller) for premise, repair in parts.by_premise.items()},
             **({"stricter": study.stricter} if study.stricter else {}),
             "run": {"lines": [line.at for line in run.lines], "told": run.told()} if run else None}
     return json.dumps({**finding.fields, **told}) + "\n"
