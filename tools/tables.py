@@ -27,26 +27,22 @@ def fits(text, wanted):
 
 
 def tried(test):
-    """What became of one test; each has a result of its own, since they run side by side."""
+    """The faults of one test, and why it was left out; each has a result of its own, since they run side by side."""
     result = unittest.TestResult()
     test.run(result)
-    return result
+    return [f"FAILED {of}\n{text}" for of, text in result.failures + result.errors], [f"left out {test}: {why}" for _, why in result.skipped]
 
 
-def run(words, at_once=4):
+def run(words, pool=None):
     """Runs the tests of the command's file whose names have one of the words, all where none is given, and prints each
-    fault. Returns 0 where there is none and a test was run."""
+    fault. Returns 0 where there is none and a test was run. Without a pool there are four threads, for tests that mostly wait."""
     cases = unittest.defaultTestLoader.loadTestsFromModule(sys.modules["__main__"])
     tests = [test for case in cases for test in case if not words or any(word in test.id() for word in words)]
     faulty = 0
-    # (they mostly wait)
-    with ThreadPoolExecutor(at_once) as pool:
-        for test, result in zip(tests, pool.map(tried, tests)):
-            faults = result.failures + result.errors
+    with pool or ThreadPoolExecutor(4) as pool:
+        for faults, left_out in pool.map(tried, tests):
             faulty += bool(faults)
-            for of, text in faults:
-                print(f"FAILED {of}\n{text}", flush=True)
-            for _, why in result.skipped:
-                print(f"left out {test}: {why}", flush=True)
+            for text in (*faults, *left_out):
+                print(text, flush=True)
     print(f"{len(tests) - faulty} passed, {faulty} failed")
     return 1 if faulty or not tests else 0
