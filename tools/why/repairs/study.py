@@ -3,15 +3,17 @@
 by the program."""
 from __future__ import annotations
 
+from collections import Counter
 from collections.abc import Iterable
 from dataclasses import dataclass, replace
+from functools import cached_property
 from itertools import islice
 
 from why.asking.holding import Held, held_at
 from why.asking.least import Shrinker, reduced
 from why.asking.program import Answer, Program, Verdict
-from why.log.lines import Line, Lines, Log, Numbers, header_of
-from why.repairs.changes import Change, Move, Put, edited, position_of
+from why.log.lines import Line, Lines, Log, Numbers, event_of, header_of
+from why.repairs.changes import Change, Move, Put, Swap, edited, position_of
 from why.repairs.flushes import Family, is_about_tags
 from why.repairs.scene import Scene
 from why.repairs.sections import Home
@@ -22,6 +24,8 @@ LATER, ROUNDS = 12, 3
 WANTED, ALIKE = 3, 2
 RANKED = 8
 CHOICES = 4
+# A TLBI that the log has so often may be a repeat.
+OFTEN = 64
 # So many changes are tried with which the small log alone gets past its last line.
 MOST_FAILED = 24
 ACCEPTED_ALL = 1 << 40
@@ -101,10 +105,21 @@ class Repairer:
 
     # ---- search
 
+    @cached_property
+    def tlbis(self) -> Counter:
+        """How often the log has each TLBI, whichever PE issues it."""
+        return Counter(event_of(line.decode("latin-1")).rest for line in self.log.parts if line.startswith(b"tlbi "))
+
+    def alters_repeat(self, change: Change) -> bool:
+        """Whether it alters a TLBI that the log has so often that it is about no place of its own, as one that a processor's erratum
+        asks for behind each other one."""
+        altered = [self.log.event(edit.at) for edit in change.edits if isinstance(edit, Swap) and edit.at > 1]
+        return any(event.word == "tlbi" and self.tlbis[event.rest] >= OFTEN for event in altered)
+
     def found_with(self, tries: Iterable[Family], before: list[Repair]) -> list[Repair]:
         """Changes that pass, of which none shares an edit's site with one before: an ISB alone first, then those with which the
-        whole log gets furthest, of these those next to the break, and moves last where it isn't about tags. Those that borrow
-        another place's flush are kept apart."""
+        whole log gets furthest, of these those that alter no repeat, those next to the break, and moves last where it isn't about
+        tags. Those that borrow another place's flush are kept apart."""
         found: list[Repair] = []
         for family in tries:
             known = [repair.change for repair in (*before, *found)]
@@ -115,8 +130,8 @@ class Repairer:
                 (found if self.home.has(repair.change) and not self.is_alike(repair.whole) else self.borrowing).append(repair)
             if len(found) == RANKED or len(self.failed) >= MOST_FAILED:
                 break
-        return sorted(found, key=lambda repair: (not repair.change.synchronises, -repair.reach, self.farness(repair.change),
-                                                 repair.change.moves and not is_about_tags(self.scene)))
+        return sorted(found, key=lambda repair: (not repair.change.synchronises, -repair.reach, self.alters_repeat(repair.change),
+                                                 self.farness(repair.change), repair.change.moves and not is_about_tags(self.scene)))
 
     def search(self) -> list[Repair]:
         """At most three repairs, the smallest first, and of one size those with which the whole log gets furthest."""
