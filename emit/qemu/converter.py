@@ -6,10 +6,11 @@
 WORLD is `kernel` (EL1), `hyp` (EL2 and stage 2) or `vhe` (a kernel that runs at EL2, told as one at EL1). TRACE is a file,
 or a pipe with --follow, which writes each line of the log as soon as the trace has what it comes from.
 
-The log is one of version 5, and says what the machine did. Each departure from it is a normalisation with a name, is made
-only where --allow has the name, and is told on standard error with how often it was made and what it weakens: --list names
-them, and the words that --words can give to the header, each of which is a premise. --suggest judges the log, tries which of
-them get past each refusal, and prints the least set that does, with the line, rule and symbol.
+The log is one of version 5, unless --header has another, and says what the machine did. Each departure from it is a
+normalisation with a name, is made only where --allow has the name, and is told on standard error with how often it was made
+and what it weakens: --list names them, and the words that --words can give to the header, each of which is told as the
+premise that it is. --suggest judges the log, tries which of them get past each refusal, and prints the least set that does,
+with the line, rule and symbol.
 
 Exit status 0; 1 where a refusal is left that --suggest gets not past. With the others nothing is judged, and standard error
 says why: 2 the trace is damaged; 3 the words are wrong; 4 a file can't be read; 5 a write failed; 6 there is no memory; 8
@@ -152,7 +153,7 @@ class Form(namedtuple("Form", "starts pages asid")):
 
     def header(self, pes, words):
         world, last = ("hyp", self.pages) if self.asid is None else ("kernel", self.asid)
-        return " ".join(map(str, ["bbmlog", 5, world, pes, *self.starts, last, *words]))
+        return " ".join(map(str, ["bbmlog", normalisations.LATEST, world, pes, *self.starts, last, *words]))
 
 
 def form_of(header):
@@ -162,6 +163,11 @@ def form_of(header):
         return None
     el2, s2, pages, lower, upper, asid, _ = found.groups()
     return Form((int(el2), int(s2)), int(pages), None) if pages else Form((int(lower), int(upper)), 1, asid)
+
+
+def is_of_version(name, header):
+    """Whether a normalisation is made under a header that is given, or the one that is found where none is."""
+    return (int(header.split()[1]) if header else normalisations.LATEST) in normalisations.ALL[name].versions
 
 
 def stage1_start(size):
@@ -931,8 +937,8 @@ def report(asked, facts, converter, header, judged, remarks):
         if name in asked.allow and count:
             tell(about(name, f", {count} times"))
     for word in normalisations.WORDS:
-        if word in asked.allow:
-            tell(about(word, ", a word of the header"))
+        if word in header.split():
+            tell(about(word))
     if "contiguous" in asked.allow and converter.at_stage2:
         tell(f"contiguous, {converter.at_stage2} times at stage 2: a change of the Contiguous bit there isn't judged")
     for what, count in sorted(converter.told.items()):
@@ -1020,7 +1026,9 @@ class Search:
     def __init__(self, asked, world, symbols, lines, facts):
         self.program, self.given_header = program_of(asked.check), asked.header
         self.world, self.symbols, self.lines, self.facts = world, symbols, lines, facts
-        self.names = [name for name in normalisations.for_world(asked.world) if name != "snapshot"]
+        self.names = [name for name in normalisations.of_world(normalisations.ALL, asked.world)
+                      if name != "snapshot" and is_of_version(name, asked.header)]
+        self.words = [] if asked.header else normalisations.of_world(normalisations.WORDS, asked.world)
         self.begin("snapshot" in asked.allow)
 
     def begin(self, late):
@@ -1065,8 +1073,9 @@ class Search:
         without a further word of the header, if one does."""
         made = self.log.names_before(origin)
         others = [name for name in self.names if name in made and name not in allow]
-        words = [[word] for word in normalisations.WORDS if word not in allow and not self.given_header]
-        sets = ([*word, *names] for word in [[], *words] for size in range(4) for names in combinations(others, size))
+        words = [word for word in self.words if word not in allow]
+        sets = ([*some, *names] for count in range(len(words) + 1) for some in combinations(words, count)
+                for size in range(4) for names in combinations(others, size))
         return next((names for names in sets if names and self.verdict([*allow, *names], origin)[1] is None), None)
 
     def needless(self, allow, given):
@@ -1123,15 +1132,18 @@ def add_normalisation(allow, name):
 
 
 def about(name, often=""):
-    """A normalisation, or a word, with what it does and what is lost by it."""
-    one = {**normalisations.ALL, **normalisations.WORDS}[name]
+    """A normalisation with what it does, or a word with its premise, and what is lost by it."""
+    if name in normalisations.WORDS:
+        word = normalisations.WORDS[name]
+        return f"{name}, a premise that the header makes: {word.premise}. It weakens: {word.weakens}"
+    one = normalisations.ALL[name]
     return f"{name}{often}: {one.does}. It weakens: {one.weakens}"
 
 
 def as_asked(allow):
     """The words of the command by which these are allowed."""
     names = [name for name in allow if name in normalisations.ALL]
-    words = [name for name in allow if name in normalisations.WORDS]
+    words = [name for name in normalisations.WORDS if name in allow]
     return "".join(f" --{option} {','.join(some)}" for option, some in (("words", words), ("allow", names)) if some)
 
 
@@ -1144,9 +1156,12 @@ def take_snapshot(search, allow):
 # ---- words
 
 def list_normalisations():
-    for name, one in {**normalisations.ALL, **normalisations.WORDS}.items():
-        word = ", a word of the header" * (name in normalisations.WORDS)
-        print(f"{name}{word} ({', '.join(one.worlds)})\n    {one.does}.\n    It weakens: {one.weakens}.")
+    for name, one in normalisations.ALL.items():
+        when = f"; {normalisations.WHEN[one.versions]}" * (one.versions != normalisations.ANY)
+        print(f"{name} ({', '.join(one.worlds)}{when})\n    {one.does}.\n    It weakens: {one.weakens}.")
+    for name, one in normalisations.WORDS.items():
+        print(f"{name}, a word of the header ({', '.join(one.worlds)})\n    The premise that {one.premise}.\n"
+              f"    It weakens: {one.weakens}.")
 
 
 class Words(argparse.ArgumentParser):
@@ -1173,24 +1188,30 @@ def read_words():
     asked = words.parse_args()
     asked.allow = [name for name in asked.allow.split(",") if name]
     asked.words = [word for word in asked.words.split(",") if word]
-    wrong = [word for word in asked.words if word not in normalisations.WORDS]
-    if wrong or (asked.words and asked.header):
-        words.error(f"no word of a header: {', '.join(wrong)}; --list names them" if wrong else "--header has the words itself")
-    wrong = [name for name in asked.allow if name not in normalisations.for_world(asked.world)]
-    if wrong:
-        of_world = f" of the world {asked.world}" if asked.world else ""
-        words.error(f"no normalisation{of_world}: {', '.join(wrong)}; --list names them")
+    form = form_of(asked.header) if asked.header else None
+    if asked.header and (form is None or (form.asid is None) != (asked.world == "hyp")):
+        words.error(f'"{asked.header}" is no header of the world {asked.world} (docs/FORMAT.md)')
+    if asked.words and asked.header:
+        words.error("--header has the words itself")
+    refuse_others(words, asked)
     if not asked.list and not asked.trace:
         words.error("WORLD and TRACE are needed")
     if "out-of-context" in asked.allow and asked.follow:
         words.error("out-of-context looks ahead over the trace, so --follow can't do it")
-    form = form_of(asked.header) if asked.header else None
-    if form and int(asked.header.split()[1]) < 5 and {"stage2-off", "out-of-context"} & set(asked.allow):
-        words.error("a null page in VTTBR_EL2 needs a header of version 5")
-    if asked.header and (form is None or (form.asid is None) != (asked.world == "hyp")):
-        words.error(f'"{asked.header}" is no header of the world {asked.world} (docs/FORMAT.md)')
     asked.allow += asked.words
     return asked
+
+
+def refuse_others(words, asked):
+    """Ends where a word or a normalisation isn't one of the world, or of the header's version."""
+    of_world = f" of the world {asked.world}" if asked.world else ""
+    for what, names, some in (("word of a header", asked.words, normalisations.WORDS), ("normalisation", asked.allow, normalisations.ALL)):
+        wrong = [name for name in names if name not in normalisations.of_world(some, asked.world)]
+        if wrong:
+            words.error(f"no {what}{of_world}: {', '.join(wrong)}; --list names them")
+    for name in asked.allow:
+        if not is_of_version(name, asked.header):
+            words.error(f"{name} needs a header {normalisations.WHEN[normalisations.ALL[name].versions]}")
 
 
 def read_lines(path):

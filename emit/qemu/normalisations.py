@@ -1,13 +1,18 @@
 # SPDX-License-Identifier: Apache-2.0 OR GPL-2.0-or-later
-"""The departures from what the machine did that bbm_convert can make, and the words that a header can have for a premise.
+"""The departures from what the machine did that bbm_convert can make, and the premises that a header can make by a word.
 Each is off unless asked for.
 
-For each: the worlds in which it has a meaning, what it does, and what the judgement loses by it. `--suggest` tries them in
-this order, those without a further word first, and takes the first of those that get past a refusal.
+For each: the worlds in which it has a meaning, and what the judgement loses by it; of a normalisation what it does, and the
+versions of the header under which it is made; of a word what it takes to be true. `--suggest` tries them in this order,
+those without a word first, and takes the first of those that get past a refusal.
 """
 from collections import namedtuple
 
-Normalisation = namedtuple("Normalisation", "worlds does weakens")
+LATEST = 5  # version of the header
+ANY, BEFORE_WORDS, WITH_WORDS = range(1, LATEST + 1), range(1, 5), range(5, LATEST + 1)
+WHEN = {ANY: "", BEFORE_WORDS: "before version 5, which has the word inorder for it", WITH_WORDS: "from version 5 on"}
+Normalisation = namedtuple("Normalisation", "worlds does weakens versions", defaults=(ANY,))
+Word = namedtuple("Word", "worlds premise weakens")
 KERNEL, HYP = ("kernel", "vhe"), ("hyp",)
 
 ALL = {
@@ -20,7 +25,7 @@ ALL = {
         "an entry that stands for sixteen places is judged as sixteen entries, and a change of NS isn't judged"),
     "isb-between-ttbrs": Normalisation(
         KERNEL, "an ISB is told behind a write of TTBR0_EL1 that names the reserved table, and behind one of TTBR1_EL1",
-        "an old value of one of the two registers could be in use for longer than is judged"),
+        "an old value of one of the two registers could be in use for longer than is judged", BEFORE_WORDS),
     "moved-tables": Normalisation(
         KERNEL, "before a table that left its place is linked at another without a store to it, a TLBI of each ASID of its root and a DSB are told",
         "a table that is linked elsewhere before its old place is flushed isn't found"),
@@ -32,24 +37,27 @@ ALL = {
         "that a PE makes no walk of EL2 then is taken from SCTLR_EL2.M"),
     "stage2-off": Normalisation(
         HYP, "while HCR_EL2.VM is 0, VTTBR_EL2 is told with a null page as its base and the VMID that it has",
-        "that a PE makes no walk of stage 2 then is taken from HCR_EL2.VM"),
+        "that a PE makes no walk of stage 2 then is taken from HCR_EL2.VM", WITH_WORDS),
     "out-of-context": Normalisation(
         HYP, "a value of VTTBR_EL2 with which a PE doesn't go below EL2 (any more) is told with a null page as its base and the VMID that it has",
-        "that a PE at EL2 makes no walk of stage 2 is taken from the architecture: that regime is out of context"),
+        "that a PE at EL2 makes no walk of stage 2 is taken from the architecture: that regime is out of context", WITH_WORDS),
     "no-cnp": Normalisation(
         HYP, "bit 0 of root registers is told as 0, and the header says that TLBs aren't shared",
         "entries that one PE takes from another aren't judged"),
 }
 
 
-# Words of the header of version 5. They are told of no line, and each says that something is true which no trace shows.
+# Words of the header, in its order. They are told of no line, and each says that something is true which no trace shows.
 WORDS = {
-    "unflushed": Normalisation(
-        (*KERNEL, *HYP), "the header says that a root may be given up while TLBs may keep what was read through it",
-        "a walk that goes on through a root that was given up isn't found: that there is none is a premise"),
+    "unflushed": Word(
+        (*KERNEL, *HYP), "no walk of a root that was given up goes on, though TLBs may keep what was read through it",
+        "a walk that does isn't found"),
+    "inorder": Word(
+        KERNEL, "the root registers of a PE come into use in the order in which it wrote them",
+        "a walk by a newer value of one register and an older one of the other isn't found"),
 }
 
 
-def for_world(world):
-    """The names of those that a world has; of all for None."""
-    return [name for name, one in ALL.items() if world is None or world in one.worlds]
+def of_world(some, world):
+    """The names of those normalisations, or words, that a world has; of all for None."""
+    return [name for name, one in some.items() if world is None or world in one.worlds]

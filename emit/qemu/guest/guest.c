@@ -21,7 +21,7 @@ typedef uint64_t u64;
 #define IPA 0x40000000ul       /* and the one of stage 2 */
 
 enum { PAGE = 4096, BLOCK = 0x200000, ASID = 1, OTHER_ASID = 2, VMID = 1, LAST_VMID = 255, LOCK = 3 };
-enum regime { EL1, EL2 };
+enum regime { EL1, EL2, EL1_ASID_IN_TTBR1 };
 
 /* ---- instructions */
 
@@ -104,7 +104,7 @@ static u64 root, middle, last, upper_root;
 /* Attributes: valid, access flag, inner shareable; at EL1 not global; at EL2 bit 6 is one. */
 static u64 leaf(u64 output, int level)
 {
-	return output | (level == 3 ? 0x703 : 0x701) | (regime == EL1 ? 1 << 11 : 1 << 6);
+	return output | (level == 3 ? 0x703 : 0x701) | (regime != EL2 ? 1 << 11 : 1 << 6);
 }
 
 static u64 device(u64 output)
@@ -153,10 +153,19 @@ static void turn_on_el2(void)
 
 static void turn_on_el1(void)
 {
+	u64 asid = (u64)ASID << 48, control = 0x2b5193519; /* 39 bits below and above, 4 KiB, 40 bits of output */
+
 	write_register(mair_el1, 0x00ff);
-	write_register(tcr_el1, 0x2b5193519); /* 39 bits below and above, 4 KiB, 40 bits of output, the ASID in TTBR0 */
-	write_register(ttbr0_el1, root | (u64)ASID << 48);
-	write_register(ttbr1_el1, upper_root);
+	if (regime == EL1_ASID_IN_TTBR1) {
+		write_register(tcr_el1, control | 1 << 22);
+		write_register(ttbr1_el1, upper_root | asid);
+		isb();
+		write_register(ttbr0_el1, root);
+	} else {
+		write_register(tcr_el1, control);
+		write_register(ttbr0_el1, root | asid);
+		write_register(ttbr1_el1, upper_root);
+	}
 	isb();
 	tlbi(vmalle1);
 	dsb(nsh);
@@ -167,7 +176,7 @@ static void turn_on_el1(void)
 /* A TLBI for the page of an address, at every PE and at this one. */
 static inline void flush_page(u64 address)
 {
-	if (regime == EL1)
+	if (regime != EL2)
 		tlbi_at(vae1is, address >> 12 | (u64)ASID << 48);
 	else
 		tlbi_at(vae2is, address >> 12);
@@ -175,7 +184,7 @@ static inline void flush_page(u64 address)
 
 static inline void flush_page_here(u64 address)
 {
-	if (regime == EL1)
+	if (regime != EL2)
 		tlbi_at(vae1, address >> 12 | (u64)ASID << 48);
 	else
 		tlbi_at(vae2, address >> 12);
@@ -183,7 +192,7 @@ static inline void flush_page_here(u64 address)
 
 static inline void flush_all(void)
 {
-	if (regime == EL1)
+	if (regime != EL2)
 		tlbi(vmalle1is);
 	else
 		tlbi(alle2is);
@@ -515,6 +524,34 @@ SCENARIO_CODE reuse_asid_without_flush(void)
 	isb();
 }
 
+/* ---- scenarios of a switch of the process, at EL1 with the ASID in TTBR1_EL1 */
+
+void switch_ttbrs(u64 first, u64 upper, u64 lower);
+
+static u64 upper_with(u64 asid)
+{
+	return upper_root | asid << 48;
+}
+
+/* As Linux does from 6.12 on: TTBR0_EL1 to an empty table, the new ASID, the new root, and one ISB. */
+SCENARIO_CODE switch_process(void)
+{
+	u64 empty = new_page(), page = second_root();
+
+	begin();
+	switch_ttbrs(empty, upper_with(OTHER_ASID), page);
+	switch_ttbrs(empty, upper_with(ASID), root);
+	begin();
+}
+
+SCENARIO_CODE switch_process_from_the_old_root(void)
+{
+	u64 page = second_root();
+
+	begin();
+	switch_ttbrs(root, upper_with(OTHER_ASID), page);
+}
+
 /* ---- scenarios of stage 2, at EL2 */
 
 static u64 guest_root;
@@ -757,6 +794,8 @@ static const struct scenario {
 	{ "hyp guests_come_again_unflushed", EL2, false, guests_come_again_unflushed },
 	{ "hyp vmids_used_up", EL2, false, vmids_used_up },
 	{ "hyp vmids_used_up_unflushed", EL2, false, vmids_used_up_unflushed },
+	{ "kernel switch_process", EL1_ASID_IN_TTBR1, false, switch_process },
+	{ "kernel switch_process_from_the_old_root", EL1_ASID_IN_TTBR1, false, switch_process_from_the_old_root },
 };
 
 void enter_el1(void);
@@ -764,7 +803,7 @@ void second_start(void);
 
 static void turn_on(void)
 {
-	if (regime == EL1) {
+	if (regime != EL2) {
 		enter_el1();
 		turn_on_el1();
 	} else {

@@ -38,6 +38,20 @@ enter_el1:
 	isb
 	eret
 
+/* void switch_ttbrs(u64 first, u64 upper, u64 lower): TTBR0, TTBR1, TTBR0 and one ISB, by code in the upper range, since
+   the first may be an empty table. */
+	.global switch_ttbrs
+switch_ttbrs:
+	adr	x3, 1f
+	ldr	x4, =0xffffff8000000000 - 0x40000000
+	add	x3, x3, x4
+	br	x3
+1:	msr	ttbr0_el1, x0
+	msr	ttbr1_el1, x1
+	msr	ttbr0_el1, x2
+	isb
+	ret
+
 /* Nothing here is meant to take an exception. */
 	.balign 0x800
 vectors:
