@@ -2,7 +2,7 @@
 use Rattle.bbm_roots.proofs.Common.{◌≡◌, ◌<◌, ℕ, subst, sym, HashMap, BuildHasherDefault, FoldHasher, index_map_len}
 use Rattle.bbm_roots.proofs.Common.{Declared, Roots}
 use Rattle.bbm_roots.proofs.Common.{ap, ◌∙◌, Bool, Tag, keeps_in, kept_in, true, false, false≢true, not-true}
-use Rattle.bbm_roots.proofs.Common.{loads_in, pending_in, holder_at, Pendings, Registers}
+use Rattle.bbm_roots.proofs.Common.{loads_in, standings_of, pending_in, holder_at, Pendings, Registers}
 use Rattle.bbm_locks.specs.declared.locks.Locks.{Locks}
 use Rattle.bbm_lemmas.proofs.Bools.{not_from}
 use Rattle.bbm_roots.proofs.Entries.{no-more}
@@ -26,8 +26,10 @@ same-kept old new header registers declared pendings names locks same = record {
     kept = s.kept;
     pes = ap (λ (r : Registers). r.pes) registers ∙ s.pes;
     world = ap (λ (r : Registers). r.world) registers ∙ s.world;
+    order = ap (λ (r : Registers). r.in_order) registers ∙ s.order;
     first = λ p lt. ap (λ (r : Registers). loads_in r.first.items p) registers ∙ s.first p lt;
     second = λ p lt. ap (λ (r : Registers). loads_in r.second.items p) registers ∙ s.second p lt;
+    standings = λ ordered p lt. ap (λ (r : Registers). standings_of r p) registers ∙ s.standings ordered p lt;
     outside = s.outside;
     declared = λ page. let d = declared in let is = s.declared page in cc;
     count = let d = declared in let is = s.count in cc;

@@ -54,7 +54,7 @@ pub use Rattle.bbm_roots.specs.Holds.{has_entry, hold_in, is_clash, is_kept_by, 
 pub use Rattle.bbm_roots.specs.Holds.{is_held_under, is_hold, left_in, some_pe, tag_in, tag_key}
 pub use Rattle.bbm_roots.specs.HoldsNew.{holds_asids, holds_new, holds_root, holds_under}
 pub use Rattle.bbm_roots.specs.LeastOf.{IsLeast, ReadingUpTo, UpTo}
-pub use Rattle.bbm_roots.specs.LoadsOf.{readings_after, other_loads, reads_at}
+pub use Rattle.bbm_roots.specs.LoadsOf.{readings_after, other_loads, reads_at, firsts_of, firsts_with, standings_of}
 pub use Rattle.bbm_roots.specs.Readings.{asid_readings, has_other, has_reading, has_tag, is_of_tag, is_other}
 pub use Rattle.bbm_roots.specs.Readings.{is_reading, own_reading, reading_at, reading_under, readings_of, readings_with}
 pub use Rattle.bbm_roots.specs.Readings.{numbered, reads_tag, same_tag, tag_of}
@@ -65,7 +65,9 @@ pub use Rattle.bbm_roots.specs.RootPendings.{has_pending, has_wait, pending_in, 
 pub use Rattle.bbm_roots.specs.RootPendings.{wait_in}
 pub use Rattle.bbm_roots.specs.RootRegisters.{at_start, first_reg, is_first, is_that, kind_of_reg, names_null, names_in}
 pub use Rattle.bbm_roots.specs.RootRegisters.{newest, root_of, same_reg, second_reg, load_in, loads_after}
-pub use Rattle.bbm_roots.specs.RootRegisters.{has_null_base, root_in}
+pub use Rattle.bbm_roots.specs.RootRegisters.{has_null_base, root_in, in_order, reading_world, own_asids, is_second}
+pub use Rattle.bbm_roots.specs.RootRegisters.{by_standings, front, new_standing, standing_in, standings_after}
+pub use Rattle.bbm_roots.specs.RootRegisters.{firsts_after, firsts_written}
 pub use Rattle.bbm_roots.specs.RootsStand.{Stands, pes_of, world_of}
 pub use Rattle.bbm_roots.specs.TagsByRoot.{is_listed, AreListed}
 pub use Rattle.bbm_roots.specs.declared.hold.Held.{Held}

@@ -12,6 +12,7 @@ pub mod Entries
 pub mod TagLists
 pub mod Judge
 pub mod RegisterWrites
+pub mod Fits
 pub mod Taken
 pub mod Settled
 pub mod Numbers

@@ -3,7 +3,7 @@ use Rattle.bbm_roots.proofs.Common.{◌≡◌, ℕ, Bool, false, not, ◌&&◌, 
 use Rattle.bbm_roots.proofs.Common.{TlbiOp, Scope, Heading, Event, Tlbi, Patterns, reaches, named_scope}
 use Rattle.bbm_roots.proofs.Common.{register_values, roots_of, loses, takes_tag, is_tlbi, tag_waits, tag_waits_after}
 use Rattle.bbm_roots.proofs.Common.{loads_after, sym, ◌∙◌, ap, false≢true, proved, If, Is, Reg, Tag, first_reg}
-use Rattle.bbm_roots.proofs.Common.{second_reg, Stands, Roots, and-false}
+use Rattle.bbm_roots.proofs.Common.{second_reg, standings_after, Stands, Roots, and-false}
 use Rattle.bbm_events.specs.declared.event.Event.TheVariants.{Dmb, Init, Null, Write}
 use Rattle.bbm_locks.specs.Holders.{holder_at}
 use Rattle.bbm_rules.specs.Broken.{broken}
@@ -16,13 +16,14 @@ use Rattle.bbm_roots.proofs.Steps.{kept-stands}
 module _ {roots : Roots} {heading : Heading} {h : List Event} (s : Stands roots heading h) where
   left : (e : Event) → broken heading Patterns h e ≡ None →
       ((lock : ℕ) → holder_at roots.locks lock ≡ holder_of (e ∷ h) lock) → ((p : ℕ) (reg : Reg) → loads_after (e ∷ h) p reg ≡ loads_after h p reg) →
+      ((p : ℕ) → standings_after (e ∷ h) p ≡ standings_after h p) →
       ((p : ℕ) (reg : Reg) → register_values (e ∷ h) p reg ≡ register_values h p reg) → roots_of (e ∷ h) ≡ roots_of h →
       ((r : ℕ) → gives_up r e ≡ false) → ((g : Tag) (p : ℕ) → loses heading Patterns p g e h ≡ false) →
       ((q : ℕ) (b : Bool) (g : Tag) (p : ℕ) → tag_waits_after heading p g q b e h ≡ tag_waits heading p g q b h) →
       Stands roots heading (e ∷ h)
-  left e keeps holders loads values same ungiven none waits =
+  left e keeps holders loads stood values same ungiven none waits =
       kept-stands roots s e keeps refl holders refl refl refl (λ p. loads p (first_reg heading.world)) (λ p. loads p (second_reg heading.world))
-      values ungiven none waits (λ page. rw same (s.declared page)) (rw same s.count) (λ known page. rw same (s.locks known page))
+      stood values ungiven none waits (λ page. rw same (s.declared page)) (rw same s.count) (λ known page. rw same (s.locks known page))
 
   -- a TLBI that reaches no PE, or names no scope
   unreached : (pe : ℕ) (op : TlbiOp) (xt : ℕ) (q : ℕ) (b : Bool) (g : Tag) (p : ℕ) → concerns heading h (Tlbi pe op xt) ≡ false →
@@ -45,14 +46,14 @@ module _ {roots : Roots} {heading : Heading} {h : List Event} (s : Stands roots 
 
   pub others : (e : Event) → concerns heading h e ≡ false → broken heading Patterns h e ≡ None → Stands roots heading (e ∷ h)
   others (Init pe page) k keeps =
-      left (Init pe page) keeps s.holders (λ p reg. refl) (λ p reg. refl) refl (λ r. refl) (λ g p. refl) (λ q b g p. refl)
+      left (Init pe page) keeps s.holders (λ p reg. refl) (λ p. refl) (λ p reg. refl) refl (λ r. refl) (λ g p. refl) (λ q b g p. refl)
   others (Null pe page) k keeps =
-      left (Null pe page) keeps s.holders (λ p reg. refl) (λ p reg. refl) refl (λ r. refl) (λ g p. refl) (λ q b g p. refl)
+      left (Null pe page) keeps s.holders (λ p reg. refl) (λ p. refl) (λ p reg. refl) refl (λ r. refl) (λ g p. refl) (λ q b g p. refl)
   others (Write pe at v) k keeps =
-      left (Write pe at v) keeps s.holders (λ p reg. refl) (λ p reg. refl) refl (λ r. refl) (λ g p. refl) (λ q b g p. refl)
+      left (Write pe at v) keeps s.holders (λ p reg. refl) (λ p. refl) (λ p reg. refl) refl (λ r. refl) (λ g p. refl) (λ q b g p. refl)
   others (Dmb pe dsb) k keeps =
-      left (Dmb pe dsb) keeps s.holders (λ p reg. refl) (λ p reg. refl) refl (λ r. refl) (λ g p. refl) (λ q b g p. refl)
+      left (Dmb pe dsb) keeps s.holders (λ p reg. refl) (λ p. refl) (λ p reg. refl) refl (λ r. refl) (λ g p. refl) (λ q b g p. refl)
   others (Tlbi pe op xt) k keeps =
-      left (Tlbi pe op xt) keeps s.holders (λ p reg. refl) (λ p reg. refl) refl (λ r. refl) (λ g p. refl)
+      left (Tlbi pe op xt) keeps s.holders (λ p reg. refl) (λ p. refl) (λ p reg. refl) refl (λ r. refl) (λ g p. refl)
       (λ q b g p. unreached pe op xt q b g p k)
   others e k keeps = absurd (false≢true (sym k))

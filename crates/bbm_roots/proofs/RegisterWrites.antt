@@ -6,10 +6,10 @@ use Rattle.std.proofs.Common.{◌⊎◌}
 use Rattle.bbm_rules.proofs.Common.{map, length, min, Option, Some, None, Result, Ok, Err, refl, sym, ap, ◌∙◌, subst}
 use Rattle.bbm_rules.proofs.Common.{true≢false, inl, inr, arith, list_any, option_map_or, and_from, and_parts, eqb-true}
 use Rattle.bbm_rules.proofs.Common.{eq-eqb, le-leb, or_cases, or_left, or_right, pe_finds, Which, Reg}
-use Rattle.bbm_rules.proofs.Common.{Ttbr0El1, Tag, El2Tag, Vmid, Asid, Ttbr1Tag, World, Hyp, Kernel}
+use Rattle.bbm_rules.proofs.Common.{Ttbr0El1, Tag}
 use Rattle.bbm_rules.proofs.Common.{Heading, Event, Msr, Answers, keeps, same_tag, noted, among, if_so, least, Noted}
 use Rattle.bbm_rules.proofs.Common.{is_null, base_of, kind_of_reg, same_reg, Declared, is_at, is_root}
-use Rattle.bbm_rules.proofs.Common.{register_values, roots_of, same_kind, no_root, tag_conflict, ReadsTag, Reading}
+use Rattle.bbm_rules.proofs.Common.{register_values, roots_of, same_kind, no_root, tag_conflict, Reading}
 use Rattle.bbm_rules.proofs.Common.{holds_at, holds_tag, readings, reads, limit_of}
 use Rattle.bbm_rules.specs.Roots.{given_up}
 use Rattle.bbm_rules.specs.Tags.{ends, left_at, left_tag}
@@ -23,6 +23,7 @@ use Rattle.bbm_lemmas.proofs.Elements.{from_contains, in_append, in_left, in_rig
 use Rattle.bbm_lemmas.proofs.Numbers.{same_swapped}
 use Rattle.bbm_lemmas.proofs.Words.{among_in, in_among, pe_found}
 use Rattle.bbm_regimes.specs.declared.regime.Which.TheVariants.{Values as ValuesLimit}
+use Rattle.bbm_rules.proofs.TagPagesLaw.{read_root}
 use Rattle.bbm_rules.specs.Broken.{broken}
 use Rattle.bbm_rules.specs.Prelude.{Kind}
 use Rattle.bbm_rules.specs.Rules.{wrong_world}
@@ -150,13 +151,6 @@ any_at kind n rs e =
     let f = any_found (λ (r : Declared). is_at n r && same_kind r.kind kind) rs e in
     any_finds (is_at n) rs f.0 f.1 (and_parts (is_at n f.0) (same_kind f.0.kind kind) f.2).0
 
-pub reads_root : (world : World) (h : List Event) (p root : ℕ) (tag : Tag) → ReadsTag world h p tag root → (kind : Kind) × (is_root h kind root ≡ true)
-reads_root (Hyp world) h p root El2Tag k = (_, k.1.declared)
-reads_root (Hyp world) h p root (Vmid vmid) k = (_, k.1.declared)
-reads_root (Kernel world) h p root (Asid asid) k = (_, k.2.declared)
-reads_root (Kernel world) h p root Ttbr1Tag k = (_, k.1.declared)
-reads_root world h p root tag k = absurd k
-
 -- ---- the write
 
 -- the base of a value is told to be a null page where it is one: then it is no declared root
@@ -219,7 +213,7 @@ module _ (heading : Heading) (laws : Laws heading) (proper : Proper heading) (h 
     held_root n tag e =
         let f = pe_found heading.pes (λ p. holds_at heading Patterns p n tag after) e in
         elim (or_cases (reads heading after f.0 tag n) _ f.2) [
-          | inl read ↦ let r = reads_root heading.world after f.0 n tag
+          | inl read ↦ let r = read_root heading.words.inorder heading.world after f.0 n tag
               (laws.readable_tag.sound after f.0 tag n read) in any_at r.0 n (roots_of after) r.1
           | inr before ↦
               any_at (kind_of_tag tag) n (roots_of h) (laws.tags.root h proper kept n tag

@@ -9,11 +9,11 @@ use Rattle.bbm_roots.proofs.Common.{holds_root, holds_asids, holds_under, holds_
 use Rattle.bbm_roots.proofs.Common.{readings_of, readings_with, own_reading, reading_at, has_reading, has_other}
 use Rattle.bbm_roots.proofs.Common.{is_reading, is_other, same_tag, arith, is_first, Stands, world_of, pes_of, Held}
 use Rattle.bbm_roots.proofs.Common.{RootValue, Reading, Roots, or-false, pe_found, tag_equal, is_listed, eqb-true}
-use Rattle.bbm_roots.proofs.Common.{IsCalm, Marks, and-false}
+use Rattle.bbm_roots.proofs.Common.{IsCalm, Marks, and-false, firsts_of, firsts_written, standings_of}
 use Rattle.std.specs.List.{list_all}
 use Rattle.bbm_lemmas.proofs.Bools.{and_apart, or_middle}
 use Rattle.bbm_roots.proofs.Tests.{and_right, as-same, or-split}
-use Rattle.bbm_roots.proofs.Readable.{readings-same}
+use Rattle.bbm_roots.proofs.Readable.{firsts-are, readings-same}
 use Rattle.bbm_roots.proofs.Steps.{reads-holds}
 use Rattle.bbm_roots.specs.HoldsNew.{kernel_tag, own_tag}
 use Rattle.bbm_roots.specs.RootJudgements.{IsShared}
@@ -144,27 +144,47 @@ held-stays hs pe seen held = record {
 
 -- what is readable is held
 pub read-held : (roots : Roots) (pe : ℕ) (heading : Heading) (h : List Event) → Stands roots heading h → pe < pes_of roots →
-    (g : Tag) (r : ℕ) → has_reading g r (readings_of (world_of roots) (loads_in roots.registers.first.items pe)
+    (g : Tag) (r : ℕ) → has_reading g r (readings_of (world_of roots) (firsts_of roots.registers pe)
     (loads_in roots.registers.second.items pe)) ≡ true → hold_in roots.holds g r pe ≡ true
 read-held roots pe heading h stands known g r e =
     let less : pe < heading.pes = let n = stands.pes in omega (arith, known) in
     stands.holds g r pe
     ∙ reads-holds heading h g r pe
-    (ap (has_reading g r) (sym (readings-same heading.world h pe))
-    ∙ rw (← stands.second pe less, ← stands.first pe less, ← stands.world) e)
+    (ap (has_reading g r) (sym (readings-same heading h pe))
+    ∙ rw (← stands.second pe less, ← firsts-are stands pe less, ← stands.world) e)
+
+-- what a test finds after a write of the value, where readings go by values
+values-after : (roots : Roots) (pe : ℕ) (reg : Reg) (load : RootValue) → roots.registers.in_order ≡ false → (t : Reading → Bool) →
+    list_any t (readings_after roots.registers pe reg load)
+    ≡ (list_any t (anew (world_of roots) (is_first reg) load (other_loads roots.registers pe reg))
+    || list_any t (readings_of (world_of roots) (firsts_of roots.registers pe) (loads_in roots.registers.second.items pe)))
+values-after roots pe reg load by_values t = by roots.registers.in_order by_values
+  where
+    first : List RootValue
+    first = loads_in roots.registers.first.items pe
+
+    second : List RootValue
+    second = loads_in roots.registers.second.items pe
+
+    by : (b : Bool) → b ≡ false → list_any t (readings_of (world_of roots)
+        (firsts_written b (is_first reg) load first (other_loads roots.registers pe reg) (standings_of roots.registers pe))
+        (cond (is_first reg) second (load ∷ second)))
+        ≡ (list_any t (anew (world_of roots) (is_first reg) load (other_loads roots.registers pe reg))
+        || list_any t (readings_of (world_of roots) (cond b (standings_of roots.registers pe) first) second))
+    by true e = absurd (false≢true (sym e))
+    by false e = after t (world_of roots) (is_first reg) load first second
 
 -- where what a value makes readable anew is held, all that is readable after its write is
 pub held-after : (roots : Roots) (pe : ℕ) (reg : Reg) (load : RootValue) (heading : Heading) (h : List Event) →
-    Stands roots heading h → pe < pes_of roots →
+    Stands roots heading h → pe < pes_of roots → roots.registers.in_order ≡ false →
     holds_new roots.holds pe (world_of roots) (is_first reg) load (other_loads roots.registers pe reg) ≡ true →
     (g : Tag) (r : ℕ) → has_reading g r (readings_after roots.registers pe reg load) ≡ true →
     hold_in roots.holds g r pe ≡ true
-held-after roots pe reg load heading h stands known new g r e =
+held-after roots pe reg load heading h stands known by_values new g r e =
     or-split _ _ (hold_in roots.holds g r pe ≡ true)
     (anew-held roots.holds pe g r (world_of roots) (is_first reg) load (other_loads roots.registers pe reg) new)
     (read-held roots pe heading h stands known g r)
-    (sym (after (is_reading g r) (world_of roots) (is_first reg) load (loads_in roots.registers.first.items pe)
-    (loads_in roots.registers.second.items pe)) ∙ e)
+    (sym (values-after roots pe reg load by_values (is_reading g r)) ∙ e)
 
 -- such a value makes its one tag readable anew
 kernel-own : (from : AsidFrom) (b : Bool) (load : RootValue) (other : List RootValue) (tag : Tag) →
@@ -216,14 +236,13 @@ module _ (roots : Roots) (pe : ℕ) (reg : Reg) (load : RootValue) (reading : Re
 
   module _ (heading : Heading) (h : List Event) (stands : Stands roots heading h) (known : pe < pes_of roots) where
     abbrev read : Tag → ℕ → Bool
-    read g r = has_reading g r (readings_of (world_of roots) (loads_in roots.registers.first.items pe)
+    read g r = has_reading g r (readings_of (world_of roots) (firsts_of roots.registers pe)
         (loads_in roots.registers.second.items pe))
 
     readable : (g : Tag) (r : ℕ) → has_reading g r (readings_after roots.registers pe reg load)
         ≡ (has_reading g r (reading ∷ []) || read g r)
     readable g r =
-        after (is_reading g r) (world_of roots) (is_first reg) load (loads_in roots.registers.first.items pe)
-        (loads_in roots.registers.second.items pe)
+        values-after roots pe reg load shared.by_values (is_reading g r)
         ∙ ap (λ (xs : List Reading). has_reading g r xs || read g r)
         (own-anew (world_of roots) (is_first reg) load (other_loads roots.registers pe reg) reading.tag shared.tag
         ∙ ap (reading_at reading.tag) shared.root)

@@ -6,7 +6,7 @@ use Rattle.bbm_roots.proofs.Common.{None, Pendings, Registers, Roots, Stands, fi
 use Rattle.bbm_roots.proofs.Common.{loads_in, pending_in, second_reg, If, Is, proved, [], ◌∷◌, refl, sym, ◌∙◌, ap}
 use Rattle.bbm_roots.proofs.Common.{Option, false≢true, answers, Dsb, Tag, World, Reg, takes_whole_tag, same_flag}
 use Rattle.bbm_roots.proofs.Common.{has_reading, has_tag, same_tag, Reading, first_true, list_any, keeps_in, not-true}
-use Rattle.bbm_roots.proofs.Common.{subst, HashMap, BuildHasherDefault, FoldHasher, Held}
+use Rattle.bbm_roots.proofs.Common.{subst, HashMap, BuildHasherDefault, FoldHasher, Held, standings_after, standings_of}
 use Rattle.bbm_lemmas.proofs.Bools.{not_from}
 use Rattle.bbm_rules.specs.Tags as tags
 use Rattle.bbm_rules.specs.Roots.{gives_up}
@@ -24,8 +24,8 @@ use Rattle.bbm_roots.proofs.Readable.{reads-stay, some-stay}
 abbrev Holds : Type 0
 Holds = HashMap ℕ Held (BuildHasherDefault FoldHasher)
 
-nothing-read : (world : World) (p : ℕ) → tags.readings_in world [] p ≡ []
-nothing-read world p = grind (arith)
+nothing-read : (inorder : Bool) (world : World) (p : ℕ) → tags.readings_in inorder world [] p ≡ []
+nothing-read inorder world p = grind (arith)
 
 module _ (heading : Heading) where
   -- whether a root of the page holds the tag, or left it
@@ -37,7 +37,7 @@ module _ (heading : Heading) where
   pub reads-holds : (h : List Event) (g : Tag) (r p : ℕ) → reads heading h p g r ≡ true →
       holds_at heading Patterns p r g h ≡ true
   reads-holds [] g r p e =
-      sym (ap (list_any (λ (x : tags.Reading). same_tag x.tag g && x.root == r)) (nothing-read heading.world p)) ∙ e
+      sym (ap (list_any (λ (x : tags.Reading). same_tag x.tag g && x.root == r)) (nothing-read heading.words.inorder heading.world p)) ∙ e
   reads-holds (x ∷ h) g r p e =
       ap (λ (b : Bool). b || (holds_at heading Patterns p r g h && not (ends heading Patterns p r g x h))) e
 
@@ -80,14 +80,14 @@ module _ (heading : Heading) where
 
     lost : (g : Tag) (p : ℕ) → loses heading Patterns p g (ADsb pe dsb) h ≡ (taken g p && not (reads_for_some heading h p g))
     lost g p = tag_lost heading p g pe dsb h
-        ∙ ap (λ (s : Bool). taken g p && not s) (some-stay heading h (ADsb pe dsb) p refl refl g)
+        ∙ ap (λ (s : Bool). taken g p && not s) (some-stay heading h (ADsb pe dsb) p refl refl refl g)
 
     -- it takes away what it answers, from those that hold it and from those that left it
     keeps-complete : (l : Bool) (g : Tag) (r p : ℕ) →
         keeps_at l p r g (ADsb pe dsb ∷ h) ≡ (keeps_at l p r g h && not (taken g p))
     keeps-complete false g r p =
         let away = lost g p in
-        let same = reads-stay heading h (ADsb pe dsb) p refl refl g r in
+        let same = reads-stay heading h (ADsb pe dsb) p refl refl refl g r in
         let all = waits-unread h pe true g p in
         let local = waits-unread h pe false g p in
         let some = reads-some h g r p in
@@ -103,7 +103,7 @@ module _ (heading : Heading) where
         tag_waits heading p g q b (ADsb pe dsb ∷ h) ≡ (tag_waits heading p g q b h && not (nat_eq q pe && answers dsb b))
     waits-complete q b g p =
         let step = tag_step heading p g q b (ADsb pe dsb) h in
-        let same = some-stay heading h (ADsb pe dsb) p refl refl g in
+        let same = some-stay heading h (ADsb pe dsb) p refl refl refl g in
         let swapped = same_swapped pe q in
         let unread = waits-unread h q b g p in
         grind (arith)
@@ -122,7 +122,7 @@ module _ (heading : Heading) where
         ≡ (tag_waits heading p g q b h || (((nat_eq q pe && same_flag scope.broadcast b && takes_whole_tag scope vmid g)
         && (scope.broadcast || nat_eq p pe)) && not (reads_for_some heading h p g)))
     waits-issued q b g p =
-        rw (tag_step heading p g q b (Tlbi pe op xt) h, some-stay heading h (Tlbi pe op xt) p refl refl g)
+        rw (tag_step heading p g q b (Tlbi pe op xt) h, some-stay heading h (Tlbi pe op xt) p refl refl refl g)
         (rw (issue-is heading h pe op xt scope vmid named q b g p)
         (proved 3 (λ i w s. If (If (Is w true) (Is s false)) (Is ((i || w) && not s) (w || (i && not s)))) refl
         ((nat_eq q pe && same_flag scope.broadcast b && takes_whole_tag scope vmid g) && (scope.broadcast || nat_eq p pe))
@@ -179,6 +179,7 @@ pub moved-stands : {old : Roots} (new : Roots) {heading : Heading} {h : List Eve
     new.registers ≡ old.registers → new.pendings ≡ old.pendings →
     ((p : ℕ) → loads_after (e ∷ h) p (first_reg heading.world) ≡ loads_after h p (first_reg heading.world)) →
     ((p : ℕ) → loads_after (e ∷ h) p (second_reg heading.world) ≡ loads_after h p (second_reg heading.world)) →
+    ((p : ℕ) → standings_after (e ∷ h) p ≡ standings_after h p) →
     ((p : ℕ) (reg : Reg) → register_values (e ∷ h) p reg ≡ register_values h p reg) →
     ((l : Bool) (g : Tag) (r p : ℕ) → keeps_in new.holds l g r p ≡ keeps_at heading l p r g (e ∷ h)) →
     ((g : Tag) (p : ℕ) → kept_in new.holds g p ≡ true → kept_in old.holds g p ≡ true) →
@@ -186,15 +187,17 @@ pub moved-stands : {old : Roots} (new : Roots) {heading : Heading} {h : List Eve
     ((page : ℕ) → get nat_eq new.declared page ≡ root_at (e ∷ h) page) →
     index_map_len new.declared ≡ length (roots_of (e ∷ h)) →
     (new.names_locks ≡ false → (page : ℕ) → lock_of (e ∷ h) page ≡ None) → Stands new heading (e ∷ h)
-moved-stands new {heading} {h} s e keeps header holders registers pendings first second values holds less waits declared count locks =
+moved-stands new {heading} {h} s e keeps header holders registers pendings first second stood values holds less waits declared count locks =
     record {
       header = header ∙ s.header;
       proper = s.proper;
       kept = kept_next heading Patterns h e s.kept keeps;
       pes = ap (λ (r : Registers). r.pes) registers ∙ s.pes;
       world = ap (λ (r : Registers). r.world) registers ∙ s.world;
+      order = ap (λ (r : Registers). r.in_order) registers ∙ s.order;
       first = λ p lt. ap (λ (r : Registers). loads_in r.first.items p) registers ∙ s.first p lt ∙ sym (first p);
       second = λ p lt. ap (λ (r : Registers). loads_in r.second.items p) registers ∙ s.second p lt ∙ sym (second p);
+      standings = λ ordered p lt. ap (λ (r : Registers). standings_of r p) registers ∙ s.standings ordered p lt ∙ sym (stood p);
       outside = λ p reg past. values p reg ∙ s.outside p reg past;
       declared = declared;
       count = count;
@@ -204,7 +207,7 @@ moved-stands new {heading} {h} s e keeps header holders registers pendings first
       inside = λ g p past. not-true _ (not_from _ (λ kept. false≢true (sym (s.inside g p past) ∙ less g p kept)));
       pendings = λ q b g p kept.
           ap (λ (ps : Pendings). pending_in ps q b g p) pendings ∙ s.pendings q b g p (less g p kept)
-          ∙ sym (waits-stay heading h e q b g p (λ k. sym (some-stay heading h e p (first p) (second p) g) ∙ k) (waits q b g p));
+          ∙ sym (waits-stay heading h e q b g p (λ k. sym (some-stay heading h e p (first p) (second p) (stood p) g) ∙ k) (waits q b g p));
       holders = holders;
     }
 
@@ -221,19 +224,20 @@ pub kept-stands : {old : Roots} (new : Roots) {heading : Heading} {h : List Even
     new.registers ≡ old.registers → new.holds ≡ old.holds → new.pendings ≡ old.pendings →
     ((p : ℕ) → loads_after (e ∷ h) p (first_reg heading.world) ≡ loads_after h p (first_reg heading.world)) →
     ((p : ℕ) → loads_after (e ∷ h) p (second_reg heading.world) ≡ loads_after h p (second_reg heading.world)) →
+    ((p : ℕ) → standings_after (e ∷ h) p ≡ standings_after h p) →
     ((p : ℕ) (reg : Reg) → register_values (e ∷ h) p reg ≡ register_values h p reg) →
     ((r : ℕ) → gives_up r e ≡ false) → ((g : Tag) (p : ℕ) → loses heading Patterns p g e h ≡ false) →
     ((q : ℕ) (b : Bool) (g : Tag) (p : ℕ) → tag_waits_after heading p g q b e h ≡ tag_waits heading p g q b h) →
     ((page : ℕ) → get nat_eq new.declared page ≡ root_at (e ∷ h) page) →
     index_map_len new.declared ≡ length (roots_of (e ∷ h)) →
     (new.names_locks ≡ false → (page : ℕ) → lock_of (e ∷ h) page ≡ None) → Stands new heading (e ∷ h)
-kept-stands {old} new {heading} {h} s e keeps header holders registers holds pendings first second values ungiven none waits declared
+kept-stands {old} new {heading} {h} s e keeps header holders registers holds pendings first second stood values ungiven none waits declared
     count locks =
-    moved-stands new s e keeps header holders registers pendings first second values
+    moved-stands new s e keeps header holders registers pendings first second stood values
     (λ l g r p. ap (λ (hs : Holds). keeps_in hs l g r p) holds ∙ keeps-is s l g r p ∙ sym (stay l g r p))
     (λ g p. subst (λ (hs : Holds). kept_in hs g p ≡ true) holds) waits declared count locks
   where
     stay : (l : Bool) (g : Tag) (r p : ℕ) → keeps_at heading l p r g (e ∷ h) ≡ keeps_at heading l p r g h
     stay false g r p =
-        holds-stay heading h e g r p (λ k. sym (reads-stay heading h e p (first p) (second p) g r) ∙ k) (ungiven r) (none g p)
+        holds-stay heading h e g r p (λ k. sym (reads-stay heading h e p (first p) (second p) (stood p) g r) ∙ k) (ungiven r) (none g p)
     stay true g r p = left-stay heading h e g r p (ungiven r) (none g p)

@@ -2,9 +2,9 @@
 use Rattle.bbm_roots.proofs.Common.{Laws, Patterns, first_reg, load_in, loads_after, root_in, second_reg, Roots, Stands}
 use Rattle.bbm_roots.proofs.Common.{option_and_then, pes_of, loads_in, names_in}
 use Rattle.bbm_roots.proofs.Common.{IsLeast, UpTo, is_some, ltb-true, first_true}
-use Rattle.bbm_rules.proofs.Common.{◌≡◌, ℕ, ◌<◌, ◌≤◌, Bool, true, false, not, ◌&&◌, ◌||◌, ◌==◌, nat_lt, List, []}
-use Rattle.bbm_rules.proofs.Common.{map, length, Option, Some, None, refl, sym, ap, ◌∙◌, true≢false}
-use Rattle.bbm_rules.proofs.Common.{inl, inr, arith, list_any, cases_lt, lt-ltb, eqb-true, not-false}
+use Rattle.bbm_rules.proofs.Common.{◌≡◌, ℕ, ◌<◌, Bool, true, false, not, ◌&&◌, ◌||◌, ◌==◌, nat_lt, List, []}
+use Rattle.bbm_rules.proofs.Common.{length, Option, Some, None, refl, sym, ap, ◌∙◌, true≢false}
+use Rattle.bbm_rules.proofs.Common.{inl, inr, arith, list_any, lt-ltb, eqb-true, not-false}
 use Rattle.bbm_rules.proofs.Common.{list_any-append, pe_finds, any_found, Reg, Ttbr0El2, VttbrEl2, Ttbr0El1, Ttbr1El1}
 use Rattle.bbm_rules.proofs.Common.{World, Hyp, Kernel, Heading, Event, Root, Unroot, Breach, keeps, if_so}
 use Rattle.bbm_rules.proofs.Common.{is_that, some_pe, base_of, kind_of_reg, Declared, is_root, kind_in_world, lock_of}
@@ -23,7 +23,7 @@ use Rattle.bbm_rules.specs.declared.rule.Rule.TheVariants.{NoLock, NoRoot, RootI
 use Rattle.bbm_histories.specs.TreeChanges.{Proper}
 use Rattle.bbm_roots.specs.LoadsOf.{uses_at}
 use Rattle.bbm_roots.specs.RootRegisters.{names_page}
-use Rattle.bbm_roots.proofs.Tests.{and_right, none_at}
+use Rattle.bbm_roots.proofs.Tests.{and_right}
 use Rattle.bbm_roots.proofs.Judge.{broken_unroot, or_rule}
 
 -- whether a readable value of a register of the world names the root with this first page
@@ -167,14 +167,6 @@ module _ (heading : Heading) (laws : Laws heading) (proper : Proper heading) (h 
 
 module _ (laws : (heading : Heading) → Laws heading) (roots : Roots) (heading : Heading) (h : List Event)
     (s : Stands roots heading h) (page : ℕ) where
-  -- a PE that the log doesn't have uses no root
-  past_unused : (p : ℕ) → heading.pes ≤ p → uses h heading.world page p ≡ false
-  past_unused p past =
-      ap (λ (vs : List ℕ). names_in (map (load_in h (first_reg heading.world)) vs) page
-      || names_in (loads_after h p (second_reg heading.world)) page) (s.outside p (first_reg heading.world) past)
-      ∙ ap (λ (vs : List ℕ). names_in (map (load_in h (second_reg heading.world)) vs) page)
-      (s.outside p (second_reg heading.world) past)
-
   -- one of the log does where the columns say so
   pub user_is : (r : Declared) → root_at h page ≡ Some r → (p : ℕ) → p < heading.pes
       → (names_in (loads_in roots.registers.first.items p) page || names_in (loads_in roots.registers.second.items p) page)
@@ -182,15 +174,6 @@ module _ (laws : (heading : Heading) → Laws heading) (roots : Roots) (heading 
   user_is r at p less =
       rw (s.first p less, s.second p less)
       (uses_same heading (laws heading) ((laws heading).proper s.proper) h s.kept page r at p less)
-
-  -- where no PE of the log has it as a base, no PE uses it
-  pub unused : (r : Declared) → root_at h page ≡ Some r → some_pe heading.pes (is_base_at h page) ≡ false → (p : ℕ)
-      → uses h heading.world page p ≡ false
-  unused r at none p = elim (cases_lt p heading.pes) [
-    | inl less ↦ uses_same heading (laws heading) ((laws heading).proper s.proper) h s.kept page r at p less
-        ∙ none_at heading.pes (is_base_at h page) p none less
-    | inr past ↦ past_unused p past
-  ]
 
   -- whether some PE uses it, by the first that does
   pub base_is : (r : Declared) → root_at h page ≡ Some r → (o : Option ℕ)

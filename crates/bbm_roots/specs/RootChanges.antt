@@ -1,6 +1,6 @@
 -- What calls change, and that all else stays. A history is newest first.
 -- Source: project's own choice.
-use Rattle.std.specs.Prelude.{◌≡◌, ℕ, Bool, false, None, not, ◌&&◌, ◌||◌, nat_eq, List, ◌∷◌, Some}
+use Rattle.std.specs.Prelude.{◌≡◌, ℕ, Bool, false, None, not, ◌&&◌, ◌||◌, nat_eq, List, ◌∷◌, Some, true}
 use Rattle.std.specs.Prelude.{Result, OnOk, OnErr, if◌then◌else◌}
 use Rattle.bbm_barriers.specs.Options.{answers}
 use Rattle.bbm_barriers.specs.declared.Dsb.{Dsb as Barrier}
@@ -15,7 +15,8 @@ use Rattle.bbm_rules.specs.RegisterValues.{named_scope}
 use Rattle.bbm_roots.specs.Columns.{loads_in}
 use Rattle.bbm_roots.specs.Holds.{keeps_in}
 use Rattle.bbm_roots.specs.RootPendings.{answered_in, pending_in, Clears}
-use Rattle.bbm_roots.specs.RootRegisters.{is_first}
+use Rattle.bbm_roots.specs.LoadsOf.{other_loads, standings_of}
+use Rattle.bbm_roots.specs.RootRegisters.{front, is_first, new_standing, newest}
 use Rattle.bbm_roots.specs.RootsStand.{HasRoom, Stands}
 use Rattle.bbm_roots.specs.declared.load.RootValue.{RootValue}
 use Rattle.bbm_roots.specs.declared.reading.Reading.{Reading}
@@ -63,14 +64,32 @@ pub record BarriersPass : Type 0 where
   pub dmb_limit : (h : List Event) (pe : ℕ) (dsb : Barrier) → limit_of h (Dmb pe dsb) ≡ None
   pub isb_limit : (h : List Event) (pe : ℕ) → limit_of h (Isb pe) ≡ None
 
--- the value is put in front of those that a register of the PE had, and no other value changes
+-- the number of PEs stays, and by what readings go
+pub record SameSizes (old new : Registers) : Type 0 where
+  pub pes : new.pes ≡ old.pes
+  pub world : new.world ≡ old.world
+  pub in_order : new.in_order ≡ old.in_order
+
+-- The value is put in front of those that a register of the PE had, and a new standing in front of its standings,
+-- where readings go by them; and no other value changes.
 pub record PutsLoad (pe : ℕ) (reg : Reg) (load : RootValue) (old new : Registers) : Type 0 where
   pub first : (p : ℕ) → loads_in new.first.items p ≡ (if nat_eq p pe && is_first reg
       then load ∷ loads_in old.first.items p else loads_in old.first.items p)
   pub second : (p : ℕ) → loads_in new.second.items p ≡ (if nat_eq p pe && not (is_first reg)
       then load ∷ loads_in old.second.items p else loads_in old.second.items p)
-  pub pes : new.pes ≡ old.pes
-  pub world : new.world ≡ old.world
+  pub standings : (p : ℕ) → standings_of new p ≡ (if nat_eq p pe && old.in_order
+      then new_standing (is_first reg) load (front (other_loads old p reg)) ∷ standings_of old p else standings_of old p)
+  pub same : SameSizes old new
+
+-- the newest values of the PE's registers are left, and its newest standing, where readings go by them
+pub record LeavesNewest (pe : ℕ) (old new : Registers) : Type 0 where
+  pub first : (p : ℕ) → loads_in new.first.items p ≡ (if nat_eq p pe then newest (loads_in old.first.items p)
+      else loads_in old.first.items p)
+  pub second : (p : ℕ) → loads_in new.second.items p ≡ (if nat_eq p pe then newest (loads_in old.second.items p)
+      else loads_in old.second.items p)
+  pub standings : old.in_order ≡ true → (p : ℕ) → standings_of new p
+      ≡ (if nat_eq p pe then newest (standings_of old p) else standings_of old p)
+  pub same : SameSizes old new
 
 -- the header, the declared roots and the locks stay
 pub record SameDeclared (old new : Roots) : Type 0 where

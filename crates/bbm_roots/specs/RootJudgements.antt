@@ -1,6 +1,6 @@
 -- How roots judge an event, by the history that they stand for. A history is newest first.
 -- Source: project's own choice.
-use Rattle.std.specs.Prelude.{◌≡◌, ◌<◌, ℕ, true, List, length, Option, Some, None, Result, Ok, Err}
+use Rattle.std.specs.Prelude.{◌≡◌, ◌<◌, ℕ, true, false, List, length, Option, Some, None, Result, Ok, Err}
 use Rattle.bbm_regimes.specs.declared.regime.Reg.{Reg}
 use Rattle.bbm_rules.specs.Broken.{Breach, broken}
 use Rattle.bbm_rules.specs.Claims.{Patterns}
@@ -37,16 +37,18 @@ JudgesTlbi heading h pe op xt (Ok named) =
     (broken heading Patterns h (Tlbi pe op xt) ≡ None) × IsNamed heading h pe op xt named
 JudgesTlbi heading h pe op xt (Err fault) = Judges (Err fault) (broken heading Patterns h (Tlbi pe op xt))
 
--- A write of the value changes the register alone: the register isn't full, no TLBI waits, and the PE holds, for its
--- root, each tag that the value makes readable anew.
+-- A write of the value changes the register alone: readings don't go by standings, the register isn't full, no TLBI
+-- waits, and the PE holds, for its root, each tag that the value makes readable anew.
 pub record IsSettled (pe : ℕ) (reg : Reg) (load : RootValue) (roots : Roots) : Type 0 where
+  pub by_values : roots.registers.in_order ≡ false
   pub room : length (loads_of roots.registers pe reg) < 9
   pub quiet : IsQuiet roots.pendings
   pub held : holds_new roots.holds pe (world_of roots) (is_first reg) load (other_loads roots.registers pe reg) ≡ true
 
--- A write of the value makes one tag readable anew, which its root holds at some PE: the register isn't full, and no
--- TLBI waits.
+-- A write of the value makes one tag readable anew, which its root holds at some PE: readings don't go by standings, the
+-- register isn't full, and no TLBI waits.
 pub record IsShared (pe : ℕ) (reg : Reg) (load : RootValue) (reading : Reading) (roots : Roots) : Type 0 where
+  pub by_values : roots.registers.in_order ≡ false
   pub room : length (loads_of roots.registers pe reg) < 9
   pub quiet : IsQuiet roots.pendings
   pub tag : own_tag (world_of roots) (is_first reg) load.number ≡ Some reading.tag

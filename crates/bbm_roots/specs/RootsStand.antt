@@ -17,11 +17,11 @@ use Rattle.bbm_histories.specs.HistorySteps.{tag_waits}
 use Rattle.bbm_roots.specs.Columns.{loads_in}
 use Rattle.bbm_roots.specs.Holds.{hold_in, kept_in, left_in}
 use Rattle.bbm_roots.specs.RootPendings.{has_pending, pending_in, EachLost}
-use Rattle.bbm_roots.specs.RootRegisters.{first_reg, loads_after, second_reg}
+use Rattle.bbm_roots.specs.RootRegisters.{first_reg, in_order, loads_after, reading_world, second_reg, standings_after}
 use Rattle.bbm_roots.specs.declared.named.NamedTlbi.{NamedTlbi}
 use Rattle.bbm_roots.specs.declared.roots.Roots.{Roots}
 
--- the number of PEs, and the world
+-- the number of PEs, and the world by which readings go
 abbrev pub pes_of : Roots → ℕ
 pes_of roots = roots.registers.pes
 
@@ -29,7 +29,8 @@ abbrev pub world_of : Roots → World
 world_of roots = roots.registers.world
 
 -- The roots stand for the history of a log with this header, which keeps the rules over all patterns of events: they
--- keep what the readable values of each register name, the declared roots, at which PEs a root holds a tag or one that
+-- keep what the readable values of each register name, and, where ASIDs go by them, the readable standings, the declared
+-- roots, at which PEs a root holds a tag or one that
 -- was given up left it, and, where a tag is held or left, which unanswered TLBIs are about to take it away, and who
 -- holds each lock. Where they keep that no root was declared with a lock, no declared root has one. Of the history it
 -- says besides that no PE that the log doesn't have wrote a register.
@@ -38,11 +39,14 @@ pub record Stands (roots : Roots) (heading : Heading) (h : List Event) : Type 0 
   pub proper : heading_ok heading ≡ true
   pub kept : keeps heading Patterns h ≡ true
   pub pes : pes_of roots ≡ heading.pes
-  pub world : world_of roots ≡ heading.world
+  pub world : world_of roots ≡ reading_world heading
+  pub order : roots.registers.in_order ≡ in_order heading
   pub first : (p : ℕ) → p < heading.pes
       → loads_in roots.registers.first.items p ≡ loads_after h p (first_reg heading.world)
   pub second : (p : ℕ) → p < heading.pes
       → loads_in roots.registers.second.items p ≡ loads_after h p (second_reg heading.world)
+  pub standings : in_order heading ≡ true → (p : ℕ) → p < heading.pes
+      → loads_in roots.registers.standings.items p ≡ standings_after h p
   pub outside : (p : ℕ) (reg : Reg) → heading.pes ≤ p → register_values h p reg ≡ 0 ∷ []
   pub declared : (page : ℕ) → get nat_eq roots.declared page ≡ root_at h page
   pub count : index_map_len roots.declared ≡ length (roots_of h)

@@ -5,7 +5,7 @@ use crate::laws_below::laws_below;
 use crate::named::NamedTlbi;
 use crate::root::Declared;
 use crate::roots::Roots;
-use crate::{hold, issue, pending, registers};
+use crate::{hold, issue, pending};
 use bbm_barriers::Dsb;
 use bbm_regimes::{Kind, NoMemory, Page, Pe, Which};
 use bbm_rules::{Rule, StepFault};
@@ -79,13 +79,12 @@ impl Roots {
         hold::leave(&mut self.holds, &mut self.by_root, page);
     }
 
-    /// An ISB of the PE: its newest register values alone stay in use. It takes no memory.
+    /// An ISB of the PE: its newest register values, and its newest standing, alone stay in use. It takes no memory.
     pub fn isb(&mut self, pe: Pe)
         requires { MayAsk (Stands self.old) pe }
         ensures { Takes (TheEvent.Isb pe) self.old self.new }
     {
-        registers::sync(&mut self.registers.first, pe);
-        registers::sync(&mut self.registers.second, pe);
+        self.registers.sync(pe);
     }
 
     /// A DSB of the PE: it answers TLBIs that the PE issued, which take tags away. It takes no memory.

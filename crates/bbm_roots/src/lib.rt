@@ -37,6 +37,7 @@ mod registers;
 mod root;
 mod roots;
 mod search;
+mod standing;
 mod vmid;
 mod writing;
 

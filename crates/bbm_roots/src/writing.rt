@@ -28,7 +28,7 @@ impl Roots {
     ghost use Rattle.bbm_rules.specs.Limits.{limit_of};
     ghost use Rattle.bbm_rules.specs.Roots as spec;
     ghost use Rattle.bbm_roots.specs.Holds.{has_entry, conflict_in, tag_key, IsCalm, Marks};
-    ghost use Rattle.bbm_roots.specs.LoadsOf.{loads_of};
+    ghost use Rattle.bbm_roots.specs.LoadsOf.{loads_of, HasSpace};
     ghost use Rattle.bbm_roots.specs.Readings.{has_reading, has_tag};
     ghost use Rattle.bbm_roots.specs.Refusals.{missing_root, JudgesReadings};
     ghost use Rattle.bbm_roots.specs.RootChanges.{Keeps, TakesWhere, Writes};
@@ -92,7 +92,7 @@ impl Roots {
     /// Takes the value of a register that names what was judged, under the readable tags that it gives.
     fn take(&mut self, pe: Pe, reg: Reg, load: &RootValue, seen: &[Reading])
         requires known { pe < pes_of self.old }
-        requires room { length (loads_of self.old.registers pe reg) < 9 }
+        requires room { HasSpace self.old.registers pe reg }
         requires entries { (g : TheTag) → has_tag g seen.now ≡ true → has_entry self.old.holds g ≡ true }
         requires listed { (g : TheTag) (r : ℕ) → has_reading g r seen.now ≡ true
             → is_listed self.old.by_root r (tag_key g) ≡ true }
@@ -104,15 +104,18 @@ impl Roots {
         self.registers.put(pe, reg, *load);
     }
 
-    /// What is known of a write of this value, where the register isn't full and no TLBI waits: that it changes the
-    /// register alone, since the PE holds each tag, for its root, that the value makes readable anew; or that this one
-    /// tag is all that it makes readable anew, and held by its root.
+    /// What is known of a write of this value, where readings don't go by standings, the register isn't full and no TLBI
+    /// waits: that it changes the register alone, since the PE holds each tag, for its root, that the value makes
+    /// readable anew; or that this one tag is all that it makes readable anew, and held by its root.
     fn shortcut(&self, pe: Pe, reg: Reg, load: &RootValue) -> Shortcut
         requires { pe < pes_of self.now }
         ensures held { result ≡ Shortcut.Held → IsSettled pe reg load.now self.now }
         ensures shared { (x : TheReading) → result ≡ Shortcut.Shared x → IsShared pe reg load.now x self.now }
     {
-        if !self.pendings.issuers.is_empty() || self.registers.is_full(pe, reg) {
+        if self.registers.in_order
+            || !self.pendings.issuers.is_empty()
+            || self.registers.is_full(pe, reg)
+        {
             return Shortcut::Open;
         }
         let world = self.registers.world;

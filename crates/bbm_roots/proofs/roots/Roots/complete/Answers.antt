@@ -1,5 +1,5 @@
 use Rattle.bbm_roots.proofs.Common.{◌≡◌, ◌∙◌, ap, sym, ℕ, Bool, ◌&&◌, List, ◌∷◌, not, nat_eq, true, false, refl, arith}
-use Rattle.bbm_roots.proofs.Common.{pe_in, Heading, Event, ADsb, nat_tests, answers, Dsb, Tag, loads_in, keeps_in, kept_in, first_true, not-true, false≢true}
+use Rattle.bbm_roots.proofs.Common.{pe_in, Heading, Event, ADsb, nat_tests, answers, Dsb, Tag, loads_in, standings_of, keeps_in, kept_in, first_true, not-true, false≢true}
 use Rattle.bbm_lemmas.proofs.Bools.{not_from}
 use Rattle.bbm_roots.proofs.Common.{pending_in, Stands, Pendings, Registers, Roots, and-true, holder_at, Patterns}
 use Rattle.bbm_roots.specs.RootPendings.{answered_in}
@@ -21,8 +21,10 @@ completed old new heading h issuer dsb stands answered = record {
   kept = kept_next heading Patterns h (ADsb issuer dsb) stands.kept (broken_dsb heading h issuer dsb);
   pes = ap (λ (r : Registers). r.pes) answered.registers ∙ stands.pes;
   world = ap (λ (r : Registers). r.world) answered.registers ∙ stands.world;
+  order = ap (λ (r : Registers). r.in_order) answered.registers ∙ stands.order;
   first = λ p lt. ap (λ (r : Registers). loads_in r.first.items p) answered.registers ∙ stands.first p lt;
   second = λ p lt. ap (λ (r : Registers). loads_in r.second.items p) answered.registers ∙ stands.second p lt;
+  standings = λ ordered p lt. ap (λ (r : Registers). standings_of r p) answered.registers ∙ stands.standings ordered p lt;
   outside = stands.outside;
   declared = λ q. let d = answered.roots.declared in let s = stands.declared q in cc;
   count = let d = answered.roots.declared in let s = stands.count in cc;

@@ -4,7 +4,7 @@ use Rattle.bbm_roots.proofs.Common.{arith, rules, get, index_map_len, Patterns, 
 use Rattle.bbm_histories.proofs.Induction.{kept_next}
 use Rattle.bbm_histories.proofs.ValueSteps.{root_step}
 use Rattle.bbm_roots.proofs.Judge.{free_page}
-use Rattle.bbm_roots.proofs.Readable.{loads-past}
+use Rattle.bbm_roots.proofs.Readable.{loads-stay, standings-stay}
 use Rattle.bbm_roots.proofs.RootLists.{absent-retired, unlocked}
 use Rattle.bbm_roots.proofs.Steps.{kept-stands}
 use Rattle.bbm_roots.proofs.roots.Roots.declare.Goals as goal
@@ -21,7 +21,7 @@ returns-in-Ok c = λ pe heading h stands keeps.
     let root : Declared = record { page = c.args.page; kind = c.args.kind; lock = c.args.lock } in
     let absent : root_at h c.args.page ≡ None = free_page pe c.args.page c.args.kind c.args.lock laws stands keeps in
     let stay = laws.bases.stay h e (laws.proper stands.proper) (kept_next heading Patterns h e stands.kept keeps) in
-    let same : (p : ℕ) (reg : Reg) → loads_after (e ∷ h) p reg ≡ loads_after h p reg = loads-past heading h e stay stands.outside in
+    let same : (p : ℕ) (reg : Reg) → loads_after (e ∷ h) p reg ≡ loads_after h p reg = loads-stay heading h e stay stands.outside in
     let none : is_some c.in-Ok.field-0 ≡ false =
     ap (is_some {T = Declared}) (c.in-Ok.ensures.old ∙ stands.declared c.get.result
     ∙ ap (λ (n : ℕ). root_at h n) c.get.ensures.value ∙ absent) in
@@ -31,7 +31,7 @@ returns-in-Ok c = λ pe heading h stands keeps.
     ap (length {A = Declared}) (absent-retired c.args.page (roots_of h) absent) in
     kept-stands _ stands e keeps refl stands.holders refl refl refl
     (λ p. same p (first_reg heading.world)) (λ p. same p (second_reg heading.world))
-    (λ p reg. refl) (λ r. refl) (λ g p. refl) (λ q b g p. refl)
+    (standings-stay heading h e stay stands.outside) (λ p reg. refl) (λ r. refl) (λ g p. refl) (λ q b g p. refl)
     (λ q. c.in-Ok.ensures.updates.0 q
     ∙ ap (λ (n : ℕ). cond (nat_eq n q) (Some root) (get nat_eq c.args.self.now.declared q)) c.get.ensures.value
     ∙ ap (λ (o : Option Declared). cond (nat_eq c.args.page q) (Some root) o) (stands.declared q)

@@ -1,7 +1,8 @@
-use Rattle.bbm_roots.proofs.Common.{same_swapped, ◌≡◌, ◌∙◌, ap, sym, refl, nat_eq, ◌==◌, Bool, List, [], ◌∷◌, true}
+use Rattle.bbm_roots.proofs.Common.{same_swapped, ◌≡◌, ◌∙◌, ap, sym, refl, nat_eq, ◌==◌, Bool, List, [], ◌∷◌, true, false}
 use Rattle.bbm_roots.proofs.Common.{Heading, Event, register_values, readings, load_in, loads_after, arith, cond, ℕ}
 use Rattle.bbm_roots.proofs.Common.{Tag, Reg, is_reading, is_of_tag, newest, first_reg, second_reg, take, list_any}
-use Rattle.bbm_roots.proofs.Common.{Patterns, RootValue, Reading}
+use Rattle.bbm_roots.proofs.Common.{Patterns, RootValue, Reading, firsts_after, in_order, reading_world, standing_in, standings_after}
+use Rattle.bbm_rules.specs.RegisterValues.{standings}
 use Rattle.bbm_events.specs.declared.event.Event.TheVariants.{Isb}
 use Rattle.bbm_roots.proofs.Flat.{readings-isb}
 use Rattle.bbm_roots.proofs.Readable.{newest-map, readings-same}
@@ -18,13 +19,28 @@ module _ (h : List Event) (pe : ℕ) where
       let newest_of = newest-map (load_in h reg) (register_values h p reg) in
       grind (arith)
 
+  standings-isb : (p : ℕ) → standings_after (Isb pe ∷ h) p ≡ cond (nat_eq p pe) (newest (standings_after h p)) (standings_after h p)
+  standings-isb p =
+      let swapped = same_swapped pe p in
+      let newest_of = newest-map (standing_in h) (standings h p) in
+      grind (arith)
+
   module _ (heading : Heading) (p : ℕ) where
+    firsts-isb : firsts_after heading (Isb pe ∷ h) p ≡ cond (nat_eq p pe) (newest (firsts_after heading h p)) (firsts_after heading h p)
+    firsts-isb = by (in_order heading)
+      where
+        by : (b : Bool) → cond b (standings_after (Isb pe ∷ h) p) (loads_after (Isb pe ∷ h) p (first_reg heading.world))
+            ≡ cond (nat_eq p pe) (newest (cond b (standings_after h p) (loads_after h p (first_reg heading.world))))
+            (cond b (standings_after h p) (loads_after h p (first_reg heading.world)))
+        by true = standings-isb p
+        by false = loads-isb p (first_reg heading.world)
+
     less : (t : Reading → Bool) → list_any t (readings heading (Isb pe ∷ h) p) ≡ true → list_any t (readings heading h p) ≡ true
     less t e =
-        ap (list_any t) (sym (readings-same heading.world h p))
-        ∙ readings-isb t heading.world (nat_eq p pe) (loads_after h p (first_reg heading.world)) (loads_after h p (second_reg heading.world))
-        (rw (← loads-isb p (first_reg heading.world), ← loads-isb p (second_reg heading.world))
-        (ap (list_any t) (readings-same heading.world (Isb pe ∷ h) p) ∙ e))
+        ap (list_any t) (sym (readings-same heading h p))
+        ∙ readings-isb t (reading_world heading) (nat_eq p pe) (firsts_after heading h p) (loads_after h p (second_reg heading.world))
+        (rw (← firsts-isb, ← loads-isb p (second_reg heading.world))
+        (ap (list_any t) (readings-same heading (Isb pe ∷ h) p) ∙ e))
 
 pub returns : goal.returns
 returns c = record {
@@ -35,14 +51,19 @@ returns c = record {
         header = stands.header;
         proper = stands.proper;
         kept = kept_next heading Patterns h (Isb pe) stands.kept (broken_isb heading h pe);
-        pes = stands.pes;
-        world = stands.world;
+        pes = c.sync.ensures.same.pes ∙ stands.pes;
+        world = c.sync.ensures.same.world ∙ stands.world;
+        order = c.sync.ensures.same.in_order ∙ stands.order;
         first = λ p lt.
-            c.sync.ensures.loads p ∙ ap (λ (xs : List RootValue). cond (nat_eq p pe) (newest xs) xs) (stands.first p lt)
+            c.sync.ensures.first p ∙ ap (λ (xs : List RootValue). cond (nat_eq p pe) (newest xs) xs) (stands.first p lt)
             ∙ sym (loads-isb h pe p (first_reg heading.world));
         second = λ p lt.
-            c.sync-2.ensures.loads p ∙ ap (λ (xs : List RootValue). cond (nat_eq p pe) (newest xs) xs) (stands.second p lt)
+            c.sync.ensures.second p ∙ ap (λ (xs : List RootValue). cond (nat_eq p pe) (newest xs) xs) (stands.second p lt)
             ∙ sym (loads-isb h pe p (second_reg heading.world));
+        standings = λ ordered p lt.
+            c.sync.ensures.standings (stands.order ∙ ordered) p
+            ∙ ap (λ (xs : List RootValue). cond (nat_eq p pe) (newest xs) xs) (stands.standings ordered p lt)
+            ∙ sym (standings-isb h pe p);
         outside = λ p reg past.
             ap (λ (vs : List ℕ). cond (pe == p) (take 1 vs) vs) (stands.outside p reg past) ∙ one (pe == p);
         declared = stands.declared;
@@ -63,9 +84,4 @@ returns c = record {
     one b = grind (arith)
 
 pub sync-requires : goal.sync-requires
-sync-requires c =
-    let less = of_state c.requires.2 c.requires.3 in let pes = c.args.self.now.registers.first_pes in omega (arith, less, pes)
-
-pub sync-requires-2 : goal.sync-requires-2
-sync-requires-2 c =
-    let less = of_state c.requires.2 c.requires.3 in let pes = c.args.self.now.registers.second_pes in omega (arith, less, pes)
+sync-requires c = of_state c.requires.2 c.requires.3

@@ -3,7 +3,7 @@ use Rattle.bbm_roots.proofs.Common.{TlbiOp, Scope, Tlbi, Patterns, Stands, holde
 use Rattle.bbm_roots.proofs.Common.{Option}
 use Rattle.bbm_roots.proofs.Common.{Heading, Event, List, ◌∷◌, None, Some}
 use Rattle.bbm_roots.proofs.Common.{lt-ltb, first_true, Tag, takes_whole_tag, loads_in, pending_in}
-use Rattle.bbm_roots.proofs.Common.{has_pending, same_flag, unread_at, has_tag, reads_tag, first_reg, second_reg}
+use Rattle.bbm_roots.proofs.Common.{has_pending, same_flag, unread_at, has_tag, reads_tag, second_reg}
 use Rattle.bbm_roots.proofs.Common.{world_of, pes_of, or-false, Registers, Roots, arith, eqb-true, Pendings}
 use Rattle.bbm_roots.specs.Holds.{kept_in}
 use Rattle.bbm_roots.specs.RootChanges.{SameDeclared}
@@ -15,7 +15,8 @@ use Rattle.bbm_roots.specs.RootJudgements.{IsNamed}
 use Rattle.bbm_roots.specs.declared.named.NamedTlbi.{NamedTlbi}
 use Rattle.bbm_roots.proofs.Issued.{Issues}
 use Rattle.bbm_roots.proofs.Others.{others}
-use Rattle.bbm_roots.proofs.Readable.{reads-stay, readings-same}
+use Rattle.bbm_roots.proofs.Common.{firsts_after, firsts_of, reading_world, standings_of}
+use Rattle.bbm_roots.proofs.Readable.{firsts-are, reads-stay, readings-same}
 use Rattle.bbm_roots.proofs.Steps.{holds-stay, left-stay, noted}
 use Rattle.bbm_roots.proofs.Tests.{and_right, same_flag-true}
 use Rattle.bbm_roots.proofs.roots.Roots.issue_ready.Goals as goal
@@ -44,15 +45,17 @@ issued : (old new : Roots) (issuer : ℕ) (op : TlbiOp) (xt : ℕ) (scope : Scop
     broken heading Patterns h (Tlbi issuer op xt) ≡ None → Stands new heading (Tlbi issuer op xt ∷ h)
 issued old new issuer op xt scope vmid has registers holds roots there notes heading h stands named keeps =
     let stay = λ (g : Tag) (r p : ℕ). holds-stay heading h (Tlbi issuer op xt) g r p (λ k. sym (reads-stay heading h
-    (Tlbi issuer op xt) p refl refl g r) ∙ k) refl refl in
+    (Tlbi issuer op xt) p refl refl refl g r) ∙ k) refl refl in
     record {
       header = roots.header ∙ stands.header;
       proper = stands.proper;
       kept = kept_next heading Patterns h (Tlbi issuer op xt) stands.kept keeps;
       pes = ap (λ (r : Registers). r.pes) registers ∙ stands.pes;
       world = ap (λ (r : Registers). r.world) registers ∙ stands.world;
+      order = ap (λ (r : Registers). r.in_order) registers ∙ stands.order;
       first = λ p lt. ap (λ (r : Registers). loads_in r.first.items p) registers ∙ stands.first p lt;
       second = λ p lt. ap (λ (r : Registers). loads_in r.second.items p) registers ∙ stands.second p lt;
+      standings = λ ordered p lt. ap (λ (r : Registers). standings_of r p) registers ∙ stands.standings ordered p lt;
       outside = stands.outside;
       declared = λ q. let d = roots.declared in let s = stands.declared q in cc;
       count = let d = roots.declared in let s = stands.count in cc;
@@ -69,11 +72,11 @@ issued old new issuer op xt scope vmid has registers holds roots there notes hea
           notes q b g p here
           ∙ noted heading h issuer op xt scope vmid named q b g p (pending_in old.pendings q b g p) (has q b g)
           (nat_lt p (pes_of old))
-          (reads_tag (world_of old) (loads_in old.registers.first.items p) (loads_in old.registers.second.items p) g)
+          (reads_tag (world_of old) (firsts_of old.registers p) (loads_in old.registers.second.items p) g)
           (stands.pendings q b g p here) (there q b g p here) (lt-ltb p (pes_of old) less)
-          (rw (stands.world, stands.first p below, stands.second p below)
-          (sym (reads_tag-is heading.world (loads_after h p (first_reg heading.world))
-          (loads_after h p (second_reg heading.world)) g) ∙ ap (has_tag g) (readings-same heading.world h p)));
+          (rw (stands.world, firsts-are stands p below, stands.second p below)
+          (sym (reads_tag-is (reading_world heading) (firsts_after heading h p)
+          (loads_after h p (second_reg heading.world)) g) ∙ ap (has_tag g) (readings-same heading h p)));
       holders = λ lock. ap (λ (l : Locks). holder_at l lock) roots.locks ∙ stands.holders lock;
     }
 

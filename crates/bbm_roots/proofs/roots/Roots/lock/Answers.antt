@@ -15,7 +15,7 @@ returns-in-Ok-clause-tried c = record {
     taken = λ heading h s done.
         kept-stands _ s (Lock c.args.pe c.args.lock) (returns-in-Ok-clause-judged c heading h s) refl
         (λ l. c.in-Ok.ensures.taken l ∙ ap (λ (o : Option ℕ). cond (c.args.lock == l) (Some c.args.pe) o) (s.holders l)) refl refl refl (λ p. refl) (λ p. refl)
-        (λ p reg. refl) (λ r. refl) (λ g p. refl) (λ q b g p. refl) s.declared s.count s.locks;
+        (λ p. refl) (λ p reg. refl) (λ r. refl) (λ g p. refl) (λ q b g p. refl) s.declared s.count s.locks;
     room = λ room. room;
   };
   kept = tt;

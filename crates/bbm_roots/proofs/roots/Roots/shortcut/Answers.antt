@@ -10,6 +10,7 @@ pub returns-in-Some-clause-shared : goal.returns-in-Some-clause-shared
 returns-in-Some-clause-shared c = λ x is.
     let told = c.known_tag.ensures.shared x is in
     record {
+      by_values = c.if-self.false;
       room = below-nine _ _ c.is_full.ensures c.if-is_full.false;
       quiet = λ q b g p.
           ap (λ (none : Bool). none

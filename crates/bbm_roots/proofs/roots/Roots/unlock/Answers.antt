@@ -14,7 +14,7 @@ returns-in-Ok-clause-tried c = record {
     taken = λ heading h s done.
         kept-stands _ s (Unlock c.args.pe c.args.lock) (returns-in-Ok-clause-judged c heading h s) refl
         (λ l. c.in-Ok.ensures.given l ∙ given_back h c.args.pe c.args.lock l _ (sym (s.holders c.args.lock) ∙ c.in-Ok.ensures.held.0 (search rules)) (s.holders l)) refl refl refl (λ p. refl) (λ p. refl)
-        (λ p reg. refl) (λ r. refl) (λ g p. refl) (λ q b g p. refl) s.declared s.count s.locks;
+        (λ p. refl) (λ p reg. refl) (λ r. refl) (λ g p. refl) (λ q b g p. refl) s.declared s.count s.locks;
     room = λ room. room;
   };
   kept = tt;

@@ -1,13 +1,14 @@
 use Rattle.bbm_roots.proofs.Common.{◌≡◌, ◌∙◌, ap, sym, refl, Bool, ◌&&◌, ◌||◌, not, nat_eq, List, [], ◌∷◌, false, true}
 use Rattle.bbm_roots.proofs.Common.{Heading, Event, conflict_in, IsCalm, readings_after, has_reading, has_tag, Stands}
 use Rattle.bbm_roots.proofs.Common.{pes_of, Reg, RootValue, Reading, ℕ, missing_root, Patterns, kind_in_world}
-use Rattle.bbm_roots.proofs.Common.{kind_of_reg}
+use Rattle.bbm_roots.proofs.Common.{kind_of_reg, false≢true}
 use Rattle.std.proofs.Common.{Ok, Err}
 use Rattle.std.proofs.lemmas.Result.{err_from_is_err_and}
 use Rattle.bbm_rules.proofs.Common.{if_so}
 use Rattle.bbm_rules.specs.Rules.{asks_to_share}
 use Rattle.bbm_roots.proofs.Changes.{same-kept}
 use Rattle.bbm_roots.proofs.Conflicts.{calm-from}
+use Rattle.bbm_roots.proofs.Fits.{space}
 use Rattle.bbm_roots.proofs.Judge.{of_state}
 use Rattle.bbm_roots.proofs.RegisterWrites.{write_elsewhere, write_missing}
 use Rattle.bbm_roots.proofs.Settled.{held-after, no-clash, held-stays, calm-one, held-somewhere, marks-all, tag-listed}
@@ -42,6 +43,15 @@ shortcut-requires c = of_state c.requires.2 c.requires.3
 pub put-requires-clause-known : goal.put-requires-clause-known
 put-requires-clause-known c = of_state c.requires.2 c.requires.3
 
+-- no standing is added where readings don't go by standings
+none-added : {T : Type 0} (b : Bool) → b ≡ false → b ≡ true → T
+none-added b none is = absurd (false≢true (sym none ∙ is))
+
+pub put-requires-clause-room : goal.put-requires-clause-room
+put-requires-clause-room c =
+    let settled = c.shortcut.ensures.held c.in-Held.is in
+    (settled.room, none-added c.args.self.now.registers.in_order settled.by_values)
+
 pub returns-in-Held-clause-taken : goal.returns-in-Held-clause-taken
 returns-in-Held-clause-taken c =
     let old = c.args.self.now in
@@ -60,9 +70,9 @@ returns-in-Held-clause-taken c =
       roots = record { header = refl; declared = refl; names = refl; locks = refl };
     })
     (λ heading h stands. held-stays old.holds pe seen
-    (held-after old pe c.args.reg load heading h stands known settled.held))
+    (held-after old pe c.args.reg load heading h stands known settled.by_values settled.held))
     (λ heading h stands.
-    let held = held-after old pe c.args.reg load heading h stands known settled.held in
+    let held = held-after old pe c.args.reg load heading h stands known settled.by_values settled.held in
     (no-clash old.holds seen (λ g r k. (pe, held g r k)) (pes_of old), settled.room))
 
 pub returns-in-Held-clause-judged : goal.returns-in-Held-clause-judged
@@ -73,7 +83,7 @@ returns-in-Held-clause-judged c = λ heading h stands told.
     let load : RootValue = record { number = c.tag_number-number.result; root = c.in_ok-root.root } in
     let settled = c.shortcut.ensures.held c.in-Held.is in
     let seen = readings_after old.registers pe c.args.reg load in
-    let held = held-after old pe c.args.reg load heading h stands known settled.held in
+    let held = held-after old pe c.args.reg load heading h stands known settled.by_values settled.held in
     write-judged c.laws_below.ensures old pe c.args.reg c.args.value c.args.null _ _ seen known
     (sym c.is_wrong_write.ensures ∙ c.if-is_wrong_write.false)
     c.tag_number-number.ensures c.in_ok-root.ensures.named c.in_ok-root.ensures.found refl heading h stands told
@@ -83,7 +93,9 @@ pub take-requires-clause-known : goal.take-requires-clause-known
 take-requires-clause-known c = of_state c.requires.2 c.requires.3
 
 pub take-requires-clause-room : goal.take-requires-clause-room
-take-requires-clause-room c = (c.shortcut.ensures.shared c.in-Shared.reading c.in-Shared.is).room
+take-requires-clause-room c =
+    let shared = c.shortcut.ensures.shared c.in-Shared.reading c.in-Shared.is in
+    (shared.room, none-added c.args.self.now.registers.in_order shared.by_values)
 
 pub take-requires-clause-listed : goal.take-requires-clause-listed
 take-requires-clause-listed c =
@@ -148,11 +160,17 @@ returns-in_err-judge-clause-judged c = λ heading h stands told.
     rw (p.1, p.2) (write-judged c.laws_below.ensures c.args.self.now c.args.pe c.args.reg c.args.value c.args.null _ _
     c.deref.result.now (of_state c.requires.2 c.requires.3) (sym c.is_wrong_write.ensures ∙ c.if-is_wrong_write.false)
     c.tag_number-number.ensures c.in_ok-root.ensures.named c.in_ok-root.ensures.found
-    (c.deref.ensures ∙ c.in-Ok.ensures) heading h stands told (Err c.in_err-judge.field-0.0)
+    (c.deref.ensures ∙ c.in-Ok.ensures.after) heading h stands told (Err c.in_err-judge.field-0.0)
     c.in_err-judge.ensures)
 
 pub take-requires-2-clause-known : goal.take-requires-2-clause-known
 take-requires-2-clause-known c = of_state c.requires.2 c.requires.3
+
+pub take-requires-2-clause-room : goal.take-requires-2-clause-room
+take-requires-2-clause-room c =
+    let heading = c.requires.0 in
+    space c.args.self.now heading (c.laws_below.ensures heading) c.requires.1 c.requires.2 c.args.pe c.requires.3 c.args.reg
+    c.in_ok-judge.ensures.1 c.readings_with.ensures.fits
 
 pub returns-clause-taken : goal.returns-clause-taken
 returns-clause-taken c =
@@ -174,7 +192,7 @@ returns-clause-taken c =
     } in
     write-taken c.laws_below.ensures old pe c.args.reg c.args.value c.args.null _ _ seen
     (of_state c.requires.2 c.requires.3) (sym c.is_wrong_write.ensures ∙ c.if-is_wrong_write.false)
-    c.tag_number-number.ensures c.in_ok-root.ensures.named c.in_ok-root.ensures.found (c.deref-3.ensures ∙ c.in-Ok.ensures)
+    c.tag_number-number.ensures c.in_ok-root.ensures.named c.in_ok-root.ensures.found (c.deref-3.ensures ∙ c.in-Ok.ensures.after)
     c.take-2.new.self
     (record {
       loads = told.loads;
@@ -200,7 +218,7 @@ returns-clause-judged c = λ heading h stands told.
     write-judged c.laws_below.ensures c.args.self.now c.args.pe c.args.reg c.args.value c.args.null _ _ c.deref.result.now
     (of_state c.requires.2 c.requires.3) (sym c.is_wrong_write.ensures ∙ c.if-is_wrong_write.false)
     c.tag_number-number.ensures c.in_ok-root.ensures.named c.in_ok-root.ensures.found
-    (c.deref.ensures ∙ c.in-Ok.ensures) heading h stands told (Ok tt) c.in_ok-judge.ensures
+    (c.deref.ensures ∙ c.in-Ok.ensures.after) heading h stands told (Ok tt) c.in_ok-judge.ensures
 
 pub returns-in-Err-make_room-clause-kept : goal.returns-in-Err-make_room-clause-kept
 returns-in-Err-make_room-clause-kept c = same-kept c.args.self.now _ refl refl refl refl refl refl
