@@ -32,8 +32,8 @@ module _ (registers : Registers) (p : ℕ) where
 
   -- by what the readings of the first register go after a write of the value
   abbrev pub firsts_with : Reg → RootValue → List RootValue
-  firsts_with reg load =
-      firsts_written registers.in_order (is_first reg) load (loads_in registers.first.items p) (other_loads reg) standings_of
+  firsts_with reg load = firsts_written registers.in_order (is_first reg) load (loads_in registers.first.items p)
+      (other_loads reg) standings_of
 
   -- what is readable after a write of the value
   abbrev pub readings_after : Reg → RootValue → List Reading

@@ -78,7 +78,8 @@ pub record PutsLoad (pe : ℕ) (reg : Reg) (load : RootValue) (old new : Registe
   pub second : (p : ℕ) → loads_in new.second.items p ≡ (if nat_eq p pe && not (is_first reg)
       then load ∷ loads_in old.second.items p else loads_in old.second.items p)
   pub standings : (p : ℕ) → standings_of new p ≡ (if nat_eq p pe && old.in_order
-      then new_standing (is_first reg) load (front (other_loads old p reg)) ∷ standings_of old p else standings_of old p)
+      then new_standing (is_first reg) load (front (other_loads old p reg)) ∷ standings_of old p
+      else standings_of old p)
   pub same : SameSizes old new
 
 -- the newest values of the PE's registers are left, and its newest standing, where readings go by them

@@ -45,8 +45,8 @@ pub record IsSettled (pe : ℕ) (reg : Reg) (load : RootValue) (roots : Roots) :
   pub quiet : IsQuiet roots.pendings
   pub held : holds_new roots.holds pe (world_of roots) (is_first reg) load (other_loads roots.registers pe reg) ≡ true
 
--- A write of the value makes one tag readable anew, which its root holds at some PE: readings don't go by standings, the
--- register isn't full, and no TLBI waits.
+-- A write of the value makes one tag readable anew, which its root holds at some PE: readings don't go by standings,
+-- the register isn't full, and no TLBI waits.
 pub record IsShared (pe : ℕ) (reg : Reg) (load : RootValue) (reading : Reading) (roots : Roots) : Type 0 where
   pub by_values : roots.registers.in_order ≡ false
   pub room : length (loads_of roots.registers pe reg) < 9

@@ -17,7 +17,8 @@ use Rattle.bbm_histories.specs.HistorySteps.{tag_waits}
 use Rattle.bbm_roots.specs.Columns.{loads_in}
 use Rattle.bbm_roots.specs.Holds.{hold_in, kept_in, left_in}
 use Rattle.bbm_roots.specs.RootPendings.{has_pending, pending_in, EachLost}
-use Rattle.bbm_roots.specs.RootRegisters.{first_reg, in_order, loads_after, reading_world, second_reg, standings_after}
+use Rattle.bbm_roots.specs.RootRegisters.{first_reg, in_order, loads_after, reading_world, second_reg}
+use Rattle.bbm_roots.specs.RootRegisters.{standings_after}
 use Rattle.bbm_roots.specs.declared.named.NamedTlbi.{NamedTlbi}
 use Rattle.bbm_roots.specs.declared.roots.Roots.{Roots}
 
@@ -29,11 +30,11 @@ abbrev pub world_of : Roots → World
 world_of roots = roots.registers.world
 
 -- The roots stand for the history of a log with this header, which keeps the rules over all patterns of events: they
--- keep what the readable values of each register name, and, where ASIDs go by them, the readable standings, the declared
--- roots, at which PEs a root holds a tag or one that
--- was given up left it, and, where a tag is held or left, which unanswered TLBIs are about to take it away, and who
--- holds each lock. Where they keep that no root was declared with a lock, no declared root has one. Of the history it
--- says besides that no PE that the log doesn't have wrote a register.
+-- keep what the readable values of each register name, what the readable standings give, where readings go by them, the
+-- declared roots, at which PEs a root holds a tag or one that was given up left it, and, where a tag is held or left,
+-- which unanswered TLBIs are about to take it away, and who holds each lock. Where they keep that no root was declared
+-- with a lock, no declared root has one. Of the history it says besides that no PE that the log doesn't have wrote a
+-- register.
 pub record Stands (roots : Roots) (heading : Heading) (h : List Event) : Type 0 where
   pub header : roots.header ≡ heading
   pub proper : heading_ok heading ≡ true

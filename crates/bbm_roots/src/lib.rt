@@ -5,15 +5,15 @@
 //! register, and the ISBs, DSBs and TLBIs of each PE:
 //!
 //! - Keep one `Roots`, at first `Roots::new` of the header.
-//! - At each root that comes call `prepare` and `declare`, and at each that goes `judge_unroot` and `retire`. Other rules
-//!   on a `root`, as that its pages are fresh, are judged elsewhere.
+//! - At each root that comes call `prepare` and `declare`, and at each that goes `judge_unroot` and `retire`. Other
+//!   rules on a `root`, as that its pages are fresh, are judged elsewhere.
 //! - At each TLBI call `judge_tlbi`, `prepare_issue` and `issue_ready`.
-//! - At each write of a root register call `write_reg`, at each ISB and DSB `isb` and `complete`, and at each lock that a
-//!   PE takes or gives back `lock` and `unlock`. They judge and take in one.
+//! - At each write of a root register call `write_reg`, at each ISB and DSB `isb` and `complete`, and at each lock that
+//!   a PE takes or gives back `lock` and `unlock`. They judge and take in one.
 //! - A call that is refused changes nothing. `StepFault` of `bbm_rules` says why it was; of a call that may want memory
 //!   alone `NoMemory` does.
-//! - `vmid_of`, `tags_of`, `lock_of`, `holder_of`, `is_root`, `is_declared`, `count` and `nth` tell what the events of the
-//!   accepted calls come to.
+//! - `vmid_of`, `tags_of`, `lock_of`, `holder_of`, `is_root`, `is_declared`, `count` and `nth` tell what the events of
+//!   the accepted calls come to.
 //!
 //! Each contract speaks of the events of a history, by `Stands`, in the words of `bbm_rules`. The history keeps the
 //! rules, and so a call that takes an event asks no more of it than that it breaks none. `first_root` is an example of

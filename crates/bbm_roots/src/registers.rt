@@ -21,8 +21,8 @@ use std::alloc::Global;
 /// made its own by an ISB, and eight written since.
 pub type Loads = ArrayVec<RootValue, 9>;
 
-/// The readable standings of a PE, the newest first: one that it starts with or made its own by an ISB, and one for each
-/// of eight values of each register written since.
+/// The readable standings of a PE, the newest first: one that it starts with or made its own by an ISB, and one for
+/// each of eight values of each register written since.
 pub type Standings = ArrayVec<RootValue, 17>;
 
 /// The values of one register of a PE that may still be in use, or its readable standings, the newest first.

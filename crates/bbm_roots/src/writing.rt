@@ -104,8 +104,8 @@ impl Roots {
         self.registers.put(pe, reg, *load);
     }
 
-    /// What is known of a write of this value, where readings don't go by standings, the register isn't full and no TLBI
-    /// waits: that it changes the register alone, since the PE holds each tag, for its root, that the value makes
+    /// What is known of a write of this value, where readings don't go by standings, the register isn't full and no
+    /// TLBI waits: that it changes the register alone, since the PE holds each tag, for its root, that the value makes
     /// readable anew; or that this one tag is all that it makes readable anew, and held by its root.
     fn shortcut(&self, pe: Pe, reg: Reg, load: &RootValue) -> Shortcut
         requires { pe < pes_of self.now }
