@@ -3,7 +3,7 @@ use Rattle.bbm_cert.proofs.Common.{and-false, ends_some, has, is_lost, stays_kep
 use Rattle.bbm_rules.proofs.Common.{◌≡◌, ℕ, ◌<◌, ◌+◌, Bool, true, false, not, ◌&&◌, ◌||◌, ◌==◌, List, [], ◌∷◌, length}
 use Rattle.bbm_rules.proofs.Common.{take, get_or, refl, sym, ◌∙◌, ap, true≢false, or_left, list_any_more, list_any}
 use Rattle.bbm_rules.proofs.Common.{proved, If, Is, Claim, changes, same_tag, Listed, Tag, Heading, Event, Dsb, Reading}
-use Rattle.bbm_rules.proofs.Common.{Unroot, ends, gives_up, holds_at, left_at, loses, reads, reads_for_some, readings_in}
+use Rattle.bbm_rules.proofs.Common.{Unroot, ends, gives_up, holds_at, left_at, loses, reads, reads_for_some, readings}
 use Rattle.bbm_cert.specs.Holdings.{is_holding, next_has, next_left}
 use Rattle.bbm_cert.specs.declared.holdings.Loss.{Loss}
 use Rattle.bbm_oracle_tags.proofs.MomentLemmas.{same-readings}
@@ -36,7 +36,7 @@ module _ (heading : Heading) (known : Known heading) (claims : List Claim) (p ro
   read_held [] k =
       absurd (true≢false (sym k
       ∙ ap (λ (rs : List Reading). list_any (λ r. same_tag r.tag tag && r.root == root) rs)
-      (no_reading heading.world p)))
+      (no_reading heading.words.inorder heading.world p)))
   read_held (e ∷ h) k =
       or_left (reads heading (e ∷ h) p tag root) (holds_at heading (Listed claims) p root tag h
       && not (ends heading (Listed claims) p root tag e h)) k
@@ -84,9 +84,9 @@ module _ (heading : Heading) (known : Known heading) (claims : List Claim) (p ro
       (If (If (Is r true) (Is l false)) (Is (((b && not l) && not g) || (c && r)) (r || (b && not (g || l))))))) refl
       change read before (loses heading (Listed claims) p tag e h) (gives_up root e) (none_up e)
       (λ c r. read_held h (sym (ap (λ (rs : List Reading). list_any (λ r. same_tag r.tag tag && r.root == root) rs)
-      (same-readings heading.world e h p c)) ∙ r))
+      (same-readings heading e h p c)) ∙ r))
       (λ r. lost_is e h ∙ ap (λ (b : Bool). ends_some heading claims p tag e h && not b)
-      (read_some (readings_in heading.world (e ∷ h) p) r)
+      (read_some (readings heading (e ∷ h) p) r)
       ∙ and-false (ends_some heading claims p tag e h))
 
   pub left_next : (e : Event) (h : List Event) (losses : List Loss) (held left : List Holding)

@@ -113,10 +113,10 @@ module _ (heading : Heading) (p : ℕ) (tag : Tag) where
           or-false (lasts spans p tag n)
           ∙ so_far
           ∙ ap (λ (b : Bool). b || read_since heading n p tag h)
-          (sym (ap (λ (rs : List Reading). list_any (λ r. same_tag r.tag tag) rs) (same-readings heading.world e h p k)))
+          (sym (ap (λ (rs : List Reading). list_any (λ r. same_tag r.tag tag) rs) (same-readings heading e h p k)))
           ∙ sym (same_twice (nat_le n (length h)) read (read_since heading n p tag h))
 
   -- at the start
   pub nothing_lasts : (n : ℕ) → false ≡ read_after heading p tag n []
   nothing_lasts n =
-      sym (ap (λ (rs : List Reading). list_any (λ r. same_tag r.tag tag) rs || false) (no_reading heading.world p))
+      sym (ap (λ (rs : List Reading). list_any (λ r. same_tag r.tag tag) rs || false) (no_reading heading.words.inorder heading.world p))
