@@ -1,7 +1,7 @@
 -- Each step of a run over a log fits the header of the log.
 use Rattle.bbm_counterrun.proofs.Common.{Kind, Step, Machine, Entry, IsRun, Living, State, IsLog, started, written_at}
-use Rattle.bbm_rules.proofs.Common.{◌≡◌, ℕ, suc, ◌^◌, ◌<◌, ◌≤◌, arith, true, nat_lt, ◌==◌, List, [], ◌∷◌, length, find}
-use Rattle.bbm_rules.proofs.Common.{not, Some, None, option_map, inl, inr, ◌⊎◌, zero, refl, sym, ◌∙◌, ap, subst}
+use Rattle.bbm_rules.proofs.Common.{◌≡◌, ℕ, suc, ◌^◌, ◌<◌, ◌≤◌, arith, Bool, true, false, ◌++◌, nat_lt, ◌==◌, List, [], ◌∷◌, length, find}
+use Rattle.bbm_rules.proofs.Common.{not, Some, None, option_map, inl, inr, ◌⊎◌, Contains, zero, refl, sym, ◌∙◌, ap, subst}
 use Rattle.bbm_rules.proofs.Common.{suc-le-suc, and_from, and_parts, lt-ltb, ltb-true, In, in_right, from_filter}
 use Rattle.bbm_rules.proofs.Common.{to_contains, among, every, El2, S2, Ttbr0, Ttbr1, Start, Extend, Combine, Share}
 use Rattle.bbm_rules.proofs.Common.{Drop, Heading, Event, Write, Msr, is_readable, register_values, tag_number}
@@ -16,7 +16,8 @@ use Rattle.bbm_events.specs.Machine.{is_entry, is_tag, machine_fits}
 use Rattle.bbm_events.specs.declared.machine.MachineLine.{MachineLine}
 use Rattle.bbm_rules.specs.Prelude.{AsidFrom, FromTtbr0, FromTtbr1, Reg, Ttbr0El1, Ttbr1El1, VttbrEl2, World, Hyp}
 use Rattle.bbm_rules.specs.Prelude.{Kernel}
-use Rattle.bbm_rules.specs.Sentences.{ReadableRegister, register_value}
+use Rattle.bbm_rules.specs.RegisterValues.{Standing, standings}
+use Rattle.bbm_rules.specs.Sentences.{ReadableRegister, ReadableStanding, register_value}
 use Rattle.bbm_rules.specs.TagLaws.{ReadsBySentence}
 use Rattle.bbm_rules.specs.TagSentences.{GivesAsid, Names, ReadsTag}
 use Rattle.bbm_tlb_machine.specs.declared.step.Step.TheVariants.{Event as Taken}
@@ -28,11 +29,12 @@ use Rattle.bbm_counterrun.proofs.LastStep.{grows_by}
 use Rattle.bbm_counterrun.proofs.LeastGoals.{written, zero_is_invalid}
 use Rattle.bbm_rules.proofs.TagLaw.{tag_small}
 
--- the laws of readable registers and tags
+-- the laws of readable registers, standings and tags
 pub record TagReads (heading : Heading) : Type 0 where
   pub tags : ReadsBySentence heading
   pub registers : (h : List Event) (p : ℕ) (reg : Reg) (value : ℕ) → among value (register_values h p reg) ≡ true
       → ReadableRegister h p reg value
+  pub stood : (h : List Event) (p : ℕ) (s : Standing) → Contains (standings h p) s → ReadableStanding h p s
 
 -- ---- what is written
 
@@ -112,23 +114,30 @@ module _ (heading : Heading) (laws : TagReads heading) where
         let a = and_parts _ _ (log.events (Write w.0 place value) (to_contains h _ w.1)) in
         ((and_parts _ _ a.0).1, a.1)
 
-    -- what a register may be read as, but for 0, was written by a PE of the header
-    msr_fits : (p : ℕ) (reg : Reg) (value : ℕ) → among value (register_values h p reg) ≡ true → (value ≡ 0 → ⊥)
-        → (p < heading.pes) × (value < 2 ^ 64)
-    msr_fits p reg value k other =
-        let r = laws.registers h p reg value k in
-        let w = in_msr r.older p reg value r.had other in
+    -- what a register held, but for 0, was written by a PE of the header
+    msr_fits : (p : ℕ) (reg : Reg) (value : ℕ) (newer older : List Event) → h ≡ newer ++ older → register_value older p reg ≡ value
+        → (value ≡ 0 → ⊥) → (p < heading.pes) × (value < 2 ^ 64)
+    msr_fits p reg value newer older split had other =
+        let w = in_msr older p reg value had other in
         let wrote : Event = Msr p w.0 value in
         let a = and_parts _ _ (log.events wrote
-        (to_contains h wrote (subst (λ (es : List Event). In es wrote) (sym r.split) (in_right r.newer r.older wrote w.1)))) in
+        (to_contains h wrote (subst (λ (es : List Event). In es wrote) (sym split) (in_right newer older wrote w.1)))) in
         (ltb-true p heading.pes a.0, ltb-true value (2 ^ 64) a.1)
 
+    below : (p : ℕ) (reg : Reg) (value : ℕ) (newer older : List Event) → h ≡ newer ++ older → register_value older p reg ≡ value
+        → value < 2 ^ 64
+    below p reg zero newer older split had = ltb-true 0 (2 ^ 64) refl
+    below p reg (suc value) newer older split had =
+        (msr_fits p reg (suc value) newer older split had (λ e. omega (arith, e))).1
+
     readable_below : (p : ℕ) (reg : Reg) (value : ℕ) → among value (register_values h p reg) ≡ true → value < 2 ^ 64
-    readable_below p reg zero k = ltb-true 0 (2 ^ 64) refl
-    readable_below p reg (suc value) k = (msr_fits p reg (suc value) k (λ e. omega (arith, e))).1
+    readable_below p reg value k =
+        let r = laws.registers h p reg value k in below p reg value r.newer r.older r.split r.had
 
     names_pe : (p : ℕ) (reg : Reg) (root value : ℕ) → Names h p reg root value → p < heading.pes
-    names_pe p reg root value n = (msr_fits p reg value n.readable (λ zero. none_based (ap base_of (sym zero) ∙ n.base))).0
+    names_pe p reg root value n =
+        let r = laws.registers h p reg value n.readable in
+        (msr_fits p reg value r.newer r.older r.split r.had (λ zero. none_based (ap base_of (sym zero) ∙ n.base))).0
       where
         none_based : None ≡ Some root → ⊥
         none_based e = cc
@@ -136,31 +145,34 @@ module _ (heading : Heading) (laws : TagReads heading) where
     small : (number value : ℕ) → tag_number value ≡ number → value < 2 ^ 64 → nat_lt number (2 ^ 16) ≡ true
     small number value same below = ap (λ (n : ℕ). nat_lt n (2 ^ 16)) (sym same) ∙ tag_small value below
 
-    asid_below : (p : ℕ) (from : AsidFrom) (value number : ℕ) → among value (register_values h p Ttbr0El1) ≡ true
-        → GivesAsid from h p value number → number < 2 ^ 64
-    asid_below p FromTtbr0 value number readable same = rw same (readable_below p Ttbr0El1 value readable)
-    asid_below p FromTtbr1 value number readable gives = readable_below p Ttbr1El1 number gives
+    asid_below : (order : Bool) (from : AsidFrom) (p value number : ℕ) → among value (register_values h p Ttbr0El1) ≡ true
+        → GivesAsid order from h p value number → number < 2 ^ 64
+    asid_below order FromTtbr0 p value number readable same = rw same (readable_below p Ttbr0El1 value readable)
+    asid_below true FromTtbr1 p value number readable gives =
+        let r = laws.stood h p (record { first = value; second = number }) gives in
+        below p Ttbr1El1 number r.newer r.older r.split (ap (λ (s : Standing). s.second) r.had)
+    asid_below false FromTtbr1 p value number readable gives = readable_below p Ttbr1El1 number gives
 
-    reads_fit : (world : World) (kind : Kind) (now p number place value root : ℕ)
-        → ReadsTag world h p (tag_of_entry (started heading now p kind number place value)) root
+    reads_fit : (order : Bool) (world : World) (kind : Kind) (now p number place value root : ℕ)
+        → ReadsTag order world h p (tag_of_entry (started heading now p kind number place value)) root
         → has_number world h p kind number ≡ true → (p < heading.pes) × (is_tag kind number ≡ true)
-    reads_fit (Hyp w) El2 now p number place value root k has = (names_pe p _ root k.0 k.1, has)
-    reads_fit (Hyp w) S2 now p number place value root k has =
+    reads_fit order (Hyp w) El2 now p number place value root k has = (names_pe p _ root k.0 k.1, has)
+    reads_fit order (Hyp w) S2 now p number place value root k has =
         (names_pe p _ root k.0 k.1, small number k.0 k.2 (readable_below p VttbrEl2 k.0 k.1.readable))
-    reads_fit (Kernel w) Ttbr0 now p number place value root k has =
-        (names_pe p _ root k.0 k.2, small number k.1 k.4 (asid_below p w.asid_from k.0 k.1 k.2.readable k.3))
-    reads_fit (Kernel w) Ttbr1 now p number place value root k has =
+    reads_fit order (Kernel w) Ttbr0 now p number place value root k has =
+        (names_pe p _ root k.0 k.2, small number k.1 k.4 (asid_below order w.asid_from p k.0 k.1 k.2.readable k.3))
+    reads_fit order (Kernel w) Ttbr1 now p number place value root k has =
         let values : List ℕ = register_values h p (asid_register w.asid_from) in
         let m = from_map tag_number values number (in_among number _ has) in
         (names_pe p _ root k.0 k.1, small number m.0 m.2 (readable_below p (asid_register w.asid_from) m.0 (among_in m.0 values m.1)))
-    reads_fit _ _ now p number place value root k has = absurd k
+    reads_fit order _ _ now p number place value root k has = absurd k
 
     start_fits : (p : ℕ) (kind : Kind) (number place value : ℕ)
         → Starts heading h (started heading (length h) p kind number place value) number
         → machine_fits heading (Start p kind number place value) ≡ true
     start_fits p kind number place value s =
         let x : Entry = started heading (length h) p kind number place value in
-        let r = reads_fit heading.world kind (length h) p number place value x.root
+        let r = reads_fit heading.words.inorder heading.world kind (length h) p number place value x.root
         (laws.tags.sound h p (tag_of_entry x) x.root s.tag) s.numbered in
         let f = read_fits place p value kind x.last.level s.readable s.valid in
         and_from _ _ (and_from _ _ (and_from _ _ (lt-ltb p heading.pes r.0) r.1) f.0) f.1

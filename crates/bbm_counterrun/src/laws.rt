@@ -17,7 +17,7 @@ ghost use Rattle.bbm_tlb_machine.specs.declared.step.Step.{Step};
 
 use crate::least_list::law_least_reads;
 use bbm_histories::law_proper;
-use bbm_rules::{law_readable_register, law_readable_tag};
+use bbm_rules::{law_readable_register, law_readable_standing, law_readable_tag};
 use bbm_tlb_machine::{law_conflict, law_run, law_safe};
 
 /// The run of a plan is a plain conflict run at an event exactly where the test of the plan passes. The law
@@ -75,5 +75,6 @@ pub fn law_steps_fit()
         IsRun heading steps s → every (step_fits heading) steps ≡ true }
 {
     law_readable_register();
+    law_readable_standing();
     law_readable_tag();
 }
