@@ -1,11 +1,11 @@
 -- The pages of a root: they lie below 2 ^ 48, and where none is found that isn't fresh, each is fresh.
 use Rattle.bbm_replay.proofs.Common.{input_pages, S2, Heading, third_true}
-use Rattle.bbm_events.specs.Heading.{words_ok}
-use Rattle.bbm_rules.proofs.Common.{◌≡◌, ℕ, zero, suc, ◌+◌, ◌*◌, ◌%◌, ◌^◌, ◌<◌, ◌≤◌, Bool, true, false, cond, not, ◌&&◌}
+use Rattle.bbm_events.proofs.Written.{ranges}
+use Rattle.bbm_rules.proofs.Common.{◌≡◌, ℕ, zero, suc, ◌+◌, ◌*◌, ◌%◌, ◌^◌, ◌<◌, ◌≤◌, Bool, true, false, cond, not}
 use Rattle.bbm_rules.proofs.Common.{◌||◌, ◌==◌, nat_le, nat_lt, List, [], ◌∷◌, length, Contains, slice_index_or, None}
 use Rattle.bbm_rules.proofs.Common.{filter, refl, sym, subst, arith, not-suc-le-zero, le_of_suc-le-suc, and_parts}
 use Rattle.bbm_rules.proofs.Common.{eqb-true, ltb-true, are_s2_pages, page_count, world_ok, Kind}
-use Rattle.bbm_rules.proofs.Common.{is_page, is_root_page, are_pes, heading_ok, is_version, may_share, least, Node}
+use Rattle.bbm_rules.proofs.Common.{is_page, is_root_page, heading_ok, least, Node}
 use Rattle.bbm_rules.proofs.Common.{nodes_of_pages, fits_heading, is_pe, is_root_lock, Root, Option}
 use Rattle.bbm_regimes.specs.declared.regime.World.{World}
 use Rattle.bbm_regimes.specs.declared.regime.World.TheVariants.{Hyp, Kernel}
@@ -42,8 +42,7 @@ room_for heading pe kind lock page ok fits =
     let both = and_parts (is_page page) (page % (4096 * page_count heading.world kind) == 0)
     (third_true (is_pe heading pe) (is_root_lock lock) (is_root_page heading.world kind page) fits) in
     let inside = and_parts (nat_lt page (2 ^ 48)) (page % 4096 == 0) both.0 in
-    counted heading.world kind (and_parts (is_version heading.version && are_pes heading.version heading.pes
-    && (may_share heading.version || not heading.cnp) && words_ok heading.version heading.words) (world_ok heading.world) ok).1
+    counted heading.world kind (ranges heading ok).world
     page (ltb-true page (2 ^ 48) inside.0) (eqb-true (page % (4096 * page_count heading.world kind)) 0 both.1)
 
 module _ (fresh : ℕ → Bool) where
