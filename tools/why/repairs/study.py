@@ -118,8 +118,8 @@ class Repairer:
 
     def found_with(self, tries: Iterable[Family], before: list[Repair]) -> list[Repair]:
         """Changes that pass, of which none shares an edit's site with one before: an ISB alone first, then those with which the
-        whole log gets furthest, of these those that alter no repeat, those next to the break, and moves last where it isn't about
-        tags. Those that borrow another place's flush are kept apart."""
+        whole log gets furthest, of these those that alter no repeat, those next to the break, those by address, and moves last
+        where it isn't about tags. Those that borrow another place's flush are kept apart."""
         found: list[Repair] = []
         for family in tries:
             known = [repair.change for repair in (*before, *found)]
@@ -131,7 +131,8 @@ class Repairer:
             if len(found) == RANKED or len(self.failed) >= MOST_FAILED:
                 break
         return sorted(found, key=lambda repair: (not repair.change.synchronises, -repair.reach, self.alters_repeat(repair.change),
-                                                 self.farness(repair.change), repair.change.moves and not is_about_tags(self.scene)))
+                                                 self.farness(repair.change), bool(repair.change.idea),
+                                                 repair.change.moves and not is_about_tags(self.scene)))
 
     def search(self) -> list[Repair]:
         """At most three repairs, the smallest first, and of one size those with which the whole log gets furthest."""
