@@ -8,8 +8,11 @@ use Rattle.bbm_rules.proofs.Common.{Patterns, noted, ValidWrite, Noted, events_o
 use Rattle.bbm_rules.proofs.Common.{Reg, Tag, El2Tag, Vmid, Asid, Ttbr1Tag, Ttbr0El2, VttbrEl2, Ttbr0El1, Ttbr1El1}
 use Rattle.bbm_rules.proofs.Common.{World, Hyp, Kernel, AsidFrom, FromTtbr0, FromTtbr1, Reading, asid_readings}
 use Rattle.bbm_rules.proofs.Common.{readings, readings_in, readings_of, tag_number, register_values, same_reg, base_of}
-use Rattle.bbm_rules.proofs.Common.{is_root, kind_of_reg, In, bind_some, proved, If, Is}
-use Rattle.bbm_rules.specs.Tags.{reading_of}
+use Rattle.bbm_rules.proofs.Common.{is_root, kind_of_reg, In, Some, bind_some, proved, If, Is}
+use Rattle.bbm_rules.proofs.RegisterLaw.{first}
+use Rattle.bbm_rules.proofs.StandingSentence.{standing_sound}
+use Rattle.bbm_rules.specs.RegisterValues.{Standing, register_value, standings}
+use Rattle.bbm_rules.specs.Tags.{reading_of, second_readings, standing_reading}
 use Rattle.bbm_events.specs.Certificate.{is_claim, is_position, is_tag}
 use Rattle.bbm_lemmas.proofs.Bools.{first_true}
 use Rattle.bbm_lemmas.proofs.Elements.{from_filter_map, from_flat, from_map}
@@ -110,38 +113,63 @@ module _ (heading : Heading) where
       by false j = j
   value_fits (e ∷ h) p reg v fit i = value_fits h p reg v (λ x j. fit x (inr j)) i
 
+  fits_at : (h : List Event) (reg : Reg) (tag : ℕ → Tag) (v : ℕ) (r : Reading) → is_tag (tag v) ≡ true
+      → reading_of h reg tag v ≡ Some r → is_tag r.tag ≡ true
+  fits_at h reg tag v r fit given =
+      let b = bind_some (λ (base : ℕ). if_so (is_root h (kind_of_reg reg) base) (record { tag = tag v; root = base }))
+      (base_of v) r given in
+      let is = if_so_some (is_root h (kind_of_reg reg) b.0) (record { tag = tag v; root = b.0 }) r b.2 in
+      ap (λ (x : Reading). is_tag x.tag) is.1 ∙ fit
+
   fits_of : (h : List Event) (p : ℕ) (reg : Reg) (tag : ℕ → Tag) (r : Reading)
       → ((v : ℕ) → In (register_values h p reg) v → is_tag (tag v) ≡ true) → In (readings_of h p reg tag) r
       → is_tag r.tag ≡ true
   fits_of h p reg tag r each i =
       let k = from_filter_map (reading_of h reg tag) (register_values h p reg) r i in
-      let b = bind_some (λ (base : ℕ). if_so (is_root h (kind_of_reg reg) base) (record { tag = tag k.0; root = base }))
-      (base_of k.0) r k.2 in
-      let is = if_so_some (is_root h (kind_of_reg reg) b.0) (record { tag = tag k.0; root = b.0 }) r b.2 in
-      ap (λ (x : Reading). is_tag x.tag) is.1 ∙ each k.0 k.1
+      fits_at h reg tag k.0 r (each k.0 k.1) k.2
 
-  asid_fits : (from : AsidFrom) (h : List Event) (p : ℕ) (r : Reading) → AllFit h → In (asid_readings from h p) r
+  -- the value that a register of a standing has was readable when it was written
+  standing_fits : (h : List Event) (p : ℕ) (s : Standing) → AllFit h → In (standings h p) s → s.second < 2 ^ 64
+  standing_fits h p s fit i =
+      let k = standing_sound h p s (to_contains (standings h p) s i) in
+      let value : ℕ = register_value k.older p Ttbr1El1 in
+      let same : value ≡ s.second = ap (λ (x : Standing). x.second) k.had in
+      let below = value_fits k.older p Ttbr1El1 value
+      (λ e j. fit e (subst (λ (es : List Event). In es e) (sym k.split) (in_right k.newer k.older e j)))
+      (in_first (register_values k.older p Ttbr1El1) value
+      (subst (λ (vs : List ℕ). In vs value) (sym (first p Ttbr1El1 k.older)) (inl refl))) in
+      omega (arith, same, below)
+
+  second_fits : (inorder : Bool) (h : List Event) (p : ℕ) (r : Reading) → AllFit h → In (second_readings inorder h p) r
       → is_tag r.tag ≡ true
-  asid_fits FromTtbr0 h p r fit i =
-      fits_of h p Ttbr0El1 (λ value. Asid (tag_number value)) r (λ v j. tag_small v (value_fits h p Ttbr0El1 v fit j)) i
-  asid_fits FromTtbr1 h p r fit i =
+  second_fits true h p r fit i =
+      let k = from_filter_map (standing_reading h) (standings h p) r i in
+      fits_at h Ttbr0El1 (λ value. Asid (tag_number k.0.second)) k.0.first r
+      (tag_small k.0.second (standing_fits h p k.0 fit k.1)) k.2
+  second_fits false h p r fit i =
       let k = from_flat (λ from. readings_of h p Ttbr0El1 (λ value. Asid (tag_number from)))
       (register_values h p Ttbr1El1) r i in
       fits_of h p Ttbr0El1 (λ value. Asid (tag_number k.0)) r (λ v j. tag_small k.0 (value_fits h p Ttbr1El1 k.0 fit k.1)) k.2
 
+  asid_fits : (inorder : Bool) (from : AsidFrom) (h : List Event) (p : ℕ) (r : Reading) → AllFit h
+      → In (asid_readings inorder from h p) r → is_tag r.tag ≡ true
+  asid_fits inorder FromTtbr0 h p r fit i =
+      fits_of h p Ttbr0El1 (λ value. Asid (tag_number value)) r (λ v j. tag_small v (value_fits h p Ttbr0El1 v fit j)) i
+  asid_fits inorder FromTtbr1 h p r fit i = second_fits inorder h p r fit i
+
   reading_fits : (h : List Event) (p : ℕ) (r : Reading) → AllFit h → In (readings heading h p) r → is_tag r.tag ≡ true
-  reading_fits h p r fit i = by heading.world i
+  reading_fits h p r fit i = by heading.words.inorder heading.world i
     where
-      by : (world : World) → In (readings_in world h p) r → is_tag r.tag ≡ true
-      by (Hyp world) j =
+      by : (inorder : Bool) (world : World) → In (readings_in inorder world h p) r → is_tag r.tag ≡ true
+      by inorder (Hyp world) j =
           elim (in_append (readings_of h p Ttbr0El2 (λ value. El2Tag)) (readings_of h p VttbrEl2 (λ value. Vmid (tag_number value))) r j) [
             | inl k ↦ fits_of h p Ttbr0El2 (λ value. El2Tag) r (λ v l. refl) k
             | inr k ↦ fits_of h p VttbrEl2 (λ value. Vmid (tag_number value)) r
                 (λ v l. tag_small v (value_fits h p VttbrEl2 v fit l)) k
           ]
-      by (Kernel world) j =
-          elim (in_append (asid_readings world.asid_from h p) (readings_of h p Ttbr1El1 (λ value. Ttbr1Tag)) r j) [
-            | inl k ↦ asid_fits world.asid_from h p r fit k
+      by inorder (Kernel world) j =
+          elim (in_append (asid_readings inorder world.asid_from h p) (readings_of h p Ttbr1El1 (λ value. Ttbr1Tag)) r j) [
+            | inl k ↦ asid_fits inorder world.asid_from h p r fit k
             | inr k ↦ fits_of h p Ttbr1El1 (λ value. Ttbr1Tag) r (λ v l. refl) k
           ]
 

@@ -3,8 +3,8 @@ use Rattle.bbm_certify.proofs.Common.{Known, IsCertificate, IsCleansed, IsDue}
 use Rattle.bbm_rules.proofs.Common.{◌≡◌, ℕ, suc, ◌+◌, ◌*◌, ◌<◌, ◌≤◌, Bool, true, false, cond, not, ◌&&◌, ◌==◌, nat_le}
 use Rattle.bbm_rules.proofs.Common.{List, [], ◌∷◌, ◌++◌, length, take, Option, Some, None, refl, sym, ◌∙◌, ap, subst}
 use Rattle.bbm_rules.proofs.Common.{inl, inr, arith, and_parts, eqb-true, leb-false, or_cases, filter_map, flat_map}
-use Rattle.bbm_rules.proofs.Common.{length-append, any_found, are_pes, heading_ok, if_so, ◌||◌, is_version, may_share}
-use Rattle.bbm_rules.proofs.Common.{world_ok, Claim, Place, Two, Taken, keeps, Patterns, cleansed, noted, Noted}
+use Rattle.bbm_rules.proofs.Common.{length-append, any_found, if_so}
+use Rattle.bbm_rules.proofs.Common.{Claim, Place, Two, Taken, keeps, Patterns, cleansed, noted, Noted}
 use Rattle.bbm_rules.proofs.Common.{Barrier, Heading, Event, Isb, Msr, Dsb, Reg, Tag, AsidFrom, FromTtbr0, FromTtbr1}
 use Rattle.bbm_rules.proofs.Common.{World, Hyp, Kernel, Reading, asid_readings, kept_at, loses, readings, readings_in}
 use Rattle.bbm_rules.proofs.Common.{readings_of, reads, register_values, same_tag, same_reg, Ttbr0El1, Ttbr1El1}
@@ -12,12 +12,12 @@ use Rattle.bbm_rules.proofs.Common.{Ttbr0El2, VttbrEl2, Asid, Vmid, El2Tag, Ttbr
 use Rattle.bbm_rules.proofs.Common.{to_contains}
 use Rattle.bbm_lemmas.proofs.Bools.{first_true}
 use Rattle.std.proofs.lemmas.Bool.{cases_Bool}
-use Rattle.bbm_events.specs.Heading.{words_ok}
 use Rattle.bbm_rules.specs.EventLaws.{TestsAreExact}
 use Rattle.bbm_histories.proofs.Induction.{kept_before}
-use Rattle.bbm_rules.proofs.Common.{nat_tests}
 use Rattle.bbm_regimes.specs.declared.regime.Which.TheVariants.{Values}
-use Rattle.bbm_rules.specs.Tags.{reading_of}
+use Rattle.bbm_rules.proofs.RegisterLaw.{first}
+use Rattle.bbm_rules.specs.RegisterValues.{Standing, standing_of, standings}
+use Rattle.bbm_rules.specs.Tags.{reading_of, second_readings, standing_reading}
 use Rattle.bbm_lemmas.proofs.Elements.{split_in}
 use Rattle.std.specs.List.{cons_option}
 use Rattle.std.proofs.lemmas.List.{length-take}
@@ -28,17 +28,7 @@ use Rattle.bbm_certify.proofs.DueNone.{none_due}
 use Rattle.bbm_certify.proofs.DuePlaces.{the_write, unclean}
 use Rattle.bbm_certify.proofs.Knowing.{kept_now, reads_written}
 
--- ---- a log has few PEs and few readable values
-
-pub pes_of : (heading : Heading) → heading_ok heading ≡ true → heading.pes ≤ 128
-pes_of h ok =
-    let front = first_true (is_version h.version && are_pes h.version h.pes && (may_share h.version || not h.cnp) && words_ok h.version h.words) (world_ok h.world) ok in
-    let said = first_true (is_version h.version && are_pes h.version h.pes && (may_share h.version || not h.cnp)) (words_ok h.version h.words) front in
-    let some = first_true (is_version h.version && are_pes h.version h.pes) (may_share h.version || not h.cnp) said in
-    few_pes h.version h.pes (and_parts (is_version h.version) (are_pes h.version h.pes) some).1
-  where
-    few_pes : (version n : ℕ) → are_pes version n ≡ true → n ≤ 128
-    few_pes version n few = grind (arith, nat_tests)
+-- ---- a log has few readable values
 
 -- a register has at most nine readable values in a log that reaches no limit
 room : (n : ℕ) → if_so (nat_le 9 n) Values ≡ None → n < 9
@@ -92,20 +82,74 @@ module _ (tests : TestsAreExact) where
       let values = few_values h p reg within in
       omega (arith, found, values)
 
-  few_asids : (from : AsidFrom) (h : List Event) (p : ℕ) → WithinLimits h → length (asid_readings from h p) ≤ 81
-  few_asids FromTtbr0 h p within =
-      let few = few_of h p Ttbr0El1 (λ value. Asid (tag_number value)) within in omega (arith, few)
-  few_asids FromTtbr1 h p within =
+  -- each register write of the PE makes one value of one register readable, beside the first
+  few_standings : (h : List Event) (p : ℕ) → length (standings h p) + 3
+      ≤ length (register_values h p Ttbr0El2) + length (register_values h p VttbrEl2)
+      + length (register_values h p Ttbr0El1) + length (register_values h p Ttbr1El1)
+  few_standings [] p = omega arith
+  few_standings (Msr pe r value ∷ h) p =
+      by (pe == p) r (standing_of (Msr pe r value ∷ h) p) (few_standings h p)
+    where
+      by : (b : Bool) (r : Reg) (s : Standing) → length (standings h p) + 3
+          ≤ length (register_values h p Ttbr0El2) + length (register_values h p VttbrEl2)
+          + length (register_values h p Ttbr0El1) + length (register_values h p Ttbr1El1)
+          → length (cond b (s ∷ standings h p) (standings h p)) + 3
+          ≤ length (cond (b && same_reg r Ttbr0El2) (value ∷ register_values h p Ttbr0El2) (register_values h p Ttbr0El2))
+          + length (cond (b && same_reg r VttbrEl2) (value ∷ register_values h p VttbrEl2) (register_values h p VttbrEl2))
+          + length (cond (b && same_reg r Ttbr0El1) (value ∷ register_values h p Ttbr0El1) (register_values h p Ttbr0El1))
+          + length (cond (b && same_reg r Ttbr1El1) (value ∷ register_values h p Ttbr1El1) (register_values h p Ttbr1El1))
+      by false r s few = few
+      by true Ttbr0El2 s few = omega (arith, few)
+      by true VttbrEl2 s few = omega (arith, few)
+      by true Ttbr0El1 s few = omega (arith, few)
+      by true Ttbr1El1 s few = omega (arith, few)
+  few_standings (Isb pe ∷ h) p = by (pe == p) (few_standings h p)
+    where
+      one : (reg : Reg) → length (take 1 (register_values h p reg)) ≡ 1
+      one reg = ap length (first p reg h)
+
+      by : (b : Bool) → length (standings h p) + 3
+          ≤ length (register_values h p Ttbr0El2) + length (register_values h p VttbrEl2)
+          + length (register_values h p Ttbr0El1) + length (register_values h p Ttbr1El1)
+          → length (cond b (take 1 (standings h p)) (standings h p)) + 3
+          ≤ length (cond b (take 1 (register_values h p Ttbr0El2)) (register_values h p Ttbr0El2))
+          + length (cond b (take 1 (register_values h p VttbrEl2)) (register_values h p VttbrEl2))
+          + length (cond b (take 1 (register_values h p Ttbr0El1)) (register_values h p Ttbr0El1))
+          + length (cond b (take 1 (register_values h p Ttbr1El1)) (register_values h p Ttbr1El1))
+      by true few =
+          omega (arith, length-take 1 (standings h p), one Ttbr0El2, one VttbrEl2, one Ttbr0El1, one Ttbr1El1)
+      by false few = few
+  few_standings (e ∷ h) p = few_standings h p
+
+  few_seconds : (inorder : Bool) (h : List Event) (p : ℕ) → WithinLimits h → length (second_readings inorder h p) ≤ 81
+  few_seconds true h p within =
+      let found = few_found (standing_reading h) (standings h p) in
+      omega (
+        arith,
+        found,
+        few_standings h p,
+        few_values h p Ttbr0El2 within,
+        few_values h p VttbrEl2 within,
+        few_values h p Ttbr0El1 within,
+        few_values h p Ttbr1El1 within,
+      )
+  few_seconds false h p within =
       let values = few_values h p Ttbr1El1 within in
       let few = few_flat (λ from. readings_of h p Ttbr0El1 (λ value. Asid (tag_number from))) 9 (register_values h p Ttbr1El1)
       (λ from. few_of h p Ttbr0El1 (λ value. Asid (tag_number from)) within) in
       omega (arith, few, values)
 
+  few_asids : (inorder : Bool) (from : AsidFrom) (h : List Event) (p : ℕ) → WithinLimits h
+      → length (asid_readings inorder from h p) ≤ 81
+  few_asids inorder FromTtbr0 h p within =
+      let few = few_of h p Ttbr0El1 (λ value. Asid (tag_number value)) within in omega (arith, few)
+  few_asids inorder FromTtbr1 h p within = few_seconds inorder h p within
+
   few_readings : (heading : Heading) (h : List Event) (p : ℕ) → WithinLimits h → length (readings heading h p) ≤ 90
-  few_readings heading h p within = by heading.world
+  few_readings heading h p within = by heading.words.inorder heading.world
     where
-      by : (world : World) → length (readings_in world h p) ≤ 90
-      by (Hyp world) =
+      by : (inorder : Bool) (world : World) → length (readings_in inorder world h p) ≤ 90
+      by inorder (Hyp world) =
           let one = few_of h p Ttbr0El2 (λ value. El2Tag) within in
           let other = few_of h p VttbrEl2 (λ value. Vmid (tag_number value)) within in
           omega (
@@ -115,14 +159,14 @@ module _ (tests : TestsAreExact) where
             length-append (readings_of h p Ttbr0El2 (λ value. El2Tag))
                 (readings_of h p VttbrEl2 (λ value. Vmid (tag_number value))),
           )
-      by (Kernel world) =
-          let one = few_asids world.asid_from h p within in
+      by inorder (Kernel world) =
+          let one = few_asids inorder world.asid_from h p within in
           let other = few_of h p Ttbr1El1 (λ value. Ttbr1Tag) within in
           omega (
             arith,
             one,
             other,
-            length-append (asid_readings world.asid_from h p)
+            length-append (asid_readings inorder world.asid_from h p)
                 (readings_of h p Ttbr1El1 (λ value. Ttbr1Tag)),
           )
 
