@@ -3,7 +3,7 @@ use Rattle.bbm_cert.proofs.Common.{length-append, note_of, notes_of, Kept, mark_
 use Rattle.bbm_rules.proofs.Common.{◌≡◌, ℕ, suc, ◌+◌, ◌≤◌, ◌<◌, ◌⊎◌, Bool, true, false, cond, ◌==◌, List, [], ◌∷◌, ◌++◌}
 use Rattle.bbm_rules.proofs.Common.{length, take, drop, get_or, reverse, refl, sym, ◌∙◌, ap, arith, inl, inr, eq-eqb}
 use Rattle.bbm_rules.proofs.Common.{ne_eqb, get_or_default, length-reverse, length-take-le, reverse-append}
-use Rattle.bbm_rules.proofs.Common.{take-append-drop, take_more, writes, Noted}
+use Rattle.bbm_rules.proofs.Common.{take-append-drop, take_more, writes, Noted, Event, events_of, reverse_more}
 use Rattle.bbm_cert.proofs.Marked.{Numbered, mark_none}
 use Rattle.bbm_oracle_patterns.proofs.KeptNotes.{length_notes}
 
@@ -19,6 +19,17 @@ split {X} log i k below =
     ∙ reverse-append (take (i + 1) log) (drop (i + 1) log)
     ∙ ap (λ (xs : List X). reverse (drop (i + 1) log) ++ reverse xs) (take_more log i k below)
     ∙ ap (λ (xs : List X). reverse (drop (i + 1) log) ++ xs) (reverse-append (take i log) (get_or log i k ∷ []))
+
+-- the events of one more that is kept
+pub events_more : (log : List Kept) (i : ℕ) (k : Kept) (e : Event) (before after : List Event) → e ≡ k.event
+    → i < length log → k ≡ get_or log i k → reverse before ≡ events_of (notes_of (reverse (take i log)))
+    → after ≡ before ++ e ∷ [] → reverse after ≡ events_of (notes_of (reverse (take (i + 1) log)))
+events_more log i k e before after at less is so_far now =
+    ap reverse now
+    ∙ reverse-append before (e ∷ [])
+    ∙ ap (λ (es : List Event). e ∷ es) so_far
+    ∙ ap (λ (x : Event). x ∷ events_of (notes_of (reverse (take i log)))) at
+    ∙ ap (λ (ks : List Kept). events_of (notes_of ks)) (reverse_more log i k less is)
 
 pub length_before : {X : Type 0} (log : List X) (i : ℕ) → i ≤ length log → length (reverse (take i log)) ≡ i
 length_before log i within = length-reverse (take i log) ∙ length-take-le i log within

@@ -1,5 +1,6 @@
 mod Common
 pub mod Tests
+pub mod OneMore
 pub mod Marked
 pub mod Claimed
 pub mod Kepts

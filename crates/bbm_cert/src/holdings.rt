@@ -206,8 +206,9 @@ fn add(held: &mut Vec<Holding>, pe: Pe, root: u64, tag: Tag) -> Result<(), NoMem
     }
 }
 
-/// Adds what is readable at the PE.
-fn add_readings(held: &mut Vec<Holding>, pe: Pe, readings: &[Reading]) -> Result<(), NoMemory>
+/// Adds that roots hold tags at the PE, those of the readings that aren't there already. `NoMemory` where there is none;
+/// some may be added then.
+pub fn add_readings(held: &mut Vec<Holding>, pe: Pe, readings: &[Reading]) -> Result<(), NoMemory>
     ensures { OnOk result ((p root : ℕ) (tag : TheTag) → has_it held.new.items p root tag
         ≡ (has_it held.old.items p root tag
         || (pe == p && any (λ r. is_same_tag r.tag tag && r.root == root) readings.now))) }
