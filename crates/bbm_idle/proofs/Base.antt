@@ -5,11 +5,12 @@ use Rattle.bbm_rules.proofs.Common.{◌≡◌, ℕ, Bool, true, false, not, ◌&
 use Rattle.bbm_rules.proofs.Common.{find, is_none, is_some, Contains, refl, sym, ◌∙◌, ap, subst, true≢false, and_parts}
 use Rattle.bbm_rules.proofs.Common.{false_from_ne_true, not-true, pe_finds, proved, If, Is, none_of, keeps, changes}
 use Rattle.bbm_rules.proofs.Common.{cleansed, half, seen, note, noted, ValidWrite, last_valid, any, Noted, events_of}
-use Rattle.bbm_rules.proofs.Common.{is_fresh, may_be_fresh, page_of, Barrier, Heading, Event, Dsb, Dmb, Isb, Tlbi, Reg}
-use Rattle.bbm_rules.proofs.Common.{reaches, unanswered, register_values, first_pages, itself, Node, held_at, in_tree}
+use Rattle.bbm_rules.proofs.Common.{is_fresh, may_be_fresh, page_of, Barrier, Heading, Event, Dsb, Dmb, Isb, Tlbi}
+use Rattle.bbm_rules.proofs.Common.{reaches, unanswered, first_pages, itself, Node, held_at, in_tree}
 use Rattle.bbm_rules.proofs.Common.{node_of, written_places}
 use Rattle.bbm_rules.specs.Broken.{broken}
 use Rattle.bbm_rules.specs.Tree.{tree}
+use Rattle.bbm_alike.specs.Alike.{SameRegisters}
 use Rattle.bbm_alike.specs.SameTags.{AnswersNone, SameTags, TakesNone}
 use Rattle.bbm_idle.specs.Idle.{is_idle}
 use Rattle.bbm_idle.proofs.DsbBase.{same_held, same_patterns, same_tree}
@@ -92,7 +93,7 @@ module _ (heading : Heading) where
         let since : item ∷ w'.since ≡ w.since = ap (λ (x : ValidWrite). item ∷ x.since) (sym one) ∙ v.longer in
         subst (λ (s : List Noted). SamePatterns heading place Patterns Patterns s w'.since) since (stay n place value w' t inside holds last')
 
-    alike_by : Quiet e → ((p : ℕ) (reg : Reg) → register_values (e ∷ h) p reg ≡ register_values h p reg)
+    alike_by : Quiet e → SameRegisters (e ∷ h) h
         → tree heading Patterns after ≡ tree heading Patterns before → SameHeld → PatternsStay → SameTags heading Patterns Patterns (e ∷ h) h
         → Alike heading Patterns Patterns (e ∷ h) h
     alike_by quiet registers trees same_held stay tags = record {
@@ -145,7 +146,8 @@ module _ (heading : Heading) where
       → is_idle heading h e ≡ true → Alike heading Patterns Patterns (e ∷ h) h
   unfolding is_idle
   base k h (Dmb pe dsb) kept idle =
-      alike_by k h (Dmb pe dsb) quiet (λ p reg. refl) (same_trees k h (Dmb pe dsb) quiet held) (λ n place t inside. held n place)
+      alike_by k h (Dmb pe dsb) quiet (record { values = λ p reg. refl; standings = λ p. refl })
+      (same_trees k h (Dmb pe dsb) quiet held) (λ n place t inside. held n place)
       (λ n place value w t inside holds last. changeless heading k place item w.since
       (of_dmb heading k place item.covers item.position w.since pe dsb))
       (k.same_tags.dmb Patterns pe dsb h)
@@ -163,7 +165,7 @@ module _ (heading : Heading) where
       alike_by k h (Isb pe) quiet registers (same_trees k h (Isb pe) quiet held) (λ n place t inside. held n place)
       (λ n place value w t inside holds last. changeless heading k place item w.since
       (of_isb heading k place item.covers item.position w.since pe))
-      (k.same_tags.isb Patterns pe h registers)
+      (k.same_tags.isb Patterns pe h registers.values)
     where
       quiet : Quiet (Isb pe)
       quiet = record { values = refl; inits = refl; nulls = refl; roots = refl; locks = refl }
@@ -171,14 +173,15 @@ module _ (heading : Heading) where
       item : Noted
       item = note heading Patterns (noted heading Patterns h) (Isb pe)
 
-      registers : (p : ℕ) (reg : Reg) → register_values (Isb pe ∷ h) p reg ≡ register_values h p reg
-      registers p reg = idle_isb pe p reg h (not-true (wrote_register pe h) idle)
+      registers : SameRegisters (Isb pe ∷ h) h
+      registers = idle_isb pe h (not-true (wrote_register pe h) idle)
 
       held : (n : Node) (place : ℕ) → held_at heading Patterns (noted heading Patterns (Isb pe ∷ h)) n place
           ≡ held_at heading Patterns (noted heading Patterns h) n place
       held n place = k.held_step n.kind n.level place item (noted heading Patterns h) k.proper.some_pe
   base k h (Tlbi pe op xt) kept idle =
-      alike_by k h (Tlbi pe op xt) quiet (λ p reg. refl) (same_trees k h (Tlbi pe op xt) quiet held) (λ n place t inside. held n place)
+      alike_by k h (Tlbi pe op xt) quiet (record { values = λ p reg. refl; standings = λ p. refl })
+      (same_trees k h (Tlbi pe op xt) quiet held) (λ n place t inside. held n place)
       (λ n place value w t inside holds last. changeless heading k place item w.since
       (of_tlbi heading k place item.covers item.position w.since pe op xt (λ p less reached.
       false_from_ne_true (adds (item.covers place) (seen heading place p w.since) (half heading place p w.since)
@@ -202,7 +205,8 @@ module _ (heading : Heading) where
           ≡ held_at heading Patterns (noted heading Patterns h) n place
       held n place = k.held_step n.kind n.level place item (noted heading Patterns h) k.proper.some_pe
   base k h (Dsb pe dsb) kept idle =
-      alike_by k h (Dsb pe dsb) (record { values = refl; inits = refl; nulls = refl; roots = refl; locks = refl }) (λ p reg. refl)
+      alike_by k h (Dsb pe dsb) (record { values = refl; inits = refl; nulls = refl; roots = refl; locks = refl })
+      (record { values = λ p reg. refl; standings = λ p. refl })
       (same_tree heading k h pe dsb kept idle) (same_held heading k h pe dsb kept idle)
       (same_patterns heading k h pe dsb kept idle)
       (k.same_tags.dsb pe dsb h

@@ -102,7 +102,7 @@ read_before : (heading : Heading) (h : List Event) (root : ℕ) (test : Tag → 
 read_before heading [] root test =
     ap (λ (b : Bool). b || false)
     (any_same (λ p. any (passes root test) (readings heading [] p)) (λ p. false) (below heading.pes)
-    (λ p. ap (λ (rs : List Reading). any (passes root test) rs) (no_reading heading.world p)) ∙ any_never (below heading.pes))
+    (λ p. ap (λ (rs : List Reading). any (passes root test) rs) (no_reading heading.words.inorder heading.world p)) ∙ any_never (below heading.pes))
 read_before heading (e ∷ h) root test =
     ap (λ (b : Bool). read_now heading (e ∷ h) (passes root test) || b) (ever_more heading e h root test)
     ∙ or_self_left (read_now heading (e ∷ h) (passes root test)) (any test (ever_read heading root h))
@@ -114,7 +114,7 @@ known_still heading e h known k is = λ root test.
     is root test ∙ sym (read_before heading h root test)
     ∙ ap (λ (b : Bool). b || any test (ever_read heading root h))
     (any_same (λ p. any (passes root test) (readings heading h p)) (λ p. any (passes root test) (readings heading (e ∷ h) p)) (below heading.pes)
-    (λ p. ap (λ (rs : List Reading). any (passes root test) rs) (sym (same-readings heading.world e h p k))))
+    (λ p. ap (λ (rs : List Reading). any (passes root test) rs) (sym (same-readings heading e h p k))))
     ∙ sym (ever_more heading e h root test)
 
 -- ---- what a TLBI takes

@@ -65,7 +65,7 @@ module _ (heading : Heading) (h h' : List Event) (a : Alike heading Patterns Pat
   same_vmid p = by heading.world
     where
       by : (world : World) → vmid_in world h p ≡ vmid_in world h' p
-      by (Hyp world) = ap (λ (vs : List ℕ). one_number (map tag_number vs)) (a.registers p VttbrEl2)
+      by (Hyp world) = ap (λ (vs : List ℕ). one_number (map tag_number vs)) (a.registers.values p VttbrEl2)
       by (Kernel world) = refl
 
   same_takes : (e : Event) (tag : Tag) → takes_tag heading e h tag ≡ takes_tag heading e h' tag

@@ -58,7 +58,7 @@ module _ (heading : Heading) (k : Known heading) where
   same_idle : (h h' : List Event) (e : Event) → Alike heading Patterns Patterns h h' → WaitAlike heading h h'
       → Alike heading Patterns Patterns (e ∷ h) (e ∷ h') → is_idle heading h e ≡ is_idle heading h' e
   unfolding is_idle
-  same_idle h h' (Isb pe) a w on = ap not (wrote_alike pe h h' (a.registers pe))
+  same_idle h h' (Isb pe) a w on = ap not (wrote_alike pe h h' (a.registers.values pe))
   same_idle h h' (Tlbi pe op xt) a w on = ap not (same_needed heading h h' a k (Tlbi pe op xt))
   same_idle h h' (Dsb pe dsb) a w on =
       ap (λ (x : Bool). x && not (any (answers_needed heading dsb) (unanswered itself pe h))) (same_kept heading h h' a k (Dsb pe dsb) on)
