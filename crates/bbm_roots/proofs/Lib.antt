@@ -13,6 +13,7 @@ pub mod TagLists
 pub mod Judge
 pub mod RegisterWrites
 pub mod Fits
+pub mod Worlds
 pub mod Taken
 pub mod Settled
 pub mod Numbers

@@ -7,7 +7,11 @@ use Rattle.bbm_barriers.specs.Options.{answers}
 use Rattle.bbm_barriers.specs.declared.Dsb.{Dsb}
 use Rattle.bbm_regimes.specs.PeMask.{pe_in}
 use Rattle.bbm_regimes.specs.declared.regime.Tag.{Tag}
+use Rattle.bbm_regimes.specs.declared.regime.World.{World}
+use Rattle.bbm_regimes.specs.declared.regime.World.TheVariants.{Hyp, Kernel}
 use Rattle.bbm_tlbi_scope.specs.ScopeTags.{takes_whole_tag}
+use Rattle.bbm_tlbi_scope.specs.declared.scope.Family.{Family}
+use Rattle.bbm_tlbi_scope.specs.declared.scope.Family.TheVariants.{El2All, E1All, VmAll1, VmAll12, Asid as ByAsid}
 use Rattle.bbm_tlbi_scope.specs.declared.scope.Scope.{Scope}
 use Rattle.bbm_roots.specs.Holds.{tag_key, kept_in}
 use Rattle.bbm_roots.specs.LoadsOf.{reads_at}
@@ -59,6 +63,15 @@ answered_in ps q dsb tag p =
 -- whether a TLBI of this scope, under this VMID, takes the tag of an entry
 abbrev pub takes_entry : Scope → Option ℕ → Held → Bool
 takes_entry scope vmid held = takes_whole_tag scope vmid held.tag
+
+-- Whether TLBIs of the family take whole tags of the world. Source: Arm ARM (DDI 0487), "TLB maintenance instructions".
+abbrev pub takes_tags : World → Family → Bool
+takes_tags (Hyp world) El2All = true
+takes_tags (Hyp world) E1All = true
+takes_tags (Hyp world) VmAll12 = true
+takes_tags (Kernel world) VmAll1 = true
+takes_tags (Kernel world) ByAsid = true
+takes_tags _ _ = false
 
 -- whether a TLBI of q, broadcast or not, reaches p while the tag is readable there for no root
 abbrev pub unread_at : Registers → ℕ → Bool → Tag → ℕ → Bool

@@ -63,9 +63,9 @@ pub record Stands (roots : Roots) (heading : Heading) (h : List Event) : Type 0 
 abbrev pub HasRoom : Roots → Type 0
 HasRoom roots = (0 < spare roots.declared) × (index_map_len roots.declared < 1024)
 
--- there is an entry for each tag that a TLBI of the issuer that names this takes and that is held or left at a PE which
--- it reaches and at which the tag is readable for no root
+-- Where the roots stand for a history, there is an entry for each tag that a TLBI of the issuer that names this takes and
+-- that is held or left at a PE which it reaches and at which the tag is readable for no root.
 abbrev pub IsReady : Roots → ℕ → NamedTlbi → Bool → Type 0
 IsReady roots issuer named takes =
-    EachLost named.scope named.vmid roots.holds roots.registers issuer
+    (heading : Heading) (h : List Event) → Stands roots heading h → EachLost named.scope named.vmid roots.holds roots.registers issuer
     (λ tag. takes && has_pending roots.pendings issuer named.scope.broadcast tag)

@@ -110,7 +110,7 @@ impl Roots {
 
     /// Makes room for a TLBI of the PE that names this. `NoMemory` where there is none. Nothing else changes. After Ok,
     /// which tells whether the TLBI may take a tag from a PE that holds it, `issue_ready` takes that TLBI without
-    /// memory. A TLBI for pages looks at nothing.
+    /// memory. A TLBI that takes no whole tag of the world, as one for pages, looks at nothing.
     pub fn prepare_issue(
         &mut self,
         alloc: Global,
@@ -120,9 +120,10 @@ impl Roots {
         ensures ready { IfOk result (λ takes. IsReady self.new issuer named.now takes) }
         ensures kept { Keeps self.old self.new }
     {
+        laws_below();
         let scope = &named.scope;
         let vmid = named.vmid;
-        if !issue::takes_tags(scope)
+        if !issue::takes_tags(self.registers.world, scope)
             || !issue::takes_held(&self.holds, &self.registers, issuer, scope, vmid)
         {
             return Ok(false);

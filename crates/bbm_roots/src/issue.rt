@@ -6,7 +6,6 @@ ghost use Rattle.std.specs.List.{list_any};
 ghost use Rattle.indexmap.specs.IndexMap.{get, values};
 ghost use Rattle.bbm_regimes.specs.PeMask.{pe_in};
 ghost use Rattle.bbm_regimes.specs.declared.regime.Tag.{Tag as TheTag};
-ghost use Rattle.bbm_tlbi_scope.specs.Operations.{has_page};
 ghost use Rattle.bbm_tlbi_scope.specs.ScopeTags.{takes_whole_tag};
 ghost use Rattle.bbm_roots.specs.Holds.{kept_in, tag_key as key_of};
 ghost use Rattle.bbm_roots.specs.Keyed.{OthersStay};
@@ -17,7 +16,7 @@ ghost use Rattle.bbm_roots.specs.Readings.{same_tag as spec_same_tag};
 use crate::hold::{Holds, entries, tag_key};
 use crate::pending::{Pendings, Waiting, Waits, open, slot};
 use crate::registers::Registers;
-use bbm_regimes::{NoMemory, Pe, PeMask, Tag, same_tag};
+use bbm_regimes::{NoMemory, Pe, PeMask, Tag, World, same_tag};
 use bbm_tlbi_scope::{Family, Scope, whole_tag};
 use std::alloc::Global;
 
@@ -28,16 +27,18 @@ fn takes(scope: &Scope, vmid: Option<u16>, tag: Tag) -> bool
     whole_tag(*scope, vmid, tag)
 }
 
-/// Whether TLBIs of the scope's family take whole tags: those that name no pages. Where they don't, this one takes
-/// none. Source: Arm ARM (DDI 0487), "TLB maintenance instructions".
-pub fn takes_tags(scope: &Scope) -> bool
-    ensures family { result ≡ not (has_page scope.now.family) }
-    ensures none { result ≡ false → (vmid : Option ℕ) (tag : TheTag) → takes_whole_tag scope.now vmid tag ≡ false }
+/// Whether TLBIs of the scope's family take whole tags of the world. Source: Arm ARM (DDI 0487), "TLB maintenance
+/// instructions".
+pub fn takes_tags(world: World, scope: &Scope) -> bool
+    ensures { result ≡ spec.takes_tags world scope.now.family }
 {
-    matches!(
-        scope.family,
-        Family::El2All | Family::E1All | Family::VmAll1 | Family::VmAll12 | Family::Asid
-    )
+    match world {
+        World::Hyp(_) => matches!(
+            scope.family,
+            Family::El2All | Family::E1All | Family::VmAll12
+        ),
+        World::Kernel(_) => matches!(scope.family, Family::VmAll1 | Family::Asid),
+    }
 }
 
 /// The one tag of which alone TLBIs of this scope, under this VMID, take the whole; None where there may be more.

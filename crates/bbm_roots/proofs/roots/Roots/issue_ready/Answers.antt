@@ -105,7 +105,7 @@ returns c op xt =
           (λ q b g p kept key lost. entry-there q c.args.issuer scope.broadcast b (takes_whole_tag scope vmid g) g
           old.pendings key
           (λ e. and_right c.args.takes (has_pending old.pendings c.args.issuer scope.broadcast g)
-          (c.requires g p kept e lost)))
+          (c.requires heading h stands g p kept e lost)))
           (λ q b g p kept. c.note.ensures q b g p p kept) heading h stands
           (k.0.0, k.0.1, reach-is scope.broadcast true stands (sym c.reaches.ensures ∙ c.if-not-reaches.false)) k.1;
       room = λ room. room;
@@ -146,6 +146,6 @@ returns-then-not-takes c op xt =
         (record { header = refl; declared = refl; names = refl; locks = refl })
         (λ q b g p kept key lost. sym c.if-not-takes.true
         ∙ first_true c.args.takes (has_pending old.pendings c.args.issuer scope.broadcast g)
-        (c.requires g p kept
+        (c.requires heading h stands g p kept
         (and_right (nat_eq q c.args.issuer && same_flag scope.broadcast b) (takes_whole_tag scope vmid g) key) lost))
         (λ q b g p kept. sym (or-false (pending_in old.pendings q b g p))) heading h stands (k.0.0, k.0.1, e) k.1
