@@ -187,8 +187,7 @@ class Asker:
         self.root, self.null = next(unused), next(unused)
 
     def new_root(self, kind: str) -> list[str]:
-        pages = range(self.root, self.root + self.header.pages_of(kind) * PAGE_BYTES, PAGE_BYTES)
-        return [*(f"init 0 {hex(page)}" for page in pages), f"root 0 {kind} - {hex(self.root)}"]
+        return [*(f"init 0 {hex(page)}" for page in self.header.pages_at(kind, self.root)), f"root 0 {kind} - {hex(self.root)}"]
 
     def load(self, left: Left) -> list[str]:
         """The root of a question loaded under the tag. A register of EL1 is written behind a TTBR0_EL1 of 0, and an ASID of TTBR1_EL1

@@ -152,6 +152,10 @@ class Header:
     def pages_of(self, kind: str) -> int:
         return number(self.starts[2]) if kind == "s2" and not self.is_kernel else 1
 
+    def pages_at(self, kind: str, page: int) -> range:
+        """The pages of a root, by its first."""
+        return range(page, page + self.pages_of(kind) * PAGE_BYTES, PAGE_BYTES)
+
 
 def header_of(line: str) -> Header:
     fields = line.split(" ")

@@ -233,6 +233,11 @@ def elsewhere(scene: Scene) -> list[tuple[str, str]]:
     return list(dict.fromkeys([*nulls, *others, *zeros]))
 
 
+def away(pes: list[int], register: str, value: str) -> list[str]:
+    """Another value and an ISB at each of these PEs."""
+    return [text for pe in pes for text in (f"msr {pe} {register} {value}", f"isb {pe}")]
+
+
 def switches(scene: Scene, flush: Flush) -> Iterator[Change]:
     """What may stand before the TLBI so that no PE uses the tag any more: an ISB, or another root and an ISB."""
     yield NOTHING
@@ -242,7 +247,7 @@ def switches(scene: Scene, flush: Flush) -> Iterator[Change]:
         yield puts(behind, f"isb {pe}")
     for pe in pes:
         for register, value in elsewhere(scene)[:3]:
-            yield puts(behind, f"msr {pe} {register} {value}", f"isb {pe}")
+            yield puts(behind, *away([pe], register, value))
 
 
 def completions(scene: Scene, flush: Flush) -> Iterator[Change]:
@@ -274,7 +279,7 @@ def whole_sequences(scene: Scene) -> Iterator[Family]:
     pes, barrier = [event.pe], f"dsb {event.pe} {words.PUBLISHING}"
     if is_about_tags(scene):
         pes = loading(scene)
-        heads = [[text for pe in pes for text in (f"msr {pe} {register} {value}", f"isb {pe}")] for register, value in elsewhere(scene)]
+        heads = [away(pes, register, value) for register, value in elsewhere(scene)]
     else:
         heads = [[barrier]] if is_limbo else [[f"w {event.pe} {hex(place)} 0x0", barrier] for place in scene.places]
     tail = [f"init {event.pe} {hex(event.page)}"] if is_limbo else []

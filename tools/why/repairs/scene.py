@@ -76,8 +76,7 @@ class Scene:
             if line.event.word != "root":
                 continue
             kind = line.event.rest[0]
-            for i in range(self.header.pages_of(kind)):
-                found[line.event.page + i * PAGE_BYTES] = (kind, line.event.lock)
+            found.update(dict.fromkeys(self.header.pages_at(kind, line.event.page), (kind, line.event.lock)))
         return found
 
     @cached_property

@@ -12,7 +12,7 @@ from itertools import combinations
 from why.log import words
 from why.log.lines import PAGE_BYTES, Header, Line
 from why.repairs.changes import Change, Drop, Kind, Move, Swap, one, puts
-from why.repairs.flushes import Family, broadcast, elsewhere, is_about_tags, loading, operands, sequences, under_its_vmid, whole_sequences
+from why.repairs.flushes import Family, away, broadcast, elsewhere, is_about_tags, loading, operands, sequences, under_its_vmid, whole_sequences
 from why.repairs.flushes import with_pe, with_words
 from why.repairs.scene import Scene
 
@@ -215,9 +215,7 @@ def other_tag(scene: Scene) -> Iterator[Change]:
 
 def switched_away(scene: Scene) -> Iterator[Change]:
     """Another value and an ISB at each PE that has the root loaded, which is enough under `unflushed`."""
-    pes = loading(scene)
-    for register, value in elsewhere(scene):
-        yield puts(scene.refused.at - 1, *(text for pe in pes for text in (f"msr {pe} {register} {value}", f"isb {pe}")))
+    yield from (puts(scene.refused.at - 1, *away(loading(scene), *other)) for other in elsewhere(scene))
 
 
 def unsynced_vmid(scene: Scene) -> Iterator[Change]:

@@ -5,7 +5,7 @@ from __future__ import annotations
 import json
 from urllib.parse import quote
 
-from why.asking.program import Answer
+from why.asking.program import Answer, Verdict
 from why.log.lines import Log
 from why.repairs.findings import Findings, Found
 from why.telling import formats
@@ -108,19 +108,22 @@ class Report:
 
     def results(self) -> list[dict]:
         """The results of SARIF: one for each shown answer that isn't an acceptance."""
-        results = []
-        for (finding, note), known in zip(self.shown_findings(), [*self.known, None]):
-            line = finding.verdict.line
-            text = f"{finding.message}, line {line} of the log" + (f": {note}" if note else "")
-            place = {"artifactLocation": {"uri": quote(finding.file or self.name or formats.UNNAMED)},
-                     "region": {"startLine": finding.file_line or line}}
-            known = {"suppressions": [{"kind": "external", "justification": known.comment}]} if known else {}
-            results += [] if not line else [{"ruleId": finding.tag, "level": "note" if known else "error", "message": {"text": text},
-                                             "locations": [{"physicalLocation": place}], **known}]
-        return results
+        shown = zip(self.shown_findings(), [*self.known, None])
+        return [result_of(finding, note, known) for (finding, note), known in shown if finding.verdict.line]
 
     def sarif(self) -> str:
         return sarif_of(self.results())
+
+
+def result_of(finding: formats.Finding, note: str = "", known: Deviation | None = None) -> dict:
+    """A result of SARIF."""
+    line = finding.verdict.line
+    text = finding.message + (f", line {line} of the log" if line else "") + (f": {note}" if note else "")
+    region = {"region": {"startLine": finding.file_line or line}} if line else {}
+    place = {"artifactLocation": {"uri": quote(finding.file or finding.log or formats.UNNAMED)}, **region}
+    more = {"suppressions": [{"kind": "external", "justification": known.comment}]} if known else {}
+    return {"ruleId": finding.tag, "level": "note" if known else "error", "message": {"text": text},
+            "locations": [{"physicalLocation": place}], **more}
 
 
 def sarif_of(results: list[dict]) -> str:
@@ -130,14 +133,8 @@ def sarif_of(results: list[dict]) -> str:
 
 def unread(why: str, name: str, form: str) -> str:
     """What is told of a log that can't be read, in each form."""
-    if form == "gcc":
-        return f"{name or formats.UNNAMED}: error: {why} [bbm unreadable]\n"
-    if form == "github":
-        return f"::error {f'file={formats.escaped(name)},' if name else ''}title=bbm unreadable::{formats.data(why)}\n"
-    if form == "json":
-        return json.dumps({"verdict": "unreadable", "why": why, **({"log": name} if name else {})}) + "\n"
-    place = {"physicalLocation": {"artifactLocation": {"uri": quote(name or formats.UNNAMED)}}}
-    return sarif_of([{"ruleId": "bbm unreadable", "level": "error", "message": {"text": why}, "locations": [place]}])
+    finding = formats.Finding(Verdict(formats.UNREADABLE, name=why), name)
+    return formats.FORMS[form](finding) + "\n" if form in formats.FORMS else sarif_of([result_of(finding)])
 
 
 FORMS = {"": Report.text, "gcc": Report.gcc, "github": Report.github, "json": Report.json, "sarif": Report.sarif}

@@ -8,7 +8,7 @@ from dataclasses import dataclass
 
 from why.asking.program import Answer, Status, Unable, Verdict
 
-UNNAMED = "<stdin>"
+UNNAMED, UNREADABLE = "<stdin>", "unreadable"
 SOURCE = re.compile(r"(.+):([1-9][0-9]*)")
 
 
@@ -28,18 +28,21 @@ class Finding:
         verdict = self.verdict
         label = f" ({verdict.label})" if verdict.label and not self.file else ""
         return {"accepted": f"accepted {verdict.events} events", "refused": f"{verdict.name} at {hex(verdict.at)}{label}",
-                "malformed": f"malformed line, {verdict.name}", "limit": f"limit {verdict.name}"}[verdict.word]
+                "malformed": f"malformed line, {verdict.name}", "limit": f"limit {verdict.name}", UNREADABLE: verdict.name}[verdict.word]
 
     @property
     def tag(self) -> str:
         number = self.verdict.number
-        return {"accepted": "bbm", "refused": f"bbm rule {number}", "malformed": f"bbm cause {number}", "limit": "bbm limit"}[self.verdict.word]
+        return {"accepted": "bbm", "refused": f"bbm rule {number}", "malformed": f"bbm cause {number}", "limit": "bbm limit",
+                UNREADABLE: f"bbm {UNREADABLE}"}[self.verdict.word]
 
     @property
     def fields(self) -> dict:
         verdict = self.verdict
         if verdict.word == "accepted":
             told = {"events": verdict.events}
+        elif verdict.word == UNREADABLE:
+            told = {"why": verdict.name}
         elif verdict.word == "refused":
             told = {"line": verdict.line, "rule": verdict.number, "name": verdict.name, "at": hex(verdict.at)}
             told |= {"label": verdict.label} if verdict.label else {}
@@ -82,12 +85,10 @@ def data(text: str) -> str:
 
 
 def github(finding: Finding) -> str:
-    file = finding.file or finding.log
-    name = f"file={escaped(file)}," if file else ""
-    if finding.verdict.word == "accepted":
-        return f"::notice {name}title=bbm::{finding.message}"
-    place = f"{name}line={finding.file_line or finding.verdict.line}," if file else ""
-    return f"::{'notice' if finding.is_known else 'error'} {place}title={escaped(finding.tag)}::{finding.message}, line {finding.verdict.line} of the log"
+    file, line = finding.file or finding.log, finding.verdict.line
+    kind = "notice" if finding.verdict.word == "accepted" or finding.is_known else "error"
+    place = (f"file={escaped(file)}," + (f"line={finding.file_line or line}," if line else "")) if file else ""
+    return f"::{kind} {place}title={escaped(finding.tag)}::{data(finding.message)}" + (f", line {line} of the log" if line else "")
 
 
 def as_json(finding: Finding) -> str:
