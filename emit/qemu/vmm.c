@@ -30,7 +30,7 @@ enum access { LOAD, STORE };
 
 /* x0 address, x1 how many, x2 how far apart, x3 whether to store, x4 where a store ends the run. */
 extern const char guest_code[], guest_code_end[];
-__asm__(".pushsection .rodata\n"
+__asm__(".pushsection .rodata; .globl guest_code, guest_code_end\n"
 	"guest_code: 1: cbz x1, 4f; cbz x3, 2f; str x1, [x0]; b 3f\n"
 	"2: ldr x5, [x0]\n"
 	"3: add x0, x0, x2; sub x1, x1, #1; b 1b\n"
