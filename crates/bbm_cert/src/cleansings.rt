@@ -14,7 +14,7 @@ use bbm_regimes::{NoMemory, Pe, PeMask, Place};
 use std::alloc::Global;
 
 /// The PEs at which a place is cleansed since a write of it, by claims that are true. Source: project's own choice.
-#[derive(Clone, Copy, Debug)]
+#[derive(Clone, Copy)]
 pub struct Cleansing {
     /// The place.
     pub place: Place,

@@ -25,7 +25,7 @@ use bbm_regimes::{NoMemory, Pe, Tag, same_tag};
 use std::alloc::Global;
 
 /// A tag that a claim takes away at a PE.
-#[derive(Clone, Copy, Debug)]
+#[derive(Clone, Copy)]
 pub struct Loss {
     /// The PE.
     pub pe: Pe,
@@ -34,7 +34,7 @@ pub struct Loss {
 }
 
 /// What the roots hold and have left, and until when tags are readable. Source: project's own choice.
-#[derive(Debug, Drop)]
+#[derive(Drop)]
 pub struct Tags {
     /// What the declared roots hold.
     pub held: Vec<Holding>,

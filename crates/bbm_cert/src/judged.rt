@@ -3,7 +3,7 @@
 use bbm_rules::Rule;
 
 /// What claims alone make of a log.
-#[derive(Clone, Copy, Debug, PartialEq, Eq)]
+#[derive(Clone, Copy, PartialEq, Eq)]
 pub enum Judged {
     /// Each event of the log keeps the rules.
     Yes,

@@ -15,7 +15,7 @@ use bbm_rules::law_equality_tests;
 use std::alloc::Global;
 
 /// A tag that was readable at a PE, for some root. Source: project's own choice.
-#[derive(Clone, Copy, Debug)]
+#[derive(Clone, Copy)]
 pub struct Span {
     /// The PE.
     pub pe: Pe,

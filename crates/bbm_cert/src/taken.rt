@@ -22,7 +22,7 @@ use bbm_tlbi_scope::{TlbiOp, whole_tag};
 use std::alloc::Global;
 
 /// A DSB that answers TLBIs of its issuer. Source: project's own choice.
-#[derive(Clone, Copy, Debug)]
+#[derive(Clone, Copy)]
 pub struct Answer {
     /// The PE that issued it.
     pub issuer: Pe,
@@ -31,7 +31,7 @@ pub struct Answer {
 }
 
 /// The events before a DSB, and until when tags are readable in them. Source: project's own choice.
-#[derive(Clone, Copy, Debug)]
+#[derive(Clone, Copy)]
 pub struct Before<'a> {
     /// The events, the oldest first.
     pub events: &'a [Event],
@@ -40,7 +40,7 @@ pub struct Before<'a> {
 }
 
 /// A TLBI with its issuer.
-#[derive(Clone, Copy, Debug)]
+#[derive(Clone, Copy)]
 struct Issue {
     pe: Pe,
     op: TlbiOp,
@@ -48,7 +48,7 @@ struct Issue {
 }
 
 /// A TLBI that is to take a tag away at a PE. Source: project's own choice.
-#[derive(Clone, Copy, Debug)]
+#[derive(Clone, Copy)]
 pub struct Taking {
     /// The PE.
     pub pe: Pe,

@@ -6,7 +6,7 @@ use bbm_events::{Claim, Event};
 use std::alloc::Global;
 
 /// Which part of the text the next line belongs to.
-#[derive(Clone, Copy, Debug, PartialEq, Eq)]
+#[derive(Clone, Copy, PartialEq, Eq)]
 pub enum Part {
     /// The log, behind its header.
     Events,

@@ -17,7 +17,7 @@ use bbm_tlbi_scope::Cover;
 
 /// The second part of two steps: how many events stand between the first TLBI and its answer, and how many between that
 /// and the second TLBI.
-#[derive(Clone, Copy, Debug)]
+#[derive(Clone, Copy)]
 pub struct Ends {
     /// How many stand between the first TLBI and its answer.
     pub wait: usize,
@@ -26,7 +26,7 @@ pub struct Ends {
 }
 
 /// Two steps behind a publication: the index of the first TLBI, and what comes behind it.
-#[derive(Clone, Copy, Debug)]
+#[derive(Clone, Copy)]
 pub struct Halves {
     /// The index of the first TLBI.
     pub t: usize,
@@ -35,7 +35,7 @@ pub struct Halves {
 }
 
 /// The indexes of the events of a pattern but the DSB at its end.
-#[derive(Clone, Copy, Debug)]
+#[derive(Clone, Copy)]
 pub enum Pattern {
     /// One step.
     One {

@@ -10,7 +10,7 @@ use bbm_events::Claim;
 use bbm_regimes::{NoMemory, Tag};
 
 /// What the claims of one event are ordered by.
-#[derive(Clone, Copy, Debug)]
+#[derive(Clone, Copy)]
 pub struct Key {
     /// 0 of a place, 1 of a tag.
     pub sort: u64,
@@ -23,7 +23,7 @@ pub struct Key {
 }
 
 /// What the claim of a tag is ordered by.
-#[derive(Clone, Copy, Debug)]
+#[derive(Clone, Copy)]
 pub struct TagKey {
     /// Its sort.
     pub sort: u64,

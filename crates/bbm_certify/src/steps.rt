@@ -16,7 +16,7 @@ use bbm_regimes::{Pe, Place};
 use bbm_tlbi_scope::Cover;
 
 /// A place and a PE, since a write of the place. Source: project's own choice.
-#[derive(Clone, Copy, Debug)]
+#[derive(Clone, Copy)]
 pub struct Spot {
     /// The place.
     pub place: Place,

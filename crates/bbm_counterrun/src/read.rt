@@ -4,7 +4,7 @@ use bbm_regimes::{Kind, Place};
 use std::marker::Model;
 
 /// A place and a value that was read there. A clause sees it as that of the definitions. Source: project's own choice.
-#[derive(Clone, Copy, Debug, PartialEq, Eq)]
+#[derive(Clone, Copy, PartialEq, Eq)]
 pub struct Read {
     /// The place.
     pub place: Place,
@@ -23,7 +23,7 @@ impl Model for Read {
 }
 
 /// A place of a tree and what it holds. A clause sees it as that of the definitions. Source: project's own choice.
-#[derive(Clone, Copy, Debug)]
+#[derive(Clone, Copy)]
 pub struct Goal {
     /// The place.
     pub place: Place,

@@ -30,7 +30,7 @@ pub struct Search<'a> {
 
 /// A VMID or ASID, and where the entry is combined. A clause sees it as that of the definitions. Source: project's own
 /// choice.
-#[derive(Clone, Copy, Debug)]
+#[derive(Clone, Copy)]
 pub struct Choice {
     /// The VMID or ASID.
     pub number: u16,

@@ -4,7 +4,7 @@ use crate::claim::Claim;
 
 /// What a line of a certificate after its first says: a claim, or the end with the number of claim lines. Source:
 /// project's own choice.
-#[derive(Clone, Copy, Debug, PartialEq, Eq)]
+#[derive(Clone, Copy, PartialEq, Eq)]
 pub enum ClaimItem {
     /// A claim line.
     Claim(Claim),
@@ -13,7 +13,7 @@ pub enum ClaimItem {
 }
 
 /// The first word of a line of a certificate after its first: what the line says.
-#[derive(Clone, Copy, Debug, PartialEq, Eq)]
+#[derive(Clone, Copy, PartialEq, Eq)]
 pub enum CertificateWord {
     /// `c`: a claim.
     Claim,
@@ -22,7 +22,7 @@ pub enum CertificateWord {
 }
 
 /// The second word of a claim line: what is claimed.
-#[derive(Clone, Copy, Debug, PartialEq, Eq)]
+#[derive(Clone, Copy, PartialEq, Eq)]
 pub enum ClaimWord {
     /// `place`: a place is cleansed in one step.
     Place,
@@ -33,7 +33,7 @@ pub enum ClaimWord {
 }
 
 /// The word of a tag in a claim line, behind which its number stands.
-#[derive(Clone, Copy, Debug, PartialEq, Eq)]
+#[derive(Clone, Copy, PartialEq, Eq)]
 pub enum TagWord {
     /// `el2`: the tag of EL2. Its number is 0.
     El2,

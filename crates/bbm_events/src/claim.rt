@@ -6,7 +6,7 @@ use bbm_regimes::{Pe, Place, Tag};
 /// position is the number of an event of the log, counted from 1: a claim that is true has positions 1 to 4294967295,
 /// in the order in which they are named here, each above the one before; where one is 0, no event has it, and the claim
 /// is true of no log. Source: project's own choice.
-#[derive(Clone, Copy, Debug, PartialEq, Eq)]
+#[derive(Clone, Copy, PartialEq, Eq)]
 pub enum Claim {
     /// The place is cleansed at the PE in one step: the DSB at `b` publishes a write of it to the PE, then the TLBI at
     /// `t` reaches the PE and covers the place in full, then the DSB at `d` answers that TLBI.

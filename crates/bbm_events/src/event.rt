@@ -7,7 +7,7 @@ use bbm_regimes::{Kind, Page, Pe, Place, Reg};
 use bbm_tlbi_scope::TlbiOp;
 
 /// One line of a log between its header and its `end`: one atomic action of one PE.
-#[derive(Clone, Copy, Debug, PartialEq, Eq)]
+#[derive(Clone, Copy, PartialEq, Eq)]
 pub enum Event {
     /// The page is made zero.
     Init {
@@ -78,7 +78,7 @@ pub enum Event {
 
 /// What a line after the header says: an event with its label or none, or the end with the number of event
 /// lines.
-#[derive(Clone, Copy, Debug, PartialEq, Eq)]
+#[derive(Clone, Copy, PartialEq, Eq)]
 pub enum Item {
     /// An event line. Only a line under version 3 or 4 has a label.
     Event(Event, Option<Label>),

@@ -9,7 +9,7 @@ use std::marker::Model;
 /// versions 1 and 2, and 1 to 128 under later ones; `cnp` is false under version 1; each start level
 /// is 0 to 2, and the number of pages of a stage 2 root is 1, 2, 4, 8 or 16, and 1 where its walks start at
 /// level 0. A clause sees a header as its `Heading`. Source: project's own choice.
-#[derive(Clone, Copy, Debug, PartialEq, Eq)]
+#[derive(Clone, Copy, PartialEq, Eq)]
 pub struct Header {
     /// The version of the log's language, 1 to 5.
     pub version: u8,

@@ -1,7 +1,7 @@
 //! The words with which lines begin.
 
 /// The first word of a line after the header: what the line says. Source: project's own choice.
-#[derive(Clone, Copy, Debug, PartialEq, Eq)]
+#[derive(Clone, Copy, PartialEq, Eq)]
 pub enum Keyword {
     /// `init`: a page is made zero.
     Init,

@@ -9,7 +9,7 @@ use std::marker::Model;
 /// Where an event comes from, as the log says it: 1 to 32 bytes, each a letter, a digit or one of `.`, `/`,
 /// `:`, `_` and `-`. It lies in the value itself, and takes no memory. A clause sees the list of its bytes.
 /// Source: project's own choice.
-#[derive(Clone, Copy, Debug, PartialEq, Eq)]
+#[derive(Clone, Copy, PartialEq, Eq)]
 pub struct Label {
     bytes: [u8; 32],
     len: usize,

@@ -5,7 +5,7 @@ use bbm_regimes::{Kind, Pe, Place};
 
 /// One line of a run that isn't a line of its log: a step of a TLB, which makes an entry or drops one.
 /// Entries have numbers in the order in which they are made, from 1.
-#[derive(Clone, Copy, Debug, PartialEq, Eq)]
+#[derive(Clone, Copy, PartialEq, Eq)]
 pub enum MachineLine {
     /// The TLB of the PE makes an entry from the value of a place of a root of the kind, under a VMID or
     /// an ASID; the tag is 0 for `El2`.
@@ -38,7 +38,7 @@ pub enum MachineLine {
 }
 
 /// The second word of a machine line: which step it is.
-#[derive(Clone, Copy, Debug, PartialEq, Eq)]
+#[derive(Clone, Copy, PartialEq, Eq)]
 pub enum MachineWord {
     /// `start`.
     Start,

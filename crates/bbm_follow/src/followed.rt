@@ -14,7 +14,7 @@ use bbm_tlb_machine::{FollowFault, Step, follow};
 use std::alloc::Global;
 
 /// What comes of a run that was read whole. Lines are numbered from 1.
-#[derive(Clone, Copy, Debug, PartialEq, Eq)]
+#[derive(Clone, Copy, PartialEq, Eq)]
 pub enum Followed {
     /// Each step is one of the machine's: the number of steps, and the line of the first at which a clause of a safe
     /// log fails.

@@ -28,7 +28,7 @@ use bbm_regimes::{Kind, NoMemory, PeMask, Place};
 use std::alloc::Global;
 
 /// The phases of a place at all PEs.
-#[derive(Clone, Copy, Debug)]
+#[derive(Clone, Copy)]
 pub enum Phases {
     /// It is clean at each.
     Clean,
@@ -39,7 +39,7 @@ pub enum Phases {
 }
 
 /// A place and its phases.
-#[derive(Clone, Copy, Debug)]
+#[derive(Clone, Copy)]
 pub struct PlacePhases {
     /// The place.
     pub place: Place,

@@ -24,7 +24,7 @@ use bbm_regimes::{Kind, NoMemory, Place};
 use std::alloc::Global;
 
 /// What is wrong with a descriptor of a tree.
-#[derive(Clone, Copy, Debug, PartialEq, Eq)]
+#[derive(Clone, Copy, PartialEq, Eq)]
 pub enum Flaw {
     /// A leaf with the Contiguous hint.
     Contiguous,

@@ -5,7 +5,7 @@ use bbm_events::Malformed;
 use bbm_regimes::Which;
 
 /// What a line was that stops nothing.
-#[derive(Clone, Copy, Debug, PartialEq, Eq)]
+#[derive(Clone, Copy, PartialEq, Eq)]
 pub enum Turn {
     /// A line before the end, which was taken.
     Taken,
@@ -14,7 +14,7 @@ pub enum Turn {
 }
 
 /// Why a line isn't taken.
-#[derive(Clone, Copy, Debug, PartialEq, Eq)]
+#[derive(Clone, Copy, PartialEq, Eq)]
 pub enum LineFault {
     /// It is malformed, by this cause.
     Malformed(Malformed),

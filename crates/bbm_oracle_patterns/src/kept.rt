@@ -9,7 +9,7 @@ use bbm_regimes::Place;
 use bbm_tlbi_scope::Cover;
 
 /// How far a TLBI covers a place.
-#[derive(Clone, Copy, Debug, PartialEq, Eq)]
+#[derive(Clone, Copy, PartialEq, Eq)]
 pub struct Covered {
     /// The place.
     pub place: Place,
@@ -18,7 +18,7 @@ pub struct Covered {
 }
 
 /// An event of a log with the places that it covers.
-#[derive(Debug, Drop)]
+#[derive(Drop)]
 pub struct Kept {
     /// The event.
     pub event: Event,

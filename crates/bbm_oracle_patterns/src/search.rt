@@ -17,7 +17,7 @@ use bbm_regimes::{Kind, Pe, PeMask, Place};
 use bbm_rules::Phase;
 
 /// A place of a tree. Source: project's own choice.
-#[derive(Clone, Copy, Debug)]
+#[derive(Clone, Copy)]
 pub struct TreePlace {
     /// The place.
     pub place: Place,
@@ -28,7 +28,7 @@ pub struct TreePlace {
 }
 
 /// A valid write in a log. Source: project's own choice.
-#[derive(Clone, Copy, Debug, PartialEq, Eq)]
+#[derive(Clone, Copy, PartialEq, Eq)]
 pub struct ValidWrite {
     /// The value that was written.
     pub value: u64,

@@ -16,7 +16,7 @@ use bbm_regimes::{PeMask, Place};
 
 /// At which PEs a place is seen, half and cleansed by the events after its last valid write. Source: project's own
 /// choice, after Arm ARM (DDI 0487), "Using break-before-make when updating translation table entries".
-#[derive(Clone, Copy, Debug)]
+#[derive(Clone, Copy)]
 pub struct Trace {
     /// The PEs to which a later write of the place is published.
     pub seen: PeMask,

@@ -12,7 +12,7 @@ use std::alloc::Global;
 
 /// Every pattern of events is trusted. It keeps nothing: each answer is searched in the events. Source: project's own
 /// choice.
-#[derive(Clone, Copy, Debug)]
+#[derive(Clone, Copy)]
 pub struct AllPatterns;
 
 impl TagEvidence for AllPatterns {

@@ -3,7 +3,7 @@
 use bbm_regimes::{Pe, Tag};
 
 /// A tag that a root of a page keeps at a PE, or may keep there. Source: project's own choice.
-#[derive(Clone, Copy, Debug)]
+#[derive(Clone, Copy)]
 pub struct Holding {
     /// The PE.
     pub pe: Pe,

@@ -12,7 +12,7 @@ use std::marker::Model;
 
 /// What the root registers of the Kernel world have at one moment. A clause sees it as the standing of the definitions.
 /// Source: project's own choice.
-#[derive(Clone, Copy, Debug)]
+#[derive(Clone, Copy)]
 pub struct Standing {
     /// The value of TTBR0_EL1.
     pub first: u64,

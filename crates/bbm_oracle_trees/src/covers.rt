@@ -27,7 +27,7 @@ use bbm_tlbi_scope::{Cover, PlaceView, Scope, TagSet, cover};
 use std::alloc::Global;
 
 /// The tags that a root holds. Source: project's own choice.
-#[derive(Clone, Copy, Debug)]
+#[derive(Clone, Copy)]
 pub struct RootTags {
     /// The first page of the root.
     pub root: Page,

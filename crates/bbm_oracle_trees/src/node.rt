@@ -10,7 +10,7 @@ use std::alloc::Global;
 use std::marker::Model;
 
 /// A place above a page of a tree.
-#[derive(Clone, Copy, Debug, PartialEq, Eq)]
+#[derive(Clone, Copy, PartialEq, Eq)]
 pub struct Above {
     /// The place.
     pub place: Place,
@@ -32,7 +32,7 @@ impl Model for Above {
 }
 
 /// A page of a tree of translation tables. A clause sees the places above as the list, the nearest first.
-#[derive(Debug, Drop)]
+#[derive(Drop)]
 pub struct Node {
     /// The page.
     pub page: Page,

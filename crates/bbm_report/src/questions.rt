@@ -9,7 +9,7 @@ use bbm_log_grammar::{kind_named, page_of, read_hex};
 use bbm_regimes::{Kind, Page};
 
 /// Where the tables of a root map an address.
-#[derive(Clone, Copy, Debug, PartialEq, Eq)]
+#[derive(Clone, Copy, PartialEq, Eq)]
 pub struct Question {
     /// The kind of the root.
     pub kind: Kind,

@@ -13,7 +13,7 @@ use crate::reading::Reading;
 use bbm_regimes::{AsidFrom, Page, Pe, PeCount, Tag, World};
 
 /// What is known of the tags that a new value makes readable.
-#[derive(Clone, Copy, Debug)]
+#[derive(Clone, Copy)]
 pub enum Shortcut {
     /// The PE holds each of them, for its root.
     Held,

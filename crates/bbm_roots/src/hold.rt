@@ -27,7 +27,7 @@ use std::alloc::Global;
 pub type Holds = IndexMap<u32, Held>;
 
 /// The PEs at which a root holds a tag, or one that was given up has left it.
-#[derive(Clone, Copy, Debug)]
+#[derive(Clone, Copy)]
 pub struct Held {
     /// The tag.
     pub tag: Tag,

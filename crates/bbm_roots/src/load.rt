@@ -10,7 +10,7 @@ use bbm_regimes::{Page, Reg};
 /// What the value of a root register names; or what a standing of a PE gives, the root of its value of TTBR0_EL1 under
 /// the ASID of its value of TTBR1_EL1. Source: Arm ARM (DDI 0487), "AArch64 System register
 /// descriptions", TTBR0_EL2, VTTBR_EL2, TTBR0_EL1 and TTBR1_EL1.
-#[derive(Clone, Copy, Debug, Default, PartialEq, Eq)]
+#[derive(Clone, Copy, Default, PartialEq, Eq)]
 pub struct RootValue {
     /// Its VMID or ASID, 0 to 65535: bits [63:48].
     pub number: u16,

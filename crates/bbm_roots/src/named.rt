@@ -3,7 +3,7 @@
 use bbm_tlbi_scope::Scope;
 
 /// What a TLBI names at its issue. Source: project's own choice.
-#[derive(Clone, Copy, Debug, PartialEq, Eq)]
+#[derive(Clone, Copy, PartialEq, Eq)]
 pub struct NamedTlbi {
     /// Its scope.
     pub scope: Scope,

@@ -20,7 +20,7 @@ use indexmap::IndexMap;
 use std::alloc::Global;
 
 /// The whole-tag TLBIs of an issuer for one tag that no DSB has answered yet.
-#[derive(Clone, Copy, Debug)]
+#[derive(Clone, Copy)]
 pub struct Waiting {
     /// The tag that they take.
     pub tag: Tag,

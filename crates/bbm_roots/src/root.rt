@@ -8,7 +8,7 @@ use std::marker::Model;
 
 /// A declared root: its first page, its kind, and the lock that its writers hold or none. A clause sees it as the
 /// declared root of the definitions.
-#[derive(Clone, Copy, Debug, PartialEq, Eq)]
+#[derive(Clone, Copy, PartialEq, Eq)]
 pub struct Declared {
     /// The first page.
     pub page: Page,

@@ -2,7 +2,7 @@
 
 /// The limits of a command that judges a log, beside those of a line's bytes and of a history, which always
 /// hold. Source: project's own choice.
-#[derive(Clone, Copy, Debug, PartialEq, Eq)]
+#[derive(Clone, Copy, PartialEq, Eq)]
 pub struct Limits {
     /// The most events, or None where any number may come.
     pub events: Option<u64>,

@@ -2,7 +2,7 @@
 
 /// The phase of a place at a PE. Source: project's own choice, after Arm ARM (DDI 0487), "Using
 /// break-before-make when updating translation table entries".
-#[derive(Clone, Copy, Debug, PartialEq, Eq)]
+#[derive(Clone, Copy, PartialEq, Eq)]
 pub enum Phase {
     /// The place is in no tree, or it holds nothing.
     Clean,

@@ -15,7 +15,7 @@ use bbm_regimes::Which;
 
 /// What a checker says of a log. A line's number counts from 1, and line 1 is the header. Source:
 /// project's own choice.
-#[derive(Clone, Copy, Debug, PartialEq, Eq)]
+#[derive(Clone, Copy, PartialEq, Eq)]
 pub enum Verdict {
     /// Every line is well formed and every event keeps the rules; the number of events.
     Accepted {

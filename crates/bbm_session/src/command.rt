@@ -19,7 +19,7 @@ const ORACLE_EVENTS: u64 = 2000;
 const GENERATED_EVENTS: u64 = 4_294_967_293;
 
 /// What the program is asked for.
-#[derive(Clone, Copy, Debug)]
+#[derive(Clone, Copy)]
 pub enum Request {
     /// A log is judged.
     Judge(Command),

@@ -8,7 +8,7 @@ ghost use Rattle.bbm_session.specs.Stages.{Shrinks};
 use bbm_io::{LineFault, LineOrEnd, Lines, Source};
 
 /// What stands where a line was asked for.
-#[derive(Clone, Copy, Debug)]
+#[derive(Clone, Copy)]
 pub enum Piece {
     /// A line of at most 200 bytes.
     Line,

@@ -7,7 +7,7 @@ use bbm_rules::Verdict;
 use bbm_texts::Decision;
 
 /// Why reading a log stopped.
-#[derive(Clone, Copy, Debug)]
+#[derive(Clone, Copy)]
 pub enum Stop {
     /// The verdict is known.
     Decided(Decision),

@@ -4,7 +4,7 @@
 use bbm_report::Question;
 
 /// A command that judges a log.
-#[derive(Clone, Copy, Debug)]
+#[derive(Clone, Copy)]
 pub enum Command {
     /// Judges the log and writes the line of its verdict.
     Check,
@@ -20,7 +20,7 @@ pub enum Command {
 }
 
 /// What a command shows of the events of a log, for which it keeps them all.
-#[derive(Clone, Copy, Debug)]
+#[derive(Clone, Copy)]
 pub enum Evidence {
     /// The events of an accepted log that it can do without.
     Idle,

@@ -5,7 +5,7 @@ use bbm_events::Event;
 use bbm_rules::Verdict;
 
 /// What is decided.
-#[derive(Clone, Copy, Debug)]
+#[derive(Clone, Copy)]
 pub struct Decision {
     /// The verdict.
     pub verdict: Verdict,

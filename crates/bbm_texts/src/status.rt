@@ -4,7 +4,7 @@ ghost use Rattle.std.specs.Prelude.{◌≡◌};
 ghost use Rattle.bbm_texts.specs.Statuses.{number_of};
 
 /// How the program ends, with the number of its exit status. Source: project's own choice.
-#[derive(Clone, Copy, Debug, PartialEq, Eq)]
+#[derive(Clone, Copy, PartialEq, Eq)]
 pub enum Status {
     /// Every line is well formed and every event keeps the rules.
     Accepted = 0,

@@ -10,7 +10,7 @@ use bbm_oracle_tags::publishes_for;
 use bbm_regimes::{Pe, PeMask, Place};
 
 /// What a look at one event tells, on the way back through the events.
-#[derive(Clone, Copy, Debug)]
+#[derive(Clone, Copy)]
 pub enum Look {
     /// The value can be read.
     Found,

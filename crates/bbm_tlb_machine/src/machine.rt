@@ -28,7 +28,7 @@ use std::alloc::Global;
 use std::marker::Model;
 
 /// Why a run can't be followed.
-#[derive(Clone, Copy, Debug, PartialEq, Eq)]
+#[derive(Clone, Copy, PartialEq, Eq)]
 pub enum FollowFault {
     /// The step with this index, counted from 0, is the first that is none of the machine's.
     BadStep(u64),

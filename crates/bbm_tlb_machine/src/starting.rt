@@ -23,7 +23,7 @@ use bbm_tlbi_scope::EntryKind;
 use std::alloc::Global;
 
 /// What a walk reads first, and under what. Source: project's own choice.
-#[derive(Clone, Copy, Debug)]
+#[derive(Clone, Copy)]
 pub struct FirstRead {
     /// The PE that reads it.
     pub pe: Pe,

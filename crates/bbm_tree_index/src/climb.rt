@@ -17,7 +17,7 @@ use bbm_place_map::PlaceMap;
 use bbm_regimes::{Kind, Place};
 
 /// What is asked of a place above a page. Source: project's own choice.
-#[derive(Clone, Copy, Debug)]
+#[derive(Clone, Copy)]
 pub enum Asked {
     /// Whether its present value is invalid.
     Invalid,

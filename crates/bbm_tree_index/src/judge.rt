@@ -25,7 +25,7 @@ use bbm_regimes::{Kind, Page, Place};
 use indexmap::IndexMap;
 
 /// Which leaves are asked for. Source: project's own choice.
-#[derive(Clone, Copy, Debug)]
+#[derive(Clone, Copy)]
 pub enum Leaf {
     /// Those with the Contiguous hint.
     Contiguous,

@@ -17,7 +17,7 @@ use bbm_place_map::PlaceMap;
 use bbm_regimes::{Page, Place};
 
 /// Which pages leave the trees. Source: project's own choice.
-#[derive(Clone, Copy, Debug)]
+#[derive(Clone, Copy)]
 pub enum Leaving {
     /// Those below a place that holds nothing.
     Unheld,

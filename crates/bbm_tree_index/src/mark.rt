@@ -9,7 +9,7 @@ use bbm_regimes::{NoMemory, Page};
 use indexmap::IndexMap;
 
 /// How a page is reached: the role that it has by the first path that was found, and whether there are others.
-#[derive(Clone, Copy, Debug)]
+#[derive(Clone, Copy)]
 pub struct Mark {
     /// The role.
     pub role: Role,

@@ -4,7 +4,7 @@
 use bbm_regimes::{Interval, Kind, Page, Place};
 
 /// What a page is used for.
-#[derive(Clone, Copy, Debug, PartialEq, Eq)]
+#[derive(Clone, Copy, PartialEq, Eq)]
 pub enum Role {
     /// It was never tracked.
     Untracked,
@@ -39,7 +39,7 @@ pub enum Role {
 }
 
 /// What is known of a place of a tree.
-#[derive(Clone, Copy, Debug, PartialEq, Eq)]
+#[derive(Clone, Copy, PartialEq, Eq)]
 pub struct Path {
     /// The kind of the tree.
     pub kind: Kind,
@@ -52,7 +52,7 @@ pub struct Path {
 }
 
 /// What is attached to a tree.
-#[derive(Clone, Copy, Debug, PartialEq, Eq)]
+#[derive(Clone, Copy, PartialEq, Eq)]
 pub enum Attach {
     /// The pages of a root.
     Root {
@@ -71,7 +71,7 @@ pub enum Attach {
 }
 
 /// What is detached from a tree.
-#[derive(Clone, Copy, Debug, PartialEq, Eq)]
+#[derive(Clone, Copy, PartialEq, Eq)]
 pub enum Detach {
     /// The pages of the root with this first page.
     Root(Page),

@@ -15,7 +15,7 @@ use bbm_regimes::{Interval, Kind, Page, Place};
 
 /// Where a page of a tree stands: its kind and level, the input page number at which its region begins, and the first
 /// page of the root. Source: project's own choice.
-#[derive(Clone, Copy, Debug)]
+#[derive(Clone, Copy)]
 pub struct Spot {
     /// The kind of the root.
     pub kind: Kind,
