@@ -1,10 +1,11 @@
 -- Each step of a run over a log fits the header of the log.
 use Rattle.bbm_counterrun.proofs.Common.{Kind, Step, Machine, Entry, IsRun, Living, State, IsLog, started, written_at}
-use Rattle.bbm_rules.proofs.Common.{◌≡◌, ℕ, suc, ◌^◌, ◌<◌, ◌≤◌, arith, Bool, true, false, ◌++◌, nat_lt, ◌==◌, List, [], ◌∷◌, length, find}
-use Rattle.bbm_rules.proofs.Common.{not, Some, None, option_map, inl, inr, ◌⊎◌, Contains, zero, refl, sym, ◌∙◌, ap, subst}
-use Rattle.bbm_rules.proofs.Common.{suc-le-suc, and_from, and_parts, lt-ltb, ltb-true, In, in_right, from_filter}
-use Rattle.bbm_rules.proofs.Common.{to_contains, among, every, El2, S2, Ttbr0, Ttbr1, Start, Extend, Combine, Share}
-use Rattle.bbm_rules.proofs.Common.{Drop, Heading, Event, Write, Msr, is_readable, register_values, tag_number}
+use Rattle.bbm_rules.proofs.Common.{◌≡◌, ℕ, suc, ◌^◌, ◌<◌, ◌≤◌, arith, Bool, true, false, ◌++◌, nat_lt, ◌==◌, List}
+use Rattle.bbm_rules.proofs.Common.{[], ◌∷◌, length, find, not, Some, None, option_map, inl, inr, ◌⊎◌, Contains, zero}
+use Rattle.bbm_rules.proofs.Common.{refl, sym, ◌∙◌, ap, subst, suc-le-suc, and_from, and_parts, lt-ltb, ltb-true, In}
+use Rattle.bbm_rules.proofs.Common.{in_right, from_filter, to_contains, among, every, El2, S2, Ttbr0, Ttbr1, Start}
+use Rattle.bbm_rules.proofs.Common.{Extend, Combine, Share, Drop, Heading, Event, Write, Msr, is_readable}
+use Rattle.bbm_rules.proofs.Common.{register_values, tag_number}
 use Rattle.std.proofs.lemmas.Bool.Decides.{nat_tests}
 use Rattle.bbm_lemmas.proofs.Elements.{contains_after, contains_head, from_map}
 use Rattle.bbm_lemmas.proofs.Words.{among_in, in_among}
@@ -115,8 +116,8 @@ module _ (heading : Heading) (laws : TagReads heading) where
         ((and_parts _ _ a.0).1, a.1)
 
     -- what a register held, but for 0, was written by a PE of the header
-    msr_fits : (p : ℕ) (reg : Reg) (value : ℕ) (newer older : List Event) → h ≡ newer ++ older → register_value older p reg ≡ value
-        → (value ≡ 0 → ⊥) → (p < heading.pes) × (value < 2 ^ 64)
+    msr_fits : (p : ℕ) (reg : Reg) (value : ℕ) (newer older : List Event) → h ≡ newer ++ older
+        → register_value older p reg ≡ value → (value ≡ 0 → ⊥) → (p < heading.pes) × (value < 2 ^ 64)
     msr_fits p reg value newer older split had other =
         let w = in_msr older p reg value had other in
         let wrote : Event = Msr p w.0 value in
@@ -124,8 +125,8 @@ module _ (heading : Heading) (laws : TagReads heading) where
         (to_contains h wrote (subst (λ (es : List Event). In es wrote) (sym split) (in_right newer older wrote w.1)))) in
         (ltb-true p heading.pes a.0, ltb-true value (2 ^ 64) a.1)
 
-    below : (p : ℕ) (reg : Reg) (value : ℕ) (newer older : List Event) → h ≡ newer ++ older → register_value older p reg ≡ value
-        → value < 2 ^ 64
+    below : (p : ℕ) (reg : Reg) (value : ℕ) (newer older : List Event) → h ≡ newer ++ older
+        → register_value older p reg ≡ value → value < 2 ^ 64
     below p reg zero newer older split had = ltb-true 0 (2 ^ 64) refl
     below p reg (suc value) newer older split had =
         (msr_fits p reg (suc value) newer older split had (λ e. omega (arith, e))).1
