@@ -73,7 +73,7 @@ module _ (heading : Heading) (count : ℕ) (x : Entry) where
         two_ranges (λ l. forbidden_by heading answers l count (combined l x) ≡ true) from m n before (λ l low high.
         list_any_at (blocks heading count x l) answers i a within (ap (blocks heading count x l) (sym at) ∙ here l low high))
 
-pub ruleset passing = (free_at_end, pass_more)
+pub ruleset passing = (free_at_end)
 
 pub ruleset clearing = (clear_free, clear_first)
 

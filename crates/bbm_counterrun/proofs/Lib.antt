@@ -12,6 +12,7 @@ mod JoinSteps
 mod LastStep
 mod LeastGoals
 mod LeastReads
+mod MapCode
 mod NumberCode
 mod OneEntry
 mod Order

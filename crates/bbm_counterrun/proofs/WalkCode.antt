@@ -1,7 +1,7 @@
--- The steps of the loops that make a walk and a list of answers.
-use Rattle.bbm_counterrun.proofs.Common.{append_assoc, Entry, extended, may_extend, Read, extended_by, may_extend_by}
-use Rattle.bbm_rules.proofs.Common.{◌≡◌, ℕ, ◌+◌, ◌<◌, Bool, List, [], ◌∷◌, length, drop, get_or, Option, Some, None, sym, ◌∙◌}
-use Rattle.bbm_rules.proofs.Common.{ap, refl, true, false, ◌&&◌, if_so, Heading, Event}
+-- The steps of the loop that makes a walk.
+use Rattle.bbm_counterrun.proofs.Common.{Entry, extended, may_extend, Read, extended_by, may_extend_by}
+use Rattle.bbm_rules.proofs.Common.{◌≡◌, ℕ, ◌+◌, ◌<◌, Bool, List, ◌∷◌, length, drop, get_or, Option, Some, None, sym, ◌∙◌}
+use Rattle.bbm_rules.proofs.Common.{ap, false, ◌&&◌, if_so, Heading, Event}
 use Rattle.std.proofs.lemmas.List.{drop_more}
 use Rattle.bbm_lemmas.proofs.Words.{if_so_some}
 use Rattle.bbm_rules.proofs.RuleLemmas.{if_none}
@@ -33,5 +33,3 @@ extend_none heading h x end reads i r start o within at k is e =
     = sym e ∙ (ap (may_extend_by heading h x) (next_item reads i r within at)
     ∙ ap (λ (b : Bool). b && may_extend_by heading h (extended x r.place r.value) (drop (i + 1) reads)) no) in
     ap (λ (b : Bool). if_so b end) (sym stops)
-
-pub ruleset keeping = (append_assoc, next_item)

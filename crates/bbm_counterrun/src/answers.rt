@@ -48,7 +48,7 @@ fn answer_of(pending: &Pending, before: u64) -> Answer
 }
 
 /// Adds those of these TLBIs that a DSB of the PE answers, which comes after so many events.
-#[tactic(auto, using(crate::proofs::WalkCode::keeping))]
+#[tactic(auto)]
 fn add_answers(
     answers: &mut Vec<Answer>,
     pendings: &[Pending],

@@ -69,7 +69,7 @@ fn add_in_front(
 }
 
 /// Adds those of these places that hold something in front, the nearest first.
-#[tactic(auto, using(crate::proofs::WayCode::above_more))]
+#[tactic(auto)]
 fn add_above(
     history: &History<AllPatterns>,
     above: &[Above],
