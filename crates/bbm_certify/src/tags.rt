@@ -5,21 +5,19 @@ ghost use Rattle.std.specs.Prelude.{◌≡◌, ◌<◌, ◌+◌, ◌-◌, ◌^�
 ghost use Rattle.std.specs.Prelude.{take, IfOk, OnOk};
 ghost use Rattle.bbm_regimes.specs.declared.regime.Tag.{Tag as TheTag};
 ghost use Rattle.bbm_events.specs.declared.event.Event.{Event as TheEvent};
-ghost use Rattle.bbm_rules.specs.Claims.{same_tag as is_same_tag};
-ghost use Rattle.bbm_rules.specs.Lists.{any};
 ghost use Rattle.bbm_rules.specs.Tags.{reads};
 ghost use Rattle.bbm_cert.specs.Holdings.{has as has_it};
 ghost use Rattle.bbm_certify.specs.Orders.{Adds};
 ghost use Rattle.bbm_certify.specs.Taken as spec;
 
 use crate::sorted::add_claim;
-use bbm_cert::holdings::has;
+use bbm_cert::holdings::add_readings;
 use bbm_cert::marks::issues;
 use bbm_cert::taken::{Answer, Taking, is_answered, is_readable, takes_away};
 use bbm_events::{Claim, Event, Header};
-use bbm_oracle_tags::{Holding, Reading, kept_at, readings_at};
+use bbm_oracle_tags::{Holding, kept_at, readings_at};
 use bbm_regimes::{NoMemory, Pe};
-use bbm_rules::{law_answered, law_equality_tests};
+use bbm_rules::law_answered;
 use std::alloc::Global;
 
 /// Whether the event is a TLBI of the issuer, and none of the later events answers it.
@@ -154,34 +152,6 @@ pub fn add_tags(
     let before = &events[..events.len() - 1];
     for holding in known {
         add_lost(alloc, header, before, events, holding, due)?;
-    }
-    Ok(())
-}
-
-/// Adds the reading at the PE, unless it is there already.
-fn add_reading(known: &mut Vec<Holding>, pe: Pe, reading: &Reading) -> Result<(), NoMemory>
-    ensures { OnOk result ((p root : ℕ) (tag : TheTag) → has_it known.new.items p root tag
-        ≡ (has_it known.old.items p root tag
-        || (pe == p && (is_same_tag reading.now.tag tag && reading.now.root == root)))) }
-{
-    law_equality_tests();
-    let root = reading.root;
-    let tag = reading.tag;
-    if has(known, pe, root, tag) {
-        Ok(())
-    } else {
-        known.push(Holding { pe, root, tag }).map_err(|_| NoMemory)
-    }
-}
-
-/// Adds the readings at the PE.
-fn add_readings(known: &mut Vec<Holding>, pe: Pe, readings: &[Reading]) -> Result<(), NoMemory>
-    ensures { OnOk result ((p root : ℕ) (tag : TheTag) → has_it known.new.items p root tag
-        ≡ (has_it known.old.items p root tag
-        || (pe == p && any (λ r. is_same_tag r.tag tag && r.root == root) readings.now))) }
-{
-    for reading in readings {
-        add_reading(known, pe, reading)?;
     }
     Ok(())
 }
