@@ -52,7 +52,7 @@ pub use Rattle.bbm_roots.specs.Columns.{loads_in}
 pub use Rattle.bbm_roots.specs.Holds.{IsCalm, Leaves, LeavesThose, Marks, conflict_in, entry_bit, entry_kept, entry_keeps}
 pub use Rattle.bbm_roots.specs.Holds.{has_entry, hold_in, is_clash, is_kept_by, kept_in, kept_tag, keeps_in}
 pub use Rattle.bbm_roots.specs.Holds.{is_held_under, is_hold, left_in, some_pe, tag_in, tag_key}
-pub use Rattle.bbm_roots.specs.HoldsNew.{holds_asids, holds_new, holds_root, holds_under}
+pub use Rattle.bbm_roots.specs.HoldsNew.{all_held, anew, kernel_anew, kernel_tag, own_tag, under_held}
 pub use Rattle.bbm_roots.specs.LeastOf.{IsLeast, ReadingUpTo, UpTo}
 pub use Rattle.bbm_roots.specs.LoadsOf.{readings_after, other_loads, reads_at, firsts_of, firsts_with, standings_of}
 pub use Rattle.bbm_roots.specs.Readings.{asid_readings, has_other, has_reading, has_tag, is_of_tag, is_other}

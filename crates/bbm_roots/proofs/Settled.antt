@@ -1,46 +1,33 @@
 -- A register write that makes nothing readable but what is held: by the PE, or one tag, by its root at some PE.
 use Rattle.bbm_roots.proofs.Common.{◌≡◌, ◌<◌, ℕ, Bool, true, false, ◌&&◌, ◌||◌, not, nat_eq, List, [], ◌∷◌, nat_tests}
-use Rattle.bbm_roots.proofs.Common.{FromTtbr0, FromTtbr1, El2Tag, Ttbr1Tag, Heading, Event, or_assoc, any_found}
-use Rattle.bbm_roots.proofs.Common.{any_finds, other_loads, ◌++◌, Option, Some, None, cond, refl, sym, ◌∙◌, ap}
+use Rattle.bbm_roots.proofs.Common.{FromTtbr0, FromTtbr1, Ttbr1Tag, Heading, Event, or_assoc, any_found}
+use Rattle.bbm_roots.proofs.Common.{any_finds, other_loads, ◌++◌, Option, Some, cond, refl, sym, ◌∙◌, ap}
 use Rattle.bbm_roots.proofs.Common.{list_any, flat_map, false≢true, eq-eqb, not-true, list_any-append, IndexMap, get}
-use Rattle.bbm_roots.proofs.Common.{AsidFrom, El2, S2, Ttbr0, Ttbr1, Reg, Tag, Vmid, Asid, World, Hyp, Kernel}
+use Rattle.bbm_roots.proofs.Common.{AsidFrom, Ttbr1, Reg, Tag, Asid, World, Hyp, Kernel}
 use Rattle.bbm_roots.proofs.Common.{first_true, loads_in, hold_in, entry_bit, entry_kept, kept_tag, has_tag, is_of_tag, tag_key, conflict_in}
-use Rattle.bbm_roots.proofs.Common.{holds_root, holds_asids, holds_under, holds_new, readings_after, asid_readings}
+use Rattle.bbm_roots.proofs.Common.{all_held, anew, kernel_anew, kernel_tag, own_tag, readings_after, asid_readings}
+use Rattle.bbm_roots.proofs.Common.{fun_ext, list_all, reading_under, under_held}
+use Rattle.std.proofs.lemmas.List.Folds.{list_all-append}
 use Rattle.bbm_roots.proofs.Common.{readings_of, readings_with, own_reading, reading_at, has_reading, has_other}
 use Rattle.bbm_roots.proofs.Common.{is_reading, is_other, same_tag, arith, is_first, Stands, world_of, pes_of, Held}
 use Rattle.bbm_roots.proofs.Common.{RootValue, Reading, Roots, or-false, pe_found, tag_equal, is_listed, eqb-true}
 use Rattle.bbm_roots.proofs.Common.{IsCalm, Marks, and-false, firsts_of, firsts_written, standings_of}
-use Rattle.std.specs.List.{list_all}
 use Rattle.bbm_lemmas.proofs.Bools.{and_apart, or_middle}
-use Rattle.bbm_roots.proofs.Tests.{and_right, as-same, or-split}
+use Rattle.bbm_lemmas.proofs.Elements.{every_in}
+use Rattle.bbm_roots.proofs.Tests.{all_flat, and_right, as-same, or-split}
 use Rattle.bbm_roots.proofs.Readable.{firsts-are, readings-same}
 use Rattle.bbm_roots.proofs.Steps.{reads-holds}
-use Rattle.bbm_roots.specs.HoldsNew.{kernel_tag, own_tag}
 use Rattle.bbm_roots.specs.RootJudgements.{IsShared}
 use Rattle.bbm_roots.proofs.Conflicts.{kept_tag-is}
-
--- the tags that a new value makes readable anew, of the first register of the world or the second, by the values of the
--- other register
-abbrev pub kernel_anew : AsidFrom → Bool → RootValue → List RootValue → List Reading
-kernel_anew FromTtbr0 true load other = own_reading Ttbr0 load
-kernel_anew FromTtbr1 true load other = flat_map (λ (y : RootValue). reading_at (Asid y.number) load.root) other
-kernel_anew FromTtbr0 false load other = own_reading Ttbr1 load
-kernel_anew FromTtbr1 false load other = readings_with other load ++ own_reading Ttbr1 load
-
-abbrev pub anew : World → Bool → RootValue → List RootValue → List Reading
-anew (Hyp w) true load other = own_reading El2 load
-anew (Hyp w) false load other = own_reading S2 load
-anew (Kernel w) b load other = kernel_anew w.asid_from b load other
 
 -- what a test finds among what is readable after a write of the value
 module _ (t : Reading → Bool) where
   -- one more value of TTBR0_EL1, under each ASID of the values of TTBR1_EL1
   each : (x : RootValue) (xs ys : List RootValue) →
       list_any t (flat_map (readings_with (x ∷ xs)) ys)
-      ≡ (list_any t (flat_map (λ (y : RootValue). reading_at (Asid y.number) x.root) ys)
-      || list_any t (flat_map (readings_with xs) ys))
+      ≡ (list_any t (flat_map (readings_with (x ∷ [])) ys) || list_any t (flat_map (readings_with xs) ys))
   each x xs [] = refl
-  each x xs (y ∷ ys) = simp (list_any-append t, each x xs ys) (search or_middle)
+  each x xs (y ∷ ys) = simp (list_any-append t, each x xs ys, or-false) (search or_middle)
 
   kernel-after : (from : AsidFrom) (b : Bool) (load : RootValue) (first second : List RootValue) →
       list_any t (asid_readings from (cond b (load ∷ first) first) (cond b second (load ∷ second))
@@ -50,7 +37,7 @@ module _ (t : Reading → Bool) where
   kernel-after FromTtbr0 true load first second = simp (list_any-append t, or_assoc)
   kernel-after FromTtbr1 true load first second = simp (list_any-append t, each load first second, or_assoc)
   kernel-after FromTtbr0 false load first second = simp (list_any-append t) (grind (arith))
-  kernel-after FromTtbr1 false load first second = simp (list_any-append t) (search or_middle)
+  kernel-after FromTtbr1 false load first second = simp (list_any-append t) (grind (arith))
 
   pub after : (world : World) (b : Bool) (load : RootValue) (first second : List RootValue) →
       list_any t (readings_of world (cond b (load ∷ first) first) (cond b second (load ∷ second)))
@@ -59,45 +46,29 @@ module _ (t : Reading → Bool) where
   after (Hyp w) false load first second = simp (list_any-append t) (grind (arith))
   after (Kernel w) b load first second = kernel-after w.asid_from b load first second
 
-module _ {S : Type 0} (hs : IndexMap ℕ Held S) (pe : ℕ) (g : Tag) (r : ℕ) where
-  root-held : (tag : Tag) (root : Option ℕ) → holds_root hs pe tag root ≡ true →
-      list_any (is_reading g r) (reading_at tag root) ≡ true → hold_in hs g r pe ≡ true
-  root-held tag None held e = absurd (false≢true e)
-  root-held tag (Some root) held e =
-      as-same (λ h m. hold_in hs h m pe ≡ true) tag g root r (sym (or-false (same_tag tag g && nat_eq root r)) ∙ e) held
+-- all pairs that give readings are held, value by value
+under-held : {S : Type 0} (hs : IndexMap ℕ Held S) (p : ℕ) (first : List RootValue) (second : RootValue) →
+    all_held hs p (readings_with first second) ≡ under_held hs p first second
+under-held hs p first second = all_flat (λ (x : Reading). hold_in hs x.tag x.root p) (reading_under (Asid second.number)) first
 
-  -- each of some values, with its tag and root
-  all-held : (tag : RootValue → Tag) (root : RootValue → Option ℕ) (xs : List RootValue) →
-      list_all (λ (x : RootValue). holds_root hs pe (tag x) (root x)) xs ≡ true →
-      list_any (is_reading g r) (flat_map (λ (x : RootValue). reading_at (tag x) (root x)) xs) ≡ true →
-      hold_in hs g r pe ≡ true
-  all-held tag root [] all e = absurd (false≢true e)
-  all-held tag root (x ∷ xs) all e =
-      or-split _ _ (hold_in hs g r pe ≡ true)
-      (root-held (tag x) (root x) (first_true (holds_root hs pe (tag x) (root x)) _ all))
-      (all-held tag root xs (and_right (holds_root hs pe (tag x) (root x)) _ all))
-      (sym (list_any-append (is_reading g r) (reading_at (tag x) (root x)) _) ∙ e)
+pub anew-held : {S : Type 0} (hs : IndexMap ℕ Held S) (p : ℕ) (b : Bool) (load : RootValue) (others : List RootValue) →
+    all_held hs p (kernel_anew FromTtbr1 b load others)
+    ≡ cond b (list_all (under_held hs p (load ∷ [])) others)
+    (all_held hs p (reading_at Ttbr1Tag load.root) && under_held hs p others load)
+anew-held hs p true load others =
+    all_flat (λ (x : Reading). hold_in hs x.tag x.root p) (readings_with (load ∷ [])) others
+    ∙ ap (λ (test : RootValue → Bool). list_all test others) (fun_ext (under-held hs p (load ∷ [])))
+anew-held hs p false load others =
+    list_all-append (λ (x : Reading). hold_in hs x.tag x.root p) (reading_at Ttbr1Tag load.root) (readings_with others load)
+    ∙ ap (λ (c : Bool). all_held hs p (reading_at Ttbr1Tag load.root) && c) (under-held hs p others load)
 
-  kernel-held : (from : AsidFrom) (b : Bool) (load : RootValue) (other : List RootValue) →
-      cond b (holds_asids hs pe from load other) (holds_root hs pe Ttbr1Tag load.root && holds_under hs pe from load other)
-      ≡ true → list_any (is_reading g r) (kernel_anew from b load other) ≡ true → hold_in hs g r pe ≡ true
-  kernel-held FromTtbr0 true load other held e = root-held (Asid load.number) load.root held e
-  kernel-held FromTtbr1 true load other held e = all-held (λ y. Asid y.number) (λ y. load.root) other held e
-  kernel-held FromTtbr0 false load other held e = root-held Ttbr1Tag load.root (first_true _ true held) e
-  kernel-held FromTtbr1 false load other held e =
-      or-split _ _ (hold_in hs g r pe ≡ true)
-      (all-held (λ y. Asid load.number) (λ y. y.root) other (and_right (holds_root hs pe Ttbr1Tag load.root) _ held))
-      (root-held Ttbr1Tag load.root (first_true (holds_root hs pe Ttbr1Tag load.root) _ held))
-      (sym (list_any-append (is_reading g r) (readings_with other load) (own_reading Ttbr1 load)) ∙ e)
-
-  -- what a value makes readable anew, where that is held
-  anew-held : (world : World) (b : Bool) (load : RootValue) (other : List RootValue) →
-      holds_new hs pe world b load other ≡ true → has_reading g r (anew world b load other) ≡ true →
-      hold_in hs g r pe ≡ true
-  anew-held (Hyp w) true load other = root-held El2Tag load.root
-  anew-held (Hyp w) false load other = root-held (Vmid load.number) load.root
-  anew-held (Kernel w) true load other = kernel-held w.asid_from true load other
-  anew-held (Kernel w) false load other = kernel-held w.asid_from false load other
+-- a reading of a list that the PE holds
+one-held : {S : Type 0} (hs : IndexMap ℕ Held S) (pe : ℕ) (g : Tag) (r : ℕ) (readings : List Reading) →
+    all_held hs pe readings ≡ true → has_reading g r readings ≡ true → hold_in hs g r pe ≡ true
+one-held hs pe g r readings held e =
+    let x = any_found (is_reading g r) readings e in
+    as-same (λ h m. hold_in hs h m pe ≡ true) x.0.tag g x.0.root r x.2
+    (every_in (λ (y : Reading). hold_in hs y.tag y.root pe) readings x.0 held x.1)
 
 -- an entry is of one root, which holds its tag or left it
 pub one-root : (n : ℕ) (g : Tag) (r s p : ℕ) (o : Option Held) → entry_bit false g r p o ≡ true → nat_eq r s ≡ false →
@@ -177,12 +148,12 @@ values-after roots pe reg load by_values t = by roots.registers.in_order by_valu
 -- where what a value makes readable anew is held, all that is readable after its write is
 pub held-after : (roots : Roots) (pe : ℕ) (reg : Reg) (load : RootValue) (heading : Heading) (h : List Event) →
     Stands roots heading h → pe < pes_of roots → roots.registers.in_order ≡ false →
-    holds_new roots.holds pe (world_of roots) (is_first reg) load (other_loads roots.registers pe reg) ≡ true →
+    all_held roots.holds pe (anew (world_of roots) (is_first reg) load (other_loads roots.registers pe reg)) ≡ true →
     (g : Tag) (r : ℕ) → has_reading g r (readings_after roots.registers pe reg load) ≡ true →
     hold_in roots.holds g r pe ≡ true
 held-after roots pe reg load heading h stands known by_values new g r e =
     or-split _ _ (hold_in roots.holds g r pe ≡ true)
-    (anew-held roots.holds pe g r (world_of roots) (is_first reg) load (other_loads roots.registers pe reg) new)
+    (one-held roots.holds pe g r (anew (world_of roots) (is_first reg) load (other_loads roots.registers pe reg)) new)
     (read-held roots pe heading h stands known g r)
     (sym (values-after roots pe reg load by_values (is_reading g r)) ∙ e)
 

@@ -4,9 +4,9 @@ use Rattle.bbm_roots.proofs.Common.{any_found, any_finds, eqb-true, subst, arith
 use Rattle.bbm_roots.proofs.Common.{true_from_ne_false, false≢true, lt-ltb, ltb-true, proved, If, Is, Tag}
 use Rattle.bbm_roots.proofs.Common.{some_pe, is_hold, same_flag, same_tag, Held, first_true, zero, suc, ◌+◌, ◌||◌, List}
 use Rattle.bbm_roots.proofs.Common.{[], ◌∷◌, length, take, get_or, list_any, Option, Some, None, TagSet, Many, HasTags}
-use Rattle.bbm_roots.proofs.Common.{IsLeast}
+use Rattle.bbm_roots.proofs.Common.{IsLeast, flat_map, list_all}
 use Rattle.std.proofs.Common.{IsTrue}
-use Rattle.std.proofs.lemmas.List.Folds.{list_any_more}
+use Rattle.std.proofs.lemmas.List.Folds.{list_all-append, list_any_more}
 use Rattle.bbm_tlbi_scope.specs.declared.entry.TagSet.TheVariants.{None as NoTag, One}
 
 -- where no PE below n passes, this one doesn't
@@ -45,6 +45,13 @@ as-same P tag g root r e x =
 pub any-weaker : {X : Type 0} (strong weak : X → Bool) → ((x : X) → strong x ≡ true → weak x ≡ true) →
     (xs : List X) → list_any strong xs ≡ true → list_any weak xs ≡ true
 any-weaker strong weak h xs e = let f = any_found strong xs e in any_finds weak xs f.0 f.1 (h f.0 f.2)
+
+-- a test that all of what each element gives passes
+pub all_flat : {X Y : Type 0} (test : Y → Bool) (f : X → List Y) (xs : List X) →
+    list_all test (flat_map f xs) ≡ list_all (λ x. list_all test (f x)) xs
+all_flat test f [] = refl
+all_flat test f (x ∷ xs) =
+    list_all-append test (f x) (flat_map f xs) ∙ ap (λ (b : Bool). list_all test (f x) && b) (all_flat test f xs)
 
 -- what a loop has found with the item at its index
 pub any-next : {X : Type 0} (test : X → Bool) (xs : List X) (i : ℕ) (x : X) → i < length xs → x ≡ get_or xs i x →

@@ -9,7 +9,7 @@ use Rattle.bbm_rules.specs.RegisterValues.{named_scope, vmid_of}
 use Rattle.bbm_rules.specs.declared.step_fault.StepFault.{StepFault}
 use Rattle.bbm_rules.specs.declared.step_fault.StepFault.TheVariants.{Broken, Limit, NoMemory}
 use Rattle.bbm_roots.specs.Holds.{tag_in}
-use Rattle.bbm_roots.specs.HoldsNew.{holds_new, own_tag}
+use Rattle.bbm_roots.specs.HoldsNew.{all_held, anew, own_tag}
 use Rattle.bbm_roots.specs.LoadsOf.{loads_of, other_loads}
 use Rattle.bbm_roots.specs.RootPendings.{IsQuiet}
 use Rattle.bbm_roots.specs.RootRegisters.{is_first}
@@ -43,7 +43,8 @@ pub record IsSettled (pe : ℕ) (reg : Reg) (load : RootValue) (roots : Roots) :
   pub by_values : roots.registers.in_order ≡ false
   pub room : length (loads_of roots.registers pe reg) < 9
   pub quiet : IsQuiet roots.pendings
-  pub held : holds_new roots.holds pe (world_of roots) (is_first reg) load (other_loads roots.registers pe reg) ≡ true
+  pub held : all_held roots.holds pe (anew (world_of roots) (is_first reg) load (other_loads roots.registers pe reg))
+      ≡ true
 
 -- A write of the value makes one tag readable anew, which its root holds at some PE: readings don't go by standings,
 -- the register isn't full, and no TLBI waits.

@@ -5,6 +5,7 @@ ghost use Rattle.std.specs.Prelude.{◌≡◌, Some, true};
 ghost use Rattle.std.specs.List.{list_all};
 ghost use Rattle.bbm_roots.specs.Holds.{hold_in, tag_in};
 ghost use Rattle.bbm_roots.specs.HoldsNew as spec;
+ghost use Rattle.bbm_roots.specs.Readings.{reading_at};
 ghost use Rattle.bbm_roots.specs.declared.reading.Reading.{Reading as TheReading};
 
 use crate::hold::{Holds, is_held_at, some_pe, tag_key};
@@ -81,7 +82,7 @@ fn known_for(holds: &Holds, n: PeCount, tag: Tag, root: Page, pe: Pe) -> Shortcu
 
 /// What is known of the tag for the root at the PE and the first n; `Held` where there is no root.
 pub fn known_tag(holds: &Holds, n: PeCount, tag: Tag, root: Option<Page>, pe: Pe) -> Shortcut
-    ensures held { result ≡ Shortcut.Held → spec.holds_root holds.now pe tag root ≡ true }
+    ensures held { result ≡ Shortcut.Held → spec.all_held holds.now pe (reading_at tag root) ≡ true }
     ensures shared { (x : TheReading) → result ≡ Shortcut.Shared x
         → (x.tag ≡ tag) × (root ≡ Some x.root) × (tag_in holds.now n x.tag x.root ≡ true) }
 {
@@ -93,7 +94,7 @@ pub fn known_tag(holds: &Holds, n: PeCount, tag: Tag, root: Option<Page>, pe: Pe
 
 /// Whether the PE holds the tag for the root, where there is one.
 fn holds_root(holds: &Holds, tag: Tag, root: Option<Page>, pe: Pe) -> bool
-    ensures { result ≡ spec.holds_root holds.now pe tag root }
+    ensures { result ≡ spec.all_held holds.now pe (reading_at tag root) }
 {
     match root {
         Some(root) => is_held_at(holds, tag, root, pe),
@@ -101,89 +102,36 @@ fn holds_root(holds: &Holds, tag: Tag, root: Option<Page>, pe: Pe) -> bool
     }
 }
 
-/// Whether the PE holds the root of a value of TTBR0_EL1 under the ASID of one of TTBR1_EL1. True where it names none.
-fn holds_asid(holds: &Holds, first: &RootValue, second: &RootValue, pe: Pe) -> bool
-    ensures { result ≡ spec.holds_asid holds.now pe first.now second.now }
+/// Whether the PE holds the roots of these values of TTBR0_EL1 under the ASID of a value of TTBR1_EL1.
+fn holds_under(holds: &Holds, first: &[RootValue], second: &RootValue, pe: Pe) -> bool
+    ensures { result ≡ spec.under_held holds.now pe first.now second.now }
 {
-    holds_root(holds, Tag::Asid(second.number), first.root, pe)
+    first.iter().all(|load| holds_root(holds, Tag::Asid(second.number), load.root, pe))
 }
 
-/// Whether the PE holds the root of a value of TTBR0_EL1 under the ASID of each of these values of TTBR1_EL1.
-fn holds_each(holds: &Holds, load: &RootValue, second: &[RootValue], pe: Pe) -> bool
-    ensures { result ≡ list_all (spec.holds_asid holds.now pe load.now) second.now }
+/// Whether the PE holds the roots of these values of TTBR0_EL1 under the ASID of each of these of TTBR1_EL1.
+fn holds_pairs(holds: &Holds, first: &[RootValue], second: &[RootValue], pe: Pe) -> bool
+    ensures { result ≡ list_all (spec.under_held holds.now pe first.now) second.now }
 {
     second
         .iter()
-        .all(|other| holds_asid(holds, load, other, pe))
+        .all(|load| holds_under(holds, first, load, pe))
 }
 
-/// Whether the PE holds the root of each of these values of TTBR0_EL1 under the ASID of a value of TTBR1_EL1.
-fn holds_all(holds: &Holds, load: &RootValue, first: &[RootValue], pe: Pe) -> bool
-    ensures { result ≡ list_all (spec.holds_given holds.now pe load.now) first.now }
-{
-    first.iter().all(|other| holds_asid(holds, other, load, pe))
-}
-
-/// Whether the PE holds the root of a new value of TTBR0_EL1, under each ASID that it has by the values of TTBR1_EL1.
-fn holds_asids(
+/// Whether the PE holds, for its root, each tag that a new value of TTBR0_EL1, the first, or TTBR1_EL1 makes readable
+/// anew, by the values of the other register. The ASID is that of TTBR1_EL1.
+pub fn holds_anew(
     holds: &Holds,
-    asid_from: AsidFrom,
-    load: &RootValue,
-    second: &[RootValue],
-    pe: Pe,
-) -> bool
-    ensures { result ≡ spec.holds_asids holds.now pe asid_from load.now second.now }
-{
-    match asid_from {
-        AsidFrom::Ttbr0 => holds_root(holds, Tag::Asid(load.number), load.root, pe),
-        AsidFrom::Ttbr1 => holds_each(holds, load, second, pe),
-    }
-}
-
-/// Whether the PE holds the roots of the values of TTBR0_EL1, under the ASID that a new value of TTBR1_EL1 gives them.
-fn holds_under(
-    holds: &Holds,
-    asid_from: AsidFrom,
-    load: &RootValue,
-    first: &[RootValue],
-    pe: Pe,
-) -> bool
-    ensures { result ≡ spec.holds_under holds.now pe asid_from load.now first.now }
-{
-    match asid_from {
-        AsidFrom::Ttbr0 => true,
-        AsidFrom::Ttbr1 => holds_all(holds, load, first, pe),
-    }
-}
-
-/// Whether the PE holds, for its root, each tag that a new value makes readable anew: of the first register of the
-/// world, or the second, by the values of the other register.
-pub fn holds_new(
-    holds: &Holds,
-    world: World,
     first: bool,
     load: &RootValue,
-    other: &[RootValue],
+    others: &[RootValue],
     pe: Pe,
 ) -> bool
-    ensures { result ≡ spec.holds_new holds.now pe world first load.now other.now }
+    ensures { result ≡ spec.all_held holds.now pe (spec.kernel_anew AsidFrom.Ttbr1 first load.now others.now) }
 {
-    match world {
-        World::Hyp(_) => {
-            let tag = if first {
-                Tag::El2
-            } else {
-                Tag::Vmid(load.number)
-            };
-            holds_root(holds, tag, load.root, pe)
-        }
-        World::Kernel(world) => {
-            if first {
-                holds_asids(holds, world.asid_from, load, other, pe)
-            } else {
-                holds_root(holds, Tag::Ttbr1, load.root, pe)
-                    && holds_under(holds, world.asid_from, load, other, pe)
-            }
-        }
+    if first {
+        holds_pairs(holds, &[*load], others, pe)
+    } else {
+        holds_root(holds, Tag::Ttbr1, load.root, pe) && holds_under(holds, others, load, pe)
     }
 }

@@ -122,8 +122,8 @@ impl Roots {
         match anew::own_tag(world, is_first(reg), load.number) {
             Some(tag) => anew::known_tag(&self.holds, self.registers.pes, tag, load.root, pe),
             None => {
-                let other = self.registers.others(pe, reg);
-                if anew::holds_new(&self.holds, world, is_first(reg), load, other, pe) {
+                let others = self.registers.others(pe, reg);
+                if anew::holds_anew(&self.holds, is_first(reg), load, others, pe) {
                     Shortcut::Held
                 } else {
                     Shortcut::Open

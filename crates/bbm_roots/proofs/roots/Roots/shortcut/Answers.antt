@@ -1,4 +1,4 @@
--- What is known of the one tag that a value makes readable.
+-- What is known of the tags that a value makes readable.
 use Rattle.bbm_roots.proofs.Common.{◌≡◌, ◌<◌, ℕ, false, nat_le, nat_tests, arith, Bool, ◌&&◌, ap, tag_key, slot_of}
 use Rattle.bbm_roots.proofs.Common.{wait_at, wait_bit}
 use Rattle.bbm_roots.proofs.roots.Roots.shortcut.Goals as goal
