@@ -24,5 +24,5 @@ returns-clause-accepted c limits bytes count heading accepted header = still_acc
 }) bytes count accepted (λ g ok. record {
   judged = λ h e kept. c.law_idle.ensures.judged g h (is_idle g) e ok (λ older x idle. idle) kept;
   limits_stay = λ h kept. let alike = c.law_idle.ensures.alike g h (is_idle g) ok (λ older x idle. idle) kept in
-      record { roots = alike.roots; registers = alike.registers };
+      record { roots = alike.roots; registers = alike.registers.values };
 }) heading header

@@ -1,6 +1,5 @@
 use Rattle.bbm_session.proofs.Common.{Patterns, Judge, Verify, Generate, Selftest}
 use Rattle.bbm_rules.proofs.Common.{◌≡◌}
-use Rattle.bbm_session.specs.Requests as requests
 use Rattle.bbm_session.proofs.Served.{served-accepted, served-accepts, served-as, served-fault, served-generated}
 use Rattle.bbm_session.proofs.Served.{served-part, served-part_of_some, served-read, served-selftested, served-some}
 use Rattle.bbm_session.proofs.Served.{served-status, served-text, served-unread, served-untold, served-untouched}
