@@ -206,8 +206,8 @@ fn add(held: &mut Vec<Holding>, pe: Pe, root: u64, tag: Tag) -> Result<(), NoMem
     }
 }
 
-/// Adds that roots hold tags at the PE, those of the readings that aren't there already. `NoMemory` where there is none;
-/// some may be added then.
+/// Adds that roots hold tags at the PE, those of the readings that aren't there already. `NoMemory` where there is
+/// none; some may be added then.
 pub fn add_readings(held: &mut Vec<Holding>, pe: Pe, readings: &[Reading]) -> Result<(), NoMemory>
     ensures { OnOk result ((p root : ℕ) (tag : TheTag) → has_it held.new.items p root tag
         ≡ (has_it held.old.items p root tag
