@@ -26,7 +26,8 @@ UNFLUSHED = Premise(
     "root was given up (docs/LOGGING.md, \"Roots that are given up\").")
 INORDER = Premise(
     "inorder", ("tag-conflict", *OF_PLACES), "If a PE's root registers come into use in order, by bbm",
-    "The word is a premise: the root registers of a PE come into use in the order in which it wrote them (docs/MACHINE.md).")
+    "The word is a premise: the root registers of a PE come into use in the order in which it wrote them (docs/LOGGING.md, \"Two "
+    "registers and one ISB\").")
 PREMISES = (UNFLUSHED, INORDER)
 
 
