@@ -130,8 +130,8 @@ class Repairer:
                 (found if self.home.has(repair.change) and not self.is_alike(repair.whole) else self.borrowing).append(repair)
             if len(found) == RANKED or len(self.failed) >= MOST_FAILED:
                 break
-        return sorted(found, key=lambda repair: (not repair.change.synchronises, -repair.reach, self.alters_repeat(repair.change),
-                                                 self.farness(repair.change), bool(repair.change.idea),
+        return sorted(found, key=lambda repair: (not repair.change.synchronises, self.alters_repeat(repair.change), bool(repair.change.idea),
+                                                 -repair.reach, self.farness(repair.change),
                                                  repair.change.moves and not is_about_tags(self.scene)))
 
     def search(self) -> list[Repair]:
