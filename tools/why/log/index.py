@@ -21,7 +21,7 @@ TAGS_TRIED = 8
 NOT_FRESH = 6
 LOADED = 200
 # How many lines of each kind are near a line, and how many of the last ones count.
-BEFORE, BEHIND, FLUSHES, FOCUSED, TRIED_LOCKS, WAY = 6, 6, 3, 4, 8, 24
+BEFORE, BEHIND, FLUSHES, FOCUSED, LOADS, TRIED_LOCKS, WAY = 6, 6, 3, 4, 2, 8, 24
 
 
 class Write(NamedTuple):
@@ -172,17 +172,17 @@ class Index:
 
     # ---- registers and locks
 
-    def registers_near(self, way: Way) -> list[Register]:
-        """The register writes that name a page of the way as it is now or none, and those next to them by the same PE."""
-        by_pe, found = defaultdict(list), set()
+    def registers_near(self, way: Way, most: int = 0) -> list[Register]:
+        """The register writes that name a page of the way as it is now or none, all or so many of the last, each with those next to
+        it by the same PE: an ASID may stand in the one before."""
+        by_pe, found = defaultdict(list), {}
         for register in self.registers:
             by_pe[register.pe].append(register)
         begun = {page: self.begun(page) for page in way.pages}
         for written in by_pe.values():
-            for i, register in enumerate(written):
-                if register.page in begun and register.at >= begun[register.page]:
-                    found.update(written[max(0, i - 1):i + 2])
-        return sorted(register for register in found if register.at < self.last)
+            found |= {register: written[max(0, i - 1):i + 2] for i, register in enumerate(written)
+                      if register.page in begun and register.at >= begun[register.page]}
+        return sorted({near for register in sorted(found)[-most:] for near in found[register] if near.at < self.last})
 
     def with_its_root(self, register: Register) -> list[int]:
         """A register write with the lines that make its root, and the next `isb` of its PE."""
@@ -240,7 +240,7 @@ class Index:
         way = self.climb(True)
         way.lines.update(self.of_refused(True), *map(self.of_held, held))
         changed = sorted(at for at in way.lines if self.fields(at)[0] in (b"w", b"unroot") and at < self.last)
-        registers = self.registers_near(way)[-FOCUSED:]
+        registers = self.registers_near(way, LOADS)
         is_write = self.refused.word in ("w", "init")
         focus = [*changed[-FOCUSED:], *held, *([] if is_write else [register.at for register in registers]), self.last]
         barriers = self.of_words(*(BARRIERS[:2] if is_write else BARRIERS))

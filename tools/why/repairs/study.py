@@ -117,9 +117,9 @@ class Repairer:
         return any(event.word == "tlbi" and self.tlbis[event.rest] >= OFTEN for event in altered)
 
     def found_with(self, tries: Iterable[Family], before: list[Repair]) -> list[Repair]:
-        """Changes that pass, of which none shares an edit's site with one before: an ISB alone first, then those with which the
-        whole log gets furthest, of these those that alter no repeat, those next to the break, those by address, and moves last
-        where it isn't about tags. Those that borrow another place's flush are kept apart."""
+        """Changes that pass, of which none shares an edit's site with one before: an ISB alone first, those that alter a repeat last
+        and before them TLBIs for all under a tag, which may hide other bugs; of these those with which the whole log gets furthest,
+        those next to the break, and moves last where it isn't about tags. Those that borrow another place's flush are kept apart."""
         found: list[Repair] = []
         for family in tries:
             known = [repair.change for repair in (*before, *found)]
