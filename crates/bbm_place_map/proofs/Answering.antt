@@ -26,7 +26,7 @@ completes_whole by cells entries none j =
     let is = none_broken entries none (slot_in cells j) in
     completes_at by (entry_in cells entries j) None (entry_in cells entries j) None is is (completes_none by)
 
--- it changed
+-- it changed, and left
 module _ (by : Barrier) (cells : List ℕ) (entries mid : List Entry) (k : ℕ) (e f : Entry)
     (linked : Linked cells entries) (was : slice_get entries k ≡ Some e) (seated : position f ≡ position e)
     (gets : (i : ℕ) → slice_get mid i ≡ (if nat_eq i k then Some f else slice_get entries i)) (j : ℕ) (at : cell_at entries k ≡ Some j) where
@@ -36,16 +36,6 @@ module _ (by : Barrier) (cells : List ℕ) (entries mid : List Entry) (k : ℕ) 
   mid_is : (i : ℕ) → entry_in cells mid i ≡ (if nat_eq i j then Some f else entry_in cells entries i)
   mid_is = entries_changed cells entries mid e f j k linked (linked.back j k at) was seated gets
 
-  pub here_kept : Completed (Broken e.marks) (pends_in e.pends.items by.issuer) by.dsb by.n (Broken f.marks) (pends_in f.pends.items by.issuer)
-      → ((q : ℕ) → q ≢ by.issuer → pends_in f.pends.items q ≡ pends_in e.pends.items q)
-      → Completes by (entry_in cells entries j) (entry_in cells mid j)
-  here_kept done others =
-      completes_at by (entry_in cells entries j) (Some e) (entry_in cells mid j) (Some f) old_entry (put_here _ _ mid_is j refl) (record {
-        own = done;
-        others = λ q other b c p. ap (λ (x : Pends). waits x b c p) (others q other);
-      })
-
-  -- and left
   pub here_gone : (cells' : List ℕ) (entries' : List Entry)
       → ((j : ℕ) → cell_at mid k ≡ Some j → (i : ℕ) → entry_in cells' entries' i ≡ (if nat_eq i j then None else entry_in cells mid i))
       → Completed (Broken e.marks) (pends_in e.pends.items by.issuer) by.dsb by.n Clean no_pends

@@ -42,7 +42,7 @@ pub use Rattle.bbm_lemmas.specs.EveryPe.{every_pe}
 pub use Rattle.bbm_place_map.proofs.Points.{either, if_then, put_away, put_here, split_at, split_by}
 pub use Rattle.bbm_place_map.specs.Cells.{cell_by, in_page, in_part, is_at, is_listed, number_of, slot_in, value_in}
 pub use Rattle.bbm_place_map.specs.Dsbs.{IsHeard, IsUnanswered}
-pub use Rattle.bbm_place_map.specs.Each.{Advances, Completes, Publishes, is_table, loses_table}
+pub use Rattle.bbm_place_map.specs.Each.{Advances, Completes, Does, MayDo, Publishes, is_table, loses_table}
 pub use Rattle.bbm_place_map.specs.Entries.{Adds, HasRoom, IsFirst, Lacks, WaitsAlike, cell_at, entry_in, entry_of}
 pub use Rattle.bbm_place_map.specs.Entries.{lane_of, marks_of, no_pend, no_pends, pend_in, pends_in, pends_of, position}
 pub use Rattle.bbm_place_map.specs.Entries.{position_at}
@@ -54,13 +54,14 @@ pub use Rattle.bbm_place_map.specs.PlaceNotes.{Keeps, NotesAs, NotesAt, NotesFou
 pub use Rattle.bbm_place_map.specs.Sound.{Linked, Numbered, Parted, Placed, SameSize, StillSound, at_index, index_of}
 pub use Rattle.bbm_place_map.specs.Sound.{starts}
 pub use Rattle.bbm_place_map.specs.States.{marks_of_state, state_from}
-pub use Rattle.bbm_place_map.specs.Works.{Holds, HoldsFor, IsQuiet, IsTold, MayComplete, MayPublish, Waits, is_clean}
-pub use Rattle.bbm_place_map.specs.Works.{part}
+pub use Rattle.bbm_place_map.specs.Works.{Holds, HoldsFor, IsQuiet, IsTold, Rests, RestsAt, Stays, Waits, is_clean, part}
 pub use Rattle.bbm_place_map.specs.declared.entry.Entry.{Entry}
 pub use Rattle.bbm_place_map.specs.declared.entry.Pending.{Pending}
 pub use Rattle.bbm_place_map.specs.declared.found.Found.{Found}
 pub use Rattle.bbm_place_map.specs.declared.map.PlaceMap.{PlaceMap}
 pub use Rattle.bbm_place_map.specs.declared.orders.Barrier.{Barrier}
+pub use Rattle.bbm_place_map.specs.declared.orders.Effect.{Effect}
+pub use Rattle.bbm_place_map.specs.declared.orders.Effect.TheVariants.{Complete, Publish}
 pub use Rattle.bbm_place_map.specs.declared.orders.Issuing.{Issuing}
 pub use Rattle.bbm_place_map.specs.declared.work.Work.{Work}
 pub use Rattle.bbm_place_map.specs.declared.work.WorkList.{WorkList}

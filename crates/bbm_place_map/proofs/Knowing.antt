@@ -2,13 +2,13 @@
 use Rattle.bbm_place_map.proofs.Common.{◌≡◌, ℕ, ◌<◌, ◌⊎◌, true, false, nat_eq, zero, suc, List, [], ◌∷◌, length, get_or}
 use Rattle.bbm_place_map.proofs.Common.{Option, Some, None, Contains, refl, ap, sym, subst, ◌∙◌, arith, inl, inr, Bool}
 use Rattle.bbm_place_map.proofs.Common.{slice_get, cases_Bool, eq-eqb, eqb-true, false≢true, or_left, or_right}
-use Rattle.bbm_place_map.proofs.Common.{same_Some, Marks, entry_in, marks_of, pends_of, pends_in, no_pends, marks_in}
-use Rattle.bbm_place_map.proofs.Common.{pends_for, Linked, Holds, HoldsFor, IsQuiet, IsTold, part, Entry, WorkList}
-use Rattle.bbm_place_map.proofs.Common.{either}
+use Rattle.bbm_place_map.proofs.Common.{same_Some, none-some, IfSome, Marks, PeMask, entry_in, marks_of, pends_of}
+use Rattle.bbm_place_map.proofs.Common.{no_pends, Linked, Holds, HoldsFor, IsQuiet, IsTold, Rests, part, Entry}
+use Rattle.bbm_place_map.proofs.Common.{Complete, Publish, Stays, WorkList, either, is_clean}
 use Rattle.std.proofs.lemmas.Bool.{or_cases}
 use Rattle.bbm_place_map.specs.Works.{is_in, holds, has, holds_for}
 use Rattle.bbm_place_map.proofs.Idle.{idle_from, quiet_from}
-use Rattle.bbm_place_map.proofs.Seats.{marked, seat_of, seated_at, by_entry}
+use Rattle.bbm_place_map.proofs.Seats.{by_entry, seat_of}
 
 in_from : (xs : List ℕ) (k d j : ℕ) → k < length xs → get_or xs k d ≡ j → is_in xs j ≡ true
 in_from [] k d j within is = absurd (omega arith)
@@ -65,24 +65,32 @@ or_known lists q wide j P h none =
     ]
 
 -- what is known of each entry is known of each cell
-module _ (cells : List ℕ) (entries : List Entry) (linked : Linked cells entries) (P : ℕ → Type 0) where
-  pub quiet_by_cell : (wide : Bool) (q : ℕ)
-      → ((k : ℕ) (e : Entry) → slice_get entries k ≡ Some e → P e.cell ⊎ IsQuiet wide (pends_in e.pends.items q))
-      → (j : ℕ) → P j ⊎ IsQuiet wide (pends_for cells entries q j)
-  quiet_by_cell wide q known j =
-      by_entry (λ o. P j ⊎ IsQuiet wide (pends_of q o)) (entry_in cells entries j)
-      (λ _. inr (quiet_from wide no_pends (idle_from no_pends refl)))
-      (λ e is. let s = seat_of linked j e is in either (known s.0 e s.2) (subst P s.3) (λ quiet. quiet))
+pub rests_by_cell : (cells : List ℕ) (entries : List Entry) → Linked cells entries → (P : ℕ → Type 0) (R : Entry → Type 0)
+    → ((k : ℕ) (e : Entry) → slice_get entries k ≡ Some e → P e.cell ⊎ R e) → (j : ℕ) → P j ⊎ IfSome (entry_in cells entries j) R
+rests_by_cell cells entries linked P R known j =
+    by_entry (λ o. P j ⊎ IfSome o R) (entry_in cells entries j) (λ _. inr tt)
+    (λ e is. let s = seat_of linked j e is in either (known s.0 e s.2) (subst P s.3) (λ rests. rests))
 
-  pub told_by_cell : (wide : Bool) (n q : ℕ)
-      → ((k : ℕ) (e : Entry) → slice_get entries k ≡ Some e → P e.cell ⊎ IsTold wide n q e.marks)
-      → (j : ℕ) (marks : Marks) → marks_in cells entries j ≡ Some marks → P j ⊎ IsTold wide n q marks
-  told_by_cell wide n q known j marks is =
-      let m = marked (entry_in cells entries j) marks is in
-      let s = seat_of linked j m.0 m.1 in
-      subst (λ (x : Marks). P j ⊎ IsTold wide n q x) m.2 (either (known s.0 m.0 s.2) (subst P s.3) (λ told. told))
+pub stays_by : (n : ℕ) (o : Option Entry) → ((marks : Marks) → marks_of o ≡ Some marks → is_clean n marks ≡ false) → Stays Complete n o
+stays_by n None unclean = tt
+stays_by n (Some e) unclean = unclean e.marks refl
 
-  pub told_entry : (wide : Bool) (n q : ℕ)
-      → ((j : ℕ) (marks : Marks) → marks_in cells entries j ≡ Some marks → P j ⊎ IsTold wide n q marks)
-      → (k : ℕ) (e : Entry) → slice_get entries k ≡ Some e → P e.cell ⊎ IsTold wide n q e.marks
-  told_entry wide n q known k e is = known e.cell e.marks (ap marks_of (seated_at linked k e is))
+-- what is known of the marks, or of what waits, is known of the entry
+module _ (wide : Bool) (n q : ℕ) where
+  pub told_to : (heard : PeMask) (P : Type 0) (o : Option Entry) → ((marks : Marks) → marks_of o ≡ Some marks → P ⊎ IsTold wide n q marks)
+      → P ⊎ Rests (Publish heard) wide n q o
+  told_to heard P None known = inr tt
+  told_to heard P (Some e) known = known e.marks refl
+
+  pub told_from : (heard : PeMask) (P : Type 0) (o : Option Entry) → P ⊎ Rests (Publish heard) wide n q o
+      → (marks : Marks) → marks_of o ≡ Some marks → P ⊎ IsTold wide n q marks
+  told_from heard P None known marks is = absurd (none-some marks is)
+  told_from heard P (Some e) known marks is = subst (λ (x : Marks). P ⊎ IsTold wide n q x) (same_Some e.marks marks is) known
+
+  pub quiet_to : (o : Option Entry) → IsQuiet wide (pends_of q o) → Rests Complete wide n q o
+  quiet_to None quiet = tt
+  quiet_to (Some e) quiet = quiet
+
+  pub quiet_of_rest : (o : Option Entry) → Rests Complete wide n q o → IsQuiet wide (pends_of q o)
+  quiet_of_rest None rests = quiet_from wide no_pends (idle_from no_pends refl)
+  quiet_of_rest (Some e) rests = rests

@@ -22,12 +22,12 @@ pub mod Holding
 pub mod Knowing
 pub mod Advancing
 pub mod Telling
-pub mod Publishing
 pub mod Published
 pub mod Completing
 pub mod Answering
 pub mod Idling
 pub mod Resting
+pub mod Doing
 pub mod Rounds
 pub mod Listing
 pub mod Completed

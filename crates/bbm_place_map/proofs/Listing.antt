@@ -5,12 +5,11 @@ use Rattle.bbm_place_map.proofs.Common.{cases_eq, ne_eqb, same_Some, none-some, 
 use Rattle.bbm_place_map.proofs.Common.{Pends, slot_in, Advances, Publishes, Completes, entry_of, entry_in, marks_of}
 use Rattle.bbm_place_map.proofs.Common.{pends_of, pends_in, Keeps, marks_in, pends_for, Linked, HoldsFor, IsQuiet}
 use Rattle.bbm_place_map.proofs.Common.{IsTold, Waits, is_clean, Entry, Barrier, Issuing, Pending, WorkList, Vec}
-use Rattle.bbm_place_map.proofs.Common.{Global, waits, pe_in, Work, nil_from_length, put_here, put_away, either}
-use Rattle.bbm_place_map.specs.Dsbs.{HoldUntold, HoldWaiting}
+use Rattle.bbm_place_map.proofs.Common.{Global, PeMask, Publish, Complete, Rests, waits, pe_in, Work, nil_from_length, put_here, put_away, either}
 use Rattle.bbm_place_map.specs.Works.{IsToldAsBefore, GivesUp, Listed}
 use Rattle.bbm_place_map.proofs.Advancing.{of_cell, by_entries, column_kept}
 use Rattle.bbm_place_map.proofs.Idle.{idle_from, quiet_from, none_kept}
-use Rattle.bbm_place_map.proofs.Knowing.{known_or, or_known, told_by_cell}
+use Rattle.bbm_place_map.proofs.Knowing.{known_or, or_known, quiet_of_rest, told_from}
 use Rattle.bbm_lemmas.proofs.Every.{every_none}
 use Rattle.bbm_place_map.proofs.Resting.{completes_unclean, quiet_others, told_completed}
 use Rattle.bbm_place_map.proofs.Telling.{told_no_writer, told_after_write, told_kept}
@@ -153,25 +152,25 @@ listed_fresh w w' cells cells' entries entries' j pe marks pes none writers clea
     kept waiting (λ is. sym settled ∙ is) (λ is. every_none w.pes (λ p. pe_in marks.clean p) listed.some clean) marks_are pends_are listed
 
 -- a DSB publishes
-module _ (w : Work) (lists : Vec WorkList Global) (by : Barrier) (cells : List ℕ) (entries entries' : List Entry) (number : w.pes ≡ by.n)
-    (each : (k : ℕ) → Advances (Publishes by) (slice_get entries k) (slice_get entries' k))
-    (known : HoldUntold (HoldsFor lists.items by.issuer) by entries')
+module _ (w : Work) (lists : Vec WorkList Global) (by : Barrier) (heard : PeMask) (cells cells' : List ℕ) (entries entries' : List Entry)
+    (number : w.pes ≡ by.n) (each : (j : ℕ) → Advances (Publishes by) (entry_in cells entries j) (entry_in cells' entries' j))
+    (known : (wide : Bool) (j : ℕ) → HoldsFor lists.items by.issuer wide j
+    ⊎ Rests (Publish heard) wide by.n by.issuer (entry_in cells' entries' j))
     (others : (wide : Bool) (q j : ℕ) → q ≢ by.issuer → HoldsFor w.unpublished.items q wide j → HoldsFor lists.items q wide j)
-    (linked' : Linked cells entries') (listed : Listed w cells entries) where
+    (listed : Listed w cells entries) where
   by_cell : (P : Option Entry → Option Entry → Type 0) → P None None → ((e f : Entry) → Publishes by e f → P (Some e) (Some f))
-      → (j : ℕ) → P (entry_in cells entries j) (entry_in cells entries' j)
+      → (j : ℕ) → P (entry_in cells entries j) (entry_in cells' entries' j)
   by_cell P none some j =
-      by_entries (Publishes by) P none (λ e f seated. some e f) (entry_in cells entries j) (entry_in cells entries' j)
-      (of_cell (Publishes by) entries entries' each (slot_in cells j))
+      by_entries (Publishes by) P none (λ e f seated. some e f) (entry_in cells entries j) (entry_in cells' entries' j) (each j)
 
-  told_then : (wide : Bool) (q j : ℕ) (marks : Marks) → q < w.pes → marks_in cells entries' j ≡ Some marks
+  told_then : (wide : Bool) (q j : ℕ) (marks : Marks) → q < w.pes → marks_in cells' entries' j ≡ Some marks
       → HoldsFor lists.items q wide j ⊎ IsTold wide w.pes q marks
   told_then wide q j marks below is =
       elim (cases_eq q by.issuer) [
         | inl same ↦
             subst (λ (n : ℕ). HoldsFor lists.items q wide j ⊎ IsTold wide n q marks) (sym number)
             (subst (λ (x : ℕ). HoldsFor lists.items x wide j ⊎ IsTold wide by.n x marks) (sym same)
-            (told_by_cell cells entries' linked' (HoldsFor lists.items by.issuer wide) wide by.n by.issuer (known wide) j marks is))
+            (told_from wide by.n by.issuer heard (HoldsFor lists.items by.issuer wide j) (entry_in cells' entries' j) (known wide j) marks is))
         | inr other ↦
             by_cell (λ o p. ((m : Marks) → marks_of o ≡ Some m → HoldsFor w.unpublished.items q wide j ⊎ IsTold wide w.pes q m)
             → (m : Marks) → marks_of p ≡ Some m → HoldsFor lists.items q wide j ⊎ IsTold wide w.pes q m)
@@ -181,7 +180,7 @@ module _ (w : Work) (lists : Vec WorkList Global) (by : Barrier) (cells : List �
             j (λ m. told_of listed wide q j m below) marks is
       ]
 
-  pub listed_published : Listed (record w { unpublished = lists }) cells entries'
+  pub listed_published : Listed (record w { unpublished = lists }) cells' entries'
   listed_published =
       listed_by w.pes refl listed.some told_then
       (λ wide q j. subst (λ (x : Pends). HoldsFor w.waiting.items q wide j ⊎ IsQuiet wide x)
@@ -196,7 +195,7 @@ module _ (w : Work) (lists : Vec WorkList Global) (by : Barrier) (cells : List �
 -- a DSB answers
 pub listed_completed : (w : Work) (lists : Vec WorkList Global) (by : Barrier) (cells cells' : List ℕ) (entries entries' : List Entry) → w.pes ≡ by.n
     → ((j : ℕ) → Completes by (entry_in cells entries j) (entry_in cells' entries' j))
-    → HoldWaiting (HoldsFor lists.items by.issuer) by cells' entries'
+    → ((wide : Bool) (j : ℕ) → HoldsFor lists.items by.issuer wide j ⊎ Rests Complete wide by.n by.issuer (entry_in cells' entries' j))
     → ((wide : Bool) (q j : ℕ) → q ≢ by.issuer → HoldsFor w.waiting.items q wide j → HoldsFor lists.items q wide j)
     → Listed w cells entries → Listed (record w { settled = true; waiting = lists }) cells' entries'
 listed_completed w lists by cells cells' entries entries' number each known others listed =
@@ -205,7 +204,8 @@ listed_completed w lists by cells cells' entries entries' number each known othe
     (entry_in cells' entries' j) (each j) (λ m. told_of listed wide q j m below) marks)
     (λ wide q j.
     elim (cases_eq q by.issuer) [
-      | inl same ↦ subst (λ (x : ℕ). HoldsFor lists.items x wide j ⊎ IsQuiet wide (pends_for cells' entries' x j)) (sym same) (known wide j)
+      | inl same ↦ subst (λ (x : ℕ). HoldsFor lists.items x wide j ⊎ IsQuiet wide (pends_for cells' entries' x j)) (sym same)
+          (either (known wide j) (λ holds. holds) (quiet_of_rest wide by.n by.issuer (entry_in cells' entries' j)))
       | inr other ↦
           either (quiet_of listed wide q j) (others wide q j other)
           (quiet_others by wide q other (entry_in cells entries j) (entry_in cells' entries' j) (each j))

@@ -8,6 +8,10 @@ position_cell : (o : Option Entry) → option_map (λ (e : Entry). e.cell) o ≡
 position_cell None = refl
 position_cell (Some e) = refl
 
+pub position_place : (o : Option Entry) → option_map (λ (e : Entry). e.place) o ≡ option_map (λ (p : ℕ × ℕ). p.0) (option_map position o)
+position_place None = refl
+position_place (Some e) = refl
+
 position_of : (o : Option Entry) (e : Entry) → option_map position o ≡ Some (position e)
     → (f : Entry) × (o ≡ Some f) × (f.place ≡ e.place) × (f.cell ≡ e.cell)
 position_of None e h = cc

@@ -5,16 +5,17 @@ use Rattle.bbm_place_map.proofs.Common.{none-some, fun_ext, proved, If, Is, Dsb,
 use Rattle.bbm_place_map.proofs.Common.{answers_local, Core, every_pe, Cover, Half, Second, Full, answered_at}
 use Rattle.bbm_place_map.proofs.Common.{clean_after, waits, core_in, Marks, Pends, Broken, IsUnanswered, Completes}
 use Rattle.bbm_place_map.proofs.Common.{loses_table, is_table, pends_in, pends_of, marks_of, state_from, IsQuiet}
-use Rattle.bbm_place_map.proofs.Common.{IsTold, MayComplete, is_clean, Entry, Barrier, and-false, subst, ◌⊎◌, pe_in}
+use Rattle.bbm_place_map.proofs.Common.{IsTold, is_clean, Entry, Barrier, and-false, subst, ◌⊎◌, pe_in}
 use Rattle.bbm_place_map.proofs.Common.{either}
-use Rattle.std.proofs.Common.{is_none}
-use Rattle.bbm_barriers.specs.Options.{completed, has_broadcast, has_local, Completed as Answers}
+use Rattle.bbm_barriers.specs.Options.{completed, has_broadcast, has_local, is_non, Completed as Answers}
 use Rattle.bbm_barriers.specs.Options.Completed.{NoTlbi}
 use Rattle.bbm_entry_state.specs.EntryCalls.{half_after}
-use Rattle.bbm_place_map.specs.Each.{has_table}
-use Rattle.bbm_place_map.proofs.Answering.{completes_at}
 use Rattle.bbm_place_map.proofs.Completing.{completes_none}
-use mathlib.Core.Bool.{and_self_left}
+use Rattle.bbm_barriers.specs.declared.Domain.{Domain}
+use Rattle.bbm_barriers.specs.declared.Domain.TheVariants.{Non}
+use Rattle.bbm_barriers.specs.declared.Types.{Types}
+use Rattle.bbm_barriers.specs.declared.Types.TheVariants.{All}
+use mathlib.Core.Bool.{and_self_left, or-false}
 use Rattle.bbm_lemmas.proofs.Bools.{and_none}
 use Rattle.std.proofs.lemmas.Bool.{false_from_ne_true}
 
@@ -43,6 +44,20 @@ answers_both dsb = has_both (completed dsb.domain dsb.types)
 answers_none : (dsb : Dsb) → answers_local dsb ≡ false → answers_broadcast dsb ≡ false
 answers_none dsb none = false_from_ne_true (answers_broadcast dsb) (λ all. false≢true (sym none ∙ answers_both dsb all))
 
+wide_is : (d : Domain) (t : Types) → has_local (completed d t) ≡ true → not (is_non d) ≡ has_broadcast (completed d t)
+wide_is Non All h = refl
+wide_is _ All h = refl
+wide_is _ _ h = absurd (false≢true h)
+
+-- a DSB that answers the TLBIs that aren't broadcast answers the others, too, where it reaches more than its PE
+pub wide_answers : (dsb : Dsb) → answers_local dsb ≡ true → not (is_non dsb.domain) ≡ answers_broadcast dsb
+wide_answers dsb own = wide_is dsb.domain dsb.types own
+
+pub answers_within : (dsb : Dsb) → answers_local dsb ≡ true → (wide : Bool) → (wide ≡ true → not (is_non dsb.domain) ≡ true)
+    → (b : Bool) → (wide || not b) ≡ true → answers dsb b ≡ true
+answers_within dsb own wide within true is = sym (wide_answers dsb own) ∙ within (sym (or-false wide) ∙ is)
+answers_within dsb own wide within false is = own
+
 -- a DSB that answers no TLBI, or none of those that wait
 pub no_answer : (dsb : Dsb) (r : Pends) → answers_local dsb ≡ false → IsUnanswered dsb r
 no_answer dsb r none true c p = ap (λ (b : Bool). b && waits r true c p) (answers_none dsb none)
@@ -52,15 +67,6 @@ pub quiet_unanswered : (dsb : Dsb) (wide : Bool) (r : Pends) → wide ≡ answer
 quiet_unanswered dsb true r is quiet b c p = ap (λ (w : Bool). answers dsb b && w) (quiet b c p refl) ∙ and-false (answers dsb b)
 quiet_unanswered dsb false r is quiet true c p = ap (λ (b : Bool). b && waits r true c p) (sym is)
 quiet_unanswered dsb false r is quiet false c p = ap (λ (w : Bool). answers dsb false && w) (quiet false c p refl) ∙ and-false (answers dsb false)
-
--- the TLBIs whose answer a DSB is
-pub answers_all : (dsb : Dsb) → answers_broadcast dsb ≡ true → (b : Bool) → answers dsb b ≡ true
-answers_all dsb all true = all
-answers_all dsb all false = answers_both dsb all
-
-pub answers_own : (dsb : Dsb) → answers_local dsb ≡ true → (b : Bool) → (false || not b) ≡ true → answers dsb b ≡ true
-answers_own dsb own true is = absurd (false≢true is)
-answers_own dsb own false is = own
 
 module _ (by : Barrier) where
   -- where the answered TLBIs wait for nothing a DSB changes nothing
@@ -99,7 +105,7 @@ module _ (by : Barrier) where
         others = λ q other b c p. refl;
       }
 
-  none_stays : (f : Entry) → Completes by None (Some f) → ⊥
+  pub none_stays : (f : Entry) → Completes by None (Some f) → ⊥
   none_stays f h = absurd (false≢true (sym h.own.broken))
 
   left_none : (e f : Entry) → Completes by (Some e) (Some f) → (c : Cover) (p : ℕ) → answered_at (pends_in f.pends.items by.issuer) by.dsb c p ≡ false
@@ -120,7 +126,7 @@ module _ (by : Barrier) where
   completes_unclean None f h = absurd (none_stays f h)
   completes_unclean (Some e) f h = ap (every_pe by.n) (fun_ext h.own.clean) ∙ some_unclean e f h
 
-  core_kept : (e f : Entry) → Completes by (Some e) (Some f) → f.marks.core ≡ e.marks.core
+  pub core_kept : (e f : Entry) → Completes by (Some e) (Some f) → f.marks.core ≡ e.marks.core
   core_kept e f h =
       same_Some f.marks.core e.marks.core (h.own.core ∙ ap (λ (b : Bool). if b then None else Some e.marks.core) (some_unclean e f h))
 
@@ -148,54 +154,14 @@ module _ (by : Barrier) where
     others = λ q other b c p. h'.others q other b c p ∙ h.others q other b c p;
   }
 
-  twice : (o p r : Option Entry) → Completes by o p → Completes by p r → Completes by o r
+  -- a DSB that answers twice answers the same once
+  pub twice : (o p r : Option Entry) → Completes by o p → Completes by p r → Completes by o r
   twice None None r h h' = h'
   twice None (Some f) r h h' = absurd (none_stays f h)
   twice (Some e) None None h h' = h
   twice (Some e) None (Some g) h h' = absurd (none_stays g h')
   twice (Some e) (Some f) None h h' = absurd (gone_twice e f h h')
   twice (Some e) (Some f) (Some g) h h' = some_twice e f g h h'
-
-  -- a DSB that answers twice answers the same once
-  pub answers_again : (o p r : Option Entry) → MayComplete by o p → Completes by p r → Completes by o r
-  answers_again o p r may h =
-      elim may [
-        | inl same ↦ completes_at by o p r r (sym same) refl h
-        | inr did ↦ twice o p r did h
-      ]
-
-  -- a table that left stays away, and where none left none left at all
-  pub lost_stays : (s p r : Option Entry) → Completes by p r → loses_table (marks_of s) (marks_of p) ≡ true
-      → loses_table (marks_of s) (marks_of r) ≡ true
-  lost_stays s None None h lost = lost
-  lost_stays s None (Some g) h lost = absurd (none_stays g h)
-  lost_stays s (Some f) r h lost = absurd (false≢true (sym (and-false (has_table (marks_of s))) ∙ lost))
-
-  pub none_lost : (s p r : Option Entry) → MayComplete by s p → Completes by p r
-      → loses_table (marks_of s) (marks_of p) ≡ false → loses_table (marks_of p) (marks_of r) ≡ false
-      → loses_table (marks_of s) (marks_of r) ≡ false
-  none_lost None p r may h none none' = refl
-  none_lost (Some e) p (Some g) may h none none' = and-false (is_table e.marks.core)
-  none_lost (Some e) None None may h none none' = none
-  none_lost (Some e) (Some f) None may h none none' =
-      elim may [
-        | inl same ↦ ap (λ (x : Entry). is_table x.marks.core && true) (sym (same_Some f e same)) ∙ none'
-        | inr did ↦ ap (λ (x : Core). is_table x && true) (sym (core_kept e f did)) ∙ none'
-      ]
-
-  pub lost_here : (s p r : Option Entry) → MayComplete by s p → loses_table (marks_of p) (marks_of r) ≡ true
-      → loses_table (marks_of s) (marks_of r) ≡ true
-  lost_here s None r may lost = absurd (false≢true lost)
-  lost_here None (Some f) r may lost =
-      elim may [
-        | inl same ↦ absurd (none-some f (sym same))
-        | inr did ↦ absurd (none_stays f did)
-      ]
-  lost_here (Some e) (Some f) r may lost =
-      elim may [
-        | inl same ↦ ap (λ (x : Entry). is_table x.marks.core && is_none (marks_of r)) (sym (same_Some f e same)) ∙ lost
-        | inr did ↦ ap (λ (x : Core). is_table x && is_none (marks_of r)) (sym (core_kept e f did)) ∙ lost
-      ]
 
   -- what waits nowhere waits nowhere after
   pub quiet_kept : (wide : Bool) (o p : Option Entry) → Completes by o p → IsQuiet wide (pends_of by.issuer o)

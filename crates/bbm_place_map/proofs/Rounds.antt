@@ -1,28 +1,82 @@
--- Cells that a DSB that answers visits one after another.
+-- Cells that a DSB visits one after another.
 use Rattle.bbm_place_map.proofs.Common.{Bool, Contains, List, None, Option, Some, ap, arith, false, inl, inr, length}
 use Rattle.bbm_place_map.proofs.Common.{nat_lt, refl, slice_get, slice_index, subst, sym, true, ℕ, ◌+◌, ◌<◌, ◌∙◌, ◌≡◌}
 use Rattle.bbm_place_map.proofs.Common.{◌≢◌, ◌≤◌, ◌⊎◌, cases_eq, false≢true, lt-ltb, ltb-true, get_or_default}
-use Rattle.bbm_place_map.proofs.Common.{same_Some, slice_get_within, option_map, Marks, slot_in, IsUnanswered}
-use Rattle.bbm_place_map.proofs.Common.{Completes, loses_table, cell_at, entry_in, marks_of, pends_of, Linked}
-use Rattle.bbm_place_map.proofs.Common.{MayComplete, is_clean, Entry, Barrier}
-use Rattle.bbm_place_map.proofs.Seats.{by_entry, seat_of}
-use Rattle.bbm_place_map.proofs.Resting.{stays_kept, unanswered_same, answers_again, lost_stays, none_lost, lost_here}
-use Rattle.bbm_place_map.proofs.Completing.{completes_none}
-use Rattle.bbm_place_map.proofs.Answering.{completes_at}
+use Rattle.bbm_place_map.proofs.Common.{same_Some, slice_get_within, option_map, slot_in, Does, MayDo, loses_table}
+use Rattle.bbm_place_map.proofs.Common.{cell_at, entry_in, entry_of, marks_in, marks_of, Linked, Entry, Barrier, Effect}
+use Rattle.bbm_place_map.proofs.Common.{Complete, Global, Publish, SameSize, Vec, and-false, if◌then◌else◌, nat_eq}
+use Rattle.bbm_place_map.proofs.Common.{position, position_at, put_away, put_here}
+use Rattle.bbm_place_map.specs.Dsbs.{KeepsSeats, Visited, VisitsAt}
+use Rattle.bbm_place_map.specs.Each.{has_table}
+use Rattle.bbm_place_map.proofs.Positions.{entries_changed, positions_changed, still_more, still_same, still_seated}
+use Rattle.bbm_place_map.proofs.Seats.{by_entry, seat_of, the_cell}
+use Rattle.bbm_place_map.proofs.Resting.{stays_kept}
+use Rattle.bbm_place_map.proofs.Doing.{does_again, does_at, does_none, lost_here, lost_stays, none_lost}
 use Rattle.std.proofs.lemmas.Bool.{false_from_ne_true}
 
--- what it answered so far, and whether an entry over a table left
-pub record Rounded (by : Barrier) (start now : ℕ → Option Entry) (lost : Bool) : Type 0 where
-  pub each : (j : ℕ) → MayComplete by (start j) (now j)
+seats_by : (effect : Effect) (old new : Vec Entry Global) → length new.items ≡ length old.items
+    → ((m : ℕ) → position_at new.items m ≡ position_at old.items m) → KeepsSeats effect old new
+seats_by (Publish heard) old new len positions = (len, positions)
+seats_by Complete old new len positions = tt
+
+seats_then : (effect : Effect) (old mid new : Vec Entry Global) → KeepsSeats effect old mid → KeepsSeats effect mid new → KeepsSeats effect old new
+seats_then (Publish heard) old mid new a b = (b.0 ∙ a.0, λ m. b.1 m ∙ a.1 m)
+seats_then Complete old mid new a b = tt
+
+-- no visit, and one after another
+pub no_visit : (effect : Effect) (cells : Vec ℕ Global) (entries : Vec Entry Global) → Linked cells.items entries.items
+    → Visited effect cells cells entries entries
+no_visit effect cells entries linked = record {
+  sound = still_same cells entries linked;
+  seats = seats_by effect entries entries refl (λ m. refl);
+}
+
+pub visit_then : {effect : Effect} {cells cells' cells'' : Vec ℕ Global} {old mid new : Vec Entry Global} → Visited effect cells cells' old mid
+    → Visited effect cells' cells'' mid new → Visited effect cells cells'' old new
+visit_then {effect} {cells} {cells'} {cells''} {old} {mid} {new} a b = record {
+  sound = still_more a.sound b.sound;
+  seats = seats_then effect old mid new a.seats b.seats;
+}
+
+-- an entry changed, and stays
+pub visit_stays : (effect : Effect) (by : Barrier) (cells : Vec ℕ Global) (old new : Vec Entry Global) (k : ℕ) (e f : Entry)
+    → Linked cells.items old.items → slice_get old.items k ≡ Some e → position f ≡ position e
+    → ((i : ℕ) → slice_get new.items i ≡ (if nat_eq i k then Some f else slice_get old.items i)) → SameSize old new
+    → Does effect by (Some e) (Some f) → VisitsAt effect by k cells cells old new false
+visit_stays effect by cells old new k e f linked was seated gets size does =
+    let at = linked.back e.cell k (ap (option_map the_cell) was) in
+    let positions = positions_changed cells.items old.items new.items e f e.cell k linked at was seated gets in
+    let is = entries_changed cells.items old.items new.items e f e.cell k linked at was seated gets in
+    let same = λ (j : ℕ) (there : cell_at old.items k ≡ Some j). same_Some j e.cell (sym there ∙ ap (option_map the_cell) was) in
+    let now = λ (j : ℕ) (there : cell_at old.items k ≡ Some j). put_here _ _ is j (same j there) in
+    record {
+      visited = record {
+        sound = still_seated cells old new positions size linked;
+        seats = seats_by effect old new size.len positions;
+      };
+      short = omega (arith, size.len);
+      here = λ j there.
+          does_at effect by (entry_in cells.items old.items j) (Some e) (entry_in cells.items new.items j) (Some f)
+          (ap (entry_of old.items) (linked.back j k there) ∙ was) (now j there) does;
+      answer = λ j there.
+          sym (ap (λ (o : Option Entry). loses_table (marks_in cells.items old.items j) (marks_of o)) (now j there)
+          ∙ and-false (has_table (marks_in cells.items old.items j)));
+      others = λ i j there other. put_away _ _ is i (λ is'. other (is' ∙ sym (same j there)));
+      front = λ m below. put_away _ _ gets m (λ is'. absurd (omega arith));
+    }
+
+-- what it changed so far, and whether an entry over a table left
+pub record Rounded (effect : Effect) (by : Barrier) (start now : ℕ → Option Entry) (lost : Bool) : Type 0 where
+  pub each : (j : ℕ) → MayDo effect by (start j) (now j)
   pub found : lost ≡ true → (j : ℕ) × (loses_table (marks_of (start j)) (marks_of (now j)) ≡ true)
   pub none : lost ≡ false → (j : ℕ) → loses_table (marks_of (start j)) (marks_of (now j)) ≡ false
 
-pub rounded_none : (by : Barrier) (start : ℕ → Option Entry) → Rounded by start start false
-rounded_none by start = record { each = λ j. inl refl; found = λ h. absurd (false≢true h); none = λ _ j. stays_kept (start j) }
+pub rounded_none : (effect : Effect) (by : Barrier) (start : ℕ → Option Entry) → Rounded effect by start start false
+rounded_none effect by start = record { each = λ j. inl refl; found = λ h. absurd (false≢true h); none = λ _ j. stays_kept (start j) }
 
 -- one more cell is visited
-module _ (by : Barrier) (start mid new : ℕ → Option Entry) (m : ℕ) (lost : Bool) (round : Rounded by start mid lost)
-    (here : Completes by (mid m) (new m)) (others : (i : ℕ) → i ≢ m → new i ≡ mid i) where
+module _ (effect : Effect) (by : Barrier) (start mid new : ℕ → Option Entry) (m : ℕ) (lost : Bool) (round : Rounded effect by start mid lost)
+    (here : Does effect by (mid m) (new m)) (others : (i : ℕ) → i ≢ m → new i ≡ mid i) where
   visited : (P : Option Entry → Option Entry → Type 0) → P (start m) (new m) → (i : ℕ) → (i ≢ m → P (start i) (mid i)) → P (start i) (new i)
   visited P now i before =
       elim (cases_eq i m) [
@@ -30,20 +84,20 @@ module _ (by : Barrier) (start mid new : ℕ → Option Entry) (m : ℕ) (lost :
         | inr other ↦ subst (P (start i)) (sym (others i other)) (before other)
       ]
 
-  pub answered_more : (i : ℕ) → (i ≢ m → Completes by (start i) (mid i)) → Completes by (start i) (new i)
-  answered_more = visited (Completes by) (answers_again by (start m) (mid m) (new m) (round.each m) here)
+  pub visited_more : (i : ℕ) → (i ≢ m → Does effect by (start i) (mid i)) → Does effect by (start i) (new i)
+  visited_more = visited (Does effect by) (does_again effect by (start m) (mid m) (new m) (round.each m) here)
 
-  each_more : (j : ℕ) → MayComplete by (start j) (new j)
-  each_more j = visited (MayComplete by) (inr (answered_more m (λ other. absurd (other refl)))) j (λ _. round.each j)
+  each_more : (j : ℕ) → MayDo effect by (start j) (new j)
+  each_more j = visited (MayDo effect by) (inr (visited_more m (λ other. absurd (other refl)))) j (λ _. round.each j)
 
-  pub rounded_lost : (answer : Bool) → answer ≡ loses_table (marks_of (mid m)) (marks_of (new m)) → answer ≡ true → Rounded by start new true
+  pub rounded_lost : (answer : Bool) → answer ≡ loses_table (marks_of (mid m)) (marks_of (new m)) → answer ≡ true → Rounded effect by start new true
   rounded_lost answer tells is = record {
     each = each_more;
-    found = λ _. (m, lost_here by (start m) (mid m) (new m) (round.each m) (sym tells ∙ is));
+    found = λ _. (m, lost_here effect by (start m) (mid m) (new m) (round.each m) (sym tells ∙ is));
     none = λ h. absurd (false≢true (sym h));
   }
 
-  pub rounded_on : (answer : Bool) → answer ≡ loses_table (marks_of (mid m)) (marks_of (new m)) → answer ≡ false → Rounded by start new lost
+  pub rounded_on : (answer : Bool) → answer ≡ loses_table (marks_of (mid m)) (marks_of (new m)) → answer ≡ false → Rounded effect by start new lost
   rounded_on answer tells kept = record {
     each = each_more;
     found = λ h.
@@ -51,31 +105,29 @@ module _ (by : Barrier) (start mid new : ℕ → Option Entry) (m : ℕ) (lost :
           f.0,
           elim (cases_eq f.0 m) [
             | inl same ↦
-                lost_stays by (start f.0) (mid f.0) (new f.0) (subst (λ (x : ℕ). Completes by (mid x) (new x)) (sym same) here) f.1
+                lost_stays effect by (start f.0) (mid f.0) (new f.0) (subst (λ (x : ℕ). Does effect by (mid x) (new x)) (sym same) here) f.1
             | inr other ↦ ap (λ (o : Option Entry). loses_table (marks_of (start f.0)) (marks_of o)) (others f.0 other) ∙ f.1
           ],
         );
     none = λ h j.
         visited (λ o p. loses_table (marks_of o) (marks_of p) ≡ false)
-        (none_lost by (start m) (mid m) (new m) (round.each m) here (round.none h m) (sym tells ∙ kept)) j (λ _. round.none h j);
+        (none_lost effect by (start m) (mid m) (new m) (round.each m) here (round.none h m) (sym tells ∙ kept)) j (λ _. round.none h j);
   }
 
--- the list has every cell at which something is answered
-module _ (by : Barrier) (list : List ℕ) (start new : ℕ → Option Entry)
-    (known : (j : ℕ) → Contains list j ⊎ IsUnanswered by.dsb (pends_of by.issuer (start j)))
-    (settled : (j : ℕ) (marks : Marks) → marks_of (start j) ≡ Some marks → is_clean by.n marks ≡ false)
-    (here : (i : ℕ) → i < length list → Completes by (start (slice_index list i)) (new (slice_index list i)))
-    (each : (j : ℕ) → MayComplete by (start j) (new j)) where
-  pub all_answered : (j : ℕ) → Completes by (start j) (new j)
-  all_answered j =
+-- the list has every cell at whose place something changes
+module _ (effect : Effect) (by : Barrier) (list : List ℕ) (start new : ℕ → Option Entry)
+    (known : (j : ℕ) → Contains list j ⊎ Does effect by (start j) (start j))
+    (here : (i : ℕ) → i < length list → Does effect by (start (slice_index list i)) (new (slice_index list i)))
+    (each : (j : ℕ) → MayDo effect by (start j) (new j)) where
+  pub all_visited : (j : ℕ) → Does effect by (start j) (new j)
+  all_visited j =
       elim (known j) [
         | inl c ↦
-            let P : ℕ → Type 0 = λ x. Completes by (start x) (new x) in
+            let P : ℕ → Type 0 = λ x. Does effect by (start x) (new x) in
             subst P (get_or_default list c.0 0 j c.1 ∙ c.2) (here c.0 c.1)
-        | inr none ↦
+        | inr still ↦
             elim (each j) [
-              | inl same ↦
-                  completes_at by (start j) (start j) (new j) (start j) refl same (unanswered_same by (start j) none (settled j))
+              | inl same ↦ does_at effect by (start j) (start j) (new j) (start j) refl same still
               | inr did ↦ did
             ]
       ]
@@ -90,10 +142,10 @@ some_below k None h = cc
 some_below k (Some m) h = (m, refl, ltb-true m k h)
 
 -- an entry that isn't among the first ones of the whole list isn't there
-pub past_completes : (by : Barrier) (cells : List ℕ) (entries : List Entry) (k : ℕ) → Linked cells entries → length entries ≤ k
-    → (j : ℕ) → is_below k (slot_in cells j) ≡ false → Completes by (entry_in cells entries j) (entry_in cells entries j)
-past_completes by cells entries k linked whole j h =
-    by_entry (λ o. Completes by o o) (entry_in cells entries j) (λ _. completes_none by)
+pub past_visited : (effect : Effect) (by : Barrier) (cells : List ℕ) (entries : List Entry) (k : ℕ) → Linked cells entries → length entries ≤ k
+    → (j : ℕ) → is_below k (slot_in cells j) ≡ false → Does effect by (entry_in cells entries j) (entry_in cells entries j)
+past_visited effect by cells entries k linked whole j h =
+    by_entry (λ o. Does effect by o o) (entry_in cells entries j) (λ _. does_none effect by)
     (λ e is. let s = seat_of linked j e is in
     let within : s.0 < length entries = slice_get_within entries s.0 e s.2 in
     absurd (false≢true (sym h ∙ ap (is_below k) s.1 ∙ lt-ltb s.0 k (omega arith))))

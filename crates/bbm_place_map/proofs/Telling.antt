@@ -1,9 +1,9 @@
 -- What DSBs of a PE publish, and where they publish no more.
-use Rattle.bbm_place_map.proofs.Common.{◌≡◌, ℕ, ◌<◌, ◌⊎◌, Bool, true, false, not, ◌&&◌, ◌||◌, nat_eq, Option, Some}
-use Rattle.bbm_place_map.proofs.Common.{None, refl, arith, ap, sym, ◌∙◌, inl, inr, cases_eq, ltb-true, lt-ltb, eqb-true}
-use Rattle.bbm_place_map.proofs.Common.{eq-eqb, and_from, false≢true, or_left, or_right, same_Some, proved, If, Is, Dsb}
-use Rattle.bbm_place_map.proofs.Common.{All, Stores, publishes, Marks, IsHeard, Advances, Publishes, IsTold, MayPublish}
-use Rattle.bbm_place_map.proofs.Common.{Entry, Barrier, Published, EntryState, Broken, pe_in, either}
+use Rattle.bbm_place_map.proofs.Common.{◌≡◌, ℕ, ◌<◌, ◌⊎◌, Bool, true, false, not, ◌&&◌, ◌||◌, nat_eq}
+use Rattle.bbm_place_map.proofs.Common.{refl, arith, ap, sym, ◌∙◌, inl, inr, ltb-true, lt-ltb, eqb-true}
+use Rattle.bbm_place_map.proofs.Common.{eq-eqb, and_from, false≢true, or_left, or_right, proved, If, Is, Dsb}
+use Rattle.bbm_place_map.proofs.Common.{All, Stores, publishes, Marks, IsHeard, Publishes, IsTold}
+use Rattle.bbm_place_map.proofs.Common.{Entry, Barrier, Published, EntryState, Broken, pe_in}
 use Rattle.bbm_entry_state.specs.Points.{writer_at, seen_at}
 use Rattle.bbm_barriers.specs.declared.Domain.{Domain}
 use Rattle.bbm_barriers.specs.declared.Domain.TheVariants.{Non}
@@ -12,7 +12,6 @@ use Rattle.bbm_barriers.specs.declared.Types.TheVariants.{Loads}
 use Rattle.bbm_barriers.specs.Options.{hears, audience, is_non, Audience}
 use Rattle.bbm_barriers.specs.Options.Audience.{EveryPe, IssuerAlone, NoPe}
 use mathlib.Core.Bool.{or_self_left}
-use Rattle.bbm_place_map.proofs.Advancing.{at_both, advance_then}
 
 hears_within : (a : Audience) (issuer n p : ℕ) → issuer < n → hears a issuer n p ≡ true → p < n
 hears_within EveryPe issuer n p below h = ltb-true p n h
@@ -35,11 +34,19 @@ pub publishes_own : (dsb : Dsb) (issuer n : ℕ) → issuer < n
     → (publishes dsb issuer n issuer ≡ true) ⊎ ((p : ℕ) → publishes dsb issuer n p ≡ false)
 publishes_own dsb issuer n below = own_in (audience dsb.domain dsb.types) issuer n below
 
+-- and one that reaches more than its PE to every PE
+pub reached_all : (d : Domain) (t : Types) (issuer n : ℕ) → not (is_non d) ≡ true → hears (audience d t) issuer n issuer ≡ true
+    → (p : ℕ) → p < n → hears (audience d t) issuer n p ≡ true
+reached_all Non t issuer n wide h p below = absurd (false≢true wide)
+reached_all _ Loads issuer n wide h p below = absurd (false≢true h)
+reached_all _ _ issuer n wide h p below = lt-ltb p n below
+
 once : (x y s : Bool) → (x ≡ true → y ≡ true → s ≡ true) → s ≡ ((x && y) || s)
 once = proved 3 (λ x y s. If (If (Is x true) (If (Is y true) (Is s true))) (Is s ((x && y) || s))) refl
 
 module _ (by : Barrier) where
-  again_entry : (e f g : Entry) → Publishes by e f → Publishes by f g → Publishes by e g
+  -- what is published twice is published once
+  pub again_entry : (e f g : Entry) → Publishes by e f → Publishes by f g → Publishes by e g
   again_entry e f g h h' = (
     h'.0 ∙ h.0,
     record {
@@ -55,11 +62,6 @@ module _ (by : Barrier) where
     },
   )
 
-  -- a DSB that publishes twice publishes the same once
-  pub again : (o p r : Option Entry) → MayPublish by o p → Advances (Publishes by) p r → Advances (Publishes by) o r
-  again o p r (inl same) h = at_both (Publishes by) o p r r (sym same) refl h
-  again o p r (inr did) h = advance_then (Publishes by) (Publishes by) (Publishes by) (λ e f g _. again_entry e f g) o p r did h
-
   -- where nothing more is published nothing changes
   pub still_published : (s : EntryState)
       → ((p : ℕ) → publishes by.dsb by.issuer by.n p ≡ true → writer_at s by.issuer ≡ true → seen_at s p ≡ true)
@@ -72,17 +74,6 @@ module _ (by : Barrier) where
     half = λ p. refl;
     clean = λ p. refl;
   }
-
-  -- and an entry that may have been visited was
-  pub heard_advances : (o p : Option Entry) → ((e : Entry) → o ≡ Some e → Advances (Publishes by) o p ⊎ IsHeard by e.marks) → MayPublish by o p
-      → Advances (Publishes by) o p
-  heard_advances o p known (inr did) = did
-  heard_advances None p known (inl same) = at_both (Publishes by) None None p None refl same tt
-  heard_advances (Some e) p known (inl same) =
-      elim (known e refl) [
-        | inl did ↦ did
-        | inr heard ↦ at_both (Publishes by) (Some e) (Some e) p (Some e) refl same (refl, (refl, still_published (Broken e.marks) heard))
-      ]
 
   -- what a DSB published it publishes no more
   pub heard_after : (e f : Entry) → Publishes by e f → IsHeard by f.marks
@@ -118,8 +109,3 @@ told_no_writer wide n q marks none p below reach wrote = absurd (false≢true (s
 pub told_after_write : (wide : Bool) (n q : ℕ) (b marks : Marks) → pe_in b.writers q ≡ true
     → ((p : ℕ) → pe_in b.seen p ≡ true → pe_in marks.seen p ≡ true) → IsTold wide n q b → IsTold wide n q marks
 told_after_write wide n q b marks wrote more told p below reach _ = more p (told p below reach wrote)
-
-pub slot_cases : (s : Option ℕ) (k : ℕ) → (s ≡ Some k) ⊎ (s ≡ Some k → ⊥)
-slot_cases None k = inr (λ h. cc)
-slot_cases (Some m) k =
-    either (cases_eq m k) (ap (λ (x : ℕ). Some x)) (λ other h. other (same_Some m k h))

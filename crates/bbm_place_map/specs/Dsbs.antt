@@ -1,7 +1,7 @@
 -- What a DSB finds and leaves: cells and entries, and the list of its PE.
 -- Source: project's own choice.
-use Rattle.std.specs.Prelude.{◌≡◌, ◌≢◌, ◌≤◌, ◌<◌, ◌^◌, ◌⊎◌, ℕ, Bool, true, false, Some, List, Contains, Vec, vec_len}
-use Rattle.std.specs.Prelude.{slice_get, not, ◌&&◌}
+use Rattle.std.specs.Prelude.{◌≡◌, ◌≢◌, ◌≤◌, ◌<◌, ◌^◌, ◌⊎◌, ◌+◌, ℕ, Bool, true, false, Some, List, Vec, vec_len}
+use Rattle.std.specs.Prelude.{slice_get, length, not, ◌&&◌}
 use Rattle.std.specs.declared.alloc.Global.{Global}
 use Rattle.bbm_barriers.specs.declared.Dsb.{Dsb}
 use Rattle.bbm_barriers.specs.Options.{answers, publishes}
@@ -13,14 +13,16 @@ use Rattle.bbm_entry_state.specs.Points.{waits, waits_in}
 use Rattle.bbm_entry_state.specs.declared.marks.Marks.{Marks}
 use Rattle.bbm_entry_state.specs.declared.pending.Pend.{Pend}
 use Rattle.bbm_entry_state.specs.declared.pending.Pends.{Pends}
-use Rattle.bbm_place_map.specs.Each.{Advances, Completes, Publishes, loses_table}
-use Rattle.bbm_place_map.specs.Entries.{entry_in, pend_in, pends_in}
-use Rattle.bbm_place_map.specs.Parts.{marks_in, pends_for}
-use Rattle.bbm_place_map.specs.Sound.{Linked, SameSize, StillSound}
-use Rattle.bbm_place_map.specs.Works.{IsQuiet, IsTold, is_clean}
+use Rattle.bbm_place_map.specs.Each.{Does, loses_table}
+use Rattle.bbm_place_map.specs.Entries.{cell_at, entry_in, pend_in, pends_in, position_at}
+use Rattle.bbm_place_map.specs.Parts.{marks_in}
+use Rattle.bbm_place_map.specs.Sound.{Linked, StillSound}
+use Rattle.bbm_place_map.specs.Works.{Rests, Stays}
 use Rattle.bbm_place_map.specs.declared.entry.Entry.{Entry}
 use Rattle.bbm_place_map.specs.declared.entry.Pending.{Pending}
 use Rattle.bbm_place_map.specs.declared.orders.Barrier.{Barrier}
+use Rattle.bbm_place_map.specs.declared.orders.Effect.{Effect}
+use Rattle.bbm_place_map.specs.declared.orders.Effect.TheVariants.{Publish, Complete}
 
 -- these are the PEs to which a DSB publishes
 abbrev pub IsAudience : Barrier → PeMask → Type 0
@@ -46,32 +48,30 @@ pub record TakesAnswered (dsb : Dsb) (issuer : ℕ) (old new : List Pending) (ta
   pub left : WaitsOn dsb (pends_in old issuer) (pends_in new issuer)
   pub others : (q : ℕ) → q ≢ issuer → pends_in new q ≡ pends_in old q
 
--- The issuer is one of the PEs of the log.
-pub record InLog (by : Barrier) : Type 0 where
-  pub some : 1 ≤ by.n
-  pub within : by.n ≤ 128
-  pub issuer_below : by.issuer < by.n
+-- it publishes to these PEs, and its issuer is one of those of the log
+abbrev pub HasEffect : Effect → Barrier → Type 0
+HasEffect (Publish heard) by = IsAudience by heard × (by.issuer < by.n)
+HasEffect Complete by = Unit {0}
 
--- Cells and entries, fewer than 2^32, at which a DSB can answer.
-pub record CanAnswer (by : Barrier) (cells : Vec ℕ Global) (entries : Vec Entry Global) : Type 0 where
-  pub some : 1 ≤ by.n
-  pub most : by.n ≤ 128
+-- it publishes to its own PE, or answers the TLBIs that aren't broadcast
+abbrev pub IsBusy : Effect → Barrier → Type 0
+IsBusy (Publish heard) by = publishes by.dsb by.issuer by.n by.issuer ≡ true
+IsBusy Complete by = answers by.dsb false ≡ true
+
+-- A DSB, and cells and entries, fewer than 2^32, that it can visit.
+pub record CanVisit (by : Barrier) (cells : Vec ℕ Global) (entries : Vec Entry Global) : Type 0 where
+  pub has : HasEffect by.effect by
   pub linked : Linked cells.items entries.items
   pub few : vec_len cells < 2 ^ 32
 
--- Cells and entries at which a DSB can publish.
-pub record CanPublish (by : Barrier) (cells : List ℕ) (entries : List Entry) : Type 0 where
-  pub log : InLog by
-  pub linked : Linked cells entries
+-- these hold each cell at whose place a DSB of the issuer does this
+abbrev pub HoldOpen : (Bool → ℕ → Type 0) → Barrier → List ℕ → List Entry → Type 0
+HoldOpen held by cells entries =
+    (wide : Bool) (j : ℕ) → held wide j ⊎ Rests by.effect wide by.n by.issuer (entry_in cells entries j)
 
--- these hold each cell at whose place something waits for the answers of the issuer's TLBIs
-abbrev pub HoldWaiting : (Bool → ℕ → Type 0) → Barrier → List ℕ → List Entry → Type 0
-HoldWaiting held by cells entries = (wide : Bool) (j : ℕ) → held wide j ⊎ IsQuiet wide (pends_for cells entries by.issuer j)
-
--- these hold the cell of each entry of which a DSB of the issuer publishes more
-abbrev pub HoldUntold : (Bool → ℕ → Type 0) → Barrier → List Entry → Type 0
-HoldUntold held by entries =
-    (wide : Bool) (k : ℕ) (e : Entry) → slice_get entries k ≡ Some e → held wide e.cell ⊎ IsTold wide by.n by.issuer e.marks
+-- no place waits to leave
+abbrev pub IsSettled : Barrier → List ℕ → List Entry → Type 0
+IsSettled by cells entries = (j : ℕ) → Stays by.effect by.n (entry_in cells entries j)
 
 -- a DSB publishes no more of a place with these marks
 abbrev pub IsHeard : Barrier → Marks → Type 0
@@ -82,24 +82,40 @@ IsHeard by marks =
 abbrev pub IsUnanswered : Dsb → Pends → Type 0
 IsUnanswered dsb pends = (b : Bool) (c : Cover) (p : ℕ) → (answers dsb b && waits pends b c p) ≡ false
 
--- no place waits to leave
-abbrev pub IsSettled : Barrier → List ℕ → List Entry → Type 0
-IsSettled by cells entries = (j : ℕ) (marks : Marks) → marks_in cells entries j ≡ Some marks → is_clean by.n marks ≡ false
+-- a DSB that publishes leaves as many entries, each with its place and its number
+abbrev pub KeepsSeats : Effect → Vec Entry Global → Vec Entry Global → Type 0
+KeepsSeats (Publish heard) old new =
+    (length new.items ≡ length old.items) × ((m : ℕ) → position_at new.items m ≡ position_at old.items m)
+KeepsSeats Complete old new = Unit {0}
 
--- Each cell at whose place a DSB answers something is among these, and no place waits to leave.
-pub record HasWaiting (list : List ℕ) (by : Barrier) (cells : List ℕ) (entries : List Entry) : Type 0 where
-  pub known : (j : ℕ) → Contains list j ⊎ IsUnanswered by.dsb (pends_for cells entries by.issuer j)
-  pub settled : IsSettled by cells entries
-
--- A DSB of the issuer published its writes at each entry.
-pub record PublishesAll (by : Barrier) (old new : Vec Entry Global) : Type 0 where
-  pub each : (k : ℕ) → Advances (Publishes by) (slice_get old.items k) (slice_get new.items k)
-  pub size : SameSize old new
-
--- A DSB of the issuer answered its TLBIs at each entry, and told whether one over a table left.
-pub record CompletesAll (by : Barrier) (cells cells' : Vec ℕ Global) (old new : Vec Entry Global)
-    (told : Bool) : Type 0 where
+-- What a DSB leaves of cells and entries.
+pub record Visited (effect : Effect) (cells cells' : Vec ℕ Global) (old new : Vec Entry Global) : Type 0 where
   pub sound : StillSound cells cells' old new
-  pub each : (j : ℕ) → Completes by (entry_in cells.items old.items j) (entry_in cells'.items new.items j)
+  pub seats : KeepsSeats effect old new
+
+-- A DSB visited the entry of cell j, and told whether it left, and its core is a table.
+pub record VisitsCell (by : Barrier) (j : ℕ) (cells cells' : Vec ℕ Global) (old new : Vec Entry Global) (told : Bool) : Type 0 where
+  pub visited : Visited by.effect cells cells' old new
+  pub here : Does by.effect by (entry_in cells.items old.items j) (entry_in cells'.items new.items j)
+  pub answer : told ≡ loses_table (marks_in cells.items old.items j) (marks_in cells'.items new.items j)
+  pub others : (i : ℕ) → i ≢ j → entry_in cells'.items new.items i ≡ entry_in cells.items old.items i
+
+-- It visited the entry with this number, and those before it are where they were.
+pub record VisitsAt (effect : Effect) (by : Barrier) (k : ℕ) (cells cells' : Vec ℕ Global) (old new : Vec Entry Global)
+    (told : Bool) : Type 0 where
+  pub visited : Visited effect cells cells' old new
+  pub short : length old.items ≤ length new.items + 1
+  pub here : (j : ℕ) → cell_at old.items k ≡ Some j
+      → Does effect by (entry_in cells.items old.items j) (entry_in cells'.items new.items j)
+  pub answer : (j : ℕ) → cell_at old.items k ≡ Some j
+      → told ≡ loses_table (marks_in cells.items old.items j) (marks_in cells'.items new.items j)
+  pub others : (i j : ℕ) → cell_at old.items k ≡ Some j → i ≢ j
+      → entry_in cells'.items new.items i ≡ entry_in cells.items old.items i
+  pub front : (m : ℕ) → m < k → slice_get new.items m ≡ slice_get old.items m
+
+-- It visited each entry, and told whether one over a table left.
+pub record VisitsAll (by : Barrier) (cells cells' : Vec ℕ Global) (old new : Vec Entry Global) (told : Bool) : Type 0 where
+  pub visited : Visited by.effect cells cells' old new
+  pub each : (j : ℕ) → Does by.effect by (entry_in cells.items old.items j) (entry_in cells'.items new.items j)
   pub lost : told ≡ true → (j : ℕ) × (loses_table (marks_in cells.items old.items j) (marks_in cells'.items new.items j) ≡ true)
   pub kept : told ≡ false → (j : ℕ) → loses_table (marks_in cells.items old.items j) (marks_in cells'.items new.items j) ≡ false

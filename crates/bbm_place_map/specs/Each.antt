@@ -1,6 +1,6 @@
 -- How each entry changes in a call that concerns all of them.
 -- Source: project's own choice.
-use Rattle.std.specs.Prelude.{◌≡◌, ◌≢◌, ℕ, Bool, true, false, Option, Some, None, is_none, is_some, ◌&&◌}
+use Rattle.std.specs.Prelude.{◌≡◌, ◌≢◌, ◌⊎◌, ℕ, Bool, true, false, Option, Some, None, is_none, is_some, ◌&&◌}
 use Rattle.bbm_entry_state.specs.EntryCalls.{Published, Completed}
 use Rattle.bbm_entry_state.specs.Points.{waits}
 use Rattle.bbm_descriptor.specs.declared.desc.Core.{Core}
@@ -12,6 +12,8 @@ use Rattle.bbm_place_map.specs.Entries.{position, marks_of, pends_of}
 use Rattle.bbm_place_map.specs.States.{state_from}
 use Rattle.bbm_place_map.specs.declared.entry.Entry.{Entry}
 use Rattle.bbm_place_map.specs.declared.orders.Barrier.{Barrier}
+use Rattle.bbm_place_map.specs.declared.orders.Effect.{Effect}
+use Rattle.bbm_place_map.specs.declared.orders.Effect.TheVariants.{Publish, Complete}
 
 -- the place and the cell stay, and the rest is as the relation says
 abbrev pub Advances : (Entry → Entry → Type 0) → Option Entry → Option Entry → Type 0
@@ -29,6 +31,15 @@ pub record Completes (by : Barrier) (old new : Option Entry) : Type 0 where
       (state_from None (marks_of new)) (pends_of by.issuer new)
   pub others : (q : ℕ) → q ≢ by.issuer → (b : Bool) (c : Cover) (p : ℕ)
       → waits (pends_of q new) b c p ≡ (is_some (marks_of new) && waits (pends_of q old) b c p)
+
+-- a DSB published or answered
+abbrev pub Does : Effect → Barrier → Option Entry → Option Entry → Type 0
+Does (Publish heard) by old new = Advances (Publishes by) old new
+Does Complete by old new = Completes by old new
+
+-- or nothing changed
+abbrev pub MayDo : Effect → Barrier → Option Entry → Option Entry → Type 0
+MayDo effect by old new = (new ≡ old) ⊎ Does effect by old new
 
 -- whether a place was broken over a table, and isn't broken any more
 abbrev pub is_table : Core → Bool

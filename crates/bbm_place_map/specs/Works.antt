@@ -2,7 +2,7 @@
 -- Source: project's own choice.
 use Rattle.std.specs.Prelude.{◌≡◌, ◌≤◌, ◌<◌, ◌⊎◌, ℕ, Bool, true, false, Option, Some, None, List, [], ◌∷◌, nat_eq, not}
 use Rattle.std.specs.Prelude.{◌||◌}
-use Rattle.std.specs.Prelude.{Contains, drop, slice_get}
+use Rattle.std.specs.Prelude.{Contains, IfSome, drop, slice_get}
 use Rattle.bbm_lemmas.specs.EveryPe.{every_pe}
 use Rattle.bbm_regimes.specs.PeMask.{pe_in}
 use Rattle.bbm_regimes.specs.declared.pe.PeMask.{PeMask}
@@ -10,11 +10,11 @@ use Rattle.bbm_tlbi_scope.specs.declared.entry.Cover.{Cover}
 use Rattle.bbm_entry_state.specs.Points.{waits}
 use Rattle.bbm_entry_state.specs.declared.marks.Marks.{Marks}
 use Rattle.bbm_entry_state.specs.declared.pending.Pends.{Pends}
-use Rattle.bbm_place_map.specs.Each.{Advances, Publishes, Completes}
 use Rattle.bbm_place_map.specs.Entries.{pends_in}
 use Rattle.bbm_place_map.specs.Parts.{marks_in, pends_for}
 use Rattle.bbm_place_map.specs.declared.entry.Entry.{Entry}
-use Rattle.bbm_place_map.specs.declared.orders.Barrier.{Barrier}
+use Rattle.bbm_place_map.specs.declared.orders.Effect.{Effect}
+use Rattle.bbm_place_map.specs.declared.orders.Effect.TheVariants.{Publish, Complete}
 use Rattle.bbm_place_map.specs.declared.work.Work.{Work}
 use Rattle.bbm_place_map.specs.declared.work.WorkList.{WorkList}
 
@@ -55,6 +55,19 @@ IsToldAsBefore before marks q =
 abbrev pub is_clean : ℕ → Marks → Bool
 is_clean n marks = every_pe n (λ p. pe_in marks.clean p)
 
+-- no DSB of the PE, in a log with n PEs, does this at an entry; or none that reaches the PE alone
+abbrev pub RestsAt : Effect → Bool → ℕ → ℕ → Entry → Type 0
+RestsAt (Publish heard) wide n q e = IsTold wide n q e.marks
+RestsAt Complete wide n q e = IsQuiet wide (pends_in e.pends.items q)
+
+abbrev pub Rests : Effect → Bool → ℕ → ℕ → Option Entry → Type 0
+Rests effect wide n q o = IfSome o (RestsAt effect wide n q)
+
+-- a DSB that does this, in a log with n PEs, leaves the place broken where it changes nothing
+abbrev pub Stays : Effect → ℕ → Option Entry → Type 0
+Stays (Publish heard) n o = Unit {0}
+Stays Complete n o = IfSome o (λ e. is_clean n e.marks ≡ false)
+
 -- whether a list has the cell among these, or has given up
 abbrev pub is_in : List ℕ → ℕ → Bool
 is_in [] j = false
@@ -87,14 +100,6 @@ pub record Listed (work : Work) (cells : List ℕ) (entries : List Entry) : Type
       → IsQuiet wide (pends_for cells entries q j)
   pub settled : work.settled ≡ true → (j : ℕ) (marks : Marks) → marks_in cells entries j ≡ Some marks
       → is_clean work.pes marks ≡ false
-
--- a DSB of the issuer published its writes, or nothing changed
-abbrev pub MayPublish : Barrier → Option Entry → Option Entry → Type 0
-MayPublish by old new = (new ≡ old) ⊎ Advances (Publishes by) old new
-
--- a DSB of the issuer answered its TLBIs, or nothing changed
-abbrev pub MayComplete : Barrier → Option Entry → Option Entry → Type 0
-MayComplete by old new = (new ≡ old) ⊎ Completes by old new
 
 -- something may wait at an entry only where the list of the issuer has its cell, or something may have waited before
 abbrev pub Waits : List WorkList → ℕ → Entry → Entry → Type 0

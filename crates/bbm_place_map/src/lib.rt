@@ -23,7 +23,6 @@
 //! place what it is after the call.
 #![tactic(auto)]
 
-mod complete;
 mod entry;
 mod found;
 mod issue;
@@ -32,8 +31,8 @@ mod links;
 mod map;
 mod orders;
 mod position;
-mod publish;
 mod read;
+mod visit;
 mod work;
 mod write;
 

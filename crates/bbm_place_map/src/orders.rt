@@ -4,7 +4,16 @@
 use bbm_barriers::Dsb;
 use bbm_regimes::{Pe, PeCount, PeMask};
 
-/// A DSB.
+/// What a DSB does at a broken place.
+#[derive(Clone, Copy, Debug)]
+pub enum Effect {
+    /// It publishes its issuer's writes to these PEs.
+    Publish(PeMask),
+    /// It answers its issuer's TLBIs.
+    Complete,
+}
+
+/// A DSB, and one of the two things that it does.
 #[derive(Clone, Copy, Debug)]
 pub struct Barrier {
     /// The PE that issued it.
@@ -13,6 +22,8 @@ pub struct Barrier {
     pub dsb: Dsb,
     /// The number of PEs of the log.
     pub n: PeCount,
+    /// What it does.
+    pub effect: Effect,
 }
 
 /// A TLBI, without how far it covers a place.

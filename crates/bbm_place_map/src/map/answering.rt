@@ -14,9 +14,9 @@ use crate::found::{Answer, Found};
 use crate::issue::Kept;
 use crate::lane::Lane;
 use crate::map::PlaceMap;
-use crate::orders::{Barrier, Issuing};
-use crate::{complete, issue, publish, work};
-use bbm_barriers::Dsb;
+use crate::orders::{Barrier, Effect, Issuing};
+use crate::{issue, visit, work};
+use bbm_barriers::{Dsb, publishes_to};
 use bbm_regimes::{NoMemory, Pe, PeCount, PeMask};
 
 impl PlaceMap {
@@ -32,11 +32,18 @@ impl PlaceMap {
             return;
         }
         work::begin(&mut self.work, n, self.broken.len());
-        publish::publish(
-            &self.cells,
+        let effect = Effect::Publish(publishes_to(dsb, issuer, n));
+        visit::visit(
+            &mut self.cells,
             &mut self.broken,
             &mut self.work.unpublished,
-            &Barrier { issuer, dsb, n },
+            true,
+            &Barrier {
+                issuer,
+                dsb,
+                n,
+                effect,
+            },
         );
     }
 
@@ -56,12 +63,17 @@ impl PlaceMap {
             return false;
         }
         work::begin(&mut self.work, n, self.broken.len());
-        let lost = complete::complete(
+        let lost = visit::visit(
             &mut self.cells,
             &mut self.broken,
             &mut self.work.waiting,
             self.work.settled,
-            &Barrier { issuer, dsb, n },
+            &Barrier {
+                issuer,
+                dsb,
+                n,
+                effect: Effect::Complete,
+            },
         );
         self.work.settled = true;
         lost

@@ -1,0 +1,67 @@
+use Rattle.bbm_place_map.proofs.Common.{◌≡◌, ◌-◌, ℕ, arith, subst, sym, length, slice_index, Option, Does}
+use Rattle.bbm_place_map.proofs.Common.{entry_in, Entry, ap, ◌≢◌}
+use Rattle.bbm_place_map.proofs.Rounds.{Rounded, all_visited, no_visit, rounded_lost, rounded_none, rounded_on}
+use Rattle.bbm_place_map.proofs.Rounds.{visit_then, visited_more}
+use Rattle.bbm_place_map.proofs.visit.visit_cells.Invariants.{from_end}
+use Rattle.bbm_place_map.proofs.visit.visit_cells.Goals.{then-visit_cell, else-visit_cell}
+use Rattle.bbm_place_map.proofs.visit.visit_cells.Goals as goal
+
+abbrev start : goal.Joined-visit_cell → ℕ → Option Entry
+start c = entry_in c.args.cells.now.items c.args.broken.now.items
+
+abbrev mid : goal.Joined-visit_cell → ℕ → Option Entry
+mid c = entry_in c.loop-i.cells.items c.loop-i.broken.items
+
+abbrev new : goal.Joined-visit_cell → ℕ → Option Entry
+new c = entry_in c.visit_cell.new.cells.items c.visit_cell.new.broken.items
+
+pub loop-i-init : goal.loop-i-init
+loop-i-init c = record {
+  visited = no_visit c.args.barrier.now.effect c.args.cells.now c.args.broken.now c.requires.able.linked;
+  here = λ i below. absurd (omega arith);
+  round = rounded_none c.args.barrier.now.effect c.args.barrier.now (entry_in c.args.cells.now.items c.args.broken.now.items);
+}
+
+pub loop-i-preserved : goal.loop-i-preserved
+loop-i-preserved c =
+    let by = c.args.barrier.now in
+    let list = c.args.list.now in
+    let m = from_end list c.loop-i.i in
+    let ens = c.visit_cell.ensures in
+    let inv = c.loop-i.invariant in
+    let lost = c.loop-i.lost in
+    record {
+      visited = visit_then inv.visited ens.visited;
+      here = λ i below.
+          visited_more by.effect by (start c) (mid c) (new c) m lost inv.round ens.here ens.others (from_end list i)
+          (λ other. inv.here i (let apart : i ≢ c.loop-i.i = λ same. other (ap (from_end list) same) in omega arith));
+      round =
+          elim c.if-visit_cell.branch [
+            | then-visit_cell w ↦
+                subst (Rounded by.effect by (start c) (new c)) (sym w.lost-is)
+                (rounded_lost by.effect by (start c) (mid c) (new c) m lost inv.round ens.here ens.others c.visit_cell.result ens.answer w.if-visit_cell.true)
+            | else-visit_cell w ↦
+                subst (Rounded by.effect by (start c) (new c)) (sym w.lost-is)
+                (rounded_on by.effect by (start c) (mid c) (new c) m lost inv.round ens.here ens.others c.visit_cell.result ens.answer w.if-visit_cell.false)
+          ];
+    }
+
+pub returns : goal.returns
+returns c =
+    let list = c.args.list.now in
+    let last = length list - 1 in
+    let inv = c.loop-i.invariant in
+    let was = entry_in c.args.cells.now.items c.args.broken.now.items in
+    let now = entry_in c.loop-i.cells.items c.loop-i.broken.items in
+    record {
+      visited = inv.visited;
+      each =
+          all_visited c.args.barrier.now.effect c.args.barrier.now list was now c.requires.known
+          (λ i below.
+          let P : ℕ → Type 0 = λ k. Does c.args.barrier.now.effect c.args.barrier.now (was (slice_index list k)) (now (slice_index list k)) in
+          let back : last - (last - i) ≡ i = omega arith in
+          subst P back (inv.here (last - i) (omega arith)))
+          inv.round.each;
+      lost = inv.round.found;
+      kept = inv.round.none;
+    }

@@ -1,0 +1,16 @@
+use Rattle.bbm_place_map.proofs.Common.{ℕ, ◌<◌, ◌-◌, List, length, slice_index, Does, entry_in}
+use Rattle.bbm_place_map.specs.Dsbs.{Visited}
+use Rattle.bbm_place_map.proofs.Rounds.{Rounded}
+use Rattle.bbm_place_map.proofs.visit.visit_cells.Given as goal
+
+-- one of the cells, from the last on
+abbrev pub from_end : List ℕ → ℕ → ℕ
+from_end list i = slice_index list (length list - 1 - i)
+
+abbrev pub invariant-loop-i : goal.invariant-loop-i
+invariant-loop-i l = record {
+  visited : Visited l.barrier.effect l.initial.cells l.cells l.initial.broken l.broken;
+  here : (i : ℕ) → i < l.i → Does l.barrier.effect l.barrier (entry_in l.initial.cells.items l.initial.broken.items (from_end l.list i))
+      (entry_in l.cells.items l.broken.items (from_end l.list i));
+  round : Rounded l.barrier.effect l.barrier (entry_in l.initial.cells.items l.initial.broken.items) (entry_in l.cells.items l.broken.items) l.lost;
+}

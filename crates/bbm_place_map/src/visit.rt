@@ -1,0 +1,287 @@
+//! What a DSB publishes and answers: it visits the broken places that it may change, and no others where its lists tell.
+
+ghost use Rattle.std.specs.Prelude.{◌≡◌, ◌≢◌, ◌<◌, ◌⊎◌, ℕ, Bool, Some, true, false, Contains, vec_len, slice_get};
+ghost use Rattle.std.specs.Prelude.{nat_eq, if◌then◌else◌, Option};
+ghost use Rattle.bbm_entry_state.specs.EntryCalls.{Completed};
+ghost use Rattle.bbm_entry_state.specs.declared.state.EntryState.TheVariants as state;
+ghost use Rattle.bbm_place_map.specs.Dsbs.{CanVisit, HasEffect, HoldOpen, IsAudience, IsSettled, IsBusy};
+ghost use Rattle.bbm_place_map.specs.Dsbs.{VisitsAll, VisitsAt, VisitsCell};
+ghost use Rattle.bbm_place_map.specs.Each.{Does, Publishes, is_table as spec_is_table};
+ghost use Rattle.bbm_place_map.specs.Entries.{entry_in, no_pends, pends_in, position};
+ghost use Rattle.bbm_place_map.specs.Sound.{SameSize};
+ghost use Rattle.bbm_place_map.specs.Works.{Holds, HoldsFor, IsTold, RestsAt, Stays};
+ghost use Rattle.bbm_place_map.specs.declared.entry.Entry.{Entry as TheEntry};
+
+use crate::entry::{Entry, is_quiet_for, take_answered};
+use crate::links::unlink;
+use crate::orders::{Barrier, Effect};
+use crate::read::slot_of;
+use crate::work::{WorkList, add, part, pass_local, restart};
+use bbm_barriers::{completes_local, is_non};
+use bbm_descriptor::Core;
+use bbm_entry_state::{Marks, law_completes};
+use bbm_regimes::PeMask;
+
+/// A DSB of the issuer, which publishes to these PEs, published its writes at one entry.
+fn publish_at(broken: &mut Vec<Entry>, k: usize, barrier: &Barrier, heard: PeMask)
+    requires heard { IsAudience barrier.now heard }
+    requires entry_within { k < vec_len broken.old }
+    ensures entry { (e : TheEntry) → slice_get broken.old.items k ≡ Some e → (f : TheEntry) × (position f ≡ position e)
+        × Publishes barrier.now e f
+        × ((i : ℕ) → slice_get broken.new.items i ≡ (if nat_eq i k then Some f else slice_get broken.old.items i)) }
+    ensures size { SameSize broken.old broken.new }
+{
+    let entry = &mut broken[k];
+    if entry.marks.writers.has(barrier.issuer) {
+        entry.marks = entry.marks.published_to(heard);
+    }
+}
+
+/// A DSB of the issuer answered its TLBIs at one entry, which stays for now. Whether its place is cleansed at every PE.
+fn answer_at(broken: &mut Vec<Entry>, k: usize, barrier: &Barrier) -> bool
+    requires within { k < vec_len broken.old }
+    ensures entry { (e : TheEntry) → slice_get broken.old.items k ≡ Some e → (f : TheEntry) × (position f ≡ position e)
+        × (result ≡ true → Completed (state.Broken e.marks) (pends_in e.pends.items barrier.now.issuer)
+        barrier.now.dsb barrier.now.n state.Clean no_pends)
+        × (result ≡ false → Completed (state.Broken e.marks) (pends_in e.pends.items barrier.now.issuer)
+        barrier.now.dsb barrier.now.n (state.Broken f.marks) (pends_in f.pends.items barrier.now.issuer))
+        × ((q : ℕ) → q ≢ barrier.now.issuer → pends_in f.pends.items q ≡ pends_in e.pends.items q)
+        × ((i : ℕ) → slice_get broken.new.items i ≡ (if nat_eq i k then Some f else slice_get broken.old.items i)) }
+    ensures size { SameSize broken.old broken.new }
+{
+    law_completes();
+    let entry = &mut broken[k];
+    let done = take_answered(&mut entry.pends, barrier.issuer, barrier.dsb);
+    entry.marks.answer(done);
+    entry.marks.is_clean(barrier.n)
+}
+
+/// Whether the core is that of a table.
+fn is_table(core: Core) -> bool
+    ensures { result ≡ spec_is_table core }
+{
+    matches!(core, Core::Table { .. })
+}
+
+/// A DSB of the issuer answered its TLBIs at one entry, which leaves where its place is cleansed at every PE. Whether
+/// it left, and its core is a table.
+#[inline(always)]
+fn complete_at(cells: &mut Vec<u32>, broken: &mut Vec<Entry>, k: usize, barrier: &Barrier) -> bool
+    requires able { CanVisit barrier.now cells.old broken.old }
+    requires within { k < vec_len broken.old }
+    ensures { VisitsAt Effect.Complete barrier.now k cells.old cells.new broken.old broken.new result }
+{
+    let core = broken[k].marks.core;
+    if answer_at(broken, k, barrier) {
+        unlink(cells, broken, k);
+        is_table(core)
+    } else {
+        false
+    }
+}
+
+/// A DSB visited one entry. Whether it left, and its core is a table.
+#[inline(always)]
+fn visit_at(cells: &mut Vec<u32>, broken: &mut Vec<Entry>, k: usize, barrier: &Barrier) -> bool
+    requires able { CanVisit barrier.now cells.old broken.old }
+    requires within { k < vec_len broken.old }
+    ensures { VisitsAt barrier.now.effect barrier.now k cells.old cells.new broken.old broken.new result }
+{
+    match barrier.effect {
+        Effect::Publish(heard) => {
+            publish_at(broken, k, barrier, heard);
+            false
+        }
+        Effect::Complete => complete_at(cells, broken, k, barrier),
+    }
+}
+
+/// A DSB visited each entry. Whether one over a table left.
+#[inline(always)]
+fn visit_all(cells: &mut Vec<u32>, broken: &mut Vec<Entry>, barrier: &Barrier) -> bool
+    requires { CanVisit barrier.now cells.old broken.old }
+    ensures { VisitsAll barrier.now cells.old cells.new broken.old broken.new result }
+{
+    let mut lost = false;
+    let mut k = broken.len();
+    while k > 0 {
+        k -= 1;
+        if visit_at(cells, broken, k, barrier) {
+            lost = true;
+        }
+    }
+    lost
+}
+
+/// A DSB visited the entry of a cell, if it has one. Whether it left, and its core is a table.
+#[inline(always)]
+fn visit_cell(cells: &mut Vec<u32>, broken: &mut Vec<Entry>, cell: u32, barrier: &Barrier) -> bool
+    requires { CanVisit barrier.now cells.old broken.old }
+    ensures { VisitsCell barrier.now cell cells.old cells.new broken.old broken.new result }
+{
+    match slot_of(cells, cell as usize) {
+        Some(k) => visit_at(cells, broken, k as usize, barrier),
+        None => false,
+    }
+}
+
+/// A DSB visited the entries of these cells, which are all those that it changes. Whether one over a table left.
+#[inline(always)]
+fn visit_cells(
+    cells: &mut Vec<u32>,
+    broken: &mut Vec<Entry>,
+    list: &[u32],
+    barrier: &Barrier,
+) -> bool
+    requires able { CanVisit barrier.now cells.old broken.old }
+    requires known { (j : ℕ) → Contains list.now j ⊎ Does barrier.now.effect barrier.now
+        (entry_in cells.old.items broken.old.items j) (entry_in cells.old.items broken.old.items j) }
+    ensures { VisitsAll barrier.now cells.old cells.new broken.old broken.new result }
+{
+    let mut lost = false;
+    for i in 0..list.len() {
+        if visit_cell(cells, broken, list[list.len() - 1 - i], barrier) {
+            lost = true;
+        }
+    }
+    lost
+}
+
+/// Whether no DSB of the issuer publishes more of a place with these marks.
+fn is_told(marks: &Marks, barrier: &Barrier) -> bool
+    ensures { result ≡ true → (wide : Bool) → IsTold wide barrier.now.n barrier.now.issuer marks.now }
+{
+    !marks.writers.has(barrier.issuer) || PeMask::all(barrier.n).minus(marks.seen).is_empty()
+}
+
+/// Whether no DSB of the issuer does this at an entry.
+#[inline(always)]
+fn is_at_rest(entry: &Entry, barrier: &Barrier) -> bool
+    ensures { result ≡ true → (wide : Bool)
+        → RestsAt barrier.now.effect wide barrier.now.n barrier.now.issuer entry.now }
+{
+    match barrier.effect {
+        Effect::Publish(_heard) => is_told(&entry.marks, barrier),
+        Effect::Complete => is_quiet_for(&entry.pends, barrier.issuer, true),
+    }
+}
+
+/// Lists the cell of an entry at which DSBs of the issuer may do this.
+#[inline(always)]
+fn list_open(list: &mut WorkList, entry: &Entry, barrier: &Barrier, broken: usize)
+    ensures there { (wide : Bool) → Holds list.new wide entry.now.cell
+        ⊎ RestsAt barrier.now.effect wide barrier.now.n barrier.now.issuer entry.now }
+    ensures kept { (wide : Bool) (j : ℕ) → Holds list.old wide j → Holds list.new wide j }
+{
+    if !is_at_rest(entry, barrier) {
+        add(list, entry.cell, broken);
+    }
+}
+
+/// Lists the cells of the entries at which DSBs of the issuer may do this.
+#[inline(always)]
+fn relist(broken: &[Entry], list: &mut WorkList, barrier: &Barrier)
+    ensures { (wide : Bool) (k : ℕ) (e : TheEntry) → slice_get broken.now k ≡ Some e → Holds list.new wide e.cell
+        ⊎ RestsAt barrier.now.effect wide barrier.now.n barrier.now.issuer e }
+{
+    restart(list, false);
+    for k in 0..broken.len() {
+        list_open(list, &broken[k], barrier, broken.len());
+    }
+}
+
+/// Whether a DSB does this nowhere, by its option.
+fn is_idle(barrier: &Barrier) -> bool
+    requires { HasEffect barrier.now.effect barrier.now }
+    ensures idle { result ≡ true → (o : Option TheEntry) → Stays barrier.now.effect barrier.now.n o
+        → Does barrier.now.effect barrier.now o o }
+    ensures busy { result ≡ false → IsBusy barrier.now.effect barrier.now }
+{
+    match barrier.effect {
+        Effect::Publish(heard) => heard.is_empty(),
+        Effect::Complete => !completes_local(barrier.dsb),
+    }
+}
+
+/// A DSB visited the entries that its list has, which are all at which it can do this. The list loses its cells where
+/// nothing is left, or passes them for the next DSB that reaches its PE alone. Whether an entry over a table left.
+#[inline(always)]
+fn visit_listed(
+    cells: &mut Vec<u32>,
+    broken: &mut Vec<Entry>,
+    list: &mut WorkList,
+    barrier: &Barrier,
+) -> bool
+    requires able { CanVisit barrier.now cells.old broken.old }
+    requires open { list.old.given_up ≡ false }
+    requires known { HoldOpen (Holds list.old) barrier.now cells.old.items broken.old.items }
+    requires settled { IsSettled barrier.now cells.old.items broken.old.items }
+    ensures visited { VisitsAll barrier.now cells.old cells.new broken.old broken.new result }
+    ensures known { HoldOpen (Holds list.new) barrier.now cells.new.items broken.new.items }
+{
+    if is_idle(barrier) {
+        return false;
+    }
+    let wide = !is_non(barrier.dsb.domain);
+    let lost = visit_cells(cells, broken, part(list, wide), barrier);
+    if wide {
+        restart(list, false);
+    } else {
+        pass_local(list);
+    }
+    lost
+}
+
+/// A DSB visited the entries. Its list has given up, or has all at which it can do this. Whether an entry over a table
+/// left.
+#[inline(always)]
+fn visit_by(
+    cells: &mut Vec<u32>,
+    broken: &mut Vec<Entry>,
+    list: &mut WorkList,
+    settled: bool,
+    barrier: &Barrier,
+) -> bool
+    requires able { CanVisit barrier.now cells.old broken.old }
+    requires known { HoldOpen (Holds list.old) barrier.now cells.old.items broken.old.items }
+    requires settled { settled ≡ true → IsSettled barrier.now cells.old.items broken.old.items }
+    ensures visited { VisitsAll barrier.now cells.old cells.new broken.old broken.new result }
+    ensures known { HoldOpen (Holds list.new) barrier.now cells.new.items broken.new.items }
+{
+    if settled && !list.given_up {
+        visit_listed(cells, broken, list, barrier)
+    } else {
+        let lost = visit_all(cells, broken, barrier);
+        relist(broken, list, barrier);
+        lost
+    }
+}
+
+/// A DSB of the issuer published its writes, or answered its TLBIs, at each entry. One whose place is cleansed at every
+/// PE leaves. Whether one over a table left. Where it is settled that no other place waits to leave, and the issuer's
+/// list has all entries at which there is something to do, only these are visited.
+#[inline(always)]
+pub fn visit(
+    cells: &mut Vec<u32>,
+    broken: &mut Vec<Entry>,
+    lists: &mut Vec<WorkList>,
+    settled: bool,
+    barrier: &Barrier,
+) -> bool
+    requires able { CanVisit barrier.now cells.old broken.old }
+    requires known { HoldOpen (HoldsFor lists.old.items barrier.now.issuer) barrier.now cells.old.items
+        broken.old.items }
+    requires settled { settled ≡ true → IsSettled barrier.now cells.old.items broken.old.items }
+    ensures visited { VisitsAll barrier.now cells.old cells.new broken.old broken.new result }
+    ensures known { HoldOpen (HoldsFor lists.new.items barrier.now.issuer) barrier.now cells.new.items
+        broken.new.items }
+    ensures kept_lists { (wide : Bool) (q j : ℕ) → q ≢ barrier.now.issuer → HoldsFor lists.old.items q wide j
+        → HoldsFor lists.new.items q wide j }
+{
+    let q = barrier.issuer.get() as usize;
+    if q < lists.len() {
+        visit_by(cells, broken, &mut lists[q], settled, barrier)
+    } else {
+        visit_all(cells, broken, barrier)
+    }
+}
