@@ -1,5 +1,5 @@
 -- The names that most proofs of this crate cite, passed on from one place. Declares nothing.
-pub use Rattle.indexmap.specs.IndexMap.{IndexMap, get, index_map_len, values}
+pub use Rattle.indexmap.specs.IndexMap.{IndexMap, get, index_map_len, keys}
 pub use Rattle.std.proofs.Common.{Bool, BuildHasherDefault, FoldHasher, HashMap, IsSome, List, None, Option, Some, []}
 pub use Rattle.std.proofs.Common.{ap, arith, cond, false, get_or, is_some, length, nat_eq, nat_le, nat_lt, not, refl}
 pub use Rattle.std.proofs.Common.{rules, set, slice_index_or, subst, suc, sym, take, true, zero, ℕ, ⊎_elim, ◌&&◌, ◌++◌}
@@ -35,6 +35,7 @@ pub use Rattle.bbm_lemmas.proofs.Words.{pe_finds, pe_found, pe_none}
 pub use Rattle.bbm_lemmas.specs.ListWords.{same_flag}
 pub use Rattle.bbm_locks.specs.Holders.{holder_at}
 pub use Rattle.bbm_regimes.specs.PeMask.{pe_in}
+pub use Rattle.bbm_regimes.specs.declared.pe.PeMask.{PeMask}
 pub use Rattle.bbm_regimes.specs.Registers.{base_of, tag_number}
 pub use Rattle.bbm_regimes.specs.SameRegister.{same_kind}
 pub use Rattle.bbm_regimes.specs.World.{kind_in_world}
@@ -51,7 +52,7 @@ pub use Rattle.bbm_regimes.specs.declared.regime.World.TheVariants.{Hyp, Kernel}
 pub use Rattle.bbm_roots.specs.Columns.{loads_in}
 pub use Rattle.bbm_roots.specs.Holds.{IsCalm, Leaves, LeavesThose, Marks, conflict_in, entry_bit, entry_kept, entry_keeps}
 pub use Rattle.bbm_roots.specs.Holds.{has_entry, hold_in, is_clash, is_kept_by, kept_in, kept_tag, keeps_in}
-pub use Rattle.bbm_roots.specs.Holds.{is_held_under, is_hold, left_in, some_pe, tag_in, tag_key}
+pub use Rattle.bbm_roots.specs.Holds.{is_held_under, is_hold, left_in, some_pe, tag_in, tag_key, tag_with}
 pub use Rattle.bbm_roots.specs.HoldsNew.{all_held, anew, kernel_anew, kernel_tag, own_tag, under_held}
 pub use Rattle.bbm_roots.specs.LeastOf.{IsLeast, ReadingUpTo, UpTo}
 pub use Rattle.bbm_roots.specs.LoadsOf.{readings_after, other_loads, reads_at, firsts_of, firsts_with, standings_of}
@@ -73,7 +74,6 @@ pub use Rattle.bbm_roots.specs.TagsByRoot.{is_listed, AreListed}
 pub use Rattle.bbm_roots.specs.declared.hold.Held.{Held}
 pub use Rattle.bbm_roots.specs.declared.load.RootValue.{RootValue}
 pub use Rattle.bbm_roots.specs.declared.pending.Pendings.{Pendings}
-pub use Rattle.bbm_roots.specs.declared.pending.Waiting.{Waiting}
 pub use Rattle.bbm_roots.specs.declared.reading.Reading.{Reading}
 pub use Rattle.bbm_roots.specs.declared.registers.Registers.{Registers}
 pub use Rattle.bbm_roots.specs.declared.roots.Roots.{Roots}

@@ -21,13 +21,13 @@ some_pe-one n pe b lt =
     ∙ ap (λ (c : Bool). c && b) (pe_finds n (λ p. nat_eq p pe) pe lt (eq-eqb pe pe refl))
 
 -- at one PE of the entry
-entry-is : (l : Bool) (n : ℕ) (g : Tag) (r : ℕ) (o : Option Held) → entry_kept l n g r o ≡ some_pe n (λ p. entry_bit l g r p o)
-entry-is l n g r None = sym (pe_none n (λ p. false) (λ p lt. refl))
-entry-is l n g r (Some held) = sym (any_and (is_kept_by l g r held) (pe_in held.pes) (below n))
+entry-is : (l : Bool) (n r : ℕ) (o : Option Held) → entry_kept l n r o ≡ some_pe n (λ p. entry_bit l r p o)
+entry-is l n r None = sym (pe_none n (λ p. false) (λ p lt. refl))
+entry-is l n r (Some held) = sym (any_and (is_kept_by l r held) (pe_in held.pes) (below n))
 
 module _ {S : Type 0} (hs : IndexMap ℕ Held S) where
   pub kept_tag-is : (l : Bool) (n : ℕ) (g : Tag) (r : ℕ) → kept_tag hs l n g r ≡ some_pe n (keeps_in hs l g r)
-  kept_tag-is l n g r = entry-is l n g r (get nat_eq hs (tag_key g))
+  kept_tag-is l n g r = entry-is l n r (get nat_eq hs (tag_key g))
 
   -- what the entries say is what the history says
   pub tag-held : (heading : Heading) (h : List Event) →

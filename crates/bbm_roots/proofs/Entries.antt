@@ -1,39 +1,40 @@
 -- The entries of the tags that are held, found by the key of a tag or one after another.
 use Rattle.bbm_roots.proofs.Common.{tag_equal, ◌≡◌, ◌+◌, ◌<◌, ◌≤◌, ℕ, Bool, true, false, ◌&&◌, ◌||◌, nat_eq, List}
-use Rattle.bbm_roots.proofs.Common.{slice_get, get_or_from_slice_get, pe_in, arith, nat_tests, [], ◌∷◌, Option, Some}
+use Rattle.bbm_roots.proofs.Common.{slice_get, get_or_from_slice_get, arith, nat_tests, [], ◌∷◌, Option, Some}
 use Rattle.bbm_roots.proofs.Common.{None, cond, refl, sym, ◌∙◌, ap, take, length, list_any, lookup, false≢true}
-use Rattle.bbm_roots.proofs.Common.{take_all, IndexMap, get, values, Tag, entry_bit, entry_kept, is_held_under, is_of_tag}
-use Rattle.bbm_roots.proofs.Common.{hold_in, tag_in, tag_key, same_tag, has_other, is_reading, Held, Reading}
+use Rattle.bbm_roots.proofs.Common.{take_all, IndexMap, get, keys, Tag, entry_bit, entry_kept, is_held_under, is_of_tag}
+use Rattle.bbm_roots.proofs.Common.{hold_in, tag_in, tag_key, tag_with, same_tag, has_other, is_reading, Held, Reading}
 use Rattle.bbm_roots.proofs.Common.{not, entry_keeps, keeps_in, kept_in, kept_tag, LeavesThose, Marks, has_tag, has_reading}
 use Rattle.bbm_roots.proofs.Common.{eq-eqb, eqb-true, first_true, left_in, same_flag, same_swapped, subst, Leaves}
 use Rattle.std.specs.List.{AllByRecursion, IsDistinct}
-use Rattle.std.specs.Map.{keys_of, values_of}
+use Rattle.std.specs.Map.{keys_of}
 use Rattle.bbm_roots.specs.Holds.{is_kept_somewhere, keeps_other}
 use Rattle.bbm_roots.specs.Keyed.{OthersStay}
+use Rattle.bbm_roots.proofs.Keys.{same-key}
 use Rattle.bbm_roots.proofs.Tests.{and_right, as-same, any-next, any-front, any-weaker, or-split}
 
--- what an entry that a key finds passes, one of the entries does
-found-among : (entry : Option Held → Bool) (test : Held → Bool) → entry None ≡ false → ((x : Held) → entry (Some x) ≡ true → test x ≡ true) →
-    (key : ℕ → Bool) (es : List (ℕ × Held)) → entry (lookup key es) ≡ true → list_any test (values_of es) ≡ true
-found-among entry test none some key [] e = absurd (false≢true (sym none ∙ e))
-found-among entry test none some key (x ∷ xs) e = grind (arith, found-among entry test none some key xs, some x.1)
+-- what finds an entry, one of the keys passes
+found-among : (test : ℕ → Bool) (p : ℕ) (es : List (ℕ × Held)) → entry_keeps p (lookup test es) ≡ true →
+    list_any test (keys_of es) ≡ true
+found-among test p [] e = absurd (false≢true e)
+found-among test p (x ∷ xs) e = grind (arith, found-among test p xs)
 
--- whether an entry is one of the tag
-abbrev pub is_held_as : Tag → Held → Bool
-is_held_as g x = same_tag x.tag g
+-- whether a key is that of the tag
+abbrev pub is_key_of : Tag → ℕ → Bool
+is_key_of g key = same_tag (tag_with key) g
 
--- a tag that is held has an entry
-pub held-among : {S : Type 0} (hs : IndexMap ℕ Held S) (g : Tag) (p : ℕ) → kept_in hs g p ≡ true → list_any (is_held_as g) (values hs) ≡ true
-held-among hs g p =
-    found-among (entry_keeps g p) (is_held_as g) refl (λ (x : Held) e. first_true (same_tag x.tag g) (pe_in x.pes p) e)
-    (nat_eq (tag_key g)) hs.entries
+-- the key of a tag that is held is there
+pub held-among : {S : Type 0} (hs : IndexMap ℕ Held S) (g : Tag) (p : ℕ) → kept_in hs g p ≡ true → list_any (is_key_of g) (keys hs) ≡ true
+held-among hs g p e =
+    any-weaker (nat_eq (tag_key g)) (is_key_of g) (λ (key : ℕ) k. sym (same-key g key) ∙ k) (keys hs)
+    (found-among (nat_eq (tag_key g)) p hs.entries e)
 
 -- what a root keeps is kept
 pub by-root : {S : Type 0} (hs : IndexMap ℕ Held S) (l : Bool) (g : Tag) (r p : ℕ) → keeps_in hs l g r p ≡ true
     → kept_in hs g p ≡ true
 by-root hs l g r p = by (get nat_eq hs (tag_key g))
   where
-    by : (o : Option Held) → entry_bit l g r p o ≡ true → entry_keeps g p o ≡ true
+    by : (o : Option Held) → entry_bit l r p o ≡ true → entry_keeps p o ≡ true
     by None e = e
     by (Some held) e = grind (arith)
 
@@ -46,13 +47,12 @@ some-root hs g p = by (get nat_eq hs (tag_key g))
     own true = refl
     own false = refl
 
-    by : (o : Option Held) → entry_keeps g p o ≡ true → (l : Bool) × (r : ℕ) × (entry_bit l g r p o ≡ true)
+    by : (o : Option Held) → entry_keeps p o ≡ true → (l : Bool) × (r : ℕ) × (entry_bit l r p o ≡ true)
     by None e = absurd (false≢true e)
     by (Some held) e = (
       held.left,
       held.root,
-      rw (first_true (same_tag held.tag g) (pe_in held.pes p) e, eq-eqb held.root held.root refl, own held.left)
-          (and_right (same_tag held.tag g) (pe_in held.pes p) e),
+      rw (eq-eqb held.root held.root refl, own held.left) e,
     )
 
 -- where each root keeps no more, no more is kept
@@ -97,12 +97,12 @@ module _ (n root : ℕ) where
       list_any (shows g) es ≡ false
   none-shows g key [] same apart = refl
   none-shows g key (e ∷ es) same apart =
-      ap (λ (b : Bool). (b && is_kept_somewhere false n g root e.1) || list_any (shows g) es) (ap (λ (q : ℕ). nat_eq q e.0) same ∙ apart.0)
+      ap (λ (b : Bool). (b && is_kept_somewhere false n root e.1) || list_any (shows g) es) (ap (λ (q : ℕ). nat_eq q e.0) same ∙ apart.0)
       ∙ none-shows g key es same apart.1
 
   -- where no key is twice there, an entry shows what the one that is found under the tag's key says
   shown-among : (g : Tag) (es : List (ℕ × Held)) → IsDistinct nat_eq (keys_of es) →
-      list_any (shows g) es ≡ entry_kept false n g root (lookup (nat_eq (tag_key g)) es)
+      list_any (shows g) es ≡ entry_kept false n root (lookup (nat_eq (tag_key g)) es)
   unfolding IsDistinct
   shown-among g [] distinct = refl
   shown-among g (e ∷ es) distinct =
@@ -153,9 +153,9 @@ keeper-clash hs n y keeps is x = by (same_tag y.tag x.tag) refl
 -- what a root leaves of the tags that pass a test, and then under one key
 pub left-under : {S : Type 0} (old now new : IndexMap ℕ Held S) (root key : ℕ) (test : Tag → Bool) → LeavesThose old now root test →
     OthersStay key now new →
-    ((g : Tag) (r p : ℕ) → entry_bit false g r p (get nat_eq new key) ≡ (entry_bit false g r p (get nat_eq now key) && not (nat_eq r root))) →
-    ((g : Tag) (r p : ℕ) → entry_bit true g r p (get nat_eq new key)
-    ≡ (entry_bit true g r p (get nat_eq now key) || (nat_eq r root && entry_bit false g r p (get nat_eq now key)))) →
+    ((r p : ℕ) → entry_bit false r p (get nat_eq new key) ≡ (entry_bit false r p (get nat_eq now key) && not (nat_eq r root))) →
+    ((r p : ℕ) → entry_bit true r p (get nat_eq new key)
+    ≡ (entry_bit true r p (get nat_eq now key) || (nat_eq r root && entry_bit false r p (get nat_eq now key)))) →
     LeavesThose old new root (λ g. test g || nat_eq (tag_key g) key)
 left-under {S} old now new root key test before others held left = record {
   held = λ g r p. let was = before.held g r p in let is = held-new g r p in grind (arith);
@@ -168,9 +168,9 @@ left-under {S} old now new root key test before others held left = record {
       where
         by : (b : Bool) → nat_eq (tag_key g) key ≡ b
             → hold_in new g r p ≡ cond b (hold_in now g r p && not (nat_eq r root)) (hold_in now g r p)
-        by true e = subst (λ (k : ℕ). entry_bit false g r p (get nat_eq new k)
-            ≡ (entry_bit false g r p (get nat_eq now k) && not (nat_eq r root))) (sym (eqb-true (tag_key g) key e)) (held g r p)
-        by false e = ap (entry_bit false g r p) (others (tag_key g) (same_swapped key (tag_key g) ∙ e))
+        by true e = subst (λ (k : ℕ). entry_bit false r p (get nat_eq new k)
+            ≡ (entry_bit false r p (get nat_eq now k) && not (nat_eq r root))) (sym (eqb-true (tag_key g) key e)) (held r p)
+        by false e = ap (entry_bit false r p) (others (tag_key g) (same_swapped key (tag_key g) ∙ e))
 
     left-new : (g : Tag) (r p : ℕ) → left_in new g r p ≡ cond (nat_eq (tag_key g) key)
         (left_in now g r p || (nat_eq r root && hold_in now g r p)) (left_in now g r p)
@@ -178,9 +178,9 @@ left-under {S} old now new root key test before others held left = record {
       where
         by : (b : Bool) → nat_eq (tag_key g) key ≡ b
             → left_in new g r p ≡ cond b (left_in now g r p || (nat_eq r root && hold_in now g r p)) (left_in now g r p)
-        by true e = subst (λ (k : ℕ). entry_bit true g r p (get nat_eq new k) ≡ (entry_bit true g r p (get nat_eq now k)
-            || (nat_eq r root && entry_bit false g r p (get nat_eq now k)))) (sym (eqb-true (tag_key g) key e)) (left g r p)
-        by false e = ap (entry_bit true g r p) (others (tag_key g) (same_swapped key (tag_key g) ∙ e))
+        by true e = subst (λ (k : ℕ). entry_bit true r p (get nat_eq new k) ≡ (entry_bit true r p (get nat_eq now k)
+            || (nat_eq r root && entry_bit false r p (get nat_eq now k)))) (sym (eqb-true (tag_key g) key e)) (left r p)
+        by false e = ap (entry_bit true r p) (others (tag_key g) (same_swapped key (tag_key g) ∙ e))
 
 pub leaves-same : {S : Type 0} (old new : IndexMap ℕ Held S) (root : ℕ) (test other : Tag → Bool) → ((g : Tag) → other g ≡ test g) →
     LeavesThose old new root test → LeavesThose old new root other

@@ -1,6 +1,7 @@
 mod Common
 pub mod Columns
 pub mod Tests
+pub mod Keys
 pub mod Places
 pub mod Flat
 pub mod Readable

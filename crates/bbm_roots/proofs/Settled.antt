@@ -71,13 +71,13 @@ one-held hs pe g r readings held e =
     (every_in (λ (y : Reading). hold_in hs y.tag y.root pe) readings x.0 held x.1)
 
 -- an entry is of one root, which holds its tag or left it
-pub one-root : (n : ℕ) (g : Tag) (r s p : ℕ) (o : Option Held) → entry_bit false g r p o ≡ true → nat_eq r s ≡ false →
-    (entry_kept false n g s o ≡ false) × ((q : ℕ) → entry_bit false g s q o ≡ false)
-one-root n g r s p o e apart = (grind (arith, nat_tests), λ q. grind (arith, nat_tests))
+pub one-root : (n r s p : ℕ) (o : Option Held) → entry_bit false r p o ≡ true → nat_eq r s ≡ false →
+    (entry_kept false n s o ≡ false) × ((q : ℕ) → entry_bit false s q o ≡ false)
+one-root n r s p o e apart = (grind (arith, nat_tests), λ q. grind (arith, nat_tests))
 
-pub none-left : (n : ℕ) (g : Tag) (r s p : ℕ) (o : Option Held) → entry_bit false g r p o ≡ true →
-    (entry_kept true n g s o ≡ false) × ((q : ℕ) → entry_bit true g s q o ≡ false)
-none-left n g r s p o e = (grind (arith), λ q. grind (arith))
+pub none-left : (n r s p : ℕ) (o : Option Held) → entry_bit false r p o ≡ true →
+    (entry_kept true n s o ≡ false) × ((q : ℕ) → entry_bit true s q o ≡ false)
+none-left n r s p o e = (grind (arith), λ q. grind (arith))
 
 -- where all that is then readable is held at some PE, nothing is in conflict
 pub no-clash : {S : Type 0} (hs : IndexMap ℕ Held S) (seen : List Reading) →
@@ -90,7 +90,7 @@ no-clash hs seen held n x = neither (and_apart (has_other x.tag x.root seen) _ (
     let there : has_reading x.tag y.0.root seen ≡ true =
     any_finds (is_reading x.tag y.0.root) seen y.0 y.1 (rw tags (eq-eqb y.0.root y.0.root refl)) in
     let q = held x.tag y.0.root there in
-    let others = one-root n x.tag y.0.root x.root q.0 (get nat_eq hs (tag_key x.tag)) q.1 apart in
+    let others = one-root n y.0.root x.root q.0 (get nat_eq hs (tag_key x.tag)) q.1 apart in
     let read = held x.tag x.root in
     let none = others.1 in
     let unheld = others.0 in
@@ -100,7 +100,7 @@ no-clash hs seen held n x = neither (and_apart (has_other x.tag x.root seen) _ (
     let there : has_reading x.tag y.0.root seen ≡ true =
     any_finds (is_reading x.tag y.0.root) seen y.0 y.1 (rw y.2 (eq-eqb y.0.root y.0.root refl)) in
     let q = held x.tag y.0.root there in
-    (none-left n x.tag y.0.root x.root q.0 (get nat_eq hs (tag_key x.tag)) q.1).0))
+    (none-left n y.0.root x.root q.0 (get nat_eq hs (tag_key x.tag)) q.1).0))
   where
     neither : {a b : Bool} → a ≡ false → b ≡ false → (a || b) ≡ false
     neither {a} {b} e k = ap (λ (x : Bool). x || b) e ∙ k
@@ -192,7 +192,7 @@ module _ (roots : Roots) (pe : ℕ) (reg : Reg) (load : RootValue) (reading : Re
       let same = tag_equal reading.tag g (first_true _ (not (nat_eq reading.root r)) other) in
       let apart : nat_eq reading.root r ≡ false = not-true _ (and_right (same_tag reading.tag g) _ other) in
       let others =
-      one-root (pes_of roots) reading.tag reading.root r holder.0 (get nat_eq roots.holds (tag_key reading.tag)) holder.1
+      one-root (pes_of roots) reading.root r holder.0 (get nat_eq roots.holds (tag_key reading.tag)) holder.1
       apart in (rw apart (or-false _ ∙ and-false (same_tag reading.tag g)), λ p. rw (← same) (others.1 p))
 
   -- no other root holds it, and none left it
@@ -201,7 +201,7 @@ module _ (roots : Roots) (pe : ℕ) (reg : Reg) (load : RootValue) (reading : Re
     others = unheld;
     none_left = λ g r p e.
         let same = tag_equal reading.tag g (sym (or-false _) ∙ e) in
-        rw (← same) ((none-left (pes_of roots) reading.tag reading.root r holder.0 (get nat_eq roots.holds (tag_key reading.tag))
+        rw (← same) ((none-left (pes_of roots) reading.root r holder.0 (get nat_eq roots.holds (tag_key reading.tag))
         holder.1).1 p);
   }
 

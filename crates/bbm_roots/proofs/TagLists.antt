@@ -19,7 +19,7 @@ is_keyed g e = nat_eq (tag_key g) e.0
 module _ {S : Type 0} (hs : IndexMap ℕ Held S) (n root : ℕ) where
   -- what is found under a key shows
   pub keyed : (g : Tag) (key : ℕ) (o : Option Held) → get nat_eq hs key ≡ o →
-      (nat_eq (tag_key g) key && tag_in hs n g root) ≡ (nat_eq (tag_key g) key && entry_kept false n g root o)
+      (nat_eq (tag_key g) key && tag_in hs n g root) ≡ (nat_eq (tag_key g) key && entry_kept false n root o)
   keyed g key o is = grind (arith, nat_tests)
 
   -- what the root holds is among what it may hold

@@ -1,6 +1,6 @@
 -- Which PEs hold a tag for a root, or keep one that a root left: a map from the key of a tag to the root and the set of
 -- them.
-use Rattle.std.specs.Prelude.{◌≡◌, ℕ, ◌+◌, ◌*◌, Bool, true, false, not, ◌&&◌, ◌||◌, nat_eq, ◌==◌, List}
+use Rattle.std.specs.Prelude.{◌≡◌, ℕ, zero, suc, ◌+◌, ◌*◌, Bool, true, false, not, ◌&&◌, ◌||◌, nat_eq, ◌==◌, List}
 use Rattle.std.specs.Prelude.{Option, Some, None, is_some}
 pub use Rattle.bbm_lemmas.specs.ListWords.{same_flag, some_pe}
 use Rattle.bbm_regimes.specs.PeMask.{pe_in}
@@ -8,47 +8,58 @@ use Rattle.indexmap.specs.IndexMap.{IndexMap, get}
 use Rattle.bbm_regimes.specs.declared.regime.Tag.{Tag}
 use Rattle.bbm_regimes.specs.declared.regime.Tag.TheVariants.{El2 as El2Tag, Vmid, Asid, Ttbr1 as Ttbr1Tag}
 use Rattle.bbm_roots.specs.declared.hold.Held.{Held}
-use Rattle.bbm_roots.specs.Readings.{same_tag, has_reading, has_other, has_tag, is_reading, is_of_tag, is_other}
+use Rattle.bbm_roots.specs.Readings.{has_reading, has_other, has_tag, is_reading, is_of_tag, is_other}
 use Rattle.bbm_roots.specs.declared.reading.Reading.{Reading}
 
--- Whether an entry is that of the tag and the root: of one that holds the tag, or, where `left`, of one that was given
--- up and left it. And whether it is so with the PE p in it.
-abbrev pub is_kept_by : Bool → Tag → ℕ → Held → Bool
-is_kept_by left tag root held = same_tag held.tag tag && held.root == root && same_flag left held.left
+-- Whether an entry is that of the root: of one that holds the tag, or, where `left`, of one that was given up and left
+-- it. And whether it is so with the PE p in it.
+abbrev pub is_kept_by : Bool → ℕ → Held → Bool
+is_kept_by left root held = held.root == root && same_flag left held.left
 
-abbrev pub is_hold : Tag → ℕ → Held → Bool
-is_hold tag root held = is_kept_by false tag root held
+abbrev pub is_hold : ℕ → Held → Bool
+is_hold root held = is_kept_by false root held
 
-abbrev pub keeps_bit : Bool → Tag → ℕ → ℕ → Held → Bool
-keeps_bit left tag root p held = is_kept_by left tag root held && pe_in held.pes p
+abbrev pub keeps_bit : Bool → ℕ → ℕ → Held → Bool
+keeps_bit left root p held = is_kept_by left root held && pe_in held.pes p
 
--- The key of a tag, which is no other tag's. Source: project's own choice.
+-- The key of a tag, and the tag with a key: each number is the key of one tag. Source: project's own choice.
 abbrev pub tag_key : Tag → ℕ
 tag_key El2Tag = 0
 tag_key Ttbr1Tag = 1
 tag_key (Vmid v) = 2 * v + 2
 tag_key (Asid a) = 2 * a + 3
 
-abbrev pub entry_bit : Bool → Tag → ℕ → ℕ → Option Held → Bool
-entry_bit left tag root p None = false
-entry_bit left tag root p (Some held) = keeps_bit left tag root p held
+abbrev pub tag_after : Tag → Tag
+tag_after El2Tag = Vmid zero
+tag_after Ttbr1Tag = Asid zero
+tag_after (Vmid v) = Vmid (suc v)
+tag_after (Asid a) = Asid (suc a)
 
--- whether an entry is one of the tag, with p in it, whosever it is
-abbrev pub entry_keeps : Tag → ℕ → Option Held → Bool
-entry_keeps tag p None = false
-entry_keeps tag p (Some held) = same_tag held.tag tag && pe_in held.pes p
+abbrev pub tag_with : ℕ → Tag
+tag_with zero = El2Tag
+tag_with (suc zero) = Ttbr1Tag
+tag_with (suc (suc key)) = tag_after (tag_with key)
+
+abbrev pub entry_bit : Bool → ℕ → ℕ → Option Held → Bool
+entry_bit left root p None = false
+entry_bit left root p (Some held) = keeps_bit left root p held
+
+-- whether an entry has p in it, whosever it is
+abbrev pub entry_keeps : ℕ → Option Held → Bool
+entry_keeps p None = false
+entry_keeps p (Some held) = pe_in held.pes p
 
 -- whether the root holds the entry's tag, or left it, at one of the first n PEs
-abbrev pub is_kept_somewhere : Bool → ℕ → Tag → ℕ → Held → Bool
-is_kept_somewhere left n tag root held = is_kept_by left tag root held && some_pe n (pe_in held.pes)
+abbrev pub is_kept_somewhere : Bool → ℕ → ℕ → Held → Bool
+is_kept_somewhere left n root held = is_kept_by left root held && some_pe n (pe_in held.pes)
 
 -- whether it holds it there, by the entry under a key, where that is the key of the tag
 abbrev pub is_held_under : ℕ → Tag → ℕ → ℕ → Held → Bool
-is_held_under n tag root key held = tag_key tag == key && is_kept_somewhere false n tag root held
+is_held_under n tag root key held = tag_key tag == key && is_kept_somewhere false n root held
 
-abbrev pub entry_kept : Bool → ℕ → Tag → ℕ → Option Held → Bool
-entry_kept left n tag root None = false
-entry_kept left n tag root (Some held) = is_kept_somewhere left n tag root held
+abbrev pub entry_kept : Bool → ℕ → ℕ → Option Held → Bool
+entry_kept left n root None = false
+entry_kept left n root (Some held) = is_kept_somewhere left n root held
 
 module _ {S : Type 0} (holds : IndexMap ℕ Held S) where
   -- whether there is an entry of the tag
@@ -57,11 +68,11 @@ module _ {S : Type 0} (holds : IndexMap ℕ Held S) where
 
   -- whether the tag is held or left at p, by any root
   abbrev pub kept_in : Tag → ℕ → Bool
-  kept_in tag p = entry_keeps tag p (get nat_eq holds (tag_key tag))
+  kept_in tag p = entry_keeps p (get nat_eq holds (tag_key tag))
 
   -- whether the root keeps it at p: it holds it, or, where `left`, it was given up and left it
   abbrev pub keeps_in : Bool → Tag → ℕ → ℕ → Bool
-  keeps_in left tag root p = entry_bit left tag root p (get nat_eq holds (tag_key tag))
+  keeps_in left tag root p = entry_bit left root p (get nat_eq holds (tag_key tag))
 
   abbrev pub hold_in : Tag → ℕ → ℕ → Bool
   hold_in tag root p = keeps_in false tag root p
@@ -71,7 +82,7 @@ module _ {S : Type 0} (holds : IndexMap ℕ Held S) where
 
   -- and at one of the first n PEs
   abbrev pub kept_tag : Bool → ℕ → Tag → ℕ → Bool
-  kept_tag left n tag root = entry_kept left n tag root (get nat_eq holds (tag_key tag))
+  kept_tag left n tag root = entry_kept left n root (get nat_eq holds (tag_key tag))
 
   abbrev pub tag_in : ℕ → Tag → ℕ → Bool
   tag_in n tag root = kept_tag false n tag root

@@ -8,9 +8,10 @@ ghost use Rattle.bbm_roots.specs.HoldsNew as spec;
 ghost use Rattle.bbm_roots.specs.Readings.{reading_at};
 ghost use Rattle.bbm_roots.specs.declared.reading.Reading.{Reading as TheReading};
 
-use crate::hold::{Holds, is_held_at, some_pe, tag_key};
+use crate::hold::{Holds, is_held_at, some_pe};
 use crate::load::RootValue;
 use crate::reading::Reading;
+use crate::tag_key::TagKey;
 use bbm_regimes::{AsidFrom, Page, Pe, PeCount, Tag, World};
 
 /// What is known of the tags that a new value makes readable.
@@ -64,9 +65,9 @@ fn known_for(holds: &Holds, n: PeCount, tag: Tag, root: Page, pe: Pe) -> Shortcu
     ensures shared { (x : TheReading) → result ≡ Shortcut.Shared x
         → (x.tag ≡ tag) × (x.root ≡ root) × (tag_in holds.now n tag root ≡ true) }
 {
-    match holds.get(&tag_key(tag)) {
+    match holds.get(&TagKey::new(tag)) {
         Some(held) => {
-            if !held.is_hold(tag, root) {
+            if !held.is_hold(root) {
                 Shortcut::Open
             } else if held.pes.has(pe) {
                 Shortcut::Held

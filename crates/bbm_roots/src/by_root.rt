@@ -6,13 +6,13 @@ ghost use Rattle.indexmap.specs.IndexMap.{get};
 ghost use Rattle.bbm_roots.specs.Holds.{tag_key as key_of};
 ghost use Rattle.bbm_roots.specs.TagsByRoot as spec;
 
-use crate::hold::tag_key;
+use crate::tag_key::TagKey;
 use bbm_regimes::{NoMemory, Page, Tag};
 use indexmap::IndexMap;
 use std::alloc::Global;
 
 /// Tags, by their keys.
-pub type Tags = IndexMap<u32, Tag>;
+pub type Tags = IndexMap<TagKey, Tag>;
 
 /// The tags that each root may hold, by its first page. What it holds is among them.
 pub type ByRoot = IndexMap<u64, Tags>;
@@ -22,7 +22,7 @@ fn add(tags: &mut Tags, tag: Tag) -> Result<(), NoMemory>
     ensures kept { (q : ℕ) → is_some (get nat_eq tags.old q) ≡ true → is_some (get nat_eq tags.new q) ≡ true }
     ensures added { OnOk result (is_some (get nat_eq tags.new (key_of tag)) ≡ true) }
 {
-    match tags.insert(tag_key(tag), tag) {
+    match tags.insert(TagKey::new(tag), tag) {
         Ok(_) => Ok(()),
         Err(_) => Err(NoMemory),
     }
@@ -64,14 +64,14 @@ pub fn list(by_root: &mut ByRoot, alloc: Global, tag: Tag, root: Page) -> Result
     add_to(by_root, tag, root)
 }
 
-/// Takes the tag out of those that the root may hold. No other tag is taken out.
-pub fn unlist(by_root: &mut ByRoot, tag: Tag, root: Page)
-    ensures { (r key : ℕ) → nat_eq (key_of tag) key ≡ false → spec.is_listed by_root.old r key ≡ true
-        → spec.is_listed by_root.new r key ≡ true }
+/// Takes the tag with the key out of those that the root may hold. No other tag is taken out.
+pub fn unlist(by_root: &mut ByRoot, key: TagKey, root: Page)
+    ensures { (r k : ℕ) → nat_eq key k ≡ false → spec.is_listed by_root.old r k ≡ true
+        → spec.is_listed by_root.new r k ≡ true }
 {
     match by_root.get_mut(&root.get()) {
         Some(tags) => {
-            tags.swap_remove(&tag_key(tag));
+            tags.swap_remove(&key);
         }
         None => {}
     }

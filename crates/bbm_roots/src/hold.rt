@@ -3,7 +3,7 @@
 
 ghost use Rattle.std.specs.Prelude.{◌≡◌, ℕ, Bool, ◌&&◌, ◌||◌, not, nat_eq, true, false, Option, Some, None};
 ghost use Rattle.std.specs.Prelude.{is_some, IfSome, OnOk, if◌then◌else◌};
-ghost use Rattle.indexmap.specs.IndexMap.{get, values};
+ghost use Rattle.indexmap.specs.IndexMap.{get, keys};
 ghost use Rattle.bbm_regimes.specs.PeMask.{pe_in};
 ghost use Rattle.bbm_regimes.specs.declared.regime.Tag.{Tag as TheTag};
 ghost use Rattle.bbm_roots.specs.Holds as spec;
@@ -16,21 +16,20 @@ ghost use Rattle.bbm_roots.specs.Readings.{has_tag as spec_has_tag};
 ghost use Rattle.bbm_roots.specs.TagsByRoot.{is_listed, AreListed};
 
 use crate::by_root::{ByRoot, Tags, list, unlist};
-use crate::pending::{Waiting, Waits, answers, slot};
+use crate::pending::{Waits, answers, slot};
 use crate::reading::Reading;
+use crate::tag_key::TagKey;
 use bbm_barriers::Dsb;
-use bbm_regimes::{NoMemory, Page, Pe, PeCount, PeMask, Tag, same_tag};
+use bbm_regimes::{NoMemory, Page, Pe, PeCount, PeMask, Tag};
 use indexmap::IndexMap;
 use std::alloc::Global;
 
 /// The tags that are held or left, each with its root and the PEs, by the key of the tag.
-pub type Holds = IndexMap<u32, Held>;
+pub type Holds = IndexMap<TagKey, Held>;
 
 /// The PEs at which a root holds a tag, or one that was given up has left it.
 #[derive(Clone, Copy)]
 pub struct Held {
-    /// The tag.
-    pub tag: Tag,
     /// The first page of the root.
     pub root: Page,
     /// The PEs.
@@ -49,11 +48,11 @@ pub fn some_pe(pes: PeMask, n: PeCount) -> bool
 impl Held {
     ghost use Rattle.bbm_roots.specs.Holds.{is_hold};
 
-    /// Whether the entry is that of the tag and the root, which wasn't given up.
-    pub fn is_hold(&self, tag: Tag, root: Page) -> bool
-        ensures { result ≡ is_hold tag root self.now }
+    /// Whether the entry is that of the root, which wasn't given up.
+    pub fn is_hold(&self, root: Page) -> bool
+        ensures { result ≡ is_hold root self.now }
     {
-        same_tag(self.tag, tag) && self.root == root && !self.left
+        self.root == root && !self.left
     }
 }
 
@@ -61,29 +60,17 @@ impl Held {
 pub fn is_held_at(holds: &Holds, tag: Tag, root: Page, pe: Pe) -> bool
     ensures { result ≡ spec.hold_in holds.now tag root pe }
 {
-    match holds.get(&tag_key(tag)) {
-        Some(held) => held.is_hold(tag, root) && held.pes.has(pe),
+    match holds.get(&TagKey::new(tag)) {
+        Some(held) => held.is_hold(root) && held.pes.has(pe),
         None => false,
     }
 }
 
-/// The key of a tag, which is no other tag's, 0 to 131073.
-pub fn tag_key(tag: Tag) -> u32
-    ensures { result ≡ spec.tag_key tag }
+/// The keys of the tags that have an entry, in no order.
+pub fn tag_keys(holds: &Holds) -> &[TagKey]
+    ensures { result.now ≡ keys holds.now }
 {
-    match tag {
-        Tag::El2 => 0,
-        Tag::Ttbr1 => 1,
-        Tag::Vmid(v) => 2 * v as u32 + 2,
-        Tag::Asid(a) => 2 * a as u32 + 3,
-    }
-}
-
-/// The entries, in no order.
-pub fn entries(holds: &Holds) -> &[Held]
-    ensures { result.now ≡ values holds.now }
-{
-    holds.values().as_slice()
+    holds.keys().as_slice()
 }
 
 /// Makes an entry of the tag and the root, with no PE in it, where the tag has none.
@@ -92,21 +79,13 @@ fn make_entry(holds: &mut Holds, tag: Tag, root: Page) -> Result<(), NoMemory>
     ensures made { OnOk result ((g : TheTag) → spec.has_entry holds.new g
         ≡ (spec.has_entry holds.old g || spec_same_tag tag g)) }
 {
-    let key = tag_key(tag);
+    let key = TagKey::new(tag);
     if holds.contains_key(&key) {
         return Ok(());
     }
     let pes = PeMask::none();
     let left = false;
-    match holds.insert(
-        key,
-        Held {
-            tag,
-            root,
-            pes,
-            left,
-        },
-    ) {
+    match holds.insert(key, Held { root, pes, left }) {
         Ok(_) => Ok(()),
         Err(_) => Err(NoMemory),
     }
@@ -133,18 +112,17 @@ pub fn make_room(
     Ok(())
 }
 
-/// Puts the PE into the entry of the tag: for this root, where another may have been there before, or one that left it.
-fn enter_one(held: &mut Held, tag: Tag, root: Page, pe: Pe)
-    ensures held { (r p : ℕ) → spec.keeps_bit false tag r p held.new
-        ≡ (nat_eq root r && (spec.keeps_bit false tag r p held.old || nat_eq p pe)) }
-    ensures left { (r p : ℕ) → spec.keeps_bit true tag r p held.new ≡ false }
+/// Puts the PE into the entry: for this root, where another may have been there before, or one that left the tag.
+fn enter_one(held: &mut Held, root: Page, pe: Pe)
+    ensures held { (r p : ℕ) → spec.keeps_bit false r p held.new
+        ≡ (nat_eq root r && (spec.keeps_bit false r p held.old || nat_eq p pe)) }
+    ensures left { (r p : ℕ) → spec.keeps_bit true r p held.new ≡ false }
 {
     let one = PeMask::one(pe);
-    if held.is_hold(tag, root) {
+    if held.is_hold(root) {
         held.pes = held.pes.or(one);
     } else {
         *held = Held {
-            tag,
             root,
             pes: one,
             left: false,
@@ -161,20 +139,20 @@ fn mark_one(holds: &mut Holds, tag: Tag, root: Page, pe: Pe)
         ≡ (spec.left_in holds.old g r p && not (spec_same_tag tag g)) }
     ensures entries { (g : TheTag) → spec.has_entry holds.new g ≡ spec.has_entry holds.old g }
 {
-    enter(holds, tag_key(tag), tag, root, pe);
+    enter(holds, TagKey::new(tag), root, pe);
 }
 
-/// Puts the PE into the entry under the key of the tag, for this root alone.
-fn enter(holds: &mut Holds, key: u32, tag: Tag, root: Page, pe: Pe)
+/// Puts the PE into the entry under the key, for this root alone.
+fn enter(holds: &mut Holds, key: TagKey, root: Page, pe: Pe)
     requires { is_some (get nat_eq holds.old key) ≡ true }
     ensures others { OthersStay key holds.old holds.new }
-    ensures here { (r p : ℕ) → spec.entry_bit false tag r p (get nat_eq holds.new key)
-        ≡ (nat_eq root r && (spec.entry_bit false tag r p (get nat_eq holds.old key) || nat_eq p pe)) }
-    ensures left { (r p : ℕ) → spec.entry_bit true tag r p (get nat_eq holds.new key) ≡ false }
+    ensures here { (r p : ℕ) → spec.entry_bit false r p (get nat_eq holds.new key)
+        ≡ (nat_eq root r && (spec.entry_bit false r p (get nat_eq holds.old key) || nat_eq p pe)) }
+    ensures left { (r p : ℕ) → spec.entry_bit true r p (get nat_eq holds.new key) ≡ false }
     ensures known { (q : ℕ) → is_some (get nat_eq holds.new q) ≡ is_some (get nat_eq holds.old q) }
 {
     match holds.get_mut(&key) {
-        Some(held) => enter_one(held, tag, root, pe),
+        Some(held) => enter_one(held, root, pe),
         None => {}
     }
 }
@@ -192,12 +170,12 @@ pub fn mark(holds: &mut Holds, readings: &[Reading], pe: Pe)
 }
 
 /// Takes the PEs out of the entry under the key. Its root, where it has none any more.
-fn narrow(holds: &mut Holds, key: u32, pes: PeMask) -> Option<Page>
+fn narrow(holds: &mut Holds, key: TagKey, pes: PeMask) -> Option<Page>
     ensures others { OthersStay key holds.old holds.new }
-    ensures here { (l : Bool) (g : TheTag) (r p : ℕ) → spec.entry_bit l g r p (get nat_eq holds.new key)
-        ≡ (spec.entry_bit l g r p (get nat_eq holds.old key) && not (pe_in pes p)) }
-    ensures none { IfSome result (λ root. (l : Bool) (g : TheTag) (r p : ℕ)
-        → spec.entry_bit l g r p (get nat_eq holds.new key) ≡ false) }
+    ensures here { (l : Bool) (r p : ℕ) → spec.entry_bit l r p (get nat_eq holds.new key)
+        ≡ (spec.entry_bit l r p (get nat_eq holds.old key) && not (pe_in pes p)) }
+    ensures none { IfSome result (λ root. (l : Bool) (r p : ℕ)
+        → spec.entry_bit l r p (get nat_eq holds.new key) ≡ false) }
 {
     match holds.get_mut(&key) {
         Some(held) => {
@@ -213,34 +191,33 @@ fn narrow(holds: &mut Holds, key: u32, pes: PeMask) -> Option<Page>
 }
 
 /// Forgets the entry under the key, in which there is no PE.
-fn forget(holds: &mut Holds, key: u32)
-    requires { (l : Bool) (g : TheTag) (r p : ℕ) → spec.entry_bit l g r p (get nat_eq holds.old key) ≡ false }
+fn forget(holds: &mut Holds, key: TagKey)
+    requires { (l : Bool) (r p : ℕ) → spec.entry_bit l r p (get nat_eq holds.old key) ≡ false }
     ensures { spec.SameHolds holds.old holds.new }
 {
     holds.swap_remove(&key);
 }
 
-/// Takes the PEs out of the entry of the tag, and forgets it where it has none any more.
-fn take_from(holds: &mut Holds, by_root: &mut ByRoot, tag: Tag, pes: PeMask)
+/// Takes the PEs out of the entry under the key, and forgets it where it has none any more.
+fn take_from(holds: &mut Holds, by_root: &mut ByRoot, key: TagKey, pes: PeMask)
     ensures holds { (l : Bool) (g : TheTag) (r p : ℕ) → spec.keeps_in holds.new l g r p
-        ≡ (spec.keeps_in holds.old l g r p && not (spec_same_tag tag g && pe_in pes p)) }
+        ≡ (spec.keeps_in holds.old l g r p && not (nat_eq (spec.tag_key g) key && pe_in pes p)) }
     ensures listed { AreListed holds.old by_root.old → AreListed holds.new by_root.new }
 {
-    let key = tag_key(tag);
     if let Some(root) = narrow(holds, key, pes) {
         forget(holds, key);
-        unlist(by_root, tag, root);
+        unlist(by_root, key, root);
     }
 }
 
 /// Marks the entry under the key as left, where it is the root's.
-fn leave_under(holds: &mut Holds, key: u32, root: Page)
+fn leave_under(holds: &mut Holds, key: TagKey, root: Page)
     ensures others { OthersStay key holds.old holds.new }
-    ensures held { (g : TheTag) (r p : ℕ) → spec.entry_bit false g r p (get nat_eq holds.new key)
-        ≡ (spec.entry_bit false g r p (get nat_eq holds.old key) && not (nat_eq r root)) }
-    ensures left { (g : TheTag) (r p : ℕ) → spec.entry_bit true g r p (get nat_eq holds.new key)
-        ≡ (spec.entry_bit true g r p (get nat_eq holds.old key)
-        || (nat_eq r root && spec.entry_bit false g r p (get nat_eq holds.old key))) }
+    ensures held { (r p : ℕ) → spec.entry_bit false r p (get nat_eq holds.new key)
+        ≡ (spec.entry_bit false r p (get nat_eq holds.old key) && not (nat_eq r root)) }
+    ensures left { (r p : ℕ) → spec.entry_bit true r p (get nat_eq holds.new key)
+        ≡ (spec.entry_bit true r p (get nat_eq holds.old key)
+        || (nat_eq r root && spec.entry_bit false r p (get nat_eq holds.old key))) }
 {
     match holds.get_mut(&key) {
         Some(held) => held.left |= held.root == root,
@@ -270,17 +247,6 @@ pub fn leave(holds: &mut Holds, by_root: &mut ByRoot, root: Page)
     }
 }
 
-/// Takes away at these PEs the tag that waits under the key. Under the key of another tag nothing waits.
-fn release_under(holds: &mut Holds, by_root: &mut ByRoot, key: u32, waiting: Waiting)
-    ensures holds { (l : Bool) (g : TheTag) (r p : ℕ) → spec.keeps_in holds.new l g r p
-        ≡ (spec.keeps_in holds.old l g r p && not (nat_eq (spec.tag_key g) key && wait_bit g p (Some waiting))) }
-    ensures listed { AreListed holds.old by_root.old → AreListed holds.new by_root.new }
-{
-    if tag_key(waiting.tag) == key {
-        take_from(holds, by_root, waiting.tag, waiting.pes);
-    }
-}
-
 /// Takes the tags away that wait in this place, and empties it.
 fn release_all(holds: &mut Holds, by_root: &mut ByRoot, waits: &mut Waits)
     ensures holds { (l : Bool) (g : TheTag) (r p : ℕ) → spec.keeps_in holds.new l g r p
@@ -289,8 +255,8 @@ fn release_all(holds: &mut Holds, by_root: &mut ByRoot, waits: &mut Waits)
     ensures listed { AreListed holds.old by_root.old → AreListed holds.new by_root.new }
 {
     for _count in 0..waits.len() {
-        if let Some((key, waiting)) = waits.pop() {
-            release_under(holds, by_root, key, waiting);
+        if let Some((key, pes)) = waits.pop() {
+            take_from(holds, by_root, key, pes);
         }
     }
 }
@@ -298,7 +264,7 @@ fn release_all(holds: &mut Holds, by_root: &mut ByRoot, waits: &mut Waits)
 /// Takes the tags away that wait in the place of this number, and empties it, where it is there.
 fn release_place(holds: &mut Holds, by_root: &mut ByRoot, waits: &mut Vec<Waits>, place: usize)
     ensures holds { (l : Bool) (g : TheTag) (r p : ℕ) → spec.keeps_in holds.new l g r p
-        ≡ (spec.keeps_in holds.old l g r p && not (wait_bit g p (wait_at waits.old.items place (spec.tag_key g)))) }
+        ≡ (spec.keeps_in holds.old l g r p && not (wait_bit p (wait_at waits.old.items place (spec.tag_key g)))) }
     ensures waits { EmptiesPlace place waits.old.items waits.new.items }
     ensures listed { AreListed holds.old by_root.old → AreListed holds.new by_root.new }
 {
@@ -319,7 +285,7 @@ fn release_one(
 )
     ensures holds { (l : Bool) (g : TheTag) (r p : ℕ) → spec.keeps_in holds.new l g r p
         ≡ (spec.keeps_in holds.old l g r p && not (dsb_answers dsb broadcast
-        && wait_bit g p (wait_at waits.old.items (slot_of issuer broadcast) (spec.tag_key g)))) }
+        && wait_bit p (wait_at waits.old.items (slot_of issuer broadcast) (spec.tag_key g)))) }
     ensures waits { (q : ℕ) (b : Bool) (key : ℕ) → wait_at waits.new.items (slot_of q b) key
         ≡ (if (nat_eq q issuer && same_flag broadcast b) && dsb_answers dsb broadcast then None
         else wait_at waits.old.items (slot_of q b) key) }
@@ -339,8 +305,9 @@ pub fn release(
     dsb: Dsb,
 )
     ensures holds { (l : Bool) (g : TheTag) (r p : ℕ) → spec.keeps_in holds.new l g r p
-        ≡ (spec.keeps_in holds.old l g r p && not ((dsb_answers dsb true && wait_bit g p (wait_at waits.old.items (slot_of issuer true) (spec.tag_key g)))
-        || (dsb_answers dsb false && wait_bit g p (wait_at waits.old.items (slot_of issuer false) (spec.tag_key g))))) }
+        ≡ (spec.keeps_in holds.old l g r p && not (
+        (dsb_answers dsb true && wait_bit p (wait_at waits.old.items (slot_of issuer true) (spec.tag_key g)))
+        || (dsb_answers dsb false && wait_bit p (wait_at waits.old.items (slot_of issuer false) (spec.tag_key g))))) }
     ensures waits { (q : ℕ) (b : Bool) (key : ℕ) → wait_at waits.new.items (slot_of q b) key
         ≡ (if nat_eq q issuer && dsb_answers dsb b then None else wait_at waits.old.items (slot_of q b) key) }
     ensures listed { AreListed holds.old by_root.old → AreListed holds.new by_root.new }

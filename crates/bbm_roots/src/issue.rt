@@ -3,7 +3,7 @@
 ghost use Rattle.std.specs.Prelude.{◌≡◌, ℕ, ◌<◌, Bool, ◌&&◌, ◌||◌, not, nat_eq, true, false, Option, Some, OnOk};
 ghost use Rattle.std.specs.Prelude.{IfSome, is_some, length, nat_lt};
 ghost use Rattle.std.specs.List.{list_any};
-ghost use Rattle.indexmap.specs.IndexMap.{get, values};
+ghost use Rattle.indexmap.specs.IndexMap.{get, keys};
 ghost use Rattle.bbm_regimes.specs.PeMask.{pe_in};
 ghost use Rattle.bbm_regimes.specs.declared.regime.Tag.{Tag as TheTag};
 ghost use Rattle.bbm_tlbi_scope.specs.ScopeTags.{takes_whole_tag};
@@ -13,10 +13,11 @@ ghost use Rattle.bbm_lemmas.specs.ListWords.{same_flag};
 ghost use Rattle.bbm_roots.specs.RootPendings as spec;
 ghost use Rattle.bbm_roots.specs.Readings.{same_tag as spec_same_tag};
 
-use crate::hold::{Holds, entries, tag_key};
-use crate::pending::{Pendings, Waiting, Waits, open, slot};
+use crate::hold::{Holds, tag_keys};
+use crate::pending::{Pendings, Waits, open, slot};
 use crate::registers::Registers;
-use bbm_regimes::{NoMemory, Pe, PeMask, Tag, World, same_tag};
+use crate::tag_key::TagKey;
+use bbm_regimes::{NoMemory, Pe, PeMask, Tag, World};
 use bbm_tlbi_scope::{Family, Scope, whole_tag};
 use std::alloc::Global;
 
@@ -65,12 +66,11 @@ fn make_entry(waits: &mut Waits, tag: Tag) -> Result<(), NoMemory>
     ensures made { OnOk result ((g : TheTag) → spec.has_wait waits.new g
         ≡ (spec.has_wait waits.old g || spec_same_tag tag g)) }
 {
-    let key = tag_key(tag);
+    let key = TagKey::new(tag);
     if waits.contains_key(&key) {
         return Ok(());
     }
-    let pes = PeMask::none();
-    match waits.insert(key, Waiting { tag, pes }) {
+    match waits.insert(key, PeMask::none()) {
         Ok(_) => Ok(()),
         Err(_) => Err(NoMemory),
     }
@@ -78,11 +78,11 @@ fn make_entry(waits: &mut Waits, tag: Tag) -> Result<(), NoMemory>
 
 /// Whether the TLBI takes a tag that is held.
 fn takes_some(holds: &Holds, scope: &Scope, vmid: Option<u16>) -> bool
-    ensures { result ≡ list_any (spec.takes_entry scope.now vmid) (values holds.now) }
+    ensures { result ≡ list_any (spec.takes_key scope.now vmid) (keys holds.now) }
 {
-    entries(holds)
+    tag_keys(holds)
         .iter()
-        .any(|held| takes(scope, vmid, held.tag))
+        .any(|key| takes(scope, vmid, key.tag()))
 }
 
 /// The PEs that a TLBI of the issuer reaches.
@@ -102,7 +102,7 @@ fn takes_from(holds: &Holds, registers: &Registers, issuer: Pe, broadcast: bool,
     ensures { (p : ℕ) → kept_in holds.now tag p ≡ true → spec.unread_at registers.now issuer broadcast tag p ≡ true
         → result ≡ true }
 {
-    match holds.get(&tag_key(tag)) {
+    match holds.get(&TagKey::new(tag)) {
         Some(held) => {
             let pes = reached(registers, issuer, broadcast).and(held.pes);
             registers.first_unread(pes, tag).is_some()
@@ -154,8 +154,8 @@ fn make_entries(
     if let Some(tag) = one_tag(scope, vmid) {
         return make_entry(waits, tag);
     }
-    for held in entries(holds) {
-        make_taken(waits, scope, vmid, held.tag)?;
+    for key in tag_keys(holds) {
+        make_taken(waits, scope, vmid, key.tag())?;
     }
     Ok(())
 }
@@ -169,8 +169,8 @@ fn make_place(
     vmid: Option<u16>,
 ) -> Result<(), NoMemory>
     requires { place < length waits.old.items }
-    ensures same { (n : ℕ) (g : TheTag) (p : ℕ) → spec.wait_bit g p (spec.wait_at waits.new.items n (key_of g))
-        ≡ spec.wait_bit g p (spec.wait_at waits.old.items n (key_of g)) }
+    ensures same { (n : ℕ) (g : TheTag) (p : ℕ) → spec.wait_bit p (spec.wait_at waits.new.items n (key_of g))
+        ≡ spec.wait_bit p (spec.wait_at waits.old.items n (key_of g)) }
     ensures made { OnOk result (spec.EachTaken scope.now vmid holds.now
         (λ g. is_some (spec.wait_at waits.new.items place (key_of g)))) }
 {
@@ -203,28 +203,15 @@ fn unread(registers: &Registers, issuer: Pe, broadcast: bool, tag: Tag) -> PeMas
     registers.unread(reached(registers, issuer, broadcast), tag)
 }
 
-/// The entry with these PEs in it, as one of the tag.
-fn widened(waiting: Waiting, tag: Tag, pes: PeMask) -> Waiting
-    ensures same { result.tag ≡ tag }
-    ensures bits { (p : ℕ) → spec.wait_bit tag p (Some result) ≡ (spec.wait_bit tag p (Some waiting) || pe_in pes p) }
-{
-    let pes = if same_tag(waiting.tag, tag) {
-        waiting.pes.or(pes)
-    } else {
-        pes
-    };
-    Waiting { tag, pes }
-}
-
-/// Puts the PEs into the entry under the key, as one of the tag.
-fn widen(waits: &mut Waits, key: u32, tag: Tag, pes: PeMask)
+/// Puts the PEs into the entry under the key.
+fn widen(waits: &mut Waits, key: TagKey, pes: PeMask)
     ensures others { OthersStay key waits.old waits.new }
-    ensures here { (p : ℕ) → spec.wait_bit tag p (get nat_eq waits.new key)
-        ≡ (spec.wait_bit tag p (get nat_eq waits.old key) || (is_some (get nat_eq waits.old key) && pe_in pes p)) }
+    ensures here { (p : ℕ) → spec.wait_bit p (get nat_eq waits.new key)
+        ≡ (spec.wait_bit p (get nat_eq waits.old key) || (is_some (get nat_eq waits.old key) && pe_in pes p)) }
     ensures known { (k : ℕ) → is_some (get nat_eq waits.new k) ≡ is_some (get nat_eq waits.old k) }
 {
     match waits.get_mut(&key) {
-        Some(waiting) => *waiting = widened(*waiting, tag, pes),
+        Some(waiting) => *waiting = waiting.or(pes),
         None => {}
     }
 }
@@ -247,7 +234,7 @@ fn note_one(
 {
     if takes(scope, vmid, tag) {
         let pes = unread(registers, issuer, scope.broadcast, tag);
-        widen(waits, tag_key(tag), tag, pes);
+        widen(waits, TagKey::new(tag), pes);
     }
 }
 
@@ -266,8 +253,8 @@ fn note_entries(
     if let Some(tag) = one_tag(scope, vmid) {
         return note_one(waits, registers, issuer, scope, vmid, tag);
     }
-    for held in entries(holds) {
-        note_one(waits, registers, issuer, scope, vmid, held.tag);
+    for key in tag_keys(holds) {
+        note_one(waits, registers, issuer, scope, vmid, key.tag());
     }
 }
 
@@ -281,8 +268,8 @@ fn note_place(
     vmid: Option<u16>,
 )
     ensures { (n : ℕ) (g : TheTag) (h p : ℕ) → kept_in holds.now g h ≡ true
-        → spec.wait_bit g p (spec.wait_at waits.new.items n (key_of g))
-        ≡ (spec.wait_bit g p (spec.wait_at waits.old.items n (key_of g))
+        → spec.wait_bit p (spec.wait_at waits.new.items n (key_of g))
+        ≡ (spec.wait_bit p (spec.wait_at waits.old.items n (key_of g))
         || (is_some (spec.wait_at waits.old.items n (key_of g)) && (nat_eq n (spec.slot_of issuer scope.now.broadcast)
         && (takes_whole_tag scope.now vmid g && spec.unread_at registers.now issuer scope.now.broadcast g p)))) }
 {

@@ -38,6 +38,7 @@ mod root;
 mod roots;
 mod search;
 mod standing;
+mod tag_key;
 mod vmid;
 mod writing;
 

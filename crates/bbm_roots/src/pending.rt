@@ -12,24 +12,17 @@ ghost use Rattle.bbm_roots.specs.Keyed.{OthersStay};
 ghost use Rattle.bbm_roots.specs.RootPendings as spec;
 ghost use Rattle.bbm_roots.specs.Readings.{has_tag as spec_has_tag, same_tag as spec_same_tag};
 
-use crate::hold::tag_key;
 use crate::reading::Reading;
+use crate::tag_key::TagKey;
 use bbm_barriers::{Dsb, completes_broadcast, completes_local};
 use bbm_regimes::{NoMemory, Pe, PeMask, Tag};
 use indexmap::IndexMap;
 use std::alloc::Global;
 
-/// The whole-tag TLBIs of an issuer for one tag that no DSB has answered yet.
-#[derive(Clone, Copy)]
-pub struct Waiting {
-    /// The tag that they take.
-    pub tag: Tag,
-    /// The PEs that one of them reaches and at which the tag has been readable for no root since its issue.
-    pub pes: PeMask,
-}
-
-/// Those of one issuer, its broadcast ones or its others, by the key of the tag.
-pub type Waits = IndexMap<u32, Waiting>;
+/// The whole-tag TLBIs of one issuer that no DSB has answered yet, its broadcast ones or its others, by the key of the
+/// tag that they take: the PEs that one of them reaches and at which the tag has been readable for no root since its
+/// issue.
+pub type Waits = IndexMap<TagKey, PeMask>;
 
 /// Those of all issuers.
 #[derive(Drop)]
@@ -146,13 +139,13 @@ pub fn close(pendings: &mut Pendings, issuer: Pe)
 }
 
 /// Takes the PE out of the entry under the key.
-fn narrow(map: &mut Waits, key: u32, pe: Pe)
+fn narrow(map: &mut Waits, key: TagKey, pe: Pe)
     ensures others { OthersStay key map.old map.new }
-    ensures here { (g : TheTag) (p : ℕ) → spec.wait_bit g p (get nat_eq map.new key)
-        ≡ (spec.wait_bit g p (get nat_eq map.old key) && not (nat_eq p pe)) }
+    ensures here { (p : ℕ) → spec.wait_bit p (get nat_eq map.new key)
+        ≡ (spec.wait_bit p (get nat_eq map.old key) && not (nat_eq p pe)) }
 {
     match map.get_mut(&key) {
-        Some(waiting) => waiting.pes = waiting.pes.minus(PeMask::one(pe)),
+        Some(pes) => *pes = pes.minus(PeMask::one(pe)),
         None => {}
     }
 }
@@ -162,7 +155,7 @@ fn clear_tag(map: &mut Waits, tag: Tag, pe: Pe)
     ensures { (g : TheTag) (p : ℕ) → spec.wait_in map.new g p
         ≡ (spec.wait_in map.old g p && not (nat_eq p pe && spec_same_tag tag g)) }
 {
-    narrow(map, tag_key(tag), pe);
+    narrow(map, TagKey::new(tag), pe);
 }
 
 /// Takes the PE out of the entries of the tags that are readable. Where the place is empty it looks at none.
@@ -181,8 +174,8 @@ fn clear_place(map: &mut Waits, readings: &[Reading], pe: Pe)
 /// Takes the PE out of the entries of the tags that are readable, in every place.
 #[inline(never)]
 fn clear_places(waits: &mut [Waits], readings: &[Reading], pe: Pe)
-    ensures { (n : ℕ) (g : TheTag) (p : ℕ) → spec.wait_bit g p (spec.wait_at waits.new n (key_of g))
-        ≡ (spec.wait_bit g p (spec.wait_at waits.old n (key_of g))
+    ensures { (n : ℕ) (g : TheTag) (p : ℕ) → spec.wait_bit p (spec.wait_at waits.new n (key_of g))
+        ≡ (spec.wait_bit p (spec.wait_at waits.old n (key_of g))
         && not (nat_eq p pe && spec_has_tag g readings.now)) }
 {
     for map in waits.iter_mut() {

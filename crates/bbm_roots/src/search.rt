@@ -14,9 +14,10 @@ ghost use Rattle.bbm_roots.specs.LeastOf.{IsLeast, IsLeastWith, ReadingUpTo};
 ghost use Rattle.bbm_roots.specs.TagsByRoot.{AreListed};
 
 use crate::by_root::{ByRoot, Tags};
-use crate::hold::{Held, Holds, some_pe, tag_key};
+use crate::hold::{Held, Holds, some_pe};
 use crate::reading::{Reading, has_other, tag_rank};
-use bbm_regimes::{Page, PeCount, Tag, same_tag};
+use crate::tag_key::TagKey;
+use bbm_regimes::{Page, PeCount, Tag};
 use bbm_tlbi_scope::{TagSet, with_tag};
 
 /// Whether the first comes no later than the second: by the root's first page, then by the tag.
@@ -54,9 +55,9 @@ fn keeper_of(holds: &Holds, n: PeCount, tag: Tag, root: Page) -> Option<Page>
     ensures { (r : ℕ) → ((not (nat_eq root r) && spec.tag_in holds.now n tag r) || spec.kept_tag holds.now true n tag r)
         ≡ is_that result r }
 {
-    match holds.get(&tag_key(tag)) {
+    match holds.get(&TagKey::new(tag)) {
         Some(held) => {
-            if same_tag(held.tag, tag) && (held.left || held.root != root) && some_pe(held.pes, n) {
+            if (held.left || held.root != root) && some_pe(held.pes, n) {
                 Some(held.root)
             } else {
                 None
@@ -121,24 +122,22 @@ pub fn least_conflict(holds: &Holds, n: PeCount, seen: &[Reading]) -> Option<Rea
 /// choice.
 const FEW: usize = 8;
 
-/// Whether the root holds the tag of the entry under this key at one of the first n PEs. Under the key of another tag
-/// it says nothing.
-fn is_held_under(key: u32, held: &Held, n: PeCount, root: Page) -> bool
-    ensures held { (g : TheTag) → spec.is_held_under n g root key held.now ≡ (spec.is_hold g root held.now && result) }
-    ensures own { result ≡ true → spec.is_hold held.now.tag root held.now ≡ true }
+/// Whether the entry is that of the root, which holds the tag at one of the first n PEs.
+fn is_held_somewhere(held: &Held, n: PeCount, root: Page) -> bool
+    ensures { result ≡ spec.is_kept_somewhere false n root held.now }
 {
-    held.is_hold(held.tag, root) && some_pe(held.pes, n) && tag_key(held.tag) == key
+    held.is_hold(root) && some_pe(held.pes, n)
 }
 
 /// The set with the tag of the entry under this key, where the root holds it at one of the first n PEs; None where it
 /// doesn't.
-fn with_entry(set: TagSet, key: u32, held: &Held, n: PeCount, root: Page) -> Option<TagSet>
+fn with_entry(set: TagSet, key: TagKey, held: &Held, n: PeCount, root: Page) -> Option<TagSet>
     ensures added { IfSome result (λ more. (test : TheTag → Bool) → HasTags test set
         → HasTags (λ g. test g || spec.is_held_under n g root key held.now) more) }
     ensures none { result ≡ None → (g : TheTag) → spec.is_held_under n g root key held.now ≡ false }
 {
-    if is_held_under(key, held, n, root) {
-        Some(with_tag(set, held.tag))
+    if is_held_somewhere(held, n, root) {
+        Some(with_tag(set, key.tag()))
     } else {
         None
     }
@@ -170,7 +169,7 @@ fn tags_in(holds: &Holds, n: PeCount, root: Page) -> TagSet
 }
 
 /// The set with the tag with this key, where the root holds it at one of the first n PEs; None where it doesn't.
-fn with_key(set: TagSet, holds: &Holds, key: u32, n: PeCount, root: Page) -> Option<TagSet>
+fn with_key(set: TagSet, holds: &Holds, key: TagKey, n: PeCount, root: Page) -> Option<TagSet>
     ensures added { IfSome result (λ more. (test : TheTag → Bool) → HasTags test set
         → HasTags (λ g. test g || (nat_eq (spec.tag_key g) key && spec.tag_in holds.now n g root)) more) }
     ensures none { result ≡ None → (g : TheTag) → (nat_eq (spec.tag_key g) key && spec.tag_in holds.now n g root)

@@ -19,7 +19,7 @@ returns-then-has c = λ q b g h p kept.
     let takes = takes_whole_tag c.args.scope.now c.args.vmid g in
     let unread = unread_at c.args.registers.now c.args.issuer flag g p in
     rw (c.note_place.ensures (slot_of q b) g h p kept, slots q b c.args.issuer flag)
-    (known here (wait_bit g p w) (is_some w) (nat_eq q c.args.issuer && same_flag flag b) takes unread)
+    (known here (wait_bit p w) (is_some w) (nat_eq q c.args.issuer && same_flag flag b) takes unread)
 
 pub returns-else-has : goal.returns-else-has
 returns-else-has c = λ q b g h p kept.
@@ -29,5 +29,5 @@ returns-else-has c = λ q b g h p kept.
     let takes = takes_whole_tag c.args.scope.now c.args.vmid g in
     let unread = unread_at c.args.registers.now c.args.issuer flag g p in
     let none : pe_in ps.issuers c.args.issuer ≡ false = sym c.has.ensures ∙ c.if-has.false in
-    unnoted (pe_in ps.issuers q) (wait_bit g p w) (is_some w) (nat_eq q c.args.issuer) (same_flag flag b) takes unread
+    unnoted (pe_in ps.issuers q) (wait_bit p w) (is_some w) (nat_eq q c.args.issuer) (same_flag flag b) takes unread
     (λ at. ap (λ (n : ℕ). pe_in ps.issuers n) (eqb-true q c.args.issuer at) ∙ none)

@@ -23,6 +23,6 @@ returns c = λ n g p.
     ⊎_elim (λ (less : n < i). c.loop-map.invariant.front n g p less)
     (λ (past : i ≤ n).
     let none = at-past c.args.waits.now n (tag_key g) (omega arith) in
-    ap (wait_bit g p) (c.loop-map.invariant.back n (tag_key g) past ∙ none)
-    ∙ ap (λ o. wait_bit g p o && keep) (sym none))
+    ap (wait_bit p) (c.loop-map.invariant.back n (tag_key g) past ∙ none)
+    ∙ ap (λ o. wait_bit p o && keep) (sym none))
     (cases_lt n i)

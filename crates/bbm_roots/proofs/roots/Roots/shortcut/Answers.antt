@@ -14,7 +14,7 @@ returns-in-Some-clause-shared c = λ x is.
       room = below-nine _ _ c.is_full.ensures c.if-is_full.false;
       quiet = λ q b g p.
           ap (λ (none : Bool). none
-          && wait_bit g p (wait_at c.args.self.now.pendings.waits.items (slot_of q b) (tag_key g)))
+          && wait_bit p (wait_at c.args.self.now.pendings.waits.items (slot_of q b) (tag_key g)))
           (c.is_empty.ensures.0 c.if-not-is_empty.false q);
       tag =
           let own = c.own_tag.ensures in
