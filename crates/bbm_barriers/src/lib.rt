@@ -10,7 +10,7 @@ use bbm_regimes::{Pe, PeCount, PeMask};
 
 /// The shareability domain of a barrier. `Full` is the domain of the options `sy`, `st` and `ld`.
 /// Source: Arm ARM (DDI 0487), "Memory barriers".
-#[derive(Clone, Copy, Debug, PartialEq, Eq)]
+#[derive(Clone, Copy, PartialEq, Eq)]
 pub enum Domain {
     /// The full system.
     Full,
@@ -30,7 +30,7 @@ pub fn is_non(domain: Domain) -> bool
 }
 
 /// The accesses that a barrier waits for. Source: Arm ARM (DDI 0487), "Memory barriers".
-#[derive(Clone, Copy, Debug, PartialEq, Eq)]
+#[derive(Clone, Copy, PartialEq, Eq)]
 pub enum Types {
     /// Loads and stores.
     All,
@@ -41,7 +41,7 @@ pub enum Types {
 }
 
 /// The option of a DSB or a DMB. Source: Arm ARM (DDI 0487), "Memory barriers".
-#[derive(Clone, Copy, Debug, PartialEq, Eq)]
+#[derive(Clone, Copy, PartialEq, Eq)]
 pub struct Dsb {
     /// The shareability domain that the barrier reaches.
     pub domain: Domain,
@@ -82,4 +82,16 @@ pub fn completes_local(dsb: Dsb) -> bool
     ensures { result ≡ answers_local dsb }
 {
     matches!(dsb.types, Types::All)
+}
+
+/// Whether a DSB completes its issuer's earlier TLBIs of this sort, broadcast or not. Source: Arm ARM (DDI 0487), "TLB
+/// maintenance instructions".
+pub fn answers(dsb: Dsb, broadcast: bool) -> bool
+    ensures { result ≡ options.answers dsb broadcast }
+{
+    if broadcast {
+        completes_broadcast(dsb)
+    } else {
+        completes_local(dsb)
+    }
 }

@@ -8,18 +8,19 @@ use Rattle.bbm_regimes.specs.declared.regime.Kind.{Kind}
 use Rattle.bbm_descriptor.specs.declared.desc.Core.{Core}
 use Rattle.bbm_descriptor.specs.declared.desc.Core.TheVariants.{Table as CoreTable, Leaf as CoreLeaf}
 use Rattle.bbm_descriptor.specs.Descriptor.{Form, invalid, table, leaf, form_of, desc_as, core_of, core_in, is_valid}
-use Rattle.bbm_descriptor.specs.Descriptor.{valid_form, same_bool, same_core, differ, needs}
+use Rattle.bbm_descriptor.specs.Descriptor.{valid_form, same_core, differ, needs}
+use Rattle.bbm_lemmas.specs.ListWords.{same_flag}
 use Rattle.bbm_lemmas.proofs.Bools.{same_truth, not_from}
 
-pub same_bool-refl : (b : Bool) → same_bool b b ≡ true
-same_bool-refl true = refl
-same_bool-refl false = refl
+pub same_flag-refl : (b : Bool) → same_flag b b ≡ true
+same_flag-refl true = refl
+same_flag-refl false = refl
 
-pub same_bool-eq : (a b : Bool) → same_bool a b ≡ true → a ≡ b
-same_bool-eq true true h = refl
-same_bool-eq true false h = sym h
-same_bool-eq false true h = h
-same_bool-eq false false h = refl
+pub same_flag-eq : (a b : Bool) → same_flag a b ≡ true → a ≡ b
+same_flag-eq true true h = refl
+same_flag-eq true false h = sym h
+same_flag-eq false true h = h
+same_flag-eq false false h = refl
 
 pub core_where_valid-as : (form : Form) (kind : Kind) (level value : ℕ) → is_some (core_in (desc_as form kind level value)) ≡ valid_form form
 core_where_valid-as invalid kind level value = refl
@@ -31,15 +32,15 @@ pub core_where_valid : (kind : Kind) (level value : ℕ) → is_some (core_of ki
 core_where_valid kind level value = core_where_valid-as (form_of level value) kind level value
 
 pub same_core-refl : (c : Core) → same_core c c ≡ true
-same_core-refl (CoreTable next ns) = grind (arith, nat_tests, same_bool-refl ns)
-same_core-refl (CoreLeaf out attrs share global contiguous) = grind (arith, nat_tests, same_bool-refl global, same_bool-refl contiguous)
+same_core-refl (CoreTable next ns) = grind (arith, nat_tests, same_flag-refl ns)
+same_core-refl (CoreLeaf out attrs share global contiguous) = grind (arith, nat_tests, same_flag-refl global, same_flag-refl contiguous)
 
 pub same_core-eq : (c d : Core) → same_core c d ≡ true → c ≡ d
-same_core-eq (CoreTable next ns) (CoreTable next' ns') h = grind (arith, nat_tests, same_bool-eq ns ns')
+same_core-eq (CoreTable next ns) (CoreTable next' ns') h = grind (arith, nat_tests, same_flag-eq ns ns')
 same_core-eq (CoreTable next ns) (CoreLeaf out' attrs' share' global' contiguous') h = cc
 same_core-eq (CoreLeaf out attrs share global contiguous) (CoreTable next' ns') h = cc
 same_core-eq (CoreLeaf out attrs share global contiguous) (CoreLeaf out' attrs' share' global' contiguous') h =
-    grind (arith, nat_tests, same_bool-eq global global', same_bool-eq contiguous contiguous')
+    grind (arith, nat_tests, same_flag-eq global global', same_flag-eq contiguous contiguous')
 
 same_core-comm : (c d : Core) → same_core c d ≡ same_core d c
 same_core-comm c d =

@@ -143,15 +143,15 @@ reads_leaf value root kind addr level place v out attrs share span global contig
     let at_span : IsAnswer value root addr (Out (out_of level (value place) + addr % span) level) = subst (λ s. IsAnswer value root addr (Out (out_of level (value place) + addr % s) level)) (sym is_span) at_leaf in
     subst (λ o. IsAnswer value root addr (Out (o + addr % span) level)) (sym told.1) at_span
 
-pub reads_table : (value : ℕ → ℕ) (root : WalkRoot) (kind : Kind) (addr level place v next below : ℕ) (ns : Bool) (above : List ℕ) → ComesTo value root addr level place above → v ≡ value place → Table next ns ≡ desc_of kind level v → below ≡ next + 8 * (addr / span_of (level + 1) % 512) → ComesTo value root addr (level + 1) below (place ∷ above)
-reads_table value root kind addr level place v next below ns above c is_value is_desc is_below =
+pub reads_table : (value : ℕ → ℕ) (root : WalkRoot) (kind : Kind) (addr level place v next below deeper : ℕ) (ns : Bool) (above : List ℕ) → ComesTo value root addr level place above → v ≡ value place → Table next ns ≡ desc_of kind level v → deeper ≡ level + 1 → below ≡ next + 8 * (addr / span_of deeper % 512) → ComesTo value root addr deeper below (place ∷ above)
+reads_table value root kind addr level place v next below deeper ns above c is_value is_desc is_deeper is_below =
     let told = as_table (form_of level (value place)) kind level (value place) next ns (subst (λ n. Table next ns ≡ desc_of kind level n) is_value is_desc) in
     let on = next_step value root addr level place above c told.0 in
-    let one : ComesTo value root addr (level + 1) (next_of (value place) + 8 * (addr / span_of (level + 1) % 512)) (place ∷ above) =
-    subst (λ l. ComesTo value root addr l (next_of (value place) + 8 * (addr / span_of l % 512)) (place ∷ above)) (sym (add-one level)) on in
-    let at_next : ComesTo value root addr (level + 1) (next + 8 * (addr / span_of (level + 1) % 512)) (place ∷ above) =
-    subst (λ n. ComesTo value root addr (level + 1) (n + 8 * (addr / span_of (level + 1) % 512)) (place ∷ above)) (sym told.1) one in
-    subst (λ p. ComesTo value root addr (level + 1) p (place ∷ above)) (sym is_below) at_next
+    let one : ComesTo value root addr deeper (next_of (value place) + 8 * (addr / span_of deeper % 512)) (place ∷ above) =
+    subst (λ l. ComesTo value root addr l (next_of (value place) + 8 * (addr / span_of l % 512)) (place ∷ above)) (sym (is_deeper ∙ add-one level)) on in
+    let at_next : ComesTo value root addr deeper (next + 8 * (addr / span_of deeper % 512)) (place ∷ above) =
+    subst (λ n. ComesTo value root addr deeper (n + 8 * (addr / span_of deeper % 512)) (place ∷ above)) (sym told.1) one in
+    subst (λ p. ComesTo value root addr deeper p (place ∷ above)) (sym is_below) at_next
 
 -- the walk begins at the place of the root that the address selects
 pub first_step : (value : ℕ → ℕ) (root : WalkRoot) (addr : ℕ) → IsAligned root → RegionHolds value root [] addr → ComesTo value root addr root.start (root.page + 8 * ((addr - root.first) / span_of root.start)) []

@@ -2,6 +2,7 @@
 -- break-before-make.
 use Rattle.std.specs.Prelude.{◌≡◌, ℕ, Bool, true, false, not, ◌&&◌, ◌==◌, ◌<◌, ◌%◌, ◌^◌, Option, Some, None, zero, suc}
 use Rattle.std.specs.Prelude.{if◌then◌else◌}
+use Rattle.bbm_lemmas.specs.ListWords.{same_flag}
 use Rattle.bbm_regimes.specs.declared.regime.Kind.{Kind}
 use Rattle.bbm_regimes.specs.declared.regime.Kind.TheVariants.{El2, S2, Ttbr0, Ttbr1}
 use Rattle.bbm_regimes.specs.Extent.{span_of}
@@ -88,16 +89,11 @@ valid_form leaf = true
 abbrev pub is_valid : Kind → ℕ → ℕ → Bool
 is_valid kind level value = valid_form (form_of level value)
 
--- whether two truth values are the same
-abbrev pub same_bool : Bool → Bool → Bool
-same_bool true b = b
-same_bool false b = not b
-
 -- whether two cores are equal
 abbrev pub same_core : Core → Core → Bool
-same_core (CoreTable next ns) (CoreTable next' ns') = next == next' && same_bool ns ns'
+same_core (CoreTable next ns) (CoreTable next' ns') = next == next' && same_flag ns ns'
 same_core (CoreLeaf out attrs share global contiguous) (CoreLeaf out' attrs' share' global' contiguous') =
-    out == out' && attrs == attrs' && share == share' && same_bool global global' && same_bool contiguous contiguous'
+    out == out' && attrs == attrs' && share == share' && same_flag global global' && same_flag contiguous contiguous'
 same_core _ _ = false
 
 -- both are cores, and they differ

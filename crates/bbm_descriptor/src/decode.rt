@@ -6,7 +6,7 @@ ghost use Rattle.bbm_descriptor.specs.Descriptor.{leaf, stage1, desc_of, desc_as
 ghost use Rattle.bbm_descriptor.specs.Descriptor.{is_valid, needs, Fits};
 
 use crate::desc::{Core, Desc};
-use bbm_regimes::{Kind, Page};
+use bbm_regimes::{Kind, Level, Page};
 
 /// Bits [high:low] of a value.
 #[tactic(auto, using(crate::proofs::Shifts::shifts))]
@@ -55,10 +55,10 @@ fn read_table(kind: Kind, value: u64) -> Desc
 }
 
 /// The output address of a leaf, by its level.
-fn output(level: u8, value: u64) -> u64
+fn output(level: Level, value: u64) -> u64
     ensures { result ≡ out_of level value }
 {
-    match level {
+    match level.get() {
         1 => address_at(value, 30),
         2 => address_at(value, 21),
         _ => address_at(value, 12),
@@ -66,7 +66,7 @@ fn output(level: u8, value: u64) -> u64
 }
 
 /// The leaf of this value, which is a block or a page.
-fn read_leaf(kind: Kind, level: u8, value: u64) -> Desc
+fn read_leaf(kind: Kind, level: Level, value: u64) -> Desc
     ensures { result ≡ desc_as leaf kind level value }
 {
     Desc::Leaf {
@@ -78,25 +78,24 @@ fn read_leaf(kind: Kind, level: u8, value: u64) -> Desc
     }
 }
 
-/// What this value of a place means at this kind and level, 0 to 3. It is `Desc::Invalid` where bit 0
+/// What this value of a place means at this kind and level. It is `Desc::Invalid` where bit 0
 /// is 0, and for bits [1:0] = 01 at levels 0 and 3. Source: Arm ARM (DDI 0487), "VMSAv8-64 descriptor
 /// formats".
-pub fn read(kind: Kind, level: u8, value: u64) -> Desc
-    requires { level ≤ 3 }
+pub fn read(kind: Kind, level: Level, value: u64) -> Desc
     ensures value { result ≡ desc_of kind level value }
     ensures fits { Fits level result }
+    ensures low { level ≤ 3 }
 {
-    match (bits_at(value, 1, 0), level) {
+    match (bits_at(value, 1, 0), level.get()) {
         (3, 0..=2) => read_table(kind, value),
         (3, _) | (1, 1..=2) => read_leaf(kind, level, value),
         _ => Desc::Invalid,
     }
 }
 
-/// The core of this value of a place at this kind and level, 0 to 3: what a write can't change without
+/// The core of this value of a place at this kind and level: what a write can't change without
 /// break-before-make. None exactly where the value is invalid. Source: project's own choice.
-pub fn core(kind: Kind, level: u8, value: u64) -> Option<Core>
-    requires { level ≤ 3 }
+pub fn core(kind: Kind, level: Level, value: u64) -> Option<Core>
     ensures value { result ≡ core_of kind level value }
     ensures invalid { IsNone result ↔ (is_valid kind level value ≡ false) }
     ensures fits { IfSome result (λ core. Fits level (desc_with core)) }
@@ -120,11 +119,18 @@ pub fn core(kind: Kind, level: u8, value: u64) -> Option<Core>
     }
 }
 
-/// Whether writing the new value over the old one, at a place of this kind and level, 0 to 3, needs
+/// Whether this value of a place is valid at this kind and level, which is where it has a core. Source: Arm ARM (DDI
+/// 0487), "VMSAv8-64 descriptor formats".
+pub fn is_valid(kind: Kind, level: Level, value: u64) -> bool
+    ensures { result ≡ is_valid kind level value }
+{
+    core(kind, level, value).is_some()
+}
+
+/// Whether writing the new value over the old one, at a place of this kind and level, needs
 /// break-before-make: both are valid and their cores differ. Source: Arm ARM (DDI 0487), "Using
 /// break-before-make when updating translation table entries", with the project's own core.
-pub fn needs_bbm(kind: Kind, level: u8, old: u64, new: u64) -> bool
-    requires { level ≤ 3 }
+pub fn needs_bbm(kind: Kind, level: Level, old: u64, new: u64) -> bool
     ensures { result ≡ needs kind level old new }
 {
     match (core(kind, level, old), core(kind, level, new)) {

@@ -7,7 +7,7 @@ use bbm_regimes::Page;
 
 /// What a value of a place means. Source: Arm ARM (DDI 0487), "VMSAv8-64 descriptor formats"; which of
 /// the fields are read is the project's own choice.
-#[derive(Clone, Copy, Debug, PartialEq, Eq)]
+#[derive(Clone, Copy, PartialEq, Eq)]
 pub enum Desc {
     /// No translation and no further table.
     Invalid,
@@ -35,7 +35,7 @@ pub enum Desc {
 
 /// The part of a valid descriptor that a write can't change without break-before-make. The fields are
 /// those of `Desc`. Source: project's own choice.
-#[derive(Clone, Copy, Debug, PartialEq, Eq)]
+#[derive(Clone, Copy, PartialEq, Eq)]
 pub enum Core {
     /// A table of the next level.
     Table {

@@ -8,7 +8,7 @@ pub mod laws;
 pub mod memory;
 pub mod walk;
 
-pub use decode::{core, needs_bbm, read};
+pub use decode::{core, is_valid, needs_bbm, read};
 pub use desc::{Core, Desc};
 pub use memory::{Memory, Pairs};
 pub use walk::{Walk, place_for, walk_from};

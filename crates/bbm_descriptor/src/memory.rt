@@ -17,7 +17,7 @@ pub trait Memory {
 
 /// Memory that is told by pairs of a place and its value. The first pair of a place counts; a place that has none
 /// holds 0. Source: project's own choice.
-#[derive(Clone, Copy, Debug)]
+#[derive(Clone, Copy)]
 pub struct Pairs<'a> {
     /// The pairs.
     pub pairs: &'a [(Place, u64)],

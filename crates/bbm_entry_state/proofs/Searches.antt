@@ -4,7 +4,7 @@ use Rattle.std.proofs.Common.{if◌then◌else◌}
 use Rattle.std.proofs.lemmas.Bool.{and_from, and_parts, or_cases, or_left, or_right, eqb-true, false_from_ne_true}
 use Rattle.bbm_lemmas.proofs.Tautologies.{proved}
 use Rattle.bbm_lemmas.proofs.Tautologies.Claim.{If, Is}
-use Rattle.bbm_descriptor.specs.Descriptor.{same_bool}
+use Rattle.bbm_lemmas.specs.ListWords.{same_flag}
 use Rattle.bbm_barriers.specs.declared.Dsb.{Dsb}
 use Rattle.bbm_barriers.specs.Options.{publishes, answers}
 use Rattle.bbm_tlbi_scope.specs.declared.entry.Cover.{Cover}
@@ -24,8 +24,8 @@ module _ (n p : ℕ) (test : Step → List Step → Bool) (needs : NeedsSeen n p
   issue_seen q b (Barrier pe dsb) older h = cc
   issue_seen q b (Flush pe reach broadcast cover) older h =
       needs.before (Flush pe reach broadcast cover) older
-      (and_parts (same_bool broadcast b) (test (Flush pe reach broadcast cover) older)
-      (and_parts (pe == q) (same_bool broadcast b && test (Flush pe reach broadcast cover) older) h).1).1
+      (and_parts (same_flag broadcast b) (test (Flush pe reach broadcast cover) older)
+      (and_parts (pe == q) (same_flag broadcast b && test (Flush pe reach broadcast cover) older) h).1).1
 
   issued_seen : (q : ℕ) (b : Bool) (steps : List Step) → some (issues q b test) steps ≡ true → seen n p steps ≡ true
   issued_seen q b [] h = cc

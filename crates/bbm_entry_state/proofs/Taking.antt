@@ -8,7 +8,7 @@ use Rattle.bbm_lemmas.specs.EveryPe.{every_pe}
 use Rattle.bbm_regimes.specs.PeMask.{pe_in}
 use Rattle.bbm_regimes.specs.declared.pe.PeMask.{PeMask}
 use Rattle.bbm_descriptor.specs.declared.desc.Core.{Core}
-use Rattle.bbm_descriptor.specs.Descriptor.{same_bool}
+use Rattle.bbm_lemmas.specs.ListWords.{same_flag}
 use Rattle.bbm_barriers.specs.declared.Dsb.{Dsb}
 use Rattle.bbm_barriers.specs.Options.{publishes, answers}
 use Rattle.bbm_tlbi_scope.specs.declared.entry.Cover.{Cover}
@@ -162,24 +162,24 @@ tlbi_stands n state pends pends' left steps q reach r broadcast cover noted reac
         waiting = λ i b c p.
             sets i b c p
             ∙ set_there (q == i) (waits left b c p) (waits (pends i) b c p)
-            (((q == i) && (same_bool broadcast b && (r p && (same_cover c cover && earned n c p S)))) || still_waits (flushes (earned n c p) c p) i b S)
+            (((q == i) && (same_flag broadcast b && (r p && (same_cover c cover && earned n c p S)))) || still_waits (flushes (earned n c p) c p) i b S)
             (λ here.
             let same : q ≡ i = eqb-true q i here in
             noted b c p
-            ∙ ap (λ (x : Bool). (same_bool broadcast b && (x && (same_cover c cover && counts_at state c p))) || waits (pends q) b c p) (reaches p)
-            ∙ ap (λ (x : Bool). (same_bool broadcast b && (r p && (same_cover c cover && x))) || waits (pends q) b c p) (counts c p)
-            ∙ ap (λ (k : ℕ). (same_bool broadcast b && (r p && (same_cover c cover && earned n c p S))) || waits (pends k) b c p) same
-            ∙ ap (λ (x : Bool). (same_bool broadcast b && (r p && (same_cover c cover && earned n c p S))) || x) (m.waiting i b c p)
-            ∙ ap (λ (t : Bool). (t && (same_bool broadcast b && (r p && (same_cover c cover && earned n c p S)))) || still_waits (flushes (earned n c p) c p) i b S) (sym here))
+            ∙ ap (λ (x : Bool). (same_flag broadcast b && (x && (same_cover c cover && counts_at state c p))) || waits (pends q) b c p) (reaches p)
+            ∙ ap (λ (x : Bool). (same_flag broadcast b && (r p && (same_cover c cover && x))) || waits (pends q) b c p) (counts c p)
+            ∙ ap (λ (k : ℕ). (same_flag broadcast b && (r p && (same_cover c cover && earned n c p S))) || waits (pends k) b c p) same
+            ∙ ap (λ (x : Bool). (same_flag broadcast b && (r p && (same_cover c cover && earned n c p S))) || x) (m.waiting i b c p)
+            ∙ ap (λ (t : Bool). (t && (same_flag broadcast b && (r p && (same_cover c cover && earned n c p S)))) || still_waits (flushes (earned n c p) c p) i b S) (sym here))
             (λ away. m.waiting i b c p
-            ∙ ap (λ (t : Bool). (t && (same_bool broadcast b && (r p && (same_cover c cover && earned n c p S)))) || still_waits (flushes (earned n c p) c p) i b S) (sym away));
+            ∙ ap (λ (t : Bool). (t && (same_flag broadcast b && (r p && (same_cover c cover && earned n c p S)))) || still_waits (flushes (earned n c p) c p) i b S) (sym away));
       };
   idle = λ none i b c p.
       sets i b c p
       ∙ set_there (q == i) (waits left b c p) (waits (pends i) b c p) false
       (λ here. noted b c p
-      ∙ ap (λ (x : Bool). (same_bool broadcast b && (pe_in reach p && (same_cover c cover && x))) || waits (pends q) b c p) (counts_none state c p none)
-      ∙ ap (λ (x : Bool). x || waits (pends q) b c p) (and_no_third (same_bool broadcast b) (pe_in reach p) (same_cover c cover))
+      ∙ ap (λ (x : Bool). (same_flag broadcast b && (pe_in reach p && (same_cover c cover && x))) || waits (pends q) b c p) (counts_none state c p none)
+      ∙ ap (λ (x : Bool). x || waits (pends q) b c p) (and_no_third (same_flag broadcast b) (pe_in reach p) (same_cover c cover))
       ∙ s.idle none q b c p)
       (λ away. s.idle none i b c p);
 }

@@ -7,7 +7,7 @@ use Rattle.bbm_lemmas.specs.EveryPe.{every_pe}
 use Rattle.bbm_regimes.specs.PeMask.{pe_in}
 use Rattle.bbm_regimes.specs.declared.pe.PeMask.{PeMask}
 use Rattle.bbm_descriptor.specs.declared.desc.Core.{Core}
-use Rattle.bbm_descriptor.specs.Descriptor.{same_bool}
+use Rattle.bbm_lemmas.specs.ListWords.{same_flag}
 use Rattle.bbm_barriers.specs.declared.Dsb.{Dsb}
 use Rattle.bbm_barriers.specs.Options.{publishes, answers}
 use Rattle.bbm_tlbi_scope.specs.declared.entry.Cover.{Cover}
@@ -54,7 +54,7 @@ counts_at (Broken marks) c p = counts_for marks c p
 abbrev pub Noted : EntryState → Pends → PeMask → Bool → Cover → Pends → Type 0
 Noted state old reach broadcast cover new =
     (b : Bool) (c : Cover) (p : ℕ) → waits new b c p
-    ≡ ((same_bool broadcast b && (pe_in reach p && (same_cover c cover && counts_at state c p))) || waits old b c p)
+    ≡ ((same_flag broadcast b && (pe_in reach p && (same_cover c cover && counts_at state c p))) || waits old b c p)
 
 -- whether the PE has taken the first of two steps, and whether it is cleansed, once the DSB has answered
 abbrev pub half_after : EntryState → Pends → Dsb → ℕ → Bool

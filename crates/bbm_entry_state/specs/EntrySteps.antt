@@ -2,7 +2,7 @@
 -- Source: project's own choice.
 use Rattle.std.specs.Prelude.{ℕ, Bool, true, false, Option, Some, None, List, [], ◌∷◌, ◌&&◌, ◌||◌, ◌==◌, if◌then◌else◌}
 use Rattle.bbm_descriptor.specs.declared.desc.Core.{Core}
-use Rattle.bbm_descriptor.specs.Descriptor.{same_bool}
+use Rattle.bbm_lemmas.specs.ListWords.{same_flag}
 use Rattle.bbm_barriers.specs.declared.Dsb.{Dsb}
 use Rattle.bbm_barriers.specs.Options.{answers}
 use Rattle.bbm_tlbi_scope.specs.declared.entry.Cover.{Cover}
@@ -42,7 +42,7 @@ writes q _ older = false
 -- whether the step is a TLBI of the PE q, broadcast or not, that passes the test
 abbrev pub issues : ℕ → Bool → (Step → List Step → Bool) → Step → List Step → Bool
 issues q b test (Flush pe reach broadcast cover) older =
-    pe == q && (same_bool broadcast b && test (Flush pe reach broadcast cover) older)
+    pe == q && (same_flag broadcast b && test (Flush pe reach broadcast cover) older)
 issues q b test _ older = false
 
 -- Whether the step is a DSB that answers a TLBI before it that passes the test: one of its own PE, of a kind that the

@@ -9,7 +9,7 @@ use bbm_regimes::{Pe, PeCount, PeMask};
 use bbm_tlbi_scope::Cover;
 
 /// How far a broken place is taken through break-before-make at each PE. Source: project's own choice.
-#[derive(Clone, Copy, Debug)]
+#[derive(Clone, Copy)]
 pub struct Marks {
     /// The core that some TLB may still keep.
     pub core: Core,

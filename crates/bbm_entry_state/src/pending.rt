@@ -3,7 +3,7 @@
 
 ghost use Rattle.std.specs.Prelude.{◌≡◌, ℕ, Bool, false, ◌&&◌, ◌||◌, not};
 ghost use Rattle.bbm_regimes.specs.PeMask.{pe_in};
-ghost use Rattle.bbm_descriptor.specs.Descriptor.{same_bool};
+ghost use Rattle.bbm_lemmas.specs.ListWords.{same_flag};
 ghost use Rattle.bbm_barriers.specs.Options.{answers};
 ghost use Rattle.bbm_tlbi_scope.specs.declared.entry.Cover.{Cover as TheCover};
 ghost use Rattle.bbm_entry_state.specs.Points.{waits, waits_in};
@@ -19,7 +19,7 @@ use bbm_regimes::PeMask;
 use bbm_tlbi_scope::Cover;
 
 /// The PEs that wait for the answer of a TLBI, by how far it covers the place.
-#[derive(Clone, Copy, Debug)]
+#[derive(Clone, Copy)]
 pub struct Pend {
     /// Those for which it is the first of two steps.
     pub half: PeMask,
@@ -30,7 +30,7 @@ pub struct Pend {
 }
 
 /// What waits for the answers of one issuer's TLBIs.
-#[derive(Clone, Copy, Debug)]
+#[derive(Clone, Copy)]
 pub struct Pends {
     /// Of the TLBIs that are broadcast.
     pub broadcast: Pend,
@@ -96,7 +96,7 @@ impl Pends {
     /// These PEs wait too, for a TLBI that is broadcast or not.
     pub fn with(self, broadcast: bool, more: Pend) -> Pends
         ensures { (b : Bool) (c : TheCover) (p : ℕ) →
-            waits result b c p ≡ ((same_bool broadcast b && waits_in more c p) || waits self b c p) }
+            waits result b c p ≡ ((same_flag broadcast b && waits_in more c p) || waits self b c p) }
     {
         Pends {
             broadcast: more.only_if(broadcast).or(self.broadcast),

@@ -8,7 +8,7 @@ use bbm_regimes::{Pe, PeCount, PeMask};
 use bbm_tlbi_scope::Cover;
 
 /// What TLBs may keep of one place. Source: project's own choice.
-#[derive(Clone, Copy, Debug)]
+#[derive(Clone, Copy)]
 pub enum EntryState {
     /// No TLB keeps anything of it: it never had a valid value, or every PE is cleansed of the last one.
     Clean,

@@ -8,7 +8,7 @@ ghost use Rattle.bbm_events.specs.Fits.{fits_heading, is_pe};
 
 use crate::event::Event;
 use crate::header::Header;
-use bbm_regimes::{Kind, Page, Pe, Place};
+use bbm_regimes::{Kind, PAGE_BYTES, Page, Pe, Place};
 use bbm_tlbi_scope::TlbiOp;
 
 /// Locks have numbers below 1,024.
@@ -38,7 +38,7 @@ fn is_place(place: Place) -> bool
 fn is_root_page(header: &Header, kind: Kind, page: Page) -> bool
     ensures { result ≡ spec.is_root_page header.now.world kind page }
 {
-    page.get() % (4096 * header.page_count(kind) as u64) == 0
+    page.get() % (PAGE_BYTES * header.page_count(kind) as u64) == 0
 }
 
 fn is_root_lock(lock: Option<u16>) -> bool

@@ -7,7 +7,7 @@ ghost use Rattle.bbm_regimes.specs.World as spec;
 ghost use Rattle.bbm_events.specs.Heading.{heading_ok};
 
 use crate::header::Header;
-use bbm_regimes::{Kind, PeCount, World};
+use bbm_regimes::{Kind, Level, PLACES, PeCount, World};
 
 impl Header {
     /// The numbers of a header are in their ranges. The call does nothing; what it tells is its contract.
@@ -57,7 +57,7 @@ impl Header {
 
     /// The level at which walks of the kind start, 0 to 2; 0 where the kind isn't one of the header's world. Source:
     /// Arm ARM (DDI 0487), "VMSAv8-64 translation table walks".
-    pub fn start_level(&self, kind: Kind) -> u8
+    pub fn start_level(&self, kind: Kind) -> Level
         ensures value { result ≡ spec.start_of self.now.world kind }
         ensures low { result ≤ 2 }
     {
@@ -65,12 +65,12 @@ impl Header {
             World::Hyp(world) => match kind {
                 Kind::El2 => world.el2_start,
                 Kind::S2 => world.s2_start,
-                Kind::Ttbr0 | Kind::Ttbr1 => 0,
+                Kind::Ttbr0 | Kind::Ttbr1 => Level::ZERO,
             },
             World::Kernel(world) => match kind {
                 Kind::Ttbr0 => world.start0,
                 Kind::Ttbr1 => world.start1,
-                Kind::El2 | Kind::S2 => 0,
+                Kind::El2 | Kind::S2 => Level::ZERO,
             },
         }
     }
@@ -82,21 +82,20 @@ impl Header {
         ensures bound { result ≤ 2 ^ 44 }
     {
         match kind {
-            Kind::Ttbr1 => (1 << 44) - 512 * input_pages(self.start_level(kind)),
+            Kind::Ttbr1 => (1 << 44) - PLACES * input_pages(self.start_level(kind)),
             Kind::El2 | Kind::S2 | Kind::Ttbr0 => 0,
         }
     }
 }
 
-/// The number of 4 KiB input pages that one descriptor of this level, 0 to 3, translates: 1 to 2^27. Source: Arm ARM
-/// (DDI 0487), "VMSAv8-64 translation table walks", the 4 KiB granule.
-pub fn input_pages(level: u8) -> u64
-    requires { level ≤ 3 }
+/// The number of 4 KiB input pages that one descriptor of this level translates: 1 to 2^27. Source: Arm ARM (DDI 0487),
+/// "VMSAv8-64 translation table walks", the 4 KiB granule.
+pub fn input_pages(level: Level) -> u64
     ensures value { result ≡ spec.input_pages level }
     ensures some { 1 ≤ result }
     ensures bound { result ≤ 2 ^ 27 }
 {
-    match level {
+    match level.get() {
         0 => 1 << 27,
         1 => 1 << 18,
         2 => 1 << 9,
@@ -104,13 +103,12 @@ pub fn input_pages(level: u8) -> u64
     }
 }
 
-/// How many regions of descriptors of this level, 0 to 3, lie whole in so many input pages. Source: Arm ARM (DDI 0487),
+/// How many regions of descriptors of this level lie whole in so many input pages. Source: Arm ARM (DDI 0487),
 /// "VMSAv8-64 translation table walks", the 4 KiB granule.
-pub fn regions_in(level: u8, pages: u64) -> u64
-    requires { level ≤ 3 }
+pub fn regions_in(level: Level, pages: u64) -> u64
     ensures { result ≡ pages / spec.input_pages level }
 {
-    match level {
+    match level.get() {
         0 => pages / (1 << 27),
         1 => pages / (1 << 18),
         2 => pages / (1 << 9),

@@ -21,7 +21,7 @@ const LINE_BYTES: usize = 200;
 const LOG_BYTES: u64 = 1 << 40;
 
 /// What stands where a line was asked for.
-#[derive(Clone, Copy, Debug, PartialEq, Eq)]
+#[derive(Clone, Copy, PartialEq, Eq)]
 pub enum LineOrEnd {
     /// A line: 0 to 200 bytes up to a newline.
     Line,
@@ -32,7 +32,7 @@ pub enum LineOrEnd {
 }
 
 /// Why a line wasn't read.
-#[derive(Clone, Copy, Debug, PartialEq, Eq)]
+#[derive(Clone, Copy, PartialEq, Eq)]
 pub enum LineFault {
     /// 201 bytes came without a newline.
     TooLong = 1,

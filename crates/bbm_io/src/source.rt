@@ -9,7 +9,7 @@ ghost use Rattle.bbm_io.specs.Memory.{fails_next};
 use std::marker::Model;
 
 /// A read or a write failed. What came of it stands at the call that answers this.
-#[derive(Clone, Copy, Debug, PartialEq, Eq)]
+#[derive(Clone, Copy, PartialEq, Eq)]
 pub struct Failed;
 
 /// Where bytes come from. `left` is the bytes still to come, where the source tells them, `at_hand` those

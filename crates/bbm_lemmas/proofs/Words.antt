@@ -1,7 +1,8 @@
 -- Options, lists of numbers, and tests of some PE.
 use Rattle.std.proofs.Common.{◌≡◌, ℕ, zero, suc, ◌<◌, ◌⊎◌, Bool, true, false, cond, ◌==◌, List, [], ◌∷◌, Option, Some}
-use Rattle.std.proofs.Common.{None, filter, refl, sym, ◌∙◌, ap, subst, inl, inr, true≢false, arith}
-use Rattle.std.proofs.lemmas.Bool.{cases_eq, eq-eqb, eqb-true}
+use Rattle.std.proofs.Common.{None, is_some, filter, refl, sym, ◌∙◌, ap, subst, inl, inr, true≢false, arith, nat_eq}
+use Rattle.std.specs.List.{AllByRecursion, IsDistinct}
+use Rattle.std.proofs.lemmas.Bool.{cases_eq, eq-eqb, eqb-true, ne_eqb}
 use Rattle.bbm_lemmas.specs.Elements.{In}
 use Rattle.bbm_lemmas.specs.ListWords.{◌>>=◌, among, below, if_so, repeated, some_pe, with_number}
 use Rattle.bbm_lemmas.proofs.Elements.{any_finds, any_found, from_filter, is_none_of}
@@ -20,6 +21,14 @@ if_so_some false x y k = cc
 pub some_if_so : {A : Type 0} (b : Bool) (x y : A) → b ≡ true → y ≡ x → if_so b x ≡ Some y
 some_if_so true x y k e = ap Some (sym e)
 some_if_so false x y k e = absurd (true≢false (sym k))
+
+pub none_is : {A : Type 0} (o : Option A) → is_some o ≡ false → o ≡ None
+none_is None e = refl
+none_is (Some x) e = cc
+
+pub some_is : {A : Type 0} (o : Option A) → is_some o ≡ true → (x : A) × (o ≡ Some x)
+some_is None e = absurd (true≢false (sym e))
+some_is (Some x) e = (x, refl)
 
 -- ---- lists of numbers
 
@@ -81,6 +90,15 @@ filter_apart test (n ∷ ms) a = by (test n) (filter_apart test ms a.1)
     by : (c : Bool) → Apart (filter test ms) → Apart (cond c (n ∷ filter test ms) (filter test ms))
     by true rest = (λ i. a.0 (from_filter test ms n i).0, rest)
     by false rest = rest
+
+pub apart_distinct : (ms : List ℕ) → Apart ms → IsDistinct nat_eq ms
+unfolding IsDistinct
+apart_distinct [] a = tt
+apart_distinct (n ∷ ms) a = (none ms a.0, apart_distinct ms a.1)
+  where
+    none : (ks : List ℕ) → (In ks n → ⊥) → AllByRecursion (λ k. nat_eq n k ≡ false) ks
+    none [] out = tt
+    none (k ∷ ks) out = (ne_eqb n k (λ e. out (inl (sym e))), none ks (λ i. out (inr i)))
 
 -- ---- the numbers below one
 

@@ -6,16 +6,16 @@ ghost use Rattle.std.specs.Prelude.{◌≡◌, ℕ, ◌<◌, ◌==◌, ◌↔◌
 use bbm_regimes::Pe;
 
 /// The lock is held, by this PE.
-#[derive(Clone, Copy, Debug, PartialEq, Eq)]
+#[derive(Clone, Copy, PartialEq, Eq)]
 pub struct Busy(pub Pe);
 
 /// The PE doesn't hold the lock.
-#[derive(Clone, Copy, Debug, PartialEq, Eq)]
+#[derive(Clone, Copy, PartialEq, Eq)]
 pub struct NotHolder;
 
 /// Which PE holds each lock, of numbers 0 to 1,023. Contracts speak of it by its points,
 /// `holder_at locks lock`, and by the calls that it accepted.
-#[derive(Debug, Drop)]
+#[derive(Drop)]
 pub struct Locks {
     holders: [Option<Pe>; 1024],
 }

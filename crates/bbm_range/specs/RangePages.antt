@@ -3,6 +3,7 @@
 -- last page number, and that an operand whose BASE doesn't fit its hint is refused, is the project's own choice.
 use Rattle.std.specs.Prelude.{ℕ, Bool, true, Result, Ok, Err, ◌+◌, ◌-◌, ◌*◌, ◌%◌, ◌^◌, ◌<◌, ◌≤◌, ◌==◌, nat_lt}
 use Rattle.std.specs.Prelude.{if◌then◌else◌}
+use Rattle.bbm_regimes.specs.Extent.{hint_of}
 use Rattle.bbm_range.specs.declared.Range.{Range}
 use Rattle.bbm_range.specs.declared.BadRange.{BadRange}
 use Rattle.bbm_range.specs.declared.BadRange.TheVariants.{Granule, Unaligned}
@@ -47,7 +48,7 @@ is_aligned xt =
 
 -- the range of an operand without a fault
 abbrev pub named : ℕ → Range
-named xt = record { lo = first_page xt; hi = last_page xt; level = ttl xt }
+named xt = record { lo = first_page xt; hi = last_page xt; level = hint_of (ttl xt) }
 
 -- the range, or what is wrong with the operand: the granule first, then the alignment
 abbrev pub range_of : ℕ → Result Range BadRange

@@ -6,20 +6,22 @@ ghost use Rattle.std.specs.Prelude.{◌≡◌, ℕ, ◌^◌, ◌<◌, ◌≤◌,
 ghost use Rattle.bbm_range.specs.RangeOperand as fields;
 ghost use Rattle.bbm_range.specs.RangePages as range;
 
+use bbm_regimes::{Level, hint_of};
+
 /// The pages that the operand of a range TLBI names, and its level hint. A page number is an address
 /// without its 12 lowest bits.
-#[derive(Clone, Copy, Debug, PartialEq, Eq)]
+#[derive(Clone, Copy, PartialEq, Eq)]
 pub struct Range {
     /// The first page number, 0 to 2^44 - 1.
     pub lo: u64,
     /// The last page number, `lo` to 2^44 - 1.
     pub hi: u64,
-    /// The level of the hint, 1 to 3; 0 where the operand gives none.
-    pub level: u8,
+    /// The level of the hint, 1 to 3; None where the operand gives none.
+    pub level: Option<Level>,
 }
 
 /// Why the operand of a range TLBI can't be read.
-#[derive(Clone, Copy, Debug, PartialEq, Eq)]
+#[derive(Clone, Copy, PartialEq, Eq)]
 pub enum BadRange {
     /// The granule is another than 4 KiB.
     Granule = 1,
@@ -122,7 +124,6 @@ pub fn pages(xt: u64) -> Result<Range, BadRange>
     ensures named { IfOk result (λ r. (n : ℕ) → range.Has r n ↔ range.Names xt n) }
     ensures ordered { IfOk result (λ r. r.lo ≤ r.hi) }
     ensures within { IfOk result (λ r. r.hi < 2 ^ 44) }
-    ensures level { IfOk result (λ r. r.level ≤ 3) }
 {
     if granule_field(xt) != 1 {
         return Err(BadRange::Granule);
@@ -139,6 +140,6 @@ pub fn pages(xt: u64) -> Result<Range, BadRange>
         } else {
             PAGE_NUMBERS - 1
         },
-        level: ttl_field(xt),
+        level: hint_of(ttl_field(xt)),
     })
 }

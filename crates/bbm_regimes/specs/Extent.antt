@@ -1,5 +1,5 @@
--- Intervals of input page numbers, and the span of a descriptor.
-use Rattle.std.specs.Prelude.{ℕ, Bool, ◌^◌, ◌≤◌, ◌-◌, ◌*◌, ◌+◌, ◌&&◌, nat_le}
+-- Intervals of input page numbers, the span of a descriptor, and the level of a level hint.
+use Rattle.std.specs.Prelude.{ℕ, Bool, ◌^◌, ◌≤◌, ◌-◌, ◌*◌, ◌+◌, ◌&&◌, ◌==◌, nat_le, Option, Some, None, if◌then◌else◌}
 
 -- the page numbers from lo to hi, both among them
 pub record Extent : Type 0 where
@@ -30,3 +30,7 @@ holds e f = nat_le e.lo f.lo && nat_le f.hi e.hi
 -- Source: Arm ARM (DDI 0487), "VMSAv8-64 translation table walks", the 4 KiB granule.
 abbrev pub span_of : ℕ → ℕ
 span_of level = 2 ^ (12 + 9 * (3 - level))
+
+-- the level that the bits of a level hint give; that 0 is no hint is the project's own choice
+abbrev pub hint_of : ℕ → Option ℕ
+hint_of bits = if bits == 0 then None else Some bits

@@ -1,13 +1,12 @@
-//! Intervals of input pages, and the span of a descriptor.
+//! Intervals of input pages.
 
-ghost use Rattle.std.specs.Prelude.{◌≡◌, ◌≤◌, ◌<◌, ◌↔◌, IsTrue};
-ghost use Rattle.bbm_regimes.specs.Extent.{span_of};
+ghost use Rattle.std.specs.Prelude.{◌≡◌, ◌↔◌, IsTrue};
 
 use std::marker::Model;
 
 /// A closed interval of input page numbers: the page numbers from `lo` to `hi`, both among them, where
 /// `lo` is at most `hi`. A clause sees its `Extent`. Source: project's own choice.
-#[derive(Clone, Copy, Debug, PartialEq, Eq)]
+#[derive(Clone, Copy, PartialEq, Eq)]
 pub struct Interval {
     /// The first input page number.
     pub lo: u64,
@@ -46,19 +45,5 @@ impl Interval {
         ensures ends { result ≡ holds self other }
     {
         self.lo <= other.lo && other.hi <= self.hi
-    }
-}
-
-/// The bytes of input addresses that one descriptor of this level translates: 2^39, 2^30, 2^21 or
-/// 2^12. Source: Arm ARM (DDI 0487), "VMSAv8-64 translation table walks", the 4 KiB granule.
-pub fn span(level: u8) -> u64
-    requires { level ≤ 3 }
-    ensures { result ≡ span_of level }
-{
-    match level {
-        0 => 1 << 39,
-        1 => 1 << 30,
-        2 => 1 << 21,
-        _ => 1 << 12,
     }
 }

@@ -7,7 +7,7 @@ ghost use Rattle.std.specs.Prelude.{IfSome};
 use std::marker::Model;
 
 /// A processing element: its number in the log, 0 to 127.
-#[derive(Clone, Copy, Debug, PartialEq, Eq)]
+#[derive(Clone, Copy, PartialEq, Eq)]
 pub struct Pe {
     number: u8,
 }
@@ -45,7 +45,7 @@ impl Pe {
 }
 
 /// The number of processing elements of a log, 1 to 128.
-#[derive(Clone, Copy, Debug, PartialEq, Eq)]
+#[derive(Clone, Copy, PartialEq, Eq)]
 pub struct PeCount {
     pes: u8,
 }
@@ -82,7 +82,7 @@ impl PeCount {
 
 /// A set of processing elements, of numbers 0 to 127. Contracts speak of it by its points alone,
 /// `pe_in mask p`.
-#[derive(Clone, Copy, Debug)]
+#[derive(Clone, Copy)]
 pub struct PeMask {
     bits: u128,
 }

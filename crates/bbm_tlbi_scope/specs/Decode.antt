@@ -14,7 +14,7 @@ use Rattle.bbm_tlbi_scope.specs.declared.scope.BadOperand.{BadOperand}
 use Rattle.bbm_tlbi_scope.specs.declared.scope.BadOperand.TheVariants.{NonCanonical, TtlGranule, RangeGranule}
 use Rattle.bbm_tlbi_scope.specs.declared.scope.BadOperand.TheVariants.{RangeUnaligned}
 use Rattle.bbm_tlbi_scope.specs.Operations.{Operation, operation, by_vmid, has_page, has_asid}
-use Rattle.bbm_tlbi_scope.specs.Operand.{asid_field, ttl_granule, va_page, ipa_page, top_bits, hint_of, level_hint}
+use Rattle.bbm_tlbi_scope.specs.Operand.{asid_field, ttl_granule, va_page, ipa_page, top_bits, level_hint}
 
 -- Whether the page number lies in the address range of the regime: 48 bits of input address at EL2 and at
 -- stage 2; a lower and an upper range of 48 bits each at stage 1 of EL1&0, where the bits above are all
@@ -77,7 +77,7 @@ range_canonical _ xt = true
 
 -- the scope of the pages that were read from an operand for a range, or what is wrong with them
 abbrev pub scope_over : Operation → ℕ → Result Range BadRange → Result Scope BadOperand
-scope_over o xt (Ok range) = Ok (decoded o xt (Some (record { lo = range.lo; hi = range.hi })) (hint_of range.level))
+scope_over o xt (Ok range) = Ok (decoded o xt (Some (record { lo = range.lo; hi = range.hi })) range.level)
 scope_over o xt (Err Granule) = Err RangeGranule
 scope_over o xt (Err Unaligned) = Err RangeUnaligned
 

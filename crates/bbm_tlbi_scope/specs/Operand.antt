@@ -1,6 +1,7 @@
 -- The fields of the operand of a TLBI for one page or an ASID: the value of its register Xt.
 -- Source: Arm ARM (DDI 0487), "TLB maintenance instructions", the argument of each operation.
-use Rattle.std.specs.Prelude.{ℕ, Option, Some, None, ◌==◌, if◌then◌else◌}
+use Rattle.std.specs.Prelude.{ℕ, Option, None, ◌==◌, if◌then◌else◌}
+use Rattle.bbm_regimes.specs.Extent.{hint_of}
 use Rattle.bbm_range.specs.RangeOperand.{bits}
 
 -- the ASID
@@ -26,10 +27,6 @@ ipa_page xt = bits 35 0 xt
 -- the bits above a page number of 36 bits, in the field of VA[55:12]: VA[55:48]
 abbrev pub top_bits : ℕ → ℕ
 top_bits xt = bits 43 36 xt
-
--- the level hint of a level, of which 0 is none
-abbrev pub hint_of : ℕ → Option ℕ
-hint_of level = if level == 0 then None else Some level
 
 -- the level hint: TTL[3:2] = 01 is the 4 KiB granule, whose level 0 is read as no hint; the latter is the
 -- project's own choice

@@ -5,10 +5,10 @@ ghost use Rattle.bbm_tlbi_scope.specs.Decode as decoding;
 ghost use Rattle.bbm_tlbi_scope.specs.Operations.{operation, family_of, scoped_by_vmid};
 
 use crate::op::TlbiOp;
-use crate::operand::{asid_field, hint_of, ipa_page, level_hint, top_bits, ttl_granule, va_page};
+use crate::operand::{asid_field, ipa_page, level_hint, top_bits, ttl_granule, va_page};
 use crate::scope::{BadOperand, Family, Scope};
 use bbm_range::{BadRange, is_upper, pages};
-use bbm_regimes::Interval;
+use bbm_regimes::{Interval, Level};
 
 /// Whether the page number of the operand lies in the address range of the family's regime.
 fn canonical(family: Family, xt: u64) -> bool
@@ -51,7 +51,7 @@ fn interval(family: Family, xt: u64) -> Option<Interval>
 }
 
 /// The level hint of the operand of a family that has a page number.
-fn hint(family: Family, xt: u64) -> Option<u8>
+fn hint(family: Family, xt: u64) -> Option<Level>
     ensures { result ≡ decoding.hint_field family xt }
 {
     if family.has_page() {
@@ -62,7 +62,7 @@ fn hint(family: Family, xt: u64) -> Option<u8>
 }
 
 /// The scope of an operand that names these pages with this level hint.
-fn scope_with(op: TlbiOp, xt: u64, interval: Option<Interval>, level: Option<u8>) -> Scope
+fn scope_with(op: TlbiOp, xt: u64, interval: Option<Interval>, level: Option<Level>) -> Scope
     ensures { result ≡ decoding.decoded (operation op) xt interval level }
 {
     let family = op.family();
@@ -124,7 +124,7 @@ fn decode_range(op: TlbiOp, xt: u64) -> Result<Scope, BadOperand>
                 lo: range.lo,
                 hi: range.hi,
             };
-            Ok(scope_with(op, xt, Some(interval), hint_of(range.level)))
+            Ok(scope_with(op, xt, Some(interval), range.level))
         }
         Err(BadRange::Granule) => Err(BadOperand::RangeGranule),
         Err(BadRange::Unaligned) => Err(BadOperand::RangeUnaligned),

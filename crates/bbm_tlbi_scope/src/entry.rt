@@ -1,10 +1,10 @@
 //! TLB entries and places of translation tables, as a TLBI sees them.
 //! Source: project's own choice, where no other is named.
 
-use bbm_regimes::{Interval, Kind, Tag};
+use bbm_regimes::{Interval, Kind, Level, Tag};
 
 /// The kind of a TLB entry. Source: Arm ARM (DDI 0487), "Translation Lookaside Buffers".
-#[derive(Clone, Copy, Debug, PartialEq, Eq)]
+#[derive(Clone, Copy, PartialEq, Eq)]
 pub enum EntryKind {
     /// Of the EL2 translation regime.
     El2,
@@ -17,7 +17,7 @@ pub enum EntryKind {
 }
 
 /// What a TLBI sees of a TLB entry. Source: Arm ARM (DDI 0487), "TLB maintenance instructions".
-#[derive(Clone, Copy, Debug, PartialEq, Eq)]
+#[derive(Clone, Copy, PartialEq, Eq)]
 pub struct EntryHead {
     /// The kind of the entry.
     pub kind: EntryKind,
@@ -29,14 +29,14 @@ pub struct EntryHead {
     pub region: Interval,
     /// Whether the last descriptor of the entry is a leaf: a block or a page.
     pub last: bool,
-    /// The level of the last descriptor, 0 to 3.
-    pub level: u8,
+    /// The level of the last descriptor.
+    pub level: Level,
     /// Whether the last descriptor is a leaf for every ASID.
     pub global: bool,
 }
 
 /// The tags that a root holds, at any PE, at the issue of a TLBI.
-#[derive(Clone, Copy, Debug, PartialEq, Eq)]
+#[derive(Clone, Copy, PartialEq, Eq)]
 pub enum TagSet {
     /// No tag.
     None,
@@ -47,14 +47,14 @@ pub enum TagSet {
 }
 
 /// A place that holds a value, at the issue of a TLBI.
-#[derive(Clone, Copy, Debug, PartialEq, Eq)]
+#[derive(Clone, Copy, PartialEq, Eq)]
 pub struct PlaceView {
     /// The kind of the tree that the place is in.
     pub kind: Kind,
     /// The input page numbers that the place translates.
     pub region: Interval,
-    /// The level of the place, 0 to 3.
-    pub level: u8,
+    /// The level of the place.
+    pub level: Level,
     /// Whether the held value is a table, and not a leaf.
     pub table: bool,
     /// Whether the held value is a leaf for every ASID.
@@ -67,7 +67,7 @@ pub struct PlaceView {
 
 /// How much of what a TLB may keep of a place a TLBI takes away. Source: Arm ARM (DDI 0487), "TLB
 /// maintenance instructions"; the four grades are the project's own choice.
-#[derive(Clone, Copy, Debug, PartialEq, Eq)]
+#[derive(Clone, Copy, PartialEq, Eq)]
 pub enum Cover {
     /// Nothing that counts.
     None,

@@ -8,7 +8,7 @@ use bbm_regimes::World;
 
 /// A TLBI operation. A name that ends in `is` is the broadcast form, to the inner shareable domain.
 /// Source: Arm ARM (DDI 0487), "TLB maintenance instructions".
-#[derive(Clone, Copy, Debug, PartialEq, Eq)]
+#[derive(Clone, Copy, PartialEq, Eq)]
 pub enum TlbiOp {
     /// ALLE2: every entry of the EL2 translation regime.
     Alle2,

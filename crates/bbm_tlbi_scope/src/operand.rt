@@ -3,6 +3,8 @@
 ghost use Rattle.std.specs.Prelude.{◌≡◌, ◌<◌};
 ghost use Rattle.bbm_tlbi_scope.specs.Operand as fields;
 
+use bbm_regimes::{Level, hint_of};
+
 /// The ASID: bits [63:48]. Source: Arm ARM (DDI 0487), "TLB maintenance instructions".
 pub fn asid_field(xt: u64) -> u16
     ensures { result ≡ fields.asid_field xt }
@@ -50,16 +52,9 @@ pub fn top_bits(xt: u64) -> u8
     ((xt >> 36) % 256) as u8
 }
 
-/// The level hint of a level, 0 to 3, of which 0 is none. Source: project's own choice.
-pub fn hint_of(level: u8) -> Option<u8>
-    ensures { result ≡ fields.hint_of level }
-{
-    if level == 0 { None } else { Some(level) }
-}
-
 /// The level hint, 1 to 3; None where the operand gives none, or gives level 0. Source: Arm ARM (DDI
 /// 0487), "TLB maintenance instructions"; that level 0 is no hint is the project's own choice.
-pub fn level_hint(xt: u64) -> Option<u8>
+pub fn level_hint(xt: u64) -> Option<Level>
     ensures { result ≡ fields.level_hint xt }
 {
     if ttl_granule(xt) == 1 {

@@ -5,10 +5,10 @@ ghost use Rattle.std.specs.Prelude.{◌≡◌};
 ghost use Rattle.bbm_tlbi_scope.specs.Operations as words;
 ghost use Rattle.bbm_tlbi_scope.specs.Numbers as numbers;
 
-use bbm_regimes::Interval;
+use bbm_regimes::{Interval, Level};
 
 /// The family of a TLBI operation. Source: Arm ARM (DDI 0487), "TLB maintenance instructions".
-#[derive(Clone, Copy, Debug, PartialEq, Eq)]
+#[derive(Clone, Copy, PartialEq, Eq)]
 pub enum Family {
     /// Every entry of the EL2 translation regime.
     El2All,
@@ -83,7 +83,7 @@ impl Family {
 
 /// The scope of a TLBI: what it invalidates. Which fields are None follows from the family. Source: Arm
 /// ARM (DDI 0487), "TLB maintenance instructions".
-#[derive(Clone, Copy, Debug, PartialEq, Eq)]
+#[derive(Clone, Copy, PartialEq, Eq)]
 pub struct Scope {
     /// The family of the operation.
     pub family: Family,
@@ -96,13 +96,13 @@ pub struct Scope {
     /// Whether the TLBI invalidates last-level entries alone.
     pub last_only: bool,
     /// The level that the operand gives as a hint, 1 to 3; None where it gives none.
-    pub level: Option<u8>,
+    pub level: Option<Level>,
     /// Whether the TLBI reaches every PE, and not its issuer alone.
     pub broadcast: bool,
 }
 
 /// Why the operand of a TLBI can't be decoded.
-#[derive(Clone, Copy, Debug, PartialEq, Eq)]
+#[derive(Clone, Copy, PartialEq, Eq)]
 pub enum BadOperand {
     /// The page number lies outside the address range of the operation's regime.
     NonCanonical = 1,
@@ -135,8 +135,8 @@ impl Scope {
         }
     }
 
-    /// Whether the level hint of the scope is none or this level, 0 to 3.
-    pub fn hint_allows(self, level: u8) -> bool
+    /// Whether the level hint of the scope is none or this level.
+    pub fn hint_allows(self, level: Level) -> bool
         ensures { result ≡ numbers.hint_allows self.level level }
     {
         match self.level {

@@ -4,7 +4,7 @@
 //! where a root translates an address. Its contract is the listing of the tables, a definition that knows of places,
 //! of their regions and of their values alone (`Listing.antt` of `bbm_descriptor`):
 //!
-//!     let answer = walk(&Pairs { pairs: &values }, S1Root { start: 1, high: false, page }, 0x4000_1234);
+//!     let answer = walk(&Pairs { pairs: &values }, S1Root { start: Level::ONE, high: false, page }, 0x4000_1234);
 //!
 //! `tests::is_mapped` is a proved caller: it tells exactly whether a leaf of the listing holds an address.
 #![tactic(auto)]

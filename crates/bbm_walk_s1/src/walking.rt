@@ -8,27 +8,27 @@ ghost use Rattle.bbm_walk_s1.specs.InputRanges.{first_address, stage1_root};
 use crate::root::S1Root;
 use bbm_descriptor::laws::{law_one_answer, law_outside, law_walk_begins};
 use bbm_descriptor::{Memory, Walk, place_for, walk_from};
-use bbm_regimes::{Kind, span};
+use bbm_regimes::{Kind, Level, PLACES};
 
 /// The first input address of a root, by its start level and whether its range is the high one.
-fn first_input(start: u8, high: bool) -> u64
+fn first_input(start: Level, high: bool) -> u64
     requires { start ≤ 2 }
     ensures { result ≡ first_address start high }
 {
     if high {
-        u64::MAX - (512 * span(start) - 1)
+        u64::MAX - (PLACES * start.span() - 1)
     } else {
         0
     }
 }
 
 /// Whether the address is in the input range of a root.
-fn is_in_range(start: u8, high: bool, va: u64) -> bool
+fn is_in_range(start: Level, high: bool, va: u64) -> bool
     requires { start ≤ 2 }
     ensures { (value : ℕ → ℕ) (page : ℕ) → IsTrue result ↔ RegionHolds value (stage1_root start high page) [] va }
 {
     let first = first_input(start, high);
-    first <= va && va - first < 512 * span(start)
+    first <= va && va - first < PLACES * start.span()
 }
 
 /// Where the tables of this root translate a virtual address: the one answer of their listing. It follows nine bits

@@ -8,22 +8,22 @@ ghost use Rattle.bbm_walk_s2.specs.Joined.{stage2_root};
 use crate::root::S2Root;
 use bbm_descriptor::laws::{law_one_answer, law_outside, law_walk_begins};
 use bbm_descriptor::{Memory, Walk, walk_from};
-use bbm_regimes::{Kind, Page, Place, span};
+use bbm_regimes::{Kind, Level, PAGE_BYTES, PLACES, Page, Place};
 
 /// Whether the address is in the input range of a root.
-fn is_in_range(start: u8, pages: u8, ipa: u64) -> bool
+fn is_in_range(start: Level, pages: u8, ipa: u64) -> bool
     requires start { start ≤ 2 }
     requires pages { pages ≤ 16 }
     ensures { (value : ℕ → ℕ) (page : ℕ) → IsTrue result ↔ RegionHolds value (stage2_root start pages page) [] ipa }
 {
-    ipa < pages as u64 * (512 * span(start))
+    ipa < pages as u64 * (PLACES * start.span())
 }
 
 /// The place of this number in the joined pages.
 fn joined_place(page: Page, pages: u8, number: u64) -> Place
-    requires inside { number < 512 * pages }
+    requires inside { number < PLACES * pages }
     requires pages { pages ≤ 16 }
-    requires room { page + 4096 * pages ≤ 2 ^ 48 }
+    requires room { page + PAGE_BYTES * pages ≤ 2 ^ 48 }
     ensures { result ≡ page + 8 * number }
 {
     Place::new(page.get() + 8 * number).unwrap()
@@ -46,6 +46,6 @@ pub fn walk<M: Memory>(mem: &M, root: S2Root, ipa: u64) -> Walk
     if !is_in_range(root.start, root.pages, ipa) {
         return Walk::Fault { level: root.start };
     }
-    let place = joined_place(root.page, root.pages, ipa / span(root.start));
+    let place = joined_place(root.page, root.pages, ipa / root.start.span());
     walk_from(mem, Kind::S2, root.start, place, ipa)
 }
