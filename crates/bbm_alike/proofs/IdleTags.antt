@@ -137,7 +137,7 @@ module _ (heading : Heading) (e : Event) (h : List Event) (same : (p : ℕ) → 
 
 -- ---- barriers
 
-standings_stay : (p : ℕ) (h : List Event)
+pub standings_stay : (p : ℕ) (h : List Event)
     → ((q : ℕ) (reg : Reg) → register_values (Isb p ∷ h) q reg ≡ register_values h q reg)
     → (q : ℕ) → standings (Isb p ∷ h) q ≡ standings h q
 standings_stay p h registers q = by (p == q) (registers q)

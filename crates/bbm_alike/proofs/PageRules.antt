@@ -55,16 +55,14 @@ module _ (heading : Heading) (one other : Trust) (h h' : List Noted)
 
   module _ (held : (n : Node) (place : ℕ) → node_of heading one h (page_of place) ≡ Some n
       → held_at heading one h n place ≡ held_at heading other h' n place) where
-    by_attached : (e : Event) → attached_by heading one h e ≡ attached_by heading other h' e
-    by_attached e = same_attached_by heading one other h h' values places fresh trees held e
-
     pub same_not_fresh : ((page : ℕ) → is_null (events_of h) page ≡ is_null (events_of h') page)
         → (e : Event) → not_fresh heading one h e ≡ not_fresh heading other h' e
     same_not_fresh nulls e =
         ap (λ (pages : List ℕ). least (pages ++ untracked_page heading one h e))
         (same_flat (bad_ends heading one h e) (bad_ends heading other h' e)
         (option_to_list (attached_by heading one h e)) (λ a there. same_bad_ends e a)
-        ∙ ap (λ (o : Option Attached). flat_map (bad_ends heading other h' e) (option_to_list o)) (by_attached e))
+        ∙ ap (λ (o : Option Attached). flat_map (bad_ends heading other h' e) (option_to_list o))
+        (same_attached_by heading one other h h' values places fresh trees held e))
         ∙ ap (λ (pages : List ℕ). least (flat_map (bad_ends heading other h' e) (option_to_list (attached_by heading other h' e)) ++ pages))
         (same_untracked nulls e)
 
@@ -76,7 +74,8 @@ module _ (heading : Heading) (one other : Trust) (h h' : List Noted)
         ∙ ap (λ (pages : List ℕ). least (option_to_list (written_with heading other h' test e) ++ pages))
         (same_flat (attached_with test (events_of h)) (attached_with test (events_of h'))
         (option_to_list (attached_by heading one h e)) (λ a there. same_attached_with test a)
-        ∙ ap (λ (o : Option Attached). flat_map (attached_with test (events_of h')) (option_to_list o)) (by_attached e))
+        ∙ ap (λ (o : Option Attached). flat_map (attached_with test (events_of h')) (option_to_list o))
+        (same_attached_by heading one other h h' values places fresh trees held e))
 
     pub same_bad_kind : (e : Event) → bad_kind heading one h e ≡ bad_kind heading other h' e
     same_bad_kind e = same_made_with is_contiguous e

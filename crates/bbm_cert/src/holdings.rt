@@ -8,7 +8,6 @@ ghost use Rattle.bbm_rules.specs.Lists.{any};
 ghost use Rattle.bbm_rules.specs.Roots.{gives_up};
 ghost use Rattle.bbm_rules.specs.Tags.{reads, reads_for_some};
 ghost use Rattle.bbm_histories.specs.ClaimSteps.{completes_taken};
-ghost use Rattle.bbm_rules.specs.Changes.{changes};
 ghost use Rattle.bbm_rules.specs.Notes.{events_of};
 ghost use Rattle.bbm_oracle_patterns.specs.Kept.{notes_of};
 ghost use Rattle.bbm_cert.specs.Holdings.{Keep, before_lasts, ends_some, has as has_it, is_lost, next_has, next_lasts};
@@ -20,7 +19,7 @@ use crate::spans::{Span, all_ended, show_all, spans_copied};
 use crate::taken::{Answer, Before, Taking, is_readable, takes_unread};
 use bbm_events::{Claim, Event, Header};
 use bbm_oracle_patterns::Kept;
-use bbm_oracle_tags::{Holding, Reading, readings_at};
+use bbm_oracle_tags::{Holding, Reading, changes_readings, readings_at};
 use bbm_regimes::{NoMemory, Pe, Tag, same_tag};
 use std::alloc::Global;
 
@@ -260,16 +259,6 @@ fn add_read(
     Ok(())
 }
 
-/// Whether the event may change what is readable.
-fn may_change(event: &Event) -> bool
-    ensures { result ≡ ((changes event.now).roots || (changes event.now).registers) }
-{
-    matches!(
-        *event,
-        Event::Root { .. } | Event::Unroot { .. } | Event::Isb { .. } | Event::Msr { .. }
-    )
-}
-
 /// The events that are kept.
 fn events_in(alloc: Global, log: &[Kept]) -> Result<Vec<Event>, NoMemory>
     ensures { IfOk result (λ events. reverse events.items ≡ events_of (notes_of (reverse log.now))) }
@@ -301,7 +290,7 @@ fn spans_before(
     ensures { IfOk result (λ before. (p n : ℕ) (tag : TheTag) → lasts before.items p tag n
         ≡ before_lasts newest.now (reverse events.now) spans.now p tag n) }
 {
-    if may_change(newest) {
+    if changes_readings(newest) {
         all_ended(alloc, spans, events.len() - 1)
     } else {
         spans_copied(alloc, spans)
@@ -387,7 +376,7 @@ fn next(
     let spans = spans_before(alloc, events, newest, &tags.spans)?;
     let mut next = Tags { held, left, spans };
     give_up(&mut next, newest)?;
-    if may_change(newest) {
+    if changes_readings(newest) {
         add_read(alloc, header, events, &mut next)?;
     }
     Ok(next)

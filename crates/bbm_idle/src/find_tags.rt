@@ -3,7 +3,6 @@
 
 ghost use Rattle.std.specs.Prelude.{◌≡◌, Bool, ◌==◌, ◌&&◌, ◌||◌, List, ◌∷◌, reverse, IfOk, OnOk};
 ghost use Rattle.bbm_events.specs.declared.event.Event.{Event as TheEvent};
-ghost use Rattle.bbm_rules.specs.Changes.{changes};
 ghost use Rattle.bbm_rules.specs.Claims.{Patterns};
 ghost use Rattle.bbm_rules.specs.Lists.{any, below};
 ghost use Rattle.bbm_rules.specs.Tags as tags;
@@ -11,7 +10,9 @@ ghost use Rattle.bbm_idle.specs.Finding as spec;
 
 use bbm_events::{Event, Header};
 use bbm_oracle_tags::readings::is_read;
-use bbm_oracle_tags::{Holding, Reading, first_pages, kept_at, named_scope, readings_at, vmid_of};
+use bbm_oracle_tags::{
+    Holding, Reading, changes_readings, first_pages, kept_at, named_scope, readings_at, vmid_of,
+};
 use bbm_regimes::{NoMemory, Page, Pe};
 use bbm_rules::law_equality_tests;
 use bbm_tlbi_scope::{Scope, whole_tag};
@@ -57,16 +58,6 @@ fn add_readable(
         add_readings(known, &readings)?;
     }
     Ok(())
-}
-
-/// Whether the event may change what is readable.
-fn changes_readings(event: &Event) -> bool
-    ensures { result ≡ ((changes event.now).roots || (changes event.now).registers) }
-{
-    matches!(
-        *event,
-        Event::Root { .. } | Event::Unroot { .. } | Event::Isb { .. } | Event::Msr { .. }
-    )
 }
 
 /// What was ever readable, after one more event, the last of these. `NoMemory` where there is none.

@@ -35,31 +35,13 @@ fn completes(dsb: Dsb, cast: bool) -> bool
     }
 }
 
-/// The set with the PE, where it is to be added.
-fn with_pe(pes: PeMask, pe: Pe, added: bool) -> PeMask
-    ensures { (q : ℕ) → pe_in result q ≡ ((pe == q && added) || pe_in pes q) }
-{
-    if added { pes.or(PeMask::one(pe)) } else { pes }
-}
-
-/// The set without the PE, where it is to be removed.
-fn without_pe(pes: PeMask, pe: Pe, removed: bool) -> PeMask
-    ensures { (q : ℕ) → pe_in result q ≡ (pe_in pes q && not (pe == q && removed)) }
-{
-    if removed {
-        pes.minus(PeMask::one(pe))
-    } else {
-        pes
-    }
-}
-
 /// The PEs with a TLBI of this sort after the event, of which is told whether it is idle.
 fn waiting_after(pes: PeMask, event: &Event, cast: bool, is_idle: bool) -> PeMask
     ensures { (q : ℕ) → pe_in result q ≡ spec.waits_after cast is_idle event.now q (pe_in pes q) }
 {
     match *event {
-        Event::Tlbi { pe, op, .. } => with_pe(pes, pe, op.is_broadcast() == cast && !is_idle),
-        Event::Dsb { pe, dsb } => without_pe(pes, pe, completes(dsb, cast)),
+        Event::Tlbi { pe, op, .. } => pes.with(pe, op.is_broadcast() == cast && !is_idle),
+        Event::Dsb { pe, dsb } => pes.without(pe, completes(dsb, cast)),
         _ => pes,
     }
 }

@@ -8,14 +8,6 @@ use bbm_events::Header;
 use bbm_regimes::{Kind, NoMemory, Page};
 use std::alloc::Global;
 
-/// The page so many pages behind the first.
-fn page_at(first: Page, index: u8) -> Page
-    requires { first + 4096 * index < 2 ^ 48 }
-    ensures { result ≡ first + 4096 * index }
-{
-    Page::new(first.get() + 4096 * index as u64).unwrap()
-}
-
 /// So many consecutive pages. `NoMemory` where there is none.
 fn pages_from(alloc: Global, first: Page, count: u8) -> Result<Vec<Page>, NoMemory>
     requires { first + 4096 * count ≤ 2 ^ 48 }
@@ -23,7 +15,7 @@ fn pages_from(alloc: Global, first: Page, count: u8) -> Result<Vec<Page>, NoMemo
 {
     let mut pages = Vec::new(alloc);
     for index in 0..count {
-        pages.push(page_at(first, index))?;
+        pages.push(first.behind(index))?;
     }
     Ok(pages)
 }

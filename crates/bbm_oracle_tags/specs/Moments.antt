@@ -4,28 +4,13 @@ use Rattle.std.specs.Prelude.{◌≡◌, ℕ, ◌&&◌, ◌==◌, ◌++◌, Bool
 use Rattle.bbm_rules.specs.Prelude.{Kind, El2, S2, Ttbr0, Ttbr1, AsidFrom, FromTtbr0, FromTtbr1, Reg, Ttbr0El2}
 use Rattle.bbm_rules.specs.Prelude.{VttbrEl2, Ttbr0El1, Ttbr1El1, Tag, El2Tag, Vmid, Asid, Ttbr1Tag, World, Hyp}
 use Rattle.bbm_rules.specs.Prelude.{Kernel, Event}
+pub use Rattle.bbm_regimes.specs.SameRegister.{first_reg, second_reg, tag_of}
 use Rattle.bbm_rules.specs.Claims.{same_tag}
 use Rattle.bbm_rules.specs.Lists.{◌>>=◌, if_so, any}
 use Rattle.bbm_rules.specs.RegisterValues.{Standing, base_of, register_values, standings, tag_number}
 use Rattle.bbm_rules.specs.Roots.{Declared, is_at, roots_of, same_kind}
 use Rattle.bbm_rules.specs.Tags.{Reading}
 use Rattle.bbm_oracle_tags.specs.declared.moment.Moment.{Moment}
-
--- the two root registers of a world
-abbrev pub first_reg : World → Reg
-first_reg (Hyp world) = Ttbr0El2
-first_reg (Kernel world) = Ttbr0El1
-
-abbrev pub second_reg : World → Reg
-second_reg (Hyp world) = VttbrEl2
-second_reg (Kernel world) = Ttbr1El1
-
--- the tag under which a root of the kind is read, with this VMID or ASID
-abbrev pub tag_of : Kind → ℕ → Tag
-tag_of El2 number = El2Tag
-tag_of S2 number = Vmid number
-tag_of Ttbr0 number = Asid number
-tag_of Ttbr1 number = Ttbr1Tag
 
 -- whether one of the roots has this kind and this first page
 abbrev pub has_root : List Declared → Kind → ℕ → Bool

@@ -40,3 +40,4 @@ pub use rules::{
 };
 pub use tags::{keeps_tag, kept_at, tag_set_of};
 pub use values::{places_in, value_of};
+pub use watch::changes_readings;

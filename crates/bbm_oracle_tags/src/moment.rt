@@ -10,7 +10,7 @@ use crate::registers::take_value;
 use crate::roots::{Declared, same_kind, take_root};
 use crate::standings::{Standing, at_start as standings_at_start, take_standing};
 use bbm_events::{Event, Header};
-use bbm_regimes::{AsidFrom, Kind, NoMemory, Pe, Reg, Tag, World, base_of, tag_number};
+use bbm_regimes::{AsidFrom, Kind, NoMemory, Pe, Reg, Tag, World, base_of, tag_number, tag_of};
 use std::alloc::Global;
 
 /// What one PE may use at a moment: the declared roots, the readable values of the root registers of its world, and its
@@ -54,18 +54,6 @@ fn at_start(alloc: Global) -> Result<Vec<u64>, NoMemory>
     let mut values = Vec::new(alloc);
     values.push(0)?;
     Ok(values)
-}
-
-/// The tag under which a root of the kind is read.
-fn tag_of(kind: Kind, number: u16) -> Tag
-    ensures { result ≡ spec.tag_of kind number }
-{
-    match kind {
-        Kind::El2 => Tag::El2,
-        Kind::S2 => Tag::Vmid(number),
-        Kind::Ttbr0 => Tag::Asid(number),
-        Kind::Ttbr1 => Tag::Ttbr1,
-    }
 }
 
 /// Whether one of the roots has this kind and this first page.

@@ -148,31 +148,13 @@ fn loses(event: &Event, broadcast: PeMask, local: PeMask) -> bool
     }
 }
 
-/// The set with the PE.
-fn with_pe(pes: PeMask, pe: Pe, added: bool) -> PeMask
-    ensures { (q : ℕ) → pe_in result q ≡ ((pe == q && added) || pe_in pes q) }
-{
-    if added { pes.or(PeMask::one(pe)) } else { pes }
-}
-
-/// The set without the PE.
-fn without_pe(pes: PeMask, pe: Pe, removed: bool) -> PeMask
-    ensures { (q : ℕ) → pe_in result q ≡ (pe_in pes q && not (pe == q && removed)) }
-{
-    if removed {
-        pes.minus(PeMask::one(pe))
-    } else {
-        pes
-    }
-}
-
 /// The PEs that await a TLBI of this sort after the event, unless the tag is readable then.
 fn awaiting(pes: PeMask, event: &Event, cast: bool, takes: bool) -> PeMask
     ensures { (q : ℕ) → pe_in result q ≡ spec.awaits_after cast takes false event.now q (pe_in pes q) }
 {
     match *event {
-        Event::Tlbi { pe, op, .. } => with_pe(pes, pe, op.is_broadcast() == cast && takes),
-        Event::Dsb { pe, dsb } => without_pe(pes, pe, answers(dsb, cast)),
+        Event::Tlbi { pe, op, .. } => pes.with(pe, op.is_broadcast() == cast && takes),
+        Event::Dsb { pe, dsb } => pes.without(pe, answers(dsb, cast)),
         _ => pes,
     }
 }

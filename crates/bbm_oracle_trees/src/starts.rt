@@ -25,14 +25,6 @@ fn root_page_count(header: &Header, kind: Kind) -> u8
     }
 }
 
-/// The page that is so many pages behind this one.
-fn page_behind(page: Page, count: u8) -> Page
-    requires { page + 4096 * count < 2 ^ 48 }
-    ensures { result ≡ page + 4096 * count }
-{
-    Page::new(page.get() + 4096 * count as u64).unwrap()
-}
-
 /// Adds one node at the end. `NoMemory` where there is none.
 pub fn add(nodes: &mut Vec<Node>, node: Node) -> Result<(), NoMemory>
     ensures { OnOk result (nodes.new.items ≡ nodes.old.items ++ node ∷ []) }
@@ -66,7 +58,7 @@ fn add_pages(alloc: Global, start: &Start, count: u8, nodes: &mut Vec<Node>) -> 
     let size = 512 * input_pages(start.level);
     for index in 0..count {
         let node = Node {
-            page: page_behind(start.root, index),
+            page: start.root.behind(index),
             kind: start.kind,
             level: start.level,
             root: start.root,

@@ -1,6 +1,6 @@
 //! Pages and places: the addresses of translation tables and of their descriptors.
 
-ghost use Rattle.std.specs.Prelude.{◌≡◌, ℕ, ◌-◌, ◌*◌, ◌/◌, ◌%◌, ◌^◌, ◌<◌, ◌↔◌, IsSome, IfSome};
+ghost use Rattle.std.specs.Prelude.{◌≡◌, ℕ, ◌+◌, ◌-◌, ◌*◌, ◌/◌, ◌%◌, ◌^◌, ◌<◌, ◌↔◌, IsSome, IfSome};
 ghost use Rattle.bbm_regimes.specs.declared.address.TheConstants.{PAGE_BYTES};
 
 use std::marker::Model;
@@ -67,6 +67,16 @@ impl Page {
         ensures aligned { self % PAGE_BYTES ≡ 0 }
     {
         self.addr
+    }
+
+    /// The page that is so many pages behind this one.
+    pub fn behind(self, count: u8) -> Page
+        requires { self + PAGE_BYTES * count < 2 ^ 48 }
+        ensures { result ≡ self + PAGE_BYTES * count }
+    {
+        Page {
+            addr: self.addr + PAGE_BYTES * u64::from(count),
+        }
     }
 }
 

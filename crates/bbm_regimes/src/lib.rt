@@ -18,4 +18,4 @@ pub use pe::{Pe, PeCount, PeMask};
 pub use regime::{
     AsidFrom, HypWorld, KernelWorld, Kind, MAX_LINES, NoMemory, Reg, Tag, Which, World,
 };
-pub use register::{base_of, kind_of, same_reg, same_tag, tag_number};
+pub use register::{base_of, kind_of, same_reg, same_tag, tag_number, tag_of};

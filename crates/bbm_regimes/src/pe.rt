@@ -1,7 +1,7 @@
 //! Processing elements and sets of them.
 //! Source: project's own choice, where no other is named.
 
-ghost use Rattle.std.specs.Prelude.{◌≡◌, ℕ, ◌<◌, ◌≤◌, ◌↔◌, ◌&&◌, ◌||◌, not, nat_eq, nat_lt, false, IsTrue, IsSome};
+ghost use Rattle.std.specs.Prelude.{◌≡◌, ℕ, ◌<◌, ◌≤◌, ◌↔◌, ◌&&◌, ◌||◌, not, nat_eq, nat_lt, ◌==◌, false, IsTrue, IsSome};
 ghost use Rattle.std.specs.Prelude.{IfSome};
 
 use std::marker::Model;
@@ -141,6 +141,28 @@ impl PeMask {
     {
         PeMask {
             bits: self.bits & !other.bits,
+        }
+    }
+
+    /// The set, with the PE where that is to be added.
+    pub fn with(self, pe: Pe, is_added: bool) -> PeMask
+        ensures { (p : ℕ) → pe_in result p ≡ ((pe == p && is_added) || pe_in self p) }
+    {
+        if is_added {
+            self.or(PeMask::one(pe))
+        } else {
+            self
+        }
+    }
+
+    /// The set, without the PE where that is to be taken out.
+    pub fn without(self, pe: Pe, is_out: bool) -> PeMask
+        ensures { (p : ℕ) → pe_in result p ≡ (pe_in self p && not (pe == p && is_out)) }
+    {
+        if is_out {
+            self.minus(PeMask::one(pe))
+        } else {
+            self
         }
     }
 

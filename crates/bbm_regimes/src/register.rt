@@ -38,6 +38,18 @@ pub fn kind_of(reg: Reg) -> Kind
     }
 }
 
+/// The tag under which a TLB reads through a root of the kind, with the VMID or ASID.
+pub fn tag_of(kind: Kind, number: u16) -> Tag
+    ensures { result ≡ same.tag_of kind number }
+{
+    match kind {
+        Kind::El2 => Tag::El2,
+        Kind::S2 => Tag::Vmid(number),
+        Kind::Ttbr0 => Tag::Asid(number),
+        Kind::Ttbr1 => Tag::Ttbr1,
+    }
+}
+
 /// Whether the registers are the same.
 pub fn same_reg(reg: Reg, other: Reg) -> bool
     ensures { result ≡ same.same_reg reg other }

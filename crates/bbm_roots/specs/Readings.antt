@@ -2,7 +2,7 @@
 use Rattle.std.specs.Prelude.{ℕ, Bool, false, ◌&&◌, not, ◌==◌, ◌+◌, List, [], ◌∷◌, ◌++◌, Option, Some, None, is_some}
 use Rattle.std.specs.Prelude.{flat_map}
 use Rattle.std.specs.List.{list_any}
-pub use Rattle.bbm_regimes.specs.SameRegister.{same_tag}
+pub use Rattle.bbm_regimes.specs.SameRegister.{same_tag, tag_of}
 use Rattle.bbm_regimes.specs.declared.regime.AsidFrom.{AsidFrom}
 use Rattle.bbm_regimes.specs.declared.regime.AsidFrom.TheVariants.{Ttbr0 as FromTtbr0, Ttbr1 as FromTtbr1}
 use Rattle.bbm_regimes.specs.declared.regime.Kind.{Kind}
@@ -20,13 +20,6 @@ tag_rank El2Tag = 0
 tag_rank (Vmid v) = 1 + v
 tag_rank (Asid a) = 65537 + a
 tag_rank Ttbr1Tag = 131073
-
--- the tag under which a TLB reads through a root of the kind, with the VMID or ASID
-abbrev pub tag_of : Kind → ℕ → Tag
-tag_of El2 n = El2Tag
-tag_of S2 n = Vmid n
-tag_of Ttbr0 n = Asid n
-tag_of Ttbr1 n = Ttbr1Tag
 
 -- the tag with the root, where there is one
 abbrev pub reading_at : Tag → Option ℕ → List Reading

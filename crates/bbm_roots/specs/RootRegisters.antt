@@ -4,7 +4,7 @@ use Rattle.std.specs.Prelude.{ℕ, Bool, true, false, ◌&&◌, ◌||◌, List, 
 use Rattle.std.specs.Option.{option_map_or}
 use Rattle.std.specs.List.{list_any}
 use Rattle.bbm_regimes.specs.Registers.{base_of, tag_number}
-pub use Rattle.bbm_regimes.specs.SameRegister.{kind_of_reg, same_reg}
+pub use Rattle.bbm_regimes.specs.SameRegister.{first_reg, kind_of_reg, same_reg, second_reg}
 use Rattle.bbm_regimes.specs.declared.regime.AsidFrom.{AsidFrom}
 use Rattle.bbm_regimes.specs.declared.regime.AsidFrom.TheVariants.{Ttbr0 as FromTtbr0, Ttbr1 as FromTtbr1}
 use Rattle.bbm_regimes.specs.declared.regime.Kind.{Kind}
@@ -20,15 +20,6 @@ use Rattle.bbm_rules.specs.Pages.{is_null}
 use Rattle.bbm_rules.specs.RegisterValues.{Standing, register_values, standings}
 use Rattle.bbm_rules.specs.Roots.{is_root}
 use Rattle.bbm_roots.specs.declared.load.RootValue.{RootValue}
-
--- The two registers of a world.
-abbrev pub first_reg : World → Reg
-first_reg (Hyp world) = Ttbr0El2
-first_reg (Kernel world) = Ttbr0El1
-
-abbrev pub second_reg : World → Reg
-second_reg (Hyp world) = VttbrEl2
-second_reg (Kernel world) = Ttbr1El1
 
 abbrev pub is_first : Reg → Bool
 is_first Ttbr0El2 = true

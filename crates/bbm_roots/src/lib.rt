@@ -16,14 +16,13 @@
 //!   the accepted calls come to.
 //!
 //! Each contract speaks of the events of a history, by `Stands`, in the words of `bbm_rules`. The history keeps the
-//! rules, and so a call that takes an event asks no more of it than that it breaks none. `first_root` is an example of
-//! the calls, with its proof.
+//! rules, and so a call that takes an event asks no more of it than that it breaks none. `first_root` of
+//! `bbm_state_tests` is an example of the calls, with its proof.
 #![tactic(auto)]
 
 mod anew;
 mod by_root;
 mod changing;
-pub mod example;
 mod hold;
 mod issue;
 mod judging;
@@ -42,7 +41,6 @@ mod tag_key;
 mod vmid;
 mod writing;
 
-pub use example::first_root;
 pub use laws::{law_barriers, law_others};
 pub use named::NamedTlbi;
 pub use root::Declared;

@@ -5,7 +5,7 @@ ghost use Rattle.std.specs.Prelude.{◌≡◌, ℕ, ◌++◌, flat_map, OnOk, If
 ghost use Rattle.bbm_roots.specs.Readings as spec;
 
 use crate::load::RootValue;
-use bbm_regimes::{AsidFrom, Kind, NoMemory, Page, Tag, World, same_tag};
+use bbm_regimes::{AsidFrom, Kind, NoMemory, Page, Tag, World, same_tag, tag_of};
 use smallvec::SmallVec;
 use std::alloc::Global;
 use std::marker::Model;
@@ -38,18 +38,6 @@ pub fn tag_rank(tag: Tag) -> u32
         Tag::Vmid(v) => 1 + v as u32,
         Tag::Asid(a) => 65537 + a as u32,
         Tag::Ttbr1 => 131073,
-    }
-}
-
-/// The tag under which a TLB reads through a root of the kind, with the VMID or ASID.
-pub fn tag_of(kind: Kind, number: u16) -> Tag
-    ensures { result ≡ spec.tag_of kind number }
-{
-    match kind {
-        Kind::El2 => Tag::El2,
-        Kind::S2 => Tag::Vmid(number),
-        Kind::Ttbr0 => Tag::Asid(number),
-        Kind::Ttbr1 => Tag::Ttbr1,
     }
 }
 

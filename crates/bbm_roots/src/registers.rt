@@ -107,13 +107,6 @@ fn new_column<const N: usize>(
     Ok(column)
 }
 
-/// The set, with the PE where the test says so.
-fn with_pe(pes: PeMask, pe: Pe, test: bool) -> PeMask
-    ensures { (p : ℕ) → pe_in result p ≡ (pe_in pes p || (nat_eq p pe && test)) }
-{
-    if test { pes.or(PeMask::one(pe)) } else { pes }
-}
-
 /// The root registers of every PE: what the values name that may still be in use, the newest first, for each of
 /// the two registers of the world; and what its readable standings give, where readings go by them.
 #[derive(Drop)]
@@ -187,7 +180,7 @@ impl Registers {
         let mut unread = PeMask::none();
         for number in 0..self.pes.get() {
             let pe = Pe::new(number).unwrap();
-            unread = with_pe(unread, pe, reach.has(pe) && !self.reads(pe, tag));
+            unread = unread.with(pe, reach.has(pe) && !self.reads(pe, tag));
         }
         unread
     }

@@ -12,6 +12,7 @@ use Rattle.bbm_events.specs.declared.event.Item.TheVariants.{Event, End}
 use Rattle.bbm_rules.specs.Outcome.{check_limits, judging}
 use Rattle.bbm_rules.specs.Fold.{end_by}
 use Rattle.bbm_texts.specs.Generating.{gen_begin}
+use Rattle.bbm_texts.proofs.Selftests.{log-length}
 use Rattle.bbm_session.proofs.Stages.{ending-line}
 
 -- the laws of the crates below on the events of a generated log, and on written lines
@@ -23,10 +24,6 @@ pub record Facts (n count : ℕ) : Type 0 where
 pub plain_is : (line : List ℕ) → plain line ≡ is_plain line
 plain_is [] = refl
 plain_is (byte ∷ bytes) = rw (plain_is bytes) refl
-
-log_length : (n i : ℕ) → length (log_of n i) ≡ i
-log_length n zero = refl
-log_length n (suc i) = ap suc (log_length n i)
 
 module _ (n count : ℕ) (few : count ≤ 4294967293) (facts : Facts n count) where
   abbrev fold : Fold Progress Judged
@@ -66,7 +63,7 @@ module _ (n count : ℕ) (few : count ≤ 4294967293) (facts : Facts n count) wh
   end_line : fold.line (count + 2) (AtEvents heading (log_of n count)) (item_line (End count)) ≡ Passes (AtEnd (log_of n count))
   unfolding judging
   end_line =
-      let all = log_length n count in
+      let all = log-length n count in
       let same : (count == length (log_of n count)) ≡ true = grind (arith, nat_tests, all) in
       rw (facts.read.item heading (End count) refl end_ok, same) refl
 
@@ -78,7 +75,7 @@ module _ (n count : ℕ) (few : count ≤ 4294967293) (facts : Facts n count) wh
   at_end =
       ending-line fold (count + 2) (AtEvents heading (log_of n count)) (item_line (End count)) []
       (plain_is (item_line (End count)) ∙ facts.lines.item_plain heading (End count) end_ok) (facts.lines.item_short heading (End count) refl end_ok)
-      ∙ rw end_line (ap (λ (events : ℕ). record { says = unrefused (log_of n count) (Accepted events); unread = [] }) (log_length n count))
+      ∙ rw end_line (ap (λ (events : ℕ). record { says = unrefused (log_of n count) (Accepted events); unread = [] }) (log-length n count))
 
   read_rest : (i k : ℕ) → i + k ≡ count → ending_at fold (i + 2) (AtEvents heading (log_of n i)) (rest i k) ≡ done
   read_rest i zero is =

@@ -13,6 +13,7 @@ use Rattle.bbm_rules.proofs.Common.{ending_after, ending_from, ending_at, passes
 use Rattle.std.proofs.Math.Seq.{drop-append_seam}
 use Rattle.bbm_io.specs.Faults.{Rose}
 use Rattle.bbm_io.specs.Flow.{preceded}
+use Rattle.bbm_io.proofs.Flow.{plain-append, preceded-append}
 use Rattle.bbm_regimes.specs.declared.regime.Which.TheVariants.{LineBytes}
 use Rattle.bbm_events.specs.declared.malformed.Malformed.{Malformed as Cause}
 use Rattle.bbm_events.specs.declared.malformed.Malformed.TheVariants.{NoEnd, AfterEnd}
@@ -54,20 +55,10 @@ seam line rest is_long = ap (λ n. drop n (line ++ rest)) (sym is_long) ∙ drop
 longer : (line more : List ℕ) → length line ≡ 201 → 200 < length (line ++ more)
 longer line more is_long = omega (arith, length-append line more)
 
-plain-more : (line : List ℕ) (b : ℕ) → plain line ≡ true → b ≢ 10 → plain (line ++ b ∷ []) ≡ true
-plain-more [] b h other = grind (arith, nat_tests)
-plain-more (x ∷ xs) b h other =
-    let parts = plain-head x xs h in
-    rw (parts.0, plain-more xs b parts.1 other) refl
-
-preceded-twice : (a b : List ℕ) (rest : Option (List ℕ)) → preceded a (preceded b rest) ≡ preceded (a ++ b) rest
-preceded-twice a b None = refl
-preceded-twice a b (Some rest) = ap Some (sym (append_assoc a b rest))
-
 pub shrinks-trans : (a b most : ℕ) (old mid new : Option (List ℕ)) → a + b ≤ most → Shrinks a old mid → Shrinks b mid new → Shrinks most old new
 shrinks-trans a b most old mid new within first second = (
   first.0 ++ second.0,
-  first.1 ∙ ap (preceded first.0) second.1 ∙ preceded-twice first.0 second.0 new,
+  first.1 ∙ ap (preceded first.0) second.1 ∙ preceded-append first.0 second.0 new,
   omega (arith, length-append first.0 second.0, first.2, second.2, within),
 )
 
@@ -236,7 +227,7 @@ module _ {P V : Type 0} (reader : Reader P V) where
 
   long-stops : (n : ℕ) (p q : P) (v : Decision) (line : List ℕ) (old new : Option (List ℕ)) (f f' : ℕ) → reader.lines.long n p ≡ reader.stopped q v → plain line ≡ true → Takes piece.TooLong line old new → f' ≡ f → Stops reader n p old (Decided v) q new f f'
   long-stops n p q v line old new f f' too_long is_plain takes sound =
-      let long_line = long-halts n p (line ++ takes.0 ∷ []) old new (plain-more line takes.0 is_plain takes.1.no_newline) (omega (arith, length-append line (takes.0 ∷ []), takes.1.kept_bytes)) takes.1.taken in
+      let long_line = long-halts n p (line ++ takes.0 ∷ []) old new (plain-append line takes.0 is_plain takes.1.no_newline) (omega (arith, length-append line (takes.0 ∷ []), takes.1.kept_bytes)) takes.1.taken in
       (subst (λ (w : V). Concludes reader n p old w new) too_long long_line, sound)
 
   -- a read failed

@@ -5,7 +5,7 @@ ghost use Rattle.std.specs.Prelude.{◌≡◌, map};
 ghost use Rattle.std.specs.String.{string_bytes};
 ghost use Rattle.bbm_session.specs.Requests.{event_count, gen_of, log_after, log_asked, request_alone, request_of};
 ghost use Rattle.bbm_session.specs.Requests.{selftest_of};
-ghost use Rattle.bbm_session.specs.Run.{command_alone, command_of, limits_of, or_else};
+ghost use Rattle.bbm_session.specs.Run.{command_alone, command_at, command_of, limits_of, or_else};
 
 use bbm_log_grammar::read_decimal;
 use bbm_report::asked;
@@ -44,26 +44,34 @@ pub enum Request {
     },
 }
 
+/// The command that the word says.
+fn said_by(word: &[u8]) -> Option<Command>
+    ensures { result ≡ command_at word.now }
+{
+    if word == b"check".as_slice() {
+        Some(Command::Check)
+    } else if word == b"slow".as_slice() {
+        Some(Command::Slow)
+    } else if word == b"explain".as_slice() {
+        Some(Command::Explain)
+    } else if word == b"counterrun".as_slice() {
+        Some(Command::Show(Evidence::Counterrun))
+    } else if word == b"cert".as_slice() {
+        Some(Command::Show(Evidence::Cert))
+    } else if word == b"idle".as_slice() {
+        Some(Command::Show(Evidence::Idle))
+    } else {
+        None
+    }
+}
+
 /// The command that one word says, None where there is another number of words.
 fn said_alone(words: &[String]) -> Option<Command>
     ensures { result ≡ command_alone (map string_bytes words.now) }
 {
-    if words.len() != 1 {
-        None
-    } else if words[0].as_bytes() == b"check".as_slice() {
-        Some(Command::Check)
-    } else if words[0].as_bytes() == b"slow".as_slice() {
-        Some(Command::Slow)
-    } else if words[0].as_bytes() == b"explain".as_slice() {
-        Some(Command::Explain)
-    } else if words[0].as_bytes() == b"counterrun".as_slice() {
-        Some(Command::Show(Evidence::Counterrun))
-    } else if words[0].as_bytes() == b"cert".as_slice() {
-        Some(Command::Show(Evidence::Cert))
-    } else if words[0].as_bytes() == b"idle".as_slice() {
-        Some(Command::Show(Evidence::Idle))
-    } else {
-        None
+    match words {
+        [word] => said_by(word.as_bytes()),
+        _ => None,
     }
 }
 

@@ -1,7 +1,8 @@
 //! Tests of the crates that keep state: what no clause says. They stand in a crate of their own, so that each crate is
-//! proved once.
+//! proved once. Beside them an example of the calls of bbm_roots, with its proof.
 #![tactic(auto)]
 
+pub mod example;
 #[cfg(test)]
 mod place_map;
 #[cfg(test)]

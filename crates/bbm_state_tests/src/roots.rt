@@ -1,9 +1,10 @@
-//! The calls of bbm_roots with ample memory, and its example.
+//! The calls of bbm_roots with ample memory, and their example.
 
+use crate::example::first_root;
 use bbm_barriers::{Domain, Dsb, Types};
 use bbm_events::{Header, NO_WORDS};
 use bbm_regimes::{HypWorld, Kind, NoMemory, Page, Pe, Tag, World};
-use bbm_roots::{Roots, first_root};
+use bbm_roots::Roots;
 use bbm_tlbi_scope::{TagSet, TlbiOp};
 use std::test::Fail;
 

@@ -3,4 +3,4 @@ use Rattle.bbm_judge.proofs.Paths.{pages_from_more}
 use Rattle.bbm_judge.proofs.starts.pages_from.Goals as goal
 
 pub loop-index-preserved : goal.loop-index-preserved
-loop-index-preserved c = rw (pages_from_more, ← c.page_at.ensures) (search rules)
+loop-index-preserved c = rw (pages_from_more, ← c.behind.ensures) (search rules)

@@ -10,7 +10,7 @@ loop-index-preserved c =
       c.in_ok-add.ensures,
       c.loop-index.invariant,
       more,
-      c.page_behind.ensures,
+      c.behind.ensures,
       c.input_pages-size.ensures.value,
       c.new.ensures.items,
       append_assoc,

@@ -1,11 +1,9 @@
-use Rattle.bbm_roots.proofs.Common.{◌≡◌, List, [], ◌∷◌, ℕ, Some, None, Option, arith}
-use Rattle.bbm_roots.proofs.Common.{refl, rules, El2, true, false}
-use Rattle.bbm_roots.proofs.Common.{base_of, Heading, Event, Root, Patterns, has_null_base}
-use Rattle.bbm_events.specs.declared.event.Event.TheVariants.{Init}
-use Rattle.bbm_rules.proofs.Common.{and_parts, is_null, is_none}
-use Rattle.bbm_rules.specs.Broken.{broken, keeps, Breach}
-use Rattle.std.specs.Option.{option_map_or}
-use Rattle.bbm_roots.proofs.example.first_root.Goals as goal
+use Rattle.bbm_rules.proofs.Common.{◌≡◌, List, [], ◌∷◌, ℕ, Some, None, Option, arith, refl, rules, El2, true, false}
+use Rattle.bbm_rules.proofs.Common.{and_parts, base_of, is_none, is_null, option_map_or, Heading, Event, Init, Root}
+use Rattle.bbm_rules.proofs.Common.{Breach, Patterns, keeps}
+use Rattle.bbm_rules.specs.Broken.{broken}
+use Rattle.bbm_roots.specs.RootRegisters.{has_null_base}
+use Rattle.bbm_state_tests.proofs.example.first_root.Goals as goal
 
 -- the two events break no rule
 none-broken : (o : Option Breach) → is_none o ≡ true → o ≡ None

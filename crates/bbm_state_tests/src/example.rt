@@ -6,10 +6,9 @@ ghost use Rattle.bbm_rules.specs.Broken.{keeps};
 ghost use Rattle.bbm_rules.specs.Claims.{Patterns};
 ghost use Rattle.bbm_roots.specs.RootsStand.{Stands};
 
-use crate::laws::law_others;
-use crate::roots::Roots;
 use bbm_events::Header;
 use bbm_regimes::{Kind, Page, Pe, Reg};
+use bbm_roots::{Roots, law_others};
 use bbm_rules::StepFault;
 use std::alloc::Global;
 
