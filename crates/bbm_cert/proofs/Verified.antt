@@ -8,7 +8,7 @@ use Rattle.bbm_oracle_trees.specs.Past.{Past}
 use Rattle.bbm_oracle_trees.specs.HistoryStandsFor.{StandsFor}
 use Rattle.bbm_cert.specs.Judged.{judged, judges_as}
 use Rattle.bbm_cert.proofs.JudgedLaw.{later_no}
-use Rattle.bbm_cert.proofs.TagSteps.{next}
+use Rattle.bbm_claims.proofs.TagSteps.{next}
 
 -- a history of these events, by these claims, which keep the rules
 pub record Going (past : Past) (heading : Heading) (claims : List Claim) (h : List Event) : Type 0 where

@@ -1,8 +1,1 @@
 pub mod Judged
-pub mod Marks
-pub mod Flushes
-pub mod Cleansings
-pub mod Spans
-pub mod Takings
-pub mod Holdings
-pub mod KnownOfClaims

@@ -8,9 +8,8 @@ ghost use Rattle.bbm_rules.specs.Broken.{broken};
 ghost use Rattle.bbm_oracle_trees.specs.HistoryStandsFor.{StandsFor};
 ghost use Rattle.bbm_cert.specs.Judged.{judged, judges_as};
 
-use crate::by_claims::ByClaims;
-use crate::holdings::Tags;
 use crate::judged::Judged;
+use bbm_claims::ByClaims;
 use bbm_events::{Claim, Event, Header};
 use bbm_judge::judge;
 use bbm_oracle_trees::History;
@@ -50,16 +49,7 @@ pub fn verify(
     requires few { length log.now.items < 2 ^ 32 }
     ensures { IfOk result (λ said. said ≡ judged header.now claims.now.items (reverse log.now.items)) }
 {
-    let evidence = ByClaims {
-        claims: claims.as_slice(),
-        cleansings: Vec::new(alloc),
-        tags: Tags {
-            held: Vec::new(alloc),
-            left: Vec::new(alloc),
-            spans: Vec::new(alloc),
-        },
-        taken: 0,
-    };
+    let evidence = ByClaims::new(alloc, claims.as_slice());
     let mut history = History::new(alloc, header, evidence);
     for (i, event) in log.iter().enumerate() {
         match judge_next(alloc, &history, event, i as u32 + 1)? {

@@ -1,7 +1,7 @@
 -- The names that most proofs of this crate cite, passed on from one place. Declares nothing.
 pub use Rattle.std.proofs.Common.{insert}
-pub use Rattle.bbm_cert.specs.Flushes.{completed_by, is_flush_of}
-pub use Rattle.bbm_cert.specs.Holdings.{has}
+pub use Rattle.bbm_claims.specs.Flushes.{completed_by, is_flush_of}
+pub use Rattle.bbm_claims.specs.Holdings.{has}
 pub use Rattle.bbm_certify.specs.DueAt.{IsDueAt, IsDueIn, IsDueSince, IsNewest, IsUncleansed, writes_at}
 pub use Rattle.bbm_certify.specs.KnownOfCertificates.{Known}
 pub use Rattle.bbm_certify.specs.LeastClaims.{Ascending, IsCertificate, IsCleansed, IsDue, IsLeast, OneAt, TakenAt}

@@ -7,7 +7,7 @@ use Rattle.bbm_rules.proofs.Common.{Taken, same_tag, Patterns, Listed, Barrier, 
 use Rattle.bbm_rules.proofs.Common.{kept_at, loses, reads, reads_for_some, readings, any_finds, any_found}
 use Rattle.bbm_rules.proofs.Common.{false_from_ne_true, proved, If, Is}
 use Rattle.bbm_lemmas.proofs.Words.{same_number}
-use Rattle.bbm_cert.specs.Holdings.{is_holding}
+use Rattle.bbm_claims.specs.Holdings.{is_holding}
 use Rattle.bbm_certify.proofs.TagClaims as tags
 
 not_less_one : (m n : ℕ) → n ≤ m → less (m ∷ []) (n ∷ []) ≡ false

@@ -17,7 +17,7 @@ use Rattle.bbm_rules.specs.Sentences.{issues}
 use Rattle.bbm_rules.specs.Values.{publishes_to}
 use Rattle.bbm_oracle_patterns.specs.Kept.{cover_in}
 use Rattle.bbm_oracle_patterns.specs.declared.kept.Kept.{Kept}
-use Rattle.bbm_cert.specs.Flushes.{completed_by, is_flush_of}
+use Rattle.bbm_claims.specs.Flushes.{completed_by, is_flush_of}
 use Rattle.bbm_certify.specs.LeastClaims.{IsLeast, OneAt, TwoAt}
 use Rattle.bbm_certify.specs.declared.patterns.Ends.{Ends}
 use Rattle.bbm_certify.specs.declared.patterns.Halves.{Halves}

@@ -9,7 +9,7 @@ use Rattle.bbm_rules.specs.Sentences.{completes_for, issues}
 use Rattle.bbm_rules.specs.Tags.{kept_at, reads, reads_for_some}
 use Rattle.bbm_histories.specs.ClaimSteps.{tag_waits_at}
 use Rattle.bbm_histories.specs.HistorySteps.{answered_by}
-use Rattle.bbm_cert.specs.Holdings.{has}
+use Rattle.bbm_claims.specs.Holdings.{has}
 use Rattle.bbm_oracle_tags.specs.declared.holding.Holding.{Holding}
 use Rattle.bbm_lemmas.specs.Elements.{In}
 

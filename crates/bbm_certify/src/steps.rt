@@ -4,11 +4,11 @@
 ghost use Rattle.std.specs.Prelude.{◌≡◌};
 ghost use Rattle.bbm_rules.specs.Cleansing.{writes as is_write};
 ghost use Rattle.bbm_rules.specs.Lists.{any};
-ghost use Rattle.bbm_cert.specs.Flushes.{is_flush_of};
+ghost use Rattle.bbm_claims.specs.Flushes.{is_flush_of};
 ghost use Rattle.bbm_certify.specs.Making as spec;
 
 use bbm_barriers::Dsb;
-use bbm_cert::marks::{is_answered, issues, same_cover, writes};
+use bbm_claims::marks::{is_answered, issues, same_cover, writes};
 use bbm_events::{Event, Header};
 use bbm_oracle_patterns::Kept;
 use bbm_oracle_tags::{completes, publishes_for, reaches};

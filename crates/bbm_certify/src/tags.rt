@@ -6,14 +6,14 @@ ghost use Rattle.std.specs.Prelude.{take, IfOk, OnOk};
 ghost use Rattle.bbm_regimes.specs.declared.regime.Tag.{Tag as TheTag};
 ghost use Rattle.bbm_events.specs.declared.event.Event.{Event as TheEvent};
 ghost use Rattle.bbm_rules.specs.Tags.{reads};
-ghost use Rattle.bbm_cert.specs.Holdings.{has as has_it};
+ghost use Rattle.bbm_claims.specs.Holdings.{has as has_it};
 ghost use Rattle.bbm_certify.specs.Orders.{Adds};
 ghost use Rattle.bbm_certify.specs.Taken as spec;
 
 use crate::sorted::add_claim;
-use bbm_cert::holdings::add_readings;
-use bbm_cert::marks::issues;
-use bbm_cert::taken::{Answer, Taking, is_answered, is_readable, takes_away};
+use bbm_claims::holdings::add_readings;
+use bbm_claims::marks::issues;
+use bbm_claims::taken::{Answer, Taking, is_answered, is_readable, takes_away};
 use bbm_events::{Claim, Event, Header};
 use bbm_oracle_tags::{Holding, kept_at, readings_at};
 use bbm_regimes::{NoMemory, Pe};

@@ -1,28 +1,14 @@
-use Rattle.bbm_cert.proofs.Common.{tells, has, Cleansing, lasts, Holding, Span}
-use Rattle.bbm_rules.proofs.Common.{◌≡◌, ◌<◌, List, length, get_or, take, reverse, refl, ◌∙◌, ap, arith, Event}
-use Rattle.bbm_cert.proofs.Cleansed.{tell_nothing}
-use Rattle.bbm_cert.proofs.Lasting.{nothing_lasts}
+use Rattle.bbm_rules.proofs.Common.{◌≡◌, ◌<◌, ◌∙◌, List, length, get_or, take, reverse, ap, arith, Event}
 use Rattle.bbm_cert.proofs.Verified.{going_next, going_start, stopped}
 use Rattle.bbm_cert.proofs.verifying.verify.Goals as goal
 
 pub new-history-requires : goal.new-history-requires
-new-history-requires c = (
-  (λ place p n. ap (λ (xs : List Cleansing). tells xs place p n) c.new.ensures.items
-      ∙ tell_nothing c.args.header.now c.as_slice.result.now place p n),
-  record {
-    held_is = λ p root tag below. ap (λ (xs : List Holding). has xs p root tag) c.new-2.ensures.items;
-    left_is = λ p page tag below. ap (λ (xs : List Holding). has xs p page tag) c.new-3.ensures.items;
-  },
-  (λ p n tag below. ap (λ (xs : List Span). lasts xs p tag n) c.new-4.ensures.items ∙ nothing_lasts c.args.header.now p
-      tag n),
-  refl,
-)
+new-history-requires c = c.new.ensures.taken c.args.header.now
 
 pub loop-i-init : goal.loop-i-init
 loop-i-init c =
-    going_start c.new-history.result c.args.header.now c.args.claims.now.items c.as_slice.result.now
-    c.new-history.ensures.is
-    c.new-history.ensures.stands c.as_slice.ensures.value
+    going_start c.new-history.result c.args.header.now c.args.claims.now.items c.evidence.claims.now
+    c.new-history.ensures.is c.new-history.ensures.stands (c.new.ensures.claims ∙ c.as_slice.ensures.value)
 
 pub loop-i-preserved : goal.loop-i-preserved
 loop-i-preserved c =
