@@ -10,7 +10,7 @@ ghost use Rattle.bbm_oracle_trees.specs.Past.{notes};
 use bbm_descriptor::{core, needs_bbm};
 use bbm_events::Event;
 use bbm_oracle_patterns::Evidence;
-use bbm_oracle_tags::rules::without_lock;
+use bbm_oracle_rules::rules::without_lock;
 use bbm_oracle_tags::values::value_of;
 use bbm_oracle_trees::History;
 use bbm_regimes::{Kind, Pe, Place};

@@ -4,6 +4,5 @@ pub mod StandingLemmas
 pub mod NumberLemmas
 pub mod PlaceLemmas
 pub mod RootLemmas
-pub mod RuleLemmas
 pub mod TagLemmas
 pub mod WatchLemmas

@@ -1,4 +1,3 @@
-pub mod Conflicts
 pub mod Moments
 pub mod HeldTagSets
 pub mod Keepers

@@ -7,8 +7,6 @@ mod all_patterns;
 pub mod evidence;
 pub mod holding;
 pub mod keeper;
-pub mod limits;
-pub mod locks;
 mod moment;
 pub mod numbers;
 pub mod pages;
@@ -16,7 +14,6 @@ pub mod reach;
 pub mod readings;
 pub mod registers;
 pub mod roots;
-pub mod rules;
 mod standings;
 pub mod tags;
 pub mod values;
@@ -26,18 +23,12 @@ pub use all_patterns::AllPatterns;
 pub use evidence::TagEvidence;
 pub use holding::Holding;
 pub use keeper::Keeper;
-pub use limits::limit_of;
-pub use locks::{holder_of, lacks};
 pub use numbers::least;
 pub use pages::{count_initialised, has_values, is_initialised, is_null};
 pub use reach::{completes, publishes_for, reaches};
 pub use readings::{Reading, readings_at};
 pub use registers::{named_scope, register_values, vmid_of};
 pub use roots::{Declared, first_pages, given_up, gives_up, is_root, lock_of, root_at, roots_of};
-pub use rules::{
-    bad_operand, lock_busy, lock_not_mine, no_root, null_written, root_in_use, tag_conflict,
-    unsynced_vmid, without_lock, wrong_world,
-};
 pub use tags::{keeps_tag, kept_at, tag_set_of};
 pub use values::{places_in, value_of};
 pub use watch::changes_readings;

@@ -3,8 +3,7 @@
 use crate::events::{BELOW, BLOCK, HEADER, PLACE, ROOT, dsb, events, write};
 use bbm_barriers::Types;
 use bbm_events::Event;
-use bbm_oracle_tags::limits::limit_of;
-use bbm_oracle_tags::locks::{holder_of, lacks};
+use bbm_oracle_rules::{holder_of, lacks, limit_of, rules};
 use bbm_oracle_tags::numbers::least;
 use bbm_oracle_tags::pages::{count_initialised, has_values, is_initialised, is_null};
 use bbm_oracle_tags::reach::{completes, publishes_for, reaches};
@@ -13,7 +12,7 @@ use bbm_oracle_tags::registers::{named_scope, register_values, vmid_of};
 use bbm_oracle_tags::roots::{is_root, lock_of, root_at, roots_of};
 use bbm_oracle_tags::tags::{keeps_tag, kept_at, tag_set_of};
 use bbm_oracle_tags::values::{places_in, value_of};
-use bbm_oracle_tags::{AllPatterns, Holding, Keeper, rules};
+use bbm_oracle_tags::{AllPatterns, Holding, Keeper};
 use bbm_regimes::{Kind, Page, Pe, Place, Reg, Tag, Which};
 use bbm_tlbi_scope::{TagSet, TlbiOp};
 use std::alloc::Global;

@@ -3,12 +3,12 @@ use Rattle.bbm_cert.proofs.Verified.{going_next, going_start, stopped}
 use Rattle.bbm_cert.proofs.verifying.verify.Goals as goal
 
 pub new-history-requires : goal.new-history-requires
-new-history-requires c = c.new.ensures.taken c.args.header.now
+new-history-requires c = c.new-evidence.ensures.taken c.args.header.now
 
 pub loop-i-init : goal.loop-i-init
 loop-i-init c =
-    going_start c.new-history.result c.args.header.now c.args.claims.now.items c.evidence.claims.now
-    c.new-history.ensures.is c.new-history.ensures.stands (c.new.ensures.claims ∙ c.as_slice.ensures.value)
+    going_start c.new-history.result c.args.header.now c.args.claims.now.items c.new-evidence.result.claims.now
+    c.new-history.ensures.is c.new-history.ensures.stands (c.new-evidence.ensures.claims ∙ c.as_slice.ensures.value)
 
 pub loop-i-preserved : goal.loop-i-preserved
 loop-i-preserved c =

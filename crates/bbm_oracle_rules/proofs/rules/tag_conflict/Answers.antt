@@ -1,9 +1,9 @@
 use Rattle.bbm_rules.proofs.Common.{◌≡◌, List, ◌∷◌, ◌++◌, [], reverse, ap, ◌∙◌, Trust}
 use Rattle.bbm_events.specs.declared.event.Event.{Event}
 use Rattle.bbm_events.specs.declared.event.Event.TheVariants.{Msr}
-use Rattle.bbm_oracle_tags.specs.Conflicts.{conflict_pages}
-use Rattle.bbm_oracle_tags.proofs.RuleLemmas.{conflict-at}
-use Rattle.bbm_oracle_tags.proofs.rules.tag_conflict.Goals as goal
+use Rattle.bbm_oracle_rules.specs.Conflicts.{conflict_pages}
+use Rattle.bbm_oracle_rules.proofs.RuleLemmas.{conflict-at}
+use Rattle.bbm_oracle_rules.proofs.rules.tag_conflict.Goals as goal
 
 pub returns-in_ok-pages-in-Msr : goal.returns-in_ok-pages-in-Msr
 returns-in_ok-pages-in-Msr g c = λ h e.

@@ -1,6 +1,6 @@
 use Rattle.bbm_rules.proofs.Common.{◌≡◌, sym, ap, ◌∙◌, arith, rules, reverse, is_base_at}
 use Rattle.bbm_events.specs.Heading.{Heading}
-use Rattle.bbm_oracle_tags.proofs.rules.is_base.Goals as goal
+use Rattle.bbm_oracle_rules.proofs.rules.is_base.Goals as goal
 use Rattle.bbm_lemmas.proofs.Words.{pe_finds, pe_none}
 
 pub returns-then-branch : goal.returns-then-branch

@@ -3,10 +3,8 @@
 ghost use Rattle.std.specs.Prelude.{◌≡◌, reverse, IfOk};
 ghost use Rattle.bbm_rules.specs.Limits as spec;
 
-use crate::pages::{count_initialised, is_initialised};
-use crate::registers::register_values;
-use crate::roots::roots_of;
 use bbm_events::Event;
+use bbm_oracle_tags::{count_initialised, is_initialised, register_values, roots_of};
 use bbm_regimes::{NoMemory, Which};
 use std::alloc::Global;
 

@@ -1,6 +1,6 @@
 use Rattle.bbm_rules.proofs.Common.{◌≡◌, take, reverse}
-use Rattle.bbm_oracle_tags.specs.Conflicts.{leaver_pages}
-use Rattle.bbm_oracle_tags.proofs.rules.leavers.Given as goal
+use Rattle.bbm_oracle_rules.specs.Conflicts.{leaver_pages}
+use Rattle.bbm_oracle_rules.proofs.rules.leavers.Given as goal
 
 abbrev pub invariant-loop-page : goal.invariant-loop-page
 invariant-loop-page g l =

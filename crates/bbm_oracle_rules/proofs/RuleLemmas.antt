@@ -1,7 +1,7 @@
 -- What the rules add to the questions that they ask.
 use Rattle.bbm_rules.proofs.Common.{◌≡◌, ℕ, List, [], ◌∷◌, ◌++◌, reverse, Option, sym, ap, ◌∙◌, reverse-append, Heading}
 use Rattle.bbm_rules.proofs.Common.{Event, Msr, Reg, Trust, least, Noted, events_of, tag_conflict}
-use Rattle.bbm_oracle_tags.specs.Conflicts.{conflict_pages}
+use Rattle.bbm_oracle_rules.specs.Conflicts.{conflict_pages}
 
 -- the conflicts after a register write
 pub conflict-at : (heading : Heading) (trust : Trust) (h : List Noted) (events : List Event) (pe value : ℕ) (reg : Reg)

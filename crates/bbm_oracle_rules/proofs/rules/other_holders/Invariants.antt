@@ -1,6 +1,6 @@
 use Rattle.bbm_rules.proofs.Common.{◌≡◌, take, reverse}
-use Rattle.bbm_oracle_tags.specs.Conflicts.{holder_pages}
-use Rattle.bbm_oracle_tags.proofs.rules.other_holders.Given as goal
+use Rattle.bbm_oracle_rules.specs.Conflicts.{holder_pages}
+use Rattle.bbm_oracle_rules.proofs.rules.other_holders.Given as goal
 
 abbrev pub invariant-loop-root : goal.invariant-loop-root
 invariant-loop-root g l =

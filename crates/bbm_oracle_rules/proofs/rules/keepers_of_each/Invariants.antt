@@ -1,7 +1,7 @@
 use Rattle.bbm_rules.proofs.Common.{◌≡◌, take, reverse}
 use Rattle.std.specs.List.{flat_map}
-use Rattle.bbm_oracle_tags.specs.Conflicts.{keeper_pages}
-use Rattle.bbm_oracle_tags.proofs.rules.keepers_of_each.Given as goal
+use Rattle.bbm_oracle_rules.specs.Conflicts.{keeper_pages}
+use Rattle.bbm_oracle_rules.proofs.rules.keepers_of_each.Given as goal
 
 abbrev pub invariant-loop-reading : goal.invariant-loop-reading
 invariant-loop-reading g l = l.pages.items

@@ -18,18 +18,14 @@ ghost use Rattle.bbm_rules.specs.RegisterValues as registers;
 ghost use Rattle.bbm_rules.specs.Roots as roots;
 ghost use Rattle.bbm_rules.specs.Rules as spec;
 ghost use Rattle.bbm_rules.specs.Tags as tags;
-ghost use Rattle.bbm_oracle_tags.specs.Conflicts as clashes;
+ghost use Rattle.bbm_oracle_rules.specs.Conflicts as clashes;
 
-use crate::evidence::TagEvidence;
-use crate::keeper::Keeper;
 use crate::locks;
-use crate::numbers::least;
-use crate::pages::is_null;
-use crate::readings::{Reading, readings_at};
-use crate::registers::{register_values, vmid_of};
-use crate::roots::{Declared, given_up, is_root, lock_of, root_at, roots_of};
-use crate::tags::{keeps_tag, tag_set_of};
 use bbm_events::{Event, Header, nulls_everywhere};
+use bbm_oracle_tags::{
+    Declared, Keeper, Reading, TagEvidence, given_up, is_null, is_root, keeps_tag, least, lock_of,
+    readings_at, register_values, root_at, roots_of, tag_set_of, vmid_of,
+};
 use bbm_regimes::{Kind, NoMemory, Page, Pe, Reg, base_of, kind_of};
 use bbm_tlbi_scope::{TagSet, decode, lacks_vmid};
 use std::alloc::Global;
