@@ -22,7 +22,7 @@ pub column_kept : {X : Type 0} (c : Option Entry → X) (R : Entry → Entry →
 column_kept c R same = by_entries R (λ o p. c p ≡ c o) refl same
 
 pub position_kept : (R : Entry → Entry → Type 0) (o p : Option Entry) → Advances R o p → option_map position p ≡ option_map position o
-position_kept R = column_kept (option_map position) R (λ e f seated h. ap (λ (s : ℕ × ℕ). Some s) seated)
+position_kept R = column_kept (option_map position) R (λ e f seated h. ap (λ (s : ℕ × ℕ × ℕ). Some s) seated)
 
 pub advance_by : (R S : Entry → Entry → Type 0) → ((e f : Entry) → R e f → S e f) → (o p : Option Entry) → Advances R o p → Advances S o p
 advance_by R S by = by_entries R (Advances S) tt (λ e f seated h. (seated, by e f h))

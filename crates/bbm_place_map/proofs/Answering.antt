@@ -1,10 +1,9 @@
 -- One entry that a DSB answered, among the others.
 use Rattle.bbm_place_map.proofs.Common.{◌≡◌, ◌≢◌, ℕ, nat_eq, List, [], Option, Some, None, refl, ap, sym, subst, ◌∙◌}
-use Rattle.bbm_place_map.proofs.Common.{if◌then◌else◌, slice_get, Completed, waits, Pends, Clean, Broken, slot_in}
+use Rattle.bbm_place_map.proofs.Common.{if◌then◌else◌, slice_get, Completed, Clean, Broken}
 use Rattle.bbm_place_map.proofs.Common.{Completes, loses_table, is_table, pends_in, no_pends, position, cell_at}
 use Rattle.bbm_place_map.proofs.Common.{entry_of, entry_in, marks_of, marks_in, Linked, Entry, Barrier, with_true}
 use Rattle.bbm_place_map.proofs.Common.{put_here, put_away}
-use Rattle.bbm_place_map.proofs.Completing.{completes_none}
 use Rattle.bbm_place_map.proofs.Idle.{nothing_waits}
 use Rattle.bbm_place_map.proofs.Positions.{cells_same, positions_changed, entries_changed}
 
@@ -15,16 +14,9 @@ completes_at by o o' p p' is is' h =
     let Q : Option Entry → Type 0 = λ y. Completes by o y in
     subst Q (sym is') (subst P (sym is) h)
 
-none_broken : (entries : List Entry) → entries ≡ [] → (o : Option ℕ) → entry_of entries o ≡ None
+pub none_broken : (entries : List Entry) → entries ≡ [] → (o : Option ℕ) → entry_of entries o ≡ None
 none_broken entries none None = refl
 none_broken entries none (Some k) = ap (λ (es : List Entry). slice_get es k) none
-
--- where no place is broken nothing is answered
-pub completes_whole : (by : Barrier) (cells : List ℕ) (entries : List Entry) → entries ≡ [] → (j : ℕ)
-    → Completes by (entry_in cells entries j) (entry_in cells entries j)
-completes_whole by cells entries none j =
-    let is = none_broken entries none (slot_in cells j) in
-    completes_at by (entry_in cells entries j) None (entry_in cells entries j) None is is (completes_none by)
 
 -- it changed, and left
 module _ (by : Barrier) (cells : List ℕ) (entries mid : List Entry) (k : ℕ) (e f : Entry)

@@ -1,147 +1,110 @@
--- A place, or all places of a page, that aren't broken any more.
-use Rattle.bbm_place_map.proofs.Common.{◌≡◌, ℕ, ◌/◌, ◌≤◌, ◌<◌, Bool, true, false, List, Some, None, nat_eq, ap, refl}
-use Rattle.bbm_place_map.proofs.Common.{sym, subst, arith, eqb-true, ◌∙◌, vec_len, vec_capacity, if◌then◌else◌}
-use Rattle.bbm_place_map.proofs.Common.{cond-false, cond-true, Vec, Global, get, cell_by, in_part, is_at, slot_in}
-use Rattle.bbm_place_map.proofs.Common.{entry_in, marks_of, no_pends, page_of, pends_of, place_cell, marks_in}
-use Rattle.bbm_place_map.proofs.Common.{pends_for, IsIdle, Linked, Numbered, Parted, Placed, at_index, index_of, starts}
-use Rattle.bbm_place_map.proofs.Common.{Entry, PlaceMap, position_at, Option, Frees, SameSize, Work, split_by, if_then}
-use Rattle.std.proofs.Common.{◌^◌}
-use Rattle.bbm_place_map.specs.Puts.{Clears}
-use Rattle.bbm_place_map.specs.Sound.{CanBreak, FewLinked}
-use Rattle.bbm_place_map.specs.Works.{Listed}
+-- A map whose broken places changed.
+use Rattle.bbm_place_map.proofs.Common.{◌≡◌, ◌⊎◌, ℕ, Bool, true, false, Some, None, nat_eq, ap, sym, subst}
+use Rattle.bbm_place_map.proofs.Common.{eqb-true, ◌∙◌}
+use Rattle.bbm_place_map.proofs.Common.{vec_len, if◌then◌else◌, slice_get, cond-false, cond-true, Vec, Global, get}
+use Rattle.bbm_place_map.proofs.Common.{in_page, marks_of, page_of}
+use Rattle.bbm_place_map.proofs.Common.{pends_of, IsIdle, Placed, Tiled, at_index, index_of, place_entry, entry_at}
+use Rattle.bbm_place_map.proofs.Common.{pages_in}
+use Rattle.bbm_place_map.proofs.Common.{AreSeated, BrokenPlaces, Breaks, Clears, Entry, PlaceMap, Option, Frees, Marks}
+use Rattle.bbm_place_map.proofs.Common.{WasSeated}
+use Rattle.bbm_place_map.proofs.Common.{split_by, if_then, inl, inr}
 use Rattle.bbm_place_map.proofs.Idle.{idle_from}
-use Rattle.bbm_place_map.proofs.Listing.{gone_or_same, listed_fewer}
-use Rattle.bbm_place_map.proofs.Parts.{at_maybe, at_part, cell_here, none_marks, none_pends, start_is, column}
-use Rattle.bbm_place_map.proofs.Places.{index_inside, index_none}
-use Rattle.bbm_place_map.proofs.Positions.{linked_seated, placed_seated}
+use Rattle.bbm_place_map.proofs.Linking.{marks_put, pends_put}
+use Rattle.bbm_place_map.proofs.Places.{at_page, at_place, index_none}
+use Rattle.bbm_place_map.proofs.Positions.{seats_by}
 use Rattle.bbm_place_map.specs.Map.{marks_at, pends_at}
 
--- cells and entries of a map can be edited
-pub able : (map : PlaceMap) → FewLinked map.cells map.broken
-able map = record { linked = map.linked; few = omega (arith, map.fewer, map.few) }
-
--- and the place of a cell can be broken
-pub breakable : (map : PlaceMap) (a i : ℕ) → place_cell map a ≡ Some i → CanBreak i map.cells map.broken
-breakable map a i at = record {
-  linked = map.linked;
-  within = index_inside (starts (get nat_eq map.pages) map.parts.items) (vec_len map.cells) map.parted.numbered a i at;
-  few = omega (arith, map.fewer, map.few);
-  room = omega (arith, map.fewer, map.room);
+-- A map hangs together with these values and broken places.
+abbrev pub Fits : PlaceMap → Vec ℕ Global → BrokenPlaces → Type 0
+Fits map values broken = record {
+  tiled : Tiled (get nat_eq map.pages) (pages_in broken) (vec_len values);
+  placed : Placed (get nat_eq map.pages) broken.entries.list.items;
 }
 
--- A map hangs together with these values, cells and entries.
-abbrev pub Fits : PlaceMap → Vec ℕ Global → Vec ℕ Global → Vec Entry Global → Work → Type 0
-Fits map values cells broken work = record {
-  numbered : Numbered (get nat_eq map.pages) (vec_len values);
-  parted : Parted (get nat_eq map.pages) map.parts.items (vec_len values) (vec_len cells);
-  linked : Linked cells.items broken.items;
-  placed : Placed (starts (get nat_eq map.pages) map.parts.items) broken.items;
-  space : vec_len values ≤ vec_capacity cells;
-  room : vec_len values ≤ vec_capacity broken;
-  fewer : vec_len cells ≤ vec_len values;
-  few : vec_len values < 2 ^ 32;
-  listed : Listed work cells.items broken.items;
-}
+module _ (map : PlaceMap) (values : Vec ℕ Global) (new : BrokenPlaces) (many : vec_len values ≡ vec_len map.values)
+    (pages : pages_in new ≡ pages_in map.broken) where
+  fits : Placed (get nat_eq map.pages) new.entries.list.items → Fits map values new
+  fits placed =
+      let T : ℕ → Type 0 = λ n. Tiled (get nat_eq map.pages) n (vec_len values) in
+      let V : ℕ → Type 0 = λ n. Tiled (get nat_eq map.pages) (pages_in map.broken) n in
+      record { tiled = subst T (sym pages) (subst V (sym many) map.tiled); placed = placed }
 
--- so it does with as many values and cells, in as much room
-pub fits_with : (map : PlaceMap) (values cells : Vec ℕ Global) (broken : Vec Entry Global) (work : Work)
-    → vec_len values ≡ vec_len map.values → vec_len cells ≡ vec_len map.cells → vec_capacity cells ≡ vec_capacity map.cells
-    → vec_capacity broken ≡ vec_capacity map.broken → Linked cells.items broken.items
-    → Placed (starts (get nat_eq map.pages) map.parts.items) broken.items → Listed work cells.items broken.items
-    → Fits map values cells broken work
-fits_with map values cells broken work many len space room linked placed listed =
-    let N : ℕ → Type 0 = Numbered (get nat_eq map.pages) in
-    let P : ℕ → Type 0 = λ n. Parted (get nat_eq map.pages) map.parts.items n (vec_len map.cells) in
-    let Q : ℕ → Type 0 = Parted (get nat_eq map.pages) map.parts.items (vec_len values) in
-    record {
-      numbered = subst N (sym many) map.numbered;
-      parted = subst Q (sym len) (subst P (sym many) map.parted);
-      linked = linked;
-      placed = placed;
-      space = omega (arith, many, space, map.space);
-      room = omega (arith, many, room, map.room);
-      fewer = omega (arith, many, len, map.fewer);
-      few = omega (arith, many, map.few);
-      listed = listed;
-    }
+  pub fits_seated : AreSeated map.broken.entries.list.items new.entries.list.items → Fits map values new
+  fits_seated seats =
+      fits (seats_by (λ p. index_of (get nat_eq map.pages) p.0 ≡ Some p.1) map.broken.entries.list.items new.entries.list.items seats map.placed)
 
--- and with cells of which some were cleared
-pub fits_cleared : (map : PlaceMap) (values cells : Vec ℕ Global) (broken : Vec Entry Global) (these : ℕ → Bool)
-    → vec_len values ≡ vec_len map.values → Clears these map.cells cells map.broken broken → Fits map values cells broken map.work
-fits_cleared map values cells broken these many e =
-    fits_with map values cells broken map.work many e.sound.len e.sound.space e.sound.room e.sound.linked
-    (e.sound.placed (starts (get nat_eq map.pages) map.parts.items) map.placed)
-    (listed_fewer map.work map.work.unpublished map.work.waiting map.cells.items cells.items map.broken.items broken.items
-    (λ wide q j holds. holds) (λ wide q j holds. holds)
-    (λ j. gone_or_same (these j) (entry_in map.cells.items map.broken.items j) (entry_in cells.items broken.items j) (e.entries j))
-    map.listed)
-
--- and with entries that changed, each in its place
-pub fits_seated : (map : PlaceMap) (broken : Vec Entry Global) (work : Work)
-    → ((m : ℕ) → position_at broken.items m ≡ position_at map.broken.items m) → SameSize map.broken broken
-    → Listed work map.cells.items broken.items → Fits map map.values map.cells broken work
-fits_seated map broken work positions size listed =
-    fits_with map map.values map.cells broken work refl refl refl size.room
-    (linked_seated map.broken.items broken.items positions map.cells.items size.len map.linked)
-    (placed_seated map.broken.items broken.items positions (starts (get nat_eq map.pages) map.parts.items) map.placed) listed
+  pub fits_put : (j place : ℕ) → index_of (get nat_eq map.pages) place ≡ Some j
+      → ((k : ℕ) (e : Entry) → slice_get new.entries.list.items k ≡ Some e
+      → WasSeated map.broken.entries.list.items e ⊎ ((e.place ≡ place) × (e.index ≡ j))) → Fits map values new
+  fits_put j place at seats =
+      let P : ℕ × ℕ × ℕ → Type 0 = λ p. index_of (get nat_eq map.pages) p.0 ≡ Some p.1 in
+      fits (λ k e h.
+      elim (seats k e h) [
+        | inl was ↦ subst P (sym was.3) (map.placed was.0 was.1 was.2)
+        | inr now ↦ ap (index_of (get nat_eq map.pages)) now.0 ∙ at ∙ ap (λ (n : ℕ). Some n) (sym now.1)
+      ])
 
 -- What is then at each place: nothing at those that a test holds of, and what was there elsewhere.
-pub record AtPlaces (gone : ℕ → Bool) (map : PlaceMap) (cells : List ℕ) (broken : List Entry) : Type 0 where
-  pub marks : (a : ℕ) → at_index None (marks_in cells broken) (place_cell map a) ≡ (if gone a then None else marks_at map a)
-  pub pends : (q a : ℕ) → gone a ≡ false → at_index no_pends (pends_for cells broken q) (place_cell map a) ≡ pends_at map q a
-  pub dropped : (q a : ℕ) → gone a ≡ true → IsIdle (at_index no_pends (pends_for cells broken q) (place_cell map a))
+pub record AtPlaces (gone : ℕ → Bool) (map : PlaceMap) (now : ℕ → Option Entry) : Type 0 where
+  pub marks : (a : ℕ) → marks_of (now a) ≡ (if gone a then None else marks_at map a)
+  pub pends : (q a : ℕ) → gone a ≡ false → pends_of q (now a) ≡ pends_at map q a
+  pub dropped : (q a : ℕ) → gone a ≡ true → IsIdle (pends_of q (now a))
 
-column_at : {X : Type 0} (f : Option Entry → X) (gone : ℕ → Bool) (map : PlaceMap) (cells : List ℕ) (broken : List Entry) (a : ℕ)
-    → at_index None (entry_in cells broken) (place_cell map a)
-    ≡ (if gone a then None else at_index None (entry_in map.cells.items map.broken.items) (place_cell map a))
-    → at_index (f None) (λ j. f (entry_in cells broken j)) (place_cell map a)
-    ≡ (if gone a then f None else at_index (f None) (λ j. f (entry_in map.cells.items map.broken.items j)) (place_cell map a))
-column_at f gone map cells broken a is =
-    column f cells broken (place_cell map a) ∙ ap f is
-    ∙ if_then f (gone a) None (at_index None (entry_in map.cells.items map.broken.items) (place_cell map a))
-    ∙ ap (λ x. if gone a then f None else x) (sym (column f map.cells.items map.broken.items (place_cell map a)))
-
-at_places : (gone : ℕ → Bool) (map : PlaceMap) (cells : List ℕ) (broken : List Entry)
-    → ((a : ℕ) → at_index None (entry_in cells broken) (place_cell map a)
-    ≡ (if gone a then None else at_index None (entry_in map.cells.items map.broken.items) (place_cell map a)))
-    → AtPlaces gone map cells broken
+at_places : (gone : ℕ → Bool) (map : PlaceMap) (now : ℕ → Option Entry)
+    → ((a : ℕ) → now a ≡ (if gone a then None else place_entry map a)) → AtPlaces gone map now
 unfolding marks_at pends_at
-at_places gone map cells broken is = record {
-  marks = λ a. column_at marks_of gone map cells broken a (is a);
-  pends = λ q a off. column_at (pends_of q) gone map cells broken a (is a) ∙ cond-false (gone a) no_pends (pends_at map q a) off;
-  dropped = λ q a on.
-      idle_from (at_index no_pends (pends_for cells broken q) (place_cell map a))
-      (column_at (pends_of q) gone map cells broken a (is a) ∙ cond-true (gone a) no_pends (pends_at map q a) on);
+at_places gone map now is = record {
+  marks = λ a. ap marks_of (is a) ∙ if_then marks_of (gone a) None (place_entry map a);
+  pends = λ q a off. ap (pends_of q) (is a ∙ cond-false (gone a) None (place_entry map a) off);
+  dropped = λ q a on. idle_from (pends_of q (now a)) (ap (pends_of q) (is a ∙ cond-true (gone a) None (place_entry map a) on));
 }
 
-module _ (map : PlaceMap) (parts : List ℕ) (ps : parts ≡ map.parts.items) (cells : Vec ℕ Global) (broken : Vec Entry Global) where
-  -- the cell of a place is cleared, if there is one
-  pub place_cleared : (place j : ℕ) → index_of (get nat_eq map.pages) place ≡ Some j
-      → Clears (is_at (cell_by parts j)) map.cells cells map.broken broken → AtPlaces (λ a. nat_eq a place) map cells.items broken.items
-  place_cleared place j at clears =
-      at_places (λ a. nat_eq a place) map cells.items broken.items
-      (at_maybe (starts (get nat_eq map.pages) map.parts.items) (vec_len map.cells) map.parted.numbered None
-      (entry_in map.cells.items map.broken.items) (entry_in cells.items broken.items) place (cell_by parts j)
-      (cell_here map place j at ∙ ap (λ (xs : List ℕ). cell_by xs j) (sym ps)) clears.entries)
+module _ (map : PlaceMap) (new : BrokenPlaces) where
+  abbrev now : ℕ → Option Entry
+  now a = at_index None (entry_at new) (index_of (get nat_eq map.pages) a)
 
-  -- the cells of a page are cleared, if there are any
+  -- a place is cleared
+  pub place_cleared : (place j : ℕ) → index_of (get nat_eq map.pages) place ≡ Some j
+      → Clears (λ i. nat_eq i j) map.broken new → AtPlaces (λ a. nat_eq a place) map now
+  place_cleared place j at clears =
+      at_places (λ a. nat_eq a place) map now
+      (at_place (get nat_eq map.pages) (vec_len map.values) map.tiled.numbered None None (entry_at map.broken) (entry_at new) place j at clears.entries)
+
+  -- a page is cleared
   pub page_cleared : (page b : ℕ) → get nat_eq map.pages page ≡ Some b
-      → Clears (in_part (slot_in parts (b / 512))) map.cells cells map.broken broken
-      → AtPlaces (λ a. nat_eq (page_of a) page) map cells.items broken.items
+      → Clears (in_page b 512) map.broken new → AtPlaces (λ a. nat_eq (page_of a) page) map now
   page_cleared page b is clears =
-      at_places (λ a. nat_eq (page_of a) page) map cells.items broken.items
-      (at_part (starts (get nat_eq map.pages) map.parts.items) (vec_len map.cells) map.parted.numbered None
-      (entry_in map.cells.items map.broken.items) (entry_in cells.items broken.items) page (slot_in parts (b / 512))
-      (start_is (get nat_eq map.pages) map.parts.items page b is ∙ ap (λ (xs : List ℕ). slot_in xs (b / 512)) (sym ps)) clears.entries)
+      at_places (λ a. nat_eq (page_of a) page) map now
+      (at_page (get nat_eq map.pages) (vec_len map.values) map.tiled.numbered None (entry_at map.broken) (entry_at new) page b is clears.entries)
+
+  -- a place is broken
+  module _ (place j : ℕ) (marks : Marks) (at : index_of (get nat_eq map.pages) place ≡ Some j) (breaks : Breaks j place marks map.broken new) where
+    put : (a : ℕ) → now a ≡ (if nat_eq a place then Some breaks.entry.0 else place_entry map a)
+    put =
+        at_place (get nat_eq map.pages) (vec_len map.values) map.tiled.numbered None (Some breaks.entry.0) (entry_at map.broken) (entry_at new) place j at
+        breaks.entry.3
+
+    pub marks_broken : (a : ℕ) → marks_of (now a) ≡ (if nat_eq a place then Some marks else marks_of (place_entry map a))
+    marks_broken a =
+        marks_put (place_entry map) now breaks.entry.0 place put a
+        ∙ ap (λ (m : Marks). if nat_eq a place then Some m else marks_of (place_entry map a)) breaks.entry.1
+
+    pub pends_broken : (q a : ℕ) → pends_of q (now a) ≡ pends_of q (place_entry map a)
+    pends_broken q =
+        pends_put (place_entry map) now breaks.entry.0 place put q
+        (breaks.entry.2 q ∙ ap (pends_of q) (sym (ap (at_index None (entry_at map.broken)) at)))
 
 -- a page that isn't tracked has no broken place
 pub frees_untracked : (map new : PlaceMap) (page : ℕ) → get nat_eq map.pages page ≡ None
     → ((a : ℕ) → marks_at new a ≡ marks_at map a) → ((q a : ℕ) → pends_at new q a ≡ pends_at map q a) → Frees page map new
+unfolding marks_at pends_at
 frees_untracked map new page none marks pends = record {
-  marks = λ a. split_by (nat_eq (page_of a) page) (λ same. marks a ∙ none_marks map a (no_value a same)) (λ off. marks a);
+  marks = λ a. split_by (nat_eq (page_of a) page) (λ same. marks a ∙ ap marks_of (no_entry a same)) (λ off. marks a);
   pends = λ q a off. pends q a;
-  dropped = λ q a same. idle_from (pends_at new q a) (pends q a ∙ none_pends map a (no_value a same) q);
+  dropped = λ q a same. idle_from (pends_at new q a) (pends q a ∙ ap (pends_of q) (no_entry a same));
 }
   where
-    no_value : (a : ℕ) → nat_eq (page_of a) page ≡ true → index_of (get nat_eq map.pages) a ≡ None
-    no_value a same = index_none (get nat_eq map.pages) a (ap (get nat_eq map.pages) (eqb-true (page_of a) page same) ∙ none)
+    no_entry : (a : ℕ) → nat_eq (page_of a) page ≡ true → place_entry map a ≡ None
+    no_entry a same =
+        ap (at_index None (entry_at map.broken))
+        (index_none (get nat_eq map.pages) a (ap (get nat_eq map.pages) (eqb-true (page_of a) page same) ∙ none))

@@ -1,47 +1,119 @@
--- What a DSB answers, of a place.
-use Rattle.bbm_place_map.proofs.Common.{◌≡◌, ◌≢◌, ℕ, Bool, true, false, ◌&&◌, List, Option, Some, None, is_some, refl}
-use Rattle.bbm_place_map.proofs.Common.{ap, sym, ◌∙◌, slice_get, option_map, false≢true, same_Some, Cover, Completed}
-use Rattle.bbm_place_map.proofs.Common.{waits, Marks, slot_in, Completes, loses_table, entry_of, entry_in, marks_of}
-use Rattle.bbm_place_map.proofs.Common.{no_pends, marks_in, pends_for, Linked, Placed, index_of, at_index, state_from}
-use Rattle.bbm_place_map.proofs.Common.{Entry, Barrier}
-use Rattle.bbm_place_map.proofs.Completing.{completes_none}
-use Rattle.bbm_place_map.proofs.Idle.{nothing_waits}
-
-module _ (by : Barrier) (cells cells' : List ℕ) (entries entries' : List Entry)
-    (each : (j : ℕ) → Completes by (entry_in cells entries j) (entry_in cells' entries' j)) where
-  pub completed_at : (o : Option ℕ)
-      → Completed (state_from None (at_index None (marks_in cells entries) o)) (at_index no_pends (pends_for cells entries by.issuer) o) by.dsb by.n
-      (state_from None (at_index None (marks_in cells' entries') o)) (at_index no_pends (pends_for cells' entries' by.issuer) o)
-  completed_at None = (completes_none by).own
-  completed_at (Some j) = (each j).own
-
-  pub others_at : (q : ℕ) → q ≢ by.issuer → (o : Option ℕ) (b : Bool) (c : Cover) (p : ℕ)
-      → waits (at_index no_pends (pends_for cells' entries' q) o) b c p
-      ≡ (is_some (at_index None (marks_in cells' entries') o) && waits (at_index no_pends (pends_for cells entries q) o) b c p)
-  others_at q other None b c p = nothing_waits b c p
-  others_at q other (Some j) b c p = (each j).others q other b c p
-
-pub kept_at : (cells cells' : List ℕ) (entries entries' : List Entry)
-    → ((j : ℕ) → loses_table (marks_in cells entries j) (marks_in cells' entries' j) ≡ false)
-    → (o : Option ℕ) → loses_table (at_index None (marks_in cells entries) o) (at_index None (marks_in cells' entries') o) ≡ false
-kept_at cells cells' entries entries' none None = refl
-kept_at cells cells' entries entries' none (Some j) = none j
+-- What a DSB leaves of each place that it visits.
+use Rattle.bbm_place_map.proofs.Common.{◌≡◌, ℕ, Bool, true, false, [], Option, Some, None, refl, ap, sym, subst, ◌∙◌}
+use Rattle.bbm_place_map.proofs.Common.{false≢true, get, nat_eq}
+use Rattle.bbm_place_map.proofs.Common.{Does, HoldsFor, Rests, loses_table, entry_of_cell, marks_of, at_index, index_of}
+use Rattle.bbm_place_map.proofs.Common.{cell_by, entry_at}
+use Rattle.bbm_place_map.proofs.Common.{BrokenPlaces, Entries, Entry, Barrier, Effect, PlaceMap, Complete, Publish}
+use Rattle.bbm_place_map.proofs.Common.{Marks, Work, WorkList, Vec, Global}
+use Rattle.bbm_place_map.proofs.Common.{slot_in, is_clean, PeMask, ◌⊎◌, ◌≢◌, either, IsTold, Stays, ◌<◌}
+use Rattle.bbm_place_map.specs.Dsbs.{HasEffect, HoldOpen, IsSettled, loses_at}
+use Rattle.bbm_place_map.specs.Works.{Listed}
+use Rattle.bbm_place_map.proofs.Answering.{none_broken}
+use Rattle.bbm_place_map.proofs.Doing.{does_none}
+use Rattle.bbm_place_map.proofs.Held.{seat_at}
+use Rattle.bbm_place_map.proofs.Knowing.{quiet_to, stays_by, told_to}
+use Rattle.bbm_place_map.proofs.Listing.{listed_completed, listed_published, quiet_of, told_of}
+use Rattle.bbm_place_map.proofs.Reaching.{at_each}
+use Rattle.bbm_place_map.proofs.Seats.{seat_of}
 
 entry_lost : (o : Option Entry) (new : Option Marks) → loses_table (marks_of o) new ≡ true → (e : Entry) × (o ≡ Some e)
 entry_lost None new h = absurd (false≢true h)
 entry_lost (Some e) new h = (e, refl)
 
-slot_of : (cells : List ℕ) (entries : List Entry) (s : Option ℕ) (e : Entry) → entry_of entries s ≡ Some e
-    → (k : ℕ) × (s ≡ Some k) × (slice_get entries k ≡ Some e)
-slot_of cells entries None e h = cc
-slot_of cells entries (Some k) e h = (k, refl, h)
+-- where no place is broken no place has an entry
+pub empty_at : (broken : BrokenPlaces) → broken.entries.list.items ≡ [] → (j : ℕ) → entry_at broken j ≡ None
+empty_at broken none j = by (cell_by broken.parts.items j)
+  where
+    by : (o : Option ℕ) → at_index None (entry_of_cell broken.entries) o ≡ None
+    by None = refl
+    by (Some c) = none_broken broken.entries.list.items none (slot_in broken.entries.cells.items c)
 
-pub lost_at : (base : ℕ → Option ℕ) (cells cells' : List ℕ) (entries entries' : List Entry) → Linked cells entries → Placed base entries
-    → (j : ℕ) → loses_table (marks_in cells entries j) (marks_in cells' entries' j) ≡ true
-    → (a : ℕ) × (loses_table (at_index None (marks_in cells entries) (index_of base a)) (at_index None (marks_in cells' entries') (index_of base a)) ≡ true)
-lost_at base cells cells' entries entries' linked placed j h =
-    let e = entry_lost (entry_in cells entries j) (marks_in cells' entries' j) h in
-    let s = slot_of cells entries (slot_in cells j) e.0 e.1 in
-    let cell : e.0.cell ≡ j = same_Some e.0.cell j (sym (ap (option_map (λ (x : Entry). x.cell)) s.2) ∙ linked.forth j s.0 s.1) in
-    let here : index_of base e.0.place ≡ Some j = placed s.0 e.0 s.2 ∙ ap (λ (i : ℕ). Some i) cell in
-    (e.0.place, ap (λ (o : Option ℕ). loses_table (at_index None (marks_in cells entries) o) (at_index None (marks_in cells' entries') o)) here ∙ h)
+pub empty_place : (broken : BrokenPlaces) → broken.entries.list.items ≡ [] → (o : Option ℕ) → at_index None (entry_at broken) o ≡ None
+empty_place broken none None = refl
+empty_place broken none (Some j) = empty_at broken none j
+
+-- each cell is visited, and so each place
+module _ (by : Barrier) (old : BrokenPlaces) (new : Entries) where
+  abbrev now : ℕ → Option Entry
+  now j = at_index None (entry_of_cell new) (cell_by old.parts.items j)
+
+  pub visited_each : ((c : ℕ) → Does by.effect by (entry_of_cell old.entries c) (entry_of_cell new c)) → (j : ℕ)
+      → Does by.effect by (entry_at old j) (now j)
+  visited_each each j =
+      at_each (Does by.effect by) None (entry_of_cell old.entries) (entry_of_cell new) (does_none by.effect by) each (cell_by old.parts.items j)
+
+  pub visited_lost : (c : ℕ) × (loses_at old.entries new c ≡ true) → (j : ℕ) × (loses_table (marks_of (entry_at old j)) (marks_of (now j)) ≡ true)
+  visited_lost w =
+      let e = entry_lost (entry_of_cell old.entries w.0) (marks_of (entry_of_cell new w.0)) w.1 in
+      let s = seat_of old.entries.linked w.0 e.0 e.1 in
+      let here : cell_by old.parts.items e.0.index ≡ Some w.0 = old.sound.seated s.0 e.0 s.2 ∙ ap (λ (n : ℕ). Some n) s.3 in (
+        e.0.index,
+        ap (λ (o : Option ℕ). loses_table (marks_of (at_index None (entry_of_cell old.entries) o)) (marks_of (at_index None (entry_of_cell new) o))) here
+            ∙ w.1,
+      )
+
+  pub visited_kept : ((c : ℕ) → loses_at old.entries new c ≡ false) → (j : ℕ) → loses_table (marks_of (entry_at old j)) (marks_of (now j)) ≡ false
+  visited_kept kept j =
+      at_each (λ o p. loses_table (marks_of o) (marks_of p) ≡ false) None (entry_of_cell old.entries) (entry_of_cell new) refl kept
+      (cell_by old.parts.items j)
+
+-- a place that lost a table
+pub lost_place : (map : PlaceMap) (new : ℕ → Option Entry) (j : ℕ) → loses_table (marks_of (entry_at map.broken j)) (marks_of (new j)) ≡ true
+    → (a : ℕ) × (loses_table (marks_of (at_index None (entry_at map.broken) (index_of (get nat_eq map.pages) a)))
+    (marks_of (at_index None new (index_of (get nat_eq map.pages) a))) ≡ true)
+lost_place map new j h =
+    let e = entry_lost (entry_at map.broken j) (marks_of (new j)) h in
+    let s = seat_at map.broken j e.0 e.1 in
+    let here : index_of (get nat_eq map.pages) e.0.place ≡ Some j = map.placed s.0 e.0 s.2 ∙ ap (λ (n : ℕ). Some n) s.3 in (
+      e.0.place,
+      ap (λ (o : Option ℕ). loses_table (marks_of (at_index None (entry_at map.broken) o)) (marks_of (at_index None new o))) here ∙ h,
+    )
+
+-- what the lists know before, and after
+module _ (w : Work) (by : Barrier) (old : Entries) (number : w.pes ≡ by.n) (listed : Listed w old.cells.items old.list.items) where
+  pub open_published : (heard : PeMask) → by.effect ≡ Publish heard → HasEffect by.effect by
+      → HoldOpen (HoldsFor w.unpublished.items by.issuer) by old.cells.items old.list.items
+  open_published heard is has wide j =
+      let P : ℕ → Type 0 = λ n. (marks : Marks) → by.issuer < n → marks_of (entry_of_cell old j) ≡ Some marks
+      → HoldsFor w.unpublished.items by.issuer wide j ⊎ IsTold wide n by.issuer marks in
+      let below : by.issuer < by.n = (subst (λ (x : Effect). HasEffect x by) is has).1 in
+      subst (λ (x : Effect). HoldsFor w.unpublished.items by.issuer wide j ⊎ Rests x wide by.n by.issuer (entry_of_cell old j)) (sym is)
+      (told_to wide by.n by.issuer heard (HoldsFor w.unpublished.items by.issuer wide j) (entry_of_cell old j)
+      (λ marks at. subst P number (λ m below'. told_of listed wide by.issuer j m below') marks below at))
+
+  pub open_completed : by.effect ≡ Complete → HoldOpen (HoldsFor w.waiting.items by.issuer) by old.cells.items old.list.items
+  open_completed is wide j =
+      subst (λ (x : Effect). HoldsFor w.waiting.items by.issuer wide j ⊎ Rests x wide by.n by.issuer (entry_of_cell old j)) (sym is)
+      (either (quiet_of listed wide by.issuer j) (λ holds. holds) (quiet_to wide by.n by.issuer (entry_of_cell old j)))
+
+  pub settled_published : (heard : PeMask) → by.effect ≡ Publish heard → IsSettled by old.cells.items old.list.items
+  settled_published heard is j = subst (λ (x : Effect). Stays x by.n (entry_of_cell old j)) (sym is) tt
+
+  pub settled_completed : by.effect ≡ Complete → w.settled ≡ true → IsSettled by old.cells.items old.list.items
+  settled_completed is settled j =
+      let P : ℕ → Type 0 = λ n. (marks : Marks) → marks_of (entry_of_cell old j) ≡ Some marks → is_clean n marks ≡ false in
+      subst (λ (x : Effect). Stays x by.n (entry_of_cell old j)) (sym is) (stays_by by.n (entry_of_cell old j) (subst P number (listed.settled settled j)))
+
+  module _ (new : Entries) (lists : Vec WorkList Global) (visited : (j : ℕ) → Does by.effect by (entry_of_cell old j) (entry_of_cell new j))
+      (known : HoldOpen (HoldsFor lists.items by.issuer) by new.cells.items new.list.items) where
+    known_at : (effect : Effect) → by.effect ≡ effect → (wide : Bool) (j : ℕ)
+        → HoldsFor lists.items by.issuer wide j ⊎ Rests effect wide by.n by.issuer (entry_of_cell new j)
+    known_at effect is wide j =
+        subst (λ (x : Effect). HoldsFor lists.items by.issuer wide j ⊎ Rests x wide by.n by.issuer (entry_of_cell new j)) is (known wide j)
+
+    each_at : (effect : Effect) → by.effect ≡ effect → (j : ℕ) → Does effect by (entry_of_cell old j) (entry_of_cell new j)
+    each_at effect is j = subst (λ (x : Effect). Does x by (entry_of_cell old j) (entry_of_cell new j)) is (visited j)
+
+    pub published_listed : (heard : PeMask) → by.effect ≡ Publish heard
+        → ((wide : Bool) (q j : ℕ) → q ≢ by.issuer → HoldsFor w.unpublished.items q wide j → HoldsFor lists.items q wide j)
+        → Listed (record w { unpublished = lists }) new.cells.items new.list.items
+    published_listed heard is others =
+        listed_published w lists by heard old.cells.items new.cells.items old.list.items new.list.items number (each_at (Publish heard) is)
+        (known_at (Publish heard) is) others listed
+
+    pub completed_listed : by.effect ≡ Complete
+        → ((wide : Bool) (q j : ℕ) → q ≢ by.issuer → HoldsFor w.waiting.items q wide j → HoldsFor lists.items q wide j)
+        → Listed (record w { settled = true; waiting = lists }) new.cells.items new.list.items
+    completed_listed is others =
+        listed_completed w lists by old.cells.items new.cells.items old.list.items new.list.items number (each_at Complete is)
+        (known_at Complete is) others listed

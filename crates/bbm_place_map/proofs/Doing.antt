@@ -1,7 +1,9 @@
 -- What a DSB does at a place: once and twice, and where it does nothing.
-use Rattle.bbm_place_map.proofs.Common.{◌≡◌, ℕ, ◌<◌, ◌↔◌, Bool, true, false, not, ◌&&◌, Option, Some, None, IsTrue, refl}
-use Rattle.bbm_place_map.proofs.Common.{ap, sym, subst, ◌∙◌, inl, inr, false≢true, same_Some, none-some, and-false, pe_in}
-use Rattle.bbm_place_map.proofs.Common.{publishes, answers_local, PeMask, Marks, Broken, Core, Does, MayDo, Publishes}
+use Rattle.bbm_place_map.proofs.Common.{◌≡◌, ℕ, ◌<◌, ◌↔◌, Bool, true, false, not, ◌&&◌, Option, Some, None, IsTrue}
+use Rattle.bbm_place_map.proofs.Common.{refl}
+use Rattle.bbm_place_map.proofs.Common.{ap, sym, subst, ◌∙◌, inl, inr, false≢true, same_Some, none-some, and-false}
+use Rattle.bbm_place_map.proofs.Common.{pe_in}
+use Rattle.bbm_place_map.proofs.Common.{answers_local, PeMask, Marks, Broken, Core, Does, MayDo, Publishes}
 use Rattle.bbm_place_map.proofs.Common.{Complete, Publish, Effect, loses_table, is_table, marks_of, pends_in, pends_of}
 use Rattle.bbm_place_map.proofs.Common.{Rests, Stays, is_clean, Entry, Barrier}
 use Rattle.std.proofs.Common.{is_none}

@@ -48,7 +48,7 @@ module _ {old new : ℕ → Option ℕ} {page count : ℕ} (grown : Grown old ne
   pub placed_more : (entries : List Entry) → Placed old entries → Placed new entries
   placed_more entries placed k e h =
       elim (cases_eq (e.place / 4096 * 4096) page) [
-        | inl same ↦ absurd (none-some e.cell (sym (none_old e.place same) ∙ placed k e h))
+        | inl same ↦ absurd (none-some e.index (sym (none_old e.place same) ∙ placed k e h))
         | inr other ↦ index_old e.place other ∙ placed k e h
       ]
 

@@ -1,84 +1,110 @@
 -- What the issue of a TLBI notes, of a place.
 use Rattle.bbm_place_map.proofs.Common.{◌≡◌, ℕ, true, false, ◌<◌, List, length, Option, Some, None, is_some, refl, ap}
+use Rattle.bbm_place_map.proofs.Common.{get, nat_eq}
 use Rattle.bbm_place_map.proofs.Common.{sym, subst, ◌∙◌, arith, slice_get, get_or, option_map, slice_get_within}
-use Rattle.bbm_place_map.proofs.Common.{slice_get-get_or, Cover, Noted, Broken, slot_in, Advances, no_pends, entry_of}
-use Rattle.bbm_place_map.proofs.Common.{pends_in, pends_of, cover_in, is_found, FoundAs, Keeps, NotesAt, NotesFound}
-use Rattle.bbm_place_map.proofs.Common.{marks_in, pends_for, Linked, Numbered, Placed, index_of, at_index, state_from}
-use Rattle.bbm_place_map.proofs.Common.{Entry, Pending, Found, Issuing, WorkList, false≢true, entry_in, marks_of}
-use Rattle.bbm_place_map.proofs.Common.{NotesAs}
-use Rattle.bbm_place_map.proofs.Advancing.{by_entries, of_cell, advance_then}
+use Rattle.bbm_place_map.proofs.Common.{unwrap_or}
+use Rattle.bbm_place_map.proofs.Common.{slice_get-get_or, Cover, Noted, Broken, slot_in, entry_of, position}
+use Rattle.bbm_place_map.proofs.Common.{pends_in, pends_of, cover_in, is_found, FoundAs, KeepsUnfound, NotesAmong}
+use Rattle.bbm_place_map.proofs.Common.{NotesAt}
+use Rattle.bbm_place_map.proofs.Common.{index_of, at_index, state_from, entry_at, entry_in, entry_of_cell, cell_by}
+use Rattle.bbm_place_map.proofs.Common.{place_entry, Vec, Global}
+use Rattle.bbm_place_map.proofs.Common.{Entry, Pending, Found, Issuing, false≢true, marks_of, BrokenPlaces}
+use Rattle.bbm_place_map.proofs.Common.{EachAdvances, PlaceMap}
+use Rattle.bbm_place_map.proofs.Common.{Marks, none-some, same_Some}
+use Rattle.bbm_place_map.proofs.Advancing.{by_entries, column_kept, position_kept}
 use Rattle.bbm_place_map.proofs.Finding.{cover_is}
-use Rattle.bbm_place_map.proofs.Noting.{notes_over}
-use Rattle.bbm_place_map.proofs.Restless.{entry_there, place_is, place_of, place_seat}
-use Rattle.bbm_place_map.proofs.Seats.{the_cell, by_index}
+use Rattle.bbm_place_map.proofs.Common.{AreSeated}
+use Rattle.bbm_place_map.proofs.Positions.{seats_kept}
+use Rattle.bbm_place_map.proofs.Reaching.{at_each}
+use Rattle.bbm_place_map.proofs.Restless.{entry_here, entry_seat, entry_there, place_is, place_of}
+use Rattle.bbm_place_map.proofs.Seats.{the_cell}
 
 pub cover_read : (covers : List Cover) (i : ℕ) (x y : Cover) → i < length covers → x ≡ get_or covers i x → y ≡ x → slice_get covers i ≡ Some y
 cover_read covers i x y within is same = slice_get-get_or covers i x within ∙ ap (λ (c : Cover). Some c) (sym is ∙ sym same)
 
+-- the entries change each in its place
+module _ (R : ℕ → Entry → Entry → Type 0) (map : PlaceMap) (new : BrokenPlaces) (changed : EachAdvances R map.broken new) where
+  abbrev now : ℕ → Option Entry
+  now a = at_index None (entry_at new) (index_of (get nat_eq map.pages) a)
+
+  module _ (P : Option Entry → Option Entry → Type 0) (none : P None None)
+      (some : (m : ℕ) (e f : Entry) → slice_get map.broken.entries.list.items m ≡ Some e → position f ≡ position e → R m e f → P (Some e) (Some f)) where
+    by_number : (s : Option ℕ) → P (entry_of map.broken.entries.list.items s) (entry_of new.entries.list.items s)
+    by_number None = none
+    by_number (Some m) =
+        by_entries (R m) (λ o p. slice_get map.broken.entries.list.items m ≡ o → P o p) (λ _. none) (λ e f seated h is. some m e f is seated h)
+        (slice_get map.broken.entries.list.items m) (slice_get new.entries.list.items m) (changed.each m) refl
+
+    by_index : (j : ℕ) → P (entry_at map.broken j) (entry_at new j)
+    by_index j =
+        let Q : Vec ℕ Global → Type 0 = λ v. P (entry_at map.broken j) (at_index None (λ c. entry_in v.items new.entries.list.items c) (cell_by new.parts.items j)) in
+        let S : Vec ℕ Global → Type 0 = λ v. P (entry_at map.broken j)
+        (at_index None (λ c. entry_in map.broken.entries.cells.items new.entries.list.items c) (cell_by v.items j)) in
+        subst Q (sym changed.cells) (subst S (sym changed.parts)
+        (at_each P None (entry_of_cell map.broken.entries) (λ c. entry_in map.broken.entries.cells.items new.entries.list.items c) none
+        (λ c. by_number (slot_in map.broken.entries.cells.items c)) (cell_by map.broken.parts.items j)))
+
+    by_place : (a : ℕ) → P (place_entry map a) (now a)
+    by_place a = at_each P None (entry_at map.broken) (entry_at new) none by_index (index_of (get nat_eq map.pages) a)
+
+  pub marks_stay : ((m : ℕ) (e f : Entry) → R m e f → f.marks ≡ e.marks) → (a : ℕ) → marks_of (now a) ≡ marks_of (place_entry map a)
+  marks_stay same =
+      by_place (λ o p. marks_of p ≡ marks_of o) refl (λ m e f is seated h. ap (λ (x : Marks). Some x) (same m e f h))
+
+  pub pends_stay : (q : ℕ) → ((m : ℕ) (e f : Entry) → R m e f → pends_in f.pends.items q ≡ pends_in e.pends.items q) → (a : ℕ)
+      → pends_of q (now a) ≡ pends_of q (place_entry map a)
+  pends_stay q same = by_place (λ o p. pends_of q p ≡ pends_of q o) refl (λ m e f is seated h. same m e f h)
+
+  pub places_stay : (i : ℕ) → unwrap_or (option_map (λ (e : Entry). e.place) (slice_get new.entries.list.items i)) 0
+      ≡ unwrap_or (option_map (λ (e : Entry). e.place) (slice_get map.broken.entries.list.items i)) 0
+  places_stay i =
+      column_kept (λ o. unwrap_or (option_map (λ (e : Entry). e.place) o) 0) (R i) (λ e f seated h. ap (λ (p : ℕ × ℕ × ℕ). p.0) seated)
+      (slice_get map.broken.entries.list.items i) (slice_get new.entries.list.items i) (changed.each i)
+
+  pub seats_stay : AreSeated map.broken.entries.list.items new.entries.list.items
+  seats_stay =
+      seats_kept map.broken.entries.list.items new.entries.list.items
+      (λ m. position_kept (R m) (slice_get map.broken.entries.list.items m) (slice_get new.entries.list.items m) (changed.each m))
+
 -- at the place of an entry, by its number
-pub noted_by_number : (base : ℕ → Option ℕ) (cells : List ℕ) (entries mid new : List Entry) (covers : List Cover) (by : Issuing)
-    (linked : Linked cells entries) (placed : Placed base entries) → ((m : ℕ) → Advances Keeps (slice_get entries m) (slice_get mid m))
-    → ((m : ℕ) → Advances (NotesAt covers by m) (slice_get mid m) (slice_get new m)) → length covers ≡ length entries
-    → (i : ℕ) (c : Cover) → slice_get covers i ≡ Some c
-    → let o : Option ℕ = index_of base (place_of base cells entries linked placed i) in
-    Noted (state_from None (at_index None (marks_in cells entries) o)) (at_index no_pends (pends_for cells entries by.issuer) o)
-    by.reach by.broadcast c (at_index no_pends (pends_for cells new by.issuer) o)
-noted_by_number base cells entries mid new covers by linked placed kept noted len i c cover =
+pub noted_by_number : (map : PlaceMap) (new : BrokenPlaces) (covers : List Cover) (by : Issuing) → EachAdvances (NotesAt covers by) map.broken new
+    → length covers ≡ length map.broken.entries.list.items → (i : ℕ) (c : Cover) → slice_get covers i ≡ Some c
+    → Noted (state_from None (marks_of (place_entry map (place_of map i)))) (pends_of by.issuer (place_entry map (place_of map i)))
+    by.reach by.broadcast c (pends_of by.issuer (at_index None (entry_at new) (index_of (get nat_eq map.pages) (place_of map i))))
+noted_by_number map new covers by changed len i c cover =
     let within : i < length covers = slice_get_within covers i c cover in
-    let e = entry_there entries i (omega (arith, within, len)) in
-    let N : Option Entry → Option Entry → Type 0 = λ o p. Noted (state_from None (marks_of o)) (pends_of by.issuer o) by.reach by.broadcast c
-    (pends_of by.issuer p) in
-    let M : Option ℕ → Type 0 = λ o. Noted (state_from None (at_index None (marks_in cells entries) o))
-    (at_index no_pends (pends_for cells entries by.issuer) o) by.reach by.broadcast c (at_index no_pends (pends_for cells new by.issuer) o) in
-    subst M (sym (ap (index_of base) (place_is base cells entries linked placed i e.0 e.1) ∙ placed i e.0 e.1))
-    (subst (λ (s : Option ℕ). N (entry_of entries s) (entry_of new s)) (sym (linked.back e.0.cell i (ap (option_map the_cell) e.1)))
-    (by_entries (NotesAs c by) (λ o p. o ≡ Some e.0 → N o p) (λ h. cc) (λ x g seated h _. h.2) (slice_get entries i) (slice_get new i)
-    (advance_then Keeps (NotesAt covers by i) (NotesAs c by) (λ x f g seated h h'. notes_over c by x f g h (h'.2 c cover))
-    (slice_get entries i) (slice_get mid i) (slice_get new i) (kept i) (noted i)) e.1))
+    let e = entry_there map.broken.entries.list.items i (omega (arith, within, len)) in
+    let cell = λ (m : ℕ) (is : slice_get map.broken.entries.list.items m ≡ Some e.0).
+    map.broken.entries.linked.back e.0.cell m (ap (option_map the_cell) is) in
+    by_place (NotesAt covers by) map new changed
+    (λ o p. o ≡ Some e.0 → Noted (state_from None (marks_of o)) (pends_of by.issuer o) by.reach by.broadcast c (pends_of by.issuer p))
+    (λ h. absurd (none-some e.0 h))
+    (λ m x f is seated h same.
+    let here : m ≡ i = same_Some m i (sym (cell m (is ∙ same)) ∙ cell i e.1) in
+    (h.2 c (ap (slice_get covers) here ∙ cover)).2)
+    (place_of map i)
+    (ap (place_entry map) (place_is map i e.0 e.1) ∙ entry_here map i e.0 e.1)
 
 -- a TLBI that covers the places of a few items
-module _ (base : ℕ → Option ℕ) (cells : List ℕ) (entries mid new : List Entry) (found : List Found) (by : Issuing) (lists : List WorkList)
-    (linked : Linked cells entries) (placed : Placed base entries)
-    (kept : (m : ℕ) → Advances Keeps (slice_get entries m) (slice_get mid m))
-    (each : (m : ℕ) → Advances (NotesFound found by lists) (slice_get mid m) (slice_get new m))
-    (count : ℕ) (numbered : Numbered base count) where
-  abbrev Noting : Entry → Entry → Type 0
-  Noting e g = NotesAs (cover_in found e.place) by e g × (is_found found e.place ≡ false → g.pends.items ≡ e.pends.items)
+pub noted_found : (map : PlaceMap) (new : BrokenPlaces) (found : List Found) (by : Issuing) → EachAdvances (λ _. NotesAmong found by) map.broken new
+    → (f : ℕ → Cover) → FoundAs found f → (a : ℕ) → is_found found a ≡ true → is_some (marks_of (place_entry map a)) ≡ true
+    → Noted (state_from None (marks_of (place_entry map a))) (pends_of by.issuer (place_entry map a)) by.reach by.broadcast (f a)
+    (pends_of by.issuer (at_index None (entry_at new) (index_of (get nat_eq map.pages) a)))
+noted_found map new found by changed f fits a among =
+    by_place (λ _. NotesAmong found by) map new changed
+    (λ o p. ((e : Entry) → o ≡ Some e → e.place ≡ a) → is_some (marks_of o) ≡ true
+    → Noted (state_from None (marks_of o)) (pends_of by.issuer o) by.reach by.broadcast (f a) (pends_of by.issuer p))
+    (λ _ h. absurd (false≢true h))
+    (λ m e g is seated h place _. subst (λ (c : Cover). Noted (Broken e.marks) (pends_in e.pends.items by.issuer) by.reach by.broadcast c
+    (pends_in g.pends.items by.issuer)) (ap (cover_in found) (place e refl) ∙ cover_is f found fits a among) h.2)
+    a (λ e is. (entry_seat map a e is).2)
 
-  noting : (m : ℕ) → Advances Noting (slice_get entries m) (slice_get new m)
-  noting m =
-      advance_then Keeps (NotesFound found by lists) Noting
-      (λ e f g seated h h'. let place : f.place ≡ e.place = ap (λ (s : ℕ × ℕ). s.0) seated in (
-        notes_over (cover_in found e.place) by e f g h (subst (λ (x : ℕ). NotesAs (cover_in found x) by f g) place h'.0),
-        λ none. ap (λ (x : Entry). x.pends.items) (h'.1 (ap (is_found found) place ∙ none)) ∙ h.1,
-      ))
-      (slice_get entries m) (slice_get mid m) (slice_get new m) (kept m) (each m)
-
-  at_place : (P : Option Entry → Option Entry → Type 0) (a : ℕ) → P None None → ((e g : Entry) → e.place ≡ a → Noting e g → P (Some e) (Some g))
-      → (j : ℕ) → index_of base a ≡ Some j → P (entry_in cells entries j) (entry_in cells new j)
-  at_place P a none some j at =
-      by_entries Noting (λ o p. ((e : Entry) → o ≡ Some e → e.place ≡ a) → P o p) (λ _. none) (λ e g seated h place. some e g (place e refl) h)
-      (entry_in cells entries j) (entry_in cells new j) (of_cell Noting entries new noting (slot_in cells j))
-      (λ e is. (place_seat base cells entries linked placed count numbered a j at e is).3)
-
-  pub noted_found : (f : ℕ → Cover) → FoundAs found f → (a : ℕ) → is_found found a ≡ true
-      → is_some (at_index None (marks_in cells entries) (index_of base a)) ≡ true
-      → Noted (state_from None (at_index None (marks_in cells entries) (index_of base a)))
-      (at_index no_pends (pends_for cells entries by.issuer) (index_of base a)) by.reach by.broadcast (f a)
-      (at_index no_pends (pends_for cells new by.issuer) (index_of base a))
-  noted_found f fits a among =
-      by_index (λ o. is_some (at_index None (marks_in cells entries) o) ≡ true → Noted (state_from None (at_index None (marks_in cells entries) o))
-      (at_index no_pends (pends_for cells entries by.issuer) o) by.reach by.broadcast (f a) (at_index no_pends (pends_for cells new by.issuer) o))
-      (index_of base a) (λ h. absurd (false≢true h))
-      (at_place (λ o p. is_some (marks_of o) ≡ true → Noted (state_from None (marks_of o)) (pends_of by.issuer o) by.reach by.broadcast (f a)
-      (pends_of by.issuer p)) a (λ h. absurd (false≢true h))
-      (λ e g place h _. subst (λ (c : Cover). Noted (Broken e.marks) (pends_in e.pends.items by.issuer) by.reach by.broadcast c
-      (pends_in g.pends.items by.issuer)) (ap (cover_in found) place ∙ cover_is f found fits a among) h.0.2))
-
-  pub unnoted_found : (a : ℕ) → is_found found a ≡ false
-      → at_index no_pends (pends_for cells new by.issuer) (index_of base a) ≡ at_index no_pends (pends_for cells entries by.issuer) (index_of base a)
-  unnoted_found a none =
-      by_index (λ o. at_index no_pends (pends_for cells new by.issuer) o ≡ at_index no_pends (pends_for cells entries by.issuer) o)
-      (index_of base a) refl
-      (at_place (λ o p. pends_of by.issuer p ≡ pends_of by.issuer o) a refl
-      (λ e g place h. ap (λ (ps : List Pending). pends_in ps by.issuer) (h.1 (ap (is_found found) place ∙ none))))
+pub unnoted_found : (map : PlaceMap) (new : BrokenPlaces) (found : List Found) (issuer : ℕ)
+    → EachAdvances (λ _. KeepsUnfound found issuer) map.broken new → (a : ℕ) → is_found found a ≡ false
+    → pends_of issuer (at_index None (entry_at new) (index_of (get nat_eq map.pages) a)) ≡ pends_of issuer (place_entry map a)
+unnoted_found map new found issuer changed a none =
+    by_place (λ _. KeepsUnfound found issuer) map new changed
+    (λ o p. ((e : Entry) → o ≡ Some e → e.place ≡ a) → pends_of issuer p ≡ pends_of issuer o)
+    (λ _. refl)
+    (λ m e g is seated h place. ap (λ (ps : List Pending). pends_in ps issuer) (h.1 (ap (is_found found) (place e refl) ∙ none)))
+    a (λ e is. (entry_seat map a e is).2)

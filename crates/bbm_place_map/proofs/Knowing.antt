@@ -1,6 +1,6 @@
 -- What the lists of work tell of each cell.
 use Rattle.bbm_place_map.proofs.Common.{◌≡◌, ℕ, ◌<◌, ◌⊎◌, true, false, nat_eq, zero, suc, List, [], ◌∷◌, length, get_or}
-use Rattle.bbm_place_map.proofs.Common.{Option, Some, None, Contains, refl, ap, sym, subst, ◌∙◌, arith, inl, inr, Bool}
+use Rattle.bbm_place_map.proofs.Common.{Option, Some, None, Contains, refl, sym, subst, ◌∙◌, arith, inl, inr, Bool}
 use Rattle.bbm_place_map.proofs.Common.{slice_get, cases_Bool, eq-eqb, eqb-true, false≢true, or_left, or_right}
 use Rattle.bbm_place_map.proofs.Common.{same_Some, none-some, IfSome, Marks, PeMask, entry_in, marks_of, pends_of}
 use Rattle.bbm_place_map.proofs.Common.{no_pends, Linked, Holds, HoldsFor, IsQuiet, IsTold, Rests, part, Entry}

@@ -3,7 +3,7 @@ use Rattle.bbm_place_map.proofs.Common.{◌≡◌, ℕ, ◌+◌, ◌-◌, ◌<�
 use Rattle.bbm_place_map.proofs.Common.{is_some, refl, ap, sym, ◌∙◌, arith, inl, inr, if◌then◌else◌, slice_get, get_or}
 use Rattle.bbm_place_map.proofs.Common.{count_by, swap_remove, option_map, cases_eq, cases_lt, eq-eqb, ne_eqb}
 use Rattle.bbm_place_map.proofs.Common.{cond-true, cond-false, slice_get_read, slice_get_past, none-some, same_Some}
-use Rattle.bbm_place_map.proofs.Common.{slot_in, is_listed, cell_at, entry_in, Linked, Placed, Entry, ◌≢◌, lt-leb}
+use Rattle.bbm_place_map.proofs.Common.{slot_in, is_listed, cell_at, entry_in, Linked, AreSeated, Entry, ◌≢◌, lt-leb}
 use Rattle.bbm_place_map.proofs.Common.{length-set, entry_of, put_here, put_away, split_at, if_then}
 use Rattle.bbm_place_map.proofs.Lists.{swap_get}
 use Rattle.bbm_place_map.proofs.Edits.{slot_within, one_if}
@@ -53,7 +53,7 @@ pub record Left (cells cells' : List ℕ) (entries entries' : List Entry) (j k :
   pub linked : Linked cells' entries'
   pub kept : (i : ℕ) → entry_in cells' entries' i ≡ (if nat_eq i j then None else entry_in cells entries i)
   pub front : (m : ℕ) → m < k → slice_get entries' m ≡ slice_get entries m
-  pub placed : (base : ℕ → Option ℕ) → Placed base entries → Placed base entries'
+  pub seats : AreSeated entries entries'
 
 module _ (cells mid cells' : List ℕ) (entries entries' : List Entry) (k n : ℕ) (x y r : Entry)
     (linked : Linked cells entries) (within : k < length entries) (number : n ≡ length entries)
@@ -177,5 +177,5 @@ module _ (cells mid cells' : List ℕ) (entries entries' : List Entry) (k n : �
     };
     kept = entries_less;
     front = λ m below. stays m (λ same. absurd (omega arith)) (λ same. absurd (omega arith));
-    placed = λ base placed m e h. let old = among m e h in placed old.0 e old.1;
+    seats = λ m e h. let old = among m e h in (old.0, e, old.1, refl);
   }

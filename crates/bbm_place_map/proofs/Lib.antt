@@ -11,11 +11,12 @@ pub mod Pages
 pub mod Places
 pub mod Growing
 pub mod Filling
-pub mod Parts
+pub mod Reaching
+pub mod Held
+pub mod Idle
 pub mod Clearing
 pub mod Tracking
 pub mod Blank
-pub mod Idle
 pub mod Restless
 pub mod Pendings
 pub mod Holding
@@ -34,6 +35,6 @@ pub mod Completed
 pub mod Noting
 pub mod Finding
 pub mod Visiting
-pub mod Numbers
 pub mod Wholes
+pub mod Keeping
 pub mod Issued

@@ -3,7 +3,7 @@ use Rattle.bbm_place_map.proofs.Common.{◌≡◌, ℕ, ◌+◌, ◌<◌, nat_eq
 use Rattle.bbm_place_map.proofs.Common.{ap, sym, ◌∙◌, arith, inl, inr, if◌then◌else◌, slice_get, count_by, is_some}
 use Rattle.bbm_place_map.proofs.Common.{option_map, cases_eq, cases_lt, slice_get_past, same_Some, none-some, slot_in}
 use Rattle.bbm_place_map.proofs.Common.{is_listed, cell_at, entry_of, entry_in, marks_of, pends_of, pends_in, Linked}
-use Rattle.bbm_place_map.proofs.Common.{Placed, index_of, Entry, put_here, put_away, split_at}
+use Rattle.bbm_place_map.proofs.Common.{WasSeated, position, ◌⊎◌, Entry, put_here, put_away, split_at}
 use Rattle.std.proofs.Common.{length-append}
 use Rattle.bbm_place_map.proofs.Lists.{push_get}
 use Rattle.bbm_place_map.proofs.Edits.{one_if}
@@ -80,11 +80,9 @@ module _ (cells cells' : List ℕ) (entries : List Entry) (e : Entry) (j n : ℕ
       split_at i j (λ same. ap (entry_of (entries ++ e ∷ [])) (put_here _ _ slots i same) ∙ put_here _ _ gets n refl)
       (λ other. ap (entry_of (entries ++ e ∷ [])) (put_away _ _ slots i other) ∙ old_same i (slot_in cells i) refl)
 
-  pub placed_more : (base : ℕ → Option ℕ) → index_of base e.place ≡ Some j → Placed base entries → Placed base (entries ++ e ∷ [])
-  placed_more base here placed k x h =
+  pub seats_more : (k : ℕ) (x : Entry) → slice_get (entries ++ e ∷ []) k ≡ Some x → WasSeated entries x ⊎ (position x ≡ position e)
+  seats_more k x h =
       elim (cases_eq k n) [
-        | inl same ↦
-            let is : x ≡ e = same_Some x e (sym h ∙ put_here _ _ gets k same) in
-            ap (λ (y : Entry). index_of base y.place) is ∙ here ∙ ap (λ (m : ℕ). Some m) (sym (ap the_cell is ∙ at))
-        | inr other ↦ placed k x (sym (put_away _ _ gets k other) ∙ h)
+        | inl same ↦ inr (ap position (same_Some x e (sym h ∙ put_here _ _ gets k same)))
+        | inr other ↦ inl (k, x, sym (put_away _ _ gets k other) ∙ h, refl)
       ]

@@ -5,7 +5,9 @@ use Rattle.bbm_place_map.proofs.Common.{cases_eq, ne_eqb, same_Some, none-some, 
 use Rattle.bbm_place_map.proofs.Common.{Pends, slot_in, Advances, Publishes, Completes, entry_of, entry_in, marks_of}
 use Rattle.bbm_place_map.proofs.Common.{pends_of, pends_in, Keeps, marks_in, pends_for, Linked, HoldsFor, IsQuiet}
 use Rattle.bbm_place_map.proofs.Common.{IsTold, Waits, is_clean, Entry, Barrier, Issuing, Pending, WorkList, Vec}
-use Rattle.bbm_place_map.proofs.Common.{Global, PeMask, Publish, Complete, Rests, waits, pe_in, Work, nil_from_length, put_here, put_away, either}
+use Rattle.bbm_place_map.proofs.Common.{Global, PeMask, Publish, Complete, Rests, waits, pe_in, Work, nil_from_length}
+use Rattle.bbm_place_map.proofs.Common.{put_here, put_away, either}
+use Rattle.bbm_place_map.proofs.Common.{ClearsCells, Entries, KeepsOthers, entry_of_cell}
 use Rattle.bbm_place_map.specs.Works.{IsToldAsBefore, GivesUp, Listed}
 use Rattle.bbm_place_map.proofs.Advancing.{of_cell, by_entries, column_kept}
 use Rattle.bbm_place_map.proofs.Idle.{idle_from, quiet_from, none_kept}
@@ -248,18 +250,15 @@ listed_roomed cells entries mid kept w listed =
     (λ wide q j. inr (subst (λ (x : Pends). IsQuiet wide x)
     (sym (cell_kept (pends_of q) Keeps (λ e f h. ap (λ (ps : List Pending). pends_in ps q) h.1) cells entries mid kept j)))) listed
 
-abbrev pub NotesAll : ℕ → Entry → Entry → Type 0
-NotesAll issuer e f = (f.marks ≡ e.marks) × ((q : ℕ) → q ≢ issuer → pends_in f.pends.items q ≡ pends_in e.pends.items q)
-
 -- a TLBI is noted
 pub listed_noted : (cells : List ℕ) (mid new : List Entry) (by : Issuing) (w : Work) (lists : Vec WorkList Global)
-    → Linked cells mid → ((k : ℕ) → Advances (NotesAll by.issuer) (slice_get mid k) (slice_get new k))
+    → Linked cells mid → ((k : ℕ) → Advances (KeepsOthers by.issuer) (slice_get mid k) (slice_get new k))
     → ((k : ℕ) → Advances (Waits lists.items by.issuer) (slice_get mid k) (slice_get new k))
     → ((wide : Bool) (q j : ℕ) → HoldsFor w.waiting.items q wide j → HoldsFor lists.items q wide j)
     → Listed w cells mid → Listed (record w { waiting = lists }) cells new
 listed_noted cells mid new by w lists linked noted waits grown listed =
     listed_changed w lists cells mid new grown
-    (cell_kept marks_of (NotesAll by.issuer) (λ e f h. ap (λ (m : Marks). Some m) h.0) cells mid new noted)
+    (cell_kept marks_of (KeepsOthers by.issuer) (λ e f h. ap (λ (m : Marks). Some m) h.0) cells mid new noted)
     (λ wide q j.
     elim (cases_eq q by.issuer) [
       | inl same ↦
@@ -273,7 +272,7 @@ listed_noted cells mid new by w lists linked noted waits grown listed =
           (entry_in cells mid j) (entry_in cells new j) (of_cell (Waits lists.items by.issuer) mid new waits (slot_in cells j))
           (λ e is. (seat_of linked j e is).3))
       | inr other ↦
-          inr (subst (λ (x : Pends). IsQuiet wide x) (sym (cell_kept (pends_of q) (NotesAll by.issuer) (λ e f h. h.1 q other) cells mid new noted j)))
+          inr (subst (λ (x : Pends). IsQuiet wide x) (sym (cell_kept (pends_of q) (KeepsOthers by.issuer) (λ e f h. h.1 q other) cells mid new noted j)))
     ])
     listed
 
@@ -281,3 +280,11 @@ listed_noted cells mid new by w lists linked noted waits grown listed =
 pub gone_or_same : (gone : Bool) (o p : Option Entry) → p ≡ (if gone then None else o) → (p ≡ None) ⊎ (p ≡ o)
 gone_or_same true o p is = inl is
 gone_or_same false o p is = inr is
+
+-- some cells were cleared
+pub listed_cleared : (these : ℕ → Bool) (old new : Entries) (w : Work) → ClearsCells these old new → Listed w old.cells.items old.list.items
+    → Listed w new.cells.items new.list.items
+listed_cleared these old new w e =
+    listed_fewer w w.unpublished w.waiting old.cells.items new.cells.items old.list.items new.list.items
+    (λ wide q j holds. holds) (λ wide q j holds. holds)
+    (λ j. gone_or_same (these j) (entry_of_cell old j) (entry_of_cell new j) (e.entries j))

@@ -13,6 +13,9 @@ before b n j low = and_left (nat_le b j) (nat_lt j (b + n)) (lt-leb b j low)
 pub behind : (b n j : ℕ) → b + n ≤ j → in_page b n j ≡ false
 behind b n j high = and_right (nat_le b j) (nat_lt j (b + n)) (le-ltb j (b + n) high)
 
+pub none_inside : (b j : ℕ) → in_page b 0 j ≡ false
+none_inside b j = elim (cases_lt j b) [ inl low ↦ before b 0 j low | inr past ↦ behind b 0 j (omega arith) ]
+
 page_more : (b n j : ℕ) → j ≢ b + n → in_page b (n + 1) j ≡ in_page b n j
 page_more b n j other =
     elim (cases_lt j b) [

@@ -2,27 +2,28 @@
 use Rattle.bbm_place_map.proofs.Common.{◌≡◌, ◌≢◌, ℕ, nat_eq, List, length, Option, Some, None, refl, ap, sym, ◌∙◌, inl}
 use Rattle.bbm_place_map.proofs.Common.{inr, if◌then◌else◌, slice_get, Vec, Global, option_map, cases_eq, same_Some}
 use Rattle.bbm_place_map.proofs.Common.{none-some, slot_in, position, position_at, cell_at, entry_of, entry_in, Linked}
-use Rattle.bbm_place_map.proofs.Common.{Placed, StillSound, index_of, Entry, SameSize, put_here, put_away, split_at}
+use Rattle.bbm_place_map.proofs.Common.{AreSeated, KeepsRoom, StillSound, Entries, Entry, SameSize, put_here, subst}
+use Rattle.bbm_place_map.proofs.Common.{put_away, split_at, vec_len, vec_capacity, ◌<◌}
+use Rattle.bbm_place_map.proofs.Common.{get_or, set, length-set, marks_in, marks_of}
+use Rattle.bbm_place_map.proofs.Leaving.{entry_read}
+use Rattle.bbm_place_map.proofs.Lists.{set_get}
 
-position_cell : (o : Option Entry) → option_map (λ (e : Entry). e.cell) o ≡ option_map (λ (p : ℕ × ℕ). p.1) (option_map position o)
+position_cell : (o : Option Entry) → option_map (λ (e : Entry). e.cell) o ≡ option_map (λ (p : ℕ × ℕ × ℕ). p.2) (option_map position o)
 position_cell None = refl
 position_cell (Some e) = refl
 
-pub position_place : (o : Option Entry) → option_map (λ (e : Entry). e.place) o ≡ option_map (λ (p : ℕ × ℕ). p.0) (option_map position o)
+pub position_place : (o : Option Entry) → option_map (λ (e : Entry). e.place) o ≡ option_map (λ (p : ℕ × ℕ × ℕ). p.0) (option_map position o)
 position_place None = refl
 position_place (Some e) = refl
 
-position_of : (o : Option Entry) (e : Entry) → option_map position o ≡ Some (position e)
-    → (f : Entry) × (o ≡ Some f) × (f.place ≡ e.place) × (f.cell ≡ e.cell)
+pub position_of : (o : Option Entry) (e : Entry) → option_map position o ≡ Some (position e) → (f : Entry) × (o ≡ Some f) × (position e ≡ position f)
 position_of None e h = cc
-position_of (Some f) e h =
-    let same : position f ≡ position e = same_Some (position f) (position e) h in
-    (f, refl, ap (λ (p : ℕ × ℕ). p.0) same, ap (λ (p : ℕ × ℕ). p.1) same)
+position_of (Some f) e h = (f, refl, sym (same_Some (position f) (position e) h))
 
 module _ (entries entries' : List Entry) (positions : (m : ℕ) → position_at entries' m ≡ position_at entries m) where
   pub cells_same : (m : ℕ) → cell_at entries' m ≡ cell_at entries m
   cells_same m =
-      position_cell (slice_get entries' m) ∙ ap (option_map (λ (p : ℕ × ℕ). p.1)) (positions m) ∙ sym (position_cell (slice_get entries m))
+      position_cell (slice_get entries' m) ∙ ap (option_map (λ (p : ℕ × ℕ × ℕ). p.2)) (positions m) ∙ sym (position_cell (slice_get entries m))
 
   pub linked_seated : (cells : List ℕ) → length entries' ≡ length entries → Linked cells entries → Linked cells entries'
   linked_seated cells len linked = record {
@@ -31,10 +32,9 @@ module _ (entries entries' : List Entry) (positions : (m : ℕ) → position_at 
     count = linked.count ∙ sym len;
   }
 
-  pub placed_seated : (base : ℕ → Option ℕ) → Placed base entries → Placed base entries'
-  placed_seated base placed k e h =
-      let old = position_of (slice_get entries k) e (sym (positions k) ∙ ap (option_map position) h) in
-      ap (index_of base) (sym old.2) ∙ placed k old.0 old.1 ∙ ap (λ (n : ℕ). Some n) old.3
+  pub seats_kept : AreSeated entries entries'
+  seats_kept k e h =
+      let old = position_of (slice_get entries k) e (sym (positions k) ∙ ap (option_map position) h) in (k, old.0, old.1, old.2)
 
 -- one entry changes
 module _ (cells : List ℕ) (entries entries' : List Entry) (e e' : Entry) (j k : ℕ) (linked : Linked cells entries)
@@ -44,7 +44,7 @@ module _ (cells : List ℕ) (entries entries' : List Entry) (e e' : Entry) (j k 
   positions_changed m =
       elim (cases_eq m k) [
         | inl same ↦
-            ap (option_map position) (put_here _ _ gets m same) ∙ ap (λ (p : ℕ × ℕ). Some p) seated
+            ap (option_map position) (put_here _ _ gets m same) ∙ ap (λ (p : ℕ × ℕ × ℕ). Some p) seated
             ∙ sym (ap (option_map position) (ap (slice_get entries) same ∙ was))
         | inr other ↦ ap (option_map position) (put_away _ _ gets m other)
       ]
@@ -67,26 +67,56 @@ found_in (Some e) j h = (e, refl)
 pub found : (entries : List Entry) (k j : ℕ) → cell_at entries k ≡ Some j → (e : Entry) × (slice_get entries k ≡ Some e)
 found entries k j h = found_in (slice_get entries k) j h
 
--- cells and entries that stay as they are, and one edit after another
-pub still_same : (cells : Vec ℕ Global) (entries : Vec Entry Global) → Linked cells.items entries.items → StillSound cells cells entries entries
-still_same cells entries linked = record { linked = linked; len = refl; space = refl; room = refl; placed = λ base placed. placed }
+-- a cell has no entry where its place isn't broken
+module _ (cells : List ℕ) (entries : List Entry) (linked : Linked cells entries) where
+  unlisted : (j : ℕ) (o : Option ℕ) → slot_in cells j ≡ o → marks_of (entry_of entries o) ≡ None → o ≡ None
+  unlisted j None is h = refl
+  unlisted j (Some k) is h =
+      let e = found entries k j (linked.forth j k is) in
+      absurd (none-some e.0.marks (sym h ∙ ap marks_of e.1))
 
-pub still_seated : (cells : Vec ℕ Global) (old new : Vec Entry Global) → ((m : ℕ) → position_at new.items m ≡ position_at old.items m)
-    → SameSize old new → Linked cells.items old.items → StillSound cells cells old new
-still_seated cells old new positions size linked = record {
-  linked = linked_seated old.items new.items positions cells.items size.len linked;
-  len = refl;
-  space = refl;
-  room = size.room;
-  placed = placed_seated old.items new.items positions;
+  pub free_cell : (j : ℕ) → marks_in cells entries j ≡ None → slot_in cells j ≡ None
+  free_cell j none = unlisted j (slot_in cells j) refl none
+
+-- an entry is put in the place of one of its cell
+pub linked_set : (cells : List ℕ) (entries : List Entry) (k : ℕ) (x f : Entry) → Linked cells entries → k < length entries
+    → x ≡ get_or entries k x → position f ≡ position x → Linked cells (set entries k f)
+linked_set cells entries k x f linked within is same =
+    let was = entry_read entries k x within is in
+    linked_seated entries (set entries k f)
+    (positions_changed cells entries (set entries k f) x f x.cell k linked (linked.back x.cell k (ap (option_map (λ (e : Entry). e.cell)) was)) was same
+    (λ i. set_get entries k f i within)) cells (length-set entries k f) linked
+
+-- as much room, and entries where they were
+pub room_same : (old : Entries) → KeepsRoom old old
+room_same old = record { len = refl; space = refl; room = refl }
+
+pub seats_same : (entries : List Entry) → AreSeated entries entries
+seats_same entries k e h = (k, e, h, refl)
+
+pub seats_then : (old mid new : List Entry) → AreSeated old mid → AreSeated mid new → AreSeated old new
+seats_then old mid new a b k e h =
+    let w = b k e h in
+    let v = a w.0 w.1 w.2 in
+    (v.0, v.1, v.2, w.3 ∙ v.3)
+
+-- what holds of each place with its numbers goes on to hold
+pub seats_by : (P : ℕ × ℕ × ℕ → Type 0) (old new : List Entry) → AreSeated old new
+    → ((k : ℕ) (e : Entry) → slice_get old k ≡ Some e → P (position e)) → (k : ℕ) (e : Entry) → slice_get new k ≡ Some e → P (position e)
+seats_by P old new seats holds k e h = let w = seats k e h in subst P (sym w.3) (holds w.0 w.1 w.2)
+
+pub still_same : (old : Entries) → StillSound old old
+still_same old = record { room = room_same old; seats = seats_same old.list.items }
+
+pub still_more : {old mid new : Entries} → StillSound old mid → StillSound mid new → StillSound old new
+still_more {old} {mid} {new} a b = record {
+  room = record { len = b.room.len ∙ a.room.len; space = b.room.space ∙ a.room.space; room = b.room.room ∙ a.room.room };
+  seats = seats_then old.list.items mid.list.items new.list.items a.seats b.seats;
 }
 
-pub still_more : {cells cells' cells'' : Vec ℕ Global} {old mid new : Vec Entry Global} → StillSound cells cells' old mid
-    → StillSound cells' cells'' mid new → StillSound cells cells'' old new
-still_more a b = record {
-  linked = b.linked;
-  len = b.len ∙ a.len;
-  space = b.space ∙ a.space;
-  room = b.room ∙ a.room;
-  placed = λ base placed. b.placed base (a.placed base placed);
+pub still_seated : (old new : Entries) → new.cells ≡ old.cells → ((m : ℕ) → position_at new.list.items m ≡ position_at old.list.items m)
+    → SameSize old.list new.list → StillSound old new
+still_seated old new same positions size = record {
+  room = record { len = ap (λ (v : Vec ℕ Global). vec_len v) same; space = ap (λ (v : Vec ℕ Global). vec_capacity v) same; room = size.room };
+  seats = seats_kept old.list.items new.list.items positions;
 }

@@ -3,10 +3,11 @@ use Rattle.bbm_place_map.proofs.Common.{Bool, Contains, List, None, Option, Some
 use Rattle.bbm_place_map.proofs.Common.{nat_lt, refl, slice_get, slice_index, subst, sym, true, ℕ, ◌+◌, ◌<◌, ◌∙◌, ◌≡◌}
 use Rattle.bbm_place_map.proofs.Common.{◌≢◌, ◌≤◌, ◌⊎◌, cases_eq, false≢true, lt-ltb, ltb-true, get_or_default}
 use Rattle.bbm_place_map.proofs.Common.{same_Some, slice_get_within, option_map, slot_in, Does, MayDo, loses_table}
-use Rattle.bbm_place_map.proofs.Common.{cell_at, entry_in, entry_of, marks_in, marks_of, Linked, Entry, Barrier, Effect}
+use Rattle.bbm_place_map.proofs.Common.{cell_at, entry_in, entry_of, marks_of, Linked, Entries, Entry, Barrier, Effect}
 use Rattle.bbm_place_map.proofs.Common.{Complete, Global, Publish, SameSize, Vec, and-false, if◌then◌else◌, nat_eq}
 use Rattle.bbm_place_map.proofs.Common.{position, position_at, put_away, put_here}
 use Rattle.bbm_place_map.specs.Dsbs.{KeepsSeats, Visited, VisitsAt}
+use Rattle.bbm_place_map.proofs.Common.{entry_of_cell}
 use Rattle.bbm_place_map.specs.Each.{has_table}
 use Rattle.bbm_place_map.proofs.Positions.{entries_changed, positions_changed, still_more, still_same, still_seated}
 use Rattle.bbm_place_map.proofs.Seats.{by_entry, seat_of, the_cell}
@@ -14,54 +15,53 @@ use Rattle.bbm_place_map.proofs.Resting.{stays_kept}
 use Rattle.bbm_place_map.proofs.Doing.{does_again, does_at, does_none, lost_here, lost_stays, none_lost}
 use Rattle.std.proofs.lemmas.Bool.{false_from_ne_true}
 
-seats_by : (effect : Effect) (old new : Vec Entry Global) → length new.items ≡ length old.items
-    → ((m : ℕ) → position_at new.items m ≡ position_at old.items m) → KeepsSeats effect old new
+pub seats_by : (effect : Effect) (old new : List Entry) → length new ≡ length old → ((m : ℕ) → position_at new m ≡ position_at old m)
+    → KeepsSeats effect old new
 seats_by (Publish heard) old new len positions = (len, positions)
 seats_by Complete old new len positions = tt
 
-seats_then : (effect : Effect) (old mid new : Vec Entry Global) → KeepsSeats effect old mid → KeepsSeats effect mid new → KeepsSeats effect old new
+seats_then : (effect : Effect) (old mid new : List Entry) → KeepsSeats effect old mid → KeepsSeats effect mid new → KeepsSeats effect old new
 seats_then (Publish heard) old mid new a b = (b.0 ∙ a.0, λ m. b.1 m ∙ a.1 m)
 seats_then Complete old mid new a b = tt
 
 -- no visit, and one after another
-pub no_visit : (effect : Effect) (cells : Vec ℕ Global) (entries : Vec Entry Global) → Linked cells.items entries.items
-    → Visited effect cells cells entries entries
-no_visit effect cells entries linked = record {
-  sound = still_same cells entries linked;
-  seats = seats_by effect entries entries refl (λ m. refl);
+pub no_visit : (effect : Effect) (entries : Entries) → Visited effect entries entries
+no_visit effect entries = record {
+  sound = still_same entries;
+  seats = seats_by effect entries.list.items entries.list.items refl (λ m. refl);
 }
 
-pub visit_then : {effect : Effect} {cells cells' cells'' : Vec ℕ Global} {old mid new : Vec Entry Global} → Visited effect cells cells' old mid
-    → Visited effect cells' cells'' mid new → Visited effect cells cells'' old new
-visit_then {effect} {cells} {cells'} {cells''} {old} {mid} {new} a b = record {
+pub visit_then : {effect : Effect} {old mid new : Entries} → Visited effect old mid → Visited effect mid new → Visited effect old new
+visit_then {effect} {old} {mid} {new} a b = record {
   sound = still_more a.sound b.sound;
-  seats = seats_then effect old mid new a.seats b.seats;
+  seats = seats_then effect old.list.items mid.list.items new.list.items a.seats b.seats;
 }
 
 -- an entry changed, and stays
-pub visit_stays : (effect : Effect) (by : Barrier) (cells : Vec ℕ Global) (old new : Vec Entry Global) (k : ℕ) (e f : Entry)
-    → Linked cells.items old.items → slice_get old.items k ≡ Some e → position f ≡ position e
-    → ((i : ℕ) → slice_get new.items i ≡ (if nat_eq i k then Some f else slice_get old.items i)) → SameSize old new
-    → Does effect by (Some e) (Some f) → VisitsAt effect by k cells cells old new false
-visit_stays effect by cells old new k e f linked was seated gets size does =
-    let at = linked.back e.cell k (ap (option_map the_cell) was) in
-    let positions = positions_changed cells.items old.items new.items e f e.cell k linked at was seated gets in
-    let is = entries_changed cells.items old.items new.items e f e.cell k linked at was seated gets in
-    let same = λ (j : ℕ) (there : cell_at old.items k ≡ Some j). same_Some j e.cell (sym there ∙ ap (option_map the_cell) was) in
-    let now = λ (j : ℕ) (there : cell_at old.items k ≡ Some j). put_here _ _ is j (same j there) in
+pub visit_stays : (effect : Effect) (by : Barrier) (old new : Entries) (k : ℕ) (e f : Entry) → new.cells ≡ old.cells
+    → slice_get old.list.items k ≡ Some e → position f ≡ position e
+    → ((i : ℕ) → slice_get new.list.items i ≡ (if nat_eq i k then Some f else slice_get old.list.items i)) → SameSize old.list new.list
+    → Does effect by (Some e) (Some f) → VisitsAt effect by k old new false
+visit_stays effect by old new k e f same was seated gets size does =
+    let at = old.linked.back e.cell k (ap (option_map the_cell) was) in
+    let positions = positions_changed old.cells.items old.list.items new.list.items e f e.cell k old.linked at was seated gets in
+    let is = λ (i : ℕ). ap (λ (v : Vec ℕ Global). entry_in v.items new.list.items i) same
+    ∙ entries_changed old.cells.items old.list.items new.list.items e f e.cell k old.linked at was seated gets i in
+    let here = λ (j : ℕ) (there : cell_at old.list.items k ≡ Some j). same_Some j e.cell (sym there ∙ ap (option_map the_cell) was) in
+    let now = λ (j : ℕ) (there : cell_at old.list.items k ≡ Some j). put_here _ _ is j (here j there) in
     record {
       visited = record {
-        sound = still_seated cells old new positions size linked;
-        seats = seats_by effect old new size.len positions;
+        sound = still_seated old new same positions size;
+        seats = seats_by effect old.list.items new.list.items size.len positions;
       };
       short = omega (arith, size.len);
       here = λ j there.
-          does_at effect by (entry_in cells.items old.items j) (Some e) (entry_in cells.items new.items j) (Some f)
-          (ap (entry_of old.items) (linked.back j k there) ∙ was) (now j there) does;
+          does_at effect by (entry_of_cell old j) (Some e) (entry_of_cell new j) (Some f)
+          (ap (entry_of old.list.items) (old.linked.back j k there) ∙ was) (now j there) does;
       answer = λ j there.
-          sym (ap (λ (o : Option Entry). loses_table (marks_in cells.items old.items j) (marks_of o)) (now j there)
-          ∙ and-false (has_table (marks_in cells.items old.items j)));
-      others = λ i j there other. put_away _ _ is i (λ is'. other (is' ∙ sym (same j there)));
+          sym (ap (λ (o : Option Entry). loses_table (marks_of (entry_of_cell old j)) (marks_of o)) (now j there)
+          ∙ and-false (has_table (marks_of (entry_of_cell old j))));
+      others = λ i j there other. put_away _ _ is i (λ is'. other (is' ∙ sym (here j there)));
       front = λ m below. put_away _ _ gets m (λ is'. absurd (omega arith));
     }
 

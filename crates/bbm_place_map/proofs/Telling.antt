@@ -3,7 +3,7 @@ use Rattle.bbm_place_map.proofs.Common.{◌≡◌, ℕ, ◌<◌, ◌⊎◌, Bool
 use Rattle.bbm_place_map.proofs.Common.{refl, arith, ap, sym, ◌∙◌, inl, inr, ltb-true, lt-ltb, eqb-true}
 use Rattle.bbm_place_map.proofs.Common.{eq-eqb, and_from, false≢true, or_left, or_right, proved, If, Is, Dsb}
 use Rattle.bbm_place_map.proofs.Common.{All, Stores, publishes, Marks, IsHeard, Publishes, IsTold}
-use Rattle.bbm_place_map.proofs.Common.{Entry, Barrier, Published, EntryState, Broken, pe_in}
+use Rattle.bbm_place_map.proofs.Common.{Entry, Barrier, Published, EntryState, pe_in}
 use Rattle.bbm_entry_state.specs.Points.{writer_at, seen_at}
 use Rattle.bbm_barriers.specs.declared.Domain.{Domain}
 use Rattle.bbm_barriers.specs.declared.Domain.TheVariants.{Non}

@@ -16,7 +16,7 @@ module _ (xs : List Found) (x : Found) (by : Issuing) (lists lists' : List WorkL
   pub note_step : is_found xs x.place ≡ false → (e f g : Entry) → position f ≡ position e → NotesFound xs by lists e f
       → NotesOne x.place x.cover by lists' f g → NotesFound (xs ++ x ∷ []) by lists' e g
   note_step fresh e f g seated before now =
-      let place : f.place ≡ e.place = ap (λ (s : ℕ × ℕ). s.0) seated in
+      let place : f.place ≡ e.place = ap (λ (s : ℕ × ℕ × ℕ). s.0) seated in
       elim (cases_Bool (nat_eq x.place e.place)) [
         | inl is ↦
             let here : x.place ≡ e.place = eqb-true x.place e.place is in
@@ -61,4 +61,4 @@ pub unfound_kept : (xs : List Found) (by : Issuing) (lists : List WorkList) (o :
     → Advances (NotesFound xs by lists) o (Some e) → is_found xs e.place ≡ false → o ≡ Some e
 unfound_kept xs by lists None e h none = absurd h
 unfound_kept xs by lists (Some e') e h none =
-    ap (λ (y : Entry). Some y) (sym (h.1.1 (ap (λ (s : ℕ × ℕ). is_found xs s.0) (sym h.0) ∙ none)))
+    ap (λ (y : Entry). Some y) (sym (h.1.1 (ap (λ (s : ℕ × ℕ × ℕ). is_found xs s.0) (sym h.0) ∙ none)))

@@ -1,8 +1,8 @@
 -- What a write leaves, by the calls that it makes.
-use Rattle.bbm_place_map.proofs.Common.{◌≡◌, ℕ, nat_eq, Option, Some, refl, ap, sym, ◌∙◌, subst, if◌then◌else◌, Core}
-use Rattle.bbm_place_map.proofs.Common.{Written, IsIdle, IsSame, Marks, Pends, EntryState, Live, marks_of_state}
-use Rattle.bbm_place_map.proofs.Common.{PlaceMap, Leaves}
-use Rattle.bbm_place_map.specs.MapCalls.{WritesAs, KeepsValues, Puts}
+use Rattle.bbm_place_map.proofs.Common.{◌≡◌, ℕ, nat_eq, Option, Some, refl, ap, ◌∙◌, subst, if◌then◌else◌, Core}
+use Rattle.bbm_place_map.proofs.Common.{Written, Marks, EntryState, Live, marks_of_state}
+use Rattle.bbm_place_map.proofs.Common.{PlaceMap}
+use Rattle.bbm_place_map.specs.MapCalls.{WritesAs}
 use Rattle.bbm_place_map.specs.Map.{is_tracked, marks_at, pends_at, value_at}
 
 -- a valid value makes it live
@@ -14,25 +14,6 @@ made old pe core = record {
   seen = λ p. refl;
   half = λ p. refl;
   clean = λ p. refl;
-}
-
--- what a call leaves that comes between two that change neither marks nor what waits
-pub left_between : (state : EntryState) (place : ℕ) (old mid mid' new : PlaceMap) → IsSame old mid → Leaves state place mid mid'
-    → ((a : ℕ) → marks_at new a ≡ marks_at mid' a) → ((q a : ℕ) → pends_at new q a ≡ pends_at mid' q a)
-    → Leaves state place old new
-left_between state place old mid mid' new same left marks pends = record {
-  marks = λ a.
-      marks a ∙ left.marks a ∙ ap (λ (m : Option Marks). if nat_eq a place then marks_of_state state else m) (same.marks a);
-  pends = λ q a stays. pends q a ∙ left.pends q a stays ∙ same.pends q a;
-  dropped = λ q whole. subst (λ (x : Pends). IsIdle x) (sym (pends q place)) (left.dropped q whole);
-}
-
--- and what is written then
-pub put_between : (value place : ℕ) (old mid mid' new : PlaceMap) → IsSame old mid → KeepsValues mid mid' → Puts value place mid' new
-    → Puts value place old new
-put_between value place old mid mid' new same kept put = record {
-  values = λ a. put.values a ∙ ap (λ (v : ℕ). if nat_eq a place then value else v) (kept.values a ∙ same.values a);
-  pages = λ p. put.pages p ∙ kept.pages p ∙ same.pages p;
 }
 
 -- it is the same over another map that tells the same, at a place in an equal state

@@ -1,8 +1,7 @@
 -- Cells: the number of the entry of a broken place. And values of places.
 -- Source: project's own choice.
 use Rattle.std.specs.Prelude.{ℕ, zero, suc, Bool, Option, None, Some, is_some, List, slice_index_or, ◌+◌, ◌%◌, ◌/◌}
-use Rattle.std.specs.Prelude.{◌&&◌}
-use Rattle.std.specs.Prelude.{nat_le, nat_lt, nat_eq, false}
+use Rattle.std.specs.Prelude.{◌&&◌, nat_le, nat_lt}
 use Rattle.std.specs.Option.{option_map}
 
 -- what a cell stands for: none where it is 0, else the number below it
@@ -26,12 +25,3 @@ in_page base n j = nat_le base j && nat_lt j (base + n)
 -- the cell of the value at j, by the numbers that tell of each page where its cells start; None where it has none
 abbrev pub cell_by : List ℕ → ℕ → Option ℕ
 cell_by parts j = option_map (λ start. start + j % 512) (slot_in parts (j / 512))
-
--- whether this is the cell, or one of the 512 cells from the start on
-abbrev pub is_at : Option ℕ → ℕ → Bool
-is_at None j = false
-is_at (Some i) j = nat_eq j i
-
-abbrev pub in_part : Option ℕ → ℕ → Bool
-in_part None j = false
-in_part (Some start) j = in_page start 512 j

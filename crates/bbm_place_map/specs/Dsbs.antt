@@ -1,8 +1,7 @@
 -- What a DSB finds and leaves: cells and entries, and the list of its PE.
 -- Source: project's own choice.
-use Rattle.std.specs.Prelude.{◌≡◌, ◌≢◌, ◌≤◌, ◌<◌, ◌^◌, ◌⊎◌, ◌+◌, ℕ, Bool, true, false, Some, List, Vec, vec_len}
+use Rattle.std.specs.Prelude.{◌≡◌, ◌≢◌, ◌≤◌, ◌<◌, ◌⊎◌, ◌+◌, ℕ, Bool, true, false, Some, List}
 use Rattle.std.specs.Prelude.{slice_get, length, not, ◌&&◌}
-use Rattle.std.specs.declared.alloc.Global.{Global}
 use Rattle.bbm_barriers.specs.declared.Dsb.{Dsb}
 use Rattle.bbm_barriers.specs.Options.{answers, publishes}
 use Rattle.bbm_regimes.specs.PeMask.{pe_in}
@@ -14,10 +13,11 @@ use Rattle.bbm_entry_state.specs.declared.marks.Marks.{Marks}
 use Rattle.bbm_entry_state.specs.declared.pending.Pend.{Pend}
 use Rattle.bbm_entry_state.specs.declared.pending.Pends.{Pends}
 use Rattle.bbm_place_map.specs.Each.{Does, loses_table}
-use Rattle.bbm_place_map.specs.Entries.{cell_at, entry_in, pend_in, pends_in, position_at}
-use Rattle.bbm_place_map.specs.Parts.{marks_in}
-use Rattle.bbm_place_map.specs.Sound.{Linked, StillSound}
+use Rattle.bbm_place_map.specs.Entries.{cell_at, entry_in, marks_of, pend_in, pends_in, position_at}
+use Rattle.bbm_place_map.specs.Parts.{entry_of_cell}
+use Rattle.bbm_place_map.specs.Puts.{StillSound}
 use Rattle.bbm_place_map.specs.Works.{Rests, Stays}
+use Rattle.bbm_place_map.specs.declared.entries.Entries.{Entries}
 use Rattle.bbm_place_map.specs.declared.entry.Entry.{Entry}
 use Rattle.bbm_place_map.specs.declared.entry.Pending.{Pending}
 use Rattle.bbm_place_map.specs.declared.orders.Barrier.{Barrier}
@@ -58,12 +58,6 @@ abbrev pub IsBusy : Effect → Barrier → Type 0
 IsBusy (Publish heard) by = publishes by.dsb by.issuer by.n by.issuer ≡ true
 IsBusy Complete by = answers by.dsb false ≡ true
 
--- A DSB, and cells and entries, fewer than 2^32, that it can visit.
-pub record CanVisit (by : Barrier) (cells : Vec ℕ Global) (entries : Vec Entry Global) : Type 0 where
-  pub has : HasEffect by.effect by
-  pub linked : Linked cells.items entries.items
-  pub few : vec_len cells < 2 ^ 32
-
 -- these hold each cell at whose place a DSB of the issuer does this
 abbrev pub HoldOpen : (Bool → ℕ → Type 0) → Barrier → List ℕ → List Entry → Type 0
 HoldOpen held by cells entries =
@@ -83,39 +77,38 @@ abbrev pub IsUnanswered : Dsb → Pends → Type 0
 IsUnanswered dsb pends = (b : Bool) (c : Cover) (p : ℕ) → (answers dsb b && waits pends b c p) ≡ false
 
 -- a DSB that publishes leaves as many entries, each with its place and its number
-abbrev pub KeepsSeats : Effect → Vec Entry Global → Vec Entry Global → Type 0
-KeepsSeats (Publish heard) old new =
-    (length new.items ≡ length old.items) × ((m : ℕ) → position_at new.items m ≡ position_at old.items m)
+abbrev pub KeepsSeats : Effect → List Entry → List Entry → Type 0
+KeepsSeats (Publish heard) old new = (length new ≡ length old) × ((m : ℕ) → position_at new m ≡ position_at old m)
 KeepsSeats Complete old new = Unit {0}
 
--- What a DSB leaves of cells and entries.
-pub record Visited (effect : Effect) (cells cells' : Vec ℕ Global) (old new : Vec Entry Global) : Type 0 where
-  pub sound : StillSound cells cells' old new
-  pub seats : KeepsSeats effect old new
+-- What a DSB leaves of the entries.
+pub record Visited (effect : Effect) (old new : Entries) : Type 0 where
+  pub sound : StillSound old new
+  pub seats : KeepsSeats effect old.list.items new.list.items
+
+-- whether a table left that the place of a cell was broken over
+abbrev pub loses_at : Entries → Entries → ℕ → Bool
+loses_at old new j = loses_table (marks_of (entry_of_cell old j)) (marks_of (entry_of_cell new j))
 
 -- A DSB visited the entry of cell j, and told whether it left, and its core is a table.
-pub record VisitsCell (by : Barrier) (j : ℕ) (cells cells' : Vec ℕ Global) (old new : Vec Entry Global) (told : Bool) : Type 0 where
-  pub visited : Visited by.effect cells cells' old new
-  pub here : Does by.effect by (entry_in cells.items old.items j) (entry_in cells'.items new.items j)
-  pub answer : told ≡ loses_table (marks_in cells.items old.items j) (marks_in cells'.items new.items j)
-  pub others : (i : ℕ) → i ≢ j → entry_in cells'.items new.items i ≡ entry_in cells.items old.items i
+pub record VisitsCell (by : Barrier) (j : ℕ) (old new : Entries) (told : Bool) : Type 0 where
+  pub visited : Visited by.effect old new
+  pub here : Does by.effect by (entry_of_cell old j) (entry_of_cell new j)
+  pub answer : told ≡ loses_at old new j
+  pub others : (i : ℕ) → i ≢ j → entry_of_cell new i ≡ entry_of_cell old i
 
 -- It visited the entry with this number, and those before it are where they were.
-pub record VisitsAt (effect : Effect) (by : Barrier) (k : ℕ) (cells cells' : Vec ℕ Global) (old new : Vec Entry Global)
-    (told : Bool) : Type 0 where
-  pub visited : Visited effect cells cells' old new
-  pub short : length old.items ≤ length new.items + 1
-  pub here : (j : ℕ) → cell_at old.items k ≡ Some j
-      → Does effect by (entry_in cells.items old.items j) (entry_in cells'.items new.items j)
-  pub answer : (j : ℕ) → cell_at old.items k ≡ Some j
-      → told ≡ loses_table (marks_in cells.items old.items j) (marks_in cells'.items new.items j)
-  pub others : (i j : ℕ) → cell_at old.items k ≡ Some j → i ≢ j
-      → entry_in cells'.items new.items i ≡ entry_in cells.items old.items i
-  pub front : (m : ℕ) → m < k → slice_get new.items m ≡ slice_get old.items m
+pub record VisitsAt (effect : Effect) (by : Barrier) (k : ℕ) (old new : Entries) (told : Bool) : Type 0 where
+  pub visited : Visited effect old new
+  pub short : length old.list.items ≤ length new.list.items + 1
+  pub here : (j : ℕ) → cell_at old.list.items k ≡ Some j → Does effect by (entry_of_cell old j) (entry_of_cell new j)
+  pub answer : (j : ℕ) → cell_at old.list.items k ≡ Some j → told ≡ loses_at old new j
+  pub others : (i j : ℕ) → cell_at old.list.items k ≡ Some j → i ≢ j → entry_of_cell new i ≡ entry_of_cell old i
+  pub front : (m : ℕ) → m < k → slice_get new.list.items m ≡ slice_get old.list.items m
 
 -- It visited each entry, and told whether one over a table left.
-pub record VisitsAll (by : Barrier) (cells cells' : Vec ℕ Global) (old new : Vec Entry Global) (told : Bool) : Type 0 where
-  pub visited : Visited by.effect cells cells' old new
-  pub each : (j : ℕ) → Does by.effect by (entry_in cells.items old.items j) (entry_in cells'.items new.items j)
-  pub lost : told ≡ true → (j : ℕ) × (loses_table (marks_in cells.items old.items j) (marks_in cells'.items new.items j) ≡ true)
-  pub kept : told ≡ false → (j : ℕ) → loses_table (marks_in cells.items old.items j) (marks_in cells'.items new.items j) ≡ false
+pub record VisitsAll (by : Barrier) (old new : Entries) (told : Bool) : Type 0 where
+  pub visited : Visited by.effect old new
+  pub each : (j : ℕ) → Does by.effect by (entry_of_cell old j) (entry_of_cell new j)
+  pub lost : told ≡ true → (j : ℕ) × (loses_at old new j ≡ true)
+  pub kept : told ≡ false → (j : ℕ) → loses_at old new j ≡ false

@@ -2,7 +2,7 @@
 -- Source: project's own choice.
 use Rattle.std.specs.Prelude.{◌≡◌, ◌+◌, ℕ, Bool, true, false, cond, Option, Some, None, List, [], ◌∷◌, nat_eq, ◌<◌}
 use Rattle.std.specs.Prelude.{length}
-use Rattle.std.specs.Prelude.{slice_index_or, slice_get, option_and_then, if◌then◌else◌, ◌&&◌, ◌||◌}
+use Rattle.std.specs.Prelude.{slice_index_or, slice_get, if◌then◌else◌, ◌&&◌, ◌||◌}
 use Rattle.std.specs.Option.{option_map}
 use Rattle.bbm_tlbi_scope.specs.declared.entry.Cover.{Cover}
 use Rattle.bbm_tlbi_scope.specs.SameCover.{same_cover}
@@ -13,7 +13,7 @@ use Rattle.bbm_entry_state.specs.Points.{waits, waits_in}
 use Rattle.bbm_entry_state.specs.declared.marks.Marks.{Marks}
 use Rattle.bbm_entry_state.specs.declared.pending.Pend.{Pend}
 use Rattle.bbm_entry_state.specs.declared.pending.Pends.{Pends}
-use Rattle.bbm_place_map.specs.Cells.{slot_in, cell_by}
+use Rattle.bbm_place_map.specs.Cells.{slot_in}
 use Rattle.bbm_place_map.specs.declared.entry.Entry.{Entry}
 use Rattle.bbm_place_map.specs.declared.entry.Pending.{Pending}
 use Rattle.smallvec.specs.SmallVec.{SmallVec, HasRoomFor}
@@ -50,10 +50,6 @@ entry_of entries (Some k) = slice_get entries k
 abbrev pub entry_in : List ℕ → List Entry → ℕ → Option Entry
 entry_in cells entries j = entry_of entries (slot_in cells j)
 
--- the entry of the place of the value at j
-abbrev pub entry_by : List ℕ → List ℕ → List Entry → ℕ → Option Entry
-entry_by parts cells entries j = option_and_then (entry_in cells entries) (cell_by parts j)
-
 abbrev pub marks_of : Option Entry → Option Marks
 marks_of None = None
 marks_of (Some e) = Some e.marks
@@ -62,11 +58,11 @@ abbrev pub pends_of : ℕ → Option Entry → Pends
 pends_of q None = no_pends
 pends_of q (Some e) = pends_in e.pends.items q
 
--- the place and the cell of the entry with this number
-abbrev pub position : Entry → ℕ × ℕ
-position e = (e.place, e.cell)
+-- the place, the number and the cell of an entry
+abbrev pub position : Entry → ℕ × ℕ × ℕ
+position e = (e.place, e.index, e.cell)
 
-abbrev pub position_at : List Entry → ℕ → Option (ℕ × ℕ)
+abbrev pub position_at : List Entry → ℕ → Option (ℕ × ℕ × ℕ)
 position_at entries k = option_map position (slice_get entries k)
 
 -- the PEs wait too that a TLBI reaches and for which it counts, as far as it covers a place with these marks

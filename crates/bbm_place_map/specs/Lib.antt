@@ -1,13 +1,14 @@
 pub mod Cells
 pub mod Entries
-pub mod Parts
 pub mod Sound
+pub mod Parts
 pub mod States
 pub mod Each
+pub mod Puts
 pub mod Works
 pub mod Dsbs
-pub mod Puts
 pub mod Finds
 pub mod PlaceNotes
+pub mod Broken
 pub mod Map
 pub mod MapCalls

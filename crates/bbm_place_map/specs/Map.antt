@@ -9,9 +9,9 @@ use Rattle.bbm_entry_state.specs.declared.marks.Marks.{Marks}
 use Rattle.bbm_entry_state.specs.declared.pending.Pends.{Pends}
 use Rattle.bbm_entry_state.specs.declared.state.EntryState.{EntryState}
 use Rattle.bbm_place_map.specs.Cells.{value_in}
-use Rattle.bbm_place_map.specs.Entries.{no_pends}
-use Rattle.bbm_place_map.specs.Parts.{marks_in, pends_for}
-use Rattle.bbm_place_map.specs.Sound.{index_of, at_index, starts}
+use Rattle.bbm_place_map.specs.Broken.{entry_at}
+use Rattle.bbm_place_map.specs.Entries.{marks_of, pends_of}
+use Rattle.bbm_place_map.specs.Sound.{index_of, at_index}
 use Rattle.bbm_place_map.specs.States.{state_from}
 use Rattle.bbm_place_map.specs.declared.entry.Entry.{Entry}
 use Rattle.bbm_place_map.specs.declared.map.PlaceMap.{PlaceMap}
@@ -25,17 +25,17 @@ page_of a = a / 4096 * 4096
 unfoldable pub value_at : PlaceMap → ℕ → ℕ
 value_at map a = at_index 0 (value_in map.values.items) (index_of (get nat_eq map.pages) a)
 
--- the number of the cell of a place; None where it has none, so that it isn't broken
-abbrev pub place_cell : PlaceMap → ℕ → Option ℕ
-place_cell map a = index_of (starts (get nat_eq map.pages) map.parts.items) a
+-- what is kept of a broken place; None where the place isn't broken
+abbrev pub place_entry : PlaceMap → ℕ → Option Entry
+place_entry map a = at_index None (entry_at map.broken) (index_of (get nat_eq map.pages) a)
 
 -- how far each PE is cleansed of the core of a broken place; None where the place isn't broken
 unfoldable pub marks_at : PlaceMap → ℕ → Option Marks
-marks_at map a = at_index None (marks_in map.cells.items map.broken.items) (place_cell map a)
+marks_at map a = marks_of (place_entry map a)
 
 -- what waits at a place for the answers of an issuer's TLBIs
 unfoldable pub pends_at : PlaceMap → ℕ → ℕ → Pends
-pends_at map q a = at_index no_pends (pends_for map.cells.items map.broken.items q) (place_cell map a)
+pends_at map q a = pends_of q (place_entry map a)
 
 -- whether the page is tracked
 unfoldable pub is_tracked : PlaceMap → ℕ → Bool
@@ -47,10 +47,10 @@ IsPosition map position = index_of (get nat_eq map.pages) position.place ≡ Som
 
 -- how many places are broken, and one of them by its number
 unfoldable pub restless_in : PlaceMap → ℕ
-restless_in map = length map.broken.items
+restless_in map = length map.broken.entries.list.items
 
 unfoldable pub restless_place : PlaceMap → ℕ → ℕ
-restless_place map i = unwrap_or (option_map (λ (e : Entry). e.place) (slice_get map.broken.items i)) 0
+restless_place map i = unwrap_or (option_map (λ (e : Entry). e.place) (slice_get map.broken.entries.list.items i)) 0
 
 -- the state of a place, where one that isn't broken is live with this core, or clean without one
 abbrev pub state_at : PlaceMap → Option Core → ℕ → EntryState

@@ -1,11 +1,12 @@
 -- What calls change of a map, and what stays.
 -- Source: project's own choice.
-use Rattle.std.specs.Prelude.{◌≡◌, ℕ, Bool, true, false, Option, None, nat_eq, not, ◌&&◌, if◌then◌else◌, vec_len}
+use Rattle.std.specs.Prelude.{◌≡◌, ℕ, Bool, true, false, Option, None, nat_eq, not, ◌&&◌, if◌then◌else◌}
 use Rattle.bbm_descriptor.specs.declared.desc.Core.{Core}
 use Rattle.bbm_entry_state.specs.EntryCalls.{Written}
 use Rattle.bbm_entry_state.specs.Points.{is_broken}
 use Rattle.bbm_entry_state.specs.EntryStanding.{IsIdle}
 use Rattle.bbm_entry_state.specs.declared.state.EntryState.{EntryState}
+use Rattle.bbm_place_map.specs.Broken.{HoldsSame}
 use Rattle.bbm_place_map.specs.Each.{loses_table}
 use Rattle.bbm_place_map.specs.Map.{value_at, marks_at, page_of, pends_at, is_tracked, restless_in, restless_place}
 use Rattle.bbm_place_map.specs.States.{marks_of_state}
@@ -70,11 +71,8 @@ pub record IsSame (old new : PlaceMap) : Type 0 where
   pub restless : restless_in new ≡ restless_in old
   pub places : (i : ℕ) → restless_place new i ≡ restless_place old i
 
--- Pages, values, cells and entries are the same, in as much room or more.
+-- Pages, values and broken places are the same, in as much room or more.
 pub record KeepsItems (old new : PlaceMap) : Type 0 where
   pub pages : new.pages ≡ old.pages
   pub values : new.values.items ≡ old.values.items
-  pub len : vec_len new.values ≡ vec_len old.values
-  pub parts : new.parts.items ≡ old.parts.items
-  pub cells : new.cells.items ≡ old.cells.items
-  pub entries : new.broken.items ≡ old.broken.items
+  pub broken : HoldsSame old.broken new.broken

@@ -1,16 +1,17 @@
 -- What the issue of a TLBI makes of each entry.
 -- Source: project's own choice.
-use Rattle.std.specs.Prelude.{◌≡◌, ◌≢◌, ◌≤◌, ℕ, Bool, true, false, List, Option, Some, nat_eq, slice_get}
-use Rattle.std.specs.Prelude.{Vec, length, vec_capacity}
-use Rattle.std.specs.declared.alloc.Global.{Global}
+use Rattle.std.specs.Prelude.{◌≡◌, ◌≢◌, ◌≤◌, ◌+◌, ◌^◌, ℕ, Bool, true, false, List, Option, Some, None, nat_eq}
+use Rattle.std.specs.Prelude.{slice_get}
 use Rattle.bbm_tlbi_scope.specs.declared.entry.Cover.{Cover}
 use Rattle.bbm_tlbi_scope.specs.declared.entry.Cover.TheVariants.{None as NoCover, Half, Second, Full}
 use Rattle.bbm_entry_state.specs.EntryCalls.{Noted}
 use Rattle.bbm_entry_state.specs.declared.state.EntryState.TheVariants.{Broken}
 use Rattle.bbm_place_map.specs.Entries.{pends_in, HasRoom}
 use Rattle.bbm_place_map.specs.Finds.{cover_in, is_found}
-use Rattle.bbm_place_map.specs.Sound.{IsSound, slot_at, starts}
+use Rattle.bbm_place_map.specs.Cells.{cell_by, slot_in}
+use Rattle.bbm_place_map.specs.Sound.{SameSize, at_index, index_of}
 use Rattle.bbm_place_map.specs.Works.{HoldsFor, Waits}
+use Rattle.bbm_place_map.specs.declared.entries.Entries.{Entries}
 use Rattle.bbm_place_map.specs.declared.issue.Kept.{Kept}
 use Rattle.indexmap.specs.IndexMap.{get}
 use Rattle.bbm_place_map.specs.declared.entry.Entry.{Entry}
@@ -18,19 +19,27 @@ use Rattle.bbm_place_map.specs.declared.found.Found.{Found}
 use Rattle.bbm_place_map.specs.declared.orders.Issuing.{Issuing}
 use Rattle.bbm_place_map.specs.declared.work.WorkList.{WorkList}
 
--- the entries are those of the cells, where the pages and parts say
-abbrev pub IsKept : Kept → List Entry → Type 0
-IsKept kept entries = IsSound (starts (get nat_eq kept.pages.now) kept.parts.now) kept.cells.now entries
-
 -- the number of the entry of a place; None where the place isn't broken
-abbrev pub entry_number : Kept → ℕ → Option ℕ
-entry_number kept place = slot_at (starts (get nat_eq kept.pages.now) kept.parts.now) kept.cells.now place
+abbrev pub entry_number : Kept → Entries → ℕ → Option ℕ
+entry_number kept entries place = at_index None (λ j. at_index None (slot_in entries.cells.items) (cell_by kept.parts.now j))
+    (index_of (get nat_eq kept.pages.now) place)
+
+-- Each number is that of an entry of its place, and each entry has its number. The numbers of values are few.
+pub record IsKept (kept : Kept) (entries : Entries) : Type 0 where
+  pub few : (page b : ℕ) → get nat_eq kept.pages.now page ≡ Some b → b + 512 ≤ 2 ^ 32
+  pub forth : (place k : ℕ) → entry_number kept entries place ≡ Some k
+      → (e : Entry) × (slice_get entries.list.items k ≡ Some e) × (e.place ≡ place)
+  pub back : (k : ℕ) (e : Entry) → slice_get entries.list.items k ≡ Some e → entry_number kept entries e.place ≡ Some k
 
 abbrev pub is_cover : Cover → Bool
 is_cover NoCover = false
 is_cover Half = true
 is_cover Second = true
 is_cover Full = true
+
+-- the marks stay, and what waits for the answers of any other issuer
+abbrev pub KeepsOthers : ℕ → Entry → Entry → Type 0
+KeepsOthers issuer e f = (f.marks ≡ e.marks) × ((q : ℕ) → q ≢ issuer → pends_in f.pends.items q ≡ pends_in e.pends.items q)
 
 -- the marks and what waits stay
 abbrev pub Keeps : Entry → Entry → Type 0
@@ -70,8 +79,16 @@ abbrev pub NotesFound : List Found → Issuing → List WorkList → Entry → E
 NotesFound found by lists e f =
     NotesAs (cover_in found e.place) by e f × (is_found found e.place ≡ false → f ≡ e) × Waits lists by.issuer e f
 
--- As many entries, in as much room, and the lists have what they had.
-pub record OnlyNotes (old new : Vec Entry Global) (lists lists' : List WorkList) : Type 0 where
-  pub len : length new.items ≡ length old.items
-  pub room : vec_capacity new ≡ vec_capacity old
+-- so it is, whatever room was made before
+abbrev pub NotesAmong : List Found → Issuing → Entry → Entry → Type 0
+NotesAmong found by e f = NotesAs (cover_in found e.place) by e f
+
+-- and at a place that isn't among the items all stays
+abbrev pub KeepsUnfound : List Found → ℕ → Entry → Entry → Type 0
+KeepsUnfound found issuer e f = KeepsOthers issuer e f × (is_found found e.place ≡ false → f.pends.items ≡ e.pends.items)
+
+-- As many entries of the same cells, in as much room, and the lists have what they had.
+pub record OnlyNotes (old new : Entries) (lists lists' : List WorkList) : Type 0 where
+  pub cells : new.cells ≡ old.cells
+  pub size : SameSize old.list new.list
   pub kept : (wide : Bool) (q j : ℕ) → HoldsFor lists q wide j → HoldsFor lists' q wide j

@@ -1,7 +1,7 @@
 -- How pages, their values, cells and entries hang together.
 -- Source: project's own choice.
-use Rattle.std.specs.Prelude.{◌≡◌, ℕ, ◌+◌, ◌*◌, ◌/◌, ◌%◌, ◌^◌, ◌<◌, ◌≤◌, ◌==◌, Option, Some, None, List, length}
-use Rattle.std.specs.Prelude.{count_by, slice_get, if◌then◌else◌, Vec, vec_len, vec_capacity}
+use Rattle.std.specs.Prelude.{◌≡◌, ℕ, ◌+◌, ◌*◌, ◌/◌, ◌%◌, ◌<◌, ◌≤◌, ◌==◌, Option, Some, None, List, length}
+use Rattle.std.specs.Prelude.{count_by, slice_get, if◌then◌else◌, Vec, vec_capacity}
 use Rattle.std.specs.Option.{option_map}
 use Rattle.std.specs.declared.alloc.Global.{Global}
 use Rattle.bbm_place_map.specs.Cells.{slot_in, is_listed}
@@ -28,21 +28,15 @@ abbrev pub at_index : {X : Type 0} → X → (ℕ → X) → Option ℕ → X
 at_index d f None = d
 at_index d f (Some j) = f j
 
--- where the cells of a page start; None where none of its places was broken yet
-abbrev pub starts : (ℕ → Option ℕ) → List ℕ → ℕ → Option ℕ
-starts base parts page = at_index None (λ b. slot_in parts (b / 512)) (base page)
-
--- Pages have their values one after another, 512 each, and some have as many cells, in any order. The numbers in `parts`
--- tell of each page, in the order of the values, where its cells start.
-pub record Parted (base : ℕ → Option ℕ) (parts : List ℕ) (values cells : ℕ) : Type 0 where
+-- Pages have their values one after another, 512 each, in an order.
+pub record Tiled (base : ℕ → Option ℕ) (pages values : ℕ) : Type 0 where
+  pub numbered : Numbered base values
   pub whole : (page b : ℕ) → base page ≡ Some b → b % 512 ≡ 0
-  pub each : 512 * length parts ≡ values
-  pub some : 512 * count_by is_listed parts ≡ cells
-  pub numbered : Numbered (starts base parts) cells
+  pub each : 512 * pages ≡ values
 
--- the place of each entry is that of its cell
+-- the place of each entry is that of its number
 abbrev pub Placed : (ℕ → Option ℕ) → List Entry → Type 0
-Placed base entries = (k : ℕ) (e : Entry) → slice_get entries k ≡ Some e → index_of base e.place ≡ Some e.cell
+Placed base entries = (k : ℕ) (e : Entry) → slice_get entries k ≡ Some e → index_of base e.place ≡ Some e.index
 
 -- As many entries, in as much room.
 pub record SameSize (old new : Vec Entry Global) : Type 0 where
@@ -53,39 +47,3 @@ pub record SameSize (old new : Vec Entry Global) : Type 0 where
 pub record KeepsSlots (cells cells' : List ℕ) : Type 0 where
   pub slots : (i : ℕ) → slot_in cells' i ≡ slot_in cells i
   pub linked : (entries : List Entry) → Linked cells entries → Linked cells' entries
-
--- Cells, fewer than 2^32, and entries that can be edited.
-pub record FewLinked (cells : Vec ℕ Global) (entries : Vec Entry Global) : Type 0 where
-  pub linked : Linked cells.items entries.items
-  pub few : vec_len cells < 2 ^ 32
-
--- And there is room to break the place of cell j.
-pub record CanBreak (j : ℕ) (cells : Vec ℕ Global) (entries : Vec Entry Global) : Type 0 where
-  pub linked : Linked cells.items entries.items
-  pub within : j < vec_len cells
-  pub few : vec_len cells < 2 ^ 32
-  pub room : vec_len cells ≤ vec_capacity entries
-
--- Cells and entries go on naming each other, at the places where they were, in as much room.
-pub record StillSound (cells cells' : Vec ℕ Global) (old new : Vec Entry Global) : Type 0 where
-  pub linked : Linked cells'.items new.items
-  pub len : vec_len cells' ≡ vec_len cells
-  pub space : vec_capacity cells' ≡ vec_capacity cells
-  pub room : vec_capacity new ≡ vec_capacity old
-  pub placed : (base : ℕ → Option ℕ) → Placed base old.items → Placed base new.items
-
--- Pages, cells, fewer than 2^32, and entries hang together.
-pub record IsSound (base : ℕ → Option ℕ) (cells : List ℕ) (entries : List Entry) : Type 0 where
-  pub numbered : Numbered base (length cells)
-  pub few : length cells < 2 ^ 32
-  pub linked : Linked cells entries
-  pub placed : Placed base entries
-
--- Cells and entries name each other, and there is a number that tells of the value at j where the cells of its page start.
-pub record HasValue (j : ℕ) (parts cells : List ℕ) (entries : List Entry) : Type 0 where
-  pub linked : Linked cells entries
-  pub part : j / 512 < length parts
-
--- the number of the entry of a place, by where the cells of each page start
-abbrev pub slot_at : (ℕ → Option ℕ) → List ℕ → ℕ → Option ℕ
-slot_at base cells a = at_index None (slot_in cells) (index_of base a)

@@ -20,7 +20,7 @@ use bbm_tlbi_scope::Cover;
 use smallvec::SmallVec;
 
 /// What waits at a place for the answers of one lane.
-#[derive(Clone, Copy, Debug)]
+#[derive(Clone, Copy)]
 pub struct Pending {
     /// The lane.
     pub lane: Lane,
@@ -43,6 +43,8 @@ impl Default for Pending {
 pub struct Entry {
     /// The place.
     pub place: Place,
+    /// The number of its value.
+    pub index: u32,
     /// The number of its cell.
     pub cell: u32,
     /// How far each PE is cleansed of its core.

@@ -6,7 +6,7 @@ use bbm_tlbi_scope::Cover;
 use std::marker::Model;
 
 /// A place, and how far a TLBI covers it.
-#[derive(Clone, Copy, Debug)]
+#[derive(Clone, Copy)]
 pub struct Found {
     /// The place.
     pub place: Place,
@@ -28,7 +28,7 @@ impl Default for Found {
 }
 
 /// How far a TLBI covers one of the broken places. Contracts see the cover.
-#[derive(Clone, Copy, Debug)]
+#[derive(Clone, Copy)]
 pub struct Answer {
     cover: Cover,
 }

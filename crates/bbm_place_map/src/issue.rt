@@ -15,7 +15,8 @@ ghost use Rattle.bbm_place_map.specs.PlaceNotes.{OnlyNotes, Readies, entry_numbe
 ghost use Rattle.bbm_place_map.specs.Works.{IsQuiet, Waits};
 ghost use Rattle.bbm_place_map.specs.declared.entry.Entry.{Entry as TheEntry};
 
-use crate::entry::{Entry, is_noted, make_room_for_lane, note_pends};
+use crate::entries::Entries;
+use crate::entry::{is_noted, make_room_for_lane, note_pends};
 use crate::found::{Answer, Found};
 use crate::lane::Lane;
 use crate::orders::Issuing;
@@ -32,24 +33,22 @@ pub struct Kept<'a> {
     pub pages: &'a PageMap<usize>,
     /// Where the cells of each page start.
     pub parts: &'a [u32],
-    /// The cells.
-    pub cells: &'a [u32],
 }
 
 /// The number of a place's entry; None where the place isn't broken. No answer depends on the number `hint`, at which
 /// it is looked for first.
 #[inline(always)]
-fn entry_of(kept: &Kept, broken: &[Entry], place: Place, hint: u32) -> Option<u32>
-    requires { IsKept kept.now broken.now }
-    ensures { result ≡ entry_number kept.now place }
+fn entry_of(kept: &Kept, entries: &Entries, place: Place, hint: u32) -> Option<u32>
+    requires { IsKept kept.now entries.now }
+    ensures { result ≡ entry_number kept.now entries.now place }
 {
     let number = hint as usize;
-    if number < broken.len() {
-        if broken[number].place == place {
+    if number < entries.list.len() {
+        if entries.list[number].place == place {
             return Some(hint);
         }
     }
-    entry_at(kept.pages, kept.parts, kept.cells, place)
+    entry_at(kept.pages, kept.parts, &entries.cells, place)
 }
 
 /// Whether a TLBI covers a place at all.
@@ -61,34 +60,36 @@ fn is_cover(cover: Cover) -> bool
 
 /// Makes room at an entry for what waits for the answers of a lane. `NoMemory` where there is none.
 #[inline(always)]
-fn make_room_at(broken: &mut Vec<Entry>, k: usize, lane: Lane) -> Result<(), NoMemory>
-    requires { k < vec_len broken.old }
-    ensures entry { (e : TheEntry) → slice_get broken.old.items k ≡ Some e → (f : TheEntry) × (position f ≡ position e)
+fn make_room_at(entries: &mut Entries, k: usize, lane: Lane) -> Result<(), NoMemory>
+    requires { k < vec_len entries.old.list }
+    ensures entry { (e : TheEntry) → slice_get entries.old.list.items k ≡ Some e → (f : TheEntry) × (position f ≡ position e)
         × Keeps e f × OnOk result (HasRoom f.pends lane)
-        × ((i : ℕ) → slice_get broken.new.items i ≡ (if nat_eq i k then Some f else slice_get broken.old.items i)) }
-    ensures size { SameSize broken.old broken.new }
+        × ((i : ℕ) → slice_get entries.new.list.items i ≡ (if nat_eq i k then Some f else slice_get entries.old.list.items i)) }
+    ensures cells { entries.new.cells ≡ entries.old.cells }
+    ensures size { SameSize entries.old.list entries.new.list }
 {
-    let entry = &mut broken[k];
+    let entry = &mut entries.list[k];
     make_room_for_lane(&mut entry.pends, lane)
 }
 
 /// Notes the TLBI at an entry with room for its lane. Whether nothing waited there, or of one that isn't broadcast
 /// nothing for another such.
 #[inline(always)]
-fn note_at(broken: &mut Vec<Entry>, k: usize, tlbi: &Issuing, cover: Cover) -> bool
-    requires within { k < vec_len broken.old }
-    requires ready { (e : TheEntry) → slice_get broken.old.items k ≡ Some e
+fn note_at(entries: &mut Entries, k: usize, tlbi: &Issuing, cover: Cover) -> bool
+    requires within { k < vec_len entries.old.list }
+    requires ready { (e : TheEntry) → slice_get entries.old.list.items k ≡ Some e
         → HasRoom e.pends (lane_of tlbi.now.issuer tlbi.now.broadcast) }
-    ensures entry { (e : TheEntry) → slice_get broken.old.items k ≡ Some e → (f : TheEntry) × (position f ≡ position e)
+    ensures entry { (e : TheEntry) → slice_get entries.old.list.items k ≡ Some e → (f : TheEntry) × (position f ≡ position e)
         × (f.marks ≡ e.marks) × ((q : ℕ) → q ≢ tlbi.now.issuer → pends_in f.pends.items q ≡ pends_in e.pends.items q)
         × Noted (state.Broken e.marks) (pends_in e.pends.items tlbi.now.issuer) tlbi.now.reach tlbi.now.broadcast cover
         (pends_in f.pends.items tlbi.now.issuer)
         × (result ≡ false → (wide : Bool) → IsQuiet wide (pends_in e.pends.items tlbi.now.issuer)
         → IsQuiet wide (pends_in f.pends.items tlbi.now.issuer))
-        × ((i : ℕ) → slice_get broken.new.items i ≡ (if nat_eq i k then Some f else slice_get broken.old.items i)) }
-    ensures size { SameSize broken.old broken.new }
+        × ((i : ℕ) → slice_get entries.new.list.items i ≡ (if nat_eq i k then Some f else slice_get entries.old.list.items i)) }
+    ensures cells { entries.new.cells ≡ entries.old.cells }
+    ensures size { SameSize entries.old.list entries.new.list }
 {
-    let entry = &mut broken[k];
+    let entry = &mut entries.list[k];
     let marks = &entry.marks;
     note_pends(
         &mut entry.pends,
@@ -102,11 +103,11 @@ fn note_at(broken: &mut Vec<Entry>, k: usize, tlbi: &Issuing, cover: Cover) -> b
 
 /// Whether the TLBI, which covers the place of an entry so far, is noted there already; false says nothing.
 #[inline(always)]
-fn is_noted_at(broken: &Vec<Entry>, k: usize, tlbi: &Issuing, cover: Cover) -> bool
-    requires { k < vec_len broken.now }
-    ensures { result ≡ true → (e : TheEntry) → slice_get broken.now.items k ≡ Some e → IsNoted cover tlbi.now e }
+fn is_noted_at(entries: &Entries, k: usize, tlbi: &Issuing, cover: Cover) -> bool
+    requires { k < vec_len entries.now.list }
+    ensures { result ≡ true → (e : TheEntry) → slice_get entries.now.list.items k ≡ Some e → IsNoted cover tlbi.now e }
 {
-    let entry = &broken[k];
+    let entry = &entries.list[k];
     is_noted(
         entry.pends.as_slice(),
         tlbi.issuer,
@@ -121,61 +122,62 @@ fn is_noted_at(broken: &Vec<Entry>, k: usize, tlbi: &Issuing, cover: Cover) -> b
 /// so waited is listed for the issuer.
 #[inline(always)]
 fn note_entry(
-    broken: &mut Vec<Entry>,
+    entries: &mut Entries,
     k: usize,
     tlbi: &Issuing,
     cover: Cover,
     lists: &mut Vec<WorkList>,
 )
-    requires within { k < vec_len broken.old }
-    requires ready { (e : TheEntry) → slice_get broken.old.items k ≡ Some e → spec_is_cover cover ≡ true
+    requires within { k < vec_len entries.old.list }
+    requires ready { (e : TheEntry) → slice_get entries.old.list.items k ≡ Some e → spec_is_cover cover ≡ true
         → HasRoom e.pends (lane_of tlbi.now.issuer tlbi.now.broadcast) }
-    ensures entry { (e : TheEntry) → slice_get broken.old.items k ≡ Some e → (f : TheEntry) × (position f ≡ position e)
+    ensures entry { (e : TheEntry) → slice_get entries.old.list.items k ≡ Some e → (f : TheEntry) × (position f ≡ position e)
         × NotesAs cover tlbi.now e f × Waits lists.new.items tlbi.now.issuer e f
-        × ((i : ℕ) → slice_get broken.new.items i ≡ (if nat_eq i k then Some f else slice_get broken.old.items i)) }
-    ensures rest { OnlyNotes broken.old broken.new lists.old.items lists.new.items }
+        × ((i : ℕ) → slice_get entries.new.list.items i ≡ (if nat_eq i k then Some f else slice_get entries.old.list.items i)) }
+    ensures rest { OnlyNotes entries.old entries.new lists.old.items lists.new.items }
 {
     if is_cover(cover) {
-        if !is_noted_at(broken, k, tlbi, cover) {
-            if note_at(broken, k, tlbi, cover) {
-                add_for(lists, tlbi.issuer, broken[k].cell, broken.len());
+        if !is_noted_at(entries, k, tlbi, cover) {
+            if note_at(entries, k, tlbi, cover) {
+                add_for(lists, tlbi.issuer, entries.list[k].cell, entries.list.len());
             }
         }
     }
 }
 
 /// A number below which the TLBI is noted already at each place that is covered.
-pub fn first_open(broken: &Vec<Entry>, covers: &[Answer], tlbi: &Issuing) -> usize
-    requires { length covers.now ≡ length broken.now.items }
-    ensures { (m : ℕ) (e : TheEntry) (c : TheCover) → m < result → slice_get broken.now.items m ≡ Some e
+pub fn first_open(entries: &Entries, covers: &[Answer], tlbi: &Issuing) -> usize
+    requires { length covers.now ≡ length entries.now.list.items }
+    ensures { (m : ℕ) (e : TheEntry) (c : TheCover) → m < result → slice_get entries.now.list.items m ≡ Some e
         → slice_get covers.now m ≡ Some c → IsNoted c tlbi.now e }
 {
-    for k in 0..broken.len() {
+    for k in 0..entries.list.len() {
         let cover = covers[k].get();
-        if is_cover(cover) && !is_noted_at(broken, k, tlbi, cover) {
+        if is_cover(cover) && !is_noted_at(entries, k, tlbi, cover) {
             return k;
         }
     }
-    broken.len()
+    entries.list.len()
 }
 
 /// Makes room for the lane at each place that is covered, from a number on. `NoMemory` where there is none.
 pub fn make_room(
-    broken: &mut Vec<Entry>,
+    entries: &mut Entries,
     covers: &[Answer],
     start: usize,
     lane: Lane,
 ) -> Result<(), NoMemory>
-    requires { length covers.now ≡ length broken.old.items }
-    ensures each { (m : ℕ) → Advances Keeps (slice_get broken.old.items m) (slice_get broken.new.items m) }
-    ensures ready { OnOk result ((m : ℕ) → Advances (Readies start lane covers.now m) (slice_get broken.old.items m)
-        (slice_get broken.new.items m)) }
-    ensures before { (m : ℕ) → m < start → slice_get broken.new.items m ≡ slice_get broken.old.items m }
-    ensures size { SameSize broken.old broken.new }
+    requires { length covers.now ≡ length entries.old.list.items }
+    ensures each { (m : ℕ) → Advances Keeps (slice_get entries.old.list.items m) (slice_get entries.new.list.items m) }
+    ensures ready { OnOk result ((m : ℕ) → Advances (Readies start lane covers.now m) (slice_get entries.old.list.items m)
+        (slice_get entries.new.list.items m)) }
+    ensures before { (m : ℕ) → m < start → slice_get entries.new.list.items m ≡ slice_get entries.old.list.items m }
+    ensures cells { entries.new.cells ≡ entries.old.cells }
+    ensures size { SameSize entries.old.list entries.new.list }
 {
-    for k in start..broken.len() {
+    for k in start..entries.list.len() {
         if is_cover(covers[k].get()) {
-            make_room_at(broken, k, lane)?;
+            make_room_at(entries, k, lane)?;
         }
     }
     Ok(())
@@ -184,29 +186,29 @@ pub fn make_room(
 /// Notes the TLBI at each place that is covered, where it is noted below a number, and from there on there is room for
 /// its lane. The cells of those at which something waits now are listed for the issuer.
 pub fn note(
-    broken: &mut Vec<Entry>,
+    entries: &mut Entries,
     covers: &[Answer],
     start: usize,
     tlbi: &Issuing,
     lists: &mut Vec<WorkList>,
 )
-    requires len { length covers.now ≡ length broken.old.items }
-    requires noted { (m : ℕ) (e : TheEntry) (c : TheCover) → m < start → slice_get broken.old.items m ≡ Some e
+    requires len { length covers.now ≡ length entries.old.list.items }
+    requires noted { (m : ℕ) (e : TheEntry) (c : TheCover) → m < start → slice_get entries.old.list.items m ≡ Some e
         → slice_get covers.now m ≡ Some c → IsNoted c tlbi.now e }
-    requires ready { (m : ℕ) (e : TheEntry) → start ≤ m → slice_get broken.old.items m ≡ Some e → (c : TheCover)
+    requires ready { (m : ℕ) (e : TheEntry) → start ≤ m → slice_get entries.old.list.items m ≡ Some e → (c : TheCover)
         → slice_get covers.now m ≡ Some c → spec_is_cover c ≡ true
         → HasRoom e.pends (lane_of tlbi.now.issuer tlbi.now.broadcast) }
     ensures each { (m : ℕ)
-        → Advances (NotesAt covers.now tlbi.now m) (slice_get broken.old.items m)
-        (slice_get broken.new.items m) }
+        → Advances (NotesAt covers.now tlbi.now m) (slice_get entries.old.list.items m)
+        (slice_get entries.new.list.items m) }
     ensures waits { (m : ℕ)
-        → Advances (Waits lists.new.items tlbi.now.issuer) (slice_get broken.old.items m)
-        (slice_get broken.new.items m) }
-    ensures rest { OnlyNotes broken.old broken.new lists.old.items lists.new.items }
+        → Advances (Waits lists.new.items tlbi.now.issuer) (slice_get entries.old.list.items m)
+        (slice_get entries.new.list.items m) }
+    ensures rest { OnlyNotes entries.old entries.new lists.old.items lists.new.items }
 {
-    for k in start..broken.len() {
+    for k in start..entries.list.len() {
         let cover = covers[k].get();
-        note_entry(broken, k, tlbi, cover, lists);
+        note_entry(entries, k, tlbi, cover, lists);
     }
 }
 
@@ -225,20 +227,21 @@ fn is_among(found: &[Found], place: Place) -> bool
 /// Makes room for the lane at the place of an item, if it is broken. `NoMemory` where there is none.
 fn make_room_for(
     kept: &Kept,
-    broken: &mut Vec<Entry>,
+    entries: &mut Entries,
     item: Found,
     lane: Lane,
 ) -> Result<(), NoMemory>
-    requires { IsKept kept.now broken.old.items }
-    ensures each { (m : ℕ) → Advances Keeps (slice_get broken.old.items m) (slice_get broken.new.items m) }
-    ensures ready { OnOk result ((m : ℕ) (e : TheEntry) → slice_get broken.new.items m ≡ Some e → e.place ≡ item.place
+    requires { IsKept kept.now entries.old }
+    ensures each { (m : ℕ) → Advances Keeps (slice_get entries.old.list.items m) (slice_get entries.new.list.items m) }
+    ensures ready { OnOk result ((m : ℕ) (e : TheEntry) → slice_get entries.new.list.items m ≡ Some e → e.place ≡ item.place
         → HasRoom e.pends lane) }
-    ensures others { (m : ℕ) (e : TheEntry) → slice_get broken.new.items m ≡ Some e → e.place ≢ item.place
-        → slice_get broken.new.items m ≡ slice_get broken.old.items m }
-    ensures size { SameSize broken.old broken.new }
+    ensures others { (m : ℕ) (e : TheEntry) → slice_get entries.new.list.items m ≡ Some e → e.place ≢ item.place
+        → slice_get entries.new.list.items m ≡ slice_get entries.old.list.items m }
+    ensures cells { entries.new.cells ≡ entries.old.cells }
+    ensures size { SameSize entries.old.list entries.new.list }
 {
-    match entry_of(kept, broken, item.place, item.hint) {
-        Some(k) => make_room_at(broken, k as usize, lane),
+    match entry_of(kept, entries, item.place, item.hint) {
+        Some(k) => make_room_at(entries, k as usize, lane),
         None => Ok(()),
     }
 }
@@ -246,18 +249,19 @@ fn make_room_for(
 /// Makes room for the lane at each broken place of these items. `NoMemory` where there is none.
 pub fn make_room_found(
     kept: &Kept,
-    broken: &mut Vec<Entry>,
+    entries: &mut Entries,
     found: &[Found],
     lane: Lane,
 ) -> Result<(), NoMemory>
-    requires { IsKept kept.now broken.old.items }
-    ensures each { (m : ℕ) → Advances Keeps (slice_get broken.old.items m) (slice_get broken.new.items m) }
-    ensures ready { OnOk result ((m : ℕ) (e : TheEntry) → slice_get broken.new.items m ≡ Some e
+    requires { IsKept kept.now entries.old }
+    ensures each { (m : ℕ) → Advances Keeps (slice_get entries.old.list.items m) (slice_get entries.new.list.items m) }
+    ensures ready { OnOk result ((m : ℕ) (e : TheEntry) → slice_get entries.new.list.items m ≡ Some e
         → is_found found.now e.place ≡ true → HasRoom e.pends lane) }
-    ensures size { SameSize broken.old broken.new }
+    ensures cells { entries.new.cells ≡ entries.old.cells }
+    ensures size { SameSize entries.old.list entries.new.list }
 {
     for i in 0..found.len() {
-        make_room_for(kept, broken, found[i], lane)?;
+        make_room_for(kept, entries, found[i], lane)?;
     }
     Ok(())
 }
@@ -266,47 +270,47 @@ pub fn make_room_found(
 /// waits there now.
 fn note_for(
     kept: &Kept,
-    broken: &mut Vec<Entry>,
+    entries: &mut Entries,
     item: Found,
     tlbi: &Issuing,
     lists: &mut Vec<WorkList>,
 )
-    requires sound { IsKept kept.now broken.old.items }
-    requires ready { (m : ℕ) (e : TheEntry) → slice_get broken.old.items m ≡ Some e → e.place ≡ item.place
+    requires sound { IsKept kept.now entries.old }
+    requires ready { (m : ℕ) (e : TheEntry) → slice_get entries.old.list.items m ≡ Some e → e.place ≡ item.place
         → HasRoom e.pends (lane_of tlbi.now.issuer tlbi.now.broadcast) }
     ensures each { (m : ℕ) → Advances (NotesOne item.place item.cover tlbi.now lists.new.items)
-        (slice_get broken.old.items m) (slice_get broken.new.items m) }
-    ensures rest { OnlyNotes broken.old broken.new lists.old.items lists.new.items }
+        (slice_get entries.old.list.items m) (slice_get entries.new.list.items m) }
+    ensures rest { OnlyNotes entries.old entries.new lists.old.items lists.new.items }
 {
-    if let Some(k) = entry_of(kept, broken, item.place, item.hint) {
-        note_entry(broken, k as usize, tlbi, item.cover, lists);
+    if let Some(k) = entry_of(kept, entries, item.place, item.hint) {
+        note_entry(entries, k as usize, tlbi, item.cover, lists);
     }
 }
 
 /// Notes the TLBI at the place of one of the items, if no item before it is of that place.
 fn note_next(
     kept: &Kept,
-    broken: &mut Vec<Entry>,
+    entries: &mut Entries,
     found: &[Found],
     i: usize,
     tlbi: &Issuing,
     lists: &mut Vec<WorkList>,
 )
-    requires sound { IsKept kept.now broken.old.items }
+    requires sound { IsKept kept.now entries.old }
     requires within { i < length found.now }
-    requires ready { (m : ℕ) (e : TheEntry) → slice_get broken.old.items m ≡ Some e
+    requires ready { (m : ℕ) (e : TheEntry) → slice_get entries.old.list.items m ≡ Some e
         → is_found found.now e.place ≡ true → is_found (take i found.now) e.place ≡ false
         → HasRoom e.pends (lane_of tlbi.now.issuer tlbi.now.broadcast) }
     ensures each { (start : List TheEntry) → ((m : ℕ)
         → Advances (NotesFound (take i found.now) tlbi.now lists.old.items)
-        (slice_get start m) (slice_get broken.old.items m)) → (m : ℕ)
+        (slice_get start m) (slice_get entries.old.list.items m)) → (m : ℕ)
         → Advances (NotesFound (take (i + 1) found.now) tlbi.now lists.new.items)
-        (slice_get start m) (slice_get broken.new.items m) }
-    ensures rest { OnlyNotes broken.old broken.new lists.old.items lists.new.items }
+        (slice_get start m) (slice_get entries.new.list.items m) }
+    ensures rest { OnlyNotes entries.old entries.new lists.old.items lists.new.items }
 {
     let item = found[i];
     if !is_among(&found[..i], item.place) {
-        note_for(kept, broken, item, tlbi, lists);
+        note_for(kept, entries, item, tlbi, lists);
     }
 }
 
@@ -314,19 +318,19 @@ fn note_next(
 /// lane. The cells of those at which something waits now are listed for the issuer.
 pub fn note_found(
     kept: &Kept,
-    broken: &mut Vec<Entry>,
+    entries: &mut Entries,
     found: &[Found],
     tlbi: &Issuing,
     lists: &mut Vec<WorkList>,
 )
-    requires sound { IsKept kept.now broken.old.items }
-    requires ready { (m : ℕ) (e : TheEntry) → slice_get broken.old.items m ≡ Some e
+    requires sound { IsKept kept.now entries.old }
+    requires ready { (m : ℕ) (e : TheEntry) → slice_get entries.old.list.items m ≡ Some e
         → is_found found.now e.place ≡ true → HasRoom e.pends (lane_of tlbi.now.issuer tlbi.now.broadcast) }
     ensures each { (m : ℕ) → Advances (NotesFound found.now tlbi.now lists.new.items)
-        (slice_get broken.old.items m) (slice_get broken.new.items m) }
-    ensures rest { OnlyNotes broken.old broken.new lists.old.items lists.new.items }
+        (slice_get entries.old.list.items m) (slice_get entries.new.list.items m) }
+    ensures rest { OnlyNotes entries.old entries.new lists.old.items lists.new.items }
 {
     for i in 0..found.len() {
-        note_next(kept, broken, found, i, tlbi, lists);
+        note_next(kept, entries, found, i, tlbi, lists);
     }
 }

@@ -8,7 +8,7 @@ use std::marker::Model;
 
 /// A lane: the TLBIs of one issuer that are broadcast, or its others. Contracts see its number: twice that of the PE, and
 /// one more where they are broadcast.
-#[derive(Clone, Copy, Debug, PartialEq, Eq)]
+#[derive(Clone, Copy, PartialEq, Eq)]
 pub struct Lane {
     number: u8,
 }

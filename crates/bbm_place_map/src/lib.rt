@@ -23,11 +23,12 @@
 //! place what it is after the call.
 #![tactic(auto)]
 
+mod broken;
+mod entries;
 mod entry;
 mod found;
 mod issue;
 mod lane;
-mod links;
 mod map;
 mod orders;
 mod position;

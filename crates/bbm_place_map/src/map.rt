@@ -12,54 +12,38 @@ mod answering;
 mod asking;
 mod writing;
 
-ghost use Rattle.std.specs.Prelude.{◌≡◌, ◌≤◌, ◌<◌, ◌^◌, vec_len, vec_capacity, nat_eq};
+ghost use Rattle.std.specs.Prelude.{◌≡◌, ◌≤◌, ◌<◌, vec_len, nat_eq};
 ghost use Rattle.std.proofs.Props.{props};
 ghost use Rattle.indexmap.specs.IndexMap.{get};
-ghost use Rattle.bbm_place_map.specs.Sound.{Linked, Numbered, Parted, Placed, starts};
-ghost use Rattle.bbm_place_map.specs.Works.{Listed};
+ghost use Rattle.bbm_place_map.specs.Sound.{Placed, Tiled};
 
+use crate::broken::BrokenPlaces;
 use crate::entry::Entry;
 use crate::read::{self, VALUES};
-use crate::work::{self, Work};
 use bbm_descriptor::{Core, Memory};
 use bbm_entry_state::EntryState;
 use bbm_page_map::PageMap;
 use bbm_regimes::{Page, Place};
 use std::alloc::Global;
 
-/// The number of values that may be kept.
-const MAX_VALUES: usize = 1 << 31;
-
 /// The values of the places of the tracked pages, and of the broken ones among them the marks and the pendings.
 #[derive(Drop)]
 pub struct PlaceMap {
-    alloc: Global,
     pages: PageMap<usize>,
     values: Vec<u64>,
-    parts: Vec<u32>,
-    cells: Vec<u32>,
-    broken: Vec<Entry>,
-    work: Work,
+    broken: BrokenPlaces,
     recent: usize,
-    owners: Vec<u32>,
-    ghost numbered: { Numbered (get nat_eq pages) (vec_len values) },
-    ghost parted: { Parted (get nat_eq pages) parts.items (vec_len values) (vec_len cells) },
-    ghost linked: { Linked cells.items broken.items },
-    ghost placed: { Placed (starts (get nat_eq pages) parts.items) broken.items },
-    ghost space: { vec_len values ≤ vec_capacity cells },
-    ghost room: { vec_len values ≤ vec_capacity broken },
-    ghost fewer: { vec_len cells ≤ vec_len values },
-    ghost few: { vec_len values < 2 ^ 32 },
-    ghost listed: { Listed work cells.items broken.items },
+    ghost tiled: { Tiled (get nat_eq pages) (vec_len broken.parts) (vec_len values) },
+    ghost placed: { Placed (get nat_eq pages) broken.entries.list.items },
 }
 
 impl PlaceMap {
     ghost use Rattle.std.specs.Prelude.{ℕ, None, Some, true, false, IsSome, IfSome, ◌+◌};
     ghost use Rattle.std.specs.Option.{option_copied};
     ghost use Rattle.bbm_entry_state.specs.Points.{core_in};
-    ghost use Rattle.bbm_place_map.specs.Entries.{marks_of, pends_of};
     ghost use Rattle.bbm_entry_state.specs.EntryStanding.{IsIdle};
-    ghost use Rattle.bbm_place_map.specs.Map.{value_at, marks_at, pends_at, is_tracked, page_of, restless_in, state_at};
+    ghost use Rattle.bbm_place_map.specs.Map.{value_at, marks_at, pends_at, is_tracked, page_of, place_entry, restless_in};
+    ghost use Rattle.bbm_place_map.specs.Map.{state_at};
     ghost use Rattle.bbm_place_map.specs.Sound.{index_of};
 
     /// A map that tracks no page. It takes no memory yet.
@@ -71,15 +55,10 @@ impl PlaceMap {
         ensures restless { restless_in result ≡ 0 }
     {
         PlaceMap {
-            alloc,
             pages: PageMap::new(alloc),
             values: Vec::new(alloc),
-            parts: Vec::new(alloc),
-            cells: Vec::new(alloc),
-            broken: Vec::new(alloc),
-            work: work::no_work(alloc),
+            broken: BrokenPlaces::new(alloc),
             recent: 0,
-            owners: Vec::new(alloc),
         }
     }
 
@@ -110,12 +89,10 @@ impl PlaceMap {
     #[inline(always)]
     fn entry(&self, j: usize) -> Option<&Entry>
         requires { j < vec_len self.now.values }
-        ensures marks { (a : ℕ) → index_of (get nat_eq self.now.pages) a ≡ Some j
-            → marks_of (option_copied result) ≡ marks_at self.now a }
-        ensures pends { (q a : ℕ) → index_of (get nat_eq self.now.pages) a ≡ Some j
-            → pends_of q (option_copied result) ≡ pends_at self.now q a }
+        ensures { (a : ℕ) → index_of (get nat_eq self.now.pages) a ≡ Some j
+            → option_copied result ≡ place_entry self.now a }
     {
-        read::entry(&self.parts, &self.cells, &self.broken, j)
+        self.broken.entry(j)
     }
 
     /// The state of the place of the value with this number, where one that isn't broken is live with this core, or

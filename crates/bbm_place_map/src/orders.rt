@@ -5,7 +5,7 @@ use bbm_barriers::Dsb;
 use bbm_regimes::{Pe, PeCount, PeMask};
 
 /// What a DSB does at a broken place.
-#[derive(Clone, Copy, Debug)]
+#[derive(Clone, Copy)]
 pub enum Effect {
     /// It publishes its issuer's writes to these PEs.
     Publish(PeMask),
@@ -14,7 +14,7 @@ pub enum Effect {
 }
 
 /// A DSB, and one of the two things that it does.
-#[derive(Clone, Copy, Debug)]
+#[derive(Clone, Copy)]
 pub struct Barrier {
     /// The PE that issued it.
     pub issuer: Pe,
@@ -27,7 +27,7 @@ pub struct Barrier {
 }
 
 /// A TLBI, without how far it covers a place.
-#[derive(Clone, Copy, Debug)]
+#[derive(Clone, Copy)]
 pub struct Issuing {
     /// The PE that issued it.
     pub issuer: Pe,

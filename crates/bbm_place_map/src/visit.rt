@@ -4,7 +4,7 @@ ghost use Rattle.std.specs.Prelude.{◌≡◌, ◌≢◌, ◌<◌, ◌⊎◌, �
 ghost use Rattle.std.specs.Prelude.{nat_eq, if◌then◌else◌, Option};
 ghost use Rattle.bbm_entry_state.specs.EntryCalls.{Completed};
 ghost use Rattle.bbm_entry_state.specs.declared.state.EntryState.TheVariants as state;
-ghost use Rattle.bbm_place_map.specs.Dsbs.{CanVisit, HasEffect, HoldOpen, IsAudience, IsSettled, IsBusy};
+ghost use Rattle.bbm_place_map.specs.Dsbs.{HasEffect, HoldOpen, IsAudience, IsSettled, IsBusy};
 ghost use Rattle.bbm_place_map.specs.Dsbs.{VisitsAll, VisitsAt, VisitsCell};
 ghost use Rattle.bbm_place_map.specs.Each.{Does, Publishes, is_table as spec_is_table};
 ghost use Rattle.bbm_place_map.specs.Entries.{entry_in, no_pends, pends_in, position};
@@ -12,10 +12,9 @@ ghost use Rattle.bbm_place_map.specs.Sound.{SameSize};
 ghost use Rattle.bbm_place_map.specs.Works.{Holds, HoldsFor, IsTold, RestsAt, Stays};
 ghost use Rattle.bbm_place_map.specs.declared.entry.Entry.{Entry as TheEntry};
 
+use crate::entries::Entries;
 use crate::entry::{Entry, is_quiet_for, take_answered};
-use crate::links::unlink;
 use crate::orders::{Barrier, Effect};
-use crate::read::slot_of;
 use crate::work::{WorkList, add, part, pass_local, restart};
 use bbm_barriers::{completes_local, is_non};
 use bbm_descriptor::Core;
@@ -23,34 +22,36 @@ use bbm_entry_state::{Marks, law_completes};
 use bbm_regimes::PeMask;
 
 /// A DSB of the issuer, which publishes to these PEs, published its writes at one entry.
-fn publish_at(broken: &mut Vec<Entry>, k: usize, barrier: &Barrier, heard: PeMask)
+fn publish_at(entries: &mut Entries, k: usize, barrier: &Barrier, heard: PeMask)
     requires heard { IsAudience barrier.now heard }
-    requires entry_within { k < vec_len broken.old }
-    ensures entry { (e : TheEntry) → slice_get broken.old.items k ≡ Some e → (f : TheEntry) × (position f ≡ position e)
+    requires entry_within { k < vec_len entries.old.list }
+    ensures entry { (e : TheEntry) → slice_get entries.old.list.items k ≡ Some e → (f : TheEntry) × (position f ≡ position e)
         × Publishes barrier.now e f
-        × ((i : ℕ) → slice_get broken.new.items i ≡ (if nat_eq i k then Some f else slice_get broken.old.items i)) }
-    ensures size { SameSize broken.old broken.new }
+        × ((i : ℕ) → slice_get entries.new.list.items i ≡ (if nat_eq i k then Some f else slice_get entries.old.list.items i)) }
+    ensures cells { entries.new.cells ≡ entries.old.cells }
+    ensures size { SameSize entries.old.list entries.new.list }
 {
-    let entry = &mut broken[k];
+    let entry = &mut entries.list[k];
     if entry.marks.writers.has(barrier.issuer) {
         entry.marks = entry.marks.published_to(heard);
     }
 }
 
 /// A DSB of the issuer answered its TLBIs at one entry, which stays for now. Whether its place is cleansed at every PE.
-fn answer_at(broken: &mut Vec<Entry>, k: usize, barrier: &Barrier) -> bool
-    requires within { k < vec_len broken.old }
-    ensures entry { (e : TheEntry) → slice_get broken.old.items k ≡ Some e → (f : TheEntry) × (position f ≡ position e)
+fn answer_at(entries: &mut Entries, k: usize, barrier: &Barrier) -> bool
+    requires within { k < vec_len entries.old.list }
+    ensures entry { (e : TheEntry) → slice_get entries.old.list.items k ≡ Some e → (f : TheEntry) × (position f ≡ position e)
         × (result ≡ true → Completed (state.Broken e.marks) (pends_in e.pends.items barrier.now.issuer)
         barrier.now.dsb barrier.now.n state.Clean no_pends)
         × (result ≡ false → Completed (state.Broken e.marks) (pends_in e.pends.items barrier.now.issuer)
         barrier.now.dsb barrier.now.n (state.Broken f.marks) (pends_in f.pends.items barrier.now.issuer))
         × ((q : ℕ) → q ≢ barrier.now.issuer → pends_in f.pends.items q ≡ pends_in e.pends.items q)
-        × ((i : ℕ) → slice_get broken.new.items i ≡ (if nat_eq i k then Some f else slice_get broken.old.items i)) }
-    ensures size { SameSize broken.old broken.new }
+        × ((i : ℕ) → slice_get entries.new.list.items i ≡ (if nat_eq i k then Some f else slice_get entries.old.list.items i)) }
+    ensures cells { entries.new.cells ≡ entries.old.cells }
+    ensures size { SameSize entries.old.list entries.new.list }
 {
     law_completes();
-    let entry = &mut broken[k];
+    let entry = &mut entries.list[k];
     let done = take_answered(&mut entry.pends, barrier.issuer, barrier.dsb);
     entry.marks.answer(done);
     entry.marks.is_clean(barrier.n)
@@ -66,14 +67,14 @@ fn is_table(core: Core) -> bool
 /// A DSB of the issuer answered its TLBIs at one entry, which leaves where its place is cleansed at every PE. Whether
 /// it left, and its core is a table.
 #[inline(always)]
-fn complete_at(cells: &mut Vec<u32>, broken: &mut Vec<Entry>, k: usize, barrier: &Barrier) -> bool
-    requires able { CanVisit barrier.now cells.old broken.old }
-    requires within { k < vec_len broken.old }
-    ensures { VisitsAt Effect.Complete barrier.now k cells.old cells.new broken.old broken.new result }
+fn complete_at(entries: &mut Entries, k: usize, barrier: &Barrier) -> bool
+    requires has { HasEffect barrier.now.effect barrier.now }
+    requires within { k < vec_len entries.old.list }
+    ensures { VisitsAt Effect.Complete barrier.now k entries.old entries.new result }
 {
-    let core = broken[k].marks.core;
-    if answer_at(broken, k, barrier) {
-        unlink(cells, broken, k);
+    let core = entries.list[k].marks.core;
+    if answer_at(entries, k, barrier) {
+        entries.unlink(k);
         is_table(core)
     } else {
         false
@@ -82,31 +83,31 @@ fn complete_at(cells: &mut Vec<u32>, broken: &mut Vec<Entry>, k: usize, barrier:
 
 /// A DSB visited one entry. Whether it left, and its core is a table.
 #[inline(always)]
-fn visit_at(cells: &mut Vec<u32>, broken: &mut Vec<Entry>, k: usize, barrier: &Barrier) -> bool
-    requires able { CanVisit barrier.now cells.old broken.old }
-    requires within { k < vec_len broken.old }
-    ensures { VisitsAt barrier.now.effect barrier.now k cells.old cells.new broken.old broken.new result }
+fn visit_at(entries: &mut Entries, k: usize, barrier: &Barrier) -> bool
+    requires has { HasEffect barrier.now.effect barrier.now }
+    requires within { k < vec_len entries.old.list }
+    ensures { VisitsAt barrier.now.effect barrier.now k entries.old entries.new result }
 {
     match barrier.effect {
         Effect::Publish(heard) => {
-            publish_at(broken, k, barrier, heard);
+            publish_at(entries, k, barrier, heard);
             false
         }
-        Effect::Complete => complete_at(cells, broken, k, barrier),
+        Effect::Complete => complete_at(entries, k, barrier),
     }
 }
 
 /// A DSB visited each entry. Whether one over a table left.
 #[inline(always)]
-fn visit_all(cells: &mut Vec<u32>, broken: &mut Vec<Entry>, barrier: &Barrier) -> bool
-    requires { CanVisit barrier.now cells.old broken.old }
-    ensures { VisitsAll barrier.now cells.old cells.new broken.old broken.new result }
+fn visit_all(entries: &mut Entries, barrier: &Barrier) -> bool
+    requires { HasEffect barrier.now.effect barrier.now }
+    ensures { VisitsAll barrier.now entries.old entries.new result }
 {
     let mut lost = false;
-    let mut k = broken.len();
+    let mut k = entries.list.len();
     while k > 0 {
         k -= 1;
-        if visit_at(cells, broken, k, barrier) {
+        if visit_at(entries, k, barrier) {
             lost = true;
         }
     }
@@ -115,32 +116,27 @@ fn visit_all(cells: &mut Vec<u32>, broken: &mut Vec<Entry>, barrier: &Barrier) -
 
 /// A DSB visited the entry of a cell, if it has one. Whether it left, and its core is a table.
 #[inline(always)]
-fn visit_cell(cells: &mut Vec<u32>, broken: &mut Vec<Entry>, cell: u32, barrier: &Barrier) -> bool
-    requires { CanVisit barrier.now cells.old broken.old }
-    ensures { VisitsCell barrier.now cell cells.old cells.new broken.old broken.new result }
+fn visit_cell(entries: &mut Entries, cell: u32, barrier: &Barrier) -> bool
+    requires { HasEffect barrier.now.effect barrier.now }
+    ensures { VisitsCell barrier.now cell entries.old entries.new result }
 {
-    match slot_of(cells, cell as usize) {
-        Some(k) => visit_at(cells, broken, k as usize, barrier),
+    match entries.number(cell as usize) {
+        Some(k) => visit_at(entries, k as usize, barrier),
         None => false,
     }
 }
 
 /// A DSB visited the entries of these cells, which are all those that it changes. Whether one over a table left.
 #[inline(always)]
-fn visit_cells(
-    cells: &mut Vec<u32>,
-    broken: &mut Vec<Entry>,
-    list: &[u32],
-    barrier: &Barrier,
-) -> bool
-    requires able { CanVisit barrier.now cells.old broken.old }
+fn visit_cells(entries: &mut Entries, list: &[u32], barrier: &Barrier) -> bool
+    requires has { HasEffect barrier.now.effect barrier.now }
     requires known { (j : ℕ) → Contains list.now j ⊎ Does barrier.now.effect barrier.now
-        (entry_in cells.old.items broken.old.items j) (entry_in cells.old.items broken.old.items j) }
-    ensures { VisitsAll barrier.now cells.old cells.new broken.old broken.new result }
+        (entry_in entries.old.cells.items entries.old.list.items j) (entry_in entries.old.cells.items entries.old.list.items j) }
+    ensures { VisitsAll barrier.now entries.old entries.new result }
 {
     let mut lost = false;
     for i in 0..list.len() {
-        if visit_cell(cells, broken, list[list.len() - 1 - i], barrier) {
+        if visit_cell(entries, list[list.len() - 1 - i], barrier) {
             lost = true;
         }
     }
@@ -206,24 +202,19 @@ fn is_idle(barrier: &Barrier) -> bool
 /// A DSB visited the entries that its list has, which are all at which it can do this. The list loses its cells where
 /// nothing is left, or passes them for the next DSB that reaches its PE alone. Whether an entry over a table left.
 #[inline(always)]
-fn visit_listed(
-    cells: &mut Vec<u32>,
-    broken: &mut Vec<Entry>,
-    list: &mut WorkList,
-    barrier: &Barrier,
-) -> bool
-    requires able { CanVisit barrier.now cells.old broken.old }
+fn visit_listed(entries: &mut Entries, list: &mut WorkList, barrier: &Barrier) -> bool
+    requires has { HasEffect barrier.now.effect barrier.now }
     requires open { list.old.given_up ≡ false }
-    requires known { HoldOpen (Holds list.old) barrier.now cells.old.items broken.old.items }
-    requires settled { IsSettled barrier.now cells.old.items broken.old.items }
-    ensures visited { VisitsAll barrier.now cells.old cells.new broken.old broken.new result }
-    ensures known { HoldOpen (Holds list.new) barrier.now cells.new.items broken.new.items }
+    requires known { HoldOpen (Holds list.old) barrier.now entries.old.cells.items entries.old.list.items }
+    requires settled { IsSettled barrier.now entries.old.cells.items entries.old.list.items }
+    ensures visited { VisitsAll barrier.now entries.old entries.new result }
+    ensures known { HoldOpen (Holds list.new) barrier.now entries.new.cells.items entries.new.list.items }
 {
     if is_idle(barrier) {
         return false;
     }
     let wide = !is_non(barrier.dsb.domain);
-    let lost = visit_cells(cells, broken, part(list, wide), barrier);
+    let lost = visit_cells(entries, part(list, wide), barrier);
     if wide {
         restart(list, false);
     } else {
@@ -235,24 +226,18 @@ fn visit_listed(
 /// A DSB visited the entries. Its list has given up, or has all at which it can do this. Whether an entry over a table
 /// left.
 #[inline(always)]
-fn visit_by(
-    cells: &mut Vec<u32>,
-    broken: &mut Vec<Entry>,
-    list: &mut WorkList,
-    settled: bool,
-    barrier: &Barrier,
-) -> bool
-    requires able { CanVisit barrier.now cells.old broken.old }
-    requires known { HoldOpen (Holds list.old) barrier.now cells.old.items broken.old.items }
-    requires settled { settled ≡ true → IsSettled barrier.now cells.old.items broken.old.items }
-    ensures visited { VisitsAll barrier.now cells.old cells.new broken.old broken.new result }
-    ensures known { HoldOpen (Holds list.new) barrier.now cells.new.items broken.new.items }
+fn visit_by(entries: &mut Entries, list: &mut WorkList, settled: bool, barrier: &Barrier) -> bool
+    requires has { HasEffect barrier.now.effect barrier.now }
+    requires known { HoldOpen (Holds list.old) barrier.now entries.old.cells.items entries.old.list.items }
+    requires settled { settled ≡ true → IsSettled barrier.now entries.old.cells.items entries.old.list.items }
+    ensures visited { VisitsAll barrier.now entries.old entries.new result }
+    ensures known { HoldOpen (Holds list.new) barrier.now entries.new.cells.items entries.new.list.items }
 {
     if settled && !list.given_up {
-        visit_listed(cells, broken, list, barrier)
+        visit_listed(entries, list, barrier)
     } else {
-        let lost = visit_all(cells, broken, barrier);
-        relist(broken, list, barrier);
+        let lost = visit_all(entries, barrier);
+        relist(&entries.list, list, barrier);
         lost
     }
 }
@@ -262,26 +247,25 @@ fn visit_by(
 /// list has all entries at which there is something to do, only these are visited.
 #[inline(always)]
 pub fn visit(
-    cells: &mut Vec<u32>,
-    broken: &mut Vec<Entry>,
+    entries: &mut Entries,
     lists: &mut Vec<WorkList>,
     settled: bool,
     barrier: &Barrier,
 ) -> bool
-    requires able { CanVisit barrier.now cells.old broken.old }
-    requires known { HoldOpen (HoldsFor lists.old.items barrier.now.issuer) barrier.now cells.old.items
-        broken.old.items }
-    requires settled { settled ≡ true → IsSettled barrier.now cells.old.items broken.old.items }
-    ensures visited { VisitsAll barrier.now cells.old cells.new broken.old broken.new result }
-    ensures known { HoldOpen (HoldsFor lists.new.items barrier.now.issuer) barrier.now cells.new.items
-        broken.new.items }
+    requires has { HasEffect barrier.now.effect barrier.now }
+    requires known { HoldOpen (HoldsFor lists.old.items barrier.now.issuer) barrier.now
+        entries.old.cells.items entries.old.list.items }
+    requires settled { settled ≡ true → IsSettled barrier.now entries.old.cells.items entries.old.list.items }
+    ensures visited { VisitsAll barrier.now entries.old entries.new result }
+    ensures known { HoldOpen (HoldsFor lists.new.items barrier.now.issuer) barrier.now
+        entries.new.cells.items entries.new.list.items }
     ensures kept_lists { (wide : Bool) (q j : ℕ) → q ≢ barrier.now.issuer → HoldsFor lists.old.items q wide j
         → HoldsFor lists.new.items q wide j }
 {
     let q = barrier.issuer.get() as usize;
     if q < lists.len() {
-        visit_by(cells, broken, &mut lists[q], settled, barrier)
+        visit_by(entries, &mut lists[q], settled, barrier)
     } else {
-        visit_all(cells, broken, barrier)
+        visit_all(entries, barrier)
     }
 }

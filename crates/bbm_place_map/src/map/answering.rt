@@ -11,11 +11,8 @@ ghost use Rattle.bbm_descriptor.specs.declared.desc.Core.{Core as TheCore};
 ghost use Rattle.bbm_place_map.specs.Map.{marks_at, pends_at, restless_in, restless_place, state_at};
 
 use crate::found::{Answer, Found};
-use crate::issue::Kept;
-use crate::lane::Lane;
 use crate::map::PlaceMap;
 use crate::orders::{Barrier, Effect, Issuing};
-use crate::{issue, visit, work};
 use bbm_barriers::{Dsb, publishes_to};
 use bbm_regimes::{NoMemory, Pe, PeCount, PeMask};
 
@@ -28,23 +25,13 @@ impl PlaceMap {
         ensures pends { (q a : ℕ) → pends_at self.new q a ≡ pends_at self.old q a }
         ensures same { KeepsPlaces self.old self.new }
     {
-        if self.broken.is_empty() {
-            return;
-        }
-        work::begin(&mut self.work, n, self.broken.len());
         let effect = Effect::Publish(publishes_to(dsb, issuer, n));
-        visit::visit(
-            &mut self.cells,
-            &mut self.broken,
-            &mut self.work.unpublished,
-            true,
-            &Barrier {
-                issuer,
-                dsb,
-                n,
-                effect,
-            },
-        );
+        self.broken.visit(&Barrier {
+            issuer,
+            dsb,
+            n,
+            effect,
+        });
     }
 
     /// A DSB of the issuer, in a log with `n` PEs, answered its TLBIs. A place that is cleansed at every PE
@@ -59,24 +46,12 @@ impl PlaceMap {
         ensures kept { result ≡ false → (a : ℕ) → lost_table self.old self.new a ≡ false }
         ensures same { KeepsValues self.old self.new }
     {
-        if self.broken.is_empty() {
-            return false;
-        }
-        work::begin(&mut self.work, n, self.broken.len());
-        let lost = visit::visit(
-            &mut self.cells,
-            &mut self.broken,
-            &mut self.work.waiting,
-            self.work.settled,
-            &Barrier {
-                issuer,
-                dsb,
-                n,
-                effect: Effect::Complete,
-            },
-        );
-        self.work.settled = true;
-        lost
+        self.broken.visit(&Barrier {
+            issuer,
+            dsb,
+            n,
+            effect: Effect::Complete,
+        })
     }
 
     /// The issuer issued a TLBI that reaches these PEs, is broadcast or not, and covers the broken places as far as
@@ -97,26 +72,14 @@ impl PlaceMap {
         ensures only { NotesOnly issuer self.old self.new }
         ensures kept { OnErr result (IsSame self.old self.new) }
     {
-        let tlbi = Issuing {
-            issuer,
-            reach,
-            broadcast,
-        };
-        let start = issue::first_open(&self.broken, covers, &tlbi);
-        issue::make_room(
-            &mut self.broken,
+        self.broken.issue_all(
+            &Issuing {
+                issuer,
+                reach,
+                broadcast,
+            },
             covers,
-            start,
-            Lane::new(issuer, broadcast),
-        )?;
-        issue::note(
-            &mut self.broken,
-            covers,
-            start,
-            &tlbi,
-            &mut self.work.waiting,
-        );
-        Ok(())
+        )
     }
 
     /// The issuer issued a TLBI that reaches these PEs, is broadcast or not, and covers no broken place but these, each
@@ -142,23 +105,14 @@ impl PlaceMap {
         if found.is_empty() {
             return Ok(());
         }
-        let kept = Kept {
-            pages: &self.pages,
-            parts: &self.parts,
-            cells: &self.cells,
-        };
-        issue::make_room_found(&kept, &mut self.broken, found, Lane::new(issuer, broadcast))?;
-        issue::note_found(
-            &kept,
-            &mut self.broken,
-            found,
+        self.broken.issue_at(
+            &self.pages,
             &Issuing {
                 issuer,
                 reach,
                 broadcast,
             },
-            &mut self.work.waiting,
-        );
-        Ok(())
+            found,
+        )
     }
 }

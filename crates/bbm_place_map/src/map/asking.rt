@@ -141,7 +141,7 @@ impl PlaceMap {
                 if !read::is_zero(&self.values, base) {
                     return false;
                 }
-                read::is_free(&self.parts, &self.cells, base)
+                self.broken.is_free(base)
             }
             None => true,
         }
@@ -207,7 +207,7 @@ impl PlaceMap {
         ensures place { result ≡ restless_place self.now i }
         ensures broken { is_some (marks_at self.now result) ≡ true }
     {
-        self.broken[i as usize].place
+        self.broken.item(i as usize).place
     }
 
     /// The core that one of the broken places is broken over, by its number below `restless`.
@@ -216,22 +216,16 @@ impl PlaceMap {
         ensures { (marks : TheMarks) × (marks_at self.now (restless_place self.now i) ≡ Some marks)
             × (marks.core ≡ result) }
     {
-        self.broken[i as usize].marks.core
+        self.broken.item(i as usize).marks.core
     }
 
     /// The number at which the page of one of the broken places, by its number below `restless`, is best looked for
-    /// first: most often its own, in the order in which pages were tracked. No answer depends on it.
+    /// first: its own, in the order in which pages were tracked. No answer depends on it.
     #[inline(always)]
     pub fn restless_page(&self, i: u64) -> usize
         requires { i < restless_in self.now }
     {
-        match self
-            .owners
-            .get(self.broken[i as usize].cell as usize / VALUES)
-        {
-            Some(page) => *page as usize,
-            None => self.recent,
-        }
+        self.broken.item(i as usize).index as usize / VALUES
     }
 
     /// The number of a position's place among the broken ones, below `restless`; None where it isn't broken.
@@ -242,7 +236,7 @@ impl PlaceMap {
             → (i < restless_in self.now) × (restless_place self.now i ≡ position.now.place) }
         ensures none { result ≡ None → marks_at self.now position.now.place ≡ None }
     {
-        read::entry_number(&self.parts, &self.cells, position.index)
+        self.broken.number(position.index)
     }
 
     /// Nothing waits at a place that isn't broken. The call does nothing; the law is its contract.

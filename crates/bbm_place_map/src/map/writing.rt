@@ -2,20 +2,17 @@
 
 ghost use Rattle.std.specs.Prelude.{ℕ, Some, None, true, false, OnOk, OnErr, ◌||◌, ◌+◌, if◌then◌else◌, ◌≡◌, ◌≤◌};
 ghost use Rattle.std.specs.Prelude.{vec_len, vec_capacity, nat_eq};
-ghost use Rattle.bbm_entry_state.specs.declared.marks.Marks.{Marks as TheMarks};
 ghost use Rattle.bbm_entry_state.specs.declared.state.EntryState.{EntryState as TheState};
 ghost use Rattle.bbm_place_map.specs.MapCalls.{Frees, IsSame, KeepsItems, KeepsBroken, KeepsValues, Leaves, Puts};
 ghost use Rattle.bbm_place_map.specs.MapCalls.{WritesAs};
-ghost use Rattle.bbm_place_map.specs.Cells.{cell_by};
-ghost use Rattle.bbm_entry_state.specs.EntryCalls.{Written};
-ghost use Rattle.bbm_place_map.specs.Map.{value_at, marks_at, pends_at, is_tracked, IsPosition, page_of, place_cell};
+ghost use Rattle.bbm_place_map.specs.Broken.{HasPageRoom};
+ghost use Rattle.bbm_place_map.specs.Map.{value_at, marks_at, pends_at, is_tracked, IsPosition, page_of};
 ghost use Rattle.bbm_place_map.specs.Map.{state_at};
 
-use crate::links::{link, put_slot};
-use crate::map::{MAX_VALUES, PlaceMap};
+use crate::map::PlaceMap;
 use crate::position::Position;
 use crate::read::VALUES;
-use crate::{read, work, write};
+use crate::write;
 use bbm_descriptor::Core;
 use bbm_entry_state::{EntryState, Marks};
 use bbm_regimes::{NoMemory, Page, Pe, Place};
@@ -65,33 +62,10 @@ impl PlaceMap {
         requires whole { marks_at self.old position.now.place ≡ None }
         ensures { WritesAs (TheState.Live core) pe None value position.now.place self.old self.new }
     {
-        let i = self.cell(position);
-        self.break_cell(position, i, pe, core);
-        self.put_at(position, value);
-    }
-
-    /// The place of a position, which has this cell and isn't broken, is broken over a core by a write of this PE. What
-    /// waits there stays, and nothing else changes.
-    #[inline(always)]
-    fn break_cell(&mut self, position: &Position, i: usize, pe: Pe, core: Core)
-        requires cell { place_cell self.old position.now.place ≡ Some i }
-        requires whole { marks_at self.old position.now.place ≡ None }
-        ensures position { IsPosition self.old position.now → IsPosition self.new position.now }
-        ensures same { KeepsValues self.old self.new }
-        ensures written { (marks : TheMarks) × Written (TheState.Live core) pe None (TheState.Broken marks)
-            × Leaves (TheState.Broken marks) position.now.place self.old self.new }
-    {
-        let broken = self.broken.len();
-        work::note_break(&mut self.work, pe, i as u32, broken);
-        let marks = Marks::broken_by(core, pe);
-        link(
-            &mut self.cells,
-            &mut self.broken,
-            i,
-            position.place,
-            marks,
-            self.alloc,
-        );
+        let j = position.index;
+        self.broken.break_over(j, position.place, pe, core);
+        write::put_value(&mut self.values, j, value);
+        self.recent = j / VALUES;
     }
 
     /// `write_at` of an invalid value. Each state has an arm of its own, so that the code of a live place carries no
@@ -131,45 +105,10 @@ impl PlaceMap {
         ensures put { Puts value position.now.place self.old self.new }
         ensures left { Leaves TheState.Clean position.now.place self.old self.new }
     {
-        write::put_value(&mut self.values, position.index, value);
-        write::clear_by(
-            &self.parts,
-            &mut self.cells,
-            &mut self.broken,
-            position.index,
-        );
-        self.recent = position.index / VALUES;
-    }
-
-    /// The number of the cell of a position's place. Where its page has no cells it gets them, which changes nothing else.
-    #[inline(always)]
-    fn cell(&mut self, position: &Position) -> usize
-        requires { IsPosition self.old position.now }
-        ensures cell { place_cell self.new position.now.place ≡ Some result }
-        ensures position { IsPosition self.new position.now }
-        ensures same { IsSame self.old self.new }
-    {
-        match read::cell(&self.parts, position.index) {
-            Some(i) => i,
-            None => self.add_part(position),
-        }
-    }
-
-    /// Makes the cells of the page of a position's place, which has none. The number of that of the place.
-    #[cold]
-    #[inline(never)]
-    fn add_part(&mut self, position: &Position) -> usize
-        requires position { IsPosition self.old position.now }
-        requires none { cell_by self.old.parts.items position.now.index ≡ None }
-        ensures cell { place_cell self.new position.now.place ≡ Some result }
-        ensures position { IsPosition self.new position.now }
-        ensures same { IsSame self.old self.new }
-    {
-        let start = self.cells.len();
-        write::add_cells(&mut self.cells, VALUES);
-        let _ = self.owners.push((position.index / VALUES) as u32);
-        put_slot(&mut self.parts, position.index / VALUES, Some(start as u32));
-        start + position.index % VALUES
+        let j = position.index;
+        write::put_value(&mut self.values, j, value);
+        self.broken.clear(j);
+        self.recent = j / VALUES;
     }
 
     /// Writes a value at a position's place, which is broken with these marks after. What waits there stays. Nothing else
@@ -180,40 +119,10 @@ impl PlaceMap {
         ensures put { Puts value position.now.place self.old self.new }
         ensures left { Leaves (TheState.Broken marks) position.now.place self.old self.new }
     {
-        let i = self.cell(position);
-        let before = read::marks(&self.cells, &self.broken, i);
-        self.mark(position, i, mostly, &before, marks);
-        self.put_at(position, value);
-    }
-
-    /// The place of a position, which has this cell and had these marks, is broken with other marks after. What waits there
-    /// stays. Nothing else changes.
-    #[inline(always)]
-    fn mark(
-        &mut self,
-        position: &Position,
-        i: usize,
-        mostly: Pe,
-        before: &Option<Marks>,
-        marks: Marks,
-    )
-        requires position { IsPosition self.old position.now }
-        requires cell { place_cell self.old position.now.place ≡ Some i }
-        requires before { before.now ≡ marks_at self.old position.now.place }
-        ensures position { IsPosition self.new position.now }
-        ensures same { KeepsValues self.old self.new }
-        ensures left { Leaves (TheState.Broken marks) position.now.place self.old self.new }
-    {
-        let broken = self.broken.len();
-        work::note_write(&mut self.work, mostly, i as u32, before, &marks, broken);
-        write::mark(
-            &mut self.cells,
-            &mut self.broken,
-            i,
-            position.place,
-            marks,
-            self.alloc,
-        );
+        let j = position.index;
+        self.broken.mark(j, position.place, mostly, marks);
+        write::put_value(&mut self.values, j, value);
+        self.recent = j / VALUES;
     }
 
     /// Writes a value at a place of a tracked page, and the state that the write leaves. What waits there stays where
@@ -239,9 +148,7 @@ impl PlaceMap {
         ensures same { KeepsValues self.old self.new }
     {
         match self.base(page) {
-            Some(base) => {
-                write::clear_part(&self.parts, &mut self.cells, &mut self.broken, base)
-            }
+            Some(base) => self.broken.clear_page(base),
             None => {}
         }
     }
@@ -257,7 +164,7 @@ impl PlaceMap {
     {
         match self.base(page) {
             Some(base) => {
-                write::clear_part(&self.parts, &mut self.cells, &mut self.broken, base);
+                self.broken.clear_page(base);
                 write::zero_page(&mut self.values, base);
                 Ok(())
             }
@@ -274,35 +181,25 @@ impl PlaceMap {
         ensures kept { OnErr result (IsSame self.old self.new) }
     {
         let base = self.values.len();
-        if base >= MAX_VALUES || !self.has_room() {
+        if !self.has_room() {
             return Err(NoMemory);
         }
         match self.pages.insert(page, base) {
             Ok(_) => {
                 write::add_values(&mut self.values);
-                write::add_cells(&mut self.parts, 1);
-                work::make_lists(&mut self.work.unpublished, self.alloc);
-                work::make_lists(&mut self.work.waiting, self.alloc);
+                self.broken.add_page();
                 Ok(())
             }
             Err(_) => Err(NoMemory),
         }
     }
 
-    /// Makes room for one more page: for its values and cells, and for an entry of each. Whether there is.
+    /// Makes room for one more page: for its values, and for a broken place of each. Whether there is.
     fn has_room(&mut self) -> bool
         ensures values { result ≡ true → vec_len self.new.values + VALUES ≤ vec_capacity self.new.values }
-        ensures parts { result ≡ true → vec_len self.new.parts + 1 ≤ vec_capacity self.new.parts }
-        ensures cells { result ≡ true → vec_len self.new.values + VALUES ≤ vec_capacity self.new.cells }
-        ensures broken { result ≡ true → vec_len self.new.values + VALUES ≤ vec_capacity self.new.broken }
+        ensures broken { result ≡ true → HasPageRoom self.new.broken }
         ensures same { KeepsItems self.old self.new }
     {
-        let all = self.values.len() + VALUES;
-        let cells = all - self.cells.len();
-        let entries = all - self.broken.len();
-        self.broken.reserve(entries).is_ok()
-            && self.cells.reserve(cells).is_ok()
-            && self.parts.reserve(1).is_ok()
-            && self.values.reserve(VALUES).is_ok()
+        self.broken.reserve_page() && self.values.reserve(VALUES).is_ok()
     }
 }

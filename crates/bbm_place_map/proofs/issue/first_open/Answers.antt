@@ -16,7 +16,7 @@ loop-k-preserved c = λ m e x below is at.
       | inl lt ↦ c.loop-k.invariant m e x lt is at
       | inr ge ↦
           let here : k ≡ m = omega (arith, ge, below) in
-          let there : slice_get c.args.broken.now.items k ≡ Some e = ap (slice_get c.args.broken.now.items) here ∙ is in
+          let there : slice_get c.args.entries.now.list.items k ≡ Some e = ap (slice_get c.args.entries.now.list.items) here ∙ is in
           let same : cover ≡ x
           = same_Some cover x (sym (cover_read c.args.covers.now k c.index-covers-k.result cover (omega arith)
           c.index-covers-k.is c.get-cover.ensures) ∙ ap (slice_get c.args.covers.now) here ∙ at) in

@@ -6,10 +6,10 @@ use Rattle.bbm_place_map.proofs.issue.make_room.Goals as goal
 pub loop-k-init : goal.loop-k-init
 loop-k-init c = record {
   done = λ m below.
-      self_advances (Readies c.args.start c.args.lane c.args.covers.now m) (slice_get c.args.broken.now.items m)
+      self_advances (Readies c.args.start c.args.lane c.args.covers.now m) (slice_get c.args.entries.now.list.items m)
       (λ e is. (refl, refl, λ x begun. absurd (omega (arith, begun, below))));
   rest = λ m above. refl;
   before = λ m below. refl;
-  len = refl;
-  room = refl;
+  cells = refl;
+  size = record { len = refl; room = refl };
 }

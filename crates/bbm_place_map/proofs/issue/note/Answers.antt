@@ -1,6 +1,7 @@
 use Rattle.bbm_place_map.proofs.Common.{ℕ, ◌<◌, arith, refl, inr, ◌∙◌, sym, slice_get, length, NotesAt, Waits}
 use Rattle.bbm_place_map.proofs.Advancing.{done_more, rest_more, all_done, advance_by, self_advances}
 use Rattle.bbm_place_map.proofs.Issued.{cover_read}
+use Rattle.bbm_place_map.proofs.Keeping.{size_then}
 use Rattle.bbm_place_map.proofs.Noting.{notes_at, waits_kept}
 use Rattle.bbm_place_map.proofs.Restless.{entry_there}
 use Rattle.bbm_place_map.proofs.issue.note.Goals as goal
@@ -14,24 +15,24 @@ note_entry-requires-clause-ready c = λ e is cover.
 pub loop-k-init : goal.loop-k-init
 loop-k-init c = record {
   done = λ m below.
-      self_advances (NotesAt c.args.covers.now c.args.tlbi.now m) (slice_get c.args.broken.now.items m)
+      self_advances (NotesAt c.args.covers.now c.args.tlbi.now m) (slice_get c.args.entries.now.list.items m)
       (λ e is. (refl, λ q other. refl, λ x at. (refl, λ q other. refl, c.requires.noted m e x below is at, λ none. refl)));
   waits = λ m below.
-      self_advances (Waits c.args.lists.now.items c.args.tlbi.now.issuer) (slice_get c.args.broken.now.items m)
+      self_advances (Waits c.args.lists.now.items c.args.tlbi.now.issuer) (slice_get c.args.entries.now.list.items m)
       (λ e is wide. inr (λ quiet. quiet));
   kept = λ wide q j holds. holds;
   rest = λ m above. refl;
-  len = refl;
-  room = refl;
+  cells = refl;
+  size = record { len = refl; room = refl };
 }
 
 pub loop-k-preserved : goal.loop-k-preserved
 loop-k-preserved c =
     let k = c.loop-k.k in
-    let start = c.args.broken.now.items in
-    let mid = c.loop-k.broken.items in
-    let new = c.note_entry.new.broken.items in
-    let within : k < length mid = omega (arith, c.loop-k.invariant.len) in
+    let start = c.args.entries.now.list.items in
+    let mid = c.loop-k.entries.list.items in
+    let new = c.note_entry.new.entries.list.items in
+    let within : k < length mid = omega (arith, c.loop-k.invariant.size.len) in
     let e = entry_there mid k within in
     let f = c.note_entry.ensures.entry e.0 e.1 in
     let R = NotesAt c.args.covers.now c.args.tlbi.now in
@@ -47,16 +48,16 @@ loop-k-preserved c =
       waits = done_more S start mid new k e.0 f.0 waits c.loop-k.invariant.rest e.1 f.1 f.3 f.4;
       kept = λ wide q j holds. c.note_entry.ensures.rest.kept wide q j (c.loop-k.invariant.kept wide q j holds);
       rest = rest_more R start mid new k e.0 f.0 c.loop-k.invariant.done c.loop-k.invariant.rest e.1 f.1 notes f.4;
-      len = c.note_entry.ensures.rest.len ∙ c.loop-k.invariant.len;
-      room = c.note_entry.ensures.rest.room ∙ c.loop-k.invariant.room;
+      cells = c.note_entry.ensures.rest.cells ∙ c.loop-k.invariant.cells;
+      size = size_then c.loop-k.invariant.size c.note_entry.ensures.rest.size;
     }
 
 pub returns-clause-each : goal.returns-clause-each
 returns-clause-each c =
-    all_done (NotesAt c.args.covers.now c.args.tlbi.now) c.args.broken.now.items c.loop-k.broken.items c.loop-k.k (omega arith)
+    all_done (NotesAt c.args.covers.now c.args.tlbi.now) c.args.entries.now.list.items c.loop-k.entries.list.items c.loop-k.k (omega arith)
     c.loop-k.invariant.done c.loop-k.invariant.rest
 
 pub returns-clause-waits : goal.returns-clause-waits
 returns-clause-waits c =
-    all_done (λ m. Waits c.loop-k.lists.items c.args.tlbi.now.issuer) c.args.broken.now.items c.loop-k.broken.items c.loop-k.k (omega arith)
+    all_done (λ m. Waits c.loop-k.lists.items c.args.tlbi.now.issuer) c.args.entries.now.list.items c.loop-k.entries.list.items c.loop-k.k (omega arith)
     c.loop-k.invariant.waits c.loop-k.invariant.rest

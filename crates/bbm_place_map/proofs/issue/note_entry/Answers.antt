@@ -9,12 +9,12 @@ returns-then-note_at-clause-entry c = λ e is.
     let f = c.note_at.ensures.entry e is in
     let P : ℕ → Type 0 = λ x. (wide : Bool) → HoldsFor c.add_for.new.lists.items c.args.tlbi.now.issuer wide x in
     let now : c.index.result.now ≡ f.0
-    = entry_same c.note_at.new.broken.items c.args.k c.index.result.now f.0 (omega (arith, c.note_at.ensures.size.len)) c.index.ensures
+    = entry_same c.note_at.new.entries.list.items c.args.k c.index.result.now f.0 (omega (arith, c.note_at.ensures.size.len)) c.index.ensures
     (put_here _ _ f.6 c.args.k refl) in (
       f.0,
       f.1,
       (f.2, f.3, f.4, λ none. absurd (false≢true (sym none ∙ sym c.is_cover.ensures ∙ c.if-is_cover.true))),
-      λ wide. inl ((subst P (ap (λ (x : Entry). x.cell) now ∙ ap (λ (s : ℕ × ℕ). s.1) f.1) c.add_for.ensures.there) wide),
+      λ wide. inl ((subst P (ap (λ (x : Entry). x.cell) now ∙ ap (λ (s : ℕ × ℕ × ℕ). s.2) f.1) c.add_for.ensures.there) wide),
       f.6,
     )
 
@@ -34,7 +34,7 @@ returns-else-is_cover-clause-entry c = λ e is. (
   refl,
   not_noted c.args.cover c.args.tlbi.now e (sym c.is_cover.ensures ∙ c.if-is_cover.false),
   λ wide. inr (λ quiet. quiet),
-  gets_same c.args.broken.now.items c.args.k e is,
+  gets_same c.args.entries.now.list.items c.args.k e is,
 )
 
 pub returns-else-not-is_noted_at-clause-entry : goal.returns-else-not-is_noted_at-clause-entry
@@ -43,5 +43,5 @@ returns-else-not-is_noted_at-clause-entry c = λ e is. (
   refl,
   (refl, λ q other. refl, c.is_noted_at.ensures c.if-not-is_noted_at.false e is, λ none. refl),
   λ wide. inr (λ quiet. quiet),
-  gets_same c.args.broken.now.items c.args.k e is,
+  gets_same c.args.entries.now.list.items c.args.k e is,
 )

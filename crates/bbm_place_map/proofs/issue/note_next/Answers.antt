@@ -17,14 +17,14 @@ returns-then-not-is_among-clause-each c = λ start before m.
     let x = c.index-found-i.result in
     let lists = c.note_for.new.lists.items in
     let P : List Found → Type 0 = λ ys.
-    Advances (NotesFound ys c.args.tlbi.now lists) (slice_get start m) (slice_get c.note_for.new.broken.items m) in
+    Advances (NotesFound ys c.args.tlbi.now lists) (slice_get start m) (slice_get c.note_for.new.entries.list.items m) in
     subst P (sym (take_more c.args.found.now c.args.i x c.requires.within c.index-found-i.is))
     (advance_then (NotesFound xs c.args.tlbi.now c.args.lists.now.items)
     (NotesOne x.place x.cover c.args.tlbi.now lists)
     (NotesFound (xs ++ x ∷ []) c.args.tlbi.now lists)
     (note_step xs x c.args.tlbi.now c.args.lists.now.items lists c.note_for.ensures.rest.kept
     (sym c.is_among.ensures ∙ c.if-not-is_among.true))
-    (slice_get start m) (slice_get c.args.broken.now.items m) (slice_get c.note_for.new.broken.items m) (before m) (c.note_for.ensures.each m))
+    (slice_get start m) (slice_get c.args.entries.now.list.items m) (slice_get c.note_for.new.entries.list.items m) (before m) (c.note_for.ensures.each m))
 
 pub returns-else-not-is_among-clause-each : goal.returns-else-not-is_among-clause-each
 returns-else-not-is_among-clause-each c = λ start before m.
@@ -32,8 +32,8 @@ returns-else-not-is_among-clause-each c = λ start before m.
     let x = c.index-found-i.result in
     let lists = c.args.lists.now.items in
     let P : List Found → Type 0 = λ ys.
-    Advances (NotesFound ys c.args.tlbi.now lists) (slice_get start m) (slice_get c.args.broken.now.items m) in
+    Advances (NotesFound ys c.args.tlbi.now lists) (slice_get start m) (slice_get c.args.entries.now.list.items m) in
     subst P (sym (take_more c.args.found.now c.args.i x c.requires.within c.index-found-i.is))
     (advance_by (NotesFound xs c.args.tlbi.now lists) (NotesFound (xs ++ x ∷ []) c.args.tlbi.now lists)
     (skip_step xs x c.args.tlbi.now lists lists (λ wide q j holds. holds) (sym c.is_among.ensures ∙ c.if-not-is_among.false))
-    (slice_get start m) (slice_get c.args.broken.now.items m) (before m))
+    (slice_get start m) (slice_get c.args.entries.now.list.items m) (before m))

@@ -1,58 +1,47 @@
-use Rattle.bbm_place_map.proofs.Common.{Some, ap, arith, if◌then◌else◌, nat_eq, slice_get, ℕ, ◌∙◌, ◌≡◌, option_map, Vec}
-use Rattle.bbm_place_map.proofs.Common.{Global, Complete, Pends, cell_at, position, waits, Linked, StillSound, Entry, put_away, SameSize}
-use Rattle.bbm_place_map.proofs.Positions.{positions_changed, still_seated, still_more}
+use Rattle.bbm_place_map.proofs.Common.{◌≡◌, ◌∙◌, ℕ, Some, ap, arith, Complete, Pends, cell_at, entry_in, if◌then◌else◌}
+use Rattle.bbm_place_map.proofs.Common.{nat_eq, None, option_map}
+use Rattle.bbm_place_map.proofs.Common.{put_away, Vec, Global, waits}
+use Rattle.bbm_place_map.proofs.Positions.{positions_changed, still_more, still_seated}
 use Rattle.bbm_place_map.proofs.Answering.{here_gone}
 use Rattle.bbm_place_map.proofs.Leaving.{entry_read}
 use Rattle.bbm_place_map.proofs.Rounds.{visit_stays}
+use Rattle.bbm_place_map.proofs.Seats.{the_cell}
 use Rattle.bbm_place_map.proofs.visit.complete_at.Goals as goal
 
--- the entries while the one that changed is still among them
-middle : (cells : Vec ℕ Global) (entries mid : Vec Entry Global) (k : ℕ) (e f : Entry) → Linked cells.items entries.items
-    → slice_get entries.items k ≡ Some e → position f ≡ position e
-    → ((i : ℕ) → slice_get mid.items i ≡ (if nat_eq i k then Some f else slice_get entries.items i)) → SameSize entries mid
-    → StillSound cells cells entries mid
-middle cells entries mid k e f linked was seated gets size =
-    still_seated cells entries mid (positions_changed cells.items entries.items mid.items e f e.cell k linked
-    (linked.back e.cell k (ap (option_map (λ (x : Entry). x.cell)) was)) was seated gets) size linked
-
-pub unlink-requires-clause-able : goal.unlink-requires-clause-able
-unlink-requires-clause-able c =
-    let was = entry_read c.args.broken.now.items c.args.k c.index.result.now (omega arith) c.index.ensures in
-    let f = c.answer_at.ensures.entry c.index.result.now was in
-    record {
-      linked = (middle c.args.cells.now c.args.broken.now c.answer_at.new.broken c.args.k c.index.result.now f.0 c.requires.able.linked was f.1 f.5
-          c.answer_at.ensures.size).linked;
-      few = c.requires.able.few;
-    }
-
-pub unlink-requires-clause-within : goal.unlink-requires-clause-within
-unlink-requires-clause-within c = omega (arith, c.answer_at.ensures.size.len)
+pub unlink-requires : goal.unlink-requires
+unlink-requires c = omega (arith, c.answer_at.ensures.size.len)
 
 pub returns-then-answer_at : goal.returns-then-answer_at
 returns-then-answer_at c =
     let x = c.index.result.now in
-    let was = entry_read c.args.broken.now.items c.args.k x (omega arith) c.index.ensures in
-    let f = c.answer_at.ensures.entry x was in
-    let gone = λ (j : ℕ) (at : cell_at c.args.broken.now.items c.args.k ≡ Some j).
-    here_gone c.args.barrier.now c.args.cells.now.items c.args.broken.now.items c.answer_at.new.broken.items c.args.k x f.0 c.requires.able.linked
-    was f.1 f.5 j at c.unlink.new.cells.items c.unlink.new.broken.items c.unlink.ensures.entries (f.2 c.if-answer_at.true) in
+    let by = c.args.barrier.now in
+    let old = c.args.entries.now in
+    let mid = c.answer_at.new.entries in
+    let new = c.unlink.new.self in
+    let was = entry_read old.list.items c.args.k x (omega arith) c.index.ensures in
+    let e = c.answer_at.ensures in
+    let f = e.entry x was in
+    let at = old.linked.back x.cell c.args.k (ap (option_map the_cell) was) in
+    let middle = still_seated old mid e.cells
+    (positions_changed old.cells.items old.list.items mid.list.items x f.0 x.cell c.args.k old.linked at was f.1 f.5) e.size in
+    let gone = λ (j : ℕ) (there : cell_at old.list.items c.args.k ≡ Some j).
+    here_gone by old.cells.items old.list.items mid.list.items c.args.k x f.0 old.linked was f.1 f.5 j there new.cells.items new.list.items
+    (λ j there i. c.unlink.ensures.entries j there i
+    ∙ ap (λ (v : Vec ℕ Global). if nat_eq i j then None else entry_in v.items mid.list.items i) e.cells) (f.2 c.if-answer_at.true) in
     record {
-      visited = record {
-        sound = still_more (middle c.args.cells.now c.args.broken.now c.answer_at.new.broken c.args.k x f.0 c.requires.able.linked was f.1 f.5
-            c.answer_at.ensures.size) c.unlink.ensures.sound;
-        seats = tt;
-      };
-      short = omega (arith, c.answer_at.ensures.size.len);
-      here = λ j at. (gone j at).0;
-      answer = λ j at. c.is_table.ensures ∙ (gone j at).1;
-      others = λ i j at. (gone j at).2 i;
+      visited = record { sound = still_more middle c.unlink.ensures.sound; seats = tt };
+      short = omega (arith, e.size.len);
+      here = λ j there. (gone j there).0;
+      answer = λ j there. c.is_table.ensures ∙ (gone j there).1;
+      others = λ i j there. (gone j there).2 i;
       front = λ m below. c.unlink.ensures.front m below ∙ put_away _ _ f.5 m (λ same. absurd (omega arith));
     }
 
 pub returns-else-answer_at : goal.returns-else-answer_at
 returns-else-answer_at c =
     let x = c.index.result.now in
-    let was = entry_read c.args.broken.now.items c.args.k x (omega arith) c.index.ensures in
-    let f = c.answer_at.ensures.entry x was in
-    visit_stays Complete c.args.barrier.now c.args.cells.now c.args.broken.now c.answer_at.new.broken c.args.k x f.0 c.requires.able.linked was
-    f.1 f.5 c.answer_at.ensures.size (record { own = f.3 c.if-answer_at.false; others = λ q other b cover p. ap (λ (y : Pends). waits y b cover p) (f.4 q other) })
+    let was = entry_read c.args.entries.now.list.items c.args.k x (omega arith) c.index.ensures in
+    let e = c.answer_at.ensures in
+    let f = e.entry x was in
+    visit_stays Complete c.args.barrier.now c.args.entries.now c.answer_at.new.entries c.args.k x f.0 e.cells was f.1 f.5 e.size
+    (record { own = f.3 c.if-answer_at.false; others = λ q other b cover p. ap (λ (y : Pends). waits y b cover p) (f.4 q other) })

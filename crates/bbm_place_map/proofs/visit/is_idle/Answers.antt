@@ -1,4 +1,5 @@
-use Rattle.bbm_place_map.proofs.Common.{◌≡◌, ◌∙◌, Bool, false≢true, refl, Option, sym, subst, true, false, not, Complete, Publish, Does, Effect}
+use Rattle.bbm_place_map.proofs.Common.{◌≡◌, ◌∙◌, Bool, false≢true, refl, Option, sym, subst, true, false, not, Publish}
+use Rattle.bbm_place_map.proofs.Common.{Does, Effect}
 use Rattle.bbm_place_map.proofs.Common.{Entry, Stays}
 use Rattle.bbm_place_map.specs.Dsbs.{HasEffect, IsBusy}
 use Rattle.bbm_place_map.proofs.Doing.{busy_publish, idle_complete, idle_publish}

@@ -7,10 +7,10 @@ use Rattle.bbm_place_map.proofs.visit.visit_all.Goals as goal
 
 pub loop-k-init : goal.loop-k-init
 loop-k-init c = record {
-  visited = no_visit c.args.barrier.now.effect c.args.cells.now c.args.broken.now c.requires.linked;
+  visited = no_visit c.args.barrier.now.effect c.args.entries.now;
   short = omega arith;
-  round = rounded_none c.args.barrier.now.effect c.args.barrier.now (entry_in c.args.cells.now.items c.args.broken.now.items);
-  done = past_visited c.args.barrier.now.effect c.args.barrier.now c.args.cells.now.items c.args.broken.now.items c.len-k.result c.requires.linked (omega arith);
+  round = rounded_none c.args.barrier.now.effect c.args.barrier.now (entry_in c.args.entries.now.cells.items c.args.entries.now.list.items);
+  done = past_visited c.args.barrier.now.effect c.args.barrier.now c.args.entries.now.cells.items c.args.entries.now.list.items c.len-k.result c.args.entries.now.linked (omega arith);
 }
 
 -- the cell of the entry that is looked at
@@ -25,10 +25,10 @@ loop-k-preserved-then-visit_at c =
     let ens = c.visit_at.ensures in
     let by = c.args.barrier.now in
     let k = c.loop-k.k in
-    let j = at c.loop-k.broken.items k (omega arith) inv.short in
-    let start = entry_in c.args.cells.now.items c.args.broken.now.items in
-    let mid = entry_in c.loop-k.cells.items c.loop-k.broken.items in
-    let new = entry_in c.visit_at.new.cells.items c.visit_at.new.broken.items in
+    let j = at c.loop-k.entries.list.items k (omega arith) inv.short in
+    let start = entry_in c.args.entries.now.cells.items c.args.entries.now.list.items in
+    let mid = entry_in c.loop-k.entries.cells.items c.loop-k.entries.list.items in
+    let new = entry_in c.visit_at.new.entries.cells.items c.visit_at.new.entries.list.items in
     let others = λ (i : ℕ). ens.others i j.0 j.1 in
     record {
       visited = visit_then inv.visited ens.visited;
@@ -36,8 +36,8 @@ loop-k-preserved-then-visit_at c =
       round = rounded_lost by.effect by start mid new j.0 c.loop-k.lost inv.round (ens.here j.0 j.1) others c.visit_at.result (ens.answer j.0 j.1) c.if-visit_at.true;
       done = λ i h.
           visited_more by.effect by start mid new j.0 c.loop-k.lost inv.round (ens.here j.0 j.1) others i
-          (λ other. inv.done i (no_more c.loop-k.cells.items c.visit_at.new.cells.items c.loop-k.broken.items c.visit_at.new.broken.items
-          k (k - 1) j.0 (omega arith) inv.visited.sound.linked ens.visited.sound.linked ens.front j.1 i other h));
+          (λ other. inv.done i (no_more c.loop-k.entries.cells.items c.visit_at.new.entries.cells.items c.loop-k.entries.list.items c.visit_at.new.entries.list.items
+          k (k - 1) j.0 (omega arith) c.loop-k.entries.linked c.visit_at.new.entries.linked ens.front j.1 i other h));
     }
 
 pub loop-k-preserved : goal.loop-k-preserved
@@ -46,10 +46,10 @@ loop-k-preserved c =
     let ens = c.visit_at.ensures in
     let by = c.args.barrier.now in
     let k = c.loop-k.k in
-    let j = at c.loop-k.broken.items k (omega arith) inv.short in
-    let start = entry_in c.args.cells.now.items c.args.broken.now.items in
-    let mid = entry_in c.loop-k.cells.items c.loop-k.broken.items in
-    let new = entry_in c.visit_at.new.cells.items c.visit_at.new.broken.items in
+    let j = at c.loop-k.entries.list.items k (omega arith) inv.short in
+    let start = entry_in c.args.entries.now.cells.items c.args.entries.now.list.items in
+    let mid = entry_in c.loop-k.entries.cells.items c.loop-k.entries.list.items in
+    let new = entry_in c.visit_at.new.entries.cells.items c.visit_at.new.entries.list.items in
     let others = λ (i : ℕ). ens.others i j.0 j.1 in
     record {
       visited = visit_then inv.visited ens.visited;
@@ -57,6 +57,6 @@ loop-k-preserved c =
       round = rounded_on by.effect by start mid new j.0 c.loop-k.lost inv.round (ens.here j.0 j.1) others c.visit_at.result (ens.answer j.0 j.1) c.if-visit_at.false;
       done = λ i h.
           visited_more by.effect by start mid new j.0 c.loop-k.lost inv.round (ens.here j.0 j.1) others i
-          (λ other. inv.done i (no_more c.loop-k.cells.items c.visit_at.new.cells.items c.loop-k.broken.items c.visit_at.new.broken.items
-          k (k - 1) j.0 (omega arith) inv.visited.sound.linked ens.visited.sound.linked ens.front j.1 i other h));
+          (λ other. inv.done i (no_more c.loop-k.entries.cells.items c.visit_at.new.entries.cells.items c.loop-k.entries.list.items c.visit_at.new.entries.list.items
+          k (k - 1) j.0 (omega arith) c.loop-k.entries.linked c.visit_at.new.entries.linked ens.front j.1 i other h));
     }

@@ -5,11 +5,11 @@ use Rattle.bbm_place_map.proofs.visit.visit_all.Given as goal
 
 abbrev pub invariant-loop-k : goal.invariant-loop-k
 invariant-loop-k l = record {
-  visited : Visited l.barrier.effect l.initial.cells l.cells l.initial.broken l.broken;
-  short : l.k ≤ length l.broken.items;
-  round : Rounded l.barrier.effect l.barrier (entry_in l.initial.cells.items l.initial.broken.items) (entry_in l.cells.items l.broken.items) l.lost;
-  done : (j : ℕ) → is_below l.k (slot_in l.cells.items j) ≡ false
-      → Does l.barrier.effect l.barrier (entry_in l.initial.cells.items l.initial.broken.items j) (entry_in l.cells.items l.broken.items j);
+  visited : Visited l.barrier.effect l.initial.entries l.entries;
+  short : l.k ≤ length l.entries.list.items;
+  round : Rounded l.barrier.effect l.barrier (entry_in l.initial.entries.cells.items l.initial.entries.list.items) (entry_in l.entries.cells.items l.entries.list.items) l.lost;
+  done : (j : ℕ) → is_below l.k (slot_in l.entries.cells.items j) ≡ false
+      → Does l.barrier.effect l.barrier (entry_in l.initial.entries.cells.items l.initial.entries.list.items j) (entry_in l.entries.cells.items l.entries.list.items j);
 }
 
 abbrev pub decreases-loop-k : goal.decreases-loop-k

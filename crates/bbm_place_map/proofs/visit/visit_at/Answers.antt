@@ -5,19 +5,20 @@ use Rattle.bbm_place_map.proofs.Rounds.{visit_stays}
 use Rattle.bbm_place_map.proofs.visit.visit_at.Goals as goal
 
 pub publish_at-requires-clause-heard : goal.publish_at-requires-clause-heard
-publish_at-requires-clause-heard c = (subst (λ (x : Effect). HasEffect x c.args.barrier.now) c.in-Publish.is c.requires.able.has).0
+publish_at-requires-clause-heard c = (subst (λ (x : Effect). HasEffect x c.args.barrier.now) c.in-Publish.is c.requires.has).0
 
 pub returns-in-Publish : goal.returns-in-Publish
 returns-in-Publish c =
-    let e = entry_there c.args.broken.now.items c.args.k (omega arith) in
+    let old = c.args.entries.now in
+    let new = c.publish_at.new.entries in
+    let e = entry_there old.list.items c.args.k (omega arith) in
     let f = c.publish_at.ensures.entry e.0 e.1 in
-    let P : Effect → Type 0 = λ x. VisitsAt x c.args.barrier.now c.args.k c.args.cells.now c.args.cells.now c.args.broken.now c.publish_at.new.broken false in
+    let P : Effect → Type 0 = λ x. VisitsAt x c.args.barrier.now c.args.k old new false in
     subst P (sym c.in-Publish.is)
-    (visit_stays (Publish c.in-Publish.heard) c.args.barrier.now c.args.cells.now c.args.broken.now c.publish_at.new.broken c.args.k e.0 f.0
-    c.requires.able.linked e.1 f.1 f.3 c.publish_at.ensures.size (f.1, f.2))
+    (visit_stays (Publish c.in-Publish.heard) c.args.barrier.now old new c.args.k e.0 f.0 c.publish_at.ensures.cells e.1 f.1 f.3
+    c.publish_at.ensures.size (f.1, f.2))
 
 pub returns-in-Complete : goal.returns-in-Complete
 returns-in-Complete c =
-    let P : Effect → Type 0 = λ x. VisitsAt x c.args.barrier.now c.args.k c.args.cells.now c.complete_at.new.cells c.args.broken.now
-    c.complete_at.new.broken c.complete_at.result in
+    let P : Effect → Type 0 = λ x. VisitsAt x c.args.barrier.now c.args.k c.args.entries.now c.complete_at.new.entries c.complete_at.result in
     subst P (sym c.in-Complete.is) c.complete_at.ensures

@@ -6,6 +6,6 @@ pub returns-else-settled-clause-known : goal.returns-else-settled-clause-known
 returns-else-settled-clause-known c = λ wide.
     let by = c.args.barrier.now in
     let new = c.visit_all-lost.new in
-    rests_by_cell new.cells.items new.broken.items c.visit_all-lost.ensures.visited.sound.linked (Holds c.relist.new.list wide)
+    rests_by_cell new.entries.cells.items new.entries.list.items new.entries.linked (Holds c.relist.new.list wide)
     (RestsAt by.effect wide by.n by.issuer)
     (λ k e is. c.relist.ensures wide k e (ap (λ (xs : List Entry). slice_get xs k) c.deref.ensures.value ∙ is))

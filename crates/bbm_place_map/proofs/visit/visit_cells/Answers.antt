@@ -7,19 +7,19 @@ use Rattle.bbm_place_map.proofs.visit.visit_cells.Goals.{then-visit_cell, else-v
 use Rattle.bbm_place_map.proofs.visit.visit_cells.Goals as goal
 
 abbrev start : goal.Joined-visit_cell → ℕ → Option Entry
-start c = entry_in c.args.cells.now.items c.args.broken.now.items
+start c = entry_in c.args.entries.now.cells.items c.args.entries.now.list.items
 
 abbrev mid : goal.Joined-visit_cell → ℕ → Option Entry
-mid c = entry_in c.loop-i.cells.items c.loop-i.broken.items
+mid c = entry_in c.loop-i.entries.cells.items c.loop-i.entries.list.items
 
 abbrev new : goal.Joined-visit_cell → ℕ → Option Entry
-new c = entry_in c.visit_cell.new.cells.items c.visit_cell.new.broken.items
+new c = entry_in c.visit_cell.new.entries.cells.items c.visit_cell.new.entries.list.items
 
 pub loop-i-init : goal.loop-i-init
 loop-i-init c = record {
-  visited = no_visit c.args.barrier.now.effect c.args.cells.now c.args.broken.now c.requires.able.linked;
+  visited = no_visit c.args.barrier.now.effect c.args.entries.now;
   here = λ i below. absurd (omega arith);
-  round = rounded_none c.args.barrier.now.effect c.args.barrier.now (entry_in c.args.cells.now.items c.args.broken.now.items);
+  round = rounded_none c.args.barrier.now.effect c.args.barrier.now (entry_in c.args.entries.now.cells.items c.args.entries.now.list.items);
 }
 
 pub loop-i-preserved : goal.loop-i-preserved
@@ -51,8 +51,8 @@ returns c =
     let list = c.args.list.now in
     let last = length list - 1 in
     let inv = c.loop-i.invariant in
-    let was = entry_in c.args.cells.now.items c.args.broken.now.items in
-    let now = entry_in c.loop-i.cells.items c.loop-i.broken.items in
+    let was = entry_in c.args.entries.now.cells.items c.args.entries.now.list.items in
+    let now = entry_in c.loop-i.entries.cells.items c.loop-i.entries.list.items in
     record {
       visited = inv.visited;
       each =

@@ -9,8 +9,8 @@ from_end list i = slice_index list (length list - 1 - i)
 
 abbrev pub invariant-loop-i : goal.invariant-loop-i
 invariant-loop-i l = record {
-  visited : Visited l.barrier.effect l.initial.cells l.cells l.initial.broken l.broken;
-  here : (i : ℕ) → i < l.i → Does l.barrier.effect l.barrier (entry_in l.initial.cells.items l.initial.broken.items (from_end l.list i))
-      (entry_in l.cells.items l.broken.items (from_end l.list i));
-  round : Rounded l.barrier.effect l.barrier (entry_in l.initial.cells.items l.initial.broken.items) (entry_in l.cells.items l.broken.items) l.lost;
+  visited : Visited l.barrier.effect l.initial.entries l.entries;
+  here : (i : ℕ) → i < l.i → Does l.barrier.effect l.barrier (entry_in l.initial.entries.cells.items l.initial.entries.list.items (from_end l.list i))
+      (entry_in l.entries.cells.items l.entries.list.items (from_end l.list i));
+  round : Rounded l.barrier.effect l.barrier (entry_in l.initial.entries.cells.items l.initial.entries.list.items) (entry_in l.entries.cells.items l.entries.list.items) l.lost;
 }

@@ -1,17 +1,13 @@
-use Rattle.bbm_place_map.proofs.Common.{◌≡◌, ℕ, ◌<◌, ◌+◌, ◌/◌, List, Some, refl, nat_eq, ap, sym, subst, ◌∙◌, arith}
-use Rattle.bbm_place_map.proofs.Common.{length, false≢true, get, slot_in, value_in, at_index}
+use Rattle.bbm_place_map.proofs.Common.{◌≡◌, ℕ, ◌<◌, ◌+◌, List, refl, nat_eq, ap, sym, subst, ◌∙◌}
+use Rattle.bbm_place_map.proofs.Common.{false≢true, get, value_in, at_index, marks_of, entry_at, None}
 use Rattle.bbm_place_map.proofs.Blank.{free_marks, marks_free, values_zero, zero_values}
-use Rattle.bbm_place_map.proofs.Parts.{none_marks, part_within}
 use Rattle.bbm_place_map.proofs.Places.{index_none}
-use Rattle.bbm_place_map.specs.Map.{value_at}
+use Rattle.bbm_place_map.specs.Map.{marks_at, value_at}
 use Rattle.bbm_place_map.proofs.map.PlaceMap.is_blank.Goals as goal
 
 -- the values that are looked at are those of the map
 abbrev Zero : ℕ → List ℕ → Type 0
 Zero b xs = (i : ℕ) → i < 512 → value_in xs (b + i) ≡ 0
-
-abbrev Free : ℕ → List ℕ → List ℕ → Type 0
-Free b ps xs = (start : ℕ) → slot_in ps (b / 512) ≡ Some start → (i : ℕ) → i < 512 → value_in xs (start + i) ≡ 0
 
 pub returns-then-not-is_zero-clause-blank : goal.returns-then-not-is_zero-clause-blank
 returns-then-not-is_zero-clause-blank c = (
@@ -26,37 +22,26 @@ pub returns-else-not-is_zero-clause-blank : goal.returns-else-not-is_zero-clause
 returns-else-not-is_zero-clause-blank c =
     let self = c.args.self.now in
     let b = c.in-Some.base in
-    let is = sym c.base.ensures.base ∙ c.in-Some.is in
-    let F : List ℕ → Type 0 = λ xs. Free b c.deref-in-Some.result.now xs in
-    let G : List ℕ → Type 0 = λ ps. Free b ps self.cells.items in (
+    let is = sym c.base.ensures.base ∙ c.in-Some.is in (
       λ e a same. (
         zero_values self c.args.page b is (subst (Zero b) c.deref.ensures.value (c.is_zero.ensures.0 c.if-not-is_zero.false)) a same,
-        free_marks self c.args.page b is (subst G c.deref-in-Some.ensures.value (subst F c.deref-in-Some-2.ensures.value (c.is_free.ensures.0 e))) a same,
+        free_marks self c.args.page b is (c.is_free.ensures.0 e) a same,
       ),
-      λ h.
-          let free = marks_free self c.args.page b is c.get.ensures.aligned (λ a same. (h a same).1) in
-          c.is_free.ensures.1 (subst F (sym c.deref-in-Some-2.ensures.value) (subst G (sym c.deref-in-Some.ensures.value) free)),
+      λ h. c.is_free.ensures.1 (marks_free self c.args.page b is c.get.ensures.aligned (λ a same. (h a same).1)),
     )
 
 pub is_free-requires : goal.is_free-requires
-is_free-requires c = λ start at.
-    let self = c.args.self.now in
-    omega (
-      arith,
-      part_within self c.deref-in-Some.result.now c.deref-in-Some.ensures.value c.args.page c.in-Some.base
-          (sym c.base.ensures.base ∙ c.in-Some.is) start at,
-      ap (λ (xs : List ℕ). length xs) c.deref-in-Some-2.ensures.value,
-    )
+is_free-requires c = c.args.self.now.tiled.whole c.args.page c.in-Some.base (sym c.base.ensures.base ∙ c.in-Some.is)
 
 pub returns-in-None-clause-blank : goal.returns-in-None-clause-blank
-unfolding value_at
+unfolding marks_at value_at
 returns-in-None-clause-blank c =
     let self = c.args.self.now in
     let base = get nat_eq self.pages in (
       λ e a same.
           let none = index_none base a (ap base same ∙ sym c.base.ensures.base ∙ c.in-None.is) in (
             ap (at_index 0 (value_in self.values.items)) none,
-            none_marks self a none,
+            ap marks_of (ap (at_index None (entry_at self.broken)) none),
           ),
       λ h. refl,
     )

@@ -1,4 +1,4 @@
-use Rattle.bbm_place_map.proofs.Common.{nat_eq, get, starts}
+use Rattle.bbm_place_map.proofs.Common.{place_entry}
 use Rattle.bbm_place_map.proofs.Idle.{idle_from}
 use Rattle.bbm_place_map.proofs.Restless.{none_waits}
 use Rattle.bbm_place_map.specs.Map.{marks_at, pends_at}
@@ -6,6 +6,4 @@ use Rattle.bbm_place_map.proofs.map.PlaceMap.law_idle.Goals as goal
 
 pub returns : goal.returns
 unfolding marks_at pends_at
-returns c = λ q a none.
-    idle_from (pends_at c.args.self.now q a)
-    (none_waits (starts (get nat_eq c.args.self.now.pages) c.args.self.now.parts.items) c.args.self.now.cells.items c.args.self.now.broken.items c.args.self.now.linked c.args.self.now.placed q a none)
+returns c = λ q a none. idle_from (pends_at c.args.self.now q a) (none_waits q (place_entry c.args.self.now a) none)

@@ -1,27 +1,43 @@
-use Rattle.bbm_place_map.proofs.Common.{List, ℕ, None, ap, sym, ◌∙◌, marks_in, at_index, Entry, Broken}
-use Rattle.bbm_place_map.proofs.Wholes.{left_between, put_between}
-use Rattle.bbm_place_map.specs.Map.{is_tracked, marks_at, pends_at, value_at}
+use Rattle.bbm_place_map.proofs.Common.{refl, nat_eq, vec_len, get, value_in, arith, sym, false≢true}
+use Rattle.bbm_place_map.proofs.Clearing.{fits_put, marks_broken, pends_broken}
+use Rattle.bbm_place_map.proofs.Places.{at_place, index_inside}
+use Rattle.bbm_place_map.specs.Map.{is_tracked, marks_at, pends_at, value_at, IsPosition}
 use Rattle.bbm_place_map.proofs.map.PlaceMap.put_broken.Goals as goal
 
-pub mark-requires-clause-before : goal.mark-requires-clause-before
-unfolding marks_at
-mark-requires-clause-before c =
-    let mid = c.cell-i.new.self in
-    c.marks-before.ensures
-    ∙ ap (λ (xs : List ℕ). marks_in xs c.deref-2.result.now c.cell-i.result) c.deref.ensures.value
-    ∙ ap (λ (xs : List Entry). marks_in mid.cells.items xs c.cell-i.result) c.deref-2.ensures.value
-    ∙ sym (ap (at_index None (marks_in mid.cells.items mid.broken.items)) c.cell-i.ensures.cell)
+pub mark-requires : goal.mark-requires
+unfolding IsPosition
+mark-requires c =
+    let self = c.args.self.now in
+    omega (
+      arith,
+      index_inside (get nat_eq self.pages) (vec_len self.values) self.tiled.numbered c.args.position.now.place c.args.position.now.index c.requires,
+      self.tiled.each,
+    )
+
+pub invariant_of-self : goal.invariant_of-self
+unfolding IsPosition
+invariant_of-self c =
+    fits_put c.args.self.now c.put_value.new.values c.mark.new.self c.put_value.ensures.len c.mark.ensures.pages c.args.position.now.index
+    c.args.position.now.place c.requires c.mark.ensures.seats
 
 pub returns-clause-put : goal.returns-clause-put
-unfolding value_at is_tracked
+unfolding IsPosition is_tracked value_at
 returns-clause-put c =
-    let kept = c.mark.ensures.same in
-    put_between c.args.value c.args.position.now.place c.args.self.now c.cell-i.new.self c.mark.new.self c.put_at.new.self c.cell-i.ensures.same
-    (record { values = kept.values; pages = kept.pages }) c.put_at.ensures.put
+    let self = c.args.self.now in
+    record {
+      values =
+          at_place (get nat_eq self.pages) (vec_len self.values) self.tiled.numbered 0 c.args.value (value_in self.values.items)
+          (value_in c.put_value.new.values.items) c.args.position.now.place c.args.position.now.index c.requires c.put_value.ensures.values;
+      pages = λ page. refl;
+    }
 
 pub returns-clause-left : goal.returns-clause-left
-unfolding marks_at pends_at
+unfolding IsPosition marks_at pends_at
 returns-clause-left c =
-    let left = c.mark.ensures.left in
-    left_between (Broken c.args.marks) c.args.position.now.place c.args.self.now c.cell-i.new.self c.mark.new.self c.put_at.new.self c.cell-i.ensures.same
-    (record { marks = left.marks; pends = left.pends; dropped = left.dropped }) c.put_at.ensures.marks c.put_at.ensures.pends
+    let self = c.args.self.now in
+    let position = c.args.position.now in
+    record {
+      marks = marks_broken self c.mark.new.self position.place position.index c.args.marks c.requires c.mark.ensures;
+      pends = λ q a _. pends_broken self c.mark.new.self position.place position.index c.args.marks c.requires c.mark.ensures q a;
+      dropped = λ q is. absurd (false≢true (sym is));
+    }

@@ -1,17 +1,23 @@
-use Rattle.bbm_place_map.proofs.Common.{refl, nat_eq, vec_len, eq-eqb, false, get, cell_by, is_at, value_in}
-use Rattle.bbm_place_map.proofs.Clearing.{able, fits_cleared, place_cleared}
-use Rattle.bbm_place_map.proofs.Places.{at_place}
+use Rattle.bbm_place_map.proofs.Common.{refl, nat_eq, vec_len, eq-eqb, false, get, value_in, arith}
+use Rattle.bbm_place_map.proofs.Clearing.{fits_seated, place_cleared}
+use Rattle.bbm_place_map.proofs.Places.{at_place, index_inside}
 use Rattle.bbm_lemmas.proofs.Bools.{none_unless}
 use Rattle.bbm_place_map.specs.Map.{is_tracked, marks_at, pends_at, value_at, IsPosition}
 use Rattle.bbm_place_map.proofs.map.PlaceMap.put_unbroken.Goals as goal
 
-pub clear_by-requires-clause-able : goal.clear_by-requires-clause-able
-clear_by-requires-clause-able c = able c.args.self.now
+pub clear-requires : goal.clear-requires
+unfolding IsPosition
+clear-requires c =
+    let self = c.args.self.now in
+    omega (
+      arith,
+      index_inside (get nat_eq self.pages) (vec_len self.values) self.tiled.numbered c.args.position.now.place c.args.position.now.index c.requires,
+      self.tiled.each,
+    )
 
 pub invariant_of-self : goal.invariant_of-self
 invariant_of-self c =
-    fits_cleared c.args.self.now c.put_value.new.values c.clear_by.new.cells c.clear_by.new.broken
-    (is_at (cell_by c.deref.result.now c.args.position.now.index)) c.put_value.ensures.len c.clear_by.ensures
+    fits_seated c.args.self.now c.put_value.new.values c.clear.new.self c.put_value.ensures.len c.clear.ensures.pages c.clear.ensures.seats
 
 pub returns-clause-put : goal.returns-clause-put
 unfolding IsPosition is_tracked value_at
@@ -19,7 +25,7 @@ returns-clause-put c =
     let self = c.args.self.now in
     record {
       values =
-          at_place (get nat_eq self.pages) (vec_len self.values) self.numbered 0 c.args.value (value_in self.values.items)
+          at_place (get nat_eq self.pages) (vec_len self.values) self.tiled.numbered 0 c.args.value (value_in self.values.items)
           (value_in c.put_value.new.values.items) c.args.position.now.place c.args.position.now.index c.requires c.put_value.ensures.values;
       pages = λ page. refl;
     }
@@ -28,8 +34,7 @@ pub returns-clause-left : goal.returns-clause-left
 unfolding IsPosition marks_at pends_at
 returns-clause-left c =
     let place = c.args.position.now.place in
-    let all = place_cleared c.args.self.now c.deref.result.now c.deref.ensures.value c.clear_by.new.cells c.clear_by.new.broken place
-    c.args.position.now.index c.requires c.clear_by.ensures in
+    let all = place_cleared c.args.self.now c.clear.new.self place c.args.position.now.index c.requires c.clear.ensures in
     record {
       marks = all.marks;
       pends = λ q a off. all.pends q a (none_unless (nat_eq a place) false refl off);

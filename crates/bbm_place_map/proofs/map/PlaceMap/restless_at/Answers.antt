@@ -1,12 +1,13 @@
-use Rattle.bbm_place_map.proofs.Common.{nat_eq, ap, is_some, Option, get, starts, Marks}
-use Rattle.bbm_place_map.proofs.Leaving.{entry_read}
-use Rattle.bbm_place_map.proofs.Restless.{marks_are}
-use Rattle.bbm_place_map.specs.Map.{marks_at, restless_in}
+use Rattle.bbm_place_map.proofs.Common.{ap, is_some, marks_of, Option, Entry, sym}
+use Rattle.bbm_place_map.proofs.Restless.{entry_here, place_is}
+use Rattle.bbm_place_map.specs.Map.{marks_at, restless_in, restless_place}
 use Rattle.bbm_place_map.proofs.map.PlaceMap.restless_at.Goals as goal
+
+pub returns-clause-place : goal.returns-clause-place
+unfolding restless_in restless_place
+returns-clause-place c = sym (place_is c.args.self.now c.args.i c.item.result.now c.item.ensures)
 
 pub returns-clause-broken : goal.returns-clause-broken
 unfolding marks_at restless_in
 returns-clause-broken c =
-    ap (λ (o : Option Marks). is_some o)
-    (marks_are (starts (get nat_eq c.args.self.now.pages) c.args.self.now.parts.items) c.args.self.now.cells.items c.args.self.now.broken.items c.args.self.now.linked c.args.self.now.placed
-    c.args.i c.index.result.now (entry_read c.args.self.now.broken.items c.args.i c.index.result.now c.requires c.index.ensures))
+    ap (λ (o : Option Entry). is_some (marks_of o)) (entry_here c.args.self.now c.args.i c.item.result.now c.item.ensures)

@@ -1,27 +1,34 @@
-use Rattle.bbm_place_map.proofs.Common.{nat_eq, sym, ◌∙◌, vec_len, get}
-use Rattle.bbm_place_map.proofs.Numbers.{number_none, number_read, number_some}
-use Rattle.bbm_place_map.proofs.Parts.{has_part}
-use Rattle.bbm_place_map.proofs.Places.{index_inside}
-use Rattle.bbm_place_map.specs.Map.{IsPosition}
+use Rattle.bbm_place_map.proofs.Common.{nat_eq, sym, ap, ◌∙◌, vec_len, get, arith, at_index, None, Some, ℕ, entry_at}
+use Rattle.bbm_place_map.proofs.Common.{marks_of, slice_get_within}
+use Rattle.bbm_place_map.proofs.Held.{none_entry, number_seat}
+use Rattle.bbm_place_map.proofs.Places.{index_inside, index_once}
+use Rattle.bbm_place_map.proofs.Restless.{place_is}
+use Rattle.bbm_place_map.specs.Map.{IsPosition, marks_at, restless_in, restless_place}
 use Rattle.bbm_place_map.proofs.map.PlaceMap.restless_number.Goals as goal
 
-pub entry_number-requires : goal.entry_number-requires
+pub number-requires : goal.number-requires
 unfolding IsPosition
-entry_number-requires c =
-    has_part c.args.self.now c.args.position.now.index
-    (index_inside (get nat_eq c.args.self.now.pages) (vec_len c.args.self.now.values) c.args.self.now.numbered c.args.position.now.place c.args.position.now.index c.requires)
-    c.deref.result.now c.deref.ensures.value
+number-requires c =
+    let self = c.args.self.now in
+    omega (
+      arith,
+      index_inside (get nat_eq self.pages) (vec_len self.values) self.tiled.numbered c.args.position.now.place c.args.position.now.index c.requires,
+      self.tiled.each,
+    )
 
 pub returns-clause-some : goal.returns-clause-some
-unfolding IsPosition
+unfolding IsPosition restless_in restless_place
 returns-clause-some c = λ i is.
-    number_some c.args.self.now c.args.position.now.place c.args.position.now.index c.requires i
-    (sym (c.entry_number.ensures ∙ number_read c.args.self.now c.args.position.now.place c.args.position.now.index c.requires
-    c.deref.result.now c.deref-2.result.now c.deref.ensures.value c.deref-2.ensures.value) ∙ is)
+    let self = c.args.self.now in
+    let e = number_seat self.broken c.args.position.now.index i (sym c.number.ensures ∙ is) in (
+      slice_get_within self.broken.entries.list.items i e.0 e.1,
+      place_is self i e.0 e.1
+          ∙ index_once (get nat_eq self.pages) (vec_len self.values) self.tiled.numbered e.0.place c.args.position.now.place c.args.position.now.index
+          (self.placed i e.0 e.1 ∙ ap (λ (n : ℕ). Some n) e.2) c.requires,
+    )
 
 pub returns-clause-none : goal.returns-clause-none
-unfolding IsPosition
+unfolding IsPosition marks_at
 returns-clause-none c = λ none.
-    number_none c.args.self.now c.args.position.now.place c.args.position.now.index c.requires
-    (sym (c.entry_number.ensures ∙ number_read c.args.self.now c.args.position.now.place c.args.position.now.index c.requires
-    c.deref.result.now c.deref-2.result.now c.deref.ensures.value c.deref-2.ensures.value) ∙ none)
+    let self = c.args.self.now in
+    ap marks_of (ap (at_index None (entry_at self.broken)) c.requires ∙ none_entry self.broken c.args.position.now.index (sym c.number.ensures ∙ none))

@@ -1,36 +1,30 @@
-use Rattle.bbm_place_map.proofs.Common.{◌≡◌, ℕ, ◌/◌, nat_eq, ap, sym, ◌∙◌, vec_len, if◌then◌else◌, get, OnOk-map}
-use Rattle.bbm_place_map.proofs.Common.{in_part, slot_in, value_in, page_of, at_index, Frees, split_at}
+use Rattle.bbm_place_map.proofs.Common.{◌≡◌, ℕ, nat_eq, ap, sym, ◌∙◌, vec_len, if◌then◌else◌, get, OnOk-map}
+use Rattle.bbm_place_map.proofs.Common.{value_in, page_of, at_index, Frees, split_at}
 use Rattle.bbm_place_map.specs.MapCalls.{KeepsBroken}
-use Rattle.bbm_place_map.proofs.Clearing.{able, fits_cleared, frees_untracked, page_cleared}
-use Rattle.bbm_place_map.proofs.Parts.{part_within}
+use Rattle.bbm_place_map.proofs.Clearing.{fits_seated, frees_untracked, page_cleared}
 use Rattle.bbm_place_map.proofs.Places.{at_page, index_none}
 use Rattle.bbm_place_map.specs.Map.{marks_at, pends_at, value_at}
 use Rattle.bbm_place_map.proofs.map.PlaceMap.track.Goals as goal
 
-pub clear_part-requires-clause-able : goal.clear_part-requires-clause-able
-clear_part-requires-clause-able c = able c.args.self.now
-
-pub clear_part-requires-clause-within : goal.clear_part-requires-clause-within
-clear_part-requires-clause-within c =
-    part_within c.args.self.now c.deref.result.now c.deref.ensures.value c.args.page c.in-Some.base (sym c.base.ensures.base ∙ c.in-Some.is)
+pub clear_page-requires : goal.clear_page-requires
+clear_page-requires c = c.args.self.now.tiled.whole c.args.page c.in-Some.base (sym c.base.ensures.base ∙ c.in-Some.is)
 
 pub invariant_of-self : goal.invariant_of-self
 invariant_of-self c =
-    fits_cleared c.args.self.now c.zero_page.new.values c.clear_part.new.cells c.clear_part.new.broken
-    (in_part (slot_in c.deref.result.now (c.in-Some.base / 512))) c.zero_page.ensures.len c.clear_part.ensures
+    fits_seated c.args.self.now c.zero_page.new.values c.clear_page.new.self c.zero_page.ensures.len c.clear_page.ensures.pages
+    c.clear_page.ensures.seats
 
 pub returns-in-Some-clause-values : goal.returns-in-Some-clause-values
 unfolding value_at
 returns-in-Some-clause-values c =
     let self = c.args.self.now in
-    at_page (get nat_eq self.pages) (vec_len self.values) self.numbered 0 (value_in self.values.items)
+    at_page (get nat_eq self.pages) (vec_len self.values) self.tiled.numbered 0 (value_in self.values.items)
     (value_in c.zero_page.new.values.items) c.args.page c.in-Some.base (sym c.base.ensures.base ∙ c.in-Some.is) c.zero_page.ensures.values
 
 pub returns-in-Some-clause-freed : goal.returns-in-Some-clause-freed
 unfolding marks_at pends_at
 returns-in-Some-clause-freed c =
-    let all = page_cleared c.args.self.now c.deref.result.now c.deref.ensures.value c.clear_part.new.cells c.clear_part.new.broken c.args.page
-    c.in-Some.base (sym c.base.ensures.base ∙ c.in-Some.is) c.clear_part.ensures in
+    let all = page_cleared c.args.self.now c.clear_page.new.self c.args.page c.in-Some.base (sym c.base.ensures.base ∙ c.in-Some.is) c.clear_page.ensures in
     record { marks = all.marks; pends = all.pends; dropped = all.dropped }
 
 pub returns-in-None-clause-values : goal.returns-in-None-clause-values

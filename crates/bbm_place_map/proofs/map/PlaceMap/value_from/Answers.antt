@@ -12,7 +12,7 @@ returns c =
     let n = c.args.number in
     let base = get nat_eq self.pages in
     let r = c.requires in
-    let within = page_inside base (vec_len self.values) self.numbered position.place position.index n r.position r.first r.within in
-    let at = index_behind base (vec_len self.values) self.numbered position.place position.index n r.position r.first r.within in
+    let within = page_inside base (vec_len self.values) self.tiled.numbered position.place position.index n r.position r.first r.within in
+    let at = index_behind base (vec_len self.values) self.tiled.numbered position.place position.index n r.position r.first r.within in
     sym (ap (at_index 0 (value_in self.values.items)) at
     ∙ value_read self.values.items (position.index + n) c.index.result.now (omega (arith, within)) c.index.ensures)

@@ -1,0 +1,78 @@
+-- What is kept of the broken places, by the numbers of their values, and what calls change of them.
+-- Source: project's own choice.
+use Rattle.std.specs.Prelude.{◌≡◌, ℕ, ◌+◌, ◌*◌, ◌^◌, ◌<◌, ◌≤◌, ◌⊎◌, Bool, true, false, Option, Some, None, nat_eq}
+use Rattle.std.specs.Prelude.{length, slice_get, vec_len, vec_capacity, if◌then◌else◌}
+use Rattle.bbm_entry_state.specs.declared.marks.Marks.{Marks}
+use Rattle.bbm_place_map.specs.Cells.{cell_by, slot_in}
+use Rattle.bbm_place_map.specs.Dsbs.{KeepsSeats}
+use Rattle.bbm_place_map.specs.Each.{Advances, Does, loses_table}
+use Rattle.bbm_place_map.specs.Entries.{marks_of, pends_in, pends_of}
+use Rattle.bbm_place_map.specs.Parts.{entry_of_cell}
+use Rattle.bbm_place_map.specs.Puts.{AreSeated, WasSeated}
+use Rattle.bbm_place_map.specs.Sound.{at_index}
+use Rattle.bbm_place_map.specs.declared.broken.BrokenPlaces.{BrokenPlaces}
+use Rattle.bbm_place_map.specs.declared.entry.Entry.{Entry}
+use Rattle.bbm_place_map.specs.declared.orders.Barrier.{Barrier}
+
+-- the number of the entry of a place, and the entry; None where the place isn't broken
+abbrev pub number_at : BrokenPlaces → ℕ → Option ℕ
+number_at broken j = at_index None (slot_in broken.entries.cells.items) (cell_by broken.parts.items j)
+
+abbrev pub entry_at : BrokenPlaces → ℕ → Option Entry
+entry_at broken j = at_index None (entry_of_cell broken.entries) (cell_by broken.parts.items j)
+
+-- how many pages have places there
+abbrev pub pages_in : BrokenPlaces → ℕ
+pages_in broken = vec_len broken.parts
+
+-- a place has this cell
+abbrev pub IsAt : BrokenPlaces → ℕ → ℕ → Type 0
+IsAt broken j cell = cell_by broken.parts.items j ≡ Some cell
+
+-- There is room for the places of one more page.
+pub record HasPageRoom (broken : BrokenPlaces) : Type 0 where
+  pub parts : vec_len broken.parts + 1 ≤ vec_capacity broken.parts
+  pub space : 512 * (vec_len broken.parts + 1) ≤ vec_capacity broken.entries.cells
+  pub room : 512 * (vec_len broken.parts + 1) ≤ vec_capacity broken.entries.list
+  pub few : 512 * (vec_len broken.parts + 1) < 2 ^ 32
+
+-- The same pages, cells and entries, in as much room or more.
+pub record HoldsSame (old new : BrokenPlaces) : Type 0 where
+  pub parts : new.parts.items ≡ old.parts.items
+  pub cells : new.entries.cells.items ≡ old.entries.cells.items
+  pub list : new.entries.list.items ≡ old.entries.list.items
+
+-- The same entries, by the same numbers.
+pub record SameEntries (old new : BrokenPlaces) : Type 0 where
+  pub list : new.entries.list ≡ old.entries.list
+  pub entries : (j : ℕ) → entry_at new j ≡ entry_at old j
+
+-- A place is broken with these marks. What waits there stays, and so does the rest.
+pub record Breaks (j place : ℕ) (by : Marks) (old new : BrokenPlaces) : Type 0 where
+  pub pages : pages_in new ≡ pages_in old
+  pub seats : (k : ℕ) (e : Entry) → slice_get new.entries.list.items k ≡ Some e
+      → WasSeated old.entries.list.items e ⊎ ((e.place ≡ place) × (e.index ≡ j))
+  pub entry : (e : Entry) × (e.marks ≡ by) × ((q : ℕ) → pends_in e.pends.items q ≡ pends_of q (entry_at old j))
+      × ((i : ℕ) → entry_at new i ≡ (if nat_eq i j then Some e else entry_at old i))
+
+-- These places aren't broken, and nothing waits there. The rest stays.
+pub record Clears (these : ℕ → Bool) (old new : BrokenPlaces) : Type 0 where
+  pub pages : pages_in new ≡ pages_in old
+  pub seats : AreSeated old.entries.list.items new.entries.list.items
+  pub entries : (i : ℕ) → entry_at new i ≡ (if these i then None else entry_at old i)
+
+-- The entries change each in its place, as the relation says.
+pub record EachAdvances (R : ℕ → Entry → Entry → Type 0) (old new : BrokenPlaces) : Type 0 where
+  pub parts : new.parts ≡ old.parts
+  pub cells : new.entries.cells ≡ old.entries.cells
+  pub len : length new.entries.list.items ≡ length old.entries.list.items
+  pub each : (m : ℕ) → Advances (R m) (slice_get old.entries.list.items m) (slice_get new.entries.list.items m)
+
+-- A DSB visited each broken place, and told whether one over a table left.
+pub record VisitsPlaces (by : Barrier) (old new : BrokenPlaces) (told : Bool) : Type 0 where
+  pub pages : pages_in new ≡ pages_in old
+  pub seats : AreSeated old.entries.list.items new.entries.list.items
+  pub order : KeepsSeats by.effect old.entries.list.items new.entries.list.items
+  pub each : (j : ℕ) → Does by.effect by (entry_at old j) (entry_at new j)
+  pub lost : told ≡ true → (j : ℕ) × (loses_table (marks_of (entry_at old j)) (marks_of (entry_at new j)) ≡ true)
+  pub kept : told ≡ false → (j : ℕ) → loses_table (marks_of (entry_at old j)) (marks_of (entry_at new j)) ≡ false

@@ -1,0 +1,298 @@
+//! The broken places, each found by the number of its value.
+//! Source: project's own choice, where no other is named.
+
+ghost use Rattle.std.specs.Prelude.{◌≡◌, ◌≤◌, ◌<◌, ◌+◌, ◌*◌, ◌%◌, ◌^◌, ◌↔◌, ℕ, Some, None, [], true, false, OnOk};
+ghost use Rattle.std.specs.Prelude.{OnErr};
+ghost use Rattle.std.specs.Prelude.{vec_len, length, slice_get, nat_eq};
+ghost use Rattle.std.specs.Option.{option_copied};
+ghost use Rattle.indexmap.specs.IndexMap.{get};
+ghost use Rattle.bbm_entry_state.specs.EntryCalls.{Written};
+ghost use Rattle.bbm_entry_state.specs.declared.marks.Marks.{Marks as TheMarks};
+ghost use Rattle.bbm_entry_state.specs.declared.state.EntryState.TheVariants as state;
+ghost use Rattle.bbm_place_map.specs.Cells.{in_page, slot_in};
+ghost use Rattle.bbm_place_map.specs.Dsbs.{HasEffect};
+ghost use Rattle.bbm_place_map.specs.PlaceNotes.{Keeps, KeepsOthers, KeepsUnfound, NotesAmong, NotesAt};
+ghost use Rattle.bbm_place_map.specs.Parts.{IsSound};
+ghost use Rattle.bbm_place_map.specs.Works.{Listed};
+
+use crate::entries::{Entries, put_slot};
+use crate::entry::Entry;
+use crate::found::{Answer, Found};
+use crate::issue::{self, Kept};
+use crate::lane::Lane;
+use crate::orders::{Barrier, Effect, Issuing};
+use crate::read::{self, VALUES};
+use crate::work::{self, Work};
+use crate::{visit, write};
+use bbm_descriptor::Core;
+use bbm_entry_state::Marks;
+use bbm_page_map::PageMap;
+use bbm_regimes::{NoMemory, Pe, Place};
+use std::alloc::Global;
+
+/// The number of pages whose places may be kept.
+const MAX_PAGES: usize = 1 << 22;
+
+/// The broken places, each found by the number of its value, and what is left to do for DSBs. The places of a page have
+/// 512 numbers, one after another. A page has cells from its first broken place on, and there is room for those of all
+/// pages, and for an entry of each.
+#[derive(Drop)]
+pub struct BrokenPlaces {
+    alloc: Global,
+    parts: Vec<u32>,
+    entries: Entries,
+    work: Work,
+    ghost sound: { IsSound parts.items entries },
+    ghost listed: { Listed work entries.cells.items entries.list.items },
+}
+
+impl BrokenPlaces {
+    ghost use Rattle.bbm_place_map.specs.Broken.{Breaks, Clears, EachAdvances, HasPageRoom, HoldsSame, IsAt, SameEntries};
+    ghost use Rattle.bbm_place_map.specs.Broken.{VisitsPlaces, entry_at, number_at, pages_in};
+    ghost use Rattle.bbm_place_map.specs.Sound.{Numbered, Placed};
+
+    /// No page, and so no broken place. It takes no memory.
+    pub fn new(alloc: Global) -> BrokenPlaces
+        ensures pages { pages_in result ≡ 0 }
+        ensures list { result.entries.list.items ≡ [] }
+    {
+        BrokenPlaces {
+            alloc,
+            parts: Vec::new(alloc),
+            entries: Entries::new(alloc),
+            work: work::no_work(alloc),
+        }
+    }
+
+    /// Makes room for the places of one more page. Whether there is.
+    pub fn reserve_page(&mut self) -> bool
+        ensures room { result ≡ true → HasPageRoom self.new }
+        ensures same { HoldsSame self.old self.new }
+    {
+        let pages = self.parts.len() + 1;
+        if pages > MAX_PAGES || !self.entries.reserve(pages * VALUES) {
+            return false;
+        }
+        self.parts.reserve(1).is_ok()
+    }
+
+    /// Adds the places of one more page, none of which is broken, where there is room for them.
+    pub fn add_page(&mut self)
+        requires { HasPageRoom self.old }
+        ensures pages { pages_in self.new ≡ pages_in self.old + 1 }
+        ensures same { SameEntries self.old self.new }
+    {
+        write::add_cells(&mut self.parts, 1);
+        work::make_lists(&mut self.work.unpublished, self.alloc);
+        work::make_lists(&mut self.work.waiting, self.alloc);
+    }
+
+    /// How many places are broken.
+    #[inline(always)]
+    pub fn len(&self) -> usize
+        ensures { result ≡ length self.now.entries.list.items }
+    {
+        self.entries.list.len()
+    }
+
+    /// One of the entries, by its number.
+    #[inline(always)]
+    pub fn item(&self, k: usize) -> &Entry
+        requires { k < length self.now.entries.list.items }
+        ensures { slice_get self.now.entries.list.items k ≡ Some result.now }
+    {
+        &self.entries.list[k]
+    }
+
+    /// The number of the entry of a place; None where the place isn't broken.
+    #[inline(always)]
+    pub fn number(&self, j: usize) -> Option<u32>
+        requires { j < VALUES * pages_in self.now }
+        ensures { result ≡ number_at self.now j }
+    {
+        self.entries.number(read::cell(&self.parts, j)?)
+    }
+
+    /// The entry of a place; None where the place isn't broken.
+    #[inline(always)]
+    pub fn entry(&self, j: usize) -> Option<&Entry>
+        requires { j < VALUES * pages_in self.now }
+        ensures { option_copied result ≡ entry_at self.now j }
+    {
+        self.entries.get(read::cell(&self.parts, j)?)
+    }
+
+    /// Whether no place of the page is broken whose numbers start there.
+    pub fn is_free(&self, base: usize) -> bool
+        requires { base % VALUES ≡ 0 }
+        ensures { (result ≡ true) ↔ ((i : ℕ) → i < VALUES → entry_at self.now (base + i) ≡ None) }
+    {
+        match read::slot_of(&self.parts, base / VALUES) {
+            Some(start) => self.entries.are_free(start as usize),
+            None => true,
+        }
+    }
+
+    /// The number of the cell of a place. Where its page has no cells it gets them, which changes nothing else.
+    #[inline(always)]
+    fn cell(&mut self, j: usize) -> usize
+        requires { j < VALUES * pages_in self.old }
+        ensures cell { IsAt self.new j result }
+        ensures same { SameEntries self.old self.new }
+        ensures pages { pages_in self.new ≡ pages_in self.old }
+    {
+        match read::cell(&self.parts, j) {
+            Some(i) => i,
+            None => self.add_part(j / VALUES) + j % VALUES,
+        }
+    }
+
+    /// Makes the cells of a page, which has none. The number of the first.
+    #[cold]
+    #[inline(never)]
+    fn add_part(&mut self, page: usize) -> usize
+        requires within { page < pages_in self.old }
+        requires none { slot_in self.old.parts.items page ≡ None }
+        ensures start { slot_in self.new.parts.items page ≡ Some result }
+        ensures few { result < 2 ^ 32 }
+        ensures same { SameEntries self.old self.new }
+        ensures pages { pages_in self.new ≡ pages_in self.old }
+    {
+        let start = self.entries.cells.len();
+        self.entries.add_cells(VALUES);
+        put_slot(&mut self.parts, page, Some(start as u32));
+        start
+    }
+
+    /// A place, which isn't broken, breaks over a core by a write of this PE.
+    #[inline(always)]
+    pub fn break_over(&mut self, j: usize, place: Place, pe: Pe, core: Core)
+        requires within { j < VALUES * pages_in self.old }
+        requires whole { entry_at self.old j ≡ None }
+        ensures { (marks : TheMarks) × Written (state.Live core) pe None (state.Broken marks)
+            × Breaks j place marks self.old self.new }
+    {
+        let i = self.cell(j);
+        let broken = self.entries.list.len();
+        work::note_break(&mut self.work, pe, i as u32, broken);
+        let marks = Marks::broken_by(core, pe);
+        self.entries.link(i, j, place, marks, self.alloc);
+    }
+
+    /// A place is broken with these marks. What waits there stays. Whoever wrote is best named, and the result is the
+    /// same by any PE.
+    #[inline(always)]
+    pub fn mark(&mut self, j: usize, place: Place, mostly: Pe, marks: Marks)
+        requires { j < VALUES * pages_in self.old }
+        ensures { Breaks j place marks self.old self.new }
+    {
+        let i = self.cell(j);
+        let before = self.entries.marks(i);
+        let broken = self.entries.list.len();
+        work::note_write(&mut self.work, mostly, i as u32, &before, &marks, broken);
+        self.entries.mark(i, j, place, marks, self.alloc);
+    }
+
+    /// A place isn't broken, and nothing waits there.
+    #[inline(always)]
+    pub fn clear(&mut self, j: usize)
+        requires { j < VALUES * pages_in self.old }
+        ensures { Clears (λ i. nat_eq i j) self.old self.new }
+    {
+        if let Some(i) = read::cell(&self.parts, j) {
+            self.entries.clear(i);
+        }
+    }
+
+    /// No place of the page is broken whose numbers start there, and nothing waits there.
+    pub fn clear_page(&mut self, base: usize)
+        requires { base % VALUES ≡ 0 }
+        ensures { Clears (in_page base VALUES) self.old self.new }
+    {
+        if let Some(start) = read::slot_of(&self.parts, base / VALUES) {
+            self.entries.clear_page(start as usize);
+        }
+    }
+
+    /// A DSB published its issuer's writes, or answered its TLBIs, at each broken place. One that is cleansed at every PE
+    /// isn't broken any more. Whether such a place was broken over a table.
+    #[inline(always)]
+    pub fn visit(&mut self, barrier: &Barrier) -> bool
+        requires { HasEffect barrier.now.effect barrier.now }
+        ensures { VisitsPlaces barrier.now self.old self.new result }
+    {
+        if self.entries.list.is_empty() {
+            return false;
+        }
+        work::begin(&mut self.work, barrier.n, self.entries.list.len());
+        match barrier.effect {
+            Effect::Publish(_heard) => visit::visit(
+                &mut self.entries,
+                &mut self.work.unpublished,
+                true,
+                barrier,
+            ),
+            Effect::Complete => {
+                let lost = visit::visit(
+                    &mut self.entries,
+                    &mut self.work.waiting,
+                    self.work.settled,
+                    barrier,
+                );
+                self.work.settled = true;
+                lost
+            }
+        }
+    }
+
+    /// Notes a TLBI at each broken place, as far as it covers them, by their numbers. `NoMemory` where there is none, and
+    /// nothing changes then but the room.
+    pub fn issue_all(&mut self, tlbi: &Issuing, covers: &[Answer]) -> Result<(), NoMemory>
+        requires { length covers.now ≡ length self.old.entries.list.items }
+        ensures noted { OnOk result (EachAdvances (NotesAt covers.now tlbi.now) self.old self.new) }
+        ensures only { EachAdvances (λ _. KeepsOthers tlbi.now.issuer) self.old self.new }
+        ensures kept { OnErr result (EachAdvances (λ _. Keeps) self.old self.new) }
+    {
+        let lane = Lane::new(tlbi.issuer, tlbi.broadcast);
+        let start = issue::first_open(&self.entries, covers, tlbi);
+        issue::make_room(&mut self.entries, covers, start, lane)?;
+        issue::note(
+            &mut self.entries,
+            covers,
+            start,
+            tlbi,
+            &mut self.work.waiting,
+        );
+        Ok(())
+    }
+
+    /// Notes a TLBI at each broken place of these items, as far as the first item of it says. Pages tell of each place
+    /// which number it has. `NoMemory` where there is none, and nothing changes then but the room.
+    pub fn issue_at(
+        &mut self,
+        pages: &PageMap<usize>,
+        tlbi: &Issuing,
+        found: &[Found],
+    ) -> Result<(), NoMemory>
+        requires numbered { Numbered (get nat_eq pages.now) (VALUES * pages_in self.old) }
+        requires placed { Placed (get nat_eq pages.now) self.old.entries.list.items }
+        ensures noted { OnOk result (EachAdvances (λ _. NotesAmong found.now tlbi.now) self.old self.new) }
+        ensures only { EachAdvances (λ _. KeepsUnfound found.now tlbi.now.issuer) self.old self.new }
+        ensures kept { OnErr result (EachAdvances (λ _. Keeps) self.old self.new) }
+    {
+        let lane = Lane::new(tlbi.issuer, tlbi.broadcast);
+        let kept = Kept {
+            pages,
+            parts: &self.parts,
+        };
+        issue::make_room_found(&kept, &mut self.entries, found, lane)?;
+        issue::note_found(
+            &kept,
+            &mut self.entries,
+            found,
+            tlbi,
+            &mut self.work.waiting,
+        );
+        Ok(())
+    }
+}
