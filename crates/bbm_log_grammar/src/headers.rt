@@ -16,7 +16,7 @@ use crate::fields::{Fields, found};
 use crate::values::version_of;
 use crate::words::{ASID_FROMS, CNPS};
 use bbm_events::{Header, HeaderWords, Malformed, law_header_causes};
-use bbm_regimes::{AsidFrom, HypWorld, KernelWorld, World};
+use bbm_regimes::{AsidFrom, HypWorld, KernelWorld, Level, World};
 
 /// A number of the header.
 fn number_field<'a>(fields: Fields<'a>) -> Result<(u64, Fields<'a>), Malformed>
@@ -79,8 +79,8 @@ fn header_words<'a>(version: u8, fields: Fields<'a>) -> (HeaderWords, Fields<'a>
 }
 
 /// Whether a log of this world can say these words.
-fn are_words(world: World, words: HeaderWords) -> bool
-    ensures { result ≡ (kind_in_world world Ttbr0 || not words.inorder) }
+fn are_words(world: &World, words: HeaderWords) -> bool
+    ensures { result ≡ (kind_in_world world.now Ttbr0 || not words.inorder) }
 {
     match world {
         World::Hyp(_) => !words.inorder,
@@ -110,8 +110,8 @@ fn hyp_world(el2_start: u64, s2_start: u64, s2_pages: u64) -> Option<World>
     };
     if el2_start <= 2 && s2_start <= 2 && pages_fit {
         Some(World::Hyp(HypWorld {
-            el2_start: el2_start as u8,
-            s2_start: s2_start as u8,
+            el2_start: Level::new(el2_start as u8).unwrap(),
+            s2_start: Level::new(s2_start as u8).unwrap(),
             s2_pages: s2_pages as u8,
         }))
     } else {
@@ -127,8 +127,8 @@ fn kernel_world(start0: u64, start1: u64, asid_from: AsidFrom) -> Option<World>
 {
     if start0 <= 2 && start1 <= 2 {
         Some(World::Kernel(KernelWorld {
-            start0: start0 as u8,
-            start1: start1 as u8,
+            start0: Level::new(start0 as u8).unwrap(),
+            start1: Level::new(start1 as u8).unwrap(),
             asid_from,
         }))
     } else {
@@ -161,7 +161,7 @@ fn header_in(
     let (words, fields) = header_words(version, fields);
     let ends = fields.next().is_none();
     match world {
-        Some(world) if ends && are_pes(version, pes) && are_words(world, words) => Ok(Header {
+        Some(world) if ends && are_pes(version, pes) && are_words(&world, words) => Ok(Header {
             version,
             pes: pes as u8,
             cnp,

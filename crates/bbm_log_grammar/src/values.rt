@@ -11,7 +11,7 @@ ghost use Rattle.bbm_events.specs.Machine as machine;
 use crate::line::LabelText;
 use crate::numbers::{read_decimal, read_hex};
 use bbm_events::{Header, TagWord};
-use bbm_regimes::{Kind, Page, Pe};
+use bbm_regimes::{Kind, PAGE_BYTES, Page, Pe};
 
 /// Locks have numbers below 1,024.
 const LOCKS: u64 = 1024;
@@ -56,7 +56,7 @@ pub(crate) fn root_page_of(header: &Header, kind: Kind, address: u64) -> Option<
     ensures { result ≡ lines.passing (fits.is_root_page header.now.world kind) (Some address) }
 {
     let page = Page::new(address)?;
-    if page.get() % (4096 * header.page_count(kind) as u64) == 0 {
+    if page.get() % (PAGE_BYTES * header.page_count(kind) as u64) == 0 {
         Some(page)
     } else {
         None

@@ -250,14 +250,14 @@ fn numbers_line(out: &mut ArrayVec<u8, 200>, version: u8, pes: u8, world: World)
     match world {
         World::Hyp(world) => {
             begin_header(out, version, b"hyp", pes);
-            add_decimal_field(out, world.el2_start as u64);
-            add_decimal_field(out, world.s2_start as u64);
+            add_decimal_field(out, world.el2_start.get() as u64);
+            add_decimal_field(out, world.s2_start.get() as u64);
             add_decimal_field(out, world.s2_pages as u64);
         }
         World::Kernel(world) => {
             begin_header(out, version, b"kernel", pes);
-            add_decimal_field(out, world.start0 as u64);
-            add_decimal_field(out, world.start1 as u64);
+            add_decimal_field(out, world.start0.get() as u64);
+            add_decimal_field(out, world.start1.get() as u64);
             add_word_field(out, world.asid_from.word());
         }
     }
