@@ -1,13 +1,16 @@
 -- Entries after a change, and their keys.
-use Rattle.std.proofs.Common.{◌≡◌, ◌∙◌, ℕ, zero, suc, ◌⊎◌, inl, inr, Bool, true, false, List, [], ◌∷◌, ◌++◌, length}
-use Rattle.std.proofs.Common.{if◌then◌else◌, nat_eq, refl, sym, ap, arith, Option, Some, None, is_some, slice_get, set}
-use Rattle.std.proofs.Common.{cond}
-use Rattle.std.proofs.lemmas.Bool.{cases_Bool, cond-true, cond-false, eq-eqb, eqb-true, ne_eqb, false≢true, both_ways}
+use Rattle.std.proofs.Common.{◌≡◌, ◌∙◌, ℕ, zero, suc, ◌⊎◌, inl, inr, true, false, List, [], ◌∷◌, ◌++◌, length}
+use Rattle.std.proofs.Common.{if◌then◌else◌, nat_eq, refl, sym, ap, arith, Some, None, is_some, slice_get, set}
+use Rattle.std.proofs.Common.{Bool, Option, cond, get_or, ◌<◌}
+use Rattle.std.proofs.lemmas.Bool.{cases_Bool, cases_lt, cond-true, cond-false, eq-eqb, eqb-true, ne_eqb, both_ways}
 use Rattle.std.proofs.lemmas.Cmp.{nat_eq_equiv}
 use Rattle.std.proofs.lemmas.Map.{none_passes_from_lookup, lookup-set_value}
-use Rattle.std.proofs.lemmas.Option.{none-some, same_Some}
+use Rattle.std.proofs.lemmas.Map.Entries.{lookup_from_place}
+use Rattle.std.proofs.lemmas.Map.Keys.{apart_from_distinct}
+use Rattle.std.proofs.lemmas.Option.{none-some, same_Some, get_or_from_slice_get, slice_get_within}
+use Rattle.std.specs.List.{IsDistinct}
+use Rattle.std.specs.List.{list_any}
 use Rattle.std.specs.Map.{keys_of, lookup, set_value}
-use Rattle.indexmap.specs.IndexMap.{insert_entry}
 
 -- ---- one more at the end of a list
 
@@ -68,23 +71,6 @@ module _ {V : Type 0} where
       ap (λ (rest : List (ℕ × V)). e ∷ rest) (set_only es i p v is (λ j at. omega (arith, only (suc j) at)))
       ∙ sym (cond-false (nat_eq p e.0) ((e.0, v) ∷ es) (e ∷ set_value (nat_eq p) es v) (off_head e es p i only))
 
-  -- a key that is there takes the value where it stands
-  pub insert_known : (es : List (ℕ × V)) (p : ℕ) (v : V) → is_some (lookup (nat_eq p) es) ≡ true
-      → set_value (nat_eq p) es v ≡ insert_entry nat_eq es p v
-  insert_known [] p v known = absurd (false≢true known)
-  insert_known (e ∷ es) p v known =
-      elim (cases_Bool (nat_eq p e.0)) [
-        | inl here ↦
-            cond-true (nat_eq p e.0) ((e.0, v) ∷ es) (e ∷ set_value (nat_eq p) es v) here
-            ∙ sym (cond-true (nat_eq p e.0) ((e.0, v) ∷ es) (e ∷ insert_entry nat_eq es p v) here)
-        | inr off ↦
-            cond-false (nat_eq p e.0) ((e.0, v) ∷ es) (e ∷ set_value (nat_eq p) es v) off
-            ∙ ap (λ (rest : List (ℕ × V)). e ∷ rest)
-            (insert_known es p v (sym (ap is_some (cond-false (nat_eq p e.0) (Some e.1) (lookup (nat_eq p) es) off))
-            ∙ known))
-            ∙ sym (cond-false (nat_eq p e.0) ((e.0, v) ∷ es) (e ∷ insert_entry nat_eq es p v) off)
-      ]
-
   -- what each key has once a new one is there
   pub lookup_push : (es : List (ℕ × V)) (p : ℕ) (v : V) (q : ℕ) → lookup (nat_eq p) es ≡ None
       → lookup (nat_eq q) (es ++ (p, v) ∷ []) ≡ (if nat_eq p q then Some v else lookup (nat_eq q) es)
@@ -107,22 +93,47 @@ module _ {V : Type 0} where
             (sym (cond-false (nat_eq q e.0) (Some e.1) (lookup (nat_eq q) es) off))
       ]
 
+  -- a key that has no value isn't there
+  pub absent_key : (es : List (ℕ × V)) (p : ℕ) → lookup (nat_eq p) es ≡ None → list_any (nat_eq p) (keys_of es) ≡ false
+  absent_key [] p none = refl
+  absent_key (e ∷ es) p none =
+      let passes = none_passes_from_lookup (nat_eq p) (e ∷ es) none in
+      rw passes.0
+      (absent_key es p (sym (cond-false (nat_eq p e.0) (Some e.1) (lookup (nat_eq p) es) passes.0) ∙ none))
+
+-- where keys are apart each stands once
+pub key_once : (ks : List ℕ) → IsDistinct nat_eq ks → (i j p : ℕ) → slice_get ks i ≡ Some p → slice_get ks j ≡ Some p → j ≡ i
+key_once ks apart i j p one two =
+    elim (cases_lt i j) [
+      | inl less ↦ absurd (differ i j less one two)
+      | inr more ↦ elim (cases_lt j i) [ inl less ↦ absurd (differ j i less two one) | inr same ↦ omega arith ]
+    ]
+  where
+    differ : (a b : ℕ) → a < b → slice_get ks a ≡ Some p → slice_get ks b ≡ Some p → ⊥
+    differ a b less first second =
+        both_ways (nat_eq (get_or ks a p) (get_or ks b p))
+        (apart_from_distinct nat_eq ks a b p apart less (slice_get_within ks b p second))
+        (eq-eqb (get_or ks a p) (get_or ks b p)
+        (get_or_from_slice_get ks a p p first ∙ sym (get_or_from_slice_get ks b p p second)))
+
 -- what each key has once one that is there has another value
 pub lookup_put : {V : Type 0} (es : List (ℕ × V)) (p : ℕ) (v : V) (q : ℕ) → is_some (lookup (nat_eq p) es) ≡ true
     → lookup (nat_eq q) (set_value (nat_eq p) es v) ≡ (if nat_eq p q then Some v else lookup (nat_eq q) es)
 lookup_put es p v q known = lookup-set_value nat_eq_equiv (nat_eq p) (nat_eq_equiv.congr p) q v es known
 
--- a key that isn't there takes no value
-pub put_missing : {V : Type 0} (es : List (ℕ × V)) (p : ℕ) (v : V) → lookup (nat_eq p) es ≡ None
-    → set_value (nat_eq p) es v ≡ es
-put_missing [] p v none = refl
-put_missing {V} (e ∷ es) p v none =
-    let passes = none_passes_from_lookup (nat_eq p) (e ∷ es) none in
-    cond-false (nat_eq p e.0) ((e.0, v) ∷ es) (e ∷ set_value (nat_eq p) es v) passes.0
-    ∙ ap (λ (rest : List (ℕ × V)). e ∷ rest)
-    (put_missing es p v (sym (cond-false (nat_eq p e.0) (Some e.1) (lookup (nat_eq p) es) passes.0) ∙ none))
+-- a write at an index gives the page that stands there another value
+module _ {V : Type 0} (es : List (ℕ × V)) (i : ℕ) (x : ℕ × V) (v : V) (apart : IsDistinct nat_eq (keys_of es))
+    (at : slice_get es i ≡ Some x) where
+  here : slice_get (keys_of es) i ≡ Some x.0
+  here = key_there es i x.0 x.1 at
 
--- there is nothing where nothing is found
-pub nothing : {X : Type 0} (o : Option X) → false ≡ is_some o → o ≡ None
-nothing None is = refl
-nothing (Some x) is = absurd (false≢true is)
+  pub put_is : set es i (x.0, v) ≡ set_value (nat_eq x.0) es v
+  put_is = set_only es i x.0 v here (λ j also. key_once (keys_of es) apart i j x.0 here also)
+
+  pub put_updates : (p : ℕ) → slice_get (keys_of es) i ≡ Some p → (q : ℕ)
+      → lookup (nat_eq q) (set es i (x.0, v)) ≡ (if nat_eq p q then Some v else lookup (nat_eq q) es)
+  put_updates p is q =
+      let same : x.0 ≡ p = same_Some x.0 p (sym here ∙ is) in
+      ap (lookup (nat_eq q)) put_is
+      ∙ lookup_put es x.0 v q (ap is_some (lookup_from_place nat_eq_equiv es i x.0 x.1 apart at))
+      ∙ ap (λ (k : ℕ). if nat_eq k q then Some v else lookup (nat_eq q) es) same

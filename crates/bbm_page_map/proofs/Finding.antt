@@ -25,9 +25,9 @@ pub fits_first : (n : ℕ) → Fits 0 n → n < 64
 unfolding Fits
 fits_first n fits = fits
 
-pub fits_five : (n : ℕ) → Fits 5 n → n / 64 / 64 / 64 / 64 / 64 < 64
+pub fits_four : (n : ℕ) → Fits 4 n → n / 64 / 64 / 64 / 64 < 64
 unfolding Fits
-fits_five n fits = fits
+fits_four n fits = fits
 
 -- a node that a prefix leads to has 64 slots
 pub node_within : (slots : List ℕ) → IsTree slots → 0 < length slots → (d n node : ℕ) → d < 5 → Fits d n
@@ -45,57 +45,45 @@ pub some_slots : (n : ℕ) (b : Bool) → b ≡ nat_eq n 0 → b ≡ false → 0
 some_slots zero b is none = absurd (true≢false (sym is ∙ none))
 some_slots (suc n) b is none = omega arith
 
--- The digits of a number, one after another: each leads to a node, and the last one to what all lead to.
-module _ (s : List ℕ) (tree : IsTree s) (some : 0 < length s) (n : ℕ) (fits : Fits 5 n) where
-  fits_4 : Fits 4 (n / 64)
-  fits_4 = fits_less 4 n fits
+-- The first five digits of a number, one after another: each leads to a node.
+module _ (s : List ℕ) (tree : IsTree s) (some : 0 < length s) (n : ℕ) (fits : Fits 4 n) where
+  fits_3 : Fits 3 (n / 64)
+  fits_3 = fits_less 3 n fits
 
-  fits_3 : Fits 3 (n / 64 / 64)
-  fits_3 = fits_less 3 (n / 64) fits_4
+  fits_2 : Fits 2 (n / 64 / 64)
+  fits_2 = fits_less 2 (n / 64) fits_3
 
-  fits_2 : Fits 2 (n / 64 / 64 / 64)
-  fits_2 = fits_less 2 (n / 64 / 64) fits_3
+  fits_1 : Fits 1 (n / 64 / 64 / 64)
+  fits_1 = fits_less 1 (n / 64 / 64) fits_2
 
-  fits_1 : Fits 1 (n / 64 / 64 / 64 / 64)
-  fits_1 = fits_less 1 (n / 64 / 64 / 64) fits_2
-
-  pub node_0 : 64 * (1 + n / 64 / 64 / 64 / 64 / 64) + 64 ≤ length s
+  pub node_0 : 64 * (1 + n / 64 / 64 / 64 / 64) + 64 ≤ length s
   node_0 =
-      node_within s tree some 0 (n / 64 / 64 / 64 / 64 / 64) (1 + n / 64 / 64 / 64 / 64 / 64) (omega arith)
-      (fits_less 0 (n / 64 / 64 / 64 / 64) fits_1)
-      (first s (n / 64 / 64 / 64 / 64 / 64))
+      node_within s tree some 0 (n / 64 / 64 / 64 / 64) (1 + n / 64 / 64 / 64 / 64) (omega arith)
+      (fits_less 0 (n / 64 / 64 / 64) fits_1) (first s (n / 64 / 64 / 64 / 64))
 
-  module _ (a : ℕ) (is_a : a ≡ slot s (64 * (1 + n / 64 / 64 / 64 / 64 / 64) + n / 64 / 64 / 64 / 64 % 64)) where
-    at_1 : reached s 1 (n / 64 / 64 / 64 / 64) ≡ a
-    at_1 = further s 0 (n / 64 / 64 / 64 / 64) (1 + n / 64 / 64 / 64 / 64 / 64) a
-        (first s (n / 64 / 64 / 64 / 64 / 64)) is_a
+  module _ (a : ℕ) (is_a : a ≡ slot s (64 * (1 + n / 64 / 64 / 64 / 64) + n / 64 / 64 / 64 % 64)) where
+    at_1 : reached s 1 (n / 64 / 64 / 64) ≡ a
+    at_1 = further s 0 (n / 64 / 64 / 64) (1 + n / 64 / 64 / 64 / 64) a (first s (n / 64 / 64 / 64 / 64)) is_a
 
     pub node_1 : 64 * a + 64 ≤ length s
-    node_1 = node_within s tree some 1 (n / 64 / 64 / 64 / 64) a (omega arith) fits_1 at_1
+    node_1 = node_within s tree some 1 (n / 64 / 64 / 64) a (omega arith) fits_1 at_1
 
-    module _ (b : ℕ) (is_b : b ≡ slot s (64 * a + n / 64 / 64 / 64 % 64)) where
-      at_2 : reached s 2 (n / 64 / 64 / 64) ≡ b
-      at_2 = further s 1 (n / 64 / 64 / 64) a b at_1 is_b
+    module _ (b : ℕ) (is_b : b ≡ slot s (64 * a + n / 64 / 64 % 64)) where
+      at_2 : reached s 2 (n / 64 / 64) ≡ b
+      at_2 = further s 1 (n / 64 / 64) a b at_1 is_b
 
       pub node_2 : 64 * b + 64 ≤ length s
-      node_2 = node_within s tree some 2 (n / 64 / 64 / 64) b (omega arith) fits_2 at_2
+      node_2 = node_within s tree some 2 (n / 64 / 64) b (omega arith) fits_2 at_2
 
-      module _ (c : ℕ) (is_c : c ≡ slot s (64 * b + n / 64 / 64 % 64)) where
-        at_3 : reached s 3 (n / 64 / 64) ≡ c
-        at_3 = further s 2 (n / 64 / 64) b c at_2 is_c
+      module _ (c : ℕ) (is_c : c ≡ slot s (64 * b + n / 64 % 64)) where
+        at_3 : reached s 3 (n / 64) ≡ c
+        at_3 = further s 2 (n / 64) b c at_2 is_c
 
         pub node_3 : 64 * c + 64 ≤ length s
-        node_3 = node_within s tree some 3 (n / 64 / 64) c (omega arith) fits_3 at_3
+        node_3 = node_within s tree some 3 (n / 64) c (omega arith) fits_3 at_3
 
-        module _ (d : ℕ) (is_d : d ≡ slot s (64 * c + n / 64 % 64)) where
-          at_4 : reached s 4 (n / 64) ≡ d
-          at_4 = further s 3 (n / 64) c d at_3 is_d
-
-          pub node_4 : 64 * d + 64 ≤ length s
-          node_4 = node_within s tree some 4 (n / 64) d (omega arith) fits_4 at_4
-
-          pub at_5 : (e : ℕ) → e ≡ slot s (64 * d + n % 64) → reached s 5 n ≡ e
-          at_5 e is_e = further s 4 n d e at_4 is_e
+        pub at_4 : (d : ℕ) → d ≡ slot s (64 * c + n % 64) → reached s 4 n ≡ d
+        at_4 d is_d = further s 3 n c d at_3 is_d
 
 -- the same, where the number of digits is no sum
 pub fits_up : (depth n : ℕ) → 0 < depth → Fits depth n → Fits (depth - 1) (n / 64)

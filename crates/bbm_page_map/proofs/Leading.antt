@@ -1,22 +1,15 @@
 -- What the slots lead to is the number of each page's entry.
-use Rattle.std.proofs.Common.{◌≡◌, ◌∙◌, ℕ, zero, suc, ◌+◌, ◌-◌, ◌*◌, ◌/◌, ◌%◌, ◌^◌, ◌<◌, ◌≤◌, ◌⊎◌, inl, inr, Bool, true}
-use Rattle.std.proofs.Common.{false, List, [], ◌∷◌, ◌++◌, length, if◌then◌else◌, nat_eq, nat_lt, nat_le, refl, sym, ap}
-use Rattle.std.proofs.Common.{subst, arith, Option, Some, None, is_some, slice_get, get_or, vec_len, vec_capacity, ◌&&◌}
-use Rattle.std.proofs.lemmas.Bool.{and_parts, eqb-true, leb-true, ltb-true, ne_eqb}
-use Rattle.std.proofs.lemmas.Cmp.{nat_eq_equiv}
+use Rattle.std.proofs.Common.{◌≡◌, ◌∙◌, ℕ, zero, suc, ◌+◌, ◌-◌, ◌*◌, ◌/◌, ◌%◌, ◌^◌, ◌<◌, ◌≤◌, ◌⊎◌, inl, inr}
+use Rattle.std.proofs.Common.{List, [], ◌∷◌, ◌++◌, length, refl, sym, ap}
+use Rattle.std.proofs.Common.{subst, arith, Some, slice_get}
 use Rattle.std.proofs.lemmas.List.{get_or_past}
-use Rattle.std.proofs.lemmas.Map.Entries.{lookup_from_place, place_from_lookup}
-use Rattle.std.proofs.lemmas.Map.Keys.{IsDistinct-from_apart}
-use Rattle.std.proofs.lemmas.Option.{none-some, same_Some, get_or_from_slice_get, slice_get-get_or}
-use Rattle.std.specs.List.{IsDistinct}
-use Rattle.std.specs.Map.{keys_of, lookup}
-use Rattle.std.specs.Prelude.{Vec}
-use Rattle.std.specs.declared.alloc.Global.{Global}
-use Rattle.bbm_page_map.proofs.Entries.{entry_there, key_there, push_cases, push_last, push_old}
+use Rattle.std.proofs.lemmas.Option.{none-some, same_Some, slice_get_within}
+use Rattle.bbm_page_map.proofs.Entries.{push_cases, push_last, push_old}
 use Rattle.bbm_page_map.proofs.Finding.{none_reached}
 use Rattle.bbm_page_map.proofs.Growing.{Grows, grown, hit, reads_alike, stays}
-use Rattle.bbm_page_map.specs.SlotNodes.{Fits, HasSlots, IsTree, LeadsAlike, reached, slot}
-use Rattle.bbm_page_map.specs.PageLists.{Leads, entry_of, has_room}
+use Rattle.bbm_page_map.proofs.Numbering.{number_at, number_none}
+use Rattle.bbm_page_map.specs.SlotNodes.{Fits, IsTree, LeadsAlike, reached, slot}
+use Rattle.bbm_page_map.specs.PageLists.{Leads, entry_of, number_in}
 
 -- ---- the nodes at first
 
@@ -96,16 +89,6 @@ module _ (s pages : List ℕ) (l : Leads s pages) where
   pub stands_once : (i j p : ℕ) → slice_get pages i ≡ Some p → slice_get pages j ≡ Some p → i ≡ j
   stands_once i j p one two = same_Some i j (sym (l.back i p one).2 ∙ (l.back j p two).2)
 
-  pub distinct : IsDistinct nat_eq pages
-  distinct =
-      IsDistinct-from_apart nat_eq pages
-      (λ i j d before within.
-      ne_eqb (get_or pages i d) (get_or pages j d)
-      (λ same.
-      let one = slice_get-get_or pages i d (omega (arith, before, within)) in
-      let two = slice_get-get_or pages j d within in
-      absurd (omega (arith, before, stands_once i j (get_or pages j d) (one ∙ ap (λ (x : ℕ). Some x) same) two))))
-
   -- the page to which a number leads
   pub page_found : (p n : ℕ) → p < 2 ^ 48 → p % 4096 ≡ 0 → n ≡ reached s 5 (p / 4096) → (n ≡ 0 → ⊥)
       → slice_get pages (n - 1) ≡ Some p
@@ -127,36 +110,30 @@ module _ (s pages : List ℕ) (l : Leads s pages) where
       by (suc n) is = absurd (none n (subst (λ (k : ℕ). slice_get pages k ≡ Some p) (omega arith)
           (page_found p (suc n) low aligned is (λ e. absurd (omega (arith, e))))))
 
-module _ {V : Type 0} (s : List ℕ) (es : List (ℕ × V)) (l : Leads s (keys_of es)) where
-  pub value_here : (i p : ℕ) (v : V) → slice_get es i ≡ Some (p, v) → lookup (nat_eq p) es ≡ Some v
-  value_here i p v at = lookup_from_place nat_eq_equiv es i p v (distinct s (keys_of es) l) at
+-- ---- numbers by the slots
 
-  pub value_at : (i p : ℕ) (x : ℕ × V) → slice_get (keys_of es) i ≡ Some p → x ≡ get_or es i x
-      → lookup (nat_eq p) es ≡ Some x.1
-  value_at i p x at is =
-      let there = entry_there es i p at in
-      let same : x ≡ (p, there.0) = is ∙ get_or_from_slice_get es i (p, there.0) x there.1 in
-      value_here i p there.0 there.1 ∙ ap (λ (y : ℕ × V). Some y.1) (sym same)
-
-  pub known_at : (i p : ℕ) → slice_get (keys_of es) i ≡ Some p → is_some (lookup (nat_eq p) es) ≡ true
-  known_at i p at = let there = entry_there es i p at in ap is_some (value_here i p there.0 there.1)
-
-  -- a page that isn't found has no value
-  pub none_here : (p : ℕ) → ((k : ℕ) → slice_get (keys_of es) k ≡ Some p → ⊥) → lookup (nat_eq p) es ≡ None
-  none_here p none = by (lookup (nat_eq p) es) refl
+module _ (s pages : List ℕ) (l : Leads s pages) (p : ℕ) (low : p < 2 ^ 48) (aligned : p % 4096 ≡ 0) where
+  -- what the slots lead to tells the page's number
+  pub number_told : entry_of (reached s 5 (p / 4096)) ≡ number_in pages p
+  number_told = by (reached s 5 (p / 4096)) refl
     where
-      by : (o : Option V) → o ≡ lookup (nat_eq p) es → lookup (nat_eq p) es ≡ None
-      by None is = sym is
-      by (Some v) is =
-          let place = place_from_lookup (nat_eq p) es v (sym is) in
-          let at : slice_get es place.0 ≡ Some (p, v) = place.2
-          ∙ ap (λ (k : ℕ). Some (k, v)) (sym (eqb-true p place.1 place.3)) in
-          absurd (none place.0 (key_there es place.0 p v at))
+      by : (n : ℕ) → n ≡ reached s 5 (p / 4096) → entry_of n ≡ number_in pages p
+      by zero is = sym (number_none pages p (λ k at. page_missing s pages l p k is at))
+      by (suc n) is =
+          let at : slice_get pages n ≡ Some p = subst (λ (k : ℕ). slice_get pages k ≡ Some p) (omega arith)
+          (page_found s pages l p (suc n) low aligned is (λ e. absurd (omega (arith, e)))) in
+          sym (number_at pages p n at (λ j also. stands_once s pages l j n p also at))
 
-  -- and one that has no value stands nowhere
-  pub nowhere : (p : ℕ) → lookup (nat_eq p) es ≡ None → (k : ℕ) → slice_get (keys_of es) k ≡ Some p → ⊥
-  nowhere p none k at = let there = entry_there es k p at in none-some there.0
-      (sym none ∙ value_here k p there.0 there.1)
+  -- a number that they lead to is that of a page, or nothing
+  pub number_small : (most : ℕ) → length pages ≤ most → reached s 5 (p / 4096) ≤ most
+  number_small most few = by (reached s 5 (p / 4096)) refl
+    where
+      by : (n : ℕ) → n ≡ reached s 5 (p / 4096) → n ≤ most
+      by zero is = omega arith
+      by (suc n) is =
+          let within = slice_get_within pages (suc n - 1) p
+          (page_found s pages l p (suc n) low aligned is (λ e. absurd (omega (arith, e)))) in
+          omega (arith, within, few)
 
 -- ---- one page more
 
@@ -204,46 +181,3 @@ module _ (old new pages : List ℕ) (p : ℕ) (l : Leads old pages) (low : p < 2
         ];
     back = λ k page is. back_case k page (push_cases p pages k page is);
   }
-
--- ---- room
-
-pub room_bit : (b : Bool) → 0 < (if b then 1 else 0) → b ≡ true
-room_bit true some = refl
-room_bit false some = absurd (omega (arith, some))
-
-pub record HasRoom {X : Type 0} (entries : Vec X Global) (slots : Vec ℕ Global) : Type 0 where
-  pub fits : vec_len entries < vec_capacity entries
-  pub few : vec_len entries < 2 ^ 24
-  pub more : HasSlots slots
-
-module _ {X : Type 0} (entries : Vec X Global) (slots : Vec ℕ Global) where
-  abbrev is_in : Bool
-  is_in = nat_lt (vec_len entries) (vec_capacity entries)
-
-  abbrev are_few : Bool
-  are_few = nat_lt (vec_len entries) (2 ^ 24)
-
-  abbrev is_begun : Bool
-  is_begun = nat_lt 0 (vec_len slots)
-
-  abbrev has_slots : Bool
-  has_slots = nat_le (vec_len slots + 256) (vec_capacity slots)
-
-  abbrev has_few : Bool
-  has_few = nat_le (vec_len slots + 256) (2 ^ 32)
-
-  pub room_from : has_room entries slots ≡ true → HasRoom entries slots
-  room_from is =
-      let all = and_parts (is_in && are_few && is_begun && has_slots) has_few is in
-      let four = and_parts (is_in && are_few && is_begun) has_slots all.0 in
-      let three = and_parts (is_in && are_few) is_begun four.0 in
-      let two = and_parts is_in are_few three.0 in
-      record {
-        fits = ltb-true (vec_len entries) (vec_capacity entries) two.0;
-        few = ltb-true (vec_len entries) (2 ^ 24) two.1;
-        more = record {
-          some = ltb-true 0 (vec_len slots) three.1;
-          room = leb-true (vec_len slots + 256) (vec_capacity slots) four.1;
-          few = leb-true (vec_len slots + 256) (2 ^ 32) all.1;
-        };
-      }

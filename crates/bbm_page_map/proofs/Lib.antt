@@ -1,4 +1,5 @@
 pub mod Finding
 pub mod Growing
 pub mod Entries
+pub mod Numbering
 pub mod Leading

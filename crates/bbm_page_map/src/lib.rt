@@ -1,16 +1,21 @@
-//! A map from pages to values, in the order in which they came, whose look-ups take the same few steps whatever pages
-//! are in it.
+//! Numbers of pages, and values by them.
 //!
-//! The number of a page has 36 bits, six digits in base 64. The first digit chooses one of 64 first nodes, and each
-//! further one a slot of the node so far, which leads to the next node; in the last node it leads to the page's entry.
-//! So no choice of pages makes a look-up longer, as a choice of keys that all collide does with a hash table. Where a
-//! page is already known by its number, `get_index` gives it without a look-up.
+//! `PageNumbers` gives each page a number once, from 0 on, in the order in which pages come. Its look-ups take the same
+//! few steps whatever pages there are. The number of a page has 36 bits, six digits in base 64. The first digit chooses
+//! one of 64 first nodes, and each further one a slot of the node so far, which leads to the next node; in the last node
+//! it leads to the page's number. So no choice of pages makes a look-up longer, as a choice of keys that all collide
+//! does with a hash table.
 //!
-//! Contracts see a map as they see an `IndexMap` of the kit: as the list of its entries, in the order in which their
-//! pages came, with the words of that crate.
+//! `PageColumn` has a value for each of the pages, which is found by the page's number at once. Contracts see it as they
+//! see an `IndexMap` of the kit: as the list of its entries, in the order in which their pages came, with the words of
+//! that crate.
 #![tactic(auto)]
 
-mod map;
+mod column;
 mod nodes;
+mod number;
+mod numbers;
 
-pub use map::PageMap;
+pub use column::PageColumn;
+pub use number::PageNumber;
+pub use numbers::PageNumbers;

@@ -26,33 +26,67 @@ const MAX_SLOTS: usize = 1 << 32;
 
 /// What stands in a node's slot for the last digit of a prefix of a page's number.
 #[inline(always)]
-fn step(slots: &[u32], node: u32, prefix: u64) -> u32
+pub fn step(slots: &[u32], node: u32, prefix: u64) -> u32
     requires { NODE_SLOTS * node + NODE_SLOTS ≤ length slots.now }
     ensures { result ≡ slot slots.now (NODE_SLOTS * node + prefix % BASE) }
 {
     slots[NODE_SLOTS * node as usize + (prefix % BASE) as usize]
 }
 
-/// What the six digits of a page's number lead to, the first of 64 nodes by the first of them; 0 where the number isn't
-/// there.
+/// A node for the last digit of numbers, and the five digits before that, which lead to it.
+#[derive(Clone, Copy)]
+pub struct LastNode {
+    /// The five digits.
+    pub prefix: u64,
+    /// The number of the node.
+    pub node: u32,
+}
+
+/// The node that five digits lead to, the first of 64 nodes by the first of them; 0 where they lead nowhere.
 #[inline(always)]
-pub fn find(slots: &[u32], number: u64) -> u32
+fn last_node(slots: &[u32], prefix: u64) -> u32
     requires tree { IsTree slots.now }
+    requires some { 0 < length slots.now }
+    requires fits { Fits 4 prefix }
+    ensures { result ≡ reached slots.now 4 prefix }
+{
+    let three = prefix / BASE;
+    let two = three / BASE;
+    let one = two / BASE;
+    let node = step(slots, 1 + (one / BASE) as u32, one);
+    let node = step(slots, node, two);
+    let node = step(slots, node, three);
+    step(slots, node, prefix)
+}
+
+/// `last_node`; the digits of the node that is known aren't followed again.
+#[inline(always)]
+pub fn node_of(slots: &[u32], recent: &LastNode, prefix: u64) -> u32
+    requires tree { IsTree slots.now }
+    requires some { 0 < length slots.now }
+    requires recent { recent.now.node ≡ reached slots.now 4 recent.now.prefix }
+    requires fits { Fits 4 prefix }
+    ensures { result ≡ reached slots.now 4 prefix }
+{
+    if prefix == recent.prefix {
+        return recent.node;
+    }
+    last_node(slots, prefix)
+}
+
+/// What the six digits of a page's number lead to; 0 where the number isn't there. The digits of the node that is known
+/// aren't followed again.
+#[inline(always)]
+pub fn find(slots: &[u32], recent: &LastNode, number: u64) -> u32
+    requires tree { IsTree slots.now }
+    requires recent { recent.now.node ≡ reached slots.now 4 recent.now.prefix }
     requires fits { Fits 5 number }
     ensures { result ≡ reached slots.now 5 number }
 {
     if slots.is_empty() {
         return 0;
     }
-    let four = number / BASE;
-    let three = four / BASE;
-    let two = three / BASE;
-    let one = two / BASE;
-    let node = step(slots, 1 + (one / BASE) as u32, one);
-    let node = step(slots, node, two);
-    let node = step(slots, node, three);
-    let node = step(slots, node, four);
-    step(slots, node, number)
+    step(slots, node_of(slots, recent, number / BASE), number)
 }
 
 /// Adds slots that are empty, so many, where there is room for them.
@@ -73,8 +107,7 @@ fn begin(slots: &mut Vec<u32>) -> Result<(), NoMemory>
     requires { IsTree slots.old.items }
     ensures some { OnOk result (0 < vec_len slots.new) }
     ensures tree { IsTree slots.new.items }
-    ensures alike { LeadsAlike slots.old.items slots.new.items }
-    ensures begun { 0 < vec_len slots.old → IsOk result × (slots.new ≡ slots.old) }
+    ensures slots { (i : ℕ) → slot slots.new.items i ≡ slot slots.old.items i }
 {
     if slots.len() > 0 {
         return Ok(());
@@ -94,8 +127,7 @@ pub fn reserve_slots(slots: &mut Vec<u32>) -> Result<(), NoMemory>
     requires { IsTree slots.old.items }
     ensures room { OnOk result (HasSlots slots.new) }
     ensures tree { IsTree slots.new.items }
-    ensures alike { LeadsAlike slots.old.items slots.new.items }
-    ensures succeeds { HasSlots slots.old → IsOk result }
+    ensures slots { (i : ℕ) → slot slots.new.items i ≡ slot slots.old.items i }
 {
     begin(slots)?;
     if slots.len() > MAX_SLOTS - MORE_SLOTS {

@@ -1,6 +1,6 @@
 -- Pages no place of which has a value or is broken.
 use Rattle.bbm_place_map.proofs.Common.{◌≡◌, ℕ, ◌+◌, ◌*◌, ◌/◌, ◌%◌, ◌<◌, Option, Some, None, refl, ap, sym, ◌∙◌}
-use Rattle.bbm_place_map.proofs.Common.{nat_eq, none-some, get, value_in, marks_of, entry_at, place_entry}
+use Rattle.bbm_place_map.proofs.Common.{none-some, bases, value_in, marks_of, entry_at, place_entry}
 use Rattle.bbm_place_map.proofs.Common.{at_index, index_of, Entry, PlaceMap}
 use Rattle.bbm_place_map.proofs.Places.{cell_of, eighth_at, index_from, number_at, number_below, page_at}
 use Rattle.bbm_place_map.specs.Map.{marks_at, value_at}
@@ -28,22 +28,22 @@ module _ {X : Type 0} (d : X) (f : ℕ → X) (base : ℕ → Option ℕ) (page 
       ∙ ap (λ (n : ℕ). Some (b + n)) (number_at page i aligned below) in
       ap (at_index d f) (sym at) ∙ all (page + 8 * i) same
 
-module _ (map : PlaceMap) (page b : ℕ) (is : get nat_eq map.pages page ≡ Some b) where
+module _ (map : PlaceMap) (page b : ℕ) (is : bases map.pages page ≡ Some b) where
   pub zero_values : ((i : ℕ) → i < 512 → value_in map.values.items (b + i) ≡ 0) → (a : ℕ) → a / 4096 * 4096 ≡ page → value_at map a ≡ 0
   unfolding value_at
-  zero_values = at_places 0 (value_in map.values.items) (get nat_eq map.pages) page b is
+  zero_values = at_places 0 (value_in map.values.items) (bases map.pages) page b is
 
   pub values_zero : page % 4096 ≡ 0 → ((a : ℕ) → a / 4096 * 4096 ≡ page → value_at map a ≡ 0) → (i : ℕ) → i < 512
       → value_in map.values.items (b + i) ≡ 0
   unfolding value_at
-  values_zero = at_cells 0 (value_in map.values.items) (get nat_eq map.pages) page b is
+  values_zero = at_cells 0 (value_in map.values.items) (bases map.pages) page b is
 
   pub free_marks : ((i : ℕ) → i < 512 → entry_at map.broken (b + i) ≡ None) → (a : ℕ) → a / 4096 * 4096 ≡ page → marks_at map a ≡ None
   unfolding marks_at
-  free_marks free a same = ap marks_of (at_places None (entry_at map.broken) (get nat_eq map.pages) page b is free a same)
+  free_marks free a same = ap marks_of (at_places None (entry_at map.broken) (bases map.pages) page b is free a same)
 
   pub marks_free : page % 4096 ≡ 0 → ((a : ℕ) → a / 4096 * 4096 ≡ page → marks_at map a ≡ None) → (i : ℕ) → i < 512
       → entry_at map.broken (b + i) ≡ None
   unfolding marks_at
   marks_free aligned all =
-      at_cells None (entry_at map.broken) (get nat_eq map.pages) page b is aligned (λ a same. no_entry (place_entry map a) (all a same))
+      at_cells None (entry_at map.broken) (bases map.pages) page b is aligned (λ a same. no_entry (place_entry map a) (all a same))

@@ -1,13 +1,14 @@
 -- A map whose broken places changed.
-use Rattle.bbm_place_map.proofs.Common.{◌≡◌, ◌⊎◌, ℕ, Bool, true, false, Some, None, nat_eq, ap, sym, subst}
+use Rattle.bbm_place_map.proofs.Common.{◌*◌, length, ◌≡◌, ◌⊎◌, ℕ, Bool, true, false, Some, None, nat_eq, ap, sym, subst}
 use Rattle.bbm_place_map.proofs.Common.{eqb-true, ◌∙◌}
-use Rattle.bbm_place_map.proofs.Common.{vec_len, if◌then◌else◌, slice_get, cond-false, cond-true, Vec, Global, get}
+use Rattle.bbm_place_map.proofs.Common.{vec_len, if◌then◌else◌, slice_get, cond-false, cond-true, Vec, Global, bases}
 use Rattle.bbm_place_map.proofs.Common.{in_page, marks_of, page_of}
-use Rattle.bbm_place_map.proofs.Common.{pends_of, IsIdle, Placed, Tiled, at_index, index_of, place_entry, entry_at}
+use Rattle.bbm_place_map.proofs.Common.{pends_of, IsIdle, Placed, at_index, index_of, place_entry, entry_at}
 use Rattle.bbm_place_map.proofs.Common.{pages_in}
 use Rattle.bbm_place_map.proofs.Common.{AreSeated, BrokenPlaces, Breaks, Clears, Entry, PlaceMap, Option, Frees, Marks}
 use Rattle.bbm_place_map.proofs.Common.{WasSeated}
 use Rattle.bbm_place_map.proofs.Common.{split_by, if_then, inl, inr}
+use Rattle.bbm_place_map.proofs.Bases.{numbered_in}
 use Rattle.bbm_place_map.proofs.Idle.{idle_from}
 use Rattle.bbm_place_map.proofs.Linking.{marks_put, pends_put}
 use Rattle.bbm_place_map.proofs.Places.{at_page, at_place, index_none}
@@ -17,31 +18,29 @@ use Rattle.bbm_place_map.specs.Map.{marks_at, pends_at}
 -- A map hangs together with these values and broken places.
 abbrev pub Fits : PlaceMap → Vec ℕ Global → BrokenPlaces → Type 0
 Fits map values broken = record {
-  tiled : Tiled (get nat_eq map.pages) (pages_in broken) (vec_len values);
-  placed : Placed (get nat_eq map.pages) broken.entries.list.items;
+  counted : 512 * length map.pages ≡ vec_len values;
+  parted : pages_in broken ≡ length map.pages;
+  placed : Placed (bases map.pages) broken.entries.list.items;
 }
 
 module _ (map : PlaceMap) (values : Vec ℕ Global) (new : BrokenPlaces) (many : vec_len values ≡ vec_len map.values)
     (pages : pages_in new ≡ pages_in map.broken) where
-  fits : Placed (get nat_eq map.pages) new.entries.list.items → Fits map values new
-  fits placed =
-      let T : ℕ → Type 0 = λ n. Tiled (get nat_eq map.pages) n (vec_len values) in
-      let V : ℕ → Type 0 = λ n. Tiled (get nat_eq map.pages) (pages_in map.broken) n in
-      record { tiled = subst T (sym pages) (subst V (sym many) map.tiled); placed = placed }
+  fits : Placed (bases map.pages) new.entries.list.items → Fits map values new
+  fits placed = record { counted = map.counted ∙ sym many; parted = pages ∙ map.parted; placed = placed }
 
   pub fits_seated : AreSeated map.broken.entries.list.items new.entries.list.items → Fits map values new
   fits_seated seats =
-      fits (seats_by (λ p. index_of (get nat_eq map.pages) p.0 ≡ Some p.1) map.broken.entries.list.items new.entries.list.items seats map.placed)
+      fits (seats_by (λ p. index_of (bases map.pages) p.0 ≡ Some p.1) map.broken.entries.list.items new.entries.list.items seats map.placed)
 
-  pub fits_put : (j place : ℕ) → index_of (get nat_eq map.pages) place ≡ Some j
+  pub fits_put : (j place : ℕ) → index_of (bases map.pages) place ≡ Some j
       → ((k : ℕ) (e : Entry) → slice_get new.entries.list.items k ≡ Some e
       → WasSeated map.broken.entries.list.items e ⊎ ((e.place ≡ place) × (e.index ≡ j))) → Fits map values new
   fits_put j place at seats =
-      let P : ℕ × ℕ × ℕ → Type 0 = λ p. index_of (get nat_eq map.pages) p.0 ≡ Some p.1 in
+      let P : ℕ × ℕ × ℕ → Type 0 = λ p. index_of (bases map.pages) p.0 ≡ Some p.1 in
       fits (λ k e h.
       elim (seats k e h) [
         | inl was ↦ subst P (sym was.3) (map.placed was.0 was.1 was.2)
-        | inr now ↦ ap (index_of (get nat_eq map.pages)) now.0 ∙ at ∙ ap (λ (n : ℕ). Some n) (sym now.1)
+        | inr now ↦ ap (index_of (bases map.pages)) now.0 ∙ at ∙ ap (λ (n : ℕ). Some n) (sym now.1)
       ])
 
 -- What is then at each place: nothing at those that a test holds of, and what was there elsewhere.
@@ -61,27 +60,27 @@ at_places gone map now is = record {
 
 module _ (map : PlaceMap) (new : BrokenPlaces) where
   abbrev now : ℕ → Option Entry
-  now a = at_index None (entry_at new) (index_of (get nat_eq map.pages) a)
+  now a = at_index None (entry_at new) (index_of (bases map.pages) a)
 
   -- a place is cleared
-  pub place_cleared : (place j : ℕ) → index_of (get nat_eq map.pages) place ≡ Some j
+  pub place_cleared : (place j : ℕ) → index_of (bases map.pages) place ≡ Some j
       → Clears (λ i. nat_eq i j) map.broken new → AtPlaces (λ a. nat_eq a place) map now
   place_cleared place j at clears =
       at_places (λ a. nat_eq a place) map now
-      (at_place (get nat_eq map.pages) (vec_len map.values) map.tiled.numbered None None (entry_at map.broken) (entry_at new) place j at clears.entries)
+      (at_place (bases map.pages) (vec_len map.values) (numbered_in map) None None (entry_at map.broken) (entry_at new) place j at clears.entries)
 
   -- a page is cleared
-  pub page_cleared : (page b : ℕ) → get nat_eq map.pages page ≡ Some b
+  pub page_cleared : (page b : ℕ) → bases map.pages page ≡ Some b
       → Clears (in_page b 512) map.broken new → AtPlaces (λ a. nat_eq (page_of a) page) map now
   page_cleared page b is clears =
       at_places (λ a. nat_eq (page_of a) page) map now
-      (at_page (get nat_eq map.pages) (vec_len map.values) map.tiled.numbered None (entry_at map.broken) (entry_at new) page b is clears.entries)
+      (at_page (bases map.pages) (vec_len map.values) (numbered_in map) None (entry_at map.broken) (entry_at new) page b is clears.entries)
 
   -- a place is broken
-  module _ (place j : ℕ) (marks : Marks) (at : index_of (get nat_eq map.pages) place ≡ Some j) (breaks : Breaks j place marks map.broken new) where
+  module _ (place j : ℕ) (marks : Marks) (at : index_of (bases map.pages) place ≡ Some j) (breaks : Breaks j place marks map.broken new) where
     put : (a : ℕ) → now a ≡ (if nat_eq a place then Some breaks.entry.0 else place_entry map a)
     put =
-        at_place (get nat_eq map.pages) (vec_len map.values) map.tiled.numbered None (Some breaks.entry.0) (entry_at map.broken) (entry_at new) place j at
+        at_place (bases map.pages) (vec_len map.values) (numbered_in map) None (Some breaks.entry.0) (entry_at map.broken) (entry_at new) place j at
         breaks.entry.3
 
     pub marks_broken : (a : ℕ) → marks_of (now a) ≡ (if nat_eq a place then Some marks else marks_of (place_entry map a))
@@ -95,7 +94,7 @@ module _ (map : PlaceMap) (new : BrokenPlaces) where
         (breaks.entry.2 q ∙ ap (pends_of q) (sym (ap (at_index None (entry_at map.broken)) at)))
 
 -- a page that isn't tracked has no broken place
-pub frees_untracked : (map new : PlaceMap) (page : ℕ) → get nat_eq map.pages page ≡ None
+pub frees_untracked : (map new : PlaceMap) (page : ℕ) → bases map.pages page ≡ None
     → ((a : ℕ) → marks_at new a ≡ marks_at map a) → ((q a : ℕ) → pends_at new q a ≡ pends_at map q a) → Frees page map new
 unfolding marks_at pends_at
 frees_untracked map new page none marks pends = record {
@@ -107,4 +106,4 @@ frees_untracked map new page none marks pends = record {
     no_entry : (a : ℕ) → nat_eq (page_of a) page ≡ true → place_entry map a ≡ None
     no_entry a same =
         ap (at_index None (entry_at map.broken))
-        (index_none (get nat_eq map.pages) a (ap (get nat_eq map.pages) (eqb-true (page_of a) page same) ∙ none))
+        (index_none (bases map.pages) a (ap (bases map.pages) (eqb-true (page_of a) page same) ∙ none))

@@ -1,6 +1,6 @@
 -- What a DSB leaves of each place that it visits.
 use Rattle.bbm_place_map.proofs.Common.{◌≡◌, ℕ, Bool, true, false, [], Option, Some, None, refl, ap, sym, subst, ◌∙◌}
-use Rattle.bbm_place_map.proofs.Common.{false≢true, get, nat_eq}
+use Rattle.bbm_place_map.proofs.Common.{false≢true, bases}
 use Rattle.bbm_place_map.proofs.Common.{Does, HoldsFor, Rests, loses_table, entry_of_cell, marks_of, at_index, index_of}
 use Rattle.bbm_place_map.proofs.Common.{cell_by, entry_at}
 use Rattle.bbm_place_map.proofs.Common.{BrokenPlaces, Entries, Entry, Barrier, Effect, PlaceMap, Complete, Publish}
@@ -59,12 +59,12 @@ module _ (by : Barrier) (old : BrokenPlaces) (new : Entries) where
 
 -- a place that lost a table
 pub lost_place : (map : PlaceMap) (new : ℕ → Option Entry) (j : ℕ) → loses_table (marks_of (entry_at map.broken j)) (marks_of (new j)) ≡ true
-    → (a : ℕ) × (loses_table (marks_of (at_index None (entry_at map.broken) (index_of (get nat_eq map.pages) a)))
-    (marks_of (at_index None new (index_of (get nat_eq map.pages) a))) ≡ true)
+    → (a : ℕ) × (loses_table (marks_of (at_index None (entry_at map.broken) (index_of (bases map.pages) a)))
+    (marks_of (at_index None new (index_of (bases map.pages) a))) ≡ true)
 lost_place map new j h =
     let e = entry_lost (entry_at map.broken j) (marks_of (new j)) h in
     let s = seat_at map.broken j e.0 e.1 in
-    let here : index_of (get nat_eq map.pages) e.0.place ≡ Some j = map.placed s.0 e.0 s.2 ∙ ap (λ (n : ℕ). Some n) s.3 in (
+    let here : index_of (bases map.pages) e.0.place ≡ Some j = map.placed s.0 e.0 s.2 ∙ ap (λ (n : ℕ). Some n) s.3 in (
       e.0.place,
       ap (λ (o : Option ℕ). loses_table (marks_of (at_index None (entry_at map.broken) o)) (marks_of (at_index None new o))) here ∙ h,
     )

@@ -1,6 +1,6 @@
 -- What the issue of a TLBI notes, of a place.
 use Rattle.bbm_place_map.proofs.Common.{◌≡◌, ℕ, true, false, ◌<◌, List, length, Option, Some, None, is_some, refl, ap}
-use Rattle.bbm_place_map.proofs.Common.{get, nat_eq}
+use Rattle.bbm_place_map.proofs.Common.{bases}
 use Rattle.bbm_place_map.proofs.Common.{sym, subst, ◌∙◌, arith, slice_get, get_or, option_map, slice_get_within}
 use Rattle.bbm_place_map.proofs.Common.{unwrap_or}
 use Rattle.bbm_place_map.proofs.Common.{slice_get-get_or, Cover, Noted, Broken, slot_in, entry_of, position}
@@ -25,7 +25,7 @@ cover_read covers i x y within is same = slice_get-get_or covers i x within ∙ 
 -- the entries change each in its place
 module _ (R : ℕ → Entry → Entry → Type 0) (map : PlaceMap) (new : BrokenPlaces) (changed : EachAdvances R map.broken new) where
   abbrev now : ℕ → Option Entry
-  now a = at_index None (entry_at new) (index_of (get nat_eq map.pages) a)
+  now a = at_index None (entry_at new) (index_of (bases map.pages) a)
 
   module _ (P : Option Entry → Option Entry → Type 0) (none : P None None)
       (some : (m : ℕ) (e f : Entry) → slice_get map.broken.entries.list.items m ≡ Some e → position f ≡ position e → R m e f → P (Some e) (Some f)) where
@@ -45,7 +45,7 @@ module _ (R : ℕ → Entry → Entry → Type 0) (map : PlaceMap) (new : Broken
         (λ c. by_number (slot_in map.broken.entries.cells.items c)) (cell_by map.broken.parts.items j)))
 
     by_place : (a : ℕ) → P (place_entry map a) (now a)
-    by_place a = at_each P None (entry_at map.broken) (entry_at new) none by_index (index_of (get nat_eq map.pages) a)
+    by_place a = at_each P None (entry_at map.broken) (entry_at new) none by_index (index_of (bases map.pages) a)
 
   pub marks_stay : ((m : ℕ) (e f : Entry) → R m e f → f.marks ≡ e.marks) → (a : ℕ) → marks_of (now a) ≡ marks_of (place_entry map a)
   marks_stay same =
@@ -70,7 +70,7 @@ module _ (R : ℕ → Entry → Entry → Type 0) (map : PlaceMap) (new : Broken
 pub noted_by_number : (map : PlaceMap) (new : BrokenPlaces) (covers : List Cover) (by : Issuing) → EachAdvances (NotesAt covers by) map.broken new
     → length covers ≡ length map.broken.entries.list.items → (i : ℕ) (c : Cover) → slice_get covers i ≡ Some c
     → Noted (state_from None (marks_of (place_entry map (place_of map i)))) (pends_of by.issuer (place_entry map (place_of map i)))
-    by.reach by.broadcast c (pends_of by.issuer (at_index None (entry_at new) (index_of (get nat_eq map.pages) (place_of map i))))
+    by.reach by.broadcast c (pends_of by.issuer (at_index None (entry_at new) (index_of (bases map.pages) (place_of map i))))
 noted_by_number map new covers by changed len i c cover =
     let within : i < length covers = slice_get_within covers i c cover in
     let e = entry_there map.broken.entries.list.items i (omega (arith, within, len)) in
@@ -89,7 +89,7 @@ noted_by_number map new covers by changed len i c cover =
 pub noted_found : (map : PlaceMap) (new : BrokenPlaces) (found : List Found) (by : Issuing) → EachAdvances (λ _. NotesAmong found by) map.broken new
     → (f : ℕ → Cover) → FoundAs found f → (a : ℕ) → is_found found a ≡ true → is_some (marks_of (place_entry map a)) ≡ true
     → Noted (state_from None (marks_of (place_entry map a))) (pends_of by.issuer (place_entry map a)) by.reach by.broadcast (f a)
-    (pends_of by.issuer (at_index None (entry_at new) (index_of (get nat_eq map.pages) a)))
+    (pends_of by.issuer (at_index None (entry_at new) (index_of (bases map.pages) a)))
 noted_found map new found by changed f fits a among =
     by_place (λ _. NotesAmong found by) map new changed
     (λ o p. ((e : Entry) → o ≡ Some e → e.place ≡ a) → is_some (marks_of o) ≡ true
@@ -101,7 +101,7 @@ noted_found map new found by changed f fits a among =
 
 pub unnoted_found : (map : PlaceMap) (new : BrokenPlaces) (found : List Found) (issuer : ℕ)
     → EachAdvances (λ _. KeepsUnfound found issuer) map.broken new → (a : ℕ) → is_found found a ≡ false
-    → pends_of issuer (at_index None (entry_at new) (index_of (get nat_eq map.pages) a)) ≡ pends_of issuer (place_entry map a)
+    → pends_of issuer (at_index None (entry_at new) (index_of (bases map.pages) a)) ≡ pends_of issuer (place_entry map a)
 unnoted_found map new found issuer changed a none =
     by_place (λ _. KeepsUnfound found issuer) map new changed
     (λ o p. ((e : Entry) → o ≡ Some e → e.place ≡ a) → pends_of issuer p ≡ pends_of issuer o)

@@ -1,6 +1,6 @@
 -- Entries that keep their places while a TLBI is noted.
-use Rattle.bbm_place_map.proofs.Common.{◌≡◌, ℕ, ◌+◌, ◌*◌, ◌≤◌, List, Some, None, ap, sym, ◌∙◌, arith, slice_get, nat_eq}
-use Rattle.bbm_place_map.proofs.Common.{get, subst, position_at, position}
+use Rattle.bbm_place_map.proofs.Common.{◌≡◌, ℕ, ◌+◌, ◌*◌, ◌≤◌, List, Some, None, ap, sym, ◌∙◌, arith, slice_get}
+use Rattle.bbm_place_map.proofs.Common.{bases, subst, position_at, position}
 use Rattle.bbm_place_map.proofs.Common.{at_index, cell_by, index_of, slot_in, option_map, none-some, BrokenPlaces}
 use Rattle.bbm_place_map.proofs.Common.{Entries, Entry, Numbered}
 use Rattle.bbm_place_map.proofs.Common.{Placed, SameSize, Vec, Global, number_at, pages_in}
@@ -38,26 +38,26 @@ kept_moved {kept} {old} {new} sound same positions = record {
   where
     number : (place : ℕ) → entry_number kept new place ≡ entry_number kept old place
     number place =
-        ap (λ (v : Vec ℕ Global). at_index None (λ j. at_index None (slot_in v.items) (cell_by kept.parts.now j)) (index_of (get nat_eq kept.pages.now) place))
+        ap (λ (v : Vec ℕ Global). at_index None (λ j. at_index None (slot_in v.items) (cell_by kept.parts.now j)) (index_of (bases kept.pages.now) place))
         same
 
 -- the broken places are kept where pages and parts say
 module _ (broken : BrokenPlaces) (kept : Kept) (is : kept.parts.now ≡ broken.parts.items)
-    (numbered : Numbered (get nat_eq kept.pages.now) (512 * pages_in broken)) (placed : Placed (get nat_eq kept.pages.now) broken.entries.list.items) where
-  number_read : (place : ℕ) → entry_number kept broken.entries place ≡ at_index None (number_at broken) (index_of (get nat_eq kept.pages.now) place)
+    (numbered : Numbered (bases kept.pages.now) (512 * pages_in broken)) (placed : Placed (bases kept.pages.now) broken.entries.list.items) where
+  number_read : (place : ℕ) → entry_number kept broken.entries place ≡ at_index None (number_at broken) (index_of (bases kept.pages.now) place)
   number_read place =
-      ap (λ (xs : List ℕ). at_index None (λ j. at_index None (slot_in broken.entries.cells.items) (cell_by xs j)) (index_of (get nat_eq kept.pages.now) place)) is
+      ap (λ (xs : List ℕ). at_index None (λ j. at_index None (slot_in broken.entries.cells.items) (cell_by xs j)) (index_of (bases kept.pages.now) place)) is
 
-  forth : (place k : ℕ) → at_index None (number_at broken) (index_of (get nat_eq kept.pages.now) place) ≡ Some k
+  forth : (place k : ℕ) → at_index None (number_at broken) (index_of (bases kept.pages.now) place) ≡ Some k
       → (e : Entry) × (slice_get broken.entries.list.items k ≡ Some e) × (e.place ≡ place)
   forth place k =
       by_index (λ o. at_index None (number_at broken) o ≡ Some k → (e : Entry) × (slice_get broken.entries.list.items k ≡ Some e) × (e.place ≡ place))
-      (index_of (get nat_eq kept.pages.now) place) (λ h. absurd (none-some k h))
+      (index_of (bases kept.pages.now) place) (λ h. absurd (none-some k h))
       (λ j at h.
       let e = number_seat broken j k h in (
         e.0,
         e.1,
-        index_once (get nat_eq kept.pages.now) (512 * pages_in broken) numbered e.0.place place j
+        index_once (bases kept.pages.now) (512 * pages_in broken) numbered e.0.place place j
             (placed k e.0 e.1 ∙ ap (λ (n : ℕ). Some n) e.2) at,
       ))
 

@@ -9,6 +9,7 @@ pub mod Leaving
 pub mod Positions
 pub mod Pages
 pub mod Places
+pub mod Bases
 pub mod Growing
 pub mod Filling
 pub mod Reaching

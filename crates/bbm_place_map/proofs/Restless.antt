@@ -1,10 +1,11 @@
 -- The entries are those of the broken places.
 use Rattle.bbm_place_map.proofs.Common.{◌≡◌, ℕ, ◌<◌, ◌%◌, true, List, length, Option, Some, None, is_some, refl, ap}
-use Rattle.bbm_place_map.proofs.Common.{sym, nat_eq, get}
+use Rattle.bbm_place_map.proofs.Common.{sym, bases}
 use Rattle.bbm_place_map.proofs.Common.{◌∙◌, arith, inl, inr, slice_get, unwrap_or, option_map, false≢true, same_Some}
 use Rattle.bbm_place_map.proofs.Common.{none-some, slice_get_within, slice_get_cases, slot_in, entry_at}
 use Rattle.bbm_place_map.proofs.Common.{marks_of, pends_of, no_pends, place_entry, index_of, at_index, Entry, PlaceMap}
 use Rattle.bbm_place_map.proofs.Common.{vec_len}
+use Rattle.bbm_place_map.proofs.Bases.{numbered_in}
 use Rattle.bbm_place_map.proofs.Held.{item_at, seat_at}
 use Rattle.bbm_place_map.proofs.Places.{index_once, found}
 use Rattle.bbm_place_map.proofs.Seats.{the_cell, by_entry, by_index}
@@ -37,12 +38,12 @@ module _ (map : PlaceMap) where
   pub entry_seat : (a : ℕ) (e : Entry) → place_entry map a ≡ Some e → (i : ℕ) × (slice_get items i ≡ Some e) × (e.place ≡ a)
   entry_seat a e =
       by_index (λ o. at_index None (entry_at map.broken) o ≡ Some e → (i : ℕ) × (slice_get items i ≡ Some e) × (e.place ≡ a))
-      (index_of (get nat_eq map.pages) a) (λ h. absurd (none-some e h))
+      (index_of (bases map.pages) a) (λ h. absurd (none-some e h))
       (λ j at h.
       let s = seat_at map.broken j e h in (
         s.0,
         s.2,
-        index_once (get nat_eq map.pages) (vec_len map.values) map.tiled.numbered e.place a j
+        index_once (bases map.pages) (vec_len map.values) (numbered_in map) e.place a j
             (map.placed s.0 e s.2 ∙ ap (λ (n : ℕ). Some n) s.3) at,
       ))
 
@@ -75,4 +76,4 @@ module _ (map : PlaceMap) where
       by_entry (λ o. is_some (marks_of o) ≡ true → a % 8 ≡ 0) (place_entry map a) (λ _ h. absurd (false≢true h))
       (λ e is _.
       let s = entry_seat a e is in
-      ap (λ (n : ℕ). n % 8) (sym s.2) ∙ (found (get nat_eq map.pages) e.place e.index (map.placed s.0 e s.1)).aligned)
+      ap (λ (n : ℕ). n % 8) (sym s.2) ∙ (found (bases map.pages) e.place e.index (map.placed s.0 e s.1)).aligned)

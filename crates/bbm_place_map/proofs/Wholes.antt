@@ -3,7 +3,7 @@ use Rattle.bbm_place_map.proofs.Common.{◌≡◌, ℕ, nat_eq, Option, Some, re
 use Rattle.bbm_place_map.proofs.Common.{Written, Marks, EntryState, Live, marks_of_state}
 use Rattle.bbm_place_map.proofs.Common.{PlaceMap}
 use Rattle.bbm_place_map.specs.MapCalls.{WritesAs}
-use Rattle.bbm_place_map.specs.Map.{is_tracked, marks_at, pends_at, value_at}
+use Rattle.bbm_place_map.specs.Map.{marks_at, pages_of, pends_at, value_at}
 
 -- a valid value makes it live
 pub made : (old : EntryState) (pe : ℕ) (core : Core) → Written old pe (Some core) (Live core)
@@ -19,7 +19,7 @@ made old pe core = record {
 -- it is the same over another map that tells the same, at a place in an equal state
 pub writes_over : {before : EntryState} {pe : ℕ} {core : Option Core} {value place : ℕ} {old new : PlaceMap}
     → WritesAs before pe core value place old new → (was : EntryState) (map : PlaceMap) → before ≡ was
-    → ((a : ℕ) → value_at old a ≡ value_at map a) → ((page : ℕ) → is_tracked old page ≡ is_tracked map page)
+    → ((a : ℕ) → value_at old a ≡ value_at map a) → pages_of old ≡ pages_of map
     → ((a : ℕ) → marks_at old a ≡ marks_at map a) → ((q a : ℕ) → pends_at old q a ≡ pends_at map q a)
     → WritesAs was pe core value place map new
 writes_over {before} {pe} {core} {value} {place} w was map is values pages marks pends =
@@ -37,6 +37,6 @@ writes_over {before} {pe} {core} {value} {place} w was map is values pages marks
       );
       put = record {
         values = λ a. w.put.values a ∙ ap (λ (v : ℕ). if nat_eq a place then value else v) (values a);
-        pages = λ p. w.put.pages p ∙ pages p;
+        pages = w.put.pages ∙ pages;
       };
     }

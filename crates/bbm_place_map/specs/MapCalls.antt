@@ -8,7 +8,7 @@ use Rattle.bbm_entry_state.specs.EntryStanding.{IsIdle}
 use Rattle.bbm_entry_state.specs.declared.state.EntryState.{EntryState}
 use Rattle.bbm_place_map.specs.Broken.{HoldsSame}
 use Rattle.bbm_place_map.specs.Each.{loses_table}
-use Rattle.bbm_place_map.specs.Map.{value_at, marks_at, page_of, pends_at, is_tracked, restless_in, restless_place}
+use Rattle.bbm_place_map.specs.Map.{value_at, marks_at, page_of, pages_of, pends_at, restless_in, restless_place}
 use Rattle.bbm_place_map.specs.States.{marks_of_state}
 use Rattle.bbm_place_map.specs.declared.map.PlaceMap.{PlaceMap}
 
@@ -19,7 +19,7 @@ lost_table old new a = loses_table (marks_at old a) (marks_at new a)
 -- A value is written at the place, and no other value changes, and the same pages are tracked.
 pub record Puts (value place : ℕ) (old new : PlaceMap) : Type 0 where
   pub values : (a : ℕ) → value_at new a ≡ (if nat_eq a place then value else value_at old a)
-  pub pages : (page : ℕ) → is_tracked new page ≡ is_tracked old page
+  pub pages : pages_of new ≡ pages_of old
 
 -- A write leaves this state at the place: its marks, and what waits there where it is broken. What is elsewhere stays.
 pub record Leaves (state : EntryState) (place : ℕ) (old new : PlaceMap) : Type 0 where
@@ -36,7 +36,7 @@ pub record WritesAs (before : EntryState) (pe : ℕ) (core : Option Core) (value
 -- No value changes, and the same pages are tracked.
 pub record KeepsValues (old new : PlaceMap) : Type 0 where
   pub values : (a : ℕ) → value_at new a ≡ value_at old a
-  pub pages : (page : ℕ) → is_tracked new page ≡ is_tracked old page
+  pub pages : pages_of new ≡ pages_of old
 
 -- The same places are broken, and the same waits there.
 pub record KeepsBroken (old new : PlaceMap) : Type 0 where
@@ -46,7 +46,7 @@ pub record KeepsBroken (old new : PlaceMap) : Type 0 where
 -- No value changes, the same pages are tracked, and the same places are broken, by the same numbers.
 pub record KeepsPlaces (old new : PlaceMap) : Type 0 where
   pub values : (a : ℕ) → value_at new a ≡ value_at old a
-  pub pages : (page : ℕ) → is_tracked new page ≡ is_tracked old page
+  pub pages : pages_of new ≡ pages_of old
   pub restless : restless_in new ≡ restless_in old
   pub places : (i : ℕ) → restless_place new i ≡ restless_place old i
 
@@ -67,7 +67,7 @@ pub record IsSame (old new : PlaceMap) : Type 0 where
   pub values : (a : ℕ) → value_at new a ≡ value_at old a
   pub marks : (a : ℕ) → marks_at new a ≡ marks_at old a
   pub pends : (q a : ℕ) → pends_at new q a ≡ pends_at old q a
-  pub pages : (p : ℕ) → is_tracked new p ≡ is_tracked old p
+  pub pages : pages_of new ≡ pages_of old
   pub restless : restless_in new ≡ restless_in old
   pub places : (i : ℕ) → restless_place new i ≡ restless_place old i
 

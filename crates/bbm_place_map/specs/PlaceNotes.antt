@@ -1,6 +1,6 @@
 -- What the issue of a TLBI makes of each entry.
 -- Source: project's own choice.
-use Rattle.std.specs.Prelude.{◌≡◌, ◌≢◌, ◌≤◌, ◌+◌, ◌^◌, ℕ, Bool, true, false, List, Option, Some, None, nat_eq}
+use Rattle.std.specs.Prelude.{◌≡◌, ◌≢◌, ◌≤◌, ◌+◌, ◌^◌, ℕ, Bool, true, false, List, Option, Some, None}
 use Rattle.std.specs.Prelude.{slice_get}
 use Rattle.bbm_tlbi_scope.specs.declared.entry.Cover.{Cover}
 use Rattle.bbm_tlbi_scope.specs.declared.entry.Cover.TheVariants.{None as NoCover, Half, Second, Full}
@@ -9,11 +9,10 @@ use Rattle.bbm_entry_state.specs.declared.state.EntryState.TheVariants.{Broken}
 use Rattle.bbm_place_map.specs.Entries.{pends_in, HasRoom}
 use Rattle.bbm_place_map.specs.Finds.{cover_in, is_found}
 use Rattle.bbm_place_map.specs.Cells.{cell_by, slot_in}
-use Rattle.bbm_place_map.specs.Sound.{SameSize, at_index, index_of}
+use Rattle.bbm_place_map.specs.Sound.{SameSize, at_index, bases, index_of}
 use Rattle.bbm_place_map.specs.Works.{HoldsFor, Waits}
 use Rattle.bbm_place_map.specs.declared.entries.Entries.{Entries}
 use Rattle.bbm_place_map.specs.declared.issue.Kept.{Kept}
-use Rattle.indexmap.specs.IndexMap.{get}
 use Rattle.bbm_place_map.specs.declared.entry.Entry.{Entry}
 use Rattle.bbm_place_map.specs.declared.found.Found.{Found}
 use Rattle.bbm_place_map.specs.declared.orders.Issuing.{Issuing}
@@ -22,11 +21,11 @@ use Rattle.bbm_place_map.specs.declared.work.WorkList.{WorkList}
 -- the number of the entry of a place; None where the place isn't broken
 abbrev pub entry_number : Kept → Entries → ℕ → Option ℕ
 entry_number kept entries place = at_index None (λ j. at_index None (slot_in entries.cells.items) (cell_by kept.parts.now j))
-    (index_of (get nat_eq kept.pages.now) place)
+    (index_of (bases kept.pages.now) place)
 
 -- Each number is that of an entry of its place, and each entry has its number. The numbers of values are few.
 pub record IsKept (kept : Kept) (entries : Entries) : Type 0 where
-  pub few : (page b : ℕ) → get nat_eq kept.pages.now page ≡ Some b → b + 512 ≤ 2 ^ 32
+  pub few : (page b : ℕ) → bases kept.pages.now page ≡ Some b → b + 512 ≤ 2 ^ 32
   pub forth : (place k : ℕ) → entry_number kept entries place ≡ Some k
       → (e : Entry) × (slice_get entries.list.items k ≡ Some e) × (e.place ≡ place)
   pub back : (k : ℕ) (e : Entry) → slice_get entries.list.items k ≡ Some e → entry_number kept entries e.place ≡ Some k

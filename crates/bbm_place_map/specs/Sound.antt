@@ -4,6 +4,7 @@ use Rattle.std.specs.Prelude.{◌≡◌, ℕ, ◌+◌, ◌*◌, ◌/◌, ◌%◌
 use Rattle.std.specs.Prelude.{count_by, slice_get, if◌then◌else◌, Vec, vec_capacity}
 use Rattle.std.specs.Option.{option_map}
 use Rattle.std.specs.declared.alloc.Global.{Global}
+use Rattle.bbm_page_map.specs.PageLists.{number_in}
 use Rattle.bbm_place_map.specs.Cells.{slot_in, is_listed}
 use Rattle.bbm_place_map.specs.Entries.{cell_at}
 use Rattle.bbm_place_map.specs.declared.entry.Entry.{Entry}
@@ -19,6 +20,10 @@ pub record Numbered (base : ℕ → Option ℕ) (count : ℕ) : Type 0 where
   pub within : (page b : ℕ) → base page ≡ Some b → b + 512 ≤ count
   pub apart : (p q b c : ℕ) → base p ≡ Some b → base q ≡ Some c → b ≤ c → c < b + 512 → p ≡ q
 
+-- the number of the first value of a page: 512 times that of the page; None where the page has no number
+abbrev pub bases : List ℕ → ℕ → Option ℕ
+bases pages page = option_map (λ n. 512 * n) (number_in pages page)
+
 -- the number of the value, or of the cell, at an address
 abbrev pub index_of : (ℕ → Option ℕ) → ℕ → Option ℕ
 index_of base a = if a % 8 == 0 then option_map (λ b. b + a % 4096 / 8) (base (a / 4096 * 4096)) else None
@@ -27,12 +32,6 @@ index_of base a = if a % 8 == 0 then option_map (λ b. b + a % 4096 / 8) (base (
 abbrev pub at_index : {X : Type 0} → X → (ℕ → X) → Option ℕ → X
 at_index d f None = d
 at_index d f (Some j) = f j
-
--- Pages have their values one after another, 512 each, in an order.
-pub record Tiled (base : ℕ → Option ℕ) (pages values : ℕ) : Type 0 where
-  pub numbered : Numbered base values
-  pub whole : (page b : ℕ) → base page ≡ Some b → b % 512 ≡ 0
-  pub each : 512 * pages ≡ values
 
 -- the place of each entry is that of its number
 abbrev pub Placed : (ℕ → Option ℕ) → List Entry → Type 0

@@ -5,7 +5,6 @@ ghost use Rattle.std.specs.Prelude.{◌≡◌, ◌≤◌, ◌<◌, ◌+◌, ◌*
 ghost use Rattle.std.specs.Prelude.{OnErr};
 ghost use Rattle.std.specs.Prelude.{vec_len, length, slice_get, nat_eq};
 ghost use Rattle.std.specs.Option.{option_copied};
-ghost use Rattle.indexmap.specs.IndexMap.{get};
 ghost use Rattle.bbm_entry_state.specs.EntryCalls.{Written};
 ghost use Rattle.bbm_entry_state.specs.declared.marks.Marks.{Marks as TheMarks};
 ghost use Rattle.bbm_entry_state.specs.declared.state.EntryState.TheVariants as state;
@@ -26,7 +25,7 @@ use crate::work::{self, Work};
 use crate::{visit, write};
 use bbm_descriptor::Core;
 use bbm_entry_state::Marks;
-use bbm_page_map::PageMap;
+use bbm_page_map::PageNumbers;
 use bbm_regimes::{NoMemory, Pe, Place};
 use std::alloc::Global;
 
@@ -49,7 +48,7 @@ pub struct BrokenPlaces {
 impl BrokenPlaces {
     ghost use Rattle.bbm_place_map.specs.Broken.{Breaks, Clears, EachAdvances, HasPageRoom, HoldsSame, IsAt, SameEntries};
     ghost use Rattle.bbm_place_map.specs.Broken.{VisitsPlaces, entry_at, number_at, pages_in};
-    ghost use Rattle.bbm_place_map.specs.Sound.{Numbered, Placed};
+    ghost use Rattle.bbm_place_map.specs.Sound.{Numbered, Placed, bases};
 
     /// No page, and so no broken place. It takes no memory.
     pub fn new(alloc: Global) -> BrokenPlaces
@@ -270,12 +269,12 @@ impl BrokenPlaces {
     /// which number it has. `NoMemory` where there is none, and nothing changes then but the room.
     pub fn issue_at(
         &mut self,
-        pages: &PageMap<usize>,
+        pages: &PageNumbers,
         tlbi: &Issuing,
         found: &[Found],
     ) -> Result<(), NoMemory>
-        requires numbered { Numbered (get nat_eq pages.now) (VALUES * pages_in self.old) }
-        requires placed { Placed (get nat_eq pages.now) self.old.entries.list.items }
+        requires numbered { Numbered (bases pages.now) (VALUES * pages_in self.old) }
+        requires placed { Placed (bases pages.now) self.old.entries.list.items }
         ensures noted { OnOk result (EachAdvances (λ _. NotesAmong found.now tlbi.now) self.old self.new) }
         ensures only { EachAdvances (λ _. KeepsUnfound found.now tlbi.now.issuer) self.old self.new }
         ensures kept { OnErr result (EachAdvances (λ _. Keeps) self.old self.new) }

@@ -22,15 +22,15 @@ use crate::lane::Lane;
 use crate::orders::Issuing;
 use crate::read::entry_at;
 use crate::work::{WorkList, add_for};
-use bbm_page_map::PageMap;
+use bbm_page_map::PageNumbers;
 use bbm_regimes::{NoMemory, Place};
 use bbm_tlbi_scope::Cover;
 
 /// Where each place is kept.
 #[derive(Clone, Copy)]
 pub struct Kept<'a> {
-    /// The number of the first value of each page.
-    pub pages: &'a PageMap<usize>,
+    /// The number of each page.
+    pub pages: &'a PageNumbers,
     /// Where the cells of each page start.
     pub parts: &'a [u32],
 }

@@ -1,12 +1,13 @@
 //! Where a place is kept.
 
+use bbm_page_map::PageNumber;
 use bbm_regimes::Place;
 
-/// Where a place of a tracked page is kept, for calls before the map changes. Source: project's own choice.
+/// A place of a tracked page, and where it is kept. Source: project's own choice.
 #[derive(Clone, Copy)]
 pub struct Position {
     /// The place.
     pub place: Place,
-    /// The number of its value.
-    pub(crate) index: usize,
+    /// The number of its page.
+    pub page: PageNumber,
 }

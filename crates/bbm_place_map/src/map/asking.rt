@@ -7,15 +7,17 @@ ghost use Rattle.bbm_entry_state.specs.declared.marks.Marks.{Marks as TheMarks};
 ghost use Rattle.bbm_descriptor.specs.Descriptor.{core_of};
 ghost use Rattle.bbm_entry_state.specs.EntryStanding.{IsIdle};
 ghost use Rattle.bbm_place_map.specs.Map.{value_at, marks_at, pends_at, is_tracked, IsPosition, page_of, restless_in};
-ghost use Rattle.bbm_place_map.specs.Map.{restless_place, state_at};
+ghost use Rattle.bbm_page_map.specs.PageLists.{number_in};
+ghost use Rattle.bbm_place_map.specs.Map.{pages_of, restless_place, state_at};
 ghost use Rattle.bbm_place_map.specs.Entries.{WaitsAlike};
 
 use crate::entry::pends_of;
 use crate::map::PlaceMap;
 use crate::position::Position;
-use crate::read::{self, VALUES};
+use crate::read;
 use bbm_descriptor::{Core, core};
 use bbm_entry_state::{EntryState, Pends};
+use bbm_page_map::PageNumber;
 use bbm_regimes::{Kind, Page, Pe, Place};
 
 impl PlaceMap {
@@ -30,33 +32,37 @@ impl PlaceMap {
         }
     }
 
+    /// The number of the page; None where it isn't tracked.
+    #[inline(always)]
+    pub fn number(&self, page: Page) -> Option<PageNumber>
+        ensures { result ≡ number_in (pages_of self.now) page }
+    {
+        self.pages.number(page)
+    }
+
     /// Where the place is kept; None where its page isn't tracked. A call that needs a place's position looks nothing up.
+    #[inline(always)]
     pub fn position(&self, place: Place) -> Option<Position>
         ensures place { IfSome result (λ position. position.place ≡ place) }
         ensures position { IfSome result (λ position. IsPosition self.now position) }
         ensures tracked { is_tracked self.now (page_of place) ≡ true → IsSome result }
     {
-        let index = self.index(place)?;
-        Some(Position { place, index })
+        let _ = place.get();
+        let page = self.pages.number(place.page())?;
+        Some(Position { place, page })
     }
 
-    /// Where the place is kept; None where its page isn't tracked. No answer depends on the number `hint`: the page is
-    /// looked for first where it has this number in the order in which pages were tracked.
+    /// `position`, which takes the fewest steps where the page asked for in this way before, or tracked, lies near.
     #[inline(always)]
-    pub fn position_near(&self, place: Place, hint: usize) -> Option<Position>
+    pub fn find(&mut self, place: Place) -> Option<Position>
         ensures place { IfSome result (λ position. position.place ≡ place) }
-        ensures position { IfSome result (λ position. IsPosition self.now position) }
-        ensures tracked { is_tracked self.now (page_of place) ≡ true → IsSome result }
+        ensures position { IfSome result (λ position. IsPosition self.old position) }
+        ensures tracked { is_tracked self.old (page_of place) ≡ true → IsSome result }
+        ensures same { self.new ≡ self.old }
     {
-        let index = self.index_near(place, hint)?;
-        Some(Position { place, index })
-    }
-
-    /// The number of the page of the last write in the order in which pages were tracked: where to look first for that
-    /// of the next one. No answer depends on it.
-    #[inline(always)]
-    pub fn recent_page(&self) -> usize {
-        self.recent
+        let _ = place.get();
+        let page = self.pages.find(place.page())?;
+        Some(Position { place, page })
     }
 
     /// The core of the value of a position's place, read at this kind and level, 0 to 3; None where the value is invalid.
@@ -74,14 +80,8 @@ impl PlaceMap {
         requires { IsPosition self.now position.now }
         ensures { result ≡ value_at self.now position.now.place }
     {
-        self.values[position.index]
-    }
-
-    /// The number of a position's page in the order in which pages were tracked: where to look first for the page in
-    /// an index that got its pages in the same order. No answer depends on it.
-    #[inline(always)]
-    pub fn page_number(&self, position: &Position) -> usize {
-        position.index / VALUES
+        let j = self.value_number(position);
+        self.values[j]
     }
 
     /// Whether a position's place is broken.
@@ -90,7 +90,8 @@ impl PlaceMap {
         requires { IsPosition self.now position.now }
         ensures { result ≡ is_some (marks_at self.now position.now.place) }
     {
-        self.entry(position.index).is_some()
+        let j = self.value_number(position);
+        self.entry(j).is_some()
     }
 
     /// The core that a position's place is broken over; where it isn't broken, this one.
@@ -98,7 +99,8 @@ impl PlaceMap {
         requires { IsPosition self.now position.now }
         ensures { result ≡ core_in (state_at self.now live position.now.place) }
     {
-        self.core_or(position.index, live)
+        let j = self.value_number(position);
+        self.core_or(j, live)
     }
 
     /// The state of the place, read at this kind and level, 0 to 3: one that isn't broken is live with the core of its
@@ -155,18 +157,19 @@ impl PlaceMap {
         ensures first { result.place % 4096 ≡ 0 }
     {
         let place = Place::new(page.get()).unwrap();
-        let index = self.base(page).unwrap();
-        Position { place, index }
+        let page = self.pages.number(page).unwrap();
+        Position { place, page }
     }
 
     /// The value of the place with this number, 0 to 511, of the page whose first place the position has.
     pub fn value_from(&self, position: &Position, number: u64) -> u64
         requires position { IsPosition self.now position.now }
         requires first { position.now.place % 4096 ≡ 0 }
-        requires within { number < VALUES }
+        requires within { number < 512 }
         ensures { result ≡ value_at self.now (position.now.place + 8 * number) }
     {
-        self.values[position.index + number as usize]
+        let j = self.value_number(position);
+        self.values[j + number as usize]
     }
 
     /// The core that the place with this number, 0 to 511, has, of the page whose first place the position has: the one
@@ -175,15 +178,15 @@ impl PlaceMap {
     pub fn core_from(&self, position: &Position, number: u64, kind: Kind, level: u8) -> Option<Core>
         requires position { IsPosition self.now position.now }
         requires first { position.now.place % 4096 ≡ 0 }
-        requires within { number < VALUES }
+        requires within { number < 512 }
         requires level { level ≤ 3 }
         ensures { result ≡ core_in (state_at self.now
             (core_of kind level (value_at self.now (position.now.place + 8 * number)))
             (position.now.place + 8 * number)) }
     {
         let live = core(kind, level, self.value_from(position, number));
-        let j = position.index + number as usize;
-        self.core_or(j, live)
+        let j = self.value_number(position);
+        self.core_or(j + number as usize, live)
     }
 
     /// How many places are broken. Each is a place of a descriptor: its address is a multiple of 8.
@@ -210,6 +213,16 @@ impl PlaceMap {
         self.broken.item(i as usize).place
     }
 
+    /// Where one of the broken places is kept, by its number below `restless`.
+    #[inline(always)]
+    pub fn restless_position(&self, i: u64) -> Position
+        requires { i < restless_in self.now }
+        ensures place { result.place ≡ restless_place self.now i }
+        ensures position { IsPosition self.now result }
+    {
+        self.position(self.restless_at(i)).unwrap()
+    }
+
     /// The core that one of the broken places is broken over, by its number below `restless`.
     pub fn restless_core(&self, i: u64) -> Core
         requires { i < restless_in self.now }
@@ -217,15 +230,6 @@ impl PlaceMap {
             × (marks.core ≡ result) }
     {
         self.broken.item(i as usize).marks.core
-    }
-
-    /// The number at which the page of one of the broken places, by its number below `restless`, is best looked for
-    /// first: its own, in the order in which pages were tracked. No answer depends on it.
-    #[inline(always)]
-    pub fn restless_page(&self, i: u64) -> usize
-        requires { i < restless_in self.now }
-    {
-        self.broken.item(i as usize).index as usize / VALUES
     }
 
     /// The number of a position's place among the broken ones, below `restless`; None where it isn't broken.
@@ -236,7 +240,8 @@ impl PlaceMap {
             → (i < restless_in self.now) × (restless_place self.now i ≡ position.now.place) }
         ensures none { result ≡ None → marks_at self.now position.now.place ≡ None }
     {
-        self.broken.number(position.index)
+        let j = self.value_number(position);
+        self.broken.number(j)
     }
 
     /// Nothing waits at a place that isn't broken. The call does nothing; the law is its contract.

@@ -1,13 +1,13 @@
 //! Writes of places, and pages that are tracked or released.
 
-ghost use Rattle.std.specs.Prelude.{ℕ, Some, None, true, false, OnOk, OnErr, ◌||◌, ◌+◌, if◌then◌else◌, ◌≡◌, ◌≤◌};
+ghost use Rattle.std.specs.Prelude.{ℕ, Some, None, true, false, OnOk, OnErr, ◌++◌, ◌∷◌, [], ◌+◌, if◌then◌else◌, ◌≡◌, ◌≤◌};
 ghost use Rattle.std.specs.Prelude.{vec_len, vec_capacity, nat_eq};
 ghost use Rattle.bbm_entry_state.specs.declared.state.EntryState.{EntryState as TheState};
 ghost use Rattle.bbm_place_map.specs.MapCalls.{Frees, IsSame, KeepsItems, KeepsBroken, KeepsValues, Leaves, Puts};
 ghost use Rattle.bbm_place_map.specs.MapCalls.{WritesAs};
 ghost use Rattle.bbm_place_map.specs.Broken.{HasPageRoom};
 ghost use Rattle.bbm_place_map.specs.Map.{value_at, marks_at, pends_at, is_tracked, IsPosition, page_of};
-ghost use Rattle.bbm_place_map.specs.Map.{state_at};
+ghost use Rattle.bbm_place_map.specs.Map.{pages_of, state_at};
 
 use crate::map::PlaceMap;
 use crate::position::Position;
@@ -49,9 +49,8 @@ impl PlaceMap {
         ensures marks { (a : ℕ) → marks_at self.new a ≡ marks_at self.old a }
         ensures pends { (q a : ℕ) → pends_at self.new q a ≡ pends_at self.old q a }
     {
-        let j = position.index;
+        let j = self.value_number(position);
         write::put_value(&mut self.values, j, value);
-        self.recent = j / VALUES;
     }
 
     /// The PE writes an invalid value at a position's place, which is live with this core and isn't broken. The state is
@@ -62,10 +61,9 @@ impl PlaceMap {
         requires whole { marks_at self.old position.now.place ≡ None }
         ensures { WritesAs (TheState.Live core) pe None value position.now.place self.old self.new }
     {
-        let j = position.index;
+        let j = self.value_number(position);
         self.broken.break_over(j, position.place, pe, core);
         write::put_value(&mut self.values, j, value);
-        self.recent = j / VALUES;
     }
 
     /// `write_at` of an invalid value. Each state has an arm of its own, so that the code of a live place carries no
@@ -75,7 +73,8 @@ impl PlaceMap {
         ensures { WritesAs (state_at self.old live.now position.now.place) pe None value position.now.place
             self.old self.new }
     {
-        match self.state_of(position.index, *live) {
+        let j = self.value_number(position);
+        match self.state_of(j, *live) {
             EntryState::Live { core } => {
                 self.clear_from(position, pe, value, EntryState::Live { core })
             }
@@ -105,10 +104,9 @@ impl PlaceMap {
         ensures put { Puts value position.now.place self.old self.new }
         ensures left { Leaves TheState.Clean position.now.place self.old self.new }
     {
-        let j = position.index;
+        let j = self.value_number(position);
         write::put_value(&mut self.values, j, value);
         self.broken.clear(j);
-        self.recent = j / VALUES;
     }
 
     /// Writes a value at a position's place, which is broken with these marks after. What waits there stays. Nothing else
@@ -119,10 +117,9 @@ impl PlaceMap {
         ensures put { Puts value position.now.place self.old self.new }
         ensures left { Leaves (TheState.Broken marks) position.now.place self.old self.new }
     {
-        let j = position.index;
+        let j = self.value_number(position);
         self.broken.mark(j, position.place, mostly, marks);
         write::put_value(&mut self.values, j, value);
-        self.recent = j / VALUES;
     }
 
     /// Writes a value at a place of a tracked page, and the state that the write leaves. What waits there stays where
@@ -156,7 +153,8 @@ impl PlaceMap {
     /// Tracks the page: its values are 0, none of its places is broken, and nothing waits there. `NoMemory` where there
     /// is none, and nothing changes then. It takes all the room that `set` needs later.
     pub fn track(&mut self, page: Page) -> Result<(), NoMemory>
-        ensures pages { OnOk result ((p : ℕ) → is_tracked self.new p ≡ (nat_eq p page || is_tracked self.old p)) }
+        ensures pages { OnOk result (pages_of self.new
+            ≡ (if is_tracked self.old page then pages_of self.old else pages_of self.old ++ page ∷ [])) }
         ensures values { OnOk result ((a : ℕ) → value_at self.new a
             ≡ (if nat_eq (page_of a) page then 0 else value_at self.old a)) }
         ensures freed { OnOk result (Frees page self.old self.new) }
@@ -175,17 +173,16 @@ impl PlaceMap {
     /// Tracks a page that isn't tracked. `NoMemory` where there is none, and nothing changes then.
     fn add_page(&mut self, page: Page) -> Result<(), NoMemory>
         requires { is_tracked self.old page ≡ false }
-        ensures pages { OnOk result ((p : ℕ) → is_tracked self.new p ≡ (nat_eq p page || is_tracked self.old p)) }
+        ensures pages { OnOk result (pages_of self.new ≡ pages_of self.old ++ page ∷ []) }
         ensures values { OnOk result ((a : ℕ) → value_at self.new a ≡ value_at self.old a) }
         ensures same { OnOk result (KeepsBroken self.old self.new) }
         ensures kept { OnErr result (IsSame self.old self.new) }
     {
-        let base = self.values.len();
         if !self.has_room() {
             return Err(NoMemory);
         }
-        match self.pages.insert(page, base) {
-            Ok(_) => {
+        match self.pages.add(page) {
+            Ok(()) => {
                 write::add_values(&mut self.values);
                 self.broken.add_page();
                 Ok(())

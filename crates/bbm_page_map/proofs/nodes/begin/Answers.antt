@@ -1,5 +1,4 @@
 use Rattle.std.proofs.Common.{◌≡◌, ℕ, List, ap, arith, ◌∙◌}
-use Rattle.bbm_page_map.proofs.Growing.{reads_alike}
 use Rattle.bbm_page_map.proofs.Leading.{first_tree}
 use Rattle.bbm_page_map.specs.SlotNodes.{slot}
 use Rattle.bbm_page_map.proofs.nodes.begin.Goals as goal
@@ -13,6 +12,5 @@ returns-in-Ok-clause-tree c =
     first_tree c.args.slots.now.items c.add_slots.new.slots.items (omega arith)
     (omega (arith, c.add_slots.ensures.len, c.reserve.ensures.len)) (same c)
 
-pub returns-in-Ok-clause-alike : goal.returns-in-Ok-clause-alike
-returns-in-Ok-clause-alike c = λ number fits. reads_alike c.args.slots.now.items c.add_slots.new.slots.items (same c)
-    5 number
+pub returns-in-Ok-clause-slots : goal.returns-in-Ok-clause-slots
+returns-in-Ok-clause-slots c = same c

@@ -1,4 +1,4 @@
-use Rattle.bbm_place_map.proofs.Common.{◌≡◌, false, nat_eq, refl, get, index_of, None, entry_at, marks_of, Complete}
+use Rattle.bbm_place_map.proofs.Common.{◌≡◌, false, refl, bases, index_of, None, entry_at, marks_of, Complete}
 use Rattle.bbm_place_map.proofs.Common.{Completes, loses_table}
 use Rattle.std.proofs.lemmas.Bool.{eqb-false}
 use Rattle.bbm_place_map.proofs.Clearing.{fits_seated}
@@ -19,7 +19,7 @@ returns-clause-completed c = λ a.
     let by = barrier c.args.issuer c.args.dsb c.args.n Complete in
     let self = c.args.self.now in
     (at_each (Completes by) None (entry_at self.broken) (entry_at c.visit.new.self) (completes_none by) c.visit.ensures.each
-    (index_of (get nat_eq self.pages) a)).own
+    (index_of (bases self.pages) a)).own
 
 pub returns-clause-others : goal.returns-clause-others
 unfolding marks_at pends_at
@@ -27,7 +27,7 @@ returns-clause-others c = λ q a b cover p other.
     let by = barrier c.args.issuer c.args.dsb c.args.n Complete in
     let self = c.args.self.now in
     (at_each (Completes by) None (entry_at self.broken) (entry_at c.visit.new.self) (completes_none by) c.visit.ensures.each
-    (index_of (get nat_eq self.pages) a)).others q (eqb-false q c.args.issuer other) b cover p
+    (index_of (bases self.pages) a)).others q (eqb-false q c.args.issuer other) b cover p
 
 pub returns-clause-lost : goal.returns-clause-lost
 unfolding marks_at
@@ -37,4 +37,4 @@ pub returns-clause-kept : goal.returns-clause-kept
 unfolding marks_at
 returns-clause-kept c = λ is a.
     at_each (λ o p. loses_table (marks_of o) (marks_of p) ≡ false) None (entry_at c.args.self.now.broken) (entry_at c.visit.new.self) refl
-    (c.visit.ensures.kept is) (index_of (get nat_eq c.args.self.now.pages) a)
+    (c.visit.ensures.kept is) (index_of (bases c.args.self.now.pages) a)

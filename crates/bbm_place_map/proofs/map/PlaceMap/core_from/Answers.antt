@@ -1,5 +1,6 @@
-use Rattle.bbm_place_map.proofs.Common.{ℕ, ◌+◌, ◌*◌, Option, nat_eq, ap, ◌∙◌, vec_len, get, core_of, Core, core_in}
+use Rattle.bbm_place_map.proofs.Common.{ℕ, ◌+◌, ◌*◌, Option, ap, ◌∙◌, vec_len, bases, core_of, Core, core_in}
 use Rattle.bbm_place_map.proofs.Common.{state_from}
+use Rattle.bbm_place_map.proofs.Bases.{numbered_in}
 use Rattle.bbm_place_map.proofs.Places.{index_behind, page_inside}
 use Rattle.bbm_place_map.specs.Map.{marks_at, IsPosition}
 use Rattle.bbm_place_map.proofs.map.PlaceMap.core_from.Goals as goal
@@ -10,7 +11,7 @@ core_or-requires c =
     let self = c.args.self.now in
     let position = c.args.position.now in
     let r = c.requires in
-    page_inside (get nat_eq self.pages) (vec_len self.values) self.tiled.numbered position.place position.index c.args.number r.position r.first r.within
+    page_inside (bases self.pages) (vec_len self.values) (numbered_in self) position.place c.value_number-j.result c.args.number c.value_number-j.ensures.index r.first r.within
 
 pub returns : goal.returns
 unfolding IsPosition
@@ -19,7 +20,7 @@ returns c =
     let position = c.args.position.now in
     let n = c.args.number in
     let r = c.requires in
-    let at = index_behind (get nat_eq self.pages) (vec_len self.values) self.tiled.numbered position.place position.index n r.position r.first r.within in
+    let at = index_behind (bases self.pages) (vec_len self.values) (numbered_in self) position.place c.value_number-j.result n c.value_number-j.ensures.index r.first r.within in
     c.core_or.ensures (position.place + 8 * n) at
     ∙ ap (λ (o : Option Core). core_in (state_from o (marks_at self (position.place + 8 * n))))
     (c.core-live.ensures.value ∙ ap (λ (v : ℕ). core_of c.args.kind c.args.level v) c.value_from.ensures)

@@ -1,5 +1,6 @@
-use Rattle.bbm_place_map.proofs.Common.{◌≡◌, ℕ, ◌<◌, ◌+◌, List, refl, nat_eq, ap, sym, subst, ◌∙◌}
-use Rattle.bbm_place_map.proofs.Common.{false≢true, get, value_in, at_index, marks_of, entry_at, None}
+use Rattle.bbm_place_map.proofs.Common.{◌≡◌, ℕ, ◌<◌, ◌+◌, List, refl, ap, sym, subst, ◌∙◌}
+use Rattle.bbm_place_map.proofs.Common.{false≢true, bases, value_in, at_index, marks_of, entry_at, None}
+use Rattle.bbm_place_map.proofs.Bases.{whole_in}
 use Rattle.bbm_place_map.proofs.Blank.{free_marks, marks_free, values_zero, zero_values}
 use Rattle.bbm_place_map.proofs.Places.{index_none}
 use Rattle.bbm_place_map.specs.Map.{marks_at, value_at}
@@ -31,13 +32,13 @@ returns-else-not-is_zero-clause-blank c =
     )
 
 pub is_free-requires : goal.is_free-requires
-is_free-requires c = c.args.self.now.tiled.whole c.args.page c.in-Some.base (sym c.base.ensures.base ∙ c.in-Some.is)
+is_free-requires c = (whole_in c.args.self.now) c.args.page c.in-Some.base (sym c.base.ensures.base ∙ c.in-Some.is)
 
 pub returns-in-None-clause-blank : goal.returns-in-None-clause-blank
 unfolding marks_at value_at
 returns-in-None-clause-blank c =
     let self = c.args.self.now in
-    let base = get nat_eq self.pages in (
+    let base = bases self.pages in (
       λ e a same.
           let none = index_none base a (ap base same ∙ sym c.base.ensures.base ∙ c.in-None.is) in (
             ap (at_index 0 (value_in self.values.items)) none,

@@ -1,4 +1,4 @@
-use Rattle.bbm_place_map.proofs.Common.{ℕ, nat_eq, ◌∙◌, refl, ap, sym, get, index_of, unwrap_or, option_map, None}
+use Rattle.bbm_place_map.proofs.Common.{ℕ, ◌∙◌, refl, ap, sym, bases, index_of, unwrap_or, option_map, None}
 use Rattle.bbm_place_map.proofs.Common.{place_entry, at_index, entry_at}
 use Rattle.bbm_place_map.proofs.Common.{slice_get, Option, Publish, Advances, Publishes}
 use Rattle.bbm_place_map.proofs.Clearing.{fits_seated}
@@ -6,7 +6,7 @@ use Rattle.bbm_place_map.proofs.Made.{barrier}
 use Rattle.bbm_place_map.proofs.Positions.{position_place}
 use Rattle.bbm_place_map.proofs.Published.{published_at, pends_at_same}
 use Rattle.bbm_place_map.proofs.Reaching.{at_each}
-use Rattle.bbm_place_map.specs.Map.{is_tracked, marks_at, pends_at, value_at, restless_in, restless_place}
+use Rattle.bbm_place_map.specs.Map.{pages_of, marks_at, pends_at, value_at, restless_in, restless_place}
 use Rattle.bbm_place_map.proofs.map.PlaceMap.publish.Goals as goal
 
 pub invariant_of-self : goal.invariant_of-self
@@ -18,7 +18,7 @@ unfolding marks_at
 returns-clause-published c = λ live a.
     let by = barrier c.args.issuer c.args.dsb c.args.n (Publish c.publishes_to.result) in
     let self = c.args.self.now in
-    let o = index_of (get nat_eq self.pages) a in
+    let o = index_of (bases self.pages) a in
     published_at by live (place_entry self a) (at_index None (entry_at c.visit.new.self) o)
     (at_each (Advances (Publishes by)) None (entry_at self.broken) (entry_at c.visit.new.self) tt c.visit.ensures.each o)
 
@@ -27,19 +27,19 @@ unfolding pends_at
 returns-clause-pends c = λ q a.
     let by = barrier c.args.issuer c.args.dsb c.args.n (Publish c.publishes_to.result) in
     let self = c.args.self.now in
-    let o = index_of (get nat_eq self.pages) a in
+    let o = index_of (bases self.pages) a in
     pends_at_same by q (place_entry self a) (at_index None (entry_at c.visit.new.self) o)
     (at_each (Advances (Publishes by)) None (entry_at self.broken) (entry_at c.visit.new.self) tt c.visit.ensures.each o)
 
 pub returns-clause-same : goal.returns-clause-same
-unfolding is_tracked restless_in restless_place value_at
+unfolding pages_of restless_in restless_place value_at
 returns-clause-same c =
     let old = c.args.self.now.broken.entries.list.items in
     let new = c.visit.new.self.entries.list.items in
     let seats = c.visit.ensures.order in
     record {
       values = λ a. refl;
-      pages = λ p. refl;
+      pages = refl;
       restless = seats.0;
       places = λ i.
           ap (λ (o : Option ℕ). unwrap_or o 0)

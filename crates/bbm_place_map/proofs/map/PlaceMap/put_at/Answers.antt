@@ -1,8 +1,9 @@
-use Rattle.bbm_place_map.proofs.Common.{nat_eq, refl, vec_len, get, value_in}
+use Rattle.bbm_place_map.proofs.Common.{refl, vec_len, bases, value_in}
+use Rattle.bbm_place_map.proofs.Bases.{numbered_in}
 use Rattle.bbm_place_map.proofs.Clearing.{fits_seated}
 use Rattle.bbm_place_map.proofs.Places.{at_place}
 use Rattle.bbm_place_map.proofs.Positions.{seats_same}
-use Rattle.bbm_place_map.specs.Map.{is_tracked, value_at, IsPosition}
+use Rattle.bbm_place_map.specs.Map.{pages_of, value_at, IsPosition}
 use Rattle.bbm_place_map.proofs.map.PlaceMap.put_at.Goals as goal
 
 pub invariant_of-self : goal.invariant_of-self
@@ -11,12 +12,12 @@ invariant_of-self c =
     fits_seated self c.put_value.new.values self.broken c.put_value.ensures.len refl (seats_same self.broken.entries.list.items)
 
 pub returns-clause-put : goal.returns-clause-put
-unfolding IsPosition is_tracked value_at
+unfolding IsPosition pages_of value_at
 returns-clause-put c =
     let self = c.args.self.now in
     record {
       values =
-          at_place (get nat_eq self.pages) (vec_len self.values) self.tiled.numbered 0 c.args.value (value_in self.values.items)
-          (value_in c.put_value.new.values.items) c.args.position.now.place c.args.position.now.index c.requires c.put_value.ensures.values;
-      pages = λ page. refl;
+          at_place (bases self.pages) (vec_len self.values) (numbered_in self) 0 c.args.value (value_in self.values.items)
+          (value_in c.put_value.new.values.items) c.args.position.now.place c.value_number-j.result c.value_number-j.ensures.index c.put_value.ensures.values;
+      pages = refl;
     }

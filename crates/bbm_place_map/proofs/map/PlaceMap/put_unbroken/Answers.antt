@@ -1,8 +1,9 @@
-use Rattle.bbm_place_map.proofs.Common.{refl, nat_eq, vec_len, eq-eqb, false, get, value_in, arith}
+use Rattle.bbm_place_map.proofs.Common.{refl, nat_eq, vec_len, eq-eqb, false, bases, value_in, arith}
+use Rattle.bbm_place_map.proofs.Bases.{each_in, numbered_in}
 use Rattle.bbm_place_map.proofs.Clearing.{fits_seated, place_cleared}
 use Rattle.bbm_place_map.proofs.Places.{at_place, index_inside}
 use Rattle.bbm_lemmas.proofs.Bools.{none_unless}
-use Rattle.bbm_place_map.specs.Map.{is_tracked, marks_at, pends_at, value_at, IsPosition}
+use Rattle.bbm_place_map.specs.Map.{pages_of, marks_at, pends_at, value_at, IsPosition}
 use Rattle.bbm_place_map.proofs.map.PlaceMap.put_unbroken.Goals as goal
 
 pub clear-requires : goal.clear-requires
@@ -11,8 +12,8 @@ clear-requires c =
     let self = c.args.self.now in
     omega (
       arith,
-      index_inside (get nat_eq self.pages) (vec_len self.values) self.tiled.numbered c.args.position.now.place c.args.position.now.index c.requires,
-      self.tiled.each,
+      index_inside (bases self.pages) (vec_len self.values) (numbered_in self) c.args.position.now.place c.value_number-j.result c.value_number-j.ensures.index,
+      (each_in self),
     )
 
 pub invariant_of-self : goal.invariant_of-self
@@ -20,21 +21,21 @@ invariant_of-self c =
     fits_seated c.args.self.now c.put_value.new.values c.clear.new.self c.put_value.ensures.len c.clear.ensures.pages c.clear.ensures.seats
 
 pub returns-clause-put : goal.returns-clause-put
-unfolding IsPosition is_tracked value_at
+unfolding IsPosition pages_of value_at
 returns-clause-put c =
     let self = c.args.self.now in
     record {
       values =
-          at_place (get nat_eq self.pages) (vec_len self.values) self.tiled.numbered 0 c.args.value (value_in self.values.items)
-          (value_in c.put_value.new.values.items) c.args.position.now.place c.args.position.now.index c.requires c.put_value.ensures.values;
-      pages = λ page. refl;
+          at_place (bases self.pages) (vec_len self.values) (numbered_in self) 0 c.args.value (value_in self.values.items)
+          (value_in c.put_value.new.values.items) c.args.position.now.place c.value_number-j.result c.value_number-j.ensures.index c.put_value.ensures.values;
+      pages = refl;
     }
 
 pub returns-clause-left : goal.returns-clause-left
 unfolding IsPosition marks_at pends_at
 returns-clause-left c =
     let place = c.args.position.now.place in
-    let all = place_cleared c.args.self.now c.clear.new.self place c.args.position.now.index c.requires c.clear.ensures in
+    let all = place_cleared c.args.self.now c.clear.new.self place c.value_number-j.result c.value_number-j.ensures.index c.clear.ensures in
     record {
       marks = all.marks;
       pends = λ q a off. all.pends q a (none_unless (nat_eq a place) false refl off);

@@ -1,5 +1,6 @@
-use Rattle.bbm_place_map.proofs.Common.{nat_eq, sym, ap, ◌∙◌, vec_len, get, arith, at_index, None, Some, ℕ, entry_at}
+use Rattle.bbm_place_map.proofs.Common.{sym, ap, ◌∙◌, vec_len, bases, arith, at_index, None, Some, ℕ, entry_at}
 use Rattle.bbm_place_map.proofs.Common.{marks_of, slice_get_within}
+use Rattle.bbm_place_map.proofs.Bases.{each_in, numbered_in}
 use Rattle.bbm_place_map.proofs.Held.{none_entry, number_seat}
 use Rattle.bbm_place_map.proofs.Places.{index_inside, index_once}
 use Rattle.bbm_place_map.proofs.Restless.{place_is}
@@ -12,23 +13,23 @@ number-requires c =
     let self = c.args.self.now in
     omega (
       arith,
-      index_inside (get nat_eq self.pages) (vec_len self.values) self.tiled.numbered c.args.position.now.place c.args.position.now.index c.requires,
-      self.tiled.each,
+      index_inside (bases self.pages) (vec_len self.values) (numbered_in self) c.args.position.now.place c.value_number-j.result c.value_number-j.ensures.index,
+      (each_in self),
     )
 
 pub returns-clause-some : goal.returns-clause-some
 unfolding IsPosition restless_in restless_place
 returns-clause-some c = λ i is.
     let self = c.args.self.now in
-    let e = number_seat self.broken c.args.position.now.index i (sym c.number.ensures ∙ is) in (
+    let e = number_seat self.broken c.value_number-j.result i (sym c.number.ensures ∙ is) in (
       slice_get_within self.broken.entries.list.items i e.0 e.1,
       place_is self i e.0 e.1
-          ∙ index_once (get nat_eq self.pages) (vec_len self.values) self.tiled.numbered e.0.place c.args.position.now.place c.args.position.now.index
-          (self.placed i e.0 e.1 ∙ ap (λ (n : ℕ). Some n) e.2) c.requires,
+          ∙ index_once (bases self.pages) (vec_len self.values) (numbered_in self) e.0.place c.args.position.now.place c.value_number-j.result
+          (self.placed i e.0 e.1 ∙ ap (λ (n : ℕ). Some n) e.2) c.value_number-j.ensures.index,
     )
 
 pub returns-clause-none : goal.returns-clause-none
 unfolding IsPosition marks_at
 returns-clause-none c = λ none.
     let self = c.args.self.now in
-    ap marks_of (ap (at_index None (entry_at self.broken)) c.requires ∙ none_entry self.broken c.args.position.now.index (sym c.number.ensures ∙ none))
+    ap marks_of (ap (at_index None (entry_at self.broken)) c.value_number-j.ensures.index ∙ none_entry self.broken c.value_number-j.result (sym c.number.ensures ∙ none))

@@ -1,5 +1,6 @@
-use Rattle.bbm_place_map.proofs.Common.{◌≡◌, ℕ, nat_eq, ap, sym, ◌∙◌, vec_len, if◌then◌else◌, get, OnOk-map}
+use Rattle.bbm_place_map.proofs.Common.{◌≡◌, ℕ, nat_eq, ap, sym, ◌∙◌, vec_len, if◌then◌else◌, bases, OnOk-map}
 use Rattle.bbm_place_map.proofs.Common.{value_in, page_of, at_index, Frees, split_at}
+use Rattle.bbm_place_map.proofs.Bases.{numbered_in, whole_in}
 use Rattle.bbm_place_map.specs.MapCalls.{KeepsBroken}
 use Rattle.bbm_place_map.proofs.Clearing.{fits_seated, frees_untracked, page_cleared}
 use Rattle.bbm_place_map.proofs.Places.{at_page, index_none}
@@ -7,7 +8,7 @@ use Rattle.bbm_place_map.specs.Map.{marks_at, pends_at, value_at}
 use Rattle.bbm_place_map.proofs.map.PlaceMap.track.Goals as goal
 
 pub clear_page-requires : goal.clear_page-requires
-clear_page-requires c = c.args.self.now.tiled.whole c.args.page c.in-Some.base (sym c.base.ensures.base ∙ c.in-Some.is)
+clear_page-requires c = (whole_in c.args.self.now) c.args.page c.in-Some.base (sym c.base.ensures.base ∙ c.in-Some.is)
 
 pub invariant_of-self : goal.invariant_of-self
 invariant_of-self c =
@@ -18,7 +19,7 @@ pub returns-in-Some-clause-values : goal.returns-in-Some-clause-values
 unfolding value_at
 returns-in-Some-clause-values c =
     let self = c.args.self.now in
-    at_page (get nat_eq self.pages) (vec_len self.values) self.tiled.numbered 0 (value_in self.values.items)
+    at_page (bases self.pages) (vec_len self.values) (numbered_in self) 0 (value_in self.values.items)
     (value_in c.zero_page.new.values.items) c.args.page c.in-Some.base (sym c.base.ensures.base ∙ c.in-Some.is) c.zero_page.ensures.values
 
 pub returns-in-Some-clause-freed : goal.returns-in-Some-clause-freed
@@ -36,8 +37,8 @@ returns-in-None-clause-values c =
     ((a : ℕ) → value_at new a ≡ (if nat_eq (page_of a) c.args.page then 0 else value_at self a))
     (λ h a.
     split_at (page_of a) c.args.page
-    (λ same. h a ∙ ap (at_index 0 (value_in self.values.items)) (index_none (get nat_eq self.pages) a
-    (ap (get nat_eq self.pages) same ∙ sym c.base.ensures.base ∙ c.in-None.is)))
+    (λ same. h a ∙ ap (at_index 0 (value_in self.values.items)) (index_none (bases self.pages) a
+    (ap (bases self.pages) same ∙ sym c.base.ensures.base ∙ c.in-None.is)))
     (λ off. h a))
     c.add_page.ensures.values
 

@@ -1,0 +1,65 @@
+-- Where the values of pages start, by the numbers of the pages.
+use Rattle.bbm_place_map.proofs.Common.{◌≡◌, ◌∙◌, ℕ, ◌+◌, ◌*◌, ◌/◌, ◌%◌, ◌≤◌, ◌++◌, ◌∷◌, [], Bool, true, false, List, length}
+use Rattle.bbm_place_map.proofs.Common.{Option, Some, None, refl, ap, sym, arith, nat_eq, if◌then◌else◌, option_map, same_Some}
+use Rattle.bbm_place_map.proofs.Common.{none-some, pages_in, vec_len, Numbered, index_of, bases, number_in, PlaceMap}
+use Rattle.bbm_page_map.proofs.Numbering.{number_is, number_push, number_within}
+use Rattle.bbm_place_map.proofs.Places.{found, index_from}
+
+based : (o : Option ℕ) (b : ℕ) → option_map (λ n. 512 * n) o ≡ Some b → (n : ℕ) × (o ≡ Some n) × (512 * n ≡ b)
+based None b h = absurd (none-some b h)
+based (Some n) b h = (n, refl, same_Some (512 * n) b h)
+
+-- the number of a page whose values start there
+pub base_number : (pages : List ℕ) (p b : ℕ) → bases pages p ≡ Some b → (n : ℕ) × (number_in pages p ≡ Some n) × (512 * n ≡ b)
+base_number pages p b is = based (number_in pages p) b is
+
+pub numbered_by : (pages : List ℕ) (count : ℕ) → 512 * length pages ≡ count → Numbered (bases pages) count
+numbered_by pages count all = record {
+  within = λ p b is.
+      let n = base_number pages p b is in
+      omega (arith, all, n.2, number_within pages p n.0 n.1);
+  apart = λ p q b c is is' low high.
+      let n = base_number pages p b is in
+      let m = base_number pages q c is' in
+      let same : n.0 ≡ m.0 = omega (arith, n.2, m.2, low, high) in
+      same_Some p q (sym (number_is pages p n.0 n.1) ∙ number_is pages q n.0 (m.1 ∙ ap (λ (k : ℕ). Some k) (sym same)));
+}
+
+pub numbered_in : (map : PlaceMap) → Numbered (bases map.pages) (vec_len map.values)
+numbered_in map = numbered_by map.pages (vec_len map.values) map.counted
+
+pub whole_in : (map : PlaceMap) (page b : ℕ) → bases map.pages page ≡ Some b → b % 512 ≡ 0
+whole_in map page b is = let n = base_number map.pages page b is in omega (arith, n.2)
+
+pub each_in : (map : PlaceMap) → 512 * pages_in map.broken ≡ vec_len map.values
+each_in map = omega (arith, map.counted, map.parted)
+
+pub base_none : (pages : List ℕ) (p : ℕ) → number_in pages p ≡ None → bases pages p ≡ None
+base_none pages p none = ap (option_map (λ n. 512 * n)) none
+
+-- one page more
+pub bases_more : (pages : List ℕ) (p q : ℕ) → number_in pages p ≡ None
+    → bases (pages ++ p ∷ []) q ≡ (if nat_eq p q then Some (512 * length pages) else bases pages q)
+bases_more pages p q none = ap (option_map (λ n. 512 * n)) (number_push pages p q none) ∙ pull (nat_eq p q)
+  where
+    pull : (b : Bool) → option_map (λ n. 512 * n) (if b then Some (length pages) else number_in pages q)
+        ≡ (if b then Some (512 * length pages) else bases pages q)
+    pull true = refl
+    pull false = refl
+
+-- the number of the value of a place tells that of its page, and the other way
+pub number_of_index : (pages : List ℕ) (a n : ℕ) → index_of (bases pages) a ≡ Some (512 * n + a % 4096 / 8)
+    → number_in pages (a / 4096 * 4096) ≡ Some n
+number_of_index pages a n at =
+    let f = found (bases pages) a (512 * n + a % 4096 / 8) at in
+    let m = base_number pages (a / 4096 * 4096) f.start f.is in
+    let same : m.0 ≡ n = omega (arith, m.2, f.sum) in
+    m.1 ∙ ap (λ (k : ℕ). Some k) same
+
+pub index_of_number : (pages : List ℕ) (a n : ℕ) → a % 8 ≡ 0 → number_in pages (a / 4096 * 4096) ≡ Some n
+    → index_of (bases pages) a ≡ Some (512 * n + a % 4096 / 8)
+index_of_number pages a n aligned is = index_from (bases pages) a (512 * n) aligned (ap (option_map (λ n. 512 * n)) is)
+
+-- a page that has a number has its 512 values
+pub room_of : (map : PlaceMap) (p n : ℕ) → number_in map.pages p ≡ Some n → 512 * n + 512 ≤ vec_len map.values
+room_of map p n is = omega (arith, map.counted, number_within map.pages p n is)
