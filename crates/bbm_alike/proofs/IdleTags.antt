@@ -2,7 +2,7 @@
 use Rattle.bbm_rules.proofs.Common.{◌≡◌, ◌↔◌, ℕ, ◌<◌, Bool, true, false, cond, not, ◌&&◌, ◌||◌, ◌==◌, List, [], ◌∷◌}
 use Rattle.bbm_rules.proofs.Common.{◌++◌, Contains, filter_map, flat_map, refl, sym, ◌∙◌, ap, subst, true≢false}
 use Rattle.bbm_rules.proofs.Common.{and_from, and_parts, eqb-true, false_from_ne_true, proved, Is, In, any_finds}
-use Rattle.bbm_rules.proofs.Common.{in_left, is_none_of, to_contains, answers, same_bool, operation, Trust}
+use Rattle.bbm_rules.proofs.Common.{in_left, is_none_of, to_contains, answers, same_flag, operation, Trust}
 use Rattle.bbm_rules.proofs.Common.{same_tag, Patterns, any, below, Barrier, Heading, Event, Dmb, Dsb, Isb, Tlbi, Reg}
 use Rattle.bbm_rules.proofs.Common.{Tag, Issued, completes, reaches, unanswered, register_values}
 use Rattle.bbm_rules.proofs.Common.{Open, Reading, distinct, ever_read, holds_at}
@@ -195,7 +195,7 @@ module _ (heading : Heading) (equal : (g k : Tag) → (same_tag g k ≡ true) �
         → completes dsb e ≡ true
     answered_kind dsb b (Tlbi pe op xt) answered kind = by (operation op).broadcast b kind answered
       where
-        by : (x b : Bool) → same_bool x b ≡ true → answers dsb b ≡ true → answers dsb x ≡ true
+        by : (x b : Bool) → same_flag x b ≡ true → answers dsb b ≡ true → answers dsb x ≡ true
         by true true k a = a
         by false false k a = a
         by true false k a = absurd (true≢false (sym k))

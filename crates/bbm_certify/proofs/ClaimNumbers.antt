@@ -6,13 +6,12 @@ use Rattle.bbm_rules.proofs.Common.{◌≡◌, ◌⊎◌, ℕ, suc, ◌+◌, ◌
 use Rattle.bbm_rules.proofs.Common.{refl, sym, ◌∙◌, ap, subst, inl, inr, true≢false, arith, length-append, nat_eq}
 use Rattle.bbm_rules.proofs.Common.{eqb-true, in_append, any_found, Claim, Place, Two, Taken, Patterns, cleansed, note}
 use Rattle.bbm_rules.proofs.Common.{noted, Noted, events_of, Heading, Event, Write, Msr, Reg, Tag, Reading, readings}
-use Rattle.bbm_rules.proofs.Common.{In, false_from_ne_true}
+use Rattle.bbm_rules.proofs.Common.{In}
 use Rattle.bbm_rules.specs.HeldLaws.{CleansedBySentence}
 use Rattle.bbm_histories.proofs.PatternLemmas.{cleansed_stays}
 use Rattle.bbm_certify.proofs.Searches.{same_behind}
-use Rattle.bbm_lemmas.proofs.Words.{Apart}
+use Rattle.bbm_lemmas.proofs.Words.{Apart, apart_distinct}
 use Rattle.std.proofs.lemmas.Map.Steps.{length-le_from_distinct_below}
-use Rattle.std.specs.List.{IsDistinct, AllByRecursion}
 use Rattle.bbm_certify.proofs.OneCertificate.{above, less_itself, rest}
 use Rattle.bbm_histories.proofs.Induction.{events_append, events_length}
 
@@ -22,16 +21,6 @@ same_parts : (j k p q : ℕ) → 128 * j + p ≡ 128 * k + q → p < 128 → q <
 same_parts j k p q e below below' = (omega (arith, e, below, below'), omega (arith, e, below, below'))
 
 -- numbers apart that are below one are at most as many
-apart_distinct : (ns : List ℕ) → Apart ns → IsDistinct nat_eq ns
-unfolding IsDistinct
-apart_distinct [] a = tt
-apart_distinct (n ∷ ns) a = (none ns a.0, apart_distinct ns a.1)
-  where
-    none : (ms : List ℕ) → (In ms n → ⊥) → AllByRecursion (λ m. nat_eq n m ≡ false) ms
-    none [] out = tt
-    none (m ∷ ms) out =
-        (false_from_ne_true (nat_eq n m) (λ e. out (inl (sym (eqb-true n m e)))), none ms (λ i. out (inr i)))
-
 few_below : (ns : List ℕ) (n : ℕ) → Apart ns → ((m : ℕ) → In ns m → m < n) → length ns ≤ n
 few_below ns n a below =
     length-le_from_distinct_below ns n (apart_distinct ns a) (λ q k.

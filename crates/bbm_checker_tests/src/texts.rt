@@ -3,7 +3,7 @@
 use arrayvec::ArrayVec;
 use bbm_descriptor::Walk;
 use bbm_events::Label;
-use bbm_regimes::{Kind, Page, Pe};
+use bbm_regimes::{Kind, Level, Page, Pe};
 use bbm_report::{
     Question, asked, found_text, idle_text, phase_text, unverified_text, verdict_text,
     verified_text, walk_text,
@@ -31,7 +31,7 @@ fn what_follows_a_verdict_is_written(rt: HostRuntime) {
     phase_text(Pe::new(0).expect(&rt, "a PE"), Phase::Seen, &mut phase);
     assert!(rt; phase.as_slice() == b"pe 0 seen\n".as_slice());
     let mut walk = ArrayVec::new();
-    walk_text(Walk::Fault { level: 1 }, &mut walk);
+    walk_text(Walk::Fault { level: Level::ONE }, &mut walk);
     assert!(rt; walk.as_slice() == b"walk fault level 1\n".as_slice());
     let mut found = ArrayVec::new();
     found_text(None, &mut found);

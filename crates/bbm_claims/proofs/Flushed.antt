@@ -4,7 +4,7 @@ use Rattle.bbm_claims.proofs.Common.{mark_at, waits_at}
 use Rattle.bbm_rules.proofs.Common.{◌≡◌, ℕ, suc, ◌+◌, ◌-◌, ◌<◌, ◌⊎◌, Bool, true, false, cond, ◌&&◌, ◌||◌, not, ◌==◌}
 use Rattle.bbm_rules.proofs.Common.{List, [], ◌∷◌, ◌++◌, length, take, drop, get_or, reverse, refl, sym, ◌∙◌, ap, arith}
 use Rattle.bbm_rules.proofs.Common.{length-append, and_right, eq-eqb, ne_eqb, get_or_default, length-drop, take_all}
-use Rattle.bbm_rules.proofs.Common.{list_any, proved, Is, answers, Cover, operation, same_cover, Noted, same_bool}
+use Rattle.bbm_rules.proofs.Common.{list_any, proved, Is, answers, Cover, operation, same_cover, Noted, same_flag}
 use Rattle.bbm_rules.proofs.Common.{Barrier, Heading, Event, Dsb, Tlbi, TlbiOp, completes, reaches, completes_for}
 use Rattle.bbm_rules.proofs.Common.{issues}
 use Rattle.bbm_oracle_patterns.specs.Kept.{cover_in}
@@ -54,7 +54,7 @@ module _ {A : Type 0} (event : A → Event) (q : ℕ) where
       (same_answers pe op xt))
     where
       by : (c : Bool) → answered c later ≡ list_any (λ x. completes_for q (Tlbi pe op xt) (event x)) later
-          → answered_by dsb (λ b. not (answered b later) && ((pe == q && same_bool c b) && r))
+          → answered_by dsb (λ b. not (answered b later) && ((pe == q && same_flag c b) && r))
           ≡ ((pe == q && (answers dsb c && r)) && not (list_any (λ x. completes_for q (Tlbi pe op xt) (event x)) later))
       by true same =
           pick_true (answers dsb true) (answers dsb false) (not (answered true later)) (not (answered false later)) (pe

@@ -1,6 +1,6 @@
 //! What a walk reads.
 
-use bbm_regimes::{Kind, Place};
+use bbm_regimes::{Kind, Level, Place};
 use std::marker::Model;
 
 /// A place and a value that was read there. A clause sees it as that of the definitions. Source: project's own choice.
@@ -29,21 +29,18 @@ pub struct Goal {
     pub place: Place,
     /// The kind of the tree.
     pub kind: Kind,
-    /// The level of the place, 0 to 3.
-    pub level: u8,
+    /// The level of the place.
+    pub level: Level,
     /// What it holds.
     pub value: u64,
 }
 
 impl Model for Goal {
-    ghost use Rattle.std.specs.Prelude.{◌≤◌};
     ghost use Rattle.bbm_counterrun.specs.Ways.{Goal};
 
     ghost Value = { Goal };
 
     ghost view = { λ g. record { place = g.place; kind = g.kind; level = g.level; value = g.value } };
-
-    ghost invariant = { λ g. g.level ≤ 3 };
 
     ghost inverse = { λ g. record { place = g.place; kind = g.kind; level = g.level; value = g.value } };
 }

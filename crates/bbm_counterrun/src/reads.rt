@@ -6,7 +6,7 @@ ghost use Rattle.bbm_events.specs.declared.event.Event.{Event as TheEvent};
 ghost use Rattle.bbm_rules.specs.Lists.{least};
 
 use crate::read::{Goal, Read};
-use bbm_descriptor::{core, needs_bbm};
+use bbm_descriptor::{is_valid, needs_bbm};
 use bbm_events::{Event, Header};
 use bbm_regimes::{NoMemory, Pe};
 use bbm_tlb_machine::can_read;
@@ -17,7 +17,7 @@ use std::alloc::Global;
 fn is_like(header: &Header, events: &[Event], pe: Pe, goal: Goal, value: u64) -> bool
     ensures { result ≡ spec.is_like header.now (reverse events.now) pe goal value }
 {
-    core(goal.kind, goal.level, value).is_some()
+    is_valid(goal.kind, goal.level, value)
         && !needs_bbm(goal.kind, goal.level, goal.value, value)
         && can_read(header, events, goal.place, pe, value)
 }

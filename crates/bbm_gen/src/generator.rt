@@ -7,7 +7,7 @@ ghost use Rattle.bbm_gen.specs.Generated as log;
 
 use bbm_barriers::{Domain, Dsb, Types};
 use bbm_events::{Event, Header, NO_WORDS};
-use bbm_regimes::{HypWorld, Kind, Page, Pe, Place, Reg, World};
+use bbm_regimes::{HypWorld, Kind, Level, Page, Pe, Place, Reg, World};
 use bbm_tlbi_scope::TlbiOp;
 
 /// The first page of the EL2 root.
@@ -30,8 +30,8 @@ pub fn gen_header() -> Header
         cnp: false,
         words: NO_WORDS,
         world: World::Hyp(HypWorld {
-            el2_start: 1,
-            s2_start: 1,
+            el2_start: Level::ONE,
+            s2_start: Level::ONE,
             s2_pages: 1,
         }),
     }

@@ -3,7 +3,7 @@ use Rattle.bbm_histories.proofs.Common.{and-false, and-true, or-false, Heading, 
 use Rattle.bbm_histories.proofs.Common.{held_after, seen_after, waits}
 use Rattle.bbm_rules.proofs.Common.{◌≡◌, ℕ, ◌<◌, ◌&&◌, ◌||◌, not, Bool, true, false, cond, ◌==◌, List, [], ◌∷◌, length}
 use Rattle.bbm_rules.proofs.Common.{Option, Some, None, option_and_then, refl, sym, ◌∙◌, ap, subst, true≢false, arith}
-use Rattle.bbm_rules.proofs.Common.{eq-eqb, le-leb, proved, Is, answers, Kind, is_valid, same_bool, operation, Half}
+use Rattle.bbm_rules.proofs.Common.{eq-eqb, le-leb, proved, Is, answers, Kind, is_valid, same_flag, operation, Half}
 use Rattle.bbm_rules.proofs.Common.{Barrier, Event, Init, Write, Dsb, Tlbi, Trust, Patterns, answered_where}
 use Rattle.bbm_rules.proofs.Common.{answers_one, cleansed, flushes, full_step, half, publishes_write, second_step, seen}
 use Rattle.bbm_rules.proofs.Common.{ValidWrite, cleansed_everywhere, held, last_valid, last_valid_after, later, any}
@@ -33,7 +33,7 @@ left_kind dsb b (Tlbi pe op xt) test = by b (operation op).broadcast
     other : (a c : Bool) → (not a && false) ≡ cond c false false
     other = proved 2 (λ a c. Is (not a && false) (cond c false false)) refl
 
-    by : (b x : Bool) → (not (answers dsb x) && (same_bool x b && test)) ≡ cond (answers dsb b) false (same_bool x b && test)
+    by : (b x : Bool) → (not (answers dsb x) && (same_flag x b && test)) ≡ cond (answers dsb b) false (same_flag x b && test)
     by true true = one (answers dsb true)
     by false false = one (answers dsb false)
     by true false = other (answers dsb false) (answers dsb true)
@@ -46,7 +46,7 @@ completed_kind : (dsb : Barrier) (e : Event) (test : Bool) → (completes dsb e 
 completed_kind dsb (Tlbi pe op xt) test = by (operation op).broadcast
   where
     by : (x : Bool) → (answers dsb x && test)
-        ≡ ((answers dsb true && (same_bool x true && test)) || (answers dsb false && (same_bool x false && test)))
+        ≡ ((answers dsb true && (same_flag x true && test)) || (answers dsb false && (same_flag x false && test)))
     by true = sym (ap (λ (c : Bool). (answers dsb true && test) || c) (and-false (answers dsb false)) ∙ or-false (answers dsb true && test))
     by false = sym (ap (λ (c : Bool). c || (answers dsb false && test)) (and-false (answers dsb true)))
 completed_kind dsb e test =

@@ -4,7 +4,8 @@
 use Rattle.std.specs.Prelude.{ℕ, length, Bool, true, false, not, ◌&&◌, ◌||◌, ◌==◌, List, ◌∷◌, Option, Some, None}
 use Rattle.std.specs.Prelude.{if◌then◌else◌}
 use Rattle.bbm_barriers.specs.Options.{answers}
-use Rattle.bbm_descriptor.specs.Descriptor.{is_valid, same_bool}
+use Rattle.bbm_descriptor.specs.Descriptor.{is_valid}
+use Rattle.bbm_lemmas.specs.ListWords.{same_flag}
 use Rattle.bbm_tlbi_scope.specs.Operations.{operation}
 use Rattle.bbm_tlbi_scope.specs.declared.entry.Cover.TheVariants.{Half, Second, Full}
 use Rattle.bbm_rules.specs.Prelude.{Barrier, Kind, Tag, Heading, Event, Init, Write, Dsb, Tlbi}
@@ -21,7 +22,7 @@ use Rattle.bbm_rules.specs.Values.{publishes_to}
 
 -- whether the event is a TLBI that is broadcast, or one that isn't, as told
 abbrev pub is_tlbi : Bool → Event → Bool
-is_tlbi b (Tlbi pe op xt) = same_bool (operation op).broadcast b
+is_tlbi b (Tlbi pe op xt) = same_flag (operation op).broadcast b
 is_tlbi b _ = false
 
 -- whether some TLBI of q that no DSB has answered yet, broadcast or not as told, passes the test

@@ -4,7 +4,7 @@ use Rattle.bbm_idle.proofs.Common.{answers_needed, is_needed, is_needed_at, take
 use Rattle.bbm_rules.proofs.Common.{◌≡◌, ℕ, ◌<◌, Bool, true, false, not, ◌&&◌, ◌||◌, List, [], ◌∷◌, ◌++◌, Option, Some}
 use Rattle.bbm_rules.proofs.Common.{option_map_or, Contains, is_none, refl, sym, ◌∙◌, ap, subst, true≢false, and_from}
 use Rattle.bbm_rules.proofs.Common.{and_parts, false_from_ne_true, or_left, or_right, pe_finds, In, any_finds}
-use Rattle.bbm_rules.proofs.Common.{any_found, from_contains, none_of, to_contains, answers, same_bool, operation}
+use Rattle.bbm_rules.proofs.Common.{any_found, from_contains, none_of, to_contains, answers, same_flag, operation}
 use Rattle.bbm_rules.proofs.Common.{Cover, Half, keeps, cleansed, flushes, half, same_cover, seen, cover_at, noted}
 use Rattle.bbm_rules.proofs.Common.{ValidWrite, last_valid, any, Noted, events_of, page_of, Barrier, Heading, Event}
 use Rattle.bbm_rules.proofs.Common.{Dsb, Tlbi, Issued, completes, reaches, unanswered, first_pages, Open}
@@ -27,7 +27,7 @@ use Rattle.bbm_histories.proofs.SeenFirst.{answered_waits}
 pub kind_completed : (dsb : Barrier) (b : Bool) (e : Event) → is_tlbi b e ≡ true → answers dsb b ≡ true → completes dsb e ≡ true
 kind_completed dsb b (Tlbi pe op xt) is a = by (operation op).broadcast b is a
   where
-    by : (x y : Bool) → same_bool x y ≡ true → answers dsb y ≡ true → answers dsb x ≡ true
+    by : (x y : Bool) → same_flag x y ≡ true → answers dsb y ≡ true → answers dsb x ≡ true
     by true true is a = a
     by false false is a = a
     by true false is a = absurd (true≢false (sym is))

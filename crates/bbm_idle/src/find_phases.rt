@@ -2,7 +2,6 @@
 //! Source: project's own choice.
 
 ghost use Rattle.std.specs.Prelude.{◌≡◌, ℕ, ◌<◌, ◌&&◌, ◌||◌, not, true, List, ◌∷◌, reverse, IfOk, OnOk};
-ghost use Rattle.bbm_descriptor.specs.Descriptor.{is_valid};
 ghost use Rattle.bbm_events.specs.declared.event.Event.{Event as TheEvent};
 ghost use Rattle.bbm_events.specs.Fits.{fits_heading};
 ghost use Rattle.bbm_events.specs.Heading.{Heading};
@@ -19,12 +18,12 @@ ghost use Rattle.bbm_idle.specs.Finding as spec;
 ghost use Rattle.bbm_idle.specs.Idle as idle;
 ghost use Rattle.bbm_idle.specs.SamePhase.{same_phase};
 
-use bbm_descriptor::core;
+use bbm_descriptor::is_valid;
 use bbm_events::{Event, Header};
 use bbm_oracle_patterns::{Kept, Trace, cleansed_everywhere, last_valid, trace_of};
 use bbm_oracle_tags::{AllPatterns, value_of};
 use bbm_oracle_trees::History;
-use bbm_regimes::{Kind, NoMemory, PeMask, Place};
+use bbm_regimes::{Kind, Level, NoMemory, PeMask, Place};
 use std::alloc::Global;
 
 /// The phases of a place at all PEs.
@@ -47,14 +46,6 @@ pub struct PlacePhases {
     pub phases: Phases,
 }
 
-/// Whether the value is valid at this kind and level, 0 to 3.
-fn is_valid_at(kind: Kind, level: u8, value: u64) -> bool
-    ensures { result ≡ is_valid kind level value }
-{
-    let level = if level < 3 { level } else { 3 };
-    core(kind, level, value).is_some()
-}
-
 /// The phases of a place whose last valid write stands before these events, and whose value is valid or isn't.
 fn phases_since(header: &Header, later: &[Kept], place: Place, valid: bool) -> Phases
     ensures { (before p : ℕ) → spec.phase_from result p
@@ -74,7 +65,7 @@ fn phases_in(
     header: &Header,
     log: &[Kept],
     kind: Kind,
-    level: u8,
+    level: Level,
     place: Place,
     value: u64,
 ) -> Phases
@@ -83,7 +74,7 @@ fn phases_in(
 {
     match last_valid(log, kind, level, place) {
         Some(write) => {
-            let valid = is_valid_at(kind, level, value);
+            let valid = is_valid(kind, level, value);
             phases_since(header, &log[write.index + 1..], place, valid)
         }
         None => Phases::Clean,

@@ -20,7 +20,7 @@ use bbm_events::{Event, Header};
 use bbm_oracle_patterns::{Kept, Trace, TreePlace, last_valid, trace_of};
 use bbm_oracle_tags::AllPatterns;
 use bbm_oracle_trees::History;
-use bbm_regimes::{Kind, NoMemory, PeMask, Place};
+use bbm_regimes::{Kind, Level, NoMemory, PeMask, Place};
 use bbm_tlbi_scope::Cover;
 use std::alloc::Global;
 
@@ -59,7 +59,7 @@ pub fn add_written(places: &mut Vec<Place>, event: &Event) -> Result<(), NoMemor
 
 /// The trace of a place of this kind and level since its last valid write; None where there is no such write. The log
 /// is oldest first.
-fn trace_in(header: &Header, log: &[Kept], kind: Kind, level: u8, place: Place) -> Option<Trace>
+fn trace_in(header: &Header, log: &[Kept], kind: Kind, level: Level, place: Place) -> Option<Trace>
     ensures { (p : ℕ) (cover : Grade) → spec.trace_adds cover p result
         ≡ idle.adds_since header.now cover p place (holding.last_valid kind level place (notes_of (reverse log.now))) }
 {

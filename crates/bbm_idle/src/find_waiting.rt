@@ -1,7 +1,6 @@
 //! Which PEs have a needed TLBI that isn't answered.
 
 ghost use Rattle.std.specs.Prelude.{◌≡◌, ℕ, ◌==◌, ◌&&◌, ◌||◌, not, List, [], ◌∷◌};
-ghost use Rattle.bbm_barriers.specs.Options as options;
 ghost use Rattle.bbm_events.specs.declared.event.Event.{Event as TheEvent};
 ghost use Rattle.bbm_events.specs.Heading.{Heading};
 ghost use Rattle.bbm_regimes.specs.PeMask.{pe_in};
@@ -11,7 +10,7 @@ ghost use Rattle.bbm_rules.specs.Tags.{itself};
 ghost use Rattle.bbm_idle.specs.Finding as spec;
 ghost use Rattle.bbm_idle.specs.Idle as idle;
 
-use bbm_barriers::{Dsb, completes_broadcast, completes_local};
+use bbm_barriers::{Dsb, answers};
 use bbm_events::Event;
 use bbm_regimes::{Pe, PeMask};
 
@@ -24,24 +23,13 @@ pub struct Waiting {
     pub broadcast: PeMask,
 }
 
-/// Whether the DSB completes TLBIs of this sort, broadcast or not.
-fn completes(dsb: Dsb, cast: bool) -> bool
-    ensures { result ≡ options.answers dsb cast }
-{
-    if cast {
-        completes_broadcast(dsb)
-    } else {
-        completes_local(dsb)
-    }
-}
-
 /// The PEs with a TLBI of this sort after the event, of which is told whether it is idle.
 fn waiting_after(pes: PeMask, event: &Event, cast: bool, is_idle: bool) -> PeMask
     ensures { (q : ℕ) → pe_in result q ≡ spec.waits_after cast is_idle event.now q (pe_in pes q) }
 {
     match *event {
         Event::Tlbi { pe, op, .. } => pes.with(pe, op.is_broadcast() == cast && !is_idle),
-        Event::Dsb { pe, dsb } => pes.without(pe, completes(dsb, cast)),
+        Event::Dsb { pe, dsb } => pes.without(pe, answers(dsb, cast)),
         _ => pes,
     }
 }
@@ -69,8 +57,8 @@ impl Waiting {
         ensures { (heading : Heading) (h : List TheEvent) → spec.IsWaiting self.now heading h
             → result ≡ any (idle.answers_needed heading dsb) (unanswered itself pe h) }
     {
-        let broadcast = answered(self.broadcast, pe, completes(dsb, true));
-        let local = answered(self.local, pe, completes(dsb, false));
+        let broadcast = answered(self.broadcast, pe, answers(dsb, true));
+        let local = answered(self.local, pe, answers(dsb, false));
         broadcast || local
     }
 

@@ -5,21 +5,21 @@ use Rattle.bbm_rules.proofs.Common.{ends_below, Trust, Noted, events_of, is_fres
 use Rattle.bbm_rules.proofs.Common.{value_of}
 use Rattle.bbm_rules.specs.Prelude.{Kind}
 
--- the ends of the paths that go on through a next page
-abbrev pub through : Heading → Trust → List Noted → Kind → ℕ → ℕ → ℕ → List End
-through heading trust h kind left level next =
-    end_at (suc level) next ∷ ends_below heading trust h kind left (suc level) next
+-- the ends of the paths that go on through a next page, read at this level
+abbrev pub through : Heading → Trust → List Noted → Kind → ℕ → ℕ → List End
+through heading trust h kind level next = end_at level next ∷ ends_below heading trust h kind (3 - level) level next
 
 -- the ends of the paths that go on from a fresh page, where a level is left
-pub ends_through : (heading : Heading) (trust : Trust) (h : List Noted) (kind : Kind) (level page : ℕ) (nexts : List ℕ)
-    → level < 3 → is_fresh heading trust h page ≡ true
+pub ends_through : (heading : Heading) (trust : Trust) (h : List Noted) (kind : Kind) (level below page : ℕ) (nexts : List ℕ)
+    → below ≡ level + 1 → level < 3 → is_fresh heading trust h page ≡ true
     → nexts ≡ filter_map (λ place. next_of kind level (value_of (events_of h) place)) (places_in (events_of h) page)
-    → flat_map (through heading trust h kind (3 - (level + 1)) level) nexts
+    → flat_map (through heading trust h kind below) nexts
     ≡ ends_below heading trust h kind (3 - level) level page
-ends_through heading trust h kind level page nexts low fresh are =
-    let more : suc (3 - (level + 1)) ≡ 3 - level = omega (arith, low) in
-    ap (flat_map (through heading trust h kind (3 - (level + 1)) level)) are
-    ∙ sym (ap (λ (b : Bool). cond b (flat_map (through heading trust h kind (3 - (level + 1)) level)
+ends_through heading trust h kind level below page nexts is low fresh are =
+    let more : suc (3 - suc level) ≡ 3 - level = omega (arith, low) in
+    ap (λ (n : ℕ). flat_map (through heading trust h kind n) nexts) (is ∙ add-one level)
+    ∙ ap (flat_map (through heading trust h kind (suc level))) are
+    ∙ sym (ap (λ (b : Bool). cond b (flat_map (through heading trust h kind (suc level))
     (filter_map (λ place. next_of kind level (value_of (events_of h) place)) (places_in (events_of h) page))) []) fresh)
     ∙ ap (λ (n : ℕ). ends_below heading trust h kind n level page) more
 

@@ -1,7 +1,7 @@
 //! The pages that an event attaches to a tree.
 //! Source: project's own choice, where no other is named.
 
-ghost use Rattle.std.specs.Prelude.{◌≡◌, ◌≤◌, ◌<◌, ◌+◌, ◌-◌, ◌++◌, ℕ, true, IfOk, IfSome, OnOk};
+ghost use Rattle.std.specs.Prelude.{◌≡◌, ◌<◌, ◌-◌, ◌++◌, ℕ, true, IfOk, IfSome, OnOk};
 ghost use Rattle.std.specs.Prelude.{filter_map, flat_map, map, option_to_list};
 ghost use Rattle.bbm_events.specs.declared.event.Event.{Event};
 ghost use Rattle.bbm_events.specs.Fits.{fits_heading};
@@ -17,28 +17,25 @@ use bbm_events::Event;
 use bbm_oracle_patterns::Evidence;
 use bbm_oracle_tags::values::{places_in, value_of};
 use bbm_oracle_trees::History;
-use bbm_regimes::{Kind, NoMemory, Page, Place};
+use bbm_regimes::{Kind, Level, NoMemory, Page, Place};
 use std::alloc::Global;
 use std::marker::Model;
 
-/// The end of a path: a page and the level at which it is read, 0 to 3.
+/// The end of a path: a page and the level at which it is read.
 #[derive(Clone, Copy)]
 pub struct End {
     /// The page.
     pub page: Page,
     /// The level.
-    pub level: u8,
+    pub level: Level,
 }
 
 impl Model for End {
-    ghost use Rattle.std.specs.Prelude.{◌≤◌};
     ghost use Rattle.bbm_rules.specs.Attach as spec;
 
     ghost Value = { spec.End };
 
     ghost view = { λ e. record { page = e.page; level = e.level } };
-
-    ghost invariant = { λ e. e.level ≤ 3 };
 
     ghost inverse = { λ e. record { page = e.page; level = e.level } };
 }
@@ -62,9 +59,8 @@ impl Model for Attached {
     ghost view = { λ a. record { kind = a.kind; first = a.first.items; deeper = a.deeper.items } };
 }
 
-/// The next page of a value at this kind and level, 0 to 3, where it is a table.
-pub fn next_in(kind: Kind, level: u8, value: u64) -> Option<Page>
-    requires { level ≤ 3 }
+/// The next page of a value at this kind and level, where it is a table.
+pub fn next_in(kind: Kind, level: Level, value: u64) -> Option<Page>
     ensures value { result ≡ trees.next_of kind level value }
     ensures above { IfSome result (λ next. level < 3) }
 {
@@ -85,15 +81,14 @@ fn add_next(pages: &mut Vec<Page>, next: Option<Page>) -> Result<(), NoMemory>
     Ok(())
 }
 
-/// The next pages of the table values of the page, read at this kind and level, 0 to 3. `NoMemory` where there is none.
+/// The next pages of the table values of the page, read at this kind and level. `NoMemory` where there is none.
 fn next_pages<E: Evidence>(
     alloc: Global,
     history: &History<E>,
     kind: Kind,
-    level: u8,
+    level: Level,
     page: Page,
 ) -> Result<Vec<Page>, NoMemory>
-    requires { level ≤ 3 }
     ensures { IfOk result (λ pages. pages.items
         ≡ filter_map (λ place. trees.next_of kind level (value_at (events_of (notes history.now)) place))
         (places_at (events_of (notes history.now)) page)) }
@@ -107,24 +102,23 @@ fn next_pages<E: Evidence>(
     Ok(pages)
 }
 
-/// Adds the ends of the paths of at least one place that begin in the page, read at this kind and level, 0 to 3.
-/// `NoMemory` where there is none.
+/// Adds the ends of the paths of at least one place that begin in the page, read at this kind and level. `NoMemory` where
+/// there is none.
 fn add_ends<E: Evidence>(
     alloc: Global,
     history: &History<E>,
     kind: Kind,
-    level: u8,
+    level: Level,
     page: Page,
     ends: &mut Vec<End>,
 ) -> Result<(), NoMemory>
-    requires { level ≤ 3 }
     ensures { OnOk result (ends.new.items
         ≡ ends.old.items
         ++ spec.ends_below history.now.heading history.now.trust (notes history.now) kind (3 - level) level page) }
 {
-    if level == 3 {
+    let Some(below) = level.below() else {
         return Ok(());
-    }
+    };
     if !history.is_fresh(page) {
         return Ok(());
     }
@@ -132,17 +126,16 @@ fn add_ends<E: Evidence>(
     for next in &pages {
         let end = End {
             page: *next,
-            level: level + 1,
+            level: below,
         };
         ends.push(end)?;
-        add_ends(alloc, history, kind, level + 1, *next, ends)?;
+        add_ends(alloc, history, kind, below, *next, ends)?;
     }
     Ok(())
 }
 
 /// Adds the ends of the paths of no places that begin in the pages, read at this level. `NoMemory` where there is none.
-fn add_first(level: u8, pages: &[Page], ends: &mut Vec<End>) -> Result<(), NoMemory>
-    requires { level ≤ 3 }
+fn add_first(level: Level, pages: &[Page], ends: &mut Vec<End>) -> Result<(), NoMemory>
     ensures { OnOk result (ends.new.items ≡ ends.old.items ++ map (spec.end_at level) pages.now) }
 {
     for page in pages {
@@ -152,17 +145,16 @@ fn add_first(level: u8, pages: &[Page], ends: &mut Vec<End>) -> Result<(), NoMem
     Ok(())
 }
 
-/// Adds the ends of all longer paths that begin in the pages, read at this kind and level, 0 to 3. `NoMemory` where
+/// Adds the ends of all longer paths that begin in the pages, read at this kind and level. `NoMemory` where
 /// there is none.
 fn add_deeper<E: Evidence>(
     alloc: Global,
     history: &History<E>,
     kind: Kind,
-    level: u8,
+    level: Level,
     pages: &[Page],
     ends: &mut Vec<End>,
 ) -> Result<(), NoMemory>
-    requires { level ≤ 3 }
     ensures { OnOk result (ends.new.items ≡ ends.old.items
         ++ flat_map (spec.ends_below history.now.heading history.now.trust (notes history.now) kind (3 - level) level)
         pages.now) }
@@ -173,15 +165,14 @@ fn add_deeper<E: Evidence>(
     Ok(())
 }
 
-/// The ends of all paths that begin in the pages, read at this kind and level, 0 to 3. `NoMemory` where there is none.
+/// The ends of all paths that begin in the pages, read at this kind and level. `NoMemory` where there is none.
 fn attached_from<E: Evidence>(
     alloc: Global,
     history: &History<E>,
     kind: Kind,
-    level: u8,
+    level: Level,
     pages: &[Page],
 ) -> Result<Attached, NoMemory>
-    requires { level ≤ 3 }
     ensures { IfOk result (λ attached. attached
         ≡ spec.attached_from history.now.heading history.now.trust (notes history.now) kind level pages.now) }
 {
@@ -215,7 +206,8 @@ fn attached_by_write<E: Evidence>(
     match next_in(node.kind, node.level, value) {
         Some(next) => {
             let pages = [next];
-            let attached = attached_from(alloc, history, node.kind, node.level + 1, &pages)?;
+            let below = node.level.below().unwrap();
+            let attached = attached_from(alloc, history, node.kind, below, &pages)?;
             Ok(Some(attached))
         }
         None => Ok(None),

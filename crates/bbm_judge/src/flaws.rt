@@ -1,7 +1,7 @@
 //! Descriptors that must not come into a tree.
 //! Source: project's own choice, where no other is named.
 
-ghost use Rattle.std.specs.Prelude.{◌≡◌, ◌≤◌, ℕ, true, IfOk, flat_map};
+ghost use Rattle.std.specs.Prelude.{◌≡◌, ℕ, true, IfOk, flat_map};
 ghost use Rattle.bbm_descriptor.specs.Descriptor.{desc_of};
 ghost use Rattle.bbm_events.specs.declared.event.Event.{Event};
 ghost use Rattle.bbm_events.specs.Fits.{fits_heading};
@@ -20,7 +20,7 @@ use bbm_events::Event;
 use bbm_oracle_patterns::Evidence;
 use bbm_oracle_tags::values::{places_in, value_of};
 use bbm_oracle_trees::History;
-use bbm_regimes::{Kind, NoMemory, Place};
+use bbm_regimes::{Kind, Level, NoMemory, Place};
 use std::alloc::Global;
 
 /// What is wrong with a descriptor of a tree.
@@ -32,9 +32,8 @@ pub enum Flaw {
     GlobalUser,
 }
 
-/// Whether a value has the flaw at this kind and level, 0 to 3.
-fn has_flaw(flaw: Flaw, kind: Kind, level: u8, value: u64) -> bool
-    requires { level ≤ 3 }
+/// Whether a value has the flaw at this kind and level.
+fn has_flaw(flaw: Flaw, kind: Kind, level: Level, value: u64) -> bool
     ensures { result ≡ spec.has_flaw flaw kind (desc_of kind level value) }
 {
     match read(kind, level, value) {
@@ -50,15 +49,14 @@ fn has_flaw(flaw: Flaw, kind: Kind, level: u8, value: u64) -> bool
     }
 }
 
-/// The place, where its value has the flaw at this kind and level, 0 to 3.
+/// The place, where its value has the flaw at this kind and level.
 fn flawed<E: Evidence>(
     history: &History<E>,
     flaw: Flaw,
     kind: Kind,
-    level: u8,
+    level: Level,
     place: Place,
 ) -> Option<u64>
-    requires { level ≤ 3 }
     ensures { result
         ≡ if_so (spec.has_flaw flaw kind (desc_of kind level (value_at (events_of (notes history.now)) place))) place }
 {

@@ -10,7 +10,7 @@ ghost use Rattle.bbm_rules.specs.Values as values;
 ghost use Rattle.bbm_oracle_trees.specs.Past.{notes};
 ghost use Rattle.bbm_oracle_trees.specs.HistoryStandsFor.{StandsFor};
 
-use crate::tree_rules::is_valid;
+use bbm_descriptor::is_valid;
 use bbm_events::Event;
 use bbm_oracle_patterns::Evidence;
 use bbm_oracle_tags::values::value_of;

@@ -5,12 +5,12 @@ ghost use Rattle.bbm_events.specs.Fits.{is_root_page};
 ghost use Rattle.bbm_rules.specs.Roots as roots;
 
 use bbm_events::Header;
-use bbm_regimes::{Kind, NoMemory, Page};
+use bbm_regimes::{Kind, NoMemory, PAGE_BYTES, Page};
 use std::alloc::Global;
 
 /// So many consecutive pages. `NoMemory` where there is none.
 fn pages_from(alloc: Global, first: Page, count: u8) -> Result<Vec<Page>, NoMemory>
-    requires { first + 4096 * count ≤ 2 ^ 48 }
+    requires { first + PAGE_BYTES * count ≤ 2 ^ 48 }
     ensures { IfOk result (λ pages. pages.items ≡ roots.pages_from first count) }
 {
     let mut pages = Vec::new(alloc);
@@ -24,7 +24,7 @@ fn pages_from(alloc: Global, first: Page, count: u8) -> Result<Vec<Page>, NoMemo
 fn root_page_count(header: &Header, kind: Kind, page: Page) -> u8
     requires { is_root_page header.now.world kind page ≡ true }
     ensures value { result ≡ roots.page_count header.now.world kind }
-    ensures fits { page + 4096 * result ≤ 2 ^ 48 }
+    ensures fits { page + PAGE_BYTES * result ≤ 2 ^ 48 }
 {
     let _ = page.get();
     header.in_ranges();

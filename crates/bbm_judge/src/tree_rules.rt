@@ -1,27 +1,18 @@
 //! The rules of places of trees: locks, break-before-make and limbo; and the rewritten places of fresh pages.
 //! Source: project's own choice, where no other is named.
 
-ghost use Rattle.std.specs.Prelude.{◌≡◌, ◌≤◌, ℕ};
-ghost use Rattle.bbm_descriptor.specs.Descriptor as descriptor;
+ghost use Rattle.std.specs.Prelude.{◌≡◌, ℕ};
 ghost use Rattle.bbm_events.specs.declared.event.Event.{Event};
 ghost use Rattle.bbm_rules.specs.Rules as rules;
 ghost use Rattle.bbm_oracle_trees.specs.Past.{notes};
 
-use bbm_descriptor::{core, needs_bbm};
+use bbm_descriptor::{is_valid, needs_bbm};
 use bbm_events::Event;
 use bbm_oracle_patterns::Evidence;
 use bbm_oracle_rules::rules::without_lock;
 use bbm_oracle_tags::values::value_of;
 use bbm_oracle_trees::History;
-use bbm_regimes::{Kind, Pe, Place};
-
-/// Whether a value is valid at this kind and level, 0 to 3.
-pub fn is_valid(kind: Kind, level: u8, value: u64) -> bool
-    requires { level ≤ 3 }
-    ensures { result ≡ descriptor.is_valid kind level value }
-{
-    core(kind, level, value).is_some()
-}
+use bbm_regimes::{Pe, Place};
 
 /// The place, where a write of it by the PE lacks the lock of its tree.
 fn unlocked_write<E: Evidence>(history: &History<E>, pe: Pe, place: Place) -> Option<u64>

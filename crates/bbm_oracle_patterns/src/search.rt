@@ -1,7 +1,6 @@
 //! The last valid write of a place, and what the place holds.
 
 ghost use Rattle.std.specs.Prelude.{◌≡◌, ◌<◌, length, reverse, IfSome};
-ghost use Rattle.bbm_descriptor.specs.Descriptor.{is_valid};
 ghost use Rattle.bbm_regimes.specs.PeMask.{pe_in};
 ghost use Rattle.bbm_rules.specs.Held as spec;
 ghost use Rattle.bbm_oracle_patterns.specs.Kept.{notes_of, write_in};
@@ -11,9 +10,9 @@ ghost use Rattle.bbm_oracle_patterns.specs.PlacePhases.{phase_at, furthest};
 use crate::evidence::Evidence;
 use crate::kept::Kept;
 use crate::trace::trace_of;
-use bbm_descriptor::core;
+use bbm_descriptor::is_valid;
 use bbm_events::{Event, Header};
-use bbm_regimes::{Kind, Pe, PeMask, Place};
+use bbm_regimes::{Kind, Level, Pe, PeMask, Place};
 use bbm_rules::Phase;
 
 /// A place of a tree. Source: project's own choice.
@@ -23,8 +22,8 @@ pub struct TreePlace {
     pub place: Place,
     /// The kind of its tree.
     pub kind: Kind,
-    /// The level of its page, 0 to 3.
-    pub level: u8,
+    /// The level of its page.
+    pub level: Level,
 }
 
 /// A valid write in a log. Source: project's own choice.
@@ -46,16 +45,8 @@ enum Says {
     Older,
 }
 
-/// Whether the value is valid at this kind and level; each level above 3 is as level 3.
-fn is_valid_at(kind: Kind, level: u8, value: u64) -> bool
-    ensures { result ≡ is_valid kind level value }
-{
-    let level = if level < 3 { level } else { 3 };
-    core(kind, level, value).is_some()
-}
-
 /// What the event says of the last valid write of the place.
-fn told_by(event: &Event, kind: Kind, level: u8, place: Place) -> Says
+fn told_by(event: &Event, kind: Kind, level: Level, place: Place) -> Says
     ensures { TellsOf result kind level place event.now }
 {
     match *event {
@@ -64,7 +55,7 @@ fn told_by(event: &Event, kind: Kind, level: u8, place: Place) -> Says
             place: at,
             value,
         } => {
-            if at == place && is_valid_at(kind, level, value) {
+            if at == place && is_valid(kind, level, value) {
                 Says::ItIs(value)
             } else {
                 Says::Older
@@ -81,9 +72,9 @@ fn told_by(event: &Event, kind: Kind, level: u8, place: Place) -> Says
     }
 }
 
-/// The last valid write of the place since the last init of its page, where the place has this kind and this level,
-/// 0 to 3. The log is oldest first. None where there is no such write. It goes back from the newest event.
-pub fn last_valid(log: &[Kept], kind: Kind, level: u8, place: Place) -> Option<ValidWrite>
+/// The last valid write of the place since the last init of its page, where the place has this kind and this level.
+/// The log is oldest first. None where there is no such write. It goes back from the newest event.
+pub fn last_valid(log: &[Kept], kind: Kind, level: Level, place: Place) -> Option<ValidWrite>
     ensures found { spec.last_valid kind level place (notes_of (reverse log.now)) ≡ write_in log.now result }
     ensures within { IfSome result (λ w. w.index < length log.now) }
 {
@@ -99,15 +90,15 @@ pub fn last_valid(log: &[Kept], kind: Kind, level: u8, place: Place) -> Option<V
     None
 }
 
-/// The value that the place holds, where it has this kind and this level, 0 to 3: that of its last valid write since
-/// the last init of its page, unless it is cleansed since at every PE of the header. The log is oldest first, and the
-/// evidence has taken it.
+/// The value that the place holds, where it has this kind and this level: that of its last valid write since the last
+/// init of its page, unless it is cleansed since at every PE of the header. The log is oldest first, and the evidence
+/// has taken it.
 pub fn held<E: Evidence>(
     evidence: &E,
     header: &Header,
     log: &[Kept],
     kind: Kind,
-    level: u8,
+    level: Level,
     place: Place,
 ) -> Option<u64>
     requires { E.has_taken evidence.now header.now (notes_of (reverse log.now)) }
@@ -160,7 +151,7 @@ pub fn phase_in<E: Evidence>(
             let from = write.index + 1;
             if evidence.is_cleansed(header, log, from, seat.place) {
                 Phase::Clean
-            } else if is_valid_at(seat.kind, seat.level, value) {
+            } else if is_valid(seat.kind, seat.level, value) {
                 Phase::Live
             } else {
                 let cleansed = evidence.cleansed(header, log, from, seat.place);

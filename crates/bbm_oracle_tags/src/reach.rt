@@ -4,7 +4,7 @@ ghost use Rattle.std.specs.Prelude.{◌≡◌};
 ghost use Rattle.bbm_rules.specs.Reach as spec;
 ghost use Rattle.bbm_rules.specs.Values as values;
 
-use bbm_barriers::{Domain, Dsb, Types, completes_broadcast, completes_local, is_non};
+use bbm_barriers::{Domain, Dsb, Types, answers, is_non};
 use bbm_events::{Event, Header};
 use bbm_regimes::Pe;
 
@@ -26,13 +26,7 @@ pub fn completes(dsb: Dsb, event: &Event) -> bool
     ensures { result ≡ spec.completes dsb event.now }
 {
     match *event {
-        Event::Tlbi { op, .. } => {
-            if op.is_broadcast() {
-                completes_broadcast(dsb)
-            } else {
-                completes_local(dsb)
-            }
-        }
+        Event::Tlbi { op, .. } => answers(dsb, op.is_broadcast()),
         _ => false,
     }
 }

@@ -3,7 +3,6 @@
 ghost use Rattle.std.specs.Prelude.{◌≡◌, ℕ, not, ◌==◌, ◌&&◌, ◌||◌, false, Option, List, [], ◌∷◌, reverse, IfOk, OnOk};
 ghost use Rattle.bbm_regimes.specs.PeMask.{pe_in};
 ghost use Rattle.bbm_regimes.specs.declared.regime.Tag.{Tag as TheTag};
-ghost use Rattle.bbm_barriers.specs.Options as options;
 ghost use Rattle.bbm_tlbi_scope.specs.ScopeTags.{takes_whole_tag};
 ghost use Rattle.bbm_tlbi_scope.specs.declared.scope.Scope.{Scope as TheScope};
 ghost use Rattle.bbm_events.specs.Heading.{Heading};
@@ -20,7 +19,7 @@ use crate::reach::reaches;
 use crate::readings::{is_read, is_read_for_some};
 use crate::registers::vmid_of;
 use crate::roots::gives_up;
-use bbm_barriers::{Dsb, completes_broadcast, completes_local};
+use bbm_barriers::answers;
 use bbm_events::{Event, Header};
 use bbm_regimes::{NoMemory, Pe, PeMask, Tag};
 use bbm_tlbi_scope::{Family, Scope, decode, whole_tag};
@@ -123,17 +122,6 @@ fn takes(
         return Ok(false);
     }
     takes_tag(alloc, header, before, event, asked.tag)
-}
-
-/// Whether the DSB completes TLBIs of this sort, broadcast or not.
-fn answers(dsb: Dsb, cast: bool) -> bool
-    ensures { result ≡ options.answers dsb cast }
-{
-    if cast {
-        completes_broadcast(dsb)
-    } else {
-        completes_local(dsb)
-    }
 }
 
 /// Whether the event answers a TLBI that a PE awaits.

@@ -2,7 +2,7 @@
 
 use bbm_barriers::{Domain, Dsb, Types};
 use bbm_events::{Event, Header, NO_WORDS};
-use bbm_regimes::{HypWorld, Kind, Page, Pe, Place, Reg, World};
+use bbm_regimes::{HypWorld, Kind, Level, Page, Pe, Place, Reg, World};
 use bbm_tlbi_scope::TlbiOp;
 
 /// `bbmlog 1 hyp 2 1 1 1`
@@ -12,8 +12,8 @@ pub const HEADER: Header = Header {
     cnp: false,
     words: NO_WORDS,
     world: World::Hyp(HypWorld {
-        el2_start: 1,
-        s2_start: 1,
+        el2_start: Level::ONE,
+        s2_start: Level::ONE,
         s2_pages: 1,
     }),
 };

@@ -7,7 +7,7 @@ use bbm_oracle_patterns::{
     Kept, TreePlace, cleansed_everywhere, held, last_valid, phase_in, trace_of,
 };
 use bbm_oracle_tags::AllPatterns;
-use bbm_regimes::{Kind, Page, Pe, Place, Tag};
+use bbm_regimes::{Kind, Level, Page, Pe, Place, Tag};
 use bbm_rules::{Phase, Rule, StepFault};
 use bbm_tlbi_scope::{Cover, TagSet};
 use std::alloc::Global;
@@ -38,7 +38,7 @@ fn has_trees(alloc: Global, history: &History) -> Option<bool> {
     let below = history.node_of(Page::new(BELOW)?)?;
     let childless = history.is_childless(alloc, root, TABLE).ok()?;
     let region = root.region(place);
-    let in_tree = below.level == 2 && below.base == region.lo && !history.in_limbo(below);
+    let in_tree = below.level == Level::TWO && below.base == region.lo && !history.in_limbo(below);
     let known = history.tree().len() == 2 && !history.is_fresh(below.page);
     Some(in_tree && known && childless && history.held_at(root, place) == Some(TABLE))
 }
@@ -58,7 +58,7 @@ fn is_cleansed(log: &[Kept]) -> Option<bool> {
     if log.len() != 11 {
         return None;
     }
-    let write = last_valid(log, Kind::El2, 1, place)?;
+    let write = last_valid(log, Kind::El2, Level::ONE, place)?;
     let cleansed = trace_of(&HEADER, &log[7..], place)
         .cleansed
         .has(Pe::new(1)?);
@@ -78,10 +78,10 @@ fn said(history: &History) -> Option<Said> {
     let seat = TreePlace {
         place,
         kind: Kind::El2,
-        level: 1,
+        level: Level::ONE,
     };
     Some((
-        held(&AllPatterns, &HEADER, log, Kind::El2, 1, place),
+        held(&AllPatterns, &HEADER, log, Kind::El2, Level::ONE, place),
         phase_in(&AllPatterns, &HEADER, log, &seat, 0, pe),
         history.phase(place, pe),
         count_restless(history),

@@ -1,6 +1,6 @@
 //! Which places an event covers, and how far.
 
-ghost use Rattle.std.specs.Prelude.{◌≡◌, ◌≤◌, ℕ, true, ◌++◌, flat_map, Option, IfOk, OnOk};
+ghost use Rattle.std.specs.Prelude.{◌≡◌, ℕ, true, ◌++◌, flat_map, Option, IfOk, OnOk};
 ghost use Rattle.std.specs.Option.{option_map_or};
 ghost use Rattle.bbm_descriptor.specs.Descriptor.{desc_of};
 ghost use Rattle.bbm_tlbi_scope.specs.declared.entry.Cover.TheVariants.{None as NoCover};
@@ -22,7 +22,7 @@ use crate::tree::{first_of, is_childless, next_page};
 use bbm_descriptor::{Desc, read};
 use bbm_events::Event;
 use bbm_oracle_patterns::{Covered, Evidence};
-use bbm_regimes::{Interval, Kind, NoMemory, Page, Pe, Place};
+use bbm_regimes::{Interval, Kind, Level, NoMemory, Page, Pe, Place};
 use bbm_tlbi_scope::{Cover, PlaceView, Scope, TagSet, cover};
 use std::alloc::Global;
 
@@ -88,8 +88,7 @@ fn tags_at<E: Evidence>(
 }
 
 /// Whether the value, at this kind and level, is a leaf for every ASID.
-fn is_global(kind: Kind, level: u8, value: u64) -> bool
-    requires { level ≤ 3 }
+fn is_global(kind: Kind, level: Level, value: u64) -> bool
     ensures { result ≡ covering.is_global (desc_of kind level value) }
 {
     match read(kind, level, value) {

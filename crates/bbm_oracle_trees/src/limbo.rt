@@ -9,7 +9,7 @@ ghost use Rattle.bbm_oracle_trees.specs.Past.{notes};
 
 use crate::log::Log;
 use crate::node::{Above, Node};
-use bbm_descriptor::core;
+use bbm_descriptor::is_valid;
 use bbm_oracle_patterns::Evidence;
 use bbm_regimes::Kind;
 
@@ -17,7 +17,7 @@ use bbm_regimes::Kind;
 fn is_broken<E: Evidence>(log: &Log<E>, kind: Kind, above: &Above) -> bool
     ensures { result ≡ not (is_valid kind above.now.level (value_of (events_of (notes log.now)) above.now.place)) }
 {
-    core(kind, above.level, log.value_of(above.place)).is_none()
+    !is_valid(kind, above.level, log.value_of(above.place))
 }
 
 /// Whether the present value of a place above the page is invalid. Source: project's own choice.

@@ -15,7 +15,7 @@ ghost use Rattle.bbm_oracle_trees.specs.HistoryFits.{fits_root};
 use bbm_events::{Event, Header};
 use bbm_oracle_patterns::{Covered, Evidence, Kept, TreePlace, held, phase_in};
 use bbm_oracle_tags::{Declared, named_scope, places_in, roots_of, tag_set_of, value_of, vmid_of};
-use bbm_regimes::{Kind, NoMemory, Page, Pe, Place};
+use bbm_regimes::{Kind, Level, NoMemory, Page, Pe, Place};
 use bbm_rules::Phase;
 use bbm_tlbi_scope::{Scope, TagSet, TlbiOp};
 use std::alloc::Global;
@@ -120,14 +120,14 @@ impl<E: Evidence> Log<E> {
     }
 
     /// The value that the place holds, at this kind and level.
-    pub fn held(&self, kind: Kind, level: u8, place: Place) -> Option<u64>
+    pub fn held(&self, kind: Kind, level: Level, place: Place) -> Option<u64>
         ensures { result ≡ holding.held self.now.heading self.now.trust kind level place (notes self.now) }
     {
         held(&self.evidence, &self.header, &self.kept, kind, level, place)
     }
 
     /// The phase at the PE of a place of a tree, at this kind and level, with this value.
-    pub fn phase_in(&self, kind: Kind, level: u8, place: Place, value: u64, pe: Pe) -> Phase
+    pub fn phase_in(&self, kind: Kind, level: Level, place: Place, value: u64, pe: Pe) -> Phase
         ensures { result ≡ phase_at self.now.heading self.now.trust kind level place value pe (notes self.now) }
     {
         let seat = TreePlace { place, kind, level };

@@ -5,7 +5,7 @@ ghost use Rattle.std.specs.Prelude.{◌≡◌, ◌<◌, ◌∷◌, IfOk};
 ghost use Rattle.bbm_rules.specs.Tree as trees;
 
 use bbm_events::input_pages;
-use bbm_regimes::{Interval, Kind, NoMemory, Page, Place};
+use bbm_regimes::{Interval, Kind, Level, NoMemory, Page, Place};
 use std::alloc::Global;
 use std::marker::Model;
 
@@ -14,19 +14,16 @@ use std::marker::Model;
 pub struct Above {
     /// The place.
     pub place: Place,
-    /// Its level, 0 to 3.
-    pub level: u8,
+    /// Its level.
+    pub level: Level,
 }
 
 impl Model for Above {
-    ghost use Rattle.std.specs.Prelude.{◌≤◌};
     ghost use Rattle.bbm_rules.specs.Tree as trees;
 
     ghost Value = { trees.Above };
 
     ghost view = { λ a. record { place = a.place; level = a.level } };
-
-    ghost invariant = { λ a. a.level ≤ 3 };
 
     ghost inverse = { λ a. record { place = a.place; level = a.level } };
 }
@@ -38,8 +35,8 @@ pub struct Node {
     pub page: Page,
     /// The kind of the tree.
     pub kind: Kind,
-    /// The level of the page, 0 to 3.
-    pub level: u8,
+    /// The level of the page.
+    pub level: Level,
     /// The first page of the root.
     pub root: Page,
     /// The input page number at which the region of the page begins.
@@ -51,6 +48,7 @@ pub struct Node {
 impl Model for Node {
     ghost use Rattle.std.specs.Prelude.{◌≤◌, ◌+◌, ◌*◌, ◌^◌};
     ghost use Rattle.bbm_regimes.specs.World.{input_pages};
+    ghost use Rattle.bbm_regimes.specs.declared.address.TheConstants.{PLACES};
     ghost use Rattle.bbm_rules.specs.Tree as trees;
 
     ghost Value = { trees.Node };
@@ -64,7 +62,7 @@ impl Model for Node {
       above = n.above.items;
     } };
 
-    ghost invariant = { λ n. (n.level ≤ 3) × (n.base + 512 * input_pages n.level ≤ 2 ^ 45) };
+    ghost invariant = { λ n. n.base + PLACES * input_pages n.level ≤ 2 ^ 45 };
 }
 
 impl Node {
@@ -107,7 +105,7 @@ impl Node {
         Ok(Node {
             page: next,
             kind: self.kind,
-            level: self.level + 1,
+            level: self.level.below().unwrap(),
             root: self.root,
             base: self.start(place),
             above: self.above_next(alloc, place)?,

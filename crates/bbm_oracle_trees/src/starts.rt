@@ -10,7 +10,7 @@ ghost use Rattle.bbm_oracle_trees.specs.HistoryFits.{fits_root};
 use crate::node::Node;
 use bbm_events::{Header, input_pages};
 use bbm_oracle_tags::Declared;
-use bbm_regimes::{Kind, NoMemory, Page};
+use bbm_regimes::{Kind, Level, NoMemory, PAGE_BYTES, PLACES, Page};
 use std::alloc::Global;
 
 /// The number of pages of a root of the kind, 1 to 16; 0 where the kind isn't one of the header's world.
@@ -38,8 +38,8 @@ pub fn add(nodes: &mut Vec<Node>, node: Node) -> Result<(), NoMemory>
 struct Start {
     /// The kind of the tree.
     kind: Kind,
-    /// The level, 0 to 3.
-    level: u8,
+    /// The level.
+    level: Level,
     /// The first page of the root.
     root: Page,
     /// The first input page.
@@ -48,14 +48,13 @@ struct Start {
 
 /// Adds so many consecutive pages of a root.
 fn add_pages(alloc: Global, start: &Start, count: u8, nodes: &mut Vec<Node>) -> Result<(), NoMemory>
-    requires level { start.now.level ≤ 3 }
     requires count { count ≤ 16 }
     requires first { start.now.first ≤ 2 ^ 44 }
-    requires pages { start.now.root + 4096 * count ≤ 2 ^ 48 }
+    requires pages { start.now.root + PAGE_BYTES * count ≤ 2 ^ 48 }
     ensures { OnOk result (nodes.new.items ≡ nodes.old.items ++ nodes_of_pages start.now.kind start.now.level
         start.now.root start.now.first (pages_from start.now.root count)) }
 {
-    let size = 512 * input_pages(start.level);
+    let size = PLACES * input_pages(start.level);
     for index in 0..count {
         let node = Node {
             page: start.root.behind(index),
@@ -95,7 +94,7 @@ fn add_root(
 pub fn add_starts(
     alloc: Global,
     header: &Header,
-    level: u8,
+    level: Level,
     roots: &[Declared],
     nodes: &mut Vec<Node>,
 ) -> Result<(), NoMemory>

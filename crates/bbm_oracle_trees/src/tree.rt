@@ -1,6 +1,6 @@
 //! The trees of the declared roots.
 
-ghost use Rattle.std.specs.Prelude.{◌≡◌, ◌≤◌, ◌<◌, ◌==◌, ◌++◌, true, All, find, flat_map, is_some, IfOk, OnOk};
+ghost use Rattle.std.specs.Prelude.{◌≡◌, ◌<◌, ◌==◌, ◌++◌, true, All, find, flat_map, is_some, IfOk, OnOk};
 ghost use Rattle.std.specs.Prelude.{IfSome, option_copied, option_to_list};
 ghost use Rattle.bbm_rules.specs.Lists.{any};
 ghost use Rattle.bbm_rules.specs.Tree as trees;
@@ -13,13 +13,12 @@ use crate::starts::{add, add_starts};
 use bbm_descriptor::{Desc, read};
 use bbm_oracle_patterns::Evidence;
 use bbm_oracle_tags::Declared;
-use bbm_regimes::{Kind, NoMemory, Page, Place};
+use bbm_regimes::{Kind, Level, NoMemory, Page, Place};
 use std::alloc::Global;
 
-/// The next page of a value at this kind and level, 0 to 3; None where it is no table. Source: Arm ARM (DDI 0487),
+/// The next page of a value at this kind and level; None where it is no table. Source: Arm ARM (DDI 0487),
 /// "VMSAv8-64 descriptor formats".
-pub fn next_page(kind: Kind, level: u8, value: u64) -> Option<Page>
-    requires { level ≤ 3 }
+pub fn next_page(kind: Kind, level: Level, value: u64) -> Option<Page>
     ensures value { result ≡ trees.next_of kind level value }
     ensures low { IfSome result (λ next. level < 3) }
 {
@@ -106,7 +105,7 @@ fn level_nodes<E: Evidence>(
     alloc: Global,
     log: &Log<E>,
     roots: &[Declared],
-    level: u8,
+    level: Level,
     parents: &[Node],
 ) -> Result<Vec<Node>, NoMemory>
     requires { All (λ root. fits_root log.now.heading root ≡ true) roots.now }
@@ -133,10 +132,10 @@ pub fn tree_of<E: Evidence>(alloc: Global, log: &Log<E>) -> Result<Vec<Node>, No
     ensures { IfOk result (λ nodes. nodes.items ≡ trees.tree log.now.heading log.now.trust (notes log.now)) }
 {
     let roots = log.roots(alloc)?;
-    let mut nodes = level_nodes(alloc, log, &roots, 0, &[])?;
-    let first = level_nodes(alloc, log, &roots, 1, &nodes)?;
-    let second = level_nodes(alloc, log, &roots, 2, &first)?;
-    let third = level_nodes(alloc, log, &roots, 3, &second)?;
+    let mut nodes = level_nodes(alloc, log, &roots, Level::ZERO, &[])?;
+    let first = level_nodes(alloc, log, &roots, Level::ONE, &nodes)?;
+    let second = level_nodes(alloc, log, &roots, Level::TWO, &first)?;
+    let third = level_nodes(alloc, log, &roots, Level::THREE, &second)?;
     add_all(&mut nodes, first)?;
     add_all(&mut nodes, second)?;
     add_all(&mut nodes, third)?;
@@ -163,7 +162,7 @@ pub fn has_page(nodes: &[Node], page: Page) -> bool
 }
 
 /// Whether one of the places holds something, at this kind and level.
-fn holds_some<E: Evidence>(log: &Log<E>, kind: Kind, level: u8, places: &[Place]) -> bool
+fn holds_some<E: Evidence>(log: &Log<E>, kind: Kind, level: Level, places: &[Place]) -> bool
     ensures { result ≡ any (trees.holds_some log.now.heading log.now.trust (notes log.now) kind level) places.now }
 {
     for place in places {
@@ -188,7 +187,7 @@ pub fn is_childless<E: Evidence>(
     match next_page(node.kind, node.level, value) {
         Some(next) => {
             let places = log.places_in(alloc, next)?;
-            Ok(!holds_some(log, node.kind, node.level + 1, &places))
+            Ok(!holds_some(log, node.kind, node.level.below().unwrap(), &places))
         }
         None => Ok(false),
     }

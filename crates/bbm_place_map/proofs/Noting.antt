@@ -7,7 +7,7 @@ use Rattle.bbm_place_map.proofs.Common.{Found, NotesAmong, NotesFound, cover_in,
 use Rattle.bbm_place_map.proofs.Common.{NoCover, split_at, either}
 use Rattle.bbm_place_map.proofs.Common.{KeepsOthers, KeepsUnfound}
 use Rattle.std.specs.Prelude.{Result, Ok, Err, OnErr}
-use Rattle.bbm_descriptor.specs.Descriptor.{same_bool}
+use Rattle.bbm_lemmas.specs.ListWords.{same_flag}
 
 -- where room is made before a TLBI is noted
 pub notes_over : (cover : Cover) (by : Issuing) (e f g : Entry) → Keeps e f → NotesAs cover by f g → NotesAs cover by e g
@@ -22,8 +22,8 @@ nothing = proved 3 (λ x y w. Is w ((x && (y && false)) || w)) refl
 
 -- a TLBI that doesn't cover the place leaves what waits
 pub noted_none : (marks : Marks) (r : Pends) (reach : PeMask) (broadcast : Bool) → Noted (Broken marks) r reach broadcast NoCover r
-noted_none marks r reach broadcast b NoCover p = nothing (same_bool broadcast b) (pe_in reach p) (waits r b NoCover p)
-noted_none marks r reach broadcast b c p = nothing (same_bool broadcast b) (pe_in reach p) (waits r b c p)
+noted_none marks r reach broadcast b NoCover p = nothing (same_flag broadcast b) (pe_in reach p) (waits r b NoCover p)
+noted_none marks r reach broadcast b c p = nothing (same_flag broadcast b) (pe_in reach p) (waits r b c p)
 
 pub notes_at : (covers : List Cover) (k : ℕ) (cover : Cover) (by : Issuing) (e f : Entry)
     → slice_get covers k ≡ Some cover → NotesAs cover by e f → NotesAt covers by k e f

@@ -5,7 +5,7 @@ use Rattle.bbm_replay.proofs.Common.{MayBeIssued, NamedTlbi, Laws, MetFromAll, N
 use Rattle.bbm_rules.proofs.Common.{◌≡◌, ℕ, zero, suc, ◌+◌, ◌-◌, ◌*◌, ◌%◌, ◌<◌, ◌≤◌, ◌&&◌, ◌||◌, nat_le, Bool, true}
 use Rattle.bbm_rules.proofs.Common.{false, cond, List, [], length, Option, Some, None, Contains, slice_index_or}
 use Rattle.bbm_rules.proofs.Common.{is_some, refl, sym, ◌∙◌, ap, subst, arith, true≢false, not-suc-le-zero}
-use Rattle.bbm_rules.proofs.Common.{le_of_suc-le-suc, and_parts, leb-true, same_bool, page_count, PeMask, Kind, Cover}
+use Rattle.bbm_rules.proofs.Common.{le_of_suc-le-suc, and_parts, leb-true, same_flag, page_count, PeMask, Kind, Cover}
 use Rattle.bbm_rules.proofs.Common.{Half, Second, Full, PlaceView, Patterns, cover_at, events_of, page_of, Event}
 use Rattle.bbm_rules.proofs.Common.{TlbiOp, Tlbi, Declared, kind_in_world, pages_from, root_at, root_pages, Node}
 use Rattle.bbm_rules.proofs.Common.{held_at, node_of, region_of, region_start, ◌/◌, ◌^◌}
@@ -68,13 +68,13 @@ noted_none state p reach broadcast b c q = sym (by c)
     uncounted : (state : EntryState) → counts_at state NoCover q ≡ false
     uncounted state = grind arith
 
-    by : (c : Cover) → ((same_bool broadcast b && (pe_in reach q && (same_cover c NoCover && counts_at state c q))) || waits p b c q)
+    by : (c : Cover) → ((same_flag broadcast b && (pe_in reach q && (same_cover c NoCover && counts_at state c q))) || waits p b c q)
         ≡ waits p b c q
-    by NoCover = ap (λ z. (same_bool broadcast b && (pe_in reach q && z)) || waits p b NoCover q) (uncounted state)
-        ∙ or_nothing (same_bool broadcast b) (pe_in reach q) (waits p b NoCover q)
-    by Half = or_nothing (same_bool broadcast b) (pe_in reach q) (waits p b Half q)
-    by Second = or_nothing (same_bool broadcast b) (pe_in reach q) (waits p b Second q)
-    by Full = or_nothing (same_bool broadcast b) (pe_in reach q) (waits p b Full q)
+    by NoCover = ap (λ z. (same_flag broadcast b && (pe_in reach q && z)) || waits p b NoCover q) (uncounted state)
+        ∙ or_nothing (same_flag broadcast b) (pe_in reach q) (waits p b NoCover q)
+    by Half = or_nothing (same_flag broadcast b) (pe_in reach q) (waits p b Half q)
+    by Second = or_nothing (same_flag broadcast b) (pe_in reach q) (waits p b Second q)
+    by Full = or_nothing (same_flag broadcast b) (pe_in reach q) (waits p b Full q)
 
 module _ {heading : Heading} {h : List Event} (ev : events_of (notes heading h) ≡ h) {map : PlaceMap} {index : TreeIndex}
     {state : Roots} {pe : ℕ} {op : TlbiOp} {xt : ℕ} {named : NamedTlbi}

@@ -49,7 +49,6 @@ fn phase_of_state(state: &EntryState, pe: Pe) -> Phase
 impl ReplayState {
     /// The state of a place of a tree.
     pub(crate) fn state_at(&self, place: Place, path: &Path) -> EntryState
-        requires { path.now.level ≤ 3 }
         ensures { result ≡ state_of (view_of self.now.map self.now.index) path.now.kind path.now.level place }
     {
         self.map.state_by(place, path.kind, path.level)

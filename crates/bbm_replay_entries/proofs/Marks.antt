@@ -1,7 +1,7 @@
 -- What one more event does to the masks and the pendings of a broken place.
 use Rattle.bbm_rules.proofs.Common.{◌≡◌, ℕ, ◌<◌, Bool, true, false, cond, not, ◌&&◌, ◌||◌, ◌==◌, nat_eq, List, ◌∷◌}
 use Rattle.bbm_rules.proofs.Common.{is_some, refl, sym, ◌∙◌, ap, inl, inr, true≢false, and_parts, eq-eqb, eqb-true}
-use Rattle.bbm_rules.proofs.Common.{or_cases, proved, If, Is, answers, is_non, same_bool, PeMask, operation, Cover}
+use Rattle.bbm_rules.proofs.Common.{or_cases, proved, If, Is, answers, is_non, same_flag, PeMask, operation, Cover}
 use Rattle.bbm_rules.proofs.Common.{Half, Second, Full, Patterns, cleansed, flushes, half, same_cover, seen, writes}
 use Rattle.bbm_rules.proofs.Common.{Noted, reaches, publishes_to, subst, arith}
 use Rattle.std.proofs.Math.Bool.{and-false, and-true, and_assoc}
@@ -107,7 +107,7 @@ issued_idle state q reach broadcast cover pends pends' unbroken issues others id
       issues b c p,
       counts_nowhere state c p unbroken,
       and-false (same_cover c cover),
-      or_nothing (same_bool broadcast b) (pe_in reach p) (waits_at (pends q) b c p),
+      or_nothing (same_flag broadcast b) (pe_in reach p) (waits_at (pends q) b c p),
       idle q b c p,
     )
 
@@ -169,7 +169,7 @@ module _ (heading : Heading) (k : Known heading) (place : ℕ) where
   module _ (n : Noted) (since : List Noted) (q : ℕ) (op : TlbiOp) (xt : ℕ) (is : n.event ≡ Tlbi q op xt) where
     -- what waits after the TLBI, by what waited before
     abbrev told : ℕ → ℕ → Bool → Cover → Bool → Bool
-    told p i b c before = (q == i && (same_bool (operation op).broadcast b && (reaches heading (Tlbi q op xt) p
+    told p i b c before = (q == i && (same_flag (operation op).broadcast b && (reaches heading (Tlbi q op xt) p
         && (same_cover (n.covers place) c && counts heading place p c since)))) || before
 
     tlbi_waits : (p i : ℕ) (b : Bool) (c : Cover) → cover_waits heading place p i b c (n ∷ since)
@@ -215,7 +215,7 @@ module _ (heading : Heading) (k : Known heading) (place : ℕ) where
     pub marked_unreached : (state : EntryState) (pends : ℕ → Pends) → ((p : ℕ) → p < heading.pes → reaches heading (Tlbi q op xt) p ≡ false)
         → Marked heading place since state pends → Marked heading place (n ∷ since) state pends
     marked_unreached state pends unreached m = tlbi_marks state pends pends m (λ p below i b c.
-        cc (unreached p below, or_nothing (q == i) (same_bool (operation op).broadcast b) (waits_at (pends i) b c p)))
+        cc (unreached p below, or_nothing (q == i) (same_flag (operation op).broadcast b) (waits_at (pends i) b c p)))
 
     uncovered : (c : Cover) (p : ℕ) → (same_cover NoCover c && counts heading place p c since) ≡ false
     uncovered c p = grind arith
@@ -227,7 +227,7 @@ module _ (heading : Heading) (k : Known heading) (place : ℕ) where
           none,
           uncovered c p,
           and-false (reaches heading (Tlbi q op xt) p),
-          or_nothing (q == i) (same_bool (operation op).broadcast b) (waits_at (pends i) b c p),
+          or_nothing (q == i) (same_flag (operation op).broadcast b) (waits_at (pends i) b c p),
         ))
 
   -- ---- a DSB

@@ -8,6 +8,7 @@ use Rattle.bbm_rules.proofs.Common.{last_valid_after, later, Noted, events_of, v
 use Rattle.std.proofs.Math.Bool.{and-false, and-true}
 use Rattle.bbm_barriers.specs.declared.Dsb.{Dsb as Barrier}
 use Rattle.bbm_lemmas.proofs.Every.{every_none}
+use Rattle.bbm_lemmas.proofs.Words.{none_is, some_is}
 use Rattle.bbm_entry_state.specs.EntryCalls.{Completed, Written, clean_after, core_after}
 use Rattle.bbm_entry_state.specs.Points.{core_in, is_broken, waits as waits_at, writer_at}
 use Rattle.bbm_entry_state.specs.EntryStanding.{IsIdle, KeepsPends}
@@ -26,15 +27,6 @@ use Rattle.bbm_replay_entries.specs.EntryStands.{ByValue, EntryStands, core_now,
 use Rattle.bbm_replay_entries.proofs.Marks.{Middle, both_written, clean_now, is_still, marked_blank, marked_dsb}
 use Rattle.bbm_replay_entries.proofs.Marks.{marked_still, middle}
 use Rattle.bbm_replay_entries.proofs.Since.{cleansed_on, unwritten}
-
--- ---- options
-
-none_is : {A : Type 0} (o : Option A) → is_some o ≡ false → o ≡ None
-none_is o e = grind arith
-
-some_is : {A : Type 0} (o : Option A) → is_some o ≡ true → (x : A) × (o ≡ Some x)
-some_is None e = absurd (true≢false (sym e))
-some_is (Some x) e = (x, refl)
 
 unclean : (mid : EntryState) (pends : Pends) (dsb : Barrier) → is_broken mid ≡ false → (p : ℕ) → clean_after mid pends dsb p ≡ false
 unclean mid pends dsb t p = grind arith

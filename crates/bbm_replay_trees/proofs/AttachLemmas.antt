@@ -5,7 +5,7 @@ use Rattle.bbm_rules.proofs.Common.{refl, sym, ◌∙◌, ap, inl, inr, arith, K
 use Rattle.bbm_rules.proofs.Common.{Write, attached_by, attached_from, Patterns, if_so, least, Noted, page_of}
 use Rattle.bbm_rules.proofs.Common.{root_pages, start_of, made_with, not_fresh, Node, held_at, next_of, node_below}
 use Rattle.bbm_rules.proofs.Common.{node_of, nodes_of_root, from_contains, to_contains, subst}
-use Rattle.bbm_replay_trees.proofs.FitLemmas.{none_is}
+use Rattle.bbm_lemmas.proofs.Words.{none_is}
 use Rattle.bbm_events.specs.Heading.{Heading}
 use Rattle.bbm_histories.specs.TreeChanges.{Proper}
 use Rattle.bbm_replay_trees.specs.BelowTrees.{Below}

@@ -4,35 +4,24 @@ use Rattle.bbm_rules.proofs.Common.{Option, Some, None, is_some, filter, map, re
 use Rattle.bbm_rules.proofs.Common.{true≢false, arith, and_parts, option_map_or, is_valid, Event, Patterns, below}
 use Rattle.bbm_rules.proofs.Common.{events_of, is_restless, page_of, Node, held_at, node_of, value_of, written_places}
 use Rattle.bbm_rules.proofs.Common.{In, from_filter, from_map, in_map, to_filter, any_finds, any_found, eq-eqb}
-use Rattle.bbm_rules.proofs.Common.{eqb-true, nat_eq, ne_eqb}
+use Rattle.bbm_rules.proofs.Common.{eqb-true, nat_eq}
 use Rattle.std.proofs.lemmas.List.Sums.{length-filter}
 use Rattle.bbm_events.specs.Heading.{Heading}
 use Rattle.bbm_rules.specs.Phases.{restless_of}
 use Rattle.bbm_replay_trees.specs.BelowTrees.{Below}
 use Rattle.bbm_replay_trees.specs.Restless.{Numbers}
 use Rattle.bbm_replay_trees.specs.Told.{notes}
-use Rattle.bbm_lemmas.proofs.Words.{Apart, below_less, filter_apart, in_below}
+use Rattle.bbm_lemmas.proofs.Words.{Apart, apart_distinct, below_less, filter_apart, in_below, some_is}
 use Rattle.bbm_rules.proofs.HeldLemmas.{held_is_written}
-use Rattle.bbm_replay_trees.proofs.FitLemmas.{some_is}
 use Rattle.bbm_rules.proofs.Twice.{apart_written}
-use Rattle.std.specs.List.{AllByRecursion, IsDistinct}
 use Rattle.std.proofs.lemmas.Cmp.{nat_eq_equiv}
 use Rattle.std.proofs.lemmas.Map.Made.{length-le_from_is_member}
 
 -- ---- lists without repeats
 
-distinct : (xs : List ℕ) → Apart xs → IsDistinct nat_eq xs
-unfolding IsDistinct
-distinct [] a = tt
-distinct (x ∷ xs) a = (none xs a.0, distinct xs a.1)
-  where
-    none : (ys : List ℕ) → (In ys x → ⊥) → AllByRecursion (λ y. nat_eq x y ≡ false) ys
-    none [] out = tt
-    none (y ∷ ys) out = (ne_eqb x y (λ e. out (inl (sym e))), none ys (λ i. out (inr i)))
-
 part_length : (xs ys : List ℕ) → Apart xs → ((a : ℕ) → In xs a → In ys a) → length xs ≤ length ys
 part_length xs ys a part =
-    length-le_from_is_member nat_eq_equiv xs ys (distinct xs a)
+    length-le_from_is_member nat_eq_equiv xs ys (apart_distinct xs a)
     (λ q k. let f = any_found (nat_eq q) xs k in
     any_finds (nat_eq q) ys q (part q (subst (In xs) (sym (eqb-true q f.0 f.2)) f.1)) (eq-eqb q q refl))
 

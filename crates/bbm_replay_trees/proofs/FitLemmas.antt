@@ -2,20 +2,12 @@
 use Rattle.bbm_rules.proofs.Common.{◌≡◌, ℕ, ◌%◌, ◌^◌, ◌&&◌, ◌==◌, nat_lt, List, [], ◌∷◌, subst, inl, inr, and_from}
 use Rattle.bbm_rules.proofs.Common.{and_parts, eq-eqb, eqb-true, fits_heading, is_pe, is_place, is_value, Event, Write}
 use Rattle.bbm_rules.proofs.Common.{Patterns, every, events_of, page_of, places_in, value_of, written_places, In}
-use Rattle.bbm_rules.proofs.Common.{from_filter, to_filter, true, Option, None, Some, is_some, false, arith, refl, sym}
-use Rattle.bbm_rules.proofs.Common.{true≢false}
+use Rattle.bbm_rules.proofs.Common.{from_filter, to_filter, true}
 use Rattle.bbm_events.specs.Heading.{Heading}
 use Rattle.bbm_rules.proofs.TreeLaw.{written_by}
 use Rattle.bbm_replay_trees.specs.Told.{AllFit, is_at, notes}
 use Rattle.bbm_lemmas.proofs.Words.{in_with}
 use Rattle.bbm_tree_index.proofs.Places.{at_page}
-
-pub none_is : {A : Type 0} (o : Option A) → is_some o ≡ false → o ≡ None
-none_is o e = grind arith
-
-pub some_is : {A : Type 0} (o : Option A) → is_some o ≡ true → (x : A) × (o ≡ Some x)
-some_is None e = absurd (true≢false (sym e))
-some_is (Some x) e = (x, refl)
 
 module _ (heading : Heading) where
   -- a written place is an address of a descriptor

@@ -4,7 +4,7 @@ use Rattle.bbm_rules.proofs.Common.{None, is_some, Contains, refl, sym, ◌∙�
 use Rattle.bbm_rules.proofs.Common.{Event, Root, Unroot, Write, Dsb, Barrier, attached_by, keeps, Patterns, noted, held}
 use Rattle.bbm_rules.proofs.Common.{every, Noted, is_fresh, page_of, Above, Node, held_at, next_of, node_below, node_of}
 use Rattle.bbm_rules.proofs.Common.{nodes_of_root, In, from_contains, to_contains, arith, false_from_ne_true}
-use Rattle.bbm_replay_trees.proofs.FitLemmas.{none_is, some_is}
+use Rattle.bbm_lemmas.proofs.Words.{none_is, some_is}
 use Rattle.bbm_events.specs.Heading.{Heading}
 use Rattle.bbm_histories.specs.TreeChanges.{Attaches, Proper, Through as ThroughIn}
 use Rattle.bbm_histories.specs.TreeSteps.{holds_above, is_under, node_where}

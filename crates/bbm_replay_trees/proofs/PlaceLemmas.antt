@@ -8,7 +8,8 @@ use Rattle.bbm_replay_trees.specs.BelowTrees.{Below}
 use Rattle.bbm_replay_trees.specs.Told.{AllFit, Childless, SameCores, SameNodes, is_at, next_in, notes}
 use Rattle.bbm_replay_trees.proofs.AttachLemmas.{core_some}
 use Rattle.bbm_tree_index.proofs.Places.{at_page}
-use Rattle.bbm_replay_trees.proofs.FitLemmas.{is_at_page, none_is, some_is}
+use Rattle.bbm_replay_trees.proofs.FitLemmas.{is_at_page}
+use Rattle.bbm_lemmas.proofs.Words.{none_is, some_is}
 use Rattle.bbm_replay_trees.proofs.HangLemmas.{down, table_core}
 use Rattle.bbm_rules.proofs.HeldLemmas.{held_is_written}
 

@@ -13,7 +13,7 @@ ghost use Rattle.bbm_report.specs.Further.{Found};
 use crate::questions::Question;
 use bbm_descriptor::Walk;
 use bbm_events::Header;
-use bbm_regimes::{Kind, Page};
+use bbm_regimes::{Kind, PAGE_BYTES, Page};
 use bbm_rules::Checker;
 use bbm_walk_s1::S1Root;
 use bbm_walk_s2::S2Root;
@@ -40,14 +40,14 @@ fn joined_pages(header: &Header) -> u8
 
 /// The stage 2 root at the page, None where the page isn't aligned to all pages of a root.
 fn joined_root(header: &Header, page: Page) -> Option<S2Root>
-    ensures aligned { IsSome result ↔ (page % (4096 * worlds.page_count header.now.world S2) ≡ 0) }
+    ensures aligned { IsSome result ↔ (page % (PAGE_BYTES * worlds.page_count header.now.world S2) ≡ 0) }
     ensures start { IfSome result (λ root. root.start ≡ worlds.start_of header.now.world S2) }
     ensures pages { IfSome result (λ root. root.pages ≡ worlds.page_count header.now.world S2) }
     ensures page { IfSome result (λ root. root.page ≡ page) }
 {
     let start = header.start_level(Kind::S2);
     let pages = joined_pages(header);
-    if page.get() % (4096 * pages as u64) == 0 {
+    if page.get() % (PAGE_BYTES * pages as u64) == 0 {
         Some(S2Root { start, pages, page })
     } else {
         None

@@ -20,11 +20,11 @@ pub fn walk_text(walk: Walk, out: &mut ArrayVec<u8, 200>)
             add(out, b"walk out ");
             add_hex(out, addr);
             add(out, b" level ");
-            add_decimal(out, level as u64);
+            add_decimal(out, level.get() as u64);
         }
         Walk::Fault { level } => {
             add(out, b"walk fault level ");
-            add_decimal(out, level as u64);
+            add_decimal(out, level.get() as u64);
         }
     }
     add(out, b"\n");

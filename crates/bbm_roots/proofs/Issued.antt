@@ -4,7 +4,6 @@ use Rattle.bbm_roots.proofs.Common.{Result, TlbiOp, Scope, Heading, Event, Tlbi,
 use Rattle.bbm_roots.proofs.Common.{is_tlbi, Option, Some, None, refl, ap, List, Tag, takes_whole_tag}
 use Rattle.bbm_roots.proofs.Common.{same_flag}
 use Rattle.std.specs.Result.{result_ok}
-use Rattle.bbm_descriptor.specs.Descriptor.{same_bool}
 use Rattle.bbm_range.specs.declared.BadRange.{BadRange}
 use Rattle.bbm_range.specs.declared.Range.{Range}
 use Rattle.bbm_range.specs.RangePages.{range_of}
@@ -34,10 +33,6 @@ named-broadcast heading h pe op xt scope e = grind (arith, scope-broadcast op xt
 
 -- ---- what it takes, and where
 
-flag : (a b : Bool) → same_flag a b ≡ same_bool a b
-flag true b = refl
-flag false b = refl
-
 takes-by : (heading : Heading) (h : List Event) (pe : ℕ) (op : TlbiOp) (xt : ℕ) (tag : Tag) (scope : Scope)
     → named_scope heading h pe op xt ≡ Some scope
     → takes_tag heading (Tlbi pe op xt) h tag ≡ takes_whole_tag scope (vmid_of heading h pe) tag
@@ -61,7 +56,7 @@ pub issue-is : (heading : Heading) (h : List Event) (pe : ℕ) (op : TlbiOp) (xt
     ≡ ((nat_eq q pe && same_flag scope.broadcast b && takes_whole_tag scope vmid tag) && (scope.broadcast || nat_eq p pe))
 issue-is heading h pe op xt scope vmid named q b tag p =
     rw (takes-by heading h pe op xt tag scope named.0, ← named-broadcast heading h pe op xt scope named.0)
-    (rw (← named.1, same_swapped pe q, same_swapped pe p, ← flag scope.broadcast b)
+    (rw (← named.1, same_swapped pe q, same_swapped pe p)
     (turn (q == pe) (same_flag scope.broadcast b) scope.broadcast (not heading.cnp) (p == pe) (takes_whole_tag scope vmid tag) named.2))
   where
     turn : (a s x n d t : Bool) → (x || n) ≡ true → (a && (s && ((x || (n && d)) && t))) ≡ (((a && s) && t) && (x || d))

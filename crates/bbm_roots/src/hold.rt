@@ -16,10 +16,10 @@ ghost use Rattle.bbm_roots.specs.Readings.{has_tag as spec_has_tag};
 ghost use Rattle.bbm_roots.specs.TagsByRoot.{is_listed, AreListed};
 
 use crate::by_root::{ByRoot, Tags, list, unlist};
-use crate::pending::{Waits, answers, slot};
+use crate::pending::{Waits, slot};
 use crate::reading::Reading;
 use crate::tag_key::TagKey;
-use bbm_barriers::Dsb;
+use bbm_barriers::{Dsb, answers};
 use bbm_regimes::{NoMemory, Page, Pe, PeCount, PeMask, Tag};
 use indexmap::IndexMap;
 use std::alloc::Global;

@@ -4,7 +4,6 @@
 ghost use Rattle.std.specs.Prelude.{◌≡◌, ℕ, ◌+◌, ◌<◌, ◌≤◌, Bool, ◌&&◌, ◌||◌, not, nat_eq, true, false, None, OnOk};
 ghost use Rattle.std.specs.Prelude.{if◌then◌else◌, length};
 ghost use Rattle.indexmap.specs.IndexMap.{get};
-ghost use Rattle.bbm_barriers.specs.Options.{answers as dsb_answers};
 ghost use Rattle.bbm_regimes.specs.PeMask.{pe_in};
 ghost use Rattle.bbm_regimes.specs.declared.regime.Tag.{Tag as TheTag};
 ghost use Rattle.bbm_roots.specs.Holds.{tag_key as key_of};
@@ -14,7 +13,6 @@ ghost use Rattle.bbm_roots.specs.Readings.{has_tag as spec_has_tag, same_tag as 
 
 use crate::reading::Reading;
 use crate::tag_key::TagKey;
-use bbm_barriers::{Dsb, completes_broadcast, completes_local};
 use bbm_regimes::{NoMemory, Pe, PeMask, Tag};
 use indexmap::IndexMap;
 use std::alloc::Global;
@@ -40,18 +38,6 @@ pub fn no_pendings(alloc: Global) -> Pendings
     Pendings {
         issuers: PeMask::none(),
         waits: Vec::new(alloc),
-    }
-}
-
-/// Whether a DSB answers its issuer's TLBIs that are broadcast, or that aren't. Source: Arm ARM (DDI 0487), "TLB
-/// maintenance instructions".
-pub fn answers(dsb: Dsb, broadcast: bool) -> bool
-    ensures { result ≡ dsb_answers dsb broadcast }
-{
-    if broadcast {
-        completes_broadcast(dsb)
-    } else {
-        completes_local(dsb)
     }
 }
 

@@ -37,8 +37,7 @@ pub use Rattle.bbm_barriers.specs.Options.{answers, is_non}
 pub use Rattle.bbm_barriers.specs.declared.Domain.TheVariants.{Inner}
 pub use Rattle.bbm_barriers.specs.declared.Types.TheVariants.{All, Stores}
 pub use Rattle.bbm_descriptor.specs.Descriptor.{Form, core_in, core_of, desc_as, desc_of, desc_with, differ, form_01}
-pub use Rattle.bbm_descriptor.specs.Descriptor.{form_11, form_of, invalid, is_valid, leaf, needs, same_bool, same_core}
-pub use Rattle.bbm_descriptor.specs.Descriptor.{valid_form}
+pub use Rattle.bbm_descriptor.specs.Descriptor.{form_11, form_of, invalid, is_valid, leaf, needs, same_core, valid_form}
 pub use Rattle.bbm_descriptor.specs.Fields.{contiguous_of, type_bits}
 pub use Rattle.bbm_descriptor.specs.declared.desc.Core.{Core}
 pub use Rattle.bbm_descriptor.specs.declared.desc.Desc.{Desc}

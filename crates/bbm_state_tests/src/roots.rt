@@ -3,7 +3,7 @@
 use crate::example::first_root;
 use bbm_barriers::{Domain, Dsb, Types};
 use bbm_events::{Header, NO_WORDS};
-use bbm_regimes::{HypWorld, Kind, NoMemory, Page, Pe, Tag, World};
+use bbm_regimes::{HypWorld, Kind, Level, NoMemory, Page, Pe, Tag, World};
 use bbm_roots::Roots;
 use bbm_tlbi_scope::{TagSet, TlbiOp};
 use std::test::Fail;
@@ -15,8 +15,8 @@ const HYP: Header = Header {
     cnp: false,
     words: NO_WORDS,
     world: World::Hyp(HypWorld {
-        el2_start: 1,
-        s2_start: 1,
+        el2_start: Level::ONE,
+        s2_start: Level::ONE,
         s2_pages: 1,
     }),
 };

@@ -2,7 +2,7 @@
 
 use bbm_events::{Header, NO_WORDS};
 use bbm_place_map::PlaceMap;
-use bbm_regimes::{HypWorld, Page, World};
+use bbm_regimes::{HypWorld, Level, Page, World};
 use bbm_tree_index::{TreeFault, TreeIndex};
 
 const HYP: Header = Header {
@@ -11,8 +11,8 @@ const HYP: Header = Header {
     cnp: false,
     words: NO_WORDS,
     world: World::Hyp(HypWorld {
-        el2_start: 1,
-        s2_start: 1,
+        el2_start: Level::ONE,
+        s2_start: Level::ONE,
         s2_pages: 2,
     }),
 };

@@ -1,16 +1,15 @@
 //! What a TLB keeps.
 
-ghost use Rattle.std.specs.Prelude.{◌≡◌, ◌≤◌, ◌<◌, ◌==◌, ◌++◌, true, IfOk, OnOk};
-ghost use Rattle.bbm_descriptor.specs.Descriptor.{is_valid as is_valid_value};
+ghost use Rattle.std.specs.Prelude.{◌≡◌, ◌<◌, ◌==◌, ◌++◌, true, IfOk, OnOk};
 ghost use Rattle.bbm_rules.specs.Lists.{any, is_that};
 ghost use Rattle.bbm_rules.specs.Tree.{next_of};
 ghost use Rattle.bbm_rules.specs.Places.{page_of};
 ghost use Rattle.bbm_tlb_machine.specs.Entry as spec;
 ghost use Rattle.bbm_tlb_machine.specs.Safe.{is_stale as is_stale_part};
 
-use bbm_descriptor::{Desc, core, needs_bbm, read};
+use bbm_descriptor::{Desc, needs_bbm, read};
 use bbm_events::input_pages;
-use bbm_regimes::{Interval, Kind, NoMemory, Page, Pe, Place, Tag};
+use bbm_regimes::{Interval, Kind, Level, NoMemory, Page, Pe, Place, Tag};
 use bbm_tlbi_scope::{EntryHead, EntryKind, Family};
 use std::alloc::Global;
 use std::marker::Model;
@@ -24,21 +23,21 @@ pub struct Part {
     pub value: u64,
     /// The kind of the table.
     pub kind: Kind,
-    /// The level at which it was read, 0 to 3.
-    pub level: u8,
+    /// The level at which it was read.
+    pub level: Level,
     /// The first input page that the place translates.
     pub first: u64,
 }
 
 impl Model for Part {
-    ghost use Rattle.std.specs.Prelude.{◌<◌, ◌≤◌, ◌+◌, ◌*◌, ◌^◌};
+    ghost use Rattle.std.specs.Prelude.{◌<◌, ◌+◌, ◌*◌, ◌^◌};
     ghost use Rattle.bbm_tlb_machine.specs.Entry.{Part};
 
     ghost Value = { Part };
 
     ghost view = { λ p. record { place = p.place; value = p.value; kind = p.kind; level = p.level; first = p.first } };
 
-    ghost invariant = { (λ p. (p.level ≤ 3) × (p.first < 2 ^ 46 + p.level * 2 ^ 36)) };
+    ghost invariant = { λ p. p.first < 2 ^ 46 + p.level * 2 ^ 36 };
 
     ghost inverse = { λ p. record {
       place = p.place;
@@ -116,14 +115,6 @@ fn has_one_in(parts: &[Part], page: Page) -> bool
     ensures { result ≡ any (λ part. page_of part.place == page) parts.now }
 {
     parts.iter().any(|part| part.is_in(page))
-}
-
-/// Whether the value is valid at this level, 0 to 3, of a table of the kind.
-pub fn is_valid(kind: Kind, level: u8, value: u64) -> bool
-    requires { level ≤ 3 }
-    ensures { result ≡ is_valid_value kind level value }
-{
-    core(kind, level, value).is_some()
 }
 
 /// A TLB entry. A clause sees it as the entry of the definitions. Source: Arm ARM (DDI 0487), "Translation Lookaside

@@ -5,15 +5,15 @@ ghost use Rattle.bbm_regimes.specs.World as spec;
 ghost use Rattle.bbm_tlb_machine.specs.Step.{root_of as root_with};
 
 use bbm_events::{Header, input_pages};
-use bbm_regimes::{Kind, Place};
+use bbm_regimes::{Kind, PAGE_BYTES, Place};
 
 /// The bytes of all pages of a root of the kind.
 fn root_size(header: &Header, kind: Kind) -> u64
-    ensures value { result ≡ 4096 * spec.page_count header.now.world kind }
+    ensures value { result ≡ PAGE_BYTES * spec.page_count header.now.world kind }
     ensures some { 0 < result }
     ensures within { result ≤ 2 ^ 16 }
 {
-    4096 * u64::from(header.page_count(kind))
+    PAGE_BYTES * u64::from(header.page_count(kind))
 }
 
 /// The first page of the root of the kind that has the place in one of its pages, in bytes.

@@ -11,10 +11,11 @@ ghost use Rattle.bbm_tlb_machine.specs.Entry.{tag_of_entry};
 ghost use Rattle.bbm_tlb_machine.specs.Step as spec;
 ghost use Rattle.bbm_tlb_machine.specs.MachineRegisters.{asids_by};
 
-use crate::entry::{Entry, Part, is_valid};
+use crate::entry::{Entry, Part};
 use crate::geometry::{first_of, root_of};
 use crate::given_up::is_given_up;
 use crate::looking::can_read;
+use bbm_descriptor::is_valid;
 use bbm_events::{Event, Header, input_pages};
 use bbm_oracle_tags::readings::is_read;
 use bbm_oracle_tags::{readings_at, register_values};
@@ -213,7 +214,8 @@ fn can_follow(
     ensures { result ≡ (is_readable header.now (reverse events.now) place pe value
         && is_valid_value part.kind (part.level + 1) value) }
 {
-    can_read(header, events, place, pe, value) && is_valid(part.kind, part.level + 1, value)
+    can_read(header, events, place, pe, value)
+        && is_valid(part.kind, part.level.below().unwrap(), value)
 }
 
 /// The part one level below.
@@ -221,7 +223,7 @@ fn next_part(part: Part, place: Place, value: u64) -> Part
     requires { part.level < 3 }
     ensures { result ≡ spec.next_part part place value }
 {
-    let level = part.level + 1;
+    let level = part.level.below().unwrap();
     Part {
         place,
         value,

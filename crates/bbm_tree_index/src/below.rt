@@ -27,7 +27,7 @@ pub fn place_below(above: &Path, page: Page, input: u64) -> Option<(Place, Path)
 {
     let spot = Spot {
         kind: above.kind,
-        level: above.level + 1,
+        level: above.level.below().unwrap(),
         base: above.region.lo,
         first: above.first,
     };

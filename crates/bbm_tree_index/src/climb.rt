@@ -1,6 +1,6 @@
 //! The places above a page.
 
-ghost use Rattle.std.specs.Prelude.{◌≡◌, ◌≤◌, not};
+ghost use Rattle.std.specs.Prelude.{◌≡◌, not};
 ghost use Rattle.bbm_descriptor.specs.Descriptor.{is_valid};
 ghost use Rattle.bbm_place_map.specs.Map.{value_at};
 ghost use Rattle.bbm_tree_index.specs.Climbs.{cut_by, passes_at};
@@ -14,7 +14,7 @@ use bbm_descriptor::laws::law_core_where_valid;
 use bbm_descriptor::{Memory, core};
 use bbm_page_map::PageMap;
 use bbm_place_map::PlaceMap;
-use bbm_regimes::{Kind, Place};
+use bbm_regimes::{Kind, Level, Place};
 
 /// What is asked of a place above a page. Source: project's own choice.
 #[derive(Clone, Copy)]
@@ -27,10 +27,9 @@ pub enum Asked {
     This(Place),
 }
 
-/// Whether the present value of the place is invalid at this kind and level, 0 to 3. No answer depends on the number
+/// Whether the present value of the place is invalid at this kind and level. No answer depends on the number
 /// `hint`, at which its page is looked for first.
-fn is_invalid(map: &PlaceMap, kind: Kind, level: u8, place: Place, hint: usize) -> bool
-    requires { level ≤ 3 }
+fn is_invalid(map: &PlaceMap, kind: Kind, level: Level, place: Place, hint: usize) -> bool
     ensures { result ≡ not (is_valid kind level (value_at map.now place)) }
 {
     law_core_where_valid();
@@ -40,10 +39,9 @@ fn is_invalid(map: &PlaceMap, kind: Kind, level: u8, place: Place, hint: usize) 
     }
 }
 
-/// Whether the place holds nothing at this kind and level, 0 to 3. No answer depends on the number `hint`, at which its
+/// Whether the place holds nothing at this kind and level. No answer depends on the number `hint`, at which its
 /// page is looked for first.
-fn is_unheld(map: &PlaceMap, kind: Kind, level: u8, place: Place, hint: usize) -> bool
-    requires { level ≤ 3 }
+fn is_unheld(map: &PlaceMap, kind: Kind, level: Level, place: Place, hint: usize) -> bool
     ensures { result ≡ not (holds_at map.now kind level place) }
 {
     match map.position_near(place, hint) {
@@ -55,10 +53,9 @@ fn is_unheld(map: &PlaceMap, kind: Kind, level: u8, place: Place, hint: usize) -
     }
 }
 
-/// Whether what is asked holds of the place, at this kind and level, 0 to 3. No answer depends on the number `hint`, at
+/// Whether what is asked holds of the place, at this kind and level. No answer depends on the number `hint`, at
 /// which its page is looked for first.
-fn passes(map: &PlaceMap, asked: &Asked, kind: Kind, level: u8, place: Place, hint: usize) -> bool
-    requires { level ≤ 3 }
+fn passes(map: &PlaceMap, asked: &Asked, kind: Kind, level: Level, place: Place, hint: usize) -> bool
     ensures { result ≡ passes_at map.now asked.now kind level place }
 {
     match *asked {
@@ -68,30 +65,29 @@ fn passes(map: &PlaceMap, asked: &Asked, kind: Kind, level: u8, place: Place, hi
     }
 }
 
-/// Whether what is asked holds of a place above a page with this role, whose level is `left`, 0 to 4; true where a page
-/// above it is in no tree. No answer depends on the numbers `hints`, at which the pages above are looked for first, by
+/// Whether what is asked holds of a place above a page with this role and level; true where a page above it is in no
+/// tree. No answer depends on the numbers `hints`, at which the pages above are looked for first, by
 /// their level: there pages have been found before.
 pub fn is_cut(
     roles: &PageMap<Role>,
     map: &PlaceMap,
     asked: &Asked,
-    left: u8,
+    level: Level,
     role: &Role,
     hints: &mut [usize; 4],
 ) -> bool
-    requires { left ≤ 4 }
-    ensures { result ≡ cut_by (passes_at map.now asked.now) (roles_of roles.now) left role.now }
+    ensures { result ≡ cut_by (passes_at map.now asked.now) (roles_of roles.now) level role.now }
 {
     match *role {
         Role::RootPage { .. } => false,
         Role::Hangs { parent, kind, .. } => {
-            if left == 0 {
+            let Some(level) = level.above() else {
                 return false;
-            }
-            let level = left - 1;
+            };
             let page = parent.page();
-            let number = number_of(roles, page, hints[level as usize]);
-            hints[level as usize] = number;
+            let hint = level.get() as usize;
+            let number = number_of(roles, page, hints[hint]);
+            hints[hint] = number;
             let above = role_of(roles, page, number);
             passes(map, asked, kind, level, parent, number)
                 || is_cut(roles, map, asked, level, &above, hints)

@@ -9,11 +9,11 @@ ghost use Rattle.bbm_tree_index.specs.LeastPages.{leaf_bits as spec_leaf_bits, s
 ghost use Rattle.bbm_tree_index.specs.PageTables.{HasPages};
 ghost use Rattle.bbm_tree_index.specs.declared.judge.Leaf.{Leaf};
 
-use crate::held::{PLACES, are_eight_zero, first_position};
+use crate::held::{are_eight_zero, first_position};
 use crate::mark::Mark;
 use crate::survey::entry_at;
 use bbm_place_map::{PlaceMap, Position};
-use bbm_regimes::{Kind, Page};
+use bbm_regimes::{Kind, Level, PLACES, Page};
 use indexmap::IndexMap;
 
 /// Contiguous, bit 52 of a leaf. Source: Arm ARM (DDI 0487), "VMSAv8-64 descriptor formats".
@@ -31,11 +31,10 @@ fn is_lower(kind: Kind) -> bool
 
 /// Bits [1:0] of a leaf at the level; 4, which no value has there, at level 0. Source: Arm ARM (DDI 0487), "VMSAv8-64
 /// descriptor formats".
-fn leaf_bits(level: u8) -> u64
-    requires { level ≤ 3 }
+fn leaf_bits(level: Level) -> u64
     ensures { result ≡ spec_leaf_bits level }
 {
-    match level {
+    match level.get() {
         0 => 4,
         1 => 1,
         2 => 1,
@@ -80,8 +79,7 @@ fn are_eight_harmless(
 }
 
 /// Whether no place of the page has a leaf that keeps it from being attached.
-fn is_page_harmless(map: &PlaceMap, kind: Kind, level: u8, page: Page) -> bool
-    requires { level ≤ 3 }
+fn is_page_harmless(map: &PlaceMap, kind: Kind, level: Level, page: Page) -> bool
     ensures { result ≡ true → (leaf : Leaf) → Never (LeafOf (value_at map.now) (asks leaf) kind level page) }
 {
     let Some(position) = first_position(map, page) else {
@@ -98,9 +96,8 @@ fn is_page_harmless(map: &PlaceMap, kind: Kind, level: u8, page: Page) -> bool
 }
 
 /// Whether no page of the table has such a place.
-fn is_table_harmless(map: &PlaceMap, kind: Kind, level: u8, table: &IndexMap<u64, Mark>) -> bool
-    requires low { level ≤ 3 }
-    requires pages { HasPages table.now }
+fn is_table_harmless(map: &PlaceMap, kind: Kind, level: Level, table: &IndexMap<u64, Mark>) -> bool
+    requires { HasPages table.now }
     ensures { result ≡ true → (leaf : Leaf) → Never (LeafIn (value_at map.now) (asks leaf) kind level table.now) }
 {
     for index in 0..table.len() {
@@ -113,14 +110,15 @@ fn is_table_harmless(map: &PlaceMap, kind: Kind, level: u8, table: &IndexMap<u64
 }
 
 /// Whether no page of the tables has such a place, where the first stands for this level.
-pub fn are_harmless(map: &PlaceMap, tables: &[IndexMap<u64, Mark>], kind: Kind, start: u8) -> bool
+pub fn are_harmless(map: &PlaceMap, tables: &[IndexMap<u64, Mark>], kind: Kind, start: Level) -> bool
     requires pages { HavePages tables.now }
     requires low { start + length tables.now ≤ 4 }
     ensures { result ≡ true
         → (leaf : Leaf) → Never (LeafPlace tables.now (value_at map.now) (asks leaf) kind start) }
 {
     for depth in 0..tables.len() {
-        if !is_table_harmless(map, kind, start + depth as u8, &tables[depth]) {
+        let level = Level::new(start.get() + depth as u8).unwrap();
+        if !is_table_harmless(map, kind, level, &tables[depth]) {
             return false;
         }
     }

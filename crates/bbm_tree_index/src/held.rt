@@ -8,14 +8,10 @@ ghost use Rattle.bbm_tree_index.specs.HeldCores.{core_at, holds_at, is_at, next_
 use bbm_descriptor::Core;
 use bbm_entry_state::EntryState;
 use bbm_place_map::{PlaceMap, Position};
-use bbm_regimes::{Kind, Page, Place};
+use bbm_regimes::{Kind, Level, PLACES, Page, Place};
 
-/// The number of places of a page.
-pub const PLACES: u64 = 512;
-
-/// What the place holds at this kind and level, 0 to 3.
-pub fn core_at(map: &PlaceMap, kind: Kind, level: u8, place: Place) -> Option<Core>
-    requires { level ≤ 3 }
+/// What the place holds at this kind and level.
+pub fn core_at(map: &PlaceMap, kind: Kind, level: Level, place: Place) -> Option<Core>
     ensures { result ≡ core_at map.now kind level place }
 {
     match map.state_by(place, kind, level) {
@@ -36,9 +32,8 @@ pub fn next_of(core: &Core) -> Option<Page>
     }
 }
 
-/// The next page of the table that the place holds at this kind and level, 0 to 3; None where it holds none.
-pub fn next_at(map: &PlaceMap, kind: Kind, level: u8, place: Place) -> Option<Page>
-    requires { level ≤ 3 }
+/// The next page of the table that the place holds at this kind and level; None where it holds none.
+pub fn next_at(map: &PlaceMap, kind: Kind, level: Level, place: Place) -> Option<Page>
     ensures { result ≡ next_in (core_at map.now kind level place) }
 {
     next_of(&core_at(map, kind, level, place)?)
@@ -99,9 +94,8 @@ pub fn are_eight_zero(map: &PlaceMap, position: &Position, from: u64) -> bool
     four_joined(map, position, from) | four_joined(map, position, from + 4) == 0
 }
 
-/// Whether no place of the page, read at this kind and level, 0 to 3, holds anything.
-pub fn holds_none(map: &PlaceMap, kind: Kind, level: u8, page: Page) -> bool
-    requires { level ≤ 3 }
+/// Whether no place of the page, read at this kind and level, holds anything.
+pub fn holds_none(map: &PlaceMap, kind: Kind, level: Level, page: Page) -> bool
     ensures { (result ≡ true) ↔ ((a : ℕ) → is_at page a ≡ true → holds_at map.now kind level a ≡ false) }
 {
     if map.is_blank(page) {

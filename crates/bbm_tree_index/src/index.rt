@@ -164,7 +164,6 @@ impl TreeIndex {
         ensures inside { IfSome result (λ met. is_at page met.0 ≡ true) }
         ensures path { IfSome result (λ met. (n : Node) × (node_in self.now page ≡ Some n)
             × (met.1 ≡ path_at n met.0)) }
-        ensures low { IfSome result (λ met. met.1.level ≤ 3) }
         ensures translates { IfSome result (λ met. (n : Node) → node_in self.now page ≡ Some n
             → Translates page n input met.0) }
         ensures met { (n : Node) (a : ℕ) → node_in self.now page ≡ Some n → Translates page n input a

@@ -13,7 +13,7 @@ ghost use Rattle.bbm_tree_index.specs.Survey.{fresh_of};
 
 use crate::fault::TreeFault;
 use crate::harmless::are_harmless;
-use crate::held::{PLACES, place_of};
+use crate::held::place_of;
 use crate::mark::Mark;
 use crate::role::{Attach, Role};
 use crate::survey::entry_at;
@@ -21,7 +21,7 @@ use crate::table::is_fresh;
 use bbm_descriptor::{Desc, read};
 use bbm_page_map::PageMap;
 use bbm_place_map::PlaceMap;
-use bbm_regimes::{Kind, Page, Place};
+use bbm_regimes::{Kind, Level, PLACES, Page, Place};
 use indexmap::IndexMap;
 
 /// Which leaves are asked for. Source: project's own choice.
@@ -145,8 +145,7 @@ fn least_wrong(roles: &PageMap<Role>, tables: &[IndexMap<u64, Mark>], named: boo
 }
 
 /// Whether the value is a leaf that is asked for.
-fn is_leaf(leaf: &Leaf, kind: Kind, level: u8, value: u64) -> bool
-    requires { level ≤ 3 }
+fn is_leaf(leaf: &Leaf, kind: Kind, level: Level, value: u64) -> bool
     ensures { result ≡ asks leaf.now kind (desc_of kind level value) }
 {
     match read(kind, level, value) {
@@ -183,8 +182,7 @@ fn lesser_place(place: Option<Place>, other: Option<Place>) -> Option<Place>
 }
 
 /// The least place of a page with a leaf that is asked for.
-fn leaf_of(map: &PlaceMap, leaf: &Leaf, kind: Kind, level: u8, page: Page) -> Option<Place>
-    requires { level ≤ 3 }
+fn leaf_of(map: &PlaceMap, leaf: &Leaf, kind: Kind, level: Level, page: Page) -> Option<Place>
     ensures { LeastOf (LeafOf (value_at map.now) (asks leaf.now) kind level page) result }
 {
     if map.is_blank(page) {
@@ -204,11 +202,10 @@ fn leaf_in(
     map: &PlaceMap,
     leaf: &Leaf,
     kind: Kind,
-    level: u8,
+    level: Level,
     table: &IndexMap<u64, Mark>,
 ) -> Option<Place>
-    requires low { level ≤ 3 }
-    requires pages { HasPages table.now }
+    requires { HasPages table.now }
     ensures { LeastOf (LeafIn (value_at map.now) (asks leaf.now) kind level table.now) result }
 {
     let mut least = None;
@@ -226,7 +223,7 @@ fn least_leaf(
     tables: &[IndexMap<u64, Mark>],
     leaf: &Leaf,
     kind: Kind,
-    start: u8,
+    start: Level,
 ) -> Option<Place>
     requires pages { HavePages tables.now }
     requires low { start + length tables.now ≤ 4 }
@@ -234,7 +231,8 @@ fn least_leaf(
 {
     let mut least = None;
     for depth in 0..tables.len() {
-        let found = leaf_in(map, leaf, kind, start + depth as u8, &tables[depth]);
+        let level = Level::new(start.get() + depth as u8).unwrap();
+        let found = leaf_in(map, leaf, kind, level, &tables[depth]);
         least = lesser_place(least, found);
     }
     least
@@ -247,7 +245,7 @@ pub fn judge_tables(
     tables: &[IndexMap<u64, Mark>],
     named: bool,
     kind: Kind,
-    level: u8,
+    level: Level,
 ) -> Result<(), TreeFault>
     requires pages { HavePages tables.now }
     requires low { level + length tables.now ≤ 4 }

@@ -1,6 +1,6 @@
 //! Pages that leave the trees.
 
-ghost use Rattle.std.specs.Prelude.{◌≡◌, ◌==◌, ◌&&◌, ◌≤◌, ◌<◌, ℕ, Some, is_some, nat_eq, true, slice_get};
+ghost use Rattle.std.specs.Prelude.{◌≡◌, ◌==◌, ◌&&◌, ◌<◌, ℕ, Some, is_some, nat_eq, true, slice_get};
 ghost use Rattle.indexmap.specs.IndexMap.{get, index_map_len, keys};
 ghost use Rattle.bbm_events.specs.Heading.{Heading};
 ghost use Rattle.bbm_regimes.specs.declared.regime.Kind.{Kind};
@@ -27,7 +27,7 @@ pub enum Leaving {
     Below(Place),
 }
 
-/// Whether a page with this role, of a level of at most 4, leaves. No answer depends on the numbers `hints`, at which
+/// Whether a page with this role leaves. No answer depends on the numbers `hints`, at which
 /// the pages above are looked for first, by their level.
 pub fn leaves(
     roles: &PageMap<Role>,
@@ -36,8 +36,6 @@ pub fn leaves(
     role: &Role,
     hints: &mut [usize; 4],
 ) -> bool
-    requires { (parent level base first : ℕ) (kind : Kind) → role.now ≡ Role.Hangs parent kind level base first
-        → level ≤ 4 }
     ensures { result ≡ leaves_role map.now (roles_of roles.now) leaving.now role.now }
 {
     match *role {
@@ -71,9 +69,7 @@ pub fn step(
     number: usize,
     hints: &mut [usize; 4],
 )
-    requires known { is_some (get nat_eq roles.old page) ≡ true }
-    requires shallow { (parent level base first : ℕ) (kind : Kind) →
-        roles_of roles.old page ≡ Role.Hangs parent kind level base first → level ≤ 4 }
+    requires { is_some (get nat_eq roles.old page) ≡ true }
     ensures roles { LetsGo (λ p. p == page && leaves_in map.old roles.old leaving.now page) roles.old roles.new }
     ensures map { Releases (λ p. p == page && leaves_in map.old roles.old leaving.now page) map.old map.new }
 {

@@ -1,7 +1,7 @@
 //! Roles of pages, what a path says of a place, and what is attached.
 //! Source: project's own choice, where no other is named.
 
-use bbm_regimes::{Interval, Kind, Page, Place};
+use bbm_regimes::{Interval, Kind, Level, Page, Place};
 
 /// What a page is used for.
 #[derive(Clone, Copy, PartialEq, Eq)]
@@ -26,7 +26,7 @@ pub enum Role {
         /// The kind of the root.
         kind: Kind,
         /// Its level, 1 to 3.
-        level: u8,
+        level: Level,
         /// The input page number at which its region begins.
         base: u64,
         /// The first page of the root.
@@ -43,8 +43,8 @@ pub enum Role {
 pub struct Path {
     /// The kind of the tree.
     pub kind: Kind,
-    /// The level of the place, 0 to 3.
-    pub level: u8,
+    /// The level of the place.
+    pub level: Level,
     /// The input pages that the place translates.
     pub region: Interval,
     /// The first page of the root.

@@ -7,11 +7,11 @@ ghost use Rattle.bbm_tree_index.specs.HeldCores.{holds_at};
 ghost use Rattle.bbm_regimes.specs.World.{input_pages as input_pages_of};
 ghost use Rattle.bbm_tree_index.specs.Spots.{spot_with, Fits, RoleFits};
 
-use crate::held::{PLACES, holds_none, next_at, place_of};
+use crate::held::{holds_none, next_at, place_of};
 use crate::role::{Path, Role};
 use bbm_events::{Header, input_pages, regions_in};
 use bbm_place_map::PlaceMap;
-use bbm_regimes::{Interval, Kind, Page, Place};
+use bbm_regimes::{Interval, Kind, Level, PLACES, Page, Place};
 
 /// Where a page of a tree stands: its kind and level, the input page number at which its region begins, and the first
 /// page of the root. Source: project's own choice.
@@ -19,8 +19,8 @@ use bbm_regimes::{Interval, Kind, Page, Place};
 pub struct Spot {
     /// The kind of the root.
     pub kind: Kind,
-    /// The level, 0 to 3.
-    pub level: u8,
+    /// The level.
+    pub level: Level,
     /// The input page number at which the region begins.
     pub base: u64,
     /// The first page of the root.
@@ -59,13 +59,11 @@ pub fn spot_of(header: &Header, role: &Role) -> Option<Spot>
 }
 
 /// The level below, at which values are read as at level 3 where there is none.
-fn deeper(level: u8) -> u8
-    requires { level ≤ 3 }
-    ensures low { result ≤ 3 }
-    ensures same { (map : TheMap) (kind : TheKind) (a : ℕ) → holds_at map kind result a
+fn deeper(level: Level) -> Level
+    ensures { (map : TheMap) (kind : TheKind) (a : ℕ) → holds_at map kind result a
         ≡ holds_at map kind (suc level) a }
 {
-    if level < 3 { level + 1 } else { 3 }
+    level.below().unwrap_or(Level::THREE)
 }
 
 impl Spot {

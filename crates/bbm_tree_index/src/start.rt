@@ -31,7 +31,7 @@ pub fn start_below(
     let role = Role::Hangs {
         parent: place,
         kind: spot.kind,
-        level: spot.level + 1,
+        level: spot.level.below().unwrap(),
         base: spot.start(place),
         first: spot.first,
     };

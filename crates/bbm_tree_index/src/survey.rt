@@ -13,7 +13,7 @@ ghost use Rattle.bbm_tree_index.specs.Survey.{Counts, Expands, Found, Partly, Pl
 ghost use Rattle.bbm_tree_index.specs.Survey.{Uniform, Well, fresh_of, grown, with_first, with_page};
 ghost use Rattle.bbm_tree_index.specs.declared.mark.Mark.{Mark as TheMark};
 
-use crate::held::{PLACES, are_eight_zero, first_position, place_of};
+use crate::held::{are_eight_zero, first_position, place_of};
 use crate::mark::{Mark, add};
 use crate::role::Role;
 use crate::spot::{Spot, spot_of};
@@ -22,15 +22,14 @@ use bbm_descriptor::{Desc, read};
 use bbm_events::Header;
 use bbm_page_map::PageMap;
 use bbm_place_map::{PlaceMap, Position};
-use bbm_regimes::{Kind, NoMemory, Page, Place};
+use bbm_regimes::{Kind, Level, NoMemory, PLACES, Page, Place};
 use indexmap::IndexMap;
 use std::alloc::Global;
 
-/// The next page of a value at this kind and level, 0 to 3; None where it is no table. That is told at once where bits
+/// The next page of a value at this kind and level; None where it is no table. That is told at once where bits
 /// [1:0] aren't 11. Source: Arm ARM (DDI 0487), "VMSAv8-64 descriptor formats".
 #[inline(always)]
-fn next_page(kind: Kind, level: u8, value: u64) -> Option<Page>
-    requires { level ≤ 3 }
+fn next_page(kind: Kind, level: Level, value: u64) -> Option<Page>
     ensures next { result ≡ next_of kind level value }
     ensures low { IfSome result (λ next. level < 3) }
 {
@@ -66,7 +65,7 @@ fn expand_place(
             let role = Role::Hangs {
                 parent: place,
                 kind: spot.kind,
-                level: spot.level + 1,
+                level: spot.level.below().unwrap(),
                 base: spot.start(place),
                 first: spot.first,
             };

@@ -8,6 +8,7 @@ use Rattle.bbm_range.specs.declared.Range.{Range}
 use Rattle.bbm_range.specs.declared.BadRange.{BadRange}
 use Rattle.bbm_range.specs.declared.BadRange.TheVariants.{Granule, Unaligned}
 use Rattle.bbm_range.specs.RangePages.{range_of}
+use Rattle.bbm_regimes.specs.Extent.{hint_of}
 use Rattle.bbm_tlbi_scope.specs.declared.op.TlbiOp.TheVariants.{Aside1, Rvae2, Rvale2, Ripas2e1, Ripas2le1, Ripas2le1is}
 use Rattle.bbm_tlbi_scope.specs.declared.op.TlbiOp.TheVariants.{Rvae1, Rvae1is, Rvale1, Rvale1is, Rvaae1, Rvaae1is}
 use Rattle.bbm_tlbi_scope.specs.declared.op.TlbiOp.TheVariants.{Rvaale1, Rvaale1is}
@@ -82,7 +83,7 @@ asids = refl
 
 -- the first page, the last one and the level of the hint of an operand for a range
 abbrev range : ℕ → ℕ → ℕ → Result Range BadRange
-range lo hi level = Ok (record { lo = lo; hi = hi; level = level })
+range lo hi level = Ok (record { lo = lo; hi = hi; level = hint_of level })
 
 pub ranges : Gives range_of (
     -- the units of SCALE, and NUM

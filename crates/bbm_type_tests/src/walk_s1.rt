@@ -4,7 +4,7 @@ ghost use Rattle.std.specs.Prelude.{◌≡◌, ◌<◌, ◌≤◌, ◌%◌, ◌^
 ghost use Rattle.bbm_descriptor.specs.Listing.{NoLeaf};
 ghost use Rattle.bbm_walk_s1.specs.InputRanges.{stage1_root};
 
-use bbm_regimes::{Page, Place};
+use bbm_regimes::{Level, Page, Place};
 use bbm_walk_s1::{Memory, Pairs, S1Root, Walk, walk};
 
 /// Whether a leaf translates the address.
@@ -30,7 +30,7 @@ fn root(start: u8, high: bool, addr: u64) -> S1Root
     requires aligned { addr % 4096 ≡ 0 }
 {
     S1Root {
-        start,
+        start: Level::new(start).unwrap(),
         high,
         page: Page::new(addr).unwrap(),
     }
@@ -39,8 +39,8 @@ fn root(start: u8, high: bool, addr: u64) -> S1Root
 /// The output address and the level of a leaf, or 1 and the level of a fault: no address here is 1.
 fn told(answer: Walk) -> (u64, u8) {
     match answer {
-        Walk::Out { addr, level } => (addr, level),
-        Walk::Fault { level } => (1, level),
+        Walk::Out { addr, level } => (addr, level.get()),
+        Walk::Fault { level } => (1, level.get()),
     }
 }
 

@@ -4,7 +4,7 @@ ghost use Rattle.std.specs.Prelude.{◌≡◌, ◌*◌, ◌<◌, ◌≤◌, ◌%
 ghost use Rattle.bbm_descriptor.specs.Listing.{NoLeaf};
 ghost use Rattle.bbm_walk_s2.specs.Joined.{can_join, stage2_root};
 
-use bbm_regimes::{Page, Place};
+use bbm_regimes::{Level, Page, Place};
 use bbm_walk_s2::{Memory, Pairs, S2Root, Walk, walk};
 
 /// Whether a leaf translates the address.
@@ -32,7 +32,7 @@ fn root(start: u8, pages: u8, addr: u64) -> S2Root
     requires all_aligned { addr % (4096 * pages) ≡ 0 }
 {
     S2Root {
-        start,
+        start: Level::new(start).unwrap(),
         pages,
         page: Page::new(addr).unwrap(),
     }
@@ -41,8 +41,8 @@ fn root(start: u8, pages: u8, addr: u64) -> S2Root
 /// The output address and the level of a leaf, or 1 and the level of a fault: no address here is 1.
 fn told(answer: Walk) -> (u64, u8) {
     match answer {
-        Walk::Out { addr, level } => (addr, level),
-        Walk::Fault { level } => (1, level),
+        Walk::Out { addr, level } => (addr, level.get()),
+        Walk::Fault { level } => (1, level.get()),
     }
 }
 

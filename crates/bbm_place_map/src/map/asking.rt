@@ -18,7 +18,7 @@ use crate::read;
 use bbm_descriptor::{Core, core};
 use bbm_entry_state::{EntryState, Pends};
 use bbm_page_map::PageNumber;
-use bbm_regimes::{Kind, Page, Pe, Place};
+use bbm_regimes::{Kind, Level, Page, Pe, Place};
 
 impl PlaceMap {
     /// The state of a place, where a place that isn't broken is live with this core, or clean without one. It is for
@@ -66,9 +66,8 @@ impl PlaceMap {
     }
 
     /// The core of the value of a position's place, read at this kind and level, 0 to 3; None where the value is invalid.
-    pub fn live_at(&self, position: &Position, kind: Kind, level: u8) -> Option<Core>
+    pub fn live_at(&self, position: &Position, kind: Kind, level: Level) -> Option<Core>
         requires position { IsPosition self.now position.now }
-        requires level { level ≤ 3 }
         ensures { result ≡ core_of kind level (value_at self.now position.now.place) }
     {
         core(kind, level, self.value_of(position))
@@ -105,8 +104,7 @@ impl PlaceMap {
 
     /// The state of the place, read at this kind and level, 0 to 3: one that isn't broken is live with the core of its
     /// value, or clean where the value is invalid.
-    pub fn state_by(&self, place: Place, kind: Kind, level: u8) -> EntryState
-        requires { level ≤ 3 }
+    pub fn state_by(&self, place: Place, kind: Kind, level: Level) -> EntryState
         ensures { result ≡ state_at self.now (core_of kind level (value_at self.now place)) place }
     {
         match self.index(place) {
@@ -175,11 +173,10 @@ impl PlaceMap {
     /// The core that the place with this number, 0 to 511, has, of the page whose first place the position has: the one
     /// that it is broken over; where it isn't broken that of its value, read at this kind and level, 0 to 3, and None
     /// where that is invalid.
-    pub fn core_from(&self, position: &Position, number: u64, kind: Kind, level: u8) -> Option<Core>
+    pub fn core_from(&self, position: &Position, number: u64, kind: Kind, level: Level) -> Option<Core>
         requires position { IsPosition self.now position.now }
         requires first { position.now.place % 4096 ≡ 0 }
         requires within { number < 512 }
-        requires level { level ≤ 3 }
         ensures { result ≡ core_in (state_at self.now
             (core_of kind level (value_at self.now (position.now.place + 8 * number)))
             (position.now.place + 8 * number)) }

@@ -59,7 +59,6 @@ impl Covering<'_> {
         found: &mut SmallVec<Found, 4>,
     ) -> Result<Option<Page>, NoMemory>
         requires tracked { is_tracked map.now (page_of place) ≡ true }
-        requires low { path.now.level ≤ 3 }
         requires path { IsPathOf self.now.index.now place path.now }
         ensures next { IfOk result (λ next. next ≡ next_in (core_at map.now path.now.kind path.now.level place)) }
         ensures grows { OnOk result (Grows map.now self.now found.old.items found.new.items) }

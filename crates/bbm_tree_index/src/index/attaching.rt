@@ -1,6 +1,6 @@
 //! What can be attached to the trees, by a survey of it, and its attachment.
 
-ghost use Rattle.std.specs.Prelude.{◌≡◌, ◌≤◌, Contains, nat_eq, IfOk, IfErr, OnOk, OnErr};
+ghost use Rattle.std.specs.Prelude.{◌≡◌, Contains, nat_eq, IfOk, IfErr, OnOk, OnErr};
 ghost use Rattle.indexmap.specs.IndexMap.{get};
 ghost use Rattle.bbm_rules.specs.Tree.{Node};
 ghost use Rattle.bbm_place_map.specs.Map.{value_at};
@@ -23,15 +23,14 @@ use crate::role::Attach;
 use crate::start::{start_below, start_root};
 use crate::survey::survey;
 use bbm_place_map::PlaceMap;
-use bbm_regimes::{Kind, NoMemory};
+use bbm_regimes::{Kind, Level, NoMemory};
 use indexmap::IndexMap;
 use std::alloc::Global;
 
 impl TreeIndex {
     /// The kind and the level at which the paths of what is attached begin.
-    fn begin(&self, at: &Attach) -> (Kind, u8)
+    fn begin(&self, at: &Attach) -> (Kind, Level)
         requires { MayJudge self.now at.now }
-        ensures low { result.1 ≤ 3 }
         ensures same { (s : Node) → Contains (starts_of self.now at.now) s → (s.kind ≡ result.0)
             × (s.level ≡ result.1) }
         ensures some { (s : Node) × Contains (starts_of self.now at.now) s }
@@ -40,8 +39,8 @@ impl TreeIndex {
         match *at {
             Attach::Root { kind, first: _ } => (kind, self.header.start_level(kind)),
             Attach::Below { place, next: _ } => match self.spot(place.page(), 0) {
-                Some(spot) => (spot.kind, spot.level + 1),
-                None => (Kind::El2, 3),
+                Some(spot) => (spot.kind, spot.level.below().unwrap()),
+                None => (Kind::El2, Level::THREE),
             },
         }
     }
@@ -78,7 +77,7 @@ impl TreeIndex {
     {
         let (_, level) = self.begin(at);
         let first = self.start(alloc, at)?;
-        let tables = survey(alloc, &self.header, &self.roles, map, first, 3 - level)?;
+        let tables = survey(alloc, &self.header, &self.roles, map, first, 3 - level.get())?;
         Ok(tables)
     }
 

@@ -19,8 +19,8 @@ returns-then-is_cleansed g c =
     (seen c.args.header.now c.args.seat.now.place c.args.pe since)
     c.in-Some.ensures.found (sym c.if-is_cleansed.true ∙ c.is_cleansed.ensures) refl refl refl refl
 
-pub returns-then-is_valid_at : goal.returns-then-is_valid_at
-returns-then-is_valid_at g c =
+pub returns-then-is_valid : goal.returns-then-is_valid
+returns-then-is_valid g c =
     let trust : Trust = g.E.TagEvidence.trust c.args.evidence.now in
     let from : ℕ = c.in-Some.write.index + 1 in
     let since : List Noted = notes_behind from (reverse (drop from c.args.log.now)) in
@@ -30,11 +30,11 @@ returns-then-is_valid_at g c =
     (half c.args.header.now c.args.seat.now.place c.args.pe since)
     (seen c.args.header.now c.args.seat.now.place c.args.pe since)
     c.in-Some.ensures.found (sym c.if-is_cleansed.false ∙ c.is_cleansed.ensures)
-    (sym c.if-is_valid_at.true ∙ c.is_valid_at.ensures)
+    (sym c.if-is_valid.true ∙ c.is_valid.ensures)
     refl refl refl
 
-pub returns-else-is_valid_at : goal.returns-else-is_valid_at
-returns-else-is_valid_at g c =
+pub returns-else-is_valid : goal.returns-else-is_valid
+returns-else-is_valid g c =
     let trust : Trust = g.E.TagEvidence.trust c.args.evidence.now in
     let from : ℕ = c.in-Some.write.index + 1 in
     let since : List Noted = notes_behind from (reverse (drop from c.args.log.now)) in
@@ -44,7 +44,7 @@ returns-else-is_valid_at g c =
     c.args.pe (notes_of (reverse c.args.log.now)) since
     c.in-Some.write.value false false _ _ _
     c.in-Some.ensures.found (sym c.if-is_cleansed.false ∙ c.is_cleansed.ensures)
-    (sym c.if-is_valid_at.false ∙ c.is_valid_at.ensures)
+    (sym c.if-is_valid.false ∙ c.is_valid.ensures)
     (c.cleansed-cleansed.ensures c.args.pe)
     (c.trace_of-trace.ensures.half from c.args.pe
     ∙ ap (λ (ks : List Kept). half c.args.header.now c.args.seat.now.place c.args.pe (rest ks))

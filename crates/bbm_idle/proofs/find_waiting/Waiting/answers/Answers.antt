@@ -7,12 +7,12 @@ pub returns-then-broadcast : goal.returns-then-broadcast
 returns-then-broadcast c = λ heading h is.
     c.if-broadcast.true ∙ sym (ap (λ (b : Bool). b || c.answered-local.result) c.if-broadcast.true)
     ∙ answered_by heading h c.args.pe c.args.dsb c.args.self.now c.answered-broadcast.result c.answered-local.result is
-    (c.answered-broadcast.ensures ∙ ap (λ (b : Bool). b && pe_in c.args.self.now.broadcast c.args.pe) c.completes.ensures)
-    (c.answered-local.ensures ∙ ap (λ (b : Bool). b && pe_in c.args.self.now.local c.args.pe) c.completes-2.ensures)
+    (c.answered-broadcast.ensures ∙ ap (λ (b : Bool). b && pe_in c.args.self.now.broadcast c.args.pe) c.answers.ensures)
+    (c.answered-local.ensures ∙ ap (λ (b : Bool). b && pe_in c.args.self.now.local c.args.pe) c.answers-2.ensures)
 
 pub returns-else-broadcast : goal.returns-else-broadcast
 returns-else-broadcast c = λ heading h is.
     sym (ap (λ (b : Bool). b || c.answered-local.result) c.if-broadcast.false)
     ∙ answered_by heading h c.args.pe c.args.dsb c.args.self.now c.answered-broadcast.result c.answered-local.result is
-    (c.answered-broadcast.ensures ∙ ap (λ (b : Bool). b && pe_in c.args.self.now.broadcast c.args.pe) c.completes.ensures)
-    (c.answered-local.ensures ∙ ap (λ (b : Bool). b && pe_in c.args.self.now.local c.args.pe) c.completes-2.ensures)
+    (c.answered-broadcast.ensures ∙ ap (λ (b : Bool). b && pe_in c.args.self.now.broadcast c.args.pe) c.answers.ensures)
+    (c.answered-local.ensures ∙ ap (λ (b : Bool). b && pe_in c.args.self.now.local c.args.pe) c.answers-2.ensures)

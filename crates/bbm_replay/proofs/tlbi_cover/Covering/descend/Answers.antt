@@ -34,9 +34,6 @@ add_met-requires-clause-tracked c =
     let on = (c.loop-depth.invariant.on_way m c.in-Some-here.is).0 in
     c.requires.fits.tracked (page_of m.0) on.stands on.is_node
 
-pub add_met-requires-clause-low : goal.add_met-requires-clause-low
-add_met-requires-clause-low c = (c.loop-depth.invariant.on_way c.in-Some-here.met c.in-Some-here.is).1
-
 pub add_met-requires-clause-path : goal.add_met-requires-clause-path
 add_met-requires-clause-path c =
     let on = (c.loop-depth.invariant.on_way c.in-Some-here.met c.in-Some-here.is).0 in
