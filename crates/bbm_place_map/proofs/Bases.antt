@@ -1,7 +1,9 @@
 -- Where the values of pages start, by the numbers of the pages.
-use Rattle.bbm_place_map.proofs.Common.{◌≡◌, ◌∙◌, ℕ, ◌+◌, ◌*◌, ◌/◌, ◌%◌, ◌≤◌, ◌++◌, ◌∷◌, [], Bool, true, false, List, length}
-use Rattle.bbm_place_map.proofs.Common.{Option, Some, None, refl, ap, sym, arith, nat_eq, if◌then◌else◌, option_map, same_Some}
-use Rattle.bbm_place_map.proofs.Common.{none-some, pages_in, vec_len, Numbered, index_of, bases, number_in, PlaceMap}
+use Rattle.bbm_place_map.proofs.Common.{◌≡◌, ◌∙◌, ℕ, ◌+◌, ◌*◌, ◌/◌, ◌%◌, ◌≤◌, ◌++◌, ◌∷◌, [], Bool, true, false, List}
+use Rattle.bbm_place_map.proofs.Common.{length}
+use Rattle.bbm_place_map.proofs.Common.{Option, Some, None, refl, ap, sym, arith, nat_eq, if◌then◌else◌, option_map}
+use Rattle.bbm_place_map.proofs.Common.{same_Some}
+use Rattle.bbm_place_map.proofs.Common.{none-some, vec_len, Numbered, index_of, bases, number_in, PlaceMap}
 use Rattle.bbm_page_map.proofs.Numbering.{number_is, number_push, number_within}
 use Rattle.bbm_place_map.proofs.Places.{found, index_from}
 
@@ -28,12 +30,6 @@ numbered_by pages count all = record {
 pub numbered_in : (map : PlaceMap) → Numbered (bases map.pages) (vec_len map.values)
 numbered_in map = numbered_by map.pages (vec_len map.values) map.counted
 
-pub whole_in : (map : PlaceMap) (page b : ℕ) → bases map.pages page ≡ Some b → b % 512 ≡ 0
-whole_in map page b is = let n = base_number map.pages page b is in omega (arith, n.2)
-
-pub each_in : (map : PlaceMap) → 512 * pages_in map.broken ≡ vec_len map.values
-each_in map = omega (arith, map.counted, map.parted)
-
 pub base_none : (pages : List ℕ) (p : ℕ) → number_in pages p ≡ None → bases pages p ≡ None
 base_none pages p none = ap (option_map (λ n. 512 * n)) none
 
@@ -47,15 +43,7 @@ bases_more pages p q none = ap (option_map (λ n. 512 * n)) (number_push pages p
     pull true = refl
     pull false = refl
 
--- the number of the value of a place tells that of its page, and the other way
-pub number_of_index : (pages : List ℕ) (a n : ℕ) → index_of (bases pages) a ≡ Some (512 * n + a % 4096 / 8)
-    → number_in pages (a / 4096 * 4096) ≡ Some n
-number_of_index pages a n at =
-    let f = found (bases pages) a (512 * n + a % 4096 / 8) at in
-    let m = base_number pages (a / 4096 * 4096) f.start f.is in
-    let same : m.0 ≡ n = omega (arith, m.2, f.sum) in
-    m.1 ∙ ap (λ (k : ℕ). Some k) same
-
+-- the number of a place's page tells that of its value
 pub index_of_number : (pages : List ℕ) (a n : ℕ) → a % 8 ≡ 0 → number_in pages (a / 4096 * 4096) ≡ Some n
     → index_of (bases pages) a ≡ Some (512 * n + a % 4096 / 8)
 index_of_number pages a n aligned is = index_from (bases pages) a (512 * n) aligned (ap (option_map (λ n. 512 * n)) is)

@@ -1,5 +1,7 @@
+use Rattle.bbm_place_map.proofs.Common.{◌*◌, length}
 -- A map whose broken places changed.
-use Rattle.bbm_place_map.proofs.Common.{◌*◌, length, ◌≡◌, ◌⊎◌, ℕ, Bool, true, false, Some, None, nat_eq, ap, sym, subst}
+use Rattle.bbm_place_map.proofs.Bases.{numbered_in}
+use Rattle.bbm_place_map.proofs.Common.{◌≡◌, ◌⊎◌, ℕ, Bool, true, false, Some, None, nat_eq, ap, sym, subst}
 use Rattle.bbm_place_map.proofs.Common.{eqb-true, ◌∙◌}
 use Rattle.bbm_place_map.proofs.Common.{vec_len, if◌then◌else◌, slice_get, cond-false, cond-true, Vec, Global, bases}
 use Rattle.bbm_place_map.proofs.Common.{in_page, marks_of, page_of}
@@ -8,7 +10,6 @@ use Rattle.bbm_place_map.proofs.Common.{pages_in}
 use Rattle.bbm_place_map.proofs.Common.{AreSeated, BrokenPlaces, Breaks, Clears, Entry, PlaceMap, Option, Frees, Marks}
 use Rattle.bbm_place_map.proofs.Common.{WasSeated}
 use Rattle.bbm_place_map.proofs.Common.{split_by, if_then, inl, inr}
-use Rattle.bbm_place_map.proofs.Bases.{numbered_in}
 use Rattle.bbm_place_map.proofs.Idle.{idle_from}
 use Rattle.bbm_place_map.proofs.Linking.{marks_put, pends_put}
 use Rattle.bbm_place_map.proofs.Places.{at_page, at_place, index_none}
@@ -19,14 +20,14 @@ use Rattle.bbm_place_map.specs.Map.{marks_at, pends_at}
 abbrev pub Fits : PlaceMap → Vec ℕ Global → BrokenPlaces → Type 0
 Fits map values broken = record {
   counted : 512 * length map.pages ≡ vec_len values;
-  parted : pages_in broken ≡ length map.pages;
+  paged : pages_in broken ≡ length map.pages;
   placed : Placed (bases map.pages) broken.entries.list.items;
 }
 
 module _ (map : PlaceMap) (values : Vec ℕ Global) (new : BrokenPlaces) (many : vec_len values ≡ vec_len map.values)
     (pages : pages_in new ≡ pages_in map.broken) where
   fits : Placed (bases map.pages) new.entries.list.items → Fits map values new
-  fits placed = record { counted = map.counted ∙ sym many; parted = pages ∙ map.parted; placed = placed }
+  fits placed = record { counted = map.counted ∙ sym many; paged = pages ∙ map.paged; placed = placed }
 
   pub fits_seated : AreSeated map.broken.entries.list.items new.entries.list.items → Fits map values new
   fits_seated seats =

@@ -39,7 +39,6 @@ pub use Rattle.bbm_lemmas.proofs.Tautologies.{proved}
 pub use Rattle.bbm_lemmas.proofs.Tautologies.Claim.{If, Is}
 pub use Rattle.bbm_lemmas.specs.EveryPe.{every_pe}
 pub use Rattle.bbm_place_map.proofs.Points.{either, if_then, put_away, put_here, split_at, split_by}
-pub use Rattle.bbm_page_map.specs.PageLists.{number_in}
 pub use Rattle.bbm_place_map.specs.Cells.{cell_by, in_page, is_listed, number_of, slot_in, value_in}
 pub use Rattle.bbm_place_map.specs.Dsbs.{IsHeard, IsUnanswered}
 pub use Rattle.bbm_place_map.specs.Each.{Advances, Completes, Does, MayDo, Publishes, is_table, loses_table}
@@ -47,13 +46,15 @@ pub use Rattle.bbm_place_map.specs.Entries.{Adds, HasRoom, IsFirst, Lacks, Waits
 pub use Rattle.bbm_place_map.specs.Entries.{lane_of, marks_of, no_pend, no_pends, pend_in, pends_in, pends_of, position}
 pub use Rattle.bbm_place_map.specs.Entries.{position_at}
 pub use Rattle.bbm_place_map.specs.Finds.{FoundAs, cover_in, is_found}
+pub use Rattle.bbm_page_map.specs.PageLists.{number_in}
 pub use Rattle.bbm_place_map.specs.Map.{is_tracked, page_of, place_entry, state_at}
 pub use Rattle.bbm_place_map.specs.MapCalls.{Frees, IsSame, KeepsItems, Leaves}
 pub use Rattle.bbm_place_map.specs.Parts.{IsSound, entry_of_cell, marks_in, pends_for}
-pub use Rattle.bbm_place_map.specs.Broken.{Breaks, Clears, EachAdvances, HoldsSame, SameEntries, VisitsPlaces, entry_at}
-pub use Rattle.bbm_place_map.specs.Broken.{number_at, pages_in}
+pub use Rattle.bbm_place_map.specs.Broken.{Breaks, ChangesOne, Clears, EachAdvances, HoldsSame, IsKept, SameSeats}
+pub use Rattle.bbm_place_map.specs.Broken.{SameEntries, VisitsPlaces, entry_at}
+pub use Rattle.bbm_place_map.specs.Broken.{entry_number, number_at, pages_in}
 pub use Rattle.bbm_place_map.specs.declared.broken.BrokenPlaces.{BrokenPlaces}
-pub use Rattle.bbm_place_map.specs.PlaceNotes.{Keeps, KeepsOthers, KeepsUnfound, NotesAmong, NotesAs, NotesAt}
+pub use Rattle.bbm_place_map.specs.PlaceNotes.{Keeps, KeepsOthers, NotesAmong, NotesAs, NotesAt}
 pub use Rattle.bbm_place_map.specs.PlaceNotes.{NotesFound, NotesOne, is_cover}
 pub use Rattle.bbm_place_map.specs.Sound.{Linked, Numbered, Placed, SameSize, at_index, bases, index_of}
 pub use Rattle.bbm_place_map.specs.Puts.{AreSeated, ClearsCells, KeepsRoom, MarksCell, StillSound, WasSeated}

@@ -7,9 +7,10 @@ use Rattle.bbm_place_map.proofs.Common.{position, Entry}
 use Rattle.bbm_place_map.proofs.Common.{AreSeated, BrokenPlaces, Entries, IsSound, Numbered, StillSound, at_index}
 use Rattle.bbm_place_map.proofs.Common.{entry_at, entry_of_cell, number_at}
 use Rattle.bbm_place_map.proofs.Common.{put_here, put_away, either, ◌⊎◌, WasSeated, KeepsRoom}
+use Rattle.bbm_place_map.proofs.Common.{SameSize}
 use Rattle.bbm_place_map.proofs.Edits.{slot_past}
 use Rattle.bbm_place_map.proofs.Growing.{numbered_more}
-use Rattle.bbm_place_map.proofs.Positions.{found, free_cell, seats_by}
+use Rattle.bbm_place_map.proofs.Positions.{found, free_cell, positions_changed, seats_by, still_seated}
 use Rattle.bbm_place_map.proofs.Reaching.{cell_once, cell_start, put_through}
 use Rattle.bbm_place_map.proofs.Linking.{marks_put, pends_put}
 use Rattle.bbm_place_map.proofs.Seats.{by_index, seat_of, seated_at, the_cell}
@@ -84,6 +85,14 @@ sound_moved parts old new len space room seats sound =
 
 pub sound_seated : (parts : List ℕ) (old new : Entries) → StillSound old new → IsSound parts old → IsSound parts new
 sound_seated parts old new still = sound_moved parts old new still.room.len still.room.space still.room.room still.seats
+
+pub sound_changed : (parts : List ℕ) (old new : Entries) (k : ℕ) (e f : Entry) → slice_get old.list.items k ≡ Some e → position f ≡ position e
+    → ((i : ℕ) → slice_get new.list.items i ≡ (if nat_eq i k then Some f else slice_get old.list.items i)) → new.cells ≡ old.cells
+    → SameSize old.list new.list → IsSound parts old → IsSound parts new
+sound_changed parts old new k e f was seated gets same size =
+    sound_seated parts old new (still_seated old new same
+    (positions_changed old.cells.items old.list.items new.list.items e f e.cell k old.linked
+    (old.linked.back e.cell k (ap (option_map the_cell) was)) was seated gets) size)
 
 -- and with one more
 pub sound_marked : (parts : List ℕ) (old new : Entries) (j place cell : ℕ) → cell_by parts j ≡ Some cell → KeepsRoom old new

@@ -4,7 +4,7 @@ use Rattle.bbm_place_map.proofs.Common.{bases}
 use Rattle.bbm_place_map.proofs.Common.{sym, subst, ◌∙◌, arith, slice_get, get_or, option_map, slice_get_within}
 use Rattle.bbm_place_map.proofs.Common.{unwrap_or}
 use Rattle.bbm_place_map.proofs.Common.{slice_get-get_or, Cover, Noted, Broken, slot_in, entry_of, position}
-use Rattle.bbm_place_map.proofs.Common.{pends_in, pends_of, cover_in, is_found, FoundAs, KeepsUnfound, NotesAmong}
+use Rattle.bbm_place_map.proofs.Common.{pends_in, pends_of, cover_in, is_found, FoundAs, NotesAmong}
 use Rattle.bbm_place_map.proofs.Common.{NotesAt}
 use Rattle.bbm_place_map.proofs.Common.{index_of, at_index, state_from, entry_at, entry_in, entry_of_cell, cell_by}
 use Rattle.bbm_place_map.proofs.Common.{place_entry, Vec, Global}
@@ -40,7 +40,7 @@ module _ (R : ℕ → Entry → Entry → Type 0) (map : PlaceMap) (new : Broken
         let Q : Vec ℕ Global → Type 0 = λ v. P (entry_at map.broken j) (at_index None (λ c. entry_in v.items new.entries.list.items c) (cell_by new.parts.items j)) in
         let S : Vec ℕ Global → Type 0 = λ v. P (entry_at map.broken j)
         (at_index None (λ c. entry_in map.broken.entries.cells.items new.entries.list.items c) (cell_by v.items j)) in
-        subst Q (sym changed.cells) (subst S (sym changed.parts)
+        subst Q (sym changed.same.cells) (subst S (sym changed.same.parts)
         (at_each P None (entry_of_cell map.broken.entries) (λ c. entry_in map.broken.entries.cells.items new.entries.list.items c) none
         (λ c. by_number (slot_in map.broken.entries.cells.items c)) (cell_by map.broken.parts.items j)))
 
@@ -96,15 +96,15 @@ noted_found map new found by changed f fits a among =
     → Noted (state_from None (marks_of o)) (pends_of by.issuer o) by.reach by.broadcast (f a) (pends_of by.issuer p))
     (λ _ h. absurd (false≢true h))
     (λ m e g is seated h place _. subst (λ (c : Cover). Noted (Broken e.marks) (pends_in e.pends.items by.issuer) by.reach by.broadcast c
-    (pends_in g.pends.items by.issuer)) (ap (cover_in found) (place e refl) ∙ cover_is f found fits a among) h.2)
+    (pends_in g.pends.items by.issuer)) (ap (cover_in found) (place e refl) ∙ cover_is f found fits a among) h.0.2)
     a (λ e is. (entry_seat map a e is).2)
 
-pub unnoted_found : (map : PlaceMap) (new : BrokenPlaces) (found : List Found) (issuer : ℕ)
-    → EachAdvances (λ _. KeepsUnfound found issuer) map.broken new → (a : ℕ) → is_found found a ≡ false
-    → pends_of issuer (at_index None (entry_at new) (index_of (bases map.pages) a)) ≡ pends_of issuer (place_entry map a)
-unnoted_found map new found issuer changed a none =
-    by_place (λ _. KeepsUnfound found issuer) map new changed
-    (λ o p. ((e : Entry) → o ≡ Some e → e.place ≡ a) → pends_of issuer p ≡ pends_of issuer o)
+pub unnoted_found : (map : PlaceMap) (new : BrokenPlaces) (found : List Found) (by : Issuing)
+    → EachAdvances (λ _. NotesAmong found by) map.broken new → (a : ℕ) → is_found found a ≡ false
+    → pends_of by.issuer (at_index None (entry_at new) (index_of (bases map.pages) a)) ≡ pends_of by.issuer (place_entry map a)
+unnoted_found map new found by changed a none =
+    by_place (λ _. NotesAmong found by) map new changed
+    (λ o p. ((e : Entry) → o ≡ Some e → e.place ≡ a) → pends_of by.issuer p ≡ pends_of by.issuer o)
     (λ _. refl)
-    (λ m e g is seated h place. ap (λ (ps : List Pending). pends_in ps issuer) (h.1 (ap (is_found found) (place e refl) ∙ none)))
+    (λ m e g is seated h place. ap (λ (ps : List Pending). pends_in ps by.issuer) (h.1 (ap (is_found found) (place e refl) ∙ none)))
     a (λ e is. (entry_seat map a e is).2)

@@ -1,94 +1,88 @@
--- Entries that keep their places while a TLBI is noted.
-use Rattle.bbm_place_map.proofs.Common.{◌≡◌, ℕ, ◌+◌, ◌*◌, ◌≤◌, List, Some, None, ap, sym, ◌∙◌, arith, slice_get}
-use Rattle.bbm_place_map.proofs.Common.{bases, subst, position_at, position}
-use Rattle.bbm_place_map.proofs.Common.{at_index, cell_by, index_of, slot_in, option_map, none-some, BrokenPlaces}
-use Rattle.bbm_place_map.proofs.Common.{Entries, Entry, Numbered}
-use Rattle.bbm_place_map.proofs.Common.{Placed, SameSize, Vec, Global, number_at, pages_in}
-use Rattle.bbm_place_map.proofs.Common.{Advances, Issuing, Keeps, KeepsOthers, Waits, Work, WorkList}
-use Rattle.bbm_place_map.specs.PlaceNotes.{IsKept, OnlyNotes, entry_number}
+-- Entries that change each in its place.
+use Rattle.bbm_place_map.proofs.Common.{◌≡◌, ◌≢◌, ℕ, ◌*◌, List, Option, Some, None, refl, ap, sym, ◌∙◌, slice_get}
+use Rattle.bbm_place_map.proofs.Common.{nat_eq, if◌then◌else◌, inr, subst}
+use Rattle.bbm_place_map.proofs.Common.{at_index, index_of, none-some, position, BrokenPlaces, ChangesOne, EachAdvances}
+use Rattle.bbm_place_map.proofs.Common.{Entries, Entry}
+use Rattle.bbm_place_map.proofs.Common.{Advances, AreSeated, IsKept, Issuing, Keeps, KeepsOthers, Numbered, SameSeats}
+use Rattle.bbm_place_map.proofs.Common.{Vec, Global, Waits, Work, WorkList}
+use Rattle.bbm_place_map.proofs.Common.{entry_number, number_at, pages_in, vec_len}
+use Rattle.bbm_place_map.specs.PlaceNotes.{OnlyNotes}
 use Rattle.bbm_place_map.specs.Works.{Listed}
-use Rattle.bbm_place_map.specs.declared.issue.Kept.{Kept}
-use Rattle.bbm_place_map.proofs.Advancing.{advance_by, position_kept}
+use Rattle.bbm_place_map.proofs.Advancing.{advance_then, one_advances, position_kept}
 use Rattle.bbm_place_map.proofs.Held.{number_back, number_seat}
 use Rattle.bbm_place_map.proofs.Listing.{listed_noted, listed_roomed}
 use Rattle.bbm_place_map.proofs.Places.{index_once}
-use Rattle.bbm_place_map.proofs.Positions.{position_of}
+use Rattle.bbm_place_map.proofs.Positions.{seats_by, seats_kept}
 use Rattle.bbm_place_map.proofs.Seats.{by_index}
 
-pub size_then : {old mid new : Vec Entry Global} → SameSize old mid → SameSize mid new → SameSize old new
-size_then a b = record { len = b.len ∙ a.len; room = b.room ∙ a.room }
+pub seats_all : (old : BrokenPlaces) → SameSeats old old
+seats_all old = record { parts = refl; cells = refl; len = refl }
 
--- the entry of a place has its number
-pub number_of_place : {kept : Kept} {entries : Entries} → IsKept kept entries → (place m : ℕ) (x : Entry) → slice_get entries.list.items m ≡ Some x
-    → x.place ≡ place → entry_number kept entries place ≡ Some m
-number_of_place {kept} {entries} sound place m x is same = ap (entry_number kept entries) (sym same) ∙ sound.back m x is
+pub seats_more : {old mid new : BrokenPlaces} → SameSeats old mid → SameSeats mid new → SameSeats old new
+seats_more a b = record { parts = b.parts ∙ a.parts; cells = b.cells ∙ a.cells; len = b.len ∙ a.len }
 
-pub kept_moved : {kept : Kept} {old new : Entries} → IsKept kept old → new.cells ≡ old.cells
-    → ((m : ℕ) → position_at new.list.items m ≡ position_at old.list.items m) → IsKept kept new
-kept_moved {kept} {old} {new} sound same positions = record {
-  few = sound.few;
-  forth = λ place k h.
-      let e = sound.forth place k (sym (number place) ∙ h) in
-      let f = position_of (slice_get new.list.items k) e.0 (positions k ∙ ap (option_map position) e.1) in
-      (f.0, f.1, sym (ap (λ (p : ℕ × ℕ × ℕ). p.0) f.2) ∙ e.2);
-  back = λ k e h.
-      let f = position_of (slice_get old.list.items k) e (sym (positions k) ∙ ap (option_map position) h) in
-      number e.place ∙ ap (entry_number kept old) (ap (λ (p : ℕ × ℕ × ℕ). p.0) f.2) ∙ sound.back k f.0 f.1;
+pub each_then : {A B : ℕ → Entry → Entry → Type 0} (C : ℕ → Entry → Entry → Type 0) {old mid new : BrokenPlaces} → EachAdvances A old mid
+    → EachAdvances B mid new → ((m : ℕ) (e f g : Entry) → position f ≡ position e → A m e f → B m f g → C m e g) → EachAdvances C old new
+each_then {A} {B} C {old} {mid} {new} a b by = record {
+  same = seats_more a.same b.same;
+  each = λ m.
+      advance_then (A m) (B m) (C m) (by m) (slice_get old.entries.list.items m) (slice_get mid.entries.list.items m) (slice_get new.entries.list.items m)
+      (a.each m) (b.each m);
 }
-  where
-    number : (place : ℕ) → entry_number kept new place ≡ entry_number kept old place
-    number place =
-        ap (λ (v : Vec ℕ Global). at_index None (λ j. at_index None (slot_in v.items) (cell_by kept.parts.now j)) (index_of (bases kept.pages.now) place))
-        same
 
--- the broken places are kept where pages and parts say
-module _ (broken : BrokenPlaces) (kept : Kept) (is : kept.parts.now ≡ broken.parts.items)
-    (numbered : Numbered (bases kept.pages.now) (512 * pages_in broken)) (placed : Placed (bases kept.pages.now) broken.entries.list.items) where
-  number_read : (place : ℕ) → entry_number kept broken.entries place ≡ at_index None (number_at broken) (index_of (bases kept.pages.now) place)
-  number_read place =
-      ap (λ (xs : List ℕ). at_index None (λ j. at_index None (slot_in broken.entries.cells.items) (cell_by xs j)) (index_of (bases kept.pages.now) place)) is
+-- one entry changed
+pub one_changed : {R : Entry → Entry → Type 0} (S : Entry → Entry → Type 0) {old new : BrokenPlaces} {k : ℕ} → ChangesOne k R old new
+    → (e : Entry) → slice_get old.entries.list.items k ≡ Some e → ((f : Entry) → position f ≡ position e → R e f → S e f)
+    → ((m : ℕ) (x : Entry) → m ≢ k → slice_get old.entries.list.items m ≡ Some x → S x x) → EachAdvances (λ _. S) old new
+one_changed S {old} {new} {k} c e was now others =
+    let f = c.entry e was in
+    record {
+      same = c.same;
+      each = one_advances S old.entries.list.items new.entries.list.items k e f.0 was f.1 (now f.0 f.1 f.2) f.3 others;
+    }
 
-  forth : (place k : ℕ) → at_index None (number_at broken) (index_of (bases kept.pages.now) place) ≡ Some k
-      → (e : Entry) × (slice_get broken.entries.list.items k ≡ Some e) × (e.place ≡ place)
-  forth place k =
+pub moved : (R : ℕ → Entry → Entry → Type 0) (old new : List Entry) → ((m : ℕ) → Advances (R m) (slice_get old m) (slice_get new m)) → AreSeated old new
+moved R old new each = seats_kept old new (λ m. position_kept (R m) (slice_get old m) (slice_get new m) (each m))
+
+-- the places stay where the pages say
+pub kept_moved : {base : ℕ → Option ℕ} {R : ℕ → Entry → Entry → Type 0} {old new : BrokenPlaces} → IsKept base old → EachAdvances R old new → IsKept base new
+kept_moved {base} {R} {old} {new} kept changed =
+    let N : ℕ → Type 0 = λ n. Numbered base (512 * n) in
+    record {
+      numbered = subst N (sym (ap vec_len changed.same.parts)) kept.numbered;
+      placed =
+          seats_by (λ p. index_of base p.0 ≡ Some p.1) old.entries.list.items new.entries.list.items
+          (moved R old.entries.list.items new.entries.list.items changed.each) kept.placed;
+    }
+
+module _ {base : ℕ → Option ℕ} {broken : BrokenPlaces} (kept : IsKept base broken) (place : ℕ) where
+  -- a number is that of the entry of its place, and an entry has its number
+  pub place_of_number : (k : ℕ) → entry_number base broken place ≡ Some k → (e : Entry) × (slice_get broken.entries.list.items k ≡ Some e) × (e.place ≡ place)
+  place_of_number k =
       by_index (λ o. at_index None (number_at broken) o ≡ Some k → (e : Entry) × (slice_get broken.entries.list.items k ≡ Some e) × (e.place ≡ place))
-      (index_of (bases kept.pages.now) place) (λ h. absurd (none-some k h))
+      (index_of base place) (λ h. absurd (none-some k h))
       (λ j at h.
-      let e = number_seat broken j k h in (
-        e.0,
-        e.1,
-        index_once (bases kept.pages.now) (512 * pages_in broken) numbered e.0.place place j
-            (placed k e.0 e.1 ∙ ap (λ (n : ℕ). Some n) e.2) at,
-      ))
+      let e = number_seat broken j k h in
+      (e.0, e.1, index_once base (512 * pages_in broken) kept.numbered e.0.place place j (kept.placed k e.0 e.1 ∙ ap (λ (n : ℕ). Some n) e.2) at))
 
-  pub is_kept : IsKept kept broken.entries
-  is_kept = record {
-    few = λ page b at. let within : b + 512 ≤ 512 * pages_in broken = numbered.within page b at in omega (arith, within, broken.sound.few);
-    forth = λ place k h. forth place k (sym (number_read place) ∙ h);
-    back = λ k e h.
-        number_read e.place ∙ ap (at_index None (number_at broken)) (placed k e h) ∙ number_back broken k e h;
-  }
+  pub number_of_place : (m : ℕ) (x : Entry) → slice_get broken.entries.list.items m ≡ Some x → x.place ≡ place → entry_number base broken place ≡ Some m
+  number_of_place m x is same =
+      ap (entry_number base broken) (sym same) ∙ ap (at_index None (number_at broken)) (kept.placed m x is) ∙ number_back broken m x is
 
--- room was made, and then a TLBI was noted
-module _ (old mid : Entries) (e : (m : ℕ) → Advances Keeps (slice_get old.list.items m) (slice_get mid.list.items m)) where
-  pub roomed : (m : ℕ) → position_at mid.list.items m ≡ position_at old.list.items m
-  roomed m = position_kept Keeps (slice_get old.list.items m) (slice_get mid.list.items m) (e m)
+-- what is left to do where room was made at an entry, or a TLBI noted
+module _ (old new : Entries) (k : ℕ) (e f : Entry) (was : slice_get old.list.items k ≡ Some e) (seated : position f ≡ position e)
+    (gets : (i : ℕ) → slice_get new.list.items i ≡ (if nat_eq i k then Some f else slice_get old.list.items i)) (same : new.cells ≡ old.cells) where
+  pub listed_made : Keeps e f → (w : Work) → Listed w old.cells.items old.list.items → Listed w new.cells.items new.list.items
+  listed_made kept w listed =
+      let L : Vec ℕ Global → Type 0 = λ v. Listed w v.items new.list.items in
+      subst L (sym same) (listed_roomed old.cells.items old.list.items new.list.items
+      (one_advances Keeps old.list.items new.list.items k e f was seated kept gets (λ m x _ _. (refl, refl))) w listed)
 
-  pub listed_made : (w : Work) → mid.cells ≡ old.cells → Listed w old.cells.items old.list.items → Listed w mid.cells.items mid.list.items
-  listed_made w same listed =
-      let L : Vec ℕ Global → Type 0 = λ v. Listed w v.items mid.list.items in
-      subst L (sym same) (listed_roomed old.cells.items old.list.items mid.list.items e w listed)
-
-module _ (R : ℕ → Entry → Entry → Type 0) (mid new : Entries) (each : (m : ℕ) → Advances (R m) (slice_get mid.list.items m) (slice_get new.list.items m)) where
-  pub noted : (m : ℕ) → position_at new.list.items m ≡ position_at mid.list.items m
-  noted m = position_kept (R m) (slice_get mid.list.items m) (slice_get new.list.items m) (each m)
-
-  pub listed_after : (by : Issuing) (w : Work) (lists : Vec WorkList Global) → OnlyNotes mid new w.waiting.items lists.items
-      → ((m : ℕ) (e f : Entry) → R m e f → KeepsOthers by.issuer e f)
-      → ((m : ℕ) → Advances (Waits lists.items by.issuer) (slice_get mid.list.items m) (slice_get new.list.items m))
-      → Listed w mid.cells.items mid.list.items → Listed (record w { waiting = lists }) new.cells.items new.list.items
-  listed_after by w lists rest all waits listed =
+  pub listed_after : (by : Issuing) (w : Work) (lists : Vec WorkList Global) → OnlyNotes old new w.waiting.items lists.items → KeepsOthers by.issuer e f
+      → Waits lists.items by.issuer e f → Listed w old.cells.items old.list.items → Listed (record w { waiting = lists }) new.cells.items new.list.items
+  listed_after by w lists rest others waits listed =
       let L : Vec ℕ Global → Type 0 = λ v. Listed (record w { waiting = lists }) v.items new.list.items in
-      subst L (sym rest.cells)
-      (listed_noted mid.cells.items mid.list.items new.list.items by w lists mid.linked
-      (λ m. advance_by (R m) (KeepsOthers by.issuer) (all m) (slice_get mid.list.items m) (slice_get new.list.items m) (each m)) waits rest.kept listed)
+      subst L (sym same) (listed_noted old.cells.items old.list.items new.list.items by w lists old.linked
+      (one_advances (KeepsOthers by.issuer) old.list.items new.list.items k e f was seated others gets (λ m x _ _. (refl, λ q _. refl)))
+      (one_advances (Waits lists.items by.issuer) old.list.items new.list.items k e f was seated waits gets (λ m x _ _ wide. inr (λ quiet. quiet)))
+      rest.kept listed)

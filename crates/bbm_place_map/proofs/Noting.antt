@@ -2,10 +2,9 @@
 use Rattle.bbm_place_map.proofs.Common.{◌≡◌, ℕ, Bool, true, false, List, Some, slice_get, nat_eq, if◌then◌else◌, ◌&&◌}
 use Rattle.bbm_place_map.proofs.Common.{◌||◌, refl, ap, sym, subst, ◌∙◌, false≢true, same_Some, proved, Is, PeMask}
 use Rattle.bbm_place_map.proofs.Common.{Cover, Noted, waits, Marks, Pends, Broken, pends_in, NotesAs, NotesAt, is_cover}
-use Rattle.bbm_place_map.proofs.Common.{HoldsFor, IsQuiet, Waits, Entry, Issuing, WorkList, ◌≢◌, Keeps, Pending, pe_in}
+use Rattle.bbm_place_map.proofs.Common.{IsQuiet, Entry, Issuing, ◌≢◌, Keeps, Pending, pe_in}
 use Rattle.bbm_place_map.proofs.Common.{Found, NotesAmong, NotesFound, cover_in, is_found, position}
-use Rattle.bbm_place_map.proofs.Common.{NoCover, split_at, either}
-use Rattle.bbm_place_map.proofs.Common.{KeepsOthers, KeepsUnfound}
+use Rattle.bbm_place_map.proofs.Common.{NoCover, split_at}
 use Rattle.std.specs.Prelude.{Result, Ok, Err, OnErr}
 use Rattle.bbm_lemmas.specs.ListWords.{same_flag}
 
@@ -32,12 +31,6 @@ notes_at covers k cover by e f is notes = (
   notes.1,
   λ c at. subst (λ (x : Cover). NotesAs x by e f) (same_Some cover c (sym is ∙ at)) notes,
 )
-
-pub waits_kept : (lists lists' : List WorkList) (issuer : ℕ)
-    → ((wide : Bool) (q j : ℕ) → HoldsFor lists q wide j → HoldsFor lists' q wide j) → (e f : Entry)
-    → Waits lists issuer e f → Waits lists' issuer e f
-waits_kept lists lists' issuer kept e f waits wide =
-    either (waits wide) (kept wide issuer e.cell) (λ quiet. quiet)
 
 -- a TLBI leaves quiet what was so, if it isn't the first to wait there, or of those that aren't broadcast the first such
 pub quiet_noted : (marks : Marks) (r after : Pends) (reach : PeMask) (broadcast : Bool) (cover : Cover) → (IsQuiet broadcast r → ⊥)
@@ -66,10 +59,6 @@ pub gets_same : (entries : List Entry) (k : ℕ) (e : Entry) → slice_get entri
     → (i : ℕ) → slice_get entries i ≡ (if nat_eq i k then Some e else slice_get entries i)
 gets_same entries k e is i = split_at i k (λ same. ap (slice_get entries) same ∙ is) (λ _. refl)
 
-pub others_over : (issuer : ℕ) (e f g : Entry) → Keeps e f → KeepsOthers issuer f g → KeepsOthers issuer e g
-others_over issuer e f g kept others =
-    (others.0 ∙ kept.0, λ q other. others.1 q other ∙ ap (λ (ps : List Pending). pends_in ps q) kept.1)
-
 pub at_over : (covers : List Cover) (by : Issuing) (m : ℕ) (e f g : Entry) → Keeps e f → NotesAt covers by m f g → NotesAt covers by m e g
 at_over covers by m e f g kept notes = (
   notes.0 ∙ kept.0,
@@ -77,18 +66,13 @@ at_over covers by m e f g kept notes = (
   λ c at. notes_over c by e f g kept (notes.2 c at),
 )
 
-pub among_over : (found : List Found) (by : Issuing) (lists : List WorkList) (e f g : Entry) → position f ≡ position e → Keeps e f
-    → NotesFound found by lists f g → NotesAmong found by e g
-among_over found by lists e f g seated kept notes =
-    notes_over (cover_in found e.place) by e f g kept
-    (subst (λ (x : ℕ). NotesAs (cover_in found x) by f g) (ap (λ (p : ℕ × ℕ × ℕ). p.0) seated) notes.0)
-
-pub unfound_over : (found : List Found) (by : Issuing) (lists : List WorkList) (e f g : Entry) → position f ≡ position e → Keeps e f
-    → NotesFound found by lists f g → KeepsUnfound found by.issuer e g
-unfound_over found by lists e f g seated kept notes = (
-  others_over by.issuer e f g kept (notes.0.0, notes.0.1),
-  λ none. ap (λ (x : Entry). x.pends.items) (notes.1 (ap (is_found found) (ap (λ (p : ℕ × ℕ × ℕ). p.0) seated) ∙ none)) ∙ kept.1,
-)
+pub among_over : (found : List Found) (by : Issuing) (e f g : Entry) → position f ≡ position e → Keeps e f
+    → NotesFound found by f g → NotesAmong found by e g
+among_over found by e f g seated kept notes =
+    let place : f.place ≡ e.place = ap (λ (p : ℕ × ℕ × ℕ). p.0) seated in (
+      notes_over (cover_in found e.place) by e f g kept (subst (λ (x : ℕ). NotesAs (cover_in found x) by f g) place notes.0),
+      λ none. ap (λ (x : Entry). x.pends.items) (notes.1 (ap (is_found found) place ∙ none)) ∙ kept.1,
+    )
 
 pub on_err : {T E P : Type 0} (r : Result T E) → P → OnErr r P
 on_err (Ok x) p = tt

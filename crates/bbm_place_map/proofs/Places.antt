@@ -67,14 +67,6 @@ none_before : (page : ℕ) → page % 4096 ≡ 0 → page % 4096 / 8 ≡ 0
 none_before page first = omega (arith, first)
 
 module _ (base : ℕ → Option ℕ) (count : ℕ) (numbered : Numbered base count) where
-  pub index_inside : (a j : ℕ) → index_of base a ≡ Some j → j < count
-  index_inside a j h =
-      let f = found base a j h in
-      let below : a % 4096 / 8 < 512 = number_below a in
-      let in' : f.start + 512 ≤ count = numbered.within (a / 4096 * 4096) f.start f.is in
-      let sum : f.start + a % 4096 / 8 ≡ j = f.sum in
-      omega arith
-
   -- the places of a page have the cells from that of its first place on
   page_start : (page j : ℕ) → index_of base page ≡ Some j → page % 4096 ≡ 0 → base page ≡ Some j
   page_start page j h first =

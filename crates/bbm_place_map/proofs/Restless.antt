@@ -1,11 +1,11 @@
 -- The entries are those of the broken places.
+use Rattle.bbm_place_map.proofs.Bases.{numbered_in}
 use Rattle.bbm_place_map.proofs.Common.{◌≡◌, ℕ, ◌<◌, ◌%◌, true, List, length, Option, Some, None, is_some, refl, ap}
 use Rattle.bbm_place_map.proofs.Common.{sym, bases}
 use Rattle.bbm_place_map.proofs.Common.{◌∙◌, arith, inl, inr, slice_get, unwrap_or, option_map, false≢true, same_Some}
 use Rattle.bbm_place_map.proofs.Common.{none-some, slice_get_within, slice_get_cases, slot_in, entry_at}
 use Rattle.bbm_place_map.proofs.Common.{marks_of, pends_of, no_pends, place_entry, index_of, at_index, Entry, PlaceMap}
 use Rattle.bbm_place_map.proofs.Common.{vec_len}
-use Rattle.bbm_place_map.proofs.Bases.{numbered_in}
 use Rattle.bbm_place_map.proofs.Held.{item_at, seat_at}
 use Rattle.bbm_place_map.proofs.Places.{index_once, found}
 use Rattle.bbm_place_map.proofs.Seats.{the_cell, by_entry, by_index}

@@ -1,20 +1,20 @@
 -- A page that is tracked anew, once there is room for it.
-use Rattle.std.proofs.Common.{length-append}
-use Rattle.bbm_place_map.proofs.Common.{bases, number_in, ◌++◌, ◌∷◌, []}
 use Rattle.bbm_place_map.proofs.Common.{◌≡◌, ◌+◌, ◌*◌, ◌/◌, ◌%◌, ◌≤◌, ℕ, Bool, List, length, Option}
 use Rattle.bbm_place_map.proofs.Common.{Some, None}
 use Rattle.bbm_place_map.proofs.Common.{refl, ap, sym, subst, ◌∙◌, arith, vec_len}
-use Rattle.bbm_place_map.proofs.Common.{if◌then◌else◌, get_or_past, value_in, IsSame}
+use Rattle.bbm_place_map.proofs.Common.{if◌then◌else◌, get_or_past, bases, value_in, IsSame}
 use Rattle.bbm_place_map.proofs.Common.{option_map, slice_get}
 use Rattle.bbm_place_map.proofs.Common.{KeepsItems, Numbered, Placed, at_index, index_of, BrokenPlaces, Entry}
 use Rattle.bbm_place_map.proofs.Common.{HoldsSame, SameEntries}
 use Rattle.bbm_place_map.proofs.Common.{PlaceMap, entry_at, entry_in, entry_of_cell, cell_by, marks_of, pends_of}
 use Rattle.bbm_place_map.proofs.Common.{place_entry, pages_in}
 use Rattle.std.specs.Prelude.{unwrap_or}
-use Rattle.bbm_place_map.proofs.Bases.{base_none, bases_more, each_in, numbered_in}
 use Rattle.bbm_place_map.proofs.Edits.{slot_past}
+use Rattle.std.proofs.Common.{length-append}
+use Rattle.bbm_place_map.proofs.Bases.{base_none, bases_more, numbered_in}
+use Rattle.bbm_place_map.proofs.Common.{bases, number_in, ◌++◌, ◌∷◌, []}
 use Rattle.bbm_place_map.proofs.Growing.{flip, placed_more, points_more, Grown}
-use Rattle.bbm_place_map.specs.Map.{marks_at, pages_of, pends_at, value_at, restless_in, restless_place}
+use Rattle.bbm_place_map.specs.Map.{pages_of, marks_at, pends_at, value_at, restless_in, restless_place}
 
 -- the same parts, cells and entries
 held_same : (old new : BrokenPlaces) → HoldsSame old new → (j : ℕ) → entry_at new j ≡ entry_at old j
@@ -51,42 +51,40 @@ entry_past broken j past =
     ap (at_index None (entry_of_cell broken.entries))
     (ap (option_map (λ start. start + j % 512)) (slot_past broken.parts.items (j / 512) (omega (arith, past))))
 
-module _ (old map : PlaceMap) (kept : KeepsItems old map) (more : List ℕ) (page : ℕ) (added : more ≡ map.pages ++ page ∷ [])
-    (none : number_in map.pages page ≡ None) where
-  abbrev new : ℕ → Option ℕ
-  new = bases more
+module _ (old map : PlaceMap) (kept : KeepsItems old map) (new : List ℕ) (page : ℕ) (added : new ≡ map.pages ++ page ∷ [])
+    (untracked : number_in map.pages page ≡ None) where
+  same : IsSame old map
+  same = kept_same old map kept
 
   abbrev base : ℕ
   base = 512 * length map.pages
 
-  same : IsSame old map
-  same = kept_same old map kept
-
   count : vec_len map.values ≡ base
   count = sym map.counted
 
-  grown : Grown (bases map.pages) new page base
+  grown : Grown (bases map.pages) (bases new) page base
   grown = record {
-    updates = λ p. ap (λ (ps : List ℕ). bases ps p) added ∙ bases_more map.pages page p none
+    updates = λ p. ap (λ (ps : List ℕ). bases ps p) added ∙ bases_more map.pages page p untracked
         ∙ ap (λ (t : Bool). if t then Some base else bases map.pages p) (flip page page p refl);
-    free = base_none map.pages page none;
+    free = base_none map.pages page untracked;
     numbered = let P : ℕ → Type 0 = Numbered (bases map.pages) in subst P count (numbered_in map);
   }
 
-  long_then : length more ≡ length map.pages + 1
-  long_then = ap (λ (ps : List ℕ). length ps) added ∙ length-append map.pages (page ∷ [])
+  pub counted_then : (values : ℕ) → values ≡ vec_len map.values + 512 → 512 * length new ≡ values
+  counted_then values more =
+      let longer : length new ≡ length map.pages + 1 = ap length added ∙ length-append map.pages (page ∷ []) in
+      omega (arith, longer, more, count)
 
-  pub counted_then : (values : ℕ) → values ≡ base + 512 → 512 * length more ≡ values
-  counted_then values many = let long = long_then in omega (arith, long, many)
+  pub paged_then : (pages : ℕ) → pages ≡ pages_in map.broken + 1 → pages ≡ length new
+  paged_then pages more =
+      let longer : length new ≡ length map.pages + 1 = ap length added ∙ length-append map.pages (page ∷ []) in
+      omega (arith, longer, more, map.paged)
 
-  pub parted_then : (pages : ℕ) → pages ≡ pages_in map.broken + 1 → pages ≡ length more
-  parted_then pages one = let long = long_then in omega (arith, long, one, map.parted)
-
-  pub placed_then : Placed new map.broken.entries.list.items
+  pub placed_then : Placed (bases new) map.broken.entries.list.items
   placed_then = placed_more grown map.broken.entries.list.items map.placed
 
   pub values_then : (values : List ℕ) → ((i : ℕ) → value_in values i ≡ value_in map.values.items i) → (a : ℕ)
-      → at_index 0 (value_in values) (index_of new a) ≡ value_at old a
+      → at_index 0 (value_in values) (index_of (bases new) a) ≡ value_at old a
   unfolding value_at
   values_then values stay a =
       points_more grown 0 (value_in map.values.items) (value_in values) stay
@@ -94,15 +92,15 @@ module _ (old map : PlaceMap) (kept : KeepsItems old map) (more : List ℕ) (pag
       ∙ same.values a
 
   module _ (broken : BrokenPlaces) (entries : SameEntries map.broken broken) where
-    entry_then : (a : ℕ) → at_index None (entry_at broken) (index_of new a) ≡ place_entry map a
+    entry_then : (a : ℕ) → at_index None (entry_at broken) (index_of (bases new) a) ≡ place_entry map a
     entry_then =
         points_more grown None (entry_at map.broken) (entry_at broken) entries.entries
-        (λ i past. entry_past map.broken i (omega (arith, past, count, (each_in map))))
+        (λ i past. entry_past map.broken i (omega (arith, past, count, map.counted, map.paged)))
 
-    pub marks_then : (a : ℕ) → marks_of (at_index None (entry_at broken) (index_of new a)) ≡ marks_at old a
+    pub marks_then : (a : ℕ) → marks_of (at_index None (entry_at broken) (index_of (bases new) a)) ≡ marks_at old a
     unfolding marks_at
     marks_then a = ap marks_of (entry_then a) ∙ same.marks a
 
-    pub pends_then : (q a : ℕ) → pends_of q (at_index None (entry_at broken) (index_of new a)) ≡ pends_at old q a
+    pub pends_then : (q a : ℕ) → pends_of q (at_index None (entry_at broken) (index_of (bases new) a)) ≡ pends_at old q a
     unfolding pends_at
     pends_then q a = ap (pends_of q) (entry_then a) ∙ same.pends q a

@@ -1,20 +1,18 @@
 -- Where a TLBI is noted at the places of a few items, and at no others.
-use Rattle.bbm_place_map.proofs.Common.{◌≡◌, ℕ, Bool, true, false, nat_eq, List, [], ◌∷◌, ◌++◌, Option, Some, None, ap}
+use Rattle.bbm_place_map.proofs.Common.{◌≡◌, ℕ, true, false, nat_eq, List, [], ◌∷◌, ◌++◌, Option, Some, None, ap}
 use Rattle.bbm_place_map.proofs.Common.{sym, subst, ◌∙◌, inl, inr, cases_Bool, eq-eqb, eqb-true, false≢true, Cover}
-use Rattle.bbm_place_map.proofs.Common.{Advances, position, cover_in, is_found, NotesAs, NotesOne, NotesFound, HoldsFor}
-use Rattle.bbm_place_map.proofs.Common.{Waits, Entry, Found, Issuing, WorkList}
+use Rattle.bbm_place_map.proofs.Common.{Advances, position, cover_in, is_found, NotesAs, NotesOne, NotesFound}
+use Rattle.bbm_place_map.proofs.Common.{Entry, Found, Issuing}
 use Rattle.bbm_place_map.proofs.Finding.{cover_here, cover_off, cover_old, found_here, found_off}
-use Rattle.bbm_place_map.proofs.Noting.{waits_kept}
 
 -- one more item
-module _ (xs : List Found) (x : Found) (by : Issuing) (lists lists' : List WorkList)
-    (kept : (wide : Bool) (q j : ℕ) → HoldsFor lists q wide j → HoldsFor lists' q wide j) where
+module _ (xs : List Found) (x : Found) (by : Issuing) where
   by_cover : (c c' : Cover) (e f : Entry) → c' ≡ c → NotesAs c by e f → NotesAs c' by e f
   by_cover c c' e f is notes = let P : Cover → Type 0 = λ y. NotesAs y by e f in subst P (sym is) notes
 
   -- one that counts
-  pub note_step : is_found xs x.place ≡ false → (e f g : Entry) → position f ≡ position e → NotesFound xs by lists e f
-      → NotesOne x.place x.cover by lists' f g → NotesFound (xs ++ x ∷ []) by lists' e g
+  pub note_step : is_found xs x.place ≡ false → (e f g : Entry) → position f ≡ position e → NotesFound xs by e f
+      → NotesOne x.place x.cover by f g → NotesFound (xs ++ x ∷ []) by e g
   note_step fresh e f g seated before now =
       let place : f.place ≡ e.place = ap (λ (s : ℕ × ℕ × ℕ). s.0) seated in
       elim (cases_Bool (nat_eq x.place e.place)) [
@@ -22,43 +20,37 @@ module _ (xs : List Found) (x : Found) (by : Issuing) (lists lists' : List WorkL
             let here : x.place ≡ e.place = eqb-true x.place e.place is in
             let new : is_found xs e.place ≡ false = ap (is_found xs) (sym here) ∙ fresh in
             let same : f ≡ e = before.1 new in
-            let P : Entry → Type 0 = λ y. NotesAs x.cover by y g in
-            let W : Entry → Type 0 = λ y. Waits lists' by.issuer y g in (
+            let P : Entry → Type 0 = λ y. NotesAs x.cover by y g in (
               by_cover x.cover (cover_in (xs ++ x ∷ []) e.place) e g (cover_here xs x e.place new is) (subst P same (now.0 (place ∙ sym here))),
               λ none. absurd (false≢true (sym none ∙ found_here xs x e.place is)),
-              subst W same now.2,
             )
         | inr off ↦
             let same : g ≡ f = now.1 (λ at. false≢true (sym off ∙ eq-eqb x.place e.place (sym at ∙ place))) in
-            let P : Entry → Type 0 = λ y. NotesAs (cover_in xs e.place) by e y in
-            let W : Entry → Type 0 = λ y. Waits lists' by.issuer e y in (
+            let P : Entry → Type 0 = λ y. NotesAs (cover_in xs e.place) by e y in (
               by_cover (cover_in xs e.place) (cover_in (xs ++ x ∷ []) e.place) e g (cover_off xs x e.place off) (subst P (sym same) before.0),
               λ none. same ∙ before.1 (sym (found_off xs x e.place off) ∙ none),
-              subst W (sym same) (waits_kept lists lists' by.issuer kept e f before.2),
             )
       ]
 
   -- one whose place an item before it has
-  pub skip_step : is_found xs x.place ≡ true → (e f : Entry) → NotesFound xs by lists e f
-      → NotesFound (xs ++ x ∷ []) by lists e f
+  pub skip_step : is_found xs x.place ≡ true → (e f : Entry) → NotesFound xs by e f
+      → NotesFound (xs ++ x ∷ []) by e f
   skip_step old e f before =
       elim (cases_Bool (nat_eq x.place e.place)) [
         | inl is ↦
             let known : is_found xs e.place ≡ true = ap (is_found xs) (sym (eqb-true x.place e.place is)) ∙ old in (
               by_cover (cover_in xs e.place) (cover_in (xs ++ x ∷ []) e.place) e f (cover_old xs x e.place known) before.0,
               λ none. absurd (false≢true (sym none ∙ found_here xs x e.place is)),
-              before.2,
             )
         | inr off ↦ (
           by_cover (cover_in xs e.place) (cover_in (xs ++ x ∷ []) e.place) e f (cover_off xs x e.place off) before.0,
           λ none. before.1 (sym (found_off xs x e.place off) ∙ none),
-          before.2,
         )
       ]
 
 -- an entry whose place isn't among the items is as it was
-pub unfound_kept : (xs : List Found) (by : Issuing) (lists : List WorkList) (o : Option Entry) (e : Entry)
-    → Advances (NotesFound xs by lists) o (Some e) → is_found xs e.place ≡ false → o ≡ Some e
-unfound_kept xs by lists None e h none = absurd h
-unfound_kept xs by lists (Some e') e h none =
+pub unfound_kept : (xs : List Found) (by : Issuing) (o : Option Entry) (e : Entry)
+    → Advances (NotesFound xs by) o (Some e) → is_found xs e.place ≡ false → o ≡ Some e
+unfound_kept xs by None e h none = absurd h
+unfound_kept xs by (Some e') e h none =
     ap (λ (y : Entry). Some y) (sym (h.1.1 (ap (λ (s : ℕ × ℕ × ℕ). is_found xs s.0) (sym h.0) ∙ none)))

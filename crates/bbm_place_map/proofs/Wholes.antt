@@ -3,7 +3,7 @@ use Rattle.bbm_place_map.proofs.Common.{◌≡◌, ℕ, nat_eq, Option, Some, re
 use Rattle.bbm_place_map.proofs.Common.{Written, Marks, EntryState, Live, marks_of_state}
 use Rattle.bbm_place_map.proofs.Common.{PlaceMap}
 use Rattle.bbm_place_map.specs.MapCalls.{WritesAs}
-use Rattle.bbm_place_map.specs.Map.{marks_at, pages_of, pends_at, value_at}
+use Rattle.bbm_place_map.specs.Map.{pages_of, marks_at, pends_at, value_at}
 
 -- a valid value makes it live
 pub made : (old : EntryState) (pe : ℕ) (core : Core) → Written old pe (Some core) (Live core)

@@ -6,10 +6,10 @@ use Rattle.bbm_entry_state.specs.declared.marks.Marks.{Marks}
 use Rattle.bbm_place_map.specs.Cells.{cell_by, slot_in}
 use Rattle.bbm_place_map.specs.Dsbs.{KeepsSeats}
 use Rattle.bbm_place_map.specs.Each.{Advances, Does, loses_table}
-use Rattle.bbm_place_map.specs.Entries.{marks_of, pends_in, pends_of}
+use Rattle.bbm_place_map.specs.Entries.{marks_of, pends_in, pends_of, position}
 use Rattle.bbm_place_map.specs.Parts.{entry_of_cell}
 use Rattle.bbm_place_map.specs.Puts.{AreSeated, WasSeated}
-use Rattle.bbm_place_map.specs.Sound.{at_index}
+use Rattle.bbm_place_map.specs.Sound.{Numbered, Placed, at_index, index_of}
 use Rattle.bbm_place_map.specs.declared.broken.BrokenPlaces.{BrokenPlaces}
 use Rattle.bbm_place_map.specs.declared.entry.Entry.{Entry}
 use Rattle.bbm_place_map.specs.declared.orders.Barrier.{Barrier}
@@ -61,12 +61,31 @@ pub record Clears (these : ℕ → Bool) (old new : BrokenPlaces) : Type 0 where
   pub seats : AreSeated old.entries.list.items new.entries.list.items
   pub entries : (i : ℕ) → entry_at new i ≡ (if these i then None else entry_at old i)
 
--- The entries change each in its place, as the relation says.
-pub record EachAdvances (R : ℕ → Entry → Entry → Type 0) (old new : BrokenPlaces) : Type 0 where
+-- As many entries of the same cells.
+pub record SameSeats (old new : BrokenPlaces) : Type 0 where
   pub parts : new.parts ≡ old.parts
   pub cells : new.entries.cells ≡ old.entries.cells
   pub len : length new.entries.list.items ≡ length old.entries.list.items
+
+-- One entry changes in its place, as the relation says.
+pub record ChangesOne (k : ℕ) (R : Entry → Entry → Type 0) (old new : BrokenPlaces) : Type 0 where
+  pub same : SameSeats old new
+  pub entry : (e : Entry) → slice_get old.entries.list.items k ≡ Some e → (f : Entry) × (position f ≡ position e) × R e f
+      × ((i : ℕ) → slice_get new.entries.list.items i ≡ (if nat_eq i k then Some f else slice_get old.entries.list.items i))
+
+-- Each entry does.
+pub record EachAdvances (R : ℕ → Entry → Entry → Type 0) (old new : BrokenPlaces) : Type 0 where
+  pub same : SameSeats old new
   pub each : (m : ℕ) → Advances (R m) (slice_get old.entries.list.items m) (slice_get new.entries.list.items m)
+
+-- the number of the entry of a place, where pages have these bases; None where the place isn't broken
+abbrev pub entry_number : (ℕ → Option ℕ) → BrokenPlaces → ℕ → Option ℕ
+entry_number base broken place = at_index None (number_at broken) (index_of base place)
+
+-- Pages have values there, and the place of each entry is that of its number.
+pub record IsKept (base : ℕ → Option ℕ) (broken : BrokenPlaces) : Type 0 where
+  pub numbered : Numbered base (512 * pages_in broken)
+  pub placed : Placed base broken.entries.list.items
 
 -- A DSB visited each broken place, and told whether one over a table left.
 pub record VisitsPlaces (by : Barrier) (old new : BrokenPlaces) (told : Bool) : Type 0 where

@@ -1,7 +1,7 @@
 -- What the map says of each place and page. Each word is total: a place of no tracked page holds 0, isn't broken, and
 -- nothing waits there.
 -- Source: project's own choice.
-use Rattle.std.specs.Prelude.{◌≡◌, ℕ, Bool, List, Option, Some, None, is_some, length, ◌*◌, ◌/◌, slice_get, unwrap_or}
+use Rattle.std.specs.Prelude.{◌≡◌, ℕ, Bool, Option, Some, None, is_some, length, List, ◌*◌, ◌/◌, slice_get, unwrap_or}
 use Rattle.std.specs.Option.{option_map}
 use Rattle.bbm_descriptor.specs.declared.desc.Core.{Core}
 use Rattle.bbm_entry_state.specs.declared.marks.Marks.{Marks}

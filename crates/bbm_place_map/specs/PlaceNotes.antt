@@ -1,6 +1,6 @@
 -- What the issue of a TLBI makes of each entry.
 -- Source: project's own choice.
-use Rattle.std.specs.Prelude.{◌≡◌, ◌≢◌, ◌≤◌, ◌+◌, ◌^◌, ℕ, Bool, true, false, List, Option, Some, None}
+use Rattle.std.specs.Prelude.{◌≡◌, ◌≢◌, ◌≤◌, ℕ, Bool, true, false, List, Some}
 use Rattle.std.specs.Prelude.{slice_get}
 use Rattle.bbm_tlbi_scope.specs.declared.entry.Cover.{Cover}
 use Rattle.bbm_tlbi_scope.specs.declared.entry.Cover.TheVariants.{None as NoCover, Half, Second, Full}
@@ -8,27 +8,13 @@ use Rattle.bbm_entry_state.specs.EntryCalls.{Noted}
 use Rattle.bbm_entry_state.specs.declared.state.EntryState.TheVariants.{Broken}
 use Rattle.bbm_place_map.specs.Entries.{pends_in, HasRoom}
 use Rattle.bbm_place_map.specs.Finds.{cover_in, is_found}
-use Rattle.bbm_place_map.specs.Cells.{cell_by, slot_in}
-use Rattle.bbm_place_map.specs.Sound.{SameSize, at_index, bases, index_of}
-use Rattle.bbm_place_map.specs.Works.{HoldsFor, Waits}
+use Rattle.bbm_place_map.specs.Sound.{SameSize}
+use Rattle.bbm_place_map.specs.Works.{HoldsFor}
 use Rattle.bbm_place_map.specs.declared.entries.Entries.{Entries}
-use Rattle.bbm_place_map.specs.declared.issue.Kept.{Kept}
 use Rattle.bbm_place_map.specs.declared.entry.Entry.{Entry}
 use Rattle.bbm_place_map.specs.declared.found.Found.{Found}
 use Rattle.bbm_place_map.specs.declared.orders.Issuing.{Issuing}
 use Rattle.bbm_place_map.specs.declared.work.WorkList.{WorkList}
-
--- the number of the entry of a place; None where the place isn't broken
-abbrev pub entry_number : Kept → Entries → ℕ → Option ℕ
-entry_number kept entries place = at_index None (λ j. at_index None (slot_in entries.cells.items) (cell_by kept.parts.now j))
-    (index_of (bases kept.pages.now) place)
-
--- Each number is that of an entry of its place, and each entry has its number. The numbers of values are few.
-pub record IsKept (kept : Kept) (entries : Entries) : Type 0 where
-  pub few : (page b : ℕ) → bases kept.pages.now page ≡ Some b → b + 512 ≤ 2 ^ 32
-  pub forth : (place k : ℕ) → entry_number kept entries place ≡ Some k
-      → (e : Entry) × (slice_get entries.list.items k ≡ Some e) × (e.place ≡ place)
-  pub back : (k : ℕ) (e : Entry) → slice_get entries.list.items k ≡ Some e → entry_number kept entries e.place ≡ Some k
 
 abbrev pub is_cover : Cover → Bool
 is_cover NoCover = false
@@ -69,22 +55,17 @@ NotesAt covers by m e f =
     × ((c : Cover) → slice_get covers m ≡ Some c → NotesAs c by e f)
 
 -- the TLBI is noted at one place, and no other entry changes
-abbrev pub NotesOne : ℕ → Cover → Issuing → List WorkList → Entry → Entry → Type 0
-NotesOne place cover by lists e f =
-    (e.place ≡ place → NotesAs cover by e f) × (e.place ≢ place → f ≡ e) × Waits lists by.issuer e f
+abbrev pub NotesOne : ℕ → Cover → Issuing → Entry → Entry → Type 0
+NotesOne place cover by e f = (e.place ≡ place → NotesAs cover by e f) × (e.place ≢ place → f ≡ e)
 
 -- the TLBI is noted as far as the items cover the place, and an entry whose place isn't among them stays
-abbrev pub NotesFound : List Found → Issuing → List WorkList → Entry → Entry → Type 0
-NotesFound found by lists e f =
-    NotesAs (cover_in found e.place) by e f × (is_found found e.place ≡ false → f ≡ e) × Waits lists by.issuer e f
+abbrev pub NotesFound : List Found → Issuing → Entry → Entry → Type 0
+NotesFound found by e f = NotesAs (cover_in found e.place) by e f × (is_found found e.place ≡ false → f ≡ e)
 
 -- so it is, whatever room was made before
 abbrev pub NotesAmong : List Found → Issuing → Entry → Entry → Type 0
-NotesAmong found by e f = NotesAs (cover_in found e.place) by e f
-
--- and at a place that isn't among the items all stays
-abbrev pub KeepsUnfound : List Found → ℕ → Entry → Entry → Type 0
-KeepsUnfound found issuer e f = KeepsOthers issuer e f × (is_found found e.place ≡ false → f.pends.items ≡ e.pends.items)
+NotesAmong found by e f =
+    NotesAs (cover_in found e.place) by e f × (is_found found e.place ≡ false → f.pends.items ≡ e.pends.items)
 
 -- As many entries of the same cells, in as much room, and the lists have what they had.
 pub record OnlyNotes (old new : Entries) (lists lists' : List WorkList) : Type 0 where

@@ -10,14 +10,15 @@ ghost use Rattle.bbm_entry_state.specs.declared.marks.Marks.{Marks as TheMarks};
 ghost use Rattle.bbm_entry_state.specs.declared.state.EntryState.TheVariants as state;
 ghost use Rattle.bbm_place_map.specs.Cells.{in_page, slot_in};
 ghost use Rattle.bbm_place_map.specs.Dsbs.{HasEffect};
-ghost use Rattle.bbm_place_map.specs.PlaceNotes.{Keeps, KeepsOthers, KeepsUnfound, NotesAmong, NotesAt};
+ghost use Rattle.bbm_place_map.specs.Entries.{HasRoom, lane_of};
+ghost use Rattle.bbm_place_map.specs.PlaceNotes.{Keeps, NotesAs, is_cover};
 ghost use Rattle.bbm_place_map.specs.Parts.{IsSound};
 ghost use Rattle.bbm_place_map.specs.Works.{Listed};
+ghost use Rattle.bbm_place_map.specs.declared.entry.Entry.{Entry as TheEntry};
 
 use crate::entries::{Entries, put_slot};
 use crate::entry::Entry;
-use crate::found::{Answer, Found};
-use crate::issue::{self, Kept};
+use crate::issue::{make_room_at, note_entry};
 use crate::lane::Lane;
 use crate::orders::{Barrier, Effect, Issuing};
 use crate::read::{self, VALUES};
@@ -25,8 +26,8 @@ use crate::work::{self, Work};
 use crate::{visit, write};
 use bbm_descriptor::Core;
 use bbm_entry_state::Marks;
-use bbm_page_map::PageNumbers;
 use bbm_regimes::{NoMemory, Pe, Place};
+use bbm_tlbi_scope::Cover;
 use std::alloc::Global;
 
 /// The number of pages whose places may be kept.
@@ -39,16 +40,16 @@ const MAX_PAGES: usize = 1 << 22;
 pub struct BrokenPlaces {
     alloc: Global,
     parts: Vec<u32>,
-    entries: Entries,
+    /// The entries, by their cells.
+    pub entries: Entries,
     work: Work,
     ghost sound: { IsSound parts.items entries },
     ghost listed: { Listed work entries.cells.items entries.list.items },
 }
 
 impl BrokenPlaces {
-    ghost use Rattle.bbm_place_map.specs.Broken.{Breaks, Clears, EachAdvances, HasPageRoom, HoldsSame, IsAt, SameEntries};
+    ghost use Rattle.bbm_place_map.specs.Broken.{Breaks, ChangesOne, Clears, HasPageRoom, HoldsSame, IsAt, SameEntries};
     ghost use Rattle.bbm_place_map.specs.Broken.{VisitsPlaces, entry_at, number_at, pages_in};
-    ghost use Rattle.bbm_place_map.specs.Sound.{Numbered, Placed, bases};
 
     /// No page, and so no broken place. It takes no memory.
     pub fn new(alloc: Global) -> BrokenPlaces
@@ -244,54 +245,23 @@ impl BrokenPlaces {
         }
     }
 
-    /// Notes a TLBI at each broken place, as far as it covers them, by their numbers. `NoMemory` where there is none, and
-    /// nothing changes then but the room.
-    pub fn issue_all(&mut self, tlbi: &Issuing, covers: &[Answer]) -> Result<(), NoMemory>
-        requires { length covers.now ≡ length self.old.entries.list.items }
-        ensures noted { OnOk result (EachAdvances (NotesAt covers.now tlbi.now) self.old self.new) }
-        ensures only { EachAdvances (λ _. KeepsOthers tlbi.now.issuer) self.old self.new }
-        ensures kept { OnErr result (EachAdvances (λ _. Keeps) self.old self.new) }
+    /// Makes room at an entry for what waits for the answers of a lane. `NoMemory` where there is none.
+    #[inline(always)]
+    pub fn make_room(&mut self, k: usize, lane: Lane) -> Result<(), NoMemory>
+        requires { k < length self.old.entries.list.items }
+        ensures { ChangesOne k (λ e f. Keeps e f × OnOk result (HasRoom f.pends lane)) self.old self.new }
     {
-        let lane = Lane::new(tlbi.issuer, tlbi.broadcast);
-        let start = issue::first_open(&self.entries, covers, tlbi);
-        issue::make_room(&mut self.entries, covers, start, lane)?;
-        issue::note(
-            &mut self.entries,
-            covers,
-            start,
-            tlbi,
-            &mut self.work.waiting,
-        );
-        Ok(())
+        make_room_at(&mut self.entries, k, lane)
     }
 
-    /// Notes a TLBI at each broken place of these items, as far as the first item of it says. Pages tell of each place
-    /// which number it has. `NoMemory` where there is none, and nothing changes then but the room.
-    pub fn issue_at(
-        &mut self,
-        pages: &PageNumbers,
-        tlbi: &Issuing,
-        found: &[Found],
-    ) -> Result<(), NoMemory>
-        requires numbered { Numbered (bases pages.now) (VALUES * pages_in self.old) }
-        requires placed { Placed (bases pages.now) self.old.entries.list.items }
-        ensures noted { OnOk result (EachAdvances (λ _. NotesAmong found.now tlbi.now) self.old self.new) }
-        ensures only { EachAdvances (λ _. KeepsUnfound found.now tlbi.now.issuer) self.old self.new }
-        ensures kept { OnErr result (EachAdvances (λ _. Keeps) self.old self.new) }
+    /// Notes a TLBI at an entry that is covered so far, if it isn't noted there already, where there is room for its lane.
+    #[inline(always)]
+    pub fn note(&mut self, k: usize, tlbi: &Issuing, cover: Cover)
+        requires within { k < length self.old.entries.list.items }
+        requires ready { (e : TheEntry) → slice_get self.old.entries.list.items k ≡ Some e → is_cover cover ≡ true
+            → HasRoom e.pends (lane_of tlbi.now.issuer tlbi.now.broadcast) }
+        ensures { ChangesOne k (NotesAs cover tlbi.now) self.old self.new }
     {
-        let lane = Lane::new(tlbi.issuer, tlbi.broadcast);
-        let kept = Kept {
-            pages,
-            parts: &self.parts,
-        };
-        issue::make_room_found(&kept, &mut self.entries, found, lane)?;
-        issue::note_found(
-            &kept,
-            &mut self.entries,
-            found,
-            tlbi,
-            &mut self.work.waiting,
-        );
-        Ok(())
+        note_entry(&mut self.entries, k, tlbi, cover, &mut self.work.waiting);
     }
 }

@@ -9,46 +9,42 @@ ghost use Rattle.bbm_tlbi_scope.specs.declared.entry.Cover.{Cover as TheCover};
 ghost use Rattle.bbm_place_map.specs.Each.{Advances};
 ghost use Rattle.bbm_place_map.specs.Entries.{position, lane_of, pends_in, HasRoom};
 ghost use Rattle.bbm_place_map.specs.Finds.{is_found};
-ghost use Rattle.bbm_place_map.specs.Sound.{SameSize};
-ghost use Rattle.bbm_place_map.specs.PlaceNotes.{IsKept, IsNoted, Keeps, NotesAs, NotesAt, NotesFound, NotesOne};
-ghost use Rattle.bbm_place_map.specs.PlaceNotes.{OnlyNotes, Readies, entry_number, is_cover as spec_is_cover};
+ghost use Rattle.bbm_place_map.specs.Sound.{SameSize, bases};
+ghost use Rattle.bbm_place_map.specs.PlaceNotes.{IsNoted, Keeps, NotesAs, NotesAt, NotesFound, NotesOne};
+ghost use Rattle.bbm_place_map.specs.PlaceNotes.{OnlyNotes, Readies, is_cover as spec_is_cover};
+ghost use Rattle.bbm_place_map.specs.Broken.{EachAdvances, IsKept, entry_number};
 ghost use Rattle.bbm_place_map.specs.Works.{IsQuiet, Waits};
+ghost use Rattle.bbm_place_map.specs.declared.broken.BrokenPlaces.{BrokenPlaces as TheBroken};
 ghost use Rattle.bbm_place_map.specs.declared.entry.Entry.{Entry as TheEntry};
 
+use crate::broken::BrokenPlaces;
 use crate::entries::Entries;
 use crate::entry::{is_noted, make_room_for_lane, note_pends};
 use crate::found::{Answer, Found};
 use crate::lane::Lane;
 use crate::orders::Issuing;
-use crate::read::entry_at;
+use crate::read::VALUES;
 use crate::work::{WorkList, add_for};
 use bbm_page_map::PageNumbers;
 use bbm_regimes::{NoMemory, Place};
 use bbm_tlbi_scope::Cover;
 
-/// Where each place is kept.
-#[derive(Clone, Copy)]
-pub struct Kept<'a> {
-    /// The number of each page.
-    pub pages: &'a PageNumbers,
-    /// Where the cells of each page start.
-    pub parts: &'a [u32],
-}
-
 /// The number of a place's entry; None where the place isn't broken. No answer depends on the number `hint`, at which
-/// it is looked for first.
+/// it is looked for first. Pages tell the number of each.
 #[inline(always)]
-fn entry_of(kept: &Kept, entries: &Entries, place: Place, hint: u32) -> Option<u32>
-    requires { IsKept kept.now entries.now }
-    ensures { result ≡ entry_number kept.now entries.now place }
+fn entry_of(pages: &PageNumbers, broken: &BrokenPlaces, place: Place, hint: u32) -> Option<u32>
+    requires { IsKept (bases pages.now) broken.now }
+    ensures { result ≡ entry_number (bases pages.now) broken.now place }
 {
     let number = hint as usize;
-    if number < entries.list.len() {
-        if entries.list[number].place == place {
+    if number < broken.len() {
+        if broken.item(number).place == place {
             return Some(hint);
         }
     }
-    entry_at(kept.pages, kept.parts, &entries.cells, place)
+    let _ = place.get();
+    let j = VALUES * pages.number(place.page())?.get() + place.index() as usize;
+    broken.number(j)
 }
 
 /// Whether a TLBI covers a place at all.
@@ -60,7 +56,7 @@ fn is_cover(cover: Cover) -> bool
 
 /// Makes room at an entry for what waits for the answers of a lane. `NoMemory` where there is none.
 #[inline(always)]
-fn make_room_at(entries: &mut Entries, k: usize, lane: Lane) -> Result<(), NoMemory>
+pub fn make_room_at(entries: &mut Entries, k: usize, lane: Lane) -> Result<(), NoMemory>
     requires { k < vec_len entries.old.list }
     ensures entry { (e : TheEntry) → slice_get entries.old.list.items k ≡ Some e → (f : TheEntry) × (position f ≡ position e)
         × Keeps e f × OnOk result (HasRoom f.pends lane)
@@ -121,7 +117,7 @@ fn is_noted_at(entries: &Entries, k: usize, tlbi: &Issuing, cover: Cover) -> boo
 /// Notes the TLBI at an entry that is covered so far, if it isn't noted there already. The cell of one at which nothing
 /// so waited is listed for the issuer.
 #[inline(always)]
-fn note_entry(
+pub fn note_entry(
     entries: &mut Entries,
     k: usize,
     tlbi: &Issuing,
@@ -162,22 +158,20 @@ pub fn first_open(entries: &Entries, covers: &[Answer], tlbi: &Issuing) -> usize
 
 /// Makes room for the lane at each place that is covered, from a number on. `NoMemory` where there is none.
 pub fn make_room(
-    entries: &mut Entries,
+    broken: &mut BrokenPlaces,
     covers: &[Answer],
     start: usize,
     lane: Lane,
 ) -> Result<(), NoMemory>
-    requires { length covers.now ≡ length entries.old.list.items }
-    ensures each { (m : ℕ) → Advances Keeps (slice_get entries.old.list.items m) (slice_get entries.new.list.items m) }
-    ensures ready { OnOk result ((m : ℕ) → Advances (Readies start lane covers.now m) (slice_get entries.old.list.items m)
-        (slice_get entries.new.list.items m)) }
-    ensures before { (m : ℕ) → m < start → slice_get entries.new.list.items m ≡ slice_get entries.old.list.items m }
-    ensures cells { entries.new.cells ≡ entries.old.cells }
-    ensures size { SameSize entries.old.list entries.new.list }
+    requires { length covers.now ≡ length broken.old.entries.list.items }
+    ensures each { EachAdvances (λ _. Keeps) broken.old broken.new }
+    ensures ready { OnOk result ((m : ℕ) → Advances (Readies start lane covers.now m) (slice_get broken.old.entries.list.items m)
+        (slice_get broken.new.entries.list.items m)) }
+    ensures before { (m : ℕ) → m < start → slice_get broken.new.entries.list.items m ≡ slice_get broken.old.entries.list.items m }
 {
-    for k in start..entries.list.len() {
+    for k in start..broken.len() {
         if is_cover(covers[k].get()) {
-            make_room_at(entries, k, lane)?;
+            broken.make_room(k, lane)?;
         }
     }
     Ok(())
@@ -185,30 +179,18 @@ pub fn make_room(
 
 /// Notes the TLBI at each place that is covered, where it is noted below a number, and from there on there is room for
 /// its lane. The cells of those at which something waits now are listed for the issuer.
-pub fn note(
-    entries: &mut Entries,
-    covers: &[Answer],
-    start: usize,
-    tlbi: &Issuing,
-    lists: &mut Vec<WorkList>,
-)
-    requires len { length covers.now ≡ length entries.old.list.items }
-    requires noted { (m : ℕ) (e : TheEntry) (c : TheCover) → m < start → slice_get entries.old.list.items m ≡ Some e
+pub fn note(broken: &mut BrokenPlaces, covers: &[Answer], start: usize, tlbi: &Issuing)
+    requires len { length covers.now ≡ length broken.old.entries.list.items }
+    requires noted { (m : ℕ) (e : TheEntry) (c : TheCover) → m < start → slice_get broken.old.entries.list.items m ≡ Some e
         → slice_get covers.now m ≡ Some c → IsNoted c tlbi.now e }
-    requires ready { (m : ℕ) (e : TheEntry) → start ≤ m → slice_get entries.old.list.items m ≡ Some e → (c : TheCover)
+    requires ready { (m : ℕ) (e : TheEntry) → start ≤ m → slice_get broken.old.entries.list.items m ≡ Some e → (c : TheCover)
         → slice_get covers.now m ≡ Some c → spec_is_cover c ≡ true
         → HasRoom e.pends (lane_of tlbi.now.issuer tlbi.now.broadcast) }
-    ensures each { (m : ℕ)
-        → Advances (NotesAt covers.now tlbi.now m) (slice_get entries.old.list.items m)
-        (slice_get entries.new.list.items m) }
-    ensures waits { (m : ℕ)
-        → Advances (Waits lists.new.items tlbi.now.issuer) (slice_get entries.old.list.items m)
-        (slice_get entries.new.list.items m) }
-    ensures rest { OnlyNotes entries.old entries.new lists.old.items lists.new.items }
+    ensures { EachAdvances (NotesAt covers.now tlbi.now) broken.old broken.new }
 {
-    for k in start..entries.list.len() {
+    for k in start..broken.len() {
         let cover = covers[k].get();
-        note_entry(entries, k, tlbi, cover, lists);
+        broken.note(k, tlbi, cover);
     }
 }
 
@@ -226,111 +208,86 @@ fn is_among(found: &[Found], place: Place) -> bool
 
 /// Makes room for the lane at the place of an item, if it is broken. `NoMemory` where there is none.
 fn make_room_for(
-    kept: &Kept,
-    entries: &mut Entries,
+    pages: &PageNumbers,
+    broken: &mut BrokenPlaces,
     item: Found,
     lane: Lane,
 ) -> Result<(), NoMemory>
-    requires { IsKept kept.now entries.old }
-    ensures each { (m : ℕ) → Advances Keeps (slice_get entries.old.list.items m) (slice_get entries.new.list.items m) }
-    ensures ready { OnOk result ((m : ℕ) (e : TheEntry) → slice_get entries.new.list.items m ≡ Some e → e.place ≡ item.place
+    requires { IsKept (bases pages.now) broken.old }
+    ensures each { EachAdvances (λ _. Keeps) broken.old broken.new }
+    ensures ready { OnOk result ((m : ℕ) (e : TheEntry) → slice_get broken.new.entries.list.items m ≡ Some e → e.place ≡ item.place
         → HasRoom e.pends lane) }
-    ensures others { (m : ℕ) (e : TheEntry) → slice_get entries.new.list.items m ≡ Some e → e.place ≢ item.place
-        → slice_get entries.new.list.items m ≡ slice_get entries.old.list.items m }
-    ensures cells { entries.new.cells ≡ entries.old.cells }
-    ensures size { SameSize entries.old.list entries.new.list }
+    ensures others { (m : ℕ) (e : TheEntry) → slice_get broken.new.entries.list.items m ≡ Some e → e.place ≢ item.place
+        → slice_get broken.new.entries.list.items m ≡ slice_get broken.old.entries.list.items m }
 {
-    match entry_of(kept, entries, item.place, item.hint) {
-        Some(k) => make_room_at(entries, k as usize, lane),
+    match entry_of(pages, broken, item.place, item.hint) {
+        Some(k) => broken.make_room(k as usize, lane),
         None => Ok(()),
     }
 }
 
 /// Makes room for the lane at each broken place of these items. `NoMemory` where there is none.
 pub fn make_room_found(
-    kept: &Kept,
-    entries: &mut Entries,
+    pages: &PageNumbers,
+    broken: &mut BrokenPlaces,
     found: &[Found],
     lane: Lane,
 ) -> Result<(), NoMemory>
-    requires { IsKept kept.now entries.old }
-    ensures each { (m : ℕ) → Advances Keeps (slice_get entries.old.list.items m) (slice_get entries.new.list.items m) }
-    ensures ready { OnOk result ((m : ℕ) (e : TheEntry) → slice_get entries.new.list.items m ≡ Some e
+    requires { IsKept (bases pages.now) broken.old }
+    ensures each { EachAdvances (λ _. Keeps) broken.old broken.new }
+    ensures ready { OnOk result ((m : ℕ) (e : TheEntry) → slice_get broken.new.entries.list.items m ≡ Some e
         → is_found found.now e.place ≡ true → HasRoom e.pends lane) }
-    ensures cells { entries.new.cells ≡ entries.old.cells }
-    ensures size { SameSize entries.old.list entries.new.list }
 {
     for i in 0..found.len() {
-        make_room_for(kept, entries, found[i], lane)?;
+        make_room_for(pages, broken, found[i], lane)?;
     }
     Ok(())
 }
 
 /// Notes the TLBI at a place that is covered so far, if it is broken. Its cell is listed for the issuer where something
 /// waits there now.
-fn note_for(
-    kept: &Kept,
-    entries: &mut Entries,
-    item: Found,
-    tlbi: &Issuing,
-    lists: &mut Vec<WorkList>,
-)
-    requires sound { IsKept kept.now entries.old }
-    requires ready { (m : ℕ) (e : TheEntry) → slice_get entries.old.list.items m ≡ Some e → e.place ≡ item.place
+fn note_for(pages: &PageNumbers, broken: &mut BrokenPlaces, item: Found, tlbi: &Issuing)
+    requires sound { IsKept (bases pages.now) broken.old }
+    requires ready { (m : ℕ) (e : TheEntry) → slice_get broken.old.entries.list.items m ≡ Some e → e.place ≡ item.place
         → HasRoom e.pends (lane_of tlbi.now.issuer tlbi.now.broadcast) }
-    ensures each { (m : ℕ) → Advances (NotesOne item.place item.cover tlbi.now lists.new.items)
-        (slice_get entries.old.list.items m) (slice_get entries.new.list.items m) }
-    ensures rest { OnlyNotes entries.old entries.new lists.old.items lists.new.items }
+    ensures { EachAdvances (λ _. NotesOne item.place item.cover tlbi.now) broken.old broken.new }
 {
-    if let Some(k) = entry_of(kept, entries, item.place, item.hint) {
-        note_entry(entries, k as usize, tlbi, item.cover, lists);
+    if let Some(k) = entry_of(pages, broken, item.place, item.hint) {
+        broken.note(k as usize, tlbi, item.cover);
     }
 }
 
 /// Notes the TLBI at the place of one of the items, if no item before it is of that place.
 fn note_next(
-    kept: &Kept,
-    entries: &mut Entries,
+    pages: &PageNumbers,
+    broken: &mut BrokenPlaces,
     found: &[Found],
     i: usize,
     tlbi: &Issuing,
-    lists: &mut Vec<WorkList>,
 )
-    requires sound { IsKept kept.now entries.old }
+    requires sound { IsKept (bases pages.now) broken.old }
     requires within { i < length found.now }
-    requires ready { (m : ℕ) (e : TheEntry) → slice_get entries.old.list.items m ≡ Some e
+    requires ready { (m : ℕ) (e : TheEntry) → slice_get broken.old.entries.list.items m ≡ Some e
         → is_found found.now e.place ≡ true → is_found (take i found.now) e.place ≡ false
         → HasRoom e.pends (lane_of tlbi.now.issuer tlbi.now.broadcast) }
-    ensures each { (start : List TheEntry) → ((m : ℕ)
-        → Advances (NotesFound (take i found.now) tlbi.now lists.old.items)
-        (slice_get start m) (slice_get entries.old.list.items m)) → (m : ℕ)
-        → Advances (NotesFound (take (i + 1) found.now) tlbi.now lists.new.items)
-        (slice_get start m) (slice_get entries.new.list.items m) }
-    ensures rest { OnlyNotes entries.old entries.new lists.old.items lists.new.items }
+    ensures { (start : TheBroken) → EachAdvances (λ _. NotesFound (take i found.now) tlbi.now) start broken.old
+        → EachAdvances (λ _. NotesFound (take (i + 1) found.now) tlbi.now) start broken.new }
 {
     let item = found[i];
     if !is_among(&found[..i], item.place) {
-        note_for(kept, entries, item, tlbi, lists);
+        note_for(pages, broken, item, tlbi);
     }
 }
 
 /// Notes the TLBI at each broken place of these items, as far as the first item of it says, where there is room for its
 /// lane. The cells of those at which something waits now are listed for the issuer.
-pub fn note_found(
-    kept: &Kept,
-    entries: &mut Entries,
-    found: &[Found],
-    tlbi: &Issuing,
-    lists: &mut Vec<WorkList>,
-)
-    requires sound { IsKept kept.now entries.old }
-    requires ready { (m : ℕ) (e : TheEntry) → slice_get entries.old.list.items m ≡ Some e
+pub fn note_found(pages: &PageNumbers, broken: &mut BrokenPlaces, found: &[Found], tlbi: &Issuing)
+    requires sound { IsKept (bases pages.now) broken.old }
+    requires ready { (m : ℕ) (e : TheEntry) → slice_get broken.old.entries.list.items m ≡ Some e
         → is_found found.now e.place ≡ true → HasRoom e.pends (lane_of tlbi.now.issuer tlbi.now.broadcast) }
-    ensures each { (m : ℕ) → Advances (NotesFound found.now tlbi.now lists.new.items)
-        (slice_get entries.old.list.items m) (slice_get entries.new.list.items m) }
-    ensures rest { OnlyNotes entries.old entries.new lists.old.items lists.new.items }
+    ensures { EachAdvances (λ _. NotesFound found.now tlbi.now) broken.old broken.new }
 {
     for i in 0..found.len() {
-        note_next(kept, entries, found, i, tlbi, lists);
+        note_next(pages, broken, found, i, tlbi);
     }
 }

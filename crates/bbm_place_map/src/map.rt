@@ -14,6 +14,7 @@ mod writing;
 
 ghost use Rattle.std.specs.Prelude.{◌≡◌, ◌≤◌, ◌<◌, ◌*◌, length, vec_len};
 ghost use Rattle.std.proofs.Props.{props};
+ghost use Rattle.bbm_place_map.specs.Broken.{pages_in};
 ghost use Rattle.bbm_place_map.specs.Sound.{Placed, bases};
 
 use crate::broken::BrokenPlaces;
@@ -33,7 +34,7 @@ pub struct PlaceMap {
     values: Vec<u64>,
     broken: BrokenPlaces,
     ghost counted: { 512 * length pages ≡ vec_len values },
-    ghost parted: { vec_len broken.parts ≡ length pages },
+    ghost paged: { pages_in broken ≡ length pages },
     ghost placed: { Placed (bases pages) broken.entries.list.items },
 }
 
@@ -42,8 +43,8 @@ impl PlaceMap {
     ghost use Rattle.std.specs.Option.{option_copied};
     ghost use Rattle.bbm_entry_state.specs.Points.{core_in};
     ghost use Rattle.bbm_entry_state.specs.EntryStanding.{IsIdle};
-    ghost use Rattle.bbm_place_map.specs.Map.{value_at, marks_at, pends_at, pages_of, page_of, place_entry, restless_in};
-    ghost use Rattle.bbm_place_map.specs.Map.{IsPosition, is_tracked, state_at};
+    ghost use Rattle.bbm_place_map.specs.Map.{value_at, marks_at, pends_at, pages_of, page_of, restless_in, state_at};
+    ghost use Rattle.bbm_place_map.specs.Map.{IsPosition, is_tracked, place_entry};
     ghost use Rattle.bbm_place_map.specs.Sound.{index_of};
 
     /// A map that tracks no page. It takes no memory yet.

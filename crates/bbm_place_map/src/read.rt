@@ -1,14 +1,11 @@
 //! What vectors of values, cells and parts tell.
 
-ghost use Rattle.std.specs.Prelude.{◌≡◌, ◌<◌, length, ◌≤◌, ◌+◌, ◌^◌, ◌↔◌, ℕ, true, ◌/◌, None, Some};
-ghost use Rattle.bbm_place_map.specs.Sound.{at_index, bases, index_of};
+ghost use Rattle.std.specs.Prelude.{◌≡◌, ◌<◌, length, ◌≤◌, ◌+◌, ◌↔◌, ℕ, true, ◌/◌, None};
 ghost use Rattle.bbm_place_map.specs.Cells.{cell_by, number_of, slot_in, value_in};
 ghost use Rattle.bbm_place_map.specs.States.{state_from};
 
 use bbm_descriptor::Core;
 use bbm_entry_state::EntryState;
-use bbm_page_map::PageNumbers;
-use bbm_regimes::Place;
 
 /// The number of values of a page. Pages have theirs one after another, in the order in which they were tracked. A page
 /// has as many cells from its first broken place on.
@@ -47,17 +44,6 @@ pub fn cell(parts: &[u32], j: usize) -> Option<usize>
     ensures { result ≡ cell_by parts.now j }
 {
     Some(number(parts[j / VALUES])? as usize + j % VALUES)
-}
-
-/// The number of a place's entry; None where the place isn't broken.
-pub fn entry_at(pages: &PageNumbers, parts: &[u32], cells: &[u32], place: Place) -> Option<u32>
-    requires { (page b : ℕ) → bases pages.now page ≡ Some b → b + VALUES ≤ 2 ^ 32 }
-    ensures { result ≡ at_index None (λ j. at_index None (slot_in cells.now) (cell_by parts.now j))
-        (index_of (bases pages.now) place) }
-{
-    let _ = place.get();
-    let start = slot_of(parts, pages.number(place.page())?.get())?;
-    slot_of(cells, start as usize + place.index() as usize)
 }
 
 /// Whether these values are all 0.

@@ -11,6 +11,8 @@ ghost use Rattle.bbm_descriptor.specs.declared.desc.Core.{Core as TheCore};
 ghost use Rattle.bbm_place_map.specs.Map.{marks_at, pends_at, restless_in, restless_place, state_at};
 
 use crate::found::{Answer, Found};
+use crate::issue;
+use crate::lane::Lane;
 use crate::map::PlaceMap;
 use crate::orders::{Barrier, Effect, Issuing};
 use bbm_barriers::{Dsb, publishes_to};
@@ -72,14 +74,16 @@ impl PlaceMap {
         ensures only { NotesOnly issuer self.old self.new }
         ensures kept { OnErr result (IsSame self.old self.new) }
     {
-        self.broken.issue_all(
-            &Issuing {
-                issuer,
-                reach,
-                broadcast,
-            },
-            covers,
-        )
+        let tlbi = Issuing {
+            issuer,
+            reach,
+            broadcast,
+        };
+        let lane = Lane::new(issuer, broadcast);
+        let start = issue::first_open(&self.broken.entries, covers, &tlbi);
+        issue::make_room(&mut self.broken, covers, start, lane)?;
+        issue::note(&mut self.broken, covers, start, &tlbi);
+        Ok(())
     }
 
     /// The issuer issued a TLBI that reaches these PEs, is broadcast or not, and covers no broken place but these, each
@@ -105,14 +109,14 @@ impl PlaceMap {
         if found.is_empty() {
             return Ok(());
         }
-        self.broken.issue_at(
-            &self.pages,
-            &Issuing {
-                issuer,
-                reach,
-                broadcast,
-            },
-            found,
-        )
+        let tlbi = Issuing {
+            issuer,
+            reach,
+            broadcast,
+        };
+        let lane = Lane::new(issuer, broadcast);
+        issue::make_room_found(&self.pages, &mut self.broken, found, lane)?;
+        issue::note_found(&self.pages, &mut self.broken, found, &tlbi);
+        Ok(())
     }
 }

@@ -1,38 +1,36 @@
-use Rattle.bbm_place_map.proofs.Common.{◌≡◌, ℕ, Option, arith, ◌∙◌, List, subst, take, slice_get}
-use Rattle.bbm_place_map.proofs.Common.{Advances, position_at, NotesFound, Entry, Found}
+use Rattle.bbm_place_map.proofs.Common.{Option, arith, refl, List, subst, take, slice_get, Advances, EachAdvances}
+use Rattle.bbm_place_map.proofs.Common.{NotesFound, Entry, Found, NoCover}
 use Rattle.std.proofs.lemmas.List.{take_all}
-use Rattle.bbm_place_map.proofs.Advancing.{position_kept}
-use Rattle.bbm_place_map.proofs.Keeping.{kept_moved, size_then}
+use Rattle.bbm_place_map.proofs.Advancing.{self_advances}
+use Rattle.bbm_place_map.proofs.Keeping.{kept_moved, seats_all}
+use Rattle.bbm_place_map.proofs.Noting.{not_noted}
 use Rattle.bbm_place_map.proofs.Visiting.{unfound_kept}
 use Rattle.bbm_place_map.proofs.issue.note_found.Goals as goal
 
-positions : (c : goal.After-note_next-arg-in-loop-i-1) → (m : ℕ) → position_at c.loop-i.entries.list.items m ≡ position_at c.args.entries.now.list.items m
-positions c m =
-    position_kept (NotesFound (take c.loop-i.i c.args.found.now) c.args.tlbi.now c.loop-i.lists.items)
-    (slice_get c.args.entries.now.list.items m) (slice_get c.loop-i.entries.list.items m) (c.loop-i.invariant.each m)
+pub loop-i-init : goal.loop-i-init
+loop-i-init c = record {
+  same = seats_all c.args.broken.now;
+  each = λ m.
+      self_advances (NotesFound (take 0 c.args.found.now) c.args.tlbi.now) (slice_get c.args.broken.now.entries.list.items m)
+      (λ x is. (not_noted NoCover c.args.tlbi.now x refl, λ none. refl));
+}
 
 pub note_next-requires-clause-sound : goal.note_next-requires-clause-sound
-note_next-requires-clause-sound c = kept_moved c.requires.sound c.loop-i.invariant.cells (positions c)
+note_next-requires-clause-sound c = kept_moved c.requires.sound c.loop-i.invariant
 
 pub note_next-requires-clause-ready : goal.note_next-requires-clause-ready
 note_next-requires-clause-ready c = λ m e is among none.
     c.requires.ready m e
-    (unfound_kept (take c.loop-i.i c.args.found.now) c.args.tlbi.now c.loop-i.lists.items (slice_get c.args.entries.now.list.items m) e
-    (let P : Option Entry → Type 0 = λ o. Advances (NotesFound (take c.loop-i.i c.args.found.now) c.args.tlbi.now c.loop-i.lists.items)
-    (slice_get c.args.entries.now.list.items m) o in
+    (unfound_kept (take c.loop-i.i c.args.found.now) c.args.tlbi.now (slice_get c.args.broken.now.entries.list.items m) e
+    (let P : Option Entry → Type 0 = λ o. Advances (NotesFound (take c.loop-i.i c.args.found.now) c.args.tlbi.now)
+    (slice_get c.args.broken.now.entries.list.items m) o in
     subst P is (c.loop-i.invariant.each m)) none)
     among
 
 pub loop-i-preserved : goal.loop-i-preserved
-loop-i-preserved c = record {
-  each = c.note_next.ensures.each c.args.entries.now.list.items c.loop-i.invariant.each;
-  kept = λ wide q j holds. c.note_next.ensures.rest.kept wide q j (c.loop-i.invariant.kept wide q j holds);
-  cells = c.note_next.ensures.rest.cells ∙ c.loop-i.invariant.cells;
-  size = size_then c.loop-i.invariant.size c.note_next.ensures.rest.size;
-}
+loop-i-preserved c = c.note_next.ensures c.args.broken.now c.loop-i.invariant
 
-pub returns-clause-each : goal.returns-clause-each
-returns-clause-each c = λ m.
-    let P : List Found → Type 0 = λ ys. Advances (NotesFound ys c.args.tlbi.now c.loop-i.lists.items)
-    (slice_get c.args.entries.now.list.items m) (slice_get c.loop-i.entries.list.items m) in
-    subst P (take_all c.loop-i.i c.args.found.now (omega arith)) (c.loop-i.invariant.each m)
+pub returns : goal.returns
+returns c =
+    let P : List Found → Type 0 = λ ys. EachAdvances (λ _. NotesFound ys c.args.tlbi.now) c.args.broken.now c.loop-i.broken in
+    subst P (take_all c.loop-i.i c.args.found.now (omega arith)) c.loop-i.invariant

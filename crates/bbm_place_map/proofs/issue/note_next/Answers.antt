@@ -1,7 +1,9 @@
-use Rattle.bbm_place_map.proofs.Common.{[], ◌∷◌, ◌++◌, ap, sym, ◌∙◌, List, subst, take, slice_get, Advances, is_found}
-use Rattle.bbm_place_map.proofs.Common.{NotesOne, NotesFound, Found}
-use Rattle.bbm_place_map.proofs.Advancing.{advance_by, advance_then}
+use Rattle.bbm_place_map.proofs.Common.{[], ◌∷◌, ◌++◌, ap, sym, ◌∙◌, List, subst, take, EachAdvances, is_found}
+use Rattle.bbm_place_map.proofs.Common.{slice_get}
+use Rattle.bbm_place_map.proofs.Common.{NotesFound, Found}
+use Rattle.bbm_place_map.proofs.Advancing.{advance_by}
 use Rattle.bbm_place_map.proofs.Finding.{found_at, take_more}
+use Rattle.bbm_place_map.proofs.Keeping.{each_then}
 use Rattle.bbm_place_map.proofs.Visiting.{note_step, skip_step}
 use Rattle.bbm_place_map.proofs.issue.note_next.Goals as goal
 
@@ -11,29 +13,24 @@ note_for-requires-clause-ready c = λ m e is same.
     (ap (is_found c.args.found.now) same ∙ found_at c.args.found.now c.args.i c.index-found-i.result c.requires.within c.index-found-i.is)
     (ap (is_found (take c.args.i c.args.found.now)) same ∙ sym c.is_among.ensures ∙ c.if-not-is_among.true)
 
-pub returns-then-not-is_among-clause-each : goal.returns-then-not-is_among-clause-each
-returns-then-not-is_among-clause-each c = λ start before m.
+pub returns-then-not-is_among : goal.returns-then-not-is_among
+returns-then-not-is_among c = λ start before.
     let xs = take c.args.i c.args.found.now in
     let x = c.index-found-i.result in
-    let lists = c.note_for.new.lists.items in
-    let P : List Found → Type 0 = λ ys.
-    Advances (NotesFound ys c.args.tlbi.now lists) (slice_get start m) (slice_get c.note_for.new.entries.list.items m) in
+    let by = c.args.tlbi.now in
+    let P : List Found → Type 0 = λ ys. EachAdvances (λ _. NotesFound ys by) start c.note_for.new.broken in
     subst P (sym (take_more c.args.found.now c.args.i x c.requires.within c.index-found-i.is))
-    (advance_then (NotesFound xs c.args.tlbi.now c.args.lists.now.items)
-    (NotesOne x.place x.cover c.args.tlbi.now lists)
-    (NotesFound (xs ++ x ∷ []) c.args.tlbi.now lists)
-    (note_step xs x c.args.tlbi.now c.args.lists.now.items lists c.note_for.ensures.rest.kept
-    (sym c.is_among.ensures ∙ c.if-not-is_among.true))
-    (slice_get start m) (slice_get c.args.entries.now.list.items m) (slice_get c.note_for.new.entries.list.items m) (before m) (c.note_for.ensures.each m))
+    (each_then (λ _. NotesFound (xs ++ x ∷ []) by) before c.note_for.ensures (λ _. note_step xs x by (sym c.is_among.ensures ∙ c.if-not-is_among.true)))
 
-pub returns-else-not-is_among-clause-each : goal.returns-else-not-is_among-clause-each
-returns-else-not-is_among-clause-each c = λ start before m.
+pub returns-else-not-is_among : goal.returns-else-not-is_among
+returns-else-not-is_among c = λ start before.
     let xs = take c.args.i c.args.found.now in
     let x = c.index-found-i.result in
-    let lists = c.args.lists.now.items in
-    let P : List Found → Type 0 = λ ys.
-    Advances (NotesFound ys c.args.tlbi.now lists) (slice_get start m) (slice_get c.args.entries.now.list.items m) in
-    subst P (sym (take_more c.args.found.now c.args.i x c.requires.within c.index-found-i.is))
-    (advance_by (NotesFound xs c.args.tlbi.now lists) (NotesFound (xs ++ x ∷ []) c.args.tlbi.now lists)
-    (skip_step xs x c.args.tlbi.now lists lists (λ wide q j holds. holds) (sym c.is_among.ensures ∙ c.if-not-is_among.false))
-    (slice_get start m) (slice_get c.args.entries.now.list.items m) (before m))
+    let by = c.args.tlbi.now in
+    let P : List Found → Type 0 = λ ys. EachAdvances (λ _. NotesFound ys by) start c.args.broken.now in
+    subst P (sym (take_more c.args.found.now c.args.i x c.requires.within c.index-found-i.is)) (record {
+      same = before.same;
+      each = λ m.
+          advance_by (NotesFound xs by) (NotesFound (xs ++ x ∷ []) by) (skip_step xs x by (sym c.is_among.ensures ∙ c.if-not-is_among.false))
+          (slice_get start.entries.list.items m) (slice_get c.args.broken.now.entries.list.items m) (before.each m);
+    })

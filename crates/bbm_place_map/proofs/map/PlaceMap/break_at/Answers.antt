@@ -1,9 +1,9 @@
+use Rattle.bbm_place_map.proofs.Bases.{numbered_in}
 use Rattle.bbm_place_map.proofs.Common.{refl, vec_len, bases, value_in, arith, sym, ap, ◌∙◌, false≢true, Broken}
 use Rattle.bbm_place_map.proofs.Common.{at_index, None, entry_at, place_entry}
-use Rattle.bbm_place_map.proofs.Bases.{each_in, numbered_in}
 use Rattle.bbm_place_map.proofs.Blank.{no_entry}
 use Rattle.bbm_place_map.proofs.Clearing.{fits_put, marks_broken, pends_broken}
-use Rattle.bbm_place_map.proofs.Places.{at_place, index_inside}
+use Rattle.bbm_place_map.proofs.Places.{at_place}
 use Rattle.bbm_place_map.specs.Map.{pages_of, marks_at, pends_at, value_at, IsPosition}
 use Rattle.bbm_place_map.proofs.map.PlaceMap.break_at.Goals as goal
 
@@ -11,11 +11,7 @@ pub break_over-requires-clause-within : goal.break_over-requires-clause-within
 unfolding IsPosition
 break_over-requires-clause-within c =
     let self = c.args.self.now in
-    omega (
-      arith,
-      index_inside (bases self.pages) (vec_len self.values) (numbered_in self) c.args.position.now.place c.value_number-j.result c.value_number-j.ensures.index,
-      (each_in self),
-    )
+    omega (arith, c.value_number-j.ensures.within, self.counted, self.paged)
 
 pub break_over-requires-clause-whole : goal.break_over-requires-clause-whole
 unfolding IsPosition marks_at

@@ -1,12 +1,11 @@
+use Rattle.bbm_place_map.proofs.Bases.{numbered_in}
 use Rattle.bbm_place_map.proofs.Common.{ℕ, ◌+◌, ◌*◌, Option, ap, ◌∙◌, vec_len, bases, core_of, Core, core_in}
 use Rattle.bbm_place_map.proofs.Common.{state_from}
-use Rattle.bbm_place_map.proofs.Bases.{numbered_in}
 use Rattle.bbm_place_map.proofs.Places.{index_behind, page_inside}
-use Rattle.bbm_place_map.specs.Map.{marks_at, IsPosition}
+use Rattle.bbm_place_map.specs.Map.{marks_at}
 use Rattle.bbm_place_map.proofs.map.PlaceMap.core_from.Goals as goal
 
 pub core_or-requires : goal.core_or-requires
-unfolding IsPosition
 core_or-requires c =
     let self = c.args.self.now in
     let position = c.args.position.now in
@@ -14,7 +13,6 @@ core_or-requires c =
     page_inside (bases self.pages) (vec_len self.values) (numbered_in self) position.place c.value_number-j.result c.args.number c.value_number-j.ensures.index r.first r.within
 
 pub returns : goal.returns
-unfolding IsPosition
 returns c =
     let self = c.args.self.now in
     let position = c.args.position.now in

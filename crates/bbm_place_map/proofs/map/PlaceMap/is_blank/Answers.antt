@@ -1,6 +1,7 @@
+use Rattle.bbm_place_map.proofs.Common.{arith}
+use Rattle.bbm_place_map.proofs.Bases.{base_number}
 use Rattle.bbm_place_map.proofs.Common.{◌≡◌, ℕ, ◌<◌, ◌+◌, List, refl, ap, sym, subst, ◌∙◌}
 use Rattle.bbm_place_map.proofs.Common.{false≢true, bases, value_in, at_index, marks_of, entry_at, None}
-use Rattle.bbm_place_map.proofs.Bases.{whole_in}
 use Rattle.bbm_place_map.proofs.Blank.{free_marks, marks_free, values_zero, zero_values}
 use Rattle.bbm_place_map.proofs.Places.{index_none}
 use Rattle.bbm_place_map.specs.Map.{marks_at, value_at}
@@ -32,7 +33,9 @@ returns-else-not-is_zero-clause-blank c =
     )
 
 pub is_free-requires : goal.is_free-requires
-is_free-requires c = (whole_in c.args.self.now) c.args.page c.in-Some.base (sym c.base.ensures.base ∙ c.in-Some.is)
+is_free-requires c =
+    let n = base_number c.args.self.now.pages c.args.page c.in-Some.base (sym c.base.ensures.base ∙ c.in-Some.is) in
+    omega (arith, n.2)
 
 pub returns-in-None-clause-blank : goal.returns-in-None-clause-blank
 unfolding marks_at value_at

@@ -1,9 +1,9 @@
-use Rattle.bbm_place_map.proofs.Common.{refl, vec_len, bases, value_in}
 use Rattle.bbm_place_map.proofs.Bases.{numbered_in}
+use Rattle.bbm_place_map.proofs.Common.{refl, vec_len, bases, value_in}
 use Rattle.bbm_place_map.proofs.Clearing.{fits_seated}
 use Rattle.bbm_place_map.proofs.Places.{at_place}
 use Rattle.bbm_place_map.proofs.Positions.{seats_same}
-use Rattle.bbm_place_map.specs.Map.{pages_of, value_at, IsPosition}
+use Rattle.bbm_place_map.specs.Map.{pages_of, value_at}
 use Rattle.bbm_place_map.proofs.map.PlaceMap.put_at.Goals as goal
 
 pub invariant_of-self : goal.invariant_of-self
@@ -12,7 +12,7 @@ invariant_of-self c =
     fits_seated self c.put_value.new.values self.broken c.put_value.ensures.len refl (seats_same self.broken.entries.list.items)
 
 pub returns-clause-put : goal.returns-clause-put
-unfolding IsPosition pages_of value_at
+unfolding pages_of value_at
 returns-clause-put c =
     let self = c.args.self.now in
     record {

@@ -1,7 +1,7 @@
+use Rattle.bbm_place_map.proofs.Bases.{numbered_in}
 use Rattle.bbm_place_map.proofs.Common.{refl, nat_eq, vec_len, eq-eqb, false, bases, value_in, arith}
-use Rattle.bbm_place_map.proofs.Bases.{each_in, numbered_in}
 use Rattle.bbm_place_map.proofs.Clearing.{fits_seated, place_cleared}
-use Rattle.bbm_place_map.proofs.Places.{at_place, index_inside}
+use Rattle.bbm_place_map.proofs.Places.{at_place}
 use Rattle.bbm_lemmas.proofs.Bools.{none_unless}
 use Rattle.bbm_place_map.specs.Map.{pages_of, marks_at, pends_at, value_at, IsPosition}
 use Rattle.bbm_place_map.proofs.map.PlaceMap.put_unbroken.Goals as goal
@@ -10,11 +10,7 @@ pub clear-requires : goal.clear-requires
 unfolding IsPosition
 clear-requires c =
     let self = c.args.self.now in
-    omega (
-      arith,
-      index_inside (bases self.pages) (vec_len self.values) (numbered_in self) c.args.position.now.place c.value_number-j.result c.value_number-j.ensures.index,
-      (each_in self),
-    )
+    omega (arith, c.value_number-j.ensures.within, self.counted, self.paged)
 
 pub invariant_of-self : goal.invariant_of-self
 invariant_of-self c =

@@ -1,11 +1,14 @@
+use Rattle.bbm_place_map.proofs.Bases.{base_number}
+use Rattle.bbm_place_map.proofs.Common.{arith}
 use Rattle.bbm_place_map.proofs.Common.{refl, sym, ◌∙◌}
-use Rattle.bbm_place_map.proofs.Bases.{whole_in}
 use Rattle.bbm_place_map.proofs.Clearing.{fits_seated, frees_untracked, page_cleared}
 use Rattle.bbm_place_map.specs.Map.{marks_at, pends_at}
 use Rattle.bbm_place_map.proofs.map.PlaceMap.release.Goals as goal
 
 pub clear_page-requires : goal.clear_page-requires
-clear_page-requires c = (whole_in c.args.self.now) c.args.page c.in-Some.base (sym c.base.ensures.base ∙ c.in-Some.is)
+clear_page-requires c =
+    let n = base_number c.args.self.now.pages c.args.page c.in-Some.base (sym c.base.ensures.base ∙ c.in-Some.is) in
+    omega (arith, n.2)
 
 pub invariant_of-self : goal.invariant_of-self
 invariant_of-self c =

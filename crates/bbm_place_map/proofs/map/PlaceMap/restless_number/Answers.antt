@@ -1,8 +1,8 @@
+use Rattle.bbm_place_map.proofs.Bases.{numbered_in}
 use Rattle.bbm_place_map.proofs.Common.{sym, ap, ◌∙◌, vec_len, bases, arith, at_index, None, Some, ℕ, entry_at}
 use Rattle.bbm_place_map.proofs.Common.{marks_of, slice_get_within}
-use Rattle.bbm_place_map.proofs.Bases.{each_in, numbered_in}
 use Rattle.bbm_place_map.proofs.Held.{none_entry, number_seat}
-use Rattle.bbm_place_map.proofs.Places.{index_inside, index_once}
+use Rattle.bbm_place_map.proofs.Places.{index_once}
 use Rattle.bbm_place_map.proofs.Restless.{place_is}
 use Rattle.bbm_place_map.specs.Map.{IsPosition, marks_at, restless_in, restless_place}
 use Rattle.bbm_place_map.proofs.map.PlaceMap.restless_number.Goals as goal
@@ -11,11 +11,7 @@ pub number-requires : goal.number-requires
 unfolding IsPosition
 number-requires c =
     let self = c.args.self.now in
-    omega (
-      arith,
-      index_inside (bases self.pages) (vec_len self.values) (numbered_in self) c.args.position.now.place c.value_number-j.result c.value_number-j.ensures.index,
-      (each_in self),
-    )
+    omega (arith, c.value_number-j.ensures.within, self.counted, self.paged)
 
 pub returns-clause-some : goal.returns-clause-some
 unfolding IsPosition restless_in restless_place

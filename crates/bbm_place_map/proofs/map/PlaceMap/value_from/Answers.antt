@@ -1,12 +1,12 @@
-use Rattle.bbm_place_map.proofs.Common.{◌+◌, ap, sym, ◌∙◌, arith, vec_len, bases, value_in, at_index}
 use Rattle.bbm_place_map.proofs.Bases.{numbered_in}
+use Rattle.bbm_place_map.proofs.Common.{◌+◌, ap, sym, ◌∙◌, arith, vec_len, bases, value_in, at_index}
 use Rattle.bbm_place_map.proofs.Edits.{value_read}
 use Rattle.bbm_place_map.proofs.Places.{index_behind, page_inside}
-use Rattle.bbm_place_map.specs.Map.{value_at, IsPosition}
+use Rattle.bbm_place_map.specs.Map.{value_at}
 use Rattle.bbm_place_map.proofs.map.PlaceMap.value_from.Goals as goal
 
 pub returns : goal.returns
-unfolding value_at IsPosition
+unfolding value_at
 returns c =
     let self = c.args.self.now in
     let position = c.args.position.now in
