@@ -47,7 +47,7 @@ is_tracked map page = is_some (number_in (pages_of map) page)
 
 -- the position is that of a place of a tracked page: it has the page's number
 unfoldable pub IsPosition : PlaceMap → Position → Type 0
-IsPosition map position = number_in map.pages (page_of position.place) ≡ Some position.page
+IsPosition map position = number_in (pages_of map) (page_of position.place) ≡ Some position.page
 
 -- how many places are broken, and one of them by its number
 unfoldable pub restless_in : PlaceMap → ℕ

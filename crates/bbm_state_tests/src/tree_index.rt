@@ -23,10 +23,10 @@ fn a_null_page(rt: HostRuntime) -> Result<(), TreeFault> {
     let page = Page::new(0x4000_0000).unwrap();
     let mut index = TreeIndex::new(rt.alloc(), &HYP);
     index.track(&mut map, page)?;
-    if index.is_fresh(page, 0) {
-        index.nullify(page);
+    if index.is_fresh(&map, page) {
+        index.nullify(&map, page);
     }
-    assert!(rt; index.is_null(page) && !index.is_fresh(page, 0) && !index.is_in_tree(page));
+    assert!(rt; index.is_null(&map, page) && !index.is_fresh(&map, page) && !index.is_in_tree(&map, page));
     assert!(rt; index.pages() == 1);
     Ok(())
 }

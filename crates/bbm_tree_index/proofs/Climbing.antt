@@ -2,7 +2,8 @@
 use Rattle.bbm_tree_index.proofs.Common.{Heading, above_by, is_fresh_role, node_by, node_with, Role, RootPage, Hangs}
 use Rattle.bbm_tree_index.proofs.Common.{Gone}
 use Rattle.bbm_rules.proofs.Common.{◌≡◌, ℕ, zero, suc, List, ◌∷◌, Some, None, refl, sym, ap, ◌∙◌, true, Kind, page_of}
-use Rattle.bbm_rules.proofs.Common.{Above}
+use Rattle.bbm_rules.proofs.Common.{Above, Bool, ◌||◌}
+use Rattle.bbm_tree_index.specs.Climbs.{cut_by}
 
 -- the role where the page is in a tree
 abbrev pub tree_part : Role → Role
@@ -79,3 +80,10 @@ pub out_part : (roles : ℕ → Role) (heading : Heading) (page : ℕ) (role : R
 out_part roles heading page (RootPage kind first part) e = cc
 out_part roles heading page (Hangs parent kind level base first) e = cc
 out_part roles heading page _ e = refl
+
+-- what is asked of a page that hangs at a place, by that place and the page above
+pub cut_hangs : (test : Kind → ℕ → ℕ → Bool) (roles : ℕ → Role) (left level : ℕ) (role : Role) (parent deep base first : ℕ)
+    (kind : Kind) → left ≡ suc level → role ≡ Hangs parent kind deep base first
+    → cut_by test roles left role ≡ (test kind level parent || cut_by test roles level (roles (page_of parent)))
+cut_hangs test roles left level role parent deep base first kind one is =
+    (λ j. cut_by test roles (one j) (is j))

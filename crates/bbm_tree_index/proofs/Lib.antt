@@ -1,4 +1,5 @@
 mod Common
+pub mod Numbered
 pub mod Places
 pub mod Climbing
 pub mod Sounds

@@ -29,7 +29,7 @@ module _ {S : Type 0} (table : IndexMap ℕ Role S) (map : PlaceMap) (leaving : 
       marks = λ a. refl;
       pends = λ q a e. refl;
       dropped = λ q a e. absurd (true≢false (sym e));
-      pages = λ p. refl;
+      pages = refl;
     };
   }
 
@@ -106,6 +106,6 @@ module _ {S : Type 0} {table table' : IndexMap ℕ Role S} {map map' : PlaceMap}
               | inr t ↦ subst IsIdle (sym (step.pends q a t))
                   (swept.places.dropped q a (ap (λ b. b || first_leaver (page_of a)) (sym t) ∙ hid_is (page_of a) ∙ e))
             ];
-        pages = λ p. step.pages p ∙ swept.places.pages p;
+        pages = step.pages ∙ swept.places.pages;
       };
     }

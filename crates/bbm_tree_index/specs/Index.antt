@@ -1,6 +1,6 @@
 -- What a tree index says of each page. Source: project's own choice.
-use Rattle.std.specs.Prelude.{◌≡◌, ℕ, Bool, Option, is_some, unwrap_or, nat_eq}
-use Rattle.indexmap.specs.IndexMap.{get, index_map_len}
+use Rattle.std.specs.Prelude.{◌≡◌, ℕ, Bool, List, Option, is_some, unwrap_or, nat_eq}
+use Rattle.indexmap.specs.IndexMap.{get, keys}
 use Rattle.bbm_events.specs.Heading.{Heading}
 use Rattle.bbm_rules.specs.Tree.{Node}
 use Rattle.bbm_tree_index.specs.Nodes.{is_fresh_role, is_null_role, node_by}
@@ -28,12 +28,12 @@ fresh_in index page = is_fresh_role (role_in index page)
 unfoldable pub null_in : TreeIndex → ℕ → Bool
 null_in index page = is_null_role (role_in index page)
 
--- whether a page was ever tracked, and how many pages were
+-- whether a page was ever tracked, and the pages that were, in the order of their numbers
 unfoldable pub known_in : TreeIndex → ℕ → Bool
 known_in index page = is_some (get nat_eq index.roles page)
 
-unfoldable pub pages_in : TreeIndex → ℕ
-pages_in index = index_map_len index.roles
+unfoldable pub pages_in : TreeIndex → List ℕ
+pages_in index = keys index.roles
 
 -- each page has the role that it had
 pub record SamePages (old new : TreeIndex) : Type 0 where

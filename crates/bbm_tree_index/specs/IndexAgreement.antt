@@ -1,11 +1,13 @@
 -- What holds of each tree index, and when one agrees with a map. Source: project's own choice.
 use Rattle.std.specs.Prelude.{◌≡◌, ℕ, ◌<◌, ◌%◌, ◌^◌, true, List, ◌∷◌, Some, None}
-use Rattle.bbm_place_map.specs.Map.{marks_at}
+use Rattle.bbm_page_map.specs.PageLists.{number_in}
+use Rattle.bbm_place_map.specs.Map.{marks_at, pages_of}
 use Rattle.bbm_place_map.specs.declared.map.PlaceMap.{PlaceMap}
+use Rattle.bbm_place_map.specs.declared.position.Position.{Position}
 use Rattle.bbm_rules.specs.Places.{page_of}
 use Rattle.bbm_rules.specs.Tree.{Above, Node, node_below}
 use Rattle.bbm_tree_index.specs.HeldCores.{child, core_at, is_at}
-use Rattle.bbm_tree_index.specs.Index.{heading_of, known_in, node_in, role_in}
+use Rattle.bbm_tree_index.specs.Index.{heading_of, known_in, node_in, pages_in, role_in}
 use Rattle.bbm_tree_index.specs.SoundRoles.{Sound}
 use Rattle.bbm_tree_index.specs.declared.index.TreeIndex.{TreeIndex}
 
@@ -17,6 +19,14 @@ pub record IsSound (index : TreeIndex) : Type 0 where
 pub is_sound : (index : TreeIndex) → IsSound index
 unfolding heading_of known_in role_in
 is_sound index = record { roles = index.sound; pages = index.paged }
+
+-- the pages of the index have the numbers that the map gave them
+abbrev pub SharesNumbers : TreeIndex → PlaceMap → Type 0
+SharesNumbers index map = pages_of map ≡ pages_in index
+
+-- the position has the number of its page in the index
+abbrev pub HasNumber : TreeIndex → Position → Type 0
+HasNumber index position = number_in (pages_in index) (page_of position.place) ≡ Some position.page
 
 -- The index agrees with a map: where a place of a tree holds a table, its next page hangs there, and where a page hangs
 -- at a place, that holds a table with this next page; a place outside the trees isn't broken.

@@ -1,10 +1,10 @@
 -- What the calls of the index change: in the index, and in the map that its places lie in. Each relation says what
 -- changes, and that all else stays. Source: project's own choice.
 use Rattle.std.specs.Prelude.{◌≡◌, ◌↔◌, ◌⊎◌, ℕ, ◌+◌, Bool, true, false, not, ◌&&◌, ◌||◌, ◌==◌, if◌then◌else◌}
-use Rattle.std.specs.Prelude.{Some, None, is_none, nat_eq}
+use Rattle.std.specs.Prelude.{[], Some, None, is_none, length, nat_eq}
 use Rattle.bbm_entry_state.specs.EntryStanding.{IsIdle}
 use Rattle.bbm_events.specs.Heading.{Heading}
-use Rattle.bbm_place_map.specs.Map.{is_tracked, marks_at, pends_at, value_at}
+use Rattle.bbm_place_map.specs.Map.{is_tracked, marks_at, pages_of, pends_at, value_at}
 use Rattle.bbm_place_map.specs.declared.map.PlaceMap.{PlaceMap}
 use Rattle.bbm_rules.specs.Places.{page_of}
 use Rattle.bbm_rules.specs.Tree.{Node}
@@ -20,7 +20,7 @@ pub record IsNew (header : Heading) (index : TreeIndex) : Type 0 where
   pub fresh : (p : ℕ) → fresh_in index p ≡ false
   pub null : (p : ℕ) → null_in index p ≡ false
   pub known : (p : ℕ) → known_in index p ≡ false
-  pub pages : pages_in index ≡ 0
+  pub pages : pages_in index ≡ []
   pub heading : heading_of index ≡ header
 
 -- ---- what one page becomes
@@ -41,7 +41,7 @@ module _ (page : ℕ) where
   -- the page counts as tracked, under the same header; whether another page was ever tracked stays
   pub record CountsTracked (old new : TreeIndex) : Type 0 where
     pub known : (p : ℕ) → known_in new p ≡ (p == page || known_in old p)
-    pub pages : pages_in new ≡ pages_in old + (if known_in old page then 0 else 1)
+    pub pages : length (pages_in new) ≡ length (pages_in old) + (if known_in old page then 0 else 1)
     pub heading : heading_of new ≡ heading_of old
 
   -- The map tracks the page, with values 0 and no broken place; what it says of the places of other pages stays.
@@ -60,7 +60,7 @@ pub record Releases (gone : ℕ → Bool) (old new : PlaceMap) : Type 0 where
   pub marks : (a : ℕ) → marks_at new a ≡ (if gone (page_of a) then None else marks_at old a)
   pub pends : (q a : ℕ) → gone (page_of a) ≡ false → pends_at new q a ≡ pends_at old q a
   pub dropped : (q a : ℕ) → gone (page_of a) ≡ true → IsIdle (pends_at new q a)
-  pub pages : (p : ℕ) → is_tracked new p ≡ is_tracked old p
+  pub pages : pages_of new ≡ pages_of old
 
 module _ (keeps : Node → Bool) where
   -- the nodes that the test keeps stay in the trees, and no others; fresh pages and null pages stay

@@ -22,10 +22,10 @@ use crate::leaving::{Leaving, sweep};
 use crate::mark::Mark;
 use crate::role::{Detach, Path, Role};
 use crate::spot::{Spot, spot_of};
-use crate::table::put;
+use crate::table::{Roles, number_of, put, set};
 use bbm_events::Header;
-use bbm_page_map::PageMap;
-use bbm_place_map::PlaceMap;
+use bbm_page_map::PageColumn;
+use bbm_place_map::{PlaceMap, Position};
 use bbm_regimes::{Page, Place, Which};
 use indexmap::IndexMap;
 use std::alloc::Global;
@@ -40,7 +40,7 @@ pub struct TreeIndex {
     /// The header of the log.
     header: Header,
     /// What each page that was ever tracked is used for.
-    roles: PageMap<Role>,
+    roles: PageColumn<Role>,
     ghost sound: { Sound (roles_of roles) header } by { Prim.hlevel props },
     ghost paged: { HasPages roles },
     ghost limited: { index_map_len roles ≤ 16384 },
@@ -55,7 +55,7 @@ pub struct Prepared {
 
 impl TreeIndex {
     ghost use Rattle.std.specs.Prelude.{◌≡◌, ◌≢◌, ◌≤◌, ◌↔◌, ℕ, true, false, None, Some, is_some, Err};
-    ghost use Rattle.std.specs.Prelude.{IfErr, IfSome, OnOk, OnErr};
+    ghost use Rattle.std.specs.Prelude.{IfErr, IfSome, OnOk, OnErr, length};
     ghost use Rattle.std.specs.Option.{option_map, option_map_or};
     ghost use Rattle.bbm_rules.specs.Places.{page_of};
     ghost use Rattle.bbm_rules.specs.Tree.{Node};
@@ -63,11 +63,11 @@ impl TreeIndex {
     ghost use Rattle.bbm_place_map.specs.MapCalls.{IsSame};
     ghost use Rattle.bbm_place_map.specs.declared.map.PlaceMap.{PlaceMap as TheMap};
     ghost use Rattle.bbm_tree_index.specs.Descent.{Translates};
-    ghost use Rattle.bbm_tree_index.specs.HeldCores.{Childless, core_at, holds_at, is_at, is_held_by, limbo_by};
+    ghost use Rattle.bbm_tree_index.specs.HeldCores.{holds_at, is_at, is_held_by, limbo_by};
     ghost use Rattle.bbm_tree_index.specs.HeldCores.{stays_without};
     ghost use Rattle.bbm_tree_index.specs.Index.{SamePages, SameTracked, heading_of, role_in, node_in, fresh_in};
     ghost use Rattle.bbm_tree_index.specs.Index.{null_in, known_in, pages_in};
-    ghost use Rattle.bbm_tree_index.specs.IndexAgreement.{Agrees};
+    ghost use Rattle.bbm_tree_index.specs.IndexAgreement.{Agrees, HasNumber, SharesNumbers};
     ghost use Rattle.bbm_tree_index.specs.IndexChanges.{BecomesFresh, BecomesNull, BecomesZero, CountsTracked, IsNew};
     ghost use Rattle.bbm_tree_index.specs.IndexChanges.{TakesOut};
     ghost use Rattle.bbm_tree_index.specs.Leaving.{stays};
@@ -81,86 +81,104 @@ impl TreeIndex {
     {
         TreeIndex {
             header: *header,
-            roles: PageMap::new(alloc),
+            roles: PageColumn::new(alloc),
         }
     }
 
-    /// What the page is used for.
-    pub fn role(&self, page: Page) -> Role
-        ensures { result ≡ role_in self.now page }
+    /// The roles of the pages of the map.
+    #[inline(always)]
+    fn roles<'a>(&'a self, map: &'a PlaceMap) -> Roles<'a>
+        requires { SharesNumbers self.now map.now }
+        ensures { result ≡ self.now.roles }
     {
-        self.roles.get(page).copied().unwrap_or(Role::Untracked)
+        Roles::new(map, &self.roles)
     }
 
-    /// Whether the page is fresh. No answer depends on the number `hint`, at which the page is looked for first.
+    /// What the page is used for.
     #[inline(always)]
-    pub fn is_fresh(&self, page: Page, hint: usize) -> bool
+    pub fn role(&self, map: &PlaceMap, page: Page) -> Role
+        requires { SharesNumbers self.now map.now }
+        ensures { result ≡ role_in self.now page }
+    {
+        self.roles(map).role(page)
+    }
+
+    /// Whether the page is fresh.
+    #[inline(always)]
+    pub fn is_fresh(&self, map: &PlaceMap, page: Page) -> bool
+        requires { SharesNumbers self.now map.now }
         ensures { result ≡ fresh_in self.now page }
     {
-        matches!(self.roles.get_near(page, hint), Some(Role::Fresh))
+        matches!(self.role(map, page), Role::Fresh)
+    }
+
+    /// What the page of the place is used for. The position is that of the place in the map.
+    #[inline(always)]
+    fn role_at(&self, position: &Position) -> &Role
+        requires { HasNumber self.now position.now }
+        ensures { result.now ≡ role_in self.now (page_of position.now.place) }
+    {
+        self.roles.at(position.page.get()).1
     }
 
     /// Whether the page is a null page.
-    pub fn is_null(&self, page: Page) -> bool
+    pub fn is_null(&self, map: &PlaceMap, page: Page) -> bool
+        requires { SharesNumbers self.now map.now }
         ensures { result ≡ null_in self.now page }
     {
-        matches!(self.role(page), Role::Null)
+        matches!(self.role(map, page), Role::Null)
     }
 
     /// Whether the page is in a tree.
-    pub fn is_in_tree(&self, page: Page) -> bool
+    pub fn is_in_tree(&self, map: &PlaceMap, page: Page) -> bool
+        requires { SharesNumbers self.now map.now }
         ensures { result ≡ is_some (node_in self.now page) }
     {
-        matches!(self.role(page), Role::RootPage { .. } | Role::Hangs { .. })
+        matches!(
+            self.role(map, page),
+            Role::RootPage { .. } | Role::Hangs { .. }
+        )
     }
 
     /// The number of pages that were ever tracked, 0 to 16,384.
     pub fn pages(&self) -> u64
-        ensures count { result ≡ pages_in self.now }
+        ensures count { result ≡ length (pages_in self.now) }
         ensures bound { result ≤ 16384 }
     {
         self.roles.len() as u64
     }
 
     /// What is known of the place: the kind of its tree, its level 0 to 3, the input pages that it translates, and the
-    /// first page of the root. None where its page is in no tree.
+    /// first page of the root. None where its page is in no tree. The position is that of the place in the map.
     #[inline(always)]
-    pub fn path(&self, place: Place) -> Option<Path>
-        ensures { result ≡ option_map (λ n. path_at n place) (node_in self.now (page_of place)) }
+    pub fn path(&self, position: &Position) -> Option<Path>
+        requires { HasNumber self.now position.now }
+        ensures { result ≡ option_map (λ n. path_at n position.now.place)
+            (node_in self.now (page_of position.now.place)) }
     {
-        self.path_near(place, 0)
+        let place = position.place;
+        Some(self.spot(place.page(), self.role_at(position))?.path(place))
     }
 
-    /// What is known of the place: the kind of its tree, its level 0 to 3, the input pages that it translates, and the
-    /// first page of the root. None where its page is in no tree. No answer depends on the number `hint`, at which the
-    /// page is looked for first.
+    /// Where the page, which has this role, stands; None where it is in no tree.
     #[inline(always)]
-    pub fn path_near(&self, place: Place, hint: usize) -> Option<Path>
-        ensures { result ≡ option_map (λ n. path_at n place) (node_in self.now (page_of place)) }
-    {
-        Some(self.spot(place.page(), hint)?.path(place))
-    }
-
-    /// Where the page stands, None where it is in no tree. No answer depends on the number `hint`, at which the page is
-    /// looked for first.
-    #[inline(always)]
-    fn spot(&self, page: Page, hint: usize) -> Option<Spot>
+    fn spot(&self, page: Page, role: &Role) -> Option<Spot>
+        requires { role.now ≡ role_in self.now page }
         ensures spot { result ≡ spot_with (heading_of self.now) (role_in self.now page) }
         ensures fits { IfSome result Fits }
         ensures node { IfSome result (λ s. (n : Node) × (node_in self.now page ≡ Some n) × StandsAt s n) }
         ensures none { result ≡ None → node_in self.now page ≡ None }
     {
-        match self.roles.get_near(page, hint) {
-            Some(role) => spot_of(&self.header, role),
-            None => None,
-        }
+        let _ = page;
+        spot_of(&self.header, role)
     }
 
     /// The place of a page that translates the input page, with what is known of it: where one goes on the way down
     /// from the page along the input page. None where the page is in no tree, or no place of it translates the input
-    /// page. No answer depends on the number `hint`, at which the page is looked for first.
+    /// page.
     #[inline(always)]
-    pub fn place_translating(&self, page: Page, input: u64, hint: usize) -> Option<(Place, Path)>
+    pub fn place_translating(&self, map: &PlaceMap, page: Page, input: u64) -> Option<(Place, Path)>
+        requires { SharesNumbers self.now map.now }
         ensures inside { IfSome result (λ met. is_at page met.0 ≡ true) }
         ensures path { IfSome result (λ met. (n : Node) × (node_in self.now page ≡ Some n)
             × (met.1 ≡ path_at n met.0)) }
@@ -169,20 +187,20 @@ impl TreeIndex {
         ensures met { (n : Node) (a : ℕ) → node_in self.now page ≡ Some n → Translates page n input a
             → option_map (λ met. met.0) result ≡ Some a }
     {
-        let spot = self.spot(page, hint)?;
+        let role = self.role(map, page);
+        let spot = self.spot(page, &role)?;
         let place = spot.place_at(page, input)?;
         Some((place, spot.path(place)))
     }
 
     /// Whether the present value of a place above the place is invalid; false where its page is in no tree.
     pub fn in_limbo(&self, map: &PlaceMap, place: Place) -> bool
+        requires { SharesNumbers self.now map.now }
         ensures { result ≡ option_map_or (limbo_by (value_at map.now)) (node_in self.now (page_of place)) false }
     {
-        let role = self.role(place.page());
+        let role = self.role(map, place.page());
         match role {
-            Role::Hangs { level, .. } => {
-                is_cut(&self.roles, map, &Asked::Invalid, level, &role, &mut [0; 4])
-            }
+            Role::Hangs { level, .. } => { is_cut(&self.roles, map, &Asked::Invalid, level, &role) }
             Role::RootPage { .. } => false,
             Role::Untracked => false,
             Role::Fresh => false,
@@ -191,30 +209,20 @@ impl TreeIndex {
         }
     }
 
-    /// Whether the place holds a table no place of which holds anything; false where its page is in no tree.
-    pub fn childless(&self, map: &PlaceMap, place: Place) -> bool
-        ensures inside { (n : Node) → node_in self.now (page_of place) ≡ Some n
-            → (result ≡ true) ↔ Childless (core_at map.now) n place }
-        ensures outside { node_in self.now (page_of place) ≡ None → result ≡ false }
-    {
-        match self.spot(place.page(), 0) {
-            Some(spot) => spot.childless(map, place),
-            None => false,
-        }
-    }
-
     /// The page is declared null. It is fresh.
-    pub fn nullify(&mut self, page: Page)
-        requires { fresh_in self.old page ≡ true }
+    pub fn nullify(&mut self, map: &PlaceMap, page: Page)
+        requires same { SharesNumbers self.old map.now }
+        requires fresh { fresh_in self.old page ≡ true }
         ensures null { BecomesNull page self.old self.new }
         ensures tracked { SameTracked self.old self.new }
         ensures agrees { (map : TheMap) → Agrees self.old map → Agrees self.new map }
     {
-        put(&mut self.roles, page, Role::Null);
+        put(&mut self.roles, map, page, Role::Null);
     }
 
     /// The pages that leave are in no tree any more, and no place of them is broken.
     fn leave(&mut self, map: &mut PlaceMap, leaving: &Leaving)
+        requires { SharesNumbers self.old map.old }
         ensures { TakesOut (stays map.old leaving.now) self.old self.new map.old map.new }
     {
         sweep(&mut self.roles, map, leaving);
@@ -223,6 +231,7 @@ impl TreeIndex {
     /// Takes out of the trees each page with a place above it that holds nothing any more, as a DSB may leave it. No
     /// place of it is broken any more, and nothing waits there. All else stays.
     pub fn prune(&mut self, map: &mut PlaceMap)
+        requires { SharesNumbers self.old map.old }
         ensures { TakesOut (is_held_by (holds_at map.old)) self.old self.new map.old map.new }
     {
         self.leave(map, &Leaving::Unheld);
@@ -231,6 +240,7 @@ impl TreeIndex {
     /// Takes the pages of the root with this first page out of the trees, or those below this place. No place of them
     /// is broken any more, and nothing waits there. All else stays.
     pub fn detach(&mut self, map: &mut PlaceMap, at: Detach)
+        requires { SharesNumbers self.old map.old }
         ensures { TakesOut (stays_without at) self.old self.new map.old map.new }
     {
         match at {
@@ -243,21 +253,24 @@ impl TreeIndex {
     /// values of its places 0. `Limit(Pages)` exactly where it was never tracked and 16,384 pages were; else `NoMemory`
     /// where there is none. A refusal changes nothing.
     pub fn track(&mut self, map: &mut PlaceMap, page: Page) -> Result<(), TreeFault>
+        requires same { SharesNumbers self.old map.old }
         requires no_tree { node_in self.old page ≡ None }
         requires not_null { null_in self.old page ≡ false }
         ensures fresh { OnOk result (BecomesFresh page self.old self.new) }
         ensures counted { OnOk result (CountsTracked page self.old self.new) }
         ensures zero { OnOk result (BecomesZero page map.old map.new) }
         ensures limit { (result ≡ Err (TreeFault.Limit Which.Pages))
-            ↔ ((known_in self.old page ≡ false) × (16384 ≤ pages_in self.old)) }
+            ↔ ((known_in self.old page ≡ false) × (16384 ≤ length (pages_in self.old))) }
         ensures fault { IfErr result (λ fault. fault ≢ TreeFault.Limit Which.Pages → fault ≡ TreeFault.NoMemory) }
         ensures same_pages { OnErr result (SamePages self.old self.new) }
         ensures same_tracked { OnErr result (SameTracked self.old self.new) }
         ensures same_map { OnErr result (IsSame map.old map.new) }
+        ensures shares { SharesNumbers self.new map.new }
         ensures agrees { Agrees self.old map.old → Agrees self.new map.new }
     {
         let _ = page.get();
-        if !self.roles.contains_key(page) && self.roles.len() >= MAX_PAGES {
+        let number = number_of(&self.roles, map, page);
+        if !number.is_some() && self.roles.len() >= MAX_PAGES {
             return Err(TreeFault::Limit(Which::Pages));
         }
         match self.roles.reserve() {
@@ -268,9 +281,7 @@ impl TreeIndex {
             Ok(()) => {}
             Err(_) => return Err(TreeFault::NoMemory),
         }
-        match self.roles.insert(page, Role::Fresh) {
-            Ok(_) => Ok(()),
-            Err(_) => Err(TreeFault::NoMemory),
-        }
+        set(&mut self.roles, number, page, Role::Fresh);
+        Ok(())
     }
 }

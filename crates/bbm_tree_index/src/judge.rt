@@ -15,11 +15,10 @@ use crate::fault::TreeFault;
 use crate::harmless::are_harmless;
 use crate::held::place_of;
 use crate::mark::Mark;
-use crate::role::{Attach, Role};
+use crate::role::Attach;
 use crate::survey::entry_at;
-use crate::table::is_fresh;
+use crate::table::Roles;
 use bbm_descriptor::{Desc, read};
-use bbm_page_map::PageMap;
 use bbm_place_map::PlaceMap;
 use bbm_regimes::{Kind, Level, PLACES, Page, Place};
 use indexmap::IndexMap;
@@ -55,7 +54,7 @@ fn is_elsewhere(tables: &[IndexMap<u64, Mark>], level: usize, page: Page) -> boo
 /// Whether a path to the page of a level breaks not-fresh. Of the named pages of a root it isn't asked whether they are
 /// fresh.
 fn is_wrong(
-    roles: &PageMap<Role>,
+    roles: &Roles,
     tables: &[IndexMap<u64, Mark>],
     named: bool,
     level: usize,
@@ -70,7 +69,7 @@ fn is_wrong(
     if named && level == 0 {
         return false;
     }
-    !is_fresh(roles, page)
+    !roles.is_fresh(page)
 }
 
 /// The lesser of two pages.
@@ -92,7 +91,7 @@ fn lesser_page(page: Option<Page>, other: Option<Page>) -> Option<Page>
 
 /// The page at an index of a table where it breaks not-fresh.
 fn wrong_at(
-    roles: &PageMap<Role>,
+    roles: &Roles,
     tables: &[IndexMap<u64, Mark>],
     named: bool,
     level: usize,
@@ -114,7 +113,7 @@ fn wrong_at(
 
 /// The least page of a table that breaks not-fresh.
 fn wrong_in(
-    roles: &PageMap<Role>,
+    roles: &Roles,
     tables: &[IndexMap<u64, Mark>],
     named: bool,
     level: usize,
@@ -132,7 +131,7 @@ fn wrong_in(
 }
 
 /// The least page that breaks not-fresh.
-fn least_wrong(roles: &PageMap<Role>, tables: &[IndexMap<u64, Mark>], named: bool) -> Option<Page>
+fn least_wrong(roles: &Roles, tables: &[IndexMap<u64, Mark>], named: bool) -> Option<Page>
     requires { HavePages tables.now }
     ensures { LeastOf (WrongPage tables.now (fresh_of roles.now) named) result }
 {
@@ -240,7 +239,7 @@ fn least_leaf(
 
 /// Judges the pages of a survey that begins at this kind and level.
 pub fn judge_tables(
-    roles: &PageMap<Role>,
+    roles: &Roles,
     map: &PlaceMap,
     tables: &[IndexMap<u64, Mark>],
     named: bool,

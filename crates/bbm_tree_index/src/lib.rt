@@ -8,10 +8,13 @@
 //!   which a table's place came to hold nothing, and `detach` where a root goes.
 //! - `prepare` tells whether pages can be attached, and which page or place is in the way; `attach_prepared` attaches
 //!   them. `attach` does both.
-//! - `role`, `is_fresh`, `is_null`, `is_in_tree`, `pages`, `path`, `in_limbo` and `childless` tell what the calls come
-//!   to. `path_near` looks for a page first at a number, as `PlaceMap::page_number` tells it.
+//! - `role`, `is_fresh`, `is_null`, `is_in_tree`, `pages`, `path` and `in_limbo` tell what the calls come to. `path`
+//!   takes the position of a place in the map, and `is_childless` its path.
 //!   `place_translating` tells where one goes on the way down along an input page; from there `place_below` does so
 //!   level by level, and looks nothing up.
+//!
+//! The index has each page by the number that the map gave it. So each call takes the map to which all calls were told
+//! (`SharesNumbers`).
 //!
 //! Each contract speaks of the node of each page, by the words of `specs/Index.antt`.
 #![tactic(auto)]
@@ -37,3 +40,4 @@ pub use fault::TreeFault;
 pub use held::next_of;
 pub use index::{Prepared, TreeIndex};
 pub use role::{Attach, Detach, Path, Role};
+pub use spot::is_childless;

@@ -1,9 +1,11 @@
 //! Where a page of a tree stands.
 
-ghost use Rattle.std.specs.Prelude.{◌≡◌, ◌≤◌, ◌+◌, ◌-◌, ◌*◌, ℕ, suc};
+ghost use Rattle.std.specs.Prelude.{◌≡◌, ◌≤◌, ◌+◌, ◌-◌, ◌*◌, ◌↔◌, true, ℕ, suc};
+ghost use Rattle.bbm_rules.specs.Tree.{Node};
 ghost use Rattle.bbm_place_map.specs.declared.map.PlaceMap.{PlaceMap as TheMap};
 ghost use Rattle.bbm_regimes.specs.declared.regime.Kind.{Kind as TheKind};
-ghost use Rattle.bbm_tree_index.specs.HeldCores.{holds_at};
+ghost use Rattle.bbm_tree_index.specs.HeldCores.{Childless, core_at, holds_at};
+ghost use Rattle.bbm_tree_index.specs.Nodes.{path_at};
 ghost use Rattle.bbm_regimes.specs.World.{input_pages as input_pages_of};
 ghost use Rattle.bbm_tree_index.specs.Spots.{spot_with, Fits, RoleFits};
 
@@ -67,10 +69,8 @@ fn deeper(level: Level) -> Level
 }
 
 impl Spot {
-    ghost use Rattle.std.specs.Prelude.{◌↔◌, ◌<◌, true, Some, IfSome};
-    ghost use Rattle.bbm_rules.specs.Tree.{Node};
-    ghost use Rattle.bbm_tree_index.specs.HeldCores.{Childless, core_at, is_at};
-    ghost use Rattle.bbm_tree_index.specs.Spots.{StandsAt};
+    ghost use Rattle.std.specs.Prelude.{◌<◌, true, Some, IfSome};
+    ghost use Rattle.bbm_tree_index.specs.HeldCores.{is_at};
     ghost use Rattle.bbm_rules.specs.Places.{index_of};
 
     /// The first input page number that the place of the page translates.
@@ -104,17 +104,6 @@ impl Spot {
         }
     }
 
-    /// Whether the place of the page holds a table no place of which holds anything.
-    pub fn childless(&self, map: &PlaceMap, place: Place) -> bool
-        requires { Fits self.now }
-        ensures { (n : Node) → StandsAt self.now n → (result ≡ true) ↔ Childless (core_at map.now) n place }
-    {
-        match next_at(map, self.kind, self.level, place) {
-            Some(next) => holds_none(map, self.kind, deeper(self.level), next),
-            None => false,
-        }
-    }
-
     /// What is known of the place of the page.
     pub fn path(&self, place: Place) -> Path
         requires { Fits self.now }
@@ -135,5 +124,16 @@ impl Spot {
             },
             first: self.first,
         }
+    }
+}
+
+/// Whether the place with this path, of level 0 to 3, holds a table no place of which holds anything.
+pub fn is_childless(map: &PlaceMap, place: Place, path: &Path) -> bool
+    requires { path.now.level ≤ 3 }
+    ensures { (n : Node) → path.now ≡ path_at n place → (result ≡ true) ↔ Childless (core_at map.now) n place }
+{
+    match next_at(map, path.kind, path.level, place) {
+        Some(next) => holds_none(map, path.kind, deeper(path.level), next),
+        None => false,
     }
 }

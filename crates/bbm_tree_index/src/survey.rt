@@ -17,10 +17,9 @@ use crate::held::{are_eight_zero, first_position, place_of};
 use crate::mark::{Mark, add};
 use crate::role::Role;
 use crate::spot::{Spot, spot_of};
-use crate::table::is_fresh;
+use crate::table::Roles;
 use bbm_descriptor::{Desc, read};
 use bbm_events::Header;
-use bbm_page_map::PageMap;
 use bbm_place_map::{PlaceMap, Position};
 use bbm_regimes::{Kind, Level, NoMemory, PLACES, Page, Place};
 use indexmap::IndexMap;
@@ -144,7 +143,7 @@ pub fn entry_at(table: &IndexMap<u64, Mark>, index: usize) -> (Page, Mark)
 /// Notes the paths that go on through a page of a level, where it is fresh.
 fn expand_entry(
     header: &Header,
-    roles: &PageMap<Role>,
+    roles: &Roles,
     map: &PlaceMap,
     page: Page,
     mark: &Mark,
@@ -161,7 +160,7 @@ fn expand_entry(
         (q : ℕ) → Counts (Partly (fresh_of roles.now) (value_at map.now) starts k (λ a. done a
         || page_of a == page)) q (get nat_eq below.new q)) }
 {
-    if !is_fresh(roles, page) {
+    if !roles.is_fresh(page) {
         return Ok(());
     }
     match spot_of(header, &mark.role) {
@@ -174,7 +173,7 @@ fn expand_entry(
 pub fn expand(
     alloc: Global,
     header: &Header,
-    roles: &PageMap<Role>,
+    roles: &Roles,
     map: &PlaceMap,
     level: &IndexMap<u64, Mark>,
 ) -> Result<IndexMap<u64, Mark>, NoMemory>
@@ -208,7 +207,7 @@ fn push_table(
 fn push_level(
     alloc: Global,
     header: &Header,
-    roles: &PageMap<Role>,
+    roles: &Roles,
     map: &PlaceMap,
     tables: &mut Vec<IndexMap<u64, Mark>>,
     last: usize,
@@ -230,7 +229,7 @@ fn push_level(
 pub fn survey(
     alloc: Global,
     header: &Header,
-    roles: &PageMap<Role>,
+    roles: &Roles,
     map: &PlaceMap,
     first: IndexMap<u64, Mark>,
     behind: u8,

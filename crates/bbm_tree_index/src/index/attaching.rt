@@ -4,9 +4,9 @@ ghost use Rattle.std.specs.Prelude.{◌≡◌, Contains, nat_eq, IfOk, IfErr, On
 ghost use Rattle.indexmap.specs.IndexMap.{get};
 ghost use Rattle.bbm_rules.specs.Tree.{Node};
 ghost use Rattle.bbm_place_map.specs.Map.{value_at};
-ghost use Rattle.bbm_place_map.specs.declared.map.PlaceMap.{PlaceMap as TheMap};
 ghost use Rattle.bbm_tree_index.specs.Attaching.{Judges, MayJudge, names_pages};
 ghost use Rattle.bbm_tree_index.specs.Index.{SamePages, SameTracked, heading_of, fresh_in};
+ghost use Rattle.bbm_tree_index.specs.IndexAgreement.{SharesNumbers};
 ghost use Rattle.bbm_tree_index.specs.IndexChanges.{Attaches};
 ghost use Rattle.bbm_tree_index.specs.LeastPages.{IsSurvey};
 ghost use Rattle.bbm_tree_index.specs.Paths.{starts_of};
@@ -29,8 +29,9 @@ use std::alloc::Global;
 
 impl TreeIndex {
     /// The kind and the level at which the paths of what is attached begin.
-    fn begin(&self, at: &Attach) -> (Kind, Level)
-        requires { MayJudge self.now at.now }
+    fn begin(&self, map: &PlaceMap, at: &Attach) -> (Kind, Level)
+        requires same { SharesNumbers self.now map.now }
+        requires may { MayJudge self.now at.now }
         ensures same { (s : Node) → Contains (starts_of self.now at.now) s → (s.kind ≡ result.0)
             × (s.level ≡ result.1) }
         ensures some { (s : Node) × Contains (starts_of self.now at.now) s }
@@ -38,7 +39,10 @@ impl TreeIndex {
         self.header.in_ranges();
         match *at {
             Attach::Root { kind, first: _ } => (kind, self.header.start_level(kind)),
-            Attach::Below { place, next: _ } => match self.spot(place.page(), 0) {
+            Attach::Below { place, next: _ } => match self.spot(
+                place.page(),
+                &self.role(map, place.page()),
+            ) {
                 Some(spot) => (spot.kind, spot.level.below().unwrap()),
                 None => (Kind::El2, Level::THREE),
             },
@@ -46,8 +50,14 @@ impl TreeIndex {
     }
 
     /// The table of the pages at which the paths of what is attached begin.
-    fn start(&self, alloc: Global, at: &Attach) -> Result<IndexMap<u64, Mark>, NoMemory>
-        requires { MayJudge self.now at.now }
+    fn start(
+        &self,
+        alloc: Global,
+        map: &PlaceMap,
+        at: &Attach,
+    ) -> Result<IndexMap<u64, Mark>, NoMemory>
+        requires same { SharesNumbers self.now map.now }
+        requires may { MayJudge self.now at.now }
         ensures well { IfOk result (λ table. Well (heading_of self.now) (get nat_eq table)) }
         ensures start { IfOk result
             (λ table. Starting (heading_of self.now) (get nat_eq table) (starts_of self.now at.now)) }
@@ -57,7 +67,10 @@ impl TreeIndex {
             Attach::Root { kind, first } => {
                 start_root(alloc, kind, first, self.header.page_count(kind))
             }
-            Attach::Below { place, next } => match self.spot(place.page(), 0) {
+            Attach::Below { place, next } => match self.spot(
+                place.page(),
+                &self.role(map, place.page()),
+            ) {
                 Some(spot) => start_below(alloc, &spot, place, next),
                 None => Ok(IndexMap::new(alloc)),
             },
@@ -71,13 +84,14 @@ impl TreeIndex {
         map: &PlaceMap,
         at: &Attach,
     ) -> Result<Vec<IndexMap<u64, Mark>>, TreeFault>
-        requires { MayJudge self.now at.now }
+        requires same { SharesNumbers self.now map.now }
+        requires may { MayJudge self.now at.now }
         ensures tables { IfOk result (λ tables. IsSurvey tables.items self.now map.now at.now) }
         ensures fault { IfErr result (λ fault. fault ≡ TreeFault.NoMemory) }
     {
-        let (_, level) = self.begin(at);
-        let first = self.start(alloc, at)?;
-        let tables = survey(alloc, &self.header, &self.roles, map, first, 3 - level.get())?;
+        let (_, level) = self.begin(map, at);
+        let first = self.start(alloc, map, at)?;
+        let tables = survey(alloc, &self.header, &self.roles(map), map, first, 3 - level.get())?;
         Ok(tables)
     }
 
@@ -88,13 +102,14 @@ impl TreeIndex {
         at: &Attach,
         tables: &[IndexMap<u64, Mark>],
     ) -> Result<(), TreeFault>
+        requires same { SharesNumbers self.now map.now }
         requires may { MayJudge self.now at.now }
         requires survey { IsSurvey tables.now self.now map.now at.now }
         ensures { Judges (fresh_in self.now) (value_at map.now) (starts_of self.now at.now)
             (names_pages at.now) result }
     {
-        let (kind, level) = self.begin(at);
-        judge_tables(&self.roles, map, tables, is_named(at), kind, level)
+        let (kind, level) = self.begin(map, at);
+        judge_tables(&self.roles(map), map, tables, is_named(at), kind, level)
     }
 
     /// Whether these pages can be attached: `NotFresh` with the least page exactly where a path of the attached pages
@@ -104,6 +119,7 @@ impl TreeIndex {
     /// ASID. Or `NoMemory` where there is none. It takes time by the number of pages, not of paths. After Ok, what
     /// `attach_prepared` attaches.
     pub fn prepare(&self, alloc: Global, map: &PlaceMap, at: Attach) -> Result<Prepared, TreeFault>
+        requires same { SharesNumbers self.now map.now }
         requires may { MayJudge self.now at }
         ensures judged { Judges (fresh_in self.now) (value_at map.now) (starts_of self.now at) (names_pages at) result }
         ensures prepared { IfOk result (λ prepared. IsPrepared prepared self.now map.now at) }
@@ -115,14 +131,14 @@ impl TreeIndex {
 
     /// Attaches pages that can be, as `prepare` found them in this index: those named, and all that paths through fresh
     /// pages reach from them. Named pages of a root are fresh.
-    pub fn attach_prepared(&mut self, prepared: &Prepared)
-        requires prepared { (map : TheMap) × (at : TheAttach) × IsPrepared prepared.now self.old map at
-            × AreNamedFresh self.old at }
-        ensures attached { (map : TheMap) (at : TheAttach) → IsPrepared prepared.now self.old map at
-            → AreNamedFresh self.old at → Attaches (value_at map) at self.old self.new }
+    pub fn attach_prepared(&mut self, map: &PlaceMap, prepared: &Prepared)
+        requires same { SharesNumbers self.old map.now }
+        requires prepared { (at : TheAttach) × IsPrepared prepared.now self.old map.now at × AreNamedFresh self.old at }
+        ensures attached { (at : TheAttach) → IsPrepared prepared.now self.old map.now at
+            → AreNamedFresh self.old at → Attaches (value_at map.now) at self.old self.new }
         ensures tracked { SameTracked self.old self.new }
     {
-        attach_all(&mut self.roles, &prepared.tables);
+        attach_all(&mut self.roles, map, &prepared.tables);
     }
 
     /// Attaches the named pages, and all that paths through fresh pages reach from them. Named pages of a root are
@@ -133,6 +149,7 @@ impl TreeIndex {
     /// the number of pages, not of paths. A refusal changes nothing.
     #[inline(never)]
     pub fn attach(&mut self, alloc: Global, map: &PlaceMap, at: Attach) -> Result<(), TreeFault>
+        requires same { SharesNumbers self.old map.now }
         requires may { MayJudge self.old at }
         requires named { AreNamedFresh self.old at }
         ensures judged { Judges (fresh_in self.old) (value_at map.now) (starts_of self.old at) (names_pages at) result }
@@ -141,7 +158,7 @@ impl TreeIndex {
         ensures same { OnErr result (SamePages self.old self.new) }
     {
         let prepared = self.prepare(alloc, map, at)?;
-        self.attach_prepared(&prepared);
+        self.attach_prepared(map, &prepared);
         Ok(())
     }
 }

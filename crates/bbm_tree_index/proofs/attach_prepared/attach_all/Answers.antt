@@ -1,5 +1,5 @@
 use Rattle.bbm_tree_index.proofs.Common.{get}
-use Rattle.bbm_rules.proofs.Common.{◌∙◌, nat_eq, refl, slice_get_read}
+use Rattle.bbm_rules.proofs.Common.{◌∙◌, nat_eq, refl, slice_get_read, sym}
 use Rattle.bbm_tree_index.proofs.Growing.{same_keys}
 use Rattle.bbm_tree_index.proofs.Hanging.{hung_more}
 use Rattle.bbm_tree_index.proofs.attach_prepared.attach_all.Goals as goal
@@ -7,6 +7,9 @@ use Rattle.bbm_tree_index.proofs.attach_prepared.attach_all.Goals as goal
 pub attach_prepared-requires-clause-pages : goal.attach_prepared-requires-clause-pages
 attach_prepared-requires-clause-pages c = c.requires.pages c.loop-index.index c.index-tables-index.result
     (slice_get_read _ _ _ _ refl c.loop-index-test.true c.index-tables-index.is)
+
+pub attach_prepared-requires-clause-same : goal.attach_prepared-requires-clause-same
+attach_prepared-requires-clause-same c = c.requires.same ∙ sym c.loop-index.invariant.same.keys
 
 pub attach_prepared-requires-clause-known : goal.attach_prepared-requires-clause-known
 attach_prepared-requires-clause-known c = λ p has. c.loop-index.invariant.same.known p

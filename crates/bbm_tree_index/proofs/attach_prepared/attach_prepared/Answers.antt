@@ -4,8 +4,11 @@ use Rattle.bbm_tree_index.proofs.Growing.{all_keys, first_more_keys, same_keys}
 use Rattle.bbm_tree_index.proofs.Hanging.{at_end, one_more}
 use Rattle.bbm_tree_index.proofs.attach_prepared.attach_prepared.Goals as goal
 
-pub put-requires : goal.put-requires
-put-requires c = c.loop-index.invariant.same.known c.entry_at-page.result.0
+pub put-requires-clause-same : goal.put-requires-clause-same
+put-requires-clause-same c = c.requires.same ∙ sym c.loop-index.invariant.same.keys
+
+pub put-requires-clause-known : goal.put-requires-clause-known
+put-requires-clause-known c = c.loop-index.invariant.same.known c.entry_at-page.result.0
     ∙ c.requires.known c.entry_at-page.result.0 (ap (λ o. is_some o) c.entry_at-page.ensures.mark)
 
 pub loop-index-preserved : goal.loop-index-preserved

@@ -1,5 +1,5 @@
 use Rattle.bbm_tree_index.proofs.Common.{Releases}
-use Rattle.bbm_rules.proofs.Common.{◌<◌, sym, subst, arith, fun_ext}
+use Rattle.bbm_rules.proofs.Common.{◌<◌, ◌∙◌, sym, subst, arith, fun_ext}
 use Rattle.bbm_tree_index.specs.Leaving.{LetsGo}
 use Rattle.bbm_tree_index.proofs.Swept.{all_hidden, more, start, swept_low}
 use Rattle.bbm_tree_index.proofs.leaving.sweep.Goals as goal
@@ -7,17 +7,18 @@ use Rattle.bbm_tree_index.proofs.leaving.sweep.Goals as goal
 pub loop-index-init : goal.loop-index-init
 loop-index-init c = start c.args.roles.now c.args.map.now c.args.leaving.now
 
-pub page_at-page-requires : goal.page_at-page-requires
-page_at-page-requires c =
+pub at-page-requires : goal.at-page-requires
+at-page-requires c =
     subst (λ n. c.loop-index.index < n) (sym c.loop-index.invariant.roles.same.len)
     (omega (arith, c.loop-index-test.true, c.len-index-end.ensures.len))
 
-pub step-requires-clause-shallow : goal.step-requires-clause-shallow
-step-requires-clause-shallow c = swept_low c.requires.0 c.requires.1 c.loop-index.invariant c.page_at-page.result
+pub step-requires-clause-same : goal.step-requires-clause-same
+step-requires-clause-same c =
+    c.loop-index.invariant.places.pages ∙ c.requires.same ∙ sym c.loop-index.invariant.roles.same.keys
 
 pub loop-index-preserved : goal.loop-index-preserved
 loop-index-preserved c =
-    more c.requires.0 c.requires.1 c.loop-index.invariant c.page_at-page.ensures.at c.step.ensures.roles c.step.ensures.map
+    more c.requires.sound.0 c.requires.sound.1 c.loop-index.invariant c.at-page.ensures.at c.step.ensures.roles c.step.ensures.map
 
 pub returns : goal.returns
 returns c =

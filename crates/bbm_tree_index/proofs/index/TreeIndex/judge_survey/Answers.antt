@@ -15,6 +15,6 @@ pub returns : goal.returns
 unfolding fresh_in role_in
 returns c = subst (λ b. Judges (fresh_in c.args.self.now) (value_at c.args.map.now) (starts_of c.args.self.now c.args.at.now) b c.judge_tables.result)
     c.is_named.ensures
-    (c.judge_tables.ensures (starts_of c.args.self.now c.args.at.now)
+    ((rw c.roles.ensures at c.judge_tables.ensures) (starts_of c.args.self.now c.args.at.now)
     (survey_told c.args.tables.now c.args.self.now c.args.map.now c.args.at.now c.requires.survey
     c.begin-kind.result.0 c.begin-kind.result.1 c.begin-kind.ensures.same c.begin-kind.ensures.some c.requires.may))

@@ -7,8 +7,8 @@ use Rattle.bbm_tree_index.proofs.Left.{left_at, trees_left}
 use Rattle.bbm_tree_index.proofs.Sweeping.{sound_swept}
 use Rattle.bbm_tree_index.proofs.index.TreeIndex.leave.Goals as goal
 
-pub sweep-requires : goal.sweep-requires
-sweep-requires c = (c.args.self.now.header, c.args.self.now.sound)
+pub sweep-requires-clause-sound : goal.sweep-requires-clause-sound
+sweep-requires-clause-sound c = (c.args.self.now.header, c.args.self.now.sound)
 
 abbrev leaver : goal.After-sweep → ℕ → Bool
 leaver c p = leaves_role c.args.map.now (roles_of c.args.self.now.roles) c.args.leaving.now (roles_of c.args.self.now.roles p)
@@ -27,6 +27,6 @@ unfolding heading_of known_in pages_in role_in
 returns c =
     let old = c.args.self.now in let map = c.args.map.now in let same = c.sweep.ensures.roles.same in record {
       trees = trees_left old map c.args.leaving.now _ refl c.sweep.ensures.roles.roles;
-      tracked = record { known = same.known; pages = same.len; heading = refl };
+      tracked = record { known = same.known; pages = same.keys; heading = refl };
       map = subst (λ gone. Releases gone map c.sweep.new.map) (fun_ext (left_at old map c.args.leaving.now)) c.sweep.ensures.map;
     }

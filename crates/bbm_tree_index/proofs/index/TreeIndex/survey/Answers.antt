@@ -8,7 +8,7 @@ unfolding fresh_in heading_of role_in
 returns-clause-tables c = record {
   first = get nat_eq c.in_ok-first.first;
   starting = c.in_ok-first.ensures.start;
-  surveyed = c.in_ok-tables.ensures.tables;
+  surveyed = rw c.roles.ensures at c.in_ok-tables.ensures.tables;
   filled = omega (arith, c.in_ok-tables.ensures.count);
   count = λ s h. omega (arith, (c.begin-level.ensures.same s h).1, c.in_ok-tables.ensures.count, c.begin-level.ensures.low);
 }

@@ -1,11 +1,12 @@
 use Rattle.bbm_tree_index.proofs.Common.{IndexMap, get, Agrees, Heading, PlaceMap, Sound, roles_of, Role, Fresh}
 use Rattle.bbm_tree_index.proofs.Common.{TreeIndex, Untracked, marks_at, value_at}
 use Rattle.bbm_rules.proofs.Common.{ne_eqb, nat_tests, ◌≡◌, ℕ, refl, sym, ap, ◌∙◌, nat_eq, List, Some, None, is_some}
-use Rattle.bbm_rules.proofs.Common.{true, false, ◌==◌, if◌then◌else◌, ◌<◌, ◌%◌, ◌^◌, subst, arith, Result, Ok, Err}
-use Rattle.bbm_rules.proofs.Common.{true≢false, common_steps, page_of, Node, lookup, none-some, unwrap_or}
-use Rattle.std.specs.Result.{OnOk, is_ok}
+use Rattle.bbm_rules.proofs.Common.{false, ◌==◌, if◌then◌else◌, ◌<◌, ◌%◌, ◌^◌, subst, arith}
+use Rattle.bbm_rules.proofs.Common.{common_steps, page_of, Node, lookup, none-some, unwrap_or}
 use Rattle.bbm_tree_index.specs.Index.{fresh_in, heading_of, node_in, null_in, role_in}
 use Rattle.bbm_tree_index.specs.PageTables.{HasPages}
+use Rattle.bbm_place_map.specs.Map.{pages_of}
+use Rattle.bbm_tree_index.proofs.Numbered.{tracked_more}
 use Rattle.bbm_tree_index.proofs.Agreeing.{SamePlace, agrees_same}
 use Rattle.bbm_tree_index.proofs.Climbing.{tree_part}
 use Rattle.bbm_tree_index.proofs.Indexes.{fresh_put, node_kept, node_out, null_put, sound_put, trees_put, true_there}
@@ -57,10 +58,6 @@ returns-in-Err-track-clause-agrees c = agrees c.args.self.now _ c.args.map.now c
 
 -- ---- where the page is tracked
 
-of_ok : {T E : Type 0} (r : Result T E) (P : Type 0) → is_ok r ≡ true → OnOk r P → P
-of_ok (Ok x) P is p = p
-of_ok (Err e) P is p = absurd (true≢false (sym is))
-
 module _ {S : Type 0} (old : TreeIndex) (now new : IndexMap ℕ Role S) (page : ℕ) (same : now.entries ≡ old.roles.entries)
     (put : (p : ℕ) → get nat_eq new p ≡ (if nat_eq page p then Some Fresh else get nat_eq now p)) where
   got : (p : ℕ) → get nat_eq new p ≡ (if p == page then Some Fresh else get nat_eq old.roles p)
@@ -86,40 +83,50 @@ module _ (index : TreeIndex) (map map' : PlaceMap) (page : ℕ) (none : node_in 
 pub invariant_of-self-2-clause-sound : goal.invariant_of-self-2-clause-sound
 invariant_of-self-2-clause-sound c =
     let self = c.args.self.now in
-    let put = of_ok c.insert.result _ (c.insert.ensures.succeeds c.in-Ok.ensures.room) c.insert.ensures.updates in
-    sound_put self c.insert.new.self c.args.page Fresh (got self c.reserve.new.self c.insert.new.self c.args.page c.reserve.ensures.entries put)
+    let put = c.set.ensures.updates in
+    sound_put self c.set.new.roles c.args.page Fresh (got self c.reserve.new.self c.set.new.roles c.args.page c.reserve.ensures.entries put)
     (node_out self c.args.page c.requires.no_tree) refl
 
 pub invariant_of-self-2-clause-paged : goal.invariant_of-self-2-clause-paged
 invariant_of-self-2-clause-paged c =
-    let put = of_ok c.insert.result _ (c.insert.ensures.succeeds c.in-Ok.ensures.room) c.insert.ensures.updates in
-    paged c.args.self.now c.reserve.new.self c.insert.new.self c.args.page c.reserve.ensures.entries put
+    let put = c.set.ensures.updates in
+    paged c.args.self.now c.reserve.new.self c.set.new.roles c.args.page c.reserve.ensures.entries put
     c.get.ensures.below c.get.ensures.aligned
 
 null_kept : (old : TreeIndex) (page p : ℕ) → null_in old page ≡ false
     → (if p == page then false else null_in old p) ≡ null_in old p
 null_kept old page p not_null = grind (arith, nat_tests)
 
-pub returns-in-Ok-insert-clause-fresh : goal.returns-in-Ok-insert-clause-fresh
+pub returns-clause-fresh : goal.returns-clause-fresh
 unfolding heading_of role_in
-returns-in-Ok-insert-clause-fresh c =
+returns-clause-fresh c =
     let old = c.args.self.now in
     let page = c.args.page in
-    let put = got old c.reserve.new.self c.insert.new.self page c.reserve.ensures.entries c.in-Ok-insert.ensures.updates in
+    let put = got old c.reserve.new.self c.set.new.roles page c.reserve.ensures.entries c.set.ensures.updates in
     record {
-      node = node_kept old _ refl (trees_put old c.insert.new.self page Fresh put (node_out old page c.requires.no_tree) refl);
+      node = node_kept old _ refl (trees_put old c.set.new.roles page Fresh put (node_out old page c.requires.no_tree) refl);
       fresh = λ p. fresh_put old _ page Fresh put p ∙ true_there (p == page) (fresh_in old p);
       null = λ p. null_put old _ page Fresh put p ∙ null_kept old page p c.requires.not_null;
     }
 
-pub returns-in-Ok-insert-clause-agrees : goal.returns-in-Ok-insert-clause-agrees
+pub returns-clause-agrees : goal.returns-clause-agrees
 unfolding heading_of role_in
-returns-in-Ok-insert-clause-agrees c =
+returns-clause-agrees c =
     let old = c.args.self.now in
     let page = c.args.page in
     let e = c.in-Ok-track.ensures in
-    let put = got old c.reserve.new.self c.insert.new.self page c.reserve.ensures.entries c.in-Ok-insert.ensures.updates in
+    let put = got old c.reserve.new.self c.set.new.roles page c.reserve.ensures.entries c.set.ensures.updates in
     agrees_same old _ c.args.map.now c.track.new.self
-    (node_kept old _ refl (trees_put old c.insert.new.self page Fresh put (node_out old page c.requires.no_tree) refl))
+    (node_kept old _ refl (trees_put old c.set.new.roles page Fresh put (node_out old page c.requires.no_tree) refl))
     (places old c.args.map.now c.track.new.self page c.requires.no_tree e.freed.marks e.values)
     (clean old c.args.map.now c.track.new.self page c.requires.no_tree e.freed.marks e.values)
+
+pub returns-clause-zero : goal.returns-clause-zero
+returns-clause-zero c =
+    let e = c.in-Ok-track.ensures in
+    record {
+      values = e.values;
+      marks = e.freed.marks;
+      pends = e.freed.pends;
+      pages = tracked_more (pages_of c.args.map.now) (pages_of c.track.new.self) c.args.page e.pages;
+    }
