@@ -110,7 +110,12 @@ fn is_table_harmless(map: &PlaceMap, kind: Kind, level: Level, table: &IndexMap<
 }
 
 /// Whether no page of the tables has such a place, where the first stands for this level.
-pub fn are_harmless(map: &PlaceMap, tables: &[IndexMap<u64, Mark>], kind: Kind, start: Level) -> bool
+pub fn are_harmless(
+    map: &PlaceMap,
+    tables: &[IndexMap<u64, Mark>],
+    kind: Kind,
+    start: Level,
+) -> bool
     requires pages { HavePages tables.now }
     requires low { start + length tables.now ≤ 4 }
     ensures { result ≡ true

@@ -91,7 +91,14 @@ impl TreeIndex {
     {
         let (_, level) = self.begin(map, at);
         let first = self.start(alloc, map, at)?;
-        let tables = survey(alloc, &self.header, &self.roles(map), map, first, 3 - level.get())?;
+        let tables = survey(
+            alloc,
+            &self.header,
+            &self.roles(map),
+            map,
+            first,
+            3 - level.get(),
+        )?;
         Ok(tables)
     }
 

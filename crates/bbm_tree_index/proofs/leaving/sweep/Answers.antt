@@ -1,7 +1,7 @@
 use Rattle.bbm_tree_index.proofs.Common.{Releases}
 use Rattle.bbm_rules.proofs.Common.{◌<◌, ◌∙◌, sym, subst, arith, fun_ext}
 use Rattle.bbm_tree_index.specs.Leaving.{LetsGo}
-use Rattle.bbm_tree_index.proofs.Swept.{all_hidden, more, start, swept_low}
+use Rattle.bbm_tree_index.proofs.Swept.{all_hidden, more, start}
 use Rattle.bbm_tree_index.proofs.leaving.sweep.Goals as goal
 
 pub loop-index-init : goal.loop-index-init

@@ -1,15 +1,8 @@
-use Rattle.bbm_tree_index.proofs.Common.{is_sound, limbo_by, value_at}
+use Rattle.bbm_tree_index.proofs.Common.{limbo_by, value_at}
 use Rattle.bbm_rules.proofs.Common.{false, sym, ap, ◌∙◌, option_map_or}
-use Rattle.bbm_tree_index.specs.Index.{heading_of, node_in, role_in}
+use Rattle.bbm_tree_index.specs.Index.{node_in, role_in}
 use Rattle.bbm_tree_index.proofs.Limbo.{limbo_hangs}
-use Rattle.bbm_tree_index.proofs.Swept.{level_low}
 use Rattle.bbm_tree_index.proofs.index.TreeIndex.in_limbo.Goals as goal
-
-pub is_cut-requires-clause-low : goal.is_cut-requires-clause-low
-is_cut-requires-clause-low c =
-    let h = c.in-Hangs in
-    level_low (role_in c.args.self.now) (heading_of c.args.self.now) (is_sound c.args.self.now).roles c.page.result h.parent
-    h.level h.base h.first h.kind (sym c.role-role.ensures ∙ h.is)
 
 pub returns-in-Hangs : goal.returns-in-Hangs
 unfolding role_in

@@ -10,5 +10,5 @@ returns-clause-tables c = record {
   starting = c.in_ok-first.ensures.start;
   surveyed = rw c.roles.ensures at c.in_ok-tables.ensures.tables;
   filled = omega (arith, c.in_ok-tables.ensures.count);
-  count = λ s h. omega (arith, (c.begin-level.ensures.same s h).1, c.in_ok-tables.ensures.count, c.begin-level.ensures.low);
+  count = λ s h. omega (arith, (c.begin-level.ensures.same s h).1, c.in_ok-tables.ensures.count);
 }
