@@ -5,7 +5,7 @@ use Rattle.bbm_place_map.proofs.Common.{Option, Some, None, refl, ap, sym, arith
 use Rattle.bbm_place_map.proofs.Common.{same_Some}
 use Rattle.bbm_place_map.proofs.Common.{none-some, vec_len, Numbered, index_of, bases, number_in, PlaceMap}
 use Rattle.bbm_page_map.proofs.Numbering.{number_is, number_push, number_within}
-use Rattle.bbm_place_map.proofs.Places.{found, index_from}
+use Rattle.bbm_place_map.proofs.Places.{index_from}
 
 based : (o : Option ℕ) (b : ℕ) → option_map (λ n. 512 * n) o ≡ Some b → (n : ℕ) × (o ≡ Some n) × (512 * n ≡ b)
 based None b h = absurd (none-some b h)

@@ -12,7 +12,7 @@ module _ (by : Barrier) where
   unbroken None h = false≢true h
   unbroken (Some core) h = false≢true h
 
-  whole : (live : Option Core) → Published (state_from live None) by.issuer by.dsb by.n (state_from live None)
+  pub whole : (live : Option Core) → Published (state_from live None) by.issuer by.dsb by.n (state_from live None)
   whole live = still_published by (state_from live None) (λ p _ wrote. absurd (unbroken live wrote))
 
   pub published_at : (live : Option Core) (o p : Option Entry) → Advances (Publishes by) o p

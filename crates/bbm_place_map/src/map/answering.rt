@@ -27,6 +27,9 @@ impl PlaceMap {
         ensures pends { (q a : ℕ) → pends_at self.new q a ≡ pends_at self.old q a }
         ensures same { KeepsPlaces self.old self.new }
     {
+        if self.broken.len() == 0 {
+            return;
+        }
         let effect = Effect::Publish(publishes_to(dsb, issuer, n));
         self.broken.visit(&Barrier {
             issuer,
