@@ -26,7 +26,9 @@ fn a_null_page(rt: HostRuntime) -> Result<(), TreeFault> {
     if index.is_fresh(&map, page) {
         index.nullify(&map, page);
     }
-    assert!(rt; index.is_null(&map, page) && !index.is_fresh(&map, page) && !index.is_in_tree(&map, page));
+    assert!(rt;
+        index.is_null(&map, page) && !index.is_fresh(&map, page) && !index.is_in_tree(&map, page)
+    );
     assert!(rt; index.pages() == 1);
     Ok(())
 }

@@ -121,6 +121,15 @@ impl TreeIndex {
         self.roles.at(position.page.get()).1
     }
 
+    /// Whether the page of the place is fresh. The position is that of the place in the map.
+    #[inline(always)]
+    pub fn is_fresh_at(&self, position: &Position) -> bool
+        requires { HasNumber self.now position.now }
+        ensures { result ≡ fresh_in self.now (page_of position.now.place) }
+    {
+        matches!(self.role_at(position), Role::Fresh)
+    }
+
     /// Whether the page is a null page.
     pub fn is_null(&self, map: &PlaceMap, page: Page) -> bool
         requires { SharesNumbers self.now map.now }

@@ -173,7 +173,13 @@ impl PlaceMap {
     /// The core that the place with this number, 0 to 511, has, of the page whose first place the position has: the one
     /// that it is broken over; where it isn't broken that of its value, read at this kind and level, 0 to 3, and None
     /// where that is invalid.
-    pub fn core_from(&self, position: &Position, number: u64, kind: Kind, level: Level) -> Option<Core>
+    pub fn core_from(
+        &self,
+        position: &Position,
+        number: u64,
+        kind: Kind,
+        level: Level,
+    ) -> Option<Core>
         requires position { IsPosition self.now position.now }
         requires first { position.now.place % 4096 ≡ 0 }
         requires within { number < 512 }
