@@ -4,6 +4,7 @@ use Rattle.bbm_place_map.proofs.Common.{length}
 use Rattle.bbm_place_map.proofs.Common.{Option, Some, None, refl, ap, sym, arith, nat_eq, if◌then◌else◌, option_map}
 use Rattle.bbm_place_map.proofs.Common.{same_Some}
 use Rattle.bbm_place_map.proofs.Common.{none-some, vec_len, Numbered, index_of, bases, number_in, PlaceMap}
+use Rattle.bbm_place_map.proofs.Common.{subst, IsKept}
 use Rattle.bbm_page_map.proofs.Numbering.{number_is, number_push, number_within}
 use Rattle.bbm_place_map.proofs.Places.{index_from}
 
@@ -29,6 +30,11 @@ numbered_by pages count all = record {
 
 pub numbered_in : (map : PlaceMap) → Numbered (bases map.pages) (vec_len map.values)
 numbered_in map = numbered_by map.pages (vec_len map.values) map.counted
+
+pub is_kept : (map : PlaceMap) → IsKept (bases map.pages) map.broken
+is_kept map =
+    let N : ℕ → Type 0 = Numbered (bases map.pages) in
+    record { numbered = subst N (omega (arith, map.counted, map.paged)) (numbered_in map); placed = map.placed }
 
 pub base_none : (pages : List ℕ) (p : ℕ) → number_in pages p ≡ None → bases pages p ≡ None
 base_none pages p none = ap (option_map (λ n. 512 * n)) none

@@ -11,6 +11,11 @@ use Rattle.bbm_place_map.proofs.Common.{place_entry, Vec, Global}
 use Rattle.bbm_place_map.proofs.Common.{Entry, Pending, Found, Issuing, false≢true, marks_of, BrokenPlaces}
 use Rattle.bbm_place_map.proofs.Common.{EachAdvances, PlaceMap}
 use Rattle.bbm_place_map.proofs.Common.{Marks, none-some, same_Some}
+use Rattle.bbm_place_map.proofs.Common.{◌≢◌, value_in, vec_len, IsSame, Keeps}
+use Rattle.bbm_place_map.specs.MapCalls.{KeepsPlaces, NotesOnly}
+use Rattle.std.proofs.lemmas.Bool.{eqb-false}
+use Rattle.bbm_place_map.proofs.Clearing.{Fits, fits_seated}
+use Rattle.bbm_place_map.specs.Map.{pages_of, marks_at, pends_at, restless_in, restless_place, value_at}
 use Rattle.bbm_place_map.proofs.Advancing.{by_entries, column_kept, position_kept}
 use Rattle.bbm_place_map.proofs.Finding.{cover_is}
 use Rattle.bbm_place_map.proofs.Common.{AreSeated}
@@ -65,6 +70,67 @@ module _ (R : ℕ → Entry → Entry → Type 0) (map : PlaceMap) (new : Broken
   seats_stay =
       seats_kept map.broken.entries.list.items new.entries.list.items
       (λ m. position_kept (R m) (slice_get map.broken.entries.list.items m) (slice_get new.entries.list.items m) (changed.each m))
+
+-- what two maps have alike, where the entries change each in its place
+module _ (R : ℕ → Entry → Entry → Type 0) (map : PlaceMap) where
+  pub fits_each : (new : BrokenPlaces) → EachAdvances R map.broken new → Fits map map.values new
+  fits_each new changed = fits_seated map map.values new refl (ap vec_len changed.same.parts) (seats_stay R map new changed)
+
+  module _ (new : PlaceMap) (values : new.values ≡ map.values) (pages : new.pages ≡ map.pages) (changed : EachAdvances R map.broken new.broken) where
+    values_kept : (a : ℕ) → value_at new a ≡ value_at map a
+    unfolding value_at
+    values_kept a =
+        ap (λ (v : Vec ℕ Global). at_index 0 (value_in v.items) (index_of (bases new.pages) a)) values
+        ∙ ap (λ (ps : List ℕ). at_index 0 (value_in map.values.items) (index_of (bases ps) a)) pages
+
+    places_kept : KeepsPlaces map new
+    unfolding pages_of restless_in restless_place
+    places_kept = record { values = values_kept; pages = pages; restless = changed.same.len; places = places_stay R map new.broken changed }
+
+    pub marks_kept : ((m : ℕ) (e f : Entry) → R m e f → f.marks ≡ e.marks) → (a : ℕ) → marks_at new a ≡ marks_at map a
+    unfolding marks_at
+    marks_kept same a =
+        let P : List ℕ → Type 0 = λ ps. marks_of (at_index None (entry_at new.broken) (index_of (bases ps) a)) ≡ marks_of (place_entry map a) in
+        subst P (sym pages) (marks_stay R map new.broken changed same a)
+
+    pub pends_kept : (q : ℕ) → ((m : ℕ) (e f : Entry) → R m e f → pends_in f.pends.items q ≡ pends_in e.pends.items q)
+        → (a : ℕ) → pends_at new q a ≡ pends_at map q a
+    unfolding pends_at
+    pends_kept q same a =
+        let P : List ℕ → Type 0 = λ ps. pends_of q (at_index None (entry_at new.broken) (index_of (bases ps) a)) ≡ pends_of q (place_entry map a) in
+        subst P (sym pages) (pends_stay R map new.broken changed q same a)
+
+    pub only_kept : (issuer : ℕ) → ((m : ℕ) (e f : Entry) → R m e f → f.marks ≡ e.marks)
+        → ((q : ℕ) → q ≢ issuer → (m : ℕ) (e f : Entry) → R m e f → pends_in f.pends.items q ≡ pends_in e.pends.items q) → NotesOnly issuer map new
+    only_kept issuer marks pends = record {
+      others = λ q a other. pends_kept q (pends q (eqb-false q issuer other)) a;
+      marks = marks_kept marks;
+      same = places_kept;
+    }
+
+-- there is more room at entries
+module _ (map new : PlaceMap) (values : new.values ≡ map.values) (pages : new.pages ≡ map.pages)
+    (changed : EachAdvances (λ _. Keeps) map.broken new.broken) where
+  waits_same : (q m : ℕ) (e f : Entry) → Keeps e f → pends_in f.pends.items q ≡ pends_in e.pends.items q
+  waits_same q m e f h = ap (λ (ps : List Pending). pends_in ps q) h.1
+
+  pub room_pends : (q a : ℕ) → pends_at new q a ≡ pends_at map q a
+  room_pends q = pends_kept (λ _. Keeps) map new values pages changed q (waits_same q)
+
+  pub room_only : (issuer : ℕ) → NotesOnly issuer map new
+  room_only issuer = only_kept (λ _. Keeps) map new values pages changed issuer (λ m e f h. h.0) (λ q _. waits_same q)
+
+  pub room_same : IsSame map new
+  room_same =
+      let only = room_only 0 in
+      record {
+        values = only.same.values;
+        marks = only.marks;
+        pends = room_pends;
+        pages = only.same.pages;
+        restless = only.same.restless;
+        places = only.same.places;
+      }
 
 -- at the place of an entry, by its number
 pub noted_by_number : (map : PlaceMap) (new : BrokenPlaces) (covers : List Cover) (by : Issuing) → EachAdvances (NotesAt covers by) map.broken new

@@ -1,68 +1,34 @@
-use Rattle.bbm_place_map.proofs.Common.{refl, ap, List, sym, ◌∙◌, vec_len, Keeps, NotesAt, Pending, pends_in}
-use Rattle.std.proofs.lemmas.Bool.{eqb-false}
-use Rattle.bbm_place_map.proofs.Clearing.{fits_seated}
-use Rattle.bbm_place_map.proofs.Issued.{marks_stay, noted_by_number, pends_stay, places_stay, seats_stay}
+use Rattle.bbm_place_map.proofs.Common.{refl, sym, ◌∙◌, Keeps, NotesAt}
+use Rattle.bbm_place_map.proofs.Issued.{fits_each, noted_by_number, only_kept, room_only, room_same}
 use Rattle.bbm_place_map.proofs.Keeping.{each_then}
 use Rattle.bbm_place_map.proofs.Made.{issuing}
 use Rattle.bbm_place_map.proofs.Noting.{at_over, on_err}
-use Rattle.bbm_place_map.specs.Map.{pages_of, marks_at, pends_at, restless_in, restless_place, value_at}
+use Rattle.bbm_place_map.specs.Map.{marks_at, pends_at, restless_in, restless_place}
 use Rattle.bbm_place_map.proofs.map.PlaceMap.issue_all.Goals as goal
 
 pub invariant_of-self : goal.invariant_of-self
-invariant_of-self c =
-    let self = c.args.self.now in
-    let e = c.make_room.ensures.each in
-    fits_seated self self.values c.make_room.new.broken refl (ap vec_len e.same.parts) (seats_stay (λ m. Keeps) self c.make_room.new.broken e)
+invariant_of-self c = fits_each (λ m. Keeps) c.args.self.now c.make_room.new.broken c.make_room.ensures.each
 
 pub invariant_of-self-2 : goal.invariant_of-self-2
 invariant_of-self-2 c =
-    let self = c.args.self.now in
-    let new = c.note.new.broken in
     let by = issuing c.args.issuer c.args.reach c.args.broadcast in
     let R = NotesAt c.args.covers.now by in
-    let e = each_then R c.make_room.ensures.each c.note.ensures (λ m x f g seated h h'. at_over c.args.covers.now by m x f g h h') in
-    fits_seated self self.values new refl (ap vec_len e.same.parts) (seats_stay R self new e)
+    fits_each R c.args.self.now c.note.new.broken
+    (each_then R c.make_room.ensures.each c.note.ensures (λ m x f g seated h h'. at_over c.args.covers.now by m x f g h h'))
 
 pub returns-clause-only : goal.returns-clause-only
-unfolding pages_of marks_at pends_at restless_in restless_place value_at
 returns-clause-only c =
-    let self = c.args.self.now in
-    let new = c.note.new.broken in
     let by = issuing c.args.issuer c.args.reach c.args.broadcast in
     let R = NotesAt c.args.covers.now by in
-    let e = each_then R c.make_room.ensures.each c.note.ensures (λ m x f g seated h h'. at_over c.args.covers.now by m x f g h h') in
-    record {
-      others = λ q a other. pends_stay R self new e q (λ m x f h. h.1 q (eqb-false q c.args.issuer other)) a;
-      marks = marks_stay R self new e (λ m x f h. h.0);
-      same = record { values = λ a. refl; pages = refl; restless = e.same.len; places = places_stay R self new e };
-    }
+    only_kept R c.args.self.now _ refl refl
+    (each_then R c.make_room.ensures.each c.note.ensures (λ m x f g seated h h'. at_over c.args.covers.now by m x f g h h'))
+    c.args.issuer (λ m x f h. h.0) (λ q other m x f h. h.1 q other)
 
 pub returns-in_err-make_room-clause-only : goal.returns-in_err-make_room-clause-only
-unfolding pages_of marks_at pends_at restless_in restless_place value_at
-returns-in_err-make_room-clause-only c =
-    let self = c.args.self.now in
-    let new = c.make_room.new.broken in
-    let e = c.make_room.ensures.each in
-    record {
-      others = λ q a other. pends_stay (λ m. Keeps) self new e q (λ m x f h. ap (λ (ps : List Pending). pends_in ps q) h.1) a;
-      marks = marks_stay (λ m. Keeps) self new e (λ m x f h. h.0);
-      same = record { values = λ a. refl; pages = refl; restless = e.same.len; places = places_stay (λ m. Keeps) self new e };
-    }
+returns-in_err-make_room-clause-only c = room_only c.args.self.now _ refl refl c.make_room.ensures.each c.args.issuer
 
 pub returns-in_err-make_room-clause-kept : goal.returns-in_err-make_room-clause-kept
-unfolding pages_of marks_at pends_at restless_in restless_place value_at
-returns-in_err-make_room-clause-kept c =
-    let self = c.args.self.now in
-    let new = c.make_room.new.broken in
-    let e = c.make_room.ensures.each in
-    on_err c.from_residual.result (record {
-      values = λ a. refl;
-      marks = marks_stay (λ m. Keeps) self new e (λ m x f h. h.0);
-      pends = λ q. pends_stay (λ m. Keeps) self new e q (λ m x f h. ap (λ (ps : List Pending). pends_in ps q) h.1);
-      pages = refl;
-      restless = e.same.len;
-      places = places_stay (λ m. Keeps) self new e;
-    })
+returns-in_err-make_room-clause-kept c = on_err c.from_residual.result (room_same c.args.self.now _ refl refl c.make_room.ensures.each)
 
 pub note-requires-clause-noted : goal.note-requires-clause-noted
 note-requires-clause-noted c = λ m e x below is at.
@@ -71,9 +37,7 @@ note-requires-clause-noted c = λ m e x below is at.
 pub returns-clause-noted : goal.returns-clause-noted
 unfolding marks_at pends_at restless_in restless_place
 returns-clause-noted c =
-    let self = c.args.self.now in
-    let new = c.note.new.broken in
     let by = issuing c.args.issuer c.args.reach c.args.broadcast in
     let R = NotesAt c.args.covers.now by in
-    let e = each_then R c.make_room.ensures.each c.note.ensures (λ m x f g seated h h'. at_over c.args.covers.now by m x f g h h') in
-    noted_by_number self new c.args.covers.now by e c.requires
+    noted_by_number c.args.self.now c.note.new.broken c.args.covers.now by
+    (each_then R c.make_room.ensures.each c.note.ensures (λ m x f g seated h h'. at_over c.args.covers.now by m x f g h h')) c.requires
