@@ -1,5 +1,5 @@
 -- A page that is tracked anew, once there is room for it.
-use Rattle.bbm_place_map.proofs.Common.{◌≡◌, ◌+◌, ◌*◌, ◌/◌, ◌%◌, ◌≤◌, ℕ, Bool, List, length, Option}
+use Rattle.bbm_place_map.proofs.Common.{◌≡◌, ◌+◌, ◌*◌, ◌/◌, ◌%◌, ◌≤◌, ℕ, Bool, List, length}
 use Rattle.bbm_place_map.proofs.Common.{Some, None}
 use Rattle.bbm_place_map.proofs.Common.{refl, ap, sym, subst, ◌∙◌, arith, vec_len}
 use Rattle.bbm_place_map.proofs.Common.{if◌then◌else◌, get_or_past, bases, value_in, IsSame}
@@ -9,6 +9,7 @@ use Rattle.bbm_place_map.proofs.Common.{HoldsSame, SameEntries}
 use Rattle.bbm_place_map.proofs.Common.{PlaceMap, entry_at, entry_in, entry_of_cell, cell_by, marks_of, pends_of}
 use Rattle.bbm_place_map.proofs.Common.{place_entry, pages_in}
 use Rattle.std.specs.Prelude.{unwrap_or}
+use Rattle.bbm_place_map.proofs.Places.{at_same}
 use Rattle.bbm_place_map.proofs.Edits.{slot_past}
 use Rattle.std.proofs.Common.{length-append}
 use Rattle.bbm_place_map.proofs.Bases.{base_none, bases_more, numbered_in}
@@ -22,10 +23,6 @@ held_same old new same j =
     ap (λ (xs : List ℕ). at_index None (entry_of_cell new.entries) (cell_by xs j)) same.parts
     ∙ ap (λ (xs : List ℕ). at_index None (entry_in xs new.entries.list.items) (cell_by old.parts.items j)) same.cells
     ∙ ap (λ (xs : List Entry). at_index None (entry_in old.entries.cells.items xs) (cell_by old.parts.items j)) same.list
-
-at_same : {X : Type 0} (d : X) (f g : ℕ → X) → ((i : ℕ) → g i ≡ f i) → (o : Option ℕ) → at_index d g o ≡ at_index d f o
-at_same d f g same None = refl
-at_same d f g same (Some j) = same j
 
 pub kept_same : (old new : PlaceMap) → KeepsItems old new → IsSame old new
 unfolding value_at marks_at pends_at pages_of restless_in restless_place

@@ -9,6 +9,6 @@ pub mod Works
 pub mod Dsbs
 pub mod Finds
 pub mod PlaceNotes
-pub mod Broken
+pub mod ByNumber
 pub mod Map
 pub mod MapCalls

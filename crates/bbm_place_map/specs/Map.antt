@@ -9,7 +9,7 @@ use Rattle.bbm_entry_state.specs.declared.pending.Pends.{Pends}
 use Rattle.bbm_entry_state.specs.declared.state.EntryState.{EntryState}
 use Rattle.bbm_page_map.specs.PageLists.{number_in}
 use Rattle.bbm_place_map.specs.Cells.{value_in}
-use Rattle.bbm_place_map.specs.Broken.{entry_at}
+use Rattle.bbm_place_map.specs.ByNumber.{entry_at}
 use Rattle.bbm_place_map.specs.Entries.{marks_of, pends_of}
 use Rattle.bbm_place_map.specs.Sound.{index_of, at_index, bases}
 use Rattle.bbm_place_map.specs.States.{state_from}

@@ -6,7 +6,7 @@ use Rattle.bbm_entry_state.specs.EntryCalls.{Written}
 use Rattle.bbm_entry_state.specs.Points.{is_broken}
 use Rattle.bbm_entry_state.specs.EntryStanding.{IsIdle}
 use Rattle.bbm_entry_state.specs.declared.state.EntryState.{EntryState}
-use Rattle.bbm_place_map.specs.Broken.{HoldsSame}
+use Rattle.bbm_place_map.specs.ByNumber.{HoldsSame}
 use Rattle.bbm_place_map.specs.Each.{loses_table}
 use Rattle.bbm_place_map.specs.Map.{value_at, marks_at, page_of, pages_of, pends_at, restless_in, restless_place}
 use Rattle.bbm_place_map.specs.States.{marks_of_state}

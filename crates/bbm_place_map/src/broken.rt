@@ -48,8 +48,8 @@ pub struct BrokenPlaces {
 }
 
 impl BrokenPlaces {
-    ghost use Rattle.bbm_place_map.specs.Broken.{Breaks, ChangesOne, Clears, HasPageRoom, HoldsSame, IsAt, SameEntries};
-    ghost use Rattle.bbm_place_map.specs.Broken.{VisitsPlaces, entry_at, number_at, pages_in};
+    ghost use Rattle.bbm_place_map.specs.ByNumber.{Breaks, ChangesOne, Clears, HasPageRoom, HoldsSame, IsAt, SameEntries};
+    ghost use Rattle.bbm_place_map.specs.ByNumber.{VisitsPlaces, entry_at, number_at, pages_in};
 
     /// No page, and so no broken place. It takes no memory.
     pub fn new(alloc: Global) -> BrokenPlaces

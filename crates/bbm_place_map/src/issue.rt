@@ -12,7 +12,7 @@ ghost use Rattle.bbm_place_map.specs.Finds.{is_found};
 ghost use Rattle.bbm_place_map.specs.Sound.{SameSize, bases};
 ghost use Rattle.bbm_place_map.specs.PlaceNotes.{IsNoted, Keeps, NotesAs, NotesAt, NotesFound, NotesOne};
 ghost use Rattle.bbm_place_map.specs.PlaceNotes.{OnlyNotes, Readies, is_cover as spec_is_cover};
-ghost use Rattle.bbm_place_map.specs.Broken.{EachAdvances, IsKept, entry_number};
+ghost use Rattle.bbm_place_map.specs.ByNumber.{EachAdvances, IsKept, entry_number};
 ghost use Rattle.bbm_place_map.specs.Works.{IsQuiet, Waits};
 ghost use Rattle.bbm_place_map.specs.declared.broken.BrokenPlaces.{BrokenPlaces as TheBroken};
 ghost use Rattle.bbm_place_map.specs.declared.entry.Entry.{Entry as TheEntry};

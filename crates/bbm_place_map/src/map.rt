@@ -14,7 +14,7 @@ mod writing;
 
 ghost use Rattle.std.specs.Prelude.{◌≡◌, ◌≤◌, ◌<◌, ◌*◌, length, vec_len};
 ghost use Rattle.std.proofs.Props.{props};
-ghost use Rattle.bbm_place_map.specs.Broken.{pages_in};
+ghost use Rattle.bbm_place_map.specs.ByNumber.{pages_in};
 ghost use Rattle.bbm_place_map.specs.Sound.{Placed, bases};
 
 use crate::broken::BrokenPlaces;

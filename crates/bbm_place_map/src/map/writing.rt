@@ -5,7 +5,7 @@ ghost use Rattle.std.specs.Prelude.{vec_len, vec_capacity, nat_eq};
 ghost use Rattle.bbm_entry_state.specs.declared.state.EntryState.{EntryState as TheState};
 ghost use Rattle.bbm_place_map.specs.MapCalls.{Frees, IsSame, KeepsItems, KeepsBroken, KeepsValues, Leaves, Puts};
 ghost use Rattle.bbm_place_map.specs.MapCalls.{WritesAs};
-ghost use Rattle.bbm_place_map.specs.Broken.{HasPageRoom};
+ghost use Rattle.bbm_place_map.specs.ByNumber.{HasPageRoom};
 ghost use Rattle.bbm_place_map.specs.Map.{value_at, marks_at, pends_at, is_tracked, IsPosition, page_of};
 ghost use Rattle.bbm_place_map.specs.Map.{pages_of, state_at};
 
