@@ -8,6 +8,7 @@ ghost use Rattle.bbm_session.specs.Requests.{selftest_of};
 ghost use Rattle.bbm_session.specs.Run.{command_alone, command_at, command_of, limits_of, or_else};
 
 use bbm_log_grammar::read_decimal;
+use bbm_regimes::MAX_LINES;
 use bbm_report::asked;
 use bbm_rules::Limits;
 use bbm_texts::{Command, Evidence};
@@ -195,11 +196,11 @@ pub fn limits(command: &Command) -> Limits
     match command {
         Command::Slow | Command::Show(_) => Limits {
             events: Some(ORACLE_EVENTS),
-            lines: u32::MAX,
+            lines: MAX_LINES,
         },
         Command::Check | Command::Explain | Command::Walk(_) => Limits {
             events: None,
-            lines: u32::MAX,
+            lines: MAX_LINES,
         },
     }
 }

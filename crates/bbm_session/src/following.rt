@@ -1,6 +1,7 @@
 //! The steps of a run, taken line after line.
 
 ghost use Rattle.std.specs.Prelude.{◌≡◌, ◌*◌, ◌<◌, Some, ok_or};
+ghost use Rattle.bbm_regimes.specs.declared.regime.TheConstants.{MAX_LINES};
 ghost use Rattle.bbm_follow.specs.Following.{Reached, RunSays};
 ghost use Rattle.bbm_session.specs.Reader.{Reader};
 ghost use Rattle.bbm_session.specs.Readers.{Follows};
@@ -31,7 +32,7 @@ fn follow_line(
     ensures takes { (reader : Reader Reached RunSays) (p : Reached) → Follows steps.old.items reader header.now p number
         → FoldsLine reader (Follows steps.new.items reader header.now) number p line.now
         (ok_or result stop.new) }
-    ensures few { result ≡ Some Turn.Taken → number < 4294967295 }
+    ensures few { result ≡ Some Turn.Taken → number < MAX_LINES }
 {
     turned(number, take_line(header, steps, line), stop)
 }

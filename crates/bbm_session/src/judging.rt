@@ -2,6 +2,7 @@
 
 ghost use Rattle.std.specs.Prelude.{◌≡◌, ◌<◌, ◌∷◌, ℕ, suc, List, Option, Some, None, Ok, Err, ok_or, true, false, IfOk};
 ghost use Rattle.std.specs.Prelude.{IfSome, OnSome, take};
+ghost use Rattle.bbm_regimes.specs.declared.regime.TheConstants.{MAX_LINES};
 ghost use Rattle.bbm_regimes.specs.declared.regime.Which.{Which as WhichOf};
 ghost use Rattle.bbm_events.specs.declared.event.Event.{Event};
 ghost use Rattle.bbm_events.specs.Fits.{fits_heading, item_fits};
@@ -59,7 +60,7 @@ fn refuse(number: u64, event: &Event, label: Option<LabelText>, fault: StepFault
 /// The limit that the last of so many events, on this line, reaches.
 fn limit_reached(limits: &Limits, number: u64, taken: u64) -> Option<Which>
     ensures reached { (before : ℕ) → taken ≡ suc before → result ≡ limit_after limits.now number before }
-    ensures few { result ≡ None → number < 4294967295 }
+    ensures few { result ≡ None → number < MAX_LINES }
 {
     let is_one_too_many = match limits.events {
         Some(most) => taken > most,
@@ -104,7 +105,7 @@ fn judge_event<C: Checker>(
         (after_event Patterns judging.old.limits number heading h event label.entry) }
     ensures frugal { C.frugal judging.new.checker ≡ C.frugal judging.old.checker }
     ensures limits { judging.new.limits ≡ judging.old.limits }
-    ensures few { result ≡ Some Turn.Taken → number < 4294967295 }
+    ensures few { result ≡ Some Turn.Taken → number < MAX_LINES }
 {
     if let Err(fault) = judging.checker.step(judging.alloc, event) {
         refuse(number, &event, label, fault, stop);
@@ -136,7 +137,7 @@ fn judge_item<C: Checker>(
         (after_item Patterns judging.old.limits number heading h (read_in read.entry)) }
     ensures frugal { C.frugal judging.new.checker ≡ C.frugal judging.old.checker }
     ensures limits { judging.new.limits ≡ judging.old.limits }
-    ensures few { result ≡ Some Turn.Taken → number < 4294967295 }
+    ensures few { result ≡ Some Turn.Taken → number < MAX_LINES }
 {
     match read {
         Ok(LineItem::Event(event, label)) => { judge_event(judging, number, event, label, stop) }
@@ -159,7 +160,7 @@ fn judge_item<C: Checker>(
 #[inline(always)]
 fn may_reach(limits: &Limits, number: u64) -> bool
     ensures none { result ≡ false → (taken : ℕ) → limit_after limits.now number taken ≡ None }
-    ensures few { result ≡ false → number < 4294967295 }
+    ensures few { result ≡ false → number < MAX_LINES }
 {
     limits.events.is_some() || number >= u64::from(limits.lines)
 }
@@ -173,7 +174,7 @@ fn take_event<C: Checker>(judging: &mut Judging<C>, number: u64, event: Event) -
         → Keeps (C.stands judging.old.checker) heading h → fits_heading heading event ≡ true
         → (after_event Patterns judging.old.limits number heading h event label ≡ Passes (AtEvents heading (event ∷ h)))
         × Keeps (C.stands judging.new.checker) heading (event ∷ h) }
-    ensures few { result ≡ true → number < 4294967295 }
+    ensures few { result ≡ true → number < MAX_LINES }
     ensures untaken { result ≡ false → (heading : Heading) (h : List Event)
         → Keeps (C.stands judging.old.checker) heading h → Keeps (C.stands judging.new.checker) heading h }
     ensures frugal { C.frugal judging.new.checker ≡ C.frugal judging.old.checker }
@@ -205,7 +206,7 @@ fn take_kind<C: Checker, F: Front>(
         number
         → FoldsLine reader (Judges (C.frugal judging.new.checker) (C.stands judging.new.checker) judging.new.limits
         reader header.now) number p (take count bytes.now) (Ok Turn.Taken))) }
-    ensures few { IfSome result (λ taken. OnSome taken (number < 4294967295)) }
+    ensures few { IfSome result (λ taken. OnSome taken (number < MAX_LINES)) }
     ensures untaken { result ≡ Some None → (reader : Reader Progress Judged) (p : Progress)
         → Judges (C.frugal judging.old.checker) (C.stands judging.old.checker) judging.old.limits reader header.now p
         number

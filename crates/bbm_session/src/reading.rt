@@ -1,6 +1,7 @@
 //! The lines of a log, read one after another.
 
 ghost use Rattle.std.specs.Prelude.{◌≡◌, ◌+◌, ◌*◌, ◌≤◌, ◌<◌, OnOk, IfOk, IfErr, Some, OnSome, ok_or};
+ghost use Rattle.bbm_regimes.specs.declared.regime.TheConstants.{MAX_LINES};
 ghost use Rattle.bbm_events.specs.Heading.{Heading};
 ghost use Rattle.bbm_session.specs.Reader.{Reader, IsStart, IsInside, IsEnd, alone};
 ghost use Rattle.bbm_session.specs.Readers.{Turns};
@@ -97,7 +98,7 @@ fn any_line<T: Taker, S: Source>(
     stop: &mut Stop,
 ) -> Option<Turn>
     requires stands { MayGoOn (T.stands taker.old) header.now number }
-    requires number { number ≤ 4294967295 }
+    requires number { number ≤ MAX_LINES }
     requires ready { Ready lines.old number }
     ensures ready { OnSome result (Ready lines.new (number + 1)) }
     ensures advances { (reader : Reader T.Reached T.Said) (p : T.Reached) → IsInside reader p
@@ -105,7 +106,7 @@ fn any_line<T: Taker, S: Source>(
         → Advances reader (T.stands taker.new reader header.now) number p (ok_or result stop.new)
         (S.left log.old) (S.left log.new) (S.faults log.old) (S.faults log.new) }
     ensures shrinks { Shrinks 201 (S.left log.old) (S.left log.new) }
-    ensures few { result ≡ Some Turn.Taken → number < 4294967295 }
+    ensures few { result ≡ Some Turn.Taken → number < MAX_LINES }
 {
     match next_piece(lines, log) {
         Piece::Line => taker.take(number, header, lines.bytes(), stop),
@@ -136,12 +137,12 @@ fn log_lines<T: Taker, S: Source>(
     requires begun { MayGoOn (T.stands taker.old) header.now 2 }
     requires ready { Ready lines.old 2 }
     ensures ready { IfOk result (λ number. Ready lines.new number) }
-    ensures number { IfOk result (λ number. number ≤ 4294967296) }
+    ensures number { IfOk result (λ number. number ≤ MAX_LINES + 1) }
     ensures reaches { (reader : Reader T.Reached T.Said) (p : T.Reached) → IsInside reader p
         → T.stands taker.old reader header.now p 2
         → Reaches reader (T.stands taker.new reader header.now) p result (S.left log.old) (S.left log.new)
         (S.faults log.old) (S.faults log.new) }
-    ensures shrinks { Shrinks (201 * 4294967296) (S.left log.old) (S.left log.new) }
+    ensures shrinks { Shrinks (201 * (MAX_LINES + 1)) (S.left log.old) (S.left log.new) }
 {
     let mut number = 2;
     let mut stop = Stop::ReadFault;
@@ -166,7 +167,7 @@ fn nothing_follows<T: Taker, S: Source>(
     log: &mut S,
 ) -> Result<(), Stop>
     requires ready { Ready lines.old number }
-    requires number { number ≤ 4294967296 }
+    requires number { number ≤ MAX_LINES + 1 }
     ensures closes { (reader : Reader T.Reached T.Said) (p : T.Reached) (end : T.Reached) → IsEnd reader p end
         → Closes reader p end result number (S.left log.old) (S.left log.new) (S.faults log.old) (S.faults log.new) }
     ensures brief { IfErr result (λ stop. IsBrief stop) }

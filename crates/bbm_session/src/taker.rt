@@ -1,6 +1,7 @@
 //! What takes the lines of a log.
 
 ghost use Rattle.std.specs.Prelude.{◌≡◌, ◌<◌, ℕ, Some, None, Ok, IfSome, OnSome, ok_or, take};
+ghost use Rattle.bbm_regimes.specs.declared.regime.TheConstants.{MAX_LINES};
 ghost use Rattle.bbm_io.specs.Reading.{LiesWhole};
 ghost use Rattle.bbm_events.specs.Heading.{Heading};
 ghost use Rattle.bbm_session.specs.Reader.{Reader};
@@ -29,7 +30,7 @@ pub trait Taker {
         requires { MayTakeLine (stands self.old) header.now number }
         ensures takes { (reader : Reader Reached Said) (p : Reached) → stands self.old reader header.now p number
             → FoldsLine reader (stands self.new reader header.now) number p line.now (ok_or result stop.new) }
-        ensures few { result ≡ Some Turn.Taken → number < 4294967295 };
+        ensures few { result ≡ Some Turn.Taken → number < MAX_LINES };
 
     /// Takes line `number` where it is one of those that most logs have, lies whole at the front of these bytes and
     /// stops nothing: the number of bytes before its newline. None says nothing, and nothing was taken then.
@@ -39,7 +40,7 @@ pub trait Taker {
         ensures takes { IfSome result (λ count. (reader : Reader Reached Said) (p : Reached)
             → stands self.old reader header.now p number
             → FoldsLine reader (stands self.new reader header.now) number p (take count bytes.now) (Ok Turn.Taken)) }
-        ensures few { OnSome result (number < 4294967295) }
+        ensures few { OnSome result (number < MAX_LINES) }
         ensures untaken { result ≡ None → (reader : Reader Reached Said) (p : Reached)
             → stands self.old reader header.now p number → stands self.new reader header.now p number };
 }

@@ -1,6 +1,7 @@
 //! A log and its certificate, taken line after line and judged by it.
 
 ghost use Rattle.std.specs.Prelude.{◌≡◌, ◌*◌, ◌<◌, Some, ok_or};
+ghost use Rattle.bbm_regimes.specs.declared.regime.TheConstants.{MAX_LINES};
 ghost use Rattle.bbm_certificate.specs.CertificateReading.{Reached, CertificateSays};
 ghost use Rattle.bbm_session.specs.Reader.{Reader};
 ghost use Rattle.bbm_session.specs.Readers.{Certifies};
@@ -31,7 +32,7 @@ fn verify_line(
         → Certifies kept.old reader header.now p number
         → FoldsLine reader (Certifies kept.new reader header.now) number p line.now
         (ok_or result stop.new) }
-    ensures few { result ≡ Some Turn.Taken → number < 4294967295 }
+    ensures few { result ≡ Some Turn.Taken → number < MAX_LINES }
 {
     turned(number, take_line(header, kept, line), stop)
 }
