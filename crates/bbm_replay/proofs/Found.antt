@@ -1,9 +1,13 @@
 -- The path of a place, by the node of its page.
-use Rattle.bbm_replay.proofs.Common.{node_in, is_tracked, value_at, option_map, path_at, Path, Laws, IsAt, MayMeet}
+use Rattle.bbm_replay.proofs.Common.{is_tracked, value_at, option_map, path_at, Path, Laws, IsAt, MayMeet}
 use Rattle.bbm_replay.proofs.Common.{PartsStand, WritesTree, view_of, ReplayState, IsUnlocked, MayAdmit, core_in}
-use Rattle.bbm_replay.proofs.Common.{state_at}
+use Rattle.bbm_replay.proofs.Common.{state_at, PlaceMap, TreeIndex, Position, IsPathOf}
 use Rattle.bbm_rules.proofs.Common.{◌≡◌, ℕ, ◌≤◌, ◌<◌, List, Option, Some, None, refl, sym, ap, arith, page_of, Heading}
-use Rattle.bbm_rules.proofs.Common.{Event, Node, Write, true, subst, Core, core_of}
+use Rattle.bbm_rules.proofs.Common.{◌∙◌, Event, Node, Write, true, subst, Core, core_of}
+use Rattle.bbm_page_map.specs.PageLists.{number_in}
+use Rattle.bbm_place_map.specs.Map.{IsPosition}
+use Rattle.bbm_tree_index.specs.Index.{node_in}
+use Rattle.bbm_tree_index.specs.IndexAgreement.{HasNumber, SharesNumbers, is_sound}
 use Rattle.bbm_replay.proofs.Cases.{some_or}
 use Rattle.bbm_replay.proofs.Inside.{may_admit}
 
@@ -48,3 +52,18 @@ found_at (Some n) place r path e k = (n, refl, cc)
 pub none_at : (o : Option Node) (place : ℕ) (r : Option Path) → r ≡ None → r ≡ option_map (λ n. path_at n place) o → o ≡ None
 none_at None place r e k = refl
 none_at (Some n) place r e k = cc
+
+-- the number of a position's page is that in the index
+pub has_number : (map : PlaceMap) (index : TreeIndex) (position : Position) → SharesNumbers index map → IsPosition map position
+    → HasNumber index position
+unfolding IsPosition
+has_number map index position same is =
+    ap (λ (ps : List ℕ). number_in ps (page_of position.place)) (sym same) ∙ is
+
+-- the level of the path of a place
+pub low_path : (index : TreeIndex) (place : ℕ) (path : Path) → IsPathOf index place path → path.level ≤ 3
+unfolding node_in
+low_path index place path at =
+    let deep : at.0.level < 4 = (is_sound index).roles.shallow (page_of place) at.0 at.1 in
+    let same : path.level ≡ at.0.level = ap (λ (x : Path). x.level) at.2 in
+    omega arith

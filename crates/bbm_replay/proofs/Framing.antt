@@ -2,10 +2,10 @@
 use Rattle.bbm_replay.proofs.Common.{Rule, Broken, takes_no_memory, broken, IsSame, SamePages, SameTracked}
 use Rattle.bbm_replay.proofs.Common.{IsFrugal, waits, Pends, PlaceMap, TreeIndex, Laws, MayMeet, Meets, SameFrame}
 use Rattle.bbm_replay.proofs.Common.{PartsStand, view_of, ReplayState, StepFault, NoMemory, Told}
-use Rattle.bbm_rules.proofs.Common.{Some, ◌≡◌, ℕ, true, false, List, ◌∷◌, None, Result, Ok, Err, sym, ◌∙◌, ap, subst}
+use Rattle.bbm_rules.proofs.Common.{Some, ◌≡◌, ℕ, true, false, List, ◌∷◌, None, Result, Ok, Err, sym, ◌∙◌, ap, length, subst}
 use Rattle.bbm_rules.proofs.Common.{fits_heading, Answers, rewrites, limit_of, Patterns, Heading, Event}
 use Rattle.bbm_roots.specs.RootsStand as roots
-use Rattle.bbm_replay.proofs.Moves.{Same}
+use Rattle.bbm_replay.proofs.Moves.{Same, tracked_alike}
 use Rattle.bbm_replay.proofs.Quiet.{told_same}
 
 -- an event that is taken, which fits the header
@@ -20,6 +20,7 @@ meets_ok {old = old} e m frame next = record {
       record {
         header = frame.header ∙ s.header;
         index_header = frame.index_header ∙ s.index_header;
+        numbers = frame.numbers s.numbers;
         told = n.2;
         roots = n.3;
       };
@@ -59,6 +60,7 @@ pub stands_still : ((heading : Heading) → Laws heading) → (old new : ReplayS
 stands_still laws old new frame same heading h s roots = record {
   header = frame.header ∙ s.header;
   index_header = frame.index_header ∙ s.index_header;
+  numbers = frame.numbers s.numbers;
   told = told_same (laws heading) s.told same;
   roots = roots;
 }
@@ -70,5 +72,5 @@ same_of m m' i i' map pages tracked = record {
   map = record { value = map.values; marks = map.marks; pends = λ q a b c p. ap (λ (x : Pends). waits x b c p) (map.pends q a) };
   nodes = pages.node;
   roles = record { fresh = pages.fresh; null = pages.null };
-  tracking = record { tracked = map.pages; known = tracked.known; pages = tracked.pages };
+  tracking = record { tracked = tracked_alike m m' map.pages; known = tracked.known; pages = ap length tracked.pages };
 }

@@ -23,7 +23,9 @@ use Rattle.bbm_tree_index.specs.Attaching as index
 use Rattle.bbm_tree_index.specs.IndexChanges as changes
 use Rattle.bbm_tree_index.specs.Paths as index_paths
 use Rattle.bbm_tree_index.specs.declared.role.Attach.TheVariants as attach
-use Rattle.bbm_replay.proofs.Moves.{Attaches, Writes}
+use Rattle.bbm_replay.proofs.Moves.{Attaches, Writes, tracked_alike}
+use Rattle.bbm_place_map.specs.Map.{pages_of}
+use Rattle.std.proofs.Common.{length}
 use Rattle.bbm_replay.proofs.Framing.{meets_err, meets_ok, stands_still, meets_broken}
 use Rattle.bbm_replay.proofs.Judging.{all_pass, found, refused, write_is}
 use Rattle.bbm_replay.proofs.Rooting.{attaches_of}
@@ -212,7 +214,7 @@ module _ (laws : (heading : Heading) → Laws heading) (rules : (heading : Headi
               → Admitted old old pe place v (attached_next held new)
           admitted k = record {
             kept = λ heading h s. rw (leaf heading h s, good, k) refl;
-            frame = record { header = refl; index_header = refl };
+            frame = record { header = refl; index_header = refl; numbers = λ n. n };
             same_map = refl;
             same_roots = refl;
             links = subst (λ (o : Option ℕ). Links old.map place o old.index old.index) (sym none) refl;
@@ -249,7 +251,7 @@ module _ (laws : (heading : Heading) → Laws heading) (rules : (heading : Headi
 
         module _ (index' : TreeIndex) (tracked : SameTracked old.index index') where
           frame : SameFrame old (record old { index = index' })
-          frame = record { header = refl; index_header = tracked.heading }
+          frame = record { header = refl; index_header = tracked.heading; numbers = λ n. n ∙ sym tracked.pages }
 
           module _ (pages : SamePages old.index index') where
             same : (heading : Heading) (h : List Event) → PartsStand old heading h
@@ -258,7 +260,7 @@ module _ (laws : (heading : Heading) → Laws heading) (rules : (heading : Headi
               map = record { value = λ a. refl; marks = λ a. refl; pends = λ q a b c p. refl };
               nodes = pages.node;
               roles = record { fresh = pages.fresh; null = pages.null };
-              tracking = record { tracked = λ p. refl; known = tracked.known; pages = tracked.pages };
+              tracking = record { tracked = λ p. refl; known = tracked.known; pages = ap length tracked.pages };
             }) heading h s s.roots
 
             pub attach_fault : (fault : TreeFault) → JudgesHere (Err fault)
@@ -328,7 +330,11 @@ module _ (laws : (heading : Heading) → Laws heading) (rules : (heading : Headi
     }
 
     pub taken : Meets old (record mid { map = map }) e (Ok tt)
-    taken = meets_ok e m.tree.may (record { header = done.frame.header; index_header = done.frame.index_header })
+    taken = meets_ok e m.tree.may (record {
+      header = done.frame.header;
+      index_header = done.frame.index_header;
+      numbers = λ n. here.put.pages ∙ sym (ap (λ (x : PlaceMap). pages_of x) done.same_map) ∙ done.frame.numbers n;
+    })
         (λ heading h s fits. (
           done.kept heading h s,
           (rules heading).limits.others h e refl,
@@ -342,11 +348,15 @@ module _ (laws : (heading : Heading) → Laws heading) (rules : (heading : Headi
             → Told heading (e ∷ h) (view_of map mid.index)
         told heading h s fits None k same = subst (λ (i : TreeIndex). Told heading (e ∷ h) (view_of map i)) (sym same)
             (after_plain_write (laws heading) s.told pe (move old.index) fits (done.kept heading h s) (λ p. refl)
-            (record { tracked = here.put.pages; known = λ p. refl; pages = refl }) idle (λ p. refl) (λ p. refl) n at.1
+            (record { tracked = tracked_alike old.map map here.put.pages; known = λ p. refl; pages = refl }) idle (λ p. refl) (λ p. refl) n at.1
             written_n (none_attached k))
         told heading h s fits (Some next) k links =
             let attached = attaches_of old.index mid.index old.map map (attach.Below place next) links.0
-            (record { tracked = here.put.pages; known = links.1.known; pages = links.1.pages }) in
+            (record {
+              tracked = tracked_alike old.map map here.put.pages;
+              known = links.1.known;
+              pages = ap length links.1.pages;
+            }) in
             after_attaching_write (laws heading) s.told pe (move mid.index) fits (done.kept heading h s)
             attached.null attached.tracking idle n next at.1 written_n (one_attached next k).0 (one_attached next k).1
             (subst (λ (o : Option Node). Attaches v_old (view_of map mid.index) (index_paths.below_all o place next)) at.1

@@ -24,6 +24,7 @@ pub stands_same : (p : ReplayState) (r : Roots) (heading : Heading) (h : List Ev
 stands_same p r heading h s same = record {
   header = s.header;
   index_header = s.index_header;
+  numbers = s.numbers;
   told = s.told;
   roots = same;
 }
@@ -49,7 +50,7 @@ module _ (laws : (heading : Heading) → Laws heading) (p : ReplayState) (r : Ro
       → OnOk result ((heading : Heading) (h : List Event) → PartsStand p heading h → roots.Stands r heading (e ∷ h))
       → OnErr result (changes.Keeps p.roots r) → IsFrugal p e result → Meets p (with_roots p r) e result
   meets_quiet (Ok u) judged taken same frugal =
-      meets_ok e m (record { header = refl; index_header = refl }) (λ heading h s fits.
+      meets_ok e m (record { header = refl; index_header = refl; numbers = λ n. n }) (λ heading h s fits.
       let j = judged heading h s in
       (j.0, j.1, after_quiet (laws heading) (view_of p.map p.index) s.told e quiet fits j.0, taken heading h s))
   meets_quiet (Err fault) judged taken same frugal = record {

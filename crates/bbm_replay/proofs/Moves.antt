@@ -1,9 +1,16 @@
 -- What the calls of an event change in a view. Source: project's own choice.
 use Rattle.bbm_replay.proofs.Common.{Completed, Noted, Published, is_broken, waits, IsIdle, Pends, EntryState}
-use Rattle.bbm_replay.proofs.Common.{marks_of_state, state_from, Attached, View, kept}
+use Rattle.bbm_replay.proofs.Common.{marks_of_state, state_from, Attached, View, kept, is_tracked, PlaceMap}
+use Rattle.bbm_page_map.specs.PageLists.{number_in}
+use Rattle.bbm_place_map.specs.Map.{pages_of}
+use Rattle.std.proofs.Common.{ap}
 use Rattle.bbm_rules.proofs.Common.{Core, PeMask, Cover, page_of, Barrier, Event, Dmb, Isb, Msr, Lock, Unlock, Node}
 use Rattle.std.specs.Prelude.{◌≡◌, ℕ, ◌+◌, ◌⊎◌, ◌↔◌, Bool, true, false, not, ◌&&◌, ◌||◌, ◌==◌, List, Option, Some, None}
 use Rattle.std.specs.Prelude.{is_none, is_some, nat_eq, if◌then◌else◌}
+
+-- maps that track the same pages
+pub tracked_alike : (old new : PlaceMap) → pages_of new ≡ pages_of old → (p : ℕ) → is_tracked new p ≡ is_tracked old p
+tracked_alike old new same p = ap (λ (ps : List ℕ). is_some (number_in ps p)) same
 
 -- the same waits
 abbrev pub Alike : Pends → Pends → Type 0

@@ -17,13 +17,13 @@ not_noted map by pe reach r e is = subst (λ x. IsNoted by pe reach map map x) (
   only = record {
     others = λ q a k. refl;
     marks = λ a. refl;
-    same = record { values = λ a. refl; pages = λ p. refl; restless = refl; places = λ i. refl };
+    same = record { values = λ a. refl; pages = refl; restless = refl; places = λ i. refl };
   };
   kept = record {
     values = λ a. refl;
     marks = λ a. refl;
     pends = λ q a. refl;
-    pages = λ p. refl;
+    pages = refl;
     restless = refl;
     places = λ i. refl;
   };

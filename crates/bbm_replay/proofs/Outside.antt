@@ -8,7 +8,7 @@ use Rattle.std.proofs.Math.Bool.{and_assoc}
 use Rattle.bbm_entry_state.specs.declared.state.EntryState.TheVariants as state
 use Rattle.bbm_roots.specs.RootChanges as changes
 use Rattle.bbm_replay.proofs.Framing.{meets_ok, meets_broken}
-use Rattle.bbm_replay.proofs.Moves.{Writes}
+use Rattle.bbm_replay.proofs.Moves.{Writes, tracked_alike}
 use Rattle.bbm_replay.proofs.Judging.{found, write_is}
 use Rattle.bbm_replay.proofs.Unbroken.{leaves_unbroken}
 use Rattle.bbm_replay.proofs.Writing.{after_write_outside}
@@ -66,7 +66,7 @@ module _ (laws : (heading : Heading) → Laws heading) (rules : (heading : Headi
       outside_ok =
           let whole = m.2.told.outside place away in
           let left = leaves_unbroken old.map map pe place v whole marks pends idle state.Clean refl in
-          meets_ok (Write pe place v) m (record { header = refl; index_header = refl }) (λ heading h s fits.
+          meets_ok (Write pe place v) m (record { header = refl; index_header = refl; numbers = λ n. put.pages ∙ n }) (λ heading h s fits.
           let kept : broken heading Patterns h (Write pe place v) ≡ None = rw (write_breaks heading h s, real, fresh, k) refl in
           let move : Writes (view_of old.map old.index) (view_of map old.index) place v state.Clean = record {
             value = put.values;
@@ -77,7 +77,7 @@ module _ (laws : (heading : Heading) → Laws heading) (rules : (heading : Headi
             kept,
             (rules heading).limits.others h (Write pe place v) refl,
             after_write_outside (laws heading) s.told pe move fits kept (λ p. refl)
-                (record { tracked = put.pages; known = λ p. refl; pages = refl }) idle (λ p. refl) (λ p. refl) away refl
+                (record { tracked = tracked_alike old.map map put.pages; known = λ p. refl; pages = refl }) idle (λ p. refl) (λ p. refl) away refl
                 ((rules heading).unattached.outside h (view_of old.map old.index) pe place v s.told.nodes s.told.fresh
                 s.told.null away).0,
             others old.roots heading h (Write pe place v) s.roots refl kept,

@@ -4,18 +4,19 @@ use Rattle.bbm_replay.proofs.Common.{null_in, kind_in_world, PageInUse, WrongWor
 use Rattle.bbm_replay.proofs.Common.{Rules, MayMeet, Meets, SameFrame, PartsStand, view_of, ReplayState, notes}
 use Rattle.bbm_replay.proofs.Common.{PlaceMap, TreeIndex, marks_at, waits, Marks, Pends, StepFault, kept}
 use Rattle.bbm_rules.proofs.Common.{◌≡◌, ℕ, Bool, true, cond, not, ◌==◌, ◌&&◌, ◌||◌, List, ◌∷◌, Option, Some, None, refl, sym}
-use Rattle.bbm_rules.proofs.Common.{◌∙◌, ap, fits_heading, Patterns, page_of, Heading, Event, Init, Null, Unroot, arith}
+use Rattle.bbm_rules.proofs.Common.{◌∙◌, ap, fits_heading, Patterns, page_of, Heading, Event, Init, Null, Unroot, arith, length}
 use Rattle.bbm_rules.proofs.Common.{◌≤◌, false, Ok, Err, is_some, Pages, Answers, limit_of, S2, Node, page_in_use}
 use Rattle.bbm_events.specs.Heading.{nulls_everywhere}
 use Rattle.bbm_tree_index.specs.Index.{known_in, pages_in}
 use Rattle.bbm_replay_trees.specs.Told.{is_at}
 use Rattle.bbm_tree_index.specs.HeldCores.{leaves}
+use Rattle.bbm_tree_index.specs.IndexAgreement.{SharesNumbers}
 use Rattle.bbm_tree_index.specs.IndexChanges.{TakesOut}
 use Rattle.bbm_roots.specs.RootChanges as changes
 use Rattle.bbm_roots.specs.RootJudgements as judges
 use Rattle.bbm_roots.specs.RootsStand as roots
 use Rattle.bbm_tree_index.specs.declared.fault.TreeFault.TheVariants as tree
-use Rattle.bbm_replay.proofs.Moves.{Begins, Leaves, Nullifies, Same}
+use Rattle.bbm_replay.proofs.Moves.{Begins, Leaves, Nullifies, Same, tracked_alike}
 use Rattle.bbm_replay.proofs.Aparts.{apart, apart_begins, apart_leaves, apart_nullifies, was_there}
 use Rattle.bbm_replay.proofs.Entries.{carried}
 use Rattle.bbm_replay.proofs.Quiet.{told_next}
@@ -123,16 +124,16 @@ module _ (rules : (heading : Heading) → Rules heading) (old : ReplayState) (pe
 
 module _ (laws : (heading : Heading) → Laws heading) (rules : (heading : Heading) → Rules heading) (others : changes.OthersStand)
     (old : ReplayState) (map : PlaceMap) (index : TreeIndex) (same_heading : heading_of index ≡ heading_of old.index)
-    (pe page : ℕ) where
+    (numbers : SharesNumbers old.index old.map → SharesNumbers index map) (pe page : ℕ) where
   abbrev became : ReplayState
   became = record old { map = map; index = index }
 
   frame : SameFrame old became
-  frame = record { header = refl; index_header = same_heading }
+  frame = record { header = refl; index_header = same_heading; numbers = numbers }
 
   module _ (m : MayMeet old (Init pe page))
       (free : (is_some (node_in old.index page) || null_in old.index page) ≡ false) where
-    pub init_ok : ((known_in old.index page ≡ false) × (16384 ≤ pages_in old.index) → ⊥)
+    pub init_ok : ((known_in old.index page ≡ false) × (16384 ≤ length (pages_in old.index)) → ⊥)
         → Begins (view_of old.map old.index) (view_of map index) page → Meets old became (Init pe page) (Ok tt)
     init_ok room begins = meets_ok (Init pe page) m frame (λ heading h s fits.
         let kept = init_kept rules old pe page free heading h s in (
@@ -143,7 +144,7 @@ module _ (laws : (heading : Heading) → Laws heading) (rules : (heading : Headi
         ))
 
     pub init_err : (fault : TreeFault)
-        → (fault ≡ tree.Limit Pages → (known_in old.index page ≡ false) × (16384 ≤ pages_in old.index))
+        → (fault ≡ tree.Limit Pages → (known_in old.index page ≡ false) × (16384 ≤ length (pages_in old.index)))
         → ((fault ≡ tree.Limit Pages → ⊥) → fault ≡ tree.NoMemory)
         → Same (view_of old.map old.index) (view_of map index) → Meets old became (Init pe page) (Err (step_fault fault))
     init_err fault full else_none same = meets_err (Init pe page) (step_fault fault)
@@ -151,7 +152,7 @@ module _ (laws : (heading : Heading) → Laws heading) (rules : (heading : Headi
         (λ heading h s. stands_still laws old became frame same heading h s s.roots) (λ heading h s. (refl, refl))
       where
         by : (f : TreeFault) (heading : Heading) (h : List Event) → PartsStand old heading h
-            → (f ≡ tree.Limit Pages → (known_in old.index page ≡ false) × (16384 ≤ pages_in old.index))
+            → (f ≡ tree.Limit Pages → (known_in old.index page ≡ false) × (16384 ≤ length (pages_in old.index)))
             → ((f ≡ tree.Limit Pages → ⊥) → f ≡ tree.NoMemory)
             → Answers (Err (step_fault f)) (broken heading Patterns h (Init pe page)) (limit_of h (Init pe page))
         by tree.NoMemory heading h s full none = tt
@@ -200,7 +201,11 @@ leaves_of old new before after keeps outside out =
       pends = λ q a n is b c p. ap (λ (x : Pends). waits x b c p)
           (out.map.pends q a (stays_there keeps (node_in old (page_of a)) n (sym (node _) ∙ is)));
       roles = record { fresh = out.trees.fresh; null = out.trees.null };
-      tracking = record { tracked = out.map.pages; known = out.tracked.known; pages = out.tracked.pages };
+      tracking = record {
+        tracked = tracked_alike before after out.map.pages;
+        known = out.tracked.known;
+        pages = ap length out.tracked.pages;
+      };
     }
 
 module _ (laws : (heading : Heading) → Laws heading) (rules : (heading : Heading) → Rules heading) (old : ReplayState)

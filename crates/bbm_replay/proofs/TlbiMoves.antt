@@ -1,6 +1,6 @@
 -- TLBIs: what stands after one, in a view and at the parts.
 use Rattle.bbm_replay.proofs.Common.{pe_in, broken, Noted, is_broken, Marks, EntryState, EntryStands, View, notes, Laws}
-use Rattle.bbm_replay.proofs.Common.{Told, state_of, waiting, is_tracked, marks_at, pends_at, value_at, waits, IsIdle}
+use Rattle.bbm_replay.proofs.Common.{Told, state_of, waiting, marks_at, pends_at, value_at, waits, IsIdle}
 use Rattle.bbm_replay.proofs.Common.{Pends, state_from, PlaceMap, Roots, Rules, MayMeet, Meets, PartsStand, view_of}
 use Rattle.bbm_replay.proofs.Common.{ReplayState}
 use Rattle.bbm_rules.proofs.Common.{◌≡◌, ℕ, ◌<◌, true, false, ◌&&◌, nat_eq, List, ◌∷◌, Option, Some, None, is_some}
@@ -9,7 +9,8 @@ use Rattle.bbm_rules.proofs.Common.{page_of, Heading, Event, Tlbi, TlbiOp, reach
 use Rattle.bbm_rules.proofs.Common.{◌∙◌}
 use Rattle.bbm_lemmas.proofs.Bools.{second_false}
 use Rattle.bbm_roots.specs.RootsStand as roots
-use Rattle.bbm_replay.proofs.Moves.{Issues}
+use Rattle.bbm_place_map.specs.Map.{pages_of}
+use Rattle.bbm_replay.proofs.Moves.{Issues, tracked_alike}
 use Rattle.bbm_replay.proofs.DsbMoves.{broken_marks, same_state}
 use Rattle.bbm_replay.proofs.Cases.{some_or, either}
 use Rattle.bbm_replay.proofs.Entries.{entry_same, some_pe, none_of}
@@ -64,11 +65,11 @@ pub tlbi_meets : ((heading : Heading) → Laws heading) → ((heading : Heading)
     → ((q a : ℕ) → marks_at old.map a ≡ None → IsIdle (pends_at old.map q a))
     → ((q a : ℕ) → marks_at map a ≡ None → IsIdle (pends_at map q a))
     → ((a : ℕ) → value_at map a ≡ value_at old.map a) → ((a : ℕ) → marks_at map a ≡ marks_at old.map a)
-    → ((p : ℕ) → is_tracked map p ≡ is_tracked old.map p)
+    → pages_of map ≡ pages_of old.map
     → ((heading : Heading) (h : List Event) → PartsStand old heading h → roots.Stands r heading (Tlbi pe op xt ∷ h))
     → Meets old (record old { map = map; roots = r }) (Tlbi pe op xt) (Ok tt)
 tlbi_meets laws rules old map r pe op xt m unbroken reach reached noted others idle idle' values marks pages taken =
-    meets_ok (Tlbi pe op xt) m (record { header = refl; index_header = refl }) (λ heading h s fits. (
+    meets_ok (Tlbi pe op xt) m (record { header = refl; index_header = refl; numbers = λ n. pages ∙ n }) (λ heading h s fits. (
       unbroken heading h s.roots,
       (rules heading).limits.others h (Tlbi pe op xt) refl,
       after_tlbi (laws heading) (view_of map old.index) s.told pe op xt reach
@@ -83,7 +84,7 @@ tlbi_meets laws rules old map r pe op xt m unbroken reach reached noted others i
                 (λ e b c p. ap (λ (w : Pends). waits w b c p) (others q a e));
             nodes = λ p. refl;
             roles = record { fresh = λ p. refl; null = λ p. refl };
-            tracking = record { tracked = pages; known = λ p. refl; pages = refl };
+            tracking = record { tracked = tracked_alike old.map map pages; known = λ p. refl; pages = refl };
           }) fits (unbroken heading h s.roots),
       taken heading h s,
     ))

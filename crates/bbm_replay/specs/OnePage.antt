@@ -15,6 +15,7 @@ use Rattle.bbm_rules.specs.Tree.{Node, node_below}
 use Rattle.bbm_tree_index.specs.Descent.{IsWay, Translates}
 use Rattle.bbm_tree_index.specs.HeldCores.{child, core_at}
 use Rattle.bbm_tree_index.specs.Index.{node_in}
+use Rattle.bbm_tree_index.specs.IndexAgreement.{SharesNumbers}
 use Rattle.bbm_tree_index.specs.Nodes.{path_at}
 use Rattle.bbm_tree_index.specs.declared.role.Path.{Path}
 use Rattle.bbm_tree_index.specs.declared.index.TreeIndex.{TreeIndex}
@@ -43,9 +44,10 @@ FitsSearch scope broken Each = broken ≤ ONE_BY_ONE
 FitsSearch scope broken (WayTo at) = NamesOne scope at
 FitsSearch scope broken Pages = Unit {0}
 
--- The map and the index fit together: each page of a tree is tracked, and where a place of a tree holds a table, the
--- next page hangs there.
+-- The map and the index fit together: they number pages alike, each page of a tree is tracked, and where a place of a
+-- tree holds a table, the next page hangs there.
 pub record FitTogether (map : PlaceMap) (index : TreeIndex) : Type 0 where
+  pub numbers : SharesNumbers index map
   pub tracked : (p : ℕ) (n : Node) → node_in index p ≡ Some n → is_tracked map p ≡ true
   pub below : (n : Node) (place next : ℕ) → node_in index (page_of place) ≡ Some n
       → child (core_at map) n place ≡ Some next → node_in index next ≡ Some (node_below n place next)

@@ -7,6 +7,7 @@ use Rattle.bbm_place_map.specs.Map.{is_tracked, marks_at, pends_at, value_at}
 use Rattle.bbm_place_map.specs.declared.map.PlaceMap.{PlaceMap}
 use Rattle.bbm_tree_index.specs.HeldCores.{next_in}
 use Rattle.bbm_tree_index.specs.Index.{SameTracked, fresh_in, heading_of, known_in, node_in, null_in, pages_in}
+use Rattle.bbm_tree_index.specs.IndexAgreement.{SharesNumbers}
 use Rattle.bbm_tree_index.specs.IndexChanges.{Attaches}
 use Rattle.bbm_tree_index.specs.declared.index.TreeIndex.{TreeIndex}
 use Rattle.bbm_roots.specs.RootsStand as roots
@@ -42,13 +43,14 @@ view_of map index = record {
   fresh = fresh_in index;
   null = null_in index;
   known = known_in index;
-  pages = pages_in index;
+  pages = length (pages_in index);
 }
 
 -- The parts stand for a history that keeps the rules over all patterns of events.
 pub record PartsStand (parts : ReplayState) (heading : Heading) (h : List Event) : Type 0 where
   pub header : parts.header ≡ heading
   pub index_header : heading_of parts.index ≡ heading
+  pub numbers : SharesNumbers parts.index parts.map
   pub told : Told heading h (view_of parts.map parts.index)
   pub roots : roots.Stands parts.roots heading h
 
@@ -78,10 +80,11 @@ pub record StandsFor (replay : Replay) (heading : Heading) (h : List Event) : Ty
   pub parts : PartsStand replay.parts heading h
   pub counted : replay.events ≡ length h
 
--- what no event changes: the header, also that of the index
+-- what no event changes: the header, also that of the index, and that map and index number pages alike
 pub record SameFrame (old new : ReplayState) : Type 0 where
   pub header : new.header ≡ old.header
   pub index_header : heading_of new.index ≡ heading_of old.index
+  pub numbers : SharesNumbers old.index old.map → SharesNumbers new.index new.map
 
 -- no place is broken over a table
 abbrev pub OverLeaves : PlaceMap → Type 0

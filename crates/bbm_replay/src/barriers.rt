@@ -5,7 +5,7 @@ ghost use Rattle.bbm_barriers.specs.Options as options;
 ghost use Rattle.bbm_descriptor.specs.declared.desc.Core.{Core};
 ghost use Rattle.bbm_entry_state.specs.EntryCalls.{Published};
 ghost use Rattle.bbm_events.specs.declared.event.Event.TheVariants.{Dmb, Dsb as DsbEvent};
-ghost use Rattle.bbm_place_map.specs.Map.{is_tracked, marks_at, pends_at, state_at, value_at};
+ghost use Rattle.bbm_place_map.specs.Map.{marks_at, pages_of, pends_at, state_at, value_at};
 ghost use Rattle.bbm_replay.specs.ReplayStanding.{MayMeet, Meets};
 
 use crate::laws::laws;
@@ -31,7 +31,7 @@ fn publish(map: &mut PlaceMap, silent: bool, pe: Pe, dsb: Dsb, n: PeCount)
     ensures unheard { silent ≡ true → (a : ℕ) → marks_at map.new a ≡ marks_at map.old a }
     ensures values { (a : ℕ) → value_at map.new a ≡ value_at map.old a }
     ensures pends { (q a : ℕ) → pends_at map.new q a ≡ pends_at map.old q a }
-    ensures pages { (page : ℕ) → is_tracked map.new page ≡ is_tracked map.old page }
+    ensures pages { pages_of map.new ≡ pages_of map.old }
 {
     if !silent {
         map.publish(pe, dsb, n);

@@ -6,6 +6,7 @@ ghost use Rattle.bbm_events.specs.Heading as heading;
 ghost use Rattle.bbm_tree_index.specs.Index.{node_in, null_in};
 ghost use Rattle.bbm_events.specs.declared.event.Event.TheVariants.{Init, Null};
 ghost use Rattle.bbm_place_map.specs.Map.{value_at};
+ghost use Rattle.bbm_tree_index.specs.IndexAgreement.{SharesNumbers};
 ghost use Rattle.bbm_replay_trees.specs.Told.{is_at};
 ghost use Rattle.bbm_replay.specs.ReplayStanding.{MayMeet, Meets};
 
@@ -39,9 +40,10 @@ fn is_zero(map: &PlaceMap, page: Page) -> bool
 impl ReplayState {
     /// Whether the page is in a tree or a null page.
     fn is_used(&self, page: Page) -> bool
+        requires { SharesNumbers self.now.index self.now.map }
         ensures { result ≡ (is_some (node_in self.now.index page) || null_in self.now.index page) }
     {
-        self.index.is_in_tree(page) || self.index.is_null(page)
+        self.index.is_in_tree(&self.map, page) || self.index.is_null(&self.map, page)
     }
 
     /// A page is made zero.
@@ -80,13 +82,13 @@ impl ReplayState {
         if self.is_wrong_null() {
             return Err(StepFault::Broken(Rule::WrongWorld, 0));
         }
-        if !self.index.is_fresh(page, self.map.recent_page()) {
+        if !self.index.is_fresh(&self.map, page) {
             return Err(StepFault::Broken(Rule::PageInUse, page.get()));
         }
         if !is_zero(&self.map, page) {
             return Err(StepFault::Broken(Rule::PageInUse, page.get()));
         }
-        self.index.nullify(page);
+        self.index.nullify(&self.map, page);
         Ok(())
     }
 }

@@ -6,6 +6,7 @@ ghost use Rattle.bbm_events.specs.declared.event.Event.{Event};
 ghost use Rattle.bbm_events.specs.declared.event.Event.TheVariants.{Isb, Lock, Msr, Unlock};
 ghost use Rattle.std.specs.Prelude.{Ok};
 ghost use Rattle.bbm_roots.specs.RootRegisters.{has_null_base};
+ghost use Rattle.bbm_tree_index.specs.IndexAgreement.{SharesNumbers};
 ghost use Rattle.bbm_replay.specs.ReplayStanding.{MayMeet, Meets, PartsStand};
 
 use crate::laws::laws;
@@ -18,12 +19,13 @@ use std::alloc::Global;
 impl ReplayState {
     /// Whether the base of a register value is a null page.
     fn names_null(&self, value: u64) -> bool
+        requires { SharesNumbers self.now.index self.now.map }
         ensures { (heading : Heading) (h : List Event) → PartsStand self.now heading h
             → result ≡ has_null_base h value }
     {
         match base_of(value) {
             Some(base) => match Page::new(base) {
-                Some(page) => self.index.is_null(page),
+                Some(page) => self.index.is_null(&self.map, page),
                 None => false,
             },
             None => false,

@@ -62,7 +62,10 @@ impl ReplayState {
     {
         laws();
         law_entry_phase();
-        match self.index.path(place) {
+        let Some(position) = self.map.position(place) else {
+            return Phase::Clean;
+        };
+        match self.index.path(&position) {
             Some(path) => phase_of_state(&self.state_at(place, &path), pe),
             None => Phase::Clean,
         }

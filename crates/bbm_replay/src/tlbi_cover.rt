@@ -6,19 +6,23 @@ mod place;
 mod way_down;
 
 ghost use Rattle.std.specs.Prelude.{◌≡◌, ◌<◌, ◌&&◌, ◌||◌, not, nat_eq, ℕ, true, IfOk, OnOk};
-ghost use Rattle.bbm_place_map.specs.Map.{restless_in};
+ghost use Rattle.std.specs.Option.{option_map};
+ghost use Rattle.bbm_place_map.specs.Map.{restless_in, restless_place};
 ghost use Rattle.bbm_regimes.specs.PeMask.{pe_in};
+ghost use Rattle.bbm_rules.specs.Places.{page_of};
+ghost use Rattle.bbm_tree_index.specs.Index.{node_in};
+ghost use Rattle.bbm_tree_index.specs.Nodes.{path_at};
 ghost use Rattle.bbm_replay.specs.Covering.{Grows, IsNoted, IsSettled};
 ghost use Rattle.bbm_replay.specs.OnePage.{FitTogether, FitsSearch};
 
 use crate::laws::laws;
 use bbm_events::Header;
 use bbm_place_map::{Found, PlaceMap};
-use bbm_regimes::{NoMemory, Pe, PeMask};
+use bbm_regimes::{NoMemory, Pe, PeMask, Place};
 use bbm_replay_trees::starts::law_starts;
 use bbm_roots::{NamedTlbi, Roots};
 use bbm_rules::law_notes_keep_the_events;
-use bbm_tree_index::TreeIndex;
+use bbm_tree_index::{Path, TreeIndex};
 use smallvec::SmallVec;
 use std::alloc::Global;
 
@@ -63,6 +67,18 @@ impl Covering<'_> {
         } else {
             PeMask::one(pe)
         }
+    }
+
+    /// The path of the broken place with this number, which is this one; None where its page is in no tree.
+    #[inline(always)]
+    pub(crate) fn path_of(&self, map: &PlaceMap, number: u64, place: Place) -> Option<Path>
+        requires fits { FitTogether map.now self.now.index.now }
+        requires within { number < restless_in map.now }
+        requires place { place ≡ restless_place map.now number }
+        ensures { result ≡ option_map (λ n. path_at n place) (node_in self.now.index.now (page_of place)) }
+    {
+        let _ = place;
+        self.index.path(&map.restless_position(number))
     }
 
     /// Where the TLBI looks for the broken places that it covers, of which there are so many: at each where they are

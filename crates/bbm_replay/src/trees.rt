@@ -5,36 +5,40 @@ ghost use Rattle.bbm_events.specs.declared.event.Event.TheVariants.{Root, Unroot
 ghost use Rattle.bbm_rules.specs.Lists.{least};
 ghost use Rattle.bbm_rules.specs.Roots.{pages_from};
 ghost use Rattle.bbm_tree_index.specs.Index.{fresh_in};
+ghost use Rattle.bbm_tree_index.specs.IndexAgreement.{SharesNumbers};
 ghost use Rattle.bbm_replay.specs.ReplayStanding.{MayMeet, Meets};
 
 use crate::faults::step_fault;
 use crate::laws::{laws, rules};
 use crate::parts::ReplayState;
+use bbm_place_map::PlaceMap;
 use bbm_regimes::{Kind, Page, Pe};
 use bbm_rules::{Rule, StepFault};
 use bbm_tree_index::{Attach, Detach, TreeIndex};
 use std::alloc::Global;
 
 /// Whether the page at the address, in bytes, is fresh.
-fn is_fresh_address(index: &TreeIndex, at: u64) -> bool
+fn is_fresh_address(index: &TreeIndex, map: &PlaceMap, at: u64) -> bool
+    requires same { SharesNumbers index.now map.now }
     requires below { at < 2 ^ 48 }
     requires aligned { at % 4096 ≡ 0 }
     ensures { result ≡ fresh_in index.now at }
 {
     match Page::new(at) {
-        Some(page) => index.is_fresh(page, 0),
+        Some(page) => index.is_fresh(map, page),
         None => false,
     }
 }
 
 /// The first of so many consecutive pages that isn't fresh.
-fn first_unfresh(index: &TreeIndex, page: Page, count: u8) -> Option<u64>
-    requires { page + 4096 * count ≤ 2 ^ 48 }
+fn first_unfresh(index: &TreeIndex, map: &PlaceMap, page: Page, count: u8) -> Option<u64>
+    requires same { SharesNumbers index.now map.now }
+    requires low { page + 4096 * count ≤ 2 ^ 48 }
     ensures { result ≡ least (filter (λ p. not (fresh_in index.now p)) (pages_from page count)) }
 {
     for i in 0..count {
         let at = page.get() + 4096 * u64::from(i);
-        if !is_fresh_address(index, at) {
+        if !is_fresh_address(index, map, at) {
             return Some(at);
         }
     }
@@ -66,7 +70,7 @@ impl ReplayState {
             Ok(prepared) => prepared,
             Err(fault) => return Err(step_fault(fault)),
         };
-        match first_unfresh(&self.index, page, self.header.page_count(kind)) {
+        match first_unfresh(&self.index, &self.map, page, self.header.page_count(kind)) {
             Some(at) => return Err(StepFault::Broken(Rule::PageInUse, at)),
             None => {}
         }
@@ -75,7 +79,7 @@ impl ReplayState {
             Err(fault) => return Err(fault),
         }
         self.map.law_idle();
-        self.index.attach_prepared(&prepared);
+        self.index.attach_prepared(&self.map, &prepared);
         self.roots.declare(kind, page, lock);
         Ok(())
     }

@@ -1,25 +1,25 @@
 //! Writes of places: each is found, judged by the rules in their order, and taken.
 
-ghost use Rattle.std.specs.Prelude.{◌≡◌, ◌%◌, ◌==◌, ◌&&◌, not, List, true, false, Some, None, IfSome, is_some};
+ghost use Rattle.std.specs.Prelude.{◌≡◌, ◌%◌, ◌==◌, ◌&&◌, not, List, true, false, Some, None, IfSome, IsSome, is_some};
 ghost use Rattle.std.specs.Option.{option_map_or};
 ghost use Rattle.bbm_tree_index.specs.HeldCores.{limbo_by};
 ghost use Rattle.bbm_descriptor.specs.Descriptor as spec;
-ghost use Rattle.bbm_place_map.specs.Map.{IsPosition, marks_at, value_at};
+ghost use Rattle.bbm_place_map.specs.Map.{IsPosition, is_tracked, marks_at, value_at};
 ghost use Rattle.bbm_events.specs.Heading.{Heading};
 ghost use Rattle.bbm_events.specs.declared.event.Event.{Event};
 ghost use Rattle.bbm_events.specs.declared.event.Event.TheVariants.{Write};
 ghost use Rattle.bbm_regimes.specs.SameRegister.{same_kind};
 ghost use Rattle.bbm_rules.specs.Places.{page_of};
-ghost use Rattle.bbm_tree_index.specs.Index.{node_in};
-ghost use Rattle.bbm_tree_index.specs.declared.role.Path.{Path as ThePath};
+ghost use Rattle.bbm_tree_index.specs.Index.{fresh_in, node_in};
 ghost use Rattle.bbm_replay.specs.Leaves as leaves;
-ghost use Rattle.bbm_replay.specs.ReplayStanding.{Admits, IsAt, IsUnlocked, MayAdmit, MayMeet, Meets, OverLeaves};
+ghost use Rattle.bbm_replay.specs.ReplayStanding.{Admits, IsUnlocked, MayAdmit, MayMeet, Meets, OverLeaves};
 ghost use Rattle.bbm_replay.specs.ReplayStanding.{PartsStand, WritesTree};
 
 use crate::faults::step_fault;
 use crate::laws::{laws, rules};
 use crate::parts::ReplayState;
 use bbm_descriptor::{Core, core};
+use bbm_page_map::PageNumber;
 use bbm_place_map::{PlaceMap, Position};
 use bbm_regimes::{Kind, Page, Pe, Place};
 use bbm_roots::law_others;
@@ -135,49 +135,56 @@ struct TreeWrite<'a> {
 }
 
 impl ReplayState {
-    /// Where a place of a tree is kept, and where it stands in its tree; None where its page is in no tree. No answer
-    /// depends on the number `hint`, at which the page is looked for first.
+    /// Where the place is kept; None where its page isn't tracked.
     #[inline(always)]
-    fn find(&self, place: Place, hint: usize) -> Option<(Position, Path)>
-        requires { (heading : Heading) × (h : List Event) × PartsStand self.now heading h }
-        ensures place { IfSome result (λ found. found.0.place ≡ place) }
-        ensures position { IfSome result (λ found. IsPosition self.now.map found.0) }
-        ensures at { IfSome result (λ found. IsAt self.now place found.1) }
-        ensures none { result ≡ None → node_in self.now.index (page_of place) ≡ None }
+    fn position(&mut self, place: Place) -> Option<Position>
+        ensures place { IfSome result (λ position. position.place ≡ place) }
+        ensures position { IfSome result (λ position. IsPosition self.old.map position) }
+        ensures tracked { is_tracked self.old.map (page_of place) ≡ true → IsSome result }
+        ensures same { self.new ≡ self.old }
     {
-        let Some(position) = self.map.position_near(place, hint) else {
-            return None;
-        };
-        let Some(path) = self.index.path_near(place, self.map.page_number(&position)) else {
-            return None;
-        };
-        Some((position, path))
+        self.map.find(place)
     }
 
-    /// A write at a place of no tree. No answer depends on the number `hint`, at which the page is looked for first.
+    /// A write at a place of no tree, of a page that isn't fresh.
+    #[inline(never)]
+    fn write_refused(&mut self, pe: Pe, place: Place, value: u64) -> Result<(), StepFault>
+        requires may { MayMeet self.old (Write pe place value) }
+        requires outside { node_in self.old.index (page_of place) ≡ None }
+        requires unfresh { fresh_in self.old.index (page_of place) ≡ false }
+        ensures { Meets self.old self.new (Write pe place value) result }
+    {
+        laws();
+        rules();
+        let _ = value;
+        let page = place.page();
+        if self.index.is_null(&self.map, page) {
+            return Err(StepFault::Broken(Rule::NullWritten, place.get()));
+        }
+        Err(StepFault::Broken(Rule::NotFresh, page.get()))
+    }
+
+    /// A write at a place of no tree, of a page with this number.
     #[inline(never)]
     fn write_outside(
         &mut self,
         pe: Pe,
         place: Place,
+        page: PageNumber,
         value: u64,
-        hint: usize,
     ) -> Result<(), StepFault>
         requires may { MayMeet self.old (Write pe place value) }
         requires outside { node_in self.old.index (page_of place) ≡ None }
+        requires position { IsPosition self.old.map (record { place = place; page = page }) }
         ensures { Meets self.old self.new (Write pe place value) result }
     {
         laws();
         rules();
         law_others();
-        let page = place.page();
-        if !self.index.is_fresh(page, hint) {
-            if self.index.is_null(page) {
-                return Err(StepFault::Broken(Rule::NullWritten, place.get()));
-            }
-            return Err(StepFault::Broken(Rule::NotFresh, page.get()));
+        let position = Position { place, page };
+        if !self.index.is_fresh_at(&position) {
+            return self.write_refused(pe, place, value);
         }
-        let position = self.map.position_near(place, hint).unwrap();
         if rewrites(self.map.value_of(&position), value) {
             return Err(StepFault::Broken(Rule::RewrittenFresh, place.get()));
         }
@@ -279,29 +286,31 @@ impl ReplayState {
         }
     }
 
-    /// A write, under its lock, at a broken place of a tree. It takes plain values and finds the place anew, so that
-    /// the other writes keep theirs in registers.
+    /// A write at a broken place, of a page with this number. It takes plain values, so that the other writes keep theirs
+    /// in registers.
     #[inline(never)]
     fn write_broken(
         &mut self,
         alloc: Global,
         pe: Pe,
         place: Place,
+        page: PageNumber,
         value: u64,
-        hint: usize,
     ) -> Result<(), StepFault>
-        requires at { (path : ThePath) × WritesTree self.old pe place value path }
-        requires unlocked { IsUnlocked self.old (Write pe place value) }
+        requires may { MayMeet self.old (Write pe place value) }
+        requires position { IsPosition self.old.map (record { place = place; page = page }) }
         ensures { Meets self.old self.new (Write pe place value) result }
     {
         laws();
         rules();
         law_others();
-        let position = self.map.position_near(place, hint).unwrap();
-        let path = self
-            .index
-            .path_near(place, self.map.page_number(&position))
-            .unwrap();
+        let position = Position { place, page };
+        let Some(path) = self.index.path(&position) else {
+            return self.write_outside(pe, place, page, value);
+        };
+        if let Some(at) = self.roots.without_lock(pe, path.first, place.get()) {
+            return Err(StepFault::Broken(Rule::NoLock, at));
+        }
         let live = self.map.live_at(&position, path.kind, path.level);
         let old = self.map.core_at(&position, live);
         let new = core(path.kind, path.level, value);
@@ -321,11 +330,13 @@ impl ReplayState {
         }
     }
 
-    /// A write at a place of a tree. A value over none has a way of its own, so that it carries no core about.
+    /// A write at a place of a tree that isn't broken. A value over none has a way of its own, so that it carries no core
+    /// about.
     #[inline(always)]
     fn write_inside(&mut self, alloc: Global, write: &TreeWrite) -> Result<(), StepFault>
         requires at { WritesTree self.old write.now.pe write.now.position.now.place write.now.value write.now.path.now }
         requires position { IsPosition self.old.map write.now.position.now }
+        requires unbroken { marks_at self.old.map write.now.position.now.place ≡ None }
         ensures { Meets self.old self.new (Write write.now.pe write.now.position.now.place write.now.value) result }
     {
         laws();
@@ -334,10 +345,6 @@ impl ReplayState {
         let (place, path) = (write.position.place, write.path);
         if let Some(at) = self.roots.without_lock(write.pe, path.first, place.get()) {
             return Err(StepFault::Broken(Rule::NoLock, at));
-        }
-        if self.map.is_broken_at(write.position) {
-            let hint = self.map.page_number(write.position);
-            return self.write_broken(alloc, write.pe, place, write.value, hint);
         }
         match self.map.live_at(write.position, path.kind, path.level) {
             None => self.write_unbroken(alloc, write, &None),
@@ -367,9 +374,14 @@ impl ReplayState {
         ensures { Meets self.old self.new (Write pe place value) result }
     {
         laws();
-        let hint = self.map.recent_page();
-        let Some((position, path)) = self.find(place, hint) else {
-            return self.write_outside(pe, place, value, hint);
+        let Some(position) = self.position(place) else {
+            return self.write_refused(pe, place, value);
+        };
+        if self.map.is_broken_at(&position) {
+            return self.write_broken(alloc, pe, place, position.page, value);
+        }
+        let Some(path) = self.index.path(&position) else {
+            return self.write_outside(pe, place, position.page, value);
         };
         let write = TreeWrite {
             pe,

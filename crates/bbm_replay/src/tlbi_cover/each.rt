@@ -3,6 +3,7 @@
 ghost use Rattle.std.specs.Prelude.{◌<◌, ◌≤◌, ℕ, IfOk, OnOk};
 ghost use Rattle.bbm_place_map.specs.Map.{restless_in, restless_place};
 ghost use Rattle.bbm_replay.specs.Covering.{Grows, IsBrokenOver, IsPathOf, IsSettled};
+ghost use Rattle.bbm_replay.specs.OnePage.{FitTogether};
 ghost use Rattle.bbm_replay.specs.declared.tlbi_cover.TheConstants.{ONE_BY_ONE};
 
 use crate::tlbi_cover::Covering;
@@ -56,16 +57,14 @@ impl Covering<'_> {
         number: u32,
         found: &mut SmallVec<Found, 4>,
     ) -> Result<(), NoMemory>
+        requires fits { FitTogether map.now self.now.index.now }
         requires within { number < restless_in map.now }
         ensures grows { OnOk result (Grows map.now self.now found.old.items found.new.items) }
         ensures settled { OnOk result
             (IsSettled map.now self.now found.new.items (restless_place map.now number)) }
     {
         let place = map.restless_at(number as u64);
-        match self
-            .index
-            .path_near(place, map.restless_page(number as u64))
-        {
+        match self.path_of(map, number as u64, place) {
             Some(path) => {
                 self.add_broken(map, number, &path, found)?;
                 Ok(())
@@ -80,6 +79,7 @@ impl Covering<'_> {
         map: &PlaceMap,
         found: &mut SmallVec<Found, 4>,
     ) -> Result<(), NoMemory>
+        requires fits { FitTogether map.now self.now.index.now }
         requires count { restless_in map.now ≤ ONE_BY_ONE }
         ensures grows { OnOk result (Grows map.now self.now found.old.items found.new.items) }
         ensures settled { OnOk result ((a : ℕ) → IsSettled map.now self.now found.new.items a) }

@@ -3,6 +3,7 @@
 ghost use Rattle.std.specs.Prelude.{◌≡◌, ◌<◌, length, ℕ, true, false, OnOk, []};
 ghost use Rattle.bbm_place_map.specs.Map.{restless_in, restless_place};
 ghost use Rattle.bbm_replay.specs.Covering.{CoverEach, CoversAlike, IsCovered, IsNoted};
+ghost use Rattle.bbm_replay.specs.OnePage.{FitTogether};
 ghost use Rattle.bbm_rules.specs.Tree.{Node};
 ghost use Rattle.bbm_tlbi_scope.specs.Numbers.{names_some as spec_names_some};
 ghost use Rattle.bbm_tree_index.specs.Nodes.{path_at};
@@ -49,6 +50,7 @@ impl Covering<'_> {
     /// How far the TLBI covers the broken place with this number; and its page, where each broken place of that is
     /// known to be covered so far.
     fn cover_page(&self, map: &PlaceMap, i: u64) -> (Cover, Option<PageCover>)
+        requires fits { FitTogether map.now self.now.index.now }
         requires within { i < restless_in map.now }
         ensures here { IsCovered map.now self.now result.0 (restless_place map.now i) }
         ensures alike { CoversAlike map.now self.now result.1 }
@@ -56,7 +58,7 @@ impl Covering<'_> {
         law_notes_keep_the_events();
         let place = map.restless_at(i);
         let page = place.page();
-        let Some(path) = self.index.path_near(place, map.restless_page(i)) else {
+        let Some(path) = self.path_of(map, i, place) else {
             return (Cover::None, None);
         };
         let cover = self.cover_of(map, place, &path, &map.restless_core(i));
@@ -79,6 +81,7 @@ impl Covering<'_> {
     /// `alike` tells then of which page it is known.
     #[inline(always)]
     fn cover_next(&self, map: &PlaceMap, i: u64, alike: &mut Option<PageCover>) -> Cover
+        requires fits { FitTogether map.now self.now.index.now }
         requires within { i < restless_in map.now }
         requires alike { CoversAlike map.now self.now alike.old }
         ensures here { IsCovered map.now self.now result (restless_place map.now i) }
@@ -98,6 +101,7 @@ impl Covering<'_> {
     /// Adds how far the TLBI covers each of the broken places, in the order of their numbers. Those of a page that it
     /// covers alike are asked once where they follow one another. `NoMemory` where there is none.
     fn covers(&self, map: &PlaceMap, covers: &mut SmallVec<Answer, 8>) -> Result<(), NoMemory>
+        requires fits { FitTogether map.now self.now.index.now }
         requires empty { covers.old.items ≡ [] }
         ensures len { OnOk result (length covers.new.items ≡ restless_in map.now) }
         ensures each { OnOk result (CoverEach map.now self.now covers.new.items) }
@@ -120,6 +124,7 @@ impl Covering<'_> {
         pe: Pe,
         reach: PeMask,
     ) -> Result<(), NoMemory>
+        requires { FitTogether map.old self.now.index.now }
         ensures { IsNoted self.now pe reach map.old map.new result }
     {
         let mut covers = SmallVec::new(alloc);

@@ -1,18 +1,17 @@
 //! How far a TLBI covers a broken place.
 
-ghost use Rattle.std.specs.Prelude.{◌≡◌, ◌↔◌, Bool, true, false, List, Some, None, IfSome};
+ghost use Rattle.std.specs.Prelude.{◌≡◌, ◌≤◌, ◌↔◌, Bool, true, false, List, Some, None, IfSome};
 ghost use Rattle.bbm_events.specs.Heading.{Heading};
 ghost use Rattle.bbm_events.specs.declared.event.Event.{Event};
 ghost use Rattle.bbm_replay.specs.Covering.{IsBrokenOver, IsCovered, IsPathOf, Mismatches, asks_childless};
 ghost use Rattle.bbm_replay.specs.Covering.{asks_tags as spec_asks_tags};
 ghost use Rattle.bbm_roots.specs.RootsStand.{Stands};
 ghost use Rattle.bbm_rules.specs.Claims.Trust.{Patterns};
-ghost use Rattle.bbm_rules.specs.Places.{page_of};
 ghost use Rattle.bbm_rules.specs.Tags.{tag_set, tags_of};
 ghost use Rattle.bbm_rules.specs.Tree.{Node};
 ghost use Rattle.bbm_tlbi_scope.specs.ScopeCovers.{asid_matches, cover_of, vmid_matches};
 ghost use Rattle.bbm_tree_index.specs.HeldCores.{Childless, core_at};
-ghost use Rattle.bbm_tree_index.specs.Index.{node_in};
+ghost use Rattle.bbm_tree_index.specs.Nodes.{path_at};
 
 use crate::tlbi_cover::Covering;
 use crate::writes::is_global;
@@ -25,7 +24,7 @@ use bbm_roots::NamedTlbi;
 use bbm_rules::law_notes_keep_the_events;
 use bbm_tlbi_scope::scope::{is_number, lacks_vmid};
 use bbm_tlbi_scope::{Cover, Family, PlaceView, TagSet, cover, where_fits};
-use bbm_tree_index::{Path, next_of};
+use bbm_tree_index::{Path, is_childless, next_of};
 
 /// Whether the cover of a place of this kind depends on the tags of its root.
 fn asks_tags(family: Family, kind: Kind) -> bool
@@ -75,14 +74,14 @@ fn is_only_asid(asid: Option<u16>, tags: TagSet) -> Option<bool>
 impl Covering<'_> {
     /// Whether the place, which holds a table or not, holds one no place of which holds anything; told where the TLBI
     /// names pages of any level, on which alone it depends.
-    fn is_childless(&self, map: &PlaceMap, place: Place, table: bool) -> bool
-        ensures { asks_childless self.now.named.now.scope table ≡ true → (n : Node)
-            → node_in self.now.index.now (page_of place) ≡ Some n
+    fn is_childless(&self, map: &PlaceMap, place: Place, path: &Path, table: bool) -> bool
+        requires { path.now.level ≤ 3 }
+        ensures { asks_childless self.now.named.now.scope table ≡ true → (n : Node) → path.now ≡ path_at n place
             → (result ≡ true) ↔ Childless (core_at map.now) n place }
     {
         let scope = &self.named.scope;
         let asked = table && scope.family.has_page() && !scope.last_only && scope.level.is_none();
-        asked && self.index.childless(map, place)
+        asked && is_childless(map, place, path)
     }
 
     /// The tags of the root of a place with this path; told where its cover depends on them. None where nothing covers
@@ -185,7 +184,7 @@ impl Covering<'_> {
                 level: path.level,
                 table,
                 global: is_global(core),
-                childless: self.is_childless(map, place, table),
+                childless: self.is_childless(map, place, path, table),
                 tags,
             },
         )

@@ -41,21 +41,17 @@ struct RootPages {
     first: Page,
     /// How many pages there are, one after another.
     count: u8,
-    /// The number at which the first page is looked for first.
-    hint: usize,
 }
 
 impl Covering<'_> {
     /// Adds the place, which has this path, with its cover, where it is broken and the TLBI covers it. The next page of
-    /// the table that it holds; None where it holds none. No answer depends on `hint`, at which its page is looked for
-    /// first. `NoMemory` where there is none.
+    /// the table that it holds; None where it holds none. `NoMemory` where there is none.
     #[inline(always)]
     fn add_met(
         &self,
         map: &PlaceMap,
         place: Place,
         path: &Path,
-        hint: usize,
         found: &mut SmallVec<Found, 4>,
     ) -> Result<Option<Page>, NoMemory>
         requires tracked { is_tracked map.now (page_of place) ≡ true }
@@ -64,7 +60,7 @@ impl Covering<'_> {
         ensures grows { OnOk result (Grows map.now self.now found.old.items found.new.items) }
         ensures settled { OnOk result (IsSettled map.now self.now found.new.items place) }
     {
-        let position = map.position_near(place, hint).unwrap();
+        let position = map.position(place).unwrap();
         match map.restless_number(&position) {
             Some(number) => {
                 let core = self.add_broken(map, number, path, found)?;
@@ -78,14 +74,12 @@ impl Covering<'_> {
     }
 
     /// Adds the broken places that the TLBI covers and that are met on the way down along the input page from the page
-    /// at this address, in bytes, each with its cover. No answer depends on `hint`, at which the page is looked for
-    /// first; that of the next level, often made behind it, is looked for behind it. `NoMemory` where there is none.
+    /// at this address, in bytes, each with its cover. `NoMemory` where there is none.
     fn descend(
         &self,
         map: &PlaceMap,
         input: u64,
         addr: u64,
-        hint: usize,
         found: &mut SmallVec<Found, 4>,
     ) -> Result<(), NoMemory>
         requires fits { FitTogether map.now self.now.index.now }
@@ -96,13 +90,12 @@ impl Covering<'_> {
         let Some(page) = Page::new(addr) else {
             return Ok(());
         };
-        let mut here = self.index.place_translating(page, input, hint);
-        for depth in 0..4 {
+        let mut here = self.index.place_translating(map, page, input);
+        for _depth in 0..4_u8 {
             let Some(met) = here else {
                 return Ok(());
             };
-            let hint = hint.wrapping_add(depth);
-            let Some(next) = self.add_met(map, met.0, &met.1, hint, found)? else {
+            let Some(next) = self.add_met(map, met.0, &met.1, found)? else {
                 return Ok(());
             };
             here = place_below(&met.1, next, input);
@@ -126,16 +119,14 @@ impl Covering<'_> {
     {
         for part in 0..pages.count {
             let addr = pages.first.get() + 4096 * part as u64;
-            let hint = pages.hint.wrapping_add(part as usize);
-            self.descend(map, input, addr, hint, found)?;
+            self.descend(map, input, addr, found)?;
         }
         Ok(())
     }
 
     /// Adds the broken places that the TLBI covers and that are met on the way down along the input page from the pages
     /// of the root with this number, if there is one and the operation can cover places of its kind, each with its
-    /// cover. The pages are looked for first at the number of the root, as where the roots were made first. `NoMemory`
-    /// where there is none.
+    /// cover. `NoMemory` where there is none.
     fn descend_root(
         &self,
         map: &PlaceMap,
@@ -159,7 +150,6 @@ impl Covering<'_> {
         let pages = RootPages {
             first: root.page,
             count: self.header.page_count(root.kind),
-            hint: number,
         };
         self.descend_pages(map, input, &pages, found)?;
         Ok(())

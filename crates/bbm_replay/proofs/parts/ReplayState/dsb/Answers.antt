@@ -1,6 +1,7 @@
 use Rattle.bbm_replay.proofs.Common.{Pends, ReplayState, waits}
-use Rattle.bbm_rules.proofs.Common.{refl, ◌∙◌, ap}
+use Rattle.bbm_rules.proofs.Common.{refl, sym, ◌∙◌, ap}
 use Rattle.bbm_tree_index.specs.HeldCores.{holds_at, is_held_by}
+use Rattle.bbm_replay.proofs.Moves.{tracked_alike}
 use Rattle.bbm_replay.proofs.PageMoves.{leaves_of}
 use Rattle.bbm_replay.proofs.DsbMoves.{dsb_meets}
 use Rattle.bbm_replay.proofs.parts.ReplayState.dsb.Goals as goal
@@ -22,8 +23,12 @@ returns-then-complete c =
       pends = λ q a b i x. ap (λ (w : Pends). waits w b i x) (p.pends q a);
     })
     (record { completed = e.completed; others = λ q a k b i x. e.others q a b i x k; value = e.same.values })
-    new c.requires (record { header = refl; index_header = r.tracked.heading }) c.law_barriers.ensures
-    (λ heading h s. c.complete-then-complete.ensures.taken heading h s tt) (λ x. e.same.pages x ∙ p.pages x)
+    new c.requires (record {
+      header = refl;
+      index_header = r.tracked.heading;
+      numbers = λ n. r.map.pages ∙ e.same.pages ∙ p.pages ∙ n ∙ sym r.tracked.pages;
+    }) c.law_barriers.ensures
+    (λ heading h s. c.complete-then-complete.ensures.taken heading h s tt) (tracked_alike old.map m2 (e.same.pages ∙ p.pages))
     (λ outside stays. leaves_of old.index new.index m2 new.map (is_held_by (holds_at m2)) outside r)
 
 pub returns : goal.returns
@@ -42,5 +47,5 @@ returns c =
       pends = λ q a b i x. ap (λ (w : Pends). waits w b i x) (p.pends q a);
     })
     (record { completed = e.completed; others = λ q a k b i x. e.others q a b i x k; value = e.same.values })
-    new c.requires (record { header = refl; index_header = refl }) c.law_barriers.ensures
-    (λ heading h s. c.complete-2.ensures.taken heading h s tt) (λ x. e.same.pages x ∙ p.pages x) (λ outside stays. stays (e.kept c.if-complete.false))
+    new c.requires (record { header = refl; index_header = refl; numbers = λ n. e.same.pages ∙ p.pages ∙ n }) c.law_barriers.ensures
+    (λ heading h s. c.complete-2.ensures.taken heading h s tt) (tracked_alike old.map m2 (e.same.pages ∙ p.pages)) (λ outside stays. stays (e.kept c.if-complete.false))

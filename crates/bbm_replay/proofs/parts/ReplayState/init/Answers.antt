@@ -15,7 +15,7 @@ returns-in-Ok c =
     let free = sym c.is_used.ensures ∙ c.if-is_used.false in
     let parts = free_parts (node_in old.index c.args.page) (null_in old.index c.args.page) free in
     init_ok c.laws.ensures c.rules.ensures c.law_others.ensures old c.track.new.map c.track.new.self e.counted.heading
-    c.args.pe c.args.page c.requires free (λ full. let bad = e.limit.1 full in absurd cc)
+    (λ n. e.shares) c.args.pe c.args.page c.requires free (λ full. let bad = e.limit.1 full in absurd cc)
     (record {
       outside = parts.0;
       not_null = parts.1;
@@ -36,6 +36,6 @@ returns-in-Err c =
     let e = c.in-Err.ensures in
     rw c.step_fault.ensures
     (init_err c.laws.ensures c.rules.ensures c.law_others.ensures old c.track.new.map c.track.new.self
-    e.same_tracked.heading c.args.pe c.args.page c.requires (sym c.is_used.ensures ∙ c.if-is_used.false) c.in-Err.fault
+    e.same_tracked.heading (λ n. e.shares) c.args.pe c.args.page c.requires (sym c.is_used.ensures ∙ c.if-is_used.false) c.in-Err.fault
     (λ k. e.limit.0 (ap (λ (x : TreeFault). Err x) k)) e.fault
     (same_of old.map c.track.new.map old.index c.track.new.self e.same_map e.same_pages e.same_tracked))

@@ -1,5 +1,6 @@
-use Rattle.bbm_rules.proofs.Common.{◌≡◌, ℕ, [], Some, None, refl, sym, ◌∙◌, true≢false, Heading, Patterns, node_of}
+use Rattle.bbm_rules.proofs.Common.{◌≡◌, ℕ, [], List, Some, None, ap, is_some, length, refl, sym, ◌∙◌, true≢false, Heading, Patterns, node_of}
 use Rattle.bbm_rules.proofs.Common.{page_of}
+use Rattle.bbm_page_map.specs.PageLists.{number_in}
 use Rattle.bbm_rules.specs.Tree.{tree}
 use Rattle.bbm_replay.proofs.parts.ReplayState.new.Goals as goal
 
@@ -14,6 +15,7 @@ returns c =
     record {
       header = refl;
       index_header = i.heading;
+      numbers = m.pages ∙ sym i.pages;
       told = record {
         proper = c.in_ranges.ensures;
         kept = refl;
@@ -23,8 +25,8 @@ returns c =
         fresh = i.fresh;
         null = i.null;
         known = i.known;
-        pages = i.pages;
-        tracked = λ p. m.pages p ∙ sym (i.known p);
+        pages = ap length i.pages;
+        tracked = λ p. ap (λ (ps : List ℕ). is_some (number_in ps p)) m.pages ∙ sym (i.known p);
         apart = record {
           fresh_outside = λ p k. i.node p;
           fresh_not_null = λ p k. i.null p;

@@ -1,4 +1,4 @@
-use Rattle.bbm_rules.proofs.Common.{refl, sym, ◌∙◌}
+use Rattle.bbm_rules.proofs.Common.{ap, length, refl, sym, ◌∙◌}
 use Rattle.bbm_replay.proofs.PageMoves.{null_nonzero, null_ok, null_unfresh, null_world}
 use Rattle.bbm_replay.proofs.parts.ReplayState.null.Goals as goal
 
@@ -22,13 +22,13 @@ returns c =
     let e = c.nullify.ensures in
     let fresh = sym c.is_fresh.ensures ∙ c.if-not-is_fresh.false in
     null_ok c.laws.ensures c.rules.ensures c.law_others.ensures old old.map c.nullify.new.self e.tracked.heading
-    c.args.pe c.args.page c.requires (sym c.is_wrong_null.ensures ∙ c.if-is_wrong_null.false) fresh
+    (λ n. n ∙ sym e.tracked.pages) c.args.pe c.args.page c.requires (sym c.is_wrong_null.ensures ∙ c.if-is_wrong_null.false) fresh
     (c.is_zero.ensures.zero c.if-not-is_zero.false)
     (record {
       was_fresh = fresh;
       map = record { value = λ a. refl; marks = λ a. refl; pends = λ q a b i p. refl };
       nodes = e.null.node;
-      tracking = record { tracked = λ p. refl; known = e.tracked.known; pages = e.tracked.pages };
+      tracking = record { tracked = λ p. refl; known = e.tracked.known; pages = ap length e.tracked.pages };
       fresh = e.null.fresh;
       null = e.null.null;
     })

@@ -1,5 +1,5 @@
 use Rattle.bbm_replay.proofs.Common.{StepFault, ReplayState}
-use Rattle.bbm_rules.proofs.Common.{◌+◌, ◌*◌, ◌≤◌, ◌^◌, refl, sym, ◌∙◌, ap, subst, Err, page_count, Heading}
+use Rattle.bbm_rules.proofs.Common.{◌+◌, ◌*◌, ◌≤◌, ◌^◌, refl, sym, ◌∙◌, ap, length, subst, Err, page_count, Heading}
 use Rattle.bbm_tree_index.specs.declared.role.Attach.TheVariants as attach
 use Rattle.bbm_replay.proofs.RootPages.{room_for}
 use Rattle.bbm_replay.proofs.Rooting.{attaches_of, named, root_fault, root_full, root_ok, root_used, root_world}
@@ -14,8 +14,8 @@ returns-in-Err c = rw c.step_fault.ensures
     (root_fault c.laws.ensures c.rules.ensures c.args.self.now c.args.pe c.args.page c.args.kind c.args.lock
     (sym c.has_kind.ensures ∙ c.if-not-has_kind.false) c.in-Err.fault c.in-Err.ensures.judged)
 
-pub first_unfresh-requires : goal.first_unfresh-requires
-first_unfresh-requires c =
+pub first_unfresh-requires-clause-low : goal.first_unfresh-requires-clause-low
+first_unfresh-requires-clause-low c =
     let m = c.requires in
     rw c.page_count.ensures.value
     (subst (λ (x : Heading). c.args.page + 4096 * page_count x.world c.args.kind ≤ 2 ^ 48) (sym m.2.header)
@@ -38,8 +38,8 @@ returns-in-Err-prepare c =
 
 pub attach_prepared-requires : goal.attach_prepared-requires
 attach_prepared-requires c = record {
+  same = c.requires.2.numbers;
   prepared = (
-    c.args.self.now.map,
     attach.Root c.args.kind c.args.page,
     c.in-Ok.ensures.prepared,
     named c.args.self.now c.args.kind c.args.page (sym c.has_kind.ensures ∙ c.if-not-has_kind.false)
@@ -55,12 +55,12 @@ returns c =
     let new : ReplayState = record old { index = c.attach_prepared.new.self; roots = c.declare.new.self } in
     root_ok c.laws.ensures c.rules.ensures old c.args.pe c.args.page c.args.kind c.args.lock right c.in-Ok.ensures.judged
     (cc (c.page_count.ensures.value, c.in-None.ensures)) c.prepare-2.new.self c.prepare-2.ensures.kept.same new c.requires
-    (record { header = refl; index_header = e.tracked.heading })
+    (record { header = refl; index_header = e.tracked.heading; numbers = λ n. n ∙ sym e.tracked.pages })
     (λ heading h s k. let bad = (c.in-Ok-prepare.ensures.limit heading h c.args.pe c.args.kind c.args.lock c.args.page s).1 k in absurd cc)
     (record { value = λ a. refl; marks = λ a. refl; pends = λ q a b i p. refl })
     (attaches_of old.index new.index old.map new.map (attach.Root c.args.kind c.args.page)
-    (e.attached old.map (attach.Root c.args.kind c.args.page) c.in-Ok.ensures.prepared
+    (e.attached (attach.Root c.args.kind c.args.page) c.in-Ok.ensures.prepared
     (named old c.args.kind c.args.page right (cc (c.page_count.ensures.value, c.in-None.ensures)) c.requires.2))
-    (record { tracked = λ p. refl; known = e.tracked.known; pages = e.tracked.pages }))
+    (record { tracked = λ p. refl; known = e.tracked.known; pages = ap length e.tracked.pages }))
     c.law_idle.ensures
     (λ heading h s free. c.declare.ensures c.args.pe heading h s free)

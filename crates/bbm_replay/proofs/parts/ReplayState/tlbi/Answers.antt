@@ -1,6 +1,6 @@
 use Rattle.bbm_replay.proofs.Common.{marks_at, pends_at, pe_in, Noted, NoMemory, state_from, notes, MayBeIssued}
 use Rattle.bbm_replay.proofs.Common.{view_of, ReplayState}
-use Rattle.bbm_rules.proofs.Common.{◌≡◌, ℕ, ◌<◌, None, not, ◌&&◌, ◌||◌, nat_eq, refl, subst, Patterns, cover_at, Tlbi}
+use Rattle.bbm_rules.proofs.Common.{◌≡◌, ◌∙◌, ℕ, ◌<◌, None, not, ◌&&◌, ◌||◌, nat_eq, refl, subst, Patterns, cover_at, Tlbi}
 use Rattle.bbm_replay.proofs.Framing.{meets_err, same_of, stands_still}
 use Rattle.bbm_replay.proofs.TlbiMoves.{tlbi_meets}
 use Rattle.bbm_replay.proofs.Writing.{cores}
@@ -14,6 +14,7 @@ issue-requires c =
     let view = view_of c.args.self.now.map c.args.self.now.index in
     record {
       fits = record {
+        numbers = c.requires.2.numbers;
         tracked = λ p n is. told.apart.node_tracked p n is;
         below = λ n place next is table. (c.laws.ensures heading).neighbours.down h view n place next told.kept told.nodes
             (cores told) is table;
@@ -25,7 +26,11 @@ returns-in-Err-issue c =
     let old = c.args.self.now in
     let new : ReplayState = record old { map = c.issue.new.map; roots = c.prepare_issue.new.self } in
     meets_err (Tlbi c.args.pe c.args.op c.args.xt) NoMemory (λ heading h s. tt)
-    (λ heading h s. stands_still c.laws.ensures old new (record { header = refl; index_header = refl })
+    (λ heading h s. stands_still c.laws.ensures old new (record {
+      header = refl;
+      index_header = refl;
+      numbers = λ n. c.in-Err-issue.ensures.kept.pages ∙ n;
+    })
     (same_of old.map new.map old.index old.index c.in-Err-issue.ensures.kept
     (record { node = λ p. refl; fresh = λ p. refl; null = λ p. refl })
     (record { known = λ p. refl; pages = refl; heading = refl })) heading h s

@@ -1,5 +1,5 @@
 use Rattle.bbm_replay.proofs.Common.{ReplayState}
-use Rattle.bbm_rules.proofs.Common.{not, ◌==◌, refl, Node}
+use Rattle.bbm_rules.proofs.Common.{not, ◌==◌, ◌∙◌, refl, sym, Node}
 use Rattle.bbm_replay.proofs.PageMoves.{leaves_of, unroot_err, unroot_ok}
 use Rattle.bbm_replay.proofs.parts.ReplayState.unroot.Goals as goal
 
@@ -9,7 +9,7 @@ returns-in-Ok c =
     let e = c.detach.ensures in
     let new : ReplayState = record old { map = c.detach.new.map; index = c.detach.new.self; roots = c.retire.new.self } in
     unroot_ok c.laws.ensures c.rules.ensures old c.args.pe c.args.page c.requires new c.in-Ok.ensures
-    (record { header = refl; index_header = e.tracked.heading })
+    (record { header = refl; index_header = e.tracked.heading; numbers = λ n. e.map.pages ∙ n ∙ sym e.tracked.pages })
     (λ heading h s. leaves_of old.index new.index old.map new.map (λ (n : Node). not (n.root == c.args.page)) s.told.outside e)
     (λ heading h s free. (c.retire.ensures c.args.pe).taken heading h s free)
 

@@ -9,13 +9,6 @@ pub returns-in-Some : goal.returns-in-Some
 returns-in-Some c =
     locked c.rules.ensures c.requires.at c.get.ensures.value c.without_lock.ensures c.in-Some.at c.in-Some.is
 
-pub write_broken-requires-clause-at : goal.write_broken-requires-clause-at
-write_broken-requires-clause-at c = (c.args.write.now.path.now, c.requires.at)
-
-pub write_broken-requires-clause-unlocked : goal.write_broken-requires-clause-unlocked
-write_broken-requires-clause-unlocked c =
-    unlocked c.rules.ensures c.requires.at c.get.ensures.value c.without_lock.ensures c.in_default.is
-
 pub write_unbroken-requires-clause-unlocked : goal.write_unbroken-requires-clause-unlocked
 write_unbroken-requires-clause-unlocked c =
     unlocked c.rules.ensures c.requires.at c.get.ensures.value c.without_lock.ensures c.in_default.is
@@ -32,8 +25,7 @@ returns-else-is_some c =
     let place = w.position.now.place in
     let live = c.in-Some-live_at.live in
     let new = c.core-new.result in
-    let unbroken : marks_at self.map place ≡ None = none_of (marks_at self.map place)
-    (sym c.is_broken_at.ensures ∙ c.if-is_broken_at.false) in
+    let unbroken : marks_at self.map place ≡ None = c.requires.unbroken in
     let invalid : new ≡ None = none_of new (sym c.is_some.ensures ∙ c.if-is_some.false) in
     let live_is : Some live ≡ core_of w.path.now.kind w.path.now.level (value_at self.map place)
     = sym c.in-Some-live_at.is ∙ c.live_at.ensures in

@@ -5,6 +5,7 @@ use Rattle.bbm_rules.proofs.Common.{same_truth}
 use Rattle.bbm_replay.specs.Covering.{Mismatches}
 use Rattle.bbm_tlbi_scope.specs.ScopeCovers as scopes
 use Rattle.bbm_replay.proofs.Asking.{alike, mismatched}
+use Rattle.bbm_replay.proofs.Found.{low_path}
 use Rattle.bbm_replay.proofs.SamePage.{by_path, global_is, table_is, by_view, covers_as, held, view_covers}
 use Rattle.bbm_replay.proofs.Skips.{place_unnamed}
 use Rattle.bbm_replay.proofs.Writing.{cores}
@@ -41,6 +42,9 @@ returns-in_default c over heading h pe op xt issued =
     (ap (λ (y : Path). asks_tags named.scope.family y.kind) (sym at) ∙ none.0) miss.0 miss.1)
     ∙ view_covers ev m n place v.0 is v.1
 
+pub is_childless-requires : goal.is_childless-requires
+is_childless-requires c = low_path c.args.self.now.index.now c.args.place c.args.path.now c.requires.path
+
 pub returns : goal.returns
 returns c over heading h pe op xt issued =
     let m = issued.1 in
@@ -63,7 +67,7 @@ returns c over heading h pe op xt issued =
     let tags = tag_set (tags_of heading Patterns n.root h) in
     let table = c.is_some-table.result in
     let same_childless : asks_childless scope table ≡ true → c.is_childless.result ≡ childless
-    = λ asked. let inside = c.is_childless.ensures asked n is in
+    = λ asked. let inside = c.is_childless.ensures asked n at in
     same_truth c.is_childless.result childless (λ k. law.1 (inside.0 k)) (λ k. inside.1 (law.0 k)) in
     let same_tags : asks_tags scope.family n.kind ≡ true → c.in-Some.tags ≡ tags
     = λ asked. c.in-Some.ensures.told (ap (λ (y : Path). asks_tags scope.family y.kind) at ∙ asked) heading h m.stands

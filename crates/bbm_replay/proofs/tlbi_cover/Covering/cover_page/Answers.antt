@@ -13,8 +13,8 @@ returns-in_default-clause-here c heading h pe op xt issued =
     let place = c.restless_at-place.result in
     absurd (true≢false (sym c.restless_at-place.ensures.broken
     ∙ ap (λ (x : Option Marks). is_some x) (issued.1.told.outside place
-    (none_at (node_in c.args.self.now.index.now (page_of place)) place c.path_near.result c.in_default.is
-    c.path_near.ensures))))
+    (none_at (node_in c.args.self.now.index.now (page_of place)) place c.path_of.result c.in_default.is
+    c.path_of.ensures))))
 
 pub returns-then-not-has_page-clause-here : goal.returns-then-not-has_page-clause-here
 returns-then-not-has_page-clause-here c =
@@ -46,8 +46,8 @@ returns-then-names_none-clause-alike c a same broken heading h pe op xt issued =
     let by = c.args.self.now in
     let map = c.args.map.now in
     let place = c.restless_at-place.result in
-    let n = found_at (node_in by.index.now (page_of place)) place c.path_near.result c.in-Some.path
-    c.in-Some.is c.path_near.ensures in
+    let n = found_at (node_in by.index.now (page_of place)) place c.path_of.result c.in-Some.path
+    c.in-Some.is c.path_of.ensures in
     let page : page_of a ≡ page_of place = omega (arith, same, c.page-page.ensures) in
     let is : node_in by.index.now (page_of a) ≡ Some n.0 = ap (node_in by.index.now) page ∙ n.1 in
     let paged : has_page by.named.now.scope.family ≡ true = sym c.has_page.ensures ∙ c.if-not-has_page.false in

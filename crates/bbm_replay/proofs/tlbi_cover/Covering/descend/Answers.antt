@@ -2,6 +2,7 @@ use Rattle.bbm_replay.proofs.Common.{node_in, IsWay, core_at, is_at, path_at, Pa
 use Rattle.bbm_rules.proofs.Common.{◌≡◌, ◌≤◌, ℕ, suc, true, Some, inl, inr, sym, ◌∙◌, subst, arith, page_of, Node}
 use Rattle.bbm_rules.proofs.Common.{node_below, same_Some}
 use Rattle.bbm_replay.proofs.Findings.{if_some, settled_more}
+use Rattle.bbm_replay.proofs.Found.{low_path}
 use Rattle.bbm_replay.proofs.Ways.{ahead, goes_on, may_hang, on_way, on_way_below, way_ends}
 use Rattle.bbm_replay.proofs.tlbi_cover.Covering.descend.Goals as goal
 
@@ -17,11 +18,9 @@ loop-depth-init c =
       grows = (λ all. all, λ a has. has);
       on_way = λ m is.
           let n = if_some (λ (y : ℕ × Path). (n : Node) × (node_in index page ≡ Some n) × (y.1 ≡ path_at n y.0)) met
-          m is e.path in (
-            on_way (node_in index) c.args.input page n.0 n.1 met m is (inside m is) n.2 (λ a. e.met n.0 a n.1),
-            if_some (λ (y : ℕ × Path). y.1.level ≤ 3) met m is e.low,
-            omega arith,
-          );
+          m is e.path in
+          let on = on_way (node_in index) c.args.input page n.0 n.1 met m is (inside m is) n.2 (λ a. e.met n.0 a n.1) in
+          (on, low_path c.args.self.now.index.now m.0 m.1 (on.stands, on.is_node, on.has_path), omega arith);
       met = λ way a w.
           inr (ahead (node_in index) (core_at c.args.map.now) c.args.input page met inside e.met way a
           (subst (λ p. IsWay (node_in index) (core_at c.args.map.now) c.args.input p way a) (sym c.in-Some.ensures.value)

@@ -11,7 +11,7 @@ add_each-requires c =
     let few : c.restless.result ≤ ONE_BY_ONE
     = subst (λ (x : Search). FitsSearch c.args.self.now.named.now.scope c.restless.result x) c.in-Each.is
     c.search.ensures in
-    record { count = subst (λ n. n ≤ ONE_BY_ONE) c.restless.ensures.count few }
+    record { fits = c.requires.fits; count = subst (λ n. n ≤ ONE_BY_ONE) c.restless.ensures.count few }
 
 pub returns-in_ok-descend_all-in-WayTo-clause-settled : goal.returns-in_ok-descend_all-in-WayTo-clause-settled
 returns-in_ok-descend_all-in-WayTo-clause-settled c =
