@@ -301,11 +301,14 @@ words_once : (version : ℕ) (rest : Fields) → (header_words version rest).1 �
 words_once version rest end =
     let first : Bool × Fields = later_word version (codes "unflushed") rest in
     let second : Bool × Fields = later_word version (codes "inorder") first.1 in
-    let last : second.1 ≡ [] = end in
+    let third : Bool × Fields = later_word version (codes "isolated") second.1 in
+    let last : third.1 ≡ [] = end in
     later_once version (codes "unflushed") rest
     ∙ ap (λ (left : Fields). said first.0 (codes "unflushed") ++ left)
     (later_once version (codes "inorder") first.1
-    ∙ (ap (λ (left : Fields). said second.0 (codes "inorder") ++ left) last ∙ append-nil _))
+    ∙ ap (λ (left : Fields). said second.0 (codes "inorder") ++ left)
+    (later_once version (codes "isolated") second.1
+    ∙ (ap (λ (left : Fields). said third.0 (codes "isolated") ++ left) last ∙ append-nil _)))
 
 cnp_once : (version : ℕ) (rest : Fields) (x : Bool × Fields) → cnp_field version rest ≡ Ok x → rest ≡ cnp_fields version x.0 ++ x.1
 cnp_once version rest x e = by (has_words version) (may_share version) e

@@ -244,14 +244,15 @@ said_length false word rest = omega arith
 words_length : (version : ℕ) (cnp : Bool) (words : HeaderWords) → length (joined (cnp_fields version cnp ++ word_fields words)) ≤ 52
 words_length version cnp words = by (has_words version) (may_share version)
   where
-    one : (b : Bool) → length (joined (said b (codes "inorder"))) ≤ 7
+    one : (b : Bool) → length (joined (said b (codes "isolated"))) ≤ 8
     one true = omega arith
     one false = omega arith
 
-    said_most : length (joined (word_fields words)) ≤ 17
+    said_most : length (joined (word_fields words)) ≤ 26
     said_most =
-        let more = said_length words.unflushed (codes "unflushed") (said words.inorder (codes "inorder")) in
-        let last = one words.inorder in omega (arith, last, more)
+        let more = said_length words.unflushed (codes "unflushed") (said words.inorder (codes "inorder") ++ said words.isolated (codes "isolated")) in
+        let next = said_length words.inorder (codes "inorder") (said words.isolated (codes "isolated")) in
+        let last = one words.isolated in omega (arith, last, next, more)
 
     by : (h shares : Bool) → length (joined (cond h (said cnp (codes "cnp")) (cond shares (cnp_word cnp ∷ []) []) ++ word_fields words)) ≤ 52
     by true shares =

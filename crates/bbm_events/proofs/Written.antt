@@ -19,7 +19,7 @@ use Rattle.bbm_events.proofs.Common.{pe_and, pe_and_two, root_line, tlbi_line, c
 use Rattle.bbm_events.proofs.Common.{operand_fields, event_fields, item_fields, magic_field}
 use Rattle.std.specs.Fmt.{digits}
 use Rattle.std.proofs.lemmas.Bool.{and_from}
-use Rattle.bbm_regimes.specs.declared.regime.Kind.TheVariants.{Ttbr0}
+use Rattle.bbm_regimes.specs.declared.regime.Kind.TheVariants.{S2, Ttbr0}
 use Rattle.bbm_regimes.specs.declared.regime.KernelWorld.{KernelWorld}
 use Rattle.bbm_regimes.specs.World.{kind_in_world}
 use Rattle.bbm_events.specs.declared.event.Event.TheVariants as event
@@ -353,39 +353,51 @@ in_range h ok = ap (λ t. cond t (Ok h) (Err BadHeader)) ok
 -- a word that stands is read, and one that doesn't where another field or none stands in its place
 cnp_word_next : (cnp : Bool) (words : HeaderWords) → word_field (codes "cnp") (said cnp (codes "cnp") ++ word_fields words) ≡ (cnp, word_fields words)
 cnp_word_next true words = refl
-cnp_word_next false words = by words.unflushed words.inorder
+cnp_word_next false words = by words.unflushed words.inorder words.isolated
   where
-    by : (u i : Bool) → word_field (codes "cnp") (said u (codes "unflushed") ++ said i (codes "inorder"))
-        ≡ (false, said u (codes "unflushed") ++ said i (codes "inorder"))
-    by true i = refl
-    by false true = refl
-    by false false = refl
+    by : (u i t : Bool) → word_field (codes "cnp") (said u (codes "unflushed") ++ (said i (codes "inorder") ++ said t (codes "isolated")))
+        ≡ (false, said u (codes "unflushed") ++ (said i (codes "inorder") ++ said t (codes "isolated")))
+    by true i t = refl
+    by false true t = refl
+    by false false true = refl
+    by false false false = refl
 
 -- before version 5 there is none
 words_read : (version : ℕ) (world : World) (words : HeaderWords) → words_ok version world words ≡ true
     → header_words version (word_fields words) ≡ (words, [])
 words_read version world words fits =
-    by (has_words version) words.unflushed words.inorder
-    (and_parts (has_words version || not (words.unflushed || words.inorder)) (kind_in_world world Ttbr0 || not words.inorder) fits).0
+    by (has_words version) words.unflushed words.inorder words.isolated
+    (and_parts (has_words version || not (words.unflushed || (words.inorder || words.isolated)))
+    ((kind_in_world world Ttbr0 || not words.inorder) && (kind_in_world world S2 || not words.isolated)) fits).0
   where
-    first : Bool → Bool → Bool → Bool × Fields
-    first h u i =
-        cond h (word_field (codes "unflushed") (said u (codes "unflushed") ++ said i (codes "inorder")))
-        (false, said u (codes "unflushed") ++ said i (codes "inorder"))
+    all : Bool → Bool → Bool → Fields
+    all u i t = said u (codes "unflushed") ++ (said i (codes "inorder") ++ said t (codes "isolated"))
 
-    second : Bool → Bool → Bool → Bool × Fields
-    second h u i = cond h (word_field (codes "inorder") (first h u i).1) (false, (first h u i).1)
+    first : Bool → Bool → Bool → Bool → Bool × Fields
+    first h u i t = cond h (word_field (codes "unflushed") (all u i t)) (false, all u i t)
 
-    by : (h u i : Bool) → (h || not (u || i)) ≡ true
-        → ◌≡◌ {A = HeaderWords × Fields} (record { unflushed = (first h u i).0; inorder = (second h u i).0 }, (second h u i).1)
-        (record { unflushed = u; inorder = i }, [])
-    by true true true f = refl
-    by true true false f = refl
-    by true false true f = refl
-    by true false false f = refl
-    by false true i f = cc
-    by false false true f = cc
-    by false false false f = refl
+    second : Bool → Bool → Bool → Bool → Bool × Fields
+    second h u i t = cond h (word_field (codes "inorder") (first h u i t).1) (false, (first h u i t).1)
+
+    third : Bool → Bool → Bool → Bool → Bool × Fields
+    third h u i t = cond h (word_field (codes "isolated") (second h u i t).1) (false, (second h u i t).1)
+
+    by : (h u i t : Bool) → (h || not (u || (i || t))) ≡ true
+        → ◌≡◌ {A = HeaderWords × Fields}
+        (record { unflushed = (first h u i t).0; inorder = (second h u i t).0; isolated = (third h u i t).0 }, (third h u i t).1)
+        (record { unflushed = u; inorder = i; isolated = t }, [])
+    by true true true true f = refl
+    by true true true false f = refl
+    by true true false true f = refl
+    by true true false false f = refl
+    by true false true true f = refl
+    by true false true false f = refl
+    by true false false true f = refl
+    by true false false false f = refl
+    by false true i t f = cc
+    by false false true t f = cc
+    by false false false true f = cc
+    by false false false false f = refl
 
 -- the field of shared TLBs, before words that version 5 alone has
 cnp_read : (version : ℕ) (cnp : Bool) (words : HeaderWords) → (may_share version || not cnp) ≡ true
@@ -460,8 +472,9 @@ cnp_all_visible version cnp words = by (has_words version) (may_share version)
   where
     clean : all_visible (word_fields words) ≡ true
     clean =
-        said_visible words.unflushed (codes "unflushed") (said words.inorder (codes "inorder")) refl
-        (last_visible words.inorder (codes "inorder") refl)
+        said_visible words.unflushed (codes "unflushed") (said words.inorder (codes "inorder") ++ said words.isolated (codes "isolated")) refl
+        (said_visible words.inorder (codes "inorder") (said words.isolated (codes "isolated")) refl
+        (last_visible words.isolated (codes "isolated") refl))
 
     by : (h shares : Bool) → all_visible (cond h (said cnp (codes "cnp")) (cond shares (cnp_word cnp ∷ []) []) ++ word_fields words) ≡ true
     by true shares = said_visible cnp (codes "cnp") (word_fields words) refl clean

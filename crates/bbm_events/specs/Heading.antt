@@ -1,7 +1,7 @@
 -- What a log's header says.
 -- Source: project's own choice.
 use Rattle.std.specs.Prelude.{ℕ, Bool, false, ◌&&◌, ◌||◌, not, nat_le, nat_lt, if◌then◌else◌}
-use Rattle.bbm_regimes.specs.declared.regime.Kind.TheVariants.{Ttbr0}
+use Rattle.bbm_regimes.specs.declared.regime.Kind.TheVariants.{S2, Ttbr0}
 use Rattle.bbm_regimes.specs.declared.regime.World.{World}
 use Rattle.bbm_regimes.specs.World.{kind_in_world, world_ok}
 use Rattle.bbm_tlbi_scope.specs.declared.op.TlbiOp.{TlbiOp}
@@ -45,12 +45,12 @@ abbrev pub nulls_everywhere : ℕ → Bool
 nulls_everywhere version = nat_le 5 version
 
 abbrev pub no_words : HeaderWords
-no_words = record { unflushed = false; inorder = false }
+no_words = record { unflushed = false; inorder = false; isolated = false }
 
--- Words stand from version 5 on, and `inorder` is one of the Kernel world.
+-- Words stand from version 5 on; `inorder` is one of the Kernel world, `isolated` of the Hyp world.
 abbrev pub words_ok : ℕ → World → HeaderWords → Bool
-words_ok version world words = (has_words version || not (words.unflushed || words.inorder))
-    && (kind_in_world world Ttbr0 || not words.inorder)
+words_ok version world words = (has_words version || not (words.unflushed || (words.inorder || words.isolated)))
+    && ((kind_in_world world Ttbr0 || not words.inorder) && (kind_in_world world S2 || not words.isolated))
 
 abbrev pub heading_ok : Heading → Bool
 heading_ok h = is_version h.version && are_pes h.version h.pes && (may_share h.version || not h.cnp)

@@ -90,12 +90,13 @@ cnp_field version rest = if has_words version then Ok (word_field (codes "cnp") 
 abbrev pub later_word : ℕ → List ℕ → Fields → Bool × Fields
 later_word version word rest = if has_words version then word_field word rest else (false, rest)
 
--- what else the words say, each of which stands or doesn't, in this order: `unflushed`, then `inorder`
+-- what else the words say, each of which stands or doesn't, in this order: `unflushed`, `inorder`, `isolated`
 abbrev pub header_words : ℕ → Fields → HeaderWords × Fields
 header_words version rest =
     let unflushed : Bool × Fields = later_word version (codes "unflushed") rest in
     let inorder : Bool × Fields = later_word version (codes "inorder") unflushed.1 in
-    (record { unflushed = unflushed.0; inorder = inorder.0 }, inorder.1)
+    let isolated : Bool × Fields = later_word version (codes "isolated") inorder.1 in
+    (record { unflushed = unflushed.0; inorder = inorder.0; isolated = isolated.0 }, isolated.1)
 
 -- the heading, where no field is left and its numbers are in their ranges
 abbrev pub checked : Heading → Fields → Result Heading Malformed
@@ -302,7 +303,8 @@ cnp_fields version cnp = if has_words version then said cnp (codes "cnp")
     else (if may_share version then cnp_word cnp ∷ [] else [])
 
 abbrev pub word_fields : HeaderWords → Fields
-word_fields words = said words.unflushed (codes "unflushed") ++ said words.inorder (codes "inorder")
+word_fields words = said words.unflushed (codes "unflushed")
+    ++ (said words.inorder (codes "inorder") ++ said words.isolated (codes "isolated"))
 
 -- the world's word, the number of PEs and the world's fields, with those that follow
 abbrev pub header_fields : ℕ → World → Fields → Fields

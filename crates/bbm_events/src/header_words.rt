@@ -8,10 +8,13 @@ pub struct HeaderWords {
     pub unflushed: bool,
     /// `inorder`: the root registers of a PE come into use in the order in which it wrote them. Of the Kernel world alone.
     pub inorder: bool,
+    /// `isolated`: no guest writes a translation table. Of the Hyp world alone.
+    pub isolated: bool,
 }
 
 /// No word.
 pub const NO_WORDS: HeaderWords = HeaderWords {
     unflushed: false,
     inorder: false,
+    isolated: false,
 };

@@ -1,8 +1,8 @@
 //! The first line.
 
-ghost use Rattle.std.specs.Prelude.{◌≡◌, ◌||◌, not, true, Some, None, IfOk, IfErr, IfSome};
+ghost use Rattle.std.specs.Prelude.{◌≡◌, ◌&&◌, ◌||◌, not, true, Some, None, IfOk, IfErr, IfSome};
 ghost use Rattle.bbm_regimes.specs.declared.regime.World.TheVariants.{Hyp, Kernel};
-ghost use Rattle.bbm_regimes.specs.declared.regime.Kind.TheVariants.{Ttbr0};
+ghost use Rattle.bbm_regimes.specs.declared.regime.Kind.TheVariants.{S2, Ttbr0};
 ghost use Rattle.bbm_regimes.specs.World.{kind_in_world, world_ok};
 ghost use Rattle.bbm_regimes.specs.declared.regime.World.{World as TheWorld};
 ghost use Rattle.bbm_events.specs.Causes.{IsHeaderCause};
@@ -71,20 +71,30 @@ fn later_word<'a>(version: u8, word: &[u8], fields: Fields<'a>) -> (bool, Fields
 /// What else the words say, and the fields after them.
 fn header_words<'a>(version: u8, fields: Fields<'a>) -> (HeaderWords, Fields<'a>)
     ensures words { result ≡ lines.header_words version fields.entry }
-    ensures later { (heading.has_words version || not (result.0.unflushed || result.0.inorder)) ≡ true }
+    ensures later { (heading.has_words version
+        || not (result.0.unflushed || (result.0.inorder || result.0.isolated))) ≡ true }
 {
     let (unflushed, fields) = later_word(version, b"unflushed", fields);
     let (inorder, fields) = later_word(version, b"inorder", fields);
-    (HeaderWords { unflushed, inorder }, fields)
+    let (isolated, fields) = later_word(version, b"isolated", fields);
+    (
+        HeaderWords {
+            unflushed,
+            inorder,
+            isolated,
+        },
+        fields,
+    )
 }
 
 /// Whether a log of this world can say these words.
 fn are_words(world: &World, words: HeaderWords) -> bool
-    ensures { result ≡ (kind_in_world world.now Ttbr0 || not words.inorder) }
+    ensures { result
+        ≡ ((kind_in_world world.now Ttbr0 || not words.inorder) && (kind_in_world world.now S2 || not words.isolated)) }
 {
     match world {
         World::Hyp(_) => !words.inorder,
-        World::Kernel(_) => true,
+        World::Kernel(_) => !words.isolated,
     }
 }
 

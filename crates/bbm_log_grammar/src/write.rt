@@ -279,7 +279,7 @@ fn cnp_text(header: &Header) -> Option<&'static [u8]>
 
 /// Whether TLBs are shared, and what else the words say.
 fn add_words(out: &mut ArrayVec<u8, 200>, header: &Header)
-    requires room { array_vec_len out.old + 39 ≤ 200 }
+    requires room { array_vec_len out.old + 52 ≤ 200 }
     ensures { out.new.items ≡ out.old.items
         ++ spaced (cnp_fields header.now.version header.now.cnp ++ word_fields header.now.words) }
 {
@@ -291,6 +291,9 @@ fn add_words(out: &mut ArrayVec<u8, 200>, header: &Header)
     }
     if header.words.inorder {
         add_word_field(out, b"inorder");
+    }
+    if header.words.isolated {
+        add_word_field(out, b"isolated");
     }
 }
 

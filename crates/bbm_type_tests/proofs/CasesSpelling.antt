@@ -37,7 +37,7 @@ hyp version pes pages =
 abbrev kernel : ℕ → Bool → Bool → Bool → Heading
 kernel version cnp unflushed inorder =
     let world : World = Kernel (record { start0 = 2; start1 = 0; asid_from = from.Ttbr1 }) in
-    let words : HeaderWords = record { unflushed = unflushed; inorder = inorder } in
+    let words : HeaderWords = record no_words { unflushed = unflushed; inorder = inorder } in
     record { version = version; pes = 2; cnp = cnp; words = words; world = world }
 
 unfoldable pub header_cause : String → Option Malformed
@@ -51,6 +51,9 @@ pub headers : Gives header_cause (
     ∷ ("bbmlog 4 kernel 128 0 2 ttbr1 cnp", None)
     ∷ ("bbmlog 5 hyp 128 1 1 1", None)
     ∷ ("bbmlog 5 hyp 2 1 1 1 cnp unflushed", None)
+    ∷ ("bbmlog 5 hyp 2 1 1 1 isolated", None)
+    ∷ ("bbmlog 5 hyp 2 1 1 1 cnp isolated", None)
+    ∷ ("bbmlog 5 hyp 2 1 1 1 cnp unflushed isolated", None)
     ∷ ("bbmlog 5 kernel 2 0 0 ttbr1 cnp", None)
     ∷ ("bbmlog 5 kernel 2 1 1 ttbr0 unflushed", None)
     ∷ ("bbmlog 5 kernel 2 1 1 ttbr1 inorder", None)
@@ -84,6 +87,7 @@ pub headers : Gives header_cause (
     ∷ ("bbmlog 4 kernel 2 1 1 ttbr0", Some BadHeader)
     ∷ ("bbmlog 4 hyp 2 1 1 1 unflushed", Some BadHeader)
     ∷ ("bbmlog 4 hyp 2 1 1 1 cnp unflushed", Some BadHeader)
+    ∷ ("bbmlog 4 hyp 2 1 1 1 cnp isolated", Some BadHeader)
     ∷ ("bbmlog 4 kernel 2 1 1 ttbr1 - inorder", Some BadHeader)
     ∷ ("bbmlog 5 hyp 129 1 1 1", Some BadHeader)
     ∷ ("bbmlog 5 hyp 2 1 1", Some BadHeader)
@@ -97,7 +101,10 @@ pub headers : Gives header_cause (
     ∷ ("bbmlog 5 hyp 2 1 1 1 unflushed unflushed", Some BadHeader)
     ∷ ("bbmlog 5 hyp 2 1 1 1 unflushed ", Some BadHeader)
     ∷ ("bbmlog 5 hyp 2 1 1 1 unflush", Some BadHeader)
-    ∷ ("bbmlog 5 hyp 2 1 1 1 isolated", Some BadHeader)
+    ∷ ("bbmlog 5 hyp 2 1 1 1 isolated isolated", Some BadHeader)
+    ∷ ("bbmlog 5 hyp 2 1 1 1 isolated unflushed", Some BadHeader)
+    ∷ ("bbmlog 5 hyp 2 1 1 1 isolated cnp", Some BadHeader)
+    ∷ ("bbmlog 5 hyp 2 1 1 1 isolated ", Some BadHeader)
     ∷ ("bbmlog 5 hyp 2 1 1 1 inorder", Some BadHeader)
     ∷ ("bbmlog 5 hyp 2 1 1 1 unflushed inorder", Some BadHeader)
     ∷ ("bbmlog 5 kernel 2 1 1 ttbr1 isolated", Some BadHeader)
@@ -301,6 +308,11 @@ pub header_lines : Gives header_line (
     ∷ (hyp 5 2 1, codes "bbmlog 5 hyp 2 1 1 1")
     ∷ (record (hyp 5 2 1) { cnp = true }, codes "bbmlog 5 hyp 2 1 1 1 cnp")
     ∷ (record (hyp 5 2 1) { words = record no_words { unflushed = true } }, codes "bbmlog 5 hyp 2 1 1 1 unflushed")
+    ∷ (record (hyp 5 2 1) { words = record no_words { isolated = true } }, codes "bbmlog 5 hyp 2 1 1 1 isolated")
+    ∷ (
+      record (hyp 5 2 1) { cnp = true; words = record no_words { unflushed = true; isolated = true } },
+      codes "bbmlog 5 hyp 2 1 1 1 cnp unflushed isolated",
+    )
     ∷ (kernel 1 false false false, codes "bbmlog 1 kernel 2 2 0 ttbr1")
     ∷ (kernel 5 true true false, codes "bbmlog 5 kernel 2 2 0 ttbr1 cnp unflushed")
     ∷ (kernel 5 false false true, codes "bbmlog 5 kernel 2 2 0 ttbr1 inorder")
