@@ -13,7 +13,7 @@ use Rattle.bbm_rules.specs.declared.rule.Rule.{Rule}
 use Rattle.bbm_rules.specs.declared.rule.Rule.TheVariants.{WrongWorld, NoLock, NullWritten, BreakBeforeMake, LimboMake}
 use Rattle.bbm_rules.specs.declared.rule.Rule.TheVariants.{NotFresh, RewrittenFresh, BadKind, GlobalUser, PageInUse}
 use Rattle.bbm_rules.specs.declared.rule.Rule.TheVariants.{NoRoot, TagConflict, RootInUse, UnsyncedVmid, BadOperand}
-use Rattle.bbm_rules.specs.declared.rule.Rule.TheVariants.{LockBusy, LockNotMine}
+use Rattle.bbm_rules.specs.declared.rule.Rule.TheVariants.{LockBusy, LockNotMine, TableMapped}
 use Rattle.bbm_rules.specs.Broken.{broken, rules}
 use Rattle.bbm_rules.specs.Claims.{Patterns}
 use Rattle.bbm_gen.specs.Generated.{heading}
@@ -66,6 +66,7 @@ tlbi_free h p xt op scope world vmid decoded UnsyncedVmid = rw vmid refl
 tlbi_free h p xt op scope world vmid decoded BadOperand = rw decoded refl
 tlbi_free h p xt op scope world vmid decoded LockBusy = refl
 tlbi_free h p xt op scope world vmid decoded LockNotMine = refl
+tlbi_free h p xt op scope world vmid decoded TableMapped = refl
 
 -- ---- writes at a root
 
@@ -121,3 +122,4 @@ module _ (h : List Noted) (kind : Kind) (root pe place value : ℕ) (k : Plain h
   write_free BadOperand = refl
   write_free LockBusy = refl
   write_free LockNotMine = refl
+  write_free TableMapped = refl

@@ -31,6 +31,7 @@ pub(crate) fn rule_words(rule: Rule) -> &'static [u8]
         Rule::BadOperand => b"15 bad-operand",
         Rule::LockBusy => b"16 lock-busy",
         Rule::LockNotMine => b"17 lock-not-mine",
+        Rule::TableMapped => b"18 table-mapped",
     }
 }
 

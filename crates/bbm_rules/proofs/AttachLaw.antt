@@ -2,8 +2,8 @@
 use Rattle.bbm_rules.proofs.Common.{◌≡◌, ℕ, zero, suc, ◌+◌, ◌-◌, ◌<◌, ◌≤◌, Bool, true, false, not, List, [], ◌∷◌, ◌++◌}
 use Rattle.bbm_rules.proofs.Common.{length, Option, Some, None, Contains, flat_map, filter_map, map, option_and_then}
 use Rattle.bbm_rules.proofs.Common.{option_to_list, true≢false, ◌&&◌, ◌==◌, refl, sym, ◌∙◌, ap, subst, inl, inr, arith}
-use Rattle.bbm_rules.proofs.Common.{and_from, eq-eqb, not_from_false, Kind, desc_of, Desc, In, from_contains, in_left}
-use Rattle.bbm_rules.proofs.Common.{in_right, to_filter, to_flat, Attached, End, all_ends, attached_by, attached_from}
+use Rattle.bbm_rules.proofs.Common.{and_from, eq-eqb, not_from_false, Kind, desc_of, Desc, In, from_contains, from_map}
+use Rattle.bbm_rules.proofs.Common.{in_append, in_left, in_right, to_contains, zero-le, to_filter, to_flat, Attached, End, all_ends, attached_by, attached_from}
 use Rattle.bbm_rules.proofs.Common.{end_at, ends_below, pages_of, Trust, if_so, repeated, is_global, page_of, Noted}
 use Rattle.bbm_rules.proofs.Common.{events_of, is_fresh, root_pages, same_kind, attached_with, bad_ends, global_user}
 use Rattle.bbm_rules.proofs.Common.{judged_ends, not_fresh, page_in_use, places_with, unfresh, untracked_page}
@@ -13,9 +13,9 @@ use Rattle.bbm_events.specs.Heading.{Heading}
 use Rattle.bbm_events.specs.declared.event.Event.{Event}
 use Rattle.bbm_events.specs.declared.event.Event.TheVariants.{Root, Write}
 use Rattle.bbm_lemmas.proofs.Words.{Apart, apart}
-use Rattle.bbm_lemmas.proofs.Elements.{none_in}
+use Rattle.bbm_lemmas.proofs.Elements.{from_flat, none_in}
 use Rattle.bbm_rules.proofs.ListLemmas.{Parted, append_none, in_pages, least_none, parted, place_apart, same_place}
-use Rattle.bbm_rules.proofs.TreeLaw.{below_fresh, ends_from, one_more, path_to_end, place_of_table, written_by}
+use Rattle.bbm_rules.proofs.TreeLaw.{below_fresh, ends_from, one_more, path_from, path_to_end, place_of_table, written_by}
 use Rattle.bbm_rules.specs.TreeSentences.{Leads}
 
 all_some : (ns : List ℕ) → filter_map (λ (n : ℕ). Some n) ns ≡ ns
@@ -137,11 +137,11 @@ module _ (heading : Heading) (trust : Trust) (h : List Noted) where
   in_firsts level (p ∷ pages) page (inr i) = inr (in_firsts level pages page i)
 
   in_deepers : (kind : Kind) (level : ℕ) (pages : List ℕ) (page place : ℕ) (places : List ℕ) (e : End) → In pages page
-      → level + length (place ∷ places) < 4 → Leads heading trust h kind level page (place ∷ places) e
+      → length (place ∷ places) ≤ 3 - level → Leads heading trust h kind level page (place ∷ places) e
       → In (deepers kind level pages) e
   in_deepers kind level pages page place places e i short l =
       to_flat (ends_below heading trust h kind (3 - level) level) pages page e i
-      (below_end (3 - level) kind level page place places e (omega arith) l)
+      (below_end (3 - level) kind level page place places e short l)
 
   judged_has : (e : Event) (a : Attached) (x : End) → In a.deeper x → In (judged_ends e a) x
   judged_has (Root pe kind lock page) a x i = i
@@ -156,7 +156,7 @@ module _ (heading : Heading) (trust : Trust) (h : List Noted) where
       let a : Attached = attached_from heading trust h kind level pages in
       let k : Judged e a = attaches e a is none in
       all_fresh (pages_of (judged_ends e a)) end.page k.judged (in_pages (judged_ends e a) end (judged_has e a end
-      (in_deepers kind level pages page place places end (from_contains pages page c) short l)))
+      (in_deepers kind level pages page place places end (from_contains pages page c) (omega arith) l)))
 
   pub written_fresh : (pe place value : ℕ) (kind : Kind) (level : ℕ) (pages : List ℕ)
       → attached_by heading trust h (Write pe place value) ≡ Some (attached_from heading trust h kind level pages)
@@ -183,10 +183,10 @@ module _ (heading : Heading) (trust : Trust) (h : List Noted) where
       (ap (λ (x : End). x.page) l ∙ (same ∙ sym (ap (λ (x : End). x.page) l')), refl)
   single_of kind level pages page page' [] (q ∷ qs) e e' k i i' short short' l l' same =
       absurd (k.between (end_at level page) e' (in_firsts level pages page i)
-      (in_deepers kind level pages page' q qs e' i' short' l') (ap (λ (x : End). x.page) l ∙ same))
+      (in_deepers kind level pages page' q qs e' i' (omega arith) l') (ap (λ (x : End). x.page) l ∙ same))
   single_of kind level pages page page' (p ∷ ps) [] e e' k i i' short short' l l' same =
       absurd (k.between (end_at level page') e (in_firsts level pages page' i')
-      (in_deepers kind level pages page p ps e i short l) (ap (λ (x : End). x.page) l' ∙ sym same))
+      (in_deepers kind level pages page p ps e i (omega arith) l) (ap (λ (x : End). x.page) l' ∙ sym same))
   single_of kind level pages page page' (p ∷ ps) (q ∷ qs) e e' k i i' short short' l l' same =
       let below : ℕ → List End = ends_below heading trust h kind (3 - level) level in
       let parts : Apart (pages_of (flat_map below (filter_map (λ (n : ℕ). Some n) pages)))
@@ -213,17 +213,37 @@ module _ (heading : Heading) (trust : Trust) (h : List Noted) where
       (parted (firsts level pages) (deepers kind level pages) (apart (pages_of (all_ends a)) k.single))
       (from_contains pages page c) (from_contains pages page' c') short short' l l' same
 
-  -- ---- leaves of the lower range
-
   -- the ends of paths are those of the attached pages
   in_all : (kind : Kind) (level : ℕ) (pages : List ℕ) (page : ℕ) (places : List ℕ) (e : End) → In pages page
-      → level + length places < 4 → Leads heading trust h kind level page places e
+      → length places ≤ 3 - level → Leads heading trust h kind level page places e
       → In (all_ends (attached_from heading trust h kind level pages)) e
   in_all kind level pages page [] e i short same =
       in_left (firsts level pages) (deepers kind level pages) e
       (subst (λ (x : End). In (firsts level pages) x) same (in_firsts level pages page i))
   in_all kind level pages page (place ∷ places) e i short l =
       in_right (firsts level pages) (deepers kind level pages) e (in_deepers kind level pages page place places e i short l)
+
+  pub to_attached : (kind : Kind) (level : ℕ) (pages : List ℕ) (page : ℕ) (places : List ℕ) (e : End) → Contains pages page
+      → length places ≤ 3 - level → Leads heading trust h kind level page places e
+      → Contains (all_ends (attached_from heading trust h kind level pages)) e
+  to_attached kind level pages page places e c short l =
+      to_contains (all_ends (attached_from heading trust h kind level pages)) e
+      (in_all kind level pages page places e (from_contains pages page c) short l)
+
+  pub from_attached : (kind : Kind) (level : ℕ) (pages : List ℕ) (e : End)
+      → Contains (all_ends (attached_from heading trust h kind level pages)) e → (page : ℕ) × Contains pages page
+      × (places : List ℕ) × (length places ≤ 3 - level) × Leads heading trust h kind level page places e
+  from_attached kind level pages e c =
+      elim (in_append (firsts level pages) (deepers kind level pages) e
+      (from_contains (all_ends (attached_from heading trust h kind level pages)) e c)) [
+        | inl first ↦ let p = from_map (end_at level) pages e first in (p.0, to_contains pages p.0 p.1, [], zero-le, p.2)
+        | inr deeper ↦
+            let p = from_flat (ends_below heading trust h kind (3 - level) level) pages e deeper in
+            let l = path_from heading trust h (3 - level) kind level p.0 e (inr p.2) in
+            (p.0, to_contains pages p.0 p.1, l.0, l.1, l.2)
+      ]
+
+  -- ---- leaves of the lower range
 
   -- the test of the rule
   abbrev is_lower_global : Kind → Desc → Bool
@@ -285,5 +305,5 @@ module _ (heading : Heading) (trust : Trust) (h : List Noted) where
       by true g =
           absurd (none_in (attached_with is_lower_global (events_of h) (attached_from heading trust h Ttbr0 level pages)) place none_there
           (to_flat (places_with is_lower_global Ttbr0 (events_of h)) (all_ends (attached_from heading trust h Ttbr0 level pages)) end place
-          (in_all Ttbr0 level pages page places end (from_contains pages page c) short l)
+          (in_all Ttbr0 level pages page places end (from_contains pages page c) (omega arith) l)
           (to_filter (λ (x : ℕ). is_lower_global Ttbr0 (desc_of Ttbr0 end.level (value_of (events_of h) x))) (places_in (events_of h) end.page) place (written g) g)))

@@ -10,6 +10,7 @@ pub mod CasesCovers
 pub mod CasesKernel
 pub mod CasesTrees
 pub mod CasesFresh
+pub mod CasesMapped
 pub mod CasesRegisters
 pub mod CasesTags
 pub mod CasesLocks
@@ -55,6 +56,7 @@ pub mod HeldLaw
 pub mod TreeLemmas
 pub mod TreeLaw
 pub mod AttachLaw
+pub mod MappedLaw
 pub mod ReadsLaw
 pub mod NullLaw
 pub mod Twice

@@ -9,7 +9,7 @@ use Rattle.bbm_rules.specs.declared.rule.Rule.{Rule}
 use Rattle.bbm_rules.specs.declared.rule.Rule.TheVariants.{WrongWorld, NoLock, NullWritten, BreakBeforeMake, LimboMake}
 use Rattle.bbm_rules.specs.declared.rule.Rule.TheVariants.{NotFresh, RewrittenFresh, BadKind, GlobalUser, PageInUse}
 use Rattle.bbm_rules.specs.declared.rule.Rule.TheVariants.{NoRoot, TagConflict, RootInUse, UnsyncedVmid, BadOperand}
-use Rattle.bbm_rules.specs.declared.rule.Rule.TheVariants.{LockBusy, LockNotMine}
+use Rattle.bbm_rules.specs.declared.rule.Rule.TheVariants.{LockBusy, LockNotMine, TableMapped}
 use Rattle.bbm_rules.specs.Broken.{broken, rules}
 
 -- a rule that names nothing isn't broken
@@ -35,6 +35,7 @@ listed UnsyncedVmid = inr (inr (inr (inr (inr (inr (inr (inr (inr (inr (inr (inr
 listed BadOperand = inr (inr (inr (inr (inr (inr (inr (inr (inr (inr (inr (inr (inr (inr (inl refl))))))))))))))
 listed LockBusy = inr (inr (inr (inr (inr (inr (inr (inr (inr (inr (inr (inr (inr (inr (inr (inl refl)))))))))))))))
 listed LockNotMine = inr (inr (inr (inr (inr (inr (inr (inr (inr (inr (inr (inr (inr (inr (inr (inr (inl refl))))))))))))))))
+listed TableMapped = inr (inr (inr (inr (inr (inr (inr (inr (inr (inr (inr (inr (inr (inr (inr (inr (inr (inl refl)))))))))))))))))
 
 -- a broken rule, or else the first that is broken of the others
 abbrev breach_or : Rule → Option ℕ → Option Breach → Option Breach
@@ -49,7 +50,7 @@ none_from None e = refl
 none_from (Some x) e = absurd (true≢false (sym e))
 
 module _ (heading : Heading) (trust : Trust) where
-  -- the event breaks none of the seventeen rules
+  -- the event breaks none of the eighteen rules
   abbrev pub Unbroken : List Noted → Event → Type 0
   Unbroken h e = (r : Rule) → breaks heading trust h e r ≡ None
 

@@ -6,13 +6,13 @@ use Rattle.bbm_rules.specs.declared.rule.Rule.{Rule}
 use Rattle.bbm_rules.specs.declared.rule.Rule.TheVariants.{WrongWorld, NoLock, NullWritten, BreakBeforeMake, LimboMake}
 use Rattle.bbm_rules.specs.declared.rule.Rule.TheVariants.{NotFresh, RewrittenFresh, BadKind, GlobalUser, PageInUse}
 use Rattle.bbm_rules.specs.declared.rule.Rule.TheVariants.{NoRoot, TagConflict, RootInUse, UnsyncedVmid, BadOperand}
-use Rattle.bbm_rules.specs.declared.rule.Rule.TheVariants.{LockBusy, LockNotMine}
+use Rattle.bbm_rules.specs.declared.rule.Rule.TheVariants.{LockBusy, LockNotMine, TableMapped}
 use Rattle.bbm_rules.specs.Claims.{Trust}
 use Rattle.bbm_rules.specs.Covers.{noted}
 use Rattle.bbm_rules.specs.Notes.{Noted}
 use Rattle.bbm_rules.specs.Rules.{wrong_world, no_lock, null_written, break_before_make, limbo_make, not_fresh}
 use Rattle.bbm_rules.specs.Rules.{rewritten_fresh, bad_kind, global_user, page_in_use, no_root, tag_conflict}
-use Rattle.bbm_rules.specs.Rules.{root_in_use, unsynced_vmid, bad_operand, lock_busy, lock_not_mine}
+use Rattle.bbm_rules.specs.Rules.{root_in_use, unsynced_vmid, bad_operand, lock_busy, lock_not_mine, table_mapped}
 
 -- a broken rule, with the number that is reported with it
 pub record Breach : Type 0 where
@@ -23,7 +23,8 @@ pub record Breach : Type 0 where
 abbrev pub rules : List Rule
 rules =
     WrongWorld ∷ NoLock ∷ NullWritten ∷ BreakBeforeMake ∷ LimboMake ∷ NotFresh ∷ RewrittenFresh ∷ BadKind ∷ GlobalUser
-    ∷ PageInUse ∷ NoRoot ∷ TagConflict ∷ RootInUse ∷ UnsyncedVmid ∷ BadOperand ∷ LockBusy ∷ LockNotMine ∷ []
+    ∷ PageInUse ∷ NoRoot ∷ TagConflict ∷ RootInUse ∷ UnsyncedVmid ∷ BadOperand ∷ LockBusy ∷ LockNotMine
+    ∷ TableMapped ∷ []
 
 module _ (heading : Heading) (trust : Trust) where
   -- whether the event breaks the rule, after an annotated history
@@ -45,6 +46,7 @@ module _ (heading : Heading) (trust : Trust) where
   breaks h e BadOperand = bad_operand heading trust h e
   breaks h e LockBusy = lock_busy heading trust h e
   breaks h e LockNotMine = lock_not_mine heading trust h e
+  breaks h e TableMapped = table_mapped heading trust h e
 
   abbrev pub first_broken : List Noted → Event → List Rule → Option Breach
   first_broken h e [] = None

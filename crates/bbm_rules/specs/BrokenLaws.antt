@@ -6,15 +6,16 @@ use Rattle.bbm_rules.specs.Attach.{End, attached_by, attached_from}
 use Rattle.bbm_rules.specs.Broken.{breaks, keeps}
 use Rattle.bbm_rules.specs.Claims.{Trust}
 use Rattle.bbm_rules.specs.Covers.{cover_at, is_global, noted}
+use Rattle.bbm_rules.specs.Mapped.{is_clean, table_pages}
 use Rattle.bbm_rules.specs.Notes.{Noted, events_of}
 use Rattle.bbm_rules.specs.Places.{page_of}
-use Rattle.bbm_rules.specs.Rules.{global_user}
+use Rattle.bbm_rules.specs.Rules.{global_user, made_tables, puts_over, table_mapped}
 use Rattle.bbm_rules.specs.Tree.{Node, node_of}
 use Rattle.bbm_rules.specs.TreeSentences.{Leads}
 use Rattle.bbm_rules.specs.Values.{value_of}
 use Rattle.bbm_rules.specs.declared.rule.Rule.{Rule}
 
--- A log keeps the rules exactly where each event breaks none of the seventeen rules, each asked by itself, after the
+-- A log keeps the rules exactly where each event breaks none of the eighteen rules, each asked by itself, after the
 -- events before it.
 pub record EachRule (heading : Heading) (trust : Trust) : Type 0 where
   pub sound : (h newer older : List Event) (e : Event) → keeps heading trust h ≡ true → h ≡ newer ++ e ∷ older
@@ -34,6 +35,18 @@ pub record NoGlobalUser (heading : Heading) (trust : Trust) : Type 0 where
       → global_user heading trust h e ≡ None → (page place : ℕ) (places : List ℕ) (end : End) → Contains pages page
       → level + length places < 4 → Leads heading trust h Ttbr0 level page places end → page_of place ≡ end.page
       → is_global (desc_of Ttbr0 end.level (value_of (events_of h) place)) ≡ false
+
+-- The event puts no leaf over a table page, nor over one that it makes so; and each page that it makes so is clean.
+pub record KeepsTables (heading : Heading) (trust : Trust) (h : List Noted) (e : Event) : Type 0 where
+  pub unmapped : (page : ℕ) → Contains (table_pages heading trust h ++ made_tables heading trust h e) page
+      → puts_over heading trust h e page ≡ false
+  pub clean : (page : ℕ) → Contains (made_tables heading trust h e) page → is_clean heading trust h page ≡ true
+
+-- Where the header has `isolated`, an event doesn't break the rule on table pages exactly where it keeps them.
+pub record NoTableMapped (heading : Heading) (trust : Trust) : Type 0 where
+  pub sound : (h : List Noted) (e : Event) → heading.words.isolated ≡ true → table_mapped heading trust h e ≡ None
+      → KeepsTables heading trust h e
+  pub complete : (h : List Noted) (e : Event) → KeepsTables heading trust h e → table_mapped heading trust h e ≡ None
 
 -- The annotated history of a history ends in that of its older part. Each event in it stands with what it covered by
 -- the notes before it, and with its position, which counts the events before it and itself.

@@ -10,6 +10,7 @@ pub mod Held
 pub mod Limits
 pub mod Lists
 pub mod Locks
+pub mod Mapped
 pub mod Notes
 pub mod Outcome
 pub mod Pages

@@ -1,9 +1,9 @@
--- The seventeen rules. Each says whether an event breaks it after h, the annotated history, newest first: None where
+-- The eighteen rules. Each says whether an event breaks it after h, the annotated history, newest first: None where
 -- it doesn't, else the number that is reported as `at`, an address, or the number of a PE or a lock. The sentences
 -- are those of docs/RULES.md. Source: project's own choice, but for rule 4.
 use Rattle.std.specs.Result.{result_ok}
 use Rattle.std.specs.Prelude.{ℕ, ◌%◌, Bool, false, ◌&&◌, ◌||◌, not, ◌==◌, nat_le, nat_lt, List, [], ◌∷◌, ◌++◌, length}
-use Rattle.std.specs.Prelude.{Option, None, is_none, filter, flat_map, map, option_to_list}
+use Rattle.std.specs.Prelude.{Option, None, is_none, filter, flat_map, map, option_to_list, if◌then◌else◌}
 use Rattle.bbm_descriptor.specs.Descriptor.{desc_of, is_valid, needs}
 use Rattle.bbm_descriptor.specs.declared.desc.Desc.{Desc}
 use Rattle.bbm_descriptor.specs.declared.desc.Desc.TheVariants.{Leaf}
@@ -16,6 +16,7 @@ use Rattle.bbm_rules.specs.Attach.{Attached, End, all_ends, attached_by, pages_o
 use Rattle.bbm_rules.specs.Claims.{Trust}
 use Rattle.bbm_rules.specs.Covers.{is_global}
 use Rattle.bbm_rules.specs.Locks.{holder_of}
+use Rattle.bbm_rules.specs.Mapped.{is_clean, maps, table_pages}
 use Rattle.bbm_rules.specs.Notes.{Noted, events_of}
 use Rattle.bbm_rules.specs.Pages.{is_fresh, is_null}
 use Rattle.bbm_rules.specs.Lists.{◌>>=◌, any, if_so, is_that, least, repeated, some_pe}
@@ -218,3 +219,35 @@ module _ (heading : Heading) (trust : Trust) (h : List Noted) where
   abbrev pub lock_not_mine : Event → Option ℕ
   lock_not_mine (Unlock pe lock) = if_so (lacks (events_of h) pe lock) lock
   lock_not_mine _ = None
+
+  -- 18, table-mapped: under a header with `isolated`, it puts a leaf of stage 2 into a tree that maps a table page or
+  -- one that it makes so, or it makes a page a table page that isn't clean. At: the least such page.
+  abbrev pub made_tables : Event → List ℕ
+  made_tables e = flat_map (λ a. pages_of (all_ends a)) (option_to_list (attached_by heading trust h e))
+
+  -- whether the event writes a leaf of stage 2 that maps the page, or attaches one
+  abbrev pub writes_over : Event → ℕ → Bool
+  writes_over (Write pe place value) page =
+      any (λ n. maps n.kind n.level value page) (option_to_list (node_of heading trust h (page_of place)))
+  writes_over _ page = false
+
+  abbrev pub end_over : Kind → ℕ → End → Bool
+  end_over kind page end =
+      any (λ place. maps kind end.level (value_of (events_of h) place) page) (places_in (events_of h) end.page)
+
+  abbrev pub puts_over : Event → ℕ → Bool
+  puts_over e page = writes_over e page
+      || any (λ a. any (end_over a.kind page) (all_ends a)) (option_to_list (attached_by heading trust h e))
+
+  abbrev pub bad_tables : Event → List ℕ
+  bad_tables e = filter (puts_over e) (table_pages heading trust h ++ made_tables e)
+      ++ filter (λ page. not (is_clean heading trust h page)) (made_tables e)
+
+  abbrev pub mapped_table : Event → Option ℕ
+  mapped_table e = if heading.words.isolated then least (bad_tables e) else None
+
+  -- a write and a `root` alone can break it
+  abbrev pub table_mapped : Event → Option ℕ
+  table_mapped (Write pe place value) = mapped_table (Write pe place value)
+  table_mapped (Root pe kind lock page) = mapped_table (Root pe kind lock page)
+  table_mapped _ = None

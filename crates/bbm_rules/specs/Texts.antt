@@ -14,7 +14,7 @@ use Rattle.bbm_rules.specs.declared.rule.Rule.{Rule}
 use Rattle.bbm_rules.specs.declared.rule.Rule.TheVariants.{WrongWorld, NoLock, NullWritten, BreakBeforeMake, LimboMake}
 use Rattle.bbm_rules.specs.declared.rule.Rule.TheVariants.{NotFresh, RewrittenFresh, BadKind, GlobalUser, PageInUse}
 use Rattle.bbm_rules.specs.declared.rule.Rule.TheVariants.{NoRoot, TagConflict, RootInUse, UnsyncedVmid, BadOperand}
-use Rattle.bbm_rules.specs.declared.rule.Rule.TheVariants.{LockBusy, LockNotMine}
+use Rattle.bbm_rules.specs.declared.rule.Rule.TheVariants.{LockBusy, LockNotMine, TableMapped}
 use Rattle.bbm_rules.specs.declared.verdict.Verdict.{Verdict}
 use Rattle.bbm_rules.specs.declared.verdict.Verdict.TheVariants.{Accepted, Refused, Malformed, Limit}
 
@@ -37,6 +37,7 @@ rule_text UnsyncedVmid = codes "14 unsynced-vmid"
 rule_text BadOperand = codes "15 bad-operand"
 rule_text LockBusy = codes "16 lock-busy"
 rule_text LockNotMine = codes "17 lock-not-mine"
+rule_text TableMapped = codes "18 table-mapped"
 
 -- a cause's number and name
 abbrev pub cause_text : Cause → List ℕ

@@ -1,9 +1,10 @@
 -- What the laws of trees and of attached pages state. Source: project's own choice.
-use Rattle.std.specs.Prelude.{◌≡◌, ℕ, ◌+◌, ◌<◌, ◌≤◌, true, List, [], ◌∷◌, length, Option, Some, None, Contains}
+use Rattle.std.specs.Prelude.{◌≡◌, ℕ, ◌+◌, ◌-◌, ◌<◌, ◌≤◌, true, List, [], ◌∷◌, length, Option, Some, None, Contains}
 use Rattle.bbm_rules.specs.Prelude.{Event, Heading, Kind, Root, Write, kind_in_world, page_count, start_of}
 use Rattle.bbm_rules.specs.Attach.{End, all_ends, attached_by, attached_from, end_at, ends_below, pages_of}
 use Rattle.bbm_rules.specs.Claims.{Trust}
 use Rattle.bbm_rules.specs.Lists.{among, repeated}
+use Rattle.bbm_rules.specs.Mapped.{is_clean, is_mapped}
 use Rattle.bbm_rules.specs.Notes.{Noted}
 use Rattle.bbm_rules.specs.Pages.{is_fresh}
 use Rattle.bbm_rules.specs.PathSentences.{TwoPaths}
@@ -12,7 +13,7 @@ use Rattle.bbm_rules.specs.Roots.{Declared, root_pages}
 use Rattle.bbm_rules.specs.Rules.{not_fresh, page_in_use}
 use Rattle.bbm_rules.specs.Tree.{Node, held_at, in_limbo, in_tree, is_childless, next_of, node_below, node_of}
 use Rattle.bbm_rules.specs.Tree.{nodes_of_root, tree}
-use Rattle.bbm_rules.specs.TreeSentences.{Childless, InLimbo, IsNode, Leads}
+use Rattle.bbm_rules.specs.TreeSentences.{Childless, Clean, InLimbo, IsNode, Leads, Mapped}
 
 -- A node is one of the trees exactly where a path of held tables leads to it from a page of a declared root, at a level
 -- below 4; and so the page below a place of one that holds a table is in the trees. The node that is taken for a page
@@ -39,8 +40,18 @@ pub record ChildlessBySentence (heading : Heading) (trust : Trust) : Type 0 wher
   pub complete : (h : List Noted) (n : Node) (value : ℕ) → Childless heading trust h n value
       → is_childless heading trust h n value ≡ true
 
+-- A page is mapped exactly where a place of a page of a tree holds a leaf of stage 2 that maps it.
+pub record MappedBySentence (heading : Heading) (trust : Trust) : Type 0 where
+  pub sound : (h : List Noted) (page : ℕ) → is_mapped heading trust h page ≡ true → Mapped heading trust h page
+  pub complete : (h : List Noted) (page : ℕ) → Mapped heading trust h page → is_mapped heading trust h page ≡ true
+
+-- A page is clean exactly where it was initialised, and was mapped at no moment since.
+pub record CleanBySentence (heading : Heading) (trust : Trust) : Type 0 where
+  pub sound : (h : List Noted) (page : ℕ) → is_clean heading trust h page ≡ true → Clean heading trust h page
+  pub complete : (h : List Noted) (page : ℕ) → Clean heading trust h page → is_clean heading trust h page ≡ true
+
 -- The ends that begin in a page are those to which a path leads: the page itself, and the ends of the paths of at most
--- so many places through fresh pages.
+-- so many places through fresh pages. So it is with the ends of attached pages, each of which begins in one of them.
 pub record PathsBySentence (heading : Heading) (trust : Trust) : Type 0 where
   pub sound : (h : List Noted) (left : ℕ) (kind : Kind) (level page : ℕ) (end : End)
       → Contains (end_at level page ∷ ends_below heading trust h kind left level page) end → (places : List ℕ)
@@ -48,6 +59,12 @@ pub record PathsBySentence (heading : Heading) (trust : Trust) : Type 0 where
   pub complete : (h : List Noted) (left : ℕ) (kind : Kind) (level page : ℕ) (places : List ℕ) (end : End)
       → length places ≤ left → Leads heading trust h kind level page places end
       → Contains (end_at level page ∷ ends_below heading trust h kind left level page) end
+  pub from_attached : (h : List Noted) (kind : Kind) (level : ℕ) (pages : List ℕ) (end : End)
+      → Contains (all_ends (attached_from heading trust h kind level pages)) end → (page : ℕ) × Contains pages page
+      × (places : List ℕ) × (length places ≤ 3 - level) × Leads heading trust h kind level page places end
+  pub to_attached : (h : List Noted) (kind : Kind) (level : ℕ) (pages : List ℕ) (page : ℕ) (places : List ℕ) (end : End)
+      → Contains pages page → length places ≤ 3 - level → Leads heading trust h kind level page places end
+      → Contains (all_ends (attached_from heading trust h kind level pages)) end
 
 -- A page is repeated among the ends of the paths of an event's attached pages exactly where two different paths end in
 -- it.

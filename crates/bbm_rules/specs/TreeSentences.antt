@@ -1,12 +1,13 @@
--- Trees, limbo, childless, fresh and the paths of attached pages once more, as sentences. `law_tree`, `law_limbo`,
--- `law_childless`, `law_fresh` and `law_paths` say that they say the same. Source: Arm ARM (DDI 0487), "VMSAv8-64
--- translation table walks", of trees; else the project's own choice.
+-- Trees, limbo, childless, fresh, mapped, clean and the paths of attached pages once more, as sentences. `law_tree`,
+-- `law_limbo`, `law_childless`, `law_fresh`, `law_mapped`, `law_clean` and `law_paths` say that they say the same.
+-- Source: Arm ARM (DDI 0487), "VMSAv8-64 translation table walks", of trees; else the project's own choice.
 use Rattle.std.specs.Prelude.{◌≡◌, ℕ, suc, ◌<◌, false, true, List, [], ◌∷◌, ◌++◌, Some, None, Contains}
 use Rattle.bbm_descriptor.specs.Descriptor.{is_valid}
 use Rattle.bbm_rules.specs.Prelude.{Kind, Heading, Init, Null}
 use Rattle.bbm_rules.specs.Attach.{End, end_at}
 use Rattle.bbm_rules.specs.Claims.{Trust}
 use Rattle.bbm_rules.specs.Held.{held}
+use Rattle.bbm_rules.specs.Mapped.{is_mapped, maps}
 use Rattle.bbm_rules.specs.Notes.{Noted, events_of}
 use Rattle.bbm_rules.specs.Pages.{is_fresh}
 use Rattle.bbm_rules.specs.Places.{page_of}
@@ -55,6 +56,27 @@ module _ (heading : Heading) (trust : Trust) (h : List Noted) where
         → in_tree heading trust (moment ++ init ∷ older) page ≡ false
     pub no_null : (q : ℕ) (n : Noted) (after before : List Noted) → newer ≡ after ++ n ∷ before
         → n.event ≡ Null q page → ⊥
+
+  -- Mapped: a place of a page of a tree holds a leaf of stage 2 that maps the page.
+  pub record Mapped (page : ℕ) : Type 0 where
+    pub node : Node
+    pub is_node : IsNode node
+    pub place : ℕ
+    pub inside : page_of place ≡ node.page
+    pub value : ℕ
+    pub holds : held_at heading trust h node place ≡ Some value
+    pub maps_page : maps node.kind node.level value page ≡ true
+
+  -- Clean: the page was initialised, and was mapped at no moment since, that of the init included.
+  pub record Clean (page : ℕ) : Type 0 where
+    pub pe : ℕ
+    pub init : Noted
+    pub newer : List Noted
+    pub older : List Noted
+    pub split : h ≡ newer ++ init ∷ older
+    pub made : init.event ≡ Init pe page
+    pub unmapped : (after moment : List Noted) → newer ≡ after ++ moment
+        → is_mapped heading trust (moment ++ init ∷ older) page ≡ false
 
   -- Path of attached pages: it begins in a page that is read at a level, and goes by these places through the table
   -- values of places of fresh pages, level by level; the end is the last next page.

@@ -14,11 +14,11 @@ ghost use Rattle.bbm_rules.specs.declared.phase.Phase.TheVariants.{Clean};
 ghost use Rattle.bbm_rules.specs.declared.rule.Rule.TheVariants.{BreakBeforeMake};
 ghost use Rattle.bbm_rules.specs.Phases.{phase_of};
 ghost use Rattle.bbm_rules.specs.TreeSentences.{IsFresh};
-ghost use Rattle.bbm_rules.specs.BrokenLaws.{EachRule, NoGlobalUser, NotesOfOlder};
+ghost use Rattle.bbm_rules.specs.BrokenLaws.{EachRule, NoGlobalUser, NoTableMapped, NotesOfOlder};
 ghost use Rattle.bbm_rules.specs.HeldLaws.{CleansedBySentence, HalfBySentence, HeldBySentence, LastValidBySentence};
 ghost use Rattle.bbm_rules.specs.HeldLaws.{SeenBySentence};
-ghost use Rattle.bbm_rules.specs.TreeLaws.{AttachesFresh, ChildlessBySentence, LimboBySentence, PagesOfRoots};
-ghost use Rattle.bbm_rules.specs.TreeLaws.{PathsBySentence, TreeBySentence};
+ghost use Rattle.bbm_rules.specs.TreeLaws.{AttachesFresh, ChildlessBySentence, CleanBySentence, LimboBySentence};
+ghost use Rattle.bbm_rules.specs.TreeLaws.{MappedBySentence, PagesOfRoots, PathsBySentence, TreeBySentence};
 
 /// A place is seen exactly where some write of it is published to the PE. The law is `SeenBySentence`.
 pub fn law_seen()
@@ -76,8 +76,20 @@ pub fn law_fresh()
         IsFresh heading trust h page → is_fresh heading trust h page ≡ true }
 {}
 
+/// A page is mapped exactly where a place of a page of a tree holds a leaf of stage 2 that maps it. The law is
+/// `MappedBySentence`.
+pub fn law_mapped()
+    ensures { (heading : Heading) (trust : Trust) → MappedBySentence heading trust }
+{}
+
+/// A page is clean exactly where it was initialised, and was mapped at no moment since, that of the init included. The
+/// law is `CleanBySentence`.
+pub fn law_clean()
+    ensures { (heading : Heading) (trust : Trust) → CleanBySentence heading trust }
+{}
+
 /// The ends that begin in a page are those to which a path leads: the page itself, and the ends of the paths of at most
-/// so many places through fresh pages. The law is `PathsBySentence`.
+/// so many places through fresh pages; and so it is with the ends of attached pages. The law is `PathsBySentence`.
 pub fn law_paths()
     ensures { (heading : Heading) (trust : Trust) → PathsBySentence heading trust }
 {}
@@ -101,7 +113,13 @@ pub fn law_global_user()
     ensures { (heading : Heading) (trust : Trust) → NoGlobalUser heading trust }
 {}
 
-/// A log keeps the rules exactly where each event breaks none of the seventeen rules, each asked by itself, after the
+/// Where the header has `isolated`, an event doesn't break the rule on table pages exactly where it puts no leaf over a
+/// table page, nor over one that it makes so, and each page that it makes so is clean. The law is `NoTableMapped`.
+pub fn law_table_mapped()
+    ensures { (heading : Heading) (trust : Trust) → NoTableMapped heading trust }
+{}
+
+/// A log keeps the rules exactly where each event breaks none of the eighteen rules, each asked by itself, after the
 /// events before it. The law is `EachRule`.
 pub fn law_each_rule()
     ensures { (heading : Heading) (trust : Trust) → EachRule heading trust }

@@ -20,9 +20,9 @@ pub use event_laws::{
     law_readable_register, law_readable_standing, law_root, law_tag_set, law_vmid,
 };
 pub use history_laws::{
-    law_attaching, law_childless, law_cleansed, law_each_rule, law_fresh, law_global_user,
-    law_half, law_held, law_last_valid, law_limbo, law_notes, law_paths, law_refused_place,
-    law_root_pages, law_seen, law_tree,
+    law_attaching, law_childless, law_clean, law_cleansed, law_each_rule, law_fresh,
+    law_global_user, law_half, law_held, law_last_valid, law_limbo, law_mapped, law_notes,
+    law_paths, law_refused_place, law_root_pages, law_seen, law_table_mapped, law_tree,
 };
 pub use laws::{
     law_answered, law_notes_keep_the_events, law_readable_value, law_tag_held, law_tag_kept,

@@ -1,4 +1,4 @@
-//! The seventeen rules.
+//! The eighteen rules.
 
 /// A rule of table maintenance, with the number that the program prints. Of several rules that one
 /// event breaks the least is reported. Source: the manner of judging is the project's own choice; what
@@ -39,4 +39,6 @@ pub enum Rule {
     LockBusy = 16,
     /// 17, lock-not-mine.
     LockNotMine = 17,
+    /// 18, table-mapped.
+    TableMapped = 18,
 }
