@@ -14,10 +14,10 @@ use Rattle.bbm_histories.proofs.TreeSteps.{attached_fresh, not_fresh_there}
 
 module _ (heading : Heading) (trust : Trust) (b : Below heading trust) (h : List Noted) (i : Invariants heading trust h)
     (e : Event) (n : Node) (place : ℕ) (a : Attaches heading trust h e n) (inside : page_of place ≡ n.page) where
-  fresh : is_fresh heading trust h (page_of place) ≡ true
+  pub fresh : is_fresh heading trust h (page_of place) ≡ true
   fresh = subst (λ (x : ℕ). is_fresh heading trust h x ≡ true) (sym inside) (attached_fresh heading trust b h i.odd i.one e n a)
 
-  unwritten : (q v : ℕ) → e ≡ Write q place v → ⊥
+  pub unwritten : (q v : ℕ) → e ≡ Write q place v → ⊥
   unwritten q v is =
       let l = subst (λ (x : Event). Attaches heading trust h x n) is a in
       let k = b.tree.taken h (page_of place) l.parent l.is_parent in
@@ -27,7 +27,7 @@ module _ (heading : Heading) (trust : Trust) (b : Below heading trust) (h : List
   no_init q is = subst (λ (x : Event). Attaches heading trust h x n) is a
 
   -- the event leaves the value of the place
-  same_value : value_of (e ∷ events_of h) place ≡ value_of (events_of h) place
+  pub same_value : value_of (e ∷ events_of h) place ≡ value_of (events_of h) place
   same_value = by e refl
     where
       by : (x : Event) → e ≡ x → value_of (x ∷ events_of h) place ≡ value_of (events_of h) place

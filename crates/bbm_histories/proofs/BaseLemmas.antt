@@ -1,11 +1,11 @@
 -- What the bases of readable register values are.
 use Rattle.bbm_histories.proofs.Common.{Heading, Kind, PageInUse, Below, Proper}
-use Rattle.bbm_rules.proofs.Common.{◌≡◌, ℕ, ◌<◌, true, false, not, ◌==◌, List, [], ◌∷◌, Option, Some, sym, ◌∙◌, subst}
+use Rattle.bbm_rules.proofs.Common.{◌≡◌, ℕ, ◌<◌, true, false, not, ◌==◌, List, [], ◌∷◌, Option, Some, refl, sym, ◌∙◌, subst}
 use Rattle.bbm_rules.proofs.Common.{inl, inr, true≢false, Reg, Event, Root, Null, keeps, Trust, noted, among, is_fresh}
 use Rattle.bbm_rules.proofs.Common.{is_null, base_of, kind_of_reg, register_values, is_root, eqb-true, not-false}
 use Rattle.bbm_rules.proofs.Common.{or_cases, false_from_ne_true}
 use Rattle.bbm_histories.specs.TagSteps.{BasesStay, NamesRoots}
-use Rattle.bbm_histories.proofs.Induction.{Unbroken, last_kept}
+use Rattle.bbm_histories.proofs.Induction.{Unbroken, is_of_trees, last_kept}
 use Rattle.bbm_rules.proofs.RuleLemmas.{if_none}
 use Rattle.bbm_histories.proofs.TagLemmas.{Named, named, noted_too, null_not_fresh, planted_fresh, root_back}
 use Rattle.bbm_histories.proofs.TagLemmas.{root_not_fresh, root_on, unroot_misses}
@@ -42,12 +42,13 @@ module _ (heading : Heading) (trust : Trust) (b : Below heading trust) where
       → is_root h kind page ≡ true → ⊥
   null_unfresh proper h pe page kind kept root =
       let parts = last_kept heading trust b h (Null pe page) kept in
+      let asked : is_of_trees PageInUse ≡ true = refl in
       let r = b.root.of_kind h kind page root in
       root_not_fresh heading trust b proper h r.0 parts.0 r.1
       (subst (λ (x : ℕ). is_fresh heading trust (noted heading trust h) x ≡ true) (sym r.2)
       (not-false (is_fresh heading trust (noted heading trust h) page)
       (first_none (not (is_fresh heading trust (noted heading trust h) page)) _
-      (if_none _ page (parts.1 PageInUse)))))
+      (if_none _ page (parts.1 PageInUse asked)))))
 
   no_null_root : Proper heading → (h : List Event) → keeps heading trust h ≡ true → (kind : Kind) (page : ℕ)
       → is_null h page ≡ true → is_root h kind page ≡ true → ⊥

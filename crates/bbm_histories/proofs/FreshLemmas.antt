@@ -66,7 +66,7 @@ module _ (heading : Heading) (trust : Trust) where
       at == value)
       fresh (eq-eqb (value_of (events_of h) at % 2) 1 odd)
       (if_none (is_fresh heading trust h (page_of at) && value_of (events_of h) at % 2 == 1
-      && not (value_of (events_of h) at == value)) at (kept RewrittenFresh)))
+      && not (value_of (events_of h) at == value)) at (kept RewrittenFresh refl)))
 
   kept_value : (h : List Noted) (e : Event) (place value : ℕ) → Unbroken heading trust h e
       → ((q : ℕ) → e ≡ Init q (page_of place) → ⊥) → is_fresh heading trust h (page_of place) ≡ true

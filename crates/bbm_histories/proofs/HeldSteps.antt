@@ -146,7 +146,7 @@ module _ (heading : Heading) (trust : Trust) (h : List Noted) where
   same_core p pe at value old kept node holds =
       if_none (needs p.kind p.level old value) at
       (subst (λ (o : Option ℕ). option_and_then over o ≡ None) holds
-      (subst (λ (o : Option Node). option_and_then over_node o ≡ None) node (kept BreakBeforeMake)))
+      (subst (λ (o : Option Node). option_and_then over_node o ≡ None) node (kept BreakBeforeMake refl)))
     where
       over : ℕ → Option ℕ
       over v = if_so (needs p.kind p.level v value) at
@@ -159,7 +159,7 @@ module _ (heading : Heading) (trust : Trust) (h : List Noted) where
       → (in_tree heading trust h page ≡ false) × (is_null (events_of h) page ≡ false)
   init_outside pe page kept =
       or_parts (in_tree heading trust h page) (is_null (events_of h) page)
-      (if_none (in_tree heading trust h page || is_null (events_of h) page) page (kept PageInUse))
+      (if_none (in_tree heading trust h page || is_null (events_of h) page) page (kept PageInUse refl))
 
 module _ (heading : Heading) (trust : Trust) (b : Below heading trust) (h : List Noted) where
   -- What a place of a tree holds changes by a valid write of it, or by a DSB.

@@ -1,21 +1,30 @@
 -- The induction over a history that keeps the rules.
 use Rattle.bbm_histories.proofs.Common.{Heading, Event, Rule, Below}
-use Rattle.bbm_rules.proofs.Common.{◌≡◌, ℕ, Bool, true, false, List, [], ◌∷◌, ◌++◌, None, is_none, refl, ◌∙◌, ap}
-use Rattle.bbm_rules.proofs.Common.{and_from, and_parts, breaks, keeps, Trust, note, noted, if_so, Noted, events_of}
-use Rattle.bbm_rules.proofs.Common.{length, suc}
+use Rattle.bbm_rules.specs.declared.rule.Rule.TheVariants.{TableMapped}
+use Rattle.bbm_rules.proofs.Common.{◌≡◌, Bool, true, false, List, [], ◌∷◌, ◌++◌, None, is_none, refl, ◌∙◌, ap}
+use Rattle.bbm_rules.proofs.Common.{and_from, and_parts, breaks, keeps, Trust, note, noted, Noted, events_of}
+use Rattle.bbm_rules.proofs.Common.{length, suc, sym, true≢false}
 use Rattle.bbm_rules.specs.Broken.{broken}
 
+-- every rule but that on table pages, which asks the trees and what they hold, and says nothing of them
+abbrev pub is_of_trees : Rule → Bool
+is_of_trees TableMapped = false
+is_of_trees rule = true
+
 module _ (heading : Heading) (trust : Trust) where
-  -- the event breaks none of the seventeen rules
+  -- the event breaks none of these rules
   abbrev pub Unbroken : List Noted → Event → Type 0
-  Unbroken h e = (r : Rule) → breaks heading trust h e r ≡ None
+  Unbroken h e = (r : Rule) → is_of_trees r ≡ true → breaks heading trust h e r ≡ None
+
+  pub unbroken : (h : List Noted) (e : Event)
+      → ((rule : Rule) → (rule ≡ TableMapped → ⊥) → breaks heading trust h e rule ≡ None) → Unbroken h e
+  unbroken h e others rule other = others rule (λ same. true≢false (sym other ∙ ap is_of_trees same))
 
   pub last_kept : Below heading trust → (h : List Event) (e : Event) → keeps heading trust (e ∷ h) ≡ true
       → (keeps heading trust h ≡ true) × Unbroken (noted heading trust h) e
   last_kept b h e k = (
     (and_parts (keeps heading trust h) (is_none (broken heading trust h e)) k).0,
-    b.each_rule.sound (e ∷ h) [] h e k
-        refl,
+    λ r other. b.each_rule.sound (e ∷ h) [] h e k refl r,
   )
 
   -- an event that no rule refuses keeps the rules

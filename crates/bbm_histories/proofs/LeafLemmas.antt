@@ -25,7 +25,7 @@ module _ (heading : Heading) (trust : Trust) (b : Below heading trust) (h : List
       subst (λ (k : Kind). is_global (desc_of k n.level (value_of (events_of h) place)) ≡ false) (sym lower)
       (b.global_user.attached h (Write pe at value) (suc l.parent.level) (l.next ∷ [])
       (subst (λ (k : Kind). attached_by heading trust h (Write pe at value) ≡ Some (attached_from heading trust h k (suc l.parent.level) (l.next ∷ []))) kind
-      (write_attaches heading trust b h pe at value kept i.odd i.one l.parent l.next l.is_parent l.empty l.table)) (kept GlobalUser)
+      (write_attaches heading trust b h pe at value kept i.odd i.one l.parent l.next l.is_parent l.empty l.table)) (kept GlobalUser refl)
       l.next place l.places (end_at n.level n.page) (0, suc-le-suc zero-le, refl) (omega arith)
       (subst (λ (k : Kind). Leads heading trust h k (suc l.parent.level) l.next l.places (end_at n.level n.page)) kind
       (through_leads heading trust h l.places (node_below l.parent at l.next) n l.through)) inside)
@@ -39,7 +39,7 @@ module _ (heading : Heading) (trust : Trust) (b : Below heading trust) (h : List
       (b.global_user.attached h (Root pe kind lock page) (start_of heading.world kind)
       (root_pages heading.world kind page)
       (ap (λ (k : Kind). Some (attached_from heading trust h k (start_of heading.world kind) (root_pages heading.world kind page))) is_lower)
-      (kept GlobalUser) l.start.page place l.places (end_at n.level n.page) begin.4 (omega arith)
+      (kept GlobalUser refl) l.start.page place l.places (end_at n.level n.page) begin.4 (omega arith)
       (subst (λ (k : Kind). Leads heading trust h k (start_of heading.world kind) l.start.page l.places (end_at n.level n.page)) is_lower
       (start_leads heading trust b h pe kind lock page kept i.odd i.one l.start l.places (end_at n.level n.page) l.is_start
       (through_leads heading trust h l.places l.start n l.through))) inside)
@@ -52,7 +52,7 @@ module _ (heading : Heading) (trust : Trust) (b : Below heading trust) (h : List
         | inl old ↦ elim (held_back heading trust b n.kind n.level place (note heading trust h e) h value holds) [
           | inl held ↦ before n place value old lower inside held
           | inr w ↦ b.global_user.written h w.0 place value n
-              (subst (λ (x : Event). Unbroken heading trust h x) w.1 kept GlobalUser)
+              (subst (λ (x : Event). Unbroken heading trust h x) w.1 kept GlobalUser refl)
               (node_is heading trust b h i.one n (page_of place) old (sym inside)) lower
         ]
         | inr a ↦ elim (held_back heading trust b n.kind n.level place (note heading trust h e) h value holds) [

@@ -13,6 +13,7 @@ pub mod CoreLemmas
 pub mod WindowLemmas
 pub mod LeafLemmas
 pub mod RootLemmas
+pub mod TablesClean
 pub mod TagLemmas
 pub mod ProperLemmas
 pub mod StepLemmas

@@ -34,13 +34,13 @@ module _ (heading : Heading) (trust : Trust) (known : Below heading trust) where
       (locked (node_of heading trust (noted heading trust h) (page_of place)) (λ n. lock_of h n.root) lock (lacks h p) place named
       (subst (λ (es : List Event). (node_of heading trust (noted heading trust h) (page_of place)
       >>= (λ n. lock_of es n.root >>= (λ l. if_so (lacks es p l) place))) ≡ None)
-      (known.notes_keep_the_events h) (unbroken NoLock)))
+      (known.notes_keep_the_events h) (unbroken NoLock refl)))
 
   -- a lock that is taken was free
   was_free : (h : List Event) (r lock : ℕ) → Unbroken heading trust (noted heading trust h) (Lock r lock)
       → holder_of h lock ≡ None
   was_free h r lock unbroken =
-      subst (λ (es : List Event). holder_of es lock ≡ None) (known.notes_keep_the_events h) (unbroken LockBusy)
+      subst (λ (es : List Event). holder_of es lock ≡ None) (known.notes_keep_the_events h) (unbroken LockBusy refl)
 
   module _ (p lock : ℕ) (start : List Event) (held : holder_of start lock ≡ Some p) where
     abbrev Given : List Event → Type 0

@@ -201,9 +201,9 @@ module _ (heading : Heading) (trust : Trust) (b : Below heading trust) where
   pub planted_fresh : Proper heading → (h : List Event) (pe : ℕ) (kind : Kind) (lock : Option ℕ) (page : ℕ)
       → Unbroken heading trust (noted heading trust h) (Root pe kind lock page) → is_fresh heading trust (noted heading trust h) page ≡ true
   planted_fresh proper h pe kind lock page kept =
-      b.attaching.rooted (noted heading trust h) pe kind lock page page (kept PageInUse)
+      b.attaching.rooted (noted heading trust h) pe kind lock page page (kept PageInUse refl)
       (b.root_pages.named kind page (not-false (kind_in_world heading.world kind)
-      (if_none (not (kind_in_world heading.world kind)) 0 (kept WrongWorld)))
+      (if_none (not (kind_in_world heading.world kind)) 0 (kept WrongWorld refl)))
       (proper.some_page kind))
 
   -- a declared root stays, unless the event retires it
@@ -241,7 +241,7 @@ module _ (heading : Heading) (trust : Trust) (b : Below heading trust) where
   unroot_misses h e p reg value base rule is_pe readable names q is =
       let kept : Unbroken heading trust (noted heading trust h) (Unroot q base)
       = subst (λ (x : Event). Unbroken heading trust (noted heading trust h) x) is rule in
-      b.tag_rules.no_base (noted heading trust h) q base p reg value (kept RootInUse) (kept NoRoot) is_pe
+      b.tag_rules.no_base (noted heading trust h) q base p reg value (kept RootInUse refl) (kept NoRoot refl) is_pe
       (noted_too (λ (es : List Event). among value (register_values es p reg) ≡ true) h readable) names
 
   -- ---- what registers name
@@ -257,7 +257,7 @@ module _ (heading : Heading) (trust : Trust) (b : Below heading trust) where
       (not-false (is_root hs (kind_of_reg reg) base || (may_be_null heading trust (noted heading trust h) reg && is_null hs base))
       (if_none (not (is_root hs (kind_of_reg reg) base || (may_be_null heading trust (noted heading trust h) reg && is_null hs base))) base
       (subst (λ (o : Option ℕ). option_and_then (λ x. if_so (not (is_root (events_of (noted heading trust h)) (kind_of_reg reg) x
-      || (may_be_null heading trust (noted heading trust h) reg && is_null (events_of (noted heading trust h)) x))) x) o ≡ None) e (rule NoRoot))))
+      || (may_be_null heading trust (noted heading trust h) reg && is_null (events_of (noted heading trust h)) x))) x) o ≡ None) e (rule NoRoot refl))))
     where
       hs : List Event
       hs = events_of (noted heading trust h)
@@ -505,7 +505,7 @@ module _ (heading : Heading) (trust : Trust) (b : Below heading trust) where
       let some : holds_tag heading trust s tag (e ∷ h) ≡ true
       = pe_finds heading.pes (λ p. holds_at heading trust p s tag (e ∷ h)) q is_pe' holds in
       sym root.2
-      ∙ b.tag_rules.one_holder (noted heading trust h) p w.0 w.1 tag r root.0 (rule TagConflict)
+      ∙ b.tag_rules.one_holder (noted heading trust h) p w.0 w.1 tag r root.0 (rule TagConflict refl)
       (subst (λ (es : List Event). reads heading es p tag r ≡ true) same now)
       (subst (λ (es : List Event). Contains (roots_of es) root.0) same (b.root.complete (e ∷ h) root.0 root.1))
       (subst (λ (es : List Event). holds_tag heading trust root.0.page tag es ≡ true) same
@@ -568,7 +568,7 @@ module _ (heading : Heading) (trust : Trust) (b : Below heading trust) where
       let some : left_tag heading trust s tag (e ∷ h) ≡ true
       = pe_finds heading.pes (λ p. left_at heading trust p s tag (e ∷ h)) q is_pe' left in
       true≢false (sym (subst (λ (es : List Event). left_tag heading trust s tag es ≡ true) same some)
-      ∙ b.tag_rules.none_left (noted heading trust h) p w.0 w.1 tag r s (rule TagConflict)
+      ∙ b.tag_rules.none_left (noted heading trust h) p w.0 w.1 tag r s (rule TagConflict refl)
       (subst (λ (es : List Event). reads heading es p tag r ≡ true) same now))
 
   unleft : Proper heading → (h : List Event) → keeps heading trust h ≡ true → (p q r s : ℕ) (tag : Tag) → p < heading.pes → q < heading.pes
@@ -642,7 +642,7 @@ module _ (heading : Heading) (trust : Trust) (b : Below heading trust) where
             = subst (λ (x : Event). Unbroken heading trust (noted heading trust h) x) is.1 parts.1 in
             true≢false (sym (noted_too (λ (es : List Event). holds_tag heading trust s tag es ≡ true) h
             (pe_finds heading.pes (λ p. holds_at heading trust p s tag h) p is_pe up.1))
-            ∙ b.tag_rules.no_tag flushed (noted heading trust h) is.0 s tag (rule RootInUse) (rule NoRoot))
+            ∙ b.tag_rules.no_tag flushed (noted heading trust h) is.0 s tag (rule RootInUse refl) (rule NoRoot refl))
       ]
 
   pub none_left : heading.words.unflushed ≡ false → (h : List Event) → keeps heading trust h ≡ true → (s : ℕ) (tag : Tag)

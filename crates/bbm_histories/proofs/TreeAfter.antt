@@ -196,9 +196,9 @@ module _ (heading : Heading) (trust : Trust) (b : Below heading trust) (h : List
       → (m : Node) (k : IsNode heading trust h m) → page ≡ k.root.page → ⊥
   first_is_taken proper pe kind lock page kept m k same =
       let known : kind_in_world heading.world kind ≡ true
-      = not-false (kind_in_world heading.world kind) (if_none (not (kind_in_world heading.world kind)) 0 (kept WrongWorld)) in
+      = not-false (kind_in_world heading.world kind) (if_none (not (kind_in_world heading.world kind)) 0 (kept WrongWorld refl)) in
       let fresh : is_fresh heading trust h page ≡ true
-      = b.attaching.rooted h pe kind lock page page (kept PageInUse)
+      = b.attaching.rooted h pe kind lock page page (kept PageInUse refl)
       (b.root_pages.named kind page known (proper.some_page kind)) in
       let first = b.root_pages.first k.root k.start k.is_start in
       let fields = b.root_pages.fields k.root first.0 first.1 in

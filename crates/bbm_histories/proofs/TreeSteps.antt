@@ -218,12 +218,12 @@ module _ (heading : Heading) (trust : Trust) (b : Below heading trust) (h : List
     paths_after_write n next node empty table [] end short l =
         subst (λ (x : End). is_fresh heading trust h x.page ≡ true) l
         (b.attaching.written h pe at value n.kind (suc n.level) (next ∷ []) (write_attaches n next node empty table)
-        (kept NotFresh)
+        (kept NotFresh refl)
         next (0, suc-le-suc zero-le, refl))
     paths_after_write n next node empty table (place ∷ places) end short l =
         b.attaching.deeper h (Write pe at value) n.kind (suc n.level) (next ∷ [])
         (write_attaches n next node empty table)
-        (kept NotFresh) next place places end (0, suc-le-suc zero-le, refl) short l
+        (kept NotFresh refl) next place places end (0, suc-le-suc zero-le, refl) short l
 
     pub added_by_write : (m : Node) → InTree heading trust (note heading trust h (Write pe at value) ∷ h) m
         → InTree heading trust h m ⊎ Linked heading trust h at value m
@@ -278,7 +278,7 @@ module _ (heading : Heading) (trust : Trust) (b : Below heading trust) (h : List
         let level' : o.level ≡ suc l.parent.level + length l'.places
         = through_level heading trust h l'.places (node_below l.parent at l.next) o moved in
         let paths = b.attaching.single h (Write pe at value) l.parent.kind (suc l.parent.level) (l.next ∷ [])
-        (write_attaches l.parent l.next l.is_parent l.empty l.table) (kept NotFresh) l.next l.next l.places l'.places
+        (write_attaches l.parent l.next l.is_parent l.empty l.table) (kept NotFresh refl) l.next l.next l.places l'.places
         (end_at m.level m.page) (end_at o.level o.page) (0, suc-le-suc zero-le, refl) (0, suc-le-suc zero-le, refl)
         (omega arith) (omega arith)
         (through_leads heading trust h l.places (node_below l.parent at l.next) m l.through)
@@ -306,13 +306,13 @@ module _ (heading : Heading) (trust : Trust) (b : Below heading trust) (h : List
     paths_after_root start c [] end short l =
         let k = b.root_pages.fields planted start c in
         subst (λ (x : End). is_fresh heading trust h x.page ≡ true) l
-        (b.attaching.rooted h pe kind lock page start.page (kept PageInUse) k.4)
+        (b.attaching.rooted h pe kind lock page start.page (kept PageInUse refl) k.4)
     paths_after_root start c (place ∷ places) end short l =
         let k = b.root_pages.fields planted start c in
         let level : start.level ≡ start_of heading.world kind = k.1 in
         b.attaching.deeper h (Root pe kind lock page) kind (start_of heading.world kind)
         (root_pages heading.world kind page) refl
-        (kept NotFresh) start.page place places end k.4 (omega arith) (start_leads start (place ∷ places) end c l)
+        (kept NotFresh refl) start.page place places end k.4 (omega arith) (start_leads start (place ∷ places) end c l)
 
     old_or_planted : (r : Declared) → Contains (roots_of (Root pe kind lock page ∷ events_of h)) r
         → Contains (roots_of (events_of h)) r ⊎ (planted ≡ r)
@@ -370,7 +370,7 @@ module _ (heading : Heading) (trust : Trust) (b : Below heading trust) (h : List
         let level' : o.level ≡ l'.start.level + length l'.places = through_level heading trust h l'.places l'.start o l'.through in
         let paths = b.attaching.single h (Root pe kind lock page) kind (start_of heading.world kind)
         (root_pages heading.world kind page)
-        refl (kept NotFresh) l.start.page l'.start.page l.places l'.places (end_at m.level m.page) (end_at o.level o.page)
+        refl (kept NotFresh refl) l.start.page l'.start.page l.places l'.places (end_at m.level m.page) (end_at o.level o.page)
         first.4 other.4 (omega arith) (omega arith)
         (start_leads l.start l.places (end_at m.level m.page) l.is_start (through_leads heading trust h l.places l.start m l.through))
         (start_leads l'.start l'.places (end_at o.level o.page) l'.is_start (through_leads heading trust h l'.places l'.start o l'.through))

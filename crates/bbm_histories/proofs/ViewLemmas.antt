@@ -146,7 +146,7 @@ module _ (heading : Heading) (trust : Trust) (b : Below heading trust) where
             limbo_rule c x below q v rule =
                 if_none (is_valid n.kind (suc n.level) v && in_limbo h (node_below n place c.next)) x
                 (subst (λ (o : Option Node). option_and_then (λ m. if_so (is_valid m.kind m.level v && in_limbo h m) x) o ≡ None)
-                (node c x below) (rule LimboMake))
+                (node c x below) (rule LimboMake refl))
 
     childless_on : (newer : List Noted) (h : List Event) (t : Noted) (older before : List Noted) (last : ℕ) → keeps heading trust h ≡ true
         → noted heading trust h ≡ newer ++ t ∷ older → seen heading place p before ≡ true

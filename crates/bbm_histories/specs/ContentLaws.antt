@@ -1,24 +1,29 @@
 -- What the laws of values, and of what places hold, state. A history is newest first. Source: project's own choice.
-use Rattle.std.specs.Prelude.{◌≡◌, ℕ, ◌<◌, true, false, if◌then◌else◌, List, ◌∷◌, ◌++◌, Some, None, Contains}
+use Rattle.std.specs.Prelude.{◌≡◌, ◌≢◌, ◌↔◌, ◌⊎◌, ℕ, ◌<◌, true, false, not, ◌&&◌, if◌then◌else◌, List, ◌∷◌, ◌++◌}
+use Rattle.std.specs.Prelude.{Some, None, Contains}
 use Rattle.bbm_descriptor.specs.Descriptor.{is_valid}
 use Rattle.bbm_rules.specs.Prelude.{Event, Heading, Kind}
-use Rattle.bbm_rules.specs.Broken.{keeps}
+use Rattle.bbm_rules.specs.Broken.{breaks, keeps}
 use Rattle.bbm_rules.specs.Claims.{Trust}
 use Rattle.bbm_rules.specs.Cleansing.{seen}
 use Rattle.bbm_rules.specs.Covers.{note, noted}
 use Rattle.bbm_rules.specs.Held.{ValidWrite, held, last_valid}
+use Rattle.bbm_rules.specs.Mapped.{initialises, is_clean, is_mapped, maps}
 use Rattle.bbm_rules.specs.Notes.{Noted, events_of}
 use Rattle.bbm_rules.specs.Pages.{is_fresh}
 use Rattle.bbm_rules.specs.PatternSentences.{Answer, Publication}
 use Rattle.bbm_rules.specs.Phases.{broken_phase, phase_of}
 use Rattle.bbm_rules.specs.Places.{page_of}
 use Rattle.bbm_rules.specs.Reach.{Issued}
-use Rattle.bbm_rules.specs.Tree.{Node, held_at, node_of, tree}
+use Rattle.bbm_rules.specs.Rules.{made_tables, puts_over, table_mapped, writes_over}
+use Rattle.bbm_rules.specs.Tree.{Node, held_at, in_tree, node_of, tree}
 use Rattle.bbm_rules.specs.Values.{is_readable, published, value_of}
 use Rattle.bbm_rules.specs.declared.phase.Phase.TheVariants.{Clean, Live}
+use Rattle.bbm_rules.specs.declared.rule.Rule.{Rule}
+use Rattle.bbm_rules.specs.declared.rule.Rule.TheVariants.{TableMapped}
 use Rattle.bbm_histories.specs.HistorySteps.{held_after}
-use Rattle.bbm_histories.specs.TreeChanges.{Attaches, HeldBy, HeldChange, NoGlobalLeaf, StaysChildless, View}
-use Rattle.bbm_histories.specs.ValueChanges.{FreshContent, HoldsPresent, MakesReadable, OddStays, Window}
+use Rattle.bbm_histories.specs.TreeChanges.{Attaches, HeldBy, HeldChange, NoGlobalLeaf, Proper, StaysChildless, View}
+use Rattle.bbm_histories.specs.ValueChanges.{FreshContent, HoldsPresent, MakesReadable, NoInit, OddStays, Window}
 
 -- In every history: one that keeps the rules kept them before; what is published stays published, and by the same DSB;
 -- a TLBI that is answered stays answered by the same DSB; what a TLBI covers is fixed at its issue; and a value that
@@ -98,6 +103,51 @@ LimboIsEmpty heading trust = (h : List Event) → keeps heading trust h ≡ true
 abbrev pub LowerLeaves : Heading → Trust → Type 0
 LowerLeaves heading trust = (h : List Event) → keeps heading trust h ≡ true
     → NoGlobalLeaf heading trust (noted heading trust h)
+
+-- In a history that keeps the rules under `isolated` each page of a tree is clean. A clean page was clean at each
+-- moment since its last init. And an event that breaks no other rule breaks the one on table pages exactly where after
+-- it some page of a tree isn't clean.
+pub record TablesAreClean (heading : Heading) (trust : Trust) : Type 0 where
+  pub clean : (h : List Event) → heading.words.isolated ≡ true → keeps heading trust h ≡ true → (page : ℕ)
+      → in_tree heading trust (noted heading trust h) page ≡ true
+      → is_clean heading trust (noted heading trust h) page ≡ true
+  pub since : (newer older : List Event) (page : ℕ) → NoInit page newer
+      → is_clean heading trust (noted heading trust (newer ++ older)) page ≡ true
+      → is_clean heading trust (noted heading trust older) page ≡ true
+  pub judged : (h : List Event) (e : Event) → heading.words.isolated ≡ true → Proper heading
+      → keeps heading trust h ≡ true
+      → ((rule : Rule) → rule ≢ TableMapped → breaks heading trust (noted heading trust h) e rule ≡ None)
+      → (table_mapped heading trust (noted heading trust h) e ≡ None)
+      ↔ ((page : ℕ) → in_tree heading trust (noted heading trust (e ∷ h)) page ≡ true
+      → is_clean heading trust (noted heading trust (e ∷ h)) page ≡ true)
+
+-- Which pages are mapped and clean after an event that breaks no rule. A page that isn't mapped is mapped after it only
+-- where the event puts a leaf over it. A page of which the event is no init is clean after it exactly where it was clean
+-- before, and the event puts no leaf over it.
+pub record MappedAfter (heading : Heading) (trust : Trust) : Type 0 where
+  pub unmapped : (h : List Event) (e : Event) → keeps heading trust (e ∷ h) ≡ true → (page : ℕ)
+      → is_mapped heading trust (noted heading trust h) page ≡ false
+      → puts_over heading trust (noted heading trust h) e page ≡ false
+      → is_mapped heading trust (noted heading trust (e ∷ h)) page ≡ false
+  pub clean : (h : List Event) (e : Event) → Proper heading → keeps heading trust (e ∷ h) ≡ true → (page : ℕ)
+      → initialises page e ≡ false → is_clean heading trust (noted heading trust (e ∷ h)) page
+      ≡ (is_clean heading trust (noted heading trust h) page
+      && not (puts_over heading trust (noted heading trust h) e page))
+
+-- What an event attaches, after a history that keeps the rules, where it breaks none but perhaps the one on table pages. The
+-- pages that it makes table pages are those of the nodes that it attaches. It puts a leaf over a page exactly where it
+-- writes one, or a place of such a node has one.
+pub record AttachedTables (heading : Heading) (trust : Trust) : Type 0 where
+  pub made : (h : List Event) (e : Event) → Proper heading → keeps heading trust h ≡ true
+      → ((rule : Rule) → rule ≢ TableMapped → breaks heading trust (noted heading trust h) e rule ≡ None) → (page : ℕ)
+      → Contains (made_tables heading trust (noted heading trust h) e) page
+      ↔ ((m : Node) × Attaches heading trust (noted heading trust h) e m × (m.page ≡ page))
+  pub puts : (h : List Event) (e : Event) → Proper heading → keeps heading trust h ≡ true
+      → ((rule : Rule) → rule ≢ TableMapped → breaks heading trust (noted heading trust h) e rule ≡ None) → (page : ℕ)
+      → (puts_over heading trust (noted heading trust h) e page ≡ true)
+      ↔ ((writes_over heading trust (noted heading trust h) e page ≡ true)
+      ⊎ ((m : Node) × Attaches heading trust (noted heading trust h) e m × (place : ℕ) × (page_of place ≡ m.page)
+      × (maps m.kind m.level (value_of h place) page ≡ true)))
 
 -- The phase of a place at a PE, in every history: clean where its page is in no tree, and where it holds nothing; and
 -- where it holds something, live where its value is valid, and else by what is cleansed, half and seen since its last

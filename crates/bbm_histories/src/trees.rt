@@ -4,7 +4,8 @@ ghost use Rattle.std.specs.Prelude.{◌≡◌, true};
 ghost use Rattle.bbm_events.specs.Heading.{Heading, heading_ok};
 ghost use Rattle.bbm_rules.specs.Claims.{Trust};
 ghost use Rattle.bbm_histories.specs.TreeChanges.{Proper};
-ghost use Rattle.bbm_histories.specs.ContentLaws.{FrozenView, HeldChanges, LimboIsEmpty, LowerLeaves};
+ghost use Rattle.bbm_histories.specs.ContentLaws.{AttachedTables, FrozenView, HeldChanges, LimboIsEmpty, LowerLeaves};
+ghost use Rattle.bbm_histories.specs.ContentLaws.{MappedAfter, TablesAreClean};
 ghost use Rattle.bbm_histories.specs.PositionLaws.{OnePosition, SingleNode, TreeAfter};
 
 use crate::below::below;
@@ -71,6 +72,31 @@ pub fn law_limbo_is_empty()
 /// `LowerLeaves`.
 pub fn law_lower_leaves()
     ensures { (heading : Heading) (trust : Trust) → LowerLeaves heading trust }
+{
+    below();
+}
+
+/// In a history that keeps the rules under `isolated`, each page of a tree is clean, and was so since its last init. An
+/// event that breaks no other rule breaks the one on table pages exactly where after it some page of a tree isn't
+/// clean. The law is `TablesAreClean`.
+pub fn law_tables_are_clean()
+    ensures { (heading : Heading) (trust : Trust) → TablesAreClean heading trust }
+{
+    below();
+}
+
+/// Which pages are mapped, and which are clean, after an event that breaks no rule, by those before it and by the pages
+/// over which the event puts a leaf. The law is `MappedAfter`.
+pub fn law_mapped_step()
+    ensures { (heading : Heading) (trust : Trust) → MappedAfter heading trust }
+{
+    below();
+}
+
+/// Which pages an event makes table pages, and over which it puts a leaf, by the nodes that it attaches. The law is
+/// `AttachedTables`.
+pub fn law_attached_tables()
+    ensures { (heading : Heading) (trust : Trust) → AttachedTables heading trust }
 {
     below();
 }
