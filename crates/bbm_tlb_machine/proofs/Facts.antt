@@ -7,7 +7,7 @@ use Rattle.bbm_rules.proofs.Common.{holds_at, holds_tag, tag_set, tags_of, Node,
 use Rattle.bbm_tlbi_scope.specs.Agreement.{HasTag}
 use Rattle.bbm_tlbi_scope.specs.declared.entry.TagSet.TheVariants.{None as NoTag}
 use Rattle.bbm_tlbi_scope.specs.Takes.{is_global_leaf}
-use Rattle.bbm_rules.proofs.Common.{Bool, or_cases, inl, inr, subst, and_parts, and_from, eqb-true, leb-true, le-leb}
+use Rattle.bbm_rules.proofs.Common.{Bool, or_cases, inl, inr, subst, and_parts, and_from, leb-true, le-leb}
 use Rattle.bbm_rules.proofs.Common.{nat_le, ◌==◌, ◌&&◌, Contains, Unroot, gives_up, kept_at, left_at, left_tag}
 use Rattle.std.proofs.lemmas.List.{append_assoc}
 use Rattle.bbm_lemmas.proofs.Words.{same_number}

@@ -19,6 +19,7 @@ mod Facts
 pub mod FollowSteps
 pub mod GivenUp
 mod InTrees
+mod IsolatedLaw
 mod ListWords
 pub mod LookBack
 mod Made

@@ -129,14 +129,14 @@ module _ (heading : Heading) (trust : Trust) (k : Known heading trust) where
       any_finds (λ (y : Reading). same_tag y.tag tag && y.root == r.root) rs r (from_contains rs r i)
       (and_from (same_tag r.tag tag) (r.root == r.root) ((k.equality_tests.tags r.tag tag).1 e) (eq-eqb r.root r.root refl))
 
-  read_at : (h : List Event) (pe : ℕ) (tag : Tag) (r : Reading) → Contains (readings heading h pe) r → r.tag ≡ tag
+  pub read_at : (h : List Event) (pe : ℕ) (tag : Tag) (r : Reading) → Contains (readings heading h pe) r → r.tag ≡ tag
       → holds_at heading trust pe r.root tag h ≡ true
   read_at [] pe tag r i e = absurd (none_read heading.words.inorder heading.world pe r i)
   read_at (y ∷ h) pe tag r i e =
       or_left (reads heading (y ∷ h) pe tag r.root) _ (read_by (readings heading (y ∷ h) pe) tag r i e)
 
   -- where a PE reads under the tag of an entry, it reads through the entry's own root
-  one_root : (h : List Event) → keeps heading trust h ≡ true → (x : Entry) → Tagged heading trust h x → x.since ≤ length h
+  pub one_root : (h : List Event) → keeps heading trust h ≡ true → (x : Entry) → Tagged heading trust h x → x.since ≤ length h
       → (pe : ℕ) → pe < heading.pes → (r : Reading) → Contains (readings heading h pe) r → r.tag ≡ tag_of_entry x
       → ReadsThrough heading h x r.root
   one_root h kept x tagged made pe is_pe r i e = by (is_given_up heading h x) refl

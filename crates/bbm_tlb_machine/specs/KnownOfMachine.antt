@@ -18,8 +18,9 @@ use Rattle.bbm_rules.specs.EventLaws.{AnsweredBySentence, RootsBySentence, Tests
 use Rattle.bbm_rules.specs.HeldLaws.{HeldBySentence, LastValidBySentence, SeenBySentence}
 use Rattle.bbm_rules.specs.TagLaws.{ReadsBySentence, TagHeldBySentence, TagKeptBySentence, TagLeftBySentence}
 use Rattle.bbm_rules.specs.TagLaws.{TagSetSays}
-use Rattle.bbm_rules.specs.TreeLaws.{ChildlessBySentence, PagesOfRoots, TreeBySentence}
-use Rattle.bbm_histories.specs.ContentLaws.{FrozenView, HeldChanges, LimboIsEmpty, LowerLeaves, WindowAtReads}
+use Rattle.bbm_rules.specs.TreeLaws.{ChildlessBySentence, MappedBySentence, PagesOfRoots, TreeBySentence}
+use Rattle.bbm_histories.specs.ContentLaws.{FrozenView, HeldChanges, LimboIsEmpty, LowerLeaves, TablesAreClean}
+use Rattle.bbm_histories.specs.ContentLaws.{WindowAtReads}
 use Rattle.bbm_histories.specs.HolderLaws.{TagsOfRoots}
 use Rattle.bbm_histories.specs.PatternLaws.{AlikeUnderCnp, PatternsStay}
 use Rattle.bbm_histories.specs.PositionLaws.{OnePosition, SingleNode}
@@ -49,6 +50,7 @@ pub record Known (heading : Heading) (trust : Trust) : Type 0 where
   pub last_valid : LastValidBySentence
   pub limbo_is_empty : LimboIsEmpty heading trust
   pub lower_leaves : LowerLeaves heading trust
+  pub mapped : MappedBySentence heading trust
   pub notes : NotesOfOlder heading trust
   pub notes_keep_the_events : NotesKeepEvents heading trust
   pub one_node : SingleNode heading trust
@@ -58,6 +60,7 @@ pub record Known (heading : Heading) (trust : Trust) : Type 0 where
   pub root : RootsBySentence
   pub root_pages : PagesOfRoots heading
   pub seen : SeenBySentence heading
+  pub tables_clean : TablesAreClean heading trust
   pub tag_held : TagHeldBySentence heading trust
   pub tag_kept : TagKeptBySentence heading trust
   pub tag_left : TagLeftBySentence heading trust

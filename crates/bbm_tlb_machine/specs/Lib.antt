@@ -3,6 +3,7 @@ pub mod Entry
 pub mod First
 pub mod Followed
 pub mod Invariant
+pub mod Isolated
 pub mod KnownOfMachine
 pub mod Looking
 pub mod MachineLaws

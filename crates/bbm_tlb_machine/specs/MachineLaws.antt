@@ -7,6 +7,7 @@ use Rattle.bbm_rules.specs.Prelude.{Heading, Event}
 use Rattle.bbm_tlb_machine.specs.Entry.{is_given_up}
 use Rattle.bbm_tlb_machine.specs.First.{IsFirstBad, IsFirstConflict}
 use Rattle.bbm_tlb_machine.specs.Invariant.{Fine, Taken}
+use Rattle.bbm_tlb_machine.specs.Isolated.{IsolatedBySay, WalksTables}
 use Rattle.bbm_tlb_machine.specs.MachineRun.{IsRun, Leads, Living, State, follow_steps, step_to}
 use Rattle.bbm_tlb_machine.specs.Safe.{ComesTo, IsLog, OneRootATag, Safe, first_conflict, in_conflict}
 use Rattle.bbm_tlb_machine.specs.declared.step.Step.{Step}
@@ -50,3 +51,13 @@ module _ (heading : Heading) (trust : Trust) where
   -- in every log that keeps the rules there is one root a tag
   abbrev pub KeptHasOneRoot : Type 0
   KeptHasOneRoot = (log : List Event) → IsLog heading log → keeps heading trust log ≡ true → OneRootATag heading log
+
+  -- every log that keeps the rules is isolated, where its header has the word
+  abbrev pub KeptIsIsolated : Type 0
+  KeptIsIsolated = (log : List Event) → IsLog heading log → keeps heading trust log ≡ true
+      → IsolatedBySay trust heading log
+
+  -- in every log that keeps the rules what walks read are table pages
+  abbrev pub KeptWalksTables : Type 0
+  KeptWalksTables = (log : List Event) → IsLog heading log → keeps heading trust log ≡ true
+      → WalksTables heading trust log

@@ -21,6 +21,9 @@ pub use laws::{law_conflict, law_run};
 pub use looking::can_read;
 pub use machine::{FollowFault, Machine, follow};
 pub use pending::{Pending, is_answered, must_leave, take_event};
-pub use safety::{law_accepted_is_safe, law_fine, law_one_root_a_tag, law_safe};
+pub use safety::{
+    law_accepted_is_isolated, law_accepted_is_safe, law_fine, law_isolated, law_one_root_a_tag,
+    law_safe, law_walks_tables,
+};
 pub use starting::{FirstRead, combine, extend, start};
 pub use step::Step;

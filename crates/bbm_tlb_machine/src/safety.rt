@@ -1,4 +1,5 @@
-//! The law of safe logs: no TLB keeps what a write, an init or a new root needs gone.
+//! The laws of safe logs, and of isolated ones: no TLB keeps what a write, an init or a new root needs gone; and none
+//! lets a guest reach a page of a translation table.
 
 ghost use Rattle.std.specs.Prelude.{◌≡◌, ℕ, true, List};
 ghost use Rattle.bbm_events.specs.Heading.{Heading, heading_ok};
@@ -7,20 +8,23 @@ ghost use Rattle.bbm_rules.specs.Outcome.{verdict_of_bytes};
 ghost use Rattle.bbm_rules.specs.declared.limits.Limits.{Limits};
 ghost use Rattle.bbm_rules.specs.declared.verdict.Verdict.TheVariants.{Accepted};
 ghost use Rattle.bbm_tlb_machine.specs.Accepted.{HoldsOfLog};
+ghost use Rattle.bbm_tlb_machine.specs.Isolated.{IsolatedBySay, WalksTables};
 ghost use Rattle.bbm_tlb_machine.specs.KnownOfMachine.{Known};
-ghost use Rattle.bbm_tlb_machine.specs.MachineLaws.{EntriesAreFine, KeptHasOneRoot, KeptIsSafe};
+ghost use Rattle.bbm_tlb_machine.specs.MachineLaws.{EntriesAreFine, KeptHasOneRoot, KeptIsIsolated, KeptIsSafe};
+ghost use Rattle.bbm_tlb_machine.specs.MachineLaws.{KeptWalksTables};
 ghost use Rattle.bbm_tlb_machine.specs.Safe.{OneRootATag, Safe};
 
 use bbm_descriptor::laws::{law_need, law_same_core_is_equal};
 use bbm_events::{law_header_in_range, law_item_fits};
 use bbm_histories::{
     law_frozen_view, law_held_changes, law_limbo_is_empty, law_lower_leaves, law_one_node,
-    law_one_position, law_patterns_stay, law_proper, law_tags, law_uniform, law_window,
+    law_one_position, law_patterns_stay, law_proper, law_tables_are_clean, law_tags, law_uniform,
+    law_window,
 };
 use bbm_rules::{
     law_answered, law_childless, law_each_rule, law_equality_tests, law_held, law_last_valid,
-    law_notes, law_notes_keep_the_events, law_readable_tag, law_root, law_root_pages, law_seen,
-    law_tag_held, law_tag_kept, law_tag_left, law_tag_set, law_tree,
+    law_mapped, law_notes, law_notes_keep_the_events, law_readable_tag, law_root, law_root_pages,
+    law_seen, law_tag_held, law_tag_kept, law_tag_left, law_tag_set, law_tree,
 };
 use bbm_tlbi_scope::{law_cover_takes, law_whole_tag_takes};
 
@@ -39,6 +43,7 @@ fn known()
     law_last_valid();
     law_limbo_is_empty();
     law_lower_leaves();
+    law_mapped();
     law_need();
     law_notes();
     law_notes_keep_the_events();
@@ -51,6 +56,7 @@ fn known()
     law_root_pages();
     law_same_core_is_equal();
     law_seen();
+    law_tables_are_clean();
     law_tag_held();
     law_tag_kept();
     law_tag_left();
@@ -102,4 +108,38 @@ pub fn law_accepted_is_safe()
     law_item_fits();
     law_one_root_a_tag();
     law_safe();
+}
+
+/// Every log that keeps the rules under a header with `isolated` is isolated: at no moment of a run over it a TLB maps
+/// a page of a tree at stage 2, nor did one since the last init of the page; but for what was read through a root that
+/// was given up, which is under a tag that the PE may read for no root. A log has a header that can be said, and each
+/// event fits it. The law is `KeptIsIsolated`.
+pub fn law_isolated()
+    ensures { (heading : Heading) (trust : Trust) → KeptIsIsolated heading trust }
+{
+    known();
+}
+
+/// In each run over the first events of a log that keeps the rules, each page of a root that a PE may read under a tag
+/// is one of the trees, and so is the next page of each entry that ends in a table and whose root wasn't given up
+/// since. A log has a header that can be said, and each event fits it. The law is `KeptWalksTables`.
+pub fn law_walks_tables()
+    ensures { (heading : Heading) (trust : Trust) → KeptWalksTables heading trust }
+{
+    known();
+}
+
+/// Where the verdict on bytes is that they are accepted, and their header has `isolated`, the log of all their events
+/// is isolated. In each accepted log what walks read are pages of trees. The law is the contract.
+pub fn law_accepted_is_isolated()
+    ensures isolated { (trust : Trust) (limits : Limits) (bytes : List ℕ) (count : ℕ) →
+        verdict_of_bytes trust limits bytes ≡ Accepted count → HoldsOfLog (IsolatedBySay trust) trust limits bytes }
+    ensures tables { (trust : Trust) (limits : Limits) (bytes : List ℕ) (count : ℕ) →
+        verdict_of_bytes trust limits bytes ≡ Accepted count
+        → HoldsOfLog (λ heading log. WalksTables heading trust log) trust limits bytes }
+{
+    law_header_in_range();
+    law_isolated();
+    law_item_fits();
+    law_walks_tables();
 }
