@@ -10,7 +10,7 @@ use Rattle.bbm_rules.specs.declared.rule.Rule.{Rule}
 use Rattle.bbm_rules.specs.declared.rule.Rule.TheVariants.{WrongWorld, NoLock, NullWritten, BreakBeforeMake, LimboMake}
 use Rattle.bbm_rules.specs.declared.rule.Rule.TheVariants.{NotFresh, RewrittenFresh, BadKind, GlobalUser, PageInUse}
 use Rattle.bbm_rules.specs.declared.rule.Rule.TheVariants.{NoRoot, TagConflict, RootInUse, UnsyncedVmid, BadOperand}
-use Rattle.bbm_rules.specs.declared.rule.Rule.TheVariants.{LockBusy, LockNotMine}
+use Rattle.bbm_rules.specs.declared.rule.Rule.TheVariants.{LockBusy, LockNotMine, TableMapped}
 use Rattle.bbm_rules.specs.Broken.{broken, rules}
 use Rattle.bbm_alike.specs.Alike.{Alike, SameRegisters}
 use Rattle.bbm_rules.specs.RegisterValues.{standings}
@@ -19,6 +19,7 @@ use Rattle.bbm_alike.proofs.CoverAlike.{held_alike, of_events, tags_alike, value
 use Rattle.bbm_alike.proofs.LockRules.{same_bad_operand, same_lock_busy, same_lock_not_mine, same_no_root}
 use Rattle.bbm_alike.proofs.LockRules.{same_unsynced_vmid, same_wrong_world}
 use Rattle.bbm_alike.proofs.PageRules.{same_bad_kind, same_global_user, same_not_fresh, same_page_in_use}
+use Rattle.bbm_alike.proofs.PageRules.{same_table_mapped}
 use Rattle.bbm_alike.proofs.TagRules.{same_root_in_use, same_tag_conflict}
 use Rattle.bbm_alike.proofs.WriteRules.{same_break_before_make, same_limbo_make, same_no_lock, same_null_written}
 use Rattle.bbm_alike.proofs.WriteRules.{same_rewritten_fresh}
@@ -100,6 +101,7 @@ module _ (heading : Heading) (k : Known heading) (one other : Trust) (h h' : Lis
   same_breaks e BadOperand = same_bad_operand heading one other marks marks' e
   same_breaks e LockBusy = same_lock_busy heading one other marks marks' locks e
   same_breaks e LockNotMine = same_lock_not_mine heading one other marks marks' locks e
+  same_breaks e TableMapped = same_table_mapped heading one other marks marks' values places a.fresh a.trees held a.clean e
 
   same_first : (e : Event) (rs : List Rule) → first_broken heading one marks e rs ≡ first_broken heading other marks' e rs
   same_first e [] = refl

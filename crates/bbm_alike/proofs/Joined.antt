@@ -68,6 +68,7 @@ module _ (heading : Heading) where
     locks = λ lock. refl;
     trees = refl;
     fresh = λ page. refl;
+    clean = λ page. refl;
     held = λ n place there inside. refl;
     patterns = λ n place w w' there inside some last last'.
         let both : w ≡ w' = let e : Some w ≡ Some w' = sym last ∙ last' in cc in
@@ -90,6 +91,7 @@ module _ (heading : Heading) where
     locks = λ lock. refl;
     trees = refl;
     fresh = λ page. refl;
+    clean = λ page. refl;
     held = λ n place there inside. refl;
     patterns = λ n place w w' there inside some last last'. absurd (true≢false (sym some));
     tags = λ root. refl;
@@ -113,6 +115,7 @@ module _ (heading : Heading) where
       locks = λ lock. sym (a.locks lock);
       trees = sym a.trees;
       fresh = λ page. sym (a.fresh page);
+      clean = λ page. sym (a.clean page);
       held = λ n place there inside. sym (a.held n place (in_both n there) inside);
       patterns = λ n place w w' there inside some last last'.
           same_turned place one other w'.since w.since (a.patterns n place w' w (in_both n there) inside
@@ -159,6 +162,7 @@ module _ (heading : Heading) where
       locks = λ lock. a.locks lock ∙ b.locks lock;
       trees = a.trees ∙ b.trees;
       fresh = λ page. a.fresh page ∙ b.fresh page;
+      clean = λ page. a.clean page ∙ b.clean page;
       held = λ n place there inside. a.held n place there inside ∙ b.held n place (on n there) inside;
       patterns = patterns_through;
       tags = λ root. a.tags root ∙ b.tags root;

@@ -1,4 +1,5 @@
 pub mod ListsAlike
+pub mod MappedAlike
 pub mod TreesAlike
 pub mod ReadingsAlike
 pub mod CoverAlike

@@ -1,15 +1,20 @@
 -- The rules on pages that are attached, initialised, declared or written judge alike.
-use Rattle.bbm_rules.proofs.Common.{◌≡◌, ℕ, Bool, not, ◌&&◌, List, ◌++◌, Option, Some, option_and_then, option_to_list}
+use Rattle.bbm_rules.proofs.Common.{◌≡◌, ℕ, Bool, cond, not, ◌&&◌, ◌||◌, ◌==◌, List, ◌++◌, Option, Some, None, any, map, option_and_then, option_to_list}
+use Rattle.bbm_rules.proofs.Common.{filter}
 use Rattle.bbm_rules.proofs.Common.{flat_map, refl, ◌∙◌, ap, desc_of, Desc, Attached, End, all_ends, attached_by}
 use Rattle.bbm_rules.proofs.Common.{pages_of, Trust, is_global, if_so, least, repeated, Noted, events_of, is_fresh}
 use Rattle.bbm_rules.proofs.Common.{is_null, page_of, Ttbr0, Heading, Event, Init, Null, Root, Write, root_pages}
 use Rattle.bbm_rules.proofs.Common.{same_kind, attached_with, bad_ends, bad_kind, global_user, is_contiguous}
 use Rattle.bbm_rules.proofs.Common.{judged_ends, made_with, not_fresh, page_in_use, places_with, unfresh}
-use Rattle.bbm_rules.proofs.Common.{untracked_page, written_with, Node, held_at, node_of, value_of, written_places}
+use Rattle.bbm_rules.proofs.Common.{untracked_page, written_with, Node, held_at, node_of, places_in, value_of}
+use Rattle.bbm_rules.proofs.Common.{written_places}
+use Rattle.bbm_rules.specs.Mapped.{is_clean, maps, table_pages}
 use Rattle.bbm_rules.specs.Prelude.{Kind}
+use Rattle.bbm_rules.specs.Rules.{bad_tables, end_over, made_tables, mapped_table, puts_over, table_mapped}
+use Rattle.bbm_rules.specs.Rules.{writes_over}
 use Rattle.bbm_rules.specs.Tree.{tree}
 use Rattle.bbm_alike.proofs.PartsAlike.{same_attached_by, same_node}
-use Rattle.bbm_alike.proofs.ListsAlike.{same_filter, same_flat}
+use Rattle.bbm_alike.proofs.ListsAlike.{same_any, same_filter, same_flat}
 
 module _ (heading : Heading) (one other : Trust) (h h' : List Noted)
     (values : (place : ℕ) → value_of (events_of h) place ≡ value_of (events_of h') place)
@@ -82,3 +87,55 @@ module _ (heading : Heading) (one other : Trust) (h h' : List Noted)
 
     pub same_global_user : (e : Event) → global_user heading one h e ≡ global_user heading other h' e
     same_global_user e = same_made_with (λ kind desc. same_kind kind Ttbr0 && is_global desc) e
+
+    -- ---- table pages
+
+    same_end_over : (kind : Kind) (page : ℕ) (end : End) → end_over heading one h kind page end ≡ end_over heading other h' kind page end
+    same_end_over kind page end =
+        same_any (λ (place : ℕ). maps kind end.level (value_of (events_of h) place) page)
+        (λ (place : ℕ). maps kind end.level (value_of (events_of h') place) page) (places_in (events_of h) end.page)
+        (λ place there. ap (λ (v : ℕ). maps kind end.level v page) (values place))
+        ∙ ap (λ (written : List ℕ). any (λ (place : ℕ). maps kind end.level (value_of (events_of h') place) page)
+        (filter (λ (x : ℕ). page_of x == end.page) written)) places
+
+    same_writes_over : (e : Event) (page : ℕ) → writes_over heading one h e page ≡ writes_over heading other h' e page
+    same_writes_over (Write pe place value) page =
+        ap (λ (o : Option Node). any (λ (n : Node). maps n.kind n.level value page) (option_to_list o))
+        (same_node heading one other h h' trees (page_of place))
+    same_writes_over e page = refl
+
+    same_puts_over : (e : Event) (page : ℕ) → puts_over heading one h e page ≡ puts_over heading other h' e page
+    same_puts_over e page =
+        ap (λ (b : Bool). b || any (λ (a : Attached). any (end_over heading one h a.kind page) (all_ends a))
+        (option_to_list (attached_by heading one h e))) (same_writes_over e page)
+        ∙ ap (λ (b : Bool). writes_over heading other h' e page || b)
+        (same_any (λ (a : Attached). any (end_over heading one h a.kind page) (all_ends a))
+        (λ (a : Attached). any (end_over heading other h' a.kind page) (all_ends a)) (option_to_list (attached_by heading one h e))
+        (λ a there. same_any (end_over heading one h a.kind page) (end_over heading other h' a.kind page) (all_ends a)
+        (λ end inside. same_end_over a.kind page end))
+        ∙ ap (λ (o : Option Attached). any (λ (a : Attached). any (end_over heading other h' a.kind page) (all_ends a)) (option_to_list o))
+        (same_attached_by heading one other h h' values places fresh trees held e))
+
+    module _ (clean : (page : ℕ) → is_clean heading one h page ≡ is_clean heading other h' page) where
+      same_bad_tables : (e : Event) → bad_tables heading one h e ≡ bad_tables heading other h' e
+      same_bad_tables e =
+          ap (λ (pages : List ℕ). filter (puts_over heading one h e) (pages ++ made_tables heading one h e)
+          ++ filter (λ (page : ℕ). not (is_clean heading one h page)) (made_tables heading one h e))
+          (ap (λ (ns : List Node). map (λ (n : Node). n.page) ns) trees)
+          ∙ ap (λ (made : List ℕ). filter (puts_over heading one h e) (table_pages heading other h' ++ made)
+          ++ filter (λ (page : ℕ). not (is_clean heading one h page)) made)
+          (ap (λ (o : Option Attached). flat_map (λ (a : Attached). pages_of (all_ends a)) (option_to_list o)) (same_attached_by heading one other h h' values places fresh trees held e))
+          ∙ ap (λ (pages : List ℕ). pages ++ filter (λ (page : ℕ). not (is_clean heading one h page)) (made_tables heading other h' e))
+          (same_filter (puts_over heading one h e) (puts_over heading other h' e)
+          (table_pages heading other h' ++ made_tables heading other h' e) (same_puts_over e))
+          ∙ ap (λ (pages : List ℕ). filter (puts_over heading other h' e) (table_pages heading other h' ++ made_tables heading other h' e) ++ pages)
+          (same_filter (λ (page : ℕ). not (is_clean heading one h page)) (λ (page : ℕ). not (is_clean heading other h' page))
+          (made_tables heading other h' e) (λ page. ap not (clean page)))
+
+      same_mapped_table : (e : Event) → mapped_table heading one h e ≡ mapped_table heading other h' e
+      same_mapped_table e = ap (λ (pages : List ℕ). cond heading.words.isolated (least pages) None) (same_bad_tables e)
+
+      pub same_table_mapped : (e : Event) → table_mapped heading one h e ≡ table_mapped heading other h' e
+      same_table_mapped (Write pe place value) = same_mapped_table (Write pe place value)
+      same_table_mapped (Root pe kind lock page) = same_mapped_table (Root pe kind lock page)
+      same_table_mapped e = refl

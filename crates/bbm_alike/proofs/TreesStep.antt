@@ -1,9 +1,10 @@
 -- The trees after an event, which pages are fresh, and what places hold, in histories that are alike.
-use Rattle.bbm_rules.proofs.Common.{◌≡◌, ℕ, ◌<◌, ◌&&◌, not, Bool, true, false, cond, List, [], ◌∷◌, Option, Some, None}
+use Rattle.bbm_rules.proofs.Common.{◌≡◌, ℕ, ◌<◌, ◌&&◌, ◌||◌, not, Bool, true, false, cond, List, [], ◌∷◌, Option, Some, None}
 use Rattle.bbm_rules.proofs.Common.{is_some, find, Contains, ◌++◌, ◌==◌, refl, sym, ◌∙◌, ap, inl, inr, is_valid}
 use Rattle.bbm_rules.proofs.Common.{Heading, Event, Root, Write, keeps, Trust, noted, ValidWrite, last_valid, Noted}
 use Rattle.bbm_rules.proofs.Common.{events_of, is_fresh, may_be_fresh, page_of, roots_of, Node, held_at, in_tree}
 use Rattle.bbm_rules.proofs.Common.{next_of, node_below, value_of, written_places}
+use Rattle.bbm_rules.specs.Mapped.{initialises, is_clean, is_mapped}
 use Rattle.bbm_rules.specs.Tree.{tree}
 use Rattle.bbm_histories.specs.TreeChanges.{Attaches, Through}
 use Rattle.bbm_histories.specs.ValueChanges.{HoldsPresent}
@@ -11,6 +12,7 @@ use Rattle.bbm_alike.specs.Alike.{Alike, SamePatterns, TakesAlike}
 use Rattle.bbm_alike.specs.KnownOfHistories.{Known}
 use Rattle.bbm_alike.proofs.CoverAlike.{held_alike, node_alike, values_alike}
 use Rattle.bbm_alike.proofs.HeldStep.{held_old, patterns_old}
+use Rattle.bbm_alike.proofs.MappedAlike.{same_mapped}
 use Rattle.bbm_alike.proofs.Quiet.{quiet_alike, unwritten}
 use Rattle.bbm_alike.proofs.TreesAlike.{same_tree}
 
@@ -143,3 +145,10 @@ module _ (heading : Heading) (k : Known heading) (one other : Trust) (h h' : Lis
         ap (λ (b : Bool). may_be_fresh e page b && not (in_tree heading one now page)) (a.fresh page)
         ∙ ap (λ (ns : List Node). may_be_fresh e page (is_fresh heading other marks' page) && not (is_some (find (λ n. n.page == page) ns)))
         trees_step
+
+    pub clean_step : (page : ℕ) → is_clean heading one now page ≡ is_clean heading other now' page
+    clean_step page =
+        ap (λ (b : Bool). (initialises page e || b) && not (is_mapped heading one now page)) (a.clean page)
+        ∙ ap (λ (b : Bool). (initialises page e || is_clean heading other marks' page) && not b)
+        (same_mapped heading one other now now' (events_alike written_places places) trees_step
+        (λ n place there inside. held_step n place there inside) page)

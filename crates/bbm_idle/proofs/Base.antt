@@ -5,11 +5,13 @@ use Rattle.bbm_rules.proofs.Common.{◌≡◌, ℕ, Bool, true, false, not, ◌&
 use Rattle.bbm_rules.proofs.Common.{find, is_none, is_some, Contains, refl, sym, ◌∙◌, ap, subst, true≢false, and_parts}
 use Rattle.bbm_rules.proofs.Common.{false_from_ne_true, not-true, pe_finds, proved, If, Is, none_of, keeps, changes}
 use Rattle.bbm_rules.proofs.Common.{cleansed, half, seen, note, noted, ValidWrite, last_valid, any, Noted, events_of}
-use Rattle.bbm_rules.proofs.Common.{is_fresh, may_be_fresh, page_of, Barrier, Heading, Event, Dsb, Dmb, Isb, Tlbi}
+use Rattle.bbm_rules.proofs.Common.{is_fresh, may_be_fresh, page_of, Barrier, Heading, Event, Init, Dsb, Dmb, Isb, Tlbi}
 use Rattle.bbm_rules.proofs.Common.{reaches, unanswered, first_pages, itself, Node, held_at, in_tree}
 use Rattle.bbm_rules.proofs.Common.{node_of, written_places}
 use Rattle.bbm_rules.specs.Broken.{broken}
+use Rattle.bbm_rules.specs.Mapped.{initialises, is_clean, is_mapped}
 use Rattle.bbm_rules.specs.Tree.{tree}
+use Rattle.bbm_alike.proofs.MappedAlike.{same_mapped}
 use Rattle.bbm_alike.specs.Alike.{SameRegisters}
 use Rattle.bbm_alike.specs.SameTags.{AnswersNone, SameTags, TakesNone}
 use Rattle.bbm_idle.specs.Idle.{is_idle}
@@ -54,6 +56,17 @@ module _ (heading : Heading) where
   fresh_outside (n ∷ ns) page = proved 2 (λ m t. Is ((m && not t) && not t) (m && not t)) refl
       (may_be_fresh n.event page (is_fresh heading Patterns ns page)) (in_tree heading Patterns (n ∷ ns) page)
 
+  -- a clean page isn't mapped
+  clean_unmapped : (ns : List Noted) (page : ℕ) → (is_clean heading Patterns ns page && not (is_mapped heading Patterns ns page))
+      ≡ is_clean heading Patterns ns page
+  clean_unmapped [] page = refl
+  clean_unmapped (n ∷ ns) page = proved 2 (λ m t. Is ((m && not t) && not t) (m && not t)) refl
+      (initialises page n.event || is_clean heading Patterns ns page) (is_mapped heading Patterns (n ∷ ns) page)
+
+  initialises_none : (page : ℕ) (e : Event) → (changes e).inits ≡ false → initialises page e ≡ false
+  initialises_none page (Init pe at) none = cc
+  initialises_none page e none = refl
+
   module _ (k : Known heading) (h : List Event) (e : Event) where
     abbrev before : List Noted
     before = noted heading Patterns h
@@ -82,6 +95,17 @@ module _ (heading : Heading) where
         ∙ (ap (λ (ns : List Node). is_fresh heading Patterns before page && not (is_some (find (λ (n : Node). n.page == page) ns))) trees
         ∙ fresh_outside before page)
 
+    same_clean : Quiet e → tree heading Patterns after ≡ tree heading Patterns before
+        → ((n : Node) (place : ℕ) → Contains (tree heading Patterns after) n → page_of place ≡ n.page
+        → held_at heading Patterns after n place ≡ held_at heading Patterns before n place)
+        → (page : ℕ) → is_clean heading Patterns after page ≡ is_clean heading Patterns before page
+    same_clean quiet trees held page =
+        ap (λ (b : Bool). (b || is_clean heading Patterns before page) && not (is_mapped heading Patterns after page))
+        (initialises_none page e quiet.inits)
+        ∙ (ap (λ (b : Bool). is_clean heading Patterns before page && not b)
+        (same_mapped heading Patterns Patterns after before (k.changes.written e (events_of before) quiet.values) trees held page)
+        ∙ clean_unmapped before page)
+
     patterns_on : Quiet e → PatternsStay → (n : Node) (place value : ℕ) (w w' : ValidWrite) → Contains (tree heading Patterns before) n
         → page_of place ≡ n.page → held_at heading Patterns before n place ≡ Some value → last_valid n.kind n.level place after ≡ Some w
         → last_valid n.kind n.level place before ≡ Some w' → SamePatterns heading place Patterns Patterns w.since w'.since
@@ -105,6 +129,7 @@ module _ (heading : Heading) where
       locks = λ lock. k.changes.locks e h lock quiet.locks;
       trees = trees;
       fresh = same_fresh quiet trees;
+      clean = same_clean quiet trees (λ n place t inside. same_held n place (there n t) inside);
       held = λ n place t inside. same_held n place (there n t) inside;
       patterns = λ n place w w' t inside some last last'. by n place w w' (there n t) inside last last'
           (held_at heading Patterns before n place) refl (sym (ap is_some (same_held n place (there n t) inside)) ∙ some);
