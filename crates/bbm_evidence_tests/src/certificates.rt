@@ -7,8 +7,8 @@ use bbm_rules::Rule;
 use std::alloc::Global;
 
 /// What the claims make of the events; None where a line is none of the header, or there is no memory.
-fn judged(alloc: Global, lines: &[&[u8]], claims: &[&[u8]]) -> Option<Judged> {
-    let header = read_header(HYP).ok()?;
+fn judged(alloc: Global, header: &[u8], lines: &[&[u8]], claims: &[&[u8]]) -> Option<Judged> {
+    let header = read_header(header).ok()?;
     let events = events_of(alloc, &header, lines)?;
     let claims = claims_of(alloc, &header, claims)?;
     if events.len() > 100 {
@@ -104,7 +104,7 @@ const EL2: [(&[&[u8]], &[&[u8]], Judged); 11] = [
 #[test]
 fn places_of_el2(rt: HostRuntime) {
     for (log, claims, expected) in EL2 {
-        assert!(rt; judged(rt.alloc(), log, claims) == Some(expected));
+        assert!(rt; judged(rt.alloc(), HYP, log, claims) == Some(expected));
     }
 }
 
@@ -170,7 +170,7 @@ fn places_of_stage_2(rt: HostRuntime) {
         ),
     ];
     for (log, claims, expected) in rows {
-        assert!(rt; judged(rt.alloc(), log, claims) == Some(expected));
+        assert!(rt; judged(rt.alloc(), HYP, log, claims) == Some(expected));
     }
 }
 
@@ -218,6 +218,43 @@ fn tags(rt: HostRuntime) {
         (&READABLE, &[b"c tag 0 el2 0 8 10"], conflict),
     ];
     for (log, claims, expected) in rows {
-        assert!(rt; judged(rt.alloc(), log, claims) == Some(expected));
+        assert!(rt; judged(rt.alloc(), HYP, log, claims) == Some(expected));
+    }
+}
+
+// A block of stage 2 is made, cleared and flushed in two steps. Then its first page becomes a table of EL2.
+const ISOLATED: &[u8] = b"bbmlog 5 hyp 1 1 1 1 isolated";
+
+const GIVEN_BACK: [&[u8]; 13] = [
+    b"init 0 0x40000000",
+    b"root 0 s2 - 0x40000000",
+    b"msr 0 vttbr_el2 0x5000040000000",
+    b"isb 0",
+    b"w 0 0x40000008 0x800007fd",
+    b"w 0 0x40000008 0x0",
+    b"dsb 0 ishst",
+    b"tlbi 0 ipas2e1is 0x40000",
+    b"dsb 0 ish",
+    b"tlbi 0 vmalle1is",
+    b"dsb 0 ish",
+    b"init 0 0x80000000",
+    b"root 0 el2 - 0x80000000",
+];
+
+#[test]
+fn table_pages(rt: HostRuntime) {
+    let mapped = Judged::No {
+        position: 13,
+        rule: Rule::TableMapped,
+        at: 0x8000_0000,
+    };
+    let rows: [(&[&[u8]], Judged); 3] = [
+        (&[b"c two 0 0x40000008 7 8 9 10 11"], Judged::Yes),
+        // No claim, and one step alone: the block still maps the page.
+        (&[], mapped),
+        (&[b"c place 0 0x40000008 7 10 11"], mapped),
+    ];
+    for (claims, expected) in rows {
+        assert!(rt; judged(rt.alloc(), ISOLATED, &GIVEN_BACK, claims) == Some(expected));
     }
 }

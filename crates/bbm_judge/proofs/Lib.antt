@@ -3,3 +3,4 @@ pub mod Lists
 pub mod Paths
 pub mod RuleLemmas
 pub mod Stands
+pub mod TableLemmas

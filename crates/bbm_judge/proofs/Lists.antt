@@ -1,5 +1,5 @@
 -- One more item of a list.
-use Rattle.bbm_rules.proofs.Common.{◌≡◌, ℕ, ◌+◌, ◌-◌, ◌<◌, ◌∷◌, [], List, length, take, drop, get_or, sym, ◌∙◌, ap}
+use Rattle.bbm_rules.proofs.Common.{◌≡◌, ℕ, ◌+◌, ◌-◌, ◌<◌, ◌∷◌, List, length, take, drop, get_or, sym, ◌∙◌, ap}
 use Rattle.bbm_rules.proofs.Common.{add-one, arith, take_all, drop-cons}
 use Rattle.std.proofs.Common.{length-drop}
 

@@ -1,3 +1,4 @@
 pub mod Flaws
 pub mod Judges
 pub mod Lesser
+pub mod TablePages

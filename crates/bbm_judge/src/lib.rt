@@ -9,6 +9,7 @@ pub mod order;
 mod page_rules;
 pub mod restless;
 mod starts;
+mod table_rules;
 mod tree_rules;
 
 pub use order::{admit, check_limit, judge};

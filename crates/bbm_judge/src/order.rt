@@ -15,6 +15,7 @@ ghost use Rattle.bbm_oracle_trees.specs.HistoryStandsFor.{StandsFor};
 
 use crate::flaws::{Flaw, made_with};
 use crate::page_rules::{not_fresh, page_in_use};
+use crate::table_rules::table_mapped;
 use crate::tree_rules::{break_before_make, limbo_make, no_lock, rewritten_fresh};
 use bbm_events::Event;
 use bbm_oracle_patterns::Evidence;
@@ -25,7 +26,7 @@ use bbm_rules::{Rule, StepFault};
 use std::alloc::Global;
 
 /// The rules in the order of their numbers.
-const RULES: [Rule; 17] = [
+const RULES: [Rule; 18] = [
     Rule::WrongWorld,
     Rule::NoLock,
     Rule::NullWritten,
@@ -43,6 +44,7 @@ const RULES: [Rule; 17] = [
     Rule::BadOperand,
     Rule::LockBusy,
     Rule::LockNotMine,
+    Rule::TableMapped,
 ];
 
 /// Whether an event that fits the header breaks the rule: the number that is reported with it, or None. `NoMemory`
@@ -77,6 +79,7 @@ fn breaks<E: Evidence>(
         Rule::BadOperand => Ok(rules::bad_operand(event)),
         Rule::LockBusy => Ok(rules::lock_busy(events, event)),
         Rule::LockNotMine => Ok(rules::lock_not_mine(events, event)),
+        Rule::TableMapped => table_mapped(alloc, history, event),
     }
 }
 

@@ -40,7 +40,7 @@ fn add_pages(pages: &mut Vec<Page>, ends: &[End]) -> Result<(), NoMemory>
 }
 
 /// The pages in which the attached paths end. `NoMemory` where there is none.
-fn all_pages(alloc: Global, attached: &Attached) -> Result<Vec<Page>, NoMemory>
+pub fn all_pages(alloc: Global, attached: &Attached) -> Result<Vec<Page>, NoMemory>
     ensures { IfOk result (λ pages. pages.items ≡ attach.pages_of (attach.all_ends attached.now)) }
 {
     let mut pages = Vec::new(alloc);

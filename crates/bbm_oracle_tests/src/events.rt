@@ -43,19 +43,19 @@ pub fn write(place: u64, value: u64) -> Option<Event> {
     })
 }
 
-fn init(page: u64) -> Option<Event> {
+pub fn init(page: u64) -> Option<Event> {
     Some(Event::Init {
         pe: Pe::new(0)?,
         page: Page::new(page)?,
     })
 }
 
-fn root() -> Option<Event> {
+pub fn root(kind: Kind, lock: Option<u16>, page: u64) -> Option<Event> {
     Some(Event::Root {
         pe: Pe::new(0)?,
-        kind: Kind::El2,
-        lock: Some(3),
-        page: Page::new(ROOT)?,
+        kind,
+        lock,
+        page: Page::new(page)?,
     })
 }
 
@@ -80,7 +80,7 @@ pub fn events() -> Option<[Event; 11]> {
         init(ROOT)?,
         init(BELOW)?,
         Event::Lock { pe, lock: 3 },
-        root()?,
+        root(Kind::El2, Some(3), ROOT)?,
         Event::Msr {
             pe,
             reg: Reg::Ttbr0El2,

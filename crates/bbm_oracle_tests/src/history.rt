@@ -1,7 +1,7 @@
 //! The log as a history, and the judge over it.
 
 use crate::events::{BELOW, BLOCK, HEADER, MOVED, PLACE, ROOT, TABLE, TABLE_PLACE, events, write};
-use bbm_events::{Event, fits};
+use bbm_events::{Event, Header, fits};
 use bbm_judge::{admit, check_limit, count_restless, judge};
 use bbm_oracle_patterns::{
     Kept, TreePlace, cleansed_everywhere, held, last_valid, phase_in, trace_of,
@@ -13,16 +13,16 @@ use bbm_tlbi_scope::{Cover, TagSet};
 use std::alloc::Global;
 
 /// A history by every pattern of events.
-type History = bbm_oracle_trees::History<AllPatterns>;
+pub type History = bbm_oracle_trees::History<AllPatterns>;
 
 /// Takes the event; false where it doesn't fit, or there is no memory.
 fn takes(history: &mut History, alloc: Global, event: &Event) -> bool {
     fits(history.header(), *event) && history.take(alloc, *event).is_ok()
 }
 
-/// The history of these events; None where one isn't taken.
-fn history_of(alloc: Global, events: &[Event]) -> Option<History> {
-    let mut history = History::new(alloc, &HEADER, AllPatterns);
+/// The history of these events under the header; None where one isn't taken.
+pub fn history_of(alloc: Global, header: &Header, events: &[Event]) -> Option<History> {
+    let mut history = History::new(alloc, header, AllPatterns);
     for event in events {
         if !takes(&mut history, alloc, event) {
             return None;
@@ -124,14 +124,14 @@ fn is_seen(alloc: Global, history: &History) -> bool {
 }
 
 fn tells_all(alloc: Global, events: &[Event]) -> bool {
-    match history_of(alloc, events) {
+    match history_of(alloc, &HEADER, events) {
         Some(history) => is_flushed(alloc, &history),
         None => false,
     }
 }
 
 fn tells_before(alloc: Global, events: &[Event]) -> bool {
-    match history_of(alloc, events) {
+    match history_of(alloc, &HEADER, events) {
         Some(history) => is_seen(alloc, &history),
         None => false,
     }

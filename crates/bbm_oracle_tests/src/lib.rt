@@ -7,4 +7,6 @@ mod events;
 #[cfg(test)]
 mod history;
 #[cfg(test)]
+mod isolated;
+#[cfg(test)]
 mod lists;

@@ -1,7 +1,9 @@
 pub mod ByPatterns
 pub mod HistoryFits
 pub mod Links
+pub mod MappedIn
 pub mod Past
 pub mod TreePhases
 pub mod HistoryStandsFor
+pub mod TreesOf
 pub mod Views

@@ -24,8 +24,8 @@ fn without(alloc: Global, pages: &[Page], but: Page) -> Result<Vec<Page>, NoMemo
     Ok(left)
 }
 
-/// The pages, and this one.
-fn with(alloc: Global, pages: &[Page], page: Page) -> Result<Vec<Page>, NoMemory>
+/// The pages, and this one. `NoMemory` where there is none.
+pub fn with(alloc: Global, pages: &[Page], page: Page) -> Result<Vec<Page>, NoMemory>
     ensures { IfOk result (λ more. (q : ℕ) → among q more.items ≡ (page == q || among q pages.now)) }
 {
     let mut more = without(alloc, pages, page)?;

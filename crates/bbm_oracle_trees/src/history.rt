@@ -1,12 +1,12 @@
-//! The history of a log: the events taken, the trees after them, and the fresh pages.
+//! The history of a log: the events taken, the trees after them, and the fresh and the clean pages.
 //! Source: project's own choice, where no other is named.
 
-ghost use Rattle.std.specs.Prelude.{◌≡◌, ◌∷◌, ◌&&◌, ℕ, List, [], true, not, reverse, IfOk, OnOk, OnErr, option_copied};
+ghost use Rattle.std.specs.Prelude.{◌≡◌, ◌∷◌, List, [], true, reverse, IfOk, OnOk, OnErr, option_copied};
 ghost use Rattle.bbm_events.specs.declared.event.Event.{Event as TheEvent};
 ghost use Rattle.bbm_events.specs.Fits.{fits_heading};
 ghost use Rattle.bbm_events.specs.Heading.{Heading};
 ghost use Rattle.bbm_rules.specs.Covers.{note};
-ghost use Rattle.bbm_rules.specs.Lists.{among};
+ghost use Rattle.bbm_rules.specs.Mapped as mapped;
 ghost use Rattle.bbm_rules.specs.Notes.{events_of};
 ghost use Rattle.bbm_rules.specs.Pages as pages;
 ghost use Rattle.bbm_rules.specs.Phases as phases;
@@ -19,12 +19,12 @@ ghost use Rattle.bbm_oracle_trees.specs.TreePhases.{phase_among};
 ghost use Rattle.bbm_oracle_trees.specs.HistoryStandsFor.{StandsFor};
 
 use crate::covers::covers_of;
-use crate::fresh::{fresh_after, has};
+use crate::fresh::has;
 use crate::limbo::in_limbo;
-use crate::links::leaves_trees;
 use crate::log::Log;
 use crate::node::Node;
-use crate::tree::{first_of, is_childless, tree_of};
+use crate::tree::{first_of, is_childless};
+use crate::trees::{Trees, bring};
 use bbm_events::{Event, Header};
 use bbm_oracle_patterns::{Evidence, Kept};
 use bbm_oracle_tags::{Holding, Keeper};
@@ -34,17 +34,8 @@ use bbm_tlbi_scope::TagSet;
 use std::alloc::Global;
 use std::marker::Model;
 
-/// The trees after some events, and the fresh pages.
-#[derive(Drop)]
-pub struct Trees {
-    /// The pages of the trees, level by level.
-    pub nodes: Vec<Node>,
-    /// The fresh pages.
-    pub fresh: Vec<Page>,
-}
-
-/// A header and the events taken, with the trees and the fresh pages after them, by what is trusted. A clause sees the
-/// header, the trust and the events, the newest first, each with the places that it covered.
+/// A header and the events taken, with the trees, the fresh and the clean pages after them, by what is trusted. A
+/// clause sees the header, the trust and the events, the newest first, each with the places that it covered.
 #[derive(Drop)]
 pub struct History<E: Evidence> {
     log: Log<E>,
@@ -52,35 +43,14 @@ pub struct History<E: Evidence> {
 }
 
 impl<E: Evidence> Model for History<E> {
-    ghost use Rattle.std.specs.Prelude.{◌≡◌, ℕ};
-    ghost use Rattle.bbm_rules.specs.Lists.{among};
-    ghost use Rattle.bbm_rules.specs.Pages.{is_fresh};
-    ghost use Rattle.bbm_rules.specs.Tree.{tree};
     ghost use Rattle.bbm_oracle_trees.specs.Past.{Past, notes};
+    ghost use Rattle.bbm_oracle_trees.specs.TreesOf.{AreTreesOf};
 
     ghost Value = { Past };
 
     ghost view = { λ h. h.log };
 
-    ghost invariant = { λ h. (h.trees.nodes.items ≡ tree h.log.heading h.log.trust (notes h.log))
-        × ((page : ℕ) → among page h.trees.fresh.items ≡ is_fresh h.log.heading h.log.trust (notes h.log) page) };
-}
-
-/// The trees and the fresh pages after the newest event, where these pages were fresh before it.
-fn trees_after<E: Evidence>(
-    alloc: Global,
-    log: &Log<E>,
-    fresh: &[Page],
-    event: &Event,
-) -> Result<Trees, NoMemory>
-    ensures nodes { IfOk result (λ made. made.nodes.items ≡ trees.tree log.now.heading log.now.trust (notes log.now)) }
-    ensures fresh { IfOk result (λ made. (page : ℕ) → among page made.fresh.items
-        ≡ (pages.may_be_fresh event.now page (among page fresh.now)
-        && not (trees.in_tree log.now.heading log.now.trust (notes log.now) page))) }
-{
-    let nodes = tree_of(alloc, log)?;
-    let fresh = fresh_after(alloc, fresh, event, &nodes)?;
-    Ok(Trees { nodes, fresh })
+    ghost invariant = { λ h. AreTreesOf h.log.heading h.log.trust (notes h.log) h.trees };
 }
 
 /// The phase at the PE of a place of the page.
@@ -101,10 +71,7 @@ impl<E: Evidence> History<E> {
     {
         History {
             log: Log::new(alloc, header, evidence),
-            trees: Trees {
-                nodes: Vec::new(alloc),
-                fresh: Vec::new(alloc),
-            },
+            trees: Trees::new(alloc),
         }
     }
 
@@ -182,6 +149,14 @@ impl<E: Evidence> History<E> {
         has(&self.trees.fresh, page)
     }
 
+    /// Whether the page was initialised, and was mapped at no moment since. The header has `isolated`.
+    pub fn is_clean(&self, page: Page) -> bool
+        requires { self.now.heading.words.isolated ≡ true }
+        ensures { result ≡ mapped.is_clean self.now.heading self.now.trust (notes self.now) page }
+    {
+        has(&self.trees.clean, page)
+    }
+
     /// Whether the root with this first page holds the tag at the PE. `NoMemory` where there is none.
     pub fn holds_at(&self, alloc: Global, pe: Pe, root: Page, tag: Tag) -> Result<bool, NoMemory>
         ensures { IfOk result (λ holds. holds
@@ -232,14 +207,8 @@ impl<E: Evidence> History<E> {
     {
         let covers = covers_of(alloc, &self.log, &self.trees.nodes, &event)?;
         let before = self.log.take(alloc, &event, covers)?;
-        if leaves_trees(&self.log, &self.trees.nodes, &event) {
-            return Ok(());
-        }
-        match trees_after(alloc, &self.log, &self.trees.fresh, &event) {
-            Ok(trees) => {
-                self.trees = trees;
-                Ok(())
-            }
+        match bring(alloc, &self.log, &mut self.trees, &event) {
+            Ok(()) => Ok(()),
             Err(_) => {
                 self.log.forget(before);
                 Err(NoMemory)

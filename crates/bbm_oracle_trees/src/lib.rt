@@ -1,6 +1,7 @@
 //! The trees of translation tables that a list of events makes, and what is asked of them, by a search of the events.
 #![tactic(auto)]
 
+mod clean;
 mod covers;
 mod fresh;
 mod history;
@@ -10,6 +11,8 @@ mod log;
 mod node;
 mod starts;
 mod tree;
+mod trees;
 
+pub use clean::maps;
 pub use history::History;
 pub use node::{Above, Node};
