@@ -32,5 +32,6 @@ pub mod Reaching
 pub mod Hanging
 pub mod Surveying
 pub mod Attaching
+pub mod Listed
 pub mod Descending
 pub mod Limbo

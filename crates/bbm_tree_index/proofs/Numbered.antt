@@ -2,7 +2,8 @@
 use Rattle.bbm_tree_index.proofs.Common.{IndexMap, SameKeys, get, index_map_len, keys, length-map}
 use Rattle.bbm_rules.proofs.Common.{◌≡◌, ◌<◌, ◌∙◌, ℕ, suc, Bool, true, false, List, [], ◌∷◌, Option, Some, None, is_some}
 use Rattle.bbm_rules.proofs.Common.{nat_eq, refl, sym, ap, subst, lookup, if◌then◌else◌, option_map, slice_get, length, unwrap_or, same_Some}
-use Rattle.bbm_rules.proofs.Common.{◌++◌, ◌||◌, inl, inr, eqb-true}
+use Rattle.bbm_rules.proofs.Common.{◌++◌, ◌||◌, ◌+◌, inl, inr, eqb-true, length-append}
+use Rattle.std.proofs.Math.Nat.{add-zero}
 use Rattle.std.proofs.lemmas.Bool.{cases_Bool}
 use Rattle.std.specs.Map.{keys_of}
 use Rattle.std.proofs.lemmas.Cmp.{nat_eq_equiv}
@@ -78,3 +79,9 @@ tracked_more old new page is p = ap (λ (ps : List ℕ). is_some (number_in ps p
     by None none =
         ap is_some (number_push old page p none) ∙ pull (nat_eq page p)
         ∙ ap (λ (b : Bool). b || is_some (number_in old p)) (nat_eq_equiv.symm page p)
+
+-- how many pages have numbers then
+pub tracked_count : (old new : List ℕ) (page : ℕ) (known : Bool) → new ≡ (if known then old else old ++ page ∷ [])
+    → length new ≡ length old + (if known then 0 else 1)
+tracked_count old new page true is = ap length is ∙ sym (add-zero (length old))
+tracked_count old new page false is = ap length is ∙ length-append old (page ∷ [])

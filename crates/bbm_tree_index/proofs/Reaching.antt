@@ -7,7 +7,8 @@ use Rattle.bbm_rules.proofs.Common.{subst, true≢false, arith, cases_eq, end_at
 use Rattle.std.proofs.lemmas.Bool.{true_from_ne_false}
 use Rattle.bbm_rules.proofs.TreeLaw.{table_level}
 use Rattle.bbm_tree_index.specs.Paths.{Through}
-use Rattle.bbm_tree_index.specs.Prepared.{AreNamedFresh}
+use Rattle.bbm_tree_index.specs.Prepared.{AreNamedFresh, IsPrepared}
+use Rattle.bbm_tree_index.specs.declared.index.Prepared.{Prepared}
 use Rattle.bbm_tree_index.proofs.Begins.{apart_of}
 use Rattle.bbm_tree_index.proofs.Starts.{goes_kind}
 use Rattle.bbm_tree_index.proofs.Ways.{goes_leads, goes_same}
@@ -54,6 +55,10 @@ pub record Ready {S : Type 0} (tables : List (IndexMap ℕ Mark S)) (index : Tre
   pub named : AreNamedFresh index at
   pub never : Never (IsUnfresh (fresh_in index) (value_at map) (starts_of index at) (names_pages at))
   pub survey : IsSurvey tables index map at
+
+pub ready : {prepared : Prepared} {index : TreeIndex} {map : PlaceMap} {at : Attach} → IsPrepared prepared index map at
+    → AreNamedFresh index at → Ready prepared.tables.items index map at
+ready p named = record { may = p.may; named = named; never = p.passes; survey = p.tells }
 
 -- a path from a start reaches the node
 abbrev pub Reach : TreeIndex → PlaceMap → Attach → Node → Type 0

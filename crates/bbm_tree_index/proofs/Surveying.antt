@@ -15,17 +15,17 @@ fresh_known (Some role) e = refl
 
 module _ {S : Type 0} {tables : List (IndexMap ℕ Mark S)} {index : TreeIndex} {map : PlaceMap} {at : Attach}
     (ready : Ready tables index map at) where
-  abbrev Has : ℕ → Node → Type 0
+  abbrev pub Has : ℕ → Node → Type 0
   Has = Reached (fresh_in index) (value_at map) (starts_of index at)
 
-  levels : (k : ℕ) (table : IndexMap ℕ Mark S) → slice_get tables k ≡ Some table → (q : ℕ) → Counts (Has k) q (get nat_eq table q)
+  pub levels : (k : ℕ) (table : IndexMap ℕ Mark S) → slice_get tables k ≡ Some table → (q : ℕ) → Counts (Has k) q (get nat_eq table q)
   levels = ready.survey.surveyed.levels (starts_of index at) ready.survey.starting
 
   -- the table in which the page of a reached node stands
-  below : (m : Node) (r : Reach index map at m) → r.0 < length tables
+  pub below : (m : Node) (r : Reach index map at m) → r.0 < length tables
   below m r = omega (arith, (path_to ready m r).within, ready.survey.count r.1.start r.1.is_start, r.1.count)
 
-  in_table : (m : Node) (r : Reach index map at m) → Listed tables Has levels r.0 m.page
+  pub in_table : (m : Node) (r : Reach index map at m) → Listed tables Has levels r.0 m.page
   in_table m r = listed tables Has levels r.0 m.page m (below m r) r.1 refl
 
   pub reach_plain : (m : Node) → Reach index map at m → spot_with (heading_of index) (role_as m m.above) ≡ Some (spot_as m)

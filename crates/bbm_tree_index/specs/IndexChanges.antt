@@ -1,7 +1,7 @@
 -- What the calls of the index change: in the index, and in the map that its places lie in. Each relation says what
 -- changes, and that all else stays. Source: project's own choice.
-use Rattle.std.specs.Prelude.{◌≡◌, ◌↔◌, ◌⊎◌, ℕ, ◌+◌, Bool, true, false, not, ◌&&◌, ◌||◌, ◌==◌, if◌then◌else◌}
-use Rattle.std.specs.Prelude.{[], Some, None, is_none, length, nat_eq}
+use Rattle.std.specs.Prelude.{◌≡◌, ◌↔◌, ◌⊎◌, ℕ, Bool, true, false, not, ◌&&◌, ◌||◌, ◌==◌, if◌then◌else◌}
+use Rattle.std.specs.Prelude.{[], ◌∷◌, ◌++◌, Some, None, is_none, nat_eq}
 use Rattle.bbm_entry_state.specs.EntryStanding.{IsIdle}
 use Rattle.bbm_events.specs.Heading.{Heading}
 use Rattle.bbm_place_map.specs.Map.{is_tracked, marks_at, pages_of, pends_at, value_at}
@@ -38,10 +38,11 @@ module _ (page : ℕ) where
     pub fresh : (p : ℕ) → fresh_in new p ≡ (fresh_in old p && not (p == page))
     pub null : (p : ℕ) → null_in new p ≡ (p == page || null_in old p)
 
-  -- the page counts as tracked, under the same header; whether another page was ever tracked stays
+  -- The page counts as tracked, under the same header, and has the next number where it had none. Whether another page
+  -- was ever tracked stays.
   pub record CountsTracked (old new : TreeIndex) : Type 0 where
     pub known : (p : ℕ) → known_in new p ≡ (p == page || known_in old p)
-    pub pages : length (pages_in new) ≡ length (pages_in old) + (if known_in old page then 0 else 1)
+    pub pages : pages_in new ≡ (if known_in old page then pages_in old else pages_in old ++ page ∷ [])
     pub heading : heading_of new ≡ heading_of old
 
   -- The map tracks the page, with values 0 and no broken place; what it says of the places of other pages stays.

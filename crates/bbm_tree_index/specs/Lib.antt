@@ -15,3 +15,5 @@ pub mod LeastPages
 pub mod Descent
 pub mod Prepared
 pub mod IndexChanges
+pub mod Outputs
+pub mod Listing

@@ -22,6 +22,7 @@ use crate::leaving::{Leaving, sweep};
 use crate::mark::Mark;
 use crate::role::{Detach, Path, Role};
 use crate::spot::{Spot, spot_of};
+use crate::standing::Standing;
 use crate::table::{Roles, number_of, put, set};
 use bbm_events::Header;
 use bbm_page_map::PageColumn;
@@ -55,7 +56,7 @@ pub struct Prepared {
 
 impl TreeIndex {
     ghost use Rattle.std.specs.Prelude.{◌≡◌, ◌≢◌, ◌≤◌, ◌↔◌, ℕ, true, false, None, Some, is_some, Err};
-    ghost use Rattle.std.specs.Prelude.{IfErr, IfSome, OnOk, OnErr, length};
+    ghost use Rattle.std.specs.Prelude.{IfErr, IfSome, OnOk, OnErr, length, slice_get, ◌<◌};
     ghost use Rattle.std.specs.Option.{option_map, option_map_or};
     ghost use Rattle.bbm_rules.specs.Places.{page_of};
     ghost use Rattle.bbm_rules.specs.Tree.{Node};
@@ -155,6 +156,21 @@ impl TreeIndex {
         ensures bound { result ≤ 16384 }
     {
         self.roles.len() as u64
+    }
+
+    /// The page with this number, and the kind and the level at which it is read; None where it is in no tree. Numbers
+    /// are those that the map gave, from 0 on.
+    pub fn standing(&self, number: usize) -> (Page, Option<Standing>)
+        requires { number < length (pages_in self.now) }
+        ensures at { slice_get (pages_in self.now) number ≡ Some result.0 }
+        ensures stands { result.1 ≡ option_map (λ n. record { kind = n.kind; level = n.level })
+            (node_in self.now result.0) }
+    {
+        let (page, role) = self.roles.at(number);
+        match self.spot(page, role) {
+            Some(spot) => (page, Some(spot.standing())),
+            None => (page, None),
+        }
     }
 
     /// What is known of the place: the kind of its tree, its level 0 to 3, the input pages that it translates, and the

@@ -72,8 +72,8 @@ fn is_wrong(
     !roles.is_fresh(page)
 }
 
-/// The lesser of two pages.
-fn lesser_page(page: Option<Page>, other: Option<Page>) -> Option<Page>
+/// The lesser of two pages, of those that there are.
+pub fn lesser_page(page: Option<Page>, other: Option<Page>) -> Option<Page>
     ensures { result ≡ lesser page other }
 {
     match (page, other) {

@@ -11,6 +11,7 @@ ghost use Rattle.bbm_tree_index.specs.Spots.{spot_with, Fits, RoleFits};
 
 use crate::held::{holds_none, next_at, place_of};
 use crate::role::{Path, Role};
+use crate::standing::Standing;
 use bbm_events::{Header, input_pages, regions_in};
 use bbm_place_map::PlaceMap;
 use bbm_regimes::{Interval, Kind, Level, PLACES, Page, Place};
@@ -72,6 +73,17 @@ impl Spot {
     ghost use Rattle.std.specs.Prelude.{◌<◌, true, Some, IfSome};
     ghost use Rattle.bbm_tree_index.specs.HeldCores.{is_at};
     ghost use Rattle.bbm_rules.specs.Places.{index_of};
+
+    /// How the page is read.
+    pub fn standing(&self) -> Standing
+        ensures kind { result.kind ≡ self.now.kind }
+        ensures level { result.level ≡ self.now.level }
+    {
+        Standing {
+            kind: self.kind,
+            level: self.level,
+        }
+    }
 
     /// The first input page number that the place of the page translates.
     pub fn start(&self, place: Place) -> u64

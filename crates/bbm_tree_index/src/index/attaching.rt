@@ -9,7 +9,8 @@ ghost use Rattle.bbm_tree_index.specs.Index.{SamePages, SameTracked, heading_of,
 ghost use Rattle.bbm_tree_index.specs.IndexAgreement.{SharesNumbers};
 ghost use Rattle.bbm_tree_index.specs.IndexChanges.{Attaches};
 ghost use Rattle.bbm_tree_index.specs.LeastPages.{IsSurvey};
-ghost use Rattle.bbm_tree_index.specs.Paths.{starts_of};
+ghost use Rattle.bbm_tree_index.specs.Outputs.{Lists};
+ghost use Rattle.bbm_tree_index.specs.Paths.{Attached, starts_of};
 ghost use Rattle.bbm_tree_index.specs.Prepared.{AreNamedFresh, IsPrepared};
 ghost use Rattle.bbm_tree_index.specs.Survey.{Starting, Well};
 ghost use Rattle.bbm_tree_index.specs.declared.role.Attach.{Attach as TheAttach};
@@ -18,8 +19,10 @@ use crate::attach_prepared::attach_all;
 use crate::fault::TreeFault;
 use crate::index::{Prepared, TreeIndex};
 use crate::judge::{is_named, judge_tables};
+use crate::listing::list_levels;
 use crate::mark::Mark;
 use crate::role::Attach;
+use crate::standing::AttachedPage;
 use crate::start::{start_below, start_root};
 use crate::survey::survey;
 use bbm_place_map::PlaceMap;
@@ -134,6 +137,24 @@ impl TreeIndex {
         let tables = self.survey(alloc, map, &at)?;
         self.judge_survey(map, &at, &tables)?;
         Ok(Prepared { tables })
+    }
+
+    /// The pages that `attach_prepared` attaches, each with the kind and the level at which it is read. `NoMemory`
+    /// where there is none.
+    pub fn attached_pages(
+        &self,
+        alloc: Global,
+        map: &PlaceMap,
+        prepared: &Prepared,
+    ) -> Result<Vec<AttachedPage>, NoMemory>
+        requires same { SharesNumbers self.now map.now }
+        requires prepared { (at : TheAttach) × IsPrepared prepared.now self.now map.now at × AreNamedFresh self.now at }
+        ensures { IfOk result (λ pages. (at : TheAttach) → IsPrepared prepared.now self.now map.now at
+            → AreNamedFresh self.now at
+            → Lists (Attached (fresh_in self.now) (value_at map.now) (starts_of self.now at)) pages.items) }
+    {
+        let _ = map;
+        list_levels(alloc, &self.header, &prepared.tables)
     }
 
     /// Attaches pages that can be, as `prepare` found them in this index: those named, and all that paths through fresh

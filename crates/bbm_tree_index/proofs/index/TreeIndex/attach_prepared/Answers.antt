@@ -1,17 +1,11 @@
-use Rattle.bbm_tree_index.proofs.Common.{Hung, PlaceMap, TreeIndex, Attach, get}
+use Rattle.bbm_tree_index.proofs.Common.{Hung, get}
 use Rattle.bbm_rules.proofs.Common.{ℕ, length, nat_eq, refl, slice_get, sym, ap, ◌∙◌, subst}
 use Rattle.bbm_tree_index.specs.Index.{heading_of}
-use Rattle.bbm_tree_index.specs.Prepared.{AreNamedFresh, IsPrepared}
-use Rattle.bbm_tree_index.specs.declared.index.Prepared.{Prepared}
 use Rattle.bbm_tree_index.proofs.Attaching.{attaches, sound_after}
 use Rattle.bbm_tree_index.proofs.Growing.{pages_same}
-use Rattle.bbm_tree_index.proofs.Reaching.{Ready}
+use Rattle.bbm_tree_index.proofs.Reaching.{ready}
 use Rattle.bbm_tree_index.proofs.Surveying.{tables_known}
 use Rattle.bbm_tree_index.proofs.index.TreeIndex.attach_prepared.Goals as goal
-
-ready : {prepared : Prepared} {index : TreeIndex} {map : PlaceMap} {at : Attach} → IsPrepared prepared index map at
-    → AreNamedFresh index at → Ready prepared.tables.items index map at
-ready p named = record { may = p.may; named = named; never = p.passes; survey = p.tells }
 
 pub attach_all-requires-clause-pages : goal.attach_all-requires-clause-pages
 attach_all-requires-clause-pages c = λ k table at.
