@@ -1,0 +1,9 @@
+mod Common
+mod Cores
+mod Columns
+mod Known
+mod Lists
+mod Tables
+mod HeldLeaves
+mod Coverings
+mod Targets
