@@ -43,7 +43,7 @@ module _ (heading : Heading) (b : Below heading) (h : List Event) where
   stays e kept no_dsb n a at = refl
 
   -- a page of a tree after the event was in it before, or comes into it
-  came : (e : Event) → keeps heading Patterns (e ∷ h) ≡ true → (n : Node) (a : ℕ)
+  pub came : (e : Event) → keeps heading Patterns (e ∷ h) ≡ true → (n : Node) (a : ℕ)
       → node_of heading Patterns (notes heading (e ∷ h)) (page_of a) ≡ Some n
       → ((Contains (tree heading Patterns marks) n × (node_of heading Patterns marks (page_of a) ≡ Some n))
       ⊎ (Attaches heading Patterns marks e n × (is_fresh heading Patterns marks n.page ≡ true))) × (n.page ≡ page_of a)

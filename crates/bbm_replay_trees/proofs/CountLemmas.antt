@@ -1,6 +1,6 @@
 -- The number of restless places.
-use Rattle.bbm_rules.proofs.Common.{◌≡◌, ℕ, zero, suc, ◌<◌, ◌≤◌, not, Bool, true, false, ◌&&◌, List, [], ◌∷◌, length}
-use Rattle.bbm_rules.proofs.Common.{Option, Some, None, is_some, filter, map, refl, sym, ◌∙◌, ap, subst, inl, inr}
+use Rattle.bbm_rules.proofs.Common.{◌≡◌, ℕ, zero, suc, ◌<◌, ◌≤◌, not, Bool, true, false, ◌&&◌, List, length}
+use Rattle.bbm_rules.proofs.Common.{Option, Some, None, is_some, filter, map, refl, sym, ◌∙◌, ap, subst}
 use Rattle.bbm_rules.proofs.Common.{true≢false, arith, and_parts, option_map_or, is_valid, Event, Patterns, below}
 use Rattle.bbm_rules.proofs.Common.{events_of, is_restless, page_of, Node, held_at, node_of, value_of, written_places}
 use Rattle.bbm_rules.proofs.Common.{In, from_filter, from_map, in_map, to_filter, any_finds, any_found, eq-eqb}

@@ -2,7 +2,7 @@
 use Rattle.bbm_rules.proofs.Common.{◌≡◌, ℕ, ◌+◌, ◌<◌, ◌⊎◌, inl, inr, List, [], ◌∷◌, length, Option, Some, Contains}
 use Rattle.bbm_rules.proofs.Common.{refl, sym, ◌∙◌, ap, subst, arith, Event, Patterns, Declared, root_at, root_pages}
 use Rattle.bbm_rules.proofs.Common.{roots_of, Node, IsNode, suc, true, None, is_some, option_and_then, Kind, core_in}
-use Rattle.bbm_rules.proofs.Common.{core_of, desc_of, Core, Desc, Invalid, Table, Leaf, keeps, held, Noted, page_of}
+use Rattle.bbm_rules.proofs.Common.{core_of, desc_of, Core, Desc, Invalid, Table, Leaf, keeps, Noted, page_of}
 use Rattle.bbm_rules.proofs.Common.{Above, held_at, next_of, node_below, node_of, Down, written_places, In}
 use Rattle.bbm_rules.proofs.Common.{from_contains}
 use Rattle.bbm_events.specs.Heading.{Heading}

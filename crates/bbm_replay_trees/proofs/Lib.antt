@@ -9,3 +9,5 @@ pub mod PageLemmas
 pub mod PlaceLemmas
 pub mod CountLemmas
 pub mod CoreLemmas
+pub mod GuardLemmas
+pub mod TableLemmas

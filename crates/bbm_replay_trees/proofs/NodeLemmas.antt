@@ -121,7 +121,7 @@ module _ (heading : Heading) (b : Below heading) (h : List Event) where
   through_fresh [] n m t = subst (λ (x : Node). is_fresh heading Patterns marks x.page ≡ true) t.1 t.0
   through_fresh (place ∷ places) n m t = through_fresh places (node_below n place t.2) m t.4
 
-  attached_fresh : (e : Event) (m : Node) → Attaches heading Patterns marks e m → is_fresh heading Patterns marks m.page ≡ true
+  pub attached_fresh : (e : Event) (m : Node) → Attaches heading Patterns marks e m → is_fresh heading Patterns marks m.page ≡ true
   attached_fresh (Write pe place v) m l = through_fresh l.places (node_below l.parent place l.next) m l.through
   attached_fresh (Root pe kind lock page) m p = through_fresh p.places p.start m p.through
   attached_fresh e m a = absurd a

@@ -8,3 +8,4 @@ pub mod Judging
 pub mod RuleLaws
 pub mod Restless
 pub mod PlaceLaws
+pub mod Guarding

@@ -3,6 +3,7 @@
 
 mod below;
 pub mod cores;
+pub mod guarding;
 pub mod judging;
 pub mod nodes;
 pub mod pages;
@@ -11,6 +12,7 @@ pub mod rules;
 pub mod starts;
 
 pub use cores::law_cores;
+pub use guarding::{law_guards, law_judges_tables};
 pub use judging::{law_judging, law_unattached};
 pub use nodes::{law_neighbours, law_nodes};
 pub use pages::{law_fresh_pages, law_pages, law_values};
