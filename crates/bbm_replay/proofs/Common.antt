@@ -28,9 +28,9 @@ pub use Rattle.bbm_replay.specs.OnePage.{IsOnWay, MetFromAll, NamesOne, covers_k
 pub use Rattle.bbm_replay.specs.ReplayFaults.{step_fault}
 pub use Rattle.bbm_replay.specs.ReplayLaws.{Laws}
 pub use Rattle.bbm_replay.specs.ReplayRules.{Rules}
-pub use Rattle.bbm_replay.specs.ReplayStanding.{Admitted, IsAt, IsFrugal, IsUnlocked, Links, MayAdmit, MayMeet, Meets}
-pub use Rattle.bbm_replay.specs.ReplayStanding.{PartsStand, SameFrame, WritesTree, view_of}
-pub use Rattle.bbm_replay.specs.ReplayTold.{Apart, Told, state_of, waiting}
+pub use Rattle.bbm_replay.specs.ReplayStanding.{Admitted, Admits, IsAt, IsFrugal, IsUnlocked, Links, MayAdmit}
+pub use Rattle.bbm_replay.specs.ReplayStanding.{MayMeet, Meets, PartsStand, SameFrame, WritesTree}
+pub use Rattle.bbm_replay.specs.ReplayTold.{Apart, Told, state_of, view_of, waiting}
 pub use Rattle.bbm_replay.specs.declared.parts.ReplayState.{ReplayState}
 pub use Rattle.bbm_replay.specs.declared.tlbi_cover.Covering.{Covering}
 pub use Rattle.bbm_replay_entries.specs.EntryEvents.{touches}
@@ -46,7 +46,7 @@ pub use Rattle.bbm_rules.specs.Prelude.{Kind, kind_in_world}
 pub use Rattle.bbm_rules.specs.declared.rule.Rule.{Rule}
 pub use Rattle.bbm_rules.specs.declared.rule.Rule.TheVariants.{BadKind, BreakBeforeMake, GlobalUser, LimboMake, NoLock}
 pub use Rattle.bbm_rules.specs.declared.rule.Rule.TheVariants.{NotFresh, NullWritten, PageInUse, RewrittenFresh}
-pub use Rattle.bbm_rules.specs.declared.rule.Rule.TheVariants.{WrongWorld}
+pub use Rattle.bbm_rules.specs.declared.rule.Rule.TheVariants.{TableMapped, WrongWorld}
 pub use Rattle.bbm_rules.specs.declared.step_fault.StepFault.{StepFault}
 pub use Rattle.bbm_rules.specs.declared.step_fault.StepFault.TheVariants.{Broken, Limit, NoMemory}
 pub use Rattle.bbm_tlbi_scope.specs.Numbers.{lacks_vmid, names_all}

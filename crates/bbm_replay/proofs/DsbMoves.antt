@@ -20,7 +20,8 @@ use Rattle.bbm_replay.proofs.Entries.{entry_same, none_of, some_next, some_pe}
 use Rattle.bbm_replay.proofs.Quiet.{told_next}
 use Rattle.bbm_replay.proofs.Writing.{cores}
 use Rattle.bbm_replay.proofs.Ways.{state_core}
-use Rattle.bbm_replay.proofs.Framing.{meets_ok}
+use Rattle.bbm_tree_index.specs.Index.{pages_in}
+use Rattle.bbm_replay.proofs.Framing.{meets_left}
 
 pub broken_marks : (live : Option Core) (m : Option Marks) → is_broken (state_from live m) ≡ is_some m
 broken_marks live m = grind arith
@@ -212,7 +213,8 @@ module _ (laws : (heading : Heading) → Laws heading) (old : ReplayState) (m1 m
       tracking = record { tracked = λ p. refl; known = λ p. refl; pages = refl };
     }
 
-  pub dsb_meets : (new : ReplayState) → MayMeet old (Dsb pe dsb) → SameFrame old new → changes.BarriersPass
+  pub dsb_meets : (new : ReplayState) → MayMeet old (Dsb pe dsb) → SameFrame old new → new.unmapped ≡ old.unmapped
+      → pages_in new.index ≡ pages_in old.index → changes.BarriersPass
       → ((heading : Heading) (h : List Event) → roots.Stands old.roots heading h
       → roots.Stands new.roots heading (Dsb pe dsb ∷ h))
       → ((p : ℕ) → is_tracked m2 p ≡ is_tracked old.map p)
@@ -221,12 +223,13 @@ module _ (laws : (heading : Heading) → Laws heading) (old : ReplayState) (m1 m
       → Leaves (view_of m2 old.index) (view_of m2 old.index) (is_held_by holding))
       → Leaves (view_of m2 old.index) (view_of new.map new.index) (is_held_by holding))
       → Meets old new (Dsb pe dsb) (Ok tt)
-  dsb_meets new may frame pass taken tracked move = meets_ok (Dsb pe dsb) may frame (λ heading h s fits. (
-    pass.dsb heading h pe dsb,
-    pass.dsb_limit h pe dsb,
-    after_dsb (laws heading) s.told (hears_here heading h s) (completes_here heading h s) (view_of new.map new.index) fits
-        (pass.dsb heading h pe dsb) (λ p. refl) (move (still_outside heading h s) (nothing_leaves heading h s))
-        (record { fresh = λ p. refl; null = λ p. refl })
-        (record { tracked = tracked; known = λ p. refl; pages = refl }),
-    taken heading h s.roots,
-  ))
+  dsb_meets new may frame same pages pass taken tracked move =
+      meets_left laws (Dsb pe dsb) refl may frame same pages (λ heading h s fits. (
+        pass.dsb heading h pe dsb,
+        pass.dsb_limit h pe dsb,
+        after_dsb (laws heading) s.told (hears_here heading h s) (completes_here heading h s) (view_of new.map new.index) fits
+            (pass.dsb heading h pe dsb) (λ p. refl) (move (still_outside heading h s) (nothing_leaves heading h s))
+            (record { fresh = λ p. refl; null = λ p. refl })
+            (record { tracked = tracked; known = λ p. refl; pages = refl }),
+        taken heading h s.roots,
+      ))

@@ -1,18 +1,21 @@
 -- A write at a place of a tree, at the parts.
-use Rattle.bbm_replay.proofs.Common.{node_in, broken, marks_at, pends_at, value_at, SamePages, SameTracked, fresh_in}
+use Rattle.bbm_replay.proofs.Common.{node_in, broken, marks_at, pends_at, value_at, SameTracked, fresh_in}
 use Rattle.bbm_replay.proofs.Common.{Judging, Written, WritesAs, waits, IsIdle, Pends, EntryState, same_kind, NoLock}
 use Rattle.bbm_replay.proofs.Common.{BreakBeforeMake, LimboMake, NotFresh, BadKind, GlobalUser, Broken, limbo_by, Path}
 use Rattle.bbm_replay.proofs.Common.{PlaceMap, TreeIndex, state_at, Roots, View, notes, Laws, attached_next}
 use Rattle.bbm_replay.proofs.Common.{is_contiguous_core, is_global_core, step_fault, TreeFault, Rules, Admitted}
 use Rattle.bbm_replay.proofs.Common.{core_in, Kind, WritesTree, IsAt, Links, IsUnlocked, MayAdmit, Meets, PartsStand}
-use Rattle.bbm_replay.proofs.Common.{SameFrame, view_of, Told, state_of, ReplayState}
+use Rattle.bbm_replay.proofs.Common.{view_of, Told, state_of, ReplayState, Admits, StepFault, TableMapped}
+use Rattle.bbm_replay.proofs.Common.{kept_next, NullWritten, RewrittenFresh}
+use Rattle.std.specs.Prelude.{IfSome}
 use Rattle.bbm_rules.proofs.Common.{◌≡◌, ℕ, ◌<◌, ◌%◌, Bool, true, false, not, ◌&&◌, ◌⊎◌, ◌==◌, List, ◌∷◌, Option, Some}
 use Rattle.bbm_rules.proofs.Common.{None, is_none, is_some, option_and_then, Result, Ok, Err, refl, sym, ◌∙◌, ap, subst}
 use Rattle.bbm_rules.proofs.Common.{option_map_or, core_of, desc_of, differ, Core, Desc, rewrites, attached_by}
 use Rattle.bbm_rules.proofs.Common.{Patterns, is_global, if_so, page_of, Ttbr0, Heading, Event, Write, lock_of}
 use Rattle.bbm_rules.proofs.Common.{bad_kind, break_before_make, global_user, is_contiguous, lacks, limbo_make, no_lock}
 use Rattle.bbm_rules.proofs.Common.{not_fresh, null_written, rewritten_fresh, Node, held_at, next_in, next_of, node_of}
-use Rattle.bbm_rules.proofs.Common.{and-false, and_right, Breach, arith, false_from_ne_true, fits_heading, limit_of}
+use Rattle.bbm_rules.proofs.Common.{and-false, and-true, and_right, if_so, Breach, arith, false_from_ne_true}
+use Rattle.bbm_rules.proofs.Common.{fits_heading, limit_of}
 use Rattle.bbm_rules.proofs.TreeLaw.{table_level}
 use Rattle.bbm_rules.specs.Answers.{is_written}
 use Rattle.bbm_replay_trees.specs.Told.{core_at}
@@ -26,8 +29,23 @@ use Rattle.bbm_tree_index.specs.declared.role.Attach.TheVariants as attach
 use Rattle.bbm_replay.proofs.Moves.{Attaches, Writes, tracked_alike}
 use Rattle.bbm_place_map.specs.Map.{pages_of}
 use Rattle.std.proofs.Common.{length}
-use Rattle.bbm_replay.proofs.Framing.{meets_err, meets_ok, stands_still, meets_broken}
-use Rattle.bbm_replay.proofs.Judging.{all_pass, found, refused, write_is}
+use Rattle.bbm_rules.specs.Broken.{first_broken}
+use Rattle.bbm_rules.specs.Mapped.{maps}
+use Rattle.bbm_rules.specs.Rules.{table_mapped}
+use Rattle.bbm_tree_index.specs.Attaching.{Never}
+use Rattle.bbm_tree_index.specs.LeastPages.{LeastOf}
+use Rattle.bbm_tree_index.specs.Outputs.{CoversAttached}
+use Rattle.bbm_replay_trees.specs.Guarding.{Guards}
+use Rattle.bbm_replay_trees.specs.TreeEvents.{earlier_rules}
+use Rattle.bbm_replay.specs.Guarded.{Becomes, CoversListed, CoversValue, Guarded, IsAttached, IsBad, IsOver, JudgesLeaf}
+use Rattle.bbm_replay.specs.Guarded.{Passes, Refuses}
+use Rattle.bbm_unmapped.specs.Unmapped.{free_in, may_map}
+use Rattle.bbm_tree_index.specs.declared.standing.AttachedPage.{AttachedPage}
+use Rattle.bbm_unmapped.specs.declared.unmapped.Unmapped.{Unmapped}
+use Rattle.bbm_replay.proofs.Guarding.{covers_nothing, guard_attached, guard_covered, if_kept, maps_none, never_over}
+use Rattle.bbm_replay.proofs.Guarding.{passes, refuses, word_of}
+use Rattle.bbm_replay.proofs.Framing.{meets_err, meets_ok, meets_broken}
+use Rattle.bbm_replay.proofs.Judging.{all_pass, found, kept_too, refused, write_is}
 use Rattle.bbm_replay.proofs.Rooting.{attaches_of}
 use Rattle.bbm_replay.proofs.Writing.{after_attaching_write, after_plain_write, cores}
 use Rattle.bbm_replay.proofs.Entries.{none_of}
@@ -140,7 +158,8 @@ module _ (laws : (heading : Heading) → Laws heading) (rules : (heading : Headi
     abbrev last : Option Breach
     last = found NotFresh (not_fresh heading Patterns (notes heading h) e)
         (found BadKind (bad_kind heading Patterns (notes heading h) e)
-        (found GlobalUser (global_user heading Patterns (notes heading h) e) None))
+        (found GlobalUser (global_user heading Patterns (notes heading h) e)
+        (found TableMapped (table_mapped heading Patterns (notes heading h) e) None)))
 
     bbm_is : break_before_make heading Patterns (notes heading h) e ≡ if_so (differ held new) place
     bbm_is = (rules heading).writes.held h v_old n pe place v s.told.nodes (cores s.told) at.1
@@ -177,14 +196,16 @@ module _ (laws : (heading : Heading) → Laws heading) (rules : (heading : Headi
 
       module _ (none : attached_next held new ≡ None) where
         module _ (heading : Heading) (h : List Event) (s : PartsStand old heading h) where
+          unattached : attached_by heading Patterns (notes heading h) e ≡ None
+          unattached = (laws heading).unattached.attaches_none h v_old n pe place v s.told.nodes
+              (cores s.told) at.1 (none_attached none)
+
           leaves : (not_fresh heading Patterns (notes heading h) e ≡ None)
               × (bad_kind heading Patterns (notes heading h) e
               ≡ if_so (is_contiguous n.kind (desc_of n.kind n.level v)) place)
               × (global_user heading Patterns (notes heading h) e
               ≡ if_so (same_kind n.kind Ttbr0 && is_global (desc_of n.kind n.level v)) place)
-          leaves = (rules heading).unattached.inside h v_old n pe place v s.told.nodes at.1
-              ((laws heading).unattached.attaches_none h v_old n pe place v s.told.nodes
-              (cores s.told) at.1 (none_attached none))
+          leaves = (rules heading).unattached.inside h v_old n pe place v s.told.nodes at.1 unattached
 
           bad_is : bad_kind heading Patterns (notes heading h) e ≡ if_so (is_contiguous_core new) place
           bad_is = leaves.1 ∙ ap (λ b. if_so b place) (contiguous_is n.kind (desc_of n.kind n.level v))
@@ -199,7 +220,8 @@ module _ (laws : (heading : Heading) → Laws heading) (rules : (heading : Headi
 
           -- the rules on the leaf
           leaf : broken heading Patterns h e ≡ found BadKind (if_so (is_contiguous_core new) place)
-              (found GlobalUser (if_so (same_kind path.kind Ttbr0 && is_global_core new) place) None)
+              (found GlobalUser (if_so (same_kind path.kind Ttbr0 && is_global_core new) place)
+              (found TableMapped (table_mapped heading Patterns (notes heading h) e) None))
           leaf = rw (left heading h s, leaves.0, bad_is, user_is) refl
 
         pub contiguous : is_contiguous_core new ≡ true → Meets old old e (Err (Broken BadKind place))
@@ -210,25 +232,105 @@ module _ (laws : (heading : Heading) → Laws heading) (rules : (heading : Headi
               → Meets old old e (Err (Broken GlobalUser place))
           user_global k = meets_broken old e GlobalUser place (λ heading h s. rw (leaf heading h s, good, k) refl)
 
-          pub admitted : (same_kind path.kind Ttbr0 && is_global_core new) ≡ false
-              → Admitted old old pe place v (attached_next held new)
-          admitted k = record {
-            kept = λ heading h s. rw (leaf heading h s, good, k) refl;
-            frame = record { header = refl; index_header = refl; numbers = λ n. n };
-            same_map = refl;
-            same_roots = refl;
-            links = subst (λ (o : Option ℕ). Links old.map place o old.index old.index) (sym none) refl;
-          }
+          module _ (bound : (same_kind path.kind Ttbr0 && is_global_core new) ≡ false) where
+            -- the rule on table pages is left
+            table_left : (heading : Heading) (h : List Event) (s : PartsStand old heading h)
+                → broken heading Patterns h e
+                ≡ found TableMapped (table_mapped heading Patterns (notes heading h) e) None
+            table_left heading h s = rw (leaf heading h s, good, bound) refl
+
+            -- what it says where something is kept, and where not
+            over : (heading : Heading) (h : List Event) (s : PartsStand old heading h) (o : Option ℕ)
+                → heading.words.isolated ≡ true → LeastOf (IsOver n.kind n.level place v old.index) o
+                → table_mapped heading Patterns (notes heading h) e ≡ o
+            over heading h s o word least =
+                (rules heading).tables.write h v_old n pe place v o word s.told.nodes at.1 (unattached heading h s)
+                least
+
+            nothing_over : (heading : Heading) (h : List Event) (s : PartsStand old heading h) (kept : Option Unmapped)
+                → IfSome kept (λ u. Never (IsOver n.kind n.level place v old.index)) → Guarded kept old.index heading h
+                → table_mapped heading Patterns (notes heading h) e ≡ None
+            nothing_over heading h s None k g = (rules heading).tables.off h e g
+            nothing_over heading h s (Some u) k g = over heading h s None g.0 k
+
+            -- it is kept, and what its value maps is covered
+            covered : (kept : Option Unmapped)
+                → IfSome old.unmapped (λ u. Never (IsOver n.kind n.level place v old.index))
+                → Becomes (CoversValue n.kind n.level place v) old.unmapped kept
+                → Admitted old (record old { unmapped = kept }) pe place v (attached_next held new)
+            covered kept k covers = record {
+              kept = unbroken;
+              frame = record { header = refl; index_header = refl; numbers = λ n. n };
+              same_map = refl;
+              same_roots = refl;
+              links = subst (λ (o : Option ℕ). Links old.map place o old.index old.index) (sym none) refl;
+              guarded = λ heading h s. guard_covered heading h (e ∷ h) old.index n.kind n.level place v
+                  (λ free free' may may' c guards. (laws heading).guards.write h v_old n pe place v free free' may may'
+                  ((laws heading).proper s.told.proper)
+                  (kept_next heading Patterns h e s.told.kept (unbroken heading h s)) s.told.nodes at.1
+                  (unattached heading h s) c guards) old.unmapped kept covers s.guarded;
+            }
+              where
+                unbroken : (heading : Heading) (h : List Event) → PartsStand old heading h
+                    → broken heading Patterns h e ≡ None
+                unbroken heading h s =
+                    table_left heading h s ∙ ap (λ o. found TableMapped o None)
+                    (nothing_over heading h s old.unmapped k s.guarded)
+
+            -- a value that maps nothing
+            pub admitted : (is_some new && is_some old.unmapped) ≡ false
+                → Admitted old old pe place v (attached_next held new)
+            admitted k = by old.unmapped refl
+              where
+                by : (kept : Option Unmapped) → old.unmapped ≡ kept
+                    → Admitted old old pe place v (attached_next held new)
+                by None is = covered old.unmapped
+                    (subst (λ (x : Option Unmapped). IfSome x (λ u. Never (IsOver n.kind n.level place v old.index)))
+                    (sym is) tt)
+                    (subst (λ (x : Option Unmapped). Becomes (CoversValue n.kind n.level place v) x x) (sym is) refl)
+                by (Some u) is =
+                    let invalid : is_some new ≡ false
+                    = sym (and-true (is_some new)) ∙ ap (λ (x : Option Unmapped). is_some new && is_some x) (sym is)
+                    ∙ k in
+                    let none : (page : ℕ) → maps n.kind n.level v page ≡ false
+                    = λ page. maps_none n.kind n.level v page (sym new_n ∙ none_of new invalid) in
+                    covered old.unmapped (if_kept old.unmapped (Never (IsOver n.kind n.level place v old.index))
+                    (never_over n.kind n.level place v old.index none))
+                    (covers_nothing n.kind n.level place v none old.unmapped)
+
+            -- the answer to what its value maps
+            pub judged_leaf : (kept : Option Unmapped) (result : Result (Unit {0}) StepFault)
+                → JudgesLeaf path.kind path.level place v old.index old.unmapped kept result
+                → Admits old (record old { unmapped = kept }) pe place v (attached_next held new) result
+            judged_leaf kept result k = by result
+                (subst (λ (x : Path). JudgesLeaf x.kind x.level place v old.index old.unmapped kept result) at.2 k)
+              where
+                by : (r : Result (Unit {0}) StepFault) → JudgesLeaf n.kind n.level place v old.index old.unmapped kept r
+                    → Admits old (record old { unmapped = kept }) pe place v (attached_next held new) r
+                by (Ok done) j = covered kept j.0 j.1
+                by (Err (Broken TableMapped page)) j = record {
+                  judged = λ heading h s. rw (
+                    table_left heading h s,
+                    over heading h s (Some page) (word_of old.unmapped old.index heading h j.0 s.guarded) j.2,
+                  ) refl;
+                  taken = tt;
+                  unchanged = λ heading h s.
+                      subst (λ (x : Option Unmapped). PartsStand (record old { unmapped = x }) heading h) (sym j.1) s;
+                  frugal = tt;
+                }
+                by (Err fault) j = absurd j
 
       -- ---- it attaches the next page
 
       module _ (next : ℕ) (one : attached_next held new ≡ Some next) where
+        abbrev starts_here : List Node
+        starts_here = index_paths.starts_of old.index (attach.Below place next)
+
         abbrev JudgesHere : Result (Unit {0}) TreeFault → Type 0
-        JudgesHere r = index.Judges (fresh_in old.index) (value_at old.map)
-            (index_paths.starts_of old.index (attach.Below place next)) false r
+        JudgesHere r = index.Judges (fresh_in old.index) (value_at old.map) starts_here false r
 
         judging : (heading : Heading) (h : List Event) → PartsStand old heading h → Judging (fresh_in old.index)
-            (value_at old.map) (index_paths.starts_of old.index (attach.Below place next)) heading h false e
+            (value_at old.map) starts_here heading h false e
         judging heading h s =
             subst (λ (o : Option Node). Judging (fresh_in old.index) (value_at old.map) (index_paths.below_all o place next)
             heading h false e) (sym at.1) ((rules heading).judging.write h v_old n pe place v next
@@ -249,37 +351,73 @@ module _ (laws : (heading : Heading) → Laws heading) (rules : (heading : Headi
             = rw (node_is, held_none, (one_attached next one).1) refl in
             and_right (is_written h place) _ attaches
 
-        module _ (index' : TreeIndex) (tracked : SameTracked old.index index') where
-          frame : SameFrame old (record old { index = index' })
-          frame = record { header = refl; index_header = tracked.heading; numbers = λ n. n ∙ sym tracked.pages }
+        pub attach_fault : (fault : TreeFault) → JudgesHere (Err fault) → Meets old old e (Err (step_fault fault))
+        attach_fault fault k = meets_err e (step_fault fault)
+            (λ heading h s. refused (judging heading h s)
+            (found TableMapped (table_mapped heading Patterns (notes heading h) e) None) (limit_of h e)
+            (left heading h s) fault k) (λ heading h s. s) (λ heading h s. (refl, attaching heading h s))
 
-          module _ (pages : SamePages old.index index') where
-            same : (heading : Heading) (h : List Event) → PartsStand old heading h
-                → PartsStand (record old { index = index' }) heading h
-            same heading h s = stands_still laws old (record old { index = index' }) frame (record {
-              map = record { value = λ a. refl; marks = λ a. refl; pends = λ q a b c p. refl };
-              nodes = pages.node;
-              roles = record { fresh = pages.fresh; null = pages.null };
-              tracking = record { tracked = λ p. refl; known = tracked.known; pages = ap length tracked.pages };
-            }) heading h s s.roots
+        module _ (fine : JudgesHere (Ok tt)) where
+          module _ (heading : Heading) (h : List Event) (s : PartsStand old heading h) where
+            tables_left : broken heading Patterns h e
+                ≡ found TableMapped (table_mapped heading Patterns (notes heading h) e) None
+            tables_left =
+                let pass = all_pass (judging heading h s) fine in rw (left heading h s, pass.0, pass.1, pass.2) refl
 
-            pub attach_fault : (fault : TreeFault) → JudgesHere (Err fault)
-                → Meets old (record old { index = index' }) e (Err (step_fault fault))
-            attach_fault fault k = meets_err e (step_fault fault)
-                (λ heading h s. refused (judging heading h s) None (limit_of h e) (left heading h s) fault k) same
-                (λ heading h s. (refl, attaching heading h s))
+            earlier : first_broken heading Patterns (notes heading h) e (earlier_rules e) ≡ None
+            earlier =
+                let pass = all_pass (judging heading h s) fine in
+                kept_too NoLock (m.unlocked heading h s) (kept_too NullWritten (null_none heading h s)
+                (kept_too BreakBeforeMake (bbm_is heading h s ∙ ap (λ b. if_so b place) alike)
+                (kept_too LimboMake (limbo_is heading h s ∙ ap (λ b. if_so b place) above) (kept_too NotFresh pass.0
+                (kept_too RewrittenFresh (rewritten_none heading h s) (kept_too BadKind pass.1
+                (kept_too GlobalUser pass.2 refl)))))))
 
-          pub attach_ok : JudgesHere (Ok tt)
+            judged : (u : Unmapped) (o : Option ℕ) → heading.words.isolated ≡ true
+                → Guards heading h (free_in u) (may_map u) → LeastOf (IsBad old.index old.map starts_here u) o
+                → table_mapped heading Patterns (notes heading h) e ≡ o
+            judged u o word guards least =
+                (rules heading).tables.attaching h v_old n pe place v next (free_in u) (may_map u) o word
+                ((laws heading).proper s.told.proper) s.told.fit s.told.kept earlier s.told.nodes s.told.fresh
+                s.told.values (cores s.told) at.1 (one_attached next one).0 (one_attached next one).1 guards
+                (subst (λ (x : Option Node). LeastOf (IsBad old.index old.map (index_paths.below_all x place next) u) o)
+                at.1 least)
+
+          pub attach_bad : (fault : StepFault) → Refuses old.index old.map starts_here old.unmapped fault
+              → Meets old old e (Err fault)
+          attach_bad fault refused = meets_err e fault (λ heading h s.
+              refuses heading h e old.index old.map starts_here ((rules heading).tables.off h e) (judged heading h s)
+              old.unmapped fault (limit_of h e) refused s.guarded (tables_left heading h s))
+              (λ heading h s. s) (λ heading h s. (refl, attaching heading h s))
+
+          pub attach_ok : (pages : List AttachedPage) → Passes old.index old.map starts_here old.unmapped pages
+              → (index' : TreeIndex) (kept : Option Unmapped) → SameTracked old.index index'
               → changes.Attaches (value_at old.map) (attach.Below place next) old.index index'
-              → Admitted old (record old { index = index' }) pe place v (attached_next held new)
-          attach_ok fine attached = record {
-            kept = λ heading h s.
-                let pass = all_pass (judging heading h s) fine in rw (left heading h s, pass.0, pass.1, pass.2) refl;
-            frame = frame;
+              → Becomes (CoversListed old.map pages) old.unmapped kept
+              → Admitted old (record old { index = index'; unmapped = kept }) pe place v (Some next)
+          attach_ok pages pass index' kept tracked attached covers = record {
+            kept = unbroken;
+            frame = record { header = refl; index_header = tracked.heading; numbers = λ n. n ∙ sym tracked.pages };
             same_map = refl;
             same_roots = refl;
-            links = subst (λ (o : Option ℕ). Links old.map place o old.index index') (sym one) (attached, tracked);
+            links = (attached, tracked);
+            guarded = λ heading h s. guard_attached heading h (e ∷ h) old.index index' old.map starts_here tracked.pages
+                (λ u u' c guards. (laws heading).guards.attaching h v_old n pe place v next (free_in u) (free_in u')
+                (may_map u) (may_map u') ((laws heading).proper s.told.proper) s.told.fit
+                (kept_next heading Patterns h e s.told.kept (unbroken heading h s)) s.told.nodes s.told.fresh
+                s.told.values (cores s.told) at.1 (one_attached next one).0 (one_attached next one).1
+                (subst (λ (x : Option Node).
+                CoversAttached (IsAttached old.index old.map (index_paths.below_all x place next)) (value_at old.map)
+                (free_in u) (free_in u') (may_map u) (may_map u')) at.1 c) guards)
+                old.unmapped kept pages pass covers s.guarded;
           }
+            where
+              unbroken : (heading : Heading) (h : List Event) → PartsStand old heading h
+                  → broken heading Patterns h e ≡ None
+              unbroken heading h s =
+                  tables_left heading h s ∙ ap (λ o. found TableMapped o None)
+                  (passes heading h e old.index old.map starts_here ((rules heading).tables.off h e)
+                  (judged heading h s) old.unmapped pages pass s.guarded)
 
   -- ---- an invalid value
 
@@ -291,6 +429,7 @@ module _ (laws : (heading : Heading) → Laws heading) (rules : (heading : Headi
       (ap (λ (x : Option Core). is_contiguous_core x) k)
       (ap (λ (x : Option Core). same_kind path.kind Ttbr0 && is_global_core x) k
       ∙ and-false (same_kind path.kind Ttbr0))
+      (ap (λ (x : Option Core). is_some x && is_some old.unmapped) k)
     where
       limbo : Option Core → Bool
       limbo x = is_some x && option_map_or (limbo_by (value_at old.map)) (node_in old.index (page_of place)) false
@@ -341,6 +480,7 @@ module _ (laws : (heading : Heading) → Laws heading) (rules : (heading : Headi
           told heading h s fits (attached_next held new) refl done.links,
           subst (λ (r : Roots). roots.Stands r heading (e ∷ h)) (sym done.same_roots)
               (others old.roots heading h e s.roots refl (done.kept heading h s)),
+          done.guarded heading h s,
         ))
       where
         told : (heading : Heading) (h : List Event) → PartsStand old heading h → fits_heading heading e ≡ true

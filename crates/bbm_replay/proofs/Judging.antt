@@ -2,13 +2,14 @@
 -- the words of the rules.
 use Rattle.bbm_replay.proofs.Common.{broken, Judging, Kind, kind_in_world, Rule, WrongWorld, NoLock, NullWritten}
 use Rattle.bbm_replay.proofs.Common.{BreakBeforeMake, LimboMake, NotFresh, RewrittenFresh, BadKind, GlobalUser}
-use Rattle.bbm_replay.proofs.Common.{PageInUse, TreeFault, View, notes, Rules, Told, step_fault}
-use Rattle.bbm_rules.proofs.Common.{◌≡◌, ℕ, ◌≤◌, Bool, false, not, ◌&&◌, ◌||◌, nat_le, List, Option, Some, None, Ok, Err}
-use Rattle.bbm_rules.proofs.Common.{is_some, filter, refl, ◌∙◌, ap, option_map_or, le-leb, leb-true, Pages, Breach}
+use Rattle.bbm_replay.proofs.Common.{PageInUse, TableMapped, TreeFault, View, notes, Rules, Told, step_fault}
+use Rattle.bbm_rules.proofs.Common.{◌≡◌, ℕ, ◌≤◌, Bool, false, not, ◌&&◌, ◌||◌, nat_le, List, Option, Some, None, Ok}
+use Rattle.bbm_rules.proofs.Common.{Err, is_some, filter, refl, ◌∙◌, ap, option_map_or, le-leb, leb-true, Pages, Breach}
 use Rattle.bbm_rules.proofs.Common.{Patterns, limit_of, if_so, least, S2, Heading, Event, Init, Null, Root, Write}
 use Rattle.bbm_rules.proofs.Common.{root_pages, bad_kind, break_before_make, global_user, limbo_make, no_lock}
 use Rattle.bbm_rules.proofs.Common.{not_fresh, null_written, page_in_use, rewritten_fresh, Node, Answers, Which}
 use Rattle.bbm_rules.proofs.Common.{not-true, false_from_ne_true}
+use Rattle.bbm_rules.specs.Rules.{table_mapped}
 use Rattle.bbm_lemmas.proofs.Bools.{and_apart}
 use Rattle.bbm_events.specs.Heading.{nulls_everywhere}
 use Rattle.bbm_tree_index.specs.Attaching.{Judges}
@@ -17,6 +18,10 @@ use Rattle.bbm_tree_index.specs.declared.fault.TreeFault.TheVariants as tree
 -- the rule is the least broken one where it is broken, and else what the others say counts
 abbrev pub found : Rule → Option ℕ → Option Breach → Option Breach
 found rule o rest = option_map_or (λ at. Some (record { rule = rule; at = at })) o rest
+
+-- rules that are kept, one by one
+pub kept_too : (rule : Rule) {o : Option ℕ} {rest : Option Breach} → o ≡ None → rest ≡ None → found rule o rest ≡ None
+kept_too rule {rest = rest} none others = ap (λ o. found rule o rest) none ∙ others
 
 module _ {heading : Heading} (rules : Rules heading) {h : List Event} {v : View} (t : Told heading h v) (pe page : ℕ) where
   pub init_is : broken heading Patterns h (Init pe page)
@@ -43,7 +48,8 @@ module _ {heading : Heading} (rules : Rules heading) {h : List Event} {v : View}
       (found NotFresh (not_fresh heading Patterns (notes heading h) (Root pe kind lock page))
       (found BadKind (bad_kind heading Patterns (notes heading h) (Root pe kind lock page))
       (found GlobalUser (global_user heading Patterns (notes heading h) (Root pe kind lock page))
-      (found PageInUse (least (filter (λ p. not (v.fresh p)) (root_pages heading.world kind page))) None))))
+      (found PageInUse (least (filter (λ p. not (v.fresh p)) (root_pages heading.world kind page)))
+      (found TableMapped (table_mapped heading Patterns (notes heading h) (Root pe kind lock page)) None)))))
   root_is kind lock =
       rw (rules.by_kind Patterns h (Root pe kind lock page), rules.on_pages.root h v pe page kind lock t.fresh) refl
 
@@ -56,7 +62,8 @@ pub write_is : {heading : Heading} → Rules heading → (h : List Event) (pe pl
     (found NotFresh (not_fresh heading Patterns (notes heading h) (Write pe place value))
     (found RewrittenFresh (rewritten_fresh heading Patterns (notes heading h) (Write pe place value))
     (found BadKind (bad_kind heading Patterns (notes heading h) (Write pe place value))
-    (found GlobalUser (global_user heading Patterns (notes heading h) (Write pe place value)) None)))))))
+    (found GlobalUser (global_user heading Patterns (notes heading h) (Write pe place value))
+    (found TableMapped (table_mapped heading Patterns (notes heading h) (Write pe place value)) None))))))))
 write_is rules h pe place value = rules.by_kind Patterns h (Write pe place value)
 
 -- ---- pages to attach

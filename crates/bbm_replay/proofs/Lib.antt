@@ -10,6 +10,7 @@ pub mod Writing
 pub mod DsbMoves
 pub mod TlbiMoves
 pub mod Judging
+pub mod Guarding
 pub mod Meeting
 pub mod Framing
 pub mod Counting

@@ -3,7 +3,9 @@ use Rattle.bbm_replay.proofs.Common.{broken, IsFrugal, StepFault, Broken, NoMemo
 use Rattle.bbm_replay.proofs.Common.{Meets, PartsStand, view_of, ReplayState}
 use Rattle.bbm_rules.proofs.Common.{◌≡◌, ℕ, Bool, true, false, List, [], ◌∷◌, Option, None, Result, Ok, Err, refl, sym}
 use Rattle.bbm_rules.proofs.Common.{and_parts, Which, fits_heading, is_page, Answers, Breach, Patterns, limit_of}
-use Rattle.bbm_rules.proofs.Common.{is_null, Heading, Event, Null, Msr, false_from_ne_true, arith, nat_tests}
+use Rattle.bbm_rules.proofs.Common.{is_null, Heading, Event, Null, Dmb, Isb, Msr, Lock, Unlock, arith}
+use Rattle.bbm_rules.proofs.Common.{false_from_ne_true, nat_tests, true≢false}
+use Rattle.bbm_replay_trees.specs.TreeEvents.{may_map}
 use Rattle.std.proofs.Common.{OnOk, OnErr}
 use Rattle.bbm_regimes.specs.declared.regime.Reg.{Reg}
 use Rattle.bbm_roots.specs.RootRegisters.{has_null_base}
@@ -11,7 +13,7 @@ use Rattle.bbm_roots.specs.RootChanges as changes
 use Rattle.bbm_roots.specs.RootJudgements as judges
 use Rattle.bbm_roots.specs.RootsStand as roots
 use Rattle.bbm_replay.proofs.Moves.{is_quiet}
-use Rattle.bbm_replay.proofs.Framing.{frugal_else, meets_ok}
+use Rattle.bbm_replay.proofs.Framing.{frugal_else, meets_left}
 use Rattle.bbm_replay.proofs.Quiet.{after_quiet}
 use Rattle.bbm_replay.proofs.Findings.{on_ok}
 
@@ -27,6 +29,7 @@ stands_same p r heading h s same = record {
   numbers = s.numbers;
   told = s.told;
   roots = same;
+  guarded = s.guarded;
 }
 
 pub answers : (r : Result (Unit {0}) StepFault) (breach : Option Breach) (limit : Option Which) → judges.Judges r breach
@@ -42,6 +45,15 @@ frugal_judged : (p : ReplayState) (e : Event) (r : Result (Unit {0}) StepFault)
 frugal_judged p e (Err NoMemory) k = λ heading h s. absurd (k heading h s)
 frugal_judged p e r k = tt
 
+-- an event that changes nothing maps nothing
+idle : (e : Event) → is_quiet e ≡ true → may_map e ≡ false
+idle (Dmb pe dsb) k = refl
+idle (Isb pe) k = refl
+idle (Msr pe reg value) k = refl
+idle (Lock pe lock) k = refl
+idle (Unlock pe lock) k = refl
+idle e k = absurd (true≢false (sym k))
+
 module _ (laws : (heading : Heading) → Laws heading) (p : ReplayState) (r : Roots) (e : Event) (m : MayMeet p e)
     (quiet : is_quiet e ≡ true) where
   -- a call of the roots that takes the event or is refused
@@ -50,7 +62,8 @@ module _ (laws : (heading : Heading) → Laws heading) (p : ReplayState) (r : Ro
       → OnOk result ((heading : Heading) (h : List Event) → PartsStand p heading h → roots.Stands r heading (e ∷ h))
       → OnErr result (changes.Keeps p.roots r) → IsFrugal p e result → Meets p (with_roots p r) e result
   meets_quiet (Ok u) judged taken same frugal =
-      meets_ok e m (record { header = refl; index_header = refl; numbers = λ n. n }) (λ heading h s fits.
+      meets_left laws e (idle e quiet) m (record { header = refl; index_header = refl; numbers = λ n. n }) refl refl
+      (λ heading h s fits.
       let j = judged heading h s in
       (j.0, j.1, after_quiet (laws heading) (view_of p.map p.index) s.told e quiet fits j.0, taken heading h s))
   meets_quiet (Err fault) judged taken same frugal = record {

@@ -1,12 +1,15 @@
 -- A write at a place of no tree, at the parts.
 use Rattle.bbm_replay.proofs.Common.{node_in, broken, marks_at, pends_at, value_at, fresh_in, null_in, NullWritten}
 use Rattle.bbm_replay.proofs.Common.{NotFresh, RewrittenFresh, Broken, IsIdle, Pends, PlaceMap, Puts, waits, Laws}
-use Rattle.bbm_replay.proofs.Common.{Rules, MayMeet, Meets, PartsStand, view_of, ReplayState}
-use Rattle.bbm_rules.proofs.Common.{◌≡◌, ℕ, ◌%◌, Bool, true, false, not, ◌&&◌, ◌||◌, ◌==◌, List, None, Ok, Err, refl}
-use Rattle.bbm_rules.proofs.Common.{◌∙◌, ap, Patterns, if_so, page_of, Heading, Event, Breach, Write, Option}
+use Rattle.bbm_replay.proofs.Common.{Rules, MayMeet, Meets, PartsStand, view_of, ReplayState, kept_next}
+use Rattle.bbm_rules.proofs.Common.{◌≡◌, ℕ, ◌%◌, Bool, true, false, not, ◌&&◌, ◌||◌, ◌==◌, List, ◌∷◌, None, Some, Ok, Err}
+use Rattle.bbm_rules.proofs.Common.{refl, ◌∙◌, ap, Patterns, if_so, page_of, Heading, Event, Breach, Write, Option}
 use Rattle.std.proofs.Math.Bool.{and_assoc}
 use Rattle.bbm_entry_state.specs.declared.state.EntryState.TheVariants as state
 use Rattle.bbm_roots.specs.RootChanges as changes
+use Rattle.bbm_replay.specs.Guarded.{Guarded}
+use Rattle.bbm_unmapped.specs.Unmapped.{free_in, may_map}
+use Rattle.bbm_unmapped.specs.declared.unmapped.Unmapped.{Unmapped}
 use Rattle.bbm_replay.proofs.Framing.{meets_ok, meets_broken}
 use Rattle.bbm_replay.proofs.Moves.{Writes, tracked_alike}
 use Rattle.bbm_replay.proofs.Judging.{found, write_is}
@@ -39,7 +42,20 @@ module _ (laws : (heading : Heading) → Laws heading) (rules : (heading : Headi
         let again = (rules heading).writes.rewritten h view pe place v s.told.fresh s.told.values
         ∙ ap (λ b. if_so b place) (and_assoc (fresh_in old.index page) (value_at old.map place % 2 == 1)
         (not (value_at old.map place == v))) in
-        rw (write_is (rules heading) h pe place v, out.0, null, out.1, out.2, bare.1, again, bare.2, bare.3) refl
+        let table = (rules heading).tables.outside h view pe place v s.told.nodes away in
+        rw (write_is (rules heading) h pe place v, out.0, null, out.1, out.2, bare.1, again, bare.2, bare.3, table) refl
+
+    -- what is kept after it
+    guard_outside : broken heading Patterns h (Write pe place v) ≡ None → (kept : Option Unmapped)
+        → Guarded kept old.index heading h → Guarded kept old.index heading (Write pe place v ∷ h)
+    guard_outside unbroken None g = g
+    guard_outside unbroken (Some u) g = (
+      g.0,
+      g.1,
+      (laws heading).guards.outside h (view_of old.map old.index) pe place v (free_in u) (may_map u)
+          ((laws heading).proper s.told.proper) (kept_next heading Patterns h (Write pe place v) s.told.kept unbroken)
+          s.told.nodes away g.2,
+    )
 
   module _ (fresh : fresh_in old.index page ≡ false) where
     pub outside_null : null_in old.index page ≡ true → Meets old old (Write pe place v) (Err (Broken NullWritten place))
@@ -81,4 +97,5 @@ module _ (laws : (heading : Heading) → Laws heading) (rules : (heading : Headi
                 ((rules heading).unattached.outside h (view_of old.map old.index) pe place v s.told.nodes s.told.fresh
                 s.told.null away).0,
             others old.roots heading h (Write pe place v) s.roots refl kept,
+            guard_outside heading h s kept old.unmapped s.guarded,
           ))

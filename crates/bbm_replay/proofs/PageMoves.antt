@@ -3,9 +3,11 @@ use Rattle.bbm_replay.proofs.Common.{broken, kept_next, View, Laws, Told, node_i
 use Rattle.bbm_replay.proofs.Common.{null_in, kind_in_world, PageInUse, WrongWorld, Broken, TreeFault, step_fault}
 use Rattle.bbm_replay.proofs.Common.{Rules, MayMeet, Meets, SameFrame, PartsStand, view_of, ReplayState, notes}
 use Rattle.bbm_replay.proofs.Common.{PlaceMap, TreeIndex, marks_at, waits, Marks, Pends, StepFault, kept}
-use Rattle.bbm_rules.proofs.Common.{◌≡◌, ℕ, Bool, true, cond, not, ◌==◌, ◌&&◌, ◌||◌, List, ◌∷◌, Option, Some, None, refl, sym}
-use Rattle.bbm_rules.proofs.Common.{◌∙◌, ap, fits_heading, Patterns, page_of, Heading, Event, Init, Null, Unroot, arith, length}
-use Rattle.bbm_rules.proofs.Common.{◌≤◌, false, Ok, Err, is_some, Pages, Answers, limit_of, S2, Node, page_in_use}
+use Rattle.bbm_replay.proofs.Common.{NoMemory}
+use Rattle.bbm_rules.proofs.Common.{◌≡◌, ℕ, Bool, true, cond, not, ◌==◌, ◌&&◌, ◌||◌, List, ◌∷◌, Option, Some, None}
+use Rattle.bbm_rules.proofs.Common.{refl, sym, ◌∙◌, ap, fits_heading, Patterns, page_of, Heading, Event, Init, Null}
+use Rattle.bbm_rules.proofs.Common.{Unroot, arith, length, ◌≤◌, false, Ok, Err, is_some, Pages, Answers, limit_of, S2, Node}
+use Rattle.bbm_rules.proofs.Common.{page_in_use, subst}
 use Rattle.bbm_events.specs.Heading.{nulls_everywhere}
 use Rattle.bbm_tree_index.specs.Index.{known_in, pages_in}
 use Rattle.bbm_replay_trees.specs.Told.{is_at}
@@ -20,7 +22,18 @@ use Rattle.bbm_replay.proofs.Moves.{Begins, Leaves, Nullifies, Same, tracked_ali
 use Rattle.bbm_replay.proofs.Aparts.{apart, apart_begins, apart_leaves, apart_nullifies, was_there}
 use Rattle.bbm_replay.proofs.Entries.{carried}
 use Rattle.bbm_replay.proofs.Quiet.{told_next}
-use Rattle.bbm_replay.proofs.Framing.{meets_broken, meets_err, meets_ok, stands_still}
+use Rattle.bbm_replay.specs.Guarded.{Becomes, Guarded, Initialises}
+use Rattle.bbm_unmapped.specs.Unmapped.{IsSame, free_in, may_map}
+use Rattle.bbm_unmapped.specs.Unmapped as guard
+use Rattle.bbm_page_map.specs.PageLists.{number_in}
+use Rattle.bbm_tree_index.proofs.Numbered.{known_number}
+use Rattle.bbm_rules.proofs.Common.{length-append}
+use Rattle.std.proofs.Math.Nat.{add-zero}
+use Rattle.std.specs.Prelude.{IfSome, ◌+◌, ◌++◌, [], if◌then◌else◌}
+use Rattle.bbm_unmapped.specs.declared.unmapped.Unmapped.{Unmapped}
+use Rattle.bbm_replay.proofs.Guarding.{guard_becomes, guard_same, guards_alike}
+use Rattle.bbm_replay.proofs.Writing.{cores}
+use Rattle.bbm_replay.proofs.Framing.{meets_broken, meets_err, meets_left, meets_ok, stands_guarded, stands_still}
 use Rattle.bbm_replay.proofs.Judging.{found, init_is, init_limit, init_no_limit, null_is}
 use Rattle.bbm_replay.proofs.Meeting.{answers}
 
@@ -122,34 +135,94 @@ module _ (rules : (heading : Heading) → Rules heading) (old : ReplayState) (pe
     null_nonzero k = meets_broken old (Null pe page) PageInUse page (λ heading h s. null_breaks heading h s (Some page)
         ((rules heading).on_pages.null_used h (view_of old.map old.index) pe page k.0 s.told.values k.1 k.2))
 
-module _ (laws : (heading : Heading) → Laws heading) (rules : (heading : Heading) → Rules heading) (others : changes.OthersStand)
-    (old : ReplayState) (map : PlaceMap) (index : TreeIndex) (same_heading : heading_of index ≡ heading_of old.index)
-    (numbers : SharesNumbers old.index old.map → SharesNumbers index map) (pe page : ℕ) where
+-- how many pages are tracked, where the page may be one more
+pub one_more : (known : Bool) (old new : List ℕ) (page : ℕ) → new ≡ (if known then old else old ++ page ∷ [])
+    → length new ≡ length old + (if known then 0 else 1)
+one_more true old new page k = ap length k ∙ sym (add-zero (length old))
+one_more false old new page k = ap length k ∙ length-append old (page ∷ [])
+
+-- whether a page is tracked by what is kept is whether it has a number there
+known_here : (u : Unmapped) (page : ℕ) → is_some (number_in (guard.pages_in u) page) ≡ guard.known_in u page
+unfolding guard.pages_in guard.known_in
+known_here u page = known_number u.pages.entries page
+
+-- what is kept comes to track the page as the index does
+pub tracks_alike : (old : ReplayState) (heading : Heading) (h : List Event) → PartsStand old heading h
+    → (ready : Option Unmapped) → Becomes IsSame old.unmapped ready → (page : ℕ) (pages : List ℕ)
+    → pages ≡ (if known_in old.index page then pages_in old.index else pages_in old.index ++ page ∷ [])
+    → IfSome ready (λ u. pages ≡ (if guard.known_in u page then guard.pages_in u else guard.pages_in u ++ page ∷ []))
+tracks_alike old heading h s ready readied page pages is =
+    by ready (guard_same old.unmapped ready old.index old.index heading h readied refl s.guarded)
+  where
+    by : (kept : Option Unmapped) → Guarded kept old.index heading h
+        → IfSome kept (λ u. pages ≡ (if guard.known_in u page then guard.pages_in u else guard.pages_in u ++ page ∷ []))
+    by None g = tt
+    by (Some u) g =
+        let known : known_in old.index page ≡ guard.known_in u page
+        = sym (s.told.tracked page) ∙ ap (λ (ps : List ℕ). is_some (number_in ps page)) (s.numbers ∙ sym g.1)
+        ∙ known_here u page in
+        is ∙ cc (known, g.1)
+
+-- there is no room for what is kept of the page
+pub init_full : (old : ReplayState) (kept : Option Unmapped) (pe page : ℕ) → Becomes IsSame old.unmapped kept
+    → Meets old (record old { unmapped = kept }) (Init pe page) (Err NoMemory)
+init_full old kept pe page same = meets_err (Init pe page) NoMemory (λ heading h s. tt)
+    (λ heading h s. stands_guarded old kept heading h
+    (guard_same old.unmapped kept old.index old.index heading h same refl s.guarded) s) (λ heading h s. (refl, refl))
+
+-- what is kept after an `init`
+guard_init : {heading : Heading} → Laws heading → {h : List Event} {v : View} (old index : TreeIndex) (map : PlaceMap)
+    (pe page : ℕ) → Told heading h v → Told heading (Init pe page ∷ h) (view_of map index)
+    → (kept kept' : Option Unmapped) → Becomes (Initialises index map page) kept kept'
+    → Guarded kept old heading h → Guarded kept' index heading (Init pe page ∷ h)
+guard_init {heading} laws {h} old index map pe page t told kept kept' initialised guarded =
+    guard_becomes (Initialises index map page) heading h (Init pe page ∷ h) old index kept kept'
+    (λ u u' at is shares guards. (
+      is.0,
+      guards_alike heading (Init pe page ∷ h) (free_in u') (free_in u') (may_map u) (may_map u') (λ p. refl) is.2
+          (laws.guards.init h (view_of map index) pe page (free_in u) (free_in u') (may_map u) (laws.proper t.proper)
+          t.fit told.kept told.nodes (cores told) is.1 guards),
+    )) initialised guarded
+
+module _ (laws : (heading : Heading) → Laws heading) (rules : (heading : Heading) → Rules heading)
+    (others : changes.OthersStand) (old : ReplayState) (map : PlaceMap) (index : TreeIndex)
+    (same_heading : heading_of index ≡ heading_of old.index)
+    (numbers : SharesNumbers old.index old.map → SharesNumbers index map) (unmapped : Option Unmapped)
+    (pe page : ℕ) where
   abbrev became : ReplayState
-  became = record old { map = map; index = index }
+  became = record old { map = map; index = index; unmapped = unmapped }
 
   frame : SameFrame old became
   frame = record { header = refl; index_header = same_heading; numbers = numbers }
 
   module _ (m : MayMeet old (Init pe page))
-      (free : (is_some (node_in old.index page) || null_in old.index page) ≡ false) where
+      (free : (is_some (node_in old.index page) || null_in old.index page) ≡ false) (ready : Option Unmapped)
+      (readied : Becomes IsSame old.unmapped ready) where
     pub init_ok : ((known_in old.index page ≡ false) × (16384 ≤ length (pages_in old.index)) → ⊥)
-        → Begins (view_of old.map old.index) (view_of map index) page → Meets old became (Init pe page) (Ok tt)
-    init_ok room begins = meets_ok (Init pe page) m frame (λ heading h s fits.
-        let kept = init_kept rules old pe page free heading h s in (
+        → Begins (view_of old.map old.index) (view_of map index) page
+        → Becomes (Initialises index map page) ready unmapped → Meets old became (Init pe page) (Ok tt)
+    init_ok room begins initialised = meets_ok (Init pe page) m frame (λ heading h s fits.
+        let kept = init_kept rules old pe page free heading h s in
+        let told = after_init (laws heading) (view_of map index) s.told pe page fits kept begins in (
           kept,
           init_no_limit (rules heading) s.told pe page room,
-          after_init (laws heading) (view_of map index) s.told pe page fits kept begins,
+          told,
           others old.roots heading h (Init pe page) s.roots refl kept,
+          guard_init (laws heading) old.index index map pe page s.told told ready unmapped initialised
+              (guard_same old.unmapped ready old.index old.index heading h readied refl s.guarded),
         ))
 
     pub init_err : (fault : TreeFault)
         → (fault ≡ tree.Limit Pages → (known_in old.index page ≡ false) × (16384 ≤ length (pages_in old.index)))
         → ((fault ≡ tree.Limit Pages → ⊥) → fault ≡ tree.NoMemory)
-        → Same (view_of old.map old.index) (view_of map index) → Meets old became (Init pe page) (Err (step_fault fault))
-    init_err fault full else_none same = meets_err (Init pe page) (step_fault fault)
+        → Same (view_of old.map old.index) (view_of map index) → pages_in index ≡ pages_in old.index → unmapped ≡ ready
+        → Meets old became (Init pe page) (Err (step_fault fault))
+    init_err fault full else_none same pages unmapped_is = meets_err (Init pe page) (step_fault fault)
         (λ heading h s. by fault heading h s full else_none)
-        (λ heading h s. stands_still laws old became frame same heading h s s.roots) (λ heading h s. (refl, refl))
+        (λ heading h s. stands_still laws old became frame same heading h s s.roots
+        (subst (λ (x : Option Unmapped). Guarded x index heading h) (sym unmapped_is)
+        (guard_same old.unmapped ready old.index index heading h readied pages s.guarded)))
+        (λ heading h s. (refl, refl))
       where
         by : (f : TreeFault) (heading : Heading) (h : List Event) → PartsStand old heading h
             → (f ≡ tree.Limit Pages → (known_in old.index page ≡ false) × (16384 ≤ length (pages_in old.index)))
@@ -164,8 +237,10 @@ module _ (laws : (heading : Heading) → Laws heading) (rules : (heading : Headi
 
   pub null_ok : MayMeet old (Null pe page) → is_wrong_null old.header ≡ false → fresh_in old.index page ≡ true
       → ((a : ℕ) → is_at page a ≡ true → value_at old.map a ≡ 0)
-      → Nullifies (view_of old.map old.index) (view_of map index) page → Meets old became (Null pe page) (Ok tt)
-  null_ok m right fresh zero move = meets_ok (Null pe page) m frame (λ heading h s fits.
+      → Nullifies (view_of old.map old.index) (view_of map index) page → pages_in index ≡ pages_in old.index
+      → unmapped ≡ old.unmapped → Meets old became (Null pe page) (Ok tt)
+  null_ok m right fresh zero move pages same =
+      meets_left laws (Null pe page) refl m frame same pages (λ heading h s fits.
       let kept = null_breaks rules old pe page right heading h s None ((rules heading).on_pages.null_unused h
       (view_of old.map old.index) pe page s.told.fit s.told.fresh s.told.values fresh zero) in (
         kept,
@@ -220,13 +295,14 @@ module _ (laws : (heading : Heading) → Laws heading) (rules : (heading : Headi
   pub unroot_ok : (new : ReplayState)
       → ((heading : Heading) (h : List Event) → roots.Stands old.roots heading h
       → broken heading Patterns h (Unroot pe page) ≡ None)
-      → SameFrame old new
+      → SameFrame old new → new.unmapped ≡ old.unmapped → pages_in new.index ≡ pages_in old.index
       → ((heading : Heading) (h : List Event) → PartsStand old heading h
       → Leaves (view_of old.map old.index) (view_of new.map new.index) (λ n. not (n.root == page)))
       → ((heading : Heading) (h : List Event) → roots.Stands old.roots heading h
       → broken heading Patterns h (Unroot pe page) ≡ None → roots.Stands new.roots heading (Unroot pe page ∷ h))
       → Meets old new (Unroot pe page) (Ok tt)
-  unroot_ok new unbroken frame move taken = meets_ok (Unroot pe page) m frame (λ heading h s fits.
+  unroot_ok new unbroken frame same pages move taken =
+      meets_left laws (Unroot pe page) refl m frame same pages (λ heading h s fits.
       let kept = unbroken heading h s.roots in (
         kept,
         (rules heading).limits.others h (Unroot pe page) refl,

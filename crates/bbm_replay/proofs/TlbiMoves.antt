@@ -15,7 +15,7 @@ use Rattle.bbm_replay.proofs.DsbMoves.{broken_marks, same_state}
 use Rattle.bbm_replay.proofs.Cases.{some_or, either}
 use Rattle.bbm_replay.proofs.Entries.{entry_same, some_pe, none_of}
 use Rattle.bbm_replay.proofs.Quiet.{told_plain}
-use Rattle.bbm_replay.proofs.Framing.{meets_ok}
+use Rattle.bbm_replay.proofs.Framing.{meets_left}
 
 module _ {heading : Heading} (laws : Laws heading) {h : List Event} {old : View} (new : View) (t : Told heading h old)
     (q : ℕ) (op : TlbiOp) (xt : ℕ) (reach : PeMask)
@@ -69,7 +69,8 @@ pub tlbi_meets : ((heading : Heading) → Laws heading) → ((heading : Heading)
     → ((heading : Heading) (h : List Event) → PartsStand old heading h → roots.Stands r heading (Tlbi pe op xt ∷ h))
     → Meets old (record old { map = map; roots = r }) (Tlbi pe op xt) (Ok tt)
 tlbi_meets laws rules old map r pe op xt m unbroken reach reached noted others idle idle' values marks pages taken =
-    meets_ok (Tlbi pe op xt) m (record { header = refl; index_header = refl; numbers = λ n. pages ∙ n }) (λ heading h s fits. (
+    meets_left laws (Tlbi pe op xt) refl m (record { header = refl; index_header = refl; numbers = λ n. pages ∙ n })
+    refl refl (λ heading h s fits. (
       unbroken heading h s.roots,
       (rules heading).limits.others h (Tlbi pe op xt) refl,
       after_tlbi (laws heading) (view_of map old.index) s.told pe op xt reach

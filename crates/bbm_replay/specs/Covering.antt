@@ -36,8 +36,7 @@ use Rattle.bbm_rules.specs.Tree.{Node}
 use Rattle.bbm_rules.specs.Prelude.{Heading, Event, Tlbi, TlbiOp}
 use Rattle.bbm_rules.specs.RegisterValues.{named_scope, vmid_of}
 use Rattle.bbm_replay_trees.specs.Told.{notes}
-use Rattle.bbm_replay.specs.ReplayStanding.{view_of}
-use Rattle.bbm_replay.specs.ReplayTold.{Told}
+use Rattle.bbm_replay.specs.ReplayTold.{Told, view_of}
 use Rattle.bbm_replay.specs.declared.tlbi_cover.Covering.{Covering}
 use Rattle.bbm_replay.specs.declared.tlbi_cover.pages.PageCover.{PageCover}
 

@@ -1,4 +1,5 @@
 pub mod ReplayTold
+pub mod Guarded
 pub mod ReplayLaws
 pub mod ReplayRules
 pub mod ReplayStanding

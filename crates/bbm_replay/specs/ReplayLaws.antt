@@ -7,6 +7,7 @@ use Rattle.bbm_histories.specs.TreeChanges.{Proper}
 use Rattle.bbm_rules.specs.Prelude.{Kind, Heading}
 use Rattle.bbm_replay_entries.specs.EntryLaws.{EntryAlike, EntryBegins, EntryDsb, EntryHolds, EntryStays, EntryTlbi}
 use Rattle.bbm_replay_entries.specs.EntryLaws.{EntryWrite}
+use Rattle.bbm_replay_trees.specs.Guarding.{GuardsAfter}
 use Rattle.bbm_replay_trees.specs.Judging.{Unattached}
 use Rattle.bbm_replay_trees.specs.NodeLaws.{Neighbours, NodesAfter}
 use Rattle.bbm_replay_trees.specs.PageLaws.{FreshAfter, PagesAfter, ValuesAfter}
@@ -22,6 +23,7 @@ pub record Laws (heading : Heading) : Type 0 where
   pub pages : PagesAfter
   pub values : ValuesAfter
   pub unattached : Unattached heading
+  pub guards : GuardsAfter heading
   -- one place
   pub begins : EntryBegins heading
   pub alike : EntryAlike heading

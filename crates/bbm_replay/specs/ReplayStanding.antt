@@ -1,12 +1,13 @@
 -- What a checker without a history stands for. A history is newest first. Source: project's own choice.
-use Rattle.std.specs.Prelude.{◌≡◌, ℕ, ◌≤◌, true, false, List, ◌∷◌, length, Option, Some, None, Result, Ok, Err}
-use Rattle.std.specs.Prelude.{OnErr, OnOk}
+use Rattle.std.specs.Prelude.{◌≡◌, ℕ, ◌≤◌, true, false, ◌&&◌, List, ◌∷◌, length, Option, Some, None, is_some, Result}
+use Rattle.std.specs.Prelude.{Ok, Err, OnErr, OnOk}
+use Rattle.std.specs.Option.{option_map_or}
 use Rattle.bbm_entry_state.specs.Points.{core_in}
 use Rattle.bbm_entry_state.specs.declared.marks.Marks.{Marks}
-use Rattle.bbm_place_map.specs.Map.{is_tracked, marks_at, pends_at, value_at}
+use Rattle.bbm_place_map.specs.Map.{marks_at, value_at}
 use Rattle.bbm_place_map.specs.declared.map.PlaceMap.{PlaceMap}
-use Rattle.bbm_tree_index.specs.HeldCores.{next_in}
-use Rattle.bbm_tree_index.specs.Index.{SameTracked, fresh_in, heading_of, known_in, node_in, null_in, pages_in}
+use Rattle.bbm_tree_index.specs.HeldCores.{limbo_by, next_in}
+use Rattle.bbm_tree_index.specs.Index.{SameTracked, heading_of, node_in}
 use Rattle.bbm_tree_index.specs.IndexAgreement.{SharesNumbers}
 use Rattle.bbm_tree_index.specs.IndexChanges.{Attaches}
 use Rattle.bbm_tree_index.specs.declared.index.TreeIndex.{TreeIndex}
@@ -15,7 +16,7 @@ use Rattle.bbm_events.specs.Fits.{fits_heading}
 use Rattle.bbm_rules.specs.Answers.{Answers, rewrites, takes_no_memory}
 use Rattle.bbm_rules.specs.Broken.{broken}
 use Rattle.bbm_rules.specs.Claims.Trust.{Patterns}
-use Rattle.bbm_descriptor.specs.Descriptor.{core_of}
+use Rattle.bbm_descriptor.specs.Descriptor.{core_of, differ}
 use Rattle.bbm_descriptor.specs.declared.desc.Core.{Core}
 use Rattle.bbm_rules.specs.Limits.{limit_of}
 use Rattle.bbm_rules.specs.Places.{page_of}
@@ -24,27 +25,15 @@ use Rattle.bbm_rules.specs.Tree.{Node}
 use Rattle.bbm_tree_index.specs.Nodes.{path_at}
 use Rattle.bbm_tree_index.specs.declared.role.Attach.TheVariants.{Below}
 use Rattle.bbm_tree_index.specs.declared.role.Path.{Path}
-use Rattle.bbm_replay_trees.specs.Told.{View, notes}
+use Rattle.bbm_replay_trees.specs.Told.{notes}
 use Rattle.bbm_rules.specs.Prelude.{Heading, Event, Write}
 use Rattle.bbm_rules.specs.declared.step_fault.StepFault.{StepFault}
 use Rattle.bbm_rules.specs.declared.step_fault.StepFault.TheVariants.{NoMemory}
-use Rattle.bbm_replay.specs.ReplayTold.{Told, state_of}
+use Rattle.bbm_replay.specs.Guarded.{Guarded}
+use Rattle.bbm_replay.specs.Leaves.{attached_next}
+use Rattle.bbm_replay.specs.ReplayTold.{Told, state_of, view_of}
 use Rattle.bbm_replay.specs.declared.parts.ReplayState.{ReplayState}
 use Rattle.bbm_replay.specs.declared.replay.Replay.{Replay}
-
--- what a map and an index say
-abbrev pub view_of : PlaceMap → TreeIndex → View
-view_of map index = record {
-  value = value_at map;
-  marks = marks_at map;
-  pends = pends_at map;
-  tracked = is_tracked map;
-  node = node_in index;
-  fresh = fresh_in index;
-  null = null_in index;
-  known = known_in index;
-  pages = length (pages_in index);
-}
 
 -- The parts stand for a history that keeps the rules over all patterns of events.
 pub record PartsStand (parts : ReplayState) (heading : Heading) (h : List Event) : Type 0 where
@@ -53,6 +42,7 @@ pub record PartsStand (parts : ReplayState) (heading : Heading) (h : List Event)
   pub numbers : SharesNumbers parts.index parts.map
   pub told : Told heading h (view_of parts.map parts.index)
   pub roots : roots.Stands parts.roots heading h
+  pub guarded : Guarded parts.unmapped parts.index heading h
 
 -- they stand for a history of the event's header
 abbrev pub MayMeet : ReplayState → Event → Type 0
@@ -116,13 +106,24 @@ pub record MayAdmit (parts : ReplayState) (pe place value : ℕ) (path : Path) (
   pub holds : Holds parts place path held
   pub core_is : new ≡ core_of path.kind path.level value
 
+-- Such a write that attaches this page, and breaks none of the rules before those on what is attached.
+pub record MayAttach (parts : ReplayState) (pe place value next : ℕ) : Type 0 where
+  pub path : Path
+  pub held : Option Core
+  pub new : Option Core
+  pub may : MayAdmit parts pe place value path held new
+  pub links : attached_next held new ≡ Some next
+  pub alike : differ held new ≡ false
+  pub above : (is_some new && option_map_or (limbo_by (value_at parts.map)) (node_in parts.index (page_of place)) false)
+      ≡ false
+
 -- a write at the place attached this page, if any, and what hangs below it
 abbrev pub Links : PlaceMap → ℕ → Option ℕ → TreeIndex → TreeIndex → Type 0
 Links map place None old new = new ≡ old
 Links map place (Some next) old new = Attaches (value_at map) (Below place next) old new × SameTracked old new
 
--- The write keeps the rules, and the trees are those after it, where it attaches this page, if any. Nothing else
--- changed.
+-- The write keeps the rules. The trees are those after it, where it attaches this page, if any, and so is what is kept
+-- of the pages that leaves map. Nothing else changed.
 pub record Admitted (old new : ReplayState) (pe place value : ℕ) (next : Option ℕ) : Type 0 where
   pub kept : (heading : Heading) (h : List Event) → PartsStand old heading h
       → broken heading Patterns h (Write pe place value) ≡ None
@@ -130,6 +131,8 @@ pub record Admitted (old new : ReplayState) (pe place value : ℕ) (next : Optio
   pub same_map : new.map ≡ old.map
   pub same_roots : new.roots ≡ old.roots
   pub links : Links old.map place next old.index new.index
+  pub guarded : (heading : Heading) (h : List Event) → PartsStand old heading h
+      → Guarded new.unmapped new.index heading (Write pe place value ∷ h)
 
 -- The judgement of a write: it is admitted, or this is the answer.
 abbrev pub Admits : ReplayState → ReplayState → ℕ → ℕ → ℕ → Option ℕ → Result (Unit {0}) StepFault → Type 0

@@ -4,7 +4,9 @@ use Rattle.bbm_descriptor.specs.Descriptor.{core_of}
 use Rattle.bbm_entry_state.specs.declared.pending.Pends.{Pends}
 use Rattle.bbm_entry_state.specs.declared.state.EntryState.{EntryState}
 use Rattle.bbm_events.specs.Heading.{heading_ok}
+use Rattle.bbm_place_map.specs.Map.{is_tracked, marks_at, pends_at, value_at}
 use Rattle.bbm_place_map.specs.States.{state_from}
+use Rattle.bbm_place_map.specs.declared.map.PlaceMap.{PlaceMap}
 use Rattle.bbm_rules.specs.Prelude.{Kind, Heading, Event}
 use Rattle.bbm_rules.specs.Broken.{keeps}
 use Rattle.bbm_rules.specs.Claims.Trust.{Patterns}
@@ -12,7 +14,23 @@ use Rattle.bbm_rules.specs.Pages.{initialised}
 use Rattle.bbm_rules.specs.Places.{page_of}
 use Rattle.bbm_rules.specs.Tree.{Node}
 use Rattle.bbm_replay_entries.specs.EntryStands.{EntryStands}
+use Rattle.bbm_tree_index.specs.Index.{fresh_in, known_in, node_in, null_in, pages_in}
+use Rattle.bbm_tree_index.specs.declared.index.TreeIndex.{TreeIndex}
 use Rattle.bbm_replay_trees.specs.Told.{AllFit, SameFresh, SameKnown, SameNodes, SameNull, SameValues, View}
+
+-- what a map and an index say
+abbrev pub view_of : PlaceMap → TreeIndex → View
+view_of map index = record {
+  value = value_at map;
+  marks = marks_at map;
+  pends = pends_at map;
+  tracked = is_tracked map;
+  node = node_in index;
+  fresh = fresh_in index;
+  null = null_in index;
+  known = known_in index;
+  pages = length (pages_in index);
+}
 
 module _ (v : View) where
   -- the state of a place that is read at this kind and level

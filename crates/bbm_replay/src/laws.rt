@@ -16,6 +16,7 @@ use bbm_replay_trees::pages::{law_fresh_pages, law_pages, law_values};
 use bbm_replay_trees::rules::{
     law_limits_of_events, law_page_rules, law_rules_of_events, law_write_rules,
 };
+use bbm_replay_trees::{law_guards, law_judges_tables};
 
 /// The laws of a history and one event more.
 pub(crate) fn laws()
@@ -30,6 +31,7 @@ pub(crate) fn laws()
     law_entry_tlbi();
     law_entry_write();
     law_fresh_pages();
+    law_guards();
     law_neighbours();
     law_nodes();
     law_pages();
@@ -42,6 +44,7 @@ pub(crate) fn laws()
 pub(crate) fn rules()
     ensures { (heading : Heading) → Rules heading }
 {
+    law_judges_tables();
     law_judging();
     law_limits_of_events();
     law_page_rules();

@@ -4,6 +4,7 @@
 
 mod barriers;
 mod faults;
+mod guard;
 mod laws;
 mod pages;
 mod parts;

@@ -11,6 +11,7 @@ ghost use Rattle.bbm_replay_trees.specs.Told.{is_at};
 ghost use Rattle.bbm_replay.specs.ReplayStanding.{MayMeet, Meets};
 
 use crate::faults::step_fault;
+use crate::guard::{init, reserve};
 use crate::laws::{laws, rules};
 use crate::parts::ReplayState;
 use bbm_events::nulls_everywhere;
@@ -57,8 +58,15 @@ impl ReplayState {
         if self.is_used(page) {
             return Err(StepFault::Broken(Rule::PageInUse, page.get()));
         }
+        match reserve(&mut self.unmapped) {
+            Ok(()) => {}
+            Err(fault) => return Err(fault),
+        }
         match self.index.track(&mut self.map, page) {
-            Ok(()) => Ok(()),
+            Ok(()) => {
+                init(&mut self.unmapped, &self.index, &self.map, page);
+                Ok(())
+            }
             Err(fault) => Err(step_fault(fault)),
         }
     }

@@ -3,12 +3,14 @@
 ghost use Rattle.std.specs.Prelude.{IfOk, []};
 ghost use Rattle.bbm_replay.specs.ReplayStanding.{MayMeet, Meets, PartsStand};
 
+use crate::guard::kept_at_first;
 use bbm_events::{Event, Header};
 use bbm_place_map::PlaceMap;
 use bbm_regimes::NoMemory;
 use bbm_roots::Roots;
 use bbm_rules::StepFault;
 use bbm_tree_index::TreeIndex;
+use bbm_unmapped::Unmapped;
 use std::alloc::Global;
 
 /// The header of a log, the places, the trees, and the roots with registers, tags and locks. Clauses speak of the
@@ -23,6 +25,8 @@ pub struct ReplayState {
     pub(crate) index: TreeIndex,
     /// The roots, registers, tags and locks.
     pub(crate) roots: Roots,
+    /// Which pages no held leaf of stage 2 maps, under a header with `isolated` alone.
+    pub(crate) unmapped: Option<Unmapped>,
 }
 
 impl ReplayState {
@@ -38,6 +42,7 @@ impl ReplayState {
             map: PlaceMap::new(alloc),
             index,
             roots,
+            unmapped: kept_at_first(alloc, header),
         })
     }
 

@@ -7,8 +7,8 @@ ghost use Rattle.bbm_replay_entries.specs.EntryPhases.{phase_in};
 ghost use Rattle.bbm_rules.specs.Answers.{MayAsk};
 ghost use Rattle.bbm_rules.specs.Claims.{Patterns};
 ghost use Rattle.bbm_rules.specs.Phases as rules;
-ghost use Rattle.bbm_replay.specs.ReplayStanding.{PartsStand, view_of};
-ghost use Rattle.bbm_replay.specs.ReplayTold.{state_of};
+ghost use Rattle.bbm_replay.specs.ReplayStanding.{PartsStand};
+ghost use Rattle.bbm_replay.specs.ReplayTold.{state_of, view_of};
 ghost use Rattle.bbm_entry_state.specs.declared.state.EntryState.{EntryState as TheState};
 
 use crate::laws::laws;

@@ -9,6 +9,7 @@ ghost use Rattle.bbm_tree_index.specs.IndexAgreement.{SharesNumbers};
 ghost use Rattle.bbm_replay.specs.ReplayStanding.{MayMeet, Meets};
 
 use crate::faults::step_fault;
+use crate::guard::{cover_attached, judge_attached};
 use crate::laws::{laws, rules};
 use crate::parts::ReplayState;
 use bbm_place_map::PlaceMap;
@@ -74,12 +75,17 @@ impl ReplayState {
             Some(at) => return Err(StepFault::Broken(Rule::PageInUse, at)),
             None => {}
         }
+        let pages = match judge_attached(&self.unmapped, alloc, &self.index, &self.map, &prepared) {
+            Ok(pages) => pages,
+            Err(fault) => return Err(fault),
+        };
         match self.roots.prepare(alloc) {
             Ok(()) => {}
             Err(fault) => return Err(fault),
         }
         self.map.law_idle();
         self.index.attach_prepared(&self.map, &prepared);
+        cover_attached(&mut self.unmapped, &self.map, &pages);
         self.roots.declare(kind, page, lock);
         Ok(())
     }

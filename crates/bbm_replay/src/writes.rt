@@ -12,10 +12,11 @@ ghost use Rattle.bbm_regimes.specs.SameRegister.{same_kind};
 ghost use Rattle.bbm_rules.specs.Places.{page_of};
 ghost use Rattle.bbm_tree_index.specs.Index.{fresh_in, node_in};
 ghost use Rattle.bbm_replay.specs.Leaves as leaves;
-ghost use Rattle.bbm_replay.specs.ReplayStanding.{Admits, IsUnlocked, MayAdmit, MayMeet, Meets, OverLeaves};
+ghost use Rattle.bbm_replay.specs.ReplayStanding.{Admits, IsUnlocked, MayAdmit, MayAttach, MayMeet, Meets, OverLeaves};
 ghost use Rattle.bbm_replay.specs.ReplayStanding.{PartsStand, WritesTree};
 
 use crate::faults::step_fault;
+use crate::guard::{cover_attached, cover_leaf, judge_attached};
 use crate::laws::{laws, rules};
 use crate::parts::ReplayState;
 use bbm_descriptor::{Core, core};
@@ -211,8 +212,41 @@ impl ReplayState {
         self.index.in_limbo(&self.map, place)
     }
 
+    /// Judges a write that attaches the next page by the rules on attached pages, and attaches it, with all that hangs
+    /// below it. After Ok all that is left is to write the value.
+    #[inline(never)]
+    fn attach_next(
+        &mut self,
+        alloc: Global,
+        pe: Pe,
+        place: Place,
+        value: u64,
+        next: Page,
+    ) -> Result<(), StepFault>
+        requires { MayAttach self.old pe place value next }
+        ensures { Admits self.old self.new pe place value (Some next) result }
+    {
+        laws();
+        rules();
+        let prepared = match self
+            .index
+            .prepare(alloc, &self.map, Attach::Below { place, next })
+        {
+            Ok(prepared) => prepared,
+            Err(fault) => return Err(step_fault(fault)),
+        };
+        let pages = match judge_attached(&self.unmapped, alloc, &self.index, &self.map, &prepared) {
+            Ok(pages) => pages,
+            Err(fault) => return Err(fault),
+        };
+        self.index.attach_prepared(&self.map, &prepared);
+        cover_attached(&mut self.unmapped, &self.map, &pages);
+        Ok(())
+    }
+
     /// Judges a write of a value with the core `new` at a place of a tree that holds `old`, by the rules behind the one
-    /// on locks, and attaches the next page, if it attaches one. After Ok all that is left is to write the value.
+    /// on locks, and attaches the next page, if it attaches one. What a leaf maps counts as mapped then. After Ok all
+    /// that is left is to write the value.
     #[inline(always)]
     fn admit(
         &mut self,
@@ -221,8 +255,9 @@ impl ReplayState {
         old: &Option<Core>,
         new: &Option<Core>,
     ) -> Result<(), StepFault>
-        requires { MayAdmit self.old write.now.pe write.now.position.now.place write.now.value write.now.path.now
+        requires may { MayAdmit self.old write.now.pe write.now.position.now.place write.now.value write.now.path.now
             old.now new.now }
+        requires position { IsPosition self.old.map write.now.position.now }
         ensures { Admits self.old self.new write.now.pe write.now.position.now.place write.now.value
             (leaves.attached_next old.now new.now) result }
     {
@@ -236,19 +271,24 @@ impl ReplayState {
             return Err(StepFault::Broken(Rule::LimboMake, place.get()));
         }
         if let Some(next) = attached_next(old, new) {
-            return match self
-                .index
-                .attach(alloc, &self.map, Attach::Below { place, next })
-            {
-                Ok(()) => Ok(()),
-                Err(fault) => Err(step_fault(fault)),
-            };
+            return self.attach_next(alloc, write.pe, place, write.value, next);
         }
         if is_contiguous(new) {
             return Err(StepFault::Broken(Rule::BadKind, place.get()));
         }
         if is_user_global(write.path.kind, new) {
             return Err(StepFault::Broken(Rule::GlobalUser, place.get()));
+        }
+        if new.is_some() && self.unmapped.is_some() {
+            return cover_leaf(
+                &mut self.unmapped,
+                &self.index,
+                &self.map,
+                *write.position,
+                write.path.kind,
+                write.path.level,
+                write.value,
+            );
         }
         Ok(())
     }
@@ -286,8 +326,8 @@ impl ReplayState {
         }
     }
 
-    /// A write at a broken place, of a page with this number. It takes plain values, so that the other writes keep theirs
-    /// in registers.
+    /// A write at a broken place, of a page with this number. It takes plain values, so that the other writes keep
+    /// theirs in registers.
     #[inline(never)]
     fn write_broken(
         &mut self,
@@ -330,8 +370,8 @@ impl ReplayState {
         }
     }
 
-    /// A write at a place of a tree that isn't broken. A value over none has a way of its own, so that it carries no core
-    /// about.
+    /// A write at a place of a tree that isn't broken. A value over none has a way of its own, so that it carries no
+    /// core about.
     #[inline(always)]
     fn write_inside(&mut self, alloc: Global, write: &TreeWrite) -> Result<(), StepFault>
         requires at { WritesTree self.old write.now.pe write.now.position.now.place write.now.value write.now.path.now }

@@ -10,6 +10,7 @@ returns c heading = record {
   pages = c.law_pages.ensures;
   values = c.law_values.ensures;
   unattached = c.law_unattached.ensures heading;
+  guards = c.law_guards.ensures heading;
   begins = c.law_entry_begins.ensures heading;
   alike = c.law_entry_alike.ensures heading;
   stays = c.law_entry_stays.ensures heading;

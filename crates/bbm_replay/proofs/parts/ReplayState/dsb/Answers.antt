@@ -27,7 +27,7 @@ returns-then-complete c =
       header = refl;
       index_header = r.tracked.heading;
       numbers = λ n. r.map.pages ∙ e.same.pages ∙ p.pages ∙ n ∙ sym r.tracked.pages;
-    }) c.law_barriers.ensures
+    }) refl r.tracked.pages c.law_barriers.ensures
     (λ heading h s. c.complete-then-complete.ensures.taken heading h s tt) (tracked_alike old.map m2 (e.same.pages ∙ p.pages))
     (λ outside stays. leaves_of old.index new.index m2 new.map (is_held_by (holds_at m2)) outside r)
 
@@ -47,5 +47,6 @@ returns c =
       pends = λ q a b i x. ap (λ (w : Pends). waits w b i x) (p.pends q a);
     })
     (record { completed = e.completed; others = λ q a k b i x. e.others q a b i x k; value = e.same.values })
-    new c.requires (record { header = refl; index_header = refl; numbers = λ n. e.same.pages ∙ p.pages ∙ n }) c.law_barriers.ensures
+    new c.requires (record { header = refl; index_header = refl; numbers = λ n. e.same.pages ∙ p.pages ∙ n }) refl refl
+    c.law_barriers.ensures
     (λ heading h s. c.complete-2.ensures.taken heading h s tt) (tracked_alike old.map m2 (e.same.pages ∙ p.pages)) (λ outside stays. stays (e.kept c.if-complete.false))

@@ -38,4 +38,5 @@ returns c =
         outside = λ a is. m.marks a;
       };
       roots = c.in_ok-roots.ensures.empty;
+      guarded = c.kept_at_first.ensures c.new-index.result i.pages;
     }

@@ -22,7 +22,7 @@ returns c =
     let e = c.nullify.ensures in
     let fresh = sym c.is_fresh.ensures ∙ c.if-not-is_fresh.false in
     null_ok c.laws.ensures c.rules.ensures c.law_others.ensures old old.map c.nullify.new.self e.tracked.heading
-    (λ n. n ∙ sym e.tracked.pages) c.args.pe c.args.page c.requires (sym c.is_wrong_null.ensures ∙ c.if-is_wrong_null.false) fresh
+    (λ n. n ∙ sym e.tracked.pages) old.unmapped c.args.pe c.args.page c.requires (sym c.is_wrong_null.ensures ∙ c.if-is_wrong_null.false) fresh
     (c.is_zero.ensures.zero c.if-not-is_zero.false)
     (record {
       was_fresh = fresh;
@@ -31,4 +31,4 @@ returns c =
       tracking = record { tracked = λ p. refl; known = e.tracked.known; pages = ap length e.tracked.pages };
       fresh = e.null.fresh;
       null = e.null.null;
-    })
+    }) e.tracked.pages refl

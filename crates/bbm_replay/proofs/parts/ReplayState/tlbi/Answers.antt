@@ -34,7 +34,7 @@ returns-in-Err-issue c =
     (same_of old.map new.map old.index old.index c.in-Err-issue.ensures.kept
     (record { node = λ p. refl; fresh = λ p. refl; null = λ p. refl })
     (record { known = λ p. refl; pages = refl; heading = refl })) heading h s
-    (c.prepare_issue.ensures.kept.same heading h s.roots)) (λ heading h s. (refl, refl))
+    (c.prepare_issue.ensures.kept.same heading h s.roots) s.guarded) (λ heading h s. (refl, refl))
 
 pub returns-in-Ok-issue : goal.returns-in-Ok-issue
 returns-in-Ok-issue c =

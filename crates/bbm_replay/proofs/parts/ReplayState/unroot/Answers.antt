@@ -10,6 +10,7 @@ returns-in-Ok c =
     let new : ReplayState = record old { map = c.detach.new.map; index = c.detach.new.self; roots = c.retire.new.self } in
     unroot_ok c.laws.ensures c.rules.ensures old c.args.pe c.args.page c.requires new c.in-Ok.ensures
     (record { header = refl; index_header = e.tracked.heading; numbers = λ n. e.map.pages ∙ n ∙ sym e.tracked.pages })
+    refl e.tracked.pages
     (λ heading h s. leaves_of old.index new.index old.map new.map (λ (n : Node). not (n.root == c.args.page)) s.told.outside e)
     (λ heading h s free. (c.retire.ensures c.args.pe).taken heading h s free)
 

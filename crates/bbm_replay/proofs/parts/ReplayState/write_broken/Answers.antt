@@ -21,8 +21,8 @@ returns-in-Some-without_lock c =
     c.args.place c.in-Some.path at refl)
     c.get.ensures.value c.without_lock.ensures c.in-Some-without_lock.at c.in-Some-without_lock.is
 
-pub admit-requires : goal.admit-requires
-admit-requires c =
+pub admit-requires-clause-may : goal.admit-requires-clause-may
+admit-requires-clause-may c =
     let at = found_at (node_in c.args.self.now.index (page_of c.args.place)) c.args.place c.path.result c.in-Some.path
     c.in-Some.is c.path.ensures in
     let tree = found_tree c.laws.ensures c.args.self.now c.args.pe c.args.place c.args.value c.requires.may c.args.place

@@ -5,8 +5,8 @@ use Rattle.bbm_replay.proofs.Inside.{taken}
 use Rattle.bbm_replay.proofs.Unbroken.{may_admit_unbroken, writes_unbroken}
 use Rattle.bbm_replay.proofs.parts.ReplayState.write_unbroken.Goals as goal
 
-pub admit-requires : goal.admit-requires
-admit-requires c = may_admit_unbroken c.requires.at c.requires.unlocked c.requires.unbroken c.args.live.now
+pub admit-requires-clause-may : goal.admit-requires-clause-may
+admit-requires-clause-may c = may_admit_unbroken c.requires.at c.requires.unlocked c.requires.unbroken c.args.live.now
     c.core-new.result c.requires.live c.core-new.ensures.value
 
 pub put_at-requires : goal.put_at-requires
